@@ -1,0 +1,106 @@
+ghost use Rattle.std.specs.Prelude.{◌≡◌, [], ◌∷◌, ◌++◌, ◌<◌, length, slice_get, slice_set, Some, OnOk, OnErr, MatchOption};
+
+use crate::memory::NoMemory;
+use std::alloc::Global;
+use std::marker::Model;
+
+/// A vector that contracts see as the list of its items.
+#[derive(Debug, Drop)]
+pub struct Rows<T> {
+    items: Vec<T>,
+}
+
+impl<T> Model for Rows<T> {
+    ghost use Rattle.std.specs.Prelude.{List};
+    ghost use Rattle.std.specs.Coded.{coded_list};
+
+    ghost Value = { List T };
+
+    ghost coded = { coded_list T.code };
+
+    ghost view = { λ r. r.items.items };
+}
+
+impl<T> Rows<T> {
+    /// No items, with no memory taken.
+    pub fn new(alloc: Global) -> Rows<T>
+        ensures { result ≡ [] }
+    {
+        Rows {
+            items: Vec::new(alloc),
+        }
+    }
+
+    /// The items of a vector, with no memory taken.
+    pub fn from_vec(items: Vec<T>) -> Rows<T>
+        ensures { result ≡ items.items }
+    {
+        Rows { items }
+    }
+
+    /// The items as a vector, with no memory taken.
+    pub fn into_vec(self) -> Vec<T>
+        ensures { result.items ≡ self }
+    {
+        let Rows { items } = self;
+        items
+    }
+
+    /// The number of items.
+    pub fn len(&self) -> usize
+        ensures { result ≡ length self.now }
+    {
+        self.items.len()
+    }
+
+    /// The item at a place, counted from 0.
+    pub fn at(&self, i: usize) -> &T
+        requires { i < length self.now }
+        ensures { slice_get self.now i ≡ Some result.now }
+    {
+        &self.items[i]
+    }
+
+    /// All items, in order.
+    pub fn as_slice(&self) -> &[T]
+        ensures { result.now ≡ self.now }
+    {
+        self.items.as_slice()
+    }
+
+    /// Takes the last item out.
+    pub fn pop(&mut self) -> Option<T>
+        ensures { MatchOption result ((self.old ≡ []) × (self.new ≡ [])) (λ last. self.old ≡ self.new ++ last ∷ []) }
+    {
+        self.items.pop()
+    }
+}
+
+impl<T: Drop> Rows<T> {
+    /// Adds an item at the end. At want of memory the item is dropped and the rest stays.
+    pub fn push(&mut self, v: T) -> Result<(), NoMemory>
+        ensures ok { OnOk result (self.new ≡ self.old ++ v ∷ []) }
+        ensures err { OnErr result (self.new ≡ self.old) }
+    {
+        self.items.push(v)?;
+        Ok(())
+    }
+
+    /// Moves the items of `more` to the end. At want of memory they are dropped and the rest stays.
+    pub fn append(&mut self, more: Rows<T>) -> Result<(), NoMemory>
+        ensures ok { OnOk result (self.new ≡ self.old ++ more) }
+        ensures err { OnErr result (self.new ≡ self.old) }
+    {
+        let Rows { mut items } = more;
+        self.items.append(&mut items)?;
+        Ok(())
+    }
+
+    /// Puts an item in the place of another, which is dropped.
+    pub fn set(&mut self, i: usize, v: T)
+        requires { i < length self.old }
+        ensures { self.new ≡ slice_set self.old i v }
+    {
+        self.items[i] = v;
+    }
+}
