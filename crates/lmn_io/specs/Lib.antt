@@ -1,0 +1,4 @@
+pub mod Counts
+pub mod Taking
+pub mod Texts
+pub mod Memory

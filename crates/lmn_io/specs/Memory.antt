@@ -1,0 +1,38 @@
+-- What is seen of a shelf and of a sink in memory.
+use Rattle.std.specs.Prelude.{◌≡◌, ℕ, ◌+◌, ◌<◌, ◌⊎◌, List, length, Option, None, is_some, if◌then◌else◌, Contains}
+use Rattle.lmn_io.specs.Texts.{text_of}
+
+-- The texts beside their names; the numbers of the calls that fail, how many calls were made,
+-- how many failed by their number, and how many failed at all.
+pub record Texts : Type 0 where
+  pub names : List (List ℕ)
+  pub texts : List (List ℕ)
+  pub failing : List ℕ
+  pub calls : ℕ
+  pub listed : ℕ
+  pub all : ℕ
+
+-- the text under a name
+abbrev pub text_in : Texts → List ℕ → Option (List ℕ)
+text_in t name = text_of t.names t.texts name
+
+-- the count of faults of a name
+abbrev pub faults_in : Texts → List ℕ → ℕ
+faults_in t name = if is_some (text_in t name) then t.listed else t.all
+
+-- the next fetch of this name fails
+abbrev pub FetchFails : Texts → List ℕ → Type 0
+FetchFails t name = Contains t.failing t.calls ⊎ (text_in t name ≡ None)
+
+-- The bytes that were taken, of which there may be so many; the numbers of the puts that fail,
+-- how many puts were made, and how many failed.
+pub record Taken : Type 0 where
+  pub room : ℕ
+  pub bytes : List ℕ
+  pub failing : List ℕ
+  pub calls : ℕ
+  pub failures : ℕ
+
+-- the next put of this piece fails
+abbrev pub PutFails : Taken → List ℕ → Type 0
+PutFails t piece = Contains t.failing t.calls ⊎ (t.room < length t.bytes + length piece)

@@ -1,0 +1,97 @@
+ghost use Rattle.std.specs.Prelude.{None, ◌≤◌, length, IfOk};
+ghost use Rattle.lmn_io.specs.Texts.{IsFetched};
+
+use crate::shelf::{FetchFault, Fetched, Shelf};
+use lmn_base::Rows;
+use std::alloc::Global;
+use std::io::Read;
+use std::rt::Files;
+use std::{fs, io};
+
+/// Files, read through the runtime that the shelf is lent. It tells no bytes, and its one count is that of every name.
+#[derive(Drop)]
+pub struct FileShelf<'a, R: Files> {
+    rt: &'a R,
+    failures: u64,
+}
+
+impl<'a, R: Files> FileShelf<'a, R> {
+    /// A shelf that has met no fault.
+    pub fn new(rt: &'a R) -> FileShelf<'a, R> {
+        FileShelf { rt, failures: 0 }
+    }
+}
+
+/// What an error of the system means to a shelf.
+fn fault_of(error: io::Error) -> FetchFault {
+    if error.kind() == io::ErrorKind::OutOfMemory {
+        FetchFault::NoMemory
+    } else {
+        FetchFault::Failed
+    }
+}
+
+/// The bytes of a file, of which at most one more than `most` is read.
+fn read_file<R: Files>(rt: &R, alloc: Global, name: &str, most: u64) -> Result<Fetched, FetchFault>
+    ensures { IfOk result (λ f. IsFetched None name.now most f) }
+{
+    let file = fs::open(rt, name).map_err(fault_of)?;
+    let mut bytes = Vec::new(alloc);
+    file.take(most.saturating_add(1))
+        .read_to_end(&mut bytes)
+        .map_err(fault_of)?;
+    if bytes.len() as u64 > most {
+        return Ok(Fetched::TooLong);
+    }
+    Ok(Fetched::Whole(Rows::from_vec(bytes)))
+}
+
+impl<R: Files> Shelf for FileShelf<'_, R> {
+    ghost told = { λ _. None };
+
+    ghost faults = { λ s _. s.failures };
+
+    fn fetch(&mut self, alloc: Global, name: &str, most: u64) -> Result<Fetched, FetchFault> {
+        let answer = read_file(self.rt, alloc, name, most);
+        if let Err(FetchFault::Failed) = answer {
+            self.failures = self.failures.saturating_add(1);
+        }
+        answer
+    }
+}
+
+#[cfg(test)]
+mod tests {
+    use super::FileShelf;
+    use crate::shelf::{FetchFault, Fetched, Shelf};
+    use lmn_base::Rows;
+    use std::test::Fail;
+    use std::{env, fs};
+
+    /// The bytes that a fetch brought.
+    fn whole(fetched: Result<Fetched, FetchFault>) -> Result<Rows<u8>, FetchFault> {
+        match fetched? {
+            Fetched::Whole(bytes) => Ok(bytes),
+            Fetched::TooLong => Err(FetchFault::Failed),
+        }
+    }
+
+    #[test]
+    fn reads_a_file_up_to_a_length(rt: HostRuntime) -> Result<(), Fail> {
+        let mut path = env::temp_dir(&rt)?;
+        path.push("lmn_file_shelf.txt")?;
+        let name = path.to_str().ok_or("no text")?;
+        fs::write(&rt, name, "a. b.")?;
+        let mut shelf = FileShelf::new(&rt);
+        let bytes = whole(shelf.fetch(rt.alloc(), name, 5))?;
+        assert_eq!(rt; bytes.as_slice(), b"a. b.".as_slice());
+        let long = shelf.fetch(rt.alloc(), name, 4)?;
+        assert!(rt; matches!(long, Fetched::TooLong));
+        fs::remove_file(&rt, name)?;
+        assert_eq!(rt;
+            whole(shelf.fetch(rt.alloc(), name, 5)).err(),
+            Some(FetchFault::Failed)
+        );
+        Ok(())
+    }
+}

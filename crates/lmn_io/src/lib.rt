@@ -1,0 +1,18 @@
+//! Where texts come from and where output goes.
+#![tactic(auto)]
+
+mod file_shelf;
+mod line_buffer;
+mod mem_shelf;
+mod mem_sink;
+mod out_sink;
+mod shelf;
+mod sink;
+
+pub use file_shelf::FileShelf;
+pub use line_buffer::LineBuffer;
+pub use mem_shelf::MemShelf;
+pub use mem_sink::MemSink;
+pub use out_sink::OutSink;
+pub use shelf::{FetchFault, Fetched, Shelf};
+pub use sink::{Failed, Sink};

@@ -1,0 +1,111 @@
+ghost use Rattle.std.specs.Prelude.{◌≡◌, ◌≤◌, ◌↔◌, ℕ, List, Some, length, IfOk, IsErrOf};
+ghost use Rattle.std.specs.Option.{option_copied};
+ghost use Rattle.lmn_io.specs.Counts.{Rose, one_more};
+ghost use Rattle.lmn_io.specs.Texts.{text_of, IsFetched};
+ghost use Rattle.lmn_io.specs.Memory.{Texts, text_in, faults_in, FetchFails};
+
+use crate::shelf::{FetchFault, Fetched, Shelf};
+use lmn_base::Rows;
+use std::alloc::{AllocError, Global};
+use std::marker::Model;
+
+/// Texts in memory, of which the fetches with some numbers fail.
+/// Contracts see the texts, the numbers and the counts.
+#[derive(Drop)]
+pub struct MemShelf {
+    names: Rows<Rows<u8>>,
+    texts: Rows<Rows<u8>>,
+    failing: Rows<u64>,
+    calls: u64,
+    listed: u64,
+    all: u64,
+}
+
+impl Model for MemShelf {
+    ghost Value = { Texts };
+
+    ghost view = { λ s. record { names = s.names; texts = s.texts; failing = s.failing; calls = s.calls; listed = s.listed; all = s.all } };
+
+    ghost invariant = { λ s. length s.names ≡ length s.texts };
+}
+
+/// The text beside the first place of a name.
+fn text_at<'a>(names: &[Rows<u8>], texts: &'a [Rows<u8>], name: &[u8]) -> Option<&'a Rows<u8>>
+    requires { length names.now ≡ length texts.now }
+    ensures { option_copied result ≡ text_of names.now texts.now name.now }
+{
+    for (i, n) in names.iter().enumerate() {
+        if n.as_slice() == name {
+            return Some(&texts[i]);
+        }
+    }
+    None
+}
+
+fn copy_of(alloc: Global, bytes: &Rows<u8>) -> Result<Rows<u8>, AllocError>
+    ensures { IfOk result (λ copy. copy ≡ bytes.now) }
+{
+    Ok(Rows::from_vec(Vec::from_slice(alloc, bytes.as_slice())?))
+}
+
+impl MemShelf {
+    /// The texts beside their names; where a name stands twice, its first place counts.
+    pub fn new(
+        _alloc: Global,
+        names: Rows<Rows<u8>>,
+        texts: Rows<Rows<u8>>,
+        failing: Rows<u64>,
+    ) -> MemShelf
+        requires { length names ≡ length texts }
+        ensures { result ≡ record { names = names; texts = texts; failing = failing; calls = 0; listed = 0; all = 0 } }
+    {
+        MemShelf {
+            names,
+            texts,
+            failing,
+            calls: 0,
+            listed: 0,
+            all: 0,
+        }
+    }
+}
+
+impl Shelf for MemShelf {
+    ghost told = { λ s. Some (text_in s) };
+
+    ghost faults = { λ s name. faults_in s name };
+
+    /// A fetch fails exactly where its number is listed or there is no such name.
+    fn fetch(&mut self, alloc: Global, name: &str, most: u64) -> Result<Fetched, FetchFault>
+        ensures same { Some (text_in self.new) ≡ Some (text_in self.old) }
+        ensures later { (other : List ℕ) → faults_in self.old other ≤ faults_in self.new other }
+        ensures fetched { IfOk result (λ f. IsFetched (Some (text_in self.old)) name.now most f) }
+        ensures rose { IsErrOf result FetchFault.Failed → Rose (faults_in self.old name.now) (faults_in self.new name.now) }
+        ensures fails { IsErrOf result FetchFault.Failed ↔ FetchFails self.old name.now }
+        ensures counted { self.new.calls ≡ one_more self.old.calls }
+    {
+        let call = self.calls;
+        self.calls = call.saturating_add(1);
+        if self.failing.as_slice().contains(&call) {
+            self.listed = self.listed.saturating_add(1);
+            self.all = self.all.saturating_add(1);
+            return Err(FetchFault::Failed);
+        }
+        let names = self.names.as_slice();
+        match text_at(names, self.texts.as_slice(), name.as_bytes()) {
+            None => {
+                self.all = self.all.saturating_add(1);
+                Err(FetchFault::Failed)
+            }
+            Some(text) => {
+                if text.len() as u64 > most {
+                    return Ok(Fetched::TooLong);
+                }
+                match copy_of(alloc, text) {
+                    Ok(copy) => Ok(Fetched::Whole(copy)),
+                    Err(_) => Err(FetchFault::NoMemory),
+                }
+            }
+        }
+    }
+}

@@ -1,0 +1,83 @@
+ghost use Rattle.std.specs.Prelude.{◌≡◌, ◌≤◌, ◌↔◌, List, [], Some, length, IfOk, IsErr, OnErr, OnOk};
+ghost use Rattle.lmn_io.specs.Counts.{Rose, one_more};
+ghost use Rattle.lmn_io.specs.Taking.{Takes, TakesPrefix};
+ghost use Rattle.lmn_io.specs.Memory.{Taken, PutFails};
+
+use crate::sink::{Failed, Sink};
+use lmn_base::{NoMemory, Rows};
+use std::alloc::Global;
+use std::marker::Model;
+
+/// A sink in memory, with room for so many bytes, of which the puts with some numbers fail.
+/// Contracts see the bytes, the numbers and the counts.
+#[derive(Drop)]
+pub struct MemSink {
+    room: usize,
+    bytes: Vec<u8>,
+    failing: Rows<u64>,
+    calls: u64,
+    failures: u64,
+}
+
+impl Model for MemSink {
+    ghost use Rattle.std.specs.Prelude.{vec_len, vec_capacity, ◌≤◌};
+    ghost use Rattle.lmn_io.specs.Memory.{Taken};
+
+    ghost Value = { Taken };
+
+    ghost view = { λ s. record { room = s.room; bytes = s.bytes.items; failing = s.failing; calls = s.calls; failures = s.failures } };
+
+    ghost invariant = { λ s. (vec_len s.bytes ≤ s.room) × (s.room ≤ vec_capacity s.bytes) };
+}
+
+impl MemSink {
+    /// A sink that has taken nothing. All memory that it will need is taken here.
+    ///
+    /// # Errors
+    ///
+    /// `NoMemory` where there isn't memory for `room` bytes.
+    pub fn new(alloc: Global, room: usize, failing: Rows<u64>) -> Result<MemSink, NoMemory>
+        ensures { IfOk result (λ s. s ≡ record { room = room; bytes = []; failing = failing; calls = 0; failures = 0 }) }
+    {
+        Ok(MemSink {
+            room,
+            bytes: Vec::with_capacity(alloc, room)?,
+            failing,
+            calls: 0,
+            failures: 0,
+        })
+    }
+
+    /// The bytes that were taken.
+    pub fn taken(&self) -> &[u8]
+        ensures { result.now ≡ self.now.bytes }
+    {
+        self.bytes.as_slice()
+    }
+}
+
+impl Sink for MemSink {
+    ghost told = { λ s. Some s.bytes };
+
+    ghost faults = { λ s. s.failures };
+
+    /// A put fails exactly where its number is listed or there is no room for the whole piece; then nothing is taken.
+    fn put(&mut self, piece: &[u8]) -> Result<(), Failed>
+        ensures later { self.old.failures ≤ self.new.failures }
+        ensures took { OnOk result (Takes piece.now (Some self.old.bytes) (Some self.new.bytes)) }
+        ensures prefix { OnErr result (TakesPrefix piece.now (Some self.old.bytes) (Some self.new.bytes)) }
+        ensures rose { OnErr result (Rose self.old.failures self.new.failures) }
+        ensures fails { IsErr result ↔ PutFails self.old piece.now }
+        ensures refused { OnErr result (self.new ≡ record self.old { calls = one_more self.old.calls; failures = one_more self.old.failures }) }
+        ensures counted { self.new.calls ≡ one_more self.old.calls }
+    {
+        let call = self.calls;
+        self.calls = call.saturating_add(1);
+        if self.failing.as_slice().contains(&call) || piece.len() > self.room - self.bytes.len() {
+            self.failures = self.failures.saturating_add(1);
+            return Err(Failed);
+        }
+        self.bytes.extend_from_slice(piece).unwrap();
+        Ok(())
+    }
+}

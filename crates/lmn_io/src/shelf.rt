@@ -1,0 +1,46 @@
+use lmn_base::Rows;
+use std::alloc::Global;
+use thiserror::Error;
+
+/// What a fetch found.
+#[derive(Debug, Drop)]
+pub enum Fetched {
+    /// All bytes of the text.
+    Whole(Rows<u8>),
+    /// The text has more bytes than were asked for.
+    TooLong,
+}
+
+/// Why a fetch gave nothing.
+#[derive(Clone, Copy, Debug, PartialEq, Eq, Error)]
+pub enum FetchFault {
+    /// The text isn't there or couldn't be read. The shelf has counted it.
+    #[error("read failed")]
+    Failed,
+    /// Memory was wanting.
+    #[error("out of memory")]
+    NoMemory,
+}
+
+/// Texts by their names.
+pub trait Shelf {
+    ghost use Rattle.std.specs.Prelude.{◌≡◌, ◌≤◌, ℕ, List, Option, IfOk, IsErrOf};
+    ghost use Rattle.lmn_io.specs.Counts.{Rose};
+    ghost use Rattle.lmn_io.specs.Texts.{IsFetched};
+
+    /// The bytes under each name, where the shelf tells them.
+    ghost told: { Self → Option (List ℕ → Option (List ℕ)) };
+    /// The count of faults of each name.
+    ghost faults: { Self → List ℕ → ℕ };
+
+    /// The text under a name, if it has at most `most` bytes.
+    ///
+    /// # Errors
+    ///
+    /// `Failed` where the text can't be had, which the count of its name shows. `NoMemory` at any time.
+    fn fetch(&mut self, alloc: Global, name: &str, most: u64) -> Result<Fetched, FetchFault>
+        ensures same { told self.new ≡ told self.old }
+        ensures later { (other : List ℕ) → faults self.old other ≤ faults self.new other }
+        ensures fetched { IfOk result (λ f. IsFetched (told self.old) name.now most f) }
+        ensures rose { IsErrOf result FetchFault.Failed → Rose (faults self.old name.now) (faults self.new name.now) };
+}

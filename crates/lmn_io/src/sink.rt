@@ -1,0 +1,29 @@
+use thiserror::Error;
+
+/// A sink couldn't take a piece. The sink has counted it.
+#[derive(Clone, Copy, Debug, PartialEq, Eq, Error)]
+#[error("write failed")]
+pub struct Failed;
+
+/// Where output goes.
+pub trait Sink {
+    ghost use Rattle.std.specs.Prelude.{◌≤◌, ℕ, List, Option, OnOk, OnErr};
+    ghost use Rattle.lmn_io.specs.Counts.{Rose};
+    ghost use Rattle.lmn_io.specs.Taking.{Takes, TakesPrefix};
+
+    /// The bytes that the sink took, where it tells them.
+    ghost told: { Self → Option (List ℕ) };
+    /// The count of faults.
+    ghost faults: { Self → ℕ };
+
+    /// Takes a piece.
+    ///
+    /// # Errors
+    ///
+    /// `Failed` where the sink took only a prefix of the piece, which the count shows.
+    fn put(&mut self, piece: &[u8]) -> Result<(), Failed>
+        ensures later { faults self.old ≤ faults self.new }
+        ensures took { OnOk result (Takes piece.now (told self.old) (told self.new)) }
+        ensures prefix { OnErr result (TakesPrefix piece.now (told self.old) (told self.new)) }
+        ensures rose { OnErr result (Rose (faults self.old) (faults self.new)) };
+}
