@@ -1,6 +1,9 @@
 -- What follows from several puts in a row.
-use Rattle.std.specs.Prelude.{◌≡◌, ℕ, List, [], ◌++◌, Option, Some, None}
-use Rattle.std.proofs.Common.{ap, ◌∙◌, append_assoc, append-nil, sym, refl}
+use Rattle.std.specs.Prelude.{◌≡◌, ℕ, suc, ◌<◌, List, [], ◌∷◌, ◌++◌, length, take, drop, Option, Some, None}
+use Rattle.std.specs.List.{flat_map}
+use Rattle.std.proofs.Common.{ap, ◌∙◌, append_assoc, append-nil, sym, refl, subst, get_or}
+use Rattle.std.proofs.Math.Seq.{split_at}
+use Rattle.std.proofs.lemmas.List.Concat.{flat_map-append}
 use Rattle.lmn_io.specs.Taking.{Takes, TakesPrefix, Gathers}
 
 -- a prefix of a piece is one of a longer piece
@@ -66,4 +69,21 @@ takes_more a b kept old mid new none first later =
 pub prefix_after : (a b : List ℕ) (old mid new : Option (List ℕ)) → Takes a old mid → TakesPrefix b mid new → TakesPrefix (a ++ b) old new
 prefix_after a b old mid new first later = gathers_prefix a b [] old mid new (takes_gathers a old mid first) later
 
-pub ruleset gathering = (prefix_more, nothing_taken, takes_more, prefix_after, gathers_more, gathers_takes, gathers_prefix, gathers_part)
+-- no byte is taken
+pub takes_nothing : (told : Option (List ℕ)) → Takes [] told told
+takes_nothing None = refl
+takes_nothing (Some old) = rw append-nil refl
+
+-- the pieces of a list were gathered up to a place, and a prefix of the piece that stands there is taken
+pub prefix_at : {X : Type 0} (f : X → List ℕ) (xs : List X) (i : ℕ) (d : X) (start kept : List ℕ) (old mid new : Option (List ℕ)) → i < length xs
+    → Gathers (start ++ flat_map f (take i xs)) old kept mid → TakesPrefix (kept ++ f (get_or xs i d)) mid new → TakesPrefix (start ++ flat_map f xs) old new
+prefix_at f xs i d start kept old mid new within first later =
+    let before = flat_map f (take i xs) in
+    let piece = f (get_or xs i d) in
+    let behind = flat_map f (drop (suc i) xs) in
+    let whole : flat_map f xs ≡ before ++ (piece ++ behind) = ap (flat_map f) (split_at xs i d within) ∙ flat_map-append f (take i xs) (get_or xs i d ∷ drop (suc i) xs) in
+    let part : TakesPrefix (((start ++ before) ++ piece) ++ behind) old new = prefix_more ((start ++ before) ++ piece) behind old new (gathers_prefix (start ++ before) piece kept old mid new first later) in
+    let same : ((start ++ before) ++ piece) ++ behind ≡ start ++ flat_map f xs = append_assoc (start ++ before) piece behind ∙ append_assoc start before (piece ++ behind) ∙ ap (λ x. start ++ x) (sym whole) in
+    subst (λ bytes. TakesPrefix bytes old new) same part
+
+pub ruleset gathering = (prefix_more, nothing_taken, takes_nothing, takes_more, prefix_after, gathers_more, gathers_takes, gathers_prefix, gathers_part)

@@ -1,6 +1,6 @@
 ghost use Rattle.std.specs.Prelude.{◌≡◌, ◌≤◌, ◌+◌, ◌++◌, [], length, IsTrue, OnOk, OnErr};
 ghost use Rattle.lmn_io.specs.Counts.{Rose};
-ghost use Rattle.lmn_io.specs.Taking.{Takes, TakesPrefix, Gathers};
+ghost use Rattle.lmn_io.specs.Taking.{Takes, TakesPrefix, Gathers, all_of};
 
 use crate::sink::{Failed, Sink};
 use std::marker::Model;
@@ -61,6 +61,23 @@ impl LineBuffer {
         sink.put(piece)
     }
 
+    /// Adds pieces, one behind the other.
+    ///
+    /// # Errors
+    ///
+    /// `Failed` where a put failed; the sink then took a prefix of what was due.
+    pub fn add_all<O: Sink>(&mut self, sink: &mut O, pieces: &[&[u8]]) -> Result<(), Failed>
+        ensures later { O.faults sink.old ≤ O.faults sink.new }
+        ensures took { OnOk result (Gathers (self.old ++ all_of pieces.now) (O.told sink.old) self.new (O.told sink.new)) }
+        ensures prefix { OnErr result (TakesPrefix (self.old ++ all_of pieces.now) (O.told sink.old) (O.told sink.new)) }
+        ensures rose { OnErr result (Rose (O.faults sink.old) (O.faults sink.new)) }
+    {
+        for piece in pieces {
+            self.add(sink, piece)?;
+        }
+        Ok(())
+    }
+
     /// Whether so many bytes more can be kept back.
     fn has_room(&self, count: usize) -> bool
         ensures { IsTrue result → length self.now + count ≤ 4096 }
@@ -94,4 +111,21 @@ impl LineBuffer {
         self.length = 0;
         Ok(())
     }
+}
+
+/// Puts pieces, one behind the other, in as few puts as the buffer allows.
+///
+/// # Errors
+///
+/// `Failed` where a put failed; the sink then took a prefix of what was due.
+#[tactic(auto, using(crate::proofs::TakingLemmas::gathering))]
+pub fn put_all<O: Sink>(sink: &mut O, pieces: &[&[u8]]) -> Result<(), Failed>
+    ensures later { O.faults sink.old ≤ O.faults sink.new }
+    ensures took { OnOk result (Takes (all_of pieces.now) (O.told sink.old) (O.told sink.new)) }
+    ensures prefix { OnErr result (TakesPrefix (all_of pieces.now) (O.told sink.old) (O.told sink.new)) }
+    ensures rose { OnErr result (Rose (O.faults sink.old) (O.faults sink.new)) }
+{
+    let mut buffer = LineBuffer::new();
+    buffer.add_all(sink, pieces)?;
+    buffer.flush(sink)
 }
