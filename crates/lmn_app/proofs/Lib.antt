@@ -1,0 +1,2 @@
+pub mod CutsLaws
+pub mod GrammarLaws

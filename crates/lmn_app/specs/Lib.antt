@@ -1,0 +1,4 @@
+pub mod FirstGrammar
+pub mod Lexemes
+pub mod Programs
+pub mod Reading

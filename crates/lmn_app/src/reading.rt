@@ -1,0 +1,86 @@
+mod lexer;
+mod limits;
+mod parser;
+
+use crate::program::Program;
+use lmn_base::{NoMemory, Pos, Refusal, TextFault};
+use std::alloc::Global;
+
+/// The refusal of a text that is not of the grammar.
+const NOT_READ: Refusal = Refusal {
+    code: 90,
+    pos: Pos { line: 1, column: 1 },
+};
+
+/// Reads a text: its atoms and its rules, each in the order of the text.
+///
+/// A text that is not of the grammar, or not within the limits, is refused by code 90 at line 1,
+/// column 1.
+pub fn read<'t>(alloc: Global, text: &'t [u8]) -> Result<Program<'t>, TextFault> {
+    match read_within_limits(alloc, text) {
+        Ok(Some(program)) => Ok(program),
+        Ok(None) => Err(TextFault::Refused(NOT_READ)),
+        Err(NoMemory) => Err(TextFault::NoMemory),
+    }
+}
+
+/// The program that a text spells, if it spells one within the limits.
+fn read_within_limits<'t>(alloc: Global, text: &'t [u8]) -> Result<Option<Program<'t>>, NoMemory> {
+    let Some(tokens) = lexer::tokens_of(alloc, text)? else {
+        return Ok(None);
+    };
+    let Some(program) = parser::program(alloc, tokens.as_slice())? else {
+        return Ok(None);
+    };
+    if !limits::is_within(&program) {
+        return Ok(None);
+    }
+    Ok(Some(program))
+}
+
+#[cfg(test)]
+mod tests {
+    use super::read;
+    use std::alloc::Global;
+
+    /// The numbers of atoms and of rules, or none where the text is refused.
+    fn counted(alloc: Global, text: &[u8]) -> Option<(usize, usize)> {
+        match read(alloc, text) {
+            Ok(program) => Some((program.atoms.len(), program.rules.len())),
+            Err(_) => None,
+        }
+    }
+
+    #[test]
+    fn texts_are_read_or_refused(rt: HostRuntime) {
+        let texts: [(&[u8], Option<(usize, usize)>); 24] = [
+            (b"", Some((0, 0))),
+            (b" \t\r\n\x0c", Some((0, 0))),
+            (b"a", Some((1, 0))),
+            (b"a.", Some((1, 0))),
+            (b"a1_B, b.c .\n", Some((3, 0))),
+            (b"a :- b", Some((0, 1))),
+            (b"a, b :- .", Some((0, 1))),
+            (b"b. (a, a :- b).", Some((1, 1))),
+            (b"(a :- ), c, (b :- c, d). e :- f.", Some((1, 3))),
+            (b".", None),
+            (b"a..", None),
+            (b"a,", None),
+            (b"a b", None),
+            (b":- a", None),
+            (b"(a)", None),
+            (b"()", None),
+            (b"(a :- b", None),
+            (b"a :- b)", None),
+            (b"a :- (b :- c)", None),
+            (b"a :- b :- c", None),
+            (b"A", None),
+            (b"1", None),
+            (b"a : - b", None),
+            (b"a % b", None),
+        ];
+        for (text, wanted) in texts {
+            assert!(rt; counted(rt.alloc(), text) == wanted);
+        }
+    }
+}
