@@ -1,2 +1,4 @@
 pub mod CutsLaws
 pub mod GrammarLaws
+pub mod LineLemmas
+pub mod OutcomeLemmas

@@ -2,3 +2,8 @@ pub mod FirstGrammar
 pub mod Lexemes
 pub mod Programs
 pub mod Reading
+pub mod Words
+pub mod Endings
+pub mod Lines
+pub mod Stops
+pub mod Outcomes

@@ -1,3 +1,7 @@
+ghost use Rattle.std.specs.Prelude.{◌≡◌};
+ghost use Rattle.lmn_base.specs.declared.refusal.Refusal.{Refusal};
+ghost use Rattle.lmn_app.specs.Outcomes.{IsNotBuilt};
+
 mod lexer;
 mod limits;
 mod parser;
@@ -16,7 +20,9 @@ const NOT_READ: Refusal = Refusal {
 ///
 /// A text that is not of the grammar, or not within the limits, is refused by code 90 at line 1,
 /// column 1.
-pub fn read<'t>(alloc: Global, text: &'t [u8]) -> Result<Program<'t>, TextFault> {
+pub fn read<'t>(alloc: Global, text: &'t [u8]) -> Result<Program<'t>, TextFault>
+    ensures refused { (refusal : Refusal) → result ≡ Err (TextFault.Refused refusal) → IsNotBuilt refusal }
+{
     match read_within_limits(alloc, text) {
         Ok(Some(program)) => Ok(program),
         Ok(None) => Err(TextFault::Refused(NOT_READ)),

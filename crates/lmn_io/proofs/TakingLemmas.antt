@@ -1,15 +1,22 @@
 -- What follows from several puts in a row.
-use Rattle.std.specs.Prelude.{◌≡◌, ℕ, suc, ◌<◌, List, [], ◌∷◌, ◌++◌, length, take, drop, Option, Some, None}
+use Rattle.std.specs.Prelude.{◌≡◌, ℕ, ◌+◌, ◌<◌, ◌≤◌, Bool, true, false, List, [], ◌∷◌, ◌++◌, length, take, Option, Some, None}
 use Rattle.std.specs.List.{flat_map}
-use Rattle.std.proofs.Common.{ap, ◌∙◌, append_assoc, append-nil, sym, refl, subst, get_or}
-use Rattle.std.proofs.Math.Seq.{split_at}
+use Rattle.std.proofs.Common.{ap, ◌∙◌, append_assoc, append-nil, sym, refl, subst, get_or, arith}
+use Rattle.std.proofs.lemmas.List.{take_all, take_more}
 use Rattle.std.proofs.lemmas.List.Concat.{flat_map-append}
+use Rattle.lmn_io.specs.Counts.{Rose}
 use Rattle.lmn_io.specs.Taking.{Takes, TakesPrefix, Gathers}
+use Rattle.lmn_io.specs.Gathering.{Pending, Output, AddsWhere, Adds}
 
 -- a prefix of a piece is one of a longer piece
 pub prefix_more : (a b : List ℕ) (old new : Option (List ℕ)) → TakesPrefix a old new → TakesPrefix (a ++ b) old new
 prefix_more a b None new taken = taken
 prefix_more a b (Some old) new taken = (taken.0, taken.1 ++ b, ap (λ x. x ++ b) taken.2 ∙ append_assoc taken.0 taken.1 b, taken.3)
+
+-- a whole piece is a prefix of itself
+pub takes_prefix : (a : List ℕ) (old new : Option (List ℕ)) → Takes a old new → TakesPrefix a old new
+takes_prefix a None new taken = taken
+takes_prefix a (Some old) new taken = (a, [], sym (append-nil a), taken)
 
 -- nothing is taken, and all is kept back
 pub nothing_taken : (a : List ℕ) (old : Option (List ℕ)) → Gathers a old a old
@@ -74,16 +81,54 @@ pub takes_nothing : (told : Option (List ℕ)) → Takes [] told told
 takes_nothing None = refl
 takes_nothing (Some old) = rw append-nil refl
 
--- the pieces of a list were gathered up to a place, and a prefix of the piece that stands there is taken
-pub prefix_at : {X : Type 0} (f : X → List ℕ) (xs : List X) (i : ℕ) (d : X) (start kept : List ℕ) (old mid new : Option (List ℕ)) → i < length xs
-    → Gathers (start ++ flat_map f (take i xs)) old kept mid → TakesPrefix (kept ++ f (get_or xs i d)) mid new → TakesPrefix (start ++ flat_map f xs) old new
-prefix_at f xs i d start kept old mid new within first later =
-    let before = flat_map f (take i xs) in
-    let piece = f (get_or xs i d) in
-    let behind = flat_map f (drop (suc i) xs) in
-    let whole : flat_map f xs ≡ before ++ (piece ++ behind) = ap (flat_map f) (split_at xs i d within) ∙ flat_map-append f (take i xs) (get_or xs i d ∷ drop (suc i) xs) in
-    let part : TakesPrefix (((start ++ before) ++ piece) ++ behind) old new = prefix_more ((start ++ before) ++ piece) behind old new (gathers_prefix (start ++ before) piece kept old mid new first later) in
-    let same : ((start ++ before) ++ piece) ++ behind ≡ start ++ flat_map f xs = append_assoc (start ++ before) piece behind ∙ append_assoc start before (piece ++ behind) ∙ ap (λ x. start ++ x) (sym whole) in
-    subst (λ bytes. TakesPrefix bytes old new) same part
+pub ruleset taking = (prefix_more, nothing_taken, takes_nothing, takes_more, prefix_after, gathers_more, gathers_takes, gathers_prefix, gathers_part)
 
-pub ruleset gathering = (prefix_more, nothing_taken, takes_nothing, takes_more, prefix_after, gathers_more, gathers_takes, gathers_prefix, gathers_part)
+unchanged : (failed : Bool) (o : Output) → AddsWhere failed failed [] o o
+unchanged true o = refl
+unchanged false o = rw append-nil (nothing_taken o.pending.kept o.told)
+
+-- nothing was added
+pub adds_nothing : (o : Output) → Adds [] o o
+adds_nothing o = record { added = unchanged o.pending.failed o; later = omega arith }
+
+more : (a b : List ℕ) (before mid after : Output) (f f' f'' : Bool) → before.pending.failed ≡ f → mid.pending.failed ≡ f' → after.pending.failed ≡ f''
+    → before.faults ≤ mid.faults → AddsWhere f f' a before mid → AddsWhere f' f'' b mid after → AddsWhere f f'' (a ++ b) before after
+more a b before mid after true true f'' e e' e'' l p q = q ∙ p
+more a b before mid after true false f'' e e' e'' l p q = let h : true ≡ false = sym e ∙ ap (λ o. o.pending.failed) (sym p) ∙ e' in cc
+more a b before mid after false true true e e' e'' l p q =
+    (subst (λ o. TakesPrefix (before.pending.kept ++ (a ++ b)) before.told o.told) (sym q)
+        (subst (λ bytes. TakesPrefix bytes before.told mid.told) (append_assoc before.pending.kept a b)
+            (prefix_more (before.pending.kept ++ a) b before.told mid.told p.0)),
+     subst (λ o. Rose before.faults o.faults) (sym q) p.1)
+more a b before mid after false true false e e' e'' l p q = let h : true ≡ false = sym e' ∙ ap (λ o. o.pending.failed) (sym q) ∙ e'' in cc
+more a b before mid after false false true e e' e'' l p q =
+    (subst (λ bytes. TakesPrefix bytes before.told after.told) (append_assoc before.pending.kept a b)
+        (gathers_prefix (before.pending.kept ++ a) b mid.pending.kept before.told mid.told after.told p q.0),
+     omega (arith, l, q.1))
+more a b before mid after false false false e e' e'' l p q =
+    subst (λ bytes. Gathers bytes before.told after.pending.kept after.told) (append_assoc before.pending.kept a b)
+        (gathers_more (before.pending.kept ++ a) b mid.pending.kept after.pending.kept before.told mid.told after.told p q)
+
+-- a piece was added, and then another
+pub adds_more : (a b : List ℕ) (before mid after : Output) → Adds a before mid → Adds b mid after → Adds (a ++ b) before after
+adds_more a b before mid after first later =
+    record { added = more a b before mid after before.pending.failed mid.pending.failed after.pending.failed refl refl refl first.later first.added later.added; later = omega arith }
+
+-- of a list of pieces one more was added
+pub adds_next : {X : Type 0} (f : X → List ℕ) (xs : List X) (i : ℕ) (d : X) (before mid after : Output) → i < length xs
+    → Adds (flat_map f (take i xs)) before mid → Adds (f (get_or xs i d)) mid after → Adds (flat_map f (take (i + 1) xs)) before after
+adds_next f xs i d before mid after within first later =
+    let whole : flat_map f (take (i + 1) xs) ≡ flat_map f (take i xs) ++ f (get_or xs i d) =
+        ap (flat_map f) (take_more xs i d within) ∙ flat_map-append f (take i xs) (get_or xs i d ∷ []) ∙ ap (λ bytes. flat_map f (take i xs) ++ bytes) (append-nil (f (get_or xs i d)))
+    in subst (λ bytes. Adds bytes before after) (sym whole) (adds_more (flat_map f (take i xs)) (f (get_or xs i d)) before mid after first later)
+
+-- a piece that is the same was added
+pub adds_as : {text same : List ℕ} {before after : Output} → text ≡ same → Adds text before after → Adds same before after
+adds_as {before = before} {after = after} e added = subst (λ bytes. Adds bytes before after) e added
+
+-- all pieces of a list were added
+pub adds_all : {X : Type 0} (f : X → List ℕ) (xs : List X) (i : ℕ) {before after : Output} → length xs ≤ i
+    → Adds (flat_map f (take i xs)) before after → Adds (flat_map f xs) before after
+adds_all f xs i end added = adds_as (ap (flat_map f) (take_all i xs end)) added
+
+pub ruleset adding = (adds_nothing, adds_more, adds_next)

@@ -1,4 +1,5 @@
 pub mod Counts
 pub mod Taking
+pub mod Gathering
 pub mod Texts
 pub mod Memory

@@ -1,7 +1,5 @@
 -- What a sink tells of the bytes that it took, if it tells them.
 use Rattle.std.specs.Prelude.{◌≡◌, ℕ, List, ◌++◌, Option, Some, None}
-use Rattle.std.specs.List.{flat_map}
-use Rattle.std.specs.Borrow.{Bor}
 
 -- it took the whole piece
 abbrev pub Takes : List ℕ → Option (List ℕ) → Option (List ℕ) → Type 0
@@ -17,7 +15,3 @@ TakesPrefix piece (Some old) new = (front rest : List ℕ) × (piece ≡ front +
 abbrev pub Gathers : List ℕ → Option (List ℕ) → List ℕ → Option (List ℕ) → Type 0
 Gathers piece None kept new = new ≡ None
 Gathers piece (Some old) kept new = (front : List ℕ) × (piece ≡ front ++ kept) × (new ≡ Some (old ++ front))
-
--- the bytes of pieces, one behind the other
-abbrev pub all_of : List (Bor (List ℕ)) → List ℕ
-all_of pieces = flat_map (λ piece. piece.now) pieces

@@ -2,6 +2,7 @@
 #![tactic(auto)]
 
 mod file_shelf;
+mod kept;
 mod line_buffer;
 mod mem_shelf;
 mod mem_sink;

@@ -1,115 +1,96 @@
-ghost use Rattle.std.specs.Prelude.{◌≡◌, ◌≤◌, ◌+◌, ◌++◌, [], length, IsTrue, OnOk, OnErr};
+ghost use Rattle.std.specs.Prelude.{◌≡◌, ◌≤◌, ◌++◌, ℕ, List, Option, OnOk, OnErr};
 ghost use Rattle.lmn_io.specs.Counts.{Rose};
-ghost use Rattle.lmn_io.specs.Taking.{Takes, TakesPrefix, Gathers, all_of};
+ghost use Rattle.lmn_io.specs.Taking.{Takes, TakesPrefix, Gathers};
+ghost use Rattle.lmn_io.specs.Gathering.{Adds, all_of, nothing_pending, output};
 
+use crate::kept::Kept;
 use crate::sink::{Failed, Sink};
 use std::marker::Model;
 
-/// The number of bytes that are kept back at most.
-const ROOM: usize = 4096;
-
-/// Pieces of output that are kept back until there are enough for one put.
-/// It takes no memory. Contracts see the bytes that are kept back.
+/// Output that is gathered, so that a sink sees one put a line, or one each 4 KiB of a longer line.
+/// It takes no memory. Once a put has failed nothing more is put, and `finish` answers it.
 #[derive(Drop)]
 pub struct LineBuffer {
-    bytes: [u8; ROOM],
-    length: usize,
+    kept: Kept,
+    failed: bool,
 }
 
 impl Model for LineBuffer {
-    ghost use Rattle.std.specs.Prelude.{ℕ, List, take, ◌≤◌};
+    ghost use Rattle.lmn_io.specs.Gathering.{Pending};
 
-    ghost Value = { List ℕ };
+    ghost Value = { Pending };
 
-    ghost view = { λ b. take b.length b.bytes };
+    ghost view = { λ b. record { kept = b.kept; failed = b.failed } };
+}
 
-    ghost invariant = { λ b. b.length ≤ 4096 };
+/// Keeps a piece back, or puts into the sink what there is no room for.
+#[tactic(auto, using(crate::proofs::TakingLemmas::taking))]
+fn keep_or_put<O: Sink>(kept: &mut Kept, sink: &mut O, piece: &[u8]) -> Result<(), Failed>
+    ensures later { O.faults sink.old ≤ O.faults sink.new }
+    ensures took { OnOk result (Gathers (kept.old ++ piece.now) (O.told sink.old) kept.new (O.told sink.new)) }
+    ensures prefix { OnErr result (TakesPrefix (kept.old ++ piece.now) (O.told sink.old) (O.told sink.new)) }
+    ensures rose { OnErr result (Rose (O.faults sink.old) (O.faults sink.new)) }
+{
+    if kept.has_room(piece.len()) {
+        kept.keep(piece);
+        return Ok(());
+    }
+    sink.put(kept.as_slice())?;
+    kept.clear();
+    if kept.has_room(piece.len()) {
+        kept.keep(piece);
+        return Ok(());
+    }
+    sink.put(piece)
 }
 
 impl LineBuffer {
-    /// Nothing is kept back.
+    /// Nothing is pending.
     pub fn new() -> LineBuffer
-        ensures { result ≡ [] }
+        ensures { result ≡ nothing_pending }
     {
         LineBuffer {
-            bytes: [0; ROOM],
-            length: 0,
+            kept: Kept::new(),
+            failed: false,
         }
     }
 
-    /// Adds a piece behind what is kept back, and puts into the sink what there is no room for.
-    ///
-    /// # Errors
-    ///
-    /// `Failed` where a put failed; the sink then took a prefix of what was due.
-    #[tactic(auto, using(crate::proofs::TakingLemmas::gathering))]
-    pub fn add<O: Sink>(&mut self, sink: &mut O, piece: &[u8]) -> Result<(), Failed>
-        ensures later { O.faults sink.old ≤ O.faults sink.new }
-        ensures took { OnOk result (Gathers (self.old ++ piece.now) (O.told sink.old) self.new (O.told sink.new)) }
-        ensures prefix { OnErr result (TakesPrefix (self.old ++ piece.now) (O.told sink.old) (O.told sink.new)) }
-        ensures rose { OnErr result (Rose (O.faults sink.old) (O.faults sink.new)) }
+    /// Adds a piece.
+    pub fn add<O: Sink>(&mut self, sink: &mut O, piece: &[u8])
+        ensures { Adds piece.now (output self.old (O.told sink.old) (O.faults sink.old)) (output self.new (O.told sink.new) (O.faults sink.new)) }
     {
-        if self.has_room(piece.len()) {
-            self.keep(piece);
-            return Ok(());
+        if self.failed {
+            return;
         }
-        self.flush(sink)?;
-        if self.has_room(piece.len()) {
-            self.keep(piece);
-            return Ok(());
-        }
-        sink.put(piece)
+        self.failed = keep_or_put(&mut self.kept, sink, piece).is_err();
     }
 
     /// Adds pieces, one behind the other.
-    ///
-    /// # Errors
-    ///
-    /// `Failed` where a put failed; the sink then took a prefix of what was due.
-    pub fn add_all<O: Sink>(&mut self, sink: &mut O, pieces: &[&[u8]]) -> Result<(), Failed>
-        ensures later { O.faults sink.old ≤ O.faults sink.new }
-        ensures took { OnOk result (Gathers (self.old ++ all_of pieces.now) (O.told sink.old) self.new (O.told sink.new)) }
-        ensures prefix { OnErr result (TakesPrefix (self.old ++ all_of pieces.now) (O.told sink.old) (O.told sink.new)) }
-        ensures rose { OnErr result (Rose (O.faults sink.old) (O.faults sink.new)) }
+    #[tactic(auto, using(crate::proofs::TakingLemmas::adding))]
+    pub fn add_all<O: Sink>(&mut self, sink: &mut O, pieces: &[&[u8]])
+        ensures { Adds (all_of pieces.now) (output self.old (O.told sink.old) (O.faults sink.old)) (output self.new (O.told sink.new) (O.faults sink.new)) }
     {
         for piece in pieces {
-            self.add(sink, piece)?;
+            self.add(sink, piece);
         }
-        Ok(())
     }
 
-    /// Whether so many bytes more can be kept back.
-    fn has_room(&self, count: usize) -> bool
-        ensures { IsTrue result → length self.now + count ≤ 4096 }
-    {
-        count <= ROOM - self.length
-    }
-
-    /// Keeps a piece back.
-    fn keep(&mut self, piece: &[u8])
-        requires { length self.old + length piece.now ≤ 4096 }
-        ensures { self.new ≡ self.old ++ piece.now }
-    {
-        let end = self.length + piece.len();
-        self.bytes[self.length..end].copy_from_slice(piece);
-        self.length = end;
-    }
-
-    /// Puts what is kept back into the sink.
+    /// Puts what is kept back, and answers whether all was put.
     ///
     /// # Errors
     ///
-    /// `Failed` where the put failed; the sink then took a prefix of what was due.
-    pub fn flush<O: Sink>(&mut self, sink: &mut O) -> Result<(), Failed>
-        ensures later { O.faults sink.old ≤ O.faults sink.new }
-        ensures took { OnOk result (Takes self.old (O.told sink.old) (O.told sink.new)) }
-        ensures empty { OnOk result (self.new ≡ []) }
-        ensures prefix { OnErr result (TakesPrefix self.old (O.told sink.old) (O.told sink.new)) }
-        ensures rose { OnErr result (Rose (O.faults sink.old) (O.faults sink.new)) }
+    /// `Failed` where a put has failed; the sink then took a prefix of all that was added.
+    #[tactic(auto, using(crate::proofs::TakingLemmas::taking))]
+    pub fn finish<O: Sink>(self, sink: &mut O) -> Result<(), Failed>
+        ensures took { (text : List ℕ) (told : Option (List ℕ)) (faults : ℕ) → Adds text (output nothing_pending told faults) (output self (O.told sink.old) (O.faults sink.old)) → OnOk result (Takes text told (O.told sink.new)) }
+        ensures prefix { (text : List ℕ) (told : Option (List ℕ)) (faults : ℕ) → Adds text (output nothing_pending told faults) (output self (O.told sink.old) (O.faults sink.old)) → OnErr result (TakesPrefix text told (O.told sink.new)) }
+        ensures later { (text : List ℕ) (told : Option (List ℕ)) (faults : ℕ) → Adds text (output nothing_pending told faults) (output self (O.told sink.old) (O.faults sink.old)) → faults ≤ O.faults sink.new }
+        ensures rose { (text : List ℕ) (told : Option (List ℕ)) (faults : ℕ) → Adds text (output nothing_pending told faults) (output self (O.told sink.old) (O.faults sink.old)) → OnErr result (Rose faults (O.faults sink.new)) }
     {
-        sink.put(&self.bytes[..self.length])?;
-        self.length = 0;
-        Ok(())
+        if self.failed {
+            return Err(Failed);
+        }
+        sink.put(self.kept.as_slice())
     }
 }
 
@@ -117,15 +98,14 @@ impl LineBuffer {
 ///
 /// # Errors
 ///
-/// `Failed` where a put failed; the sink then took a prefix of what was due.
-#[tactic(auto, using(crate::proofs::TakingLemmas::gathering))]
+/// `Failed` where a put failed; the sink then took a prefix of the pieces.
 pub fn put_all<O: Sink>(sink: &mut O, pieces: &[&[u8]]) -> Result<(), Failed>
-    ensures later { O.faults sink.old ≤ O.faults sink.new }
     ensures took { OnOk result (Takes (all_of pieces.now) (O.told sink.old) (O.told sink.new)) }
     ensures prefix { OnErr result (TakesPrefix (all_of pieces.now) (O.told sink.old) (O.told sink.new)) }
+    ensures later { O.faults sink.old ≤ O.faults sink.new }
     ensures rose { OnErr result (Rose (O.faults sink.old) (O.faults sink.new)) }
 {
     let mut buffer = LineBuffer::new();
-    buffer.add_all(sink, pieces)?;
-    buffer.flush(sink)
+    buffer.add_all(sink, pieces);
+    buffer.finish(sink)
 }

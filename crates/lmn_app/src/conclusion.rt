@@ -1,0 +1,76 @@
+ghost use Rattle.std.specs.Prelude.{◌≡◌, ◌≤◌, OnOk, OnErr};
+ghost use Rattle.lmn_io.specs.Counts.{Rose};
+ghost use Rattle.lmn_io.specs.Taking.{Takes, TakesPrefix};
+ghost use Rattle.lmn_app.specs.Endings.{Concludes, code_letters, code_words, line_of, refusal_line};
+
+use crate::ending::Ending;
+use itoa::Buffer;
+use lmn_base::Refusal;
+use lmn_io::{Failed, Sink, put_all};
+
+/// Puts the line of an ending into `err`, if it has one, and answers its status, or 5 where `err` fails.
+pub(crate) fn conclude<E: Sink>(err: &mut E, ending: Ending) -> u8
+    ensures { Concludes ending result (E.told err.old) (E.told err.new) (E.faults err.old) (E.faults err.new) }
+{
+    match report(err, ending) {
+        Ok(()) => ending.status(),
+        Err(_) => Ending::WriteFault.status(),
+    }
+}
+
+/// Puts the line of an ending, if it has one.
+#[tactic(auto, using(lmn_io::proofs::TakingLemmas::taking))]
+fn report<E: Sink>(err: &mut E, ending: Ending) -> Result<(), Failed>
+    ensures took { OnOk result (Takes (line_of ending) (E.told err.old) (E.told err.new)) }
+    ensures prefix { OnErr result (TakesPrefix (line_of ending) (E.told err.old) (E.told err.new)) }
+    ensures rose { OnErr result (Rose (E.faults err.old) (E.faults err.new)) }
+{
+    match ending {
+        Ending::Done | Ending::Budget => Ok(()),
+        Ending::Refused(refusal) => report_refusal(err, refusal),
+        Ending::Words => err.put(b"lmn: words not understood\n"),
+        Ending::ReadFault => err.put(b"lmn: read failed\n"),
+        Ending::WriteFault => err.put(b"lmn: write failed\n"),
+        Ending::NoMemory => err.put(b"lmn: out of memory\n"),
+    }
+}
+
+/// Puts the line of a refusal: its code, its place and its words.
+fn report_refusal<E: Sink>(err: &mut E, refusal: Refusal) -> Result<(), Failed>
+    ensures took { OnOk result (Takes (refusal_line refusal) (E.told err.old) (E.told err.new)) }
+    ensures prefix { OnErr result (TakesPrefix (refusal_line refusal) (E.told err.old) (E.told err.new)) }
+    ensures rose { OnErr result (Rose (E.faults err.old) (E.faults err.new)) }
+{
+    let (mut code, mut line, mut column) = (Buffer::new(), Buffer::new(), Buffer::new());
+    put_all(
+        err,
+        &[
+            code_letters(refusal.code),
+            code.format(refusal.code).as_bytes(),
+            b" ".as_slice(),
+            line.format(refusal.pos.line).as_bytes(),
+            b":".as_slice(),
+            column.format(refusal.pos.column).as_bytes(),
+            b" ".as_slice(),
+            refusal_words(refusal.code),
+            b"\n".as_slice(),
+        ],
+    )
+}
+
+/// What stands before the number of a code, which has two digits.
+fn code_letters(code: u8) -> &'static [u8]
+    ensures { result.now ≡ code_letters code }
+{
+    if code < 10 { b"E0" } else { b"E" }
+}
+
+/// The words of a refusal's code.
+fn refusal_words(code: u8) -> &'static [u8]
+    ensures { result.now ≡ code_words code }
+{
+    match code {
+        1 => b"text too long",
+        _ => b"form not built",
+    }
+}

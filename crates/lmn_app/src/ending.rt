@@ -1,0 +1,44 @@
+
+
+use lmn_base::Refusal;
+
+
+/// How a call ends. Each ending has a status and a line on `err`, which may be nothing.
+#[derive(Clone, Copy, Debug, PartialEq, Eq)]
+pub enum Ending {
+    /// The last process has no reduction, and all was written.
+    Done,
+    /// The budget's firings are done, the last process has a reduction, and all was written.
+    Budget,
+    /// The text is refused.
+    Refused(Refusal),
+    /// The words aren't of the form.
+    Words,
+    /// The file couldn't be fetched.
+    ReadFault,
+    /// The output couldn't be written.
+    WriteFault,
+    /// Memory was wanting.
+    NoMemory,
+}
+
+impl Ending {
+    ghost use Rattle.std.specs.Prelude.{◌≡◌};
+    ghost use Rattle.lmn_app.specs.Endings.{status_of};
+
+    /// The status of the program: 0 for done, 1 for the budget, 2 for a refused text, 3 for the words,
+    /// 4 for a read fault, 5 for a write fault, 6 for want of memory.
+    pub fn status(self) -> u8
+        ensures { result ≡ status_of self }
+    {
+        match self {
+            Ending::Done => 0,
+            Ending::Budget => 1,
+            Ending::Refused(_) => 2,
+            Ending::Words => 3,
+            Ending::ReadFault => 4,
+            Ending::WriteFault => 5,
+            Ending::NoMemory => 6,
+        }
+    }
+}

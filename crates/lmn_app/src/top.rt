@@ -1,0 +1,126 @@
+ghost use Rattle.std.specs.Prelude.{◌≡◌, ◌⊎◌, ℕ, List, Option, String, codes, string_bytes, IfOk, OnErr};
+ghost use Rattle.std.specs.declared.alloc.Global.{Global};
+ghost use Rattle.lmn_io.specs.Counts.{Rose};
+ghost use Rattle.lmn_io.specs.Taking.{Takes, TakesPrefix};
+ghost use Rattle.lmn_base.specs.declared.refusal.Refusal.{Refusal};
+ghost use Rattle.lmn_app.specs.Words.{InForm, file_of};
+ghost use Rattle.lmn_app.specs.Endings.{line_of, refusal_line};
+ghost use Rattle.lmn_app.specs.Outcomes.{Causes, Output, IsTooLong, IsNotBuilt, Writes, WritesPrefix};
+ghost use Rattle.lmn_app.specs.Stops.{stop_ending, stop_word};
+ghost use Rattle.lmn_app.specs.declared.ending.Ending.{Ending};
+
+use crate::conclusion::conclude;
+use crate::ending::Ending;
+use crate::printing;
+use crate::program::Program;
+use crate::reading;
+use crate::running::{self, Stop};
+use crate::words::in_form;
+use lmn_base::{Pos, Refusal, TextFault};
+use lmn_io::{Failed, FetchFault, Fetched, Shelf, Sink};
+use std::alloc::Global;
+
+/// The most bytes of a text.
+const TEXT_BYTES: u64 = 4_194_304;
+
+/// The refusal of a text that is longer.
+const TOO_LONG: Refusal = Refusal {
+    code: 1,
+    pos: Pos { line: 1, column: 1 },
+};
+
+/// All that the program does, for the words of its command line after its own name.
+/// The answer is its status, as `Ending::status` tells.
+pub fn lmn_main<F: Shelf, O: Sink, E: Sink>(
+    alloc: Global,
+    words: &[String],
+    shelf: &mut F,
+    out: &mut O,
+    err: &mut E,
+) -> u8
+    ensures words { result ≡ 3 → ¬ (InForm words.now) }
+    ensures form { ¬ (InForm words.now) → (result ≡ 3) ⊎ (result ≡ 5) }
+    ensures read { result ≡ 4 → InForm words.now × Rose (F.faults shelf.old (file_of words.now)) (F.faults shelf.new (file_of words.now)) }
+    ensures write { result ≡ 5 → Rose (O.faults out.old) (O.faults out.new) ⊎ Rose (E.faults err.old) (E.faults err.new) }
+
+    // What `out` took, for each status.
+    ensures out_done { result ≡ 0 → Writes (codes "irreducible") (O.told out.old) (O.told out.new) }
+    ensures out_budget { result ≡ 1 → Writes (codes "budget") (O.told out.old) (O.told out.new) }
+    ensures out_untouched { (result ≡ 2) ⊎ (result ≡ 3) ⊎ (result ≡ 4) → O.told out.new ≡ O.told out.old }
+    ensures out_part { result ≡ 5 → (O.told out.new ≡ O.told out.old) ⊎ WritesPrefix (O.told out.old) (O.told out.new) }
+    ensures out_memory { result ≡ 6 → (O.told out.new ≡ O.told out.old) ⊎ Writes (codes "no memory") (O.told out.old) (O.told out.new) }
+
+    // What `err` took, for each status.
+    ensures err_quiet { (result ≡ 0) ⊎ (result ≡ 1) → E.told err.new ≡ E.told err.old }
+    ensures err_refused { result ≡ 2 → (refusal : Refusal) × (IsTooLong refusal ⊎ IsNotBuilt refusal) × Takes (refusal_line refusal) (E.told err.old) (E.told err.new) }
+    ensures err_words { result ≡ 3 → Takes (codes "lmn: words not understood\n") (E.told err.old) (E.told err.new) }
+    ensures err_read { result ≡ 4 → Takes (codes "lmn: read failed\n") (E.told err.old) (E.told err.new) }
+    ensures err_memory { result ≡ 6 → Takes (codes "lmn: out of memory\n") (E.told err.old) (E.told err.new) }
+    ensures err_part { result ≡ 5 → (ending : Ending) × Causes ending words.now (F.faults shelf.old (file_of words.now)) (F.faults shelf.new (file_of words.now)) × TakesPrefix (line_of ending) (E.told err.old) (E.told err.new) }
+{
+    let ending = act(alloc, words, shelf, out);
+    conclude(err, ending)
+}
+
+/// Does what the words ask for, and says how it ended.
+fn act<F: Shelf, O: Sink>(alloc: Global, words: &[String], shelf: &mut F, out: &mut O) -> Ending
+    ensures causes { Causes result words.now (F.faults shelf.old (file_of words.now)) (F.faults shelf.new (file_of words.now)) }
+    ensures output { Output result (O.told out.old) (O.told out.new) (O.faults out.old) (O.faults out.new) }
+{
+    match words {
+        [_, file] if in_form(words) => run(alloc, file.as_str(), shelf, out),
+        _ => Ending::Words,
+    }
+}
+
+/// Fetches a text and runs it.
+fn run<F: Shelf, O: Sink>(alloc: Global, file: &str, shelf: &mut F, out: &mut O) -> Ending
+    ensures causes { (words : List (String Global)) → InForm words → Causes result words (F.faults shelf.old file.now) (F.faults shelf.new file.now) }
+    ensures output { Output result (O.told out.old) (O.told out.new) (O.faults out.old) (O.faults out.new) }
+{
+    match shelf.fetch(alloc, file, TEXT_BYTES) {
+        Ok(Fetched::Whole(text)) => run_text(alloc, text.as_slice(), out),
+        Ok(Fetched::TooLong) => Ending::Refused(TOO_LONG),
+        Err(FetchFault::Failed) => Ending::ReadFault,
+        Err(FetchFault::NoMemory) => Ending::NoMemory,
+    }
+}
+
+/// Reads a text and runs it.
+fn run_text<O: Sink>(alloc: Global, text: &[u8], out: &mut O) -> Ending
+    ensures causes { (words : List (String Global)) (before after : ℕ) → InForm words → Causes result words before after }
+    ensures output { Output result (O.told out.old) (O.told out.new) (O.faults out.old) (O.faults out.new) }
+{
+    match reading::read(alloc, text) {
+        Ok(program) => match run_program(program, out) {
+            Ok(stop) => ending_of(stop),
+            Err(_) => Ending::WriteFault,
+        },
+        Err(TextFault::Refused(refusal)) => Ending::Refused(refusal),
+        Err(TextFault::NoMemory) => Ending::NoMemory,
+    }
+}
+
+/// Lets a program react, and writes its last process and why it stopped.
+fn run_program<O: Sink>(program: Program<'_>, out: &mut O) -> Result<Stop, Failed>
+    ensures wrote { IfOk result (λ stop. Writes (stop_word stop) (O.told out.old) (O.told out.new)) }
+    ensures prefix { OnErr result (WritesPrefix (O.told out.old) (O.told out.new)) }
+    ensures rose { OnErr result (Rose (O.faults out.old) (O.faults out.new)) }
+{
+    let Program { atoms, rules } = program;
+    let mut atoms = atoms.into_vec();
+    let (stop, fired) = running::react(&mut atoms, rules.as_slice());
+    printing::print_run(out, atoms.as_slice(), rules.as_slice(), stop, fired)?;
+    Ok(stop)
+}
+
+/// How a call ends whose run stopped so and was written.
+fn ending_of(stop: Stop) -> Ending
+    ensures { result ≡ stop_ending stop }
+{
+    match stop {
+        Stop::Irreducible => Ending::Done,
+        Stop::Budget => Ending::Budget,
+        Stop::NoMemory => Ending::NoMemory,
+    }
+}
