@@ -11,7 +11,7 @@ abbrev pub above_all : List ℕ → ℕ
 above_all [] = 0
 above_all (x ∷ xs) = suc x + above_all xs
 
-abbrev pub top_of : {A : Type 0} → Process A → ℕ
+abbrev pub top_of : Process → ℕ
 top_of nothing = 0
 top_of (connector x y) = suc x + suc y
 top_of (atom a xs) = above_all xs
@@ -23,9 +23,9 @@ top_of (rule r) = 0
 abbrev pub one_if_once : ℕ → ℕ
 one_if_once n = cond (n == 1) 1 0
 
-abbrev pub one_if_free : {A : Type 0} → Process A → ℕ → ℕ
+abbrev pub one_if_free : Process → ℕ → ℕ
 one_if_free P x = one_if_once (occurrences x P)
 
 -- the number of free links of a process
-abbrev pub free_number : {A : Type 0} → Process A → ℕ
+abbrev pub free_number : Process → ℕ
 free_number P = total (top_of P) (one_if_free P)

@@ -2,7 +2,7 @@ use Rattle.std.specs.Prelude.{ℕ, ◌≡◌, map}
 use Rattle.lmn_congruence.specs.Process.{Process, nothing, connector, atom, pair, membrane, rule}
 
 -- no connector stands in a process, at any depth
-abbrev pub NoConnector : {A : Type 0} → Process A → Type 0
+abbrev pub NoConnector : Process → Type 0
 NoConnector nothing = Unit {0}
 NoConnector (connector x y) = ⊥
 NoConnector (atom a xs) = Unit {0}
@@ -11,7 +11,7 @@ NoConnector (membrane P) = NoConnector P
 NoConnector (rule r) = Unit {0}
 
 -- a map of links takes the two links of each connector to one link
-abbrev pub Joins : {A : Type 0} → (ℕ → ℕ) → Process A → Type 0
+abbrev pub Joins : (ℕ → ℕ) → Process → Type 0
 Joins v nothing = Unit {0}
 Joins v (connector x y) = v x ≡ v y
 Joins v (atom a xs) = Unit {0}
@@ -20,7 +20,7 @@ Joins v (membrane P) = Joins v P
 Joins v (rule r) = Unit {0}
 
 -- each link at its image, and no connector
-abbrev pub fused : {A : Type 0} → (ℕ → ℕ) → Process A → Process A
+abbrev pub fused : (ℕ → ℕ) → Process → Process
 fused v nothing = nothing
 fused v (connector x y) = nothing
 fused v (atom a xs) = atom a (map v xs)

@@ -4,7 +4,6 @@ pub mod Rules
 pub mod LinkedRules
 pub mod Process
 pub mod Congruence
-pub mod Language
 pub mod Regions
 pub mod Same
 pub mod Fused

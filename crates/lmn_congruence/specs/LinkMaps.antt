@@ -6,7 +6,7 @@ use Rattle.lmn_congruence.specs.UpToOrder.{Reordered}
 
 -- each membrane is crossed by as many links as its atoms need: its content has as many free links as it has
 -- when the connectors are fused by the map
-abbrev pub SameCrossings : {A : Type 0} → (ℕ → ℕ) → Process A → Type 0
+abbrev pub SameCrossings : (ℕ → ℕ) → Process → Type 0
 SameCrossings v nothing = Unit {0}
 SameCrossings v (connector x y) = Unit {0}
 SameCrossings v (atom a xs) = Unit {0}
@@ -19,7 +19,7 @@ SameCrossings v (rule r) = Unit {0}
 --   joins      the two links of each connector have one image
 --   order      P with each link at its image and without its connectors is N, up to order and grouping
 --   crossings  the links across each membrane are as many as in N
-pub record ReadsAs {A : Type 0} (P N : Process A) : Type 0 where
+pub record ReadsAs (P N : Process) : Type 0 where
   pub to : ℕ → ℕ
   pub leaves : (x : ℕ) → Free x P → to x ≡ x
   pub joins : Joins to P

@@ -1,25 +1,24 @@
 use Rattle.std.specs.Prelude.{ℕ, ◌≡◌, List, [], ◌∷◌, map}
-use Rattle.lmn_congruence.specs.Process.{nothing, connector, atom, pair, membrane, rule, Closed}
+use Rattle.lmn_congruence.specs.Process.{Process, nothing, connector, atom, pair, membrane, rule, Closed, together}
 use Rattle.lmn_congruence.specs.Rules.{Leaf, atom_leaf, connector_leaf, typed_leaf, Level, level, Levels, no_level, level_and, rules_list}
-use Rattle.lmn_congruence.specs.Language.{LmnProcess, together}
 use Rattle.lmn_congruence.specs.Fused.{Joins}
 use Rattle.lmn_congruence.specs.Regions.{SolidAtom, Region, region, Regions, no_region, region_and, region_process}
 
 -- A text has a level at its top. The type also allows contexts there: a text with one is refused, and here
 -- they stand for nothing.
 
-abbrev pub leaf_process : Leaf → LmnProcess
+abbrev pub leaf_process : Leaf → Process
 leaf_process (atom_leaf a xs) = atom a xs
 leaf_process (connector_leaf x y) = connector x y
 leaf_process (typed_leaf p x) = nothing
 
 -- the process of a top: the parallel pair of its items
 abbrev mutual
-  pub level_process : Level → LmnProcess
+  pub level_process : Level → Process
   level_process (level leaves membranes contexts rule_contexts rules) =
       pair (together (map leaf_process leaves)) (pair (together (levels_processes membranes)) (together (map rule (rules_list rules))))
 
-  pub levels_processes : Levels → List LmnProcess
+  pub levels_processes : Levels → List Process
   levels_processes no_level = []
   levels_processes (level_and l ls) = membrane (level_process l) ∷ levels_processes ls
 

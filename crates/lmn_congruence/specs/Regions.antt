@@ -1,7 +1,6 @@
 use Rattle.std.specs.Prelude.{ℕ, ◌+◌, List, [], ◌∷◌, map, length}
-use Rattle.lmn_congruence.specs.Process.{atom, pair, membrane, rule}
+use Rattle.lmn_congruence.specs.Process.{Process, atom, pair, membrane, rule, together}
 use Rattle.lmn_congruence.specs.Rules.{Label, Rule}
-use Rattle.lmn_congruence.specs.Language.{LmnProcess, together}
 
 -- The content of a membrane of a solid, or of its root: atoms with their links, membranes and rules, in order.
 -- A solid has each link in exactly two places: `Closed` of its process. It has no connector, and no atom that
@@ -18,16 +17,16 @@ mutual
     no_region : Regions
     region_and : Region → Regions → Regions
 
-abbrev pub atom_process : SolidAtom → LmnProcess
+abbrev pub atom_process : SolidAtom → Process
 atom_process a = atom a.label a.links
 
 -- the process of a region: the parallel pair of its items
 abbrev mutual
-  pub region_process : Region → LmnProcess
+  pub region_process : Region → Process
   region_process (region atoms membranes rules) =
       pair (together (map atom_process atoms)) (pair (together (regions_processes membranes)) (together (map rule rules)))
 
-  pub regions_processes : Regions → List LmnProcess
+  pub regions_processes : Regions → List Process
   regions_processes no_region = []
   regions_processes (region_and r rs) = membrane (region_process r) ∷ regions_processes rs
 

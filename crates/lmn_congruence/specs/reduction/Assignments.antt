@@ -1,11 +1,10 @@
 use Rattle.std.specs.Prelude.{ℕ, ◌≡◌, List}
 use Rattle.lmn_congruence.specs.Process.{Process, nothing, connector, atom, pair, membrane, rule, Free}
 use Rattle.lmn_congruence.specs.Rules.{Name, Rule}
-use Rattle.lmn_congruence.specs.Language.{LmnProcess}
 use Rattle.lmn_congruence.specs.reduction.Parts.{Rooted}
 
 -- no rule stands in a process outside its membranes
-abbrev pub NoRuleAtTop : {A : Type 0} → Process A → Type 0
+abbrev pub NoRuleAtTop : Process → Type 0
 NoRuleAtTop nothing = Unit {0}
 NoRuleAtTop (connector x y) = Unit {0}
 NoRuleAtTop (atom a xs) = Unit {0}
@@ -23,7 +22,7 @@ NoRuleAtTop (rule r) = ⊥
 -- a rule has finitely many links, so an assignment of these can always be carried on to all numbers.
 pub record Assignment : Type 0 where
   pub link_of : ℕ → ℕ
-  pub context_of : Name → LmnProcess
+  pub context_of : Name → Process
   pub rules_of : Name → List Rule
   pub typed_of : Name → Rooted
 

@@ -1,7 +1,6 @@
-use Rattle.lmn_congruence.specs.Process.{Linked, Closed}
+use Rattle.lmn_congruence.specs.Process.{Process, Linked, Closed}
 use Rattle.lmn_congruence.specs.Congruence.{Congruent}
 use Rattle.lmn_congruence.specs.Rules.{Level}
-use Rattle.lmn_congruence.specs.Language.{LmnProcess}
 use Rattle.lmn_congruence.specs.Fused.{NoConnector}
 use Rattle.lmn_congruence.specs.Regions.{Region, region_process}
 use Rattle.lmn_congruence.specs.Plains.{level_process, SolidOf}
@@ -11,22 +10,22 @@ use Rattle.lmn_congruence.specs.reduction.Redexes.{ShowsRedex}
 
 -- both sides of a step, and of a settling step, are linked
 abbrev pub StepsAreLinked : Type 0
-StepsAreLinked = (P Q : LmnProcess) → Step P Q → Linked P × Linked Q
+StepsAreLinked = (P Q : Process) → Step P Q → Linked P × Linked Q
 
 abbrev pub SettlingStepsAreLinked : Type 0
-SettlingStepsAreLinked = (P Q : LmnProcess) → SettlingStep P Q → Linked P × Linked Q
+SettlingStepsAreLinked = (P Q : Process) → SettlingStep P Q → Linked P × Linked Q
 
 -- a process without connectors is settled
 abbrev pub SettledWithoutConnectors : Type 0
-SettledWithoutConnectors = (P : LmnProcess) → NoConnector P → Settled P
+SettledWithoutConnectors = (P : Process) → NoConnector P → Settled P
 
 -- a closed process settles
 abbrev pub ClosedSettles : Type 0
-ClosedSettles = (P : LmnProcess) → Closed P → (Q : LmnProcess) × Settles P Q
+ClosedSettles = (P : Process) → Closed P → (Q : Process) × Settles P Q
 
 -- and in one way, up to congruence
 abbrev pub SettlesOnce : Type 0
-SettlesOnce = (P Q Q' : LmnProcess) → Closed P → Settles P Q → Settles P Q' → Congruent Q Q'
+SettlesOnce = (P Q Q' : Process) → Closed P → Settles P Q → Settles P Q' → Congruent Q Q'
 
 -- the process of a plain's top settles to that of its solid
 abbrev pub PlainSettles : Type 0
@@ -34,17 +33,17 @@ PlainSettles = (top : Level) (S : Region) → Closed (level_process top) → Sol
 
 -- where a step is possible, some congruent process has a redex
 abbrev pub StepsShowRedexes : Type 0
-StepsShowRedexes = (P Q : LmnProcess) → Step P Q → ShowsRedex P
+StepsShowRedexes = (P Q : Process) → Step P Q → ShowsRedex P
 
 -- congruence keeps all that is said of reduction
 abbrev pub KeepsSettled : Type 0
-KeepsSettled = (P P' : LmnProcess) → Congruent P P' → Settled P → Settled P'
+KeepsSettled = (P P' : Process) → Congruent P P' → Settled P → Settled P'
 
 abbrev pub KeepsSettles : Type 0
-KeepsSettles = (P P' Q Q' : LmnProcess) → Congruent P P' → Congruent Q Q' → Settles P Q → Settles P' Q'
+KeepsSettles = (P P' Q Q' : Process) → Congruent P P' → Congruent Q Q' → Settles P Q → Settles P' Q'
 
 abbrev pub KeepsCommit : Type 0
-KeepsCommit = (P P' Q Q' : LmnProcess) → Congruent P P' → Congruent Q Q' → Commit P Q → Commit P' Q'
+KeepsCommit = (P P' Q Q' : Process) → Congruent P P' → Congruent Q Q' → Commit P Q → Commit P' Q'
 
 abbrev pub KeepsIrreducible : Type 0
-KeepsIrreducible = (P P' : LmnProcess) → Congruent P P' → Irreducible P → Irreducible P'
+KeepsIrreducible = (P P' : Process) → Congruent P P' → Irreducible P → Irreducible P'

@@ -2,13 +2,12 @@ use Rattle.std.specs.Prelude.{ℕ, ℤ, ◌≡◌, List, [], ◌∷◌, ◌++◌
 use Rattle.lmn_congruence.specs.Orders.{Among, Shuffle}
 use Rattle.lmn_congruence.specs.Process.{Process, nothing, connector, atom, pair, membrane, rule, Free, OneToOneOn}
 use Rattle.lmn_congruence.specs.Rules.{Label, integer}
-use Rattle.lmn_congruence.specs.Language.{LmnProcess}
 
 -- What a typed context may stand for.
 
 -- a process with one marked link, its root
 pub record Rooted : Type 0 where
-  pub process : LmnProcess
+  pub process : Process
   pub root : ℕ
 
 -- one integer atom of arity 1
@@ -20,7 +19,7 @@ pub data IsUnary : Rooted → Type 0 where
   one_atom : {a : Label} {x : ℕ} → IsUnary (record { process = atom a (x ∷ []); root = x })
 
 -- one or more atoms side by side, none of them a connector
-abbrev pub OnlyAtoms : {A : Type 0} → Process A → Type 0
+abbrev pub OnlyAtoms : Process → Type 0
 OnlyAtoms nothing = ⊥
 OnlyAtoms (connector x y) = ⊥
 OnlyAtoms (atom a xs) = Unit {0}
@@ -29,7 +28,7 @@ OnlyAtoms (membrane P) = ⊥
 OnlyAtoms (rule r) = ⊥
 
 -- the atoms that stand in a process outside its membranes, in order, each with its links
-abbrev pub atoms_of : {A : Type 0} → Process A → List (A × List ℕ)
+abbrev pub atoms_of : Process → List (Label × List ℕ)
 atoms_of nothing = []
 atoms_of (connector x y) = []
 atoms_of (atom a xs) = (a, xs) ∷ []
