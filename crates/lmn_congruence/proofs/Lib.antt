@@ -14,5 +14,7 @@ pub mod Merges
 pub mod SettledForms
 pub mod Plains
 pub mod Derivations
+pub mod ExampleSteps
 pub mod Redexes
 pub mod Kept
+pub mod InnerLink

@@ -2,8 +2,8 @@
 use Rattle.std.proofs.Common.{ℕ, zero, suc, ◌≡◌, ◌≢◌, ◌+◌, ◌≤◌, ◌⊎◌, List, [], ◌∷◌, ◌++◌, length, map, refl, sym, ap, inl, inr, arith}
 use Rattle.lmn_congruence.specs.Links.{one_if_same, places}
 use Rattle.lmn_congruence.specs.Process.{Process, nothing, connector, atom, pair, membrane, rule, occurrences, replace, Free, Fresh, Linked, substitute}
-use Rattle.lmn_congruence.specs.Congruence.{Congruent, unit, swap, regroup, beside, inside, loop, turn, absorb, pass, same, back, chain, IsAtom, a_connector, an_atom}
-use Rattle.lmn_congruence.specs.reduction.Steps.{leaf, beside as derived_beside, inside as derived_inside, up_to, out, into, SettlingStep}
+use Rattle.lmn_congruence.specs.Congruence.{Congruent, unit, swap, regroup, beside, inside, loop, turn, absorb, pass, same, back, IsAtom, a_connector, an_atom}
+use Rattle.lmn_congruence.specs.reduction.Steps.{leaf, beside as derived_beside, inside as derived_inside, out, into, SettlingStep}
 use Rattle.lmn_congruence.specs.reduction.Commits.{SettlesTowards, already, step_and}
 use Rattle.lmn_congruence.proofs.Counts.{same_or_not, Replaced, is_old, is_new, is_other, replaced}
 use Rattle.lmn_congruence.specs.Fused.{NoConnector}

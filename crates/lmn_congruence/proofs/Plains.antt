@@ -7,7 +7,7 @@ use Rattle.lmn_congruence.proofs.Solids.{region_plain}
 use Rattle.lmn_congruence.proofs.SettledProcesses.{no_connector_settled, towards_joined}
 use Rattle.lmn_congruence.proofs.SettledForms.{settles_fused}
 use Rattle.lmn_congruence.specs.UpToOrder.{Reordered, r_unit, r_beside, r_inside, r_same, r_chain}
-use Rattle.lmn_congruence.specs.Process.{Process, pair, rule, Linked, Closed, Process, together}
+use Rattle.lmn_congruence.specs.Process.{pair, rule, Linked, Closed, together}
 use Rattle.lmn_congruence.specs.Rules.{Rule, Leaf, atom_leaf, connector_leaf, typed_leaf, Level, level, Levels, no_level, level_and, rules_list}
 use Rattle.lmn_congruence.specs.Fused.{fused}
 use Rattle.lmn_congruence.specs.reduction.Commits.{Settles, already}

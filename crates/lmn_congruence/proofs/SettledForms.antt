@@ -1,16 +1,16 @@
 -- A closed process settles, in one way up to congruence, and to what one map of links makes of it.
 use Rattle.std.proofs.Common.{ℕ, ◌≡◌, ◌≢◌, ◌+◌, List, [], ◌∷◌, refl, sym, ◌∙◌, arith}
 use Rattle.lmn_congruence.specs.Links.{one_if_same}
-use Rattle.lmn_congruence.specs.Process.{Process, nothing, connector, atom, membrane, rule, pair, occurrences, Linked, Closed, renamed}
+use Rattle.lmn_congruence.specs.Process.{Process, nothing, connector, atom, membrane, rule, pair, occurrences, Linked, Closed}
 use Rattle.lmn_congruence.specs.Congruence.{Congruent, back, chain}
 use Rattle.lmn_congruence.specs.Fused.{NoConnector, Joins, fused}
 use Rattle.lmn_congruence.specs.UpToOrder.{Reordered, r_same, r_back, r_chain}
 use Rattle.lmn_congruence.specs.LinkMaps.{ReadsAs}
 use Rattle.lmn_congruence.specs.reduction.Commits.{Settles, SettlesTowards, already}
 use Rattle.lmn_congruence.specs.reduction.Laws.{CongruentByOneMap}
-use Rattle.lmn_congruence.proofs.Counts.{linked_both, linked_as}
+use Rattle.lmn_congruence.proofs.Counts.{linked_as}
 use Rattle.lmn_congruence.proofs.Reordered.{reordered_congruent, reordered_count}
-use Rattle.lmn_congruence.proofs.LinkMaps.{Leaves, closed_leaves, closed_linked, joins_plain, fused_id, fused_plain, fused_is_renamed, plain_congruent, congruent_reads}
+use Rattle.lmn_congruence.proofs.LinkMaps.{Leaves, closed_leaves, closed_linked, joins_plain, fused_id, fused_plain, plain_congruent, congruent_reads}
 use Rattle.lmn_congruence.proofs.SettlingSteps.{towards_alike, towards_carries}
 use Rattle.lmn_congruence.proofs.SettledProcesses.{same_crossings_settled, no_connector_settled, settled_congruent, towards_linked, towards_closed, towards_joined}
 use Rattle.lmn_congruence.proofs.Merges.{row, Open, normal, Merges, merges_settle, merges_join, one_merge, drop_unit}
@@ -70,7 +70,7 @@ congruent_by_one_map P N l k n = ((λ c. congruent_reads P N n c), (λ r. reads_
 -- ---- closed processes
 
 -- the map to one link joins all connectors
-all_join : (P : Process) → Joins (λ x. 0) P
+pub all_join : (P : Process) → Joins (λ x. 0) P
 all_join nothing = tt
 all_join (connector x y) = refl
 all_join (atom a xs) = tt

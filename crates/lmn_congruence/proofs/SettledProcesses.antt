@@ -1,5 +1,5 @@
 -- Processes that are settled, and derivations of settling.
-use Rattle.std.proofs.Common.{ℕ, ◌≡◌, ◌≢◌, ◌+◌, ◌≤◌, ◌⊎◌, refl, sym, ◌∙◌, ap, arith}
+use Rattle.std.proofs.Common.{ℕ, ◌≡◌, ◌≢◌, ◌+◌, ◌≤◌, ◌⊎◌, ap, arith}
 use Rattle.lmn_congruence.specs.Process.{Process, occurrences, Linked, Closed}
 use Rattle.lmn_congruence.specs.Congruence.{Congruent, same, chain}
 use Rattle.lmn_congruence.specs.Fused.{NoConnector, Joins, fused}

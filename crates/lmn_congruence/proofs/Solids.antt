@@ -1,5 +1,5 @@
 -- Solids have congruent processes exactly where they are the same.
-use Rattle.std.proofs.Common.{ℕ, ◌≡◌, Option, Some, None, List, [], ◌∷◌, ◌++◌, map, refl, sym, ◌∙◌, ap, subst, subst₂, arith}
+use Rattle.std.proofs.Common.{ℕ, ◌≡◌, Option, Some, None, List, [], ◌∷◌, ◌++◌, map, refl, sym, ◌∙◌, ap, subst, subst₂}
 use Rattle.std.proofs.lemmas.List.{append-nil}
 use Rattle.lmn_congruence.proofs.Reordered.{pieces, SamePiece, itself, content, reordered_pieces, reordered_congruent, reordered_count, r_right}
 use Rattle.lmn_congruence.proofs.Renaming.{renamed_id, rename_all}
@@ -9,7 +9,7 @@ use Rattle.lmn_congruence.specs.Laws.{CongruentSolids}
 use Rattle.lmn_congruence.specs.Fused.{NoConnector}
 use Rattle.lmn_congruence.specs.UpToOrder.{Reordered, r_swap, r_regroup, r_beside, r_inside, r_same, r_back, r_chain}
 use Rattle.lmn_congruence.specs.Orders.{Put, here, there, Shuffle, none, more}
-use Rattle.lmn_congruence.specs.Process.{Process, nothing, connector, atom, pair, membrane, rule, occurrences, Linked, Closed, renamed, together}
+use Rattle.lmn_congruence.specs.Process.{Process, nothing, connector, atom, pair, membrane, rule, Linked, Closed, renamed, together}
 use Rattle.lmn_congruence.specs.Congruence.{Congruent, chain}
 use Rattle.lmn_congruence.specs.Rules.{Rule}
 use Rattle.lmn_congruence.specs.Regions.{SolidAtom, Region, region, Regions, no_region, region_and, region_process, regions_processes, atom_process}

@@ -72,3 +72,15 @@ highest (suc n) v y b = go (same_or_not y n) (λ c. highest n v y c)
     go : (y ≡ n) ⊎ (y ≢ n) → (y < n → v y < total n (λ y. suc (v y))) → v y < suc (v n) + total n (λ y. suc (v y))
     go (inl e) i = rw e (omega arith)
     go (inr e) i = let p = i (omega arith) in omega arith
+
+-- a sum includes each of its terms
+pub total_includes : (n : ℕ) (f : ℕ → ℕ) (y : ℕ) → y < n → f y ≤ total n f
+total_includes zero f y b = absurd (go b)
+  where
+    go : ¬ (y < 0)
+    go = omega arith
+total_includes (suc n) f y b = go (same_or_not y n) (λ c. total_includes n f y c)
+  where
+    go : (y ≡ n) ⊎ (y ≢ n) → (y < n → f y ≤ total n f) → f y ≤ f n + total n f
+    go (inl p) i = rw p (omega arith)
+    go (inr p) i = let q = i (omega arith) in omega arith

@@ -13,3 +13,4 @@ pub mod FreeLinks
 pub mod LinkMaps
 pub mod Laws
 pub mod reduction
+pub mod Examples
