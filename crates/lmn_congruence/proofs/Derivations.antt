@@ -8,11 +8,11 @@ use Rattle.lmn_congruence.specs.FreeLinks.{top_of}
 use Rattle.lmn_congruence.specs.Fused.{fused}
 use Rattle.lmn_congruence.specs.UpToOrder.{Reordered, r_unit, r_swap, r_regroup, r_beside, r_inside, r_same, r_back, r_chain}
 use Rattle.lmn_congruence.proofs.Counts.{same_or_not}
-use Rattle.lmn_congruence.proofs.Walls.{occurrences_above, crossings}
+use Rattle.lmn_congruence.proofs.Crossings.{occurrences_above, crossings}
 use Rattle.lmn_congruence.proofs.Reordered.{reordered_congruent, r_right}
 use Rattle.lmn_congruence.proofs.LinkMaps.{closed_leaves, closed_linked}
 use Rattle.lmn_congruence.proofs.SettledForms.{reads_congruent, all_join}
-use Rattle.lmn_congruence.proofs.Crossings.{same_crossings_each}
+use Rattle.lmn_congruence.proofs.FewestCrossings.{same_crossings_each}
 
 -- ---- a test of each link below the greatest
 

@@ -1,11 +1,11 @@
 pub mod Counts
 pub mod Totals
-pub mod Walls
+pub mod Crossings
 pub mod Shuffles
 pub mod Reordered
 pub mod Carried
 pub mod Renaming
-pub mod Crossings
+pub mod FewestCrossings
 pub mod LinkMaps
 pub mod Solids
 pub mod SettlingSteps

@@ -8,7 +8,7 @@ use Rattle.lmn_congruence.specs.UpToOrder.{Reordered, r_same, r_back, r_chain}
 use Rattle.lmn_congruence.specs.LinkMaps.{ReadsAs}
 use Rattle.lmn_congruence.specs.reduction.Commits.{Settles, SettlesTowards, already}
 use Rattle.lmn_congruence.specs.reduction.Laws.{CongruentByOneMap}
-use Rattle.lmn_congruence.proofs.Counts.{linked_as}
+use Rattle.lmn_congruence.proofs.Counts.{count_first, count_second, linked_as}
 use Rattle.lmn_congruence.proofs.Reordered.{reordered_congruent, reordered_count}
 use Rattle.lmn_congruence.proofs.LinkMaps.{Leaves, closed_leaves, closed_linked, joins_plain, fused_id, fused_plain, plain_congruent, congruent_reads}
 use Rattle.lmn_congruence.proofs.SettlingSteps.{towards_alike, towards_carries}
@@ -21,12 +21,6 @@ pub record SettledForm (P : Process) : Type 0 where
   pub plain : NoConnector form
   pub towards : SettlesTowards P form
 
-count_first : (x y n : ℕ) → x ≢ y → n ≡ 0 → one_if_same x x + one_if_same x y + n ≡ 1
-count_first x y n d e = grind arith
-
-count_second : (x y n : ℕ) → x ≢ y → n ≡ 0 → one_if_same y x + one_if_same y y + n ≡ 1
-count_second x y n d e = grind arith
-
 -- no connector is left over where a map joins the connectors and leaves the free links
 no_wires : (v : ℕ → ℕ) (P C : Process) (ws : List (ℕ × ℕ)) → Linked P → Joins v P → Leaves v P → NoConnector C → Open ws C → Merges P (pair (row ws) C) → SettledForm P
 no_wires v P C [] l j s n o m = record { form = C; plain = n; towards = merges_settle (merges_join m (one_merge drop_unit)) l }
@@ -35,8 +29,8 @@ no_wires v P C (p ∷ ps) l j s n o m =
     let W = pair (pair (connector p.0 p.1) V) C in
     let t : SettlesTowards P W = merges_settle m l in
     let k = (towards_carries t).0 v j in
-    let f : occurrences p.0 W ≡ 1 = omega (arith, count_first p.0 p.1 (occurrences p.0 V + occurrences p.0 C) o.0 o.1) in
-    let g : occurrences p.1 W ≡ 1 = omega (arith, count_second p.0 p.1 (occurrences p.1 V + occurrences p.1 C) o.0 o.2) in
+    let f : occurrences p.0 W ≡ 1 = omega (arith, count_first p.0 p.1 (occurrences p.0 V + occurrences p.0 C) o.0, o.1) in
+    let g : occurrences p.1 W ≡ 1 = omega (arith, count_second p.0 p.1 (occurrences p.1 V + occurrences p.1 C) o.0, o.2) in
     let f' = (towards_alike t p.0).back_again f in
     let g' = (towards_alike t p.1).back_again g in
     absurd (o.0 (sym (k.agrees p.0 f' ∙ s p.0 f') ∙ k.joins.0.0 ∙ k.agrees p.1 g' ∙ s p.1 g'))
