@@ -10,10 +10,10 @@ use Rattle.lmn_congruence.specs.reduction.Instances.{IsCopy, instance, no_leaf, 
 use Rattle.lmn_congruence.specs.reduction.Values.{of_context, of_operation, InRange}
 use Rattle.lmn_congruence.specs.reduction.Guards.{no_condition, condition_and, binds}
 use Rattle.lmn_congruence.specs.reduction.Firing.{Fires, fires, typed_contexts}
-use Rattle.lmn_congruence.specs.reduction.Steps.{Step, SettlingStep, leaf, beside as derived_beside, up_to, out}
+use Rattle.lmn_congruence.specs.reduction.Steps.{Step, SettlingStep, leaf, beside as derived_beside, up_to, out, into}
 use Rattle.lmn_congruence.specs.reduction.Commits.{Commit, already, step_and}
 use Rattle.lmn_congruence.specs.Fused.{NoConnector}
-use Rattle.lmn_congruence.specs.Examples.{a, b, c, p, int, z, two_make_b, TwoMakeOne, join_in_c, LinkMeetsItself, ConnectorLeaves, add_up, SumIsBound, b_makes_c, double_rules, RulesAreCopied}
+use Rattle.lmn_congruence.specs.Examples.{a, b, c, p, int, z, two_make_b, TwoMakeOne, join_in_c, LinkMeetsItself, ConnectorLeaves, LoopVanishes, QuotientsAndRemainders, add_up, SumIsBound, b_makes_c, double_rules, RulesAreCopied}
 use Rattle.lmn_congruence.proofs.SettledProcesses.{no_connector_settled}
 use Rattle.lmn_congruence.proofs.Derivations.{linked_by, closed_by, regrouped, by_one_link}
 
@@ -102,6 +102,17 @@ connector_leaves = record {
       (already (by_one_link (closed_by (pair atoms outside_it) refl) (linked_by refl) refl refl));
 }
 
+-- ---- `X=Y, {X=Y}`
+
+goes_in : SettlingStep (pair (connector 0 1) (membrane (connector 0 1))) (membrane (pair (connector 0 1) (connector 0 1)))
+goes_in = leaf (into 0 1 zero_not_one refl refl) (linked_by refl) (linked_by refl)
+
+pub loop_vanishes : LoopVanishes
+loop_vanishes = record {
+  settled = no_connector_settled (membrane nothing) tt;
+  towards = step_and goes_in (already (by_one_link (closed_by (membrane (pair (connector 0 1) (connector 0 1))) refl) (linked_by refl) refl refl));
+}
+
 -- ---- `p(3), p(4). p($x), p($y) :- $z = $x + $y | p($z).`
 
 abbrev seven_apart : Process
@@ -186,3 +197,6 @@ pub rules_are_copied : RulesAreCopied
 rules_are_copied =
     commits ((tt, (tt, (tt, tt))), (tt, tt)) (linked_by refl)
     (up_to (regrouped refl (linked_by refl)) (leaf (fires double_fires) (linked_by refl) (linked_by refl)) (regrouped refl (linked_by refl)))
+
+pub quotients_and_remainders : QuotientsAndRemainders
+quotients_and_remainders = (refl, refl, refl, refl)

@@ -1,6 +1,5 @@
 -- A closed process settles, in one way up to congruence, and to what one map of links makes of it.
-use Rattle.std.proofs.Common.{ℕ, ◌≡◌, ◌≢◌, ◌+◌, List, [], ◌∷◌, refl, sym, ◌∙◌, arith}
-use Rattle.lmn_congruence.specs.Links.{one_if_same}
+use Rattle.std.proofs.Common.{ℕ, ◌≡◌, ◌+◌, List, [], ◌∷◌, refl, sym, ◌∙◌, arith}
 use Rattle.lmn_congruence.specs.Process.{Process, nothing, connector, atom, membrane, rule, pair, occurrences, Linked, Closed}
 use Rattle.lmn_congruence.specs.Congruence.{Congruent, back, chain}
 use Rattle.lmn_congruence.specs.Fused.{NoConnector, Joins, fused}
@@ -72,19 +71,22 @@ all_join (pair P Q) = (all_join P, all_join Q)
 all_join (membrane P) = all_join P
 all_join (rule r) = tt
 
-closed_form : (P : Process) → Closed P → SettledForm P
+pub closed_form : (P : Process) → Closed P → SettledForm P
 closed_form P c = settled_form (λ x. 0) P (closed_linked c) (all_join P) (closed_leaves (λ x. 0) P c)
 
 pub closed_settles : (P : Process) → Closed P → (Q : Process) × Settles P Q
 closed_settles P c = let f = closed_form P c in (f.form, record { settled = no_connector_settled f.form f.plain; towards = f.towards })
 
+-- a form without connectors is read back by a map of the links of P
+pub read_back : (P N : Process) → NoConnector N → SettlesTowards P N → (v : ℕ → ℕ) × Joins v P × Reordered (fused v P) N
+read_back P N n t = let i = (towards_carries t).1 (λ x. x) (joins_plain (λ x. x) N n) in (i.to, i.joins, r_chain (r_back i.order) (r_same (fused_id N n)))
+
 -- two forms without connectors of one closed process
 forms_congruent : (P N X : Process) → Closed P → NoConnector N → NoConnector X → SettlesTowards P N → SettlesTowards P X → Congruent X N
 forms_congruent P N X c n n' t t' =
-    let i = (towards_carries t).1 (λ x. x) (joins_plain (λ x. x) N n) in
-    let o : Reordered (fused i.to P) N = r_chain (r_back i.order) (r_same (fused_id N n)) in
-    let k : Linked (fused i.to P) = linked_as (λ z. sym (reordered_count o z)) (towards_linked t) in
-    chain (towards_fused i.to P X i.joins (closed_leaves i.to P c) k t' n') (reordered_congruent o k)
+    let v = read_back P N n t in
+    let k : Linked (fused v.0 P) = linked_as (λ z. sym (reordered_count v.2 z)) (towards_linked t) in
+    chain (towards_fused v.0 P X v.1 (closed_leaves v.0 P c) k t' n') (reordered_congruent v.2 k)
 
 pub settles_once : (P Q Q' : Process) → Closed P → Settles P Q → Settles P Q' → Congruent Q Q'
 settles_once P Q Q' c s s' =

@@ -1,6 +1,7 @@
-use Rattle.std.specs.Prelude.{ℕ, pos, List, [], ◌∷◌}
-use Rattle.lmn_congruence.specs.Rules.{Name, Label, named, integer, Leaf, atom_leaf, typed_leaf, Level, level, no_level, level_and, Rule, rule_of, no_rule, plus, operation, value_of, equates}
-use Rattle.lmn_congruence.specs.Process.{nothing, connector, atom, membrane, rule, together}
+use Rattle.std.specs.Prelude.{ℕ, ◌≡◌, pos, negsuc, List, [], ◌∷◌}
+use Rattle.lmn_congruence.specs.Rules.{Name, Label, named, integer, Leaf, atom_leaf, typed_leaf, Level, level, no_level, level_and, Rule, rule_of, no_rule, plus, over, modulo, operation, value_of, equates}
+use Rattle.lmn_congruence.specs.Process.{nothing, connector, atom, pair, membrane, rule, together}
+use Rattle.lmn_congruence.specs.reduction.Values.{result_of}
 use Rattle.lmn_congruence.specs.reduction.Commits.{Settles, Commit, Irreducible}
 
 -- Small texts as processes, and what they do.
@@ -52,6 +53,10 @@ abbrev pub ConnectorLeaves : Type 0
 ConnectorLeaves =
     Settles (together (membrane (connector 0 1) ∷ atom a (0 ∷ []) ∷ atom b (1 ∷ []) ∷ [])) (together (atom a (0 ∷ []) ∷ atom b (0 ∷ []) ∷ membrane nothing ∷ []))
 
+-- A connector enters a membrane, and a loop vanishes: `X=Y, {X=Y}` settles to `{}`
+abbrev pub LoopVanishes : Type 0
+LoopVanishes = Settles (pair (connector 0 1) (membrane (connector 0 1))) (membrane nothing)
+
 -- `{a(X), b(Y)} :- c(X,Y)`
 abbrev pub join_from_membrane : Rule
 join_from_membrane = rule_of (one_membrane (leaves (atom_leaf a (0 ∷ []) ∷ atom_leaf b (1 ∷ []) ∷ []))) [] (leaves (atom_leaf c (0 ∷ 1 ∷ []) ∷ []))
@@ -84,6 +89,13 @@ SumIsBound =
     Commit
     (together (atom p (0 ∷ []) ∷ atom (int 3) (0 ∷ []) ∷ atom p (1 ∷ []) ∷ atom (int 4) (1 ∷ []) ∷ rule add_up ∷ []))
     (together (atom p (0 ∷ []) ∷ atom (int 7) (0 ∷ []) ∷ rule add_up ∷ []))
+
+-- `/` goes toward zero, and `mod` has the sign of its left side
+-- (`negsuc n` is -1 - n)
+abbrev pub QuotientsAndRemainders : Type 0
+QuotientsAndRemainders =
+    (result_of over (negsuc 6) (pos 2) ≡ negsuc 2) × (result_of over (pos 7) (negsuc 1) ≡ negsuc 2)
+    × (result_of modulo (negsuc 6) (pos 2) ≡ negsuc 0) × (result_of modulo (pos 7) (negsuc 1) ≡ pos 1)
 
 -- `b :- c`, and `{a, $p, @r} :- {$p, @r, @r}`
 abbrev pub b_makes_c : Rule

@@ -1,6 +1,6 @@
 //! Small texts, and what they do: derivations of the calculus, each the contract of an empty function.
 
-ghost use Rattle.lmn_congruence.specs.Examples.{TwoMakeOne, LinkMeetsItself, ConnectorLeaves, InnerLinkStays, SumIsBound, RulesAreCopied};
+ghost use Rattle.lmn_congruence.specs.Examples.{TwoMakeOne, LinkMeetsItself, ConnectorLeaves, LoopVanishes, QuotientsAndRemainders, InnerLinkStays, SumIsBound, RulesAreCopied};
 
 /// `a. a. a, a :- b.` commits to `b` beside its rule.
 #[tactic(auto, using(crate::proofs::ExampleSteps::two_make_one))]
@@ -21,6 +21,12 @@ pub fn connector_leaves()
     ensures { ConnectorLeaves }
 {}
 
+/// `X=Y, {X=Y}` settles to `{}`: a connector goes into a membrane, and a loop of connectors vanishes.
+#[tactic(auto, using(crate::proofs::ExampleSteps::loop_vanishes))]
+pub fn loop_vanishes()
+    ensures { LoopVanishes }
+{}
+
 /// `{a(X), b(X)}. {a(X), b(Y)} :- c(X,Y).` is irreducible, and so is each process that is congruent to it: a
 /// link that stays inside a membrane doesn't match two links that leave it.
 #[tactic(auto, using(crate::proofs::InnerLink::inner_link_stays))]
@@ -38,4 +44,10 @@ pub fn sum_is_bound()
 #[tactic(auto, using(crate::proofs::ExampleSteps::rules_are_copied))]
 pub fn rules_are_copied()
     ensures { RulesAreCopied }
+{}
+
+/// -7 / 2 and 7 / -2 are -3, -7 mod 2 is -1, and 7 mod -2 is 1.
+#[tactic(auto, using(crate::proofs::ExampleSteps::quotients_and_remainders))]
+pub fn quotients_and_remainders()
+    ensures { QuotientsAndRemainders }
 {}
