@@ -14,8 +14,7 @@ use Rattle.lmn_congruence.specs.reduction.Redexes.{HasRedex, at_top, in_membrane
 use Rattle.lmn_congruence.specs.Examples.{a, b, join_from_membrane, InnerLinkStays}
 use Rattle.lmn_congruence.proofs.Counts.{occurs_once}
 use Rattle.lmn_congruence.proofs.Totals.{total_includes}
-use Rattle.lmn_congruence.proofs.Crossings.{crossings, same_crossings}
-use Rattle.lmn_congruence.proofs.Renaming.{occurs_below}
+use Rattle.lmn_congruence.proofs.Crossings.{occurs_below, crossings, same_crossings}
 use Rattle.lmn_congruence.proofs.SettledProcesses.{no_connector_settled}
 use Rattle.lmn_congruence.proofs.Redexes.{step_shows}
 

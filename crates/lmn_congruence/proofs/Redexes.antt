@@ -14,8 +14,8 @@ use Rattle.lmn_congruence.specs.reduction.Instances.{IsCopy, LeafInstance, of_at
 use Rattle.lmn_congruence.specs.reduction.Steps.{leaf, beside as derived_beside, inside as derived_inside, up_to, Step}
 use Rattle.lmn_congruence.proofs.Counts.{same_free, linked_both, same_or_not, map_after}
 use Rattle.lmn_congruence.proofs.Derivations.{no_right}
-use Rattle.lmn_congruence.proofs.Crossings.{occurrences_above}
-use Rattle.lmn_congruence.proofs.Renaming.{moved_away, away_free, away_local, away_apart, low_high, rename_all, occurrences_image, occurrences_none, occurs_below}
+use Rattle.lmn_congruence.proofs.Crossings.{occurs_below, occurrences_above}
+use Rattle.lmn_congruence.proofs.Renaming.{moved_away, away_free, away_local, away_apart, low_high, rename_all, occurrences_image, occurrences_none}
 
 -- ---- an instance after a one to one renaming of links
 

@@ -7,7 +7,7 @@ use Rattle.lmn_congruence.specs.Congruence.{Congruent, rename, same, chain}
 use Rattle.lmn_congruence.proofs.Counts.{same_or_not, linked_both, Occurs, in_head, in_tail, first_in, second_in, in_left, in_right, occurs_once, occurs_twice, map_after, map_agree, replaced_here, replaced_other}
 use Rattle.lmn_congruence.specs.FreeLinks.{total, top_of}
 use Rattle.lmn_congruence.proofs.Totals.{highest}
-use Rattle.lmn_congruence.proofs.Crossings.{occurrences_above}
+use Rattle.lmn_congruence.proofs.Crossings.{occurs_below}
 
 -- two renamings one after the other, where they agree with a third on the links of the process
 pub substitute_renamed : (new old : ℕ) (g h : ℕ → ℕ) (P : Process) → ((x : ℕ) → Occurs x P → replace new old (g x) ≡ h x) → substitute new old (renamed g P) ≡ renamed h P
@@ -111,16 +111,6 @@ three_ways x n = grind arith
 
 less_apart : (x n : ℕ) → x < n → x ≢ n
 less_apart x n l = grind arith
-
-less_apart' : (x n : ℕ) → n < x → x ≢ n
-less_apart' x n l = grind arith
-
-pub occurs_below : (P : Process) (x : ℕ) → Occurs x P → x < top_of P
-occurs_below P x o = go (below_or_from x (top_of P))
-  where
-    go : (x < top_of P) ⊎ (top_of P ≤ x) → x < top_of P
-    go (inl c) = c
-    go (inr c) = absurd (o (occurrences_above x P c))
 
 module _ (a b : ℕ → ℕ) (P : Process) (m : Movable a b P) (l : Linked P) where
   -- a link below n, at its new name, is not the old name of n
