@@ -4,7 +4,7 @@ use Rattle.lmn_congruence.specs.Links.{one_if_same, places}
 use Rattle.lmn_congruence.specs.Process.{Process, nothing, connector, atom, pair, membrane, rule, occurrences, Fresh, Linked, substitute}
 use Rattle.lmn_congruence.specs.Congruence.{Congruent, unit, swap, regroup, rename, beside, inside, loop, turn, absorb, pass, same, back, chain, IsAtom, a_connector, an_atom, ExactlyOneFree}
 use Rattle.lmn_congruence.specs.FreeLinks.{total, above_all, top_of, one_if_once, one_if_free, free_number}
-use Rattle.lmn_congruence.proofs.Counts.{Occurs, count_first, count_second, Alike, same_free, fresh_differs, occurrences_old, occurrences_new, occurrences_other}
+use Rattle.lmn_congruence.proofs.Counts.{below_or_from, Occurs, count_first, count_second, Alike, same_free, fresh_differs, occurrences_old, occurrences_new, occurrences_other}
 use Rattle.lmn_congruence.proofs.Totals.{total_same, total_two, total_past}
 
 pub places_above : (x : ℕ) (xs : List ℕ) → above_all xs ≤ x → places x xs ≡ 0
@@ -22,9 +22,6 @@ occurrences_above x (rule r) b = refl
 pub occurs_below : (P : Process) (x : ℕ) → Occurs x P → x < top_of P
 occurs_below P x o = go (below_or_from x (top_of P))
   where
-    below_or_from : (x n : ℕ) → (x < n) ⊎ (n ≤ x)
-    below_or_from x n = grind arith
-
     go : (x < top_of P) ⊎ (top_of P ≤ x) → x < top_of P
     go (inl c) = c
     go (inr c) = absurd (o (occurrences_above x P c))
