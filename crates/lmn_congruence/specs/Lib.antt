@@ -13,4 +13,3 @@ pub mod FreeLinks
 pub mod LinkMaps
 pub mod Laws
 pub mod reduction
-pub mod Examples
