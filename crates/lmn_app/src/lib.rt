@@ -7,6 +7,8 @@ mod printing;
 mod program;
 mod reading;
 mod running;
+#[cfg(test)]
+mod tests;
 mod top;
 mod words;
 

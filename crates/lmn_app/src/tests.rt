@@ -1,0 +1,143 @@
+use crate::lmn_main;
+use lmn_base::{NoMemory, Rows};
+use lmn_io::{MemShelf, MemSink};
+use std::alloc::{AllocError, Global};
+use std::test::Fail;
+
+/// A call, and what is wanted of it.
+struct Row {
+    words: &'static [&'static str],
+    /// The text of the file `f`.
+    text: &'static [u8],
+    /// The numbers of the puts of `out` that fail.
+    failing: &'static [u64],
+    out: &'static [u8],
+    err: &'static [u8],
+    status: u8,
+}
+
+/// What a call left behind.
+#[derive(Drop)]
+struct Ended {
+    out: MemSink,
+    err: MemSink,
+    status: u8,
+}
+
+const RUN: &[&str] = &["run", "f"];
+
+const ROWS: [Row; 9] = [
+    Row {
+        words: RUN,
+        text: b"a. a. a, a :- b.",
+        failing: &[],
+        out: b"b. (a, a :- b).\n% irreducible after 1\n",
+        err: b"",
+        status: 0,
+    },
+    Row {
+        words: RUN,
+        text: b"",
+        failing: &[],
+        out: b"\n% irreducible after 0\n",
+        err: b"",
+        status: 0,
+    },
+    Row {
+        words: RUN,
+        text: b"a. a :- a.",
+        failing: &[],
+        out: b"a. (a :- a).\n% budget after 1000\n",
+        err: b"",
+        status: 1,
+    },
+    Row {
+        words: RUN,
+        text: b"a :- .",
+        failing: &[],
+        out: b"(a :- ).\n% irreducible after 0\n",
+        err: b"",
+        status: 0,
+    },
+    Row {
+        words: RUN,
+        text: b"a. a(X).",
+        failing: &[],
+        out: b"",
+        err: b"E90 1:1 form not built\n",
+        status: 2,
+    },
+    Row {
+        words: &["run"],
+        text: b"",
+        failing: &[],
+        out: b"",
+        err: b"lmn: words not understood\n",
+        status: 3,
+    },
+    Row {
+        words: &["run", "--help"],
+        text: b"",
+        failing: &[],
+        out: b"",
+        err: b"lmn: words not understood\n",
+        status: 3,
+    },
+    Row {
+        words: &["run", "g"],
+        text: b"",
+        failing: &[],
+        out: b"",
+        err: b"lmn: read failed\n",
+        status: 4,
+    },
+    Row {
+        words: RUN,
+        text: b"a. a. a, a :- b.",
+        failing: &[0],
+        out: b"",
+        err: b"lmn: write failed\n",
+        status: 5,
+    },
+];
+
+fn rows_of<T: Copy + Drop>(alloc: Global, items: &[T]) -> Result<Rows<T>, AllocError> {
+    Ok(Rows::from_vec(Vec::from_slice(alloc, items)?))
+}
+
+fn words_of(alloc: Global, words: &[&str]) -> Result<Vec<String>, AllocError> {
+    let mut strings = Vec::new(alloc);
+    for word in words {
+        strings.push(String::from_str(alloc, word)?)?;
+    }
+    Ok(strings)
+}
+
+/// A shelf with one file, `f`.
+fn shelf_of(alloc: Global, text: &[u8]) -> Result<MemShelf, NoMemory> {
+    let mut names = Rows::new(alloc);
+    names.push(rows_of(alloc, b"f")?)?;
+    let mut texts = Rows::new(alloc);
+    texts.push(rows_of(alloc, text)?)?;
+    Ok(MemShelf::new(alloc, names, texts, Rows::new(alloc)))
+}
+
+fn call(alloc: Global, row: &Row) -> Result<Ended, NoMemory> {
+    let words = words_of(alloc, row.words)?;
+    let mut shelf = shelf_of(alloc, row.text)?;
+    let mut out = MemSink::new(alloc, 1000, rows_of(alloc, row.failing)?)?;
+    let mut err = MemSink::new(alloc, 1000, Rows::new(alloc))?;
+    let status = lmn_main(alloc, words.as_slice(), &mut shelf, &mut out, &mut err);
+    Ok(Ended { out, err, status })
+}
+
+#[test]
+fn calls_end_as_they_must(rt: HostRuntime) -> Result<(), Fail> {
+    for (i, row) in ROWS.iter().enumerate() {
+        let ended = call(rt.alloc(), row)?;
+        assert_eq!(rt; ended.status, row.status, "status of row {i}");
+        assert_eq!(rt; ended.out.taken(), row.out, "output of row {i}");
+        assert_eq!(rt; ended.err.taken(), row.err, "errors of row {i}");
+    }
+    Ok(())
+}
