@@ -3,6 +3,7 @@ ghost use Rattle.std.specs.Prelude.{◌≡◌, [], ◌∷◌, ◌++◌, ◌<◌,
 use crate::memory::NoMemory;
 use std::alloc::Global;
 use std::marker::Model;
+use std::mem;
 
 /// A vector that contracts see as the list of its items.
 #[derive(Debug, Drop)]
@@ -66,6 +67,15 @@ impl<T> Rows<T> {
         ensures { result.now ≡ self.now }
     {
         self.items.as_slice()
+    }
+
+    /// Puts an item in the place of another, which it answers.
+    pub fn replace(&mut self, i: usize, v: T) -> T
+        requires { i < length self.old }
+        ensures old { slice_get self.old i ≡ Some result }
+        ensures new { self.new ≡ slice_set self.old i v }
+    {
+        mem::replace(&mut self.items[i], v)
     }
 
     /// Takes the last item out.
