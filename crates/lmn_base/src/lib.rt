@@ -9,6 +9,8 @@ mod refusal;
 mod rows;
 mod rule;
 mod solid;
+#[cfg(test)]
+mod tests;
 
 pub use functor::{Functor, Label};
 pub use guard::{Arith, Cmp, Cond, Expr};

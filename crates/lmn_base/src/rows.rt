@@ -1,7 +1,7 @@
-ghost use Rattle.std.specs.Prelude.{◌≡◌, [], ◌∷◌, ◌++◌, ◌<◌, length, slice_get, slice_set, Some, OnOk, OnErr, MatchOption};
+ghost use Rattle.std.specs.Prelude.{◌≡◌, [], ◌∷◌, ◌++◌, ◌<◌, length, slice_get, slice_set, Some, IfErr, OnOk, OnErr, MatchOption};
 
 use crate::memory::NoMemory;
-use std::alloc::Global;
+use std::alloc::{AllocFailed, Global};
 use std::marker::Model;
 use std::mem;
 
@@ -67,6 +67,14 @@ impl<T> Rows<T> {
         ensures { result.now ≡ self.now }
     {
         self.items.as_slice()
+    }
+
+    /// Adds an item at the end. At want of memory the item comes back and the rest stays.
+    pub fn offer(&mut self, v: T) -> Result<(), AllocFailed<T>>
+        ensures ok { OnOk result (self.new ≡ self.old ++ v ∷ []) }
+        ensures err { IfErr result (λ failed. (self.new ≡ self.old) × (failed.value ≡ v)) }
+    {
+        self.items.push(v)
     }
 
     /// Puts an item in the place of another, which it answers.

@@ -11,8 +11,11 @@ pub struct SolidAtom {
     pub links: Rows<u64>,
 }
 
-/// What stands in one membrane of a solid, or at its root. Regions may be nested deeper than a
-/// stack carries: `dismantle` lets such a one go.
+/// What stands in one membrane of a solid, or at its root.
+///
+/// Regions may be nested deeper than a stack carries, and dropping one recurses on its depth: some
+/// 40,000 levels are safe. `dismantle` lets a deeper one go. `Rows::offer` gives a region back
+/// where `Rows::push` drops it.
 #[derive(Drop)]
 pub struct Region {
     /// The atoms, in their order.
