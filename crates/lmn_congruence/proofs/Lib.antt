@@ -1,0 +1,10 @@
+pub mod Counts
+pub mod Totals
+pub mod Walls
+pub mod Shuffles
+pub mod Reordered
+pub mod Carried
+pub mod Renaming
+pub mod Crossings
+pub mod LinkMaps
+pub mod Solids

@@ -1,0 +1,106 @@
+-- Lists that match one by one in some order.
+use Rattle.std.proofs.Common.{◌≡◌, List, [], ◌∷◌, ◌++◌, refl, sym, ap, subst}
+use Rattle.lmn_congruence.specs.Orders.{Put, here, there, Shuffle, none, more}
+
+-- two puts, in the other order
+pub record Two {A : Type 0} (y x : A) (xs zs : List A) : Type 0 where
+  pub between : List A
+  pub first : Put y xs between
+  pub second : Put x between zs
+
+pub put_first : {A : Type 0} {y : A} {ys zs : List A} → Put y ys zs → {x : A} {xs : List A} → Put x xs ys → Two y x xs zs
+put_first (here {y = y}) {x} {xs} p = record { between = y ∷ xs; first = here; second = there p }
+put_first (there {ys = ys} {zs = zs} q) here = record { between = zs; first = q; second = here }
+put_first (there q) (there {z = z} p) = let t = put_first q p in record { between = z ∷ t.between; first = there t.first; second = there t.second }
+
+pub put_front : {A : Type 0} {y : A} {ys zs : List A} (xs : List A) → Put y ys zs → Put y (xs ++ ys) (xs ++ zs)
+put_front [] p = p
+put_front (x ∷ xs) p = there (put_front xs p)
+
+pub put_back : {A : Type 0} {y : A} {ys zs : List A} → Put y ys zs → (xs : List A) → Put y (ys ++ xs) (zs ++ xs)
+put_back here xs = here
+put_back (there p) xs = there (put_back p xs)
+
+pub put_between : {A : Type 0} (y : A) (xs ys : List A) → Put y (xs ++ ys) (xs ++ y ∷ ys)
+put_between y [] ys = here
+put_between y (x ∷ xs) ys = there (put_between y xs ys)
+
+-- two puts that give one list: the same, or one beside the other
+pub data Compared {A : Type 0} (y y' : A) (ys ys' : List A) : Type 0 where
+  alike : y ≡ y' → ys ≡ ys' → Compared y y' ys ys'
+  apart : (ws : List A) → Put y ws ys' → Put y' ws ys → Compared y y' ys ys'
+
+compared_there : {A : Type 0} {y y' : A} {ys ys' : List A} (z : A) → Compared y y' ys ys' → Compared y y' (z ∷ ys) (z ∷ ys')
+compared_there z (alike e f) = alike e (ap (λ k. z ∷ k) f)
+compared_there z (apart ws p q) = apart (z ∷ ws) (there p) (there q)
+
+pub compare_puts : {A : Type 0} {y : A} {ys zs : List A} → Put y ys zs → {y' : A} {ys' : List A} → Put y' ys' zs → Compared y y' ys ys'
+compare_puts here here = alike refl refl
+compare_puts here (there {ys = ws} q) = apart ws here q
+compare_puts (there {ys = ws} p) here = apart ws p here
+compare_puts (there {z = z} p) (there q) = compared_there z (compare_puts p q)
+
+pub shuffle_append : {A B : Type 0} {R : A → B → Type 0} {xs : List A} {ys : List B} → Shuffle R xs ys → {xs' : List A} {ys' : List B} → Shuffle R xs' ys' → Shuffle R (xs ++ xs') (ys ++ ys')
+shuffle_append none t = t
+shuffle_append (more r s p) {xs'} {ys'} t = more r (shuffle_append s t) (put_back p ys')
+
+-- an element put in on both sides
+pub shuffle_put : {A B : Type 0} {R : A → B → Type 0} {x : A} {y : B} → R x y → {xs xs' : List A} → Put x xs xs' → {ys ys' : List B} → Put y ys ys' → Shuffle R xs ys → Shuffle R xs' ys'
+shuffle_put r here q s = more r s q
+shuffle_put r (there p) q (more r' s q') = let t = put_first q q' in more r' (shuffle_put r p t.first s) t.second
+
+-- what matches an element of the right list
+pub record Found {A B : Type 0} (R : A → B → Type 0) (y : B) (xs : List A) (ys : List B) : Type 0 where
+  pub match : A
+  pub rest : List A
+  pub related : R match y
+  pub put : Put match rest xs
+  pub others : Shuffle R rest ys
+
+found_more : {A B : Type 0} {R : A → B → Type 0} {x : A} {xs : List A} {y y' : B} {ys ys' : List B} → R x y' → Shuffle R xs ys' → ((ws : List B) → Put y ws ys' → Found R y xs ws) → Compared y y' ys ys' → Found R y (x ∷ xs) ys
+found_more {R = R} {x = x} {xs = xs} r s h (alike e f) = record { match = x; rest = xs; related = rw e r; put = here; others = rw f s }
+found_more {x = x} r s h (apart ws p q) = let u = h ws p in record { match = u.match; rest = x ∷ u.rest; related = u.related; put = there u.put; others = more r u.others q }
+
+pub find_put : {A B : Type 0} {R : A → B → Type 0} {xs : List A} {zs : List B} → Shuffle R xs zs → (y : B) (ys : List B) → Put y ys zs → Found R y xs ys
+find_put none y ys p = elim p [ ]
+find_put (more r s q) y ys p = found_more r s (λ ws k. find_put s y ws k) (compare_puts p q)
+
+-- what matches an element of the left list
+pub record FoundRight {A B : Type 0} (R : A → B → Type 0) (x : A) (xs : List A) (ys : List B) : Type 0 where
+  pub match : B
+  pub rest : List B
+  pub related : R x match
+  pub put : Put match rest ys
+  pub others : Shuffle R xs rest
+
+pub find_right : {A B : Type 0} {R : A → B → Type 0} {x : A} {xs zs : List A} → Put x xs zs → (ys : List B) → Shuffle R zs ys → FoundRight R x xs ys
+find_right here ys (more {y = y} {ys = ws} r s q) = record { match = y; rest = ws; related = r; put = q; others = s }
+find_right (there p) ys (more {ys = ws} r s q) =
+    let u = find_right p ws s in
+    let t = put_first q u.put in
+    record { match = u.match; rest = t.between; related = u.related; put = t.second; others = more r u.others t.first }
+
+pub shuffle_flip : {A B : Type 0} {R : A → B → Type 0} {xs : List A} {ys : List B} → Shuffle R xs ys → Shuffle (λ y x. R x y) ys xs
+shuffle_flip none = none
+shuffle_flip (more r s p) = shuffle_put r p here (shuffle_flip s)
+
+pub shuffle_same : {A : Type 0} {R : A → A → Type 0} → ((x : A) → R x x) → (xs : List A) → Shuffle R xs xs
+shuffle_same h [] = none
+shuffle_same h (x ∷ xs) = more (h x) (shuffle_same h xs) here
+
+pub shuffle_chain : {A B C : Type 0} {R : A → B → Type 0} {S : B → C → Type 0} {T : A → C → Type 0} → ((x : A) (y : B) (z : C) → R x y → S y z → T x z)
+    → {xs : List A} {ys : List B} → Shuffle R xs ys → (zs : List C) → Shuffle S ys zs → Shuffle T xs zs
+shuffle_chain h none zs none = none
+shuffle_chain h (more {x = x} {y = y} r s p) zs t = let u = find_right p zs t in more (h x y u.match r u.related) (shuffle_chain h s u.rest u.others) u.put
+
+pub shuffle_swap : {A : Type 0} {R : A → A → Type 0} → ((x : A) → R x x) → (xs ys : List A) → Shuffle R (xs ++ ys) (ys ++ xs)
+shuffle_swap h [] ys = subst (Shuffle _ ys) (sym (append_nil ys)) (shuffle_same h ys)
+  where
+    append_nil : {A : Type 0} (ys : List A) → ys ++ [] ≡ ys
+    append_nil [] = refl
+    append_nil (y ∷ ys) = ap (λ k. y ∷ k) (append_nil ys)
+shuffle_swap h (x ∷ xs) ys = more (h x) (shuffle_swap h xs ys) (put_between x ys xs)
+
+pub shuffle_map : {A B : Type 0} {R S : A → B → Type 0} → ((x : A) (y : B) → R x y → S x y) → {xs : List A} {ys : List B} → Shuffle R xs ys → Shuffle S xs ys
+shuffle_map h none = none
+shuffle_map h (more {x = x} {y = y} r s p) = more (h x y r) (shuffle_map h s) p

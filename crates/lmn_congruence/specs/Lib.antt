@@ -1,0 +1,15 @@
+pub mod Links
+pub mod Orders
+pub mod Rules
+pub mod LinkedRules
+pub mod Process
+pub mod Congruence
+pub mod Regions
+pub mod Same
+pub mod Fused
+pub mod Plains
+pub mod UpToOrder
+pub mod FreeLinks
+pub mod LinkMaps
+pub mod Laws
+pub mod reduction

@@ -1,0 +1,41 @@
+use Rattle.std.specs.Prelude.{ℕ, ◌+◌, List, [], ◌∷◌, map, length}
+use Rattle.lmn_congruence.specs.Process.{Process, atom, pair, membrane, rule, together}
+use Rattle.lmn_congruence.specs.Rules.{Label, Rule}
+
+-- The content of a membrane of a solid, or of its root: atoms with their links, membranes and rules, in order.
+-- A solid has each link in exactly two places: `Closed` of its process. It has no connector, and no atom that
+-- is named `=` and has two links: the type allows such an atom, and no text and no firing makes one.
+pub record SolidAtom : Type 0 where
+  pub label : Label
+  pub links : List ℕ
+
+mutual
+  pub data Region : Type 0 where
+    region : List SolidAtom → Regions → List Rule → Region
+
+  pub data Regions : Type 0 where
+    no_region : Regions
+    region_and : Region → Regions → Regions
+
+abbrev pub atom_process : SolidAtom → Process
+atom_process a = atom a.label a.links
+
+-- the process of a region: the parallel pair of its items
+abbrev mutual
+  pub region_process : Region → Process
+  region_process (region atoms membranes rules) =
+      pair (together (map atom_process atoms)) (pair (together (regions_processes membranes)) (together (map rule rules)))
+
+  pub regions_processes : Regions → List Process
+  regions_processes no_region = []
+  regions_processes (region_and r rs) = membrane (region_process r) ∷ regions_processes rs
+
+-- The items of a region: its atoms, membranes and rules, at every depth. At the root, which isn't counted
+-- itself, these are the items of the whole solid.
+abbrev mutual
+  pub items : Region → ℕ
+  items (region atoms membranes rules) = length atoms + items_of_all membranes + length rules
+
+  pub items_of_all : Regions → ℕ
+  items_of_all no_region = 0
+  items_of_all (region_and r rs) = 1 + items r + items_of_all rs

@@ -1,0 +1,78 @@
+use Rattle.std.specs.Prelude.{ℕ, ℤ, List, [], ◌∷◌}
+
+-- The trees of rules. A rule that stands in another one is written out. Links are numbers, by their first
+-- occurrence in the rule, so equal rules are equal trees. Where a rule stood in a text is left out.
+--
+-- The types also hold trees of no rule that a text can have: names with numbers above 255, integers of more
+-- than 64 bits, contexts at a rule's top, a connector or a rule in a head, a context without a partner. Such
+-- a rule is refused before it runs, and what these definitions say of it is used nowhere.
+
+-- a name by its bytes
+abbrev pub Name : Type 0
+Name = List ℕ
+
+-- What an atom is called: a name or an integer. Two atoms are of one functor where the labels and the numbers
+-- of links agree.
+pub data Label : Type 0 where
+  named : Name → Label
+  integer : ℤ → Label
+
+-- an atom `p(X1,..,Xm)`, a connector `X=Y`, or a typed context `$x[X]`
+pub data Leaf : Type 0 where
+  atom_leaf : Label → List ℕ → Leaf
+  connector_leaf : ℕ → ℕ → Leaf
+  typed_leaf : Name → ℕ → Leaf
+
+-- `+`, `-`, `*`, `/` and `mod`
+pub data Arithmetic : Type 0 where
+  plus minus times over modulo : Arithmetic
+
+-- `<`, `=<`, `>`, `>=`, `=:=` and `=\=`
+pub data Comparison : Type 0 where
+  less at_most greater at_least equal unequal : Comparison
+
+pub data Expression : Type 0 where
+  number : ℤ → Expression
+  value_of : Name → Expression
+  operation : Arithmetic → Expression → Expression → Expression
+
+-- `int`, `unary` and `ground`
+pub data Kind : Type 0 where
+  int unary grounded : Kind
+
+-- `int($x)` and its like, `E < F` and its like, `$x = E`, and `$x \= $y`
+pub data Condition : Type 0 where
+  is_kind : Kind → Name → Condition
+  compares : Comparison → Expression → Expression → Condition
+  equates : Name → Expression → Condition
+  differs : Name → Name → Condition
+
+-- A level of a rule: leaves, membranes, untyped contexts `$p`, rule contexts `@r` and rules.
+-- A rule has a head, a guard and a body.
+mutual
+  pub data Level : Type 0 where
+    level : List Leaf → Levels → List Name → List Name → Rules → Level
+
+  pub data Levels : Type 0 where
+    no_level : Levels
+    level_and : Level → Levels → Levels
+
+  pub data Rule : Type 0 where
+    rule_of : Level → List Condition → Level → Rule
+
+  pub data Rules : Type 0 where
+    no_rule : Rules
+    rule_and : Rule → Rules → Rules
+
+abbrev pub head_of : Rule → Level
+head_of (rule_of head guard body) = head
+
+abbrev pub guard_of : Rule → List Condition
+guard_of (rule_of head guard body) = guard
+
+abbrev pub body_of : Rule → Level
+body_of (rule_of head guard body) = body
+
+abbrev pub rules_list : Rules → List Rule
+rules_list no_rule = []
+rules_list (rule_and r rs) = r ∷ rules_list rs

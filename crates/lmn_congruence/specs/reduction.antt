@@ -1,0 +1,10 @@
+pub mod Parts
+pub mod Assignments
+pub mod Instances
+pub mod Values
+pub mod Guards
+pub mod Firing
+pub mod Steps
+pub mod Commits
+pub mod Redexes
+pub mod Laws

@@ -1,0 +1,35 @@
+use Rattle.std.specs.Prelude.{ℤ, ◌≤ℤ◌, ◌<ℤ◌, ◌≡◌, ◌≢◌, List, [], ◌∷◌}
+use Rattle.lmn_congruence.specs.Orders.{Among}
+use Rattle.lmn_congruence.specs.Rules.{Name, Comparison, less, at_most, greater, at_least, equal, unequal, Expression, value_of, Kind, int, unary, grounded, Condition, is_kind, compares, equates, differs}
+use Rattle.lmn_congruence.specs.reduction.Parts.{Rooted, IsInteger, IsUnary, IsGround, SameGraph}
+use Rattle.lmn_congruence.specs.reduction.Assignments.{Assignment}
+use Rattle.lmn_congruence.specs.reduction.Values.{Value}
+
+-- two values stand in an order
+abbrev pub Stand : Comparison → ℤ → ℤ → Type 0
+Stand less m n = m <ℤ n
+Stand at_most m n = m ≤ℤ n
+Stand greater m n = n <ℤ m
+Stand at_least m n = n ≤ℤ m
+Stand equal m n = m ≡ n
+Stand unequal m n = m ≢ n
+
+abbrev pub IsOfKind : Kind → Rooted → Type 0
+IsOfKind int g = (n : ℤ) × IsInteger n g
+IsOfKind unary g = IsUnary g
+IsOfKind grounded g = IsGround g
+
+-- A condition holds. The list `heads` has the typed contexts of the rule's head, so `$z = E` binds `$z` where it
+-- isn't there, and `$x = $y` compares two parts where both are. By our profile two parts that are compared are
+-- ground: where one is not, neither `=` nor `\=` holds.
+pub data Holds (heads : List Name) (t : Assignment) : Condition → Type 0 where
+  of_kind : {k : Kind} {p : Name} → IsOfKind k (t.typed_of p) → Holds heads t (is_kind k p)
+  in_order : {c : Comparison} {e f : Expression} {m n : ℤ} → Value t e m → Value t f n → Stand c m n → Holds heads t (compares c e f)
+  binds : {p : Name} {e : Expression} {n : ℤ} → ¬ (Among p heads) → Value t e n → IsInteger n (t.typed_of p) → Holds heads t (equates p e)
+  alike : {p q : Name} → Among p heads → Among q heads → IsGround (t.typed_of p) → IsGround (t.typed_of q) → SameGraph (t.typed_of p) (t.typed_of q) → Holds heads t (equates p (value_of q))
+  unlike : {p q : Name} → Among p heads → Among q heads → IsGround (t.typed_of p) → IsGround (t.typed_of q) → ¬ (SameGraph (t.typed_of p) (t.typed_of q)) → Holds heads t (differs p q)
+
+-- every condition of a guard holds
+pub data GuardHolds (heads : List Name) (t : Assignment) : List Condition → Type 0 where
+  no_condition : GuardHolds heads t []
+  condition_and : {c : Condition} {cs : List Condition} → Holds heads t c → GuardHolds heads t cs → GuardHolds heads t (c ∷ cs)

@@ -1,0 +1,49 @@
+use Rattle.lmn_congruence.specs.Process.{Process, Linked, Closed}
+use Rattle.lmn_congruence.specs.Congruence.{Congruent}
+use Rattle.lmn_congruence.specs.Rules.{Level}
+use Rattle.lmn_congruence.specs.Fused.{NoConnector}
+use Rattle.lmn_congruence.specs.Regions.{Region, region_process}
+use Rattle.lmn_congruence.specs.Plains.{level_process, SolidOf}
+use Rattle.lmn_congruence.specs.reduction.Steps.{Step, SettlingStep}
+use Rattle.lmn_congruence.specs.reduction.Commits.{Settled, Settles, Commit, Irreducible}
+use Rattle.lmn_congruence.specs.reduction.Redexes.{ShowsRedex}
+
+-- both sides of a step, and of a settling step, are linked
+abbrev pub StepsAreLinked : Type 0
+StepsAreLinked = (P Q : Process) → Step P Q → Linked P × Linked Q
+
+abbrev pub SettlingStepsAreLinked : Type 0
+SettlingStepsAreLinked = (P Q : Process) → SettlingStep P Q → Linked P × Linked Q
+
+-- a process without connectors is settled
+abbrev pub SettledWithoutConnectors : Type 0
+SettledWithoutConnectors = (P : Process) → NoConnector P → Settled P
+
+-- a closed process settles
+abbrev pub ClosedSettles : Type 0
+ClosedSettles = (P : Process) → Closed P → (Q : Process) × Settles P Q
+
+-- and in one way, up to congruence
+abbrev pub SettlesOnce : Type 0
+SettlesOnce = (P Q Q' : Process) → Closed P → Settles P Q → Settles P Q' → Congruent Q Q'
+
+-- the process of a plain's top settles to that of its solid
+abbrev pub PlainSettles : Type 0
+PlainSettles = (top : Level) (S : Region) → Closed (level_process top) → SolidOf top S → Settles (level_process top) (region_process S)
+
+-- where a step is possible, some congruent process has a redex
+abbrev pub StepsShowRedexes : Type 0
+StepsShowRedexes = (P Q : Process) → Step P Q → ShowsRedex P
+
+-- congruence keeps all that is said of reduction
+abbrev pub KeepsSettled : Type 0
+KeepsSettled = (P P' : Process) → Congruent P P' → Settled P → Settled P'
+
+abbrev pub KeepsSettles : Type 0
+KeepsSettles = (P P' Q Q' : Process) → Congruent P P' → Congruent Q Q' → Settles P Q → Settles P' Q'
+
+abbrev pub KeepsCommit : Type 0
+KeepsCommit = (P P' Q Q' : Process) → Congruent P P' → Congruent Q Q' → Commit P Q → Commit P' Q'
+
+abbrev pub KeepsIrreducible : Type 0
+KeepsIrreducible = (P P' : Process) → Congruent P P' → Irreducible P → Irreducible P'
