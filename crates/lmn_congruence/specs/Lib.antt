@@ -12,4 +12,5 @@ pub mod UpToOrder
 pub mod FreeLinks
 pub mod LinkMaps
 pub mod Laws
+pub mod Translation
 pub mod reduction
