@@ -1,7 +1,6 @@
 -- The table of links of a process or of a rule.
 use Rattle.std.specs.Prelude.{ℕ, ◌≡◌, ◌<◌, ◌≤◌, ◌⊎◌, ◌==◌, List, [], ◌∷◌, ◌++◌, map, flat_map, filter, length, slice_get, Some, MatchOption, AllPairs, IsPermutation}
 use Rattle.lmn_base.specs.declared.level.Level.{Level}
-use Rattle.lmn_base.specs.declared.level.Occ.{Occ}
 use Rattle.lmn_base.specs.declared.refusal.Pos.{Pos}
 use Rattle.lmn_base.specs.declared.rule.LinkUse.{LinkUse}
 use Rattle.lmn_base.specs.Levels.{occurrences, links_of}
