@@ -8,3 +8,11 @@ pub mod Renaming
 pub mod Crossings
 pub mod LinkMaps
 pub mod Solids
+pub mod SettlingSteps
+pub mod SettledProcesses
+pub mod Merges
+pub mod SettledForms
+pub mod Plains
+pub mod Derivations
+pub mod Redexes
+pub mod Kept

@@ -6,6 +6,7 @@ use Rattle.lmn_congruence.specs.Congruence.{Congruent}
 use Rattle.lmn_congruence.specs.Fused.{NoConnector, Joins, fused}
 use Rattle.lmn_congruence.specs.UpToOrder.{Reordered, r_same, r_back, r_chain}
 use Rattle.lmn_congruence.specs.LinkMaps.{ReadsAs}
+use Rattle.lmn_congruence.specs.Laws.{BothSidesLinked, SameFreeLinks}
 use Rattle.lmn_congruence.proofs.Counts.{same_or_not, same_free, linked_both, Occurs}
 use Rattle.lmn_congruence.proofs.Walls.{same_crossings}
 use Rattle.lmn_congruence.proofs.Reordered.{reordered_crossings}
@@ -118,3 +119,11 @@ pub plain_congruent : (v : ℕ → ℕ) (P : Process) → NoConnector P → Link
 plain_congruent v P n l s k =
     let e = fused_is_renamed v P n in
     rw e (rename_all v P l (one_to_one v P s (rw (← e) k)) s)
+
+-- ---- the laws of congruence alone
+
+pub both_sides_linked : BothSidesLinked
+both_sides_linked P Q c = linked_both c
+
+pub same_free_links : SameFreeLinks
+same_free_links P Q c x = let i = same_free c x in (i.there, i.back_again)

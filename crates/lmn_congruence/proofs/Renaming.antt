@@ -205,30 +205,36 @@ module _ (a b : ℕ → ℕ) (P : Process) (m : Movable a b P) (l : Linked P) wh
 
 -- ---- a renaming that is one to one and leaves the free links
 
-abbrev moved_away : ℕ → Process → ℕ → ℕ
+abbrev pub moved_away : ℕ → Process → ℕ → ℕ
 moved_away K P x = cond (eqb (occurrences x P) 1) x (x + K)
 
-away_free : (K x : ℕ) (P : Process) → Free x P → moved_away K P x ≡ x
+pub away_free : (K x : ℕ) (P : Process) → Free x P → moved_away K P x ≡ x
 away_free K x P f = rw f refl
 
-away_local : (K x : ℕ) (P : Process) → occurrences x P ≢ 1 → moved_away K P x ≡ x + K
+pub away_local : (K x : ℕ) (P : Process) → occurrences x P ≢ 1 → moved_away K P x ≡ x + K
 away_local K x P f = grind arith
+
+pub low_high : (K x y : ℕ) → x < K → x ≢ y + K
+low_high K x y c = omega arith
+
+pub away_apart : (K : ℕ) (P : Process) → ((x : ℕ) → Occurs x P → x < K) → (x y : ℕ) → moved_away K P x ≡ moved_away K P y → x ≡ y
+away_apart K P above x y e = go (same_or_not (occurrences x P) 1) (same_or_not (occurrences y P) 1)
+  where
+    low : (x : ℕ) → Free x P → x < K
+    low x f = above x (occurs_once (occurrences x P) f)
+
+    go : Free x P ⊎ (occurrences x P ≢ 1) → Free y P ⊎ (occurrences y P ≢ 1) → x ≡ y
+    go (inl f) (inl g) = sym (away_free K x P f) ∙ e ∙ away_free K y P g
+    go (inl f) (inr g) = absurd (low_high K x y (low x f) (sym (away_free K x P f) ∙ e ∙ away_local K y P g))
+    go (inr f) (inl g) = absurd (low_high K y x (low y g) (sym (away_free K y P g) ∙ sym e ∙ away_local K x P f))
+    go (inr f) (inr g) = let q : x + K ≡ y + K = sym (away_local K x P f) ∙ e ∙ away_local K y P g in omega arith
 
 module _ (K : ℕ) (P : Process) (l : Linked P) (above : (x : ℕ) → Occurs x P → x < K) where
   free_or_not : (x : ℕ) → Free x P ⊎ (occurrences x P ≢ 1)
   free_or_not x = same_or_not (occurrences x P) 1
 
-  low_high : (x y : ℕ) → x < K → x ≢ y + K
-  low_high x y c = omega arith
-
   away_one : OneToOneOn (moved_away K P) P
-  away_one x y o o' e = go (free_or_not x) (free_or_not y)
-    where
-      go : Free x P ⊎ (occurrences x P ≢ 1) → Free y P ⊎ (occurrences y P ≢ 1) → x ≡ y
-      go (inl f) (inl g) = sym (away_free K x P f) ∙ e ∙ away_free K y P g
-      go (inl f) (inr g) = absurd (low_high x y (above x o) (sym (away_free K x P f) ∙ e ∙ away_local K y P g))
-      go (inr f) (inl g) = absurd (low_high y x (above y o') (sym (away_free K y P g) ∙ sym e ∙ away_local K x P f))
-      go (inr f) (inr g) = let q : x + K ≡ y + K = sym (away_local K x P f) ∙ e ∙ away_local K y P g in omega arith
+  away_one x y o o' e = away_apart K P above x y e
 
   local_not_free : (x : ℕ) → Local x P → occurrences x P ≢ 1
   local_not_free x f = λ e. absurd (two_one (sym f ∙ e))
@@ -241,7 +247,7 @@ module _ (K : ℕ) (P : Process) (l : Linked P) (above : (x : ℕ) → Occurs x 
     one_a = λ x y o o' e. e;
     one_b = away_one;
     free_stay = λ x f. sym (away_free K x P f);
-    local_fresh = λ x y f o e. low_high y x (above y o) (e ∙ away_local K x P (local_not_free x f));
+    local_fresh = λ x y f o e. low_high K y x (above y o) (e ∙ away_local K x P (local_not_free x f));
   }
 
   module _ (f : ℕ → ℕ) (one : OneToOneOn f P) (stay : (x : ℕ) → Free x P → f x ≡ x) (low : (x : ℕ) → Occurs x P → f x < K) where
@@ -257,7 +263,7 @@ module _ (K : ℕ) (P : Process) (l : Linked P) (above : (x : ℕ) → Occurs x 
         go x y e o q (inl g) =
             let p : y ≡ x = one y x o (occurs_twice (occurrences x P) e) (stay y g ∙ sym (away_free K y P g) ∙ q) in
             local_not_free x e (sym (ap (λ k. occurrences k P) p) ∙ g)
-        go x y e o q (inr g) = low_high (f x) y (low x (occurs_twice (occurrences x P) e)) (sym q ∙ away_local K y P g)
+        go x y e o q (inr g) = low_high K (f x) y (low x (occurs_twice (occurrences x P) e)) (sym q ∙ away_local K y P g)
 
     rename_below : Congruent P (renamed f P)
     rename_below =

@@ -1,8 +1,6 @@
 use Rattle.std.specs.Prelude.{ℕ, ◌↔◌}
 use Rattle.lmn_congruence.specs.Process.{Process, Free, Linked, Closed}
 use Rattle.lmn_congruence.specs.Congruence.{Congruent}
-use Rattle.lmn_congruence.specs.Fused.{NoConnector}
-use Rattle.lmn_congruence.specs.LinkMaps.{ReadsAs}
 use Rattle.lmn_congruence.specs.Regions.{Region, region_process}
 use Rattle.lmn_congruence.specs.Same.{Same}
 
@@ -13,10 +11,6 @@ BothSidesLinked = (P Q : Process) → Congruent P Q → Linked P × Linked Q
 -- congruent processes have the same free links
 abbrev pub SameFreeLinks : Type 0
 SameFreeLinks = (P Q : Process) → Congruent P Q → (x : ℕ) → Free x P ↔ Free x Q
-
--- a linked process is congruent to one without connectors exactly where one map of links reads it so
-abbrev pub CongruentByOneMap : Type 0
-CongruentByOneMap = (P N : Process) → Linked P → Linked N → NoConnector N → Congruent P N ↔ ReadsAs P N
 
 -- solids have congruent processes exactly where they are the same
 abbrev pub CongruentSolids : Type 0

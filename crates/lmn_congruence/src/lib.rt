@@ -1,5 +1,28 @@
-//! Processes as terms, structural congruence as derivations, and the laws of both.
+//! Processes as terms, structural congruence and reduction as derivations, and their laws.
 //!
-//! The definitions stand in `specs/`, and each law is the contract of a function with an empty body. Nothing
-//! here runs.
+//! The definitions stand in `specs/`. Each law is the contract of a function with an empty body, so
+//! nothing here does anything when it runs.
 #![tactic(auto)]
+
+ghost use Rattle.lmn_congruence.specs.Laws.{BothSidesLinked, SameFreeLinks, CongruentSolids};
+
+pub mod reduction;
+
+/// Both sides of a congruence are linked: no link occurs more than twice in either.
+#[tactic(auto, using(crate::proofs::LinkMaps::both_sides_linked))]
+pub fn both_sides_are_linked()
+    ensures { BothSidesLinked }
+{}
+
+/// Congruent processes have the same free links.
+#[tactic(auto, using(crate::proofs::LinkMaps::same_free_links))]
+pub fn free_links_are_kept()
+    ensures { SameFreeLinks }
+{}
+
+/// Two solids have congruent processes exactly where they are the same up to the order of lists and the
+/// numbers of links.
+#[tactic(auto, using(crate::proofs::Solids::congruent_exactly_same))]
+pub fn congruent_solids_are_the_same()
+    ensures { CongruentSolids }
+{}

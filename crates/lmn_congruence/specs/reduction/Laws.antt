@@ -1,7 +1,9 @@
+use Rattle.std.specs.Prelude.{◌↔◌}
 use Rattle.lmn_congruence.specs.Process.{Process, Linked, Closed}
 use Rattle.lmn_congruence.specs.Congruence.{Congruent}
 use Rattle.lmn_congruence.specs.Rules.{Level}
 use Rattle.lmn_congruence.specs.Fused.{NoConnector}
+use Rattle.lmn_congruence.specs.LinkMaps.{ReadsAs}
 use Rattle.lmn_congruence.specs.Regions.{Region, region_process}
 use Rattle.lmn_congruence.specs.Plains.{level_process, SolidOf}
 use Rattle.lmn_congruence.specs.reduction.Steps.{Step, SettlingStep}
@@ -30,6 +32,10 @@ SettlesOnce = (P Q Q' : Process) → Closed P → Settles P Q → Settles P Q' �
 -- the process of a plain's top settles to that of its solid
 abbrev pub PlainSettles : Type 0
 PlainSettles = (top : Level) (S : Region) → Closed (level_process top) → SolidOf top S → Settles (level_process top) (region_process S)
+
+-- a linked process is congruent to one without connectors exactly where one map of links reads it so
+abbrev pub CongruentByOneMap : Type 0
+CongruentByOneMap = (P N : Process) → Linked P → Linked N → NoConnector N → Congruent P N ↔ ReadsAs P N
 
 -- where a step is possible, some congruent process has a redex
 abbrev pub StepsShowRedexes : Type 0
