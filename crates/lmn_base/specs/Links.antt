@@ -1,9 +1,9 @@
 -- Lists of links: where each stands twice, and where they are numbered by first occurrence.
-use Rattle.std.specs.Prelude.{ℕ, suc, ◌≡◌, ◌<◌, ◌==◌, List, [], ◌∷◌, All, count_by}
+use Rattle.std.specs.Prelude.{ℕ, suc, ◌≡◌, ◌<◌, ◌⊎◌, ◌==◌, List, [], ◌∷◌, count_by}
 
 -- each link that stands in the list stands there exactly twice
 abbrev pub EachTwice : List ℕ → Type 0
-EachTwice xs = All (λ x. count_by (λ y. y == x) xs ≡ 2) xs
+EachTwice xs = (x : ℕ) → let n = count_by (λ y. x == y) xs in (n ≡ 0) ⊎ (n ≡ 2)
 
 -- n links have occurred; once those of the list have, it is m. Each link of the list is one of those
 -- that have occurred, or it is new and has the next number.

@@ -16,3 +16,4 @@ pub mod Plains
 pub mod Derivations
 pub mod Redexes
 pub mod Kept
+pub mod Translated
