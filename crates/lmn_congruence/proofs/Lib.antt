@@ -17,3 +17,4 @@ pub mod Derivations
 pub mod Redexes
 pub mod Kept
 pub mod Translated
+pub mod NumberedRules
