@@ -1,5 +1,5 @@
 -- What every solid is like.
-use Rattle.std.specs.Prelude.{ℕ, ◌≡◌, ◌≢◌, List, ◌++◌, flat_map, length, All}
+use Rattle.std.specs.Prelude.{ℕ, ◌≡◌, ◌≢◌, ◌+◌, List, ◌++◌, flat_map, sum, length, All}
 use Rattle.lmn_base.specs.declared.functor.Functor.{Functor}
 use Rattle.lmn_base.specs.declared.functor.Label.TheVariants.{Name}
 use Rattle.lmn_base.specs.declared.solid.SolidAtom.{SolidAtom}
@@ -29,3 +29,11 @@ pub record IsSolid (s : Solid) : Type 0 where
   pub no_connector : All (λ a. a.functor ≢ connector) (atoms_of s.root)
   pub closed : EachTwice (links_of s.root)
   pub numbered : (n : ℕ) × NumbersLinks (links_of s.root) n
+
+-- a region's atoms, membranes and rules, and those inside its membranes
+abbrev pub items_step : Region-F ℕ → ℕ
+items_step r = length r.atoms + length r.membranes + sum r.membranes + length r.rules
+
+-- how many items a solid has: its root isn't counted
+abbrev pub items_of : Solid → ℕ
+items_of s = fold-Region ℕ items_step s.root

@@ -1,7 +1,9 @@
 -- The links of what the program keeps, and those of its translation.
-use Rattle.std.proofs.Common.{ℕ, ◌≡◌, ◌+◌, zero, suc, List, [], ◌∷◌, ◌++◌, map, refl, sym, ◌∙◌, ap, subst, arith}
+use Rattle.std.proofs.Common.{ℕ, ◌≡◌, ◌+◌, ◌==◌, ◌⊎◌, ◌↔◌, zero, suc, List, [], ◌∷◌, ◌++◌, map, length, sum, All, count_by, Bool, true, false, cond, refl, sym, ◌∙◌, ap, subst, arith}
 use Rattle.std.specs.List.{flat_map}
-use Rattle.std.proofs.lemmas.List.{append-nil}
+use Rattle.std.proofs.lemmas.List.{append-nil, length-map}
+use Rattle.std.proofs.lemmas.List.Recursion.{is_count_by}
+use Rattle.std.proofs.lemmas.List.Sums.{sum_by-cons}
 use Rattle.std.proofs.lemmas.Grind.{flat_map-append}
 use Rattle.lmn_base.specs.declared.functor.Label.{Label}
 use Rattle.lmn_base.specs.declared.functor.Label.TheVariants.{Name, Int}
@@ -12,10 +14,21 @@ use Rattle.lmn_base.specs.declared.level.Level.TheOpen.{Level-F}
 use Rattle.lmn_base.specs.declared.level.Level.TheFolds.{fold-Level, fold-roll-Level, ind-Level}
 use Rattle.lmn_base.specs.declared.level.Level.TheViews.{roll-Level}
 use Rattle.lmn_base.specs.Levels.{leaves_of, leaf_occurrences as base_occurrences, links_of}
-use Rattle.lmn_congruence.specs.Links.{places}
+use Rattle.lmn_base.specs.WellMade.{IsAtom}
+use Rattle.lmn_base.specs.declared.solid.SolidAtom.{SolidAtom}
+use Rattle.lmn_base.specs.declared.solid.Region.{Region}
+use Rattle.lmn_base.specs.declared.solid.Region.TheFolds.{fold-Region, fold-roll-Region, ind-Region}
+use Rattle.lmn_base.specs.declared.solid.Region.TheViews.{roll-Region}
+use Rattle.lmn_base.specs.Solids.{atoms_of, atoms_step, items_step, links_of as solid_links}
+use Rattle.lmn_congruence.specs.Links.{places, one_if_same}
+use Rattle.lmn_congruence.specs.Process.{Process, occurrences, together, rule}
+use Rattle.lmn_congruence.specs.Plains.{leaf_process, level_process, levels_processes}
+use Rattle.lmn_congruence.specs.Regions as solid
+use Rattle.lmn_congruence.proofs.NumberedRules.{all_left, all_right}
 use Rattle.lmn_congruence.specs.Rules as tree
 use Rattle.lmn_congruence.specs.LinkedRules.{leaf_occurrences, leaves_occurrences, level_occurrences, levels_occurrences}
-use Rattle.lmn_congruence.specs.Translation.{atom_of, leaf_of, level_of, level_step, levels}
+use Rattle.lmn_congruence.specs.Translation.{atom_of, leaf_of, level_of, level_step, levels, rules, solid_atom_of, regions, region_step, rule_of}
+use Rattle.lmn_congruence.specs.TranslationLaws.{LinkedAlike, TopsClosedAlike, SolidsClosedAlike, ItemsAlike}
 
 places_append : (x : ℕ) (xs ys : List ℕ) → places x (xs ++ ys) ≡ places x xs + places x ys
 places_append x [] ys = omega arith
@@ -62,3 +75,129 @@ module _ (names : List tree.Name) (rule : ℕ → tree.Rule) (x : ℕ) where
       let inside = subst (λ l. levels_occurrences x (levels (map (level_of names rule) l.membranes)) ≡ places x (links_in (flat_map (λ inner. inner) (map leaves_of l.membranes)))) is (inner_places z.membranes) in
       rw (fold-roll-Level tree.Level (level_step names rule) y, fold-roll-Level (List Leaf) (λ l. l.leaves ++ flat_map (λ inner. inner) l.membranes) y)
           (omega (arith, leaves_places names x y.leaves, inside, places_both x y.leaves (flat_map (λ inner. inner) (map leaves_of y.membranes)))))
+
+-- ---- the process of a top without contexts
+
+only_atoms : (names : List tree.Name) (x : ℕ) (l : Label) (ys : List ℕ) → occurrences x (leaf_process (atom_of names l ys)) ≡ places x ys
+only_atoms names x (Name zero) [] = refl
+only_atoms names x (Name zero) (a ∷ []) = refl
+only_atoms names x (Name zero) (a ∷ (b ∷ [])) = omega arith
+only_atoms names x (Name zero) (a ∷ (b ∷ (c ∷ ys))) = refl
+only_atoms names x (Name (suc n)) ys = refl
+only_atoms names x (Int z) ys = refl
+
+leaf_alone : (names : List tree.Name) (x : ℕ) (l : Leaf) → IsAtom l → occurrences x (leaf_process (leaf_of names l)) ≡ places x (links_in (l ∷ []))
+leaf_alone names x (Atom f os p) h = rw (append-nil os) (only_atoms names x f.label (map (λ o. o.link) os))
+leaf_alone names x (Typed n o p) h = absurd h
+
+leaves_alone : (names : List tree.Name) (x : ℕ) (ls : List Leaf) → All IsAtom ls → occurrences x (together (map leaf_process (map (leaf_of names) ls))) ≡ places x (links_in ls)
+leaves_alone names x [] h = refl
+leaves_alone names x (l ∷ ls) h = omega (arith, leaf_alone names x l (h zero l (omega arith)), leaves_alone names x ls (all_right IsAtom (l ∷ []) ls h), places_both x (l ∷ []) ls)
+
+no_link_in_rules : (x : ℕ) (rs : List tree.Rule) → occurrences x (together (map rule rs)) ≡ 0
+no_link_in_rules x [] = refl
+no_link_in_rules x (r ∷ rs) = omega (arith, no_link_in_rules x rs)
+
+module _ (names : List tree.Name) (number : ℕ → tree.Rule) (x : ℕ) where
+  abbrev inner_leaves : List Level → List Leaf
+  inner_leaves ls = flat_map (λ inner. inner) (map leaves_of ls)
+
+  abbrev inner_process : List Level → Process
+  inner_process ls = together (levels_processes (levels (map (level_of names number) ls)))
+
+  abbrev Shown : Level → Type 0
+  Shown l = All IsAtom (leaves_of l) → occurrences x (level_process (level_of names number l)) ≡ places x (links_in (leaves_of l))
+
+  inner_shown : (ls : List ((l : Level) × Shown l)) → All IsAtom (inner_leaves (map (λ e. e.0) ls)) →
+      occurrences x (inner_process (map (λ e. e.0) ls)) ≡ places x (links_in (inner_leaves (map (λ e. e.0) ls)))
+  inner_shown [] h = refl
+  inner_shown (e ∷ ls) h =
+      let behind = inner_leaves (map (λ e. e.0) ls) in
+      omega (arith, e.1 (all_left IsAtom (leaves_of e.0) behind h), inner_shown ls (all_right IsAtom (leaves_of e.0) behind h), places_both x (leaves_of e.0) behind)
+
+  pub top_places : (l : Level) → Shown l
+  top_places = ind-Level Shown (λ y z is h.
+      let split = fold-roll-Level (List Leaf) (λ l. l.leaves ++ flat_map (λ inner. inner) l.membranes) y in
+      let here = subst (All IsAtom) split h in
+      let inside = subst (λ l. All IsAtom (inner_leaves l.membranes) → occurrences x (inner_process l.membranes) ≡ places x (links_in (inner_leaves l.membranes))) is (inner_shown z.membranes) in
+      rw (fold-roll-Level tree.Level (level_step names number) y, split)
+          (omega (arith, leaves_alone names x y.leaves (all_left IsAtom y.leaves (inner_leaves y.membranes) here), inside (all_right IsAtom y.leaves (inner_leaves y.membranes) here),
+              no_link_in_rules x (tree.rules_list (rules (map number y.rules))), places_both x y.leaves (inner_leaves y.membranes))))
+
+-- ---- solids
+
+atoms_places : (names : List tree.Name) (x : ℕ) (ks : List SolidAtom) → occurrences x (together (map solid.atom_process (map (solid_atom_of names) ks))) ≡ places x (flat_map (λ a. a.links) ks)
+atoms_places names x [] = refl
+atoms_places names x (a ∷ ks) = omega (arith, atoms_places names x ks, places_append x a.links (flat_map (λ a. a.links) ks))
+
+both_atoms : (x : ℕ) (ks ls : List SolidAtom) → places x (flat_map (λ a. a.links) (ks ++ ls)) ≡ places x (flat_map (λ a. a.links) ks) + places x (flat_map (λ a. a.links) ls)
+both_atoms x ks ls = rw (flat_map-append (λ a. a.links) ks ls) (places_append x (flat_map (λ a. a.links) ks) (flat_map (λ a. a.links) ls))
+
+module _ (names : List tree.Name) (number : ℕ → tree.Rule) (x : ℕ) where
+  abbrev region : Region → solid.Region
+  region = fold-Region solid.Region (region_step names number)
+
+  abbrev inner_atoms : List Region → List SolidAtom
+  inner_atoms rs = flat_map (λ inner. inner) (map atoms_of rs)
+
+  abbrev inner_regions : List Region → Process
+  inner_regions rs = together (solid.regions_processes (regions (map region rs)))
+
+  abbrev Solidly : Region → Type 0
+  Solidly r = occurrences x (solid.region_process (region r)) ≡ places x (flat_map (λ a. a.links) (atoms_of r))
+
+  inner_solidly : (rs : List ((r : Region) × Solidly r)) → occurrences x (inner_regions (map (λ e. e.0) rs)) ≡ places x (flat_map (λ a. a.links) (inner_atoms (map (λ e. e.0) rs)))
+  inner_solidly [] = refl
+  inner_solidly (e ∷ rs) = omega (arith, e.1, inner_solidly rs, both_atoms x (atoms_of e.0) (inner_atoms (map (λ e. e.0) rs)))
+
+  pub region_places : (r : Region) → Solidly r
+  region_places = ind-Region Solidly (λ y z is.
+      let inside = subst (λ r. occurrences x (inner_regions r.membranes) ≡ places x (flat_map (λ a. a.links) (inner_atoms r.membranes))) is (inner_solidly z.membranes) in
+      rw (fold-roll-Region solid.Region (region_step names number) y, fold-roll-Region (List SolidAtom) atoms_step y)
+          (omega (arith, atoms_places names x y.atoms, inside, no_link_in_rules x (map number y.rules), both_atoms x y.atoms (inner_atoms y.membranes))))
+
+-- ---- what is public
+
+cond_plus : (b : Bool) (n : ℕ) → cond b 1 0 + n ≡ cond b (1 + n) n
+cond_plus true n = refl
+cond_plus false n = omega arith
+
+counted : (x : ℕ) (xs : List ℕ) → count_by (λ y. x == y) xs ≡ places x xs
+counted x xs = sym (is_count_by (places x) (λ y. x == y) refl (λ y ys. cond_plus (x == y) (places x ys)) xs)
+
+exactly_twice : (f g : ℕ → ℕ) → ((x : ℕ) → f x ≡ g x) → ((x : ℕ) → (f x ≡ 0) ⊎ (f x ≡ 2)) ↔ ((x : ℕ) → (g x ≡ 0) ⊎ (g x ≡ 2))
+exactly_twice f g e = (λ h x. subst (λ n. (n ≡ 0) ⊎ (n ≡ 2)) (e x) (h x), λ h x. subst (λ n. (n ≡ 0) ⊎ (n ≡ 2)) (sym (e x)) (h x))
+
+pub linked_rules : LinkedAlike
+linked_rules names number r = exactly_twice _ _ (λ x.
+    counted x (links_of r.head ++ links_of r.body) ∙ places_append x (links_of r.head) (links_of r.body) ∙
+    sym (ap (λ n. n + level_occurrences x (level_of names number r.body)) (level_places names number x r.head) ∙ ap (λ n. places x (links_of r.head) + n) (level_places names number x r.body)))
+
+pub closed_tops : TopsClosedAlike
+closed_tops names p w = exactly_twice _ _ (λ x. counted x (links_of p.top) ∙ sym (top_places names (rule_of names p.rules) x p.top w.only_atoms))
+
+pub closed_solids : SolidsClosedAlike
+closed_solids names table s = exactly_twice _ _ (λ x. counted x (solid_links s.root) ∙ sym (region_places names (rule_of names table) x s.root))
+
+module _ (names : List tree.Name) (number : ℕ → tree.Rule) where
+  abbrev numbered_region : Region → solid.Region
+  numbered_region = fold-Region solid.Region (region_step names number)
+
+  abbrev SameItems : Region → Type 0
+  SameItems r = solid.items (numbered_region r) ≡ fold-Region ℕ items_step r
+
+  abbrev inner_total : List Region → ℕ
+  inner_total rs = length rs + sum (map (fold-Region ℕ items_step) rs)
+
+  inner_items : (rs : List ((r : Region) × SameItems r)) → solid.items_of_all (regions (map numbered_region (map (λ e. e.0) rs))) ≡ inner_total (map (λ e. e.0) rs)
+  inner_items [] = refl
+  inner_items (e ∷ rs) = omega (arith, e.1, inner_items rs, sum_by-cons (λ n. n) (fold-Region ℕ items_step e.0) (map (fold-Region ℕ items_step) (map (λ e. e.0) rs)))
+
+  same_items : (r : Region) → SameItems r
+  same_items = ind-Region SameItems (λ y z is.
+      let inside = subst (λ r. solid.items_of_all (regions (map numbered_region r.membranes)) ≡ inner_total r.membranes) is (inner_items z.membranes) in
+      rw (fold-roll-Region solid.Region (region_step names number) y, fold-roll-Region ℕ items_step y)
+          (omega (arith, inside, length-map y.atoms (solid_atom_of names), length-map y.rules number, length-map y.membranes (fold-Region ℕ items_step))))
+
+pub items_alike : ItemsAlike
+items_alike names table s = same_items names (rule_of names table) s.root

@@ -13,4 +13,5 @@ pub mod FreeLinks
 pub mod LinkMaps
 pub mod Laws
 pub mod Translation
+pub mod TranslationLaws
 pub mod reduction

@@ -156,7 +156,3 @@ IsSolidOf names p s = SolidOf (top_of names p) (region_of names p.rules s)
 -- equal up to the order of lists and the numbers of links
 abbrev pub SameSolid : List tree.Name → List RuleTree → Solid → Solid → Type 0
 SameSolid names table s s' = Same (region_of names table s) (region_of names table s')
-
--- atoms, membranes without the root, and rules that stand in membranes or in the root
-abbrev pub solid_items : List tree.Name → List RuleTree → Solid → ℕ
-solid_items names table s = solid.items (region_of names table s)
