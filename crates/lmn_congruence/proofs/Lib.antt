@@ -16,5 +16,6 @@ pub mod Plains
 pub mod Derivations
 pub mod Redexes
 pub mod Kept
-pub mod Translated
 pub mod NumberedRules
+pub mod TranslatedLinks
+pub mod TranslatedItems

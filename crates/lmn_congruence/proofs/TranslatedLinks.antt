@@ -28,7 +28,7 @@ use Rattle.lmn_congruence.proofs.NumberedRules.{all_left, all_right}
 use Rattle.lmn_congruence.specs.Rules as tree
 use Rattle.lmn_congruence.specs.LinkedRules.{leaf_occurrences, leaves_occurrences, level_occurrences, levels_occurrences}
 use Rattle.lmn_congruence.specs.Translation.{atom_of, leaf_of, level_of, level_step, levels, rules, solid_atom_of, regions, region_step, rule_of}
-use Rattle.lmn_congruence.specs.TranslationLaws.{LinkedAlike, TopsClosedAlike, SolidsClosedAlike, ItemsAlike}
+use Rattle.lmn_congruence.specs.TranslationLaws.{LevelLinksKept, TopLinksKept, SolidLinksKept}
 
 places_append : (x : ℕ) (xs ys : List ℕ) → places x (xs ++ ys) ≡ places x xs + places x ys
 places_append x [] ys = omega arith
@@ -45,16 +45,17 @@ links_in ls = map (λ o. o.link) (flat_map base_occurrences ls)
 places_both : (x : ℕ) (ks ls : List Leaf) → places x (links_in (ks ++ ls)) ≡ places x (links_in ks) + places x (links_in ls)
 places_both x ks ls = rw (flat_map-append base_occurrences ks ls, map_append (λ o. o.link) (flat_map base_occurrences ks) (flat_map base_occurrences ls)) (places_append x (links_in ks) (links_in ls))
 
-atom_places : (names : List tree.Name) (x : ℕ) (l : Label) (ys : List ℕ) → leaf_occurrences x (atom_of names l ys) ≡ places x ys
-atom_places names x (Name zero) [] = refl
-atom_places names x (Name zero) (a ∷ []) = refl
-atom_places names x (Name zero) (a ∷ (b ∷ [])) = omega arith
-atom_places names x (Name zero) (a ∷ (b ∷ (c ∷ ys))) = refl
-atom_places names x (Name (suc n)) ys = refl
-atom_places names x (Int z) ys = refl
+-- of an atom's tree, and of its process
+atom_places : (names : List tree.Name) (x : ℕ) (l : Label) (ys : List ℕ) → (leaf_occurrences x (atom_of names l ys) ≡ places x ys) × (occurrences x (leaf_process (atom_of names l ys)) ≡ places x ys)
+atom_places names x (Name zero) [] = (refl, refl)
+atom_places names x (Name zero) (a ∷ []) = (refl, refl)
+atom_places names x (Name zero) (a ∷ (b ∷ [])) = (omega arith, omega arith)
+atom_places names x (Name zero) (a ∷ (b ∷ (c ∷ ys))) = (refl, refl)
+atom_places names x (Name (suc n)) ys = (refl, refl)
+atom_places names x (Int z) ys = (refl, refl)
 
 leaf_places : (names : List tree.Name) (x : ℕ) (l : Leaf) → leaf_occurrences x (leaf_of names l) ≡ places x (links_in (l ∷ []))
-leaf_places names x (Atom f os p) = rw (append-nil os) (atom_places names x f.label (map (λ o. o.link) os))
+leaf_places names x (Atom f os p) = rw (append-nil os) (atom_places names x f.label (map (λ o. o.link) os)).0
 leaf_places names x (Typed n o p) = omega arith
 
 leaves_places : (names : List tree.Name) (x : ℕ) (ls : List Leaf) → leaves_occurrences x (map (leaf_of names) ls) ≡ places x (links_in ls)
@@ -78,16 +79,8 @@ module _ (names : List tree.Name) (rule : ℕ → tree.Rule) (x : ℕ) where
 
 -- ---- the process of a top without contexts
 
-only_atoms : (names : List tree.Name) (x : ℕ) (l : Label) (ys : List ℕ) → occurrences x (leaf_process (atom_of names l ys)) ≡ places x ys
-only_atoms names x (Name zero) [] = refl
-only_atoms names x (Name zero) (a ∷ []) = refl
-only_atoms names x (Name zero) (a ∷ (b ∷ [])) = omega arith
-only_atoms names x (Name zero) (a ∷ (b ∷ (c ∷ ys))) = refl
-only_atoms names x (Name (suc n)) ys = refl
-only_atoms names x (Int z) ys = refl
-
 leaf_alone : (names : List tree.Name) (x : ℕ) (l : Leaf) → IsAtom l → occurrences x (leaf_process (leaf_of names l)) ≡ places x (links_in (l ∷ []))
-leaf_alone names x (Atom f os p) h = rw (append-nil os) (only_atoms names x f.label (map (λ o. o.link) os))
+leaf_alone names x (Atom f os p) h = rw (append-nil os) (atom_places names x f.label (map (λ o. o.link) os)).1
 leaf_alone names x (Typed n o p) h = absurd h
 
 leaves_alone : (names : List tree.Name) (x : ℕ) (ls : List Leaf) → All IsAtom ls → occurrences x (together (map leaf_process (map (leaf_of names) ls))) ≡ places x (links_in ls)
@@ -156,7 +149,7 @@ module _ (names : List tree.Name) (number : ℕ → tree.Rule) (x : ℕ) where
       rw (fold-roll-Region solid.Region (region_step names number) y, fold-roll-Region (List SolidAtom) atoms_step y)
           (omega (arith, atoms_places names x y.atoms, inside, no_link_in_rules x (map number y.rules), both_atoms x y.atoms (inner_atoms y.membranes))))
 
--- ---- what is public
+-- ---- how often a link occurs
 
 cond_plus : (b : Bool) (n : ℕ) → cond b 1 0 + n ≡ cond b (1 + n) n
 cond_plus true n = refl
@@ -165,39 +158,11 @@ cond_plus false n = omega arith
 counted : (x : ℕ) (xs : List ℕ) → count_by (λ y. x == y) xs ≡ places x xs
 counted x xs = sym (is_count_by (places x) (λ y. x == y) refl (λ y ys. cond_plus (x == y) (places x ys)) xs)
 
-exactly_twice : (f g : ℕ → ℕ) → ((x : ℕ) → f x ≡ g x) → ((x : ℕ) → (f x ≡ 0) ⊎ (f x ≡ 2)) ↔ ((x : ℕ) → (g x ≡ 0) ⊎ (g x ≡ 2))
-exactly_twice f g e = (λ h x. subst (λ n. (n ≡ 0) ⊎ (n ≡ 2)) (e x) (h x), λ h x. subst (λ n. (n ≡ 0) ⊎ (n ≡ 2)) (sym (e x)) (h x))
+pub level_links : LevelLinksKept
+level_links names number l x = level_places names number x l ∙ sym (counted x (links_of l))
 
-pub linked_rules : LinkedAlike
-linked_rules names number r = exactly_twice _ _ (λ x.
-    counted x (links_of r.head ++ links_of r.body) ∙ places_append x (links_of r.head) (links_of r.body) ∙
-    sym (ap (λ n. n + level_occurrences x (level_of names number r.body)) (level_places names number x r.head) ∙ ap (λ n. places x (links_of r.head) + n) (level_places names number x r.body)))
+pub top_links : TopLinksKept
+top_links names p w x = top_places names (rule_of names p.rules) x p.top w.only_atoms ∙ sym (counted x (links_of p.top))
 
-pub closed_tops : TopsClosedAlike
-closed_tops names p w = exactly_twice _ _ (λ x. counted x (links_of p.top) ∙ sym (top_places names (rule_of names p.rules) x p.top w.only_atoms))
-
-pub closed_solids : SolidsClosedAlike
-closed_solids names table s = exactly_twice _ _ (λ x. counted x (solid_links s.root) ∙ sym (region_places names (rule_of names table) x s.root))
-
-module _ (names : List tree.Name) (number : ℕ → tree.Rule) where
-  abbrev numbered_region : Region → solid.Region
-  numbered_region = fold-Region solid.Region (region_step names number)
-
-  abbrev SameItems : Region → Type 0
-  SameItems r = solid.items (numbered_region r) ≡ fold-Region ℕ items_step r
-
-  abbrev inner_total : List Region → ℕ
-  inner_total rs = length rs + sum (map (fold-Region ℕ items_step) rs)
-
-  inner_items : (rs : List ((r : Region) × SameItems r)) → solid.items_of_all (regions (map numbered_region (map (λ e. e.0) rs))) ≡ inner_total (map (λ e. e.0) rs)
-  inner_items [] = refl
-  inner_items (e ∷ rs) = omega (arith, e.1, inner_items rs, sum_by-cons (λ n. n) (fold-Region ℕ items_step e.0) (map (fold-Region ℕ items_step) (map (λ e. e.0) rs)))
-
-  same_items : (r : Region) → SameItems r
-  same_items = ind-Region SameItems (λ y z is.
-      let inside = subst (λ r. solid.items_of_all (regions (map numbered_region r.membranes)) ≡ inner_total r.membranes) is (inner_items z.membranes) in
-      rw (fold-roll-Region solid.Region (region_step names number) y, fold-roll-Region ℕ items_step y)
-          (omega (arith, inside, length-map y.atoms (solid_atom_of names), length-map y.rules number, length-map y.membranes (fold-Region ℕ items_step))))
-
-pub items_alike : ItemsAlike
-items_alike names table s = same_items names (rule_of names table) s.root
+pub solid_links_kept : SolidLinksKept
+solid_links_kept names table s x = region_places names (rule_of names table) x s.root ∙ sym (counted x (solid_links s.root))
