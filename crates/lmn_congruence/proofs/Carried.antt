@@ -1,10 +1,10 @@
 -- A map of links that joins connectors is carried along a congruence, and gives the same process up to order.
-use Rattle.std.proofs.Common.{ℕ, ◌≡◌, ◌≢◌, ◌+◌, ◌≤◌, ◌⊎◌, cond, eqb, List, [], ◌∷◌, map, refl, sym, ◌∙◌, ap, inl, inr, arith}
+use Rattle.std.proofs.Common.{ℕ, ◌≡◌, ◌≢◌, ◌+◌, ◌≤◌, ◌⊎◌, cond, eqb, refl, sym, ◌∙◌, ap, inl, inr, arith}
 use Rattle.lmn_congruence.specs.Process.{Process, nothing, connector, atom, pair, membrane, rule, occurrences, replace, Free, Fresh, Linked, substitute}
 use Rattle.lmn_congruence.specs.Congruence.{Congruent, unit, swap, regroup, rename, beside, inside, loop, turn, absorb, pass, same, back, chain}
 use Rattle.lmn_congruence.specs.Fused.{Joins, fused}
 use Rattle.lmn_congruence.specs.UpToOrder.{Reordered, r_unit, r_swap, r_regroup, r_beside, r_inside, r_same, r_back, r_chain}
-use Rattle.lmn_congruence.proofs.Counts.{same_or_not, Alike, same_free, fresh_differs, apart, occurrences_old, in_left, in_right, first_in, second_in, occurs_once, map_agree, map_after, replaced_here, replaced_other}
+use Rattle.lmn_congruence.proofs.Counts.{same_or_not, Alike, flip_alike, same_free, fresh_differs, apart, occurrences_old, in_left, in_right, first_in, second_in, occurs_once, map_agree, map_after, replaced_here, replaced_other}
 use Rattle.lmn_congruence.proofs.Reordered.{nothing_out}
 
 -- maps that agree on the links of a process
@@ -166,9 +166,6 @@ carried_beside P P' Q f l l' i = λ v k.
 
     paired : {X X' Y Y' : Process} → X ≡ X' → Y ≡ Y' → pair X Y ≡ pair X' Y'
     paired e f = cc (e, f)
-
-pub flip_alike : (m n : ℕ) → Alike m n → Alike n m
-flip_alike m n a = record { there = a.back_again; back_again = a.there }
 
 -- congruence carries maps, both ways
 pub congruence_carries : {P Q : Process} → Congruent P Q → Carries P Q × Carries Q P

@@ -1,5 +1,5 @@
 -- How often links occur, in lists and in processes.
-use Rattle.std.proofs.Common.{ℕ, ◌≡◌, ◌≢◌, ◌+◌, ◌≤◌, ◌⊎◌, List, [], ◌∷◌, map, refl, inl, inr, arith}
+use Rattle.std.proofs.Common.{ℕ, suc, ◌≡◌, ◌≢◌, ◌+◌, ◌≤◌, ◌⊎◌, List, [], ◌∷◌, map, refl, inl, inr, arith}
 use Rattle.lmn_congruence.specs.Links.{one_if_same, places}
 use Rattle.lmn_congruence.specs.Process.{Process, nothing, connector, atom, pair, membrane, rule, occurrences, replace, Free, Local, Fresh, Linked, substitute}
 use Rattle.lmn_congruence.specs.Congruence.{Congruent, unit, swap, regroup, rename, beside, inside, loop, turn, absorb, pass, same, back, chain}
@@ -25,6 +25,13 @@ one_new new old z n = grind arith
 
 pub one_bound : (x y : ℕ) → one_if_same x y ≤ 1
 one_bound x y = grind arith
+
+-- the two links of a connector
+pub count_first : (x y n : ℕ) → x ≢ y → one_if_same x x + one_if_same x y + n ≡ suc n
+count_first x y n d = grind arith
+
+pub count_second : (x y n : ℕ) → x ≢ y → one_if_same y x + one_if_same y y + n ≡ suc n
+count_second x y n d = grind arith
 
 -- the same for processes
 pub occurrences_other : (new old x : ℕ) (P : Process) → new ≢ old → x ≢ old → x ≢ new → occurrences x (substitute new old P) ≡ occurrences x P
@@ -126,6 +133,9 @@ linked_both (chain d e) = ((linked_both d).0, (linked_both e).1)
 pub record Alike (m n : ℕ) : Type 0 where
   pub there : m ≡ 1 → n ≡ 1
   pub back_again : n ≡ 1 → m ≡ 1
+
+pub flip_alike : (m n : ℕ) → Alike m n → Alike n m
+flip_alike m n a = record { there = a.back_again; back_again = a.there }
 
 pub alike_sum : (m n k : ℕ) → Alike m n → m + k ≤ 2 → n + k ≤ 2 → Alike (m + k) (n + k)
 alike_sum m n k a p q = grind arith

@@ -1,156 +1,115 @@
--- No process has fewer links across its membranes than it has when its connectors are fused.
-use Rattle.std.proofs.Common.{ℕ, zero, suc, ◌≡◌, ◌≢◌, ◌+◌, ◌*◌, ◌≤◌, ◌<◌, ◌⊎◌, cond, eqb, List, [], ◌∷◌, map, refl, sym, ◌∙◌, ap, inl, inr, arith}
+-- The links that cross membranes.
+use Rattle.std.proofs.Common.{ℕ, suc, ◌≡◌, ◌≢◌, ◌+◌, ◌≤◌, ◌⊎◌, List, [], ◌∷◌, refl, sym, ◌∙◌, ap, inl, inr, zero-add, arith}
 use Rattle.lmn_congruence.specs.Links.{one_if_same, places}
-use Rattle.lmn_congruence.specs.Process.{Process, nothing, connector, atom, pair, membrane, rule, occurrences, Linked, renamed}
-use Rattle.lmn_congruence.specs.Fused.{Joins, fused}
-use Rattle.lmn_congruence.specs.LinkMaps.{SameCrossings}
+use Rattle.lmn_congruence.specs.Process.{Process, nothing, connector, atom, pair, membrane, rule, occurrences, Fresh, Linked, substitute}
+use Rattle.lmn_congruence.specs.Congruence.{Congruent, unit, swap, regroup, rename, beside, inside, loop, turn, absorb, pass, same, back, chain, IsAtom, a_connector, an_atom, ExactlyOneFree}
 use Rattle.lmn_congruence.specs.FreeLinks.{total, above_all, top_of, one_if_once, one_if_free, free_number}
-use Rattle.lmn_congruence.proofs.Counts.{same_or_not, linked_left, linked_right, linked_inside}
-use Rattle.lmn_congruence.proofs.Totals.{total_same, total_sum, total_zero, total_at_most, highest}
-use Rattle.lmn_congruence.proofs.Walls.{free_number_below, crossings}
+use Rattle.lmn_congruence.proofs.Counts.{count_first, count_second, Alike, same_free, fresh_differs, occurrences_old, occurrences_new, occurrences_other}
+use Rattle.lmn_congruence.proofs.Totals.{total_same, total_two, total_past}
 
--- ---- the links that go to one link
+pub places_above : (x : ℕ) (xs : List ℕ) → above_all xs ≤ x → places x xs ≡ 0
+places_above x [] b = refl
+places_above x (y ∷ ys) b = let i = places_above x ys (omega arith) in grind arith
 
--- f at the links that go to z
-abbrev pub with_image : (ℕ → ℕ) → ℕ → (ℕ → ℕ) → ℕ → ℕ
-with_image v z f y = cond (eqb (v y) z) (f y) 0
+pub occurrences_above : (x : ℕ) (P : Process) → top_of P ≤ x → occurrences x P ≡ 0
+occurrences_above x nothing b = refl
+occurrences_above x (connector y z) b = grind arith
+occurrences_above x (atom a ys) b = places_above x ys b
+occurrences_above x (pair P Q) b = omega (arith, occurrences_above x P (omega arith), occurrences_above x Q (omega arith))
+occurrences_above x (membrane P) b = occurrences_above x P b
+occurrences_above x (rule r) b = refl
 
-image_sum : (v : ℕ → ℕ) (z : ℕ) (f g : ℕ → ℕ) (y : ℕ) → with_image v z (λ y. f y + g y) y ≡ with_image v z f y + with_image v z g y
-image_sum v z f g y = grind arith
+pub free_number_below : (n : ℕ) (P : Process) → top_of P ≤ n → total n (one_if_free P) ≡ free_number P
+free_number_below n P b = total_past (top_of P) n (one_if_free P) b (λ z c. ap one_if_once (occurrences_above z P c))
 
-total_image_sum : (n : ℕ) (v : ℕ → ℕ) (z : ℕ) (f g : ℕ → ℕ) → total n (with_image v z (λ y. f y + g y)) ≡ total n (with_image v z f) + total n (with_image v z g)
-total_image_sum n v z f g = total_same n _ _ (λ y b. image_sum v z f g y) ∙ total_sum n (with_image v z f) (with_image v z g)
+pub one_if_free_alike : (m n : ℕ) → Alike m n → one_if_once m ≡ one_if_once n
+one_if_free_alike m n a = grind arith
 
-image_zero : (v : ℕ → ℕ) (z y : ℕ) → with_image v z (λ y. 0) y ≡ 0
-image_zero v z y = grind arith
+pub free_number_alike : (P Q : Process) → ((x : ℕ) → Alike (occurrences x P) (occurrences x Q)) → free_number P ≡ free_number Q
+free_number_alike P Q h =
+    sym (free_number_below (top_of P + top_of Q) P (omega arith))
+    ∙ total_same (top_of P + top_of Q) (one_if_free P) (one_if_free Q) (λ z b. one_if_free_alike (occurrences z P) (occurrences z Q) (h z))
+    ∙ free_number_below (top_of P + top_of Q) Q (omega arith)
 
--- one link has one image
-image_one_past : (n : ℕ) (v : ℕ → ℕ) (z x : ℕ) → n ≤ x → total n (with_image v z (λ y. one_if_same y x)) ≡ 0
-image_one_past zero v z x b = refl
-image_one_past (suc n) v z x b = let i = image_one_past n v z x (omega arith) in grind arith
+pub same_number : (P Q : Process) → ((z : ℕ) → occurrences z P ≡ occurrences z Q) → free_number P ≡ free_number Q
+same_number P Q h = free_number_alike P Q (λ z. let e = h z in record { there = (λ p. omega arith); back_again = (λ p. omega arith) })
 
-image_one_here : (n : ℕ) (v : ℕ → ℕ) (z x t : ℕ) → x ≡ n → t ≡ 0 → cond (eqb (v n) z) (one_if_same n x) 0 + t ≡ one_if_same z (v x)
-image_one_here n v z x t e p = rw (p, e) (grind arith)
+-- where two processes have the same free links but at two links
+pub free_number_two : (x y : ℕ) (P Q : Process) → x ≢ y → ((z : ℕ) → z ≢ x → z ≢ y → one_if_free P z ≡ one_if_free Q z) → free_number P + (one_if_free Q x + one_if_free Q y) ≡ free_number Q + (one_if_free P x + one_if_free P y)
+free_number_two x y P Q d h =
+    let n = suc x + suc y + top_of P + top_of Q in
+    rw (← free_number_below n P (omega arith)) (rw (← free_number_below n Q (omega arith)) (total_two n x y (one_if_free P) (one_if_free Q) d (omega arith) (omega arith) h))
 
-image_one : (n : ℕ) (v : ℕ → ℕ) (z x : ℕ) → x < n → total n (with_image v z (λ y. one_if_same y x)) ≡ one_if_same z (v x)
-image_one zero v z x b = absurd (go b)
-  where
-    go : ¬ (x < 0)
-    go = omega arith
-image_one (suc n) v z x b = go (same_or_not x n) (λ c. image_one n v z x c)
-  where
-    go : (x ≡ n) ⊎ (x ≢ n) → (x < n → total n (with_image v z (λ y. one_if_same y x)) ≡ one_if_same z (v x)) → cond (eqb (v n) z) (one_if_same n x) 0 + total n (with_image v z (λ y. one_if_same y x)) ≡ one_if_same z (v x)
-    go (inl e) i = image_one_here n v z x (total n (with_image v z (λ y. one_if_same y x))) e (image_one_past n v z x (omega arith))
-    go (inr e) i = let p = i (omega arith) in grind arith
+pub free_number_renamed : (x y : ℕ) (P : Process) → y ≢ x → Fresh y P → free_number (substitute y x P) ≡ free_number P
+free_number_renamed x y P d n =
+    let Q = substitute y x P in
+    let o : occurrences x Q ≡ 0 = occurrences_old y x P d in
+    let i : occurrences y Q ≡ occurrences x P = occurrences_new y x P d ∙ (rw n (zero-add (occurrences x P))) in
+    let t = free_number_two x y P Q (λ e. d (sym e)) (λ z p q. ap one_if_once (sym (occurrences_other y x z P d p q))) in
+    omega (arith, t, ap one_if_once o, ap one_if_once i, ap one_if_once n)
 
--- how often links that go to z stand in a list, and in a process
-image_places : (n : ℕ) (v : ℕ → ℕ) (z : ℕ) (xs : List ℕ) → above_all xs ≤ n → total n (with_image v z (λ y. places y xs)) ≡ places z (map v xs)
-image_places n v z [] b = total_zero n _ (λ y. image_zero v z y)
-image_places n v z (x ∷ xs) b = omega (arith, total_image_sum n v z (λ y. one_if_same y x) (λ y. places y xs), image_one n v z x (omega arith), image_places n v z xs (omega arith))
+-- the number of links that cross a membrane, summed over all membranes
+abbrev pub crossings : Process → ℕ
+crossings nothing = 0
+crossings (connector x y) = 0
+crossings (atom a xs) = 0
+crossings (pair P Q) = crossings P + crossings Q
+crossings (membrane P) = free_number P + crossings P
+crossings (rule r) = 0
 
-pub image_count : (n : ℕ) (v : ℕ → ℕ) (z : ℕ) (P : Process) → top_of P ≤ n → total n (with_image v z (λ y. occurrences y P)) ≡ occurrences z (renamed v P)
-image_count n v z nothing b = total_zero n _ (λ y. image_zero v z y)
-image_count n v z (connector x x') b = omega (arith, total_image_sum n v z (λ y. one_if_same y x) (λ y. one_if_same y x'), image_one n v z x (omega arith), image_one n v z x' (omega arith))
-image_count n v z (atom a xs) b = image_places n v z xs b
-image_count n v z (pair P Q) b = omega (arith, total_image_sum n v z (λ y. occurrences y P) (λ y. occurrences y Q), image_count n v z P (omega arith), image_count n v z Q (omega arith))
-image_count n v z (membrane P) b = image_count n v z P b
-image_count n v z (rule r) b = total_zero n _ (λ y. image_zero v z y)
+pub crossings_renamed : (x y : ℕ) (P : Process) → y ≢ x → Fresh y P → crossings (substitute y x P) ≡ crossings P
+crossings_renamed x y nothing d n = refl
+crossings_renamed x y (connector z z') d n = refl
+crossings_renamed x y (atom a xs) d n = refl
+crossings_renamed x y (pair P Q) d n = omega (arith, crossings_renamed x y P d (omega arith), crossings_renamed x y Q d (omega arith))
+crossings_renamed x y (membrane P) d n = rw (free_number_renamed x y P d n, crossings_renamed x y P d n) refl
+crossings_renamed x y (rule r) d n = refl
 
--- the two links of a connector add an even number of places
-image_even : (v : ℕ → ℕ) (z : ℕ) (P : Process) → Joins v P → (k : ℕ) × (occurrences z (renamed v P) ≡ occurrences z (fused v P) + k * 2)
-image_even v z nothing h = (0, refl)
-image_even v z (connector x y) h = (one_if_same z (v x), rw (← h) (omega arith))
-image_even v z (atom a xs) h = (0, omega arith)
-image_even v z (pair P Q) h = let i = image_even v z P h.0 in let j = image_even v z Q h.1 in (i.0 + j.0, omega (arith, i.1, j.1))
-image_even v z (membrane P) h = image_even v z P h
-image_even v z (rule r) h = (0, refl)
+pub crossings_atom : (P : Process) → IsAtom P → crossings P ≡ 0
+crossings_atom P a_connector = refl
+crossings_atom P an_atom = refl
 
-two_if : ℕ → ℕ
-two_if n = cond (eqb n 2) 1 0
+pub atom_replaced : (x y : ℕ) (P : Process) → IsAtom P → IsAtom (substitute y x P)
+atom_replaced x y P a_connector = a_connector
+atom_replaced x y P an_atom = an_atom
 
-split_count : (n : ℕ) → n ≤ 2 → n ≡ one_if_once n + (two_if n + two_if n)
-unfolding two_if
-split_count n b = grind arith
+pub passed_apart : (x y : ℕ) (P : Process) → ExactlyOneFree x y P → x ≢ y
+passed_apart x y P (inl e) = λ q. e.1 (rw (← q) e.0)
+passed_apart x y P (inr e) = λ q. e.1 (rw q e.0)
 
-odd_one : (a f t k : ℕ) → f + (t + t) ≡ a + k * 2 → one_if_once a ≤ f
-odd_one a f t k e = go (same_or_not a 1)
-  where
-    go : (a ≡ 1) ⊎ (a ≢ 1) → one_if_once a ≤ f
-    go (inl p) = let q : f + (t + t) ≡ 1 + k * 2 = e ∙ ap (λ n. n + k * 2) p in rw p (omega arith)
-    go (inr p) = grind arith
+pub passed_other : (x y z n : ℕ) → z ≢ x → z ≢ y → n ≡ one_if_same z x + one_if_same z y + n
+passed_other x y z n p q = grind arith
 
--- an image that is free in the fused process has a free link
-pub free_image : (v : ℕ → ℕ) (z : ℕ) (P : Process) → Joins v P → Linked P → one_if_once (occurrences z (fused v P)) ≤ total (top_of P) (with_image v z (one_if_free P))
-free_image v z P h l =
-    let n = top_of P in
-    let twos : ℕ → ℕ = λ y. two_if (occurrences y P) in
-    let split : total n (with_image v z (λ y. occurrences y P)) ≡ total n (with_image v z (λ y. one_if_free P y + (twos y + twos y))) = total_same n _ _ (λ y b. ap (λ k. cond (eqb (v y) z) k 0) (split_count (occurrences y P) (l.at_most_twice y))) in
-    let even = image_even v z P h in
-    odd_one (occurrences z (fused v P)) (total n (with_image v z (one_if_free P))) (total n (with_image v z twos)) even.0
-    (sym (total_image_sum n v z (one_if_free P) (λ y. twos y + twos y) ∙ ap (λ k. total n (with_image v z (one_if_free P)) + k) (total_image_sum n v z twos twos)) ∙ sym split ∙ image_count n v z P (omega arith) ∙ even.1)
+-- of two links one occurs once, and after a connector of the two it is the other
+pub passed_counts : (m n : ℕ) → (m ≡ 1) × (n ≢ 1) ⊎ (n ≡ 1) × (m ≢ 1) → suc m ≤ 2 → suc n ≤ 2 → one_if_once (suc m) + one_if_once (suc n) ≡ one_if_once m + one_if_once n
+passed_counts m n e k l = grind arith
 
--- the sum over all images is the whole sum
-pub image_pick_past : (n x k : ℕ) → n ≤ x → total n (λ z. cond (eqb x z) k 0) ≡ 0
-image_pick_past zero x k b = refl
-image_pick_past (suc n) x k b = let i = image_pick_past n x k (omega arith) in grind arith
+pub passed_sum : (x y : ℕ) (P : Process) → ExactlyOneFree x y P → Linked (pair (connector x y) P) → one_if_free (pair (connector x y) P) x + one_if_free (pair (connector x y) P) y ≡ one_if_free P x + one_if_free P y
+passed_sum x y P e l =
+    let d : x ≢ y = passed_apart x y P e in
+    let a = count_first x y (occurrences x P) d in
+    let b = count_second x y (occurrences y P) d in
+    rw (a, b) (passed_counts (occurrences x P) (occurrences y P) e (rw (← a) (l.at_most_twice x)) (rw (← b) (l.at_most_twice y)))
 
-image_pick_here : (n x k t : ℕ) → x ≡ n → t ≡ 0 → cond (eqb x n) k 0 + t ≡ k
-image_pick_here n x k t e p = rw (p, e) (grind arith)
+pub free_number_passed : (x y : ℕ) (P : Process) → ExactlyOneFree x y P → Linked (pair (connector x y) P) → free_number (pair (connector x y) P) ≡ free_number P
+free_number_passed x y P e l =
+    let Q = pair (connector x y) P in
+    let d : x ≢ y = passed_apart x y P e in
+    let t = free_number_two x y P Q d (λ z p q. ap one_if_once (passed_other x y z (occurrences z P) p q)) in
+    omega (arith, t, passed_sum x y P e l)
 
-pub image_pick : (n x k : ℕ) → x < n → total n (λ z. cond (eqb x z) k 0) ≡ k
-image_pick zero x k b = absurd (go b)
-  where
-    go : ¬ (x < 0)
-    go = omega arith
-image_pick (suc n) x k b = go (same_or_not x n) (λ c. image_pick n x k c)
-  where
-    go : (x ≡ n) ⊎ (x ≢ n) → (x < n → total n (λ z. cond (eqb x z) k 0) ≡ k) → cond (eqb x n) k 0 + total n (λ z. cond (eqb x z) k 0) ≡ k
-    go (inl e) i = image_pick_here n x k _ e (image_pick_past n x k (omega arith))
-    go (inr e) i = let p = i (omega arith) in grind arith
-
-pub all_images : (N n : ℕ) (v f : ℕ → ℕ) → ((y : ℕ) → y < n → v y < N) → total N (λ z. total n (with_image v z f)) ≡ total n f
-all_images N zero v f h = total_zero N _ (λ z. refl)
-all_images N (suc n) v f h = omega (arith, total_sum N (λ z. with_image v z f n) (λ z. total n (with_image v z f)), image_pick N (v n) (f n) (h n (omega arith)), all_images N n v f (λ y b. h y (omega arith)))
-
-pub free_number_fused : (v : ℕ → ℕ) (P : Process) → Joins v P → Linked P → free_number (fused v P) ≤ free_number P
-free_number_fused v P h l =
-    let n = top_of P in
-    let N = top_of (fused v P) + total n (λ y. suc (v y)) in
-    let a = total_at_most N (one_if_free (fused v P)) (λ z. total n (with_image v z (one_if_free P))) (λ z. free_image v z P h l) in
-    let b = all_images N n v (one_if_free P) (λ y q. at y q) in
-    omega (arith, a, b, free_number_below N (fused v P) (omega arith))
-  where
-    at : (y : ℕ) → y < top_of P → v y < top_of (fused v P) + total (top_of P) (λ y. suc (v y))
-    at y q = omega (arith, highest (top_of P) v y q)
-
--- No process has fewer crossings than it has when its connectors are fused.
-pub crossings_fused : (v : ℕ → ℕ) (P : Process) → Joins v P → Linked P → crossings (fused v P) ≤ crossings P
-crossings_fused v nothing h l = omega arith
-crossings_fused v (connector x y) h l = omega arith
-crossings_fused v (atom a xs) h l = omega arith
-crossings_fused v (pair P Q) h l = omega (arith, crossings_fused v P h.0 (linked_left l), crossings_fused v Q h.1 (linked_right l))
-crossings_fused v (membrane P) h l = omega (arith, crossings_fused v P h (linked_inside l), (free_number_fused v P h (linked_inside l)))
-crossings_fused v (rule r) h l = omega arith
-
--- the same number over all membranes is the same number at each
-pub same_crossings_each : (v : ℕ → ℕ) (P : Process) → Joins v P → Linked P → crossings (fused v P) ≡ crossings P → SameCrossings v P
-same_crossings_each v nothing h l e = tt
-same_crossings_each v (connector x y) h l e = tt
-same_crossings_each v (atom a xs) h l e = tt
-same_crossings_each v (pair P Q) h l e =
-    let p = crossings_fused v P h.0 (linked_left l) in
-    let q = crossings_fused v Q h.1 (linked_right l) in
-    (same_crossings_each v P h.0 (linked_left l) (omega arith), same_crossings_each v Q h.1 (linked_right l) (omega arith))
-same_crossings_each v (membrane P) h l e =
-    let p = crossings_fused v P h (linked_inside l) in
-    let q = free_number_fused v P h (linked_inside l) in
-    (omega arith, same_crossings_each v P h (linked_inside l) (omega arith))
-same_crossings_each v (rule r) h l e = tt
-
-pub same_crossings_all : (v : ℕ → ℕ) (P : Process) → SameCrossings v P → crossings (fused v P) ≡ crossings P
-same_crossings_all v nothing e = refl
-same_crossings_all v (connector x y) e = refl
-same_crossings_all v (atom a xs) e = refl
-same_crossings_all v (pair P Q) e = omega (arith, same_crossings_all v P e.0, same_crossings_all v Q e.1)
-same_crossings_all v (membrane P) e = omega (arith, same_crossings_all v P e.1, e.0)
-same_crossings_all v (rule r) e = refl
+-- congruence keeps the number of links that cross each wall
+pub same_crossings : {P Q : Process} → Congruent P Q → crossings P ≡ crossings Q
+same_crossings (unit l) = omega arith
+same_crossings (swap l) = omega arith
+same_crossings (regroup l) = omega arith
+same_crossings (rename {P = P} x y l f n) = sym (crossings_renamed x y P (fresh_differs x y P f n) n)
+same_crossings (beside d l l') = omega (arith, same_crossings d)
+same_crossings (inside {P = P} {P' = P'} d) = rw (free_number_alike P P' (same_free d), same_crossings d) refl
+same_crossings loop = refl
+same_crossings turn = refl
+same_crossings (absorb {P = P} x y a f l) = omega (arith, crossings_atom P a, crossings_atom (substitute y x P) (atom_replaced x y P a))
+same_crossings (pass {P = P} x y e l) = rw (free_number_passed x y P e l) (omega arith)
+same_crossings (same l) = refl
+same_crossings (back d) = sym (same_crossings d)
+same_crossings (chain d e) = same_crossings d ∙ same_crossings e

@@ -2,7 +2,7 @@
 use Rattle.lmn_congruence.specs.Process.{Process}
 use Rattle.lmn_congruence.specs.Congruence.{Congruent, same, back}
 use Rattle.lmn_congruence.specs.reduction.Steps.{Derived, up_to}
-use Rattle.lmn_congruence.specs.reduction.Commits.{Settled, Settles, Commit, Irreducible, already}
+use Rattle.lmn_congruence.specs.reduction.Commits.{already}
 use Rattle.lmn_congruence.specs.reduction.Laws.{KeepsSettled, KeepsSettles, KeepsCommit, KeepsIrreducible}
 use Rattle.lmn_congruence.proofs.SettlingSteps.{linked_derived}
 use Rattle.lmn_congruence.proofs.SettledProcesses.{settle_after, towards_joined}

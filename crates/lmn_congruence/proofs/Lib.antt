@@ -1,11 +1,14 @@
+pub mod NumberedRules
+pub mod TranslatedLinks
+pub mod TranslatedItems
 pub mod Counts
 pub mod Totals
-pub mod Walls
+pub mod Crossings
 pub mod Shuffles
 pub mod Reordered
 pub mod Carried
 pub mod Renaming
-pub mod Crossings
+pub mod FewestCrossings
 pub mod LinkMaps
 pub mod Solids
 pub mod SettlingSteps
@@ -14,8 +17,7 @@ pub mod Merges
 pub mod SettledForms
 pub mod Plains
 pub mod Derivations
+pub mod ExampleSteps
 pub mod Redexes
 pub mod Kept
-pub mod NumberedRules
-pub mod TranslatedLinks
-pub mod TranslatedItems
+pub mod InnerLink

@@ -8,11 +8,11 @@ use Rattle.lmn_congruence.specs.UpToOrder.{Reordered, r_same, r_back, r_chain}
 use Rattle.lmn_congruence.specs.LinkMaps.{ReadsAs}
 use Rattle.lmn_congruence.specs.Laws.{BothSidesLinked, SameFreeLinks}
 use Rattle.lmn_congruence.proofs.Counts.{same_or_not, same_free, linked_both, Occurs}
-use Rattle.lmn_congruence.proofs.Walls.{same_crossings}
+use Rattle.lmn_congruence.proofs.Crossings.{same_crossings}
 use Rattle.lmn_congruence.proofs.Reordered.{reordered_crossings}
 use Rattle.lmn_congruence.proofs.Carried.{congruence_carries}
 use Rattle.lmn_congruence.proofs.Renaming.{rename_all, renamed_id}
-use Rattle.lmn_congruence.proofs.Crossings.{same_crossings_each}
+use Rattle.lmn_congruence.proofs.FewestCrossings.{same_crossings_each}
 
 -- ---- processes without connectors
 

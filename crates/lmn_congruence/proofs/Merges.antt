@@ -1,11 +1,11 @@
 -- Every process goes, by congruence and settling steps that bring in no new link, to connectors beside a process without any.
-use Rattle.std.proofs.Common.{ℕ, zero, suc, ◌≡◌, ◌≢◌, ◌+◌, ◌≤◌, ◌⊎◌, List, [], ◌∷◌, ◌++◌, length, map, refl, sym, ap, inl, inr, arith}
+use Rattle.std.proofs.Common.{ℕ, zero, suc, ◌≡◌, ◌≢◌, ◌+◌, ◌≤◌, ◌⊎◌, List, [], ◌∷◌, ◌++◌, length, map, refl, sym, ◌∙◌, ap, inl, inr, arith}
 use Rattle.lmn_congruence.specs.Links.{one_if_same, places}
 use Rattle.lmn_congruence.specs.Process.{Process, nothing, connector, atom, pair, membrane, rule, occurrences, replace, Free, Fresh, Linked, substitute}
-use Rattle.lmn_congruence.specs.Congruence.{Congruent, unit, swap, regroup, beside, inside, loop, turn, absorb, pass, same, back, chain, IsAtom, a_connector, an_atom}
-use Rattle.lmn_congruence.specs.reduction.Steps.{leaf, beside as derived_beside, inside as derived_inside, up_to, out, into, SettlingStep}
+use Rattle.lmn_congruence.specs.Congruence.{Congruent, unit, swap, regroup, beside, inside, loop, turn, absorb, pass, same, back, IsAtom, a_connector, an_atom}
+use Rattle.lmn_congruence.specs.reduction.Steps.{leaf, beside as derived_beside, inside as derived_inside, out, into, SettlingStep}
 use Rattle.lmn_congruence.specs.reduction.Commits.{SettlesTowards, already, step_and}
-use Rattle.lmn_congruence.proofs.Counts.{same_or_not, Replaced, is_old, is_new, is_other, replaced}
+use Rattle.lmn_congruence.proofs.Counts.{count_first, count_second, same_or_not, Replaced, is_old, is_new, is_other, replaced}
 use Rattle.lmn_congruence.specs.Fused.{NoConnector}
 use Rattle.lmn_congruence.proofs.SettledProcesses.{settle_after}
 
@@ -54,12 +54,6 @@ merge_shrinks (merge_inside d) z = merge_shrinks d z
 pub merge_linked : {P Q : Process} → Merge P Q → Linked P → Linked Q
 merge_linked d l = record { at_most_twice = λ z. omega (arith, merge_shrinks d z, l.at_most_twice z) }
 
-count_at_first : (x y n : ℕ) → x ≢ y → n ≡ 0 → one_if_same x x + one_if_same x y + n ≡ 1
-count_at_first x y n d e = grind arith
-
-count_at_second : (x y n : ℕ) → x ≢ y → n ≡ 0 → one_if_same y x + one_if_same y y + n ≡ 1
-count_at_second x y n d e = grind arith
-
 -- each such step is a congruence or a settling step
 pub merge_is : {P Q : Process} → Merge P Q → Linked P → Congruent P Q ⊎ SettlingStep P Q
 merge_is (drop_unit {P = P}) l = inl (unit (record { at_most_twice = λ z. omega (arith, l.at_most_twice z) }))
@@ -71,7 +65,7 @@ merge_is vanish l = inl loop
 merge_is turn_round l = inl turn
 merge_is (fuse x y a f n) l = inl (absorb x y a f l)
 merge_is (leave {P = P} x y d f g) l =
-    inr (leaf (out x y d (count_at_first x y (occurrences x P) d f) (count_at_second x y (occurrences y P) d g)) l (record { at_most_twice = λ z. omega (arith, l.at_most_twice z) }))
+    inr (leaf (out x y d (count_first x y (occurrences x P) d ∙ ap suc f) (count_second x y (occurrences y P) d ∙ ap suc g)) l (record { at_most_twice = λ z. omega (arith, l.at_most_twice z) }))
 merge_is (enter x y d f g) l = inr (leaf (into x y d f g) l (record { at_most_twice = λ z. omega (arith, l.at_most_twice z) }))
 merge_is (enter_half x y d f g) l = inl (back (pass x y (inl (f, g)) (record { at_most_twice = λ z. omega (arith, l.at_most_twice z) })))
 merge_is (merge_beside {P = P} {P' = P'} {Q = Q} d) l =
@@ -220,12 +214,6 @@ push_again n x y ps C again b plain f d l =
     let m = merges_along (push x y (pair (row ps) C) f d) e in
     gathered_from m (omega arith) (again (replace_wires y x ps) (substitute y x C) (rw (replace_wires_length y x ps) b) (no_connector_substituted y x C plain) (linked_merged m l))
 
-count_two : (x y n : ℕ) → x ≢ y → one_if_same x x + one_if_same x y + n ≤ 2 → n ≤ 1
-count_two x y n d b = grind arith
-
-count_two' : (x y n : ℕ) → x ≢ y → one_if_same y x + one_if_same y y + n ≤ 2 → n ≤ 1
-count_two' x y n d b = grind arith
-
 zero_or_one : (n : ℕ) → n ≤ 1 → (n ≡ 0) ⊎ (n ≡ 1)
 zero_or_one n b = grind arith
 
@@ -248,8 +236,8 @@ add_wire : (n x y : ℕ) (ps : List (ℕ × ℕ)) (C : Process) → Gathers n �
 add_wire n x y ps C again b plain o l (inl e) =
     gathered_from (rw e (then (merge_beside vanish) (one_merge drop_unit))) (omega arith) (record { wires = ps; core = C; plain = plain; merges = done; opens = o; few = b })
 add_wire n x y ps C again b plain o l (inr d) =
-    elim (zero_or_one (occurrences x W) (count_two x y (occurrences x W) d (l.at_most_twice x))) [
-      | inl f ↦ elim (zero_or_one (occurrences y W) (count_two' x y (occurrences y W) d (l.at_most_twice y))) [
+    elim (zero_or_one (occurrences x W) (omega (arith, count_first x y (occurrences x W) d, l.at_most_twice x))) [
+      | inl f ↦ elim (zero_or_one (occurrences y W) (omega (arith, count_second x y (occurrences y W) d, l.at_most_twice y))) [
         | inl g ↦ open_wire n x y ps C b plain o d f g
         | inr g ↦ gathered_from (one_merge (merge_beside turn_round)) (omega arith) (push_again n y x ps C again b plain g d (turned l))
       ]

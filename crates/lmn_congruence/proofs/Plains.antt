@@ -3,13 +3,14 @@ use Rattle.std.proofs.Common.{ℕ, ◌≡◌, List, [], ◌∷◌, map, refl, sy
 use Rattle.lmn_congruence.proofs.Counts.{linked_as}
 use Rattle.lmn_congruence.proofs.Reordered.{r_right, reordered_congruent, reordered_count}
 use Rattle.lmn_congruence.proofs.LinkMaps.{closed_leaves, closed_linked}
-use Rattle.lmn_congruence.proofs.Solids.{region_plain}
-use Rattle.lmn_congruence.proofs.SettledProcesses.{no_connector_settled, towards_joined}
-use Rattle.lmn_congruence.proofs.SettledForms.{settles_fused}
+use Rattle.lmn_congruence.proofs.Solids.{region_plain, congruent_same}
+use Rattle.lmn_congruence.proofs.SettledProcesses.{no_connector_settled, towards_joined, towards_closed}
+use Rattle.lmn_congruence.proofs.SettledForms.{settles_fused, closed_form, read_back, settles_once}
 use Rattle.lmn_congruence.specs.UpToOrder.{Reordered, r_unit, r_beside, r_inside, r_same, r_chain}
-use Rattle.lmn_congruence.specs.Process.{Process, pair, rule, Linked, Closed, Process, together}
+use Rattle.lmn_congruence.specs.Process.{pair, rule, Linked, Closed, together}
 use Rattle.lmn_congruence.specs.Rules.{Rule, Leaf, atom_leaf, connector_leaf, typed_leaf, Level, level, Levels, no_level, level_and, rules_list}
 use Rattle.lmn_congruence.specs.Fused.{fused}
+use Rattle.lmn_congruence.specs.reduction.Laws.{PlainHasSolid, SolidIsOne}
 use Rattle.lmn_congruence.specs.reduction.Commits.{Settles, already}
 use Rattle.lmn_congruence.specs.Regions.{Region, region_process, atom_process, regions_processes}
 use Rattle.lmn_congruence.specs.Plains.{leaf_process, level_process, levels_processes, fused_leaves, fused_level, fused_levels, SolidOf}
@@ -41,3 +42,24 @@ plain_settles top S c s =
     let k : Linked (fused s.to P) = linked_as (λ z. sym (reordered_count o z)) l in
     let t = settles_fused s.to P (closed_linked c) s.joins (closed_leaves s.to P c) k in
     record { settled = no_connector_settled (region_process S) (region_plain S); towards = towards_joined t.towards (already (reordered_congruent o k)) }
+
+-- ---- the solid of a plain
+
+pub plain_has_solid : PlainHasSolid
+plain_has_solid top c =
+    let P = level_process top in
+    let f = closed_form P c in
+    let v = read_back P f.form f.plain f.towards in
+    let k = towards_closed f.towards c in (
+      fused_level v.0 top,
+      record {
+        to = v.0;
+        joins = v.1;
+        is = refl;
+        closed = λ z. rw (← reordered_count (level_reordered v.0 top) z, reordered_count v.2 z) (k z);
+      },
+    )
+
+pub solid_is_one : SolidIsOne
+solid_is_one top S S' c s s' =
+    congruent_same S S' s.closed (settles_once (level_process top) (region_process S) (region_process S') c (plain_settles top S c s) (plain_settles top S' c s'))

@@ -1,8 +1,8 @@
 -- A step shows a rule beside an instance of its head, in a congruent process.
-use Rattle.std.proofs.Common.{ℕ, ◌≡◌, ◌≢◌, ◌+◌, ◌≤◌, ◌<◌, ◌⊎◌, cond, eqb, List, [], ◌∷◌, map, refl, sym, ◌∙◌, ap, subst, inl, inr, arith, ℤ}
-use Rattle.lmn_congruence.specs.Process.{Process, nothing, connector, atom, pair, membrane, rule, occurrences, Free, Linked, renamed, together}
+use Rattle.std.proofs.Common.{ℕ, ◌≡◌, ◌≢◌, ◌+◌, ◌≤◌, ◌<◌, ◌⊎◌, List, [], ◌∷◌, map, refl, sym, ◌∙◌, ap, subst, inl, inr, arith, ℤ}
+use Rattle.lmn_congruence.specs.Process.{Process, nothing, connector, atom, pair, membrane, rule, occurrences, Linked, renamed, together}
 use Rattle.lmn_congruence.specs.Congruence.{Congruent, regroup, beside, inside, back, chain}
-use Rattle.lmn_congruence.specs.Rules.{Name, Leaf, atom_leaf, Level, level, Levels, Rule, head_of, guard_of, Rules, rules_list, Condition, Expression}
+use Rattle.lmn_congruence.specs.Rules.{Name, Leaf, atom_leaf, Level, level, Levels, Rule, head_of, Rules, rules_list, Condition, Expression}
 use Rattle.lmn_congruence.specs.reduction.Firing.{typed_contexts, Matches, fires}
 use Rattle.lmn_congruence.specs.reduction.Redexes.{HasRedex, at_top, in_membrane, ShowsRedex}
 use Rattle.lmn_congruence.specs.FreeLinks.{top_of}
@@ -12,9 +12,9 @@ use Rattle.lmn_congruence.specs.reduction.Guards.{GuardHolds, no_condition, cond
 use Rattle.lmn_congruence.specs.reduction.Values.{Value, of_number, of_context, of_operation}
 use Rattle.lmn_congruence.specs.reduction.Instances.{IsCopy, LeafInstance, of_atom, of_connector, of_typed, LeafInstances, no_leaf, leaf_and, Instance, instance, MembraneInstances, no_membrane, membrane_and, rules_of_contexts}
 use Rattle.lmn_congruence.specs.reduction.Steps.{leaf, beside as derived_beside, inside as derived_inside, up_to, Step}
-use Rattle.lmn_congruence.proofs.Counts.{same_free, linked_both, same_or_not, Occurs, map_after}
+use Rattle.lmn_congruence.proofs.Counts.{same_free, linked_both, same_or_not, map_after}
 use Rattle.lmn_congruence.proofs.Derivations.{no_right}
-use Rattle.lmn_congruence.proofs.Walls.{occurrences_above}
+use Rattle.lmn_congruence.proofs.Crossings.{occurrences_above}
 use Rattle.lmn_congruence.proofs.Renaming.{moved_away, away_free, away_local, away_apart, low_high, rename_all, occurrences_image, occurrences_none, occurs_below}
 
 -- ---- an instance after a one to one renaming of links

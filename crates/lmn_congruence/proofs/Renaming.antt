@@ -1,12 +1,13 @@
 -- Local links may be renamed all at once.
 use Rattle.std.proofs.Common.{ℕ, zero, suc, ◌≡◌, ◌≢◌, ◌+◌, ◌≤◌, ◌<◌, ◌⊎◌, cond, eqb, ltb, List, [], ◌∷◌, map, refl, sym, ◌∙◌, ap, inl, inr, arith}
+use Rattle.std.proofs.lemmas.List.{map-id}
 use Rattle.lmn_congruence.specs.Links.{one_if_same, places}
 use Rattle.lmn_congruence.specs.Process.{Process, nothing, connector, atom, pair, membrane, rule, occurrences, replace, Free, Local, Linked, substitute, renamed, OneToOneOn}
 use Rattle.lmn_congruence.specs.Congruence.{Congruent, rename, same, chain}
 use Rattle.lmn_congruence.proofs.Counts.{same_or_not, linked_both, Occurs, in_head, in_tail, first_in, second_in, in_left, in_right, occurs_once, occurs_twice, map_after, map_agree, replaced_here, replaced_other}
 use Rattle.lmn_congruence.specs.FreeLinks.{total, top_of}
 use Rattle.lmn_congruence.proofs.Totals.{highest}
-use Rattle.lmn_congruence.proofs.Walls.{occurrences_above}
+use Rattle.lmn_congruence.proofs.Crossings.{occurrences_above}
 
 -- two renamings one after the other, where they agree with a third on the links of the process
 pub substitute_renamed : (new old : ℕ) (g h : ℕ → ℕ) (P : Process) → ((x : ℕ) → Occurs x P → replace new old (g x) ≡ h x) → substitute new old (renamed g P) ≡ renamed h P
@@ -27,14 +28,10 @@ renamed_agree g h (pair P Q) e =
 renamed_agree g h (membrane P) e = cc (renamed_agree g h P e)
 renamed_agree g h (rule r) e = refl
 
-map_id : (xs : List ℕ) → map (λ x. x) xs ≡ xs
-map_id [] = refl
-map_id (x ∷ xs) = ap (λ k. x ∷ k) (map_id xs)
-
 pub renamed_id : (P : Process) → renamed (λ x. x) P ≡ P
 renamed_id nothing = refl
 renamed_id (connector x y) = refl
-renamed_id (atom a xs) = ap (atom a) (map_id xs)
+renamed_id (atom a xs) = ap (atom a) (map-id xs)
 renamed_id (pair P Q) = cc (renamed_id P, renamed_id Q)
 renamed_id (membrane P) = cc (renamed_id P)
 renamed_id (rule r) = refl

@@ -1,11 +1,12 @@
 -- The same up to order and grouping, and what stands side by side in a process.
 use Rattle.std.proofs.Common.{ℕ, ◌≡◌, List, [], ◌∷◌, ◌++◌, refl, sym, ◌∙◌, ap, subst, arith}
+use Rattle.std.proofs.lemmas.List.{append_assoc}
 use Rattle.lmn_congruence.specs.Process.{Process, nothing, connector, atom, pair, membrane, rule, occurrences, Linked}
 use Rattle.lmn_congruence.specs.Congruence.{Congruent, unit, swap, regroup, beside, inside, same, back, chain}
 use Rattle.lmn_congruence.specs.UpToOrder.{Reordered, r_unit, r_swap, r_regroup, r_beside, r_inside, r_same, r_back, r_chain}
 use Rattle.lmn_congruence.specs.Orders.{here, Shuffle, none, more}
 use Rattle.lmn_congruence.proofs.Counts.{linked_left, linked_right, linked_inside, linked_as}
-use Rattle.lmn_congruence.proofs.Walls.{crossings, same_number}
+use Rattle.lmn_congruence.proofs.Crossings.{crossings, same_number}
 use Rattle.lmn_congruence.proofs.Shuffles.{shuffle_append, shuffle_same, shuffle_swap, shuffle_flip, shuffle_chain, shuffle_map}
 
 pub nothing_out : {P : Process} → Reordered (membrane (pair nothing P)) (pair nothing (membrane P))
@@ -69,15 +70,11 @@ same_piece_chain P Q S itself e = e
 same_piece_chain P Q S (content d) itself = content d
 same_piece_chain P Q S (content d) (content e) = content (r_chain d e)
 
-append_three : {A : Type 0} (xs ys zs : List A) → xs ++ (ys ++ zs) ≡ (xs ++ ys) ++ zs
-append_three [] ys zs = refl
-append_three (x ∷ xs) ys zs = ap (λ k. x ∷ k) (append_three xs ys zs)
-
 -- Two reordered processes have the same pieces, in some order.
 pub reordered_pieces : {P Q : Process} → Reordered P Q → Shuffle SamePiece (pieces P) (pieces Q)
 reordered_pieces (r_unit {P = P}) = shuffle_same (λ X. itself) (pieces P)
 reordered_pieces (r_swap {P = P} {Q = Q}) = shuffle_swap (λ X. itself) (pieces P) (pieces Q)
-reordered_pieces (r_regroup {P = P} {Q = Q} {S = S}) = subst (Shuffle SamePiece (pieces P ++ (pieces Q ++ pieces S))) (append_three (pieces P) (pieces Q) (pieces S)) (shuffle_same (λ X. itself) (pieces P ++ (pieces Q ++ pieces S)))
+reordered_pieces (r_regroup {P = P} {Q = Q} {S = S}) = subst (Shuffle SamePiece (pieces P ++ (pieces Q ++ pieces S))) (sym (append_assoc (pieces P) (pieces Q) (pieces S))) (shuffle_same (λ X. itself) (pieces P ++ (pieces Q ++ pieces S)))
 reordered_pieces (r_beside {Q = Q} d) = shuffle_append (reordered_pieces d) (shuffle_same (λ X. itself) (pieces Q))
 reordered_pieces (r_inside d) = more (content d) none here
 reordered_pieces (r_same {P = P} e) = subst (λ X. Shuffle SamePiece (pieces P) (pieces X)) e (shuffle_same (λ X. itself) (pieces P))

@@ -1,5 +1,5 @@
 -- Processes that are settled, and derivations of settling.
-use Rattle.std.proofs.Common.{ℕ, ◌≡◌, ◌≢◌, ◌+◌, ◌≤◌, ◌⊎◌, refl, sym, ◌∙◌, ap, arith}
+use Rattle.std.proofs.Common.{ℕ, ◌≡◌, ◌≢◌, ◌+◌, ◌≤◌, ◌⊎◌, ap, arith}
 use Rattle.lmn_congruence.specs.Process.{Process, occurrences, Linked, Closed}
 use Rattle.lmn_congruence.specs.Congruence.{Congruent, same, chain}
 use Rattle.lmn_congruence.specs.Fused.{NoConnector, Joins, fused}
@@ -7,9 +7,9 @@ use Rattle.lmn_congruence.specs.LinkMaps.{SameCrossings}
 use Rattle.lmn_congruence.specs.reduction.Steps.{up_to}
 use Rattle.lmn_congruence.specs.reduction.Commits.{Settled, SettlesTowards, already, step_and}
 use Rattle.lmn_congruence.proofs.Counts.{linked_both}
-use Rattle.lmn_congruence.proofs.Walls.{crossings}
+use Rattle.lmn_congruence.proofs.Crossings.{crossings}
 use Rattle.lmn_congruence.proofs.Reordered.{reordered_crossings}
-use Rattle.lmn_congruence.proofs.Crossings.{crossings_fused, same_crossings_all}
+use Rattle.lmn_congruence.proofs.FewestCrossings.{crossings_fused, same_crossings_all}
 use Rattle.lmn_congruence.proofs.LinkMaps.{joins_plain, fused_id, closed_not_one}
 use Rattle.lmn_congruence.proofs.SettlingSteps.{linked_derived, step_lowers, step_carries, towards_alike}
 

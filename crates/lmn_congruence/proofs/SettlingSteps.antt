@@ -3,13 +3,13 @@ use Rattle.std.proofs.Common.{ℕ, suc, ◌≡◌, ◌≢◌, ◌+◌, refl, sym
 use Rattle.lmn_congruence.specs.UpToOrder.{r_back}
 use Rattle.lmn_congruence.specs.FreeLinks.{one_if_once, one_if_free, free_number}
 use Rattle.lmn_congruence.proofs.Reordered.{nothing_out}
-use Rattle.lmn_congruence.proofs.Carried.{Carries, carried_as, carried_chain, carried_inside, carried_beside, flip_alike, congruence_carries}
+use Rattle.lmn_congruence.proofs.Carried.{Carries, carried_as, carried_chain, carried_inside, carried_beside, congruence_carries}
 use Rattle.lmn_congruence.specs.Process.{Process, connector, pair, membrane, occurrences, Free, Linked}
 use Rattle.lmn_congruence.specs.reduction.Steps.{Derived, leaf, beside, inside, up_to, Settling, out, into, SettlingStep}
 use Rattle.lmn_congruence.specs.reduction.Commits.{SettlesTowards, already, step_and}
 use Rattle.lmn_congruence.specs.reduction.Laws.{StepsAreLinked, SettlingStepsAreLinked}
-use Rattle.lmn_congruence.proofs.Counts.{Alike, same_free, alike_sum, linked_both}
-use Rattle.lmn_congruence.proofs.Walls.{free_number_two, free_number_alike, crossings, same_crossings, passed_other, count_first, count_second}
+use Rattle.lmn_congruence.proofs.Counts.{Alike, flip_alike, count_first, count_second, same_free, alike_sum, linked_both}
+use Rattle.lmn_congruence.proofs.Crossings.{free_number_two, free_number_alike, crossings, same_crossings, passed_other}
 
 pub linked_derived : {L : Process → Process → Type 0} {P Q : Process} → Derived L P Q → Linked P × Linked Q
 linked_derived (leaf s l l') = (l, l')

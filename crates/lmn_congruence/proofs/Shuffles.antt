@@ -1,5 +1,6 @@
 -- Lists that match one by one in some order.
 use Rattle.std.proofs.Common.{◌≡◌, List, [], ◌∷◌, ◌++◌, refl, sym, ap, subst}
+use Rattle.std.proofs.lemmas.List.{append-nil}
 use Rattle.lmn_congruence.specs.Orders.{Put, here, there, Shuffle, none, more}
 
 -- two puts, in the other order
@@ -94,11 +95,7 @@ shuffle_chain h none zs none = none
 shuffle_chain h (more {x = x} {y = y} r s p) zs t = let u = find_right p zs t in more (h x y u.match r u.related) (shuffle_chain h s u.rest u.others) u.put
 
 pub shuffle_swap : {A : Type 0} {R : A → A → Type 0} → ((x : A) → R x x) → (xs ys : List A) → Shuffle R (xs ++ ys) (ys ++ xs)
-shuffle_swap h [] ys = subst (Shuffle _ ys) (sym (append_nil ys)) (shuffle_same h ys)
-  where
-    append_nil : {A : Type 0} (ys : List A) → ys ++ [] ≡ ys
-    append_nil [] = refl
-    append_nil (y ∷ ys) = ap (λ k. y ∷ k) (append_nil ys)
+shuffle_swap h [] ys = subst (Shuffle _ ys) (sym (append-nil ys)) (shuffle_same h ys)
 shuffle_swap h (x ∷ xs) ys = more (h x) (shuffle_swap h xs ys) (put_between x ys xs)
 
 pub shuffle_map : {A B : Type 0} {R S : A → B → Type 0} → ((x : A) (y : B) → R x y → S x y) → {xs : List A} {ys : List B} → Shuffle R xs ys → Shuffle S xs ys

@@ -1,6 +1,6 @@
 -- Solids have congruent processes exactly where they are the same.
-use Rattle.std.proofs.Common.{ℕ, ◌≡◌, Option, Some, None, List, [], ◌∷◌, ◌++◌, map, refl, sym, ◌∙◌, ap, subst, subst₂, arith}
-use Rattle.std.proofs.lemmas.List.{append-nil}
+use Rattle.std.proofs.Common.{ℕ, ◌≡◌, Option, Some, None, List, [], ◌∷◌, ◌++◌, map, refl, sym, ◌∙◌, ap, subst, subst₂}
+use Rattle.std.proofs.lemmas.List.{append-nil, map-id}
 use Rattle.lmn_congruence.proofs.Reordered.{pieces, SamePiece, itself, content, reordered_pieces, reordered_congruent, reordered_count, r_right}
 use Rattle.lmn_congruence.proofs.Renaming.{renamed_id, rename_all}
 use Rattle.lmn_congruence.proofs.Counts.{linked_both, linked_as}
@@ -9,7 +9,7 @@ use Rattle.lmn_congruence.specs.Laws.{CongruentSolids}
 use Rattle.lmn_congruence.specs.Fused.{NoConnector}
 use Rattle.lmn_congruence.specs.UpToOrder.{Reordered, r_swap, r_regroup, r_beside, r_inside, r_same, r_back, r_chain}
 use Rattle.lmn_congruence.specs.Orders.{Put, here, there, Shuffle, none, more}
-use Rattle.lmn_congruence.specs.Process.{Process, nothing, connector, atom, pair, membrane, rule, occurrences, Linked, Closed, renamed, together}
+use Rattle.lmn_congruence.specs.Process.{Process, nothing, connector, atom, pair, membrane, rule, Linked, Closed, renamed, together}
 use Rattle.lmn_congruence.specs.Congruence.{Congruent, chain}
 use Rattle.lmn_congruence.specs.Rules.{Rule}
 use Rattle.lmn_congruence.specs.Regions.{SolidAtom, Region, region, Regions, no_region, region_and, region_process, regions_processes, atom_process}
@@ -177,16 +177,12 @@ unmap : {A B : Type 0} (g : A → B) (xs : List A) (ys : List B) → Shuffle (λ
 unmap g [] ys none = none
 unmap g (x ∷ xs) ys (more {ys = zs} r s p) = more r (unmap g xs zs s) p
 
-map_links : (xs : List ℕ) → map stay xs ≡ xs
-map_links [] = refl
-map_links (x ∷ xs) = ap (λ k. x ∷ k) (map_links xs)
-
 pub stay_atoms : (xs : List SolidAtom) → map (renamed_atom stay) xs ≡ xs
 stay_atoms [] = refl
 stay_atoms (x ∷ xs) = cc (stay_atoms xs, stay_atom x)
   where
     stay_atom : (a : SolidAtom) → renamed_atom stay a ≡ a
-    stay_atom a = ap (λ k. record { label = a.label; links = k }) (map_links a.links)
+    stay_atom a = ap (λ k. record { label = a.label; links = k }) (map-id a.links)
 
 pub record PutContent (y : Process) (ys : List Process) (ns : Regions) : Type 0 where
   pub region : Region

@@ -14,7 +14,7 @@ below : (n x : ℕ) → x < suc n → x ≢ n → x < n
 below n x b e = grind arith
 
 -- where they differ at one number alone
-total_one : (n x : ℕ) (f g : ℕ → ℕ) → x < n → ((z : ℕ) → z < n → z ≢ x → f z ≡ g z) → total n f + g x ≡ total n g + f x
+pub total_one : (n x : ℕ) (f g : ℕ → ℕ) → x < n → ((z : ℕ) → z < n → z ≢ x → f z ≡ g z) → total n f + g x ≡ total n g + f x
 total_one zero x f g b h = absurd (go b)
   where
     go : ¬ (x < 0)
@@ -72,3 +72,19 @@ highest (suc n) v y b = go (same_or_not y n) (λ c. highest n v y c)
     go : (y ≡ n) ⊎ (y ≢ n) → (y < n → v y < total n (λ y. suc (v y))) → v y < suc (v n) + total n (λ y. suc (v y))
     go (inl e) i = rw e (omega arith)
     go (inr e) i = let p = i (omega arith) in omega arith
+
+-- a sum includes each of its terms
+pub total_includes : (n : ℕ) (f : ℕ → ℕ) (y : ℕ) → y < n → f y ≤ total n f
+total_includes zero f y b = absurd (go b)
+  where
+    go : ¬ (y < 0)
+    go = omega arith
+total_includes (suc n) f y b = go (same_or_not y n) (λ c. total_includes n f y c)
+  where
+    go : (y ≡ n) ⊎ (y ≢ n) → (y < n → f y ≤ total n f) → f y ≤ f n + total n f
+    go (inl p) i = rw p (omega arith)
+    go (inr p) i = let q = i (omega arith) in omega arith
+
+-- a sum with one term
+pub total_single : (n x : ℕ) (f : ℕ → ℕ) → x < n → ((z : ℕ) → z ≢ x → f z ≡ 0) → total n f ≡ f x
+total_single n x f b h = let t = total_one n x f (λ z. 0) b (λ z c p. h z p) in omega (arith, t, total_zero n (λ z. 0) (λ y. refl))

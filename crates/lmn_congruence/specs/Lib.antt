@@ -15,3 +15,4 @@ pub mod Laws
 pub mod Translation
 pub mod TranslationLaws
 pub mod reduction
+pub mod Examples

@@ -6,6 +6,7 @@
 
 ghost use Rattle.lmn_congruence.specs.Laws.{BothSidesLinked, SameFreeLinks, CongruentSolids};
 
+pub mod examples;
 pub mod reduction;
 pub mod translation;
 

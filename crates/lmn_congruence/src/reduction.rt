@@ -1,6 +1,6 @@
 //! The laws of reduction: of steps, of settling, of commits.
 
-ghost use Rattle.lmn_congruence.specs.reduction.Laws.{StepsAreLinked, SettlingStepsAreLinked, SettledWithoutConnectors, ClosedSettles, SettlesOnce, PlainSettles, CongruentByOneMap, StepsShowRedexes, KeepsSettled, KeepsSettles, KeepsCommit, KeepsIrreducible};
+ghost use Rattle.lmn_congruence.specs.reduction.Laws.{StepsAreLinked, SettlingStepsAreLinked, SettledWithoutConnectors, ClosedSettles, SettlesOnce, PlainHasSolid, SolidIsOne, PlainSettles, CongruentByOneMap, StepsShowRedexes, KeepsSettled, KeepsSettles, KeepsCommit, KeepsIrreducible};
 
 /// Both sides of a step are linked, and so are both sides of a settling step.
 #[tactic(auto, using(crate::proofs::SettlingSteps::steps_linked, crate::proofs::SettlingSteps::settling_steps_linked))]
@@ -20,6 +20,13 @@ pub fn settled_without_connectors()
 pub fn closed_settles_once()
     ensures settles { ClosedSettles }
     ensures once { SettlesOnce }
+{}
+
+/// A plain whose process is closed has a solid, and one alone up to the numbers of links.
+#[tactic(auto, using(crate::proofs::Plains::plain_has_solid, crate::proofs::Plains::solid_is_one))]
+pub fn plain_has_one_solid()
+    ensures has { PlainHasSolid }
+    ensures one { SolidIsOne }
 {}
 
 /// The process of a plain's top settles to that of its solid.

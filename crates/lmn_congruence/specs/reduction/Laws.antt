@@ -5,6 +5,7 @@ use Rattle.lmn_congruence.specs.Rules.{Level}
 use Rattle.lmn_congruence.specs.Fused.{NoConnector}
 use Rattle.lmn_congruence.specs.LinkMaps.{ReadsAs}
 use Rattle.lmn_congruence.specs.Regions.{Region, region_process}
+use Rattle.lmn_congruence.specs.Same.{Same}
 use Rattle.lmn_congruence.specs.Plains.{level_process, SolidOf}
 use Rattle.lmn_congruence.specs.reduction.Steps.{Step, SettlingStep}
 use Rattle.lmn_congruence.specs.reduction.Commits.{Settled, Settles, Commit, Irreducible}
@@ -28,6 +29,14 @@ ClosedSettles = (P : Process) → Closed P → (Q : Process) × Settles P Q
 -- and in one way, up to congruence
 abbrev pub SettlesOnce : Type 0
 SettlesOnce = (P Q Q' : Process) → Closed P → Settles P Q → Settles P Q' → Congruent Q Q'
+
+-- a plain with a closed top has a solid
+abbrev pub PlainHasSolid : Type 0
+PlainHasSolid = (top : Level) → Closed (level_process top) → (S : Region) × SolidOf top S
+
+-- and one alone, up to the numbers of links
+abbrev pub SolidIsOne : Type 0
+SolidIsOne = (top : Level) (S S' : Region) → Closed (level_process top) → SolidOf top S → SolidOf top S' → Same S S'
 
 -- the process of a plain's top settles to that of its solid
 abbrev pub PlainSettles : Type 0

@@ -1,0 +1,202 @@
+-- The derivations of the examples.
+use Rattle.std.proofs.Common.{ℕ, ◌≡◌, ◌≢◌, ◌+◌, cond, eqb, List, [], ◌∷◌, refl, ap, arith, pos}
+use Rattle.lmn_congruence.specs.Orders.{Among, at_head, further}
+use Rattle.lmn_congruence.specs.Process.{Process, nothing, connector, atom, pair, membrane, rule, Linked, together}
+use Rattle.lmn_congruence.specs.Congruence.{swap, same, back}
+use Rattle.lmn_congruence.specs.Rules.{Name, Rule, head_of}
+use Rattle.lmn_congruence.specs.reduction.Parts.{Rooted, an_integer}
+use Rattle.lmn_congruence.specs.reduction.Assignments.{Assignment}
+use Rattle.lmn_congruence.specs.reduction.Instances.{IsCopy, instance, no_leaf, leaf_and, of_atom, of_typed, no_membrane, membrane_and}
+use Rattle.lmn_congruence.specs.reduction.Values.{of_context, of_operation, InRange}
+use Rattle.lmn_congruence.specs.reduction.Guards.{no_condition, condition_and, binds}
+use Rattle.lmn_congruence.specs.reduction.Firing.{Fires, fires, typed_contexts}
+use Rattle.lmn_congruence.specs.reduction.Steps.{Step, SettlingStep, leaf, beside as derived_beside, up_to, out, into}
+use Rattle.lmn_congruence.specs.reduction.Commits.{Commit, already, step_and}
+use Rattle.lmn_congruence.specs.Fused.{NoConnector}
+use Rattle.lmn_congruence.specs.Examples.{a, b, c, p, int, z, two_make_b, TwoMakeOne, join_in_c, LinkMeetsItself, ConnectorLeaves, LoopVanishes, QuotientsAndRemainders, add_up, SumIsBound, b_makes_c, double_rules, RulesAreCopied}
+use Rattle.lmn_congruence.proofs.SettledProcesses.{no_connector_settled}
+use Rattle.lmn_congruence.proofs.Derivations.{linked_by, closed_by, regrouped, by_one_link}
+
+zero_not_one : ¬ (◌≡◌ {A = ℕ} 0 1)
+zero_not_one = omega arith
+
+-- a step to a process without connectors is a commit
+commits : {P Q : Process} → NoConnector Q → Linked Q → Step P Q → Commit P Q
+commits {Q = Q} n l s = record { between = Q; step = s; settles = record { settled = no_connector_settled Q n; towards = already (same l) } }
+
+-- an assignment of links, one context and one rule context
+abbrev assigned : (ℕ → ℕ) → Process → List Rule → Assignment
+assigned f P rs = record { link_of = f; context_of = λ q. P; rules_of = λ q. rs; typed_of = λ q. record { process = atom a (0 ∷ []); root = 0 } }
+
+-- an instance of a level of leaves has nothing else
+abbrev only : Process → Process
+only P = pair P (pair nothing (pair nothing (pair nothing nothing)))
+
+-- ---- `a. a. a, a :- b.`
+
+two_fire : Fires two_make_b (only (together (atom a [] ∷ atom a [] ∷ []))) (only (together (atom b [] ∷ [])))
+two_fire = record {
+  matches = record {
+    assignment = assigned (λ n. n) nothing [];
+    proper = record { links_differ = λ m n e. e; no_rule = λ q. tt; links_apart = λ q n. zero_not_one; root_is_free = λ q. refl };
+    guard = no_condition;
+    head = instance (leaf_and of_atom (leaf_and of_atom no_leaf)) no_membrane;
+  };
+  body = instance (leaf_and of_atom no_leaf) no_membrane;
+}
+
+pub two_make_one : TwoMakeOne
+two_make_one = commits (tt, (tt, tt)) (linked_by refl) (up_to (regrouped refl (linked_by refl)) (leaf (fires two_fire) (linked_by refl) (linked_by refl)) (regrouped refl (linked_by refl)))
+
+-- ---- `a(X), b(X). a(X), b(Y) :- c(X,Y).`
+
+join_fires : Fires join_in_c (only (together (atom a (0 ∷ []) ∷ atom b (1 ∷ []) ∷ []))) (only (together (atom c (0 ∷ 1 ∷ []) ∷ [])))
+join_fires = record {
+  matches = record {
+    assignment = assigned (λ n. n) nothing [];
+    proper = record { links_differ = λ m n e. e; no_rule = λ q. tt; links_apart = λ q n. zero_not_one; root_is_free = λ q. refl };
+    guard = no_condition;
+    head = instance (leaf_and of_atom (leaf_and of_atom no_leaf)) no_membrane;
+  };
+  body = instance (leaf_and of_atom no_leaf) no_membrane;
+}
+
+-- `a(X), b(Y)` or `c(X,Y)` beside the rule, and `X=Y`
+abbrev with_connector : Process → Process
+with_connector P = pair (pair (only P) (rule join_in_c)) (connector 0 1)
+
+abbrev apart : Process
+apart = with_connector (together (atom a (0 ∷ []) ∷ atom b (1 ∷ []) ∷ []))
+
+abbrev joined : Process
+joined = with_connector (together (atom c (0 ∷ 1 ∷ []) ∷ []))
+
+join_step : Step apart joined
+join_step = derived_beside (leaf (fires join_fires) (linked_by refl) (linked_by refl)) (linked_by refl) (linked_by refl)
+
+pub link_meets_itself : LinkMeetsItself
+link_meets_itself =
+    commits (tt, (tt, tt)) (linked_by refl)
+    (up_to (back (by_one_link (closed_by apart refl) (linked_by refl) refl refl)) join_step
+    (by_one_link (closed_by joined refl) (linked_by refl) refl refl))
+
+-- ---- `{X=Y}, a(X), b(Y)`
+
+abbrev inside_it : Process
+inside_it = membrane (pair (connector 0 1) nothing)
+
+abbrev outside_it : Process
+outside_it = pair (connector 0 1) (membrane nothing)
+
+abbrev atoms : Process
+atoms = pair (atom a (0 ∷ [])) (atom b (1 ∷ []))
+
+goes_out : SettlingStep (pair inside_it atoms) (pair outside_it atoms)
+goes_out = derived_beside (leaf (out 0 1 zero_not_one refl refl) (linked_by refl) (linked_by refl)) (linked_by refl) (linked_by refl)
+
+pub connector_leaves : ConnectorLeaves
+connector_leaves = record {
+  settled = no_connector_settled (together (atom a (0 ∷ []) ∷ atom b (0 ∷ []) ∷ membrane nothing ∷ [])) (tt, (tt, (tt, tt)));
+  towards = step_and
+      (up_to (regrouped refl (linked_by refl)) goes_out (swap (linked_by refl)))
+      (already (by_one_link (closed_by (pair atoms outside_it) refl) (linked_by refl) refl refl));
+}
+
+-- ---- `X=Y, {X=Y}`
+
+goes_in : SettlingStep (pair (connector 0 1) (membrane (connector 0 1))) (membrane (pair (connector 0 1) (connector 0 1)))
+goes_in = leaf (into 0 1 zero_not_one refl refl) (linked_by refl) (linked_by refl)
+
+pub loop_vanishes : LoopVanishes
+loop_vanishes = record {
+  settled = no_connector_settled (membrane nothing) tt;
+  towards = step_and goes_in (already (by_one_link (closed_by (membrane (pair (connector 0 1) (connector 0 1))) refl) (linked_by refl) refl refl));
+}
+
+-- ---- `p(3), p(4). p($x), p($y) :- $z = $x + $y | p($z).`
+
+abbrev seven_apart : Process
+seven_apart = pair (only (together (atom p (2 ∷ []) ∷ atom (int 7) (2 ∷ []) ∷ []))) (rule add_up)
+
+abbrev number_part : ℕ → Rooted
+number_part n = record { process = atom (int n) (0 ∷ []); root = 0 }
+
+abbrev first_byte : Name → ℕ
+first_byte [] = 0
+first_byte (k ∷ ks) = k
+
+abbrev sums : Assignment
+sums = record {
+  link_of = λ n. n;
+  context_of = λ q. nothing;
+  rules_of = λ q. [];
+  typed_of = λ q. number_part (cond (eqb (first_byte q) 120) 3 (cond (eqb (first_byte q) 121) 4 7));
+}
+
+copied : (n k : ℕ) → IsCopy (number_part n) k (atom (int n) (k ∷ []))
+copied n k = record { to = λ m. k; one_to_one = λ i j o o' e. only_root i j o o'; root = refl; is = refl }
+  where
+    only_root : (i j : ℕ) → cond (eqb i 0) 1 0 + 0 ≢ 0 → cond (eqb j 0) 1 0 + 0 ≢ 0 → i ≡ j
+    only_root i j o o' = grind arith
+
+no_member : {A : Type 0} {n : A} → ¬ (Among n [])
+no_member m = elim m [ ]
+
+member_of_two : {A : Type 0} {n m k : A} → n ≢ m → n ≢ k → ¬ (Among n (m ∷ k ∷ []))
+member_of_two e f at_head = e refl
+member_of_two e f (further at_head) = f refl
+member_of_two e f (further (further m)) = no_member m
+
+names_differ : (i j : ℕ) → i ≢ j → ¬ (◌≡◌ {A = Name} (i ∷ []) (j ∷ []))
+names_differ i j d e = d (ap first_byte e)
+
+z_is_bound : ¬ (Among z (typed_contexts (head_of add_up)))
+z_is_bound = member_of_two (names_differ 122 120 (omega arith)) (names_differ 122 121 (omega arith))
+
+seven : InRange (pos 7)
+seven = (grind arith, grind arith)
+
+sum_fires : Fires add_up (only (together (atom p (0 ∷ []) ∷ atom (int 3) (0 ∷ []) ∷ atom p (1 ∷ []) ∷ atom (int 4) (1 ∷ []) ∷ []))) (only (together (atom p (2 ∷ []) ∷ atom (int 7) (2 ∷ []) ∷ [])))
+sum_fires = record {
+  matches = record {
+    assignment = sums;
+    proper = record { links_differ = λ m n e. e; no_rule = λ q. tt; links_apart = λ q n. zero_not_one; root_is_free = λ q. refl };
+    guard = condition_and (binds z_is_bound (of_operation (of_context an_integer) (of_context an_integer) tt seven) an_integer) no_condition;
+    head = instance (leaf_and of_atom (leaf_and (of_typed (copied 3 0)) (leaf_and of_atom (leaf_and (of_typed (copied 4 1)) no_leaf)))) no_membrane;
+  };
+  body = instance (leaf_and of_atom (leaf_and (of_typed (copied 7 2)) no_leaf)) no_membrane;
+}
+
+pub sum_is_bound : SumIsBound
+sum_is_bound =
+    commits (tt, (tt, (tt, tt))) (linked_by refl)
+    (up_to (regrouped refl (linked_by refl)) (leaf (fires sum_fires) (linked_by refl) (linked_by refl)) (by_one_link (closed_by seven_apart refl) (linked_by refl) refl refl))
+
+-- ---- `{a. b. b :- c.}. {a, $p, @r} :- {$p, @r, @r}.`
+
+abbrev one_inside : Process → List Process → Process
+one_inside P rules =
+    let content : Process = pair P (pair nothing (pair (together (atom b [] ∷ [])) (pair (together rules) nothing))) in
+    pair nothing (pair (together (membrane content ∷ [])) (pair nothing (pair nothing nothing)))
+
+abbrev its_rules : Process
+its_rules = together (rule b_makes_c ∷ [])
+
+double_fires : Fires double_rules (one_inside (together (atom a [] ∷ [])) (its_rules ∷ [])) (one_inside nothing (its_rules ∷ its_rules ∷ []))
+double_fires = record {
+  matches = record {
+    assignment = assigned (λ n. n) (atom b []) (b_makes_c ∷ []);
+    proper = record { links_differ = λ m n e. e; no_rule = λ q. tt; links_apart = λ q n. zero_not_one; root_is_free = λ q. refl };
+    guard = no_condition;
+    head = instance no_leaf (membrane_and (instance (leaf_and of_atom no_leaf) no_membrane) no_membrane);
+  };
+  body = instance no_leaf (membrane_and (instance no_leaf no_membrane) no_membrane);
+}
+
+pub rules_are_copied : RulesAreCopied
+rules_are_copied =
+    commits ((tt, (tt, (tt, tt))), (tt, tt)) (linked_by refl)
+    (up_to (regrouped refl (linked_by refl)) (leaf (fires double_fires) (linked_by refl) (linked_by refl)) (regrouped refl (linked_by refl)))
+
+pub quotients_and_remainders : QuotientsAndRemainders
+quotients_and_remainders = (refl, refl, refl, refl)

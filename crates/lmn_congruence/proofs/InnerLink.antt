@@ -1,0 +1,97 @@
+-- `{a(X), b(X)}. {a(X), b(Y)} :- c(X,Y).` is irreducible: congruence keeps the rules and the number of links
+-- across membranes, which is 0, and an instance of the head has two.
+use Rattle.std.proofs.Common.{ℕ, ◌≡◌, ◌≢◌, ◌+◌, ◌≤◌, [], ◌∷◌, refl, sym, ◌∙◌, ap, subst, arith}
+use Rattle.lmn_congruence.specs.Links.{one_if_same}
+use Rattle.lmn_congruence.specs.Process.{Process, nothing, connector, atom, pair, membrane, rule, occurrences, substitute, together}
+use Rattle.lmn_congruence.specs.Congruence.{Congruent, unit, swap, regroup, rename, beside, inside, loop, turn, absorb, pass, same, back, chain}
+use Rattle.lmn_congruence.specs.Rules.{Rule, head_of}
+use Rattle.lmn_congruence.specs.FreeLinks.{top_of, one_if_once, one_if_free, free_number}
+use Rattle.lmn_congruence.specs.reduction.Assignments.{Assignment, Proper}
+use Rattle.lmn_congruence.specs.reduction.Instances.{Instance, instance, no_leaf, leaf_and, of_atom, no_membrane, membrane_and}
+use Rattle.lmn_congruence.specs.reduction.Firing.{Matches}
+use Rattle.lmn_congruence.specs.reduction.Steps.{Step}
+use Rattle.lmn_congruence.specs.reduction.Redexes.{HasRedex, at_top, in_membrane}
+use Rattle.lmn_congruence.specs.Examples.{a, b, join_from_membrane, InnerLinkStays}
+use Rattle.lmn_congruence.proofs.Counts.{occurs_once}
+use Rattle.lmn_congruence.proofs.Totals.{total_includes}
+use Rattle.lmn_congruence.proofs.Crossings.{crossings, same_crossings}
+use Rattle.lmn_congruence.proofs.Renaming.{occurs_below}
+use Rattle.lmn_congruence.proofs.SettledProcesses.{no_connector_settled}
+use Rattle.lmn_congruence.proofs.Redexes.{step_shows}
+
+-- ---- the rules of a process, at every depth
+
+abbrev AllRules : (Rule → Type 0) → Process → Type 0
+AllRules H nothing = Unit {0}
+AllRules H (connector x y) = Unit {0}
+AllRules H (atom l xs) = Unit {0}
+AllRules H (pair P Q) = AllRules H P × AllRules H Q
+AllRules H (membrane P) = AllRules H P
+AllRules H (rule r) = H r
+
+substituted_rules : (H : Rule → Type 0) (new old : ℕ) (P : Process) → (AllRules H P → AllRules H (substitute new old P)) × (AllRules H (substitute new old P) → AllRules H P)
+substituted_rules H new old nothing = ((λ h. tt), (λ h. tt))
+substituted_rules H new old (connector x y) = ((λ h. tt), (λ h. tt))
+substituted_rules H new old (atom l xs) = ((λ h. tt), (λ h. tt))
+substituted_rules H new old (pair P Q) =
+    let i = substituted_rules H new old P in
+    let j = substituted_rules H new old Q in
+    ((λ h. (i.0 h.0, j.0 h.1)), (λ h. (i.1 h.0, j.1 h.1)))
+substituted_rules H new old (membrane P) = substituted_rules H new old P
+substituted_rules H new old (rule r) = ((λ h. h), (λ h. h))
+
+kept_rules : (H : Rule → Type 0) {P Q : Process} → Congruent P Q → (AllRules H P → AllRules H Q) × (AllRules H Q → AllRules H P)
+kept_rules H (unit l) = ((λ h. h.1), (λ h. (tt, h)))
+kept_rules H (swap l) = ((λ h. (h.1, h.0)), (λ h. (h.1, h.0)))
+kept_rules H (regroup l) = ((λ h. ((h.0, h.1.0), h.1.1)), (λ h. (h.0.0, (h.0.1, h.1))))
+kept_rules H (rename {P = P} x y l f n) = substituted_rules H y x P
+kept_rules H (beside d l l') = let i = kept_rules H d in ((λ h. (i.0 h.0, h.1)), (λ h. (i.1 h.0, h.1)))
+kept_rules H (inside d) = let i = kept_rules H d in (i.0, i.1)
+kept_rules H loop = ((λ h. tt), (λ h. tt))
+kept_rules H turn = ((λ h. tt), (λ h. tt))
+kept_rules H (absorb {P = P} x y e f l) = let i = substituted_rules H y x P in ((λ h. i.0 h.1), (λ h. (tt, i.1 h)))
+kept_rules H (pass x y e l) = ((λ h. h), (λ h. h))
+kept_rules H (same l) = ((λ h. h), (λ h. h))
+kept_rules H (back d) = let i = kept_rules H d in (i.1, i.0)
+kept_rules H (chain d e) = let i = kept_rules H d in let j = kept_rules H e in ((λ h. j.0 (i.0 h)), (λ h. i.1 (j.1 h)))
+
+-- ---- the links across the membrane of an instance of the head
+
+one_free : (x y : ℕ) (C : Process) → x ≢ y → ((z : ℕ) → occurrences z C ≡ one_if_same z x + one_if_same z y) → free_number C ≢ 0
+one_free x y C d h = not_zero (one_if_free C x) (free_number C) (ap one_if_once f) (total_includes (top_of C) (one_if_free C) x (occurs_below C x (occurs_once (occurrences x C) f)))
+  where
+    first_one : (x y : ℕ) → x ≢ y → one_if_same x x + one_if_same x y ≡ 1
+    first_one x y d = grind arith
+
+    f : occurrences x C ≡ 1
+    f = h x ∙ first_one x y d
+
+    not_zero : (k n : ℕ) → k ≡ 1 → k ≤ n → n ≢ 0
+    not_zero k n e b = omega arith
+
+crossed : (t : Assignment) (A : Process) → Proper t → Instance t (head_of join_from_membrane) A → crossings A ≢ 0
+crossed t A p (instance no_leaf (membrane_and {P = C} (instance (leaf_and of_atom (leaf_and of_atom no_leaf)) no_membrane) no_membrane)) =
+    λ e. one_free (t.link_of 0) (t.link_of 1) C (λ q. zero_one (p.links_differ 0 1 q)) (λ z. omega arith) (omega arith)
+  where
+    zero_one : ¬ (◌≡◌ {A = ℕ} 0 1)
+    zero_one = omega arith
+
+matched : (r : Rule) (A : Process) → r ≡ join_from_membrane → Matches r A → crossings A ≢ 0
+matched r A q = subst (λ k. Matches k A → crossings A ≢ 0) (sym q) (λ m. crossed m.assignment A m.proper m.head)
+
+redex_crossed : {P : Process} → HasRedex P → AllRules (λ r. r ≡ join_from_membrane) P → crossings P ≢ 0
+redex_crossed (at_top {r = r} {A = A} m) h = λ e. matched r A h.0.1 m (omega arith)
+redex_crossed (in_membrane d) h = λ e. redex_crossed d h.0 (omega arith)
+
+inner_link : Process
+inner_link = together (membrane (together (atom a (0 ∷ []) ∷ atom b (0 ∷ []) ∷ [])) ∷ rule join_from_membrane ∷ [])
+
+no_step : (Q : Process) → ¬ (Step inner_link Q)
+unfolding inner_link
+no_step Q s =
+    let k = step_shows s in
+    redex_crossed k.redex ((kept_rules (λ r. r ≡ join_from_membrane) k.congruent).0 ((tt, (tt, tt)), (refl, tt))) (sym (same_crossings k.congruent))
+
+pub inner_link_stays : InnerLinkStays
+unfolding inner_link
+inner_link_stays = (no_step, no_connector_settled inner_link ((tt, (tt, tt)), (tt, tt)))

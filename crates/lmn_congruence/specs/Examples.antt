@@ -1,0 +1,116 @@
+use Rattle.std.specs.Prelude.{ℕ, ◌≡◌, pos, negsuc, List, [], ◌∷◌}
+use Rattle.lmn_congruence.specs.Rules.{Name, Label, named, integer, Leaf, atom_leaf, typed_leaf, Level, level, no_level, level_and, Rule, rule_of, no_rule, plus, over, modulo, operation, value_of, equates}
+use Rattle.lmn_congruence.specs.Process.{nothing, connector, atom, pair, membrane, rule, together}
+use Rattle.lmn_congruence.specs.reduction.Values.{result_of}
+use Rattle.lmn_congruence.specs.reduction.Commits.{Settles, Commit, Irreducible}
+
+-- Small texts as processes, and what they do.
+
+abbrev pub a : Label
+a = named (97 ∷ [])
+
+abbrev pub b : Label
+b = named (98 ∷ [])
+
+abbrev pub c : Label
+c = named (99 ∷ [])
+
+abbrev pub p : Label
+p = named (112 ∷ [])
+
+-- an integer that isn't negative
+abbrev pub int : ℕ → Label
+int n = integer (pos n)
+
+-- a level of atoms and typed contexts alone
+abbrev pub leaves : List Leaf → Level
+leaves ls = level ls no_level [] [] no_rule
+
+-- a level of one membrane
+abbrev pub one_membrane : Level → Level
+one_membrane l = level [] (level_and l no_level) [] [] no_rule
+
+-- `a, a :- b`
+abbrev pub two_make_b : Rule
+two_make_b = rule_of (leaves (atom_leaf a [] ∷ atom_leaf a [] ∷ [])) [] (leaves (atom_leaf b [] ∷ []))
+
+-- `a. a. a, a :- b.` commits to `b. a, a :- b.`
+abbrev pub TwoMakeOne : Type 0
+TwoMakeOne = Commit (together (atom a [] ∷ atom a [] ∷ rule two_make_b ∷ [])) (together (atom b [] ∷ rule two_make_b ∷ []))
+
+-- `a(X), b(Y) :- c(X,Y)`
+abbrev pub join_in_c : Rule
+join_in_c = rule_of (leaves (atom_leaf a (0 ∷ []) ∷ atom_leaf b (1 ∷ []) ∷ [])) [] (leaves (atom_leaf c (0 ∷ 1 ∷ []) ∷ []))
+
+-- Two links of the head may be one link of the process, by a connector between them:
+-- `a(X), b(X). a(X), b(Y) :- c(X,Y).` commits to `c(X,X). a(X), b(Y) :- c(X,Y).`
+abbrev pub LinkMeetsItself : Type 0
+LinkMeetsItself =
+    Commit (together (atom a (0 ∷ []) ∷ atom b (0 ∷ []) ∷ rule join_in_c ∷ [])) (together (atom c (0 ∷ 0 ∷ []) ∷ rule join_in_c ∷ []))
+
+-- A connector leaves a membrane: `{X=Y}, a(X), b(Y)` settles to `a(X), b(X), {}`
+abbrev pub ConnectorLeaves : Type 0
+ConnectorLeaves =
+    Settles (together (membrane (connector 0 1) ∷ atom a (0 ∷ []) ∷ atom b (1 ∷ []) ∷ [])) (together (atom a (0 ∷ []) ∷ atom b (0 ∷ []) ∷ membrane nothing ∷ []))
+
+-- A connector enters a membrane, and a loop vanishes: `X=Y, {X=Y}` settles to `{}`
+abbrev pub LoopVanishes : Type 0
+LoopVanishes = Settles (pair (connector 0 1) (membrane (connector 0 1))) (membrane nothing)
+
+-- `{a(X), b(Y)} :- c(X,Y)`
+abbrev pub join_from_membrane : Rule
+join_from_membrane = rule_of (one_membrane (leaves (atom_leaf a (0 ∷ []) ∷ atom_leaf b (1 ∷ []) ∷ []))) [] (leaves (atom_leaf c (0 ∷ 1 ∷ []) ∷ []))
+
+-- But a link that stays inside a membrane doesn't match two that leave it: nothing can happen in
+-- `{a(X), b(X)}. {a(X), b(Y)} :- c(X,Y).`, from no congruent process
+abbrev pub InnerLinkStays : Type 0
+InnerLinkStays =
+    Irreducible (together (membrane (together (atom a (0 ∷ []) ∷ atom b (0 ∷ []) ∷ [])) ∷ rule join_from_membrane ∷ []))
+
+abbrev pub x : Name
+x = 120 ∷ []
+
+abbrev pub y : Name
+y = 121 ∷ []
+
+abbrev pub z : Name
+z = 122 ∷ []
+
+-- `p($x), p($y) :- $z = $x + $y | p($z)`
+abbrev pub add_up : Rule
+add_up = rule_of
+    (leaves (atom_leaf p (0 ∷ []) ∷ typed_leaf x 0 ∷ atom_leaf p (1 ∷ []) ∷ typed_leaf y 1 ∷ []))
+    (equates z (operation plus (value_of x) (value_of y)) ∷ [])
+    (leaves (atom_leaf p (2 ∷ []) ∷ typed_leaf z 2 ∷ []))
+
+-- `p(3), p(4).` beside this rule commits to `p(7).` beside it
+abbrev pub SumIsBound : Type 0
+SumIsBound =
+    Commit
+    (together (atom p (0 ∷ []) ∷ atom (int 3) (0 ∷ []) ∷ atom p (1 ∷ []) ∷ atom (int 4) (1 ∷ []) ∷ rule add_up ∷ []))
+    (together (atom p (0 ∷ []) ∷ atom (int 7) (0 ∷ []) ∷ rule add_up ∷ []))
+
+-- `/` goes toward zero, and `mod` has the sign of its left side
+-- (`negsuc n` is -1 - n)
+abbrev pub QuotientsAndRemainders : Type 0
+QuotientsAndRemainders =
+    (result_of over (negsuc 6) (pos 2) ≡ negsuc 2) × (result_of over (pos 7) (negsuc 1) ≡ negsuc 2)
+    × (result_of modulo (negsuc 6) (pos 2) ≡ negsuc 0) × (result_of modulo (pos 7) (negsuc 1) ≡ pos 1)
+
+-- `b :- c`, and `{a, $p, @r} :- {$p, @r, @r}`
+abbrev pub b_makes_c : Rule
+b_makes_c = rule_of (leaves (atom_leaf b [] ∷ [])) [] (leaves (atom_leaf c [] ∷ []))
+
+abbrev pub double_rules : Rule
+double_rules =
+    let rest : Name = 112 ∷ [] in
+    let rules : Name = 114 ∷ [] in
+    rule_of (one_membrane (level (atom_leaf a [] ∷ []) no_level (rest ∷ []) (rules ∷ []) no_rule)) []
+    (one_membrane (level [] no_level (rest ∷ []) (rules ∷ rules ∷ []) no_rule))
+
+-- `{a. b. b :- c.}.` beside this rule commits to `{b. b :- c. b :- c.}.` beside it
+abbrev pub RulesAreCopied : Type 0
+RulesAreCopied =
+    Commit
+    (together (membrane (together (atom a [] ∷ atom b [] ∷ rule b_makes_c ∷ [])) ∷ rule double_rules ∷ []))
+    (together (membrane (together (atom b [] ∷ rule b_makes_c ∷ rule b_makes_c ∷ [])) ∷ rule double_rules ∷ []))
