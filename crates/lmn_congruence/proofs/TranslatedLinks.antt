@@ -1,26 +1,22 @@
 -- The links of what the program keeps, and those of its translation.
-use Rattle.std.proofs.Common.{ℕ, ◌≡◌, ◌+◌, ◌==◌, ◌⊎◌, ◌↔◌, zero, suc, List, [], ◌∷◌, ◌++◌, map, length, sum, All, count_by, Bool, true, false, cond, refl, sym, ◌∙◌, ap, subst, arith}
+use Rattle.std.proofs.Common.{ℕ, ◌≡◌, ◌+◌, ◌==◌, zero, suc, List, [], ◌∷◌, ◌++◌, map, All, count_by, Bool, true, false, cond, refl, sym, ◌∙◌, ap, subst, arith}
 use Rattle.std.specs.List.{flat_map}
-use Rattle.std.proofs.lemmas.List.{append-nil, length-map}
+use Rattle.std.proofs.lemmas.List.{append-nil}
 use Rattle.std.proofs.lemmas.List.Recursion.{is_count_by}
-use Rattle.std.proofs.lemmas.List.Sums.{sum_by-cons}
 use Rattle.std.proofs.lemmas.Grind.{flat_map-append}
 use Rattle.lmn_base.specs.declared.functor.Label.{Label}
 use Rattle.lmn_base.specs.declared.functor.Label.TheVariants.{Name, Int}
 use Rattle.lmn_base.specs.declared.level.Leaf.{Leaf}
 use Rattle.lmn_base.specs.declared.level.Leaf.TheVariants.{Atom, Typed}
 use Rattle.lmn_base.specs.declared.level.Level.{Level}
-use Rattle.lmn_base.specs.declared.level.Level.TheOpen.{Level-F}
-use Rattle.lmn_base.specs.declared.level.Level.TheFolds.{fold-Level, fold-roll-Level, ind-Level}
-use Rattle.lmn_base.specs.declared.level.Level.TheViews.{roll-Level}
+use Rattle.lmn_base.specs.declared.level.Level.TheFolds.{fold-roll-Level, ind-Level}
 use Rattle.lmn_base.specs.Levels.{leaves_of, leaf_occurrences as base_occurrences, links_of}
 use Rattle.lmn_base.specs.WellMade.{IsAtom}
 use Rattle.lmn_base.specs.declared.solid.SolidAtom.{SolidAtom}
 use Rattle.lmn_base.specs.declared.solid.Region.{Region}
 use Rattle.lmn_base.specs.declared.solid.Region.TheFolds.{fold-Region, fold-roll-Region, ind-Region}
-use Rattle.lmn_base.specs.declared.solid.Region.TheViews.{roll-Region}
-use Rattle.lmn_base.specs.Solids.{atoms_of, atoms_step, items_step, links_of as solid_links}
-use Rattle.lmn_congruence.specs.Links.{places, one_if_same}
+use Rattle.lmn_base.specs.Solids.{atoms_of, atoms_step, links_of as solid_links}
+use Rattle.lmn_congruence.specs.Links.{places}
 use Rattle.lmn_congruence.specs.Process.{Process, occurrences, together, rule}
 use Rattle.lmn_congruence.specs.Plains.{leaf_process, level_process, levels_processes}
 use Rattle.lmn_congruence.specs.Regions as solid
