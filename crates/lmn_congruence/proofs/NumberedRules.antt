@@ -45,8 +45,12 @@ module _ (names : List tree.Name) (f g : ℕ → tree.Rule) where
   level_alike = ind-Level Alike (λ y z is h.
       let here = subst (All Agrees) (fold-roll-Level (List ℕ) (λ l. l.rules ++ flat_map (λ inner. inner) l.membranes) y) h in
       let inside = subst (λ l. All Agrees (inner_rules l.membranes) → levels (map (level_of names f) l.membranes) ≡ levels (map (level_of names g) l.membranes)) is (inside_alike z.membranes) in
-      rw (fold-roll-Level tree.Level (level_step names f) y, fold-roll-Level tree.Level (level_step names g) y,
-          inside (all_right Agrees y.rules (inner_rules y.membranes) here), same_map f g y.rules (all_left Agrees y.rules (inner_rules y.membranes) here)) refl)
+      rw (
+        fold-roll-Level tree.Level (level_step names f) y,
+        fold-roll-Level tree.Level (level_step names g) y,
+        inside (all_right Agrees y.rules (inner_rules y.membranes) here),
+        same_map f g y.rules (all_left Agrees y.rules (inner_rules y.membranes) here),
+      ) refl)
 
   pub rule_alike : (r : RuleTree) → All Agrees (rules_of r.head ++ rules_of r.body) → rule_step names f r ≡ rule_step names g r
   rule_alike r h =

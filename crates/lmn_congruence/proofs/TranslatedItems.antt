@@ -28,7 +28,7 @@ module _ (names : List tree.Name) (number : ℕ → tree.Rule) where
   same_items = ind-Region SameItems (λ y z is.
       let inside = subst (λ r. solid.items_of_all (regions (map numbered_region r.membranes)) ≡ inner_total r.membranes) is (inner_items z.membranes) in
       rw (fold-roll-Region solid.Region (region_step names number) y, fold-roll-Region ℕ items_step y)
-          (omega (arith, inside, length-map y.atoms (solid_atom_of names), length-map y.rules number, length-map y.membranes (fold-Region ℕ items_step))))
+      (omega (arith, inside, length-map y.atoms (solid_atom_of names), length-map y.rules number, length-map y.membranes (fold-Region ℕ items_step))))
 
 pub items_kept : ItemsKept
 items_kept names table s = same_items names (rule_of names table) s.root

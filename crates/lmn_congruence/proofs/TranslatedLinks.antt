@@ -71,7 +71,7 @@ module _ (names : List tree.Name) (rule : ℕ → tree.Rule) (x : ℕ) where
   level_places = ind-Level Counted (λ y z is.
       let inside = subst (λ l. levels_occurrences x (levels (map (level_of names rule) l.membranes)) ≡ places x (links_in (flat_map (λ inner. inner) (map leaves_of l.membranes)))) is (inner_places z.membranes) in
       rw (fold-roll-Level tree.Level (level_step names rule) y, fold-roll-Level (List Leaf) (λ l. l.leaves ++ flat_map (λ inner. inner) l.membranes) y)
-          (omega (arith, leaves_places names x y.leaves, inside, places_both x y.leaves (flat_map (λ inner. inner) (map leaves_of y.membranes)))))
+      (omega (arith, leaves_places names x y.leaves, inside, places_both x y.leaves (flat_map (λ inner. inner) (map leaves_of y.membranes)))))
 
 -- ---- the process of a top without contexts
 
@@ -110,8 +110,13 @@ module _ (names : List tree.Name) (number : ℕ → tree.Rule) (x : ℕ) where
       let here = subst (All IsAtom) split h in
       let inside = subst (λ l. All IsAtom (inner_leaves l.membranes) → occurrences x (inner_process l.membranes) ≡ places x (links_in (inner_leaves l.membranes))) is (inner_shown z.membranes) in
       rw (fold-roll-Level tree.Level (level_step names number) y, split)
-          (omega (arith, leaves_alone names x y.leaves (all_left IsAtom y.leaves (inner_leaves y.membranes) here), inside (all_right IsAtom y.leaves (inner_leaves y.membranes) here),
-              no_link_in_rules x (tree.rules_list (rules (map number y.rules))), places_both x y.leaves (inner_leaves y.membranes))))
+      (omega (
+        arith,
+        leaves_alone names x y.leaves (all_left IsAtom y.leaves (inner_leaves y.membranes) here),
+        inside (all_right IsAtom y.leaves (inner_leaves y.membranes) here),
+        no_link_in_rules x (tree.rules_list (rules (map number y.rules))),
+        places_both x y.leaves (inner_leaves y.membranes),
+      )))
 
 -- ---- solids
 
@@ -143,7 +148,7 @@ module _ (names : List tree.Name) (number : ℕ → tree.Rule) (x : ℕ) where
   region_places = ind-Region Solidly (λ y z is.
       let inside = subst (λ r. occurrences x (inner_regions r.membranes) ≡ places x (flat_map (λ a. a.links) (inner_atoms r.membranes))) is (inner_solidly z.membranes) in
       rw (fold-roll-Region solid.Region (region_step names number) y, fold-roll-Region (List SolidAtom) atoms_step y)
-          (omega (arith, atoms_places names x y.atoms, inside, no_link_in_rules x (map number y.rules), both_atoms x y.atoms (inner_atoms y.membranes))))
+      (omega (arith, atoms_places names x y.atoms, inside, no_link_in_rules x (map number y.rules), both_atoms x y.atoms (inner_atoms y.membranes))))
 
 -- ---- how often a link occurs
 
