@@ -8,7 +8,7 @@ use Rattle.lmn_base.specs.declared.rule.Plain.{Plain}
 use Rattle.lmn_base.specs.Levels.{rules_of}
 use Rattle.lmn_base.specs.WellMade.{IsWellMade}
 use Rattle.lmn_congruence.specs.Rules as tree
-use Rattle.lmn_congruence.specs.Translation.{level_of, level_step, levels, rule_step, rules_from, rule_of, no_such_rule}
+use Rattle.lmn_congruence.specs.Translation.{level_of, level_step, levels, rule_tree, rules_from, rule_of, no_such_rule}
 
 pub all_left : {A : Type 0} (P : A → Type 0) (xs ys : List A) → All P (xs ++ ys) → All P xs
 all_left P [] ys h k d l = absurd (omega (arith, l))
@@ -52,7 +52,7 @@ module _ (names : List tree.Name) (f g : ℕ → tree.Rule) where
         same_map f g y.rules (all_left Agrees y.rules (inner_rules y.membranes) here),
       ) refl)
 
-  pub rule_alike : (r : RuleTree) → All Agrees (rules_of r.head ++ rules_of r.body) → rule_step names f r ≡ rule_step names g r
+  pub rule_alike : (r : RuleTree) → All Agrees (rules_of r.head ++ rules_of r.body) → rule_tree names f r ≡ rule_tree names g r
   rule_alike r h =
       rw (level_alike r.head (all_left Agrees (rules_of r.head) (rules_of r.body) h), level_alike r.body (all_right Agrees (rules_of r.head) (rules_of r.body) h)) refl
 
@@ -65,13 +65,13 @@ behind_alike names k m r table h = let e : m - k ≡ suc (m - (k + 1)) = omega (
 
 -- a rule reads only what stands behind it
 moved_on : (names : List tree.Name) (q r : RuleTree) (table : List RuleTree) (k : ℕ) → All (λ m. k < m) (rules_of r.head ++ rules_of r.body) →
-    rule_step names (numbered names table (k + 1)) r ≡ rule_step names (numbered names (q ∷ table) k) r
+    rule_tree names (numbered names table (k + 1)) r ≡ rule_tree names (numbered names (q ∷ table) k) r
 moved_on names q r table k h =
     rule_alike names (numbered names table (k + 1)) (numbered names (q ∷ table) k) r (λ i d l. behind_alike names k (slice_index_or (rules_of r.head ++ rules_of r.body) i d) q table (h i d l))
 
 -- numbers in the rule are above its own, n places behind k
 rule_behind : (names : List tree.Name) (table : List RuleTree) (k n : ℕ) (r : RuleTree) → slice_get table n ≡ Some r → All (λ m. k + n < m) (rules_of r.head ++ rules_of r.body) →
-    slice_index_or (rules_from names k table) n no_such_rule ≡ rule_step names (numbered names table k) r
+    slice_index_or (rules_from names k table) n no_such_rule ≡ rule_tree names (numbered names table k) r
 rule_behind names [] k n r e h = absurd (cc e)
 rule_behind names (q ∷ table) k zero r e h =
     let p : q ≡ r = cc e in
@@ -82,7 +82,7 @@ rule_behind names (q ∷ table) k (suc n) r e h =
 from_first : (names : List tree.Name) (table : List RuleTree) (m : ℕ) → numbered names table 0 m ≡ rule_of names table m
 from_first names table m = let e : m - 0 ≡ m = omega arith in rw e refl
 
-pub rule_has_number : (names : List tree.Name) (p : Plain) (n : ℕ) (r : RuleTree) → IsWellMade p → slice_get p.rules n ≡ Some r → rule_of names p.rules n ≡ rule_step names (rule_of names p.rules) r
+pub rule_has_number : (names : List tree.Name) (p : Plain) (n : ℕ) (r : RuleTree) → IsWellMade p → slice_get p.rules n ≡ Some r → rule_of names p.rules n ≡ rule_tree names (rule_of names p.rules) r
 rule_has_number names p n r w e =
     rule_behind names p.rules 0 n r e (λ i d l. omega (arith, (w.rules_in_rules n r e i d l).0)) ∙
     rule_alike names (numbered names p.rules 0) (rule_of names p.rules) r (λ i d l. from_first names p.rules (slice_index_or (rules_of r.head ++ rules_of r.body) i d))

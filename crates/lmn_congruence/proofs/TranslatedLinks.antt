@@ -1,7 +1,7 @@
 -- The links of what the program keeps, and those of its translation.
 use Rattle.std.proofs.Common.{ℕ, ◌≡◌, ◌+◌, ◌==◌, zero, suc, List, [], ◌∷◌, ◌++◌, map, All, count_by, Bool, true, false, cond, refl, sym, ◌∙◌, ap, subst, arith}
 use Rattle.std.specs.List.{flat_map}
-use Rattle.std.proofs.lemmas.List.{append-nil}
+use Rattle.std.proofs.lemmas.List.{append-nil, map-append}
 use Rattle.std.proofs.lemmas.List.Recursion.{is_count_by}
 use Rattle.std.proofs.lemmas.Grind.{flat_map-append}
 use Rattle.lmn_base.specs.declared.functor.Label.{Label}
@@ -30,16 +30,12 @@ places_append : (x : ℕ) (xs ys : List ℕ) → places x (xs ++ ys) ≡ places 
 places_append x [] ys = omega arith
 places_append x (z ∷ xs) ys = omega (arith, places_append x xs ys)
 
-map_append : {A B : Type 0} (f : A → B) (xs ys : List A) → map f (xs ++ ys) ≡ map f xs ++ map f ys
-map_append f [] ys = refl
-map_append f (x ∷ xs) ys = ap (λ zs. f x ∷ zs) (map_append f xs ys)
-
 -- the links of leaves
 abbrev links_in : List Leaf → List ℕ
 links_in ls = map (λ o. o.link) (flat_map base_occurrences ls)
 
 places_both : (x : ℕ) (ks ls : List Leaf) → places x (links_in (ks ++ ls)) ≡ places x (links_in ks) + places x (links_in ls)
-places_both x ks ls = rw (flat_map-append base_occurrences ks ls, map_append (λ o. o.link) (flat_map base_occurrences ks) (flat_map base_occurrences ls)) (places_append x (links_in ks) (links_in ls))
+places_both x ks ls = rw (flat_map-append base_occurrences ks ls, map-append (λ o. o.link) (flat_map base_occurrences ks) (flat_map base_occurrences ls)) (places_append x (links_in ks) (links_in ls))
 
 -- of an atom's tree, and of its process
 atom_places : (names : List tree.Name) (x : ℕ) (l : Label) (ys : List ℕ) → (leaf_occurrences x (atom_of names l ys) ≡ places x ys) × (occurrences x (leaf_process (atom_of names l ys)) ≡ places x ys)

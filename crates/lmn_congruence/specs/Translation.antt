@@ -103,8 +103,8 @@ condition_of names (Compare op left right pos) = tree.compares (comparison_of op
 condition_of names (Equal left right pos) = tree.equates (name_of names left.name) (expression_of names right) ∷ []
 condition_of names (Differ left right pos) = tree.differs (name_of names left.name) (name_of names right.name) ∷ []
 
-abbrev pub rule_step : List tree.Name → (ℕ → tree.Rule) → RuleTree → tree.Rule
-rule_step names rule r = tree.rule_of (level_of names rule r.head) (flat_map (condition_of names) r.guard) (level_of names rule r.body)
+abbrev pub rule_tree : List tree.Name → (ℕ → tree.Rule) → RuleTree → tree.Rule
+rule_tree names rule r = tree.rule_of (level_of names rule r.head) (flat_map (condition_of names) r.guard) (level_of names rule r.body)
 
 -- what a number stands for that names no rule
 abbrev pub empty_level : tree.Level
@@ -117,7 +117,7 @@ no_such_rule = tree.rule_of empty_level [] empty_level
 -- is one of those behind it.
 abbrev pub rules_from : List tree.Name → ℕ → List RuleTree → List tree.Rule
 rules_from names k [] = []
-rules_from names k (r ∷ rs) = let behind = rules_from names (k + 1) rs in rule_step names (λ n. slice_index_or behind (n - (k + 1)) no_such_rule) r ∷ behind
+rules_from names k (r ∷ rs) = let behind = rules_from names (k + 1) rs in rule_tree names (λ n. slice_index_or behind (n - (k + 1)) no_such_rule) r ∷ behind
 
 -- the rule with a number
 abbrev pub rule_of : List tree.Name → List RuleTree → ℕ → tree.Rule

@@ -10,11 +10,11 @@ use Rattle.lmn_congruence.specs.Process.{occurrences}
 use Rattle.lmn_congruence.specs.Rules.{Name, Rule}
 use Rattle.lmn_congruence.specs.LinkedRules.{level_occurrences}
 use Rattle.lmn_congruence.specs.Regions.{items}
-use Rattle.lmn_congruence.specs.Translation.{level_of, rule_step, rule_of, plain_process, region_of, solid_process}
+use Rattle.lmn_congruence.specs.Translation.{level_of, rule_tree, rule_of, plain_process, region_of, solid_process}
 
 -- the rule with a number is the tree of its head, guard and body, in which each number again stands for its rule
 abbrev pub NumbersStandForRules : Type 0
-NumbersStandForRules = (names : List Name) (p : Plain) (n : ℕ) (r : RuleTree) → IsWellMade p → slice_get p.rules n ≡ Some r → rule_of names p.rules n ≡ rule_step names (rule_of names p.rules) r
+NumbersStandForRules = (names : List Name) (p : Plain) (n : ℕ) (r : RuleTree) → IsWellMade p → slice_get p.rules n ≡ Some r → rule_of names p.rules n ≡ rule_tree names (rule_of names p.rules) r
 
 -- a link occurs in the tree of a level as often as in the level
 abbrev pub LevelLinksKept : Type 0
