@@ -1,11 +1,20 @@
 -- How often links occur, in lists and in processes.
-use Rattle.std.proofs.Common.{ℕ, suc, ◌≡◌, ◌≢◌, ◌+◌, ◌≤◌, ◌⊎◌, List, [], ◌∷◌, map, refl, inl, inr, arith}
+use Rattle.std.proofs.Common.{ℕ, suc, ◌≡◌, ◌≢◌, ◌+◌, ◌≤◌, ◌<◌, ◌⊎◌, List, [], ◌∷◌, map, refl, inl, inr, arith}
 use Rattle.lmn_congruence.specs.Links.{one_if_same, places}
 use Rattle.lmn_congruence.specs.Process.{Process, nothing, connector, atom, pair, membrane, rule, occurrences, replace, Free, Local, Fresh, Linked, substitute}
 use Rattle.lmn_congruence.specs.Congruence.{Congruent, unit, swap, regroup, rename, beside, inside, loop, turn, absorb, pass, same, back, chain}
 
-pub one_if_itself : (x : ℕ) → one_if_same x x ≡ 1
-one_if_itself x = grind arith
+pub one_if_equal : (x y : ℕ) → x ≡ y → one_if_same x y ≡ 1
+one_if_equal x y e = grind arith
+
+pub none_if_apart : (x y : ℕ) → x ≢ y → one_if_same x y ≡ 0
+none_if_apart x y d = grind arith
+
+pub below_or_from : (x n : ℕ) → (x < n) ⊎ (n ≤ x)
+below_or_from x n = grind arith
+
+pub less_apart : (x n : ℕ) → x < n → x ≢ n
+less_apart x n l = grind arith
 
 -- a link that replaces: what is counted
 pub places_replaced : (new old x : ℕ) (xs : List ℕ) → new ≢ old → x ≢ old → x ≢ new → places x (map (replace new old) xs) ≡ places x xs
@@ -97,7 +106,7 @@ absorbed_bound x y z P f l = go (replaced y x z P (apart x y P f l))
   where
     go : Replaced y x z P → occurrences z (substitute y x P) ≤ 2
     go (is_old e q) = omega arith
-    go (is_new e q) = omega (arith, l.at_most_twice y, one_if_itself y)
+    go (is_new e q) = omega (arith, l.at_most_twice y, one_if_equal y y refl)
     go (is_other e e' q) = omega (arith, l.at_most_twice z)
 
 -- parts of a linked process are linked

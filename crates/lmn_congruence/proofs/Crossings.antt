@@ -1,10 +1,10 @@
 -- The links that cross membranes.
-use Rattle.std.proofs.Common.{ℕ, suc, ◌≡◌, ◌≢◌, ◌+◌, ◌≤◌, ◌⊎◌, List, [], ◌∷◌, refl, sym, ◌∙◌, ap, inl, inr, zero-add, arith}
+use Rattle.std.proofs.Common.{ℕ, suc, ◌≡◌, ◌≢◌, ◌+◌, ◌≤◌, ◌<◌, ◌⊎◌, List, [], ◌∷◌, refl, sym, ◌∙◌, ap, inl, inr, zero-add, arith}
 use Rattle.lmn_congruence.specs.Links.{one_if_same, places}
 use Rattle.lmn_congruence.specs.Process.{Process, nothing, connector, atom, pair, membrane, rule, occurrences, Fresh, Linked, substitute}
 use Rattle.lmn_congruence.specs.Congruence.{Congruent, unit, swap, regroup, rename, beside, inside, loop, turn, absorb, pass, same, back, chain, IsAtom, a_connector, an_atom, ExactlyOneFree}
 use Rattle.lmn_congruence.specs.FreeLinks.{total, above_all, top_of, one_if_once, one_if_free, free_number}
-use Rattle.lmn_congruence.proofs.Counts.{count_first, count_second, Alike, same_free, fresh_differs, occurrences_old, occurrences_new, occurrences_other}
+use Rattle.lmn_congruence.proofs.Counts.{below_or_from, Occurs, count_first, count_second, Alike, same_free, fresh_differs, occurrences_old, occurrences_new, occurrences_other}
 use Rattle.lmn_congruence.proofs.Totals.{total_same, total_two, total_past}
 
 pub places_above : (x : ℕ) (xs : List ℕ) → above_all xs ≤ x → places x xs ≡ 0
@@ -18,6 +18,13 @@ occurrences_above x (atom a ys) b = places_above x ys b
 occurrences_above x (pair P Q) b = omega (arith, occurrences_above x P (omega arith), occurrences_above x Q (omega arith))
 occurrences_above x (membrane P) b = occurrences_above x P b
 occurrences_above x (rule r) b = refl
+
+pub occurs_below : (P : Process) (x : ℕ) → Occurs x P → x < top_of P
+occurs_below P x o = go (below_or_from x (top_of P))
+  where
+    go : (x < top_of P) ⊎ (top_of P ≤ x) → x < top_of P
+    go (inl c) = c
+    go (inr c) = absurd (o (occurrences_above x P c))
 
 pub free_number_below : (n : ℕ) (P : Process) → top_of P ≤ n → total n (one_if_free P) ≡ free_number P
 free_number_below n P b = total_past (top_of P) n (one_if_free P) b (λ z c. ap one_if_once (occurrences_above z P c))

@@ -7,12 +7,15 @@ use Rattle.lmn_congruence.specs.Congruence.{Congruent, unit, swap, chain}
 use Rattle.lmn_congruence.specs.FreeLinks.{top_of}
 use Rattle.lmn_congruence.specs.Fused.{fused}
 use Rattle.lmn_congruence.specs.UpToOrder.{Reordered, r_unit, r_swap, r_regroup, r_beside, r_inside, r_same, r_back, r_chain}
-use Rattle.lmn_congruence.proofs.Counts.{same_or_not}
+use Rattle.lmn_congruence.proofs.Counts.{below_or_from, same_or_not}
 use Rattle.lmn_congruence.proofs.Crossings.{occurrences_above, crossings}
 use Rattle.lmn_congruence.proofs.Reordered.{reordered_congruent, r_right}
 use Rattle.lmn_congruence.proofs.LinkMaps.{closed_leaves, closed_linked}
 use Rattle.lmn_congruence.proofs.SettledForms.{reads_congruent, all_join}
 use Rattle.lmn_congruence.proofs.FewestCrossings.{same_crossings_each}
+
+pub zero_not_one : ¬ (◌≡◌ {A = ℕ} 0 1)
+zero_not_one = omega arith
 
 -- ---- a test of each link below the greatest
 
@@ -39,9 +42,6 @@ tested (suc n) t h z b = go (same_or_not z n) (λ c. tested n t (and_second (t n
     go (inl e) i = rw e (and_first (t n) (all_below n t) h)
     go (inr e) i = i (omega arith)
 
-below_or_not : (z n : ℕ) → (z < n) ⊎ (n ≤ z)
-below_or_not z n = grind arith
-
 zero_or_two : (n : ℕ) → IsTrue (eqb n 0 || eqb n 2) → (n ≡ 0) ⊎ (n ≡ 2)
 zero_or_two n h = grind arith
 
@@ -49,14 +49,14 @@ at_most_two : (n : ℕ) → IsTrue (leb n 2) → n ≤ 2
 at_most_two n h = grind arith
 
 pub linked_by : {P : Process} → IsTrue (all_below (top_of P) (λ z. leb (occurrences z P) 2)) → Linked P
-linked_by {P = P} h = record { at_most_twice = λ z. go z (below_or_not z (top_of P)) }
+linked_by {P = P} h = record { at_most_twice = λ z. go z (below_or_from z (top_of P)) }
   where
     go : (z : ℕ) → (z < top_of P) ⊎ (top_of P ≤ z) → occurrences z P ≤ 2
     go z (inl b) = at_most_two (occurrences z P) (tested (top_of P) (λ z. leb (occurrences z P) 2) h z b)
     go z (inr b) = rw (occurrences_above z P b) (omega arith)
 
 pub closed_by : (P : Process) → IsTrue (all_below (top_of P) (λ z. eqb (occurrences z P) 0 || eqb (occurrences z P) 2)) → Closed P
-closed_by P h = λ z. go z (below_or_not z (top_of P))
+closed_by P h = λ z. go z (below_or_from z (top_of P))
   where
     go : (z : ℕ) → (z < top_of P) ⊎ (top_of P ≤ z) → Fresh z P ⊎ Local z P
     go z (inl b) = zero_or_two (occurrences z P) (tested (top_of P) (λ z. eqb (occurrences z P) 0 || eqb (occurrences z P) 2) h z b)

@@ -15,10 +15,7 @@ use Rattle.lmn_congruence.specs.reduction.Commits.{Commit, already, step_and}
 use Rattle.lmn_congruence.specs.Fused.{NoConnector}
 use Rattle.lmn_congruence.specs.Examples.{a, b, c, p, int, z, two_make_b, TwoMakeOne, join_in_c, LinkMeetsItself, ConnectorLeaves, LoopVanishes, QuotientsAndRemainders, add_up, SumIsBound, b_makes_c, double_rules, RulesAreCopied}
 use Rattle.lmn_congruence.proofs.SettledProcesses.{no_connector_settled}
-use Rattle.lmn_congruence.proofs.Derivations.{linked_by, closed_by, regrouped, by_one_link}
-
-zero_not_one : ¬ (◌≡◌ {A = ℕ} 0 1)
-zero_not_one = omega arith
+use Rattle.lmn_congruence.proofs.Derivations.{zero_not_one, linked_by, closed_by, regrouped, by_one_link}
 
 -- a step to a process without connectors is a commit
 commits : {P Q : Process} → NoConnector Q → Linked Q → Step P Q → Commit P Q

@@ -14,9 +14,9 @@ use Rattle.lmn_congruence.specs.reduction.Redexes.{HasRedex, at_top, in_membrane
 use Rattle.lmn_congruence.specs.Examples.{a, b, join_from_membrane, InnerLinkStays}
 use Rattle.lmn_congruence.proofs.Counts.{occurs_once}
 use Rattle.lmn_congruence.proofs.Totals.{total_includes}
-use Rattle.lmn_congruence.proofs.Crossings.{crossings, same_crossings}
-use Rattle.lmn_congruence.proofs.Renaming.{occurs_below}
+use Rattle.lmn_congruence.proofs.Crossings.{occurs_below, crossings, same_crossings}
 use Rattle.lmn_congruence.proofs.SettledProcesses.{no_connector_settled}
+use Rattle.lmn_congruence.proofs.Derivations.{zero_not_one}
 use Rattle.lmn_congruence.proofs.Redexes.{step_shows}
 
 -- ---- the rules of a process, at every depth
@@ -71,10 +71,7 @@ one_free x y C d h = not_zero (one_if_free C x) (free_number C) (ap one_if_once 
 
 crossed : (t : Assignment) (A : Process) → Proper t → Instance t (head_of join_from_membrane) A → crossings A ≢ 0
 crossed t A p (instance no_leaf (membrane_and {P = C} (instance (leaf_and of_atom (leaf_and of_atom no_leaf)) no_membrane) no_membrane)) =
-    λ e. one_free (t.link_of 0) (t.link_of 1) C (λ q. zero_one (p.links_differ 0 1 q)) (λ z. omega arith) (omega arith)
-  where
-    zero_one : ¬ (◌≡◌ {A = ℕ} 0 1)
-    zero_one = omega arith
+    λ e. one_free (t.link_of 0) (t.link_of 1) C (λ q. zero_not_one (p.links_differ 0 1 q)) (λ z. omega arith) (omega arith)
 
 matched : (r : Rule) (A : Process) → r ≡ join_from_membrane → Matches r A → crossings A ≢ 0
 matched r A q = subst (λ k. Matches k A → crossings A ≢ 0) (sym q) (λ m. crossed m.assignment A m.proper m.head)

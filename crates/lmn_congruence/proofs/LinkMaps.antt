@@ -7,7 +7,7 @@ use Rattle.lmn_congruence.specs.Fused.{NoConnector, Joins, fused}
 use Rattle.lmn_congruence.specs.UpToOrder.{Reordered, r_same, r_back, r_chain}
 use Rattle.lmn_congruence.specs.LinkMaps.{ReadsAs}
 use Rattle.lmn_congruence.specs.Laws.{BothSidesLinked, SameFreeLinks}
-use Rattle.lmn_congruence.proofs.Counts.{same_or_not, same_free, linked_both, Occurs}
+use Rattle.lmn_congruence.proofs.Counts.{one_if_equal, none_if_apart, same_or_not, same_free, linked_both, Occurs}
 use Rattle.lmn_congruence.proofs.Crossings.{same_crossings}
 use Rattle.lmn_congruence.proofs.Reordered.{reordered_crossings}
 use Rattle.lmn_congruence.proofs.Carried.{congruence_carries}
@@ -78,17 +78,11 @@ closed_leaves v P c = λ x f. absurd (closed_not_one (occurrences x P) (c x) f)
 two_places : (v : ℕ → ℕ) (x y z : ℕ) → x ≢ y → v x ≡ v y → one_if_same x z + one_if_same y z ≤ one_if_same (v x) (v z)
 two_places v x y z d e = go (same_or_not x z) (same_or_not y z)
   where
-    one : (a b : ℕ) → a ≡ b → one_if_same a b ≡ 1
-    one a b p = grind arith
-
-    none : (a b : ℕ) → a ≢ b → one_if_same a b ≡ 0
-    none a b p = grind arith
-
     go : (x ≡ z) ⊎ (x ≢ z) → (y ≡ z) ⊎ (y ≢ z) → one_if_same x z + one_if_same y z ≤ one_if_same (v x) (v z)
     go (inl p) (inl q) = absurd (d (p ∙ sym q))
-    go (inl p) (inr q) = omega (arith, one x z p, none y z q, one (v x) (v z) (ap v p))
-    go (inr p) (inl q) = omega (arith, none x z p, one y z q, one (v x) (v z) (e ∙ ap v q))
-    go (inr p) (inr q) = omega (arith, none x z p, none y z q)
+    go (inl p) (inr q) = omega (arith, one_if_equal x z p, none_if_apart y z q, one_if_equal (v x) (v z) (ap v p))
+    go (inr p) (inl q) = omega (arith, none_if_apart x z p, one_if_equal y z q, one_if_equal (v x) (v z) (e ∙ ap v q))
+    go (inr p) (inr q) = omega (arith, none_if_apart x z p, none_if_apart y z q)
 
 two_in_list : (v : ℕ → ℕ) (x y : ℕ) (zs : List ℕ) → x ≢ y → v x ≡ v y → places x zs + places y zs ≤ places (v x) (map v zs)
 two_in_list v x y [] d e = omega arith

@@ -5,7 +5,7 @@ use Rattle.lmn_congruence.specs.Process.{Process, nothing, connector, atom, pair
 use Rattle.lmn_congruence.specs.Congruence.{Congruent, unit, swap, regroup, beside, inside, loop, turn, absorb, pass, same, back, IsAtom, a_connector, an_atom}
 use Rattle.lmn_congruence.specs.reduction.Steps.{leaf, beside as derived_beside, inside as derived_inside, out, into, SettlingStep}
 use Rattle.lmn_congruence.specs.reduction.Commits.{SettlesTowards, already, step_and}
-use Rattle.lmn_congruence.proofs.Counts.{count_first, count_second, same_or_not, Replaced, is_old, is_new, is_other, replaced}
+use Rattle.lmn_congruence.proofs.Counts.{one_if_equal, count_first, count_second, same_or_not, Replaced, is_old, is_new, is_other, replaced}
 use Rattle.lmn_congruence.specs.Fused.{NoConnector}
 use Rattle.lmn_congruence.proofs.SettledProcesses.{settle_after}
 
@@ -25,12 +25,9 @@ pub data Merge : Process → Process → Type 0 where
   merge_beside : {P P' Q : Process} → Merge P P' → Merge (pair P Q) (pair P' Q)
   merge_inside : {P P' : Process} → Merge P P' → Merge (membrane P) (membrane P')
 
-one_of_same : (z y : ℕ) → z ≡ y → one_if_same z y ≡ 1
-one_of_same z y e = grind arith
-
 absorbed_at : (x y z : ℕ) (P : Process) → Free x P → y ≢ x → Replaced y x z P → occurrences z (substitute y x P) ≤ one_if_same z x + one_if_same z y + occurrences z P
 absorbed_at x y z P f n (is_old e q) = omega arith
-absorbed_at x y z P f n (is_new e q) = omega (arith, one_of_same z y e, ap (λ k. occurrences k P) e)
+absorbed_at x y z P f n (is_new e q) = omega (arith, one_if_equal z y e, ap (λ k. occurrences k P) e)
 absorbed_at x y z P f n (is_other e e' q) = omega arith
 
 absorbed : (x y z : ℕ) (P : Process) → Free x P → y ≢ x → occurrences z (substitute y x P) ≤ one_if_same z x + one_if_same z y + occurrences z P

@@ -12,10 +12,10 @@ use Rattle.lmn_congruence.specs.reduction.Guards.{GuardHolds, no_condition, cond
 use Rattle.lmn_congruence.specs.reduction.Values.{Value, of_number, of_context, of_operation}
 use Rattle.lmn_congruence.specs.reduction.Instances.{IsCopy, LeafInstance, of_atom, of_connector, of_typed, LeafInstances, no_leaf, leaf_and, Instance, instance, MembraneInstances, no_membrane, membrane_and, rules_of_contexts}
 use Rattle.lmn_congruence.specs.reduction.Steps.{leaf, beside as derived_beside, inside as derived_inside, up_to, Step}
-use Rattle.lmn_congruence.proofs.Counts.{same_free, linked_both, same_or_not, map_after}
+use Rattle.lmn_congruence.proofs.Counts.{below_or_from, same_free, linked_both, same_or_not, map_after}
 use Rattle.lmn_congruence.proofs.Derivations.{no_right}
-use Rattle.lmn_congruence.proofs.Crossings.{occurrences_above}
-use Rattle.lmn_congruence.proofs.Renaming.{moved_away, away_free, away_local, away_apart, low_high, rename_all, occurrences_image, occurrences_none, occurs_below}
+use Rattle.lmn_congruence.proofs.Crossings.{occurs_below, occurrences_above}
+use Rattle.lmn_congruence.proofs.Renaming.{moved_away, away_free, away_local, away_apart, low_high, rename_all, occurrences_image, occurrences_none}
 
 -- ---- an instance after a one to one renaming of links
 
@@ -131,11 +131,8 @@ module _ (f : ℕ → ℕ) (one : (x y : ℕ) → f x ≡ f y → x ≡ y) where
 -- ---- what a step shows
 
 linked_beside : (P P₀ P₁ Q : Process) (K : ℕ) → Congruent P P₀ → Congruent P₀ P₁ → Linked (pair P Q) → ((x : ℕ) → K ≤ x → occurrences x Q ≡ 0) → ((z : ℕ) → z < K → occurrences z P₀ ≢ 1 → occurrences z P₁ ≡ 0) → Linked (pair P₁ Q)
-linked_beside P P₀ P₁ Q K c d l high low = record { at_most_twice = λ z. go z (below_or_from z) (same_or_not (occurrences z P₀) 1) }
+linked_beside P P₀ P₁ Q K c d l high low = record { at_most_twice = λ z. go z (below_or_from z K) (same_or_not (occurrences z P₀) 1) }
   where
-    below_or_from : (z : ℕ) → (z < K) ⊎ (K ≤ z)
-    below_or_from z = grind arith
-
     go : (z : ℕ) → (z < K) ⊎ (K ≤ z) → (occurrences z P₀ ≡ 1) ⊎ (occurrences z P₀ ≢ 1) → occurrences z P₁ + occurrences z Q ≤ 2
     go z (inr b) k = omega (arith, high z b, (linked_both d).1.at_most_twice z)
     go z (inl b) (inl f) = omega (arith, (same_free c z).back_again f, (same_free d z).there f, l.at_most_twice z)

@@ -4,10 +4,10 @@ use Rattle.std.proofs.lemmas.List.{map-id}
 use Rattle.lmn_congruence.specs.Links.{one_if_same, places}
 use Rattle.lmn_congruence.specs.Process.{Process, nothing, connector, atom, pair, membrane, rule, occurrences, replace, Free, Local, Linked, substitute, renamed, OneToOneOn}
 use Rattle.lmn_congruence.specs.Congruence.{Congruent, rename, same, chain}
-use Rattle.lmn_congruence.proofs.Counts.{same_or_not, linked_both, Occurs, in_head, in_tail, first_in, second_in, in_left, in_right, occurs_once, occurs_twice, map_after, map_agree, replaced_here, replaced_other}
+use Rattle.lmn_congruence.proofs.Counts.{one_if_equal, none_if_apart, below_or_from, less_apart, same_or_not, linked_both, Occurs, in_head, in_tail, first_in, second_in, in_left, in_right, occurs_once, occurs_twice, map_after, map_agree, replaced_here, replaced_other}
 use Rattle.lmn_congruence.specs.FreeLinks.{total, top_of}
 use Rattle.lmn_congruence.proofs.Totals.{highest}
-use Rattle.lmn_congruence.proofs.Crossings.{occurrences_above}
+use Rattle.lmn_congruence.proofs.Crossings.{occurs_below}
 
 -- two renamings one after the other, where they agree with a third on the links of the process
 pub substitute_renamed : (new old : ℕ) (g h : ℕ → ℕ) (P : Process) → ((x : ℕ) → Occurs x P → replace new old (g x) ≡ h x) → substitute new old (renamed g P) ≡ renamed h P
@@ -40,16 +40,10 @@ renamed_id (rule r) = refl
 one_image : (h : ℕ → ℕ) (x z : ℕ) → (h z ≡ h x → z ≡ x) → one_if_same (h x) (h z) ≡ one_if_same x z
 one_image h x z e = go (same_or_not x z) (same_or_not (h x) (h z))
   where
-    yes : (a b : ℕ) → a ≡ b → one_if_same a b ≡ 1
-    yes a b p = grind arith
-
-    not_one : (a b : ℕ) → a ≢ b → one_if_same a b ≡ 0
-    not_one a b p = grind arith
-
     go : (x ≡ z) ⊎ (x ≢ z) → (h x ≡ h z) ⊎ (h x ≢ h z) → one_if_same (h x) (h z) ≡ one_if_same x z
-    go (inl p) k = yes (h x) (h z) (ap h p) ∙ sym (yes x z p)
+    go (inl p) k = one_if_equal (h x) (h z) (ap h p) ∙ sym (one_if_equal x z p)
     go (inr p) (inl q) = absurd (p (sym (e (sym q))))
-    go (inr p) (inr q) = not_one (h x) (h z) q ∙ sym (not_one x z p)
+    go (inr p) (inr q) = none_if_apart (h x) (h z) q ∙ sym (none_if_apart x z p)
 
 places_image : (h : ℕ → ℕ) (x : ℕ) (zs : List ℕ) → ((z : ℕ) → places z zs ≢ 0 → h z ≡ h x → z ≡ x) → places (h x) (map h zs) ≡ places x zs
 places_image h x [] e = refl
@@ -65,16 +59,13 @@ occurrences_image h x (membrane P) e = occurrences_image h x P e
 occurrences_image h x (rule r) e = refl
 
 -- a link to which nothing goes
-not_same : (x y : ℕ) → y ≢ x → one_if_same x y ≡ 0
-not_same x y n = grind arith
-
 places_none : (h : ℕ → ℕ) (x : ℕ) (zs : List ℕ) → ((z : ℕ) → places z zs ≢ 0 → h z ≢ x) → places x (map h zs) ≡ 0
 places_none h x [] e = refl
-places_none h x (z ∷ zs) e = omega (arith, not_same x (h z) (e z (in_head z zs)), places_none h x zs (λ y n. e y (in_tail z y zs n)))
+places_none h x (z ∷ zs) e = omega (arith, none_if_apart x (h z) (λ q. e z (in_head z zs) (sym q)), places_none h x zs (λ y n. e y (in_tail z y zs n)))
 
 pub occurrences_none : (h : ℕ → ℕ) (x : ℕ) (P : Process) → ((z : ℕ) → Occurs z P → h z ≢ x) → occurrences x (renamed h P) ≡ 0
 occurrences_none h x nothing e = refl
-occurrences_none h x (connector y z) e = omega (arith, not_same x (h y) (e y (first_in y z)), not_same x (h z) (e z (second_in y z)))
+occurrences_none h x (connector y z) e = omega (arith, none_if_apart x (h y) (λ q. e y (first_in y z) (sym q)), none_if_apart x (h z) (λ q. e z (second_in y z) (sym q)))
 occurrences_none h x (atom a zs) e = places_none h x zs e
 occurrences_none h x (pair P Q) e =
     omega (arith, occurrences_none h x P (λ z n. e z (in_left (occurrences z P) (occurrences z Q) n)), occurrences_none h x Q (λ z n. e z (in_right (occurrences z P) (occurrences z Q) n)))
@@ -100,27 +91,11 @@ mixed_below n a b x l = grind arith
 mixed_from : (n : ℕ) (a b : ℕ → ℕ) (x : ℕ) → n ≤ x → mixed n a b x ≡ a x
 mixed_from n a b x l = grind arith
 
-below_or_from : (x n : ℕ) → (x < n) ⊎ (n ≤ x)
-below_or_from x n = grind arith
-
 how_often : (n : ℕ) → n ≤ 2 → (n ≡ 0) ⊎ ((n ≡ 1) ⊎ (n ≡ 2))
 how_often n l = grind arith
 
 three_ways : (x n : ℕ) → (x < n) ⊎ ((x ≡ n) ⊎ (n < x))
 three_ways x n = grind arith
-
-less_apart : (x n : ℕ) → x < n → x ≢ n
-less_apart x n l = grind arith
-
-less_apart' : (x n : ℕ) → n < x → x ≢ n
-less_apart' x n l = grind arith
-
-pub occurs_below : (P : Process) (x : ℕ) → Occurs x P → x < top_of P
-occurs_below P x o = go (below_or_from x (top_of P))
-  where
-    go : (x < top_of P) ⊎ (top_of P ≤ x) → x < top_of P
-    go (inl c) = c
-    go (inr c) = absurd (o (occurrences_above x P c))
 
 module _ (a b : ℕ → ℕ) (P : Process) (m : Movable a b P) (l : Linked P) where
   -- a link below n, at its new name, is not the old name of n

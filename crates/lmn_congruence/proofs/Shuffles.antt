@@ -1,5 +1,5 @@
 -- Lists that match one by one in some order.
-use Rattle.std.proofs.Common.{◌≡◌, List, [], ◌∷◌, ◌++◌, refl, sym, ap, subst}
+use Rattle.std.proofs.Common.{List, [], ◌∷◌, ◌++◌, sym, subst}
 use Rattle.std.proofs.lemmas.List.{append-nil}
 use Rattle.lmn_congruence.specs.Orders.{Put, here, there, Shuffle, none, more}
 
@@ -14,10 +14,6 @@ put_first (here {y = y}) {x} {xs} p = record { between = y ∷ xs; first = here;
 put_first (there {ys = ys} {zs = zs} q) here = record { between = zs; first = q; second = here }
 put_first (there q) (there {z = z} p) = let t = put_first q p in record { between = z ∷ t.between; first = there t.first; second = there t.second }
 
-pub put_front : {A : Type 0} {y : A} {ys zs : List A} (xs : List A) → Put y ys zs → Put y (xs ++ ys) (xs ++ zs)
-put_front [] p = p
-put_front (x ∷ xs) p = there (put_front xs p)
-
 pub put_back : {A : Type 0} {y : A} {ys zs : List A} → Put y ys zs → (xs : List A) → Put y (ys ++ xs) (zs ++ xs)
 put_back here xs = here
 put_back (there p) xs = there (put_back p xs)
@@ -25,21 +21,6 @@ put_back (there p) xs = there (put_back p xs)
 pub put_between : {A : Type 0} (y : A) (xs ys : List A) → Put y (xs ++ ys) (xs ++ y ∷ ys)
 put_between y [] ys = here
 put_between y (x ∷ xs) ys = there (put_between y xs ys)
-
--- two puts that give one list: the same, or one beside the other
-pub data Compared {A : Type 0} (y y' : A) (ys ys' : List A) : Type 0 where
-  alike : y ≡ y' → ys ≡ ys' → Compared y y' ys ys'
-  apart : (ws : List A) → Put y ws ys' → Put y' ws ys → Compared y y' ys ys'
-
-compared_there : {A : Type 0} {y y' : A} {ys ys' : List A} (z : A) → Compared y y' ys ys' → Compared y y' (z ∷ ys) (z ∷ ys')
-compared_there z (alike e f) = alike e (ap (λ k. z ∷ k) f)
-compared_there z (apart ws p q) = apart (z ∷ ws) (there p) (there q)
-
-pub compare_puts : {A : Type 0} {y : A} {ys zs : List A} → Put y ys zs → {y' : A} {ys' : List A} → Put y' ys' zs → Compared y y' ys ys'
-compare_puts here here = alike refl refl
-compare_puts here (there {ys = ws} q) = apart ws here q
-compare_puts (there {ys = ws} p) here = apart ws p here
-compare_puts (there {z = z} p) (there q) = compared_there z (compare_puts p q)
 
 pub shuffle_append : {A B : Type 0} {R : A → B → Type 0} {xs : List A} {ys : List B} → Shuffle R xs ys → {xs' : List A} {ys' : List B} → Shuffle R xs' ys' → Shuffle R (xs ++ xs') (ys ++ ys')
 shuffle_append none t = t
@@ -49,22 +30,6 @@ shuffle_append (more r s p) {xs'} {ys'} t = more r (shuffle_append s t) (put_bac
 pub shuffle_put : {A B : Type 0} {R : A → B → Type 0} {x : A} {y : B} → R x y → {xs xs' : List A} → Put x xs xs' → {ys ys' : List B} → Put y ys ys' → Shuffle R xs ys → Shuffle R xs' ys'
 shuffle_put r here q s = more r s q
 shuffle_put r (there p) q (more r' s q') = let t = put_first q q' in more r' (shuffle_put r p t.first s) t.second
-
--- what matches an element of the right list
-pub record Found {A B : Type 0} (R : A → B → Type 0) (y : B) (xs : List A) (ys : List B) : Type 0 where
-  pub match : A
-  pub rest : List A
-  pub related : R match y
-  pub put : Put match rest xs
-  pub others : Shuffle R rest ys
-
-found_more : {A B : Type 0} {R : A → B → Type 0} {x : A} {xs : List A} {y y' : B} {ys ys' : List B} → R x y' → Shuffle R xs ys' → ((ws : List B) → Put y ws ys' → Found R y xs ws) → Compared y y' ys ys' → Found R y (x ∷ xs) ys
-found_more {R = R} {x = x} {xs = xs} r s h (alike e f) = record { match = x; rest = xs; related = rw e r; put = here; others = rw f s }
-found_more {x = x} r s h (apart ws p q) = let u = h ws p in record { match = u.match; rest = x ∷ u.rest; related = u.related; put = there u.put; others = more r u.others q }
-
-pub find_put : {A B : Type 0} {R : A → B → Type 0} {xs : List A} {zs : List B} → Shuffle R xs zs → (y : B) (ys : List B) → Put y ys zs → Found R y xs ys
-find_put none y ys p = elim p [ ]
-find_put (more r s q) y ys p = found_more r s (λ ws k. find_put s y ws k) (compare_puts p q)
 
 -- what matches an element of the left list
 pub record FoundRight {A B : Type 0} (R : A → B → Type 0) (x : A) (xs : List A) (ys : List B) : Type 0 where

@@ -1,14 +1,11 @@
 -- Sums over the numbers below a bound.
 use Rattle.std.proofs.Common.{ℕ, zero, suc, ◌≡◌, ◌≢◌, ◌+◌, ◌≤◌, ◌<◌, ◌⊎◌, refl, sym, ◌∙◌, inl, inr, arith}
 use Rattle.lmn_congruence.specs.FreeLinks.{total}
-use Rattle.lmn_congruence.proofs.Counts.{same_or_not}
+use Rattle.lmn_congruence.proofs.Counts.{less_apart, same_or_not}
 
 pub total_same : (n : ℕ) (f g : ℕ → ℕ) → ((z : ℕ) → z < n → f z ≡ g z) → total n f ≡ total n g
 total_same zero f g h = refl
 total_same (suc n) f g h = omega (arith, h n (omega arith), total_same n f g (λ z b. h z (omega arith)))
-
-less_differs : (z n : ℕ) → z < n → z ≢ n
-less_differs z n c = grind arith
 
 below : (n x : ℕ) → x < suc n → x ≢ n → x < n
 below n x b e = grind arith
@@ -22,11 +19,11 @@ total_one zero x f g b h = absurd (go b)
 total_one (suc n) x f g b h = go (same_or_not x n) (λ c. total_one n x f g c (λ z k p. h z (omega arith) p))
   where
     go : (x ≡ n) ⊎ (x ≢ n) → (x < n → total n f + g x ≡ total n g + f x) → f n + total n f + g x ≡ g n + total n g + f x
-    go (inl e) i = rw e (omega (arith, total_same n f g (λ z c. h z (omega arith) (λ q. less_differs z n c (q ∙ e)))))
+    go (inl e) i = rw e (omega (arith, total_same n f g (λ z c. h z (omega arith) (λ q. less_apart z n c (q ∙ e)))))
     go (inr e) i = omega (arith, i (below n x b e), h n (omega arith) (λ q. e (sym q)))
 
 alone : (n x y : ℕ) (f g : ℕ → ℕ) → x ≡ n → y < n → ((z : ℕ) → z ≢ x → z ≢ y → f z ≡ g z) → f n + total n f + (g x + g y) ≡ g n + total n g + (f x + f y)
-alone n x y f g e c h = rw e (omega (arith, total_one n y f g c (λ z b p. h z (λ q. less_differs z n b (q ∙ e)) p)))
+alone n x y f g e c h = rw e (omega (arith, total_one n y f g c (λ z b p. h z (λ q. less_apart z n b (q ∙ e)) p)))
 
 pub total_two : (n x y : ℕ) (f g : ℕ → ℕ) → x ≢ y → x < n → y < n → ((z : ℕ) → z ≢ x → z ≢ y → f z ≡ g z) → total n f + (g x + g y) ≡ total n g + (f x + f y)
 total_two zero x y f g d b c h = absurd (go b)
