@@ -1,5 +1,5 @@
 -- The links of what the program keeps, and those of its translation.
-use Rattle.std.proofs.Common.{ℕ, ◌≡◌, ◌+◌, ◌==◌, zero, suc, List, [], ◌∷◌, ◌++◌, map, All, count_by, Bool, true, false, cond, refl, sym, ◌∙◌, ap, subst, arith}
+use Rattle.std.proofs.Common.{ℕ, ◌≡◌, ◌+◌, ◌==◌, zero, suc, List, [], ◌∷◌, ◌++◌, map, All, count_by, Bool, true, false, cond, refl, sym, ◌∙◌, subst, arith}
 use Rattle.std.specs.List.{flat_map}
 use Rattle.std.proofs.lemmas.List.{append-nil, map-append}
 use Rattle.std.proofs.lemmas.List.Recursion.{is_count_by}
