@@ -8,16 +8,8 @@ use Rattle.lmn_base.specs.declared.rule.Plain.{Plain}
 use Rattle.lmn_base.specs.Levels.{rules_of}
 use Rattle.lmn_base.specs.WellMade.{IsWellMade}
 use Rattle.lmn_congruence.specs.Rules as tree
+use Rattle.lmn_congruence.proofs.Appended.{all_left, all_right}
 use Rattle.lmn_congruence.specs.Translation.{level_of, level_step, levels, rule_tree, rules_from, rule_of, no_such_rule}
-
-pub all_left : {A : Type 0} (P : A → Type 0) (xs ys : List A) → All P (xs ++ ys) → All P xs
-all_left P [] ys h k d l = absurd (omega (arith, l))
-all_left P (x ∷ xs) ys h zero d l = h zero d (omega arith)
-all_left P (x ∷ xs) ys h (suc k) d l = all_left P xs ys (λ j e m. h (suc j) e (omega (arith, m))) k d (omega (arith, l))
-
-pub all_right : {A : Type 0} (P : A → Type 0) (xs ys : List A) → All P (xs ++ ys) → All P ys
-all_right P [] ys h = h
-all_right P (x ∷ xs) ys h = all_right P xs ys (λ j e m. h (suc j) e (omega (arith, m)))
 
 same_map : {A B : Type 0} (f g : A → B) (xs : List A) → All (λ x. f x ≡ g x) xs → map f xs ≡ map g xs
 same_map f g [] h = refl

@@ -20,7 +20,7 @@ use Rattle.lmn_congruence.specs.Links.{places}
 use Rattle.lmn_congruence.specs.Process.{Process, occurrences, together, rule}
 use Rattle.lmn_congruence.specs.Plains.{leaf_process, level_process, levels_processes}
 use Rattle.lmn_congruence.specs.Regions as solid
-use Rattle.lmn_congruence.proofs.NumberedRules.{all_left, all_right}
+use Rattle.lmn_congruence.proofs.Appended.{all_left, all_right}
 use Rattle.lmn_congruence.specs.Rules as tree
 use Rattle.lmn_congruence.specs.LinkedRules.{leaf_occurrences, leaves_occurrences, level_occurrences, levels_occurrences}
 use Rattle.lmn_congruence.specs.Translation.{atom_of, leaf_of, level_of, level_step, levels, rules, solid_atom_of, regions, region_step, rule_of}
