@@ -13,7 +13,7 @@ use Rattle.lmn_congruence.specs.reduction.Firing.{Fires, fires, typed_contexts}
 use Rattle.lmn_congruence.specs.reduction.Steps.{Step, SettlingStep, leaf, beside as derived_beside, up_to, out, into}
 use Rattle.lmn_congruence.specs.reduction.Commits.{Commit, already, step_and}
 use Rattle.lmn_congruence.specs.Fused.{NoConnector}
-use Rattle.lmn_congruence.specs.Examples.{a, b, c, p, int, z, two_make_b, TwoMakeOne, join_in_c, LinkMeetsItself, ConnectorLeaves, LoopVanishes, QuotientsAndRemainders, add_up, SumIsBound, b_makes_c, double_rules, RulesAreCopied}
+use Rattle.lmn_congruence.specs.reduction.Examples.{a, b, c, p, int, z, two_make_b, TwoMakeOne, join_in_c, LinkMeetsItself, ConnectorLeaves, LoopVanishes, QuotientsAndRemainders, add_up, SumIsBound, b_makes_c, double_rules, RulesAreCopied}
 use Rattle.lmn_congruence.proofs.SettledProcesses.{no_connector_settled}
 use Rattle.lmn_congruence.proofs.Derivations.{zero_not_one, linked_by, closed_by, regrouped, by_one_link}
 

@@ -11,7 +11,7 @@ use Rattle.lmn_congruence.specs.reduction.Instances.{Instance, instance, no_leaf
 use Rattle.lmn_congruence.specs.reduction.Firing.{Matches}
 use Rattle.lmn_congruence.specs.reduction.Steps.{Step}
 use Rattle.lmn_congruence.specs.reduction.Redexes.{HasRedex, at_top, in_membrane}
-use Rattle.lmn_congruence.specs.Examples.{a, b, join_from_membrane, InnerLinkStays}
+use Rattle.lmn_congruence.specs.reduction.Examples.{a, b, join_from_membrane, InnerLinkStays}
 use Rattle.lmn_congruence.proofs.Counts.{occurs_once}
 use Rattle.lmn_congruence.proofs.Totals.{total_includes}
 use Rattle.lmn_congruence.proofs.Crossings.{occurs_below, crossings, same_crossings}

@@ -10,7 +10,7 @@ use Rattle.lmn_congruence.specs.UpToOrder.{Reordered, r_unit, r_beside, r_inside
 use Rattle.lmn_congruence.specs.Process.{pair, rule, Linked, Closed, together}
 use Rattle.lmn_congruence.specs.Rules.{Rule, Leaf, atom_leaf, connector_leaf, typed_leaf, Level, level, Levels, no_level, level_and, rules_list}
 use Rattle.lmn_congruence.specs.Fused.{fused}
-use Rattle.lmn_congruence.specs.reduction.Laws.{PlainHasSolid, SolidIsOne}
+use Rattle.lmn_congruence.specs.reduction.Laws.{SolidsSettled, PlainHasSolid, SolidIsOne}
 use Rattle.lmn_congruence.specs.reduction.Commits.{Settles, already}
 use Rattle.lmn_congruence.specs.Regions.{Region, region_process, atom_process, regions_processes}
 use Rattle.lmn_congruence.specs.Plains.{leaf_process, level_process, levels_processes, fused_leaves, fused_level, fused_levels, SolidOf}
@@ -34,6 +34,9 @@ mutual
   levels_reordered v no_level = r_same refl
   levels_reordered v (level_and l ls) = r_chain (r_beside (r_inside (level_reordered v l))) (r_right (levels_reordered v ls))
 
+pub solids_settled : SolidsSettled
+solids_settled S = no_connector_settled (region_process S) (region_plain S)
+
 pub plain_settles : (top : Level) (S : Region) → Closed (level_process top) → SolidOf top S → Settles (level_process top) (region_process S)
 plain_settles top S c s =
     let P = level_process top in
@@ -41,7 +44,7 @@ plain_settles top S c s =
     let l : Linked (region_process S) = closed_linked s.closed in
     let k : Linked (fused s.to P) = linked_as (λ z. sym (reordered_count o z)) l in
     let t = settles_fused s.to P (closed_linked c) s.joins (closed_leaves s.to P c) k in
-    record { settled = no_connector_settled (region_process S) (region_plain S); towards = towards_joined t.towards (already (reordered_congruent o k)) }
+    record { settled = solids_settled S; towards = towards_joined t.towards (already (reordered_congruent o k)) }
 
 -- ---- the solid of a plain
 

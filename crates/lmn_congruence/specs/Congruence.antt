@@ -18,14 +18,18 @@ pub data IsAtom : Process → Type 0 where
 pub data Congruent : Process → Process → Type 0 where
   unit : {P : Process} → Linked P → Congruent (pair nothing P) P
   swap : {P Q : Process} → Linked (pair P Q) → Congruent (pair P Q) (pair Q P)
-  regroup : {P Q S : Process} → Linked (pair P (pair Q S)) → Congruent (pair P (pair Q S)) (pair (pair P Q) S)
+  regroup : {P Q S : Process} → Linked (pair P (pair Q S)) →
+      Congruent (pair P (pair Q S)) (pair (pair P Q) S)
   rename : {P : Process} (x y : ℕ) → Linked P → Local x P → Fresh y P → Congruent P (substitute y x P)
-  beside : {P P' Q : Process} → Congruent P P' → Linked (pair P Q) → Linked (pair P' Q) → Congruent (pair P Q) (pair P' Q)
+  beside : {P P' Q : Process} → Congruent P P' → Linked (pair P Q) → Linked (pair P' Q) →
+      Congruent (pair P Q) (pair P' Q)
   inside : {P P' : Process} → Congruent P P' → Congruent (membrane P) (membrane P')
   loop : {x : ℕ} → Congruent (connector x x) nothing
   turn : {x y : ℕ} → Congruent (connector x y) (connector y x)
-  absorb : {P : Process} (x y : ℕ) → IsAtom P → Free x P → Linked (pair (connector x y) P) → Congruent (pair (connector x y) P) (substitute y x P)
-  pass : {P : Process} (x y : ℕ) → ExactlyOneFree x y P → Linked (pair (connector x y) P) → Congruent (membrane (pair (connector x y) P)) (pair (connector x y) (membrane P))
+  absorb : {P : Process} (x y : ℕ) → IsAtom P → Free x P → Linked (pair (connector x y) P) →
+      Congruent (pair (connector x y) P) (substitute y x P)
+  pass : {P : Process} (x y : ℕ) → ExactlyOneFree x y P → Linked (pair (connector x y) P) →
+      Congruent (membrane (pair (connector x y) P)) (pair (connector x y) (membrane P))
   same : {P : Process} → Linked P → Congruent P P
   back : {P Q : Process} → Congruent P Q → Congruent Q P
   chain : {P Q S : Process} → Congruent P Q → Congruent Q S → Congruent P S

@@ -14,4 +14,5 @@ SameFreeLinks = (P Q : Process) → Congruent P Q → (x : ℕ) → Free x P ↔
 
 -- solids have congruent processes exactly where they are the same
 abbrev pub CongruentSolids : Type 0
-CongruentSolids = (S S' : Region) → Closed (region_process S) → Congruent (region_process S) (region_process S') ↔ Same S S'
+CongruentSolids = (S S' : Region) → Closed (region_process S) →
+    Congruent (region_process S) (region_process S') ↔ Same S S'

@@ -15,4 +15,3 @@ pub mod Laws
 pub mod Translation
 pub mod TranslationLaws
 pub mod reduction
-pub mod Examples

@@ -15,7 +15,8 @@ leaves_occurrences x (l ∷ ls) = leaf_occurrences x l + leaves_occurrences x ls
 -- how often a link occurs in a level, inside membranes and not inside nested rules
 abbrev mutual
   pub level_occurrences : ℕ → Level → ℕ
-  level_occurrences x (level leaves membranes contexts rule_contexts rules) = leaves_occurrences x leaves + levels_occurrences x membranes
+  level_occurrences x (level leaves membranes contexts rule_contexts rules) =
+      leaves_occurrences x leaves + levels_occurrences x membranes
 
   pub levels_occurrences : ℕ → Levels → ℕ
   levels_occurrences x no_level = 0
@@ -23,4 +24,5 @@ abbrev mutual
 
 -- each link of the rule occurs exactly twice in its head and body
 abbrev pub LinkedRule : Rule → Type 0
-LinkedRule r = (x : ℕ) → let n = level_occurrences x (head_of r) + level_occurrences x (body_of r) in (n ≡ 0) ⊎ (n ≡ 2)
+LinkedRule r = (x : ℕ) →
+    let n = level_occurrences x (head_of r) + level_occurrences x (body_of r) in (n ≡ 0) ⊎ (n ≡ 2)

@@ -13,4 +13,5 @@ pub data Put {A : Type 0} : A → List A → List A → Type 0 where
 -- the elements of two lists match one by one, in some order
 pub data Shuffle {A B : Type 0} (R : A → B → Type 0) : List A → List B → Type 0 where
   none : Shuffle R [] []
-  more : {x : A} {y : B} {xs : List A} {ys zs : List B} → R x y → Shuffle R xs ys → Put y ys zs → Shuffle R (x ∷ xs) zs
+  more : {x : A} {y : B} {xs : List A} {ys zs : List B} →
+      R x y → Shuffle R xs ys → Put y ys zs → Shuffle R (x ∷ xs) zs

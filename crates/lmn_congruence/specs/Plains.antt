@@ -16,7 +16,8 @@ leaf_process (typed_leaf p x) = nothing
 abbrev mutual
   pub level_process : Level → Process
   level_process (level leaves membranes contexts rule_contexts rules) =
-      pair (together (map leaf_process leaves)) (pair (together (levels_processes membranes)) (together (map rule (rules_list rules))))
+      pair (together (map leaf_process leaves))
+      (pair (together (levels_processes membranes)) (together (map rule (rules_list rules))))
 
   pub levels_processes : Levels → List Process
   levels_processes no_level = []
@@ -31,7 +32,8 @@ fused_leaves v (typed_leaf p x ∷ ls) = fused_leaves v ls
 
 abbrev mutual
   pub fused_level : (ℕ → ℕ) → Level → Region
-  fused_level v (level leaves membranes contexts rule_contexts rules) = region (fused_leaves v leaves) (fused_levels v membranes) (rules_list rules)
+  fused_level v (level leaves membranes contexts rule_contexts rules) =
+      region (fused_leaves v leaves) (fused_levels v membranes) (rules_list rules)
 
   pub fused_levels : (ℕ → ℕ) → Levels → Regions
   fused_levels v no_level = no_region

@@ -24,7 +24,8 @@ atom_process a = atom a.label a.links
 abbrev mutual
   pub region_process : Region → Process
   region_process (region atoms membranes rules) =
-      pair (together (map atom_process atoms)) (pair (together (regions_processes membranes)) (together (map rule rules)))
+      pair (together (map atom_process atoms))
+      (pair (together (regions_processes membranes)) (together (map rule rules)))
 
   pub regions_processes : Regions → List Process
   regions_processes no_region = []

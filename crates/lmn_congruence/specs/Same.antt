@@ -16,11 +16,13 @@ pub data PutRegion (m : Region) : Regions → Regions → Type 0 where
 mutual
   pub data SameRegion (f : ℕ → ℕ) : Region → Region → Type 0 where
     same_region : {xs ys : List SolidAtom} {ms ns : Regions} {rs ss : List Rule} →
-        Shuffle (λ a b. renamed_atom f a ≡ b) xs ys → SameRegions f ms ns → Shuffle (λ r s. r ≡ s) rs ss → SameRegion f (region xs ms rs) (region ys ns ss)
+        Shuffle (λ a b. renamed_atom f a ≡ b) xs ys → SameRegions f ms ns → Shuffle (λ r s. r ≡ s) rs ss →
+        SameRegion f (region xs ms rs) (region ys ns ss)
 
   pub data SameRegions (f : ℕ → ℕ) : Regions → Regions → Type 0 where
     none_left : SameRegions f no_region no_region
-    one_more : {m n : Region} {ms ns ns' : Regions} → SameRegion f m n → SameRegions f ms ns → PutRegion n ns ns' → SameRegions f (region_and m ms) ns'
+    one_more : {m n : Region} {ms ns ns' : Regions} →
+        SameRegion f m n → SameRegions f ms ns → PutRegion n ns ns' → SameRegions f (region_and m ms) ns'
 
 -- equal up to the order of lists and the numbers of links
 pub record Same (S S' : Region) : Type 0 where

@@ -7,4 +7,5 @@ pub mod Firing
 pub mod Steps
 pub mod Commits
 pub mod Redexes
+pub mod Examples
 pub mod Laws

@@ -1,6 +1,6 @@
 //! Small texts, and what they do: derivations of the calculus, each the contract of an empty function.
 
-ghost use Rattle.lmn_congruence.specs.Examples.{TwoMakeOne, LinkMeetsItself, ConnectorLeaves, LoopVanishes, QuotientsAndRemainders, InnerLinkStays, SumIsBound, RulesAreCopied};
+ghost use Rattle.lmn_congruence.specs.reduction.Examples.{TwoMakeOne, LinkMeetsItself, ConnectorLeaves, LoopVanishes, QuotientsAndRemainders, InnerLinkStays, SumIsBound, RulesAreCopied};
 
 /// `a. a. a, a :- b.` commits to `b` beside its rule.
 #[tactic(auto, using(crate::proofs::ExampleSteps::two_make_one))]

@@ -1,6 +1,6 @@
 //! The laws of reduction: of steps, of settling, of commits.
 
-ghost use Rattle.lmn_congruence.specs.reduction.Laws.{StepsAreLinked, SettlingStepsAreLinked, SettledWithoutConnectors, ClosedSettles, SettlesOnce, PlainHasSolid, SolidIsOne, PlainSettles, CongruentByOneMap, StepsShowRedexes, KeepsSettled, KeepsSettles, KeepsCommit, KeepsIrreducible};
+ghost use Rattle.lmn_congruence.specs.reduction.Laws.{StepsAreLinked, SettlingStepsAreLinked, SettledWithoutConnectors, SolidsSettled, ClosedSettles, SettlesOnce, PlainHasSolid, SolidIsOne, PlainSettles, CongruentByOneMap, StepsShowRedexes, KeepsSettled, KeepsSettles, KeepsCommit, KeepsIrreducible};
 
 /// Both sides of a step are linked, and so are both sides of a settling step.
 #[tactic(auto, using(crate::proofs::SettlingSteps::steps_linked, crate::proofs::SettlingSteps::settling_steps_linked))]
@@ -9,10 +9,11 @@ pub fn steps_are_linked()
     ensures settling { SettlingStepsAreLinked }
 {}
 
-/// A process without connectors is settled, also when it has free links.
-#[tactic(auto, using(crate::proofs::SettledProcesses::no_connector_settled))]
+/// A process without connectors is settled, also when it has free links. So the process of a solid is.
+#[tactic(auto, using(crate::proofs::SettledProcesses::no_connector_settled, crate::proofs::Plains::solids_settled))]
 pub fn settled_without_connectors()
-    ensures { SettledWithoutConnectors }
+    ensures plain { SettledWithoutConnectors }
+    ensures solid { SolidsSettled }
 {}
 
 /// A closed process settles, and in one way up to congruence.

@@ -14,7 +14,8 @@ typed_leaves (typed_leaf p x ∷ ls) = p ∷ typed_leaves ls
 
 abbrev mutual
   pub typed_contexts : Level → List Name
-  typed_contexts (level leaves membranes contexts rule_contexts rules) = typed_leaves leaves ++ typed_contexts_of membranes
+  typed_contexts (level leaves membranes contexts rule_contexts rules) =
+      typed_leaves leaves ++ typed_contexts_of membranes
 
   pub typed_contexts_of : Levels → List Name
   typed_contexts_of no_level = []

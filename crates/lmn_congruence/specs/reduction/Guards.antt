@@ -24,12 +24,17 @@ IsOfKind grounded g = IsGround g
 -- ground: where one is not, neither `=` nor `\=` holds.
 pub data Holds (heads : List Name) (t : Assignment) : Condition → Type 0 where
   of_kind : {k : Kind} {p : Name} → IsOfKind k (t.typed_of p) → Holds heads t (is_kind k p)
-  in_order : {c : Comparison} {e f : Expression} {m n : ℤ} → Value t e m → Value t f n → Stand c m n → Holds heads t (compares c e f)
-  binds : {p : Name} {e : Expression} {n : ℤ} → ¬ (Among p heads) → Value t e n → IsInteger n (t.typed_of p) → Holds heads t (equates p e)
-  alike : {p q : Name} → Among p heads → Among q heads → IsGround (t.typed_of p) → IsGround (t.typed_of q) → SameGraph (t.typed_of p) (t.typed_of q) → Holds heads t (equates p (value_of q))
-  unlike : {p q : Name} → Among p heads → Among q heads → IsGround (t.typed_of p) → IsGround (t.typed_of q) → ¬ (SameGraph (t.typed_of p) (t.typed_of q)) → Holds heads t (differs p q)
+  in_order : {c : Comparison} {e f : Expression} {m n : ℤ} →
+      Value t e m → Value t f n → Stand c m n → Holds heads t (compares c e f)
+  binds : {p : Name} {e : Expression} {n : ℤ} →
+      ¬ (Among p heads) → Value t e n → IsInteger n (t.typed_of p) → Holds heads t (equates p e)
+  alike : {p q : Name} → Among p heads → Among q heads → IsGround (t.typed_of p) → IsGround (t.typed_of q) →
+      SameGraph (t.typed_of p) (t.typed_of q) → Holds heads t (equates p (value_of q))
+  unlike : {p q : Name} → Among p heads → Among q heads → IsGround (t.typed_of p) → IsGround (t.typed_of q) →
+      ¬ (SameGraph (t.typed_of p) (t.typed_of q)) → Holds heads t (differs p q)
 
 -- every condition of a guard holds
 pub data GuardHolds (heads : List Name) (t : Assignment) : List Condition → Type 0 where
   no_condition : GuardHolds heads t []
-  condition_and : {c : Condition} {cs : List Condition} → Holds heads t c → GuardHolds heads t cs → GuardHolds heads t (c ∷ cs)
+  condition_and : {c : Condition} {cs : List Condition} →
+      Holds heads t c → GuardHolds heads t cs → GuardHolds heads t (c ∷ cs)

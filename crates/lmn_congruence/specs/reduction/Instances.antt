@@ -16,11 +16,13 @@ pub record IsCopy (g : Rooted) (x : ℕ) (P : Process) : Type 0 where
 pub data LeafInstance (t : Assignment) : Leaf → Process → Type 0 where
   of_atom : {a : Label} {xs : List ℕ} → LeafInstance t (atom_leaf a xs) (atom a (map t.link_of xs))
   of_connector : {x y : ℕ} → LeafInstance t (connector_leaf x y) (connector (t.link_of x) (t.link_of y))
-  of_typed : {p : Name} {x : ℕ} {P : Process} → IsCopy (t.typed_of p) (t.link_of x) P → LeafInstance t (typed_leaf p x) P
+  of_typed : {p : Name} {x : ℕ} {P : Process} →
+      IsCopy (t.typed_of p) (t.link_of x) P → LeafInstance t (typed_leaf p x) P
 
 pub data LeafInstances (t : Assignment) : List Leaf → List Process → Type 0 where
   no_leaf : LeafInstances t [] []
-  leaf_and : {l : Leaf} {ls : List Leaf} {P : Process} {Ps : List Process} → LeafInstance t l P → LeafInstances t ls Ps → LeafInstances t (l ∷ ls) (P ∷ Ps)
+  leaf_and : {l : Leaf} {ls : List Leaf} {P : Process} {Ps : List Process} →
+      LeafInstance t l P → LeafInstances t ls Ps → LeafInstances t (l ∷ ls) (P ∷ Ps)
 
 -- the rules of each rule context, in order
 abbrev pub rules_of_contexts : Assignment → List Name → List Process
@@ -32,7 +34,8 @@ rules_of_contexts t (r ∷ rs) = together (map rule (t.rules_of r)) ∷ rules_of
 -- nested rule is itself.
 mutual
   pub data Instance (t : Assignment) : Level → Process → Type 0 where
-    instance : {leaves : List Leaf} {membranes : Levels} {contexts rule_contexts : List Name} {rules : Rules} {Ps Qs : List Process} →
+    instance : {leaves : List Leaf} {membranes : Levels} {contexts rule_contexts : List Name} {rules : Rules}
+        {Ps Qs : List Process} →
         LeafInstances t leaves Ps → MembraneInstances t membranes Qs →
         Instance t (level leaves membranes contexts rule_contexts rules)
         (pair (together Ps) (pair (together Qs) (pair (together (map t.context_of contexts))
@@ -40,4 +43,5 @@ mutual
 
   pub data MembraneInstances (t : Assignment) : Levels → List Process → Type 0 where
     no_membrane : MembraneInstances t no_level []
-    membrane_and : {l : Level} {ls : Levels} {P : Process} {Ps : List Process} → Instance t l P → MembraneInstances t ls Ps → MembraneInstances t (level_and l ls) (membrane P ∷ Ps)
+    membrane_and : {l : Level} {ls : Levels} {P : Process} {Ps : List Process} →
+        Instance t l P → MembraneInstances t ls Ps → MembraneInstances t (level_and l ls) (membrane P ∷ Ps)

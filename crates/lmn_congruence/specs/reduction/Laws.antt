@@ -22,6 +22,10 @@ SettlingStepsAreLinked = (P Q : Process) → SettlingStep P Q → Linked P × Li
 abbrev pub SettledWithoutConnectors : Type 0
 SettledWithoutConnectors = (P : Process) → NoConnector P → Settled P
 
+-- the process of a solid is settled
+abbrev pub SolidsSettled : Type 0
+SolidsSettled = (S : Region) → Settled (region_process S)
+
 -- a closed process settles
 abbrev pub ClosedSettles : Type 0
 ClosedSettles = (P : Process) → Closed P → (Q : Process) × Settles P Q
@@ -36,11 +40,13 @@ PlainHasSolid = (top : Level) → Closed (level_process top) → (S : Region) ×
 
 -- and one alone, up to the numbers of links
 abbrev pub SolidIsOne : Type 0
-SolidIsOne = (top : Level) (S S' : Region) → Closed (level_process top) → SolidOf top S → SolidOf top S' → Same S S'
+SolidIsOne = (top : Level) (S S' : Region) →
+    Closed (level_process top) → SolidOf top S → SolidOf top S' → Same S S'
 
 -- the process of a plain's top settles to that of its solid
 abbrev pub PlainSettles : Type 0
-PlainSettles = (top : Level) (S : Region) → Closed (level_process top) → SolidOf top S → Settles (level_process top) (region_process S)
+PlainSettles = (top : Level) (S : Region) → Closed (level_process top) → SolidOf top S →
+    Settles (level_process top) (region_process S)
 
 -- a linked process is congruent to one without connectors exactly where one map of links reads it so
 abbrev pub CongruentByOneMap : Type 0

@@ -39,14 +39,16 @@ atoms_of (rule r) = []
 -- a link is reached from the root over links and atoms
 pub data Reached (g : Rooted) : ℕ → Type 0 where
   the_root : Reached g g.root
-  across : {a : Label} {xs : List ℕ} {x y : ℕ} → Among (a, xs) (atoms_of g.process) → Among x xs → Among y xs → Reached g x → Reached g y
+  across : {a : Label} {xs : List ℕ} {x y : ℕ} →
+      Among (a, xs) (atoms_of g.process) → Among x xs → Among y xs → Reached g x → Reached g y
 
 -- atoms that are no connectors, each reached from the root, with no free link but the root
 pub record IsGround (g : Rooted) : Type 0 where
   pub only_atoms : OnlyAtoms g.process
   pub root_is_free : Free g.root g.process
   pub nothing_else_free : (x : ℕ) → Free x g.process → x ≡ g.root
-  pub connected : {a : Label} {xs : List ℕ} → Among (a, xs) (atoms_of g.process) → (x : ℕ) × (Among x xs) × Reached g x
+  pub connected : {a : Label} {xs : List ℕ} → Among (a, xs) (atoms_of g.process) →
+      (x : ℕ) × (Among x xs) × Reached g x
 
 -- Two ground parts are equal as rooted graphs: one map of links, one to one, takes the root to the root and
 -- the atoms, in some order, to the atoms. Each link of such a part but the root joins two ports, so the atoms

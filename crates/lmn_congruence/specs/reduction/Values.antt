@@ -27,4 +27,6 @@ DivisorAllowed modulo n = n ≢ pos 0
 pub data Value (t : Assignment) : Expression → ℤ → Type 0 where
   of_number : {n : ℤ} → Value t (number n) n
   of_context : {p : Name} {n : ℤ} → IsInteger n (t.typed_of p) → Value t (value_of p) n
-  of_operation : {o : Arithmetic} {e f : Expression} {m n : ℤ} → Value t e m → Value t f n → DivisorAllowed o n → InRange (result_of o m n) → Value t (operation o e f) (result_of o m n)
+  of_operation : {o : Arithmetic} {e f : Expression} {m n : ℤ} →
+      Value t e m → Value t f n → DivisorAllowed o n → InRange (result_of o m n) →
+      Value t (operation o e f) (result_of o m n)

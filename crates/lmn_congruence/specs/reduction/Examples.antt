@@ -36,22 +36,28 @@ two_make_b = rule_of (leaves (atom_leaf a [] ∷ atom_leaf a [] ∷ [])) [] (lea
 
 -- `a. a. a, a :- b.` commits to `b. a, a :- b.`
 abbrev pub TwoMakeOne : Type 0
-TwoMakeOne = Commit (together (atom a [] ∷ atom a [] ∷ rule two_make_b ∷ [])) (together (atom b [] ∷ rule two_make_b ∷ []))
+TwoMakeOne =
+    Commit (together (atom a [] ∷ atom a [] ∷ rule two_make_b ∷ []))
+    (together (atom b [] ∷ rule two_make_b ∷ []))
 
 -- `a(X), b(Y) :- c(X,Y)`
 abbrev pub join_in_c : Rule
-join_in_c = rule_of (leaves (atom_leaf a (0 ∷ []) ∷ atom_leaf b (1 ∷ []) ∷ [])) [] (leaves (atom_leaf c (0 ∷ 1 ∷ []) ∷ []))
+join_in_c = rule_of
+    (leaves (atom_leaf a (0 ∷ []) ∷ atom_leaf b (1 ∷ []) ∷ [])) []
+    (leaves (atom_leaf c (0 ∷ 1 ∷ []) ∷ []))
 
 -- Two links of the head may be one link of the process, by a connector between them:
 -- `a(X), b(X). a(X), b(Y) :- c(X,Y).` commits to `c(X,X). a(X), b(Y) :- c(X,Y).`
 abbrev pub LinkMeetsItself : Type 0
 LinkMeetsItself =
-    Commit (together (atom a (0 ∷ []) ∷ atom b (0 ∷ []) ∷ rule join_in_c ∷ [])) (together (atom c (0 ∷ 0 ∷ []) ∷ rule join_in_c ∷ []))
+    Commit (together (atom a (0 ∷ []) ∷ atom b (0 ∷ []) ∷ rule join_in_c ∷ []))
+    (together (atom c (0 ∷ 0 ∷ []) ∷ rule join_in_c ∷ []))
 
 -- A connector leaves a membrane: `{X=Y}, a(X), b(Y)` settles to `a(X), b(X), {}`
 abbrev pub ConnectorLeaves : Type 0
 ConnectorLeaves =
-    Settles (together (membrane (connector 0 1) ∷ atom a (0 ∷ []) ∷ atom b (1 ∷ []) ∷ [])) (together (atom a (0 ∷ []) ∷ atom b (0 ∷ []) ∷ membrane nothing ∷ []))
+    Settles (together (membrane (connector 0 1) ∷ atom a (0 ∷ []) ∷ atom b (1 ∷ []) ∷ []))
+    (together (atom a (0 ∷ []) ∷ atom b (0 ∷ []) ∷ membrane nothing ∷ []))
 
 -- A connector enters a membrane, and a loop vanishes: `X=Y, {X=Y}` settles to `{}`
 abbrev pub LoopVanishes : Type 0
@@ -59,7 +65,8 @@ LoopVanishes = Settles (pair (connector 0 1) (membrane (connector 0 1))) (membra
 
 -- `{a(X), b(Y)} :- c(X,Y)`
 abbrev pub join_from_membrane : Rule
-join_from_membrane = rule_of (one_membrane (leaves (atom_leaf a (0 ∷ []) ∷ atom_leaf b (1 ∷ []) ∷ []))) [] (leaves (atom_leaf c (0 ∷ 1 ∷ []) ∷ []))
+join_from_membrane = rule_of
+    (one_membrane (leaves (atom_leaf a (0 ∷ []) ∷ atom_leaf b (1 ∷ []) ∷ []))) [] (leaves (atom_leaf c (0 ∷ 1 ∷ []) ∷ []))
 
 -- But a link that stays inside a membrane doesn't match two that leave it: nothing can happen in
 -- `{a(X), b(X)}. {a(X), b(Y)} :- c(X,Y).`, from no congruent process
@@ -87,7 +94,8 @@ add_up = rule_of
 abbrev pub SumIsBound : Type 0
 SumIsBound =
     Commit
-    (together (atom p (0 ∷ []) ∷ atom (int 3) (0 ∷ []) ∷ atom p (1 ∷ []) ∷ atom (int 4) (1 ∷ []) ∷ rule add_up ∷ []))
+    (together (atom p (0 ∷ []) ∷ atom (int 3) (0 ∷ []) ∷ atom p (1 ∷ []) ∷ atom (int 4) (1 ∷ []) ∷
+    rule add_up ∷ []))
     (together (atom p (0 ∷ []) ∷ atom (int 7) (0 ∷ []) ∷ rule add_up ∷ []))
 
 -- `/` goes toward zero, and `mod` has the sign of its left side
