@@ -5,8 +5,8 @@ use Rattle.std.specs.Prelude.{ℕ, suc, ◌≡◌, ◌<◌, ◌⊎◌, ◌==◌,
 abbrev pub EachTwice : List ℕ → Type 0
 EachTwice xs = (x : ℕ) → let n = count_by (λ y. x == y) xs in (n ≡ 0) ⊎ (n ≡ 2)
 
--- n links have occurred; once those of the list have, it is m. Each link of the list is one of those
--- that have occurred, or it is new and has the next number.
+-- n links have occurred, and m once those of the list have too. Each link of the list is one of those that
+-- have occurred, or it is new and has the next number.
 pub data Numbers : ℕ → List ℕ → ℕ → Type 0 where
   no_more : {n : ℕ} → Numbers n [] n
   known : {n m x : ℕ} {xs : List ℕ} → x < n → Numbers n xs m → Numbers n (x ∷ xs) m

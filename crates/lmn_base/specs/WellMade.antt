@@ -17,12 +17,13 @@ abbrev pub IsAtom : Leaf → Type 0
 IsAtom (Atom functor links pos) = Unit {0}
 IsAtom (Typed name link pos) = ⊥
 
+-- Each atom has as many links as its arity, and `links` is the table of the links of head and body.
 pub record IsWellMadeRule (r : RuleTree) : Type 0 where
   pub arities : All FitsArity (leaves_of r.head ++ leaves_of r.body)
   pub table : IsTableOf (r.head ∷ r.body ∷ []) r.links
 
--- Each rule number that stands in a plain names a rule, and a rule that stands in another one has a
--- greater number. No context of any kind stands outside the rules.
+-- The same of the top of a plain and of each of its rules. Each rule number that stands in it names a rule,
+-- and a rule that stands in another one has a greater number. No context of any kind stands outside the rules.
 pub record IsWellMade (p : Plain) : Type 0 where
   pub arities : All FitsArity (leaves_of p.top)
   pub table : IsTableOf (p.top ∷ []) p.links
