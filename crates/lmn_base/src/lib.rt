@@ -1,10 +1,26 @@
-//! What every layer of the runtime speaks of: rows, places in a text, refusals and want of memory.
+//! What every layer of the runtime speaks of: rules and processes as they are read, solids as they run,
+//! rows, places in a text, refusals and want of memory.
+//!
+//! In `specs/` stand what a well made rule and plain are, when a rule is linked, what a solid is, and the
+//! equality of parts of a process as rooted graphs.
 #![tactic(auto)]
 
+mod functor;
+mod guard;
+mod level;
 mod memory;
 mod refusal;
 mod rows;
+mod rule;
+mod solid;
+#[cfg(test)]
+mod tests;
 
+pub use functor::{Functor, Label};
+pub use guard::{Arith, Cmp, Cond, Expr};
+pub use level::{CtxUse, Leaf, Level, Occ};
 pub use memory::NoMemory;
 pub use refusal::{Pos, Refusal, TextFault};
 pub use rows::Rows;
+pub use rule::{LinkUse, Plain, RuleTree};
+pub use solid::{Region, Solid, SolidAtom};

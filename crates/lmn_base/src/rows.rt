@@ -1,8 +1,9 @@
-ghost use Rattle.std.specs.Prelude.{◌≡◌, [], ◌∷◌, ◌++◌, ◌<◌, length, slice_get, slice_set, Some, OnOk, OnErr, MatchOption};
+ghost use Rattle.std.specs.Prelude.{◌≡◌, [], ◌∷◌, ◌++◌, ◌<◌, length, slice_get, slice_set, Some, IfErr, OnOk, OnErr, MatchOption};
 
 use crate::memory::NoMemory;
-use std::alloc::Global;
+use std::alloc::{AllocFailed, Global};
 use std::marker::Model;
+use std::mem;
 
 /// A vector that contracts see as the list of its items.
 #[derive(Debug, Drop)]
@@ -66,6 +67,23 @@ impl<T> Rows<T> {
         ensures { result.now ≡ self.now }
     {
         self.items.as_slice()
+    }
+
+    /// Adds an item at the end. At want of memory the item comes back and the rest stays.
+    pub fn offer(&mut self, v: T) -> Result<(), AllocFailed<T>>
+        ensures ok { OnOk result (self.new ≡ self.old ++ v ∷ []) }
+        ensures err { IfErr result (λ failed. (self.new ≡ self.old) × (failed.value ≡ v)) }
+    {
+        self.items.push(v)
+    }
+
+    /// Puts an item in the place of another, which it answers.
+    pub fn replace(&mut self, i: usize, v: T) -> T
+        requires { i < length self.old }
+        ensures old { slice_get self.old i ≡ Some result }
+        ensures new { self.new ≡ slice_set self.old i v }
+    {
+        mem::replace(&mut self.items[i], v)
     }
 
     /// Takes the last item out.

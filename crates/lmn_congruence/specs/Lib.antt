@@ -12,4 +12,6 @@ pub mod UpToOrder
 pub mod FreeLinks
 pub mod LinkMaps
 pub mod Laws
+pub mod Translation
+pub mod TranslationLaws
 pub mod reduction

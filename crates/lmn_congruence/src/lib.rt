@@ -8,6 +8,7 @@ ghost use Rattle.lmn_congruence.specs.Laws.{BothSidesLinked, SameFreeLinks, Cong
 
 pub mod examples;
 pub mod reduction;
+pub mod translation;
 
 /// Both sides of a congruence are linked: no link occurs more than twice in either.
 #[tactic(auto, using(crate::proofs::LinkMaps::both_sides_linked))]

@@ -1,0 +1,37 @@
+-- What stands in a level, at every depth.
+use Rattle.std.specs.Prelude.{ℕ, List, [], ◌∷◌, ◌++◌, map, flat_map}
+use Rattle.lmn_base.specs.declared.level.Leaf.{Leaf}
+use Rattle.lmn_base.specs.declared.level.Leaf.TheVariants.{Atom, Typed}
+use Rattle.lmn_base.specs.declared.level.Level.{Level}
+use Rattle.lmn_base.specs.declared.level.Level.TheOpen.{Level-F}
+use Rattle.lmn_base.specs.declared.level.Level.TheFolds.{fold-Level}
+use Rattle.lmn_base.specs.declared.level.Occ.{Occ}
+use Rattle.lmn_base.specs.declared.level.CtxUse.{CtxUse}
+
+-- what stands in a level itself, and then what stands in each of its membranes: the printed order
+abbrev pub everywhere : {A : Type 0} → (Level-F (List A) → List A) → Level → List A
+everywhere {A} here = fold-Level (List A) (λ l. here l ++ flat_map (λ inner. inner) l.membranes)
+
+abbrev pub leaves_of : Level → List Leaf
+leaves_of = everywhere (λ l. l.leaves)
+
+abbrev pub contexts_of : Level → List CtxUse
+contexts_of = everywhere (λ l. l.contexts)
+
+abbrev pub rule_contexts_of : Level → List CtxUse
+rule_contexts_of = everywhere (λ l. l.rule_contexts)
+
+abbrev pub rules_of : Level → List ℕ
+rules_of = everywhere (λ l. l.rules)
+
+abbrev pub leaf_occurrences : Leaf → List Occ
+leaf_occurrences (Atom functor links pos) = links
+leaf_occurrences (Typed name link pos) = link ∷ []
+
+-- the occurrences of links in a level, in printed order
+abbrev pub occurrences : Level → List Occ
+occurrences l = flat_map leaf_occurrences (leaves_of l)
+
+-- the same, each by the number of its link
+abbrev pub links_of : Level → List ℕ
+links_of l = map (λ o. o.link) (occurrences l)

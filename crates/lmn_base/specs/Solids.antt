@@ -1,0 +1,39 @@
+-- What every solid is like.
+use Rattle.std.specs.Prelude.{ℕ, ◌≡◌, ◌≢◌, ◌+◌, List, ◌++◌, flat_map, sum, length, All}
+use Rattle.lmn_base.specs.declared.functor.Functor.{Functor}
+use Rattle.lmn_base.specs.declared.functor.Label.TheVariants.{Name}
+use Rattle.lmn_base.specs.declared.solid.SolidAtom.{SolidAtom}
+use Rattle.lmn_base.specs.declared.solid.Region.{Region}
+use Rattle.lmn_base.specs.declared.solid.Region.TheOpen.{Region-F}
+use Rattle.lmn_base.specs.declared.solid.Region.TheFolds.{fold-Region}
+use Rattle.lmn_base.specs.declared.solid.Solid.{Solid}
+use Rattle.lmn_base.specs.Links.{EachTwice, NumbersLinks}
+
+-- the name `=` with two links
+abbrev pub connector : Functor
+connector = record { label = Name 0; arity = 2 }
+
+-- the atoms of a region, and then those in each of its membranes: the printed order
+abbrev pub atoms_step : Region-F (List SolidAtom) → List SolidAtom
+atoms_step r = r.atoms ++ flat_map (λ inner. inner) r.membranes
+
+abbrev pub atoms_of : Region → List SolidAtom
+atoms_of = fold-Region (List SolidAtom) atoms_step
+
+-- their links, in printed order
+abbrev pub links_of : Region → List ℕ
+links_of r = flat_map (λ a. a.links) (atoms_of r)
+
+pub record IsSolid (s : Solid) : Type 0 where
+  pub arities : All (λ a. length a.links ≡ a.functor.arity) (atoms_of s.root)
+  pub no_connector : All (λ a. a.functor ≢ connector) (atoms_of s.root)
+  pub closed : EachTwice (links_of s.root)
+  pub numbered : (n : ℕ) × NumbersLinks (links_of s.root) n
+
+-- a region's atoms, membranes and rules, and those inside its membranes
+abbrev pub items_step : Region-F ℕ → ℕ
+items_step r = length r.atoms + length r.membranes + sum r.membranes + length r.rules
+
+-- how many items a solid has: its root isn't counted
+abbrev pub items_of : Solid → ℕ
+items_of s = fold-Region ℕ items_step s.root

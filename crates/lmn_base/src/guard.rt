@@ -1,0 +1,96 @@
+use crate::level::CtxUse;
+use crate::refusal::Pos;
+use crate::rows::Rows;
+
+/// An operator of integer expressions.
+#[derive(Clone, Copy, Debug, PartialEq, Eq)]
+pub enum Arith {
+    /// `+`
+    Add,
+    /// `-`
+    Sub,
+    /// `*`
+    Mul,
+    /// `/`, which goes toward zero.
+    Div,
+    /// `mod`, the remainder of `/`.
+    Mod,
+}
+
+/// An integer expression of a guard.
+#[derive(Drop)]
+pub enum Expr {
+    /// An integer.
+    Int(i64),
+    /// The integer of a context.
+    Ctx(CtxUse),
+    /// Two expressions with an operator between them.
+    Op {
+        /// The operator.
+        op: Arith,
+        /// The expression on its left.
+        left: Box<Expr>,
+        /// The expression on its right.
+        right: Box<Expr>,
+    },
+}
+
+/// A comparison of two integers.
+#[derive(Clone, Copy, Debug, PartialEq, Eq)]
+pub enum Cmp {
+    /// `<`
+    Lt,
+    /// `=<`
+    Le,
+    /// `>`
+    Gt,
+    /// `>=`
+    Ge,
+    /// `=:=`
+    Eq,
+    /// `=\=`
+    Ne,
+}
+
+/// A condition of a guard.
+#[derive(Drop)]
+pub enum Cond {
+    /// A condition with a name, as `int($x)`.
+    Kind {
+        /// The number of its name: 1 for `int`, 2 for `unary`, 3 for `ground`.
+        name: u32,
+        /// The contexts in its parentheses.
+        args: Rows<CtxUse>,
+        /// The place of its name in the text.
+        pos: Pos,
+    },
+    /// A comparison of two integer expressions.
+    Compare {
+        /// Which comparison.
+        op: Cmp,
+        /// The expression on its left.
+        left: Expr,
+        /// The expression on its right.
+        right: Expr,
+        /// The place of its sign in the text.
+        pos: Pos,
+    },
+    /// `$x = E`: the contexts are equal as rooted graphs, or the left one is bound to a value.
+    Equal {
+        /// The context on the left.
+        left: CtxUse,
+        /// The expression on the right.
+        right: Expr,
+        /// The place of its sign in the text.
+        pos: Pos,
+    },
+    /// `$x \= $y`: the contexts differ as rooted graphs.
+    Differ {
+        /// The context on the left.
+        left: CtxUse,
+        /// The context on the right.
+        right: CtxUse,
+        /// The place of its sign in the text.
+        pos: Pos,
+    },
+}

@@ -1,0 +1,156 @@
+-- The values that the program keeps, as trees, regions and processes. `names` has the bytes of each name by
+-- its number, and `table` the rules by theirs. Places in the text are left out.
+use Rattle.std.specs.Prelude.{ℕ, zero, suc, ◌+◌, ◌-◌, List, [], ◌∷◌, map, flat_map, slice_index_or}
+use Rattle.lmn_base.specs.declared.functor.Label.{Label}
+use Rattle.lmn_base.specs.declared.functor.Label.TheVariants.{Name, Int}
+use Rattle.lmn_base.specs.declared.level.CtxUse.{CtxUse}
+use Rattle.lmn_base.specs.declared.level.Leaf.{Leaf}
+use Rattle.lmn_base.specs.declared.level.Leaf.TheVariants.{Atom, Typed}
+use Rattle.lmn_base.specs.declared.level.Level.{Level}
+use Rattle.lmn_base.specs.declared.level.Level.TheOpen.{Level-F}
+use Rattle.lmn_base.specs.declared.level.Level.TheFolds.{fold-Level}
+use Rattle.lmn_base.specs.declared.guard.Arith.{Arith}
+use Rattle.lmn_base.specs.declared.guard.Arith.TheVariants.{Add, Sub, Mul, Div, Mod}
+use Rattle.lmn_base.specs.declared.guard.Cmp.{Cmp}
+use Rattle.lmn_base.specs.declared.guard.Cmp.TheVariants.{Lt, Le, Gt, Ge, Eq, Ne}
+use Rattle.lmn_base.specs.declared.guard.Expr.{Expr}
+use Rattle.lmn_base.specs.declared.guard.Expr.TheOpen.{Expr-F, Int as Integer, Ctx, Op}
+use Rattle.lmn_base.specs.declared.guard.Expr.TheFolds.{fold-Expr}
+use Rattle.lmn_base.specs.declared.guard.Cond.{Cond}
+use Rattle.lmn_base.specs.declared.guard.Cond.TheVariants.{Kind, Compare, Equal, Differ}
+use Rattle.lmn_base.specs.declared.rule.RuleTree.{RuleTree}
+use Rattle.lmn_base.specs.declared.rule.Plain.{Plain}
+use Rattle.lmn_base.specs.declared.solid.SolidAtom.{SolidAtom}
+use Rattle.lmn_base.specs.declared.solid.Region.TheOpen.{Region-F}
+use Rattle.lmn_base.specs.declared.solid.Region.TheFolds.{fold-Region}
+use Rattle.lmn_base.specs.declared.solid.Solid.{Solid}
+use Rattle.lmn_congruence.specs.Process.{Process}
+use Rattle.lmn_congruence.specs.Rules as tree
+use Rattle.lmn_congruence.specs.Regions as solid
+use Rattle.lmn_congruence.specs.Plains.{level_process, SolidOf}
+use Rattle.lmn_congruence.specs.Same.{Same}
+
+-- the name with a number; the numbers in use are those of the list
+abbrev pub name_of : List tree.Name → ℕ → tree.Name
+name_of names n = slice_index_or names n []
+
+abbrev pub label_of : List tree.Name → Label → tree.Label
+label_of names (Name n) = tree.named (name_of names n)
+label_of names (Int z) = tree.integer z
+
+-- the name with the number 0 and two links make a connector
+abbrev pub atom_of : List tree.Name → Label → List ℕ → tree.Leaf
+atom_of names (Name zero) (x ∷ (y ∷ [])) = tree.connector_leaf x y
+atom_of names l xs = tree.atom_leaf (label_of names l) xs
+
+abbrev pub leaf_of : List tree.Name → Leaf → tree.Leaf
+leaf_of names (Atom functor links pos) = atom_of names functor.label (map (λ o. o.link) links)
+leaf_of names (Typed n o pos) = tree.typed_leaf (name_of names n) o.link
+
+abbrev pub names_of : List tree.Name → List CtxUse → List tree.Name
+names_of names us = map (λ u. name_of names u.name) us
+
+abbrev pub levels : List tree.Level → tree.Levels
+levels [] = tree.no_level
+levels (l ∷ ls) = tree.level_and l (levels ls)
+
+abbrev pub rules : List tree.Rule → tree.Rules
+rules [] = tree.no_rule
+rules (r ∷ rs) = tree.rule_and r (rules rs)
+
+-- a level, where `rule` gives the rule with a number
+abbrev pub level_step : List tree.Name → (ℕ → tree.Rule) → Level-F tree.Level → tree.Level
+level_step names rule l =
+    tree.level (map (leaf_of names) l.leaves) (levels l.membranes) (names_of names l.contexts) (names_of names l.rule_contexts) (rules (map rule l.rules))
+
+abbrev pub level_of : List tree.Name → (ℕ → tree.Rule) → Level → tree.Level
+level_of names rule = fold-Level tree.Level (level_step names rule)
+
+abbrev pub operator_of : Arith → tree.Arithmetic
+operator_of Add = tree.plus
+operator_of Sub = tree.minus
+operator_of Mul = tree.times
+operator_of Div = tree.over
+operator_of Mod = tree.modulo
+
+abbrev pub expression_step : List tree.Name → Expr-F tree.Expression → tree.Expression
+expression_step names (Integer z) = tree.number z
+expression_step names (Ctx u) = tree.value_of (name_of names u.name)
+expression_step names (Op op left right) = tree.operation (operator_of op) left.value right.value
+
+abbrev pub expression_of : List tree.Name → Expr → tree.Expression
+expression_of names = fold-Expr tree.Expression (expression_step names)
+
+abbrev pub comparison_of : Cmp → tree.Comparison
+comparison_of Lt = tree.less
+comparison_of Le = tree.at_most
+comparison_of Gt = tree.greater
+comparison_of Ge = tree.at_least
+comparison_of Eq = tree.equal
+comparison_of Ne = tree.unequal
+
+-- The conditions `int`, `unary` and `ground` have the names 1, 2 and 3, and one context. A rule with any
+-- other condition that has a name is refused, and here that condition is left out.
+abbrev pub kind_of : List tree.Name → ℕ → List CtxUse → List tree.Condition
+kind_of names (suc zero) (u ∷ []) = tree.is_kind tree.int (name_of names u.name) ∷ []
+kind_of names (suc (suc zero)) (u ∷ []) = tree.is_kind tree.unary (name_of names u.name) ∷ []
+kind_of names (suc (suc (suc zero))) (u ∷ []) = tree.is_kind tree.grounded (name_of names u.name) ∷ []
+kind_of names n us = []
+
+abbrev pub condition_of : List tree.Name → Cond → List tree.Condition
+condition_of names (Kind n args pos) = kind_of names n args
+condition_of names (Compare op left right pos) = tree.compares (comparison_of op) (expression_of names left) (expression_of names right) ∷ []
+condition_of names (Equal left right pos) = tree.equates (name_of names left.name) (expression_of names right) ∷ []
+condition_of names (Differ left right pos) = tree.differs (name_of names left.name) (name_of names right.name) ∷ []
+
+abbrev pub rule_tree : List tree.Name → (ℕ → tree.Rule) → RuleTree → tree.Rule
+rule_tree names rule r = tree.rule_of (level_of names rule r.head) (flat_map (condition_of names) r.guard) (level_of names rule r.body)
+
+-- what a number stands for that names no rule
+abbrev pub empty_level : tree.Level
+empty_level = tree.level [] tree.no_level [] [] tree.no_rule
+
+abbrev pub no_such_rule : tree.Rule
+no_such_rule = tree.rule_of empty_level [] empty_level
+
+-- The rules of a table from the number k on. A rule that stands in another one has a greater number, so it
+-- is one of those behind it.
+abbrev pub rules_from : List tree.Name → ℕ → List RuleTree → List tree.Rule
+rules_from names k [] = []
+rules_from names k (r ∷ rs) = let behind = rules_from names (k + 1) rs in rule_tree names (λ n. slice_index_or behind (n - (k + 1)) no_such_rule) r ∷ behind
+
+-- the rule with a number
+abbrev pub rule_of : List tree.Name → List RuleTree → ℕ → tree.Rule
+rule_of names table n = slice_index_or (rules_from names 0 table) n no_such_rule
+
+-- the top of a plain, and its process
+abbrev pub top_of : List tree.Name → Plain → tree.Level
+top_of names p = level_of names (rule_of names p.rules) p.top
+
+abbrev pub plain_process : List tree.Name → Plain → Process
+plain_process names p = level_process (top_of names p)
+
+abbrev pub solid_atom_of : List tree.Name → SolidAtom → solid.SolidAtom
+solid_atom_of names a = record { label = label_of names a.functor.label; links = a.links }
+
+abbrev pub regions : List solid.Region → solid.Regions
+regions [] = solid.no_region
+regions (r ∷ rs) = solid.region_and r (regions rs)
+
+abbrev pub region_step : List tree.Name → (ℕ → tree.Rule) → Region-F solid.Region → solid.Region
+region_step names rule r = solid.region (map (solid_atom_of names) r.atoms) (regions r.membranes) (map rule r.rules)
+
+-- the region of a solid, and its process
+abbrev pub region_of : List tree.Name → List RuleTree → Solid → solid.Region
+region_of names table s = fold-Region solid.Region (region_step names (rule_of names table)) s.root
+
+abbrev pub solid_process : List tree.Name → List RuleTree → Solid → Process
+solid_process names table s = solid.region_process (region_of names table s)
+
+-- s is the solid of the plain, up to the numbers of links
+abbrev pub IsSolidOf : List tree.Name → Plain → Solid → Type 0
+IsSolidOf names p s = SolidOf (top_of names p) (region_of names p.rules s)
+
+-- equal up to the order of lists and the numbers of links
+abbrev pub SameSolid : List tree.Name → List RuleTree → Solid → Solid → Type 0
+SameSolid names table s s' = Same (region_of names table s) (region_of names table s')

@@ -1,0 +1,34 @@
+//! Laws of the translation from the values that the program keeps to rules, regions and processes.
+
+ghost use Rattle.lmn_congruence.specs.TranslationLaws.{NumbersStandForRules, LevelLinksKept, TopLinksKept, SolidLinksKept, ItemsKept};
+
+/// In a well made plain the rule with a number is the tree of its head, guard and body, in which each
+/// number again stands for the rule with that number.
+#[tactic(auto, using(crate::proofs::NumberedRules::rule_has_number))]
+pub fn numbers_stand_for_rules()
+    ensures { NumbersStandForRules }
+{}
+
+/// A link occurs in the tree of a level as often as in the level.
+#[tactic(auto, using(crate::proofs::TranslatedLinks::level_links))]
+pub fn links_of_levels_are_kept()
+    ensures { LevelLinksKept }
+{}
+
+/// A link occurs in the process of a well made plain as often as at its top.
+#[tactic(auto, using(crate::proofs::TranslatedLinks::top_links))]
+pub fn links_of_tops_are_kept()
+    ensures { TopLinksKept }
+{}
+
+/// A link occurs in the process of a solid as often as in the solid.
+#[tactic(auto, using(crate::proofs::TranslatedLinks::solid_links_kept))]
+pub fn links_of_solids_are_kept()
+    ensures { SolidLinksKept }
+{}
+
+/// A solid has as many items as the region that it stands for.
+#[tactic(auto, using(crate::proofs::TranslatedItems::items_kept))]
+pub fn items_are_kept()
+    ensures { ItemsKept }
+{}
