@@ -41,12 +41,14 @@ pub data Expression : Type 0 where
 pub data Kind : Type 0 where
   int unary grounded : Kind
 
--- `int($x)` and its like, `E < F` and its like, `$x = E`, and `$x \= $y`
+-- `int($x)` and its like, `E < F` and its like, `$x = E`, and `$x \= $y`. A condition with another name or another
+-- number of contexts is kept as it is written, so that rules that differ in it differ. It never holds.
 pub data Condition : Type 0 where
   is_kind : Kind → Name → Condition
   compares : Comparison → Expression → Expression → Condition
   equates : Name → Expression → Condition
   differs : Name → Name → Condition
+  unknown : Name → List Name → Condition
 
 -- A level of a rule: leaves, membranes, untyped contexts `$p`, rule contexts `@r` and rules.
 -- A rule has a head, a guard and a body.

@@ -1,6 +1,6 @@
 -- The values that the program keeps, as trees, regions and processes. `names` has the bytes of each name by
 -- its number, and `table` the rules by theirs. Places in the text are left out.
-use Rattle.std.specs.Prelude.{ℕ, zero, suc, ◌+◌, ◌-◌, List, [], ◌∷◌, map, flat_map, slice_index_or}
+use Rattle.std.specs.Prelude.{ℕ, zero, suc, ◌+◌, ◌-◌, List, [], ◌∷◌, map, slice_index_or}
 use Rattle.lmn_base.specs.declared.functor.Label.{Label}
 use Rattle.lmn_base.specs.declared.functor.Label.TheVariants.{Name, Int}
 use Rattle.lmn_base.specs.declared.level.CtxUse.{CtxUse}
@@ -89,22 +89,21 @@ comparison_of Ge = tree.at_least
 comparison_of Eq = tree.equal
 comparison_of Ne = tree.unequal
 
--- The conditions `int`, `unary` and `ground` have the names 1, 2 and 3, and one context. A rule with any
--- other condition that has a name is refused, and here that condition is left out.
-abbrev pub kind_of : List tree.Name → ℕ → List CtxUse → List tree.Condition
-kind_of names (suc zero) (u ∷ []) = tree.is_kind tree.int (name_of names u.name) ∷ []
-kind_of names (suc (suc zero)) (u ∷ []) = tree.is_kind tree.unary (name_of names u.name) ∷ []
-kind_of names (suc (suc (suc zero))) (u ∷ []) = tree.is_kind tree.grounded (name_of names u.name) ∷ []
-kind_of names n us = []
+-- the conditions `int`, `unary` and `ground` have the names 1, 2 and 3, and one context
+abbrev pub kind_of : List tree.Name → ℕ → List CtxUse → tree.Condition
+kind_of names (suc zero) (u ∷ []) = tree.is_kind tree.int (name_of names u.name)
+kind_of names (suc (suc zero)) (u ∷ []) = tree.is_kind tree.unary (name_of names u.name)
+kind_of names (suc (suc (suc zero))) (u ∷ []) = tree.is_kind tree.grounded (name_of names u.name)
+kind_of names n us = tree.unknown (name_of names n) (names_of names us)
 
-abbrev pub condition_of : List tree.Name → Cond → List tree.Condition
+abbrev pub condition_of : List tree.Name → Cond → tree.Condition
 condition_of names (Kind n args pos) = kind_of names n args
-condition_of names (Compare op left right pos) = tree.compares (comparison_of op) (expression_of names left) (expression_of names right) ∷ []
-condition_of names (Equal left right pos) = tree.equates (name_of names left.name) (expression_of names right) ∷ []
-condition_of names (Differ left right pos) = tree.differs (name_of names left.name) (name_of names right.name) ∷ []
+condition_of names (Compare op left right pos) = tree.compares (comparison_of op) (expression_of names left) (expression_of names right)
+condition_of names (Equal left right pos) = tree.equates (name_of names left.name) (expression_of names right)
+condition_of names (Differ left right pos) = tree.differs (name_of names left.name) (name_of names right.name)
 
 abbrev pub rule_tree : List tree.Name → (ℕ → tree.Rule) → RuleTree → tree.Rule
-rule_tree names rule r = tree.rule_of (level_of names rule r.head) (flat_map (condition_of names) r.guard) (level_of names rule r.body)
+rule_tree names rule r = tree.rule_of (level_of names rule r.head) (map (condition_of names) r.guard) (level_of names rule r.body)
 
 -- what a number stands for that names no rule
 abbrev pub empty_level : tree.Level

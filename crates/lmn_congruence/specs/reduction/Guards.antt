@@ -21,7 +21,7 @@ IsOfKind grounded g = IsGround g
 
 -- A condition holds. The list `heads` has the typed contexts of the rule's head, so `$z = E` binds `$z` where it
 -- isn't there, and `$x = $y` compares two parts where both are. By our profile two parts that are compared are
--- ground: where one is not, neither `=` nor `\=` holds.
+-- ground: where one is not, neither `=` nor `\=` holds. A condition that is none of the language never holds.
 pub data Holds (heads : List Name) (t : Assignment) : Condition → Type 0 where
   of_kind : {k : Kind} {p : Name} → IsOfKind k (t.typed_of p) → Holds heads t (is_kind k p)
   in_order : {c : Comparison} {e f : Expression} {m n : ℤ} →
