@@ -4,7 +4,7 @@ use Rattle.std.proofs.Common.{inl, inr}
 use Rattle.lmn_io.proofs.TakingLemmas.{takes_prefix}
 use Rattle.lmn_app.specs.declared.ending.Ending.{Ending}
 use Rattle.lmn_app.specs.declared.ending.Ending.TheVariants.{Done, Budget, Refused, Words, ReadFault, WriteFault, NoMemory}
-use Rattle.lmn_app.specs.Lines.{end_line}
+use Rattle.lmn_app.specs.Printing.{end_line}
 use Rattle.lmn_app.specs.Outcomes.{Output, Writes, WritesPrefix}
 
 whole_prefix : (word : List ℕ) (old new : Option (List ℕ)) → Writes word old new → WritesPrefix old new

@@ -5,5 +5,6 @@ pub mod Reading
 pub mod Words
 pub mod Endings
 pub mod Lines
+pub mod Printing
 pub mod Stops
 pub mod Outcomes

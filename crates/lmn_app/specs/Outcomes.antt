@@ -8,7 +8,7 @@ use Rattle.lmn_io.specs.Taking.{Takes, TakesPrefix}
 use Rattle.lmn_app.specs.declared.ending.Ending.{Ending}
 use Rattle.lmn_app.specs.declared.ending.Ending.TheVariants.{Done, Budget, Refused, Words, ReadFault, WriteFault, NoMemory}
 use Rattle.lmn_app.specs.Words.{InForm}
-use Rattle.lmn_app.specs.Lines.{end_line}
+use Rattle.lmn_app.specs.Printing.{end_line}
 
 -- a code at the beginning of the text
 abbrev pub at_start : ℕ → Refusal

@@ -1,9 +1,10 @@
-ghost use Rattle.std.specs.Prelude.{◌≡◌, ◌≤◌, ◌++◌, [], OnOk, OnErr};
+ghost use Rattle.std.specs.Prelude.{◌≡◌, ◌≤◌, ◌++◌, [], codes, OnOk, OnErr};
 ghost use Rattle.lmn_io.specs.Counts.{Rose};
 ghost use Rattle.lmn_io.specs.Taking.{Takes, TakesPrefix};
 ghost use Rattle.lmn_io.specs.Gathering.{Adds, output};
 ghost use Rattle.lmn_app.specs.Programs.{names_of, rule_of, rules_of};
-ghost use Rattle.lmn_app.specs.Lines.{atom_item, end_line, items_text, line, names_text, rule_item, spaced};
+ghost use Rattle.lmn_app.specs.Lines.{joined, line, rule_text};
+ghost use Rattle.lmn_app.specs.Printing.{end_line, items_text, spaced};
 ghost use Rattle.lmn_app.specs.Stops.{stop_word};
 
 use crate::program::Rule;
@@ -62,13 +63,14 @@ fn add_rules<O: Sink>(buffer: &mut LineBuffer, out: &mut O, rules: &[Rule<'_>])
 {
     if let Some((first, more)) = rules.split_first() {
         add_rule(buffer, out, first);
+        buffer.add(out, b".");
         add_more_rules(buffer, out, more);
     }
 }
 
 /// Adds atoms, a space before each.
 fn add_more_atoms<O: Sink>(buffer: &mut LineBuffer, out: &mut O, atoms: &[&[u8]])
-    ensures { Adds (spaced atom_item (names_of atoms.now)) (output buffer.old (O.told out.old) (O.faults out.old)) (output buffer.new (O.told out.new) (O.faults out.new)) }
+    ensures { Adds (spaced (λ name. name) (names_of atoms.now)) (output buffer.old (O.told out.old) (O.faults out.old)) (output buffer.new (O.told out.new) (O.faults out.new)) }
 {
     for name in atoms {
         buffer.add(out, b" ");
@@ -79,28 +81,29 @@ fn add_more_atoms<O: Sink>(buffer: &mut LineBuffer, out: &mut O, atoms: &[&[u8]]
 
 /// Adds rules, a space before each.
 fn add_more_rules<O: Sink>(buffer: &mut LineBuffer, out: &mut O, rules: &[Rule<'_>])
-    ensures { Adds (spaced rule_item (rules_of rules.now)) (output buffer.old (O.told out.old) (O.faults out.old)) (output buffer.new (O.told out.new) (O.faults out.new)) }
+    ensures { Adds (spaced rule_text (rules_of rules.now)) (output buffer.old (O.told out.old) (O.faults out.old)) (output buffer.new (O.told out.new) (O.faults out.new)) }
 {
     for rule in rules {
         buffer.add(out, b" ");
         add_rule(buffer, out, rule);
+        buffer.add(out, b".");
     }
 }
 
 /// Adds a rule.
 fn add_rule<O: Sink>(buffer: &mut LineBuffer, out: &mut O, rule: &Rule<'_>)
-    ensures { Adds (rule_item (rule_of rule.now)) (output buffer.old (O.told out.old) (O.faults out.old)) (output buffer.new (O.told out.new) (O.faults out.new)) }
+    ensures { Adds (rule_text (rule_of rule.now)) (output buffer.old (O.told out.old) (O.faults out.old)) (output buffer.new (O.told out.new) (O.faults out.new)) }
 {
     buffer.add(out, b"(");
     add_names(buffer, out, rule.head.as_slice());
     buffer.add(out, b" :- ");
     add_names(buffer, out, rule.body.as_slice());
-    buffer.add(out, b").");
+    buffer.add(out, b")");
 }
 
 /// Adds names, a comma and a space between them.
 fn add_names<O: Sink>(buffer: &mut LineBuffer, out: &mut O, names: &[&[u8]])
-    ensures { Adds (names_text (names_of names.now)) (output buffer.old (O.told out.old) (O.faults out.old)) (output buffer.new (O.told out.new) (O.faults out.new)) }
+    ensures { Adds (joined (codes ", ") (names_of names.now)) (output buffer.old (O.told out.old) (O.faults out.old)) (output buffer.new (O.told out.new) (O.faults out.new)) }
 {
     let Some((first, more)) = names.split_first() else {
         return;

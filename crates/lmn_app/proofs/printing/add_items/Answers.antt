@@ -4,14 +4,15 @@ use Rattle.std.proofs.lemmas.List.Folds.{flat_map-map}
 use Rattle.std.proofs.lemmas.List.{nil_from_length}
 use Rattle.lmn_io.proofs.TakingLemmas.{adds_all, adds_as, adds_more, adds_next}
 use Rattle.lmn_app.specs.Programs.{names_of, rule_of, rules_of}
-use Rattle.lmn_app.specs.Lines.{items_text, atom_item, rule_item, names_text, spaced}
+use Rattle.lmn_app.specs.Lines.{joined, rule_text, stopped}
+use Rattle.lmn_app.specs.Printing.{items_text, spaced}
 use Rattle.lmn_app.proofs.LineLemmas.{names_whole, items_from_atom, items_from_rule}
 use Rattle.lmn_app.proofs.printing.add_items.Goals as goal
 
 pub returns-in-Some : goal.returns-in-Some
 returns-in-Some g c =
     adds_as (items_from_atom (names_of c.args.atoms.now) c.in-Some.first.now.now (names_of c.in-Some.more.now) (rules_of c.args.rules.now) (ap names_of c.in-Some.ensures.cases.0))
-        (adds_more (atom_item c.in-Some.first.now.now) _ _ _ _ (adds_more _ (codes ".") _ _ _ c.add.ensures c.add-in-Some.ensures)
+        (adds_more (stopped c.in-Some.first.now.now) _ _ _ _ (adds_more _ (codes ".") _ _ _ c.add.ensures c.add-in-Some.ensures)
             (adds_more _ _ _ _ _ c.add_more_atoms.ensures c.add_more_rules.ensures))
 
 pub returns-in-None : goal.returns-in-None

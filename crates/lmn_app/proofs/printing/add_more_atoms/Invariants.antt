@@ -3,11 +3,11 @@ use Rattle.std.specs.Prelude.{codes}
 use Rattle.std.specs.List.{flat_map}
 use Rattle.lmn_io.specs.Gathering.{Adds, output}
 use Rattle.lmn_app.specs.Programs.{rule_of}
-use Rattle.lmn_app.specs.Lines.{atom_item, rule_item}
+use Rattle.lmn_app.specs.Lines.{rule_text, stopped}
 use Rattle.lmn_app.proofs.printing.add_more_atoms.Given as goal
 
 abbrev pub invariant-loop-name : goal.invariant-loop-name
 invariant-loop-name g l =
     let told = g.O.Sink.told in
     let faults = g.O.Sink.faults in
-    Adds (flat_map (λ x. codes " " ++ atom_item x.now) (take l.name-index l.atoms)) (output l.initial.buffer (told l.initial.out) (faults l.initial.out)) (output l.buffer (told l.out) (faults l.out))
+    Adds (flat_map (λ x. codes " " ++ stopped x.now) (take l.name-index l.atoms)) (output l.initial.buffer (told l.initial.out) (faults l.initial.out)) (output l.buffer (told l.out) (faults l.out))

@@ -3,7 +3,8 @@ use Rattle.std.specs.Prelude.{codes}
 use Rattle.std.proofs.lemmas.List.Folds.{flat_map-map}
 use Rattle.lmn_io.proofs.TakingLemmas.{adds_all, adds_as, adds_more, adds_next}
 use Rattle.lmn_app.specs.Programs.{names_of, rule_of, rules_of}
-use Rattle.lmn_app.specs.Lines.{atom_item, rule_item, names_text, spaced}
+use Rattle.lmn_app.specs.Lines.{joined, rule_text, stopped}
+use Rattle.lmn_app.specs.Printing.{items_text, spaced}
 use Rattle.lmn_app.proofs.LineLemmas.{names_whole, items_from_atom, items_from_rule}
 use Rattle.lmn_app.proofs.printing.add_names.Goals as goal
 

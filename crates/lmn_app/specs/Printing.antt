@@ -1,0 +1,17 @@
+-- What the printer writes, piece by piece.
+use Rattle.std.specs.Prelude.{ℕ, List, [], ◌∷◌, ◌++◌, map, codes, decimal}
+use Rattle.std.specs.List.{concat, flat_map}
+use Rattle.lmn_app.specs.FirstGrammar.{RuleTree}
+use Rattle.lmn_app.specs.Lines.{joined, rule_text, stopped}
+
+-- the line of a process but for its line feed
+abbrev pub items_text : List (List ℕ) → List RuleTree → List ℕ
+items_text atoms rules = joined (codes " ") (map stopped (atoms ++ map rule_text rules))
+
+-- items, each behind a space
+abbrev pub spaced : {X : Type 0} → (X → List ℕ) → List X → List ℕ
+spaced text xs = flat_map (λ x. codes " " ++ stopped (text x)) xs
+
+-- the end line: why the run stopped, and after how many firings
+abbrev pub end_line : List ℕ → ℕ → List ℕ
+end_line word firings = concat (codes "% " ∷ word ∷ codes " after " ∷ decimal firings ∷ codes "\n" ∷ [])
