@@ -1,2 +1,3 @@
 pub mod CutsLaws
 pub mod GrammarLaws
+pub mod TokenLaws
