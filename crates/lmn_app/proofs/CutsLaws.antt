@@ -7,10 +7,10 @@ use Rattle.std.specs.Str.{IsTrimAsciiStart, IsAsciiWhitespaceBelow}
 use Rattle.std.proofs.lemmas.Bool.Decides.{nat_tests}
 use Rattle.std.proofs.lemmas.List.{append_assoc, append-nil}
 use Rattle.lmn_app.specs.FirstGrammar.{Lexeme, Name, Comma, Dot, Arrow, Open, Close, is_name_byte, IsName, EndsName, BeginsWith, Cuts, nothing, separator, token}
-use Rattle.lmn_app.proofs.GrammarLaws.{tail_is, apart}
+use Rattle.lmn_app.proofs.GrammarLaws.{head_is, tail_is, apart}
 
-pub head_is : {X : Type 0} {x y : X} {xs ys : List X} → x ∷ xs ≡ y ∷ ys → x ≡ y
-head_is e = cc
+
+
 
 -- a number for each kind of token
 abbrev number : Lexeme → ℕ

@@ -1,3 +1,5 @@
 pub mod CutsLaws
 pub mod GrammarLaws
+pub mod PlaceLaws
+pub mod SoFar
 pub mod TokenLaws

@@ -5,8 +5,8 @@ use Rattle.std.proofs.lemmas.Bool.Decides.{nat_tests}
 use Rattle.std.proofs.lemmas.List.{take-append-drop}
 use Rattle.lmn_app.specs.FirstGrammar.{Lexeme, Name, Comma, Dot, Arrow, Open, Close, is_name_byte, IsName, EndsName, BeginsWith}
 use Rattle.lmn_app.specs.Lexemes.{sign_at}
-use Rattle.lmn_app.proofs.GrammarLaws.{tail_is, apart}
-use Rattle.lmn_app.proofs.CutsLaws.{head_is, AllNameBytes}
+use Rattle.lmn_app.proofs.GrammarLaws.{head_is, tail_is, apart}
+use Rattle.lmn_app.proofs.CutsLaws.{AllNameBytes}
 
 letters : (n : ℕ) (bs : List ℕ) → n ≤ length bs → ((k : ℕ) → k < n → is_name_byte (slice_index bs k) ≡ true) → AllNameBytes (take n bs)
 letters zero bs l h = tt
