@@ -1,3 +1,4 @@
+pub mod AddsLaws
 pub mod CutsLaws
 pub mod GrammarLaws
 pub mod PlaceLaws

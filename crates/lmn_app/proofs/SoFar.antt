@@ -6,7 +6,8 @@ use Rattle.lmn_app.specs.FirstGrammar.{Lexeme, Name, Comma, Dot, Arrow, Open, Cl
 use Rattle.lmn_app.specs.Programs.{names_of, rule_of, rules_of}
 use Rattle.lmn_app.specs.Reading.{NotFirst, NoName, Ends, Adds}
 use Rattle.lmn_app.specs.declared.program.Program.{Program}
-use Rattle.lmn_app.proofs.GrammarLaws.{tail_is, ends_no_name, ends_no_comma, arrow_no_comma, names_one, name_first, rules_one}
+use Rattle.lmn_app.proofs.GrammarLaws.{tail_is, ends_no_name, ends_no_comma, arrow_no_comma, names_one, name_first, items_one}
+use Rattle.lmn_app.proofs.AddsLaws.{adds_none, adds_more}
 
 -- Names.
 
@@ -38,10 +39,6 @@ names_none ts done us so_far none ns rest h p =
     none first.0 first.1 first.2
 
 -- A rule.
-
-pub no_head : (ts : List Lexeme) → ((ns : List (List ℕ)) (rest : List Lexeme) → Names ts ns rest → NotFirst Comma rest → ⊥) → (r : RuleTree) (rest : List Lexeme) → Rules ts r rest → Ends rest → ⊥
-no_head ts none r rest (no_body {head = head} h) p = none head (Arrow ∷ rest) h (arrow_no_comma rest)
-no_head ts none r rest (some_body {head = head} {us = us} h b) p = none head (Arrow ∷ us) h (arrow_no_comma us)
 
 -- what stands behind the head of a rule
 behind_head : (ts us : List Lexeme) (head : List (List ℕ)) → Names ts head us → NotFirst Comma us → (r : RuleTree) (rest : List Lexeme) → Rules ts r rest → (vs : List Lexeme) × (us ≡ Arrow ∷ vs) × ((vs ≡ rest) ⊎ Names vs r.body rest)
@@ -84,3 +81,57 @@ broken_body ts us vs head h p e some none r rest k q =
       inl here ↦ some (λ n. subst (NotFirst (Name n)) (sym here ∙ same) (ends_no_name rest q n))
     | inr body ↦ none r.body rest (subst (λ ts. Names ts r.body rest) same body) (ends_no_comma rest q)
     ]
+
+-- Items.
+
+pub atom_there : (ts us : List Lexeme) (n : List ℕ) → ts ≡ Name n ∷ us → Items ts (AtomItem n) us
+atom_there ts us n e = rw e atom_item
+
+pub rule_there : (ts us vs ws : List Lexeme) (r : RuleTree) → ts ≡ Open ∷ us → Rules us r vs → vs ≡ Close ∷ ws → Items ts (RuleItem r) ws
+rule_there ts us vs ws r e h close = rw e (rule_item (subst (Rules us r) close h))
+
+pub record AreItemsSoFar (ts : List Lexeme) (done : List ItemTree) (us : List Lexeme) : Type 0 where
+  pub ahead : (is : List ItemTree) (rest : List Lexeme) → ItemLists us is rest → ItemLists ts (done ++ is) rest
+  pub behind : (is : List ItemTree) (rest : List Lexeme) → ItemLists ts is rest → NotFirst Comma rest → (js : List ItemTree) × ItemLists us js rest
+
+pub items_first : (ts : List Lexeme) → AreItemsSoFar ts [] ts
+items_first ts = record { ahead = λ is rest h. h; behind = λ is rest h p. (is, h) }
+
+items_off : (us vs : List Lexeme) (i : ItemTree) → Items us i (Comma ∷ vs) → (is : List ItemTree) (rest : List Lexeme) → ItemLists us is rest → NotFirst Comma rest → (js : List ItemTree) × ItemLists vs js rest
+items_off us vs i h is rest (last_item k) p = absurd (p vs (sym (items_one h k).1))
+items_off us vs i h is rest (more_items {is = js} k more) p = (js, subst (λ ws. ItemLists ws js rest) (sym (tail_is (items_one h k).1)) more)
+
+pub items_more : (ts : List Lexeme) (done : List ItemTree) (us vs ws : List Lexeme) (i : ItemTree) → AreItemsSoFar ts done us → Items us i vs → vs ≡ Comma ∷ ws → AreItemsSoFar ts (done ++ i ∷ []) ws
+items_more ts done us vs ws i so_far h comma =
+    let here = subst (Items us i) comma h in
+    record {
+      ahead = λ is rest k. rw append_assoc (so_far.ahead (i ∷ is) rest (more_items here k));
+      behind = λ is rest k p. let before = so_far.behind is rest k p in items_off us ws i here before.0 rest before.1 p;
+    }
+
+pub items_last : (ts : List Lexeme) (done : List ItemTree) (us vs : List Lexeme) (i : ItemTree) → AreItemsSoFar ts done us → Items us i vs → ItemLists ts (done ++ i ∷ []) vs
+items_last ts done us vs i so_far h = so_far.ahead (i ∷ []) vs (last_item h)
+
+first_item : (us rest : List Lexeme) (is : List ItemTree) → ItemLists us is rest → (i : ItemTree) × (vs : List Lexeme) × Items us i vs
+first_item us rest is (last_item {i = i} h) = (i, rest, h)
+first_item us rest is (more_items {i = i} {us = vs} h more) = (i, Comma ∷ vs, h)
+
+pub items_none : (ts : List Lexeme) (done : List ItemTree) (us : List Lexeme) → AreItemsSoFar ts done us → ((i : ItemTree) (rest : List Lexeme) → Items us i rest → ⊥) → (is : List ItemTree) (rest : List Lexeme) → ItemLists ts is rest → NotFirst Comma rest → ⊥
+items_none ts done us so_far none is rest h p =
+    let before = so_far.behind is rest h p in
+    let first = first_item us rest before.0 before.1 in
+    none first.0 first.1 first.2
+
+pub each_more : {X : Type 0} (f : ItemTree → List X) (done : List ItemTree) (i : ItemTree) → flat_map f done ++ f i ≡ flat_map f (done ++ i ∷ [])
+each_more f done i = flat_map_more f [] done i
+
+-- the items so far, and what they added
+pub record ItemsAdded (ts us : List Lexeme) (old new : Program) : Type 0 where
+  pub done : List ItemTree
+  pub so_far : AreItemsSoFar ts done us
+  pub added : Adds old new (flat_map item_atoms done) (flat_map item_rules done)
+
+pub added_more : (old mid new : Program) (done : List ItemTree) (i : ItemTree) → Adds old mid (flat_map item_atoms done) (flat_map item_rules done) → Adds mid new (item_atoms i) (item_rules i) → Adds old new (flat_map item_atoms (done ++ i ∷ [])) (flat_map item_rules (done ++ i ∷ []))
+added_more old mid new done i h k =
+    rw (← each_more item_atoms done i, ← each_more item_rules done i)
+      (adds_more old mid new (flat_map item_atoms done) (item_atoms i) (flat_map item_rules done) (item_rules i) h k)

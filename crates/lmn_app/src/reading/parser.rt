@@ -40,7 +40,10 @@ fn past_end(tokens: &[Token<'_>], at: usize) -> Option<usize>
     if at >= tokens.len() {
         return Some(at);
     }
-    is_sign(tokens, at, Sign::Dot).then(|| at + 1)
+    if !is_sign(tokens, at, Sign::Dot) {
+        return None;
+    }
+    Some(at + 1)
 }
 
 /// Adds the clause that begins at a place, a rule or items, and answers the place behind it.
@@ -121,8 +124,11 @@ fn item<'t>(
     let Some((rule, end)) = rule(alloc, tokens, at + 1)? else {
         return Ok(None);
     };
+    if !is_sign(tokens, end, Sign::Close) {
+        return Ok(None);
+    }
     program.rules.push(rule)?;
-    Ok(is_sign(tokens, end, Sign::Close).then(|| end + 1))
+    Ok(Some(end + 1))
 }
 
 /// The rule that begins at a place, and the place behind it.

@@ -2,7 +2,7 @@ use Rattle.std.proofs.Common.{◌+◌, rules}
 use Rattle.lmn_app.specs.Programs.{names_of}
 use Rattle.lmn_app.specs.Reading.{left}
 use Rattle.lmn_app.proofs.PlaceLaws.{no_name_at, some_name_at}
-use Rattle.lmn_app.proofs.SoFar.{no_head, no_arrow, without_body, only_head, broken_body, with_body, only_body}
+use Rattle.lmn_app.proofs.SoFar.{no_arrow, without_body, only_head, broken_body, with_body, only_body}
 use Rattle.lmn_app.proofs.reading.parser.rule.Goals as goal
 
 pub returns-then-not-is_sign-clause-found : goal.returns-then-not-is_sign-clause-found
