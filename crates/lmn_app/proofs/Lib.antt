@@ -1,4 +1,5 @@
 pub mod AddsLaws
+pub mod ClauseLaws
 pub mod CutsLaws
 pub mod GrammarLaws
 pub mod PlaceLaws

@@ -73,8 +73,11 @@ fn begins_rule(tokens: &[Token<'_>], at: usize) -> bool
     for place in at..tokens.len() {
         match tokens[place] {
             Token::Name(_) => {}
-            Token::Sign(Sign::Comma) => {}
-            Token::Sign(sign) => return sign == Sign::Arrow,
+            Token::Sign(sign) => match sign {
+                Sign::Comma => {}
+                Sign::Arrow => return true,
+                Sign::Dot | Sign::Open | Sign::Close => return false,
+            },
         }
     }
     false
