@@ -1,12 +1,10 @@
 -- Clauses and whole programs from what was found of their parts.
-use Rattle.std.proofs.Common.{◌≡◌, ◌≢◌, ◌⊎◌, ℕ, ◌+◌, Bool, true, false, List, [], ◌∷◌, ◌++◌, Option, Some, None, refl, sym, ap, ◌∙◌, subst, inl, inr}
-use Rattle.std.specs.List.{flat_map}
+use Rattle.std.proofs.Common.{◌≡◌, ◌≢◌, ◌⊎◌, ℕ, true, false, List, [], ◌∷◌, ◌++◌, Option, Some, None, refl, sym, ap, ◌∙◌, subst, inl, inr}
 use Rattle.std.proofs.lemmas.List.{append_assoc, append-nil, flat_map_more}
-use Rattle.lmn_app.specs.FirstGrammar.{Lexeme, Comma, Dot, RuleTree, ClauseTree, RuleClause, ItemsClause, Tree, Rules, ItemLists, Clauses, rule_clause, items_clause, Programs, no_clause, last_clause, more_clauses, clause_atoms, clause_rules, tree_atoms, tree_rules}
-use Rattle.lmn_app.specs.Programs.{names_of, rules_of}
-use Rattle.lmn_app.specs.Reading.{left, is_rule_first, NotFirst, Ends, Adds, PastEnd, RuleFrom, ItemsFrom, ClauseFrom, IsProcessOf}
+use Rattle.lmn_app.specs.FirstGrammar.{Lexeme, Dot, RuleTree, ClauseTree, ItemsClause, Tree, Rules, ItemLists, Clauses, rule_clause, items_clause, Programs, no_clause, last_clause, more_clauses, clause_atoms, clause_rules}
+use Rattle.lmn_app.specs.Programs.{names_of, rules_of, IsProcessOf}
+use Rattle.lmn_app.specs.Reading.{left, is_rule_first, NotFirst, Ends, Adds, RuleFrom, ItemsFrom, ClauseFrom}
 use Rattle.lmn_app.specs.declared.program.Program.{Program}
-use Rattle.lmn_app.specs.declared.program.Rule.{Rule}
 use Rattle.lmn_app.specs.declared.reading.lexer.Token.{Token}
 use Rattle.lmn_app.proofs.GrammarLaws.{apart, tail_is, ends_no_comma, ends_no_rule, rules_first, item_lists_one, item_lists_no_rule, clauses_some}
 
@@ -65,14 +63,15 @@ Past us vs = ((us ≡ []) × (vs ≡ [])) ⊎ (us ≡ Dot ∷ vs)
 one_clause : (us vs ws : List Lexeme) (c : ClauseTree) (tree : Tree) → Clauses us c vs → Past vs ws → Programs ws tree → Programs us (c ∷ tree)
 one_clause us vs ws c tree h past more =
     elim past [
-      inl e ↦ last us vs ws c tree h e.0 e.1 more
-    | inr e ↦ more_clauses (subst (Clauses us c) e h) more
+      | inl e ↦ last us vs ws c tree h e.0 e.1 more
+      | inr e ↦ more_clauses (subst (Clauses us c) e h) more
     ]
   where
     nothing_left : (xs : List Lexeme) (tree : Tree) → xs ≡ [] → Programs xs tree → tree ≡ []
     nothing_left xs tree e no_clause = refl
     nothing_left xs tree e (last_clause {c = c} k) = absurd (clauses_some (subst (λ ts. Clauses ts c []) e k))
     nothing_left xs tree e (more_clauses {c = c} {us = ys} k more) = absurd (clauses_some (subst (λ ts. Clauses ts c (Dot ∷ ys)) e k))
+
     last : (us vs ws : List Lexeme) (c : ClauseTree) (tree : Tree) → Clauses us c vs → vs ≡ [] → ws ≡ [] → Programs ws tree → Programs us (c ∷ tree)
     last us vs ws c tree h e d more = rw (nothing_left ws tree d more) (last_clause (subst (Clauses us c) e h))
 
@@ -81,14 +80,14 @@ clause_off us vs ws some only past _ no_clause = absurd (some refl)
 clause_off us vs ws some only past _ (last_clause {c = c} h) =
     let end = only c [] h tt in
     elim past [
-      inl e ↦ ([], rw e.1 no_clause)
-    | inr e ↦ let d : [] ≡ Dot ∷ ws = end ∙ e in absurd cc
+      | inl e ↦ ([], rw e.1 no_clause)
+      | inr e ↦ let d : [] ≡ Dot ∷ ws = end ∙ e in absurd cc
     ]
 clause_off us vs ws some only past _ (more_clauses {c = c} {cs = cs} {us = rest} h more) =
     let end = only c (Dot ∷ rest) h tt in
     elim past [
-      inl e ↦ let d : Dot ∷ rest ≡ [] = end ∙ e.0 in absurd cc
-    | inr e ↦ (cs, subst (λ ts. Programs ts cs) (tail_is (end ∙ e)) more)
+      | inl e ↦ let d : Dot ∷ rest ≡ [] = end ∙ e.0 in absurd cc
+      | inr e ↦ (cs, subst (λ ts. Programs ts cs) (tail_is (end ∙ e)) more)
     ]
 
 process_more : (old new : Program) (done : Tree) (c : ClauseTree) → IsProcessOf old done → Adds old new (clause_atoms c) (clause_rules c) → IsProcessOf new (done ++ c ∷ [])

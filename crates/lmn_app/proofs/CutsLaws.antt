@@ -1,16 +1,13 @@
 -- A text is cut in one way at most.
-use Rattle.std.proofs.Common.{◌≡◌, ℕ, zero, suc, ◌+◌, ◌<◌, ◌≤◌, ◌==◌, Bool, true, false, ◌||◌, if◌then◌else◌, List, [], ◌∷◌, ◌++◌, length, slice_index, take, drop, refl, sym, ap, ◌∙◌, subst, arith}
+use Rattle.std.proofs.Common.{◌≡◌, ℕ, zero, suc, ◌<◌, ◌==◌, true, false, if◌then◌else◌, List, [], ◌∷◌, ◌++◌, length, slice_index, drop, refl, sym, ap, ◌∙◌, subst, arith}
 use Rattle.std.specs.Prelude.{⊤}
 use Rattle.std.specs.List.{AllByRecursion}
-use Rattle.std.specs.Char.{is_ascii_whitespace, is_ascii_lowercase, is_ascii_alphanumeric}
+use Rattle.std.specs.Char.{is_ascii_whitespace, is_ascii_lowercase}
 use Rattle.std.specs.Str.{IsTrimAsciiStart, IsAsciiWhitespaceBelow}
 use Rattle.std.proofs.lemmas.Bool.Decides.{nat_tests}
 use Rattle.std.proofs.lemmas.List.{append_assoc, append-nil}
 use Rattle.lmn_app.specs.FirstGrammar.{Lexeme, Name, Comma, Dot, Arrow, Open, Close, is_name_byte, IsName, EndsName, BeginsWith, Cuts, nothing, separator, token}
 use Rattle.lmn_app.proofs.GrammarLaws.{head_is, tail_is, apart}
-
-
-
 
 -- a number for each kind of token
 abbrev number : Lexeme → ℕ
@@ -160,9 +157,9 @@ cut_more text done rest t after next so_far h k =
       no_space = trim.no_space;
       ahead = λ ts cut. rw append_assoc (so_far.ahead (t ∷ ts) (token h (trim.ahead ts cut)));
       behind = λ ts cut.
-        let before = so_far.behind ts cut in
-        let off = token_off rest after t before.0 so_far.no_space h before.1 in
-        (off.0, trim.behind off.0 off.1);
+          let before = so_far.behind ts cut in
+          let off = token_off rest after t before.0 so_far.no_space h before.1 in
+          (off.0, trim.behind off.0 off.1);
     }
 
 pub cut_whole : (text : List ℕ) (done : List Lexeme) (rest : List ℕ) → IsCutSoFar text done rest → length rest ≡ 0 → Cuts text done

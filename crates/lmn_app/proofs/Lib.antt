@@ -2,6 +2,8 @@ pub mod AddsLaws
 pub mod ClauseLaws
 pub mod CutsLaws
 pub mod GrammarLaws
+pub mod LimitLaws
 pub mod PlaceLaws
+pub mod ReadsLaws
 pub mod SoFar
 pub mod TokenLaws

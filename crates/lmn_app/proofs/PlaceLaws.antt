@@ -1,13 +1,13 @@
 -- The tokens from a place on.
-use Rattle.std.proofs.Common.{◌≡◌, ◌≢◌, ℕ, zero, suc, ◌+◌, ◌<◌, ◌≤◌, Bool, true, false, List, [], ◌∷◌, ◌++◌, length, slice_index_or, drop, map, refl, sym, ap, ◌∙◌, subst, arith, MatchBool, Option, Some, None, IfSome, is_some, nat_lt}
+use Rattle.std.proofs.Common.{◌≡◌, ◌≢◌, ℕ, ◌+◌, ◌<◌, ◌≤◌, Bool, true, false, List, [], ◌∷◌, length, slice_index_or, drop, map, refl, sym, ap, ◌∙◌, arith, MatchBool, Option, Some, None, IfSome, is_some, nat_lt}
 use Rattle.std.specs.Borrow.{Bor}
 use Rattle.std.specs.Option.{option_copied}
 use Rattle.std.proofs.lemmas.Bool.Decides.{nat_tests}
 use Rattle.std.proofs.lemmas.List.{drop_more, drop_all, drop-map, length-map, length-drop}
 use denote.Enum.Bare.{sameb}
-use Rattle.lmn_app.specs.FirstGrammar.{Lexeme, Name, Comma, Dot, Arrow, Open, Close}
+use Rattle.lmn_app.specs.FirstGrammar.{Lexeme}
 use Rattle.lmn_app.specs.Lexemes.{lexeme, lexemes, sign_lexeme}
-use Rattle.lmn_app.specs.Reading.{left, is_rule_first, NotFirst, NoName, TokenAt, NameAt, SignAt}
+use Rattle.lmn_app.specs.Reading.{left, is_rule_first, NoName, TokenAt, NameAt, SignAt}
 use Rattle.lmn_app.specs.contracts.reading.lexer.Sign.{the_type}
 use Rattle.lmn_app.specs.declared.reading.lexer.Sign.{Sign}
 use Rattle.lmn_app.specs.declared.reading.lexer.Sign.TheVariants as sign

@@ -1,13 +1,12 @@
 -- What was read so far, and what is left, against the whole.
-use Rattle.std.proofs.Common.{◌≡◌, ◌≢◌, ◌⊎◌, ℕ, ◌+◌, List, [], ◌∷◌, ◌++◌, refl, sym, ap, ◌∙◌, subst, inl, inr}
+use Rattle.std.proofs.Common.{◌≡◌, ◌⊎◌, ℕ, List, [], ◌∷◌, ◌++◌, refl, sym, ◌∙◌, subst, inl, inr}
 use Rattle.std.specs.List.{flat_map}
-use Rattle.std.proofs.lemmas.List.{append_assoc, append-nil, flat_map_more}
-use Rattle.lmn_app.specs.FirstGrammar.{Lexeme, Name, Comma, Dot, Arrow, Open, Close, RuleTree, ItemTree, AtomItem, RuleItem, ClauseTree, RuleClause, ItemsClause, Tree, Names, last_name, more_names, Rules, no_body, some_body, Items, atom_item, rule_item, ItemLists, last_item, more_items, Clauses, rule_clause, items_clause, Programs, no_clause, last_clause, more_clauses, item_atoms, item_rules, clause_atoms, clause_rules, tree_atoms, tree_rules}
-use Rattle.lmn_app.specs.Programs.{names_of, rule_of, rules_of}
+use Rattle.std.proofs.lemmas.List.{append_assoc, flat_map_more}
+use Rattle.lmn_app.specs.FirstGrammar.{Lexeme, Name, Comma, Arrow, Open, Close, RuleTree, ItemTree, AtomItem, RuleItem, Names, last_name, more_names, Rules, no_body, some_body, Items, atom_item, rule_item, ItemLists, last_item, more_items, item_atoms, item_rules}
 use Rattle.lmn_app.specs.Reading.{NotFirst, NoName, Ends, Adds}
 use Rattle.lmn_app.specs.declared.program.Program.{Program}
 use Rattle.lmn_app.proofs.GrammarLaws.{tail_is, ends_no_name, ends_no_comma, arrow_no_comma, names_one, name_first, items_one}
-use Rattle.lmn_app.proofs.AddsLaws.{adds_none, adds_more}
+use Rattle.lmn_app.proofs.AddsLaws.{adds_more}
 
 -- Names.
 
@@ -53,8 +52,8 @@ only_head ts us vs head h p e none r rest k q =
     let behind = behind_head ts us head h p r rest k in
     let same : behind.0 ≡ vs = tail_is (sym behind.1 ∙ e) in
     elim behind.2 [
-      inl here ↦ sym here ∙ same
-    | inr body ↦ let first = name_first body in absurd (none first.0 first.1 (sym same ∙ first.2))
+      | inl here ↦ sym here ∙ same
+      | inr body ↦ let first = name_first body in absurd (none first.0 first.1 (sym same ∙ first.2))
     ]
 
 pub with_body : (ts us vs ws : List Lexeme) (head body : List (List ℕ)) → Names ts head us → us ≡ Arrow ∷ vs → Names vs body ws → Rules ts (record { head = head; body = body }) ws
@@ -65,8 +64,8 @@ only_body ts us vs ws head body h p e b f r rest k q =
     let behind = behind_head ts us head h p r rest k in
     let same : behind.0 ≡ vs = tail_is (sym behind.1 ∙ e) in
     elim behind.2 [
-      inl here ↦ let first = name_first b in absurd (ends_no_name rest q first.0 first.1 (sym here ∙ same ∙ first.2))
-    | inr other ↦ (names_one other (ends_no_comma rest q) (subst (λ ts. Names ts body ws) (sym same) b) f).1
+      | inl here ↦ let first = name_first b in absurd (ends_no_name rest q first.0 first.1 (sym here ∙ same ∙ first.2))
+      | inr other ↦ (names_one other (ends_no_comma rest q) (subst (λ ts. Names ts body ws) (sym same) b) f).1
     ]
 
 pub without_body : (ts us vs : List Lexeme) (head : List (List ℕ)) → Names ts head us → us ≡ Arrow ∷ vs → Rules ts (record { head = head; body = [] }) vs
@@ -78,8 +77,8 @@ broken_body ts us vs head h p e some none r rest k q =
     let behind = behind_head ts us head h p r rest k in
     let same : behind.0 ≡ vs = tail_is (sym behind.1 ∙ e) in
     elim behind.2 [
-      inl here ↦ some (λ n. subst (NotFirst (Name n)) (sym here ∙ same) (ends_no_name rest q n))
-    | inr body ↦ none r.body rest (subst (λ ts. Names ts r.body rest) same body) (ends_no_comma rest q)
+      | inl here ↦ some (λ n. subst (NotFirst (Name n)) (sym here ∙ same) (ends_no_name rest q n))
+      | inr body ↦ none r.body rest (subst (λ ts. Names ts r.body rest) same body) (ends_no_comma rest q)
     ]
 
 -- Items.
@@ -134,4 +133,4 @@ pub record ItemsAdded (ts us : List Lexeme) (old new : Program) : Type 0 where
 pub added_more : (old mid new : Program) (done : List ItemTree) (i : ItemTree) → Adds old mid (flat_map item_atoms done) (flat_map item_rules done) → Adds mid new (item_atoms i) (item_rules i) → Adds old new (flat_map item_atoms (done ++ i ∷ [])) (flat_map item_rules (done ++ i ∷ []))
 added_more old mid new done i h k =
     rw (← each_more item_atoms done i, ← each_more item_rules done i)
-      (adds_more old mid new (flat_map item_atoms done) (item_atoms i) (flat_map item_rules done) (item_rules i) h k)
+    (adds_more old mid new (flat_map item_atoms done) (item_atoms i) (flat_map item_rules done) (item_rules i) h k)

@@ -1,11 +1,8 @@
 -- What the first bytes of a text say of the token with which it begins.
-use Rattle.std.proofs.Common.{◌≡◌, ℕ, zero, suc, ◌+◌, ◌<◌, ◌≤◌, ◌==◌, Bool, true, false, ◌||◌, if◌then◌else◌, List, [], ◌∷◌, ◌++◌, length, slice_index, take, drop, Option, Some, None, refl, sym, ap, ◌∙◌, subst, arith, one-add}
-use Rattle.std.specs.Char.{is_ascii_whitespace, is_ascii_lowercase}
-use Rattle.std.proofs.lemmas.Bool.Decides.{nat_tests}
+use Rattle.std.proofs.Common.{◌≡◌, ℕ, zero, suc, ◌+◌, ◌<◌, ◌≤◌, true, false, List, [], ◌∷◌, length, slice_index, take, drop, refl, sym, ap, ◌∙◌, arith, one-add}
+use Rattle.std.specs.Char.{is_ascii_lowercase}
 use Rattle.std.proofs.lemmas.List.{take-append-drop}
-use Rattle.lmn_app.specs.FirstGrammar.{Lexeme, Name, Comma, Dot, Arrow, Open, Close, is_name_byte, IsName, EndsName, BeginsWith}
-use Rattle.lmn_app.specs.Lexemes.{sign_at}
-use Rattle.lmn_app.proofs.GrammarLaws.{head_is, tail_is, apart}
+use Rattle.lmn_app.specs.FirstGrammar.{Name, is_name_byte, EndsName, BeginsWith}
 use Rattle.lmn_app.proofs.CutsLaws.{AllNameBytes}
 
 letters : (n : ℕ) (bs : List ℕ) → n ≤ length bs → ((k : ℕ) → k < n → is_name_byte (slice_index bs k) ≡ true) → AllNameBytes (take n bs)

@@ -1,4 +1,5 @@
 pub mod FirstGrammar
+pub mod Laws
 pub mod Lexemes
 pub mod Programs
 pub mod Reading

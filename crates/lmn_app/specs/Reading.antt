@@ -2,9 +2,9 @@
 use Rattle.std.specs.Prelude.{◌≡◌, ◌≢◌, ◌⊎◌, ℕ, ◌+◌, Bool, true, false, ⊤, List, [], ◌∷◌, ◌++◌, drop, Option, Some, None}
 use Rattle.std.specs.List.{flat_map}
 use Rattle.std.specs.Borrow.{Bor}
-use Rattle.lmn_app.specs.FirstGrammar.{Lexeme, Name, Comma, Dot, Arrow, Open, Close, RuleTree, ItemTree, ClauseTree, Tree, Names, Rules, Items, ItemLists, Clauses, Programs, BeginsWith, Cuts, item_atoms, item_rules, clause_atoms, clause_rules, tree_atoms, tree_rules}
+use Rattle.lmn_app.specs.FirstGrammar.{Lexeme, Name, Comma, Dot, Arrow, Close, RuleTree, ItemTree, ClauseTree, Tree, Names, Rules, Items, ItemLists, Clauses, Programs, item_atoms, item_rules, clause_atoms, clause_rules}
 use Rattle.lmn_app.specs.Lexemes.{lexeme, lexemes}
-use Rattle.lmn_app.specs.Programs.{names_of, rule_of, rules_of}
+use Rattle.lmn_app.specs.Programs.{names_of, rule_of, rules_of, IsProcessOf}
 use Rattle.lmn_app.specs.declared.program.Program.{Program}
 use Rattle.lmn_app.specs.declared.program.Rule.{Rule}
 use Rattle.lmn_app.specs.declared.reading.lexer.Token.{Token}
@@ -87,11 +87,6 @@ ClauseFrom tokens at old new (Some end) =
     (c : ClauseTree) × Clauses (left tokens at) c (left tokens end)
     × ((d : ClauseTree) (rest : List Lexeme) → Clauses (left tokens at) d rest → Ends rest → rest ≡ left tokens end)
     × Adds old new (clause_atoms c) (clause_rules c)
-
--- a program is the process of a tree
-pub record IsProcessOf (program : Program) (tree : Tree) : Type 0 where
-  pub same_atoms : names_of program.atoms ≡ tree_atoms tree
-  pub same_rules : rules_of program.rules ≡ tree_rules tree
 
 abbrev pub ProgramFrom : List Token → Option Program → Type 0
 ProgramFrom tokens None = (tree : Tree) → Programs (lexemes tokens) tree → ⊥

@@ -5,4 +5,4 @@ mod program;
 mod reading;
 
 pub use program::{Program, Rule};
-pub use reading::read;
+pub use reading::{one_tree, read};

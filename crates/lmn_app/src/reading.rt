@@ -1,3 +1,8 @@
+ghost use Rattle.std.specs.Prelude.{◌≡◌, IfOk, IfErr, MatchOption};
+ghost use Rattle.lmn_app.specs.FirstGrammar.{Tree, Reads, WithinLimits};
+ghost use Rattle.lmn_app.specs.Laws.{OneTree};
+ghost use Rattle.lmn_app.specs.Programs.{IsProcessOf, IfRefused, IsNotBuilt};
+
 mod lexer;
 mod limits;
 mod parser;
@@ -16,7 +21,13 @@ const NOT_READ: Refusal = Refusal {
 ///
 /// A text that is not of the grammar, or not within the limits, is refused by code 90 at line 1,
 /// column 1.
-pub fn read<'t>(alloc: Global, text: &'t [u8]) -> Result<Program<'t>, TextFault> {
+pub fn read<'t>(alloc: Global, text: &'t [u8]) -> Result<Program<'t>, TextFault>
+    // What is read is the process of a tree that the text spells.
+    ensures read { IfOk result (λ program. (tree : Tree) × Reads text.now tree × WithinLimits tree × IsProcessOf program tree) }
+    // What is refused spells no tree.
+    ensures refused { IfErr result (λ fault. IfRefused fault (λ refusal.
+        IsNotBuilt refusal × ((tree : Tree) → Reads text.now tree → WithinLimits tree → ⊥))) }
+{
     match read_within_limits(alloc, text) {
         Ok(Some(program)) => Ok(program),
         Ok(None) => Err(TextFault::Refused(NOT_READ)),
@@ -25,7 +36,11 @@ pub fn read<'t>(alloc: Global, text: &'t [u8]) -> Result<Program<'t>, TextFault>
 }
 
 /// The program that a text spells, if it spells one within the limits.
-fn read_within_limits<'t>(alloc: Global, text: &'t [u8]) -> Result<Option<Program<'t>>, NoMemory> {
+fn read_within_limits<'t>(alloc: Global, text: &'t [u8]) -> Result<Option<Program<'t>>, NoMemory>
+    ensures { IfOk result (λ found. MatchOption found
+        ((tree : Tree) → Reads text.now tree → WithinLimits tree → ⊥)
+        (λ program. (tree : Tree) × Reads text.now tree × WithinLimits tree × IsProcessOf program tree)) }
+{
     let Some(tokens) = lexer::tokens_of(alloc, text)? else {
         return Ok(None);
     };
@@ -37,6 +52,11 @@ fn read_within_limits<'t>(alloc: Global, text: &'t [u8]) -> Result<Option<Progra
     }
     Ok(Some(program))
 }
+
+/// A text spells at most one tree.
+pub fn one_tree()
+    ensures { OneTree }
+{}
 
 #[cfg(test)]
 mod tests {

@@ -1,8 +1,8 @@
-use Rattle.std.proofs.Common.{rules, ◌≡◌, ◌<◌, List, [], ◌∷◌, ◌++◌, length, arith, sym, ◌∙◌, ap, subst}
+use Rattle.std.proofs.Common.{arith}
 use Rattle.std.proofs.lemmas.Bool.Decides.{nat_tests}
 use Rattle.std.proofs.lemmas.List.{map_push}
 use Rattle.lmn_app.specs.Lexemes.{lexeme, lexemes}
-use Rattle.lmn_app.proofs.CutsLaws.{IsCutSoFar, cut_first, cut_more, cut_whole, cut_none}
+use Rattle.lmn_app.proofs.CutsLaws.{cut_first, cut_more, cut_whole, cut_none}
 use Rattle.lmn_app.proofs.reading.lexer.tokens_of.Goals as goal
 
 pub loop-rest-init : goal.loop-rest-init

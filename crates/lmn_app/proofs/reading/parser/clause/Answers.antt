@@ -1,4 +1,4 @@
-use Rattle.std.proofs.Common.{sym, ap, ◌∙◌}
+use Rattle.std.proofs.Common.{sym}
 use Rattle.std.proofs.lemmas.Result.{IfOk-weaker}
 use Rattle.lmn_app.specs.FirstGrammar.{RuleClause, rule_clause}
 use Rattle.lmn_app.specs.Programs.{rule_of}

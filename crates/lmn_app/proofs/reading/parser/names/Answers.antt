@@ -1,4 +1,4 @@
-use Rattle.std.proofs.Common.{◌+◌, ◌∷◌, [], ◌∙◌, ap, arith, List}
+use Rattle.std.proofs.Common.{◌+◌, ◌∷◌, ◌∙◌, ap, arith, List}
 use Rattle.std.proofs.lemmas.List.{map_push}
 use Rattle.lmn_app.specs.FirstGrammar.{Lexeme, Name}
 use Rattle.lmn_app.specs.Programs.{names_of}

@@ -1,4 +1,4 @@
-use Rattle.std.proofs.Common.{◌+◌, rules}
+use Rattle.std.proofs.Common.{◌+◌}
 use Rattle.lmn_app.specs.Programs.{names_of}
 use Rattle.lmn_app.specs.Reading.{left}
 use Rattle.lmn_app.proofs.PlaceLaws.{no_name_at, some_name_at}
