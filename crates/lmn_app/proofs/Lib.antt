@@ -3,7 +3,9 @@ pub mod ClauseLaws
 pub mod CutsLaws
 pub mod GrammarLaws
 pub mod LimitLaws
+pub mod LineLaws
 pub mod PlaceLaws
 pub mod ReadsLaws
 pub mod SoFar
+pub mod SpelledLaws
 pub mod TokenLaws

@@ -5,4 +5,4 @@ mod program;
 mod reading;
 
 pub use program::{Program, Rule};
-pub use reading::{one_tree, read};
+pub use reading::{lines_are_read, one_tree, read, trees_are_spelled};

@@ -1,6 +1,6 @@
 ghost use Rattle.std.specs.Prelude.{◌≡◌, IfOk, IfErr, MatchOption};
 ghost use Rattle.lmn_app.specs.FirstGrammar.{Tree, Reads, WithinLimits};
-ghost use Rattle.lmn_app.specs.Laws.{OneTree};
+ghost use Rattle.lmn_app.specs.Laws.{OneTree, TreesAreSpelled, LinesAreRead};
 ghost use Rattle.lmn_app.specs.Programs.{IsProcessOf, IfRefused, IsNotBuilt};
 
 mod lexer;
@@ -57,6 +57,18 @@ fn read_within_limits<'t>(alloc: Global, text: &'t [u8]) -> Result<Option<Progra
 pub fn one_tree()
     ensures { OneTree }
 {}
+
+/// What a text spells has names of the grammar only, and no rule without a head.
+pub fn trees_are_spelled()
+    ensures { TreesAreSpelled }
+{
+}
+
+/// The line of a process is read as that process.
+pub fn lines_are_read()
+    ensures { LinesAreRead }
+{
+}
 
 #[cfg(test)]
 mod tests {
