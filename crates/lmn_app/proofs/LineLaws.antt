@@ -1,10 +1,10 @@
 -- The line of a process is read as that process.
-use Rattle.std.proofs.Common.{◌≡◌, ◌≢◌, ℕ, List, [], ◌∷◌, ◌++◌, map, true, refl, sym, ap, ◌∙◌, subst}
-use Rattle.std.specs.List.{AllByRecursion, flat_map}
-use Rattle.std.proofs.lemmas.List.{append_assoc, append-nil}
-use Rattle.lmn_app.specs.FirstGrammar.{Lexeme, Name, Comma, Dot, Arrow, Open, Close, IsName, EndsName, Cuts, nothing, separator, token, RuleTree, ItemTree, AtomItem, RuleItem, ClauseTree, ItemsClause, Tree, Names, last_name, more_names, Rules, no_body, some_body, Items, atom_item, rule_item, last_item, items_clause, Programs, no_clause, more_clauses, item_atoms, item_rules, tree_atoms, tree_rules, Reads}
+use Rattle.std.proofs.Common.{◌≡◌, ◌≢◌, ℕ, List, [], ◌∷◌, ◌++◌, map, refl, ap}
+use Rattle.std.specs.List.{AllByRecursion}
+use Rattle.std.proofs.lemmas.List.{append_assoc}
+use Rattle.lmn_app.specs.FirstGrammar.{Lexeme, Name, Comma, Dot, Arrow, Open, Close, IsName, EndsName, Cuts, nothing, separator, token, RuleTree, ItemTree, AtomItem, RuleItem, ClauseTree, ItemsClause, Names, last_name, more_names, Rules, no_body, some_body, Items, atom_item, rule_item, last_item, items_clause, Programs, no_clause, more_clauses, tree_atoms, tree_rules}
 use Rattle.lmn_app.specs.Laws.{IsSpelled, LinesAreRead}
-use Rattle.lmn_app.specs.Lines.{joined, rule_text, stopped, line}
+use Rattle.lmn_app.specs.Lines.{joined, rule_text, stopped}
 
 space : {rest : List ℕ} {ts : List Lexeme} → Cuts rest ts → Cuts (32 ∷ rest) ts
 space h = separator refl h

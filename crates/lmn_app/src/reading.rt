@@ -61,14 +61,12 @@ pub fn one_tree()
 /// What a text spells has names of the grammar only, and no rule without a head.
 pub fn trees_are_spelled()
     ensures { TreesAreSpelled }
-{
-}
+{}
 
 /// The line of a process is read as that process.
 pub fn lines_are_read()
     ensures { LinesAreRead }
-{
-}
+{}
 
 #[cfg(test)]
 mod tests {
