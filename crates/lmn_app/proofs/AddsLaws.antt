@@ -9,9 +9,6 @@ use Rattle.lmn_app.specs.Reading.{Adds}
 use Rattle.lmn_app.specs.declared.program.Program.{Program}
 use Rattle.lmn_app.specs.declared.program.Rule.{Rule}
 
-pub adds_none : (p : Program) → Adds p p [] []
-adds_none p = record { atoms_added = sym (append-nil (names_of p.atoms)); rules_added = sym (append-nil (rules_of p.rules)) }
-
 pub adds_atom : (old : Program) (name : Bor (List ℕ)) (atoms : List (Bor (List ℕ))) → atoms ≡ old.atoms ++ name ∷ [] → Adds old (record { atoms = atoms; rules = old.rules }) (name.now ∷ []) []
 adds_atom old name atoms e = record { atoms_added = ap names_of e ∙ map_push (λ (n : Bor (List ℕ)). n.now) old.atoms name; rules_added = sym (append-nil (rules_of old.rules)) }
 

@@ -2,7 +2,7 @@
 use Rattle.std.proofs.Common.{◌≡◌, ◌≢◌, ◌⊎◌, ℕ, true, false, List, [], ◌∷◌, ◌++◌, Option, Some, None, refl, sym, ap, ◌∙◌, subst, inl, inr}
 use Rattle.std.proofs.lemmas.List.{append_assoc, append-nil, flat_map_more}
 use Rattle.lmn_app.specs.FirstGrammar.{Lexeme, Dot, RuleTree, ClauseTree, ItemsClause, Tree, Rules, ItemLists, Clauses, rule_clause, items_clause, Programs, no_clause, last_clause, more_clauses, clause_atoms, clause_rules}
-use Rattle.lmn_app.specs.Programs.{names_of, rules_of, IsProcessOf}
+use Rattle.lmn_app.specs.Programs.{IsProcessOf}
 use Rattle.lmn_app.specs.Reading.{left, is_rule_first, NotFirst, Ends, Adds, RuleFrom, ItemsFrom, ClauseFrom}
 use Rattle.lmn_app.specs.declared.program.Program.{Program}
 use Rattle.lmn_app.specs.declared.reading.lexer.Token.{Token}
@@ -47,14 +47,6 @@ pub record ClausesAdded (ts us : List Lexeme) (program : Program) : Type 0 where
   pub done : Tree
   pub so_far : AreClausesSoFar ts done us
   pub process : IsProcessOf program done
-
-pub clauses_first : (ts : List Lexeme) (program : Program) → program.atoms ≡ [] → program.rules ≡ [] → ClausesAdded ts ts program
-clauses_first ts program a r =
-    record {
-      done = [];
-      so_far = record { ahead = λ tree h. h; behind = λ tree h. (tree, h) };
-      process = record { same_atoms = ap names_of a; same_rules = ap rules_of r };
-    }
 
 -- where a clause ends, and what is left behind its end
 abbrev pub Past : List Lexeme → List Lexeme → Type 0

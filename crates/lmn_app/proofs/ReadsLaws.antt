@@ -18,9 +18,6 @@ no_program text ts cut none tree h = none tree (subst (λ (us : List Lexeme). Pr
 abbrev pub IsSmallProgram : Program → Type 0
 IsSmallProgram program = AllByRecursion IsShort (names_of program.atoms) × AllByRecursion IsSmall (rules_of program.rules)
 
-pub small_tree : (program : Program) (tree : Tree) → IsProcessOf program tree → IsSmallProgram program → WithinLimits tree
-small_tree program tree same h = (subst (AllByRecursion IsShort) same.same_atoms h.0, subst (AllByRecursion IsSmall) same.same_rules h.1)
-
 -- where the one tree of a text is too large, no tree within the limits is spelled
 pub too_large : (text : List ℕ) (program : Program) (tree : Tree) → Reads text tree → IsProcessOf program tree → (IsSmallProgram program → ⊥) → (other : Tree) → Reads text other → WithinLimits other → ⊥
 too_large text program tree h same large other k small =

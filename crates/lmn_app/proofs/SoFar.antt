@@ -93,9 +93,6 @@ pub record AreItemsSoFar (ts : List Lexeme) (done : List ItemTree) (us : List Le
   pub ahead : (is : List ItemTree) (rest : List Lexeme) → ItemLists us is rest → ItemLists ts (done ++ is) rest
   pub behind : (is : List ItemTree) (rest : List Lexeme) → ItemLists ts is rest → NotFirst Comma rest → (js : List ItemTree) × ItemLists us js rest
 
-pub items_first : (ts : List Lexeme) → AreItemsSoFar ts [] ts
-items_first ts = record { ahead = λ is rest h. h; behind = λ is rest h p. (is, h) }
-
 items_off : (us vs : List Lexeme) (i : ItemTree) → Items us i (Comma ∷ vs) → (is : List ItemTree) (rest : List Lexeme) → ItemLists us is rest → NotFirst Comma rest → (js : List ItemTree) × ItemLists vs js rest
 items_off us vs i h is rest (last_item k) p = absurd (p vs (sym (items_one h k).1))
 items_off us vs i h is rest (more_items {is = js} k more) p = (js, subst (λ ws. ItemLists ws js rest) (sym (tail_is (items_one h k).1)) more)

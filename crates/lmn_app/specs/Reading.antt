@@ -1,4 +1,4 @@
--- What the functions of the reader say of the tokens that are left at a place.
+-- What the parser's private functions say of the tokens that are left at a place. No public contract cites these words.
 use Rattle.std.specs.Prelude.{◌≡◌, ◌≢◌, ◌⊎◌, ℕ, ◌+◌, Bool, true, false, ⊤, List, [], ◌∷◌, ◌++◌, drop, Option, Some, None}
 use Rattle.std.specs.List.{flat_map}
 use Rattle.std.specs.Borrow.{Bor}

@@ -7,8 +7,8 @@ use crate::program::{Program, Rule};
 use lmn_base::{NoMemory, Rows};
 use std::alloc::Global;
 
-/// The program that the tokens spell: clauses, a full stop between them and, if one likes, at the
-/// end.
+/// The program that the tokens spell: clauses with a full stop between two of them, and one or none
+/// behind the last.
 pub(super) fn program<'t>(
     alloc: Global,
     tokens: &[Token<'t>],
