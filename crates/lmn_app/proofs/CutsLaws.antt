@@ -1,19 +1,13 @@
 -- A text is cut in one way at most.
-use Rattle.std.proofs.Common.{◌≡◌, ℕ, zero, suc, ◌+◌, ◌<◌, ◌≤◌, ◌==◌, Bool, true, false, ◌||◌, if◌then◌else◌, List, [], ◌∷◌, ◌++◌, length, slice_index, take, drop, refl, sym, ap, ◌∙◌, subst, arith}
+use Rattle.std.proofs.Common.{◌≡◌, ℕ, zero, suc, ◌<◌, ◌==◌, true, false, if◌then◌else◌, List, [], ◌∷◌, ◌++◌, length, slice_index, drop, refl, sym, ap, ◌∙◌, subst, arith}
 use Rattle.std.specs.Prelude.{⊤}
 use Rattle.std.specs.List.{AllByRecursion}
-use Rattle.std.specs.Char.{is_ascii_whitespace, is_ascii_lowercase, is_ascii_alphanumeric}
+use Rattle.std.specs.Char.{is_ascii_whitespace, is_ascii_lowercase}
 use Rattle.std.specs.Str.{IsTrimAsciiStart, IsAsciiWhitespaceBelow}
 use Rattle.std.proofs.lemmas.Bool.Decides.{nat_tests}
-use Rattle.std.proofs.lemmas.List.{take-append-drop}
+use Rattle.std.proofs.lemmas.List.{append_assoc, append-nil}
 use Rattle.lmn_app.specs.FirstGrammar.{Lexeme, Name, Comma, Dot, Arrow, Open, Close, is_name_byte, IsName, EndsName, BeginsWith, Cuts, nothing, separator, token}
-use Rattle.lmn_app.proofs.GrammarLaws.{tail_is}
-
-pub head_is : {X : Type 0} {x y : X} {xs ys : List X} → x ∷ xs ≡ y ∷ ys → x ≡ y
-head_is e = cc
-
-pub apart : {b : Bool} → b ≡ true → b ≡ false → ⊥
-apart p q = cc
+use Rattle.lmn_app.proofs.GrammarLaws.{head_is, tail_is, apart}
 
 -- a number for each kind of token
 abbrev number : Lexeme → ℕ
@@ -44,7 +38,7 @@ begins_kind text Arrow rest h = ap first_kind h
 begins_kind text Open rest h = ap first_kind h
 begins_kind text Close rest h = ap first_kind h
 
-abbrev AllNameBytes : List ℕ → Type 0
+abbrev pub AllNameBytes : List ℕ → Type 0
 AllNameBytes bs = AllByRecursion (λ c. is_name_byte c ≡ true) bs
 
 small_name_byte : (b : ℕ) → is_ascii_lowercase b ≡ true → is_name_byte b ≡ true
@@ -140,13 +134,42 @@ trimmed_at (suc n) (b ∷ bs) below at =
 pub trimmed : (text rest : List ℕ) → IsTrimAsciiStart text rest → IsTrimmed text rest
 trimmed text rest h = subst (IsTrimmed text) (sym h.1) (trimmed_at h.0 text h.3 h.4)
 
--- where a text begins with a token, its cuts do so
-pub token_off : (text rest : List ℕ) (t : Lexeme) (ts : List Lexeme) → NoSpace text → BeginsWith text t rest → Cuts text ts → (us : List Lexeme) × Cuts rest us
+-- A text of which some tokens are cut off: the cuts of what is left are those of the whole.
+pub record IsCutSoFar (text : List ℕ) (done : List Lexeme) (rest : List ℕ) : Type 0 where
+  pub no_space : NoSpace rest
+  pub ahead : (ts : List Lexeme) → Cuts rest ts → Cuts text (done ++ ts)
+  pub behind : (ts : List Lexeme) → Cuts text ts → (us : List Lexeme) × Cuts rest us
+
+pub cut_first : (text rest : List ℕ) → IsTrimAsciiStart text rest → IsCutSoFar text [] rest
+cut_first text rest h =
+    let trim = trimmed text rest h in
+    record { no_space = trim.no_space; ahead = trim.ahead; behind = λ ts k. (ts, trim.behind ts k) }
+
+token_off : (text rest : List ℕ) (t : Lexeme) (ts : List Lexeme) → NoSpace text → BeginsWith text t rest → Cuts text ts → (us : List Lexeme) × Cuts rest us
 token_off text rest t ts n h nothing = absurd (begins_nothing t rest h)
 token_off text rest t ts n h (separator s k) = absurd (apart s n)
 token_off text rest t ts n h (token {rest = other} {t = u} {ts = us} k more) = (us, subst (λ r. Cuts r us) (sym (begins_one text t rest u other h k).1) more)
 
--- where no token begins it, a text that isn't empty is cut in no way
-pub no_token : (b : ℕ) (bs : List ℕ) (ts : List Lexeme) → is_ascii_whitespace b ≡ false → ((t : Lexeme) (rest : List ℕ) → BeginsWith (b ∷ bs) t rest → ⊥) → Cuts (b ∷ bs) ts → ⊥
-no_token b bs ts n none (separator s k) = apart s n
-no_token b bs ts n none (token {rest = rest} {t = t} k more) = none t rest k
+pub cut_more : (text : List ℕ) (done : List Lexeme) (rest : List ℕ) (t : Lexeme) (after next : List ℕ) → IsCutSoFar text done rest → BeginsWith rest t after → IsTrimAsciiStart after next → IsCutSoFar text (done ++ t ∷ []) next
+cut_more text done rest t after next so_far h k =
+    let trim = trimmed after next k in
+    record {
+      no_space = trim.no_space;
+      ahead = λ ts cut. rw append_assoc (so_far.ahead (t ∷ ts) (token h (trim.ahead ts cut)));
+      behind = λ ts cut.
+          let before = so_far.behind ts cut in
+          let off = token_off rest after t before.0 so_far.no_space h before.1 in
+          (off.0, trim.behind off.0 off.1);
+    }
+
+pub cut_whole : (text : List ℕ) (done : List Lexeme) (rest : List ℕ) → IsCutSoFar text done rest → length rest ≡ 0 → Cuts text done
+cut_whole text done [] so_far e = subst (Cuts text) (append-nil done) (so_far.ahead [] nothing)
+cut_whole text done (b ∷ bs) so_far e = absurd (omega arith)
+
+no_token : (text : List ℕ) (ts : List Lexeme) → 0 < length text → NoSpace text → ((t : Lexeme) (rest : List ℕ) → BeginsWith text t rest → ⊥) → Cuts text ts → ⊥
+no_token text ts l n none nothing = omega arith
+no_token text ts l n none (separator s k) = apart s n
+no_token text ts l n none (token {rest = rest} {t = t} k more) = none t rest k
+
+pub cut_none : (text : List ℕ) (done : List Lexeme) (rest : List ℕ) → IsCutSoFar text done rest → 0 < length rest → ((t : Lexeme) (other : List ℕ) → BeginsWith rest t other → ⊥) → (ts : List Lexeme) → Cuts text ts → ⊥
+cut_none text done rest so_far l none ts cut = let left = so_far.behind ts cut in no_token rest left.0 l so_far.no_space none left.1

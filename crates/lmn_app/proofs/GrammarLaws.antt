@@ -1,7 +1,10 @@
 -- At the front of some tokens stands at most one part of each kind.
 use Rattle.std.proofs.Common.{◌≡◌, ℕ, Bool, true, false, List, [], ◌∷◌, refl, sym, ap, ◌∙◌, subst}
-use Rattle.lmn_app.specs.FirstGrammar.{Lexeme, Name, Comma, Dot, Arrow, Open, Close, RuleTree, ItemTree, AtomItem, RuleItem, ClauseTree, RuleClause, ItemsClause, Tree, Names, last_name, more_names, Rules, no_body, some_body, Items, atom_item, rule_item, ItemLists, last_item, more_items, Clauses, rule_clause, items_clause, Programs, no_clause, last_clause, more_clauses}
+use Rattle.lmn_app.specs.FirstGrammar.{Lexeme, Name, Comma, Dot, Arrow, Close, RuleTree, ItemTree, RuleItem, ClauseTree, RuleClause, ItemsClause, Tree, Names, last_name, more_names, Rules, no_body, some_body, Items, atom_item, rule_item, ItemLists, last_item, more_items, Clauses, rule_clause, items_clause, Programs, no_clause, last_clause, more_clauses}
 use Rattle.lmn_app.specs.Reading.{NotFirst, Ends, is_rule_first}
+
+pub head_is : {X : Type 0} {x y : X} {xs ys : List X} → x ∷ xs ≡ y ∷ ys → x ≡ y
+head_is e = cc
 
 pub tail_is : {X : Type 0} {x y : X} {xs ys : List X} → x ∷ xs ≡ y ∷ ys → xs ≡ ys
 tail_is e = cc

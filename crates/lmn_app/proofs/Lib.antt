@@ -1,4 +1,13 @@
+pub mod AddsLaws
+pub mod ClauseLaws
 pub mod CutsLaws
 pub mod GrammarLaws
+pub mod LimitLaws
+pub mod LineLaws
 pub mod LineLemmas
 pub mod OutcomeLemmas
+pub mod PlaceLaws
+pub mod ReadsLaws
+pub mod SoFar
+pub mod SpelledLaws
+pub mod TokenLaws

@@ -1,5 +1,5 @@
 -- The first grammar: clauses of names without links, and rules between them.
-use Rattle.std.specs.Prelude.{◌≡◌, ◌≤◌, ℕ, ◌==◌, Bool, true, false, ◌||◌, ⊤, List, [], ◌∷◌, ◌++◌, length}
+use Rattle.std.specs.Prelude.{◌≡◌, ◌≤◌, ℕ, ◌==◌, Bool, true, false, ◌||◌, ⊤, List, [], ◌∷◌, ◌++◌, length, codes}
 use Rattle.std.specs.List.{flat_map, AllByRecursion}
 use Rattle.std.specs.Char.{is_ascii_whitespace, is_ascii_lowercase, is_ascii_alphanumeric}
 
@@ -27,16 +27,17 @@ abbrev pub EndsName : List ℕ → Type 0
 EndsName [] = ⊤
 EndsName (b ∷ bs) = is_name_byte b ≡ false
 
--- The text begins with the token in its longest spelling, and rest is what stands behind it.
+-- The text begins with the token, in its longest spelling, and rest is what stands behind it.
 abbrev pub BeginsWith : List ℕ → Lexeme → List ℕ → Type 0
 BeginsWith text (Name name) rest = IsName name × EndsName rest × (text ≡ name ++ rest)
-BeginsWith text Comma rest = text ≡ 44 ∷ rest
-BeginsWith text Dot rest = text ≡ 46 ∷ rest
-BeginsWith text Arrow rest = text ≡ 58 ∷ 45 ∷ rest
-BeginsWith text Open rest = text ≡ 40 ∷ rest
-BeginsWith text Close rest = text ≡ 41 ∷ rest
+BeginsWith text Comma rest = text ≡ codes "," ++ rest
+BeginsWith text Dot rest = text ≡ codes "." ++ rest
+BeginsWith text Arrow rest = text ≡ codes ":-" ++ rest
+BeginsWith text Open rest = text ≡ codes "(" ++ rest
+BeginsWith text Close rest = text ≡ codes ")" ++ rest
 
--- A text is cut into tokens, and separators between them: space, tab, line feed, form feed and carriage return.
+-- A text is cut into tokens, with separators before, between and behind them: space, tab, line feed, form feed and
+-- carriage return.
 pub data Cuts : List ℕ → List Lexeme → Type 0 where
   nothing : Cuts [] []
   separator : {b : ℕ} {rest : List ℕ} {ts : List Lexeme} → is_ascii_whitespace b ≡ true → Cuts rest ts → Cuts (b ∷ rest) ts

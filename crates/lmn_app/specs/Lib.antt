@@ -1,10 +1,11 @@
 pub mod FirstGrammar
+pub mod Laws
 pub mod Lexemes
+pub mod Lines
 pub mod Programs
 pub mod Reading
 pub mod Words
 pub mod Endings
-pub mod Lines
 pub mod Printing
 pub mod Stops
 pub mod Outcomes

@@ -2,24 +2,13 @@
 use Rattle.std.specs.Prelude.{◌≡◌, ℕ, ◌⊎◌, List, ◌++◌, Option, codes}
 use Rattle.std.specs.declared.string.String.{String}
 use Rattle.std.specs.declared.alloc.Global.{Global}
-use Rattle.lmn_base.specs.declared.refusal.Refusal.{Refusal}
 use Rattle.lmn_io.specs.Counts.{Rose}
 use Rattle.lmn_io.specs.Taking.{Takes, TakesPrefix}
 use Rattle.lmn_app.specs.declared.ending.Ending.{Ending}
 use Rattle.lmn_app.specs.declared.ending.Ending.TheVariants.{Done, Budget, Refused, Words, ReadFault, WriteFault, NoMemory}
+use Rattle.lmn_app.specs.Programs.{at_start}
 use Rattle.lmn_app.specs.Words.{InForm}
 use Rattle.lmn_app.specs.Printing.{end_line}
-
--- a code at the beginning of the text
-abbrev pub at_start : ℕ → Refusal
-at_start code = record { code = code; pos = record { line = 1; column = 1 } }
-
--- the text is too long, or of a form that isn't built
-abbrev pub IsTooLong : Refusal → Type 0
-IsTooLong r = r ≡ at_start 1
-
-abbrev pub IsNotBuilt : Refusal → Type 0
-IsNotBuilt r = r ≡ at_start 90
 
 -- a line and an end line with this word were taken
 abbrev pub Writes : List ℕ → Option (List ℕ) → Option (List ℕ) → Type 0
@@ -33,7 +22,7 @@ WritesPrefix old new = (line word : List ℕ) × (firings : ℕ) × TakesPrefix 
 abbrev pub Causes : Ending → List (String Global) → ℕ → ℕ → Type 0
 Causes Done words before after = InForm words
 Causes Budget words before after = InForm words
-Causes (Refused r) words before after = InForm words × (IsTooLong r ⊎ IsNotBuilt r)
+Causes (Refused r) words before after = InForm words × ((r ≡ at_start 1) ⊎ (r ≡ at_start 90))
 Causes Words words before after = ¬ (InForm words)
 Causes ReadFault words before after = InForm words × Rose before after
 Causes WriteFault words before after = InForm words

@@ -1,6 +1,7 @@
-ghost use Rattle.std.specs.Prelude.{◌≡◌};
-ghost use Rattle.lmn_base.specs.declared.refusal.Refusal.{Refusal};
-ghost use Rattle.lmn_app.specs.Outcomes.{IsNotBuilt};
+ghost use Rattle.std.specs.Prelude.{◌≡◌, IfOk, IfErr, MatchOption};
+ghost use Rattle.lmn_app.specs.FirstGrammar.{Tree, Reads, WithinLimits};
+ghost use Rattle.lmn_app.specs.Laws.{OneTree, TreesAreSpelled, LinesAreRead};
+ghost use Rattle.lmn_app.specs.Programs.{IsProcessOf, IfRefused, at_start};
 
 mod lexer;
 mod limits;
@@ -21,7 +22,11 @@ const NOT_READ: Refusal = Refusal {
 /// A text that is not of the grammar, or not within the limits, is refused by code 90 at line 1,
 /// column 1.
 pub fn read<'t>(alloc: Global, text: &'t [u8]) -> Result<Program<'t>, TextFault>
-    ensures refused { (refusal : Refusal) → result ≡ Err (TextFault.Refused refusal) → IsNotBuilt refusal }
+    // What is read is the process of a tree that the text spells.
+    ensures read { IfOk result (λ program. (tree : Tree) × Reads text.now tree × WithinLimits tree × IsProcessOf program tree) }
+    // What is refused spells no tree.
+    ensures refused { IfErr result (λ fault. IfRefused fault (λ refusal.
+        (refusal ≡ at_start 90) × ((tree : Tree) → Reads text.now tree → WithinLimits tree → ⊥))) }
 {
     match read_within_limits(alloc, text) {
         Ok(Some(program)) => Ok(program),
@@ -31,7 +36,11 @@ pub fn read<'t>(alloc: Global, text: &'t [u8]) -> Result<Program<'t>, TextFault>
 }
 
 /// The program that a text spells, if it spells one within the limits.
-fn read_within_limits<'t>(alloc: Global, text: &'t [u8]) -> Result<Option<Program<'t>>, NoMemory> {
+fn read_within_limits<'t>(alloc: Global, text: &'t [u8]) -> Result<Option<Program<'t>>, NoMemory>
+    ensures { IfOk result (λ found. MatchOption found
+        ((tree : Tree) → Reads text.now tree → WithinLimits tree → ⊥)
+        (λ program. (tree : Tree) × Reads text.now tree × WithinLimits tree × IsProcessOf program tree)) }
+{
     let Some(tokens) = lexer::tokens_of(alloc, text)? else {
         return Ok(None);
     };
@@ -43,6 +52,21 @@ fn read_within_limits<'t>(alloc: Global, text: &'t [u8]) -> Result<Option<Progra
     }
     Ok(Some(program))
 }
+
+/// A text spells at most one tree.
+pub fn one_tree()
+    ensures { OneTree }
+{}
+
+/// What a text spells has names of the grammar only, and no rule without a head.
+pub fn trees_are_spelled()
+    ensures { TreesAreSpelled }
+{}
+
+/// The line of a process is read as that process.
+pub fn lines_are_read()
+    ensures { LinesAreRead }
+{}
 
 #[cfg(test)]
 mod tests {

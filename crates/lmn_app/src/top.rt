@@ -5,7 +5,8 @@ ghost use Rattle.lmn_io.specs.Taking.{Takes, TakesPrefix};
 ghost use Rattle.lmn_base.specs.declared.refusal.Refusal.{Refusal};
 ghost use Rattle.lmn_app.specs.Words.{InForm, file_of};
 ghost use Rattle.lmn_app.specs.Endings.{line_of, refusal_line};
-ghost use Rattle.lmn_app.specs.Outcomes.{Causes, Output, IsTooLong, IsNotBuilt, Writes, WritesPrefix};
+ghost use Rattle.lmn_app.specs.Outcomes.{Causes, Output, Writes, WritesPrefix};
+ghost use Rattle.lmn_app.specs.Programs.{at_start};
 ghost use Rattle.lmn_app.specs.Stops.{stop_ending, stop_word};
 ghost use Rattle.lmn_app.specs.declared.ending.Ending.{Ending};
 
@@ -52,7 +53,7 @@ pub fn lmn_main<F: Shelf, O: Sink, E: Sink>(
 
     // What `err` took, for each status.
     ensures err_quiet { (result ≡ 0) ⊎ (result ≡ 1) → E.told err.new ≡ E.told err.old }
-    ensures err_refused { result ≡ 2 → (refusal : Refusal) × (IsTooLong refusal ⊎ IsNotBuilt refusal) × Takes (refusal_line refusal) (E.told err.old) (E.told err.new) }
+    ensures err_refused { result ≡ 2 → (refusal : Refusal) × ((refusal ≡ at_start 1) ⊎ (refusal ≡ at_start 90)) × Takes (refusal_line refusal) (E.told err.old) (E.told err.new) }
     ensures err_words { result ≡ 3 → Takes (codes "lmn: words not understood\n") (E.told err.old) (E.told err.new) }
     ensures err_read { result ≡ 4 → Takes (codes "lmn: read failed\n") (E.told err.old) (E.told err.new) }
     ensures err_memory { result ≡ 6 → Takes (codes "lmn: out of memory\n") (E.told err.old) (E.told err.new) }

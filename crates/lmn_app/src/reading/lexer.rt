@@ -1,4 +1,6 @@
-ghost use Rattle.std.specs.Prelude.{◌≡◌, ◌<◌, ◌≤◌, ◌++◌, length, IfSome};
+ghost use Rattle.std.specs.Prelude.{◌≡◌, ◌<◌, ◌≤◌, ℕ, List, length, slice_index, true, false, option_map, IfSome, IfOk, MatchOption};
+ghost use Rattle.lmn_app.specs.FirstGrammar.{Lexeme, BeginsWith, Cuts, is_name_byte};
+ghost use Rattle.lmn_app.specs.Lexemes.{lexeme, lexemes, sign_lexeme, sign_at};
 
 use lmn_base::{NoMemory, Rows};
 use std::alloc::Global;
@@ -31,7 +33,11 @@ pub(super) enum Token<'t> {
 pub(super) fn tokens_of<'t>(
     alloc: Global,
     text: &'t [u8],
-) -> Result<Option<Rows<Token<'t>>>, NoMemory> {
+) -> Result<Option<Rows<Token<'t>>>, NoMemory>
+    ensures { IfOk result (λ found. MatchOption found
+        ((ts : List Lexeme) → Cuts text.now ts → ⊥)
+        (λ tokens. Cuts text.now (lexemes tokens))) }
+{
     let mut tokens = Rows::new(alloc);
     let mut rest = text.trim_ascii_start();
     while !rest.is_empty() {
@@ -46,23 +52,27 @@ pub(super) fn tokens_of<'t>(
 
 /// The token with which a text begins, the longest one, and the text after it.
 fn first_token(text: &[u8]) -> Option<(Token<'_>, &[u8])>
+    ensures found { MatchOption result
+        ((t : Lexeme) (rest : List ℕ) → BeginsWith text.now t rest → ⊥)
+        (λ f. BeginsWith text.now (lexeme f.0) f.1.now) }
     ensures forth { IfSome result (λ f. length f.1.now < length text.now) }
 {
     let (first, rest) = text.split_first()?;
     if first.is_ascii_lowercase() {
-        let (letters, after) = split_letters(rest);
-        let name = &text[..1 + letters.len()];
+        let (name, after) = text.split_at(1 + name_bytes(rest));
         return Some((Token::Name(name), after));
     }
     if *first == b':' {
-        let after = rest.strip_prefix(b"-".as_slice())?;
-        return Some((Token::Sign(Sign::Arrow), after));
+        let (second, after) = rest.split_first()?;
+        return (*second == b'-').then_some((Token::Sign(Sign::Arrow), after));
     }
     Some((Token::Sign(sign_of(*first)?), rest))
 }
 
 /// The sign that a byte alone spells.
-fn sign_of(byte: u8) -> Option<Sign> {
+fn sign_of(byte: u8) -> Option<Sign>
+    ensures { option_map sign_lexeme result ≡ sign_at byte }
+{
     match byte {
         b',' => Some(Sign::Comma),
         b'.' => Some(Sign::Dot),
@@ -72,21 +82,23 @@ fn sign_of(byte: u8) -> Option<Sign> {
     }
 }
 
-/// The letters, digits and `_` with which a text begins, and the text after them.
-fn split_letters(text: &[u8]) -> (&[u8], &[u8])
-    ensures { text.now ≡ result.0.now ++ result.1.now }
+/// How many letters, digits and `_` a text begins with.
+fn name_bytes(text: &[u8]) -> usize
+    ensures within { result ≤ length text.now }
+    ensures before { (k : ℕ) → k < result → is_name_byte (slice_index text.now k) ≡ true }
+    ensures stops { result < length text.now → is_name_byte (slice_index text.now result) ≡ false }
 {
-    let mut length = 0;
-    for byte in text {
+    for (i, byte) in text.iter().enumerate() {
         if !is_name_byte(*byte) {
-            break;
+            return i;
         }
-        length += 1;
     }
-    text.split_at(length)
+    text.len()
 }
 
 /// Whether a byte is a letter, a digit or `_`.
-fn is_name_byte(byte: u8) -> bool {
+fn is_name_byte(byte: u8) -> bool
+    ensures { result ≡ is_name_byte byte }
+{
     byte.is_ascii_alphanumeric() || byte == b'_'
 }

@@ -1,3 +1,8 @@
+ghost use Rattle.std.specs.Prelude.{◌≡◌, ◌≤◌, ◌↔◌, length, IsTrue};
+ghost use Rattle.std.specs.List.{AllByRecursion};
+ghost use Rattle.lmn_app.specs.FirstGrammar.{IsShort, IsSmall};
+ghost use Rattle.lmn_app.specs.Programs.{names_of, rule_of, rules_of};
+
 use crate::program::{Program, Rule};
 
 /// The most bytes of a name.
@@ -10,12 +15,16 @@ const HEAD_NAMES: usize = 128;
 const BODY_NAMES: usize = 1024;
 
 /// Whether a program is within the limits.
-pub(super) fn is_within(program: &Program<'_>) -> bool {
+pub(super) fn is_within(program: &Program<'_>) -> bool
+    ensures { IsTrue result ↔ (AllByRecursion IsShort (names_of program.now.atoms) × AllByRecursion IsSmall (rules_of program.now.rules)) }
+{
     are_short(program.atoms.as_slice()) && are_small(program.rules.as_slice())
 }
 
 /// Whether each name is short enough.
-fn are_short(names: &[&[u8]]) -> bool {
+fn are_short(names: &[&[u8]]) -> bool
+    ensures { IsTrue result ↔ AllByRecursion IsShort (names_of names.now) }
+{
     for name in names {
         if name.len() > NAME_BYTES {
             return false;
@@ -25,7 +34,9 @@ fn are_short(names: &[&[u8]]) -> bool {
 }
 
 /// Whether each rule is within the limits.
-fn are_small(rules: &[Rule<'_>]) -> bool {
+fn are_small(rules: &[Rule<'_>]) -> bool
+    ensures { IsTrue result ↔ AllByRecursion IsSmall (rules_of rules.now) }
+{
     for rule in rules {
         if !is_small(rule) {
             return false;
@@ -35,7 +46,9 @@ fn are_small(rules: &[Rule<'_>]) -> bool {
 }
 
 /// Whether a rule is within the limits.
-fn is_small(rule: &Rule<'_>) -> bool {
+fn is_small(rule: &Rule<'_>) -> bool
+    ensures { IsTrue result ↔ IsSmall (rule_of rule.now) }
+{
     rule.head.len() <= HEAD_NAMES
         && rule.body.len() <= BODY_NAMES
         && are_short(rule.head.as_slice())

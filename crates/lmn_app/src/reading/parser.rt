@@ -1,16 +1,20 @@
-ghost use Rattle.std.specs.Prelude.{◌<◌, ◌≤◌, length, IfSome, IfOk, IsTrue};
+ghost use Rattle.std.specs.Prelude.{◌≡◌, ◌<◌, ◌≤◌, length, IfSome, IfOk, IsTrue};
+ghost use Rattle.lmn_app.specs.Lexemes.{sign_lexeme};
+ghost use Rattle.lmn_app.specs.Reading.{left, is_rule_first, TokenAt, NameAt, SignAt, PastEnd, NamesFrom, RuleFrom, ItemFrom, ItemsFrom, ClauseFrom, ProgramFrom};
 
 use super::lexer::{Sign, Token};
 use crate::program::{Program, Rule};
 use lmn_base::{NoMemory, Rows};
 use std::alloc::Global;
 
-/// The program that the tokens spell: clauses, a full stop between them and, if one likes, at the
-/// end.
+/// The program that the tokens spell: clauses with a full stop between two of them, and one or none
+/// behind the last.
 pub(super) fn program<'t>(
     alloc: Global,
     tokens: &[Token<'t>],
-) -> Result<Option<Program<'t>>, NoMemory> {
+) -> Result<Option<Program<'t>>, NoMemory>
+    ensures { IfOk result (λ found. ProgramFrom tokens.now found) }
+{
     let mut program = Program {
         atoms: Rows::new(alloc),
         rules: Rows::new(alloc),
@@ -30,12 +34,16 @@ pub(super) fn program<'t>(
 
 /// The place behind a clause that ends at a place, by a full stop or with the text.
 fn past_end(tokens: &[Token<'_>], at: usize) -> Option<usize>
+    ensures found { PastEnd tokens.now at result }
     ensures forth { IfSome result (λ next. at ≤ next) }
 {
     if at >= tokens.len() {
         return Some(at);
     }
-    is_sign(tokens, at, Sign::Dot).then(|| at + 1)
+    if !is_sign(tokens, at, Sign::Dot) {
+        return None;
+    }
+    Some(at + 1)
 }
 
 /// Adds the clause that begins at a place, a rule or items, and answers the place behind it.
@@ -45,6 +53,7 @@ fn clause<'t>(
     tokens: &[Token<'t>],
     at: usize,
 ) -> Result<Option<usize>, NoMemory>
+    ensures found { IfOk result (λ end. ClauseFrom tokens.now at program.old program.new end) }
     ensures forth { IfOk result (λ end. IfSome end (λ end. at < end)) }
 {
     if !begins_rule(tokens, at) {
@@ -58,12 +67,17 @@ fn clause<'t>(
 }
 
 /// Whether names and commas begin at a place, and `:-` follows them.
-fn begins_rule(tokens: &[Token<'_>], at: usize) -> bool {
+fn begins_rule(tokens: &[Token<'_>], at: usize) -> bool
+    ensures { result ≡ is_rule_first (left tokens.now at) }
+{
     for place in at..tokens.len() {
         match tokens[place] {
             Token::Name(_) => {}
-            Token::Sign(Sign::Comma) => {}
-            Token::Sign(sign) => return sign == Sign::Arrow,
+            Token::Sign(sign) => match sign {
+                Sign::Comma => {}
+                Sign::Arrow => return true,
+                Sign::Dot | Sign::Open | Sign::Close => return false,
+            },
         }
     }
     false
@@ -76,6 +90,7 @@ fn items<'t>(
     tokens: &[Token<'t>],
     at: usize,
 ) -> Result<Option<usize>, NoMemory>
+    ensures found { IfOk result (λ end. ItemsFrom tokens.now at program.old program.new end) }
     ensures forth { IfOk result (λ end. IfSome end (λ end. at < end)) }
 {
     let mut end = at;
@@ -99,6 +114,7 @@ fn item<'t>(
     tokens: &[Token<'t>],
     at: usize,
 ) -> Result<Option<usize>, NoMemory>
+    ensures found { IfOk result (λ end. ItemFrom tokens.now at program.old program.new end) }
     ensures forth { IfOk result (λ end. IfSome end (λ end. at < end)) }
 {
     if let Some(name) = name_at(tokens, at) {
@@ -111,8 +127,11 @@ fn item<'t>(
     let Some((rule, end)) = rule(alloc, tokens, at + 1)? else {
         return Ok(None);
     };
+    if !is_sign(tokens, end, Sign::Close) {
+        return Ok(None);
+    }
     program.rules.push(rule)?;
-    Ok(is_sign(tokens, end, Sign::Close).then(|| end + 1))
+    Ok(Some(end + 1))
 }
 
 /// The rule that begins at a place, and the place behind it.
@@ -121,6 +140,7 @@ fn rule<'t>(
     tokens: &[Token<'t>],
     at: usize,
 ) -> Result<Option<(Rule<'t>, usize)>, NoMemory>
+    ensures found { IfOk result (λ found. RuleFrom tokens.now at found) }
     ensures forth { IfOk result (λ found. IfSome found (λ f. at < f.1)) }
 {
     let Some((head, arrow)) = names(alloc, tokens, at)? else {
@@ -145,6 +165,7 @@ fn names<'t>(
     tokens: &[Token<'t>],
     at: usize,
 ) -> Result<Option<(Rows<&'t [u8]>, usize)>, NoMemory>
+    ensures found { IfOk result (λ found. NamesFrom tokens.now at found) }
     ensures forth { IfOk result (λ found. IfSome found (λ f. at < f.1)) }
 {
     let mut names = Rows::new(alloc);
@@ -164,20 +185,34 @@ fn names<'t>(
 
 /// The name that stands at a place.
 fn name_at<'t>(tokens: &[Token<'t>], at: usize) -> Option<&'t [u8]>
+    ensures found { NameAt tokens.now at result }
     ensures within { IfSome result (λ name. at < length tokens.now) }
 {
-    match *tokens.get(at)? {
+    match token_at(tokens, at)? {
         Token::Name(name) => Some(name),
         Token::Sign(_) => None,
     }
 }
 
 /// Whether a sign stands at a place.
+#[tactic(auto, using(crate::proofs::PlaceLaws::sign_at_place))]
 fn is_sign(tokens: &[Token<'_>], at: usize, sign: Sign) -> bool
+    ensures found { SignAt tokens.now at (sign_lexeme sign) result }
     ensures within { IsTrue result → at < length tokens.now }
 {
-    match tokens.get(at) {
-        Some(Token::Sign(found)) => *found == sign,
-        _ => false,
+    let Some(token) = token_at(tokens, at) else {
+        return false;
+    };
+    match token {
+        Token::Name(_) => false,
+        Token::Sign(found) => found == sign,
     }
+}
+
+/// The token at a place, if the tokens reach so far.
+fn token_at<'t>(tokens: &[Token<'t>], at: usize) -> Option<Token<'t>>
+    ensures found { TokenAt tokens.now at result }
+    ensures within { IfSome result (λ token. at < length tokens.now) }
+{
+    tokens.get(at).copied()
 }
