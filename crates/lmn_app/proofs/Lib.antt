@@ -2,3 +2,4 @@ pub mod CutsLaws
 pub mod GrammarLaws
 pub mod LineLemmas
 pub mod OutcomeLemmas
+pub mod FiringLemmas

@@ -7,3 +7,5 @@ pub mod Endings
 pub mod Lines
 pub mod Stops
 pub mod Outcomes
+pub mod Processes
+pub mod Firings
