@@ -3,3 +3,4 @@ pub mod GrammarLaws
 pub mod LineLemmas
 pub mod OutcomeLemmas
 pub mod FiringLemmas
+pub mod RunningLemmas
