@@ -223,7 +223,7 @@ among_between : {A : Type 0} (x : A) (xs ys : List A) → Among x (xs ++ (x ∷ 
 among_between x [] ys = at_head
 among_between x (y ∷ xs) ys = further (among_between x xs ys)
 
-first_among : {r : RuleTree} {rules : List RuleTree} {atoms : List Name} → FirstCovered r rules atoms → Among r rules
+pub first_among : {r : RuleTree} {rules : List RuleTree} {atoms : List Name} → FirstCovered r rules atoms → Among r rules
 first_among {r = r} f = subst (Among r) (sym f.stands) (among_between r f.before f.after)
 
 chain_along : {A B : Type 0} {R : A → A → Type 0} {S : B → B → Type 0} (f : A → B) → ((y z : A) → R y z → S (f y) (f z)) → {x : A} {n : ℕ} {y : A} → Chain R x n y → Chain S (f x) n (f y)
