@@ -1,6 +1,7 @@
 pub mod AddsLaws
 pub mod ClauseLaws
 pub mod CutsLaws
+pub mod FiringLemmas
 pub mod GrammarLaws
 pub mod LimitLaws
 pub mod LineLaws
@@ -8,6 +9,7 @@ pub mod LineLemmas
 pub mod OutcomeLemmas
 pub mod PlaceLaws
 pub mod ReadsLaws
+pub mod RunningLemmas
 pub mod SoFar
 pub mod SpelledLaws
 pub mod TokenLaws

@@ -1,11 +1,13 @@
+pub mod Endings
+pub mod Firings
 pub mod FirstGrammar
 pub mod Laws
 pub mod Lexemes
 pub mod Lines
+pub mod Outcomes
+pub mod Printing
+pub mod Processes
 pub mod Programs
 pub mod Reading
-pub mod Words
-pub mod Endings
-pub mod Printing
 pub mod Stops
-pub mod Outcomes
+pub mod Words

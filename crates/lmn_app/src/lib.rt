@@ -3,6 +3,7 @@
 
 mod conclusion;
 mod ending;
+pub mod laws;
 mod printing;
 mod program;
 mod reading;

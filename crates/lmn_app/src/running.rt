@@ -1,6 +1,12 @@
 use crate::program::Rule;
 use lmn_base::NoMemory;
 
+ghost use Rattle.std.specs.Prelude.{◌≡◌, ◌≤◌, ◌↔◌, IsTrue, OnOk, OnErr, MatchOption, bytes_eq};
+ghost use Rattle.std.specs.List.{position};
+ghost use Rattle.lmn_app.specs.Programs.{names_of, rule_of, rules_of};
+ghost use Rattle.lmn_app.specs.Processes.{flat_process};
+ghost use Rattle.lmn_app.specs.Firings.{count_of, Covers, SomeCovered, NoneCovered, FirstCovered, without, fired, Firings, Commits};
+
 /// The most firings of a run.
 pub(crate) const BUDGET: u64 = 1000;
 
@@ -17,7 +23,14 @@ pub(crate) enum Stop {
 
 /// Fires one rule after another until none can or the budget is done.
 /// Answers why the run stopped and how many rules fired.
-pub(crate) fn react<'t>(atoms: &mut Vec<&'t [u8]>, rules: &[Rule<'t>]) -> (Stop, u64) {
+pub(crate) fn react<'t>(atoms: &mut Vec<&'t [u8]>, rules: &[Rule<'t>]) -> (Stop, u64)
+    ensures firings { Firings result.1 (rules_of rules.now) (names_of atoms.old.items) (names_of atoms.new.items) }
+    ensures commits { Commits result.1 (flat_process (names_of atoms.old.items) (rules_of rules.now)) (flat_process (names_of atoms.new.items) (rules_of rules.now)) }
+    ensures budget { result.1 ≤ 1000 }
+    ensures irreducible { result.0 ≡ Stop.Irreducible → NoneCovered (rules_of rules.now) (names_of atoms.new.items) }
+    ensures spent { result.0 ≡ Stop.Budget → SomeCovered (rules_of rules.now) (names_of atoms.new.items) × (result.1 ≡ 1000) }
+    ensures wanting { result.0 ≡ Stop.NoMemory → SomeCovered (rules_of rules.now) (names_of atoms.new.items) }
+{
     for fired in 0..BUDGET {
         let Some(rule) = ready_rule(rules, atoms.as_slice()) else {
             return (Stop::Irreducible, fired);
@@ -33,7 +46,9 @@ pub(crate) fn react<'t>(atoms: &mut Vec<&'t [u8]>, rules: &[Rule<'t>]) -> (Stop,
 }
 
 /// The first rule whose head is among the atoms.
-fn ready_rule<'a, 't>(rules: &'a [Rule<'t>], atoms: &[&[u8]]) -> Option<&'a Rule<'t>> {
+fn ready_rule<'a, 't>(rules: &'a [Rule<'t>], atoms: &[&[u8]]) -> Option<&'a Rule<'t>>
+    ensures { MatchOption result (NoneCovered (rules_of rules.now) (names_of atoms.now)) (λ rule. FirstCovered (rule_of rule.now) (rules_of rules.now) (names_of atoms.now)) }
+{
     for rule in rules {
         if is_among(rule.head.as_slice(), atoms) {
             return Some(rule);
@@ -43,7 +58,9 @@ fn ready_rule<'a, 't>(rules: &'a [Rule<'t>], atoms: &[&[u8]]) -> Option<&'a Rule
 }
 
 /// Whether there are enough atoms for each name of a head.
-fn is_among(head: &[&[u8]], atoms: &[&[u8]]) -> bool {
+fn is_among(head: &[&[u8]], atoms: &[&[u8]]) -> bool
+    ensures { IsTrue result ↔ Covers (names_of head.now) (names_of atoms.now) }
+{
     for name in head {
         if count(atoms, name) < count(head, name) {
             return false;
@@ -53,12 +70,17 @@ fn is_among(head: &[&[u8]], atoms: &[&[u8]]) -> bool {
 }
 
 /// How often a name stands in a list.
-fn count(names: &[&[u8]], name: &[u8]) -> usize {
+fn count(names: &[&[u8]], name: &[u8]) -> usize
+    ensures { result ≡ count_of name.now (names_of names.now) }
+{
     names.iter().filter(|other| **other == name).count()
 }
 
 /// Puts the atoms of the body at the end and takes out the first atoms with the names of the head.
-fn fire<'t>(atoms: &mut Vec<&'t [u8]>, rule: &Rule<'t>) -> Result<(), NoMemory> {
+fn fire<'t>(atoms: &mut Vec<&'t [u8]>, rule: &Rule<'t>) -> Result<(), NoMemory>
+    ensures ok { OnOk result (names_of atoms.new.items ≡ fired (rule_of rule.now) (names_of atoms.old.items)) }
+    ensures err { OnErr result (atoms.new.items ≡ atoms.old.items) }
+{
     atoms.extend_from_slice(rule.body.as_slice())?;
     for name in rule.head.as_slice() {
         take_out(atoms, name);
@@ -67,8 +89,17 @@ fn fire<'t>(atoms: &mut Vec<&'t [u8]>, rule: &Rule<'t>) -> Result<(), NoMemory> 
 }
 
 /// Takes out the first atom with a name, if there is one.
-fn take_out(atoms: &mut Vec<&[u8]>, name: &[u8]) {
-    if let Some(place) = atoms.iter().position(|atom| *atom == name) {
+fn take_out(atoms: &mut Vec<&[u8]>, name: &[u8])
+    ensures { names_of atoms.new.items ≡ without name.now (names_of atoms.old.items) }
+{
+    if let Some(place) = place_of(atoms.as_slice(), name) {
         let _ = atoms.remove(place);
     }
+}
+
+/// The place of the first atom with a name.
+fn place_of(atoms: &[&[u8]], name: &[u8]) -> Option<usize>
+    ensures { result ≡ position (λ atom. bytes_eq atom.now name.now) atoms.now }
+{
+    atoms.iter().position(|atom| *atom == name)
 }

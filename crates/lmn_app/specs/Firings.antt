@@ -1,0 +1,77 @@
+-- How the rules of a process of atoms without links fire, and what that is in the calculus.
+use Rattle.std.specs.Prelude.{◌≡◌, ℕ, ◌+◌, ◌≤◌, List, [], ◌∷◌, ◌++◌, cond, bytes_eq}
+use Rattle.lmn_congruence.specs.Orders.{Among}
+use Rattle.lmn_congruence.specs.Process.{Process, Closed}
+use Rattle.lmn_congruence.specs.reduction.Commits.{Settles, Commit, Irreducible}
+use Rattle.lmn_app.specs.FirstGrammar.{RuleTree}
+use Rattle.lmn_app.specs.Processes.{flat_process}
+
+-- how often a name stands in a list
+abbrev pub count_of : List ℕ → List (List ℕ) → ℕ
+count_of name [] = 0
+count_of name (other ∷ others) = cond (bytes_eq other name) (1 + count_of name others) (count_of name others)
+
+-- there are enough atoms for each name of a head
+abbrev pub Covers : List (List ℕ) → List (List ℕ) → Type 0
+Covers head atoms = (name : List ℕ) → count_of name head ≤ count_of name atoms
+
+abbrev pub SomeCovered : List RuleTree → List (List ℕ) → Type 0
+SomeCovered rules atoms = (r : RuleTree) × Among r rules × Covers r.head atoms
+
+abbrev pub NoneCovered : List RuleTree → List (List ℕ) → Type 0
+NoneCovered rules atoms = (r : RuleTree) → Among r rules → ¬ (Covers r.head atoms)
+
+-- atoms without the first one of a name
+abbrev pub without : List ℕ → List (List ℕ) → List (List ℕ)
+without name [] = []
+without name (other ∷ others) = cond (bytes_eq other name) others (other ∷ without name others)
+
+-- atoms without the first one of each name, one after another
+abbrev pub without_all : List (List ℕ) → List (List ℕ) → List (List ℕ)
+without_all [] atoms = atoms
+without_all (name ∷ names) atoms = without_all names (without name atoms)
+
+-- the atoms after a rule fired
+abbrev pub fired : RuleTree → List (List ℕ) → List (List ℕ)
+fired r atoms = without_all r.head (atoms ++ r.body)
+
+-- a rule of the list whose head is covered, and none before it is
+pub record FirstCovered (r : RuleTree) (rules : List RuleTree) (atoms : List (List ℕ)) : Type 0 where
+  pub before : List RuleTree
+  pub after : List RuleTree
+  pub stands : rules ≡ before ++ (r ∷ after)
+  pub none_before : NoneCovered before atoms
+  pub covered : Covers r.head atoms
+
+-- the first rule that is covered fires
+pub data Firing (rules : List RuleTree) (atoms : List (List ℕ)) : List (List ℕ) → Type 0 where
+  fires : {r : RuleTree} → FirstCovered r rules atoms → Firing rules atoms (fired r atoms)
+
+-- a chain of n steps of a relation
+pub data Chain {A : Type 0} (R : A → A → Type 0) (x : A) : ℕ → A → Type 0 where
+  no_step : Chain R x 0 x
+  step_after : {n : ℕ} {y z : A} → Chain R x n y → R y z → Chain R x (n + 1) z
+
+abbrev pub Firings : ℕ → List RuleTree → List (List ℕ) → List (List ℕ) → Type 0
+Firings n rules old new = Chain (Firing rules) old n new
+
+abbrev pub Commits : ℕ → Process → Process → Type 0
+Commits n P Q = Chain Commit P n Q
+
+-- the firing of a rule that is covered is a commit
+abbrev pub FiringCommits : Type 0
+FiringCommits = (atoms : List (List ℕ)) (rules : List RuleTree) (r : RuleTree) →
+    Among r rules → Covers r.head atoms → Commit (flat_process atoms rules) (flat_process (fired r atoms) rules)
+
+-- so n firings are n commits
+abbrev pub FiringsCommit : Type 0
+FiringsCommit = (n : ℕ) (rules : List RuleTree) (old new : List (List ℕ)) →
+    Firings n rules old new → Commits n (flat_process old rules) (flat_process new rules)
+
+-- a process of atoms without links and rules is closed, and it is settled
+abbrev pub FlatClosed : Type 0
+FlatClosed = (atoms : List (List ℕ)) (rules : List RuleTree) → Closed (flat_process atoms rules)
+
+abbrev pub FlatSettles : Type 0
+FlatSettles = (atoms : List (List ℕ)) (rules : List RuleTree) →
+    Settles (flat_process atoms rules) (flat_process atoms rules)

@@ -1,0 +1,17 @@
+//! The laws of processes of atoms without links: their firings are commits of the calculus.
+
+ghost use Rattle.lmn_app.specs.Firings.{FiringCommits, FiringsCommit, FlatClosed, FlatSettles};
+
+/// The firing of a rule whose head is among the atoms is a commit. So n firings of the strategy are n commits.
+#[tactic(auto, using(crate::proofs::FiringLemmas::firing_commits, crate::proofs::FiringLemmas::firings_commit))]
+pub fn firings_are_commits()
+    ensures one { FiringCommits }
+    ensures many { FiringsCommit }
+{}
+
+/// The process of atoms without links and of rules is closed, and it settles to itself.
+#[tactic(auto, using(crate::proofs::FiringLemmas::flat_closed, crate::proofs::FiringLemmas::flat_settles))]
+pub fn flat_processes_are_settled()
+    ensures closed { FlatClosed }
+    ensures settles { FlatSettles }
+{}
