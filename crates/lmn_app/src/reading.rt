@@ -71,46 +71,51 @@ pub fn lines_are_read()
 #[cfg(test)]
 mod tests {
     use super::read;
+    use lmn_base::{Pos, Refusal, TextFault};
     use std::alloc::Global;
 
-    /// The numbers of atoms and of rules, or none where the text is refused.
-    fn counted(alloc: Global, text: &[u8]) -> Option<(usize, usize)> {
-        match read(alloc, text) {
-            Ok(program) => Some((program.atoms.len(), program.rules.len())),
-            Err(_) => None,
-        }
+    fn refusal(code: u8, line: u64, column: u64) -> Refusal {
+        let pos = Pos { line, column };
+        Refusal { code, pos }
+    }
+
+    /// The numbers of atoms and of rules.
+    fn counts(alloc: Global, text: &[u8]) -> Result<(usize, usize), TextFault> {
+        let program = read(alloc, text)?;
+        Ok((program.atoms.len(), program.rules.len()))
     }
 
     #[test]
     fn texts_are_read_or_refused(rt: HostRuntime) {
-        let texts: [(&[u8], Option<(usize, usize)>); 24] = [
-            (b"", Some((0, 0))),
-            (b" \t\r\n\x0c", Some((0, 0))),
-            (b"a", Some((1, 0))),
-            (b"a.", Some((1, 0))),
-            (b"a1_B, b.c .\n", Some((3, 0))),
-            (b"a :- b", Some((0, 1))),
-            (b"a, b :- .", Some((0, 1))),
-            (b"b. (a, a :- b).", Some((1, 1))),
-            (b"(a :- ), c, (b :- c, d). e :- f.", Some((1, 3))),
-            (b".", None),
-            (b"a..", None),
-            (b"a,", None),
-            (b"a b", None),
-            (b":- a", None),
-            (b"(a)", None),
-            (b"()", None),
-            (b"(a :- b", None),
-            (b"a :- b)", None),
-            (b"a :- (b :- c)", None),
-            (b"a :- b :- c", None),
-            (b"A", None),
-            (b"1", None),
-            (b"a : - b", None),
-            (b"a % b", None),
+        let refused = Err(TextFault::Refused(refusal(90, 1, 1)));
+        let texts: [(&[u8], Result<(usize, usize), TextFault>); 24] = [
+            (b"", Ok((0, 0))),
+            (b" \t\r\n\x0c", Ok((0, 0))),
+            (b"a", Ok((1, 0))),
+            (b"a.", Ok((1, 0))),
+            (b"a1_B, b.c .\n", Ok((3, 0))),
+            (b"a :- b", Ok((0, 1))),
+            (b"a, b :- .", Ok((0, 1))),
+            (b"b. (a, a :- b).", Ok((1, 1))),
+            (b"(a :- ), c, (b :- c, d). e :- f.", Ok((1, 3))),
+            (b".", refused),
+            (b"a..", refused),
+            (b"a,", refused),
+            (b"a b", refused),
+            (b":- a", refused),
+            (b"(a)", refused),
+            (b"()", refused),
+            (b"(a :- b", refused),
+            (b"a :- b)", refused),
+            (b"a :- (b :- c)", refused),
+            (b"a :- b :- c", refused),
+            (b"A", refused),
+            (b"1", refused),
+            (b"a : - b", refused),
+            (b"a % b", refused),
         ];
         for (text, wanted) in texts {
-            assert!(rt; counted(rt.alloc(), text) == wanted);
+            assert!(rt; counts(rt.alloc(), text) == wanted);
         }
     }
 }
