@@ -9,6 +9,7 @@ pub mod LineLemmas
 pub mod OutcomeLemmas
 pub mod PlaceLaws
 pub mod ReadsLaws
+pub mod RunLemmas
 pub mod RunningLemmas
 pub mod SoFar
 pub mod SpelledLaws

@@ -9,5 +9,6 @@ pub mod Printing
 pub mod Processes
 pub mod Programs
 pub mod Reading
+pub mod Runs
 pub mod Stops
 pub mod Words

@@ -1,5 +1,5 @@
 -- What a call leaves behind, for each of its endings.
-use Rattle.std.specs.Prelude.{◌≡◌, ℕ, ◌⊎◌, List, ◌++◌, Option, codes}
+use Rattle.std.specs.Prelude.{◌≡◌, ℕ, ◌⊎◌, List, ◌++◌, Option, IfSome, codes}
 use Rattle.std.specs.declared.string.String.{String}
 use Rattle.std.specs.declared.alloc.Global.{Global}
 use Rattle.lmn_io.specs.Counts.{Rose}
@@ -9,31 +9,36 @@ use Rattle.lmn_app.specs.declared.ending.Ending.TheVariants.{Done, Budget, Refus
 use Rattle.lmn_app.specs.Programs.{at_start}
 use Rattle.lmn_app.specs.Words.{InForm}
 use Rattle.lmn_app.specs.Printing.{end_line}
+use Rattle.lmn_app.specs.Runs.{IsRefusal, IsRun}
+use Rattle.lmn_app.specs.Stops.{stop_word}
+use Rattle.lmn_app.specs.declared.running.Stop.{Stop}
 
--- a line and an end line with this word were taken
-abbrev pub Writes : List ℕ → Option (List ℕ) → Option (List ℕ) → Type 0
-Writes word old new = (line : List ℕ) × (firings : ℕ) × Takes (line ++ end_line word firings) old new
+-- The line of a run of the text was taken, and an end line with this word and the number of its firings.
+abbrev pub Writes : Option (List ℕ) → List ℕ → Option (List ℕ) → Option (List ℕ) → Type 0
+Writes text word old new = (printed : List ℕ) × (firings : ℕ) × IfSome text (λ bytes. IsRun bytes printed firings) × Takes (printed ++ end_line word firings) old new
 
 -- a prefix of such lines was taken
-abbrev pub WritesPrefix : Option (List ℕ) → Option (List ℕ) → Type 0
-WritesPrefix old new = (line word : List ℕ) × (firings : ℕ) × TakesPrefix (line ++ end_line word firings) old new
+abbrev pub WritesPrefix : Option (List ℕ) → Option (List ℕ) → Option (List ℕ) → Type 0
+WritesPrefix text old new =
+    (printed : List ℕ) × (stop : Stop) × (firings : ℕ) × IfSome text (λ bytes. IsRun bytes printed firings) × TakesPrefix (printed ++ end_line (stop_word stop) firings) old new
 
--- Why a call ends so: its words, and the count of faults of the file that they name, before and after.
-abbrev pub Causes : Ending → List (String Global) → ℕ → ℕ → Type 0
-Causes Done words before after = InForm words
-Causes Budget words before after = InForm words
-Causes (Refused r) words before after = InForm words × ((r ≡ at_start 1) ⊎ (r ≡ at_start 90))
-Causes Words words before after = ¬ (InForm words)
-Causes ReadFault words before after = InForm words × Rose before after
-Causes WriteFault words before after = InForm words
-Causes NoMemory words before after = InForm words
+-- Why a call ends so: what is told of the text, its words, and the count of faults of the file that they name, before
+-- and after.
+abbrev pub Causes : Ending → Option (List ℕ) → List (String Global) → ℕ → ℕ → Type 0
+Causes Done text words before after = InForm words
+Causes Budget text words before after = InForm words
+Causes (Refused r) text words before after = InForm words × IfSome text (λ bytes. IsRefusal bytes r) × ((r ≡ at_start 1) ⊎ (r ≡ at_start 90))
+Causes Words text words before after = ¬ (InForm words)
+Causes ReadFault text words before after = InForm words × Rose before after
+Causes WriteFault text words before after = InForm words
+Causes NoMemory text words before after = InForm words
 
--- What `out` took, and its count of faults, before and after.
-abbrev pub Output : Ending → Option (List ℕ) → Option (List ℕ) → ℕ → ℕ → Type 0
-Output Done old new before after = Writes (codes "irreducible") old new
-Output Budget old new before after = Writes (codes "budget") old new
-Output (Refused r) old new before after = new ≡ old
-Output Words old new before after = new ≡ old
-Output ReadFault old new before after = new ≡ old
-Output WriteFault old new before after = WritesPrefix old new × Rose before after
-Output NoMemory old new before after = (new ≡ old) ⊎ Writes (codes "no memory") old new
+-- What `out` took of a run of the text, and its count of faults, before and after.
+abbrev pub Output : Ending → Option (List ℕ) → Option (List ℕ) → Option (List ℕ) → ℕ → ℕ → Type 0
+Output Done text old new before after = Writes text (codes "irreducible") old new
+Output Budget text old new before after = Writes text (codes "budget") old new
+Output (Refused r) text old new before after = new ≡ old
+Output Words text old new before after = new ≡ old
+Output ReadFault text old new before after = new ≡ old
+Output WriteFault text old new before after = WritesPrefix text old new × Rose before after
+Output NoMemory text old new before after = (new ≡ old) ⊎ Writes text (codes "no memory") old new

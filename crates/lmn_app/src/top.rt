@@ -1,12 +1,14 @@
-ghost use Rattle.std.specs.Prelude.{◌≡◌, ◌⊎◌, ℕ, List, Option, String, codes, string_bytes, IfOk, OnErr};
+ghost use Rattle.std.specs.Prelude.{◌≡◌, ◌≤◌, ◌⊎◌, ℕ, List, Option, Some, String, codes, length, string_bytes, IfOk, IfSome, OnErr};
 ghost use Rattle.std.specs.declared.alloc.Global.{Global};
 ghost use Rattle.lmn_io.specs.Counts.{Rose};
 ghost use Rattle.lmn_io.specs.Taking.{Takes, TakesPrefix};
 ghost use Rattle.lmn_base.specs.declared.refusal.Refusal.{Refusal};
+ghost use Rattle.lmn_app.specs.FirstGrammar.{Tree};
 ghost use Rattle.lmn_app.specs.Words.{InForm, file_of};
 ghost use Rattle.lmn_app.specs.Endings.{line_of, refusal_line};
 ghost use Rattle.lmn_app.specs.Outcomes.{Causes, Output, Writes, WritesPrefix};
-ghost use Rattle.lmn_app.specs.Programs.{at_start};
+ghost use Rattle.lmn_app.specs.Programs.{at_start, IsProcessOf};
+ghost use Rattle.lmn_app.specs.Runs.{Accepts, IsAccepted, IsRefusal, IsRun, told_text};
 ghost use Rattle.lmn_app.specs.Stops.{stop_ending, stop_word};
 ghost use Rattle.lmn_app.specs.declared.ending.Ending.{Ending};
 
@@ -39,25 +41,36 @@ pub fn lmn_main<F: Shelf, O: Sink, E: Sink>(
     out: &mut O,
     err: &mut E,
 ) -> u8
+    // Status 3 comes where the words aren't of the form; a failing sink alone takes its place.
     ensures words { result ≡ 3 → ¬ (InForm words.now) }
     ensures form { ¬ (InForm words.now) → (result ≡ 3) ⊎ (result ≡ 5) }
+
+    // Status 4 comes only where the count of the file rose, and 5 only where that of a sink did.
     ensures read { result ≡ 4 → InForm words.now × Rose (F.faults shelf.old (file_of words.now)) (F.faults shelf.new (file_of words.now)) }
     ensures write { result ≡ 5 → Rose (O.faults out.old) (O.faults out.new) ⊎ Rose (E.faults err.old) (E.faults err.new) }
 
-    // What `out` took, for each status.
-    ensures out_done { result ≡ 0 → Writes (codes "irreducible") (O.told out.old) (O.told out.new) }
-    ensures out_budget { result ≡ 1 → Writes (codes "budget") (O.told out.old) (O.told out.new) }
-    ensures out_untouched { (result ≡ 2) ⊎ (result ≡ 3) ⊎ (result ≡ 4) → O.told out.new ≡ O.told out.old }
-    ensures out_part { result ≡ 5 → (O.told out.new ≡ O.told out.old) ⊎ WritesPrefix (O.told out.old) (O.told out.new) }
-    ensures out_memory { result ≡ 6 → (O.told out.new ≡ O.told out.old) ⊎ Writes (codes "no memory") (O.told out.old) (O.told out.new) }
+    // Status 2 comes where the text isn't accepted; 4, 5 and 6 alone take its place.
+    ensures refused { result ≡ 2 → (refusal : Refusal) × IfSome (told_text (F.told shelf.old) (file_of words.now)) (λ text. IsRefusal text refusal)
+        × ((refusal ≡ at_start 1) ⊎ (refusal ≡ at_start 90)) × Takes (refusal_line refusal) (E.told err.old) (E.told err.new) }
+    ensures not_accepted { InForm words.now → IfSome (told_text (F.told shelf.old) (file_of words.now)) (λ text.
+        ¬ (IsAccepted text) → (result ≡ 2) ⊎ (result ≡ 4) ⊎ (result ≡ 5) ⊎ (result ≡ 6)) }
 
-    // What `err` took, for each status.
+    // What `out` took, for each status.
+    ensures out_done { result ≡ 0 → Writes (told_text (F.told shelf.old) (file_of words.now)) (codes "irreducible") (O.told out.old) (O.told out.new) }
+    ensures out_budget { result ≡ 1 → Writes (told_text (F.told shelf.old) (file_of words.now)) (codes "budget") (O.told out.old) (O.told out.new) }
+    ensures out_untouched { (result ≡ 2) ⊎ (result ≡ 3) ⊎ (result ≡ 4) → O.told out.new ≡ O.told out.old }
+    ensures out_part { result ≡ 5 → (O.told out.new ≡ O.told out.old) ⊎ WritesPrefix (told_text (F.told shelf.old) (file_of words.now)) (O.told out.old) (O.told out.new) }
+    ensures out_memory { result ≡ 6 → (O.told out.new ≡ O.told out.old)
+        ⊎ Writes (told_text (F.told shelf.old) (file_of words.now)) (codes "no memory") (O.told out.old) (O.told out.new) }
+
+    // What `err` took, for each status but 2.
     ensures err_quiet { (result ≡ 0) ⊎ (result ≡ 1) → E.told err.new ≡ E.told err.old }
-    ensures err_refused { result ≡ 2 → (refusal : Refusal) × ((refusal ≡ at_start 1) ⊎ (refusal ≡ at_start 90)) × Takes (refusal_line refusal) (E.told err.old) (E.told err.new) }
     ensures err_words { result ≡ 3 → Takes (codes "lmn: words not understood\n") (E.told err.old) (E.told err.new) }
     ensures err_read { result ≡ 4 → Takes (codes "lmn: read failed\n") (E.told err.old) (E.told err.new) }
     ensures err_memory { result ≡ 6 → Takes (codes "lmn: out of memory\n") (E.told err.old) (E.told err.new) }
-    ensures err_part { result ≡ 5 → (ending : Ending) × Causes ending words.now (F.faults shelf.old (file_of words.now)) (F.faults shelf.new (file_of words.now)) × TakesPrefix (line_of ending) (E.told err.old) (E.told err.new) }
+    ensures err_part { result ≡ 5 → (ending : Ending)
+        × Causes ending (told_text (F.told shelf.old) (file_of words.now)) words.now (F.faults shelf.old (file_of words.now)) (F.faults shelf.new (file_of words.now))
+        × TakesPrefix (line_of ending) (E.told err.old) (E.told err.new) }
 {
     let ending = act(alloc, words, shelf, out);
     conclude(err, ending)
@@ -65,8 +78,8 @@ pub fn lmn_main<F: Shelf, O: Sink, E: Sink>(
 
 /// Does what the words ask for, and says how it ended.
 fn act<F: Shelf, O: Sink>(alloc: Global, words: &[String], shelf: &mut F, out: &mut O) -> Ending
-    ensures causes { Causes result words.now (F.faults shelf.old (file_of words.now)) (F.faults shelf.new (file_of words.now)) }
-    ensures output { Output result (O.told out.old) (O.told out.new) (O.faults out.old) (O.faults out.new) }
+    ensures causes { Causes result (told_text (F.told shelf.old) (file_of words.now)) words.now (F.faults shelf.old (file_of words.now)) (F.faults shelf.new (file_of words.now)) }
+    ensures output { Output result (told_text (F.told shelf.old) (file_of words.now)) (O.told out.old) (O.told out.new) (O.faults out.old) (O.faults out.new) }
 {
     match words {
         [_, file] if in_form(words) => run(alloc, file.as_str(), shelf, out),
@@ -76,8 +89,9 @@ fn act<F: Shelf, O: Sink>(alloc: Global, words: &[String], shelf: &mut F, out: &
 
 /// Fetches a text and runs it.
 fn run<F: Shelf, O: Sink>(alloc: Global, file: &str, shelf: &mut F, out: &mut O) -> Ending
-    ensures causes { (words : List (String Global)) → InForm words → Causes result words (F.faults shelf.old file.now) (F.faults shelf.new file.now) }
-    ensures output { Output result (O.told out.old) (O.told out.new) (O.faults out.old) (O.faults out.new) }
+    ensures causes { (words : List (String Global)) → InForm words →
+        Causes result (told_text (F.told shelf.old) file.now) words (F.faults shelf.old file.now) (F.faults shelf.new file.now) }
+    ensures output { Output result (told_text (F.told shelf.old) file.now) (O.told out.old) (O.told out.new) (O.faults out.old) (O.faults out.new) }
 {
     match shelf.fetch(alloc, file, TEXT_BYTES) {
         Ok(Fetched::Whole(text)) => run_text(alloc, text.as_slice(), out),
@@ -89,8 +103,9 @@ fn run<F: Shelf, O: Sink>(alloc: Global, file: &str, shelf: &mut F, out: &mut O)
 
 /// Reads a text and runs it.
 fn run_text<O: Sink>(alloc: Global, text: &[u8], out: &mut O) -> Ending
-    ensures causes { (words : List (String Global)) (before after : ℕ) → InForm words → Causes result words before after }
-    ensures output { Output result (O.told out.old) (O.told out.new) (O.faults out.old) (O.faults out.new) }
+    requires { length text.now ≤ 4194304 }
+    ensures causes { (words : List (String Global)) (before after : ℕ) → InForm words → Causes result (Some text.now) words before after }
+    ensures output { Output result (Some text.now) (O.told out.old) (O.told out.new) (O.faults out.old) (O.faults out.new) }
 {
     match reading::read(alloc, text) {
         Ok(program) => match run_program(program, out) {
@@ -104,8 +119,10 @@ fn run_text<O: Sink>(alloc: Global, text: &[u8], out: &mut O) -> Ending
 
 /// Lets a program react, and writes its last process and why it stopped.
 fn run_program<O: Sink>(program: Program<'_>, out: &mut O) -> Result<Stop, Failed>
-    ensures wrote { IfOk result (λ stop. Writes (stop_word stop) (O.told out.old) (O.told out.new)) }
-    ensures prefix { OnErr result (WritesPrefix (O.told out.old) (O.told out.new)) }
+    ensures wrote { (text : List ℕ) (tree : Tree) → Accepts text tree → IsProcessOf program.entry tree →
+        IfOk result (λ stop. Writes (Some text) (stop_word stop) (O.told out.old) (O.told out.new)) }
+    ensures prefix { (text : List ℕ) (tree : Tree) → Accepts text tree → IsProcessOf program.entry tree →
+        OnErr result (WritesPrefix (Some text) (O.told out.old) (O.told out.new)) }
     ensures rose { OnErr result (Rose (O.faults out.old) (O.faults out.new)) }
 {
     let Program { atoms, rules } = program;

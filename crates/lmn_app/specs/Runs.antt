@@ -1,0 +1,51 @@
+-- What a run of a text is, as it is printed.
+use Rattle.std.specs.Prelude.{◌≡◌, ℕ, ◌<◌, ◌≤◌, ◌⊎◌, List, length, Option, None, Some}
+use Rattle.lmn_base.specs.declared.refusal.Refusal.{Refusal}
+use Rattle.lmn_congruence.specs.Process.{Process, Closed}
+use Rattle.lmn_congruence.specs.reduction.Commits.{Settles}
+use Rattle.lmn_app.specs.FirstGrammar.{Tree, Reads, WithinLimits, tree_atoms, tree_rules}
+use Rattle.lmn_app.specs.Processes.{flat_process}
+use Rattle.lmn_app.specs.Firings.{Commits}
+use Rattle.lmn_app.specs.Lines.{line}
+use Rattle.lmn_app.specs.Programs.{at_start}
+
+-- the text that is told under a name, if one is
+abbrev pub told_text : Option (List ℕ → Option (List ℕ)) → List ℕ → Option (List ℕ)
+told_text None name = None
+told_text (Some text) name = text name
+
+-- the process of the tree that a text spells
+abbrev pub tree_process : Tree → Process
+tree_process tree = flat_process (tree_atoms tree) (tree_rules tree)
+
+-- the most bytes of a text
+abbrev pub text_bytes : ℕ
+text_bytes = 4194304
+
+-- the text spells this tree, and both are within the limits
+pub record Accepts (text : List ℕ) (tree : Tree) : Type 0 where
+  pub short : length text ≤ text_bytes
+  pub reads : Reads text tree
+  pub within : WithinLimits tree
+
+abbrev pub IsAccepted : List ℕ → Type 0
+IsAccepted text = (tree : Tree) × Accepts text tree
+
+-- The refusal of a text: code 1 where it is too long, and else code 90 where it spells no tree within the limits.
+abbrev pub IsRefusal : List ℕ → Refusal → Type 0
+IsRefusal text refusal =
+    ((text_bytes < length text) × (refusal ≡ at_start 1))
+    ⊎ ((length text ≤ text_bytes) × (refusal ≡ at_start 90) × ((tree : Tree) → Reads text tree → WithinLimits tree → ⊥))
+
+-- A line is printed after so many firings of a text: the process of the text settles to a first process, a chain of
+-- as many commits leads from it to the process of the line, and the line reads as that process, which is closed.
+pub record IsRun (text printed : List ℕ) (firings : ℕ) : Type 0 where
+  pub tree : Tree
+  pub accepted : Accepts text tree
+  pub first : Process
+  pub settles : Settles (tree_process tree) first
+  pub last : Tree
+  pub line_of_last : printed ≡ line (tree_atoms last) (tree_rules last)
+  pub reads_back : Reads printed last
+  pub closed : Closed (tree_process last)
+  pub commits : Commits firings first (tree_process last)
