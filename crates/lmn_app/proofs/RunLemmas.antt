@@ -1,11 +1,10 @@
 -- The run of a text that was read.
-use Rattle.std.specs.Prelude.{◌≡◌, ℕ, ◌≤◌, Bool, true, false, cond, List, [], ◌∷◌, ◌++◌, length, bytes_eq, Option, None, Some, IfSome}
+use Rattle.std.specs.Prelude.{◌≡◌, ℕ, true, false, cond, List, [], ◌∷◌, ◌++◌, bytes_eq}
 use Rattle.std.specs.List.{AllByRecursion}
 use Rattle.std.proofs.Common.{refl, ap, ◌∙◌}
 use Rattle.lmn_congruence.specs.Orders.{Among, at_head, further}
 use Rattle.lmn_app.specs.FirstGrammar.{IsName, RuleTree, Tree, Reads, tree_atoms, tree_rules}
-use Rattle.lmn_app.specs.Processes.{flat_process}
-use Rattle.lmn_app.specs.Firings.{Chain, no_step, step_after, Firing, fires, Firings, Commits, fired, without, without_all}
+use Rattle.lmn_app.specs.Firings.{no_step, step_after, fires, Firings, without, without_all}
 use Rattle.lmn_app.specs.Laws.{IsSpelled}
 use Rattle.lmn_app.specs.Lines.{line}
 use Rattle.lmn_app.specs.Runs.{Accepts, IsRun, tree_process}

@@ -1,5 +1,5 @@
 -- How a call ends: its status, and the line that `err` takes.
-use Rattle.std.specs.Prelude.{◌≡◌, ℕ, ◌⊎◌, List, [], ◌∷◌, ◌++◌, ◌==◌, Option, codes, decimal, nat_lt, if◌then◌else◌}
+use Rattle.std.specs.Prelude.{◌≡◌, ℕ, ◌⊎◌, List, [], ◌∷◌, ◌==◌, Option, codes, decimal, nat_lt, if◌then◌else◌}
 use Rattle.std.specs.List.{concat}
 use Rattle.lmn_base.specs.declared.refusal.Refusal.{Refusal}
 use Rattle.lmn_app.specs.declared.ending.Ending.{Ending}
@@ -28,7 +28,7 @@ code_words code = if code == 1 then codes "text too long" else codes "form not b
 abbrev pub refusal_line : Refusal → List ℕ
 refusal_line refusal =
     concat (code_letters refusal.code ∷ decimal refusal.code ∷ codes " " ∷ decimal refusal.pos.line ∷ codes ":" ∷ decimal refusal.pos.column
-        ∷ codes " " ∷ code_words refusal.code ∷ codes "\n" ∷ [])
+    ∷ codes " " ∷ code_words refusal.code ∷ codes "\n" ∷ [])
 
 -- the line of an ending, or nothing
 abbrev pub line_of : Ending → List ℕ

@@ -2,7 +2,7 @@
 use Rattle.std.specs.Prelude.{◌≡◌, ℕ, ◌+◌, ◌≤◌, List, [], ◌∷◌, ◌++◌, cond, bytes_eq}
 use Rattle.lmn_congruence.specs.Orders.{Among}
 use Rattle.lmn_congruence.specs.Process.{Process, Closed}
-use Rattle.lmn_congruence.specs.reduction.Commits.{Settles, Commit, Irreducible}
+use Rattle.lmn_congruence.specs.reduction.Commits.{Settles, Commit}
 use Rattle.lmn_app.specs.FirstGrammar.{RuleTree}
 use Rattle.lmn_app.specs.Processes.{flat_process}
 

@@ -1,7 +1,4 @@
-
-
 use lmn_base::Refusal;
-
 
 /// How a call ends. Each ending has a status and a line on `err`, which may be nothing.
 #[derive(Clone, Copy, Debug, PartialEq, Eq)]

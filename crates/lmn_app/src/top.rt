@@ -14,11 +14,10 @@ ghost use Rattle.lmn_app.specs.declared.ending.Ending.{Ending};
 
 use crate::conclusion::conclude;
 use crate::ending::Ending;
-use crate::printing;
 use crate::program::Program;
-use crate::reading;
 use crate::running::{self, Stop};
 use crate::words::in_form;
+use crate::{printing, reading};
 use lmn_base::{Pos, Refusal, TextFault};
 use lmn_io::{Failed, FetchFault, Fetched, Shelf, Sink};
 use std::alloc::Global;

@@ -6,7 +6,7 @@ use Rattle.std.proofs.lemmas.List.{take_all, take_more}
 use Rattle.std.proofs.lemmas.List.Concat.{flat_map-append}
 use Rattle.lmn_io.specs.Counts.{Rose}
 use Rattle.lmn_io.specs.Taking.{Takes, TakesPrefix, Gathers}
-use Rattle.lmn_io.specs.Gathering.{Pending, Output, AddsWhere, Adds}
+use Rattle.lmn_io.specs.Gathering.{Output, AddsWhere, Adds}
 
 -- a prefix of a piece is one of a longer piece
 pub prefix_more : (a b : List ℕ) (old new : Option (List ℕ)) → TakesPrefix a old new → TakesPrefix (a ++ b) old new
@@ -95,19 +95,21 @@ more : (a b : List ℕ) (before mid after : Output) (f f' f'' : Bool) → before
     → before.faults ≤ mid.faults → AddsWhere f f' a before mid → AddsWhere f' f'' b mid after → AddsWhere f f'' (a ++ b) before after
 more a b before mid after true true f'' e e' e'' l p q = q ∙ p
 more a b before mid after true false f'' e e' e'' l p q = let h : true ≡ false = sym e ∙ ap (λ o. o.pending.failed) (sym p) ∙ e' in cc
-more a b before mid after false true true e e' e'' l p q =
-    (subst (λ o. TakesPrefix (before.pending.kept ++ (a ++ b)) before.told o.told) (sym q)
-        (subst (λ bytes. TakesPrefix bytes before.told mid.told) (append_assoc before.pending.kept a b)
-            (prefix_more (before.pending.kept ++ a) b before.told mid.told p.0)),
-     subst (λ o. Rose before.faults o.faults) (sym q) p.1)
+more a b before mid after false true true e e' e'' l p q = (
+  subst (λ o. TakesPrefix (before.pending.kept ++ (a ++ b)) before.told o.told) (sym q)
+      (subst (λ bytes. TakesPrefix bytes before.told mid.told) (append_assoc before.pending.kept a b)
+      (prefix_more (before.pending.kept ++ a) b before.told mid.told p.0)),
+  subst (λ o. Rose before.faults o.faults) (sym q) p.1,
+)
 more a b before mid after false true false e e' e'' l p q = let h : true ≡ false = sym e' ∙ ap (λ o. o.pending.failed) (sym q) ∙ e'' in cc
-more a b before mid after false false true e e' e'' l p q =
-    (subst (λ bytes. TakesPrefix bytes before.told after.told) (append_assoc before.pending.kept a b)
-        (gathers_prefix (before.pending.kept ++ a) b mid.pending.kept before.told mid.told after.told p q.0),
-     omega (arith, l, q.1))
+more a b before mid after false false true e e' e'' l p q = (
+  subst (λ bytes. TakesPrefix bytes before.told after.told) (append_assoc before.pending.kept a b)
+      (gathers_prefix (before.pending.kept ++ a) b mid.pending.kept before.told mid.told after.told p q.0),
+  omega (arith, l, q.1),
+)
 more a b before mid after false false false e e' e'' l p q =
     subst (λ bytes. Gathers bytes before.told after.pending.kept after.told) (append_assoc before.pending.kept a b)
-        (gathers_more (before.pending.kept ++ a) b mid.pending.kept after.pending.kept before.told mid.told after.told p q)
+    (gathers_more (before.pending.kept ++ a) b mid.pending.kept after.pending.kept before.told mid.told after.told p q)
 
 -- a piece was added, and then another
 pub adds_more : (a b : List ℕ) (before mid after : Output) → Adds a before mid → Adds b mid after → Adds (a ++ b) before after
@@ -119,7 +121,7 @@ pub adds_next : {X : Type 0} (f : X → List ℕ) (xs : List X) (i : ℕ) (d : X
     → Adds (flat_map f (take i xs)) before mid → Adds (f (get_or xs i d)) mid after → Adds (flat_map f (take (i + 1) xs)) before after
 adds_next f xs i d before mid after within first later =
     let whole : flat_map f (take (i + 1) xs) ≡ flat_map f (take i xs) ++ f (get_or xs i d) =
-        ap (flat_map f) (take_more xs i d within) ∙ flat_map-append f (take i xs) (get_or xs i d ∷ []) ∙ ap (λ bytes. flat_map f (take i xs) ++ bytes) (append-nil (f (get_or xs i d)))
+    ap (flat_map f) (take_more xs i d within) ∙ flat_map-append f (take i xs) (get_or xs i d ∷ []) ∙ ap (λ bytes. flat_map f (take i xs) ++ bytes) (append-nil (f (get_or xs i d)))
     in subst (λ bytes. Adds bytes before after) (sym whole) (adds_more (flat_map f (take i xs)) (f (get_or xs i d)) before mid after first later)
 
 -- a piece that is the same was added

@@ -11,7 +11,7 @@ mod shelf;
 mod sink;
 
 pub use file_shelf::FileShelf;
-pub use line_buffer::{put_all, LineBuffer};
+pub use line_buffer::{LineBuffer, put_all};
 pub use mem_shelf::MemShelf;
 pub use mem_sink::MemSink;
 pub use out_sink::OutSink;

@@ -2,8 +2,6 @@ use Rattle.std.proofs.Common.{take, ◌++◌}
 use Rattle.std.specs.Prelude.{codes}
 use Rattle.std.specs.List.{flat_map}
 use Rattle.lmn_io.specs.Gathering.{Adds, output}
-use Rattle.lmn_app.specs.Programs.{rule_of}
-use Rattle.lmn_app.specs.Lines.{rule_text, stopped}
 use Rattle.lmn_app.proofs.printing.add_names.Given as goal
 
 abbrev pub invariant-loop-name : goal.invariant-loop-name

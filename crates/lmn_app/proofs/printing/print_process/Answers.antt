@@ -11,11 +11,11 @@ use Rattle.lmn_app.proofs.printing.print_process.Given as given
 -- the whole line was added
 whole : (g : given.Over) (c : goal.After-finish g)
     → Adds (line (names_of c.args.atoms.now) (rules_of c.args.rules.now)) (output nothing_pending (g.O.Sink.told c.args.out.now) (g.O.Sink.faults c.args.out.now))
-        (output c.add.new.self (g.O.Sink.told c.add.new.sink) (g.O.Sink.faults c.add.new.sink))
+    (output c.add.new.self (g.O.Sink.told c.add.new.sink) (g.O.Sink.faults c.add.new.sink))
 whole g c =
     subst (λ pending. Adds (line (names_of c.args.atoms.now) (rules_of c.args.rules.now)) (output pending (g.O.Sink.told c.args.out.now) (g.O.Sink.faults c.args.out.now)) (output c.add.new.self (g.O.Sink.told c.add.new.sink) (g.O.Sink.faults c.add.new.sink)))
-        c.new-buffer.ensures
-        (adds_more (items_text (names_of c.args.atoms.now) (rules_of c.args.rules.now)) (codes "\n") _ _ _ c.add_items.ensures c.add.ensures)
+    c.new-buffer.ensures
+    (adds_more (items_text (names_of c.args.atoms.now) (rules_of c.args.rules.now)) (codes "\n") _ _ _ c.add_items.ensures c.add.ensures)
 
 pub returns-clause-took : goal.returns-clause-took
 returns-clause-took g c = c.finish.ensures.took _ _ _ (whole g c)
