@@ -67,9 +67,11 @@ pub fn lmn_main<F: Shelf, O: Sink, E: Sink>(
     ensures err_words { result ≡ 3 → Takes (codes "lmn: words not understood\n") (E.told err.old) (E.told err.new) }
     ensures err_read { result ≡ 4 → Takes (codes "lmn: read failed\n") (E.told err.old) (E.told err.new) }
     ensures err_memory { result ≡ 6 → Takes (codes "lmn: out of memory\n") (E.told err.old) (E.told err.new) }
-    ensures err_part { result ≡ 5 → (ending : Ending)
-        × Causes ending (told_text (F.told shelf.old) (file_of words.now)) words.now (F.faults shelf.old (file_of words.now)) (F.faults shelf.new (file_of words.now))
-        × TakesPrefix (line_of ending) (E.told err.old) (E.told err.new) }
+    ensures err_part { result ≡ 5 →
+        (TakesPrefix (codes "lmn: write failed\n") (E.told err.old) (E.told err.new) × Rose (O.faults out.old) (O.faults out.new))
+        ⊎ (Rose (E.faults err.old) (E.faults err.new) × ((ending : Ending)
+            × Causes ending (told_text (F.told shelf.old) (file_of words.now)) words.now (F.faults shelf.old (file_of words.now)) (F.faults shelf.new (file_of words.now))
+            × TakesPrefix (line_of ending) (E.told err.old) (E.told err.new))) }
 {
     let ending = act(alloc, words, shelf, out);
     conclude(err, ending)
