@@ -4,3 +4,4 @@ pub mod LineLemmas
 pub mod OutcomeLemmas
 pub mod FiringLemmas
 pub mod RunningLemmas
+pub mod FlatRedexes

@@ -9,12 +9,14 @@ use Rattle.std.proofs.lemmas.List.{take_all, take_more, take-append-drop, map-ap
 use Rattle.std.proofs.Math.Seq.{drop-cons}
 use Rattle.std.proofs.lemmas.List.Recursion.{is_count_by}
 use Rattle.std.proofs.lemmas.Iterator.Adapters.{position_from-zero}
+use Rattle.lmn_congruence.specs.reduction.Commits.{Irreducible}
 use Rattle.lmn_congruence.specs.Orders.{Among, at_head, further}
 use Rattle.lmn_app.specs.FirstGrammar.{RuleTree}
 use Rattle.lmn_app.specs.Programs.{names_of, rule_of, rules_of}
 use Rattle.lmn_app.specs.Processes.{flat_process}
 use Rattle.lmn_app.specs.declared.program.Rule.{Rule}
 use Rattle.lmn_app.specs.Firings.{count_of, without, Covers, SomeCovered, NoneCovered, FirstCovered, fired, Firing, fires, Firings, Commits, step_after}
+use Rattle.lmn_app.proofs.FlatRedexes.{flat_irreducible}
 use Rattle.lmn_app.proofs.FiringLemmas.{first_among, firings_commit}
 
 pub count_names : (name : List ℕ) (names : List (Bor (List ℕ))) → count_by (λ other. bytes_eq other.now name) names ≡ count_of name (names_of names)
@@ -132,6 +134,11 @@ all_commit n m rules old new c e = subst (λ k. Commits k (flat_process old rule
 
 pub first_covers : (r : RuleTree) (rules : List RuleTree) (seen atoms : List (Bor (List ℕ))) → seen ≡ atoms → FirstCovered r rules (names_of seen) → SomeCovered rules (names_of atoms)
 first_covers r rules seen atoms s f = (r, first_among f, subst (λ ns. Covers r.head (names_of ns)) s f.covered)
+
+pub none_stops : (rules : List RuleTree) (seen atoms : List (Bor (List ℕ))) → seen ≡ atoms → NoneCovered rules (names_of seen) → NoneCovered rules (names_of atoms) × Irreducible (flat_process (names_of atoms) rules)
+none_stops rules seen atoms s h =
+    let none = subst (λ ns. NoneCovered rules (names_of ns)) s h in
+    (none, (flat_irreducible (names_of atoms) rules).1 none)
 
 pub at_error : {T E P : Type 0} (r : Result T E) (b : Bool) → OnErr r P → b ≡ is_err r → b ≡ true → P
 at_error (Ok x) b h e t = absurd (false≢true (sym e ∙ t))

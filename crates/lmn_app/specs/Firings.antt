@@ -1,8 +1,10 @@
 -- How the rules of a process of atoms without links fire, and what that is in the calculus.
-use Rattle.std.specs.Prelude.{◌≡◌, ℕ, ◌+◌, ◌≤◌, List, [], ◌∷◌, ◌++◌, cond, bytes_eq}
+use Rattle.std.specs.Prelude.{◌≡◌, ◌↔◌, ℕ, ◌+◌, ◌≤◌, List, [], ◌∷◌, ◌++◌, cond, bytes_eq}
 use Rattle.lmn_congruence.specs.Orders.{Among}
 use Rattle.lmn_congruence.specs.Process.{Process, Closed}
 use Rattle.lmn_congruence.specs.reduction.Commits.{Settles, Commit, Irreducible}
+use Rattle.lmn_app.specs.declared.running.Stop.{Stop}
+use Rattle.lmn_app.specs.declared.running.Stop.TheVariants as stop
 use Rattle.lmn_app.specs.FirstGrammar.{RuleTree}
 use Rattle.lmn_app.specs.Processes.{flat_process}
 
@@ -58,6 +60,13 @@ Firings n rules old new = Chain (Firing rules) old n new
 abbrev pub Commits : ℕ → Process → Process → Type 0
 Commits n P Q = Chain Commit P n Q
 
+-- Why a run stopped at these atoms after n firings: nothing can happen, or a rule is covered still, and the
+-- budget is done or memory for the rule's body is wanting.
+abbrev pub Stopped : Stop → ℕ → List RuleTree → List (List ℕ) → Type 0
+Stopped stop.Irreducible n rules atoms = NoneCovered rules atoms × Irreducible (flat_process atoms rules)
+Stopped stop.Budget n rules atoms = SomeCovered rules atoms × (n ≡ 1000)
+Stopped stop.NoMemory n rules atoms = SomeCovered rules atoms
+
 -- the firing of a rule that is covered is a commit
 abbrev pub FiringCommits : Type 0
 FiringCommits = (atoms : List (List ℕ)) (rules : List RuleTree) (r : RuleTree) →
@@ -75,3 +84,8 @@ FlatClosed = (atoms : List (List ℕ)) (rules : List RuleTree) → Closed (flat_
 abbrev pub FlatSettles : Type 0
 FlatSettles = (atoms : List (List ℕ)) (rules : List RuleTree) →
     Settles (flat_process atoms rules) (flat_process atoms rules)
+
+-- and it is irreducible exactly where no rule is covered
+abbrev pub FlatIrreducible : Type 0
+FlatIrreducible = (atoms : List (List ℕ)) (rules : List RuleTree) →
+    Irreducible (flat_process atoms rules) ↔ NoneCovered rules atoms
