@@ -1,27 +1,27 @@
 -- Firings of atoms without links are commits.
-use Rattle.std.proofs.Common.{ℕ, ◌≡◌, ◌+◌, ◌≤◌, ◌⊎◌, Bool, true, false, cond, List, [], ◌∷◌, ◌++◌, map, refl, sym, ◌∙◌, ap, subst, inl, inr, arith}
+use Rattle.std.proofs.Common.{ℕ, ◌≡◌, ◌+◌, ◌≤◌, Bool, true, false, cond, List, [], ◌∷◌, ◌++◌, map, refl, sym, ◌∙◌, ap, subst, inl, arith}
 use Rattle.std.specs.Prelude.{bytes_eq}
 use Rattle.std.proofs.lemmas.Slice.Eq.{bytes_eq-Decides}
 use Rattle.lmn_congruence.specs.Orders.{Among, at_head, further, Put, here, there}
-use Rattle.lmn_congruence.specs.Process.{Process, nothing, atom, pair, rule, occurrences, Linked, Closed, together}
+use Rattle.lmn_congruence.specs.Process.{Process, nothing, atom, pair, rule, occurrences, Linked, together}
 use Rattle.lmn_congruence.specs.Congruence.{same, back}
-use Rattle.lmn_congruence.specs.Rules.{Name, Rule, named, rules_list}
+use Rattle.lmn_congruence.specs.Rules.{Name, named, rules_list}
 use Rattle.lmn_congruence.specs.Plains.{leaf_process}
 use Rattle.lmn_congruence.specs.Fused.{NoConnector}
-use Rattle.lmn_congruence.specs.UpToOrder.{Reordered, r_unit, r_swap, r_regroup, r_beside, r_inside, r_same, r_back, r_chain}
-use Rattle.lmn_congruence.specs.reduction.Assignments.{Assignment, Proper}
+use Rattle.lmn_congruence.specs.UpToOrder.{Reordered, r_unit, r_swap, r_regroup, r_beside, r_back, r_chain}
+use Rattle.lmn_congruence.specs.reduction.Assignments.{Assignment}
 use Rattle.lmn_congruence.specs.reduction.Instances.{LeafInstances, instance, no_leaf, leaf_and, of_atom, no_membrane}
 use Rattle.lmn_congruence.specs.reduction.Guards.{no_condition}
 use Rattle.lmn_congruence.specs.reduction.Firing.{Fires, fires as fires_rule}
 use Rattle.lmn_congruence.specs.reduction.Steps.{Step, leaf, beside, up_to}
-use Rattle.lmn_congruence.specs.reduction.Commits.{Settles, Commit, already}
+use Rattle.lmn_congruence.specs.reduction.Commits.{Commit, already}
 use Rattle.lmn_congruence.proofs.Counts.{linked_left}
 use Rattle.lmn_congruence.proofs.Derivations.{zero_not_one}
 use Rattle.lmn_congruence.proofs.Reordered.{reordered_congruent, r_right}
 use Rattle.lmn_congruence.proofs.SettledProcesses.{no_connector_settled}
 use Rattle.lmn_congruence.proofs.Solids.{put_together}
 use Rattle.lmn_app.specs.FirstGrammar.{RuleTree}
-use Rattle.lmn_app.specs.Processes.{atom_of, flat_level, flat_rule, flat_rules, flat_process}
+use Rattle.lmn_app.specs.Processes.{atom_of, flat_rule, flat_rules, flat_process}
 use Rattle.lmn_app.specs.Firings.{count_of, Covers, without, without_all, fired, Firing, fires, FirstCovered, Chain, no_step, step_after, FiringCommits, FiringsCommit, FlatClosed, FlatSettles}
 
 -- ---- processes without links

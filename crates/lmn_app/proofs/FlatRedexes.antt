@@ -1,11 +1,11 @@
 -- Where no rule is covered by the atoms, no congruent process has a redex: congruence keeps the rules and the
 -- number of atoms of each name.
-use Rattle.std.proofs.Common.{ℕ, ◌≡◌, ◌+◌, ◌≤◌, Bool, true, false, cond, List, [], ◌∷◌, map, refl, sym, ◌∙◌, ap, subst, arith}
+use Rattle.std.proofs.Common.{ℕ, ◌≡◌, ◌+◌, Bool, true, false, cond, List, [], ◌∷◌, map, refl, sym, ◌∙◌, ap, subst, arith}
 use Rattle.std.specs.Prelude.{bytes_eq}
 use Rattle.lmn_congruence.specs.Orders.{Among, at_head, further}
 use Rattle.lmn_congruence.specs.Process.{Process, nothing, connector, atom, pair, membrane, rule, substitute, together}
-use Rattle.lmn_congruence.specs.Congruence.{Congruent, IsAtom, a_connector, an_atom, unit, swap, regroup, rename, beside, inside, loop, turn, absorb, pass, same, back, chain}
-use Rattle.lmn_congruence.specs.Rules.{Name, Label, named, integer, Rule, Leaf, rules_list, head_of}
+use Rattle.lmn_congruence.specs.Congruence.{Congruent, unit, swap, regroup, rename, beside, inside, loop, turn, absorb, pass, same, back, chain}
+use Rattle.lmn_congruence.specs.Rules.{Name, Label, named, integer, Rule, rules_list, head_of}
 use Rattle.lmn_congruence.specs.Plains.{leaf_process}
 use Rattle.lmn_congruence.specs.reduction.Assignments.{Assignment}
 use Rattle.lmn_congruence.specs.reduction.Instances.{LeafInstances, Instance, instance, no_leaf, leaf_and, of_atom, no_membrane}
@@ -14,8 +14,8 @@ use Rattle.lmn_congruence.specs.reduction.Steps.{Step}
 use Rattle.lmn_congruence.specs.reduction.Redexes.{HasRedex, at_top, in_membrane}
 use Rattle.lmn_congruence.proofs.Redexes.{step_shows}
 use Rattle.lmn_app.specs.FirstGrammar.{RuleTree}
-use Rattle.lmn_app.specs.Processes.{atom_of, flat_level, flat_rule, flat_rules, flat_process}
-use Rattle.lmn_app.specs.Firings.{count_of, Covers, NoneCovered, FlatIrreducible}
+use Rattle.lmn_app.specs.Processes.{atom_of, flat_rule, flat_rules, flat_process}
+use Rattle.lmn_app.specs.Firings.{count_of, NoneCovered, FlatIrreducible}
 use Rattle.lmn_app.proofs.FiringLemmas.{firing_commits, flat_settles}
 
 -- ---- the atoms of a name outside membranes

@@ -1,11 +1,11 @@
-use crate::program::Rule;
-use lmn_base::NoMemory;
-
 ghost use Rattle.std.specs.Prelude.{◌≡◌, ◌≤◌, ◌↔◌, IsTrue, OnOk, OnErr, MatchOption, bytes_eq};
 ghost use Rattle.std.specs.List.{position};
 ghost use Rattle.lmn_app.specs.Programs.{names_of, rule_of, rules_of};
 ghost use Rattle.lmn_app.specs.Processes.{flat_process};
 ghost use Rattle.lmn_app.specs.Firings.{count_of, Covers, NoneCovered, FirstCovered, without, fired, Firings, Commits, Stopped};
+
+use crate::program::Rule;
+use lmn_base::NoMemory;
 
 /// The most firings of a run.
 pub(crate) const BUDGET: u64 = 1000;

@@ -1,6 +1,6 @@
-use Rattle.std.proofs.Common.{arith, refl, subst, sym, ap}
+use Rattle.std.proofs.Common.{arith, refl, subst, sym}
 use Rattle.lmn_app.specs.Programs.{names_of, rule_of, rules_of}
-use Rattle.lmn_app.specs.Firings.{FirstCovered, SomeCovered, Firings, no_step}
+use Rattle.lmn_app.specs.Firings.{SomeCovered, Firings, no_step}
 use Rattle.lmn_app.proofs.FiringLemmas.{firings_commit}
 use Rattle.lmn_app.proofs.RunningLemmas.{one_more, all_commit, first_covers, none_stops, at_error, at_value}
 use Rattle.lmn_app.proofs.running.react.Goals as goal

@@ -1,4 +1,4 @@
-use Rattle.std.proofs.Common.{◌≡◌, ◌∙◌, sym, ap}
+use Rattle.std.proofs.Common.{◌∙◌, sym, ap}
 use Rattle.lmn_app.specs.Programs.{names_of}
 use Rattle.lmn_app.proofs.RunningLemmas.{place_in, taken_at, not_there}
 use Rattle.lmn_app.proofs.running.take_out.Goals as goal
