@@ -1,5 +1,5 @@
--- Where no rule is covered by the atoms, no congruent process has a redex: congruence keeps the rules and the
--- number of atoms of each name.
+-- Where no rule is covered by the atoms, no congruent process has a redex: congruence keeps the rules, the
+-- number of atoms of each name, and that there is no membrane.
 use Rattle.std.proofs.Common.{ℕ, ◌≡◌, ◌+◌, Bool, true, false, cond, List, [], ◌∷◌, map, refl, sym, ◌∙◌, ap, subst, arith}
 use Rattle.std.specs.Prelude.{bytes_eq}
 use Rattle.lmn_congruence.specs.Orders.{Among, at_head, further}
@@ -12,84 +12,56 @@ use Rattle.lmn_congruence.specs.reduction.Instances.{LeafInstances, Instance, in
 use Rattle.lmn_congruence.specs.reduction.Firing.{Matches}
 use Rattle.lmn_congruence.specs.reduction.Steps.{Step}
 use Rattle.lmn_congruence.specs.reduction.Redexes.{HasRedex, at_top, in_membrane}
+use Rattle.lmn_congruence.proofs.InnerLink.{AllRules, kept_rules}
 use Rattle.lmn_congruence.proofs.Redexes.{step_shows}
 use Rattle.lmn_app.specs.FirstGrammar.{RuleTree}
 use Rattle.lmn_app.specs.Processes.{atom_of, flat_rule, flat_rules, flat_process}
 use Rattle.lmn_app.specs.Firings.{count_of, NoneCovered, FlatIrreducible}
 use Rattle.lmn_app.proofs.FiringLemmas.{firing_commits, flat_settles}
 
--- ---- the atoms of a name outside membranes
+-- ---- what stands outside membranes, each with a weight
 
+abbrev weight : (Label → ℕ) → ℕ → Process → ℕ
+weight f m nothing = 0
+weight f m (connector x y) = 0
+weight f m (atom a xs) = f a
+weight f m (pair P Q) = weight f m P + weight f m Q
+weight f m (membrane P) = m
+weight f m (rule r) = 0
+
+substituted_weight : (f : Label → ℕ) (m new old : ℕ) (P : Process) → weight f m (substitute new old P) ≡ weight f m P
+substituted_weight f m new old nothing = refl
+substituted_weight f m new old (connector x y) = refl
+substituted_weight f m new old (atom a xs) = refl
+substituted_weight f m new old (pair P Q) = omega (arith, substituted_weight f m new old P, substituted_weight f m new old Q)
+substituted_weight f m new old (membrane P) = refl
+substituted_weight f m new old (rule r) = refl
+
+kept_weight : (f : Label → ℕ) (m : ℕ) {P Q : Process} → Congruent P Q → weight f m P ≡ weight f m Q
+kept_weight f m (unit l) = omega arith
+kept_weight f m (swap l) = omega arith
+kept_weight f m (regroup l) = omega arith
+kept_weight f m (rename {P = P} x y l g h) = sym (substituted_weight f m y x P)
+kept_weight f m (beside d l l') = omega (arith, kept_weight f m d)
+kept_weight f m (inside d) = refl
+kept_weight f m loop = refl
+kept_weight f m turn = refl
+kept_weight f m (absorb {P = P} x y e g l) = omega (arith, substituted_weight f m y x P)
+kept_weight f m (pass x y e l) = omega arith
+kept_weight f m (same l) = refl
+kept_weight f m (back d) = sym (kept_weight f m d)
+kept_weight f m (chain d e) = kept_weight f m d ∙ kept_weight f m e
+
+-- the number of atoms of a name, and that of membranes
 abbrev is_named : Name → Label → ℕ
 is_named n (named m) = cond (bytes_eq m n) 1 0
 is_named n (integer z) = 0
 
 abbrev named_in : Name → Process → ℕ
-named_in n nothing = 0
-named_in n (connector x y) = 0
-named_in n (atom a xs) = is_named n a
-named_in n (pair P Q) = named_in n P + named_in n Q
-named_in n (membrane P) = 0
-named_in n (rule r) = 0
+named_in n P = weight (is_named n) 0 P
 
-substituted_names : (n : Name) (new old : ℕ) (P : Process) → named_in n (substitute new old P) ≡ named_in n P
-substituted_names n new old nothing = refl
-substituted_names n new old (connector x y) = refl
-substituted_names n new old (atom a xs) = refl
-substituted_names n new old (pair P Q) = omega (arith, substituted_names n new old P, substituted_names n new old Q)
-substituted_names n new old (membrane P) = refl
-substituted_names n new old (rule r) = refl
-
-kept_names : (n : Name) {P Q : Process} → Congruent P Q → named_in n P ≡ named_in n Q
-kept_names n (unit l) = omega arith
-kept_names n (swap l) = omega arith
-kept_names n (regroup l) = omega arith
-kept_names n (rename {P = P} x y l f g) = sym (substituted_names n y x P)
-kept_names n (beside d l l') = omega (arith, kept_names n d)
-kept_names n (inside d) = refl
-kept_names n loop = refl
-kept_names n turn = refl
-kept_names n (absorb {P = P} x y e f l) = omega (arith, substituted_names n y x P)
-kept_names n (pass x y e l) = omega arith
-kept_names n (same l) = refl
-kept_names n (back d) = sym (kept_names n d)
-kept_names n (chain d e) = kept_names n d ∙ kept_names n e
-
--- ---- no membrane, and rules of which H holds
-
-abbrev FlatWith : (Rule → Type 0) → Process → Type 0
-FlatWith H nothing = Unit {0}
-FlatWith H (connector x y) = Unit {0}
-FlatWith H (atom a xs) = Unit {0}
-FlatWith H (pair P Q) = FlatWith H P × FlatWith H Q
-FlatWith H (membrane P) = ⊥
-FlatWith H (rule r) = H r
-
-substituted_rules : (H : Rule → Type 0) (new old : ℕ) (P : Process) → (FlatWith H P → FlatWith H (substitute new old P)) × (FlatWith H (substitute new old P) → FlatWith H P)
-substituted_rules H new old nothing = ((λ h. tt), (λ h. tt))
-substituted_rules H new old (connector x y) = ((λ h. tt), (λ h. tt))
-substituted_rules H new old (atom a xs) = ((λ h. tt), (λ h. tt))
-substituted_rules H new old (pair P Q) =
-    let i = substituted_rules H new old P in
-    let j = substituted_rules H new old Q in
-    ((λ h. (i.0 h.0, j.0 h.1)), (λ h. (i.1 h.0, j.1 h.1)))
-substituted_rules H new old (membrane P) = ((λ h. h), (λ h. h))
-substituted_rules H new old (rule r) = ((λ h. h), (λ h. h))
-
-kept_rules : (H : Rule → Type 0) {P Q : Process} → Congruent P Q → (FlatWith H P → FlatWith H Q) × (FlatWith H Q → FlatWith H P)
-kept_rules H (unit l) = ((λ h. h.1), (λ h. (tt, h)))
-kept_rules H (swap l) = ((λ h. (h.1, h.0)), (λ h. (h.1, h.0)))
-kept_rules H (regroup l) = ((λ h. ((h.0, h.1.0), h.1.1)), (λ h. (h.0.0, (h.0.1, h.1))))
-kept_rules H (rename {P = P} x y l f n) = substituted_rules H y x P
-kept_rules H (beside d l l') = let i = kept_rules H d in ((λ h. (i.0 h.0, h.1)), (λ h. (i.1 h.0, h.1)))
-kept_rules H (inside d) = ((λ h. h), (λ h. h))
-kept_rules H loop = ((λ h. tt), (λ h. tt))
-kept_rules H turn = ((λ h. tt), (λ h. tt))
-kept_rules H (absorb {P = P} x y e f l) = let i = substituted_rules H y x P in ((λ h. i.0 h.1), (λ h. (tt, i.1 h)))
-kept_rules H (pass x y e l) = ((λ h. (tt, h)), (λ h. h.1))
-kept_rules H (same l) = ((λ h. h), (λ h. h))
-kept_rules H (back d) = let i = kept_rules H d in (i.1, i.0)
-kept_rules H (chain d e) = let i = kept_rules H d in let j = kept_rules H e in ((λ h. j.0 (i.0 h)), (λ h. i.1 (j.1 h)))
+abbrev membranes_in : Process → ℕ
+membranes_in P = weight (λ a. 0) 1 P
 
 -- ---- a process of atoms without links and rules
 
@@ -104,15 +76,19 @@ named_atoms n (m ∷ ms) = counted (bytes_eq m n) (named_atoms n ms)
     counted true e = omega (arith, e)
     counted false e = omega (arith, e)
 
-no_names : (n : Name) (rules : List RuleTree) → named_in n (together (map rule (rules_list (flat_rules rules)))) ≡ 0
-no_names n [] = refl
-no_names n (r ∷ rs) = omega (arith, no_names n rs)
+no_membrane_in : (atoms : List Name) → membranes_in (together (map leaf_process (map atom_of atoms))) ≡ 0
+no_membrane_in [] = refl
+no_membrane_in (n ∷ ns) = omega (arith, no_membrane_in ns)
 
-all_atoms_flat : (H : Rule → Type 0) (atoms : List Name) → FlatWith H (together (map leaf_process (map atom_of atoms)))
-all_atoms_flat H [] = tt
-all_atoms_flat H (n ∷ ns) = (tt, all_atoms_flat H ns)
+rules_weigh_nothing : (f : Label → ℕ) (m : ℕ) (rules : List RuleTree) → weight f m (together (map rule (rules_list (flat_rules rules)))) ≡ 0
+rules_weigh_nothing f m [] = refl
+rules_weigh_nothing f m (r ∷ rs) = omega (arith, rules_weigh_nothing f m rs)
 
-all_rules_come : (H : Rule → Type 0) (rules : List RuleTree) → ((r : RuleTree) → Among r rules → H (flat_rule r)) → FlatWith H (together (map rule (rules_list (flat_rules rules))))
+atoms_have_no_rule : (H : Rule → Type 0) (atoms : List Name) → AllRules H (together (map leaf_process (map atom_of atoms)))
+atoms_have_no_rule H [] = tt
+atoms_have_no_rule H (n ∷ ns) = (tt, atoms_have_no_rule H ns)
+
+all_rules_come : (H : Rule → Type 0) (rules : List RuleTree) → ((r : RuleTree) → Among r rules → H (flat_rule r)) → AllRules H (together (map rule (rules_list (flat_rules rules))))
 all_rules_come H [] h = tt
 all_rules_come H (r ∷ rs) h = (h r at_head, all_rules_come H rs (λ s a. h s (further a)))
 
@@ -128,20 +104,23 @@ named_head n t r A (instance {Ps = Ps} i no_membrane) = omega (arith, ap (λ Qs.
 head_counted : (n : Name) (r : RuleTree) (q : Rule) (A : Process) → q ≡ flat_rule r → Matches q A → named_in n A ≡ count_of n r.head
 head_counted n r q A e m = named_head n m.assignment r A (subst (λ k. Instance m.assignment (head_of k) A) e m.head)
 
-redex_covered : (rules : List RuleTree) (atoms : List Name) {P : Process} → HasRedex P → FlatWith (Comes rules) P → ((n : Name) → named_in n P ≡ count_of n atoms) → ¬ (NoneCovered rules atoms)
-redex_covered rules atoms (at_top {r = q} {A = A} m) h k none =
+redex_covered : (rules : List RuleTree) (atoms : List Name) {P : Process} → HasRedex P → AllRules (Comes rules) P → membranes_in P ≡ 0 → ((n : Name) → named_in n P ≡ count_of n atoms) → ¬ (NoneCovered rules atoms)
+redex_covered rules atoms (at_top {r = q} {A = A} m) h o k none =
     let c = h.0.1 in
     none c.0 c.1 (λ n. omega (arith, head_counted n c.0 q A c.2 m, k n))
-redex_covered rules atoms (in_membrane d) h k none = h.0
-
-flat_names : (n : Name) (atoms : List Name) (rules : List RuleTree) → named_in n (flat_process atoms rules) ≡ count_of n atoms
-flat_names n atoms rules = omega (arith, named_atoms n atoms, no_names n rules)
+redex_covered rules atoms (in_membrane {Q = Q} d) h o k none = one_not_none (membranes_in Q) o
+  where
+    one_not_none : (n : ℕ) → ¬ (1 + n ≡ 0)
+    one_not_none n = omega arith
 
 no_step : (atoms : List Name) (rules : List RuleTree) → NoneCovered rules atoms → (Q : Process) → ¬ (Step (flat_process atoms rules) Q)
 no_step atoms rules none Q s =
     let k = step_shows s in
-    let flat : FlatWith (Comes rules) (flat_process atoms rules) = (all_atoms_flat (Comes rules) atoms, (tt, all_rules_come (Comes rules) rules (λ r a. (r, a, refl)))) in
-    redex_covered rules atoms k.redex ((kept_rules (Comes rules) k.congruent).0 flat) (λ n. sym (kept_names n k.congruent) ∙ flat_names n atoms rules) none
+    let P = flat_process atoms rules in
+    let come : AllRules (Comes rules) P = (atoms_have_no_rule (Comes rules) atoms, (tt, all_rules_come (Comes rules) rules (λ r a. (r, a, refl)))) in
+    let plain : membranes_in P ≡ 0 = omega (arith, no_membrane_in atoms, rules_weigh_nothing (λ a. 0) 1 rules) in
+    let names : (n : Name) → named_in n P ≡ count_of n atoms = λ n. omega (arith, named_atoms n atoms, rules_weigh_nothing (is_named n) 0 rules) in
+    redex_covered rules atoms k.redex ((kept_rules (Comes rules) k.congruent).0 come) (sym (kept_weight (λ a. 0) 1 k.congruent) ∙ plain) (λ n. sym (kept_weight (is_named n) 0 k.congruent) ∙ names n) none
 
 pub flat_irreducible : FlatIrreducible
 flat_irreducible atoms rules = (
