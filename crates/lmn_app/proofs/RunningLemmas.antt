@@ -19,6 +19,7 @@ use Rattle.lmn_app.specs.Firings.{count_of, without, Covers, SomeCovered, NoneCo
 use Rattle.lmn_app.proofs.FlatRedexes.{flat_irreducible}
 use Rattle.lmn_app.proofs.FiringLemmas.{first_among, firings_commit}
 
+-- `Iterator::count` after `filter`
 pub count_names : (name : List ℕ) (names : List (Bor (List ℕ))) → count_by (λ other. bytes_eq other.now name) names ≡ count_of name (names_of names)
 count_names name names = sym (is_count_by (λ xs. count_of name (names_of xs)) (λ other. bytes_eq other.now name) refl (λ x xs. refl) names)
 
@@ -140,10 +141,12 @@ none_stops rules seen atoms s h =
     let none = subst (λ ns. NoneCovered rules (names_of ns)) s h in
     (none, (flat_irreducible (names_of atoms) rules).1 none)
 
+-- what a call says of its error, where `is_err` answers true
 pub at_error : {T E P : Type 0} (r : Result T E) (b : Bool) → OnErr r P → b ≡ is_err r → b ≡ true → P
 at_error (Ok x) b h e t = absurd (false≢true (sym e ∙ t))
 at_error (Err x) b h e t = h
 
+-- and what it says of its value, where `is_err` answers false
 pub at_value : {T E P : Type 0} (r : Result T E) (b : Bool) → OnOk r P → b ≡ is_err r → b ≡ false → P
 at_value (Ok x) b h e f = h
 at_value (Err x) b h e f = absurd (false≢true (sym f ∙ e))

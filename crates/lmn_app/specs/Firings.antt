@@ -17,6 +17,7 @@ count_of name (other ∷ others) = cond (bytes_eq other name) (1 + count_of name
 abbrev pub Covers : List (List ℕ) → List (List ℕ) → Type 0
 Covers head atoms = (name : List ℕ) → count_of name head ≤ count_of name atoms
 
+-- a rule is covered where its head is
 abbrev pub SomeCovered : List RuleTree → List (List ℕ) → Type 0
 SomeCovered rules atoms = (r : RuleTree) × Among r rules × Covers r.head atoms
 
@@ -33,7 +34,7 @@ abbrev pub without_all : List (List ℕ) → List (List ℕ) → List (List ℕ)
 without_all [] atoms = atoms
 without_all (name ∷ names) atoms = without_all names (without name atoms)
 
--- the atoms after a rule fired
+-- the atoms after a rule fired: its body comes to the end, and the first atoms with the names of its head go
 abbrev pub fired : RuleTree → List (List ℕ) → List (List ℕ)
 fired r atoms = without_all r.head (atoms ++ r.body)
 
@@ -45,7 +46,7 @@ pub record FirstCovered (r : RuleTree) (rules : List RuleTree) (atoms : List (Li
   pub none_before : NoneCovered before atoms
   pub covered : Covers r.head atoms
 
--- the first rule that is covered fires
+-- one turn of a run: the first rule that is covered fires
 pub data Firing (rules : List RuleTree) (atoms : List (List ℕ)) : List (List ℕ) → Type 0 where
   fires : {r : RuleTree} → FirstCovered r rules atoms → Firing rules atoms (fired r atoms)
 

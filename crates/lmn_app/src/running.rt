@@ -21,8 +21,8 @@ pub(crate) enum Stop {
     NoMemory,
 }
 
-/// Fires one rule after another until none can or the budget is done.
-/// Answers why the run stopped and how many rules fired.
+/// Fires the first rule whose head is among the atoms, again and again, until there is none or the budget is done.
+/// Answers why the run stopped and how many rules fired. Each firing is a commit of the calculus.
 pub(crate) fn react<'t>(atoms: &mut Vec<&'t [u8]>, rules: &[Rule<'t>]) -> (Stop, u64)
     ensures firings { Firings result.1 (rules_of rules.now) (names_of atoms.old.items) (names_of atoms.new.items) }
     ensures commits { Commits result.1 (flat_process (names_of atoms.old.items) (rules_of rules.now)) (flat_process (names_of atoms.new.items) (rules_of rules.now)) }
