@@ -68,11 +68,7 @@ flat_settles atoms rules = record {
 
 -- ---- counting
 
--- what `==` tells of names: `b` is its answer
-counted_cases : (b : Bool) (m n : ℕ) → m ≤ n → cond b (1 + m) m ≤ cond b (1 + n) n
-counted_cases true m n h = omega arith
-counted_cases false m n h = h
-
+-- `b` is what `==` tells of two names
 uncounted_cases : (b : Bool) (m n : ℕ) → cond b (1 + m) m ≤ cond b (1 + n) n → m ≤ n
 uncounted_cases true m n h = omega arith
 uncounted_cases false m n h = h

@@ -2,6 +2,7 @@ pub mod AddsLaws
 pub mod ClauseLaws
 pub mod CutsLaws
 pub mod FiringLemmas
+pub mod FlatRedexes
 pub mod GrammarLaws
 pub mod LimitLaws
 pub mod LineLaws

@@ -9,12 +9,18 @@ use Rattle.lmn_app.specs.declared.ending.Ending.TheVariants.{Done, Budget, Refus
 use Rattle.lmn_app.specs.declared.running.Stop.{Stop}
 use Rattle.lmn_app.specs.declared.running.Stop.TheVariants as stop
 use Rattle.lmn_app.specs.Printing.{end_line}
-use Rattle.lmn_app.specs.Stops.{stop_word}
+use Rattle.lmn_app.specs.Stops.{stop_ending, stop_word}
 use Rattle.lmn_app.specs.Runs.{IsRefusal, IsRun, told_text}
 use Rattle.lmn_app.specs.Outcomes.{Causes, Output, Writes, WritesPrefix}
 
-whole_prefix : (text : Option (List ℕ)) (s : Stop) (old new : Option (List ℕ)) → Writes text (stop_word s) old new → WritesPrefix text old new
+whole_prefix : (text : Option (List ℕ)) (s : Stop) (old new : Option (List ℕ)) → Writes text s old new → WritesPrefix text old new
 whole_prefix text s old new w = (w.0, s, w.1, w.2, takes_prefix (w.0 ++ end_line (stop_word s) w.1) old new w.3)
+
+-- the output of a run is that of the ending that its reason gives
+pub reason_output : (s : Stop) (text old new : Option (List ℕ)) (before after : ℕ) → Writes text s old new → Output (stop_ending s) text old new before after
+reason_output stop.Irreducible text old new before after w = w
+reason_output stop.Budget text old new before after w = w
+reason_output stop.NoMemory text old new before after w = inr w
 
 -- with every ending `out` took nothing or a prefix of what a run writes
 pub output_prefix : (e : Ending) (text old new : Option (List ℕ)) (before after : ℕ) → Output e text old new before after → (new ≡ old) ⊎ WritesPrefix text old new
@@ -41,18 +47,18 @@ causes_told ReadFault told name bytes words before after e c = c
 causes_told WriteFault told name bytes words before after e c = c
 causes_told NoMemory told name bytes words before after e c = c
 
-writes_told : (told : Option (List ℕ → Option (List ℕ))) (name bytes word : List ℕ) (old new : Option (List ℕ))
-    → IfSome told (λ text. text name ≡ Some bytes) → Writes (Some bytes) word old new → Writes (told_text told name) word old new
-writes_told told name bytes word old new e w = (w.0, w.1, told_here (λ text. IsRun text w.0 w.1) told name bytes e w.2, w.3)
+writes_told : (told : Option (List ℕ → Option (List ℕ))) (name bytes : List ℕ) (s : Stop) (old new : Option (List ℕ))
+    → IfSome told (λ text. text name ≡ Some bytes) → Writes (Some bytes) s old new → Writes (told_text told name) s old new
+writes_told told name bytes s old new e w = (w.0, w.1, told_here (λ text. IsRun text w.0 s w.1) told name bytes e w.2, w.3)
 
 pub output_told : (e : Ending) (told : Option (List ℕ → Option (List ℕ))) (name bytes : List ℕ) (old new : Option (List ℕ)) (before after : ℕ)
     → IfSome told (λ text. text name ≡ Some bytes) → Output e (Some bytes) old new before after → Output e (told_text told name) old new before after
-output_told Done told name bytes old new before after e o = writes_told told name bytes (codes "irreducible") old new e o
-output_told Budget told name bytes old new before after e o = writes_told told name bytes (codes "budget") old new e o
+output_told Done told name bytes old new before after e o = writes_told told name bytes stop.Irreducible old new e o
+output_told Budget told name bytes old new before after e o = writes_told told name bytes stop.Budget old new e o
 output_told (Refused r) told name bytes old new before after e o = o
 output_told Words told name bytes old new before after e o = o
 output_told ReadFault told name bytes old new before after e o = o
 output_told WriteFault told name bytes old new before after e o =
-    ((o.0.0, o.0.1, o.0.2, told_here (λ text. IsRun text o.0.0 o.0.2) told name bytes e o.0.3, o.0.4), o.1)
+    ((o.0.0, o.0.1, o.0.2, told_here (λ text. IsRun text o.0.0 o.0.1 o.0.2) told name bytes e o.0.3, o.0.4), o.1)
 output_told NoMemory told name bytes old new before after e o =
-    elim o [ inl same ↦ inl same | inr w ↦ inr (writes_told told name bytes (codes "no memory") old new e w) ]
+    elim o [ inl same ↦ inl same | inr w ↦ inr (writes_told told name bytes stop.NoMemory old new e w) ]

@@ -9,14 +9,17 @@ use Rattle.std.proofs.lemmas.List.{take_all, take_more, take-append-drop, map-ap
 use Rattle.std.proofs.Math.Seq.{drop-cons}
 use Rattle.std.proofs.lemmas.List.Recursion.{is_count_by}
 use Rattle.std.proofs.lemmas.Iterator.Adapters.{position_from-zero}
+use Rattle.lmn_congruence.specs.reduction.Commits.{Irreducible}
 use Rattle.lmn_congruence.specs.Orders.{at_head, further}
 use Rattle.lmn_app.specs.FirstGrammar.{RuleTree}
 use Rattle.lmn_app.specs.Programs.{names_of, rule_of, rules_of}
 use Rattle.lmn_app.specs.Processes.{flat_process}
 use Rattle.lmn_app.specs.declared.program.Rule.{Rule}
 use Rattle.lmn_app.specs.Firings.{count_of, without, Covers, SomeCovered, NoneCovered, FirstCovered, fired, Firing, fires, Firings, Commits, step_after}
+use Rattle.lmn_app.proofs.FlatRedexes.{flat_irreducible}
 use Rattle.lmn_app.proofs.FiringLemmas.{first_among, firings_commit}
 
+-- `Iterator::count` after `filter`
 pub count_names : (name : List ℕ) (names : List (Bor (List ℕ))) → count_by (λ other. bytes_eq other.now name) names ≡ count_of name (names_of names)
 count_names name names = sym (is_count_by (λ xs. count_of name (names_of xs)) (λ other. bytes_eq other.now name) refl (λ x xs. refl) names)
 
@@ -133,10 +136,17 @@ all_commit n m rules old new c e = subst (λ k. Commits k (flat_process old rule
 pub first_covers : (r : RuleTree) (rules : List RuleTree) (seen atoms : List (Bor (List ℕ))) → seen ≡ atoms → FirstCovered r rules (names_of seen) → SomeCovered rules (names_of atoms)
 first_covers r rules seen atoms s f = (r, first_among f, subst (λ ns. Covers r.head (names_of ns)) s f.covered)
 
+pub none_stops : (rules : List RuleTree) (seen atoms : List (Bor (List ℕ))) → seen ≡ atoms → NoneCovered rules (names_of seen) → NoneCovered rules (names_of atoms) × Irreducible (flat_process (names_of atoms) rules)
+none_stops rules seen atoms s h =
+    let none = subst (λ ns. NoneCovered rules (names_of ns)) s h in
+    (none, (flat_irreducible (names_of atoms) rules).1 none)
+
+-- what a call says of its error, where `is_err` answers true
 pub at_error : {T E P : Type 0} (r : Result T E) (b : Bool) → OnErr r P → b ≡ is_err r → b ≡ true → P
 at_error (Ok x) b h e t = absurd (false≢true (sym e ∙ t))
 at_error (Err x) b h e t = h
 
+-- and what it says of its value, where `is_err` answers false
 pub at_value : {T E P : Type 0} (r : Result T E) (b : Bool) → OnOk r P → b ≡ is_err r → b ≡ false → P
 at_value (Ok x) b h e f = h
 at_value (Err x) b h e f = absurd (false≢true (sym f ∙ e))

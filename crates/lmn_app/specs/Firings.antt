@@ -1,8 +1,10 @@
 -- How the rules of a process of atoms without links fire, and what that is in the calculus.
-use Rattle.std.specs.Prelude.{◌≡◌, ℕ, ◌+◌, ◌≤◌, List, [], ◌∷◌, ◌++◌, cond, bytes_eq}
+use Rattle.std.specs.Prelude.{◌≡◌, ◌↔◌, ℕ, ◌+◌, ◌≤◌, List, [], ◌∷◌, ◌++◌, cond, bytes_eq}
 use Rattle.lmn_congruence.specs.Orders.{Among}
 use Rattle.lmn_congruence.specs.Process.{Process, Closed}
-use Rattle.lmn_congruence.specs.reduction.Commits.{Settles, Commit}
+use Rattle.lmn_congruence.specs.reduction.Commits.{Settles, Commit, Irreducible}
+use Rattle.lmn_app.specs.declared.running.Stop.{Stop}
+use Rattle.lmn_app.specs.declared.running.Stop.TheVariants as stop
 use Rattle.lmn_app.specs.FirstGrammar.{RuleTree}
 use Rattle.lmn_app.specs.Processes.{flat_process}
 
@@ -15,6 +17,7 @@ count_of name (other ∷ others) = cond (bytes_eq other name) (1 + count_of name
 abbrev pub Covers : List (List ℕ) → List (List ℕ) → Type 0
 Covers head atoms = (name : List ℕ) → count_of name head ≤ count_of name atoms
 
+-- a rule is covered where its head is
 abbrev pub SomeCovered : List RuleTree → List (List ℕ) → Type 0
 SomeCovered rules atoms = (r : RuleTree) × Among r rules × Covers r.head atoms
 
@@ -31,7 +34,7 @@ abbrev pub without_all : List (List ℕ) → List (List ℕ) → List (List ℕ)
 without_all [] atoms = atoms
 without_all (name ∷ names) atoms = without_all names (without name atoms)
 
--- the atoms after a rule fired
+-- the atoms after a rule fired: its body comes to the end, and the first atoms with the names of its head go
 abbrev pub fired : RuleTree → List (List ℕ) → List (List ℕ)
 fired r atoms = without_all r.head (atoms ++ r.body)
 
@@ -43,7 +46,7 @@ pub record FirstCovered (r : RuleTree) (rules : List RuleTree) (atoms : List (Li
   pub none_before : NoneCovered before atoms
   pub covered : Covers r.head atoms
 
--- the first rule that is covered fires
+-- one turn of a run: the first rule that is covered fires
 pub data Firing (rules : List RuleTree) (atoms : List (List ℕ)) : List (List ℕ) → Type 0 where
   fires : {r : RuleTree} → FirstCovered r rules atoms → Firing rules atoms (fired r atoms)
 
@@ -57,6 +60,13 @@ Firings n rules old new = Chain (Firing rules) old n new
 
 abbrev pub Commits : ℕ → Process → Process → Type 0
 Commits n P Q = Chain Commit P n Q
+
+-- Why a run stopped at these atoms after n firings: nothing can happen, or a rule is covered still, and the
+-- budget is done or memory for the rule's body is wanting.
+abbrev pub Stopped : Stop → ℕ → List RuleTree → List (List ℕ) → Type 0
+Stopped stop.Irreducible n rules atoms = NoneCovered rules atoms × Irreducible (flat_process atoms rules)
+Stopped stop.Budget n rules atoms = SomeCovered rules atoms × (n ≡ 1000)
+Stopped stop.NoMemory n rules atoms = SomeCovered rules atoms
 
 -- the firing of a rule that is covered is a commit
 abbrev pub FiringCommits : Type 0
@@ -75,3 +85,8 @@ FlatClosed = (atoms : List (List ℕ)) (rules : List RuleTree) → Closed (flat_
 abbrev pub FlatSettles : Type 0
 FlatSettles = (atoms : List (List ℕ)) (rules : List RuleTree) →
     Settles (flat_process atoms rules) (flat_process atoms rules)
+
+-- and it is irreducible exactly where no rule is covered
+abbrev pub FlatIrreducible : Type 0
+FlatIrreducible = (atoms : List (List ℕ)) (rules : List RuleTree) →
+    Irreducible (flat_process atoms rules) ↔ NoneCovered rules atoms

@@ -1,5 +1,5 @@
 -- What a call leaves behind, for each of its endings.
-use Rattle.std.specs.Prelude.{◌≡◌, ℕ, ◌⊎◌, List, ◌++◌, Option, IfSome, codes}
+use Rattle.std.specs.Prelude.{◌≡◌, ℕ, ◌⊎◌, List, ◌++◌, Option, IfSome}
 use Rattle.std.specs.declared.string.String.{String}
 use Rattle.std.specs.declared.alloc.Global.{Global}
 use Rattle.lmn_io.specs.Counts.{Rose}
@@ -12,15 +12,18 @@ use Rattle.lmn_app.specs.Printing.{end_line}
 use Rattle.lmn_app.specs.Runs.{IsRefusal, IsRun}
 use Rattle.lmn_app.specs.Stops.{stop_word}
 use Rattle.lmn_app.specs.declared.running.Stop.{Stop}
+use Rattle.lmn_app.specs.declared.running.Stop.TheVariants as stop
 
--- The line of a run of the text was taken, and an end line with this word and the number of its firings.
-abbrev pub Writes : Option (List ℕ) → List ℕ → Option (List ℕ) → Option (List ℕ) → Type 0
-Writes text word old new = (printed : List ℕ) × (firings : ℕ) × IfSome text (λ bytes. IsRun bytes printed firings) × Takes (printed ++ end_line word firings) old new
+-- The line of a run of the text was taken, and an end line with the word of why it stopped and the number of its firings.
+abbrev pub Writes : Option (List ℕ) → Stop → Option (List ℕ) → Option (List ℕ) → Type 0
+Writes text reason old new =
+    (printed : List ℕ) × (firings : ℕ) × IfSome text (λ bytes. IsRun bytes printed reason firings) × Takes (printed ++ end_line (stop_word reason) firings) old new
 
 -- a prefix of such lines was taken
 abbrev pub WritesPrefix : Option (List ℕ) → Option (List ℕ) → Option (List ℕ) → Type 0
 WritesPrefix text old new =
-    (printed : List ℕ) × (stop : Stop) × (firings : ℕ) × IfSome text (λ bytes. IsRun bytes printed firings) × TakesPrefix (printed ++ end_line (stop_word stop) firings) old new
+    (printed : List ℕ) × (reason : Stop) × (firings : ℕ) × IfSome text (λ bytes. IsRun bytes printed reason firings)
+    × TakesPrefix (printed ++ end_line (stop_word reason) firings) old new
 
 -- Why a call ends so: what is told of the text, its words, and the count of faults of the file that they name, before
 -- and after.
@@ -35,10 +38,10 @@ Causes NoMemory text words before after = InForm words
 
 -- What `out` took of a run of the text, and its count of faults, before and after.
 abbrev pub Output : Ending → Option (List ℕ) → Option (List ℕ) → Option (List ℕ) → ℕ → ℕ → Type 0
-Output Done text old new before after = Writes text (codes "irreducible") old new
-Output Budget text old new before after = Writes text (codes "budget") old new
+Output Done text old new before after = Writes text stop.Irreducible old new
+Output Budget text old new before after = Writes text stop.Budget old new
 Output (Refused r) text old new before after = new ≡ old
 Output Words text old new before after = new ≡ old
 Output ReadFault text old new before after = new ≡ old
 Output WriteFault text old new before after = WritesPrefix text old new × Rose before after
-Output NoMemory text old new before after = (new ≡ old) ⊎ Writes text (codes "no memory") old new
+Output NoMemory text old new before after = (new ≡ old) ⊎ Writes text stop.NoMemory old new

@@ -2,7 +2,9 @@
 use Rattle.std.specs.Prelude.{◌≡◌, ℕ, ◌<◌, ◌≤◌, ◌⊎◌, List, length, Option, None, Some}
 use Rattle.lmn_base.specs.declared.refusal.Refusal.{Refusal}
 use Rattle.lmn_congruence.specs.Process.{Process, Closed}
-use Rattle.lmn_congruence.specs.reduction.Commits.{Settles}
+use Rattle.lmn_congruence.specs.reduction.Commits.{Settles, Irreducible}
+use Rattle.lmn_app.specs.declared.running.Stop.{Stop}
+use Rattle.lmn_app.specs.declared.running.Stop.TheVariants as stop
 use Rattle.lmn_app.specs.FirstGrammar.{Tree, Reads, WithinLimits, tree_atoms, tree_rules}
 use Rattle.lmn_app.specs.Processes.{flat_process}
 use Rattle.lmn_app.specs.Firings.{Commits}
@@ -37,9 +39,16 @@ IsRefusal text refusal =
     ((text_bytes < length text) × (refusal ≡ at_start 1))
     ⊎ ((length text ≤ text_bytes) × (refusal ≡ at_start 90) × ((tree : Tree) → Reads text tree → WithinLimits tree → ⊥))
 
+-- Why a run stopped at a process, after so many firings. The budget is 1,000 firings.
+abbrev pub EndsBy : Stop → ℕ → Process → Type 0
+EndsBy stop.Irreducible firings P = Irreducible P
+EndsBy stop.Budget firings P = (firings ≡ 1000) × ¬ (Irreducible P)
+EndsBy stop.NoMemory firings P = ¬ (Irreducible P)
+
 -- A line is printed after so many firings of a text: the process of the text settles to a first process, a chain of
--- as many commits leads from it to the process of the line, and the line reads as that process, which is closed.
-pub record IsRun (text printed : List ℕ) (firings : ℕ) : Type 0 where
+-- as many commits leads from it to the process of the line, and the line reads as that process, which is closed. The
+-- run stopped there for this reason.
+pub record IsRun (text printed : List ℕ) (reason : Stop) (firings : ℕ) : Type 0 where
   pub tree : Tree
   pub accepted : Accepts text tree
   pub first : Process
@@ -49,3 +58,4 @@ pub record IsRun (text printed : List ℕ) (firings : ℕ) : Type 0 where
   pub reads_back : Reads printed last
   pub closed : Closed (tree_process last)
   pub commits : Commits firings first (tree_process last)
+  pub ends : EndsBy reason firings (tree_process last)

@@ -1,6 +1,6 @@
 //! The laws of processes of atoms without links: their firings are commits of the calculus.
 
-ghost use Rattle.lmn_app.specs.Firings.{FiringCommits, FiringsCommit, FlatClosed, FlatSettles};
+ghost use Rattle.lmn_app.specs.Firings.{FiringCommits, FiringsCommit, FlatClosed, FlatSettles, FlatIrreducible};
 
 /// The firing of a rule whose head is among the atoms is a commit. So n firings of the strategy are n commits.
 #[tactic(auto, using(crate::proofs::FiringLemmas::firing_commits, crate::proofs::FiringLemmas::firings_commit))]
@@ -14,4 +14,10 @@ pub fn firings_are_commits()
 pub fn flat_processes_are_settled()
     ensures closed { FlatClosed }
     ensures settles { FlatSettles }
+{}
+
+/// The process of atoms without links and of rules is irreducible exactly where no rule's head is among the atoms.
+#[tactic(auto, using(crate::proofs::FlatRedexes::flat_irreducible))]
+pub fn irreducible_where_none_is_covered()
+    ensures { FlatIrreducible }
 {}

@@ -16,5 +16,6 @@ mod words;
 pub use ending::Ending;
 pub use program::{Program, Rule};
 pub use reading::{lines_are_read, one_tree, read, trees_are_spelled};
+pub use running::Stop;
 pub use top::lmn_main;
 pub use words::in_form;

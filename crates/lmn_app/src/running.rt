@@ -2,7 +2,7 @@ ghost use Rattle.std.specs.Prelude.{◌≡◌, ◌≤◌, ◌↔◌, IsTrue, OnO
 ghost use Rattle.std.specs.List.{position};
 ghost use Rattle.lmn_app.specs.Programs.{names_of, rule_of, rules_of};
 ghost use Rattle.lmn_app.specs.Processes.{flat_process};
-ghost use Rattle.lmn_app.specs.Firings.{count_of, Covers, SomeCovered, NoneCovered, FirstCovered, without, fired, Firings, Commits};
+ghost use Rattle.lmn_app.specs.Firings.{count_of, Covers, NoneCovered, FirstCovered, without, fired, Firings, Commits, Stopped};
 
 use crate::program::Rule;
 use lmn_base::NoMemory;
@@ -12,7 +12,7 @@ pub(crate) const BUDGET: u64 = 1000;
 
 /// Why a run stopped.
 #[derive(Clone, Copy, Debug, PartialEq, Eq)]
-pub(crate) enum Stop {
+pub enum Stop {
     /// No rule can fire.
     Irreducible,
     /// The budget is done, and a rule can still fire.
@@ -21,15 +21,13 @@ pub(crate) enum Stop {
     NoMemory,
 }
 
-/// Fires one rule after another until none can or the budget is done.
-/// Answers why the run stopped and how many rules fired.
+/// Fires the first rule whose head is among the atoms, again and again, until there is none or the budget is done.
+/// Answers why the run stopped and how many rules fired. Each firing is a commit of the calculus.
 pub(crate) fn react<'t>(atoms: &mut Vec<&'t [u8]>, rules: &[Rule<'t>]) -> (Stop, u64)
     ensures firings { Firings result.1 (rules_of rules.now) (names_of atoms.old.items) (names_of atoms.new.items) }
     ensures commits { Commits result.1 (flat_process (names_of atoms.old.items) (rules_of rules.now)) (flat_process (names_of atoms.new.items) (rules_of rules.now)) }
     ensures budget { result.1 ≤ 1000 }
-    ensures irreducible { result.0 ≡ Stop.Irreducible → NoneCovered (rules_of rules.now) (names_of atoms.new.items) }
-    ensures spent { result.0 ≡ Stop.Budget → SomeCovered (rules_of rules.now) (names_of atoms.new.items) × (result.1 ≡ 1000) }
-    ensures wanting { result.0 ≡ Stop.NoMemory → SomeCovered (rules_of rules.now) (names_of atoms.new.items) }
+    ensures stopped { Stopped result.0 result.1 (rules_of rules.now) (names_of atoms.new.items) }
 {
     for fired in 0..BUDGET {
         let Some(rule) = ready_rule(rules, atoms.as_slice()) else {

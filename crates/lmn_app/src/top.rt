@@ -9,7 +9,7 @@ ghost use Rattle.lmn_app.specs.Endings.{line_of, refusal_line};
 ghost use Rattle.lmn_app.specs.Outcomes.{Causes, Output, Writes, WritesPrefix};
 ghost use Rattle.lmn_app.specs.Programs.{at_start, IsProcessOf};
 ghost use Rattle.lmn_app.specs.Runs.{Accepts, IsAccepted, IsRefusal, IsRun, told_text};
-ghost use Rattle.lmn_app.specs.Stops.{stop_ending, stop_word};
+ghost use Rattle.lmn_app.specs.Stops.{stop_ending};
 ghost use Rattle.lmn_app.specs.declared.ending.Ending.{Ending};
 
 use crate::conclusion::conclude;
@@ -54,13 +54,18 @@ pub fn lmn_main<F: Shelf, O: Sink, E: Sink>(
     ensures not_accepted { InForm words.now → IfSome (told_text (F.told shelf.old) (file_of words.now)) (λ text.
         ¬ (IsAccepted text) → (result ≡ 2) ⊎ (result ≡ 4) ⊎ (result ≡ 5) ⊎ (result ≡ 6)) }
 
+    // Where nothing fails, an accepted text runs, or memory is wanting.
+    ensures answers { InForm words.now → ¬ (Rose (F.faults shelf.old (file_of words.now)) (F.faults shelf.new (file_of words.now)))
+        → ¬ (Rose (O.faults out.old) (O.faults out.new)) → ¬ (Rose (E.faults err.old) (E.faults err.new))
+        → IfSome (told_text (F.told shelf.old) (file_of words.now)) (λ text. IsAccepted text → (result ≡ 0) ⊎ (result ≡ 1) ⊎ (result ≡ 6)) }
+
     // What `out` took, for each status.
-    ensures out_done { result ≡ 0 → Writes (told_text (F.told shelf.old) (file_of words.now)) (codes "irreducible") (O.told out.old) (O.told out.new) }
-    ensures out_budget { result ≡ 1 → Writes (told_text (F.told shelf.old) (file_of words.now)) (codes "budget") (O.told out.old) (O.told out.new) }
+    ensures out_done { result ≡ 0 → Writes (told_text (F.told shelf.old) (file_of words.now)) Stop.Irreducible (O.told out.old) (O.told out.new) }
+    ensures out_budget { result ≡ 1 → Writes (told_text (F.told shelf.old) (file_of words.now)) Stop.Budget (O.told out.old) (O.told out.new) }
     ensures out_untouched { (result ≡ 2) ⊎ (result ≡ 3) ⊎ (result ≡ 4) → O.told out.new ≡ O.told out.old }
     ensures out_part { result ≡ 5 → (O.told out.new ≡ O.told out.old) ⊎ WritesPrefix (told_text (F.told shelf.old) (file_of words.now)) (O.told out.old) (O.told out.new) }
     ensures out_memory { result ≡ 6 → (O.told out.new ≡ O.told out.old)
-        ⊎ Writes (told_text (F.told shelf.old) (file_of words.now)) (codes "no memory") (O.told out.old) (O.told out.new) }
+        ⊎ Writes (told_text (F.told shelf.old) (file_of words.now)) Stop.NoMemory (O.told out.old) (O.told out.new) }
 
     // What `err` took, for each status but 2.
     ensures err_quiet { (result ≡ 0) ⊎ (result ≡ 1) → E.told err.new ≡ E.told err.old }
@@ -121,7 +126,7 @@ fn run_text<O: Sink>(alloc: Global, text: &[u8], out: &mut O) -> Ending
 /// Lets a program react, and writes its last process and why it stopped.
 fn run_program<O: Sink>(program: Program<'_>, out: &mut O) -> Result<Stop, Failed>
     ensures wrote { (text : List ℕ) (tree : Tree) → Accepts text tree → IsProcessOf program.entry tree →
-        IfOk result (λ stop. Writes (Some text) (stop_word stop) (O.told out.old) (O.told out.new)) }
+        IfOk result (λ stop. Writes (Some text) stop (O.told out.old) (O.told out.new)) }
     ensures prefix { (text : List ℕ) (tree : Tree) → Accepts text tree → IsProcessOf program.entry tree →
         OnErr result (WritesPrefix (Some text) (O.told out.old) (O.told out.new)) }
     ensures rose { OnErr result (Rose (O.faults out.old) (O.faults out.new)) }

@@ -21,7 +21,7 @@ use Rattle.lmn_congruence.proofs.Redexes.{step_shows}
 
 -- ---- the rules of a process, at every depth
 
-abbrev AllRules : (Rule → Type 0) → Process → Type 0
+abbrev pub AllRules : (Rule → Type 0) → Process → Type 0
 AllRules H nothing = Unit {0}
 AllRules H (connector x y) = Unit {0}
 AllRules H (atom l xs) = Unit {0}
@@ -40,7 +40,7 @@ substituted_rules H new old (pair P Q) =
 substituted_rules H new old (membrane P) = substituted_rules H new old P
 substituted_rules H new old (rule r) = ((λ h. h), (λ h. h))
 
-kept_rules : (H : Rule → Type 0) {P Q : Process} → Congruent P Q → (AllRules H P → AllRules H Q) × (AllRules H Q → AllRules H P)
+pub kept_rules : (H : Rule → Type 0) {P Q : Process} → Congruent P Q → (AllRules H P → AllRules H Q) × (AllRules H Q → AllRules H P)
 kept_rules H (unit l) = ((λ h. h.1), (λ h. (tt, h)))
 kept_rules H (swap l) = ((λ h. (h.1, h.0)), (λ h. (h.1, h.0)))
 kept_rules H (regroup l) = ((λ h. ((h.0, h.1.0), h.1.1)), (λ h. (h.0.0, (h.0.1, h.1))))
