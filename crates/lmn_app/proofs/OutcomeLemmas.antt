@@ -1,5 +1,5 @@
 -- What follows from what a call leaves behind.
-use Rattle.std.specs.Prelude.{◌≡◌, ℕ, ◌⊎◌, List, ◌++◌, Option, None, Some, IfSome, codes}
+use Rattle.std.specs.Prelude.{◌≡◌, ℕ, ◌⊎◌, List, ◌++◌, Option, None, Some, IfSome, IsSomeAnd, codes}
 use Rattle.std.proofs.Common.{inl, inr, subst, sym}
 use Rattle.lmn_io.proofs.TakingLemmas.{takes_prefix}
 use Rattle.std.specs.declared.string.String.{String}
@@ -10,20 +10,20 @@ use Rattle.lmn_app.specs.declared.running.Stop.{Stop}
 use Rattle.lmn_app.specs.declared.running.Stop.TheVariants as stop
 use Rattle.lmn_app.specs.Printing.{end_line}
 use Rattle.lmn_app.specs.Stops.{stop_ending, stop_word}
-use Rattle.lmn_app.specs.Runs.{IsRefusal, IsRun, told_text}
+use Rattle.lmn_app.specs.Runs.{IsRefusal, IsRun, IsToldAnd, told_under}
 use Rattle.lmn_app.specs.Outcomes.{Causes, Output, Writes, WritesPrefix}
 
-whole_prefix : (text : Option (List ℕ)) (s : Stop) (old new : Option (List ℕ)) → Writes text s old new → WritesPrefix text old new
+whole_prefix : (text : Option (Option (List ℕ))) (s : Stop) (old new : Option (List ℕ)) → Writes text s old new → WritesPrefix text old new
 whole_prefix text s old new w = (w.0, s, w.1, w.2, takes_prefix (w.0 ++ end_line (stop_word s) w.1) old new w.3)
 
 -- the output of a run is that of the ending that its reason gives
-pub reason_output : (s : Stop) (text old new : Option (List ℕ)) (before after : ℕ) → Writes text s old new → Output (stop_ending s) text old new before after
+pub reason_output : (s : Stop) (text : Option (Option (List ℕ))) (old new : Option (List ℕ)) (before after : ℕ) → Writes text s old new → Output (stop_ending s) text old new before after
 reason_output stop.Irreducible text old new before after w = w
 reason_output stop.Budget text old new before after w = w
 reason_output stop.NoMemory text old new before after w = inr w
 
 -- with every ending `out` took nothing or a prefix of what a run writes
-pub output_prefix : (e : Ending) (text old new : Option (List ℕ)) (before after : ℕ) → Output e text old new before after → (new ≡ old) ⊎ WritesPrefix text old new
+pub output_prefix : (e : Ending) (text : Option (Option (List ℕ))) (old new : Option (List ℕ)) (before after : ℕ) → Output e text old new before after → (new ≡ old) ⊎ WritesPrefix text old new
 output_prefix Done text old new before after o = inr (whole_prefix text stop.Irreducible old new o)
 output_prefix Budget text old new before after o = inr (whole_prefix text stop.Budget old new o)
 output_prefix (Refused r) text old new before after o = inl o
@@ -33,12 +33,12 @@ output_prefix WriteFault text old new before after o = inr o.0
 output_prefix NoMemory text old new before after o = elim o [ inl same ↦ inl same | inr w ↦ inr (whole_prefix text stop.NoMemory old new w) ]
 
 -- what is said of a text is said of what is told under its name, if that is told at all
-told_here : (P : List ℕ → Type 0) (told : Option (List ℕ → Option (List ℕ))) (name bytes : List ℕ) → IfSome told (λ text. text name ≡ Some bytes) → P bytes → IfSome (told_text told name) P
+told_here : (P : List ℕ → Type 0) (told : Option (List ℕ → Option (List ℕ))) (name bytes : List ℕ) → IfSome told (λ text. text name ≡ Some bytes) → P bytes → IsToldAnd (told_under told name) P
 told_here P None name bytes e p = tt
-told_here P (Some text) name bytes e p = subst (λ t. IfSome t P) (sym e) p
+told_here P (Some text) name bytes e p = subst (λ found. IsSomeAnd found P) (sym e) p
 
 pub causes_told : (e : Ending) (told : Option (List ℕ → Option (List ℕ))) (name bytes : List ℕ) (words : List (String Global)) (before after : ℕ)
-    → IfSome told (λ text. text name ≡ Some bytes) → Causes e (Some bytes) words before after → Causes e (told_text told name) words before after
+    → IfSome told (λ text. text name ≡ Some bytes) → Causes e (Some (Some bytes)) words before after → Causes e (told_under told name) words before after
 causes_told Done told name bytes words before after e c = c
 causes_told Budget told name bytes words before after e c = c
 causes_told (Refused r) told name bytes words before after e c = (c.0, told_here (λ text. IsRefusal text r) told name bytes e c.1, c.2)
@@ -48,11 +48,11 @@ causes_told WriteFault told name bytes words before after e c = c
 causes_told NoMemory told name bytes words before after e c = c
 
 writes_told : (told : Option (List ℕ → Option (List ℕ))) (name bytes : List ℕ) (s : Stop) (old new : Option (List ℕ))
-    → IfSome told (λ text. text name ≡ Some bytes) → Writes (Some bytes) s old new → Writes (told_text told name) s old new
+    → IfSome told (λ text. text name ≡ Some bytes) → Writes (Some (Some bytes)) s old new → Writes (told_under told name) s old new
 writes_told told name bytes s old new e w = (w.0, w.1, told_here (λ text. IsRun text w.0 s w.1) told name bytes e w.2, w.3)
 
 pub output_told : (e : Ending) (told : Option (List ℕ → Option (List ℕ))) (name bytes : List ℕ) (old new : Option (List ℕ)) (before after : ℕ)
-    → IfSome told (λ text. text name ≡ Some bytes) → Output e (Some bytes) old new before after → Output e (told_text told name) old new before after
+    → IfSome told (λ text. text name ≡ Some bytes) → Output e (Some (Some bytes)) old new before after → Output e (told_under told name) old new before after
 output_told Done told name bytes old new before after e o = writes_told told name bytes stop.Irreducible old new e o
 output_told Budget told name bytes old new before after e o = writes_told told name bytes stop.Budget old new e o
 output_told (Refused r) told name bytes old new before after e o = o

@@ -1,5 +1,5 @@
 -- What a call leaves behind, for each of its endings.
-use Rattle.std.specs.Prelude.{◌≡◌, ℕ, ◌⊎◌, List, ◌++◌, Option, IfSome}
+use Rattle.std.specs.Prelude.{◌≡◌, ℕ, ◌⊎◌, List, ◌++◌, Option}
 use Rattle.std.specs.declared.string.String.{String}
 use Rattle.std.specs.declared.alloc.Global.{Global}
 use Rattle.lmn_io.specs.Counts.{Rose}
@@ -9,35 +9,35 @@ use Rattle.lmn_app.specs.declared.ending.Ending.TheVariants.{Done, Budget, Refus
 use Rattle.lmn_app.specs.Programs.{at_start}
 use Rattle.lmn_app.specs.Words.{InForm}
 use Rattle.lmn_app.specs.Printing.{end_line}
-use Rattle.lmn_app.specs.Runs.{IsRefusal, IsRun}
+use Rattle.lmn_app.specs.Runs.{IsRefusal, IsRun, IsToldAnd}
 use Rattle.lmn_app.specs.Stops.{stop_word}
 use Rattle.lmn_app.specs.declared.running.Stop.{Stop}
 use Rattle.lmn_app.specs.declared.running.Stop.TheVariants as stop
 
 -- The line of a run of the text was taken, and an end line with the word of why it stopped and the number of its firings.
-abbrev pub Writes : Option (List ℕ) → Stop → Option (List ℕ) → Option (List ℕ) → Type 0
+abbrev pub Writes : Option (Option (List ℕ)) → Stop → Option (List ℕ) → Option (List ℕ) → Type 0
 Writes text reason old new =
-    (printed : List ℕ) × (firings : ℕ) × IfSome text (λ bytes. IsRun bytes printed reason firings) × Takes (printed ++ end_line (stop_word reason) firings) old new
+    (printed : List ℕ) × (firings : ℕ) × IsToldAnd text (λ bytes. IsRun bytes printed reason firings) × Takes (printed ++ end_line (stop_word reason) firings) old new
 
 -- a prefix of such lines was taken
-abbrev pub WritesPrefix : Option (List ℕ) → Option (List ℕ) → Option (List ℕ) → Type 0
+abbrev pub WritesPrefix : Option (Option (List ℕ)) → Option (List ℕ) → Option (List ℕ) → Type 0
 WritesPrefix text old new =
-    (printed : List ℕ) × (reason : Stop) × (firings : ℕ) × IfSome text (λ bytes. IsRun bytes printed reason firings)
+    (printed : List ℕ) × (reason : Stop) × (firings : ℕ) × IsToldAnd text (λ bytes. IsRun bytes printed reason firings)
     × TakesPrefix (printed ++ end_line (stop_word reason) firings) old new
 
 -- Why a call ends so: what is told of the text, its words, and the count of faults of the file that they name, before
 -- and after.
-abbrev pub Causes : Ending → Option (List ℕ) → List (String Global) → ℕ → ℕ → Type 0
+abbrev pub Causes : Ending → Option (Option (List ℕ)) → List (String Global) → ℕ → ℕ → Type 0
 Causes Done text words before after = InForm words
 Causes Budget text words before after = InForm words
-Causes (Refused r) text words before after = InForm words × IfSome text (λ bytes. IsRefusal bytes r) × ((r ≡ at_start 1) ⊎ (r ≡ at_start 90))
+Causes (Refused r) text words before after = InForm words × IsToldAnd text (λ bytes. IsRefusal bytes r) × ((r ≡ at_start 1) ⊎ (r ≡ at_start 90))
 Causes Words text words before after = ¬ (InForm words)
 Causes ReadFault text words before after = InForm words × Rose before after
 Causes WriteFault text words before after = InForm words
 Causes NoMemory text words before after = InForm words
 
 -- What `out` took of a run of the text, and its count of faults, before and after.
-abbrev pub Output : Ending → Option (List ℕ) → Option (List ℕ) → Option (List ℕ) → ℕ → ℕ → Type 0
+abbrev pub Output : Ending → Option (Option (List ℕ)) → Option (List ℕ) → Option (List ℕ) → ℕ → ℕ → Type 0
 Output Done text old new before after = Writes text stop.Irreducible old new
 Output Budget text old new before after = Writes text stop.Budget old new
 Output (Refused r) text old new before after = new ≡ old

@@ -1,5 +1,5 @@
 -- What a run of a text is, as it is printed.
-use Rattle.std.specs.Prelude.{◌≡◌, ℕ, ◌<◌, ◌≤◌, ◌⊎◌, List, length, Option, None, Some}
+use Rattle.std.specs.Prelude.{◌≡◌, ℕ, ◌<◌, ◌≤◌, ◌⊎◌, List, length, Option, None, Some, IfSome, IsSomeAnd}
 use Rattle.lmn_base.specs.declared.refusal.Refusal.{Refusal}
 use Rattle.lmn_congruence.specs.Process.{Process, Closed}
 use Rattle.lmn_congruence.specs.reduction.Commits.{Settles, Irreducible}
@@ -11,10 +11,18 @@ use Rattle.lmn_app.specs.Firings.{Commits}
 use Rattle.lmn_app.specs.Lines.{line}
 use Rattle.lmn_app.specs.Programs.{at_start}
 
--- the text that is told under a name, if one is
-abbrev pub told_text : Option (List ℕ → Option (List ℕ)) → List ℕ → Option (List ℕ)
-told_text None name = None
-told_text (Some text) name = text name
+-- what a map of texts, if one is told, has under a name
+abbrev pub told_under : Option (List ℕ → Option (List ℕ)) → List ℕ → Option (Option (List ℕ))
+told_under None name = None
+told_under (Some texts) name = Some (texts name)
+
+-- where a map is told, the text is there, and this holds of it
+abbrev pub IsToldAnd : Option (Option (List ℕ)) → (List ℕ → Type 0) → Type 0
+IsToldAnd told P = IfSome told (λ found. IsSomeAnd found P)
+
+-- where a map is told and the text is there, this holds of it
+abbrev pub IfTold : Option (Option (List ℕ)) → (List ℕ → Type 0) → Type 0
+IfTold told P = IfSome told (λ found. IfSome found P)
 
 -- the process of the tree that a text spells
 abbrev pub tree_process : Tree → Process

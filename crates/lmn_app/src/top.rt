@@ -1,4 +1,4 @@
-ghost use Rattle.std.specs.Prelude.{◌≡◌, ◌≤◌, ◌⊎◌, ℕ, List, Option, Some, String, codes, length, string_bytes, IfOk, IfSome, OnErr};
+ghost use Rattle.std.specs.Prelude.{◌≡◌, ◌≤◌, ◌⊎◌, ℕ, List, Option, Some, String, codes, length, string_bytes, IfOk, OnErr};
 ghost use Rattle.std.specs.declared.alloc.Global.{Global};
 ghost use Rattle.lmn_io.specs.Counts.{Rose};
 ghost use Rattle.lmn_io.specs.Taking.{Takes, TakesPrefix};
@@ -8,7 +8,7 @@ ghost use Rattle.lmn_app.specs.Words.{InForm, file_of};
 ghost use Rattle.lmn_app.specs.Endings.{line_of, refusal_line};
 ghost use Rattle.lmn_app.specs.Outcomes.{Causes, Output, Writes, WritesPrefix};
 ghost use Rattle.lmn_app.specs.Programs.{at_start, IsProcessOf};
-ghost use Rattle.lmn_app.specs.Runs.{Accepts, IsAccepted, IsRefusal, IsRun, told_text};
+ghost use Rattle.lmn_app.specs.Runs.{Accepts, IsAccepted, IsRefusal, IfTold, IsToldAnd, told_under};
 ghost use Rattle.lmn_app.specs.Stops.{stop_ending};
 ghost use Rattle.lmn_app.specs.declared.ending.Ending.{Ending};
 
@@ -49,23 +49,23 @@ pub fn lmn_main<F: Shelf, O: Sink, E: Sink>(
     ensures write { result ≡ 5 → Rose (O.faults out.old) (O.faults out.new) ⊎ Rose (E.faults err.old) (E.faults err.new) }
 
     // Status 2 comes where the text isn't accepted; 4, 5 and 6 alone take its place.
-    ensures refused { result ≡ 2 → (refusal : Refusal) × IfSome (told_text (F.told shelf.old) (file_of words.now)) (λ text. IsRefusal text refusal)
+    ensures refused { result ≡ 2 → (refusal : Refusal) × IsToldAnd (told_under (F.told shelf.old) (file_of words.now)) (λ text. IsRefusal text refusal)
         × ((refusal ≡ at_start 1) ⊎ (refusal ≡ at_start 90)) × Takes (refusal_line refusal) (E.told err.old) (E.told err.new) }
-    ensures not_accepted { InForm words.now → IfSome (told_text (F.told shelf.old) (file_of words.now)) (λ text.
+    ensures not_accepted { InForm words.now → IfTold (told_under (F.told shelf.old) (file_of words.now)) (λ text.
         ¬ (IsAccepted text) → (result ≡ 2) ⊎ (result ≡ 4) ⊎ (result ≡ 5) ⊎ (result ≡ 6)) }
 
     // Where nothing fails, an accepted text runs, or memory is wanting.
     ensures answers { InForm words.now → ¬ (Rose (F.faults shelf.old (file_of words.now)) (F.faults shelf.new (file_of words.now)))
         → ¬ (Rose (O.faults out.old) (O.faults out.new)) → ¬ (Rose (E.faults err.old) (E.faults err.new))
-        → IfSome (told_text (F.told shelf.old) (file_of words.now)) (λ text. IsAccepted text → (result ≡ 0) ⊎ (result ≡ 1) ⊎ (result ≡ 6)) }
+        → IfTold (told_under (F.told shelf.old) (file_of words.now)) (λ text. IsAccepted text → (result ≡ 0) ⊎ (result ≡ 1) ⊎ (result ≡ 6)) }
 
     // What `out` took, for each status.
-    ensures out_done { result ≡ 0 → Writes (told_text (F.told shelf.old) (file_of words.now)) Stop.Irreducible (O.told out.old) (O.told out.new) }
-    ensures out_budget { result ≡ 1 → Writes (told_text (F.told shelf.old) (file_of words.now)) Stop.Budget (O.told out.old) (O.told out.new) }
+    ensures out_done { result ≡ 0 → Writes (told_under (F.told shelf.old) (file_of words.now)) Stop.Irreducible (O.told out.old) (O.told out.new) }
+    ensures out_budget { result ≡ 1 → Writes (told_under (F.told shelf.old) (file_of words.now)) Stop.Budget (O.told out.old) (O.told out.new) }
     ensures out_untouched { (result ≡ 2) ⊎ (result ≡ 3) ⊎ (result ≡ 4) → O.told out.new ≡ O.told out.old }
-    ensures out_part { result ≡ 5 → (O.told out.new ≡ O.told out.old) ⊎ WritesPrefix (told_text (F.told shelf.old) (file_of words.now)) (O.told out.old) (O.told out.new) }
+    ensures out_part { result ≡ 5 → (O.told out.new ≡ O.told out.old) ⊎ WritesPrefix (told_under (F.told shelf.old) (file_of words.now)) (O.told out.old) (O.told out.new) }
     ensures out_memory { result ≡ 6 → (O.told out.new ≡ O.told out.old)
-        ⊎ Writes (told_text (F.told shelf.old) (file_of words.now)) Stop.NoMemory (O.told out.old) (O.told out.new) }
+        ⊎ Writes (told_under (F.told shelf.old) (file_of words.now)) Stop.NoMemory (O.told out.old) (O.told out.new) }
 
     // What `err` took, for each status but 2.
     ensures err_quiet { (result ≡ 0) ⊎ (result ≡ 1) → E.told err.new ≡ E.told err.old }
@@ -75,7 +75,7 @@ pub fn lmn_main<F: Shelf, O: Sink, E: Sink>(
     ensures err_part { result ≡ 5 →
         (TakesPrefix (codes "lmn: write failed\n") (E.told err.old) (E.told err.new) × Rose (O.faults out.old) (O.faults out.new))
         ⊎ (Rose (E.faults err.old) (E.faults err.new) × ((ending : Ending)
-            × Causes ending (told_text (F.told shelf.old) (file_of words.now)) words.now (F.faults shelf.old (file_of words.now)) (F.faults shelf.new (file_of words.now))
+            × Causes ending (told_under (F.told shelf.old) (file_of words.now)) words.now (F.faults shelf.old (file_of words.now)) (F.faults shelf.new (file_of words.now))
             × TakesPrefix (line_of ending) (E.told err.old) (E.told err.new))) }
 {
     let ending = act(alloc, words, shelf, out);
@@ -84,8 +84,8 @@ pub fn lmn_main<F: Shelf, O: Sink, E: Sink>(
 
 /// Does what the words ask for, and says how it ended.
 fn act<F: Shelf, O: Sink>(alloc: Global, words: &[String], shelf: &mut F, out: &mut O) -> Ending
-    ensures causes { Causes result (told_text (F.told shelf.old) (file_of words.now)) words.now (F.faults shelf.old (file_of words.now)) (F.faults shelf.new (file_of words.now)) }
-    ensures output { Output result (told_text (F.told shelf.old) (file_of words.now)) (O.told out.old) (O.told out.new) (O.faults out.old) (O.faults out.new) }
+    ensures causes { Causes result (told_under (F.told shelf.old) (file_of words.now)) words.now (F.faults shelf.old (file_of words.now)) (F.faults shelf.new (file_of words.now)) }
+    ensures output { Output result (told_under (F.told shelf.old) (file_of words.now)) (O.told out.old) (O.told out.new) (O.faults out.old) (O.faults out.new) }
 {
     match words {
         [_, file] if in_form(words) => run(alloc, file.as_str(), shelf, out),
@@ -96,8 +96,8 @@ fn act<F: Shelf, O: Sink>(alloc: Global, words: &[String], shelf: &mut F, out: &
 /// Fetches a text and runs it.
 fn run<F: Shelf, O: Sink>(alloc: Global, file: &str, shelf: &mut F, out: &mut O) -> Ending
     ensures causes { (words : List (String Global)) → InForm words →
-        Causes result (told_text (F.told shelf.old) file.now) words (F.faults shelf.old file.now) (F.faults shelf.new file.now) }
-    ensures output { Output result (told_text (F.told shelf.old) file.now) (O.told out.old) (O.told out.new) (O.faults out.old) (O.faults out.new) }
+        Causes result (told_under (F.told shelf.old) file.now) words (F.faults shelf.old file.now) (F.faults shelf.new file.now) }
+    ensures output { Output result (told_under (F.told shelf.old) file.now) (O.told out.old) (O.told out.new) (O.faults out.old) (O.faults out.new) }
 {
     match shelf.fetch(alloc, file, TEXT_BYTES) {
         Ok(Fetched::Whole(text)) => run_text(alloc, text.as_slice(), out),
@@ -110,8 +110,8 @@ fn run<F: Shelf, O: Sink>(alloc: Global, file: &str, shelf: &mut F, out: &mut O)
 /// Reads a text and runs it.
 fn run_text<O: Sink>(alloc: Global, text: &[u8], out: &mut O) -> Ending
     requires { length text.now ≤ 4194304 }
-    ensures causes { (words : List (String Global)) (before after : ℕ) → InForm words → Causes result (Some text.now) words before after }
-    ensures output { Output result (Some text.now) (O.told out.old) (O.told out.new) (O.faults out.old) (O.faults out.new) }
+    ensures causes { (words : List (String Global)) (before after : ℕ) → InForm words → Causes result (Some (Some text.now)) words before after }
+    ensures output { Output result (Some (Some text.now)) (O.told out.old) (O.told out.new) (O.faults out.old) (O.faults out.new) }
 {
     match reading::read(alloc, text) {
         Ok(program) => match run_program(program, out) {
@@ -126,9 +126,9 @@ fn run_text<O: Sink>(alloc: Global, text: &[u8], out: &mut O) -> Ending
 /// Lets a program react, and writes its last process and why it stopped.
 fn run_program<O: Sink>(program: Program<'_>, out: &mut O) -> Result<Stop, Failed>
     ensures wrote { (text : List ℕ) (tree : Tree) → Accepts text tree → IsProcessOf program.entry tree →
-        IfOk result (λ stop. Writes (Some text) stop (O.told out.old) (O.told out.new)) }
+        IfOk result (λ stop. Writes (Some (Some text)) stop (O.told out.old) (O.told out.new)) }
     ensures prefix { (text : List ℕ) (tree : Tree) → Accepts text tree → IsProcessOf program.entry tree →
-        OnErr result (WritesPrefix (Some text) (O.told out.old) (O.told out.new)) }
+        OnErr result (WritesPrefix (Some (Some text)) (O.told out.old) (O.told out.new)) }
     ensures rose { OnErr result (Rose (O.faults out.old) (O.faults out.new)) }
 {
     let Program { atoms, rules } = program;

@@ -10,7 +10,7 @@ pub returns-in_err-print_run-clause-prefix : goal.returns-in_err-print_run-claus
 returns-in_err-print_run-clause-prefix g c = λ text tree accepted same.
     let run = program_printed text tree c.args.program c.react-stop.result.0 c.react-stop.result.1 c.into_vec-atoms.result.items c.react-stop.new.atoms.items c.as_slice-2.result.now c.as_slice.result.now c.as_slice-3.result.now
     accepted same c.into_vec-atoms.ensures c.as_slice.ensures c.as_slice-2.ensures.value c.as_slice-3.ensures c.react-stop.ensures.firings c.react-stop.ensures.stopped in
-    let part : WritesPrefix (Some text) (g.O.Sink.told c.args.out.now) (g.O.Sink.told c.print_run.new.out) =
+    let part : WritesPrefix (Some (Some text)) (g.O.Sink.told c.args.out.now) (g.O.Sink.told c.print_run.new.out) =
     (line (names_of c.as_slice-2.result.now) (rules_of c.as_slice-3.result.now), c.react-stop.result.0, c.react-stop.result.1, run, c.in_err-print_run.ensures.prefix)
     in search rules
 
