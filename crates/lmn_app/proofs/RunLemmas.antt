@@ -73,6 +73,8 @@ run_printed text tree reason n atoms accepted firings stopped =
       closed = flat_closed (tree_atoms last) (tree_rules last);
       commits = rw (same_atoms, same_rules) (firings_commit n (tree_rules tree) (tree_atoms tree) atoms firings);
       ends = rw (same_atoms, same_rules) (stopped_ends reason n (tree_rules tree) atoms stopped);
+      turns = rw same_atoms firings;
+      rules_stay = same_rules;
     }
 
 -- what is printed of a program after firings is printed of the text that it was read from

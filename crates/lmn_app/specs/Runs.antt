@@ -7,7 +7,7 @@ use Rattle.lmn_app.specs.declared.running.Stop.{Stop}
 use Rattle.lmn_app.specs.declared.running.Stop.TheVariants as stop
 use Rattle.lmn_app.specs.FirstGrammar.{Tree, Reads, WithinLimits, tree_atoms, tree_rules}
 use Rattle.lmn_app.specs.Processes.{flat_process}
-use Rattle.lmn_app.specs.Firings.{Commits}
+use Rattle.lmn_app.specs.Firings.{Commits, Firings}
 use Rattle.lmn_app.specs.Lines.{line}
 use Rattle.lmn_app.specs.Programs.{at_start}
 
@@ -55,7 +55,8 @@ EndsBy stop.NoMemory firings P = ¬ (Irreducible P)
 
 -- A line is printed after so many firings of a text: the process of the text settles to a first process, a chain of
 -- as many commits leads from it to the process of the line, and the line reads as that process, which is closed. The
--- run stopped there for this reason.
+-- run stopped there for this reason. Which commits these are the strategy says: the turns lead from the atoms of the
+-- text to those of the line, and the rules stay.
 pub record IsRun (text printed : List ℕ) (reason : Stop) (firings : ℕ) : Type 0 where
   pub tree : Tree
   pub accepted : Accepts text tree
@@ -67,3 +68,5 @@ pub record IsRun (text printed : List ℕ) (reason : Stop) (firings : ℕ) : Typ
   pub closed : Closed (tree_process last)
   pub commits : Commits firings first (tree_process last)
   pub ends : EndsBy reason firings (tree_process last)
+  pub turns : Firings firings (tree_rules tree) (tree_atoms tree) (tree_atoms last)
+  pub rules_stay : tree_rules last ≡ tree_rules tree
