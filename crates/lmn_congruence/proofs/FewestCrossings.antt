@@ -18,7 +18,7 @@ with_image v z f y = cond (eqb (v y) z) (f y) 0
 image_sum : (v : ℕ → ℕ) (z : ℕ) (f g : ℕ → ℕ) (y : ℕ) → with_image v z (λ y. f y + g y) y ≡ with_image v z f y + with_image v z g y
 image_sum v z f g y = grind arith
 
-total_image_sum : (n : ℕ) (v : ℕ → ℕ) (z : ℕ) (f g : ℕ → ℕ) → total n (with_image v z (λ y. f y + g y)) ≡ total n (with_image v z f) + total n (with_image v z g)
+pub total_image_sum : (n : ℕ) (v : ℕ → ℕ) (z : ℕ) (f g : ℕ → ℕ) → total n (with_image v z (λ y. f y + g y)) ≡ total n (with_image v z f) + total n (with_image v z g)
 total_image_sum n v z f g = total_same n _ _ (λ y b. image_sum v z f g y) ∙ total_sum n (with_image v z f) (with_image v z g)
 
 image_zero : (v : ℕ → ℕ) (z y : ℕ) → with_image v z (λ y. 0) y ≡ 0
@@ -48,7 +48,7 @@ image_count n v z (membrane P) b = image_count n v z P b
 image_count n v z (rule r) b = total_zero n _ (λ y. image_zero v z y)
 
 -- the two links of a connector add an even number of places
-image_even : (v : ℕ → ℕ) (z : ℕ) (P : Process) → Joins v P → (k : ℕ) × (occurrences z (renamed v P) ≡ occurrences z (fused v P) + k * 2)
+pub image_even : (v : ℕ → ℕ) (z : ℕ) (P : Process) → Joins v P → (k : ℕ) × (occurrences z (renamed v P) ≡ occurrences z (fused v P) + k * 2)
 image_even v z nothing h = (0, refl)
 image_even v z (connector x y) h = (one_if_same z (v x), rw (← h) (omega arith))
 image_even v z (atom a xs) h = (0, omega arith)

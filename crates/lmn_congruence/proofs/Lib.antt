@@ -17,6 +17,7 @@ pub mod SettledProcesses
 pub mod Merges
 pub mod SettledForms
 pub mod Plains
+pub mod OneSolid
 pub mod Derivations
 pub mod ExampleSteps
 pub mod Redexes

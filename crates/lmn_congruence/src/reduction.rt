@@ -23,8 +23,9 @@ pub fn closed_settles_once()
     ensures once { SettlesOnce }
 {}
 
-/// A plain whose process is closed has a solid, and one alone up to the numbers of links.
-#[tactic(auto, using(crate::proofs::Plains::plain_has_solid, crate::proofs::Plains::solid_is_one))]
+/// A top whose process is closed has a solid, and one alone up to the numbers of links: another one has the
+/// same lists in the same order, its links renamed one to one.
+#[tactic(auto, using(crate::proofs::Plains::plain_has_solid, crate::proofs::OneSolid::solid_is_one))]
 pub fn plain_has_one_solid()
     ensures has { PlainHasSolid }
     ensures one { SolidIsOne }
