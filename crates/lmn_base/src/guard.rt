@@ -57,7 +57,8 @@ pub enum Cmp {
 pub enum Cond {
     /// A condition with a name, as `int($x)`.
     Kind {
-        /// The number of its name: 1 for `int`, 2 for `unary`, 3 for `ground`.
+        /// The number of its name. The conditions of the language are `INT_NAME`, `UNARY_NAME` and
+        /// `GROUND_NAME`, each of one context; any other stands for a condition that never holds.
         name: u32,
         /// The contexts in its parentheses.
         args: Rows<CtxUse>,

@@ -16,7 +16,7 @@ mod solid;
 #[cfg(test)]
 mod tests;
 
-pub use functor::{Functor, Label};
+pub use functor::{CONNECTOR_NAME, Functor, GROUND_NAME, INT_NAME, Label, UNARY_NAME};
 pub use guard::{Arith, Cmp, Cond, Expr};
 pub use level::{CtxUse, Leaf, Level, Occ};
 pub use memory::NoMemory;

@@ -1,6 +1,9 @@
 -- The values that the program keeps, as trees, regions and processes. `names` has the bytes of each name by
--- its number, and `table` the rules by theirs. Places in the text are left out.
-use Rattle.std.specs.Prelude.{ℕ, zero, suc, ◌+◌, ◌-◌, List, [], ◌∷◌, map, slice_index_or}
+-- its number, and `table` the rules by theirs. Both are meant of lists that hold every number in use: of names
+-- `NamesPlain` and `NamesSolid` of `lmn_base` say so, of rules `IsWellMade` and `HasRules`. Places in the text
+-- are left out.
+use Rattle.std.specs.Prelude.{ℕ, zero, ◌+◌, ◌-◌, ◌==◌, if◌then◌else◌, List, [], ◌∷◌, map, slice_index_or}
+use Rattle.lmn_base.specs.declared.functor.TheConstants.{INT_NAME, UNARY_NAME, GROUND_NAME}
 use Rattle.lmn_base.specs.declared.functor.Label.{Label}
 use Rattle.lmn_base.specs.declared.functor.Label.TheVariants.{Name, Int}
 use Rattle.lmn_base.specs.declared.level.CtxUse.{CtxUse}
@@ -24,6 +27,7 @@ use Rattle.lmn_base.specs.declared.solid.SolidAtom.{SolidAtom}
 use Rattle.lmn_base.specs.declared.solid.Region.TheOpen.{Region-F}
 use Rattle.lmn_base.specs.declared.solid.Region.TheFolds.{fold-Region}
 use Rattle.lmn_base.specs.declared.solid.Solid.{Solid}
+use Rattle.lmn_base.specs.Solids.{IsSolid}
 use Rattle.lmn_congruence.specs.Process.{Process}
 use Rattle.lmn_congruence.specs.Rules as tree
 use Rattle.lmn_congruence.specs.Regions as solid
@@ -89,11 +93,13 @@ comparison_of Ge = tree.at_least
 comparison_of Eq = tree.equal
 comparison_of Ne = tree.unequal
 
--- the conditions `int`, `unary` and `ground` have the names 1, 2 and 3, and one context
+-- the conditions `int`, `unary` and `ground` have one context
 abbrev pub kind_of : List tree.Name → ℕ → List CtxUse → tree.Condition
-kind_of names (suc zero) (u ∷ []) = tree.is_kind tree.int (name_of names u.name)
-kind_of names (suc (suc zero)) (u ∷ []) = tree.is_kind tree.unary (name_of names u.name)
-kind_of names (suc (suc (suc zero))) (u ∷ []) = tree.is_kind tree.grounded (name_of names u.name)
+kind_of names n (u ∷ []) =
+    if n == INT_NAME then tree.is_kind tree.int (name_of names u.name)
+    else if n == UNARY_NAME then tree.is_kind tree.unary (name_of names u.name)
+    else if n == GROUND_NAME then tree.is_kind tree.grounded (name_of names u.name)
+    else tree.unknown (name_of names n) (names_of names (u ∷ []))
 kind_of names n us = tree.unknown (name_of names n) (names_of names us)
 
 abbrev pub condition_of : List tree.Name → Cond → tree.Condition
@@ -146,10 +152,11 @@ region_of names table s = fold-Region solid.Region (region_step names (rule_of n
 abbrev pub solid_process : List tree.Name → List RuleTree → Solid → Process
 solid_process names table s = solid.region_process (region_of names table s)
 
--- s is the solid of the plain, up to the numbers of links
-abbrev pub IsSolidOf : List tree.Name → Plain → Solid → Type 0
-IsSolidOf names p s = SolidOf (top_of names p) (region_of names p.rules s)
+-- s is the solid of the plain: a solid, whose region is one of the plain's top
+pub record IsSolidOf (names : List tree.Name) (p : Plain) (s : Solid) : Type 0 where
+  pub is_solid : IsSolid s
+  pub of_top : SolidOf (top_of names p) (region_of names p.rules s)
 
--- equal up to the order of lists and the numbers of links
-abbrev pub SameSolid : List tree.Name → List RuleTree → Solid → Solid → Type 0
-SameSolid names table s s' = Same (region_of names table s) (region_of names table s')
+-- equal up to the order of lists and the numbers of links, names and rules; each solid has its own names and rules
+abbrev pub SameSolid : List tree.Name → List RuleTree → Solid → List tree.Name → List RuleTree → Solid → Type 0
+SameSolid names table s names' table' s' = Same (region_of names table s) (region_of names' table' s')

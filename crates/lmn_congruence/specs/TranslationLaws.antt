@@ -1,14 +1,15 @@
-use Rattle.std.specs.Prelude.{ℕ, ◌≡◌, ◌==◌, List, slice_get, Some, count_by}
+use Rattle.std.specs.Prelude.{ℕ, ◌≡◌, ◌↔◌, ◌==◌, List, slice_get, Some, count_by}
 use Rattle.lmn_base.specs.declared.level.Level.{Level}
 use Rattle.lmn_base.specs.declared.rule.RuleTree.{RuleTree}
 use Rattle.lmn_base.specs.declared.rule.Plain.{Plain}
 use Rattle.lmn_base.specs.declared.solid.Solid.{Solid}
 use Rattle.lmn_base.specs.Levels.{links_of}
-use Rattle.lmn_base.specs.Solids.{items_of, links_of as solid_links}
-use Rattle.lmn_base.specs.WellMade.{IsWellMade}
-use Rattle.lmn_congruence.specs.Process.{occurrences}
+use Rattle.lmn_base.specs.Solids.{items_of, links_of as solid_links, IsSolid}
+use Rattle.lmn_base.specs.Links.{EachTwice}
+use Rattle.lmn_base.specs.WellMade.{IsWellMade, IsLinkedRule}
+use Rattle.lmn_congruence.specs.Process.{occurrences, Closed}
 use Rattle.lmn_congruence.specs.Rules.{Name, Rule}
-use Rattle.lmn_congruence.specs.LinkedRules.{level_occurrences}
+use Rattle.lmn_congruence.specs.LinkedRules.{level_occurrences, LinkedRule}
 use Rattle.lmn_congruence.specs.Regions.{items}
 use Rattle.lmn_congruence.specs.Translation.{level_of, rule_tree, rule_of, plain_process, region_of, solid_process}
 
@@ -31,3 +32,17 @@ SolidLinksKept = (names : List Name) (table : List RuleTree) (s : Solid) (x : �
 -- a solid has as many items as its region
 abbrev pub ItemsKept : Type 0
 ItemsKept = (names : List Name) (table : List RuleTree) (s : Solid) → items (region_of names table s) ≡ items_of s
+
+-- a rule is linked exactly where its tree is
+abbrev pub LinkedRulesKept : Type 0
+LinkedRulesKept = (names : List Name) (number : ℕ → Rule) (r : RuleTree) →
+    IsLinkedRule r ↔ LinkedRule (rule_tree names number r)
+
+-- the process of a solid is closed
+abbrev pub SolidsClosed : Type 0
+SolidsClosed = (names : List Name) (table : List RuleTree) (s : Solid) → IsSolid s → Closed (solid_process names table s)
+
+-- and that of a plain exactly where each link of its top stands there twice
+abbrev pub PlainsClosed : Type 0
+PlainsClosed = (names : List Name) (p : Plain) → IsWellMade p →
+    EachTwice (links_of p.top) ↔ Closed (plain_process names p)
