@@ -76,7 +76,8 @@ pub enum Cond {
         /// The place of its sign in the text.
         pos: Pos,
     },
-    /// `$x = E`: the contexts are equal as rooted graphs, or the left one is bound to a value.
+    /// `$x = E`. Where `$x` stands in the head, E is a context of the head too, and both are ground and
+    /// equal as rooted graphs. Else `$x` is bound to the value of E.
     Equal {
         /// The context on the left.
         left: CtxUse,
@@ -85,7 +86,8 @@ pub enum Cond {
         /// The place of its sign in the text.
         pos: Pos,
     },
-    /// `$x \= $y`: the contexts differ as rooted graphs.
+    /// `$x \= $y`: both contexts stand in the head, and they are ground and differ as rooted graphs. It
+    /// doesn't hold where one isn't ground.
     Differ {
         /// The context on the left.
         left: CtxUse,

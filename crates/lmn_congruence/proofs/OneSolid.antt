@@ -5,7 +5,7 @@ use Rattle.lmn_congruence.specs.Links.{one_if_same, places}
 use Rattle.lmn_congruence.specs.Process.{Process, nothing, connector, atom, pair, membrane, rule, occurrences, Linked, Closed, renamed, together}
 use Rattle.lmn_congruence.specs.Rules.{Rule, Leaf, atom_leaf, connector_leaf, typed_leaf, Level, level, Levels, no_level, level_and, rules_list}
 use Rattle.lmn_congruence.specs.Fused.{Joins, fused}
-use Rattle.lmn_congruence.specs.FreeLinks.{total, top_of}
+use Rattle.lmn_congruence.specs.FreeLinks.{total, link_bound}
 use Rattle.lmn_congruence.specs.Regions.{SolidAtom, Region, region, Regions, no_region, region_and, region_process, atom_process, regions_processes}
 use Rattle.lmn_congruence.specs.Same.{renamed_atom, renamed_region, renamed_regions}
 use Rattle.lmn_congruence.specs.Plains.{leaf_process, level_process, levels_processes, fused_leaves, fused_level, fused_levels}
@@ -116,7 +116,7 @@ two_or_more a k t e n = omega arith
 
 twice_or_more : (w : ℕ → ℕ) (z : ℕ) (P : Process) → Joins w P → Closed P → occurrences z (fused w P) ≢ 0 → 2 ≤ occurrences z (fused w P)
 twice_or_more w z P j c o =
-    let n = top_of P in
+    let n = link_bound P in
     let h : ℕ → ℕ = λ y. cond (eqb (occurrences y P) 2) 1 0 in
     let split = total_same n (with_image w z (λ y. occurrences y P)) (with_image w z (λ y. h y + h y)) (λ y b. ap (λ k. cond (eqb (w y) z) k 0) (half (occurrences y P) (c y))) in
     let even = image_even w z P j in
@@ -248,8 +248,8 @@ solid_is_one top S S' s s' =
     let P = level_process top in
     let A = fused (λ y. y) P in
     let l : (z : ℕ) → occurrences z (fused s.to P) ≤ 2 = λ z. rw (reordered_count (level_reordered s.to top) z) (subst (λ R. occurrences z (region_process R) ≤ 2) s.is ((closed_linked {P = region_process S} s.closed).at_most_twice z)) in
-    let f = carried_to P s.to s'.to (top_of A) in
-    let takes : Takes f s.to s'.to P = λ x o. carried P s.to s'.to (s.to x) (s'.to x) (λ y o' e. joined P s.closed_top s.to s'.to s.joins s'.joins l y x o' o e) (top_of A) x (occurs_below A x o) o refl in
+    let f = carried_to P s.to s'.to (link_bound A) in
+    let takes : Takes f s.to s'.to P = λ x o. carried P s.to s'.to (s.to x) (s'.to x) (λ y o' e. joined P s.closed_top s.to s'.to s.joins s'.joins l y x o' o e) (link_bound A) x (occurs_below A x o) o refl in
     let is : S' ≡ renamed_region f S = s'.is ∙ sym (level_taken f s.to s'.to top takes) ∙ ap (renamed_region f) (sym s.is) in
     let linked : Linked (renamed f (region_process S)) = subst (λ Q. Linked Q) (region_renamed f S) (subst (λ R. Linked (region_process R)) is (closed_linked s'.closed)) in
     record { to = f; one_to_one = one_to_one f (region_process S) (closed_leaves f (region_process S) s.closed) linked; is = is }

@@ -23,7 +23,7 @@ use Rattle.lmn_congruence.specs.Regions as solid
 use Rattle.lmn_congruence.proofs.Appended.{all_left, all_right}
 use Rattle.lmn_congruence.specs.Rules as tree
 use Rattle.lmn_congruence.specs.LinkedRules.{leaf_occurrences, leaves_occurrences, level_occurrences, levels_occurrences}
-use Rattle.lmn_congruence.specs.Translation.{atom_of, leaf_of, level_of, level_step, levels, rules, solid_atom_of, regions, region_step, rule_of}
+use Rattle.lmn_congruence.specs.Translation.{atom_of, leaf_of, level_of, level_step, levels, rules, solid_atom_of, regions, region_step, numbered_rule}
 use Rattle.lmn_congruence.specs.TranslationLaws.{LevelLinksKept, TopLinksKept, SolidLinksKept, LinkedRulesKept, SolidsClosed, PlainsClosed}
 
 places_append : (x : ℕ) (xs ys : List ℕ) → places x (xs ++ ys) ≡ places x xs + places x ys
@@ -159,10 +159,10 @@ pub level_links : LevelLinksKept
 level_links names number l x = level_places names number x l ∙ sym (counted x (links_of l))
 
 pub top_links : TopLinksKept
-top_links names p w x = top_places names (rule_of names p.rules) x p.top w.only_atoms ∙ sym (counted x (links_of p.top))
+top_links names p w x = top_places names (numbered_rule names p.rules) x p.top w.only_atoms ∙ sym (counted x (links_of p.top))
 
 pub solid_links_kept : SolidLinksKept
-solid_links_kept names table s x = region_places names (rule_of names table) x s.root ∙ sym (counted x (solid_links s.root))
+solid_links_kept names table s x = region_places names (numbered_rule names table) x s.root ∙ sym (counted x (solid_links s.root))
 
 -- ---- closed processes, linked rules
 

@@ -1,11 +1,10 @@
+-- The process of a plain's top, and its solid. A text has a level at its top. The type also allows contexts
+-- there: a text with one is refused, and here they stand for nothing.
 use Rattle.std.specs.Prelude.{ℕ, ◌≡◌, List, [], ◌∷◌, map}
 use Rattle.lmn_congruence.specs.Process.{Process, nothing, connector, atom, pair, membrane, rule, Closed, together}
 use Rattle.lmn_congruence.specs.Rules.{Leaf, atom_leaf, connector_leaf, typed_leaf, Level, level, Levels, no_level, level_and, rules_list}
 use Rattle.lmn_congruence.specs.Fused.{Joins}
 use Rattle.lmn_congruence.specs.Regions.{SolidAtom, Region, region, Regions, no_region, region_and, region_process}
-
--- A text has a level at its top. The type also allows contexts there: a text with one is refused, and here
--- they stand for nothing.
 
 abbrev pub leaf_process : Leaf → Process
 leaf_process (atom_leaf a xs) = atom a xs

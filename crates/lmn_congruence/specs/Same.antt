@@ -1,3 +1,4 @@
+-- When two solids are the same.
 use Rattle.std.specs.Prelude.{ℕ, ◌≡◌, List, map}
 use Rattle.lmn_congruence.specs.Orders.{Shuffle}
 use Rattle.lmn_congruence.specs.Process.{OneToOneOn}

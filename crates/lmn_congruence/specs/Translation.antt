@@ -65,7 +65,8 @@ rules (r ∷ rs) = tree.rule_and r (rules rs)
 -- a level, where `rule` gives the rule with a number
 abbrev pub level_step : List tree.Name → (ℕ → tree.Rule) → Level-F tree.Level → tree.Level
 level_step names rule l =
-    tree.level (map (leaf_of names) l.leaves) (levels l.membranes) (names_of names l.contexts) (names_of names l.rule_contexts) (rules (map rule l.rules))
+    tree.level (map (leaf_of names) l.leaves) (levels l.membranes)
+    (names_of names l.contexts) (names_of names l.rule_contexts) (rules (map rule l.rules))
 
 abbrev pub level_of : List tree.Name → (ℕ → tree.Rule) → Level → tree.Level
 level_of names rule = fold-Level tree.Level (level_step names rule)
@@ -104,12 +105,14 @@ kind_of names n us = tree.unknown (name_of names n) (names_of names us)
 
 abbrev pub condition_of : List tree.Name → Cond → tree.Condition
 condition_of names (Kind n args pos) = kind_of names n args
-condition_of names (Compare op left right pos) = tree.compares (comparison_of op) (expression_of names left) (expression_of names right)
+condition_of names (Compare op left right pos) =
+    tree.compares (comparison_of op) (expression_of names left) (expression_of names right)
 condition_of names (Equal left right pos) = tree.equates (name_of names left.name) (expression_of names right)
 condition_of names (Differ left right pos) = tree.differs (name_of names left.name) (name_of names right.name)
 
 abbrev pub rule_tree : List tree.Name → (ℕ → tree.Rule) → RuleTree → tree.Rule
-rule_tree names rule r = tree.rule_of (level_of names rule r.head) (map (condition_of names) r.guard) (level_of names rule r.body)
+rule_tree names rule r =
+    tree.rule_of (level_of names rule r.head) (map (condition_of names) r.guard) (level_of names rule r.body)
 
 -- what a number stands for that names no rule
 abbrev pub empty_level : tree.Level
@@ -118,19 +121,21 @@ empty_level = tree.level [] tree.no_level [] [] tree.no_rule
 abbrev pub no_such_rule : tree.Rule
 no_such_rule = tree.rule_of empty_level [] empty_level
 
--- The rules of a table from the number k on. A rule that stands in another one has a greater number, so it
--- is one of those behind it.
+-- The rules of a table from the number k on. In a well made plain a rule that stands in another one has a greater
+-- number, so it is one of those behind it. A number that isn't greater would be read as that of the next rule.
 abbrev pub rules_from : List tree.Name → ℕ → List RuleTree → List tree.Rule
 rules_from names k [] = []
-rules_from names k (r ∷ rs) = let behind = rules_from names (k + 1) rs in rule_tree names (λ n. slice_index_or behind (n - (k + 1)) no_such_rule) r ∷ behind
+rules_from names k (r ∷ rs) =
+    let behind = rules_from names (k + 1) rs in
+    rule_tree names (λ n. slice_index_or behind (n - (k + 1)) no_such_rule) r ∷ behind
 
 -- the rule with a number
-abbrev pub rule_of : List tree.Name → List RuleTree → ℕ → tree.Rule
-rule_of names table n = slice_index_or (rules_from names 0 table) n no_such_rule
+abbrev pub numbered_rule : List tree.Name → List RuleTree → ℕ → tree.Rule
+numbered_rule names table n = slice_index_or (rules_from names 0 table) n no_such_rule
 
 -- the top of a plain, and its process
 abbrev pub top_of : List tree.Name → Plain → tree.Level
-top_of names p = level_of names (rule_of names p.rules) p.top
+top_of names p = level_of names (numbered_rule names p.rules) p.top
 
 abbrev pub plain_process : List tree.Name → Plain → Process
 plain_process names p = level_process (top_of names p)
@@ -147,7 +152,7 @@ region_step names rule r = solid.region (map (solid_atom_of names) r.atoms) (reg
 
 -- the region of a solid, and its process
 abbrev pub region_of : List tree.Name → List RuleTree → Solid → solid.Region
-region_of names table s = fold-Region solid.Region (region_step names (rule_of names table)) s.root
+region_of names table s = fold-Region solid.Region (region_step names (numbered_rule names table)) s.root
 
 abbrev pub solid_process : List tree.Name → List RuleTree → Solid → Process
 solid_process names table s = solid.region_process (region_of names table s)
@@ -157,6 +162,7 @@ pub record IsSolidOf (names : List tree.Name) (p : Plain) (s : Solid) : Type 0 w
   pub is_solid : IsSolid s
   pub of_top : SolidOf (top_of names p) (region_of names p.rules s)
 
--- equal up to the order of lists and the numbers of links, names and rules; each solid has its own names and rules
-abbrev pub SameSolid : List tree.Name → List RuleTree → Solid → List tree.Name → List RuleTree → Solid → Type 0
+-- equal up to the order of lists and the numbers of links, names and rules: each solid has its own names and table
+abbrev pub SameSolid :
+    List tree.Name → List RuleTree → Solid → List tree.Name → List RuleTree → Solid → Type 0
 SameSolid names table s names' table' s' = Same (region_of names table s) (region_of names' table' s')

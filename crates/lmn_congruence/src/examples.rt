@@ -1,6 +1,9 @@
 //! Small texts, and what they do: derivations of the calculus, each the contract of an empty function.
 
-ghost use Rattle.lmn_congruence.specs.reduction.Examples.{TwoMakeOne, LinkMeetsItself, ConnectorLeaves, LoopVanishes, QuotientsAndRemainders, InnerLinkStays, SumIsBound, RulesAreCopied, LeastByMinusOne, NothingByZero, LoopIsLeft};
+ghost use Rattle.lmn_congruence.specs.reduction.Examples.{TwoMakeOne, LinkMeetsItself, ConnectorLeaves};
+ghost use Rattle.lmn_congruence.specs.reduction.Examples.{LoopVanishes, QuotientsAndRemainders, InnerLinkStays};
+ghost use Rattle.lmn_congruence.specs.reduction.Examples.{SumIsBound, RulesAreCopied, LeastByMinusOne};
+ghost use Rattle.lmn_congruence.specs.reduction.Examples.{NothingByZero, LoopIsLeft};
 
 /// `a. a. a, a :- b.` commits to `b` beside its rule.
 #[tactic(auto, using(crate::proofs::ExampleSteps::two_make_one))]

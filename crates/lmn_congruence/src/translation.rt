@@ -1,6 +1,8 @@
 //! Laws of the translation from the values that the program keeps to rules, regions and processes.
 
-ghost use Rattle.lmn_congruence.specs.TranslationLaws.{NumbersStandForRules, LevelLinksKept, TopLinksKept, SolidLinksKept, ItemsKept, LinkedRulesKept, SolidsClosed, PlainsClosed};
+ghost use Rattle.lmn_congruence.specs.TranslationLaws.{NumbersStandForRules, LevelLinksKept, TopLinksKept};
+ghost use Rattle.lmn_congruence.specs.TranslationLaws.{SolidLinksKept, ItemsKept, LinkedRulesKept};
+ghost use Rattle.lmn_congruence.specs.TranslationLaws.{SolidsClosed, PlainsClosed};
 
 /// In a well made plain the rule with a number is the tree of its head, guard and body, in which each
 /// number again stands for the rule with that number.

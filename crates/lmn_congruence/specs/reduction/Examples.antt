@@ -1,11 +1,10 @@
+-- Small texts as processes, and what they do.
 use Rattle.std.specs.Prelude.{ℕ, ℤ, ◌≡◌, ◌-◌, ◌^◌, pos, negsuc, List, [], ◌∷◌}
 use Rattle.lmn_congruence.specs.Rules.{Name, Label, named, integer, Leaf, atom_leaf, connector_leaf, typed_leaf, Level, level, no_level, level_and, Rule, rule_of, no_rule, plus, over, modulo, Expression, number, operation, value_of, equates}
 use Rattle.lmn_congruence.specs.Process.{nothing, connector, atom, pair, membrane, rule, together}
 use Rattle.lmn_congruence.specs.reduction.Assignments.{Assignment}
 use Rattle.lmn_congruence.specs.reduction.Values.{result_of, Value}
 use Rattle.lmn_congruence.specs.reduction.Commits.{Settles, Commit, Irreducible}
-
--- Small texts as processes, and what they do.
 
 abbrev pub a : Label
 a = named (97 ∷ [])
@@ -67,13 +66,15 @@ LoopVanishes = Settles (pair (connector 0 1) (membrane (connector 0 1))) (membra
 -- `{a(X), b(Y)} :- c(X,Y)`
 abbrev pub join_from_membrane : Rule
 join_from_membrane = rule_of
-    (one_membrane (leaves (atom_leaf a (0 ∷ []) ∷ atom_leaf b (1 ∷ []) ∷ []))) [] (leaves (atom_leaf c (0 ∷ 1 ∷ []) ∷ []))
+    (one_membrane (leaves (atom_leaf a (0 ∷ []) ∷ atom_leaf b (1 ∷ []) ∷ []))) []
+    (leaves (atom_leaf c (0 ∷ 1 ∷ []) ∷ []))
 
 -- But a link that stays inside a membrane doesn't match two that leave it: nothing can happen in
 -- `{a(X), b(X)}. {a(X), b(Y)} :- c(X,Y).`, from no congruent process
 abbrev pub InnerLinkStays : Type 0
 InnerLinkStays =
-    Irreducible (together (membrane (together (atom a (0 ∷ []) ∷ atom b (0 ∷ []) ∷ [])) ∷ rule join_from_membrane ∷ []))
+    Irreducible
+    (together (membrane (together (atom a (0 ∷ []) ∷ atom b (0 ∷ []) ∷ [])) ∷ rule join_from_membrane ∷ []))
 
 abbrev pub x : Name
 x = 120 ∷ []
@@ -119,7 +120,8 @@ LeastByMinusOne = (t : Assignment) →
 -- by zero there is no quotient and no remainder
 abbrev pub NothingByZero : Type 0
 NothingByZero = (t : Assignment) (e : Expression) (n : ℤ) →
-    (¬ (Value t (operation over e (number (pos 0))) n)) × (¬ (Value t (operation modulo e (number (pos 0))) n))
+    (¬ (Value t (operation over e (number (pos 0))) n))
+    × (¬ (Value t (operation modulo e (number (pos 0))) n))
 
 -- `a(X,Y) :- X=Y`
 abbrev pub tie_ends : Rule

@@ -1,3 +1,4 @@
+-- The laws of reduction.
 use Rattle.std.specs.Prelude.{◌↔◌}
 use Rattle.lmn_congruence.specs.Process.{Process, Linked, Closed}
 use Rattle.lmn_congruence.specs.Congruence.{Congruent}
