@@ -2,6 +2,7 @@ pub mod Appended
 pub mod NumberedRules
 pub mod TranslatedLinks
 pub mod TranslatedItems
+pub mod TranslatedNames
 pub mod Counts
 pub mod Totals
 pub mod Crossings

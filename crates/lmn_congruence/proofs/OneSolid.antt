@@ -10,7 +10,7 @@ use Rattle.lmn_congruence.specs.Regions.{SolidAtom, Region, region, Regions, no_
 use Rattle.lmn_congruence.specs.Same.{renamed_atom, renamed_region, renamed_regions}
 use Rattle.lmn_congruence.specs.Plains.{leaf_process, level_process, levels_processes, fused_leaves, fused_level, fused_levels}
 use Rattle.lmn_congruence.specs.reduction.Laws.{SolidIsOne}
-use Rattle.lmn_congruence.proofs.Counts.{same_or_not, one_if_equal, none_if_apart, in_left, in_right, map_after}
+use Rattle.lmn_congruence.proofs.Counts.{same_or_not, three_ways, one_if_equal, none_if_apart, in_left, in_right, map_after}
 use Rattle.lmn_congruence.proofs.Totals.{total_same}
 use Rattle.lmn_congruence.proofs.Crossings.{occurs_below}
 use Rattle.lmn_congruence.proofs.Reordered.{reordered_count}
@@ -27,15 +27,12 @@ triangle (suc n) = suc n + triangle n
 abbrev both : ℕ → ℕ → ℕ
 both m n = triangle (m + n) + n
 
-which_order : (m n : ℕ) → (m < n) ⊎ ((m ≡ n) ⊎ (n < m))
-which_order m n = grind arith
-
 triangle_less : (m n : ℕ) → m < n → suc m + triangle m ≤ triangle n
 triangle_less m zero l = absurd (not_below m l)
   where
     not_below : (m : ℕ) → ¬ (m < 0)
     not_below m = omega arith
-triangle_less m (suc n) l = go (which_order m n) (λ c. triangle_less m n c)
+triangle_less m (suc n) l = go (three_ways m n) (λ c. triangle_less m n c)
   where
     go : (m < n) ⊎ ((m ≡ n) ⊎ (n < m)) → (m < n → suc m + triangle m ≤ triangle n) → suc m + triangle m ≤ suc n + triangle n
     go (inl c) i = omega (arith, i c)
@@ -50,7 +47,7 @@ sums_agree m n k l e (inr (inr c)) = let t = triangle_less (k + l) (m + n) c in 
 -- two pairs with one number are one pair
 both_agree : (m n k l : ℕ) → both m n ≡ both k l → (m ≡ k) × (n ≡ l)
 both_agree m n k l e =
-    let s = sums_agree m n k l e (which_order (m + n) (k + l)) in
+    let s = sums_agree m n k l e (three_ways (m + n) (k + l)) in
     let t : triangle (m + n) ≡ triangle (k + l) = ap triangle s in
     let f : n ≡ l = omega arith in
     (omega arith, f)

@@ -4,7 +4,7 @@ use Rattle.std.proofs.lemmas.List.{map-id}
 use Rattle.lmn_congruence.specs.Links.{one_if_same, places}
 use Rattle.lmn_congruence.specs.Process.{Process, nothing, connector, atom, pair, membrane, rule, occurrences, replace, Free, Local, Linked, substitute, renamed, OneToOneOn}
 use Rattle.lmn_congruence.specs.Congruence.{Congruent, rename, same, chain}
-use Rattle.lmn_congruence.proofs.Counts.{one_if_equal, none_if_apart, below_or_from, less_apart, same_or_not, linked_both, Occurs, in_head, in_tail, first_in, second_in, in_left, in_right, occurs_once, occurs_twice, map_after, map_agree, replaced_here, replaced_other}
+use Rattle.lmn_congruence.proofs.Counts.{one_if_equal, none_if_apart, below_or_from, less_apart, same_or_not, three_ways, linked_both, Occurs, in_head, in_tail, first_in, second_in, in_left, in_right, occurs_once, occurs_twice, map_after, map_agree, replaced_here, replaced_other}
 use Rattle.lmn_congruence.specs.FreeLinks.{total, link_bound}
 use Rattle.lmn_congruence.proofs.Totals.{highest}
 use Rattle.lmn_congruence.proofs.Crossings.{occurs_below}
@@ -93,9 +93,6 @@ mixed_from n a b x l = grind arith
 
 how_often : (n : ℕ) → n ≤ 2 → (n ≡ 0) ⊎ ((n ≡ 1) ⊎ (n ≡ 2))
 how_often n l = grind arith
-
-three_ways : (x n : ℕ) → (x < n) ⊎ ((x ≡ n) ⊎ (n < x))
-three_ways x n = grind arith
 
 module _ (a b : ℕ → ℕ) (P : Process) (m : Movable a b P) (l : Linked P) where
   -- a link below n, at its new name, is not the old name of n

@@ -1,18 +1,20 @@
 -- The laws of the translation from values to trees, regions and processes.
-use Rattle.std.specs.Prelude.{ℕ, ◌≡◌, ◌↔◌, ◌==◌, List, slice_get, Some, count_by}
+use Rattle.std.specs.Prelude.{ℕ, ◌≡◌, ◌↔◌, ◌==◌, List, ◌++◌, length, slice_get, Some, codes, count_by, All}
+use Rattle.lmn_base.specs.declared.functor.Label.{Label}
 use Rattle.lmn_base.specs.declared.level.Level.{Level}
 use Rattle.lmn_base.specs.declared.rule.RuleTree.{RuleTree}
 use Rattle.lmn_base.specs.declared.rule.Plain.{Plain}
 use Rattle.lmn_base.specs.declared.solid.Solid.{Solid}
 use Rattle.lmn_base.specs.Levels.{links_of}
-use Rattle.lmn_base.specs.Solids.{items_of, links_of as solid_links, IsSolid}
+use Rattle.lmn_base.specs.Solids.{atoms_of, items_of, links_of as solid_links, IsSolid}
+use Rattle.lmn_base.specs.Names.{IsNames, HasNames, label_names, NamesSolid}
 use Rattle.lmn_base.specs.Links.{EachTwice}
 use Rattle.lmn_base.specs.WellMade.{IsWellMade, IsLinkedRule}
 use Rattle.lmn_congruence.specs.Process.{occurrences, Closed}
-use Rattle.lmn_congruence.specs.Rules.{Name, Rule}
+use Rattle.lmn_congruence.specs.Rules.{Name, named, Rule}
 use Rattle.lmn_congruence.specs.LinkedRules.{level_occurrences, LinkedRule}
 use Rattle.lmn_congruence.specs.Regions.{items}
-use Rattle.lmn_congruence.specs.Translation.{level_of, rule_tree, numbered_rule, plain_process, region_of, solid_process}
+use Rattle.lmn_congruence.specs.Translation.{label_of, level_of, rule_tree, numbered_rule, plain_process, region_of, solid_process}
 
 -- the rule with a number is the tree of its head, guard and body, in which each number again stands for its rule
 abbrev pub NumbersStandForRules : Type 0
@@ -54,3 +56,13 @@ SolidsClosed = (names : List Name) (table : List RuleTree) (s : Solid) →
 abbrev pub PlainsClosed : Type 0
 PlainsClosed = (names : List Name) (p : Plain) → IsWellMade p →
     EachTwice (links_of p.top) ↔ Closed (plain_process names p)
+
+-- labels whose names the list has are one label where their trees are one
+abbrev pub LabelsApart : Type 0
+LabelsApart = (names : List Name) (k l : Label) → IsNames names → HasNames names (label_names k ++ label_names l) →
+    label_of names k ≡ label_of names l → k ≡ l
+
+-- no atom in the region of a solid is named `=` and has two links
+abbrev pub NoSolidConnector : Type 0
+NoSolidConnector = (names : List Name) (table : List RuleTree) (s : Solid) → NamesSolid names table s → IsSolid s →
+    All (λ a. ¬ ((label_of names a.functor.label ≡ named (codes "=")) × (length a.links ≡ 2))) (atoms_of s.root)

@@ -2,7 +2,7 @@
 
 ghost use Rattle.lmn_congruence.specs.TranslationLaws.{NumbersStandForRules, LevelLinksKept, TopLinksKept};
 ghost use Rattle.lmn_congruence.specs.TranslationLaws.{SolidLinksKept, ItemsKept, LinkedRulesKept};
-ghost use Rattle.lmn_congruence.specs.TranslationLaws.{SolidsClosed, PlainsClosed};
+ghost use Rattle.lmn_congruence.specs.TranslationLaws.{SolidsClosed, PlainsClosed, LabelsApart, NoSolidConnector};
 
 /// In a well made plain the rule with a number is the tree of its head, guard and body, in which each
 /// number again stands for the rule with that number.
@@ -46,4 +46,11 @@ pub fn linked_rules_are_kept()
 pub fn processes_are_closed()
     ensures solid { SolidsClosed }
     ensures plain { PlainsClosed }
+{}
+
+/// Labels whose names a list of names has are told apart by their trees. So no atom in the region of a solid is
+/// named `=` and has two links.
+pub fn labels_are_apart()
+    ensures labels { LabelsApart }
+    ensures solid { NoSolidConnector }
 {}
