@@ -7,7 +7,7 @@ ghost use Rattle.lmn_congruence.specs.reduction.Laws.{CongruentByOneMap, StepsSh
 ghost use Rattle.lmn_congruence.specs.reduction.Laws.{KeepsSettles, KeepsCommit, KeepsIrreducible};
 
 /// Both sides of a step are linked, and so are both sides of a settling step.
-#[tactic(auto, using(crate::proofs::SettlingSteps::steps_linked, crate::proofs::SettlingSteps::settling_steps_linked,))]
+#[tactic(auto, using(crate::proofs::SettlingSteps::steps_linked, crate::proofs::SettlingSteps::settling_steps_linked))]
 pub fn steps_are_linked()
     ensures steps { StepsAreLinked }
     ensures settling { SettlingStepsAreLinked }
@@ -58,7 +58,7 @@ pub fn steps_show_redexes()
 {}
 
 /// Congruence keeps what is settled, what settles to what, what commits to what, and what is irreducible.
-#[tactic(auto, using(crate::proofs::Kept::keeps_settled, crate::proofs::Kept::keeps_settles, crate::proofs::Kept::keeps_commit, crate::proofs::Kept::keeps_irreducible,))]
+#[tactic(auto, using(crate::proofs::Kept::keeps_settled, crate::proofs::Kept::keeps_settles, crate::proofs::Kept::keeps_commit, crate::proofs::Kept::keeps_irreducible))]
 pub fn congruence_keeps_reduction()
     ensures settled { KeepsSettled }
     ensures settles { KeepsSettles }
