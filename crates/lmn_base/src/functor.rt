@@ -1,4 +1,4 @@
-/// The number of the name `=` in every list of names.
+/// The number of the name `=` in every list of names. With two links an atom of this name is a connector.
 pub const CONNECTOR_NAME: u32 = 0;
 
 /// The number of the name `int` in every list of names.

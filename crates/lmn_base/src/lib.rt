@@ -1,8 +1,8 @@
 //! What every layer of the runtime speaks of: rules and processes as they are read, solids as they run,
 //! rows, places in a text, refusals and want of memory.
 //!
-//! In `specs/` stand what a well made rule and plain are, when a rule is linked, what a solid is, and the
-//! equality of parts of a process as rooted graphs.
+//! In `specs/` stand what a well made rule and plain are, when a rule is linked, what a solid is, what a list
+//! of names is, and the equality of parts of a process as rooted graphs.
 #![tactic(auto)]
 
 mod functor;
