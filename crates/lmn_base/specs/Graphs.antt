@@ -15,13 +15,15 @@ pub record AtomMap : Type 0 where
 -- them, otherwise than by the root.
 pub data Reached (m : AtomMap) (root : ℕ × ℕ) : ℕ → Type 0 where
   at_root : Reached m root root.0
-  across : {a b i j : ℕ} → Reached m root a → (a, i) ≢ root → m.partner (a, i) ≡ Some (b, j) → Reached m root b
+  across : {a b i j : ℕ} →
+      Reached m root a → (a, i) ≢ root → m.partner (a, i) ≡ Some (b, j) → Reached m root b
 
 -- A part stands whole in a membrane: its atoms stand there, and each of its ports but the root is joined,
 -- and so to one of the part.
 pub record StandsWhole (m : AtomMap) (root : ℕ × ℕ) (home : ℕ) : Type 0 where
   pub at_home : (a : ℕ) → Reached m root a → m.home a ≡ Some home
-  pub no_other_end : (a i : ℕ) (f : Functor) → Reached m root a → m.functor a ≡ Some f → i < f.arity → (a, i) ≢ root → IsSome (m.partner (a, i))
+  pub no_other_end : (a i : ℕ) (f : Functor) → Reached m root a → m.functor a ≡ Some f → i < f.arity → (a, i) ≢ root →
+      IsSome (m.partner (a, i))
 
 -- Two parts are equal as rooted graphs: one map, one to one on all their atoms, keeps functors and joined
 -- ports and takes root to root.
@@ -31,5 +33,6 @@ pub record SameGraph (m : AtomMap) (x : ℕ × ℕ) (n : AtomMap) (y : ℕ × �
   pub onto : (b : ℕ) → Reached n y b → (a : ℕ) × Reached m x a × (to a ≡ b)
   pub one_to_one : (a b : ℕ) → Reached m x a → Reached m x b → to a ≡ to b → a ≡ b
   pub functors : (a : ℕ) → Reached m x a → n.functor (to a) ≡ m.functor a
-  pub joined : (a b i j : ℕ) → Reached m x a → Reached m x b → (m.partner (a, i) ≡ Some (b, j)) ↔ (n.partner (to a, i) ≡ Some (to b, j))
+  pub joined : (a b i j : ℕ) → Reached m x a → Reached m x b →
+      (m.partner (a, i) ≡ Some (b, j)) ↔ (n.partner (to a, i) ≡ Some (to b, j))
   pub root : (to x.0, x.1) ≡ y

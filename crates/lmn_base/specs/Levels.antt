@@ -8,7 +8,8 @@ use Rattle.lmn_base.specs.declared.level.Level.TheFolds.{fold-Level}
 use Rattle.lmn_base.specs.declared.level.Occ.{Occ}
 use Rattle.lmn_base.specs.declared.level.CtxUse.{CtxUse}
 
--- what stands in a level itself, and then what stands in each of its membranes: the printed order
+-- What stands in a level itself, and then what stands in each of its membranes. Of leaves alone this is the
+-- printed order, since the contexts and rules of a level are printed behind its membranes.
 abbrev pub everywhere : {A : Type 0} → (Level-F (List A) → List A) → Level → List A
 everywhere {A} here = fold-Level (List A) (λ l. here l ++ flat_map (λ inner. inner) l.membranes)
 

@@ -16,9 +16,10 @@ places x l = map (λ o. o.pos) (filter (λ o. o.link == x) (occurrences l))
 
 -- ps are the places where a link occurs in some levels: level by level, in each by rising place
 pub data RisingPlaces (x : ℕ) : List Level → List Pos → Type 0 where
-  no_level : RisingPlaces x [] []
-  level_and : {l : Level} {ls : List Level} {ps qs : List Pos} →
-      IsPermutation (places x l) ps → AllPairs NotAfter ps → RisingPlaces x ls qs → RisingPlaces x (l ∷ ls) (ps ++ qs)
+  no_places : RisingPlaces x [] []
+  places_and : {l : Level} {ls : List Level} {ps qs : List Pos} →
+      IsPermutation (places x l) ps → AllPairs NotAfter ps → RisingPlaces x ls qs →
+      RisingPlaces x (l ∷ ls) (ps ++ qs)
 
 -- what an entry says of a link that occurs at these places: how often, and the first and third place
 pub record TellsOf (ps : List Pos) (u : LinkUse) : Type 0 where
@@ -30,4 +31,5 @@ pub record TellsOf (ps : List Pos) (u : LinkUse) : Type 0 where
 -- one entry for each link, by its number.
 pub record IsTableOf (levels : List Level) (table : List LinkUse) : Type 0 where
   pub numbered : NumbersLinks (flat_map links_of levels) (length table)
-  pub tells : (x : ℕ) (u : LinkUse) → slice_get table x ≡ Some u → (ps : List Pos) × RisingPlaces x levels ps × TellsOf ps u
+  pub tells : (x : ℕ) (u : LinkUse) → slice_get table x ≡ Some u →
+      (ps : List Pos) × RisingPlaces x levels ps × TellsOf ps u

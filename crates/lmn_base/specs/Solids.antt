@@ -1,7 +1,9 @@
 -- What every solid is like.
-use Rattle.std.specs.Prelude.{ℕ, ◌≡◌, ◌≢◌, ◌+◌, List, ◌++◌, flat_map, sum, length, All}
+use Rattle.std.specs.Prelude.{ℕ, ◌≡◌, ◌≢◌, ◌<◌, ◌+◌, List, ◌++◌, flat_map, sum, length, All}
 use Rattle.lmn_base.specs.declared.functor.Functor.{Functor}
 use Rattle.lmn_base.specs.declared.functor.Label.TheVariants.{Name}
+use Rattle.lmn_base.specs.declared.functor.TheConstants.{CONNECTOR_NAME}
+use Rattle.lmn_base.specs.declared.rule.RuleTree.{RuleTree}
 use Rattle.lmn_base.specs.declared.solid.SolidAtom.{SolidAtom}
 use Rattle.lmn_base.specs.declared.solid.Region.{Region}
 use Rattle.lmn_base.specs.declared.solid.Region.TheOpen.{Region-F}
@@ -11,7 +13,7 @@ use Rattle.lmn_base.specs.Links.{EachTwice, NumbersLinks}
 
 -- the name `=` with two links
 abbrev pub connector : Functor
-connector = record { label = Name 0; arity = 2 }
+connector = record { label = Name CONNECTOR_NAME; arity = 2 }
 
 -- the atoms of a region, and then those in each of its membranes: the printed order
 abbrev pub atoms_step : Region-F (List SolidAtom) → List SolidAtom
@@ -37,3 +39,11 @@ items_step r = length r.atoms + length r.membranes + sum r.membranes + length r.
 -- how many items a solid has: its root isn't counted
 abbrev pub items_of : Solid → ℕ
 items_of s = fold-Region ℕ items_step s.root
+
+-- the rules of a region and of its membranes, by number
+abbrev pub rules_step : Region-F (List ℕ) → List ℕ
+rules_step r = r.rules ++ flat_map (λ inner. inner) r.membranes
+
+-- a table has one rule for each of a solid's numbers
+abbrev pub HasRules : List RuleTree → Solid → Type 0
+HasRules table s = All (λ k. k < length table) (fold-Region (List ℕ) rules_step s.root)

@@ -29,7 +29,8 @@ pub record IsWellMade (p : Plain) : Type 0 where
   pub table : IsTableOf (p.top ∷ []) p.links
   pub each_rule : All IsWellMadeRule p.rules
   pub rules_at_top : All (λ k. k < length p.rules) (rules_of p.top)
-  pub rules_in_rules : (n : ℕ) (r : RuleTree) → slice_get p.rules n ≡ Some r → All (λ k. (n < k) × (k < length p.rules)) (rules_of r.head ++ rules_of r.body)
+  pub rules_in_rules : (n : ℕ) (r : RuleTree) → slice_get p.rules n ≡ Some r →
+      All (λ k. (n < k) × (k < length p.rules)) (rules_of r.head ++ rules_of r.body)
   pub only_atoms : All IsAtom (leaves_of p.top)
   pub no_context : contexts_of p.top ≡ []
   pub no_rule_context : rule_contexts_of p.top ≡ []

@@ -1,13 +1,26 @@
+/// The number of the name `=` in every list of names. With two links an atom of this name is a connector.
+pub const CONNECTOR_NAME: u32 = 0;
+
+/// The number of the name `int` in every list of names.
+pub const INT_NAME: u32 = 1;
+
+/// The number of the name `unary` in every list of names.
+pub const UNARY_NAME: u32 = 2;
+
+/// The number of the name `ground` in every list of names.
+pub const GROUND_NAME: u32 = 3;
+
 /// What an atom is called.
 #[derive(Clone, Copy, Debug, PartialEq, Eq)]
 pub enum Label {
-    /// A name, by its number in the list of names. Number 0 is the name `=`.
+    /// A name, by its number in the list of names.
     Name(u32),
     /// An integer.
     Int(i64),
 }
 
-/// The label of an atom and the number of its links. The functor of a connector is the name 0 with arity 2.
+/// The label of an atom and the number of its links. The functor of a connector is
+/// `CONNECTOR_NAME` with arity 2.
 #[derive(Clone, Copy, Debug, PartialEq, Eq)]
 pub struct Functor {
     /// What the atom is called.

@@ -57,7 +57,8 @@ pub enum Cmp {
 pub enum Cond {
     /// A condition with a name, as `int($x)`.
     Kind {
-        /// The number of its name: 1 for `int`, 2 for `unary`, 3 for `ground`.
+        /// The number of its name. The conditions of the language are `INT_NAME`, `UNARY_NAME` and
+        /// `GROUND_NAME`, each of one context; any other stands for a condition that never holds.
         name: u32,
         /// The contexts in its parentheses.
         args: Rows<CtxUse>,
@@ -75,7 +76,8 @@ pub enum Cond {
         /// The place of its sign in the text.
         pos: Pos,
     },
-    /// `$x = E`: the contexts are equal as rooted graphs, or the left one is bound to a value.
+    /// `$x = E`. Where `$x` stands in the head, E is a context of the head too, and both are ground and
+    /// equal as rooted graphs. Else `$x` is bound to the value of E.
     Equal {
         /// The context on the left.
         left: CtxUse,
@@ -84,7 +86,8 @@ pub enum Cond {
         /// The place of its sign in the text.
         pos: Pos,
     },
-    /// `$x \= $y`: the contexts differ as rooted graphs.
+    /// `$x \= $y`: both contexts stand in the head, and they are ground and differ as rooted graphs. It
+    /// doesn't hold where one isn't ground.
     Differ {
         /// The context on the left.
         left: CtxUse,

@@ -1,8 +1,8 @@
 //! What every layer of the runtime speaks of: rules and processes as they are read, solids as they run,
 //! rows, places in a text, refusals and want of memory.
 //!
-//! In `specs/` stand what a well made rule and plain are, when a rule is linked, what a solid is, and the
-//! equality of parts of a process as rooted graphs.
+//! In `specs/` stand what a well made rule and plain are, when a rule is linked, what a solid is, what a list
+//! of names is, and the equality of parts of a process as rooted graphs.
 #![tactic(auto)]
 
 mod functor;
@@ -16,7 +16,7 @@ mod solid;
 #[cfg(test)]
 mod tests;
 
-pub use functor::{Functor, Label};
+pub use functor::{CONNECTOR_NAME, Functor, GROUND_NAME, INT_NAME, Label, UNARY_NAME};
 pub use guard::{Arith, Cmp, Cond, Expr};
 pub use level::{CtxUse, Leaf, Level, Occ};
 pub use memory::NoMemory;

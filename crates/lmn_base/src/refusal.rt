@@ -19,7 +19,7 @@ pub struct Refusal {
 /// Why a text could not be read.
 #[derive(Clone, Copy, Debug, PartialEq, Eq)]
 pub enum TextFault {
-    /// The text is broken.
+    /// The text is refused.
     Refused(Refusal),
     /// Memory was wanting; nothing is said of the text.
     NoMemory,

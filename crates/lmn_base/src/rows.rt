@@ -54,7 +54,7 @@ impl<T> Rows<T> {
         self.items.len()
     }
 
-    /// The item at a place, counted from 0.
+    /// The item at a place below `len`, counted from 0.
     pub fn at(&self, i: usize) -> &T
         requires { i < length self.now }
         ensures { slice_get self.now i ≡ Some result.now }
@@ -77,7 +77,7 @@ impl<T> Rows<T> {
         self.items.push(v)
     }
 
-    /// Puts an item in the place of another, which it answers.
+    /// Puts an item in the place `i` of another, counted from 0 and below `len`, and answers that one.
     pub fn replace(&mut self, i: usize, v: T) -> T
         requires { i < length self.old }
         ensures old { slice_get self.old i ≡ Some result }
@@ -86,7 +86,7 @@ impl<T> Rows<T> {
         mem::replace(&mut self.items[i], v)
     }
 
-    /// Takes the last item out.
+    /// Takes the last item out. Where there is none it answers `None` and changes nothing.
     pub fn pop(&mut self) -> Option<T>
         ensures { MatchOption result ((self.old ≡ []) × (self.new ≡ [])) (λ last. self.old ≡ self.new ++ last ∷ []) }
     {
@@ -114,7 +114,7 @@ impl<T: Drop> Rows<T> {
         Ok(())
     }
 
-    /// Puts an item in the place of another, which is dropped.
+    /// Puts an item in the place `i` of another, counted from 0 and below `len`. That one is dropped.
     pub fn set(&mut self, i: usize, v: T)
         requires { i < length self.old }
         ensures { self.new ≡ slice_set self.old i v }

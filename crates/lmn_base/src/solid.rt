@@ -7,7 +7,7 @@ use std::mem;
 pub struct SolidAtom {
     /// Its label and arity.
     pub functor: Functor,
-    /// The numbers of its links, as many as the arity, by index of the argument.
+    /// The numbers of its links, counted from 0, as many as the arity, by index of the argument.
     pub links: Rows<u64>,
 }
 
@@ -40,6 +40,8 @@ impl Region {
     pub fn dismantle(self) {
         // What is left hangs below `around`, but for `next`. On the way down a region keeps
         // `around` in the place of its first membrane, which is the last that it gives back.
+        // Each round lets one region go or goes down to a new one, and fewer than 2^62 regions fit in
+        // memory, so the loop ends at its `break`.
         let mut around = self;
         let mut next = around.membranes.pop();
         for _ in 0..u64::MAX {

@@ -71,6 +71,10 @@ occurrences_new new old (rule r) n = refl
 pub same_or_not : (x y : ℕ) → (x ≡ y) ⊎ (x ≢ y)
 same_or_not x y = grind arith
 
+-- x is below n, or n, or above n
+pub three_ways : (x n : ℕ) → (x < n) ⊎ ((x ≡ n) ⊎ (n < x))
+three_ways x n = grind arith
+
 -- how often each link occurs after a substitution
 pub data Replaced (new old x : ℕ) (P : Process) : Type 0 where
   is_old : x ≡ old → occurrences x (substitute new old P) ≡ 0 → Replaced new old x P

@@ -3,7 +3,7 @@ use Rattle.std.proofs.Common.{ℕ, suc, ◌≡◌, ◌≢◌, ◌+◌, ◌≤◌
 use Rattle.lmn_congruence.specs.Links.{one_if_same, places}
 use Rattle.lmn_congruence.specs.Process.{Process, nothing, connector, atom, pair, membrane, rule, occurrences, Fresh, Linked, substitute}
 use Rattle.lmn_congruence.specs.Congruence.{Congruent, unit, swap, regroup, rename, beside, inside, loop, turn, absorb, pass, same, back, chain, IsAtom, a_connector, an_atom, ExactlyOneFree}
-use Rattle.lmn_congruence.specs.FreeLinks.{total, above_all, top_of, one_if_once, one_if_free, free_number}
+use Rattle.lmn_congruence.specs.FreeLinks.{total, above_all, link_bound, one_if_once, one_if_free, free_number}
 use Rattle.lmn_congruence.proofs.Counts.{below_or_from, Occurs, count_first, count_second, Alike, same_free, fresh_differs, occurrences_old, occurrences_new, occurrences_other}
 use Rattle.lmn_congruence.proofs.Totals.{total_same, total_two, total_past}
 
@@ -11,7 +11,7 @@ pub places_above : (x : ℕ) (xs : List ℕ) → above_all xs ≤ x → places x
 places_above x [] b = refl
 places_above x (y ∷ ys) b = let i = places_above x ys (omega arith) in grind arith
 
-pub occurrences_above : (x : ℕ) (P : Process) → top_of P ≤ x → occurrences x P ≡ 0
+pub occurrences_above : (x : ℕ) (P : Process) → link_bound P ≤ x → occurrences x P ≡ 0
 occurrences_above x nothing b = refl
 occurrences_above x (connector y z) b = grind arith
 occurrences_above x (atom a ys) b = places_above x ys b
@@ -19,24 +19,24 @@ occurrences_above x (pair P Q) b = omega (arith, occurrences_above x P (omega ar
 occurrences_above x (membrane P) b = occurrences_above x P b
 occurrences_above x (rule r) b = refl
 
-pub occurs_below : (P : Process) (x : ℕ) → Occurs x P → x < top_of P
-occurs_below P x o = go (below_or_from x (top_of P))
+pub occurs_below : (P : Process) (x : ℕ) → Occurs x P → x < link_bound P
+occurs_below P x o = go (below_or_from x (link_bound P))
   where
-    go : (x < top_of P) ⊎ (top_of P ≤ x) → x < top_of P
+    go : (x < link_bound P) ⊎ (link_bound P ≤ x) → x < link_bound P
     go (inl c) = c
     go (inr c) = absurd (o (occurrences_above x P c))
 
-pub free_number_below : (n : ℕ) (P : Process) → top_of P ≤ n → total n (one_if_free P) ≡ free_number P
-free_number_below n P b = total_past (top_of P) n (one_if_free P) b (λ z c. ap one_if_once (occurrences_above z P c))
+pub free_number_below : (n : ℕ) (P : Process) → link_bound P ≤ n → total n (one_if_free P) ≡ free_number P
+free_number_below n P b = total_past (link_bound P) n (one_if_free P) b (λ z c. ap one_if_once (occurrences_above z P c))
 
 pub one_if_free_alike : (m n : ℕ) → Alike m n → one_if_once m ≡ one_if_once n
 one_if_free_alike m n a = grind arith
 
 pub free_number_alike : (P Q : Process) → ((x : ℕ) → Alike (occurrences x P) (occurrences x Q)) → free_number P ≡ free_number Q
 free_number_alike P Q h =
-    sym (free_number_below (top_of P + top_of Q) P (omega arith))
-    ∙ total_same (top_of P + top_of Q) (one_if_free P) (one_if_free Q) (λ z b. one_if_free_alike (occurrences z P) (occurrences z Q) (h z))
-    ∙ free_number_below (top_of P + top_of Q) Q (omega arith)
+    sym (free_number_below (link_bound P + link_bound Q) P (omega arith))
+    ∙ total_same (link_bound P + link_bound Q) (one_if_free P) (one_if_free Q) (λ z b. one_if_free_alike (occurrences z P) (occurrences z Q) (h z))
+    ∙ free_number_below (link_bound P + link_bound Q) Q (omega arith)
 
 pub same_number : (P Q : Process) → ((z : ℕ) → occurrences z P ≡ occurrences z Q) → free_number P ≡ free_number Q
 same_number P Q h = free_number_alike P Q (λ z. let e = h z in record { there = (λ p. omega arith); back_again = (λ p. omega arith) })
@@ -44,7 +44,7 @@ same_number P Q h = free_number_alike P Q (λ z. let e = h z in record { there =
 -- where two processes have the same free links but at two links
 pub free_number_two : (x y : ℕ) (P Q : Process) → x ≢ y → ((z : ℕ) → z ≢ x → z ≢ y → one_if_free P z ≡ one_if_free Q z) → free_number P + (one_if_free Q x + one_if_free Q y) ≡ free_number Q + (one_if_free P x + one_if_free P y)
 free_number_two x y P Q d h =
-    let n = suc x + suc y + top_of P + top_of Q in
+    let n = suc x + suc y + link_bound P + link_bound Q in
     rw (← free_number_below n P (omega arith)) (rw (← free_number_below n Q (omega arith)) (total_two n x y (one_if_free P) (one_if_free Q) d (omega arith) (omega arith) h))
 
 pub free_number_renamed : (x y : ℕ) (P : Process) → y ≢ x → Fresh y P → free_number (substitute y x P) ≡ free_number P

@@ -4,7 +4,7 @@ use Rattle.std.specs.Prelude.{IsTrue}
 use Rattle.std.proofs.lemmas.Bool.{false≢true}
 use Rattle.lmn_congruence.specs.Process.{Process, nothing, connector, atom, pair, membrane, rule, occurrences, Fresh, Local, Linked, Closed, together}
 use Rattle.lmn_congruence.specs.Congruence.{Congruent, unit, swap, chain}
-use Rattle.lmn_congruence.specs.FreeLinks.{top_of}
+use Rattle.lmn_congruence.specs.FreeLinks.{link_bound}
 use Rattle.lmn_congruence.specs.Fused.{fused}
 use Rattle.lmn_congruence.specs.UpToOrder.{Reordered, r_unit, r_swap, r_regroup, r_beside, r_inside, r_same, r_back, r_chain}
 use Rattle.lmn_congruence.proofs.Counts.{below_or_from, same_or_not}
@@ -48,18 +48,18 @@ zero_or_two n h = grind arith
 at_most_two : (n : ℕ) → IsTrue (leb n 2) → n ≤ 2
 at_most_two n h = grind arith
 
-pub linked_by : {P : Process} → IsTrue (all_below (top_of P) (λ z. leb (occurrences z P) 2)) → Linked P
-linked_by {P = P} h = record { at_most_twice = λ z. go z (below_or_from z (top_of P)) }
+pub linked_by : {P : Process} → IsTrue (all_below (link_bound P) (λ z. leb (occurrences z P) 2)) → Linked P
+linked_by {P = P} h = record { at_most_twice = λ z. go z (below_or_from z (link_bound P)) }
   where
-    go : (z : ℕ) → (z < top_of P) ⊎ (top_of P ≤ z) → occurrences z P ≤ 2
-    go z (inl b) = at_most_two (occurrences z P) (tested (top_of P) (λ z. leb (occurrences z P) 2) h z b)
+    go : (z : ℕ) → (z < link_bound P) ⊎ (link_bound P ≤ z) → occurrences z P ≤ 2
+    go z (inl b) = at_most_two (occurrences z P) (tested (link_bound P) (λ z. leb (occurrences z P) 2) h z b)
     go z (inr b) = rw (occurrences_above z P b) (omega arith)
 
-pub closed_by : (P : Process) → IsTrue (all_below (top_of P) (λ z. eqb (occurrences z P) 0 || eqb (occurrences z P) 2)) → Closed P
-closed_by P h = λ z. go z (below_or_from z (top_of P))
+pub closed_by : (P : Process) → IsTrue (all_below (link_bound P) (λ z. eqb (occurrences z P) 0 || eqb (occurrences z P) 2)) → Closed P
+closed_by P h = λ z. go z (below_or_from z (link_bound P))
   where
-    go : (z : ℕ) → (z < top_of P) ⊎ (top_of P ≤ z) → Fresh z P ⊎ Local z P
-    go z (inl b) = zero_or_two (occurrences z P) (tested (top_of P) (λ z. eqb (occurrences z P) 0 || eqb (occurrences z P) 2) h z b)
+    go : (z : ℕ) → (z < link_bound P) ⊎ (link_bound P ≤ z) → Fresh z P ⊎ Local z P
+    go z (inl b) = zero_or_two (occurrences z P) (tested (link_bound P) (λ z. eqb (occurrences z P) 0 || eqb (occurrences z P) 2) h z b)
     go z (inr b) = inl (occurrences_above z P b)
 
 -- ---- congruence by grouping, and by a map of links

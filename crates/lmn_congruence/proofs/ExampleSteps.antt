@@ -1,19 +1,19 @@
 -- The derivations of the examples.
-use Rattle.std.proofs.Common.{ℕ, ◌≡◌, ◌≢◌, ◌+◌, cond, eqb, List, [], ◌∷◌, refl, ap, arith, pos}
+use Rattle.std.proofs.Common.{ℕ, ◌≡◌, ◌≢◌, ◌+◌, ◌^◌, ◌<ℤ◌, ℤ, cond, eqb, List, [], ◌∷◌, refl, ap, arith, pos, negsuc}
 use Rattle.lmn_congruence.specs.Orders.{Among, at_head, further}
 use Rattle.lmn_congruence.specs.Process.{Process, nothing, connector, atom, pair, membrane, rule, Linked, together}
 use Rattle.lmn_congruence.specs.Congruence.{swap, same, back}
-use Rattle.lmn_congruence.specs.Rules.{Name, Rule, head_of}
+use Rattle.lmn_congruence.specs.Rules.{Name, Rule, head_of, Expression, number, operation, over, modulo}
 use Rattle.lmn_congruence.specs.reduction.Parts.{Rooted, an_integer}
 use Rattle.lmn_congruence.specs.reduction.Assignments.{Assignment}
-use Rattle.lmn_congruence.specs.reduction.Instances.{IsCopy, instance, no_leaf, leaf_and, of_atom, of_typed, no_membrane, membrane_and}
-use Rattle.lmn_congruence.specs.reduction.Values.{of_context, of_operation, InRange}
+use Rattle.lmn_congruence.specs.reduction.Instances.{IsCopy, instance, no_leaf, leaf_and, of_atom, of_connector, of_typed, no_membrane, membrane_and}
+use Rattle.lmn_congruence.specs.reduction.Values.{Value, of_number, of_context, of_operation, InRange}
 use Rattle.lmn_congruence.specs.reduction.Guards.{no_condition, condition_and, binds}
 use Rattle.lmn_congruence.specs.reduction.Firing.{Fires, fires, typed_contexts}
 use Rattle.lmn_congruence.specs.reduction.Steps.{Step, SettlingStep, leaf, beside as derived_beside, up_to, out, into}
 use Rattle.lmn_congruence.specs.reduction.Commits.{Commit, already, step_and}
 use Rattle.lmn_congruence.specs.Fused.{NoConnector}
-use Rattle.lmn_congruence.specs.reduction.Examples.{a, b, c, p, int, z, two_make_b, TwoMakeOne, join_in_c, LinkMeetsItself, ConnectorLeaves, LoopVanishes, QuotientsAndRemainders, add_up, SumIsBound, b_makes_c, double_rules, RulesAreCopied}
+use Rattle.lmn_congruence.specs.reduction.Examples.{a, b, c, p, int, z, two_make_b, TwoMakeOne, join_in_c, LinkMeetsItself, ConnectorLeaves, LoopVanishes, QuotientsAndRemainders, add_up, SumIsBound, b_makes_c, double_rules, RulesAreCopied, least, LeastByMinusOne, NothingByZero, tie_ends, LoopIsLeft}
 use Rattle.lmn_congruence.proofs.SettledProcesses.{no_connector_settled}
 use Rattle.lmn_congruence.proofs.Derivations.{zero_not_one, linked_by, closed_by, regrouped, by_one_link}
 
@@ -197,3 +197,52 @@ rules_are_copied =
 
 pub quotients_and_remainders : QuotientsAndRemainders
 quotients_and_remainders = (refl, refl, refl, refl)
+
+-- ---- missing values
+
+too_great : (n : ℕ) → ¬ (pos n <ℤ pos n)
+too_great n = grind arith
+
+no_least_quotient : (t : Assignment) (n : ℤ) → ¬ (Value t (operation over least (number (negsuc 0))) n)
+no_least_quotient t n (of_operation of_number of_number d r) = too_great (2 ^ 63) r.1
+
+minus_one : negsuc 0 ≢ pos 0
+minus_one = grind arith
+
+pub least_by_minus_one : LeastByMinusOne
+least_by_minus_one t = (no_least_quotient t, of_operation of_number of_number minus_one (grind arith, grind arith))
+
+no_quotient : (t : Assignment) (e : Expression) (n : ℤ) → ¬ (Value t (operation over e (number (pos 0))) n)
+no_quotient t e n (of_operation v of_number d r) = d refl
+
+no_remainder : (t : Assignment) (e : Expression) (n : ℤ) → ¬ (Value t (operation modulo e (number (pos 0))) n)
+no_remainder t e n (of_operation v of_number d r) = d refl
+
+pub nothing_by_zero : NothingByZero
+nothing_by_zero t e n = (no_quotient t e n, no_remainder t e n)
+
+-- ---- `a(X,X). a(X,Y) :- X=Y.`
+
+tie_fires : Fires tie_ends (only (together (atom a (0 ∷ 1 ∷ []) ∷ []))) (only (together (connector 0 1 ∷ [])))
+tie_fires = record {
+  matches = record {
+    assignment = assigned (λ n. n) nothing [];
+    proper = record { links_differ = λ m n e. e; no_rule = λ q. tt; links_apart = λ q n. zero_not_one; root_is_free = λ q. refl };
+    guard = no_condition;
+    head = instance (leaf_and of_atom no_leaf) no_membrane;
+  };
+  body = instance (leaf_and of_connector no_leaf) no_membrane;
+}
+
+-- `a(X,Y)` or `X=Y` beside the rule, and `X=Y`
+abbrev tied : Process → Process
+tied P = pair (pair (only (together (P ∷ []))) (rule tie_ends)) (connector 0 1)
+
+tie_step : Step (tied (atom a (0 ∷ 1 ∷ []))) (tied (connector 0 1))
+tie_step = derived_beside (leaf (fires tie_fires) (linked_by refl) (linked_by refl)) (linked_by refl) (linked_by refl)
+
+pub loop_is_left : LoopIsLeft
+loop_is_left =
+    commits (tt, tt) (linked_by refl)
+    (up_to (back (by_one_link (closed_by (tied (atom a (0 ∷ 1 ∷ []))) refl) (linked_by refl) refl refl)) tie_step
+    (by_one_link (closed_by (tied (connector 0 1)) refl) (linked_by refl) refl refl))

@@ -4,7 +4,7 @@ use Rattle.lmn_congruence.specs.Links.{one_if_same, places}
 use Rattle.lmn_congruence.specs.Process.{Process, nothing, connector, atom, pair, membrane, rule, occurrences, Linked, renamed}
 use Rattle.lmn_congruence.specs.Fused.{Joins, fused}
 use Rattle.lmn_congruence.specs.LinkMaps.{SameCrossings}
-use Rattle.lmn_congruence.specs.FreeLinks.{total, above_all, top_of, one_if_once, one_if_free, free_number}
+use Rattle.lmn_congruence.specs.FreeLinks.{total, above_all, link_bound, one_if_once, one_if_free, free_number}
 use Rattle.lmn_congruence.proofs.Counts.{same_or_not, linked_left, linked_right, linked_inside}
 use Rattle.lmn_congruence.proofs.Totals.{total_same, total_single, total_sum, total_zero, total_at_most, highest}
 use Rattle.lmn_congruence.proofs.Crossings.{free_number_below, crossings}
@@ -18,7 +18,7 @@ with_image v z f y = cond (eqb (v y) z) (f y) 0
 image_sum : (v : ℕ → ℕ) (z : ℕ) (f g : ℕ → ℕ) (y : ℕ) → with_image v z (λ y. f y + g y) y ≡ with_image v z f y + with_image v z g y
 image_sum v z f g y = grind arith
 
-total_image_sum : (n : ℕ) (v : ℕ → ℕ) (z : ℕ) (f g : ℕ → ℕ) → total n (with_image v z (λ y. f y + g y)) ≡ total n (with_image v z f) + total n (with_image v z g)
+pub total_image_sum : (n : ℕ) (v : ℕ → ℕ) (z : ℕ) (f g : ℕ → ℕ) → total n (with_image v z (λ y. f y + g y)) ≡ total n (with_image v z f) + total n (with_image v z g)
 total_image_sum n v z f g = total_same n _ _ (λ y b. image_sum v z f g y) ∙ total_sum n (with_image v z f) (with_image v z g)
 
 image_zero : (v : ℕ → ℕ) (z y : ℕ) → with_image v z (λ y. 0) y ≡ 0
@@ -39,7 +39,7 @@ image_places : (n : ℕ) (v : ℕ → ℕ) (z : ℕ) (xs : List ℕ) → above_a
 image_places n v z [] b = total_zero n _ (λ y. image_zero v z y)
 image_places n v z (x ∷ xs) b = omega (arith, total_image_sum n v z (λ y. one_if_same y x) (λ y. places y xs), image_one n v z x (omega arith), image_places n v z xs (omega arith))
 
-pub image_count : (n : ℕ) (v : ℕ → ℕ) (z : ℕ) (P : Process) → top_of P ≤ n → total n (with_image v z (λ y. occurrences y P)) ≡ occurrences z (renamed v P)
+pub image_count : (n : ℕ) (v : ℕ → ℕ) (z : ℕ) (P : Process) → link_bound P ≤ n → total n (with_image v z (λ y. occurrences y P)) ≡ occurrences z (renamed v P)
 image_count n v z nothing b = total_zero n _ (λ y. image_zero v z y)
 image_count n v z (connector x x') b = omega (arith, total_image_sum n v z (λ y. one_if_same y x) (λ y. one_if_same y x'), image_one n v z x (omega arith), image_one n v z x' (omega arith))
 image_count n v z (atom a xs) b = image_places n v z xs b
@@ -48,7 +48,7 @@ image_count n v z (membrane P) b = image_count n v z P b
 image_count n v z (rule r) b = total_zero n _ (λ y. image_zero v z y)
 
 -- the two links of a connector add an even number of places
-image_even : (v : ℕ → ℕ) (z : ℕ) (P : Process) → Joins v P → (k : ℕ) × (occurrences z (renamed v P) ≡ occurrences z (fused v P) + k * 2)
+pub image_even : (v : ℕ → ℕ) (z : ℕ) (P : Process) → Joins v P → (k : ℕ) × (occurrences z (renamed v P) ≡ occurrences z (fused v P) + k * 2)
 image_even v z nothing h = (0, refl)
 image_even v z (connector x y) h = (one_if_same z (v x), rw (← h) (omega arith))
 image_even v z (atom a xs) h = (0, omega arith)
@@ -71,9 +71,9 @@ odd_one a f t k e = go (same_or_not a 1)
     go (inr p) = grind arith
 
 -- an image that is free in the fused process has a free link
-pub free_image : (v : ℕ → ℕ) (z : ℕ) (P : Process) → Joins v P → Linked P → one_if_once (occurrences z (fused v P)) ≤ total (top_of P) (with_image v z (one_if_free P))
+pub free_image : (v : ℕ → ℕ) (z : ℕ) (P : Process) → Joins v P → Linked P → one_if_once (occurrences z (fused v P)) ≤ total (link_bound P) (with_image v z (one_if_free P))
 free_image v z P h l =
-    let n = top_of P in
+    let n = link_bound P in
     let twos : ℕ → ℕ = λ y. two_if (occurrences y P) in
     let split : total n (with_image v z (λ y. occurrences y P)) ≡ total n (with_image v z (λ y. one_if_free P y + (twos y + twos y))) = total_same n _ _ (λ y b. ap (λ k. cond (eqb (v y) z) k 0) (split_count (occurrences y P) (l.at_most_twice y))) in
     let even = image_even v z P h in
@@ -96,14 +96,14 @@ all_images N (suc n) v f h = omega (arith, total_sum N (λ z. with_image v z f n
 
 pub free_number_fused : (v : ℕ → ℕ) (P : Process) → Joins v P → Linked P → free_number (fused v P) ≤ free_number P
 free_number_fused v P h l =
-    let n = top_of P in
-    let N = top_of (fused v P) + total n (λ y. suc (v y)) in
+    let n = link_bound P in
+    let N = link_bound (fused v P) + total n (λ y. suc (v y)) in
     let a = total_at_most N (one_if_free (fused v P)) (λ z. total n (with_image v z (one_if_free P))) (λ z. free_image v z P h l) in
     let b = all_images N n v (one_if_free P) (λ y q. at y q) in
     omega (arith, a, b, free_number_below N (fused v P) (omega arith))
   where
-    at : (y : ℕ) → y < top_of P → v y < top_of (fused v P) + total (top_of P) (λ y. suc (v y))
-    at y q = omega (arith, highest (top_of P) v y q)
+    at : (y : ℕ) → y < link_bound P → v y < link_bound (fused v P) + total (link_bound P) (λ y. suc (v y))
+    at y q = omega (arith, highest (link_bound P) v y q)
 
 -- No process has fewer crossings than it has when its connectors are fused.
 pub crossings_fused : (v : ℕ → ℕ) (P : Process) → Joins v P → Linked P → crossings (fused v P) ≤ crossings P

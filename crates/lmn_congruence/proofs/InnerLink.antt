@@ -5,7 +5,7 @@ use Rattle.lmn_congruence.specs.Links.{one_if_same}
 use Rattle.lmn_congruence.specs.Process.{Process, nothing, connector, atom, pair, membrane, rule, occurrences, substitute, together}
 use Rattle.lmn_congruence.specs.Congruence.{Congruent, unit, swap, regroup, rename, beside, inside, loop, turn, absorb, pass, same, back, chain}
 use Rattle.lmn_congruence.specs.Rules.{Rule, head_of}
-use Rattle.lmn_congruence.specs.FreeLinks.{top_of, one_if_once, one_if_free, free_number}
+use Rattle.lmn_congruence.specs.FreeLinks.{link_bound, one_if_once, one_if_free, free_number}
 use Rattle.lmn_congruence.specs.reduction.Assignments.{Assignment, Proper}
 use Rattle.lmn_congruence.specs.reduction.Instances.{Instance, instance, no_leaf, leaf_and, of_atom, no_membrane, membrane_and}
 use Rattle.lmn_congruence.specs.reduction.Firing.{Matches}
@@ -58,7 +58,7 @@ kept_rules H (chain d e) = let i = kept_rules H d in let j = kept_rules H e in (
 -- ---- the links across the membrane of an instance of the head
 
 one_free : (x y : ℕ) (C : Process) → x ≢ y → ((z : ℕ) → occurrences z C ≡ one_if_same z x + one_if_same z y) → free_number C ≢ 0
-one_free x y C d h = not_zero (one_if_free C x) (free_number C) (ap one_if_once f) (total_includes (top_of C) (one_if_free C) x (occurs_below C x (occurs_once (occurrences x C) f)))
+one_free x y C d h = not_zero (one_if_free C x) (free_number C) (ap one_if_once f) (total_includes (link_bound C) (one_if_free C) x (occurs_below C x (occurs_once (occurrences x C) f)))
   where
     first_one : (x y : ℕ) → x ≢ y → one_if_same x x + one_if_same x y ≡ 1
     first_one x y d = grind arith

@@ -2,6 +2,7 @@ pub mod Appended
 pub mod NumberedRules
 pub mod TranslatedLinks
 pub mod TranslatedItems
+pub mod TranslatedNames
 pub mod Counts
 pub mod Totals
 pub mod Crossings
@@ -17,6 +18,7 @@ pub mod SettledProcesses
 pub mod Merges
 pub mod SettledForms
 pub mod Plains
+pub mod OneSolid
 pub mod Derivations
 pub mod ExampleSteps
 pub mod Redexes

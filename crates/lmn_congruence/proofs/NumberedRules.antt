@@ -9,7 +9,7 @@ use Rattle.lmn_base.specs.Levels.{rules_of}
 use Rattle.lmn_base.specs.WellMade.{IsWellMade}
 use Rattle.lmn_congruence.specs.Rules as tree
 use Rattle.lmn_congruence.proofs.Appended.{all_left, all_right}
-use Rattle.lmn_congruence.specs.Translation.{level_of, level_step, levels, rule_tree, rules_from, rule_of, no_such_rule}
+use Rattle.lmn_congruence.specs.Translation.{level_of, level_step, levels, rule_tree, rules_from, numbered_rule, no_such_rule}
 
 same_map : {A B : Type 0} (f g : A → B) (xs : List A) → All (λ x. f x ≡ g x) xs → map f xs ≡ map g xs
 same_map f g [] h = refl
@@ -71,10 +71,10 @@ rule_behind names (q ∷ table) k zero r e h =
 rule_behind names (q ∷ table) k (suc n) r e h =
     rule_behind names table (k + 1) n r e (λ i d l. omega (arith, h i d l)) ∙ moved_on names q r table k (λ i d l. omega (arith, h i d l))
 
-from_first : (names : List tree.Name) (table : List RuleTree) (m : ℕ) → numbered names table 0 m ≡ rule_of names table m
+from_first : (names : List tree.Name) (table : List RuleTree) (m : ℕ) → numbered names table 0 m ≡ numbered_rule names table m
 from_first names table m = let e : m - 0 ≡ m = omega arith in rw e refl
 
-pub rule_has_number : (names : List tree.Name) (p : Plain) (n : ℕ) (r : RuleTree) → IsWellMade p → slice_get p.rules n ≡ Some r → rule_of names p.rules n ≡ rule_tree names (rule_of names p.rules) r
+pub rule_has_number : (names : List tree.Name) (p : Plain) (n : ℕ) (r : RuleTree) → IsWellMade p → slice_get p.rules n ≡ Some r → numbered_rule names p.rules n ≡ rule_tree names (numbered_rule names p.rules) r
 rule_has_number names p n r w e =
     rule_behind names p.rules 0 n r e (λ i d l. omega (arith, (w.rules_in_rules n r e i d l).0)) ∙
-    rule_alike names (numbered names p.rules 0) (rule_of names p.rules) r (λ i d l. from_first names p.rules (slice_index_or (rules_of r.head ++ rules_of r.body) i d))
+    rule_alike names (numbered names p.rules 0) (numbered_rule names p.rules) r (λ i d l. from_first names p.rules (slice_index_or (rules_of r.head ++ rules_of r.body) i d))

@@ -3,14 +3,14 @@ use Rattle.std.proofs.Common.{ℕ, ◌≡◌, List, [], ◌∷◌, map, refl, sy
 use Rattle.lmn_congruence.proofs.Counts.{linked_as}
 use Rattle.lmn_congruence.proofs.Reordered.{r_right, reordered_congruent, reordered_count}
 use Rattle.lmn_congruence.proofs.LinkMaps.{closed_leaves, closed_linked}
-use Rattle.lmn_congruence.proofs.Solids.{region_plain, congruent_same}
+use Rattle.lmn_congruence.proofs.Solids.{region_plain}
 use Rattle.lmn_congruence.proofs.SettledProcesses.{no_connector_settled, towards_joined, towards_closed}
-use Rattle.lmn_congruence.proofs.SettledForms.{settles_fused, closed_form, read_back, settles_once}
+use Rattle.lmn_congruence.proofs.SettledForms.{settles_fused, closed_form, read_back}
 use Rattle.lmn_congruence.specs.UpToOrder.{Reordered, r_unit, r_beside, r_inside, r_same, r_chain}
-use Rattle.lmn_congruence.specs.Process.{pair, rule, Linked, Closed, together}
+use Rattle.lmn_congruence.specs.Process.{pair, rule, Linked, together}
 use Rattle.lmn_congruence.specs.Rules.{Rule, Leaf, atom_leaf, connector_leaf, typed_leaf, Level, level, Levels, no_level, level_and, rules_list}
 use Rattle.lmn_congruence.specs.Fused.{fused}
-use Rattle.lmn_congruence.specs.reduction.Laws.{SolidsSettled, PlainHasSolid, SolidIsOne}
+use Rattle.lmn_congruence.specs.reduction.Laws.{SolidsSettled, PlainHasSolid}
 use Rattle.lmn_congruence.specs.reduction.Commits.{Settles, already}
 use Rattle.lmn_congruence.specs.Regions.{Region, region_process, atom_process, regions_processes}
 use Rattle.lmn_congruence.specs.Plains.{leaf_process, level_process, levels_processes, fused_leaves, fused_level, fused_levels, SolidOf}
@@ -26,7 +26,7 @@ rules_kept v [] = refl
 rules_kept v (r ∷ rs) = ap (pair (rule r)) (rules_kept v rs)
 
 mutual
-  level_reordered : (v : ℕ → ℕ) (l : Level) → Reordered (fused v (level_process l)) (region_process (fused_level v l))
+  pub level_reordered : (v : ℕ → ℕ) (l : Level) → Reordered (fused v (level_process l)) (region_process (fused_level v l))
   level_reordered v (level leaves membranes contexts rule_contexts rules) =
       r_chain (r_beside (leaves_reordered v leaves)) (r_right (r_chain (r_beside (levels_reordered v membranes)) (r_right (r_same (rules_kept v (rules_list rules))))))
 
@@ -37,13 +37,13 @@ mutual
 pub solids_settled : SolidsSettled
 solids_settled S = no_connector_settled (region_process S) (region_plain S)
 
-pub plain_settles : (top : Level) (S : Region) → Closed (level_process top) → SolidOf top S → Settles (level_process top) (region_process S)
-plain_settles top S c s =
+pub plain_settles : (top : Level) (S : Region) → SolidOf top S → Settles (level_process top) (region_process S)
+plain_settles top S s =
     let P = level_process top in
     let o : Reordered (fused s.to P) (region_process S) = subst (λ k. Reordered (fused s.to P) (region_process k)) (sym s.is) (level_reordered s.to top) in
     let l : Linked (region_process S) = closed_linked s.closed in
     let k : Linked (fused s.to P) = linked_as (λ z. sym (reordered_count o z)) l in
-    let t = settles_fused s.to P (closed_linked c) s.joins (closed_leaves s.to P c) k in
+    let t = settles_fused s.to P (closed_linked s.closed_top) s.joins (closed_leaves s.to P s.closed_top) k in
     record { settled = solids_settled S; towards = towards_joined t.towards (already (reordered_congruent o k)) }
 
 -- ---- the solid of a plain
@@ -56,13 +56,10 @@ plain_has_solid top c =
     let k = towards_closed f.towards c in (
       fused_level v.0 top,
       record {
+        closed_top = c;
         to = v.0;
         joins = v.1;
         is = refl;
         closed = λ z. rw (← reordered_count (level_reordered v.0 top) z, reordered_count v.2 z) (k z);
       },
     )
-
-pub solid_is_one : SolidIsOne
-solid_is_one top S S' c s s' =
-    congruent_same S S' s.closed (settles_once (level_process top) (region_process S) (region_process S') c (plain_settles top S c s) (plain_settles top S' c s'))

@@ -5,7 +5,7 @@ use Rattle.lmn_congruence.specs.Congruence.{Congruent, regroup, beside, inside, 
 use Rattle.lmn_congruence.specs.Rules.{Name, Leaf, atom_leaf, Level, level, Levels, Rule, head_of, Rules, rules_list, Condition, Expression}
 use Rattle.lmn_congruence.specs.reduction.Firing.{typed_contexts, Matches, fires}
 use Rattle.lmn_congruence.specs.reduction.Redexes.{HasRedex, at_top, in_membrane, ShowsRedex}
-use Rattle.lmn_congruence.specs.FreeLinks.{top_of}
+use Rattle.lmn_congruence.specs.FreeLinks.{link_bound}
 use Rattle.lmn_congruence.specs.reduction.Assignments.{NoRuleAtTop, Assignment, Proper}
 use Rattle.lmn_congruence.specs.reduction.Parts.{Rooted}
 use Rattle.lmn_congruence.specs.reduction.Guards.{GuardHolds, no_condition, condition_and, Holds, of_kind, in_order, binds, alike, unlike}
@@ -148,7 +148,7 @@ redex_beside {Q = S} (in_membrane {P = P} {Q = Q} d) l =
 shown_beside : {P Q : Process} → ShowsRedex P → Linked (pair P Q) → ShowsRedex (pair P Q)
 shown_beside {P = P} {Q = Q} s l =
     let P₀ = s.process in
-    let K : ℕ = top_of P₀ + top_of Q in
+    let K : ℕ = link_bound P₀ + link_bound Q in
     let f = moved_away K P₀ in
     let one = away_apart K P₀ (λ x o. omega (arith, occurs_below P₀ x o)) in
     let d = rename_all f P₀ (linked_both s.congruent).1 (λ x y o o' e. one x y e) (λ x e. away_free K x P₀ e) in

@@ -4,8 +4,8 @@ use Rattle.std.proofs.lemmas.List.{map-id}
 use Rattle.lmn_congruence.specs.Links.{one_if_same, places}
 use Rattle.lmn_congruence.specs.Process.{Process, nothing, connector, atom, pair, membrane, rule, occurrences, replace, Free, Local, Linked, substitute, renamed, OneToOneOn}
 use Rattle.lmn_congruence.specs.Congruence.{Congruent, rename, same, chain}
-use Rattle.lmn_congruence.proofs.Counts.{one_if_equal, none_if_apart, below_or_from, less_apart, same_or_not, linked_both, Occurs, in_head, in_tail, first_in, second_in, in_left, in_right, occurs_once, occurs_twice, map_after, map_agree, replaced_here, replaced_other}
-use Rattle.lmn_congruence.specs.FreeLinks.{total, top_of}
+use Rattle.lmn_congruence.proofs.Counts.{one_if_equal, none_if_apart, below_or_from, less_apart, same_or_not, three_ways, linked_both, Occurs, in_head, in_tail, first_in, second_in, in_left, in_right, occurs_once, occurs_twice, map_after, map_agree, replaced_here, replaced_other}
+use Rattle.lmn_congruence.specs.FreeLinks.{total, link_bound}
 use Rattle.lmn_congruence.proofs.Totals.{highest}
 use Rattle.lmn_congruence.proofs.Crossings.{occurs_below}
 
@@ -94,9 +94,6 @@ mixed_from n a b x l = grind arith
 how_often : (n : ℕ) → n ≤ 2 → (n ≡ 0) ⊎ ((n ≡ 1) ⊎ (n ≡ 2))
 how_often n l = grind arith
 
-three_ways : (x n : ℕ) → (x < n) ⊎ ((x ≡ n) ⊎ (n < x))
-three_ways x n = grind arith
-
 module _ (a b : ℕ → ℕ) (P : Process) (m : Movable a b P) (l : Linked P) where
   -- a link below n, at its new name, is not the old name of n
   new_not_old : (x n : ℕ) → x < n → Occurs x P → Occurs n P → b x ≢ a n
@@ -172,8 +169,8 @@ module _ (a b : ℕ → ℕ) (P : Process) (m : Movable a b P) (l : Linked P) wh
   pub move : Linked (renamed a P) → Congruent (renamed a P) (renamed b P)
   move k =
       let start : renamed (mixed 0 a b) P ≡ renamed a P = renamed_agree (mixed 0 a b) a P (λ x o. mixed_from 0 a b x (omega arith)) in
-      let end : renamed (mixed (top_of P) a b) P ≡ renamed b P = renamed_agree (mixed (top_of P) a b) b P (λ x o. mixed_below (top_of P) a b x (occurs_below P x o)) in
-      rw (← start, ← end) (move_up_to (top_of P) (rw start k))
+      let end : renamed (mixed (link_bound P) a b) P ≡ renamed b P = renamed_agree (mixed (link_bound P) a b) b P (λ x o. mixed_below (link_bound P) a b x (occurs_below P x o)) in
+      rw (← start, ← end) (move_up_to (link_bound P) (rw start k))
 
 -- ---- a renaming that is one to one and leaves the free links
 
@@ -246,5 +243,5 @@ module _ (K : ℕ) (P : Process) (l : Linked P) (above : (x : ℕ) → Occurs x 
 -- Local links may be renamed all at once.
 pub rename_all : (f : ℕ → ℕ) (P : Process) → Linked P → OneToOneOn f P → ((x : ℕ) → Free x P → f x ≡ x) → Congruent P (renamed f P)
 rename_all f P l one stay =
-    rename_below (top_of P + total (top_of P) (λ y. suc (f y))) P l (λ x o. omega (arith, occurs_below P x o)) f one stay
-    (λ x o. omega (arith, highest (top_of P) f x (occurs_below P x o)))
+    rename_below (link_bound P + total (link_bound P) (λ y. suc (f y))) P l (λ x o. omega (arith, occurs_below P x o)) f one stay
+    (λ x o. omega (arith, highest (link_bound P) f x (occurs_below P x o)))

@@ -7,7 +7,7 @@ use Rattle.lmn_base.specs.declared.solid.Region.TheFolds.{fold-Region, fold-roll
 use Rattle.lmn_base.specs.Solids.{items_step}
 use Rattle.lmn_congruence.specs.Regions as solid
 use Rattle.lmn_congruence.specs.Rules as tree
-use Rattle.lmn_congruence.specs.Translation.{solid_atom_of, regions, region_step, rule_of}
+use Rattle.lmn_congruence.specs.Translation.{solid_atom_of, regions, region_step, numbered_rule}
 use Rattle.lmn_congruence.specs.TranslationLaws.{ItemsKept}
 
 module _ (names : List tree.Name) (number : ℕ → tree.Rule) where
@@ -31,4 +31,4 @@ module _ (names : List tree.Name) (number : ℕ → tree.Rule) where
       (omega (arith, inside, length-map y.atoms (solid_atom_of names), length-map y.rules number, length-map y.membranes (fold-Region ℕ items_step))))
 
 pub items_kept : ItemsKept
-items_kept names table s = same_items names (rule_of names table) s.root
+items_kept names table s = same_items names (numbered_rule names table) s.root

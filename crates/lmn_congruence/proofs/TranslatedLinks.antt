@@ -23,8 +23,8 @@ use Rattle.lmn_congruence.specs.Regions as solid
 use Rattle.lmn_congruence.proofs.Appended.{all_left, all_right}
 use Rattle.lmn_congruence.specs.Rules as tree
 use Rattle.lmn_congruence.specs.LinkedRules.{leaf_occurrences, leaves_occurrences, level_occurrences, levels_occurrences}
-use Rattle.lmn_congruence.specs.Translation.{atom_of, leaf_of, level_of, level_step, levels, rules, solid_atom_of, regions, region_step, rule_of}
-use Rattle.lmn_congruence.specs.TranslationLaws.{LevelLinksKept, TopLinksKept, SolidLinksKept}
+use Rattle.lmn_congruence.specs.Translation.{atom_of, leaf_of, level_of, level_step, levels, rules, solid_atom_of, regions, region_step, numbered_rule}
+use Rattle.lmn_congruence.specs.TranslationLaws.{LevelLinksKept, TopLinksKept, SolidLinksKept, LinkedRulesKept, SolidsClosed, PlainsClosed}
 
 places_append : (x : ℕ) (xs ys : List ℕ) → places x (xs ++ ys) ≡ places x xs + places x ys
 places_append x [] ys = omega arith
@@ -159,7 +159,21 @@ pub level_links : LevelLinksKept
 level_links names number l x = level_places names number x l ∙ sym (counted x (links_of l))
 
 pub top_links : TopLinksKept
-top_links names p w x = top_places names (rule_of names p.rules) x p.top w.only_atoms ∙ sym (counted x (links_of p.top))
+top_links names p w x = top_places names (numbered_rule names p.rules) x p.top w.only_atoms ∙ sym (counted x (links_of p.top))
 
 pub solid_links_kept : SolidLinksKept
-solid_links_kept names table s x = region_places names (rule_of names table) x s.root ∙ sym (counted x (solid_links s.root))
+solid_links_kept names table s x = region_places names (numbered_rule names table) x s.root ∙ sym (counted x (solid_links s.root))
+
+-- ---- closed processes, linked rules
+
+pub linked_rules : LinkedRulesKept
+linked_rules names number r = ((λ h x. rw (both_parts x) (h x)), (λ h x. rw (← both_parts x) (h x)))
+  where
+    both_parts : (x : ℕ) → level_occurrences x (level_of names number r.head) + level_occurrences x (level_of names number r.body) ≡ count_by (λ y. x == y) (links_of r.head ++ links_of r.body)
+    both_parts x = omega (arith, level_links names number r.head x, level_links names number r.body x, counted x (links_of r.head), counted x (links_of r.body), counted x (links_of r.head ++ links_of r.body), places_append x (links_of r.head) (links_of r.body))
+
+pub solids_closed : SolidsClosed
+solids_closed names table s k = λ x. rw (solid_links_kept names table s x) (k.closed x)
+
+pub plains_closed : PlainsClosed
+plains_closed names p w = ((λ h x. rw (top_links names p w x) (h x)), (λ h x. rw (← top_links names p w x) (h x)))

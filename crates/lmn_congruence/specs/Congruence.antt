@@ -1,3 +1,4 @@
+-- Structural congruence.
 use Rattle.std.specs.Prelude.{ℕ, ◌⊎◌, List}
 use Rattle.lmn_congruence.specs.Process.{Process, nothing, connector, atom, pair, membrane, Free, Local, Fresh, Linked, substitute}
 use Rattle.lmn_congruence.specs.Rules.{Label}
@@ -13,7 +14,8 @@ pub data IsAtom : Process → Type 0 where
 
 -- Structural congruence: the derivations by Ueda's rules E1 to E10, reflexivity, symmetry and transitivity.
 -- By our profile both sides of each conclusion are linked. This is written where it doesn't follow, and the
--- law `both_sides_are_linked` says it of every derivation.
+-- law `both_sides_are_linked` says it of every derivation. The side conditions of E9 and E10 are ours as they stand:
+-- no agreement with the paper's own print of them is claimed.
 --   unit E1   swap E2   regroup E3   rename E4   beside E5   inside E6   loop E7   turn E8   absorb E9   pass E10
 pub data Congruent : Process → Process → Type 0 where
   unit : {P : Process} → Linked P → Congruent (pair nothing P) P

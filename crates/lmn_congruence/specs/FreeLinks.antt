@@ -1,3 +1,4 @@
+-- How many links of a process are free.
 use Rattle.std.specs.Prelude.{ℕ, zero, suc, ◌+◌, ◌==◌, cond, List, [], ◌∷◌}
 use Rattle.lmn_congruence.specs.Process.{Process, nothing, connector, atom, pair, membrane, rule, occurrences}
 
@@ -11,13 +12,13 @@ abbrev pub above_all : List ℕ → ℕ
 above_all [] = 0
 above_all (x ∷ xs) = suc x + above_all xs
 
-abbrev pub top_of : Process → ℕ
-top_of nothing = 0
-top_of (connector x y) = suc x + suc y
-top_of (atom a xs) = above_all xs
-top_of (pair P Q) = top_of P + top_of Q
-top_of (membrane P) = top_of P
-top_of (rule r) = 0
+abbrev pub link_bound : Process → ℕ
+link_bound nothing = 0
+link_bound (connector x y) = suc x + suc y
+link_bound (atom a xs) = above_all xs
+link_bound (pair P Q) = link_bound P + link_bound Q
+link_bound (membrane P) = link_bound P
+link_bound (rule r) = 0
 
 -- 1 where a link is free, and else 0
 abbrev pub one_if_once : ℕ → ℕ
@@ -28,4 +29,4 @@ one_if_free P x = one_if_once (occurrences x P)
 
 -- the number of free links of a process
 abbrev pub free_number : Process → ℕ
-free_number P = total (top_of P) (one_if_free P)
+free_number P = total (link_bound P) (one_if_free P)

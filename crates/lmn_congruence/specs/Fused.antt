@@ -1,3 +1,4 @@
+-- Maps of links that join the links of connectors, and processes fused by them.
 use Rattle.std.specs.Prelude.{ℕ, ◌≡◌, map}
 use Rattle.lmn_congruence.specs.Process.{Process, nothing, connector, atom, pair, membrane, rule}
 

@@ -1,3 +1,4 @@
+-- The laws of congruence.
 use Rattle.std.specs.Prelude.{ℕ, ◌↔◌}
 use Rattle.lmn_congruence.specs.Process.{Process, Free, Linked, Closed}
 use Rattle.lmn_congruence.specs.Congruence.{Congruent}

@@ -1,3 +1,4 @@
+-- Congruence to a process without connectors, as a map of links.
 use Rattle.std.specs.Prelude.{ℕ, ◌≡◌}
 use Rattle.lmn_congruence.specs.Process.{Process, nothing, connector, atom, pair, membrane, rule, Free}
 use Rattle.lmn_congruence.specs.Fused.{Joins, fused}

@@ -1,3 +1,4 @@
+-- When a rule is linked.
 use Rattle.std.specs.Prelude.{ℕ, ◌≡◌, ◌+◌, ◌⊎◌, List, [], ◌∷◌}
 use Rattle.lmn_congruence.specs.Links.{places, one_if_same}
 use Rattle.lmn_congruence.specs.Rules.{Leaf, atom_leaf, connector_leaf, typed_leaf, Level, level, Levels, no_level, level_and, Rule, head_of, body_of}

@@ -1,3 +1,4 @@
+-- Links, and how often one stands in a list.
 use Rattle.std.specs.Prelude.{ℕ, ◌+◌, ◌==◌, cond, List, [], ◌∷◌}
 
 -- A link is a number. 1 where two links are one, and else 0.

@@ -1,3 +1,4 @@
+-- Lists up to their order.
 use Rattle.std.specs.Prelude.{List, [], ◌∷◌}
 
 -- an element of a list

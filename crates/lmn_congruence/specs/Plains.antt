@@ -1,11 +1,10 @@
+-- The process of a plain's top, and its solid. A text has a level at its top. The type also allows contexts
+-- there: a text with one is refused, and here they stand for nothing.
 use Rattle.std.specs.Prelude.{ℕ, ◌≡◌, List, [], ◌∷◌, map}
 use Rattle.lmn_congruence.specs.Process.{Process, nothing, connector, atom, pair, membrane, rule, Closed, together}
 use Rattle.lmn_congruence.specs.Rules.{Leaf, atom_leaf, connector_leaf, typed_leaf, Level, level, Levels, no_level, level_and, rules_list}
 use Rattle.lmn_congruence.specs.Fused.{Joins}
 use Rattle.lmn_congruence.specs.Regions.{SolidAtom, Region, region, Regions, no_region, region_and, region_process}
-
--- A text has a level at its top. The type also allows contexts there: a text with one is refused, and here
--- they stand for nothing.
 
 abbrev pub leaf_process : Leaf → Process
 leaf_process (atom_leaf a xs) = atom a xs
@@ -39,11 +38,13 @@ abbrev mutual
   fused_levels v no_level = no_region
   fused_levels v (level_and l ls) = region_and (fused_level v l) (fused_levels v ls)
 
--- S is the solid of the plain with this top, up to the numbers of links. One map of links takes the two links
--- of each connector to one, through any membranes. Each link of S stands in exactly two places. So two ports
--- are joined in S exactly where a chain of links and connectors leads from one to the other: ports of one
--- chain have one image, and two chains with one image would make four places. A loop has no port, and vanishes.
+-- S is the solid of the plain with this top, up to the numbers of links. Each link of the top stands in exactly
+-- two places, connectors included, and one map of links takes the two links of each connector to one, through
+-- any membranes. Each link of S stands in exactly two places. So two ports are joined in S exactly where a
+-- chain of links and connectors leads from one to the other: ports of one chain have one image, and two chains
+-- with one image would make four places. A loop has no port, and vanishes. An open top has no solid.
 pub record SolidOf (top : Level) (S : Region) : Type 0 where
+  pub closed_top : Closed (level_process top)
   pub to : ℕ → ℕ
   pub joins : Joins to (level_process top)
   pub is : S ≡ fused_level to top

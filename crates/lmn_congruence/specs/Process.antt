@@ -1,3 +1,4 @@
+-- Processes, and the places of their links.
 use Rattle.std.specs.Prelude.{ℕ, ◌≡◌, ◌≢◌, ◌+◌, ◌≤◌, ◌==◌, ◌⊎◌, cond, List, [], ◌∷◌, map}
 use Rattle.lmn_congruence.specs.Links.{one_if_same, places}
 use Rattle.lmn_congruence.specs.Rules.{Label, Rule}

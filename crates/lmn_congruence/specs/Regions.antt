@@ -1,3 +1,4 @@
+-- The regions of solids, their processes and their items.
 use Rattle.std.specs.Prelude.{ℕ, ◌+◌, List, [], ◌∷◌, map, length}
 use Rattle.lmn_congruence.specs.Process.{Process, atom, pair, membrane, rule, together}
 use Rattle.lmn_congruence.specs.Rules.{Label, Rule}

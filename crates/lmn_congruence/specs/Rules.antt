@@ -1,12 +1,12 @@
-use Rattle.std.specs.Prelude.{ℕ, ℤ, List, [], ◌∷◌}
-
 -- The trees of rules. A rule that stands in another one is written out. Links are numbers, by their first
 -- occurrence in the rule, so equal rules are equal trees. Where a rule stood in a text is left out.
 --
 -- The types also hold trees that are of no accepted rule: a context, a connector or a rule where none may
--- stand, a context that doesn't occur as often as it must, a guard that binds a name twice, links that don't
--- occur twice or are numbered otherwise, names with numbers above 255, integers of more than 64 bits. A text
--- with such a rule is refused, so no process that runs has one. The laws hold of them too.
+-- stand, a context that doesn't occur as often as it must, a context of the guard or the body that the head
+-- lacks and the guard doesn't bind, a guard that binds a name twice or uses it before, links that don't occur
+-- twice or are numbered otherwise, names with bytes above 255, integers of more than 64 bits. A text with such
+-- a rule is refused, so no process that runs has one. The laws hold of them too.
+use Rattle.std.specs.Prelude.{ℕ, ℤ, List, [], ◌∷◌}
 
 -- a name by its bytes
 abbrev pub Name : Type 0

@@ -1,3 +1,4 @@
+-- When two solids are the same.
 use Rattle.std.specs.Prelude.{ℕ, ◌≡◌, List, map}
 use Rattle.lmn_congruence.specs.Orders.{Shuffle}
 use Rattle.lmn_congruence.specs.Process.{OneToOneOn}
@@ -6,6 +7,22 @@ use Rattle.lmn_congruence.specs.Regions.{SolidAtom, Region, region, Regions, no_
 
 abbrev pub renamed_atom : (ℕ → ℕ) → SolidAtom → SolidAtom
 renamed_atom f a = record { label = a.label; links = map f a.links }
+
+-- a region with all its links renamed, every list in its order
+abbrev mutual
+  pub renamed_region : (ℕ → ℕ) → Region → Region
+  renamed_region f (region atoms membranes rules) =
+      region (map (renamed_atom f) atoms) (renamed_regions f membranes) rules
+
+  pub renamed_regions : (ℕ → ℕ) → Regions → Regions
+  renamed_regions f no_region = no_region
+  renamed_regions f (region_and r rs) = region_and (renamed_region f r) (renamed_regions f rs)
+
+-- S' is S but for the numbers of links
+pub record IsRenamed (S S' : Region) : Type 0 where
+  pub to : ℕ → ℕ
+  pub one_to_one : OneToOneOn to (region_process S)
+  pub is : S' ≡ renamed_region to S
 
 -- the last list is the first one with a region put in at some place
 pub data PutRegion (m : Region) : Regions → Regions → Type 0 where

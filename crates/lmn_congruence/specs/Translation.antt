@@ -1,6 +1,9 @@
 -- The values that the program keeps, as trees, regions and processes. `names` has the bytes of each name by
--- its number, and `table` the rules by theirs. Places in the text are left out.
-use Rattle.std.specs.Prelude.{ℕ, zero, suc, ◌+◌, ◌-◌, List, [], ◌∷◌, map, slice_index_or}
+-- its number, and `table` the rules by theirs. Both are meant of lists that hold every number in use: of names
+-- `NamesPlain` and `NamesSolid` of `lmn_base` say so, of rules `IsWellMade` and `HasRules`. Places in the text
+-- are left out.
+use Rattle.std.specs.Prelude.{ℕ, zero, ◌+◌, ◌-◌, ◌==◌, if◌then◌else◌, List, [], ◌∷◌, map, slice_index_or}
+use Rattle.lmn_base.specs.declared.functor.TheConstants.{INT_NAME, UNARY_NAME, GROUND_NAME}
 use Rattle.lmn_base.specs.declared.functor.Label.{Label}
 use Rattle.lmn_base.specs.declared.functor.Label.TheVariants.{Name, Int}
 use Rattle.lmn_base.specs.declared.level.CtxUse.{CtxUse}
@@ -24,6 +27,7 @@ use Rattle.lmn_base.specs.declared.solid.SolidAtom.{SolidAtom}
 use Rattle.lmn_base.specs.declared.solid.Region.TheOpen.{Region-F}
 use Rattle.lmn_base.specs.declared.solid.Region.TheFolds.{fold-Region}
 use Rattle.lmn_base.specs.declared.solid.Solid.{Solid}
+use Rattle.lmn_base.specs.Solids.{IsSolid}
 use Rattle.lmn_congruence.specs.Process.{Process}
 use Rattle.lmn_congruence.specs.Rules as tree
 use Rattle.lmn_congruence.specs.Regions as solid
@@ -61,7 +65,8 @@ rules (r ∷ rs) = tree.rule_and r (rules rs)
 -- a level, where `rule` gives the rule with a number
 abbrev pub level_step : List tree.Name → (ℕ → tree.Rule) → Level-F tree.Level → tree.Level
 level_step names rule l =
-    tree.level (map (leaf_of names) l.leaves) (levels l.membranes) (names_of names l.contexts) (names_of names l.rule_contexts) (rules (map rule l.rules))
+    tree.level (map (leaf_of names) l.leaves) (levels l.membranes)
+    (names_of names l.contexts) (names_of names l.rule_contexts) (rules (map rule l.rules))
 
 abbrev pub level_of : List tree.Name → (ℕ → tree.Rule) → Level → tree.Level
 level_of names rule = fold-Level tree.Level (level_step names rule)
@@ -89,21 +94,25 @@ comparison_of Ge = tree.at_least
 comparison_of Eq = tree.equal
 comparison_of Ne = tree.unequal
 
--- the conditions `int`, `unary` and `ground` have the names 1, 2 and 3, and one context
+-- the conditions `int`, `unary` and `ground` have one context
 abbrev pub kind_of : List tree.Name → ℕ → List CtxUse → tree.Condition
-kind_of names (suc zero) (u ∷ []) = tree.is_kind tree.int (name_of names u.name)
-kind_of names (suc (suc zero)) (u ∷ []) = tree.is_kind tree.unary (name_of names u.name)
-kind_of names (suc (suc (suc zero))) (u ∷ []) = tree.is_kind tree.grounded (name_of names u.name)
+kind_of names n (u ∷ []) =
+    if n == INT_NAME then tree.is_kind tree.int (name_of names u.name)
+    else if n == UNARY_NAME then tree.is_kind tree.unary (name_of names u.name)
+    else if n == GROUND_NAME then tree.is_kind tree.grounded (name_of names u.name)
+    else tree.unknown (name_of names n) (names_of names (u ∷ []))
 kind_of names n us = tree.unknown (name_of names n) (names_of names us)
 
 abbrev pub condition_of : List tree.Name → Cond → tree.Condition
 condition_of names (Kind n args pos) = kind_of names n args
-condition_of names (Compare op left right pos) = tree.compares (comparison_of op) (expression_of names left) (expression_of names right)
+condition_of names (Compare op left right pos) =
+    tree.compares (comparison_of op) (expression_of names left) (expression_of names right)
 condition_of names (Equal left right pos) = tree.equates (name_of names left.name) (expression_of names right)
 condition_of names (Differ left right pos) = tree.differs (name_of names left.name) (name_of names right.name)
 
 abbrev pub rule_tree : List tree.Name → (ℕ → tree.Rule) → RuleTree → tree.Rule
-rule_tree names rule r = tree.rule_of (level_of names rule r.head) (map (condition_of names) r.guard) (level_of names rule r.body)
+rule_tree names rule r =
+    tree.rule_of (level_of names rule r.head) (map (condition_of names) r.guard) (level_of names rule r.body)
 
 -- what a number stands for that names no rule
 abbrev pub empty_level : tree.Level
@@ -112,19 +121,21 @@ empty_level = tree.level [] tree.no_level [] [] tree.no_rule
 abbrev pub no_such_rule : tree.Rule
 no_such_rule = tree.rule_of empty_level [] empty_level
 
--- The rules of a table from the number k on. A rule that stands in another one has a greater number, so it
--- is one of those behind it.
+-- The rules of a table from the number k on. In a well made plain a rule that stands in another one has a greater
+-- number, so it is one of those behind it. A number that isn't greater would be read as that of the next rule.
 abbrev pub rules_from : List tree.Name → ℕ → List RuleTree → List tree.Rule
 rules_from names k [] = []
-rules_from names k (r ∷ rs) = let behind = rules_from names (k + 1) rs in rule_tree names (λ n. slice_index_or behind (n - (k + 1)) no_such_rule) r ∷ behind
+rules_from names k (r ∷ rs) =
+    let behind = rules_from names (k + 1) rs in
+    rule_tree names (λ n. slice_index_or behind (n - (k + 1)) no_such_rule) r ∷ behind
 
 -- the rule with a number
-abbrev pub rule_of : List tree.Name → List RuleTree → ℕ → tree.Rule
-rule_of names table n = slice_index_or (rules_from names 0 table) n no_such_rule
+abbrev pub numbered_rule : List tree.Name → List RuleTree → ℕ → tree.Rule
+numbered_rule names table n = slice_index_or (rules_from names 0 table) n no_such_rule
 
 -- the top of a plain, and its process
 abbrev pub top_of : List tree.Name → Plain → tree.Level
-top_of names p = level_of names (rule_of names p.rules) p.top
+top_of names p = level_of names (numbered_rule names p.rules) p.top
 
 abbrev pub plain_process : List tree.Name → Plain → Process
 plain_process names p = level_process (top_of names p)
@@ -141,15 +152,17 @@ region_step names rule r = solid.region (map (solid_atom_of names) r.atoms) (reg
 
 -- the region of a solid, and its process
 abbrev pub region_of : List tree.Name → List RuleTree → Solid → solid.Region
-region_of names table s = fold-Region solid.Region (region_step names (rule_of names table)) s.root
+region_of names table s = fold-Region solid.Region (region_step names (numbered_rule names table)) s.root
 
 abbrev pub solid_process : List tree.Name → List RuleTree → Solid → Process
 solid_process names table s = solid.region_process (region_of names table s)
 
--- s is the solid of the plain, up to the numbers of links
-abbrev pub IsSolidOf : List tree.Name → Plain → Solid → Type 0
-IsSolidOf names p s = SolidOf (top_of names p) (region_of names p.rules s)
+-- s is the solid of the plain: a solid, whose region is one of the plain's top
+pub record IsSolidOf (names : List tree.Name) (p : Plain) (s : Solid) : Type 0 where
+  pub is_solid : IsSolid s
+  pub of_top : SolidOf (top_of names p) (region_of names p.rules s)
 
--- equal up to the order of lists and the numbers of links
-abbrev pub SameSolid : List tree.Name → List RuleTree → Solid → Solid → Type 0
-SameSolid names table s s' = Same (region_of names table s) (region_of names table s')
+-- equal up to the order of lists and the numbers of links, names and rules: each solid has its own names and table
+abbrev pub SameSolid :
+    List tree.Name → List RuleTree → Solid → List tree.Name → List RuleTree → Solid → Type 0
+SameSolid names table s names' table' s' = Same (region_of names table s) (region_of names' table' s')

@@ -1,3 +1,4 @@
+-- Processes up to the order of what stands side by side.
 use Rattle.std.specs.Prelude.{◌≡◌}
 use Rattle.lmn_congruence.specs.Process.{Process, nothing, pair, membrane}
 

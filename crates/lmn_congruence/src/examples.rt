@@ -1,6 +1,9 @@
 //! Small texts, and what they do: derivations of the calculus, each the contract of an empty function.
 
-ghost use Rattle.lmn_congruence.specs.reduction.Examples.{TwoMakeOne, LinkMeetsItself, ConnectorLeaves, LoopVanishes, QuotientsAndRemainders, InnerLinkStays, SumIsBound, RulesAreCopied};
+ghost use Rattle.lmn_congruence.specs.reduction.Examples.{TwoMakeOne, LinkMeetsItself, ConnectorLeaves};
+ghost use Rattle.lmn_congruence.specs.reduction.Examples.{LoopVanishes, QuotientsAndRemainders, InnerLinkStays};
+ghost use Rattle.lmn_congruence.specs.reduction.Examples.{SumIsBound, RulesAreCopied, LeastByMinusOne};
+ghost use Rattle.lmn_congruence.specs.reduction.Examples.{NothingByZero, LoopIsLeft};
 
 /// `a. a. a, a :- b.` commits to `b` beside its rule.
 #[tactic(auto, using(crate::proofs::ExampleSteps::two_make_one))]
@@ -50,4 +53,16 @@ pub fn rules_are_copied()
 #[tactic(auto, using(crate::proofs::ExampleSteps::quotients_and_remainders))]
 pub fn quotients_and_remainders()
     ensures { QuotientsAndRemainders }
+{}
+
+/// -2^63 / -1 has no value, and -2^63 mod -1 is 0. Nothing has a quotient or a remainder by zero.
+pub fn missing_values()
+    ensures least { LeastByMinusOne }
+    ensures zero { NothingByZero }
+{}
+
+/// `a(X,X). a(X,Y) :- X=Y.` commits to the rule alone.
+#[tactic(auto, using(crate::proofs::ExampleSteps::loop_is_left))]
+pub fn loop_is_left()
+    ensures { LoopIsLeft }
 {}

@@ -1,6 +1,10 @@
 //! The laws of reduction: of steps, of settling, of commits.
 
-ghost use Rattle.lmn_congruence.specs.reduction.Laws.{StepsAreLinked, SettlingStepsAreLinked, SettledWithoutConnectors, SolidsSettled, ClosedSettles, SettlesOnce, PlainHasSolid, SolidIsOne, PlainSettles, CongruentByOneMap, StepsShowRedexes, KeepsSettled, KeepsSettles, KeepsCommit, KeepsIrreducible};
+ghost use Rattle.lmn_congruence.specs.reduction.Laws.{StepsAreLinked, SettlingStepsAreLinked};
+ghost use Rattle.lmn_congruence.specs.reduction.Laws.{SettledWithoutConnectors, SolidsSettled, ClosedSettles};
+ghost use Rattle.lmn_congruence.specs.reduction.Laws.{SettlesOnce, PlainHasSolid, SolidIsOne, PlainSettles};
+ghost use Rattle.lmn_congruence.specs.reduction.Laws.{CongruentByOneMap, StepsShowRedexes, KeepsSettled};
+ghost use Rattle.lmn_congruence.specs.reduction.Laws.{KeepsSettles, KeepsCommit, KeepsIrreducible};
 
 /// Both sides of a step are linked, and so are both sides of a settling step.
 #[tactic(auto, using(crate::proofs::SettlingSteps::steps_linked, crate::proofs::SettlingSteps::settling_steps_linked))]
@@ -23,8 +27,9 @@ pub fn closed_settles_once()
     ensures once { SettlesOnce }
 {}
 
-/// A plain whose process is closed has a solid, and one alone up to the numbers of links.
-#[tactic(auto, using(crate::proofs::Plains::plain_has_solid, crate::proofs::Plains::solid_is_one))]
+/// A top whose process is closed has a solid, and one alone up to the numbers of links: another one has the
+/// same lists in the same order, its links renamed one to one.
+#[tactic(auto, using(crate::proofs::Plains::plain_has_solid, crate::proofs::OneSolid::solid_is_one))]
 pub fn plain_has_one_solid()
     ensures has { PlainHasSolid }
     ensures one { SolidIsOne }

@@ -1,6 +1,8 @@
 //! Laws of the translation from the values that the program keeps to rules, regions and processes.
 
-ghost use Rattle.lmn_congruence.specs.TranslationLaws.{NumbersStandForRules, LevelLinksKept, TopLinksKept, SolidLinksKept, ItemsKept};
+ghost use Rattle.lmn_congruence.specs.TranslationLaws.{NumbersStandForRules, LevelLinksKept, TopLinksKept};
+ghost use Rattle.lmn_congruence.specs.TranslationLaws.{SolidLinksKept, ItemsKept, LinkedRulesKept};
+ghost use Rattle.lmn_congruence.specs.TranslationLaws.{SolidsClosed, PlainsClosed, LabelsApart, NoSolidConnector};
 
 /// In a well made plain the rule with a number is the tree of its head, guard and body, in which each
 /// number again stands for the rule with that number.
@@ -31,4 +33,24 @@ pub fn links_of_solids_are_kept()
 #[tactic(auto, using(crate::proofs::TranslatedItems::items_kept))]
 pub fn items_are_kept()
     ensures { ItemsKept }
+{}
+
+/// A rule is linked exactly where its tree is.
+pub fn linked_rules_are_kept()
+    ensures { LinkedRulesKept }
+{}
+
+/// The process of a solid is closed. That of a well made plain is closed exactly where each link of its top
+/// stands there twice.
+#[tactic(auto, using(crate::proofs::TranslatedLinks::solids_closed))]
+pub fn processes_are_closed()
+    ensures solid { SolidsClosed }
+    ensures plain { PlainsClosed }
+{}
+
+/// Labels whose names a list of names has are told apart by their trees. So no atom in the region of a solid is
+/// named `=` and has two links.
+pub fn labels_are_apart()
+    ensures labels { LabelsApart }
+    ensures solid { NoSolidConnector }
 {}

@@ -1,3 +1,4 @@
+-- What the links and contexts of a rule stand for.
 use Rattle.std.specs.Prelude.{ℕ, ◌≡◌, List}
 use Rattle.lmn_congruence.specs.Process.{Process, nothing, connector, atom, pair, membrane, rule, Free}
 use Rattle.lmn_congruence.specs.Rules.{Name, Rule}
@@ -18,8 +19,9 @@ NoRuleAtTop (rule r) = ⊥
 --   rules_of     each rule context: a list of rules
 --   typed_of     each typed context of the head: a process with its root; each context that the guard binds:
 --                the integer atom of arity 1 that stands for its integer
--- The fields are total. What they give to numbers and names that the rule doesn't have matters to nothing:
--- a rule has finitely many links, so an assignment of these can always be carried on to all numbers.
+-- The fields are total, and `Proper` asks its conditions of all numbers and names, also of those that the rule
+-- doesn't have. That costs nothing: a rule has finitely many links and contexts, so the other links can go above
+-- every link in use, the other untyped contexts to `0`, and the other typed ones to an atom of arity 1.
 pub record Assignment : Type 0 where
   pub link_of : ℕ → ℕ
   pub context_of : Name → Process

@@ -1,3 +1,4 @@
+-- Settled processes, settling, commits and irreducible processes.
 use Rattle.lmn_congruence.specs.Process.{Process}
 use Rattle.lmn_congruence.specs.Congruence.{Congruent}
 use Rattle.lmn_congruence.specs.reduction.Steps.{Step, SettlingStep}

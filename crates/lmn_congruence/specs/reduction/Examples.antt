@@ -1,10 +1,10 @@
-use Rattle.std.specs.Prelude.{ℕ, ◌≡◌, pos, negsuc, List, [], ◌∷◌}
-use Rattle.lmn_congruence.specs.Rules.{Name, Label, named, integer, Leaf, atom_leaf, typed_leaf, Level, level, no_level, level_and, Rule, rule_of, no_rule, plus, over, modulo, operation, value_of, equates}
-use Rattle.lmn_congruence.specs.Process.{nothing, connector, atom, pair, membrane, rule, together}
-use Rattle.lmn_congruence.specs.reduction.Values.{result_of}
-use Rattle.lmn_congruence.specs.reduction.Commits.{Settles, Commit, Irreducible}
-
 -- Small texts as processes, and what they do.
+use Rattle.std.specs.Prelude.{ℕ, ℤ, ◌≡◌, ◌-◌, ◌^◌, pos, negsuc, List, [], ◌∷◌}
+use Rattle.lmn_congruence.specs.Rules.{Name, Label, named, integer, Leaf, atom_leaf, connector_leaf, typed_leaf, Level, level, no_level, level_and, Rule, rule_of, no_rule, plus, over, modulo, Expression, number, operation, value_of, equates}
+use Rattle.lmn_congruence.specs.Process.{nothing, connector, atom, pair, membrane, rule, together}
+use Rattle.lmn_congruence.specs.reduction.Assignments.{Assignment}
+use Rattle.lmn_congruence.specs.reduction.Values.{result_of, Value}
+use Rattle.lmn_congruence.specs.reduction.Commits.{Settles, Commit, Irreducible}
 
 abbrev pub a : Label
 a = named (97 ∷ [])
@@ -66,13 +66,15 @@ LoopVanishes = Settles (pair (connector 0 1) (membrane (connector 0 1))) (membra
 -- `{a(X), b(Y)} :- c(X,Y)`
 abbrev pub join_from_membrane : Rule
 join_from_membrane = rule_of
-    (one_membrane (leaves (atom_leaf a (0 ∷ []) ∷ atom_leaf b (1 ∷ []) ∷ []))) [] (leaves (atom_leaf c (0 ∷ 1 ∷ []) ∷ []))
+    (one_membrane (leaves (atom_leaf a (0 ∷ []) ∷ atom_leaf b (1 ∷ []) ∷ []))) []
+    (leaves (atom_leaf c (0 ∷ 1 ∷ []) ∷ []))
 
 -- But a link that stays inside a membrane doesn't match two that leave it: nothing can happen in
 -- `{a(X), b(X)}. {a(X), b(Y)} :- c(X,Y).`, from no congruent process
 abbrev pub InnerLinkStays : Type 0
 InnerLinkStays =
-    Irreducible (together (membrane (together (atom a (0 ∷ []) ∷ atom b (0 ∷ []) ∷ [])) ∷ rule join_from_membrane ∷ []))
+    Irreducible
+    (together (membrane (together (atom a (0 ∷ []) ∷ atom b (0 ∷ []) ∷ [])) ∷ rule join_from_membrane ∷ []))
 
 abbrev pub x : Name
 x = 120 ∷ []
@@ -104,6 +106,33 @@ abbrev pub QuotientsAndRemainders : Type 0
 QuotientsAndRemainders =
     (result_of over (negsuc 6) (pos 2) ≡ negsuc 2) × (result_of over (pos 7) (negsuc 1) ≡ negsuc 2)
     × (result_of modulo (negsuc 6) (pos 2) ≡ negsuc 0) × (result_of modulo (pos 7) (negsuc 1) ≡ pos 1)
+
+-- -2^63
+abbrev pub least : Expression
+least = number (negsuc (2 ^ 63 - 1))
+
+-- `-2^63 / -1` has no value, since it would be 2^63, and `-2^63 mod -1` is 0
+abbrev pub LeastByMinusOne : Type 0
+LeastByMinusOne = (t : Assignment) →
+    ((n : ℤ) → ¬ (Value t (operation over least (number (negsuc 0))) n))
+    × Value t (operation modulo least (number (negsuc 0))) (pos 0)
+
+-- by zero there is no quotient and no remainder
+abbrev pub NothingByZero : Type 0
+NothingByZero = (t : Assignment) (e : Expression) (n : ℤ) →
+    (¬ (Value t (operation over e (number (pos 0))) n))
+    × (¬ (Value t (operation modulo e (number (pos 0))) n))
+
+-- `a(X,Y) :- X=Y`
+abbrev pub tie_ends : Rule
+tie_ends = rule_of
+    (leaves (atom_leaf a (0 ∷ 1 ∷ []) ∷ [])) []
+    (leaves (connector_leaf 0 1 ∷ []))
+
+-- The two links of the head are one link of the process, and the body's connector makes it a loop, which
+-- vanishes: `a(X,X).` beside this rule commits to the rule alone
+abbrev pub LoopIsLeft : Type 0
+LoopIsLeft = Commit (together (atom a (0 ∷ 0 ∷ []) ∷ rule tie_ends ∷ [])) (together (rule tie_ends ∷ []))
 
 -- `b :- c`, and `{a, $p, @r} :- {$p, @r, @r}`
 abbrev pub b_makes_c : Rule

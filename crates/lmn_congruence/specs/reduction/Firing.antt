@@ -1,3 +1,4 @@
+-- When a rule fires.
 use Rattle.std.specs.Prelude.{List, [], ◌∷◌, ◌++◌}
 use Rattle.lmn_congruence.specs.Process.{Process, pair, rule}
 use Rattle.lmn_congruence.specs.Rules.{Name, Leaf, atom_leaf, connector_leaf, typed_leaf, Level, level, Levels, no_level, level_and, Rule, head_of, guard_of, body_of}

@@ -1,3 +1,4 @@
+-- When the conditions of a guard hold.
 use Rattle.std.specs.Prelude.{ℤ, ◌≤ℤ◌, ◌<ℤ◌, ◌≡◌, ◌≢◌, List, [], ◌∷◌}
 use Rattle.lmn_congruence.specs.Orders.{Among}
 use Rattle.lmn_congruence.specs.Rules.{Name, Comparison, less, at_most, greater, at_least, equal, unequal, Expression, value_of, Kind, int, unary, grounded, Condition, is_kind, compares, equates, differs}
@@ -19,9 +20,11 @@ IsOfKind int g = (n : ℤ) × IsInteger n g
 IsOfKind unary g = IsUnary g
 IsOfKind grounded g = IsGround g
 
--- A condition holds. The list `heads` has the typed contexts of the rule's head, so `$z = E` binds `$z` where it
--- isn't there, and `$x = $y` compares two parts where both are. By our profile two parts that are compared are
--- ground: where one is not, neither `=` nor `\=` holds. A condition that is none of the language never holds.
+-- A condition holds. The list `heads` has the typed contexts of the rule's head. `$z = E` binds `$z` where it isn't
+-- there; a second `$z = F` only compares the two values. `$x = $y` compares two parts where both are there. By our
+-- profile two parts that are compared are ground: where one is not, neither `=` nor `\=` holds. A condition that is
+-- none of the language never holds. A context of the guard that isn't in the head and isn't bound stands for any
+-- value: a text with such a rule is refused.
 pub data Holds (heads : List Name) (t : Assignment) : Condition → Type 0 where
   of_kind : {k : Kind} {p : Name} → IsOfKind k (t.typed_of p) → Holds heads t (is_kind k p)
   in_order : {c : Comparison} {e f : Expression} {m n : ℤ} →

@@ -1,3 +1,4 @@
+-- The process that a level stands for.
 use Rattle.std.specs.Prelude.{ℕ, ◌≡◌, List, [], ◌∷◌, map}
 use Rattle.lmn_congruence.specs.Process.{Process, connector, atom, pair, membrane, rule, renamed, OneToOneOn, together}
 use Rattle.lmn_congruence.specs.Rules.{Name, Label, Leaf, atom_leaf, connector_leaf, typed_leaf, Level, level, Levels, no_level, level_and, Rules, rules_list}

@@ -1,3 +1,4 @@
+-- The laws of reduction.
 use Rattle.std.specs.Prelude.{◌↔◌}
 use Rattle.lmn_congruence.specs.Process.{Process, Linked, Closed}
 use Rattle.lmn_congruence.specs.Congruence.{Congruent}
@@ -5,7 +6,7 @@ use Rattle.lmn_congruence.specs.Rules.{Level}
 use Rattle.lmn_congruence.specs.Fused.{NoConnector}
 use Rattle.lmn_congruence.specs.LinkMaps.{ReadsAs}
 use Rattle.lmn_congruence.specs.Regions.{Region, region_process}
-use Rattle.lmn_congruence.specs.Same.{Same}
+use Rattle.lmn_congruence.specs.Same.{IsRenamed}
 use Rattle.lmn_congruence.specs.Plains.{level_process, SolidOf}
 use Rattle.lmn_congruence.specs.reduction.Steps.{Step, SettlingStep}
 use Rattle.lmn_congruence.specs.reduction.Commits.{Settled, Settles, Commit, Irreducible}
@@ -38,15 +39,13 @@ SettlesOnce = (P Q Q' : Process) → Closed P → Settles P Q → Settles P Q' �
 abbrev pub PlainHasSolid : Type 0
 PlainHasSolid = (top : Level) → Closed (level_process top) → (S : Region) × SolidOf top S
 
--- and one alone, up to the numbers of links
+-- and one alone, up to the numbers of links: another one has the same lists in the same order
 abbrev pub SolidIsOne : Type 0
-SolidIsOne = (top : Level) (S S' : Region) →
-    Closed (level_process top) → SolidOf top S → SolidOf top S' → Same S S'
+SolidIsOne = (top : Level) (S S' : Region) → SolidOf top S → SolidOf top S' → IsRenamed S S'
 
 -- the process of a plain's top settles to that of its solid
 abbrev pub PlainSettles : Type 0
-PlainSettles = (top : Level) (S : Region) → Closed (level_process top) → SolidOf top S →
-    Settles (level_process top) (region_process S)
+PlainSettles = (top : Level) (S : Region) → SolidOf top S → Settles (level_process top) (region_process S)
 
 -- a linked process is congruent to one without connectors exactly where one map of links reads it so
 abbrev pub CongruentByOneMap : Type 0

@@ -1,9 +1,8 @@
+-- What a typed context may stand for.
 use Rattle.std.specs.Prelude.{ℕ, ℤ, ◌≡◌, List, [], ◌∷◌, ◌++◌, map}
 use Rattle.lmn_congruence.specs.Orders.{Among, Shuffle}
 use Rattle.lmn_congruence.specs.Process.{Process, nothing, connector, atom, pair, membrane, rule, Free, OneToOneOn}
 use Rattle.lmn_congruence.specs.Rules.{Label, integer}
-
--- What a typed context may stand for.
 
 -- a process with one marked link, its root
 pub record Rooted : Type 0 where

@@ -1,3 +1,4 @@
+-- Rules beside instances of their heads.
 use Rattle.lmn_congruence.specs.Process.{Process, pair, membrane, rule}
 use Rattle.lmn_congruence.specs.Congruence.{Congruent}
 use Rattle.lmn_congruence.specs.Rules.{Rule}

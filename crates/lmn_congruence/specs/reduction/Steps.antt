@@ -1,3 +1,4 @@
+-- Steps and settling steps.
 use Rattle.std.specs.Prelude.{ℕ, ◌≢◌}
 use Rattle.lmn_congruence.specs.Process.{Process, connector, pair, membrane, Free, Linked}
 use Rattle.lmn_congruence.specs.Congruence.{Congruent}
@@ -13,7 +14,8 @@ pub data Derived (Leaf : Process → Process → Type 0) : Process → Process �
   inside : {P P' : Process} → Derived Leaf P P' → Derived Leaf (membrane P) (membrane P')
   up_to : {P P' Q' Q : Process} → Congruent P P' → Derived Leaf P' Q' → Congruent Q' Q → Derived Leaf P Q
 
--- Ueda's rules R4 and R5: a connector of two distinct free links goes out of a membrane, or into one
+-- Ueda's rules R4 and R5: a connector of two distinct free links goes out of a membrane, or into one. The side
+-- conditions are ours as they stand: no agreement with the paper's own print of them is claimed.
 pub data Settling : Process → Process → Type 0 where
   out : {P : Process} (x y : ℕ) → x ≢ y →
       Free x (membrane (pair (connector x y) P)) → Free y (membrane (pair (connector x y) P)) →

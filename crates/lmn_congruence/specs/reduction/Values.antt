@@ -1,3 +1,4 @@
+-- The values of integer expressions.
 use Rattle.std.specs.Prelude.{ℤ, pos, negsuc, ◌+ℤ◌, ◌-ℤ◌, ◌*ℤ◌, ◌≤ℤ◌, ◌<ℤ◌, ◌-◌, ◌≢◌, ◌^◌, int_div}
 use Rattle.lmn_congruence.specs.Rules.{Name, Arithmetic, plus, minus, times, over, modulo, Expression, number, value_of, operation}
 use Rattle.lmn_congruence.specs.reduction.Parts.{IsInteger}
