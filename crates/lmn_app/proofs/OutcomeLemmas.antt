@@ -1,5 +1,5 @@
 -- What follows from what a call leaves behind.
-use Rattle.std.specs.Prelude.{◌≡◌, ℕ, ◌⊎◌, List, ◌++◌, Option, None, Some, IfSome, IsSomeAnd, codes}
+use Rattle.std.specs.Prelude.{◌≡◌, ℕ, ◌⊎◌, List, ◌++◌, Option, None, Some, IfSome, IsSomeAnd}
 use Rattle.std.proofs.Common.{inl, inr, subst, sym}
 use Rattle.lmn_io.proofs.TakingLemmas.{takes_prefix}
 use Rattle.std.specs.declared.string.String.{String}

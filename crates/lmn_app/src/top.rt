@@ -75,8 +75,8 @@ pub fn lmn_main<F: Shelf, O: Sink, E: Sink>(
     ensures err_part { result ≡ 5 →
         (TakesPrefix (codes "lmn: write failed\n") (E.told err.old) (E.told err.new) × Rose (O.faults out.old) (O.faults out.new))
         ⊎ (Rose (E.faults err.old) (E.faults err.new) × ((ending : Ending)
-            × Causes ending (told_under (F.told shelf.old) (file_of words.now)) words.now (F.faults shelf.old (file_of words.now)) (F.faults shelf.new (file_of words.now))
-            × TakesPrefix (line_of ending) (E.told err.old) (E.told err.new))) }
+        × Causes ending (told_under (F.told shelf.old) (file_of words.now)) words.now (F.faults shelf.old (file_of words.now)) (F.faults shelf.new (file_of words.now))
+        × TakesPrefix (line_of ending) (E.told err.old) (E.told err.new))) }
 {
     let ending = act(alloc, words, shelf, out);
     conclude(err, ending)
