@@ -22,7 +22,7 @@ use Rattle.lmn_congruence.proofs.SettledProcesses.{no_connector_settled}
 use Rattle.lmn_congruence.proofs.Solids.{put_together}
 use Rattle.lmn_app.specs.FirstGrammar.{RuleTree}
 use Rattle.lmn_app.specs.Processes.{atom_of, flat_rule, flat_rules, flat_process}
-use Rattle.lmn_app.specs.Firings.{count_of, Covers, without, without_all, fired, Firing, fires, FirstCovered, Chain, no_step, step_after, FiringCommits, FiringsCommit, FlatClosed, FlatSettles}
+use Rattle.lmn_app.specs.Firings.{count_of, Covers, without, without_all, atoms_after, Firing, fires, FirstCovered, Chain, no_step, step_after, FiringCommits, FiringsCommit, FlatClosed, FlatSettles}
 
 -- ---- processes without links
 
@@ -119,7 +119,8 @@ covers_rest name names atoms h m =
     let e = count_put m (taken name atoms (covers_first name names atoms h)) in
     uncounted_cases (bytes_eq name m) (count_of m names) (count_of m (without name atoms)) (subst (λ k. count_of m (name ∷ names) ≤ k) e (h m))
 
-all_taken_before : (head atoms more : List Name) → Covers head atoms → without_all head (atoms ++ more) ≡ without_all head atoms ++ more
+-- where the head is covered, what stands behind the atoms stays
+pub all_taken_before : (head atoms more : List Name) → Covers head atoms → without_all head (atoms ++ more) ≡ without_all head atoms ++ more
 all_taken_before [] atoms more h = refl
 all_taken_before (name ∷ names) atoms more h =
     ap (without_all names) (taken_before name atoms more (covers_first name names atoms h)) ∙ all_taken_before names (without name atoms) more (covers_rest name names atoms h)
@@ -205,12 +206,11 @@ firing_commits atoms rules r among covers =
     let R = put_together (put_rule p.1) in
     let before = brought_together (head_and_left r.head atoms covers) R in
     let after = brought_together (left_and_body left r.body) R in
-    let is : left ++ r.body ≡ fired r atoms = sym (all_taken_before r.head atoms r.body covers) in
     let s = up_to (back (reordered_congruent before (apart_linked r.head left r p.0))) (apart_steps r left p.0) (reordered_congruent after (apart_linked r.body left r p.0)) in
     record {
-      between = flat_process (fired r atoms) rules;
-      step = subst (λ k. Step (flat_process atoms rules) (flat_process k rules)) is s;
-      settles = flat_settles (fired r atoms) rules;
+      between = flat_process (atoms_after r atoms) rules;
+      step = s;
+      settles = flat_settles (atoms_after r atoms) rules;
     }
 
 -- ---- chains of firings

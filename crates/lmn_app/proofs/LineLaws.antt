@@ -4,23 +4,23 @@ use Rattle.std.specs.List.{AllByRecursion}
 use Rattle.std.proofs.lemmas.List.{append_assoc}
 use Rattle.lmn_app.specs.FirstGrammar.{Lexeme, Name, Comma, Dot, Arrow, Open, Close, IsName, EndsName, Cuts, nothing, separator, token, RuleTree, ItemTree, AtomItem, RuleItem, ClauseTree, ItemsClause, Names, last_name, more_names, Rules, no_body, some_body, Items, atom_item, rule_item, last_item, items_clause, Programs, no_clause, more_clauses, tree_atoms, tree_rules}
 use Rattle.lmn_app.specs.Laws.{IsSpelled, LinesAreRead}
-use Rattle.lmn_app.specs.Lines.{joined, rule_text, stopped}
+use Rattle.lmn_app.specs.Lines.{join, rule_text, with_full_stop}
 
 space : {rest : List ℕ} {ts : List Lexeme} → Cuts rest ts → Cuts (32 ∷ rest) ts
 space h = separator refl h
 
 -- Names, and what is behind them.
 
-names_read : (n : List ℕ) (ns : List (List ℕ)) (rest : List ℕ) (us : List Lexeme) → AllByRecursion IsName (n ∷ ns) → EndsName rest → Cuts rest us → (ts : List Lexeme) × Cuts (joined (44 ∷ 32 ∷ []) (n ∷ ns) ++ rest) ts × Names ts (n ∷ ns) us
+names_read : (n : List ℕ) (ns : List (List ℕ)) (rest : List ℕ) (us : List Lexeme) → AllByRecursion IsName (n ∷ ns) → EndsName rest → Cuts rest us → (ts : List Lexeme) × Cuts (join (44 ∷ 32 ∷ []) (n ∷ ns) ++ rest) ts × Names ts (n ∷ ns) us
 names_read n [] rest us h ends cut = (Name n ∷ us, token (h.0, ends, refl) cut, last_name)
 names_read n (m ∷ ns) rest us h ends cut =
     let more = names_read m ns rest us h.1 ends cut in
-    let others = joined (44 ∷ 32 ∷ []) (m ∷ ns) in
+    let others = join (44 ∷ 32 ∷ []) (m ∷ ns) in
     (Name n ∷ Comma ∷ more.0, token (h.0, refl, append_assoc n (44 ∷ 32 ∷ others) rest) (token {t = Comma} refl (space more.1)), more_names more.2)
 
 -- Rules.
 
-body_read : (head body : List (List ℕ)) (rest : List ℕ) (us : List Lexeme) → AllByRecursion IsName body → EndsName rest → Cuts rest us → (vs : List Lexeme) × Cuts (joined (44 ∷ 32 ∷ []) body ++ rest) vs × ((ts : List Lexeme) → Names ts head (Arrow ∷ vs) → Rules ts (record { head = head; body = body }) us)
+body_read : (head body : List (List ℕ)) (rest : List ℕ) (us : List Lexeme) → AllByRecursion IsName body → EndsName rest → Cuts rest us → (vs : List Lexeme) × Cuts (join (44 ∷ 32 ∷ []) body ++ rest) vs × ((ts : List Lexeme) → Names ts head (Arrow ∷ vs) → Rules ts (record { head = head; body = body }) us)
 body_read head [] rest us h ends cut = (us, cut, λ ts k. no_body k)
 body_read head (n ∷ ns) rest us h ends cut =
     let names = names_read n ns rest us h ends cut in
@@ -30,10 +30,10 @@ rule_read : (head body : List (List ℕ)) (rest : List ℕ) (us : List Lexeme) �
 rule_read [] body rest us some h b cut = absurd (some refl)
 rule_read (n ∷ ns) body rest us some h b cut =
     let bodies = body_read (n ∷ ns) body (41 ∷ rest) (Close ∷ us) b refl (token {t = Close} refl cut) in
-    let body_text = joined (44 ∷ 32 ∷ []) body in
+    let body_text = join (44 ∷ 32 ∷ []) body in
     let behind = 32 ∷ 58 ∷ 45 ∷ 32 ∷ (body_text ++ 41 ∷ rest) in
     let heads = names_read n ns behind (Arrow ∷ bodies.0) h refl (space (token {t = Arrow} refl (space bodies.1))) in
-    let head_text = joined (44 ∷ 32 ∷ []) (n ∷ ns) in
+    let head_text = join (44 ∷ 32 ∷ []) (n ∷ ns) in
     let same : (head_text ++ (32 ∷ 58 ∷ 45 ∷ 32 ∷ (body_text ++ 41 ∷ []))) ++ rest ≡ head_text ++ behind = simp append_assoc in
     (Open ∷ heads.0, token {t = Open} refl (rw same heads.1), rule_item (bodies.2 heads.0 heads.2))
 
@@ -69,14 +69,14 @@ all_texts (n ∷ atoms) rules h k = one_more (atom_text n h.0) (all_texts atoms 
 abbrev clause_of : ItemTree → ClauseTree
 clause_of i = ItemsClause (i ∷ [])
 
-texts_read : {pieces : List (List ℕ)} {is : List ItemTree} → AreTextsOf pieces is → (ts : List Lexeme) × Cuts (joined (32 ∷ []) (map stopped pieces) ++ 10 ∷ []) ts × Programs ts (map clause_of is)
+texts_read : {pieces : List (List ℕ)} {is : List ItemTree} → AreTextsOf pieces is → (ts : List Lexeme) × Cuts (join (32 ∷ []) (map with_full_stop pieces) ++ 10 ∷ []) ts × Programs ts (map clause_of is)
 texts_read no_texts = ([], separator refl nothing, no_clause)
 texts_read (one_more {piece = piece} h no_texts) =
     let item = h (10 ∷ []) [] (separator refl nothing) in
     (item.0, rw append_assoc item.1, more_clauses (items_clause (last_item item.2)) no_clause)
 texts_read (one_more {piece = piece} h (one_more {piece = next} {pieces = pieces} k others)) =
     let more = texts_read (one_more k others) in
-    let behind = joined (32 ∷ []) (map stopped (next ∷ pieces)) in
+    let behind = join (32 ∷ []) (map with_full_stop (next ∷ pieces)) in
     let item = h (32 ∷ (behind ++ 10 ∷ [])) more.0 (space more.1) in
     let same : ((piece ++ 46 ∷ []) ++ (32 ∷ behind)) ++ 10 ∷ [] ≡ piece ++ 46 ∷ 32 ∷ (behind ++ 10 ∷ []) = simp append_assoc in
     (item.0, rw same item.1, more_clauses (items_clause (last_item item.2)) more.2)

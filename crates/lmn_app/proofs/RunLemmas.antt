@@ -45,13 +45,13 @@ names_kept : (rules : List RuleTree) (old : List (List ℕ)) (n : ℕ) (new : Li
 names_kept rules old n new spelled names no_step = names
 names_kept rules old n new spelled names (step_after {n = m} {y = mid} steps (fires {r = r} f)) =
     let rule : IsSpelled r = all_at IsSpelled rules (first_among f) spelled in
-    all_without r.head (mid ++ r.body) (all_append IsName mid r.body (names_kept rules old m mid spelled names steps) rule.body_names)
+    all_append IsName (without_all r.head mid) r.body (all_without r.head mid (names_kept rules old m mid spelled names steps)) rule.body_names
 
 -- a run stops where the calculus says so
 stopped_ends : (reason : Stop) (n : ℕ) (rules : List RuleTree) (atoms : List (List ℕ)) → Stopped reason n rules atoms → EndsBy reason n (flat_process atoms rules)
-stopped_ends stop.Irreducible n rules atoms s = s.1
+stopped_ends stop.Irreducible n rules atoms s = (s.0, s.2)
 stopped_ends stop.Budget n rules atoms s = (s.1, λ i. (flat_irreducible atoms rules).0 i s.0.0 s.0.1 s.0.2)
-stopped_ends stop.NoMemory n rules atoms s = λ i. (flat_irreducible atoms rules).0 i s.0 s.1 s.2
+stopped_ends stop.NoMemory n rules atoms s = (s.1, λ i. (flat_irreducible atoms rules).0 i s.0.0 s.0.1 s.0.2)
 
 -- what is reached from the process of a tree by firings is printed by its line
 run_printed : (text : List ℕ) (tree : Tree) (reason : Stop) (n : ℕ) (atoms : List (List ℕ)) → Accepts text tree → Firings n (tree_rules tree) (tree_atoms tree) atoms

@@ -15,9 +15,9 @@ use Rattle.lmn_app.specs.FirstGrammar.{RuleTree}
 use Rattle.lmn_app.specs.Programs.{names_of, rule_of, rules_of}
 use Rattle.lmn_app.specs.Processes.{flat_process}
 use Rattle.lmn_app.specs.declared.program.Rule.{Rule}
-use Rattle.lmn_app.specs.Firings.{count_of, without, Covers, SomeCovered, NoneCovered, FirstCovered, fired, Firing, fires, Firings, Commits, step_after}
+use Rattle.lmn_app.specs.Firings.{count_of, without, Covers, SomeCovered, NoneCovered, FirstCovered, without_all, Firing, fires, Firings, Commits, step_after}
 use Rattle.lmn_app.proofs.FlatRedexes.{flat_irreducible}
-use Rattle.lmn_app.proofs.FiringLemmas.{first_among, firings_commit}
+use Rattle.lmn_app.proofs.FiringLemmas.{all_taken_before, first_among, firings_commit}
 
 -- `Iterator::count` after `filter`
 pub count_names : (name : List ℕ) (names : List (Bor (List ℕ))) → count_by (λ other. bytes_eq other.now name) names ≡ count_of name (names_of names)
@@ -126,9 +126,10 @@ first_found rules i rule head atoms l e f h k = record {
 
 -- `seen` is the slice of the atoms
 pub one_more : (n : ℕ) (r : RuleTree) (rules : List RuleTree) (old : List (List ℕ)) (seen atoms : List (Bor (List ℕ))) (new : List (List ℕ)) → Firings n rules old (names_of atoms)
-    → seen ≡ atoms → FirstCovered r rules (names_of seen) → new ≡ fired r (names_of atoms) → Firings (n + 1) rules old new
+    → seen ≡ atoms → FirstCovered r rules (names_of seen) → new ≡ without_all r.head (names_of atoms ++ r.body) → Firings (n + 1) rules old new
 one_more n r rules old seen atoms new c s f e =
-    step_after c (subst (Firing rules (names_of atoms)) (sym e) (fires (subst (λ ns. FirstCovered r rules (names_of ns)) s f)))
+    let covered = subst (λ ns. FirstCovered r rules (names_of ns)) s f in
+    step_after c (subst (Firing rules (names_of atoms)) (sym (e ∙ all_taken_before r.head (names_of atoms) r.body covered.covered)) (fires covered))
 
 pub all_commit : (n m : ℕ) (rules : List RuleTree) (old new : List (List ℕ)) → Firings n rules old new → n ≡ m → Commits m (flat_process old rules) (flat_process new rules)
 all_commit n m rules old new c e = subst (λ k. Commits k (flat_process old rules) (flat_process new rules)) e (firings_commit n rules old new c)

@@ -1,5 +1,5 @@
 -- How the rules of a process of atoms without links fire, and what that is in the calculus.
-use Rattle.std.specs.Prelude.{◌≡◌, ◌↔◌, ℕ, ◌+◌, ◌≤◌, List, [], ◌∷◌, ◌++◌, cond, bytes_eq}
+use Rattle.std.specs.Prelude.{◌≡◌, ◌↔◌, ℕ, ◌+◌, ◌<◌, ◌≤◌, List, [], ◌∷◌, ◌++◌, cond, bytes_eq}
 use Rattle.lmn_congruence.specs.Orders.{Among}
 use Rattle.lmn_congruence.specs.Process.{Process, Closed}
 use Rattle.lmn_congruence.specs.reduction.Commits.{Settles, Commit, Irreducible}
@@ -34,9 +34,9 @@ abbrev pub without_all : List (List ℕ) → List (List ℕ) → List (List ℕ)
 without_all [] atoms = atoms
 without_all (name ∷ names) atoms = without_all names (without name atoms)
 
--- the atoms after a rule fired: its body comes to the end, and the first atoms with the names of its head go
-abbrev pub fired : RuleTree → List (List ℕ) → List (List ℕ)
-fired r atoms = without_all r.head (atoms ++ r.body)
+-- the atoms after a rule fired: the first atoms with the names of its head go, and its body comes to the end
+abbrev pub atoms_after : RuleTree → List (List ℕ) → List (List ℕ)
+atoms_after r atoms = without_all r.head atoms ++ r.body
 
 -- a rule of the list whose head is covered, and none before it is
 pub record FirstCovered (r : RuleTree) (rules : List RuleTree) (atoms : List (List ℕ)) : Type 0 where
@@ -48,7 +48,7 @@ pub record FirstCovered (r : RuleTree) (rules : List RuleTree) (atoms : List (Li
 
 -- one turn of a run: the first rule that is covered fires
 pub data Firing (rules : List RuleTree) (atoms : List (List ℕ)) : List (List ℕ) → Type 0 where
-  fires : {r : RuleTree} → FirstCovered r rules atoms → Firing rules atoms (fired r atoms)
+  fires : {r : RuleTree} → FirstCovered r rules atoms → Firing rules atoms (atoms_after r atoms)
 
 -- a chain of n steps of a relation
 pub data Chain {A : Type 0} (R : A → A → Type 0) (x : A) : ℕ → A → Type 0 where
@@ -64,14 +64,14 @@ Commits n P Q = Chain Commit P n Q
 -- Why a run stopped at these atoms after n firings: nothing can happen, or a rule is covered still, and the
 -- budget is done or memory for the rule's body is wanting.
 abbrev pub Stopped : Stop → ℕ → List RuleTree → List (List ℕ) → Type 0
-Stopped stop.Irreducible n rules atoms = NoneCovered rules atoms × Irreducible (flat_process atoms rules)
+Stopped stop.Irreducible n rules atoms = (n ≤ 1000) × NoneCovered rules atoms × Irreducible (flat_process atoms rules)
 Stopped stop.Budget n rules atoms = SomeCovered rules atoms × (n ≡ 1000)
-Stopped stop.NoMemory n rules atoms = SomeCovered rules atoms
+Stopped stop.NoMemory n rules atoms = SomeCovered rules atoms × (n < 1000)
 
 -- the firing of a rule that is covered is a commit
 abbrev pub FiringCommits : Type 0
 FiringCommits = (atoms : List (List ℕ)) (rules : List RuleTree) (r : RuleTree) →
-    Among r rules → Covers r.head atoms → Commit (flat_process atoms rules) (flat_process (fired r atoms) rules)
+    Among r rules → Covers r.head atoms → Commit (flat_process atoms rules) (flat_process (atoms_after r atoms) rules)
 
 -- so n firings are n commits
 abbrev pub FiringsCommit : Type 0

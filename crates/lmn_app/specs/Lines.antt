@@ -4,18 +4,18 @@ use Rattle.std.specs.Prelude.{ℕ, List, [], ◌∷◌, ◌++◌, map, codes}
 use Rattle.lmn_app.specs.FirstGrammar.{RuleTree}
 
 -- the pieces in order, and what stands between two of them
-abbrev pub joined : List ℕ → List (List ℕ) → List ℕ
-joined between [] = []
-joined between (piece ∷ []) = piece
-joined between (piece ∷ next ∷ pieces) = piece ++ (between ++ joined between (next ∷ pieces))
+abbrev pub join : List ℕ → List (List ℕ) → List ℕ
+join between [] = []
+join between (piece ∷ []) = piece
+join between (piece ∷ next ∷ pieces) = piece ++ (between ++ join between (next ∷ pieces))
 
 -- as `(a, a :- b)`, and with an empty body `(a :- )`
 abbrev pub rule_text : RuleTree → List ℕ
-rule_text r = codes "(" ++ (joined (codes ", ") r.head ++ (codes " :- " ++ (joined (codes ", ") r.body ++ codes ")")))
+rule_text r = codes "(" ++ (join (codes ", ") r.head ++ (codes " :- " ++ (join (codes ", ") r.body ++ codes ")")))
 
-abbrev pub stopped : List ℕ → List ℕ
-stopped item = item ++ codes "."
+abbrev pub with_full_stop : List ℕ → List ℕ
+with_full_stop item = item ++ codes "."
 
 -- as `b. (a, a :- b).` and a line feed
 abbrev pub line : List (List ℕ) → List RuleTree → List ℕ
-line atoms rules = joined (codes " ") (map stopped (atoms ++ map rule_text rules)) ++ 10 ∷ []
+line atoms rules = join (codes " ") (map with_full_stop (atoms ++ map rule_text rules)) ++ 10 ∷ []

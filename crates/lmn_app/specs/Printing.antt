@@ -2,16 +2,16 @@
 use Rattle.std.specs.Prelude.{ℕ, List, [], ◌∷◌, ◌++◌, map, codes, decimal}
 use Rattle.std.specs.List.{concat, flat_map}
 use Rattle.lmn_app.specs.FirstGrammar.{RuleTree}
-use Rattle.lmn_app.specs.Lines.{joined, rule_text, stopped}
+use Rattle.lmn_app.specs.Lines.{join, rule_text, with_full_stop}
 
 -- the line of a process but for its line feed
 abbrev pub items_text : List (List ℕ) → List RuleTree → List ℕ
-items_text atoms rules = joined (codes " ") (map stopped (atoms ++ map rule_text rules))
+items_text atoms rules = join (codes " ") (map with_full_stop (atoms ++ map rule_text rules))
 
 -- items, each behind a space
-abbrev pub spaced : {X : Type 0} → (X → List ℕ) → List X → List ℕ
-spaced text xs = flat_map (λ x. codes " " ++ stopped (text x)) xs
+abbrev pub behind_spaces : {X : Type 0} → (X → List ℕ) → List X → List ℕ
+behind_spaces text xs = flat_map (λ x. codes " " ++ with_full_stop (text x)) xs
 
--- the end line: why the run stopped, and after how many firings
+-- the end line: why the run with_full_stop, and after how many firings
 abbrev pub end_line : List ℕ → ℕ → List ℕ
 end_line word firings = concat (codes "% " ∷ word ∷ codes " after " ∷ decimal firings ∷ codes "\n" ∷ [])

@@ -49,9 +49,9 @@ IsRefusal text refusal =
 
 -- Why a run stopped at a process, after so many firings. The budget is 1,000 firings.
 abbrev pub EndsBy : Stop → ℕ → Process → Type 0
-EndsBy stop.Irreducible firings P = Irreducible P
+EndsBy stop.Irreducible firings P = (firings ≤ 1000) × Irreducible P
 EndsBy stop.Budget firings P = (firings ≡ 1000) × ¬ (Irreducible P)
-EndsBy stop.NoMemory firings P = ¬ (Irreducible P)
+EndsBy stop.NoMemory firings P = (firings < 1000) × ¬ (Irreducible P)
 
 -- A line is printed after so many firings of a text: the process of the text settles to a first process, a chain of
 -- as many commits leads from it to the process of the line, and the line reads as that process, which is closed. The

@@ -3,8 +3,8 @@ ghost use Rattle.lmn_io.specs.Counts.{Rose};
 ghost use Rattle.lmn_io.specs.Taking.{Takes, TakesPrefix};
 ghost use Rattle.lmn_io.specs.Gathering.{Adds, output};
 ghost use Rattle.lmn_app.specs.Programs.{names_of, rule_of, rules_of};
-ghost use Rattle.lmn_app.specs.Lines.{joined, line, rule_text};
-ghost use Rattle.lmn_app.specs.Printing.{end_line, items_text, spaced};
+ghost use Rattle.lmn_app.specs.Lines.{join, line, rule_text};
+ghost use Rattle.lmn_app.specs.Printing.{end_line, items_text, behind_spaces};
 ghost use Rattle.lmn_app.specs.Stops.{stop_word};
 
 use crate::program::Rule;
@@ -12,7 +12,7 @@ use crate::running::Stop;
 use itoa::Buffer;
 use lmn_io::{Failed, LineBuffer, Sink, put_all};
 
-/// Writes the process as one line, and why its run stopped after so many firings as another.
+/// Writes the process as one line, and why its run with_full_stop after so many firings as another.
 #[tactic(auto, using(lmn_io::proofs::TakingLemmas::taking))]
 pub(crate) fn print_run<O: Sink>(
     out: &mut O,
@@ -70,7 +70,7 @@ fn add_rules<O: Sink>(buffer: &mut LineBuffer, out: &mut O, rules: &[Rule<'_>])
 
 /// Adds atoms, a space before each.
 fn add_more_atoms<O: Sink>(buffer: &mut LineBuffer, out: &mut O, atoms: &[&[u8]])
-    ensures { Adds (spaced (λ name. name) (names_of atoms.now)) (output buffer.old (O.told out.old) (O.faults out.old)) (output buffer.new (O.told out.new) (O.faults out.new)) }
+    ensures { Adds (behind_spaces (λ name. name) (names_of atoms.now)) (output buffer.old (O.told out.old) (O.faults out.old)) (output buffer.new (O.told out.new) (O.faults out.new)) }
 {
     for name in atoms {
         buffer.add(out, b" ");
@@ -81,7 +81,7 @@ fn add_more_atoms<O: Sink>(buffer: &mut LineBuffer, out: &mut O, atoms: &[&[u8]]
 
 /// Adds rules, a space before each.
 fn add_more_rules<O: Sink>(buffer: &mut LineBuffer, out: &mut O, rules: &[Rule<'_>])
-    ensures { Adds (spaced rule_text (rules_of rules.now)) (output buffer.old (O.told out.old) (O.faults out.old)) (output buffer.new (O.told out.new) (O.faults out.new)) }
+    ensures { Adds (behind_spaces rule_text (rules_of rules.now)) (output buffer.old (O.told out.old) (O.faults out.old)) (output buffer.new (O.told out.new) (O.faults out.new)) }
 {
     for rule in rules {
         buffer.add(out, b" ");
@@ -103,7 +103,7 @@ fn add_rule<O: Sink>(buffer: &mut LineBuffer, out: &mut O, rule: &Rule<'_>)
 
 /// Adds names, a comma and a space between them.
 fn add_names<O: Sink>(buffer: &mut LineBuffer, out: &mut O, names: &[&[u8]])
-    ensures { Adds (joined (codes ", ") (names_of names.now)) (output buffer.old (O.told out.old) (O.faults out.old)) (output buffer.new (O.told out.new) (O.faults out.new)) }
+    ensures { Adds (join (codes ", ") (names_of names.now)) (output buffer.old (O.told out.old) (O.faults out.old)) (output buffer.new (O.told out.new) (O.faults out.new)) }
 {
     let Some((first, more)) = names.split_first() else {
         return;

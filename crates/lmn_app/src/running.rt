@@ -1,8 +1,8 @@
-ghost use Rattle.std.specs.Prelude.{◌≡◌, ◌≤◌, ◌↔◌, IsTrue, OnOk, OnErr, MatchOption, bytes_eq};
+ghost use Rattle.std.specs.Prelude.{◌≡◌, ◌≤◌, ◌↔◌, ◌++◌, IsTrue, OnOk, OnErr, MatchOption, bytes_eq};
 ghost use Rattle.std.specs.List.{position};
 ghost use Rattle.lmn_app.specs.Programs.{names_of, rule_of, rules_of};
 ghost use Rattle.lmn_app.specs.Processes.{flat_process};
-ghost use Rattle.lmn_app.specs.Firings.{count_of, Covers, NoneCovered, FirstCovered, without, fired, Firings, Commits, Stopped};
+ghost use Rattle.lmn_app.specs.Firings.{count_of, Covers, NoneCovered, FirstCovered, without, without_all, Firings, Commits, Stopped};
 
 use crate::program::Rule;
 use lmn_base::NoMemory;
@@ -26,7 +26,6 @@ pub enum Stop {
 pub(crate) fn react<'t>(atoms: &mut Vec<&'t [u8]>, rules: &[Rule<'t>]) -> (Stop, u64)
     ensures firings { Firings result.1 (rules_of rules.now) (names_of atoms.old.items) (names_of atoms.new.items) }
     ensures commits { Commits result.1 (flat_process (names_of atoms.old.items) (rules_of rules.now)) (flat_process (names_of atoms.new.items) (rules_of rules.now)) }
-    ensures budget { result.1 ≤ 1000 }
     ensures stopped { Stopped result.0 result.1 (rules_of rules.now) (names_of atoms.new.items) }
 {
     for fired in 0..BUDGET {
@@ -76,7 +75,7 @@ fn count(names: &[&[u8]], name: &[u8]) -> usize
 
 /// Puts the atoms of the body at the end and takes out the first atoms with the names of the head.
 fn fire<'t>(atoms: &mut Vec<&'t [u8]>, rule: &Rule<'t>) -> Result<(), NoMemory>
-    ensures ok { OnOk result (names_of atoms.new.items ≡ fired (rule_of rule.now) (names_of atoms.old.items)) }
+    ensures ok { OnOk result (names_of atoms.new.items ≡ without_all (names_of rule.now.head) (names_of atoms.old.items ++ names_of rule.now.body)) }
     ensures err { OnErr result (atoms.new.items ≡ atoms.old.items) }
 {
     atoms.extend_from_slice(rule.body.as_slice())?;

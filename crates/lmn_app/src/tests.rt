@@ -9,8 +9,12 @@ struct Row {
     words: &'static [&'static str],
     /// The text of the file `f`.
     text: &'static [u8],
+    /// The numbers of the fetches that fail.
+    fetches_failing: &'static [u64],
     /// The numbers of the puts of `out` that fail.
-    failing: &'static [u64],
+    puts_failing: &'static [u64],
+    /// The bytes for which `err` has room.
+    err_room: usize,
     out: &'static [u8],
     err: &'static [u8],
     status: u8,
@@ -26,11 +30,13 @@ struct Ended {
 
 const RUN: &[&str] = &["run", "f"];
 
-const ROWS: [Row; 9] = [
+const ROWS: [Row; 12] = [
     Row {
         words: RUN,
         text: b"a. a. a, a :- b.",
-        failing: &[],
+        fetches_failing: &[],
+        puts_failing: &[],
+        err_room: 100,
         out: b"b. (a, a :- b).\n% irreducible after 1\n",
         err: b"",
         status: 0,
@@ -38,7 +44,9 @@ const ROWS: [Row; 9] = [
     Row {
         words: RUN,
         text: b"",
-        failing: &[],
+        fetches_failing: &[],
+        puts_failing: &[],
+        err_room: 100,
         out: b"\n% irreducible after 0\n",
         err: b"",
         status: 0,
@@ -46,7 +54,9 @@ const ROWS: [Row; 9] = [
     Row {
         words: RUN,
         text: b"a. a :- a.",
-        failing: &[],
+        fetches_failing: &[],
+        puts_failing: &[],
+        err_room: 100,
         out: b"a. (a :- a).\n% budget after 1000\n",
         err: b"",
         status: 1,
@@ -54,7 +64,9 @@ const ROWS: [Row; 9] = [
     Row {
         words: RUN,
         text: b"a :- .",
-        failing: &[],
+        fetches_failing: &[],
+        puts_failing: &[],
+        err_room: 100,
         out: b"(a :- ).\n% irreducible after 0\n",
         err: b"",
         status: 0,
@@ -62,7 +74,9 @@ const ROWS: [Row; 9] = [
     Row {
         words: RUN,
         text: b"a. a(X).",
-        failing: &[],
+        fetches_failing: &[],
+        puts_failing: &[],
+        err_room: 100,
         out: b"",
         err: b"E90 1:1 form not built\n",
         status: 2,
@@ -70,7 +84,9 @@ const ROWS: [Row; 9] = [
     Row {
         words: &["run"],
         text: b"",
-        failing: &[],
+        fetches_failing: &[],
+        puts_failing: &[],
+        err_room: 100,
         out: b"",
         err: b"lmn: words not understood\n",
         status: 3,
@@ -78,7 +94,9 @@ const ROWS: [Row; 9] = [
     Row {
         words: &["run", "--help"],
         text: b"",
-        failing: &[],
+        fetches_failing: &[],
+        puts_failing: &[],
+        err_room: 100,
         out: b"",
         err: b"lmn: words not understood\n",
         status: 3,
@@ -86,7 +104,9 @@ const ROWS: [Row; 9] = [
     Row {
         words: &["run", "g"],
         text: b"",
-        failing: &[],
+        fetches_failing: &[],
+        puts_failing: &[],
+        err_room: 100,
         out: b"",
         err: b"lmn: read failed\n",
         status: 4,
@@ -94,10 +114,42 @@ const ROWS: [Row; 9] = [
     Row {
         words: RUN,
         text: b"a. a. a, a :- b.",
-        failing: &[0],
+        fetches_failing: &[],
+        puts_failing: &[0],
+        err_room: 100,
         out: b"",
         err: b"lmn: write failed\n",
         status: 5,
+    },
+    Row {
+        words: RUN,
+        text: b"a. a. a, a :- b.",
+        fetches_failing: &[],
+        puts_failing: &[1],
+        err_room: 100,
+        out: b"b. (a, a :- b).\n",
+        err: b"lmn: write failed\n",
+        status: 5,
+    },
+    Row {
+        words: RUN,
+        text: b"a. a(X).",
+        fetches_failing: &[],
+        puts_failing: &[],
+        err_room: 0,
+        out: b"",
+        err: b"",
+        status: 5,
+    },
+    Row {
+        words: RUN,
+        text: b"a. a. a, a :- b.",
+        fetches_failing: &[0],
+        puts_failing: &[],
+        err_room: 100,
+        out: b"",
+        err: b"lmn: read failed\n",
+        status: 4,
     },
 ];
 
@@ -114,19 +166,20 @@ fn words_of(alloc: Global, words: &[&str]) -> Result<Vec<String>, AllocError> {
 }
 
 /// A shelf with one file, `f`.
-fn shelf_of(alloc: Global, text: &[u8]) -> Result<MemShelf, NoMemory> {
+fn shelf_of(alloc: Global, text: &[u8], failing: &[u64]) -> Result<MemShelf, NoMemory> {
     let mut names = Rows::new(alloc);
     names.push(rows_of(alloc, b"f")?)?;
     let mut texts = Rows::new(alloc);
     texts.push(rows_of(alloc, text)?)?;
-    Ok(MemShelf::new(alloc, names, texts, Rows::new(alloc)))
+    let failing = rows_of(alloc, failing)?;
+    Ok(MemShelf::new(alloc, names, texts, failing))
 }
 
 fn call(alloc: Global, row: &Row) -> Result<Ended, NoMemory> {
     let words = words_of(alloc, row.words)?;
-    let mut shelf = shelf_of(alloc, row.text)?;
-    let mut out = MemSink::new(alloc, 1000, rows_of(alloc, row.failing)?)?;
-    let mut err = MemSink::new(alloc, 1000, Rows::new(alloc))?;
+    let mut shelf = shelf_of(alloc, row.text, row.fetches_failing)?;
+    let mut out = MemSink::new(alloc, 1000, rows_of(alloc, row.puts_failing)?)?;
+    let mut err = MemSink::new(alloc, row.err_room, Rows::new(alloc))?;
     let status = lmn_main(alloc, words.as_slice(), &mut shelf, &mut out, &mut err);
     Ok(Ended { out, err, status })
 }

@@ -40,9 +40,11 @@ pub fn lmn_main<F: Shelf, O: Sink, E: Sink>(
     out: &mut O,
     err: &mut E,
 ) -> u8
-    // Status 3 comes where the words aren't of the form; a failing sink alone takes its place.
+    ensures status { result ≤ 6 }
+
+    // Status 3 comes where the words aren't of the form; a failing `err` alone takes its place.
     ensures words { result ≡ 3 → ¬ (InForm words.now) }
-    ensures form { ¬ (InForm words.now) → (result ≡ 3) ⊎ (result ≡ 5) }
+    ensures form { ¬ (InForm words.now) → (result ≡ 3) ⊎ ((result ≡ 5) × Rose (E.faults err.old) (E.faults err.new)) }
 
     // Status 4 comes only where the count of the file rose, and 5 only where that of a sink did.
     ensures read { result ≡ 4 → InForm words.now × Rose (F.faults shelf.old (file_of words.now)) (F.faults shelf.new (file_of words.now)) }
@@ -76,6 +78,7 @@ pub fn lmn_main<F: Shelf, O: Sink, E: Sink>(
         (TakesPrefix (codes "lmn: write failed\n") (E.told err.old) (E.told err.new) × Rose (O.faults out.old) (O.faults out.new))
         ⊎ (Rose (E.faults err.old) (E.faults err.new) × ((ending : Ending)
         × Causes ending (told_under (F.told shelf.old) (file_of words.now)) words.now (F.faults shelf.old (file_of words.now)) (F.faults shelf.new (file_of words.now))
+        × Output ending (told_under (F.told shelf.old) (file_of words.now)) (O.told out.old) (O.told out.new) (O.faults out.old) (O.faults out.new)
         × TakesPrefix (line_of ending) (E.told err.old) (E.told err.new))) }
 {
     let ending = act(alloc, words, shelf, out);

@@ -16,7 +16,7 @@ pub struct FileShelf<'a, R: Files> {
 }
 
 impl<'a, R: Files> FileShelf<'a, R> {
-    /// A shelf that has met no fault.
+    /// A shelf over the files of a runtime.
     pub fn new(rt: &'a R) -> FileShelf<'a, R> {
         FileShelf { rt, failures: 0 }
     }

@@ -7,7 +7,8 @@ use crate::kept::Kept;
 use crate::sink::{Failed, Sink};
 use std::marker::Model;
 
-/// Output that is gathered, so that a sink sees one put a line, or one each 4 KiB of a longer line.
+/// Output that is gathered, so that a sink sees one put a line, or one each 4 KiB of a longer line;
+/// a piece of more than 4 KiB is put by itself.
 /// It takes no memory. Once a put has failed nothing more is put, and `finish` answers it.
 #[derive(Drop)]
 pub struct LineBuffer {

@@ -1,4 +1,4 @@
-ghost use Rattle.std.specs.Prelude.{◌≡◌, ◌≤◌, ◌↔◌, ℕ, List, Some, length, IfOk, IsErrOf};
+ghost use Rattle.std.specs.Prelude.{◌≡◌, ◌≤◌, ◌↔◌, ℕ, List, Some, None, Contains, length, IfOk, IsErrOf};
 ghost use Rattle.std.specs.Option.{option_copied};
 ghost use Rattle.lmn_io.specs.Counts.{Rose, one_more};
 ghost use Rattle.lmn_io.specs.Texts.{text_of, IsFetched};
@@ -82,7 +82,9 @@ impl Shelf for MemShelf {
         ensures fetched { IfOk result (λ f. IsFetched (Some (text_in self.old)) name.now most f) }
         ensures rose { IsErrOf result FetchFault.Failed → Rose (faults_in self.old name.now) (faults_in self.new name.now) }
         ensures fails { IsErrOf result FetchFault.Failed ↔ FetchFails self.old name.now }
-        ensures counted { self.new.calls ≡ one_more self.old.calls }
+        ensures met { ¬ (FetchFails self.old name.now) → self.new ≡ record self.old { calls = one_more self.old.calls } }
+        ensures listed { Contains self.old.failing self.old.calls → self.new ≡ record self.old { calls = one_more self.old.calls; listed = one_more self.old.listed; all = one_more self.old.all } }
+        ensures missing { ¬ (Contains self.old.failing self.old.calls) → text_in self.old name.now ≡ None → self.new ≡ record self.old { calls = one_more self.old.calls; all = one_more self.old.all } }
     {
         let call = self.calls;
         self.calls = call.saturating_add(1);

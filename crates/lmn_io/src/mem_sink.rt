@@ -1,4 +1,4 @@
-ghost use Rattle.std.specs.Prelude.{◌≡◌, ◌≤◌, ◌↔◌, List, [], Some, length, IfOk, IsErr, OnErr, OnOk};
+ghost use Rattle.std.specs.Prelude.{◌≡◌, ◌≤◌, ◌↔◌, ◌++◌, List, [], Some, length, IfOk, IsErr, OnErr, OnOk};
 ghost use Rattle.lmn_io.specs.Counts.{Rose, one_more};
 ghost use Rattle.lmn_io.specs.Taking.{Takes, TakesPrefix};
 ghost use Rattle.lmn_io.specs.Memory.{Taken, PutFails};
@@ -69,7 +69,7 @@ impl Sink for MemSink {
         ensures rose { OnErr result (Rose self.old.failures self.new.failures) }
         ensures fails { IsErr result ↔ PutFails self.old piece.now }
         ensures refused { OnErr result (self.new ≡ record self.old { calls = one_more self.old.calls; failures = one_more self.old.failures }) }
-        ensures counted { self.new.calls ≡ one_more self.old.calls }
+        ensures accepted { OnOk result (self.new ≡ record self.old { bytes = self.old.bytes ++ piece.now; calls = one_more self.old.calls }) }
     {
         let call = self.calls;
         self.calls = call.saturating_add(1);

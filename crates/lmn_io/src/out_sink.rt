@@ -11,7 +11,7 @@ pub struct OutSink<W: Write + Drop> {
 }
 
 impl<W: Write + Drop> OutSink<W> {
-    /// A sink that has met no fault.
+    /// A sink over a writer.
     pub fn new(writer: W) -> OutSink<W> {
         OutSink {
             writer,
@@ -48,19 +48,24 @@ mod tests {
     use crate::sink::{Failed, Sink};
     use std::io::{self, Write};
 
-    /// A writer that takes one byte a call, as often as it is told, and then fails.
+    /// A writer with room for five bytes, which takes one byte a call.
     #[derive(Drop)]
     struct Narrow {
-        left: u8,
+        taken: [u8; 5],
+        count: usize,
     }
 
     impl Write for Narrow {
         fn write(&mut self, buf: &[u8]) -> io::Result<usize> {
-            if self.left == 0 {
-                return Err(io::Error::from(io::ErrorKind::BrokenPipe));
+            match buf {
+                [] => Ok(0),
+                [first, ..] if self.count < 5 => {
+                    self.taken[self.count] = *first;
+                    self.count += 1;
+                    Ok(1)
+                }
+                _ => Err(io::Error::from(io::ErrorKind::BrokenPipe)),
             }
-            self.left -= 1;
-            Ok(buf.len().min(1))
         }
 
         fn flush(&mut self) -> io::Result<()> {
@@ -70,8 +75,10 @@ mod tests {
 
     #[test]
     fn fails_with_its_writer(rt: HostRuntime) {
-        let mut sink = OutSink::new(Narrow { left: 5 });
+        let taken = [0; 5];
+        let mut sink = OutSink::new(Narrow { taken, count: 0 });
         assert_eq!(rt; sink.put(b"abc"), Ok(()));
-        assert_eq!(rt; sink.put(b"abc"), Err(Failed));
+        assert_eq!(rt; sink.put(b"def"), Err(Failed));
+        assert_eq!(rt; sink.writer.taken.as_slice(), b"abcde".as_slice());
     }
 }

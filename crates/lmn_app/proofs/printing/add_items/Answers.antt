@@ -3,7 +3,7 @@ use Rattle.std.specs.Prelude.{codes}
 use Rattle.std.proofs.lemmas.List.{nil_from_length}
 use Rattle.lmn_io.proofs.TakingLemmas.{adds_as, adds_more}
 use Rattle.lmn_app.specs.Programs.{names_of, rules_of}
-use Rattle.lmn_app.specs.Lines.{stopped}
+use Rattle.lmn_app.specs.Lines.{with_full_stop}
 use Rattle.lmn_app.specs.Printing.{items_text}
 use Rattle.lmn_app.proofs.LineLemmas.{items_from_atom}
 use Rattle.lmn_app.proofs.printing.add_items.Goals as goal
@@ -11,7 +11,7 @@ use Rattle.lmn_app.proofs.printing.add_items.Goals as goal
 pub returns-in-Some : goal.returns-in-Some
 returns-in-Some g c =
     adds_as (items_from_atom (names_of c.args.atoms.now) c.in-Some.first.now.now (names_of c.in-Some.more.now) (rules_of c.args.rules.now) (ap names_of c.in-Some.ensures.cases.0))
-    (adds_more (stopped c.in-Some.first.now.now) _ _ _ _ (adds_more _ (codes ".") _ _ _ c.add.ensures c.add-in-Some.ensures)
+    (adds_more (with_full_stop c.in-Some.first.now.now) _ _ _ _ (adds_more _ (codes ".") _ _ _ c.add.ensures c.add-in-Some.ensures)
     (adds_more _ _ _ _ _ c.add_more_atoms.ensures c.add_more_rules.ensures))
 
 pub returns-in-None : goal.returns-in-None

@@ -2,11 +2,11 @@ use Rattle.std.proofs.Common.{ap}
 use Rattle.std.specs.Prelude.{codes}
 use Rattle.lmn_io.proofs.TakingLemmas.{adds_as, adds_more}
 use Rattle.lmn_app.specs.Programs.{rule_of, rules_of}
-use Rattle.lmn_app.specs.Lines.{rule_text, stopped}
+use Rattle.lmn_app.specs.Lines.{rule_text, with_full_stop}
 use Rattle.lmn_app.proofs.LineLemmas.{items_from_rule}
 use Rattle.lmn_app.proofs.printing.add_rules.Goals as goal
 
 pub returns-in-Some : goal.returns-in-Some
 returns-in-Some g c =
     adds_as (items_from_rule (rules_of c.args.rules.now) (rule_of c.in-Some.first.now) (rules_of c.in-Some.more.now) (ap rules_of c.in-Some.ensures.cases.0))
-    (adds_more (stopped (rule_text (rule_of c.in-Some.first.now))) _ _ _ _ (adds_more (rule_text (rule_of c.in-Some.first.now)) (codes ".") _ _ _ c.add_rule.ensures c.add.ensures) c.add_more_rules.ensures)
+    (adds_more (with_full_stop (rule_text (rule_of c.in-Some.first.now))) _ _ _ _ (adds_more (rule_text (rule_of c.in-Some.first.now)) (codes ".") _ _ _ c.add_rule.ensures c.add.ensures) c.add_more_rules.ensures)

@@ -1,4 +1,4 @@
-use Rattle.std.proofs.Common.{arith, refl, subst, sym}
+use Rattle.std.proofs.Common.{arith, lit≤, refl, subst, sym}
 use Rattle.lmn_app.specs.Programs.{names_of, rule_of, rules_of}
 use Rattle.lmn_app.specs.Firings.{SomeCovered, Firings, no_step}
 use Rattle.lmn_app.proofs.FiringLemmas.{firings_commit}
@@ -20,7 +20,7 @@ pub returns-then-is_err-clause-stopped : goal.returns-then-is_err-clause-stopped
 returns-then-is_err-clause-stopped c =
     let same = at_error c.fire.result c.is_err.result c.fire.ensures.err c.is_err.ensures.value c.if-is_err.true in
     let before = first_covers _ _ _ _ c.as_slice.ensures.value c.in-Some.ensures in
-    subst (λ new. SomeCovered (rules_of c.args.rules.now) (names_of new)) (sym same) before
+    (subst (λ new. SomeCovered (rules_of c.args.rules.now) (names_of new)) (sym same) before, omega (arith, c.loop-fired-test.true))
 
 pub loop-fired-preserved : goal.loop-fired-preserved
 loop-fired-preserved c =
@@ -36,7 +36,7 @@ pub returns-in-None-clause-commits : goal.returns-in-None-clause-commits
 returns-in-None-clause-commits c = all_commit c.loop-fired.fired 1000 _ _ _ c.loop-fired.invariant (omega (arith, c.loop-fired-test.false, c.loop-fired.auto.fired-end))
 
 pub returns-in_default-clause-stopped : goal.returns-in_default-clause-stopped
-returns-in_default-clause-stopped c = none_stops _ _ _ c.as_slice.ensures.value c.in_default.ensures
+returns-in_default-clause-stopped c = let n = none_stops _ _ _ c.as_slice.ensures.value c.in_default.ensures in (omega (arith, c.loop-fired-test.true), n.0, n.1)
 
 pub returns-in-None-clause-stopped : goal.returns-in-None-clause-stopped
-returns-in-None-clause-stopped c = none_stops _ _ _ c.as_slice-2.ensures.value c.in-None.ensures
+returns-in-None-clause-stopped c = let n = none_stops _ _ _ c.as_slice-2.ensures.value c.in-None.ensures in (lit≤ tt, n.0, n.1)
