@@ -3,7 +3,7 @@ use Rattle.std.proofs.Common.{◌≡◌, ◌≢◌, ◌⊎◌, ℕ, true, false,
 use Rattle.std.proofs.lemmas.List.{append_assoc, append-nil, flat_map_more}
 use Rattle.lmn_app.specs.FirstGrammar.{Lexeme, Dot, RuleTree, ClauseTree, ItemsClause, Tree, Rules, ItemLists, Clauses, rule_clause, items_clause, Programs, no_clause, last_clause, more_clauses, clause_atoms, clause_rules}
 use Rattle.lmn_app.specs.Programs.{IsProcessOf}
-use Rattle.lmn_app.specs.Reading.{left, is_rule_first, NotFirst, Ends, Adds, RuleFrom, ItemsFrom, ClauseFrom}
+use Rattle.lmn_app.specs.Reading.{left, is_rule_first, NotFirst, Ends, Extends, RuleFrom, ItemsFrom, ClauseFrom}
 use Rattle.lmn_app.specs.declared.program.Program.{Program}
 use Rattle.lmn_app.specs.declared.reading.lexer.Token.{Token}
 use Rattle.lmn_app.proofs.GrammarLaws.{apart, tail_is, ends_no_comma, ends_no_rule, rules_first, item_lists_one, item_lists_no_rule, clauses_some}
@@ -82,14 +82,14 @@ clause_off us vs ws some only past _ (more_clauses {c = c} {cs = cs} {us = rest}
       | inr e ↦ (cs, subst (λ ts. Programs ts cs) (tail_is (end ∙ e)) more)
     ]
 
-process_more : (old new : Program) (done : Tree) (c : ClauseTree) → IsProcessOf old done → Adds old new (clause_atoms c) (clause_rules c) → IsProcessOf new (done ++ c ∷ [])
+process_more : (old new : Program) (done : Tree) (c : ClauseTree) → IsProcessOf old done → Extends old new (clause_atoms c) (clause_rules c) → IsProcessOf new (done ++ c ∷ [])
 process_more old new done c h k =
     record {
       same_atoms = k.atoms_added ∙ ap (λ l. l ++ clause_atoms c) h.same_atoms ∙ flat_map_more clause_atoms [] done c;
       same_rules = k.rules_added ∙ ap (λ l. l ++ clause_rules c) h.same_rules ∙ flat_map_more clause_rules [] done c;
     }
 
-pub clauses_more : (ts us vs ws : List Lexeme) (old new : Program) (c : ClauseTree) → ClausesAdded ts us old → us ≢ [] → Clauses us c vs → ((d : ClauseTree) (rest : List Lexeme) → Clauses us d rest → Ends rest → rest ≡ vs) → Adds old new (clause_atoms c) (clause_rules c) → Past vs ws → ClausesAdded ts ws new
+pub clauses_more : (ts us vs ws : List Lexeme) (old new : Program) (c : ClauseTree) → ClausesAdded ts us old → us ≢ [] → Clauses us c vs → ((d : ClauseTree) (rest : List Lexeme) → Clauses us d rest → Ends rest → rest ≡ vs) → Extends old new (clause_atoms c) (clause_rules c) → Past vs ws → ClausesAdded ts ws new
 clauses_more ts us vs ws old new c before some h only adds past =
     record {
       done = before.done ++ c ∷ [];

@@ -12,7 +12,7 @@ use Rattle.lmn_congruence.specs.reduction.Instances.{LeafInstances, Instance, in
 use Rattle.lmn_congruence.specs.reduction.Firing.{Matches}
 use Rattle.lmn_congruence.specs.reduction.Steps.{Step}
 use Rattle.lmn_congruence.specs.reduction.Redexes.{HasRedex, at_top, in_membrane}
-use Rattle.lmn_congruence.proofs.InnerLink.{AllRules, kept_rules}
+use Rattle.lmn_congruence.proofs.KeptRules.{AllRules, kept_rules}
 use Rattle.lmn_congruence.proofs.Redexes.{step_shows}
 use Rattle.lmn_app.specs.FirstGrammar.{RuleTree}
 use Rattle.lmn_app.specs.Processes.{atom_of, flat_rule, flat_rules, flat_process}

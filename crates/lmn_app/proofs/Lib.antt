@@ -1,14 +1,14 @@
-pub mod AddsLaws
 pub mod ClauseLaws
 pub mod CutsLaws
+pub mod ExtendsLaws
 pub mod FiringLemmas
 pub mod FlatRedexes
 pub mod GrammarLaws
 pub mod LimitLaws
 pub mod LineLaws
-pub mod LineLemmas
 pub mod OutcomeLemmas
 pub mod PlaceLaws
+pub mod PrintingLemmas
 pub mod ReadsLaws
 pub mod RunLemmas
 pub mod RunningLemmas

@@ -1,5 +1,5 @@
 -- The run of a text that was read.
-use Rattle.std.specs.Prelude.{◌≡◌, ℕ, true, false, cond, List, [], ◌∷◌, ◌++◌, bytes_eq}
+use Rattle.std.specs.Prelude.{◌≡◌, ℕ, true, false, cond, List, [], ◌∷◌, bytes_eq}
 use Rattle.std.specs.List.{AllByRecursion}
 use Rattle.std.proofs.Common.{refl, ap, ◌∙◌}
 use Rattle.lmn_congruence.specs.Orders.{Among, at_head, further}
@@ -18,12 +18,9 @@ use Rattle.lmn_app.proofs.FlatRedexes.{flat_irreducible}
 use Rattle.lmn_app.specs.declared.running.Stop.{Stop}
 use Rattle.lmn_app.specs.declared.running.Stop.TheVariants as stop
 use Rattle.lmn_app.proofs.LineLaws.{lines_are_read}
-use Rattle.lmn_app.proofs.SpelledLaws.{trees_are_spelled}
+use Rattle.lmn_app.proofs.SpelledLaws.{all_append, trees_are_spelled}
 
-all_append : {A : Type 0} (P : A → Type 0) (xs ys : List A) → AllByRecursion P xs → AllByRecursion P ys → AllByRecursion P (xs ++ ys)
-all_append P [] ys p q = q
-all_append P (x ∷ xs) ys p q = (p.0, all_append P xs ys p.1 q)
-
+-- what holds of each element holds of one of them
 all_at : {A : Type 0} (P : A → Type 0) {x : A} (xs : List A) → Among x xs → AllByRecursion P xs → P x
 all_at P [] a p = elim a [ ]
 all_at P (x ∷ xs) at_head p = p.0

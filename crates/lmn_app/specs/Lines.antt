@@ -16,6 +16,9 @@ rule_text r = codes "(" ++ (join (codes ", ") r.head ++ (codes " :- " ++ (join (
 abbrev pub with_full_stop : List ℕ → List ℕ
 with_full_stop item = item ++ codes "."
 
--- as `b. (a, a :- b).` and a line feed
+-- as `b. (a, a :- b).`
+abbrev pub items_text : List (List ℕ) → List RuleTree → List ℕ
+items_text atoms rules = join (codes " ") (map with_full_stop (atoms ++ map rule_text rules))
+
 abbrev pub line : List (List ℕ) → List RuleTree → List ℕ
-line atoms rules = join (codes " ") (map with_full_stop (atoms ++ map rule_text rules)) ++ 10 ∷ []
+line atoms rules = items_text atoms rules ++ codes "\n"

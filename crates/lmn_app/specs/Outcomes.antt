@@ -37,11 +37,11 @@ Causes WriteFault text words before after = InForm words
 Causes NoMemory text words before after = InForm words
 
 -- What `out` took of a run of the text, and its count of faults, before and after.
-abbrev pub Output : Ending → Option (Option (List ℕ)) → Option (List ℕ) → Option (List ℕ) → ℕ → ℕ → Type 0
-Output Done text old new before after = Writes text stop.Irreducible old new
-Output Budget text old new before after = Writes text stop.Budget old new
-Output (Refused r) text old new before after = new ≡ old
-Output Words text old new before after = new ≡ old
-Output ReadFault text old new before after = new ≡ old
-Output WriteFault text old new before after = WritesPrefix text old new × Rose before after
-Output NoMemory text old new before after = (new ≡ old) ⊎ Writes text stop.NoMemory old new
+abbrev pub Effects : Ending → Option (Option (List ℕ)) → Option (List ℕ) → Option (List ℕ) → ℕ → ℕ → Type 0
+Effects Done text old new before after = Writes text stop.Irreducible old new
+Effects Budget text old new before after = Writes text stop.Budget old new
+Effects (Refused r) text old new before after = new ≡ old
+Effects Words text old new before after = new ≡ old
+Effects ReadFault text old new before after = new ≡ old
+Effects WriteFault text old new before after = WritesPrefix text old new × Rose before after
+Effects NoMemory text old new before after = (new ≡ old) ⊎ Writes text stop.NoMemory old new

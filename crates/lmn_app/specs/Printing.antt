@@ -1,12 +1,7 @@
 -- What the printer writes, piece by piece.
-use Rattle.std.specs.Prelude.{ℕ, List, [], ◌∷◌, ◌++◌, map, codes, decimal}
+use Rattle.std.specs.Prelude.{ℕ, List, [], ◌∷◌, ◌++◌, codes, decimal}
 use Rattle.std.specs.List.{concat, flat_map}
-use Rattle.lmn_app.specs.FirstGrammar.{RuleTree}
-use Rattle.lmn_app.specs.Lines.{join, rule_text, with_full_stop}
-
--- the line of a process but for its line feed
-abbrev pub items_text : List (List ℕ) → List RuleTree → List ℕ
-items_text atoms rules = join (codes " ") (map with_full_stop (atoms ++ map rule_text rules))
+use Rattle.lmn_app.specs.Lines.{with_full_stop}
 
 -- items, each behind a space
 abbrev pub behind_spaces : {X : Type 0} → (X → List ℕ) → List X → List ℕ

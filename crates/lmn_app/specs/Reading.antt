@@ -32,7 +32,7 @@ is_rule_first (Arrow ∷ ts) = true
 is_rule_first (_ ∷ ts) = false
 
 -- these atoms and rules were added at the end
-pub record Adds (old new : Program) (atoms : List (List ℕ)) (rules : List RuleTree) : Type 0 where
+pub record Extends (old new : Program) (atoms : List (List ℕ)) (rules : List RuleTree) : Type 0 where
   pub atoms_added : names_of new.atoms ≡ names_of old.atoms ++ atoms
   pub rules_added : rules_of new.rules ≡ rules_of old.rules ++ rules
 
@@ -73,20 +73,20 @@ RuleFrom tokens at (Some found) =
 
 abbrev pub ItemFrom : List Token → ℕ → Program → Program → Option ℕ → Type 0
 ItemFrom tokens at old new None = (i : ItemTree) (rest : List Lexeme) → Items (left tokens at) i rest → ⊥
-ItemFrom tokens at old new (Some end) = (i : ItemTree) × Items (left tokens at) i (left tokens end) × Adds old new (item_atoms i) (item_rules i)
+ItemFrom tokens at old new (Some end) = (i : ItemTree) × Items (left tokens at) i (left tokens end) × Extends old new (item_atoms i) (item_rules i)
 
 abbrev pub ItemsFrom : List Token → ℕ → Program → Program → Option ℕ → Type 0
 ItemsFrom tokens at old new None = (is : List ItemTree) (rest : List Lexeme) → ItemLists (left tokens at) is rest → NotFirst Comma rest → ⊥
 ItemsFrom tokens at old new (Some end) =
     (is : List ItemTree) × ItemLists (left tokens at) is (left tokens end) × NotFirst Comma (left tokens end)
-    × Adds old new (flat_map item_atoms is) (flat_map item_rules is)
+    × Extends old new (flat_map item_atoms is) (flat_map item_rules is)
 
 abbrev pub ClauseFrom : List Token → ℕ → Program → Program → Option ℕ → Type 0
 ClauseFrom tokens at old new None = (c : ClauseTree) (rest : List Lexeme) → Clauses (left tokens at) c rest → Ends rest → ⊥
 ClauseFrom tokens at old new (Some end) =
     (c : ClauseTree) × Clauses (left tokens at) c (left tokens end)
     × ((d : ClauseTree) (rest : List Lexeme) → Clauses (left tokens at) d rest → Ends rest → rest ≡ left tokens end)
-    × Adds old new (clause_atoms c) (clause_rules c)
+    × Extends old new (clause_atoms c) (clause_rules c)
 
 abbrev pub ProgramFrom : List Token → Option Program → Type 0
 ProgramFrom tokens None = (tree : Tree) → Programs (lexemes tokens) tree → ⊥

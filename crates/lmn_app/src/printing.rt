@@ -3,8 +3,8 @@ ghost use Rattle.lmn_io.specs.Counts.{Rose};
 ghost use Rattle.lmn_io.specs.Taking.{Takes, TakesPrefix};
 ghost use Rattle.lmn_io.specs.Gathering.{Adds, output};
 ghost use Rattle.lmn_app.specs.Programs.{names_of, rule_of, rules_of};
-ghost use Rattle.lmn_app.specs.Lines.{join, line, rule_text};
-ghost use Rattle.lmn_app.specs.Printing.{end_line, items_text, behind_spaces};
+ghost use Rattle.lmn_app.specs.Lines.{items_text, join, line, rule_text};
+ghost use Rattle.lmn_app.specs.Printing.{end_line, behind_spaces};
 ghost use Rattle.lmn_app.specs.Stops.{stop_word};
 
 use crate::program::Rule;

@@ -6,7 +6,7 @@ ghost use Rattle.lmn_base.specs.declared.refusal.Refusal.{Refusal};
 ghost use Rattle.lmn_app.specs.FirstGrammar.{Tree};
 ghost use Rattle.lmn_app.specs.Words.{InForm, file_of};
 ghost use Rattle.lmn_app.specs.Endings.{line_of, refusal_line};
-ghost use Rattle.lmn_app.specs.Outcomes.{Causes, Output, Writes, WritesPrefix};
+ghost use Rattle.lmn_app.specs.Outcomes.{Causes, Effects, Writes, WritesPrefix};
 ghost use Rattle.lmn_app.specs.Programs.{at_start, IsProcessOf};
 ghost use Rattle.lmn_app.specs.Runs.{Accepts, IsAccepted, IsRefusal, IfTold, IsToldAnd, told_under};
 ghost use Rattle.lmn_app.specs.Stops.{stop_ending};
@@ -78,7 +78,7 @@ pub fn lmn_main<F: Shelf, O: Sink, E: Sink>(
         (TakesPrefix (codes "lmn: write failed\n") (E.told err.old) (E.told err.new) × Rose (O.faults out.old) (O.faults out.new))
         ⊎ (Rose (E.faults err.old) (E.faults err.new) × ((ending : Ending)
         × Causes ending (told_under (F.told shelf.old) (file_of words.now)) words.now (F.faults shelf.old (file_of words.now)) (F.faults shelf.new (file_of words.now))
-        × Output ending (told_under (F.told shelf.old) (file_of words.now)) (O.told out.old) (O.told out.new) (O.faults out.old) (O.faults out.new)
+        × Effects ending (told_under (F.told shelf.old) (file_of words.now)) (O.told out.old) (O.told out.new) (O.faults out.old) (O.faults out.new)
         × TakesPrefix (line_of ending) (E.told err.old) (E.told err.new))) }
 {
     let ending = act(alloc, words, shelf, out);
@@ -88,7 +88,7 @@ pub fn lmn_main<F: Shelf, O: Sink, E: Sink>(
 /// Does what the words ask for, and says how it ended.
 fn act<F: Shelf, O: Sink>(alloc: Global, words: &[String], shelf: &mut F, out: &mut O) -> Ending
     ensures causes { Causes result (told_under (F.told shelf.old) (file_of words.now)) words.now (F.faults shelf.old (file_of words.now)) (F.faults shelf.new (file_of words.now)) }
-    ensures output { Output result (told_under (F.told shelf.old) (file_of words.now)) (O.told out.old) (O.told out.new) (O.faults out.old) (O.faults out.new) }
+    ensures effects { Effects result (told_under (F.told shelf.old) (file_of words.now)) (O.told out.old) (O.told out.new) (O.faults out.old) (O.faults out.new) }
 {
     match words {
         [_, file] if in_form(words) => run(alloc, file.as_str(), shelf, out),
@@ -100,7 +100,7 @@ fn act<F: Shelf, O: Sink>(alloc: Global, words: &[String], shelf: &mut F, out: &
 fn run<F: Shelf, O: Sink>(alloc: Global, file: &str, shelf: &mut F, out: &mut O) -> Ending
     ensures causes { (words : List (String Global)) → InForm words →
         Causes result (told_under (F.told shelf.old) file.now) words (F.faults shelf.old file.now) (F.faults shelf.new file.now) }
-    ensures output { Output result (told_under (F.told shelf.old) file.now) (O.told out.old) (O.told out.new) (O.faults out.old) (O.faults out.new) }
+    ensures effects { Effects result (told_under (F.told shelf.old) file.now) (O.told out.old) (O.told out.new) (O.faults out.old) (O.faults out.new) }
 {
     match shelf.fetch(alloc, file, TEXT_BYTES) {
         Ok(Fetched::Whole(text)) => run_text(alloc, text.as_slice(), out),
@@ -114,7 +114,7 @@ fn run<F: Shelf, O: Sink>(alloc: Global, file: &str, shelf: &mut F, out: &mut O)
 fn run_text<O: Sink>(alloc: Global, text: &[u8], out: &mut O) -> Ending
     requires { length text.now ≤ 4194304 }
     ensures causes { (words : List (String Global)) (before after : ℕ) → InForm words → Causes result (Some (Some text.now)) words before after }
-    ensures output { Output result (Some (Some text.now)) (O.told out.old) (O.told out.new) (O.faults out.old) (O.faults out.new) }
+    ensures effects { Effects result (Some (Some text.now)) (O.told out.old) (O.told out.new) (O.faults out.old) (O.faults out.new) }
 {
     match reading::read(alloc, text) {
         Ok(program) => match run_program(program, out) {

@@ -23,4 +23,5 @@ pub mod Derivations
 pub mod ExampleSteps
 pub mod Redexes
 pub mod Kept
+pub mod KeptRules
 pub mod InnerLink

@@ -1,4 +1,4 @@
-ghost use Rattle.std.specs.Prelude.{None, ◌≤◌, length, IfOk};
+ghost use Rattle.std.specs.Prelude.{◌≡◌, ℕ, List, None, ◌≤◌, length, IfOk};
 ghost use Rattle.lmn_io.specs.Texts.{IsFetched};
 
 use crate::shelf::{FetchFault, Fetched, Shelf};
@@ -16,8 +16,10 @@ pub struct FileShelf<'a, R: Files> {
 }
 
 impl<'a, R: Files> FileShelf<'a, R> {
-    /// A shelf over the files of a runtime.
-    pub fn new(rt: &'a R) -> FileShelf<'a, R> {
+    /// A shelf over the files of a runtime, which has counted no fault of any name.
+    pub fn new(rt: &'a R) -> FileShelf<'a, R>
+        ensures { (name : List ℕ) → ⟦<FileShelf<'a, R> as Shelf>⟧.faults result name ≡ 0 }
+    {
         FileShelf { rt, failures: 0 }
     }
 }

@@ -1,4 +1,4 @@
-ghost use Rattle.std.specs.Prelude.{ℕ, None};
+ghost use Rattle.std.specs.Prelude.{◌≡◌, ℕ, None};
 
 use crate::sink::{Failed, Sink};
 use std::io::Write;
@@ -11,8 +11,10 @@ pub struct OutSink<W: Write + Drop> {
 }
 
 impl<W: Write + Drop> OutSink<W> {
-    /// A sink over a writer.
-    pub fn new(writer: W) -> OutSink<W> {
+    /// A sink over a writer, which has counted no fault.
+    pub fn new(writer: W) -> OutSink<W>
+        ensures { ⟦<OutSink<W> as Sink>⟧.faults result ≡ 0 }
+    {
         OutSink {
             writer,
             failures: 0,

@@ -3,9 +3,8 @@ use Rattle.std.specs.Prelude.{codes}
 use Rattle.std.proofs.lemmas.List.{nil_from_length}
 use Rattle.lmn_io.proofs.TakingLemmas.{adds_as, adds_more}
 use Rattle.lmn_app.specs.Programs.{names_of, rules_of}
-use Rattle.lmn_app.specs.Lines.{with_full_stop}
-use Rattle.lmn_app.specs.Printing.{items_text}
-use Rattle.lmn_app.proofs.LineLemmas.{items_from_atom}
+use Rattle.lmn_app.specs.Lines.{items_text, with_full_stop}
+use Rattle.lmn_app.proofs.PrintingLemmas.{items_from_atom}
 use Rattle.lmn_app.proofs.printing.add_items.Goals as goal
 
 pub returns-in-Some : goal.returns-in-Some

@@ -1,7 +1,7 @@
 use Rattle.std.proofs.Common.{◌++◌}
 use Rattle.std.specs.Prelude.{codes}
 use Rattle.lmn_io.proofs.TakingLemmas.{adds_all, adds_as, adds_more, adds_next}
-use Rattle.lmn_app.proofs.LineLemmas.{names_whole}
+use Rattle.lmn_app.proofs.PrintingLemmas.{names_whole}
 use Rattle.lmn_app.proofs.printing.add_names.Goals as goal
 
 pub loop-name-preserved : goal.loop-name-preserved

@@ -3,7 +3,7 @@ use Rattle.std.specs.Prelude.{codes}
 use Rattle.lmn_io.proofs.TakingLemmas.{adds_as, adds_more}
 use Rattle.lmn_app.specs.Programs.{rule_of, rules_of}
 use Rattle.lmn_app.specs.Lines.{rule_text, with_full_stop}
-use Rattle.lmn_app.proofs.LineLemmas.{items_from_rule}
+use Rattle.lmn_app.proofs.PrintingLemmas.{items_from_rule}
 use Rattle.lmn_app.proofs.printing.add_rules.Goals as goal
 
 pub returns-in-Some : goal.returns-in-Some

@@ -3,8 +3,7 @@ use Rattle.std.specs.Prelude.{codes}
 use Rattle.lmn_io.specs.Gathering.{Adds, nothing_pending, output}
 use Rattle.lmn_io.proofs.TakingLemmas.{adds_more}
 use Rattle.lmn_app.specs.Programs.{names_of, rules_of}
-use Rattle.lmn_app.specs.Lines.{line}
-use Rattle.lmn_app.specs.Printing.{items_text}
+use Rattle.lmn_app.specs.Lines.{items_text, line}
 use Rattle.lmn_app.proofs.printing.print_process.Goals as goal
 use Rattle.lmn_app.proofs.printing.print_process.Given as given
 

@@ -2,7 +2,7 @@ use Rattle.std.proofs.Common.{sym}
 use Rattle.std.proofs.lemmas.Result.{IfOk-weaker}
 use Rattle.lmn_app.specs.FirstGrammar.{RuleClause, rule_clause}
 use Rattle.lmn_app.specs.Programs.{rule_of}
-use Rattle.lmn_app.proofs.AddsLaws.{adds_rule}
+use Rattle.lmn_app.proofs.ExtendsLaws.{extends_rule}
 use Rattle.lmn_app.proofs.ClauseLaws.{clause_from_items, clause_from_no_rule, only_rule}
 use Rattle.lmn_app.proofs.reading.parser.clause.Goals as goal
 
@@ -17,4 +17,4 @@ pub returns-clause-found : goal.returns-clause-found
 returns-clause-found c =
     let rule = c.in-Some.rule in
     let read = rw c.in-Some.is at c.in_ok-rule.ensures.found in
-    (RuleClause (rule_of rule), rule_clause read.0, only_rule c.args.tokens.now c.args.at c.in-Some.end (sym c.if-not-begins_rule.ensures) read.1, adds_rule c.args.program.now rule c.push.new.self c.in_ok-push.ensures.ok)
+    (RuleClause (rule_of rule), rule_clause read.0, only_rule c.args.tokens.now c.args.at c.in-Some.end (sym c.if-not-begins_rule.ensures) read.1, extends_rule c.args.program.now rule c.push.new.self c.in_ok-push.ensures.ok)

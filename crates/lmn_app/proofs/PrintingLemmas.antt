@@ -6,8 +6,8 @@ use Rattle.std.proofs.Common.{ap, sym, ◌∙◌, append_assoc, append-nil}
 use Rattle.std.proofs.lemmas.List.Concat.{flat_map-append}
 use Rattle.std.proofs.lemmas.List.Folds.{flat_map-map}
 use Rattle.lmn_app.specs.FirstGrammar.{RuleTree}
-use Rattle.lmn_app.specs.Lines.{join, rule_text, with_full_stop}
-use Rattle.lmn_app.specs.Printing.{items_text, behind_spaces}
+use Rattle.lmn_app.specs.Lines.{items_text, join, rule_text, with_full_stop}
+use Rattle.lmn_app.specs.Printing.{behind_spaces}
 
 -- the first piece, and then each other one behind what stands between
 joined_apart : (between piece : List ℕ) (pieces : List (List ℕ)) → join between (piece ∷ pieces) ≡ piece ++ flat_map (λ p. between ++ p) pieces
