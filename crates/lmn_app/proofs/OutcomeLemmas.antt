@@ -17,20 +17,20 @@ whole_prefix : (text : Option (Option (List ℕ))) (s : Stop) (old new : Option 
 whole_prefix text s old new w = (w.0, s, w.1, w.2, takes_prefix (w.0 ++ end_line (stop_word s) w.1) old new w.3)
 
 -- the output of a run is that of the ending that its reason gives
-pub reason_effects : (s : Stop) (text : Option (Option (List ℕ))) (old new : Option (List ℕ)) (before after : ℕ) → Writes text s old new → Effects (stop_ending s) text old new before after
-reason_effects stop.Irreducible text old new before after w = w
-reason_effects stop.Budget text old new before after w = w
-reason_effects stop.NoMemory text old new before after w = inr w
+pub reason_effects : (s : Stop) (text : Option (Option (List ℕ))) (old new : Option (List ℕ)) (before after : ℕ) → Writes text s old new → after ≡ before → Effects (stop_ending s) text old new before after
+reason_effects stop.Irreducible text old new before after w e = (w, e)
+reason_effects stop.Budget text old new before after w e = (w, e)
+reason_effects stop.NoMemory text old new before after w e = (inr w, e)
 
 -- with every ending `out` took nothing or a prefix of what a run writes
 pub effects_prefix : (e : Ending) (text : Option (Option (List ℕ))) (old new : Option (List ℕ)) (before after : ℕ) → Effects e text old new before after → (new ≡ old) ⊎ WritesPrefix text old new
-effects_prefix Done text old new before after o = inr (whole_prefix text stop.Irreducible old new o)
-effects_prefix Budget text old new before after o = inr (whole_prefix text stop.Budget old new o)
-effects_prefix (Refused r) text old new before after o = inl o
-effects_prefix Words text old new before after o = inl o
-effects_prefix ReadFault text old new before after o = inl o
+effects_prefix Done text old new before after o = inr (whole_prefix text stop.Irreducible old new o.0)
+effects_prefix Budget text old new before after o = inr (whole_prefix text stop.Budget old new o.0)
+effects_prefix (Refused r) text old new before after o = inl o.0
+effects_prefix Words text old new before after o = inl o.0
+effects_prefix ReadFault text old new before after o = inl o.0
 effects_prefix WriteFault text old new before after o = inr o.0
-effects_prefix NoMemory text old new before after o = elim o [ inl same ↦ inl same | inr w ↦ inr (whole_prefix text stop.NoMemory old new w) ]
+effects_prefix NoMemory text old new before after o = elim (o.0) [ inl same ↦ inl same | inr w ↦ inr (whole_prefix text stop.NoMemory old new w) ]
 
 -- what is said of a text is said of what is told under its name, if that is told at all
 told_here : (P : List ℕ → Type 0) (told : Option (List ℕ → Option (List ℕ))) (name bytes : List ℕ) → IfSome told (λ text. text name ≡ Some bytes) → P bytes → IsToldAnd (told_under told name) P
@@ -53,12 +53,14 @@ writes_told told name bytes s old new e w = (w.0, w.1, told_here (λ text. IsRun
 
 pub effects_told : (e : Ending) (told : Option (List ℕ → Option (List ℕ))) (name bytes : List ℕ) (old new : Option (List ℕ)) (before after : ℕ)
     → IfSome told (λ text. text name ≡ Some bytes) → Effects e (Some (Some bytes)) old new before after → Effects e (told_under told name) old new before after
-effects_told Done told name bytes old new before after e o = writes_told told name bytes stop.Irreducible old new e o
-effects_told Budget told name bytes old new before after e o = writes_told told name bytes stop.Budget old new e o
+effects_told Done told name bytes old new before after e o = (writes_told told name bytes stop.Irreducible old new e o.0, o.1)
+effects_told Budget told name bytes old new before after e o = (writes_told told name bytes stop.Budget old new e o.0, o.1)
 effects_told (Refused r) told name bytes old new before after e o = o
 effects_told Words told name bytes old new before after e o = o
 effects_told ReadFault told name bytes old new before after e o = o
 effects_told WriteFault told name bytes old new before after e o =
     ((o.0.0, o.0.1, o.0.2, told_here (λ text. IsRun text o.0.0 o.0.1 o.0.2) told name bytes e o.0.3, o.0.4), o.1)
-effects_told NoMemory told name bytes old new before after e o =
-    elim o [ inl same ↦ inl same | inr w ↦ inr (writes_told told name bytes stop.NoMemory old new e w) ]
+effects_told NoMemory told name bytes old new before after e o = (
+  elim (o.0) [ inl same ↦ inl same | inr w ↦ inr (writes_told told name bytes stop.NoMemory old new e w) ],
+  o.1,
+)

@@ -44,4 +44,4 @@ line_of NoMemory = codes "lmn: out of memory\n"
 -- the ending's status where `err` took the whole line, and else 5.
 abbrev pub Concludes : Ending → ℕ → Option (List ℕ) → Option (List ℕ) → ℕ → ℕ → Type 0
 Concludes ending status old new before after =
-    ((status ≡ status_of ending) × Takes (line_of ending) old new) ⊎ ((status ≡ 5) × TakesPrefix (line_of ending) old new × Rose before after)
+    ((status ≡ status_of ending) × Takes (line_of ending) old new × (after ≡ before)) ⊎ ((status ≡ 5) × TakesPrefix (line_of ending) old new × Rose before after)

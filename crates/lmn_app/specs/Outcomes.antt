@@ -38,10 +38,10 @@ Causes NoMemory text words before after = InForm words
 
 -- What `out` took of a run of the text, and its count of faults, before and after.
 abbrev pub Effects : Ending → Option (Option (List ℕ)) → Option (List ℕ) → Option (List ℕ) → ℕ → ℕ → Type 0
-Effects Done text old new before after = Writes text stop.Irreducible old new
-Effects Budget text old new before after = Writes text stop.Budget old new
-Effects (Refused r) text old new before after = new ≡ old
-Effects Words text old new before after = new ≡ old
-Effects ReadFault text old new before after = new ≡ old
+Effects Done text old new before after = Writes text stop.Irreducible old new × (after ≡ before)
+Effects Budget text old new before after = Writes text stop.Budget old new × (after ≡ before)
+Effects (Refused r) text old new before after = (new ≡ old) × (after ≡ before)
+Effects Words text old new before after = (new ≡ old) × (after ≡ before)
+Effects ReadFault text old new before after = (new ≡ old) × (after ≡ before)
 Effects WriteFault text old new before after = WritesPrefix text old new × Rose before after
-Effects NoMemory text old new before after = (new ≡ old) ⊎ Writes text stop.NoMemory old new
+Effects NoMemory text old new before after = ((new ≡ old) ⊎ Writes text stop.NoMemory old new) × (after ≡ before)

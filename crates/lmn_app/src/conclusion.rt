@@ -23,6 +23,7 @@ pub(crate) fn conclude<E: Sink>(err: &mut E, ending: Ending) -> u8
 fn report<E: Sink>(err: &mut E, ending: Ending) -> Result<(), Failed>
     ensures took { OnOk result (Takes (line_of ending) (E.told err.old) (E.told err.new)) }
     ensures prefix { OnErr result (TakesPrefix (line_of ending) (E.told err.old) (E.told err.new)) }
+    ensures same { OnOk result (E.faults err.new ≡ E.faults err.old) }
     ensures rose { OnErr result (Rose (E.faults err.old) (E.faults err.new)) }
 {
     match ending {
@@ -39,6 +40,7 @@ fn report<E: Sink>(err: &mut E, ending: Ending) -> Result<(), Failed>
 fn report_refusal<E: Sink>(err: &mut E, refusal: Refusal) -> Result<(), Failed>
     ensures took { OnOk result (Takes (refusal_line refusal) (E.told err.old) (E.told err.new)) }
     ensures prefix { OnErr result (TakesPrefix (refusal_line refusal) (E.told err.old) (E.told err.new)) }
+    ensures same { OnOk result (E.faults err.new ≡ E.faults err.old) }
     ensures rose { OnErr result (Rose (E.faults err.old) (E.faults err.new)) }
 {
     let (mut code, mut line, mut column) = (Buffer::new(), Buffer::new(), Buffer::new());

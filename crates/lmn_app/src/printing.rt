@@ -23,6 +23,7 @@ pub(crate) fn print_run<O: Sink>(
 ) -> Result<(), Failed>
     ensures took { OnOk result (Takes (line (names_of atoms.now) (rules_of rules.now) ++ end_line (stop_word stop) fired) (O.told out.old) (O.told out.new)) }
     ensures prefix { OnErr result (TakesPrefix (line (names_of atoms.now) (rules_of rules.now) ++ end_line (stop_word stop) fired) (O.told out.old) (O.told out.new)) }
+    ensures same { OnOk result (O.faults out.new ≡ O.faults out.old) }
     ensures rose { OnErr result (Rose (O.faults out.old) (O.faults out.new)) }
 {
     print_process(out, atoms, rules)?;
@@ -34,6 +35,7 @@ fn print_process<O: Sink>(out: &mut O, atoms: &[&[u8]], rules: &[Rule<'_>]) -> R
     ensures took { OnOk result (Takes (line (names_of atoms.now) (rules_of rules.now)) (O.told out.old) (O.told out.new)) }
     ensures prefix { OnErr result (TakesPrefix (line (names_of atoms.now) (rules_of rules.now)) (O.told out.old) (O.told out.new)) }
     ensures later { O.faults out.old ≤ O.faults out.new }
+    ensures same { OnOk result (O.faults out.new ≡ O.faults out.old) }
     ensures rose { OnErr result (Rose (O.faults out.old) (O.faults out.new)) }
 {
     let mut buffer = LineBuffer::new();
@@ -120,6 +122,7 @@ fn print_end<O: Sink>(out: &mut O, stop: Stop, fired: u64) -> Result<(), Failed>
     ensures took { OnOk result (Takes (end_line (stop_word stop) fired) (O.told out.old) (O.told out.new)) }
     ensures prefix { OnErr result (TakesPrefix (end_line (stop_word stop) fired) (O.told out.old) (O.told out.new)) }
     ensures later { O.faults out.old ≤ O.faults out.new }
+    ensures same { OnOk result (O.faults out.new ≡ O.faults out.old) }
     ensures rose { OnErr result (Rose (O.faults out.old) (O.faults out.new)) }
 {
     put_all(

@@ -1,4 +1,4 @@
-ghost use Rattle.std.specs.Prelude.{◌≡◌, ◌≤◌, ◌⊎◌, ℕ, List, Option, Some, String, codes, length, string_bytes, IfOk, OnErr};
+ghost use Rattle.std.specs.Prelude.{◌≡◌, ◌≤◌, ◌⊎◌, ℕ, List, Option, Some, String, codes, length, string_bytes, IfOk, OnErr, OnOk};
 ghost use Rattle.std.specs.declared.alloc.Global.{Global};
 ghost use Rattle.lmn_io.specs.Counts.{Rose};
 ghost use Rattle.lmn_io.specs.Taking.{Takes, TakesPrefix};
@@ -49,6 +49,9 @@ pub fn lmn_main<F: Shelf, O: Sink, E: Sink>(
     // Status 4 comes only where the count of the file rose, and 5 only where that of a sink did.
     ensures read { result ≡ 4 → InForm words.now × Rose (F.faults shelf.old (file_of words.now)) (F.faults shelf.new (file_of words.now)) }
     ensures write { result ≡ 5 → Rose (O.faults out.old) (O.faults out.new) ⊎ Rose (E.faults err.old) (E.faults err.new) }
+
+    // A put that fails is answered by 5: with every other status both counts stay.
+    ensures puts { ¬ (result ≡ 5) → (O.faults out.new ≡ O.faults out.old) × (E.faults err.new ≡ E.faults err.old) }
 
     // Status 2 comes where the text isn't accepted; 4, 5 and 6 alone take its place.
     ensures refused { result ≡ 2 → (refusal : Refusal) × IsToldAnd (told_under (F.told shelf.old) (file_of words.now)) (λ text. IsRefusal text refusal)
@@ -132,6 +135,7 @@ fn run_program<O: Sink>(program: Program<'_>, out: &mut O) -> Result<Stop, Faile
         IfOk result (λ stop. Writes (Some (Some text)) stop (O.told out.old) (O.told out.new)) }
     ensures prefix { (text : List ℕ) (tree : Tree) → Accepts text tree → IsProcessOf program.entry tree →
         OnErr result (WritesPrefix (Some (Some text)) (O.told out.old) (O.told out.new)) }
+    ensures same { OnOk result (O.faults out.new ≡ O.faults out.old) }
     ensures rose { OnErr result (Rose (O.faults out.old) (O.faults out.new)) }
 {
     let Program { atoms, rules } = program;

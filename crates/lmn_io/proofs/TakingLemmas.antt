@@ -85,36 +85,38 @@ pub ruleset taking = (prefix_more, nothing_taken, takes_nothing, takes_more, pre
 
 unchanged : (failed : Bool) (o : Output) → AddsWhere failed failed [] o o
 unchanged true o = refl
-unchanged false o = rw append-nil (nothing_taken o.pending.kept o.told)
+unchanged false o = (rw append-nil (nothing_taken o.pending.kept o.told), refl)
 
 -- nothing was added
 pub adds_nothing : (o : Output) → Adds [] o o
 adds_nothing o = record { added = unchanged o.pending.failed o; later = omega arith }
 
 more : (a b : List ℕ) (before mid after : Output) (f f' f'' : Bool) → before.pending.failed ≡ f → mid.pending.failed ≡ f' → after.pending.failed ≡ f''
-    → before.faults ≤ mid.faults → AddsWhere f f' a before mid → AddsWhere f' f'' b mid after → AddsWhere f f'' (a ++ b) before after
-more a b before mid after true true f'' e e' e'' l p q = q ∙ p
-more a b before mid after true false f'' e e' e'' l p q = let h : true ≡ false = sym e ∙ ap (λ o. o.pending.failed) (sym p) ∙ e' in cc
-more a b before mid after false true true e e' e'' l p q = (
+    → AddsWhere f f' a before mid → AddsWhere f' f'' b mid after → AddsWhere f f'' (a ++ b) before after
+more a b before mid after true true f'' e e' e'' p q = q ∙ p
+more a b before mid after true false f'' e e' e'' p q = let h : true ≡ false = sym e ∙ ap (λ o. o.pending.failed) (sym p) ∙ e' in cc
+more a b before mid after false true true e e' e'' p q = (
   subst (λ o. TakesPrefix (before.pending.kept ++ (a ++ b)) before.told o.told) (sym q)
       (subst (λ bytes. TakesPrefix bytes before.told mid.told) (append_assoc before.pending.kept a b)
       (prefix_more (before.pending.kept ++ a) b before.told mid.told p.0)),
   subst (λ o. Rose before.faults o.faults) (sym q) p.1,
 )
-more a b before mid after false true false e e' e'' l p q = let h : true ≡ false = sym e' ∙ ap (λ o. o.pending.failed) (sym q) ∙ e'' in cc
-more a b before mid after false false true e e' e'' l p q = (
+more a b before mid after false true false e e' e'' p q = let h : true ≡ false = sym e' ∙ ap (λ o. o.pending.failed) (sym q) ∙ e'' in cc
+more a b before mid after false false true e e' e'' p q = (
   subst (λ bytes. TakesPrefix bytes before.told after.told) (append_assoc before.pending.kept a b)
-      (gathers_prefix (before.pending.kept ++ a) b mid.pending.kept before.told mid.told after.told p q.0),
-  omega (arith, l, q.1),
+      (gathers_prefix (before.pending.kept ++ a) b mid.pending.kept before.told mid.told after.told p.0 q.0),
+  subst (λ n. Rose n after.faults) p.1 q.1,
 )
-more a b before mid after false false false e e' e'' l p q =
-    subst (λ bytes. Gathers bytes before.told after.pending.kept after.told) (append_assoc before.pending.kept a b)
-    (gathers_more (before.pending.kept ++ a) b mid.pending.kept after.pending.kept before.told mid.told after.told p q)
+more a b before mid after false false false e e' e'' p q = (
+  subst (λ bytes. Gathers bytes before.told after.pending.kept after.told) (append_assoc before.pending.kept a b)
+      (gathers_more (before.pending.kept ++ a) b mid.pending.kept after.pending.kept before.told mid.told after.told p.0 q.0),
+  q.1 ∙ p.1,
+)
 
 -- a piece was added, and then another
 pub adds_more : (a b : List ℕ) (before mid after : Output) → Adds a before mid → Adds b mid after → Adds (a ++ b) before after
 adds_more a b before mid after first later =
-    record { added = more a b before mid after before.pending.failed mid.pending.failed after.pending.failed refl refl refl first.later first.added later.added; later = omega arith }
+    record { added = more a b before mid after before.pending.failed mid.pending.failed after.pending.failed refl refl refl first.added later.added; later = omega arith }
 
 -- of a list of pieces one more was added
 pub adds_next : {X : Type 0} (f : X → List ℕ) (xs : List X) (i : ℕ) (d : X) (before mid after : Output) → i < length xs

@@ -30,6 +30,7 @@ fn keep_or_put<O: Sink>(kept: &mut Kept, sink: &mut O, piece: &[u8]) -> Result<(
     ensures later { O.faults sink.old ≤ O.faults sink.new }
     ensures took { OnOk result (Gathers (kept.old ++ piece.now) (O.told sink.old) kept.new (O.told sink.new)) }
     ensures prefix { OnErr result (TakesPrefix (kept.old ++ piece.now) (O.told sink.old) (O.told sink.new)) }
+    ensures same { OnOk result (O.faults sink.new ≡ O.faults sink.old) }
     ensures rose { OnErr result (Rose (O.faults sink.old) (O.faults sink.new)) }
 {
     if kept.has_room(piece.len()) {
@@ -86,6 +87,7 @@ impl LineBuffer {
         ensures took { (text : List ℕ) (told : Option (List ℕ)) (faults : ℕ) → Adds text (output nothing_pending told faults) (output self (O.told sink.old) (O.faults sink.old)) → OnOk result (Takes text told (O.told sink.new)) }
         ensures prefix { (text : List ℕ) (told : Option (List ℕ)) (faults : ℕ) → Adds text (output nothing_pending told faults) (output self (O.told sink.old) (O.faults sink.old)) → OnErr result (TakesPrefix text told (O.told sink.new)) }
         ensures later { (text : List ℕ) (told : Option (List ℕ)) (faults : ℕ) → Adds text (output nothing_pending told faults) (output self (O.told sink.old) (O.faults sink.old)) → faults ≤ O.faults sink.new }
+        ensures same { (text : List ℕ) (told : Option (List ℕ)) (faults : ℕ) → Adds text (output nothing_pending told faults) (output self (O.told sink.old) (O.faults sink.old)) → OnOk result (O.faults sink.new ≡ faults) }
         ensures rose { (text : List ℕ) (told : Option (List ℕ)) (faults : ℕ) → Adds text (output nothing_pending told faults) (output self (O.told sink.old) (O.faults sink.old)) → OnErr result (Rose faults (O.faults sink.new)) }
     {
         if self.failed {
@@ -104,6 +106,7 @@ pub fn put_all<O: Sink>(sink: &mut O, pieces: &[&[u8]]) -> Result<(), Failed>
     ensures took { OnOk result (Takes (all_of pieces.now) (O.told sink.old) (O.told sink.new)) }
     ensures prefix { OnErr result (TakesPrefix (all_of pieces.now) (O.told sink.old) (O.told sink.new)) }
     ensures later { O.faults sink.old ≤ O.faults sink.new }
+    ensures same { OnOk result (O.faults sink.new ≡ O.faults sink.old) }
     ensures rose { OnErr result (Rose (O.faults sink.old) (O.faults sink.new)) }
 {
     let mut buffer = LineBuffer::new();

@@ -66,6 +66,7 @@ impl Sink for MemSink {
         ensures later { self.old.failures ≤ self.new.failures }
         ensures took { OnOk result (Takes piece.now (Some self.old.bytes) (Some self.new.bytes)) }
         ensures prefix { OnErr result (TakesPrefix piece.now (Some self.old.bytes) (Some self.new.bytes)) }
+        ensures same { OnOk result (self.new.failures ≡ self.old.failures) }
         ensures rose { OnErr result (Rose self.old.failures self.new.failures) }
         ensures fails { IsErr result ↔ PutFails self.old piece.now }
         ensures refused { OnErr result (self.new ≡ record self.old { calls = one_more self.old.calls; failures = one_more self.old.failures }) }

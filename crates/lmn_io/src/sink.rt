@@ -7,13 +7,13 @@ pub struct Failed;
 
 /// Where output goes.
 pub trait Sink {
-    ghost use Rattle.std.specs.Prelude.{◌≤◌, ℕ, List, Option, OnOk, OnErr};
+    ghost use Rattle.std.specs.Prelude.{◌≡◌, ◌≤◌, ℕ, List, Option, OnOk, OnErr};
     ghost use Rattle.lmn_io.specs.Counts.{Rose};
     ghost use Rattle.lmn_io.specs.Taking.{Takes, TakesPrefix};
 
     /// The bytes that the sink took, where it tells them.
     ghost told: { Self → Option (List ℕ) };
-    /// The count of faults.
+    /// The count of faults. A put that succeeds leaves it.
     ghost faults: { Self → ℕ };
 
     /// Takes a piece.
@@ -25,5 +25,6 @@ pub trait Sink {
         ensures later { faults self.old ≤ faults self.new }
         ensures took { OnOk result (Takes piece.now (told self.old) (told self.new)) }
         ensures prefix { OnErr result (TakesPrefix piece.now (told self.old) (told self.new)) }
+        ensures same { OnOk result (faults self.new ≡ faults self.old) }
         ensures rose { OnErr result (Rose (faults self.old) (faults self.new)) };
 }

@@ -25,5 +25,8 @@ returns-clause-prefix g c = c.finish.ensures.prefix _ _ _ (whole g c)
 pub returns-clause-later : goal.returns-clause-later
 returns-clause-later g c = c.finish.ensures.later _ _ _ (whole g c)
 
+pub returns-clause-same : goal.returns-clause-same
+returns-clause-same g c = c.finish.ensures.same _ _ _ (whole g c)
+
 pub returns-clause-rose : goal.returns-clause-rose
 returns-clause-rose g c = c.finish.ensures.rose _ _ _ (whole g c)
