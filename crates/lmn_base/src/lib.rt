@@ -1,5 +1,5 @@
 //! What every layer of the runtime speaks of: rules and processes as they are read, solids as they run,
-//! rows, places in a text, refusals and want of memory.
+//! rows, names by their numbers, places in a text, refusals and want of memory.
 //!
 //! In `specs/` stand what a well made rule and plain are, when a rule is linked, what a solid is, what a list
 //! of names is, and the equality of parts of a process as rooted graphs.
@@ -9,6 +9,7 @@ mod functor;
 mod guard;
 mod level;
 mod memory;
+mod names;
 mod refusal;
 mod rows;
 mod rule;
@@ -20,6 +21,7 @@ pub use functor::{CONNECTOR_NAME, Functor, GROUND_NAME, INT_NAME, Label, UNARY_N
 pub use guard::{Arith, Cmp, Cond, Expr};
 pub use level::{CtxUse, Leaf, Level, Occ};
 pub use memory::NoMemory;
+pub use names::Names;
 pub use refusal::{Pos, Refusal, TextFault};
 pub use rows::Rows;
 pub use rule::{LinkUse, Plain, RuleTree};

@@ -1,5 +1,18 @@
-use crate::{Level, NoMemory, Region, Rows};
+use crate::{Level, Names, NoMemory, Region, Rows};
 use std::alloc::Global;
+
+/// Names in the order in which they are put, and the number of each.
+const NAMES: [(&[u8], u32); 9] = [
+    (b"a", 4),
+    (b"=", 0),
+    (b"append", 5),
+    (b"int", 1),
+    (b"a", 4),
+    (b"unary", 2),
+    (b"It's one", 6),
+    (b"ground", 3),
+    (b"append", 5),
+];
 
 fn level(alloc: Global) -> Level {
     Level {
@@ -90,6 +103,19 @@ fn rows_change_as_their_names_say(rt: HostRuntime) -> Result<(), NoMemory> {
     assert_eq!(rt; *rows.at(2), b'c');
     assert_eq!(rt; rows.len(), 3);
     assert_eq!(rt; rows.into_vec().as_slice(), b"fec".as_slice());
+    Ok(())
+}
+
+#[test]
+fn names_keep_their_numbers(rt: HostRuntime) -> Result<(), NoMemory> {
+    let mut names = Names::new(rt.alloc());
+    for (name, number) in NAMES {
+        assert!(rt; name.len() <= 255 && names.len() < 10);
+        let put = names.put(name)?;
+        assert_eq!(rt; put, number);
+        assert_eq!(rt; names.text(put), name);
+    }
+    assert_eq!(rt; names.len(), 7);
     Ok(())
 }
 
