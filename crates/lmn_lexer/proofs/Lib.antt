@@ -1,0 +1,15 @@
+pub mod ScanLemmas
+pub mod Runs
+pub mod Found
+pub mod Exact
+pub mod OnePiece
+pub mod Determined
+pub mod OneCut
+pub mod FaultLemmas
+pub mod Places
+pub mod ScannedText
+pub mod ScannerSteps
+pub mod Spans
+pub mod Building
+pub mod QuotedNames
+pub mod SoundTokens

@@ -1,0 +1,47 @@
+-- Places behind bytes.
+use Rattle.std.proofs.Common.{◌≡◌, ℕ, ◌+◌, ◌<◌, ◌≤◌, ◌==◌, Bool, true, false, if◌then◌else◌, List, [], ◌∷◌, ◌++◌, length, get_or, drop, refl, ap, ◌∙◌, arith, suc}
+use Rattle.std.specs.Prelude.{count_by}
+use Rattle.std.proofs.lemmas.List.{at_drop_more, at_drop_all}
+use Rattle.std.proofs.lemmas.List.Sums.{count_by-le-length}
+use Rattle.lmn_lexer.specs.Cutting.{column_behind, place}
+use Rattle.lmn_lexer.proofs.Runs.{unequal, count-append}
+
+pub column_line_feed : (column : ℕ) (bytes : List ℕ) (i : ℕ) → i < length bytes → get_or bytes i 0 ≡ 10 → column_behind column (drop i bytes) ≡ column_behind 1 (drop (i + 1) bytes)
+column_line_feed column bytes i h e =
+    at_drop_more (column_behind column) bytes i 0 h
+    ∙ ap (λ b. if b == 10 then column_behind 1 (drop (i + 1) bytes) else column_behind (column + 1) (drop (i + 1) bytes)) e
+
+pub column_more : (column : ℕ) (bytes : List ℕ) (i : ℕ) → i < length bytes → (get_or bytes i 0 ≡ 10 → ⊥) → column_behind column (drop i bytes) ≡ column_behind (column + 1) (drop (i + 1) bytes)
+column_more column bytes i h e =
+    at_drop_more (column_behind column) bytes i 0 h
+    ∙ ap (λ t. if t then column_behind 1 (drop (i + 1) bytes) else column_behind (column + 1) (drop (i + 1) bytes)) (unequal (get_or bytes i 0) 10 e)
+
+pub column_all : (column : ℕ) (bytes : List ℕ) (i : ℕ) → length bytes ≤ i → column_behind column (drop i bytes) ≡ column
+column_all column bytes i h = at_drop_all (column_behind column) bytes i h
+
+column_behind-append : (column : ℕ) (xs ys : List ℕ) → column_behind column (xs ++ ys) ≡ column_behind (column_behind column xs) ys
+column_behind-append column [] ys = refl
+column_behind-append column (b ∷ xs) ys = go (b == 10) (column_behind-append 1 xs ys) (column_behind-append (column + 1) xs ys)
+  where
+    go : (t : Bool) → column_behind 1 (xs ++ ys) ≡ column_behind (column_behind 1 xs) ys → column_behind (column + 1) (xs ++ ys) ≡ column_behind (column_behind (column + 1) xs) ys
+        → (if t then column_behind 1 (xs ++ ys) else column_behind (column + 1) (xs ++ ys)) ≡ column_behind (if t then column_behind 1 xs else column_behind (column + 1) xs) ys
+    go true h k = h
+    go false h k = k
+
+-- the place behind more bytes
+pub place-append : (before bytes : List ℕ) → place (before ++ bytes) ≡ record { line = (place before).line + count_by (λ b. b == 10) bytes; column = column_behind (place before).column bytes }
+place-append before bytes =
+    ap (λ n. record { line = n; column = column_behind 1 (before ++ bytes) }) (let counts = count-append (λ b. b == 10) before bytes in omega arith)
+    ∙ ap (λ n. record { line = (place before).line + count_by (λ b. b == 10) bytes; column = n }) (column_behind-append 1 before bytes)
+
+column_within : (column : ℕ) (bytes : List ℕ) → column_behind column bytes ≤ column + length bytes
+column_within column [] = omega arith
+column_within column (b ∷ bs) = go (b == 10) (column_within 1 bs) (column_within (column + 1) bs)
+  where
+    go : (t : Bool) → column_behind 1 bs ≤ 1 + length bs → column_behind (column + 1) bs ≤ column + 1 + length bs
+        → (if t then column_behind 1 bs else column_behind (column + 1) bs) ≤ column + suc (length bs)
+    go true h k = omega arith
+    go false h k = omega arith
+
+pub place_within : (before : List ℕ) → ((place before).line ≤ 1 + length before) × ((place before).column ≤ 1 + length before)
+place_within before = (let counts = count_by-le-length (λ b. b == 10) before in omega arith, column_within 1 before)

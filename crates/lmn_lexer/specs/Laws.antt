@@ -1,0 +1,35 @@
+-- Laws of cutting.
+use Rattle.std.specs.Prelude.{◌≡◌, ◌≤◌, ℕ, ⊤, List, [], ◌∷◌, ◌++◌}
+use Rattle.std.specs.List.{AllByRecursion}
+use Rattle.lmn_base.specs.declared.refusal.Refusal.{Refusal}
+use Rattle.lmn_lexer.specs.declared.token.Token.{Token}
+use Rattle.lmn_lexer.specs.declared.token.Kind.TheVariants.{End}
+use Rattle.lmn_lexer.specs.Cutting.{Cuts, token_at}
+use Rattle.lmn_lexer.specs.Values.{IsSound}
+use Rattle.lmn_lexer.specs.Faults.{IsRefusal, NothingWrong}
+
+-- a text is cut in at most one way
+abbrev pub OneCut : Type 0
+OneCut = (text : List ℕ) (tokens others : List Token) → Cuts text tokens → Cuts text others → tokens ≡ others
+
+-- a text has at most one first fault
+abbrev pub OneRefusal : Type 0
+OneRefusal = (text : List ℕ) (refusal other : Refusal) → IsRefusal text refusal → IsRefusal text other → refusal ≡ other
+
+-- a text with a first fault isn't without one
+abbrev pub RefusedIsWrong : Type 0
+RefusedIsWrong = (text : List ℕ) (refusal : Refusal) → IsRefusal text refusal → NothingWrong text → ⊥
+
+-- each token begins at or behind a place and the end of the one before it
+abbrev pub InOrder : ℕ → List Token → Type 0
+InOrder from [] = ⊤
+InOrder from (t ∷ ts) = (from ≤ t.start) × (t.start ≤ t.end) × InOrder t.end ts
+
+-- the tokens of a text stand one behind the other
+abbrev pub SpansInOrder : Type 0
+SpansInOrder = (text : List ℕ) (tokens : List Token) → Cuts text tokens → InOrder 0 tokens
+
+-- The last token is the end of the text. Where nothing is wrong in it, the others are sound, so no other is an end.
+abbrev pub TokensAreSound : Type 0
+TokensAreSound = (text : List ℕ) (tokens : List Token) → Cuts text tokens → NothingWrong text
+    → (but_end : List Token) × AllByRecursion (IsSound text) but_end × (tokens ≡ but_end ++ token_at End text [] ∷ [])

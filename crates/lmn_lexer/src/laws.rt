@@ -1,0 +1,21 @@
+//! Laws of cutting a text into tokens.
+
+ghost use Rattle.lmn_lexer.specs.Laws.{OneCut, OneRefusal, RefusedIsWrong, SpansInOrder, TokensAreSound};
+
+/// A text is cut in at most one way.
+pub fn texts_are_cut_once()
+    ensures { OneCut }
+{}
+
+/// A text has at most one refusal. Where it has one, something is wrong in it.
+pub fn refusals_are_one()
+    ensures one { OneRefusal }
+    ensures wrong { RefusedIsWrong }
+{}
+
+/// The tokens of a text stand one behind the other, its end stands last, and where nothing is wrong the bytes
+/// of each other token spell its kind.
+pub fn tokens_are_in_order()
+    ensures spans { SpansInOrder }
+    ensures sound { TokensAreSound }
+{}

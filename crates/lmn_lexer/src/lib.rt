@@ -1,0 +1,18 @@
+//! The tokens of a text.
+#![tactic(auto)]
+
+mod fault;
+pub mod laws;
+mod piece;
+mod place;
+mod scanner;
+#[cfg(test)]
+mod tests;
+mod token;
+mod tokens;
+mod value;
+
+pub use scanner::lex;
+pub use token::{Kind, Token};
+pub use tokens::Tokens;
+pub use value::{integer, unquoted};
