@@ -1,0 +1,16 @@
+pub mod Arguments
+pub mod Bodies
+pub mod Choices
+pub mod Clauses
+pub mod Ends
+pub mod Items
+pub mod Loose
+pub mod Refusals
+pub mod SameLanguage
+pub mod Scans
+pub mod Spans
+pub mod Stops
+pub mod Tells
+pub mod Terms
+pub mod Theory
+pub mod Union

@@ -1,0 +1,75 @@
+-- The scan for limits, one token more at a time.
+use Rattle.std.proofs.Common.{◌≡◌, ℕ, zero, suc, ◌+◌, List, [], ◌∷◌, ◌++◌, length, take, drop, slice_get, Option, Some, None, refl, sym, ◌∙◌, ap, subst, ◌⊎◌, inl, inr, append_assoc, add-one}
+use Rattle.lmn_grammar.specs.Limits.{Scan, scan, scan_from, scan_after, at_start, passes}
+use Rattle.lmn_grammar.specs.Refusing.{IsWithin}
+use Rattle.lmn_lexer.specs.declared.token.Kind.{Kind}
+use Rattle.lmn_grammar.proofs.Stops.{plus_nothing, same_some}
+use Rattle.lmn_grammar.proofs.Tells.{last_split}
+
+pub scan_append : (s : Scan) (u v : List Kind) → scan_from s (u ++ v) ≡ scan_from (scan_from s u) v
+scan_append s [] v = refl
+scan_append s (k ∷ u) v = scan_append (scan_after s k) u v
+
+pub scan_more : (u : List Kind) (k : Kind) → scan (u ++ k ∷ []) ≡ scan_after (scan u) k
+scan_more u k = scan_append at_start u (k ∷ [])
+
+never : (before rest : List Kind) (token : Kind) → [] ≡ before ++ token ∷ rest → ⊥
+never [] rest token h = cc
+never (a ∷ before) rest token h = cc
+
+pub within_none : IsWithin []
+within_none before token rest e = absurd (never before rest token e)
+
+pub within_front : (u v : List Kind) → IsWithin (u ++ v) → IsWithin u
+within_front u v w before token rest e = w before token (rest ++ v) (ap (λ z. z ++ v) e ∙ append_assoc before (token ∷ rest) v)
+
+pub within_more : (u : List Kind) (k : Kind) → IsWithin u → passes (scan u) k ≡ None → IsWithin (u ++ k ∷ [])
+within_more u k w n before token rest e =
+    elim (last_split k token before u rest e) [
+      | inl h ↦ ap (λ z. passes (scan before) z) (sym h.1) ∙ ap (λ z. passes (scan z) k) (sym h.0) ∙ n
+      | inr h ↦ w before token h.0 h.1
+    ]
+
+-- By numbers: the token with number m.
+pub take_more : (ks : List Kind) (m : ℕ) (k : Kind) → slice_get ks m ≡ Some k → take (m + 1) ks ≡ take m ks ++ k ∷ []
+take_more ks m k h = ap (λ n. take n ks) (add-one m) ∙ go ks m h
+  where
+    go : (ks : List Kind) (m : ℕ) → slice_get ks m ≡ Some k → take (suc m) ks ≡ take m ks ++ k ∷ []
+    go [] zero h = cc
+    go [] (suc m) h = cc
+    go (a ∷ ks) zero h = ap (λ z. z ∷ []) (same_some a k h)
+    go (a ∷ ks) (suc m) h = ap (λ z. a ∷ z) (go ks m h)
+
+pub cut_at : (ks : List Kind) (m : ℕ) (k : Kind) → slice_get ks m ≡ Some k → ks ≡ take m ks ++ k ∷ drop (suc m) ks
+cut_at [] zero k h = cc
+cut_at [] (suc m) k h = cc
+cut_at (a ∷ ks) zero k h = ap (λ z. z ∷ ks) (same_some a k h)
+cut_at (a ∷ ks) (suc m) k h = ap (λ z. a ∷ z) (cut_at ks m k h)
+
+pub length_take : (ks : List Kind) (m : ℕ) (k : Kind) → slice_get ks m ≡ Some k → length (take m ks) ≡ m
+length_take [] zero k h = refl
+length_take [] (suc m) k h = cc
+length_take (a ∷ ks) zero k h = refl
+length_take (a ∷ ks) (suc m) k h = ap suc (length_take ks m k h)
+
+pub scan_take : (ks : List Kind) (m : ℕ) (k : Kind) → slice_get ks m ≡ Some k → scan (take (m + 1) ks) ≡ scan_after (scan (take m ks)) k
+scan_take ks m k h = ap scan (take_more ks m k h) ∙ scan_more (take m ks) k
+
+pub within_take : (ks : List Kind) (m : ℕ) (k : Kind) → slice_get ks m ≡ Some k → IsWithin (take m ks) → passes (scan (take m ks)) k ≡ None → IsWithin (take (m + 1) ks)
+within_take ks m k h w n = let W : List Kind → Type 0 = IsWithin in subst W (sym (take_more ks m k h)) (within_more (take m ks) k w n)
+
+-- Tokens are within the limits, or there is a first one that passes one.
+abbrev pub FirstPassing : List Kind → Type 0
+FirstPassing u = (before : List Kind) × (token : Kind) × (rest : List Kind) × (code : ℕ) × (u ≡ before ++ token ∷ rest) × IsWithin before × (passes (scan before) token ≡ Some code)
+
+pub first_passing : (u : List Kind) → IsWithin u ⊎ FirstPassing u
+first_passing u = go [] u within_none
+  where
+    go : (before u : List Kind) → IsWithin before → IsWithin (before ++ u) ⊎ FirstPassing (before ++ u)
+    go before [] w = let W : List Kind → Type 0 = IsWithin in inl (subst W (sym (plus_nothing before)) w)
+    go before (t ∷ u) w = by_token (passes (scan before) t) refl (λ e. go (before ++ t ∷ []) u (within_more before t w e))
+      where
+        by_token : (o : Option ℕ) → passes (scan before) t ≡ o → (passes (scan before) t ≡ None → IsWithin ((before ++ t ∷ []) ++ u) ⊎ FirstPassing ((before ++ t ∷ []) ++ u)) →
+            IsWithin (before ++ t ∷ u) ⊎ FirstPassing (before ++ t ∷ u)
+        by_token None e h = let P : List Kind → Type 0 = λ z. IsWithin z ⊎ FirstPassing z in subst P (append_assoc before (t ∷ []) u) (h e)
+        by_token (Some c) e h = inr (before, t, u, c, refl, w, e)

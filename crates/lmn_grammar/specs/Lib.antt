@@ -1,0 +1,7 @@
+pub mod Examples
+pub mod Grammar
+pub mod Factored
+pub mod Reading
+pub mod Limits
+pub mod Laws
+pub mod Refusing
