@@ -1,0 +1,16 @@
+pub mod Decisions
+pub mod Onward
+pub mod Places
+pub mod Programs
+pub mod Stacks
+pub mod Nodes
+pub mod OneGuard
+pub mod OneTree
+pub mod TreeTokens
+pub mod TreesExist
+pub mod TreeWords
+pub mod Names
+pub mod BuiltGuards
+pub mod BuiltTerms
+pub mod BuiltClauses
+pub mod BuiltExpressions

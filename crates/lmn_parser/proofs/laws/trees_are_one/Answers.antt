@@ -1,0 +1,5 @@
+use Rattle.lmn_parser.proofs.OneTree.{one_tree}
+use Rattle.lmn_parser.proofs.laws.trees_are_one.Goals as goal
+
+pub returns : goal.returns
+returns c = one_tree

@@ -1,0 +1,7 @@
+pub mod Parsing
+pub mod Outcomes
+pub mod Scans
+pub mod Syntax
+pub mod Trees
+pub mod TreeLaws
+pub mod TreeExamples

@@ -1,0 +1,22 @@
+//! The laws of trees.
+
+ghost use Rattle.lmn_parser.specs.TreeExamples.{KeptHead, NamedRule, NestedParts};
+ghost use Rattle.lmn_parser.specs.TreeLaws.{DerivedIsTree, OneTree, TreesDerive};
+
+/// Tokens that are a tree are a program of the grammar, and tokens that are a program are a tree.
+pub fn trees_are_programs()
+    ensures program { TreesDerive }
+    ensures tree { DerivedIsTree }
+{}
+
+/// Tokens are one tree at most.
+pub fn trees_are_one()
+    ensures { OneTree }
+{}
+
+/// The trees of small texts.
+pub fn tree_examples()
+    ensures kept_head { KeptHead }
+    ensures named_rule { NamedRule }
+    ensures nested_parts { NestedParts }
+{}
