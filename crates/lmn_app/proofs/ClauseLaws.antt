@@ -2,9 +2,9 @@
 use Rattle.std.proofs.Common.{◌≡◌, ◌≢◌, ◌⊎◌, ℕ, true, false, List, [], ◌∷◌, ◌++◌, Option, Some, None, refl, sym, ap, ◌∙◌, subst, inl, inr}
 use Rattle.std.proofs.lemmas.List.{append_assoc, append-nil, flat_map_more}
 use Rattle.lmn_app.specs.FirstGrammar.{Lexeme, Dot, RuleTree, ClauseTree, ItemsClause, Tree, Rules, ItemLists, Clauses, rule_clause, items_clause, Programs, no_clause, last_clause, more_clauses, clause_atoms, clause_rules}
-use Rattle.lmn_app.specs.Programs.{IsProcessOf}
+use Rattle.lmn_app.specs.Spelled.{IsSpelledOf}
 use Rattle.lmn_app.specs.Reading.{left, is_rule_first, NotFirst, Ends, Extends, RuleFrom, ItemsFrom, ClauseFrom}
-use Rattle.lmn_app.specs.declared.program.Program.{Program}
+use Rattle.lmn_app.specs.declared.reading.spelled.SpelledProgram.{SpelledProgram}
 use Rattle.lmn_app.specs.declared.reading.lexer.Token.{Token}
 use Rattle.lmn_app.proofs.GrammarLaws.{apart, tail_is, ends_no_comma, ends_no_rule, rules_first, item_lists_one, item_lists_no_rule, clauses_some}
 
@@ -16,7 +16,7 @@ not_rule_first e h = apart (rules_first h) e
 not_items_first : (ts rest : List Lexeme) (is : _) → is_rule_first ts ≡ true → ItemLists ts is rest → Ends rest → ⊥
 not_items_first ts rest is e h p = apart e (item_lists_no_rule h (ends_no_rule rest p))
 
-pub clause_from_items : (tokens : List Token) (at : ℕ) (old new : Program) (found : Option ℕ) → is_rule_first (left tokens at) ≡ false → ItemsFrom tokens at old new found → ClauseFrom tokens at old new found
+pub clause_from_items : (tokens : List Token) (at : ℕ) (old new : SpelledProgram) (found : Option ℕ) → is_rule_first (left tokens at) ≡ false → ItemsFrom tokens at old new found → ClauseFrom tokens at old new found
 clause_from_items tokens at old new None e none = go
   where
     go : (c : ClauseTree) (rest : List Lexeme) → Clauses (left tokens at) c rest → Ends rest → ⊥
@@ -43,10 +43,10 @@ pub record AreClausesSoFar (ts : List Lexeme) (done : Tree) (us : List Lexeme) :
   pub ahead : (tree : Tree) → Programs us tree → Programs ts (done ++ tree)
   pub behind : (tree : Tree) → Programs ts tree → (more : Tree) × Programs us more
 
-pub record ClausesAdded (ts us : List Lexeme) (program : Program) : Type 0 where
+pub record ClausesAdded (ts us : List Lexeme) (program : SpelledProgram) : Type 0 where
   pub done : Tree
   pub so_far : AreClausesSoFar ts done us
-  pub process : IsProcessOf program done
+  pub process : IsSpelledOf program done
 
 -- where a clause ends, and what is left behind its end
 abbrev pub Past : List Lexeme → List Lexeme → Type 0
@@ -82,14 +82,14 @@ clause_off us vs ws some only past _ (more_clauses {c = c} {cs = cs} {us = rest}
       | inr e ↦ (cs, subst (λ ts. Programs ts cs) (tail_is (end ∙ e)) more)
     ]
 
-process_more : (old new : Program) (done : Tree) (c : ClauseTree) → IsProcessOf old done → Extends old new (clause_atoms c) (clause_rules c) → IsProcessOf new (done ++ c ∷ [])
+process_more : (old new : SpelledProgram) (done : Tree) (c : ClauseTree) → IsSpelledOf old done → Extends old new (clause_atoms c) (clause_rules c) → IsSpelledOf new (done ++ c ∷ [])
 process_more old new done c h k =
     record {
       same_atoms = k.atoms_added ∙ ap (λ l. l ++ clause_atoms c) h.same_atoms ∙ flat_map_more clause_atoms [] done c;
       same_rules = k.rules_added ∙ ap (λ l. l ++ clause_rules c) h.same_rules ∙ flat_map_more clause_rules [] done c;
     }
 
-pub clauses_more : (ts us vs ws : List Lexeme) (old new : Program) (c : ClauseTree) → ClausesAdded ts us old → us ≢ [] → Clauses us c vs → ((d : ClauseTree) (rest : List Lexeme) → Clauses us d rest → Ends rest → rest ≡ vs) → Extends old new (clause_atoms c) (clause_rules c) → Past vs ws → ClausesAdded ts ws new
+pub clauses_more : (ts us vs ws : List Lexeme) (old new : SpelledProgram) (c : ClauseTree) → ClausesAdded ts us old → us ≢ [] → Clauses us c vs → ((d : ClauseTree) (rest : List Lexeme) → Clauses us d rest → Ends rest → rest ≡ vs) → Extends old new (clause_atoms c) (clause_rules c) → Past vs ws → ClausesAdded ts ws new
 clauses_more ts us vs ws old new c before some h only adds past =
     record {
       done = before.done ++ c ∷ [];
@@ -105,7 +105,7 @@ no_first_clause us some none _ no_clause = some refl
 no_first_clause us some none _ (last_clause {c = c} h) = none c [] h tt
 no_first_clause us some none _ (more_clauses {c = c} {us = rest} h more) = none c (Dot ∷ rest) h tt
 
-pub clauses_none : (ts us : List Lexeme) (program : Program) → ClausesAdded ts us program → us ≢ [] → ((c : ClauseTree) (rest : List Lexeme) → Clauses us c rest → Ends rest → ⊥) → (tree : Tree) → Programs ts tree → ⊥
+pub clauses_none : (ts us : List Lexeme) (program : SpelledProgram) → ClausesAdded ts us program → us ≢ [] → ((c : ClauseTree) (rest : List Lexeme) → Clauses us c rest → Ends rest → ⊥) → (tree : Tree) → Programs ts tree → ⊥
 clauses_none ts us program before some none tree h = let back = before.so_far.behind tree h in no_first_clause us some none back.0 back.1
 
 no_end : (us vs : List Lexeme) → us ≢ [] → ((d : ClauseTree) (rest : List Lexeme) → Clauses us d rest → Ends rest → rest ≡ vs) → vs ≢ [] → NotFirst Dot vs → (tree : Tree) → Programs us tree → ⊥
@@ -114,8 +114,8 @@ no_end us vs some only full no_dot _ (last_clause {c = c} k) = full (sym (only c
 no_end us vs some only full no_dot _ (more_clauses {c = c} {us = rest} k more) = no_dot rest (sym (only c (Dot ∷ rest) k tt))
 
 -- a clause was found, and yet what stands behind it ends none
-pub clauses_broken : (ts us vs : List Lexeme) (program : Program) → ClausesAdded ts us program → us ≢ [] → ((d : ClauseTree) (rest : List Lexeme) → Clauses us d rest → Ends rest → rest ≡ vs) → vs ≢ [] → NotFirst Dot vs → (tree : Tree) → Programs ts tree → ⊥
+pub clauses_broken : (ts us vs : List Lexeme) (program : SpelledProgram) → ClausesAdded ts us program → us ≢ [] → ((d : ClauseTree) (rest : List Lexeme) → Clauses us d rest → Ends rest → rest ≡ vs) → vs ≢ [] → NotFirst Dot vs → (tree : Tree) → Programs ts tree → ⊥
 clauses_broken ts us vs program before some only full no_dot tree h = let back = before.so_far.behind tree h in no_end us vs some only full no_dot back.0 back.1
 
-pub clauses_whole : (ts us : List Lexeme) (program : Program) → ClausesAdded ts us program → us ≡ [] → (tree : Tree) × Programs ts tree × IsProcessOf program tree
+pub clauses_whole : (ts us : List Lexeme) (program : SpelledProgram) → ClausesAdded ts us program → us ≡ [] → (tree : Tree) × Programs ts tree × IsSpelledOf program tree
 clauses_whole ts us program before e = (before.done, subst (Programs ts) (append-nil before.done) (before.so_far.ahead [] (rw e no_clause)), before.process)

@@ -1,11 +1,9 @@
 -- Firings of atoms without links are commits.
 use Rattle.std.proofs.Common.{ℕ, ◌≡◌, ◌+◌, ◌≤◌, Bool, true, false, cond, List, [], ◌∷◌, ◌++◌, map, refl, sym, ◌∙◌, ap, subst, inl, arith}
-use Rattle.std.specs.Prelude.{bytes_eq}
-use Rattle.std.proofs.lemmas.Slice.Eq.{bytes_eq-Decides}
 use Rattle.lmn_congruence.specs.Orders.{Among, at_head, further, Put, here, there}
 use Rattle.lmn_congruence.specs.Process.{Process, nothing, atom, pair, rule, occurrences, Linked, together}
 use Rattle.lmn_congruence.specs.Congruence.{same, back}
-use Rattle.lmn_congruence.specs.Rules.{Name, named, rules_list}
+use Rattle.lmn_congruence.specs.Rules.{Label, named, rules_list}
 use Rattle.lmn_congruence.specs.Plains.{leaf_process}
 use Rattle.lmn_congruence.specs.Fused.{NoConnector}
 use Rattle.lmn_congruence.specs.UpToOrder.{Reordered, r_unit, r_swap, r_regroup, r_beside, r_back, r_chain}
@@ -20,27 +18,28 @@ use Rattle.lmn_congruence.proofs.Derivations.{zero_not_one}
 use Rattle.lmn_congruence.proofs.Reordered.{reordered_congruent, r_right}
 use Rattle.lmn_congruence.proofs.SettledProcesses.{no_connector_settled}
 use Rattle.lmn_congruence.proofs.Solids.{put_together}
-use Rattle.lmn_app.specs.FirstGrammar.{RuleTree}
-use Rattle.lmn_app.specs.Processes.{atom_of, flat_rule, flat_rules, flat_process}
+use Rattle.lmn_app.specs.Labels.{same_label}
+use Rattle.lmn_app.specs.Processes.{FlatRule, atom_of, flat_rule, flat_rules, flat_process}
 use Rattle.lmn_app.specs.Firings.{count_of, Covers, without, without_all, atoms_after, Firing, fires, FirstCovered, Chain, no_step, step_after, FiringCommits, FiringsCommit, FlatClosed, FlatSettles}
+use Rattle.lmn_app.proofs.LabelLaws.{same_label-Decides}
 
 -- ---- processes without links
 
-abbrev atoms_process : List Name → Process
+abbrev atoms_process : List Label → Process
 atoms_process atoms = together (map leaf_process (map atom_of atoms))
 
-abbrev rules_process : List RuleTree → Process
+abbrev rules_process : List FlatRule → Process
 rules_process rules = together (map rule (rules_list (flat_rules rules)))
 
-no_link_in_atoms : (z : ℕ) (atoms : List Name) → occurrences z (atoms_process atoms) ≡ 0
+no_link_in_atoms : (z : ℕ) (atoms : List Label) → occurrences z (atoms_process atoms) ≡ 0
 no_link_in_atoms z [] = refl
 no_link_in_atoms z (n ∷ ns) = omega (arith, no_link_in_atoms z ns)
 
-no_link_in_rules : (z : ℕ) (rules : List RuleTree) → occurrences z (rules_process rules) ≡ 0
+no_link_in_rules : (z : ℕ) (rules : List FlatRule) → occurrences z (rules_process rules) ≡ 0
 no_link_in_rules z [] = refl
 no_link_in_rules z (r ∷ rs) = omega (arith, no_link_in_rules z rs)
 
-no_link : (z : ℕ) (atoms : List Name) (rules : List RuleTree) → occurrences z (flat_process atoms rules) ≡ 0
+no_link : (z : ℕ) (atoms : List Label) (rules : List FlatRule) → occurrences z (flat_process atoms rules) ≡ 0
 no_link z atoms rules = omega (arith, no_link_in_atoms z atoms, no_link_in_rules z rules)
 
 pub flat_closed : FlatClosed
@@ -49,14 +48,14 @@ flat_closed atoms rules z = inl (no_link z atoms rules)
 linked_none : {P : Process} → ((z : ℕ) → occurrences z P ≡ 0) → Linked P
 linked_none h = record { at_most_twice = λ z. omega (arith, h z) }
 
-flat_linked : (atoms : List Name) (rules : List RuleTree) → Linked (flat_process atoms rules)
+flat_linked : (atoms : List Label) (rules : List FlatRule) → Linked (flat_process atoms rules)
 flat_linked atoms rules = linked_none (λ z. no_link z atoms rules)
 
-plain_atoms : (atoms : List Name) → NoConnector (atoms_process atoms)
+plain_atoms : (atoms : List Label) → NoConnector (atoms_process atoms)
 plain_atoms [] = tt
 plain_atoms (n ∷ ns) = (tt, plain_atoms ns)
 
-plain_rules : (rules : List RuleTree) → NoConnector (rules_process rules)
+plain_rules : (rules : List FlatRule) → NoConnector (rules_process rules)
 plain_rules [] = tt
 plain_rules (r ∷ rs) = (tt, plain_rules rs)
 
@@ -68,7 +67,7 @@ flat_settles atoms rules = record {
 
 -- ---- counting
 
--- `b` is what `==` tells of two names
+-- `b` is what `==` tells of two labels
 uncounted_cases : (b : Bool) (m n : ℕ) → cond b (1 + m) m ≤ cond b (1 + n) n → m ≤ n
 uncounted_cases true m n h = omega arith
 uncounted_cases false m n h = h
@@ -79,68 +78,68 @@ two_cases true false n = refl
 two_cases false true n = refl
 two_cases false false n = refl
 
-count_put : (m : Name) {name : Name} {ys zs : List Name} → Put name ys zs → count_of m zs ≡ cond (bytes_eq name m) (1 + count_of m ys) (count_of m ys)
+count_put : (m : Label) {label : Label} {ys zs : List Label} → Put label ys zs → count_of m zs ≡ cond (same_label label m) (1 + count_of m ys) (count_of m ys)
 count_put m here = refl
-count_put m (there {y = name} {z = z} {ys = ys} p) =
-    ap (λ k. cond (bytes_eq z m) (1 + k) k) (count_put m p) ∙ two_cases (bytes_eq z m) (bytes_eq name m) (count_of m ys)
+count_put m (there {y = label} {z = z} {ys = ys} p) =
+    ap (λ k. cond (same_label z m) (1 + k) k) (count_put m p) ∙ two_cases (same_label z m) (same_label label m) (count_of m ys)
 
-count_itself : (name : Name) (names : List Name) → 1 ≤ count_of name (name ∷ names)
-count_itself name names = rw ((bytes_eq-Decides name name).1 refl) (omega arith)
+count_itself : (label : Label) (labels : List Label) → 1 ≤ count_of label (label ∷ labels)
+count_itself label labels = rw ((same_label-Decides label label).1 refl) (omega arith)
 
 -- ---- a head taken out
 
-taken : (name : Name) (atoms : List Name) → 1 ≤ count_of name atoms → Put name (without name atoms) atoms
-taken name [] h = absurd (none h)
+taken : (label : Label) (atoms : List Label) → 1 ≤ count_of label atoms → Put label (without label atoms) atoms
+taken label [] h = absurd (none h)
   where
     none : ¬ (1 ≤ 0)
     none = omega arith
-taken name (other ∷ others) h = go (bytes_eq other name) (bytes_eq-Decides other name).0 (taken name others) h
+taken label (other ∷ others) h = go (same_label other label) (same_label-Decides other label).0 (taken label others) h
   where
-    go : (b : Bool) → (b ≡ true → other ≡ name) → (1 ≤ count_of name others → Put name (without name others) others) → 1 ≤ cond b (1 + count_of name others) (count_of name others) → Put name (cond b others (other ∷ without name others)) (other ∷ others)
+    go : (b : Bool) → (b ≡ true → other ≡ label) → (1 ≤ count_of label others → Put label (without label others) others) → 1 ≤ cond b (1 + count_of label others) (count_of label others) → Put label (cond b others (other ∷ without label others)) (other ∷ others)
     go true e i k = subst (λ x. Put x others (other ∷ others)) (e refl) here
     go false e i k = there (i k)
 
-taken_before : (name : Name) (atoms more : List Name) → 1 ≤ count_of name atoms → without name (atoms ++ more) ≡ without name atoms ++ more
-taken_before name [] more h = absurd (none h)
+taken_before : (label : Label) (atoms more : List Label) → 1 ≤ count_of label atoms → without label (atoms ++ more) ≡ without label atoms ++ more
+taken_before label [] more h = absurd (none h)
   where
     none : ¬ (1 ≤ 0)
     none = omega arith
-taken_before name (other ∷ others) more h = go (bytes_eq other name) (taken_before name others more) h
+taken_before label (other ∷ others) more h = go (same_label other label) (taken_before label others more) h
   where
-    go : (b : Bool) → (1 ≤ count_of name others → without name (others ++ more) ≡ without name others ++ more) → 1 ≤ cond b (1 + count_of name others) (count_of name others) → cond b (others ++ more) (other ∷ without name (others ++ more)) ≡ cond b others (other ∷ without name others) ++ more
+    go : (b : Bool) → (1 ≤ count_of label others → without label (others ++ more) ≡ without label others ++ more) → 1 ≤ cond b (1 + count_of label others) (count_of label others) → cond b (others ++ more) (other ∷ without label (others ++ more)) ≡ cond b others (other ∷ without label others) ++ more
     go true i k = refl
     go false i k = ap (λ xs. other ∷ xs) (i k)
 
-covers_first : (name : Name) (names atoms : List Name) → Covers (name ∷ names) atoms → 1 ≤ count_of name atoms
-covers_first name names atoms h = omega (arith, count_itself name names, h name)
+covers_first : (label : Label) (labels atoms : List Label) → Covers (label ∷ labels) atoms → 1 ≤ count_of label atoms
+covers_first label labels atoms h = omega (arith, count_itself label labels, h label)
 
-covers_rest : (name : Name) (names atoms : List Name) → Covers (name ∷ names) atoms → Covers names (without name atoms)
-covers_rest name names atoms h m =
-    let e = count_put m (taken name atoms (covers_first name names atoms h)) in
-    uncounted_cases (bytes_eq name m) (count_of m names) (count_of m (without name atoms)) (subst (λ k. count_of m (name ∷ names) ≤ k) e (h m))
+covers_rest : (label : Label) (labels atoms : List Label) → Covers (label ∷ labels) atoms → Covers labels (without label atoms)
+covers_rest label labels atoms h m =
+    let e = count_put m (taken label atoms (covers_first label labels atoms h)) in
+    uncounted_cases (same_label label m) (count_of m labels) (count_of m (without label atoms)) (subst (λ k. count_of m (label ∷ labels) ≤ k) e (h m))
 
 -- where the head is covered, what stands behind the atoms stays
-pub all_taken_before : (head atoms more : List Name) → Covers head atoms → without_all head (atoms ++ more) ≡ without_all head atoms ++ more
+pub all_taken_before : (head atoms more : List Label) → Covers head atoms → without_all head (atoms ++ more) ≡ without_all head atoms ++ more
 all_taken_before [] atoms more h = refl
-all_taken_before (name ∷ names) atoms more h =
-    ap (without_all names) (taken_before name atoms more (covers_first name names atoms h)) ∙ all_taken_before names (without name atoms) more (covers_rest name names atoms h)
+all_taken_before (label ∷ labels) atoms more h =
+    ap (without_all labels) (taken_before label atoms more (covers_first label labels atoms h)) ∙ all_taken_before labels (without label atoms) more (covers_rest label labels atoms h)
 
-put_atom : {name : Name} {ys zs : List Name} → Put name ys zs → Put (atom (named name) []) (map leaf_process (map atom_of ys)) (map leaf_process (map atom_of zs))
+put_atom : {label : Label} {ys zs : List Label} → Put label ys zs → Put (atom label []) (map leaf_process (map atom_of ys)) (map leaf_process (map atom_of zs))
 put_atom here = here
 put_atom (there p) = there (put_atom p)
 
 -- the atoms are those of a head beside what is left
-head_and_left : (head atoms : List Name) → Covers head atoms → Reordered (pair (atoms_process head) (atoms_process (without_all head atoms))) (atoms_process atoms)
+head_and_left : (head atoms : List Label) → Covers head atoms → Reordered (pair (atoms_process head) (atoms_process (without_all head atoms))) (atoms_process atoms)
 head_and_left [] atoms h = r_unit
-head_and_left (name ∷ names) atoms h =
+head_and_left (label ∷ labels) atoms h =
     r_chain (r_back r_regroup)
-    (r_chain (r_right (head_and_left names (without name atoms) (covers_rest name names atoms h)))
-    (put_together (put_atom (taken name atoms (covers_first name names atoms h)))))
+    (r_chain (r_right (head_and_left labels (without label atoms) (covers_rest label labels atoms h)))
+    (put_together (put_atom (taken label atoms (covers_first label labels atoms h)))))
 
-left_and_body : (left body : List Name) → Reordered (pair (atoms_process body) (atoms_process left)) (atoms_process (left ++ body))
+left_and_body : (left body : List Label) → Reordered (pair (atoms_process body) (atoms_process left)) (atoms_process (left ++ body))
 left_and_body [] body = r_chain r_swap r_unit
-left_and_body (name ∷ names) body =
-    r_chain r_swap (r_chain (r_back r_regroup) (r_right (r_chain r_swap (left_and_body names body))))
+left_and_body (label ∷ labels) body =
+    r_chain r_swap (r_chain (r_back r_regroup) (r_right (r_chain r_swap (left_and_body labels body))))
 
 -- ---- a rule beside its head
 
@@ -148,7 +147,7 @@ among_put : {A : Type 0} {x : A} {xs : List A} → Among x xs → (ys : List A) 
 among_put (at_head {ys = ys}) = (ys, here)
 among_put (further {y = y} a) = let p = among_put a in (y ∷ p.0, there p.1)
 
-put_rule : {r : RuleTree} {rs ss : List RuleTree} → Put r rs ss → Put (rule (flat_rule r)) (map rule (rules_list (flat_rules rs))) (map rule (rules_list (flat_rules ss)))
+put_rule : {r : FlatRule} {rs ss : List FlatRule} → Put r rs ss → Put (rule (flat_rule r)) (map rule (rules_list (flat_rules rs))) (map rule (rules_list (flat_rules ss)))
 put_rule here = here
 put_rule (there p) = there (put_rule p)
 
@@ -174,11 +173,11 @@ brought_together d e =
 no_links : Assignment
 no_links = record { link_of = λ x. x; context_of = λ p. nothing; rules_of = λ p. []; typed_of = λ p. record { process = atom (named []) (0 ∷ []); root = 0 } }
 
-leaf_instances : (t : Assignment) (names : List Name) → LeafInstances t (map atom_of names) (map leaf_process (map atom_of names))
+leaf_instances : (t : Assignment) (labels : List Label) → LeafInstances t (map atom_of labels) (map leaf_process (map atom_of labels))
 leaf_instances t [] = no_leaf
-leaf_instances t (name ∷ names) = leaf_and of_atom (leaf_instances t names)
+leaf_instances t (label ∷ labels) = leaf_and of_atom (leaf_instances t labels)
 
-flat_fires : (r : RuleTree) → Fires (flat_rule r) (only (atoms_process r.head)) (only (atoms_process r.body))
+flat_fires : (r : FlatRule) → Fires (flat_rule r) (only (atoms_process r.head)) (only (atoms_process r.body))
 unfolding no_links
 flat_fires r = record {
   matches = record {
@@ -190,10 +189,10 @@ flat_fires r = record {
   body = instance (leaf_instances no_links r.body) no_membrane;
 }
 
-apart_linked : (atoms left : List Name) (r : RuleTree) (others : List RuleTree) → Linked (apart (atoms_process atoms) (rule (flat_rule r)) (atoms_process left) (rules_process others))
+apart_linked : (atoms left : List Label) (r : FlatRule) (others : List FlatRule) → Linked (apart (atoms_process atoms) (rule (flat_rule r)) (atoms_process left) (rules_process others))
 apart_linked atoms left r others = linked_none (λ z. omega (arith, no_link_in_atoms z atoms, no_link_in_atoms z left, no_link_in_rules z others))
 
-apart_steps : (r : RuleTree) (left : List Name) (others : List RuleTree) → Step (apart (atoms_process r.head) (rule (flat_rule r)) (atoms_process left) (rules_process others)) (apart (atoms_process r.body) (rule (flat_rule r)) (atoms_process left) (rules_process others))
+apart_steps : (r : FlatRule) (left : List Label) (others : List FlatRule) → Step (apart (atoms_process r.head) (rule (flat_rule r)) (atoms_process left) (rules_process others)) (apart (atoms_process r.body) (rule (flat_rule r)) (atoms_process left) (rules_process others))
 apart_steps r left others =
     let l = apart_linked r.head left r others in
     let m = apart_linked r.body left r others in
@@ -219,14 +218,14 @@ among_between : {A : Type 0} (x : A) (xs ys : List A) → Among x (xs ++ (x ∷ 
 among_between x [] ys = at_head
 among_between x (y ∷ xs) ys = further (among_between x xs ys)
 
-pub first_among : {r : RuleTree} {rules : List RuleTree} {atoms : List Name} → FirstCovered r rules atoms → Among r rules
+pub first_among : {r : FlatRule} {rules : List FlatRule} {atoms : List Label} → FirstCovered r rules atoms → Among r rules
 first_among {r = r} f = subst (Among r) (sym f.stands) (among_between r f.before f.after)
 
 chain_along : {A B : Type 0} {R : A → A → Type 0} {S : B → B → Type 0} (f : A → B) → ((y z : A) → R y z → S (f y) (f z)) → {x : A} {n : ℕ} {y : A} → Chain R x n y → Chain S (f x) n (f y)
 chain_along f h no_step = no_step
 chain_along f h (step_after {y = y} {z = z} c r) = step_after (chain_along f h c) (h y z r)
 
-one_firing_commits : (rules : List RuleTree) (old new : List Name) → Firing rules old new → Commit (flat_process old rules) (flat_process new rules)
+one_firing_commits : (rules : List FlatRule) (old new : List Label) → Firing rules old new → Commit (flat_process old rules) (flat_process new rules)
 one_firing_commits rules old new (fires {r = r} f) = firing_commits old rules r (first_among f) f.covered
 
 pub firings_commit : FiringsCommit

@@ -1,11 +1,15 @@
 pub mod ClauseLaws
+pub mod CountLaws
 pub mod CutsLaws
+pub mod EachLaws
 pub mod ExtendsLaws
 pub mod FiringLemmas
 pub mod FlatRedexes
 pub mod GrammarLaws
+pub mod LabelLaws
 pub mod LimitLaws
 pub mod LineLaws
+pub mod NumberingLaws
 pub mod OutcomeLemmas
 pub mod PlaceLaws
 pub mod PrintingLemmas
@@ -15,3 +19,4 @@ pub mod RunningLemmas
 pub mod SoFar
 pub mod SpelledLaws
 pub mod TokenLaws
+pub mod TextLemmas

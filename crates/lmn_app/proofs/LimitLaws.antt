@@ -3,7 +3,7 @@ use Rattle.std.proofs.Common.{ℕ, zero, suc, ◌<◌, List, [], ◌∷◌, leng
 use Rattle.std.specs.Borrow.{Bor}
 use Rattle.std.specs.List.{AllByRecursion}
 use Rattle.lmn_app.specs.FirstGrammar.{IsShort}
-use Rattle.lmn_app.specs.Programs.{names_of}
+use Rattle.lmn_app.specs.Spelled.{names_of}
 
 pub all_at_place : {X Y : Type 0} (P : Y → Type 0) (f : X → Y) (xs : List X) (i : ℕ) (d : X) → i < length xs → AllByRecursion P (map f xs) → P (f (slice_index_or xs i d))
 all_at_place P f [] i d l h = absurd (omega arith)

@@ -1,10 +1,46 @@
 -- The line of a process is read as that process.
-use Rattle.std.proofs.Common.{◌≡◌, ◌≢◌, ℕ, List, [], ◌∷◌, ◌++◌, map, refl, ap}
-use Rattle.std.specs.List.{AllByRecursion}
+use Rattle.std.proofs.Common.{◌≡◌, ◌≢◌, ℕ, true, List, [], ◌∷◌, ◌++◌, map, refl, ap}
+use Rattle.std.specs.Prelude.{codes}
+use Rattle.std.specs.List.{AllByRecursion, list_all}
 use Rattle.std.proofs.lemmas.List.{append_assoc}
+use Rattle.lmn_congruence.specs.Rules.{named}
 use Rattle.lmn_app.specs.FirstGrammar.{Lexeme, Name, Comma, Dot, Arrow, Open, Close, IsName, EndsName, Cuts, nothing, separator, token, RuleTree, ItemTree, AtomItem, RuleItem, ClauseTree, ItemsClause, Names, last_name, more_names, Rules, no_body, some_body, Items, atom_item, rule_item, last_item, items_clause, Programs, no_clause, more_clauses, tree_atoms, tree_rules}
 use Rattle.lmn_app.specs.Laws.{IsSpelled, LinesAreRead}
-use Rattle.lmn_app.specs.Lines.{join, rule_text, with_full_stop}
+use Rattle.lmn_app.specs.Labels.{is_name_byte, is_bare, label_text}
+use Rattle.lmn_app.specs.Lines.{join, rule_text, line, with_full_stop}
+use Rattle.lmn_app.specs.Processes.{named_rule}
+
+-- Names of the grammar are printed bare.
+
+all_name_bytes : (bs : List ℕ) → AllByRecursion (λ c. is_name_byte c ≡ true) bs → list_all is_name_byte bs ≡ true
+all_name_bytes [] h = refl
+all_name_bytes (b ∷ bs) h = rw (h.0, all_name_bytes bs h.1) refl
+
+bare : (name : List ℕ) → IsName name → is_bare name ≡ true
+bare [] h = absurd h
+bare (b ∷ bs) h = rw (h.0, all_name_bytes bs h.1) refl
+
+bare_text : (name : List ℕ) → IsName name → label_text (named name) ≡ name
+bare_text name h = rw (bare name h) refl
+
+bare_texts : (names : List (List ℕ)) → AllByRecursion IsName names → map label_text (map named names) ≡ names
+bare_texts [] h = refl
+bare_texts (name ∷ names) h = rw (bare_text name h.0, bare_texts names h.1) refl
+
+-- a rule with its names bare
+abbrev bare_rule : RuleTree → List ℕ
+bare_rule r = codes "(" ++ (join (codes ", ") r.head ++ (codes " :- " ++ (join (codes ", ") r.body ++ codes ")")))
+
+rule_is_bare : (r : RuleTree) → IsSpelled r → rule_text (named_rule r) ≡ bare_rule r
+rule_is_bare r h = rw (bare_texts r.head h.head_names, bare_texts r.body h.body_names) refl
+
+rules_are_bare : (rules : List RuleTree) → AllByRecursion IsSpelled rules → map rule_text (map named_rule rules) ≡ map bare_rule rules
+rules_are_bare [] h = refl
+rules_are_bare (r ∷ rules) h = rw (rule_is_bare r h.0, rules_are_bare rules h.1) refl
+
+line_is_bare : (atoms : List (List ℕ)) (rules : List RuleTree) → AllByRecursion IsName atoms → AllByRecursion IsSpelled rules
+    → line (map named atoms) (map named_rule rules) ≡ join (codes " ") (map with_full_stop (atoms ++ map bare_rule rules)) ++ codes "\n"
+line_is_bare atoms rules h k = rw (bare_texts atoms h, rules_are_bare rules k) refl
 
 space : {rest : List ℕ} {ts : List Lexeme} → Cuts rest ts → Cuts (32 ∷ rest) ts
 space h = separator refl h
@@ -26,7 +62,7 @@ body_read head (n ∷ ns) rest us h ends cut =
     let names = names_read n ns rest us h ends cut in
     (names.0, names.1, λ ts k. some_body k names.2)
 
-rule_read : (head body : List (List ℕ)) (rest : List ℕ) (us : List Lexeme) → head ≢ [] → AllByRecursion IsName head → AllByRecursion IsName body → Cuts rest us → (ts : List Lexeme) × Cuts (rule_text (record { head = head; body = body }) ++ rest) ts × Items ts (RuleItem (record { head = head; body = body })) us
+rule_read : (head body : List (List ℕ)) (rest : List ℕ) (us : List Lexeme) → head ≢ [] → AllByRecursion IsName head → AllByRecursion IsName body → Cuts rest us → (ts : List Lexeme) × Cuts (bare_rule (record { head = head; body = body }) ++ rest) ts × Items ts (RuleItem (record { head = head; body = body })) us
 rule_read [] body rest us some h b cut = absurd (some refl)
 rule_read (n ∷ ns) body rest us some h b cut =
     let bodies = body_read (n ∷ ns) body (41 ∷ rest) (Close ∷ us) b refl (token {t = Close} refl cut) in
@@ -53,14 +89,14 @@ stop cut = token {t = Dot} refl cut
 atom_text : (n : List ℕ) → IsName n → IsTextOf n (AtomItem n)
 atom_text n h rest us cut = (Name n ∷ Dot ∷ us, token (h, refl, refl) (stop cut), atom_item)
 
-rule_text_of : (r : RuleTree) → IsSpelled r → IsTextOf (rule_text r) (RuleItem r)
+rule_text_of : (r : RuleTree) → IsSpelled r → IsTextOf (bare_rule r) (RuleItem r)
 rule_text_of r h rest us cut = rule_read r.head r.body (46 ∷ rest) (Dot ∷ us) h.some_head h.head_names h.body_names (stop cut)
 
-rule_texts : (rules : List RuleTree) → AllByRecursion IsSpelled rules → AreTextsOf (map rule_text rules) (map RuleItem rules)
+rule_texts : (rules : List RuleTree) → AllByRecursion IsSpelled rules → AreTextsOf (map bare_rule rules) (map RuleItem rules)
 rule_texts [] h = no_texts
 rule_texts (r ∷ rules) h = one_more (rule_text_of r h.0) (rule_texts rules h.1)
 
-all_texts : (atoms : List (List ℕ)) (rules : List RuleTree) → AllByRecursion IsName atoms → AllByRecursion IsSpelled rules → AreTextsOf (atoms ++ map rule_text rules) (map AtomItem atoms ++ map RuleItem rules)
+all_texts : (atoms : List (List ℕ)) (rules : List RuleTree) → AllByRecursion IsName atoms → AllByRecursion IsSpelled rules → AreTextsOf (atoms ++ map bare_rule rules) (map AtomItem atoms ++ map RuleItem rules)
 all_texts [] rules h k = rule_texts rules k
 all_texts (n ∷ atoms) rules h k = one_more (atom_text n h.0) (all_texts atoms rules h.1 k)
 
@@ -102,4 +138,4 @@ all_rules (n ∷ atoms) rules = all_rules atoms rules
 pub lines_are_read : LinesAreRead
 lines_are_read atoms rules h k =
     let read = texts_read (all_texts atoms rules h k) in
-    (map clause_of (map AtomItem atoms ++ map RuleItem rules), (read.0, read.1, read.2), all_atoms atoms rules, all_rules atoms rules)
+    (map clause_of (map AtomItem atoms ++ map RuleItem rules), (read.0, rw (line_is_bare atoms rules h k) read.1, read.2), all_atoms atoms rules, all_rules atoms rules)

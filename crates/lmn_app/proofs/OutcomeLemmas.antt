@@ -10,7 +10,12 @@ use Rattle.lmn_app.specs.declared.running.Stop.{Stop}
 use Rattle.lmn_app.specs.declared.running.Stop.TheVariants as stop
 use Rattle.lmn_app.specs.Printing.{end_line}
 use Rattle.lmn_app.specs.Stops.{stop_ending, stop_word}
-use Rattle.lmn_app.specs.Runs.{IsRefusal, IsRun, IsToldAnd, told_under}
+use Rattle.lmn_base.specs.declared.refusal.Refusal.{Refusal}
+use Rattle.lmn_io.specs.Counts.{Rose}
+use Rattle.lmn_app.specs.Endings.{Concludes}
+use Rattle.lmn_app.specs.Words.{InForm}
+use Rattle.lmn_app.specs.Runs.{IsAccepted, IsRefusal, IsRun, IfTold, IsToldAnd, told_under}
+use Rattle.lmn_app.proofs.TextLemmas.{refused_not_accepted}
 use Rattle.lmn_app.specs.Outcomes.{Causes, Effects, Writes, WritesPrefix}
 
 whole_prefix : (text : Option (Option (List ℕ))) (s : Stop) (old new : Option (List ℕ)) → Writes text s old new → WritesPrefix text old new
@@ -64,3 +69,28 @@ effects_told NoMemory told name bytes old new before after e o = (
   elim (o.0) [ inl same ↦ inl same | inr w ↦ inr (writes_told told name bytes stop.NoMemory old new e w) ],
   o.1,
 )
+
+-- where nothing fails, an accepted text is answered by 0, 1 or 6
+
+when_told : (told : Option (Option (List ℕ))) (P : List ℕ → Type 0) → ((text : List ℕ) → P text) → IfTold told P
+when_told None P h = tt
+when_told (Some None) P h = tt
+when_told (Some (Some text)) P h = h text
+
+refused_told : (told : Option (Option (List ℕ))) (r : Refusal) (A : Type 0) → IsToldAnd told (λ text. IsRefusal text r) → IfTold told (λ text. IsAccepted text → A)
+refused_told None r A h = tt
+refused_told (Some None) r A h = tt
+refused_told (Some (Some text)) r A h = λ a. absurd (refused_not_accepted text r h a)
+
+pub accepted_answered : (ending : Ending) (told : Option (Option (List ℕ))) (words : List (String Global)) (before after : ℕ) (out_old out_new : Option (List ℕ)) (out_before out_after status : ℕ)
+    (err_old err_new : Option (List ℕ)) (err_before err_after : ℕ) → Causes ending told words before after → Effects ending told out_old out_new out_before out_after
+    → Concludes ending status err_old err_new err_before err_after → InForm words → ¬ (Rose before after) → ¬ (Rose out_before out_after) → ¬ (Rose err_before err_after)
+    → IfTold told (λ text. IsAccepted text → (status ≡ 0) ⊎ (status ≡ 1) ⊎ (status ≡ 6))
+accepted_answered ending told words before after oo on ob oa status eo en eb ea c e (inr (s, p, rose)) form read out err = absurd (err rose)
+accepted_answered Done told words before after oo on ob oa status eo en eb ea c e (inl h) form read out err = when_told told _ (λ text a. inl h.0)
+accepted_answered Budget told words before after oo on ob oa status eo en eb ea c e (inl h) form read out err = when_told told _ (λ text a. inr (inl h.0))
+accepted_answered (Refused r) told words before after oo on ob oa status eo en eb ea c e (inl h) form read out err = refused_told told r _ c.1
+accepted_answered Words told words before after oo on ob oa status eo en eb ea c e (inl h) form read out err = absurd (c form)
+accepted_answered ReadFault told words before after oo on ob oa status eo en eb ea c e (inl h) form read out err = absurd (read c.1)
+accepted_answered WriteFault told words before after oo on ob oa status eo en eb ea c e (inl h) form read out err = absurd (out e.1)
+accepted_answered NoMemory told words before after oo on ob oa status eo en eb ea c e (inl h) form read out err = when_told told _ (λ text a. inr (inr h.0))

@@ -4,7 +4,7 @@ use Rattle.std.specs.List.{flat_map}
 use Rattle.std.proofs.lemmas.List.{append_assoc, flat_map_more}
 use Rattle.lmn_app.specs.FirstGrammar.{Lexeme, Name, Comma, Arrow, Open, Close, RuleTree, ItemTree, AtomItem, RuleItem, Names, last_name, more_names, Rules, no_body, some_body, Items, atom_item, rule_item, ItemLists, last_item, more_items, item_atoms, item_rules}
 use Rattle.lmn_app.specs.Reading.{NotFirst, NoName, Ends, Extends}
-use Rattle.lmn_app.specs.declared.program.Program.{Program}
+use Rattle.lmn_app.specs.declared.reading.spelled.SpelledProgram.{SpelledProgram}
 use Rattle.lmn_app.proofs.GrammarLaws.{tail_is, ends_no_name, ends_no_comma, arrow_no_comma, names_one, name_first, items_one}
 use Rattle.lmn_app.proofs.ExtendsLaws.{extends_more}
 
@@ -122,12 +122,12 @@ pub each_more : {X : Type 0} (f : ItemTree → List X) (done : List ItemTree) (i
 each_more f done i = flat_map_more f [] done i
 
 -- the items so far, and what they added
-pub record ItemsAdded (ts us : List Lexeme) (old new : Program) : Type 0 where
+pub record ItemsAdded (ts us : List Lexeme) (old new : SpelledProgram) : Type 0 where
   pub done : List ItemTree
   pub so_far : AreItemsSoFar ts done us
   pub added : Extends old new (flat_map item_atoms done) (flat_map item_rules done)
 
-pub added_more : (old mid new : Program) (done : List ItemTree) (i : ItemTree) → Extends old mid (flat_map item_atoms done) (flat_map item_rules done) → Extends mid new (item_atoms i) (item_rules i) → Extends old new (flat_map item_atoms (done ++ i ∷ [])) (flat_map item_rules (done ++ i ∷ []))
+pub added_more : (old mid new : SpelledProgram) (done : List ItemTree) (i : ItemTree) → Extends old mid (flat_map item_atoms done) (flat_map item_rules done) → Extends mid new (item_atoms i) (item_rules i) → Extends old new (flat_map item_atoms (done ++ i ∷ [])) (flat_map item_rules (done ++ i ∷ []))
 added_more old mid new done i h k =
     rw (← each_more item_atoms done i, ← each_more item_rules done i)
     (extends_more old mid new (flat_map item_atoms done) (item_atoms i) (flat_map item_rules done) (item_rules i) h k)

@@ -1,14 +1,10 @@
 -- What a text spells has names of the grammar only, and no rule without a head.
-use Rattle.std.proofs.Common.{◌≢◌, ℕ, List, [], ◌∷◌, ◌++◌}
+use Rattle.std.proofs.Common.{◌≢◌, ℕ, List, [], ◌++◌}
 use Rattle.std.specs.Prelude.{⊤}
 use Rattle.std.specs.List.{AllByRecursion, flat_map}
 use Rattle.lmn_app.specs.FirstGrammar.{Lexeme, Name, IsName, BeginsWith, Cuts, nothing, separator, token, RuleTree, ItemTree, ClauseTree, Tree, Names, last_name, more_names, Rules, no_body, some_body, Items, atom_item, rule_item, ItemLists, last_item, more_items, Clauses, rule_clause, items_clause, Programs, no_clause, last_clause, more_clauses, item_atoms, item_rules, clause_atoms, clause_rules, tree_atoms, tree_rules}
 use Rattle.lmn_app.specs.Laws.{IsSpelled, TreesAreSpelled}
-
--- what holds of the elements of two lists holds of those of both together
-pub all_append : {X : Type 0} (P : X → Type 0) (xs ys : List X) → AllByRecursion P xs → AllByRecursion P ys → AllByRecursion P (xs ++ ys)
-all_append P [] ys h k = k
-all_append P (x ∷ xs) ys h k = (h.0, all_append P xs ys h.1 k)
+use Rattle.lmn_app.proofs.EachLaws.{all_append}
 
 abbrev IsNamed : Lexeme → Type 0
 IsNamed (Name n) = IsName n

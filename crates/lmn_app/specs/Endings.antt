@@ -1,5 +1,5 @@
 -- How a call ends: its status, and the line that `err` takes.
-use Rattle.std.specs.Prelude.{◌≡◌, ℕ, ◌⊎◌, List, [], ◌∷◌, ◌==◌, Option, codes, decimal, nat_lt, if◌then◌else◌}
+use Rattle.std.specs.Prelude.{◌≡◌, ◌≤◌, ℕ, ◌⊎◌, List, [], ◌∷◌, ◌==◌, Option, codes, decimal, nat_lt, if◌then◌else◌}
 use Rattle.std.specs.List.{concat}
 use Rattle.lmn_base.specs.declared.refusal.Refusal.{Refusal}
 use Rattle.lmn_app.specs.declared.ending.Ending.{Ending}
@@ -20,9 +20,26 @@ status_of NoMemory = 6
 abbrev pub code_letters : ℕ → List ℕ
 code_letters code = if nat_lt code 10 then codes "E0" else codes "E"
 
+-- a code that refuses a text so far
+abbrev pub IsCode : ℕ → Type 0
+IsCode code = ((1 ≤ code) × (code ≤ 12)) ⊎ (code ≡ 90)
+
 -- the words of a code
 abbrev pub code_words : ℕ → List ℕ
-code_words code = if code == 1 then codes "text too long" else codes "form not built"
+code_words code =
+    if code == 1 then codes "text too long"
+    else if code == 2 then codes "bad byte"
+    else if code == 3 then codes "not closed"
+    else if code == 4 then codes "integer out of range"
+    else if code == 5 then codes "name too long"
+    else if code == 6 then codes "floating-point number"
+    else if code == 7 then codes "string literal"
+    else if code == 8 then codes "inline code"
+    else if code == 9 then codes "hyperlink"
+    else if code == 10 then codes "unexpected token"
+    else if code == 11 then codes "nesting too deep"
+    else if code == 12 then codes "too many arguments"
+    else codes "form not built"
 
 -- the code, the line and the column of the place, and the words
 abbrev pub refusal_line : Refusal → List ℕ

@@ -1,7 +1,8 @@
 -- The first grammar: clauses of names without links, and rules between them.
-use Rattle.std.specs.Prelude.{◌≡◌, ◌≤◌, ℕ, ◌==◌, Bool, true, false, ◌||◌, ⊤, List, [], ◌∷◌, ◌++◌, length, codes}
+use Rattle.std.specs.Prelude.{◌≡◌, ◌≤◌, ℕ, true, false, ⊤, List, [], ◌∷◌, ◌++◌, length, codes}
 use Rattle.std.specs.List.{flat_map, AllByRecursion}
-use Rattle.std.specs.Char.{is_ascii_whitespace, is_ascii_lowercase, is_ascii_alphanumeric}
+use Rattle.std.specs.Char.{is_ascii_whitespace, is_ascii_lowercase}
+pub use Rattle.lmn_app.specs.Labels.{is_name_byte}
 
 -- Tokens. A name is its bytes.
 
@@ -12,10 +13,6 @@ pub data Lexeme : Type 0 where
   Arrow : Lexeme
   Open : Lexeme
   Close : Lexeme
-
--- a letter, a digit or `_`
-abbrev pub is_name_byte : ℕ → Bool
-is_name_byte b = is_ascii_alphanumeric b || (b == 95)
 
 -- a small letter, and letters, digits and `_` after it
 abbrev pub IsName : List ℕ → Type 0

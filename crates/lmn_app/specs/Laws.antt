@@ -1,8 +1,10 @@
 -- Laws of the first grammar.
-use Rattle.std.specs.Prelude.{◌≡◌, ◌≢◌, ℕ, List, []}
+use Rattle.std.specs.Prelude.{◌≡◌, ◌≢◌, ℕ, List, [], map}
 use Rattle.std.specs.List.{AllByRecursion}
+use Rattle.lmn_congruence.specs.Rules.{named}
 use Rattle.lmn_app.specs.FirstGrammar.{IsName, RuleTree, Tree, Reads, tree_atoms, tree_rules}
 use Rattle.lmn_app.specs.Lines.{line}
+use Rattle.lmn_app.specs.Processes.{named_rule}
 
 -- a text spells at most one tree
 abbrev pub OneTree : Type 0
@@ -22,4 +24,4 @@ TreesAreSpelled = (text : List ℕ) (tree : Tree) → Reads text tree → AllByR
 abbrev pub LinesAreRead : Type 0
 LinesAreRead =
     (atoms : List (List ℕ)) (rules : List RuleTree) → AllByRecursion IsName atoms → AllByRecursion IsSpelled rules
-    → (tree : Tree) × Reads (line atoms rules) tree × (tree_atoms tree ≡ atoms) × (tree_rules tree ≡ rules)
+    → (tree : Tree) × Reads (line (map named atoms) (map named_rule rules)) tree × (tree_atoms tree ≡ atoms) × (tree_rules tree ≡ rules)

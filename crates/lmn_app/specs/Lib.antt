@@ -1,6 +1,7 @@
 pub mod Endings
 pub mod Firings
 pub mod FirstGrammar
+pub mod Labels
 pub mod Laws
 pub mod Lexemes
 pub mod Lines
@@ -10,5 +11,7 @@ pub mod Processes
 pub mod Programs
 pub mod Reading
 pub mod Runs
+pub mod Spelled
 pub mod Stops
 pub mod Words
+pub mod Texts

@@ -6,7 +6,7 @@ use Rattle.lmn_io.specs.Counts.{Rose}
 use Rattle.lmn_io.specs.Taking.{Takes, TakesPrefix}
 use Rattle.lmn_app.specs.declared.ending.Ending.{Ending}
 use Rattle.lmn_app.specs.declared.ending.Ending.TheVariants.{Done, Budget, Refused, Words, ReadFault, WriteFault, NoMemory}
-use Rattle.lmn_app.specs.Programs.{at_start}
+use Rattle.lmn_app.specs.Endings.{IsCode}
 use Rattle.lmn_app.specs.Words.{InForm}
 use Rattle.lmn_app.specs.Printing.{end_line}
 use Rattle.lmn_app.specs.Runs.{IsRefusal, IsRun, IsToldAnd}
@@ -30,7 +30,7 @@ WritesPrefix text old new =
 abbrev pub Causes : Ending → Option (Option (List ℕ)) → List (String Global) → ℕ → ℕ → Type 0
 Causes Done text words before after = InForm words
 Causes Budget text words before after = InForm words
-Causes (Refused r) text words before after = InForm words × IsToldAnd text (λ bytes. IsRefusal bytes r) × ((r ≡ at_start 1) ⊎ (r ≡ at_start 90))
+Causes (Refused r) text words before after = InForm words × IsToldAnd text (λ bytes. IsRefusal bytes r) × IsCode r.code
 Causes Words text words before after = ¬ (InForm words)
 Causes ReadFault text words before after = InForm words × Rose before after
 Causes WriteFault text words before after = InForm words

@@ -7,6 +7,6 @@ use Rattle.lmn_app.specs.Lines.{with_full_stop}
 abbrev pub behind_spaces : {X : Type 0} → (X → List ℕ) → List X → List ℕ
 behind_spaces text xs = flat_map (λ x. codes " " ++ with_full_stop (text x)) xs
 
--- the end line: why the run with_full_stop, and after how many firings
+-- the end line: why the run stopped, and after how many firings
 abbrev pub end_line : List ℕ → ℕ → List ℕ
 end_line word firings = concat (codes "% " ∷ word ∷ codes " after " ∷ decimal firings ∷ codes "\n" ∷ [])

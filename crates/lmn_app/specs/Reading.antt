@@ -4,9 +4,9 @@ use Rattle.std.specs.List.{flat_map}
 use Rattle.std.specs.Borrow.{Bor}
 use Rattle.lmn_app.specs.FirstGrammar.{Lexeme, Name, Comma, Dot, Arrow, Close, RuleTree, ItemTree, ClauseTree, Tree, Names, Rules, Items, ItemLists, Clauses, Programs, item_atoms, item_rules, clause_atoms, clause_rules}
 use Rattle.lmn_app.specs.Lexemes.{lexeme, lexemes}
-use Rattle.lmn_app.specs.Programs.{names_of, rule_of, rules_of, IsProcessOf}
-use Rattle.lmn_app.specs.declared.program.Program.{Program}
-use Rattle.lmn_app.specs.declared.program.Rule.{Rule}
+use Rattle.lmn_app.specs.Spelled.{names_of, rule_of, rules_of, IsSpelledOf}
+use Rattle.lmn_app.specs.declared.reading.spelled.SpelledProgram.{SpelledProgram}
+use Rattle.lmn_app.specs.declared.reading.spelled.SpelledRule.{SpelledRule}
 use Rattle.lmn_app.specs.declared.reading.lexer.Token.{Token}
 
 -- the tokens from a place on
@@ -32,7 +32,7 @@ is_rule_first (Arrow ∷ ts) = true
 is_rule_first (_ ∷ ts) = false
 
 -- these atoms and rules were added at the end
-pub record Extends (old new : Program) (atoms : List (List ℕ)) (rules : List RuleTree) : Type 0 where
+pub record Extends (old new : SpelledProgram) (atoms : List (List ℕ)) (rules : List RuleTree) : Type 0 where
   pub atoms_added : names_of new.atoms ≡ names_of old.atoms ++ atoms
   pub rules_added : rules_of new.rules ≡ rules_of old.rules ++ rules
 
@@ -65,29 +65,29 @@ abbrev pub NamesFrom : List Token → ℕ → Option (List (Bor (List ℕ)) × �
 NamesFrom tokens at None = (ns : List (List ℕ)) (rest : List Lexeme) → Names (left tokens at) ns rest → NotFirst Comma rest → ⊥
 NamesFrom tokens at (Some found) = Names (left tokens at) (names_of found.0) (left tokens found.1) × NotFirst Comma (left tokens found.1)
 
-abbrev pub RuleFrom : List Token → ℕ → Option (Rule × ℕ) → Type 0
+abbrev pub RuleFrom : List Token → ℕ → Option (SpelledRule × ℕ) → Type 0
 RuleFrom tokens at None = (r : RuleTree) (rest : List Lexeme) → Rules (left tokens at) r rest → Ends rest → ⊥
 RuleFrom tokens at (Some found) =
     Rules (left tokens at) (rule_of found.0) (left tokens found.1)
     × ((r : RuleTree) (rest : List Lexeme) → Rules (left tokens at) r rest → Ends rest → rest ≡ left tokens found.1)
 
-abbrev pub ItemFrom : List Token → ℕ → Program → Program → Option ℕ → Type 0
+abbrev pub ItemFrom : List Token → ℕ → SpelledProgram → SpelledProgram → Option ℕ → Type 0
 ItemFrom tokens at old new None = (i : ItemTree) (rest : List Lexeme) → Items (left tokens at) i rest → ⊥
 ItemFrom tokens at old new (Some end) = (i : ItemTree) × Items (left tokens at) i (left tokens end) × Extends old new (item_atoms i) (item_rules i)
 
-abbrev pub ItemsFrom : List Token → ℕ → Program → Program → Option ℕ → Type 0
+abbrev pub ItemsFrom : List Token → ℕ → SpelledProgram → SpelledProgram → Option ℕ → Type 0
 ItemsFrom tokens at old new None = (is : List ItemTree) (rest : List Lexeme) → ItemLists (left tokens at) is rest → NotFirst Comma rest → ⊥
 ItemsFrom tokens at old new (Some end) =
     (is : List ItemTree) × ItemLists (left tokens at) is (left tokens end) × NotFirst Comma (left tokens end)
     × Extends old new (flat_map item_atoms is) (flat_map item_rules is)
 
-abbrev pub ClauseFrom : List Token → ℕ → Program → Program → Option ℕ → Type 0
+abbrev pub ClauseFrom : List Token → ℕ → SpelledProgram → SpelledProgram → Option ℕ → Type 0
 ClauseFrom tokens at old new None = (c : ClauseTree) (rest : List Lexeme) → Clauses (left tokens at) c rest → Ends rest → ⊥
 ClauseFrom tokens at old new (Some end) =
     (c : ClauseTree) × Clauses (left tokens at) c (left tokens end)
     × ((d : ClauseTree) (rest : List Lexeme) → Clauses (left tokens at) d rest → Ends rest → rest ≡ left tokens end)
     × Extends old new (clause_atoms c) (clause_rules c)
 
-abbrev pub ProgramFrom : List Token → Option Program → Type 0
+abbrev pub ProgramFrom : List Token → Option SpelledProgram → Type 0
 ProgramFrom tokens None = (tree : Tree) → Programs (lexemes tokens) tree → ⊥
-ProgramFrom tokens (Some program) = (tree : Tree) × Programs (lexemes tokens) tree × IsProcessOf program tree
+ProgramFrom tokens (Some program) = (tree : Tree) × Programs (lexemes tokens) tree × IsSpelledOf program tree

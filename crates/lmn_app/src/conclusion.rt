@@ -73,6 +73,17 @@ fn refusal_words(code: u8) -> &'static [u8]
 {
     match code {
         1 => b"text too long",
+        2 => b"bad byte",
+        3 => b"not closed",
+        4 => b"integer out of range",
+        5 => b"name too long",
+        6 => b"floating-point number",
+        7 => b"string literal",
+        8 => b"inline code",
+        9 => b"hyperlink",
+        10 => b"unexpected token",
+        11 => b"nesting too deep",
+        12 => b"too many arguments",
         _ => b"form not built",
     }
 }

@@ -1,5 +1,6 @@
 //! The laws of processes of atoms without links: their firings are commits of the calculus.
 
+ghost use Rattle.lmn_app.specs.Labels.{SameLabels};
 ghost use Rattle.lmn_app.specs.Firings.{FiringCommits, FiringsCommit, FlatClosed, FlatSettles, FlatIrreducible};
 
 /// The firing of a rule whose head is among the atoms is a commit. So n firings of the strategy are n commits.
@@ -20,4 +21,10 @@ pub fn flat_processes_are_settled()
 #[tactic(auto, using(crate::proofs::FlatRedexes::flat_irreducible))]
 pub fn irreducible_where_none_is_covered()
     ensures { FlatIrreducible }
+{}
+
+/// The test of labels tells which are one.
+#[tactic(auto, using(crate::proofs::LabelLaws::same_labels))]
+pub fn same_labels_are_one()
+    ensures { SameLabels }
 {}

@@ -1,19 +1,19 @@
-use lmn_base::Rows;
+use lmn_base::{Label, Rows};
 
-/// A rule whose atoms have no links.
+/// A rule whose atoms have no links. Its names have the numbers of a list of names that stands beside it.
 #[derive(Drop)]
-pub struct Rule<'t> {
-    /// The names of the atoms that the rule takes, in the order of the text.
-    pub head: Rows<&'t [u8]>,
-    /// The names of the atoms that it puts in their place, in the order of the text.
-    pub body: Rows<&'t [u8]>,
+pub struct Rule {
+    /// The labels of the atoms that the rule takes, in the order of the text.
+    pub head: Rows<Label>,
+    /// The labels of the atoms that it puts in their place, in the order of the text.
+    pub body: Rows<Label>,
 }
 
-/// The process that a text spells. Its names are parts of the text.
+/// The process that a text spells. Its names have the numbers of a list of names that stands beside it.
 #[derive(Drop)]
-pub struct Program<'t> {
-    /// The names of its atoms, in the order of the text.
-    pub atoms: Rows<&'t [u8]>,
+pub struct Program {
+    /// The labels of its atoms, in the order of the text.
+    pub atoms: Rows<Label>,
     /// Its rules, in the order of the text.
-    pub rules: Rows<Rule<'t>>,
+    pub rules: Rows<Rule>,
 }

@@ -1,11 +1,14 @@
-ghost use Rattle.std.specs.Prelude.{◌≡◌, ◌≤◌, ◌↔◌, ◌++◌, IsTrue, OnOk, OnErr, MatchOption, bytes_eq};
+ghost use Rattle.std.specs.Prelude.{◌≡◌, ◌≤◌, ◌↔◌, ◌++◌, ℕ, List, IsTrue, OnOk, OnErr, MatchOption};
 ghost use Rattle.std.specs.List.{position};
-ghost use Rattle.lmn_app.specs.Programs.{names_of, rule_of, rules_of};
+ghost use Rattle.lmn_base.specs.Names.{IsNames};
+ghost use Rattle.lmn_congruence.specs.Translation.{label_of};
+ghost use Rattle.lmn_congruence.specs.Rules.{Name};
+ghost use Rattle.lmn_app.specs.Programs.{labels_of, rule_of, rules_of, HasLabel, HasLabels, HasRule, NamesAll, is_one};
 ghost use Rattle.lmn_app.specs.Processes.{flat_process};
 ghost use Rattle.lmn_app.specs.Firings.{count_of, Covers, NoneCovered, FirstCovered, without, without_all, Firings, Commits, Stopped};
 
 use crate::program::Rule;
-use lmn_base::NoMemory;
+use lmn_base::{Label, NoMemory};
 
 /// The most firings of a run.
 pub(crate) const BUDGET: u64 = 1000;
@@ -23,10 +26,16 @@ pub enum Stop {
 
 /// Fires the first rule whose head is among the atoms, again and again, until there is none or the budget is done.
 /// Answers why the run stopped and how many rules fired. Each firing is a commit of the calculus.
-pub(crate) fn react<'t>(atoms: &mut Vec<&'t [u8]>, rules: &[Rule<'t>]) -> (Stop, u64)
-    ensures firings { Firings result.1 (rules_of rules.now) (names_of atoms.old.items) (names_of atoms.new.items) }
-    ensures commits { Commits result.1 (flat_process (names_of atoms.old.items) (rules_of rules.now)) (flat_process (names_of atoms.new.items) (rules_of rules.now)) }
-    ensures stopped { Stopped result.0 result.1 (rules_of rules.now) (names_of atoms.new.items) }
+///
+/// What is said here of labels holds for each list of names that has theirs.
+pub(crate) fn react(atoms: &mut Vec<Label>, rules: &[Rule]) -> (Stop, u64)
+    ensures firings { (names : List Name) → NamesAll names atoms.old.items rules.now →
+        Firings result.1 (rules_of names rules.now) (labels_of names atoms.old.items) (labels_of names atoms.new.items) }
+    ensures commits { (names : List Name) → NamesAll names atoms.old.items rules.now →
+        Commits result.1 (flat_process (labels_of names atoms.old.items) (rules_of names rules.now)) (flat_process (labels_of names atoms.new.items) (rules_of names rules.now)) }
+    ensures stopped { (names : List Name) → NamesAll names atoms.old.items rules.now →
+        Stopped result.0 result.1 (rules_of names rules.now) (labels_of names atoms.new.items) }
+    ensures has_names { (names : List Name) → NamesAll names atoms.old.items rules.now → NamesAll names atoms.new.items rules.now }
 {
     for fired in 0..BUDGET {
         let Some(rule) = ready_rule(rules, atoms.as_slice()) else {
@@ -43,8 +52,10 @@ pub(crate) fn react<'t>(atoms: &mut Vec<&'t [u8]>, rules: &[Rule<'t>]) -> (Stop,
 }
 
 /// The first rule whose head is among the atoms.
-fn ready_rule<'a, 't>(rules: &'a [Rule<'t>], atoms: &[&[u8]]) -> Option<&'a Rule<'t>>
-    ensures { MatchOption result (NoneCovered (rules_of rules.now) (names_of atoms.now)) (λ rule. FirstCovered (rule_of rule.now) (rules_of rules.now) (names_of atoms.now)) }
+fn ready_rule<'a>(rules: &'a [Rule], atoms: &[Label]) -> Option<&'a Rule>
+    ensures { (names : List Name) → NamesAll names atoms.now rules.now → MatchOption result
+        (NoneCovered (rules_of names rules.now) (labels_of names atoms.now))
+        (λ rule. FirstCovered (rule_of names rule.now) (rules_of names rules.now) (labels_of names atoms.now) × HasRule names rule.now) }
 {
     for rule in rules {
         if is_among(rule.head.as_slice(), atoms) {
@@ -54,49 +65,54 @@ fn ready_rule<'a, 't>(rules: &'a [Rule<'t>], atoms: &[&[u8]]) -> Option<&'a Rule
     None
 }
 
-/// Whether there are enough atoms for each name of a head.
-fn is_among(head: &[&[u8]], atoms: &[&[u8]]) -> bool
-    ensures { IsTrue result ↔ Covers (names_of head.now) (names_of atoms.now) }
+/// Whether there are enough atoms for each label of a head.
+fn is_among(head: &[Label], atoms: &[Label]) -> bool
+    ensures { (names : List Name) → IsNames names → HasLabels names head.now → HasLabels names atoms.now →
+        IsTrue result ↔ Covers (labels_of names head.now) (labels_of names atoms.now) }
 {
-    for name in head {
-        if count(atoms, name) < count(head, name) {
+    for label in head {
+        if count(atoms, *label) < count(head, *label) {
             return false;
         }
     }
     true
 }
 
-/// How often a name stands in a list.
-fn count(names: &[&[u8]], name: &[u8]) -> usize
-    ensures { result ≡ count_of name.now (names_of names.now) }
+/// How often a label stands in a list.
+fn count(labels: &[Label], label: Label) -> usize
+    ensures { (names : List Name) → IsNames names → HasLabels names labels.now → HasLabel names label →
+        result ≡ count_of (label_of names label) (labels_of names labels.now) }
 {
-    names.iter().filter(|other| **other == name).count()
+    labels.iter().filter(|other| **other == label).count()
 }
 
-/// Puts the atoms of the body at the end and takes out the first atoms with the names of the head.
-fn fire<'t>(atoms: &mut Vec<&'t [u8]>, rule: &Rule<'t>) -> Result<(), NoMemory>
-    ensures ok { OnOk result (names_of atoms.new.items ≡ without_all (names_of rule.now.head) (names_of atoms.old.items ++ names_of rule.now.body)) }
+/// Puts the atoms of the body at the end and takes out the first atoms with the labels of the head.
+fn fire(atoms: &mut Vec<Label>, rule: &Rule) -> Result<(), NoMemory>
+    ensures ok { (names : List Name) → IsNames names → HasLabels names atoms.old.items → HasRule names rule.now → OnOk result
+        ((labels_of names atoms.new.items ≡ without_all (labels_of names rule.now.head) (labels_of names atoms.old.items ++ labels_of names rule.now.body))
+        × HasLabels names atoms.new.items) }
     ensures err { OnErr result (atoms.new.items ≡ atoms.old.items) }
 {
     atoms.extend_from_slice(rule.body.as_slice())?;
-    for name in rule.head.as_slice() {
-        take_out(atoms, name);
+    for label in rule.head.as_slice() {
+        take_out(atoms, *label);
     }
     Ok(())
 }
 
-/// Takes out the first atom with a name, if there is one.
-fn take_out(atoms: &mut Vec<&[u8]>, name: &[u8])
-    ensures { names_of atoms.new.items ≡ without name.now (names_of atoms.old.items) }
+/// Takes out the first atom with a label, if there is one.
+fn take_out(atoms: &mut Vec<Label>, label: Label)
+    ensures { (names : List Name) → IsNames names → HasLabels names atoms.old.items → HasLabel names label →
+        (labels_of names atoms.new.items ≡ without (label_of names label) (labels_of names atoms.old.items)) × HasLabels names atoms.new.items }
 {
-    if let Some(place) = place_of(atoms.as_slice(), name) {
+    if let Some(place) = place_of(atoms.as_slice(), label) {
         let _ = atoms.remove(place);
     }
 }
 
-/// The place of the first atom with a name.
-fn place_of(atoms: &[&[u8]], name: &[u8]) -> Option<usize>
-    ensures { result ≡ position (λ atom. bytes_eq atom.now name.now) atoms.now }
+/// The place of the first atom with a label.
+fn place_of(atoms: &[Label], label: Label) -> Option<usize>
+    ensures { result ≡ position (λ atom. is_one atom label) atoms.now }
 {
-    atoms.iter().position(|atom| *atom == name)
+    atoms.iter().position(|atom| *atom == label)
 }

@@ -30,7 +30,7 @@ struct Ended {
 
 const RUN: &[&str] = &["run", "f"];
 
-const ROWS: [Row; 12] = [
+const ROWS: [Row; 13] = [
     Row {
         words: RUN,
         text: b"a. a. a, a :- b.",
@@ -60,6 +60,17 @@ const ROWS: [Row; 12] = [
         out: b"a. (a :- a).\n% budget after 1000\n",
         err: b"",
         status: 1,
+    },
+    // 1 + 10 + 100 firings for each c, and one for the first a: 1,000, the whole budget.
+    Row {
+        words: RUN,
+        text: b"a. c. c. c. c. c. c. c. c. c. c :- b, b, b, b, b, b, b, b, b, b. b :- a, a, a, a, a, a, a, a, a, a. a :- .",
+        fetches_failing: &[],
+        puts_failing: &[],
+        err_room: 100,
+        out: b"(c :- b, b, b, b, b, b, b, b, b, b). (b :- a, a, a, a, a, a, a, a, a, a). (a :- ).\n% irreducible after 1000\n",
+        err: b"",
+        status: 0,
     },
     Row {
         words: RUN,
@@ -153,6 +164,28 @@ const ROWS: [Row; 12] = [
     },
 ];
 
+/// A text that is refused, and the line on `err`.
+const REFUSED: [(&[u8], &[u8]); 14] = [
+    (b"p(1.5).", b"E06 1:3 floating-point number\n"),
+    (b"a. /* b", b"E03 1:4 not closed\n"),
+    (
+        b"p(9223372036854775808).",
+        b"E04 1:3 integer out of range\n",
+    ),
+    (b"a ; b", b"E02 1:3 bad byte\n"),
+    (b"\xff", b"E02 1:1 bad byte\n"),
+    (b"a(", b"E10 1:3 unexpected token\n"),
+    (b"a. b,, c", b"E10 1:6 unexpected token\n"),
+    (b"a.\n b \"c\"", b"E07 2:4 string literal\n"),
+    (b"a, [:", b"E08 1:4 inline code\n"),
+    (b"a(!X)", b"E09 1:3 hyperlink\n"),
+    // The bytes are asked before the tokens, and the tokens before what is built.
+    (b"a,, ;", b"E02 1:5 bad byte\n"),
+    (b"a(X).. b", b"E10 1:6 unexpected token\n"),
+    (b"x @@ a :- b. a", b"E90 1:1 form not built\n"),
+    (b"a(X), b(X)", b"E90 1:1 form not built\n"),
+];
+
 fn rows_of<T: Copy + Drop>(alloc: Global, items: &[T]) -> Result<Rows<T>, AllocError> {
     Ok(Rows::from_vec(Vec::from_slice(alloc, items)?))
 }
@@ -191,6 +224,26 @@ fn calls_end_as_they_must(rt: HostRuntime) -> Result<(), Fail> {
         assert_eq!(rt; ended.status, row.status, "status of row {i}");
         assert_eq!(rt; ended.out.taken(), row.out, "output of row {i}");
         assert_eq!(rt; ended.err.taken(), row.err, "errors of row {i}");
+    }
+    Ok(())
+}
+
+/// How a run of a text ends.
+fn run_of(alloc: Global, text: &[u8]) -> Result<Ended, NoMemory> {
+    let words = words_of(alloc, RUN)?;
+    let mut shelf = shelf_of(alloc, text, &[])?;
+    let mut out = MemSink::new(alloc, 1000, Rows::new(alloc))?;
+    let mut err = MemSink::new(alloc, 1000, Rows::new(alloc))?;
+    let status = lmn_main(alloc, words.as_slice(), &mut shelf, &mut out, &mut err);
+    Ok(Ended { out, err, status })
+}
+
+#[test]
+fn broken_texts_are_refused(rt: HostRuntime) -> Result<(), Fail> {
+    for (i, (text, line)) in REFUSED.iter().enumerate() {
+        let ended = run_of(rt.alloc(), text)?;
+        assert_eq!(rt; ended.status, 2, "status of row {i}");
+        assert_eq!(rt; ended.err.taken(), *line, "errors of row {i}");
     }
     Ok(())
 }

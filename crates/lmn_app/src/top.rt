@@ -5,9 +5,9 @@ ghost use Rattle.lmn_io.specs.Taking.{Takes, TakesPrefix};
 ghost use Rattle.lmn_base.specs.declared.refusal.Refusal.{Refusal};
 ghost use Rattle.lmn_app.specs.FirstGrammar.{Tree};
 ghost use Rattle.lmn_app.specs.Words.{InForm, file_of};
-ghost use Rattle.lmn_app.specs.Endings.{line_of, refusal_line};
+ghost use Rattle.lmn_app.specs.Endings.{IsCode, line_of, refusal_line};
 ghost use Rattle.lmn_app.specs.Outcomes.{Causes, Effects, Writes, WritesPrefix};
-ghost use Rattle.lmn_app.specs.Programs.{at_start, IsProcessOf};
+ghost use Rattle.lmn_app.specs.Programs.{IsProcessOf, NamesAll};
 ghost use Rattle.lmn_app.specs.Runs.{Accepts, IsAccepted, IsRefusal, IfTold, IsToldAnd, told_under};
 ghost use Rattle.lmn_app.specs.Stops.{stop_ending};
 ghost use Rattle.lmn_app.specs.declared.ending.Ending.{Ending};
@@ -18,7 +18,7 @@ use crate::program::Program;
 use crate::running::{self, Stop};
 use crate::words::in_form;
 use crate::{printing, reading};
-use lmn_base::{Pos, Refusal, TextFault};
+use lmn_base::{Names, Pos, Refusal, TextFault};
 use lmn_io::{Failed, FetchFault, Fetched, Shelf, Sink};
 use std::alloc::Global;
 
@@ -55,7 +55,7 @@ pub fn lmn_main<F: Shelf, O: Sink, E: Sink>(
 
     // Status 2 comes where the text isn't accepted; 4, 5 and 6 alone take its place.
     ensures refused { result ≡ 2 → (refusal : Refusal) × IsToldAnd (told_under (F.told shelf.old) (file_of words.now)) (λ text. IsRefusal text refusal)
-        × ((refusal ≡ at_start 1) ⊎ (refusal ≡ at_start 90)) × Takes (refusal_line refusal) (E.told err.old) (E.told err.new) }
+        × IsCode refusal.code × Takes (refusal_line refusal) (E.told err.old) (E.told err.new) }
     ensures not_accepted { InForm words.now → IfTold (told_under (F.told shelf.old) (file_of words.now)) (λ text.
         ¬ (IsAccepted text) → (result ≡ 2) ⊎ (result ≡ 4) ⊎ (result ≡ 5) ⊎ (result ≡ 6)) }
 
@@ -119,8 +119,9 @@ fn run_text<O: Sink>(alloc: Global, text: &[u8], out: &mut O) -> Ending
     ensures causes { (words : List (String Global)) (before after : ℕ) → InForm words → Causes result (Some (Some text.now)) words before after }
     ensures effects { Effects result (Some (Some text.now)) (O.told out.old) (O.told out.new) (O.faults out.old) (O.faults out.new) }
 {
-    match reading::read(alloc, text) {
-        Ok(program) => match run_program(program, out) {
+    let mut names = Names::new(alloc);
+    match reading::read(alloc, &mut names, text) {
+        Ok(program) => match run_program(&names, program, out) {
             Ok(stop) => ending_of(stop),
             Err(_) => Ending::WriteFault,
         },
@@ -130,10 +131,11 @@ fn run_text<O: Sink>(alloc: Global, text: &[u8], out: &mut O) -> Ending
 }
 
 /// Lets a program react, and writes its last process and why it stopped.
-fn run_program<O: Sink>(program: Program<'_>, out: &mut O) -> Result<Stop, Failed>
-    ensures wrote { (text : List ℕ) (tree : Tree) → Accepts text tree → IsProcessOf program.entry tree →
+fn run_program<O: Sink>(names: &Names, program: Program, out: &mut O) -> Result<Stop, Failed>
+    requires { NamesAll names.now program.atoms program.rules }
+    ensures wrote { (text : List ℕ) (tree : Tree) → Accepts text tree → IsProcessOf names.now program tree →
         IfOk result (λ stop. Writes (Some (Some text)) stop (O.told out.old) (O.told out.new)) }
-    ensures prefix { (text : List ℕ) (tree : Tree) → Accepts text tree → IsProcessOf program.entry tree →
+    ensures prefix { (text : List ℕ) (tree : Tree) → Accepts text tree → IsProcessOf names.now program tree →
         OnErr result (WritesPrefix (Some (Some text)) (O.told out.old) (O.told out.new)) }
     ensures same { OnOk result (O.faults out.new ≡ O.faults out.old) }
     ensures rose { OnErr result (Rose (O.faults out.old) (O.faults out.new)) }
@@ -141,7 +143,7 @@ fn run_program<O: Sink>(program: Program<'_>, out: &mut O) -> Result<Stop, Faile
     let Program { atoms, rules } = program;
     let mut atoms = atoms.into_vec();
     let (stop, fired) = running::react(&mut atoms, rules.as_slice());
-    printing::print_run(out, atoms.as_slice(), rules.as_slice(), stop, fired)?;
+    printing::print_run(out, names, atoms.as_slice(), rules.as_slice(), stop, fired)?;
     Ok(stop)
 }
 

@@ -1,9 +1,9 @@
 ghost use Rattle.std.specs.Prelude.{◌≡◌, ◌≤◌, ◌↔◌, length, IsTrue};
 ghost use Rattle.std.specs.List.{AllByRecursion};
 ghost use Rattle.lmn_app.specs.FirstGrammar.{IsShort, IsSmall};
-ghost use Rattle.lmn_app.specs.Programs.{names_of, rule_of, rules_of};
+ghost use Rattle.lmn_app.specs.Spelled.{names_of, rule_of, rules_of};
 
-use crate::program::{Program, Rule};
+use super::spelled::{SpelledProgram, SpelledRule};
 
 /// The most bytes of a name.
 const NAME_BYTES: usize = 255;
@@ -15,7 +15,7 @@ const HEAD_NAMES: usize = 128;
 const BODY_NAMES: usize = 1024;
 
 /// Whether a program is within the limits.
-pub(super) fn is_within(program: &Program<'_>) -> bool
+pub(super) fn is_within(program: &SpelledProgram<'_>) -> bool
     ensures { IsTrue result ↔ (AllByRecursion IsShort (names_of program.now.atoms) × AllByRecursion IsSmall (rules_of program.now.rules)) }
 {
     are_short(program.atoms.as_slice()) && are_small(program.rules.as_slice())
@@ -34,7 +34,7 @@ fn are_short(names: &[&[u8]]) -> bool
 }
 
 /// Whether each rule is within the limits.
-fn are_small(rules: &[Rule<'_>]) -> bool
+fn are_small(rules: &[SpelledRule<'_>]) -> bool
     ensures { IsTrue result ↔ AllByRecursion IsSmall (rules_of rules.now) }
 {
     for rule in rules {
@@ -46,7 +46,7 @@ fn are_small(rules: &[Rule<'_>]) -> bool
 }
 
 /// Whether a rule is within the limits.
-fn is_small(rule: &Rule<'_>) -> bool
+fn is_small(rule: &SpelledRule<'_>) -> bool
     ensures { IsTrue result ↔ IsSmall (rule_of rule.now) }
 {
     rule.head.len() <= HEAD_NAMES

@@ -3,7 +3,7 @@ ghost use Rattle.lmn_app.specs.Lexemes.{sign_lexeme};
 ghost use Rattle.lmn_app.specs.Reading.{left, is_rule_first, TokenAt, NameAt, SignAt, PastEnd, NamesFrom, RuleFrom, ItemFrom, ItemsFrom, ClauseFrom, ProgramFrom};
 
 use super::lexer::{Sign, Token};
-use crate::program::{Program, Rule};
+use super::spelled::{SpelledProgram, SpelledRule};
 use lmn_base::{NoMemory, Rows};
 use std::alloc::Global;
 
@@ -12,10 +12,10 @@ use std::alloc::Global;
 pub(super) fn program<'t>(
     alloc: Global,
     tokens: &[Token<'t>],
-) -> Result<Option<Program<'t>>, NoMemory>
+) -> Result<Option<SpelledProgram<'t>>, NoMemory>
     ensures { IfOk result (λ found. ProgramFrom tokens.now found) }
 {
-    let mut program = Program {
+    let mut program = SpelledProgram {
         atoms: Rows::new(alloc),
         rules: Rows::new(alloc),
     };
@@ -49,7 +49,7 @@ fn past_end(tokens: &[Token<'_>], at: usize) -> Option<usize>
 /// Adds the clause that begins at a place, a rule or items, and answers the place behind it.
 fn clause<'t>(
     alloc: Global,
-    program: &mut Program<'t>,
+    program: &mut SpelledProgram<'t>,
     tokens: &[Token<'t>],
     at: usize,
 ) -> Result<Option<usize>, NoMemory>
@@ -86,7 +86,7 @@ fn begins_rule(tokens: &[Token<'_>], at: usize) -> bool
 /// Adds the items that begin at a place, a comma between them, and answers the place behind them.
 fn items<'t>(
     alloc: Global,
-    program: &mut Program<'t>,
+    program: &mut SpelledProgram<'t>,
     tokens: &[Token<'t>],
     at: usize,
 ) -> Result<Option<usize>, NoMemory>
@@ -110,7 +110,7 @@ fn items<'t>(
 /// behind it.
 fn item<'t>(
     alloc: Global,
-    program: &mut Program<'t>,
+    program: &mut SpelledProgram<'t>,
     tokens: &[Token<'t>],
     at: usize,
 ) -> Result<Option<usize>, NoMemory>
@@ -139,7 +139,7 @@ fn rule<'t>(
     alloc: Global,
     tokens: &[Token<'t>],
     at: usize,
-) -> Result<Option<(Rule<'t>, usize)>, NoMemory>
+) -> Result<Option<(SpelledRule<'t>, usize)>, NoMemory>
     ensures found { IfOk result (λ found. RuleFrom tokens.now at found) }
     ensures forth { IfOk result (λ found. IfSome found (λ f. at < f.1)) }
 {
@@ -151,12 +151,12 @@ fn rule<'t>(
     }
     if name_at(tokens, arrow + 1).is_none() {
         let body = Rows::new(alloc);
-        return Ok(Some((Rule { head, body }, arrow + 1)));
+        return Ok(Some((SpelledRule { head, body }, arrow + 1)));
     }
     let Some((body, end)) = names(alloc, tokens, arrow + 1)? else {
         return Ok(None);
     };
-    Ok(Some((Rule { head, body }, end)))
+    Ok(Some((SpelledRule { head, body }, end)))
 }
 
 /// The names that begin at a place, a comma between them, and the place behind them.

@@ -10,4 +10,4 @@ abbrev pub invariant-loop-rule : goal.invariant-loop-rule
 invariant-loop-rule g l =
     let told = g.O.Sink.told in
     let faults = g.O.Sink.faults in
-    Adds (flat_map (λ x. codes " " ++ with_full_stop (rule_text (rule_of x))) (take l.rule-index l.rules)) (output l.initial.buffer (told l.initial.out) (faults l.initial.out)) (output l.buffer (told l.out) (faults l.out))
+    Adds (flat_map (λ x. codes " " ++ with_full_stop (rule_text (rule_of l.names x))) (take l.rule-index l.rules)) (output l.initial.buffer (told l.initial.out) (faults l.initial.out)) (output l.buffer (told l.out) (faults l.out))

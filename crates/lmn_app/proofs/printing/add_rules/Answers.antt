@@ -8,5 +8,5 @@ use Rattle.lmn_app.proofs.printing.add_rules.Goals as goal
 
 pub returns-in-Some : goal.returns-in-Some
 returns-in-Some g c =
-    adds_as (items_from_rule (rules_of c.args.rules.now) (rule_of c.in-Some.first.now) (rules_of c.in-Some.more.now) (ap rules_of c.in-Some.ensures.cases.0))
-    (adds_more (with_full_stop (rule_text (rule_of c.in-Some.first.now))) _ _ _ _ (adds_more (rule_text (rule_of c.in-Some.first.now)) (codes ".") _ _ _ c.add_rule.ensures c.add.ensures) c.add_more_rules.ensures)
+    adds_as (items_from_rule (rules_of c.args.names.now c.args.rules.now) (rule_of c.args.names.now c.in-Some.first.now) (rules_of c.args.names.now c.in-Some.more.now) (ap (rules_of c.args.names.now) c.in-Some.ensures.cases.0))
+    (adds_more (with_full_stop (rule_text (rule_of c.args.names.now c.in-Some.first.now))) _ _ _ _ (adds_more (rule_text (rule_of c.args.names.now c.in-Some.first.now)) (codes ".") _ _ _ c.add_rule.ensures c.add.ensures) c.add_more_rules.ensures)

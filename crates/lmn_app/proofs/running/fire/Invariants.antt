@@ -1,8 +1,12 @@
-use Rattle.std.proofs.Common.{◌≡◌, drop}
-use Rattle.lmn_app.specs.Programs.{names_of}
+use Rattle.std.proofs.Common.{◌≡◌, List, drop}
+use Rattle.lmn_base.specs.Names.{IsNames}
+use Rattle.lmn_congruence.specs.Rules.{Name}
+use Rattle.lmn_app.specs.Programs.{labels_of, HasLabels}
 use Rattle.lmn_app.specs.Firings.{without_all}
 use Rattle.lmn_app.proofs.running.fire.Given as goal
 
-abbrev pub invariant-loop-name : goal.invariant-loop-name
-invariant-loop-name l =
-    without_all (names_of (drop l.name-index l.name-items)) (names_of l.atoms.items) ≡ without_all (names_of l.name-items) (names_of l.initial.atoms.items)
+abbrev pub invariant-loop-label : goal.invariant-loop-label
+invariant-loop-label l =
+    (names : List Name) → IsNames names → HasLabels names l.label-items → HasLabels names l.initial.atoms.items
+    → (without_all (labels_of names (drop l.label-index l.label-items)) (labels_of names l.atoms.items) ≡ without_all (labels_of names l.label-items) (labels_of names l.initial.atoms.items))
+    × HasLabels names l.atoms.items

@@ -1,8 +1,11 @@
-use Rattle.std.proofs.Common.{◌≤◌, take}
+use Rattle.std.proofs.Common.{List, take}
 use Rattle.std.specs.Prelude.{All}
-use Rattle.lmn_app.specs.Programs.{names_of}
-use Rattle.lmn_app.specs.Firings.{count_of}
+use Rattle.lmn_base.specs.Names.{IsNames}
+use Rattle.lmn_congruence.specs.Rules.{Name}
+use Rattle.lmn_app.specs.Programs.{HasLabels}
+use Rattle.lmn_app.proofs.RunningLemmas.{IsCounted}
 use Rattle.lmn_app.proofs.running.is_among.Given as goal
 
-abbrev pub invariant-loop-name : goal.invariant-loop-name
-invariant-loop-name l = All (λ name. count_of name.now (names_of l.head) ≤ count_of name.now (names_of l.atoms)) (take l.name-index l.head)
+abbrev pub invariant-loop-label : goal.invariant-loop-label
+invariant-loop-label l =
+    (names : List Name) → IsNames names → HasLabels names l.head → HasLabels names l.atoms → All (IsCounted names l.head l.atoms) (take l.label-index l.head)

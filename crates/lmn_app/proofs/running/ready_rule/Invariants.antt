@@ -1,7 +1,9 @@
-use Rattle.std.proofs.Common.{take}
-use Rattle.lmn_app.specs.Programs.{names_of, rules_of}
+use Rattle.std.proofs.Common.{List, take}
+use Rattle.lmn_congruence.specs.Rules.{Name}
+use Rattle.lmn_app.specs.Programs.{labels_of, rules_of, NamesAll}
 use Rattle.lmn_app.specs.Firings.{NoneCovered}
 use Rattle.lmn_app.proofs.running.ready_rule.Given as goal
 
 abbrev pub invariant-loop-rule : goal.invariant-loop-rule
-invariant-loop-rule l = NoneCovered (rules_of (take l.rule-index l.rules)) (names_of l.atoms)
+invariant-loop-rule l =
+    (names : List Name) → NamesAll names l.atoms l.rules → NoneCovered (rules_of names (take l.rule-index l.rules)) (labels_of names l.atoms)

@@ -1,9 +1,16 @@
+use Rattle.std.proofs.Common.{inr}
 use Rattle.lmn_app.specs.Runs.{Accepts}
 use Rattle.lmn_app.proofs.OutcomeLemmas.{reason_effects}
+use Rattle.lmn_app.proofs.TextLemmas.{refusal_code}
 use Rattle.lmn_app.proofs.top.run_text.Goals as goal
 
 pub returns-in-Ok-run_program-clause-effects : goal.returns-in-Ok-run_program-clause-effects
 returns-in-Ok-run_program-clause-effects g c =
     let read = c.in-Ok.ensures.read in
-    let accepted : Accepts c.args.text.now read.0 = record { short = c.requires; reads = read.1; within = read.2 } in
+    let accepted : Accepts c.args.text.now read.0 = record { short = c.requires; language = c.in-Ok.ensures.language; reads = read.1; within = read.2 } in
     rw c.ending_of.ensures (reason_effects c.in-Ok-run_program.stop _ _ _ _ _ (c.in-Ok-run_program.ensures.wrote c.args.text.now read.0 accepted read.3) c.in-Ok-run_program.ensures.same)
+
+pub returns-in-Err-Refused-clause-causes : goal.returns-in-Err-Refused-clause-causes
+returns-in-Err-Refused-clause-causes g c = λ words before after form.
+    let refused = rw c.in-Err-Refused.field-0-is at c.in-Err-Refused.ensures.refused in
+    (form, inr (c.requires, refused), refusal_code _ _ refused)

@@ -1,7 +1,7 @@
 use Rattle.std.proofs.Common.{sym}
 use Rattle.std.proofs.lemmas.Result.{IfOk-weaker}
 use Rattle.lmn_app.specs.FirstGrammar.{RuleClause, rule_clause}
-use Rattle.lmn_app.specs.Programs.{rule_of}
+use Rattle.lmn_app.specs.Spelled.{rule_of}
 use Rattle.lmn_app.proofs.ExtendsLaws.{extends_rule}
 use Rattle.lmn_app.proofs.ClauseLaws.{clause_from_items, clause_from_no_rule, only_rule}
 use Rattle.lmn_app.proofs.reading.parser.clause.Goals as goal

@@ -1,6 +1,6 @@
 use Rattle.std.proofs.Common.{◌+◌}
 use Rattle.lmn_app.specs.FirstGrammar.{AtomItem, RuleItem}
-use Rattle.lmn_app.specs.Programs.{rule_of}
+use Rattle.lmn_app.specs.Spelled.{rule_of}
 use Rattle.lmn_app.specs.Reading.{left}
 use Rattle.lmn_app.proofs.ExtendsLaws.{extends_atom, extends_rule}
 use Rattle.lmn_app.proofs.SoFar.{atom_there, rule_there}

@@ -1,7 +1,7 @@
 use Rattle.std.proofs.Common.{◌+◌, ◌∷◌, ◌∙◌, ap, arith, List}
 use Rattle.std.proofs.lemmas.List.{map_push}
 use Rattle.lmn_app.specs.FirstGrammar.{Lexeme, Name}
-use Rattle.lmn_app.specs.Programs.{names_of}
+use Rattle.lmn_app.specs.Spelled.{names_of}
 use Rattle.lmn_app.specs.Reading.{left}
 use Rattle.lmn_app.proofs.SoFar.{names_first, names_more, names_last, names_none}
 use Rattle.lmn_app.proofs.reading.parser.names.Goals as goal

@@ -1,5 +1,5 @@
 use Rattle.std.proofs.Common.{◌-◌, ◌≤◌, length}
-use Rattle.lmn_app.specs.Programs.{names_of}
+use Rattle.lmn_app.specs.Spelled.{names_of}
 use Rattle.lmn_app.specs.Reading.{left}
 use Rattle.lmn_app.proofs.SoFar.{AreNamesSoFar}
 use Rattle.lmn_app.proofs.reading.parser.names.Given as goal

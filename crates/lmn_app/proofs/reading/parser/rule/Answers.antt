@@ -1,5 +1,5 @@
 use Rattle.std.proofs.Common.{◌+◌}
-use Rattle.lmn_app.specs.Programs.{names_of}
+use Rattle.lmn_app.specs.Spelled.{names_of}
 use Rattle.lmn_app.specs.Reading.{left}
 use Rattle.lmn_app.proofs.PlaceLaws.{no_name_at, some_name_at}
 use Rattle.lmn_app.proofs.SoFar.{no_arrow, without_body, only_head, broken_body, with_body, only_body}
