@@ -11,6 +11,7 @@ pub mod Plains
 pub mod UpToOrder
 pub mod FreeLinks
 pub mod LinkMaps
+pub mod Weights
 pub mod Laws
 pub mod Translation
 pub mod TranslationLaws

@@ -5,6 +5,7 @@
 #![tactic(auto)]
 
 ghost use Rattle.lmn_congruence.specs.Laws.{BothSidesLinked, SameFreeLinks, CongruentSolids};
+ghost use Rattle.lmn_congruence.specs.Weights.{SameWeight};
 
 pub mod examples;
 pub mod reduction;
@@ -20,6 +21,13 @@ pub fn both_sides_are_linked()
 #[tactic(auto, using(crate::proofs::LinkMaps::same_free_links))]
 pub fn free_links_are_kept()
     ensures { SameFreeLinks }
+{}
+
+/// Congruent processes have as many atoms of each label outside membranes, and as many membranes there: whatever these
+/// weigh, they weigh the same.
+#[tactic(auto, using(crate::proofs::KeptWeights::same_weight))]
+pub fn weights_are_kept()
+    ensures { SameWeight }
 {}
 
 /// Two solids have congruent processes exactly where they are the same up to the order of lists and the

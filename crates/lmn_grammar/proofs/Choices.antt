@@ -5,7 +5,6 @@ use Rattle.lmn_grammar.specs.Reading.{Owed, is_kind, after, next, may_be_empty, 
 use Rattle.lmn_lexer.specs.declared.token.Kind.{Kind}
 use Rattle.lmn_lexer.specs.declared.token.Kind.TheVariants.{Comma}
 use Rattle.lmn_grammar.proofs.Stops.{alike, dead_at, dead_here, stop_at_from, other_there, tok_dead, tok_taken}
-use Rattle.lmn_grammar.proofs.Theory.{is_itself}
 use Rattle.lmn_grammar.proofs.SameLanguage.{seq, alt, opt, many}
 
 -- What is owed behind an expression doesn't matter for whether it takes a token.
@@ -102,10 +101,7 @@ many_none ts p e κ h m = right_of _ _ _ p (many ts p e κ) (omega (arith, not_b
 pub many_some : (ts : List Kind) (p : ℕ) (e : Exp) (κ : Owed) → stop_at ts p (κ ∷ []) ≡ p → stop_at ts p ((Many e ∷ κ) ∷ []) ≡ stop_at ts p ((e ∷ Many e ∷ κ) ∷ [])
 many_some ts p e κ h = left_of _ _ _ p (many ts p e κ) (omega (arith, h, stop_at_from ts p ((e ∷ Many e ∷ κ) ∷ [])))
 
--- A token is there or not.
-pub is_there : (ts : List Kind) (p : ℕ) (k : Kind) → slice_get ts p ≡ Some k → begins (Tok k) (slice_get ts p) ≡ true
-is_there ts p k h = ap (begins (Tok k)) h ∙ ap (λ b. has_some (if b then [] ∷ [] else [])) (is_itself k k refl)
-
+-- A token isn't there.
 pub not_there : (ts : List Kind) (p : ℕ) (k : Kind) → (slice_get ts p ≡ Some k → ⊥) → begins (Tok k) (slice_get ts p) ≡ false
 not_there ts p k other = go (slice_get ts p) refl
   where

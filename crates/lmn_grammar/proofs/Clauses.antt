@@ -1,13 +1,13 @@
 -- Lists, rules, clauses and programs as a reader comes to them.
 use Rattle.std.proofs.Common.{◌≡◌, ℕ, ◌+◌, ◌≤◌, max, Bool, true, false, List, [], ◌∷◌, ◌++◌, slice_get, Option, Some, refl, sym, ◌∙◌, ap, arith, inl, inr, append_assoc}
-use Rattle.lmn_grammar.specs.Grammar.{Exp, Tok, Opt, Many, Ref, TermPart, ClausePart, ClausesPart, Derives, both, without, with, no_more, one_more, by, ◌·◌, more_of, name, arguments, item, list, body, heads, rule, program}
+use Rattle.lmn_grammar.specs.Grammar.{Exp, Tok, Opt, Many, Ref, TermPart, ClausePart, ClausesPart, Derives, both, without, with, no_more, one_more, by, ◌·◌, more_of, name, arguments, item, list, heads, rule, program}
 use Rattle.lmn_grammar.specs.Factored.{atom_name, right_side, arrow, rule_tail, more_clauses}
 use Rattle.lmn_grammar.specs.Reading.{is_end, NoMore, EndsOptList, Owed, next, stop_at, begins, NoArgs, EndsItem, EndsList, OnlyClosers, OnlyEnds, is_closer}
 use Rattle.lmn_lexer.specs.declared.token.Kind.{Kind}
 use Rattle.lmn_lexer.specs.declared.token.Kind.TheVariants.{Name, Quoted, Mod, End, LParen, RParen, LBracket, RBrace, Comma, Dot, Arrow, AtAt, Backslash, Equal}
 use Rattle.lmn_grammar.proofs.Stops.{dead_owed, dead_here, plus_nothing, stop_at_from, tok_taken, tok_dead}
 use Rattle.lmn_grammar.proofs.SameLanguage.{owed_alike, same_behind, same_first, seq_split, seq, alt, opt, opt_behind, ref, seq_parts, opt_parts, many_parts, ref_parts}
-use Rattle.lmn_grammar.proofs.Choices.{begins_first, not_begun, opt_none, opt_some, many_none, sign_taken, sign_dead, opt_sign_taken, opt_sign_none}
+use Rattle.lmn_grammar.proofs.Choices.{begins_first, not_begun, opt_none, opt_some, many_none, opt_sign_taken, opt_sign_none}
 use Rattle.lmn_grammar.proofs.Items.{clash, Apart, derives_along, nothing_behind, name_taken, atom_taken, item_atom}
 
 -- What ends a clause ends its parts.
@@ -92,12 +92,6 @@ list_before_tail : Apart list rule_tail
 list_before_tail (Some Arrow) h = absurd (clash h)
 list_before_tail (Some Backslash) h = absurd (clash h)
 list_before_tail _ h = refl
-
-pub arrow_taken : (ts : List Kind) (p : ℕ) (κ : Owed) → slice_get ts p ≡ Some Arrow → stop_at ts p ((arrow ∷ κ) ∷ []) ≡ stop_at ts (p + 1) ((body ∷ κ) ∷ [])
-arrow_taken ts p κ h = sign_taken ts p Arrow body κ h
-
-pub arrow_none : (ts : List Kind) (p : ℕ) (κ : Owed) → (slice_get ts p ≡ Some Arrow → ⊥) → stop_at ts p ((arrow ∷ κ) ∷ []) ≡ p
-arrow_none ts p κ h = sign_dead ts p Arrow body κ h
 
 -- the second list of a rule's heads
 pub tail_backslash : (ts : List Kind) (p : ℕ) (κ : Owed) → slice_get ts p ≡ Some Backslash → stop_at ts p ((rule_tail ∷ κ) ∷ []) ≡ stop_at ts (p + 1) ((Opt list ∷ arrow ∷ κ) ∷ [])

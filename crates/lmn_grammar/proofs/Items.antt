@@ -7,7 +7,6 @@ use Rattle.lmn_lexer.specs.declared.token.Kind.{Kind}
 use Rattle.lmn_lexer.specs.declared.token.Kind.TheVariants.{Name, Quoted, Mod, Link, Int, Context, RuleCtx, LParen, RParen, LBracket, LBrace, Plus}
 use Rattle.lmn_grammar.proofs.Stops.{advance, alike, plus_nothing, swap}
 use Rattle.lmn_grammar.proofs.SameLanguage.{exp_alike, seq, seq_parts, alt_parts, opt_parts, ref_parts}
-use Rattle.lmn_grammar.proofs.Choices.{not_begun}
 
 -- Items.
 abbrev item_read : Exp
@@ -144,6 +143,3 @@ item_link ts p κ h = advance ts p _ Link (right_side ∷ κ) [] h refl
 
 pub item_tlist : (ts : List Kind) (p : ℕ) (κ : Owed) → slice_get ts p ≡ Some LBracket → stop_at ts p ((item ∷ κ) ∷ []) ≡ stop_at ts p ((tlist ∷ right_side ∷ κ) ∷ [])
 item_tlist ts p κ h = swap ts p _ _ LBracket h refl
-
-pub item_none : (ts : List Kind) (p : ℕ) (κ : Owed) → begins item (slice_get ts p) ≡ false → stop_at ts p ((item ∷ κ) ∷ []) ≡ p
-item_none ts p κ h = not_begun ts p item κ h refl

@@ -115,10 +115,6 @@ tok_dead ts p k κ other = dead_at ts p ((Tok k ∷ κ) ∷ []) (λ t h. ap (λ 
 pub tok_taken : (ts : List Kind) (p : ℕ) (k : Kind) (κ : Owed) → slice_get ts p ≡ Some k → stop_at ts p ((Tok k ∷ κ) ∷ []) ≡ stop_at ts (p + 1) (κ ∷ [])
 tok_taken ts p k κ h = advance ts p _ k κ [] h (ap (λ b. ((if b then κ ∷ [] else []) ++ []) ++ []) (is_itself k k refl))
 
-pub within_dead : (ts : List Kind) (p : ℕ) (b : Bracket) (e : Exp) (κ : Owed) → (slice_get ts p ≡ Some (opener b) → ⊥) → stop_at ts p ((Within b e ∷ κ) ∷ []) ≡ p
-within_dead ts p b e κ other = dead_at ts p ((Within b e ∷ κ) ∷ [])
-    (λ t h. ap (λ x. ((if x then (e ∷ Tok (closer b) ∷ κ) ∷ [] else []) ++ []) ++ []) (other_there ts p (opener b) t other h))
-
 pub within_taken : (ts : List Kind) (p : ℕ) (b : Bracket) (e : Exp) (κ : Owed) → slice_get ts p ≡ Some (opener b) →
     stop_at ts p ((Within b e ∷ κ) ∷ []) ≡ stop_at ts (p + 1) ((e ∷ Tok (closer b) ∷ κ) ∷ [])
 within_taken ts p b e κ h = advance ts p _ (opener b) (e ∷ Tok (closer b) ∷ κ) [] h

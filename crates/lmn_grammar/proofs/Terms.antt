@@ -1,15 +1,15 @@
 -- Terms, sums and conditions as a reader comes to them.
 use Rattle.std.proofs.Common.{◌≡◌, ℕ, ◌+◌, ◌≤◌, max, true, false, List, [], ◌∷◌, slice_get, Option, Some, None, refl, sym, ◌∙◌, ap, arith}
-use Rattle.lmn_grammar.specs.Grammar.{Exp, Tok, Opt, Many, Within, Ref, Round, Square, TermPart, SumPart, ◌·◌, ◌∣◌, more_of, some_of, name, arguments, atom, membrane, tlist, item, fact, product, cmp, cond, guard}
-use Rattle.lmn_grammar.specs.Factored.{atom_name, item_tail, right_side, context_tail, contexts, times, plus, guard_bar}
+use Rattle.lmn_grammar.specs.Grammar.{Exp, Tok, Opt, Many, Within, Ref, Round, Square, TermPart, SumPart, ◌·◌, ◌∣◌, more_of, some_of, name, arguments, atom, membrane, tlist, fact, product, cmp, cond, guard}
+use Rattle.lmn_grammar.specs.Factored.{atom_name, right_side, context_tail, contexts, times, plus, guard_bar}
 use Rattle.lmn_grammar.specs.Reading.{nexts, is_kind, Owed, next, stop_at, begins, NoArgs, EndsItem, EndsProduct, EndsSum, EndsCond}
 use Rattle.lmn_lexer.specs.declared.token.Kind.{Kind}
-use Rattle.lmn_lexer.specs.declared.token.Kind.TheVariants.{Name, Quoted, Mod, Link, Int, Context, RuleCtx, LParen, RParen, LBracket, RBracket, LBrace, Bar, Equal, Less, LessEq, Greater, GreaterEq, NumEq, NumNe, Differ, Plus, Minus, Star, Slash}
+use Rattle.lmn_lexer.specs.declared.token.Kind.TheVariants.{Name, Quoted, Mod, Link, Int, Context, LParen, RParen, LBracket, RBracket, LBrace, Bar, Equal, Less, LessEq, Greater, GreaterEq, NumEq, NumNe, Differ, Plus, Minus, Star, Slash}
 use Rattle.lmn_grammar.proofs.Theory.{is_itself}
 use Rattle.lmn_grammar.proofs.Stops.{swap, same_some, stop_nothing, advance, dead_here, stop_at_from, tok_taken, tok_dead, within_taken}
 use Rattle.lmn_grammar.proofs.SameLanguage.{seq, seq3, alt, ref}
 use Rattle.lmn_grammar.proofs.Choices.{begins_first, not_begun, alt_left, alt_right, opt_none, opt_some, many_none, many_some, not_opened, sign_taken, sign_dead, opt_before}
-use Rattle.lmn_grammar.proofs.Items.{clash, Apart, TakesOne, one_taken, alike_at, name_taken, item_atom, item_membrane, item_context, item_link, item_tlist, item_none}
+use Rattle.lmn_grammar.proofs.Items.{clash, Apart, TakesOne, one_taken, alike_at, name_taken}
 
 -- A term.
 pub term_link : (ts : List Kind) (p : ℕ) (κ : Owed) → slice_get ts p ≡ Some Link → stop_at ts p ((Ref TermPart ∷ κ) ∷ []) ≡ stop_at ts (p + 1) (κ ∷ [])
@@ -33,46 +33,6 @@ term_membrane ts p κ h = swap ts p _ _ LBrace h refl
 
 pub term_tlist : (ts : List Kind) (p : ℕ) (κ : Owed) → slice_get ts p ≡ Some LBracket → stop_at ts p ((Ref TermPart ∷ κ) ∷ []) ≡ stop_at ts p ((tlist ∷ κ) ∷ [])
 term_tlist ts p κ h = swap ts p _ _ LBracket h refl
-
-pub term_none : (ts : List Kind) (p : ℕ) (κ : Owed) → begins (Ref TermPart) (slice_get ts p) ≡ false → stop_at ts p ((Ref TermPart ∷ κ) ∷ []) ≡ p
-term_none ts p κ h = not_begun ts p (Ref TermPart) κ h refl
-
--- Items that begin with a term.
-pub item_by_term : (ts : List Kind) (p : ℕ) (κ : Owed) → (slice_get ts p ≡ Some RuleCtx → ⊥) → (slice_get ts p ≡ Some Plus → ⊥) → (slice_get ts p ≡ Some LParen → ⊥) →
-    stop_at ts p ((item ∷ κ) ∷ []) ≡ stop_at ts p ((Ref TermPart ∷ item_tail (slice_get ts p) ∷ κ) ∷ [])
-item_by_term ts p κ r l g = go (slice_get ts p) refl
-  where
-    behind : Option Kind → ℕ
-    behind o = stop_at ts p ((Ref TermPart ∷ item_tail o ∷ κ) ∷ [])
-
-    an_atom : (t : Kind) → begins atom_name (Some t) ≡ true → slice_get ts p ≡ Some t → stop_at ts p ((item ∷ κ) ∷ []) ≡ stop_at ts p ((Ref TermPart ∷ Opt right_side ∷ κ) ∷ [])
-    an_atom t b h = item_atom ts p κ (ap (begins atom_name) h ∙ b) ∙ sym (term_atom ts p (Opt right_side ∷ κ) (ap (begins atom_name) h ∙ b))
-
-    nothing : (o : Option Kind) → begins item o ≡ false → begins (Ref TermPart) o ≡ false → slice_get ts p ≡ o → stop_at ts p ((item ∷ κ) ∷ []) ≡ stop_at ts p ((Ref TermPart ∷ right_side ∷ κ) ∷ [])
-    nothing o i m h = item_none ts p κ (ap (begins item) h ∙ i) ∙ sym (term_none ts p (right_side ∷ κ) (ap (begins (Ref TermPart)) h ∙ m))
-
-    go : (o : Option Kind) → slice_get ts p ≡ o → stop_at ts p ((item ∷ κ) ∷ []) ≡ stop_at ts p ((Ref TermPart ∷ item_tail (slice_get ts p) ∷ κ) ∷ [])
-    go (Some RuleCtx) h = absurd (r h)
-    go (Some Plus) h = absurd (l h)
-    go (Some LParen) h = absurd (g h)
-    go (Some Name) h = an_atom Name refl h ∙ ap behind (sym h)
-    go (Some Quoted) h = an_atom Quoted refl h ∙ ap behind (sym h)
-    go (Some Mod) h = an_atom Mod refl h ∙ ap behind (sym h)
-    go (Some Int) h = an_atom Int refl h ∙ ap behind (sym h)
-    go (Some LBrace) h = item_membrane ts p κ h ∙ sym (term_membrane ts p (Opt right_side ∷ κ) h) ∙ ap behind (sym h)
-    go (Some Context) h = item_context ts p κ h ∙ sym (term_context ts p (context_tail ∷ κ) h) ∙ ap behind (sym h)
-    go (Some Link) h = item_link ts p κ h ∙ sym (term_link ts p (right_side ∷ κ) h) ∙ ap behind (sym h)
-    go (Some LBracket) h = item_tlist ts p κ h ∙ sym (term_tlist ts p (right_side ∷ κ) h) ∙ ap behind (sym h)
-    go o h = nothing o refl refl h ∙ ap behind (sym h)
-
-pub ends_item_tail : (o : Option Kind) (κ : Owed) → EndsItem κ → NoArgs (item_tail o ∷ κ)
-ends_item_tail (Some Name) κ n = n.0
-ends_item_tail (Some Quoted) κ n = n.0
-ends_item_tail (Some Mod) κ n = n.0
-ends_item_tail (Some Int) κ n = n.0
-ends_item_tail (Some LBrace) κ n = n.0
-ends_item_tail (Some Context) κ n = n.0
-ends_item_tail _ κ n = refl
 
 -- Arguments.
 pub arguments_some : (ts : List Kind) (p : ℕ) (κ : Owed) → NoArgs κ → slice_get ts p ≡ Some LParen →
@@ -114,12 +74,6 @@ fact_int ts p κ h = advance ts p ((fact ∷ κ) ∷ []) Int κ [] h refl
 
 pub fact_context : (ts : List Kind) (p : ℕ) (κ : Owed) → slice_get ts p ≡ Some Context → stop_at ts p ((fact ∷ κ) ∷ []) ≡ stop_at ts (p + 1) (κ ∷ [])
 fact_context ts p κ h = advance ts p ((fact ∷ κ) ∷ []) Context κ [] h refl
-
-pub fact_group : (ts : List Kind) (p : ℕ) (κ : Owed) → slice_get ts p ≡ Some LParen → stop_at ts p ((fact ∷ κ) ∷ []) ≡ stop_at ts (p + 1) ((Ref SumPart ∷ Tok RParen ∷ κ) ∷ [])
-fact_group ts p κ h = advance ts p ((fact ∷ κ) ∷ []) LParen (Ref SumPart ∷ Tok RParen ∷ κ) [] h refl
-
-pub fact_none : (ts : List Kind) (p : ℕ) (κ : Owed) → begins fact (slice_get ts p) ≡ false → stop_at ts p ((fact ∷ κ) ∷ []) ≡ p
-fact_none ts p κ h = not_begun ts p fact κ h refl
 
 times_one : TakesOne times
 times_one Star κ h = refl

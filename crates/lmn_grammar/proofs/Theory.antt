@@ -280,18 +280,6 @@ sound_nexts (x ∷ s) t w (κ, i, d) = elim (in_either κ (next x t) (nexts s t)
   | inr h ↦ let r = sound_nexts s t w (κ, h, d) in (r.0, inr r.1, r.2)
 ]
 
-abbrev pub runs : List Owed → List Kind → List Owed
-runs s [] = s
-runs s (t ∷ u) = runs (nexts s t) u
-
-pub complete_runs : (s : List Owed) (u v : List Kind) → Found s (u ++ v) → Found (runs s u) v
-complete_runs s [] v h = h
-complete_runs s (t ∷ u) v h = complete_runs (nexts s t) u v (complete_nexts s t (u ++ v) h)
-
-pub sound_runs : (s : List Owed) (u v : List Kind) → Found (runs s u) v → Found s (u ++ v)
-sound_runs s [] v h = h
-sound_runs s (t ∷ u) v h = sound_nexts s t (u ++ v) (sound_runs (nexts s t) u v h)
-
 -- Each expression derives something.
 completed : (e : Exp) → (w : List Kind) × Derives e w
 completed (Tok k) = (k ∷ [], here k)

@@ -1,8 +1,6 @@
 -- Parts of the grammar as a reader comes to them, one choice at a token.
-use Rattle.std.specs.Prelude.{Option, Some}
 use Rattle.lmn_grammar.specs.Grammar.{Exp, Tok, Opt, Within, Ref, ◌·◌, ◌∣◌, Round, Square, TermPart, ClausesPart, some_of, name, list, body, guard}
-use Rattle.lmn_lexer.specs.declared.token.Kind.{Kind}
-use Rattle.lmn_lexer.specs.declared.token.Kind.TheVariants.{Name, Quoted, LBrace, Int, Context, Link, Dot, Arrow, Bar, Backslash, Equal, Star, Slash, Mod, Plus, Minus}
+use Rattle.lmn_lexer.specs.declared.token.Kind.TheVariants.{Int, Context, Link, Dot, Arrow, Bar, Backslash, Equal, Star, Slash, Mod, Plus, Minus}
 
 -- what an atom begins with
 abbrev pub atom_name : Exp
@@ -39,13 +37,3 @@ rule_tail = Opt (Tok Backslash · Opt list) · arrow
 -- behind a clause
 abbrev pub more_clauses : Exp
 more_clauses = Opt (Tok Dot · Ref ClausesPart)
-
--- behind the term with which an item begins, by the token with which the term begins
-abbrev pub item_tail : Option Kind → Exp
-item_tail (Some Name) = Opt right_side
-item_tail (Some Quoted) = Opt right_side
-item_tail (Some Mod) = Opt right_side
-item_tail (Some Int) = Opt right_side
-item_tail (Some LBrace) = Opt right_side
-item_tail (Some Context) = context_tail
-item_tail _ = right_side

@@ -1,28 +1,32 @@
 -- How a text whose parts are known is cut, part by part.
-use Rattle.std.proofs.Common.{◌≡◌, ℕ, ◌+◌, Bool, true, false, if◌then◌else◌, List, [], ◌∷◌, ◌++◌, length, take, drop, refl, ap, ◌∙◌, subst, arith}
+use Rattle.std.proofs.Common.{◌≡◌, ℕ, ◌+◌, ◌==◌, Bool, true, if◌then◌else◌, List, [], ◌∷◌, ◌++◌, length, take, drop, inl, inr, refl, sym, ap, ◌∙◌, subst, arith}
+use Rattle.std.specs.Prelude.{codes}
 use Rattle.std.specs.List.{prefix_len}
 use Rattle.std.specs.Char.{is_ascii_lowercase, is_ascii_digit, is_ascii_whitespace}
-use Rattle.std.proofs.lemmas.List.{length-append, take_at, take-append-drop, length-take-le}
+use Rattle.std.proofs.lemmas.List.{length-append, append_assoc, take_at, take-append-drop, length-take-le}
 use Rattle.lmn_lexer.specs.declared.token.Kind.{Kind}
-use Rattle.lmn_lexer.specs.declared.token.Kind.TheVariants.{Quoted, Int, Minus}
+use Rattle.lmn_lexer.specs.declared.token.Kind.TheVariants.{Name, Quoted, Mod, Int, LParen, RParen, Comma, Dot, Arrow, Minus}
 use Rattle.lmn_lexer.specs.declared.token.Token.{Token}
 use Rattle.lmn_lexer.specs.declared.piece.Piece.TheVariants as piece
-use Rattle.lmn_lexer.specs.Spelling.{goes_on, IsWord, IsDigits, Quotes}
+use Rattle.lmn_lexer.specs.Spelling.{goes_on, IsWord, IsDigits, IsInteger, IsQuoted, Spells}
 use Rattle.lmn_lexer.specs.Gaps.{separator}
 use Rattle.lmn_lexer.specs.Cutting.{BeginsToken, gap, token, Reaches, onward, minus_behind, token_at}
-use Rattle.lmn_lexer.specs.Scanning.{follows, digit_bytes, word_kind, quoted_behind, piece_of}
-use Rattle.lmn_lexer.proofs.Runs.{Stops, run_exact}
+use Rattle.lmn_lexer.specs.Scanning.{digit_bytes, word_kind, quoted_behind, piece_of}
+use Rattle.lmn_lexer.proofs.Runs.{run_exact}
+use Rattle.lmn_lexer.specs.Laying.{Stops, MayFollow}
 use Rattle.lmn_lexer.proofs.Exact.{lower_piece, digit_piece}
-use Rattle.lmn_lexer.proofs.OnePiece.{quoted_past}
+use Rattle.lmn_lexer.proofs.OnePiece.{not_mod, quoted_past, gap_piece}
 use Rattle.lmn_lexer.proofs.Determined.{token_stands, token_found, same_front}
 
 -- steps
 
-pub blank_off : {text before rest after : List ℕ} {tokens : List Token} (b : ℕ) → Reaches text (record { before = before; tokens = tokens; rest = rest })
-    → rest ≡ b ∷ after → is_ascii_whitespace b ≡ true → Reaches text (record { before = before ++ b ∷ []; tokens = tokens; rest = after })
+pub blank_off : {text before rest after : List ℕ} {tokens : List Token} (b : ℕ)
+    → Reaches text (record { before = before; tokens = tokens; rest = rest }) → rest ≡ b ∷ after → is_ascii_whitespace b ≡ true
+    → Reaches text (record { before = before ++ b ∷ []; tokens = tokens; rest = after })
 blank_off {after = after} b h e s = onward h (gap e (separator b after s))
 
-token_begins : (minus : Bool) (kind : Kind) (bytes after text : List ℕ) → text ≡ bytes ++ after → piece_of minus text ≡ piece.Token kind (length bytes) → BeginsToken minus kind bytes after text
+token_begins : (minus : Bool) (kind : Kind) (bytes after text : List ℕ) → text ≡ bytes ++ after
+    → piece_of minus text ≡ piece.Token kind (length bytes) → BeginsToken minus kind bytes after text
 token_begins minus kind bytes after [] e p = absurd (cc)
 token_begins minus kind bytes after (b ∷ bs) e p =
     let t = token_found minus kind b bs (length bytes) p in
@@ -33,15 +37,23 @@ token_begins minus kind bytes after (b ∷ bs) e p =
     let Q : List ℕ → Type 0 = λ x. BeginsToken minus kind bytes x (b ∷ bs) in
     subst Q same.1 (subst P same.0 t)
 
-pub token_off : {text before rest : List ℕ} {tokens : List Token} (kind : Kind) (bytes after : List ℕ) → Reaches text (record { before = before; tokens = tokens; rest = rest })
+pub token_off : {text before rest : List ℕ} {tokens : List Token} (kind : Kind) (bytes after : List ℕ)
+    → Reaches text (record { before = before; tokens = tokens; rest = rest })
     → rest ≡ bytes ++ after → piece_of (minus_behind tokens) rest ≡ piece.Token kind (length bytes)
     → Reaches text (record { before = before ++ bytes; tokens = tokens ++ token_at kind before bytes ∷ []; rest = after })
 token_off {rest = rest} {tokens = tokens} kind bytes after h e p = onward h (token (token_begins (minus_behind tokens) kind bytes after rest e p))
 
 -- what stands first
 
+-- these bytes are found as a token of this kind
+abbrev pub IsFirst : Bool → Kind → List ℕ → List ℕ → Type 0
+IsFirst minus kind bytes after = piece_of minus (bytes ++ after) ≡ piece.Token kind (length bytes)
+
+pub blank_first : (minus : Bool) (b : ℕ) (after : List ℕ) → is_ascii_whitespace b ≡ true → piece_of minus (b ∷ after) ≡ piece.Gap 1
+blank_first minus b after s = gap_piece minus (separator b after s)
+
 -- a name that isn't quoted
-pub name_first : (minus : Bool) (bytes after : List ℕ) → IsWord is_ascii_lowercase bytes → Stops goes_on after → piece_of minus (bytes ++ after) ≡ piece.Token (word_kind bytes) (length bytes)
+name_first : (minus : Bool) (bytes after : List ℕ) → IsWord is_ascii_lowercase bytes → Stops goes_on after → IsFirst minus (word_kind bytes) bytes after
 name_first minus [] after h s = absurd h
 name_first minus (b ∷ bs) after h s =
     let run = run_exact goes_on bs after h.1 s in
@@ -50,27 +62,57 @@ name_first minus (b ∷ bs) after h s =
     ∙ ap (λ m. piece.Token (word_kind (take m (b ∷ (bs ++ after)))) m) n
     ∙ ap (λ x. piece.Token (word_kind x) (length (b ∷ bs))) (take_at (b ∷ bs) after (length (b ∷ bs)) refl)
 
--- an integer that isn't negative
-pub integer_first : (minus : Bool) (bytes after : List ℕ) → IsDigits bytes → Stops is_ascii_digit after → piece_of minus (bytes ++ after) ≡ piece.Token Int (length bytes)
-integer_first minus [] after h s = absurd h
-integer_first minus (b ∷ bs) after h s =
+-- the same, or `mod`
+word_text : (minus : Bool) (kind : Kind) (bytes after : List ℕ) → IsWord is_ascii_lowercase bytes → word_kind bytes ≡ kind → Stops goes_on after
+    → IsFirst minus kind bytes after
+word_text minus kind bytes after h k s = name_first minus bytes after h s ∙ ap (λ x. piece.Token x (length bytes)) k
+
+-- digits
+digits_first : (minus : Bool) (bytes after : List ℕ) → IsDigits bytes → Stops is_ascii_digit after → IsFirst minus Int bytes after
+digits_first minus [] after h s = absurd h
+digits_first minus (b ∷ bs) after h s =
     let run = run_exact is_ascii_digit bs after h.1 s in
     digit_piece minus b (bs ++ after) h.0 ∙ ap (λ m. piece.Token Int m) (omega arith)
 
--- a negative integer, where a `-` may begin one
-pub negative_first : (bytes after : List ℕ) → IsDigits bytes → Stops is_ascii_digit after → piece_of true (45 ∷ (bytes ++ after)) ≡ piece.Token Int (length (45 ∷ bytes))
+-- a `-` and digits, where it may begin an integer
+negative_first : (bytes after : List ℕ) → IsDigits bytes → Stops is_ascii_digit after → IsFirst true Int (45 ∷ bytes) after
 negative_first [] after h s = absurd h
 negative_first (b ∷ bs) after h s =
     let run = run_exact is_ascii_digit (b ∷ bs) after (h.0, h.1) s in
     ap (λ t. if t then piece.Token Int (1 + digit_bytes (b ∷ (bs ++ after))) else piece.Token Minus 1) h.0 ∙ ap (λ m. piece.Token Int m) (omega arith)
 
-closed_here : (n : ℕ) (after : List ℕ) → follows 39 after ≡ false → quoted_behind n (39 ∷ after) ≡ piece.Token Quoted (n + 1)
+integer_first : (minus : Bool) (bytes after : List ℕ) → IsInteger minus bytes → Stops is_ascii_digit after → IsFirst minus Int bytes after
+integer_first minus [] after h s = absurd h
+integer_first minus (b ∷ bs) after (inl h) s = digits_first minus (b ∷ bs) after h s
+integer_first minus (b ∷ bs) after (inr (m, e, h)) s =
+    ap (λ x. piece_of minus (x ∷ (bs ++ after))) e ∙ ap (λ x. piece_of x (45 ∷ (bs ++ after))) m ∙ negative_first bs after h s
+
+closed_here : (n : ℕ) (after : List ℕ) → Stops (λ b. b == 39) after → quoted_behind n (39 ∷ after) ≡ piece.Token Quoted (n + 1)
 closed_here n [] h = refl
 closed_here n (c ∷ cs) h = ap (λ t. if t then quoted_behind (n + 2) cs else piece.Token Quoted (n + 1)) h
 
 -- a name in quotes
-pub quoted_first : {inside name : List ℕ} (minus : Bool) (after : List ℕ) → Quotes inside name → follows 39 after ≡ false
-    → piece_of minus (39 ∷ (inside ++ 39 ∷ after)) ≡ piece.Token Quoted (length (39 ∷ (inside ++ 39 ∷ [])))
-quoted_first {inside = inside} minus after q h =
-    let size = length-append inside (39 ∷ []) in
-    quoted_past q 1 (39 ∷ after) ∙ closed_here (1 + length inside) after h ∙ ap (λ m. piece.Token Quoted m) (omega arith)
+quoted_first : (minus : Bool) (bytes name after : List ℕ) → IsQuoted bytes name → Stops (λ b. b == 39) after → IsFirst minus Quoted bytes after
+quoted_first minus bytes name after q h =
+    let size = length-append q.inside (39 ∷ []) in
+    let long : 1 + length q.inside + 1 ≡ length bytes = let l = ap length q.stands in omega arith in
+    ap (λ x. piece_of minus (x ++ after)) q.stands ∙ ap (λ x. piece_of minus (39 ∷ x)) (append_assoc q.inside (39 ∷ []) after)
+    ∙ quoted_past q.quotes 1 (39 ∷ after) ∙ closed_here (1 + length q.inside) after h ∙ ap (λ m. piece.Token Quoted m) long
+
+-- a sign
+sign_first : (minus : Bool) (kind : Kind) (bytes sign after : List ℕ) → bytes ≡ sign → IsFirst minus kind sign after → IsFirst minus kind bytes after
+sign_first minus kind bytes sign after e h = let P : List ℕ → Type 0 = λ x. IsFirst minus kind x after in subst P (sym e) h
+
+-- a word with what may stand behind it
+pub word_first : (minus : Bool) (kind : Kind) (bytes after : List ℕ) → Spells minus kind bytes → MayFollow kind after → IsFirst minus kind bytes after
+word_first minus Name bytes after h m = word_text minus Name bytes after h.0 (not_mod bytes h.1) m
+word_first minus Mod bytes after h m =
+    sign_first minus Mod bytes (codes "mod") after h (word_text minus Mod (codes "mod") after (refl, (refl, (refl, tt))) refl m)
+word_first minus Quoted bytes after (name, q) m = quoted_first minus bytes name after q m
+word_first minus Int bytes after h m = integer_first minus bytes after h m.0
+word_first minus LParen bytes after h m = sign_first minus LParen bytes (codes "(") after h refl
+word_first minus RParen bytes after h m = sign_first minus RParen bytes (codes ")") after h refl
+word_first minus Comma bytes after h m = sign_first minus Comma bytes (codes ",") after h refl
+word_first minus Dot bytes after h m = sign_first minus Dot bytes (codes ".") after h refl
+word_first minus Arrow bytes after h m = sign_first minus Arrow bytes (codes ":-") after h refl
+word_first minus _ bytes after h m = absurd m

@@ -6,7 +6,7 @@ use Rattle.std.proofs.lemmas.List.{at_drop_more, at_drop_all, length-append}
 use Rattle.lmn_lexer.specs.Spelling.{Quotes, nothing, quote, byte, IsQuoted}
 use Rattle.lmn_lexer.specs.declared.token.Kind.{Kind}
 use Rattle.lmn_lexer.specs.declared.token.Kind.TheVariants.{Int}
-use Rattle.lmn_lexer.specs.Faults.{value_behind, InRange, BeginsFraction, TooLong, TokenFault, integer_out_of_range, long_name, floating_point}
+use Rattle.lmn_lexer.specs.Faults.{value_behind, TooLong, TokenFault, integer_out_of_range, long_name, floating_point}
 use Rattle.lmn_lexer.proofs.Runs.{count-cons, count-append}
 use Rattle.lmn_lexer.proofs.Exact.{quote_not_line}
 
@@ -50,11 +50,6 @@ quoted_size bytes name q =
     omega arith
 
 -- faults of a token by its kind
-
-pub integer_right : (bytes after : List ℕ) → ¬ (BeginsFraction after) → InRange bytes → (code : ℕ) → TokenFault Int bytes after code → ⊥
-integer_right bytes after f r _ (integer_out_of_range k g n) = n r
-integer_right bytes after f r _ (long_name l) = l
-integer_right bytes after f r _ (floating_point k g) = f g
 
 other_right : (kind : Kind) (bytes after : List ℕ) → ¬ (kind ≡ Int) → ¬ (TooLong kind bytes) → (code : ℕ) → TokenFault kind bytes after code → ⊥
 other_right kind bytes after k l _ (integer_out_of_range e g n) = k e

@@ -15,7 +15,8 @@ use Rattle.lmn_lexer.specs.Spelling.{goes_on, begins_link, begins_context, is_qu
 use Rattle.lmn_lexer.specs.Gaps.{Gap, separator, percent, slashes, block, Holds, Begins, EndsLine, NoLineFeed}
 use Rattle.lmn_lexer.specs.Faults.{Wrong, bad_quoted_byte, open_quote, open_comment, string, inline_code, hyperlink}
 use Rattle.lmn_lexer.specs.Scanning.{follows, first_passes, word_bytes, digit_bytes, line_bytes, later, close_at, word_at, context_at, at_sign_at, minus_at, block_at, slash_at, quoted_behind, equal_at, colon_at, bracket_at, greater_at, backslash_at, sign_at, sign_piece, piece_of}
-use Rattle.lmn_lexer.proofs.Runs.{if_case, both_true, equal_when, unequal_when, Stops, run_is}
+use Rattle.lmn_lexer.proofs.Runs.{if_case, both_true, equal_when, unequal_when, run_is}
+use Rattle.lmn_lexer.specs.Laying.{Stops}
 
 -- a token of n bytes stands at the front
 pub record Stands (minus : Bool) (kind : Kind) (text : List ℕ) (n : ℕ) : Type 0 where
@@ -173,9 +174,6 @@ run_front first more sub (b ∷ bs) e =
 
 context_goes_on : (b : ℕ) → begins_context b ≡ true → goes_on b ≡ true
 context_goes_on b h = grind (arith, nat_tests)
-
-lower_goes_on : (b : ℕ) → is_ascii_lowercase b ≡ true → goes_on b ≡ true
-lower_goes_on b h = grind (arith, nat_tests)
 
 word_found : (minus : Bool) (b : ℕ) (bs : List ℕ) → is_ascii_lowercase b ≡ true → IsPiece minus (b ∷ bs) (word_at (b ∷ bs))
 word_found minus b bs low =

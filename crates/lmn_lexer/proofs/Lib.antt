@@ -13,3 +13,5 @@ pub mod Spans
 pub mod Building
 pub mod QuotedNames
 pub mod SoundTokens
+pub mod FewTokens
+pub mod LaidTexts

@@ -75,9 +75,6 @@ first_step {c = c} (then_on {d = d} {e = e} h s) = go (first_step h)
     go (inl p) = let P : Cutting → Type 0 = λ x. Step x e in inr (e, subst P (sym p) s, stay)
     go (inr (m, t, k)) = inr (m, t, then_on k s)
 
-steps_along : {c d e : Cutting} → d ≡ e → Steps c d → Steps c e
-steps_along {c = c} p h = let P : Cutting → Type 0 = Steps c in subst P p h
-
 from_here : {c d e : Cutting} → c ≡ d → Steps c e → Steps d e
 from_here {e = e} p h = let P : Cutting → Type 0 = λ x. Steps x e in subst P p h
 

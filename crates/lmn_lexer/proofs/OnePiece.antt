@@ -13,7 +13,8 @@ use Rattle.lmn_lexer.specs.Spelling.{goes_on, begins_link, begins_context, is_qu
 use Rattle.lmn_lexer.specs.Gaps.{Gap, separator, percent, slashes, block, Holds, EndsLine, NoLineFeed}
 use Rattle.lmn_lexer.specs.Cutting.{BeginsToken}
 use Rattle.lmn_lexer.specs.Scanning.{follows, first_passes, word_bytes, digit_bytes, line_bytes, later, close_at, word_kind, word_at, minus_at, quoted_behind, sign_piece, piece_of}
-use Rattle.lmn_lexer.proofs.Runs.{if_case, both_true, equal_when, unequal, Stops, run_exact}
+use Rattle.lmn_lexer.proofs.Runs.{if_case, both_true, equal_when, unequal, run_exact}
+use Rattle.lmn_lexer.specs.Laying.{Stops}
 use Rattle.lmn_lexer.proofs.ScanLemmas.{quoted_steps, quoted_byte_next}
 use Rattle.lmn_lexer.proofs.Found.{Stands, IsPiece, found, IsClose, close_found}
 use Rattle.lmn_lexer.proofs.Exact.{IsFree, Covers, covered, lower_piece, link_piece, digit_piece, context_goes_on, context_not_at, quote_not_line}
@@ -33,7 +34,7 @@ alone_name minus b bs kind low h k =
     ∙ ap (λ bytes. piece.Token (word_kind bytes) (length (b ∷ bs))) all
     ∙ ap (λ found. piece.Token found (length (b ∷ bs))) k
 
-not_mod : (bytes : List ℕ) → bytes ≢ codes "mod" → word_kind bytes ≡ Name
+pub not_mod : (bytes : List ℕ) → bytes ≢ codes "mod" → word_kind bytes ≡ Name
 not_mod bytes h = if_case (λ kind. kind ≡ Name) (bytes_eq bytes (codes "mod")) Mod Name (λ e. absurd (h ((bytes_eq-Decides bytes (codes "mod")).0 e))) (λ e. refl)
 
 -- a word behind a sign

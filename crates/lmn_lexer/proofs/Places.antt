@@ -1,23 +1,9 @@
 -- Places behind bytes.
-use Rattle.std.proofs.Common.{◌≡◌, ℕ, ◌+◌, ◌<◌, ◌≤◌, ◌==◌, Bool, true, false, if◌then◌else◌, List, [], ◌∷◌, ◌++◌, length, get_or, drop, refl, ap, ◌∙◌, arith, suc}
+use Rattle.std.proofs.Common.{◌≡◌, ℕ, ◌+◌, ◌≤◌, ◌==◌, Bool, true, false, if◌then◌else◌, List, [], ◌∷◌, ◌++◌, length, refl, ap, ◌∙◌, arith, suc}
 use Rattle.std.specs.Prelude.{count_by}
-use Rattle.std.proofs.lemmas.List.{at_drop_more, at_drop_all}
 use Rattle.std.proofs.lemmas.List.Sums.{count_by-le-length}
 use Rattle.lmn_lexer.specs.Cutting.{column_behind, place}
-use Rattle.lmn_lexer.proofs.Runs.{unequal, count-append}
-
-pub column_line_feed : (column : ℕ) (bytes : List ℕ) (i : ℕ) → i < length bytes → get_or bytes i 0 ≡ 10 → column_behind column (drop i bytes) ≡ column_behind 1 (drop (i + 1) bytes)
-column_line_feed column bytes i h e =
-    at_drop_more (column_behind column) bytes i 0 h
-    ∙ ap (λ b. if b == 10 then column_behind 1 (drop (i + 1) bytes) else column_behind (column + 1) (drop (i + 1) bytes)) e
-
-pub column_more : (column : ℕ) (bytes : List ℕ) (i : ℕ) → i < length bytes → (get_or bytes i 0 ≡ 10 → ⊥) → column_behind column (drop i bytes) ≡ column_behind (column + 1) (drop (i + 1) bytes)
-column_more column bytes i h e =
-    at_drop_more (column_behind column) bytes i 0 h
-    ∙ ap (λ t. if t then column_behind 1 (drop (i + 1) bytes) else column_behind (column + 1) (drop (i + 1) bytes)) (unequal (get_or bytes i 0) 10 e)
-
-pub column_all : (column : ℕ) (bytes : List ℕ) (i : ℕ) → length bytes ≤ i → column_behind column (drop i bytes) ≡ column
-column_all column bytes i h = at_drop_all (column_behind column) bytes i h
+use Rattle.lmn_lexer.proofs.Runs.{count-append}
 
 column_behind-append : (column : ℕ) (xs ys : List ℕ) → column_behind column (xs ++ ys) ≡ column_behind (column_behind column xs) ys
 column_behind-append column [] ys = refl

@@ -1,9 +1,9 @@
 -- What stands between quotes, from its front on.
-use Rattle.std.proofs.Common.{◌≡◌, ℕ, ◌+◌, ◌-◌, ◌<◌, ◌≤◌, true, List, [], ◌∷◌, ◌++◌, length, get_or, take, drop, ◌⊎◌, inl, inr, refl, sym, ap, ◌∙◌, subst, arith, suc}
+use Rattle.std.proofs.Common.{◌≡◌, ℕ, ◌+◌, ◌<◌, ◌≤◌, true, List, [], ◌∷◌, ◌++◌, length, get_or, take, drop, ◌⊎◌, inl, inr, refl, sym, ap, ◌∙◌, subst, arith, suc}
 use Rattle.std.specs.Prelude.{⊤}
 use Rattle.std.proofs.Math.Seq.{take-add, drop-cons}
-use Rattle.std.proofs.lemmas.List.{take-append-drop, length-drop, take_at, length-append, take_more}
-use Rattle.lmn_lexer.specs.Spelling.{Quotes, nothing, quote, byte, is_quotable, IsQuoted}
+use Rattle.std.proofs.lemmas.List.{take-append-drop, length-drop, take_more}
+use Rattle.lmn_lexer.specs.Spelling.{Quotes, nothing, quote, byte, is_quotable}
 use Rattle.lmn_lexer.proofs.Found.{quotes_append, tail_is}
 
 abbrev Inside : List ℕ → Type 0
@@ -75,22 +75,3 @@ quote_went inside name at l h k q = go (left_begins inside name at l h k)
         let P : List ℕ → Type 0 = λ x. Quotes x (name ++ get_or inside at 0 ∷ []) in
         let Q : ℕ → Type 0 = λ b. Quotes (take at inside ++ 39 ∷ 39 ∷ []) (name ++ b ∷ []) in
         (omega arith, subst P (sym front ∙ ap (λ m. take m inside) two) (subst Q (sym q) (quotes_append k (quote nothing))))
-
--- the whole name
-pub quoted_inside : (bytes name : List ℕ) → IsQuoted bytes name → Inside (take (length bytes - 1 - 1) (drop 1 bytes))
-quoted_inside bytes name q =
-    let size = ap length q.stands in
-    let sum = length-append q.inside (39 ∷ []) in
-    let n : length q.inside ≡ length bytes - 1 - 1 = omega arith in
-    let front : take (length bytes - 1 - 1) (drop 1 bytes) ≡ q.inside = ap (λ x. take (length bytes - 1 - 1) (drop 1 x)) q.stands ∙ take_at q.inside (39 ∷ []) (length bytes - 1 - 1) n in
-    let P : List ℕ → Type 0 = Inside in
-    subst P (sym front) (name, q.quotes)
-
-pub quoted_found : (bytes name found : List ℕ) → IsQuoted bytes name → Quotes (take (length bytes - 1 - 1) (drop 1 bytes)) found → IsQuoted bytes found
-quoted_found bytes name found q h =
-    let size = ap length q.stands in
-    let sum = length-append q.inside (39 ∷ []) in
-    let n : length q.inside ≡ length bytes - 1 - 1 = omega arith in
-    let front : take (length bytes - 1 - 1) (drop 1 bytes) ≡ q.inside = ap (λ x. take (length bytes - 1 - 1) (drop 1 x)) q.stands ∙ take_at q.inside (39 ∷ []) (length bytes - 1 - 1) n in
-    let P : List ℕ → Type 0 = λ x. Quotes x found in
-    record { inside = q.inside; stands = q.stands; quotes = subst P front h }

@@ -1,17 +1,14 @@
 -- Runs of bytes that pass a test, and tests by cases.
 use Rattle.std.proofs.Common.{◌≡◌, ℕ, ◌+◌, ◌≤◌, ◌==◌, Bool, true, false, cond, ◌&&◌, if◌then◌else◌, List, [], ◌∷◌, ◌++◌, length, take, drop, suc, refl, sym, ap, ◌∙◌, subst, arith}
-use Rattle.std.specs.Prelude.{⊤}
 use Rattle.std.specs.List.{prefix_len, count_by}
 use Rattle.std.proofs.lemmas.List.Sums.{sum_by-cons, sum_by-append}
 use Rattle.std.proofs.lemmas.Bool.Decides.{nat_tests}
 use Rattle.lmn_lexer.specs.Spelling.{AllPass}
+use Rattle.lmn_lexer.specs.Laying.{Stops}
 
 pub if_case : {A : Type 0} (P : A → Type 0) (t : Bool) (x y : A) → (t ≡ true → P x) → (t ≡ false → P y) → P (if t then x else y)
 if_case P true x y h k = h refl
 if_case P false x y h k = k refl
-
-pub true_not_false : {X : Type 0} → true ≡ false → X
-true_not_false h = absurd (let e = h in cc)
 
 pub both_true : (a b : Bool) → (a && b) ≡ true → (a ≡ true) × (b ≡ true)
 both_true true b h = (refl, h)
@@ -26,10 +23,7 @@ unequal_when a b h e = grind (arith, nat_tests)
 pub unequal : (a b : ℕ) → (a ≡ b → ⊥) → (a == b) ≡ false
 unequal a b h = grind (arith, nat_tests)
 
--- what stands behind a run doesn't pass
-abbrev pub Stops : (ℕ → Bool) → List ℕ → Type 0
-Stops test [] = ⊤
-Stops test (b ∷ bs) = test b ≡ false
+-- where a run ends
 
 pub run_exact : (test : ℕ → Bool) (bs after : List ℕ) → AllPass test bs → Stops test after → prefix_len test (bs ++ after) ≡ length bs
 run_exact test [] [] h s = refl

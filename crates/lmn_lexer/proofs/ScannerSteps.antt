@@ -5,13 +5,13 @@ use Rattle.std.proofs.lemmas.List.{length-take-le, length-drop}
 use Rattle.std.proofs.Math.Seq.{take-add}
 use Rattle.lmn_base.specs.declared.refusal.Pos.{Pos}
 use Rattle.lmn_lexer.specs.declared.token.Kind.{Kind}
-use Rattle.lmn_lexer.specs.declared.token.Kind.TheVariants.{End, Quoted}
+use Rattle.lmn_lexer.specs.declared.token.Kind.TheVariants.{Quoted}
 use Rattle.lmn_lexer.specs.declared.token.Token.{Token}
 use Rattle.lmn_lexer.specs.declared.scanner.Scanner.{Scanner}
 use Rattle.lmn_lexer.specs.declared.piece.Piece.{Piece}
 use Rattle.lmn_lexer.specs.declared.piece.Piece.TheVariants as piece
 use Rattle.lmn_lexer.specs.Spelling.{IsQuoted}
-use Rattle.lmn_lexer.specs.Cutting.{Cuts, minus_behind, is_operand, token_at, place, column_behind}
+use Rattle.lmn_lexer.specs.Cutting.{minus_behind, is_operand, token_at, place, column_behind}
 use Rattle.lmn_lexer.specs.Faults.{TokenFault, IsRefusal, NothingWrong}
 use Rattle.lmn_lexer.specs.Scanning.{piece_of}
 use Rattle.lmn_lexer.specs.Scanners.{IsCut, IsScanned}
@@ -95,7 +95,7 @@ gap_scanned text s t rest n h l e f p tokens minus =
       omega (arith, on.0),
     )
 
-minus_last : (tokens : List Token) (t : Token) → minus_behind (tokens ++ t ∷ []) ≡ not (is_operand t.kind)
+pub minus_last : (tokens : List Token) (t : Token) → minus_behind (tokens ++ t ∷ []) ≡ not (is_operand t.kind)
 minus_last [] t = refl
 minus_last (u ∷ []) t = refl
 minus_last (u ∷ v ∷ tokens) t = minus_last (v ∷ tokens) t
@@ -137,12 +137,6 @@ pub quoted_there : (text : List ℕ) (s : Scanner) (rest : List ℕ) (n : ℕ) (
 quoted_there text s rest n kind h l e f q =
     let P : List ℕ → Type 0 = λ x. (name : List ℕ) × IsQuoted (take n x) name in
     subst P (sym e) (quoted_bytes (minus_behind s.tokens) text s.at n kind l (found_at text s rest (piece.Token kind n) h e f) q)
-
-pub all_scanned : (text : List ℕ) (s : Scanner) (tokens : List Token) → IsScanned text s → length text ≤ s.at
-    → tokens ≡ s.tokens ++ record { kind = End; start = s.at; end = s.at; pos = s.pos } ∷ [] → Cuts text tokens
-all_scanned text s tokens h l e =
-    let P : List Token → Type 0 = Cuts text in
-    subst P (sym (e ∙ ap (λ p. s.tokens ++ record { kind = End; start = s.at; end = s.at; pos = p } ∷ []) h.placed)) (whole_cut text s.at s.tokens h.cut l).0
 
 pub all_right : (text : List ℕ) (s : Scanner) → IsScanned text s → length text ≤ s.at → NothingWrong text
 all_right text s h l = (whole_cut text s.at s.tokens h.cut l).1

@@ -15,14 +15,18 @@ pub all_add : (P : Token → Type 0) (ts : List Token) (t : Token) → AllByRecu
 all_add P [] t h k = (k, tt)
 all_add P (u ∷ ts) t h k = (h.0, all_add P ts t h.1 k)
 
+-- the bytes of a token
+pub bytes_here : (text before bytes after : List ℕ) (kind : Kind) → text ≡ before ++ (bytes ++ after) → bytes_of text (token_at kind before bytes) ≡ bytes
+bytes_here text before bytes after kind e =
+    let n : length before + length bytes - length before ≡ length bytes = omega arith in
+    let behind : drop (length before) text ≡ bytes ++ after = ap (drop (length before)) e ∙ drop_at before (bytes ++ after) (length before) refl in
+    ap (λ m. take m (drop (length before) text)) n ∙ ap (take (length bytes)) behind ∙ take_at bytes after (length bytes) refl
+
 -- a token where it stands
 sound_here : (text before bytes after : List ℕ) (kind : Kind) (minus : Bool) → text ≡ before ++ (bytes ++ after) → Spells minus kind bytes
     → ((code : ℕ) → TokenFault kind bytes after code → ⊥) → IsSound text (token_at kind before bytes)
 sound_here text before bytes after kind minus e spells right =
-    let n : length before + length bytes - length before ≡ length bytes = omega arith in
-    let behind : drop (length before) text ≡ bytes ++ after = ap (drop (length before)) e ∙ drop_at before (bytes ++ after) (length before) refl in
-    let here : bytes_of text (token_at kind before bytes) ≡ bytes =
-    ap (λ m. take m (drop (length before) text)) n ∙ ap (take (length bytes)) behind ∙ take_at bytes after (length bytes) refl in
+    let here = bytes_here text before bytes after kind e in
     let whole = e ∙ sym (append_assoc before bytes after) in
     let sum = length-append before bytes in
     let rest : drop (length before + length bytes) text ≡ after = ap (drop (length before + length bytes)) whole ∙ drop_at (before ++ bytes) after (length before + length bytes) sum in

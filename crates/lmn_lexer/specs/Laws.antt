@@ -1,5 +1,5 @@
 -- Laws of cutting.
-use Rattle.std.specs.Prelude.{◌≡◌, ◌≤◌, ℕ, ⊤, List, [], ◌∷◌, ◌++◌}
+use Rattle.std.specs.Prelude.{◌≡◌, ◌≤◌, ◌+◌, ℕ, true, ⊤, List, [], ◌∷◌, ◌++◌, length}
 use Rattle.std.specs.List.{AllByRecursion}
 use Rattle.lmn_base.specs.declared.refusal.Refusal.{Refusal}
 use Rattle.lmn_lexer.specs.declared.token.Token.{Token}
@@ -7,6 +7,7 @@ use Rattle.lmn_lexer.specs.declared.token.Kind.TheVariants.{End}
 use Rattle.lmn_lexer.specs.Cutting.{Cuts, token_at}
 use Rattle.lmn_lexer.specs.Values.{IsSound}
 use Rattle.lmn_lexer.specs.Faults.{IsRefusal, NothingWrong}
+use Rattle.lmn_lexer.specs.Laying.{Word, end_word, words_of, Laid, IsRight}
 
 -- a text is cut in at most one way
 abbrev pub OneCut : Type 0
@@ -33,3 +34,12 @@ SpansInOrder = (text : List ℕ) (tokens : List Token) → Cuts text tokens → 
 abbrev pub TokensAreSound : Type 0
 TokensAreSound = (text : List ℕ) (tokens : List Token) → Cuts text tokens → NothingWrong text
     → (but_end : List Token) × AllByRecursion (IsSound text) but_end × (tokens ≡ but_end ++ token_at End text [] ∷ [])
+
+-- there are no more tokens than bytes, but for the end
+abbrev pub FewTokens : Type 0
+FewTokens = (text : List ℕ) (tokens : List Token) → Cuts text tokens → length tokens ≤ length text + 1
+
+-- a text that is laid out as words is cut into them, and where each of them is right, nothing is wrong in it
+abbrev pub LaidTextsAreCut : Type 0
+LaidTextsAreCut = (text : List ℕ) (words : List Word) → Laid true text words
+    → (tokens : List Token) × Cuts text tokens × (words_of text tokens ≡ words ++ end_word ∷ []) × (AllByRecursion IsRight words → NothingWrong text)

@@ -5,4 +5,5 @@ pub mod Faults
 pub mod Scanning
 pub mod Scanners
 pub mod Values
+pub mod Laying
 pub mod Laws

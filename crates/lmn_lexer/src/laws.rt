@@ -1,6 +1,14 @@
 //! Laws of cutting a text into tokens.
 
-ghost use Rattle.lmn_lexer.specs.Laws.{OneCut, OneRefusal, RefusedIsWrong, SpansInOrder, TokensAreSound};
+ghost use Rattle.lmn_lexer.specs.Laws.{
+  FewTokens,
+  LaidTextsAreCut,
+  OneCut,
+  OneRefusal,
+  RefusedIsWrong,
+  SpansInOrder,
+  TokensAreSound,
+};
 
 /// A text is cut in at most one way.
 pub fn texts_are_cut_once()
@@ -18,4 +26,14 @@ pub fn refusals_are_one()
 pub fn tokens_are_in_order()
     ensures spans { SpansInOrder }
     ensures sound { TokensAreSound }
+{}
+
+/// There are no more tokens than bytes, but for the end.
+pub fn tokens_are_few()
+    ensures { FewTokens }
+{}
+
+/// A text that is laid out as words, with separators between them, is cut into these words.
+pub fn laid_texts_are_cut()
+    ensures { LaidTextsAreCut }
 {}

@@ -6,6 +6,7 @@ pub mod Stacks
 pub mod Nodes
 pub mod OneGuard
 pub mod OneTree
+pub mod OneReading
 pub mod TreeTokens
 pub mod TreesExist
 pub mod TreeWords

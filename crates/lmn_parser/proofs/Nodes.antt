@@ -1,15 +1,12 @@
 -- What the nodes of the parser's trees are as trees.
 use Rattle.std.proofs.Common.{Box, Global, ◌≡◌, ℕ, List, map, Some, None, sym, ap, ◌∙◌}
-use Rattle.lmn_base.specs.declared.guard.Arith.{Arith}
 use Rattle.lmn_parser.specs.declared.tree.Clause.{Clause as ClauseNode}
 use Rattle.lmn_parser.specs.declared.tree.Item.{Item as ItemNode}
 use Rattle.lmn_parser.specs.declared.tree.Term.{Term as TermNode}
 use Rattle.lmn_parser.specs.declared.tree.AtomNode.{AtomNode}
 use Rattle.lmn_parser.specs.declared.tree.RuleNode.{RuleNode}
 use Rattle.lmn_parser.specs.declared.tree.Clause.TheOpen as node
-use Rattle.lmn_parser.specs.declared.tree.ExprNode.{ExprNode}
 use Rattle.lmn_parser.specs.declared.tree.ExprNode.TheOpen as expr
-use Rattle.lmn_parser.specs.declared.tree.ExprNode.TheViews as expr_view
 use Rattle.lmn_parser.specs.declared.tree.ExprNode.TheVariants as expr_variant
 use Rattle.lmn_parser.specs.declared.tree.ExprNode.TheFolds.{fold-roll-ExprNode}
 use Rattle.lmn_parser.specs.declared.tree.Clause.TheViews as view
@@ -17,7 +14,7 @@ use Rattle.lmn_parser.specs.declared.tree.Clause.TheVariants as clause_variant
 use Rattle.lmn_parser.specs.declared.tree.Item.TheVariants as item_variant
 use Rattle.lmn_parser.specs.declared.tree.Term.TheVariants as term_variant
 use Rattle.lmn_parser.specs.declared.tree.Clause.TheFolds.{fold-AtomNode, fold-RuleNode, fold-roll-Clause, fold-roll-Item, fold-roll-Term, fold-roll-AtomNode, fold-roll-RuleNode}
-use Rattle.lmn_parser.specs.Syntax.{Expr, integer, value, operation, expr_of, expr_step, Term, Item, Clause, Terms, terms_of, items_of, clauses_of, condition_of, term_of, item_of, clause_of, clause_step, item_step, term_step, atom_step, rule_step, process, rule, atom_item, membrane_item, context_item, bracketed, rule_context, plus_link, group, equation, link, atom, list, list_onto, context, membrane}
+use Rattle.lmn_parser.specs.Syntax.{Expr, integer, value, expr_of, expr_step, Term, Item, Clause, Terms, terms_of, items_of, clauses_of, condition_of, term_of, item_of, clause_of, clause_step, item_step, term_step, atom_step, rule_step, process, rule, atom_item, membrane_item, context_item, bracketed, rule_context, plus_link, group, equation, link, atom, list, list_onto, context, membrane}
 
 atom_parts : (n : AtomNode) → fold-AtomNode Clause Item Term (ℕ × Terms) Clause clause_step item_step term_step atom_step rule_step n ≡ (n.token, terms_of n.args)
 atom_parts n = fold-roll-AtomNode Clause Item Term (ℕ × Terms) Clause clause_step item_step term_step atom_step rule_step (record { token = n.token; args = n.args })
@@ -87,6 +84,3 @@ expr_int p = ap expr_of (sym (expr_variant.rolls-Int p)) ∙ fold-roll-ExprNode 
 
 pub expr_ctx : (p : ℕ) → expr_of (expr_variant.Ctx p) ≡ value p
 expr_ctx p = ap expr_of (sym (expr_variant.rolls-Ctx p)) ∙ fold-roll-ExprNode Expr expr_step (expr.Ctx p)
-
-pub expr_operation : (op : Arith) (l r : Box ExprNode Global) → expr_of (expr_view.Op op l r) ≡ operation op (expr_of l.value) (expr_of r.value)
-expr_operation op l r = ap expr_of (sym (expr_variant.rolls-Op op l r)) ∙ fold-roll-ExprNode Expr expr_step (expr.Op op l r)

@@ -5,3 +5,4 @@ pub mod Syntax
 pub mod Trees
 pub mod TreeLaws
 pub mod TreeExamples
+pub mod Readings

@@ -1,5 +1,6 @@
 //! The laws of trees.
 
+ghost use Rattle.lmn_parser.specs.Readings.{CutTextsEnd, OneReading};
 ghost use Rattle.lmn_parser.specs.TreeExamples.{KeptHead, NamedRule, NestedParts};
 ghost use Rattle.lmn_parser.specs.TreeLaws.{DerivedIsTree, OneTree, TreesDerive};
 
@@ -19,4 +20,14 @@ pub fn tree_examples()
     ensures kept_head { KeptHead }
     ensures named_rule { NamedRule }
     ensures nested_parts { NestedParts }
+{}
+
+/// A text reads as one tree at most.
+pub fn texts_read_as_one_tree()
+    ensures { OneReading }
+{}
+
+/// The tokens of a text end with `End`, so they can be parsed.
+pub fn texts_end_with_end()
+    ensures { CutTextsEnd }
 {}

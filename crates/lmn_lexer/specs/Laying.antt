@@ -1,0 +1,56 @@
+-- Texts that are laid out: words with separators between them, each word told from what stands behind it.
+use Rattle.std.specs.Prelude.{◌≡◌, ℕ, ◌==◌, Bool, true, false, not, ⊤, List, [], ◌∷◌, ◌++◌, map}
+use Rattle.std.specs.Char.{is_ascii_digit, is_ascii_whitespace}
+use Rattle.lmn_lexer.specs.declared.token.Kind.{Kind}
+use Rattle.lmn_lexer.specs.declared.token.Kind.TheVariants.{Name, Quoted, Mod, Int, End, LParen, RParen, Comma, Dot, Arrow}
+use Rattle.lmn_lexer.specs.declared.token.Token.{Token}
+use Rattle.lmn_lexer.specs.Spelling.{Spells, goes_on}
+use Rattle.lmn_lexer.specs.Cutting.{is_operand}
+use Rattle.lmn_lexer.specs.Faults.{BeginsFraction, InRange, TooLong}
+use Rattle.lmn_lexer.specs.Values.{bytes_of}
+
+-- a token without its place: its kind and its bytes
+pub record Word : Type 0 where
+  pub kind : Kind
+  pub bytes : List ℕ
+
+-- the words of tokens in their text
+abbrev pub word_of : List ℕ → Token → Word
+word_of text t = record { kind = t.kind; bytes = bytes_of text t }
+
+abbrev pub words_of : List ℕ → List Token → List Word
+words_of text ts = map (word_of text) ts
+
+-- the last word of each text
+abbrev pub end_word : Word
+end_word = record { kind = End; bytes = [] }
+
+-- no byte that passes the test stands first
+abbrev pub Stops : (ℕ → Bool) → List ℕ → Type 0
+Stops test [] = ⊤
+Stops test (b ∷ bs) = test b ≡ false
+
+-- What may stand directly behind a word of this kind. Words of other kinds aren't laid out.
+abbrev pub MayFollow : Kind → List ℕ → Type 0
+MayFollow Name after = Stops goes_on after
+MayFollow Mod after = Stops goes_on after
+MayFollow Quoted after = Stops (λ b. b == 39) after
+MayFollow Int after = Stops is_ascii_digit after × ¬ (BeginsFraction after)
+MayFollow LParen after = ⊤
+MayFollow RParen after = ⊤
+MayFollow Comma after = ⊤
+MayFollow Dot after = ⊤
+MayFollow Arrow after = ⊤
+MayFollow _ after = ⊥
+
+-- The text is laid out as these words. The first argument says whether a `-` may begin an integer at its front.
+pub data Laid : Bool → List ℕ → List Word → Type 0 where
+  all_laid : {minus : Bool} → Laid minus [] []
+  separator : {minus : Bool} {b : ℕ} {rest : List ℕ} {words : List Word} → is_ascii_whitespace b ≡ true → Laid minus rest words
+      → Laid minus (b ∷ rest) words
+  word : {minus : Bool} {kind : Kind} {bytes rest text : List ℕ} {words : List Word} → text ≡ bytes ++ rest → Spells minus kind bytes → MayFollow kind rest
+      → Laid (not (is_operand kind)) rest words → Laid minus text (record { kind = kind; bytes = bytes } ∷ words)
+
+-- an integer is in range, and a name isn't too long
+abbrev pub IsRight : Word → Type 0
+IsRight w = (w.kind ≡ Int → InRange w.bytes) × ¬ (TooLong w.kind w.bytes)
