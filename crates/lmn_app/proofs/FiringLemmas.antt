@@ -19,7 +19,8 @@ use Rattle.lmn_congruence.proofs.Reordered.{reordered_congruent, r_right}
 use Rattle.lmn_congruence.proofs.SettledProcesses.{no_connector_settled}
 use Rattle.lmn_congruence.proofs.Solids.{put_together}
 use Rattle.lmn_app.specs.Labels.{same_label}
-use Rattle.lmn_app.specs.Processes.{FlatRule, atom_of, flat_rule, flat_rules, flat_process}
+use Rattle.lmn_flatten.specs.Processes.{FlatRule}
+use Rattle.lmn_app.specs.Processes.{atom_of, flat_rule, flat_rules, flat_process}
 use Rattle.lmn_app.specs.Firings.{count_of, Covers, without, without_all, atoms_after, Firing, fires, FirstCovered, Chain, no_step, step_after, FiringCommits, FiringsCommit, FlatClosed, FlatSettles}
 use Rattle.lmn_app.proofs.LabelLaws.{same_label-Decides}
 

@@ -2,8 +2,8 @@
 -- number of atoms of each label, and that there is no membrane.
 use Rattle.std.proofs.Common.{ℕ, ◌≡◌, ◌+◌, Bool, true, false, cond, List, [], ◌∷◌, map, refl, sym, ◌∙◌, ap, subst, arith}
 use Rattle.lmn_congruence.specs.Orders.{Among, at_head, further}
-use Rattle.lmn_congruence.specs.Process.{Process, nothing, connector, atom, pair, membrane, rule, substitute, together}
-use Rattle.lmn_congruence.specs.Congruence.{Congruent, unit, swap, regroup, rename, beside, inside, loop, turn, absorb, pass, same, back, chain}
+use Rattle.lmn_congruence.specs.Process.{Process, rule, together}
+use Rattle.lmn_congruence.specs.Weights.{weight}
 use Rattle.lmn_congruence.specs.Rules.{Label, Rule, rules_list, head_of}
 use Rattle.lmn_congruence.specs.Plains.{leaf_process}
 use Rattle.lmn_congruence.specs.reduction.Assignments.{Assignment}
@@ -12,44 +12,13 @@ use Rattle.lmn_congruence.specs.reduction.Firing.{Matches}
 use Rattle.lmn_congruence.specs.reduction.Steps.{Step}
 use Rattle.lmn_congruence.specs.reduction.Redexes.{HasRedex, at_top, in_membrane}
 use Rattle.lmn_congruence.proofs.KeptRules.{AllRules, kept_rules}
+use Rattle.lmn_congruence.proofs.KeptWeights.{kept_weight}
 use Rattle.lmn_congruence.proofs.Redexes.{step_shows}
 use Rattle.lmn_app.specs.Labels.{same_label}
-use Rattle.lmn_app.specs.Processes.{FlatRule, atom_of, flat_rule, flat_rules, flat_process}
+use Rattle.lmn_flatten.specs.Processes.{FlatRule}
+use Rattle.lmn_app.specs.Processes.{atom_of, flat_rule, flat_rules, flat_process}
 use Rattle.lmn_app.specs.Firings.{count_of, NoneCovered, FlatIrreducible}
 use Rattle.lmn_app.proofs.FiringLemmas.{firing_commits, flat_settles}
-
--- ---- what stands outside membranes, each with a weight
-
-abbrev weight : (Label → ℕ) → ℕ → Process → ℕ
-weight f m nothing = 0
-weight f m (connector x y) = 0
-weight f m (atom a xs) = f a
-weight f m (pair P Q) = weight f m P + weight f m Q
-weight f m (membrane P) = m
-weight f m (rule r) = 0
-
-substituted_weight : (f : Label → ℕ) (m new old : ℕ) (P : Process) → weight f m (substitute new old P) ≡ weight f m P
-substituted_weight f m new old nothing = refl
-substituted_weight f m new old (connector x y) = refl
-substituted_weight f m new old (atom a xs) = refl
-substituted_weight f m new old (pair P Q) = omega (arith, substituted_weight f m new old P, substituted_weight f m new old Q)
-substituted_weight f m new old (membrane P) = refl
-substituted_weight f m new old (rule r) = refl
-
-kept_weight : (f : Label → ℕ) (m : ℕ) {P Q : Process} → Congruent P Q → weight f m P ≡ weight f m Q
-kept_weight f m (unit l) = omega arith
-kept_weight f m (swap l) = omega arith
-kept_weight f m (regroup l) = omega arith
-kept_weight f m (rename {P = P} x y l g h) = sym (substituted_weight f m y x P)
-kept_weight f m (beside d l l') = omega (arith, kept_weight f m d)
-kept_weight f m (inside d) = refl
-kept_weight f m loop = refl
-kept_weight f m turn = refl
-kept_weight f m (absorb {P = P} x y e g l) = omega (arith, substituted_weight f m y x P)
-kept_weight f m (pass x y e l) = omega arith
-kept_weight f m (same l) = refl
-kept_weight f m (back d) = sym (kept_weight f m d)
-kept_weight f m (chain d e) = kept_weight f m d ∙ kept_weight f m e
 
 -- the number of atoms of a label, and that of membranes
 abbrev is_labelled : Label → Label → ℕ

@@ -9,7 +9,8 @@ use Rattle.lmn_congruence.specs.Rules as tree
 use Rattle.lmn_congruence.specs.Translation.{label_of}
 use Rattle.lmn_congruence.proofs.TranslatedNames.{labels_apart}
 use Rattle.lmn_app.specs.Labels.{same_label, SameLabels}
-use Rattle.lmn_app.specs.Programs.{HasLabel, is_one}
+use Rattle.lmn_flatten.specs.Programs.{HasLabel}
+use Rattle.lmn_app.specs.Programs.{is_one}
 
 pub same_label-Decides : (k l : tree.Label) → Decides (same_label k l) (k ≡ l)
 same_label-Decides (tree.named m) (tree.named n) = let d = bytes_eq-Decides m n in (λ e. ap tree.named (d.0 e), λ e. d.1 cc)

@@ -14,7 +14,8 @@ use Rattle.lmn_base.specs.declared.refusal.Refusal.{Refusal}
 use Rattle.lmn_io.specs.Counts.{Rose}
 use Rattle.lmn_app.specs.Endings.{Concludes}
 use Rattle.lmn_app.specs.Words.{InForm}
-use Rattle.lmn_app.specs.Runs.{IsAccepted, IsRefusal, IsRun, IfTold, IsToldAnd, told_under}
+use Rattle.lmn_app.specs.Texts.{IsAccepted, IsRefusal}
+use Rattle.lmn_app.specs.Runs.{IsRun, IfTold, IsToldAnd, told_under}
 use Rattle.lmn_app.proofs.TextLemmas.{refused_not_accepted}
 use Rattle.lmn_app.specs.Outcomes.{Causes, Effects, Writes, WritesPrefix}
 

@@ -12,16 +12,16 @@ use Rattle.lmn_base.specs.declared.functor.Label.{Label}
 use Rattle.lmn_base.specs.Names.{IsNames}
 use Rattle.lmn_congruence.specs.Rules as tree
 use Rattle.lmn_congruence.specs.Translation.{label_of}
-use Rattle.lmn_congruence.specs.reduction.Commits.{Irreducible}
 use Rattle.lmn_congruence.specs.Orders.{at_head, further}
 use Rattle.lmn_app.specs.Labels.{same_label}
-use Rattle.lmn_app.specs.Programs.{labels_of, rule_of, rules_of, HasLabel, HasLabels, HasRule, NamesAll, is_one}
-use Rattle.lmn_app.specs.Processes.{FlatRule, flat_process}
-use Rattle.lmn_app.specs.declared.program.Rule.{Rule}
+use Rattle.lmn_flatten.specs.Programs.{labels_of, rule_of, rules_of, HasLabel, HasLabels, HasRule}
+use Rattle.lmn_app.specs.Programs.{NamesAll, is_one}
+use Rattle.lmn_flatten.specs.Processes.{FlatRule}
+use Rattle.lmn_app.specs.Processes.{flat_process}
+use Rattle.lmn_flatten.specs.declared.program.Rule.{Rule}
 use Rattle.lmn_app.specs.Firings.{count_of, without, Covers, SomeCovered, NoneCovered, FirstCovered, without_all, Firing, fires, Firings, Commits, step_after}
-use Rattle.lmn_app.proofs.EachLaws.{all_append, all_removed}
+use Rattle.lmn_flatten.proofs.AllLemmas.{all_append, all_removed}
 use Rattle.lmn_app.proofs.LabelLaws.{one_label, same_label-Decides}
-use Rattle.lmn_app.proofs.FlatRedexes.{flat_irreducible}
 use Rattle.lmn_app.proofs.FiringLemmas.{all_taken_before, first_among, firings_commit}
 
 -- ---- how often a label stands
@@ -236,10 +236,8 @@ abbrev pub NoneReady : List Rule → List Label → Type 0
 NoneReady rules atoms = (names : List tree.Name) → NamesAll names atoms rules → NoneCovered (rules_of names rules) (labels_of names atoms)
 
 pub none_stops : (n : ℕ) (rules : List Rule) (old seen atoms : List Label) → AreFired rules old atoms n → seen ≡ atoms → NoneReady rules seen
-    → (names : List tree.Name) → NamesAll names old rules → NoneCovered (rules_of names rules) (labels_of names atoms) × Irreducible (flat_process (labels_of names atoms) (rules_of names rules))
-none_stops n rules old seen atoms c s f names h =
-    let none = subst (NoneReady rules) s f names (c names h).1 in
-    (none, (flat_irreducible (labels_of names atoms) (rules_of names rules)).1 none)
+    → (names : List tree.Name) → NamesAll names old rules → NoneCovered (rules_of names rules) (labels_of names atoms)
+none_stops n rules old seen atoms c s f names h = subst (NoneReady rules) s f names (c names h).1
 
 -- what a call says of its error, where `is_err` answers true
 pub at_error : {T E P : Type 0} (r : Result T E) (b : Bool) → OnErr r P → b ≡ is_err r → b ≡ true → P

@@ -20,7 +20,7 @@ status_of NoMemory = 6
 abbrev pub code_letters : ℕ → List ℕ
 code_letters code = if nat_lt code 10 then codes "E0" else codes "E"
 
--- a code that refuses a text so far
+-- a code that refuses a text
 abbrev pub IsCode : ℕ → Type 0
 IsCode code = ((1 ≤ code) × (code ≤ 12)) ⊎ (code ≡ 90)
 

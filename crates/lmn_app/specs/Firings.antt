@@ -6,8 +6,9 @@ use Rattle.lmn_congruence.specs.Rules.{Label}
 use Rattle.lmn_congruence.specs.reduction.Commits.{Settles, Commit, Irreducible}
 use Rattle.lmn_app.specs.declared.running.Stop.{Stop}
 use Rattle.lmn_app.specs.declared.running.Stop.TheVariants as stop
+use Rattle.lmn_flatten.specs.Processes.{FlatRule}
 use Rattle.lmn_app.specs.Labels.{same_label}
-use Rattle.lmn_app.specs.Processes.{FlatRule, flat_process}
+use Rattle.lmn_app.specs.Processes.{flat_process}
 
 -- how often a label stands in a list
 abbrev pub count_of : Label → List Label → ℕ
@@ -62,12 +63,16 @@ Firings n rules old new = Chain (Firing rules) old n new
 abbrev pub Commits : ℕ → Process → Process → Type 0
 Commits n P Q = Chain Commit P n Q
 
--- Why a run stopped at these atoms after n firings: nothing can happen, or a rule is covered still, and the
--- budget is done or memory for the rule's body is wanting.
+-- the most firings of a run
+abbrev pub budget : ℕ
+budget = 1000
+
+-- Why a run stopped at these atoms after n firings: no rule is covered; or one is, and the budget is done or memory for
+-- the rule's body is wanting.
 abbrev pub Stopped : Stop → ℕ → List FlatRule → List Label → Type 0
-Stopped stop.Irreducible n rules atoms = (n ≤ 1000) × NoneCovered rules atoms × Irreducible (flat_process atoms rules)
-Stopped stop.Budget n rules atoms = SomeCovered rules atoms × (n ≡ 1000)
-Stopped stop.NoMemory n rules atoms = SomeCovered rules atoms × (n < 1000)
+Stopped stop.Irreducible n rules atoms = (n ≤ budget) × NoneCovered rules atoms
+Stopped stop.Budget n rules atoms = SomeCovered rules atoms × (n ≡ budget)
+Stopped stop.NoMemory n rules atoms = SomeCovered rules atoms × (n < budget)
 
 -- the firing of a rule that is covered is a commit
 abbrev pub FiringCommits : Type 0

@@ -9,7 +9,8 @@ use Rattle.lmn_app.specs.declared.ending.Ending.TheVariants.{Done, Budget, Refus
 use Rattle.lmn_app.specs.Endings.{IsCode}
 use Rattle.lmn_app.specs.Words.{InForm}
 use Rattle.lmn_app.specs.Printing.{end_line}
-use Rattle.lmn_app.specs.Runs.{IsRefusal, IsRun, IsToldAnd}
+use Rattle.lmn_app.specs.Runs.{IsRun, IsToldAnd}
+use Rattle.lmn_app.specs.Texts.{IsRefusal}
 use Rattle.lmn_app.specs.Stops.{stop_word}
 use Rattle.lmn_app.specs.declared.running.Stop.{Stop}
 use Rattle.lmn_app.specs.declared.running.Stop.TheVariants as stop

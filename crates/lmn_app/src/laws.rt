@@ -1,6 +1,8 @@
-//! The laws of processes of atoms without links: their firings are commits of the calculus.
+//! The laws of runs and refusals. The firings of atoms without links are commits of the calculus; a text is accepted
+//! or refused, and refused in one way.
 
 ghost use Rattle.lmn_app.specs.Labels.{SameLabels};
+ghost use Rattle.lmn_app.specs.Texts.{OneRefusal, RefusedNotAccepted};
 ghost use Rattle.lmn_app.specs.Firings.{FiringCommits, FiringsCommit, FlatClosed, FlatSettles, FlatIrreducible};
 
 /// The firing of a rule whose head is among the atoms is a commit. So n firings of the strategy are n commits.
@@ -27,4 +29,10 @@ pub fn irreducible_where_none_is_covered()
 #[tactic(auto, using(crate::proofs::LabelLaws::same_labels))]
 pub fn same_labels_are_one()
     ensures { SameLabels }
+{}
+
+/// A text that is refused isn't accepted, and it has one refusal at most.
+pub fn refusals_are_one()
+    ensures accepted { RefusedNotAccepted }
+    ensures one { OneRefusal }
 {}

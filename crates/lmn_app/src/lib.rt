@@ -5,7 +5,6 @@ mod conclusion;
 mod ending;
 pub mod laws;
 mod printing;
-mod program;
 mod reading;
 mod running;
 #[cfg(test)]
@@ -14,8 +13,6 @@ mod top;
 mod words;
 
 pub use ending::Ending;
-pub use program::{Program, Rule};
-pub use reading::{lines_are_read, one_tree, read, trees_are_spelled};
 pub use running::Stop;
 pub use top::lmn_main;
 pub use words::in_form;

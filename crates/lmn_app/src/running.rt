@@ -3,12 +3,13 @@ ghost use Rattle.std.specs.List.{position};
 ghost use Rattle.lmn_base.specs.Names.{IsNames};
 ghost use Rattle.lmn_congruence.specs.Translation.{label_of};
 ghost use Rattle.lmn_congruence.specs.Rules.{Name};
-ghost use Rattle.lmn_app.specs.Programs.{labels_of, rule_of, rules_of, HasLabel, HasLabels, HasRule, NamesAll, is_one};
+ghost use Rattle.lmn_flatten.specs.Programs.{labels_of, rule_of, rules_of, HasLabel, HasLabels, HasRule};
+ghost use Rattle.lmn_app.specs.Programs.{NamesAll, is_one};
 ghost use Rattle.lmn_app.specs.Processes.{flat_process};
 ghost use Rattle.lmn_app.specs.Firings.{count_of, Covers, NoneCovered, FirstCovered, without, without_all, Firings, Commits, Stopped};
 
-use crate::program::Rule;
 use lmn_base::{Label, NoMemory};
+use lmn_flatten::Rule;
 
 /// The most firings of a run.
 pub(crate) const BUDGET: u64 = 1000;

@@ -5,6 +5,7 @@ use std::alloc::{AllocError, Global};
 use std::test::Fail;
 
 /// A call, and what is wanted of it.
+#[derive(Drop)]
 struct Row {
     words: &'static [&'static str],
     /// The text of the file `f`.
@@ -164,8 +165,39 @@ const ROWS: [Row; 13] = [
     },
 ];
 
+/// A text that runs until nothing reacts, and the lines on `out`.
+const RUNS: [(&[u8], &[u8]); 7] = [
+    (
+        b"x @@ a :- 'B c'. a",
+        b"'B c'. (a :- 'B c').\n% irreducible after 1\n",
+    ),
+    (
+        b"a(), (b, (c :- )), -5",
+        b"a. b. -5. (c :- ).\n% irreducible after 0\n",
+    ),
+    (
+        b"'it''s'. ''. 007. mod. 'a'",
+        b"'it''s'. ''. 7. mod. a.\n% irreducible after 0\n",
+    ),
+    (
+        b"% a line\n a. /* b. */ (c). // d",
+        b"a. c.\n% irreducible after 0\n",
+    ),
+    (b"-0. 0 :- 'a'.", b"a. (0 :- a).\n% irreducible after 1\n"),
+    (
+        b"a, a :- | b. a. a",
+        b"b. (a, a :- b).\n% irreducible after 1\n",
+    ),
+    (
+        b"1, 'A' :- -1. 'A'. 1. a",
+        b"a. -1. (1, 'A' :- -1).\n% irreducible after 1\n",
+    ),
+];
+
 /// A text that is refused, and the line on `err`.
-const REFUSED: [(&[u8], &[u8]); 14] = [
+const REFUSED: [(&[u8], &[u8]); 23] = [
+    (&[b'a'; 256], b"E05 1:1 name too long\n"),
+    (&[b'('; 201], b"E11 1:201 nesting too deep\n"),
     (b"p(1.5).", b"E06 1:3 floating-point number\n"),
     (b"a. /* b", b"E03 1:4 not closed\n"),
     (
@@ -182,8 +214,16 @@ const REFUSED: [(&[u8], &[u8]); 14] = [
     // The bytes are asked before the tokens, and the tokens before what is built.
     (b"a,, ;", b"E02 1:5 bad byte\n"),
     (b"a(X).. b", b"E10 1:6 unexpected token\n"),
-    (b"x @@ a :- b. a", b"E90 1:1 form not built\n"),
+    // Forms that aren't built.
     (b"a(X), b(X)", b"E90 1:1 form not built\n"),
+    (b"a. {b}", b"E90 1:1 form not built\n"),
+    (b"a, $p", b"E90 1:1 form not built\n"),
+    (b"a, @r", b"E90 1:1 form not built\n"),
+    (b"X = Y", b"E90 1:1 form not built\n"),
+    (b":- a", b"E90 1:1 form not built\n"),
+    (b"a \\ b :- c", b"E90 1:1 form not built\n"),
+    (b"a :- (b :- c)", b"E90 1:1 form not built\n"),
+    (b"a :- 1 < 2 | b", b"E90 1:1 form not built\n"),
 ];
 
 fn rows_of<T: Copy + Drop>(alloc: Global, items: &[T]) -> Result<Rows<T>, AllocError> {
@@ -229,21 +269,39 @@ fn calls_end_as_they_must(rt: HostRuntime) -> Result<(), Fail> {
 }
 
 /// How a run of a text ends.
-fn run_of(alloc: Global, text: &[u8]) -> Result<Ended, NoMemory> {
-    let words = words_of(alloc, RUN)?;
-    let mut shelf = shelf_of(alloc, text, &[])?;
-    let mut out = MemSink::new(alloc, 1000, Rows::new(alloc))?;
-    let mut err = MemSink::new(alloc, 1000, Rows::new(alloc))?;
-    let status = lmn_main(alloc, words.as_slice(), &mut shelf, &mut out, &mut err);
-    Ok(Ended { out, err, status })
+fn run_of(alloc: Global, text: &'static [u8]) -> Result<Ended, NoMemory> {
+    call(
+        alloc,
+        &Row {
+            words: RUN,
+            text,
+            fetches_failing: &[],
+            puts_failing: &[],
+            err_room: 100,
+            out: b"",
+            err: b"",
+            status: 0,
+        },
+    )
 }
 
 #[test]
-fn broken_texts_are_refused(rt: HostRuntime) -> Result<(), Fail> {
+fn texts_are_refused(rt: HostRuntime) -> Result<(), Fail> {
     for (i, (text, line)) in REFUSED.iter().enumerate() {
         let ended = run_of(rt.alloc(), text)?;
         assert_eq!(rt; ended.status, 2, "status of row {i}");
+        assert_eq!(rt; ended.out.taken(), b"".as_slice(), "output of row {i}");
         assert_eq!(rt; ended.err.taken(), *line, "errors of row {i}");
+    }
+    Ok(())
+}
+
+#[test]
+fn texts_run(rt: HostRuntime) -> Result<(), Fail> {
+    for (i, (text, lines)) in RUNS.iter().enumerate() {
+        let ended = run_of(rt.alloc(), text)?;
+        assert_eq!(rt; ended.status, 0, "status of row {i}");
+        assert_eq!(rt; ended.out.taken(), *lines, "output of row {i}");
     }
     Ok(())
 }

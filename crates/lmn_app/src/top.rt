@@ -3,22 +3,23 @@ ghost use Rattle.std.specs.declared.alloc.Global.{Global};
 ghost use Rattle.lmn_io.specs.Counts.{Rose};
 ghost use Rattle.lmn_io.specs.Taking.{Takes, TakesPrefix};
 ghost use Rattle.lmn_base.specs.declared.refusal.Refusal.{Refusal};
-ghost use Rattle.lmn_app.specs.FirstGrammar.{Tree};
+ghost use Rattle.lmn_flatten.specs.Programs.{labels_of, rules_of};
 ghost use Rattle.lmn_app.specs.Words.{InForm, file_of};
 ghost use Rattle.lmn_app.specs.Endings.{IsCode, line_of, refusal_line};
 ghost use Rattle.lmn_app.specs.Outcomes.{Causes, Effects, Writes, WritesPrefix};
-ghost use Rattle.lmn_app.specs.Programs.{IsProcessOf, NamesAll};
-ghost use Rattle.lmn_app.specs.Runs.{Accepts, IsAccepted, IsRefusal, IfTold, IsToldAnd, told_under};
+ghost use Rattle.lmn_app.specs.Programs.{NamesAll};
+ghost use Rattle.lmn_app.specs.Runs.{IfTold, IsToldAnd, told_under};
 ghost use Rattle.lmn_app.specs.Stops.{stop_ending};
+ghost use Rattle.lmn_app.specs.Texts.{Accepts, IsAccepted, IsRefusal, text_bytes};
 ghost use Rattle.lmn_app.specs.declared.ending.Ending.{Ending};
 
 use crate::conclusion::conclude;
 use crate::ending::Ending;
-use crate::program::Program;
 use crate::running::{self, Stop};
 use crate::words::in_form;
 use crate::{printing, reading};
 use lmn_base::{Names, Pos, Refusal, TextFault};
+use lmn_flatten::Program;
 use lmn_io::{Failed, FetchFault, Fetched, Shelf, Sink};
 use std::alloc::Global;
 
@@ -45,6 +46,9 @@ pub fn lmn_main<F: Shelf, O: Sink, E: Sink>(
     // Status 3 comes where the words aren't of the form; a failing `err` alone takes its place.
     ensures words { result ≡ 3 → ¬ (InForm words.now) }
     ensures form { ¬ (InForm words.now) → (result ≡ 3) ⊎ ((result ≡ 5) × Rose (E.faults err.old) (E.faults err.new)) }
+
+    // Where the words aren't of the form no count of the shelf changes: nothing is fetched.
+    ensures unasked { ¬ (InForm words.now) → (name : List ℕ) → F.faults shelf.new name ≡ F.faults shelf.old name }
 
     // Status 4 comes only where the count of the file rose, and 5 only where that of a sink did.
     ensures read { result ≡ 4 → InForm words.now × Rose (F.faults shelf.old (file_of words.now)) (F.faults shelf.new (file_of words.now)) }
@@ -77,8 +81,10 @@ pub fn lmn_main<F: Shelf, O: Sink, E: Sink>(
     ensures err_words { result ≡ 3 → Takes (codes "lmn: words not understood\n") (E.told err.old) (E.told err.new) }
     ensures err_read { result ≡ 4 → Takes (codes "lmn: read failed\n") (E.told err.old) (E.told err.new) }
     ensures err_memory { result ≡ 6 → Takes (codes "lmn: out of memory\n") (E.told err.old) (E.told err.new) }
+    // With 5 either `out` failed, in the lines of a run, and `err` took its whole line; or `err` failed.
     ensures err_part { result ≡ 5 →
-        (TakesPrefix (codes "lmn: write failed\n") (E.told err.old) (E.told err.new) × Rose (O.faults out.old) (O.faults out.new))
+        (InForm words.now × WritesPrefix (told_under (F.told shelf.old) (file_of words.now)) (O.told out.old) (O.told out.new) × Rose (O.faults out.old) (O.faults out.new)
+        × Takes (codes "lmn: write failed\n") (E.told err.old) (E.told err.new) × (E.faults err.new ≡ E.faults err.old))
         ⊎ (Rose (E.faults err.old) (E.faults err.new) × ((ending : Ending)
         × Causes ending (told_under (F.told shelf.old) (file_of words.now)) words.now (F.faults shelf.old (file_of words.now)) (F.faults shelf.new (file_of words.now))
         × Effects ending (told_under (F.told shelf.old) (file_of words.now)) (O.told out.old) (O.told out.new) (O.faults out.old) (O.faults out.new)
@@ -90,6 +96,7 @@ pub fn lmn_main<F: Shelf, O: Sink, E: Sink>(
 
 /// Does what the words ask for, and says how it ended.
 fn act<F: Shelf, O: Sink>(alloc: Global, words: &[String], shelf: &mut F, out: &mut O) -> Ending
+    ensures unasked { ¬ (InForm words.now) → (name : List ℕ) → F.faults shelf.new name ≡ F.faults shelf.old name }
     ensures causes { Causes result (told_under (F.told shelf.old) (file_of words.now)) words.now (F.faults shelf.old (file_of words.now)) (F.faults shelf.new (file_of words.now)) }
     ensures effects { Effects result (told_under (F.told shelf.old) (file_of words.now)) (O.told out.old) (O.told out.new) (O.faults out.old) (O.faults out.new) }
 {
@@ -115,7 +122,7 @@ fn run<F: Shelf, O: Sink>(alloc: Global, file: &str, shelf: &mut F, out: &mut O)
 
 /// Reads a text and runs it.
 fn run_text<O: Sink>(alloc: Global, text: &[u8], out: &mut O) -> Ending
-    requires { length text.now ≤ 4194304 }
+    requires { length text.now ≤ text_bytes }
     ensures causes { (words : List (String Global)) (before after : ℕ) → InForm words → Causes result (Some (Some text.now)) words before after }
     ensures effects { Effects result (Some (Some text.now)) (O.told out.old) (O.told out.new) (O.faults out.old) (O.faults out.new) }
 {
@@ -133,9 +140,9 @@ fn run_text<O: Sink>(alloc: Global, text: &[u8], out: &mut O) -> Ending
 /// Lets a program react, and writes its last process and why it stopped.
 fn run_program<O: Sink>(names: &Names, program: Program, out: &mut O) -> Result<Stop, Failed>
     requires { NamesAll names.now program.atoms program.rules }
-    ensures wrote { (text : List ℕ) (tree : Tree) → Accepts text tree → IsProcessOf names.now program tree →
+    ensures wrote { (text : List ℕ) → Accepts text (labels_of names.now program.atoms) (rules_of names.now program.rules) →
         IfOk result (λ stop. Writes (Some (Some text)) stop (O.told out.old) (O.told out.new)) }
-    ensures prefix { (text : List ℕ) (tree : Tree) → Accepts text tree → IsProcessOf names.now program tree →
+    ensures prefix { (text : List ℕ) → Accepts text (labels_of names.now program.atoms) (rules_of names.now program.rules) →
         OnErr result (WritesPrefix (Some (Some text)) (O.told out.old) (O.told out.new)) }
     ensures same { OnOk result (O.faults out.new ≡ O.faults out.old) }
     ensures rose { OnErr result (Rose (O.faults out.old) (O.faults out.new)) }

@@ -1,5 +1,5 @@
-use Rattle.lmn_app.specs.Programs.{HasLabel}
-use Rattle.lmn_app.proofs.EachLaws.{all_here}
+use Rattle.lmn_flatten.specs.Programs.{HasLabel}
+use Rattle.lmn_flatten.proofs.AllLemmas.{all_here}
 use Rattle.lmn_app.proofs.RunningLemmas.{has_fired, taken_more}
 use Rattle.lmn_app.proofs.running.fire.Goals as goal
 

@@ -1,7 +1,7 @@
 use Rattle.std.proofs.Common.{◌≡◌, List, drop}
 use Rattle.lmn_base.specs.Names.{IsNames}
 use Rattle.lmn_congruence.specs.Rules.{Name}
-use Rattle.lmn_app.specs.Programs.{labels_of, HasLabels}
+use Rattle.lmn_flatten.specs.Programs.{labels_of, HasLabels}
 use Rattle.lmn_app.specs.Firings.{without_all}
 use Rattle.lmn_app.proofs.running.fire.Given as goal
 

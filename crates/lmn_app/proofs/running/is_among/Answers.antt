@@ -1,6 +1,6 @@
 use Rattle.std.proofs.Common.{refl}
-use Rattle.lmn_app.specs.Programs.{HasLabel}
-use Rattle.lmn_app.proofs.EachLaws.{all_here}
+use Rattle.lmn_flatten.specs.Programs.{HasLabel}
+use Rattle.lmn_flatten.proofs.AllLemmas.{all_here}
 use Rattle.lmn_app.proofs.RunningLemmas.{all_counted, counted_more, not_counted}
 use Rattle.lmn_app.proofs.running.is_among.Goals as goal
 

@@ -1,6 +1,6 @@
 use Rattle.std.proofs.Common.{◌≡◌, arith, lit≤, refl, subst, sym}
 use Rattle.lmn_app.specs.Firings.{no_step, SomeCovered}
-use Rattle.lmn_app.specs.Programs.{labels_of, rules_of}
+use Rattle.lmn_flatten.specs.Programs.{labels_of, rules_of}
 use Rattle.lmn_app.proofs.RunningLemmas.{AreFired, one_more, all_commit, first_covers, none_stops, at_error, at_value}
 use Rattle.lmn_app.proofs.running.react.Goals as goal
 
@@ -25,7 +25,7 @@ pub returns-in_default-clause-stopped : goal.returns-in_default-clause-stopped
 returns-in_default-clause-stopped c =
     λ names h.
     let n = none_stops c.loop-fired.fired c.args.rules.now c.args.atoms.now.items _ c.loop-fired.atoms.items c.loop-fired.invariant c.as_slice.ensures.value c.in_default.ensures names h in
-    (omega (arith, c.loop-fired-test.true), n.0, n.1)
+    (omega (arith, c.loop-fired-test.true), n)
 
 pub returns-in_default-clause-has_names : goal.returns-in_default-clause-has_names
 returns-in_default-clause-has_names c =
@@ -93,7 +93,7 @@ pub returns-in-None-clause-stopped : goal.returns-in-None-clause-stopped
 returns-in-None-clause-stopped c =
     λ names h.
     let n = none_stops c.loop-fired.fired c.args.rules.now c.args.atoms.now.items _ c.loop-fired.atoms.items c.loop-fired.invariant c.as_slice-2.ensures.value c.in-None.ensures names h in
-    (lit≤ tt, n.0, n.1)
+    (lit≤ tt, n)
 
 pub returns-in-None-clause-has_names : goal.returns-in-None-clause-has_names
 returns-in-None-clause-has_names c =

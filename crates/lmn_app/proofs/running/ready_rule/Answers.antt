@@ -1,7 +1,7 @@
 use Rattle.std.proofs.Common.{sym, subst, ◌∙◌}
 use Rattle.std.proofs.lemmas.Bool.{false≢true}
-use Rattle.lmn_app.specs.Programs.{HasLabels, HasRule}
-use Rattle.lmn_app.proofs.EachLaws.{all_here}
+use Rattle.lmn_flatten.specs.Programs.{HasLabels, HasRule}
+use Rattle.lmn_flatten.proofs.AllLemmas.{all_here}
 use Rattle.lmn_app.proofs.RunningLemmas.{none_more, none_of_all, first_found}
 use Rattle.lmn_app.proofs.running.ready_rule.Goals as goal
 

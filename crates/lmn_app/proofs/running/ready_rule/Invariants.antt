@@ -1,6 +1,7 @@
 use Rattle.std.proofs.Common.{List, take}
 use Rattle.lmn_congruence.specs.Rules.{Name}
-use Rattle.lmn_app.specs.Programs.{labels_of, rules_of, NamesAll}
+use Rattle.lmn_flatten.specs.Programs.{labels_of, rules_of}
+use Rattle.lmn_app.specs.Programs.{NamesAll}
 use Rattle.lmn_app.specs.Firings.{NoneCovered}
 use Rattle.lmn_app.proofs.running.ready_rule.Given as goal
 
