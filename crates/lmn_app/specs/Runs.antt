@@ -1,5 +1,7 @@
 -- What a run of a text is, as it is printed.
 use Rattle.std.specs.Prelude.{◌≡◌, ℕ, ◌<◌, ◌≤◌, List, Option, None, Some, IfSome, IsSomeAnd}
+use Rattle.std.specs.declared.string.String.{String}
+use Rattle.std.specs.declared.alloc.Global.{Global}
 use Rattle.lmn_congruence.specs.Process.{Process, Closed}
 use Rattle.lmn_congruence.specs.reduction.Commits.{Settles, Irreducible}
 use Rattle.lmn_congruence.specs.Rules.{Label}
@@ -11,11 +13,16 @@ use Rattle.lmn_app.specs.declared.running.Stop.TheVariants as stop
 use Rattle.lmn_app.specs.Firings.{Commits, Firings, budget}
 use Rattle.lmn_app.specs.Processes.{flat_process}
 use Rattle.lmn_app.specs.Texts.{Accepts}
+use Rattle.lmn_app.specs.Words.{file_of}
 
 -- what a map of texts, if one is told, has under a name
 abbrev pub told_under : Option (List ℕ → Option (List ℕ)) → List ℕ → Option (Option (List ℕ))
 told_under None name = None
 told_under (Some texts) name = Some (texts name)
+
+-- and under the name of the file that words name
+abbrev pub named_text : Option (List ℕ → Option (List ℕ)) → List (String Global) → Option (Option (List ℕ))
+named_text told words = told_under told (file_of words)
 
 -- where a map is told, the text is there, and this holds of it
 abbrev pub IsToldAnd : Option (Option (List ℕ)) → (List ℕ → Type 0) → Type 0

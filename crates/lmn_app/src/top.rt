@@ -8,7 +8,7 @@ ghost use Rattle.lmn_app.specs.Words.{InForm, file_of};
 ghost use Rattle.lmn_app.specs.Endings.{IsCode, line_of, refusal_line};
 ghost use Rattle.lmn_app.specs.Outcomes.{Causes, Effects, Writes, WritesPrefix};
 ghost use Rattle.lmn_app.specs.Programs.{NamesAll};
-ghost use Rattle.lmn_app.specs.Runs.{IfTold, IsToldAnd, told_under};
+ghost use Rattle.lmn_app.specs.Runs.{IfTold, IsToldAnd, named_text, told_under};
 ghost use Rattle.lmn_app.specs.Stops.{stop_ending};
 ghost use Rattle.lmn_app.specs.Texts.{Accepts, IsAccepted, IsRefusal, text_bytes};
 ghost use Rattle.lmn_app.specs.declared.ending.Ending.{Ending};
@@ -58,23 +58,23 @@ pub fn lmn_main<F: Shelf, O: Sink, E: Sink>(
     ensures puts { ¬ (result ≡ 5) → (O.faults out.new ≡ O.faults out.old) × (E.faults err.new ≡ E.faults err.old) }
 
     // Status 2 comes where the text isn't accepted; 4, 5 and 6 alone take its place.
-    ensures refused { result ≡ 2 → (refusal : Refusal) × IsToldAnd (told_under (F.told shelf.old) (file_of words.now)) (λ text. IsRefusal text refusal)
+    ensures refused { result ≡ 2 → (refusal : Refusal) × IsToldAnd (named_text (F.told shelf.old) words.now) (λ text. IsRefusal text refusal)
         × IsCode refusal.code × Takes (refusal_line refusal) (E.told err.old) (E.told err.new) }
-    ensures not_accepted { InForm words.now → IfTold (told_under (F.told shelf.old) (file_of words.now)) (λ text.
+    ensures not_accepted { InForm words.now → IfTold (named_text (F.told shelf.old) words.now) (λ text.
         ¬ (IsAccepted text) → (result ≡ 2) ⊎ (result ≡ 4) ⊎ (result ≡ 5) ⊎ (result ≡ 6)) }
 
     // Where nothing fails, an accepted text runs, or memory is wanting.
     ensures answers { InForm words.now → ¬ (Rose (F.faults shelf.old (file_of words.now)) (F.faults shelf.new (file_of words.now)))
         → ¬ (Rose (O.faults out.old) (O.faults out.new)) → ¬ (Rose (E.faults err.old) (E.faults err.new))
-        → IfTold (told_under (F.told shelf.old) (file_of words.now)) (λ text. IsAccepted text → (result ≡ 0) ⊎ (result ≡ 1) ⊎ (result ≡ 6)) }
+        → IfTold (named_text (F.told shelf.old) words.now) (λ text. IsAccepted text → (result ≡ 0) ⊎ (result ≡ 1) ⊎ (result ≡ 6)) }
 
     // What `out` took, for each status.
-    ensures out_done { result ≡ 0 → Writes (told_under (F.told shelf.old) (file_of words.now)) Stop.Irreducible (O.told out.old) (O.told out.new) }
-    ensures out_budget { result ≡ 1 → Writes (told_under (F.told shelf.old) (file_of words.now)) Stop.Budget (O.told out.old) (O.told out.new) }
+    ensures out_done { result ≡ 0 → Writes (named_text (F.told shelf.old) words.now) Stop.Irreducible (O.told out.old) (O.told out.new) }
+    ensures out_budget { result ≡ 1 → Writes (named_text (F.told shelf.old) words.now) Stop.Budget (O.told out.old) (O.told out.new) }
     ensures out_untouched { (result ≡ 2) ⊎ (result ≡ 3) ⊎ (result ≡ 4) → O.told out.new ≡ O.told out.old }
-    ensures out_part { result ≡ 5 → (O.told out.new ≡ O.told out.old) ⊎ WritesPrefix (told_under (F.told shelf.old) (file_of words.now)) (O.told out.old) (O.told out.new) }
+    ensures out_part { result ≡ 5 → (O.told out.new ≡ O.told out.old) ⊎ WritesPrefix (named_text (F.told shelf.old) words.now) (O.told out.old) (O.told out.new) }
     ensures out_memory { result ≡ 6 → (O.told out.new ≡ O.told out.old)
-        ⊎ Writes (told_under (F.told shelf.old) (file_of words.now)) Stop.NoMemory (O.told out.old) (O.told out.new) }
+        ⊎ Writes (named_text (F.told shelf.old) words.now) Stop.NoMemory (O.told out.old) (O.told out.new) }
 
     // What `err` took, for each status but 2.
     ensures err_quiet { (result ≡ 0) ⊎ (result ≡ 1) → E.told err.new ≡ E.told err.old }
@@ -83,11 +83,11 @@ pub fn lmn_main<F: Shelf, O: Sink, E: Sink>(
     ensures err_memory { result ≡ 6 → Takes (codes "lmn: out of memory\n") (E.told err.old) (E.told err.new) }
     // With 5 either `out` failed, in the lines of a run, and `err` took its whole line; or `err` failed.
     ensures err_part { result ≡ 5 →
-        (InForm words.now × WritesPrefix (told_under (F.told shelf.old) (file_of words.now)) (O.told out.old) (O.told out.new) × Rose (O.faults out.old) (O.faults out.new)
+        (InForm words.now × WritesPrefix (named_text (F.told shelf.old) words.now) (O.told out.old) (O.told out.new) × Rose (O.faults out.old) (O.faults out.new)
         × Takes (codes "lmn: write failed\n") (E.told err.old) (E.told err.new) × (E.faults err.new ≡ E.faults err.old))
         ⊎ (Rose (E.faults err.old) (E.faults err.new) × ((ending : Ending)
-        × Causes ending (told_under (F.told shelf.old) (file_of words.now)) words.now (F.faults shelf.old (file_of words.now)) (F.faults shelf.new (file_of words.now))
-        × Effects ending (told_under (F.told shelf.old) (file_of words.now)) (O.told out.old) (O.told out.new) (O.faults out.old) (O.faults out.new)
+        × Causes ending (named_text (F.told shelf.old) words.now) words.now (F.faults shelf.old (file_of words.now)) (F.faults shelf.new (file_of words.now))
+        × Effects ending (named_text (F.told shelf.old) words.now) (O.told out.old) (O.told out.new) (O.faults out.old) (O.faults out.new)
         × TakesPrefix (line_of ending) (E.told err.old) (E.told err.new))) }
 {
     let ending = act(alloc, words, shelf, out);
@@ -97,8 +97,8 @@ pub fn lmn_main<F: Shelf, O: Sink, E: Sink>(
 /// Does what the words ask for, and says how it ended.
 fn act<F: Shelf, O: Sink>(alloc: Global, words: &[String], shelf: &mut F, out: &mut O) -> Ending
     ensures unasked { ¬ (InForm words.now) → (name : List ℕ) → F.faults shelf.new name ≡ F.faults shelf.old name }
-    ensures causes { Causes result (told_under (F.told shelf.old) (file_of words.now)) words.now (F.faults shelf.old (file_of words.now)) (F.faults shelf.new (file_of words.now)) }
-    ensures effects { Effects result (told_under (F.told shelf.old) (file_of words.now)) (O.told out.old) (O.told out.new) (O.faults out.old) (O.faults out.new) }
+    ensures causes { Causes result (named_text (F.told shelf.old) words.now) words.now (F.faults shelf.old (file_of words.now)) (F.faults shelf.new (file_of words.now)) }
+    ensures effects { Effects result (named_text (F.told shelf.old) words.now) (O.told out.old) (O.told out.new) (O.faults out.old) (O.faults out.new) }
 {
     match words {
         [_, file] if in_form(words) => run(alloc, file.as_str(), shelf, out),
