@@ -1,5 +1,6 @@
 -- Texts of the language, and why others are refused.
 use Rattle.std.proofs.Common.{◌≡◌, ℕ, List, Some, None, inl, inr, refl, sym, ◌∙◌, ap, subst, arith, slice_get}
+use Rattle.std.proofs.lemmas.Option.{same_Some}
 use Rattle.lmn_base.specs.Refusals.{IfRefused}
 use Rattle.lmn_base.specs.declared.refusal.Refusal.{Refusal}
 use Rattle.lmn_base.specs.declared.refusal.TextFault.{TextFault}
@@ -108,7 +109,7 @@ refused_not_accepted text r (inr (short, not_built t n e)) (atoms, rules, a) = b
 -- one refusal
 
 same_token : (ts : List Token) (n m : ℕ) (t u : Token) → n ≡ m → slice_get ts n ≡ Some t → slice_get ts m ≡ Some u → t ≡ u
-same_token ts n m t u e h k = let same : Some t ≡ Some u = sym h ∙ ap (slice_get ts) e ∙ k in cc
+same_token ts n m t u e h k = same_Some t u (sym h ∙ ap (slice_get ts) e ∙ k)
 
 same_refusal : (r q : Refusal) → r.code ≡ q.code → r.pos ≡ q.pos → r ≡ q
 same_refusal r q c p = ap (λ code. record { code = code; pos = r.pos }) c ∙ ap (λ pos. record { code = q.code; pos = pos }) p

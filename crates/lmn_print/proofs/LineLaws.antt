@@ -14,6 +14,7 @@ use Rattle.lmn_flatten.specs.Texts.{SpellsProcess}
 use Rattle.lmn_lexer.specs.Faults.{BeginsFraction}
 use Rattle.lmn_lexer.specs.Laying.{Stops}
 use Rattle.lmn_lexer.specs.Cutting.{is_operand}
+use Rattle.lmn_lexer.proofs.Found.{head_is, tail_is}
 use Rattle.lmn_lexer.proofs.Runs.{unequal_when}
 use Rattle.lmn_print.specs.Labels.{label_text}
 use Rattle.lmn_print.specs.Laws.{IsSpelled, IsRuleSpelled, LinesAreRead}
@@ -41,18 +42,12 @@ label_laid label {rest = rest} h behind laid =
     let w = label_spelled label h in
     laid_word true w.kind (label_text label) refl w.spells (w.follows rest behind) w.spelled (λ h. w.right) (laid (not (is_operand w.kind)))
 
-first_is : {b c : ℕ} {bs cs : List ℕ} → b ∷ bs ≡ c ∷ cs → b ≡ c
-first_is e = cc
-
-rest_is : {b c : ℕ} {bs cs : List ℕ} → b ∷ bs ≡ c ∷ cs → bs ≡ cs
-rest_is e = cc
-
 no_fraction : (b : ℕ) (rest : List ℕ) → (b == 46) ≡ false → ¬ (BeginsFraction (b ∷ rest))
-no_fraction b rest h f = unequal_when b 46 h (first_is f.2)
+no_fraction b rest h f = unequal_when b 46 h (head_is f.2)
 
 digit_behind : (rest : List ℕ) → Stops is_ascii_digit rest → ¬ (BeginsFraction (46 ∷ rest))
-digit_behind [] s f = let e = rest_is f.2 in cc
-digit_behind (d ∷ ds) s f = absurd (true≢false (sym f.3 ∙ sym (ap is_ascii_digit (first_is (rest_is f.2))) ∙ s))
+digit_behind [] s f = let e = tail_is f.2 in cc
+digit_behind (d ∷ ds) s f = absurd (true≢false (sym f.3 ∙ sym (ap is_ascii_digit (head_is (tail_is f.2))) ∙ s))
 
 comma_behind : (rest : List ℕ) → IsBehind (44 ∷ rest)
 comma_behind rest = (refl, refl, refl, no_fraction 44 rest refl)
