@@ -7,21 +7,22 @@ use Rattle.lmn_congruence.specs.Rules.{Label, named, rules_list}
 use Rattle.lmn_congruence.specs.Plains.{leaf_process}
 use Rattle.lmn_congruence.specs.Fused.{NoConnector}
 use Rattle.lmn_congruence.specs.UpToOrder.{Reordered, r_unit, r_swap, r_regroup, r_beside, r_back, r_chain}
-use Rattle.lmn_congruence.specs.reduction.Assignments.{Assignment}
-use Rattle.lmn_congruence.specs.reduction.Instances.{LeafInstances, instance, no_leaf, leaf_and, of_atom, no_membrane}
-use Rattle.lmn_congruence.specs.reduction.Guards.{no_condition}
-use Rattle.lmn_congruence.specs.reduction.Firing.{Fires, fires as fires_rule}
-use Rattle.lmn_congruence.specs.reduction.Steps.{Step, leaf, beside, up_to}
-use Rattle.lmn_congruence.specs.reduction.Commits.{Commit, already}
+use Rattle.lmn_reduction.specs.Assignments.{Assignment}
+use Rattle.lmn_reduction.specs.Instances.{LeafInstances, instance, no_leaf, leaf_and, of_atom, no_membrane}
+use Rattle.lmn_reduction.specs.Guards.{no_condition}
+use Rattle.lmn_reduction.specs.Firing.{Fires, fires as fires_rule}
+use Rattle.lmn_reduction.specs.Steps.{Step, leaf, beside, up_to}
+use Rattle.lmn_reduction.specs.Commits.{Commit, already}
 use Rattle.lmn_congruence.proofs.Counts.{linked_left}
-use Rattle.lmn_congruence.proofs.Derivations.{zero_not_one}
+use Rattle.lmn_reduction.proofs.Derivations.{zero_not_one}
 use Rattle.lmn_congruence.proofs.Reordered.{reordered_congruent, r_right}
-use Rattle.lmn_congruence.proofs.SettledProcesses.{no_connector_settled}
+use Rattle.lmn_reduction.proofs.SettledProcesses.{no_connector_settled}
 use Rattle.lmn_congruence.proofs.Solids.{put_together}
 use Rattle.lmn_app.specs.Labels.{same_label}
 use Rattle.lmn_flatten.specs.Processes.{FlatRule}
 use Rattle.lmn_app.specs.Processes.{atom_of, flat_rule, flat_rules, flat_process}
-use Rattle.lmn_app.specs.Firings.{count_of, Covers, without, without_all, atoms_after, Firing, fires, FirstCovered, Chain, no_step, step_after, FiringCommits, FiringsCommit, FlatClosed, FlatSettles}
+use Rattle.lmn_reduction.specs.Chains.{Chain, no_step, step_after}
+use Rattle.lmn_app.specs.Firings.{count_of, Covers, without, without_all, atoms_after, Firing, fires, FirstCovered, FiringCommits, FiringsCommit, FlatClosed, FlatSettles}
 use Rattle.lmn_app.proofs.LabelLaws.{same_label-Decides}
 
 -- ---- processes without links

@@ -6,14 +6,14 @@ use Rattle.lmn_congruence.specs.Process.{Process, rule, together}
 use Rattle.lmn_congruence.specs.Weights.{weight}
 use Rattle.lmn_congruence.specs.Rules.{Label, Rule, rules_list, head_of}
 use Rattle.lmn_congruence.specs.Plains.{leaf_process}
-use Rattle.lmn_congruence.specs.reduction.Assignments.{Assignment}
-use Rattle.lmn_congruence.specs.reduction.Instances.{LeafInstances, Instance, instance, no_leaf, leaf_and, of_atom, no_membrane}
-use Rattle.lmn_congruence.specs.reduction.Firing.{Matches}
-use Rattle.lmn_congruence.specs.reduction.Steps.{Step}
-use Rattle.lmn_congruence.specs.reduction.Redexes.{HasRedex, at_top, in_membrane}
+use Rattle.lmn_reduction.specs.Assignments.{Assignment}
+use Rattle.lmn_reduction.specs.Instances.{LeafInstances, Instance, instance, no_leaf, leaf_and, of_atom, no_membrane}
+use Rattle.lmn_reduction.specs.Firing.{Matches}
+use Rattle.lmn_reduction.specs.Steps.{Step}
+use Rattle.lmn_reduction.specs.Redexes.{HasRedex, at_top, in_membrane}
 use Rattle.lmn_congruence.proofs.KeptRules.{AllRules, kept_rules}
 use Rattle.lmn_congruence.proofs.KeptWeights.{kept_weight}
-use Rattle.lmn_congruence.proofs.Redexes.{step_shows}
+use Rattle.lmn_reduction.proofs.Redexes.{step_shows}
 use Rattle.lmn_app.specs.Labels.{same_label}
 use Rattle.lmn_flatten.specs.Processes.{FlatRule}
 use Rattle.lmn_app.specs.Processes.{atom_of, flat_rule, flat_rules, flat_process}

@@ -5,3 +5,4 @@ pub mod OutcomeLemmas
 pub mod RunLemmas
 pub mod RunningLemmas
 pub mod TextLemmas
+pub mod AcceptedOrRefused

@@ -87,7 +87,7 @@ pub accepted_answered : (ending : Ending) (told : Option (Option (List ℕ))) (w
     (err_old err_new : Option (List ℕ)) (err_before err_after : ℕ) → Causes ending told words before after → Effects ending told out_old out_new out_before out_after
     → Concludes ending status err_old err_new err_before err_after → InForm words → ¬ (Rose before after) → ¬ (Rose out_before out_after) → ¬ (Rose err_before err_after)
     → IfTold told (λ text. IsAccepted text → (status ≡ 0) ⊎ (status ≡ 1) ⊎ (status ≡ 6))
-accepted_answered ending told words before after oo on ob oa status eo en eb ea c e (inr (s, p, rose)) form read out err = absurd (err rose)
+accepted_answered ending told words before after oo on ob oa status eo en eb ea c e (inr (s, p, rose, line)) form read out err = absurd (err rose)
 accepted_answered Done told words before after oo on ob oa status eo en eb ea c e (inl h) form read out err = when_told told _ (λ text a. inl h.0)
 accepted_answered Budget told words before after oo on ob oa status eo en eb ea c e (inl h) form read out err = when_told told _ (λ text a. inr (inl h.0))
 accepted_answered (Refused r) told words before after oo on ob oa status eo en eb ea c e (inl h) form read out err = refused_told told r _ c.1

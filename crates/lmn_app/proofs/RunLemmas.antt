@@ -8,7 +8,8 @@ use Rattle.lmn_base.specs.declared.functor.Label as base
 use Rattle.lmn_app.specs.Labels.{same_label}
 use Rattle.lmn_flatten.specs.Processes.{FlatRule}
 use Rattle.lmn_app.specs.Processes.{flat_process}
-use Rattle.lmn_app.specs.Firings.{no_step, step_after, fires, Firings, without, without_all, Stopped}
+use Rattle.lmn_reduction.specs.Chains.{no_step, step_after}
+use Rattle.lmn_app.specs.Firings.{fires, Firings, without, without_all, Stopped}
 use Rattle.lmn_print.specs.Laws.{IsSpelled, IsRuleSpelled}
 use Rattle.lmn_print.specs.Lines.{line}
 use Rattle.lmn_app.specs.Texts.{Accepts}

@@ -19,7 +19,8 @@ use Rattle.lmn_app.specs.Programs.{NamesAll, is_one}
 use Rattle.lmn_flatten.specs.Processes.{FlatRule}
 use Rattle.lmn_app.specs.Processes.{flat_process}
 use Rattle.lmn_flatten.specs.declared.program.Rule.{Rule}
-use Rattle.lmn_app.specs.Firings.{count_of, without, Covers, SomeCovered, NoneCovered, FirstCovered, without_all, Firing, fires, Firings, Commits, step_after}
+use Rattle.lmn_reduction.specs.Chains.{Commits, step_after}
+use Rattle.lmn_app.specs.Firings.{count_of, without, Covers, SomeCovered, NoneCovered, FirstCovered, without_all, Firing, fires, Firings}
 use Rattle.lmn_flatten.proofs.AllLemmas.{all_append, all_removed}
 use Rattle.lmn_app.proofs.LabelLaws.{one_label, same_label-Decides}
 use Rattle.lmn_app.proofs.FiringLemmas.{all_taken_before, first_among, firings_commit}

@@ -1,5 +1,5 @@
 -- Texts of the language, and why others are refused.
-use Rattle.std.proofs.Common.{◌≡◌, ℕ, List, Some, None, inl, inr, refl, sym, ◌∙◌, ap, subst, arith, slice_get}
+use Rattle.std.proofs.Common.{◌≡◌, ℕ, List, Some, inl, inr, refl, sym, ◌∙◌, ap, subst, arith, slice_get}
 use Rattle.std.proofs.lemmas.Option.{same_Some}
 use Rattle.lmn_base.specs.Refusals.{IfRefused}
 use Rattle.lmn_base.specs.declared.refusal.Refusal.{Refusal}
@@ -7,9 +7,8 @@ use Rattle.lmn_base.specs.declared.refusal.TextFault.{TextFault}
 use Rattle.lmn_base.specs.declared.refusal.TextFault.TheVariants.{Refused, NoMemory}
 use Rattle.lmn_grammar.proofs.Refusals.{refused_derive_nothing}
 use Rattle.lmn_grammar.proofs.Refusals.{one_refusal as grammar_refusal}
-use Rattle.std.specs.Prelude.{Result, Ok, Err, IfOk, IfErr, OnOk, Bool, true, false, ◌||◌, ◌&&◌, if◌then◌else◌}
+use Rattle.std.specs.Prelude.{Result, Ok, Err, IfOk, IfErr, OnOk, Bool}
 use Rattle.lmn_lexer.specs.declared.token.Kind.{Kind}
-use Rattle.lmn_grammar.specs.Limits.{Scan, scan, passes, is_too_deep, has_too_many, is_equal, is_full}
 use Rattle.lmn_grammar.specs.Refusing.{IsWithin, Refuses, IsRefused as IsRefusedAt}
 use Rattle.lmn_lexer.proofs.OneCut.{one_cut, refused_is_wrong}
 use Rattle.lmn_lexer.proofs.OneCut.{one_refusal as lexer_refusal}
@@ -80,17 +79,10 @@ wrong_code minus text _ _ (string a b) = inl (omega arith, omega arith)
 wrong_code minus text _ _ (inline_code a b) = inl (omega arith, omega arith)
 wrong_code minus text _ _ (hyperlink a b) = inl (omega arith, omega arith)
 
-limit_code : (s : Scan) (k : Kind) (code : ℕ) → passes s k ≡ Some code → IsCode code
-limit_code s k code h = go (is_too_deep s k) (has_too_many s.opened || (is_equal k && is_full s.last)) h
-  where
-    go : (deep many : Bool) → (if deep then Some 11 else if many then Some 12 else None) ≡ Some code → IsCode code
-    go true many h = let e : 11 ≡ code = cc in inl (omega (arith, e), omega (arith, e))
-    go false true h = let e : 12 ≡ code = cc in inl (omega (arith, e), omega (arith, e))
-    go false false h = absurd (cc)
-
 refuses_code : (code : ℕ) (before : List Kind) (token : Kind) → Refuses code before token → IsCode code
 refuses_code code before token (inl (e, h)) = inl (omega (arith, e), omega (arith, e))
-refuses_code code before token (inr (b, h)) = limit_code (scan before) token code h
+refuses_code code before token (inr (b, inl h)) = let e = h.0 in inl (omega (arith, e), omega (arith, e))
+refuses_code code before token (inr (b, inr h)) = let e = h.0 in inl (omega (arith, e), omega (arith, e))
 
 fault_code : (text : List ℕ) (r : Refusal) → IsFault text r → IsCode r.code
 fault_code text r (lexical h) = wrong_code _ _ _ _ h.wrong

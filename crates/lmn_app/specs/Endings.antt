@@ -1,5 +1,5 @@
 -- How a call ends: its status, and the line that `err` takes.
-use Rattle.std.specs.Prelude.{◌≡◌, ◌≤◌, ℕ, ◌⊎◌, List, [], ◌∷◌, ◌==◌, Option, codes, decimal, nat_lt, if◌then◌else◌}
+use Rattle.std.specs.Prelude.{◌≡◌, ◌≤◌, ℕ, ⊤, ◌⊎◌, List, [], ◌∷◌, ◌==◌, Option, codes, decimal, nat_lt, if◌then◌else◌}
 use Rattle.std.specs.List.{concat}
 use Rattle.lmn_base.specs.declared.refusal.Refusal.{Refusal}
 use Rattle.lmn_app.specs.declared.ending.Ending.{Ending}
@@ -57,8 +57,18 @@ line_of ReadFault = codes "lmn: read failed\n"
 line_of WriteFault = codes "lmn: write failed\n"
 line_of NoMemory = codes "lmn: out of memory\n"
 
+-- the endings that have a line
+abbrev pub HasLine : Ending → Type 0
+HasLine Done = ⊥
+HasLine Budget = ⊥
+HasLine (Refused refusal) = ⊤
+HasLine Words = ⊤
+HasLine ReadFault = ⊤
+HasLine WriteFault = ⊤
+HasLine NoMemory = ⊤
+
 -- The answer to an ending, beside what `err` took and its count of faults before and after:
--- the ending's status where `err` took the whole line, and else 5.
+-- the ending's status where `err` took the whole line, and else 5; `err` fails only where a line is due.
 abbrev pub Concludes : Ending → ℕ → Option (List ℕ) → Option (List ℕ) → ℕ → ℕ → Type 0
 Concludes ending status old new before after =
-    ((status ≡ status_of ending) × Takes (line_of ending) old new × (after ≡ before)) ⊎ ((status ≡ 5) × TakesPrefix (line_of ending) old new × Rose before after)
+    ((status ≡ status_of ending) × Takes (line_of ending) old new × (after ≡ before)) ⊎ ((status ≡ 5) × TakesPrefix (line_of ending) old new × Rose before after × HasLine ending)

@@ -3,7 +3,8 @@ use Rattle.std.specs.Prelude.{◌≡◌, ◌↔◌, ℕ, ◌+◌, ◌<◌, ◌�
 use Rattle.lmn_congruence.specs.Orders.{Among}
 use Rattle.lmn_congruence.specs.Process.{Process, Closed}
 use Rattle.lmn_congruence.specs.Rules.{Label}
-use Rattle.lmn_congruence.specs.reduction.Commits.{Settles, Commit, Irreducible}
+use Rattle.lmn_reduction.specs.Chains.{Chain, Commits}
+use Rattle.lmn_reduction.specs.Commits.{Settles, Commit, Irreducible}
 use Rattle.lmn_app.specs.declared.running.Stop.{Stop}
 use Rattle.lmn_app.specs.declared.running.Stop.TheVariants as stop
 use Rattle.lmn_flatten.specs.Processes.{FlatRule}
@@ -52,16 +53,8 @@ pub record FirstCovered (r : FlatRule) (rules : List FlatRule) (atoms : List Lab
 pub data Firing (rules : List FlatRule) (atoms : List Label) : List Label → Type 0 where
   fires : {r : FlatRule} → FirstCovered r rules atoms → Firing rules atoms (atoms_after r atoms)
 
--- a chain of n steps of a relation
-pub data Chain {A : Type 0} (R : A → A → Type 0) (x : A) : ℕ → A → Type 0 where
-  no_step : Chain R x 0 x
-  step_after : {n : ℕ} {y z : A} → Chain R x n y → R y z → Chain R x (n + 1) z
-
 abbrev pub Firings : ℕ → List FlatRule → List Label → List Label → Type 0
 Firings n rules old new = Chain (Firing rules) old n new
-
-abbrev pub Commits : ℕ → Process → Process → Type 0
-Commits n P Q = Chain Commit P n Q
 
 -- the most firings of a run
 abbrev pub budget : ℕ

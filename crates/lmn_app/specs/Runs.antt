@@ -3,14 +3,15 @@ use Rattle.std.specs.Prelude.{◌≡◌, ℕ, ◌<◌, ◌≤◌, List, Option, 
 use Rattle.std.specs.declared.string.String.{String}
 use Rattle.std.specs.declared.alloc.Global.{Global}
 use Rattle.lmn_congruence.specs.Process.{Process, Closed}
-use Rattle.lmn_congruence.specs.reduction.Commits.{Settles, Irreducible}
+use Rattle.lmn_reduction.specs.Commits.{Settles, Irreducible}
 use Rattle.lmn_congruence.specs.Rules.{Label}
 use Rattle.lmn_flatten.specs.Processes.{FlatRule}
 use Rattle.lmn_flatten.specs.Texts.{SpellsProcess}
 use Rattle.lmn_print.specs.Lines.{line}
 use Rattle.lmn_app.specs.declared.running.Stop.{Stop}
 use Rattle.lmn_app.specs.declared.running.Stop.TheVariants as stop
-use Rattle.lmn_app.specs.Firings.{Commits, Firings, budget}
+use Rattle.lmn_reduction.specs.Chains.{Commits}
+use Rattle.lmn_app.specs.Firings.{Firings, budget}
 use Rattle.lmn_app.specs.Processes.{flat_process}
 use Rattle.lmn_app.specs.Texts.{Accepts}
 use Rattle.lmn_app.specs.Words.{file_of}

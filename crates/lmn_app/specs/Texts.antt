@@ -60,3 +60,7 @@ RefusedNotAccepted = (text : List ℕ) (refusal : Refusal) → IsRefusal text re
 -- a text has one refusal at most
 abbrev pub OneRefusal : Type 0
 OneRefusal = (text : List ℕ) (refusal other : Refusal) → IsRefusal text refusal → IsRefusal text other → refusal ≡ other
+
+-- a text is accepted, or it is refused
+abbrev pub AcceptedOrRefused : Type 0
+AcceptedOrRefused = (text : List ℕ) → IsAccepted text ⊎ ((refusal : Refusal) × IsRefusal text refusal)

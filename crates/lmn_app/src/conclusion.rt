@@ -1,7 +1,7 @@
-ghost use Rattle.std.specs.Prelude.{◌≡◌, ◌≤◌, OnOk, OnErr};
+ghost use Rattle.std.specs.Prelude.{◌≡◌, OnOk, OnErr};
 ghost use Rattle.lmn_io.specs.Counts.{Rose};
 ghost use Rattle.lmn_io.specs.Taking.{Takes, TakesPrefix};
-ghost use Rattle.lmn_app.specs.Endings.{Concludes, code_letters, code_words, line_of, refusal_line};
+ghost use Rattle.lmn_app.specs.Endings.{Concludes, HasLine, code_letters, code_words, line_of, refusal_line};
 
 use crate::ending::Ending;
 use itoa::Buffer;
@@ -21,6 +21,7 @@ pub(crate) fn conclude<E: Sink>(err: &mut E, ending: Ending) -> u8
 /// Puts the line of an ending, if it has one.
 #[tactic(auto, using(lmn_io::proofs::TakingLemmas::taking))]
 fn report<E: Sink>(err: &mut E, ending: Ending) -> Result<(), Failed>
+    ensures line { OnErr result (HasLine ending) }
     ensures took { OnOk result (Takes (line_of ending) (E.told err.old) (E.told err.new)) }
     ensures prefix { OnErr result (TakesPrefix (line_of ending) (E.told err.old) (E.told err.new)) }
     ensures same { OnOk result (E.faults err.new ≡ E.faults err.old) }

@@ -2,7 +2,7 @@
 //! or refused, and refused in one way.
 
 ghost use Rattle.lmn_app.specs.Labels.{SameLabels};
-ghost use Rattle.lmn_app.specs.Texts.{OneRefusal, RefusedNotAccepted};
+ghost use Rattle.lmn_app.specs.Texts.{AcceptedOrRefused, OneRefusal, RefusedNotAccepted};
 ghost use Rattle.lmn_app.specs.Firings.{FiringCommits, FiringsCommit, FlatClosed, FlatSettles, FlatIrreducible};
 
 /// The firing of a rule whose head is among the atoms is a commit. So n firings of the strategy are n commits.
@@ -35,4 +35,9 @@ pub fn same_labels_are_one()
 pub fn refusals_are_one()
     ensures accepted { RefusedNotAccepted }
     ensures one { OneRefusal }
+{}
+
+/// A text is accepted, or it is refused.
+pub fn texts_are_accepted_or_refused()
+    ensures { AcceptedOrRefused }
 {}

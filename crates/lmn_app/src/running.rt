@@ -1,4 +1,4 @@
-ghost use Rattle.std.specs.Prelude.{◌≡◌, ◌≤◌, ◌↔◌, ◌++◌, ℕ, List, IsTrue, OnOk, OnErr, MatchOption};
+ghost use Rattle.std.specs.Prelude.{◌≡◌, ◌↔◌, ◌++◌, List, IsTrue, OnOk, OnErr, MatchOption};
 ghost use Rattle.std.specs.List.{position};
 ghost use Rattle.lmn_base.specs.Names.{IsNames};
 ghost use Rattle.lmn_congruence.specs.Translation.{label_of};
@@ -6,7 +6,8 @@ ghost use Rattle.lmn_congruence.specs.Rules.{Name};
 ghost use Rattle.lmn_flatten.specs.Programs.{labels_of, rule_of, rules_of, HasLabel, HasLabels, HasRule};
 ghost use Rattle.lmn_app.specs.Programs.{NamesAll, is_one};
 ghost use Rattle.lmn_app.specs.Processes.{flat_process};
-ghost use Rattle.lmn_app.specs.Firings.{count_of, Covers, NoneCovered, FirstCovered, without, without_all, Firings, Commits, Stopped};
+ghost use Rattle.lmn_reduction.specs.Chains.{Commits};
+ghost use Rattle.lmn_app.specs.Firings.{count_of, Covers, NoneCovered, FirstCovered, without, without_all, Firings, Stopped};
 
 use lmn_base::{Label, NoMemory};
 use lmn_flatten::Rule;

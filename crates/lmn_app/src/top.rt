@@ -1,11 +1,12 @@
-ghost use Rattle.std.specs.Prelude.{◌≡◌, ◌≤◌, ◌⊎◌, ℕ, List, Option, Some, String, codes, length, string_bytes, IfOk, OnErr, OnOk};
+ghost use Rattle.std.specs.Prelude.{◌≡◌, ◌≤◌, ◌⊎◌, ℕ, List, option_map, Some, String, codes, length, IfOk, OnErr, OnOk};
 ghost use Rattle.std.specs.declared.alloc.Global.{Global};
 ghost use Rattle.lmn_io.specs.Counts.{Rose};
+ghost use Rattle.lmn_io.specs.Texts.{asked_once_more};
 ghost use Rattle.lmn_io.specs.Taking.{Takes, TakesPrefix};
 ghost use Rattle.lmn_base.specs.declared.refusal.Refusal.{Refusal};
 ghost use Rattle.lmn_flatten.specs.Programs.{labels_of, rules_of};
 ghost use Rattle.lmn_app.specs.Words.{InForm, file_of};
-ghost use Rattle.lmn_app.specs.Endings.{IsCode, line_of, refusal_line};
+ghost use Rattle.lmn_app.specs.Endings.{HasLine, IsCode, line_of, refusal_line};
 ghost use Rattle.lmn_app.specs.Outcomes.{Causes, Effects, Writes, WritesPrefix};
 ghost use Rattle.lmn_app.specs.Programs.{NamesAll};
 ghost use Rattle.lmn_app.specs.Runs.{IfTold, IsToldAnd, named_text, told_under};
@@ -47,7 +48,10 @@ pub fn lmn_main<F: Shelf, O: Sink, E: Sink>(
     ensures words { result ≡ 3 → ¬ (InForm words.now) }
     ensures form { ¬ (InForm words.now) → (result ≡ 3) ⊎ ((result ≡ 5) × Rose (E.faults err.old) (E.faults err.new)) }
 
-    // Where the words aren't of the form no count of the shelf changes: nothing is fetched.
+    // The shelf is asked once, for at most 4,194,304 bytes; where the words aren't of the form it isn't asked, and no
+    // count of it changes.
+    ensures asked { InForm words.now → F.asked shelf.new ≡ option_map (asked_once_more text_bytes) (F.asked shelf.old) }
+    ensures not_asked { ¬ (InForm words.now) → F.asked shelf.new ≡ F.asked shelf.old }
     ensures unasked { ¬ (InForm words.now) → (name : List ℕ) → F.faults shelf.new name ≡ F.faults shelf.old name }
 
     // Status 4 comes only where the count of the file rose, and 5 only where that of a sink did.
@@ -88,7 +92,7 @@ pub fn lmn_main<F: Shelf, O: Sink, E: Sink>(
         ⊎ (Rose (E.faults err.old) (E.faults err.new) × ((ending : Ending)
         × Causes ending (named_text (F.told shelf.old) words.now) words.now (F.faults shelf.old (file_of words.now)) (F.faults shelf.new (file_of words.now))
         × Effects ending (named_text (F.told shelf.old) words.now) (O.told out.old) (O.told out.new) (O.faults out.old) (O.faults out.new)
-        × TakesPrefix (line_of ending) (E.told err.old) (E.told err.new))) }
+        × TakesPrefix (line_of ending) (E.told err.old) (E.told err.new) × HasLine ending)) }
 {
     let ending = act(alloc, words, shelf, out);
     conclude(err, ending)
@@ -96,6 +100,8 @@ pub fn lmn_main<F: Shelf, O: Sink, E: Sink>(
 
 /// Does what the words ask for, and says how it ended.
 fn act<F: Shelf, O: Sink>(alloc: Global, words: &[String], shelf: &mut F, out: &mut O) -> Ending
+    ensures asked { InForm words.now → F.asked shelf.new ≡ option_map (asked_once_more text_bytes) (F.asked shelf.old) }
+    ensures not_asked { ¬ (InForm words.now) → F.asked shelf.new ≡ F.asked shelf.old }
     ensures unasked { ¬ (InForm words.now) → (name : List ℕ) → F.faults shelf.new name ≡ F.faults shelf.old name }
     ensures causes { Causes result (named_text (F.told shelf.old) words.now) words.now (F.faults shelf.old (file_of words.now)) (F.faults shelf.new (file_of words.now)) }
     ensures effects { Effects result (named_text (F.told shelf.old) words.now) (O.told out.old) (O.told out.new) (O.faults out.old) (O.faults out.new) }
@@ -108,6 +114,7 @@ fn act<F: Shelf, O: Sink>(alloc: Global, words: &[String], shelf: &mut F, out: &
 
 /// Fetches a text and runs it.
 fn run<F: Shelf, O: Sink>(alloc: Global, file: &str, shelf: &mut F, out: &mut O) -> Ending
+    ensures asked { F.asked shelf.new ≡ option_map (asked_once_more text_bytes) (F.asked shelf.old) }
     ensures causes { (words : List (String Global)) → InForm words →
         Causes result (told_under (F.told shelf.old) file.now) words (F.faults shelf.old file.now) (F.faults shelf.new file.now) }
     ensures effects { Effects result (told_under (F.told shelf.old) file.now) (O.told out.old) (O.told out.new) (O.faults out.old) (O.faults out.new) }

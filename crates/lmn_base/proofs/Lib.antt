@@ -1,1 +1,4 @@
 pub mod HeldNames
+pub mod FirstLemmas
+pub mod RowLemmas
+pub mod ItemLemmas

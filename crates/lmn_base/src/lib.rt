@@ -7,22 +7,35 @@
 
 mod functor;
 mod guard;
+mod item;
+mod laws;
 mod level;
 mod memory;
 mod names;
+mod question;
 mod refusal;
 mod rows;
 mod rule;
 mod solid;
 #[cfg(test)]
 mod tests;
+mod uses;
+mod walk;
 
 pub use functor::{CONNECTOR_NAME, Functor, GROUND_NAME, INT_NAME, Label, UNARY_NAME};
 pub use guard::{Arith, Cmp, Cond, Expr};
+pub use item::{Form, FormedUse, Item};
+pub use laws::refusals_are_one;
 pub use level::{CtxUse, Leaf, Level, Occ};
 pub use memory::NoMemory;
 pub use names::Names;
-pub use refusal::{Pos, Refusal, TextFault};
+pub use question::{Found, Question};
+pub use refusal::{Pos, Refusal, TextFault, first_refusal, refuse};
 pub use rows::Rows;
 pub use rule::{LinkUse, Plain, RuleTree};
 pub use solid::{Region, Solid, SolidAtom};
+pub use uses::{is_used, is_used_in_condition, is_used_in_expression};
+pub use walk::{
+    find, find_in_condition, find_in_expression, find_in_guard, find_in_level_itself, find_in_rule,
+    number_of_items,
+};

@@ -1,3 +1,10 @@
+ghost use Rattle.std.specs.Prelude.{◌≡◌, List, [], ◌∷◌, ◌++◌};
+ghost use Rattle.lmn_base.specs.declared.refusal.Pos.{Pos};
+ghost use Rattle.lmn_base.specs.Firsts.{IsFirst, Row, AnswersBy};
+ghost use Rattle.lmn_base.specs.PlaceOrder.{not_after};
+
+use crate::memory::NoMemory;
+
 /// A place in a text.
 #[derive(Clone, Copy, Debug, PartialEq, Eq)]
 pub struct Pos {
@@ -5,6 +12,15 @@ pub struct Pos {
     pub line: u64,
     /// The column in its line, counted from 1 in bytes.
     pub column: u64,
+}
+
+impl Pos {
+    /// Whether this place is before another one in the text, or is the same.
+    pub fn is_not_after(self, other: Pos) -> bool
+        ensures { result ≡ not_after self other }
+    {
+        self.line < other.line || self.line == other.line && self.column <= other.column
+    }
 }
 
 /// Why a text is refused, and where.
@@ -23,4 +39,46 @@ pub enum TextFault {
     Refused(Refusal),
     /// Memory was wanting; nothing is said of the text.
     NoMemory,
+}
+
+impl From<Refusal> for TextFault {
+    ghost use Rattle.std.specs.Prelude.{◌≡◌};
+    ghost use Rattle.lmn_base.specs.declared.refusal.TextFault.TheVariants as fault;
+
+    ghost from_gives = { λ r e. e ≡ fault.Refused r };
+
+    fn from(refusal: Refusal) -> TextFault {
+        TextFault::Refused(refusal)
+    }
+}
+
+impl From<NoMemory> for TextFault {
+    ghost use Rattle.std.specs.Prelude.{◌≡◌};
+    ghost use Rattle.lmn_base.specs.declared.refusal.TextFault.TheVariants as fault;
+
+    ghost from_gives = { λ _ e. e ≡ fault.NoMemory };
+
+    fn from(_fault: NoMemory) -> TextFault {
+        TextFault::NoMemory
+    }
+}
+
+/// Refuses by a code at the first place where it applies, if it applies anywhere.
+pub fn refuse(code: u8, first: Option<Pos>) -> Result<(), Refusal>
+    ensures { (ps : List Pos) → IsFirst ps first → AnswersBy (record { code = code; places = ps } ∷ []) result }
+{
+    match first {
+        Some(pos) => Err(Refusal { code, pos }),
+        None => Ok(()),
+    }
+}
+
+/// The first of two answers that is a refusal.
+pub fn first_refusal(first: Result<(), Refusal>, later: Result<(), Refusal>) -> Result<(), Refusal>
+    ensures { (rows more : List Row) → AnswersBy rows first → AnswersBy more later → AnswersBy (rows ++ more) result }
+{
+    match first {
+        Err(refusal) => Err(refusal),
+        Ok(()) => later,
+    }
 }

@@ -74,7 +74,20 @@ impl<T> Rows<T> {
         ensures ok { OnOk result (self.new ≡ self.old ++ v ∷ []) }
         ensures err { IfErr result (λ failed. (self.new ≡ self.old) × (failed.value ≡ v)) }
     {
+        self.make_room(1);
         self.items.push(v)
+    }
+
+    /// Asks for room for so many items more where it is wanting: for twice as many items as there are, or for these
+    /// alone where they are more. So few items take no more memory than they need. Whether the room was given, the push
+    /// behind it tells.
+    fn make_room(&mut self, more: usize)
+        ensures { self.new ≡ self.old }
+    {
+        let len = self.items.len();
+        if self.items.capacity() - len < more {
+            let _ = self.items.reserve_exact(len.max(more));
+        }
     }
 
     /// Puts an item in the place `i` of another, counted from 0 and below `len`, and answers that one.
@@ -100,6 +113,7 @@ impl<T: Drop> Rows<T> {
         ensures ok { OnOk result (self.new ≡ self.old ++ v ∷ []) }
         ensures err { OnErr result (self.new ≡ self.old) }
     {
+        self.make_room(1);
         self.items.push(v)?;
         Ok(())
     }
@@ -110,6 +124,7 @@ impl<T: Drop> Rows<T> {
         ensures err { OnErr result (self.new ≡ self.old) }
     {
         let Rows { mut items } = more;
+        self.make_room(items.len());
         self.items.append(&mut items)?;
         Ok(())
     }

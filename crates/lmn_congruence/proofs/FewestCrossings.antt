@@ -81,7 +81,7 @@ free_image v z P h l =
     (sym (total_image_sum n v z (one_if_free P) (λ y. twos y + twos y) ∙ ap (λ k. total n (with_image v z (one_if_free P)) + k) (total_image_sum n v z twos twos)) ∙ sym split ∙ image_count n v z P (omega arith) ∙ even.1)
 
 -- the sum over all images is the whole sum
-image_pick : (n x k : ℕ) → x < n → total n (λ z. cond (eqb x z) k 0) ≡ k
+pub image_pick : (n x k : ℕ) → x < n → total n (λ z. cond (eqb x z) k 0) ≡ k
 image_pick n x k b = total_single n x (λ z. cond (eqb x z) k 0) b (λ z d. elsewhere z d) ∙ there
   where
     elsewhere : (z : ℕ) → z ≢ x → cond (eqb x z) k 0 ≡ 0

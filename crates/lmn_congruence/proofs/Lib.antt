@@ -2,6 +2,8 @@ pub mod KeptWeights
 pub mod Appended
 pub mod NumberedRules
 pub mod TranslatedLinks
+pub mod SolidsOfPlains
+pub mod ExampleSolids
 pub mod TranslatedItems
 pub mod TranslatedNames
 pub mod Counts
@@ -14,15 +16,4 @@ pub mod Renaming
 pub mod FewestCrossings
 pub mod LinkMaps
 pub mod Solids
-pub mod SettlingSteps
-pub mod SettledProcesses
-pub mod Merges
-pub mod SettledForms
-pub mod Plains
-pub mod OneSolid
-pub mod Derivations
-pub mod ExampleSteps
-pub mod Redexes
-pub mod Kept
 pub mod KeptRules
-pub mod InnerLink

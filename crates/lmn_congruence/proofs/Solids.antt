@@ -252,7 +252,7 @@ pub put_together : {P : Process} {Ps Qs : List (Process)} → Put P Ps Qs → Re
 put_together here = r_same refl
 put_together (there p) = r_chain r_regroup (r_chain (r_beside r_swap) (r_chain (r_back r_regroup) (r_right (put_together p))))
 
-put_map : {A B : Type 0} (g : A → B) {y : A} {ys zs : List A} → Put y ys zs → Put (g y) (map g ys) (map g zs)
+pub put_map : {A B : Type 0} (g : A → B) {y : A} {ys zs : List A} → Put y ys zs → Put (g y) (map g ys) (map g zs)
 put_map g here = here
 put_map g (there p) = there (put_map g p)
 

@@ -14,5 +14,6 @@ pub mod LinkMaps
 pub mod Weights
 pub mod Laws
 pub mod Translation
+pub mod SolidsOfPlains
 pub mod TranslationLaws
-pub mod reduction
+pub mod Examples

@@ -27,11 +27,10 @@ use Rattle.lmn_base.specs.declared.solid.SolidAtom.{SolidAtom}
 use Rattle.lmn_base.specs.declared.solid.Region.TheOpen.{Region-F}
 use Rattle.lmn_base.specs.declared.solid.Region.TheFolds.{fold-Region}
 use Rattle.lmn_base.specs.declared.solid.Solid.{Solid}
-use Rattle.lmn_base.specs.Solids.{IsSolid}
 use Rattle.lmn_congruence.specs.Process.{Process}
 use Rattle.lmn_congruence.specs.Rules as tree
 use Rattle.lmn_congruence.specs.Regions as solid
-use Rattle.lmn_congruence.specs.Plains.{level_process, SolidOf}
+use Rattle.lmn_congruence.specs.Plains.{level_process}
 use Rattle.lmn_congruence.specs.Same.{Same}
 
 -- the name with a number; the numbers in use are those of the list
@@ -156,11 +155,6 @@ region_of names table s = fold-Region solid.Region (region_step names (numbered_
 
 abbrev pub solid_process : List tree.Name → List RuleTree → Solid → Process
 solid_process names table s = solid.region_process (region_of names table s)
-
--- s is the solid of the plain: a solid, whose region is one of the plain's top
-pub record IsSolidOf (names : List tree.Name) (p : Plain) (s : Solid) : Type 0 where
-  pub is_solid : IsSolid s
-  pub of_top : SolidOf (top_of names p) (region_of names p.rules s)
 
 -- equal up to the order of lists and the numbers of links, names and rules: each solid has its own names and table
 abbrev pub SameSolid :

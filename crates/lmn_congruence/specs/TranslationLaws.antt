@@ -14,7 +14,9 @@ use Rattle.lmn_congruence.specs.Process.{occurrences, Closed}
 use Rattle.lmn_congruence.specs.Rules.{Name, named, Rule}
 use Rattle.lmn_congruence.specs.LinkedRules.{level_occurrences, LinkedRule}
 use Rattle.lmn_congruence.specs.Regions.{items}
-use Rattle.lmn_congruence.specs.Translation.{label_of, level_of, rule_tree, numbered_rule, plain_process, region_of, solid_process}
+use Rattle.lmn_congruence.specs.Plains.{SolidOf}
+use Rattle.lmn_congruence.specs.SolidsOfPlains.{IsSolidOf}
+use Rattle.lmn_congruence.specs.Translation.{label_of, level_of, rule_tree, numbered_rule, plain_process, region_of, solid_process, top_of}
 
 -- the rule with a number is the tree of its head, guard and body, in which each number again stands for its rule
 abbrev pub NumbersStandForRules : Type 0
@@ -66,3 +68,8 @@ LabelsApart = (names : List Name) (k l : Label) → IsNames names → HasNames n
 abbrev pub NoSolidConnector : Type 0
 NoSolidConnector = (names : List Name) (table : List RuleTree) (s : Solid) → NamesSolid names table s → IsSolid s →
     All (λ a. ¬ ((label_of names a.functor.label ≡ named (codes "=")) × (length a.links ≡ 2))) (atoms_of s.root)
+
+-- the solid of a plain has the region of the plain's top, by whatever names
+abbrev pub SolidsOfPlains : Type 0
+SolidsOfPlains = (names : List Name) (p : Plain) (s : Solid) → IsWellMade p → IsSolidOf p s →
+    SolidOf (top_of names p) (region_of names p.rules s)

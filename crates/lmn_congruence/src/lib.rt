@@ -1,4 +1,4 @@
-//! Processes as terms, structural congruence and reduction as derivations, and their laws.
+//! Processes as terms, structural congruence as derivations, solids, and their laws.
 //!
 //! The definitions stand in `specs/`. Each law is the contract of a function with an empty body, so
 //! nothing here does anything when it runs.
@@ -7,8 +7,6 @@
 ghost use Rattle.lmn_congruence.specs.Laws.{BothSidesLinked, SameFreeLinks, CongruentSolids};
 ghost use Rattle.lmn_congruence.specs.Weights.{SameWeight};
 
-pub mod examples;
-pub mod reduction;
 pub mod translation;
 
 /// Both sides of a congruence are linked: no link occurs more than twice in either.

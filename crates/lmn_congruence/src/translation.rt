@@ -3,6 +3,8 @@
 ghost use Rattle.lmn_congruence.specs.TranslationLaws.{NumbersStandForRules, LevelLinksKept, TopLinksKept};
 ghost use Rattle.lmn_congruence.specs.TranslationLaws.{SolidLinksKept, ItemsKept, LinkedRulesKept};
 ghost use Rattle.lmn_congruence.specs.TranslationLaws.{SolidsClosed, PlainsClosed, LabelsApart, NoSolidConnector};
+ghost use Rattle.lmn_congruence.specs.TranslationLaws.{SolidsOfPlains};
+ghost use Rattle.lmn_congruence.specs.Examples.{RulesKeepTheirNumbers};
 
 /// In a well made plain the rule with a number is the tree of its head, guard and body, in which each
 /// number again stands for the rule with that number.
@@ -53,4 +55,16 @@ pub fn processes_are_closed()
 pub fn labels_are_apart()
     ensures labels { LabelsApart }
     ensures solid { NoSolidConnector }
+{}
+
+/// The solid of a plain, which is said by numbers, has the region of the plain's top by each list of names.
+#[tactic(auto, using(crate::proofs::SolidsOfPlains::solids_of_plains))]
+pub fn solids_of_plains_are_regions_of_tops()
+    ensures { SolidsOfPlains }
+{}
+
+/// The solid of `a :- b. a :- b.` has the rules 0 and 1, and no solid with the rule 1 twice is its solid.
+#[tactic(auto, using(crate::proofs::ExampleSolids::rules_keep_their_numbers))]
+pub fn rules_keep_their_numbers()
+    ensures { RulesKeepTheirNumbers }
 {}

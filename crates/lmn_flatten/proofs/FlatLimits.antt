@@ -1,8 +1,9 @@
 -- No token of a text of the first grammar passes a limit.
 use Rattle.std.proofs.Common.{◌≡◌, ℕ, Bool, true, false, List, [], ◌∷◌, ◌++◌, None, refl, sym, ◌∙◌, ap, subst, inl, inr}
 use Rattle.lmn_congruence.specs.Rules.{Label}
-use Rattle.lmn_grammar.specs.Limits.{Scan, Last, Other, Opened, Group, at_start, scan_after, scan_from, passes}
+use Rattle.lmn_grammar.specs.Scan.{Scan, Last, Other, Opened, Group, at_start, scan_after, scan_from, passes}
 use Rattle.lmn_grammar.specs.Refusing.{IsWithin}
+use Rattle.lmn_grammar.proofs.Counts.{scan_none}
 use Rattle.lmn_lexer.specs.declared.token.Kind.{Kind}
 use Rattle.lmn_lexer.specs.declared.token.Kind.TheVariants as kind
 use Rattle.lmn_lexer.specs.declared.token.Token.{Token}
@@ -134,4 +135,4 @@ safe_within text (one_more {t = t} {tokens = tokens} {l = l} w d) s h =
 
 pub program_within : {ls : List Lexeme} {tree : first.Tree} {tokens : List Token} (text : List ℕ) → first.Programs ls tree → Spelled text tokens ls
     → IsWithin (kinds_of tokens)
-program_within text d s = safe_within text s at_start (safe_program d 0)
+program_within text d s before token rest e = scan_none before token (safe_within text s at_start (safe_program d 0) before token rest e)

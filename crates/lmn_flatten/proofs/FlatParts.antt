@@ -6,8 +6,8 @@ use Rattle.lmn_parser.specs.declared.tree.Item.{Item as ItemNode}
 use Rattle.lmn_parser.specs.declared.tree.AtomNode.{AtomNode}
 use Rattle.lmn_parser.specs.declared.tree.RuleNode.{RuleNode}
 use Rattle.lmn_parser.specs.declared.tree.Clause.TheViews as view
-use Rattle.lmn_parser.specs.Syntax.{Condition, Item, Items, Clause, Terms, atom_item, group, process, rule, items_of, clauses_of, item_of, clause_of, terms_of, condition_of}
-use Rattle.lmn_parser.proofs.Nodes.{clause_process, clause_rule, item_atom, item_group}
+use Rattle.lmn_parser.specs.Syntax.{Condition, Item, Items, Clause, Terms, atom_item, group, process, rule, items_of, clauses_of, item_of, clause_of, rule_of, terms_of, condition_of}
+use Rattle.lmn_parser.proofs.Nodes.{clause_process, clause_rule, rule_parts, item_atom, item_group}
 use Rattle.lmn_flatten.specs.declared.flat.TokenProgram.{TokenProgram}
 use Rattle.lmn_flatten.specs.declared.flat.TokenRule.{TokenRule}
 use Rattle.lmn_flatten.specs.FlatTrees.{RuleOf, IsNumber, IsBuilt, AreSmall, FlatItems, no_flat_item, flat_item_and, FlatItem, flat_atom, flat_group, FlatClause, flat_process, flat_rule, FlatClauses, no_flat_clause, flat_clause_and}
@@ -22,6 +22,10 @@ IsFlatItem x ls rs = FlatItem IsNumber (item_of x) ls rs
 
 abbrev pub IsFlatClause : ClauseNode → List ℕ → List (RuleOf ℕ) → Type 0
 IsFlatClause x ls rs = FlatClause IsNumber (clause_of x) ls rs
+
+-- the node of a rule, where it is flat
+abbrev pub IsFlatRule : RuleNode → List ℕ → List (RuleOf ℕ) → Type 0
+IsFlatRule n = FlatClause IsNumber (rule_of n)
 
 abbrev pub AreFlatItems : List ItemNode → List ℕ → List (RuleOf ℕ) → Type 0
 AreFlatItems xs ls rs = FlatItems IsNumber (items_of xs) ls rs
@@ -64,6 +68,12 @@ group_flattens old new flat x c e h =
     subst P (sym (ap item_of e ∙ item_group c))
     (flattens_as (IsFlatClause c.value) (FlatItem IsNumber (group (clause_of c.value))) old new flat (λ ls rs r. flat_group r)
     (λ ls rs r. of_group r) h)
+
+pub rule_flattens : (old new : TokenProgram) (flat : Bool) (clause : ClauseNode) (r : Box RuleNode Global)
+    → clause ≡ view.Rule r → Flattens (IsFlatRule r.value) old new flat → Flattens (IsFlatClause clause) old new flat
+rule_flattens old new flat clause r e h =
+    let P : Clause → Type 0 = λ c. Flattens (FlatClause IsNumber c) old new flat in
+    subst P (sym (ap clause_of e ∙ clause_rule r)) h
 
 -- programs
 
@@ -147,34 +157,34 @@ module _ {X : Type 0} (R : X → List ℕ → List (RuleOf ℕ) → Type 0) wher
 
 -- rules
 
-rule_parts : (n : RuleNode) (ls : List ℕ) (rs : List (RuleOf ℕ)) → IsFlatClause (view.Rule n) ls rs
+parts_of : (n : RuleNode) (ls : List ℕ) (rs : List (RuleOf ℕ)) → IsFlatRule n ls rs
     → RuleParts IsNumber (items_of n.kept) (items_of n.taken) (map condition_of n.guard) (items_of n.body) ls rs
-rule_parts n ls rs h = let P : Clause → Type 0 = λ c. FlatClause IsNumber c ls rs in of_rule (subst P (clause_rule n) h)
+parts_of n ls rs h = let P : Clause → Type 0 = λ c. FlatClause IsNumber c ls rs in of_rule (subst P (rule_parts n) h)
 
 -- where the image of the empty list is no image of another, a list with that image is empty
 empty_when : {X Y : Type 0} (f : List X → Y) → ((x : X) (xs : List X) → f (x ∷ xs) ≡ f [] → ⊥) → (xs : List X) → f xs ≡ f [] → length xs ≡ 0
 empty_when f apart [] h = refl
 empty_when f apart (x ∷ xs) h = absurd (apart x xs h)
 
-pub kept_none : (n : RuleNode) (ls : List ℕ) (rs : List (RuleOf ℕ)) → IsFlatClause (view.Rule n) ls rs → length n.kept ≡ 0
-kept_none n ls rs h = empty_when items_of (λ x xs e. cc) n.kept (rule_parts n ls rs h).none_kept
+pub kept_none : (n : RuleNode) (ls : List ℕ) (rs : List (RuleOf ℕ)) → IsFlatRule n ls rs → length n.kept ≡ 0
+kept_none n ls rs h = empty_when items_of (λ x xs e. cc) n.kept (parts_of n ls rs h).none_kept
 
-pub guard_none : (n : RuleNode) (ls : List ℕ) (rs : List (RuleOf ℕ)) → IsFlatClause (view.Rule n) ls rs → length n.guard ≡ 0
-guard_none n ls rs h = empty_when (λ gs. map condition_of gs) (λ g gs e. cc) n.guard (rule_parts n ls rs h).no_guard
+pub guard_none : (n : RuleNode) (ls : List ℕ) (rs : List (RuleOf ℕ)) → IsFlatRule n ls rs → length n.guard ≡ 0
+guard_none n ls rs h = empty_when (λ gs. map condition_of gs) (λ g gs e. cc) n.guard (parts_of n ls rs h).no_guard
 
 pub head_not_flat : (n : RuleNode) (xs : List ItemNode) → xs ≡ n.taken → ((atoms : List ℕ) → AreFlatItems xs atoms [] → ⊥) → (ls : List ℕ)
-    (rs : List (RuleOf ℕ)) → IsFlatClause (view.Rule n) ls rs → ⊥
-head_not_flat n xs e none ls rs h = let r = rule_parts n ls rs h in none r.head (rw e r.flat_head)
+    (rs : List (RuleOf ℕ)) → IsFlatRule n ls rs → ⊥
+head_not_flat n xs e none ls rs h = let r = parts_of n ls rs h in none r.head (rw e r.flat_head)
 
 pub body_not_flat : (n : RuleNode) (xs : List ItemNode) → xs ≡ n.body → ((atoms : List ℕ) → AreFlatItems xs atoms [] → ⊥) → (ls : List ℕ)
-    (rs : List (RuleOf ℕ)) → IsFlatClause (view.Rule n) ls rs → ⊥
-body_not_flat n xs e none ls rs h = let r = rule_parts n ls rs h in none r.made (rw e r.flat_body)
+    (rs : List (RuleOf ℕ)) → IsFlatRule n ls rs → ⊥
+body_not_flat n xs e none ls rs h = let r = parts_of n ls rs h in none r.made (rw e r.flat_body)
 
 pub rule_added : (n : RuleNode) (old : TokenProgram) (rules : List TokenRule) (taken body : List ItemNode) (head made : List ℕ)
     → length n.kept ≡ 0 → length n.guard ≡ 0 → taken ≡ n.taken → body ≡ n.body → AreFlatItems taken head []
     → AreFlatItems body made []
     → rules ≡ old.rules ++ record { head = head; body = made } ∷ []
-    → Flattens (IsFlatClause (view.Rule n)) old (record { atoms = old.atoms; rules = rules }) true
+    → Flattens (IsFlatRule n) old (record { atoms = old.atoms; rules = rules }) true
 rule_added n old rules taken body head made k g e f h b r =
     let P : List ItemNode → Type 0 = λ z. AreFlatItems z head [] in
     let Q : List ItemNode → Type 0 = λ z. AreFlatItems z made [] in
@@ -184,7 +194,7 @@ rule_added n old rules taken body head made k g e f h b r =
     let T : Clause → Type 0 = λ c. FlatClause IsNumber c [] (one ∷ []) in (
       [],
       one ∷ [],
-      subst T (sym (clause_rule n))
+      subst T (sym (rule_parts n))
           (subst S (sym (ap (map condition_of) (nil_from_length n.guard g)))
           (subst R (sym (ap items_of (nil_from_length n.kept k))) (flat_rule (subst P e h) (subst Q f b)))),
       record {

@@ -1,5 +1,5 @@
-ghost use Rattle.std.specs.Prelude.{◌≡◌, ◌↔◌, List, [], ℕ, IfOk, IsTrue, MatchOption};
-ghost use Rattle.lmn_parser.specs.Syntax.{clause_of, clauses_of, item_of, items_of, tree_of};
+ghost use Rattle.std.specs.Prelude.{◌↔◌, List, [], ℕ, IfOk, IsTrue, MatchOption};
+ghost use Rattle.lmn_parser.specs.Syntax.{clause_of, clauses_of, item_of, items_of, rule_of, tree_of};
 ghost use Rattle.lmn_flatten.specs.FlatTrees.{AreSmall, FlatClauses, FlatClause, FlatItems, FlatItem, IsBuilt, IsNumber, IsSmall};
 ghost use Rattle.lmn_flatten.specs.Numbers.{Flattens, numbers_of, all_numbers};
 
@@ -126,7 +126,7 @@ fn add_item(alloc: Global, program: &mut TokenProgram, item: &Item) -> Result<bo
 /// Adds a rule, where it is flat.
 #[cycle(flat)]
 fn add_rule(alloc: Global, program: &mut TokenProgram, node: &RuleNode) -> Result<bool, NoMemory>
-    ensures { IfOk result (λ flat. Flattens (FlatClause IsNumber (clause_of (Clause.Rule node.now))) program.old program.new flat) }
+    ensures { IfOk result (λ flat. Flattens (FlatClause IsNumber (rule_of node.now)) program.old program.new flat) }
 {
     if node.kept.len() > 0 || node.guard.len() > 0 {
         return Ok(false);

@@ -1,6 +1,7 @@
 -- Behind ':-' a guard and a list are both possible for a while.
 use Rattle.std.proofs.Common.{◌≡◌, ℕ, ◌+◌, ◌<◌, ◌≤◌, max, Bool, true, false, List, [], ◌∷◌, ◌++◌, length, drop, slice_get, Some, None, refl, sym, ◌∙◌, ap, arith, subst, inl, inr, append_assoc, length-append, if◌then◌else◌}
-use Rattle.lmn_grammar.specs.Grammar.{Tok, Opt, ◌·◌, Derives, DerivesAll, list, guard, body}
+use Rattle.lmn_grammar.specs.Grammar.{Tok, Opt, ◌·◌, Derives, list, guard, body}
+use Rattle.lmn_grammar.proofs.Theory.{DerivesAll}
 use Rattle.lmn_grammar.specs.Factored.{guard_bar}
 use Rattle.lmn_grammar.specs.Reading.{Owed, is_kind, next, stop_at, begins, ReadsTo, StopsAt, OnlyClosers, EndsOptList, is_closer}
 use Rattle.lmn_lexer.specs.declared.token.Kind.{Kind}

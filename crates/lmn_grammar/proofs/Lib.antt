@@ -2,6 +2,7 @@ pub mod Arguments
 pub mod Bodies
 pub mod Choices
 pub mod Clauses
+pub mod Counts
 pub mod Ends
 pub mod Items
 pub mod Loose

@@ -1,11 +1,11 @@
 -- Refusals: there is one at most, and where reading stops is one.
-use Rattle.std.proofs.Common.{◌≡◌, ℕ, suc, ◌+◌, ◌<◌, ◌≤◌, List, [], ◌∷◌, ◌++◌, length, drop, take, slice_get, Some, None, refl, sym, ◌∙◌, ap, arith, subst, inl, inr, append_assoc, length-append}
+use Rattle.std.proofs.Common.{◌≡◌, ℕ, suc, ◌+◌, ◌<◌, ◌≤◌, List, [], ◌∷◌, ◌++◌, length, drop, take, slice_get, Some, refl, sym, ◌∙◌, ap, arith, subst, inl, inr, append_assoc, length-append}
 use Rattle.std.proofs.lemmas.Bool.{cases_lt}
 use Rattle.lmn_grammar.specs.Grammar.{program, Derives}
 use Rattle.lmn_grammar.specs.Reading.{Owed, stop, stop_at}
-use Rattle.lmn_grammar.specs.Limits.{scan, passes}
+use Rattle.lmn_grammar.specs.Limits.{Passes, PassesNone}
 use Rattle.lmn_grammar.specs.Refusing.{Begins, IsWithin, Refuses, IsRefused}
-use Rattle.lmn_grammar.specs.Laws.{OneRefusal, RefusedDeriveNothing, StopsAtTheToken}
+use Rattle.lmn_grammar.specs.Laws.{OneRefusal, RefusedDeriveNothing}
 use Rattle.lmn_lexer.specs.declared.token.Kind.{Kind}
 use Rattle.lmn_grammar.proofs.Stops.{plus_nothing}
 use Rattle.lmn_grammar.proofs.Theory.{Found}
@@ -53,16 +53,6 @@ same_front u v u' v' e l =
     empty [] h = refl
     empty (a ∷ x) h = cc
 
-pub stops_at_the_token : StopsAtTheToken
-stops_at_the_token kinds before rest token e s =
-    let P : ℕ → Type 0 = Tells start 0 kinds in
-    let t = subst P s (tells kinds 0 start (one_alive (program ∷ []))) in
-    let same : t.taken ≡ before = same_front t.taken t.left before (token ∷ rest) (sym t.split ∙ e) (omega (arith, t.count)) in
-    let behind : t.left ≡ token ∷ rest = append_same before t.left (token ∷ rest) (ap (λ z. z ++ t.left) (sym same) ∙ sym t.split ∙ e) in (
-      begins_same t.taken before same (taken_begins kinds (length before) t),
-      λ b. no_more_begins kinds (length before) t token rest behind (begins_same (before ++ token ∷ []) (t.taken ++ token ∷ []) (ap (λ z. z ++ token ∷ []) (sym same)) b),
-    )
-
 -- what reading takes to the end begins a program
 pub all_begins : (u : List Kind) → stop 0 start u ≡ length u → Begins u
 all_begins u s =
@@ -71,16 +61,11 @@ all_begins u s =
     let same : t.taken ≡ u = same_front t.taken t.left u [] (sym t.split ∙ sym (plus_nothing u)) (omega (arith, t.count)) in
     begins_same t.taken u same (taken_begins u (length u) t)
 
-some_none : (c : ℕ) → Some c ≡ None → ⊥
-some_none c h = cc
-
-some_same : (c d : ℕ) → Some c ≡ Some d → c ≡ d
-some_same c d h = cc
-
 -- a refusal comes at no token that is followed by more within the limits
-stays : (before : List Kind) (token : Kind) (c : ℕ) → Refuses c before token → Begins (before ++ token ∷ []) → passes (scan before) token ≡ None → ⊥
+stays : (before : List Kind) (token : Kind) (c : ℕ) → Refuses c before token → Begins (before ++ token ∷ []) → PassesNone before token → ⊥
 stays before token c (inl r) b n = r.1 b
-stays before token c (inr r) b n = some_none c (sym r.1 ∙ n)
+stays before token c (inr (b0, inl d)) b n = n.0 d.1
+stays before token c (inr (b0, inr m)) b n = n.1 m.2
 
 refused_not_before : (kinds : List Kind) (p q c d : ℕ) → IsRefused kinds p c → IsRefused kinds q d → p < q → ⊥
 refused_not_before kinds p q c d a b lt =
@@ -95,7 +80,13 @@ one_code : (before : List Kind) (token : Kind) (c d : ℕ) → Refuses c before 
 one_code before token c d (inl a) (inl b) = a.0 ∙ sym b.0
 one_code before token c d (inl a) (inr b) = absurd (a.1 b.0)
 one_code before token c d (inr a) (inl b) = absurd (b.1 a.0)
-one_code before token c d (inr a) (inr b) = some_same c d (sym a.1 ∙ b.1)
+one_code before token c d (inr a) (inr b) = one_limit a.1 b.1
+  where
+    one_limit : Passes c before token → Passes d before token → c ≡ d
+    one_limit (inl x) (inl y) = x.0 ∙ sym y.0
+    one_limit (inl x) (inr y) = absurd (y.1 x.1)
+    one_limit (inr x) (inl y) = absurd (x.1 y.1)
+    one_limit (inr x) (inr y) = x.0 ∙ sym y.0
 
 refuses_along : (u u' : List Kind) (t t' : Kind) (c : ℕ) → u ≡ u' → t ≡ t' → Refuses c u t → Refuses c u' t'
 refuses_along u u' t t' c e e' r =
@@ -178,7 +169,7 @@ refused_before_limit kinds m j token h w s le =
 
 -- The first token that passes a limit is taken by reading.
 pub refused_by_limit : (kinds : List Kind) (m code : ℕ) (token : Kind) → slice_get kinds m ≡ Some token → IsWithin (take m kinds) →
-    passes (scan (take m kinds)) token ≡ Some code → stop_at (take (m + 1) kinds) 0 start ≡ m + 1 → IsRefused kinds m code
+    Passes code (take m kinds) token → stop_at (take (m + 1) kinds) 0 start ≡ m + 1 → IsRefused kinds m code
 refused_by_limit kinds m code token h w c s =
     let before = take m kinds in
     let len : length before ≡ m = length_take kinds m token h in

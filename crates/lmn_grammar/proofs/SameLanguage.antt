@@ -1,6 +1,7 @@
 -- What has the same words stops at the same token.
 use Rattle.std.proofs.Common.{◌≡◌, ℕ, suc, max, List, [], ◌∷◌, ◌++◌, refl, sym, ◌∙◌, ap, subst, ◌⊎◌, inl, inr, append_assoc, drop}
-use Rattle.lmn_grammar.specs.Grammar.{Exp, Seq, Alt, Opt, Many, Ref, Part, meaning, Derives, both, left, right, without, with, no_more, one_more, by, DerivesAll}
+use Rattle.lmn_grammar.specs.Grammar.{Exp, Seq, Alt, Opt, Many, Ref, Part, meaning, Derives, both, left, right, without, with, no_more, one_more, by}
+use Rattle.lmn_grammar.proofs.Theory.{DerivesAll}
 use Rattle.lmn_grammar.specs.Reading.{Owed, nexts, stop, stop_at, unless_dead}
 use Rattle.lmn_lexer.specs.declared.token.Kind.{Kind}
 use Rattle.lmn_grammar.proofs.Theory.{Found, complete_nexts, sound_nexts, all_completed}

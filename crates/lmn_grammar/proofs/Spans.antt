@@ -1,6 +1,7 @@
 -- A part that is read from one place to another derives the tokens between them.
 use Rattle.std.proofs.Common.{◌≡◌, ℕ, zero, suc, ◌+◌, ◌≤◌, List, [], ◌∷◌, ◌++◌, length, drop, slice_get, Some, refl, sym, ◌∙◌, ap, arith, subst, inl, inr, append_assoc, length-append}
-use Rattle.lmn_grammar.specs.Grammar.{Exp, Tok, Derives, DerivesAll}
+use Rattle.lmn_grammar.specs.Grammar.{Exp, Tok, Derives}
+use Rattle.lmn_grammar.proofs.Theory.{DerivesAll}
 use Rattle.lmn_grammar.specs.Reading.{stop_at}
 use Rattle.lmn_lexer.specs.declared.token.Kind.{Kind}
 use Rattle.lmn_grammar.proofs.Stops.{drop_here, plus_nothing}

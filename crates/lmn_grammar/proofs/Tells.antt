@@ -1,6 +1,6 @@
 -- What the token at which reading stops says about the grammar.
 use Rattle.std.proofs.Common.{◌≡◌, ℕ, suc, ◌+◌, ◌≤◌, List, [], ◌∷◌, ◌++◌, length, refl, sym, ◌∙◌, ap, arith, subst, ◌⊎◌, inl, inr}
-use Rattle.lmn_grammar.specs.Grammar.{DerivesAll}
+use Rattle.lmn_grammar.proofs.Theory.{DerivesAll}
 use Rattle.lmn_grammar.specs.Reading.{Owed, nexts, stop, unless_dead}
 use Rattle.lmn_lexer.specs.declared.token.Kind.{Kind}
 use Rattle.lmn_grammar.proofs.Stops.{stop_cons, stop_none}

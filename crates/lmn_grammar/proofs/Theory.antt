@@ -1,7 +1,7 @@
 -- What reading owes after a token is what completes the tokens read.
 use Rattle.std.proofs.Common.{◌≡◌, ℕ, zero, suc, Bool, true, false, List, [], ◌∷◌, ◌++◌, refl, sym, ◌∙◌, ap, subst, ◌⊎◌, inl, inr, append_assoc, ◌&&◌, ◌||◌, if◌then◌else◌, get_or}
 use Rattle.std.proofs.lemmas.Bool.{eqb-true, eq-eqb}
-use Rattle.lmn_grammar.specs.Grammar.{Exp, Tok, Seq, Alt, Opt, Many, Within, Ref, Bracket, opener, closer, Part, TermPart, SumPart, ClausePart, ClausesPart, meaning, Derives, here, both, left, right, without, with, no_more, one_more, inside, by, DerivesAll}
+use Rattle.lmn_grammar.specs.Grammar.{Exp, Tok, Seq, Alt, Opt, Many, Within, Ref, Bracket, opener, closer, Part, TermPart, SumPart, ClausePart, ClausesPart, meaning, Derives, here, both, left, right, without, with, no_more, one_more, inside, by}
 use Rattle.lmn_grammar.specs.Reading.{Owed, number, is_kind, after, next, nexts, may_be_empty, empty_part}
 use Rattle.lmn_lexer.specs.declared.token.Kind.{Kind}
 use Rattle.lmn_lexer.specs.declared.token.Kind.TheVariants.{Name, Quoted, Mod, Link, Int, Context, RuleCtx, End, LParen, RParen, LBracket, RBracket, LBrace, RBrace, Comma, Dot, Arrow, AtAt, Bar, Backslash, Equal, Less, LessEq, Greater, GreaterEq, NumEq, NumNe, Differ, Plus, Minus, Star, Slash}
@@ -47,7 +47,7 @@ pub and_true : (a b : Bool) → (a && b) ≡ true → (a ≡ true) × (b ≡ tru
 and_true true b h = (refl, h)
 and_true false b h = cc
 
-or_true : (a b : Bool) → (a || b) ≡ true → (a ≡ true) ⊎ (b ≡ true)
+pub or_true : (a b : Bool) → (a || b) ≡ true → (a ≡ true) ⊎ (b ≡ true)
 or_true true b h = inl refl
 or_true false b h = inr h
 
@@ -62,6 +62,11 @@ empty_left (Ref TermPart) h = cc
 empty_left (Ref SumPart) h = cc
 empty_left (Ref ClausePart) h = cc
 empty_left (Ref ClausesPart) h = by ClausesPart [] (without _)
+
+-- the kinds are spelled by the expressions, one after the other
+abbrev pub DerivesAll : List Exp → List Kind → Type 0
+DerivesAll [] w = w ≡ []
+DerivesAll (e ∷ κ) w = (u : List Kind) × (v : List Kind) × (w ≡ u ++ v) × Derives e u × DerivesAll κ v
 
 abbrev pub Found : List Owed → List Kind → Type 0
 Found s w = (κ : Owed) × IsIn κ s × DerivesAll κ w

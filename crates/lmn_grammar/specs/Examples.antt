@@ -1,31 +1,27 @@
--- Small texts, as lists of kinds: where reading stops, and which token passes a limit.
-use Rattle.std.specs.Prelude.{◌≡◌, ℕ, zero, suc, List, [], ◌∷◌, ◌++◌, Some, None}
-use Rattle.lmn_grammar.specs.Grammar.{program}
-use Rattle.lmn_grammar.specs.Reading.{stop}
-use Rattle.lmn_grammar.specs.Limits.{scan, passes}
+-- Small texts, as lists of kinds: which are programs, which token refuses them, and which passes a limit.
+use Rattle.std.specs.Prelude.{ℕ, zero, suc, List, [], ◌∷◌, ◌++◌}
+use Rattle.lmn_grammar.specs.Grammar.{Derives, program}
+use Rattle.lmn_grammar.specs.Refusing.{IsRefused}
+use Rattle.lmn_grammar.specs.Limits.{Passes, PassesNone}
 use Rattle.lmn_lexer.specs.declared.token.Kind.{Kind}
-use Rattle.lmn_lexer.specs.declared.token.Kind.TheVariants.{Name, Link, Int, Context, End, LParen, RParen, LBrace, RBrace, LBracket, RBracket, Comma, Dot, Arrow, AtAt, Bar, Backslash, Equal, Less, Plus}
-
--- the number of the first token that no reading of a program takes
-abbrev pub stops : List Kind → ℕ
-stops ts = stop 0 ((program ∷ []) ∷ []) ts
+use Rattle.lmn_lexer.specs.declared.token.Kind.TheVariants.{Name, Link, Int, Context, End, LParen, RParen, LBrace, RBrace, LBracket, RBracket, Comma, Dot, Arrow, AtAt, Bar, Backslash, Equal, Less, Mod, Plus, Minus, Star, Slash}
 
 -- 'x @@ a(X) \ {$p} :- $y < 1 + 2 | b, X = [c|Y].' is a program.
 abbrev pub WholeText : Type 0
-WholeText = stops (Name ∷ AtAt ∷ Name ∷ LParen ∷ Link ∷ RParen ∷ Backslash ∷ LBrace ∷ Context ∷ RBrace ∷ Arrow ∷ Context ∷ Less ∷ Int ∷ Plus ∷ Int ∷ Bar
-    ∷ Name ∷ Comma ∷ Link ∷ Equal ∷ LBracket ∷ Name ∷ Bar ∷ Link ∷ RBracket ∷ Dot ∷ End ∷ []) ≡ 28
+WholeText = Derives program (Name ∷ AtAt ∷ Name ∷ LParen ∷ Link ∷ RParen ∷ Backslash ∷ LBrace ∷ Context ∷ RBrace ∷ Arrow ∷ Context ∷ Less ∷ Int ∷ Plus ∷ Int ∷ Bar
+    ∷ Name ∷ Comma ∷ Link ∷ Equal ∷ LBracket ∷ Name ∷ Bar ∷ Link ∷ RBracket ∷ Dot ∷ End ∷ [])
 
--- 'a :- b, {c} | d' stops at the bar, since what stands before it is no guard.
+-- 'a :- b, {c} | d' is refused at the bar, since what stands before it is no guard.
 abbrev pub NoGuard : Type 0
-NoGuard = stops (Name ∷ Arrow ∷ Name ∷ Comma ∷ LBrace ∷ Name ∷ RBrace ∷ Bar ∷ Name ∷ End ∷ []) ≡ 7
+NoGuard = IsRefused (Name ∷ Arrow ∷ Name ∷ Comma ∷ LBrace ∷ Name ∷ RBrace ∷ Bar ∷ Name ∷ End ∷ []) 7 10
 
--- 'a :- $x < 1, b.' stops at the full stop, since a comparison stands in no list.
+-- 'a :- $x < 1, b.' is refused at the full stop, since a comparison stands in no list.
 abbrev pub NoList : Type 0
-NoList = stops (Name ∷ Arrow ∷ Context ∷ Less ∷ Int ∷ Comma ∷ Name ∷ Dot ∷ End ∷ []) ≡ 7
+NoList = IsRefused (Name ∷ Arrow ∷ Context ∷ Less ∷ Int ∷ Comma ∷ Name ∷ Dot ∷ End ∷ []) 7 10
 
--- '()' stops at ')', '{.}' at '.', and 'X, a' at the comma, since '=' is owed there.
-abbrev pub Stopping : Type 0
-Stopping = (stops (LParen ∷ RParen ∷ End ∷ []) ≡ 1) × (stops (LBrace ∷ Dot ∷ RBrace ∷ End ∷ []) ≡ 1) × (stops (Link ∷ Comma ∷ Name ∷ End ∷ []) ≡ 1)
+-- '()' is refused at ')', '{.}' at '.', and 'X, a' at the comma, since '=' is owed there.
+abbrev pub NotExpected : Type 0
+NotExpected = IsRefused (LParen ∷ RParen ∷ End ∷ []) 1 10 × IsRefused (LBrace ∷ Dot ∷ RBrace ∷ End ∷ []) 1 10 × IsRefused (Link ∷ Comma ∷ Name ∷ End ∷ []) 1 10
 
 -- these kinds, n times
 abbrev pub repeated : ℕ → List Kind → List Kind
@@ -34,24 +30,45 @@ repeated (suc n) w = w ++ repeated n w
 
 -- A bracket may stand inside 199 open ones, and not inside 200.
 abbrev pub Brackets : Type 0
-Brackets = (passes (scan (repeated 199 (LParen ∷ []))) LBrace ≡ None) × (passes (scan (repeated 200 (LParen ∷ []))) LBrace ≡ Some 11)
+Brackets = PassesNone (repeated 199 (LParen ∷ [])) LBrace × Passes 11 (repeated 200 (LParen ∷ [])) LBrace
 
--- '$x < $x + $x + ..': a side has 255 operators.
-abbrev pub side : ℕ → List Kind
-side n = Context ∷ Less ∷ Context ∷ repeated n (Plus ∷ Context ∷ [])
+-- '$x < ..' with n operators, each in front of an operand
+abbrev pub side : ℕ → List Kind → List Kind
+side n more = Context ∷ Less ∷ Context ∷ repeated n more
 
+-- A side has 255 operators: '$x < $x + $x + ..', '$x < $x mod $x mod ..', '$x < $x * ($x) * ($x) ..', and
+-- '$x < $x + ($x + $x + ..': a side goes on in parentheses.
 abbrev pub Operators : Type 0
-Operators = (passes (scan (side 254)) Plus ≡ None) × (passes (scan (side 255)) Plus ≡ Some 11)
+Operators = PassesNone (side 254 (Plus ∷ Context ∷ [])) Plus × Passes 11 (side 255 (Plus ∷ Context ∷ [])) Plus
+    × PassesNone (side 254 (Mod ∷ Int ∷ [])) Mod × Passes 11 (side 255 (Mod ∷ Int ∷ [])) Mod
+    × PassesNone (side 254 (Star ∷ LParen ∷ Context ∷ RParen ∷ [])) Star × Passes 11 (side 255 (Star ∷ LParen ∷ Context ∷ RParen ∷ [])) Star
+    × PassesNone (side 1 (Minus ∷ LParen ∷ Int ∷ repeated 253 (Slash ∷ Int ∷ []))) Slash × Passes 11 (side 1 (Minus ∷ LParen ∷ Int ∷ repeated 254 (Slash ∷ Int ∷ []))) Slash
 
--- 'a(X, X, ..': an item atom has 255 arguments, and a term one fewer.
+-- '$x < $x + .. , $x + .. < $x + ..': each side counts apart.
+abbrev pub Sides : Type 0
+Sides = PassesNone (side 200 (Plus ∷ Context ∷ []) ++ Comma ∷ Context ∷ repeated 200 (Plus ∷ Context ∷ [])) Plus
+    × PassesNone (Context ∷ (repeated 200 (Plus ∷ Context ∷ []) ++ Less ∷ Context ∷ repeated 200 (Plus ∷ Context ∷ []))) Plus
+
+-- 'a(X, X, ..'
 abbrev pub first_arguments : ℕ → List Kind
 first_arguments n = Name ∷ LParen ∷ repeated n (Link ∷ Comma ∷ [])
 
+-- An item atom has 255 arguments. A term has one fewer: behind '=', in an argument list, and in a '[' list.
 abbrev pub Arguments : Type 0
-Arguments = (passes (scan (first_arguments 254)) Link ≡ None) × (passes (scan (first_arguments 255)) Link ≡ Some 12)
-    × (passes (scan (Link ∷ Equal ∷ first_arguments 253)) Link ≡ None) × (passes (scan (Link ∷ Equal ∷ first_arguments 254)) Link ≡ Some 12)
-    × (passes (scan (Name ∷ LParen ∷ first_arguments 253)) Link ≡ None) × (passes (scan (Name ∷ LParen ∷ first_arguments 254)) Link ≡ Some 12)
+Arguments = PassesNone (first_arguments 254) Link × Passes 12 (first_arguments 255) Link
+    × PassesNone (Link ∷ Equal ∷ first_arguments 253) Link × Passes 12 (Link ∷ Equal ∷ first_arguments 254) Link
+    × PassesNone (Name ∷ LParen ∷ first_arguments 253) Link × Passes 12 (Name ∷ LParen ∷ first_arguments 254) Link
+    × PassesNone (LBracket ∷ first_arguments 253) Link × Passes 12 (LBracket ∷ first_arguments 254) Link
+
+-- 'a :- a($x, $x, ..': a condition has 255 contexts.
+abbrev pub Contexts : Type 0
+Contexts = PassesNone (Name ∷ Arrow ∷ Name ∷ LParen ∷ repeated 254 (Context ∷ Comma ∷ [])) Context
+    × Passes 12 (Name ∷ Arrow ∷ Name ∷ LParen ∷ repeated 255 (Context ∷ Comma ∷ [])) Context
 
 -- 'a(X, .., X) =': the '=' takes one argument.
 abbrev pub LeftSide : Type 0
-LeftSide = (passes (scan (first_arguments 253 ++ (Link ∷ RParen ∷ []))) Equal ≡ None) × (passes (scan (first_arguments 254 ++ (Link ∷ RParen ∷ []))) Equal ≡ Some 12)
+LeftSide = PassesNone (first_arguments 253 ++ Link ∷ RParen ∷ []) Equal × Passes 12 (first_arguments 254 ++ Link ∷ RParen ∷ []) Equal
+
+-- A bracket inside 200 open ones in an argument too many is refused as the bracket.
+abbrev pub BothLimits : Type 0
+BothLimits = Passes 11 (repeated 199 (LBrace ∷ []) ++ first_arguments 255) LBrace

@@ -1,4 +1,4 @@
--- Parts of the grammar as a reader comes to them, one choice at a token.
+-- No public contract cites these words: parts of the grammar as a reader comes to them, one choice at a token.
 use Rattle.lmn_grammar.specs.Grammar.{Exp, Tok, Opt, Within, Ref, ◌·◌, ◌∣◌, Round, Square, TermPart, ClausesPart, some_of, name, list, body, guard}
 use Rattle.lmn_lexer.specs.declared.token.Kind.TheVariants.{Int, Context, Link, Dot, Arrow, Bar, Backslash, Equal, Star, Slash, Mod, Plus, Minus}
 

@@ -137,8 +137,3 @@ pub data Derives : Exp → List Kind → Type 0 where
   one_more : (a : Exp) (u v w : List Kind) → w ≡ u ++ v → Derives a u → Derives (Many a) v → Derives (Many a) w
   inside : (b : Bracket) (a : Exp) (u w : List Kind) → w ≡ opener b ∷ (u ++ closer b ∷ []) → Derives a u → Derives (Within b a) w
   by : (n : Part) (w : List Kind) → Derives (meaning n) w → Derives (Ref n) w
-
--- the kinds are spelled by the expressions, one after the other
-abbrev pub DerivesAll : List Exp → List Kind → Type 0
-DerivesAll [] w = w ≡ []
-DerivesAll (e ∷ κ) w = (u : List Kind) × (v : List Kind) × (w ≡ u ++ v) × Derives e u × DerivesAll κ v

@@ -1,40 +1,23 @@
--- Which tokens pass a limit: a scan from the left, for tokens that begin a program.
-use Rattle.std.specs.Prelude.{ℕ, ◌+◌, Bool, true, false, List, [], ◌∷◌, length, nat_le, nat_lt, ◌&&◌, ◌||◌, Option, Some, None, if◌then◌else◌}
+-- Which tokens pass a limit, by counts. In each definition `before` are the tokens before the token.
+use Rattle.std.specs.Prelude.{◌≡◌, ℕ, suc, ◌<◌, ◌⊎◌, Bool, true, false, ◌||◌, List, [], ◌∷◌, ◌++◌}
 use Rattle.lmn_lexer.specs.declared.token.Kind.{Kind}
 use Rattle.lmn_lexer.specs.declared.token.Kind.TheVariants.{Name, Quoted, Mod, Int, Context, LParen, RParen, LBracket, RBracket, LBrace, RBrace, Comma, Equal, Plus, Minus, Star, Slash}
 
--- An open bracket: an argument list, how many arguments it may have and how many are begun, where an empty list
--- counts as one; a '[' list; any other bracket.
-pub data Opened : Type 0 where
-  Arguments : ℕ → ℕ → Opened
-  Terms : Opened
-  Group : Opened
+abbrev pub is_opener : Kind → Bool
+is_opener LParen = true
+is_opener LBracket = true
+is_opener LBrace = true
+is_opener _ = false
 
--- The last token: '='; a name or a number with the limit of an argument list that opens behind it, the latter
--- an operand too; the ')' of an argument list with its number of arguments; another operand, which is a context
--- or ')'; something else, or nothing.
-pub data Last : Type 0 where
-  Equals : Last
-  Word : ℕ → Last
-  Digits : ℕ → Last
-  Closed : ℕ → Last
-  Operand : Last
-  Other : Last
+abbrev pub is_closer : Kind → Bool
+is_closer RParen = true
+is_closer RBracket = true
+is_closer RBrace = true
+is_closer _ = false
 
--- what is open, the innermost first; the number of operators of this side so far; the last token
-pub record Scan : Type 0 where
-  pub opened : List Opened
-  pub operators : ℕ
-  pub last : Last
-
-abbrev pub at_start : Scan
-at_start = record { opened = []; operators = 0; last = Other }
-
-abbrev pub is_operand : Last → Bool
-is_operand (Digits l) = true
-is_operand (Closed n) = true
-is_operand Operand = true
-is_operand _ = false
+abbrev pub is_comma : Kind → Bool
+is_comma Comma = true
+is_comma _ = false
 
 abbrev pub may_be_operator : Kind → Bool
 may_be_operator Plus = true
@@ -44,58 +27,21 @@ may_be_operator Slash = true
 may_be_operator Mod = true
 may_be_operator _ = false
 
--- an operator stands directly behind an operand
-abbrev pub is_operator : Scan → Kind → Bool
-is_operator s k = may_be_operator k && is_operand s.last
+abbrev pub may_be_atom_name : Kind → Bool
+may_be_atom_name Name = true
+may_be_atom_name Quoted = true
+may_be_atom_name Mod = true
+may_be_atom_name Int = true
+may_be_atom_name _ = false
 
-abbrev pub is_opener : Kind → Bool
-is_opener LParen = true
-is_opener LBracket = true
-is_opener LBrace = true
-is_opener _ = false
+-- a token with which an operand ends
+abbrev pub ends_operand : Kind → Bool
+ends_operand Int = true
+ends_operand Context = true
+ends_operand RParen = true
+ends_operand _ = false
 
--- An atom that stands directly in an argument list or a '[' list, or directly behind '=', is a term: its own link
--- is one more argument.
-abbrev pub limit_in : List Opened → ℕ
-limit_in [] = 255
-limit_in (Arguments l n ∷ o) = 254
-limit_in (Terms ∷ o) = 254
-limit_in (Group ∷ o) = 255
-
-abbrev pub limit_behind : Last → List Opened → ℕ
-limit_behind Equals o = 254
-limit_behind _ o = limit_in o
-
-abbrev pub limit_here : Scan → ℕ
-limit_here s = limit_behind s.last s.opened
-
--- '(' directly behind a name or a number opens an argument list
-abbrev pub round_behind : Last → Opened
-round_behind (Word l) = Arguments l 1
-round_behind (Digits l) = Arguments l 1
-round_behind _ = Group
-
-abbrev pub one_more_begun : List Opened → List Opened
-one_more_begun [] = []
-one_more_begun (Arguments l n ∷ o) = Arguments l (n + 1) ∷ o
-one_more_begun (Terms ∷ o) = Terms ∷ o
-one_more_begun (Group ∷ o) = Group ∷ o
-
-abbrev pub without_first : List Opened → List Opened
-without_first [] = []
-without_first (x ∷ o) = o
-
-abbrev pub opened_after : Scan → Kind → List Opened
-opened_after s LParen = round_behind s.last ∷ s.opened
-opened_after s LBracket = Terms ∷ s.opened
-opened_after s LBrace = Group ∷ s.opened
-opened_after s RParen = without_first s.opened
-opened_after s RBracket = without_first s.opened
-opened_after s RBrace = without_first s.opened
-opened_after s Comma = one_more_begun s.opened
-opened_after s _ = s.opened
-
--- a side goes on through operands and parentheses
+-- a token of a side, and no operator
 abbrev pub goes_on : Kind → Bool
 goes_on Int = true
 goes_on Context = true
@@ -103,59 +49,71 @@ goes_on LParen = true
 goes_on RParen = true
 goes_on _ = false
 
-abbrev pub operators_after : Scan → Kind → ℕ
-operators_after s k = if is_operator s k then s.operators + 1 else if goes_on k then s.operators else 0
+-- The last of the tokens is one of these.
+pub record EndsWith (test : Kind → Bool) (tokens : List Kind) : Type 0 where
+  pub front : List Kind
+  pub last : Kind
+  pub split : tokens ≡ front ++ last ∷ []
+  pub is_one : test last ≡ true
 
-abbrev pub closed_by_round : List Opened → Last
-closed_by_round [] = Operand
-closed_by_round (Arguments l n ∷ o) = Closed n
-closed_by_round (Terms ∷ o) = Operand
-closed_by_round (Group ∷ o) = Operand
+-- '+', '-', '*', '/' or the unquoted 'mod', directly behind an operand
+abbrev pub IsOperator : List Kind → Kind → Type 0
+IsOperator before token = (may_be_operator token ≡ true) × EndsWith ends_operand before
 
-abbrev pub last_after : Scan → Kind → Last
-last_after s Equal = Equals
-last_after s Name = Word (limit_here s)
-last_after s Quoted = Word (limit_here s)
-last_after s Mod = if is_operand s.last then Other else Word (limit_here s)
-last_after s Int = Digits (limit_here s)
-last_after s Context = Operand
-last_after s RParen = closed_by_round s.opened
-last_after s _ = Other
+-- a name or an INT, with which an atom or a condition begins
+abbrev pub IsAtomName : List Kind → Kind → Type 0
+IsAtomName before token = (may_be_atom_name token ≡ true) × ¬ (IsOperator before token)
 
-abbrev pub scan_after : Scan → Kind → Scan
-scan_after s k = record { opened = opened_after s k; operators = operators_after s k; last = last_after s k }
+-- Each bracket that is opened in the tokens is closed there, and this number of commas stands outside brackets. Brackets of two
+-- kinds may close each other here: where tokens begin a program they never do.
+pub data Balanced : ℕ → List Kind → Type 0 where
+  empty : Balanced 0 []
+  comma : {n : ℕ} {tokens : List Kind} → Balanced n tokens → Balanced (suc n) (Comma ∷ tokens)
+  other : (token : Kind) {n : ℕ} {tokens : List Kind} → (is_opener token || is_closer token || is_comma token) ≡ false
+      → Balanced n tokens → Balanced n (token ∷ tokens)
+  closed : (first last : Kind) {m n : ℕ} {inside behind : List Kind} → is_opener first ≡ true → is_closer last ≡ true
+      → Balanced m inside → Balanced n behind → Balanced n (first ∷ (inside ++ last ∷ behind))
 
-abbrev pub scan_from : Scan → List Kind → Scan
-scan_from s [] = s
-scan_from s (k ∷ u) = scan_from (scan_after s k) u
+-- At least this number of brackets is open behind the tokens.
+pub data Open : ℕ → List Kind → Type 0 where
+  none : {tokens : List Kind} → Open 0 tokens
+  one_more : (first : Kind) {m n : ℕ} {before inside : List Kind} → Open n before → is_opener first ≡ true
+      → Balanced m inside → Open (suc n) (before ++ first ∷ inside)
 
--- what is known behind the tokens
-abbrev pub scan : List Kind → Scan
-scan u = scan_from at_start u
+-- The tokens end with a stretch of one side, a sum, in which this number of operators stands.
+pub data Side : ℕ → List Kind → Type 0 where
+  begins : {tokens : List Kind} → Side 0 tokens
+  operand : (token : Kind) {n : ℕ} {before : List Kind} → Side n before → goes_on token ≡ true → Side n (before ++ token ∷ [])
+  operator : (token : Kind) {n : ℕ} {before : List Kind} → Side n before → IsOperator before token → Side (suc n) (before ++ token ∷ [])
 
--- a bracket inside 200 open ones, or the 256th operator of a side
-abbrev pub is_too_deep : Scan → Kind → Bool
-is_too_deep s k = (is_opener k && nat_le 200 (length s.opened)) || (is_operator s k && nat_le 255 s.operators)
+-- The token opens a bracket inside 200 open ones, or is the 256th operator of a side.
+abbrev pub TooDeep : List Kind → Kind → Type 0
+TooDeep before token = ((is_opener token ≡ true) × Open 200 before) ⊎ (IsOperator before token × Side 255 before)
 
--- more arguments are begun than the list may have
-abbrev pub has_too_many : List Opened → Bool
-has_too_many [] = false
-has_too_many (Arguments l n ∷ o) = nat_lt l n
-has_too_many (Terms ∷ o) = false
-has_too_many (Group ∷ o) = false
+-- The tokens end in the argument list of an atom or of a condition whose name stands directly behind `front`, and this number of
+-- arguments is begun. An empty list counts as one.
+pub data InArguments (front : List Kind) : ℕ → List Kind → Type 0 where
+  begun : (name : Kind) {commas : ℕ} {inside : List Kind} → IsAtomName front name → Balanced commas inside
+      → InArguments front (suc commas) (front ++ name ∷ LParen ∷ inside)
 
--- an item's argument list that has all the arguments that it may have, so that none is left for the link of '='
-abbrev pub is_full : Last → Bool
-is_full (Closed n) = nat_le 255 n
-is_full _ = false
+-- An atom that begins behind the tokens is a term: it stands directly behind '=', in an argument list or in a '[' list.
+pub data TermNext : List Kind → Type 0 where
+  behind_equal : (before : List Kind) → TermNext (before ++ Equal ∷ [])
+  in_arguments : {n : ℕ} {front before : List Kind} → InArguments front n before → TermNext before
+  in_list : (before : List Kind) {n : ℕ} {inside : List Kind} → Balanced n inside → TermNext (before ++ LBracket ∷ inside)
 
-abbrev pub is_equal : Kind → Bool
-is_equal Equal = true
-is_equal _ = false
+-- Arguments are begun of which there are more than 255, or than 254 of a term, since its own link is one more; or the token
+-- is the '=' behind an atom with 255 arguments, since '=' takes one more.
+pub data TooManyArguments : List Kind → Kind → Type 0 where
+  of_any : {n : ℕ} {front before : List Kind} {token : Kind} → InArguments front n before → 255 < n → TooManyArguments before token
+  of_term : {n : ℕ} {front before : List Kind} {token : Kind} → InArguments front n before → TermNext front → 254 < n
+      → TooManyArguments before token
+  left_of_equal : {n : ℕ} {front before : List Kind} → InArguments front n before → 254 < n → TooManyArguments (before ++ RParen ∷ []) Equal
 
--- The code by which the token behind these is refused, where these and it begin a program.
-abbrev pub passes : Scan → Kind → Option ℕ
-passes s k =
-    if is_too_deep s k then Some 11
-    else if has_too_many s.opened || (is_equal k && is_full s.last) then Some 12
-    else None
+-- The code by which the token is refused, if with it the tokens begin a program.
+abbrev pub Passes : ℕ → List Kind → Kind → Type 0
+Passes code before token = ((code ≡ 11) × TooDeep before token) ⊎ ((code ≡ 12) × ¬ (TooDeep before token) × TooManyArguments before token)
+
+-- The token passes no limit.
+abbrev pub PassesNone : List Kind → Kind → Type 0
+PassesNone before token = ¬ (TooDeep before token) × ¬ (TooManyArguments before token)

@@ -1,4 +1,4 @@
--- Reading tokens from the left: what is owed after each, in every way in which the tokens so far can be read.
+-- No public contract cites these words: reading tokens from the left, what is owed after each, in every way in which the tokens so far can be read.
 use Rattle.std.specs.Prelude.{◌≡◌, ℕ, zero, suc, Bool, true, false, List, [], ◌∷◌, ◌++◌, nat_eq, ◌&&◌, ◌||◌, Option, Some, None, if◌then◌else◌, drop}
 use Rattle.lmn_grammar.specs.Grammar.{Exp, Tok, Seq, Alt, Opt, Many, Within, Ref, Part, TermPart, SumPart, ClausePart, ClausesPart, meaning, list, opener, closer}
 use Rattle.lmn_lexer.specs.declared.token.Kind.{Kind}

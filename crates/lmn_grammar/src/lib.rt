@@ -8,19 +8,22 @@ ghost use Rattle.lmn_grammar.specs.Examples.{
   WholeText,
   NoGuard,
   NoList,
-  Stopping,
+  NotExpected,
   Brackets,
   Operators,
+  Sides,
   Arguments,
+  Contexts,
   LeftSide,
+  BothLimits,
 };
 ghost use Rattle.lmn_grammar.specs.Laws.{
   ArgumentsWithin,
   BracketsWithin,
   DerivedOrRefused,
   OneRefusal,
+  OperatorsWithin,
   RefusedDeriveNothing,
-  StopsAtTheToken,
 };
 
 /// What ends with `End` derives a program within the limits, or is refused.
@@ -39,31 +42,29 @@ pub fn refusals_are_one()
     ensures { OneRefusal }
 {}
 
-/// Where reading stops before the end, the tokens up to there begin a program, and with the next one they
-/// don't.
-#[tactic(auto, using(crate::proofs::Refusals::stops_at_the_token))]
-pub fn reading_stops_at_the_token()
-    ensures { StopsAtTheToken }
-{}
-
-/// Within the limits no more than 200 brackets are open, and no argument list has more arguments than its limit.
+/// Within the limits no more than 200 brackets are open, no side has more than 255 operators, and no atom has more
+/// than 255 arguments, nor 254 where it is a term.
 pub fn limits_are_kept()
     ensures brackets { BracketsWithin }
+    ensures operators { OperatorsWithin }
     ensures arguments { ArgumentsWithin }
 {}
 
-/// Small texts: where reading stops.
-pub fn reading_examples()
+/// Small texts: a program, and tokens that aren't expected.
+pub fn program_examples()
     ensures whole { WholeText }
     ensures no_guard { NoGuard }
     ensures no_list { NoList }
-    ensures stopping { Stopping }
+    ensures not_expected { NotExpected }
 {}
 
 /// Small texts: the last that is within a limit, and the first that isn't.
 pub fn limit_examples()
     ensures brackets { Brackets }
     ensures operators { Operators }
+    ensures sides { Sides }
     ensures arguments { Arguments }
+    ensures contexts { Contexts }
     ensures left_side { LeftSide }
+    ensures both_limits { BothLimits }
 {}

@@ -1,16 +1,21 @@
 -- What is seen of a shelf and of a sink in memory.
 use Rattle.std.specs.Prelude.{◌≡◌, ℕ, ◌+◌, ◌<◌, ◌⊎◌, List, length, Option, None, is_some, if◌then◌else◌, Contains}
-use Rattle.lmn_io.specs.Texts.{text_of}
+use Rattle.lmn_io.specs.Texts.{Asked, text_of}
 
--- The texts beside their names; the numbers of the calls that fail, how many calls were made,
--- how many failed by their number, and how many failed at all.
+-- The texts beside their names; the numbers of the calls that fail, how many calls were made, the most bytes that one
+-- would take, how many failed by their number, and how many failed at all.
 pub record Texts : Type 0 where
   pub names : List (List ℕ)
   pub texts : List (List ℕ)
   pub failing : List ℕ
   pub calls : ℕ
+  pub most : ℕ
   pub listed : ℕ
   pub all : ℕ
+
+-- what was asked for
+abbrev pub asked_of : Texts → Asked
+asked_of t = record { fetches = t.calls; most = t.most }
 
 -- the text under a name
 abbrev pub text_in : Texts → List ℕ → Option (List ℕ)

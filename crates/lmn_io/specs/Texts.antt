@@ -1,6 +1,7 @@
 -- What a shelf tells of its texts, if it tells them, and what a fetch may answer.
-use Rattle.std.specs.Prelude.{◌≡◌, ℕ, ◌<◌, ◌≤◌, List, [], ◌∷◌, length, Option, Some, None, IfSome, IsSomeAnd, if◌then◌else◌}
+use Rattle.std.specs.Prelude.{◌≡◌, ℕ, ◌<◌, ◌≤◌, max, List, [], ◌∷◌, length, Option, Some, None, IfSome, IsSomeAnd, if◌then◌else◌}
 use Rattle.std.specs.Str.{bytes_eq}
+use Rattle.lmn_io.specs.Counts.{one_more}
 use Rattle.lmn_io.specs.declared.shelf.Fetched.{Fetched}
 use Rattle.lmn_io.specs.declared.shelf.Fetched.TheVariants.{Whole, TooLong}
 
@@ -8,6 +9,15 @@ use Rattle.lmn_io.specs.declared.shelf.Fetched.TheVariants.{Whole, TooLong}
 abbrev pub IsFetched : Option (List ℕ → Option (List ℕ)) → List ℕ → ℕ → Fetched → Type 0
 IsFetched told name most (Whole bytes) = (length bytes ≤ most) × IfSome told (λ text. text name ≡ Some bytes)
 IsFetched told name most TooLong = IfSome told (λ text. IsSomeAnd (text name) (λ bytes. most < length bytes))
+
+-- what a shelf was asked for: how many fetches, and the most bytes that one of them would take
+pub record Asked : Type 0 where
+  pub fetches : ℕ
+  pub most : ℕ
+
+-- and with one fetch more, which would take so many bytes at most
+abbrev pub asked_once_more : ℕ → Asked → Asked
+asked_once_more most asked = record { fetches = one_more asked.fetches; most = max asked.most most }
 
 -- the text beside the first place where the name stands
 abbrev pub text_of : List (List ℕ) → List (List ℕ) → List ℕ → Option (List ℕ)

@@ -8,7 +8,7 @@ use std::io::Read;
 use std::rt::Files;
 use std::{fs, io};
 
-/// Files, read through the runtime that the shelf is lent. It tells no bytes, and its one count is that of every name.
+/// Files, read through the runtime that the shelf is lent. It tells no bytes and not what it was asked for, and its one count is that of every name.
 #[derive(Drop)]
 pub struct FileShelf<'a, R: Files> {
     rt: &'a R,
@@ -53,6 +53,8 @@ impl<R: Files> Shelf for FileShelf<'_, R> {
 
     ghost faults = { λ s _. s.failures };
 
+    ghost asked = { λ _. None };
+
     fn fetch(&mut self, alloc: Global, name: &str, most: u64) -> Result<Fetched, FetchFault> {
         let answer = read_file(self.rt, alloc, name, most);
         if let Err(FetchFault::Failed) = answer {
@@ -90,6 +92,12 @@ mod tests {
         let long = shelf.fetch(rt.alloc(), name, 4)?;
         assert!(rt; matches!(long, Fetched::TooLong));
         fs::remove_file(&rt, name)?;
+        assert_eq!(rt;
+            whole(shelf.fetch(rt.alloc(), name, 5)).err(),
+            Some(FetchFault::Failed)
+        );
+        let folder = env::temp_dir(&rt)?;
+        let name = folder.to_str().ok_or("no text")?;
         assert_eq!(rt;
             whole(shelf.fetch(rt.alloc(), name, 5)).err(),
             Some(FetchFault::Failed)

@@ -50,7 +50,7 @@ mod tests {
     use crate::sink::{Failed, Sink};
     use std::io::{self, Write};
 
-    /// A writer with room for five bytes, which takes one byte a call.
+    /// A writer with room for five bytes, which takes two bytes a call at most.
     #[derive(Drop)]
     struct Narrow {
         taken: [u8; 5],
@@ -59,15 +59,14 @@ mod tests {
 
     impl Write for Narrow {
         fn write(&mut self, buf: &[u8]) -> io::Result<usize> {
-            match buf {
-                [] => Ok(0),
-                [first, ..] if self.count < 5 => {
-                    self.taken[self.count] = *first;
-                    self.count += 1;
-                    Ok(1)
-                }
-                _ => Err(io::Error::from(io::ErrorKind::BrokenPipe)),
+            if self.count >= 5 {
+                return Err(io::Error::from(io::ErrorKind::BrokenPipe));
             }
+            let count = buf.len().min(2).min(5 - self.count);
+            let end = self.count + count;
+            self.taken[self.count..end].copy_from_slice(&buf[..count]);
+            self.count = end;
+            Ok(count)
         }
 
         fn flush(&mut self) -> io::Result<()> {

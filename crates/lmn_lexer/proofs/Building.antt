@@ -1,20 +1,21 @@
 -- How a text whose parts are known is cut, part by part.
-use Rattle.std.proofs.Common.{◌≡◌, ℕ, ◌+◌, ◌==◌, Bool, true, if◌then◌else◌, List, [], ◌∷◌, ◌++◌, length, take, drop, inl, inr, refl, sym, ap, ◌∙◌, subst, arith}
+use Rattle.std.proofs.Common.{◌≡◌, ℕ, ◌+◌, ◌==◌, Bool, true, false, not, if◌then◌else◌, List, [], ◌∷◌, ◌++◌, length, take, drop, inl, inr, refl, sym, ap, ◌∙◌, subst, arith}
 use Rattle.std.specs.Prelude.{codes}
+use Rattle.std.proofs.lemmas.Bool.Decides.{nat_tests}
 use Rattle.std.specs.List.{prefix_len}
 use Rattle.std.specs.Char.{is_ascii_lowercase, is_ascii_digit, is_ascii_whitespace}
 use Rattle.std.proofs.lemmas.List.{length-append, append_assoc, take_at, take-append-drop, length-take-le}
 use Rattle.lmn_lexer.specs.declared.token.Kind.{Kind}
-use Rattle.lmn_lexer.specs.declared.token.Kind.TheVariants.{Name, Quoted, Mod, Int, LParen, RParen, Comma, Dot, Arrow, Minus}
+use Rattle.lmn_lexer.specs.declared.token.Kind.TheVariants.{Name, Quoted, Mod, Link, Int, Context, RuleCtx, LParen, RParen, LBracket, RBracket, LBrace, RBrace, Comma, Dot, Arrow, AtAt, Bar, Equal, Less, LessEq, Greater, GreaterEq, NumEq, NumNe, Differ, Plus, Minus, Star, Slash}
 use Rattle.lmn_lexer.specs.declared.token.Token.{Token}
 use Rattle.lmn_lexer.specs.declared.piece.Piece.TheVariants as piece
-use Rattle.lmn_lexer.specs.Spelling.{goes_on, IsWord, IsDigits, IsInteger, IsQuoted, Spells}
+use Rattle.lmn_lexer.specs.Spelling.{goes_on, begins_link, begins_context, IsWord, IsWordBehind, IsDigits, IsInteger, IsQuoted, Spells}
 use Rattle.lmn_lexer.specs.Gaps.{separator}
 use Rattle.lmn_lexer.specs.Cutting.{BeginsToken, gap, token, Reaches, onward, minus_behind, token_at}
 use Rattle.lmn_lexer.specs.Scanning.{digit_bytes, word_kind, quoted_behind, piece_of}
 use Rattle.lmn_lexer.proofs.Runs.{run_exact}
-use Rattle.lmn_lexer.specs.Laying.{Stops, MayFollow}
-use Rattle.lmn_lexer.proofs.Exact.{lower_piece, digit_piece}
+use Rattle.lmn_lexer.specs.Laying.{Stops, Separated, MayFollow}
+use Rattle.lmn_lexer.proofs.Exact.{lower_piece, link_piece, digit_piece, context_goes_on, context_not_at}
 use Rattle.lmn_lexer.proofs.OnePiece.{not_mod, quoted_past, gap_piece}
 use Rattle.lmn_lexer.proofs.Determined.{token_stands, token_found, same_front}
 
@@ -103,6 +104,65 @@ quoted_first minus bytes name after q h =
 sign_first : (minus : Bool) (kind : Kind) (bytes sign after : List ℕ) → bytes ≡ sign → IsFirst minus kind sign after → IsFirst minus kind bytes after
 sign_first minus kind bytes sign after e h = let P : List ℕ → Type 0 = λ x. IsFirst minus kind x after in subst P (sym e) h
 
+-- a link
+link_first : (minus : Bool) (bytes after : List ℕ) → IsWord begins_link bytes → Stops goes_on after → IsFirst minus Link bytes after
+link_first minus [] after h s = absurd h
+link_first minus (b ∷ bs) after h s =
+    let run = run_exact goes_on bs after h.1 s in
+    link_piece minus b (bs ++ after) h.0 ∙ ap (λ m. piece.Token Link m) (omega arith)
+
+-- the bytes of a context behind its sign
+context_run : (b : ℕ) (bs after : List ℕ) → IsWord begins_context (b ∷ bs) → Stops goes_on after
+    → 1 + prefix_len goes_on (b ∷ (bs ++ after)) ≡ 1 + length (b ∷ bs)
+context_run b bs after h s = ap (λ m. 1 + m) (run_exact goes_on (b ∷ bs) after (context_goes_on b h.0, h.1) s)
+
+context_first : (minus : Bool) (bytes after : List ℕ) → IsWordBehind 36 begins_context bytes → Stops goes_on after → IsFirst minus Context bytes after
+context_first minus [] after h s = absurd h
+context_first minus (c ∷ []) after h s = absurd h.1
+context_first minus (c ∷ b ∷ bs) after h s =
+    ap (λ x. piece_of minus (x ∷ b ∷ (bs ++ after))) h.0
+    ∙ ap (λ t. if t then piece.Token Context (1 + prefix_len goes_on (b ∷ (bs ++ after))) else piece.Wrong 2 0) h.1.0
+    ∙ ap (λ m. piece.Token Context m) (let run = context_run b bs after h.1 s in omega arith)
+
+rule_context_first : (minus : Bool) (bytes after : List ℕ) → IsWordBehind 64 begins_context bytes → Stops goes_on after → IsFirst minus RuleCtx bytes after
+rule_context_first minus [] after h s = absurd h
+rule_context_first minus (c ∷ []) after h s = absurd h.1
+rule_context_first minus (c ∷ b ∷ bs) after h s =
+    let long = piece.Token RuleCtx (1 + prefix_len goes_on (b ∷ (bs ++ after))) in
+    ap (λ x. piece_of minus (x ∷ b ∷ (bs ++ after))) h.0
+    ∙ ap (λ t. if t then piece.Token AtAt 2 else (if begins_context b then long else piece.Wrong 2 0)) (context_not_at b h.1.0)
+    ∙ ap (λ t. if t then long else piece.Wrong 2 0) h.1.0
+    ∙ ap (λ m. piece.Token RuleCtx m) (let run = context_run b bs after h.1 s in omega arith)
+
+-- a separator is no other byte, and no digit
+separator_not : (c n : ℕ) → not (is_ascii_whitespace c) ≡ false → is_ascii_whitespace n ≡ false → (c == n) ≡ false
+separator_not c n h k = grind (arith, nat_tests)
+
+separator_no_digit : (c : ℕ) → not (is_ascii_whitespace c) ≡ false → is_ascii_digit c ≡ false
+separator_no_digit c h = grind (arith, nat_tests)
+
+equal_first : (minus : Bool) (after : List ℕ) → Separated after → IsFirst minus Equal (codes "=") after
+equal_first minus [] h = refl
+equal_first minus (c ∷ cs) h = rw (separator_not c 60 h refl) (rw (separator_not c 58 h refl) (rw (separator_not c 92 h refl) refl))
+
+greater_first : (minus : Bool) (after : List ℕ) → Separated after → IsFirst minus Greater (codes ">") after
+greater_first minus [] h = refl
+greater_first minus (c ∷ cs) h = rw (separator_not c 61 h refl) refl
+
+slash_first : (minus : Bool) (after : List ℕ) → Separated after → IsFirst minus Slash (codes "/") after
+slash_first minus [] h = refl
+slash_first minus (c ∷ cs) h = rw (separator_not c 47 h refl) (rw (separator_not c 42 h refl) refl)
+
+minus_first : (minus : Bool) (after : List ℕ) → Separated after → IsFirst minus Minus (codes "-") after
+minus_first true [] h = refl
+minus_first false [] h = refl
+minus_first true (c ∷ cs) h = rw (separator_no_digit c h) refl
+minus_first false (c ∷ cs) h = refl
+
+bracket_first : (minus : Bool) (after : List ℕ) → Stops (λ b. b == 58) after → IsFirst minus LBracket (codes "[") after
+bracket_first minus [] h = refl
+bracket_first minus (c ∷ cs) h = rw h refl
+
 -- a word with what may stand behind it
 pub word_first : (minus : Bool) (kind : Kind) (bytes after : List ℕ) → Spells minus kind bytes → MayFollow kind after → IsFirst minus kind bytes after
 word_first minus Name bytes after h m = word_text minus Name bytes after h.0 (not_mod bytes h.1) m
@@ -115,4 +175,24 @@ word_first minus RParen bytes after h m = sign_first minus RParen bytes (codes "
 word_first minus Comma bytes after h m = sign_first minus Comma bytes (codes ",") after h refl
 word_first minus Dot bytes after h m = sign_first minus Dot bytes (codes ".") after h refl
 word_first minus Arrow bytes after h m = sign_first minus Arrow bytes (codes ":-") after h refl
+word_first minus Link bytes after h m = link_first minus bytes after h m
+word_first minus Context bytes after h m = context_first minus bytes after h m
+word_first minus RuleCtx bytes after h m = rule_context_first minus bytes after h m
+word_first minus LBracket bytes after h m = sign_first minus LBracket bytes (codes "[") after h (bracket_first minus after m)
+word_first minus RBracket bytes after h m = sign_first minus RBracket bytes (codes "]") after h refl
+word_first minus LBrace bytes after h m = sign_first minus LBrace bytes (codes "{") after h refl
+word_first minus RBrace bytes after h m = sign_first minus RBrace bytes (codes "}") after h refl
+word_first minus Bar bytes after h m = sign_first minus Bar bytes (codes "|") after h refl
+word_first minus Equal bytes after h m = sign_first minus Equal bytes (codes "=") after h (equal_first minus after m)
+word_first minus Less bytes after h m = sign_first minus Less bytes (codes "<") after h refl
+word_first minus LessEq bytes after h m = sign_first minus LessEq bytes (codes "=<") after h refl
+word_first minus Greater bytes after h m = sign_first minus Greater bytes (codes ">") after h (greater_first minus after m)
+word_first minus GreaterEq bytes after h m = sign_first minus GreaterEq bytes (codes ">=") after h refl
+word_first minus NumEq bytes after h m = sign_first minus NumEq bytes (codes "=:=") after h refl
+word_first minus NumNe bytes after h m = sign_first minus NumNe bytes (codes "=\\=") after h refl
+word_first minus Differ bytes after h m = sign_first minus Differ bytes (codes "\\=") after h refl
+word_first minus Plus bytes after h m = sign_first minus Plus bytes (codes "+") after h refl
+word_first minus Minus bytes after h m = sign_first minus Minus bytes (codes "-") after h (minus_first minus after m)
+word_first minus Star bytes after h m = sign_first minus Star bytes (codes "*") after h refl
+word_first minus Slash bytes after h m = sign_first minus Slash bytes (codes "/") after h (slash_first minus after m)
 word_first minus _ bytes after h m = absurd m

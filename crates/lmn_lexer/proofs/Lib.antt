@@ -15,3 +15,4 @@ pub mod QuotedNames
 pub mod SoundTokens
 pub mod FewTokens
 pub mod LaidTexts
+pub mod CutOrRefused

@@ -13,14 +13,33 @@ abbrev pub value_behind : ℕ → List ℕ → ℕ
 value_behind n [] = n
 value_behind n (d ∷ ds) = value_behind (n * 10 + (d - 48)) ds
 
+-- bytes by their names: `%`, `"`, `!`, `'`, `-` and the line feed
+abbrev pub percent : ℕ
+percent = 37
+
+abbrev pub double_quote : ℕ
+double_quote = 34
+
+abbrev pub exclamation : ℕ
+exclamation = 33
+
+abbrev pub quote : ℕ
+quote = 39
+
+abbrev pub minus_sign : ℕ
+minus_sign = 45
+
+abbrev pub line_feed : ℕ
+line_feed = 10
+
 -- the integer is -2^63 to 2^63 - 1
 abbrev pub InRange : List ℕ → Type 0
 InRange [] = ⊥
-InRange (b ∷ bs) = ((b ≡ 45) × (value_behind 0 bs ≤ 2 ^ 63)) ⊎ ((b ≢ 45) × (value_behind 0 (b ∷ bs) ≤ 2 ^ 63 - 1))
+InRange (b ∷ bs) = ((b ≡ minus_sign) × (value_behind 0 bs ≤ 2 ^ 63)) ⊎ ((b ≢ minus_sign) × (value_behind 0 (b ∷ bs) ≤ 2 ^ 63 - 1))
 
 -- a `.` and a digit stand first
 abbrev pub BeginsFraction : List ℕ → Type 0
-BeginsFraction after = (d : ℕ) × (more : List ℕ) × (after ≡ 46 ∷ d ∷ more) × (is_ascii_digit d ≡ true)
+BeginsFraction after = (d : ℕ) × (more : List ℕ) × (after ≡ codes "." ++ d ∷ more) × (is_ascii_digit d ≡ true)
 
 -- The token's name has more than 255 bytes. The sign of a context isn't counted, nor are quotes, and a quote
 -- inside that is written twice counts once.
@@ -42,25 +61,27 @@ pub data TokenFault (kind : Kind) (bytes after : List ℕ) : ℕ → Type 0 wher
 abbrev pub BeginsNoToken : Bool → List ℕ → Type 0
 BeginsNoToken minus text = (kind : Kind) (bytes after : List ℕ) → Spells minus kind bytes → text ≡ bytes ++ after → ⊥
 
--- What is wrong at the front of a text: the number of the code, and the bytes before its place.
+-- What is wrong at the front of a text: the number of the code, and the bytes of the text that stand before the place to
+-- which the code points.
 pub data Wrong (minus : Bool) (text : List ℕ) : ℕ → List ℕ → Type 0 where
-  -- a byte that begins no token, separator or comment
-  bad_byte : (b : ℕ) (after : List ℕ) → text ≡ b ∷ after → is_ascii_whitespace b ≡ false → b ≢ 37 → b ≢ 34 → b ≢ 33 → b ≢ 39
+  -- a byte at which no token begins, and that has no row of its own: it is no separator and begins no comment, string,
+  -- hyperlink or name in quotes
+  bad_byte : (b : ℕ) (after : List ℕ) → text ≡ b ∷ after → is_ascii_whitespace b ≡ false → b ≢ percent → b ≢ double_quote → b ≢ exclamation → b ≢ quote
       → BeginsNoToken minus text → Wrong minus text 2 []
   -- a name in quotes holds a byte that may not stand there
-  bad_quoted_byte : (b : ℕ) (inside name after : List ℕ) → text ≡ 39 ∷ (inside ++ b ∷ after) → Quotes inside name
-      → is_quotable b ≡ false → b ≢ 39 → b ≢ 10 → Wrong minus text 2 (39 ∷ inside)
+  bad_quoted_byte : (b : ℕ) (inside name after : List ℕ) → text ≡ codes "'" ++ (inside ++ b ∷ after) → Quotes inside name
+      → is_quotable b ≡ false → b ≢ quote → b ≢ line_feed → Wrong minus text 2 (codes "'" ++ inside)
   -- a name in quotes meets a line feed or the end
-  open_quote : (inside name after : List ℕ) → text ≡ 39 ∷ (inside ++ after) → Quotes inside name → EndsLine after → Wrong minus text 3 []
+  open_quote : (inside name after : List ℕ) → text ≡ codes "'" ++ (inside ++ after) → Quotes inside name → EndsLine after → Wrong minus text 3 []
   -- a comment meets the end
   open_comment : (inside : List ℕ) → text ≡ codes "/*" ++ inside → ¬ (Holds (codes "*/") inside) → Wrong minus text 3 []
   -- a token that is wrong
   wrong_token : (kind : Kind) (bytes after : List ℕ) (code : ℕ) → BeginsToken minus kind bytes after text → TokenFault kind bytes after code
       → Wrong minus text code []
   -- what a token of the language can't begin with
-  string : (after : List ℕ) → text ≡ 34 ∷ after → Wrong minus text 7 []
+  string : (after : List ℕ) → text ≡ codes "\"" ++ after → Wrong minus text 7 []
   inline_code : (after : List ℕ) → text ≡ codes "[:" ++ after → Wrong minus text 8 []
-  hyperlink : (after : List ℕ) → text ≡ 33 ∷ after → Wrong minus text 9 []
+  hyperlink : (after : List ℕ) → text ≡ codes "!" ++ after → Wrong minus text 9 []
 
 -- something is wrong where a text is cut up to a place
 abbrev pub WrongAt : Cutting → ℕ → List ℕ → Type 0

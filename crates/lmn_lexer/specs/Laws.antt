@@ -1,5 +1,5 @@
 -- Laws of cutting.
-use Rattle.std.specs.Prelude.{◌≡◌, ◌≤◌, ◌+◌, ℕ, true, ⊤, List, [], ◌∷◌, ◌++◌, length}
+use Rattle.std.specs.Prelude.{◌≡◌, ◌≤◌, ◌+◌, ◌⊎◌, ℕ, true, ⊤, List, [], ◌∷◌, ◌++◌, length}
 use Rattle.std.specs.List.{AllByRecursion}
 use Rattle.lmn_base.specs.declared.refusal.Refusal.{Refusal}
 use Rattle.lmn_lexer.specs.declared.token.Token.{Token}
@@ -16,6 +16,10 @@ OneCut = (text : List ℕ) (tokens others : List Token) → Cuts text tokens →
 -- a text has at most one first fault
 abbrev pub OneRefusal : Type 0
 OneRefusal = (text : List ℕ) (refusal other : Refusal) → IsRefusal text refusal → IsRefusal text other → refusal ≡ other
+
+-- a text is cut and nothing is wrong in it, or it has a refusal
+abbrev pub CutOrRefused : Type 0
+CutOrRefused = (text : List ℕ) → ((tokens : List Token) × Cuts text tokens × NothingWrong text) ⊎ ((refusal : Refusal) × IsRefusal text refusal)
 
 -- a text with a first fault isn't without one
 abbrev pub RefusedIsWrong : Type 0

@@ -2,7 +2,7 @@
 use Rattle.std.specs.Prelude.{◌≡◌, ℕ, ◌==◌, Bool, true, false, not, ⊤, List, [], ◌∷◌, ◌++◌, map}
 use Rattle.std.specs.Char.{is_ascii_digit, is_ascii_whitespace}
 use Rattle.lmn_lexer.specs.declared.token.Kind.{Kind}
-use Rattle.lmn_lexer.specs.declared.token.Kind.TheVariants.{Name, Quoted, Mod, Int, End, LParen, RParen, Comma, Dot, Arrow}
+use Rattle.lmn_lexer.specs.declared.token.Kind.TheVariants.{Name, Quoted, Mod, Link, Int, Context, RuleCtx, End, LParen, RParen, LBracket, RBracket, LBrace, RBrace, Comma, Dot, Arrow, Bar, Equal, Less, LessEq, Greater, GreaterEq, NumEq, NumNe, Differ, Plus, Minus, Star, Slash}
 use Rattle.lmn_lexer.specs.declared.token.Token.{Token}
 use Rattle.lmn_lexer.specs.Spelling.{Spells, goes_on}
 use Rattle.lmn_lexer.specs.Cutting.{is_operand}
@@ -30,7 +30,12 @@ abbrev pub Stops : (ℕ → Bool) → List ℕ → Type 0
 Stops test [] = ⊤
 Stops test (b ∷ bs) = test b ≡ false
 
--- What may stand directly behind a word of this kind. Words of other kinds aren't laid out.
+-- nothing, or a separator first
+abbrev pub Separated : List ℕ → Type 0
+Separated after = Stops (λ b. not (is_ascii_whitespace b)) after
+
+-- What may stand directly behind a word of this kind. Behind operators a separator stands. Words of other kinds aren't
+-- laid out.
 abbrev pub MayFollow : Kind → List ℕ → Type 0
 MayFollow Name after = Stops goes_on after
 MayFollow Mod after = Stops goes_on after
@@ -41,6 +46,26 @@ MayFollow RParen after = ⊤
 MayFollow Comma after = ⊤
 MayFollow Dot after = ⊤
 MayFollow Arrow after = ⊤
+MayFollow Link after = Stops goes_on after
+MayFollow Context after = Stops goes_on after
+MayFollow RuleCtx after = Stops goes_on after
+MayFollow LBracket after = Stops (λ b. b == 58) after
+MayFollow RBracket after = ⊤
+MayFollow LBrace after = ⊤
+MayFollow RBrace after = ⊤
+MayFollow Bar after = ⊤
+MayFollow Equal after = Separated after
+MayFollow Less after = Separated after
+MayFollow LessEq after = Separated after
+MayFollow Greater after = Separated after
+MayFollow GreaterEq after = Separated after
+MayFollow NumEq after = Separated after
+MayFollow NumNe after = Separated after
+MayFollow Differ after = Separated after
+MayFollow Plus after = Separated after
+MayFollow Minus after = Separated after
+MayFollow Star after = Separated after
+MayFollow Slash after = Separated after
 MayFollow _ after = ⊥
 
 -- The text is laid out as these words. The first argument says whether a `-` may begin an integer at its front.

@@ -1,6 +1,7 @@
 //! Laws of cutting a text into tokens.
 
 ghost use Rattle.lmn_lexer.specs.Laws.{
+  CutOrRefused,
   FewTokens,
   LaidTextsAreCut,
   OneCut,
@@ -36,4 +37,9 @@ pub fn tokens_are_few()
 /// A text that is laid out as words, with separators between them, is cut into these words.
 pub fn laid_texts_are_cut()
     ensures { LaidTextsAreCut }
+{}
+
+/// A text is cut and nothing is wrong in it, or it has a refusal.
+pub fn texts_are_cut_or_refused()
+    ensures { CutOrRefused }
 {}

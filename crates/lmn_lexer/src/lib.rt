@@ -14,5 +14,5 @@ mod value;
 
 pub use scanner::lex;
 pub use token::{Kind, Token};
-pub use tokens::Tokens;
+pub use tokens::{PackedToken, Tokens};
 pub use value::{integer, unquoted};

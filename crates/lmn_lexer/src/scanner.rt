@@ -1,4 +1,4 @@
-ghost use Rattle.std.specs.Prelude.{◌≡◌, ◌+◌, ◌<◌, ◌≤◌, ◌^◌, ◌==◌, ℕ, List, [], length, drop, count_by, IfOk, IfErr, OnOk};
+ghost use Rattle.std.specs.Prelude.{◌≡◌, ◌+◌, ◌<◌, ◌≤◌, ◌^◌, ◌==◌, ℕ, List, length, drop, count_by, IfOk, IfErr, OnOk};
 ghost use Rattle.lmn_base.specs.Refusals.{IfRefused};
 ghost use Rattle.lmn_lexer.specs.declared.piece.Piece.TheVariants as piece;
 ghost use Rattle.lmn_lexer.specs.Cutting.{Cuts, column_behind, is_operand};
@@ -11,7 +11,7 @@ use crate::piece::{Piece, first_piece};
 use crate::place::{START, behind};
 use crate::token::{Kind, Token};
 use crate::tokens::Tokens;
-use lmn_base::{NoMemory, Pos, Refusal, Rows, TextFault};
+use lmn_base::{NoMemory, Pos, Refusal, TextFault};
 use std::alloc::Global;
 
 /// How far a text is cut into tokens.
@@ -24,7 +24,7 @@ struct Scanner {
     /// Whether a `-` may begin an integer there.
     minus: bool,
     /// Their tokens.
-    tokens: Rows<Token>,
+    tokens: Tokens,
 }
 
 impl Scanner {
@@ -36,7 +36,7 @@ impl Scanner {
             at: 0,
             pos: START,
             minus: true,
-            tokens: Rows::new(alloc),
+            tokens: Tokens::new(alloc),
         }
     }
 
@@ -131,7 +131,7 @@ impl Scanner {
             end: at,
             pos,
         })?;
-        Ok(Tokens::new(tokens))
+        Ok(tokens)
     }
 }
 

@@ -1,7 +1,7 @@
 ghost use Rattle.std.specs.Prelude.{ℕ, List};
 ghost use Rattle.lmn_lexer.specs.Spelling.{IsQuoted};
 
-use crate::{Kind, integer, lex, unquoted};
+use crate::{Kind, Tokens, integer, lex, unquoted};
 use Kind::{
     Arrow, AtAt, Backslash, Comma, Context, Differ, Dot, End, Equal, Greater, GreaterEq, Int,
     LBrace, LBracket, LParen, Less, LessEq, Link, Minus, Mod, Name, NumEq, NumNe, Plus, Quoted,
@@ -100,17 +100,21 @@ const REFUSED: [(&[u8], u8, u64, u64); 24] = [
 /// Whether a text has tokens of these kinds.
 fn is_read(alloc: Global, text: &[u8], wanted: &[Kind]) -> bool {
     match lex(alloc, text) {
-        Ok(tokens) => are_of(tokens.as_slice(), wanted),
+        Ok(tokens) => are_of(&tokens, wanted),
         Err(_) => false,
     }
 }
 
-fn are_of(tokens: &[crate::Token], wanted: &[Kind]) -> bool {
-    tokens.len() == wanted.len()
-        && tokens
-            .iter()
-            .zip(wanted)
-            .all(|(token, kind)| token.kind == *kind)
+fn are_of(tokens: &Tokens, wanted: &[Kind]) -> bool {
+    if tokens.len() != wanted.len() {
+        return false;
+    }
+    for (i, kind) in wanted.iter().enumerate() {
+        if tokens.at(i).kind != *kind {
+            return false;
+        }
+    }
+    true
 }
 
 /// Whether a text is refused by a code at a place.

@@ -1,13 +1,14 @@
-ghost use Rattle.std.specs.Prelude.{◌≡◌, ◌<◌, length, slice_get, Some};
+ghost use Rattle.std.specs.Prelude.{◌≡◌, ◌<◌, [], ◌∷◌, ◌++◌, length, slice_get, Some, IfSome, OnOk, OnErr};
 
-use crate::token::Token;
-use lmn_base::Rows;
+use crate::token::{Kind, Token};
+use lmn_base::{NoMemory, Pos, Rows};
+use std::alloc::Global;
 use std::marker::Model;
 
-/// The tokens of a text, in order. The last one is `End`.
+/// The tokens of a text, in order. Contracts see their list.
 #[derive(Debug, Drop)]
 pub struct Tokens {
-    rows: Rows<Token>,
+    rows: Rows<PackedToken>,
 }
 
 impl Model for Tokens {
@@ -20,11 +21,24 @@ impl Model for Tokens {
 }
 
 impl Tokens {
-    /// These tokens.
-    pub fn new(rows: Rows<Token>) -> Tokens
-        ensures { result ≡ rows }
+    /// No tokens, with no memory taken.
+    pub fn new(alloc: Global) -> Tokens
+        ensures { result ≡ [] }
     {
-        Tokens { rows }
+        Tokens {
+            rows: Rows::new(alloc),
+        }
+    }
+
+    /// Adds a token at the end. Where memory is wanting, or its numbers don't fit 32 bits, the rest stays.
+    pub fn push(&mut self, token: Token) -> Result<(), NoMemory>
+        ensures ok { OnOk result (self.new ≡ self.old ++ token ∷ []) }
+        ensures err { OnErr result (self.new ≡ self.old) }
+    {
+        match pack(token) {
+            Some(token) => self.rows.push(token),
+            None => Err(NoMemory),
+        }
     }
 
     /// The number of tokens.
@@ -39,13 +53,85 @@ impl Tokens {
         requires { i < length self.now }
         ensures { slice_get self.now i ≡ Some result }
     {
-        *self.rows.at(i)
+        self.rows.at(i).token()
     }
 
     /// All tokens, in order.
-    pub fn as_slice(&self) -> &[Token]
+    pub fn as_slice(&self) -> &[PackedToken]
         ensures { result.now ≡ self.now }
     {
         self.rows.as_slice()
     }
+}
+
+/// A token in 20 bytes. Contracts see the token.
+#[derive(Debug, Drop)]
+pub struct PackedToken {
+    kind: Kind,
+    start: u32,
+    end: u32,
+    line: u32,
+    column: u32,
+}
+
+impl Model for PackedToken {
+    ghost use Rattle.lmn_lexer.specs.declared.token.Token.{Token};
+
+    ghost Value = { Token };
+
+    ghost view = { λ p. record { kind = p.kind; start = p.start; end = p.end; pos = record { line = p.line; column = p.column } } };
+}
+
+impl PackedToken {
+    /// What the token is.
+    pub fn kind(&self) -> Kind
+        ensures { result ≡ self.now.kind }
+    {
+        self.kind
+    }
+
+    /// The place of its first byte.
+    pub fn pos(&self) -> Pos
+        ensures { result ≡ self.now.pos }
+    {
+        Pos {
+            line: u64::from(self.line),
+            column: u64::from(self.column),
+        }
+    }
+
+    /// The token.
+    pub fn token(&self) -> Token
+        ensures { result ≡ self.now }
+    {
+        Token {
+            kind: self.kind,
+            start: self.start as usize,
+            end: self.end as usize,
+            pos: self.pos(),
+        }
+    }
+}
+
+/// A token by numbers of 32 bits, if these are enough.
+fn pack(token: Token) -> Option<PackedToken>
+    ensures { IfSome result (λ packed. packed ≡ token) }
+{
+    let Token {
+        kind,
+        start,
+        end,
+        pos,
+    } = token;
+    let start = u32::try_from(start).ok()?;
+    let end = u32::try_from(end).ok()?;
+    let line = u32::try_from(pos.line).ok()?;
+    let column = u32::try_from(pos.column).ok()?;
+    Some(PackedToken {
+        kind,
+        start,
+        end,
+        line,
+        column,
+    })
 }

@@ -1,6 +1,7 @@
 -- The clauses that the reader builds are those that it has read.
-use Rattle.std.proofs.Common.{◌≡◌, ℕ, ◌+◌, ◌<◌, length, List, [], ◌∷◌, ◌++◌, get_or, option_map, refl, sym, ◌∙◌, ap, subst}
+use Rattle.std.proofs.Common.{Box, Global, ◌≡◌, ℕ, ◌+◌, ◌<◌, length, List, [], ◌∷◌, ◌++◌, get_or, option_map, refl, sym, ◌∙◌, ap, subst}
 use Rattle.std.proofs.lemmas.Option.{slice_get-get_or}
+use Rattle.lmn_base.specs.declared.refusal.Pos.{Pos}
 use Rattle.lmn_lexer.specs.declared.token.Kind.TheVariants.{LBrace, RBrace, Dot, Arrow, Bar}
 use Rattle.lmn_lexer.specs.declared.token.Token.{Token}
 use Rattle.lmn_parser.specs.declared.tree.Clause.{Clause as ClauseNode}
@@ -8,9 +9,9 @@ use Rattle.lmn_parser.specs.declared.tree.Item.{Item as ItemNode}
 use Rattle.lmn_parser.specs.declared.tree.CondNode.{CondNode}
 use Rattle.lmn_parser.specs.declared.tree.RuleNode.{RuleNode}
 use Rattle.lmn_parser.specs.declared.tree.Clause.TheViews as view
-use Rattle.lmn_parser.specs.Syntax.{Items, Condition, Clause, Clauses, no_clause, clause_and, items_of, clause_of, clauses_of, conditions_of}
+use Rattle.lmn_parser.specs.Syntax.{Items, Condition, Clause, Clauses, no_clause, clause_and, items_of, clause_of, clauses_of, conditions_of, rule_of}
 use Rattle.lmn_parser.specs.Trees.{At, StandsAt, IsGuard, IsClauses, no_clauses, last_clause, more_clauses, IsClause, is_process, IsRule, is_rule, IsHeads, all_taken, IsBody, no_guard, empty_guard, guarded, IsOptList, IsList, IsMembrane, in_braces}
-use Rattle.lmn_parser.proofs.Nodes.{clause_process, clause_rule}
+use Rattle.lmn_parser.proofs.Nodes.{clause_process, clause_rule, rule_parts}
 
 -- clauses with full stops between them
 
@@ -71,12 +72,13 @@ process_read ts xs p q a = let P : Clause → Type 0 = λ c. IsClause ts c p q i
 pub all_heads_taken : (ts : List Token) (none : List ItemNode) (xs : Items) (p q : ℕ) → none ≡ [] → IsOptList ts xs p q → IsHeads ts (items_of none) xs p q
 all_heads_taken ts none xs p q e a = let P : List ItemNode → Type 0 = λ zs. IsHeads ts (items_of zs) xs p q in subst P (sym e) (all_taken a)
 
-pub rule_read : (ts : List Token) (r : RuleNode) (s p m n q : ℕ) → StandsAt ts s r.pos → IsHeads ts (items_of r.kept) (items_of r.taken) p m → (n ≡ m + 1) × At ts m Arrow →
-    IsBody ts (conditions_of r.guard) (items_of r.body) n q → IsRule ts s (clause_of (view.Rule r)) p q
-rule_read ts r s p m n q stands heads arrow body =
+pub rule_read : (ts : List Token) (r : RuleNode) (box : Box RuleNode Global) (pos : Pos) (s p m n q : ℕ) → box.value ≡ r → StandsAt ts s pos → r.pos ≡ pos → IsHeads ts (items_of r.kept) (items_of r.taken) p m
+    → (n ≡ m + 1) × At ts m Arrow → IsBody ts (conditions_of r.guard) (items_of r.body) n q → IsRule ts s (clause_of (view.Rule box)) p q
+rule_read ts r box pos s p m n q e stands same heads arrow body =
     let P : Clause → Type 0 = λ c. IsRule ts s c p q in
     let Q : ℕ → Type 0 = λ k. IsBody ts (conditions_of r.guard) (items_of r.body) k q in
-    subst P (sym (clause_rule r)) (is_rule stands heads arrow.1 (subst Q arrow.0 body))
+    let R : Pos → Type 0 = StandsAt ts s in
+    subst P (sym (clause_rule box ∙ ap rule_of e ∙ rule_parts r)) (is_rule (subst R (sym same) stands) heads arrow.1 (subst Q arrow.0 body))
 
 -- a body
 

@@ -9,7 +9,7 @@ use Rattle.lmn_parser.specs.declared.tree.AtomNode.{AtomNode}
 use Rattle.lmn_parser.specs.declared.tree.Clause.TheViews as view
 use Rattle.lmn_parser.specs.declared.tree.Item.TheVariants as item_variant
 use Rattle.lmn_parser.specs.declared.tree.Term.TheVariants as term_variant
-use Rattle.lmn_parser.specs.Syntax.{Term, Terms, no_term, term_and, Item, Items, no_item, item_and, list, list_onto, bracketed, plus_link, group, terms_of, items_of, clauses_of, term_of, item_of, clause_of}
+use Rattle.lmn_parser.specs.Syntax.{Term, Terms, no_term, term_and, Item, Items, no_item, item_and, list, list_onto, bracketed, plus_link, group, equation, terms_of, items_of, clauses_of, term_of, item_of, clause_of}
 use Rattle.lmn_parser.specs.Trees.{At, NameAt, IsOptList, no_list, IsClause, IsList, last_item, more_items, IsItem, is_atom_item, is_membrane_item, is_context_item, is_bracketed, is_rule_context, is_plus_link, is_group, is_equation, IsMembrane, IsAtom, with_name, with_integer, IsArguments, no_parentheses, no_arguments, some_arguments, IsTerms, last_term, more_terms, IsTerm, is_link, is_atom, is_context, is_membrane, IsTermList, empty_list, closed_list, open_list}
 use Rattle.lmn_parser.proofs.Nodes as node
 
@@ -127,11 +127,12 @@ atom_item_read ts n p q a = let P : Item → Type 0 = λ x. IsItem ts x p q in s
 pub membrane_item_read : (ts : List Token) (cs : List ClauseNode) (p q : ℕ) → IsMembrane ts (clauses_of cs) p q → IsItem ts (item_of (view.Item::Membrane cs)) p q
 membrane_item_read ts cs p q a = let P : Item → Type 0 = λ x. IsItem ts x p q in subst P (sym (node.item_membrane cs)) (is_membrane_item a)
 
-pub equation_read : (ts : List Token) (l r : TermNode) (p m n q : ℕ) → IsTerm ts (term_of l) p m → (n ≡ m + 1) × At ts m Equal → IsTerm ts (term_of r) n q → IsItem ts (item_of (item_variant.Equal l m r)) p q
-equation_read ts l r p m n q a e b =
+pub equation_read : (ts : List Token) (left right : TermNode) (l r : Box TermNode Global) (p m n q : ℕ) → l.value ≡ left → r.value ≡ right → IsTerm ts (term_of left) p m
+    → (n ≡ m + 1) × At ts m Equal → IsTerm ts (term_of right) n q → IsItem ts (item_of (view.Equal l m r)) p q
+equation_read ts left right l r p m n q f g a e b =
     let P : Item → Type 0 = λ x. IsItem ts x p q in
-    let Q : ℕ → Type 0 = λ k. IsTerm ts (term_of r) k q in
-    subst P (sym (node.item_equal l m r)) (is_equation a e.1 (subst Q e.0 b))
+    let Q : ℕ → Type 0 = λ k. IsTerm ts (term_of right) k q in
+    subst P (sym (node.item_equal l m r ∙ ap (λ z. equation (term_of z) m (term_of r.value)) f ∙ ap (λ z. equation (term_of left) m (term_of z)) g)) (is_equation a e.1 (subst Q e.0 b))
 
 -- items with commas between them
 

@@ -11,6 +11,8 @@ pub mod TreeTokens
 pub mod TreesExist
 pub mod TreeWords
 pub mod Names
+pub mod Fitting
+pub mod Walks
 pub mod BuiltGuards
 pub mod BuiltTerms
 pub mod BuiltClauses

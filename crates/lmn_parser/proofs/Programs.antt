@@ -3,7 +3,7 @@ use Rattle.std.proofs.Common.{◌≡◌, ℕ, ◌+◌, ◌<◌, ◌≤◌, List,
 use Rattle.std.proofs.lemmas.List.{take-map, length-map, length-take-le}
 use Rattle.std.proofs.lemmas.Option.{slice_get_within}
 use Rattle.lmn_grammar.specs.Grammar.{Derives, program}
-use Rattle.lmn_grammar.specs.Limits.{scan, passes}
+use Rattle.lmn_grammar.specs.Limits.{Passes}
 use Rattle.lmn_grammar.specs.Reading.{Owed, stop_at}
 use Rattle.lmn_grammar.specs.Refusing.{Begins, IsRefused, IsWithin}
 use Rattle.lmn_lexer.specs.declared.token.Kind.{Kind}
@@ -72,7 +72,7 @@ cut_length : (ts : List Token) (m : ℕ) (k : Kind) → slice_get (kinds_of ts) 
 cut_length ts m k h = let lt = slice_get_within (kinds_of ts) m k h in length-take-le (m + 1) (kinds_of ts) (omega (arith, lt))
 
 pub cut_read : (ts us : List Token) (m code : ℕ) (k : Kind) → us ≡ ts → slice_get (kinds_of ts) m ≡ Some k → IsWithin (take m (kinds_of ts)) →
-    passes (scan (take m (kinds_of ts))) k ≡ Some code → stop_at (kinds_of (take (m + 1) us)) 0 start ≡ length (kinds_of (take (m + 1) us)) → IsRefused (kinds_of ts) m code
+    Passes code (take m (kinds_of ts)) k → stop_at (kinds_of (take (m + 1) us)) 0 start ≡ length (kinds_of (take (m + 1) us)) → IsRefused (kinds_of ts) m code
 cut_read ts us m code k e h w p s =
     let cut = cut_kinds ts us (m + 1) e in
     refused_by_limit (kinds_of ts) m code k h w p (ap (λ z. stop_at z 0 start) (sym cut) ∙ s ∙ ap length cut ∙ cut_length ts m k h)
@@ -84,7 +84,7 @@ cut_stop ts us m r x e h s =
     subst P (cut_kinds ts us (m + 1) e) (subst Q h s)
 
 pub cut_stopped : (ts us : List Token) (m r code : ℕ) (k : Kind) (x : Stop) → us ≡ ts → x ≡ At r → slice_get (kinds_of ts) m ≡ Some k → IsWithin (take m (kinds_of ts)) →
-    passes (scan (take m (kinds_of ts))) k ≡ Some code → Stops (kinds_of (take (m + 1) us)) 0 start x → m < r → IsRefused (kinds_of ts) m code
+    Passes code (take m (kinds_of ts)) k → Stops (kinds_of (take (m + 1) us)) 0 start x → m < r → IsRefused (kinds_of ts) m code
 cut_stopped ts us m r code k x e f h w p s lt =
     let t = cut_stop ts us m r x e f s in
     let l = cut_length ts m k h in

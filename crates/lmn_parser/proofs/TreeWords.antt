@@ -23,7 +23,7 @@ pub record Spells (ks : List Kind) (e : Exp) (p q : ℕ) : Type 0 where
   pub derived : Derives e word
 
 module _ (ks : List Kind) where
-  drop_token : (p : ℕ) (k : Kind) → slice_get ks p ≡ Some k → drop p ks ≡ k ∷ drop (p + 1) ks
+  pub drop_token : (p : ℕ) (k : Kind) → slice_get ks p ≡ Some k → drop p ks ≡ k ∷ drop (p + 1) ks
   drop_token p k h = let e : suc p ≡ p + 1 = omega arith in drop_here ks p k h ∙ ap (λ n. k ∷ drop n ks) e
 
   join : (p m q : ℕ) (x y : List Kind) → drop p ks ≡ x ++ drop m ks → drop m ks ≡ y ++ drop q ks → drop p ks ≡ (x ++ y) ++ drop q ks
@@ -106,7 +106,7 @@ dotted x y d (with _ _ (both _ _ u v _ s c (both _ _ m o _ t dm last))) =
 abbrev Words : List Token → Exp → ℕ → ℕ → Type 0
 Words ts = Spells (kinds_of ts)
 
-next_to : (p : ℕ) → p + 2 ≡ p + 1 + 1
+pub next_to : (p : ℕ) → p + 2 ≡ p + 1 + 1
 next_to p = omega arith
 
 name_words : (ts : List Token) (p : ℕ) → NameAt ts p → Words ts name p (p + 1)
@@ -239,7 +239,7 @@ mutual
   terms_words ts (last_term d) = one_words ts (ref (kinds_of ts) TermPart (term_words ts d))
   terms_words ts (more_terms d h e) = more_words ts (ref (kinds_of ts) TermPart (term_words ts d)) h (terms_words ts e)
 
-  term_words : (ts : List Token) {x : tree.Term} {p q : ℕ} → IsTerm ts x p q → Words ts term p q
+  pub term_words : (ts : List Token) {x : tree.Term} {p q : ℕ} → IsTerm ts x p q → Words ts term p q
   term_words ts (is_link h) = this (kinds_of ts) (tok (kinds_of ts) _ Link h refl)
   term_words ts (is_atom d) = let k = kinds_of ts in that k (this k (atom_words ts d))
   term_words ts (is_context h) = let k = kinds_of ts in that k (that k (this k (tok k _ Context h refl)))
@@ -252,7 +252,7 @@ mutual
   term_list_words ts (open_list o d h e c) = let k = kinds_of ts in
       within k _ Square o (opt k (seq k (terms_words ts d) (opt k (seq k (tok k _ Bar h refl) (ref k TermPart (term_words ts e)))))) c refl
 
-drop_all : (ks : List Kind) → drop (length ks) ks ≡ []
+pub drop_all : (ks : List Kind) → drop (length ks) ks ≡ []
 drop_all [] = refl
 drop_all (x ∷ ks) = drop_all ks
 

@@ -1,6 +1,7 @@
--- What the search for a token that passes a limit knows.
+-- What the search for a token that passes a limit knows. No public contract cites these words.
 use Rattle.std.specs.Prelude.{◌≡◌, Bool, true, false, List, [], ◌∷◌, map, reverse, take, slice_get, Option, Some, None}
-use Rattle.lmn_grammar.specs.Limits.{Opened, Arguments, Terms, Group, Last, Equals, Word, Digits, Closed, Operand, Other, Scan, scan, passes}
+use Rattle.lmn_grammar.specs.Limits.{Passes}
+use Rattle.lmn_grammar.specs.Scan.{Opened, Arguments, Terms, Group, Last, Equals, Word, Digits, Closed, Operand, Other, Scan}
 use Rattle.lmn_grammar.specs.Refusing.{IsWithin}
 use Rattle.lmn_lexer.specs.declared.token.Kind.{Kind}
 use Rattle.lmn_parser.specs.declared.limits.Opened as opened
@@ -41,4 +42,4 @@ is_equals_last _ = false
 -- the first token that passes a limit, or there is none
 abbrev pub IsFirstPassing : List Kind → Option Passing → Type 0
 IsFirstPassing kinds None = IsWithin kinds
-IsFirstPassing kinds (Some p) = (token : Kind) × (slice_get kinds p.at ≡ Some token) × IsWithin (take p.at kinds) × (passes (scan (take p.at kinds)) token ≡ Some p.code)
+IsFirstPassing kinds (Some p) = (token : Kind) × (slice_get kinds p.at ≡ Some token) × IsWithin (take p.at kinds) × Passes p.code (take p.at kinds) token

@@ -12,8 +12,9 @@ use Rattle.lmn_parser.specs.declared.tree.ExprNode.TheFolds.{fold-ExprNode}
 use Rattle.lmn_parser.specs.declared.tree.Clause.{Clause as ClauseNode}
 use Rattle.lmn_parser.specs.declared.tree.Item.{Item as ItemNode}
 use Rattle.lmn_parser.specs.declared.tree.Term.{Term as TermNode}
+use Rattle.lmn_parser.specs.declared.tree.RuleNode.{RuleNode}
 use Rattle.lmn_parser.specs.declared.tree.Clause.TheOpen as node
-use Rattle.lmn_parser.specs.declared.tree.Clause.TheFolds.{fold-Clause, fold-Item, fold-Term}
+use Rattle.lmn_parser.specs.declared.tree.Clause.TheFolds.{fold-Clause, fold-Item, fold-Term, fold-RuleNode}
 
 -- an integer expression of a guard; the numbers in all of these are numbers of tokens
 pub data Expr : Type 0 where
@@ -94,7 +95,7 @@ clauses (c ∷ cs) = clause_and c (clauses cs)
 
 abbrev pub clause_step : node.Clause-F Clause Item Term (ℕ × Terms) Clause → Clause
 clause_step (node.Process xs) = process (items xs)
-clause_step (node.Rule r) = r
+clause_step (node.Rule r) = r.value
 
 abbrev pub item_step : node.Item-F Clause Item Term (ℕ × Terms) Clause → Item
 item_step (node.Item::Atom n) = atom_item n.0 n.1
@@ -104,7 +105,7 @@ item_step (node.Bracketed p q) = bracketed p q
 item_step (node.RuleContext p) = rule_context p
 item_step (node.Plus p) = plus_link p
 item_step (node.Group c) = group c.value
-item_step (node.Equal l p r) = equation l p r
+item_step (node.Equal l p r) = equation l.value p r.value
 
 abbrev pub term_step : node.Term-F Clause Item Term (ℕ × Terms) Clause → Term
 term_step (node.Link p) = link p
@@ -128,6 +129,9 @@ item_of = fold-Item Clause Item Term (ℕ × Terms) Clause clause_step item_step
 
 abbrev pub clause_of : ClauseNode → Clause
 clause_of = fold-Clause Clause Item Term (ℕ × Terms) Clause clause_step item_step term_step atom_step rule_step
+
+abbrev pub rule_of : RuleNode → Clause
+rule_of = fold-RuleNode Clause Item Term (ℕ × Terms) Clause clause_step item_step term_step atom_step rule_step
 
 abbrev pub terms_of : List TermNode → Terms
 terms_of ts = terms (map term_of ts)

@@ -1,7 +1,11 @@
 -- The laws of trees.
-use Rattle.std.specs.Prelude.{◌≡◌, List}
+use Rattle.std.specs.Prelude.{◌≡◌, List, ◌++◌}
 use Rattle.lmn_grammar.specs.Grammar.{Derives, program}
+use Rattle.lmn_grammar.specs.Limits.{Open}
+use Rattle.lmn_grammar.specs.Refusing.{IsWithin}
+use Rattle.lmn_lexer.specs.declared.token.Kind.{Kind}
 use Rattle.lmn_lexer.specs.declared.token.Token.{Token}
+use Rattle.lmn_parser.specs.Arities.{FitsClauses}
 use Rattle.lmn_parser.specs.Parsing.{kinds_of}
 use Rattle.lmn_parser.specs.Syntax.{Clauses}
 use Rattle.lmn_parser.specs.Trees.{IsTree}
@@ -17,3 +21,15 @@ OneTree = (tokens : List Token) (tree other : Clauses) → IsTree tokens tree �
 -- tokens that are a program of the grammar are a tree
 abbrev pub DerivedIsTree : Type 0
 DerivedIsTree = (tokens : List Token) → Derives program (kinds_of tokens) → (tree : Clauses) × IsTree tokens tree
+
+-- tokens within the limits are a tree of which no atom has more links than an arity holds, and no side more than 255 operators
+abbrev pub TreesFit : Type 0
+TreesFit = (tokens : List Token) (tree : Clauses) → IsTree tokens tree → IsWithin (kinds_of tokens) → FitsClauses tree
+
+-- nowhere more than 200 brackets are open
+abbrev pub Shallow : List Kind → Type 0
+Shallow kinds = (front rest : List Kind) → kinds ≡ front ++ rest → ¬ (Open 201 front)
+
+-- and tokens that are such a tree are within the limits, where nowhere more than 200 brackets are open
+abbrev pub FittingIsWithin : Type 0
+FittingIsWithin = (tokens : List Token) (tree : Clauses) → IsTree tokens tree → FitsClauses tree → Shallow (kinds_of tokens) → IsWithin (kinds_of tokens)

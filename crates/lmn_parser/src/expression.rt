@@ -10,12 +10,16 @@ use crate::lookahead::{expect, is_at, product_operator, sum_operator};
 use crate::stop::Stop;
 use crate::tree::ExprNode;
 use lmn_base::{Arith, NoMemory};
-use lmn_lexer::{Kind, Token};
+use lmn_lexer::{Kind, PackedToken};
 use std::alloc::Global;
 
 /// An expression, and the place behind it.
 #[cycle(expressions)]
-pub(crate) fn sum(alloc: Global, tokens: &[Token], at: usize) -> Result<(ExprNode, usize), Stop>
+pub(crate) fn sum(
+    alloc: Global,
+    tokens: &[PackedToken],
+    at: usize,
+) -> Result<(ExprNode, usize), Stop>
     requires place { at ≤ reach (kinds_of tokens.now) }
     ensures reads { (κ : Owed) → EndsSum κ → Reads (kinds_of tokens.now) at (Ref SumPart) κ result }
     ensures forth { IfOk result (λ r. (at < r.1) × (r.1 ≤ reach (kinds_of tokens.now))) }
@@ -34,7 +38,7 @@ pub(crate) fn sum(alloc: Global, tokens: &[Token], at: usize) -> Result<(ExprNod
 
 /// Factors with operators between them, and the place behind them.
 #[cycle(expressions)]
-fn product(alloc: Global, tokens: &[Token], at: usize) -> Result<(ExprNode, usize), Stop>
+fn product(alloc: Global, tokens: &[PackedToken], at: usize) -> Result<(ExprNode, usize), Stop>
     requires place { at ≤ reach (kinds_of tokens.now) }
     ensures reads { (κ : Owed) → EndsProduct κ → Reads (kinds_of tokens.now) at product κ result }
     ensures forth { IfOk result (λ r. (at < r.1) × (r.1 ≤ reach (kinds_of tokens.now))) }
@@ -53,7 +57,7 @@ fn product(alloc: Global, tokens: &[Token], at: usize) -> Result<(ExprNode, usiz
 
 /// An integer, a context or an expression in parentheses, and the place behind it.
 #[cycle(expressions)]
-fn factor(alloc: Global, tokens: &[Token], at: usize) -> Result<(ExprNode, usize), Stop>
+fn factor(alloc: Global, tokens: &[PackedToken], at: usize) -> Result<(ExprNode, usize), Stop>
     requires place { at ≤ reach (kinds_of tokens.now) }
     ensures reads { (κ : Owed) → Reads (kinds_of tokens.now) at fact κ result }
     ensures forth { IfOk result (λ r. (at < r.1) × (r.1 ≤ reach (kinds_of tokens.now))) }

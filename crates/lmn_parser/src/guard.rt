@@ -12,13 +12,13 @@ use crate::lookahead::{comparison_at, expect, is_at, is_name_at, is_pair_at};
 use crate::stop::Stop;
 use crate::tree::CondNode;
 use lmn_base::Rows;
-use lmn_lexer::{Kind, Token};
+use lmn_lexer::{Kind, PackedToken};
 use std::alloc::Global;
 
 /// The conditions of a guard and its `|`, and the place behind them.
 pub(crate) fn guard(
     alloc: Global,
-    tokens: &[Token],
+    tokens: &[PackedToken],
     at: usize,
 ) -> Result<(Rows<CondNode>, usize), Stop>
     requires place { at ≤ reach (kinds_of tokens.now) }
@@ -40,7 +40,7 @@ pub(crate) fn guard(
 }
 
 /// A condition, and the place behind it.
-fn condition(alloc: Global, tokens: &[Token], at: usize) -> Result<(CondNode, usize), Stop>
+fn condition(alloc: Global, tokens: &[PackedToken], at: usize) -> Result<(CondNode, usize), Stop>
     requires place { at ≤ reach (kinds_of tokens.now) }
     ensures reads { (κ : Owed) → EndsCond κ → Reads (kinds_of tokens.now) at cond κ result }
     ensures forth { IfOk result (λ r. (at < r.1) × (r.1 ≤ reach (kinds_of tokens.now))) }
@@ -76,7 +76,7 @@ fn condition(alloc: Global, tokens: &[Token], at: usize) -> Result<(CondNode, us
 }
 
 /// The contexts in parentheses behind the name of a condition, if there are any, and the place behind them.
-fn contexts(alloc: Global, tokens: &[Token], at: usize) -> Result<(Rows<usize>, usize), Stop>
+fn contexts(alloc: Global, tokens: &[PackedToken], at: usize) -> Result<(Rows<usize>, usize), Stop>
     requires place { at ≤ reach (kinds_of tokens.now) }
     ensures reads { (κ : Owed) → next κ Kind.LParen ≡ [] → Reads (kinds_of tokens.now) at (Opt contexts) κ result }
     ensures forth { IfOk result (λ r. (at ≤ r.1) × (r.1 ≤ reach (kinds_of tokens.now))) }
@@ -99,7 +99,7 @@ fn contexts(alloc: Global, tokens: &[Token], at: usize) -> Result<(Rows<usize>, 
 }
 
 /// Two expressions with a comparison between them, and the place behind them.
-fn comparison(alloc: Global, tokens: &[Token], at: usize) -> Result<(CondNode, usize), Stop>
+fn comparison(alloc: Global, tokens: &[PackedToken], at: usize) -> Result<(CondNode, usize), Stop>
     requires place { at ≤ reach (kinds_of tokens.now) }
     ensures reads { (κ : Owed) → EndsSum κ → Reads (kinds_of tokens.now) at (Seq (Ref SumPart) (Seq cmp (Ref SumPart))) κ result }
     ensures forth { IfOk result (λ r. (at < r.1) × (r.1 ≤ reach (kinds_of tokens.now))) }

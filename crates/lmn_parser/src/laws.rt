@@ -2,7 +2,13 @@
 
 ghost use Rattle.lmn_parser.specs.Readings.{CutTextsEnd, OneReading};
 ghost use Rattle.lmn_parser.specs.TreeExamples.{KeptHead, NamedRule, NestedParts};
-ghost use Rattle.lmn_parser.specs.TreeLaws.{DerivedIsTree, OneTree, TreesDerive};
+ghost use Rattle.lmn_parser.specs.TreeLaws.{
+  DerivedIsTree,
+  FittingIsWithin,
+  OneTree,
+  TreesDerive,
+  TreesFit,
+};
 
 /// Tokens that are a tree are a program of the grammar, and tokens that are a program are a tree.
 pub fn trees_are_programs()
@@ -13,6 +19,13 @@ pub fn trees_are_programs()
 /// Tokens are one tree at most.
 pub fn trees_are_one()
     ensures { OneTree }
+{}
+
+/// Tokens that are a tree are within the limits exactly where no atom of it has more links than an arity holds, no
+/// side more than 255 operators, and nowhere more than 200 brackets are open.
+pub fn trees_fit()
+    ensures fit { TreesFit }
+    ensures within { FittingIsWithin }
 {}
 
 /// The trees of small texts.

@@ -1,10 +1,11 @@
 ghost use Rattle.std.specs.Prelude.{◌≡◌, ℕ, ◌∷◌, [], ◌<◌, length, slice_get, IfOk, Some, None, false};
 ghost use Rattle.lmn_grammar.specs.Limits as limits;
+ghost use Rattle.lmn_grammar.specs.Scan as scanner;
 ghost use Rattle.lmn_parser.specs.Scans.{opened_of, last_of, stack_of, scan_of, innermost_of, is_equals_last, IsFirstPassing};
 ghost use Rattle.lmn_parser.specs.Parsing.{kinds_of};
 
 use lmn_base::{NoMemory, Rows};
-use lmn_lexer::{Kind, Token};
+use lmn_lexer::{Kind, PackedToken};
 use std::alloc::Global;
 
 /// How many brackets may be open round another one.
@@ -72,7 +73,10 @@ struct Scan {
 }
 
 /// The first token that passes a limit.
-pub(crate) fn first_passing(alloc: Global, tokens: &[Token]) -> Result<Option<Passing>, NoMemory>
+pub(crate) fn first_passing(
+    alloc: Global,
+    tokens: &[PackedToken],
+) -> Result<Option<Passing>, NoMemory>
     ensures { IfOk result (IsFirstPassing (kinds_of tokens.now)) }
 {
     let mut scan = Scan {
@@ -91,17 +95,17 @@ pub(crate) fn first_passing(alloc: Global, tokens: &[Token]) -> Result<Option<Pa
 }
 
 /// The kind of a token.
-fn kind_of(tokens: &[Token], at: usize) -> Kind
+fn kind_of(tokens: &[PackedToken], at: usize) -> Kind
     requires { at < length tokens.now }
     ensures { slice_get (kinds_of tokens.now) at ≡ Some result }
 {
-    tokens[at].kind
+    tokens[at].kind()
 }
 
 impl Scan {
     /// The code of the limit that the next token passes.
     fn passed_by(&self, kind: Kind) -> Option<u8>
-        ensures { result ≡ limits.passes (scan_of self.now) kind }
+        ensures { result ≡ scanner.passes (scan_of self.now) kind }
     {
         if self.is_too_deep(kind) {
             return Some(TOO_DEEP);
@@ -114,7 +118,7 @@ impl Scan {
 
     /// Whether the next token is a bracket inside too many, or an operator too many.
     fn is_too_deep(&self, kind: Kind) -> bool
-        ensures { result ≡ limits.is_too_deep (scan_of self.now) kind }
+        ensures { result ≡ scanner.is_too_deep (scan_of self.now) kind }
     {
         (is_opener(kind) && BRACKETS <= self.opened.len())
             || (self.is_operator(kind) && OPERATORS <= self.operators)
@@ -122,7 +126,7 @@ impl Scan {
 
     /// Whether the next token is an operator.
     fn is_operator(&self, kind: Kind) -> bool
-        ensures { result ≡ limits.is_operator (scan_of self.now) kind }
+        ensures { result ≡ scanner.is_operator (scan_of self.now) kind }
     {
         may_be_operator(kind) && is_operand(self.last)
     }
@@ -139,7 +143,7 @@ impl Scan {
 
     /// How many arguments an atom may have that begins with the next token.
     fn most_here(&self) -> u8
-        ensures { result ≡ limits.limit_here (scan_of self.now) }
+        ensures { result ≡ scanner.limit_here (scan_of self.now) }
     {
         if is_equals(self.last) {
             return ARGUMENTS - 1;
@@ -149,8 +153,8 @@ impl Scan {
 
     /// What is known when the next token is taken.
     fn after(self, kind: Kind) -> Result<Scan, NoMemory>
-        requires { limits.passes (scan_of self) kind ≡ None }
-        ensures { IfOk result (λ scan. scan_of scan ≡ limits.scan_after (scan_of self) kind) }
+        requires { scanner.passes (scan_of self) kind ≡ None }
+        ensures { IfOk result (λ scan. scan_of scan ≡ scanner.scan_after (scan_of self) kind) }
     {
         let last = self.last_after(kind);
         let operators = self.operators_after(kind);
@@ -165,8 +169,8 @@ impl Scan {
 
     /// The operators of this side when the next token is taken.
     fn operators_after(&self, kind: Kind) -> u16
-        requires { limits.passes (scan_of self.now) kind ≡ None }
-        ensures { result ≡ limits.operators_after (scan_of self.now) kind }
+        requires { scanner.passes (scan_of self.now) kind ≡ None }
+        ensures { result ≡ scanner.operators_after (scan_of self.now) kind }
     {
         if self.is_operator(kind) {
             return self.operators + 1;
@@ -179,7 +183,7 @@ impl Scan {
 
     /// What the last token is when the next one is taken.
     fn last_after(&self, kind: Kind) -> Last
-        ensures { last_of result ≡ limits.last_after (scan_of self.now) kind }
+        ensures { last_of result ≡ scanner.last_after (scan_of self.now) kind }
     {
         match kind {
             Kind::Equal => Last::Equals,
@@ -207,8 +211,8 @@ fn opened_after(
     kind: Kind,
 ) -> Result<Rows<Opened>, NoMemory>
     requires innermost { opened_of innermost ≡ innermost_of (stack_of opened) }
-    requires few { limits.has_too_many (opened_of innermost ∷ []) ≡ false }
-    ensures { IfOk result (λ after. stack_of after ≡ limits.opened_after (record { opened = stack_of opened; operators = 0; last = last_of last }) kind) }
+    requires few { scanner.has_too_many (opened_of innermost ∷ []) ≡ false }
+    ensures { IfOk result (λ after. stack_of after ≡ scanner.opened_after (record { opened = stack_of opened; operators = 0; last = last_of last }) kind) }
 {
     match kind {
         Kind::LParen => with(opened, round_behind(last)),
@@ -239,7 +243,7 @@ fn with(mut opened: Rows<Opened>, inner: Opened) -> Result<Rows<Opened>, NoMemor
 
 /// These brackets without the innermost.
 fn without_last(mut opened: Rows<Opened>) -> Rows<Opened>
-    ensures { stack_of result ≡ limits.without_first (stack_of opened) }
+    ensures { stack_of result ≡ scanner.without_first (stack_of opened) }
 {
     let _innermost = opened.pop();
     opened
@@ -264,7 +268,7 @@ fn may_be_operator(kind: Kind) -> bool
 
 /// Whether the token is `=`.
 fn is_equal(kind: Kind) -> bool
-    ensures { result ≡ limits.is_equal kind }
+    ensures { result ≡ scanner.is_equal kind }
 {
     matches!(kind, Kind::Equal)
 }
@@ -281,7 +285,7 @@ fn goes_on(kind: Kind) -> bool
 
 /// Whether a token behind this one can be an operator.
 fn is_operand(last: Last) -> bool
-    ensures { result ≡ limits.is_operand (last_of last) }
+    ensures { result ≡ scanner.is_operand (last_of last) }
 {
     matches!(last, Last::Digits(_) | Last::Closed(_) | Last::Operand)
 }
@@ -295,7 +299,7 @@ fn is_equals(last: Last) -> bool
 
 /// What `(` opens behind this token.
 fn round_behind(last: Last) -> Opened
-    ensures { opened_of result ≡ limits.round_behind (last_of last) }
+    ensures { opened_of result ≡ scanner.round_behind (last_of last) }
 {
     match last {
         Last::Word(most) => Opened::Arguments { most, begun: 1 },
@@ -306,7 +310,7 @@ fn round_behind(last: Last) -> Opened
 
 /// What a `)` is that closes this bracket.
 fn closed_by_round(opened: Opened) -> Last
-    ensures { last_of result ≡ limits.closed_by_round (opened_of opened ∷ []) }
+    ensures { last_of result ≡ scanner.closed_by_round (opened_of opened ∷ []) }
 {
     match opened {
         Opened::Arguments { most: _, begun } => Last::Closed(begun),
@@ -317,7 +321,7 @@ fn closed_by_round(opened: Opened) -> Last
 
 /// How many arguments an atom may have in this bracket.
 fn most_in(opened: Opened) -> u8
-    ensures { result ≡ limits.limit_in (opened_of opened ∷ []) }
+    ensures { result ≡ scanner.limit_in (opened_of opened ∷ []) }
 {
     match opened {
         Opened::Arguments { most: _, begun: _ } => ARGUMENTS - 1,
@@ -328,7 +332,7 @@ fn most_in(opened: Opened) -> u8
 
 /// Whether more arguments are begun than there may be.
 fn has_too_many(opened: Opened) -> bool
-    ensures { result ≡ limits.has_too_many (opened_of opened ∷ []) }
+    ensures { result ≡ scanner.has_too_many (opened_of opened ∷ []) }
 {
     match opened {
         Opened::Arguments { most, begun } => (most as u16) < begun,
@@ -339,7 +343,7 @@ fn has_too_many(opened: Opened) -> bool
 
 /// Whether arguments end here that leave none for the link of `=`.
 fn is_full(last: Last) -> bool
-    ensures { result ≡ limits.is_full (last_of last) }
+    ensures { result ≡ scanner.is_full (last_of last) }
 {
     match last {
         Last::Closed(begun) => ARGUMENTS as u16 <= begun,

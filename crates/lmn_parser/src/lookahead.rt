@@ -8,21 +8,21 @@ ghost use Rattle.lmn_parser.specs.Trees.{At, PlusAt, TimesAt, CmpAt};
 
 use crate::stop::Stop;
 use lmn_base::{Arith, Cmp};
-use lmn_lexer::{Kind, Token};
+use lmn_lexer::{Kind, PackedToken};
 
 /// The kind of the token at a place, if there is one.
-fn kind_at(tokens: &[Token], at: usize) -> Option<Kind>
+fn kind_at(tokens: &[PackedToken], at: usize) -> Option<Kind>
     ensures kind { result ≡ slice_get (kinds_of tokens.now) at }
     ensures within { IsSome result → at < length tokens.now }
 {
     match tokens.get(at) {
-        Some(token) => Some(token.kind),
+        Some(token) => Some(token.kind()),
         None => None,
     }
 }
 
 /// Whether there is a token of this kind at a place.
-pub(crate) fn is_at(tokens: &[Token], at: usize, kind: Kind) -> bool
+pub(crate) fn is_at(tokens: &[PackedToken], at: usize, kind: Kind) -> bool
     ensures kind { IsTrue result ↔ (slice_get (kinds_of tokens.now) at ≡ Some kind) }
     ensures within { IsTrue result → at < length tokens.now }
     ensures inside { kind ≢ Kind.End → IsTrue result → at < reach (kinds_of tokens.now) }
@@ -31,7 +31,7 @@ pub(crate) fn is_at(tokens: &[Token], at: usize, kind: Kind) -> bool
 }
 
 /// Whether a name stands at a place.
-pub(crate) fn is_name_at(tokens: &[Token], at: usize) -> bool
+pub(crate) fn is_name_at(tokens: &[PackedToken], at: usize) -> bool
     ensures kind { result ≡ begins name (slice_get (kinds_of tokens.now) at) }
     ensures within { IsTrue result → at < length tokens.now }
     ensures inside { IsTrue result → at < reach (kinds_of tokens.now) }
@@ -40,7 +40,7 @@ pub(crate) fn is_name_at(tokens: &[Token], at: usize) -> bool
 }
 
 /// Whether an atom begins at a place.
-pub(crate) fn begins_atom(tokens: &[Token], at: usize) -> bool
+pub(crate) fn begins_atom(tokens: &[PackedToken], at: usize) -> bool
     ensures kind { result ≡ begins atom_name (slice_get (kinds_of tokens.now) at) }
     ensures within { IsTrue result → at < length tokens.now }
     ensures inside { IsTrue result → at < reach (kinds_of tokens.now) }
@@ -49,7 +49,7 @@ pub(crate) fn begins_atom(tokens: &[Token], at: usize) -> bool
 }
 
 /// Whether a list begins at a place.
-pub(crate) fn begins_list(tokens: &[Token], at: usize) -> bool
+pub(crate) fn begins_list(tokens: &[PackedToken], at: usize) -> bool
     ensures kind { result ≡ begins list (slice_get (kinds_of tokens.now) at) }
     ensures within { IsTrue result → at < length tokens.now }
     ensures inside { IsTrue result → at < reach (kinds_of tokens.now) }
@@ -65,7 +65,7 @@ pub(crate) fn begins_list(tokens: &[Token], at: usize) -> bool
 }
 
 /// Whether a clause begins at a place.
-pub(crate) fn begins_clause(tokens: &[Token], at: usize) -> bool
+pub(crate) fn begins_clause(tokens: &[PackedToken], at: usize) -> bool
     ensures kind { result ≡ begins (Ref ClausePart) (slice_get (kinds_of tokens.now) at) }
     ensures within { IsTrue result → at < length tokens.now }
     ensures inside { IsTrue result → at < reach (kinds_of tokens.now) }
@@ -74,7 +74,7 @@ pub(crate) fn begins_clause(tokens: &[Token], at: usize) -> bool
 }
 
 /// Whether two tokens of these kinds stand from a place on.
-pub(crate) fn is_pair_at(tokens: &[Token], at: usize, first: Kind, second: Kind) -> bool
+pub(crate) fn is_pair_at(tokens: &[PackedToken], at: usize, first: Kind, second: Kind) -> bool
     ensures first { IsTrue result → slice_get (kinds_of tokens.now) at ≡ Some first }
     ensures second { IsTrue result → slice_get (kinds_of tokens.now) (at + 1) ≡ Some second }
     ensures other { IsFalse result → slice_get (kinds_of tokens.now) at ≡ Some first → slice_get (kinds_of tokens.now) (at + 1) ≡ Some second → ⊥ }
@@ -85,7 +85,7 @@ pub(crate) fn is_pair_at(tokens: &[Token], at: usize, first: Kind, second: Kind)
 }
 
 /// Whether the name of a rule and its `@@` stand at a place.
-pub(crate) fn is_label_at(tokens: &[Token], at: usize) -> bool
+pub(crate) fn is_label_at(tokens: &[PackedToken], at: usize) -> bool
     ensures name { IsTrue result → begins name (slice_get (kinds_of tokens.now) at) ≡ true }
     ensures sign { IsTrue result → slice_get (kinds_of tokens.now) (at + 1) ≡ Some Kind.AtAt }
     ensures other { IsFalse result → begins name (slice_get (kinds_of tokens.now) at) ≡ true → slice_get (kinds_of tokens.now) (at + 1) ≡ Some Kind.AtAt → ⊥ }
@@ -96,7 +96,7 @@ pub(crate) fn is_label_at(tokens: &[Token], at: usize) -> bool
 }
 
 /// Whether the rest of a rule behind its first items begins at a place.
-pub(crate) fn begins_rule_tail(tokens: &[Token], at: usize) -> bool
+pub(crate) fn begins_rule_tail(tokens: &[PackedToken], at: usize) -> bool
     ensures kind { result ≡ begins rule_tail (slice_get (kinds_of tokens.now) at) }
     ensures within { IsTrue result → at < length tokens.now }
     ensures inside { IsTrue result → at < reach (kinds_of tokens.now) }
@@ -105,7 +105,7 @@ pub(crate) fn begins_rule_tail(tokens: &[Token], at: usize) -> bool
 }
 
 /// The place behind a token of this kind.
-pub(crate) fn expect(tokens: &[Token], at: usize, kind: Kind) -> Result<usize, Stop>
+pub(crate) fn expect(tokens: &[PackedToken], at: usize, kind: Kind) -> Result<usize, Stop>
     requires place { at ≤ reach (kinds_of tokens.now) }
     ensures reads { (κ : Owed) → Takes (kinds_of tokens.now) at (Tok kind) κ result }
     ensures forth { IfOk result (λ end. (at < end) × (end ≤ length tokens.now)) }
@@ -119,7 +119,7 @@ pub(crate) fn expect(tokens: &[Token], at: usize, kind: Kind) -> Result<usize, S
 }
 
 /// The operator of a sum at a place.
-pub(crate) fn sum_operator(tokens: &[Token], at: usize) -> Option<Arith>
+pub(crate) fn sum_operator(tokens: &[PackedToken], at: usize) -> Option<Arith>
     ensures kind { is_some result ≡ begins plus (slice_get (kinds_of tokens.now) at) }
     ensures within { IfSome result (λ _. at < length tokens.now) }
     ensures inside { IfSome result (λ _. at < reach (kinds_of tokens.now)) }
@@ -135,7 +135,7 @@ pub(crate) fn sum_operator(tokens: &[Token], at: usize) -> Option<Arith>
 }
 
 /// The operator of a product at a place.
-pub(crate) fn product_operator(tokens: &[Token], at: usize) -> Option<Arith>
+pub(crate) fn product_operator(tokens: &[PackedToken], at: usize) -> Option<Arith>
     ensures kind { is_some result ≡ begins times (slice_get (kinds_of tokens.now) at) }
     ensures within { IfSome result (λ _. at < length tokens.now) }
     ensures inside { IfSome result (λ _. at < reach (kinds_of tokens.now)) }
@@ -154,7 +154,7 @@ pub(crate) fn product_operator(tokens: &[Token], at: usize) -> Option<Arith>
 }
 
 /// The comparison at a place.
-pub(crate) fn comparison_at(tokens: &[Token], at: usize) -> Option<Cmp>
+pub(crate) fn comparison_at(tokens: &[PackedToken], at: usize) -> Option<Cmp>
     ensures kind { is_some result ≡ begins cmp (slice_get (kinds_of tokens.now) at) }
     ensures within { IfSome result (λ _. at < length tokens.now) }
     ensures inside { IfSome result (λ _. at < reach (kinds_of tokens.now)) }

@@ -13,7 +13,7 @@ use crate::reader::clauses;
 use crate::stop::Stop;
 use crate::tree::{Clause, Tree};
 use lmn_base::{Refusal, Rows, TextFault};
-use lmn_lexer::{Kind, Token, Tokens};
+use lmn_lexer::{Kind, PackedToken, Tokens};
 use std::alloc::Global;
 
 const UNEXPECTED: u8 = 10;
@@ -70,7 +70,7 @@ fn fault(alloc: Global, tokens: &Tokens, passing: Passing) -> TextFault
 }
 
 /// The clauses of a program that all of the tokens are.
-fn program(alloc: Global, tokens: &[Token]) -> Result<Rows<Clause>, Stop>
+fn program(alloc: Global, tokens: &[PackedToken]) -> Result<Rows<Clause>, Stop>
     ensures reads { ReadsWhole (kinds_of tokens.now) result }
     ensures tree { IfOk result (λ clauses. IsTree tokens.now (clauses_of clauses)) }
 {

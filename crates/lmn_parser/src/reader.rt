@@ -14,12 +14,12 @@ use crate::lookahead::{
 use crate::stop::Stop;
 use crate::tree::{AtomNode, Clause, CondNode, Item, RuleNode, Term};
 use lmn_base::Rows;
-use lmn_lexer::{Kind, Token};
+use lmn_lexer::{Kind, PackedToken};
 use std::alloc::Global;
 
 /// A term, and the place behind it.
 #[cycle(reader)]
-fn term(alloc: Global, tokens: &[Token], at: usize) -> Result<(Term, usize), Stop>
+fn term(alloc: Global, tokens: &[PackedToken], at: usize) -> Result<(Term, usize), Stop>
     requires place { at ≤ reach (kinds_of tokens.now) }
     ensures reads { (κ : Owed) → NoArgs κ → Reads (kinds_of tokens.now) at (Ref TermPart) κ result }
     ensures forth { IfOk result (λ r. (at < r.1) × (r.1 ≤ reach (kinds_of tokens.now))) }
@@ -47,7 +47,7 @@ fn term(alloc: Global, tokens: &[Token], at: usize) -> Result<(Term, usize), Sto
 
 /// A list in its brackets, and the place behind it.
 #[cycle(reader)]
-fn term_list(alloc: Global, tokens: &[Token], at: usize) -> Result<(Term, usize), Stop>
+fn term_list(alloc: Global, tokens: &[PackedToken], at: usize) -> Result<(Term, usize), Stop>
     requires open { slice_get (kinds_of tokens.now) at ≡ Some Kind.LBracket }
     requires place { at < length tokens.now }
     requires inside { at < reach (kinds_of tokens.now) }
@@ -71,7 +71,7 @@ fn term_list(alloc: Global, tokens: &[Token], at: usize) -> Result<(Term, usize)
 
 /// The arguments of an atom in their parentheses, if it has any, and the place behind them.
 #[cycle(reader)]
-fn arguments(alloc: Global, tokens: &[Token], at: usize) -> Result<(Rows<Term>, usize), Stop>
+fn arguments(alloc: Global, tokens: &[PackedToken], at: usize) -> Result<(Rows<Term>, usize), Stop>
     requires place { at ≤ reach (kinds_of tokens.now) }
     ensures reads { (κ : Owed) → NoArgs κ → Reads (kinds_of tokens.now) at (Opt arguments) κ result }
     ensures forth { IfOk result (λ r. (at ≤ r.1) × (r.1 ≤ reach (kinds_of tokens.now))) }
@@ -90,7 +90,7 @@ fn arguments(alloc: Global, tokens: &[Token], at: usize) -> Result<(Rows<Term>, 
 
 /// Terms with commas between them, and the place behind them.
 #[cycle(reader)]
-fn terms(alloc: Global, tokens: &[Token], at: usize) -> Result<(Rows<Term>, usize), Stop>
+fn terms(alloc: Global, tokens: &[PackedToken], at: usize) -> Result<(Rows<Term>, usize), Stop>
     requires place { at ≤ reach (kinds_of tokens.now) }
     ensures reads { (κ : Owed) → NoMore κ → Reads (kinds_of tokens.now) at (some_of (Ref TermPart)) κ result }
     ensures forth { IfOk result (λ r. (at < r.1) × (r.1 ≤ reach (kinds_of tokens.now))) }
@@ -110,7 +110,7 @@ fn terms(alloc: Global, tokens: &[Token], at: usize) -> Result<(Rows<Term>, usiz
 
 /// An item, and the place behind it.
 #[cycle(reader)]
-fn item(alloc: Global, tokens: &[Token], at: usize) -> Result<(Item, usize), Stop>
+fn item(alloc: Global, tokens: &[PackedToken], at: usize) -> Result<(Item, usize), Stop>
     requires place { at ≤ reach (kinds_of tokens.now) }
     ensures reads { (κ : Owed) → EndsItem κ → Reads (kinds_of tokens.now) at item κ result }
     ensures forth { IfOk result (λ r. (at < r.1) × (r.1 ≤ reach (kinds_of tokens.now))) }
@@ -137,7 +137,7 @@ fn item(alloc: Global, tokens: &[Token], at: usize) -> Result<(Item, usize), Sto
 
 /// A context with what belongs to it, and the place behind it.
 #[cycle(reader)]
-fn context(alloc: Global, tokens: &[Token], at: usize) -> Result<(Item, usize), Stop>
+fn context(alloc: Global, tokens: &[PackedToken], at: usize) -> Result<(Item, usize), Stop>
     requires context { slice_get (kinds_of tokens.now) at ≡ Some Kind.Context }
     requires place { at < length tokens.now }
     requires inside { at < reach (kinds_of tokens.now) }
@@ -158,7 +158,7 @@ fn context(alloc: Global, tokens: &[Token], at: usize) -> Result<(Item, usize), 
 
 /// An atom, a membrane or an equation with another left side than a context, and the place behind it.
 #[cycle(reader)]
-fn relation(alloc: Global, tokens: &[Token], at: usize) -> Result<(Item, usize), Stop>
+fn relation(alloc: Global, tokens: &[PackedToken], at: usize) -> Result<(Item, usize), Stop>
     requires rule_context { slice_get (kinds_of tokens.now) at ≡ Some Kind.RuleCtx → ⊥ }
     requires plus { slice_get (kinds_of tokens.now) at ≡ Some Kind.Plus → ⊥ }
     requires group { slice_get (kinds_of tokens.now) at ≡ Some Kind.LParen → ⊥ }
@@ -195,7 +195,12 @@ fn relation(alloc: Global, tokens: &[Token], at: usize) -> Result<(Item, usize),
 
 /// The equation with this term left of its `=`, and the place behind it.
 #[cycle(reader)]
-fn equation(alloc: Global, tokens: &[Token], left: Term, sign: usize) -> Result<(Item, usize), Stop>
+fn equation(
+    alloc: Global,
+    tokens: &[PackedToken],
+    left: Term,
+    sign: usize,
+) -> Result<(Item, usize), Stop>
     requires place { sign ≤ reach (kinds_of tokens.now) }
     ensures reads { (κ : Owed) → NoArgs κ → Reads (kinds_of tokens.now) sign right_side κ result }
     ensures forth { IfOk result (λ r. (sign < r.1) × (r.1 ≤ reach (kinds_of tokens.now))) }
@@ -203,12 +208,14 @@ fn equation(alloc: Global, tokens: &[Token], left: Term, sign: usize) -> Result<
 {
     let start = expect(tokens, sign, Kind::Equal)?;
     let (right, end) = term(alloc, tokens, start)?;
+    let left = Box::new(alloc, left)?;
+    let right = Box::new(alloc, right)?;
     Ok((Item::Equal(left, sign, right), end))
 }
 
 /// Items with commas between them, and the place behind them.
 #[cycle(reader)]
-fn list(alloc: Global, tokens: &[Token], at: usize) -> Result<(Rows<Item>, usize), Stop>
+fn list(alloc: Global, tokens: &[PackedToken], at: usize) -> Result<(Rows<Item>, usize), Stop>
     requires place { at ≤ reach (kinds_of tokens.now) }
     ensures reads { (κ : Owed) → EndsList κ → Reads (kinds_of tokens.now) at list κ result }
     ensures forth { IfOk result (λ r. (at < r.1) × (r.1 ≤ reach (kinds_of tokens.now))) }
@@ -228,7 +235,7 @@ fn list(alloc: Global, tokens: &[Token], at: usize) -> Result<(Rows<Item>, usize
 
 /// The list at a place, empty where none begins there, and the place behind it.
 #[cycle(reader)]
-fn items(alloc: Global, tokens: &[Token], at: usize) -> Result<(Rows<Item>, usize), Stop>
+fn items(alloc: Global, tokens: &[PackedToken], at: usize) -> Result<(Rows<Item>, usize), Stop>
     requires place { at ≤ reach (kinds_of tokens.now) }
     ensures reads { (κ : Owed) → EndsOptList κ → Reads (kinds_of tokens.now) at (Opt list) κ result }
     ensures forth { IfOk result (λ r. (at ≤ r.1) × (r.1 ≤ reach (kinds_of tokens.now))) }
@@ -242,7 +249,7 @@ fn items(alloc: Global, tokens: &[Token], at: usize) -> Result<(Rows<Item>, usiz
 
 /// A rule or items, and the place behind them.
 #[cycle(reader)]
-fn clause(alloc: Global, tokens: &[Token], at: usize) -> Result<(Clause, usize), Stop>
+fn clause(alloc: Global, tokens: &[PackedToken], at: usize) -> Result<(Clause, usize), Stop>
     requires place { at ≤ reach (kinds_of tokens.now) }
     ensures reads { (κ : Owed) → OnlyClosers κ → Reads (kinds_of tokens.now) at (Ref ClausePart) κ result }
     ensures forth { IfOk result (λ r. (at < r.1) × (r.1 ≤ reach (kinds_of tokens.now))) }
@@ -266,7 +273,7 @@ fn clause(alloc: Global, tokens: &[Token], at: usize) -> Result<(Clause, usize),
 #[cycle(reader)]
 fn rule(
     alloc: Global,
-    tokens: &[Token],
+    tokens: &[PackedToken],
     start: usize,
     first: Rows<Item>,
     at: usize,
@@ -281,32 +288,34 @@ fn rule(
         let (taken, arrow) = items(alloc, tokens, at + 1)?;
         let body_at = expect(tokens, arrow, Kind::Arrow)?;
         let ((guard, body), end) = guarded_body(alloc, tokens, body_at)?;
-        let pos = tokens[start].pos;
-        return Ok((
-            Clause::Rule(RuleNode {
+        let pos = tokens[start].pos();
+        let node = Box::new(
+            alloc,
+            RuleNode {
                 kept: first,
                 taken,
                 guard,
                 body,
                 pos,
-            }),
-            end,
-        ));
+            },
+        )?;
+        return Ok((Clause::Rule(node), end));
     }
     let body_at = expect(tokens, at, Kind::Arrow)?;
     let ((guard, body), end) = guarded_body(alloc, tokens, body_at)?;
-    let pos = tokens[start].pos;
+    let pos = tokens[start].pos();
     let kept = Rows::new(alloc);
-    Ok((
-        Clause::Rule(RuleNode {
+    let node = Box::new(
+        alloc,
+        RuleNode {
             kept,
             taken: first,
             guard,
             body,
             pos,
-        }),
-        end,
-    ))
+        },
+    )?;
+    Ok((Clause::Rule(node), end))
 }
 
 /// The guard and the body of a rule, and the place behind them. Where the guard isn't read to its `|`,
@@ -314,7 +323,7 @@ fn rule(
 #[cycle(reader)]
 fn guarded_body(
     alloc: Global,
-    tokens: &[Token],
+    tokens: &[PackedToken],
     at: usize,
 ) -> Result<((Rows<CondNode>, Rows<Item>), usize), Stop>
     requires place { at ≤ reach (kinds_of tokens.now) }
@@ -347,7 +356,7 @@ fn guarded_body(
 
 /// A membrane, and the place behind it.
 #[cycle(reader)]
-fn membrane(alloc: Global, tokens: &[Token], at: usize) -> Result<(Rows<Clause>, usize), Stop>
+fn membrane(alloc: Global, tokens: &[PackedToken], at: usize) -> Result<(Rows<Clause>, usize), Stop>
     requires open { slice_get (kinds_of tokens.now) at ≡ Some Kind.LBrace }
     requires place { at < length tokens.now }
     requires inside { at < reach (kinds_of tokens.now) }
@@ -364,7 +373,7 @@ fn membrane(alloc: Global, tokens: &[Token], at: usize) -> Result<(Rows<Clause>,
 #[cycle(reader)]
 pub(crate) fn clauses(
     alloc: Global,
-    tokens: &[Token],
+    tokens: &[PackedToken],
     at: usize,
 ) -> Result<(Rows<Clause>, usize), Stop>
     requires place { at ≤ reach (kinds_of tokens.now) }

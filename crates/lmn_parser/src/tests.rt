@@ -2,7 +2,7 @@ ghost use Rattle.std.specs.Prelude.{◌≡◌, ◌++◌, ◌∷◌, [], OnOk, If
 ghost use Rattle.lmn_parser.specs.Parsing.{kinds_of, EndsWithEnd};
 
 use crate::parse;
-use lmn_base::{NoMemory, Pos, Rows, TextFault};
+use lmn_base::{NoMemory, Pos, TextFault};
 use lmn_lexer::{Kind, Token, Tokens};
 use std::alloc::Global;
 
@@ -45,7 +45,7 @@ fn kind_of(letter: u8) -> Kind {
 }
 
 /// A token whose column is its number, counted from 1.
-fn push(tokens: &mut Rows<Token>, kind: Kind) -> Result<(), NoMemory>
+fn push(tokens: &mut Tokens, kind: Kind) -> Result<(), NoMemory>
     ensures { OnOk result (kinds_of tokens.new ≡ kinds_of tokens.old ++ kind ∷ []) }
 {
     let number = tokens.len();
@@ -65,7 +65,7 @@ fn push(tokens: &mut Rows<Token>, kind: Kind) -> Result<(), NoMemory>
 fn tokens_of(alloc: Global, pattern: &[u8], times: u64) -> Result<Tokens, NoMemory>
     ensures { IfOk result EndsWithEnd }
 {
-    let mut tokens = Rows::new(alloc);
+    let mut tokens = Tokens::new(alloc);
     for (i, part) in pattern.split(|b| *b == b'~').enumerate() {
         let repeats = if i % 2 == 0 { 1 } else { times };
         for _ in 0..repeats {
@@ -75,7 +75,7 @@ fn tokens_of(alloc: Global, pattern: &[u8], times: u64) -> Result<Tokens, NoMemo
         }
     }
     push(&mut tokens, Kind::End)?;
-    Ok(Tokens::new(tokens))
+    Ok(tokens)
 }
 
 /// The code and the place of the refusal, or zeros where the tokens are accepted.
@@ -227,15 +227,32 @@ fn limits(rt: HostRuntime) {
         (b"~{~$[".as_slice(), 200, 11, 202),
         (b"a:1~+1~<1|".as_slice(), 255, 0, 0),
         (b"a:1~+1~<1|".as_slice(), 256, 11, 514),
+        (b"a:1~*(1)~<1|".as_slice(), 255, 0, 0),
         (b"a:1~*(1)~<1|".as_slice(), 256, 11, 1024),
+        (b"a:(1)~+1~<1|".as_slice(), 255, 0, 0),
+        (b"a:(1)~+1~<1|".as_slice(), 256, 11, 516),
+        (b"a:1<(1~+1~)~-1~|".as_slice(), 127, 0, 0),
+        (b"a:1<(1~+1~)~-1~|".as_slice(), 128, 11, 518),
         (b"a:1~m1~<1~m1~|".as_slice(), 255, 0, 0),
+        (b"a:1~m1~<1|".as_slice(), 256, 11, 514),
+        (b"a:1<1~+1~,1~+1~<1|".as_slice(), 255, 0, 0),
+        (b"a:1<1~+1~,1~+1~<1|".as_slice(), 256, 11, 516),
         (b"a:$=1~-1~,$=1~/1~|".as_slice(), 255, 0, 0),
         (b"a(X~,X~)".as_slice(), 254, 0, 0),
         (b"a(X~,X~)".as_slice(), 255, 12, 513),
         (b"a(X~,{a,a}~)".as_slice(), 255, 12, 1529),
         (b"a(a(X~,X~))".as_slice(), 253, 0, 0),
         (b"a(a(X~,X~))".as_slice(), 254, 12, 513),
+        (b"a(X,m(X~,X~))".as_slice(), 253, 0, 0),
+        (b"a(X,m(X~,X~))".as_slice(), 254, 12, 515),
+        (b"[a(X~,X~)]=X".as_slice(), 253, 0, 0),
         (b"[a(X~,X~)]=X".as_slice(), 254, 12, 512),
+        (b"[X|1(X~,X~)]=X".as_slice(), 253, 0, 0),
+        (b"[X|1(X~,X~)]=X".as_slice(), 254, 12, 514),
+        (b"a({a(X~,X~)})".as_slice(), 254, 0, 0),
+        (b"a({a(X~,X~)})".as_slice(), 255, 12, 516),
+        (b"(m(X~,X~))".as_slice(), 254, 0, 0),
+        (b"(m(X~,X~))".as_slice(), 255, 12, 514),
         (b"X=a(X~,X~)".as_slice(), 253, 0, 0),
         (b"X=a(X~,X~)".as_slice(), 254, 12, 513),
         (b"a(X~,X~)=X".as_slice(), 253, 0, 0),

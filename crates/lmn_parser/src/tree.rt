@@ -14,7 +14,7 @@ pub enum Clause {
     /// Items side by side.
     Process(Rows<Item>),
     /// A rule.
-    Rule(RuleNode),
+    Rule(Box<RuleNode>),
 }
 
 /// A rule.
@@ -52,7 +52,7 @@ pub enum Item {
     /// A clause in parentheses.
     Group(Box<Clause>),
     /// The terms left and right of a `=`, and between them the token `=`.
-    Equal(Term, usize, Term),
+    Equal(Box<Term>, usize, Box<Term>),
 }
 
 /// An argument of an atom, an element of a list, or a side of `=`.

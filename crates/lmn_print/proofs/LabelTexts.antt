@@ -36,7 +36,7 @@ all_pass : (test : ℕ → Bool) (bs : List ℕ) → list_all test bs ≡ true �
 all_pass test [] h = tt
 all_pass test (b ∷ bs) h = let both = both_true (test b) (list_all test bs) h in (both.0, all_pass test bs both.1)
 
-bare_word : (name : List ℕ) → is_bare name ≡ true → IsWord is_ascii_lowercase name
+pub bare_word : (name : List ℕ) → is_bare name ≡ true → IsWord is_ascii_lowercase name
 bare_word [] h = absurd (cc)
 bare_word (b ∷ bs) h = let both = both_true (is_ascii_lowercase b) (list_all goes_on bs) h in (both.0, all_pass goes_on bs both.1)
 
@@ -62,7 +62,7 @@ not_quote b h = go (b == 39) (both_true _ (not (b == 39)) h).1
     go true e = absurd (cc)
     go false e = refl
 
-quotes_of : {inside name : List ℕ} → Quotes inside name → Quotes (flat_map quoted_byte name) name
+pub quotes_of : {inside name : List ℕ} → Quotes inside name → Quotes (flat_map quoted_byte name) name
 quotes_of nothing = nothing
 quotes_of (quote q) = quote (quotes_of q)
 quotes_of (byte {b = b} {name = name} e q) =

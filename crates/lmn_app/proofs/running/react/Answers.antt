@@ -1,5 +1,6 @@
 use Rattle.std.proofs.Common.{◌≡◌, arith, lit≤, refl, subst, sym}
-use Rattle.lmn_app.specs.Firings.{no_step, SomeCovered}
+use Rattle.lmn_reduction.specs.Chains.{no_step}
+use Rattle.lmn_app.specs.Firings.{SomeCovered}
 use Rattle.lmn_flatten.specs.Programs.{labels_of, rules_of}
 use Rattle.lmn_app.proofs.RunningLemmas.{AreFired, one_more, all_commit, first_covers, none_stops, at_error, at_value}
 use Rattle.lmn_app.proofs.running.react.Goals as goal

@@ -1,13 +1,14 @@
 use Rattle.std.proofs.lemmas.Result.{IfOk-weaker}
 use Rattle.std.proofs.Common.{Bool, true, false, [], subst, sym, arith}
 use Rattle.std.proofs.lemmas.Option.{MatchOption-at_none, MatchOption-at_some}
-use Rattle.lmn_parser.specs.Syntax.{clause_of, item_of}
+use Rattle.lmn_parser.specs.Syntax.{clause_of, item_of, rule_of}
 use Rattle.lmn_parser.specs.declared.tree.Clause.{Clause}
+use Rattle.lmn_parser.specs.declared.tree.RuleNode.{RuleNode}
 use Rattle.lmn_flatten.specs.FlatTrees.{FlatClause, FlatItem}
 use Rattle.lmn_flatten.specs.FlatTrees.{IsNumber}
 use Rattle.lmn_flatten.specs.Numbers.{Flattens}
 use Rattle.lmn_flatten.specs.declared.flat.TokenProgram.{TokenProgram}
-use Rattle.lmn_flatten.proofs.FlatParts.{IsFlatItem, IsFlatClause, AreFlatItems, process_flattens, same_flattens, group_flattens, items_flatten, nothing_flattens, one_more_flattens, all_flatten, one_not_flat, head_not_flat, body_not_flat, rule_added, only_atoms, rules_not_flat, kept_none, guard_none, flat_when}
+use Rattle.lmn_flatten.proofs.FlatParts.{IsFlatItem, AreFlatItems, process_flattens, same_flattens, group_flattens, rule_flattens, items_flatten, nothing_flattens, one_more_flattens, all_flatten, one_not_flat, head_not_flat, body_not_flat, rule_added, only_atoms, rules_not_flat, kept_none, guard_none, flat_when}
 use Rattle.lmn_flatten.proofs.flat.+flat.Goals as goal
 use Rattle.lmn_flatten.proofs.flat.+flat.Goals.{atoms_of-then-not-branch-via-then-not-branch, atoms_of-then-not-branch-via-else-not-branch+then-len-gt0, add_rule-then-len-gt0-via-then-len-gt0, add_rule-then-len-gt0-via-else-len-gt0+then-len-gt0-2}
 
@@ -18,9 +19,11 @@ add_clause-returns-in-Process t c = IfOk-weaker c.add_items.result _ _
     c.add_items.ensures
 
 pub add_clause-returns-in-Rule : goal.add_clause-returns-in-Rule
-add_clause-returns-in-Rule t c = IfOk-weaker c.add_rule.result _ _
-    (λ flat h. same_flattens IsFlatClause c.args.program.now c.add_rule.new.program flat c.args.clause.now _ c.in-Rule.is h)
-    c.add_rule.ensures
+add_clause-returns-in-Rule t c =
+    let P : RuleNode → Type 0 = λ x. (flat : Bool) → Flattens (FlatClause IsNumber (rule_of x)) c.args.program.now c.add_rule.new.program flat
+    → Flattens (FlatClause IsNumber (clause_of c.args.clause.now)) c.args.program.now c.add_rule.new.program flat in
+    let rule : P c.in-Rule.node.value = λ flat h. rule_flattens c.args.program.now c.add_rule.new.program flat c.args.clause.now c.in-Rule.node c.in-Rule.is h in
+    IfOk-weaker c.add_rule.result _ _ (subst P (sym c.deref.ensures) rule) c.add_rule.ensures
 
 pub add_item-returns-in-Atom : goal.add_item-returns-in-Atom
 add_item-returns-in-Atom t c = IfOk-weaker c.add_atom.result _ _

@@ -1,27 +1,28 @@
 use Rattle.std.proofs.Common.{rules, ◌≡◌, sym, ◌∙◌, ap, None}
-use Rattle.lmn_grammar.specs.Limits as limits
+use Rattle.lmn_grammar.specs.Scan as scanner
 use Rattle.lmn_parser.specs.Parsing.{kinds_of}
 use Rattle.lmn_parser.specs.Scans.{scan_of, stack_of}
+use Rattle.lmn_grammar.proofs.Counts.{scan_passes}
 use Rattle.lmn_grammar.proofs.Scans.{within_none, scan_take, within_take}
 use Rattle.lmn_parser.proofs.limits.first_passing.Goals as goal
 
 pub loop-at-init : goal.loop-at-init
-loop-at-init c = record { scan = ap (λ xs. record { opened = stack_of xs; operators = 0; last = limits.Other }) c.new.ensures; within = within_none }
+loop-at-init c = record { scan = ap (λ xs. record { opened = stack_of xs; operators = 0; last = scanner.Other }) c.new.ensures; within = within_none }
 
 pub returns-in-Some : goal.returns-in-Some
 returns-in-Some c = (
   c.kind_of-kind.result,
   c.kind_of-kind.ensures,
   c.loop-at.invariant.within,
-  ap (λ s. limits.passes s c.kind_of-kind.result) (sym c.loop-at.invariant.scan) ∙ sym c.in-Some.ensures,
+  scan_passes _ _ _ (ap (λ s. scanner.passes s c.kind_of-kind.result) (sym c.loop-at.invariant.scan) ∙ sym c.in-Some.ensures),
 )
 
 pub loop-at-preserved : goal.loop-at-preserved
 loop-at-preserved c =
     let ks = kinds_of c.args.tokens.now in
     let k = c.kind_of-kind.result in
-    let none : limits.passes (scan_of c.loop-at.scan) k ≡ None = search rules in
+    let none : scanner.passes (scan_of c.loop-at.scan) k ≡ None = search rules in
     record {
-      scan = c.in_ok-scan.ensures ∙ ap (λ s. limits.scan_after s k) c.loop-at.invariant.scan ∙ sym (scan_take ks c.loop-at.at k c.kind_of-kind.ensures);
-      within = within_take ks c.loop-at.at k c.kind_of-kind.ensures c.loop-at.invariant.within (ap (λ s. limits.passes s k) (sym c.loop-at.invariant.scan) ∙ none);
+      scan = c.in_ok-scan.ensures ∙ ap (λ s. scanner.scan_after s k) c.loop-at.invariant.scan ∙ sym (scan_take ks c.loop-at.at k c.kind_of-kind.ensures);
+      within = within_take ks c.loop-at.at k c.kind_of-kind.ensures c.loop-at.invariant.within (ap (λ s. scanner.passes s k) (sym c.loop-at.invariant.scan) ∙ none);
     }

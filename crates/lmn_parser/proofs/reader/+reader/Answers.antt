@@ -252,7 +252,7 @@ pub equation-returns-clause-reads : goal.equation-returns-clause-reads
 equation-returns-clause-reads t c κ h = seq (kinds_of c.args.tokens.now) c.args.sign (Tok Equal) (Ref TermPart) κ ∙ c.in_ok-start.ensures.reads (Ref TermPart ∷ κ) ∙ c.in_ok-right.ensures.reads κ h
 
 pub equation-returns-clause-tree : goal.equation-returns-clause-tree
-equation-returns-clause-tree t c = λ start left. equation_read _ _ _ _ _ _ _ left c.in_ok-start.ensures.found c.in_ok-right.ensures.tree
+equation-returns-clause-tree t c = λ start left. equation_read _ _ _ _ _ _ _ _ _ c.in_ok-left.ensures.ok c.in_ok-right-2.ensures.ok left c.in_ok-start.ensures.found c.in_ok-right.ensures.tree
 
 pub items-returns-then-not-begins_list-clause-reads : goal.items-returns-then-not-begins_list-clause-reads
 items-returns-then-not-begins_list-clause-reads t c κ h = opt_list_none (kinds_of c.args.tokens.now) c.args.at κ (search rules)
@@ -309,7 +309,7 @@ pub rule-returns-then-is_at-clause-reads : goal.rule-returns-then-is_at-clause-r
 rule-returns-then-is_at-clause-reads t c κ h = tail_backslash (kinds_of c.args.tokens.now) c.args.at κ (search rules) ∙ c.in_ok-taken.ensures.reads (arrow ∷ κ) (arrow_opt_list κ) ∙ seq (kinds_of c.args.tokens.now) c.in_ok-taken.arrow (Tok Arrow) body κ ∙ c.in_ok-body_at.ensures.reads (body ∷ κ) ∙ c.in_ok-guard.ensures.reads κ h
 
 pub rule-returns-then-is_at-clause-tree : goal.rule-returns-then-is_at-clause-tree
-rule-returns-then-is_at-clause-tree t c = let there : c.args.start < length c.args.tokens.now = omega (arith, c.requires.start, c.if-is_at.ensures.within refl) in λ heads first. rule_read _ _ _ _ _ _ _ (stands_there c.args.tokens.now c.args.start _ there) (some_kept first (search rules) c.in_ok-taken.ensures.tree) c.in_ok-body_at.ensures.found c.in_ok-guard.ensures.tree
+rule-returns-then-is_at-clause-tree t c = let there : c.args.start < length c.args.tokens.now = omega (arith, c.requires.start, c.if-is_at.ensures.within refl) in λ heads first. rule_read _ _ _ _ _ _ _ _ _ c.in_ok-node.ensures.ok (stands_there c.args.tokens.now c.args.start c.index-tokens-start.result there) (c.pos-pos.ensures ∙ ap (λ t. t.pos) c.index-tokens-start.is) (some_kept first (search rules) c.in_ok-taken.ensures.tree) c.in_ok-body_at.ensures.found c.in_ok-guard.ensures.tree
 
 pub rule-returns-in_err-body_at-2-clause-reads : goal.rule-returns-in_err-body_at-2-clause-reads
 rule-returns-in_err-body_at-2-clause-reads t c κ h = refused _ _ _ _ κ _ _ _ (tail_arrow (kinds_of c.args.tokens.now) c.args.at κ (search rules) ∙ seq (kinds_of c.args.tokens.now) c.args.at (Tok Arrow) body κ) (c.in_err-body_at-2.ensures.reads (body ∷ κ)) c.from_residual-in_err-body_at-2.ensures.1
@@ -321,7 +321,7 @@ pub rule-returns-clause-reads : goal.rule-returns-clause-reads
 rule-returns-clause-reads t c κ h = tail_arrow (kinds_of c.args.tokens.now) c.args.at κ (search rules) ∙ seq (kinds_of c.args.tokens.now) c.args.at (Tok Arrow) body κ ∙ c.in_ok-body_at-2.ensures.reads (body ∷ κ) ∙ c.in_ok-guard-2.ensures.reads κ h
 
 pub rule-returns-clause-tree : goal.rule-returns-clause-tree
-rule-returns-clause-tree t c = let there : c.args.start < length c.args.tokens.now = omega (arith, c.requires.start, c.in_ok-body_at-2.ensures.forth) in λ heads first. rule_read _ _ _ _ _ _ _ (stands_there c.args.tokens.now c.args.start _ there) (all_heads_taken _ _ _ _ _ c.new-kept.ensures first) c.in_ok-body_at-2.ensures.found c.in_ok-guard-2.ensures.tree
+rule-returns-clause-tree t c = let there : c.args.start < length c.args.tokens.now = omega (arith, c.requires.start, c.in_ok-body_at-2.ensures.forth) in λ heads first. rule_read _ _ _ _ _ _ _ _ _ c.in_ok-node-2.ensures.ok (stands_there c.args.tokens.now c.args.start c.index-tokens-start-2.result there) (c.pos-pos-2.ensures ∙ ap (λ t. t.pos) c.index-tokens-start-2.is) (all_heads_taken _ _ _ _ _ c.new-kept.ensures first) c.in_ok-body_at-2.ensures.found c.in_ok-guard-2.ensures.tree
 
 pub membrane-returns-in_err-clauses-clause-reads : goal.membrane-returns-in_err-clauses-clause-reads
 membrane-returns-in_err-clauses-clause-reads t c κ = refused _ _ _ _ κ _ _ _ (within_taken (kinds_of c.args.tokens.now) c.args.at Curly (Ref ClausesPart) κ c.requires.open) (c.in_err-clauses.ensures.reads (Tok RBrace ∷ κ) (ends_curly κ)) c.from_residual.ensures.1

@@ -1,0 +1,245 @@
+-- What is wrong with the contexts of a rule, row by row.
+use Rattle.std.specs.Prelude.{ℕ, ◌+◌, ◌==◌, ◌&&◌, ◌||◌, not, Bool, true, false, List, [], ◌∷◌, ◌++◌, flat_map, drop, length, sum_by, nat_lt, slice_get, option_map, option_to_list, if◌then◌else◌}
+use Rattle.std.specs.List.{list_any}
+use Rattle.lmn_base.specs.declared.functor.Label.{Label}
+use Rattle.lmn_base.specs.declared.functor.Label.TheVariants as label
+use Rattle.lmn_base.specs.declared.functor.TheConstants.{CONNECTOR_NAME}
+use Rattle.lmn_base.specs.declared.guard.Cond.{Cond}
+use Rattle.lmn_base.specs.declared.guard.Cond.TheVariants.{Kind, Compare, Equal, Differ}
+use Rattle.lmn_base.specs.declared.guard.Expr.{Expr}
+use Rattle.lmn_base.specs.declared.guard.Expr.TheVariants.{Int as Integer, Ctx, Op'}
+use Rattle.lmn_base.specs.declared.item.Form.{Form}
+use Rattle.lmn_base.specs.declared.item.Form.TheVariants.{Bare, Typed}
+use Rattle.lmn_base.specs.declared.item.FormedUse.{FormedUse}
+use Rattle.lmn_base.specs.declared.item.Item.{Item}
+use Rattle.lmn_base.specs.declared.item.Item.TheVariants.{Atom, Context, RuleContext, Rule}
+use Rattle.lmn_base.specs.declared.level.CtxUse.{CtxUse}
+use Rattle.lmn_base.specs.declared.level.Level.{Level, out-Level}
+use Rattle.lmn_base.specs.declared.level.Level.TheOpen.{Level-F}
+use Rattle.lmn_base.specs.declared.refusal.Pos.{Pos}
+use Rattle.lmn_base.specs.declared.rule.RuleTree.{RuleTree}
+use Rattle.lmn_base.specs.Firsts.{Row}
+use Rattle.lmn_base.specs.Items.{own_items, items_of, rule_items, number_of_items}
+use Rattle.lmn_base.specs.Levels.{everywhere}
+use Rattle.lmn_base.specs.PlaceOrder.{not_after}
+use Rattle.lmn_base.specs.Uses.{is_some_place, has_use}
+
+-- ---- E44: beyond a limit
+
+-- the integers and contexts of an expression
+abbrev pub expression_tokens : Expr → ℕ
+expression_tokens (Integer z) = 1
+expression_tokens (Ctx u) = 1
+expression_tokens (Op' op p left q right) = expression_tokens left + expression_tokens right
+
+abbrev pub condition_tokens : Cond → ℕ
+condition_tokens (Kind name args pos) = length args
+condition_tokens (Compare op left right pos) = expression_tokens left + expression_tokens right
+condition_tokens (Equal left right pos) = 1 + expression_tokens right
+condition_tokens (Differ left right pos) = 2
+
+-- more than 128 items in the head, 1,024 in the body, 64 conditions, or 256 integers and contexts in the guard
+abbrev pub is_too_large : RuleTree → Bool
+is_too_large r = nat_lt 128 (number_of_items r.head) || (nat_lt 1024 (number_of_items r.body) || (nat_lt 64 (length r.guard) || nat_lt 256 (sum_by condition_tokens r.guard)))
+
+abbrev pub too_large : RuleTree → Row
+too_large r = record { code = 44; places = if is_too_large r then r.pos ∷ [] else [] }
+
+-- ---- E38: the head holds nothing
+
+abbrev pub empty_head : RuleTree → Row
+empty_head r = record { code = 38; places = if number_of_items r.head == 0 then r.pos ∷ [] else [] }
+
+-- ---- E36: a rule stands in the head, at the place of the inner rule
+
+abbrev pub inner_rule : List RuleTree → Item → List Pos
+inner_rule table (Atom functor pos) = []
+inner_rule table (Context u) = []
+inner_rule table (RuleContext u) = []
+inner_rule table (Rule k) = option_to_list (option_map (λ r. r.pos) (slice_get table k))
+
+abbrev pub rule_in_head : List RuleTree → RuleTree → Row
+rule_in_head table r = record { code = 36; places = flat_map (inner_rule table) (items_of r.head) }
+
+-- ---- E37: a connector stands in the head
+
+abbrev pub is_connector_label : Label → Bool
+is_connector_label (label.Name n) = n == CONNECTOR_NAME
+is_connector_label (label.Int z) = false
+
+abbrev pub connector_place : Item → List Pos
+connector_place (Atom functor pos) = if is_connector_label functor.label && (functor.arity == 2) then pos ∷ [] else []
+connector_place (Context u) = []
+connector_place (RuleContext u) = []
+connector_place (Rule k) = []
+
+abbrev pub connector_in_head : RuleTree → Row
+connector_in_head r = record { code = 37; places = flat_map connector_place (items_of r.head) }
+
+-- ---- E30, E35: an untyped context, or a rule context, stands at the head's top
+
+abbrev pub is_bare : Form → Bool
+is_bare Bare = true
+is_bare Typed = false
+
+abbrev pub bare_place : Item → List Pos
+bare_place (Atom functor pos) = []
+bare_place (Context u) = if is_bare u.form then u.pos ∷ [] else []
+bare_place (RuleContext u) = []
+bare_place (Rule k) = []
+
+abbrev pub rule_context_place : Item → List Pos
+rule_context_place (Atom functor pos) = []
+rule_context_place (Context u) = []
+rule_context_place (RuleContext u) = u.pos ∷ []
+rule_context_place (Rule k) = []
+
+abbrev pub context_at_top : RuleTree → Row
+context_at_top r = record { code = 30; places = flat_map bare_place (own_items (out-Level r.head)) }
+
+abbrev pub rule_context_at_top : RuleTree → Row
+rule_context_at_top r = record { code = 35; places = flat_map rule_context_place (own_items (out-Level r.head)) }
+
+-- ---- E31: a head membrane has two untyped contexts, or two rule contexts, at the second of the first such pair
+
+-- the places of all but the first
+abbrev pub behind_the_first : List CtxUse → List Pos
+behind_the_first us = flat_map (λ u. u.pos ∷ []) (drop 1 us)
+
+abbrev pub seconds : {A : Type 0} → Level-F A → List Pos
+seconds l = behind_the_first l.contexts ++ behind_the_first l.rule_contexts
+
+-- membrane by membrane, an outer one before those in it
+abbrev pub seconds_by_membrane : Level → List (List Pos)
+seconds_by_membrane = everywhere (λ l. seconds l ∷ [])
+
+-- the first of some lists that has a place
+abbrev pub first_with_some : List (List Pos) → List Pos
+first_with_some [] = []
+first_with_some (ps ∷ more) = if is_some_place ps then ps else first_with_some more
+
+abbrev pub two_in_membrane : RuleTree → Row
+two_in_membrane r = record { code = 31; places = first_with_some (flat_map seconds_by_membrane (out-Level r.head).membranes) }
+
+-- ---- E32: a context, or a rule context, occurs twice in the head, at its second place
+
+-- the place of a use of a context with a name, up to a place
+abbrev pub use_up_to : ℕ → Pos → Item → List Pos
+use_up_to n p (Atom functor pos) = []
+use_up_to n p (Context u) = if (u.name == n) && not_after u.pos p then u.pos ∷ [] else []
+use_up_to n p (RuleContext u) = []
+use_up_to n p (Rule k) = []
+
+abbrev pub rule_use_up_to : ℕ → Pos → Item → List Pos
+rule_use_up_to n p (Atom functor pos) = []
+rule_use_up_to n p (Context u) = []
+rule_use_up_to n p (RuleContext u) = if (u.name == n) && not_after u.pos p then u.pos ∷ [] else []
+rule_use_up_to n p (Rule k) = []
+
+-- it isn't the first use: up to its place there is more than one
+abbrev pub used_again : List Item → Item → List Pos
+used_again items (Atom functor pos) = []
+used_again items (Context u) = if nat_lt 1 (length (flat_map (use_up_to u.name u.pos) items)) then u.pos ∷ [] else []
+used_again items (RuleContext u) = if nat_lt 1 (length (flat_map (rule_use_up_to u.name u.pos) items)) then u.pos ∷ [] else []
+used_again items (Rule k) = []
+
+abbrev pub twice_in_head : RuleTree → Row
+twice_in_head r = record { code = 32; places = flat_map (used_again (items_of r.head)) (items_of r.head) }
+
+-- ---- E33: an untyped context of the head occurs not exactly once in the body, bare
+
+abbrev pub bare_use : ℕ → Item → List Pos
+bare_use n (Atom functor pos) = []
+bare_use n (Context u) = if (u.name == n) && is_bare u.form then u.pos ∷ [] else []
+bare_use n (RuleContext u) = []
+bare_use n (Rule k) = []
+
+abbrev pub bare_use_up_to : ℕ → Pos → Item → List Pos
+bare_use_up_to n p (Atom functor pos) = []
+bare_use_up_to n p (Context u) = if (u.name == n) && (is_bare u.form && not_after u.pos p) then u.pos ∷ [] else []
+bare_use_up_to n p (RuleContext u) = []
+bare_use_up_to n p (Rule k) = []
+
+-- its place in the head, if it has none in the body
+abbrev pub missing : List Item → Item → List Pos
+missing body (Atom functor pos) = []
+missing body (Context u) = if is_bare u.form && not (is_some_place (flat_map (bare_use u.name) body)) then u.pos ∷ [] else []
+missing body (RuleContext u) = []
+missing body (Rule k) = []
+
+-- a bare place in the body of an untyped context of the head, which isn't the first
+abbrev pub bare_again : List Item → List Item → Item → List Pos
+bare_again head body (Atom functor pos) = []
+bare_again head body (Context u) =
+    if is_bare u.form && (is_some_place (flat_map (bare_use u.name) head) && nat_lt 1 (length (flat_map (bare_use_up_to u.name u.pos) body))) then u.pos ∷ [] else []
+bare_again head body (RuleContext u) = []
+bare_again head body (Rule k) = []
+
+abbrev pub not_once_in_body : RuleTree → Row
+not_once_in_body r = record {
+  code = 33;
+  places = flat_map (missing (items_of r.body)) (items_of r.head) ++ flat_map (bare_again (items_of r.head) (items_of r.body)) (items_of r.body);
+}
+
+-- ---- E34: a context of the body is neither in the head nor bound in the guard, or a rule context of the body isn't in
+-- the head
+
+abbrev pub is_left_of : ℕ → Cond → Bool
+is_left_of n (Kind name args pos) = false
+is_left_of n (Compare op left right pos) = false
+is_left_of n (Equal left right pos) = left.name == n
+is_left_of n (Differ left right pos) = false
+
+abbrev pub rule_use : ℕ → Item → List Pos
+rule_use n (Atom functor pos) = []
+rule_use n (Context u) = []
+rule_use n (RuleContext u) = if u.name == n then u.pos ∷ [] else []
+rule_use n (Rule k) = []
+
+abbrev pub from_nowhere : List Item → List Cond → Item → List Pos
+from_nowhere head guard (Atom functor pos) = []
+from_nowhere head guard (Context u) = if has_use u.name head || list_any (is_left_of u.name) guard then [] else u.pos ∷ []
+from_nowhere head guard (RuleContext u) = if is_some_place (flat_map (rule_use u.name) head) then [] else u.pos ∷ []
+from_nowhere head guard (Rule k) = []
+
+abbrev pub not_in_head : RuleTree → Row
+not_in_head r = record { code = 34; places = flat_map (from_nowhere (items_of r.head) r.guard) (items_of r.body) }
+
+-- ---- E45: a context is bare in one place of the rule and in argument form, bracket form or the guard in another
+
+abbrev pub same_form : Form → Form → Bool
+same_form Bare Bare = true
+same_form Bare Typed = false
+same_form Typed Bare = false
+same_form Typed Typed = true
+
+abbrev pub other_form_up_to : FormedUse → Item → List Pos
+other_form_up_to v (Atom functor pos) = []
+other_form_up_to v (Context u) = if (u.name == v.name) && (not (same_form u.form v.form) && not_after u.pos v.pos) then u.pos ∷ [] else []
+other_form_up_to v (RuleContext u) = []
+other_form_up_to v (Rule k) = []
+
+-- A use before which the context stands in another form. The first such use is the first whose form isn't that of the
+-- context's first place.
+abbrev pub in_other_form : List Item → Item → List Pos
+in_other_form items (Atom functor pos) = []
+in_other_form items (Context u) = if is_some_place (flat_map (other_form_up_to u) items) then u.pos ∷ [] else []
+in_other_form items (RuleContext u) = []
+in_other_form items (Rule k) = []
+
+abbrev pub in_two_forms : RuleTree → Row
+in_two_forms r = record { code = 45; places = flat_map (in_other_form (rule_items r)) (rule_items r) }
+
+-- ---- all of them, in their order
+
+abbrev pub size_rows : RuleTree → List Row
+size_rows r = too_large r ∷ empty_head r ∷ []
+
+abbrev pub head_rows : List RuleTree → RuleTree → List Row
+head_rows table r = rule_in_head table r ∷ connector_in_head r ∷ context_at_top r ∷ rule_context_at_top r ∷ two_in_membrane r ∷ []
+
+abbrev pub use_rows : RuleTree → List Row
+use_rows r = twice_in_head r ∷ not_once_in_body r ∷ not_in_head r ∷ in_two_forms r ∷ []
+
+abbrev pub rule_rows : List RuleTree → RuleTree → List Row
+rule_rows table r = size_rows r ++ (head_rows table r ++ use_rows r)

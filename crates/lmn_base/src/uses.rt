@@ -1,0 +1,59 @@
+ghost use Rattle.std.specs.Prelude.{◌≡◌};
+ghost use Rattle.lmn_base.specs.Firsts.{IsFound};
+ghost use Rattle.lmn_base.specs.Items.{items_of, expression_items, condition_items};
+ghost use Rattle.lmn_base.specs.Uses.{is_some_place, has_use};
+
+use crate::guard::{Cond, Expr};
+use crate::item::Item;
+use crate::level::Level;
+use crate::question::{Found, Question};
+use crate::refusal::Pos;
+use crate::walk::{find, find_in_condition, find_in_expression};
+
+/// Asks for the uses of a context with a name.
+#[derive(Clone, Copy)]
+struct UseOf {
+    name: u32,
+}
+
+impl Question for UseOf {
+    ghost use Rattle.lmn_base.specs.Uses.{use_of};
+
+    ghost places = { λ q. use_of q.name };
+
+    fn place(&self, item: Item) -> Option<Pos> {
+        match item {
+            Item::Atom { .. } => None,
+            Item::Context(context) => {
+                if context.name == self.name {
+                    Some(context.pos)
+                } else {
+                    None
+                }
+            }
+            Item::RuleContext(_) => None,
+            Item::Rule(_) => None,
+        }
+    }
+}
+
+/// Whether a context with a name is used in a level, at any depth.
+pub fn is_used(name: u32, level: &Level) -> bool
+    ensures { result ≡ has_use name (items_of level.now) }
+{
+    find(&UseOf { name }, level).is_somewhere()
+}
+
+/// Whether a context with a name is used in a condition.
+pub fn is_used_in_condition(name: u32, condition: &Cond) -> bool
+    ensures { result ≡ has_use name (condition_items condition.now) }
+{
+    find_in_condition(&UseOf { name }, condition).is_somewhere()
+}
+
+/// Whether a context with a name is used in an expression.
+pub fn is_used_in_expression(name: u32, expression: &Expr) -> bool
+    ensures { result ≡ has_use name (expression_items expression.now) }
+{
+    find_in_expression(&UseOf { name }, expression).is_somewhere()
+}

@@ -1,8 +1,0 @@
-use Rattle.lmn_congruence.proofs.ExampleSteps as steps
-use Rattle.lmn_congruence.proofs.examples.missing_values.Goals as goal
-
-pub returns-clause-least : goal.returns-clause-least
-returns-clause-least c = steps.least_by_minus_one
-
-pub returns-clause-zero : goal.returns-clause-zero
-returns-clause-zero c = steps.nothing_by_zero

@@ -1,0 +1,5 @@
+pub mod GuardLemmas
+pub mod PlanLemmas
+pub mod OrderLemmas
+pub mod AcceptedLemmas
+pub mod WorkedGuards

@@ -1,0 +1,5 @@
+pub mod Values
+pub mod GuardCodes
+pub mod Plans
+pub mod Accepted
+pub mod Examples

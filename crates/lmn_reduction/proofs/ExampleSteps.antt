@@ -1,0 +1,414 @@
+-- The derivations of the examples.
+use Rattle.std.proofs.Common.{ℕ, suc, ◌≡◌, ◌≢◌, ◌+◌, ◌^◌, ◌<ℤ◌, ℤ, Bool, true, false, cond, eqb, List, [], ◌∷◌, map, refl, sym, ◌∙◌, ap, arith, pos, negsuc}
+use Rattle.lmn_congruence.specs.Orders.{Among, at_head, further, here, there, Shuffle, none, more}
+use Rattle.lmn_congruence.specs.Process.{Process, nothing, connector, atom, pair, membrane, rule, Linked, Free, OneToOneOn, together}
+use Rattle.lmn_congruence.specs.Congruence.{swap, same, back}
+use Rattle.lmn_congruence.specs.Rules.{Name, Label, named, integer, Rule, head_of, Expression, number, operation, over, modulo}
+use Rattle.lmn_reduction.specs.Parts.{Rooted, IsGround, SameGraph, Reached, the_root, across, an_integer, atoms_of}
+use Rattle.lmn_reduction.specs.Assignments.{Assignment, NoRuleAtTop}
+use Rattle.lmn_reduction.specs.Instances.{IsCopy, instance, no_leaf, leaf_and, of_atom, of_connector, of_typed, no_membrane, membrane_and}
+use Rattle.lmn_guards.specs.Values.{of_number, of_context, of_operation, InRange}
+use Rattle.lmn_reduction.specs.Values.{Value}
+use Rattle.lmn_reduction.specs.Guards.{no_condition, condition_and, binds, of_kind}
+use Rattle.lmn_reduction.specs.Firing.{Fires, fires, typed_contexts}
+use Rattle.lmn_reduction.specs.Steps.{Step, SettlingStep, leaf, beside as derived_beside, up_to, out, into}
+use Rattle.lmn_reduction.specs.Commits.{Commit, already, step_and}
+use Rattle.lmn_congruence.specs.Fused.{NoConnector}
+use Rattle.lmn_reduction.specs.Examples.{a, b, c, p, int, z, two_make_b, TwoMakeOne, join_in_c, LinkMeetsItself, ConnectorLeaves, LoopVanishes, QuotientsAndRemainders, add_up, SumIsBound, b_makes_c, double_rules, RulesAreCopied, least, LeastByMinusOne, NothingByZero, tie_ends, LoopIsLeft, open_both, LinkIsShared, double_part, PartIsCopied, straight, turned_round, crossed, PortsAreTold, two_parts, NotGround}
+use Rattle.lmn_reduction.proofs.SettledProcesses.{no_connector_settled}
+use Rattle.lmn_reduction.proofs.Derivations.{zero_not_one, linked_by, closed_by, regrouped, by_one_link}
+
+-- a step to a process without connectors is a commit
+commits : {P Q : Process} → NoConnector Q → Linked Q → Step P Q → Commit P Q
+commits {Q = Q} n l s = record { between = Q; step = s; settles = record { settled = no_connector_settled Q n; towards = already (same l) } }
+
+-- an assignment of links, one context and one rule context
+abbrev assigned : (ℕ → ℕ) → Process → List Rule → Assignment
+assigned f P rs = record { link_of = f; context_of = λ q. P; rules_of = λ q. rs; typed_of = λ q. record { process = atom a (0 ∷ []); root = 0 } }
+
+-- an instance of a level of leaves has nothing else
+abbrev only : Process → Process
+only P = pair P (pair nothing (pair nothing (pair nothing nothing)))
+
+-- ---- `a. a. a, a :- b.`
+
+two_fire : Fires two_make_b (only (together (atom a [] ∷ atom a [] ∷ []))) (only (together (atom b [] ∷ [])))
+two_fire = record {
+  matches = record {
+    assignment = assigned (λ n. n) nothing [];
+    proper = record { links_differ = λ m n e. e; no_rule = λ q. tt; links_apart = λ q n. zero_not_one; root_is_free = λ q. refl };
+    guard = no_condition;
+    head = instance (leaf_and of_atom (leaf_and of_atom no_leaf)) no_membrane;
+  };
+  body = instance (leaf_and of_atom no_leaf) no_membrane;
+}
+
+pub two_make_one : TwoMakeOne
+two_make_one = commits (tt, (tt, tt)) (linked_by refl) (up_to (regrouped refl (linked_by refl)) (leaf (fires two_fire) (linked_by refl) (linked_by refl)) (regrouped refl (linked_by refl)))
+
+-- ---- `a(X), b(X). a(X), b(Y) :- c(X,Y).`
+
+join_fires : Fires join_in_c (only (together (atom a (0 ∷ []) ∷ atom b (1 ∷ []) ∷ []))) (only (together (atom c (0 ∷ 1 ∷ []) ∷ [])))
+join_fires = record {
+  matches = record {
+    assignment = assigned (λ n. n) nothing [];
+    proper = record { links_differ = λ m n e. e; no_rule = λ q. tt; links_apart = λ q n. zero_not_one; root_is_free = λ q. refl };
+    guard = no_condition;
+    head = instance (leaf_and of_atom (leaf_and of_atom no_leaf)) no_membrane;
+  };
+  body = instance (leaf_and of_atom no_leaf) no_membrane;
+}
+
+-- `a(X), b(Y)` or `c(X,Y)` beside the rule, and `X=Y`
+abbrev with_connector : Process → Process
+with_connector P = pair (pair (only P) (rule join_in_c)) (connector 0 1)
+
+abbrev apart : Process
+apart = with_connector (together (atom a (0 ∷ []) ∷ atom b (1 ∷ []) ∷ []))
+
+abbrev joined : Process
+joined = with_connector (together (atom c (0 ∷ 1 ∷ []) ∷ []))
+
+join_step : Step apart joined
+join_step = derived_beside (leaf (fires join_fires) (linked_by refl) (linked_by refl)) (linked_by refl) (linked_by refl)
+
+pub link_meets_itself : LinkMeetsItself
+link_meets_itself =
+    commits (tt, (tt, tt)) (linked_by refl)
+    (up_to (back (by_one_link (closed_by apart refl) (linked_by refl) refl refl)) join_step
+    (by_one_link (closed_by joined refl) (linked_by refl) refl refl))
+
+-- ---- `{X=Y}, a(X), b(Y)`
+
+abbrev inside_it : Process
+inside_it = membrane (pair (connector 0 1) nothing)
+
+abbrev outside_it : Process
+outside_it = pair (connector 0 1) (membrane nothing)
+
+abbrev atoms : Process
+atoms = pair (atom a (0 ∷ [])) (atom b (1 ∷ []))
+
+goes_out : SettlingStep (pair inside_it atoms) (pair outside_it atoms)
+goes_out = derived_beside (leaf (out 0 1 zero_not_one refl refl) (linked_by refl) (linked_by refl)) (linked_by refl) (linked_by refl)
+
+pub connector_leaves : ConnectorLeaves
+connector_leaves = record {
+  settled = no_connector_settled (together (atom a (0 ∷ []) ∷ atom b (0 ∷ []) ∷ membrane nothing ∷ [])) (tt, (tt, (tt, tt)));
+  towards = step_and
+      (up_to (regrouped refl (linked_by refl)) goes_out (swap (linked_by refl)))
+      (already (by_one_link (closed_by (pair atoms outside_it) refl) (linked_by refl) refl refl));
+}
+
+-- ---- `X=Y, {X=Y}`
+
+goes_in : SettlingStep (pair (connector 0 1) (membrane (connector 0 1))) (membrane (pair (connector 0 1) (connector 0 1)))
+goes_in = leaf (into 0 1 zero_not_one refl refl) (linked_by refl) (linked_by refl)
+
+pub loop_vanishes : LoopVanishes
+loop_vanishes = record {
+  settled = no_connector_settled (membrane nothing) tt;
+  towards = step_and goes_in (already (by_one_link (closed_by (membrane (pair (connector 0 1) (connector 0 1))) refl) (linked_by refl) refl refl));
+}
+
+-- ---- `p(3), p(4). p($x), p($y) :- $z = $x + $y | p($z).`
+
+abbrev seven_apart : Process
+seven_apart = pair (only (together (atom p (2 ∷ []) ∷ atom (int 7) (2 ∷ []) ∷ []))) (rule add_up)
+
+abbrev number_part : ℕ → Rooted
+number_part n = record { process = atom (int n) (0 ∷ []); root = 0 }
+
+abbrev first_byte : Name → ℕ
+first_byte [] = 0
+first_byte (k ∷ ks) = k
+
+abbrev sums : Assignment
+sums = record {
+  link_of = λ n. n;
+  context_of = λ q. nothing;
+  rules_of = λ q. [];
+  typed_of = λ q. number_part (cond (eqb (first_byte q) 120) 3 (cond (eqb (first_byte q) 121) 4 7));
+}
+
+copied : (n k : ℕ) → IsCopy (number_part n) k (atom (int n) (k ∷ []))
+copied n k = record { to = λ m. k; one_to_one = λ i j o o' e. only_root i j o o'; root = refl; is = refl }
+  where
+    only_root : (i j : ℕ) → cond (eqb i 0) 1 0 + 0 ≢ 0 → cond (eqb j 0) 1 0 + 0 ≢ 0 → i ≡ j
+    only_root i j o o' = grind arith
+
+no_member : {A : Type 0} {n : A} → ¬ (Among n [])
+no_member m = elim m [ ]
+
+member_of_two : {A : Type 0} {n m k : A} → n ≢ m → n ≢ k → ¬ (Among n (m ∷ k ∷ []))
+member_of_two e f at_head = e refl
+member_of_two e f (further at_head) = f refl
+member_of_two e f (further (further m)) = no_member m
+
+names_differ : (i j : ℕ) → i ≢ j → ¬ (◌≡◌ {A = Name} (i ∷ []) (j ∷ []))
+names_differ i j d e = d (ap first_byte e)
+
+z_is_bound : ¬ (Among z (typed_contexts (head_of add_up)))
+z_is_bound = member_of_two (names_differ 122 120 (omega arith)) (names_differ 122 121 (omega arith))
+
+seven : InRange (pos 7)
+seven = (grind arith, grind arith)
+
+sum_fires : Fires add_up (only (together (atom p (0 ∷ []) ∷ atom (int 3) (0 ∷ []) ∷ atom p (1 ∷ []) ∷ atom (int 4) (1 ∷ []) ∷ []))) (only (together (atom p (2 ∷ []) ∷ atom (int 7) (2 ∷ []) ∷ [])))
+sum_fires = record {
+  matches = record {
+    assignment = sums;
+    proper = record { links_differ = λ m n e. e; no_rule = λ q. tt; links_apart = λ q n. zero_not_one; root_is_free = λ q. refl };
+    guard = condition_and (binds z_is_bound (of_operation (of_context an_integer) (of_context an_integer) tt seven) an_integer) no_condition;
+    head = instance (leaf_and of_atom (leaf_and (of_typed (copied 3 0)) (leaf_and of_atom (leaf_and (of_typed (copied 4 1)) no_leaf)))) no_membrane;
+  };
+  body = instance (leaf_and of_atom (leaf_and (of_typed (copied 7 2)) no_leaf)) no_membrane;
+}
+
+pub sum_is_bound : SumIsBound
+sum_is_bound =
+    commits (tt, (tt, (tt, tt))) (linked_by refl)
+    (up_to (regrouped refl (linked_by refl)) (leaf (fires sum_fires) (linked_by refl) (linked_by refl)) (by_one_link (closed_by seven_apart refl) (linked_by refl) refl refl))
+
+-- ---- `{a. b. b :- c.}. {a, $p, @r} :- {$p, @r, @r}.`
+
+abbrev one_inside : Process → List Process → Process
+one_inside P rules =
+    let content : Process = pair P (pair nothing (pair (together (atom b [] ∷ [])) (pair (together rules) nothing))) in
+    pair nothing (pair (together (membrane content ∷ [])) (pair nothing (pair nothing nothing)))
+
+abbrev its_rules : Process
+its_rules = together (rule b_makes_c ∷ [])
+
+double_fires : Fires double_rules (one_inside (together (atom a [] ∷ [])) (its_rules ∷ [])) (one_inside nothing (its_rules ∷ its_rules ∷ []))
+double_fires = record {
+  matches = record {
+    assignment = assigned (λ n. n) (atom b []) (b_makes_c ∷ []);
+    proper = record { links_differ = λ m n e. e; no_rule = λ q. tt; links_apart = λ q n. zero_not_one; root_is_free = λ q. refl };
+    guard = no_condition;
+    head = instance no_leaf (membrane_and (instance (leaf_and of_atom no_leaf) no_membrane) no_membrane);
+  };
+  body = instance no_leaf (membrane_and (instance no_leaf no_membrane) no_membrane);
+}
+
+pub rules_are_copied : RulesAreCopied
+rules_are_copied =
+    commits ((tt, (tt, (tt, tt))), (tt, tt)) (linked_by refl)
+    (up_to (regrouped refl (linked_by refl)) (leaf (fires double_fires) (linked_by refl) (linked_by refl)) (regrouped refl (linked_by refl)))
+
+pub quotients_and_remainders : QuotientsAndRemainders
+quotients_and_remainders = (refl, refl, refl, refl)
+
+-- ---- missing values
+
+too_great : (n : ℕ) → ¬ (pos n <ℤ pos n)
+too_great n = grind arith
+
+no_least_quotient : (t : Assignment) (n : ℤ) → ¬ (Value t (operation over least (number (negsuc 0))) n)
+no_least_quotient t n (of_operation of_number of_number d r) = too_great (2 ^ 63) r.1
+
+minus_one : negsuc 0 ≢ pos 0
+minus_one = grind arith
+
+pub least_by_minus_one : LeastByMinusOne
+least_by_minus_one t = (no_least_quotient t, of_operation of_number of_number minus_one (grind arith, grind arith))
+
+no_quotient : (t : Assignment) (e : Expression) (n : ℤ) → ¬ (Value t (operation over e (number (pos 0))) n)
+no_quotient t e n (of_operation v of_number d r) = d refl
+
+no_remainder : (t : Assignment) (e : Expression) (n : ℤ) → ¬ (Value t (operation modulo e (number (pos 0))) n)
+no_remainder t e n (of_operation v of_number d r) = d refl
+
+pub nothing_by_zero : NothingByZero
+nothing_by_zero t e n = (no_quotient t e n, no_remainder t e n)
+
+-- ---- `a(X,X). a(X,Y) :- X=Y.`
+
+tie_fires : Fires tie_ends (only (together (atom a (0 ∷ 1 ∷ []) ∷ []))) (only (together (connector 0 1 ∷ [])))
+tie_fires = record {
+  matches = record {
+    assignment = assigned (λ n. n) nothing [];
+    proper = record { links_differ = λ m n e. e; no_rule = λ q. tt; links_apart = λ q n. zero_not_one; root_is_free = λ q. refl };
+    guard = no_condition;
+    head = instance (leaf_and of_atom no_leaf) no_membrane;
+  };
+  body = instance (leaf_and of_connector no_leaf) no_membrane;
+}
+
+-- `a(X,Y)` or `X=Y` beside the rule, and `X=Y`
+abbrev tied : Process → Process
+tied P = pair (pair (only (together (P ∷ []))) (rule tie_ends)) (connector 0 1)
+
+tie_step : Step (tied (atom a (0 ∷ 1 ∷ []))) (tied (connector 0 1))
+tie_step = derived_beside (leaf (fires tie_fires) (linked_by refl) (linked_by refl)) (linked_by refl) (linked_by refl)
+
+pub loop_is_left : LoopIsLeft
+loop_is_left =
+    commits (tt, tt) (linked_by refl)
+    (up_to (back (by_one_link (closed_by (tied (atom a (0 ∷ 1 ∷ []))) refl) (linked_by refl) refl refl)) tie_step
+    (by_one_link (closed_by (tied (connector 0 1)) refl) (linked_by refl) refl refl))
+
+-- ---- `{{a(X)}, b(X)}. {{$p}, $q} :- $p, $q.`
+
+shared : Assignment
+shared = record {
+  link_of = λ n. suc n;
+  context_of = λ q. cond (eqb (first_byte q) 112) (atom a (0 ∷ [])) (cond (eqb (first_byte q) 113) (atom b (0 ∷ [])) nothing);
+  rules_of = λ q. [];
+  typed_of = λ q. record { process = atom a (0 ∷ []); root = 0 };
+}
+
+open_fires : Fires open_both
+    (pair nothing (pair (together (membrane (pair nothing (pair (together (membrane (pair nothing (pair nothing (pair (together (atom a (0 ∷ []) ∷ [])) (pair nothing nothing)))) ∷ [])) (pair (together (atom b (0 ∷ []) ∷ [])) (pair nothing nothing)))) ∷ [])) (pair nothing (pair nothing nothing))))
+    (pair nothing (pair nothing (pair (together (atom a (0 ∷ []) ∷ atom b (0 ∷ []) ∷ [])) (pair nothing nothing))))
+unfolding shared
+open_fires = record {
+  matches = record {
+    assignment = shared;
+    proper = record { links_differ = λ m n e. omega (arith, e); no_rule = λ q. no_rule_in (eqb (first_byte q) 112) (eqb (first_byte q) 113); links_apart = λ q n. not_free (eqb (first_byte q) 112) (eqb (first_byte q) 113) n; root_is_free = λ q. refl };
+    guard = no_condition;
+    head = instance no_leaf (membrane_and (instance no_leaf (membrane_and (instance no_leaf no_membrane) no_membrane)) no_membrane);
+  };
+  body = instance no_leaf no_membrane;
+}
+  where
+    no_rule_in : (i j : Bool) → NoRuleAtTop (cond i (atom a (0 ∷ [])) (cond j (atom b (0 ∷ [])) nothing))
+    no_rule_in true j = tt
+    no_rule_in false true = tt
+    no_rule_in false false = tt
+
+    not_free : (i j : Bool) (n : ℕ) → ¬ (Free (suc n) (cond i (atom a (0 ∷ [])) (cond j (atom b (0 ∷ [])) nothing)))
+    not_free true j n e = grind (arith, e)
+    not_free false true n e = grind (arith, e)
+    not_free false false n e = zero_not_one e
+
+pub link_is_shared : LinkIsShared
+link_is_shared =
+    commits (tt, (tt, (tt, tt))) (linked_by refl)
+    (up_to (regrouped refl (linked_by refl)) (leaf (fires open_fires) (linked_by refl) (linked_by refl)) (regrouped refl (linked_by refl)))
+
+-- ---- `a(X), b(X,Y,Y). a($x) :- ground($x) | a($x,$x).`
+
+-- `b(X,Y,Y)` from the link X on
+abbrev pub looped : Rooted
+looped = record { process = atom b (0 ∷ 9 ∷ 9 ∷ []); root = 0 }
+
+pub looped_ground : IsGround looped
+looped_ground = record { only_atoms = tt; root_is_free = refl; nothing_else_free = once; connected = joined_to }
+  where
+    once : (x : ℕ) → Free x looped.process → x ≡ 0
+    once x h = grind (arith, h)
+
+    joined_to : {l : Label} {xs : List ℕ} → Among {A = Label × List ℕ} (l, xs) ((b, 0 ∷ 9 ∷ 9 ∷ []) ∷ []) → (x : ℕ) × (Among x xs) × Reached looped x
+    joined_to at_head = (0, at_head, the_root)
+    joined_to (further m) = elim m [ ]
+
+looped_copy : (x y : ℕ) → x ≢ y → IsCopy looped x (atom b (x ∷ y ∷ y ∷ []))
+looped_copy x y d = record { to = λ n. cond (eqb n 0) x y; one_to_one = differ; root = refl; is = refl }
+  where
+    differ : OneToOneOn (λ n. cond (eqb n 0) x y) looped.process
+    differ i j o p e = grind (arith, o, p, e, d)
+
+double_part_fires : Fires double_part (only (together (atom a (0 ∷ []) ∷ atom b (0 ∷ 1 ∷ 1 ∷ []) ∷ []))) (only (together (atom a (1 ∷ 2 ∷ []) ∷ atom b (1 ∷ 3 ∷ 3 ∷ []) ∷ atom b (2 ∷ 4 ∷ 4 ∷ []) ∷ [])))
+double_part_fires = record {
+  matches = record {
+    assignment = record { link_of = λ n. n; context_of = λ q. nothing; rules_of = λ q. []; typed_of = λ q. looped };
+    proper = record { links_differ = λ m n e. e; no_rule = λ q. tt; links_apart = λ q n. zero_not_one; root_is_free = λ q. refl };
+    guard = condition_and (of_kind looped_ground) no_condition;
+    head = instance (leaf_and of_atom (leaf_and (of_typed (looped_copy 0 1 (omega arith))) no_leaf)) no_membrane;
+  };
+  body = instance (leaf_and of_atom (leaf_and (of_typed (looped_copy 1 3 (omega arith))) (leaf_and (of_typed (looped_copy 2 4 (omega arith))) no_leaf))) no_membrane;
+}
+
+pub part_is_copied : PartIsCopied
+part_is_copied =
+    commits (tt, (tt, (tt, (tt, tt)))) (linked_by refl)
+    (up_to (regrouped refl (linked_by refl)) (leaf (fires double_part_fires) (linked_by refl) (linked_by refl)) (regrouped refl (linked_by refl)))
+
+-- ---- rooted graphs
+
+abbrev labelled : Label → List ℕ → Label × List ℕ
+labelled l xs = (l, xs)
+
+letter : Label → ℕ
+letter (named (n ∷ ns)) = n
+letter (named []) = 0
+letter (integer z) = 0
+
+a_not_b : a ≢ b
+unfolding letter
+a_not_b e = 97_not_98 (ap letter e)
+  where
+    97_not_98 : ◌≢◌ {A = ℕ} 97 98
+    97_not_98 = omega arith
+
+same_links : (l m : Label) (xs ys : List ℕ) → labelled l xs ≡ labelled m ys → xs ≡ ys
+same_links l m xs ys e = ap (λ t. t.1) e
+
+same_label : (l m : Label) (xs ys : List ℕ) → labelled l xs ≡ labelled m ys → l ≡ m
+same_label l m xs ys e = ap (λ t. t.0) e
+
+straight_ground : IsGround straight
+straight_ground = record { only_atoms = (tt, tt); root_is_free = refl; nothing_else_free = root_alone; connected = joined_to }
+  where
+    root_alone : (x : ℕ) → Free x straight.process → x ≡ 0
+    root_alone x h = grind (arith, h)
+
+    joined_to : {l : Label} {xs : List ℕ} → Among (labelled l xs) (atoms_of straight.process) → (x : ℕ) × (Among x xs) × Reached straight x
+    joined_to at_head = (0, at_head, the_root)
+    joined_to (further at_head) = (1, at_head, across at_head at_head (further at_head) the_root)
+    joined_to (further (further m)) = elim m [ ]
+
+straight_is_turned : SameGraph straight turned_round
+straight_is_turned = record { to = λ n. cond (eqb n 0) 0 (3 + n); one_to_one = differ; roots = refl; atoms = more refl (more refl none here) (there here) }
+  where
+    differ : OneToOneOn (λ n. cond (eqb n 0) 0 (3 + n)) straight.process
+    differ i j o p e = grind (arith, e)
+
+straight_not_crossed : ¬ (SameGraph straight crossed)
+straight_not_crossed s = go s.to s.atoms
+  where
+    heads : {A : Type 0} {x y : A} {xs ys : List A} → x ∷ xs ≡ y ∷ ys → x ≡ y
+    heads e = cc e
+
+    tails : {A : Type 0} {x y : A} {xs ys : List A} → x ∷ xs ≡ y ∷ ys → xs ≡ ys
+    tails e = cc e
+
+    one_not_two : ◌≢◌ {A = ℕ} 1 2
+    one_not_two e = cc e
+
+    go : (to : ℕ → ℕ) → Shuffle (λ s t. labelled s.0 (map to s.1) ≡ t) (atoms_of straight.process) (atoms_of crossed.process) → ⊥
+    go to (more e (more d none here) here) =
+        one_not_two (sym (heads (tails (same_links a a (to 0 ∷ to 1 ∷ to 2 ∷ []) (0 ∷ 1 ∷ 2 ∷ []) e))) ∙ heads (same_links b b (to 1 ∷ to 2 ∷ []) (2 ∷ 1 ∷ []) d))
+    go to (more e (more d none here) (there here)) = a_not_b (same_label a b (to 0 ∷ to 1 ∷ to 2 ∷ []) (2 ∷ 1 ∷ []) e)
+
+pub ports_are_told : PortsAreTold
+ports_are_told = (straight_ground, straight_is_turned, straight_not_crossed)
+
+pub not_ground : NotGround
+not_ground = (
+  (λ g. two_not_zero (g.nothing_else_free 2 refl)),
+  (λ g. let u = g.connected (further at_head) in not_reached u.2 (of_loop u.1)),
+)
+  where
+    two_not_zero : ◌≢◌ {A = ℕ} 2 0
+    two_not_zero = omega arith
+
+    one_not_zero : ◌≢◌ {A = ℕ} 1 0
+    one_not_zero = omega arith
+
+    of_loop : {x : ℕ} → Among x (1 ∷ 1 ∷ []) → x ≡ 1
+    of_loop at_head = refl
+    of_loop (further at_head) = refl
+    of_loop (further (further m)) = elim m [ ]
+
+    root_atom : {x : ℕ} → Among x (0 ∷ []) → x ≡ 0
+    root_atom at_head = refl
+    root_atom (further m) = elim m [ ]
+
+    -- from the root nothing but the root is reached
+    not_reached : {x : ℕ} → Reached two_parts x → ¬ (x ≡ 1)
+    not_reached the_root e = one_not_zero (sym e)
+    not_reached (across at_head i j r) e = one_not_zero (sym e ∙ root_atom j)
+    not_reached (across (further at_head) i j r) e = not_reached r (of_loop i)
+    not_reached (across (further (further m)) i j r) e = elim m [ ]

@@ -1,0 +1,12 @@
+pub mod SettlingSteps
+pub mod SettledProcesses
+pub mod Merges
+pub mod SettledForms
+pub mod Plains
+pub mod OneSolid
+pub mod Derivations
+pub mod ExampleSteps
+pub mod Redexes
+pub mod Kept
+pub mod InnerLink
+pub mod Values

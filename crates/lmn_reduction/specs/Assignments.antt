@@ -1,0 +1,38 @@
+-- What the links and contexts of a rule stand for.
+use Rattle.std.specs.Prelude.{ℕ, ◌≡◌, List}
+use Rattle.lmn_congruence.specs.Process.{Process, nothing, connector, atom, pair, membrane, rule, Free}
+use Rattle.lmn_congruence.specs.Rules.{Name, Rule}
+use Rattle.lmn_reduction.specs.Parts.{Rooted}
+
+-- no rule stands in a process outside its membranes
+abbrev pub NoRuleAtTop : Process → Type 0
+NoRuleAtTop nothing = Unit {0}
+NoRuleAtTop (connector x y) = Unit {0}
+NoRuleAtTop (atom a xs) = Unit {0}
+NoRuleAtTop (pair P Q) = NoRuleAtTop P × NoRuleAtTop Q
+NoRuleAtTop (membrane P) = Unit {0}
+NoRuleAtTop (rule r) = ⊥
+
+-- What the parts of a rule stand for.
+--   link_of      each link of the rule: a link
+--   context_of   each untyped context: a process
+--   rules_of     each rule context: a list of rules
+--   typed_of     each typed context of the head: a process with its root; each context that the guard binds:
+--                the integer atom of arity 1 that stands for its integer
+-- The fields are total, and `Proper` asks its conditions of all numbers and names, also of those that the rule
+-- doesn't have. That costs nothing: a rule has finitely many links and contexts, so the other links can go above
+-- every link in use, the other untyped contexts to `0`, and the other typed ones to an atom of arity 1.
+pub record Assignment : Type 0 where
+  pub link_of : ℕ → ℕ
+  pub context_of : Name → Process
+  pub rules_of : Name → List Rule
+  pub typed_of : Name → Rooted
+
+-- Different links of the rule go to different links. An untyped context has no rule at its top, and none of
+-- its free links is given to a link of the rule. The root of a typed context is free in it. A link may be free
+-- in the processes of two contexts.
+pub record Proper (t : Assignment) : Type 0 where
+  pub links_differ : (x y : ℕ) → t.link_of x ≡ t.link_of y → x ≡ y
+  pub no_rule : (p : Name) → NoRuleAtTop (t.context_of p)
+  pub links_apart : (p : Name) (x : ℕ) → ¬ (Free (t.link_of x) (t.context_of p))
+  pub root_is_free : (p : Name) → Free (t.typed_of p).root (t.typed_of p).process

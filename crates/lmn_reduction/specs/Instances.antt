@@ -1,0 +1,48 @@
+-- The process that a level stands for.
+use Rattle.std.specs.Prelude.{ℕ, ◌≡◌, List, [], ◌∷◌, map}
+use Rattle.lmn_congruence.specs.Process.{Process, connector, atom, pair, membrane, rule, renamed, OneToOneOn, together}
+use Rattle.lmn_congruence.specs.Rules.{Name, Label, Leaf, atom_leaf, connector_leaf, typed_leaf, Level, level, Levels, no_level, level_and, Rules, rules_list}
+use Rattle.lmn_reduction.specs.Parts.{Rooted}
+use Rattle.lmn_reduction.specs.Assignments.{Assignment}
+
+-- P is a copy of g with the root x: its links renamed, different ones to different ones. Nothing more is asked
+-- of its other links: in a linked process they can be no link of anything beside the copy.
+pub record IsCopy (g : Rooted) (x : ℕ) (P : Process) : Type 0 where
+  pub to : ℕ → ℕ
+  pub one_to_one : OneToOneOn to g.process
+  pub root : to g.root ≡ x
+  pub is : P ≡ renamed to g.process
+
+-- What stands for a leaf. A copy belongs to the place where it is written: two places have two copies.
+pub data LeafInstance (t : Assignment) : Leaf → Process → Type 0 where
+  of_atom : {a : Label} {xs : List ℕ} → LeafInstance t (atom_leaf a xs) (atom a (map t.link_of xs))
+  of_connector : {x y : ℕ} → LeafInstance t (connector_leaf x y) (connector (t.link_of x) (t.link_of y))
+  of_typed : {p : Name} {x : ℕ} {P : Process} →
+      IsCopy (t.typed_of p) (t.link_of x) P → LeafInstance t (typed_leaf p x) P
+
+pub data LeafInstances (t : Assignment) : List Leaf → List Process → Type 0 where
+  no_leaf : LeafInstances t [] []
+  leaf_and : {l : Leaf} {ls : List Leaf} {P : Process} {Ps : List Process} →
+      LeafInstance t l P → LeafInstances t ls Ps → LeafInstances t (l ∷ ls) (P ∷ Ps)
+
+-- the rules of each rule context, in order
+abbrev pub rules_of_contexts : Assignment → List Name → List Process
+rules_of_contexts t [] = []
+rules_of_contexts t (r ∷ rs) = together (map rule (t.rules_of r)) ∷ rules_of_contexts t rs
+
+-- P is an instance of a level: the parallel pair, in this order, of what stands for its leaves, its membranes,
+-- its untyped contexts, its rule contexts and its rules. A membrane holds an instance of its level, and a
+-- nested rule is itself.
+mutual
+  pub data Instance (t : Assignment) : Level → Process → Type 0 where
+    instance : {leaves : List Leaf} {membranes : Levels} {contexts rule_contexts : List Name} {rules : Rules}
+        {Ps Qs : List Process} →
+        LeafInstances t leaves Ps → MembraneInstances t membranes Qs →
+        Instance t (level leaves membranes contexts rule_contexts rules)
+        (pair (together Ps) (pair (together Qs) (pair (together (map t.context_of contexts))
+        (pair (together (rules_of_contexts t rule_contexts)) (together (map rule (rules_list rules)))))))
+
+  pub data MembraneInstances (t : Assignment) : Levels → List Process → Type 0 where
+    no_membrane : MembraneInstances t no_level []
+    membrane_and : {l : Level} {ls : Levels} {P : Process} {Ps : List Process} →
+        Instance t l P → MembraneInstances t ls Ps → MembraneInstances t (level_and l ls) (membrane P ∷ Ps)

@@ -1,0 +1,12 @@
+pub mod Parts
+pub mod Assignments
+pub mod Instances
+pub mod Values
+pub mod Guards
+pub mod Firing
+pub mod Steps
+pub mod Commits
+pub mod Chains
+pub mod Redexes
+pub mod Examples
+pub mod Laws
