@@ -1,0 +1,286 @@
+-- An embedding gives its contexts the lists that they stand for, in their order.
+use Rattle.std.proofs.Common.{ℕ, List, map, refl, sym, subst, subst₂, inl, inr, ◌≡◌, ◌≢◌, ◌⊎◌, [], ◌∷◌, ◌++◌, ◌∙◌}
+use Rattle.lmn_congruence.specs.Orders.{Among, Shuffle, at_head, further}
+use Rattle.lmn_congruence.specs.Process.{Process, atom, connector, membrane, nothing, pair, rule, together}
+use Rattle.lmn_congruence.specs.Regions.{Region, Regions, SolidAtom, atom_process, no_region, region, region_and, region_process, regions_processes}
+use Rattle.lmn_congruence.specs.Rules.{Label, Leaf, Level, Levels, Name, Rule, Rules, head_of, level, level_and, no_rule}
+use Rattle.lmn_congruence.specs.UpToOrder.{Reordered}
+use Rattle.lmn_reduction.specs.Assignments.{Assignment, NoRuleAtTop}
+use Rattle.lmn_reduction.specs.Firing.{typed_contexts}
+use Rattle.lmn_reduction.specs.Instances.{rules_of_contexts}
+use Rattle.lmn_congruence.proofs.Counts.{same_or_not}
+use Rattle.lmn_congruence.proofs.Reordered.{SamePiece, itself, pieces, reordered_pieces}
+use Rattle.lmn_congruence.proofs.Shuffles.{shuffle_flip}
+use Rattle.lmn_adequacy.specs.Accepted.{Accepted, AtMostOne, EachLevel, EachOf, EachOnce, all_contexts, all_rule_contexts, contexts_in, membranes_of, own_contexts, own_rule_contexts, own_rules, rule_contexts_in}
+use Rattle.lmn_adequacy.specs.Embedding.{AtomImages, EmbedsAt, KeepsLinks, LevelImages, MembraneImages, Plain, TakenRegion, TypedParts, filling, image_and, level_images, membrane_image_and, no_image, no_membrane_image, no_part, no_part_of_atom, part_and, typed_later}
+use Rattle.lmn_adequacy.specs.Next.{Contents, EachLeft, EachLeftIn, EmbedsInOrder, LeftToContext, LeftToRuleContext, assignment_of, no_context, no_rule_context, one_context, one_rule_context}
+use Rattle.lmn_adequacy.proofs.Embedding.{same_guard}
+use Rattle.lmn_adequacy.proofs.InOrder.{literal_filling}
+use Rattle.lmn_adequacy.proofs.OneEmbedding.{same_head, same_tail}
+use Rattle.lmn_adequacy.proofs.Orders.{among_append, among_left, among_right, either}
+use Rattle.lmn_adequacy.proofs.RegionPieces.{pieces_of, region_pieces}
+use Rattle.lmn_adequacy.proofs.SameParts.{shuffle_among}
+
+-- ---- names
+
+name_or_not : (p q : Name) → (p ≡ q) ⊎ (p ≢ q)
+name_or_not [] [] = inl refl
+name_or_not [] (y ∷ q) = inr (λ e. absurd (apart y q e))
+  where
+    apart : (y : ℕ) (q : Name) → ¬ (◌≡◌ {A = List ℕ} [] (y ∷ q))
+    apart y q e = absurd (cc e)
+name_or_not (x ∷ p) [] = inr (λ e. absurd (apart x p e))
+  where
+    apart : (x : ℕ) (p : Name) → ¬ (◌≡◌ {A = List ℕ} (x ∷ p) [])
+    apart x p e = absurd (cc e)
+name_or_not (x ∷ p) (y ∷ q) = go (same_or_not x y) (name_or_not p q)
+  where
+    go : (x ≡ y) ⊎ (x ≢ y) → (p ≡ q) ⊎ (p ≢ q) → ((x ∷ p) ≡ (y ∷ q)) ⊎ ((x ∷ p) ≢ (y ∷ q))
+    go (inl e) (inl f) = inl (cc (e, f))
+    go (inr d) f = inr (λ h. d (same_head x y p q h))
+    go (inl e) (inr d) = inr (λ h. d (same_tail x y p q h))
+
+among_or_not : (p : Name) (ps : List Name) → Among p ps ⊎ (¬ (Among p ps))
+among_or_not p [] = inr (λ k. elim k [ ])
+among_or_not p (q ∷ ps) = go (name_or_not p q) (among_or_not p ps)
+  where
+    other : {p q : Name} {ps : List Name} → p ≢ q → ¬ (Among p ps) → ¬ (Among p (q ∷ ps))
+    other d n at_head = absurd (d refl)
+    other d n (further k) = n k
+
+    go : (p ≡ q) ⊎ (p ≢ q) → Among p ps ⊎ (¬ (Among p ps)) → Among p (q ∷ ps) ⊎ (¬ (Among p (q ∷ ps)))
+    go (inl e) i = inl (subst (λ w. Among p (w ∷ ps)) e at_head)
+    go (inr d) (inl k) = inl (further k)
+    go (inr d) (inr n) = inr (other d n)
+
+-- the first where a name is in a list, and else the second
+pick : {A : Type 0} → Name → List Name → A → A → A
+pick p ps a b = either (among_or_not p ps) (λ k. a) (λ n. b)
+
+pick_in : {A : Type 0} (p : Name) (ps : List Name) (a b : A) → Among p ps → pick p ps a b ≡ a
+unfolding pick
+pick_in p ps a b k = go (among_or_not p ps)
+  where
+    go : (s : Among p ps ⊎ (¬ (Among p ps))) → either s (λ k. a) (λ n. b) ≡ a
+    go (inl i) = refl
+    go (inr n) = absurd (n k)
+
+pick_out : {A : Type 0} (p : Name) (ps : List Name) (a b : A) → ¬ (Among p ps) → pick p ps a b ≡ b
+unfolding pick
+pick_out p ps a b n = go (among_or_not p ps)
+  where
+    go : (s : Among p ps ⊎ (¬ (Among p ps))) → either s (λ k. a) (λ n. b) ≡ b
+    go (inl i) = absurd (n i)
+    go (inr m) = refl
+
+once_left : {A : Type 0} (xs ys : List A) → EachOnce (xs ++ ys) → EachOnce xs
+once_left [] ys o = tt
+once_left (x ∷ xs) ys o = ((λ k. o.0 (among_left ys k)), once_left xs ys o.1)
+
+once_right : {A : Type 0} (xs ys : List A) → EachOnce (xs ++ ys) → EachOnce ys
+once_right [] ys o = o
+once_right (x ∷ xs) ys o = once_right xs ys o.1
+
+once_apart : {A : Type 0} {x : A} (xs ys : List A) → EachOnce (xs ++ ys) → Among x xs → ¬ (Among x ys)
+once_apart (x ∷ xs) ys o at_head = λ k. o.0 (among_right xs k)
+once_apart (x ∷ xs) ys o (further i) = once_apart xs ys o.1 i
+once_apart [] ys o i = elim i [ ]
+
+-- ---- what is left of a membrane without contexts
+
+no_rule_piece : (P : Process) (r : Rule) → NoRuleAtTop P → ¬ (Among (rule r) (pieces P))
+no_rule_piece nothing r n k = elim k [ ]
+no_rule_piece (connector x y) r n (further k) = elim k [ ]
+no_rule_piece (atom a xs) r n (further k) = elim k [ ]
+no_rule_piece (pair P Q) r n k = either (among_append (pieces P) (pieces Q) k) (no_rule_piece P r n.0) (no_rule_piece Q r n.1)
+no_rule_piece (membrane P) r n (further k) = elim k [ ]
+no_rule_piece (rule s) r n k = absurd n
+
+module _ (t : Assignment) (plain : Plain t) where
+  no_rule_contexts : (ps : List Name) → NoRuleAtTop (together (map t.context_of ps))
+  no_rule_contexts [] = tt
+  no_rule_contexts (p ∷ ps) = (plain.no_rule p, no_rule_contexts ps)
+
+  only_rules : (rs : List Rule) {P : Process} → Among P (pieces (together (map rule rs))) → (r : Rule) × (P ≡ rule r)
+  only_rules [] k = elim k [ ]
+  only_rules (r ∷ rs) at_head = (r, refl)
+  only_rules (r ∷ rs) (further k) = only_rules rs k
+
+  only_rule_contexts : (qs : List Name) {P : Process} → Among P (pieces (together (rules_of_contexts t qs))) → (r : Rule) × (P ≡ rule r)
+  only_rule_contexts [] k = elim k [ ]
+  only_rule_contexts (q ∷ qs) k = either (among_append (pieces (together (map rule (t.rules_of q)))) (pieces (together (rules_of_contexts t qs))) k) (only_rules (t.rules_of q)) (only_rule_contexts qs)
+
+  not_atom : {r : Rule} {P : Process} {a : Label} {xs : List ℕ} → P ≡ rule r → ¬ (SamePiece P (atom a xs))
+  not_atom {r} {P} {a} {xs} e s = go (subst (λ w. SamePiece w (atom a xs)) e s)
+    where
+      go : SamePiece (rule r) (atom a xs) → ⊥
+      go s = elim s [ ]
+
+  not_membrane : {r : Rule} {P Q : Process} → P ≡ rule r → ¬ (SamePiece P (membrane Q))
+  not_membrane {r} {P} {Q} e s = go (subst (λ w. SamePiece w (membrane Q)) e s)
+    where
+      go : SamePiece (rule r) (membrane Q) → ⊥
+      go s = elim s [ ]
+
+  nothing_but_rules : (qs : List Name) (xs : List SolidAtom) (ms : Regions) (rs : List Rule) → Reordered (filling t [] qs no_rule) (region_process (region xs ms rs)) → (xs ≡ []) × (ms ≡ no_region)
+  nothing_but_rules qs xs ms rs d = go xs ms (subst (Shuffle SamePiece (pieces (filling t [] qs no_rule))) (region_pieces (region xs ms rs)) (reordered_pieces d))
+    where
+      from_rules : {P : Process} → Among P (pieces (filling t [] qs no_rule)) → (r : Rule) × (P ≡ rule r)
+      from_rules k = either (among_append (pieces (together (rules_of_contexts t qs))) [] k) (only_rule_contexts qs) (λ i. elim i [ ])
+
+      go : (xs : List SolidAtom) (ms : Regions) → Shuffle SamePiece (pieces (filling t [] qs no_rule)) (pieces_of (region xs ms rs)) → (xs ≡ []) × (ms ≡ no_region)
+      go [] no_region s = (refl, refl)
+      go (x ∷ xs) ms s = let u = shuffle_among (shuffle_flip s) at_head in let r = from_rules u.1 in absurd (not_atom r.1 u.2)
+      go [] (region_and m ms) s = let u = shuffle_among (shuffle_flip s) at_head in let r = from_rules u.1 in absurd (not_membrane r.1 u.2)
+
+  no_rules_left : (ps : List Name) (xs : List SolidAtom) (ms : Regions) (rs : List Rule) → Reordered (filling t ps [] no_rule) (region_process (region xs ms rs)) → rs ≡ []
+  no_rules_left ps xs ms rs d = go rs (subst (Shuffle SamePiece (pieces (filling t ps [] no_rule))) (region_pieces (region xs ms rs)) (reordered_pieces d))
+    where
+      first_rule : (r : Rule) (rs : List Rule) → Among (rule r) (map rule (r ∷ rs))
+      first_rule r rs = at_head
+
+      same_rule_piece : {P : Process} {r : Rule} → SamePiece P (rule r) → rule r ≡ P
+      same_rule_piece itself = refl
+
+      go : (rs : List Rule) → Shuffle SamePiece (pieces (filling t ps [] no_rule)) (pieces_of (region xs ms rs)) → rs ≡ []
+      go [] s = refl
+      go (r ∷ rs) s =
+          let u = shuffle_among (shuffle_flip s) (among_right (map atom_process xs) (among_right (regions_processes ms) (first_rule r rs))) in
+          absurd (no_rule_piece (filling t ps [] no_rule) r (no_rule_contexts ps, (tt, tt)) (subst (λ w. Among w (pieces (filling t ps [] no_rule))) (sym (same_rule_piece u.2)) u.1))
+
+-- ---- images with literal contents
+
+abbrev pub contents_with : Assignment → (Name → List SolidAtom) → (Name → Regions) → (Name → List Rule) → Contents
+contents_with t A M R = record { link_of = t.link_of; atoms_of = A; membranes_of = M; rules_of = R; typed_of = t.typed_of }
+
+abbrev pub read_as : Assignment → (Name → List SolidAtom) → (Name → Regions) → (Name → List Rule) → Assignment
+read_as t A M R = assignment_of (contents_with t A M R)
+
+module _ (t : Assignment) (plain : Plain t) where
+  images_read : (A : Name → List SolidAtom) (M : Name → Regions) (R : Name → List Rule) {ls : List Leaf} {ns : List ℕ} {xs rest : List SolidAtom} → AtomImages t ls ns xs rest → AtomImages (read_as t A M R) ls ns xs rest
+  images_read A M R no_image = no_image
+  images_read A M R (image_and k i) = image_and k (images_read A M R i)
+  images_read A M R (typed_later i) = typed_later (images_read A M R i)
+
+  parts_read : (A : Name → List SolidAtom) (M : Name → Regions) (R : Name → List Rule) {ls : List Leaf} {xs rest : List SolidAtom} → TypedParts t ls xs rest → TypedParts (read_as t A M R) ls xs rest
+  parts_read A M R no_part = no_part
+  parts_read A M R (no_part_of_atom j) = no_part_of_atom (parts_read A M R j)
+  parts_read A M R (part_and g i m j) = part_and g i m (parts_read A M R j)
+
+  pub record LiteralLevel (l : Level) (ns : List ℕ) (m rest : Region) : Type 0 where
+    pub atoms : Name → List SolidAtom
+    pub membranes : Name → Regions
+    pub rule_lists : Name → List Rule
+    pub holds : (A : Name → List SolidAtom) (M : Name → Regions) (R : Name → List Rule) → ((p : Name) → Among p (contexts_in (membranes_of l)) → (A p ≡ atoms p) × (M p ≡ membranes p))
+        → ((q : Name) → Among q (rule_contexts_in (membranes_of l)) → R q ≡ rule_lists q) → (i : LevelImages (read_as t A M R) l ns m rest) × EachLeft (contents_with t A M R) i
+
+  pub record LiteralLevels (ls : Levels) (ns : List ℕ) (ms rest : Regions) : Type 0 where
+    pub atoms : Name → List SolidAtom
+    pub membranes : Name → Regions
+    pub rule_lists : Name → List Rule
+    pub holds : (A : Name → List SolidAtom) (M : Name → Regions) (R : Name → List Rule) → ((p : Name) → Among p (contexts_in ls) → (A p ≡ atoms p) × (M p ≡ membranes p))
+        → ((q : Name) → Among q (rule_contexts_in ls) → R q ≡ rule_lists q) → (i : MembraneImages (read_as t A M R) ls ns ms rest) × EachLeftIn (contents_with t A M R) i
+
+  left_context : (c : Contents) (ps : List Name) (xs : List SolidAtom) (ms : Regions) → AtMostOne ps → (ps ≡ [] → (xs ≡ []) × (ms ≡ no_region)) → ((p : Name) → Among p ps → (c.atoms_of p ≡ xs) × (c.membranes_of p ≡ ms)) → LeftToContext c ps xs ms
+  left_context c [] xs ms a e h = let u = e refl in subst₂ (LeftToContext c []) (sym u.0) (sym u.1) no_context
+  left_context c (p ∷ []) xs ms a e h = let u = h p at_head in subst₂ (LeftToContext c (p ∷ [])) u.0 u.1 one_context
+  left_context c (p ∷ (q ∷ ps)) xs ms a e h = absurd a
+
+  left_rule_context : (c : Contents) (qs : List Name) (rs : List Rule) → AtMostOne qs → (qs ≡ [] → rs ≡ []) → ((q : Name) → Among q qs → c.rules_of q ≡ rs) → LeftToRuleContext c qs rs
+  left_rule_context c [] rs a e h = subst (LeftToRuleContext c []) (sym (e refl)) no_rule_context
+  left_rule_context c (q ∷ []) rs a e h = subst (LeftToRuleContext c (q ∷ [])) (h q at_head) one_rule_context
+  left_rule_context c (q ∷ (q' ∷ qs)) rs a e h = absurd a
+
+  membrane_literal : (leaves : List Leaf) (membranes ls : Levels) (ps qs : List Name) (n : ℕ) (ns os : List ℕ) (m : Region) (xs : List SolidAtom) (us : Regions) (rs : List Rule) (ms ms' ms'' : Regions)
+      → TakenRegion n m ms ms' → LiteralLevel (level leaves membranes ps qs no_rule) ns m (region xs us rs) → KeepsLinks t (level leaves membranes ps qs no_rule) m → Reordered (filling t ps qs no_rule) (region_process (region xs us rs))
+      → LiteralLevels ls os ms' ms'' → AtMostOne ps → AtMostOne qs → EachOnce ((ps ++ contexts_in membranes) ++ contexts_in ls) → EachOnce ((qs ++ rule_contexts_in membranes) ++ rule_contexts_in ls)
+      → LiteralLevels (level_and (level leaves membranes ps qs no_rule) ls) (n ∷ (ns ++ os)) ms ms''
+  membrane_literal leaves membranes ls ps qs n ns os m xs us rs ms ms' ms'' k u kl d v one_p one_q once once' =
+      let P = ps ++ contexts_in membranes in
+      let Q = qs ++ rule_contexts_in membranes in
+      record {
+        atoms = λ p. pick p ps xs (pick p (contexts_in membranes) (u.atoms p) (v.atoms p));
+        membranes = λ p. pick p ps us (pick p (contexts_in membranes) (u.membranes p) (v.membranes p));
+        rule_lists = λ q. pick q qs rs (pick q (rule_contexts_in membranes) (u.rule_lists q) (v.rule_lists q));
+        holds = λ A M R h h'.
+            let c = contents_with t A M R in
+            let a = u.holds A M R
+            (λ p i. let e = h p (among_left (contexts_in ls) (among_right ps i)) in let o = not_first ps (contexts_in membranes) (once_left P (contexts_in ls) once) i in
+            (e.0 ∙ pick_out p ps xs _ o ∙ pick_in p (contexts_in membranes) (u.atoms p) (v.atoms p) i, e.1 ∙ pick_out p ps us _ o ∙ pick_in p (contexts_in membranes) (u.membranes p) (v.membranes p) i))
+            (λ q i. let e = h' q (among_left (rule_contexts_in ls) (among_right qs i)) in let o = not_first qs (rule_contexts_in membranes) (once_left Q (rule_contexts_in ls) once') i in
+            e ∙ pick_out q qs rs _ o ∙ pick_in q (rule_contexts_in membranes) (u.rule_lists q) (v.rule_lists q) i) in
+            let b = v.holds A M R
+            (λ p i. let e = h p (among_right P i) in let o = not_first P (contexts_in ls) once i in (
+              e.0 ∙ pick_out p ps xs _ (λ j. o (among_left (contexts_in membranes) j)) ∙ pick_out p (contexts_in membranes) (u.atoms p) (v.atoms p) (λ j. o (among_right ps j)),
+              e.1 ∙ pick_out p ps us _ (λ j. o (among_left (contexts_in membranes) j)) ∙ pick_out p (contexts_in membranes) (u.membranes p) (v.membranes p) (λ j. o (among_right ps j)),
+            ))
+            (λ q i. let e = h' q (among_right Q i) in let o = not_first Q (rule_contexts_in ls) once' i in
+            e ∙ pick_out q qs rs _ (λ j. o (among_left (rule_contexts_in membranes) j)) ∙ pick_out q (rule_contexts_in membranes) (u.rule_lists q) (v.rule_lists q) (λ j. o (among_right qs j))) in
+            let x : LeftToContext c ps xs us = left_context c ps xs us one_p
+            (λ e. nothing_but_rules t plain qs xs us rs (subst (λ w. Reordered (filling t w qs no_rule) (region_process (region xs us rs))) e d))
+            (λ p i. let e = h p (among_left (contexts_in ls) (among_left (contexts_in membranes) i)) in (e.0 ∙ pick_in p ps xs _ i, e.1 ∙ pick_in p ps us _ i)) in
+            let y : LeftToRuleContext c qs rs = left_rule_context c qs rs one_q
+            (λ e. no_rules_left t plain ps xs us rs (subst (λ w. Reordered (filling t ps w no_rule) (region_process (region xs us rs))) e d))
+            (λ q i. h' q (among_left (rule_contexts_in ls) (among_left (rule_contexts_in membranes) i)) ∙ pick_in q qs rs _ i) in
+            (membrane_image_and k a.0 (record { as_often = kl.as_often }) (literal_filling c x y) b.0, ((x, y), a.1, b.1));
+      }
+    where
+      not_first : {p : Name} (ps qs : List Name) → EachOnce (ps ++ qs) → Among p qs → ¬ (Among p ps)
+      not_first ps qs o i = λ j. once_apart ps qs o j i
+
+  membrane_step : (leaves : List Leaf) (membranes ls : Levels) (ps qs : List Name) (rules : Rules) (n : ℕ) (ns os : List ℕ) (m rest : Region) (ms ms' ms'' : Regions) → rules ≡ no_rule
+      → TakenRegion n m ms ms' → LiteralLevel (level leaves membranes ps qs rules) ns m rest → KeepsLinks t (level leaves membranes ps qs rules) m → Reordered (filling t ps qs rules) (region_process rest)
+      → LiteralLevels ls os ms' ms'' → AtMostOne ps → AtMostOne qs → EachOnce ((ps ++ contexts_in membranes) ++ contexts_in ls) → EachOnce ((qs ++ rule_contexts_in membranes) ++ rule_contexts_in ls)
+      → LiteralLevels (level_and (level leaves membranes ps qs rules) ls) (n ∷ (ns ++ os)) ms ms''
+  membrane_step leaves membranes ls ps qs rules n ns os m (region xs us rs) ms ms' ms'' e k u kl d v a b o o' =
+      subst (λ w. LiteralLevels (level_and (level leaves membranes ps qs w) ls) (n ∷ (ns ++ os)) ms ms'') (sym e)
+      (membrane_literal leaves membranes ls ps qs n ns os m xs us rs ms ms' ms'' k (subst (λ w. LiteralLevel (level leaves membranes ps qs w) ns m (region xs us rs)) e u) (subst (λ w. KeepsLinks t (level leaves membranes ps qs w) m) e kl)
+      (subst (λ w. Reordered (filling t ps qs w) (region_process (region xs us rs))) e d) v a b o o')
+
+  abbrev Few : Levels → Type 0
+  Few ls = EachOf (λ l. AtMostOne (own_contexts l) × AtMostOne (own_rule_contexts l)) ls
+
+  abbrev NoRules : Levels → Type 0
+  NoRules ls = EachOf (λ l. own_rules l ≡ no_rule) ls
+
+  mutual
+    pub level_literal : {l : Level} {ns : List ℕ} {m rest : Region} → LevelImages t l ns m rest → Few (membranes_of l) → NoRules (membranes_of l) → EachOnce (contexts_in (membranes_of l)) → EachOnce (rule_contexts_in (membranes_of l)) → LiteralLevel l ns m rest
+    level_literal (level_images i j k) few rules once once' =
+        let u = membranes_literal k few rules once once' in
+        record {
+          atoms = u.atoms;
+          membranes = u.membranes;
+          rule_lists = u.rule_lists;
+          holds = λ A M R h h'. let a = u.holds A M R h h' in (level_images (images_read A M R i) (parts_read A M R j) a.0, a.1);
+        }
+
+    pub membranes_literal : {ls : Levels} {ns : List ℕ} {ms rest : Regions} → MembraneImages t ls ns ms rest → Few ls → NoRules ls → EachOnce (contexts_in ls) → EachOnce (rule_contexts_in ls) → LiteralLevels ls ns ms rest
+    membranes_literal no_membrane_image few rules once once' = record { atoms = λ p. []; membranes = λ p. no_region; rule_lists = λ q. []; holds = λ A M R h h'. (no_membrane_image, tt) }
+    membranes_literal (membrane_image_and {leaves = leaves} {membranes = membranes} {ls = ls} {contexts = ps} {rule_contexts = qs} {rules = rules} {n = n} {ns = ns} {ns' = os} {m = m} {rest = rest} {ms = ms} {ms' = ms'} {ms'' = ms''} k i kl d v) few no_rules once once' =
+        let P = ps ++ contexts_in membranes in
+        let Q = qs ++ rule_contexts_in membranes in
+        let u = level_literal i few.0.1 no_rules.0.1 (once_right ps (contexts_in membranes) (once_left P (contexts_in ls) once)) (once_right qs (rule_contexts_in membranes) (once_left Q (rule_contexts_in ls) once')) in
+        let w = membranes_literal v few.1 no_rules.1 (once_right P (contexts_in ls) once) (once_right Q (rule_contexts_in ls) once') in
+        membrane_step leaves membranes ls ps qs rules n ns os m rest ms ms' ms'' no_rules.0.0 k u kl d w few.0.0.0 few.0.0.1 once once'
+
+inner_rules : (l : Level) → EachLevel (λ l. own_rules l ≡ no_rule) l → EachOf (λ l. own_rules l ≡ no_rule) (membranes_of l)
+inner_rules (level leaves membranes contexts rule_contexts rules) e = e.1
+
+inner_once : (l : Level) → EachOnce (all_contexts l) → EachOnce (all_rule_contexts l) → EachOnce (contexts_in (membranes_of l)) × EachOnce (rule_contexts_in (membranes_of l))
+inner_once (level leaves membranes ps qs rules) o o' = (once_right ps (contexts_in membranes) o, once_right qs (rule_contexts_in membranes) o')
+
+pub embeds_in_order : {r : Rule} {f : List ℕ} {m : Region} → Accepted r → EmbedsAt r f m → EmbedsInOrder r f m
+embeds_in_order {r} {f} {m} a e =
+    let t = e.assignment in
+    let o = inner_once (head_of r) a.once.0 a.once.1 in
+    let u = level_literal t e.plain e.images a.few (inner_rules (head_of r) a.no_rules) o.0 o.1 in
+    let i = u.holds u.atoms u.membranes u.rule_lists (λ p k. (refl, refl)) (λ q k. refl) in
+    let c = contents_with t u.atoms u.membranes u.rule_lists in
+    record {
+      contents = c;
+      rest = e.rest;
+      root_is_free = e.plain.root_is_free;
+      images = i.0;
+      left = i.1;
+      guard = same_guard t.link_of (assignment_of c).context_of u.rule_lists (typed_contexts (head_of r)) t e.guard;
+    }

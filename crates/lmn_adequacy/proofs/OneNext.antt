@@ -1,0 +1,271 @@
+-- For one rule and one list of positions the next solid is one, up to the numbers of links.
+use Rattle.std.proofs.Common.{ℕ, zero, suc, cond, eqb, List, map, refl, sym, ap, subst, subst₂, inl, inr, arith, ◌≡◌, ◌≢◌, ◌+◌, ◌≤◌, ◌⊎◌, [], ◌∷◌, ◌++◌, ◌∙◌}
+use Rattle.std.proofs.lemmas.List.{append_assoc}
+use Rattle.lmn_congruence.specs.LinkedRules.{leaves_occurrences, level_occurrences, levels_occurrences}
+use Rattle.lmn_congruence.specs.Links.{places}
+use Rattle.lmn_congruence.specs.Orders.{Among, at_head, further}
+use Rattle.lmn_congruence.specs.Plains.{leaf_process, level_process}
+use Rattle.lmn_congruence.specs.Process.{Closed, Free, Linked, Process, nothing, occurrences, pair, rule, together}
+use Rattle.lmn_congruence.specs.Regions.{Region, Regions, region, region_process}
+use Rattle.lmn_congruence.specs.Rules.{Leaf, Level, Levels, Name, Rule, atom_leaf, body_of, connector_leaf, head_of, level, level_and, no_level, no_rule, rules_list, typed_leaf}
+use Rattle.lmn_congruence.specs.Same.{IsRenamed}
+use Rattle.lmn_reduction.specs.Firing.{typed_contexts, typed_contexts_of, typed_leaves}
+use Rattle.lmn_reduction.specs.Parts.{SameGraph}
+use Rattle.lmn_congruence.proofs.Counts.{linked_as, linked_inside, linked_left, linked_right, none_if_apart, occurs_once, same_or_not}
+use Rattle.lmn_congruence.proofs.LinkMaps.{closed_linked}
+use Rattle.lmn_congruence.proofs.Reordered.{reordered_count}
+use Rattle.lmn_congruence.proofs.Shuffles.{shuffle_flip}
+use Rattle.lmn_adequacy.specs.Accepted.{Accepted, EachLevel, EachOf, NoConnectorLeaf, all_contexts, all_rule_contexts, contexts_in, leaves_of, membranes_of, own_contexts, own_rule_contexts, port_links, port_links_in, port_links_of, rule_contexts_in, typed_links, typed_links_in, typed_links_of}
+use Rattle.lmn_adequacy.specs.Embedding.{AllRules, LevelImages, TakenRegion, region_first, region_later}
+use Rattle.lmn_adequacy.specs.Next.{Contents, FiresInOrder, MadeLeaves, MadeLevel, MadeMembranes, NextAt, RawAt, assignment_of, context_atoms, context_membranes, context_rules, fires_below, fires_here, kept_atoms, kept_membranes, made_atom, made_atoms, made_connector, made_copy, made_level, made_membrane, no_made_leaf, no_made_membrane, of_rule, of_solid, raw_level, replaced, wire_leaves}
+use Rattle.lmn_adequacy.proofs.Accepting.{accepted_bare}
+use Rattle.lmn_adequacy.proofs.Bodies.{Whole}
+use Rattle.lmn_adequacy.proofs.Closing.{body_whole, head_whole}
+use Rattle.lmn_adequacy.proofs.Commits.{beside_nothing, closed_as, region_out}
+use Rattle.lmn_adequacy.proofs.Copies.{copies_moved, made_places, places_among}
+use Rattle.lmn_adequacy.proofs.Heads.{region_there, rule_there}
+use Rattle.lmn_adequacy.proofs.InOrder.{contents_plain, held, level_listed, listed, listed_both, together_both}
+use Rattle.lmn_adequacy.proofs.Moved.{Moved, MovedList, moved_append, moved_cons, moved_inside, moved_list_same, moved_pair, moved_same, moved_solid, moved_together}
+use Rattle.lmn_adequacy.proofs.OneEmbedding.{AgreeOn, SameContexts, SameRuleContexts, parts_same, ports_agree, region_one, taken_one}
+use Rattle.lmn_adequacy.proofs.OneGuard.{guard_one}
+use Rattle.lmn_adequacy.proofs.Orders.{among_left, among_right, either, taken_put}
+use Rattle.lmn_adequacy.proofs.SameParts.{shuffle_among}
+use Rattle.lmn_adequacy.proofs.Skeleton.{level_skeleton}
+
+-- ---- what the body makes
+
+maps_append : {A B : Type 0} (g : A → B) (xs ys : List A) → map g (xs ++ ys) ≡ map g xs ++ map g ys
+maps_append g [] ys = refl
+maps_append g (x ∷ xs) ys = ap (λ k. g x ∷ k) (maps_append g xs ys)
+
+linked_parts : {A : Type 0} (g : A → Process) (xs ys : List A) → Linked (together (map g (xs ++ ys))) → Linked (together (map g xs)) × Linked (together (map g ys))
+linked_parts g xs ys l =
+    let k : Linked (pair (together (map g xs)) (together (map g ys))) = linked_as (λ z. reordered_count (together_both g xs ys) z) l in
+    (linked_left k, linked_right k)
+
+-- two lists of things, moved one behind the other
+pub moved_both : {A : Type 0} (g : A → Process) (xs xs' ys ys' : List A) → MovedList (map g xs) (map g xs') → MovedList (map g ys) (map g ys') → Linked (together (map g (xs ++ ys))) → MovedList (map g (xs ++ ys)) (map g (xs' ++ ys'))
+moved_both g xs xs' ys ys' u v l =
+    let e = maps_append g xs ys in
+    let w = moved_append u v (subst (λ k. Linked (together k)) e l) in
+    subst₂ MovedList (sym e) (sym (maps_append g xs' ys')) w
+
+pub record LevelMoved (outs outs' : List Leaf) (ms ms' : List Level) (rs rs' : List Rule) : Type 0 where
+  pub leaves : MovedList (map leaf_process outs) (map leaf_process outs')
+  pub membranes : MovedList (map held ms) (map held ms')
+  pub rules : rs ≡ rs'
+
+pub listed_moved : {outs outs' : List Leaf} {ms ms' : List Level} {rs rs' : List Rule} → LevelMoved outs outs' ms ms' rs rs' → Linked (listed outs ms rs) → Moved (listed outs ms rs) (listed outs' ms' rs')
+listed_moved u l = moved_pair (moved_together u.leaves) (moved_pair (moved_together u.membranes) (moved_same (ap (λ k. together (map rule k)) u.rules)) (linked_right l)) l
+
+module _ (c d : Contents) (free : (p : Name) → Free (c.typed_of p).root (c.typed_of p).process) (free' : (p : Name) → Free (d.typed_of p).root (d.typed_of p).process) where
+  abbrev Known : List Name → Type 0
+  Known ps = (p : Name) → Among p ps → (Whole (c.typed_of p)) × SameGraph (c.typed_of p) (d.typed_of p)
+
+  leaves_moved : {ls outs outs' : List Leaf} → MadeLeaves c ls outs → MadeLeaves d ls outs' → Known (typed_leaves ls) → Linked (together (map leaf_process outs)) → Linked (together (map leaf_process outs')) → MovedList (map leaf_process outs) (map leaf_process outs')
+  leaves_moved no_made_leaf no_made_leaf k l l' = moved_list_same refl
+  leaves_moved (made_atom u) (made_atom v) k l l' = moved_cons (moved_same refl) (leaves_moved u v k (linked_right l) (linked_right l')) l
+  leaves_moved (made_connector u) (made_connector v) k l l' = moved_cons (moved_same refl) (leaves_moved u v k (linked_right l) (linked_right l')) l
+  leaves_moved (made_copy {p = p} {part = part} {outs = outs} i o u) (made_copy {part = part'} {outs = outs'} i' o' v) k l l' =
+      let a = linked_parts leaf_process (made_atoms part) outs l in
+      let b = linked_parts leaf_process (made_atoms part') outs' l' in
+      let e = k p at_head in
+      let m = copies_moved e.0 (free p) (free' p) i i' e.1 o o' (λ z. omega (arith, made_places z part', b.0.at_most_twice z)) in
+      moved_both leaf_process (made_atoms part) (made_atoms part') outs outs' m (leaves_moved u v (λ q x. k q (further x)) a.1 b.1) l
+
+  contexts_same : (ps : List Name) → SameContexts c d ps → (context_atoms c ps ≡ context_atoms d ps) × (context_membranes c ps ≡ context_membranes d ps)
+  contexts_same [] h = (refl, refl)
+  contexts_same (p ∷ ps) h =
+      let e = h p at_head in
+      let i = contexts_same ps (λ q k. h q (further k)) in
+      (cc (e.0, i.0), cc (e.1, i.1))
+
+  rules_same : (ps : List Name) → SameRuleContexts c d ps → context_rules c ps ≡ context_rules d ps
+  rules_same [] h = refl
+  rules_same (p ∷ ps) h = cc (h p at_head, rules_same ps (λ q k. h q (further k)))
+
+  mutual
+    pub level_moved : {l : Level} {outs outs' : List Leaf} {ms ms' : List Level} {rs rs' : List Rule} → MadeLevel c l outs ms rs → MadeLevel d l outs' ms' rs' → Known (typed_contexts l) → SameContexts c d (all_contexts l) → SameRuleContexts c d (all_rule_contexts l)
+        → Linked (listed outs ms rs) → Linked (listed outs' ms' rs') → LevelMoved outs outs' ms ms' rs rs'
+    level_moved (made_level {leaves = leaves} {outs = outs} {membranes = membranes} {made = ms} {contexts = ps} {rule_contexts = qs} {rules = rules} u v) (made_level {outs = outs'} {made = ms'} u' v') k h h' l l' =
+        let a = linked_parts leaf_process outs (kept_atoms (context_atoms c ps)) (linked_left l) in
+        let b = linked_parts leaf_process outs' (kept_atoms (context_atoms d ps)) (linked_left l') in
+        let e = linked_parts held ms (context_membranes c ps) (linked_left (linked_right l)) in
+        let f = linked_parts held ms' (context_membranes d ps) (linked_left (linked_right l')) in
+        let w = contexts_same ps (λ q x. h q (among_left (contexts_in membranes) x)) in
+        record {
+          leaves = moved_both leaf_process outs outs' (kept_atoms (context_atoms c ps)) (kept_atoms (context_atoms d ps)) (leaves_moved u u' (λ q x. k q (among_left (typed_contexts_of membranes) x)) a.0 b.0) (moved_list_same (ap (λ x. map leaf_process (kept_atoms x)) w.0)) (linked_left l);
+          membranes = moved_both held ms ms' (context_membranes c ps) (context_membranes d ps) (membranes_moved v v' (λ q x. k q (among_right (typed_leaves leaves) x)) (λ q x. h q (among_right ps x)) (λ q x. h' q (among_right qs x)) e.0 f.0) (moved_list_same (ap (map held) w.1)) (linked_left (linked_right l));
+          rules = ap (λ x. rules_list rules ++ x) (rules_same qs (λ q x. h' q (among_left (rule_contexts_in membranes) x)));
+        }
+
+    pub membranes_moved : {ls : Levels} {ms ms' : List Level} → MadeMembranes c ls ms → MadeMembranes d ls ms' → Known (typed_contexts_of ls) → SameContexts c d (contexts_in ls) → SameRuleContexts c d (rule_contexts_in ls)
+        → Linked (together (map held ms)) → Linked (together (map held ms')) → MovedList (map held ms) (map held ms')
+    membranes_moved no_made_membrane no_made_membrane k h h' l l' = moved_list_same refl
+    membranes_moved (made_membrane {l = x} {ls = xs} {outs = outs} {inner = inner} {rs = rs} u v) (made_membrane {outs = outs'} {inner = inner'} {rs = rs'} u' v') k h h' l l' =
+        let e = level_listed outs inner rs in
+        let e' = level_listed outs' inner' rs' in
+        let a : Linked (listed outs inner rs) = subst Linked e (linked_inside (linked_left l)) in
+        let a' : Linked (listed outs' inner' rs') = subst Linked e' (linked_inside (linked_left l')) in
+        let m = level_moved u u' (λ q y. k q (among_left (typed_contexts_of xs) y)) (λ q y. h q (among_left (contexts_in xs) y)) (λ q y. h' q (among_left (rule_contexts_in xs) y)) a a' in
+        let m' = subst₂ Moved (sym e) (sym e') (listed_moved m a) in
+        moved_cons (moved_inside m') (membranes_moved v v' (λ q y. k q (among_right (typed_contexts x) y)) (λ q y. h q (among_right (all_contexts x) y)) (λ q y. h' q (among_right (all_rule_contexts x) y)) (linked_right l) (linked_right l')) l
+
+-- ---- the connectors of the head's links
+
+-- a link of a head stands at a port, or a typed context is written with it
+leaves_links : (x : ℕ) (ls : List Leaf) → NoConnectorLeaf ls → leaves_occurrences x ls ≢ 0 → Among x (port_links_of ls) ⊎ Among x (typed_links_of ls)
+leaves_links x [] n o = absurd (o refl)
+leaves_links x (atom_leaf a ys ∷ ls) n o = go (same_or_not (places x ys) 0) (leaves_links x ls n)
+  where
+    in_other : (m k : ℕ) → m ≡ 0 → m + k ≢ 0 → k ≢ 0
+    in_other m k e d = grind arith
+
+    go : (places x ys ≡ 0) ⊎ (places x ys ≢ 0) → (leaves_occurrences x ls ≢ 0 → Among x (port_links_of ls) ⊎ Among x (typed_links_of ls)) → Among x (ys ++ port_links_of ls) ⊎ Among x (typed_links_of ls)
+    go (inl e) i = either (i (in_other (places x ys) (leaves_occurrences x ls) e o)) (λ k. inl (among_right ys k)) (λ k. inr k)
+    go (inr d) i = inl (among_left (port_links_of ls) (places_among x ys d))
+leaves_links x (connector_leaf y z ∷ ls) n o = absurd n
+leaves_links x (typed_leaf p y ∷ ls) n o = go (same_or_not x y) (leaves_links x ls n)
+  where
+    not_here : x ≢ y → leaves_occurrences x ls ≢ 0
+    not_here d e = o (omega (arith, none_if_apart x y d, e))
+
+    go : (x ≡ y) ⊎ (x ≢ y) → (leaves_occurrences x ls ≢ 0 → Among x (port_links_of ls) ⊎ Among x (typed_links_of ls)) → Among x (port_links_of ls) ⊎ Among x (y ∷ typed_links_of ls)
+    go (inl e) i = inr (subst (λ k. Among x (k ∷ typed_links_of ls)) e at_head)
+    go (inr d) i = either (i (not_here d)) (λ k. inl k) (λ k. inr (further k))
+
+split_sum : (m n : ℕ) → m + n ≢ 0 → (m ≢ 0) ⊎ (n ≢ 0)
+split_sum m n d = grind arith
+
+mutual
+  level_links : (x : ℕ) (l : Level) → EachLevel (λ l. NoConnectorLeaf (leaves_of l)) l → level_occurrences x l ≢ 0 → Among x (port_links l) ⊎ Among x (typed_links l)
+  level_links x (level leaves membranes contexts rule_contexts rules) n o =
+      either (split_sum (leaves_occurrences x leaves) (levels_occurrences x membranes) o)
+      (λ k. either (leaves_links x leaves n.0 k) (λ w. inl (among_left (port_links_in membranes) w)) (λ w. inr (among_left (typed_links_in membranes) w)))
+      (λ k. either (levels_links x membranes n.1 k) (λ w. inl (among_right (port_links_of leaves) w)) (λ w. inr (among_right (typed_links_of leaves) w)))
+
+  levels_links : (x : ℕ) (ls : Levels) → EachOf (λ l. NoConnectorLeaf (leaves_of l)) ls → levels_occurrences x ls ≢ 0 → Among x (port_links_in ls) ⊎ Among x (typed_links_in ls)
+  levels_links x no_level n o = absurd (o refl)
+  levels_links x (level_and l ls) n o =
+      either (split_sum (level_occurrences x l) (levels_occurrences x ls) o)
+      (λ k. either (level_links x l n.0 k) (λ w. inl (among_left (port_links_in ls) w)) (λ w. inr (among_left (typed_links_in ls) w)))
+      (λ k. either (levels_links x ls n.1 k) (λ w. inl (among_right (port_links l) w)) (λ w. inr (among_right (typed_links l) w)))
+
+wires_agree : (f g : ℕ → ℕ) (l : Level) (n : ℕ) → ((x : ℕ) → level_occurrences x l ≡ 1 → f x ≡ g x) → wire_leaves f l n ≡ wire_leaves g l n
+wires_agree f g l zero h = refl
+wires_agree f g l (suc n) h = with_it (level_occurrences n l) (h n) (wires_agree f g l n h)
+  where
+    with_it : (m : ℕ) → (m ≡ 1 → f n ≡ g n) → wire_leaves f l n ≡ wire_leaves g l n
+        → cond (eqb m 1) (connector_leaf (of_rule n) (of_solid (f n)) ∷ wire_leaves f l n) (wire_leaves f l n) ≡ cond (eqb m 1) (connector_leaf (of_rule n) (of_solid (g n)) ∷ wire_leaves g l n) (wire_leaves g l n)
+    with_it m k e = by_case (same_or_not m 1)
+      where
+        no : (m : ℕ) (A B : List Leaf) → m ≢ 1 → cond (eqb m 1) A B ≡ B
+        no m A B d = grind arith
+
+        one : (m : ℕ) (A B : List Leaf) → m ≡ 1 → cond (eqb m 1) A B ≡ A
+        one m A B d = grind arith
+
+        by_case : (m ≡ 1) ⊎ (m ≢ 1) → cond (eqb m 1) (connector_leaf (of_rule n) (of_solid (f n)) ∷ wire_leaves f l n) (wire_leaves f l n) ≡ cond (eqb m 1) (connector_leaf (of_rule n) (of_solid (g n)) ∷ wire_leaves g l n) (wire_leaves g l n)
+        by_case (inl q) = one m (connector_leaf (of_rule n) (of_solid (f n)) ∷ wire_leaves f l n) (wire_leaves f l n) q ∙ cc (k q, e) ∙ sym (one m (connector_leaf (of_rule n) (of_solid (g n)) ∷ wire_leaves g l n) (wire_leaves g l n) q)
+        by_case (inr d) = no m (connector_leaf (of_rule n) (of_solid (f n)) ∷ wire_leaves f l n) (wire_leaves f l n) d ∙ e ∙ sym (no m (connector_leaf (of_rule n) (of_solid (g n)) ∷ wire_leaves g l n) (wire_leaves g l n) d)
+
+wires_past : (f : ℕ → ℕ) (l : Level) (n m : ℕ) → n ≤ m → ((x : ℕ) → n ≤ x → level_occurrences x l ≡ 0) → wire_leaves f l m ≡ wire_leaves f l n
+wires_past f l n zero b h = let e : n ≡ 0 = omega arith in rw e refl
+wires_past f l n (suc m) b h = go (same_or_not n (suc m)) (λ c. wires_past f l n m c h)
+  where
+    no : (k : ℕ) (A B : List Leaf) → k ≡ 0 → cond (eqb k 1) A B ≡ B
+    no k A B d = grind arith
+
+    go : (n ≡ suc m) ⊎ (n ≢ suc m) → (n ≤ m → wire_leaves f l m ≡ wire_leaves f l n) → wire_leaves f l (suc m) ≡ wire_leaves f l n
+    go (inl e) i = rw e refl
+    go (inr d) i = let c : n ≤ m = omega arith in no (level_occurrences m l) (connector_leaf (of_rule m) (of_solid (f m)) ∷ wire_leaves f l m) (wire_leaves f l m) (h m c) ∙ i c
+
+wires_one : (f g : ℕ → ℕ) (l : Level) (n m : ℕ) → ((x : ℕ) → n ≤ x → level_occurrences x l ≡ 0) → ((x : ℕ) → m ≤ x → level_occurrences x l ≡ 0) → ((x : ℕ) → level_occurrences x l ≡ 1 → f x ≡ g x) → wire_leaves f l n ≡ wire_leaves g l m
+wires_one f g l n m h k e = sym (wires_past f l n (n + m) (omega arith) h) ∙ wires_agree f g l (n + m) e ∙ wires_past g l m (n + m) (omega arith) k
+
+-- ---- raw levels
+
+raw_moved : (rest : Region) (W outs outs' : List Leaf) (ms ms' : List Level) (rs rs' : List Rule) → Linked (level_process (raw_level rest W outs ms rs)) → (Linked (listed outs ms rs) → LevelMoved outs outs' ms ms' rs rs') → Moved (level_process (raw_level rest W outs ms rs)) (level_process (raw_level rest W outs' ms' rs'))
+raw_moved (region xs us ts) W outs outs' ms ms' rs rs' l h =
+    let e = level_listed (kept_atoms xs ++ (W ++ outs)) (kept_membranes us ++ ms) (ts ++ rs) in
+    let e' = level_listed (kept_atoms xs ++ (W ++ outs')) (kept_membranes us ++ ms') (ts ++ rs') in
+    let k : Linked (listed (kept_atoms xs ++ (W ++ outs)) (kept_membranes us ++ ms) (ts ++ rs)) = subst Linked e l in
+    let a = linked_parts leaf_process (kept_atoms xs) (W ++ outs) (linked_left k) in
+    let b = linked_parts leaf_process W outs a.1 in
+    let c = linked_parts held (kept_membranes us) ms (linked_left (linked_right k)) in
+    let i : Linked (pair (listed (kept_atoms xs ++ W) (kept_membranes us) ts) (listed outs ms rs)) = linked_as (λ z. reordered_count (listed_both (kept_atoms xs ++ W) outs (kept_membranes us) ms ts rs) z) (subst (λ v. Linked (listed v (kept_membranes us ++ ms) (ts ++ rs))) (sym (append_assoc (kept_atoms xs) W outs)) k) in
+    let m = h (linked_right i) in
+    let v = moved_both leaf_process (kept_atoms xs) (kept_atoms xs) (W ++ outs) (W ++ outs') (moved_list_same refl) (moved_both leaf_process W W outs outs' (moved_list_same refl) m.leaves a.1) (linked_left k) in
+    let w = moved_both held (kept_membranes us) (kept_membranes us) ms ms' (moved_list_same refl) m.membranes (linked_left (linked_right k)) in
+    subst₂ Moved (sym e) (sym e') (moved_pair (moved_together v) (moved_pair (moved_together w) (moved_same (ap (λ x. together (map rule (ts ++ x))) m.rules)) (linked_right k)) k)
+
+raw_linked : (rest : Region) (W outs : List Leaf) (ms : List Level) (rs : List Rule) → Linked (level_process (raw_level rest W outs ms rs)) → Linked (listed outs ms rs)
+raw_linked (region xs us ts) W outs ms rs l =
+    let e = level_listed (kept_atoms xs ++ (W ++ outs)) (kept_membranes us ++ ms) (ts ++ rs) in
+    let i : Linked (pair (listed (kept_atoms xs ++ W) (kept_membranes us) ts) (listed outs ms rs)) =
+    linked_as (λ z. reordered_count (listed_both (kept_atoms xs ++ W) outs (kept_membranes us) ms ts rs) z) (subst (λ v. Linked (listed v (kept_membranes us ++ ms) (ts ++ rs))) (sym (append_assoc (kept_atoms xs) W outs)) (subst Linked e l)) in
+    linked_right i
+
+pub names_split : (l : Level) → (all_contexts l ≡ own_contexts l ++ contexts_in (membranes_of l)) × (all_rule_contexts l ≡ own_rule_contexts l ++ rule_contexts_in (membranes_of l))
+names_split (level leaves membranes contexts rule_contexts rules) = (refl, refl)
+
+fires_one : {r : Rule} {f : List ℕ} {m : Region} {L L' : Level} → Accepted r → FiresInOrder r f m L → FiresInOrder r f m L' → (O : Process) → Closed (pair (region_process m) O) → Linked (level_process L) → Linked (level_process L') → Moved (level_process L) (level_process L')
+fires_one {r} {f} {m} {L} {L'} a F F' O closed l l' =
+    let e = F.at in
+    let e' = F'.at in
+    let c = e.contents in
+    let d = e'.contents in
+    let t = assignment_of c in
+    let s = assignment_of d in
+    let hd = head_of r in
+    let ports = ports_agree e.images e'.images refl {ks = []} {ks' = []} refl in
+    let typed_agree : AgreeOn t s (typed_links hd) = λ x k. ports.links x (a.held x k) in
+    let two : Linked (pair (region_process m) O) = closed_linked closed in
+    let same = parts_same t s c d e.images e'.images refl [] [] refl (λ z. occurrences z O) two.at_most_twice typed_agree (λ x k. inl (a.held x k)) e.left e'.left in
+    let w = wires_one c.link_of d.link_of hd F.bound F'.bound F.bounded F'.bounded (λ x o. either (level_links x hd a.no_connectors (occurs_once (level_occurrences x hd) o)) (λ k. ports.links x k) (λ k. typed_agree x k)) in
+    let b = accepted_bare r a in
+    let p = contents_plain c e.root_is_free in
+    let i : LevelImages t (level b.leaves b.membranes [] [] no_rule) f m e.rest = subst (λ k. LevelImages t k f m e.rest) b.is e.images in
+    let u = level_skeleton t p i in
+    let whole = head_whole r a t p e.guard b.leaves b.membranes b.is m e.rest u O closed in
+    let guards = guard_one t s (typed_contexts hd) a.in_turn e.guard e'.guard (λ q k. either k (λ j. same.same_typed q j) (λ j. elim j [ ])) in
+    let known : (q : Name) → Among q (typed_contexts (body_of r)) → (Whole (c.typed_of q)) × SameGraph (c.typed_of q) (d.typed_of q) = λ q k. (body_whole a t e.guard whole q k, either (a.known q k) (λ j. same.same_typed q j) (λ j. guards q j)) in
+    let contexts : SameContexts c d (all_contexts (body_of r)) = λ q k. let j = shuffle_among (shuffle_flip a.kept) k in subst (λ n. (c.atoms_of n ≡ d.atoms_of n) × (c.membranes_of n ≡ d.membranes_of n)) j.2 (same.same_contexts j.0 (subst (Among j.0) ((names_split hd).0 ∙ ap (λ n. n ++ contexts_in (membranes_of hd)) a.top_contexts) j.1)) in
+    let rules : SameRuleContexts c d (all_rule_contexts (body_of r)) = λ q k. same.same_rules q (subst (Among q) ((names_split hd).1 ∙ ap (λ n. n ++ rule_contexts_in (membranes_of hd)) a.top_rule_contexts) (a.known_rules q k)) in
+    let q : L' ≡ raw_level e.rest (wire_leaves c.link_of hd F.bound) F'.outs F'.made_membranes F'.made_rules = F'.is ∙ cc (w, same.rests) in
+    let k : Linked (level_process (raw_level e.rest (wire_leaves c.link_of hd F.bound) F.outs F.made_membranes F.made_rules)) = subst (λ n. Linked (level_process n)) F.is l in
+    let k' = raw_linked e.rest (wire_leaves c.link_of hd F.bound) F'.outs F'.made_membranes F'.made_rules (subst (λ n. Linked (level_process n)) q l') in
+    let mv = raw_moved e.rest (wire_leaves c.link_of hd F.bound) F.outs F'.outs F.made_membranes F'.made_membranes F.made_rules F'.made_rules k (λ n. level_moved c d e.root_is_free e'.root_is_free F.makes F'.makes known contexts rules n k') in
+    subst₂ Moved (ap level_process (sym F.is)) (ap level_process (sym q)) mv
+
+-- ---- the law
+
+replaced_moved : (n : ℕ) (L L' : Level) (ks : List Level) → Moved (level_process L) (level_process L') → Linked (together (map held (replaced n L ks))) → MovedList (map held (replaced n L ks)) (map held (replaced n L' ks))
+replaced_moved n L L' [] u l = moved_list_same refl
+replaced_moved zero L L' (k ∷ ks) u l = moved_cons (moved_inside u) (moved_list_same refl) l
+replaced_moved (suc n) L L' (k ∷ ks) u l = moved_cons (moved_same refl) (replaced_moved n L L' ks u (linked_right l)) l
+
+replaced_linked : {n : ℕ} {m : Region} {ms ms' : Regions} (L : Level) → TakenRegion n m ms ms' → Linked (together (map held (replaced n L (kept_membranes ms)))) → Linked (level_process L)
+replaced_linked L region_first l = linked_inside (linked_left l)
+replaced_linked L (region_later k) l = replaced_linked L k (linked_right l)
+
+pub raw_one : {path : List ℕ} {k : ℕ} {f : List ℕ} {S : Region} {L L' : Level} → RawAt path k f S L → RawAt path k f S L' → AllRules Accepted S → (O : Process) → Closed (pair (region_process S) O) → Linked (level_process L) → Linked (level_process L') → Moved (level_process L) (level_process L')
+raw_one (fires_here {f = f} {xs = xs} {ms = ms} {rs = rs} {L = L} k F) (fires_here {L = L'} k' F') h O c l l' =
+    let e = taken_one k k' in
+    fires_one (rule_there Accepted h.0 (taken_put k)) F (subst (λ r. FiresInOrder r f (region xs ms rs) L') (sym e.0) F') O c l l'
+raw_one (fires_below {n = n} {k = q} {path = path} {f = f} {m = m} {xs = xs} {ms = ms} {ms' = ms'} {rs = rs} {L = L} k R) (fires_below {L = L'} k' R') h O c l l' =
+    let S = region xs ms rs in
+    let Q = region_process (region xs ms' rs) in
+    let out = region_out xs rs k in
+    let e = level_listed (kept_atoms xs) (replaced n L (kept_membranes ms)) rs in
+    let e' = level_listed (kept_atoms xs) (replaced n L' (kept_membranes ms)) rs in
+    let a : Linked (listed (kept_atoms xs) (replaced n L (kept_membranes ms)) rs) = subst Linked e l in
+    let a' : Linked (listed (kept_atoms xs) (replaced n L' (kept_membranes ms)) rs) = subst Linked e' l' in
+    let R₁ = subst (λ w. RawAt path q f w L') (sym (region_one k k').0) R' in
+    let u = raw_one R R₁ (region_there Accepted h.1 k) (pair Q O) (closed_as (pair (region_process S) O) (pair (region_process m) (pair Q O)) (λ z. omega (arith, reordered_count out z)) c)
+    (replaced_linked L k (linked_left (linked_right a))) (replaced_linked L' k' (linked_left (linked_right a'))) in
+    subst₂ Moved (sym e) (sym e') (moved_pair (moved_same refl) (moved_pair (moved_together (replaced_moved n L L' (kept_membranes ms) u (linked_left (linked_right a)))) (moved_same refl) (linked_right a)) a)
+
+pub next_is_one : {path : List ℕ} {k : ℕ} {f : List ℕ} (S S' S'' : Region) → Closed (region_process S) → AllRules Accepted S → NextAt path k f S S' → NextAt path k f S S'' → IsRenamed S' S''
+next_is_one S S' S'' c h n n' =
+    moved_solid (raw_one n.fires n'.fires h nothing (beside_nothing (region_process S) c) (closed_linked n.fuses.closed_top) (closed_linked n'.fuses.closed_top)) n.fuses n'.fuses

@@ -1,0 +1,138 @@
+-- Where the head of a rule lies in a region. Everything here is on lists; nothing is searched.
+use Rattle.std.specs.Prelude.{ℕ, suc, List, map, ◌≡◌, ◌≢◌, [], ◌∷◌, ◌++◌}
+use Rattle.lmn_congruence.specs.Fused.{NoConnector}
+use Rattle.lmn_congruence.specs.LinkedRules.{level_occurrences}
+use Rattle.lmn_congruence.specs.Orders.{Shuffle}
+use Rattle.lmn_congruence.specs.Process.{Free, OneToOneOn, Process, occurrences, pair, rule, together}
+use Rattle.lmn_congruence.specs.Regions.{Region, Regions, SolidAtom, no_region, region, region_and, region_process}
+use Rattle.lmn_congruence.specs.Rules.{Label, Leaf, Level, Levels, Name, Rule, Rules, atom_leaf, guard_of, head_of, level, level_and, no_level, rules_list, typed_leaf}
+use Rattle.lmn_congruence.specs.UpToOrder.{Reordered}
+use Rattle.lmn_reduction.specs.Assignments.{Assignment, NoRuleAtTop}
+use Rattle.lmn_reduction.specs.Firing.{typed_contexts}
+use Rattle.lmn_reduction.specs.Guards.{GuardHolds}
+use Rattle.lmn_reduction.specs.Instances.{rules_of_contexts}
+use Rattle.lmn_reduction.specs.Parts.{IsGround, OnlyAtoms, Rooted, atoms_of}
+
+-- An embedding has an assignment too. It gives each link of the rule the link of the solid at its ports, and so
+-- needn't be one to one: two links that each occur once in the head may be joined in the solid.
+
+-- y is item number n of zs, and ys are the others in their order
+pub data Taken {A : Type 0} : ℕ → A → List A → List A → Type 0 where
+  taken_first : {y : A} {ys : List A} → Taken 0 y (y ∷ ys) ys
+  taken_later : {n : ℕ} {y z : A} {zs ys : List A} → Taken n y zs ys → Taken (suc n) y (z ∷ zs) (z ∷ ys)
+
+-- the last list is made of the other two, each in its order
+pub data Merged {A : Type 0} : List A → List A → List A → Type 0 where
+  merged_none : Merged [] [] []
+  from_first : {x : A} {ys zs xs : List A} → Merged ys zs xs → Merged (x ∷ ys) zs (x ∷ xs)
+  from_second : {x : A} {ys zs xs : List A} → Merged ys zs xs → Merged ys (x ∷ zs) (x ∷ xs)
+
+pub data TakenRegion : ℕ → Region → Regions → Regions → Type 0 where
+  region_first : {m : Region} {ms : Regions} → TakenRegion 0 m (region_and m ms) ms
+  region_later : {n : ℕ} {m k : Region} {ms ns : Regions} →
+      TakenRegion n m ms ns → TakenRegion (suc n) m (region_and k ms) (region_and k ns)
+
+-- The atoms of a level, in order, have images: distinct atoms of their label and arity, with the links of the
+-- rule at their ports; `rest` is what is left. A number counts the atoms that earlier ones have left. The order of
+-- two lists of such numbers is that of the positions.
+pub data AtomImages (t : Assignment) : List Leaf → List ℕ → List SolidAtom → List SolidAtom → Type 0 where
+  no_image : {xs : List SolidAtom} → AtomImages t [] [] xs xs
+  image_and : {a : Label} {ys : List ℕ} {ls : List Leaf} {n : ℕ} {ns : List ℕ} {xs xs' rest : List SolidAtom} →
+      Taken n (record { label = a; links = map t.link_of ys }) xs xs' → AtomImages t ls ns xs' rest →
+      AtomImages t (atom_leaf a ys ∷ ls) (n ∷ ns) xs rest
+  typed_later : {p : Name} {x : ℕ} {ls : List Leaf} {ns : List ℕ} {xs rest : List SolidAtom} →
+      AtomImages t ls ns xs rest → AtomImages t (typed_leaf p x ∷ ls) ns xs rest
+
+-- the atoms are, in some order, those of a process of atoms with a root, its links renamed one to one, the root to x
+pub record IsPart (g : Rooted) (x : ℕ) (part : List SolidAtom) : Type 0 where
+  pub only_atoms : OnlyAtoms g.process
+  pub to : ℕ → ℕ
+  pub one_to_one : OneToOneOn to g.process
+  pub root : to g.root ≡ x
+  pub atoms : Shuffle (λ a b. record { label = a.0; links = map to a.1 } ≡ b) (atoms_of g.process) part
+
+-- The parts of the typed contexts of a level, taken out of the atoms that all images have left; the others stay in
+-- their order. A part is ground: it is connected and has no free link but its root, so it is what is reached through
+-- the link that holds it.
+pub data TypedParts (t : Assignment) : List Leaf → List SolidAtom → List SolidAtom → Type 0 where
+  no_part : {xs : List SolidAtom} → TypedParts t [] xs xs
+  no_part_of_atom : {a : Label} {ys : List ℕ} {ls : List Leaf} {xs rest : List SolidAtom} →
+      TypedParts t ls xs rest → TypedParts t (atom_leaf a ys ∷ ls) xs rest
+  part_and : {p : Name} {x : ℕ} {ls : List Leaf} {part xs xs' rest : List SolidAtom} →
+      IsGround (t.typed_of p) → IsPart (t.typed_of p) (t.link_of x) part →
+      Merged part xs' xs → TypedParts t ls xs' rest →
+      TypedParts t (typed_leaf p x ∷ ls) xs rest
+
+-- In the image of a head membrane each link of it has as many places as in the head membrane. So one that has one
+-- place there has its other end outside.
+pub record KeepsLinks (t : Assignment) (l : Level) (m : Region) : Type 0 where
+  pub as_often : (x : ℕ) → level_occurrences x l ≢ 0 →
+      occurrences (t.link_of x) (region_process m) ≡ level_occurrences x l
+
+-- what the untyped contexts, the rule contexts and the rules of a level stand for
+abbrev pub filling : Assignment → List Name → List Name → Rules → Process
+filling t contexts rule_contexts rules =
+    pair (together (map t.context_of contexts))
+    (pair (together (rules_of_contexts t rule_contexts)) (together (map rule (rules_list rules))))
+
+-- A level has images in a region: `rest` is what they and the typed parts leave of it. What is left of the image of a
+-- head membrane is, up to order, what its contexts stand for; so it is nothing where the membrane has none. The
+-- numbers are in the order of head items: leaves, then each membrane followed by its own items.
+mutual
+  pub data LevelImages (t : Assignment) : Level → List ℕ → Region → Region → Type 0 where
+    level_images : {leaves : List Leaf} {membranes : Levels} {contexts rule_contexts : List Name} {rules : Rules}
+        {ns ns' : List ℕ} {xs xs' xs'' : List SolidAtom} {ms ms' : Regions} {rs : List Rule} →
+        AtomImages t leaves ns xs xs' → TypedParts t leaves xs' xs'' → MembraneImages t membranes ns' ms ms' →
+        LevelImages t (level leaves membranes contexts rule_contexts rules) (ns ++ ns')
+        (region xs ms rs) (region xs'' ms' rs)
+
+  pub data MembraneImages (t : Assignment) : Levels → List ℕ → Regions → Regions → Type 0 where
+    no_membrane_image : {ms : Regions} → MembraneImages t no_level [] ms ms
+    membrane_image_and : {leaves : List Leaf} {membranes ls : Levels} {contexts rule_contexts : List Name}
+        {rules : Rules} {n : ℕ} {ns ns' : List ℕ} {m rest : Region} {ms ms' ms'' : Regions} →
+        TakenRegion n m ms ms' → LevelImages t (level leaves membranes contexts rule_contexts rules) ns m rest →
+        KeepsLinks t (level leaves membranes contexts rule_contexts rules) m →
+        Reordered (filling t contexts rule_contexts rules) (region_process rest) → MembraneImages t ls ns' ms' ms'' →
+        MembraneImages t (level_and (level leaves membranes contexts rule_contexts rules) ls) (n ∷ (ns ++ ns')) ms ms''
+
+-- what untyped contexts stand for has no connector, and no rule at its top; the root of a typed context is free
+pub record Plain (t : Assignment) : Type 0 where
+  pub no_connector : (p : Name) → NoConnector (t.context_of p)
+  pub no_rule : (p : Name) → NoRuleAtTop (t.context_of p)
+  pub root_is_free : (p : Name) → Free (t.typed_of p).root (t.typed_of p).process
+
+-- a rule of a region embeds in it at the positions f
+pub record EmbedsAt (r : Rule) (f : List ℕ) (m : Region) : Type 0 where
+  pub assignment : Assignment
+  pub rest : Region
+  pub plain : Plain assignment
+  pub images : LevelImages assignment (head_of r) f m rest
+  pub guard : GuardHolds (typed_contexts (head_of r)) assignment (guard_of r)
+
+-- Rule number k of the membrane at the end of the path embeds at the positions f. The path has the number of a
+-- membrane in each list that it goes through.
+pub data EmbedsIn : List ℕ → ℕ → List ℕ → Region → Type 0 where
+  embeds_here : {k : ℕ} {r : Rule} {f : List ℕ} {xs : List SolidAtom} {ms : Regions} {rs rs' : List Rule} →
+      Taken k r rs rs' → EmbedsAt r f (region xs ms rs) → EmbedsIn [] k f (region xs ms rs)
+  embeds_below : {n k : ℕ} {path f : List ℕ} {m : Region} {xs : List SolidAtom} {ms ms' : Regions} {rs : List Rule} →
+      TakenRegion n m ms ms' → EmbedsIn path k f m → EmbedsIn (n ∷ path) k f (region xs ms rs)
+
+-- some rule of some membrane of a region embeds
+pub record Embeds (S : Region) : Type 0 where
+  pub path : List ℕ
+  pub number : ℕ
+  pub positions : List ℕ
+  pub embeds : EmbedsIn path number positions S
+
+-- what holds of each rule that stands in a region, at any depth
+abbrev pub EachRule : (Rule → Type 0) → List Rule → Type 0
+EachRule H [] = Unit {0}
+EachRule H (r ∷ rs) = H r × EachRule H rs
+
+abbrev mutual
+  pub AllRules : (Rule → Type 0) → Region → Type 0
+  AllRules H (region xs ms rs) = EachRule H rs × AllRulesIn H ms
+
+  pub AllRulesIn : (Rule → Type 0) → Regions → Type 0
+  AllRulesIn H no_region = Unit {0}
+  AllRulesIn H (region_and m ms) = AllRules H m × AllRulesIn H ms

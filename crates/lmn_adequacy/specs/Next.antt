@@ -1,0 +1,207 @@
+-- The solid after a firing, with every list in its order: a raw level, and one fusion of its connectors.
+use Rattle.std.specs.Prelude.{ℕ, zero, suc, cond, List, map, ◌≡◌, ◌+◌, ◌≤◌, [], ◌∷◌, ◌++◌, ◌==◌}
+use Rattle.lmn_congruence.specs.LinkedRules.{level_occurrences}
+use Rattle.lmn_congruence.specs.Links.{places}
+use Rattle.lmn_congruence.specs.Orders.{Among}
+use Rattle.lmn_congruence.specs.Plains.{SolidOf}
+use Rattle.lmn_congruence.specs.Process.{Free}
+use Rattle.lmn_congruence.specs.Regions.{Region, Regions, SolidAtom, no_region, region, region_and, region_process}
+use Rattle.lmn_congruence.specs.Rules.{Label, Leaf, Level, Levels, Name, Rule, Rules, atom_leaf, body_of, connector_leaf, guard_of, head_of, level, level_and, no_level, rules_list, typed_leaf}
+use Rattle.lmn_congruence.specs.Translation.{levels, rules as listed_rules}
+use Rattle.lmn_reduction.specs.Assignments.{Assignment}
+use Rattle.lmn_reduction.specs.Firing.{typed_contexts}
+use Rattle.lmn_reduction.specs.Guards.{GuardHolds}
+use Rattle.lmn_reduction.specs.Parts.{Rooted}
+use Rattle.lmn_adequacy.specs.Embedding.{IsPart, LevelImages, MembraneImages, Taken, TakenRegion, level_images, membrane_image_and, no_membrane_image}
+
+-- What the parts of a rule stand for: as `Assignment`, with the lists of atoms and membranes that an untyped context
+-- stands for.
+pub record Contents : Type 0 where
+  pub link_of : ℕ → ℕ
+  pub atoms_of : Name → List SolidAtom
+  pub membranes_of : Name → Regions
+  pub rules_of : Name → List Rule
+  pub typed_of : Name → Rooted
+
+abbrev pub assignment_of : Contents → Assignment
+assignment_of c = record {
+  link_of = c.link_of;
+  context_of = λ p. region_process (region (c.atoms_of p) (c.membranes_of p) []);
+  rules_of = c.rules_of;
+  typed_of = c.typed_of;
+}
+
+-- ---- embeddings
+
+-- What the images and the typed parts leave of the image of a head membrane: its atoms and membranes are what its
+-- untyped context stands for, none where it has no context; so are its rules with its rule context.
+pub data LeftToContext (c : Contents) : List Name → List SolidAtom → Regions → Type 0 where
+  no_context : LeftToContext c [] [] no_region
+  one_context : {p : Name} → LeftToContext c (p ∷ []) (c.atoms_of p) (c.membranes_of p)
+
+pub data LeftToRuleContext (c : Contents) : List Name → List Rule → Type 0 where
+  no_rule_context : LeftToRuleContext c [] []
+  one_rule_context : {p : Name} → LeftToRuleContext c (p ∷ []) (c.rules_of p)
+
+abbrev pub LeftTo : Contents → List Name → List Name → Region → Type 0
+LeftTo c contexts rule_contexts (region xs ms rs) =
+    LeftToContext c contexts xs ms × LeftToRuleContext c rule_contexts rs
+
+-- in each image of a head membrane
+abbrev mutual
+  pub EachLeft : (c : Contents) {t : Assignment} {l : Level} {ns : List ℕ} {m rest : Region} → LevelImages t l ns m rest → Type 0
+  EachLeft c (level_images i j k) = EachLeftIn c k
+
+  pub EachLeftIn : (c : Contents) {t : Assignment} {ls : Levels} {ns : List ℕ} {ms rest : Regions} → MembraneImages t ls ns ms rest → Type 0
+  EachLeftIn c no_membrane_image = Unit {0}
+  EachLeftIn c (membrane_image_and {contexts = contexts} {rule_contexts = rule_contexts} {rest = rest} k d e f g) =
+      LeftTo c contexts rule_contexts rest × EachLeft c d × EachLeftIn c g
+
+-- An embedding whose contexts stand for the lists that are left to them. The root of a typed context is free in it.
+pub record EmbedsInOrder (r : Rule) (f : List ℕ) (m : Region) : Type 0 where
+  pub contents : Contents
+  pub rest : Region
+  pub root_is_free : (p : Name) → Free (contents.typed_of p).root (contents.typed_of p).process
+  pub images : LevelImages (assignment_of contents) (head_of r) f m rest
+  pub left : EachLeft contents images
+  pub guard : GuardHolds (typed_contexts (head_of r)) (assignment_of contents) (guard_of r)
+
+-- ---- what stays
+
+-- In a raw level the links of the solid have the odd numbers, and those of the rule the even ones.
+abbrev pub of_rule : ℕ → ℕ
+of_rule x = x + x
+
+abbrev pub of_solid : ℕ → ℕ
+of_solid x = suc (x + x)
+
+-- atoms, membranes and rules of the solid in a raw level
+abbrev pub kept_atoms : List SolidAtom → List Leaf
+kept_atoms xs = map (λ a. atom_leaf a.label (map of_solid a.links)) xs
+
+abbrev mutual
+  pub kept_level : Region → Level
+  kept_level (region xs ms rs) = level (kept_atoms xs) (levels (kept_membranes ms)) [] [] (listed_rules rs)
+
+  pub kept_membranes : Regions → List Level
+  kept_membranes no_region = []
+  kept_membranes (region_and m ms) = kept_level m ∷ kept_membranes ms
+
+-- ---- what the body makes
+
+abbrev pub links_at : List SolidAtom → List ℕ
+links_at [] = []
+links_at (a ∷ xs) = a.links ++ links_at xs
+
+-- The atoms that are reached over the links of the first list, one link after another, depth first. In the second list
+-- stand the links at the ports of all atoms that have been listed. A link that stands there twice leads to such an
+-- atom. One that stands there once leads to a new one: this is listed, then what its own links reach, by rising index.
+pub data Reaches : List ℕ → List ℕ → List SolidAtom → Type 0 where
+  reaches_none : {seen : List ℕ} → Reaches [] seen []
+  reaches_listed : {y : ℕ} {ys seen : List ℕ} {bs : List SolidAtom} →
+      places y seen ≡ 2 → Reaches ys seen bs → Reaches (y ∷ ys) seen bs
+  reaches_new : {y : ℕ} {ys seen : List ℕ} {b : SolidAtom} {bs cs : List SolidAtom} →
+      places y seen ≡ 1 → Among y b.links → Reaches b.links (seen ++ b.links) bs →
+      Reaches ys (seen ++ (b.links ++ links_at bs)) cs → Reaches (y ∷ ys) seen (b ∷ (bs ++ cs))
+
+-- the atoms are listed depth first from the link x, which holds them
+abbrev pub DepthFirst : ℕ → List SolidAtom → Type 0
+DepthFirst x bs = Reaches (x ∷ []) (x ∷ []) bs
+
+abbrev pub made_atoms : List SolidAtom → List Leaf
+made_atoms xs = map (λ a. atom_leaf a.label a.links) xs
+
+-- the leaves of a body, each typed context as a copy in depth-first order
+pub data MadeLeaves (c : Contents) : List Leaf → List Leaf → Type 0 where
+  no_made_leaf : MadeLeaves c [] []
+  made_atom : {a : Label} {xs : List ℕ} {ls outs : List Leaf} →
+      MadeLeaves c ls outs → MadeLeaves c (atom_leaf a xs ∷ ls) (atom_leaf a (map of_rule xs) ∷ outs)
+  made_connector : {x y : ℕ} {ls outs : List Leaf} →
+      MadeLeaves c ls outs → MadeLeaves c (connector_leaf x y ∷ ls) (connector_leaf (of_rule x) (of_rule y) ∷ outs)
+  made_copy : {p : Name} {x : ℕ} {part : List SolidAtom} {ls outs : List Leaf} →
+      IsPart (c.typed_of p) (of_rule x) part → DepthFirst (of_rule x) part → MadeLeaves c ls outs →
+      MadeLeaves c (typed_leaf p x ∷ ls) (made_atoms part ++ outs)
+
+abbrev pub context_atoms : Contents → List Name → List SolidAtom
+context_atoms c [] = []
+context_atoms c (p ∷ ps) = c.atoms_of p ++ context_atoms c ps
+
+abbrev pub context_membranes : Contents → List Name → List Level
+context_membranes c [] = []
+context_membranes c (p ∷ ps) = kept_membranes (c.membranes_of p) ++ context_membranes c ps
+
+abbrev pub context_rules : Contents → List Name → List Rule
+context_rules c [] = []
+context_rules c (p ∷ ps) = c.rules_of p ++ context_rules c ps
+
+-- What a level of a body makes: the leaves as written, then the atoms of each `$p`; the membranes as written, then
+-- those of each `$p`; the rules as written, then those of each `@r`.
+mutual
+  pub data MadeLevel (c : Contents) : Level → List Leaf → List Level → List Rule → Type 0 where
+    made_level : {leaves outs : List Leaf} {membranes : Levels} {made : List Level} {contexts rule_contexts : List Name}
+        {rules : Rules} →
+        MadeLeaves c leaves outs → MadeMembranes c membranes made →
+        MadeLevel c (level leaves membranes contexts rule_contexts rules)
+        (outs ++ kept_atoms (context_atoms c contexts)) (made ++ context_membranes c contexts)
+        (rules_list rules ++ context_rules c rule_contexts)
+
+  pub data MadeMembranes (c : Contents) : Levels → List Level → Type 0 where
+    no_made_membrane : MadeMembranes c no_level []
+    made_membrane : {l : Level} {ls : Levels} {outs : List Leaf} {inner made : List Level} {rs : List Rule} →
+        MadeLevel c l outs inner rs → MadeMembranes c ls made →
+        MadeMembranes c (level_and l ls) (level outs (levels inner) [] [] (listed_rules rs) ∷ made)
+
+-- a connector from each link below n that has one place in the head to the link f of the solid at this place
+abbrev pub wire_leaves : (ℕ → ℕ) → Level → ℕ → List Leaf
+wire_leaves f l zero = []
+wire_leaves f l (suc n) =
+    cond (level_occurrences n l == 1) (connector_leaf (of_rule n) (of_solid (f n)) ∷ wire_leaves f l n)
+    (wire_leaves f l n)
+
+-- ---- firing
+
+-- what stays of a region, and behind it what the body makes
+abbrev pub raw_level : Region → List Leaf → List Leaf → List Level → List Rule → Level
+raw_level (region xs ms rs) wires outs made new_rules =
+    level (kept_atoms xs ++ (wires ++ outs)) (levels (kept_membranes ms ++ made)) [] [] (listed_rules (rs ++ new_rules))
+
+-- the rule fires at an embedding; all links of the head are below `bound`
+pub record FiresInOrder (r : Rule) (f : List ℕ) (m : Region) (L : Level) : Type 0 where
+  pub at : EmbedsInOrder r f m
+  pub outs : List Leaf
+  pub made_membranes : List Level
+  pub made_rules : List Rule
+  pub makes : MadeLevel at.contents (body_of r) outs made_membranes made_rules
+  pub bound : ℕ
+  pub bounded : (x : ℕ) → bound ≤ x → level_occurrences x (head_of r) ≡ 0
+  pub is : L ≡ raw_level at.rest (wire_leaves at.contents.link_of (head_of r) bound) outs made_membranes made_rules
+
+-- a level in the place of number n of a list
+abbrev pub replaced : ℕ → Level → List Level → List Level
+replaced n L [] = []
+replaced zero L (k ∷ ks) = L ∷ ks
+replaced (suc n) L (k ∷ ks) = k ∷ replaced n L ks
+
+-- rule number k of the membrane at the end of the path fires at the positions f; all else stays
+pub data RawAt : List ℕ → ℕ → List ℕ → Region → Level → Type 0 where
+  fires_here : {k : ℕ} {r : Rule} {f : List ℕ} {xs : List SolidAtom} {ms : Regions} {rs rs' : List Rule} {L : Level} →
+      Taken k r rs rs' → FiresInOrder r f (region xs ms rs) L → RawAt [] k f (region xs ms rs) L
+  fires_below : {n k : ℕ} {path f : List ℕ} {m : Region} {xs : List SolidAtom} {ms ms' : Regions} {rs : List Rule}
+      {L : Level} →
+      TakenRegion n m ms ms' → RawAt path k f m L →
+      RawAt (n ∷ path) k f (region xs ms rs)
+      (level (kept_atoms xs) (levels (replaced n L (kept_membranes ms))) [] [] (listed_rules rs))
+
+-- S' is the solid after this firing, up to the numbers of links. Two ports are joined in it exactly where a chain of
+-- links and connectors joins them in the raw level, and a loop vanishes.
+pub record NextAt (path : List ℕ) (k : ℕ) (f : List ℕ) (S S' : Region) : Type 0 where
+  pub raw : Level
+  pub fires : RawAt path k f S raw
+  pub fuses : SolidOf raw S'
+
+-- after some firing
+pub record Next (S S' : Region) : Type 0 where
+  pub path : List ℕ
+  pub number : ℕ
+  pub positions : List ℕ
+  pub next : NextAt path number positions S S'
