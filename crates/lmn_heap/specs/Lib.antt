@@ -1,0 +1,11 @@
+pub mod Lists
+pub mod Heap
+pub mod Sound
+pub mod Conditions
+pub mod Splice
+pub mod Solid
+pub mod Graphs
+pub mod Functors
+pub mod Trees
+pub mod Laws
+pub mod Examples

@@ -1,0 +1,32 @@
+-- Lists of numbers: what is in them, and their parts.
+use Rattle.std.specs.Prelude.{ℕ, ◌≡◌, ◌≢◌, ◌⊎◌, ◌==◌, List, [], ◌∷◌, Option, Some, None, if◌then◌else◌}
+
+-- each element of the list
+abbrev pub Each : (ℕ → Type 0) → List ℕ → Type 0
+Each P [] = Unit {0}
+Each P (x ∷ xs) = P x × Each P xs
+
+-- the number is in the list
+abbrev pub In : ℕ → List ℕ → Type 0
+In a [] = ⊥
+In a (x ∷ xs) = (x ≡ a) ⊎ In a xs
+
+-- no number stands twice
+abbrev pub Distinct : List ℕ → Type 0
+Distinct [] = Unit {0}
+Distinct (x ∷ xs) = Each (λ y. x ≢ y) xs × Distinct xs
+
+-- without the first a
+abbrev pub without : ℕ → List ℕ → List ℕ
+without a [] = []
+without a (x ∷ xs) = if x == a then xs else x ∷ without a xs
+
+-- what stands behind the first a
+abbrev pub after : ℕ → List ℕ → List ℕ
+after a [] = []
+after a (x ∷ xs) = if x == a then xs else after a xs
+
+-- a list from a number on, and nothing from None on. So `from r xs ≡ xs` says that r is the first of xs.
+abbrev pub from : Option ℕ → List ℕ → List ℕ
+from None xs = []
+from (Some a) xs = a ∷ after a xs
