@@ -1,0 +1,278 @@
+-- The copies of ports are joined, one after the other.
+use Rattle.std.proofs.Common.{◌≡◌, ◌≢◌, ◌⊎◌, ℕ, zero, suc, ◌+◌, ◌<◌, Bool, true, false, cond, List, [], ◌∷◌, ◌++◌, length, Option, Some, None, IsSome, refl, sym, ap, subst, ◌∙◌, inl, inr, arith}
+use Rattle.std.proofs.lemmas.Bool.{cases_eq}
+use Rattle.std.proofs.lemmas.List.{length-set}
+use Rattle.std.specs.Option.{option_map}
+use Rattle.std.specs.Prelude.{slice_index_or}
+use Rattle.lmn_heap.specs.Heap.{Heap, HeapAtom, In, with_link, links_of, marks_of, mark_of, link_of, arity_of, linked, cleared, joined}
+use Rattle.lmn_heap.specs.Splice.{joined_to}
+use Rattle.lmn_heap.proofs.Listing.{alter_at, alter_away}
+use Rattle.lmn_heap.proofs.Ports.{SamePort, same_port, linked_away, joined_arity, joined_a, joined_b, joined_other, joined_paired}
+use Rattle.lmn_ground.specs.Walks.{HasPort, ports, is_port}
+use Rattle.lmn_ground.specs.Marks.{first_marks}
+use Rattle.lmn_ground.specs.Spread.{Numbered}
+use Rattle.lmn_ground.specs.Follow.{answer}
+use Rattle.lmn_ground.specs.Copies.{moved, joined_like, all_joined, IsJoined, Copying}
+use Rattle.lmn_ground.proofs.EqualLaws.{answer_in, answer_one, same_pair}
+use Rattle.lmn_ground.proofs.SoughtLaws.{same_port as is_root_port}
+use Rattle.lmn_ground.proofs.SpreadLaws.{not_root, link_inside}
+use Rattle.lmn_ground.proofs.NumberLaws.{numbered_same}
+
+-- what joining leaves as it is
+module _ {X : Type 0} (view : Option HeapAtom → X) (h : (i : ℕ) (p : Option (ℕ × ℕ)) (o : Option HeapAtom) → view (option_map (with_link i p) o) ≡ view o) where
+  linked_view : (f : ℕ → Option HeapAtom) (a i : ℕ) (p : Option (ℕ × ℕ)) (c : ℕ) → view (linked f a i p c) ≡ view (f c)
+  linked_view f a i p c = elim (cases_eq c a) [
+    | inl e ↦ subst (λ (z : ℕ). view (linked f a i p z) ≡ view (f z)) (sym e) (ap view (alter_at f a (option_map (with_link i p))) ∙ h i p (f a))
+    | inr d ↦ ap view (alter_away f a (option_map (with_link i p)) c d)
+  ]
+
+  cleared_view : (f : ℕ → Option HeapAtom) (q : Option (ℕ × ℕ)) (c : ℕ) → view (cleared f q c) ≡ view (f c)
+  cleared_view f None c = refl
+  cleared_view f (Some q) c = linked_view f q.0 q.1 None c
+
+  pub joined_view : (s : Heap) (a i b j c : ℕ) → view ((joined s a i b j).atoms c) ≡ view (s.atoms c)
+  joined_view s a i b j c =
+      linked_view (linked (cleared (cleared s.atoms (link_of s a i)) (link_of s b j)) a i (Some (b, j))) b j (Some (a, i)) c
+      ∙ linked_view (cleared (cleared s.atoms (link_of s a i)) (link_of s b j)) a i (Some (b, j)) c
+      ∙ cleared_view (cleared s.atoms (link_of s a i)) (link_of s b j) c ∙ cleared_view s.atoms (link_of s a i) c
+
+-- Nothing is done, or two copies are joined.
+pub like_by : (f : ℕ → ℕ) (root : ℕ × ℕ) (s : Heap) (p : ℕ × ℕ) (P : Heap → Type 0)
+    → ((is_port p root ≡ true) ⊎ (link_of s p.0 p.1 ≡ None) → P s)
+    → ((b j : ℕ) → is_port p root ≡ false → link_of s p.0 p.1 ≡ Some (b, j) → P (joined s (f p.0) p.1 (f b) j))
+    → P (joined_like f root s p)
+like_by f root s p P same step = by (is_port p root) refl (link_of s p.0 p.1) refl
+  where
+    by : (t : Bool) → is_port p root ≡ t → (o : Option (ℕ × ℕ)) → link_of s p.0 p.1 ≡ o → P (cond t s (joined_to s (f p.0) p.1 (option_map (moved f) o)))
+    by true e o g = same (inl e)
+    by false e None g = same (inr g)
+    by false e (Some q) g = step q.0 q.1 e g
+
+pub all_view : {X : Type 0} (view : Option HeapAtom → X) → ((i : ℕ) (p : Option (ℕ × ℕ)) (o : Option HeapAtom) → view (option_map (with_link i p) o) ≡ view o)
+    → (f : ℕ → ℕ) (root : ℕ × ℕ) (s : Heap) (ps : List (ℕ × ℕ)) (c : ℕ) → view ((all_joined f root s ps).atoms c) ≡ view (s.atoms c)
+all_view view h f root s [] c = refl
+all_view view h f root s (p ∷ ps) c = all_view view h f root (joined_like f root s p) ps c
+    ∙ like_by f root s p (λ t. view (t.atoms c) ≡ view (s.atoms c)) (λ _. refl) (λ b j e g. joined_view view h s (f p.0) p.1 (f b) j c)
+
+cleared_away : (f : ℕ → Option HeapAtom) (q : Option (ℕ × ℕ)) (c : ℕ) → ((p : ℕ × ℕ) → q ≡ Some p → c ≢ p.0) → cleared f q c ≡ f c
+cleared_away f None c h = refl
+cleared_away f (Some q) c h = linked_away f q.0 q.1 None c (h q refl)
+
+joined_away : (s : Heap) (a i b j c : ℕ) → c ≢ a → c ≢ b → ((p : ℕ × ℕ) → link_of s a i ≡ Some p → c ≢ p.0) → ((p : ℕ × ℕ) → link_of s b j ≡ Some p → c ≢ p.0)
+    → (joined s a i b j).atoms c ≡ s.atoms c
+joined_away s a i b j c na nb ha hb =
+    linked_away (linked (cleared (cleared s.atoms (link_of s a i)) (link_of s b j)) a i (Some (b, j))) b j (Some (a, i)) c nb
+    ∙ linked_away (cleared (cleared s.atoms (link_of s a i)) (link_of s b j)) a i (Some (b, j)) c na
+    ∙ cleared_away (cleared s.atoms (link_of s a i)) (link_of s b j) c hb ∙ cleared_away s.atoms (link_of s a i) c ha
+
+module _ (s : Heap) (root : ℕ × ℕ) (xs ys : List ℕ) (t : Copying s root xs ys) where
+  pub copy_in : (x : ℕ) → In x xs → In (answer xs ys x) ys
+  copy_in x i = answer_in xs ys x (let l = t.long in omega (arith, l)) i
+
+  copy_one : (x y : ℕ) → In x xs → In y xs → answer xs ys x ≡ answer xs ys y → x ≡ y
+  copy_one x y i j e = answer_one xs ys x y (let l = t.long in omega (arith, l)) t.copies_once i j e
+
+  -- where a port of a copy leads
+  points : (x k y l : ℕ) → In x xs → link_of s x k ≡ Some (y, l) → (c m : ℕ) → link_of s (answer xs ys x) k ≡ Some (c, m) → SamePort c m (answer xs ys y) l
+  points x k y l i e c m g = elim (t.joined x k i) [
+    | inl n ↦ (let h : ◌≡◌ {A = Option (ℕ × ℕ)} None (Some (c, m)) = sym n ∙ g in absurd (cc))
+    | inr r ↦ same_pair c (answer xs ys y) m l (sym g ∙ r.2 ∙ ap (option_map (moved (answer xs ys))) e)
+  ]
+
+  -- two copies are joined
+  module _ (a i : ℕ) (a_in : In a xs) (b j : ℕ) (other : is_port (a, i) root ≡ false) (link : link_of s a i ≡ Some (b, j)) where
+    b_in : In b xs
+    b_in = (t.closed a i b j a_in (not_root a i root other) link).0
+
+    i_low : i < arity_of s (answer xs ys a)
+    i_low = subst (λ (n : ℕ). i < n) (sym (t.arities a a_in)) (link_inside s a i (b, j) link)
+
+    j_low : j < arity_of s (answer xs ys b)
+    j_low = subst (λ (n : ℕ). j < n) (sym (t.arities b b_in)) (link_inside s b j (a, i) (t.paired.back a i b j link))
+
+    differ : SamePort (answer xs ys a) i (answer xs ys b) j → ⊥
+    differ e =
+        let g : b ≡ a = copy_one b a b_in a_in (sym e.0) in
+        let h : j ≡ i = sym e.1 in
+        t.paired.apart a i (link ∙ (λ k. Some (g k, h k)))
+
+    pub copies_differ : ◌≢◌ {A = ℕ × ℕ} (answer xs ys a, i) (answer xs ys b, j)
+    copies_differ e = differ (ap (λ (p : ℕ × ℕ). p.0) e, ap (λ (p : ℕ × ℕ). p.1) e)
+
+    abbrev next : Heap
+    next = joined s (answer xs ys a) i (answer xs ys b) j
+
+    as_was : (c k : ℕ) → (SamePort c k (answer xs ys a) i → ⊥) → (SamePort c k (answer xs ys b) j → ⊥) → link_of next c k ≡ link_of s c k
+    as_was c k na nb = elim (joined_other s (answer xs ys a) i (answer xs ys b) j i_low j_low differ c k na nb) [
+      | inl w ↦ absurd (elim w.0 [
+        | inl e ↦ nb (points a i b j a_in link c k e)
+        | inr e ↦ na (points b j a i b_in (t.paired.back a i b j link) c k e)
+      ])
+      | inr w ↦ w.2
+    ]
+
+    away : (c : ℕ) → (In c ys → ⊥) → next.atoms c ≡ s.atoms c
+    away c n = joined_away s (answer xs ys a) i (answer xs ys b) j c
+        (λ e. n (subst (λ (z : ℕ). In z ys) (sym e) (copy_in a a_in)))
+        (λ e. n (subst (λ (z : ℕ). In z ys) (sym e) (copy_in b b_in)))
+        (λ p g e. n (subst (λ (z : ℕ). In z ys) (sym (e ∙ (points a i b j a_in link p.0 p.1 g).0)) (copy_in b b_in)))
+        (λ p g e. n (subst (λ (z : ℕ). In z ys) (sym (e ∙ (points b j a i b_in (t.paired.back a i b j link) p.0 p.1 g).0)) (copy_in a a_in)))
+
+    link_kept : (x k : ℕ) → In x xs → link_of next x k ≡ link_of s x k
+    link_kept x k x_in = ap (λ (o : Option HeapAtom). slice_index_or (links_of o) k None) (away x (t.apart x x_in))
+
+    this : (x k : ℕ) → In x xs → SamePort (answer xs ys x) k (answer xs ys a) i → IsJoined next root (answer xs ys) x k
+    this x k x_in e =
+        let g : x ≡ a = copy_one x a x_in a_in e.0 in
+        let h : k ≡ i = e.1 in
+        subst (λ (p : ℕ × ℕ). IsJoined next root (answer xs ys) p.0 p.1) (λ m. let r : ℕ × ℕ = ((sym g) m, (sym h) m) in r) (
+          not_root a i root other,
+          subst (λ (o : Option (ℕ × ℕ)). IsSome o) (sym (link_kept a i a_in ∙ link)) refl,
+          joined_a s (answer xs ys a) i (answer xs ys b) j i_low j_low differ ∙ sym (ap (option_map (moved (answer xs ys))) (link_kept a i a_in ∙ link)),
+        )
+
+    that : (x k : ℕ) → In x xs → SamePort (answer xs ys x) k (answer xs ys b) j → IsJoined next root (answer xs ys) x k
+    that x k x_in e =
+        let g : x ≡ b = copy_one x b x_in b_in e.0 in
+        let h : k ≡ j = e.1 in
+        let back_link = t.paired.back a i b j link in
+        subst (λ (p : ℕ × ℕ). IsJoined next root (answer xs ys) p.0 p.1) (λ m. let r : ℕ × ℕ = ((sym g) m, (sym h) m) in r) (
+          (t.closed a i b j a_in (not_root a i root other) link).1,
+          subst (λ (o : Option (ℕ × ℕ)). IsSome o) (sym (link_kept b j b_in ∙ back_link)) refl,
+          joined_b s (answer xs ys a) i (answer xs ys b) j i_low j_low differ ∙ sym (ap (option_map (moved (answer xs ys))) (link_kept b j b_in ∙ back_link)),
+        )
+
+    -- a joined port stays joined
+    stays : (x k : ℕ) → In x xs → IsJoined s root (answer xs ys) x k → IsJoined next root (answer xs ys) x k
+    stays x k x_in r = elim (same_port (answer xs ys x) k (answer xs ys a) i) [
+      | inl e ↦ this x k x_in e
+      | inr na ↦ elim (same_port (answer xs ys x) k (answer xs ys b) j) [
+        | inl e ↦ that x k x_in e
+        | inr nb ↦ (
+          r.0,
+          subst (λ (o : Option (ℕ × ℕ)). IsSome o) (sym (link_kept x k x_in)) r.1,
+          as_was (answer xs ys x) k na nb ∙ r.2 ∙ ap (option_map (moved (answer xs ys))) (sym (link_kept x k x_in)),
+        )
+      ]
+    ]
+
+    port_joined : (x k : ℕ) → In x xs → (link_of next (answer xs ys x) k ≡ None) ⊎ IsJoined next root (answer xs ys) x k
+    port_joined x k x_in = elim (same_port (answer xs ys x) k (answer xs ys a) i) [
+      | inl e ↦ inr (this x k x_in e)
+      | inr na ↦ elim (same_port (answer xs ys x) k (answer xs ys b) j) [
+        | inl e ↦ inr (that x k x_in e)
+        | inr nb ↦ elim (t.joined x k x_in) [
+          | inl n ↦ inl (as_was (answer xs ys x) k na nb ∙ n)
+          | inr r ↦ inr (stays x k x_in r)
+        ]
+      ]
+    ]
+
+    still : Copying next root xs ys
+    still = record {
+      there = λ x k. subst (λ (o : Option HeapAtom). IsSome o) (sym (away x (t.apart x k))) (t.there x k);
+      first = t.first;
+      paired = joined_paired s (answer xs ys a) i (answer xs ys b) j i_low j_low differ t.paired;
+      once = t.once;
+      copies_once = t.copies_once;
+      long = t.long;
+      apart = t.apart;
+      arities = λ x k. joined_arity s (answer xs ys a) i (answer xs ys b) j i_low j_low differ (answer xs ys x) ∙ t.arities x k ∙ sym (joined_arity s (answer xs ys a) i (answer xs ys b) j i_low j_low differ x);
+      closed = λ x k y l x_in d e. t.closed x k y l x_in d (sym (link_kept x k x_in) ∙ e);
+      joined = port_joined;
+    }
+
+  -- one port
+  module _ (a i : ℕ) (a_in : In a xs) where
+    pub like_copying : Copying (joined_like (answer xs ys) root s (a, i)) root xs ys
+    like_copying = like_by (answer xs ys) root s (a, i) (λ h. Copying h root xs ys) (λ _. t) (λ b j e g. still a i a_in b j e g)
+
+    pub like_away : (c : ℕ) → (In c ys → ⊥) → (joined_like (answer xs ys) root s (a, i)).atoms c ≡ s.atoms c
+    like_away c n = like_by (answer xs ys) root s (a, i) (λ h. h.atoms c ≡ s.atoms c) (λ _. refl) (λ b j e g. away a i a_in b j e g c n)
+
+    like_stays : (x k : ℕ) → In x xs → IsJoined s root (answer xs ys) x k → IsJoined (joined_like (answer xs ys) root s (a, i)) root (answer xs ys) x k
+    like_stays x k x_in r = like_by (answer xs ys) root s (a, i) (λ h. IsJoined h root (answer xs ys) x k) (λ _. r) (λ b j e g. stays a i a_in b j e g x k x_in r)
+
+    like_joins : ◌≢◌ {A = ℕ × ℕ} (a, i) root → IsSome (link_of s a i) → IsJoined (joined_like (answer xs ys) root s (a, i)) root (answer xs ys) a i
+    like_joins d is = like_by (answer xs ys) root s (a, i) (λ h. IsJoined h root (answer xs ys) a i) (λ w. absurd (none w)) (λ b j e g. this a i a_in b j e g a i a_in (refl, refl))
+      where
+        none : (is_port (a, i) root ≡ true) ⊎ (link_of s a i ≡ None) → ⊥
+        none (inl e) = d (is_root_port a i root e)
+        none (inr e) = let is' = subst (λ (o : Option (ℕ × ℕ)). IsSome o) e is in absurd (cc)
+
+pub like_root : (f : ℕ → ℕ) (root : ℕ × ℕ) (s : Heap) (p : ℕ × ℕ) → is_port p root ≡ true → joined_like f root s p ≡ s
+like_root f root s p e = rw e refl
+
+pub like_none : (f : ℕ → ℕ) (root : ℕ × ℕ) (s : Heap) (p : ℕ × ℕ) → link_of s p.0 p.1 ≡ None → joined_like f root s p ≡ s
+like_none f root s p g = rw g (by (is_port p root))
+  where
+    by : (t : Bool) → cond t s s ≡ s
+    by true = refl
+    by false = refl
+
+pub like_some : (f : ℕ → ℕ) (root : ℕ × ℕ) (s : Heap) (a i b j : ℕ) → is_port (a, i) root ≡ false → link_of s a i ≡ Some (b, j) → joined_like f root s (a, i) ≡ joined s (f a) i (f b) j
+like_some f root s a i b j e g = rw (e, g) refl
+
+pub all_append : (f : ℕ → ℕ) (root : ℕ × ℕ) (s : Heap) (ps qs : List (ℕ × ℕ)) → all_joined f root s (ps ++ qs) ≡ all_joined f root (all_joined f root s ps) qs
+all_append f root s [] qs = refl
+all_append f root s (p ∷ ps) qs = all_append f root (joined_like f root s p) ps qs
+
+pub marks_linked : (i : ℕ) (p : Option (ℕ × ℕ)) (o : Option HeapAtom) → marks_of (option_map (with_link i p) o) ≡ marks_of o
+marks_linked i p None = refl
+marks_linked i p (Some x) = refl
+
+pub all_marks : (f : ℕ → ℕ) (root : ℕ × ℕ) (s : Heap) (ps : List (ℕ × ℕ)) (c k : ℕ) → mark_of (all_joined f root s ps) c k ≡ mark_of s c k
+all_marks f root s ps c k = ap (λ (xs : List ℕ). slice_index_or xs k 0) (all_view marks_of marks_linked f root s ps c)
+
+pub arity_linked : (i : ℕ) (p : Option (ℕ × ℕ)) (o : Option HeapAtom) → length (links_of (option_map (with_link i p) o)) ≡ length (links_of o)
+arity_linked i p None = refl
+arity_linked i p (Some x) = length-set x.links i p
+
+pub all_arity : (f : ℕ → ℕ) (root : ℕ × ℕ) (s : Heap) (ps : List (ℕ × ℕ)) (c : ℕ) → arity_of (all_joined f root s ps) c ≡ arity_of s c
+all_arity f root s ps c = all_view (λ (o : Option HeapAtom). length (links_of o)) arity_linked f root s ps c
+
+pub like_arity : (f : ℕ → ℕ) (root : ℕ × ℕ) (s : Heap) (p : ℕ × ℕ) (c : ℕ) → arity_of (joined_like f root s p) c ≡ arity_of s c
+like_arity f root s p c = all_arity f root s (p ∷ []) c
+
+pub like_numbers : (f : ℕ → ℕ) (root : ℕ × ℕ) (s : Heap) (p : ℕ × ℕ) (k : ℕ) (xs : List ℕ) → Numbered (first_marks s) k xs → Numbered (first_marks (joined_like f root s p)) k xs
+like_numbers f root s p k xs n = numbered_same (first_marks s) (first_marks (joined_like f root s p)) k xs n (λ z i. all_marks f root s (p ∷ []) z 0)
+
+pub all_numbers : (f : ℕ → ℕ) (root : ℕ × ℕ) (s : Heap) (ps : List (ℕ × ℕ)) (k : ℕ) (xs : List ℕ) → Numbered (first_marks s) k xs → Numbered (first_marks (all_joined f root s ps)) k xs
+all_numbers f root s ps k xs n = numbered_same (first_marks s) (first_marks (all_joined f root s ps)) k xs n (λ z i. all_marks f root s ps z 0)
+
+-- many ports
+module _ (root : ℕ × ℕ) (xs ys : List ℕ) where
+  pub all_copying : (s : Heap) (ps : List (ℕ × ℕ)) → Copying s root xs ys → ((p : ℕ × ℕ) → HasPort p ps → In p.0 xs) → Copying (all_joined (answer xs ys) root s ps) root xs ys
+  all_copying s [] t h = t
+  all_copying s (p ∷ ps) t h = all_copying (joined_like (answer xs ys) root s p) ps (like_copying s root xs ys t p.0 p.1 (h p (inl refl))) (λ q k. h q (inr k))
+
+  pub all_away : (s : Heap) (ps : List (ℕ × ℕ)) → Copying s root xs ys → ((p : ℕ × ℕ) → HasPort p ps → In p.0 xs) → (c : ℕ) → (In c ys → ⊥)
+      → (all_joined (answer xs ys) root s ps).atoms c ≡ s.atoms c
+  all_away s [] t h c n = refl
+  all_away s (p ∷ ps) t h c n =
+      all_away (joined_like (answer xs ys) root s p) ps (like_copying s root xs ys t p.0 p.1 (h p (inl refl))) (λ q k. h q (inr k)) c n
+      ∙ like_away s root xs ys t p.0 p.1 (h p (inl refl)) c n
+
+  all_stays : (s : Heap) (ps : List (ℕ × ℕ)) → Copying s root xs ys → ((p : ℕ × ℕ) → HasPort p ps → In p.0 xs) → (x k : ℕ) → In x xs → IsJoined s root (answer xs ys) x k
+      → IsJoined (all_joined (answer xs ys) root s ps) root (answer xs ys) x k
+  all_stays s [] t h x k i r = r
+  all_stays s (p ∷ ps) t h x k i r =
+      all_stays (joined_like (answer xs ys) root s p) ps (like_copying s root xs ys t p.0 p.1 (h p (inl refl))) (λ q m. h q (inr m)) x k i
+      (like_stays s root xs ys t p.0 p.1 (h p (inl refl)) x k i r)
+
+  -- each of these ports but the root has its copy joined
+  pub all_joins : (s : Heap) (ps : List (ℕ × ℕ)) → Copying s root xs ys → ((p : ℕ × ℕ) → HasPort p ps → In p.0 xs) → (a i : ℕ) → HasPort (a, i) ps
+      → ◌≢◌ {A = ℕ × ℕ} (a, i) root → IsSome (link_of s a i) → IsJoined (all_joined (answer xs ys) root s ps) root (answer xs ys) a i
+  all_joins s [] t h a i k d is = absurd k
+  all_joins s (p ∷ ps) t h a i (inl e) d is =
+      let a_in : In a xs = h (a, i) (inl e) in
+      all_stays (joined_like (answer xs ys) root s p) ps (like_copying s root xs ys t p.0 p.1 (h p (inl refl))) (λ q m. h q (inr m)) a i a_in
+      (subst (λ (q : ℕ × ℕ). IsJoined (joined_like (answer xs ys) root s q) root (answer xs ys) a i) (sym e) (like_joins s root xs ys t a i a_in d is))
+  all_joins s (p ∷ ps) t h a i (inr k) d is =
+      all_joins (joined_like (answer xs ys) root s p) ps (like_copying s root xs ys t p.0 p.1 (h p (inl refl))) (λ q m. h q (inr m)) a i k d
+      (subst (λ (o : Option (ℕ × ℕ)). IsSome o) (sym (ap (λ (o : Option HeapAtom). slice_index_or (links_of o) i None) (like_away s root xs ys t p.0 p.1 (h p (inl refl)) a (t.apart a (h (a, i) (inr k)))))) is)
+
+pub ports_in : (xs : List ℕ) (a i n : ℕ) → In a xs → (p : ℕ × ℕ) → HasPort p (ports a i n) → In p.0 xs
+ports_in xs a i zero a_in p k = absurd k
+ports_in xs a i (suc n) a_in p (inl e) = subst (λ (q : ℕ × ℕ). In q.0 xs) e a_in
+ports_in xs a i (suc n) a_in p (inr k) = ports_in xs a (i + 1) n a_in p k

@@ -1,0 +1,15 @@
+use Rattle.std.proofs.Common.{rules, map}
+use Rattle.lmn_ground.specs.Follow.{answer}
+use Rattle.lmn_ground.proofs.CopyLaws.{other_port, port_differs, port_is_joined}
+use Rattle.lmn_ground.proofs.copying.join_port.Goals as goal
+
+pub join-requires-clause-differ : goal.join-requires-clause-differ
+join-requires-clause-differ g c =
+    port_differs _ _ _ _ _ _ _ _ _ _ c.requires.copying c.requires.among (other_port _ _ _ (λ w. absurd (let h = c.if-is_same_port.ensures.1 w in search rules))) c.in-Some.ensures.link c.copy_of-c.ensures c.copy_of-d.ensures
+
+pub returns-in-Some : goal.returns-in-Some
+returns-in-Some g c =
+    port_is_joined (g.S.LinkStore.heap c.args.store.now) (g.S.LinkStore.heap c.join.new.self) (g.S.LinkStore.atom_id c.args.root.0, c.args.root.1)
+    (answer (map g.S.LinkStore.atom_id c.args.atoms.now) (map g.S.LinkStore.atom_id c.args.copies.now)) (g.S.LinkStore.atom_id c.args.a) c.args.i _ _ _ _
+    c.join.ensures (other_port (g.S.LinkStore.atom_id c.args.a) c.args.i (g.S.LinkStore.atom_id c.args.root.0, c.args.root.1) (λ w. absurd (let h = c.if-is_same_port.ensures.1 w in search rules)))
+    c.in-Some.ensures.link c.copy_of-c.ensures c.copy_of-d.ensures

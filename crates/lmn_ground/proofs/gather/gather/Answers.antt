@@ -1,0 +1,55 @@
+use Rattle.std.proofs.Common.{◌<◌, ◌≤◌, ◌+◌, ◌-◌, ℕ, ◌^◌, arith, ◌∙◌, refl}
+use Rattle.lmn_heap.specs.Heap.{arity_of}
+use Rattle.lmn_ground.proofs.SpreadLaws.{spreading_on, there_after, few_next, way_now}
+use Rattle.lmn_ground.proofs.GatherLaws.{gather_first, gather_next, gather_none, gather_some, gather_all, gather_joined}
+use Rattle.lmn_ground.proofs.gather.gather.Goals as goal
+
+less : (n m : ℕ) → n + 1 ≤ m → m - (n + 1) < m - n
+less n m h = omega arith
+
+pub returns-in_err-push-clause-marked : goal.returns-in_err-push-clause-marked
+returns-in_err-push-clause-marked g c = gather_none g.S.LinkStore.atom_id _ c.args.atoms.now c.requires.empty _ c.in_err-push.ensures.err
+
+pub loop-at-init : goal.loop-at-init
+loop-at-init g c = record {
+  atom = there_after _ _ _ _ _ _ c.mark_entry.ensures.marked c.requires.port;
+  walk = gather_first g.S.LinkStore.atom_id _ _ _ c.args.root.1 _ c.args.atoms.now _ c.requires.empty c.in_ok-push.ensures.ok c.mark_entry.ensures.marked refl c.mark_entry.ensures.small c.arity-arity.ensures.sound c.requires.clean c.requires.port;
+  bound = omega arith;
+}
+
+pub seek-at-requires-clause-way : goal.seek-at-requires-clause-way
+seek-at-requires-clause-way g c = way_now _ _ _ _ _ _ _ _ _ c.loop-at.invariant.walk
+
+pub returns-then-at-arity-clause-marked : goal.returns-then-at-arity-clause-marked
+returns-then-at-arity-clause-marked g c = gather_some _ _ _ _ _ _ _ _ c.loop-at.invariant.walk
+
+pub returns-then-at-arity-clause-ok : goal.returns-then-at-arity-clause-ok
+returns-then-at-arity-clause-ok g c =
+    let t = spreading_on _ _ _ _ _ _ _ _ _ _ _ _ c.loop-at.invariant.walk c.seek-at.ensures.sought c.seek-at.ensures.halts.inside in
+    let f = c.if-at-arity.true ∙ c.arity.ensures.arity in
+    gather_all _ _ _ _ _ _ _ _ t (c.seek-at.ensures.halts.end f) f
+
+pub loop-at-smaller : goal.loop-at-smaller
+loop-at-smaller g c =
+    let t = spreading_on _ _ _ _ _ _ _ _ _ _ _ _ c.loop-at.invariant.walk c.seek-at.ensures.sought c.seek-at.ensures.halts.inside in
+    let h : c.loop-at.count + 1 ≤ 2 ^ 48 = few_next _ _ _ _ _ _ _ _ _ _ (2 ^ 48) t c.arity.ensures.few c.in-Some.ensures.there.0 (c.seek-at.ensures.halts.fresh _ _ c.in-Some.ensures.link) in
+    less c.loop-at.count (2 ^ 48) h
+
+pub loop-at-preserved : goal.loop-at-preserved
+loop-at-preserved g c =
+    let t = spreading_on _ _ _ _ _ _ _ _ _ _ _ _ c.loop-at.invariant.walk c.seek-at.ensures.sought c.seek-at.ensures.halts.inside in
+    let l : c.seek-at.result.port < arity_of (g.S.LinkStore.heap c.loop-at.store) (g.S.LinkStore.atom_id c.seek-at.result.atom) = let h = c.seek-at.ensures.halts.inside in omega (arith, h) in
+    let fresh = c.seek-at.ensures.halts.fresh _ _ c.in-Some.ensures.link in
+    let p = c.in-Some.ensures.there.1 in
+    record {
+      atom = there_after _ _ _ _ _ _ c.mark_entry-in-Some.ensures.marked p;
+      walk = gather_next g.S.LinkStore.atom_id _ _ _ _ c.loop-at.atoms _ _ _ _ _ _ _ c.in_ok-push-in-Some.ensures.ok c.mark_entry-in-Some.ensures.marked t c.arity.ensures.sound c.requires.clean l c.in-Some.ensures.link c.in-Some.ensures.back p c.mark_entry-in-Some.ensures.small
+          (c.seek-at.ensures.halts.apart l) fresh;
+      bound = few_next _ _ _ _ _ _ _ _ _ _ (2 ^ 48) t c.arity.ensures.few c.in-Some.ensures.there.0 fresh;
+    }
+
+pub unreachable-requires : goal.unreachable-requires
+unreachable-requires g c =
+    let t = spreading_on _ _ _ _ _ _ _ _ _ _ _ _ c.loop-at.invariant.walk c.seek-at.ensures.sought c.seek-at.ensures.halts.inside in
+    let l : c.seek-at.result.port < arity_of (g.S.LinkStore.heap c.loop-at.store) (g.S.LinkStore.atom_id c.seek-at.result.atom) = let h = c.seek-at.ensures.halts.inside in omega (arith, h) in
+    gather_joined _ _ _ _ _ _ _ _ t c.in-None.ensures.link l (c.seek-at.ensures.halts.apart l) c.requires.ground

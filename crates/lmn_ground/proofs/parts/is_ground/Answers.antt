@@ -1,0 +1,34 @@
+use Rattle.std.proofs.Common.{rules}
+use Rattle.lmn_base.specs.Graphs.{at_root}
+use Rattle.lmn_ground.proofs.SpreadLaws.{clean_part}
+use Rattle.lmn_ground.proofs.GroundLaws.{root_there, root_port_there, fits_ground}
+use Rattle.lmn_ground.proofs.parts.is_ground.Goals as goal
+
+pub returns-then-not-fits-clause-ground : goal.returns-then-not-fits-clause-ground
+returns-then-not-fits-clause-ground g c = (
+  λ w. absurd (search rules),
+  λ is.
+      let f = (fits_ground _ _ _ c.arity-arity.ensures.sound).1 is in
+      let w = c.if-not-fits.ensures.1 (f.atoms _ at_root) in search rules,
+)
+
+pub wipe-requires-clause-atom : goal.wipe-requires-clause-atom
+wipe-requires-clause-atom g c = root_there _ _ _ _ _ c.spread-found.ensures.spread c.requires.atom
+
+pub wipe-requires-clause-port : goal.wipe-requires-clause-port
+wipe-requires-clause-port g c = root_port_there _ _ _ _ _ c.spread-found.ensures.spread c.requires.port
+
+pub wipe-requires-clause-spread : goal.wipe-requires-clause-spread
+wipe-requires-clause-spread g c = (g.S.LinkStore.heap c.args.store.now, _, c.spread-found.ensures.spread)
+
+pub returns-clause-ground : goal.returns-clause-ground
+returns-clause-ground g c =
+    let e = c.spread-found.ensures.fits in
+    let f = fits_ground _ _ _ c.arity-arity.ensures.sound in
+    (λ w. f.0 (e.0 w), λ is. e.1 (f.1 is))
+
+pub returns-clause-same : goal.returns-clause-same
+returns-clause-same g c = c.wipe.ensures _ _ c.spread-found.ensures.spread
+
+pub spread-found-requires-clause-clean : goal.spread-found-requires-clause-clean
+spread-found-requires-clause-clean g c = clean_part _ _ c.arity-arity.ensures.sound c.requires.port c.requires.clean

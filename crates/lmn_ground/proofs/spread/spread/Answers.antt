@@ -1,0 +1,87 @@
+use Rattle.std.proofs.Common.{[], ◌∷◌, rules, ◌<◌, ◌≤◌, ◌+◌, ◌-◌, ℕ, ◌^◌, IfSome, arith, sym, subst, ◌∙◌}
+use Rattle.std.specs.Option.{option_map}
+use Rattle.lmn_heap.specs.Heap.{Heap, IsAtom, IsMem, arity_of}
+use Rattle.lmn_ground.specs.Spread.{Spreading}
+use Rattle.lmn_ground.proofs.SpreadLaws.{spreading_first, spreading_on, entered, there_after, spread_some, spread_all, part_fits, unfit, unjoined, few_next, way_now, fits_before, first_there}
+use Rattle.lmn_ground.proofs.spread.spread.Goals as goal
+
+less : (n m : ℕ) → n + 1 ≤ m → m - (n + 1) < m - n
+less n m h = omega arith
+
+pub loop-at-init : goal.loop-at-init
+loop-at-init g c =
+    let id = g.S.LinkStore.atom_id in
+    let e = sym c.set_mark.ensures in
+    record {
+      atom = subst (λ (s : Heap). IsAtom s (id c.args.root.0)) e (first_there (g.S.LinkStore.heap c.args.store.now) (id c.args.root.0) 0 (512 + c.args.root.1) (let p = c.requires.port in omega (arith, p)));
+      walk = (
+        _,
+        subst (λ (s : Heap). Spreading (g.S.LinkStore.heap c.args.store.now) s (id c.args.root.0, c.args.root.1) (option_map g.S.LinkStore.mem_id c.args.home) (id c.args.root.0 ∷ []) 0 (id c.args.root.0) 0 1) e
+            (spreading_first (g.S.LinkStore.heap c.args.store.now) (id c.args.root.0, c.args.root.1) _ (512 + c.args.root.1) c.arity-arity.ensures.sound c.requires.clean c.requires.port c.requires.first (omega arith) (let e = c.arity-arity.ensures.arity in let r = c.arity-arity.type_inv in let p = c.requires.port in omega (arith, e, r, p))),
+      );
+      mem = subst (λ (s : Heap). IfSome c.args.home (λ m. IsMem s (g.S.LinkStore.mem_id m))) e c.requires.mem;
+      bound = omega arith;
+    }
+
+pub seek-at-requires-clause-way : goal.seek-at-requires-clause-way
+seek-at-requires-clause-way g c = way_now _ _ _ _ _ _ _ _ _ c.loop-at.invariant.walk.1
+
+pub returns-then-at-arity-clause-spread : goal.returns-then-at-arity-clause-spread
+returns-then-at-arity-clause-spread g c =
+    let t = spreading_on _ _ _ _ _ _ _ _ _ _ _ _ c.loop-at.invariant.walk.1 c.seek-at.ensures.sought c.seek-at.ensures.halts.inside in
+    let f = c.if-at-arity.true ∙ c.arity.ensures.arity in
+    spread_all _ _ _ _ _ _ _ _ _ t (c.seek-at.ensures.halts.end f) f
+
+pub returns-then-at-arity-clause-fits : goal.returns-then-at-arity-clause-fits
+returns-then-at-arity-clause-fits g c =
+    let t = spreading_on _ _ _ _ _ _ _ _ _ _ _ _ c.loop-at.invariant.walk.1 c.seek-at.ensures.sought c.seek-at.ensures.halts.inside in
+    let f = c.if-at-arity.true ∙ c.arity.ensures.arity in
+    (λ _. part_fits _ _ _ _ _ _ _ _ _ t (c.seek-at.ensures.halts.end f) f, λ _. search rules)
+
+pub returns-then-not-fits-clause-spread : goal.returns-then-not-fits-clause-spread
+returns-then-not-fits-clause-spread g c =
+    let t = spreading_on _ _ _ _ _ _ _ _ _ _ _ _ c.loop-at.invariant.walk.1 c.seek-at.ensures.sought c.seek-at.ensures.halts.inside in
+    spread_some _ _ _ _ _ _ _ _ _ t
+
+pub returns-then-not-fits-clause-fits : goal.returns-then-not-fits-clause-fits
+returns-then-not-fits-clause-fits g c =
+    let t = spreading_on _ _ _ _ _ _ _ _ _ _ _ _ c.loop-at.invariant.walk.1 c.seek-at.ensures.sought c.seek-at.ensures.halts.inside in
+    let l : c.seek-at.result.port < arity_of (g.S.LinkStore.heap c.loop-at.store) (g.S.LinkStore.atom_id c.seek-at.result.atom) = let h = c.seek-at.ensures.halts.inside in omega (arith, h) in
+    let both = fits_before _ _ _ _ _ _ _ _ _ _ _ t c.in-Some.ensures.there.1 in
+    (λ w. absurd (search rules), λ f. absurd (unfit _ _ _ _ _ _ _ _ _ _ _ t c.in-Some.ensures.link (c.seek-at.ensures.halts.apart l) (λ k. let w = c.if-not-fits.ensures.1 (both.1 k) in search rules) f))
+
+pub loop-at-smaller : goal.loop-at-smaller
+loop-at-smaller g c =
+    let t = spreading_on _ _ _ _ _ _ _ _ _ _ _ _ c.loop-at.invariant.walk.1 c.seek-at.ensures.sought c.seek-at.ensures.halts.inside in
+    let h : c.loop-at.count + 1 ≤ 2 ^ 48 = few_next _ _ _ _ _ _ _ _ _ _ (2 ^ 48) t c.arity.ensures.few c.in-Some.ensures.there.0 (c.seek-at.ensures.halts.fresh _ _ c.in-Some.ensures.link) in
+    less c.loop-at.count (2 ^ 48) h
+
+pub loop-at-preserved : goal.loop-at-preserved
+loop-at-preserved g c =
+    let id = g.S.LinkStore.atom_id in
+    let now = g.S.LinkStore.heap c.loop-at.store in
+    let t = spreading_on _ _ _ _ _ _ _ _ _ _ _ _ c.loop-at.invariant.walk.1 c.seek-at.ensures.sought c.seek-at.ensures.halts.inside in
+    let l : c.seek-at.result.port < arity_of (g.S.LinkStore.heap c.loop-at.store) (g.S.LinkStore.atom_id c.seek-at.result.atom) = let h = c.seek-at.ensures.halts.inside in omega (arith, h) in
+    let fresh = c.seek-at.ensures.halts.fresh _ _ c.in-Some.ensures.link in
+    let p = c.in-Some.ensures.there.1 in
+    record {
+      atom = there_after _ _ _ _ _ _ c.mark_entry.ensures.marked p;
+      walk = (
+        _,
+        entered _ _ _ _ _ _ _ _ _ _ _ _ c.mark_entry.ensures.marked t c.arity.ensures.sound c.requires.clean l c.in-Some.ensures.link c.in-Some.ensures.back p c.mark_entry.ensures.small
+            (c.seek-at.ensures.halts.apart l) fresh (c.fits.ensures.0 (search rules)),
+      );
+      mem = subst (λ (s : Heap). IfSome c.args.home (λ m. IsMem s (g.S.LinkStore.mem_id m))) (sym c.mark_entry.ensures.marked) c.loop-at.invariant.mem;
+      bound = few_next _ _ _ _ _ _ _ _ _ _ (2 ^ 48) t c.arity.ensures.few c.in-Some.ensures.there.0 fresh;
+    }
+
+pub returns-in-None-clause-spread : goal.returns-in-None-clause-spread
+returns-in-None-clause-spread g c =
+    let t = spreading_on _ _ _ _ _ _ _ _ _ _ _ _ c.loop-at.invariant.walk.1 c.seek-at.ensures.sought c.seek-at.ensures.halts.inside in
+    spread_some _ _ _ _ _ _ _ _ _ t
+
+pub returns-in-None-clause-fits : goal.returns-in-None-clause-fits
+returns-in-None-clause-fits g c =
+    let t = spreading_on _ _ _ _ _ _ _ _ _ _ _ _ c.loop-at.invariant.walk.1 c.seek-at.ensures.sought c.seek-at.ensures.halts.inside in
+    let l : c.seek-at.result.port < arity_of (g.S.LinkStore.heap c.loop-at.store) (g.S.LinkStore.atom_id c.seek-at.result.atom) = let h = c.seek-at.ensures.halts.inside in omega (arith, h) in
+    (λ w. absurd (search rules), λ f. absurd (unjoined _ _ _ _ _ _ _ _ _ t c.in-None.ensures.link l (c.seek-at.ensures.halts.apart l) f))

@@ -1,0 +1,39 @@
+-- Two parts that are walked in step: the first walk gives numbers to the atoms of y's part; the second goes through x's part and
+-- compares.
+use Rattle.std.specs.Prelude.{ℕ, ◌≡◌, ◌⊎◌, ◌<◌, ◌==◌, true, List, [], ◌∷◌, Some, None, if◌then◌else◌, length}
+use Rattle.lmn_heap.specs.Heap.{Heap, In, arity_of, link_of, functor_of}
+use Rattle.lmn_heap.specs.Sound.{Sound}
+use Rattle.lmn_ground.specs.Walks.{HasPort, net, Walk, next, IsPart}
+use Rattle.lmn_ground.specs.Marks.{first_marks, ahead}
+use Rattle.lmn_ground.specs.Spread.{IsWhole, Numbered, Spreading}
+
+-- The atom of ys that stands where a stands in xs.
+abbrev pub answer : List ℕ → List ℕ → ℕ → ℕ
+answer [] ys a = 0
+answer (x ∷ xs) [] a = 0
+answer (x ∷ xs) (y ∷ ys) a = if x == a then y else answer xs ys a
+
+-- a port and its answer lead to a port and its answer
+abbrev pub SameEnd : Heap → List ℕ → List ℕ → ℕ → ℕ → Type 0
+SameEnd s seen ys a i = (b j : ℕ) → link_of s a i ≡ Some (b, j) → In b seen × (link_of s (answer seen ys a) i ≡ Some (answer seen ys b, j))
+
+-- two ground parts with as many atoms and no common one, and equal root ports
+pub record Two (s : Heap) (x y : ℕ × ℕ) (xs ys : List ℕ) : Type 0 where
+  pub sound : Sound s
+  pub full : IsWhole s x None
+  pub part : IsPart s x xs
+  pub part' : IsPart s y ys
+  pub apart : (a : ℕ) → In a xs → In a ys → ⊥
+  pub ports : x.1 ≡ y.1
+  pub long : length xs ≡ length ys
+
+-- A walk through x's part stands at port i of the atom a, which c answers; what it went through agrees.
+pub record Following (before now : Heap) (x y : ℕ × ℕ) (xs ys seen : List ℕ) (depth a c i count : ℕ) : Type 0 where
+  pub walk : Spreading before now x None seen depth a i count
+  pub numbers : Numbered (first_marks now) 2 ys
+  pub rest : Walk (net before).arity (next (net before) x (λ _. true)) seen (ahead (net before) (first_marks now) depth a i) xs
+  pub answers : c ≡ answer seen ys a
+  pub root : answer seen ys x.0 ≡ y.0
+  pub agreed : (p k : ℕ) → In p seen → k < arity_of before p
+      → HasPort (p, k) (ahead (net before) (first_marks now) depth a i) ⊎ ((◌≡◌ {A = ℕ × ℕ} (p, k) x) ⊎ SameEnd before seen ys p k)
+  pub functors : (p : ℕ) → In p seen → functor_of before (answer seen ys p) ≡ functor_of before p

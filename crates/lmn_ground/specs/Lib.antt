@@ -1,0 +1,5 @@
+pub mod Walks
+pub mod Marks
+pub mod Spread
+pub mod Follow
+pub mod Copies

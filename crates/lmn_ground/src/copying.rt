@@ -1,0 +1,165 @@
+//! A part is copied.
+ghost use Rattle.std.specs.Prelude.{◌≡◌, ◌≢◌, ◌<◌, ℕ, List, [], None, Some, IfOk, OnErr, OnOk, length, map};
+ghost use Rattle.lmn_base.specs.Graphs.{Reached};
+ghost use Rattle.lmn_heap.specs.Graphs.{atom_map};
+ghost use Rattle.lmn_heap.specs.Conditions.{Alone};
+ghost use Rattle.lmn_heap.specs.Heap.{In, IsAtom, arity_of, link_of};
+ghost use Rattle.lmn_ground.specs.Marks.{first_marks};
+ghost use Rattle.lmn_ground.specs.Walks.{ports};
+ghost use Rattle.lmn_ground.specs.Spread.{Clean, CleanPart, IsWhole, Numbered};
+ghost use Rattle.lmn_ground.specs.Follow.{answer};
+ghost use Rattle.lmn_ground.specs.Copies.{AllAtoms, Copied, Copying, LeadsOut, Made, Remains, all_joined, joined_like, ports_of, unmarked_all};
+
+use crate::equality::is_same_port;
+use crate::gather::{clear, gather};
+use crate::seek::arity;
+use lmn_base::{NoMemory, Rows};
+use lmn_store::LinkStore;
+use std::alloc::Global;
+
+/// Makes an atom for each of the part, with its functor.
+fn make_copies<S: LinkStore>(
+    alloc: Global,
+    store: &mut S,
+    atoms: &Rows<S::Atom>,
+    copies: &mut Rows<S::Atom>,
+) -> Result<(), NoMemory>
+    requires there { AllAtoms (S.heap store.old) (map S.atom_id atoms.now) }
+    requires empty { copies.old ≡ [] }
+    ensures some { (ys : List ℕ) × Made (S.heap store.old) (S.heap store.new) (map S.atom_id atoms.now) ys }
+    ensures all { OnOk result (Made (S.heap store.old) (S.heap store.new) (map S.atom_id atoms.now) (map S.atom_id copies.new)) }
+    ensures long { OnOk result (length copies.new ≡ length atoms.now) }
+{
+    for i in 0..atoms.len() {
+        let functor = store.functor(*atoms.at(i));
+        let copy = store.make_atom(alloc, functor)?;
+        copies.push(copy)?;
+    }
+    Ok(())
+}
+
+/// The copy of an atom, by the number in its mark.
+fn copy_of<S: LinkStore>(
+    store: &S,
+    atoms: &Rows<S::Atom>,
+    copies: &Rows<S::Atom>,
+    a: S::Atom,
+) -> S::Atom
+    requires atom { IsAtom (S.heap store.now) (S.atom_id a) }
+    requires numbers { Numbered (first_marks (S.heap store.now)) 2 (map S.atom_id atoms.now) }
+    requires among { In (S.atom_id a) (map S.atom_id atoms.now) }
+    requires long { length copies.now ≡ length atoms.now }
+    ensures { S.atom_id result ≡ answer (map S.atom_id atoms.now) (map S.atom_id copies.now) (S.atom_id a) }
+{
+    let number = store.mark(a, 0) / 256 - 2;
+    *copies.at(number as usize)
+}
+
+/// Joins the copy of a port to the copy of its partner.
+fn join_port<S: LinkStore>(
+    store: &mut S,
+    root: (S::Atom, u8),
+    atoms: &Rows<S::Atom>,
+    copies: &Rows<S::Atom>,
+    a: S::Atom,
+    i: u8,
+)
+    requires copying { Copying (S.heap store.old) (S.atom_id root.0, root.1) (map S.atom_id atoms.now) (map S.atom_id copies.now) }
+    requires numbers { Numbered (first_marks (S.heap store.old)) 2 (map S.atom_id atoms.now) }
+    requires among { In (S.atom_id a) (map S.atom_id atoms.now) }
+    requires port { i < arity_of (S.heap store.old) (S.atom_id a) }
+    ensures { S.heap store.new ≡ joined_like (answer (map S.atom_id atoms.now) (map S.atom_id copies.now)) (S.atom_id root.0, root.1) (S.heap store.old) (S.atom_id a, i) }
+{
+    if is_same_port(store, (a, i), root) {
+        return;
+    }
+    if let Some((b, j)) = store.partner(a, i) {
+        let c = copy_of(store, atoms, copies, a);
+        let d = copy_of(store, atoms, copies, b);
+        store.join(c, i, d, j);
+    }
+}
+
+/// Joins the copies of an atom's ports.
+fn join_ports<S: LinkStore>(
+    store: &mut S,
+    root: (S::Atom, u8),
+    atoms: &Rows<S::Atom>,
+    copies: &Rows<S::Atom>,
+    a: S::Atom,
+)
+    requires copying { Copying (S.heap store.old) (S.atom_id root.0, root.1) (map S.atom_id atoms.now) (map S.atom_id copies.now) }
+    requires numbers { Numbered (first_marks (S.heap store.old)) 2 (map S.atom_id atoms.now) }
+    requires among { In (S.atom_id a) (map S.atom_id atoms.now) }
+    ensures { S.heap store.new ≡ all_joined (answer (map S.atom_id atoms.now) (map S.atom_id copies.now)) (S.atom_id root.0, root.1) (S.heap store.old) (ports (S.atom_id a) 0 (arity_of (S.heap store.old) (S.atom_id a))) }
+{
+    for i in 0..arity(store, a) {
+        join_port(store, root, atoms, copies, a, i);
+    }
+}
+
+/// Joins the copies as the atoms of the part.
+fn join_copies<S: LinkStore>(
+    store: &mut S,
+    root: (S::Atom, u8),
+    atoms: &Rows<S::Atom>,
+    copies: &Rows<S::Atom>,
+)
+    requires copying { Copying (S.heap store.old) (S.atom_id root.0, root.1) (map S.atom_id atoms.now) (map S.atom_id copies.now) }
+    requires numbers { Numbered (first_marks (S.heap store.old)) 2 (map S.atom_id atoms.now) }
+    ensures { S.heap store.new ≡ all_joined (answer (map S.atom_id atoms.now) (map S.atom_id copies.now)) (S.atom_id root.0, root.1) (S.heap store.old) (ports_of (S.heap store.old) (map S.atom_id atoms.now)) }
+{
+    for k in 0..atoms.len() {
+        join_ports(store, root, atoms, copies, *atoms.at(k));
+    }
+}
+
+/// Copies a part, and leaves the marks of its atoms, which are listed. Answers the copy of the root's atom.
+fn copy_marked<S: LinkStore>(
+    alloc: Global,
+    store: &mut S,
+    root: (S::Atom, u8),
+    atoms: &mut Rows<S::Atom>,
+) -> Result<S::Atom, NoMemory>
+    requires atom { IsAtom (S.heap store.old) (S.atom_id root.0) }
+    requires port { root.1 < arity_of (S.heap store.old) (S.atom_id root.0) }
+    requires clean { CleanPart (S.heap store.old) (S.atom_id root.0, root.1) }
+    requires ground { IsWhole (S.heap store.old) (S.atom_id root.0, root.1) None }
+    requires outside { LeadsOut (S.heap store.old) (S.atom_id root.0, root.1) }
+    requires empty { atoms.old ≡ [] }
+    ensures there { AllAtoms (S.heap store.new) (map S.atom_id atoms.new) }
+    ensures ok { IfOk result (λ c. Copied (S.heap store.old) (unmarked_all (S.heap store.new) (map S.atom_id atoms.new)) (S.atom_id root.0, root.1) (S.atom_id c, root.1)) }
+    ensures err { OnErr result (Remains (S.heap store.old) (unmarked_all (S.heap store.new) (map S.atom_id atoms.new))) }
+{
+    let _arity = arity(store, root.0);
+    gather(store, root, atoms)?;
+    let mut copies = Rows::new(alloc);
+    let _sound = store.root();
+    make_copies(alloc, store, atoms, &mut copies)?;
+    let _joined = store.root();
+    join_copies(store, root, atoms, &copies);
+    Ok(*copies.at(0))
+}
+
+/// Copies a part whose root has no partner in it. The copy's atoms are detached, in the order in which the part's are
+/// found, and its root has no partner. At want of memory some detached atoms may have been made, which `discard` gives back.
+pub fn copy<S: LinkStore>(
+    alloc: Global,
+    store: &mut S,
+    root: (S::Atom, u8),
+) -> Result<(S::Atom, u8), NoMemory>
+    requires atom { IsAtom (S.heap store.old) (S.atom_id root.0) }
+    requires port { root.1 < arity_of (S.heap store.old) (S.atom_id root.0) }
+    requires clean { Clean (S.heap store.old) }
+    requires ground { IsWhole (S.heap store.old) (S.atom_id root.0, root.1) None }
+    requires outside { LeadsOut (S.heap store.old) (S.atom_id root.0, root.1) }
+    ensures ok { IfOk result (λ c. Copied (S.heap store.old) (S.heap store.new) (S.atom_id root.0, root.1) (S.atom_id c.0, c.1)) }
+    ensures err { OnErr result (Remains (S.heap store.old) (S.heap store.new)) }
+    ensures alone { Alone (S.heap store.old) → Alone (S.heap store.new) }
+{
+    let _arity = arity(store, root.0);
+    let mut atoms = Rows::new(alloc);
+    let copied = copy_marked(alloc, store, root, &mut atoms);
+    clear(store, &atoms);
+    Ok((copied?, root.1))
+}

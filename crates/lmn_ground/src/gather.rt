@@ -1,0 +1,64 @@
+//! The walk that lists the atoms of a part.
+ghost use Rattle.std.specs.Prelude.{◌≡◌, ◌<◌, [], map, None, OnOk};
+ghost use Rattle.lmn_heap.specs.Heap.{IsAtom, arity_of};
+ghost use Rattle.lmn_ground.specs.Spread.{CleanPart, IsWhole};
+ghost use Rattle.lmn_ground.specs.Copies.{AllAtoms, Numbers, Gathered, unmarked_all};
+
+use crate::seek::{Stand, arity, seek};
+use crate::spread::mark_entry;
+use lmn_base::{NoMemory, Rows};
+use lmn_store::LinkStore;
+
+/// Lists the atoms of a part as a walk finds them, and marks each with its number.
+pub fn gather<S: LinkStore>(
+    store: &mut S,
+    root: (S::Atom, u8),
+    atoms: &mut Rows<S::Atom>,
+) -> Result<(), NoMemory>
+    requires atom { IsAtom (S.heap store.old) (S.atom_id root.0) }
+    requires port { root.1 < arity_of (S.heap store.old) (S.atom_id root.0) }
+    requires clean { CleanPart (S.heap store.old) (S.atom_id root.0, root.1) }
+    requires ground { IsWhole (S.heap store.old) (S.atom_id root.0, root.1) None }
+    requires empty { atoms.old ≡ [] }
+    ensures marked { Numbers (S.heap store.old) (S.heap store.new) (map S.atom_id atoms.new) }
+    ensures ok { OnOk result (Gathered (S.heap store.old) (S.heap store.new) (S.atom_id root.0, root.1) (map S.atom_id atoms.new)) }
+{
+    let _arity = arity(store, root.0);
+    atoms.push(root.0)?;
+    mark_entry(store, root.0, root.1, 0);
+    let mut count = 1;
+    let mut at = Stand {
+        atom: root.0,
+        port: 0,
+        depth: 0,
+    };
+    loop {
+        at = seek(store, root, at);
+        if at.port == arity(store, at.atom) {
+            return Ok(());
+        }
+        match store.partner(at.atom, at.port) {
+            Some((b, j)) => {
+                atoms.push(b)?;
+                mark_entry(store, b, j, count);
+                at = Stand {
+                    atom: b,
+                    port: 0,
+                    depth: at.depth + 1,
+                };
+                count += 1;
+            }
+            None => unreachable!(),
+        }
+    }
+}
+
+/// Takes back the first marks of these atoms.
+pub fn clear<S: LinkStore>(store: &mut S, atoms: &Rows<S::Atom>)
+    requires there { AllAtoms (S.heap store.old) (map S.atom_id atoms.now) }
+    ensures { S.heap store.new ≡ unmarked_all (S.heap store.old) (map S.atom_id atoms.now) }
+{
+    for i in 0..atoms.len() {
+        store.set_mark(*atoms.at(i), 0, 0);
+    }
+}

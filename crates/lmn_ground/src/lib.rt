@@ -1,0 +1,19 @@
+//! Parts of a store that are walked by marks.
+#![tactic(auto)]
+
+mod compare;
+mod copying;
+mod equality;
+mod gather;
+mod parts;
+mod seek;
+mod spread;
+mod take;
+mod wipe;
+
+pub use copying::copy;
+pub use equality::equal;
+pub use parts::{is_ground, size_of, take_part};
+
+#[cfg(test)]
+mod tests;

@@ -1,0 +1,61 @@
+//! What can be asked of a part.
+ghost use Rattle.std.specs.Prelude.{◌≡◌, ◌<◌, ◌↔◌, ℕ, List, None, Some, IsTrue, length};
+ghost use Rattle.lmn_base.specs.Graphs.{Reached};
+ghost use Rattle.lmn_heap.specs.Graphs.{atom_map};
+ghost use Rattle.lmn_heap.specs.Heap.{IsAtom, IsInPlace, IsMem, arity_of};
+ghost use Rattle.lmn_ground.specs.Walks.{IsPart};
+ghost use Rattle.lmn_ground.specs.Spread.{AreAtoms, Clean, IsWhole, IsGround, taken_all};
+
+use crate::seek::arity;
+use crate::spread::{fits, spread};
+use crate::take::take_marked;
+use crate::wipe::wipe;
+use lmn_store::LinkStore;
+
+/// Whether the part with this root stands whole in the membrane, and none of its atoms has the own mark 1.
+pub fn is_ground<S: LinkStore>(store: &mut S, root: (S::Atom, u8), mem: S::Mem) -> bool
+    requires atom { IsAtom (S.heap store.old) (S.atom_id root.0) }
+    requires port { root.1 < arity_of (S.heap store.old) (S.atom_id root.0) }
+    requires mem { IsMem (S.heap store.old) (S.mem_id mem) }
+    requires clean { Clean (S.heap store.old) }
+    ensures ground { IsTrue result ↔ IsGround (S.heap store.old) (S.atom_id root.0, root.1) (S.mem_id mem) }
+    ensures same { S.heap store.new ≡ S.heap store.old }
+{
+    let _arity = arity(store, root.0);
+    if !fits(store, Some(mem), root.0) {
+        return false;
+    }
+    let found = spread(store, root, Some(mem));
+    wipe(store, root, found.0);
+    found.1
+}
+
+/// The number of atoms of the part with this root.
+pub fn size_of<S: LinkStore>(store: &mut S, root: (S::Atom, u8)) -> u64
+    requires atom { IsAtom (S.heap store.old) (S.atom_id root.0) }
+    requires port { root.1 < arity_of (S.heap store.old) (S.atom_id root.0) }
+    requires clean { Clean (S.heap store.old) }
+    requires ground { IsWhole (S.heap store.old) (S.atom_id root.0, root.1) None }
+    ensures size { (xs : List ℕ) → AreAtoms (S.heap store.old) (S.atom_id root.0, root.1) xs → result ≡ length xs }
+    ensures part { (all : List ℕ) × IsPart (S.heap store.old) (S.atom_id root.0, root.1) all × (length all ≡ result) }
+    ensures same { S.heap store.new ≡ S.heap store.old }
+{
+    let _arity = arity(store, root.0);
+    let found = spread(store, root, None);
+    wipe(store, root, found.0);
+    found.0
+}
+
+/// Takes every atom of the part with this root; partners stay as they are.
+pub fn take_part<S: LinkStore>(store: &mut S, root: (S::Atom, u8))
+    requires atom { IsAtom (S.heap store.old) (S.atom_id root.0) }
+    requires port { root.1 < arity_of (S.heap store.old) (S.atom_id root.0) }
+    requires clean { Clean (S.heap store.old) }
+    requires ground { IsWhole (S.heap store.old) (S.atom_id root.0, root.1) None }
+    requires placed { (a : ℕ) → Reached (atom_map (S.heap store.old)) (S.atom_id root.0, root.1) a → IsInPlace (S.heap store.old) a }
+    ensures { (all : List ℕ) × IsPart (S.heap store.old) (S.atom_id root.0, root.1) all × (S.heap store.new ≡ taken_all (S.heap store.old) all) }
+{
+    let _arity = arity(store, root.0);
+    let found = spread(store, root, None);
+    take_marked(store, root, found.0);
+}

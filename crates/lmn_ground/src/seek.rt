@@ -1,0 +1,97 @@
+//! A walk goes on to the next port that has to be looked at.
+ghost use Rattle.std.specs.Prelude.{◌≡◌, ◌<◌, ◌≤◌, ◌+◌, ◌↔◌, ◌^◌, IsTrue};
+ghost use Rattle.lmn_heap.specs.Heap.{IsAtom, arity_of};
+ghost use Rattle.lmn_heap.specs.Sound.{Sound, AtMost};
+ghost use Rattle.lmn_ground.specs.Walks.{net};
+ghost use Rattle.lmn_ground.specs.Marks.{first_marks, back, OnWay, Sought, Halts};
+
+use lmn_store::LinkStore;
+
+/// Where a walk stands: at a port of an atom, so many atoms away from the root.
+#[derive(Clone, Copy, Drop)]
+pub struct Stand<A> {
+    pub atom: A,
+    pub port: u8,
+    pub depth: u64,
+}
+
+/// How many ports an atom has.
+pub fn arity<S: LinkStore>(store: &S, a: S::Atom) -> u8
+    requires { IsAtom (S.heap store.now) (S.atom_id a) }
+    ensures arity { result ≡ arity_of (S.heap store.now) (S.atom_id a) }
+    ensures sound { Sound (S.heap store.now) }
+    ensures few { AtMost (2 ^ 48) (S.heap store.now) }
+{
+    let _root = store.root();
+    store.functor(a).arity
+}
+
+/// The port behind the one from which the atom was entered.
+pub fn go_back<S: LinkStore>(store: &S, root: (S::Atom, u8), at: Stand<S::Atom>) -> Stand<S::Atom>
+    requires atom { IsAtom (S.heap store.now) (S.atom_id at.atom) }
+    requires deep { 0 < at.depth }
+    requires way { OnWay (net (S.heap store.now)) (first_marks (S.heap store.now)) (S.atom_id root.0, root.1) at.depth (S.atom_id at.atom) }
+    ensures atom { IsAtom (S.heap store.now) (S.atom_id result.atom) }
+    ensures number { S.atom_id result.atom ≡ (back (net (S.heap store.now)) (first_marks (S.heap store.now)) (S.atom_id at.atom)).0 }
+    ensures port { result.port ≡ (back (net (S.heap store.now)) (first_marks (S.heap store.now)) (S.atom_id at.atom)).1 + 1 }
+    ensures depth { at.depth ≡ result.depth + 1 }
+{
+    let _arity = arity(store, at.atom);
+    let entry = (store.mark(at.atom, 0) % 256) as u8;
+    match store.partner(at.atom, entry) {
+        Some((atom, port)) => {
+            let _there = arity(store, atom);
+            Stand {
+                atom,
+                port: port + 1,
+                depth: at.depth - 1,
+            }
+        }
+        None => unreachable!(),
+    }
+}
+
+/// Whether a port is the root: that of the root's atom, which is no step away.
+pub fn is_root(depth: u64, port: u8, root: u8) -> bool
+    ensures { IsTrue result ↔ (depth ≡ 0) × (port ≡ root) }
+{
+    depth == 0 && port == root
+}
+
+/// The next port that has to be looked at.
+pub fn seek<S: LinkStore>(store: &S, root: (S::Atom, u8), from: Stand<S::Atom>) -> Stand<S::Atom>
+    requires atom { IsAtom (S.heap store.now) (S.atom_id from.atom) }
+    requires port { from.port ≤ arity_of (S.heap store.now) (S.atom_id from.atom) }
+    requires way { OnWay (net (S.heap store.now)) (first_marks (S.heap store.now)) (S.atom_id root.0, root.1) from.depth (S.atom_id from.atom) }
+    ensures atom { IsAtom (S.heap store.now) (S.atom_id result.atom) }
+    ensures sought { Sought (net (S.heap store.now)) (first_marks (S.heap store.now)) (S.atom_id root.0, root.1) from.depth (S.atom_id from.atom) from.port result.depth (S.atom_id result.atom) result.port }
+    ensures halts { Halts (net (S.heap store.now)) (first_marks (S.heap store.now)) (S.atom_id root.0, root.1) result.depth (S.atom_id result.atom) result.port }
+{
+    let mut at = from;
+    loop {
+        if at.port == arity(store, at.atom) {
+            if at.depth == 0 {
+                return at;
+            }
+            at = go_back(store, root, at);
+        } else if is_root(at.depth, at.port, root.1) {
+            at = Stand {
+                port: at.port + 1,
+                ..at
+            };
+        } else {
+            match store.partner(at.atom, at.port) {
+                Some((b, _)) => {
+                    if store.mark(b, 0) == 0 {
+                        return at;
+                    }
+                    at = Stand {
+                        port: at.port + 1,
+                        ..at
+                    };
+                }
+                None => return at,
+            }
+        }
+    }
+}

@@ -1,0 +1,93 @@
+//! The walk that marks the atoms of a part.
+ghost use Rattle.std.specs.Prelude.{◌≡◌, ◌≢◌, ◌<◌, ◌≤◌, ◌+◌, ◌*◌, ◌^◌, ◌↔◌, IsTrue, IfSome, Some};
+ghost use Rattle.std.specs.Option.{option_map};
+ghost use Rattle.lmn_heap.specs.Heap.{IsAtom, IsMem, arity_of, home_of, marked};
+ghost use Rattle.lmn_ground.specs.Spread.{AtomFits, CleanPart, IsWhole, Spread, own_mark};
+
+use crate::seek::{Stand, arity, seek};
+use lmn_store::LinkStore;
+
+/// Whether the own mark of an atom isn't 1.
+fn is_unmatched<S: LinkStore>(store: &S, a: S::Atom) -> bool
+    requires { IsAtom (S.heap store.now) (S.atom_id a) }
+    ensures { IsTrue result ↔ (own_mark (S.heap store.now) (S.atom_id a) ≢ 1) }
+{
+    let own = arity(store, a);
+    store.mark(a, own) != 1
+}
+
+/// Whether an atom stands in a membrane.
+fn stands_in<S: LinkStore>(store: &S, home: S::Mem, a: S::Atom) -> bool
+    requires atom { IsAtom (S.heap store.now) (S.atom_id a) }
+    requires mem { IsMem (S.heap store.now) (S.mem_id home) }
+    ensures { IsTrue result ↔ (home_of (S.heap store.now) (S.atom_id a) ≡ Some (S.mem_id home)) }
+{
+    let _arity = arity(store, a);
+    match store.home(a) {
+        Some(m) => store.same_mem(m, home),
+        None => false,
+    }
+}
+
+/// Whether an atom stands in the membrane, where one is asked for, and isn't matched.
+pub fn fits<S: LinkStore>(store: &S, home: Option<S::Mem>, a: S::Atom) -> bool
+    requires atom { IsAtom (S.heap store.now) (S.atom_id a) }
+    requires mem { IfSome home (λ m. IsMem (S.heap store.now) (S.mem_id m)) }
+    ensures { IsTrue result ↔ AtomFits (S.heap store.now) (option_map S.mem_id home) (S.atom_id a) }
+{
+    match home {
+        Some(m) => stands_in(store, m, a) && is_unmatched(store, a),
+        None => true,
+    }
+}
+
+/// Marks an atom as found, with the port by which it is entered and its number in the walk.
+pub fn mark_entry<S: LinkStore>(store: &mut S, a: S::Atom, port: u8, number: u64)
+    requires atom { IsAtom (S.heap store.old) (S.atom_id a) }
+    requires number { number ≤ 2 ^ 48 }
+    ensures marked { S.heap store.new ≡ marked (S.heap store.old) (S.atom_id a) 0 (512 + 256 * number + port) }
+    ensures small { port < 256 }
+{
+    store.set_mark(a, 0, 512 + 256 * number + port as u64);
+}
+
+/// Marks the atoms of a part up to the first that doesn't fit. Answers how many are marked, and whether that is the part.
+pub fn spread<S: LinkStore>(store: &mut S, root: (S::Atom, u8), home: Option<S::Mem>) -> (u64, bool)
+    requires atom { IsAtom (S.heap store.old) (S.atom_id root.0) }
+    requires port { root.1 < arity_of (S.heap store.old) (S.atom_id root.0) }
+    requires mem { IfSome home (λ m. IsMem (S.heap store.old) (S.mem_id m)) }
+    requires clean { CleanPart (S.heap store.old) (S.atom_id root.0, root.1) }
+    requires first { AtomFits (S.heap store.old) (option_map S.mem_id home) (S.atom_id root.0) }
+    ensures spread { Spread (S.heap store.old) (S.heap store.new) (S.atom_id root.0, root.1) result.0 result.1 }
+    ensures fits { IsTrue result.1 ↔ IsWhole (S.heap store.old) (S.atom_id root.0, root.1) (option_map S.mem_id home) }
+{
+    let _arity = arity(store, root.0);
+    store.set_mark(root.0, 0, 512 + root.1 as u64);
+    let mut count = 1;
+    let mut at = Stand {
+        atom: root.0,
+        port: 0,
+        depth: 0,
+    };
+    loop {
+        at = seek(store, root, at);
+        if at.port == arity(store, at.atom) {
+            return (count, true);
+        }
+        match store.partner(at.atom, at.port) {
+            Some((b, j)) => {
+                if !fits(store, home, b) {
+                    return (count, false);
+                }
+                mark_entry(store, b, j, count);
+                at = Stand {
+                    atom: b,
+                    port: 0,
+                    depth: at.depth + 1,
+                };
+                count += 1;
+            }
+            None => return (count, false),
+        }
+    }
+}

@@ -1,0 +1,313 @@
+ghost use Rattle.std.specs.Prelude.{◌≡◌, ◌<◌, None, IfOk};
+ghost use Rattle.lmn_heap.specs.Heap.{IsAtom, arity_of};
+ghost use Rattle.lmn_ground.specs.Spread.{Clean, IsGround, IsWhole};
+ghost use Rattle.lmn_store.specs.Kept.{heap_of};
+
+use crate::{copy, equal, is_ground, size_of, take_part};
+use lmn_base::{Functor, Label, NoMemory};
+use lmn_store::{LinkStore, SlabStore};
+use std::alloc::AllocGlobal;
+use std::process::Abort;
+
+/// The prover looks for no answer here, where it would at an `assert!` in a long test.
+fn holds(rt: &impl Abort, is_so: bool) {
+    assert!(rt; is_so);
+}
+
+fn functor(name: u32, arity: u8) -> Functor {
+    Functor {
+        label: Label::Name(name),
+        arity,
+    }
+}
+
+// Calls that keep the mark of each port 0, with their conditions looked up.
+
+fn new_store(rt: &impl AllocGlobal) -> Result<SlabStore, NoMemory>
+    ensures { IfOk result (λ s. Clean (heap_of s)) }
+{
+    SlabStore::new(rt.alloc())
+}
+
+/// A new membrane in the root.
+fn membrane(rt: &(impl Abort + AllocGlobal), store: &mut SlabStore) -> Result<usize, NoMemory>
+    requires { Clean (heap_of store.old) }
+    ensures { Clean (heap_of store.new) }
+{
+    store.make_mem(rt.alloc())?;
+    let root = store.root();
+    assert!(rt; store.stands(root));
+    assert!(rt; store.mem_waits());
+    Ok(store.place_mem(root))
+}
+
+/// Places the first atom that waits.
+fn place(rt: &impl Abort, store: &mut SlabStore, m: usize) -> usize
+    requires { Clean (heap_of store.old) }
+    ensures { Clean (heap_of store.new) }
+{
+    assert!(rt; store.stands(m));
+    assert!(rt; store.waits());
+    store.place_atom(m)
+}
+
+/// A new atom in a membrane.
+fn atom(
+    rt: &(impl Abort + AllocGlobal),
+    store: &mut SlabStore,
+    m: usize,
+    f: Functor,
+) -> Result<usize, NoMemory>
+    requires { Clean (heap_of store.old) }
+    ensures { Clean (heap_of store.new) }
+{
+    store.make_atom(rt.alloc(), f)?;
+    Ok(place(rt, store, m))
+}
+
+fn join(rt: &impl Abort, store: &mut SlabStore, a: usize, i: u8, b: usize, j: u8)
+    requires { Clean (heap_of store.old) }
+    ensures { Clean (heap_of store.new) }
+{
+    assert!(rt; a != b);
+    assert!(rt; store.has_port(a, i));
+    assert!(rt; store.has_port(b, j));
+    store.join(a, i, b, j);
+}
+
+/// Gives an atom the own mark 1.
+fn match_atom(rt: &impl Abort, store: &mut SlabStore, a: usize)
+    requires { Clean (heap_of store.old) }
+    ensures { Clean (heap_of store.new) }
+{
+    assert!(rt; store.has_atom(a));
+    let _root = store.root();
+    let own = store.functor(a).arity;
+    store.set_mark(a, own, 1);
+}
+
+fn grounds(rt: &impl Abort, store: &mut SlabStore, root: (usize, u8), m: usize) -> bool
+    requires { Clean (heap_of store.old) }
+    ensures { Clean (heap_of store.new) }
+{
+    assert!(rt; store.has_port(root.0, root.1));
+    assert!(rt; store.has_mem(m));
+    is_ground(store, root, m)
+}
+
+/// A part that is ground in a membrane.
+fn part(rt: &impl Abort, store: &mut SlabStore, root: (usize, u8), m: usize)
+    requires { Clean (heap_of store.old) }
+    ensures same { heap_of store.new ≡ heap_of store.old }
+    ensures clean { Clean (heap_of store.new) }
+    ensures atom { IsAtom (heap_of store.new) root.0 }
+    ensures port { root.1 < arity_of (heap_of store.new) root.0 }
+    ensures ground { IsGround (heap_of store.new) (root.0, root.1) m }
+    ensures whole { IsWhole (heap_of store.new) (root.0, root.1) None }
+{
+    let _root = store.root();
+    assert!(rt; store.has_port(root.0, root.1));
+    assert!(rt; store.has_mem(m));
+    let ground = is_ground(store, root, m);
+    assert!(rt; ground);
+}
+
+fn size(rt: &impl Abort, store: &mut SlabStore, root: (usize, u8), m: usize) -> u64
+    requires { Clean (heap_of store.old) }
+    ensures { Clean (heap_of store.new) }
+{
+    part(rt, store, root, m);
+    size_of(store, root)
+}
+
+/// Whether parts in two membranes are equal.
+fn equals(
+    rt: &impl Abort,
+    store: &mut SlabStore,
+    x: (usize, u8),
+    m: usize,
+    y: (usize, u8),
+    n: usize,
+) -> bool
+    requires { Clean (heap_of store.old) }
+    ensures { Clean (heap_of store.new) }
+{
+    assert!(rt; m != n);
+    part(rt, store, x, m);
+    part(rt, store, y, n);
+    equal(store, x, y)
+}
+
+/// The copy of a part whose root has no partner, and the root itself where it has one.
+fn copied(
+    rt: &(impl Abort + AllocGlobal),
+    store: &mut SlabStore,
+    root: (usize, u8),
+    m: usize,
+) -> Result<(usize, u8), NoMemory>
+    requires { Clean (heap_of store.old) }
+    ensures { Clean (heap_of store.new) }
+{
+    part(rt, store, root, m);
+    match store.partner(root.0, root.1) {
+        Some(_) => Ok(root),
+        None => copy(rt.alloc(), store, root),
+    }
+}
+
+fn take(rt: &impl Abort, store: &mut SlabStore, root: (usize, u8), m: usize)
+    requires { Clean (heap_of store.old) }
+    ensures { Clean (heap_of store.new) }
+{
+    part(rt, store, root, m);
+    take_part(store, root);
+}
+
+fn partner(rt: &impl Abort, store: &SlabStore, a: usize, i: u8) -> Option<(usize, u8)> {
+    assert!(rt; store.has_port(a, i));
+    store.partner(a, i)
+}
+
+fn count(rt: &impl Abort, store: &SlabStore, m: usize) -> u64 {
+    assert!(rt; store.has_mem(m));
+    store.atoms(m)
+}
+
+/// The atom behind this one in its list, if it has the functor.
+fn next(rt: &impl Abort, store: &SlabStore, a: usize, f: Functor) -> Option<usize> {
+    assert!(rt; store.has_atom(a));
+    assert!(rt; store.home(a).is_some());
+    let found = store.next_atom(a);
+    if let Some(b) = found {
+        assert!(rt; store.has_atom(b));
+        holds(rt, store.functor(b) == f);
+    }
+    found
+}
+
+/// A list of so many cells, each of which holds an atom of its own. Answers the root: port 2 of the first cell.
+fn list(
+    rt: &(impl Abort + AllocGlobal),
+    store: &mut SlabStore,
+    m: usize,
+    cells: u32,
+) -> Result<(usize, u8), NoMemory>
+    requires { Clean (heap_of store.old) }
+    ensures { Clean (heap_of store.new) }
+{
+    let mut after = atom(rt, store, m, functor(6, 1))?;
+    let mut port = 0;
+    for _ in 0..cells {
+        let cell = atom(rt, store, m, functor(4, 3))?;
+        let held = atom(rt, store, m, functor(5, 1))?;
+        join(rt, store, cell, 0, held, 0);
+        join(rt, store, cell, 1, after, port);
+        after = cell;
+        port = 2;
+    }
+    Ok((after, port))
+}
+
+/// A list is measured, compared, copied and taken. The copy's atoms come in order: cell, held atom, cell, .. and the end last.
+fn run(rt: &(impl Abort + AllocGlobal), cells: u32) -> Result<(), NoMemory> {
+    let mut store = new_store(rt)?;
+    let m = membrane(rt, &mut store)?;
+    let n = membrane(rt, &mut store)?;
+    let x = list(rt, &mut store, m, cells)?;
+    let items = 2 * u64::from(cells) + 1;
+    holds(rt, size(rt, &mut store, x, m) == items);
+    let y = copied(rt, &mut store, x, m)?;
+    let first = place(rt, &mut store, n);
+    holds(rt, first == y.0);
+    for _ in 1..items {
+        place(rt, &mut store, n);
+    }
+    holds(rt, equals(rt, &mut store, x, m, y, n));
+    take(rt, &mut store, x, m);
+    holds(rt, count(rt, &store, m) == 0);
+    holds(rt, count(rt, &store, n) == items);
+    let mut at = Some(first);
+    for k in 1..items {
+        at = match at {
+            Some(a) if k == items - 1 => next(rt, &store, a, functor(6, 1)),
+            Some(a) if k % 2 == 1 => next(rt, &store, a, functor(5, 1)),
+            Some(a) => next(rt, &store, a, functor(4, 3)),
+            None => None,
+        };
+    }
+    holds(rt, at.is_some());
+    Ok(())
+}
+
+/// A list of 1,000 cells, and a part of 1,000,001 atoms in a deep chain.
+#[test]
+fn lists(rt: HostRuntime) -> Result<(), NoMemory> {
+    run(&rt, 1000)?;
+    run(&rt, 500_000)
+}
+
+/// Two atoms that are joined twice: in order, or crosswise.
+fn pair(
+    rt: &(impl Abort + AllocGlobal),
+    store: &mut SlabStore,
+    m: usize,
+    first: u8,
+    second: u8,
+) -> Result<(usize, u8), NoMemory>
+    requires { Clean (heap_of store.old) }
+    ensures { Clean (heap_of store.new) }
+{
+    let a = atom(rt, store, m, functor(4, 3))?;
+    let b = atom(rt, store, m, functor(5, 2))?;
+    join(rt, store, a, 1, b, first);
+    join(rt, store, a, 2, b, second);
+    Ok((a, 0))
+}
+
+/// Cycles: equal ones, and ones that differ in the ports of one link. A copy is joined as the original.
+#[test]
+fn cycles(rt: HostRuntime) -> Result<(), NoMemory> {
+    let mut store = new_store(&rt)?;
+    let m = membrane(&rt, &mut store)?;
+    let n = membrane(&rt, &mut store)?;
+    let x = pair(&rt, &mut store, m, 0, 1)?;
+    let y = pair(&rt, &mut store, n, 0, 1)?;
+    let z = pair(&rt, &mut store, n, 1, 0)?;
+    holds(&rt, equals(&rt, &mut store, x, m, y, n));
+    holds(&rt, !equals(&rt, &mut store, x, m, z, n));
+    let c = copied(&rt, &mut store, z, n)?;
+    let first = place(&rt, &mut store, m);
+    let d = place(&rt, &mut store, m);
+    holds(&rt, first == c.0);
+    holds(&rt, equals(&rt, &mut store, c, m, z, n));
+    holds(&rt, partner(&rt, &store, c.0, 0) == None);
+    holds(&rt, partner(&rt, &store, c.0, 1) == Some((d, 1)));
+    holds(&rt, partner(&rt, &store, c.0, 2) == Some((d, 0)));
+    holds(&rt, partner(&rt, &store, z.0, 0) == None);
+    Ok(())
+}
+
+/// A part of one atom; and what isn't ground: a part that leads back to the head by a second link, and one that goes
+/// through a wall.
+#[test]
+fn heads_and_walls(rt: HostRuntime) -> Result<(), NoMemory> {
+    let mut store = new_store(&rt)?;
+    let root = store.root();
+    let m = membrane(&rt, &mut store)?;
+    let head = atom(&rt, &mut store, root, functor(4, 2))?;
+    let back = atom(&rt, &mut store, root, functor(5, 2))?;
+    join(&rt, &mut store, head, 0, back, 0);
+    join(&rt, &mut store, head, 1, back, 1);
+    holds(&rt, grounds(&rt, &mut store, (back, 0), root));
+    match_atom(&rt, &mut store, head);
+    holds(&rt, !grounds(&rt, &mut store, (back, 0), root));
+    let near = atom(&rt, &mut store, root, functor(5, 2))?;
+    let far = atom(&rt, &mut store, m, functor(6, 1))?;
+    join(&rt, &mut store, near, 1, far, 0);
+    holds(&rt, !grounds(&rt, &mut store, (near, 0), root));
+    holds(&rt, !grounds(&rt, &mut store, (near, 0), m));
+    holds(&rt, size(&rt, &mut store, (far, 0), m) == 1);
+    take(&rt, &mut store, (far, 0), m);
+    holds(&rt, count(&rt, &store, m) == 0);
+    Ok(())
+}

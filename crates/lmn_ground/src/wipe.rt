@@ -1,0 +1,112 @@
+//! The walk that takes the marks back.
+ghost use Rattle.std.specs.Prelude.{◌≡◌, ◌<◌, ◌≤◌, ◌+◌, ℕ, Bool, false, Some, IfSome};
+ghost use Rattle.lmn_heap.specs.Heap.{Heap, IsAtom, arity_of, link_of, marked};
+ghost use Rattle.lmn_heap.specs.Sound.{Sound};
+ghost use Rattle.lmn_ground.specs.Walks.{is_port, net};
+ghost use Rattle.lmn_ground.specs.Marks.{OnWay, back, first_marks};
+ghost use Rattle.lmn_ground.specs.Spread.{Spread};
+
+use crate::seek::{Stand, arity, go_back, is_root};
+use lmn_store::LinkStore;
+
+/// The other end of a port, where the port isn't the root and the mark there is still that of the first walk.
+pub fn marked_end<S: LinkStore>(
+    store: &S,
+    root: (S::Atom, u8),
+    at: Stand<S::Atom>,
+) -> Option<(S::Atom, u8)>
+    requires atom { IsAtom (S.heap store.now) (S.atom_id at.atom) }
+    requires port { at.port < arity_of (S.heap store.now) (S.atom_id at.atom) }
+    requires way { OnWay (net (S.heap store.now)) (first_marks (S.heap store.now)) (S.atom_id root.0, root.1) at.depth (S.atom_id at.atom) }
+    ensures link { IfSome result (λ p. link_of (S.heap store.now) (S.atom_id at.atom) at.port ≡ Some (S.atom_id p.0, p.1)) }
+    ensures back { IfSome result (λ p. link_of (S.heap store.now) (S.atom_id p.0) p.1 ≡ Some (S.atom_id at.atom, at.port)) }
+    ensures there { IfSome result (λ p. p.1 < arity_of (S.heap store.now) (S.atom_id p.0)) }
+    ensures small { IfSome result (λ p. arity_of (S.heap store.now) (S.atom_id p.0) < 256) }
+    ensures apart { IfSome result (λ p. is_port (S.atom_id at.atom, at.port) (S.atom_id root.0, root.1) ≡ false) }
+    ensures high { IfSome result (λ p. 512 ≤ first_marks (S.heap store.now) (S.atom_id p.0)) }
+    ensures low { result ≡ None → (b j : ℕ) → link_of (S.heap store.now) (S.atom_id at.atom) at.port ≡ Some (b, j)
+        → is_port (S.atom_id at.atom, at.port) (S.atom_id root.0, root.1) ≡ false → first_marks (S.heap store.now) b < 512 }
+{
+    if is_root(at.depth, at.port, root.1) {
+        return None;
+    }
+    match store.partner(at.atom, at.port) {
+        Some((b, j)) => {
+            let _small = arity(store, b);
+            if store.mark(b, 0) < 512 {
+                return None;
+            }
+            Some((b, j))
+        }
+        None => None,
+    }
+}
+
+/// Enters an atom anew.
+pub fn enter<S: LinkStore>(store: &mut S, a: S::Atom, port: u8)
+    requires { IsAtom (S.heap store.old) (S.atom_id a) }
+    ensures marked { S.heap store.new ≡ marked (S.heap store.old) (S.atom_id a) 0 (256 + port) }
+    ensures small { port < 256 }
+{
+    store.set_mark(a, 0, 256 + port as u64);
+}
+
+/// Goes back from an atom and takes its mark back.
+pub fn leave<S: LinkStore>(store: &mut S, root: (S::Atom, u8), at: Stand<S::Atom>) -> Stand<S::Atom>
+    requires atom { IsAtom (S.heap store.old) (S.atom_id at.atom) }
+    requires deep { 0 < at.depth }
+    requires way { OnWay (net (S.heap store.old)) (first_marks (S.heap store.old)) (S.atom_id root.0, root.1) at.depth (S.atom_id at.atom) }
+    ensures atom { IsAtom (S.heap store.new) (S.atom_id result.atom) }
+    ensures number { S.atom_id result.atom ≡ (back (net (S.heap store.old)) (first_marks (S.heap store.old)) (S.atom_id at.atom)).0 }
+    ensures port { result.port ≡ (back (net (S.heap store.old)) (first_marks (S.heap store.old)) (S.atom_id at.atom)).1 + 1 }
+    ensures depth { at.depth ≡ result.depth + 1 }
+    ensures marked { S.heap store.new ≡ marked (S.heap store.old) (S.atom_id at.atom) 0 0 }
+    ensures sound { Sound (S.heap store.old) }
+{
+    let _arity = arity(store, at.atom);
+    let to = go_back(store, root, at);
+    store.set_mark(at.atom, 0, 0);
+    to
+}
+
+/// Takes back the marks of a walk.
+pub fn wipe<S: LinkStore>(store: &mut S, root: (S::Atom, u8), count: u64)
+    requires atom { IsAtom (S.heap store.old) (S.atom_id root.0) }
+    requires port { root.1 < arity_of (S.heap store.old) (S.atom_id root.0) }
+    requires spread { (before : Heap) × (all : Bool) × Spread before (S.heap store.old) (S.atom_id root.0, root.1) count all }
+    ensures { (before : Heap) (all : Bool) → Spread before (S.heap store.old) (S.atom_id root.0, root.1) count all → S.heap store.new ≡ before }
+{
+    let _arity = arity(store, root.0);
+    enter(store, root.0, root.1);
+    let mut left = count - 1;
+    let mut at = Stand {
+        atom: root.0,
+        port: 0,
+        depth: 0,
+    };
+    loop {
+        if at.port == arity(store, at.atom) {
+            if at.depth == 0 {
+                break;
+            }
+            at = leave(store, root, at);
+        } else {
+            match marked_end(store, root, at) {
+                Some((b, j)) => {
+                    enter(store, b, j);
+                    left -= 1;
+                    at = Stand {
+                        atom: b,
+                        port: 0,
+                        depth: at.depth + 1,
+                    };
+                }
+                None => at = Stand {
+                    port: at.port + 1,
+                    ..at
+                },
+            }
+        }
+    }
+    store.set_mark(at.atom, 0, 0);
+}
