@@ -1,0 +1,87 @@
+-- The laws of head code hold of accepted rules.
+use Rattle.std.proofs.Common.{ℕ, ◌≡◌, ◌≤◌, List, [], ◌++◌, length, refl, sym, subst, arith}
+use Rattle.std.specs.Prelude.{Bool, true, false, ◌||◌, sum_by, nat_lt}
+use Rattle.std.proofs.lemmas.Bool.Decides.{nat_tests}
+use Rattle.std.proofs.lemmas.List.{get_or_append_left, length-append}
+use Rattle.lmn_base.specs.declared.rule.RuleTree.{RuleTree}
+use Rattle.lmn_base.specs.Firsts.{Row, NoneApplies}
+use Rattle.lmn_base.specs.Items.{number_of_items}
+use Rattle.lmn_base.specs.RuleCodes.{too_large, is_too_large, condition_tokens}
+use Rattle.lmn_guards.specs.declared.plan.GuardPlan.{GuardPlan}
+use Rattle.lmn_guards.specs.GuardCodes.{rows_of_conditions, rows_of_typed}
+use Rattle.lmn_guards.proofs.AcceptedLemmas.{in_order}
+use Rattle.lmn_guards.proofs.OrderLemmas.{not_then}
+use Rattle.lmn_heap.specs.Heap.{Heap}
+use Rattle.lmn_heap.specs.Sound.{Valid}
+use Rattle.lmn_solid.specs.Heads.{HeadTyped}
+use Rattle.lmn_solid.specs.Embeddings.{HasTyped, HasLink}
+use Rattle.lmn_solid.specs.Heads as heads
+use Rattle.lmn_compile_head.specs.Heads.{kind_in, IsHead, IsGuard}
+use Rattle.lmn_compile_head.specs.Laws.{Meets}
+use Rattle.lmn_compile_head.specs.Accepted.{head_items, HasRoom, IsReady, AcceptedHeads, AcceptedLeast}
+use Rattle.lmn_compile_head.proofs.HeadLeaves.{items_inside, at_most_twice, typed_leaf, port_of_leaf, head_fits, items_few, size_few}
+use Rattle.lmn_compile_head.proofs.GuardUses.{accepted_guard}
+use Rattle.lmn_compile_head.proofs.Laws.{code_of_least}
+
+front_none : (rows more : List Row) → NoneApplies (rows ++ more) → NoneApplies rows
+front_none rows more h = λ k d l. subst (λ (row : Row). row.places ≡ []) (get_or_append_left rows more d k l) (h k d (let e = length-append rows more in omega (arith, l, e)))
+
+or_none : (a b : Bool) → (a || b) ≡ false → (a ≡ false) × (b ≡ false)
+or_none true b e = absurd (cc)
+or_none false b e = (refl, e)
+
+not_less : (m n : ℕ) → nat_lt m n ≡ false → n ≤ m
+not_less m n e = grind (arith, nat_tests)
+
+module _ (table : List RuleTree) (r : RuleTree) (plan : GuardPlan) (ready : IsReady table r plan) where
+  -- the limits of a rule
+  small : (number_of_items r.head ≤ 128) × (sum_by condition_tokens r.guard ≤ 256)
+  small =
+      let large = not_then (is_too_large r) r.pos (ready.accepted.contexts 0 (too_large r) (omega arith)) in
+      let a = or_none (nat_lt 128 (number_of_items r.head)) _ large in
+      let b = or_none (nat_lt 1024 (number_of_items r.body)) _ a.1 in
+      let c = or_none (nat_lt 64 (length r.guard)) _ b.1 in
+      (not_less 128 (number_of_items r.head) a.0, not_less 256 (sum_by condition_tokens r.guard) c.1)
+
+  is_head : IsHead (head_items r plan)
+  is_head =
+      let kind = kind_in plan.kinds in
+      let order = in_order table r ready.accepted in
+      let held : (n : ℕ) (t : HeadTyped) → HasTyped (head_items r plan) n t → (p : heads.Port) × HasLink (head_items r plan) t.link p = λ n t e.
+      (let l = typed_leaf kind r.head n t e in
+      let p = port_of_leaf kind r.head l.0.link (order.is_held t.name l.0 l.1 l.2) in
+      (p.0, subst (λ x. HasLink (head_items r plan) x p.0) (sym l.3) p.1)) in
+      record {
+        inside = items_inside kind r.head;
+        at_most_twice = λ x. at_most_twice kind r.head r.body x ready.accepted.linked;
+        held = held;
+      }
+
+  is_guard : IsGuard (heads.typed_contexts_of (head_items r plan)) [] r.guard
+  is_guard = accepted_guard table r plan (in_order table r ready.accepted) ready.planned (front_none (rows_of_conditions r.head [] r.guard) (rows_of_typed r) ready.accepted.guard)
+
+  has_room : HasRoom r plan
+  has_room =
+      let kind = kind_in plan.kinds in
+      let a = items_few kind r.head in
+      let b = size_few kind r.head in
+      let c = small.0 in
+      record {
+        membranes = omega (arith, b, c);
+        links = head_fits kind r.head r.body (length r.links) ready.few_links ready.made.table.numbered;
+        items = omega (arith, a, c);
+        integers = small.1;
+      }
+
+  meets : (h : Heap) → Valid h → Meets h (head_items r plan) r.guard
+  meets h valid = record { valid = valid; head = is_head; allowed = is_guard }
+
+pub accepted_heads : AcceptedHeads
+accepted_heads = record { head = is_head; guard = is_guard; room = has_room }
+
+pub accepted_least : AcceptedLeast
+accepted_least = record {
+  least = λ table r plan h m s ready valid. code_of_least.least h (head_items r plan) r.guard m s (meets table r plan ready h valid);
+  first = λ table r plan h m f ready valid. code_of_least.first h (head_items r plan) r.guard m f (meets table r plan ready h valid);
+  fails = λ table r plan h m ready valid. code_of_least.fails h (head_items r plan) r.guard m (meets table r plan ready h valid);
+}

@@ -1,0 +1,21 @@
+pub mod Only
+pub mod Noting
+pub mod Laws
+pub mod Ordering
+pub mod Guarding
+pub mod Values
+pub mod ToCode
+pub mod FromTests
+pub mod Pigeons
+pub mod FromCode
+pub mod Counting
+pub mod Nesting
+pub mod Places
+pub mod Holding
+pub mod Bounds
+mod HeadLeaves
+mod HeadUses
+mod PlanKinds
+mod GuardUses
+mod AcceptedHeads
+mod GuardRoom

@@ -1,0 +1,6 @@
+pub mod Heads
+pub mod Laws
+pub mod Tables
+pub mod Entries
+pub mod Bindings
+pub mod Accepted

@@ -1,0 +1,40 @@
+-- Tables that the making of code keeps, by numbers of links.
+use Rattle.std.specs.Prelude.{ℕ, ◌≡◌, ◌<◌, min, List, [], ◌∷◌, Option, None, length, slice_index_or}
+use Rattle.std.specs.Option.{option_map}
+use Rattle.lmn_solid.specs.declared.items.HeadItem.{HeadItem}
+use Rattle.lmn_solid.specs.declared.items.HeadItem.TheVariants.{Atom, Typed, Membrane}
+use Rattle.lmn_base.specs.declared.functor.Functor.{Functor}
+use Rattle.lmn_base.specs.declared.level.Leaf.{Leaf}
+use Rattle.lmn_base.specs.declared.level.Leaf.TheVariants as leaf
+use Rattle.lmn_solid.specs.Heads.{HeadAtom, Occurrence, links_of, times}
+use Rattle.lmn_instr.specs.declared.instr.AtomPort.{AtomPort}
+use Rattle.lmn_instr.specs.HeadCode.{find_port, operand}
+
+-- every number of a list is below another one
+abbrev pub AllBelow : ℕ → List ℕ → Type 0
+AllBelow n [] = Unit {0}
+AllBelow n (x ∷ xs) = (x < n) × AllBelow n xs
+
+-- items whose links are below a number, and whose atoms have at most 255
+abbrev pub Fits : ℕ → List HeadItem → Type 0
+Fits n [] = Unit {0}
+Fits n (Atom functor links inside ∷ xs) = (length links < 256) × AllBelow n links × Fits n xs
+Fits n (Typed name kind link inside ∷ xs) = (link < n) × Fits n xs
+Fits n (Membrane inside has_context has_rule_context ∷ xs) = Fits n xs
+
+-- a table of how often links occur, where what is more than twice counts as twice
+abbrev pub Counts : List ℕ → List HeadItem → Type 0
+Counts table items = (x : ℕ) → x < length table → min 2 (slice_index_or table x 0) ≡ min 2 (times x (links_of items))
+
+-- a table of the ports at which links stand first
+pub record FirstPorts (table : List (Option AtomPort)) (os : List Occurrence) : Type 0 where
+  pub at : (x : ℕ) → x < length table → slice_index_or table x None ≡ option_map operand (find_port x os)
+
+-- an atom of a head
+abbrev pub head_atom : Functor → List ℕ → ℕ → HeadAtom
+head_atom functor links inside = record { functor = functor; links = links; inside = inside }
+
+-- a leaf has at most 255 links
+abbrev pub HasFewLinks : Leaf → Type 0
+HasFewLinks (leaf.Atom functor links pos) = length links < 256
+HasFewLinks (leaf.Typed name link pos) = Unit {0}

@@ -1,0 +1,64 @@
+ghost use Rattle.std.specs.Prelude.{◌≡◌, ◌<◌, ◌≤◌, ◌^◌, length, sum_by, IfOk};
+ghost use Rattle.lmn_instr.specs.HeadCode.{head_code};
+ghost use Rattle.lmn_base.specs.RuleCodes.{condition_tokens};
+ghost use Rattle.lmn_compile_head.specs.Accepted.{HasRoom, rule_head_code};
+ghost use Rattle.lmn_compile_head.specs.Tables.{Fits};
+
+use crate::codes::{add_items, insides_of};
+use crate::conditions::add_guard;
+use crate::fills::{add_all_filled, add_parts};
+use crate::levels::flatten;
+use crate::tables::times_of;
+use lmn_base::{Cond, NoMemory, Rows, RuleTree};
+use lmn_guards::GuardPlan;
+use lmn_instr::{AtomPort, Instr};
+use lmn_solid::HeadItem;
+use std::alloc::Global;
+
+/// The code of a head with these items, whose links are below `links`, and this guard.
+pub fn code_of_items(
+    alloc: Global,
+    items: &[HeadItem],
+    guard: &[Cond],
+    links: usize,
+) -> Result<Rows<Instr>, NoMemory>
+    requires fits { Fits links items.now }
+    requires few { length items.now < 2 ^ 15 }
+    requires integers { sum_by condition_tokens guard.now ≤ 256 }
+    ensures { IfOk result (λ code. code ≡ head_code items.now guard.now) }
+{
+    let times = times_of(alloc, items, links)?;
+    let insides = insides_of(alloc, items)?;
+    let mut first: Rows<Option<AtomPort>> = Rows::from_vec(vec![in alloc; None; links]?);
+    let mut code = Rows::new(alloc);
+    add_items(
+        &mut code,
+        &mut first,
+        times.as_slice(),
+        insides.as_slice(),
+        items,
+    )?;
+    add_parts(&mut code, first.as_slice(), items)?;
+    add_all_filled(alloc, &mut code, items)?;
+    add_guard(alloc, &mut code, items, guard)?;
+    code.push(Instr::Commit)?;
+    Ok(code)
+}
+
+/// The code of the head of a rule with its plan.
+///
+/// # Errors
+///
+/// `NoMemory` at want of memory: numbers of registers and links don't run out.
+pub fn head(alloc: Global, rule: &RuleTree, plan: &GuardPlan) -> Result<Rows<Instr>, NoMemory>
+    requires { HasRoom rule.now plan.now }
+    ensures { IfOk result (λ code. code ≡ rule_head_code rule.now plan.now) }
+{
+    let items = flatten(alloc, &rule.head, plan)?;
+    code_of_items(
+        alloc,
+        items.as_slice(),
+        rule.guard.as_slice(),
+        rule.links.len(),
+    )
+}

@@ -1,0 +1,6 @@
+pub mod Running
+pub mod HeadCode
+pub mod Labels
+pub mod Words
+pub mod Listings
+pub mod Worked

@@ -1,0 +1,5 @@
+pub mod Found
+pub mod ExampleLinks
+pub mod ExampleContexts
+pub mod ExampleParts
+pub mod HeadTrees

@@ -1,0 +1,5 @@
+pub mod Heads
+pub mod Flattening
+pub mod Guards
+pub mod Embeddings
+pub mod Examples
