@@ -1,0 +1,224 @@
+-- What lies in the lists of a heap, with all that is known of its membranes, keeps links and leaves what contexts stand for.
+use Rattle.std.proofs.Common.{ℕ, ◌≡◌, ◌≢◌, ◌+◌, ◌≤◌, List, [], ◌∷◌, map, refl, sym, ap, subst, ◌∙◌, inl, inr, arith}
+use Rattle.std.proofs.lemmas.Bool.{cases_eq}
+use Rattle.lmn_heap.specs.Heap.{Heap, atoms_in, rules_in}
+use Rattle.lmn_heap.specs.Lists.{In}
+use Rattle.lmn_heap.specs.Sound.{Forest, bare, mem, flat, Valid}
+use Rattle.lmn_solid.specs.declared.items.HeadItem.{HeadItem}
+use Rattle.lmn_solid.specs.Embeddings.{Images}
+use Rattle.lmn_congruence.specs.Links.{one_if_same}
+use Rattle.lmn_congruence.specs.LinkedRules.{leaves_occurrences, level_occurrences, levels_occurrences}
+use Rattle.lmn_congruence.specs.Process.{Process, nothing, pair, rule, together}
+use Rattle.lmn_congruence.specs.Regions.{SolidAtom, Regions, region, no_region, region_process, regions_processes, atom_process}
+use Rattle.lmn_congruence.specs.Rules.{Level, Levels, Name, Rule, Rules, no_rule, level, rules_list}
+use Rattle.lmn_congruence.specs.UpToOrder.{Reordered, r_unit, r_chain, r_back, r_same, r_beside, r_regroup}
+use Rattle.lmn_reduction.specs.Assignments.{Assignment}
+use Rattle.lmn_reduction.specs.Instances.{rules_of_contexts}
+use Rattle.lmn_congruence.proofs.Reordered.{r_right}
+use Rattle.lmn_adequacy.specs.Accepted.{own_contexts, own_rule_contexts, own_rules}
+use Rattle.lmn_adequacy.specs.Embedding.{KeepsLinks, filling}
+use Rattle.lmn_adequacy.proofs.Orders.{r_both, r_alone}
+use Rattle.lmn_bridge.specs.HeapRegions.{Reading, regions_at, region_at}
+use Rattle.lmn_bridge.proofs.Pieces.{atom_at}
+use Rattle.lmn_bridge.proofs.Counting.{weigh, weigh_both, weigh_same, times_at, tree_atoms, forest_atoms, in_region}
+use Rattle.lmn_bridge.proofs.Lying.{Lies, lies, LiesIn, lies_none, lies_and, Kept, rest_at, fills}
+use Rattle.lmn_bridge.proofs.Weighing.{heavy_taken, level_weighs, membranes_weigh, level_links, membranes_links, leaves_links, weigh_out, weigh_nothing, rest_weighs, rest_tops}
+use Rattle.lmn_bridge.proofs.PartsOut.{flattened, parts_both}
+use Rattle.lmn_bridge.proofs.Forests.{tops, tops_flat, find_in, some_of}
+use Rattle.lmn_bridge.proofs.Laying.{Known, all_atoms, all_parts, all_membranes, total}
+
+-- ---- contexts
+
+-- the untyped context of a membrane, if it has one, stands for a process
+abbrev pub ContextIs : Assignment → List Name → Process → Type 0
+ContextIs t [] P = Unit {0}
+ContextIs t (p ∷ []) P = t.context_of p ≡ P
+ContextIs t (p ∷ (q ∷ ps)) P = ⊥
+
+-- the rule context of a membrane, if it has one, stands for these rules
+abbrev pub RulesAre : Assignment → List Name → List Rule → Type 0
+RulesAre t [] rs = Unit {0}
+RulesAre t (p ∷ []) rs = t.rules_of p ≡ rs
+RulesAre t (p ∷ (q ∷ ps)) rs = ⊥
+
+-- the contexts of a level stand for what is left in the image of its membrane
+pub record Agrees (h : Heap) (r : Reading) (t : Assignment) (l : Level) (m : ℕ) (xs : List ℕ) (i i' : Forest) : Type 0 where
+  pub contexts : ContextIs t (own_contexts l) (region_process (region (map (atom_at h r) xs) (regions_at h r i') []))
+  pub rule_contexts : RulesAre t (own_rule_contexts l) (map r.rule (rules_in h m))
+  pub no_rules : own_rules l ≡ no_rule
+
+shift : (A B S : Process) → Reordered (pair (pair A (pair B nothing)) S) (pair A (pair B S))
+shift A B S = r_chain (r_beside (r_right (r_back r_alone))) (r_back r_regroup)
+
+filled : (t : Assignment) (cs rcs : List Name) (rs : Rules) (X : List SolidAtom) (M : Regions) (R : List Rule) → rs ≡ no_rule → (cs ≡ [] → (X ≡ []) × (M ≡ no_region)) → (rcs ≡ [] → R ≡ []) →
+    ContextIs t cs (region_process (region X M [])) → RulesAre t rcs R → Reordered (filling t cs rcs rs) (region_process (region X M R))
+filled t cs rcs rs X M R none empty bare_rules c u = r_chain (r_right (r_right (r_same (ap (λ z. together (map rule (rules_list z))) none)))) (by cs rcs X M R empty bare_rules c u)
+  where
+    rules_part : (rcs : List Name) (R : List Rule) → (rcs ≡ [] → R ≡ []) → RulesAre t rcs R → Reordered (pair (together (rules_of_contexts t rcs)) nothing) (together (map rule R))
+    rules_part [] R bare_rules u = r_chain r_unit (r_same (ap (λ z. together (map rule z)) (sym (bare_rules refl))))
+    rules_part (q ∷ []) R bare_rules u = r_chain (r_back r_alone) (r_chain (r_back r_alone) (r_same (ap (λ z. together (map rule z)) u)))
+    rules_part (q ∷ (q' ∷ qs)) R bare_rules u = absurd u
+
+    by : (cs rcs : List Name) (X : List SolidAtom) (M : Regions) (R : List Rule) → (cs ≡ [] → (X ≡ []) × (M ≡ no_region)) → (rcs ≡ [] → R ≡ []) →
+        ContextIs t cs (region_process (region X M [])) → RulesAre t rcs R → Reordered (filling t cs rcs no_rule) (region_process (region X M R))
+    by [] rcs X M R empty bare_rules c u =
+        let e = empty refl in
+        r_chain r_unit (r_chain (rules_part rcs R bare_rules u) (r_chain (r_back (r_chain r_unit r_unit)) (r_same (sym (λ j. region_process (region (e.0 j) (e.1 j) R))))))
+    by (p ∷ []) rcs X M R empty bare_rules c u =
+        let A = together (map atom_process X) in
+        let B = together (regions_processes M) in
+        r_chain (r_both (r_chain (r_back r_alone) (r_same c)) (rules_part rcs R bare_rules u)) (shift A B (together (map rule R)))
+    by (p ∷ (q ∷ ps)) rcs X M R empty bare_rules c u = absurd c
+
+-- ---- the elements of a list that weigh nothing
+
+nothing_in : (xs : List ℕ) → ((b : ℕ) → In b xs → ⊥) → xs ≡ []
+nothing_in [] h = refl
+nothing_in (x ∷ xs) h = absurd (h x (inl refl))
+
+no_tops : (f : Forest) → ((b : ℕ) → In b (tops f) → ⊥) → f ≡ bare
+no_tops bare h = refl
+no_tops (mem m i f) h = absurd (h m (inl refl))
+
+module _ (h : Heap) (v : Valid h) (r : Reading) (f : Images) (part_at : ℕ → List ℕ) (t : Assignment) (items : List HeadItem) (few : (x : ℕ) → total h r f part_at t.link_of t.typed_of items x ≤ 2) where
+  abbrev Told : Level → ℕ → List ℕ → Forest → Forest → Type 0
+  Told l m xs i i' = Known h r f part_at t.link_of t.typed_of items l m xs i i' × Agrees h r t l m xs i i'
+
+  abbrev Link : ℕ → ℕ → ℕ
+  Link x = times_at h r (t.link_of x)
+
+  abbrev all : ℕ → ℕ → ℕ
+  all b a = one_if_same b a
+
+  abbrev none : ℕ → ℕ
+  none b = 0
+
+  -- what stands elsewhere in the head, beside what is held in a forest: links, atoms and membranes
+  pub record Elsewhere (links atoms membranes : ℕ → ℕ) (xs : List ℕ) (F : Forest) (bs : List ℕ) (ps : List (List ℕ)) (ms : List ℕ) : Type 0 where
+    pub link_room : (x : ℕ) → (links x + weigh (times_at h r (t.link_of x)) xs) + weigh (times_at h r (t.link_of x)) (forest_atoms h F) ≤ 2
+    pub atom_room : (b : ℕ) → (atoms b + weigh (one_if_same b) xs) + weigh (one_if_same b) (forest_atoms h F) ≤ 1
+    pub membrane_room : (b : ℕ) → membranes b + weigh (one_if_same b) (flat F) ≤ 1
+    pub all_atoms_are : (b : ℕ) → atoms b + (weigh (one_if_same b) bs + weigh (one_if_same b) (flattened ps)) ≡ weigh (one_if_same b) (all_atoms h r f part_at t.link_of t.typed_of items) + weigh (one_if_same b) (all_parts h r f part_at t.link_of t.typed_of items)
+    pub all_membranes_are : (b : ℕ) → membranes b + weigh (one_if_same b) ms ≡ weigh (one_if_same b) (all_membranes h r f part_at t.link_of t.typed_of items)
+
+  in_some : (b : ℕ) (xs : List ℕ) → In b xs → 1 ≤ weigh (one_if_same b) xs
+  in_some b xs p = omega (arith, weigh_same b xs, some_of b xs p)
+
+  some_in : (b : ℕ) (xs : List ℕ) → 1 ≤ weigh (one_if_same b) xs → In b xs
+  some_in b xs p = find_in b xs (omega (arith, weigh_same b xs, p))
+
+  module _ (el ea em : ℕ → ℕ) (l : Level) (m : ℕ) (bs : List ℕ) (ps : List (List ℕ)) (ms ns xs : List ℕ) (i i' : Forest)
+      (d : Lies h r t.link_of t.typed_of (λ l m xs i i'. Known h r f part_at t.link_of t.typed_of items l m xs i i' × Agrees h r t l m xs i i') l bs ps ms ns (atoms_in h m) xs i i')
+      (told : Known h r f part_at t.link_of t.typed_of items l m xs i i' × Agrees h r t l m xs i i') (e : Elsewhere el ea em (atoms_in h m) i bs ps ms)
+      (links : (x : ℕ) → el x + level_occurrences x l ≡ total h r f part_at t.link_of t.typed_of items x) where
+    keeps : KeepsLinks t l (region_at h r m i)
+    keeps = record { as_often = λ x some. in_region h r v (t.link_of x) m i ∙ often x some }
+      where
+        often : (x : ℕ) → level_occurrences x l ≢ 0 → weigh (times_at h r (t.link_of x)) (tree_atoms h m i) ≡ level_occurrences x l
+        often x some =
+            let w = weigh_both (times_at h r (t.link_of x)) (atoms_in h m) (forest_atoms h i) in
+            let below = level_links h r x d in
+            let heavy = level_weighs h (times_at h r (t.link_of x)) (λ b. 0) d in
+            let z1 = weigh_nothing ms in
+            let z2 = weigh_nothing (flat i) in
+            let room = e.link_room x in
+            let sum = links x in
+            let two = few x in
+            elim (cases_eq (total h r f part_at t.link_of t.typed_of items x) 1) [
+              | inl one ↦ (let top = told.0.outside x one some in omega (arith, w, below, heavy, z1, z2, room, sum, two, one, top, some))
+              | inr more ↦ omega (arith, w, below, heavy, z1, z2, room, sum, two, more, some)
+            ]
+
+    empty_atoms : own_contexts l ≡ [] → xs ≡ []
+    empty_atoms c = nothing_in xs (λ b p.
+        let q = some_in b (atoms_in h m) (omega (arith, in_some b xs p, rest_weighs (one_if_same b) d)) in
+        let heavy = level_weighs h (one_if_same b) (λ b. 0) d in
+        let z1 = weigh_nothing ms in
+        let z2 = weigh_nothing (flat i) in
+        elim ((told.0.alone c).0 b q) [
+          | inl j ↦ omega (arith, in_some b xs p, in_some b (all_atoms h r f part_at t.link_of t.typed_of items) j, heavy, z1, z2, e.atom_room b, e.all_atoms_are b)
+          | inr j ↦ omega (arith, in_some b xs p, in_some b (all_parts h r f part_at t.link_of t.typed_of items) j, heavy, z1, z2, e.atom_room b, e.all_atoms_are b)
+        ])
+
+    empty_forest : own_contexts l ≡ [] → i' ≡ bare
+    empty_forest c = no_tops i' (λ b p.
+        let q = subst (In b) told.0.grown (rest_tops b d p) in
+        let all = in_some b (all_membranes h r f part_at t.link_of t.typed_of items) ((told.0.alone c).1 b q) in
+        let heavy = level_weighs h (λ b. 0) (one_if_same b) d in
+        let z1 = weigh_nothing bs in
+        let z2 = weigh_nothing (forest_atoms h i) in
+        let z3 = weigh_nothing xs in
+        let z4 = weigh_nothing (atoms_in h m) in
+        let z5 = weigh_nothing (flattened ps) in
+        omega (arith, in_some b (flat i') (tops_flat i' b p), all, heavy, z1, z2, z3, z4, z5, e.membrane_room b, e.all_membranes_are b))
+
+    -- a membrane keeps links, and its contexts stand for what is left
+    pub kept : Kept h r t l m xs i i'
+    kept = (keeps, by l told.1 refl)
+      where
+        by : (k : Level) → Agrees h r t k m xs i i' → k ≡ l → Reordered (fills t l) (region_process (rest_at h r m xs i'))
+        by (level leaves membranes cs rcs rs) a q =
+            subst (λ k. Reordered (fills t k) (region_process (rest_at h r m xs i'))) q
+            (filled t cs rcs rs (map (atom_at h r) xs) (regions_at h r i') (map r.rule (rules_in h m)) a.no_rules
+            (λ c. let w = ap own_contexts (sym q) ∙ c in (ap (map (atom_at h r)) (empty_atoms w), ap (regions_at h r) (empty_forest w)))
+            (λ c. ap (map r.rule) (told.0.no_rule (ap own_rule_contexts (sym q) ∙ c))) a.contexts a.rule_contexts)
+
+  mutual
+    -- so it is at every depth
+    pub keep_level : (el ea em : ℕ → ℕ) {l : Level} {bs ms ns xs rest : List ℕ} {ps : List (List ℕ)} {F F' : Forest} → Lies h r t.link_of t.typed_of Told l bs ps ms ns xs rest F F' →
+        Elsewhere el ea em xs F bs ps ms → ((x : ℕ) → el x + level_occurrences x l ≡ total h r f part_at t.link_of t.typed_of items x) → Lies h r t.link_of t.typed_of (Kept h r t) l bs ps ms ns xs rest F F'
+    keep_level el ea em (lies {leaves = leaves} {membranes = membranes} {bs = bs} {as' = as'} {ms = ms} {xs = xs} {parts = parts} {ps = ps} {f = F} fit d e out k) room sum =
+        lies fit d e out (keep_in (λ x. el x + leaves_occurrences x leaves) (λ b. ea b + (weigh (one_if_same b) bs + weigh (one_if_same b) (flattened parts))) em k (record {
+          link_room = λ x. let u = room.link_room x in omega (arith, u, leaves_links h r x fit out, weigh_out (times_at h r (t.link_of x)) bs xs d e out);
+          atom_room = λ b. let u = room.atom_room b in omega (arith, u, weigh_out (one_if_same b) bs xs d e out);
+          membrane_room = room.membrane_room;
+          all_atoms_are = λ b. let u = room.all_atoms_are b in omega (arith, u, weigh_both (one_if_same b) bs as', parts_both (one_if_same b) parts ps);
+          all_membranes_are = room.all_membranes_are;
+        }) (λ x. let u = sum x in omega (arith, u)))
+
+    keep_in : (el ea em : ℕ → ℕ) {ls : Levels} {bs ms ns : List ℕ} {ps : List (List ℕ)} {F F' : Forest} → LiesIn h r t.link_of t.typed_of Told ls bs ps ms ns F F' →
+        Elsewhere el ea em [] F bs ps ms → ((x : ℕ) → el x + levels_occurrences x ls ≡ total h r f part_at t.link_of t.typed_of items x) → LiesIn h r t.link_of t.typed_of (Kept h r t) ls bs ps ms ns F F'
+    keep_in el ea em lies_none room sum = lies_none
+    keep_in el ea em (lies_and {l = l} {ls = ls} {m = m} {as' = as'} {ps = ps} {ms = ms} {ns = ns} {bs = bs} {qs = qs} {ks = ks} {xs = xs} {f = F} {f' = F'} {f'' = F''} {i = i} {i' = i'} k d q more) room sum =
+        let here : Elsewhere (λ x. el x + levels_occurrences x ls) (λ b. ea b + (weigh (one_if_same b) bs + weigh (one_if_same b) (flattened qs))) (λ b. (em b + one_if_same b m) + weigh (one_if_same b) ks) (atoms_in h m) i as' ps ms = record {
+          link_room = λ x.
+              let u = room.link_room x in
+              let w = heavy_taken h (times_at h r (t.link_of x)) (λ b. 0) k in
+              let y = membranes_weigh h (times_at h r (t.link_of x)) (λ b. 0) more in
+              omega (arith, u, w, y, membranes_links h r x more, weigh_nothing ms, weigh_nothing ks, weigh_nothing (flat F), weigh_nothing (flat F'), weigh_nothing (flat F''), weigh_nothing (flat i));
+          atom_room = λ b.
+              let u = room.atom_room b in
+              let w = heavy_taken h (one_if_same b) (λ b. 0) k in
+              let y = membranes_weigh h (one_if_same b) (λ b. 0) more in
+              omega (arith, u, w, y, weigh_nothing ms, weigh_nothing ks, weigh_nothing (flat F), weigh_nothing (flat F'), weigh_nothing (flat F''), weigh_nothing (flat i));
+          membrane_room = λ b.
+              let u = room.membrane_room b in
+              let w = heavy_taken h (λ b. 0) (one_if_same b) k in
+              let y = membranes_weigh h (λ b. 0) (one_if_same b) more in
+              omega (arith, u, w, y, weigh_nothing bs, weigh_nothing (flattened qs), weigh_nothing (forest_atoms h F), weigh_nothing (forest_atoms h F'), weigh_nothing (forest_atoms h F''), weigh_nothing (forest_atoms h i), weigh_nothing (atoms_in h m));
+          all_atoms_are = λ b. let u = room.all_atoms_are b in omega (arith, u, weigh_both (one_if_same b) as' bs, parts_both (one_if_same b) ps qs);
+          all_membranes_are = λ b. let u = room.all_membranes_are b in omega (arith, u, weigh_both (one_if_same b) ms ks);
+        } in
+        let there : Elsewhere (λ x. el x + level_occurrences x l) (λ b. ea b + (weigh (one_if_same b) as' + weigh (one_if_same b) (flattened ps))) (λ b. (em b + one_if_same b m) + weigh (one_if_same b) ms) [] F' bs qs ks = record {
+          link_room = λ x.
+              let u = room.link_room x in
+              let w = heavy_taken h (times_at h r (t.link_of x)) (λ b. 0) k in
+              let y = level_weighs h (times_at h r (t.link_of x)) (λ b. 0) d in
+              omega (arith, u, w, y, level_links h r x d, weigh_nothing ms, weigh_nothing ks, weigh_nothing (flat F), weigh_nothing (flat F'), weigh_nothing (flat i), weigh_nothing (flat i'));
+          atom_room = λ b.
+              let u = room.atom_room b in
+              let w = heavy_taken h (one_if_same b) (λ b. 0) k in
+              let y = level_weighs h (one_if_same b) (λ b. 0) d in
+              omega (arith, u, w, y, weigh_nothing ms, weigh_nothing ks, weigh_nothing (flat F), weigh_nothing (flat F'), weigh_nothing (flat i), weigh_nothing (flat i'));
+          membrane_room = λ b.
+              let u = room.membrane_room b in
+              let w = heavy_taken h (λ b. 0) (one_if_same b) k in
+              let y = level_weighs h (λ b. 0) (one_if_same b) d in
+              omega (arith, u, w, y, weigh_nothing as', weigh_nothing (flattened ps), weigh_nothing xs, weigh_nothing (forest_atoms h F), weigh_nothing (forest_atoms h F'), weigh_nothing (forest_atoms h i), weigh_nothing (forest_atoms h i'), weigh_nothing (atoms_in h m));
+          all_atoms_are = λ b. let u = room.all_atoms_are b in omega (arith, u, weigh_both (one_if_same b) as' bs, parts_both (one_if_same b) ps qs);
+          all_membranes_are = λ b. let u = room.all_membranes_are b in omega (arith, u, weigh_both (one_if_same b) ms ks);
+        } in
+        lies_and k
+        (keep_level (λ x. el x + levels_occurrences x ls) (λ b. ea b + (weigh (one_if_same b) bs + weigh (one_if_same b) (flattened qs))) (λ b. (em b + one_if_same b m) + weigh (one_if_same b) ks) d here (λ x. let u = sum x in omega (arith, u)))
+        (kept (λ x. el x + levels_occurrences x ls) (λ b. ea b + (weigh (one_if_same b) bs + weigh (one_if_same b) (flattened qs))) (λ b. (em b + one_if_same b m) + weigh (one_if_same b) ks) l m as' ps ms ns xs i i' d q here (λ x. let u = sum x in omega (arith, u)))
+        (keep_in (λ x. el x + level_occurrences x l) (λ b. ea b + (weigh (one_if_same b) as' + weigh (one_if_same b) (flattened ps))) (λ b. (em b + one_if_same b m) + weigh (one_if_same b) ms) more there (λ x. let u = sum x in omega (arith, u)))
