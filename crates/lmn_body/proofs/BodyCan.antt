@@ -1,0 +1,263 @@
+-- The code of a body can run.
+use Rattle.std.proofs.Common.{true, ℕ, ◌+◌, ◌<◌, ◌≤◌, ◌≡◌, ◌≢◌, List, [], ◌∷◌, ◌++◌, length, Option, Some, None, IsSome, refl, sym, ap, subst, ◌∙◌, inl, inr, arith}
+use Rattle.std.specs.Option.{option_map, option_and_then}
+use Rattle.lmn_base.specs.declared.guard.Cond.{Cond}
+use Rattle.lmn_heap.specs.Heap as heap
+use Rattle.lmn_heap.specs.Heap.{Heap, HeapAtom, HeapMem, Place, within, waiting, gone, alter, mem_with_atoms, mem_with_mems, mem_with_place, without, functor_of, arity_of, mem_place_of, mems_in, rules_in, spare_of, spare_by, atom_out, mem_out, home_of, parent_of, IsAtom, IsMem, IsInPlace, IsMemInPlace, In, Distinct, taken, taken_mem}
+use Rattle.lmn_heap.specs.Sound.{Listed, Valid}
+use Rattle.lmn_heap.proofs.ListLemmas.{each_in}
+use Rattle.lmn_heap.proofs.Trees.{nil_right}
+use Rattle.lmn_heap.proofs.Listing.{alter_at, same_paired}
+use Rattle.lmn_heap.proofs.Replacing.{no_waiting, no_waiting_mems}
+use Rattle.lmn_solid.specs.declared.items.HeadItem.{HeadItem}
+use Rattle.lmn_solid.specs.Heads.{HeadMembrane, atoms_of, membranes_of}
+use Rattle.lmn_solid.specs.Embeddings.{Embeds, HasMembrane}
+use Rattle.lmn_splice.specs.Ports.{Port}
+use Rattle.lmn_splice.specs.Classes.{class_of, rising, body_ties}
+use Rattle.lmn_splice.specs.Splice.{Splice, ports, links}
+use Rattle.lmn_splice.specs.Splice as splice
+use Rattle.lmn_splice.proofs.Fusions.{d as colour, before, fits, is_old}
+use Rattle.lmn_body.specs.declared.items.BodyItem.{BodyItem}
+use Rattle.lmn_body.specs.Tied.{partners}
+use Rattle.lmn_body.specs.Items.{new_ports, old_ports, connectors}
+use Rattle.lmn_body.specs.Code.{making, links_code}
+use Rattle.lmn_body.specs.Running.{Registers, old_port, new_port, withouts, all_taken, Commits}
+use Rattle.lmn_body.specs.Conditions.{StandsAsPort, CanRun}
+use Rattle.lmn_body.specs.Names.{Names}
+use Rattle.lmn_body.specs.Added.{added_rules, moved_mems, made_mems}
+use Rattle.lmn_body.specs.Made.{made_of}
+use Rattle.lmn_body.specs.Rules.{AtomRule, Goes, Exists, Nests, HeadNests, PartAtoms}
+use Rattle.lmn_body.specs.Within.{membrane_images}
+use Rattle.lmn_body.proofs.Firing.{ma, links_below, stands_before, arity_old}
+use Rattle.lmn_body.proofs.Removing as removing
+use Rattle.lmn_body.proofs.Coding.{at_heap}
+use Rattle.lmn_body.proofs.BodyPorts.{numbers}
+use Rattle.lmn_body.proofs.Making.{AfterMaking, all_made}
+use Rattle.lmn_body.proofs.ListOps.{change_keeps, place_by, out_place}
+use Rattle.lmn_body.proofs.MakingParts.{same_rules_added}
+use Rattle.lmn_body.proofs.Removing.{all_taken_mems, taken_places}
+use Rattle.lmn_body.proofs.Preparing.{AllPrepared}
+use Rattle.lmn_heap.proofs.Heights.{mem_of_list}
+use Rattle.lmn_body.proofs.MakingCan.{Ranked, State, making_can}
+use Rattle.lmn_body.proofs.LinksCan.{all_can, links_can}
+use Rattle.lmn_body.proofs.Nesting as nesting
+use Rattle.lmn_body.proofs.TreeAfter as treeafter
+use Rattle.lmn_body.proofs.Soundness as soundness
+
+-- membranes that aren't taken stay, and those that are are gone
+taken_mems_away : (ks : List ℕ) (s : Heap) (x : ℕ) → (In x ks → ⊥) → mem_place_of (all_taken_mems s ks) x ≡ mem_place_of s x
+taken_mems_away [] s x o = refl
+taken_mems_away (k ∷ ks) s x o = taken_mems_away ks (taken_mem s k) x (λ i. o (inr i)) ∙ out_place s k x (λ e. o (inl (sym e)))
+
+gone_now : (s : Heap) (k : ℕ) (P : Place) → mem_place_of s k ≡ Some P → mem_place_of (taken_mem s k) k ≡ Some gone
+gone_now s k P e = ap place_by (alter_at (mem_out s.mems (parent_of s k) k) k (option_map (mem_with_place gone))) ∙ by (mem_out s.mems (parent_of s k) k k) (keep (parent_of s k) ∙ e)
+  where
+    keep : (o : Option ℕ) → place_by (mem_out s.mems o k k) ≡ place_by (s.mems k)
+    keep None = refl
+    keep (Some q) = change_keeps place_by s.mems q (mem_with_mems (without k)) (λ y. refl) k
+
+    by : (o : Option HeapMem) → place_by o ≡ Some P → place_by (option_map (mem_with_place gone) o) ≡ Some gone
+    by None e = absurd (cc)
+    by (Some x) e = refl
+
+taken_mems_gone : (ks : List ℕ) (s : Heap) → Distinct ks → ((k : ℕ) → In k ks → (P : Place) × (mem_place_of s k ≡ Some P)) → (x : ℕ) → In x ks → mem_place_of (all_taken_mems s ks) x ≡ Some gone
+taken_mems_gone [] s d p x i = absurd i
+taken_mems_gone (k ∷ ks) s d p x (inl e) =
+    let w = p k (inl refl) in
+    subst (λ z. mem_place_of (all_taken_mems (taken_mem s k) ks) z ≡ Some gone) e (taken_mems_away ks (taken_mem s k) k (λ i. each_in (λ z. k ≢ z) ks k d.0 i refl) ∙ gone_now s k w.0 w.1)
+taken_mems_gone (k ∷ ks) s d p x (inr i) =
+    taken_mems_gone ks (taken_mem s k) d.1 (λ b j. let w = p b (inr j) in (w.0, out_place s k b (λ e. each_in (λ z. k ≢ z) ks b d.0 j (sym e)) ∙ w.1)) x i
+
+taken_spare : (ns : List ℕ) (s : Heap) (x : ℕ) → spare_of (all_taken s ns) x ≡ spare_of s x
+taken_spare [] s x = refl
+taken_spare (a ∷ ns) s x = taken_spare ns (taken s a) x ∙ by (home_of s a)
+  where
+    by : (o : Option ℕ) → spare_by (atom_out s.mems o a x) ≡ spare_by (s.mems x)
+    by None = refl
+    by (Some m) = change_keeps spare_by s.mems m (mem_with_atoms (without a)) (λ y. refl) x
+
+taken_mems_spare : (ks : List ℕ) (s : Heap) (x : ℕ) → spare_of (all_taken_mems s ks) x ≡ spare_of s x
+taken_mems_spare [] s x = refl
+taken_mems_spare (k ∷ ks) s x = taken_mems_spare ks (taken_mem s k) x ∙ change_keeps spare_by (mem_out s.mems (parent_of s k) k) k (mem_with_place gone) (λ y. refl) x ∙ by (parent_of s k)
+  where
+    by : (o : Option ℕ) → spare_by (mem_out s.mems o k x) ≡ spare_by (s.mems x)
+    by None = refl
+    by (Some q) = change_keeps spare_by s.mems q (mem_with_mems (without k)) (λ y. refl) x
+
+module _ (h : Heap) (valid : Valid h) (head : List HeadItem) (guard : List Cond) (body : List BodyItem) (n m : ℕ) (r : Registers) (rule : AtomRule head body n)
+    (em : Embeds h head guard m r.head.images) (stand : IsMemInPlace h m) (c : Port → ℕ) (names : Names h c)
+    (goes : Goes r (membrane_images r head) (Exists h r head body) body)
+    (contexts : (k : ℕ) (b : HeadMembrane) → HasMembrane head k b → b.has_context ≡ true → In (r.head.images.membrane k) (moved_mems r body))
+    (ps : List ℕ) (parts : PartAtoms h head r.head.images ps)
+    (s : Heap) (pr : AllPrepared h h s (made_of r (length (atoms_of head)) body) (made_mems r (1 + length (membranes_of head)) body))
+    (nests : Nests r m [] (1 + length (membranes_of head)) body) (head_nests : HeadNests head) (listed_s : Listed s)
+    (removed_mem : (x : ℕ) → In x (membrane_images r head) → IsMem h x) (home_mem : IsMem h m) (home_apart : In m (membrane_images r head) → ⊥)
+    (new_apart : (x : ℕ) → In x (made_mems r (1 + length (membranes_of head)) body) → In x (membrane_images r head) → ⊥)
+    (spares : (x : ℕ) → length (added_rules r (rules_in h) body x) ≤ spare_of s x) where
+  abbrev N : ℕ
+  N = length (atoms_of head)
+
+  abbrev K : ℕ
+  K = length (membranes_of head)
+
+  abbrev nm : List ℕ
+  nm = made_mems r (1 + K) body
+
+  abbrev ks : List ℕ
+  ks = membrane_images r head
+
+  abbrev ns : List ℕ
+  ns = nesting.ns h valid head guard body n m r rule em stand c names goes contexts ps parts s pr
+
+  abbrev t1 : Heap
+  t1 = nesting.t1 h valid head guard body n m r rule em stand c names goes contexts ps parts s pr
+
+  abbrev t2 : Heap
+  t2 = nesting.t2 h valid head guard body n m r rule em stand c names goes contexts ps parts s pr
+
+  abbrev rank : ℕ → ℕ
+  rank = treeafter.rank h valid head guard body n m r rule em stand c names goes contexts ps parts s pr nests head_nests
+
+  abbrev idx : ℕ → ℕ
+  idx = treeafter.idx h valid head guard body n m r rule em stand c names goes contexts ps parts s pr nests head_nests
+
+  never_new : (x : ℕ) → IsMem h x → In x nm → ⊥
+  never_new x is i = treeafter.old h valid head guard body n m r rule em stand c names goes contexts ps parts s pr nests head_nests x i is
+
+  ranked : Ranked r m ks nm rank
+  ranked = record {
+    low = idx m + length nm;
+    once = pr.mems.once;
+    targets = treeafter.into_rank h valid head guard body n m r rule em stand c names goes contexts ps parts s pr nests head_nests;
+    removed = λ k i.
+        let a = treeafter.high_rank h valid head guard body n m r rule em stand c names goes contexts ps parts s pr nests head_nests k (λ j. new_apart k j i)
+        (treeafter.removed_later h valid head guard body n m r rule em stand c names goes contexts ps parts s pr nests head_nests k i) in
+        let b = treeafter.removed_later h valid head guard body n m r rule em stand c names goes contexts ps parts s pr nests head_nests k i in
+        omega arith;
+    from_home = λ z i.
+        let a = treeafter.made_rank h valid head guard body n m r rule em stand c names goes contexts ps parts s pr nests head_nests z i in
+        let b = treeafter.home_rank h valid head guard body n m r rule em stand c names goes contexts ps parts s pr nests head_nests in
+        omega arith;
+    in_order = λ x z i j l.
+        let a = treeafter.made_rank h valid head guard body n m r rule em stand c names goes contexts ps parts s pr nests head_nests x i in
+        let b = treeafter.made_rank h valid head guard body n m r rule em stand c names goes contexts ps parts s pr nests head_nests z j in
+        omega arith;
+  }
+
+  place_t2 : (x : ℕ) → (In x ks → ⊥) → mem_place_of t2 x ≡ mem_place_of s x
+  place_t2 x o = taken_mems_away ks t1 x o ∙ taken_places ns s x
+
+  made_s : AfterMaking h (all_made h (made_of r N body)) (made_of r N body)
+  made_s = ma h valid head guard body n m r rule em stand c names pr.free ps parts
+
+  state_t2 : State r m ks rank [] N (1 + K) body t2
+  state_t2 = record {
+    listed = soundness.listed_t2 h valid head guard body n m r rule em stand c names goes contexts ps parts s pr nests listed_s removed_mem home_mem;
+    up = λ p x i.
+        let child = in_left_mems p x (subst (In x) (nesting.mems_t2 h valid head guard body n m r rule em stand c names goes contexts ps parts s pr p) i) in
+        treeafter.old_up h valid head guard body n m r rule em stand c names goes contexts ps parts s pr nests head_nests p x (never_new p (mem_of_list h p x child)) (never_new x (child_mem p x child))
+        (treeafter.child_later h valid head guard body n m r rule em stand c names goes contexts ps parts s pr nests head_nests p x child);
+    place = λ x i. elim i [ inl e ↦ subst heap.StandsAt (sym (ap (mem_place_of t2) e ∙ place_t2 m home_apart ∙ pr.mems.places m home_mem)) stand | inr v ↦ absurd v ];
+    gone_ks = taken_mems_gone ks t1 (nesting.ks_once h valid head guard body n m r rule em stand c names goes contexts ps parts s pr) (λ k i. some_place t1 k (stands_t1 k i));
+    wait = λ x i. place_t2 x (new_apart x i) ∙ (listed_s.new_mems x).0 (subst (In x) (sym line_s) i);
+    line = (
+      [],
+      (nesting.sh h valid head guard body n m r rule em stand c names goes contexts ps parts s pr).line ∙ pr.atoms.line ∙ made_s.line
+          ∙ ap (λ xs. xs ++ numbers (made_of r N body)) (no_waiting h valid.sound.listed valid.settled) ∙ sym (nil_right (numbers (made_of r N body))),
+    );
+    mem_line = ([], (nesting.sh h valid head guard body n m r rule em stand c names goes contexts ps parts s pr).mem_line ∙ line_s ∙ sym (nil_right nm));
+    spare = λ x o. subst (λ k. length (added_rules r (rules_in t2) body x) ≤ k) (sym (taken_mems_spare ks t1 x ∙ taken_spare ns s x))
+        (subst (λ k. k ≤ spare_of s x) (ap (λ (zs : List ℕ). length zs) (sym (same_rules_added r ks (Exists h r head body) (rules_in h) (rules_in t2) body x goes
+        (λ k i. nesting.rules_t2 h valid head guard body n m r rule em stand c names goes contexts ps parts s pr k)))) (spares x));
+  }
+    where
+      line_s : s.new_mems ≡ nm
+      line_s = pr.mems.line ∙ ap (λ xs. xs ++ nm) (no_waiting_mems h valid.sound.listed valid.settled)
+
+      in_left_mems : (p x : ℕ) → In x (withouts ks (mems_in h p)) → In x (mems_in h p)
+      in_left_mems p x i = go ks (mems_in h p) i
+        where
+          go : (ks xs : List ℕ) → In x (withouts ks xs) → In x xs
+          go [] xs i = i
+          go (k ∷ ks) xs i = less xs (go ks (without k xs) i)
+            where
+              less : (xs : List ℕ) → In x (without k xs) → In x xs
+              less xs i = removing.in_less k x xs i
+
+      child_mem : (p x : ℕ) → In x (mems_in h p) → IsMem h x
+      child_mem p x i = by (h.mems x) ((valid.sound.listed.mems p x).0 i)
+        where
+          by : (o : Option HeapMem) → option_map (λ y. y.place) o ≡ Some (within p) → IsSome o
+          by None e = absurd (cc)
+          by (Some y) e = refl
+
+      stands_t1 : (k : ℕ) → In k ks → IsSome (t1.mems k)
+      stands_t1 k i = by (t1.mems k) (nesting.once_t1 h valid head guard body n m r rule em stand c names goes contexts ps parts s pr k i).1
+        where
+          by : {p : ℕ} (o : Option HeapMem) → option_and_then (λ y. heap.home_by y.place) o ≡ Some p → IsSome o
+          by None e = absurd (cc)
+          by (Some y) e = refl
+
+      some_place : (t : Heap) (k : ℕ) → IsSome (t.mems k) → (P : Place) × (mem_place_of t k ≡ Some P)
+      some_place t k i = by (t.mems k) i
+        where
+          by : (o : Option HeapMem) → IsSome o → (P : Place) × (option_map (λ y. y.place) o ≡ Some P)
+          by None i = absurd (cc)
+          by (Some y) i = (y.place, refl)
+
+  pub making_part_can : CanRun r (making N (1 + K) 0 body) t2
+  making_part_can = making_can r m ks nm rank (Exists h r head body) ranked [] N (1 + K) 0 body refl goes nests t2 state_t2
+
+  module _ (t3 : Heap) (run : Commits r (making N (1 + K) 0 body) t2 t3) where
+    abbrev news : List (Port × ℕ)
+    news = at_heap (new_port r) (new_ports N 0 body)
+
+    abbrev olds : List (Port × ℕ)
+    olds = at_heap (old_port r) (old_ports head)
+
+    abbrev wires : List (ℕ × ℕ)
+    wires = connectors body
+
+    abbrev F : Port → Type 0
+    F = nesting.F h valid head guard body n m r rule em stand c names goes contexts ps parts s pr t3 run
+
+    sp : Splice F c (partners t3) news olds wires
+    sp = subst (λ k. Splice F c k news olds wires) (sym (nesting.same_partners h valid head guard body n m r rule em stand c names goes contexts ps parts s pr t3 run))
+        (nesting.sp_s h valid head guard body n m r rule em stand c names goes contexts ps parts s pr t3 run)
+
+    below : (x : ℕ) → splice.In x (links news ++ links olds) → x < n
+    below = links_below h valid head guard body n m r rule em stand c names pr.free ps parts
+
+    -- a port of the heap where all waits is one after the making part
+    stands_t3 : (p : Port) → p.1 < arity_of s p.0 → StandsAsPort t3 p
+    stands_t3 p l = (
+      some (s.atoms p.0) (t3.atoms p.0) (nesting.functors_t3 h valid head guard body n m r rule em stand c names goes contexts ps parts s pr t3 run p.0) (has_ports (s.atoms p.0) l),
+      subst (λ k. p.1 < k) (sym (nesting.arities_t3 h valid head guard body n m r rule em stand c names goes contexts ps parts s pr t3 run p.0)) l,
+    )
+      where
+        has_ports : (o : Option HeapAtom) → p.1 < length (heap.links_of o) → IsSome o
+        has_ports None l = absurd (off l)
+          where
+            off : p.1 < 0 → ⊥
+            off l = omega arith
+        has_ports (Some x) l = refl
+
+        some : (o q : Option HeapAtom) → option_map (λ x. x.functor) q ≡ option_map (λ x. x.functor) o → IsSome o → IsSome q
+        some None q e i = absurd (cc)
+        some (Some x) None e i = absurd (cc)
+        some (Some x) (Some y) e i = refl
+
+    old_stands : (p : Port) → splice.In p (ports olds) → StandsAsPort t3 p
+    old_stands p i =
+        let w = stands_before h valid head guard body n m r rule em stand c names pr.free ps parts p (inr i) in
+        stands_t3 p (subst (λ k. p.1 < k) (sym (old_arity p.0 w.0)) w.1)
+      where
+        old_arity : (a : ℕ) → IsInPlace h a → arity_of s a ≡ arity_of h a
+        old_arity a i = ap (λ (f : ℕ → Option HeapAtom). length (heap.links_of (f a))) pr.atoms.atoms ∙ arity_old h valid head guard body n m r rule em stand c names pr.free ps parts a i
+
+    pub links_part_can : CanRun r (links_code (class_of wires) (new_ports N 0 body) (old_ports head) (rising 0 n)) t3
+    links_part_can = links_can r (class_of wires) (new_ports N 0 body) (old_ports head) (rising 0 n) t3
+        (all_can F (colour F c (partners t3) news olds wires n sp below) (body_ties news olds wires n) t3
+        (same_paired s t3 (nesting.links_t3 h valid head guard body n m r rule em stand c names goes contexts ps parts s pr t3 run) (nesting.paired_s h valid head guard body n m r rule em stand c names goes contexts ps parts s pr t3 run))
+        (λ p f. stands_t3 p f.0) (λ p o. old_stands p (is_old F c (partners t3) news olds wires n sp below p o))
+        (fits F c (partners t3) news olds wires n sp below) (before F c (partners t3) news olds wires n sp below))

@@ -1,0 +1,415 @@
+-- The code of a body of atoms fires it.
+use Rattle.std.proofs.Common.{ℕ, ◌+◌, ◌<◌, ◌≡◌, ◌≤◌, ◌==◌, Bool, true, false, cond, List, [], ◌∷◌, ◌++◌, map, length, Option, Some, None, IsSome, refl, sym, ap, subst, ◌∙◌, inl, inr, arith}
+use Rattle.lmn_base.specs.declared.functor.Functor.{Functor}
+use Rattle.lmn_base.specs.declared.guard.Cond.{Cond}
+use Rattle.lmn_heap.specs.Heap.{Heap, functor_of, atoms_in, rules_in, IsInPlace, IsMemInPlace, finished}
+use Rattle.lmn_heap.specs.Heap as heap
+use Rattle.lmn_heap.specs.Sound.{Listed, Valid}
+use Rattle.lmn_heap.specs.Solid.{atoms_of}
+use Rattle.std.specs.Prelude.{slice_get}
+use Rattle.std.specs.Prelude as prelude
+use Rattle.lmn_heap.specs.Heap.{HeapAtom, links_of}
+use Rattle.lmn_heap.proofs.Trees.{nil_right}
+use Rattle.lmn_heap.proofs.SolidLemmas.{atoms_append}
+use Rattle.lmn_solid.specs.declared.items.HeadItem.{HeadItem}
+use Rattle.lmn_solid.specs.Heads.{HeadTyped, HeadMembrane, atoms_of as head_atoms, typed_contexts_of, membranes_of}
+use Rattle.lmn_solid.specs.Embeddings.{Embeds, HasMembrane, HasTyped}
+use Rattle.lmn_splice.specs.Ports.{Port}
+use Rattle.lmn_splice.specs.Classes.{class_of, rising, body_ties}
+use Rattle.lmn_splice.specs.Splice.{In, links, raw_link, of_rule, of_solid, Splice, Fusion}
+use Rattle.lmn_instr.specs.declared.instr.Instr.{Instr}
+use Rattle.lmn_instr.specs.declared.instr.Instr.TheVariants.{RemoveAtom, RemovePart, RemoveMem, Proceed}
+use Rattle.lmn_body.specs.declared.items.BodyItem.{BodyItem}
+use Rattle.lmn_body.specs.Tied.{partners, all_tied}
+use Rattle.lmn_body.specs.Items.{new_ports, old_ports, connectors}
+use Rattle.lmn_body.specs.Code.{removals, making, links_code, body_code}
+use Rattle.lmn_body.specs.Running.{Registers, old_port, new_port, withouts, all_taken, all_placed, Prepares, Commits}
+use Rattle.lmn_body.specs.Rules.{PlainRule, AtomRule, PartAtoms}
+use Rattle.lmn_splice.proofs.EndLemmas.{in_rising, rising_distinct}
+use Rattle.lmn_body.proofs.HeadPorts.{of_map, get_some, get_below}
+use Rattle.lmn_body.proofs.Parts.{parts_apart, parts_commit, taken_append, taken_links, no_part_prepares}
+use Rattle.lmn_body.specs.Names.{Names}
+use Rattle.lmn_body.specs.Added.{made_mems, moved_mems}
+use Rattle.lmn_body.proofs.Places.{goes_body, nests_body, moved_are, removed_mem, home_is_mem, home_apart, new_apart}
+use Rattle.lmn_body.proofs.RemovalsCan.{can_append, atoms_can, parts_can, mems_can, all_stay_in_place}
+use Rattle.lmn_body.proofs.BodyCan.{making_part_can, links_part_can}
+use Rattle.lmn_body.proofs.Soundness.{prepares_listed, sound_before}
+use Rattle.lmn_body.specs.Within.{membrane_images, FiresWithin}
+use Rattle.lmn_body.specs.Laws.{BodyFires, BodyFiresWithin, BodyCanRun}
+use Rattle.lmn_body.proofs.Removing.{all_taken_mems, commits_taken_mems, prepares_taken_mems}
+use Rattle.lmn_body.proofs.Preparing.{AllPrepared, making_prepares}
+use Rattle.lmn_body.proofs.Nesting.{fires_within, ready_v, ks_once, once_t1}
+use Rattle.lmn_body.proofs.TreeAfter.{valid_after}
+use Rattle.lmn_body.specs.Conditions.{CanRun}
+use Rattle.lmn_heap.specs.Conditions.{Ready}
+use Rattle.std.specs.Option.{option_and_then}
+use Rattle.lmn_body.specs.Fired.{linked_by, made_atoms, images_of, Fires}
+use Rattle.lmn_body.proofs.Phases.{placed_in}
+use Rattle.lmn_body.proofs.Making.{all_made, all_made_after, AllFree}
+use Rattle.lmn_body.proofs.Coding.{at_heap, commits_append, prepares_append, commits_taken, prepares_taken, commits_placed, prepares_made, commits_tied, prepares_tied}
+use Rattle.lmn_body.specs.Made.{made_of, places_of}
+use Rattle.lmn_body.proofs.BodyPorts.{heap_in, numbers, number_in}
+use Rattle.lmn_body.proofs.Finishing.{in_place_listed}
+use Rattle.lmn_body.proofs.Committing.{Poised, EndsLive, in_withouts_of, commit_names, commit_fusion, commit_valid, commit_tree, commit_lists, commit_rules, commit_functor}
+use Rattle.lmn_body.proofs.Firing.{rising_below, heap_in_of, distinct_images, splice_at, poised, links_below, new_link, kept_link, kept_functor, new_functor, same_atoms, same_rules, stands_again, es_are}
+use Rattle.lmn_body.proofs.SolidAfter.{kept_atoms, new_atoms_are, placed_here, fired_are}
+
+-- a head of atoms alone: nothing else is removed
+nothing_else_commits : (r : Registers) (ts : List HeadTyped) (ms : List HeadMembrane) (s t : Heap) → ts ≡ [] → ms ≡ []
+    → Commits r (map RemovePart (rising 0 (length ts)) ++ map RemoveMem (rising 1 (length ms))) s t → t ≡ s
+nothing_else_commits r [] [] s t e f w = w
+nothing_else_commits r [] (m ∷ ms) s t e f w = absurd (cc)
+nothing_else_commits r (x ∷ ts) ms s t e f w = absurd (cc)
+
+nothing_else_prepares : (r : Registers) (ts : List HeadTyped) (ms : List HeadMembrane) (s t : Heap) → ts ≡ [] → ms ≡ []
+    → Prepares r (map RemovePart (rising 0 (length ts)) ++ map RemoveMem (rising 1 (length ms))) s t → t ≡ s
+nothing_else_prepares r [] [] s t e f w = w
+nothing_else_prepares r [] (m ∷ ms) s t e f w = absurd (cc)
+nothing_else_prepares r (x ∷ ts) ms s t e f w = absurd (cc)
+
+module _ (head : List HeadItem) (body : List BodyItem) (n : ℕ) (rule : PlainRule head body n) (r : Registers) where
+  abbrev N : ℕ
+  N = length (head_atoms head)
+
+  abbrev mk : List (ℕ × Functor)
+  mk = made_of r N body
+
+  abbrev ns : List ℕ
+  ns = images_of r head
+
+  abbrev es : List (ℕ × ℕ)
+  es = places_of r N body
+
+  abbrev news : List (Port × ℕ)
+  news = at_heap (new_port r) (new_ports N 0 body)
+
+  abbrev olds : List (Port × ℕ)
+  olds = at_heap (old_port r) (old_ports head)
+
+  abbrev link_part : List Instr
+  link_part = links_code (class_of (connectors body)) (new_ports N 0 body) (old_ports head) (rising 0 n)
+
+  -- what prepares makes the new atoms
+  prepared : (h s : Heap) → Prepares r (body_code head body n) h s → AllFree h mk × (s ≡ all_made h mk)
+  prepared h s w =
+      let a = prepares_append r (removals head) (making N (1 + length (membranes_of head)) 0 body ++ (link_part ++ (Proceed ∷ []))) h s w in
+      let a1 = prepares_append r (map RemoveAtom (rising 0 N)) (map RemovePart (rising 0 (length (typed_contexts_of head))) ++ map RemoveMem (rising 1 (length (membranes_of head)))) h a.0 a.1 in
+      let b = prepares_append r (making N (1 + length (membranes_of head)) 0 body) (link_part ++ (Proceed ∷ [])) a.0 s a.2 in
+      let d = prepares_append r link_part (Proceed ∷ []) b.0 s b.2 in
+      let first : a.0 ≡ h = nothing_else_prepares r (typed_contexts_of head) (membranes_of head) a1.0 a.0 rule.no_typed rule.no_membranes a1.2 ∙ prepares_taken r (rising 0 N) h a1.0 a1.1 in
+      let made = prepares_made r N (1 + length (membranes_of head)) 0 body rule.simple a.0 b.0 b.1 in
+      let last : s ≡ b.0 = d.2.2 ∙ d.2.1 ∙ prepares_tied r (class_of (connectors body)) (new_ports N 0 body) (old_ports head) (rising 0 n) b.0 d.0 d.1 in
+      (subst (λ z. AllFree z mk) first made.0, last ∙ made.1 ∙ ap (λ z. all_made z mk) first)
+
+  -- what commits takes, places, ties and frees
+  committed : (s h' : Heap) → Commits r (body_code head body n) s h' → h' ≡ finished (all_tied (all_placed (all_taken s ns) es) (body_ties news olds (connectors body) n))
+  committed s h' w =
+      let a = commits_append r (removals head) (making N (1 + length (membranes_of head)) 0 body ++ (link_part ++ (Proceed ∷ []))) s h' w in
+      let a1 = commits_append r (map RemoveAtom (rising 0 N)) (map RemovePart (rising 0 (length (typed_contexts_of head))) ++ map RemoveMem (rising 1 (length (membranes_of head)))) s a.0 a.1 in
+      let b = commits_append r (making N (1 + length (membranes_of head)) 0 body) (link_part ++ (Proceed ∷ [])) a.0 h' a.2 in
+      let d = commits_append r link_part (Proceed ∷ []) b.0 h' b.2 in
+      let first : a.0 ≡ all_taken s ns = nothing_else_commits r (typed_contexts_of head) (membranes_of head) a1.0 a.0 rule.no_typed rule.no_membranes a1.2 ∙ commits_taken r (rising 0 N) s a1.0 a1.1 in
+      let second : b.0 ≡ all_placed (all_taken s ns) es = commits_placed r N (1 + length (membranes_of head)) 0 body rule.simple a.0 b.0 b.1 ∙ ap (λ z. all_placed z es) first in
+      let third : d.0 ≡ all_tied (all_placed (all_taken s ns) es) (body_ties news olds (connectors body) n) =
+      commits_tied r (class_of (connectors body)) (new_ports N 0 body) (old_ports head) (rising 0 n) b.0 d.0 d.1 ∙ ap (λ z. all_tied z (body_ties news olds (connectors body) n)) second in
+      d.2.2 ∙ d.2.1 ∙ ap finished third
+
+  module _ (h : Heap) (valid : Valid h) (guard : List Cond) (m : ℕ) (em : Embeds h head guard m r.head.images) (stand : IsMemInPlace h m) (c : Port → ℕ) (names : Names h c) (free : AllFree h mk) where
+    abbrev s : Heap
+    s = all_made h mk
+
+    abbrev v : Heap
+    v = all_tied (all_placed (all_taken s ns) es) (body_ties news olds (connectors body) n)
+
+    no_parts : PartAtoms h head r.head.images []
+    no_parts = record {
+      once = tt;
+      are = λ a i. absurd i;
+      all = λ g t a w i. let z : ◌≡◌ {A = Option HeadTyped} None (Some t) = sym (ap (λ ts. slice_get ts g) rule.no_typed) ∙ w in absurd (cc);
+    }
+
+    abbrev po : Poised s ns es valid.tree.0
+    po = subst (λ z. Poised s z es valid.tree.0) (nil_right (images_of r head)) (poised h valid head guard body n m r rule.atoms em stand c names free [] no_parts rule.simple)
+
+    abbrev sp : Splice (EndsLive s ns es) c (partners s) news olds (connectors body)
+    sp = subst (λ z. Splice (EndsLive s z es) c (partners s) news olds (connectors body)) (nil_right (images_of r head)) (splice_at h valid head guard body n m r rule.atoms em stand c names free [] no_parts)
+
+    abbrev below : (x : ℕ) → In x (links news ++ links olds) → x < n
+    below = links_below h valid head guard body n m r rule.atoms em stand c names free [] no_parts
+
+    abbrev fu : Fusion (EndsLive s ns es) c (partners v) news olds (connectors body)
+    fu = commit_fusion s ns es valid.tree.0 po c news olds (connectors body) n sp below
+
+    abbrev name : ℕ → ℕ → ℕ
+    name a i = fu.to (raw_link news c (a, i))
+
+    left_atoms : (k : ℕ) → atoms_of (finished v) name (withouts ns (atoms_in h k)) ≡ map (linked_by (λ x. fu.to (of_solid x))) (atoms_of h (λ a i. c (a, i)) (withouts ns (atoms_in h k)))
+    left_atoms k = kept_atoms h (finished v) (λ a i. c (a, i)) name (λ x. fu.to (of_solid x)) (withouts ns (atoms_in h k)) (λ a i.
+        let w = in_withouts_of ns (atoms_in h k) a (valid.sound.listed.atoms_once k) i in
+        let p = in_place_listed h k a valid.sound.listed w.0 in (
+          commit_functor s ns es valid.tree.0 po c news olds (connectors body) n sp below a (inl (stands_again h valid head guard body n m r rule.atoms em stand c names free [] no_parts a p, w.1))
+              ∙ kept_functor h valid head guard body n m r rule.atoms em stand c names free [] no_parts a p,
+          λ j. ap fu.to (kept_link h valid head guard body n m r rule.atoms em stand c names free [] no_parts (a, j) p),
+        ))
+
+    new_atoms : atoms_of (finished v) name (numbers mk) ≡ made_atoms r (λ x. fu.to (of_rule x)) body
+    new_atoms = new_atoms_are (finished v) r name (λ x. fu.to (of_rule x)) N 0 body rule.atoms.made rule.simple
+        (λ e i. commit_functor s ns es valid.tree.0 po c news olds (connectors body) n sp below e.0
+        (inr (subst (heap.In e.0) (sym (es_are h valid head guard body n m r rule.atoms em stand c names free [] no_parts)) (number_in e.0 e.1 mk i)))
+        ∙ new_functor h valid head guard body n m r rule.atoms em stand c names free [] no_parts e i)
+        (λ e i. ap fu.to (new_link h valid head guard body n m r rule.atoms em stand c names free [] no_parts e i))
+
+    placed_atoms : (k : ℕ) → atoms_of (finished v) name (placed_in k es) ≡ cond (k == m) (made_atoms r (λ x. fu.to (of_rule x)) body) []
+    placed_atoms k = ap (atoms_of (finished v) name) (placed_here r N k m body rule.simple em.here) ∙ by (k == m)
+      where
+        by : (t : Bool) → atoms_of (finished v) name (cond t (numbers mk) []) ≡ cond t (made_atoms r (λ x. fu.to (of_rule x)) body) []
+        by true = new_atoms
+        by false = refl
+
+    atoms_then : (k : ℕ) → atoms_of (finished v) name (atoms_in (finished v) k)
+        ≡ map (linked_by (λ x. fu.to (of_solid x))) (atoms_of h (λ a i. c (a, i)) (withouts ns (atoms_in h k))) ++ cond (k == m) (made_atoms r (λ x. fu.to (of_rule x)) body) []
+    atoms_then k =
+        ap (atoms_of (finished v) name) (commit_lists s ns es valid.tree.0 po c news olds (connectors body) n sp below k
+        ∙ ap (λ xs. withouts ns xs ++ placed_in k es) (same_atoms h valid head guard body n m r rule.atoms em stand c names free [] no_parts k))
+        ∙ atoms_append (finished v) name (withouts ns (atoms_in h k)) (placed_in k es)
+        ∙ (λ t. left_atoms k t ++ placed_atoms k t)
+
+    pub fires : Fires h c valid.tree.0 r head body m (finished v)
+    fires = record {
+      valid = commit_valid s ns es valid.tree.0 po c news olds (connectors body) n sp below;
+      tree = commit_tree s ns es valid.tree.0 po c news olds (connectors body) n sp below;
+      to = fu.to;
+      connectors_fused = fu.connectors;
+      heads_fused = λ e i. fu.heads (old_port r e.0, e.1) (heap_in (old_port r) e (old_ports head) i);
+      number = λ p. fu.to (raw_link news c p);
+      named = commit_names s ns es valid.tree.0 po c news olds (connectors body) n sp below;
+      solid = fired_are h (finished v) c r head body m fu.to name valid.tree.0 (λ k i. (
+        atoms_then k,
+        commit_rules s ns es valid.tree.0 po c news olds (connectors body) n sp below k ∙ same_rules h valid head guard body n m r rule.atoms em stand c names free [] no_parts k,
+      ));
+    }
+
+-- The code of a body without membranes and contexts, run at an embedding of a head of atoms, fires the rule: the heap is
+-- valid again, and its solid is the raw region with its links fused.
+pub body_fires : BodyFires
+body_fires head body n rule r h valid guard m em stand c names h' w =
+    let p = prepared head body n rule r h w.0 w.1 in
+    let q : Commits r (body_code head body n) (all_made h (made_of r (length (head_atoms head)) body)) h' = subst (λ z. Commits r (body_code head body n) z h') p.1 w.2 in
+    subst (λ z. Fires h c valid.tree.0 r head body m z) (sym (committed head body n rule r (all_made h (made_of r (length (head_atoms head)) body)) h' q))
+    (fires head body n rule r h valid guard m em stand c names p.0)
+
+-- With membranes
+
+below_plain : (g k : ℕ) → g < 0 + k → g < k
+below_plain g k h = omega arith
+
+plain_below : (g k : ℕ) → g < k → g < 0 + k
+plain_below g k h = omega arith
+
+nothing_less : (g : ℕ) → 0 ≤ g
+nothing_less g = omega arith
+
+-- what is made has no partner yet, and what stood before has the same
+prepared_links : (h : Heap) → Valid h → (s : Heap) (mk : List (ℕ × Functor)) (nm : List ℕ) → AllPrepared h h s mk nm → (p : Port) → partners s p ≡ partners h p
+prepared_links h valid s mk nm pr p =
+    ap (λ (f : ℕ → Option HeapAtom). prelude.slice_index_or (links_of (f p.0)) p.1 None) pr.atoms.atoms ∙ (all_made_after mk h valid.sound pr.free).links p.0 p.1
+
+pub body_fires_within : BodyFiresWithin
+body_fires_within head body n nested r h valid guard m em stand c names h' (s, prepares, commits) =
+    let rule = nested.atoms in
+    let head_nests = nested.head_nests in
+    let N = length (head_atoms head) in
+    let K = length (membranes_of head) in
+    let links_part = links_code (class_of (connectors body)) (new_ports N 0 body) (old_ports head) (rising 0 n) in
+    let parts = map RemovePart (rising 0 (length (typed_contexts_of head))) in
+    let mems = map RemoveMem (rising 1 K) in
+    let make = making N (1 + K) 0 body in
+    let pa = prepares_append r (removals head) (make ++ (links_part ++ (Proceed ∷ []))) h s prepares in
+    let pb = prepares_append r (map RemoveAtom (rising 0 N)) (parts ++ mems) h pa.0 pa.1 in
+    let pc = prepares_append r parts mems pb.0 pa.0 pb.2 in
+    let pd = prepares_append r make (links_part ++ (Proceed ∷ [])) pa.0 s pa.2 in
+    let pe = prepares_append r links_part (Proceed ∷ []) pd.0 s pd.2 in
+    let first : pa.0 ≡ h = prepares_taken_mems r (rising 1 K) pc.0 pa.0 pc.2 ∙ no_part_prepares r (rising 0 (length (typed_contexts_of head))) pb.0 pc.0 pc.1 ∙ prepares_taken r (rising 0 N) h pb.0 pb.1 in
+    let last : s ≡ pd.0 = pe.2.2 ∙ pe.2.1 ∙ prepares_tied r (class_of (connectors body)) (new_ports N 0 body) (old_ports head) (rising 0 n) pd.0 pe.0 pe.1 in
+    let made : AllPrepared h h pd.0 (made_of r N body) (made_mems r (1 + K) body) =
+    making_prepares r N (1 + K) 0 body rule.no_copies h h pd.0 (record { atoms = refl; line = refl }) (subst (λ z. Prepares r make z pd.0) first pd.1) in
+    let pr : AllPrepared h h s (made_of r N body) (made_mems r (1 + K) body) = subst (λ z. AllPrepared h h z (made_of r N body) (made_mems r (1 + K) body)) (sym last) made in
+    let goes = goes_body h valid head guard m r em stand head_nests body pr.mems.fresh rule.no_copies nested.placed in
+    let nests = nests_body h valid head guard m r em stand head_nests body pr.mems.fresh nested.placed in
+    let contexts : (k : ℕ) (b : HeadMembrane) → HasMembrane head k b → b.has_context ≡ true → heap.In (r.head.images.membrane k) (moved_mems r body) = λ k b w e. moved_are r body k (nested.contexts k b w e) in
+    let ca = commits_append r (removals head) (make ++ (links_part ++ (Proceed ∷ []))) s h' commits in
+    let cb = commits_append r (map RemoveAtom (rising 0 N)) (parts ++ mems) s ca.0 ca.1 in
+    let cd = commits_append r parts mems cb.0 ca.0 cb.2 in
+    let ce = commits_append r make (links_part ++ (Proceed ∷ [])) ca.0 h' ca.2 in
+    let cf = commits_append r links_part (Proceed ∷ []) ce.0 h' ce.2 in
+    let images : cb.0 ≡ all_taken s (images_of r head) = commits_taken r (rising 0 N) s cb.0 cb.1 in
+    let taken_parts = parts_commit h valid head guard body n m r rule em (rising 0 (length (typed_contexts_of head))) (rising_distinct (length (typed_contexts_of head)) 0)
+    (λ g i. get_some (typed_contexts_of head) g (below_plain g (length (typed_contexts_of head)) (rising_below (length (typed_contexts_of head)) 0 g i).1)) cb.0 cd.0
+    (λ p. ap (λ z. partners z p) images ∙ taken_links (images_of r head) s p.0 p.1 ∙ prepared_links h valid s (made_of r N body) (made_mems r (1 + K) body) pr p) cd.1 in
+    let ps = taken_parts.0 in
+    let parts_are : PartAtoms h head r.head.images ps = record {
+      once = taken_parts.1.once;
+      are = λ a i. let u = taken_parts.1.are a i in
+          let t = get_some (typed_contexts_of head) u.0 (below_plain u.0 (length (typed_contexts_of head)) (rising_below (length (typed_contexts_of head)) 0 u.0 u.1).1) in (u.0, t.0, t.1, u.2);
+      all = λ g t a w i. taken_parts.1.all g a (in_rising (length (typed_contexts_of head)) 0 g (nothing_less g) (plain_below g (length (typed_contexts_of head)) (get_below (typed_contexts_of head) g t w))) i;
+    } in
+    let out : cd.0 ≡ all_taken s (images_of r head ++ ps) = taken_parts.1.is ∙ ap (λ z. all_taken z ps) images ∙ sym (taken_append s (images_of r head) ps) in
+    let removed : ca.0 ≡ all_taken_mems (all_taken s (images_of r head ++ ps)) (membrane_images r head) =
+    commits_taken_mems r (rising 1 K) cd.0 ca.0 cd.2 ∙ ap (λ z. all_taken_mems z (membrane_images r head)) out in
+    let run : Commits r make (all_taken_mems (all_taken s (images_of r head ++ ps)) (membrane_images r head)) ce.0 = subst (λ z. Commits r make z ce.0) removed ce.1 in
+    let ties : cf.0 ≡ all_tied ce.0 (body_ties (at_heap (new_port r) (new_ports N 0 body)) (at_heap (old_port r) (old_ports head)) (connectors body) n) =
+    commits_tied r (class_of (connectors body)) (new_ports N 0 body) (old_ports head) (rising 0 n) ce.0 cf.0 cf.1 in
+    let v = all_tied ce.0 (body_ties (at_heap (new_port r) (new_ports N 0 body)) (at_heap (old_port r) (old_ports head)) (connectors body) n) in
+    let done : h' ≡ finished v = cf.2.2 ∙ cf.2.1 ∙ ap finished ties in
+    let listed : Listed s = subst Listed (sym last) (prepares_listed r N (1 + K) 0 body rule.no_copies h pd.0 valid.sound.listed (subst (λ z. Prepares r make z pd.0) first pd.1)) in
+    let sound = sound_before h valid head guard body n m r rule em stand c names goes contexts ps parts_are s pr nests listed
+    (removed_mem h valid head guard m r em stand head_nests body pr.mems.fresh) (home_is_mem h valid head guard m r em stand head_nests body pr.mems.fresh) ce.0 run in (
+      ps,
+      parts_are,
+      subst Valid (sym done) (valid_after h valid head guard body n m r rule em stand c names goes contexts ps parts_are s pr nests head_nests ce.0 run sound),
+      subst (λ z. FiresWithin h c r head body (images_of r head ++ ps) z) (sym done) (fires_within h valid head guard body n m r rule em stand c names goes contexts ps parts_are s pr ce.0 run sound),
+    )
+
+-- what prepares: everything that the code makes
+prepared_all : (head : List HeadItem) (body : List BodyItem) (n : ℕ) → AtomRule head body n → (r : Registers) (h : Heap) → Listed h → (s : Heap) → Prepares r (body_code head body n) h s
+    → AllPrepared h h s (made_of r (length (head_atoms head)) body) (made_mems r (1 + length (membranes_of head)) body) × Listed s
+prepared_all head body n rule r h listed s prepares =
+    let N = length (head_atoms head) in
+    let K = length (membranes_of head) in
+    let links_part = links_code (class_of (connectors body)) (new_ports N 0 body) (old_ports head) (rising 0 n) in
+    let parts = map RemovePart (rising 0 (length (typed_contexts_of head))) in
+    let mems = map RemoveMem (rising 1 K) in
+    let make = making N (1 + K) 0 body in
+    let pa = prepares_append r (removals head) (make ++ (links_part ++ (Proceed ∷ []))) h s prepares in
+    let pb = prepares_append r (map RemoveAtom (rising 0 N)) (parts ++ mems) h pa.0 pa.1 in
+    let pc = prepares_append r parts mems pb.0 pa.0 pb.2 in
+    let pd = prepares_append r make (links_part ++ (Proceed ∷ [])) pa.0 s pa.2 in
+    let pe = prepares_append r links_part (Proceed ∷ []) pd.0 s pd.2 in
+    let first : pa.0 ≡ h = prepares_taken_mems r (rising 1 K) pc.0 pa.0 pc.2 ∙ no_part_prepares r (rising 0 (length (typed_contexts_of head))) pb.0 pc.0 pc.1 ∙ prepares_taken r (rising 0 N) h pb.0 pb.1 in
+    let last : s ≡ pd.0 = pe.2.2 ∙ pe.2.1 ∙ prepares_tied r (class_of (connectors body)) (new_ports N 0 body) (old_ports head) (rising 0 n) pd.0 pe.0 pe.1 in
+    let from_h : Prepares r make h pd.0 = subst (λ z. Prepares r make z pd.0) first pd.1 in (
+      subst (λ z. AllPrepared h h z (made_of r N body) (made_mems r (1 + K) body)) (sym last) (making_prepares r N (1 + K) 0 body rule.no_copies h h pd.0 (record { atoms = refl; line = refl }) from_h),
+      subst Listed (sym last) (prepares_listed r N (1 + K) 0 body rule.no_copies h pd.0 listed from_h),
+    )
+
+mapped : (f : ℕ → ℕ) (k : ℕ) (xs : List ℕ) → heap.In k xs → heap.In (f k) (map f xs)
+mapped f k [] i = i
+mapped f k (x ∷ xs) (inl e) = inl (ap f e)
+mapped f k (x ∷ xs) (inr i) = inr (mapped f k xs i)
+
+rising_once : (n a : ℕ) → heap.Distinct (rising a n)
+rising_once n a = subst heap.Distinct (same (rising a n)) (distinct_images (λ x. x) n a (λ x y k h l g e. e))
+  where
+    same : (xs : List ℕ) → map (λ (x : ℕ). x) xs ≡ xs
+    same [] = refl
+    same (x ∷ xs) = ap (λ ys. x ∷ ys) (same xs)
+
+module _ (head : List HeadItem) (body : List BodyItem) (n : ℕ) (rule : AtomRule head body n) (r : Registers) (h : Heap) (valid : Valid h) (guard : List Cond) (m : ℕ) (em : Embeds h head guard m r.head.images)
+    (s : Heap) (pr : AllPrepared h h s (made_of r (length (head_atoms head)) body) (made_mems r (1 + length (membranes_of head)) body)) where
+  abbrev N2 : ℕ
+  N2 = length (head_atoms head)
+
+  abbrev K2 : ℕ
+  K2 = length (membranes_of head)
+
+  abbrev T2 : ℕ
+  T2 = length (typed_contexts_of head)
+
+  typed_at : (g : ℕ) → In g (rising 0 T2) → (t : HeadTyped) × HasTyped head g t
+  typed_at g i = get_some (typed_contexts_of head) g (below_plain g T2 (rising_below T2 0 g i).1)
+
+  -- what stood before stands when all is made
+  prepared_stands : (a : ℕ) → IsInPlace h a → IsInPlace s a
+  prepared_stands a i =
+      let same = (all_made_after (made_of r N2 body) h valid.sound pr.free).old a (is_atom (h.atoms a) i) in
+      subst (λ (o : Option HeapAtom). IsSome (option_and_then (λ x. heap.home_by x.place) o)) (sym (ap (λ (f : ℕ → Option HeapAtom). f a) pr.atoms.atoms ∙ same)) i
+    where
+      is_atom : (o : Option HeapAtom) → IsSome (option_and_then (λ x. heap.home_by x.place) o) → IsSome o
+      is_atom None i = absurd (cc)
+      is_atom (Some x) i = refl
+
+  image_of : (a : ℕ) → heap.In a (images_of r head) → (k : ℕ) × (k < N2) × (r.head.images.atom k ≡ a)
+  image_of a i = let w = of_map r.head.images.atom a (rising 0 N2) (heap_in_of a (images_of r head) i) in (w.0, below_plain w.0 N2 (rising_below N2 0 w.0 w.1).1, w.2)
+
+  same_links : (t : Heap) → t ≡ all_taken s (images_of r head) → (p : Port) → partners t p ≡ partners h p
+  same_links t e p = ap (λ z. partners z p) e ∙ taken_links (images_of r head) s p.0 p.1 ∙ prepared_links h valid s (made_of r N2 body) (made_mems r (1 + K2) body) pr p
+
+  head_atoms_can : CanRun r (map RemoveAtom (rising 0 N2)) s
+  head_atoms_can = atoms_can r (rising 0 N2) s
+      (distinct_images r.head.images.atom N2 0 (λ x y k l p q e. em.atoms_differ x y (below_plain x N2 l) (below_plain y N2 q) e))
+      (λ k i. let b = below_plain k N2 (rising_below N2 0 k (heap_in_of k (rising 0 N2) i)).1 in
+      let a = get_some (head_atoms head) k b in
+      prepared_stands (r.head.images.atom k) (in_place_listed h (r.head.images.membrane a.0.inside) (r.head.images.atom k) valid.sound.listed (em.atoms_placed k a.0 a.1)))
+
+  head_parts_can : (t : Heap) → t ≡ all_taken s (images_of r head) → CanRun r (map RemovePart (rising 0 T2)) t
+  head_parts_can t e = parts_can r h (rising 0 T2) (rising_once T2 0) t (same_links t e)
+      (λ g k a i j d p q. let x = typed_at g (heap_in_of g (rising 0 T2) i) in let y = typed_at k (heap_in_of k (rising 0 T2) j) in
+      parts_apart h valid head guard body n m r rule em g k x.0 y.0 x.1 y.1 d a p q)
+      (λ g a i p. let x = typed_at g (heap_in_of g (rising 0 T2) i) in
+      subst (λ z. IsInPlace z a) (sym e) (all_stay_in_place (images_of r head) s a
+      (λ j. (em.parts g x.0 x.1).apart a p (image_of a j))
+      (prepared_stands a (subst (λ (o : Option ℕ). IsSome o) (sym ((em.parts g x.0 x.1).whole.at_home a p)) refl))))
+
+  -- the parts that are taken
+  parts_taken : (t u : Heap) → t ≡ all_taken s (images_of r head) → Commits r (map RemovePart (rising 0 T2)) t u → (ps : List ℕ) × PartAtoms h head r.head.images ps × (u ≡ all_taken s (images_of r head ++ ps))
+  parts_taken t u e w =
+      let v = parts_commit h valid head guard body n m r rule em (rising 0 T2) (rising_distinct T2 0) typed_at t u (same_links t e) w in (
+        v.0,
+        record {
+          once = v.1.once;
+          are = λ a i. let q = v.1.are a i in let x = typed_at q.0 q.1 in (q.0, x.0, x.1, q.2);
+          all = λ g x a y i. v.1.all g a (in_rising T2 0 g (nothing_less g) (plain_below g T2 (get_below (typed_contexts_of head) g x y))) i;
+        },
+        v.1.is ∙ ap (λ z. all_taken z v.0) e ∙ sym (taken_append s (images_of r head) v.0),
+      )
+
+  -- all removals
+  removals_commit : (t : Heap) → Commits r (removals head) s t → (ps : List ℕ) × PartAtoms h head r.head.images ps × (t ≡ all_taken_mems (all_taken s (images_of r head ++ ps)) (membrane_images r head))
+  removals_commit t w =
+      let a = commits_append r (map RemoveAtom (rising 0 N2)) (map RemovePart (rising 0 T2) ++ map RemoveMem (rising 1 K2)) s t w in
+      let b = commits_append r (map RemovePart (rising 0 T2)) (map RemoveMem (rising 1 K2)) a.0 t a.2 in
+      let p = parts_taken a.0 b.0 (commits_taken r (rising 0 N2) s a.0 a.1) b.1 in
+      (p.0, p.1, commits_taken_mems r (rising 1 K2) b.0 t b.2 ∙ ap (λ z. all_taken_mems z (membrane_images r head)) p.2)
+
+pub body_can_run : BodyCanRun
+body_can_run head body n nested r h valid guard m em stand c names s prepares spares =
+    let rule = nested.atoms in
+    let N = length (head_atoms head) in
+    let K = length (membranes_of head) in
+    let T = length (typed_contexts_of head) in
+    let links_part = links_code (class_of (connectors body)) (new_ports N 0 body) (old_ports head) (rising 0 n) in
+    let parts = map RemovePart (rising 0 T) in
+    let mems = map RemoveMem (rising 1 K) in
+    let make = making N (1 + K) 0 body in
+    let all = prepared_all head body n rule r h valid.sound.listed s prepares in
+    let pr = all.0 in
+    let listed = all.1 in
+    let goes = goes_body h valid head guard m r em stand nested.head_nests body pr.mems.fresh rule.no_copies nested.placed in
+    let nests = nests_body h valid head guard m r em stand nested.head_nests body pr.mems.fresh nested.placed in
+    let contexts : (k : ℕ) (b : HeadMembrane) → HasMembrane head k b → b.has_context ≡ true → heap.In (r.head.images.membrane k) (moved_mems r body) = λ k b w e. moved_are r body k (nested.contexts k b w e) in
+    let removed = removed_mem h valid head guard m r em stand nested.head_nests body pr.mems.fresh in
+    let home_mem = home_is_mem h valid head guard m r em stand nested.head_nests body pr.mems.fresh in
+    let home_out = home_apart h valid head guard m r em stand nested.head_nests body pr.mems.fresh in
+    let new_out = new_apart h valid head guard m r em stand nested.head_nests body pr.mems.fresh in
+    can_append r (removals head) (make ++ (links_part ++ (Proceed ∷ []))) s
+    (can_append r (map RemoveAtom (rising 0 N)) (parts ++ mems) s (head_atoms_can head body n rule r h valid guard m em s pr)
+    (λ ta wa.
+    let ea = commits_taken r (rising 0 N) s ta wa in
+    can_append r parts mems ta (head_parts_can head body n rule r h valid guard m em s pr ta ea) (λ tp wp.
+    let p = parts_taken head body n rule r h valid guard m em s pr ta tp ea wp in
+    mems_can r (rising 1 K) tp (ks_once h valid head guard body n m r rule em stand c names goes contexts p.0 p.1 s pr)
+    (λ k i. let u = once_t1 h valid head guard body n m r rule em stand c names goes contexts p.0 p.1 s pr (r.head.images.membrane k) (mapped r.head.images.membrane k (rising 1 K) i) in
+    (u.0, ap (λ z. heap.parent_of z (r.head.images.membrane k)) p.2 ∙ u.1)))))
+    (λ tb wb.
+    let p = removals_commit head body n rule r h valid guard m em s pr tb wb in
+    let t2 = all_taken_mems (all_taken s (images_of r head ++ p.0)) (membrane_images r head) in
+    can_append r make (links_part ++ (Proceed ∷ [])) tb
+    (subst (CanRun r make) (sym p.2) (making_part_can h valid head guard body n m r rule em stand c names goes contexts p.0 p.1 s pr nests nested.head_nests listed removed home_mem home_out new_out spares))
+    (λ tc wc.
+    let run : Commits r make t2 tc = subst (λ z. Commits r make z tc) p.2 wc in
+    can_append r links_part (Proceed ∷ []) tc
+    (links_part_can h valid head guard body n m r rule em stand c names goes contexts p.0 p.1 s pr nests nested.head_nests listed removed home_mem home_out new_out spares tc run)
+    (λ td wd.
+    let e = commits_tied r (class_of (connectors body)) (new_ports N 0 body) (old_ports head) (rising 0 n) tc td wd in
+    let sound = sound_before h valid head guard body n m r rule em stand c names goes contexts p.0 p.1 s pr nests listed removed home_mem tc run in
+    (subst Ready (sym e) (ready_v h valid head guard body n m r rule em stand c names goes contexts p.0 p.1 s pr tc run sound), λ t w. tt))))

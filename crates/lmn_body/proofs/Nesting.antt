@@ -1,0 +1,416 @@
+-- A body with membranes and contexts fires.
+use Rattle.std.proofs.Common.{ℕ, zero, suc, ◌+◌, ◌<◌, ◌≤◌, ◌≡◌, ◌⊎◌, Bool, true, false, List, [], ◌∷◌, ◌++◌, length, Option, Some, None, IsSome, refl, sym, ap, subst, ◌∙◌, inl, inr, arith}
+use Rattle.std.specs.Option.{option_map, option_and_then}
+use Rattle.std.specs.Prelude.{slice_get}
+use Rattle.std.specs.Prelude as prelude
+use Rattle.lmn_base.specs.declared.functor.Functor.{Functor}
+use Rattle.lmn_base.specs.declared.guard.Cond.{Cond}
+use Rattle.lmn_heap.specs.Heap.{Heap, HeapAtom, HeapMem, top, within, waiting, gone, home_by, links_of, functor_of, arity_of, link_of, place_of, mem_place_of, home_of, parent_of, atoms_in, mems_in, rules_in, atoms_by, mems_by, rules_by, IsAtom, IsMem, IsInPlace, IsMemInPlace, In, Distinct, finished}
+use Rattle.lmn_heap.specs.Heap as heap
+use Rattle.lmn_heap.specs.Sound.{Sound, Paired, Valid}
+use Rattle.lmn_heap.specs.Conditions.{Ready}
+use Rattle.lmn_heap.proofs.ListLemmas.{in_left, in_right}
+use Rattle.lmn_heap.proofs.Trees.{in_either, nil_right}
+use Rattle.lmn_heap.proofs.Listing.{same_paired}
+use Rattle.lmn_heap.proofs.Replacing.{no_waiting, no_waiting_mems}
+use Rattle.lmn_solid.specs.declared.items.HeadItem.{HeadItem}
+use Rattle.lmn_solid.specs.Heads.{HeadMembrane, atoms_of, membranes_of}
+use Rattle.lmn_solid.specs.Embeddings.{Embeds, HasMembrane}
+use Rattle.lmn_splice.specs.Ports.{Port}
+use Rattle.lmn_splice.specs.Classes.{body_ties}
+use Rattle.lmn_splice.specs.Splice.{raw_link, Splice, Fusion}
+use Rattle.lmn_body.specs.declared.items.BodyItem.{BodyItem}
+use Rattle.lmn_body.specs.Tied.{partners, all_tied}
+use Rattle.lmn_body.specs.Items.{new_ports, old_ports, connectors}
+use Rattle.lmn_body.specs.Code.{making}
+use Rattle.lmn_body.specs.Running.{Registers, old_port, new_port, withouts, all_taken, Commits}
+use Rattle.lmn_body.specs.Names.{StandsPort, Names}
+use Rattle.lmn_body.specs.Added.{added_atoms, added_mems, added_rules, moved_mems, made_mems}
+use Rattle.lmn_body.specs.Fired.{images_of}
+use Rattle.lmn_body.specs.Within.{membrane_images, FiresWithin}
+use Rattle.lmn_body.proofs.HeapTies.{SameItems, heap_fusion}
+use Rattle.lmn_body.proofs.Phases.{atoms_of_pairs, listed_some, place_home}
+use Rattle.lmn_body.proofs.Making.{AllFree, all_made}
+use Rattle.lmn_body.proofs.Coding.{at_heap}
+use Rattle.lmn_body.specs.Made.{made_of, places_of}
+use Rattle.lmn_body.proofs.BodyPorts.{heap_in, numbers, number_in}
+use Rattle.lmn_body.proofs.Finishing.{within_of, in_place_within, in_place_listed, ready, names_left, stands_on}
+use Rattle.lmn_body.proofs.Committing.{in_withouts_of, in_withouts, EndsLive}
+use Rattle.lmn_body.specs.Rules.{AtomRule, Goes, Exists, PartAtoms}
+use Rattle.lmn_body.proofs.Firing.{distinct_images, decide_in, in_place_old, is_taken, part_taken, ns_once, home_s, ma, is_atom, taken_in_place, splice_at, links_below, new_link, kept_link, kept_functor, new_functor, stands_again, es_are}
+use Rattle.lmn_body.proofs.Below.{removed_is as image_of_head, is_removed as head_is_image}
+use Rattle.lmn_body.proofs.Growing.{some_there}
+use Rattle.lmn_body.proofs.MakingParts.{GrownBy, making_grows, same_atoms_added, same_mems_added, same_rules_added}
+use Rattle.lmn_body.proofs.Removing.{Shrunk, InOneList, MemInOneList, all_taken_mems, shrunk_atoms, shrunk_mems, shrunk_after, taken_places, place_parent}
+use Rattle.lmn_body.proofs.Preparing.{AllPrepared}
+use Rattle.lmn_body.proofs.AddedLemmas.{comes_from, new_arrives, moved_arrives}
+
+module _ (h : Heap) (valid : Valid h) (head : List HeadItem) (guard : List Cond) (body : List BodyItem) (n m : ℕ) (r : Registers) (rule : AtomRule head body n)
+    (em : Embeds h head guard m r.head.images) (stand : IsMemInPlace h m) (c : Port → ℕ) (names : Names h c)
+    (goes : Goes r (membrane_images r head) (Exists h r head body) body)
+    (contexts : (k : ℕ) (b : HeadMembrane) → HasMembrane head k b → b.has_context ≡ true → In (r.head.images.membrane k) (moved_mems r body))
+    (ps : List ℕ) (parts : PartAtoms h head r.head.images ps)
+    (s : Heap) (pr : AllPrepared h h s (made_of r (length (atoms_of head)) body) (made_mems r (1 + length (membranes_of head)) body)) where
+  abbrev pub N : ℕ
+  N = length (atoms_of head)
+
+  abbrev pub K : ℕ
+  K = length (membranes_of head)
+
+  abbrev pub mk : List (ℕ × Functor)
+  mk = made_of r N body
+
+  abbrev pub es : List (ℕ × ℕ)
+  es = places_of r N body
+
+  abbrev pub s0 : Heap
+  s0 = all_made h mk
+
+  abbrev pub ns : List ℕ
+  ns = images_of r head ++ ps
+
+  abbrev pub ks : List ℕ
+  ks = membrane_images r head
+
+  abbrev pub news : List (Port × ℕ)
+  news = at_heap (new_port r) (new_ports N 0 body)
+
+  abbrev pub olds : List (Port × ℕ)
+  olds = at_heap (old_port r) (old_ports head)
+
+  abbrev pub wires : List (ℕ × ℕ)
+  wires = connectors body
+
+  free : AllFree h mk
+  free = pr.free
+
+  abbrev pub same_atom : s.atoms ≡ s0.atoms
+  same_atom = pr.atoms.atoms
+
+  -- Head membranes
+
+  removed_is : (x : ℕ) → In x ks → (k : ℕ) × (b : HeadMembrane) × HasMembrane head k b × (r.head.images.membrane k ≡ x)
+  removed_is = image_of_head head r
+
+  is_removed : (i : ℕ) → i < K → In (r.head.images.membrane (suc i)) ks
+  is_removed = head_is_image head r
+
+  pub ks_once : Distinct ks
+  ks_once = distinct_images r.head.images.membrane K 1 once
+    where
+      once : (x y : ℕ) → 1 ≤ x → x < 1 + K → 1 ≤ y → y < 1 + K → r.head.images.membrane x ≡ r.head.images.membrane y → x ≡ y
+      once zero y l p k q e = absurd (off l)
+        where
+          off : 1 ≤ 0 → ⊥
+          off l = omega arith
+      once (suc x) zero l p k q e = absurd (off k)
+        where
+          off : 1 ≤ 0 → ⊥
+          off l = omega arith
+      once (suc x) (suc y) l p k q e = ap (λ z. suc z) (em.membranes_differ x y (less x p) (less y q) e)
+        where
+          less : (z : ℕ) → suc z < 1 + K → z < K
+          less z u = omega arith
+
+  -- The heap s, in which all waits
+
+  lists_s : (x : ℕ) → (atoms_in s x ≡ atoms_in h x) × (mems_in s x ≡ mems_in h x) × (rules_in s x ≡ rules_in h x)
+  lists_s x = (pr.mems.atoms x, pr.mems.mems x, pr.mems.rules x)
+
+  home_as : (a : ℕ) → home_of s a ≡ home_of s0 a
+  home_as a = ap (λ (f : ℕ → Option HeapAtom). option_and_then (λ x. home_by x.place) (f a)) same_atom
+
+  pub once_s : InOneList s ns
+  once_s a i =
+      let w = home_s h valid head guard body n m r rule em stand c names free ps parts a i in
+      let p = taken_in_place h valid head guard body n m r rule em stand c names free ps parts a i in
+      let v = within_of h a p in
+      let at = within_one v.0 w.0 a v.1 (home_as a ∙ w.1) in (
+        w.0,
+        home_as a ∙ w.1,
+        λ y j. place_one y v.0 (sym ((valid.sound.listed.atoms y a).0 (subst (In a) (lists_s y).0 j)) ∙ v.1) ∙ at,
+        some_mem w.0 (pr.mems.there w.0 (subst (IsMem h) at (listed_some h v.0 a ((valid.sound.listed.atoms v.0 a).1 v.1)))),
+      )
+    where
+      place_one : (y k : ℕ) → ◌≡◌ {A = Option heap.Place} (Some (within y)) (Some (within k)) → y ≡ k
+      place_one y k e = (cc)
+
+      some_mem : (k : ℕ) → IsMem s k → IsSome (s.mems k)
+      some_mem k i = i
+
+      one_some : (x y : ℕ) → ◌≡◌ {A = Option ℕ} (Some x) (Some y) → x ≡ y
+      one_some x y e = (cc)
+
+      within_one : (v w a : ℕ) → place_of h a ≡ Some (within v) → home_of s a ≡ Some w → v ≡ w
+      within_one v w a e f =
+          let old = stands_again h valid head guard body n m r rule em stand c names free ps parts a (in_place_within h a v e) in
+          one_some v w (sym (place_home h a v e) ∙ sym (same_home_h a (in_place_within h a v e)) ∙ f)
+        where
+          same_home_h : (a : ℕ) → IsInPlace h a → home_of s a ≡ home_of h a
+          same_home_h a i = home_as a ∙ ap (λ (o : Option HeapAtom). option_and_then (λ x. home_by x.place) o)
+              ((ma h valid head guard body n m r rule em stand c names free ps parts).old a (is_atom h valid head guard body n m r rule em stand c names free ps parts a i))
+
+  abbrev pub t1 : Heap
+  t1 = all_taken s ns
+
+  sh1 : Shrunk s t1 ns []
+  sh1 = shrunk_atoms ns s (ns_once h valid head guard body n m r rule em stand c names free ps parts) once_s
+
+  pub once_t1 : MemInOneList t1 ks
+  once_t1 x i =
+      let w = removed_is x i in
+      let p = r.head.images.membrane w.1.inside in
+      let in_h : In x (mems_in h p) = subst (λ z. In z (mems_in h p)) w.3 (em.membranes_placed w.0 w.1 w.2) in
+      let at_h : mem_place_of h x ≡ Some (within p) = (valid.sound.listed.mems p x).0 in_h in
+      let at_t : mem_place_of t1 x ≡ Some (within p) = taken_places ns s x ∙ pr.mems.places x (place_mem (h.mems x) at_h) ∙ at_h in (
+        p,
+        place_parent t1 x p at_t,
+        λ y j. place_one y p (sym ((valid.sound.listed.mems y x).0 (subst (In x) (sh1.mems y ∙ (lists_s y).1) j)) ∙ at_h),
+        some_there (s.mems p) (t1.mems p) (sh1.there p) (pr.mems.there p (list_some (h.mems p) in_h)),
+      )
+    where
+      place_one : (y k : ℕ) → ◌≡◌ {A = Option heap.Place} (Some (within y)) (Some (within k)) → y ≡ k
+      place_one y k e = (cc)
+
+      place_mem : {p : heap.Place} (o : Option HeapMem) → option_map (λ z. z.place) o ≡ Some p → IsSome o
+      place_mem None e = absurd (cc)
+      place_mem (Some y) e = refl
+
+      list_some : (o : Option HeapMem) → In x (mems_by o) → IsSome o
+      list_some None i = absurd i
+      list_some (Some y) i = refl
+
+  abbrev pub t2 : Heap
+  t2 = all_taken_mems t1 ks
+
+  pub sh : Shrunk s t2 ns ks
+  sh = shrunk_after s t1 t2 ns ks sh1 (shrunk_mems ks t1 ks_once once_t1)
+
+  -- what is left of a membrane
+  abbrev pub left_atoms : ℕ → List ℕ
+  left_atoms x = withouts ns (atoms_in h x)
+
+  abbrev pub left_mems : ℕ → List ℕ
+  left_mems x = withouts ks (mems_in h x)
+
+  atoms_t2 : (x : ℕ) → atoms_in t2 x ≡ left_atoms x
+  atoms_t2 x = sh.atoms x ∙ ap (withouts ns) (lists_s x).0
+
+  pub mems_t2 : (x : ℕ) → mems_in t2 x ≡ left_mems x
+  mems_t2 x = sh.mems x ∙ ap (withouts ks) (lists_s x).1
+
+  pub rules_t2 : (x : ℕ) → rules_in t2 x ≡ rules_in h x
+  rules_t2 x = sh.rules x ∙ (lists_s x).2
+
+  pub there_t2 : (x : ℕ) → Exists h r head body x → IsSome (t2.mems x)
+  there_t2 x w = some_there (s.mems x) (t2.mems x) (sh.there x) (elim w [ inl i ↦ pr.mems.there x i | inr i ↦ pr.mems.made x i ])
+
+  -- nothing is left of a removed membrane without a context
+  nothing : (xs : List ℕ) → ((x : ℕ) → In x xs → ⊥) → xs ≡ []
+  nothing [] d = refl
+  nothing (x ∷ xs) d = absurd (d x (inl refl))
+
+  left_empty : (x : ℕ) → In x ks → (In x (moved_mems r body) → ⊥) → (left_atoms x ≡ []) × (left_mems x ≡ [])
+  left_empty x i o =
+      let w = removed_is x i in
+      let none = no_context w.1.has_context (λ e. o (subst (λ z. In z (moved_mems r body)) w.3 (contexts w.0 w.1 w.2 e))) in (
+        nothing (left_atoms x) (λ a j.
+            let v = in_withouts_of ns (atoms_in h x) a (valid.sound.listed.atoms_once x) j in
+            elim (em.no_other_atom w.0 w.1 a w.2 none (subst (λ z. In a (atoms_in h z)) (sym w.3) v.0)) [
+              | inl u ↦ v.1 (subst (λ z. In z ns) u.2 (is_taken h valid head guard body n m r rule em stand c names free ps parts u.0 u.1))
+              | inr u ↦ v.1 (part_taken h valid head guard body n m r rule em stand c names free ps parts u.0 u.1 a u.2 u.4)
+            ]),
+        nothing (left_mems x) (λ a j.
+            let v = in_withouts_of ks (mems_in h x) a (valid.sound.listed.mems_once x) j in
+            let u = em.no_other_membrane w.0 w.1 a w.2 none (subst (λ z. In a (mems_in h z)) (sym w.3) v.0) in
+            v.1 (subst (λ z. In z ks) u.2 (is_removed u.0 u.1))),
+      )
+    where
+      no_context : (t : Bool) → (t ≡ true → ⊥) → t ≡ false
+      no_context true d = absurd (d refl)
+      no_context false d = refl
+
+  module _ (t3 : Heap) (run : Commits r (making N (1 + K) 0 body) t2 t3) where
+    pub gr : GrownBy r ks N (1 + K) body t2 t3
+    gr = making_grows r ks (Exists h r head body) N (1 + K) 0 body goes t2 t3 there_t2 run
+
+    abbrev pub v : Heap
+    v = all_tied t3 (body_ties news olds wires n)
+
+    abbrev pub F : Port → Type 0
+    F = EndsLive s ns es
+
+    pub links_t3 : (a i : ℕ) → link_of t3 a i ≡ link_of s a i
+    links_t3 a i = gr.same.links a i ∙ sh.same.links a i
+
+    pub arities_t3 : (a : ℕ) → arity_of t3 a ≡ arity_of s a
+    arities_t3 a = gr.same.arities a ∙ sh.same.arities a
+
+    pub functors_t3 : (a : ℕ) → functor_of t3 a ≡ functor_of s a
+    functors_t3 a = gr.same.functors a ∙ sh.same.functors a
+
+    pub sp_s : Splice F c (partners s) news olds wires
+    sp_s = subst (λ (f : ℕ → Option HeapAtom). Splice (λ p. (p.1 < length (links_of (f p.0))) × ((IsSome (option_and_then (λ x. home_by x.place) (f p.0)) × (In p.0 ns → ⊥)) ⊎ In p.0 (atoms_of_pairs es)))
+        c (λ p. prelude.slice_index_or (links_of (f p.0)) p.1 None) news olds wires) (sym same_atom) (splice_at h valid head guard body n m r rule em stand c names free ps parts)
+
+    pub same_partners : partners t3 ≡ partners s
+    same_partners = λ i p. links_t3 p.0 p.1 i
+
+    pub paired_s : Paired s
+    paired_s = same_paired s0 s (λ x i. ap (λ (f : ℕ → Option HeapAtom). prelude.slice_index_or (links_of (f x)) i None) same_atom) (ma h valid head guard body n m r rule em stand c names free ps parts).sound.paired
+
+    fu : Fusion F c (partners v) news olds wires × Paired v × SameItems t3 v
+    fu = heap_fusion F c news olds wires n t3 (same_paired s t3 links_t3 paired_s) (λ p f. subst (λ k. p.1 < k) (sym (arities_t3 p.0)) f.0)
+        (subst (λ k. Splice F c k news olds wires) (sym same_partners) sp_s) (links_below h valid head guard body n m r rule em stand c names free ps parts)
+
+    pub fusion_v : Fusion F c (partners v) news olds wires
+    fusion_v = fu.0
+
+    pub paired_v : Paired v
+    paired_v = fu.1
+
+    pub same : SameItems t3 v
+    same = fu.2
+
+    -- lists
+
+    atoms_v : (x : ℕ) → (In x ks → ⊥) → atoms_in v x ≡ left_atoms x ++ added_atoms r left_atoms N body x
+    atoms_v x o = ap (λ f. atoms_by (f x)) same.mems ∙ gr.atoms x o
+        ∙ (λ t. atoms_t2 x t ++ same_atoms_added r left_atoms (atoms_in t2) N body x (λ k i. atoms_t2 k) t)
+
+    pub mems_v : (x : ℕ) → (In x ks → ⊥) → mems_in v x ≡ left_mems x ++ added_mems r left_mems (1 + K) body x
+    mems_v x o = ap (λ f. mems_by (f x)) same.mems ∙ gr.mems x o
+        ∙ (λ t. mems_t2 x t ++ same_mems_added r left_mems (mems_in t2) (1 + K) body x (λ k i. mems_t2 k) t)
+
+    rules_v : (x : ℕ) → (In x ks → ⊥) → rules_in v x ≡ rules_in h x ++ added_rules r (rules_in h) body x
+    rules_v x o = ap (λ f. rules_by (f x)) same.mems ∙ gr.rules x o
+        ∙ (λ t. rules_t2 x t ++ same_rules_added r ks (Exists h r head body) (rules_in h) (rules_in t2) body x goes (λ k i. rules_t2 k) t)
+
+    pub removed_empty : (x : ℕ) → In x ks → (atoms_in v x ≡ []) × (mems_in v x ≡ [])
+    removed_empty x i = elim (decide_in x (moved_mems r body)) [
+      | inl j ↦ (ap (λ f. atoms_by (f x)) same.mems ∙ (gr.empty x j).0, ap (λ f. mems_by (f x)) same.mems ∙ (gr.empty x j).1)
+      | inr o ↦ (let w = left_empty x i o in
+          (ap (λ f. atoms_by (f x)) same.mems ∙ gr.head_atoms x i o ∙ atoms_t2 x ∙ w.0, ap (λ f. mems_by (f x)) same.mems ∙ gr.head_mems x i o ∙ mems_t2 x ∙ w.1))
+    ]
+
+    module _ (sound : Sound v) where
+      old_s : (a : ℕ) → IsInPlace h a → IsInPlace s a
+      old_s a i = subst (λ (f : ℕ → Option HeapAtom). IsSome (option_and_then (λ x. home_by x.place) (f a))) (sym same_atom) (stands_again h valid head guard body n m r rule em stand c names free ps parts a i)
+
+      pub s_old : (a : ℕ) → IsInPlace s a → IsInPlace h a
+      s_old a i = in_place_old h valid head guard body n m r rule em stand c names free ps parts a (subst (λ (f : ℕ → Option HeapAtom). IsSome (option_and_then (λ x. home_by x.place) (f a))) same_atom i)
+
+      left_stands : (x a : ℕ) → In a (left_atoms x) → IsInPlace s a × (In a ns → ⊥)
+      left_stands x a i = let w = in_withouts_of ns (atoms_in h x) a (valid.sound.listed.atoms_once x) i in (old_s a (in_place_listed h x a valid.sound.listed w.0), w.1)
+
+      numbers_pairs : (a : ℕ) → In a (numbers mk) → In a (atoms_of_pairs es)
+      numbers_pairs a i = subst (In a) (sym (es_are h valid head guard body n m r rule em stand c names free ps parts)) i
+
+      pub stands_v : (a : ℕ) → IsInPlace v a → (IsInPlace s a × (In a ns → ⊥)) ⊎ In a (atoms_of_pairs es)
+      stands_v a i =
+          let w = within_of v a i in
+          let j = (sound.listed.atoms w.0 a).1 w.1 in
+          elim (decide_in w.0 ks) [
+            | inl k ↦ absurd (subst (In a) (removed_empty w.0 k).0 j)
+            | inr o ↦ elim (in_either a (left_atoms w.0) (added_atoms r left_atoms N body w.0) (subst (In a) (atoms_v w.0 o) j)) [
+              | inl l ↦ inl (left_stands w.0 a l)
+              | inr l ↦ elim (comes_from r left_atoms N body w.0 a l) [ inl q ↦ inr (numbers_pairs a q) | inr q ↦ inl (left_stands q.0 a q.2) ]
+            ]
+          ]
+
+      arrives : (y a : ℕ) → (In y ks → ⊥) → In a (added_atoms r left_atoms N body y) → IsInPlace v a
+      arrives y a o i = in_place_listed v y a sound.listed (subst (In a) (sym (atoms_v y o)) (in_right a (left_atoms y) (added_atoms r left_atoms N body y) i))
+
+      stands_then : (a : ℕ) → (IsInPlace s a × (In a ns → ⊥)) ⊎ In a (atoms_of_pairs es) → IsInPlace v a
+      stands_then a (inl w) =
+          let x = within_of h a (s_old a w.0) in
+          let left : In a (left_atoms x.0) = in_withouts ns (atoms_in h x.0) a ((valid.sound.listed.atoms x.0 a).1 x.1) w.1 in
+          elim (decide_in x.0 ks) [
+            | inr o ↦ in_place_listed v x.0 a sound.listed (subst (In a) (sym (atoms_v x.0 o)) (in_left a (left_atoms x.0) (added_atoms r left_atoms N body x.0) left))
+            | inl k ↦ elim (decide_in x.0 (moved_mems r body)) [
+              | inl j ↦ (let y = moved_arrives r left_atoms ks (Exists h r head body) N body goes x.0 a j left in arrives y.0 a y.1 y.2)
+              | inr o ↦ absurd (subst (In a) (left_empty x.0 k o).0 left)
+            ]
+          ]
+      stands_then a (inr i) =
+          let y = new_arrives r left_atoms ks (Exists h r head body) N body goes a (subst (In a) (es_are h valid head guard body n m r rule em stand c names free ps parts) i) in arrives y.0 a y.1 y.2
+
+      arities_v : (a : ℕ) → arity_of v a ≡ arity_of s a
+      arities_v a = same.arities a ∙ arities_t3 a
+
+      pub functors_v : (a : ℕ) → functor_of v a ≡ functor_of s a
+      functors_v a = same.functors a ∙ functors_t3 a
+
+      into : (p : Port) → StandsPort v p → F p
+      into p l = (subst (λ k. p.1 < k) (arities_v p.0) l.1, stands_v p.0 l.0)
+
+      back : (p : Port) → F p → StandsPort v p
+      back p f = (stands_then p.0 f.1, subst (λ k. p.1 < k) (sym (arities_v p.0)) f.0)
+
+      abbrev number : Port → ℕ
+      number p = fusion_v.to (raw_link news c p)
+
+      never_gone : (x : ℕ) → mem_place_of h x ≡ Some gone → ⊥
+      never_gone x e = by (h.mems x) e (valid.settled.mems x)
+        where
+          place : (y : HeapMem) → y.place ≡ gone → (Some y.place ≡ Some top) ⊎ IsSome (home_by y.place) → ⊥
+          place y e (inl f) = absurd (let g : Some gone ≡ Some top = sym (ap (λ z. Some z) e) ∙ f in cc)
+          place y e (inr f) = absurd (let g : IsSome (home_by gone) = subst (λ z. IsSome (home_by z)) e f in cc)
+
+          by : (o : Option HeapMem) → option_map (λ y. y.place) o ≡ Some gone
+              → (IsSome o → (option_map (λ y. y.place) o ≡ Some top) ⊎ IsSome (option_and_then (λ y. home_by y.place) o)) → ⊥
+          by None e f = absurd (cc)
+          by (Some y) e f = place y (cc) (f refl)
+
+      -- what is gone was removed
+      pub gone_removed : (x : ℕ) → mem_place_of v x ≡ Some gone → In x ks
+      gone_removed x e = elim (sh.gone_before x (gr.gone_before x (sym (ap (λ f. option_map (λ y. y.place) (f x)) same.mems) ∙ e))) [
+        | inl i ↦ i
+        | inr f ↦ absurd (never_gone x (pr.mems.gone_before x f))
+      ]
+
+      no_line : v.new_atoms ≡ []
+      no_line = same.new_atoms ∙ gr.line [] (sh.line ∙ pr.atoms.line ∙ (ma h valid head guard body n m r rule em stand c names free ps parts).line
+          ∙ ap (λ xs. xs ++ numbers mk) (no_waiting h valid.sound.listed valid.settled) ∙ sym (nil_right (numbers mk)))
+
+      no_mem_line : v.new_mems ≡ []
+      no_mem_line = same.new_mems ∙ gr.mem_line [] (sh.mem_line ∙ pr.mems.line
+          ∙ ap (λ xs. xs ++ made_mems r (1 + K) body) (no_waiting_mems h valid.sound.listed valid.settled) ∙ sym (nil_right (made_mems r (1 + K) body)))
+
+      -- what was removed may be freed
+      pub ready_v : Ready v
+      ready_v = ready v F number fusion_v.coloured into back (λ x e. removed_empty x (gone_removed x e)) no_line no_mem_line
+
+      stays_mem : (x : ℕ) → (In x ks → ⊥) → (finished v).mems x ≡ v.mems x
+      stays_mem x o = by (v.mems x) (λ e. o (gone_removed x e))
+        where
+          place : (y : HeapMem) (p : heap.Place) → y.place ≡ p → (p ≡ gone → ⊥) → heap.mem_unless_gone y ≡ Some y
+          place y top e d = rw e refl
+          place y (within k) e d = rw e refl
+          place y waiting e d = rw e refl
+          place y gone e d = absurd (d refl)
+
+          by : (o : Option HeapMem) → (option_map (λ y. y.place) o ≡ Some gone → ⊥) → option_and_then heap.mem_unless_gone o ≡ o
+          by None d = refl
+          by (Some y) d = place y y.place refl (λ e. d (ap (λ z. Some z) e))
+
+      pub kept_s : (a : ℕ) → IsInPlace h a → functor_of s a ≡ functor_of h a
+      kept_s a i = ap (λ (f : ℕ → Option HeapAtom). option_map (λ x. x.functor) (f a)) same_atom ∙ kept_functor h valid head guard body n m r rule em stand c names free ps parts a i
+
+      -- The rule has fired.
+      pub fires_within : FiresWithin h c r head body (images_of r head ++ ps) (finished v)
+      fires_within = record {
+        to = fusion_v.to;
+        connectors_fused = fusion_v.connectors;
+        heads_fused = λ e i. fusion_v.heads (old_port r e.0, e.1) (heap_in (old_port r) e (old_ports head) i);
+        number = λ p. fusion_v.to (raw_link news c p);
+        named = names_left v F number fusion_v.coloured into back;
+        kept_links = λ p i. ap fusion_v.to (kept_link h valid head guard body n m r rule em stand c names free ps parts p i);
+        made_links = λ e i. ap fusion_v.to (new_link h valid head guard body n m r rule em stand c names free ps parts (new_port r e.0, e.1) (heap_in (new_port r) e (new_ports N 0 body) i));
+        kept_functors = λ a i o. ap (λ (q : Option HeapAtom). option_map (λ x. x.functor) q) (stands_on v a (stands_then a (inl (old_s a i, o)))) ∙ functors_v a ∙ kept_s a i;
+        made_functors = λ e i. ap (λ (q : Option HeapAtom). option_map (λ x. x.functor) q) (stands_on v e.0 (stands_then e.0 (inr (numbers_pairs e.0 (number_in e.0 e.1 mk i))))) ∙ functors_v e.0
+            ∙ ap (λ (f : ℕ → Option HeapAtom). option_map (λ x. x.functor) (f e.0)) same_atom ∙ new_functor h valid head guard body n m r rule em stand c names free ps parts e i;
+        atoms = λ x o. ap atoms_by (stays_mem x o) ∙ atoms_v x o;
+        mems = λ x o. ap mems_by (stays_mem x o) ∙ mems_v x o;
+        rules = λ x o. ap rules_by (stays_mem x o) ∙ rules_v x o;
+      }

@@ -1,0 +1,157 @@
+-- The items of a well placed body go to membranes that are there.
+use Rattle.std.proofs.Common.{ℕ, suc, ◌+◌, ◌<◌, ◌≡◌, ◌≢◌, List, [], ◌∷◌, ◌++◌, length, Option, Some, None, IsSome, refl, sym, ap, subst, ◌∙◌, inl, inr, arith}
+use Rattle.std.proofs.lemmas.Bool.{cases_eq}
+use Rattle.std.proofs.lemmas.List.{append_assoc}
+use Rattle.std.specs.Option.{option_map}
+use Rattle.lmn_base.specs.declared.guard.Cond.{Cond}
+use Rattle.lmn_heap.specs.Heap as heap
+use Rattle.lmn_heap.specs.Heap.{Heap, HeapMem, within, mems_in, IsMem, IsMemInPlace}
+use Rattle.lmn_heap.specs.Sound.{Valid}
+use Rattle.lmn_heap.proofs.ListLemmas.{in_left, in_right}
+use Rattle.lmn_solid.specs.declared.items.HeadItem.{HeadItem}
+use Rattle.lmn_solid.specs.Heads.{membranes_of}
+use Rattle.lmn_solid.specs.Embeddings.{Embeds}
+use Rattle.lmn_splice.specs.Splice.{In}
+use Rattle.lmn_body.specs.declared.items.BodyItem.{BodyItem}
+use Rattle.lmn_body.specs.declared.items.BodyItem.TheVariants.{Atom, Connector, Copy, Bound, Membrane, Rest, Rule, Rules}
+use Rattle.lmn_body.specs.Items.{NoCopies}
+use Rattle.lmn_body.specs.Running.{Registers}
+use Rattle.lmn_body.specs.Added.{moved_mems, made_mems}
+use Rattle.lmn_body.specs.Rules.{Target, Goes, Exists, Into, Nests, HeadNests, StandsIn, IsHeadMembrane, rests, WellPlaced}
+use Rattle.lmn_body.specs.Within.{membrane_images}
+use Rattle.lmn_body.proofs.Below.{preorder, below_home, removed_is, is_removed}
+
+pub moved_are : (r : Registers) (body : List BodyItem) (k : ℕ) → In k (rests body) → heap.In (r.head.images.membrane k) (moved_mems r body)
+moved_are r [] k i = absurd i
+moved_are r (Atom functor links inside ∷ xs) k i = moved_are r xs k i
+moved_are r (Connector left right ∷ xs) k i = moved_are r xs k i
+moved_are r (Copy part link inside ∷ xs) k i = moved_are r xs k i
+moved_are r (Bound integer link inside ∷ xs) k i = moved_are r xs k i
+moved_are r (Membrane inside ∷ xs) k i = moved_are r xs k i
+moved_are r (Rest of inside ∷ xs) k (inl e) = inl (ap r.head.images.membrane e)
+moved_are r (Rest of inside ∷ xs) k (inr i) = inr (moved_are r xs k i)
+moved_are r (Rule rule inside ∷ xs) k i = moved_are r xs k i
+moved_are r (Rules of inside ∷ xs) k i = moved_are r xs k i
+
+module _ (h : Heap) (valid : Valid h) (head : List HeadItem) (guard : List Cond) (m : ℕ) (r : Registers) (em : Embeds h head guard m r.head.images) (stand : IsMemInPlace h m) (head_nests : HeadNests head)
+    (body : List BodyItem) (fresh : (x : ℕ) → heap.In x (made_mems r (1 + length (membranes_of head)) body) → h.mems x ≡ None) where
+  abbrev K : ℕ
+  K = length (membranes_of head)
+
+  abbrev nm : List ℕ
+  nm = made_mems r (1 + K) body
+
+  abbrev ks : List ℕ
+  ks = membrane_images r head
+
+  abbrev E : ℕ → Type 0
+  E = Exists h r head body
+
+  pub home_is_mem : IsMem h m
+  home_is_mem = by (h.mems m) stand
+    where
+      by : (o : Option HeapMem) → heap.StandsAt (option_map (λ x. x.place) o) → IsSome o
+      by None i = absurd i
+      by (Some x) i = refl
+
+  pub removed_mem : (x : ℕ) → heap.In x ks → IsMem h x
+  removed_mem x i =
+      let w = removed_is head r x i in
+      by (h.mems x) ((valid.sound.listed.mems (r.head.images.membrane w.1.inside) x).0 (subst (λ z. heap.In z (mems_in h (r.head.images.membrane w.1.inside))) w.3 (em.membranes_placed w.0 w.1 w.2)))
+    where
+      by : {p : ℕ} (o : Option HeapMem) → option_map (λ y. y.place) o ≡ Some (within p) → IsSome o
+      by None e = absurd (cc)
+      by (Some y) e = refl
+
+  pub new_apart : (x : ℕ) → heap.In x nm → heap.In x ks → ⊥
+  new_apart x i j = let z : IsSome {T = HeapMem} None = subst (λ (o : Option HeapMem). IsSome o) (fresh x i) (removed_mem x j) in absurd (cc)
+
+  pub home_apart : heap.In m ks → ⊥
+  home_apart i = off (below_home h valid head guard m r em head_nests m i)
+    where
+      off : preorder h valid m < preorder h valid m → ⊥
+      off l = omega arith
+
+  -- the membranes made so far have these numbers
+  abbrev MadeSo : ℕ → List ℕ → Type 0
+  MadeSo next done = (j : ℕ) → K < j → j < next → heap.In (r.head.images.membrane j) done
+
+  more_made : (next : ℕ) (done : List ℕ) → MadeSo next done → MadeSo (next + 1) (done ++ r.head.images.membrane next ∷ [])
+  more_made next done so j low high = elim (cases_eq j next) [
+    | inl e ↦ in_right (r.head.images.membrane j) done (r.head.images.membrane next ∷ []) (inl (ap r.head.images.membrane (sym e)))
+    | inr d ↦ in_left (r.head.images.membrane j) done (r.head.images.membrane next ∷ []) (so j low (less high d))
+  ]
+    where
+      less : j < next + 1 → j ≢ next → j < next
+      less h d = grind arith
+
+  target : (next : ℕ) (done rest : List ℕ) → nm ≡ done ++ rest → MadeSo next done → (inside : ℕ) → StandsIn K next inside → Target r ks E inside
+  target next done rest e so inside (inl z) = subst (Target r ks E) (sym z) (subst (λ x. (heap.In x ks → ⊥) × E x) (sym em.here) (home_apart, inl home_is_mem))
+  target next done rest e so inside (inr w) =
+      let i : heap.In (r.head.images.membrane inside) nm = subst (heap.In (r.head.images.membrane inside)) (sym e) (in_left (r.head.images.membrane inside) done rest (so inside w.0 w.1)) in
+      (new_apart (r.head.images.membrane inside) i, inr i)
+
+  into : (next : ℕ) (done : List ℕ) → MadeSo next done → (inside : ℕ) → StandsIn K next inside → Into r m done inside
+  into next done so inside (inl z) = inl (ap r.head.images.membrane z ∙ em.here)
+  into next done so inside (inr w) = inr (so inside w.0 w.1)
+
+  head_image : (of : ℕ) → IsHeadMembrane K of → heap.In (r.head.images.membrane of) ks
+  head_image of w = subst (λ z. heap.In (r.head.images.membrane z) ks) (sym w.1) (is_removed head r w.0 w.2)
+
+  -- a head membrane whose number isn't there doesn't move
+  not_moved : (next : ℕ) (xs : List BodyItem) → WellPlaced K next xs → (of : ℕ) → IsHeadMembrane K of → (In of (rests xs) → ⊥) → heap.In (r.head.images.membrane of) (moved_mems r xs) → ⊥
+  not_moved next [] w of k o i = i
+  not_moved next (Atom functor links inside ∷ xs) w of k o i = not_moved next xs w.1 of k o i
+  not_moved next (Connector left right ∷ xs) w of k o i = not_moved next xs w of k o i
+  not_moved next (Copy part link inside ∷ xs) w of k o i = not_moved next xs w.1 of k o i
+  not_moved next (Bound integer link inside ∷ xs) w of k o i = not_moved next xs w.1 of k o i
+  not_moved next (Membrane inside ∷ xs) w of k o i = not_moved (next + 1) xs w.1 of k o i
+  not_moved next (Rest of' inside ∷ xs) w of k o (inl e) =
+      let q = w.0 in
+      o (inl (q.1 ∙ ap (λ z. suc z) (em.membranes_differ q.0 k.0 q.2 k.2 (ap r.head.images.membrane (sym q.1) ∙ e ∙ ap r.head.images.membrane k.1)) ∙ sym k.1))
+  not_moved next (Rest of' inside ∷ xs) w of k o (inr i) = not_moved next xs w.3 of k (λ j. o (inr j)) i
+  not_moved next (Rule rule inside ∷ xs) w of k o i = not_moved next xs w.1 of k o i
+  not_moved next (Rules of' inside ∷ xs) w of k o i = not_moved next xs w.2 of k o i
+
+  pub goes_all : (next : ℕ) (done : List ℕ) (xs : List BodyItem) → NoCopies xs → WellPlaced K next xs → nm ≡ done ++ made_mems r next xs → MadeSo next done → Goes r ks E xs
+  goes_all next done [] p w e so = tt
+  goes_all next done (Atom functor links inside ∷ xs) p w e so = (target next done (made_mems r next xs) e so inside w.0, goes_all next done xs p w.1 e so)
+  goes_all next done (Connector left right ∷ xs) p w e so = goes_all next done xs p w e so
+  goes_all next done (Copy part link inside ∷ xs) p w e so = absurd p
+  goes_all next done (Bound integer link inside ∷ xs) p w e so = (target next done (made_mems r next xs) e so inside w.0, goes_all next done xs p w.1 e so)
+  goes_all next done (Membrane inside ∷ xs) p w e so = (
+    target next done (r.head.images.membrane next ∷ made_mems r (next + 1) xs) e so inside w.0,
+    goes_all (next + 1) (done ++ r.head.images.membrane next ∷ []) xs p w.1 (e ∙ sym (append_assoc done (r.head.images.membrane next ∷ []) (made_mems r (next + 1) xs))) (more_made next done so),
+  )
+  goes_all next done (Rest of inside ∷ xs) p w e so = (
+    head_image of w.0,
+    inl (removed_mem (r.head.images.membrane of) (head_image of w.0)),
+    not_moved next xs w.3 of w.0 w.1,
+    target next done (made_mems r next xs) e so inside w.2,
+    goes_all next done xs p w.3 e so,
+  )
+  goes_all next done (Rule rule inside ∷ xs) p w e so = (target next done (made_mems r next xs) e so inside w.0, goes_all next done xs p w.1 e so)
+  goes_all next done (Rules of inside ∷ xs) p w e so = (head_image of w.0, target next done (made_mems r next xs) e so inside w.1, goes_all next done xs p w.2 e so)
+
+  pub nests_all : (next : ℕ) (done : List ℕ) (xs : List BodyItem) → WellPlaced K next xs → MadeSo next done → Nests r m done next xs
+  nests_all next done [] w so = tt
+  nests_all next done (Atom functor links inside ∷ xs) w so = (into next done so inside w.0, nests_all next done xs w.1 so)
+  nests_all next done (Connector left right ∷ xs) w so = nests_all next done xs w so
+  nests_all next done (Copy part link inside ∷ xs) w so = nests_all next done xs w.1 so
+  nests_all next done (Bound integer link inside ∷ xs) w so = (into next done so inside w.0, nests_all next done xs w.1 so)
+  nests_all next done (Membrane inside ∷ xs) w so = (into next done so inside w.0, nests_all (next + 1) (done ++ r.head.images.membrane next ∷ []) xs w.1 (more_made next done so))
+  nests_all next done (Rest of inside ∷ xs) w so = (into next done so inside w.2, nests_all next done xs w.3 so)
+  nests_all next done (Rule rule inside ∷ xs) w so = (into next done so inside w.0, nests_all next done xs w.1 so)
+  nests_all next done (Rules of inside ∷ xs) w so = (into next done so inside w.1, nests_all next done xs w.2 so)
+
+  none_yet : MadeSo (1 + K) []
+  none_yet j low high = absurd (off low high)
+    where
+      off : K < j → j < 1 + K → ⊥
+      off l h = omega arith
+
+  pub goes_body : NoCopies body → WellPlaced K (1 + K) body → Goes r ks E body
+  goes_body p w = goes_all (1 + K) [] body p w refl none_yet
+
+  pub nests_body : WellPlaced K (1 + K) body → Nests r m [] (1 + K) body
+  nests_body w = nests_all (1 + K) [] body w none_yet

@@ -1,0 +1,15 @@
+pub mod Tied
+pub mod Items
+pub mod Code
+pub mod Running
+pub mod Names
+pub mod Fired
+pub mod Added
+pub mod Within
+pub mod Made
+pub mod Rules
+pub mod Laws
+pub mod Worked
+pub mod Flattening
+pub mod Conditions
+pub mod Stopping

@@ -1,0 +1,157 @@
+-- What is asked of a rule and of the places of its items.
+use Rattle.std.specs.Prelude.{ℕ, suc, true, ◌+◌, ◌≡◌, ◌≢◌, ◌<◌, ◌⊎◌, List, [], ◌∷◌, ◌++◌, length}
+use Rattle.lmn_base.specs.Graphs.{Reached}
+use Rattle.lmn_heap.specs.Heap as heap
+use Rattle.lmn_heap.specs.Graphs.{atom_map}
+use Rattle.lmn_heap.specs.Heap.{Heap, IsMem}
+use Rattle.lmn_solid.specs.declared.items.HeadItem.{HeadItem}
+use Rattle.lmn_solid.specs.Heads.{HeadAtom, typed_contexts_of, membranes_of}
+use Rattle.lmn_solid.specs.Heads as heads
+use Rattle.lmn_solid.specs.Embeddings.{Images, HasAtom, HasTyped, HasMembrane, HasLink}
+use Rattle.lmn_splice.specs.Splice.{In}
+use Rattle.lmn_body.specs.declared.items.BodyItem.{BodyItem}
+use Rattle.lmn_body.specs.declared.items.BodyItem.TheVariants.{Atom, Connector, Copy, Bound, Membrane, Rest, Rule, Rules}
+use Rattle.lmn_body.specs.Items.{body_links, LinkedItems, AllMade, NoCopies, Simple}
+use Rattle.lmn_body.specs.Running.{Registers}
+use Rattle.lmn_body.specs.Added.{moved_mems, made_mems}
+
+-- A rule without copies of typed contexts.
+--   no_copies                its body has none
+--   held                     the link of a typed context of the head stands at an atom of the head
+--   typed_once               different typed contexts of the head have different links
+--   head_made, made          an atom has as many links as its arity
+--   linked                   each link of the rule stands twice
+--   below                    there are n links
+pub record AtomRule (head : List HeadItem) (body : List BodyItem) (n : ℕ) : Type 0 where
+  pub no_copies : NoCopies body
+  pub held : (g : ℕ) (t : heads.HeadTyped) → HasTyped head g t → (p : heads.Port) × HasLink head t.link p
+  pub typed_once : (g k : ℕ) (t u : heads.HeadTyped) → HasTyped head g t → HasTyped head k u → g ≢ k → t.link ≢ u.link
+  pub head_made : (k : ℕ) (a : HeadAtom) → HasAtom head k a → length a.links ≡ a.functor.arity
+  pub made : AllMade body
+  pub linked : LinkedItems head body
+  pub below : (x : ℕ) → In x (heads.links_of head) ⊎ In x (body_links body) → x < n
+
+-- a rule without membranes, contexts of its head and inner rules
+pub record PlainRule (head : List HeadItem) (body : List BodyItem) (n : ℕ) : Type 0 where
+  pub atoms : AtomRule head body n
+  pub no_typed : typed_contexts_of head ≡ []
+  pub no_membranes : membranes_of head ≡ []
+  pub simple : Simple body
+
+-- an item goes to a membrane that is there and isn't removed
+abbrev pub Target : Registers → List ℕ → (ℕ → Type 0) → ℕ → Type 0
+Target r ks E inside = (heap.In (r.head.images.membrane inside) ks → ⊥) × E (r.head.images.membrane inside)
+
+-- The items of a body go to membranes that are there and aren't removed; contexts are of removed ones, each untyped
+-- context once.
+abbrev pub Goes : Registers → List ℕ → (ℕ → Type 0) → List BodyItem → Type 0
+Goes r ks E [] = Unit {0}
+Goes r ks E (Atom functor links inside ∷ xs) = Target r ks E inside × Goes r ks E xs
+Goes r ks E (Connector left right ∷ xs) = Goes r ks E xs
+Goes r ks E (Copy part link inside ∷ xs) = ⊥
+Goes r ks E (Bound integer link inside ∷ xs) = Target r ks E inside × Goes r ks E xs
+Goes r ks E (Membrane inside ∷ xs) = Target r ks E inside × Goes r ks E xs
+Goes r ks E (Rest of inside ∷ xs) =
+    heap.In (r.head.images.membrane of) ks × E (r.head.images.membrane of) × (heap.In (r.head.images.membrane of) (moved_mems r xs) → ⊥) × Target r ks E inside × Goes r ks E xs
+Goes r ks E (Rule rule inside ∷ xs) = Target r ks E inside × Goes r ks E xs
+Goes r ks E (Rules of inside ∷ xs) = heap.In (r.head.images.membrane of) ks × Target r ks E inside × Goes r ks E xs
+
+-- what stands in the heap when all is made: what stood before, and the new membranes
+abbrev pub Exists : Heap → Registers → List HeadItem → List BodyItem → ℕ → Type 0
+Exists h r head body x = IsMem h x ⊎ heap.In x (made_mems r (1 + length (membranes_of head)) body)
+
+-- a membrane in which an item stands: that of the rule, or one that is made before
+abbrev pub Into : Registers → ℕ → List ℕ → ℕ → Type 0
+Into r top made inside = (r.head.images.membrane inside ≡ top) ⊎ heap.In (r.head.images.membrane inside) made
+
+-- The items of a body go into the membrane of the rule or into one that is made before. `made` are the membranes made so far, the next has the register m.
+abbrev pub Nests : Registers → ℕ → List ℕ → ℕ → List BodyItem → Type 0
+Nests r top made m [] = Unit {0}
+Nests r top made m (Atom functor links inside ∷ xs) = Into r top made inside × Nests r top made m xs
+Nests r top made m (Connector left right ∷ xs) = Nests r top made m xs
+Nests r top made m (Copy part link inside ∷ xs) = Nests r top made m xs
+Nests r top made m (Bound integer link inside ∷ xs) = Into r top made inside × Nests r top made m xs
+Nests r top made m (Membrane inside ∷ xs) = Into r top made inside × Nests r top (made ++ r.head.images.membrane m ∷ []) (m + 1) xs
+Nests r top made m (Rest of inside ∷ xs) = Into r top made inside × Nests r top made m xs
+Nests r top made m (Rule rule inside ∷ xs) = Into r top made inside × Nests r top made m xs
+Nests r top made m (Rules of inside ∷ xs) = Into r top made inside × Nests r top made m xs
+
+-- a membrane of the head stands in one with a lesser number
+abbrev pub HeadNests : List HeadItem → Type 0
+HeadNests head = (k : ℕ) (b : heads.HeadMembrane) → HasMembrane head k b → b.inside < k
+
+-- the atoms of the parts of a head, each once
+pub record PartAtoms (h : Heap) (head : List HeadItem) (f : Images) (ps : List ℕ) : Type 0 where
+  pub once : heap.Distinct ps
+  pub are : (a : ℕ) → heap.In a ps → (g : ℕ) × (t : heads.HeadTyped) × HasTyped head g t × Reached (atom_map h) (f.part g) a
+  pub all : (g : ℕ) (t : heads.HeadTyped) (a : ℕ) → HasTyped head g t → Reached (atom_map h) (f.part g) a → heap.In a ps
+
+-- By numbers alone
+
+-- A membrane in which an item of a body may stand, by its number: that of the rule, or one that the body has made, the
+-- next of which gets the number m. A head has k membranes.
+abbrev pub StandsIn : ℕ → ℕ → ℕ → Type 0
+StandsIn k m inside = (inside ≡ 0) ⊎ ((k < inside) × (inside < m))
+
+-- the number of a membrane of a head
+abbrev pub IsHeadMembrane : ℕ → ℕ → Type 0
+IsHeadMembrane k of = (i : ℕ) × (of ≡ suc i) × (i < k)
+
+-- the numbers of the head membranes whose untyped contexts stand in a body
+abbrev pub rests : List BodyItem → List ℕ
+rests [] = []
+rests (Atom functor links inside ∷ xs) = rests xs
+rests (Connector left right ∷ xs) = rests xs
+rests (Copy part link inside ∷ xs) = rests xs
+rests (Bound integer link inside ∷ xs) = rests xs
+rests (Membrane inside ∷ xs) = rests xs
+rests (Rest of inside ∷ xs) = of ∷ rests xs
+rests (Rule rule inside ∷ xs) = rests xs
+rests (Rules of inside ∷ xs) = rests xs
+
+-- Each item stands in the membrane of the rule or in one that is made before it; contexts are of head membranes, each
+-- untyped context once.
+abbrev pub WellPlaced : ℕ → ℕ → List BodyItem → Type 0
+WellPlaced k m [] = Unit {0}
+WellPlaced k m (Atom functor links inside ∷ xs) = StandsIn k m inside × WellPlaced k m xs
+WellPlaced k m (Connector left right ∷ xs) = WellPlaced k m xs
+WellPlaced k m (Copy part link inside ∷ xs) = StandsIn k m inside × WellPlaced k m xs
+WellPlaced k m (Bound integer link inside ∷ xs) = StandsIn k m inside × WellPlaced k m xs
+WellPlaced k m (Membrane inside ∷ xs) = StandsIn k m inside × WellPlaced k (m + 1) xs
+WellPlaced k m (Rest of inside ∷ xs) = IsHeadMembrane k of × (In of (rests xs) → ⊥) × StandsIn k m inside × WellPlaced k m xs
+WellPlaced k m (Rule rule inside ∷ xs) = StandsIn k m inside × WellPlaced k m xs
+WellPlaced k m (Rules of inside ∷ xs) = IsHeadMembrane k of × StandsIn k m inside × WellPlaced k m xs
+
+-- A rule without copies of typed contexts, by its items.
+--   placed        see there
+--   head_nests    membranes of the head are numbered after those round them
+--   contexts      each untyped context of the head stands in the body
+pub record NestedRule (head : List HeadItem) (body : List BodyItem) (n : ℕ) : Type 0 where
+  pub atoms : AtomRule head body n
+  pub placed : WellPlaced (length (membranes_of head)) (1 + length (membranes_of head)) body
+  pub head_nests : HeadNests head
+  pub contexts : (k : ℕ) (b : heads.HeadMembrane) → HasMembrane head k b → b.has_context ≡ true → In k (rests body)
+
+-- each item stands in the membrane of the rule or in one that is made before it
+abbrev pub AllStandIn : ℕ → ℕ → List BodyItem → Type 0
+AllStandIn k m [] = Unit {0}
+AllStandIn k m (Atom functor links inside ∷ xs) = StandsIn k m inside × AllStandIn k m xs
+AllStandIn k m (Connector left right ∷ xs) = AllStandIn k m xs
+AllStandIn k m (Copy part link inside ∷ xs) = StandsIn k m inside × AllStandIn k m xs
+AllStandIn k m (Bound integer link inside ∷ xs) = StandsIn k m inside × AllStandIn k m xs
+AllStandIn k m (Membrane inside ∷ xs) = StandsIn k m inside × AllStandIn k (m + 1) xs
+AllStandIn k m (Rest of inside ∷ xs) = StandsIn k m inside × AllStandIn k m xs
+AllStandIn k m (Rule rule inside ∷ xs) = StandsIn k m inside × AllStandIn k m xs
+AllStandIn k m (Rules of inside ∷ xs) = StandsIn k m inside × AllStandIn k m xs
+
+-- contexts are of head membranes
+abbrev pub HeadContexts : ℕ → List BodyItem → Type 0
+HeadContexts k [] = Unit {0}
+HeadContexts k (Atom functor links inside ∷ xs) = HeadContexts k xs
+HeadContexts k (Connector left right ∷ xs) = HeadContexts k xs
+HeadContexts k (Copy part link inside ∷ xs) = HeadContexts k xs
+HeadContexts k (Bound integer link inside ∷ xs) = HeadContexts k xs
+HeadContexts k (Membrane inside ∷ xs) = HeadContexts k xs
+HeadContexts k (Rest of inside ∷ xs) = IsHeadMembrane k of × HeadContexts k xs
+HeadContexts k (Rule rule inside ∷ xs) = HeadContexts k xs
+HeadContexts k (Rules of inside ∷ xs) = IsHeadMembrane k of × HeadContexts k xs

@@ -1,0 +1,122 @@
+-- What the code of a body means on a heap.
+--
+-- Code runs twice. First all that it makes is made, and waits: only this takes memory, so it may be given up and
+-- nothing has changed. Then the instructions do the rest in their order, and can't fail: taking out, placing what waits,
+-- moving, tying, freeing.
+use Rattle.std.specs.Prelude.{ℕ, ℤ, ◌≡◌, ◌↔◌, List, [], ◌∷◌, ◌++◌, map, None, Some}
+use Rattle.lmn_base.specs.declared.functor.Functor.{Functor}
+use Rattle.lmn_base.specs.declared.functor.Label.TheVariants.{Int}
+use Rattle.lmn_base.specs.Graphs.{Reached, SameGraph}
+use Rattle.lmn_heap.specs.Heap.{Heap, waiting, place_of, link_of, In, Distinct, without, from, made_atom, made_mem, reserved, taken, taken_mem, placed, placed_mem, moved_all, rule_added, rules_copied, finished}
+use Rattle.lmn_heap.specs.Graphs.{atom_map}
+use Rattle.lmn_splice.specs.Ports.{Port}
+use Rattle.lmn_splice.specs.Ties.{newlink, relink, unify}
+use Rattle.lmn_instr.specs.declared.instr.AtomPort.{AtomPort}
+use Rattle.lmn_instr.specs.declared.instr.NewPort.{NewPort}
+use Rattle.lmn_instr.specs.declared.instr.NewPort.TheVariants as new
+use Rattle.lmn_instr.specs.declared.instr.Instr.{Instr}
+use Rattle.lmn_instr.specs.Running.{Registers as HeadRegisters, port_of}
+use Rattle.lmn_instr.specs.declared.instr.Instr.TheVariants.{RemoveAtom, RemovePart, RemoveMem, NewAtom, NewInt, NewMem, CopyGround, MoveCells, LoadRule, CopyRules, NewLink, Relink, Unify, Proceed}
+use Rattle.lmn_body.specs.Tied.{tied}
+
+-- What the registers hold. Each is set once, so code is read with all of them at once.
+--   head      those of head code: atoms, membranes, typed contexts and integers. On from the atoms and membranes of the
+--             head they hold those that the body makes
+--   copy      the root port of each copy
+--   copied    its atoms, in the order of their line
+pub record Registers : Type 0 where
+  pub head : HeadRegisters
+  pub copy : ℕ → Port
+  pub copied : ℕ → List ℕ
+
+abbrev pub old_port : Registers → AtomPort → Port
+old_port r p = port_of r.head p
+
+abbrev pub new_port : Registers → NewPort → Port
+new_port r (new.Atom p) = (r.head.images.atom p.atom, p.port)
+new_port r (new.Copy c) = r.copy c
+
+-- the functor of an integer atom
+abbrev pub integer_functor : ℤ → Functor
+integer_functor z = record { label = Int z; arity = 1 }
+
+-- without these numbers, the first of each
+abbrev pub withouts : List ℕ → List ℕ → List ℕ
+withouts [] xs = xs
+withouts (a ∷ ns) xs = withouts ns (without a xs)
+
+abbrev pub all_taken : Heap → List ℕ → Heap
+all_taken s [] = s
+all_taken s (a ∷ ns) = all_taken (taken s a) ns
+
+-- atoms of the line go to membranes: each pair is a membrane and an atom
+abbrev pub all_placed : Heap → List (ℕ × ℕ) → Heap
+all_placed s [] = s
+all_placed s (e ∷ es) = all_placed (placed s e.0 e.1) es
+
+-- A copy of the part that is entered at a port: its atoms are new, wait at the end of the line, and are all that is
+-- reached from the root port of the copy, which has no partner yet. The part and the copy are equal as rooted graphs.
+-- That the line has the depth-first order of the part is not said here.
+pub record IsCopied (s : Heap) (root : Port) (copy : Port) (copied : List ℕ) (t : Heap) : Type 0 where
+  pub line : t.new_atoms ≡ s.new_atoms ++ copied
+  pub once : Distinct copied
+  pub fresh : (a : ℕ) → In a copied → s.atoms a ≡ None
+  pub others : (a : ℕ) → (In a copied → ⊥) → t.atoms a ≡ s.atoms a
+  pub waits : (a : ℕ) → In a copied → place_of t a ≡ Some waiting
+  pub are : (a : ℕ) → In a copied ↔ Reached (atom_map t) copy a
+  pub graph : SameGraph (atom_map s) root (atom_map t) copy
+  pub free : link_of t copy.0 copy.1 ≡ None
+  pub mems : t.mems ≡ s.mems
+  pub new_mems : t.new_mems ≡ s.new_mems
+  pub root_stays : t.root ≡ s.root
+
+-- What an instruction makes, where it makes something; those of a head are of no body.
+abbrev pub Makes : Registers → Instr → Heap → Heap → Type 0
+Makes r (RemoveAtom a) s t = t ≡ s
+Makes r (RemovePart g) s t = t ≡ s
+Makes r (RemoveMem m) s t = t ≡ s
+Makes r (NewAtom a m f) s t = (s.atoms (r.head.images.atom a) ≡ None) × (t ≡ made_atom s (r.head.images.atom a) f)
+Makes r (NewInt a m v) s t = (s.atoms (r.head.images.atom a) ≡ None) × (t ≡ made_atom s (r.head.images.atom a) (integer_functor (r.head.integer v)))
+Makes r (NewMem m n) s t = (s.mems (r.head.images.membrane m) ≡ None) × (t ≡ made_mem s (r.head.images.membrane m))
+Makes r (CopyGround c m g) s t = IsCopied s (r.head.images.part g) (r.copy c) (r.copied c) t
+Makes r (MoveCells m n) s t = t ≡ s
+Makes r (LoadRule m k) s t = (n : ℕ) × (t ≡ reserved s (r.head.images.membrane m) n)
+Makes r (CopyRules m n) s t = (k : ℕ) × (t ≡ reserved s (r.head.images.membrane n) k)
+Makes r (NewLink p q) s t = t ≡ s
+Makes r (Relink p h) s t = t ≡ s
+Makes r (Unify g h) s t = t ≡ s
+Makes r Proceed s t = t ≡ s
+Makes r _ s t = ⊥
+
+-- What an instruction does when all is made.
+abbrev pub Does : Registers → Instr → Heap → Heap → Type 0
+Does r (RemoveAtom a) s t = t ≡ taken s (r.head.images.atom a)
+Does r (RemovePart g) s t =
+    (ns : List ℕ) × Distinct ns × ((b : ℕ) → In b ns ↔ Reached (atom_map s) (r.head.images.part g) b) × (t ≡ all_taken s ns)
+Does r (RemoveMem m) s t = t ≡ taken_mem s (r.head.images.membrane m)
+Does r (NewAtom a m f) s t = (from (Some (r.head.images.atom a)) s.new_atoms ≡ s.new_atoms) × (t ≡ placed s (r.head.images.membrane m) (r.head.images.atom a))
+Does r (NewInt a m v) s t = (from (Some (r.head.images.atom a)) s.new_atoms ≡ s.new_atoms) × (t ≡ placed s (r.head.images.membrane m) (r.head.images.atom a))
+Does r (NewMem m n) s t = (from (Some (r.head.images.membrane m)) s.new_mems ≡ s.new_mems) × (t ≡ placed_mem s (r.head.images.membrane n) (r.head.images.membrane m))
+Does r (CopyGround c m g) s t =
+    (rest : List ℕ) × (s.new_atoms ≡ r.copied c ++ rest) × (t ≡ all_placed s (map (λ a. (r.head.images.membrane m, a)) (r.copied c)))
+Does r (MoveCells m n) s t = t ≡ moved_all s (r.head.images.membrane m) (r.head.images.membrane n)
+Does r (LoadRule m k) s t = t ≡ rule_added s (r.head.images.membrane m) k
+Does r (CopyRules m n) s t = t ≡ rules_copied s (r.head.images.membrane m) (r.head.images.membrane n)
+Does r (NewLink p q) s t = t ≡ tied s (newlink (new_port r p) (new_port r q))
+Does r (Relink p h) s t = t ≡ tied s (relink (new_port r p) (old_port r h))
+Does r (Unify g h) s t = t ≡ tied s (unify (old_port r g) (old_port r h))
+Does r Proceed s t = t ≡ finished s
+Does r _ s t = ⊥
+
+-- the instructions of code, one after the other
+abbrev pub Prepares : Registers → List Instr → Heap → Heap → Type 0
+Prepares r [] s t = t ≡ s
+Prepares r (i ∷ is) s u = (t : Heap) × Makes r i s t × Prepares r is t u
+
+abbrev pub Commits : Registers → List Instr → Heap → Heap → Type 0
+Commits r [] s t = t ≡ s
+Commits r (i ∷ is) s u = (t : Heap) × Does r i s t × Commits r is t u
+
+-- the code of a body run with these registers
+abbrev pub RunsBody : Registers → List Instr → Heap → Heap → Type 0
+RunsBody r code s u = (t : Heap) × Prepares r code s t × Commits r code t u

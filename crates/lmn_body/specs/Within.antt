@@ -1,0 +1,75 @@
+-- What a firing leaves in the lists of each membrane, with membranes and contexts.
+use Rattle.std.specs.Prelude.{ℕ, ◌+◌, ◌≡◌, ◌==◌, if◌then◌else◌, List, [], ◌∷◌, ◌++◌, length, map, Some}
+use Rattle.lmn_base.specs.declared.solid.SolidAtom.{SolidAtom}
+use Rattle.lmn_heap.specs.Heap.{Heap, In, IsInPlace, functor_of, atoms_in, mems_in, rules_in}
+use Rattle.lmn_base.specs.declared.functor.Functor.{Functor}
+use Rattle.lmn_solid.specs.declared.items.HeadItem.{HeadItem}
+use Rattle.lmn_solid.specs.Heads as heads
+use Rattle.lmn_splice.specs.Ports.{Port}
+use Rattle.lmn_splice.specs.Classes.{rising}
+use Rattle.lmn_splice.specs.Splice as splice
+use Rattle.lmn_splice.specs.Splice.{of_rule, of_solid}
+use Rattle.lmn_instr.specs.declared.instr.AtomPort.{AtomPort}
+use Rattle.lmn_instr.specs.declared.instr.NewPort.{NewPort}
+use Rattle.lmn_body.specs.declared.items.BodyItem.{BodyItem}
+use Rattle.lmn_body.specs.declared.items.BodyItem.TheVariants.{Atom, Connector, Copy, Bound, Membrane, Rest, Rule, Rules}
+use Rattle.lmn_body.specs.Items.{new_ports, old_ports, connectors}
+use Rattle.lmn_body.specs.Running.{Registers, old_port, new_port, integer_functor, withouts}
+use Rattle.lmn_body.specs.Names.{Names}
+use Rattle.lmn_body.specs.Made.{made_of}
+use Rattle.lmn_body.specs.Added.{added_atoms, added_mems, added_rules}
+use Rattle.lmn_body.specs.Fired.{linked_by}
+use Rattle.lmn_heap.specs.Solid.{atoms_of}
+
+-- the images of the membranes of a head
+abbrev pub membrane_images : Registers → List HeadItem → List ℕ
+membrane_images r head = map r.head.images.membrane (rising 1 (length (heads.membranes_of head)))
+
+-- A body fires: h is the heap before, whose links c numbers, h' the one after; `taken` are the atoms that the head takes.
+--   to, connectors_fused, heads_fused   the fusion of the raw links
+--   number, named                       the links of h' have numbers
+--   kept_links                          a port of an atom that stays has the image of its link
+--   made_links                          a new port has the image of its link of the rule
+--   kept_functors, made_functors        an atom that stays keeps its functor, and a new one has its own
+--   atoms, mems, rules                  the lists of each membrane that isn't removed: what stays, in its order, and then
+--                                       what the body adds, in its order
+pub record FiresWithin (h : Heap) (c : Port → ℕ) (r : Registers) (head : List HeadItem) (body : List BodyItem) (taken : List ℕ) (h' : Heap) : Type 0 where
+  pub to : ℕ → ℕ
+  pub connectors_fused : (e : ℕ × ℕ) → splice.In e (connectors body) → to (of_rule e.0) ≡ to (of_rule e.1)
+  pub heads_fused : (e : AtomPort × ℕ) → splice.In e (old_ports head) → to (of_rule e.1) ≡ to (of_solid (c (old_port r e.0)))
+  pub number : Port → ℕ
+  pub named : Names h' number
+  pub kept_links : (p : Port) → IsInPlace h p.0 → number p ≡ to (of_solid (c p))
+  pub made_links : (e : NewPort × ℕ) → splice.In e (new_ports (length (heads.atoms_of head)) 0 body) → number (new_port r e.0) ≡ to (of_rule e.1)
+  pub kept_functors : (a : ℕ) → IsInPlace h a → (In a (taken) → ⊥) → functor_of h' a ≡ functor_of h a
+  pub made_functors : (e : ℕ × Functor) → splice.In e (made_of r (length (heads.atoms_of head)) body) → functor_of h' e.0 ≡ Some e.1
+  pub atoms : (x : ℕ) → (In x (membrane_images r head) → ⊥) → atoms_in h' x ≡
+      withouts taken (atoms_in h x) ++ added_atoms r (λ k. withouts taken (atoms_in h k)) (length (heads.atoms_of head)) body x
+  pub mems : (x : ℕ) → (In x (membrane_images r head) → ⊥) → mems_in h' x ≡
+      withouts (membrane_images r head) (mems_in h x) ++ added_mems r (λ k. withouts (membrane_images r head) (mems_in h k)) (1 + length (heads.membranes_of head)) body x
+  pub rules : (x : ℕ) → (In x (membrane_images r head) → ⊥) → rules_in h' x ≡ rules_in h x ++ added_rules r (rules_in h) body x
+
+-- The atoms of a solid that a body adds to membrane x: those that it makes, with their links of the rule, and what is left of the
+-- membranes whose contexts stand in x.
+abbrev pub added_solid : Registers → (ℕ → List SolidAtom) → (ℕ → ℕ) → List BodyItem → ℕ → List SolidAtom
+added_solid r left g [] x = []
+added_solid r left g (Atom functor links inside ∷ xs) x = (if r.head.images.membrane inside == x then (record { functor = functor; links = map g links }) ∷ [] else []) ++ added_solid r left g xs x
+added_solid r left g (Connector l l' ∷ xs) x = added_solid r left g xs x
+added_solid r left g (Copy part link inside ∷ xs) x = added_solid r left g xs x
+added_solid r left g (Bound integer link inside ∷ xs) x =
+    (if r.head.images.membrane inside == x then (record { functor = integer_functor (r.head.integer integer); links = g link ∷ [] }) ∷ [] else []) ++ added_solid r left g xs x
+added_solid r left g (Membrane inside ∷ xs) x = added_solid r left g xs x
+added_solid r left g (Rest of inside ∷ xs) x = (if r.head.images.membrane inside == x then left (r.head.images.membrane of) else []) ++ added_solid r left g xs x
+added_solid r left g (Rule rule inside ∷ xs) x = added_solid r left g xs x
+added_solid r left g (Rules of inside ∷ xs) x = added_solid r left g xs x
+
+-- the atoms that are left of a membrane, each link at its image
+abbrev pub left_solid : Heap → (Port → ℕ) → List ℕ → (ℕ → ℕ) → ℕ → List SolidAtom
+left_solid h c taken g k = map (linked_by g) (atoms_of h (λ a i. c (a, i)) (withouts taken (atoms_in h k)))
+
+-- The atoms of each membrane of the solid after a firing: what is left, then what is added, raw links at their images.
+abbrev pub FiredAtoms : (h : Heap) (c : Port → ℕ) (r : Registers) (head : List HeadItem) (body : List BodyItem) (taken : List ℕ) (h' : Heap) → FiresWithin h c r head body taken h' → Type 0
+FiredAtoms h c r head body taken h' f =
+    let left = left_solid h c taken (λ z. f.to (of_solid z)) in
+    (x : ℕ) → (In x (membrane_images r head) → ⊥) →
+    atoms_of h' (λ a i. f.number (a, i)) (atoms_in h' x) ≡ left x ++ added_solid r left (λ z. f.to (of_rule z)) body x

@@ -1,0 +1,9 @@
+pub mod Noting
+pub mod Joins
+pub mod Steps
+pub mod Bounds
+mod Registers
+mod BodyTrees
+mod Accepted
+mod HeadContexts
+mod Nested

@@ -1,0 +1,255 @@
+-- An accepted rule, flattened, is one of which the laws of firing hold.
+use Rattle.std.proofs.Common.{ℕ, ◌≡◌, ◌≤◌, ◌<◌, ◌+◌, ◌⊎◌, Bool, true, false, List, [], ◌∷◌, ◌++◌, length, map, refl, ap, sym, subst, ◌∙◌, inl, inr, arith}
+use Rattle.std.specs.Prelude.{◌==◌, ◌||◌, if◌then◌else◌, Contains, All, slice_get}
+use Rattle.std.specs.List.{flat_map, list_any, AllByRecursion}
+use Rattle.std.proofs.lemmas.List.Elements.{recursion_from_All, All-from_recursion}
+use Rattle.std.proofs.lemmas.Bool.Decides.{Decides-eqb}
+use Rattle.lmn_base.specs.declared.guard.Cond.{Cond}
+use Rattle.lmn_base.specs.declared.guard.Cond.TheVariants.{Kind, Compare, Equal, Differ}
+use Rattle.lmn_base.specs.declared.item.Form.TheVariants.{Bare, Typed}
+use Rattle.lmn_base.specs.declared.item.FormedUse.{FormedUse}
+use Rattle.lmn_base.specs.declared.item.Item.{Item}
+use Rattle.lmn_base.specs.declared.item.Item.TheVariants.{Atom, Context, RuleContext, Rule}
+use Rattle.lmn_base.specs.declared.level.CtxUse.{CtxUse}
+use Rattle.lmn_base.specs.declared.level.Leaf.{Leaf}
+use Rattle.lmn_base.specs.declared.level.Level.{out-Level}
+use Rattle.lmn_base.specs.declared.rule.RuleTree.{RuleTree}
+use Rattle.lmn_base.specs.Items.{used, leaf_item, own_items, items_of, guard_items, condition_items, rule_items}
+use Rattle.lmn_base.specs.Levels.{leaves_of, links_of, contexts_of, rule_contexts_of}
+use Rattle.lmn_base.specs.RuleCodes.{bare_use, rule_use, is_left_of}
+use Rattle.lmn_base.specs.Uses.{use_of, has_use, is_some_place}
+use Rattle.lmn_base.specs.WellMade.{FitsArity}
+use Rattle.lmn_guards.specs.declared.plan.GuardPlan.{GuardPlan}
+use Rattle.lmn_guards.specs.Accepted.{IsInOrder}
+use Rattle.lmn_guards.proofs.AcceptedLemmas.{in_order}
+use Rattle.lmn_solid.specs.Heads.{HeadMembrane, membranes_of}
+use Rattle.lmn_solid.specs.Embeddings.{HasMembrane}
+use Rattle.lmn_solid.proofs.HeadTrees.{Head, head_at, head_uses, same_uses, flat_items, flat_membranes}
+use Rattle.lmn_solid.proofs.HeadTrees as trees
+use Rattle.lmn_splice.specs.Splice.{In, Distinct, often}
+use Rattle.lmn_splice.proofs.ClassLemmas.{one_same}
+use Rattle.lmn_compile_head.specs.Accepted.{head_items, AcceptedHeads}
+use Rattle.lmn_compile_head.specs.Heads.{kind_in}
+use Rattle.lmn_compile_head.specs.Tables.{AllBelow}
+use Rattle.lmn_body.specs.Flattening.{membrane_named}
+use Rattle.lmn_body.specs.Items.{NoCopies}
+use Rattle.lmn_body.specs.Rules.{NestedRule, IsHeadMembrane}
+use Rattle.lmn_body.proofs.Firing.{in_often, often_in}
+use Rattle.lmn_body.proofs.HeadPorts.{in_append, in_front, in_back, in_map}
+use Rattle.lmn_body.proofs.FlatRules.{flattened_rules}
+use Rattle.lmn_body.proofs.Numbered.{contexts_of_heads}
+use Rattle.lmn_compile_body.specs.Naming.{contexts_in, rule_contexts_in}
+use Rattle.lmn_compile_body.specs.Accepted.{rule_names, rule_body_items, IsWhole, AcceptedNested}
+use Rattle.lmn_compile_body.proofs.BodyTrees.{numbers_below, below_front, below_back}
+use Rattle.lmn_compile_body.proofs.HeadContexts.{contained, distinct_map, names_are, head_names, heads_names, in_range, one_each, named_there, one_entry, untyped, of_rules, firsts, names, not_both, has_name, has_rule_name, same_contexts, context_used, rule_context_used, names_few, bare_often, inner_of, head_out, one_context, names_inner, leaves_none, held_at, name_used, from_map}
+
+-- ---- what is found in a list
+
+-- a use of a context, by its name
+use_found : (x : ℕ) (is : List Item) → has_use x is ≡ true → (v : FormedUse) × In (Context v) is × (v.name ≡ x)
+use_found x [] e = absurd (cc)
+use_found x (Atom f p ∷ is) e = let r = use_found x is e in (r.0, inr r.1, r.2)
+use_found x (RuleContext u ∷ is) e = let r = use_found x is e in (r.0, inr r.1, r.2)
+use_found x (Rule k ∷ is) e = let r = use_found x is e in (r.0, inr r.1, r.2)
+use_found x (Context u ∷ is) e = by (u.name == x) refl (use_found x is)
+  where
+    by : (b : Bool) → (u.name == x) ≡ b → (has_use x is ≡ true → (v : FormedUse) × In (Context v) is × (v.name ≡ x)) → (v : FormedUse) × In (Context v) (Context u ∷ is) × (v.name ≡ x)
+    by true f later = (u, inl refl, (Decides-eqb u.name x).0 f)
+    by false f later = let r = later (ap (λ b. is_some_place ((if b then u.pos ∷ [] else []) ++ flat_map (use_of x) is)) (sym f) ∙ e) in (r.0, inr r.1, r.2)
+
+rule_use_found : (x : ℕ) (is : List Item) → is_some_place (flat_map (rule_use x) is) ≡ true → (v : CtxUse) × In (RuleContext v) is × (v.name ≡ x)
+rule_use_found x [] e = absurd (cc)
+rule_use_found x (Atom f p ∷ is) e = let r = rule_use_found x is e in (r.0, inr r.1, r.2)
+rule_use_found x (Context u ∷ is) e = let r = rule_use_found x is e in (r.0, inr r.1, r.2)
+rule_use_found x (Rule k ∷ is) e = let r = rule_use_found x is e in (r.0, inr r.1, r.2)
+rule_use_found x (RuleContext u ∷ is) e = by (u.name == x) refl (rule_use_found x is)
+  where
+    by : (b : Bool) → (u.name == x) ≡ b → (is_some_place (flat_map (rule_use x) is) ≡ true → (v : CtxUse) × In (RuleContext v) is × (v.name ≡ x)) → (v : CtxUse) × In (RuleContext v) (RuleContext u ∷ is) × (v.name ≡ x)
+    by true f later = (u, inl refl, (Decides-eqb u.name x).0 f)
+    by false f later = let r = later (ap (λ b. is_some_place ((if b then u.pos ∷ [] else []) ++ flat_map (rule_use x) is)) (sym f) ∙ e) in (r.0, inr r.1, r.2)
+
+-- the left side of an equation of a guard
+left_found : (x : ℕ) (cs : List Cond) → list_any (is_left_of x) cs ≡ true → (u : CtxUse) × In (used Typed u) (guard_items cs) × (u.name ≡ x)
+left_found x [] e = absurd (cc)
+left_found x (Kind n args p ∷ cs) e = let r = left_found x cs e in (r.0, in_back (used Typed r.0) (condition_items (Kind n args p)) (guard_items cs) r.1, r.2)
+left_found x (Compare o a b p ∷ cs) e = let r = left_found x cs e in (r.0, in_back (used Typed r.0) (condition_items (Compare o a b p)) (guard_items cs) r.1, r.2)
+left_found x (Differ a b p ∷ cs) e = let r = left_found x cs e in (r.0, in_back (used Typed r.0) (condition_items (Differ a b p)) (guard_items cs) r.1, r.2)
+left_found x (Equal a b p ∷ cs) e = by (a.name == x) refl (left_found x cs)
+  where
+    by : (t : Bool) → (a.name == x) ≡ t → (list_any (is_left_of x) cs ≡ true → (u : CtxUse) × In (used Typed u) (guard_items cs) × (u.name ≡ x))
+        → (u : CtxUse) × In (used Typed u) (guard_items (Equal a b p ∷ cs)) × (u.name ≡ x)
+    by true f later = (a, inl refl, (Decides-eqb a.name x).0 f)
+    by false f later = let r = later (ap (λ t. t || list_any (is_left_of x) cs) (sym f) ∙ e) in (r.0, in_back (used Typed r.0) (condition_items (Equal a b p)) (guard_items cs) r.1, r.2)
+
+each_once : (xs : List ℕ) → ((z : ℕ) → In z xs → often z xs ≤ 1) → Distinct xs
+each_once [] f = tt
+each_once (x ∷ xs) f = (
+  λ i. (let l = in_often x xs i in let o = one_same x x refl in let m = f x (inl refl) in absurd (omega (arith, l, o, m))),
+  each_once xs (λ z i. let m = f z (inr i) in omega (arith, m)),
+)
+
+map_names : (f : ℕ → ℕ) (us : List CtxUse) → map (λ u. f u.name) us ≡ map f (names us)
+map_names f [] = refl
+map_names f (u ∷ us) = ap (λ xs. f u.name ∷ xs) (map_names f us)
+
+all_below : (n : ℕ) (xs : List ℕ) (x : ℕ) → AllBelow n xs → In x xs → x < n
+all_below n [] x h i = absurd i
+all_below n (y ∷ xs) x h (inl e) = subst (λ z. z < n) e h.0
+all_below n (y ∷ xs) x h (inr i) = all_below n xs x h.1 i
+
+no_contexts : (us : List CtxUse) → ((u : CtxUse) → In u us → ⊥) → us ≡ []
+no_contexts [] none = refl
+no_contexts (u ∷ us) none = absurd (none u (inl refl))
+
+not_zero : (k n : ℕ) → 1 ≤ n → (n ≡ 0) ⊎ IsHeadMembrane k n → IsHeadMembrane k n
+not_zero k n l (inl e) = absurd (omega (arith, l, e))
+not_zero k n l (inr h) = h
+
+all_front : (P : Leaf → Type 0) (xs ys : List Leaf) → All P (xs ++ ys) → All P xs
+all_front P xs ys h = All-from_recursion P xs (go xs (recursion_from_All P (xs ++ ys) h))
+  where
+    go : (xs : List Leaf) → AllByRecursion P (xs ++ ys) → AllByRecursion P xs
+    go [] h = tt
+    go (x ∷ xs) h = (h.0, go xs h.1)
+
+all_back : (P : Leaf → Type 0) (xs ys : List Leaf) → All P (xs ++ ys) → All P ys
+all_back P xs ys h = All-from_recursion P ys (go xs (recursion_from_All P (xs ++ ys) h))
+  where
+    go : (xs : List Leaf) → AllByRecursion P (xs ++ ys) → AllByRecursion P ys
+    go [] h = h
+    go (x ∷ xs) h = go xs h.1
+
+module _ (heads : AcceptedHeads) (table : List RuleTree) (r : RuleTree) (plan : GuardPlan) (whole : IsWhole table r plan) where
+  abbrev entries : List (ℕ × ℕ)
+  entries = (contexts_in r.head).names 0 1
+
+  abbrev rule_entries : List (ℕ × ℕ)
+  rule_entries = (rule_contexts_in r.head).names 0 1
+
+  order : IsInOrder table r
+  order = in_order table r whole.ready.accepted
+
+  top : (out-Level r.head).contexts ≡ []
+  top = no_contexts (out-Level r.head).contexts (λ u i.
+      let l = out-Level r.head in
+      let c = contained (used Bare u) (own_items l) (in_back (used Bare u) (map leaf_item l.leaves) _ (in_front (used Bare u) (map (used Bare) l.contexts) _ (in_map (used Bare) u l.contexts i))) in
+      not_both (sym (order.no_context_at_top (record { name = u.name; form = Bare; pos = u.pos }) c)))
+
+  rule_top : (out-Level r.head).rule_contexts ≡ []
+  rule_top = no_contexts (out-Level r.head).rule_contexts (λ u i.
+      let l = out-Level r.head in
+      order.no_rule_context_at_top u (contained (RuleContext u) (own_items l) (in_back (RuleContext u) (map leaf_item l.leaves) _ (in_back (RuleContext u) (map (used Bare) l.contexts) _
+      (in_front (RuleContext u) (map RuleContext l.rule_contexts) _ (in_map RuleContext u l.rule_contexts i))))))
+
+  entries_are : entries ≡ heads_names untyped 1 (inner_of r.head)
+  entries_are = names_are untyped r.head ∙ names_inner untyped r.head top
+
+  rule_entries_are : rule_entries ≡ heads_names of_rules 1 (inner_of r.head)
+  rule_entries_are = names_are of_rules r.head ∙ names_inner of_rules r.head rule_top
+
+  -- an untyped context of the body is one of the head
+  of_head : (u : CtxUse) → In u (contexts_of r.body) → (v : FormedUse) × In (Context v) (items_of r.head) × (v.name ≡ u.name) × (v.form ≡ Bare)
+  of_head u i = by (has_use u.name (items_of r.head)) refl
+    where
+      in_body : In (used Bare u) (items_of r.body)
+      in_body = subst (In (used Bare u)) (sym (same_uses r.body)) (context_used (head_at r.body) u (subst (In u) (same_contexts untyped r.body) i))
+
+      asked : (has_use u.name (items_of r.head) || list_any (is_left_of u.name) r.guard) ≡ true
+      asked = order.of_the_head (record { name = u.name; form = Bare; pos = u.pos }) (contained (used Bare u) (items_of r.body) in_body)
+
+      body_in_rule : Contains (rule_items r) (used Bare u)
+      body_in_rule = contained (used Bare u) (rule_items r) (in_back (used Bare u) (items_of r.head) (guard_items r.guard ++ items_of r.body) (in_back (used Bare u) (guard_items r.guard) (items_of r.body) in_body))
+
+      by : (b : Bool) → has_use u.name (items_of r.head) ≡ b → (v : FormedUse) × In (Context v) (items_of r.head) × (v.name ≡ u.name) × (v.form ≡ Bare)
+      by true e =
+          let f = use_found u.name (items_of r.head) e in
+          (f.0, f.1, f.2, order.one_form f.0 (record { name = u.name; form = Bare; pos = u.pos }) (contained (Context f.0) (rule_items r) (in_front (Context f.0) (items_of r.head) (guard_items r.guard ++ items_of r.body) f.1)) body_in_rule f.2)
+      by false e =
+          let f = left_found u.name r.guard (ap (λ b. b || list_any (is_left_of u.name) r.guard) (sym e) ∙ asked) in
+          absurd (not_both (order.one_form (record { name = f.0.name; form = Typed; pos = f.0.pos }) (record { name = u.name; form = Bare; pos = u.pos })
+          (contained (used Typed f.0) (rule_items r) (in_back (used Typed f.0) (items_of r.head) (guard_items r.guard ++ items_of r.body) (in_front (used Typed f.0) (guard_items r.guard) (items_of r.body) f.1))) body_in_rule f.2))
+
+  -- so it has a membrane there
+  entry : (x : ℕ) → In x (names (contexts_of r.body)) → In (x, membrane_named entries x) entries
+  entry x i =
+      let u = from_map (λ (u : CtxUse). u.name) x (contexts_of r.body) i in
+      let v = of_head u.0 u.1 in
+      let there = has_name 0 1 (head_at r.head) v.0 (subst (In (Context v.0)) (same_uses r.head) v.1) v.3 in
+      named_there entries x (subst (λ es. In x (firsts es)) (sym (names_are untyped r.head)) (subst (λ y. In y (firsts (head_names untyped 0 1 (head_at r.head)))) (v.2 ∙ u.2) there))
+
+  -- which isn't that of the rule
+  owned : (u : CtxUse) → In u (contexts_of r.body) → IsHeadMembrane (length (membranes_of (head_items r plan))) (membrane_named entries u.name)
+  owned u i =
+      let e = entry u.name (in_map (λ (u : CtxUse). u.name) u (contexts_of r.body) i) in
+      not_zero (length (membranes_of (head_items r plan))) (membrane_named entries u.name) (in_range untyped 1 (inner_of r.head) (u.name, membrane_named entries u.name) (subst (In (u.name, membrane_named entries u.name)) entries_are e)).0
+      (contexts_of_heads (kind_in plan.kinds) r.head u.name).0
+
+  -- each stands once in the body
+  body_often : (x : ℕ) → often x (names (contexts_of r.body)) ≡ length (flat_map (bare_use x) (items_of r.body))
+  body_often x = ap (λ us. often x (names us)) (same_contexts untyped r.body) ∙ (bare_often x (head_at r.body) ∙ ap (λ is. length (flat_map (bare_use x) is)) (sym (same_uses r.body)))
+
+  once : Distinct (names (contexts_of r.body))
+  once = each_once (names (contexts_of r.body)) (λ x i.
+      let u = from_map (λ (u : CtxUse). u.name) x (contexts_of r.body) i in
+      let v = of_head u.0 u.1 in
+      let one = order.once_in_body v.0 (contained (Context v.0) (items_of r.head) v.1) v.3 in
+      let many = body_often v.0.name in
+      subst (λ y. often y (names (contexts_of r.body)) ≤ 1) (v.2 ∙ u.2) (omega (arith, one, many)))
+
+  apart : Distinct (map (λ u. membrane_named entries u.name) (contexts_of r.body))
+  apart = subst Distinct (sym (map_names (membrane_named entries) (contexts_of r.body))) (distinct_map (membrane_named entries) (names (contexts_of r.body)) once (λ x y i j q.
+      ap (λ (e : ℕ × ℕ). e.0) (one_each untyped 1 (inner_of r.head) (x, membrane_named entries x) (y, membrane_named entries y) (one_context r.head order.one_in_membrane)
+      (subst (In (x, membrane_named entries x)) entries_are (entry x i)) (subst (In (y, membrane_named entries y)) entries_are (entry y j)) q)))
+
+  -- each untyped context of the head stands in the body
+  stands : (i : ℕ) (b : HeadMembrane) → HasMembrane (head_items r plan) i b → b.has_context ≡ true → In i (map (λ u. membrane_named entries u.name) (contexts_of r.body))
+  stands i b h c =
+      let kind = kind_in plan.kinds in
+      let flat = trees.items_flat kind r.head ∙ ap (flat_items kind 0 1) (head_out r.head) in
+      let got = ap (λ ms. slice_get ms h.0) (sym (leaves_none kind 0 (out-Level r.head).leaves (flat_membranes kind 0 1 (inner_of r.head)))) ∙ (ap (λ is. slice_get (membranes_of is) h.0) (sym flat) ∙ h.2) in
+      let n = held_at kind 0 1 (inner_of r.head) h.0 b got c in
+      let there = subst (In (n.0, 1 + h.0)) (sym entries_are) n.1 in
+      let first = in_map (λ (e : ℕ × ℕ). e.0) (n.0, 1 + h.0) entries there in
+      let u = name_used 0 1 (head_at r.head) n.0 (subst (λ es. In n.0 (firsts es)) (names_are untyped r.head) first) in
+      let in_head = subst (In (used Bare u.0)) (sym (same_uses r.head)) (context_used (head_at r.head) u.0 u.1) in
+      let one = order.once_in_body (record { name = u.0.name; form = Bare; pos = u.0.pos }) (contained (used Bare u.0) (items_of r.head) in_head) refl in
+      let many = body_often u.0.name in
+      let in_body = subst (λ x. In x (names (contexts_of r.body))) u.2 (often_in u.0.name (names (contexts_of r.body)) (omega (arith, one, many))) in
+      let few_names = names_few n.0 0 1 (head_at r.head) in
+      let few_uses = order.once_in_head n.0 in
+      let same_items = ap (λ is. length (flat_map (use_of n.0) is)) (same_uses r.head) in
+      let same_names = ap (λ es. often n.0 (firsts es)) (names_are untyped r.head) in
+      let few : often n.0 (firsts entries) ≤ 1 = omega (arith, few_names, few_uses, same_items, same_names) in
+      let same : membrane_named entries n.0 ≡ 1 + h.0 = one_entry entries n.0 (membrane_named entries n.0) (1 + h.0) few (named_there entries n.0 first) there in
+      let number = h.1 in
+      let i_is : 1 + h.0 ≡ i = omega (arith, number) in
+      subst (In i) (sym (map_names (membrane_named entries) (contexts_of r.body)))
+      (subst (λ k. In k (map (membrane_named entries) (names (contexts_of r.body)))) (same ∙ i_is) (in_map (membrane_named entries) n.0 (names (contexts_of r.body)) in_body))
+
+  -- a rule context of the body has a membrane in the head
+  rules_owned : (u : CtxUse) → In u (rule_contexts_of r.body) → IsHeadMembrane (length (membranes_of (head_items r plan))) (membrane_named rule_entries u.name)
+  rules_owned u i =
+      let in_body = subst (In (RuleContext u)) (sym (same_uses r.body)) (rule_context_used (head_at r.body) u (subst (In u) (same_contexts of_rules r.body) i)) in
+      let v = rule_use_found u.name (items_of r.head) (order.rule_context_of_the_head u (contained (RuleContext u) (items_of r.body) in_body)) in
+      let there = has_rule_name 0 1 (head_at r.head) v.0 (subst (In (RuleContext v.0)) (same_uses r.head) v.1) in
+      let e = named_there rule_entries u.name (subst (λ es. In u.name (firsts es)) (sym (names_are of_rules r.head)) (subst (λ y. In y (firsts (head_names of_rules 0 1 (head_at r.head)))) v.2 there)) in
+      not_zero (length (membranes_of (head_items r plan))) (membrane_named rule_entries u.name)
+      (in_range of_rules 1 (inner_of r.head) (u.name, membrane_named rule_entries u.name) (subst (In (u.name, membrane_named rule_entries u.name)) rule_entries_are e)).0
+      (contexts_of_heads (kind_in plan.kinds) r.head u.name).1
+
+  low : (x : ℕ) → In x (links_of r.head ++ links_of r.body) → x < length r.links
+  low x i =
+      let below = (numbers_below 0 (length r.links) _ whole.ready.made.table.numbered).2 in
+      elim (in_append x (links_of r.head) (links_of r.body) i) [
+        | inl j ↦ all_below (length r.links) (links_of r.head) x (below_front (length r.links) (links_of r.head) (links_of r.body ++ []) below) j
+        | inr j ↦ all_below (length r.links) (links_of r.body) x (below_front (length r.links) (links_of r.body) [] (below_back (length r.links) (links_of r.head) (links_of r.body ++ []) below)) j
+      ]
+
+  nested : NoCopies (rule_body_items r plan) → NestedRule (head_items r plan) (rule_body_items r plan) (length r.links)
+  nested no_copies =
+      flattened_rules (kind_in plan.kinds) (rule_names r plan) r.head r.body (length r.links) whole.ready.accepted.linked low
+      (all_front FitsArity (leaves_of r.head) (leaves_of r.body) whole.ready.made.arities) (all_back FitsArity (leaves_of r.head) (leaves_of r.body) whole.ready.made.arities)
+      no_copies (heads.head table r plan whole.ready).held owned rules_owned apart stands
+
+pub accepted_nested : AcceptedHeads → AcceptedNested
+accepted_nested heads table r plan whole = nested heads table r plan whole

@@ -1,0 +1,102 @@
+ghost use Rattle.std.specs.Prelude.{◌≡◌, ◌+◌, ◌<◌, ◌^◌, length, IfOk};
+ghost use Rattle.lmn_solid.specs.Heads.{membranes_of};
+ghost use Rattle.lmn_body.specs.Code.{body_code};
+ghost use Rattle.lmn_body.specs.Flattening.{body_items};
+ghost use Rattle.lmn_compile_body.specs.Accepted.{HasBodyRoom, rule_body_code};
+ghost use Rattle.lmn_compile_body.specs.Naming.{names_of, parts_by, registers_by, guard_registers, unnumbered, contexts_in, rule_contexts_in};
+ghost use Rattle.lmn_compile_head.specs.Tables.{Fits};
+ghost use Rattle.lmn_compile_body.specs.Tables.{BodyFits};
+
+use crate::ends::add_links;
+use crate::integers::integers_of;
+use crate::levels::flatten_body;
+use crate::makes::{add_making, add_removals, atoms_in, membranes_in};
+use crate::names::{add_contexts, add_rule_contexts};
+use crate::ports::{connectors_of, new_ports_of, old_ports_of};
+use lmn_base::{NoMemory, Rows, RuleTree};
+use lmn_body::BodyItem;
+use lmn_compile_head::flatten;
+use lmn_guards::GuardPlan;
+use lmn_instr::Instr;
+use lmn_solid::HeadItem;
+use std::alloc::Global;
+
+/// The code of a body with these items, beside a head with these items, where the links of the rule are below `links`.
+pub fn code_of_body(
+    alloc: Global,
+    head: &[HeadItem],
+    body: &[BodyItem],
+    links: u32,
+) -> Result<Rows<Instr>, NoMemory>
+    requires head { Fits links head.now }
+    requires body { BodyFits links body.now }
+    requires few { 1 + length head.now + length body.now < 2 ^ 15 }
+    ensures { IfOk result (λ code. code ≡ body_code head.now body.now links) }
+{
+    let atoms = atoms_in(head);
+    let connectors = connectors_of(alloc, body)?;
+    let news = new_ports_of(alloc, body, atoms)?;
+    let olds = old_ports_of(alloc, head, links)?;
+    let mut code = Rows::new(alloc);
+    add_removals(&mut code, head)?;
+    add_making(&mut code, body, atoms, 1 + membranes_in(head))?;
+    add_links(
+        alloc,
+        &mut code,
+        connectors.as_slice(),
+        news.as_slice(),
+        olds.as_slice(),
+        links,
+    )?;
+    code.push(Instr::Proceed)?;
+    Ok(code)
+}
+
+/// The code of the body of a rule with its plan.
+///
+/// # Errors
+///
+/// `NoMemory` at want of memory: numbers of registers and links don't run out.
+pub fn body(alloc: Global, rule: &RuleTree, plan: &GuardPlan) -> Result<Rows<Instr>, NoMemory>
+    requires { HasBodyRoom rule.now plan.now }
+    ensures { IfOk result (λ code. code ≡ rule_body_code rule.now plan.now) }
+{
+    let head = flatten(alloc, &rule.head, plan)?;
+    let integers = integers_of(alloc, head.as_slice(), rule.guard.as_slice())?;
+    let body = body_items_of(alloc, rule, head.as_slice(), integers.as_slice())?;
+    code_of_body(
+        alloc,
+        head.as_slice(),
+        body.as_slice(),
+        rule.links.len() as u32,
+    )
+}
+
+/// The items of the body of a rule, whose head has these items, and whose guard binds names to the integers in these registers.
+fn body_items_of(
+    alloc: Global,
+    rule: &RuleTree,
+    head: &[HeadItem],
+    integers: &[(u32, u16)],
+) -> Result<Rows<BodyItem>, NoMemory>
+    requires contexts { 1 + (contexts_in rule.now.head).size < 2 ^ 16 }
+    requires rule_contexts { 1 + (rule_contexts_in rule.now.head).size < 2 ^ 16 }
+    requires integers { registers_by integers.now ≡ guard_registers (parts_by head.now) (λ x. 0) 0 rule.now.guard }
+    requires membranes { 1 + length (membranes_of head.now) + (unnumbered (names_of head.now rule.now.guard rule.now.head) rule.now.body).size < 2 ^ 16 }
+    requires few { length head.now < 2 ^ 15 }
+    ensures { IfOk result (λ items. items ≡ body_items (names_of head.now rule.now.guard rule.now.head) (length (membranes_of head.now)) rule.now.body) }
+{
+    let mut contexts = Rows::new(alloc);
+    add_contexts(&mut contexts, &rule.head, 0, 1)?;
+    let mut rule_contexts = Rows::new(alloc);
+    add_rule_contexts(&mut rule_contexts, &rule.head, 0, 1)?;
+    flatten_body(
+        alloc,
+        &rule.body,
+        membranes_in(head),
+        head,
+        integers,
+        contexts.as_slice(),
+        rule_contexts.as_slice(),
+    )
+}

@@ -1,0 +1,52 @@
+-- The law of the code of accepted rules.
+use Rattle.std.specs.Prelude.{ℕ, ◌≤◌, List, ◌++◌, length}
+use Rattle.lmn_base.specs.declared.rule.RuleTree.{RuleTree}
+use Rattle.lmn_heap.specs.Heap.{Heap, IsMemInPlace, rules_in, spare_of}
+use Rattle.lmn_heap.specs.Sound.{Valid}
+use Rattle.lmn_guards.specs.declared.plan.GuardPlan.{GuardPlan}
+use Rattle.lmn_solid.specs.Embeddings.{IsLeast}
+use Rattle.lmn_splice.specs.Ports.{Port}
+use Rattle.lmn_instr.specs.Running.{IsFirst}
+use Rattle.lmn_compile_head.specs.Accepted.{head_items, rule_head_code}
+use Rattle.lmn_compile_body.specs.Accepted.{IsWhole, rule_body_items, rule_body_code}
+use Rattle.lmn_body.specs.Added.{added_rules}
+use Rattle.lmn_body.specs.Conditions.{CanRun}
+use Rattle.lmn_body.specs.Fired.{images_of}
+use Rattle.lmn_body.specs.Items.{NoCopies}
+use Rattle.lmn_body.specs.Names.{Names}
+use Rattle.lmn_body.specs.Rules.{PartAtoms}
+use Rattle.lmn_body.specs.Running.{Registers, Prepares, RunsBody}
+use Rattle.lmn_body.specs.Within.{FiresWithin, FiredAtoms}
+
+-- The code of a rule that has its plan, with these registers, from a heap whose links have these numbers: its head code
+-- succeeds first with these registers in the membrane m.
+pub record Finds (r : RuleTree) (plan : GuardPlan) (h : Heap) (m : ℕ) (s : Registers) (c : Port → ℕ) : Type 0 where
+  pub valid : Valid h
+  pub placed : IsMemInPlace h m
+  pub first : IsFirst h (rule_head_code r plan) m s.head
+  pub named : Names h c
+
+-- A rule has fired in membrane m, from the heap h to h'.
+--   least         its head embeds there, at the least positions
+--   parts, are    the atoms of its typed contexts
+--   valid         the heap is valid again
+--   fires, solid  its links and the lists of its membranes are those of the firing, and so are the atoms of its solid
+pub record Fired (r : RuleTree) (plan : GuardPlan) (h : Heap) (m : ℕ) (s : Registers) (c : Port → ℕ) (h' : Heap) : Type 0 where
+  pub least : IsLeast h (head_items r plan) r.guard m s.head.images
+  pub parts : List ℕ
+  pub are : PartAtoms h (head_items r plan) s.head.images parts
+  pub valid : Valid h'
+  pub fires : FiresWithin h c s (head_items r plan) (rule_body_items r plan) (images_of s (head_items r plan) ++ parts) h'
+  pub solid : FiredAtoms h c s (head_items r plan) (rule_body_items r plan) (images_of s (head_items r plan) ++ parts) h' fires
+
+-- Where the head code of an accepted rule without copies of typed contexts first succeeds, its body code, run with the same
+-- registers, fires the rule; and when the body is prepared, with enough spares for the rules that it adds, each
+-- instruction can run in its turn.
+pub record AcceptedFires : Type 0 where
+  pub fires : (table : List RuleTree) (r : RuleTree) (plan : GuardPlan) → IsWhole table r plan → NoCopies (rule_body_items r plan) →
+      (h : Heap) (m : ℕ) (s : Registers) (c : Port → ℕ) → Finds r plan h m s c →
+      (h' : Heap) → RunsBody s (rule_body_code r plan) h h' → Fired r plan h m s c h'
+  pub can_run : (table : List RuleTree) (r : RuleTree) (plan : GuardPlan) → IsWhole table r plan → NoCopies (rule_body_items r plan) →
+      (h : Heap) (m : ℕ) (s : Registers) (c : Port → ℕ) → Finds r plan h m s c →
+      (t : Heap) → Prepares s (rule_body_code r plan) h t →
+      ((x : ℕ) → length (added_rules s (rules_in h) (rule_body_items r plan) x) ≤ spare_of t x) → CanRun s (rule_body_code r plan) t
