@@ -1,0 +1,146 @@
+-- Code, instruction by instruction: which registers it uses, and how many rules it needs room for.
+use Rattle.std.proofs.Common.{ℕ, zero, suc, ◌≡◌, ◌<◌, ◌≤◌, ◌+◌, List, [], ◌∷◌, ◌++◌, ◌⊎◌, inl, inr, Some, refl, arith, ap, sym, subst, length, take, drop, get_or, ◌∙◌}
+use Rattle.std.specs.Prelude.{slice_get}
+use Rattle.lmn_instr.specs.declared.instr.NewPort.{NewPort}
+use Rattle.lmn_instr.specs.declared.instr.NewPort.TheVariants as new
+use Rattle.lmn_instr.specs.declared.instr.Instr.{Instr}
+use Rattle.lmn_instr.specs.declared.instr.Instr.TheVariants.{RemoveAtom, RemovePart, RemoveMem, NewAtom, NewInt, NewMem, CopyGround, MoveCells, LoadRule, CopyRules, NewLink, Relink, Unify, Proceed}
+use Rattle.lmn_body.specs.Running.{Registers}
+use Rattle.lmn_body.specs.Stopping.{NoCopying}
+use Rattle.lmn_commit.specs.Preparing.{Uses, UsesPort, AllUse, Reads, needed, needed_by, atoms_made, membranes_made}
+
+-- Lists
+
+pub read_at : {A : Type 0} (xs : List A) (i : ℕ) (x : A) → i < length xs → x ≡ get_or xs i x → slice_get xs i ≡ Some x
+read_at [] i x l e = absurd (omega arith)
+read_at (z ∷ xs) zero x l e = ap (λ w. Some w) (sym e)
+read_at (z ∷ xs) (suc i) x l e = read_at xs i x (omega arith) e
+
+pub drop_get : {A : Type 0} (k : ℕ) (xs : List A) (x : A) → slice_get xs k ≡ Some x → drop k xs ≡ x ∷ drop (k + 1) xs
+drop_get k [] x e = absurd (cc)
+drop_get zero (y ∷ xs) x e = let t : y ≡ x = cc in ap (λ w. w ∷ xs) t
+drop_get (suc k) (y ∷ xs) x e = let t : suc (k + 1) ≡ suc k + 1 = omega arith in drop_get k xs x e ∙ ap (λ n. x ∷ drop n (y ∷ xs)) t
+
+pub drop_none : {A : Type 0} (xs : List A) (i : ℕ) → length xs ≤ i → drop i xs ≡ []
+drop_none [] zero l = refl
+drop_none [] (suc i) l = refl
+drop_none (x ∷ xs) zero l = absurd (omega arith)
+drop_none (x ∷ xs) (suc i) l = drop_none xs i (omega arith)
+
+take_suc : {A : Type 0} (k : ℕ) (xs : List A) (x : A) → slice_get xs k ≡ Some x → take (suc k) xs ≡ take k xs ++ x ∷ []
+take_suc k [] x e = absurd (cc)
+take_suc zero (y ∷ xs) x e = let t : y ≡ x = cc in ap (λ w. w ∷ []) t
+take_suc (suc k) (y ∷ xs) x e = ap (λ ys. y ∷ ys) (take_suc k xs x e)
+
+pub take_get : {A : Type 0} (k : ℕ) (xs : List A) (x : A) → slice_get xs k ≡ Some x → take (k + 1) xs ≡ take k xs ++ x ∷ []
+take_get k xs x e = let t : k + 1 ≡ suc k = omega arith in ap (λ n. take n xs) t ∙ take_suc k xs x e
+
+pub take_over : {A : Type 0} (k : ℕ) (xs : List A) → length xs ≤ k → take k xs ≡ xs
+take_over zero [] l = refl
+take_over (suc k) [] l = refl
+take_over zero (x ∷ xs) l = absurd (omega arith)
+take_over (suc k) (x ∷ xs) l = ap (λ ys. x ∷ ys) (take_over k xs (omega arith))
+
+pub get_last : {A : Type 0} (xs : List A) (y : A) → slice_get (xs ++ y ∷ []) (length xs) ≡ Some y
+get_last [] y = refl
+get_last (x ∷ xs) y = get_last xs y
+
+pub get_front : {A : Type 0} (xs ys : List A) (k : ℕ) (x : A) → slice_get xs k ≡ Some x → slice_get (xs ++ ys) k ≡ Some x
+get_front [] ys k x e = absurd (cc)
+get_front (z ∷ xs) ys zero x e = e
+get_front (z ∷ xs) ys (suc k) x e = get_front xs ys k x e
+
+pub get_either : {A : Type 0} (xs : List A) (y : A) (k : ℕ) (x : A) → slice_get (xs ++ y ∷ []) k ≡ Some x → (slice_get xs k ≡ Some x) ⊎ (y ≡ x)
+get_either [] y zero x e = inr (cc)
+get_either [] y (suc k) x e = absurd (cc)
+get_either (z ∷ xs) y zero x e = inl e
+get_either (z ∷ xs) y (suc k) x e = get_either xs y k x e
+
+pub length_one : {A : Type 0} (xs : List A) (x : A) → length (xs ++ x ∷ []) ≡ length xs + 1
+length_one [] x = refl
+length_one (y ∷ xs) x = let k = length_one xs x in omega (arith, k)
+
+-- Registers that code uses
+
+port_more : (a b : ℕ) → a ≤ b → (p : NewPort) → UsesPort a p → UsesPort b p
+port_more a b l (new.Atom p) u = let v : p.atom < a = u in omega (arith, v)
+port_more a b l (new.Copy c) u = absurd u
+
+uses_more : (a b m n g : ℕ) → a ≤ b → m ≤ n → (i : Instr) → Uses a m g i → Uses b n g i
+uses_more a b m n g l k (RemoveAtom x) u = let v : x < a = u in omega (arith, v)
+uses_more a b m n g l k (RemovePart x) u = u
+uses_more a b m n g l k (RemoveMem x) u = let v : x < m = u in omega (arith, v)
+uses_more a b m n g l k (NewAtom x y f) u = let v = u.0 in let w = u.1 in (omega (arith, v), omega (arith, w))
+uses_more a b m n g l k (NewInt x y z) u = let v = u.0 in let w = u.1 in (omega (arith, v), omega (arith, w))
+uses_more a b m n g l k (NewMem x y) u = let v = u.0 in let w = u.1 in (omega (arith, v), omega (arith, w))
+uses_more a b m n g l k (CopyGround x y z) u = absurd u
+uses_more a b m n g l k (MoveCells x y) u = let v = u.0 in let w = u.1 in (omega (arith, v), omega (arith, w))
+uses_more a b m n g l k (LoadRule x y) u = let v : x < m = u in omega (arith, v)
+uses_more a b m n g l k (CopyRules x y) u = let v = u.0 in let w = u.1 in (omega (arith, v), omega (arith, w))
+uses_more a b m n g l k (NewLink p q) u = (port_more a b l p u.0, port_more a b l q u.1)
+uses_more a b m n g l k (Relink p h) u = let w = u.1 in (port_more a b l p u.0, omega (arith, w))
+uses_more a b m n g l k (Unify p h) u = let v = u.0 in let w = u.1 in (omega (arith, v), omega (arith, w))
+uses_more a b m n g l k Proceed u = tt
+uses_more a b m n g l k _ u = absurd u
+
+pub all_use_more : (a b m n g : ℕ) → a ≤ b → m ≤ n → (is : List Instr) → AllUse a m g is → AllUse b n g is
+all_use_more a b m n g l k [] u = tt
+all_use_more a b m n g l k (i ∷ is) u = (uses_more a b m n g l k i u.0, all_use_more a b m n g l k is u.1)
+
+pub use_one_more : (a m g : ℕ) (is : List Instr) (i : Instr) → AllUse a m g is → Uses a m g i → AllUse a m g (is ++ i ∷ [])
+use_one_more a m g [] i u v = (v, tt)
+use_one_more a m g (j ∷ is) i u v = (u.0, use_one_more a m g is i u.1 v)
+
+-- what an instruction reads and sets it uses, when it has set it
+pub reads_uses : (a m g v : ℕ) (i : Instr) → Reads a m g v i → Uses (a + atoms_made i) (m + membranes_made i) g i
+reads_uses a m g v (NewAtom x y f) u = let e = u.0.0 in let w = u.1 in (omega (arith, e), omega (arith, w))
+reads_uses a m g v (NewInt x y z) u = let e = u.0.0 in let w = u.1 in (omega (arith, e), omega (arith, w))
+reads_uses a m g v (NewMem x y) u = let e = u.0.0 in let w = u.1 in (omega (arith, e), omega (arith, w))
+reads_uses a m g v (RemoveAtom x) u = uses_more a (a + 0) m (m + 0) g (omega arith) (omega arith) (RemoveAtom x) u
+reads_uses a m g v (RemovePart x) u = u
+reads_uses a m g v (RemoveMem x) u = uses_more a (a + 0) m (m + 0) g (omega arith) (omega arith) (RemoveMem x) u
+reads_uses a m g v (CopyGround x y z) u = absurd u
+reads_uses a m g v (MoveCells x y) u = uses_more a (a + 0) m (m + 0) g (omega arith) (omega arith) (MoveCells x y) u
+reads_uses a m g v (LoadRule x y) u = uses_more a (a + 0) m (m + 0) g (omega arith) (omega arith) (LoadRule x y) u
+reads_uses a m g v (CopyRules x y) u = uses_more a (a + 0) m (m + 0) g (omega arith) (omega arith) (CopyRules x y) u
+reads_uses a m g v (NewLink p q) u = uses_more a (a + 0) m (m + 0) g (omega arith) (omega arith) (NewLink p q) u
+reads_uses a m g v (Relink p h) u = uses_more a (a + 0) m (m + 0) g (omega arith) (omega arith) (Relink p h) u
+reads_uses a m g v (Unify p h) u = uses_more a (a + 0) m (m + 0) g (omega arith) (omega arith) (Unify p h) u
+reads_uses a m g v Proceed u = tt
+reads_uses a m g v _ u = absurd u
+
+-- an instruction of code that uses registers
+pub use_at : (a m g k n : ℕ) (is : List Instr) (i : Instr) → AllUse a m g (take n is) → k < n → slice_get is k ≡ Some i → Uses a m g i
+use_at a m g k n [] i u l e = absurd (cc)
+use_at a m g k zero (j ∷ is) i u l e = absurd (omega arith)
+use_at a m g zero (suc n) (j ∷ is) i u l e = let t : j ≡ i = cc in subst (λ x. Uses a m g x) t u.0
+use_at a m g (suc k) (suc n) (j ∷ is) i u l e = use_at a m g k n is i u.1 (omega arith) e
+
+pub none_copies : (a m g : ℕ) (is : List Instr) → AllUse a m g is → NoCopying is
+none_copies a m g [] u = tt
+none_copies a m g (CopyGround x y z ∷ is) u = absurd u.0
+none_copies a m g (RemoveAtom x ∷ is) u = (λ t. t, none_copies a m g is u.1)
+none_copies a m g (RemovePart x ∷ is) u = (λ t. t, none_copies a m g is u.1)
+none_copies a m g (RemoveMem x ∷ is) u = (λ t. t, none_copies a m g is u.1)
+none_copies a m g (NewAtom x y f ∷ is) u = (λ t. t, none_copies a m g is u.1)
+none_copies a m g (NewInt x y z ∷ is) u = (λ t. t, none_copies a m g is u.1)
+none_copies a m g (NewMem x y ∷ is) u = (λ t. t, none_copies a m g is u.1)
+none_copies a m g (MoveCells x y ∷ is) u = (λ t. t, none_copies a m g is u.1)
+none_copies a m g (LoadRule x y ∷ is) u = (λ t. t, none_copies a m g is u.1)
+none_copies a m g (CopyRules x y ∷ is) u = (λ t. t, none_copies a m g is u.1)
+none_copies a m g (NewLink p q ∷ is) u = (λ t. t, none_copies a m g is u.1)
+none_copies a m g (Relink p h ∷ is) u = (λ t. t, none_copies a m g is u.1)
+none_copies a m g (Unify p h ∷ is) u = (λ t. t, none_copies a m g is u.1)
+none_copies a m g (Proceed ∷ is) u = (λ t. t, none_copies a m g is u.1)
+none_copies a m g (_ ∷ is) u = absurd u.0
+
+-- Room for rules
+
+pub needed_more : (r : Registers) (rules : ℕ → List ℕ) (is : List Instr) (i : Instr) (x : ℕ) → needed r rules (is ++ i ∷ []) x ≡ needed r rules is x + needed_by r rules i x
+needed_more r rules [] i x = omega arith
+needed_more r rules (j ∷ is) i x = let t = needed_more r rules is i x in omega (arith, t)
+
+pub used_at : (a m g k : ℕ) (is : List Instr) (i : Instr) → AllUse a m g is → slice_get is k ≡ Some i → Uses a m g i
+used_at a m g k [] i u e = absurd (cc)
+used_at a m g zero (j ∷ is) i u e = let t : j ≡ i = cc in subst (λ x. Uses a m g x) t u.0
+used_at a m g (suc k) (j ∷ is) i u e = used_at a m g k is i u.1 e

@@ -1,0 +1,50 @@
+-- Code that is committed, one instruction after the other.
+use Rattle.std.proofs.Common.{ℕ, ◌≡◌, List, [], ◌∷◌, Some, refl, sym, subst, ◌∙◌}
+use Rattle.std.specs.Prelude.{slice_get}
+use Rattle.std.specs.Prelude.{◌↔◌}
+use Rattle.lmn_base.specs.Graphs.{Reached}
+use Rattle.lmn_heap.specs.Graphs.{atom_map}
+use Rattle.lmn_heap.specs.Heap.{Heap, In, Distinct, port_id}
+use Rattle.lmn_ground.specs.Walks.{IsPart}
+use Rattle.lmn_ground.specs.Spread.{taken_all}
+use Rattle.lmn_ground.proofs.GroundLaws.{part_atoms}
+use Rattle.lmn_instr.specs.declared.instr.Instr.{Instr}
+use Rattle.lmn_instr.specs.declared.instr.Instr.TheVariants.{RemovePart}
+use Rattle.lmn_body.specs.Running.{Registers, Does, Commits, all_taken}
+use Rattle.lmn_body.specs.Conditions.{Can}
+use Rattle.lmn_commit.specs.declared.registers.SetRegisters.{SetRegisters}
+use Rattle.lmn_commit.specs.Registers.{Agrees}
+use Rattle.lmn_commit.specs.Committing.{Runs, Stands}
+
+same_taken : (ns : List ℕ) (s : Heap) → taken_all s ns ≡ all_taken s ns
+same_taken [] s = refl
+same_taken (n ∷ ns) s = same_taken ns _
+
+module _ {A M : Type 0} (atom : A → ℕ) (membrane : M → ℕ) (g : SetRegisters A M) where
+  pub part_taken : (r : Registers) (i : Instr) (x : ℕ) (p : A × ℕ) (s t : Heap) (all : List ℕ) → Agrees atom membrane g r → i ≡ RemovePart x → slice_get g.parts x ≡ Some p →
+      IsPart s (atom p.0, p.1) all → t ≡ taken_all s all → Does r i s t
+  part_taken r i x p s t all u e at part is =
+      let root : r.head.images.part x ≡ port_id atom p = u.parts x p at in
+      let found = part_atoms s (atom p.0, p.1) all part in
+      subst (λ j. Does r j s t) (sym e)
+      (subst (λ q. (ns : List ℕ) × Distinct ns × ((b : ℕ) → In b ns ↔ Reached (atom_map s) q b) × (t ≡ all_taken s ns)) (sym root) (all, found.0, found.1, is ∙ same_taken all s))
+
+  -- what is done of code, from the heap s0 to the heap s: the rest can be run, and makes of s what the whole makes of s0
+  abbrev pub Done : List Instr → List Instr → Heap → Heap → Type 0
+  Done whole rest s0 s = (r : Registers) → Agrees atom membrane g r → Runs r whole s0 → Runs r rest s × ((t : Heap) → Commits r rest s t → Commits r whole s0 t)
+
+  pub done_more : (whole rest is : List Instr) (i : Instr) (s0 s t : Heap) → rest ≡ i ∷ is → Done whole rest s0 s → ((r : Registers) → Agrees atom membrane g r → Can r i s → Does r i s t) → Done whole is s0 t
+  done_more whole rest is i s0 s t e d does r u w =
+      let q = d r u w in
+      let runs : Runs r (i ∷ is) s = subst (λ js. Runs r js s) e q.0 in
+      let step = does r u runs.0 in
+      (runs.2 t step, λ v c. q.1 v (subst (λ js. Commits r js s v) (sym e) (t, step, c)))
+
+  pub done_all : (whole rest : List Instr) (s0 s : Heap) → rest ≡ [] → Done whole rest s0 s → (r : Registers) → Agrees atom membrane g r → Runs r whole s0 → Commits r whole s0 s
+  done_all whole rest s0 s e d r u w = (d r u w).1 s (subst (λ js. Commits r js s s) (sym e) refl)
+
+  pub can_now : (whole rest is : List Instr) (i : Instr) (s0 s : Heap) → rest ≡ i ∷ is → Done whole rest s0 s → (w : (r : Registers) × Agrees atom membrane g r × Runs r whole s0) →
+      (r : Registers) × Agrees atom membrane g r × Can r i s × Stands r i s
+  can_now whole rest is i s0 s e d w =
+      let q : Runs w.0 (i ∷ is) s = subst (λ js. Runs w.0 js s) e (d w.0 w.1 w.2).0 in
+      (w.0, w.1, q.0, q.1)

@@ -1,0 +1,120 @@
+-- What the instructions of a body do leaves every mark of an atom 0.
+use Rattle.std.proofs.Common.{ℕ, zero, suc, ◌≡◌, ◌==◌, ◌&&◌, Bool, true, false, cond, List, [], ◌∷◌, map, Option, Some, None, refl, sym, ap, subst, ◌∙◌}
+use Rattle.std.specs.Option.{option_map, option_and_then}
+use Rattle.std.specs.Prelude.{slice_index_or}
+use Rattle.lmn_heap.specs.Heap.{Heap, HeapAtom, lone_root, Place, top, within, waiting, gone, marks_of, link_of, with_place, with_link, atom_sent, unless_gone, linked, cleared, taken, placed, joined, moved_all, finished, taken_mem, placed_mem, rule_added, rules_copied}
+use Rattle.lmn_heap.specs.Splice.{joined_to, joined_both}
+use Rattle.lmn_heap.proofs.Listing.{alter_keeps}
+use Rattle.lmn_splice.specs.Ports.{Port}
+use Rattle.lmn_splice.specs.Ties.{Tie, newlink, relink, unify}
+use Rattle.lmn_instr.specs.declared.instr.Instr.{Instr}
+use Rattle.lmn_instr.specs.declared.instr.Instr.TheVariants.{RemoveAtom, RemovePart, RemoveMem, NewAtom, NewInt, NewMem, CopyGround, MoveCells, LoadRule, CopyRules, NewLink, Relink, Unify, Proceed}
+use Rattle.lmn_body.specs.Tied.{tied}
+use Rattle.lmn_body.specs.Running.{Registers, Does, all_taken, all_placed, old_port, new_port}
+use Rattle.lmn_commit.specs.Committing.{Unmarked}
+
+on_place : (p : Place) (o : Option HeapAtom) → marks_of (option_map (with_place p) o) ≡ marks_of o
+on_place p None = refl
+on_place p (Some x) = refl
+
+on_link : (i : ℕ) (p : Option (ℕ × ℕ)) (o : Option HeapAtom) → marks_of (option_map (with_link i p) o) ≡ marks_of o
+on_link i p None = refl
+on_link i p (Some x) = refl
+
+on_sent : (m n : ℕ) (o : Option HeapAtom) → marks_of (option_map (atom_sent m n) o) ≡ marks_of o
+on_sent m n None = refl
+on_sent m n (Some x) = refl
+
+-- the marks of atoms are those that they had
+abbrev Same : Heap → Heap → Type 0
+Same s t = (a : ℕ) → marks_of (t.atoms a) ≡ marks_of (s.atoms a)
+
+still : (s t : Heap) → Same s t → Unmarked s → Unmarked t
+still s t e u a i = ap (λ (ms : List ℕ). slice_index_or ms i 0) (e a) ∙ u a i
+
+taken_same : (s : Heap) (a : ℕ) → Same s (taken s a)
+taken_same s a x = alter_keeps s.atoms a (option_map (with_place gone)) marks_of (on_place gone) x
+
+placed_same : (s : Heap) (m a : ℕ) → Same s (placed s m a)
+placed_same s m a x = alter_keeps s.atoms a (option_map (with_place (within m))) marks_of (on_place (within m)) x
+
+linked_same : (f : ℕ → Option HeapAtom) (a i : ℕ) (p : Option (ℕ × ℕ)) (x : ℕ) → marks_of (linked f a i p x) ≡ marks_of (f x)
+linked_same f a i p x = alter_keeps f a (option_map (with_link i p)) marks_of (on_link i p) x
+
+cleared_same : (f : ℕ → Option HeapAtom) (p : Option (ℕ × ℕ)) (x : ℕ) → marks_of (cleared f p x) ≡ marks_of (f x)
+cleared_same f None x = refl
+cleared_same f (Some p) x = linked_same f p.0 p.1 None x
+
+joined_same : (s : Heap) (a i b j : ℕ) → Same s (joined s a i b j)
+joined_same s a i b j x =
+    linked_same (linked (cleared (cleared s.atoms (link_of s a i)) (link_of s b j)) a i (Some (b, j))) b j (Some (a, i)) x
+    ∙ (linked_same (cleared (cleared s.atoms (link_of s a i)) (link_of s b j)) a i (Some (b, j)) x
+    ∙ (cleared_same (cleared s.atoms (link_of s a i)) (link_of s b j) x ∙ cleared_same s.atoms (link_of s a i) x))
+
+joined_to_same : (s : Heap) (a i : ℕ) (o : Option (ℕ × ℕ)) → Same s (joined_to s a i o)
+joined_to_same s a i None x = refl
+joined_to_same s a i (Some c) x = joined_same s a i c.0 c.1 x
+
+joined_both_same : (s : Heap) (b j : ℕ) (o p : Option (ℕ × ℕ)) → Same s (joined_both s b j o p)
+joined_both_same s b j None p x = refl
+joined_both_same s b j (Some c) None x = refl
+joined_both_same s b j (Some c) (Some d) x = by ((c.0 == b) && (c.1 == j))
+  where
+    by : (t : Bool) → marks_of ((cond t s (joined s c.0 c.1 d.0 d.1)).atoms x) ≡ marks_of (s.atoms x)
+    by true = refl
+    by false = joined_same s c.0 c.1 d.0 d.1 x
+
+tied_same : (s : Heap) (t : Tie Port) → Same s (tied s t)
+tied_same s (newlink p q) x = joined_same s p.0 p.1 q.0 q.1 x
+tied_same s (relink p o) x = joined_to_same s p.0 p.1 (link_of s o.0 o.1) x
+tied_same s (unify p o) x = joined_both_same s o.0 o.1 (link_of s p.0 p.1) (link_of s o.0 o.1) x
+
+all_taken_same : (ns : List ℕ) (s : Heap) → Same s (all_taken s ns)
+all_taken_same [] s x = refl
+all_taken_same (n ∷ ns) s x = all_taken_same ns (taken s n) x ∙ taken_same s n x
+
+all_placed_same : (es : List (ℕ × ℕ)) (s : Heap) → Same s (all_placed s es)
+all_placed_same [] s x = refl
+all_placed_same (e ∷ es) s x = all_placed_same es (placed s e.0 e.1) x ∙ placed_same s e.0 e.1 x
+
+finished_unmarked : (s : Heap) → Unmarked s → Unmarked (finished s)
+finished_unmarked s u a i = by (s.atoms a) (u a i)
+  where
+    nothing : (k : ℕ) → slice_index_or (marks_of None) k 0 ≡ 0
+    nothing zero = refl
+    nothing (suc k) = refl
+
+    by : (o : Option HeapAtom) → slice_index_or (marks_of o) i 0 ≡ 0 → slice_index_or (marks_of (option_and_then unless_gone o)) i 0 ≡ 0
+    by None e = e
+    by (Some x) e = at x.place refl
+      where
+        at : (p : Place) → x.place ≡ p → slice_index_or (marks_of (unless_gone x)) i 0 ≡ 0
+        at top q = rw q e
+        at (within m) q = rw q e
+        at waiting q = rw q e
+        at gone q = rw q (nothing i)
+
+on : (s t u : Heap) → t ≡ u → Same s u → Unmarked s → Unmarked t
+on s t u e h m = subst Unmarked (sym e) (still s u h m)
+
+pub does_unmarked : (r : Registers) (i : Instr) (s t : Heap) → Does r i s t → Unmarked s → Unmarked t
+does_unmarked r (RemoveAtom a) s t d u = on s t (taken s (r.head.images.atom a)) d (taken_same s (r.head.images.atom a)) u
+does_unmarked r (RemovePart g) s t d u = on s t (all_taken s d.0) d.3 (all_taken_same d.0 s) u
+does_unmarked r (RemoveMem m) s t d u = on s t (taken_mem s (r.head.images.membrane m)) d (λ x. refl) u
+does_unmarked r (NewAtom a m f) s t d u = on s t (placed s (r.head.images.membrane m) (r.head.images.atom a)) d.1 (placed_same s (r.head.images.membrane m) (r.head.images.atom a)) u
+does_unmarked r (NewInt a m v) s t d u = on s t (placed s (r.head.images.membrane m) (r.head.images.atom a)) d.1 (placed_same s (r.head.images.membrane m) (r.head.images.atom a)) u
+does_unmarked r (NewMem m n) s t d u = on s t (placed_mem s (r.head.images.membrane n) (r.head.images.membrane m)) d.1 (λ x. refl) u
+does_unmarked r (CopyGround c m g) s t d u = on s t (all_placed s (map (λ a. (r.head.images.membrane m, a)) (r.copied c))) d.2 (all_placed_same (map (λ a. (r.head.images.membrane m, a)) (r.copied c)) s) u
+does_unmarked r (MoveCells m n) s t d u = on s t (moved_all s (r.head.images.membrane m) (r.head.images.membrane n)) d (λ x. on_sent (r.head.images.membrane m) (r.head.images.membrane n) (s.atoms x)) u
+does_unmarked r (LoadRule m k) s t d u = on s t (rule_added s (r.head.images.membrane m) k) d (λ x. refl) u
+does_unmarked r (CopyRules m n) s t d u = on s t (rules_copied s (r.head.images.membrane m) (r.head.images.membrane n)) d (λ x. refl) u
+does_unmarked r (NewLink p q) s t d u = on s t (tied s (newlink (new_port r p) (new_port r q))) d (tied_same s (newlink (new_port r p) (new_port r q))) u
+does_unmarked r (Relink p h) s t d u = on s t (tied s (relink (new_port r p) (old_port r h))) d (tied_same s (relink (new_port r p) (old_port r h))) u
+does_unmarked r (Unify g h) s t d u = on s t (tied s (unify (old_port r g) (old_port r h))) d (tied_same s (unify (old_port r g) (old_port r h))) u
+does_unmarked r Proceed s t d u = subst Unmarked (sym d) (finished_unmarked s u)
+does_unmarked r _ s t d u = absurd d
+
+-- a new store has no atom
+pub lone_unmarked : Unmarked lone_root
+lone_unmarked a zero = refl
+lone_unmarked a (suc i) = refl

@@ -1,0 +1,22 @@
+-- When the code of a body can be committed.
+use Rattle.std.specs.Prelude.{ℕ, ◌≡◌, List, [], ◌∷◌, None}
+use Rattle.lmn_heap.specs.Heap.{Heap, mark_of}
+use Rattle.lmn_ground.specs.Spread.{IsWhole}
+use Rattle.lmn_instr.specs.declared.instr.Instr.{Instr}
+use Rattle.lmn_instr.specs.declared.instr.Instr.TheVariants.{RemovePart}
+use Rattle.lmn_body.specs.Running.{Registers, Does}
+use Rattle.lmn_body.specs.Conditions.{Can, StandsAsPort}
+
+-- every mark of an atom is 0
+abbrev pub Unmarked : Heap → Type 0
+Unmarked s = (a i : ℕ) → mark_of s a i ≡ 0
+
+-- a part that is taken is there, and each of its ports but the root is joined
+abbrev pub Stands : Registers → Instr → Heap → Type 0
+Stands r (RemovePart g) s = StandsAsPort s (r.head.images.part g) × IsWhole s (r.head.images.part g) None
+Stands r _ s = Unit {0}
+
+-- Code can be committed from a heap: its first instruction can be run, and the rest from each heap that this one leaves.
+abbrev pub Runs : Registers → List Instr → Heap → Type 0
+Runs r [] s = Unit {0}
+Runs r (i ∷ is) s = Can r i s × Stands r i s × ((t : Heap) → Does r i s t → Runs r is t)

@@ -1,0 +1,5 @@
+pub mod Registers
+pub mod Preparing
+pub mod Committing
+pub mod Matched
+pub mod Orders

@@ -1,0 +1,25 @@
+-- The registers of a machine, by the numbers of what they hold.
+use Rattle.std.specs.Prelude.{ℕ, ℤ, ◌≡◌, Some, slice_get}
+use Rattle.lmn_heap.specs.Heap.{Heap, IsAtom, IsMem, port_id}
+use Rattle.lmn_body.specs.Running.{Registers}
+use Rattle.lmn_commit.specs.declared.registers.SetRegisters.{SetRegisters}
+
+-- Registers that have the values of those that are set, where `atom` and `membrane` number the handles of a store.
+pub record Agrees {A M : Type 0} (atom : A → ℕ) (membrane : M → ℕ) (g : SetRegisters A M) (r : Registers) : Type 0 where
+  pub atoms : (k : ℕ) (a : A) → slice_get g.atoms k ≡ Some a → r.head.images.atom k ≡ atom a
+  pub membranes : (k : ℕ) (m : M) → slice_get g.membranes k ≡ Some m → r.head.images.membrane k ≡ membrane m
+  pub parts : (k : ℕ) (p : A × ℕ) → slice_get g.parts k ≡ Some p → r.head.images.part k ≡ port_id atom p
+  pub integers : (k : ℕ) (z : ℤ) → slice_get g.integers k ≡ Some z → r.head.integer k ≡ z
+
+-- the handles in the registers are of atoms and of membranes
+pub record AreHeld {A M : Type 0} (atom : A → ℕ) (membrane : M → ℕ) (h : Heap) (g : SetRegisters A M) : Type 0 where
+  pub atoms : (k : ℕ) (a : A) → slice_get g.atoms k ≡ Some a → IsAtom h (atom a)
+  pub membranes : (k : ℕ) (m : M) → slice_get g.membranes k ≡ Some m → IsMem h (membrane m)
+  pub parts : (k : ℕ) (p : A × ℕ) → slice_get g.parts k ≡ Some p → IsAtom h (atom p.0)
+
+-- more atoms and membranes are set, and all that was set before is as it was
+pub record Grows {A M : Type 0} (g k : SetRegisters A M) : Type 0 where
+  pub atoms : (i : ℕ) (a : A) → slice_get g.atoms i ≡ Some a → slice_get k.atoms i ≡ Some a
+  pub membranes : (i : ℕ) (m : M) → slice_get g.membranes i ≡ Some m → slice_get k.membranes i ≡ Some m
+  pub parts : k.parts ≡ g.parts
+  pub integers : k.integers ≡ g.integers

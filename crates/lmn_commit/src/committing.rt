@@ -1,0 +1,115 @@
+//! Does what the code of a body does, when all that it makes is made.
+ghost use Rattle.std.specs.Prelude.{◌≡◌, ◌<◌, ℕ, length};
+ghost use Rattle.lmn_body.specs.Running.{Registers, Commits, Does, old_port, new_port};
+ghost use Rattle.lmn_heap.specs.Heap.{port_id};
+ghost use Rattle.lmn_body.specs.Conditions.{Can};
+ghost use Rattle.lmn_commit.specs.Registers.{Agrees};
+ghost use Rattle.lmn_commit.specs.Preparing.{AllUse, Uses, UsesPort};
+ghost use Rattle.lmn_commit.specs.Committing.{Runs, Stands, Unmarked};
+ghost use Rattle.lmn_commit.specs.Matched.{IsPrepared};
+ghost use Rattle.lmn_heap.specs.Sound.{Valid};
+
+use crate::registers::SetRegisters;
+use crate::splicing::{relink, unify};
+use lmn_ground::take_part;
+use lmn_instr::{AtomPort, Instr, NewPort};
+use lmn_store::LinkStore;
+
+/// A port of the atom in a register.
+fn port_of<A: Copy, M: Copy>(set: &SetRegisters<A, M>, port: AtomPort) -> (A, u8)
+    requires { port.atom < length set.now.atoms }
+    ensures { (id : A → ℕ) (membrane : M → ℕ) (r : Registers) → Agrees id membrane set.now r → old_port r port ≡ port_id id result }
+{
+    (set.atoms.at(port.atom as usize), port.port)
+}
+
+/// A port of a made atom.
+fn made_port<A: Copy, M: Copy>(set: &SetRegisters<A, M>, port: NewPort) -> (A, u8)
+    requires { UsesPort (length set.now.atoms) port }
+    ensures { (id : A → ℕ) (membrane : M → ℕ) (r : Registers) → Agrees id membrane set.now r → new_port r port ≡ port_id id result }
+{
+    match port {
+        NewPort::Atom(p) => port_of(set, p),
+        NewPort::Copy(_) => unreachable!(),
+    }
+}
+
+/// Does what an instruction does.
+fn run<S: LinkStore>(store: &mut S, instr: &Instr, set: &SetRegisters<S::Atom, S::Mem>)
+    requires unmarked { Unmarked (S.heap store.old) }
+    requires uses { Uses (length set.now.atoms) (length set.now.membranes) (length set.now.parts) instr.now }
+    requires can { (r : Registers) × Agrees S.atom_id S.mem_id set.now r × Can r instr.now (S.heap store.old) × Stands r instr.now (S.heap store.old) }
+    ensures { (r : Registers) → Agrees S.atom_id S.mem_id set.now r → Can r instr.now (S.heap store.old) → Does r instr.now (S.heap store.old) (S.heap store.new) }
+{
+    let _root = store.root();
+    match instr {
+        Instr::RemoveAtom { atom } => store.take_atom(set.atoms.at(*atom as usize)),
+        Instr::RemovePart { part } => take_part(store, set.parts.at(*part as usize)),
+        Instr::RemoveMem { membrane } => store.take_mem(set.membranes.at(*membrane as usize)),
+        Instr::NewAtom { membrane, .. } => {
+            let _atom = store.place_atom(set.membranes.at(*membrane as usize));
+        }
+        Instr::NewInt { membrane, .. } => {
+            let _atom = store.place_atom(set.membranes.at(*membrane as usize));
+        }
+        Instr::NewMem { inside, .. } => {
+            let _membrane = store.place_mem(set.membranes.at(*inside as usize));
+        }
+        Instr::MoveCells { from, to } => {
+            store.move_all(
+                set.membranes.at(*from as usize),
+                set.membranes.at(*to as usize),
+            );
+        }
+        Instr::LoadRule { membrane, rule } => {
+            store.add_rule(set.membranes.at(*membrane as usize), *rule);
+        }
+        Instr::CopyRules { from, to } => {
+            store.copy_rules(
+                set.membranes.at(*from as usize),
+                set.membranes.at(*to as usize),
+            );
+        }
+        Instr::NewLink { port, other } => {
+            let p = made_port(set, *port);
+            let q = made_port(set, *other);
+            store.join(p.0, p.1, q.0, q.1);
+        }
+        Instr::Relink { port, to } => {
+            let p = made_port(set, *port);
+            let q = port_of(set, *to);
+            relink(store, p, q);
+        }
+        Instr::Unify { port, other } => {
+            let p = port_of(set, *port);
+            let q = port_of(set, *other);
+            unify(store, p, q);
+        }
+        Instr::Proceed => store.finish(),
+        _ => unreachable!(),
+    }
+}
+
+/// Does what code does, one instruction after the other.
+fn run_all<S: LinkStore>(store: &mut S, code: &[Instr], set: &SetRegisters<S::Atom, S::Mem>)
+    requires unmarked { Unmarked (S.heap store.old) }
+    requires uses { AllUse (length set.now.atoms) (length set.now.membranes) (length set.now.parts) code.now }
+    requires runs { (r : Registers) × Agrees S.atom_id S.mem_id set.now r × Runs r code.now (S.heap store.old) }
+    ensures commits { (r : Registers) → Agrees S.atom_id S.mem_id set.now r → Runs r code.now (S.heap store.old) → Commits r code.now (S.heap store.old) (S.heap store.new) }
+    ensures unmarked { Unmarked (S.heap store.new) }
+{
+    for i in 0..code.len() {
+        run(store, &code[i], set);
+    }
+}
+
+/// Does what the code of a body does, after its head was matched and it was prepared: the rule is fired. It takes no
+/// memory and can't fail, and leaves a valid store without marks.
+pub fn commit<S: LinkStore>(store: &mut S, code: &[Instr], set: &SetRegisters<S::Atom, S::Mem>)
+    requires { IsPrepared S.atom_id S.mem_id (S.heap store.old) set.now code.now }
+    ensures commits { (r : Registers) → Agrees S.atom_id S.mem_id set.now r → Commits r code.now (S.heap store.old) (S.heap store.new) }
+    ensures valid { Valid (S.heap store.new) }
+    ensures unmarked { Unmarked (S.heap store.new) }
+{
+    run_all(store, code, set);
+}

@@ -1,0 +1,8 @@
+//! A law of the code of bodies.
+ghost use Rattle.lmn_commit.specs.Orders.{BodiesAreInOrder};
+
+/// The code of the body of a rule meets the condition of `prepare` on its registers.
+#[tactic(auto, using(crate::proofs::Ordering::bodies_are_in_order))]
+pub fn bodies_are_in_order()
+    ensures { BodiesAreInOrder }
+{}

@@ -1,0 +1,20 @@
+//! Prepares and commits the code of bodies on any store of atoms in membranes.
+//!
+//! To prepare makes all that a body makes, detached, and is the only part that takes memory. What is prepared can be
+//! committed, which takes no memory and can't fail.
+#![tactic(auto)]
+
+mod committing;
+mod laws;
+mod preparing;
+mod registers;
+mod splicing;
+mod stack;
+#[cfg(test)]
+mod tests;
+
+pub use committing::commit;
+pub use laws::bodies_are_in_order;
+pub use preparing::prepare;
+pub use registers::SetRegisters;
+pub use stack::Stack;

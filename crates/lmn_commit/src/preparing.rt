@@ -1,0 +1,205 @@
+//! Makes all that the code of a body makes.
+ghost use Rattle.std.specs.Prelude.{◌≡◌, ◌<◌, ◌≤◌, ◌+◌, ℕ, length, take, slice_get, Some, OnOk, OnErr};
+ghost use Rattle.lmn_heap.specs.Heap.{IsMem, rules_in, spare_of};
+ghost use Rattle.lmn_heap.specs.Sound.{Valid};
+ghost use Rattle.lmn_body.specs.Running.{Registers};
+ghost use Rattle.lmn_body.specs.Stopping.{SameButSpares};
+ghost use Rattle.lmn_commit.specs.Registers.{Agrees, AreHeld};
+ghost use Rattle.lmn_commit.specs.Preparing.{AllUse, AtomIsMade, MembraneIsMade, RoomIsMade, InOrder, IsMade, Prepared, Reads, Uses, needed, needed_by};
+ghost use Rattle.lmn_commit.specs.Committing.{Unmarked};
+ghost use Rattle.lmn_commit.specs.declared.stack.TheConstants.{ROOM};
+
+use crate::registers::SetRegisters;
+use lmn_base::{Functor, Label, NoMemory};
+use lmn_instr::Instr;
+use lmn_store::LinkStore;
+use std::alloc::Global;
+
+/// Makes an atom, which goes into the next register.
+fn make_atom<S: LinkStore>(
+    alloc: Global,
+    store: &mut S,
+    functor: Functor,
+    set: &mut SetRegisters<S::Atom, S::Mem>,
+) -> Result<(), NoMemory>
+    requires room { length set.old.atoms < ROOM }
+    ensures ok { OnOk result (AtomIsMade S.atom_id (S.heap store.old) (S.heap store.new) set.old set.new functor) }
+    ensures err { OnErr result ((S.heap store.new ≡ S.heap store.old) × (set.new ≡ set.old)) }
+{
+    let atom = store.make_atom(alloc, functor)?;
+    set.atoms.push(atom);
+    Ok(())
+}
+
+/// Makes a membrane, which goes into the next register.
+fn make_membrane<S: LinkStore>(
+    alloc: Global,
+    store: &mut S,
+    set: &mut SetRegisters<S::Atom, S::Mem>,
+) -> Result<(), NoMemory>
+    requires room { length set.old.membranes < ROOM }
+    ensures ok { OnOk result (MembraneIsMade S.mem_id (S.heap store.old) (S.heap store.new) set.old set.new) }
+    ensures err { OnErr result ((S.heap store.new ≡ S.heap store.old) × (set.new ≡ set.old)) }
+{
+    let membrane = store.make_mem(alloc)?;
+    set.membranes.push(membrane);
+    Ok(())
+}
+
+/// How many rules an instruction adds to a membrane.
+fn rules_added<S: LinkStore>(
+    store: &S,
+    instr: &Instr,
+    set: &SetRegisters<S::Atom, S::Mem>,
+    membrane: S::Mem,
+) -> u64
+    requires held { AreHeld S.atom_id S.mem_id (S.heap store.now) set.now }
+    requires uses { Uses (length set.now.atoms) (length set.now.membranes) (length set.now.parts) instr.now }
+    requires membrane { IsMem (S.heap store.now) (S.mem_id membrane) }
+    ensures { (r : Registers) → Agrees S.atom_id S.mem_id set.now r → result ≡ needed_by r (rules_in (S.heap store.now)) instr.now (S.mem_id membrane) }
+{
+    match instr {
+        Instr::LoadRule { membrane: to, .. } => {
+            if store.same_mem(set.membranes.at(*to as usize), membrane) {
+                1
+            } else {
+                0
+            }
+        }
+        Instr::CopyRules { from, to } => {
+            if store.same_mem(set.membranes.at(*to as usize), membrane) {
+                store.rules(set.membranes.at(*from as usize))
+            } else {
+                0
+            }
+        }
+        _ => 0,
+    }
+}
+
+/// How many rules the first instructions of code add to a membrane; none where that is too many for any store.
+fn rules_needed<S: LinkStore>(
+    store: &S,
+    code: &[Instr],
+    upto: usize,
+    set: &SetRegisters<S::Atom, S::Mem>,
+    membrane: S::Mem,
+) -> Option<u64>
+    requires held { AreHeld S.atom_id S.mem_id (S.heap store.now) set.now }
+    requires upto { upto ≤ length code.now }
+    requires uses { AllUse (length set.now.atoms) (length set.now.membranes) (length set.now.parts) (take upto code.now) }
+    requires membrane { IsMem (S.heap store.now) (S.mem_id membrane) }
+    ensures { (r : Registers) (n : ℕ) → Agrees S.atom_id S.mem_id set.now r → result ≡ Some n → n ≡ needed r (rules_in (S.heap store.now)) (take upto code.now) (S.mem_id membrane) }
+{
+    let mut count: u64 = 0;
+    for i in 0..upto {
+        count = count.checked_add(rules_added(store, &code[i], set, membrane))?;
+    }
+    Some(count)
+}
+
+/// Makes room in a membrane for all rules that code adds to it, up to the instruction at the given place.
+fn reserve<S: LinkStore>(
+    alloc: Global,
+    store: &mut S,
+    code: &[Instr],
+    at: usize,
+    set: &SetRegisters<S::Atom, S::Mem>,
+    membrane: S::Mem,
+) -> Result<(), NoMemory>
+    requires held { AreHeld S.atom_id S.mem_id (S.heap store.old) set.now }
+    requires at { at < length code.now }
+    requires uses { AllUse (length set.now.atoms) (length set.now.membranes) (length set.now.parts) (take (at + 1) code.now) }
+    requires membrane { IsMem (S.heap store.old) (S.mem_id membrane) }
+    ensures ok { OnOk result (RoomIsMade S.atom_id S.mem_id (S.heap store.old) (S.heap store.new) set.now (take (at + 1) code.now) (S.mem_id membrane)) }
+    ensures err { OnErr result (S.heap store.new ≡ S.heap store.old) }
+{
+    match rules_needed(store, code, at + 1, set, membrane) {
+        Some(count) => store.reserve_rules(alloc, membrane, count),
+        None => Err(NoMemory),
+    }
+}
+
+/// Makes what the instruction at a place of the code makes.
+fn make<S: LinkStore>(
+    alloc: Global,
+    store: &mut S,
+    code: &[Instr],
+    at: usize,
+    instr: &Instr,
+    set: &mut SetRegisters<S::Atom, S::Mem>,
+) -> Result<(), NoMemory>
+    requires at { slice_get code.now at ≡ Some instr.now }
+    requires held { AreHeld S.atom_id S.mem_id (S.heap store.old) set.old }
+    requires uses { AllUse (length set.old.atoms) (length set.old.membranes) (length set.old.parts) (take at code.now) }
+    requires reads { Reads (length set.old.atoms) (length set.old.membranes) (length set.old.parts) (length set.old.integers) instr.now }
+    ensures ok { OnOk result (IsMade S.atom_id S.mem_id (S.heap store.old) (S.heap store.new) set.old set.new (take at code.now) instr.now) }
+    ensures err { OnErr result ((S.heap store.new ≡ S.heap store.old) × (set.new ≡ set.old)) }
+{
+    match instr {
+        Instr::NewAtom { functor, .. } => make_atom(alloc, store, *functor, set),
+        Instr::NewInt { integer, .. } => {
+            let functor = Functor {
+                label: Label::Int(set.integers.at(*integer as usize)),
+                arity: 1,
+            };
+            make_atom(alloc, store, functor, set)
+        }
+        Instr::NewMem { .. } => make_membrane(alloc, store, set),
+        Instr::LoadRule { membrane, .. } => {
+            let to = set.membranes.at(*membrane as usize);
+            reserve(alloc, store, code, at, set, to)
+        }
+        Instr::CopyRules { to, .. } => {
+            let to = set.membranes.at(*to as usize);
+            reserve(alloc, store, code, at, set, to)
+        }
+        _ => Ok(()),
+    }
+}
+
+/// Makes what code makes, one instruction after the other.
+fn make_all<S: LinkStore>(
+    alloc: Global,
+    store: &mut S,
+    code: &[Instr],
+    set: &mut SetRegisters<S::Atom, S::Mem>,
+) -> Result<(), NoMemory>
+    requires held { AreHeld S.atom_id S.mem_id (S.heap store.old) set.old }
+    requires order { InOrder (length set.old.atoms) (length set.old.membranes) (length set.old.parts) (length set.old.integers) code.now }
+    ensures some { (n : ℕ) × Prepared S.atom_id S.mem_id (S.heap store.old) (S.heap store.new) set.old set.new (take n code.now) }
+    ensures ok { OnOk result (Prepared S.atom_id S.mem_id (S.heap store.old) (S.heap store.new) set.old set.new code.now) }
+{
+    for i in 0..code.len() {
+        make(alloc, store, code, i, &code[i], set)?;
+    }
+    Ok(())
+}
+
+/// Makes all that the code of a body makes, detached, and room for the rules that it adds. The registers of the head
+/// are set before, those of what is made afterwards. Want of memory leaves the store as it was, but for room for
+/// rules, and the registers of the head too.
+pub fn prepare<S: LinkStore>(
+    alloc: Global,
+    store: &mut S,
+    code: &[Instr],
+    set: &mut SetRegisters<S::Atom, S::Mem>,
+) -> Result<(), NoMemory>
+    requires valid { Valid (S.heap store.old) }
+    requires unmarked { Unmarked (S.heap store.old) }
+    requires held { AreHeld S.atom_id S.mem_id (S.heap store.old) set.old }
+    requires order { InOrder (length set.old.atoms) (length set.old.membranes) (length set.old.parts) (length set.old.integers) code.now }
+    ensures ok { OnOk result (Prepared S.atom_id S.mem_id (S.heap store.old) (S.heap store.new) set.old set.new code.now) }
+    ensures err { OnErr result (SameButSpares (S.heap store.old) (S.heap store.new)) }
+    ensures valid { OnErr result (Valid (S.heap store.new)) }
+    ensures unmarked { Unmarked (S.heap store.new) }
+{
+    match make_all(alloc, store, code, set) {
+        Ok(()) => Ok(()),
+        Err(error) => {
+            store.discard();
+            let _root = store.root();
+            Err(error)
+        }
+    }
+}

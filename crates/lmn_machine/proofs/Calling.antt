@@ -1,0 +1,123 @@
+-- The code ahead.
+use Rattle.std.proofs.Common.{ℕ, ℤ, zero, suc, ◌≡◌, ◌<◌, ◌≤◌, ◌+◌, List, [], ◌∷◌, ◌++◌, Option, Some, None, refl, arith, ap, sym, subst, length, take, drop, get_or, ◌∙◌}
+use Rattle.std.specs.Prelude.{slice_get, IfSome}
+use Rattle.lmn_base.specs.declared.functor.Functor.{Functor}
+use Rattle.lmn_instr.specs.declared.instr.Instr.{Instr}
+use Rattle.lmn_instr.specs.declared.instr.Instr.TheVariants.{FindAtom, AnyMem, NAtoms}
+use Rattle.lmn_machine.specs.Searching.{InOrder, ChoosesNone, Extends, Reads}
+use Rattle.std.specs.Option.{option_map}
+use Rattle.lmn_heap.specs.Lists.{from, after}
+use Rattle.lmn_heap.specs.Functors.{with_functor}
+use Rattle.lmn_heap.specs.Heap.{Heap, atoms_in, mems_in, functor_of, home_of, parent_of}
+use Rattle.lmn_instr.specs.Running.{Registers, Holds, HasOthers}
+use Rattle.std.specs.Prelude.{Bool, true}
+use Rattle.lmn_machine.specs.declared.registers.SetRegisters.{SetRegisters}
+use Rattle.lmn_machine.specs.declared.stack.TheConstants.{ROOM}
+use Rattle.lmn_machine.proofs.Choosing.{drop_get, with_atom, with_membrane}
+
+pub read_at : {A : Type 0} (xs : List A) (i : ℕ) (x y : A) → i < length xs → x ≡ get_or xs i x → x ≡ y → slice_get xs i ≡ Some y
+read_at [] i x y l e s = absurd (omega arith)
+read_at (z ∷ xs) zero x y l e s = ap (λ w. Some w) (sym e ∙ s)
+read_at (z ∷ xs) (suc i) x y l e s = read_at xs i x y (omega arith) e s
+
+pub drop_at : {A : Type 0} (xs : List A) (i : ℕ) (x y : A) → i < length xs → x ≡ get_or xs i x → x ≡ y → drop i xs ≡ y ∷ drop (i + 1) xs
+drop_at xs i x y l e s = drop_get i xs y (read_at xs i x y l e s)
+
+pub drop_none : {A : Type 0} (xs : List A) (i : ℕ) → length xs ≤ i → drop i xs ≡ []
+drop_none [] zero l = refl
+drop_none [] (suc i) l = refl
+drop_none (x ∷ xs) zero l = absurd (omega arith)
+drop_none (x ∷ xs) (suc i) l = drop_none xs i (omega arith)
+
+pub length_one : {A : Type 0} (xs : List A) (x : A) → length (xs ++ x ∷ []) ≡ length xs + 1
+length_one [] x = refl
+length_one (y ∷ xs) x = let k = length_one xs x in omega (arith, k)
+
+-- what the order of the registers says of the instruction ahead
+pub atom_ahead : (a m g v x y : ℕ) (f : Functor) (left is : List Instr) → left ≡ FindAtom x y f ∷ is → InOrder a m g v left → ((x ≡ a) × (y < m) × (a < ROOM) × (g ≡ 0)) × InOrder (a + 1) m g v is
+atom_ahead a m g v x y f left is e o = subst (λ k. InOrder a m g v k) e o
+
+pub membrane_ahead : (a m g v x y : ℕ) (left is : List Instr) → left ≡ AnyMem x y ∷ is → InOrder a m g v left → ((x ≡ m) × (y < m) × (m < ROOM)) × InOrder a (m + 1) g v is
+membrane_ahead a m g v x y left is e o = subst (λ k. InOrder a m g v k) e o
+
+pub no_choice : (i : Instr) → ((x y : ℕ) (f : Functor) → i ≡ FindAtom x y f → ⊥) → ((x y : ℕ) → i ≡ AnyMem x y → ⊥) → ChoosesNone i
+no_choice (FindAtom x y f) d e = d x y f refl
+no_choice (AnyMem x y) d e = e x y refl
+no_choice _ d e = tt
+
+-- what holds of the value of an option, if there is one
+
+pub if_both : {A : Type 0} (P Q : A → Type 0) (o : Option A) → IfSome o P → IfSome o Q → IfSome o (λ a. P a × Q a)
+if_both P Q None p q = tt
+if_both P Q (Some a) p q = (p, q)
+
+pub if_same : {A B : Type 0} (F : A → B) (a : A) (v : B) (o : Option A) → IfSome o (λ b. F b ≡ F a) → F a ≡ v → IfSome o (λ b. F b ≡ v)
+if_same F a v None p e = tt
+if_same F a v (Some b) p e = p ∙ e
+
+pub none_is : {A : Type 0} (o : Option A) → ((a : A) → o ≡ Some a → ⊥) → o ≡ None
+none_is None d = refl
+none_is (Some a) d = absurd (d a refl)
+
+-- with other atoms, with other membranes
+abbrev pub having_atoms : {A M : Type 0} → SetRegisters A M → List A → SetRegisters A M
+having_atoms t xs = record { atoms = xs; membranes = t.membranes; parts = t.parts; integers = t.integers }
+
+abbrev pub having_membranes : {A M : Type 0} → SetRegisters A M → List M → SetRegisters A M
+having_membranes t xs = record { atoms = t.atoms; membranes = xs; parts = t.parts; integers = t.integers }
+
+-- the registers after one more, and after a search that is taken back
+pub one_more : {A M : Type 0} (s t : SetRegisters A M) (a : A) (xs : List A) → t ≡ s → xs ≡ t.atoms ++ a ∷ [] → having_atoms t xs ≡ with_atom s a
+one_more {A} {M} s t a xs e f =
+    let R : List A → SetRegisters A M = λ ys. having_atoms t ys in
+    ap R f ∙ ap (λ u. with_atom u a) e
+
+pub one_membrane_more : {A M : Type 0} (s t : SetRegisters A M) (m : M) (xs : List M) → t ≡ s → xs ≡ t.membranes ++ m ∷ [] → having_membranes t xs ≡ with_membrane s m
+one_membrane_more {A} {M} s t m xs e f =
+    let R : List M → SetRegisters A M = λ ys. having_membranes t ys in
+    ap R f ∙ ap (λ u. with_membrane u m) e
+
+pub taken_back : {A M : Type 0} (s k r : SetRegisters A M) (n m p v : ℕ) → n ≡ length s.atoms → m ≡ length s.membranes → p ≡ length s.parts → v ≡ length s.integers → Extends s k →
+    r ≡ record { atoms = take n k.atoms; membranes = take m k.membranes; parts = take p k.parts; integers = take v k.integers } → r ≡ s
+taken_back {A} {M} s k r n m p v e f i j x t =
+    let R : List A → List M → List (A × ℕ) → List ℤ → SetRegisters A M = λ as' ms ps zs. record { atoms = as'; membranes = ms; parts = ps; integers = zs } in
+    let a : take n k.atoms ≡ s.atoms = ap (λ o. take o k.atoms) e ∙ x.atoms in
+    let b : take m k.membranes ≡ s.membranes = ap (λ o. take o k.membranes) f ∙ x.membranes in
+    let c : take p k.parts ≡ s.parts = ap (λ o. take o k.parts) i ∙ x.parts in
+    let d : take v k.integers ≡ s.integers = ap (λ o. take o k.integers) j ∙ x.integers in
+    t ∙ (ap (λ ys. R ys (take m k.membranes) (take p k.parts) (take v k.integers)) a ∙ (ap (λ ys. R s.atoms ys (take p k.parts) (take v k.integers)) b
+    ∙ (ap (λ ys. R s.atoms s.membranes ys (take v k.integers)) c ∙ ap (λ ys. R s.atoms s.membranes s.parts ys) d)))
+
+-- no register
+abbrev pub nothing_set : {A M : Type 0} → SetRegisters A M
+nothing_set = record { atoms = []; membranes = []; parts = []; integers = [] }
+
+-- what is told of the next candidate, in a heap that is the same
+pub next_same : {A : Type 0} (atom : A → ℕ) (h k : Heap) (a : A) (o : Option A) → k ≡ h →
+    ((m : ℕ) (f : Functor) → home_of k (atom a) ≡ Some m → functor_of k (atom a) ≡ Some f → from (option_map atom o) (with_functor k f (atoms_in k m)) ≡ after (atom a) (with_functor k f (atoms_in k m))) →
+    IfSome o (λ b. functor_of k (atom b) ≡ functor_of k (atom a)) → IfSome o (λ b. home_of k (atom b) ≡ home_of k (atom a)) →
+    ((m : ℕ) (f : Functor) → home_of h (atom a) ≡ Some m → functor_of h (atom a) ≡ Some f → from (option_map atom o) (with_functor h f (atoms_in h m)) ≡ after (atom a) (with_functor h f (atoms_in h m)))
+    × IfSome o (λ b. functor_of h (atom b) ≡ functor_of h (atom a)) × IfSome o (λ b. home_of h (atom b) ≡ home_of h (atom a))
+next_same {A} atom h k a o e l f p = (
+  subst (λ (s : Heap). (m : ℕ) (f : Functor) → home_of s (atom a) ≡ Some m → functor_of s (atom a) ≡ Some f → from (option_map atom o) (with_functor s f (atoms_in s m)) ≡ after (atom a) (with_functor s f (atoms_in s m))) e l,
+  subst (λ (s : Heap). IfSome o (λ b. functor_of s (atom b) ≡ functor_of s (atom a))) e f,
+  subst (λ (s : Heap). IfSome o (λ b. home_of s (atom b) ≡ home_of s (atom a))) e p,
+)
+
+pub next_mem_same : {M : Type 0} (membrane : M → ℕ) (h k : Heap) (n : M) (o : Option M) → k ≡ h →
+    ((m : ℕ) → parent_of k (membrane n) ≡ Some m → from (option_map membrane o) (mems_in k m) ≡ after (membrane n) (mems_in k m)) → IfSome o (λ b. parent_of k (membrane b) ≡ parent_of k (membrane n)) →
+    ((m : ℕ) → parent_of h (membrane n) ≡ Some m → from (option_map membrane o) (mems_in h m) ≡ after (membrane n) (mems_in h m)) × IfSome o (λ b. parent_of h (membrane b) ≡ parent_of h (membrane n))
+next_mem_same {M} membrane h k n o e l p = (
+  subst (λ (s : Heap). (m : ℕ) → parent_of s (membrane n) ≡ Some m → from (option_map membrane o) (mems_in s m) ≡ after (membrane n) (mems_in s m)) e l,
+  subst (λ (s : Heap). IfSome o (λ b. parent_of s (membrane b) ≡ parent_of s (membrane n))) e p,
+)
+
+-- NATOMS without typed contexts
+pub atoms_counted : (h : Heap) (c : ℕ) (s : Registers) (i : Instr) (x n : ℕ) (gs : List ℕ) (a b v m : ℕ) (result : Bool) → i ≡ NAtoms x n gs → Reads a b v i → s.images.membrane x ≡ m →
+    ((result ≡ true → HasOthers (λ k. ⊥) n (atoms_in h m)) × (HasOthers (λ k. ⊥) n (atoms_in h m) → result ≡ true)) → (result ≡ true → Holds h c s i) × (Holds h c s i → result ≡ true)
+atoms_counted h c s i x n gs a b v m result e reads at f =
+    let r : Reads a b v (NAtoms x n gs) = subst (λ j. Reads a b v j) e reads in
+    let bare : NAtoms x n gs ≡ NAtoms x n [] = ap (λ k. NAtoms x n k) r.1 in (
+      λ t. subst (λ j. Holds h c s j) (sym (e ∙ bare)) (subst (λ k. HasOthers (λ b. ⊥) n (atoms_in h k)) (sym at) (f.0 t)),
+      λ o. f.1 (subst (λ k. HasOthers (λ b. ⊥) n (atoms_in h k)) at (let held : Holds h c s (NAtoms x n []) = subst (λ j. Holds h c s j) (e ∙ bare) o in held)),
+    )

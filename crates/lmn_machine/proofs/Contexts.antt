@@ -1,0 +1,87 @@
+-- Typed contexts of any number of atoms.
+use Rattle.std.proofs.Common.{◌≡◌, ◌<◌, ℕ, zero, suc, List, [], ◌∷◌, Option, Some, refl, arith, ap, sym, subst, length, ◌∙◌}
+use Rattle.std.specs.Prelude.{true, Bool, slice_get, IfSome}
+use Rattle.std.specs.Option.{option_map}
+use Rattle.std.proofs.lemmas.Option.{slice_get_within}
+use Rattle.lmn_base.specs.Graphs.{StandsWhole, SameGraph}
+use Rattle.lmn_heap.specs.Heap.{Heap, IsAtom, link_of, port_id}
+use Rattle.lmn_heap.specs.Graphs.{atom_map}
+use Rattle.lmn_guards.specs.declared.plan.TypeKind.TheVariants as kind
+use Rattle.lmn_instr.specs.declared.instr.AtomPort.{AtomPort}
+use Rattle.lmn_instr.specs.declared.instr.Instr.{Instr}
+use Rattle.lmn_instr.specs.declared.instr.Instr.TheVariants.{IsGround, EqGround, NeqGround}
+use Rattle.lmn_instr.specs.Running.{Registers, Holds, IsContext, atoms_set}
+use Rattle.lmn_machine.specs.declared.registers.SetRegisters.{SetRegisters}
+use Rattle.lmn_machine.specs.Searching.{Agrees, AreHeld, Stepped, InOrder, HasGivenPart, IsWholeApart}
+use Rattle.lmn_heap.specs.Sound.{Sound}
+use Rattle.lmn_machine.proofs.Stepping.{extends_itself}
+use Rattle.lmn_machine.proofs.Lone.{GivesPart, part_stepped}
+
+module _ {A M : Type 0} (atom : A → ℕ) (membrane : M → ℕ) (h : Heap) where
+  from_context : (g : SetRegisters A M) (c x y : ℕ) (s : Registers) (p : AtomPort) (m : M) → c ≡ length g.atoms → Agrees atom membrane g s → slice_get g.membranes y ≡ Some m →
+      IsContext h c s kind.Ground x p y → IsWholeApart atom h g.atoms (membrane m) (s.images.part x)
+  from_context g c x y s p m n t place k = record {
+    whole = subst (λ j. StandsWhole (atom_map h) (s.images.part x) j) (t.membranes y m place) k.whole;
+    apart = λ b r. record { differ = λ j a e d. k.apart b j r (let w = slice_get_within g.atoms j a e in omega (arith, w, n)) (t.atoms j a e ∙ d) };
+  }
+
+  to_context : (g : SetRegisters A M) (c x y : ℕ) (s : Registers) (p : AtomPort) (m : M) → c ≡ length g.atoms → Agrees atom membrane g s → slice_get g.membranes y ≡ Some m →
+      link_of h (s.images.atom p.atom) p.port ≡ Some (s.images.part x) → IsWholeApart atom h g.atoms (membrane m) (s.images.part x) → IsContext h c s kind.Ground x p y
+  to_context g c x y s p m n t place e k = record {
+    held = e;
+    of_kind = tt;
+    whole = subst (λ j. StandsWhole (atom_map h) (s.images.part x) j) (sym (t.membranes y m place)) k.whole;
+    apart = λ b j r l d.
+        (let there = get_there g.atoms j (subst (λ o. j < o) n l) in
+        (k.apart b r).differ j there.0 there.1 (sym (t.atoms j there.0 there.1) ∙ d));
+  }
+    where
+      get_there : (xs : List A) (j : ℕ) → j < length xs → (b : A) × (slice_get xs j ≡ Some b)
+      get_there [] j l = absurd (omega (arith, l))
+      get_there (x ∷ xs) zero l = (x, refl)
+      get_there (x ∷ xs) (suc j) l = get_there xs j (omega (arith, l))
+
+  -- what the search for a part answers, from the port of a handle in a membrane
+  pub record WholeEnd (g : SetRegisters A M) (a : A) (port : ℕ) (m : M) (o : Option (A × ℕ)) : Type 0 where
+    pub ends : (q : ℕ × ℕ) → option_map (port_id atom) o ≡ Some q → link_of h (atom a) port ≡ Some q
+    pub whole : (q : ℕ × ℕ) → option_map (port_id atom) o ≡ Some q → IsWholeApart atom h g.atoms (membrane m) q
+    pub only : (q : ℕ × ℕ) → link_of h (atom a) port ≡ Some q → IsWholeApart atom h g.atoms (membrane m) q → option_map (port_id atom) o ≡ Some q
+
+  ground_gives : (g : SetRegisters A M) (p : AtomPort) (y : ℕ) (a : A) (m : M) (o : Option (A × ℕ)) → slice_get g.atoms p.atom ≡ Some a → slice_get g.membranes y ≡ Some m → WholeEnd g a p.port m o →
+      GivesPart atom membrane h g (IsGround (length g.parts) p y) o
+  ground_gives g p y a m o from place t = λ c s n r. (
+    λ k. t.only (s.images.part (length g.parts)) (subst (λ j. link_of h j p.port ≡ Some (s.images.part (length g.parts))) (r.atoms p.atom a from) k.held) (from_context g c (length g.parts) y s p m n r place k),
+    λ e. to_context g c (length g.parts) y s p m n r place
+        (subst (λ j. link_of h j p.port ≡ Some (s.images.part (length g.parts))) (sym (r.atoms p.atom a from)) (t.ends (s.images.part (length g.parts)) e)) (t.whole (s.images.part (length g.parts)) e),
+  )
+
+  pub ground_stepped : Sound h → (g k : SetRegisters A M) (result : Bool) (i : Instr) (x : ℕ) (p : AtomPort) (y : ℕ) (a : A) (m : M) (o : Option (A × ℕ)) → i ≡ IsGround x p y → InOrder (length g.atoms) (length g.membranes) (length g.parts) (length g.integers) (i ∷ []) → AreHeld atom membrane h g →
+      slice_get g.atoms p.atom ≡ Some a → slice_get g.membranes y ≡ Some m → IfSome o (λ p. IsAtom h (atom p.0)) → WholeEnd g a p.port m o → HasGivenPart g k result o → Stepped atom membrane h g k result i
+  ground_stepped sound g k result i x p y a m o e order held from place there t given =
+      let u : InOrder (length g.atoms) (length g.membranes) (length g.parts) (length g.integers) (IsGround x p y ∷ []) = subst (λ j. InOrder (length g.atoms) (length g.membranes) (length g.parts) (length g.integers) (j ∷ [])) e order in
+      subst (λ j. Stepped atom membrane h g k result j) (sym (e ∙ ap (λ j. IsGround j p y) u.0.0.0.0))
+      (part_stepped atom membrane h sound g k result (IsGround (length g.parts) p y) p.atom a p.port (membrane m) o from (λ q u. (t.ends q u, t.whole q u)) held there (λ is w. w.1) (λ c w. w) refl (ground_gives g p y a m o from place t) given)
+
+  -- A test of two parts that are set: what it answers is whether their graphs are the same, or not.
+  parts_stepped : (g : SetRegisters A M) (result : Bool) (i : Instr) (P : ℕ × ℕ → ℕ × ℕ → Type 0) (x y : ℕ) (p q : A × ℕ) → AreHeld atom membrane h g → slice_get g.parts x ≡ Some p → slice_get g.parts y ≡ Some q → atoms_set (i ∷ []) ≡ 0 →
+      ((is : List Instr) → InOrder (length g.atoms) (length g.membranes) (length g.parts) (length g.integers) (i ∷ is) → InOrder (length g.atoms) (length g.membranes) (length g.parts) (length g.integers) is) →
+      ((c : ℕ) (s : Registers) → (Holds h c s i → P (s.images.part x) (s.images.part y)) × (P (s.images.part x) (s.images.part y) → Holds h c s i)) →
+      ((result ≡ true → P (port_id atom p) (port_id atom q)) × (P (port_id atom p) (port_id atom q) → result ≡ true)) → Stepped atom membrane h g g result i
+  parts_stepped g result i P x y p q held at_x at_y none next means given = record {
+    held = held;
+    extends = extends_itself atom membrane h g;
+    holds = λ t c s n a. (means c s).1 (subst (λ u. P u (s.images.part y)) (sym (a.parts x p at_x)) (subst (λ u. P (port_id atom p) u) (sym (a.parts y q at_y)) (given.0 t)));
+    only = λ c s n a u. (given.1 (subst (λ w. P w (port_id atom q)) (a.parts x p at_x) (subst (λ w. P (s.images.part x) w) (a.parts y q at_y) ((means c s).0 u))), a);
+    count = λ t. omega (arith, none);
+    order = λ t is o. next is o;
+  }
+
+  pub equal_stepped : (g : SetRegisters A M) (result : Bool) (i : Instr) (x y : ℕ) (p q : A × ℕ) → i ≡ EqGround x y → AreHeld atom membrane h g → slice_get g.parts x ≡ Some p → slice_get g.parts y ≡ Some q →
+      ((result ≡ true → SameGraph (atom_map h) (port_id atom p) (atom_map h) (port_id atom q)) × (SameGraph (atom_map h) (port_id atom p) (atom_map h) (port_id atom q) → result ≡ true)) → Stepped atom membrane h g g result i
+  equal_stepped g result i x y p q e held at_x at_y given = subst (λ j. Stepped atom membrane h g g result j) (sym e)
+      (parts_stepped g result (EqGround x y) (λ u w. SameGraph (atom_map h) u (atom_map h) w) x y p q held at_x at_y refl (λ is o. o.1) (λ c s. (λ t. t, λ t. t)) given)
+
+  pub differ_stepped : (g : SetRegisters A M) (result : Bool) (i : Instr) (x y : ℕ) (p q : A × ℕ) → i ≡ NeqGround x y → AreHeld atom membrane h g → slice_get g.parts x ≡ Some p → slice_get g.parts y ≡ Some q →
+      ((result ≡ true → SameGraph (atom_map h) (port_id atom p) (atom_map h) (port_id atom q) → ⊥) × ((SameGraph (atom_map h) (port_id atom p) (atom_map h) (port_id atom q) → ⊥) → result ≡ true)) → Stepped atom membrane h g g result i
+  differ_stepped g result i x y p q e held at_x at_y given = subst (λ j. Stepped atom membrane h g g result j) (sym e)
+      (parts_stepped g result (NeqGround x y) (λ u w. SameGraph (atom_map h) u (atom_map h) w → ⊥) x y p q held at_x at_y refl (λ is o. o.1) (λ c s. (λ t. t, λ t. t)) given)

@@ -1,0 +1,13 @@
+pub mod Lemmas
+pub mod Stepping
+pub mod Candidates
+pub mod Choosing
+pub mod Calling
+pub mod FromOne
+pub mod Climbing
+pub mod Giving
+pub mod Lone
+pub mod Worked
+pub mod Owning
+pub mod Contexts
+pub mod Apart

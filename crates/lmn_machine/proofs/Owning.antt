@@ -1,0 +1,214 @@
+-- Own marks that are set for a test and taken back.
+use Rattle.std.proofs.Common.{◌≡◌, ℕ, zero, suc, ◌+◌, ◌<◌, List, [], ◌∷◌, length, map, Option, Some, None, IsSome, refl, sym, ap, subst, ◌∙◌, inl, inr, arith}
+use Rattle.std.proofs.lemmas.Bool.{cases_eq}
+use Rattle.std.proofs.lemmas.List.{get_or-set_same, get_or-set_other}
+use Rattle.std.specs.Option.{option_map, option_and_then}
+use Rattle.std.specs.Prelude.{slice_get, slice_set, slice_index_or}
+use Rattle.lmn_base.specs.Graphs.{AtomMap, Reached, StandsWhole}
+use Rattle.lmn_heap.specs.Heap.{Heap, HeapAtom, In, IsAtom, IsMem, alter, with_mark, marked, mark_of, links_of, marks_of, arity_of, home_by}
+use Rattle.lmn_heap.specs.Sound.{Sound}
+use Rattle.lmn_heap.specs.Graphs.{atom_map}
+use Rattle.lmn_heap.proofs.Listing.{alter_at, alter_away}
+use Rattle.lmn_ground.specs.Spread.{Clean, IsGround, own_mark}
+use Rattle.lmn_ground.proofs.PaintLaws.{in_or_not}
+use Rattle.lmn_machine.specs.Searching.{IsWholeApart, Unmarked, own_marked}
+
+-- the atom with another own mark; 0 stands for the one that it has
+abbrev paint : ℕ → Option HeapAtom → Option HeapAtom
+paint zero x = x
+paint (suc v) x = option_map (λ y. with_mark (length y.links) (suc v) y) x
+
+abbrev painted : Heap → (ℕ → ℕ) → Heap
+painted h v = record h { atoms = λ a. paint (v a) (h.atoms a) }
+
+paint_links : (v : ℕ) (o : Option HeapAtom) → links_of (paint v o) ≡ links_of o
+paint_links zero o = refl
+paint_links (suc v) None = refl
+paint_links (suc v) (Some x) = refl
+
+arity_painted : (h : Heap) (v : ℕ → ℕ) (a : ℕ) → arity_of (painted h v) a ≡ arity_of h a
+arity_painted h v a = ap length (paint_links (v a) (h.atoms a))
+
+is_paint : (v : ℕ) (o : Option HeapAtom) → IsSome o → IsSome (paint v o)
+is_paint zero o i = i
+is_paint (suc v) None i = absurd (cc)
+is_paint (suc v) (Some x) i = refl
+
+map_painted : (h : Heap) (v : ℕ → ℕ) → atom_map (painted h v) ≡ atom_map h
+map_painted h v = λ i. record {
+  functor = λ z. functors (v z) (h.atoms z) i;
+  partner = λ p. (ap (λ xs. slice_index_or xs p.1 None) (paint_links (v p.0) (h.atoms p.0))) i;
+  home = λ z. homes (v z) (h.atoms z) i;
+}
+  where
+    functors : (w : ℕ) (o : Option HeapAtom) → option_map (λ x. x.functor) (paint w o) ≡ option_map (λ x. x.functor) o
+    functors zero o = refl
+    functors (suc w) None = refl
+    functors (suc w) (Some x) = refl
+
+    homes : (w : ℕ) (o : Option HeapAtom) → option_and_then (λ x. home_by x.place) (paint w o) ≡ option_and_then (λ x. home_by x.place) o
+    homes zero o = refl
+    homes (suc w) None = refl
+    homes (suc w) (Some x) = refl
+
+set_twice : (xs : List ℕ) (k v w : ℕ) → slice_set (slice_set xs k v) k w ≡ slice_set xs k w
+set_twice [] k v w = refl
+set_twice (x ∷ xs) zero v w = refl
+set_twice (x ∷ xs) (suc k) v w = ap (λ ys. x ∷ ys) (set_twice xs k v w)
+
+set_same : (xs : List ℕ) (k : ℕ) → slice_index_or xs k 0 ≡ 0 → slice_set xs k 0 ≡ xs
+set_same [] k e = refl
+set_same (x ∷ xs) zero e = ap (λ y. y ∷ xs) (sym e)
+set_same (x ∷ xs) (suc k) e = ap (λ ys. x ∷ ys) (set_same xs k e)
+
+same_painted : (s : Heap) (f g : ℕ → Option HeapAtom) → ((a : ℕ) → f a ≡ g a) → record s { atoms = f } ≡ record s { atoms = g }
+same_painted s f g h = ap (λ (k : ℕ → Option HeapAtom). let t : Heap = record s { atoms = k } in t) (λ i a. h a i)
+
+-- one own mark more
+painted_set : (h : Heap) (v : ℕ → ℕ) (b m : ℕ) → Unmarked h → marked (painted h v) b (arity_of h b) m ≡ painted h (alter v b (λ _. m))
+painted_set h v b m z = same_painted h _ _ (λ a. elim (cases_eq a b) [
+  | inl e ↦ subst (λ (x : ℕ). alter (painted h v).atoms b (option_map (with_mark (arity_of h b) m)) x ≡ paint (alter v b (λ _. m) x) (h.atoms x)) (sym e)
+      (alter_at (painted h v).atoms b (option_map (with_mark (arity_of h b) m)) ∙ by m (v b) (h.atoms b) (z b (arity_of h b)) ∙ ap (λ (w : ℕ). paint w (h.atoms b)) (sym (alter_at v b (λ _. m))))
+  | inr d ↦ alter_away (painted h v).atoms b (option_map (with_mark (arity_of h b) m)) a d ∙ ap (λ (w : ℕ). paint w (h.atoms a)) (sym (alter_away v b (λ _. m) a d))
+])
+  where
+    by : (m w : ℕ) (o : Option HeapAtom) → slice_index_or (marks_of o) (length (links_of o)) 0 ≡ 0 → option_map (with_mark (length (links_of o)) m) (paint w o) ≡ paint m o
+    by zero zero None z = refl
+    by zero (suc w) None z = refl
+    by (suc m) zero None z = refl
+    by (suc m) (suc w) None z = refl
+    by zero zero (Some x) z = ap (λ (xs : List ℕ). Some (record x { marks = xs })) (set_same x.marks (length x.links) z)
+    by zero (suc w) (Some x) z = ap (λ (xs : List ℕ). Some (record x { marks = xs })) (set_twice x.marks (length x.links) (suc w) 0 ∙ set_same x.marks (length x.links) z)
+    by (suc m) zero (Some x) z = refl
+    by (suc m) (suc w) (Some x) z = ap (λ (xs : List ℕ). Some (record x { marks = xs })) (set_twice x.marks (length x.links) (suc w) (suc m))
+
+painted_none : (h : Heap) (v : ℕ → ℕ) → ((a : ℕ) → v a ≡ 0) → painted h v ≡ h
+painted_none h v e = same_painted h _ _ (λ a. ap (λ (w : ℕ). paint w (h.atoms a)) (e a))
+
+-- the own marks after those of a list were set
+abbrev all_at : List ℕ → ℕ → (ℕ → ℕ) → ℕ → ℕ
+all_at [] m v = v
+all_at (x ∷ xs) m v = all_at xs m (alter v x (λ _. m))
+
+own_all : (h : Heap) (xs : List ℕ) (m : ℕ) (v : ℕ → ℕ) → Unmarked h → own_marked m xs (painted h v) ≡ painted h (all_at xs m v)
+own_all h [] m v z = refl
+own_all h (x ∷ xs) m v z =
+    ap (λ (k : ℕ). own_marked m xs (marked (painted h v) x k m)) (arity_painted h v x)
+    ∙ ap (λ (s : Heap). own_marked m xs s) (painted_set h v x m z)
+    ∙ own_all h xs m (alter v x (λ _. m)) z
+
+keeps : (xs : List ℕ) (m : ℕ) (v : ℕ → ℕ) (b : ℕ) → v b ≡ m → all_at xs m v b ≡ m
+keeps [] m v b e = e
+keeps (x ∷ xs) m v b e = keeps xs m (alter v x (λ _. m)) b (elim (cases_eq b x) [
+  | inl s ↦ subst (λ (z : ℕ). alter v x (λ _. m) z ≡ m) (sym s) (alter_at v x (λ _. m))
+  | inr d ↦ alter_away v x (λ _. m) b d ∙ e
+])
+
+in_all : (xs : List ℕ) (m : ℕ) (v : ℕ → ℕ) (b : ℕ) → In b xs → all_at xs m v b ≡ m
+in_all [] m v b i = absurd i
+in_all (x ∷ xs) m v b (inl e) = keeps xs m (alter v x (λ _. m)) b (subst (λ (z : ℕ). alter v x (λ _. m) z ≡ m) e (alter_at v x (λ _. m)))
+in_all (x ∷ xs) m v b (inr i) = in_all xs m (alter v x (λ _. m)) b i
+
+off_all : (xs : List ℕ) (m : ℕ) (v : ℕ → ℕ) (b : ℕ) → (In b xs → ⊥) → all_at xs m v b ≡ v b
+off_all [] m v b n = refl
+off_all (x ∷ xs) m v b n = off_all xs m (alter v x (λ _. m)) b (λ i. n (inr i)) ∙ alter_away v x (λ _. m) b (λ e. n (inl (sym e)))
+
+abbrev none : ℕ → ℕ
+none a = 0
+
+-- the heap while the marks are set
+marked_is : (h : Heap) (xs : List ℕ) (m : ℕ) → Unmarked h → own_marked m xs h ≡ painted h (all_at xs m none)
+marked_is h xs m z = ap (λ (s : Heap). own_marked m xs s) (sym (painted_none h none (λ a. refl))) ∙ own_all h xs m none z
+
+-- marks that are taken back
+pub taken_back_own : (h k t : Heap) (xs : List ℕ) → Unmarked h → k ≡ own_marked 1 xs h → t ≡ own_marked 0 xs k → t ≡ h
+taken_back_own h k t xs z e f =
+    f ∙ ap (λ (s : Heap). own_marked 0 xs s) (e ∙ marked_is h xs 1 z) ∙ own_all h xs 0 (all_at xs 1 none) z
+    ∙ painted_none h (all_at xs 0 (all_at xs 1 none)) (λ a. elim (in_or_not a xs) [ inl i ↦ in_all xs 0 (all_at xs 1 none) a i | inr n ↦ off_all xs 0 (all_at xs 1 none) a n ∙ off_all xs 1 none a n ])
+
+pub there_own : (h k : Heap) (xs : List ℕ) (m a : ℕ) → Unmarked h → k ≡ own_marked m xs h → IsAtom h a → IsAtom k a
+there_own h k xs m a z e i = subst (λ (s : Heap). IsAtom s a) (sym (e ∙ marked_is h xs m z)) (is_paint (all_at xs m none a) (h.atoms a) i)
+
+pub mem_own : (h k : Heap) (xs : List ℕ) (m n : ℕ) → Unmarked h → k ≡ own_marked m xs h → IsMem h n → IsMem k n
+mem_own h k xs m n z e i = subst (λ (s : Heap). IsMem s n) (sym (e ∙ marked_is h xs m z)) i
+
+pub port_own : (h k : Heap) (xs : List ℕ) (m a i : ℕ) → Unmarked h → k ≡ own_marked m xs h → i < arity_of h a → i < arity_of k a
+port_own h k xs m a i z e l = subst (λ (n : ℕ). i < n) (sym (ap (λ (s : Heap). arity_of s a) (e ∙ marked_is h xs m z) ∙ arity_painted h (all_at xs m none) a)) l
+
+pub clean_own_all : (h k : Heap) (xs : List ℕ) (m : ℕ) → Unmarked h → k ≡ own_marked m xs h → Clean k
+clean_own_all h k xs m z e = subst (λ (s : Heap). Clean s) (sym (e ∙ marked_is h xs m z)) (λ a i l.
+    by (all_at xs m none a) (h.atoms a) i (subst (λ (n : ℕ). i < n) (arity_painted h (all_at xs m none) a) l) (z a i))
+  where
+    by : (w : ℕ) (o : Option HeapAtom) (i : ℕ) → i < length (links_of o) → slice_index_or (marks_of o) i 0 ≡ 0 → slice_index_or (marks_of (paint w o)) i 0 ≡ 0
+    by zero o i l e = e
+    by (suc w) None i l e = e
+    by (suc w) (Some x) i l e = get_or-set_other x.marks (length x.links) i (suc w) 0 (λ (q : i ≡ length x.links). absurd (omega (arith, q, l))) ∙ e
+
+-- an atom of a list of handles
+in_handles : {A : Type 0} (atom : A → ℕ) (xs : List A) (k : ℕ) (b : A) → slice_get xs k ≡ Some b → In (atom b) (map atom xs)
+in_handles atom [] k b e = absurd (cc)
+in_handles atom (x ∷ xs) zero b e = let s : x ≡ b = cc in inl (ap atom s)
+in_handles atom (x ∷ xs) (suc k) b e = inr (in_handles atom xs k b e)
+
+of_handles : {A : Type 0} (atom : A → ℕ) (xs : List A) (n : ℕ) → In n (map atom xs) → (k : ℕ) × ((b : A) × (slice_get xs k ≡ Some b) × (atom b ≡ n))
+of_handles atom [] n i = absurd i
+of_handles atom (x ∷ xs) n (inl e) = (0, (x, refl, e))
+of_handles atom (x ∷ xs) n (inr i) = let r = of_handles atom xs n i in (suc r.0, r.1)
+
+module _ {A : Type 0} (atom : A → ℕ) (h k : Heap) (handles : List A) (z : Unmarked h) (e : k ≡ own_marked 1 (map atom handles) h) where
+  abbrev marks : ℕ → ℕ
+  marks = all_at (map atom handles) 1 none
+
+  is : k ≡ painted h marks
+  is = e ∙ marked_is h (map atom handles) 1 z
+
+  same_map : atom_map k ≡ atom_map h
+  same_map = ap atom_map is ∙ map_painted h marks
+
+  matched : Sound h → (a : ℕ) → IsAtom h a → In a (map atom handles) → own_mark k a ≡ 1
+  matched sound a there i =
+      let m : marks a ≡ 1 = in_all (map atom handles) 1 none a i in
+      ap (λ (s : Heap). own_mark s a) is ∙ ap (λ (n : ℕ). mark_of (painted h marks) a n) (arity_painted h marks a)
+      ∙ ap (λ (w : ℕ). slice_index_or (marks_of (paint w (h.atoms a))) (arity_of h a) 0) m
+      ∙ by (h.atoms a) there (sound.shaped.marks a there)
+    where
+      by : (o : Option HeapAtom) → IsSome o → length (marks_of o) ≡ length (links_of o) + 1 → slice_index_or (marks_of (paint 1 o)) (length (links_of o)) 0 ≡ 1
+      by None s l = absurd (cc)
+      by (Some x) s l = get_or-set_same x.marks (length x.links) 1 0 (omega (arith, l))
+
+  unmatched : (a : ℕ) → (In a (map atom handles) → ⊥) → own_mark k a ≡ 0
+  unmatched a n =
+      ap (λ (s : Heap). own_mark s a) is ∙ ap (λ (j : ℕ). mark_of (painted h marks) a j) (arity_painted h marks a)
+      ∙ ap (λ (w : ℕ). slice_index_or (marks_of (paint w (h.atoms a))) (arity_of h a) 0) (off_all (map atom handles) 1 none a n) ∙ z a (arity_of h a)
+
+  pub ground_whole : Sound h → ((j : ℕ) (b : A) → slice_get handles j ≡ Some b → IsAtom h (atom b)) → (root : ℕ × ℕ) (m : ℕ) → IsGround k root m → IsWholeApart atom h handles m root
+  ground_whole sound held root m g = record {
+    whole = subst (λ (n : AtomMap). StandsWhole n root m) same_map g.whole;
+    apart = λ b r. record {
+      differ = λ j a s t. g.unmatched b (subst (λ (n : AtomMap). Reached n root b) (sym same_map) r)
+          (matched sound b (subst (λ (x : ℕ). IsAtom h x) t (held j a s)) (subst (λ (x : ℕ). In x (map atom handles)) t (in_handles atom handles j a s)));
+    };
+  }
+
+  pub whole_ground : (root : ℕ × ℕ) (m : ℕ) → IsWholeApart atom h handles m root → IsGround k root m
+  whole_ground root m w = record {
+    whole = subst (λ (n : AtomMap). StandsWhole n root m) (sym same_map) w.whole;
+    unmatched = λ a r t. (
+        let n = unmatched a (λ i. (let o = of_handles atom handles a i in (w.apart a (subst (λ (n : AtomMap). Reached n root a) same_map r)).differ o.0 o.1.0 o.1.1 o.1.2)) in
+        absurd (omega (arith, n, t)));
+  }
+
+-- while the handles are gone through
+pub own_next : {A : Type 0} (atom : A → ℕ) (goal h k : Heap) (m : ℕ) (xs ys : List A) (x : A) → xs ≡ x ∷ ys → own_marked m (map atom xs) h ≡ goal → k ≡ marked h (atom x) (arity_of h (atom x)) m → own_marked m (map atom ys) k ≡ goal
+own_next atom goal h k m xs ys x e g s =
+    ap (λ (t : Heap). own_marked m (map atom ys) t) s ∙ (sym (ap (λ zs. own_marked m (map atom zs) h) e) ∙ g)
+
+pub there_marked : (h k : Heap) (a i m b : ℕ) → k ≡ marked h a i m → IsAtom h b → IsAtom k b
+there_marked h k a i m b e there = subst (λ (s : Heap). IsAtom s b) (sym e) (elim (cases_eq b a) [
+  | inl s ↦ subst (λ (x : ℕ). IsSome (alter h.atoms a (option_map (with_mark i m)) x)) (sym s) (subst IsSome (sym (alter_at h.atoms a (option_map (with_mark i m)))) (by (h.atoms a) (subst (λ (x : ℕ). IsAtom h x) s there)))
+  | inr d ↦ subst IsSome (sym (alter_away h.atoms a (option_map (with_mark i m)) b d)) there
+])
+  where
+    by : (o : Option HeapAtom) → IsSome o → IsSome (option_map (with_mark i m) o)
+    by None s = absurd (cc)
+    by (Some x) s = refl

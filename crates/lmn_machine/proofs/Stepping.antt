@@ -1,0 +1,216 @@
+-- Steps of the machine, and what is passed so far.
+use Rattle.std.proofs.Common.{ℕ, ℤ, zero, suc, ◌≡◌, ◌≤◌, ◌+◌, List, [], ◌∷◌, Some, refl, arith, ap, sym, subst, length, take, ◌∙◌}
+use Rattle.std.specs.Prelude.{Bool, true, false, slice_get}
+use Rattle.lmn_heap.specs.Heap.{Heap}
+use Rattle.lmn_solid.specs.Embeddings.{NotAfter}
+use Rattle.lmn_instr.specs.declared.instr.AtomPort.{AtomPort}
+use Rattle.lmn_instr.specs.declared.instr.Instr.{Instr}
+use Rattle.lmn_instr.specs.declared.instr.Instr.TheVariants.{FindAtom, Deref, AnyMem, IsInt, IsUnary, IsGround, EqGround, NeqGround, GetInt, Const, Add, Sub, Mul, Div, Mod}
+use Rattle.lmn_instr.specs.Running.{Registers, Holds, AllHold, atoms_set, choices}
+use Rattle.lmn_machine.specs.declared.registers.SetRegisters.{SetRegisters}
+use Rattle.lmn_machine.specs.Searching.{Agrees, AreHeld, Extends, SetsAll, AllSet, Reads, Searched, Stepped, ChoosesNone, InOrder}
+
+take_all : {A : Type 0} (xs : List A) → take (length xs) xs ≡ xs
+take_all [] = refl
+take_all (x ∷ xs) = ap (λ k. x ∷ k) (take_all xs)
+
+-- tests set no register
+
+check_order : (i : Instr) (a m g v : ℕ) (is : List Instr) → Reads a m v i → InOrder a m g v (i ∷ is) → InOrder a m g v is
+check_order (FindAtom x y f) a m g v is r o = absurd r
+check_order (AnyMem x y) a m g v is r o = absurd r
+check_order (Deref x p e) a m g v is r o = absurd r
+check_order (IsInt x p y) a m g v is r o = absurd r
+check_order (IsUnary x p y) a m g v is r o = absurd r
+check_order (IsGround x p y) a m g v is r o = absurd r
+check_order (EqGround x y) a m g v is r o = absurd r
+check_order (NeqGround x y) a m g v is r o = absurd r
+check_order (GetInt x y) a m g v is r o = absurd r
+check_order (Const x z) a m g v is r o = absurd r
+check_order (Add x y z) a m g v is r o = absurd r
+check_order (Sub x y z) a m g v is r o = absurd r
+check_order (Mul x y z) a m g v is r o = absurd r
+check_order (Div x y z) a m g v is r o = absurd r
+check_order (Mod x y z) a m g v is r o = absurd r
+check_order _ a m g v is r o = o.1
+
+-- an instruction without a choice that sets nothing is a test of registers that are set
+pub test_reads : (i : Instr) (a m g v : ℕ) → ChoosesNone i → ((x : ℕ) (p : AtomPort) (e : ℕ) → i ≡ Deref x p e → ⊥) → ((x : ℕ) (p : AtomPort) (y : ℕ) → i ≡ IsInt x p y → ⊥) → ((x : ℕ) (p : AtomPort) (y : ℕ) → i ≡ IsUnary x p y → ⊥) → ((x : ℕ) (p : AtomPort) (y : ℕ) → i ≡ IsGround x p y → ⊥) → ((x y : ℕ) → i ≡ EqGround x y → ⊥) → ((x y : ℕ) → i ≡ NeqGround x y → ⊥) → ((x y : ℕ) → i ≡ GetInt x y → ⊥) → ((x : ℕ) (z : ℤ) → i ≡ Const x z → ⊥) →
+    ((x y z : ℕ) → i ≡ Add x y z → ⊥) → ((x y z : ℕ) → i ≡ Sub x y z → ⊥) → ((x y z : ℕ) → i ≡ Mul x y z → ⊥) → ((x y z : ℕ) → i ≡ Div x y z → ⊥) → ((x y z : ℕ) → i ≡ Mod x y z → ⊥) → InOrder a m g v (i ∷ []) → Reads a m v i
+test_reads (FindAtom x y f) a m g v c d k l b eq ne w n p q r s t o = absurd c
+test_reads (AnyMem x y) a m g v c d k l b eq ne w n p q r s t o = absurd c
+test_reads (Deref x y e) a m g v c d k l b eq ne w n p q r s t o = absurd (d x y e refl)
+test_reads (IsInt x y z) a m g v c d k l b eq ne w n p q r s t o = absurd (k x y z refl)
+test_reads (IsUnary x y z) a m g v c d k l b eq ne w n p q r s t o = absurd (l x y z refl)
+test_reads (IsGround x y z) a m g v c d k l b eq ne w n p q r s t o = absurd (b x y z refl)
+test_reads (EqGround x y) a m g v c d k l b eq ne w n p q r s t o = absurd (eq x y refl)
+test_reads (NeqGround x y) a m g v c d k l b eq ne w n p q r s t o = absurd (ne x y refl)
+test_reads (GetInt x y) a m g v c d k l b eq ne w n p q r s t o = absurd (w x y refl)
+test_reads (Const x z) a m g v c d k l b eq ne w n p q r s t o = absurd (n x z refl)
+test_reads (Add x y z) a m g v c d k l b eq ne w n p q r s t o = absurd (p x y z refl)
+test_reads (Sub x y z) a m g v c d k l b eq ne w n p q r s t o = absurd (q x y z refl)
+test_reads (Mul x y z) a m g v c d k l b eq ne w n p q r s t o = absurd (r x y z refl)
+test_reads (Div x y z) a m g v c d k l b eq ne w n p q r s t o = absurd (s x y z refl)
+test_reads (Mod x y z) a m g v c d k l b eq ne w n p q r s t o = absurd (t x y z refl)
+test_reads _ a m g v c d k l b eq ne w n p q r s t o = o.0
+
+-- c is the number of all atom registers, where a are set and code is run next
+abbrev pub AllAtEnd : ℕ → ℕ → List Instr → Type 0
+AllAtEnd c a code = c ≡ a + atoms_set code
+
+all_set : (c a m g v : ℕ) (i : Instr) (is : List Instr) → AllAtEnd c a (i ∷ is) → InOrder a m g v (i ∷ is) → AllSet c a i
+all_set c a m g v (IsInt x p y) is e o = let n = o.0.1 in omega (arith, e, n)
+all_set c a m g v (IsUnary x p y) is e o = let n = o.0.1 in omega (arith, e, n)
+all_set c a m g v (IsGround x p y) is e o = let n = o.0.1 in omega (arith, e, n)
+all_set c a m g v _ is e o = tt
+
+sets_more : (i : Instr) (is : List Instr) → atoms_set (i ∷ is) ≡ atoms_set (i ∷ []) + atoms_set is
+sets_more (FindAtom x y f) is = omega arith
+sets_more (Deref x p k) is = omega arith
+sets_more _ is = omega arith
+
+test_sets_none : (a m v : ℕ) (i : Instr) → Reads a m v i → atoms_set (i ∷ []) ≡ 0
+test_sets_none a m v (FindAtom x y f) r = absurd r
+test_sets_none a m v (Deref x p k) r = absurd r
+test_sets_none a m v _ r = refl
+
+choice_none : (h : Heap) (s : Registers) (i : Instr) (is : List Instr) → ChoosesNone i → choices h s (i ∷ is) ≡ choices h s is
+choice_none h s (FindAtom x y f) is n = absurd n
+choice_none h s (AnyMem x y) is n = absurd n
+choice_none h s _ is n = refl
+
+module _ {A M : Type 0} (atom : A → ℕ) (membrane : M → ℕ) (h : Heap) where
+  pub extends_itself : (g : SetRegisters A M) → Extends g g
+  extends_itself g = record { atoms = take_all g.atoms; membranes = take_all g.membranes; parts = take_all g.parts; integers = take_all g.integers }
+
+  pub check_stepped : (g : SetRegisters A M) (result : Bool) (i : Instr) → AreHeld atom membrane h g → Reads (length g.atoms) (length g.membranes) (length g.integers) i →
+      ((c : ℕ) (s : Registers) → Agrees atom membrane g s → (result ≡ true → Holds h c s i) × (Holds h c s i → result ≡ true)) → Stepped atom membrane h g g result i
+  check_stepped g result i held r f = record {
+    held = held;
+    extends = extends_itself g;
+    holds = λ t c s n a. (f c s a).0 t;
+    only = λ c s n a t. ((f c s a).1 t, a);
+    count = λ t. (let n = test_sets_none (length g.atoms) (length g.membranes) (length g.integers) i r in omega (arith, n));
+    order = λ t is o. check_order i (length g.atoms) (length g.membranes) (length g.parts) (length g.integers) is r o;
+  }
+
+  deref_is : (i : Instr) (x : ℕ) (p : AtomPort) (e a m n v : ℕ) → i ≡ Deref x p e → InOrder a m n v (i ∷ []) → i ≡ Deref a p e
+  deref_is i x p e a m n v t o = let u : InOrder a m n v (Deref x p e ∷ []) = subst (λ j. InOrder a m n v (j ∷ [])) t o in t ∙ ap (λ y. Deref y p e) u.0.0
+
+  pub deref_stepped : (g k : SetRegisters A M) (result : Bool) (i : Instr) (x : ℕ) (p : AtomPort) (e : ℕ) → i ≡ Deref x p e → InOrder (length g.atoms) (length g.membranes) (length g.parts) (length g.integers) (i ∷ []) →
+      AreHeld atom membrane h k → Extends g k → (result ≡ true → length k.atoms ≡ length g.atoms + 1) → k.membranes ≡ g.membranes → k.parts ≡ g.parts → k.integers ≡ g.integers →
+      (result ≡ true → (c : ℕ) (s : Registers) → Agrees atom membrane k s → Holds h c s (Deref (length g.atoms) p e)) →
+      ((c : ℕ) (s : Registers) → Agrees atom membrane g s → Holds h c s (Deref (length g.atoms) p e) → (result ≡ true) × Agrees atom membrane k s) → Stepped atom membrane h g k result i
+  deref_stepped g k result i x p e t o held extends more same same_parts same_integers holds only =
+      let is_deref = deref_is i x p e (length g.atoms) (length g.membranes) (length g.parts) (length g.integers) t o in
+      record {
+        held = held;
+        extends = extends;
+        holds = λ u c s n a. subst (λ j. Holds h c s j) (sym is_deref) (holds u c s a);
+        only = λ c s n a u. only c s a (subst (λ j. Holds h c s j) is_deref u);
+        count = λ u. more u ∙ ap (λ j. length g.atoms + atoms_set (j ∷ [])) (sym is_deref);
+        order = λ u is v. (let w : InOrder (length g.atoms) (length g.membranes) (length g.parts) (length g.integers) (Deref (length g.atoms) p e ∷ is) = subst (λ j. InOrder (length g.atoms) (length g.membranes) (length g.parts) (length g.integers) (j ∷ is)) is_deref v in
+            subst (λ n. InOrder n (length k.membranes) (length k.parts) (length k.integers) is) (sym (more u))
+            (subst (λ ms. InOrder (length g.atoms + 1) (length ms) (length k.parts) (length k.integers) is) (sym same)
+            (subst (λ ps. InOrder (length g.atoms + 1) (length g.membranes) (length ps) (length k.integers) is) (sym same_parts)
+            (subst (λ zs. InOrder (length g.atoms + 1) (length g.membranes) (length g.parts) (length zs) is) (sym same_integers) w.1))));
+      }
+
+  -- What is passed of code, with the registers g0 at first and g now: the rest decides.
+  pub record Passed (g0 g : SetRegisters A M) (code0 code : List Instr) : Type 0 where
+    pub held : AreHeld atom membrane h g
+    pub extends : Extends g0 g
+    pub order : InOrder (length g.atoms) (length g.membranes) (length g.parts) (length g.integers) code
+    pub back : (c : ℕ) (s : Registers) → SetsAll c g0 code0 → Agrees atom membrane g s → AllHold h c s code → AllHold h c s code0
+    pub on : (c : ℕ) (s : Registers) → SetsAll c g0 code0 → Agrees atom membrane g0 s → AllHold h c s code0 → Agrees atom membrane g s × AllHold h c s code
+    pub count : length g0.atoms + atoms_set code0 ≡ length g.atoms + atoms_set code
+    pub same : (s : Registers) → choices h s code0 ≡ choices h s code
+
+  get_take : {X : Type 0} (n k : ℕ) (x : X) (xs : List X) → slice_get (take n xs) k ≡ Some x → slice_get xs k ≡ Some x
+  get_take zero k x xs e = absurd (cc)
+  get_take (suc n) k x [] e = e
+  get_take (suc n) zero x (y ∷ xs) e = e
+  get_take (suc n) (suc k) x (y ∷ xs) e = get_take n k x xs e
+
+  pub agrees_before : (g k : SetRegisters A M) (s : Registers) → Extends g k → Agrees atom membrane k s → Agrees atom membrane g s
+  agrees_before g k s e a = record {
+    atoms = λ i x t. a.atoms i x (get_take (length g.atoms) i x k.atoms (subst (λ xs. slice_get xs i ≡ Some x) (sym e.atoms) t));
+    membranes = λ i x t. a.membranes i x (get_take (length g.membranes) i x k.membranes (subst (λ xs. slice_get xs i ≡ Some x) (sym e.membranes) t));
+    parts = λ i x t. a.parts i x (get_take (length g.parts) i x k.parts (subst (λ xs. slice_get xs i ≡ Some x) (sym e.parts) t));
+    integers = λ i x t. a.integers i x (get_take (length g.integers) i x k.integers (subst (λ xs. slice_get xs i ≡ Some x) (sym e.integers) t));
+  }
+
+  take_length : {X : Type 0} (n : ℕ) (xs ys : List X) → take n xs ≡ ys → length ys ≤ length xs
+  take_length zero xs ys e = let t : length ys ≡ 0 = ap length (sym e) in omega arith
+  take_length (suc n) [] ys e = let t : length ys ≡ 0 = ap length (sym e) in omega arith
+  take_length (suc n) (x ∷ xs) [] e = omega arith
+  take_length (suc n) (x ∷ xs) (y ∷ ys) e = let k = take_length n xs ys (tail_same e) in omega (arith, k)
+    where
+      tail_same : x ∷ take n xs ≡ y ∷ ys → take n xs ≡ ys
+      tail_same t = cc
+
+  take_take : {X : Type 0} (n m : ℕ) (xs : List X) → n ≤ m → take n (take m xs) ≡ take n xs
+  take_take zero m xs l = refl
+  take_take (suc n) zero xs l = absurd (omega arith)
+  take_take (suc n) (suc m) [] l = refl
+  take_take (suc n) (suc m) (x ∷ xs) l = ap (λ k. x ∷ k) (take_take n m xs (omega arith))
+
+  takes_on : {X : Type 0} (xs ys zs : List X) → take (length xs) ys ≡ xs → take (length ys) zs ≡ ys → take (length xs) zs ≡ xs
+  takes_on xs ys zs e f = sym (take_take (length xs) (length ys) zs (take_length (length xs) ys xs e)) ∙ (ap (λ k. take (length xs) k) f ∙ e)
+
+  pub extends_on : (g k l : SetRegisters A M) → Extends g k → Extends k l → Extends g l
+  extends_on g k l e f = record {
+    atoms = takes_on g.atoms k.atoms l.atoms e.atoms f.atoms;
+    membranes = takes_on g.membranes k.membranes l.membranes e.membranes f.membranes;
+    parts = takes_on g.parts k.parts l.parts e.parts f.parts;
+    integers = takes_on g.integers k.integers l.integers e.integers f.integers;
+  }
+
+  pub passed_nothing : (g : SetRegisters A M) (code : List Instr) → AreHeld atom membrane h g → InOrder (length g.atoms) (length g.membranes) (length g.parts) (length g.integers) code → Passed g g code code
+  passed_nothing g code held order = record { held = held; extends = extends_itself g; order = order; back = λ c s n a t. t; on = λ c s n a t. (a, t); count = refl; same = λ s. refl }
+
+  -- the instruction ahead knows the number of atom registers
+  ahead_set : (g0 g : SetRegisters A M) (code0 is : List Instr) (i : Instr) → Passed g0 g code0 (i ∷ is) → (c : ℕ) → SetsAll c g0 code0 → AllSet c (length g.atoms) i
+  ahead_set g0 g code0 is i p c n = all_set c (length g.atoms) (length g.membranes) (length g.parts) (length g.integers) i is (n ∙ p.count) p.order
+
+  pub passed_one : (g0 g k : SetRegisters A M) (code0 is : List Instr) (i : Instr) → ChoosesNone i → Passed g0 g code0 (i ∷ is) → Stepped atom membrane h g k true i → Passed g0 k code0 is
+  passed_one g0 g k code0 is i n p t = record {
+    held = t.held;
+    extends = extends_on g0 g k p.extends t.extends;
+    order = t.order refl is p.order;
+    back = λ c s m a u. p.back c s m (agrees_before g k s t.extends a) (t.holds refl c s (ahead_set g0 g code0 is i p c m) a, u);
+    on = λ c s m a u. (let v = p.on c s m a u in ((t.only c s (ahead_set g0 g code0 is i p c m) v.0 v.1.0).1, v.1.1));
+    count = (let a = p.count in let b = t.count refl in let d = sets_more i is in omega (arith, a, b, d));
+    same = λ s. p.same s ∙ choice_none h s i is n;
+  }
+
+  pub failed : (g0 g k : SetRegisters A M) (code0 is : List Instr) (i : Instr) → Passed g0 g code0 (i ∷ is) → Stepped atom membrane h g k false i → Searched atom membrane h g0 k false code0
+  failed g0 g k code0 is i p t = record {
+    held = t.held;
+    extends = extends_on g0 g k p.extends t.extends;
+    found = λ u. absurd (cc);
+    none = λ u c s m a v. (let w = p.on c s m a v in let z = (t.only c s (ahead_set g0 g code0 is i p c m) w.0 w.1.0).0 in cc);
+  }
+
+  pub passed_all : (g0 g : SetRegisters A M) (code0 : List Instr) → Passed g0 g code0 [] → Searched atom membrane h g0 g true code0
+  passed_all g0 g code0 p = record {
+    held = p.held;
+    extends = p.extends;
+    found = λ u. record {
+      holds = λ c s m a. p.back c s m a tt;
+      first = λ c s t m a b v. subst (λ cs. NotAfter cs (choices h t code0)) (sym (p.same s)) tt;
+    };
+    none = λ u. absurd (cc);
+  }
+
+  pub passed_search : (g0 g k : SetRegisters A M) (code0 code : List Instr) (result : Bool) → Passed g0 g code0 code → Searched atom membrane h g k result code → Searched atom membrane h g0 k result code0
+  passed_search g0 g k code0 code result p t = record {
+    held = t.held;
+    extends = extends_on g0 g k p.extends t.extends;
+    found = λ u. record {
+      holds = λ c s m a. p.back c s m (agrees_before g k s t.extends a) ((t.found u).holds c s (m ∙ p.count) a);
+      first = λ c s v m a b w. (let z = p.on c v m b w in
+          subst (λ cs. NotAfter cs (choices h v code0)) (sym (p.same s)) (subst (λ cs. NotAfter (choices h s code) cs) (sym (p.same v)) ((t.found u).first c s v (m ∙ p.count) a z.0 z.1)));
+    };
+    none = λ u c s m a v. (let w = p.on c s m a v in t.none u c s (m ∙ p.count) w.0 w.1);
+  }

@@ -1,0 +1,49 @@
+use Rattle.std.proofs.Common.{◌≡◌, ◌+◌, ◌-◌, ◌*◌, length, drop, Some}
+use Rattle.std.specs.Prelude.{IfSome}
+use Rattle.std.specs.Option.{option_map}
+use Rattle.lmn_heap.specs.Lists.{from}
+use Rattle.lmn_heap.specs.Heap.{functor_of, home_of, parent_of, atoms_in, mems_in}
+use Rattle.lmn_heap.specs.Functors.{with_functor}
+use Rattle.lmn_machine.proofs.Stepping.{Passed}
+use Rattle.lmn_machine.proofs.Choosing.{AtomsLeft, MembranesLeft}
+use Rattle.lmn_machine.proofs.search.+search.Given as goal
+
+abbrev pub decreases-search : goal.decreases-search
+decreases-search g l = 2 * (length l.code.now - l.at) + 1
+
+abbrev pub decreases-search_atom : goal.decreases-search_atom
+decreases-search_atom g l = 2 * (length l.code.now - l.at)
+
+abbrev pub decreases-search_membrane : goal.decreases-search_membrane
+decreases-search_membrane g l = 2 * (length l.code.now - l.at)
+
+abbrev pub invariant-search-loop-i : goal.invariant-search-loop-i
+invariant-search-loop-i g l = record {
+  same : g.S.LinkStore.heap l.store ≡ g.S.LinkStore.heap l.fn.store;
+  passed : Passed g.S.LinkStore.atom_id g.S.LinkStore.mem_id (g.S.LinkStore.heap l.fn.store) l.fn.set l.set (drop l.at l.code) (drop l.i l.code);
+}
+
+abbrev pub invariant-search_atom-loop-candidate : goal.invariant-search_atom-loop-candidate
+invariant-search_atom-loop-candidate g l = record {
+  same : g.S.LinkStore.heap l.store ≡ g.S.LinkStore.heap l.fn.store;
+  set : l.set ≡ l.fn.set;
+  left : AtomsLeft g.S.LinkStore.atom_id g.S.LinkStore.mem_id (g.S.LinkStore.heap l.fn.store) l.fn.set (drop l.at l.code) l.fn.functor l.fn.place l.candidate;
+  there : IfSome l.candidate (λ a. (functor_of (g.S.LinkStore.heap l.fn.store) (g.S.LinkStore.atom_id a) ≡ Some l.fn.functor) ×
+      (home_of (g.S.LinkStore.heap l.fn.store) (g.S.LinkStore.atom_id a) ≡ Some (g.S.LinkStore.mem_id l.fn.place)));
+}
+
+abbrev pub decreases-search_atom-loop-candidate : goal.decreases-search_atom-loop-candidate
+decreases-search_atom-loop-candidate g l =
+    length (from (option_map g.S.LinkStore.atom_id l.candidate) (with_functor (g.S.LinkStore.heap l.fn.store) l.fn.functor (atoms_in (g.S.LinkStore.heap l.fn.store) (g.S.LinkStore.mem_id l.fn.place))))
+
+abbrev pub invariant-search_membrane-loop-candidate : goal.invariant-search_membrane-loop-candidate
+invariant-search_membrane-loop-candidate g l = record {
+  same : g.S.LinkStore.heap l.store ≡ g.S.LinkStore.heap l.fn.store;
+  set : l.set ≡ l.fn.set;
+  left : MembranesLeft g.S.LinkStore.atom_id g.S.LinkStore.mem_id (g.S.LinkStore.heap l.fn.store) l.fn.set (drop l.at l.code) l.fn.place l.candidate;
+  there : IfSome l.candidate (λ m. parent_of (g.S.LinkStore.heap l.fn.store) (g.S.LinkStore.mem_id m) ≡ Some (g.S.LinkStore.mem_id l.fn.place));
+}
+
+abbrev pub decreases-search_membrane-loop-candidate : goal.decreases-search_membrane-loop-candidate
+decreases-search_membrane-loop-candidate g l =
+    length (from (option_map g.S.LinkStore.mem_id l.candidate) (mems_in (g.S.LinkStore.heap l.fn.store) (g.S.LinkStore.mem_id l.fn.place)))

@@ -1,0 +1,162 @@
+-- What the machine knows while it looks for a match.
+use Rattle.std.specs.Prelude.{ℕ, ℤ, Bool, true, false, ◌≡◌, ◌<◌, ◌+◌, List, [], ◌∷◌, ◌++◌, Option, Some, None, length, slice_get, take}
+use Rattle.lmn_base.specs.Graphs.{Reached, StandsWhole}
+use Rattle.lmn_heap.specs.Heap.{Heap, IsAtom, IsMem, port_id, home_of, link_of, mark_of, arity_of, marked}
+use Rattle.lmn_heap.specs.Graphs.{atom_map}
+use Rattle.lmn_instr.specs.declared.instr.Instr.{Instr}
+use Rattle.lmn_instr.specs.declared.instr.Instr.TheVariants.{FindAtom, Deref, Func, InMem, NeqAtom, Joined, AnyMem, NeqMem, NMems, NoRules, NotIn, IsInt, IsUnary, IsGround, NAtoms, EqGround, NeqGround, GetInt, Const, Add, Sub, Mul, Div, Mod, Lt, Le, Gt, Ge, Eq, Ne, Commit}
+use Rattle.lmn_instr.specs.Running.{Registers, Holds, AllHold, atoms_set, choices}
+use Rattle.lmn_solid.specs.Embeddings.{NotAfter}
+use Rattle.lmn_solid.specs.Guards.{IsUnary as IsUnaryPart}
+use Rattle.lmn_machine.specs.declared.registers.SetRegisters.{SetRegisters}
+use Rattle.lmn_machine.specs.declared.stack.TheConstants.{ROOM}
+
+-- Registers that have the values of those that are set, where `atom` and `membrane` number the handles of a store.
+pub record Agrees {A M : Type 0} (atom : A → ℕ) (membrane : M → ℕ) (g : SetRegisters A M) (s : Registers) : Type 0 where
+  pub atoms : (k : ℕ) (a : A) → slice_get g.atoms k ≡ Some a → s.images.atom k ≡ atom a
+  pub membranes : (k : ℕ) (m : M) → slice_get g.membranes k ≡ Some m → s.images.membrane k ≡ membrane m
+  pub parts : (k : ℕ) (p : A × ℕ) → slice_get g.parts k ≡ Some p → s.images.part k ≡ port_id atom p
+  pub integers : (k : ℕ) (z : ℤ) → slice_get g.integers k ≡ Some z → s.integer k ≡ z
+
+-- none of these handles is of an atom
+pub record AreApart {A : Type 0} (atom : A → ℕ) (handles : List A) (n : ℕ) : Type 0 where
+  pub differ : (k : ℕ) (b : A) → slice_get handles k ≡ Some b → atom b ≡ n → ⊥
+
+-- A part that was found is entered from an atom in registers, stands whole in a membrane, and has no atom in registers.
+pub record IsHeldPart {A : Type 0} (atom : A → ℕ) (h : Heap) (handles : List A) (p : A × ℕ) : Type 0 where
+  pub port : p.1 < arity_of h (atom p.0)
+  pub holder : (j i : ℕ) × ((a : A) × (slice_get handles j ≡ Some a) × (link_of h (atom a) i ≡ Some (port_id atom p)))
+  pub whole : (m : ℕ) × StandsWhole (atom_map h) (port_id atom p) m
+  pub apart : (b : ℕ) → Reached (atom_map h) (port_id atom p) b → AreApart atom handles b
+
+-- the handles in the registers are of atoms, of membranes and of the roots of parts
+pub record AreHeld {A M : Type 0} (atom : A → ℕ) (membrane : M → ℕ) (h : Heap) (g : SetRegisters A M) : Type 0 where
+  pub atoms : (k : ℕ) (a : A) → slice_get g.atoms k ≡ Some a → IsAtom h (atom a)
+  pub membranes : (k : ℕ) (m : M) → slice_get g.membranes k ≡ Some m → IsMem h (membrane m)
+  pub parts : (k : ℕ) (p : A × ℕ) → slice_get g.parts k ≡ Some p → IsAtom h (atom p.0)
+  pub whole : (k : ℕ) (p : A × ℕ) → slice_get g.parts k ≡ Some p → IsHeldPart atom h g.atoms p
+
+-- more registers are set, and the earlier ones are as they were
+pub record Extends {A M : Type 0} (g k : SetRegisters A M) : Type 0 where
+  pub atoms : take (length g.atoms) k.atoms ≡ g.atoms
+  pub membranes : take (length g.membranes) k.membranes ≡ g.membranes
+  pub parts : take (length g.parts) k.parts ≡ g.parts
+  pub integers : take (length g.integers) k.integers ≡ g.integers
+
+-- c atom registers are set when all of the code is run that begins with the registers g.
+abbrev pub SetsAll : {A M : Type 0} → ℕ → SetRegisters A M → List Instr → Type 0
+SetsAll c g code = c ≡ length g.atoms + atoms_set code
+
+-- Code succeeds with the registers that are set at last, and with any that agree with them; and whatever else agrees with
+-- those that were set at first chooses no earlier candidates.
+pub record Found {A M : Type 0} (atom : A → ℕ) (membrane : M → ℕ) (h : Heap) (g k : SetRegisters A M) (code : List Instr) : Type 0 where
+  pub holds : (c : ℕ) (s : Registers) → SetsAll c g code → Agrees atom membrane k s → AllHold h c s code
+  pub first : (c : ℕ) (s t : Registers) → SetsAll c g code → Agrees atom membrane k s → Agrees atom membrane g t → AllHold h c t code → NotAfter (choices h s code) (choices h t code)
+
+-- What a search answers, that began with the registers g and ends with k. Where it is false, the code succeeds with no
+-- registers that agree with g.
+pub record Searched {A M : Type 0} (atom : A → ℕ) (membrane : M → ℕ) (h : Heap) (g k : SetRegisters A M) (result : Bool) (code : List Instr) : Type 0 where
+  pub held : AreHeld atom membrane h k
+  pub extends : Extends g k
+  pub found : result ≡ true → Found atom membrane h g k code
+  pub none : result ≡ false → (c : ℕ) (s : Registers) → SetsAll c g code → Agrees atom membrane g s → AllHold h c s code → ⊥
+
+-- Tests of registers that are set, where a atoms, m membranes and v integers are. NATOMS with typed contexts isn't run yet.
+abbrev pub Reads : ℕ → ℕ → ℕ → Instr → Type 0
+Reads a m v (Func x f) = x < a
+Reads a m v (InMem x y) = (x < a) × (y < m)
+Reads a m v (NeqAtom x y) = (x < a) × (y < a)
+Reads a m v (Joined p q) = (p.atom < a) × (q.atom < a)
+Reads a m v (NeqMem x y) = (x < m) × (y < m)
+Reads a m v (NMems x n) = x < m
+Reads a m v (NoRules x) = x < m
+Reads a m v (NotIn p x) = (p.atom < a) × (x < m)
+Reads a m v (NAtoms x n gs) = (x < m) × (gs ≡ [])
+Reads a m v (Lt x y) = (x < v) × (y < v)
+Reads a m v (Le x y) = (x < v) × (y < v)
+Reads a m v (Gt x y) = (x < v) × (y < v)
+Reads a m v (Ge x y) = (x < v) × (y < v)
+Reads a m v (Eq x y) = (x < v) × (y < v)
+Reads a m v (Ne x y) = (x < v) × (y < v)
+Reads a m v Commit = Unit {0}
+Reads a m v _ = ⊥
+
+-- x is the number of the next register, and there is room for it
+abbrev pub IsNext : ℕ → ℕ → Type 0
+IsNext x v = (x ≡ v) × (v < ROOM)
+
+-- Head code that sets registers in the order of their numbers, reads none that isn't set, and has no more than there is
+-- room for. So far a atoms, m membranes, g typed contexts and v integers are set. Where a typed context is looked for, all
+-- atoms are set.
+abbrev pub InOrder : ℕ → ℕ → ℕ → ℕ → List Instr → Type 0
+InOrder a m g v [] = Unit {0}
+InOrder a m g v (FindAtom x y f ∷ is) = ((x ≡ a) × (y < m) × (a < ROOM) × (g ≡ 0)) × InOrder (a + 1) m g v is
+InOrder a m g v (Deref x p k ∷ is) = ((x ≡ a) × (p.atom < a) × (a < ROOM) × (g ≡ 0)) × InOrder (a + 1) m g v is
+InOrder a m g v (AnyMem x y ∷ is) = ((x ≡ m) × (y < m) × (m < ROOM)) × InOrder a (m + 1) g v is
+InOrder a m g v (IsInt x p y ∷ is) = ((IsNext x g × (p.atom < a) × (y < m)) × (atoms_set is ≡ 0)) × InOrder a m (g + 1) v is
+InOrder a m g v (IsUnary x p y ∷ is) = ((IsNext x g × (p.atom < a) × (y < m)) × (atoms_set is ≡ 0)) × InOrder a m (g + 1) v is
+InOrder a m g v (IsGround x p y ∷ is) = ((IsNext x g × (p.atom < a) × (y < m)) × (atoms_set is ≡ 0)) × InOrder a m (g + 1) v is
+InOrder a m g v (EqGround x y ∷ is) = ((x < g) × (y < g)) × InOrder a m g v is
+InOrder a m g v (NeqGround x y ∷ is) = ((x < g) × (y < g)) × InOrder a m g v is
+InOrder a m g v (GetInt x y ∷ is) = (IsNext x v × (y < g)) × InOrder a m g (v + 1) is
+InOrder a m g v (Const x z ∷ is) = IsNext x v × InOrder a m g (v + 1) is
+InOrder a m g v (Add x y z ∷ is) = (IsNext x v × (y < v) × (z < v)) × InOrder a m g (v + 1) is
+InOrder a m g v (Sub x y z ∷ is) = (IsNext x v × (y < v) × (z < v)) × InOrder a m g (v + 1) is
+InOrder a m g v (Mul x y z ∷ is) = (IsNext x v × (y < v) × (z < v)) × InOrder a m g (v + 1) is
+InOrder a m g v (Div x y z ∷ is) = (IsNext x v × (y < v) × (z < v)) × InOrder a m g (v + 1) is
+InOrder a m g v (Mod x y z ∷ is) = (IsNext x v × (y < v) × (z < v)) × InOrder a m g (v + 1) is
+InOrder a m g v (i ∷ is) = Reads a m v i × InOrder a m g v is
+
+-- neither FINDATOM nor ANYMEM
+abbrev pub ChoosesNone : Instr → Type 0
+ChoosesNone (FindAtom x y f) = ⊥
+ChoosesNone (AnyMem x y) = ⊥
+ChoosesNone _ = Unit {0}
+
+-- c is the number a of the atom registers that are set, where an instruction speaks of all atom registers
+abbrev pub AllSet : ℕ → ℕ → Instr → Type 0
+AllSet c a (IsInt x p y) = c ≡ a
+AllSet c a (IsUnary x p y) = c ≡ a
+AllSet c a (IsGround x p y) = c ≡ a
+AllSet c a _ = Unit {0}
+
+-- an integer goes into the next register, if there is one
+abbrev pub HasGiven : {A M : Type 0} → SetRegisters A M → SetRegisters A M → Bool → Option ℤ → Type 0
+HasGiven g k result None = (result ≡ false) × (k ≡ g)
+HasGiven g k result (Some z) = (result ≡ true) × (k ≡ record g { integers = g.integers ++ z ∷ [] })
+
+-- likewise the root of a part
+abbrev pub HasGivenPart : {A M : Type 0} → SetRegisters A M → SetRegisters A M → Bool → Option (A × ℕ) → Type 0
+HasGivenPart g k result None = (result ≡ false) × (k ≡ g)
+HasGivenPart g k result (Some p) = (result ≡ true) × (k ≡ record g { parts = g.parts ++ p ∷ [] })
+
+-- An atom of arity 1 that stands in a membrane and is in none of the registers: alone it is a part.
+pub record IsLone {A : Type 0} (atom : A → ℕ) (h : Heap) (handles : List A) (m n : ℕ) : Type 0 where
+  pub unary : IsUnaryPart h (n, 0)
+  pub home : home_of h n ≡ Some m
+  pub apart : AreApart atom handles n
+
+-- every mark of every atom is 0
+abbrev pub Unmarked : Heap → Type 0
+Unmarked h = (a i : ℕ) → mark_of h a i ≡ 0
+
+-- the own marks of these atoms are set, one after the other
+abbrev pub own_marked : ℕ → List ℕ → Heap → Heap
+own_marked v [] h = h
+own_marked v (a ∷ xs) h = own_marked v xs (marked h a (arity_of h a) v)
+
+-- The part entered at a port stands whole in a membrane, and no atom of it is in the registers.
+pub record IsWholeApart {A : Type 0} (atom : A → ℕ) (h : Heap) (handles : List A) (m : ℕ) (root : ℕ × ℕ) : Type 0 where
+  pub whole : StandsWhole (atom_map h) root m
+  pub apart : (b : ℕ) → Reached (atom_map h) root b → AreApart atom handles b
+
+-- What one instruction without a choice does: it is true exactly where the instruction holds of registers that agree, and
+-- then they agree with those that it has set.
+pub record Stepped {A M : Type 0} (atom : A → ℕ) (membrane : M → ℕ) (h : Heap) (g k : SetRegisters A M) (result : Bool) (i : Instr) : Type 0 where
+  pub held : AreHeld atom membrane h k
+  pub extends : Extends g k
+  pub holds : result ≡ true → (c : ℕ) (s : Registers) → AllSet c (length g.atoms) i → Agrees atom membrane k s → Holds h c s i
+  pub only : (c : ℕ) (s : Registers) → AllSet c (length g.atoms) i → Agrees atom membrane g s → Holds h c s i → (result ≡ true) × Agrees atom membrane k s
+  pub count : result ≡ true → length k.atoms ≡ length g.atoms + atoms_set (i ∷ [])
+  pub order : result ≡ true → (is : List Instr) → InOrder (length g.atoms) (length g.membranes) (length g.parts) (length g.integers) (i ∷ is) →
+      InOrder (length k.atoms) (length k.membranes) (length k.parts) (length k.integers) is

@@ -1,0 +1,30 @@
+ghost use Rattle.std.specs.Prelude.{◌≡◌, ℕ, IsTrue, IsFalse};
+ghost use Rattle.lmn_heap.specs.Heap.{IsMem};
+ghost use Rattle.lmn_heap.specs.Sound.{Valid};
+ghost use Rattle.lmn_instr.specs.Running.{Registers, Succeeds, IsFirst};
+ghost use Rattle.lmn_machine.specs.Searching.{Agrees, InOrder, Unmarked};
+
+use crate::registers::SetRegisters;
+use crate::search;
+use lmn_instr::Instr;
+use lmn_store::LinkStore;
+
+/// Looks for the first success of head code in a membrane: the registers then hold it. It takes no memory.
+pub fn find<S: LinkStore>(
+    store: &mut S,
+    code: &[Instr],
+    membrane: S::Mem,
+    set: &mut SetRegisters<S::Atom, S::Mem>,
+) -> bool
+    requires valid { Valid (S.heap store.old) }
+    requires unmarked { Unmarked (S.heap store.old) }
+    requires membrane { IsMem (S.heap store.old) (S.mem_id membrane) }
+    requires order { InOrder 0 1 0 0 code.now }
+    ensures same { S.heap store.new ≡ S.heap store.old }
+    ensures found { IsTrue result → (r : Registers) → Agrees S.atom_id S.mem_id set.new r → IsFirst (S.heap store.old) code.now (S.mem_id membrane) r }
+    ensures none { IsFalse result → (r : Registers) → Succeeds (S.heap store.old) code.now (S.mem_id membrane) r → ⊥ }
+{
+    set.keep(0, 0, 0, 0);
+    set.membranes.push(membrane);
+    search::search(store, code, 0, set)
+}

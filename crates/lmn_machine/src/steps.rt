@@ -1,0 +1,254 @@
+ghost use Rattle.std.specs.Prelude.{◌≡◌, ◌<◌, ◌↔◌, ◌+◌, ℕ, [], ◌∷◌, length, IsTrue};
+ghost use Rattle.lmn_heap.specs.Sound.{Valid};
+ghost use Rattle.lmn_instr.specs.Running.{Registers, Holds};
+ghost use Rattle.lmn_machine.specs.Searching.{Agrees, AreHeld, Extends, Reads, InOrder, ChoosesNone, HasGiven, HasGivenPart, Stepped, Unmarked};
+ghost use Rattle.lmn_instr.specs.declared.instr.Instr.TheVariants.{Deref};
+
+use crate::registers::SetRegisters;
+use crate::stack::ROOM;
+use crate::{checks, integers, parts, whole};
+use lmn_instr::{AtomPort, Instr};
+use lmn_store::LinkStore;
+
+/// Whether a test holds of the registers that are set.
+pub fn check<S: LinkStore>(store: &S, set: &SetRegisters<S::Atom, S::Mem>, instr: &Instr) -> bool
+    requires valid { Valid (S.heap store.now) }
+    requires held { AreHeld S.atom_id S.mem_id (S.heap store.now) set.now }
+    requires reads { Reads (length set.now.atoms) (length set.now.membranes) (length set.now.integers) instr.now }
+    ensures { (c : ℕ) (s : Registers) → Agrees S.atom_id S.mem_id set.now s → (IsTrue result ↔ Holds (S.heap store.now) c s instr.now) }
+{
+    match instr {
+        Instr::Func { atom, functor } => checks::has_functor(
+            store,
+            set.atoms.at(*atom as usize),
+            *functor,
+        ),
+        Instr::InMem { atom, membrane } => checks::stands_in(
+            store,
+            set.atoms.at(*atom as usize),
+            set.membranes.at(*membrane as usize),
+        ),
+        Instr::NeqAtom { atom, other } => checks::atoms_differ(
+            store,
+            set.atoms.at(*atom as usize),
+            set.atoms.at(*other as usize),
+        ),
+        Instr::Joined { port, other } => {
+            checks::are_joined(
+                store,
+                set.atoms.at(port.atom as usize),
+                port.port,
+                set.atoms.at(other.atom as usize),
+                other.port,
+            )
+        }
+        Instr::NeqMem { membrane, other } => checks::membranes_differ(
+            store,
+            set.membranes.at(*membrane as usize),
+            set.membranes.at(*other as usize),
+        ),
+        Instr::NMems { membrane, count } => checks::has_membranes(
+            store,
+            set.membranes.at(*membrane as usize),
+            *count,
+        ),
+        Instr::NoRules { membrane } => checks::has_no_rule(
+            store,
+            set.membranes.at(*membrane as usize),
+        ),
+        Instr::NotIn { port, membrane } => {
+            checks::is_outside(
+                store,
+                set.atoms.at(port.atom as usize),
+                port.port,
+                set.membranes.at(*membrane as usize),
+            )
+        }
+        Instr::NAtoms {
+            membrane,
+            count,
+            ..
+        } => checks::has_atoms(store, set.membranes.at(*membrane as usize), *count),
+        Instr::Lt { left, right } => integers::is_less(
+            set.integers.at(*left as usize),
+            set.integers.at(*right as usize),
+        ),
+        Instr::Le { left, right } => integers::is_at_most(
+            set.integers.at(*left as usize),
+            set.integers.at(*right as usize),
+        ),
+        Instr::Gt { left, right } => integers::is_greater(
+            set.integers.at(*left as usize),
+            set.integers.at(*right as usize),
+        ),
+        Instr::Ge { left, right } => integers::is_at_least(
+            set.integers.at(*left as usize),
+            set.integers.at(*right as usize),
+        ),
+        Instr::Eq { left, right } => integers::are_equal(
+            set.integers.at(*left as usize),
+            set.integers.at(*right as usize),
+        ),
+        Instr::Ne { left, right } => integers::are_different(
+            set.integers.at(*left as usize),
+            set.integers.at(*right as usize),
+        ),
+        Instr::Commit => true,
+        _ => false,
+    }
+}
+
+/// Follows the link of a port: it must lead to the given port of an atom, which goes into the next register.
+pub fn follow<S: LinkStore>(
+    store: &S,
+    set: &mut SetRegisters<S::Atom, S::Mem>,
+    from: AtomPort,
+    port: u8,
+) -> bool
+    requires held { AreHeld S.atom_id S.mem_id (S.heap store.now) set.old }
+    requires from { from.atom < length set.old.atoms }
+    requires room { length set.old.atoms < ROOM }
+    requires no_part { length set.old.parts ≡ 0 }
+    ensures held { AreHeld S.atom_id S.mem_id (S.heap store.now) set.new }
+    ensures extends { Extends set.old set.new }
+    ensures atoms { IsTrue result → length set.new.atoms ≡ length set.old.atoms + 1 }
+    ensures membranes { set.new.membranes ≡ set.old.membranes }
+    ensures parts { set.new.parts ≡ set.old.parts }
+    ensures integers { set.new.integers ≡ set.old.integers }
+    ensures holds { IsTrue result → (c : ℕ) (s : Registers) → Agrees S.atom_id S.mem_id set.new s → Holds (S.heap store.now) c s (Deref (length set.old.atoms) from port) }
+    ensures only { (c : ℕ) (s : Registers) → Agrees S.atom_id S.mem_id set.old s → Holds (S.heap store.now) c s (Deref (length set.old.atoms) from port) →
+        IsTrue result × Agrees S.atom_id S.mem_id set.new s }
+{
+    match checks::end(store, set.atoms.at(from.atom as usize), from.port) {
+        Some((atom, entered)) => {
+            if entered == port {
+                set.atoms.push(atom);
+                true
+            } else {
+                false
+            }
+        }
+        None => false,
+    }
+}
+
+/// Puts an integer into the next register, if there is one.
+pub fn set_integer<A: Copy, M: Copy>(set: &mut SetRegisters<A, M>, value: Option<i64>) -> bool
+    requires room { length set.old.integers < ROOM }
+    ensures { HasGiven set.old set.new result value }
+{
+    match value {
+        Some(z) => {
+            set.integers.push(z);
+            true
+        }
+        None => false,
+    }
+}
+
+/// Puts the root of a part into the next register, if there is one.
+pub fn set_part<A: Copy, M: Copy>(set: &mut SetRegisters<A, M>, root: Option<(A, u8)>) -> bool
+    requires room { length set.old.parts < ROOM }
+    ensures { HasGivenPart set.old set.new result root }
+{
+    match root {
+        Some(p) => {
+            set.parts.push(p);
+            true
+        }
+        None => false,
+    }
+}
+
+/// Runs an instruction that makes no choice.
+pub fn step<S: LinkStore>(
+    store: &mut S,
+    set: &mut SetRegisters<S::Atom, S::Mem>,
+    instr: &Instr,
+) -> bool
+    requires valid { Valid (S.heap store.old) }
+    requires unmarked { Unmarked (S.heap store.old) }
+    requires held { AreHeld S.atom_id S.mem_id (S.heap store.old) set.old }
+    requires order { InOrder (length set.old.atoms) (length set.old.membranes) (length set.old.parts) (length set.old.integers) (instr.now ∷ []) }
+    requires no_choice { ChoosesNone instr.now }
+    ensures same { S.heap store.new ≡ S.heap store.old }
+    ensures stepped { Stepped S.atom_id S.mem_id (S.heap store.old) set.old set.new result instr.now }
+{
+    match instr {
+        Instr::Deref { from, port, .. } => follow(store, set, *from, *port),
+        Instr::IsInt { port, membrane, .. } => {
+            let from = set.atoms.at(port.atom as usize);
+            let place = set.membranes.at(*membrane as usize);
+            let end = parts::lone_end(store, from, port.port, place, &set.atoms);
+            let root = parts::integer_root(store, end);
+            set_part(set, root)
+        }
+        Instr::IsUnary { port, membrane, .. } => {
+            let from = set.atoms.at(port.atom as usize);
+            let place = set.membranes.at(*membrane as usize);
+            let root = parts::lone_end(store, from, port.port, place, &set.atoms);
+            set_part(set, root)
+        }
+        Instr::IsGround { port, membrane, .. } => {
+            let from = set.atoms.at(port.atom as usize);
+            let place = set.membranes.at(*membrane as usize);
+            let root = whole::whole_end(store, from, port.port, place, &set.atoms);
+            set_part(set, root)
+        }
+        Instr::EqGround { part, other } => {
+            let root = set.parts.at(*part as usize);
+            let other_root = set.parts.at(*other as usize);
+            whole::are_equal(store, root, other_root)
+        }
+        Instr::NeqGround { part, other } => {
+            let root = set.parts.at(*part as usize);
+            let other_root = set.parts.at(*other as usize);
+            whole::are_different(store, root, other_root)
+        }
+        Instr::GetInt { part, .. } => {
+            let root = set.parts.at(*part as usize);
+            let value = parts::integer_of(store, root.0);
+            set_integer(set, value)
+        }
+        Instr::Const { value, .. } => {
+            let number = integers::constant(value);
+            set_integer(set, number)
+        }
+        Instr::Add { left, right, .. } => {
+            let value = integers::sum(
+                set.integers.at(*left as usize),
+                set.integers.at(*right as usize),
+            );
+            set_integer(set, value)
+        }
+        Instr::Sub { left, right, .. } => {
+            let value = integers::difference(
+                set.integers.at(*left as usize),
+                set.integers.at(*right as usize),
+            );
+            set_integer(set, value)
+        }
+        Instr::Mul { left, right, .. } => {
+            let value = integers::product(
+                set.integers.at(*left as usize),
+                set.integers.at(*right as usize),
+            );
+            set_integer(set, value)
+        }
+        Instr::Div { left, right, .. } => {
+            let value = integers::quotient(
+                set.integers.at(*left as usize),
+                set.integers.at(*right as usize),
+            );
+            set_integer(set, value)
+        }
+        Instr::Mod { left, right, .. } => {
+            let value = integers::remainder(
+                set.integers.at(*left as usize),
+                set.integers.at(*right as usize),
+            );
+            set_integer(set, value)
+        }
+        _ => check(store, set, instr),
+    }
+}

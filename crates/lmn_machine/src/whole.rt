@@ -1,0 +1,111 @@
+//! Parts of any number of atoms.
+ghost use Rattle.std.specs.Prelude.{◌≡◌, ◌<◌, ◌↔◌, ℕ, List, Some, IfSome, IsTrue, map, slice_get};
+ghost use Rattle.std.specs.Option.{option_map};
+ghost use Rattle.lmn_heap.specs.Heap.{IsAtom, IsMem, arity_of, link_of, port_id, marked};
+ghost use Rattle.lmn_base.specs.Graphs.{SameGraph};
+ghost use Rattle.lmn_heap.specs.Graphs.{atom_map};
+ghost use Rattle.lmn_machine.specs.Searching.{IsHeldPart, IsWholeApart, Unmarked, own_marked};
+
+use crate::checks;
+use crate::stack::Stack;
+use lmn_ground::{equal, is_ground};
+use lmn_store::LinkStore;
+
+/// Sets the own mark of an atom.
+fn set_own<S: LinkStore>(store: &mut S, a: S::Atom, mark: u64)
+    requires { IsAtom (S.heap store.old) (S.atom_id a) }
+    ensures { S.heap store.new ≡ marked (S.heap store.old) (S.atom_id a) (arity_of (S.heap store.old) (S.atom_id a)) mark }
+{
+    let _root = store.root();
+    let own = store.functor(a).arity;
+    store.set_mark(a, own, mark);
+}
+
+/// Sets the own marks of the atoms in registers.
+fn mark_all<S: LinkStore>(store: &mut S, atoms: &Stack<S::Atom>, mark: u64)
+    requires held { (k : ℕ) (b : _) → slice_get atoms.now k ≡ Some b → IsAtom (S.heap store.old) (S.atom_id b) }
+    ensures { S.heap store.new ≡ own_marked mark (map S.atom_id atoms.now) (S.heap store.old) }
+{
+    for i in 0..atoms.len() {
+        set_own(store, atoms.at(i), mark);
+    }
+}
+
+/// Whether the part entered at a port stands whole in a membrane, and none of its atoms is in registers. While it is asked
+/// the atoms in registers have the own mark 1.
+fn is_whole<S: LinkStore>(
+    store: &mut S,
+    root: (S::Atom, u8),
+    m: S::Mem,
+    atoms: &Stack<S::Atom>,
+) -> bool
+    requires unmarked { Unmarked (S.heap store.old) }
+    requires atom { IsAtom (S.heap store.old) (S.atom_id root.0) }
+    requires port { root.1 < arity_of (S.heap store.old) (S.atom_id root.0) }
+    requires membrane { IsMem (S.heap store.old) (S.mem_id m) }
+    requires held { (k : ℕ) (b : _) → slice_get atoms.now k ≡ Some b → IsAtom (S.heap store.old) (S.atom_id b) }
+    ensures whole { IsTrue result ↔ IsWholeApart S.atom_id (S.heap store.old) atoms.now (S.mem_id m) (S.atom_id root.0, root.1) }
+    ensures same { S.heap store.new ≡ S.heap store.old }
+{
+    let _root = store.root();
+    mark_all(store, atoms, 1);
+    let whole = is_ground(store, root, m);
+    mark_all(store, atoms, 0);
+    whole
+}
+
+/// The other end of a port, where the part entered there stands whole and apart.
+pub fn whole_end<S: LinkStore>(
+    store: &mut S,
+    from: S::Atom,
+    port: u8,
+    m: S::Mem,
+    atoms: &Stack<S::Atom>,
+) -> Option<(S::Atom, u8)>
+    requires unmarked { Unmarked (S.heap store.old) }
+    requires atom { IsAtom (S.heap store.old) (S.atom_id from) }
+    requires membrane { IsMem (S.heap store.old) (S.mem_id m) }
+    requires held { (k : ℕ) (b : _) → slice_get atoms.now k ≡ Some b → IsAtom (S.heap store.old) (S.atom_id b) }
+    ensures same { S.heap store.new ≡ S.heap store.old }
+    ensures there { IfSome result (λ p. IsAtom (S.heap store.old) (S.atom_id p.0)) }
+    ensures end { (q : ℕ × ℕ) → option_map (port_id S.atom_id) result ≡ Some q → link_of (S.heap store.old) (S.atom_id from) port ≡ Some q }
+    ensures whole { (q : ℕ × ℕ) → option_map (port_id S.atom_id) result ≡ Some q → IsWholeApart S.atom_id (S.heap store.old) atoms.now (S.mem_id m) q }
+    ensures only { (q : ℕ × ℕ) → link_of (S.heap store.old) (S.atom_id from) port ≡ Some q → IsWholeApart S.atom_id (S.heap store.old) atoms.now (S.mem_id m) q →
+        option_map (port_id S.atom_id) result ≡ Some q }
+{
+    match checks::end(store, from, port) {
+        Some((root, entered)) => {
+            if is_whole(store, (root, entered), m, atoms) {
+                Some((root, entered))
+            } else {
+                None
+            }
+        }
+        None => None,
+    }
+}
+
+/// Whether two parts that were found are equal as rooted graphs.
+pub fn are_equal<S: LinkStore>(store: &mut S, x: (S::Atom, u8), y: (S::Atom, u8)) -> bool
+    requires unmarked { Unmarked (S.heap store.old) }
+    requires x { IsAtom (S.heap store.old) (S.atom_id x.0) }
+    requires y { IsAtom (S.heap store.old) (S.atom_id y.0) }
+    requires held { (handles : List _) × IsHeldPart S.atom_id (S.heap store.old) handles x × IsHeldPart S.atom_id (S.heap store.old) handles y }
+    ensures same { S.heap store.new ≡ S.heap store.old }
+    ensures equal { IsTrue result ↔ SameGraph (atom_map (S.heap store.old)) (S.atom_id x.0, x.1) (atom_map (S.heap store.old)) (S.atom_id y.0, y.1) }
+{
+    let _root = store.root();
+    equal(store, x, y)
+}
+
+/// Whether two parts that were found differ as rooted graphs.
+pub fn are_different<S: LinkStore>(store: &mut S, x: (S::Atom, u8), y: (S::Atom, u8)) -> bool
+    requires unmarked { Unmarked (S.heap store.old) }
+    requires x { IsAtom (S.heap store.old) (S.atom_id x.0) }
+    requires y { IsAtom (S.heap store.old) (S.atom_id y.0) }
+    requires held { (handles : List _) × IsHeldPart S.atom_id (S.heap store.old) handles x × IsHeldPart S.atom_id (S.heap store.old) handles y }
+    ensures same { S.heap store.new ≡ S.heap store.old }
+    ensures different { IsTrue result ↔ (SameGraph (atom_map (S.heap store.old)) (S.atom_id x.0, x.1) (atom_map (S.heap store.old)) (S.atom_id y.0, y.1) → ⊥) }
+{
+    !are_equal(store, x, y)
+}
