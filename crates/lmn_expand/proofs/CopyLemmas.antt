@@ -1,0 +1,397 @@
+-- The copy of what a head keeps.
+use Rattle.std.proofs.Common.{◌≡◌, ℕ, zero, suc, ◌+◌, ◌<◌, ◌≤◌, ◌⊎◌, inl, inr, Bool, true, false, ◌==◌, if◌then◌else◌, List, [], ◌∷◌, ◌++◌, map, length, take, get_or, slice_get, slice_index_or, Some, All, refl, sym, ap, ◌∙◌, subst, arith}
+use Rattle.std.specs.Prelude.{min, Result, Ok, Err, IfOk, OnOk}
+use Rattle.std.specs.List.{flat_map}
+use Rattle.std.proofs.Math.Nat.{min-eq_left, min-eq_right}
+use Rattle.std.proofs.lemmas.Bool.{cases_lt}
+use Rattle.std.proofs.lemmas.List.{append_assoc, append-nil, length-append, map-append, take_all, take_more}
+use Rattle.std.proofs.lemmas.List.Recursion.{is_count_by}
+use Rattle.std.proofs.lemmas.Option.{same_Some, slice_get_within}
+use Rattle.lmn_base.specs.declared.level.Leaf as base
+use Rattle.lmn_base.specs.declared.level.Level as base_level
+use Rattle.lmn_base.specs.declared.level.Level.{out-Level}
+use Rattle.lmn_base.specs.declared.memory.NoMemory.{NoMemory}
+use Rattle.lmn_base.specs.declared.level.Occ.{Occ}
+use Rattle.lmn_base.specs.Levels.{leaf_occurrences, leaves_of, links_of}
+use Rattle.lmn_base.proofs.ItemLemmas.{leaves_apart}
+use Rattle.lmn_congruence.specs.Rules.{Name}
+use Rattle.lmn_numbering.specs.Renumbered.{renumbered, renumbered_leaf}
+use Rattle.lmn_plain.specs.Expanded as expanded
+use Rattle.lmn_plain.specs.Expanded.{levels, renamed, renamed_leaf}
+use Rattle.lmn_plain.specs.Parts.{Parts, level_of}
+use Rattle.lmn_plain.specs.Keys.{In, index_of, IsKey}
+use Rattle.lmn_plain.specs.Links.{Link, same_link, times, written, fresh, freshened}
+use Rattle.lmn_plain.proofs.SomeNumbers.{index_below, index_one, link_same, link_itself}
+use Rattle.lmn_plain.specs.Plains.{Each}
+use Rattle.lmn_expand.specs.Built.{IsLeaf, IsLevel, IsPart}
+use Rattle.lmn_expand.specs.Glossaries.{Reading}
+use Rattle.lmn_expand.specs.Scopes.{IsScope}
+use Rattle.lmn_expand.specs.declared.part.Part.{Part}
+use Rattle.lmn_expand.specs.declared.scope.Scope.{Scope}
+use Rattle.lmn_expand.proofs.BuiltLemmas.{leaves_links_by, links_in_by, levels_each, renamed_by, renamed_leaves_by, renumbered_by, renumbered_leaves_by}
+use Rattle.lmn_expand.proofs.EachLemmas.{each_append, each_map}
+use Rattle.lmn_expand.proofs.GrowingLemmas.{in_either, key_more}
+use Rattle.lmn_expand.proofs.ScopeLemmas.{key_new, scope_new}
+use Rattle.lmn_expand.specs.Copies.{Copies, Counts, Freshens, IsFreshOrSame, NoneFresh, leaf_links, leaves_links, levels_links, new_link, often}
+
+min_is : (a b : ℕ) → ((min a b ≡ a) × (a ≤ b)) ⊎ ((min a b ≡ b) × (b ≤ a))
+min_is a b = elim (cases_lt a b) [
+  | inl l ↦ inl (min-eq_left (omega (arith, l)), omega (arith, l))
+  | inr l ↦ inr (min-eq_right l, l)
+]
+
+min_again : (a b : ℕ) → min 3 (min 3 a + b) ≡ min 3 (a + b)
+min_again a b = by (min_is 3 a) (min_is 3 (min 3 a + b)) (min_is 3 (a + b))
+  where
+    by : ((min 3 a ≡ 3) × (3 ≤ a)) ⊎ ((min 3 a ≡ a) × (a ≤ 3)) → ((min 3 (min 3 a + b) ≡ 3) × (3 ≤ min 3 a + b)) ⊎ ((min 3 (min 3 a + b) ≡ min 3 a + b) × (min 3 a + b ≤ 3))
+        → ((min 3 (a + b) ≡ 3) × (3 ≤ a + b)) ⊎ ((min 3 (a + b) ≡ a + b) × (a + b ≤ 3)) → min 3 (min 3 a + b) ≡ min 3 (a + b)
+    by (inl x) (inl y) (inl z) = y.0 ∙ sym z.0
+    by (inl x) (inl y) (inr z) = omega (arith, x.0, x.1, y.0, y.1, z.0, z.1)
+    by (inl x) (inr y) (inl z) = omega (arith, x.0, x.1, y.0, y.1, z.0, z.1)
+    by (inl x) (inr y) (inr z) = omega (arith, x.0, x.1, y.0, y.1, z.0, z.1)
+    by (inr x) (inl y) (inl z) = y.0 ∙ sym z.0
+    by (inr x) (inl y) (inr z) = omega (arith, x.0, x.1, y.0, y.1, z.0, z.1)
+    by (inr x) (inr y) (inl z) = omega (arith, x.0, x.1, y.0, y.1, z.0, z.1)
+    by (inr x) (inr y) (inr z) = omega (arith, x.0, x.1, y.0, y.1, z.0, z.1)
+
+min_small : (a : ℕ) → min 3 a ≤ 3
+min_small a = elim (min_is 3 a) [
+  | inl x ↦ omega (arith, x.0)
+  | inr x ↦ omega (arith, x.0, x.1)
+]
+
+-- a count by recursion
+abbrev count : ℕ → List ℕ → ℕ
+count x [] = 0
+count x (y ∷ ys) = if x == y then 1 + count x ys else count x ys
+
+often_is : (x : ℕ) (xs : List ℕ) → count x xs ≡ often x xs
+often_is x xs = is_count_by (count x) (λ y. x == y) refl (λ y ys. refl) xs
+
+count_append : (x : ℕ) (xs ys : List ℕ) → count x (xs ++ ys) ≡ count x xs + count x ys
+count_append x [] ys = omega arith
+count_append x (y ∷ xs) ys = by (x == y) (count_append x xs ys)
+  where
+    by : (t : Bool) → count x (xs ++ ys) ≡ count x xs + count x ys
+        → (if t then 1 + count x (xs ++ ys) else count x (xs ++ ys)) ≡ (if t then 1 + count x xs else count x xs) + count x ys
+    by true e = omega (arith, e)
+    by false e = e
+
+often_append : (x : ℕ) (xs ys : List ℕ) → often x (xs ++ ys) ≡ often x xs + often x ys
+often_append x xs ys = omega (arith, count_append x xs ys, often_is x (xs ++ ys), often_is x xs, often_is x ys)
+
+pub counts_none : (a : List ℕ) → Counts [] a a
+counts_none a = record {
+  size = refl;
+  counted = λ x n h l. h ∙ ap Some (none x n l);
+}
+  where
+    none : (x n : ℕ) → n ≤ 3 → n ≡ min 3 (n + often x [])
+    none x n l = elim (min_is 3 (n + often x [])) [
+      | inl y ↦ omega (arith, y.0, y.1, l, often_is x [])
+      | inr y ↦ omega (arith, y.0, y.1, l, often_is x [])
+    ]
+
+pub counts_both : (xs ys a b c : List ℕ) → Counts xs a b → Counts ys b c → Counts (xs ++ ys) a c
+counts_both xs ys a b c h k = record {
+  size = k.size ∙ h.size;
+  counted = λ x n e l. k.counted x (min 3 (n + often x xs)) (h.counted x n e l) (min_small (n + often x xs)) ∙ ap Some (again x n);
+}
+  where
+    again : (x n : ℕ) → min 3 (min 3 (n + often x xs) + often x ys) ≡ min 3 (n + often x (xs ++ ys))
+    again x n =
+        let e : (n + often x xs) + often x ys ≡ n + often x (xs ++ ys) = omega (arith, often_append x xs ys) in
+        min_again (n + often x xs) (often x ys) ∙ ap (min 3) e
+
+counts_as : (xs ys a b : List ℕ) → xs ≡ ys → Counts xs a b → Counts ys a b
+counts_as xs ys a b e h = let P : List ℕ → Type 0 = λ zs. Counts zs a b in subst P e h
+
+flat_map_last : {A B : Type 0} (f : A → List B) (xs : List A) (x : A) → flat_map f (xs ++ x ∷ []) ≡ flat_map f xs ++ f x
+flat_map_last f [] x = append-nil (f x)
+flat_map_last f (y ∷ xs) x = ap (λ z. f y ++ z) (flat_map_last f xs x) ∙ sym (append_assoc (f y) (flat_map f xs) (f x))
+
+taken : {A : Type 0} (xs : List A) (i : ℕ) (d x : A) → i < length xs → x ≡ get_or xs i d → take (i + 1) xs ≡ take i xs ++ x ∷ []
+taken xs i d x l e = take_more xs i d l ∙ ap (λ y. take i xs ++ y ∷ []) (sym e)
+
+pub counts_link : (os : List Occ) (i : ℕ) (d x : Occ) (a b c : List ℕ) → i < length os → x ≡ get_or os i d → Counts (map (λ (o : Occ). o.link) (take i os)) a b
+    → Counts (x.link ∷ []) b c → Counts (map (λ (o : Occ). o.link) (take (i + 1) os)) a c
+counts_link os i d x a b c l e h k =
+    counts_as _ _ a c (sym (map-append (λ (o : Occ). o.link) (take i os) (x ∷ [])) ∙ ap (map (λ (o : Occ). o.link)) (sym (taken os i d x l e)))
+    (counts_both (map (λ (o : Occ). o.link) (take i os)) (x.link ∷ []) a b c h k)
+
+pub counts_leaf : (ls : List base.Leaf) (i : ℕ) (d x : base.Leaf) (a b c : List ℕ) → i < length ls → x ≡ get_or ls i d → Counts (leaves_links (take i ls)) a b
+    → Counts (leaf_links x) b c → Counts (leaves_links (take (i + 1) ls)) a c
+counts_leaf ls i d x a b c l e h k =
+    let f : base.Leaf → List Occ = leaf_occurrences in
+    counts_as _ _ a c (sym (map-append (λ (o : Occ). o.link) (flat_map f (take i ls)) (f x)) ∙ ap (map (λ (o : Occ). o.link)) (sym (flat_map_last f (take i ls) x))
+    ∙ ap leaves_links (sym (taken ls i d x l e)))
+    (counts_both (leaves_links (take i ls)) (leaf_links x) a b c h k)
+
+pub counts_level : (ls : List base_level.Level) (i : ℕ) (d x : base_level.Level) (a b c : List ℕ) → i < length ls → x ≡ get_or ls i d → Counts (levels_links (take i ls)) a b
+    → Counts (links_of x) b c → Counts (levels_links (take (i + 1) ls)) a c
+counts_level ls i d x a b c l e h k =
+    counts_as _ _ a c (sym (flat_map_last links_of (take i ls) x) ∙ ap levels_links (sym (taken ls i d x l e)))
+    (counts_both (levels_links (take i ls)) (links_of x) a b c h k)
+
+-- ---- how often a link and its key stand
+
+abbrev occurs : Link → List Link → ℕ
+occurs a [] = 0
+occurs a (b ∷ bs) = if same_link a b then 1 + occurs a bs else occurs a bs
+
+times_is : (a : Link) (bs : List Link) → occurs a bs ≡ times a bs
+times_is a bs = is_count_by (occurs a) (same_link a) refl (λ b bs. refl) bs
+
+same_test : (s t : Bool) → (s ≡ true → t ≡ true) → (t ≡ true → s ≡ true) → s ≡ t
+same_test true true f g = refl
+same_test true false f g = sym (f refl)
+same_test false true f g = g refl
+same_test false false f g = refl
+
+eq_true : (x y : ℕ) → x ≡ y → (x == y) ≡ true
+eq_true x y e = grind arith
+
+eq_from : (x y : ℕ) → (x == y) ≡ true → x ≡ y
+eq_from x y e = grind arith
+
+test_is : (keys : List Link) (a b : Link) (x y : ℕ) → IsKey keys a x → IsKey keys b y → same_link a b ≡ (x == y)
+test_is keys a b x y h k = same_test (same_link a b) (x == y)
+    (λ e. eq_true x y (sym h.1 ∙ ap (λ c. index_of c keys) (link_same a b e) ∙ k.1))
+    (λ e. ap (same_link a) (sym (index_one a b keys h.0 k.0 (h.1 ∙ eq_from x y e ∙ sym k.1))) ∙ link_itself a)
+
+counts_agree : (keys : List Link) (a : Link) (x : ℕ) → IsKey keys a x → (bs : List Link) (ys : List ℕ) → Each (IsKey keys) bs ys → occurs a bs ≡ count x ys
+counts_agree keys a x h [] [] e = refl
+counts_agree keys a x h [] (y ∷ ys) e = absurd e
+counts_agree keys a x h (b ∷ bs) [] e = absurd e
+counts_agree keys a x h (b ∷ bs) (y ∷ ys) e =
+    ap (λ t. if t then 1 + occurs a bs else occurs a bs) (test_is keys a b x y h e.0)
+    ∙ ap (λ n. if x == y then 1 + n else n) (counts_agree keys a x h bs ys e.1)
+
+pub times_often : (keys : List Link) (a : Link) (x : ℕ) (bs : List Link) (ys : List ℕ) → IsKey keys a x → Each (IsKey keys) bs ys → times a bs ≡ often x ys
+times_often keys a x bs ys h e = sym (times_is a bs) ∙ counts_agree keys a x h bs ys e ∙ often_is x ys
+
+-- two of a count that stops at 3
+pub two_of : (m : ℕ) → (min 3 (0 + m) == 2) ≡ (m == 2)
+two_of m = same_test (min 3 (0 + m) == 2) (m == 2)
+    (λ e. eq_true m 2 (elim (min_is 3 (0 + m)) [
+      | inl x ↦ omega (arith, eq_from (min 3 (0 + m)) 2 e, x.0)
+      | inr x ↦ omega (arith, eq_from (min 3 (0 + m)) 2 e, x.0)
+    ]))
+    (λ e. eq_true (min 3 (0 + m)) 2 (elim (min_is 3 (0 + m)) [
+      | inl x ↦ omega (arith, eq_from m 2 e, x.0, x.1)
+      | inr x ↦ omega (arith, eq_from m 2 e, x.0)
+    ]))
+
+-- ---- counts of whole lists
+
+pub counts_all : (os : List Occ) (i : ℕ) (a b : List ℕ) → length os ≤ i → Counts (map (λ (o : Occ). o.link) (take i os)) a b → Counts (map (λ (o : Occ). o.link) os) a b
+counts_all os i a b l h = counts_as _ _ a b (ap (map (λ (o : Occ). o.link)) (take_all i os l)) h
+
+links_append : (xs ys : List base.Leaf) → leaves_links (xs ++ ys) ≡ leaves_links xs ++ leaves_links ys
+links_append [] ys = refl
+links_append (x ∷ xs) ys =
+    map-append (λ (o : Occ). o.link) (leaf_occurrences x) (flat_map leaf_occurrences (xs ++ ys))
+    ∙ ap (λ zs. leaf_links x ++ zs) (links_append xs ys)
+    ∙ sym (append_assoc (leaf_links x) (leaves_links xs) (leaves_links ys))
+    ∙ ap (λ zs. zs ++ leaves_links ys) (sym (map-append (λ (o : Occ). o.link) (leaf_occurrences x) (flat_map leaf_occurrences xs)))
+
+links_inside : (ls : List base_level.Level) → leaves_links (flat_map leaves_of ls) ≡ levels_links ls
+links_inside [] = refl
+links_inside (l ∷ ls) = links_append (leaves_of l) (flat_map leaves_of ls) ∙ ap (λ ys. links_of l ++ ys) (links_inside ls)
+
+links_out : (l : base_level.Level) → links_of l ≡ leaves_links (out-Level l).leaves ++ levels_links (out-Level l).membranes
+links_out l =
+    ap (λ xs. leaves_links xs) (leaves_apart l) ∙ links_append (out-Level l).leaves (flat_map leaves_of (out-Level l).membranes)
+    ∙ ap (λ ys. leaves_links (out-Level l).leaves ++ ys) (links_inside (out-Level l).membranes)
+
+pub counts_out : (ls : List base_level.Level) (i : ℕ) (d x : base_level.Level) (leaves : List base.Leaf) (inside : List base_level.Level) (a b c e : List ℕ) → i < length ls
+    → x ≡ get_or ls i d → leaves ≡ (out-Level x).leaves → inside ≡ (out-Level x).membranes → Counts (levels_links (take i ls)) a b → Counts (leaves_links leaves) b c
+    → Counts (levels_links inside) c e → Counts (levels_links (take (i + 1) ls)) a e
+counts_out ls i d x leaves inside a b c e l at f g h k m =
+    let P : List base.Leaf → Type 0 = λ z. Counts (leaves_links z) b c in
+    let Q : List base_level.Level → Type 0 = λ z. Counts (levels_links z) c e in
+    counts_level ls i d x a b e l at h
+    (counts_as _ _ b e (sym (links_out x)) (counts_both (leaves_links (out-Level x).leaves) (levels_links (out-Level x).membranes) b c e (subst P f k) (subst Q g m)))
+
+-- ---- fresh links
+
+pub ok_both : (x : Result ℕ NoMemory) (P : ℕ → Type 0) (Q : Type 0) (R : ℕ → Type 0) → ((n : ℕ) → P n → Q → R n) → IfOk x P → OnOk x Q → IfOk x R
+ok_both (Ok n) P Q R f p q = f n p q
+ok_both (Err e) P Q R f p q = tt
+
+not_fresh : (a : Link) (n : Name) → fresh a ≡ written n → ⊥
+not_fresh a n e = absurd (cc)
+
+pub fresh_one : (r : Reading) (keys : List Link) (a : Link) (n new : ℕ) (s t : Scope) → n ≡ 2 → IsScope r keys s → (In (fresh a) keys → ⊥)
+    → new ≡ s.count → t.count ≡ s.count + 1 → t.written ≡ s.written → IsFreshOrSame r keys a n new t
+fresh_one r keys a n new s t two h absent number count same = record {
+  more = fresh a ∷ [];
+  scope = scope_new r keys s t (fresh a) h absent (not_fresh a) count same;
+  only = λ b i. is_fresh b i;
+  key = (let P : Bool → Type 0 = λ z. IsKey (keys ++ fresh a ∷ []) (if z then fresh a else a) new in
+      let Q : ℕ → Type 0 = λ y. IsKey (keys ++ fresh a ∷ []) (fresh a) y in
+      subst P (sym (eq_true n 2 two)) (subst Q (sym (number ∙ h.count)) (key_new keys (fresh a) absent)));
+}
+  where
+    is_fresh : (b : Link) → In b (fresh a ∷ []) → b ≡ fresh a
+    is_fresh b (inl e) = e
+    is_fresh b (inr e) = absurd e
+
+-- the links of the first i counts
+pub record FreshSoFar (r : Reading) (keys : List Link) (counts : List ℕ) (i : ℕ) (new : List ℕ) (s : Scope) : Type 0 where
+  pub more : List Link
+  pub scope : IsScope r (keys ++ more) s
+  pub only : (a : Link) → In a more → (b : Link) × (x : ℕ) × (a ≡ fresh b) × IsKey keys b x × (x < i)
+  pub size : length new ≡ i
+  pub links : (x n : ℕ) (a : Link) → x < i → slice_get counts x ≡ Some n → IsKey keys a x → IsKey (keys ++ more) (if n == 2 then fresh a else a) (new_link new x)
+
+pub no_fresh_yet : (r : Reading) (keys : List Link) (counts new : List ℕ) (s : Scope) → new ≡ [] → IsScope r keys s → FreshSoFar r keys counts 0 new s
+no_fresh_yet r keys counts new s e h = record {
+  more = [];
+  scope = let P : List Link → Type 0 = λ ks. IsScope r ks s in subst P (sym (append-nil keys)) h;
+  only = λ a i. absurd i;
+  size = ap length e;
+  links = λ x n a l. absurd (omega (arith, l));
+}
+
+same_fresh : (a b : Link) → fresh a ≡ fresh b → a ≡ b
+same_fresh a b e = cc
+
+index_get : (xs ys : List ℕ) (x d e : ℕ) → x < length xs → slice_index_or (xs ++ ys) x d ≡ slice_index_or xs x e
+index_get [] ys x d e l = absurd (omega (arith, l))
+index_get (y ∷ xs) ys zero d e l = refl
+index_get (y ∷ xs) ys (suc x) d e l = index_get xs ys x d e (omega (arith, l))
+
+index_last : (xs : List ℕ) (y d : ℕ) → slice_index_or (xs ++ y ∷ []) (length xs) d ≡ y
+index_last [] y d = refl
+index_last (x ∷ xs) y d = index_last xs y d
+
+link_there : (keys : List Link) (i : ℕ) → i < length keys → (a : Link) × (slice_get keys i ≡ Some a)
+link_there [] i l = absurd (omega (arith, l))
+link_there (k ∷ keys) zero l = (k, refl)
+link_there (k ∷ keys) (suc i) l = link_there keys i (omega (arith, l))
+
+-- one more
+pub fresh_next : (r : Reading) (keys : List Link) (counts new new' : List ℕ) (i number n link : ℕ) (s t : Scope) → IsScope r keys s → NoneFresh keys
+    → length counts ≡ length keys → i < length counts → slice_get counts i ≡ Some n → number ≡ i → new' ≡ new ++ link ∷ [] → (s' : Scope)
+    → (f : FreshSoFar r keys counts i new s')
+    → ((ks : List Link) (a : Link) → IsScope r ks s' → IsKey ks a number → (In (fresh a) ks → ⊥) → IsFreshOrSame r ks a n link t)
+    → FreshSoFar r keys counts (i + 1) new' t
+fresh_next r keys counts new new' i number n link s t h none size l at same pushed s' f step =
+    let here = link_there keys i (omega (arith, l, size)) in
+    let a = here.0 in
+    let key : IsKey keys a i = h.apart i a here.1 in
+    let N : ℕ → Type 0 = λ y. IsKey (keys ++ f.more) a y in
+    let done = step (keys ++ f.more) a f.scope (subst N (sym same) (key_more keys f.more a i key)) (λ j. absent a key (in_either (fresh a) keys f.more j)) in
+    record {
+      more = f.more ++ done.more;
+      scope = let P : List Link → Type 0 = λ ks. IsScope r ks t in subst P (append_assoc keys f.more done.more) done.scope;
+      only = λ b j. elim (in_either b f.more done.more j) [
+        | inl k ↦ let o = f.only b k in (o.0, o.1, o.2, o.3, omega (arith, o.4))
+        | inr k ↦ (a, i, done.only b k, key, omega arith)
+      ];
+      size = omega (arith, ap length pushed, length-append new (link ∷ []), f.size);
+      links = λ x m b below g k. by a key done x m b g k (cases_lt x i) below;
+    }
+  where
+    absent : (a : Link) → IsKey keys a i → In (fresh a) keys ⊎ In (fresh a) f.more → ⊥
+    absent a key (inl j) = none a j
+    absent a key (inr j) = let o = f.only (fresh a) j in
+        let same_link : a ≡ o.0 = same_fresh a o.0 o.2 in
+        let at_x : index_of a keys ≡ o.1 = ap (λ c. index_of c keys) same_link ∙ o.3.1 in
+        omega (arith, at_x, key.1, o.4)
+
+    by : (a : Link) → IsKey keys a i → (done : IsFreshOrSame r (keys ++ f.more) a n link t) → (x m : ℕ) (b : Link) → slice_get counts x ≡ Some m → IsKey keys b x
+        → (x < i) ⊎ (i ≤ x) → x < i + 1 → IsKey (keys ++ (f.more ++ done.more)) (if m == 2 then fresh b else b) (new_link new' x)
+    by a key done x m b g k (inl below) _ =
+        let P : List Link → Type 0 = λ ks. IsKey ks (if m == 2 then fresh b else b) (new_link new' x) in
+        let Q : ℕ → Type 0 = λ y. IsKey ((keys ++ f.more) ++ done.more) (if m == 2 then fresh b else b) y in
+        let e : new_link new x ≡ new_link new' x = sym (ap (λ zs. slice_index_or zs x x) pushed ∙ index_get new (link ∷ []) x x x (omega (arith, below, f.size))) in
+        subst P (append_assoc keys f.more done.more) (subst Q e (key_more (keys ++ f.more) done.more _ _ (f.links x m b below g k)))
+    by a key done x m b g k (inr above) l' =
+        let is : x ≡ i = omega (arith, above, l') in
+        let one : b ≡ a = index_one b a keys k.0 key.0 (k.1 ∙ is ∙ sym key.1) in
+        let count : m ≡ n = same_Some m n (sym g ∙ ap (slice_get counts) is ∙ at) in
+        let e : link ≡ new_link new' x = sym (ap (λ zs. slice_index_or zs x x) pushed ∙ ap (λ y. slice_index_or (new ++ link ∷ []) y x) (is ∙ sym f.size) ∙ index_last new link x) in
+        let P : List Link → Type 0 = λ ks. IsKey ks (if m == 2 then fresh b else b) (new_link new' x) in
+        let Q : ℕ → Type 0 = λ y. IsKey ((keys ++ f.more) ++ done.more) (if m == 2 then fresh b else b) y in
+        let R : Link → Type 0 = λ c. IsKey ((keys ++ f.more) ++ done.more) (if m == 2 then fresh c else c) link in
+        let S : ℕ → Type 0 = λ c. IsKey ((keys ++ f.more) ++ done.more) (if c == 2 then fresh a else a) link in
+        subst P (append_assoc keys f.more done.more) (subst Q e (subst R (sym one) (subst S (sym count) done.key)))
+
+pub all_fresh : (r : Reading) (keys : List Link) (counts new : List ℕ) (i : ℕ) (s : Scope) → length counts ≤ i → FreshSoFar r keys counts i new s → Freshens r keys counts new s
+all_fresh r keys counts new i s l f = record {
+  more = f.more;
+  scope = f.scope;
+  only = λ a j. let o = f.only a j in (o.0, o.2);
+  links = λ x n a g k. f.links x n a (omega (arith, l, slice_get_within counts x n g)) g k;
+}
+
+-- ---- the copy
+
+zero_there : (xs : List ℕ) (x : ℕ) → All (λ n. n ≡ 0) xs → x < length xs → slice_get xs x ≡ Some 0
+zero_there [] x h l = absurd (omega (arith, l))
+zero_there (y ∷ xs) zero h l = ap Some (h 0 0 (omega arith))
+zero_there (y ∷ xs) (suc x) h l = zero_there xs x (λ k d m. h (suc k) d (omega (arith, m))) (omega (arith, l))
+
+pub is_copied : (r : Reading) (keys : List Link) (p : Parts) (kept copy : Part) (zeros counts mid links : List ℕ) (s t : Scope) → IsScope r keys s → IsPart r.names (IsKey keys) p kept
+    → length zeros ≡ s.count → All (λ n. n ≡ 0) zeros → Counts (leaves_links kept.leaves) zeros mid → Counts (levels_links kept.membranes) mid counts
+    → Freshens r keys counts links t
+    → copy.leaves ≡ map (renumbered_leaf (new_link links)) kept.leaves → copy.membranes ≡ map (renumbered (new_link links)) kept.membranes
+    → copy.contexts ≡ kept.contexts → copy.rule_contexts ≡ kept.rule_contexts → copy.rules ≡ kept.rules
+    → Copies r keys p copy t
+is_copied r keys p kept copy zeros counts mid links s t scope h size none one two f a b c d e =
+    let ks = expanded.links_of (level_of p) in
+    let all = leaves_links kept.leaves ++ levels_links kept.membranes in
+    let each : Each (IsKey keys) ks all = each_append (IsKey keys) (expanded.leaves_links p.leaves) (expanded.links_in (levels p.membranes)) (leaves_links kept.leaves)
+    (levels_links kept.membranes) (leaves_links_by r.names (IsKey keys) p.leaves kept.leaves h.leaves)
+    (links_in_by r.names (IsKey keys) (levels p.membranes) kept.membranes (levels_each r.names (IsKey keys) p.membranes kept.membranes h.membranes)) in
+    let counted = counts_both (leaves_links kept.leaves) (levels_links kept.membranes) zeros mid counts one two in
+    let step : (a : Link) (x : ℕ) → IsKey keys a x → IsKey (keys ++ f.more) (freshened ks a) (new_link links x) = λ a x k. stepped all counted each a x k in
+    let P : List base.Leaf → Type 0 = λ z. Each (IsLeaf r.names (IsKey (keys ++ f.more))) (map (renamed_leaf (freshened ks)) p.leaves) z in
+    let Q : List base_level.Level → Type 0 = λ z. Each (IsLevel r.names (IsKey (keys ++ f.more))) (map (renamed (freshened ks)) p.membranes) z in
+    let T : Link → ℕ → Type 0 = λ a x. IsKey (keys ++ f.more) (freshened ks a) x in
+    record {
+      more = f.more;
+      scope = f.scope;
+      only = f.only;
+      is_copy = record {
+        leaves = subst P (sym a) (renamed_leaves_by r.names T (IsKey (keys ++ f.more)) (freshened ks) (λ a x k. k) p.leaves _
+            (renumbered_leaves_by r.names (IsKey keys) T (new_link links) step p.leaves kept.leaves h.leaves));
+        membranes = subst Q (sym b) (each_map (IsLevel r.names (IsKey keys)) (IsLevel r.names (IsKey (keys ++ f.more))) (renamed (freshened ks)) (renumbered (new_link links))
+            (λ l x g. renamed_by r.names T (IsKey (keys ++ f.more)) (freshened ks) (λ a x k. k) l _ (renumbered_by r.names (IsKey keys) T (new_link links) step l x g))
+            p.membranes kept.membranes h.membranes);
+        contexts = c ∙ h.contexts;
+        rule_contexts = d ∙ h.rule_contexts;
+        rules = e ∙ h.rules;
+      };
+    }
+  where
+    stepped : (all : List ℕ) → Counts all zeros counts → (let ks = expanded.links_of (level_of p) in Each (IsKey keys) ks all)
+        → (a : Link) (x : ℕ) → IsKey keys a x → (let ks = expanded.links_of (level_of p) in IsKey (keys ++ f.more) (freshened ks a) (new_link links x))
+    stepped all counted each a x k =
+        let ks = expanded.links_of (level_of p) in
+        let l : x < length zeros = omega (arith, size, scope.count, index_below a keys k.0, k.1) in
+        let n = counted.counted x 0 (zero_there zeros x none l) (omega arith) in
+        let same : (min 3 (0 + often x all) == 2) ≡ (times a ks == 2) = two_of (often x all) ∙ ap (λ m. m == 2) (sym (times_often keys a x ks all k each)) in
+        let P : Bool → Type 0 = λ z. IsKey (keys ++ f.more) (if z then fresh a else a) (new_link links x) in
+        subst P same (f.links x (min 3 (0 + often x all)) a n k)
+
+pub copied_by : (r : Reading) (keys : List Link) (p : Parts) (kept copy : Part) (zeros mid counts seen links links1 links2 : List ℕ) (s t : Scope) → IsScope r keys s → NoneFresh keys
+    → IsPart r.names (IsKey keys) p kept → length zeros ≡ s.count → All (λ n. n ≡ 0) zeros → Counts (leaves_links kept.leaves) zeros mid
+    → Counts (levels_links kept.membranes) mid counts → seen ≡ counts
+    → ((r : Reading) (keys : List Link) → IsScope r keys s → NoneFresh keys → length seen ≡ length keys → Freshens r keys seen links t)
+    → links1 ≡ links → links2 ≡ links
+    → copy.leaves ≡ map (renumbered_leaf (new_link links1)) kept.leaves → copy.membranes ≡ map (renumbered (new_link links2)) kept.membranes
+    → copy.contexts ≡ kept.contexts → copy.rule_contexts ≡ kept.rule_contexts → copy.rules ≡ kept.rules
+    → Copies r keys p copy t
+copied_by r keys p kept copy zeros mid counts seen links links1 links2 s t h unfresh part size none one two same found e1 e2 a b c d e =
+    let long : length seen ≡ length keys = ap length same ∙ two.size ∙ one.size ∙ size ∙ h.count in
+    let F : List ℕ → Type 0 = λ z. Freshens r keys z links t in
+    is_copied r keys p kept copy zeros counts mid links s t h part size none one two (subst F same (found r keys h unfresh long))
+    (a ∙ ap (λ z. map (renumbered_leaf (new_link z)) kept.leaves) e1) (b ∙ ap (λ z. map (renumbered (new_link z)) kept.membranes) e2) c d e
+
+pub get_at : (xs : List ℕ) (i d : ℕ) → i < length xs → slice_get xs i ≡ Some (get_or xs i d)
+get_at [] i d l = absurd (omega (arith, l))
+get_at (x ∷ xs) zero d l = refl
+get_at (x ∷ xs) (suc i) d l = get_at xs i d (omega (arith, l))

@@ -1,0 +1,12 @@
+mod EachLemmas
+mod BuiltLemmas
+mod GrowingLemmas
+mod ScopeLemmas
+mod GlossaryLemmas
+mod WayLemmas
+mod CopyLemmas
+mod SmallParts
+mod WalkLemmas
+mod RuleLemmas
+mod WalkSteps
+mod GuardLemmas

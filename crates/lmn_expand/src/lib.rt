@@ -1,0 +1,56 @@
+//! From the tree of a text to its plain: every abbreviation expanded, links by numbers, rules in a table.
+#![tactic(auto)]
+
+mod glossary;
+mod guard;
+mod kept;
+mod number;
+mod part;
+mod scope;
+#[cfg(test)]
+mod tests;
+mod walk;
+
+ghost use Rattle.std.specs.Prelude.{◌+◌, ◌≤◌, ◌^◌, [], ◌∷◌, length, MatchResult};
+ghost use Rattle.lmn_base.specs.declared.rule.Plain.{Plain};
+ghost use Rattle.lmn_base.specs.Firsts.{NoneApplies, RefusedBy};
+ghost use Rattle.lmn_base.specs.Refusals.{IfRefused};
+ghost use Rattle.lmn_lexer.specs.Faults.{NothingWrong};
+ghost use Rattle.lmn_parser.specs.Readings.{Reads};
+ghost use Rattle.lmn_parser.specs.Syntax.{tree_of};
+ghost use Rattle.lmn_plain.specs.Laws.{IsPlain};
+ghost use Rattle.lmn_expand.specs.Glossaries.{GrowsBy};
+ghost use Rattle.lmn_expand.specs.Outside.{outside_rules};
+
+use crate::glossary::Glossary;
+use crate::walk::expanded;
+use lmn_base::{Names, Plain, TextFault, refuse};
+use lmn_lexer::Tokens;
+use lmn_numbering::first_outside;
+use lmn_parser::Tree;
+use std::alloc::Global;
+
+/// The plain of a tree.
+pub fn flatten(
+    alloc: Global,
+    text: &[u8],
+    tokens: &Tokens,
+    tree: &Tree,
+    names: &mut Names,
+) -> Result<Plain, TextFault>
+    requires right { NothingWrong text.now }
+    requires reads { Reads text.now tokens.now (tree_of tree.now) }
+    requires room { length names.old + (length tokens.now + 3) ≤ 2 ^ 32 }
+    ensures grows { GrowsBy (length tokens.now + 3) names.old names.new }
+    ensures plain { MatchResult result
+        (λ plain. IsPlain text.now tokens.now (tree_of tree.now) names.new plain × NoneApplies (outside_rules plain.top ∷ []))
+        (λ fault. IfRefused fault (λ refusal. (plain : Plain) × IsPlain text.now tokens.now (tree_of tree.now) names.new plain
+        × RefusedBy (outside_rules plain.top ∷ []) refusal)) }
+{
+    let glossary = Glossary::read(alloc, text, tokens, names)?;
+    let plain = expanded(&glossary, tree)?;
+    match refuse(39, first_outside(&plain.top)) {
+        Ok(()) => Ok(plain),
+        Err(refusal) => Err(TextFault::Refused(refusal)),
+    }
+}

@@ -1,0 +1,184 @@
+-- Occurrences counted one after another.
+use Rattle.std.proofs.Common.{◌≡◌, ℕ, zero, suc, ◌+◌, ◌<◌, ◌≤◌, ◌⊎◌, inl, inr, ◌==◌, Bool, true, false, if◌then◌else◌, List, [], ◌∷◌, ◌++◌, map, filter, length, set, get_or, take, slice_get, Some, All, refl, sym, ap, ◌∙◌, subst, arith}
+use Rattle.std.specs.List.{flat_map}
+use Rattle.std.proofs.lemmas.Bool.Decides.{nat_tests}
+use Rattle.std.proofs.lemmas.List.{take_more, take_all, map-append, append-nil, append_assoc, length-set, length-append, get_or_default}
+use Rattle.std.proofs.lemmas.List.Concat.{flat_map-append}
+use Rattle.std.proofs.lemmas.List.Elements.{filter-append, All-head}
+use Rattle.std.proofs.lemmas.Option.{same_Some}
+use Rattle.lmn_base.specs.declared.level.Leaf.{Leaf}
+use Rattle.lmn_base.specs.declared.level.Level.{Level, out-Level}
+use Rattle.lmn_base.specs.declared.level.Occ.{Occ}
+use Rattle.lmn_base.specs.declared.refusal.Pos.{Pos}
+use Rattle.lmn_base.specs.Levels.{leaves_of, leaf_occurrences, occurrences, links_of}
+use Rattle.lmn_base.proofs.ItemLemmas.{leaves_apart, flat_map-flat_map}
+use Rattle.lmn_numbering.specs.declared.tally.Tally.{Tally}
+use Rattle.lmn_numbering.specs.Numberings.{links_in}
+use Rattle.lmn_numbering.specs.Tallies.{IsTally, places_among, AreTallies, Counts}
+use Rattle.lmn_numbering.proofs.LevelSteps.{all_left, all_right}
+use Rattle.lmn_numbering.proofs.NumberSteps.{same_or_other, read_same, read_other}
+
+-- ---- where a link stands among more occurrences
+
+among_more : (x : ℕ) (os ps : List Occ) → places_among x (os ++ ps) ≡ places_among x os ++ places_among x ps
+among_more x os ps = ap (map (λ (o : Occ). o.pos)) (filter-append (λ (o : Occ). o.link == x) os ps) ∙ map-append (λ (o : Occ). o.pos) (filter (λ o. o.link == x) os) (filter (λ o. o.link == x) ps)
+
+is_itself : (x : ℕ) → (x == x) ≡ true
+is_itself x = grind (arith, nat_tests)
+
+is_other : (x y : ℕ) → (x ≡ y → ⊥) → (y == x) ≡ false
+is_other x y h = grind (arith, nat_tests)
+
+abbrev kept : Occ → Bool → List Pos
+kept o t = map (λ (o : Occ). o.pos) (if t then o ∷ [] else [])
+
+here : (o : Occ) → places_among o.link (o ∷ []) ≡ o.pos ∷ []
+here o = ap (kept o) (is_itself o.link)
+
+elsewhere : (x : ℕ) (o : Occ) → (x ≡ o.link → ⊥) → places_among x (o ∷ []) ≡ []
+elsewhere x o h = ap (kept o) (is_other x o.link h)
+
+-- ---- counting
+
+pub counts_none : (t : List Tally) → Counts [] t t
+counts_none t = record {
+  keys = refl;
+  more = λ before h. let P : List Occ → Type 0 = λ os. AreTallies os t in subst P (sym (append-nil before)) h;
+}
+
+pub counts_more : (os ps : List Occ) (t u v : List Tally) → Counts os t u → Counts ps u v → Counts (os ++ ps) t v
+counts_more os ps t u v g h = record {
+  keys = h.keys ∙ g.keys;
+  more = λ before i. let P : List Occ → Type 0 = λ os. AreTallies os v in subst P (append_assoc before os ps) (h.more (before ++ os) (g.more before i));
+}
+
+pub counts_one : (o : Occ) (old new : List Tally) (t u : Tally) → slice_get old o.link ≡ Some t → ((ps : List Pos) → IsTally ps t → IsTally (ps ++ o.pos ∷ []) u)
+    → new ≡ set old o.link u → Counts (o ∷ []) old new
+counts_one o old new t u read step e =
+    let P : List Tally → Type 0 = λ ts. Counts (o ∷ []) old ts in
+    subst P (sym e) (record { keys = length-set old o.link u; more = λ before h x v r. go before h x v r (same_or_other x o.link) })
+  where
+    go : (before : List Occ) → AreTallies before old → (x : ℕ) (v : Tally) → slice_get (set old o.link u) x ≡ Some v → (x ≡ o.link) ⊎ (x ≡ o.link → ⊥) → IsTally (places_among x (before ++ o ∷ [])) v
+    go before h x v r (inl f) =
+        let Q : ℕ → Type 0 = λ y. slice_get (set old o.link u) y ≡ Some v in
+        let is : v ≡ u = same_Some v u (sym (subst Q f r) ∙ read_same old o.link u t read) in
+        let R : Tally → Type 0 = λ w. IsTally (places_among o.link before ++ o.pos ∷ []) w in
+        let S : List Pos → Type 0 = λ ps. IsTally ps v in
+        let T : ℕ → Type 0 = λ y. IsTally (places_among y (before ++ o ∷ [])) v in
+        subst T (sym f) (subst S (sym (among_more o.link before (o ∷ []) ∙ ap (λ ps. places_among o.link before ++ ps) (here o))) (subst R (sym is) (step (places_among o.link before) (h o.link t read))))
+    go before h x v r (inr f) =
+        let S : List Pos → Type 0 = λ ps. IsTally ps v in
+        subst S (sym (among_more x before (o ∷ []) ∙ ap (λ ps. places_among x before ++ ps) (elsewhere x o f) ∙ append-nil (places_among x before)))
+        (h x v (sym (read_other old o.link x u f) ∙ r))
+
+-- ---- loops over parts, each with its occurrences
+
+module _ {A : Type 0} (g : A → List Occ) where
+  pub parts_more : (t u v : List Tally) (i : ℕ) (xs : List A) (x : A) → i < length xs → x ≡ get_or xs i x → Counts (flat_map g (take i xs)) t u → Counts (g x) u v → Counts (flat_map g (take (i + 1) xs)) t v
+  parts_more t u v i xs x l read h k =
+      let P : List Occ → Type 0 = λ os. Counts os t v in
+      let next : flat_map g (take (i + 1) xs) ≡ flat_map g (take i xs) ++ g x =
+      ap (flat_map g) (take_more xs i x l) ∙ flat_map-append g (take i xs) (get_or xs i x ∷ []) ∙ ap (λ os. flat_map g (take i xs) ++ os) (append-nil (g (get_or xs i x)) ∙ ap g (sym read)) in
+      subst P (sym next) (counts_more (flat_map g (take i xs)) (g x) t u v h k)
+
+  pub parts_all : (t u : List Tally) (i : ℕ) (xs : List A) → length xs ≤ i → Counts (flat_map g (take i xs)) t u → Counts (flat_map g xs) t u
+  parts_all t u i xs l h = let P : List A → Type 0 = λ ys. Counts (flat_map g ys) t u in subst P (take_all i xs l) h
+
+  pub parts_within : (t u : List Tally) (i : ℕ) (xs : List A) (x : A) → i < length xs → x ≡ get_or xs i x → Counts (flat_map g (take i xs)) t u
+      → All (λ k. k < length t) (links_in (flat_map g xs)) → All (λ k. k < length u) (links_in (g x))
+  parts_within t u i xs x l read h all =
+      let P : ℕ → Type 0 = λ n. All (λ k. k < n) (links_in (g x)) in
+      let Q : A → Type 0 = λ y. All (λ k. k < length t) (links_in (g y)) in
+      let keys = h.keys in
+      subst P (sym keys) (subst Q (sym read) (part (λ k. k < length t) i xs x l all))
+    where
+      links_append : (os ps : List Occ) → links_in (os ++ ps) ≡ links_in os ++ links_in ps
+      links_append os ps = map-append (λ (o : Occ). o.link) os ps
+
+      part : (S : ℕ → Type 0) (i : ℕ) (xs : List A) (d : A) → i < length xs → All S (links_in (flat_map g xs)) → All S (links_in (g (get_or xs i d)))
+      part S i [] d l h = absurd (omega (arith, l))
+      part S zero (x ∷ xs) d l h = let P : List ℕ → Type 0 = All S in all_left S (links_in (g x)) (links_in (flat_map g xs)) (subst P (links_append (g x) (flat_map g xs)) h)
+      part S (suc i) (x ∷ xs) d l h =
+          let P : List ℕ → Type 0 = All S in part S i xs d (omega (arith, l)) (all_right S (links_in (g x)) (links_in (flat_map g xs)) (subst P (links_append (g x) (flat_map g xs)) h))
+
+-- ---- a level
+
+pub occurrences_apart : (l : Level) → occurrences l ≡ flat_map leaf_occurrences (out-Level l).leaves ++ flat_map occurrences (out-Level l).membranes
+occurrences_apart l =
+    ap (flat_map leaf_occurrences) (leaves_apart l) ∙ flat_map-append leaf_occurrences (out-Level l).leaves (flat_map leaves_of (out-Level l).membranes)
+    ∙ ap (λ os. flat_map leaf_occurrences (out-Level l).leaves ++ os) (flat_map-flat_map leaf_occurrences leaves_of (out-Level l).membranes)
+
+module _ (t u v : List Tally) (l : Level) (leaves : List Leaf) (membranes : List Level) (e : leaves ≡ (out-Level l).leaves) (f : membranes ≡ (out-Level l).membranes) where
+  whole : occurrences l ≡ flat_map leaf_occurrences leaves ++ flat_map occurrences membranes
+  whole = occurrences_apart l ∙ ap (λ ls. flat_map leaf_occurrences ls ++ flat_map occurrences (out-Level l).membranes) (sym e) ∙ ap (λ ls. flat_map leaf_occurrences leaves ++ flat_map occurrences ls) (sym f)
+
+  links_whole : links_of l ≡ links_in (flat_map leaf_occurrences leaves) ++ links_in (flat_map occurrences membranes)
+  links_whole = ap links_in whole ∙ map-append (λ (o : Occ). o.link) (flat_map leaf_occurrences leaves) (flat_map occurrences membranes)
+
+  pub level_counted : Counts (flat_map leaf_occurrences leaves) t u → Counts (flat_map occurrences membranes) u v → Counts (occurrences l) t v
+  level_counted g h =
+      let P : List Occ → Type 0 = λ os. Counts os t v in
+      subst P (sym whole) (counts_more (flat_map leaf_occurrences leaves) (flat_map occurrences membranes) t u v g h)
+
+  pub leaves_counted_within : All (λ k. k < length t) (links_of l) → All (λ k. k < length t) (links_in (flat_map leaf_occurrences leaves))
+  leaves_counted_within all = let P : List ℕ → Type 0 = All (λ k. k < length t) in all_left (λ k. k < length t) (links_in (flat_map leaf_occurrences leaves)) (links_in (flat_map occurrences membranes)) (subst P links_whole all)
+
+  pub membranes_counted_within : Counts (flat_map leaf_occurrences leaves) t u → All (λ k. k < length t) (links_of l) → All (λ k. k < length u) (links_in (flat_map occurrences membranes))
+  membranes_counted_within g all =
+      let P : List ℕ → Type 0 = All (λ k. k < length t) in
+      let Q : ℕ → Type 0 = λ n. All (λ k. k < n) (links_in (flat_map occurrences membranes)) in
+      let keys = g.keys in
+      subst Q (sym keys) (all_right (λ k. k < length t) (links_in (flat_map leaf_occurrences leaves)) (links_in (flat_map occurrences membranes)) (subst P links_whole all))
+
+-- ---- no occurrences
+
+-- what stands in a list with one element more
+pub last_or_before : {A : Type 0} (xs : List A) (a b : A) (x : ℕ) → slice_get (xs ++ a ∷ []) x ≡ Some b → (slice_get xs x ≡ Some b) ⊎ ((x ≡ length xs) × (a ≡ b))
+last_or_before [] a b zero h = inr (refl, same_Some a b h)
+last_or_before [] a b (suc x) h = absurd (cc)
+last_or_before (y ∷ xs) a b zero h = inl h
+last_or_before (y ∷ xs) a b (suc x) h = go (last_or_before xs a b x h)
+  where
+    go : (slice_get xs x ≡ Some b) ⊎ ((x ≡ length xs) × (a ≡ b)) → (slice_get xs x ≡ Some b) ⊎ ((suc x ≡ suc (length xs)) × (a ≡ b))
+    go (inl e) = inl e
+    go (inr e) = inr (ap suc e.0, e.1)
+
+pub no_tally : (t : List Tally) → t ≡ [] → (length t ≡ 0) × AreTallies [] t
+no_tally t e = (ap length e, λ x u r. let P : List Tally → Type 0 = λ ts. slice_get ts x ≡ Some u in absurd (nothing x u (subst P e r)))
+  where
+    nothing : (x : ℕ) (u : Tally) → slice_get [] x ≡ Some u → ⊥
+    nothing x u r = cc
+
+-- one tally more that tells of nothing
+pub next_tally : (n : ℕ) (old new : List Tally) (t : Tally) → IsTally [] t → new ≡ old ++ t ∷ [] → (length old ≡ n) × AreTallies [] old → (length new ≡ n + 1) × AreTallies [] new
+next_tally n old new t h e k =
+    let size = length-append old (t ∷ []) in
+    let whole = ap length e in
+    let was = k.0 in
+    (omega (arith, size, whole, was), λ x u r. let P : List Tally → Type 0 = λ ts. slice_get ts x ≡ Some u in go x u (last_or_before old t u x (subst P e r)))
+  where
+    go : (x : ℕ) (u : Tally) → (slice_get old x ≡ Some u) ⊎ ((x ≡ length old) × (t ≡ u)) → IsTally [] u
+    go x u (inl r) = k.1 x u r
+    go x u (inr f) = let P : Tally → Type 0 = IsTally [] in subst P f.1 h
+
+-- the tallies of a level
+pub level_tallies : (n : ℕ) (old new : List Tally) (os : List Occ) → (length old ≡ n) × AreTallies [] old → Counts os old new → (length new ≡ n) × AreTallies os new
+level_tallies n old new os h c = (c.keys ∙ h.0, c.more [] h.1)
+
+-- ---- the loop over the occurrences of an atom
+
+ones : (os : List Occ) → flat_map (λ o. o ∷ []) os ≡ os
+ones [] = refl
+ones (o ∷ os) = ap (λ ps. o ∷ ps) (ones os)
+
+module _ (t u : List Tally) (i : ℕ) (os : List Occ) where
+  pub link_counted_within : (d : Occ) → i < length os → Counts (flat_map (λ o. o ∷ []) (take i os)) t u → All (λ k. k < length t) (links_in os) → (get_or os i d).link < length u
+  link_counted_within d l h all =
+      let P : List Occ → Type 0 = λ ps. All (λ k. k < length t) (links_in ps) in
+      All-head (λ k. k < length u) (get_or os i d).link [] (parts_within (λ o. o ∷ []) t u i os (get_or os i d) l (get_or_default os i d (get_or os i d) l) h (subst P (sym (ones os)) all))
+
+  pub link_counted : (v : List Tally) (d : Occ) → i < length os → Counts (flat_map (λ o. o ∷ []) (take i os)) t u → Counts (get_or os i d ∷ []) u v → Counts (flat_map (λ o. o ∷ []) (take (i + 1) os)) t v
+  link_counted v d l h k = parts_more (λ o. o ∷ []) t u v i os (get_or os i d) l (get_or_default os i d (get_or os i d) l) h k
+
+  pub links_counted : length os ≤ i → Counts (flat_map (λ o. o ∷ []) (take i os)) t u → Counts os t u
+  links_counted l h = let P : List Occ → Type 0 = λ ps. Counts ps t u in subst P (ones os) (parts_all (λ o. o ∷ []) t u i os l h)

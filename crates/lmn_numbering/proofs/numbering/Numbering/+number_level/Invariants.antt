@@ -1,0 +1,10 @@
+use Rattle.lmn_base.specs.Levels.{links_of}
+use Rattle.lmn_numbering.specs.Renumbered.{renumbered}
+use Rattle.lmn_numbering.proofs.LevelSteps.{Renumbers, number_of_levels}
+use Rattle.lmn_numbering.proofs.numbering.Numbering.+number_level.Given as goal
+
+abbrev pub decreases-number_level : goal.decreases-number_level
+decreases-number_level l = number_of_levels l.level.now
+
+abbrev pub invariant-loop-i : goal.invariant-loop-i
+invariant-loop-i l = Renumbers renumbered links_of l.initial.self l.self l.i l.initial.numbered.items l.numbered.items

@@ -1,0 +1,41 @@
+ghost use Rattle.std.specs.Prelude.{◌≡◌, length, IfOk};
+ghost use Rattle.lmn_numbering.specs.Tallies.{Occurs, EachOccurs, IsJoined, AreJoined};
+
+use crate::tally::Tally;
+use lmn_base::{LinkUse, NoMemory, Rows};
+use std::alloc::Global;
+
+/// The table of links by what was counted in two levels, of which the places in the first come first.
+pub(crate) fn table_of(
+    alloc: Global,
+    head: &Rows<Tally>,
+    body: &Rows<Tally>,
+) -> Result<Rows<LinkUse>, NoMemory>
+    requires lengths { length head.now ≡ length body.now }
+    requires occur { EachOccurs head.now body.now }
+    ensures { IfOk result (AreJoined head.now body.now) }
+{
+    let mut table = Rows::new(alloc);
+    for i in 0..head.len() {
+        let links = joined(*head.at(i), *body.at(i))?;
+        table.push(links)?;
+    }
+    Ok(table)
+}
+
+/// What is said of a link that occurs in one of two levels at least.
+fn joined(head: Tally, body: Tally) -> Result<LinkUse, NoMemory>
+    requires { Occurs head body }
+    ensures { IfOk result (IsJoined head body) }
+{
+    let places = head.places.followed_by(body.places);
+    let first = places.first.unwrap();
+    match head.count.checked_add(body.count) {
+        None => Err(NoMemory),
+        Some(count) => Ok(LinkUse {
+            count,
+            first,
+            third: places.third.unwrap_or(first),
+        }),
+    }
+}

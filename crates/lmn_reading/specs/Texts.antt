@@ -1,0 +1,67 @@
+-- What is read of a text, and why a text is refused.
+use Rattle.std.specs.Prelude.{ℕ, ◌≡◌, List, [], ◌∷◌, ◌++◌, flat_map}
+use Rattle.std.specs.List.{AllByRecursion}
+use Rattle.lmn_base.specs.declared.refusal.Refusal.{Refusal}
+use Rattle.lmn_base.specs.declared.refusal.TextFault.TheVariants.{Refused}
+use Rattle.lmn_base.specs.declared.rule.Plain.{Plain}
+use Rattle.lmn_base.specs.declared.rule.RuleTree.{RuleTree}
+use Rattle.lmn_base.specs.Firsts.{Row, NoneApplies, RefusedBy}
+use Rattle.lmn_base.specs.LinkCodes.{LinkFault, IsFirstFault}
+use Rattle.lmn_base.specs.RuleCodes.{rule_rows}
+use Rattle.lmn_congruence.specs.Rules.{Name}
+use Rattle.lmn_expand.specs.Outside.{outside_rules}
+use Rattle.lmn_grammar.specs.Refusing.{IsWithin}
+use Rattle.lmn_guards.specs.Accepted.{IsAccepted}
+use Rattle.lmn_guards.specs.GuardCodes.{guard_rows}
+use Rattle.lmn_guards.specs.Plans.{IsPlan}
+use Rattle.lmn_guards.specs.declared.plan.GuardPlan.{GuardPlan}
+use Rattle.lmn_lexer.specs.Cutting.{Cuts}
+use Rattle.lmn_lexer.specs.Faults.{IsRefusal, NothingWrong}
+use Rattle.lmn_lexer.specs.declared.token.Token.{Token}
+use Rattle.lmn_parser.specs.Parsing.{IsFaultOf, kinds_of}
+use Rattle.lmn_parser.specs.Readings.{Reads}
+use Rattle.lmn_parser.specs.Syntax.{Clauses}
+use Rattle.lmn_plain.specs.Laws.{IsPlain}
+use Rattle.lmn_plain.specs.Plains.{Each}
+
+-- Nothing is wrong in the text, it reads as a tree within the limits, and the plain is that of the tree, with the numbers of
+-- a list of names.
+pub record ReadsAs (text : List ℕ) (names : List Name) (plain : Plain) : Type 0 where
+  pub tokens : List Token
+  pub tree : Clauses
+  pub right : NothingWrong text
+  pub reads : Reads text tokens tree
+  pub within : IsWithin (kinds_of tokens)
+  pub is_plain : IsPlain text tokens tree names plain
+
+-- what is asked of a rule, in order: first of its size, its head and its contexts, and then of its guard
+abbrev pub rows_of_rule : List RuleTree → RuleTree → List Row
+rows_of_rule table r = rule_rows table r ++ guard_rows r
+
+-- what is asked of the rules, by rising place
+abbrev pub rows_of_rules : Plain → List Row
+rows_of_rules plain = flat_map (rows_of_rule plain.rules) plain.rules
+
+-- The text is accepted. It reads as this plain, in which no context stands outside every rule and no link has a fault. Each
+-- rule is accepted, and has its plan.
+pub record IsAcceptedAs (text : List ℕ) (names : List Name) (plain : Plain) (plans : List GuardPlan) : Type 0 where
+  pub reads : ReadsAs text names plain
+  pub outside : NoneApplies (outside_rules plain.top ∷ [])
+  pub links : (a : Refusal) → ¬ (LinkFault plain a)
+  pub rules : AllByRecursion (IsAccepted plain.rules) plain.rules
+  pub planned : Each IsPlan plain.rules plans
+
+-- The text is refused, by the first of these that applies:
+--   by_bytes     its bytes are cut into no right tokens
+--   by_tokens    its tokens are no program within the limits
+--   by_contexts  a context stands outside every rule
+--   by_links     a link occurs once or too often
+--   by_rules     something that is asked of a rule applies
+pub data IsRefusedAs (text : List ℕ) (names : List Name) (refusal : Refusal) : Type 0 where
+  by_bytes : IsRefusal text refusal → IsRefusedAs text names refusal
+  by_tokens : (tokens : List Token) → NothingWrong text → Cuts text tokens → IsFaultOf tokens (Refused refusal) → IsRefusedAs text names refusal
+  by_contexts : (plain : Plain) → ReadsAs text names plain → RefusedBy (outside_rules plain.top ∷ []) refusal → IsRefusedAs text names refusal
+  by_links : (plain : Plain) → ReadsAs text names plain → NoneApplies (outside_rules plain.top ∷ []) → IsFirstFault plain refusal
+      → IsRefusedAs text names refusal
+  by_rules : (plain : Plain) → ReadsAs text names plain → NoneApplies (outside_rules plain.top ∷ []) → ((a : Refusal) → ¬ (LinkFault plain a))
+      → RefusedBy (rows_of_rules plain) refusal → IsRefusedAs text names refusal
