@@ -4,7 +4,7 @@ ghost use Rattle.lmn_ground.specs.Spread.{Clean, IsGround, IsWhole};
 ghost use Rattle.lmn_store.specs.Kept.{heap_of};
 
 use crate::{copy, equal, is_ground, size_of, take_part};
-use lmn_base::{Functor, Label, NoMemory};
+use lmn_base::{Functor, Label, NoMemory, Rows};
 use lmn_store::{LinkStore, SlabStore};
 use std::alloc::AllocGlobal;
 use std::process::Abort;
@@ -246,6 +246,76 @@ fn lists(rt: HostRuntime) -> Result<(), NoMemory> {
     run(&rt, 500_000)
 }
 
+/// What a port is joined to, the atom and the port, each plus 1, or 0 twice; and its mark.
+fn write_port(
+    rt: &impl Abort,
+    store: &SlabStore,
+    text: &mut Rows<u64>,
+    a: usize,
+    i: u8,
+) -> Result<(), NoMemory> {
+    let (b, j) = match partner(rt, store, a, i) {
+        Some((b, j)) => ((b as u64).saturating_add(1), u64::from(j) + 1),
+        None => (0, 0),
+    };
+    text.push(b)?;
+    text.push(j)?;
+    assert!(rt; store.has_port(a, i));
+    text.push(store.mark(a, i))
+}
+
+fn own_mark(rt: &impl Abort, store: &SlabStore, a: usize) -> u64 {
+    assert!(rt; store.has_atom(a));
+    let _root = store.root();
+    let own = store.functor(a).arity;
+    store.mark(a, own)
+}
+
+fn functor_of(rt: &impl Abort, store: &SlabStore, a: usize) -> Functor {
+    assert!(rt; store.has_atom(a));
+    store.functor(a)
+}
+
+/// The membrane of an atom plus 1, or 0.
+fn home_of(rt: &impl Abort, store: &SlabStore, a: usize) -> u64 {
+    assert!(rt; store.has_atom(a));
+    match store.home(a) {
+        Some(m) => (m as u64).saturating_add(1),
+        None => 0,
+    }
+}
+
+/// The name of an atom, its home, its ports and its own mark.
+fn write_atom(
+    rt: &impl Abort,
+    store: &SlabStore,
+    text: &mut Rows<u64>,
+    a: usize,
+) -> Result<(), NoMemory> {
+    let functor = functor_of(rt, store, a);
+    if let Label::Name(name) = functor.label {
+        text.push(u64::from(name))?;
+    }
+    text.push(home_of(rt, store, a))?;
+    for i in 0..functor.arity {
+        write_port(rt, store, text, a, i)?;
+    }
+    text.push(own_mark(rt, store, a))
+}
+
+/// The whole heap of a store in which so many atoms were made and none was freed.
+fn written(
+    rt: &(impl Abort + AllocGlobal),
+    store: &SlabStore,
+    atoms: usize,
+) -> Result<Rows<u64>, NoMemory> {
+    let mut text = Rows::new(rt.alloc());
+    for a in 0..atoms {
+        write_atom(rt, store, &mut text, a)?;
+    }
+    Ok(text)
+}
+
 /// Two atoms that are joined twice: in order, or crosswise.
 fn pair(
     rt: &(impl Abort + AllocGlobal),
@@ -262,6 +332,67 @@ fn pair(
     join(rt, store, a, 1, b, first);
     join(rt, store, a, 2, b, second);
     Ok((a, 0))
+}
+
+/// Two pairs, in order in membrane 1 and crosswise in membrane 2, an atom a line.
+const PAIRS: [u64; 42] = [
+    4, 2, 0, 0, 0, 2, 1, 0, 2, 2, 0, 0, //
+    5, 2, 1, 2, 0, 1, 3, 0, 0, //
+    4, 3, 0, 0, 0, 4, 2, 0, 4, 1, 0, 0, //
+    5, 3, 3, 3, 0, 3, 2, 0, 0,
+];
+
+/// The same with a copy of the first, which waits.
+const COPIED: [u64; 63] = [
+    4, 2, 0, 0, 0, 2, 1, 0, 2, 2, 0, 0, //
+    5, 2, 1, 2, 0, 1, 3, 0, 0, //
+    4, 3, 0, 0, 0, 4, 2, 0, 4, 1, 0, 0, //
+    5, 3, 3, 3, 0, 3, 2, 0, 0, //
+    4, 0, 0, 0, 0, 6, 1, 0, 6, 2, 0, 0, //
+    5, 0, 5, 2, 0, 5, 3, 0, 0,
+];
+
+/// The same where the second is taken.
+const TAKEN: [u64; 63] = [
+    4, 2, 0, 0, 0, 2, 1, 0, 2, 2, 0, 0, //
+    5, 2, 1, 2, 0, 1, 3, 0, 0, //
+    4, 0, 0, 0, 0, 4, 2, 0, 4, 1, 0, 0, //
+    5, 0, 3, 3, 0, 3, 2, 0, 0, //
+    4, 0, 0, 0, 0, 6, 1, 0, 6, 2, 0, 0, //
+    5, 0, 5, 2, 0, 5, 3, 0, 0,
+];
+
+fn is_written(
+    rt: &(impl Abort + AllocGlobal),
+    store: &SlabStore,
+    atoms: usize,
+    text: &[u64],
+) -> Result<(), NoMemory> {
+    let now = written(rt, store, atoms)?;
+    holds(rt, now.as_slice() == text);
+    Ok(())
+}
+
+/// The whole heap before and after each call.
+#[test]
+fn heaps_are_written_out(rt: HostRuntime) -> Result<(), NoMemory> {
+    let mut store = new_store(&rt)?;
+    let m = membrane(&rt, &mut store)?;
+    let n = membrane(&rt, &mut store)?;
+    let x = pair(&rt, &mut store, m, 0, 1)?;
+    let y = pair(&rt, &mut store, n, 1, 0)?;
+    is_written(&rt, &store, 4, PAIRS.as_slice())?;
+    holds(&rt, grounds(&rt, &mut store, x, m));
+    is_written(&rt, &store, 4, PAIRS.as_slice())?;
+    holds(&rt, size(&rt, &mut store, x, m) == 2);
+    is_written(&rt, &store, 4, PAIRS.as_slice())?;
+    holds(&rt, !equals(&rt, &mut store, x, m, y, n));
+    is_written(&rt, &store, 4, PAIRS.as_slice())?;
+    let c = copied(&rt, &mut store, x, m)?;
+    holds(&rt, c == (4, 0));
+    is_written(&rt, &store, 6, COPIED.as_slice())?;
+    take(&rt, &mut store, y, n);
+    is_written(&rt, &store, 6, TAKEN.as_slice())
 }
 
 /// Cycles: equal ones, and ones that differ in the ports of one link. A copy is joined as the original.
