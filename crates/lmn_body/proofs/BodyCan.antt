@@ -25,14 +25,12 @@ use Rattle.lmn_body.specs.Running.{Registers, old_port, new_port, withouts, all_
 use Rattle.lmn_body.specs.Conditions.{StandsAsPort, CanRun}
 use Rattle.lmn_body.specs.Names.{Names}
 use Rattle.lmn_body.specs.Added.{added_rules, moved_mems, made_mems}
-use Rattle.lmn_body.specs.Made.{made_of}
+use Rattle.lmn_body.specs.Made.{new_atoms}
 use Rattle.lmn_body.specs.Rules.{AtomRule, Goes, Exists, Nests, HeadNests, PartAtoms}
 use Rattle.lmn_body.specs.Within.{membrane_images}
-use Rattle.lmn_body.proofs.Firing.{ma, links_below, stands_before, arity_old}
+use Rattle.lmn_body.proofs.Firing.{links_below, old_port_stands, arity_old}
 use Rattle.lmn_body.proofs.Removing as removing
 use Rattle.lmn_body.proofs.Coding.{at_heap}
-use Rattle.lmn_body.proofs.BodyPorts.{numbers}
-use Rattle.lmn_body.proofs.Making.{AfterMaking, all_made}
 use Rattle.lmn_body.proofs.ListOps.{change_keeps, place_by, out_place}
 use Rattle.lmn_body.proofs.MakingParts.{same_rules_added}
 use Rattle.lmn_body.proofs.Removing.{all_taken_mems, taken_places}
@@ -89,7 +87,7 @@ module _ (h : Heap) (valid : Valid h) (head : List HeadItem) (guard : List Cond)
     (goes : Goes r (membrane_images r head) (Exists h r head body) body)
     (contexts : (k : ℕ) (b : HeadMembrane) → HasMembrane head k b → b.has_context ≡ true → In (r.head.images.membrane k) (moved_mems r body))
     (ps : List ℕ) (parts : PartAtoms h head r.head.images ps)
-    (s : Heap) (pr : AllPrepared h h s (made_of r (length (atoms_of head)) body) (made_mems r (1 + length (membranes_of head)) body))
+    (s : Heap) (pr : AllPrepared c h s r (length (atoms_of head)) (1 + length (membranes_of head)) body)
     (nests : Nests r m [] (1 + length (membranes_of head)) body) (head_nests : HeadNests head) (listed_s : Listed s)
     (removed_mem : (x : ℕ) → In x (membrane_images r head) → IsMem h x) (home_mem : IsMem h m) (home_apart : In m (membrane_images r head) → ⊥)
     (new_apart : (x : ℕ) → In x (made_mems r (1 + length (membranes_of head)) body) → In x (membrane_images r head) → ⊥)
@@ -147,10 +145,7 @@ module _ (h : Heap) (valid : Valid h) (head : List HeadItem) (guard : List Cond)
   place_t2 : (x : ℕ) → (In x ks → ⊥) → mem_place_of t2 x ≡ mem_place_of s x
   place_t2 x o = taken_mems_away ks t1 x o ∙ taken_places ns s x
 
-  made_s : AfterMaking h (all_made h (made_of r N body)) (made_of r N body)
-  made_s = ma h valid head guard body n m r rule em stand c names pr.free ps parts
-
-  state_t2 : State r m ks rank [] N (1 + K) body t2
+  state_t2 : State r m ks rank [] N (1 + K) 0 body t2
   state_t2 = record {
     listed = soundness.listed_t2 h valid head guard body n m r rule em stand c names goes contexts ps parts s pr nests listed_s removed_mem home_mem;
     up = λ p x i.
@@ -162,8 +157,8 @@ module _ (h : Heap) (valid : Valid h) (head : List HeadItem) (guard : List Cond)
     wait = λ x i. place_t2 x (new_apart x i) ∙ (listed_s.new_mems x).0 (subst (In x) (sym line_s) i);
     line = (
       [],
-      (nesting.sh h valid head guard body n m r rule em stand c names goes contexts ps parts s pr).line ∙ pr.atoms.line ∙ made_s.line
-          ∙ ap (λ xs. xs ++ numbers (made_of r N body)) (no_waiting h valid.sound.listed valid.settled) ∙ sym (nil_right (numbers (made_of r N body))),
+      (nesting.sh h valid head guard body n m r rule em stand c names goes contexts ps parts s pr).line ∙ pr.atoms.line ∙ pr.free.brings.line
+          ∙ ap (λ xs. xs ++ new_atoms r N 0 body) (no_waiting h valid.sound.listed valid.settled) ∙ sym (nil_right (new_atoms r N 0 body)),
     );
     mem_line = ([], (nesting.sh h valid head guard body n m r rule em stand c names goes contexts ps parts s pr).mem_line ∙ line_s ∙ sym (nil_right nm));
     spare = λ x o. subst (λ k. length (added_rules r (rules_in t2) body x) ≤ k) (sym (taken_mems_spare ks t1 x ∙ taken_spare ns s x))
@@ -249,7 +244,7 @@ module _ (h : Heap) (valid : Valid h) (head : List HeadItem) (guard : List Cond)
 
     old_stands : (p : Port) → splice.In p (ports olds) → StandsAsPort t3 p
     old_stands p i =
-        let w = stands_before h valid head guard body n m r rule em stand c names pr.free ps parts p (inr i) in
+        let w = old_port_stands h valid head guard body n m r rule em stand c names pr.free ps parts p i in
         stands_t3 p (subst (λ k. p.1 < k) (sym (old_arity p.0 w.0)) w.1)
       where
         old_arity : (a : ℕ) → IsInPlace h a → arity_of s a ≡ arity_of h a

@@ -1,9 +1,9 @@
 -- The new ports of a body without membranes, and how often links stand at ports and in connectors.
-use Rattle.std.proofs.Common.{ℕ, suc, ◌+◌, ◌<◌, ◌≤◌, ◌≡◌, ◌≢◌, ◌==◌, Bool, true, false, cond, List, [], ◌∷◌, ◌++◌, map, length, refl, sym, ap, subst, ◌∙◌, inl, inr, arith}
+use Rattle.std.proofs.Common.{ℕ, suc, ◌+◌, ◌<◌, ◌≤◌, ◌≡◌, ◌≢◌, ◌⊎◌, ◌==◌, Bool, true, false, cond, List, [], ◌∷◌, ◌++◌, map, length, Option, Some, None, refl, sym, ap, subst, ◌∙◌, inl, inr, arith}
 use Rattle.std.proofs.lemmas.Bool.{cases_eq}
 use Rattle.lmn_base.specs.declared.functor.Functor.{Functor}
 use Rattle.lmn_heap.specs.Heap as heap
-use Rattle.lmn_heap.proofs.ListLemmas.{each_in}
+use Rattle.lmn_heap.proofs.ListLemmas.{each_in, in_left, in_right, apart, distinct_right}
 use Rattle.lmn_solid.specs.Heads.{Occurrence, times}
 use Rattle.lmn_splice.specs.Ports.{Port}
 use Rattle.lmn_splice.specs.Splice.{In, Distinct, one_if_same, often, both_links, ports, links}
@@ -13,7 +13,15 @@ use Rattle.lmn_body.specs.declared.items.BodyItem.TheVariants.{Atom, Connector, 
 use Rattle.lmn_body.specs.Items.{port_at, ports_from, new_ports, connectors, once_in, body_links, AllMade, NoCopies}
 use Rattle.lmn_body.specs.Running.{Registers, old_port, new_port, integer_functor}
 use Rattle.lmn_body.proofs.Coding.{at_heap}
-use Rattle.lmn_body.specs.Made.{made_of}
+use Rattle.lmn_body.specs.Made.{made_of, new_atoms, copies_of}
+use Rattle.lmn_body.specs.Tied.{partners}
+use Rattle.lmn_body.proofs.Making.{no_port, no_links}
+use Rattle.lmn_body.proofs.Brought.{HasCopy}
+use Rattle.lmn_heap.specs.Heap.{Heap, HeapAtom, new_atom, links_of, arity_of}
+use Rattle.lmn_heap.proofs.Trees.{in_either}
+use Rattle.lmn_splice.proofs.Joining.{port_cases}
+use Rattle.std.proofs.lemmas.List.{length-replicate}
+use Rattle.std.specs.Prelude.{slice_index_or}
 use Rattle.lmn_body.proofs.HeadPorts.{in_append, in_front, in_back, of_map, distinct_append}
 
 pub heap_append : {P : Type 0} (f : P → Port) (xs ys : List (P × ℕ)) → at_heap f (xs ++ ys) ≡ at_heap f xs ++ at_heap f ys
@@ -75,32 +83,56 @@ one_atom_once r a i (x ∷ xs) = (
     off : i + 1 ≤ i → ⊥
     off h = omega arith
 
--- a new port is one of a new atom
-abbrev pub IsPortOf : List (ℕ × Functor) → Port → Type 0
-IsPortOf es p = (f : Functor) × In {A = ℕ × Functor} (p.0, f) es × (p.1 < f.arity)
+-- a port of an atom that was made
+made_port : (s : Heap) (x : ℕ) (f : Functor) → s.atoms x ≡ Some (new_atom f) → (p : Port) → p.0 ≡ x → p.1 < f.arity → (p.1 < arity_of s p.0) × (partners s p ≡ None)
+made_port s x f e p q l =
+    let at : s.atoms p.0 ≡ Some (new_atom f) = ap s.atoms q ∙ e in (
+      subst (λ (o : Option HeapAtom). p.1 < length (links_of o)) (sym at) (subst (λ k. p.1 < k) (sym (length-replicate f.arity no_port)) l),
+      ap (λ (o : Option HeapAtom). slice_index_or (links_of o) p.1 None) at ∙ no_links f.arity p.1,
+    )
 
-pub new_is : (r : Registers) (a c : ℕ) (body : List BodyItem) → AllMade body → NoCopies body → (e : Port × ℕ) → In e (at_heap (new_port r) (new_ports a c body)) → IsPortOf (made_of r a body) e.0
-new_is r a c [] w p e i = absurd i
-new_is r a c (Atom functor ls inside ∷ xs) w p e i =
+made_arity : (s : Heap) (x : ℕ) (f : Functor) → s.atoms x ≡ Some (new_atom f) → arity_of s x ≡ f.arity
+made_arity s x f e = ap (λ (o : Option HeapAtom). length (links_of o)) e ∙ length-replicate f.arity no_port
+
+-- A new port is one of a new atom, and has no partner yet.
+abbrev pub IsNewPort : Heap → List ℕ → Port → Type 0
+IsNewPort s new p = heap.In p.0 new × (p.1 < arity_of s p.0) × (partners s p ≡ None)
+
+-- What was made in s stands there: written atoms, and copies of parts of h.
+abbrev pub Written : Heap → Registers → ℕ → List BodyItem → Type 0
+Written s r a body = (e : ℕ × Functor) → In e (made_of r a body) → s.atoms e.0 ≡ Some (new_atom e.1)
+
+abbrev pub AreCopied : Heap → Heap → Registers → ℕ → List BodyItem → Type 0
+AreCopied h s r c body = (e : ℕ × ℕ) → In e (copies_of c body) → HasCopy h s (r.head.images.part e.1) (r.copy e.0) (r.copied e.0)
+
+pub new_is : (r : Registers) (a c : ℕ) (body : List BodyItem) → AllMade body → (h s : Heap) → Written s r a body → AreCopied h s r c body → (e : Port × ℕ) → In e (at_heap (new_port r) (new_ports a c body)) → IsNewPort s (new_atoms r a c body) e.0
+new_is r a c [] w h s wr cp e i = absurd i
+new_is r a c (Atom functor ls inside ∷ xs) w h s wr cp e i =
     elim (in_append e (at_heap (new_port r) (ports_from a 0 ls)) (at_heap (new_port r) (new_ports (a + 1) c xs)) (subst (In e) (heap_append (new_port r) (ports_from a 0 ls) (new_ports (a + 1) c xs)) i)) [
-      | inl j ↦ (let v = one_atom r a 0 ls e j in (functor, inl (λ t. (sym v.0 t, functor)), subst (λ n. e.0.1 < n) w.0.0 (plain v.1)))
-      | inr j ↦ (let v = new_is r (a + 1) c xs w.1 p e j in (v.0, inr v.1, v.2))
+      | inl j ↦ (let v = one_atom r a 0 ls e j in
+          let u = made_port s (r.head.images.atom a) functor (wr (r.head.images.atom a, functor) (inl refl)) e.0 v.0 (subst (λ n. e.0.1 < n) w.0.0 (plain v.1)) in
+          (inl (sym v.0), u.0, u.1))
+      | inr j ↦ (let v = new_is r (a + 1) c xs w.1 h s (λ x k. wr x (inr k)) cp e j in (inr v.0, v.1, v.2))
     ]
   where
     plain : e.0.1 < 0 + length ls → e.0.1 < length ls
     plain h = omega arith
-new_is r a c (Bound integer link inside ∷ xs) w p e (inl h) = (
-  integer_functor (r.head.integer integer),
-  inl (λ t. (ap (λ (q : Port × ℕ). q.0.0) h t, integer_functor (r.head.integer integer))),
-  subst (λ z. z < 1) (ap (λ (q : Port × ℕ). q.0.1) h) (omega arith),
-)
-new_is r a c (Bound integer link inside ∷ xs) w p e (inr i) = let v = new_is r (a + 1) c xs w.1 p e i in (v.0, inr v.1, v.2)
-new_is r a c (Connector left right ∷ xs) w p e i = new_is r a c xs w.1 p e i
-new_is r a c (Copy part link inside ∷ xs) w p e i = absurd p
-new_is r a c (Membrane inside ∷ xs) w p e i = new_is r a c xs w.1 p e i
-new_is r a c (Rest of inside ∷ xs) w p e i = new_is r a c xs w.1 p e i
-new_is r a c (Rule rule inside ∷ xs) w p e i = new_is r a c xs w.1 p e i
-new_is r a c (Rules of inside ∷ xs) w p e i = new_is r a c xs w.1 p e i
+new_is r a c (Bound integer link inside ∷ xs) w h s wr cp e (inl q) =
+    let u = made_port s (r.head.images.atom a) (integer_functor (r.head.integer integer)) (wr (r.head.images.atom a, integer_functor (r.head.integer integer)) (inl refl)) e.0 (sym (ap (λ (z : Port × ℕ). z.0.0) q))
+    (subst (λ z. z < 1) (ap (λ (z : Port × ℕ). z.0.1) q) (omega arith)) in
+    (inl (ap (λ (z : Port × ℕ). z.0.0) q), u.0, u.1)
+new_is r a c (Bound integer link inside ∷ xs) w h s wr cp e (inr i) = let v = new_is r (a + 1) c xs w.1 h s (λ x k. wr x (inr k)) cp e i in (inr v.0, v.1, v.2)
+new_is r a c (Connector left right ∷ xs) w h s wr cp e i = new_is r a c xs w.1 h s wr cp e i
+new_is r a c (Copy part link inside ∷ xs) w h s wr cp e (inl q) =
+    let k = cp (c, part) (inl refl) in
+    let same : r.copy c ≡ e.0 = ap (λ (z : Port × ℕ). z.0) q in
+    subst (IsNewPort s (r.copied c ++ new_atoms r a (c + 1) xs)) same (in_left (r.copy c).0 (r.copied c) (new_atoms r a (c + 1) xs) k.ours, k.port, k.free)
+new_is r a c (Copy part link inside ∷ xs) w h s wr cp e (inr i) =
+    let v = new_is r a (c + 1) xs w.1 h s wr (λ x k. cp x (inr k)) e i in (in_right e.0.0 (r.copied c) (new_atoms r a (c + 1) xs) v.0, v.1, v.2)
+new_is r a c (Membrane inside ∷ xs) w h s wr cp e i = new_is r a c xs w.1 h s wr cp e i
+new_is r a c (Rest of inside ∷ xs) w h s wr cp e i = new_is r a c xs w.1 h s wr cp e i
+new_is r a c (Rule rule inside ∷ xs) w h s wr cp e i = new_is r a c xs w.1 h s wr cp e i
+new_is r a c (Rules of inside ∷ xs) w h s wr cp e i = new_is r a c xs w.1 h s wr cp e i
 
 ports_append : (xs ys : List (Port × ℕ)) → ports (xs ++ ys) ≡ ports xs ++ ports ys
 ports_append [] ys = refl
@@ -110,32 +142,49 @@ links_append : (xs ys : List (Port × ℕ)) → links (xs ++ ys) ≡ links xs ++
 links_append [] ys = refl
 links_append (x ∷ xs) ys = ap (λ zs. x.1 ∷ zs) (links_append xs ys)
 
--- each port of a new atom is a new port
-pub new_all : (r : Registers) (a c : ℕ) (body : List BodyItem) → AllMade body → NoCopies body → (p : Port) → IsPortOf (made_of r a body) p → In p (ports (at_heap (new_port r) (new_ports a c body)))
-new_all r a c [] w s p i = absurd i.1
-new_all r a c (Atom functor ls inside ∷ xs) w s p (f, inl h, below) =
-    subst (In p) (sym (ap ports (heap_append (new_port r) (ports_from a 0 ls) (new_ports (a + 1) c xs)) ∙ ports_append (at_heap (new_port r) (ports_from a 0 ls)) (at_heap (new_port r) (new_ports (a + 1) c xs))))
+-- a port of a new atom is a new port, or has a partner at a new atom
+abbrev pub NewOrInside : Heap → Registers → ℕ → ℕ → List BodyItem → Port → Type 0
+NewOrInside s r a c body p = In p (ports (at_heap (new_port r) (new_ports a c body))) ⊎ ((q : Port) × heap.In q.0 (new_atoms r a c body) × (partners s p ≡ Some q))
+
+pub new_all : (r : Registers) (a c : ℕ) (body : List BodyItem) → AllMade body → (h s : Heap) → Written s r a body → AreCopied h s r c body → (p : Port) → heap.In p.0 (new_atoms r a c body) → p.1 < arity_of s p.0 → NewOrInside s r a c body p
+new_all r a c [] w h s wr cp p i l = absurd i
+new_all r a c (Atom functor ls inside ∷ xs) w h s wr cp p (inl q) l =
+    inl (subst (In p) (sym (ap ports (heap_append (new_port r) (ports_from a 0 ls) (new_ports (a + 1) c xs)) ∙ ports_append (at_heap (new_port r) (ports_from a 0 ls)) (at_heap (new_port r) (new_ports (a + 1) c xs))))
     (in_front p (ports (at_heap (new_port r) (ports_from a 0 ls))) (ports (at_heap (new_port r) (new_ports (a + 1) c xs)))
-    (subst (λ (z : Port). In z (ports (at_heap (new_port r) (ports_from a 0 ls)))) (λ t. (ap (λ (q : ℕ × Functor). q.0) h t, p.1))
-    (one_atom_all r a 0 p.1 ls (omega arith) (plain p.1 (subst (λ n. p.1 < n) (ap (λ (q : ℕ × Functor). q.1.arity) (sym h) ∙ sym w.0.0) below)))))
+    (subst (λ (z : Port). In z (ports (at_heap (new_port r) (ports_from a 0 ls)))) (λ t. (q t, p.1))
+    (one_atom_all r a 0 p.1 ls (omega arith) (plain p.1 (subst (λ n. p.1 < n) (ap (arity_of s) (sym q) ∙ made_arity s (r.head.images.atom a) functor (wr (r.head.images.atom a, functor) (inl refl)) ∙ sym w.0.0) l))))))
   where
     plain : (k : ℕ) → k < length ls → k < 0 + length ls
     plain k h = omega arith
-new_all r a c (Atom functor ls inside ∷ xs) w s p (f, inr i, below) =
-    subst (In p) (sym (ap ports (heap_append (new_port r) (ports_from a 0 ls) (new_ports (a + 1) c xs)) ∙ ports_append (at_heap (new_port r) (ports_from a 0 ls)) (at_heap (new_port r) (new_ports (a + 1) c xs))))
-    (in_back p (ports (at_heap (new_port r) (ports_from a 0 ls))) (ports (at_heap (new_port r) (new_ports (a + 1) c xs))) (new_all r (a + 1) c xs w.1 s p (f, i, below)))
-new_all r a c (Bound integer link inside ∷ xs) w s p (f, inl h, below) =
-    inl (λ t. (ap (λ (q : ℕ × Functor). q.0) h t, zero_port p.1 (subst (λ n. p.1 < n) (ap (λ (q : ℕ × Functor). q.1.arity) (sym h)) below) t))
+new_all r a c (Atom functor ls inside ∷ xs) w h s wr cp p (inr i) l = elim (new_all r (a + 1) c xs w.1 h s (λ x k. wr x (inr k)) cp p i l) [
+  | inl j ↦ inl (subst (In p) (sym (ap ports (heap_append (new_port r) (ports_from a 0 ls) (new_ports (a + 1) c xs)) ∙ ports_append (at_heap (new_port r) (ports_from a 0 ls)) (at_heap (new_port r) (new_ports (a + 1) c xs))))
+      (in_back p (ports (at_heap (new_port r) (ports_from a 0 ls))) (ports (at_heap (new_port r) (new_ports (a + 1) c xs))) j))
+  | inr u ↦ inr (u.0, inr u.1, u.2)
+]
+new_all r a c (Bound integer link inside ∷ xs) w h s wr cp p (inl q) l =
+    inl (inl (λ t. (q t, zero_port p.1 (subst (λ n. p.1 < n) (ap (arity_of s) (sym q) ∙ made_arity s (r.head.images.atom a) (integer_functor (r.head.integer integer)) (wr (r.head.images.atom a, integer_functor (r.head.integer integer)) (inl refl))) l) t)))
   where
     zero_port : (k : ℕ) → k < 1 → 0 ≡ k
     zero_port k h = omega arith
-new_all r a c (Bound integer link inside ∷ xs) w s p (f, inr i, below) = inr (new_all r (a + 1) c xs w.1 s p (f, i, below))
-new_all r a c (Connector left right ∷ xs) w s p i = new_all r a c xs w.1 s p i
-new_all r a c (Copy part link inside ∷ xs) w s p i = absurd s
-new_all r a c (Membrane inside ∷ xs) w s p i = new_all r a c xs w.1 s p i
-new_all r a c (Rest of inside ∷ xs) w s p i = new_all r a c xs w.1 s p i
-new_all r a c (Rule rule inside ∷ xs) w s p i = new_all r a c xs w.1 s p i
-new_all r a c (Rules of inside ∷ xs) w s p i = new_all r a c xs w.1 s p i
+new_all r a c (Bound integer link inside ∷ xs) w h s wr cp p (inr i) l = elim (new_all r (a + 1) c xs w.1 h s (λ x k. wr x (inr k)) cp p i l) [
+  | inl j ↦ inl (inr j)
+  | inr u ↦ inr (u.0, inr u.1, u.2)
+]
+new_all r a c (Connector left right ∷ xs) w h s wr cp p i l = new_all r a c xs w.1 h s wr cp p i l
+new_all r a c (Copy part link inside ∷ xs) w h s wr cp p i l = elim (in_either p.0 (r.copied c) (new_atoms r a (c + 1) xs) i) [
+  | inl j ↦ elim (port_cases p (r.copy c)) [
+    | inl e ↦ inl (inl (sym e))
+    | inr d ↦ (let u = (cp (c, part) (inl refl)).inside p j l d in inr (u.0, in_left u.0.0 (r.copied c) (new_atoms r a (c + 1) xs) u.1, u.2))
+  ]
+  | inr j ↦ elim (new_all r a (c + 1) xs w.1 h s wr (λ x k. cp x (inr k)) p j l) [
+    | inl v ↦ inl (inr v)
+    | inr u ↦ inr (u.0, in_right u.0.0 (r.copied c) (new_atoms r a (c + 1) xs) u.1, u.2)
+  ]
+]
+new_all r a c (Membrane inside ∷ xs) w h s wr cp p i l = new_all r a c xs w.1 h s wr cp p i l
+new_all r a c (Rest of inside ∷ xs) w h s wr cp p i l = new_all r a c xs w.1 h s wr cp p i l
+new_all r a c (Rule rule inside ∷ xs) w h s wr cp p i l = new_all r a c xs w.1 h s wr cp p i l
+new_all r a c (Rules of inside ∷ xs) w h s wr cp p i l = new_all r a c xs w.1 h s wr cp p i l
 
 abbrev pub numbers : List (ℕ × Functor) → List ℕ
 numbers es = map (λ (e : ℕ × Functor). e.0) es
@@ -145,30 +194,74 @@ number_in a f [] i = absurd i
 number_in a f (e ∷ es) (inl h) = inl (ap (λ (q : ℕ × Functor). q.0) h)
 number_in a f (e ∷ es) (inr i) = inr (number_in a f es i)
 
+-- a written atom is a new one
+pub written_new : (r : Registers) (a c : ℕ) (body : List BodyItem) (x : ℕ) (f : Functor) → In {A = ℕ × Functor} (x, f) (made_of r a body) → heap.In x (new_atoms r a c body)
+written_new r a c [] x f i = absurd i
+written_new r a c (Atom functor ls inside ∷ xs) x f (inl e) = inl (ap (λ (q : ℕ × Functor). q.0) e)
+written_new r a c (Atom functor ls inside ∷ xs) x f (inr i) = inr (written_new r (a + 1) c xs x f i)
+written_new r a c (Bound integer link inside ∷ xs) x f (inl e) = inl (ap (λ (q : ℕ × Functor). q.0) e)
+written_new r a c (Bound integer link inside ∷ xs) x f (inr i) = inr (written_new r (a + 1) c xs x f i)
+written_new r a c (Connector left right ∷ xs) x f i = written_new r a c xs x f i
+written_new r a c (Copy part link inside ∷ xs) x f i = in_right x (r.copied c) (new_atoms r a (c + 1) xs) (written_new r a (c + 1) xs x f i)
+written_new r a c (Membrane inside ∷ xs) x f i = written_new r a c xs x f i
+written_new r a c (Rest of inside ∷ xs) x f i = written_new r a c xs x f i
+written_new r a c (Rule rule inside ∷ xs) x f i = written_new r a c xs x f i
+written_new r a c (Rules of inside ∷ xs) x f i = written_new r a c xs x f i
+
+-- in a body without copies only what is written is new
+pub plain_new : (r : Registers) (a c : ℕ) (body : List BodyItem) → NoCopies body → new_atoms r a c body ≡ numbers (made_of r a body)
+plain_new r a c [] s = refl
+plain_new r a c (Atom functor links inside ∷ xs) s = ap (λ ys. r.head.images.atom a ∷ ys) (plain_new r (a + 1) c xs s)
+plain_new r a c (Bound integer link inside ∷ xs) s = ap (λ ys. r.head.images.atom a ∷ ys) (plain_new r (a + 1) c xs s)
+plain_new r a c (Connector left right ∷ xs) s = plain_new r a c xs s
+plain_new r a c (Copy part link inside ∷ xs) s = absurd s
+plain_new r a c (Membrane inside ∷ xs) s = plain_new r a c xs s
+plain_new r a c (Rest of inside ∷ xs) s = plain_new r a c xs s
+plain_new r a c (Rule rule inside ∷ xs) s = plain_new r a c xs s
+plain_new r a c (Rules of inside ∷ xs) s = plain_new r a c xs s
+
+-- an atom of a copy is a new one
+pub copied_new : (r : Registers) (a c : ℕ) (body : List BodyItem) (e : ℕ × ℕ) (y : ℕ) → In e (copies_of c body) → heap.In y (r.copied e.0) → heap.In y (new_atoms r a c body)
+copied_new r a c [] e y i j = absurd i
+copied_new r a c (Atom functor ls inside ∷ xs) e y i j = inr (copied_new r (a + 1) c xs e y i j)
+copied_new r a c (Bound integer link inside ∷ xs) e y i j = inr (copied_new r (a + 1) c xs e y i j)
+copied_new r a c (Connector left right ∷ xs) e y i j = copied_new r a c xs e y i j
+copied_new r a c (Copy part link inside ∷ xs) e y (inl q) j = in_left y (r.copied c) (new_atoms r a (c + 1) xs) (subst (λ (z : ℕ × ℕ). heap.In y (r.copied z.0)) (sym q) j)
+copied_new r a c (Copy part link inside ∷ xs) e y (inr i) j = in_right y (r.copied c) (new_atoms r a (c + 1) xs) (copied_new r a (c + 1) xs e y i j)
+copied_new r a c (Membrane inside ∷ xs) e y i j = copied_new r a c xs e y i j
+copied_new r a c (Rest of inside ∷ xs) e y i j = copied_new r a c xs e y i j
+copied_new r a c (Rule rule inside ∷ xs) e y i j = copied_new r a c xs e y i j
+copied_new r a c (Rules of inside ∷ xs) e y i j = copied_new r a c xs e y i j
+
 -- no new port is named twice
-pub new_ports_once : (r : Registers) (a c : ℕ) (body : List BodyItem) → AllMade body → NoCopies body → heap.Distinct (numbers (made_of r a body)) → Distinct (ports (at_heap (new_port r) (new_ports a c body)))
-new_ports_once r a c [] w s d = tt
-new_ports_once r a c (Atom functor ls inside ∷ xs) w s d =
+pub new_ports_once : (r : Registers) (a c : ℕ) (body : List BodyItem) → AllMade body → (h s : Heap) → Written s r a body → AreCopied h s r c body → heap.Distinct (new_atoms r a c body) → Distinct (ports (at_heap (new_port r) (new_ports a c body)))
+new_ports_once r a c [] w h s wr cp d = tt
+new_ports_once r a c (Atom functor ls inside ∷ xs) w h s wr cp d =
     subst Distinct (sym (ap ports (heap_append (new_port r) (ports_from a 0 ls) (new_ports (a + 1) c xs)) ∙ ports_append (at_heap (new_port r) (ports_from a 0 ls)) (at_heap (new_port r) (new_ports (a + 1) c xs))))
-    (distinct_append (ports (at_heap (new_port r) (ports_from a 0 ls))) (ports (at_heap (new_port r) (new_ports (a + 1) c xs))) (one_atom_once r a 0 ls) (new_ports_once r (a + 1) c xs w.1 s d.1)
+    (distinct_append (ports (at_heap (new_port r) (ports_from a 0 ls))) (ports (at_heap (new_port r) (new_ports (a + 1) c xs))) (one_atom_once r a 0 ls) (new_ports_once r (a + 1) c xs w.1 h s (λ x k. wr x (inr k)) cp d.1)
     (λ p i j.
     let v = of_map (λ (q : Port × ℕ). q.0) p (at_heap (new_port r) (ports_from a 0 ls)) i in
     let u = of_map (λ (q : Port × ℕ). q.0) p (at_heap (new_port r) (new_ports (a + 1) c xs)) j in
-    let x = new_is r (a + 1) c xs w.1 s u.0 u.1 in
-    each_in (λ y. r.head.images.atom a ≢ y) (numbers (made_of r (a + 1) xs)) u.0.0.0 d.0 (number_in u.0.0.0 x.0 (made_of r (a + 1) xs) x.1)
+    let x = new_is r (a + 1) c xs w.1 h s (λ x k. wr x (inr k)) cp u.0 u.1 in
+    each_in (λ y. r.head.images.atom a ≢ y) (new_atoms r (a + 1) c xs) u.0.0.0 d.0 x.0
     (sym (one_atom r a 0 ls v.0 v.1).0 ∙ ap (λ (q : Port). q.0) (v.2 ∙ sym u.2))))
-new_ports_once r a c (Bound integer link inside ∷ xs) w s d = (
+new_ports_once r a c (Bound integer link inside ∷ xs) w h s wr cp d = (
   (λ j. let u = of_map (λ (q : Port × ℕ). q.0) (r.head.images.atom a, 0) (at_heap (new_port r) (new_ports (a + 1) c xs)) j in
-      let x = new_is r (a + 1) c xs w.1 s u.0 u.1 in
-      each_in (λ y. r.head.images.atom a ≢ y) (numbers (made_of r (a + 1) xs)) u.0.0.0 d.0 (number_in u.0.0.0 x.0 (made_of r (a + 1) xs) x.1) (sym (ap (λ (q : Port). q.0) u.2))),
-  new_ports_once r (a + 1) c xs w.1 s d.1,
+      let x = new_is r (a + 1) c xs w.1 h s (λ x k. wr x (inr k)) cp u.0 u.1 in
+      each_in (λ y. r.head.images.atom a ≢ y) (new_atoms r (a + 1) c xs) u.0.0.0 d.0 x.0 (sym (ap (λ (q : Port). q.0) u.2))),
+  new_ports_once r (a + 1) c xs w.1 h s (λ x k. wr x (inr k)) cp d.1,
 )
-new_ports_once r a c (Connector left right ∷ xs) w s d = new_ports_once r a c xs w.1 s d
-new_ports_once r a c (Copy part link inside ∷ xs) w s d = absurd s
-new_ports_once r a c (Membrane inside ∷ xs) w s d = new_ports_once r a c xs w.1 s d
-new_ports_once r a c (Rest of inside ∷ xs) w s d = new_ports_once r a c xs w.1 s d
-new_ports_once r a c (Rule rule inside ∷ xs) w s d = new_ports_once r a c xs w.1 s d
-new_ports_once r a c (Rules of inside ∷ xs) w s d = new_ports_once r a c xs w.1 s d
+new_ports_once r a c (Connector left right ∷ xs) w h s wr cp d = new_ports_once r a c xs w.1 h s wr cp d
+new_ports_once r a c (Copy part link inside ∷ xs) w h s wr cp d = (
+  (λ j. let u = of_map (λ (q : Port × ℕ). q.0) (r.copy c) (at_heap (new_port r) (new_ports a (c + 1) xs)) j in
+      let x = new_is r a (c + 1) xs w.1 h s wr (λ x k. cp x (inr k)) u.0 u.1 in
+      apart (r.copied c) (new_atoms r a (c + 1) xs) (r.copy c).0 u.0.0.0 d (cp (c, part) (inl refl)).ours x.0 (sym (ap (λ (q : Port). q.0) u.2))),
+  new_ports_once r a (c + 1) xs w.1 h s wr (λ x k. cp x (inr k)) (distinct_right (r.copied c) (new_atoms r a (c + 1) xs) d),
+)
+new_ports_once r a c (Membrane inside ∷ xs) w h s wr cp d = new_ports_once r a c xs w.1 h s wr cp d
+new_ports_once r a c (Rest of inside ∷ xs) w h s wr cp d = new_ports_once r a c xs w.1 h s wr cp d
+new_ports_once r a c (Rule rule inside ∷ xs) w h s wr cp d = new_ports_once r a c xs w.1 h s wr cp d
+new_ports_once r a c (Rules of inside ∷ xs) w h s wr cp d = new_ports_once r a c xs w.1 h s wr cp d
 
 -- Counts of links
 
@@ -176,21 +269,21 @@ one_atom_links : (r : Registers) (a i x : ℕ) (xs : List ℕ) → often x (link
 one_atom_links r a i x [] = refl
 one_atom_links r a i x (y ∷ xs) = ap (λ n. one_if_same x y + n) (one_atom_links r a (i + 1) x xs)
 
-pub body_count : (r : Registers) (a c x : ℕ) (body : List BodyItem) → NoCopies body → often x (both_links (connectors body)) + often x (links (at_heap (new_port r) (new_ports a c body))) ≡ often x (body_links body)
-body_count r a c x [] s = refl
-body_count r a c x (Atom functor ls inside ∷ xs) s =
+pub body_count : (r : Registers) (a c x : ℕ) (body : List BodyItem) → often x (both_links (connectors body)) + often x (links (at_heap (new_port r) (new_ports a c body))) ≡ often x (body_links body)
+body_count r a c x [] = refl
+body_count r a c x (Atom functor ls inside ∷ xs) =
     let e = ap (λ zs. often x (links zs)) (heap_append (new_port r) (ports_from a 0 ls) (new_ports (a + 1) c xs))
     ∙ ap (often x) (links_append (at_heap (new_port r) (ports_from a 0 ls)) (at_heap (new_port r) (new_ports (a + 1) c xs)))
     ∙ often_append x (links (at_heap (new_port r) (ports_from a 0 ls))) (links (at_heap (new_port r) (new_ports (a + 1) c xs))) in
     let g = often_append x ls (body_links xs) in
-    omega (arith, e, g, one_atom_links r a 0 x ls, body_count r (a + 1) c x xs s)
-body_count r a c x (Bound integer link inside ∷ xs) s = omega (arith, body_count r (a + 1) c x xs s)
-body_count r a c x (Connector left right ∷ xs) s = omega (arith, body_count r a c x xs s)
-body_count r a c x (Copy part link inside ∷ xs) s = absurd s
-body_count r a c x (Membrane inside ∷ xs) s = body_count r a c x xs s
-body_count r a c x (Rest of inside ∷ xs) s = body_count r a c x xs s
-body_count r a c x (Rule rule inside ∷ xs) s = body_count r a c x xs s
-body_count r a c x (Rules of inside ∷ xs) s = body_count r a c x xs s
+    omega (arith, e, g, one_atom_links r a 0 x ls, body_count r (a + 1) c x xs)
+body_count r a c x (Bound integer link inside ∷ xs) = omega (arith, body_count r (a + 1) c x xs)
+body_count r a c x (Connector left right ∷ xs) = omega (arith, body_count r a c x xs)
+body_count r a c x (Copy part link inside ∷ xs) = omega (arith, body_count r a (c + 1) x xs)
+body_count r a c x (Membrane inside ∷ xs) = body_count r a c x xs
+body_count r a c x (Rest of inside ∷ xs) = body_count r a c x xs
+body_count r a c x (Rule rule inside ∷ xs) = body_count r a c x xs
+body_count r a c x (Rules of inside ∷ xs) = body_count r a c x xs
 
 -- how often a link stands at places whose links stand once in a list
 pub once_count : (r : Registers) (x : ℕ) (xs : List ℕ) (os : List Occurrence) → often x (links (at_heap (old_port r) (once_in xs os))) ≡ cond (times x xs == 1) (often x (map (λ (o : Occurrence). o.link) os)) 0

@@ -40,10 +40,10 @@ prepares_taken r (n ∷ ns) s t w = prepares_taken r ns w.0 t w.2 ∙ w.1
 
 -- What is made
 
-pub commits_placed : (r : Registers) (a m c : ℕ) (body : List BodyItem) → Simple body → (s t : Heap) → Commits r (making a m c body) s t → t ≡ all_placed s (places_of r a body)
+pub commits_placed : (r : Registers) (a m c : ℕ) (body : List BodyItem) → Simple body → (s t : Heap) → Commits r (making a m c body) s t → t ≡ all_placed s (places_of r a c body)
 commits_placed r a m c [] p s t w = w
-commits_placed r a m c (Atom functor links inside ∷ xs) p s t w = commits_placed r (a + 1) m c xs p.1 w.0 t w.2 ∙ ap (λ z. all_placed z (places_of r (a + 1) xs)) w.1.1
-commits_placed r a m c (Bound integer link inside ∷ xs) p s t w = commits_placed r (a + 1) m c xs p.1 w.0 t w.2 ∙ ap (λ z. all_placed z (places_of r (a + 1) xs)) w.1.1
+commits_placed r a m c (Atom functor links inside ∷ xs) p s t w = commits_placed r (a + 1) m c xs p.1 w.0 t w.2 ∙ ap (λ z. all_placed z (places_of r (a + 1) c xs)) w.1.1
+commits_placed r a m c (Bound integer link inside ∷ xs) p s t w = commits_placed r (a + 1) m c xs p.1 w.0 t w.2 ∙ ap (λ z. all_placed z (places_of r (a + 1) c xs)) w.1.1
 commits_placed r a m c (Connector left right ∷ xs) p s t w = commits_placed r a m c xs p.1 s t w
 commits_placed r a m c (Copy part link inside ∷ xs) p s t w = absurd p.0
 commits_placed r a m c (Membrane inside ∷ xs) p s t w = absurd p.0

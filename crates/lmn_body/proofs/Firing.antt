@@ -1,7 +1,6 @@
 -- A body of atoms, connectors and integers fires at an embedding of a head of atoms.
 use Rattle.std.proofs.Common.{ℕ, zero, suc, ◌+◌, ◌<◌, ◌≤◌, ◌≡◌, ◌≢◌, ◌⊎◌, ◌==◌, Bool, true, false, cond, List, [], ◌∷◌, ◌++◌, map, length, Option, Some, None, IsSome, refl, sym, ap, subst, ◌∙◌, inl, inr, arith}
 use Rattle.std.proofs.lemmas.Bool.{cases_eq, cases_lt, eq-eqb, eqb-true}
-use Rattle.std.proofs.lemmas.List.{length-replicate}
 use Rattle.std.specs.Option.{option_map, option_and_then}
 use Rattle.std.specs.Prelude.{slice_get}
 use Rattle.std.specs.Prelude as prelude
@@ -40,11 +39,13 @@ use Rattle.lmn_heap.proofs.Depths.{both_distinct}
 use Rattle.lmn_body.specs.Names.{StandsPort, Names}
 use Rattle.lmn_body.proofs.Phases.{AllHome, AllStand, place_home, atoms_of_pairs}
 use Rattle.lmn_body.proofs.Finishing.{within_of, in_place_listed}
-use Rattle.lmn_body.proofs.Making.{AllFree, AfterMaking, all_made, all_made_after, made_functor, made_once}
+use Rattle.lmn_body.proofs.Brought.{brought_old}
+use Rattle.lmn_body.proofs.Preparing.{Brought}
+use Rattle.lmn_heap.proofs.Replacing.{port_within}
 use Rattle.lmn_body.proofs.Coding.{at_heap}
-use Rattle.lmn_body.specs.Made.{made_of, places_of}
+use Rattle.lmn_body.specs.Made.{made_of, places_of, new_atoms, copies_of}
 use Rattle.lmn_body.proofs.HeadPorts.{in_append, times_one, times_append, in_map, of_map, get_some, get_below, times_often, at_atoms_in, in_at_atoms, at_atoms_once, other_port, once_in_of, of_once_in}
-use Rattle.lmn_body.proofs.BodyPorts.{heap_in, of_heap, IsPortOf, new_is, new_all, numbers, number_in, new_ports_once, body_count, once_count}
+use Rattle.lmn_body.proofs.BodyPorts.{heap_in, of_heap, IsNewPort, Written, NewOrInside, new_is, new_all, new_ports_once, body_count, once_count}
 use Rattle.lmn_body.proofs.Committing.{Poised, EndsLive}
 
 -- Numbers from 0 on
@@ -94,27 +95,49 @@ distinct_images f (suc n) a once = (
     top : (x : ℕ) → x < suc a + n → x < a + suc n
     top x h = omega arith
 
-places_numbers : (r : Registers) (a : ℕ) (body : List BodyItem) → atoms_of_pairs (places_of r a body) ≡ numbers (made_of r a body)
-places_numbers r a [] = refl
-places_numbers r a (item.Atom functor ls inside ∷ xs) = ap (λ ys. r.head.images.atom a ∷ ys) (places_numbers r (a + 1) xs)
-places_numbers r a (item.Bound integer link inside ∷ xs) = ap (λ ys. r.head.images.atom a ∷ ys) (places_numbers r (a + 1) xs)
-places_numbers r a (item.Connector left right ∷ xs) = places_numbers r a xs
-places_numbers r a (item.Copy part link inside ∷ xs) = places_numbers r a xs
-places_numbers r a (item.Membrane inside ∷ xs) = places_numbers r a xs
-places_numbers r a (item.Rest of inside ∷ xs) = places_numbers r a xs
-places_numbers r a (item.Rule rule inside ∷ xs) = places_numbers r a xs
-places_numbers r a (item.Rules of inside ∷ xs) = places_numbers r a xs
+places_numbers : (r : Registers) (a c : ℕ) (body : List BodyItem) → atoms_of_pairs (places_of r a c body) ≡ new_atoms r a c body
+places_numbers r a c [] = refl
+places_numbers r a c (item.Atom functor ls inside ∷ xs) = ap (λ ys. r.head.images.atom a ∷ ys) (places_numbers r (a + 1) c xs)
+places_numbers r a c (item.Bound integer link inside ∷ xs) = ap (λ ys. r.head.images.atom a ∷ ys) (places_numbers r (a + 1) c xs)
+places_numbers r a c (item.Connector left right ∷ xs) = places_numbers r a c xs
+places_numbers r a c (item.Copy part link inside ∷ xs) = copy_places (r.head.images.membrane inside) (r.copied c) (places_of r a (c + 1) xs) ∙ ap (λ ys. r.copied c ++ ys) (places_numbers r a (c + 1) xs)
+  where
+    copy_places : (m : ℕ) (ys : List ℕ) (es : List (ℕ × ℕ)) → atoms_of_pairs (map (λ y. (m, y)) ys ++ es) ≡ ys ++ atoms_of_pairs es
+    copy_places m [] es = refl
+    copy_places m (y ∷ ys) es = ap (λ zs. y ∷ zs) (copy_places m ys es)
+places_numbers r a c (item.Membrane inside ∷ xs) = places_numbers r a c xs
+places_numbers r a c (item.Rest of inside ∷ xs) = places_numbers r a c xs
+places_numbers r a c (item.Rule rule inside ∷ xs) = places_numbers r a c xs
+places_numbers r a c (item.Rules of inside ∷ xs) = places_numbers r a c xs
 
-stand_at : (s : Heap) (r : Registers) (a : ℕ) (body : List BodyItem) → Simple body → IsSome (s.mems (r.head.images.membrane 0)) → (mem_place_of s (r.head.images.membrane 0) ≡ Some waiting → ⊥) → AllStand s (places_of r a body)
-stand_at s r a [] p i w = tt
-stand_at s r a (item.Atom functor ls inside ∷ xs) p i w = (subst (λ k. IsSome (s.mems (r.head.images.membrane k))) (sym p.0) i, (λ e. w (ap (λ k. mem_place_of s (r.head.images.membrane k)) (sym p.0) ∙ e)), stand_at s r (a + 1) xs p.1 i w)
-stand_at s r a (item.Bound integer link inside ∷ xs) p i w = (subst (λ k. IsSome (s.mems (r.head.images.membrane k))) (sym p.0) i, (λ e. w (ap (λ k. mem_place_of s (r.head.images.membrane k)) (sym p.0) ∙ e)), stand_at s r (a + 1) xs p.1 i w)
-stand_at s r a (item.Connector left right ∷ xs) p i w = stand_at s r a xs p.1 i w
-stand_at s r a (item.Copy part link inside ∷ xs) p i w = absurd p.0
-stand_at s r a (item.Membrane inside ∷ xs) p i w = absurd p.0
-stand_at s r a (item.Rest of inside ∷ xs) p i w = absurd p.0
-stand_at s r a (item.Rule rule inside ∷ xs) p i w = absurd p.0
-stand_at s r a (item.Rules of inside ∷ xs) p i w = absurd p.0
+stand_at : (s : Heap) (r : Registers) (a c : ℕ) (body : List BodyItem) → Simple body → IsSome (s.mems (r.head.images.membrane 0)) → (mem_place_of s (r.head.images.membrane 0) ≡ Some waiting → ⊥) → AllStand s (places_of r a c body)
+stand_at s r a c [] p i w = tt
+stand_at s r a c (item.Atom functor ls inside ∷ xs) p i w = (subst (λ k. IsSome (s.mems (r.head.images.membrane k))) (sym p.0) i, (λ e. w (ap (λ k. mem_place_of s (r.head.images.membrane k)) (sym p.0) ∙ e)), stand_at s r (a + 1) c xs p.1 i w)
+stand_at s r a c (item.Bound integer link inside ∷ xs) p i w = (subst (λ k. IsSome (s.mems (r.head.images.membrane k))) (sym p.0) i, (λ e. w (ap (λ k. mem_place_of s (r.head.images.membrane k)) (sym p.0) ∙ e)), stand_at s r (a + 1) c xs p.1 i w)
+stand_at s r a c (item.Connector left right ∷ xs) p i w = stand_at s r a c xs p.1 i w
+stand_at s r a c (item.Copy part link inside ∷ xs) p i w = absurd p.0
+stand_at s r a c (item.Membrane inside ∷ xs) p i w = absurd p.0
+stand_at s r a c (item.Rest of inside ∷ xs) p i w = absurd p.0
+stand_at s r a c (item.Rule rule inside ∷ xs) p i w = absurd p.0
+stand_at s r a c (item.Rules of inside ∷ xs) p i w = absurd p.0
+
+-- a new atom is written, or one of a copy
+new_or_copied : (s : Heap) (r : Registers) (a c : ℕ) (body : List BodyItem) → Written s r a body → (b : ℕ) → heap.In b (new_atoms r a c body)
+    → ((f : Functor) × In {A = ℕ × Functor} (b, f) (made_of r a body)) ⊎ ((e : ℕ × ℕ) × In e (copies_of c body) × heap.In b (r.copied e.0))
+new_or_copied s r a c [] w b i = absurd i
+new_or_copied s r a c (item.Atom functor ls inside ∷ xs) w b (inl e) = inl (functor, inl (λ t. (e t, functor)))
+new_or_copied s r a c (item.Atom functor ls inside ∷ xs) w b (inr i) = elim (new_or_copied s r (a + 1) c xs (λ x k. w x (inr k)) b i) [ inl v ↦ inl (v.0, inr v.1) | inr v ↦ inr v ]
+new_or_copied s r a c (item.Bound integer link inside ∷ xs) w b (inl e) = inl (integer_functor (r.head.integer integer), inl (λ t. (e t, integer_functor (r.head.integer integer))))
+new_or_copied s r a c (item.Bound integer link inside ∷ xs) w b (inr i) = elim (new_or_copied s r (a + 1) c xs (λ x k. w x (inr k)) b i) [ inl v ↦ inl (v.0, inr v.1) | inr v ↦ inr v ]
+new_or_copied s r a c (item.Connector left right ∷ xs) w b i = new_or_copied s r a c xs w b i
+new_or_copied s r a c (item.Copy part link inside ∷ xs) w b i = elim (in_either b (r.copied c) (new_atoms r a (c + 1) xs) i) [
+  | inl j ↦ inr ((c, part), inl refl, j)
+  | inr j ↦ elim (new_or_copied s r a (c + 1) xs w b j) [ inl v ↦ inl v | inr v ↦ inr (v.0, inr v.1, v.2) ]
+]
+new_or_copied s r a c (item.Membrane inside ∷ xs) w b i = new_or_copied s r a c xs w b i
+new_or_copied s r a c (item.Rest of inside ∷ xs) w b i = new_or_copied s r a c xs w b i
+new_or_copied s r a c (item.Rule rule inside ∷ xs) w b i = new_or_copied s r a c xs w b i
+new_or_copied s r a c (item.Rules of inside ∷ xs) w b i = new_or_copied s r a c xs w b i
 
 -- no new atom is a connector
 plain_made : (r : Registers) (a : ℕ) (body : List BodyItem) → AllMade body → (e : ℕ × Functor) → In e (made_of r a body) → e.1 ≢ connector
@@ -231,7 +254,7 @@ olds_once r N once xs (o ∷ os) d below = by (times o.link xs == 1) (olds_once 
     by false w = w
 
 module _ (h : Heap) (valid : Valid h) (head : List HeadItem) (guard : List Cond) (body : List BodyItem) (n m : ℕ) (r : Registers) (rule : AtomRule head body n)
-    (em : Embeds h head guard m r.head.images) (stand : IsMemInPlace h m) (c : Port → ℕ) (names : Names h c) (free : AllFree h (made_of r (length (atoms_of head)) body))
+    (em : Embeds h head guard m r.head.images) (stand : IsMemInPlace h m) (c : Port → ℕ) (names : Names h c) (free : Brought c h r (length (atoms_of head)) body)
     (ps : List ℕ) (parts : PartAtoms h head r.head.images ps) where
   abbrev pub N : ℕ
   N = length (atoms_of head)
@@ -240,10 +263,13 @@ module _ (h : Heap) (valid : Valid h) (head : List HeadItem) (guard : List Cond)
   mk = made_of r N body
 
   abbrev pub es : List (ℕ × ℕ)
-  es = places_of r N body
+  es = places_of r N 0 body
+
+  abbrev pub new : List ℕ
+  new = new_atoms r N 0 body
 
   abbrev pub s : Heap
-  s = all_made h mk
+  s = free.heap
 
   -- what is taken
   abbrev pub images : List ℕ
@@ -261,8 +287,12 @@ module _ (h : Heap) (valid : Valid h) (head : List HeadItem) (guard : List Cond)
   abbrev pub wires : List (ℕ × ℕ)
   wires = connectors body
 
-  pub ma : AfterMaking h s mk
-  ma = all_made_after mk h valid.sound free
+  -- what was there is as it was
+  pub old_atom : (a : ℕ) → IsAtom h a → s.atoms a ≡ h.atoms a
+  old_atom a is = (brought_old free.brings a is).1
+
+  old_link : (p : Port) → IsAtom h p.0 → partners s p ≡ partners h p
+  old_link p is = ap (λ (o : Option HeapAtom). prelude.slice_index_or (links_of o) p.1 None) (old_atom p.0 is)
 
   -- Head atoms
 
@@ -305,7 +335,7 @@ module _ (h : Heap) (valid : Valid h) (head : List HeadItem) (guard : List Cond)
       by (Some x) i = refl
 
   same_home : (a : ℕ) → IsAtom h a → home_of s a ≡ home_of h a
-  same_home a is = ap (λ (o : Option HeapAtom). option_and_then (λ x. home_by x.place) o) (ma.old a is)
+  same_home a is = ap (λ (o : Option HeapAtom). option_and_then (λ x. home_by x.place) o) (old_atom a is)
 
   pub home_s : AllHome s ns
   home_s a i = let p = taken_in_place a i in let w = within_of h a p in (w.0, same_home a (is_atom a p) ∙ place_home h a w.0 w.1)
@@ -318,73 +348,40 @@ module _ (h : Heap) (valid : Valid h) (head : List HeadItem) (guard : List Cond)
       plain k h = omega arith
 
   -- a new atom isn't one of the heap before
-  not_new : (a : ℕ) → IsAtom h a → heap.In a (numbers mk) → ⊥
-  not_new a is i = let z : IsSome {T = HeapAtom} None = subst (λ (o : Option HeapAtom). IsSome o) (ma.fresh a i) is in absurd (cc)
+  not_new : (a : ℕ) → IsAtom h a → heap.In a new → ⊥
+  not_new a is = (brought_old free.brings a is).0
 
   pub in_place_old : (a : ℕ) → IsInPlace s a → IsInPlace h a
-  in_place_old a i = by (decide_in a (numbers mk))
-    where
-      is_atom_s : IsAtom s a
-      is_atom_s = look (s.atoms a) i
-        where
-          look : (o : Option HeapAtom) → IsSome (option_and_then (λ x. home_by x.place) o) → IsSome o
-          look None i = absurd (cc)
-          look (Some x) i = refl
-
-      waits : heap.In a (numbers mk) → IsInPlace s a → ⊥
-      waits j p = let w = within_of s a p in let g = (ma.sound.listed.new_atoms a).0 (line j) in let z : Some (within w.0) ≡ Some waiting = sym w.1 ∙ g in absurd (cc)
-        where
-          line : heap.In a (numbers mk) → heap.In a s.new_atoms
-          line j = subst (heap.In a) (sym (ma.line ∙ ap (λ xs. xs ++ numbers mk) (no_waiting h valid.sound.listed valid.settled))) j
-
-      by : heap.In a (numbers mk) ⊎ (heap.In a (numbers mk) → ⊥) → IsInPlace h a
-      by (inl j) = absurd (waits j i)
-      by (inr o) = subst (λ (x : Option HeapAtom). IsSome (option_and_then (λ y. home_by y.place) x)) (ma.others a o) i
+  in_place_old a i = elim (decide_in a new) [
+    | inl j ↦ absurd (let w = within_of s a i in let z : Some (within w.0) ≡ Some waiting = sym w.1 ∙ free.brings.waits a j in cc)
+    | inr o ↦ subst (λ (x : Option HeapAtom). IsSome (option_and_then (λ y. home_by y.place) x)) (free.brings.others a o) i
+  ]
 
   in_place_new : (a : ℕ) → IsInPlace h a → IsInPlace s a
-  in_place_new a i = subst (λ (x : Option HeapAtom). IsSome (option_and_then (λ y. home_by y.place) x)) (sym (ma.old a (is_atom a i))) i
+  in_place_new a i = subst (λ (x : Option HeapAtom). IsSome (option_and_then (λ y. home_by y.place) x)) (sym (old_atom a (is_atom a i))) i
 
   pub arity_old : (a : ℕ) → IsInPlace h a → arity_of s a ≡ arity_of h a
-  arity_old a i = ap (λ (o : Option HeapAtom). length (links_of o)) (ma.old a (is_atom a i))
-
-  abbrev no_port : Option Port
-  no_port = None
-
-  arity_new : (p : Port) (f : Functor) → In {A = ℕ × Functor} (p.0, f) mk → arity_of s p.0 ≡ f.arity
-  arity_new p f i = ap (λ (o : Option HeapAtom). length (links_of o)) (made_functor mk h valid.sound free (p.0, f) i) ∙ length-replicate f.arity no_port
+  arity_old a i = ap (λ (o : Option HeapAtom). length (links_of o)) (old_atom a (is_atom a i))
 
   -- Splice
 
   abbrev pub F : Port → Type 0
   F = EndsLive s ns es
 
-  es_numbers : atoms_of_pairs es ≡ numbers mk
-  es_numbers = places_numbers r N body
+  es_numbers : atoms_of_pairs es ≡ new
+  es_numbers = places_numbers r N 0 body
 
-  new_entry : (p : Port) → In p (ports news) → IsPortOf mk p
-  new_entry p i = let w = of_map (λ (e : Port × ℕ). e.0) p news i in subst (IsPortOf mk) w.2 (new_is r N 0 body rule.made rule.no_copies w.0 w.1)
+  new_entry : (p : Port) → In p (ports news) → IsNewPort s new p
+  new_entry p i = let w = of_map (λ (e : Port × ℕ). e.0) p news i in subst (IsNewPort s new) w.2 (new_is r N 0 body rule.made h s free.written free.copies w.0 w.1)
 
-  new_atom_in : (p : Port) → In p (ports news) → heap.In p.0 (numbers mk)
-  new_atom_in p i = let w = new_entry p i in number_in p.0 w.0 mk w.1
+  new_atom_in : (p : Port) → In p (ports news) → heap.In p.0 new
+  new_atom_in p i = (new_entry p i).0
 
   new_live : (p : Port) → In p (ports news) → F p × (partners s p ≡ None)
-  new_live p i =
-      let w = new_entry p i in
-      let j = number_in p.0 w.0 mk w.1 in (
-        (subst (λ k. p.1 < k) (sym (arity_new p w.0 w.1)) w.2, inr (subst (heap.In p.0) (sym es_numbers) j)),
-        ma.links p.0 p.1 ∙ none (h.atoms p.0) (ma.fresh p.0 j),
-      )
-    where
-      none : (o : Option HeapAtom) → o ≡ None → prelude.slice_index_or (links_of o) p.1 None ≡ None
-      none o e = ap (λ (x : Option HeapAtom). prelude.slice_index_or (links_of x) p.1 None) e
+  new_live p i = let w = new_entry p i in ((w.1, inr (subst (heap.In p.0) (sym es_numbers) w.0)), w.2)
 
-  all_new : (p : Port) → p.1 < arity_of s p.0 → heap.In p.0 (numbers mk) → In p (ports news)
-  all_new p b i = let w = entry mk i in new_all r N 0 body rule.made rule.no_copies p (w.0, w.1, subst (λ k. p.1 < k) (arity_new p w.0 w.1) b)
-    where
-      entry : (xs : List (ℕ × Functor)) → heap.In p.0 (numbers xs) → (f : Functor) × In {A = ℕ × Functor} (p.0, f) xs
-      entry [] i = absurd i
-      entry (x ∷ xs) (inl e) = (x.1, inl (λ t. (e t, x.1)))
-      entry (x ∷ xs) (inr i) = let w = entry xs i in (w.0, inr w.1)
+  all_new : (p : Port) → p.1 < arity_of s p.0 → heap.In p.0 new → NewOrInside s r N 0 body p
+  all_new p b i = new_all r N 0 body rule.made h s free.written free.copies p i b
 
   -- an old port: a head port whose link stands once in the head
   pub record OldPort (p : Port) : Type 0 where
@@ -485,7 +482,7 @@ module _ (h : Heap) (valid : Valid h) (head : List HeadItem) (guard : List Cond)
   linked z = total_two _ (often z (both_links wires)) (often z (links news)) (often z (links olds)) (often z (body_links body)) (times z (heads.links_of head))
       (often z (map (λ (o : Occurrence). o.link) (at_atoms 0 (atoms_of head)))) (times z (heads.links_of head) == 1)
       (often_append z (both_links wires) (links news ++ links olds) ∙ ap (λ k. often z (both_links wires) + k) (often_append z (links news) (links olds)))
-      (body_count r N 0 z body rule.no_copies) (once_count r z (heads.links_of head) (at_atoms 0 (atoms_of head))) (once_at z)
+      (body_count r N 0 z body) (once_count r z (heads.links_of head) (at_atoms 0 (atoms_of head))) (once_at z)
       (eqb-true (times z (heads.links_of head)) 1)
       (λ e f. let g : true ≡ false = sym (eq-eqb (times z (heads.links_of head)) 1 f) ∙ e in absurd (cc))
       (elim (rule.linked z) [ inl e ↦ inl (ap (λ k. times z (heads.links_of head) + k) (sym (times_often z (body_links body))) ∙ e) | inr e ↦ inr (ap (λ k. times z (heads.links_of head) + k) (sym (times_often z (body_links body))) ∙ e) ])
@@ -496,17 +493,36 @@ module _ (h : Heap) (valid : Valid h) (head : List HeadItem) (guard : List Cond)
   arity_in k i b e = let a = get_some (atoms_of head) k b in
       (a.0, a.1, subst (λ z. i < z) (valid.sound.shaped.ports (r.head.images.atom k) a.0.functor (em.functors k a.0 a.1) ∙ sym (rule.head_made k a.0 a.1)) e)
 
-  pub stands_before : (p : Port) → LiveBefore F news olds p → StandsPort h p
-  stands_before p (inl w) = elim w.0.1 [
-    | inl v ↦ (let i = in_place_old p.0 v.0 in (i, subst (λ z. p.1 < z) (arity_old p.0 i) w.0.0))
-    | inr j ↦ absurd (w.1 (all_new p w.0.0 (subst (heap.In p.0) es_numbers j)))
-  ]
-  stands_before p (inr i) =
+  pub old_port_stands : (p : Port) → In p (ports olds) → StandsPort h p
+  old_port_stands p i =
       let o = old_entry p i in
       let a = o.stands in
       subst (StandsPort h) o.is (
         head_in_place o.k o.number,
         subst (λ z. o.i < z) (rule.head_made o.k a.0 a.1 ∙ sym (valid.sound.shaped.ports (r.head.images.atom o.k) a.0.functor (em.functors o.k a.0 a.1))) (get_below a.0.links o.i o.link a.2),
+      )
+
+  -- a port of a copy with its partner
+  abbrev Inside : Port → Type 0
+  Inside p = (q : Port) × heap.In p.0 new × heap.In q.0 new × (partners s p ≡ Some q)
+
+  -- what lives before is a port of the heap before, or joined inside a copy
+  stands_before : (p : Port) → LiveBefore F news olds p → StandsPort h p ⊎ Inside p
+  stands_before p (inl w) = elim w.0.1 [
+    | inl v ↦ (let i = in_place_old p.0 v.0 in inl (i, subst (λ z. p.1 < z) (arity_old p.0 i) w.0.0))
+    | inr j ↦ (let i = subst (heap.In p.0) es_numbers j in elim (all_new p w.0.0 i) [
+      | inl k ↦ absurd (w.1 k)
+      | inr u ↦ inr (u.0, i, u.1, u.2)
+    ])
+  ]
+  stands_before p (inr i) = inl (old_port_stands p i)
+
+  -- the partner of such a port lives too
+  inside_lives : (p q : Port) → heap.In q.0 new → partners s p ≡ Some q → LiveBefore F news olds q × (q ≢ p)
+  inside_lives p q j e =
+      let back : partners s q ≡ Some p = free.sound.paired.back p.0 p.1 q.0 q.1 e in (
+        inl ((port_within s q.0 q.1 p back, inr (subst (heap.In q.0) (sym es_numbers) j)), λ i. let z : ◌≡◌ {A = Option Port} None (Some p) = sym (new_live q i).1 ∙ back in absurd (cc)),
+        λ f. free.sound.paired.apart p.0 p.1 (e ∙ ap Some f),
       )
 
   -- the port at the other end of a live port is live too
@@ -602,14 +618,25 @@ module _ (h : Heap) (valid : Valid h) (head : List HeadItem) (guard : List Cond)
 
   coloured : Coloured c (LiveBefore F news olds) (partners s)
   coloured = record {
-    partner = λ p l. let w = names.partner p (stands_before p l) in
-        (w.0, other_lives p w.0 l w.1 (valid.sound.paired.back p.0 p.1 w.0.0 w.0.1 w.2), ma.links p.0 p.1 ∙ w.2, w.3, w.4);
-    only = λ p q lp lq e. elim (names.only p q (stands_before p lp) (stands_before q lq) e) [ inl f ↦ inl f | inr f ↦ inr (ma.links p.0 p.1 ∙ f) ];
+    partner = λ p l. elim (stands_before p l) [
+      | inl st ↦ (let w = names.partner p st in (w.0, other_lives p w.0 l w.1 (valid.sound.paired.back p.0 p.1 w.0.0 w.0.1 w.2), old_link p (is_atom p.0 st.0) ∙ w.2, w.3, w.4))
+      | inr u ↦ (let v = inside_lives p u.0 u.2 u.3 in (u.0, v.0, u.3, v.1, free.same p u.0 u.1 u.3))
+    ];
+    only = λ p q lp lq e. elim (stands_before p lp) [
+      | inl sp ↦ elim (stands_before q lq) [
+        | inl sq ↦ elim (names.only p q sp sq e) [ inl f ↦ inl f | inr f ↦ inr (old_link p (is_atom p.0 sp.0) ∙ f) ]
+        | inr v ↦ absurd (free.apart q p v.0 v.1 v.3 sp (sym e))
+      ]
+      | inr u ↦ elim (stands_before q lq) [
+        | inl sq ↦ absurd (free.apart p q u.0 u.1 u.3 sq e)
+        | inr v ↦ free.only p q u.0 v.0 u.1 v.1 u.3 v.3 e
+      ]
+    ];
   }
 
   pub splice_at : Splice F c (partners s) news olds wires
   splice_at = record {
-    new_once = new_ports_once r N 0 body rule.made rule.no_copies (made_once mk h valid.sound free);
+    new_once = new_ports_once r N 0 body rule.made h s free.written free.copies free.brings.once;
     old_once = olds_once r N em.atoms_differ (heads.links_of head) (at_atoms 0 (atoms_of head)) (at_atoms_once 0 (atoms_of head)) head_below;
     made = new_live;
     gone = old_gone;
@@ -632,33 +659,31 @@ module _ (h : Heap) (valid : Valid h) (head : List HeadItem) (guard : List Cond)
 
   -- no new atom is a connector
   pub new_plain : (a : ℕ) → heap.In a (atoms_of_pairs es) → functor_of s a ≢ Some connector
-  new_plain a i e =
-      let w = entry mk a (subst (heap.In a) es_numbers i) in
-      plain_made r N body rule.made (a, w.0) w.1 (one_functor w.0 connector (sym (ap (λ (o : Option HeapAtom). option_map (λ x. x.functor) o) (made_functor mk h valid.sound free (a, w.0) w.1)) ∙ e))
+  new_plain a i e = elim (new_or_copied s r N 0 body free.written a (subst (heap.In a) es_numbers i)) [
+    | inl w ↦ plain_made r N body rule.made (a, w.0) w.1 (one_functor w.0 connector (sym (ap (λ (o : Option HeapAtom). option_map (λ x. x.functor) o) (free.written (a, w.0) w.1)) ∙ e))
+    | inr w ↦ (let t = rule.copied w.0 w.1 in
+        let u = (free.copies w.0 w.1).from a w.2 in
+        valid.no_connector u.0 (subst (λ (o : Option ℕ). IsSome o) (sym ((em.parts w.0.1 t.0 t.1).whole.at_home u.0 u.1)) refl) (sym u.2 ∙ e))
+  ]
     where
-      entry : (xs : List (ℕ × Functor)) (a : ℕ) → heap.In a (numbers xs) → (f : Functor) × In {A = ℕ × Functor} (a, f) xs
-      entry [] a i = absurd i
-      entry (x ∷ xs) a (inl e) = (x.1, inl (λ t. (e t, x.1)))
-      entry (x ∷ xs) a (inr i) = let w = entry xs a i in (w.0, inr w.1)
-
       one_functor : (f g : Functor) → ◌≡◌ {A = Option Functor} (Some f) (Some g) → f ≡ g
       one_functor f g e = (cc)
 
   pub poised : Simple body → Poised s ns es valid.tree.0
   poised simple = record {
-    sound = ma.sound;
+    sound = free.sound;
     once = ns_once;
     home = home_s;
-    line = ma.line ∙ ap (λ xs. xs ++ numbers mk) (no_waiting h valid.sound.listed valid.settled) ∙ sym es_numbers;
-    stand = let w = stands_mem m stand in stand_at s r N body simple
-        (subst (λ (f : ℕ → Option HeapMem). IsSome (f (r.head.images.membrane 0))) (sym ma.mems) (subst (λ z. IsSome (h.mems z)) (sym em.here) w.0))
-        (subst (λ (f : ℕ → Option HeapMem). option_map (λ x. x.place) (f (r.head.images.membrane 0)) ≡ Some waiting → ⊥) (sym ma.mems) (subst (λ z. mem_place_of h z ≡ Some waiting → ⊥) (sym em.here) w.1));
-    no_mems = ma.new_mems ∙ no_waiting_mems h valid.sound.listed valid.settled;
-    none_gone = λ q e. never q (ap (λ f. option_map (λ x. x.place) (f q)) (sym ma.mems) ∙ e);
-    forms = subst (λ z. heapsound.Forms s valid.tree.0 (z ∷ [])) (sym ma.root) (forms_frame h s valid.tree.0 (h.root ∷ []) (λ q i. ap (λ f. heap.mems_by (f q)) ma.mems) valid.tree.1.forms);
+    line = free.brings.line ∙ ap (λ xs. xs ++ new) (no_waiting h valid.sound.listed valid.settled) ∙ sym es_numbers;
+    stand = let w = stands_mem m stand in stand_at s r N 0 body simple
+        (subst (λ (f : ℕ → Option HeapMem). IsSome (f (r.head.images.membrane 0))) (sym free.mems) (subst (λ z. IsSome (h.mems z)) (sym em.here) w.0))
+        (subst (λ (f : ℕ → Option HeapMem). option_map (λ x. x.place) (f (r.head.images.membrane 0)) ≡ Some waiting → ⊥) (sym free.mems) (subst (λ z. mem_place_of h z ≡ Some waiting → ⊥) (sym em.here) w.1));
+    no_mems = free.new_mems ∙ no_waiting_mems h valid.sound.listed valid.settled;
+    none_gone = λ q e. never q (ap (λ f. option_map (λ x. x.place) (f q)) (sym free.mems) ∙ e);
+    forms = subst (λ z. heapsound.Forms s valid.tree.0 (z ∷ [])) (sym free.root) (forms_frame h s valid.tree.0 (h.root ∷ []) (λ q i. ap (λ f. heap.mems_by (f q)) free.mems) valid.tree.1.forms);
     flat_once = valid.tree.1.once;
-    all = λ q is. valid.tree.1.all q (subst (λ (f : ℕ → Option HeapMem). IsSome (f q)) ma.mems is);
-    plain = λ a i e. let j = in_place_old a i in valid.no_connector a j (sym (ap (λ (o : Option HeapAtom). option_map (λ x. x.functor) o) (ma.old a (is_atom a j))) ∙ e);
+    all = λ q is. valid.tree.1.all q (subst (λ (f : ℕ → Option HeapMem). IsSome (f q)) free.mems is);
+    plain = λ a i e. let j = in_place_old a i in valid.no_connector a j (sym (ap (λ (o : Option HeapAtom). option_map (λ x. x.functor) o) (old_atom a (is_atom a j))) ∙ e);
     new_plain = new_plain;
   }
     where
@@ -677,7 +702,7 @@ module _ (h : Heap) (valid : Valid h) (head : List HeadItem) (guard : List Cond)
   -- the links of the ties are links of the rule
   pub links_below : (x : ℕ) → In x (links news ++ links olds) → x < n
   links_below x i = elim (in_append x (links news) (links olds) i) [
-    | inl j ↦ rule.below x (inr (often_in x (body_links body) (more (often x (both_links wires)) (often x (links news)) (often x (body_links body)) (body_count r N 0 x body rule.no_copies) (in_often x (links news) j))))
+    | inl j ↦ rule.below x (inr (often_in x (body_links body) (more (often x (both_links wires)) (often x (links news)) (often x (body_links body)) (body_count r N 0 x body) (in_often x (links news) j))))
     | inr j ↦ rule.below x (inl (often_in x (heads.links_of head) (most (often x (heads.links_of head)) (often x at_links) (times x typed_links)
         (sym (times_often x (heads.links_of head)) ∙ head_times x ∙ ap (λ k. k + times x typed_links) (times_often x at_links))
         (some (times x (heads.links_of head) == 1) _ (subst (λ k. 1 ≤ k) (once_count r x (heads.links_of head) (at_atoms 0 (atoms_of head))) (in_often x (links olds) j))))))
@@ -698,26 +723,30 @@ module _ (h : Heap) (valid : Valid h) (head : List HeadItem) (guard : List Cond)
 
   -- the port of a new atom is named by its link
   pub new_link : (e : Port × ℕ) → In e news → raw_link news c e.0 ≡ of_rule e.1
-  new_link e i = ap (raw_by (c e.0)) (link_found news (new_ports_once r N 0 body rule.made rule.no_copies (made_once mk h valid.sound free)) e.0 e.1 i)
+  new_link e i = ap (raw_by (c e.0)) (link_found news (new_ports_once r N 0 body rule.made h s free.written free.copies free.brings.once) e.0 e.1 i)
 
   -- the port of an atom that is left is named by its link in the solid
   pub kept_link : (p : Port) → IsInPlace h p.0 → raw_link news c p ≡ of_solid (c p)
   kept_link p i = ap (raw_by (c p)) (link_absent news p (λ j. not_new p.0 (is_atom p.0 i) (new_atom_in p j)))
 
   pub kept_functor : (a : ℕ) → IsInPlace h a → functor_of s a ≡ functor_of h a
-  kept_functor a i = ap (λ (o : Option HeapAtom). option_map (λ x. x.functor) o) (ma.old a (is_atom a i))
+  kept_functor a i = ap (λ (o : Option HeapAtom). option_map (λ x. x.functor) o) (old_atom a (is_atom a i))
 
   pub new_functor : (e : ℕ × Functor) → In e mk → functor_of s e.0 ≡ Some e.1
-  new_functor e i = ap (λ (o : Option HeapAtom). option_map (λ x. x.functor) o) (made_functor mk h valid.sound free e i)
+  new_functor e i = ap (λ (o : Option HeapAtom). option_map (λ x. x.functor) o) (free.written e i)
 
   pub same_atoms : (k : ℕ) → atoms_in s k ≡ atoms_in h k
-  same_atoms k = ap (λ f. heap.atoms_by (f k)) ma.mems
+  same_atoms k = ap (λ f. heap.atoms_by (f k)) free.mems
 
   pub same_rules : (k : ℕ) → heap.rules_in s k ≡ heap.rules_in h k
-  same_rules k = ap (λ f. heap.rules_by (f k)) ma.mems
+  same_rules k = ap (λ f. heap.rules_by (f k)) free.mems
 
   pub stands_again : (a : ℕ) → IsInPlace h a → IsInPlace s a
   stands_again = in_place_new
 
-  pub es_are : atoms_of_pairs es ≡ numbers mk
+  -- the port inside a copy is named by its colour
+  pub inner_link : (p q : Port) → heap.In p.0 new → partners s p ≡ Some q → raw_link news c p ≡ of_solid (c p)
+  inner_link p q i e = ap (raw_by (c p)) (link_absent news p (λ j. let z : ◌≡◌ {A = Option Port} None (Some q) = sym (new_live p j).1 ∙ e in absurd (cc)))
+
+  pub es_are : atoms_of_pairs es ≡ new
   es_are = es_numbers

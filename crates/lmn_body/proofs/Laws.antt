@@ -2,9 +2,12 @@
 use Rattle.std.proofs.Common.{ℕ, ◌+◌, ◌<◌, ◌≡◌, ◌≤◌, ◌==◌, Bool, true, false, cond, List, [], ◌∷◌, ◌++◌, map, length, Option, Some, None, IsSome, refl, sym, ap, subst, ◌∙◌, inl, inr, arith}
 use Rattle.lmn_base.specs.declared.functor.Functor.{Functor}
 use Rattle.lmn_base.specs.declared.guard.Cond.{Cond}
-use Rattle.lmn_heap.specs.Heap.{Heap, functor_of, atoms_in, rules_in, IsInPlace, IsMemInPlace, finished}
+use Rattle.lmn_heap.specs.Heap.{Heap, IsAtom, functor_of, atoms_in, rules_in, IsInPlace, IsMemInPlace, finished}
 use Rattle.lmn_heap.specs.Heap as heap
-use Rattle.lmn_heap.specs.Sound.{Listed, Valid}
+use Rattle.lmn_heap.specs.Sound.{Listed, Settled, Valid}
+use Rattle.lmn_heap.proofs.ListLemmas.{in_right}
+use Rattle.lmn_body.specs.Items.{NoCopies, Simple}
+use Rattle.lmn_body.specs.declared.items.BodyItem.TheVariants as item
 use Rattle.lmn_heap.specs.Solid.{atoms_of}
 use Rattle.std.specs.Prelude.{slice_get}
 use Rattle.std.specs.Prelude as prelude
@@ -26,10 +29,10 @@ use Rattle.lmn_body.specs.Code.{removals, making, links_code, body_code}
 use Rattle.lmn_body.specs.Running.{Registers, old_port, new_port, withouts, all_taken, all_placed, Prepares, Commits}
 use Rattle.lmn_body.specs.Rules.{PlainRule, AtomRule, PartAtoms}
 use Rattle.lmn_splice.proofs.EndLemmas.{in_rising, rising_distinct}
-use Rattle.lmn_body.proofs.HeadPorts.{of_map, get_some, get_below}
-use Rattle.lmn_body.proofs.Parts.{parts_apart, parts_commit, taken_append, taken_links, no_part_prepares}
+use Rattle.lmn_body.proofs.HeadPorts.{in_map, of_map, get_some, get_below}
+use Rattle.lmn_body.proofs.Parts.{parts_apart, part_there, part_whole, parts_commit, taken_append, taken_links, no_part_prepares}
 use Rattle.lmn_body.specs.Names.{Names}
-use Rattle.lmn_body.specs.Added.{made_mems, moved_mems}
+use Rattle.lmn_body.specs.Added.{moved_mems}
 use Rattle.lmn_body.proofs.Places.{goes_body, nests_body, moved_are, removed_mem, home_is_mem, home_apart, new_apart}
 use Rattle.lmn_body.proofs.RemovalsCan.{can_append, atoms_can, parts_can, mems_can, all_stay_in_place}
 use Rattle.lmn_body.proofs.BodyCan.{making_part_can, links_part_can}
@@ -37,7 +40,9 @@ use Rattle.lmn_body.proofs.Soundness.{prepares_listed, sound_before}
 use Rattle.lmn_body.specs.Within.{membrane_images, FiresWithin}
 use Rattle.lmn_body.specs.Laws.{BodyFires, BodyFiresWithin, BodyCanRun}
 use Rattle.lmn_body.proofs.Removing.{all_taken_mems, commits_taken_mems, prepares_taken_mems}
-use Rattle.lmn_body.proofs.Preparing.{AllPrepared, making_prepares}
+use Rattle.lmn_body.proofs.Preparing.{MakesAll, Brought, AllPrepared, making_prepares}
+use Rattle.lmn_body.proofs.Brought.{Brings, brought_old, brings_none, brings_on, brings_listed, Whole, has_copy_on, is_atom_at}
+use Rattle.lmn_body.proofs.Colours.{beside, old_colour, names_beside, same_beside, only_beside, apart_beside, fires_by}
 use Rattle.lmn_body.proofs.Nesting.{fires_within, ready_v, ks_once, once_t1}
 use Rattle.lmn_body.proofs.TreeAfter.{valid_after}
 use Rattle.lmn_body.specs.Conditions.{CanRun}
@@ -45,13 +50,13 @@ use Rattle.lmn_heap.specs.Conditions.{Ready}
 use Rattle.std.specs.Option.{option_and_then}
 use Rattle.lmn_body.specs.Fired.{linked_by, made_atoms, images_of, Fires}
 use Rattle.lmn_body.proofs.Phases.{placed_in}
-use Rattle.lmn_body.proofs.Making.{all_made, all_made_after, AllFree}
+use Rattle.lmn_body.proofs.Making.{AfterMaking, all_made, all_made_after, made_functor, made_once, AllFree}
 use Rattle.lmn_body.proofs.Coding.{at_heap, commits_append, prepares_append, commits_taken, prepares_taken, commits_placed, prepares_made, commits_tied, prepares_tied}
-use Rattle.lmn_body.specs.Made.{made_of, places_of}
-use Rattle.lmn_body.proofs.BodyPorts.{heap_in, numbers, number_in}
+use Rattle.lmn_body.specs.Made.{made_of, places_of, new_atoms, copies_of}
+use Rattle.lmn_body.proofs.BodyPorts.{heap_in, numbers, written_new, plain_new}
 use Rattle.lmn_body.proofs.Finishing.{in_place_listed}
 use Rattle.lmn_body.proofs.Committing.{Poised, EndsLive, in_withouts_of, commit_names, commit_fusion, commit_valid, commit_tree, commit_lists, commit_rules, commit_functor}
-use Rattle.lmn_body.proofs.Firing.{rising_below, heap_in_of, distinct_images, splice_at, poised, links_below, new_link, kept_link, kept_functor, new_functor, same_atoms, same_rules, stands_again, es_are}
+use Rattle.lmn_body.proofs.Firing.{old_port_stands, rising_below, heap_in_of, distinct_images, splice_at, poised, links_below, new_link, kept_link, kept_functor, new_functor, same_atoms, same_rules, stands_again, es_are}
 use Rattle.lmn_body.proofs.SolidAfter.{kept_atoms, new_atoms_are, placed_here, fired_are}
 
 -- a head of atoms alone: nothing else is removed
@@ -67,6 +72,40 @@ nothing_else_prepares r [] [] s t e f w = w
 nothing_else_prepares r [] (m ∷ ms) s t e f w = absurd (cc)
 nothing_else_prepares r (x ∷ ts) ms s t e f w = absurd (cc)
 
+-- a simple body has no copies
+simple_plain : (body : List BodyItem) → Simple body → NoCopies body
+simple_plain [] s = tt
+simple_plain (item.Atom functor links inside ∷ xs) s = simple_plain xs s.1
+simple_plain (item.Bound integer link inside ∷ xs) s = simple_plain xs s.1
+simple_plain (item.Connector left right ∷ xs) s = simple_plain xs s.1
+simple_plain (item.Copy part link inside ∷ xs) s = absurd s.0
+simple_plain (item.Membrane inside ∷ xs) s = absurd s.0
+simple_plain (item.Rest of inside ∷ xs) s = absurd s.0
+simple_plain (item.Rule rule inside ∷ xs) s = absurd s.0
+simple_plain (item.Rules of inside ∷ xs) s = absurd s.0
+
+no_copies : (c : ℕ) (body : List BodyItem) → NoCopies body → (e : ℕ × ℕ) → In e (copies_of c body) → ⊥
+no_copies c [] s e i = i
+no_copies c (item.Atom functor links inside ∷ xs) s e i = no_copies c xs s e i
+no_copies c (item.Bound integer link inside ∷ xs) s e i = no_copies c xs s e i
+no_copies c (item.Connector left right ∷ xs) s e i = no_copies c xs s e i
+no_copies c (item.Copy part link inside ∷ xs) s e i = absurd s
+no_copies c (item.Membrane inside ∷ xs) s e i = no_copies c xs s e i
+no_copies c (item.Rest of inside ∷ xs) s e i = no_copies c xs s e i
+no_copies c (item.Rule rule inside ∷ xs) s e i = no_copies c xs s e i
+no_copies c (item.Rules of inside ∷ xs) s e i = no_copies c xs s e i
+
+made_brings : (h s : Heap) (mk : List (ℕ × Functor)) → Listed h → Settled h → AfterMaking h s mk → heap.Distinct (numbers mk) → Brings h s (numbers mk)
+made_brings h s mk listed settled ma once = record {
+  others = ma.others;
+  fresh = ma.fresh;
+  waits = λ a i. (ma.sound.listed.new_atoms a).0 (subst (heap.In a) (sym ma.line) (in_right a h.new_atoms (numbers mk) i));
+  once = once;
+  line = ma.line;
+  paired = λ p. ma.sound.paired;
+  shaped = λ p. ma.sound.shaped;
+}
+
 module _ (head : List HeadItem) (body : List BodyItem) (n : ℕ) (rule : PlainRule head body n) (r : Registers) where
   abbrev N : ℕ
   N = length (head_atoms head)
@@ -78,7 +117,7 @@ module _ (head : List HeadItem) (body : List BodyItem) (n : ℕ) (rule : PlainRu
   ns = images_of r head
 
   abbrev es : List (ℕ × ℕ)
-  es = places_of r N body
+  es = places_of r N 0 body
 
   abbrev news : List (Port × ℕ)
   news = at_heap (new_port r) (new_ports N 0 body)
@@ -118,6 +157,30 @@ module _ (head : List HeadItem) (body : List BodyItem) (n : ℕ) (rule : PlainRu
     abbrev s : Heap
     s = all_made h mk
 
+    ma : AfterMaking h s mk
+    ma = all_made_after mk h valid.sound free
+
+    -- nothing is joined inside a copy
+    unjoined : (p q : Port) → heap.In p.0 (new_atoms r N 0 body) → partners s p ≡ Some q → ⊥
+    unjoined p q i e =
+        let j = subst (heap.In p.0) (plain_new r N 0 body (simple_plain body rule.simple)) i in
+        let z : ◌≡◌ {A = Option Port} None (Some q) = sym (ap (λ (o : Option HeapAtom). prelude.slice_index_or (links_of o) p.1 None) (ma.fresh p.0 j)) ∙ sym (ma.links p.0 p.1) ∙ e in absurd (cc)
+
+    abbrev bro : Brought c h r N body
+    bro = record {
+      heap = s;
+      sound = ma.sound;
+      brings = subst (Brings h s) (sym (plain_new r N 0 body (simple_plain body rule.simple))) (made_brings h s mk valid.sound.listed valid.settled ma (made_once mk h valid.sound free));
+      written = made_functor mk h valid.sound free;
+      copies = λ e i. absurd (no_copies 0 body (simple_plain body rule.simple) e i);
+      mems = ma.mems;
+      new_mems = ma.new_mems;
+      root = ma.root;
+      same = λ p q i e. absurd (unjoined p q i e);
+      only = λ p q x y i j ex ey e. absurd (unjoined p x i ex);
+      apart = λ p q x i ex st e. unjoined p x i ex;
+    }
+
     abbrev v : Heap
     v = all_tied (all_placed (all_taken s ns) es) (body_ties news olds (connectors body) n)
 
@@ -129,13 +192,13 @@ module _ (head : List HeadItem) (body : List BodyItem) (n : ℕ) (rule : PlainRu
     }
 
     abbrev po : Poised s ns es valid.tree.0
-    po = subst (λ z. Poised s z es valid.tree.0) (nil_right (images_of r head)) (poised h valid head guard body n m r rule.atoms em stand c names free [] no_parts rule.simple)
+    po = subst (λ z. Poised s z es valid.tree.0) (nil_right (images_of r head)) (poised h valid head guard body n m r rule.atoms em stand c names bro [] no_parts rule.simple)
 
     abbrev sp : Splice (EndsLive s ns es) c (partners s) news olds (connectors body)
-    sp = subst (λ z. Splice (EndsLive s z es) c (partners s) news olds (connectors body)) (nil_right (images_of r head)) (splice_at h valid head guard body n m r rule.atoms em stand c names free [] no_parts)
+    sp = subst (λ z. Splice (EndsLive s z es) c (partners s) news olds (connectors body)) (nil_right (images_of r head)) (splice_at h valid head guard body n m r rule.atoms em stand c names bro [] no_parts)
 
     abbrev below : (x : ℕ) → In x (links news ++ links olds) → x < n
-    below = links_below h valid head guard body n m r rule.atoms em stand c names free [] no_parts
+    below = links_below h valid head guard body n m r rule.atoms em stand c names bro [] no_parts
 
     abbrev fu : Fusion (EndsLive s ns es) c (partners v) news olds (connectors body)
     fu = commit_fusion s ns es valid.tree.0 po c news olds (connectors body) n sp below
@@ -147,30 +210,30 @@ module _ (head : List HeadItem) (body : List BodyItem) (n : ℕ) (rule : PlainRu
     left_atoms k = kept_atoms h (finished v) (λ a i. c (a, i)) name (λ x. fu.to (of_solid x)) (withouts ns (atoms_in h k)) (λ a i.
         let w = in_withouts_of ns (atoms_in h k) a (valid.sound.listed.atoms_once k) i in
         let p = in_place_listed h k a valid.sound.listed w.0 in (
-          commit_functor s ns es valid.tree.0 po c news olds (connectors body) n sp below a (inl (stands_again h valid head guard body n m r rule.atoms em stand c names free [] no_parts a p, w.1))
-              ∙ kept_functor h valid head guard body n m r rule.atoms em stand c names free [] no_parts a p,
-          λ j. ap fu.to (kept_link h valid head guard body n m r rule.atoms em stand c names free [] no_parts (a, j) p),
+          commit_functor s ns es valid.tree.0 po c news olds (connectors body) n sp below a (inl (stands_again h valid head guard body n m r rule.atoms em stand c names bro [] no_parts a p, w.1))
+              ∙ kept_functor h valid head guard body n m r rule.atoms em stand c names bro [] no_parts a p,
+          λ j. ap fu.to (kept_link h valid head guard body n m r rule.atoms em stand c names bro [] no_parts (a, j) p),
         ))
 
-    new_atoms : atoms_of (finished v) name (numbers mk) ≡ made_atoms r (λ x. fu.to (of_rule x)) body
-    new_atoms = new_atoms_are (finished v) r name (λ x. fu.to (of_rule x)) N 0 body rule.atoms.made rule.simple
+    new_solid : atoms_of (finished v) name (numbers mk) ≡ made_atoms r (λ x. fu.to (of_rule x)) body
+    new_solid = new_atoms_are (finished v) r name (λ x. fu.to (of_rule x)) N 0 body rule.atoms.made rule.simple
         (λ e i. commit_functor s ns es valid.tree.0 po c news olds (connectors body) n sp below e.0
-        (inr (subst (heap.In e.0) (sym (es_are h valid head guard body n m r rule.atoms em stand c names free [] no_parts)) (number_in e.0 e.1 mk i)))
-        ∙ new_functor h valid head guard body n m r rule.atoms em stand c names free [] no_parts e i)
-        (λ e i. ap fu.to (new_link h valid head guard body n m r rule.atoms em stand c names free [] no_parts e i))
+        (inr (subst (heap.In e.0) (sym (es_are h valid head guard body n m r rule.atoms em stand c names bro [] no_parts)) (written_new r N 0 body e.0 e.1 i)))
+        ∙ new_functor h valid head guard body n m r rule.atoms em stand c names bro [] no_parts e i)
+        (λ e i. ap fu.to (new_link h valid head guard body n m r rule.atoms em stand c names bro [] no_parts e i))
 
     placed_atoms : (k : ℕ) → atoms_of (finished v) name (placed_in k es) ≡ cond (k == m) (made_atoms r (λ x. fu.to (of_rule x)) body) []
-    placed_atoms k = ap (atoms_of (finished v) name) (placed_here r N k m body rule.simple em.here) ∙ by (k == m)
+    placed_atoms k = ap (atoms_of (finished v) name) (placed_here r N 0 k m body rule.simple em.here) ∙ by (k == m)
       where
         by : (t : Bool) → atoms_of (finished v) name (cond t (numbers mk) []) ≡ cond t (made_atoms r (λ x. fu.to (of_rule x)) body) []
-        by true = new_atoms
+        by true = new_solid
         by false = refl
 
     atoms_then : (k : ℕ) → atoms_of (finished v) name (atoms_in (finished v) k)
         ≡ map (linked_by (λ x. fu.to (of_solid x))) (atoms_of h (λ a i. c (a, i)) (withouts ns (atoms_in h k))) ++ cond (k == m) (made_atoms r (λ x. fu.to (of_rule x)) body) []
     atoms_then k =
         ap (atoms_of (finished v) name) (commit_lists s ns es valid.tree.0 po c news olds (connectors body) n sp below k
-        ∙ ap (λ xs. withouts ns xs ++ placed_in k es) (same_atoms h valid head guard body n m r rule.atoms em stand c names free [] no_parts k))
+        ∙ ap (λ xs. withouts ns xs ++ placed_in k es) (same_atoms h valid head guard body n m r rule.atoms em stand c names bro [] no_parts k))
         ∙ atoms_append (finished v) name (withouts ns (atoms_in h k)) (placed_in k es)
         ∙ (λ t. left_atoms k t ++ placed_atoms k t)
 
@@ -185,7 +248,7 @@ module _ (head : List HeadItem) (body : List BodyItem) (n : ℕ) (rule : PlainRu
       named = commit_names s ns es valid.tree.0 po c news olds (connectors body) n sp below;
       solid = fired_are h (finished v) c r head body m fu.to name valid.tree.0 (λ k i. (
         atoms_then k,
-        commit_rules s ns es valid.tree.0 po c news olds (connectors body) n sp below k ∙ same_rules h valid head guard body n m r rule.atoms em stand c names free [] no_parts k,
+        commit_rules s ns es valid.tree.0 po c news olds (connectors body) n sp below k ∙ same_rules h valid head guard body n m r rule.atoms em stand c names bro [] no_parts k,
       ));
     }
 
@@ -209,15 +272,22 @@ plain_below g k h = omega arith
 nothing_less : (g : ℕ) → 0 ≤ g
 nothing_less g = omega arith
 
--- what is made has no partner yet, and what stood before has the same
-prepared_links : (h : Heap) → Valid h → (s : Heap) (mk : List (ℕ × Functor)) (nm : List ℕ) → AllPrepared h h s mk nm → (p : Port) → partners s p ≡ partners h p
-prepared_links h valid s mk nm pr p =
-    ap (λ (f : ℕ → Option HeapAtom). prelude.slice_index_or (links_of (f p.0)) p.1 None) pr.atoms.atoms ∙ (all_made_after mk h valid.sound pr.free).links p.0 p.1
+-- what stood before has the same partner
+prepared_links : (d : Port → ℕ) (h : Heap) (s : Heap) (r : Registers) (a m : ℕ) (body : List BodyItem) → AllPrepared d h s r a m body → (p : Port) → IsAtom h p.0 → partners s p ≡ partners h p
+prepared_links d h s r a m body pr p is =
+    ap (λ (f : ℕ → Option HeapAtom). prelude.slice_index_or (links_of (f p.0)) p.1 None) pr.atoms.atoms ∙ ap (λ (o : Option HeapAtom). prelude.slice_index_or (links_of o) p.1 None) (brought_old pr.free.brings p.0 is).1
 
-pub body_fires_within : BodyFiresWithin
-body_fires_within head body n nested r h valid guard m em stand c names h' (s, prepares, commits) =
-    let rule = nested.atoms in
-    let head_nests = nested.head_nests in
+-- what prepares: everything that the code makes, with colours
+pub record Prepared (c : Port → ℕ) (h s : Heap) (r : Registers) (a m : ℕ) (body : List BodyItem) : Type 0 where
+  pub d : Port → ℕ
+  pub names : Names h d
+  pub colour : (p : Port) → IsAtom h p.0 → d p ≡ c p + c p
+  pub pr : AllPrepared d h s r a m body
+  pub listed : Listed s
+
+prepared_all : (head : List HeadItem) (body : List BodyItem) (n : ℕ) → AtomRule head body n → (r : Registers) (h : Heap) → Valid h → (guard : List Cond) (m : ℕ) → Embeds h head guard m r.head.images → (c : Port → ℕ) → Names h c →
+    (s : Heap) → Prepares r (body_code head body n) h s → Prepared c h s r (length (head_atoms head)) (1 + length (membranes_of head)) body
+prepared_all head body n rule r h valid guard m em c names s prepares =
     let N = length (head_atoms head) in
     let K = length (membranes_of head) in
     let links_part = links_code (class_of (connectors body)) (new_ports N 0 body) (old_ports head) (rising 0 n) in
@@ -231,10 +301,56 @@ body_fires_within head body n nested r h valid guard m em stand c names h' (s, p
     let pe = prepares_append r links_part (Proceed ∷ []) pd.0 s pd.2 in
     let first : pa.0 ≡ h = prepares_taken_mems r (rising 1 K) pc.0 pa.0 pc.2 ∙ no_part_prepares r (rising 0 (length (typed_contexts_of head))) pb.0 pc.0 pc.1 ∙ prepares_taken r (rising 0 N) h pb.0 pb.1 in
     let last : s ≡ pd.0 = pe.2.2 ∙ pe.2.1 ∙ prepares_tied r (class_of (connectors body)) (new_ports N 0 body) (old_ports head) (rising 0 n) pd.0 pe.0 pe.1 in
-    let made : AllPrepared h h pd.0 (made_of r N body) (made_mems r (1 + K) body) =
-    making_prepares r N (1 + K) 0 body rule.no_copies h h pd.0 (record { atoms = refl; line = refl }) (subst (λ z. Prepares r make z pd.0) first pd.1) in
-    let pr : AllPrepared h h s (made_of r N body) (made_mems r (1 + K) body) = subst (λ z. AllPrepared h h z (made_of r N body) (made_mems r (1 + K) body)) (sym last) made in
-    let goes = goes_body h valid head guard m r em stand head_nests body pr.mems.fresh rule.no_copies nested.placed in
+    let from_h : Prepares r make h s = subst (λ z. Prepares r make h z) (sym last) (subst (λ z. Prepares r make z pd.0) first pd.1) in
+    let whole : (e : ℕ × ℕ) → In e (copies_of 0 body) → Whole h (r.head.images.part e.1) = λ e i. let t = rule.copied e i in part_whole h valid head guard body n m r rule em e.1 t.0 t.1 in
+    with_colours c h s r N (1 + K) body valid names
+    (making_prepares r N (1 + K) 0 body h valid.sound.paired valid.sound.shaped whole h s (λ a i. refl) valid.sound.paired valid.sound.shaped from_h)
+    (prepares_listed r N (1 + K) 0 body h s valid.sound.listed from_h)
+  where
+    with_colours : (c : Port → ℕ) (h s : Heap) (r : Registers) (a m : ℕ) (body : List BodyItem) → Valid h → Names h c → MakesAll h h s r a m 0 body → Listed s → Prepared c h s r a m body
+    with_colours c h s r a m body valid names all listed =
+        let new = new_atoms r a 0 body in
+        let t : Heap = record h { atoms = s.atoms; new_atoms = s.new_atoms } in
+        let b : Brings h t new = brings_on h s t new refl refl all.brings in
+        let paired = b.paired valid.sound.paired in
+        record {
+          d = beside c t new;
+          names = names_beside h t new b valid.sound.paired paired c names;
+          colour = old_colour h t new b valid.sound.paired paired c names;
+          listed = listed;
+          pr = record {
+            free = record {
+              heap = t;
+              sound = record { paired = paired; listed = brings_listed h t new b refl refl refl valid.sound.listed; shaped = b.shaped valid.sound.shaped };
+              brings = b;
+              written = all.written;
+              copies = λ e i. has_copy_on h (r.head.images.part e.1) (r.copy e.0) (r.copied e.0) (brings_on s s t [] refl refl (brings_none s)) (all.copies e i);
+              mems = refl;
+              new_mems = refl;
+              root = refl;
+              same = same_beside h t new b valid.sound.paired paired c names;
+              only = only_beside h t new b valid.sound.paired paired c names;
+              apart = apart_beside h t new b valid.sound.paired paired c names;
+            };
+            atoms = record { atoms = refl; line = refl };
+            mems = all.mems;
+          };
+        }
+
+pub body_fires_within : BodyFiresWithin
+body_fires_within head body n nested r h valid guard m em stand c names h' (s, prepares, commits) =
+    let rule = nested.atoms in
+    let head_nests = nested.head_nests in
+    let N = length (head_atoms head) in
+    let K = length (membranes_of head) in
+    let links_part = links_code (class_of (connectors body)) (new_ports N 0 body) (old_ports head) (rising 0 n) in
+    let parts = map RemovePart (rising 0 (length (typed_contexts_of head))) in
+    let mems = map RemoveMem (rising 1 K) in
+    let make = making N (1 + K) 0 body in
+    let all = prepared_all head body n rule r h valid guard m em c names s prepares in
+    let d = all.d in
+    let pr = all.pr in
+    let goes = goes_body h valid head guard m r em stand head_nests body pr.mems.fresh nested.placed in
     let nests = nests_body h valid head guard m r em stand head_nests body pr.mems.fresh nested.placed in
     let contexts : (k : ℕ) (b : HeadMembrane) → HasMembrane head k b → b.has_context ≡ true → heap.In (r.head.images.membrane k) (moved_mems r body) = λ k b w e. moved_are r body k (nested.contexts k b w e) in
     let ca = commits_append r (removals head) (make ++ (links_part ++ (Proceed ∷ []))) s h' commits in
@@ -245,7 +361,7 @@ body_fires_within head body n nested r h valid guard m em stand c names h' (s, p
     let images : cb.0 ≡ all_taken s (images_of r head) = commits_taken r (rising 0 N) s cb.0 cb.1 in
     let taken_parts = parts_commit h valid head guard body n m r rule em (rising 0 (length (typed_contexts_of head))) (rising_distinct (length (typed_contexts_of head)) 0)
     (λ g i. get_some (typed_contexts_of head) g (below_plain g (length (typed_contexts_of head)) (rising_below (length (typed_contexts_of head)) 0 g i).1)) cb.0 cd.0
-    (λ p. ap (λ z. partners z p) images ∙ taken_links (images_of r head) s p.0 p.1 ∙ prepared_links h valid s (made_of r N body) (made_mems r (1 + K) body) pr p) cd.1 in
+    (λ p is. ap (λ z. partners z p) images ∙ taken_links (images_of r head) s p.0 p.1 ∙ prepared_links d h s r N (1 + K) body pr p is) cd.1 in
     let ps = taken_parts.0 in
     let parts_are : PartAtoms h head r.head.images ps = record {
       once = taken_parts.1.once;
@@ -261,35 +377,14 @@ body_fires_within head body n nested r h valid guard m em stand c names h' (s, p
     commits_tied r (class_of (connectors body)) (new_ports N 0 body) (old_ports head) (rising 0 n) ce.0 cf.0 cf.1 in
     let v = all_tied ce.0 (body_ties (at_heap (new_port r) (new_ports N 0 body)) (at_heap (old_port r) (old_ports head)) (connectors body) n) in
     let done : h' ≡ finished v = cf.2.2 ∙ cf.2.1 ∙ ap finished ties in
-    let listed : Listed s = subst Listed (sym last) (prepares_listed r N (1 + K) 0 body rule.no_copies h pd.0 valid.sound.listed (subst (λ z. Prepares r make z pd.0) first pd.1)) in
-    let sound = sound_before h valid head guard body n m r rule em stand c names goes contexts ps parts_are s pr nests listed
+    let listed = all.listed in
+    let sound = sound_before h valid head guard body n m r rule em stand d all.names goes contexts ps parts_are s pr nests listed
     (removed_mem h valid head guard m r em stand head_nests body pr.mems.fresh) (home_is_mem h valid head guard m r em stand head_nests body pr.mems.fresh) ce.0 run in (
       ps,
       parts_are,
-      subst Valid (sym done) (valid_after h valid head guard body n m r rule em stand c names goes contexts ps parts_are s pr nests head_nests ce.0 run sound),
-      subst (λ z. FiresWithin h c r head body (images_of r head ++ ps) z) (sym done) (fires_within h valid head guard body n m r rule em stand c names goes contexts ps parts_are s pr ce.0 run sound),
-    )
-
--- what prepares: everything that the code makes
-prepared_all : (head : List HeadItem) (body : List BodyItem) (n : ℕ) → AtomRule head body n → (r : Registers) (h : Heap) → Listed h → (s : Heap) → Prepares r (body_code head body n) h s
-    → AllPrepared h h s (made_of r (length (head_atoms head)) body) (made_mems r (1 + length (membranes_of head)) body) × Listed s
-prepared_all head body n rule r h listed s prepares =
-    let N = length (head_atoms head) in
-    let K = length (membranes_of head) in
-    let links_part = links_code (class_of (connectors body)) (new_ports N 0 body) (old_ports head) (rising 0 n) in
-    let parts = map RemovePart (rising 0 (length (typed_contexts_of head))) in
-    let mems = map RemoveMem (rising 1 K) in
-    let make = making N (1 + K) 0 body in
-    let pa = prepares_append r (removals head) (make ++ (links_part ++ (Proceed ∷ []))) h s prepares in
-    let pb = prepares_append r (map RemoveAtom (rising 0 N)) (parts ++ mems) h pa.0 pa.1 in
-    let pc = prepares_append r parts mems pb.0 pa.0 pb.2 in
-    let pd = prepares_append r make (links_part ++ (Proceed ∷ [])) pa.0 s pa.2 in
-    let pe = prepares_append r links_part (Proceed ∷ []) pd.0 s pd.2 in
-    let first : pa.0 ≡ h = prepares_taken_mems r (rising 1 K) pc.0 pa.0 pc.2 ∙ no_part_prepares r (rising 0 (length (typed_contexts_of head))) pb.0 pc.0 pc.1 ∙ prepares_taken r (rising 0 N) h pb.0 pb.1 in
-    let last : s ≡ pd.0 = pe.2.2 ∙ pe.2.1 ∙ prepares_tied r (class_of (connectors body)) (new_ports N 0 body) (old_ports head) (rising 0 n) pd.0 pe.0 pe.1 in
-    let from_h : Prepares r make h pd.0 = subst (λ z. Prepares r make z pd.0) first pd.1 in (
-      subst (λ z. AllPrepared h h z (made_of r N body) (made_mems r (1 + K) body)) (sym last) (making_prepares r N (1 + K) 0 body rule.no_copies h h pd.0 (record { atoms = refl; line = refl }) from_h),
-      subst Listed (sym last) (prepares_listed r N (1 + K) 0 body rule.no_copies h pd.0 listed from_h),
+      subst Valid (sym done) (valid_after h valid head guard body n m r rule em stand d all.names goes contexts ps parts_are s pr nests head_nests ce.0 run sound),
+      subst (λ z. FiresWithin h c r head body (images_of r head ++ ps) z) (sym done) (fires_by h (finished v) c d r head body (images_of r head ++ ps) all.colour
+          (λ e i. is_atom_at h (old_port r e.0).0 (old_port r e.0).1 (old_port_stands h valid head guard body n m r rule em stand d all.names pr.free ps parts_are (old_port r e.0) (in_map (λ (q : Port × ℕ). q.0) (old_port r e.0, e.1) (at_heap (old_port r) (old_ports head)) (heap_in (old_port r) e (old_ports head) i))).1) (fires_within h valid head guard body n m r rule em stand d all.names goes contexts ps parts_are s pr ce.0 run sound)),
     )
 
 mapped : (f : ℕ → ℕ) (k : ℕ) (xs : List ℕ) → heap.In k xs → heap.In (f k) (map f xs)
@@ -305,7 +400,7 @@ rising_once n a = subst heap.Distinct (same (rising a n)) (distinct_images (λ x
     same (x ∷ xs) = ap (λ ys. x ∷ ys) (same xs)
 
 module _ (head : List HeadItem) (body : List BodyItem) (n : ℕ) (rule : AtomRule head body n) (r : Registers) (h : Heap) (valid : Valid h) (guard : List Cond) (m : ℕ) (em : Embeds h head guard m r.head.images)
-    (s : Heap) (pr : AllPrepared h h s (made_of r (length (head_atoms head)) body) (made_mems r (1 + length (membranes_of head)) body)) where
+    (s : Heap) (d : Port → ℕ) (pr : AllPrepared d h s r (length (head_atoms head)) (1 + length (membranes_of head)) body) where
   abbrev N2 : ℕ
   N2 = length (head_atoms head)
 
@@ -321,7 +416,7 @@ module _ (head : List HeadItem) (body : List BodyItem) (n : ℕ) (rule : AtomRul
   -- what stood before stands when all is made
   prepared_stands : (a : ℕ) → IsInPlace h a → IsInPlace s a
   prepared_stands a i =
-      let same = (all_made_after (made_of r N2 body) h valid.sound pr.free).old a (is_atom (h.atoms a) i) in
+      let same = (brought_old pr.free.brings a (is_atom (h.atoms a) i)).1 in
       subst (λ (o : Option HeapAtom). IsSome (option_and_then (λ x. heap.home_by x.place) o)) (sym (ap (λ (f : ℕ → Option HeapAtom). f a) pr.atoms.atoms ∙ same)) i
     where
       is_atom : (o : Option HeapAtom) → IsSome (option_and_then (λ x. heap.home_by x.place) o) → IsSome o
@@ -331,8 +426,8 @@ module _ (head : List HeadItem) (body : List BodyItem) (n : ℕ) (rule : AtomRul
   image_of : (a : ℕ) → heap.In a (images_of r head) → (k : ℕ) × (k < N2) × (r.head.images.atom k ≡ a)
   image_of a i = let w = of_map r.head.images.atom a (rising 0 N2) (heap_in_of a (images_of r head) i) in (w.0, below_plain w.0 N2 (rising_below N2 0 w.0 w.1).1, w.2)
 
-  same_links : (t : Heap) → t ≡ all_taken s (images_of r head) → (p : Port) → partners t p ≡ partners h p
-  same_links t e p = ap (λ z. partners z p) e ∙ taken_links (images_of r head) s p.0 p.1 ∙ prepared_links h valid s (made_of r N2 body) (made_mems r (1 + K2) body) pr p
+  same_links : (t : Heap) → t ≡ all_taken s (images_of r head) → (p : Port) → IsAtom h p.0 → partners t p ≡ partners h p
+  same_links t e p is = ap (λ z. partners z p) e ∙ taken_links (images_of r head) s p.0 p.1 ∙ prepared_links d h s r N2 (1 + K2) body pr p is
 
   head_atoms_can : CanRun r (map RemoveAtom (rising 0 N2)) s
   head_atoms_can = atoms_can r (rising 0 N2) s
@@ -342,7 +437,8 @@ module _ (head : List HeadItem) (body : List BodyItem) (n : ℕ) (rule : AtomRul
       prepared_stands (r.head.images.atom k) (in_place_listed h (r.head.images.membrane a.0.inside) (r.head.images.atom k) valid.sound.listed (em.atoms_placed k a.0 a.1)))
 
   head_parts_can : (t : Heap) → t ≡ all_taken s (images_of r head) → CanRun r (map RemovePart (rising 0 T2)) t
-  head_parts_can t e = parts_can r h (rising 0 T2) (rising_once T2 0) t (same_links t e)
+  head_parts_can t e = parts_can r h (rising 0 T2) (rising_once T2 0) t valid.sound.paired
+      (λ g i. let x = typed_at g (heap_in_of g (rising 0 T2) i) in part_there h valid head guard body n m r rule em g x.0 x.1) (same_links t e)
       (λ g k a i j d p q. let x = typed_at g (heap_in_of g (rising 0 T2) i) in let y = typed_at k (heap_in_of k (rising 0 T2) j) in
       parts_apart h valid head guard body n m r rule em g k x.0 y.0 x.1 y.1 d a p q)
       (λ g a i p. let x = typed_at g (heap_in_of g (rising 0 T2) i) in
@@ -381,10 +477,11 @@ body_can_run head body n nested r h valid guard m em stand c names s prepares sp
     let parts = map RemovePart (rising 0 T) in
     let mems = map RemoveMem (rising 1 K) in
     let make = making N (1 + K) 0 body in
-    let all = prepared_all head body n rule r h valid.sound.listed s prepares in
-    let pr = all.0 in
-    let listed = all.1 in
-    let goes = goes_body h valid head guard m r em stand nested.head_nests body pr.mems.fresh rule.no_copies nested.placed in
+    let all = prepared_all head body n rule r h valid guard m em c names s prepares in
+    let d = all.d in
+    let pr = all.pr in
+    let listed = all.listed in
+    let goes = goes_body h valid head guard m r em stand nested.head_nests body pr.mems.fresh nested.placed in
     let nests = nests_body h valid head guard m r em stand nested.head_nests body pr.mems.fresh nested.placed in
     let contexts : (k : ℕ) (b : HeadMembrane) → HasMembrane head k b → b.has_context ≡ true → heap.In (r.head.images.membrane k) (moved_mems r body) = λ k b w e. moved_are r body k (nested.contexts k b w e) in
     let removed = removed_mem h valid head guard m r em stand nested.head_nests body pr.mems.fresh in
@@ -392,24 +489,24 @@ body_can_run head body n nested r h valid guard m em stand c names s prepares sp
     let home_out = home_apart h valid head guard m r em stand nested.head_nests body pr.mems.fresh in
     let new_out = new_apart h valid head guard m r em stand nested.head_nests body pr.mems.fresh in
     can_append r (removals head) (make ++ (links_part ++ (Proceed ∷ []))) s
-    (can_append r (map RemoveAtom (rising 0 N)) (parts ++ mems) s (head_atoms_can head body n rule r h valid guard m em s pr)
+    (can_append r (map RemoveAtom (rising 0 N)) (parts ++ mems) s (head_atoms_can head body n rule r h valid guard m em s d pr)
     (λ ta wa.
     let ea = commits_taken r (rising 0 N) s ta wa in
-    can_append r parts mems ta (head_parts_can head body n rule r h valid guard m em s pr ta ea) (λ tp wp.
-    let p = parts_taken head body n rule r h valid guard m em s pr ta tp ea wp in
-    mems_can r (rising 1 K) tp (ks_once h valid head guard body n m r rule em stand c names goes contexts p.0 p.1 s pr)
-    (λ k i. let u = once_t1 h valid head guard body n m r rule em stand c names goes contexts p.0 p.1 s pr (r.head.images.membrane k) (mapped r.head.images.membrane k (rising 1 K) i) in
+    can_append r parts mems ta (head_parts_can head body n rule r h valid guard m em s d pr ta ea) (λ tp wp.
+    let p = parts_taken head body n rule r h valid guard m em s d pr ta tp ea wp in
+    mems_can r (rising 1 K) tp (ks_once h valid head guard body n m r rule em stand d all.names goes contexts p.0 p.1 s pr)
+    (λ k i. let u = once_t1 h valid head guard body n m r rule em stand d all.names goes contexts p.0 p.1 s pr (r.head.images.membrane k) (mapped r.head.images.membrane k (rising 1 K) i) in
     (u.0, ap (λ z. heap.parent_of z (r.head.images.membrane k)) p.2 ∙ u.1)))))
     (λ tb wb.
-    let p = removals_commit head body n rule r h valid guard m em s pr tb wb in
+    let p = removals_commit head body n rule r h valid guard m em s d pr tb wb in
     let t2 = all_taken_mems (all_taken s (images_of r head ++ p.0)) (membrane_images r head) in
     can_append r make (links_part ++ (Proceed ∷ [])) tb
-    (subst (CanRun r make) (sym p.2) (making_part_can h valid head guard body n m r rule em stand c names goes contexts p.0 p.1 s pr nests nested.head_nests listed removed home_mem home_out new_out spares))
+    (subst (CanRun r make) (sym p.2) (making_part_can h valid head guard body n m r rule em stand d all.names goes contexts p.0 p.1 s pr nests nested.head_nests listed removed home_mem home_out new_out spares))
     (λ tc wc.
     let run : Commits r make t2 tc = subst (λ z. Commits r make z tc) p.2 wc in
     can_append r links_part (Proceed ∷ []) tc
-    (links_part_can h valid head guard body n m r rule em stand c names goes contexts p.0 p.1 s pr nests nested.head_nests listed removed home_mem home_out new_out spares tc run)
+    (links_part_can h valid head guard body n m r rule em stand d all.names goes contexts p.0 p.1 s pr nests nested.head_nests listed removed home_mem home_out new_out spares tc run)
     (λ td wd.
     let e = commits_tied r (class_of (connectors body)) (new_ports N 0 body) (old_ports head) (rising 0 n) tc td wd in
-    let sound = sound_before h valid head guard body n m r rule em stand c names goes contexts p.0 p.1 s pr nests listed removed home_mem tc run in
-    (subst Ready (sym e) (ready_v h valid head guard body n m r rule em stand c names goes contexts p.0 p.1 s pr tc run sound), λ t w. tt))))
+    let sound = sound_before h valid head guard body n m r rule em stand d all.names goes contexts p.0 p.1 s pr nests listed removed home_mem tc run in
+    (subst Ready (sym e) (ready_v h valid head guard body n m r rule em stand d all.names goes contexts p.0 p.1 s pr tc run sound), λ t w. tt))))

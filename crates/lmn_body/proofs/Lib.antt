@@ -3,6 +3,7 @@ pub mod Phases
 pub mod Finishing
 pub mod Committing
 pub mod Making
+pub mod Brought
 pub mod Coding
 pub mod HeadPorts
 pub mod BodyPorts
@@ -27,12 +28,16 @@ pub mod LinksCan
 pub mod MakingCan
 pub mod BodyCan
 pub mod SolidWithin
+pub mod SolidCopies
 pub mod Flattened
 pub mod Stops
 pub mod Numbering
+pub mod Colours
 pub mod Contexts
 pub mod BodyLinks
 pub mod HeadItems
+pub mod CopiedParts
 pub mod FlatRules
 pub mod Numbered
 mod Worked
+mod ExampleCopy

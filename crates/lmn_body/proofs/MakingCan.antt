@@ -1,5 +1,5 @@
 -- The making part of a body can run.
-use Rattle.std.proofs.Common.{ℕ, zero, suc, ◌+◌, ◌-◌, ◌<◌, ◌≤◌, ◌≡◌, ◌≢◌, ◌⊎◌, ◌==◌, Bool, true, false, cond, List, [], ◌∷◌, ◌++◌, length, Option, Some, None, IsSome, refl, sym, ap, subst, ◌∙◌, inl, inr, arith}
+use Rattle.std.proofs.Common.{ℕ, zero, suc, ◌+◌, ◌-◌, ◌<◌, ◌≤◌, ◌≡◌, ◌≢◌, ◌⊎◌, ◌==◌, Bool, true, false, cond, List, [], ◌∷◌, ◌++◌, map, length, Option, Some, None, IsSome, refl, sym, ap, subst, ◌∙◌, inl, inr, arith}
 use Rattle.std.proofs.lemmas.Bool.{cases_eq, eq-eqb, eqb-true}
 use Rattle.std.proofs.lemmas.List.{append_assoc, length-append}
 use Rattle.std.specs.Option.{option_map}
@@ -15,12 +15,11 @@ use Rattle.lmn_solid.specs.Embeddings.{index_of}
 use Rattle.lmn_body.specs.declared.items.BodyItem.{BodyItem}
 use Rattle.lmn_body.specs.declared.items.BodyItem.TheVariants.{Atom, Connector, Copy, Bound, Membrane, Rest, Rule, Rules}
 use Rattle.lmn_body.specs.Code.{making}
-use Rattle.lmn_body.specs.Running.{Registers}
+use Rattle.lmn_body.specs.Running.{Registers, all_placed}
 use Rattle.lmn_body.specs.Conditions.{CanRun}
 use Rattle.lmn_body.specs.Added.{if_inside, added_rules, made_mems}
-use Rattle.lmn_body.specs.Made.{made_of}
+use Rattle.lmn_body.specs.Made.{new_atoms}
 use Rattle.lmn_body.specs.Rules.{Goes, Into, Nests}
-use Rattle.lmn_body.proofs.BodyPorts.{numbers}
 use Rattle.lmn_body.proofs.ListOps.{change_at, change_away, change_keeps, place_by}
 use Rattle.lmn_body.proofs.Growing.{Grown, grown_placed, grown_placed_mem, grown_moved, grown_rules, only_at}
 use Rattle.lmn_body.proofs.MakingParts.{same_rules_added}
@@ -41,13 +40,13 @@ pub record Ranked (r : Registers) (home : ℕ) (ks nm : List ℕ) (rank : ℕ �
   pub in_order : (x z : ℕ) → In x nm → In z nm → index_of x nm < index_of z nm → rank x < rank z
 
 -- A heap at some place in the making part.
-pub record State (r : Registers) (home : ℕ) (ks : List ℕ) (rank : ℕ → ℕ) (done : List ℕ) (a m : ℕ) (body : List BodyItem) (s : Heap) : Type 0 where
+pub record State (r : Registers) (home : ℕ) (ks : List ℕ) (rank : ℕ → ℕ) (done : List ℕ) (a m c : ℕ) (body : List BodyItem) (s : Heap) : Type 0 where
   pub listed : Listed s
   pub up : (p x : ℕ) → In x (mems_in s p) → rank p < rank x
   pub place : (x : ℕ) → (x ≡ home) ⊎ In x done → IsMemInPlace s x
   pub gone_ks : (x : ℕ) → In x ks → mem_place_of s x ≡ Some gone
   pub wait : (x : ℕ) → In x (made_mems r m body) → mem_place_of s x ≡ Some waiting
-  pub line : (rest : List ℕ) × (s.new_atoms ≡ numbers (made_of r a body) ++ rest)
+  pub line : (rest : List ℕ) × (s.new_atoms ≡ new_atoms r a c body ++ rest)
   pub mem_line : (rest : List ℕ) × (s.new_mems ≡ made_mems r m body ++ rest)
   pub spare : (x : ℕ) → (In x ks → ⊥) → length (added_rules r (rules_in s) body x) ≤ spare_of s x
 
@@ -116,19 +115,19 @@ above_rank s h rank up zero a x e = subst (λ z. rank a ≤ rank z) (sym e) (ome
 above_rank s h rank up (suc k) a x e = let l = above_rank s h rank up k a e.0 e.2 in let u = up e.0 x ((h.mems e.0 x).1 (parent_place s x e.0 e.1)) in omega arith
 
 module _ (r : Registers) (home : ℕ) (ks nm : List ℕ) (rank : ℕ → ℕ) (E : ℕ → Type 0) (rk : Ranked r home ks nm rank) where
-  target_place : (done : List ℕ) (a m : ℕ) (body : List BodyItem) (s : Heap) → State r home ks rank done a m body s → (inside : ℕ) → Into r home done inside → IsMemInPlace s (r.head.images.membrane inside)
-  target_place done a m body s st inside i = st.place (r.head.images.membrane inside) i
+  target_place : (done : List ℕ) (a m c : ℕ) (body : List BodyItem) (s : Heap) → State r home ks rank done a m c body s → (inside : ℕ) → Into r home done inside → IsMemInPlace s (r.head.images.membrane inside)
+  target_place done a m c body s st inside i = st.place (r.head.images.membrane inside) i
 
   -- an atom is placed
-  placed_state : (done : List ℕ) (a m : ℕ) (xs : List BodyItem) (s : Heap) (inside : ℕ) (full : List BodyItem) → State r home ks rank done a m full s → Into r home done inside
-      → (In (r.head.images.membrane inside) ks → ⊥) → numbers (made_of r a full) ≡ r.head.images.atom a ∷ numbers (made_of r (a + 1) xs) → made_mems r m full ≡ made_mems r m xs
+  placed_state : (done : List ℕ) (a m c : ℕ) (xs : List BodyItem) (s : Heap) (inside : ℕ) (full : List BodyItem) → State r home ks rank done a m c full s → Into r home done inside
+      → (In (r.head.images.membrane inside) ks → ⊥) → new_atoms r a c full ≡ r.head.images.atom a ∷ new_atoms r (a + 1) c xs → made_mems r m full ≡ made_mems r m xs
       → ((x : ℕ) → added_rules r (rules_in s) full x ≡ added_rules r (rules_in s) xs x) → Goes r ks E xs
-      → heap.from (Some (r.head.images.atom a)) s.new_atoms ≡ s.new_atoms → State r home ks rank done (a + 1) m xs (placed s (r.head.images.membrane inside) (r.head.images.atom a))
-  placed_state done a m xs s inside full st n o ea em er goes first =
+      → heap.from (Some (r.head.images.atom a)) s.new_atoms ≡ s.new_atoms → State r home ks rank done (a + 1) m c xs (placed s (r.head.images.membrane inside) (r.head.images.atom a))
+  placed_state done a m c xs s inside full st n o ea em er goes first =
       let y = r.head.images.membrane inside in
       let b = r.head.images.atom a in
       let t = placed s y b in
-      let at = target_place done a m full s st inside n in
+      let at = target_place done a m c full s st inside n in
       let g = grown_placed ks s y b o (place_some s y at) in
       let same : (x : ℕ) → mem_place_of t x ≡ mem_place_of s x = same_mem_place s.mems y (λ zs. zs ++ b ∷ []) in
       record {
@@ -137,22 +136,70 @@ module _ (r : Registers) (home : ℕ) (ks nm : List ℕ) (rank : ℕ → ℕ) (E
         place = λ x i. same_in_place s t x (same x) (st.place x i);
         gone_ks = λ x i. same x ∙ st.gone_ks x i;
         wait = λ x i. same x ∙ st.wait x (subst (In x) (sym em) i);
-        line = (st.line.0, g.line (numbers (made_of r (a + 1) xs) ++ st.line.0) (st.line.1 ∙ ap (λ zs. zs ++ st.line.0) ea));
+        line = (st.line.0, g.line (new_atoms r (a + 1) c xs ++ st.line.0) (st.line.1 ∙ ap (λ zs. zs ++ st.line.0) ea));
         mem_line = (st.mem_line.0, st.mem_line.1 ∙ ap (λ zs. zs ++ st.mem_line.0) em);
         spare = λ x i. subst (λ n. n ≤ spare_of t x) (ap (λ (zs : List ℕ). length zs) (er x ∙ sym (same_rules_added r ks E (rules_in s) (rules_in t) xs x goes g.head_rules)))
             (subst (λ n. length (added_rules r (rules_in s) full x) ≤ n) (sym (change_keeps spare_by s.mems y (mem_with_atoms (λ zs. zs ++ b ∷ [])) (λ z. refl) x)) (st.spare x i));
       }
 
+  -- A heap in which some atoms of a copy are placed, and these wait.
+  record Copying (done : List ℕ) (a m c : ℕ) (xs : List BodyItem) (ys : List ℕ) (s : Heap) : Type 0 where
+    listed : Listed s
+    up : (p x : ℕ) → In x (mems_in s p) → rank p < rank x
+    place : (x : ℕ) → (x ≡ home) ⊎ In x done → IsMemInPlace s x
+    gone_ks : (x : ℕ) → In x ks → mem_place_of s x ≡ Some gone
+    wait : (x : ℕ) → In x (made_mems r m xs) → mem_place_of s x ≡ Some waiting
+    line : (rest : List ℕ) × (s.new_atoms ≡ ys ++ (new_atoms r a (c + 1) xs ++ rest))
+    mem_line : (rest : List ℕ) × (s.new_mems ≡ made_mems r m xs ++ rest)
+    spare : (x : ℕ) → (In x ks → ⊥) → length (added_rules r (rules_in s) xs x) ≤ spare_of s x
+
+  copy_begins : (done : List ℕ) (a m c : ℕ) (xs : List BodyItem) (part link inside : ℕ) (s : Heap) → State r home ks rank done a m c (Copy part link inside ∷ xs) s → Copying done a m c xs (r.copied c) s
+  copy_begins done a m c xs part link inside s st = record {
+    listed = st.listed;
+    up = st.up;
+    place = st.place;
+    gone_ks = st.gone_ks;
+    wait = st.wait;
+    line = (st.line.0, st.line.1 ∙ append_assoc (r.copied c) (new_atoms r a (c + 1) xs) st.line.0);
+    mem_line = st.mem_line;
+    spare = st.spare;
+  }
+
+  -- the atoms of a copy are placed
+  copy_state : (done : List ℕ) (a m c : ℕ) (xs : List BodyItem) (part link inside : ℕ) → Into r home done inside → (In (r.head.images.membrane inside) ks → ⊥) → Goes r ks E xs → (ys : List ℕ) (s : Heap)
+      → Copying done a m c xs ys s → State r home ks rank done a m (c + 1) xs (all_placed s (map (λ b. (r.head.images.membrane inside, b)) ys))
+  copy_state done a m c xs part link inside n o goes [] s st = record { listed = st.listed; up = st.up; place = st.place; gone_ks = st.gone_ks; wait = st.wait; line = st.line; mem_line = st.mem_line; spare = st.spare }
+  copy_state done a m c xs part link inside n o goes (b ∷ ys) s st =
+      let y = r.head.images.membrane inside in
+      let t = placed s y b in
+      let at : IsMemInPlace s y = st.place y n in
+      let g = grown_placed ks s y b o (place_some s y at) in
+      let same : (x : ℕ) → mem_place_of t x ≡ mem_place_of s x = same_mem_place s.mems y (λ zs. zs ++ b ∷ []) in
+      copy_state done a m c xs part link inside n o goes ys t (record {
+        listed = placed_listed s y b st.listed (place_some s y at) (not_waiting s y at) (subst (λ zs. heap.from (Some b) zs ≡ zs) (sym st.line.1) (first_from b (ys ++ (new_atoms r a (c + 1) xs ++ st.line.0))));
+        up = up_after ks rank s t [] (b ∷ []) [] (only_at y (b ∷ [])) (λ x. []) (λ x. []) (λ p. decide p ks) (λ p. inr (λ i. i)) g st.up (λ p x i. absurd i);
+        place = λ x i. same_in_place s t x (same x) (st.place x i);
+        gone_ks = λ x i. same x ∙ st.gone_ks x i;
+        wait = λ x i. same x ∙ st.wait x i;
+        line = (st.line.0, g.line (ys ++ (new_atoms r a (c + 1) xs ++ st.line.0)) st.line.1);
+        mem_line = st.mem_line;
+        spare = λ x i. subst (λ n. n ≤ spare_of t x) (ap (λ (zs : List ℕ). length zs) (sym (same_rules_added r ks E (rules_in s) (rules_in t) xs x goes g.head_rules)))
+            (subst (λ n. length (added_rules r (rules_in s) xs x) ≤ n) (sym (change_keeps spare_by s.mems y (mem_with_atoms (λ zs. zs ++ b ∷ [])) (λ z. refl) x)) (st.spare x i));
+      })
+    where
+      first_from : (a : ℕ) (zs : List ℕ) → heap.from (Some a) (a ∷ zs) ≡ a ∷ zs
+      first_from a zs = rw (eq-eqb a a refl) refl
+
   -- rules go to a membrane
-  rules_state : (done : List ℕ) (a m : ℕ) (xs : List BodyItem) (s : Heap) (inside : ℕ) (full : List BodyItem) (rs : List ℕ) → State r home ks rank done a m full s → Into r home done inside
-      → (In (r.head.images.membrane inside) ks → ⊥) → numbers (made_of r a full) ≡ numbers (made_of r a xs) → made_mems r m full ≡ made_mems r m xs
+  rules_state : (done : List ℕ) (a m c : ℕ) (xs : List BodyItem) (s : Heap) (inside : ℕ) (full : List BodyItem) (rs : List ℕ) → State r home ks rank done a m c full s → Into r home done inside
+      → (In (r.head.images.membrane inside) ks → ⊥) → new_atoms r a c full ≡ new_atoms r a c xs → made_mems r m full ≡ made_mems r m xs
       → ((x : ℕ) → added_rules r (rules_in s) full x ≡ if_inside r x inside rs ++ added_rules r (rules_in s) xs x) → Goes r ks E xs
-      → State r home ks rank done a m xs (record s { mems = alter s.mems (r.head.images.membrane inside) (option_map (mem_with_rules rs)) })
-  rules_state done a m xs s inside full rs st n o ea em er goes =
+      → State r home ks rank done a m c xs (record s { mems = alter s.mems (r.head.images.membrane inside) (option_map (mem_with_rules rs)) })
+  rules_state done a m c xs s inside full rs st n o ea em er goes =
       let y = r.head.images.membrane inside in
       let f = mem_with_rules rs in
       let t : Heap = record s { mems = alter s.mems y (option_map f) } in
-      let at = target_place done a m full s st inside n in
+      let at = target_place done a m c full s st inside n in
       let g = grown_rules ks s y rs o (place_some s y at) in
       let same : (x : ℕ) → mem_place_of t x ≡ mem_place_of s x = change_keeps place_by s.mems y f (λ z. refl) in
       record {
@@ -194,14 +241,14 @@ module _ (r : Registers) (home : ℕ) (ks nm : List ℕ) (rank : ℕ → ℕ) (E
           less p q w h = omega arith
 
   -- a membrane is placed
-  mem_state : (done : List ℕ) (a m : ℕ) (xs : List BodyItem) (s : Heap) (inside : ℕ) → nm ≡ done ++ (r.head.images.membrane m ∷ made_mems r (m + 1) xs) → State r home ks rank done a m (Membrane inside ∷ xs) s → Into r home done inside
+  mem_state : (done : List ℕ) (a m c : ℕ) (xs : List BodyItem) (s : Heap) (inside : ℕ) → nm ≡ done ++ (r.head.images.membrane m ∷ made_mems r (m + 1) xs) → State r home ks rank done a m c (Membrane inside ∷ xs) s → Into r home done inside
       → (In (r.head.images.membrane inside) ks → ⊥) → Goes r ks E xs → heap.from (Some (r.head.images.membrane m)) s.new_mems ≡ s.new_mems
-      → State r home ks rank (done ++ r.head.images.membrane m ∷ []) a (m + 1) xs (placed_mem s (r.head.images.membrane inside) (r.head.images.membrane m))
-  mem_state done a m xs s inside whole st n o goes first =
+      → State r home ks rank (done ++ r.head.images.membrane m ∷ []) a (m + 1) c xs (placed_mem s (r.head.images.membrane inside) (r.head.images.membrane m))
+  mem_state done a m c xs s inside whole st n o goes first =
       let y = r.head.images.membrane inside in
       let z = r.head.images.membrane m in
       let t = placed_mem s y z in
-      let at = target_place done a m (Membrane inside ∷ xs) s st inside n in
+      let at = target_place done a m c (Membrane inside ∷ xs) s st inside n in
       let g = grown_placed_mem ks s y z o (place_some s y at) in
       let waits : mem_place_of s z ≡ Some waiting = st.wait z (inl refl) in
       let away : (x : ℕ) → x ≢ z → mem_place_of t x ≡ mem_place_of s x = λ x d. change_keeps place_by (alter s.mems z (option_map (mem_with_place (within y)))) y (mem_with_mems (λ ws. ws ++ z ∷ [])) (λ q. refl) x
@@ -255,13 +302,13 @@ module _ (r : Registers) (home : ℕ) (ks nm : List ℕ) (rank : ℕ → ℕ) (E
           rk.in_order y z (subst (In y) (sym whole) (in_left y done (z ∷ made_mems r (m + 1) xs) j)) i (omega arith)
 
   -- what is left of a removed membrane moves
-  moved_state : (done : List ℕ) (a m : ℕ) (xs : List BodyItem) (s : Heap) (of inside : ℕ) → nm ≡ done ++ made_mems r m xs → State r home ks rank done a m (Rest of inside ∷ xs) s → Into r home done inside
-      → In (r.head.images.membrane of) ks → (In (r.head.images.membrane inside) ks → ⊥) → Goes r ks E xs → State r home ks rank done a m xs (moved_all s (r.head.images.membrane of) (r.head.images.membrane inside))
-  moved_state done a m xs s of inside whole st n k o goes =
+  moved_state : (done : List ℕ) (a m c : ℕ) (xs : List BodyItem) (s : Heap) (of inside : ℕ) → nm ≡ done ++ made_mems r m xs → State r home ks rank done a m c (Rest of inside ∷ xs) s → Into r home done inside
+      → In (r.head.images.membrane of) ks → (In (r.head.images.membrane inside) ks → ⊥) → Goes r ks E xs → State r home ks rank done a m c xs (moved_all s (r.head.images.membrane of) (r.head.images.membrane inside))
+  moved_state done a m c xs s of inside whole st n k o goes =
       let y = r.head.images.membrane inside in
       let q = r.head.images.membrane of in
       let t = moved_all s q y in
-      let at = target_place done a m (Rest of inside ∷ xs) s st inside n in
+      let at = target_place done a m c (Rest of inside ∷ xs) s st inside n in
       let from = is_some s q gone (st.gone_ks q k) in
       let g = grown_moved ks s q y k o from (place_some s y at) in
       let place = moved_place s q y in
@@ -295,9 +342,9 @@ module _ (r : Registers) (home : ℕ) (ks nm : List ℕ) (rank : ℕ → ℕ) (E
           by (Some z) = refl
 
   -- the target isn't inside what moves
-  outside : (done : List ℕ) (a m : ℕ) (xs : List BodyItem) (s : Heap) (of inside : ℕ) → nm ≡ done ++ made_mems r m xs → State r home ks rank done a m (Rest of inside ∷ xs) s → Into r home done inside → In (r.head.images.membrane of) ks
+  outside : (done : List ℕ) (a m c : ℕ) (xs : List BodyItem) (s : Heap) (of inside : ℕ) → nm ≡ done ++ made_mems r m xs → State r home ks rank done a m c (Rest of inside ∷ xs) s → Into r home done inside → In (r.head.images.membrane of) ks
       → IsOutside s (r.head.images.membrane inside) (r.head.images.membrane of)
-  outside done a m xs s of inside whole st n k j above =
+  outside done a m c xs s of inside whole st n k j above =
       off (above_rank s st.listed rank st.up j (r.head.images.membrane of) (r.head.images.membrane inside) above) (rk.targets (r.head.images.membrane inside) (target_in n)) (rk.removed (r.head.images.membrane of) k)
     where
       target_in : Into r home done inside → (r.head.images.membrane inside ≡ home) ⊎ In (r.head.images.membrane inside) nm
@@ -308,36 +355,40 @@ module _ (r : Registers) (home : ℕ) (ks nm : List ℕ) (rank : ℕ → ℕ) (E
       off p q w = omega arith
 
   -- The making part of a body can run.
-  pub making_can : (done : List ℕ) (a m c : ℕ) (body : List BodyItem) → nm ≡ done ++ made_mems r m body → Goes r ks E body → Nests r home done m body → (s : Heap) → State r home ks rank done a m body s → CanRun r (making a m c body) s
+  pub making_can : (done : List ℕ) (a m c : ℕ) (body : List BodyItem) → nm ≡ done ++ made_mems r m body → Goes r ks E body → Nests r home done m body → (s : Heap) → State r home ks rank done a m c body s → CanRun r (making a m c body) s
   making_can done a m c [] whole g n s st = tt
   making_can done a m c (Connector left right ∷ xs) whole g n s st =
       making_can done a m c xs whole g n s (record { listed = st.listed; up = st.up; place = st.place; gone_ks = st.gone_ks; wait = st.wait; line = st.line; mem_line = st.mem_line; spare = st.spare })
-  making_can done a m c (Copy part link inside ∷ xs) whole g n s st = absurd g
+  making_can done a m c (Copy part link inside ∷ xs) whole g n s st = (
+    (target_place done a m c (Copy part link inside ∷ xs) s st inside n.0, (new_atoms r a (c + 1) xs ++ st.line.0, st.line.1 ∙ append_assoc (r.copied c) (new_atoms r a (c + 1) xs) st.line.0)),
+    λ t e. subst (CanRun r (making a m (c + 1) xs)) (sym e.2) (making_can done a m (c + 1) xs whole g.1 n.1 (all_placed s (map (λ b. (r.head.images.membrane inside, b)) (r.copied c)))
+        (copy_state done a m c xs part link inside n.0 g.0.0 g.1 (r.copied c) s (copy_begins done a m c xs part link inside s st))),
+  )
   making_can done a m c (Atom functor links inside ∷ xs) whole g n s st = (
-    (target_place done a m (Atom functor links inside ∷ xs) s st inside n.0, (numbers (made_of r (a + 1) xs) ++ st.line.0, st.line.1)),
+    (target_place done a m c (Atom functor links inside ∷ xs) s st inside n.0, (new_atoms r (a + 1) c xs ++ st.line.0, st.line.1)),
     λ t e. subst (CanRun r (making (a + 1) m c xs)) (sym e.1) (making_can done (a + 1) m c xs whole g.1 n.1 (placed s (r.head.images.membrane inside) (r.head.images.atom a))
-        (placed_state done a m xs s inside (Atom functor links inside ∷ xs) st n.0 g.0.0 refl refl (λ x. refl) g.1 e.0)),
+        (placed_state done a m c xs s inside (Atom functor links inside ∷ xs) st n.0 g.0.0 refl refl (λ x. refl) g.1 e.0)),
   )
   making_can done a m c (Bound integer link inside ∷ xs) whole g n s st = (
-    (target_place done a m (Bound integer link inside ∷ xs) s st inside n.0, (numbers (made_of r (a + 1) xs) ++ st.line.0, st.line.1)),
+    (target_place done a m c (Bound integer link inside ∷ xs) s st inside n.0, (new_atoms r (a + 1) c xs ++ st.line.0, st.line.1)),
     λ t e. subst (CanRun r (making (a + 1) m c xs)) (sym e.1) (making_can done (a + 1) m c xs whole g.1 n.1 (placed s (r.head.images.membrane inside) (r.head.images.atom a))
-        (placed_state done a m xs s inside (Bound integer link inside ∷ xs) st n.0 g.0.0 refl refl (λ x. refl) g.1 e.0)),
+        (placed_state done a m c xs s inside (Bound integer link inside ∷ xs) st n.0 g.0.0 refl refl (λ x. refl) g.1 e.0)),
   )
   making_can done a m c (Membrane inside ∷ xs) whole g n s st = (
-    (target_place done a m (Membrane inside ∷ xs) s st inside n.0, (made_mems r (m + 1) xs ++ st.mem_line.0, st.mem_line.1)),
+    (target_place done a m c (Membrane inside ∷ xs) s st inside n.0, (made_mems r (m + 1) xs ++ st.mem_line.0, st.mem_line.1)),
     λ t e. subst (CanRun r (making a (m + 1) c xs)) (sym e.1)
         (making_can (done ++ r.head.images.membrane m ∷ []) a (m + 1) c xs (whole ∙ sym (append_assoc done (r.head.images.membrane m ∷ []) (made_mems r (m + 1) xs))) g.1 n.1 (placed_mem s (r.head.images.membrane inside) (r.head.images.membrane m))
-        (mem_state done a m xs s inside whole st n.0 g.0.0 g.1 e.0)),
+        (mem_state done a m c xs s inside whole st n.0 g.0.0 g.1 e.0)),
   )
   making_can done a m c (Rest of inside ∷ xs) whole g n s st = (
-    (st.gone_ks (r.head.images.membrane of) g.0, target_place done a m (Rest of inside ∷ xs) s st inside n.0, outside done a m xs s of inside whole st n.0 g.0),
-    λ t e. subst (CanRun r (making a m c xs)) (sym e) (making_can done a m c xs whole g.4 n.1 (moved_all s (r.head.images.membrane of) (r.head.images.membrane inside)) (moved_state done a m xs s of inside whole st n.0 g.0 g.3.0 g.4)),
+    (st.gone_ks (r.head.images.membrane of) g.0, target_place done a m c (Rest of inside ∷ xs) s st inside n.0, outside done a m c xs s of inside whole st n.0 g.0),
+    λ t e. subst (CanRun r (making a m c xs)) (sym e) (making_can done a m c xs whole g.4 n.1 (moved_all s (r.head.images.membrane of) (r.head.images.membrane inside)) (moved_state done a m c xs s of inside whole st n.0 g.0 g.3.0 g.4)),
   )
   making_can done a m c (Rule rule inside ∷ xs) whole g n s st =
       let y = r.head.images.membrane inside in
-      let at = target_place done a m (Rule rule inside ∷ xs) s st inside n.0 in (
+      let at = target_place done a m c (Rule rule inside ∷ xs) s st inside n.0 in (
         (place_some s y at, one_more (added_rules r (rules_in s) xs y) (spare_of s y) (subst (λ zs. length (zs ++ added_rules r (rules_in s) xs y) ≤ spare_of s y) (inside_here inside (rule ∷ [])) (st.spare y g.0.0))),
-        λ t e. subst (CanRun r (making a m c xs)) (sym e) (making_can done a m c xs whole g.1 n.1 (heap.rule_added s y rule) (rules_state done a m xs s inside (Rule rule inside ∷ xs) (rule ∷ []) st n.0 g.0.0 refl refl (λ x. refl) g.1)),
+        λ t e. subst (CanRun r (making a m c xs)) (sym e) (making_can done a m c xs whole g.1 n.1 (heap.rule_added s y rule) (rules_state done a m c xs s inside (Rule rule inside ∷ xs) (rule ∷ []) st n.0 g.0.0 refl refl (λ x. refl) g.1)),
       )
     where
       one_more : (zs : List ℕ) (k : ℕ) → length (rule ∷ zs) ≤ k → 1 ≤ k
@@ -349,14 +400,14 @@ module _ (r : Registers) (home : ℕ) (ks nm : List ℕ) (rank : ℕ → ℕ) (E
       let y = r.head.images.membrane inside in
       let q = r.head.images.membrane of in
       let rs = rules_in s q in
-      let at = target_place done a m (Rules of inside ∷ xs) s st inside n.0 in (
+      let at = target_place done a m c (Rules of inside ∷ xs) s st inside n.0 in (
         (
           is_some s q gone (st.gone_ks q g.0),
           place_some s y at,
           (λ e. g.1.0 (subst (λ w. In w ks) e g.0)),
           first_part rs (added_rules r (rules_in s) xs y) (spare_of s y) (subst (λ zs. length (zs ++ added_rules r (rules_in s) xs y) ≤ spare_of s y) (inside_here inside rs) (st.spare y g.1.0)),
         ),
-        λ t e. subst (CanRun r (making a m c xs)) (sym e) (making_can done a m c xs whole g.2 n.1 (heap.rules_copied s q y) (rules_state done a m xs s inside (Rules of inside ∷ xs) rs st n.0 g.1.0 refl refl (λ x. refl) g.2)),
+        λ t e. subst (CanRun r (making a m c xs)) (sym e) (making_can done a m c xs whole g.2 n.1 (heap.rules_copied s q y) (rules_state done a m c xs s inside (Rules of inside ∷ xs) rs st n.0 g.1.0 refl refl (λ x. refl) g.2)),
       )
     where
       first_part : (xs ys : List ℕ) (k : ℕ) → length (xs ++ ys) ≤ k → length xs ≤ k

@@ -18,7 +18,11 @@ use Rattle.lmn_solid.specs.Heads.{HeadMembrane, atoms_of, membranes_of}
 use Rattle.lmn_solid.specs.Embeddings.{Embeds, HasMembrane}
 use Rattle.lmn_splice.specs.Ports.{Port}
 use Rattle.lmn_splice.specs.Classes.{body_ties}
-use Rattle.lmn_splice.specs.Splice.{raw_link, Splice, Fusion}
+use Rattle.lmn_splice.specs.Splice.{raw_link, of_solid, Splice, Fusion}
+use Rattle.lmn_splice.specs.Splice as splice
+use Rattle.lmn_heap.proofs.Replacing.{port_within}
+use Rattle.lmn_parts.specs.Copies.{answer}
+use Rattle.lmn_parts.proofs.AnswerLaws.{answer_in}
 use Rattle.lmn_body.specs.declared.items.BodyItem.{BodyItem}
 use Rattle.lmn_body.specs.Tied.{partners, all_tied}
 use Rattle.lmn_body.specs.Items.{new_ports, old_ports, connectors}
@@ -27,22 +31,21 @@ use Rattle.lmn_body.specs.Running.{Registers, old_port, new_port, withouts, all_
 use Rattle.lmn_body.specs.Names.{StandsPort, Names}
 use Rattle.lmn_body.specs.Added.{added_atoms, added_mems, added_rules, moved_mems, made_mems}
 use Rattle.lmn_body.specs.Fired.{images_of}
-use Rattle.lmn_body.specs.Within.{membrane_images, FiresWithin}
+use Rattle.lmn_body.specs.Within.{membrane_images, IsCopyIn, FiresWithin}
 use Rattle.lmn_body.proofs.HeapTies.{SameItems, heap_fusion}
 use Rattle.lmn_body.proofs.Phases.{atoms_of_pairs, listed_some, place_home}
-use Rattle.lmn_body.proofs.Making.{AllFree, all_made}
 use Rattle.lmn_body.proofs.Coding.{at_heap}
-use Rattle.lmn_body.specs.Made.{made_of, places_of}
-use Rattle.lmn_body.proofs.BodyPorts.{heap_in, numbers, number_in}
+use Rattle.lmn_body.specs.Made.{made_of, places_of, new_atoms, copies_of}
+use Rattle.lmn_body.proofs.BodyPorts.{heap_in, written_new, copied_new}
 use Rattle.lmn_body.proofs.Finishing.{within_of, in_place_within, in_place_listed, ready, names_left, stands_on}
 use Rattle.lmn_body.proofs.Committing.{in_withouts_of, in_withouts, EndsLive}
 use Rattle.lmn_body.specs.Rules.{AtomRule, Goes, Exists, PartAtoms}
-use Rattle.lmn_body.proofs.Firing.{distinct_images, decide_in, in_place_old, is_taken, part_taken, ns_once, home_s, ma, is_atom, taken_in_place, splice_at, links_below, new_link, kept_link, kept_functor, new_functor, stands_again, es_are}
+use Rattle.lmn_body.proofs.Firing.{distinct_images, decide_in, in_place_old, is_taken, part_taken, ns_once, home_s, old_atom, is_atom, taken_in_place, splice_at, links_below, new_link, kept_link, inner_link, kept_functor, new_functor, stands_again, es_are}
 use Rattle.lmn_body.proofs.Below.{removed_is as image_of_head, is_removed as head_is_image}
 use Rattle.lmn_body.proofs.Growing.{some_there}
 use Rattle.lmn_body.proofs.MakingParts.{GrownBy, making_grows, same_atoms_added, same_mems_added, same_rules_added}
 use Rattle.lmn_body.proofs.Removing.{Shrunk, InOneList, MemInOneList, all_taken_mems, shrunk_atoms, shrunk_mems, shrunk_after, taken_places, place_parent}
-use Rattle.lmn_body.proofs.Preparing.{AllPrepared}
+use Rattle.lmn_body.proofs.Preparing.{Brought, AllPrepared}
 use Rattle.lmn_body.proofs.AddedLemmas.{comes_from, new_arrives, moved_arrives}
 
 module _ (h : Heap) (valid : Valid h) (head : List HeadItem) (guard : List Cond) (body : List BodyItem) (n m : ℕ) (r : Registers) (rule : AtomRule head body n)
@@ -50,7 +53,7 @@ module _ (h : Heap) (valid : Valid h) (head : List HeadItem) (guard : List Cond)
     (goes : Goes r (membrane_images r head) (Exists h r head body) body)
     (contexts : (k : ℕ) (b : HeadMembrane) → HasMembrane head k b → b.has_context ≡ true → In (r.head.images.membrane k) (moved_mems r body))
     (ps : List ℕ) (parts : PartAtoms h head r.head.images ps)
-    (s : Heap) (pr : AllPrepared h h s (made_of r (length (atoms_of head)) body) (made_mems r (1 + length (membranes_of head)) body)) where
+    (s : Heap) (pr : AllPrepared c h s r (length (atoms_of head)) (1 + length (membranes_of head)) body) where
   abbrev pub N : ℕ
   N = length (atoms_of head)
 
@@ -61,10 +64,13 @@ module _ (h : Heap) (valid : Valid h) (head : List HeadItem) (guard : List Cond)
   mk = made_of r N body
 
   abbrev pub es : List (ℕ × ℕ)
-  es = places_of r N body
+  es = places_of r N 0 body
+
+  abbrev pub new : List ℕ
+  new = new_atoms r N 0 body
 
   abbrev pub s0 : Heap
-  s0 = all_made h mk
+  s0 = pr.free.heap
 
   abbrev pub ns : List ℕ
   ns = images_of r head ++ ps
@@ -81,7 +87,7 @@ module _ (h : Heap) (valid : Valid h) (head : List HeadItem) (guard : List Cond)
   abbrev pub wires : List (ℕ × ℕ)
   wires = connectors body
 
-  free : AllFree h mk
+  abbrev free : Brought c h r N body
   free = pr.free
 
   abbrev pub same_atom : s.atoms ≡ s0.atoms
@@ -148,7 +154,7 @@ module _ (h : Heap) (valid : Valid h) (head : List HeadItem) (guard : List Cond)
         where
           same_home_h : (a : ℕ) → IsInPlace h a → home_of s a ≡ home_of h a
           same_home_h a i = home_as a ∙ ap (λ (o : Option HeapAtom). option_and_then (λ x. home_by x.place) o)
-              ((ma h valid head guard body n m r rule em stand c names free ps parts).old a (is_atom h valid head guard body n m r rule em stand c names free ps parts a i))
+              (old_atom h valid head guard body n m r rule em stand c names free ps parts a (is_atom h valid head guard body n m r rule em stand c names free ps parts a i))
 
   abbrev pub t1 : Heap
   t1 = all_taken s ns
@@ -231,7 +237,7 @@ module _ (h : Heap) (valid : Valid h) (head : List HeadItem) (guard : List Cond)
       no_context false d = refl
 
   module _ (t3 : Heap) (run : Commits r (making N (1 + K) 0 body) t2 t3) where
-    pub gr : GrownBy r ks N (1 + K) body t2 t3
+    pub gr : GrownBy r ks N (1 + K) 0 body t2 t3
     gr = making_grows r ks (Exists h r head body) N (1 + K) 0 body goes t2 t3 there_t2 run
 
     abbrev pub v : Heap
@@ -257,7 +263,7 @@ module _ (h : Heap) (valid : Valid h) (head : List HeadItem) (guard : List Cond)
     same_partners = λ i p. links_t3 p.0 p.1 i
 
     pub paired_s : Paired s
-    paired_s = same_paired s0 s (λ x i. ap (λ (f : ℕ → Option HeapAtom). prelude.slice_index_or (links_of (f x)) i None) same_atom) (ma h valid head guard body n m r rule em stand c names free ps parts).sound.paired
+    paired_s = same_paired s0 s (λ x i. ap (λ (f : ℕ → Option HeapAtom). prelude.slice_index_or (links_of (f x)) i None) same_atom) free.sound.paired
 
     fu : Fusion F c (partners v) news olds wires × Paired v × SameItems t3 v
     fu = heap_fusion F c news olds wires n t3 (same_paired s t3 links_t3 paired_s) (λ p f. subst (λ k. p.1 < k) (sym (arities_t3 p.0)) f.0)
@@ -274,9 +280,9 @@ module _ (h : Heap) (valid : Valid h) (head : List HeadItem) (guard : List Cond)
 
     -- lists
 
-    atoms_v : (x : ℕ) → (In x ks → ⊥) → atoms_in v x ≡ left_atoms x ++ added_atoms r left_atoms N body x
+    atoms_v : (x : ℕ) → (In x ks → ⊥) → atoms_in v x ≡ left_atoms x ++ added_atoms r left_atoms N 0 body x
     atoms_v x o = ap (λ f. atoms_by (f x)) same.mems ∙ gr.atoms x o
-        ∙ (λ t. atoms_t2 x t ++ same_atoms_added r left_atoms (atoms_in t2) N body x (λ k i. atoms_t2 k) t)
+        ∙ (λ t. atoms_t2 x t ++ same_atoms_added r left_atoms (atoms_in t2) N 0 body x (λ k i. atoms_t2 k) t)
 
     pub mems_v : (x : ℕ) → (In x ks → ⊥) → mems_in v x ≡ left_mems x ++ added_mems r left_mems (1 + K) body x
     mems_v x o = ap (λ f. mems_by (f x)) same.mems ∙ gr.mems x o
@@ -303,7 +309,7 @@ module _ (h : Heap) (valid : Valid h) (head : List HeadItem) (guard : List Cond)
       left_stands : (x a : ℕ) → In a (left_atoms x) → IsInPlace s a × (In a ns → ⊥)
       left_stands x a i = let w = in_withouts_of ns (atoms_in h x) a (valid.sound.listed.atoms_once x) i in (old_s a (in_place_listed h x a valid.sound.listed w.0), w.1)
 
-      numbers_pairs : (a : ℕ) → In a (numbers mk) → In a (atoms_of_pairs es)
+      numbers_pairs : (a : ℕ) → In a new → In a (atoms_of_pairs es)
       numbers_pairs a i = subst (In a) (sym (es_are h valid head guard body n m r rule em stand c names free ps parts)) i
 
       pub stands_v : (a : ℕ) → IsInPlace v a → (IsInPlace s a × (In a ns → ⊥)) ⊎ In a (atoms_of_pairs es)
@@ -312,28 +318,28 @@ module _ (h : Heap) (valid : Valid h) (head : List HeadItem) (guard : List Cond)
           let j = (sound.listed.atoms w.0 a).1 w.1 in
           elim (decide_in w.0 ks) [
             | inl k ↦ absurd (subst (In a) (removed_empty w.0 k).0 j)
-            | inr o ↦ elim (in_either a (left_atoms w.0) (added_atoms r left_atoms N body w.0) (subst (In a) (atoms_v w.0 o) j)) [
+            | inr o ↦ elim (in_either a (left_atoms w.0) (added_atoms r left_atoms N 0 body w.0) (subst (In a) (atoms_v w.0 o) j)) [
               | inl l ↦ inl (left_stands w.0 a l)
-              | inr l ↦ elim (comes_from r left_atoms N body w.0 a l) [ inl q ↦ inr (numbers_pairs a q) | inr q ↦ inl (left_stands q.0 a q.2) ]
+              | inr l ↦ elim (comes_from r left_atoms N 0 body w.0 a l) [ inl q ↦ inr (numbers_pairs a q) | inr q ↦ inl (left_stands q.0 a q.2) ]
             ]
           ]
 
-      arrives : (y a : ℕ) → (In y ks → ⊥) → In a (added_atoms r left_atoms N body y) → IsInPlace v a
-      arrives y a o i = in_place_listed v y a sound.listed (subst (In a) (sym (atoms_v y o)) (in_right a (left_atoms y) (added_atoms r left_atoms N body y) i))
+      arrives : (y a : ℕ) → (In y ks → ⊥) → In a (added_atoms r left_atoms N 0 body y) → IsInPlace v a
+      arrives y a o i = in_place_listed v y a sound.listed (subst (In a) (sym (atoms_v y o)) (in_right a (left_atoms y) (added_atoms r left_atoms N 0 body y) i))
 
       stands_then : (a : ℕ) → (IsInPlace s a × (In a ns → ⊥)) ⊎ In a (atoms_of_pairs es) → IsInPlace v a
       stands_then a (inl w) =
           let x = within_of h a (s_old a w.0) in
           let left : In a (left_atoms x.0) = in_withouts ns (atoms_in h x.0) a ((valid.sound.listed.atoms x.0 a).1 x.1) w.1 in
           elim (decide_in x.0 ks) [
-            | inr o ↦ in_place_listed v x.0 a sound.listed (subst (In a) (sym (atoms_v x.0 o)) (in_left a (left_atoms x.0) (added_atoms r left_atoms N body x.0) left))
+            | inr o ↦ in_place_listed v x.0 a sound.listed (subst (In a) (sym (atoms_v x.0 o)) (in_left a (left_atoms x.0) (added_atoms r left_atoms N 0 body x.0) left))
             | inl k ↦ elim (decide_in x.0 (moved_mems r body)) [
-              | inl j ↦ (let y = moved_arrives r left_atoms ks (Exists h r head body) N body goes x.0 a j left in arrives y.0 a y.1 y.2)
+              | inl j ↦ (let y = moved_arrives r left_atoms ks (Exists h r head body) N 0 body goes x.0 a j left in arrives y.0 a y.1 y.2)
               | inr o ↦ absurd (subst (In a) (left_empty x.0 k o).0 left)
             ]
           ]
       stands_then a (inr i) =
-          let y = new_arrives r left_atoms ks (Exists h r head body) N body goes a (subst (In a) (es_are h valid head guard body n m r rule em stand c names free ps parts) i) in arrives y.0 a y.1 y.2
+          let y = new_arrives r left_atoms ks (Exists h r head body) N 0 body goes a (subst (In a) (es_are h valid head guard body n m r rule em stand c names free ps parts) i) in arrives y.0 a y.1 y.2
 
       arities_v : (a : ℕ) → arity_of v a ≡ arity_of s a
       arities_v a = same.arities a ∙ arities_t3 a
@@ -370,8 +376,8 @@ module _ (h : Heap) (valid : Valid h) (head : List HeadItem) (guard : List Cond)
       ]
 
       no_line : v.new_atoms ≡ []
-      no_line = same.new_atoms ∙ gr.line [] (sh.line ∙ pr.atoms.line ∙ (ma h valid head guard body n m r rule em stand c names free ps parts).line
-          ∙ ap (λ xs. xs ++ numbers mk) (no_waiting h valid.sound.listed valid.settled) ∙ sym (nil_right (numbers mk)))
+      no_line = same.new_atoms ∙ gr.line [] (sh.line ∙ pr.atoms.line ∙ free.brings.line
+          ∙ ap (λ xs. xs ++ new) (no_waiting h valid.sound.listed valid.settled) ∙ sym (nil_right new))
 
       no_mem_line : v.new_mems ≡ []
       no_mem_line = same.new_mems ∙ gr.mem_line [] (sh.mem_line ∙ pr.mems.line
@@ -397,6 +403,56 @@ module _ (h : Heap) (valid : Valid h) (head : List HeadItem) (guard : List Cond)
       pub kept_s : (a : ℕ) → IsInPlace h a → functor_of s a ≡ functor_of h a
       kept_s a i = ap (λ (f : ℕ → Option HeapAtom). option_map (λ x. x.functor) (f a)) same_atom ∙ kept_functor h valid head guard body n m r rule em stand c names free ps parts a i
 
+      -- an atom of a copy stands
+      copied_pairs : (e : ℕ × ℕ) → splice.In e (copies_of 0 body) → (y : ℕ) → In y (r.copied e.0) → In y (atoms_of_pairs es)
+      copied_pairs e i y j = numbers_pairs y (copied_new r N 0 body e y i j)
+
+      named_v : Names (finished v) number
+      named_v = names_left v F number fusion_v.coloured into back
+
+      in_functors : (y : ℕ) → In y (atoms_of_pairs es) → functor_of (finished v) y ≡ functor_of s0 y
+      in_functors y i = ap (λ (q : Option HeapAtom). option_map (λ x. x.functor) q) (stands_on v y (stands_then y (inr i))) ∙ functors_v y
+          ∙ ap (λ (f : ℕ → Option HeapAtom). option_map (λ x. x.functor) (f y)) same_atom
+
+      -- ports of copies that were joined are joined
+      joined_then : (p q : Port) → In p.0 new → In q.0 new → partners s0 p ≡ Some q → partners (finished v) p ≡ Some q
+      joined_then p q i j e =
+          let back_e : partners s0 q ≡ Some p = free.sound.paired.back p.0 p.1 q.0 q.1 e in
+          let same_number : number p ≡ number q = ap fusion_v.to (inner_link h valid head guard body n m r rule em stand c names free ps parts p q i e ∙ ap of_solid (sym (free.same p q i e))
+          ∙ sym (inner_link h valid head guard body n m r rule em stand c names free ps parts q p j back_e)) in
+          elim (named_v.only p q (stands_port p q i e) (stands_port q p j back_e) same_number) [
+            | inl f ↦ absurd (free.sound.paired.apart p.0 p.1 (e ∙ ap Some (sym f)))
+            | inr f ↦ f
+          ]
+        where
+          stands_port : (x z : Port) → In x.0 new → partners s0 x ≡ Some z → StandsPort (finished v) x
+          stands_port x z k f =
+              let at = stands_on v x.0 (stands_then x.0 (inr (numbers_pairs x.0 k))) in (
+                subst (λ (o : Option HeapAtom). IsSome (option_and_then (λ y. home_by y.place) o)) (sym at) (stands_then x.0 (inr (numbers_pairs x.0 k))),
+                subst (λ (o : Option HeapAtom). x.1 < length (links_of o)) (sym at) (subst (λ k. x.1 < k) (sym (arities_v x.0 ∙ ap (λ (g : ℕ → Option HeapAtom). length (links_of (g x.0))) same_atom))
+                    (port_within s0 x.0 x.1 z f)),
+              )
+
+      copies_then : (e : ℕ × ℕ) → splice.In e (copies_of 0 body) → IsCopyIn h (finished v) (r.head.images.part e.1) (r.copy e.0) (r.copied e.0)
+      copies_then e i =
+          let k = free.copies e i in
+          let at : (a : ℕ) → In a k.is.atoms → In (answer k.is.atoms (r.copied e.0) a) (r.copied e.0) = λ a j. answer_in k.is.atoms (r.copied e.0) a (long_enough k.is.long) j in
+          record {
+            atoms = k.is.atoms;
+            part = k.is.part;
+            long = k.is.long;
+            entered = k.is.entered;
+            functors = λ a j. in_functors (answer k.is.atoms (r.copied e.0) a) (copied_pairs e i (answer k.is.atoms (r.copied e.0) a) (at a j)) ∙ k.is.functors a j;
+            inner = λ a l b q j d f. let w = k.is.inner a l b q j d f in (
+              w.0,
+              joined_then (answer k.is.atoms (r.copied e.0) a, l) (answer k.is.atoms (r.copied e.0) b, q)
+                  (copied_new r N 0 body e (answer k.is.atoms (r.copied e.0) a) i (at a j)) (copied_new r N 0 body e (answer k.is.atoms (r.copied e.0) b) i (at b w.0)) w.1,
+            );
+          }
+        where
+          long_enough : {x y : ℕ} → x ≡ y → y ≤ x
+          long_enough {x = x} {y = y} e = omega (arith, e)
+
       -- The rule has fired.
       pub fires_within : FiresWithin h c r head body (images_of r head ++ ps) (finished v)
       fires_within = record {
@@ -408,8 +464,10 @@ module _ (h : Heap) (valid : Valid h) (head : List HeadItem) (guard : List Cond)
         kept_links = λ p i. ap fusion_v.to (kept_link h valid head guard body n m r rule em stand c names free ps parts p i);
         made_links = λ e i. ap fusion_v.to (new_link h valid head guard body n m r rule em stand c names free ps parts (new_port r e.0, e.1) (heap_in (new_port r) e (new_ports N 0 body) i));
         kept_functors = λ a i o. ap (λ (q : Option HeapAtom). option_map (λ x. x.functor) q) (stands_on v a (stands_then a (inl (old_s a i, o)))) ∙ functors_v a ∙ kept_s a i;
-        made_functors = λ e i. ap (λ (q : Option HeapAtom). option_map (λ x. x.functor) q) (stands_on v e.0 (stands_then e.0 (inr (numbers_pairs e.0 (number_in e.0 e.1 mk i))))) ∙ functors_v e.0
+        made_functors = λ e i. ap (λ (q : Option HeapAtom). option_map (λ x. x.functor) q) (stands_on v e.0 (stands_then e.0 (inr (numbers_pairs e.0 (written_new r N 0 body e.0 e.1 i))))) ∙ functors_v e.0
             ∙ ap (λ (f : ℕ → Option HeapAtom). option_map (λ x. x.functor) (f e.0)) same_atom ∙ new_functor h valid head guard body n m r rule em stand c names free ps parts e i;
+        new_placed = λ y i. subst (λ (o : Option HeapAtom). IsSome (option_and_then (λ x. home_by x.place) o)) (sym (stands_on v y (stands_then y (inr (numbers_pairs y i))))) (stands_then y (inr (numbers_pairs y i)));
+        copies = copies_then;
         atoms = λ x o. ap atoms_by (stays_mem x o) ∙ atoms_v x o;
         mems = λ x o. ap mems_by (stays_mem x o) ∙ mems_v x o;
         rules = λ x o. ap rules_by (stays_mem x o) ∙ rules_v x o;

@@ -1,9 +1,13 @@
 -- The parts of typed contexts are taken: no atom stands in two of them.
-use Rattle.std.proofs.Common.{ℕ, ◌<◌, ◌≡◌, ◌≢◌, ◌↔◌, List, [], ◌∷◌, ◌++◌, map, length, Option, Some, refl, sym, ap, subst, ◌∙◌, inl, inr}
+use Rattle.std.proofs.Common.{ℕ, ◌<◌, ◌≡◌, ◌≢◌, ◌↔◌, List, [], ◌∷◌, ◌++◌, map, length, Option, Some, None, IsSome, refl, sym, ap, subst, ◌∙◌, inl, inr, arith}
 use Rattle.std.specs.Prelude.{slice_get}
 use Rattle.lmn_base.specs.declared.guard.Cond.{Cond}
 use Rattle.lmn_base.specs.Graphs.{Reached, at_root, across}
-use Rattle.lmn_heap.specs.Heap.{Heap, link_of, In, Distinct, taken}
+use Rattle.lmn_heap.specs.Heap.{Heap, HeapAtom, links_of, functor_of, arity_of, link_of, IsAtom, In, Distinct, taken}
+use Rattle.lmn_base.specs.declared.functor.Functor.{Functor}
+use Rattle.std.specs.Option.{option_map}
+use Rattle.lmn_heap.proofs.Replacing.{port_within}
+use Rattle.lmn_body.proofs.Brought.{Whole, is_atom_at, reached_into, reached_from}
 use Rattle.lmn_heap.specs.Graphs.{atom_map}
 use Rattle.lmn_heap.specs.Sound.{Valid}
 use Rattle.lmn_heap.proofs.ListLemmas.{in_left, in_right}
@@ -18,6 +22,7 @@ use Rattle.lmn_instr.specs.declared.instr.Instr.TheVariants.{RemovePart}
 use Rattle.lmn_body.specs.declared.items.BodyItem.{BodyItem}
 use Rattle.lmn_body.specs.Tied.{partners}
 use Rattle.lmn_body.specs.Rules.{AtomRule}
+use Rattle.lmn_body.specs.CopiedSolid.{Hangs}
 use Rattle.lmn_body.specs.Running.{Registers, all_taken, Commits, Prepares}
 use Rattle.lmn_body.proofs.Phases.{taken_stays}
 use Rattle.lmn_heap.proofs.Depths.{both_distinct}
@@ -30,11 +35,6 @@ taken_links (n ∷ ns) s a i = taken_links ns (taken s n) a i ∙ (taken_stays s
 pub taken_append : (s : Heap) (xs ys : List ℕ) → all_taken s (xs ++ ys) ≡ all_taken (all_taken s xs) ys
 taken_append s [] ys = refl
 taken_append s (x ∷ xs) ys = taken_append (taken s x) xs ys
-
--- only partners matter
-pub reached_on : (s t : Heap) (root : Port) → ((p : Port) → partners t p ≡ partners s p) → (a : ℕ) → Reached (atom_map s) root a → Reached (atom_map t) root a
-reached_on s t root e a at_root = at_root
-reached_on s t root e a (across {a = b} {i = i} {j = j} r d f) = across {a = b} {i = i} {j = j} (reached_on s t root e b r) d (e (b, i) ∙ f)
 
 module _ (h : Heap) (valid : Valid h) (head : List HeadItem) (guard : List Cond) (body : List BodyItem) (n m : ℕ) (r : Registers) (rule : AtomRule head body n) (em : Embeds h head guard m r.head.images) where
   abbrev Part : ℕ → ℕ → Type 0
@@ -84,6 +84,36 @@ module _ (h : Heap) (valid : Valid h) (head : List HeadItem) (guard : List Cond)
       one_link : (x y : ℕ) → ◌≡◌ {A = Option ℕ} (Some x) (Some y) → x ≡ y
       one_link x y e = (cc)
 
+  -- the root of a part is an atom
+  pub part_there : (g : ℕ) (t : HeadTyped) → HasTyped head g t → IsAtom h (r.head.images.part g).0
+  part_there g t w =
+      let p = holds g t w in
+      is_atom_at h (r.head.images.part g).0 (r.head.images.part g).1 (port_within h (r.head.images.part g).0 (r.head.images.part g).1 (r.head.images.atom p.0.0, p.0.1) p.2)
+
+  -- and hangs at an image, which is outside
+  pub part_hangs : (g : ℕ) (t : HeadTyped) → HasTyped head g t → Hangs h (r.head.images.part g)
+  part_hangs g t w =
+      let p = holds g t w in
+      ((r.head.images.atom p.0.0, p.0.1), p.2, λ q. (em.parts g t w).apart (r.head.images.atom p.0.0) q (is_image g t w (r.head.images.atom p.0.0) refl))
+
+  -- each other port of a part has a partner
+  pub part_whole : (g : ℕ) (t : HeadTyped) → HasTyped head g t → Whole h (r.head.images.part g)
+  part_whole g t w =
+      let p = holds g t w in
+      record {
+        atom = part_there g t w;
+        port = port_within h (r.head.images.part g).0 (r.head.images.part g).1 (r.head.images.atom p.0.0, p.0.1) p.2;
+        full = λ a i q l d. by a i q d (functor_of h a) refl l;
+      }
+    where
+      none_ports : (o : Option HeapAtom) (i : ℕ) → option_map (λ x. x.functor) o ≡ None → i < length (links_of o) → ⊥
+      none_ports None i e l = omega arith
+      none_ports (Some x) i e l = absurd (cc)
+
+      by : (a i : ℕ) → Part g a → ◌≢◌ {A = Port} (a, i) (r.head.images.part g) → (o : Option Functor) → functor_of h a ≡ o → i < arity_of h a → IsSome (link_of h a i)
+      by a i q d None e l = absurd (none_ports (h.atoms a) i e l)
+      by a i q d (Some f) e l = (em.parts g t w).whole.no_other_end a i f q e (subst (λ k. i < k) (valid.sound.shaped.ports a f e) l) d
+
   -- What REMOVEPART takes, of contexts with these numbers.
   pub record PartsTaken (gs : List ℕ) (s t : Heap) (ps : List ℕ) : Type 0 where
     pub is : t ≡ all_taken s ps
@@ -91,13 +121,17 @@ module _ (h : Heap) (valid : Valid h) (head : List HeadItem) (guard : List Cond)
     pub are : (a : ℕ) → In a ps → (g : ℕ) × splice.In g gs × Part g a
     pub all : (g a : ℕ) → splice.In g gs → Part g a → In a ps
 
-  pub parts_commit : (gs : List ℕ) → splice.Distinct gs → ((g : ℕ) → splice.In g gs → (t : HeadTyped) × HasTyped head g t) → (s t : Heap) → ((p : Port) → partners s p ≡ partners h p)
+  pub parts_commit : (gs : List ℕ) → splice.Distinct gs → ((g : ℕ) → splice.In g gs → (t : HeadTyped) × HasTyped head g t) → (s t : Heap) → ((p : Port) → IsAtom h p.0 → partners s p ≡ partners h p)
       → Commits r (map RemovePart gs) s t → (ps : List ℕ) × PartsTaken gs s t ps
   parts_commit [] d typed s t e w = ([], record { is = w; once = tt; are = λ a i. absurd i; all = λ g a i. absurd i })
   parts_commit (g ∷ gs) d typed s t e w =
       let qs = w.1.0 in
-      let here : (b : ℕ) → In b qs ↔ Part g b = λ b. ((λ i. reached_on s h (r.head.images.part g) (λ p. sym (e p)) b ((w.1.2 b).0 i)), (λ i. (w.1.2 b).1 (reached_on h s (r.head.images.part g) e b i))) in
-      let on = parts_commit gs d.1 (λ k i. typed k (inr i)) w.0 t (λ p. ap (λ z. partners z p) w.1.3 ∙ taken_links qs s p.0 p.1 ∙ e p) w.2 in (
+      let here : (b : ℕ) → In b qs ↔ Part g b = λ b.
+      let x = typed g (inl refl) in (
+        (λ i. (reached_into h s (r.head.images.part g) valid.sound.paired (part_there g x.0 x.1) e b ((w.1.2 b).0 i)).1),
+        (λ i. (w.1.2 b).1 (reached_from h s (r.head.images.part g) valid.sound.paired (part_there g x.0 x.1) e b i).1),
+      ) in
+      let on = parts_commit gs d.1 (λ k i. typed k (inr i)) w.0 t (λ p is. ap (λ z. partners z p) w.1.3 ∙ taken_links qs s p.0 p.1 ∙ e p is) w.2 in (
         qs ++ on.0,
         record {
           is = on.1.is ∙ ap (λ z. all_taken z on.0) w.1.3 ∙ sym (taken_append s qs on.0);

@@ -14,7 +14,6 @@ use Rattle.lmn_solid.specs.Embeddings.{Embeds}
 use Rattle.lmn_splice.specs.Splice.{In}
 use Rattle.lmn_body.specs.declared.items.BodyItem.{BodyItem}
 use Rattle.lmn_body.specs.declared.items.BodyItem.TheVariants.{Atom, Connector, Copy, Bound, Membrane, Rest, Rule, Rules}
-use Rattle.lmn_body.specs.Items.{NoCopies}
 use Rattle.lmn_body.specs.Running.{Registers}
 use Rattle.lmn_body.specs.Added.{moved_mems, made_mems}
 use Rattle.lmn_body.specs.Rules.{Target, Goes, Exists, Into, Nests, HeadNests, StandsIn, IsHeadMembrane, rests, WellPlaced}
@@ -113,31 +112,31 @@ module _ (h : Heap) (valid : Valid h) (head : List HeadItem) (guard : List Cond)
   not_moved next (Rule rule inside ∷ xs) w of k o i = not_moved next xs w.1 of k o i
   not_moved next (Rules of' inside ∷ xs) w of k o i = not_moved next xs w.2 of k o i
 
-  pub goes_all : (next : ℕ) (done : List ℕ) (xs : List BodyItem) → NoCopies xs → WellPlaced K next xs → nm ≡ done ++ made_mems r next xs → MadeSo next done → Goes r ks E xs
-  goes_all next done [] p w e so = tt
-  goes_all next done (Atom functor links inside ∷ xs) p w e so = (target next done (made_mems r next xs) e so inside w.0, goes_all next done xs p w.1 e so)
-  goes_all next done (Connector left right ∷ xs) p w e so = goes_all next done xs p w e so
-  goes_all next done (Copy part link inside ∷ xs) p w e so = absurd p
-  goes_all next done (Bound integer link inside ∷ xs) p w e so = (target next done (made_mems r next xs) e so inside w.0, goes_all next done xs p w.1 e so)
-  goes_all next done (Membrane inside ∷ xs) p w e so = (
+  pub goes_all : (next : ℕ) (done : List ℕ) (xs : List BodyItem) → WellPlaced K next xs → nm ≡ done ++ made_mems r next xs → MadeSo next done → Goes r ks E xs
+  goes_all next done [] w e so = tt
+  goes_all next done (Atom functor links inside ∷ xs) w e so = (target next done (made_mems r next xs) e so inside w.0, goes_all next done xs w.1 e so)
+  goes_all next done (Connector left right ∷ xs) w e so = goes_all next done xs w e so
+  goes_all next done (Copy part link inside ∷ xs) w e so = (target next done (made_mems r next xs) e so inside w.0, goes_all next done xs w.1 e so)
+  goes_all next done (Bound integer link inside ∷ xs) w e so = (target next done (made_mems r next xs) e so inside w.0, goes_all next done xs w.1 e so)
+  goes_all next done (Membrane inside ∷ xs) w e so = (
     target next done (r.head.images.membrane next ∷ made_mems r (next + 1) xs) e so inside w.0,
-    goes_all (next + 1) (done ++ r.head.images.membrane next ∷ []) xs p w.1 (e ∙ sym (append_assoc done (r.head.images.membrane next ∷ []) (made_mems r (next + 1) xs))) (more_made next done so),
+    goes_all (next + 1) (done ++ r.head.images.membrane next ∷ []) xs w.1 (e ∙ sym (append_assoc done (r.head.images.membrane next ∷ []) (made_mems r (next + 1) xs))) (more_made next done so),
   )
-  goes_all next done (Rest of inside ∷ xs) p w e so = (
+  goes_all next done (Rest of inside ∷ xs) w e so = (
     head_image of w.0,
     inl (removed_mem (r.head.images.membrane of) (head_image of w.0)),
     not_moved next xs w.3 of w.0 w.1,
     target next done (made_mems r next xs) e so inside w.2,
-    goes_all next done xs p w.3 e so,
+    goes_all next done xs w.3 e so,
   )
-  goes_all next done (Rule rule inside ∷ xs) p w e so = (target next done (made_mems r next xs) e so inside w.0, goes_all next done xs p w.1 e so)
-  goes_all next done (Rules of inside ∷ xs) p w e so = (head_image of w.0, target next done (made_mems r next xs) e so inside w.1, goes_all next done xs p w.2 e so)
+  goes_all next done (Rule rule inside ∷ xs) w e so = (target next done (made_mems r next xs) e so inside w.0, goes_all next done xs w.1 e so)
+  goes_all next done (Rules of inside ∷ xs) w e so = (head_image of w.0, target next done (made_mems r next xs) e so inside w.1, goes_all next done xs w.2 e so)
 
   pub nests_all : (next : ℕ) (done : List ℕ) (xs : List BodyItem) → WellPlaced K next xs → MadeSo next done → Nests r m done next xs
   nests_all next done [] w so = tt
   nests_all next done (Atom functor links inside ∷ xs) w so = (into next done so inside w.0, nests_all next done xs w.1 so)
   nests_all next done (Connector left right ∷ xs) w so = nests_all next done xs w so
-  nests_all next done (Copy part link inside ∷ xs) w so = nests_all next done xs w.1 so
+  nests_all next done (Copy part link inside ∷ xs) w so = (into next done so inside w.0, nests_all next done xs w.1 so)
   nests_all next done (Bound integer link inside ∷ xs) w so = (into next done so inside w.0, nests_all next done xs w.1 so)
   nests_all next done (Membrane inside ∷ xs) w so = (into next done so inside w.0, nests_all (next + 1) (done ++ r.head.images.membrane next ∷ []) xs w.1 (more_made next done so))
   nests_all next done (Rest of inside ∷ xs) w so = (into next done so inside w.2, nests_all next done xs w.3 so)
@@ -150,8 +149,8 @@ module _ (h : Heap) (valid : Valid h) (head : List HeadItem) (guard : List Cond)
       off : K < j → j < 1 + K → ⊥
       off l h = omega arith
 
-  pub goes_body : NoCopies body → WellPlaced K (1 + K) body → Goes r ks E body
-  goes_body p w = goes_all (1 + K) [] body p w refl none_yet
+  pub goes_body : WellPlaced K (1 + K) body → Goes r ks E body
+  goes_body w = goes_all (1 + K) [] body w refl none_yet
 
   pub nests_body : WellPlaced K (1 + K) body → Nests r m [] (1 + K) body
   nests_body w = nests_all (1 + K) [] body w none_yet

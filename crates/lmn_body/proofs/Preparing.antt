@@ -3,7 +3,7 @@ use Rattle.std.proofs.Common.{ℕ, ◌+◌, ◌≡◌, ◌≢◌, ◌⊎◌, Lis
 use Rattle.std.proofs.lemmas.Bool.{cases_eq}
 use Rattle.std.proofs.lemmas.List.{append_assoc}
 use Rattle.lmn_base.specs.declared.functor.Functor.{Functor}
-use Rattle.lmn_heap.specs.Heap.{Heap, HeapAtom, HeapMem, waiting, gone, alter, new_atom, new_mem, mem_with_spare, mem_place_of, atoms_in, mems_in, rules_in, atoms_by, mems_by, rules_by, IsMem, In, Distinct, made_atom, made_mem, reserved}
+use Rattle.lmn_heap.specs.Heap.{Heap, HeapAtom, HeapMem, waiting, gone, new_atom, new_mem, mem_with_spare, mem_place_of, atoms_in, mems_in, rules_in, atoms_by, mems_by, rules_by, IsMem, In, Distinct, made_atom, made_mem, reserved}
 use Rattle.lmn_heap.proofs.Trees.{nil_right}
 use Rattle.lmn_heap.proofs.Trees as trees
 use Rattle.lmn_heap.proofs.ListLemmas as lists
@@ -11,11 +11,17 @@ use Rattle.lmn_heap.proofs.Listing.{alter_at, alter_away}
 use Rattle.lmn_body.specs.declared.items.BodyItem.{BodyItem}
 use Rattle.lmn_body.specs.declared.items.BodyItem.TheVariants.{Atom, Connector, Copy, Bound, Membrane, Rest, Rule, Rules}
 use Rattle.lmn_body.specs.Code.{making}
-use Rattle.lmn_body.specs.Items.{NoCopies}
 use Rattle.lmn_body.specs.Running.{Registers, integer_functor, Prepares}
 use Rattle.lmn_body.specs.Added.{made_mems}
-use Rattle.lmn_body.proofs.Making.{all_made, AllFree}
-use Rattle.lmn_body.specs.Made.{made_of}
+use Rattle.lmn_body.proofs.Making.{made_at}
+use Rattle.lmn_body.specs.Made.{new_atoms, copies_of}
+use Rattle.lmn_body.specs.Tied.{partners}
+use Rattle.lmn_body.specs.Names.{StandsPort}
+use Rattle.lmn_body.proofs.BodyPorts.{Written, AreCopied}
+use Rattle.lmn_body.proofs.Brought.{Brings, brought_old, brings_none, brings_after, brings_atom, brings_on, Whole, HasCopy, Old, old_on, brings_copied, has_copied, has_copy_on}
+use Rattle.lmn_heap.specs.Sound.{Paired, Shaped, Sound}
+use Rattle.lmn_splice.specs.Ports.{Port}
+use Rattle.lmn_splice.specs.Splice as splice
 use Rattle.lmn_body.proofs.ListOps.{change_keeps, place_by, there_by}
 use Rattle.lmn_body.proofs.Growing.{some_there}
 use Rattle.lmn_heap.proofs.Depths.{both_distinct}
@@ -139,53 +145,182 @@ reserved_mems s m n = record {
   root = refl;
 }
 
+-- the membranes stay
+pub mems_same : (s t : Heap) → t.mems ≡ s.mems → t.new_mems ≡ s.new_mems → t.root ≡ s.root → MemsMade s t []
+mems_same s t e n q = record {
+  atoms = λ x. ap (λ (f : ℕ → Option HeapMem). atoms_by (f x)) e;
+  mems = λ x. ap (λ (f : ℕ → Option HeapMem). mems_by (f x)) e;
+  rules = λ x. ap (λ (f : ℕ → Option HeapMem). rules_by (f x)) e;
+  places = λ x i. ap (λ (f : ℕ → Option HeapMem). place_by (f x)) e;
+  gone_before = λ x g. sym (ap (λ (f : ℕ → Option HeapMem). place_by (f x)) e) ∙ g;
+  there = λ x i. subst (λ (f : ℕ → Option HeapMem). IsSome (f x)) (sym e) i;
+  made = λ x i. absurd i;
+  fresh = λ x i. absurd i;
+  only = λ x i. inl (subst (λ (f : ℕ → Option HeapMem). IsSome (f x)) e i);
+  once = tt;
+  line = n ∙ sym (nil_right s.new_mems);
+  root = q;
+}
+
 -- The atoms of a heap and the line of those that wait are those of another heap.
 pub record SameLines (s t : Heap) : Type 0 where
   pub atoms : s.atoms ≡ t.atoms
   pub line : s.new_atoms ≡ t.new_atoms
 
+-- What the making part of code makes, from s to t: its atoms, with those of copies of parts of h, and its membranes. The next copy has
+-- the number k.
+pub record MakesAll (h s t : Heap) (r : Registers) (a m k : ℕ) (body : List BodyItem) : Type 0 where
+  pub brings : Brings s t (new_atoms r a k body)
+  pub written : Written t r a body
+  pub copies : AreCopied h t r k body
+  pub mems : MemsMade s t (made_mems r m body)
+
+-- A heap in which the atoms of a body wait, and else nothing has changed; and colours of the ports of copies, beside those of h.
+pub record Brought (d : Port → ℕ) (h : Heap) (r : Registers) (a : ℕ) (body : List BodyItem) : Type 0 where
+  pub heap : Heap
+  pub sound : Sound heap
+  pub brings : Brings h heap (new_atoms r a 0 body)
+  pub written : Written heap r a body
+  pub copies : AreCopied h heap r 0 body
+  pub mems : heap.mems ≡ h.mems
+  pub new_mems : heap.new_mems ≡ h.new_mems
+  pub root : heap.root ≡ h.root
+  pub same : (p q : Port) → In p.0 (new_atoms r a 0 body) → partners heap p ≡ Some q → d q ≡ d p
+  pub only : (p q x y : Port) → In p.0 (new_atoms r a 0 body) → In q.0 (new_atoms r a 0 body) → partners heap p ≡ Some x → partners heap q ≡ Some y → d p ≡ d q → (p ≡ q) ⊎ (partners heap p ≡ Some q)
+  pub apart : (p q x : Port) → In p.0 (new_atoms r a 0 body) → partners heap p ≡ Some x → StandsPort h q → d p ≢ d q
+
 -- what the making part of code makes: its atoms, as if only they were made, and its membranes
-pub record AllPrepared (h s t : Heap) (mk : List (ℕ × Functor)) (nm : List ℕ) : Type 0 where
-  pub free : AllFree h mk
-  pub atoms : SameLines t (all_made h mk)
-  pub mems : MemsMade s t nm
+pub record AllPrepared (d : Port → ℕ) (h s : Heap) (r : Registers) (a m : ℕ) (body : List BodyItem) : Type 0 where
+  pub free : Brought d h r a body
+  pub atoms : SameLines s free.heap
+  pub mems : MemsMade h s (made_mems r m body)
 
-one_atom_more : (r : Registers) (h s t : Heap) (a : ℕ) (f : Functor) → SameLines s h → (s.atoms a ≡ None) × (t ≡ made_atom s a f) → (h.atoms a ≡ None) × SameLines t (made_atom h a f)
-one_atom_more r h s t a f g w = (
-  ap (λ (k : ℕ → Option HeapAtom). k a) (sym g.atoms) ∙ w.0,
-  record {
-    atoms = ap (λ z. z.atoms) w.1 ∙ ap (λ (k : ℕ → Option HeapAtom). alter k a (λ _. Some (new_atom f))) g.atoms;
-    line = ap (λ z. z.new_atoms) w.1 ∙ ap (λ xs. xs ++ a ∷ []) g.line;
-  },
-)
+-- an atom is made, and then the rest
+atom_prepares : (r : Registers) (a m k : ℕ) (xs : List BodyItem) (h s u t : Heap) (x : ℕ) (f : Functor) → (s.atoms x ≡ None) × (u ≡ made_atom s x f) → MakesAll h u t r (a + 1) m k xs
+    → Brings s t (x ∷ new_atoms r (a + 1) k xs) × (t.atoms x ≡ Some (new_atom f)) × MemsMade s t (made_mems r m xs)
+atom_prepares r a m k xs h s u t x f w on =
+    let b = subst (λ z. Brings s z (x ∷ [])) (sym w.1) (brings_atom s x f w.0) in
+    let at : u.atoms x ≡ Some (new_atom f) = ap (λ (z : Heap). z.atoms x) w.1 ∙ made_at s x f in (
+      brings_after s u t (x ∷ []) (new_atoms r (a + 1) k xs) b on.brings,
+      (brought_old on.brings x (subst (λ (o : Option HeapAtom). IsSome o) (sym at) refl)).1 ∙ at,
+      mems_made_after s u t [] (made_mems r m xs) (subst (λ z. MemsMade s z []) (sym w.1) (made_atom_mems s x f)) on.mems,
+    )
 
-pub making_prepares : (r : Registers) (a m c : ℕ) (body : List BodyItem) → NoCopies body → (h s t : Heap) → SameLines s h → Prepares r (making a m c body) s t → AllPrepared h s t (made_of r a body) (made_mems r m body)
-making_prepares r a m c [] p h s t g w = record {
-  free = tt;
-  atoms = record { atoms = ap (λ z. z.atoms) w ∙ g.atoms; line = ap (λ z. z.new_atoms) w ∙ g.line };
+-- what was there, when an atom is made
+atom_old : (h s u : Heap) (x : ℕ) (f : Functor) → (s.atoms x ≡ None) × (u ≡ made_atom s x f) → Old h s → Paired s → Shaped s → Old h u × Paired u × Shaped u
+atom_old h s u x f w old p q =
+    let b = subst (λ z. Brings s z (x ∷ [])) (sym w.1) (brings_atom s x f w.0) in
+    (old_on h old b, b.paired p, b.shaped q)
+
+-- no atom is made
+same_prepares : (r : Registers) (a m k : ℕ) (xs : List BodyItem) (h s u t : Heap) → u.atoms ≡ s.atoms → u.new_atoms ≡ s.new_atoms → Brings u t (new_atoms r a k xs) → Brings s t (new_atoms r a k xs)
+same_prepares r a m k xs h s u t e f b = brings_after s u t [] (new_atoms r a k xs) (brings_on s s u [] e f (brings_none s)) b
+
+same_old : (h s u : Heap) → u.atoms ≡ s.atoms → u.new_atoms ≡ s.new_atoms → Old h s → Paired s → Shaped s → Old h u × Paired u × Shaped u
+same_old h s u e f old p q = let b = brings_on s s u [] e f (brings_none s) in (old_on h old b, b.paired p, b.shaped q)
+
+pub making_prepares : (r : Registers) (a m k : ℕ) (body : List BodyItem) (h : Heap) → Paired h → Shaped h → ((e : ℕ × ℕ) → splice.In e (copies_of k body) → Whole h (r.head.images.part e.1)) → (s t : Heap) → Old h s → Paired s → Shaped s
+    → Prepares r (making a m k body) s t → MakesAll h s t r a m k body
+making_prepares r a m k [] h hp hs whole s t old p q w = record {
+  brings = subst (λ z. Brings s z []) (sym w) (brings_none s);
+  written = λ e i. absurd i;
+  copies = λ e i. absurd i;
   mems = subst (λ z. MemsMade s z []) (sym w) (none_made s);
 }
-making_prepares r a m c (Atom functor links inside ∷ xs) p h s t g w =
-    let v = one_atom_more r h s w.0 (r.head.images.atom a) functor g w.1 in
-    let on = making_prepares r (a + 1) m c xs p (made_atom h (r.head.images.atom a) functor) w.0 t v.1 w.2 in
-    record { free = (v.0, on.free); atoms = on.atoms; mems = mems_made_after s w.0 t [] (made_mems r m xs) (subst (λ z. MemsMade s z []) (sym w.1.1) (made_atom_mems s (r.head.images.atom a) functor)) on.mems }
-making_prepares r a m c (Bound integer link inside ∷ xs) p h s t g w =
+making_prepares r a m k (Atom functor links inside ∷ xs) h hp hs whole s t old p q w =
+    let x = r.head.images.atom a in
+    let o = atom_old h s w.0 x functor w.1 old p q in
+    let on = making_prepares r (a + 1) m k xs h hp hs whole w.0 t o.0 o.1 o.2 w.2 in
+    let v = atom_prepares r a m k xs h s w.0 t x functor w.1 on in
+    record { brings = v.0; written = λ e i. elim i [ inl z ↦ subst (λ (y : ℕ × Functor). t.atoms y.0 ≡ Some (new_atom y.1)) z v.1 | inr j ↦ on.written e j ]; copies = on.copies; mems = v.2 }
+making_prepares r a m k (Bound integer link inside ∷ xs) h hp hs whole s t old p q w =
+    let x = r.head.images.atom a in
     let f = integer_functor (r.head.integer integer) in
-    let v = one_atom_more r h s w.0 (r.head.images.atom a) f g w.1 in
-    let on = making_prepares r (a + 1) m c xs p (made_atom h (r.head.images.atom a) f) w.0 t v.1 w.2 in
-    record { free = (v.0, on.free); atoms = on.atoms; mems = mems_made_after s w.0 t [] (made_mems r m xs) (subst (λ z. MemsMade s z []) (sym w.1.1) (made_atom_mems s (r.head.images.atom a) f)) on.mems }
-making_prepares r a m c (Connector left right ∷ xs) p h s t g w = making_prepares r a m c xs p h s t g w
-making_prepares r a m c (Copy part link inside ∷ xs) p h s t g w = absurd p
-making_prepares r a m c (Membrane inside ∷ xs) p h s t g w =
+    let o = atom_old h s w.0 x f w.1 old p q in
+    let on = making_prepares r (a + 1) m k xs h hp hs whole w.0 t o.0 o.1 o.2 w.2 in
+    let v = atom_prepares r a m k xs h s w.0 t x f w.1 on in
+    record { brings = v.0; written = λ e i. elim i [ inl z ↦ subst (λ (y : ℕ × Functor). t.atoms y.0 ≡ Some (new_atom y.1)) z v.1 | inr j ↦ on.written e j ]; copies = on.copies; mems = v.2 }
+making_prepares r a m k (Connector left right ∷ xs) h hp hs whole s t old p q w =
+    let on = making_prepares r a m k xs h hp hs whole s t old p q w in
+    record { brings = on.brings; written = on.written; copies = on.copies; mems = on.mems }
+making_prepares r a m k (Copy part link inside ∷ xs) h hp hs whole s t old p q w =
+    let root = r.head.images.part part in
+    let u = w.0 in
+    let c = w.1.0 in
+    let b : Brings s u (r.copied k) = subst (Brings s u) w.1.1 (brings_copied s u root (r.copy k) c) in
+    let has : HasCopy h u root (r.copy k) (r.copied k) = subst (HasCopy h u root (r.copy k)) w.1.1 (has_copied s u root (r.copy k) c h hp hs (whole (k, part) (inl refl)) old (b.shaped q) p) in
+    let on = making_prepares r a m (k + 1) xs h hp hs (λ e i. whole e (inr i)) u t (old_on h old b) (b.paired p) (b.shaped q) w.2 in
+    record {
+      brings = brings_after s u t (r.copied k) (new_atoms r a (k + 1) xs) b on.brings;
+      written = on.written;
+      copies = λ e i. elim i [
+        | inl z ↦ subst (λ (y : ℕ × ℕ). HasCopy h t (r.head.images.part y.1) (r.copy y.0) (r.copied y.0)) z (has_copy_on h root (r.copy k) (r.copied k) on.brings has)
+        | inr j ↦ on.copies e j
+      ];
+      mems = mems_made_after s u t [] (made_mems r m xs) (mems_same s u c.beside.mems c.beside.new_mems c.beside.root) on.mems;
+    }
+making_prepares r a m k (Membrane inside ∷ xs) h hp hs whole s t old p q w =
     let y = r.head.images.membrane m in
-    let on = making_prepares r a (m + 1) c xs p h w.0 t (record { atoms = ap (λ z. z.atoms) w.1.1 ∙ g.atoms; line = ap (λ z. z.new_atoms) w.1.1 ∙ g.line }) w.2 in
-    record { free = on.free; atoms = on.atoms; mems = mems_made_after s w.0 t (y ∷ []) (made_mems r (m + 1) xs) (subst (λ z. MemsMade s z (y ∷ [])) (sym w.1.1) (made_one_mem s y w.1.0)) on.mems }
-making_prepares r a m c (Rest of inside ∷ xs) p h s t g w =
-    let on = making_prepares r a m c xs p h w.0 t (record { atoms = ap (λ z. z.atoms) w.1 ∙ g.atoms; line = ap (λ z. z.new_atoms) w.1 ∙ g.line }) w.2 in
-    record { free = on.free; atoms = on.atoms; mems = mems_made_after s w.0 t [] (made_mems r m xs) (subst (λ z. MemsMade s z []) (sym w.1) (none_made s)) on.mems }
-making_prepares r a m c (Rule rule inside ∷ xs) p h s t g w =
-    let on = making_prepares r a m c xs p h w.0 t (record { atoms = ap (λ z. z.atoms) w.1.1 ∙ g.atoms; line = ap (λ z. z.new_atoms) w.1.1 ∙ g.line }) w.2 in
-    record { free = on.free; atoms = on.atoms; mems = mems_made_after s w.0 t [] (made_mems r m xs) (subst (λ z. MemsMade s z []) (sym w.1.1) (reserved_mems s (r.head.images.membrane inside) w.1.0)) on.mems }
-making_prepares r a m c (Rules of inside ∷ xs) p h s t g w =
-    let on = making_prepares r a m c xs p h w.0 t (record { atoms = ap (λ z. z.atoms) w.1.1 ∙ g.atoms; line = ap (λ z. z.new_atoms) w.1.1 ∙ g.line }) w.2 in
-    record { free = on.free; atoms = on.atoms; mems = mems_made_after s w.0 t [] (made_mems r m xs) (subst (λ z. MemsMade s z []) (sym w.1.1) (reserved_mems s (r.head.images.membrane inside) w.1.0)) on.mems }
+    let e = ap (λ (z : Heap). z.atoms) w.1.1 in
+    let f = ap (λ (z : Heap). z.new_atoms) w.1.1 in
+    let o = same_old h s w.0 e f old p q in
+    let on = making_prepares r a (m + 1) k xs h hp hs whole w.0 t o.0 o.1 o.2 w.2 in
+    record {
+      brings = same_prepares r a (m + 1) k xs h s w.0 t e f on.brings;
+      written = on.written;
+      copies = on.copies;
+      mems = mems_made_after s w.0 t (y ∷ []) (made_mems r (m + 1) xs) (subst (λ z. MemsMade s z (y ∷ [])) (sym w.1.1) (made_one_mem s y w.1.0)) on.mems;
+    }
+making_prepares r a m k (Rest of inside ∷ xs) h hp hs whole s t old p q w =
+    let e = ap (λ (z : Heap). z.atoms) w.1 in
+    let f = ap (λ (z : Heap). z.new_atoms) w.1 in
+    let o = same_old h s w.0 e f old p q in
+    let on = making_prepares r a m k xs h hp hs whole w.0 t o.0 o.1 o.2 w.2 in
+    record {
+      brings = same_prepares r a m k xs h s w.0 t e f on.brings;
+      written = on.written;
+      copies = on.copies;
+      mems = mems_made_after s w.0 t [] (made_mems r m xs) (subst (λ z. MemsMade s z []) (sym w.1) (none_made s)) on.mems;
+    }
+making_prepares r a m k (Rule rule inside ∷ xs) h hp hs whole s t old p q w =
+    let e = ap (λ (z : Heap). z.atoms) w.1.1 in
+    let f = ap (λ (z : Heap). z.new_atoms) w.1.1 in
+    let o = same_old h s w.0 e f old p q in
+    let on = making_prepares r a m k xs h hp hs whole w.0 t o.0 o.1 o.2 w.2 in
+    record {
+      brings = same_prepares r a m k xs h s w.0 t e f on.brings;
+      written = on.written;
+      copies = on.copies;
+      mems = mems_made_after s w.0 t [] (made_mems r m xs) (subst (λ z. MemsMade s z []) (sym w.1.1) (reserved_mems s (r.head.images.membrane inside) w.1.0)) on.mems;
+    }
+making_prepares r a m k (Rules of inside ∷ xs) h hp hs whole s t old p q w =
+    let e = ap (λ (z : Heap). z.atoms) w.1.1 in
+    let f = ap (λ (z : Heap). z.new_atoms) w.1.1 in
+    let o = same_old h s w.0 e f old p q in
+    let on = making_prepares r a m k xs h hp hs whole w.0 t o.0 o.1 o.2 w.2 in
+    record {
+      brings = same_prepares r a m k xs h s w.0 t e f on.brings;
+      written = on.written;
+      copies = on.copies;
+      mems = mems_made_after s w.0 t [] (made_mems r m xs) (subst (λ z. MemsMade s z []) (sym w.1.1) (reserved_mems s (r.head.images.membrane inside) w.1.0)) on.mems;
+    }
+
+-- The membranes that the making part makes, alone.
+pub making_mems : (r : Registers) (a m k : ℕ) (body : List BodyItem) (s t : Heap) → Prepares r (making a m k body) s t → MemsMade s t (made_mems r m body)
+making_mems r a m k [] s t w = subst (λ z. MemsMade s z []) (sym w) (none_made s)
+making_mems r a m k (Atom functor links inside ∷ xs) s t w =
+    mems_made_after s w.0 t [] (made_mems r m xs) (subst (λ z. MemsMade s z []) (sym w.1.1) (made_atom_mems s (r.head.images.atom a) functor)) (making_mems r (a + 1) m k xs w.0 t w.2)
+making_mems r a m k (Bound integer link inside ∷ xs) s t w =
+    mems_made_after s w.0 t [] (made_mems r m xs) (subst (λ z. MemsMade s z []) (sym w.1.1) (made_atom_mems s (r.head.images.atom a) (integer_functor (r.head.integer integer)))) (making_mems r (a + 1) m k xs w.0 t w.2)
+making_mems r a m k (Connector left right ∷ xs) s t w = making_mems r a m k xs s t w
+making_mems r a m k (Copy part link inside ∷ xs) s t w =
+    let c = w.1.0 in
+    mems_made_after s w.0 t [] (made_mems r m xs) (mems_same s w.0 c.beside.mems c.beside.new_mems c.beside.root) (making_mems r a m (k + 1) xs w.0 t w.2)
+making_mems r a m k (Membrane inside ∷ xs) s t w =
+    let y = r.head.images.membrane m in
+    mems_made_after s w.0 t (y ∷ []) (made_mems r (m + 1) xs) (subst (λ z. MemsMade s z (y ∷ [])) (sym w.1.1) (made_one_mem s y w.1.0)) (making_mems r a (m + 1) k xs w.0 t w.2)
+making_mems r a m k (Rest of inside ∷ xs) s t w = mems_made_after s w.0 t [] (made_mems r m xs) (subst (λ z. MemsMade s z []) (sym w.1) (none_made s)) (making_mems r a m k xs w.0 t w.2)
+making_mems r a m k (Rule rule inside ∷ xs) s t w =
+    mems_made_after s w.0 t [] (made_mems r m xs) (subst (λ z. MemsMade s z []) (sym w.1.1) (reserved_mems s (r.head.images.membrane inside) w.1.0)) (making_mems r a m k xs w.0 t w.2)
+making_mems r a m k (Rules of inside ∷ xs) s t w =
+    mems_made_after s w.0 t [] (made_mems r m xs) (subst (λ z. MemsMade s z []) (sym w.1.1) (reserved_mems s (r.head.images.membrane inside) w.1.0)) (making_mems r a m k xs w.0 t w.2)

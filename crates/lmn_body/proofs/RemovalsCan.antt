@@ -1,7 +1,7 @@
 -- Code in two parts can run; and the removals of a body can.
 use Rattle.std.proofs.Common.{ℕ, ◌≡◌, ◌≢◌, List, [], ◌∷◌, ◌++◌, map, Option, Some, IsSome, refl, sym, ap, subst, ◌∙◌, inl, inr}
 use Rattle.lmn_base.specs.Graphs.{Reached}
-use Rattle.lmn_heap.specs.Heap.{Heap, parent_of, IsInPlace, In, Distinct, taken, taken_mem}
+use Rattle.lmn_heap.specs.Heap.{Heap, parent_of, IsAtom, IsInPlace, In, Distinct, taken, taken_mem}
 use Rattle.lmn_heap.specs.Graphs.{atom_map}
 use Rattle.lmn_heap.proofs.ListLemmas.{each_in}
 use Rattle.lmn_splice.specs.Ports.{Port}
@@ -14,7 +14,9 @@ use Rattle.lmn_body.proofs.Phases.{taken_place_away}
 use Rattle.lmn_body.proofs.Finishing.{within_of, in_place_within}
 use Rattle.lmn_body.proofs.Removing.{parent_place, place_parent}
 use Rattle.lmn_body.proofs.ListOps.{out_place}
-use Rattle.lmn_body.proofs.Parts.{taken_links, reached_on}
+use Rattle.lmn_body.proofs.Brought.{reached_into}
+use Rattle.lmn_heap.specs.Sound.{Paired}
+use Rattle.lmn_body.proofs.Parts.{taken_links}
 
 pub can_append : (r : Registers) (xs ys : List Instr) (s : Heap) → CanRun r xs s → ((t : Heap) → Commits r xs s t → CanRun r ys t) → CanRun r (xs ++ ys) s
 can_append r [] ys s c next = next s refl
@@ -42,15 +44,15 @@ atoms_can r (n ∷ ns) s d i = (
     mapped (x ∷ xs) k (inr i) = inr (mapped xs k i)
 
 -- parts, by what is reached in the heap h whose partners the heap s has
-pub parts_can : (r : Registers) (h : Heap) (gs : List ℕ) → Distinct gs → (s : Heap) → ((p : Port) → partners s p ≡ partners h p)
+pub parts_can : (r : Registers) (h : Heap) (gs : List ℕ) → Distinct gs → (s : Heap) → Paired h → ((g : ℕ) → In g gs → IsAtom h (r.head.images.part g).0) → ((p : Port) → IsAtom h p.0 → partners s p ≡ partners h p)
     → ((g k a : ℕ) → In g gs → In k gs → g ≢ k → Reached (atom_map h) (r.head.images.part g) a → Reached (atom_map h) (r.head.images.part k) a → ⊥)
     → ((g a : ℕ) → In g gs → Reached (atom_map h) (r.head.images.part g) a → IsInPlace s a) → CanRun r (map RemovePart gs) s
-parts_can r h [] d s e apart i = tt
-parts_can r h (g ∷ gs) d s e apart i = (
-  (λ b w. i g b (inl refl) (reached_on s h (r.head.images.part g) (λ p. sym (e p)) b w)),
-  λ t w. subst (CanRun r (map RemovePart gs)) (sym w.3) (parts_can r h gs d.1 (all_taken s w.0) (λ p. taken_links w.0 s p.0 p.1 ∙ e p) (λ j k a x y. apart j k a (inr x) (inr y))
+parts_can r h [] d s p at e apart i = tt
+parts_can r h (g ∷ gs) d s pr at e apart i = (
+  (λ b w. i g b (inl refl) (reached_into h s (r.head.images.part g) pr (at g (inl refl)) e b w).1),
+  λ t w. subst (CanRun r (map RemovePart gs)) (sym w.3) (parts_can r h gs d.1 (all_taken s w.0) pr (λ k j. at k (inr j)) (λ p is. taken_links w.0 s p.0 p.1 ∙ e p is) (λ j k a x y. apart j k a (inr x) (inr y))
       (λ k a x y. all_stay_in_place w.0 s a
-      (λ z. apart g k a (inl refl) (inr x) (λ q. each_in (λ u. g ≢ u) gs k d.0 x q) (reached_on s h (r.head.images.part g) (λ p. sym (e p)) a ((w.2 a).0 z)) y) (i k a (inr x) y))),
+      (λ z. apart g k a (inl refl) (inr x) (λ q. each_in (λ u. g ≢ u) gs k d.0 x q) (reached_into h s (r.head.images.part g) pr (at g (inl refl)) e a ((w.2 a).0 z)).1 y) (i k a (inr x) y))),
 )
 
 pub mems_can : (r : Registers) (ns : List ℕ) (s : Heap) → Distinct (map r.head.images.membrane ns) → ((n : ℕ) → In n ns → (p : ℕ) × (parent_of s (r.head.images.membrane n) ≡ Some p)) → CanRun r (map RemoveMem ns) s

@@ -100,8 +100,8 @@ new_atoms_are h' r v g a c (Rule rule inside ∷ xs) m s f e = absurd s.0
 new_atoms_are h' r v g a c (Rules of inside ∷ xs) m s f e = absurd s.0
 
 -- all of them go to the membrane of the rule
-pub placed_here : (r : Registers) (a k m : ℕ) (body : List BodyItem) → Simple body → r.head.images.membrane 0 ≡ m → placed_in k (places_of r a body) ≡ cond (k == m) (numbers (made_of r a body)) []
-placed_here r a k m body s e = by (k == m) refl
+pub placed_here : (r : Registers) (a c k m : ℕ) (body : List BodyItem) → Simple body → r.head.images.membrane 0 ≡ m → placed_in k (places_of r a c body) ≡ cond (k == m) (numbers (made_of r a body)) []
+placed_here r a c k m body s e = by (k == m) refl
   where
     other : (x y : ℕ) → x ≢ y → (x == y) ≡ false
     other x y d = by (x == y) refl
@@ -110,7 +110,7 @@ placed_here r a k m body s e = by (k == m) refl
         by true e = absurd (d (eqb-true x y e))
         by false e = refl
 
-    same : (a : ℕ) (body : List BodyItem) → Simple body → k ≡ m → placed_in k (places_of r a body) ≡ numbers (made_of r a body)
+    same : (a : ℕ) (body : List BodyItem) → Simple body → k ≡ m → placed_in k (places_of r a c body) ≡ numbers (made_of r a body)
     same a [] s q = refl
     same a (Atom functor ls inside ∷ xs) s q = rw (eq-eqb (r.head.images.membrane inside) k (ap r.head.images.membrane s.0 ∙ e ∙ sym q)) (ap (λ ys. r.head.images.atom a ∷ ys) (same (a + 1) xs s.1 q))
     same a (Bound integer link inside ∷ xs) s q = rw (eq-eqb (r.head.images.membrane inside) k (ap r.head.images.membrane s.0 ∙ e ∙ sym q)) (ap (λ ys. r.head.images.atom a ∷ ys) (same (a + 1) xs s.1 q))
@@ -121,7 +121,7 @@ placed_here r a k m body s e = by (k == m) refl
     same a (Rule rule inside ∷ xs) s q = absurd s.0
     same a (Rules of inside ∷ xs) s q = absurd s.0
 
-    none : (a : ℕ) (body : List BodyItem) → Simple body → k ≢ m → placed_in k (places_of r a body) ≡ []
+    none : (a : ℕ) (body : List BodyItem) → Simple body → k ≢ m → placed_in k (places_of r a c body) ≡ []
     none a [] s d = refl
     none a (Atom functor ls inside ∷ xs) s d = rw (other (r.head.images.membrane inside) k (λ q. d (sym q ∙ ap r.head.images.membrane s.0 ∙ e))) (none (a + 1) xs s.1 d)
     none a (Bound integer link inside ∷ xs) s d = rw (other (r.head.images.membrane inside) k (λ q. d (sym q ∙ ap r.head.images.membrane s.0 ∙ e))) (none (a + 1) xs s.1 d)
@@ -132,7 +132,7 @@ placed_here r a k m body s e = by (k == m) refl
     none a (Rule rule inside ∷ xs) s d = absurd s.0
     none a (Rules of inside ∷ xs) s d = absurd s.0
 
-    by : (t : Bool) → (k == m) ≡ t → placed_in k (places_of r a body) ≡ cond t (numbers (made_of r a body)) []
+    by : (t : Bool) → (k == m) ≡ t → placed_in k (places_of r a c body) ≡ cond t (numbers (made_of r a body)) []
     by true q = same a body s (eqb-true k m q)
     by false q = none a body s (λ w. let z : true ≡ false = sym (eq-eqb k m w) ∙ q in absurd (cc))
 

@@ -14,13 +14,14 @@ use Rattle.lmn_body.specs.Items.{ports_from, new_ports, AllMade, NoCopies}
 use Rattle.lmn_body.specs.Running.{Registers, new_port, integer_functor, withouts}
 use Rattle.lmn_body.specs.Added.{if_inside, added_atoms}
 use Rattle.lmn_body.specs.Made.{made_of}
-use Rattle.lmn_body.specs.Within.{added_solid, left_solid}
-use Rattle.lmn_body.specs.Laws.{FiringLeavesAtoms}
+use Rattle.lmn_body.specs.Within.{added_with_copies, added_solid, left_solid}
+use Rattle.lmn_body.specs.Laws.{FiringLeavesSolid, FiringLeavesAtoms, CopiesInSolid}
+use Rattle.lmn_body.proofs.SolidCopies.{solid_copy}
 use Rattle.lmn_body.proofs.Committing.{in_withouts_of}
 use Rattle.lmn_body.proofs.Finishing.{in_place_listed}
 use Rattle.lmn_body.proofs.Coding.{at_heap}
 use Rattle.lmn_body.proofs.HeadPorts.{in_front, in_back}
-use Rattle.lmn_body.proofs.BodyPorts.{heap_append, of_heap}
+use Rattle.lmn_body.proofs.BodyPorts.{heap_append, of_heap, copied_new}
 use Rattle.lmn_body.proofs.SolidAfter.{kept_atoms, numbered_links, one_made}
 
 if_atoms : (h' : Heap) (v : ℕ → ℕ → ℕ) (r : Registers) (x inside : ℕ) (ns : List ℕ) (as' : List SolidAtom) → atoms_of h' v ns ≡ as' → atoms_of h' v (if_inside r x inside ns) ≡ cond (r.head.images.membrane inside == x) as' []
@@ -33,12 +34,12 @@ if_atoms h' v r x inside ns as' e = by (r.head.images.membrane inside == x)
 one_more : (h' : Heap) (v : ℕ → ℕ → ℕ) (xs ys : List ℕ) (as' bs : List SolidAtom) → atoms_of h' v xs ≡ as' → atoms_of h' v ys ≡ bs → atoms_of h' v (xs ++ ys) ≡ as' ++ bs
 one_more h' v xs ys as' bs e f = atoms_append h' v xs ys ∙ (λ t. e t ++ f t)
 
-added_are : (h' : Heap) (r : Registers) (v : ℕ → ℕ → ℕ) (g : ℕ → ℕ) (left : ℕ → List ℕ) (solid : ℕ → List SolidAtom) → ((k : ℕ) → atoms_of h' v (left k) ≡ solid k) → (a c : ℕ) (body : List BodyItem) → AllMade body → NoCopies body
+added_are : (h' : Heap) (r : Registers) (v : ℕ → ℕ → ℕ) (g : ℕ → ℕ) (left : ℕ → List ℕ) (solid : ℕ → List SolidAtom) → ((k : ℕ) → atoms_of h' v (left k) ≡ solid k) → (a c : ℕ) (body : List BodyItem) → AllMade body
     → ((e : ℕ × Functor) → In e (made_of r a body) → functor_of h' e.0 ≡ Some e.1)
     → ((e : Port × ℕ) → In e (at_heap (new_port r) (new_ports a c body)) → v e.0.0 e.0.1 ≡ g e.1)
-    → (x : ℕ) → atoms_of h' v (added_atoms r left a body x) ≡ added_solid r solid g body x
-added_are h' r v g left solid l a c [] m s f e x = refl
-added_are h' r v g left solid l a c (Atom functor ls inside ∷ xs) m s f e x =
+    → (x : ℕ) → atoms_of h' v (added_atoms r left a c body x) ≡ added_with_copies r solid (λ k. atoms_of h' v (r.copied k)) g c body x
+added_are h' r v g left solid l a c [] m f e x = refl
+added_are h' r v g left solid l a c (Atom functor ls inside ∷ xs) m f e x =
     let at : (w : Port × ℕ) → In w (at_heap (new_port r) (ports_from a 0 ls)) ⊎ In w (at_heap (new_port r) (new_ports (a + 1) c xs)) → v w.0.0 w.0.1 ≡ g w.1 = λ w i. e w
     (subst (In w) (sym (heap_append (new_port r) (ports_from a 0 ls) (new_ports (a + 1) c xs)))
     (elim i [
@@ -47,27 +48,30 @@ added_are h' r v g left solid l a c (Atom functor ls inside ∷ xs) m s f e x =
     ])) in
     let here = one_made v (r.head.images.atom a) functor (h'.atoms (r.head.images.atom a)) (map g ls) (f (r.head.images.atom a, functor) (inl refl))
     (ap (numbered v (r.head.images.atom a) 0) (sym m.0.0) ∙ numbered_links r v g a 0 ls (λ w i. at w (inl i))) in
-    one_more h' v (if_inside r x inside (r.head.images.atom a ∷ [])) (added_atoms r left (a + 1) xs x) _ _
+    one_more h' v (if_inside r x inside (r.head.images.atom a ∷ [])) (added_atoms r left (a + 1) c xs x) _ _
     (if_atoms h' v r x inside (r.head.images.atom a ∷ []) ((record { functor = functor; links = map g ls }) ∷ []) (λ t. here t ++ []))
-    (added_are h' r v g left solid l (a + 1) c xs m.1 s (λ w i. f w (inr i)) (λ w i. at w (inr i)) x)
-added_are h' r v g left solid l a c (Bound integer link inside ∷ xs) m s f e x =
+    (added_are h' r v g left solid l (a + 1) c xs m.1 (λ w i. f w (inr i)) (λ w i. at w (inr i)) x)
+added_are h' r v g left solid l a c (Bound integer link inside ∷ xs) m f e x =
     let name = e ((r.head.images.atom a, 0), link) (inl refl) in
     let here = one_made v (r.head.images.atom a) (integer_functor (r.head.integer integer)) (h'.atoms (r.head.images.atom a)) (g link ∷ []) (f (r.head.images.atom a, integer_functor (r.head.integer integer)) (inl refl)) (ap (λ z. z ∷ []) name) in
-    one_more h' v (if_inside r x inside (r.head.images.atom a ∷ [])) (added_atoms r left (a + 1) xs x) _ _
+    one_more h' v (if_inside r x inside (r.head.images.atom a ∷ [])) (added_atoms r left (a + 1) c xs x) _ _
     (if_atoms h' v r x inside (r.head.images.atom a ∷ []) ((record { functor = integer_functor (r.head.integer integer); links = g link ∷ [] }) ∷ []) (λ t. here t ++ []))
-    (added_are h' r v g left solid l (a + 1) c xs m.1 s (λ w i. f w (inr i)) (λ w i. e w (inr i)) x)
-added_are h' r v g left solid l a c (Connector p q ∷ xs) m s f e x = added_are h' r v g left solid l a c xs m.1 s f e x
-added_are h' r v g left solid l a c (Copy part link inside ∷ xs) m s f e x = absurd s
-added_are h' r v g left solid l a c (Membrane inside ∷ xs) m s f e x = added_are h' r v g left solid l a c xs m.1 s f e x
-added_are h' r v g left solid l a c (Rest of inside ∷ xs) m s f e x =
-    one_more h' v (if_inside r x inside (left (r.head.images.membrane of))) (added_atoms r left a xs x) _ _
+    (added_are h' r v g left solid l (a + 1) c xs m.1 (λ w i. f w (inr i)) (λ w i. e w (inr i)) x)
+added_are h' r v g left solid l a c (Connector p q ∷ xs) m f e x = added_are h' r v g left solid l a c xs m.1 f e x
+added_are h' r v g left solid l a c (Copy part link inside ∷ xs) m f e x =
+    one_more h' v (if_inside r x inside (r.copied c)) (added_atoms r left a (c + 1) xs x) _ _
+    (if_atoms h' v r x inside (r.copied c) (atoms_of h' v (r.copied c)) refl)
+    (added_are h' r v g left solid l a (c + 1) xs m.1 f (λ w i. e w (inr i)) x)
+added_are h' r v g left solid l a c (Membrane inside ∷ xs) m f e x = added_are h' r v g left solid l a c xs m.1 f e x
+added_are h' r v g left solid l a c (Rest of inside ∷ xs) m f e x =
+    one_more h' v (if_inside r x inside (left (r.head.images.membrane of))) (added_atoms r left a c xs x) _ _
     (if_atoms h' v r x inside (left (r.head.images.membrane of)) (solid (r.head.images.membrane of)) (l (r.head.images.membrane of)))
-    (added_are h' r v g left solid l a c xs m.1 s f e x)
-added_are h' r v g left solid l a c (Rule rule inside ∷ xs) m s f e x = added_are h' r v g left solid l a c xs m.1 s f e x
-added_are h' r v g left solid l a c (Rules of inside ∷ xs) m s f e x = added_are h' r v g left solid l a c xs m.1 s f e x
+    (added_are h' r v g left solid l a c xs m.1 f e x)
+added_are h' r v g left solid l a c (Rule rule inside ∷ xs) m f e x = added_are h' r v g left solid l a c xs m.1 f e x
+added_are h' r v g left solid l a c (Rules of inside ∷ xs) m f e x = added_are h' r v g left solid l a c xs m.1 f e x
 
-pub firing_leaves_atoms : FiringLeavesAtoms
-firing_leaves_atoms h valid c r head body made plain taken h' f x o =
+pub firing_leaves_solid : FiringLeavesSolid
+firing_leaves_solid h valid c r head body made taken h' f x o =
     let v : ℕ → ℕ → ℕ = λ a i. f.number (a, i) in
     let N = length (heads.atoms_of head) in
     let kept : (k : ℕ) → atoms_of h' v (withouts taken (atoms_in h k)) ≡ left_solid h c taken (λ z. f.to (of_solid z)) k = λ k.
@@ -75,7 +79,33 @@ firing_leaves_atoms h valid c r head body made plain taken h' f x o =
     let w = in_withouts_of taken (atoms_in h k) a (valid.sound.listed.atoms_once k) i in
     let p = in_place_listed h k a valid.sound.listed w.0 in
     (f.kept_functors a p w.1, λ j. f.kept_links (a, j) p)) in
-    ap (atoms_of h' v) (f.atoms x o) ∙ one_more h' v (withouts taken (atoms_in h x)) (added_atoms r (λ k. withouts taken (atoms_in h k)) N body x) _ _ (kept x)
-    (added_are h' r v (λ z. f.to (of_rule z)) (λ k. withouts taken (atoms_in h k)) (left_solid h c taken (λ z. f.to (of_solid z))) kept N 0 body made plain f.made_functors
+    ap (atoms_of h' v) (f.atoms x o) ∙ one_more h' v (withouts taken (atoms_in h x)) (added_atoms r (λ k. withouts taken (atoms_in h k)) N 0 body x) _ _ (kept x)
+    (added_are h' r v (λ z. f.to (of_rule z)) (λ k. withouts taken (atoms_in h k)) (left_solid h c taken (λ z. f.to (of_solid z))) kept N 0 body made f.made_functors
     (λ e i. let w = of_heap (new_port r) e (new_ports N 0 body) i in
     subst (λ (z : Port × ℕ). v z.0.0 z.0.1 ≡ f.to (of_rule z.1)) w.2 (f.made_links w.0 w.1)) x)
+
+-- without copies
+plain_solid : (r : Registers) (left copy : ℕ → List SolidAtom) (g : ℕ → ℕ) (c : ℕ) (body : List BodyItem) → NoCopies body → (x : ℕ) → added_with_copies r left copy g c body x ≡ added_solid r left g body x
+plain_solid r left copy g c [] p x = refl
+plain_solid r left copy g c (Atom functor links inside ∷ xs) p x =
+    ap (λ zs. cond (r.head.images.membrane inside == x) ((record { functor = functor; links = map g links }) ∷ []) [] ++ zs) (plain_solid r left copy g c xs p x)
+plain_solid r left copy g c (Bound integer link inside ∷ xs) p x =
+    ap (λ zs. cond (r.head.images.membrane inside == x) ((record { functor = integer_functor (r.head.integer integer); links = g link ∷ [] }) ∷ []) [] ++ zs) (plain_solid r left copy g c xs p x)
+plain_solid r left copy g c (Connector l l' ∷ xs) p x = plain_solid r left copy g c xs p x
+plain_solid r left copy g c (Copy part link inside ∷ xs) p x = absurd p
+plain_solid r left copy g c (Membrane inside ∷ xs) p x = plain_solid r left copy g c xs p x
+plain_solid r left copy g c (Rest of inside ∷ xs) p x =
+    ap (λ zs. cond (r.head.images.membrane inside == x) (left (r.head.images.membrane of)) [] ++ zs) (plain_solid r left copy g c xs p x)
+plain_solid r left copy g c (Rule rule inside ∷ xs) p x = plain_solid r left copy g c xs p x
+plain_solid r left copy g c (Rules of inside ∷ xs) p x = plain_solid r left copy g c xs p x
+
+pub firing_leaves_atoms : FiringLeavesAtoms
+firing_leaves_atoms h valid c r head body made plain taken h' f x o =
+    let left = left_solid h c taken (λ z. f.to (of_solid z)) in
+    firing_leaves_solid h valid c r head body made taken h' f x o
+    ∙ ap (λ zs. left x ++ zs) (plain_solid r left (λ k. atoms_of h' (λ a i. f.number (a, i)) (r.copied k)) (λ z. f.to (of_rule z)) 0 body plain x)
+
+pub copies_in_solid : CopiesInSolid
+copies_in_solid h valid c names r head body taken h' valid' f e i hangs =
+    solid_copy h valid c names h' valid' f.number f.named (r.head.images.part e.1) (r.copy e.0) (r.copied e.0) (f.copies e i)
+    (λ y j. f.new_placed y (copied_new r (length (heads.atoms_of head)) 0 body e y i j)) hangs

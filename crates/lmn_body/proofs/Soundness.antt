@@ -1,6 +1,6 @@
 -- The heap is sound before PROCEED.
-use Rattle.std.proofs.Common.{ℕ, ◌+◌, ◌≡◌, ◌≢◌, ◌⊎◌, true, List, [], ◌∷◌, ◌++◌, length, Option, Some, None, IsSome, refl, sym, ap, subst, ◌∙◌, inl, inr}
-use Rattle.std.proofs.lemmas.Bool.{cases_eq}
+use Rattle.std.proofs.Common.{ℕ, ◌+◌, ◌≡◌, ◌≢◌, ◌⊎◌, true, List, [], ◌∷◌, ◌++◌, map, length, Option, Some, None, IsSome, refl, sym, ap, subst, ◌∙◌, inl, inr}
+use Rattle.std.proofs.lemmas.Bool.{cases_eq, eq-eqb}
 use Rattle.std.specs.Option.{option_map, option_and_then}
 use Rattle.lmn_base.specs.declared.guard.Cond.{Cond}
 use Rattle.lmn_heap.specs.Heap as heap
@@ -15,21 +15,20 @@ use Rattle.lmn_solid.specs.Embeddings.{Embeds, HasMembrane}
 use Rattle.lmn_splice.specs.Ports.{Port}
 use Rattle.lmn_body.specs.declared.items.BodyItem.{BodyItem}
 use Rattle.lmn_body.specs.declared.items.BodyItem.TheVariants.{Atom, Connector, Copy, Bound, Membrane, Rest, Rule, Rules}
-use Rattle.lmn_body.specs.Items.{NoCopies}
 use Rattle.lmn_body.specs.Code.{making}
 use Rattle.lmn_body.specs.Running.{Registers, integer_functor, Prepares, Commits}
 use Rattle.lmn_body.specs.Names.{Names}
 use Rattle.lmn_body.specs.Added.{moved_mems, made_mems}
-use Rattle.lmn_body.specs.Made.{made_of}
 use Rattle.lmn_body.specs.Rules.{AtomRule, Goes, Exists, Into, Nests, PartAtoms}
 use Rattle.lmn_body.specs.Within.{membrane_images}
 use Rattle.lmn_body.proofs.Phases.{all_taken_after}
 use Rattle.lmn_body.proofs.HeapTies.{SameItems}
-use Rattle.lmn_body.proofs.Making.{AfterMaking, all_made}
+use Rattle.lmn_body.specs.Running.{all_placed}
+use Rattle.lmn_body.proofs.Brought.{brings_listed, brings_copied}
 use Rattle.lmn_body.proofs.MakingParts.{GrownBy}
-use Rattle.lmn_body.proofs.Firing.{ma, ns_once}
+use Rattle.lmn_body.proofs.Firing.{ns_once}
 use Rattle.lmn_body.proofs.ListOps.{change_keeps, place_by, there_by, out_place}
-use Rattle.lmn_body.proofs.Growing.{grown_placed, grown_placed_mem, grown_moved, some_there}
+use Rattle.lmn_body.proofs.Growing.{grown_placed, grown_all_placed, grown_placed_mem, grown_moved, some_there}
 use Rattle.lmn_body.proofs.Removing.{Shrunk, taken_places, all_taken_mems, parent_place, place_parent}
 use Rattle.lmn_body.proofs.Preparing.{AllPrepared, made_one_mem}
 use Rattle.lmn_body.proofs.MemListing.{same_lists_listed, place_after, waits_before}
@@ -38,22 +37,24 @@ use Rattle.lmn_heap.proofs.MoveListing.{moved_all_listed}
 use Rattle.lmn_body.proofs.Nesting as nesting
 
 -- What prepares keeps lists and places together.
-pub prepares_listed : (r : Registers) (a m c : ℕ) (body : List BodyItem) → NoCopies body → (s t : Heap) → Listed s → Prepares r (making a m c body) s t → Listed t
-prepares_listed r a m c [] p s t h w = subst Listed (sym w) h
-prepares_listed r a m c (Atom functor links inside ∷ xs) p s t h w =
-    prepares_listed r (a + 1) m c xs p w.0 t (subst Listed (sym w.1.1) (made_listed s (r.head.images.atom a) functor h w.1.0)) w.2
-prepares_listed r a m c (Bound integer link inside ∷ xs) p s t h w =
-    prepares_listed r (a + 1) m c xs p w.0 t (subst Listed (sym w.1.1) (made_listed s (r.head.images.atom a) (integer_functor (r.head.integer integer)) h w.1.0)) w.2
-prepares_listed r a m c (Connector left right ∷ xs) p s t h w = prepares_listed r a m c xs p s t h w
-prepares_listed r a m c (Copy part link inside ∷ xs) p s t h w = absurd p
-prepares_listed r a m c (Membrane inside ∷ xs) p s t h w =
+pub prepares_listed : (r : Registers) (a m c : ℕ) (body : List BodyItem) → (s t : Heap) → Listed s → Prepares r (making a m c body) s t → Listed t
+prepares_listed r a m c [] s t h w = subst Listed (sym w) h
+prepares_listed r a m c (Atom functor links inside ∷ xs) s t h w =
+    prepares_listed r (a + 1) m c xs w.0 t (subst Listed (sym w.1.1) (made_listed s (r.head.images.atom a) functor h w.1.0)) w.2
+prepares_listed r a m c (Bound integer link inside ∷ xs) s t h w =
+    prepares_listed r (a + 1) m c xs w.0 t (subst Listed (sym w.1.1) (made_listed s (r.head.images.atom a) (integer_functor (r.head.integer integer)) h w.1.0)) w.2
+prepares_listed r a m c (Connector left right ∷ xs) s t h w = prepares_listed r a m c xs s t h w
+prepares_listed r a m c (Copy part link inside ∷ xs) s t h w =
+    let k = w.1.0 in
+    prepares_listed r a m (c + 1) xs w.0 t (brings_listed s w.0 k.copies (brings_copied s w.0 (r.head.images.part part) (r.copy c) k) k.beside.mems k.beside.new_mems k.beside.root h) w.2
+prepares_listed r a m c (Membrane inside ∷ xs) s t h w =
     let one = made_one_mem s (r.head.images.membrane m) w.1.0 in
-    prepares_listed r a (m + 1) c xs p w.0 t (subst Listed (sym w.1.1) (made_mem_listed s (r.head.images.membrane m) h w.1.0)) w.2
-prepares_listed r a m c (Rest of inside ∷ xs) p s t h w = prepares_listed r a m c xs p w.0 t (subst Listed (sym w.1) h) w.2
-prepares_listed r a m c (Rule rule inside ∷ xs) p s t h w =
-    prepares_listed r a m c xs p w.0 t (subst Listed (sym w.1.1) (same_lists_listed s (r.head.images.membrane inside) (heap.mem_with_spare w.1.0) (λ x. (refl, refl, refl)) h)) w.2
-prepares_listed r a m c (Rules of inside ∷ xs) p s t h w =
-    prepares_listed r a m c xs p w.0 t (subst Listed (sym w.1.1) (same_lists_listed s (r.head.images.membrane inside) (heap.mem_with_spare w.1.0) (λ x. (refl, refl, refl)) h)) w.2
+    prepares_listed r a (m + 1) c xs w.0 t (subst Listed (sym w.1.1) (made_mem_listed s (r.head.images.membrane m) h w.1.0)) w.2
+prepares_listed r a m c (Rest of inside ∷ xs) s t h w = prepares_listed r a m c xs w.0 t (subst Listed (sym w.1) h) w.2
+prepares_listed r a m c (Rule rule inside ∷ xs) s t h w =
+    prepares_listed r a m c xs w.0 t (subst Listed (sym w.1.1) (same_lists_listed s (r.head.images.membrane inside) (heap.mem_with_spare w.1.0) (λ x. (refl, refl, refl)) h)) w.2
+prepares_listed r a m c (Rules of inside ∷ xs) s t h w =
+    prepares_listed r a m c xs w.0 t (subst Listed (sym w.1.1) (same_lists_listed s (r.head.images.membrane inside) (heap.mem_with_spare w.1.0) (λ x. (refl, refl, refl)) h)) w.2
 
 taken_mems_listed : (ks : List ℕ) (s : Heap) → Listed s → Distinct ks → ((k : ℕ) → In k ks → (p : ℕ) × (parent_of s k ≡ Some p)) → Listed (all_taken_mems s ks)
 taken_mems_listed [] s h d w = h
@@ -73,12 +74,35 @@ of_into : (r : Registers) (home : ℕ) (done ks : List ℕ) (inside : ℕ) → I
 of_into r home done ks inside (inl e) = inl e
 of_into r home done ks inside (inr i) = inr (inl i)
 
+-- the atoms of a copy are placed
+copies_listed : (home : ℕ) (done ks : List ℕ) (y : ℕ) (xs : List ℕ) (s : Heap) → (rest : List ℕ) → s.new_atoms ≡ xs ++ rest → (In y ks → ⊥) → IsSome (s.mems y) → (mem_place_of s y ≡ Some waiting → ⊥)
+    → Ready home done ks s → Listed s → Ready home done ks (all_placed s (map (λ a. (y, a)) xs)) × Listed (all_placed s (map (λ a. (y, a)) xs))
+copies_listed home done ks y [] s rest e o is wait rd h = (rd, h)
+copies_listed home done ks y (a ∷ xs) s rest e o is wait rd h =
+    let t = placed s y a in
+    let gr = grown_placed ks s y a o is in
+    let same : (x : ℕ) → mem_place_of t x ≡ mem_place_of s x = same_mem_place s.mems y (λ zs. zs ++ a ∷ []) in
+    copies_listed home done ks y xs t rest (gr.line (xs ++ rest) e) o (some_there (s.mems y) (t.mems y) (gr.there y) is) (λ q. wait (sym (same y) ∙ q))
+    (still home done ks s t rd gr.there (λ x q. sym (same x) ∙ q))
+    (placed_listed s y a h is wait (subst (λ zs. heap.from (Some a) zs ≡ zs) (sym e) (first_from a (xs ++ rest))))
+  where
+    first_from : (a : ℕ) (zs : List ℕ) → heap.from (Some a) (a ∷ zs) ≡ a ∷ zs
+    first_from a zs = rw (eq-eqb a a refl) refl
+
 -- The making part of a commit keeps lists and places together.
 pub making_listed : (r : Registers) (home : ℕ) (ks : List ℕ) (E : ℕ → Type 0) (done : List ℕ) (a m c : ℕ) (body : List BodyItem) → Goes r ks E body → Nests r home done m body → (s t : Heap)
     → Ready home done ks s → ((x : ℕ) → In x (made_mems r m body) → IsSome (s.mems x)) → Listed s → Commits r (making a m c body) s t → Listed t
 making_listed r home ks E done a m c [] g n s t rd mk h w = subst Listed (sym w) h
 making_listed r home ks E done a m c (Connector left right ∷ xs) g n s t rd mk h w = making_listed r home ks E done a m c xs g n s t rd mk h w
-making_listed r home ks E done a m c (Copy part link inside ∷ xs) g n s t rd mk h w = absurd g
+making_listed r home ks E done a m c (Copy part link inside ∷ xs) g n s t rd mk h w =
+    let y = r.head.images.membrane inside in
+    let at = rd y (of_into r home done ks inside n.0) in
+    let gr = grown_all_placed ks y (r.copied c) s g.0.0 at.0 in
+    let all = copies_listed home done ks y (r.copied c) s w.1.0 w.1.1 g.0.0 at.0 at.1 rd h in
+    making_listed r home ks E done a m (c + 1) xs g.1 n.1 w.0 t
+    (subst (Ready home done ks) (sym w.1.2) all.0)
+    (λ x i. subst (λ (z : Heap). IsSome (z.mems x)) (sym w.1.2) (some_there (s.mems x) ((all_placed s (map (λ b. (y, b)) (r.copied c))).mems x) (gr.there x) (mk x i)))
+    (subst Listed (sym w.1.2) all.1) w.2
 making_listed r home ks E done a m c (Atom functor links inside ∷ xs) g n s t rd mk h w =
     let y = r.head.images.membrane inside in
     let at = rd y (of_into r home done ks inside n.0) in
@@ -158,7 +182,7 @@ module _ (h : Heap) (valid : Valid h) (head : List HeadItem) (guard : List Cond)
     (goes : Goes r (membrane_images r head) (Exists h r head body) body)
     (contexts : (k : ℕ) (b : HeadMembrane) → HasMembrane head k b → b.has_context ≡ true → In (r.head.images.membrane k) (moved_mems r body))
     (ps : List ℕ) (parts : PartAtoms h head r.head.images ps)
-    (s : Heap) (pr : AllPrepared h h s (made_of r (length (atoms_of head)) body) (made_mems r (1 + length (membranes_of head)) body))
+    (s : Heap) (pr : AllPrepared c h s r (length (atoms_of head)) (1 + length (membranes_of head)) body)
     (nests : Nests r m [] (1 + length (membranes_of head)) body) (listed_s : Listed s)
     (removed_mem : (x : ℕ) → In x (membrane_images r head) → IsMem h x) (home_mem : IsMem h m) where
   abbrev t1 : Heap
@@ -170,11 +194,11 @@ module _ (h : Heap) (valid : Valid h) (head : List HeadItem) (guard : List Cond)
   abbrev ks : List ℕ
   ks = membrane_images r head
 
-  made_s : AfterMaking h (all_made h (made_of r (length (atoms_of head)) body)) (made_of r (length (atoms_of head)) body)
-  made_s = ma h valid head guard body n m r rule em stand c names pr.free ps parts
+  made_s : Sound pr.free.heap
+  made_s = pr.free.sound
 
   paired_s : Paired s
-  paired_s = subst (λ (f : ℕ → Option HeapAtom). Paired (record s { atoms = f })) (sym pr.atoms.atoms) (record { back = made_s.sound.paired.back; apart = made_s.sound.paired.apart })
+  paired_s = subst (λ (f : ℕ → Option HeapAtom). Paired (record s { atoms = f })) (sym pr.atoms.atoms) (record { back = made_s.paired.back; apart = made_s.paired.apart })
 
   listed_t1 : Listed t1
   listed_t1 = (all_taken_after (nesting.ns h valid head guard body n m r rule em stand c names goes contexts ps parts s pr) s listed_s
@@ -224,7 +248,7 @@ module _ (h : Heap) (valid : Valid h) (head : List HeadItem) (guard : List Cond)
     abbrev sh : Shrunk s t2 (nesting.ns h valid head guard body n m r rule em stand c names goes contexts ps parts s pr) ks
     sh = nesting.sh h valid head guard body n m r rule em stand c names goes contexts ps parts s pr
 
-    abbrev gr : GrownBy r ks (length (atoms_of head)) (1 + length (membranes_of head)) body t2 t3
+    abbrev gr : GrownBy r ks (length (atoms_of head)) (1 + length (membranes_of head)) 0 body t2 t3
     gr = nesting.gr h valid head guard body n m r rule em stand c names goes contexts ps parts s pr t3 run
 
     listed_v : Listed v
@@ -237,7 +261,7 @@ module _ (h : Heap) (valid : Valid h) (head : List HeadItem) (guard : List Cond)
     arities a = same.arities a ∙ gr.same.arities a ∙ sh.same.arities a
 
     shaped_s : Shaped s
-    shaped_s = subst (λ (f : ℕ → Option HeapAtom). Shaped (record s { atoms = f })) (sym pr.atoms.atoms) (record { ports = made_s.sound.shaped.ports; marks = made_s.sound.shaped.marks })
+    shaped_s = subst (λ (f : ℕ → Option HeapAtom). Shaped (record s { atoms = f })) (sym pr.atoms.atoms) (record { ports = made_s.shaped.ports; marks = made_s.shaped.marks })
 
     shaped_v : Shaped v
     shaped_v = record {

@@ -22,7 +22,6 @@ use Rattle.lmn_body.specs.Code.{making}
 use Rattle.lmn_body.specs.Running.{Registers, withouts, Commits}
 use Rattle.lmn_body.specs.Names.{Names}
 use Rattle.lmn_body.specs.Added.{if_inside, added_mems, moved_mems, made_mems}
-use Rattle.lmn_body.specs.Made.{made_of}
 use Rattle.lmn_body.specs.Rules.{AtomRule, Goes, Exists, Nests, HeadNests, PartAtoms}
 use Rattle.lmn_body.specs.Within.{membrane_images}
 use Rattle.lmn_body.proofs.Committing.{in_withouts_of}
@@ -55,7 +54,7 @@ came_from : (r : Registers) (left : ℕ → List ℕ) (home : ℕ) (all : List �
 came_from r left home all d done m [] e w x b i = absurd i
 came_from r left home all d done m (Atom functor links inside ∷ xs) e w x b i = came_from r left home all d done m xs e w.1 x b i
 came_from r left home all d done m (Connector l l' ∷ xs) e w x b i = came_from r left home all d done m xs e w x b i
-came_from r left home all d done m (Copy part link inside ∷ xs) e w x b i = came_from r left home all d done m xs e w x b i
+came_from r left home all d done m (Copy part link inside ∷ xs) e w x b i = came_from r left home all d done m xs e w.1 x b i
 came_from r left home all d done m (Bound integer link inside ∷ xs) e w x b i = came_from r left home all d done m xs e w.1 x b i
 came_from r left home all d done m (Membrane inside ∷ xs) e w x b i =
     elim (in_either b (if_inside r x inside (r.head.images.membrane m ∷ [])) (added_mems r left (m + 1) xs x) i) [
@@ -101,7 +100,7 @@ module _ (h : Heap) (valid : Valid h) (head : List HeadItem) (guard : List Cond)
     (goes : Goes r (membrane_images r head) (Exists h r head body) body)
     (contexts : (k : ℕ) (b : HeadMembrane) → HasMembrane head k b → b.has_context ≡ true → In (r.head.images.membrane k) (moved_mems r body))
     (ps : List ℕ) (parts : PartAtoms h head r.head.images ps)
-    (s : Heap) (pr : AllPrepared h h s (made_of r (length (atoms_of head)) body) (made_mems r (1 + length (membranes_of head)) body))
+    (s : Heap) (pr : AllPrepared c h s r (length (atoms_of head)) (1 + length (membranes_of head)) body)
     (nests : Nests r m [] (1 + length (membranes_of head)) body) (head_nests : HeadNests head) where
   abbrev pub K : ℕ
   K = length (membranes_of head)

@@ -8,18 +8,18 @@ use Rattle.lmn_body.specs.Running.{Registers}
 abbrev pub if_inside : Registers → ℕ → ℕ → List ℕ → List ℕ
 if_inside r x inside ns = if r.head.images.membrane inside == x then ns else []
 
--- Atoms: each leaf where it is written, then for each untyped context the atoms that are left of its membrane. The next
--- atom has the register a.
-abbrev pub added_atoms : Registers → (ℕ → List ℕ) → ℕ → List BodyItem → ℕ → List ℕ
-added_atoms r left a [] x = []
-added_atoms r left a (Atom functor links inside ∷ xs) x = if_inside r x inside (r.head.images.atom a ∷ []) ++ added_atoms r left (a + 1) xs x
-added_atoms r left a (Connector l l' ∷ xs) x = added_atoms r left a xs x
-added_atoms r left a (Copy part link inside ∷ xs) x = added_atoms r left a xs x
-added_atoms r left a (Bound integer link inside ∷ xs) x = if_inside r x inside (r.head.images.atom a ∷ []) ++ added_atoms r left (a + 1) xs x
-added_atoms r left a (Membrane inside ∷ xs) x = added_atoms r left a xs x
-added_atoms r left a (Rest of inside ∷ xs) x = if_inside r x inside (left (r.head.images.membrane of)) ++ added_atoms r left a xs x
-added_atoms r left a (Rule rule inside ∷ xs) x = added_atoms r left a xs x
-added_atoms r left a (Rules of inside ∷ xs) x = added_atoms r left a xs x
+-- Atoms: each leaf where it is written, a copy with all its atoms, then for each untyped context the atoms that are left
+-- of its membrane. The next atom has the register a, the next copy the register c.
+abbrev pub added_atoms : Registers → (ℕ → List ℕ) → ℕ → ℕ → List BodyItem → ℕ → List ℕ
+added_atoms r left a c [] x = []
+added_atoms r left a c (Atom functor links inside ∷ xs) x = if_inside r x inside (r.head.images.atom a ∷ []) ++ added_atoms r left (a + 1) c xs x
+added_atoms r left a c (Connector l l' ∷ xs) x = added_atoms r left a c xs x
+added_atoms r left a c (Copy part link inside ∷ xs) x = if_inside r x inside (r.copied c) ++ added_atoms r left a (c + 1) xs x
+added_atoms r left a c (Bound integer link inside ∷ xs) x = if_inside r x inside (r.head.images.atom a ∷ []) ++ added_atoms r left (a + 1) c xs x
+added_atoms r left a c (Membrane inside ∷ xs) x = added_atoms r left a c xs x
+added_atoms r left a c (Rest of inside ∷ xs) x = if_inside r x inside (left (r.head.images.membrane of)) ++ added_atoms r left a c xs x
+added_atoms r left a c (Rule rule inside ∷ xs) x = added_atoms r left a c xs x
+added_atoms r left a c (Rules of inside ∷ xs) x = added_atoms r left a c xs x
 
 -- Membranes: those that are written, then for each untyped context those that are left of its membrane. The next
 -- membrane has the register m.

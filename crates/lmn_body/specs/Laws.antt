@@ -1,5 +1,5 @@
 -- The laws of body code.
-use Rattle.std.specs.Prelude.{ℕ, true, ◌+◌, ◌≤◌, ◌<◌, ◌≡◌, ◌⊎◌, All, List, ◌++◌, map, length}
+use Rattle.std.specs.Prelude.{ℕ, Some, true, ◌+◌, ◌≤◌, ◌<◌, ◌≡◌, ◌⊎◌, All, List, ◌++◌, map, length}
 use Rattle.lmn_base.specs.declared.guard.Cond.{Cond}
 use Rattle.lmn_heap.specs.Heap.{Heap, discarded, IsMemInPlace, rules_in, spare_of}
 use Rattle.lmn_heap.specs.Sound.{Valid}
@@ -28,7 +28,10 @@ use Rattle.lmn_body.specs.Flattening.{BodyNames, body_items, context_membrane, r
 use Rattle.lmn_body.specs.Names.{Names}
 use Rattle.lmn_body.specs.Rules.{PlainRule, NestedRule, PartAtoms, HeadNests, IsHeadMembrane, WellPlaced}
 use Rattle.lmn_body.specs.Fired.{images_of, Fires}
-use Rattle.lmn_body.specs.Within.{FiresWithin, FiredAtoms}
+use Rattle.lmn_body.specs.Made.{copies_of}
+use Rattle.lmn_body.specs.CopiedSolid.{Hangs, IsSolidCopy}
+use Rattle.lmn_heap.specs.Solid.{atoms_of}
+use Rattle.lmn_body.specs.Within.{FiresWithin, FiredAtoms, FiredSolid}
 use Rattle.lmn_body.specs.Items.{body_links, LinkedItems, AllMade, NoCopies}
 
 -- The code of a body of atoms, connectors and integers, run at an embedding of a head of atoms, fires the rule: the
@@ -38,7 +41,7 @@ BodyFires = (head : List HeadItem) (body : List BodyItem) (n : ℕ) → PlainRul
     (guard : List Cond) (m : ℕ) → Embeds h head guard m r.head.images → IsMemInPlace h m → (c : Port → ℕ) → Names h c →
     (h' : Heap) → RunsBody r (body_code head body n) h h' → Fires h c valid.tree.0 r head body m h'
 
--- The code of a body with membranes, contexts and rules, run at an embedding of a head, fires the rule: the heap is valid
+-- The code of a body with membranes, contexts, rules and copies, run at an embedding of a head, fires the rule: the heap is valid
 -- again, and the links and the lists of each membrane are those of the firing. The head takes the images of its atoms
 -- and the atoms of its parts, which are ps.
 abbrev pub BodyFiresWithin : Type 0
@@ -55,9 +58,20 @@ BodyCanRun = (head : List HeadItem) (body : List BodyItem) (n : ℕ) → NestedR
     CanRun r (body_code head body n) s
 
 -- A firing leaves the atoms of the solid.
+abbrev pub FiringLeavesSolid : Type 0
+FiringLeavesSolid = (h : Heap) → Valid h → (c : Port → ℕ) (r : Registers) (head : List HeadItem) (body : List BodyItem) → AllMade body →
+    (taken : List ℕ) (h' : Heap) (f : FiresWithin h c r head body taken h') → FiredSolid h c r head body taken h' f
+
+-- The same of a body without copies.
 abbrev pub FiringLeavesAtoms : Type 0
 FiringLeavesAtoms = (h : Heap) → Valid h → (c : Port → ℕ) (r : Registers) (head : List HeadItem) (body : List BodyItem) → AllMade body → NoCopies body →
     (taken : List ℕ) (h' : Heap) (f : FiresWithin h c r head body taken h') → FiredAtoms h c r head body taken h' f
+
+-- After a firing the atoms of a copy in the solid are those of its part.
+abbrev pub CopiesInSolid : Type 0
+CopiesInSolid = (h : Heap) → Valid h → (c : Port → ℕ) → Names h c → (r : Registers) (head : List HeadItem) (body : List BodyItem) (taken : List ℕ) (h' : Heap) → Valid h' →
+    (f : FiresWithin h c r head body taken h') → (e : ℕ × ℕ) → In e (copies_of 0 body) → Hangs h (r.head.images.part e.1) →
+    IsSolidCopy h c h' f.number (r.head.images.part e.1) (r.copy e.0) (r.copied e.0) (atoms_of h' (λ a i. f.number (a, i)) (r.copied e.0))
 
 -- A prepare may be given up after any of its instructions: what was made waits alone, and without it the heap is as it
 -- was, but for spares.
@@ -95,7 +109,7 @@ abbrev pub FlattenedRules : Type 0
 FlattenedRules = (kind : ℕ → TypeKind) (s : BodyNames) (head body : Level) (n : ℕ) → EachTwice (links_of head ++ links_of body) →
     ((x : ℕ) → In x (links_of head ++ links_of body) → x < n) → All FitsArity (leaves_of head) → All FitsArity (leaves_of body) →
     let items = items_of kind head in let k = length (membranes_of items) in
-    NoCopies (body_items s k body) → ((g : ℕ) (t : HeadTyped) → HasTyped items g t → (p : heads.Port) × HasLink items t.link p) →
+    ((x g : ℕ) → s.part x ≡ Some g → (t : HeadTyped) × HasTyped items g t) → ((g : ℕ) (t : HeadTyped) → HasTyped items g t → (p : heads.Port) × HasLink items t.link p) →
     ((u : CtxUse) → In u (contexts_of body) → IsHeadMembrane k (s.context u.name)) → ((u : CtxUse) → In u (rule_contexts_of body) → IsHeadMembrane k (s.rule_context u.name)) →
     Distinct (map (λ u. s.context u.name) (contexts_of body)) →
     ((i : ℕ) (b : HeadMembrane) → HasMembrane items i b → b.has_context ≡ true → In i (map (λ u. s.context u.name) (contexts_of body))) →

@@ -6,6 +6,8 @@ pub mod Names
 pub mod Fired
 pub mod Added
 pub mod Within
+pub mod CopiedSolid
+pub mod CopyExamples
 pub mod Made
 pub mod Rules
 pub mod Laws

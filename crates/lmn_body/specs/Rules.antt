@@ -11,21 +11,22 @@ use Rattle.lmn_solid.specs.Embeddings.{Images, HasAtom, HasTyped, HasMembrane, H
 use Rattle.lmn_splice.specs.Splice.{In}
 use Rattle.lmn_body.specs.declared.items.BodyItem.{BodyItem}
 use Rattle.lmn_body.specs.declared.items.BodyItem.TheVariants.{Atom, Connector, Copy, Bound, Membrane, Rest, Rule, Rules}
-use Rattle.lmn_body.specs.Items.{body_links, LinkedItems, AllMade, NoCopies, Simple}
+use Rattle.lmn_body.specs.Items.{body_links, LinkedItems, AllMade, Simple}
 use Rattle.lmn_body.specs.Running.{Registers}
 use Rattle.lmn_body.specs.Added.{moved_mems, made_mems}
+use Rattle.lmn_body.specs.Made.{copies_of}
 
--- A rule without copies of typed contexts.
---   no_copies                its body has none
+-- A rule.
 --   held                     the link of a typed context of the head stands at an atom of the head
 --   typed_once               different typed contexts of the head have different links
+--   copied                   a copy in the body is of a typed context of the head
 --   head_made, made          an atom has as many links as its arity
 --   linked                   each link of the rule stands twice
 --   below                    there are n links
 pub record AtomRule (head : List HeadItem) (body : List BodyItem) (n : ℕ) : Type 0 where
-  pub no_copies : NoCopies body
   pub held : (g : ℕ) (t : heads.HeadTyped) → HasTyped head g t → (p : heads.Port) × HasLink head t.link p
   pub typed_once : (g k : ℕ) (t u : heads.HeadTyped) → HasTyped head g t → HasTyped head k u → g ≢ k → t.link ≢ u.link
+  pub copied : (e : ℕ × ℕ) → In e (copies_of 0 body) → (t : heads.HeadTyped) × HasTyped head e.1 t
   pub head_made : (k : ℕ) (a : HeadAtom) → HasAtom head k a → length a.links ≡ a.functor.arity
   pub made : AllMade body
   pub linked : LinkedItems head body
@@ -48,7 +49,7 @@ abbrev pub Goes : Registers → List ℕ → (ℕ → Type 0) → List BodyItem 
 Goes r ks E [] = Unit {0}
 Goes r ks E (Atom functor links inside ∷ xs) = Target r ks E inside × Goes r ks E xs
 Goes r ks E (Connector left right ∷ xs) = Goes r ks E xs
-Goes r ks E (Copy part link inside ∷ xs) = ⊥
+Goes r ks E (Copy part link inside ∷ xs) = Target r ks E inside × Goes r ks E xs
 Goes r ks E (Bound integer link inside ∷ xs) = Target r ks E inside × Goes r ks E xs
 Goes r ks E (Membrane inside ∷ xs) = Target r ks E inside × Goes r ks E xs
 Goes r ks E (Rest of inside ∷ xs) =
@@ -69,7 +70,7 @@ abbrev pub Nests : Registers → ℕ → List ℕ → ℕ → List BodyItem → 
 Nests r top made m [] = Unit {0}
 Nests r top made m (Atom functor links inside ∷ xs) = Into r top made inside × Nests r top made m xs
 Nests r top made m (Connector left right ∷ xs) = Nests r top made m xs
-Nests r top made m (Copy part link inside ∷ xs) = Nests r top made m xs
+Nests r top made m (Copy part link inside ∷ xs) = Into r top made inside × Nests r top made m xs
 Nests r top made m (Bound integer link inside ∷ xs) = Into r top made inside × Nests r top made m xs
 Nests r top made m (Membrane inside ∷ xs) = Into r top made inside × Nests r top (made ++ r.head.images.membrane m ∷ []) (m + 1) xs
 Nests r top made m (Rest of inside ∷ xs) = Into r top made inside × Nests r top made m xs
@@ -122,7 +123,7 @@ WellPlaced k m (Rest of inside ∷ xs) = IsHeadMembrane k of × (In of (rests xs
 WellPlaced k m (Rule rule inside ∷ xs) = StandsIn k m inside × WellPlaced k m xs
 WellPlaced k m (Rules of inside ∷ xs) = IsHeadMembrane k of × StandsIn k m inside × WellPlaced k m xs
 
--- A rule without copies of typed contexts, by its items.
+-- A rule, by its items.
 --   placed        see there
 --   head_nests    membranes of the head are numbered after those round them
 --   contexts      each untyped context of the head stands in the body

@@ -6,9 +6,10 @@
 use Rattle.std.specs.Prelude.{ℕ, ℤ, ◌≡◌, ◌↔◌, List, [], ◌∷◌, ◌++◌, map, None, Some}
 use Rattle.lmn_base.specs.declared.functor.Functor.{Functor}
 use Rattle.lmn_base.specs.declared.functor.Label.TheVariants.{Int}
-use Rattle.lmn_base.specs.Graphs.{Reached, SameGraph}
-use Rattle.lmn_heap.specs.Heap.{Heap, waiting, place_of, link_of, In, Distinct, without, from, made_atom, made_mem, reserved, taken, taken_mem, placed, placed_mem, moved_all, rule_added, rules_copied, finished}
+use Rattle.lmn_base.specs.Graphs.{Reached}
+use Rattle.lmn_heap.specs.Heap.{Heap, In, Distinct, without, from, made_atom, made_mem, reserved, taken, taken_mem, placed, placed_mem, moved_all, rule_added, rules_copied, finished}
 use Rattle.lmn_heap.specs.Graphs.{atom_map}
+use Rattle.lmn_parts.specs.Copies.{Copied}
 use Rattle.lmn_splice.specs.Ports.{Port}
 use Rattle.lmn_splice.specs.Ties.{newlink, relink, unify}
 use Rattle.lmn_instr.specs.declared.instr.AtomPort.{AtomPort}
@@ -23,7 +24,7 @@ use Rattle.lmn_body.specs.Tied.{tied}
 --   head      those of head code: atoms, membranes, typed contexts and integers. On from the atoms and membranes of the
 --             head they hold those that the body makes
 --   copy      the root port of each copy
---   copied    its atoms, in the order of their line
+--   copied    its atoms, in the order of their line, which is the depth-first order of the part
 pub record Registers : Type 0 where
   pub head : HeadRegisters
   pub copy : ℕ → Port
@@ -54,21 +55,10 @@ abbrev pub all_placed : Heap → List (ℕ × ℕ) → Heap
 all_placed s [] = s
 all_placed s (e ∷ es) = all_placed (placed s e.0 e.1) es
 
--- A copy of the part that is entered at a port: its atoms are new, wait at the end of the line, and are all that is
--- reached from the root port of the copy, which has no partner yet. The part and the copy are equal as rooted graphs.
--- That the line has the depth-first order of the part is not said here.
-pub record IsCopied (s : Heap) (root : Port) (copy : Port) (copied : List ℕ) (t : Heap) : Type 0 where
-  pub line : t.new_atoms ≡ s.new_atoms ++ copied
-  pub once : Distinct copied
-  pub fresh : (a : ℕ) → In a copied → s.atoms a ≡ None
-  pub others : (a : ℕ) → (In a copied → ⊥) → t.atoms a ≡ s.atoms a
-  pub waits : (a : ℕ) → In a copied → place_of t a ≡ Some waiting
-  pub are : (a : ℕ) → In a copied ↔ Reached (atom_map t) copy a
-  pub graph : SameGraph (atom_map s) root (atom_map t) copy
-  pub free : link_of t copy.0 copy.1 ≡ None
-  pub mems : t.mems ≡ s.mems
-  pub new_mems : t.new_mems ≡ s.new_mems
-  pub root_stays : t.root ≡ s.root
+-- A copy of the part that is entered at a port: its root port, and its atoms, which wait at the end of the line in the
+-- depth-first order of the part.
+abbrev pub IsCopied : Heap → Port → Port → List ℕ → Heap → Type 0
+IsCopied s root copy atoms t = (c : Copied s t root copy) × (c.copies ≡ atoms)
 
 -- What an instruction makes, where it makes something; those of a head are of no body.
 abbrev pub Makes : Registers → Instr → Heap → Heap → Type 0

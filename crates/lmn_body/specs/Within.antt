@@ -1,7 +1,7 @@
 -- What a firing leaves in the lists of each membrane, with membranes and contexts.
-use Rattle.std.specs.Prelude.{ℕ, ◌+◌, ◌≡◌, ◌==◌, if◌then◌else◌, List, [], ◌∷◌, ◌++◌, length, map, Some}
+use Rattle.std.specs.Prelude.{ℕ, ◌+◌, ◌≡◌, ◌≢◌, ◌==◌, if◌then◌else◌, List, [], ◌∷◌, ◌++◌, length, map, Some}
 use Rattle.lmn_base.specs.declared.solid.SolidAtom.{SolidAtom}
-use Rattle.lmn_heap.specs.Heap.{Heap, In, IsInPlace, functor_of, atoms_in, mems_in, rules_in}
+use Rattle.lmn_heap.specs.Heap.{Heap, In, IsInPlace, functor_of, link_of, atoms_in, mems_in, rules_in}
 use Rattle.lmn_base.specs.declared.functor.Functor.{Functor}
 use Rattle.lmn_solid.specs.declared.items.HeadItem.{HeadItem}
 use Rattle.lmn_solid.specs.Heads as heads
@@ -16,7 +16,9 @@ use Rattle.lmn_body.specs.declared.items.BodyItem.TheVariants.{Atom, Connector, 
 use Rattle.lmn_body.specs.Items.{new_ports, old_ports, connectors}
 use Rattle.lmn_body.specs.Running.{Registers, old_port, new_port, integer_functor, withouts}
 use Rattle.lmn_body.specs.Names.{Names}
-use Rattle.lmn_body.specs.Made.{made_of}
+use Rattle.lmn_body.specs.Made.{made_of, new_atoms, copies_of}
+use Rattle.lmn_parts.specs.Walks.{IsPart}
+use Rattle.lmn_parts.specs.Copies.{answer, moved}
 use Rattle.lmn_body.specs.Added.{added_atoms, added_mems, added_rules}
 use Rattle.lmn_body.specs.Fired.{linked_by}
 use Rattle.lmn_heap.specs.Solid.{atoms_of}
@@ -25,12 +27,25 @@ use Rattle.lmn_heap.specs.Solid.{atoms_of}
 abbrev pub membrane_images : Registers → List HeadItem → List ℕ
 membrane_images r head = map r.head.images.membrane (rising 1 (length (heads.membranes_of head)))
 
+-- A part of the heap h has a copy in h': the atom of the copy that stands where an atom of the part stands, depth first, has
+-- its functor, and the root port and the links inside are those of the part.
+pub record IsCopyIn (h h' : Heap) (root copy : Port) (copied : List ℕ) : Type 0 where
+  pub atoms : List ℕ
+  pub part : IsPart h root atoms
+  pub long : length copied ≡ length atoms
+  pub entered : copy ≡ moved (answer atoms copied) root
+  pub functors : (a : ℕ) → In a atoms → functor_of h' (answer atoms copied a) ≡ functor_of h a
+  pub inner : (a i b j : ℕ) → In a atoms → ◌≢◌ {A = Port} (a, i) root → link_of h a i ≡ Some (b, j) →
+      In b atoms × (link_of h' (answer atoms copied a) i ≡ Some (answer atoms copied b, j))
+
 -- A body fires: h is the heap before, whose links c numbers, h' the one after; `taken` are the atoms that the head takes.
 --   to, connectors_fused, heads_fused   the fusion of the raw links
 --   number, named                       the links of h' have numbers
 --   kept_links                          a port of an atom that stays has the image of its link
---   made_links                          a new port has the image of its link of the rule
+--   made_links                          a new port, as the root port of a copy, has the image of its link of the rule
 --   kept_functors, made_functors        an atom that stays keeps its functor, and a new one has its own
+--   new_placed                          each new atom stands in a membrane
+--   copies                              the atoms of a copy are joined with each other as those of its part were before
 --   atoms, mems, rules                  the lists of each membrane that isn't removed: what stays, in its order, and then
 --                                       what the body adds, in its order
 pub record FiresWithin (h : Heap) (c : Port → ℕ) (r : Registers) (head : List HeadItem) (body : List BodyItem) (taken : List ℕ) (h' : Heap) : Type 0 where
@@ -43,14 +58,29 @@ pub record FiresWithin (h : Heap) (c : Port → ℕ) (r : Registers) (head : Lis
   pub made_links : (e : NewPort × ℕ) → splice.In e (new_ports (length (heads.atoms_of head)) 0 body) → number (new_port r e.0) ≡ to (of_rule e.1)
   pub kept_functors : (a : ℕ) → IsInPlace h a → (In a (taken) → ⊥) → functor_of h' a ≡ functor_of h a
   pub made_functors : (e : ℕ × Functor) → splice.In e (made_of r (length (heads.atoms_of head)) body) → functor_of h' e.0 ≡ Some e.1
+  pub new_placed : (y : ℕ) → In y (new_atoms r (length (heads.atoms_of head)) 0 body) → IsInPlace h' y
+  pub copies : (e : ℕ × ℕ) → splice.In e (copies_of 0 body) → IsCopyIn h h' (r.head.images.part e.1) (r.copy e.0) (r.copied e.0)
   pub atoms : (x : ℕ) → (In x (membrane_images r head) → ⊥) → atoms_in h' x ≡
-      withouts taken (atoms_in h x) ++ added_atoms r (λ k. withouts taken (atoms_in h k)) (length (heads.atoms_of head)) body x
+      withouts taken (atoms_in h x) ++ added_atoms r (λ k. withouts taken (atoms_in h k)) (length (heads.atoms_of head)) 0 body x
   pub mems : (x : ℕ) → (In x (membrane_images r head) → ⊥) → mems_in h' x ≡
       withouts (membrane_images r head) (mems_in h x) ++ added_mems r (λ k. withouts (membrane_images r head) (mems_in h k)) (1 + length (heads.membranes_of head)) body x
   pub rules : (x : ℕ) → (In x (membrane_images r head) → ⊥) → rules_in h' x ≡ rules_in h x ++ added_rules r (rules_in h) body x
 
--- The atoms of a solid that a body adds to membrane x: those that it makes, with their links of the rule, and what is left of the
--- membranes whose contexts stand in x.
+-- The atoms of a solid that a body adds to membrane x: those that it makes, with their links of the rule, those of its copies, of
+-- which the next has the number c, and what is left of the membranes whose contexts stand in x.
+abbrev pub added_with_copies : Registers → (ℕ → List SolidAtom) → (ℕ → List SolidAtom) → (ℕ → ℕ) → ℕ → List BodyItem → ℕ → List SolidAtom
+added_with_copies r left copy g c [] x = []
+added_with_copies r left copy g c (Atom functor links inside ∷ xs) x = (if r.head.images.membrane inside == x then (record { functor = functor; links = map g links }) ∷ [] else []) ++ added_with_copies r left copy g c xs x
+added_with_copies r left copy g c (Connector l l' ∷ xs) x = added_with_copies r left copy g c xs x
+added_with_copies r left copy g c (Copy part link inside ∷ xs) x = (if r.head.images.membrane inside == x then copy c else []) ++ added_with_copies r left copy g (c + 1) xs x
+added_with_copies r left copy g c (Bound integer link inside ∷ xs) x =
+    (if r.head.images.membrane inside == x then (record { functor = integer_functor (r.head.integer integer); links = g link ∷ [] }) ∷ [] else []) ++ added_with_copies r left copy g c xs x
+added_with_copies r left copy g c (Membrane inside ∷ xs) x = added_with_copies r left copy g c xs x
+added_with_copies r left copy g c (Rest of inside ∷ xs) x = (if r.head.images.membrane inside == x then left (r.head.images.membrane of) else []) ++ added_with_copies r left copy g c xs x
+added_with_copies r left copy g c (Rule rule inside ∷ xs) x = added_with_copies r left copy g c xs x
+added_with_copies r left copy g c (Rules of inside ∷ xs) x = added_with_copies r left copy g c xs x
+
+-- The same of a body without copies.
 abbrev pub added_solid : Registers → (ℕ → List SolidAtom) → (ℕ → ℕ) → List BodyItem → ℕ → List SolidAtom
 added_solid r left g [] x = []
 added_solid r left g (Atom functor links inside ∷ xs) x = (if r.head.images.membrane inside == x then (record { functor = functor; links = map g links }) ∷ [] else []) ++ added_solid r left g xs x
@@ -68,6 +98,13 @@ abbrev pub left_solid : Heap → (Port → ℕ) → List ℕ → (ℕ → ℕ) �
 left_solid h c taken g k = map (linked_by g) (atoms_of h (λ a i. c (a, i)) (withouts taken (atoms_in h k)))
 
 -- The atoms of each membrane of the solid after a firing: what is left, then what is added, raw links at their images.
+abbrev pub FiredSolid : (h : Heap) (c : Port → ℕ) (r : Registers) (head : List HeadItem) (body : List BodyItem) (taken : List ℕ) (h' : Heap) → FiresWithin h c r head body taken h' → Type 0
+FiredSolid h c r head body taken h' f =
+    let left = left_solid h c taken (λ z. f.to (of_solid z)) in
+    (x : ℕ) → (In x (membrane_images r head) → ⊥) →
+    atoms_of h' (λ a i. f.number (a, i)) (atoms_in h' x) ≡ left x ++ added_with_copies r left (λ k. atoms_of h' (λ a i. f.number (a, i)) (r.copied k)) (λ z. f.to (of_rule z)) 0 body x
+
+-- The same after a firing of a body without copies.
 abbrev pub FiredAtoms : (h : Heap) (c : Port → ℕ) (r : Registers) (head : List HeadItem) (body : List BodyItem) (taken : List ℕ) (h' : Heap) → FiresWithin h c r head body taken h' → Type 0
 FiredAtoms h c r head body taken h' f =
     let left = left_solid h c taken (λ z. f.to (of_solid z)) in

@@ -4,7 +4,8 @@
 //! anything when it runs.
 #![tactic(auto)]
 
-ghost use Rattle.lmn_body.specs.Laws.{BodyFires, BodyFiresWithin, BodyCanRun, FiringLeavesAtoms, PrepareStops, FlattenedArePlaced, FlattenedKeepLinks, FlattenedAreMade, FlattenedHeads, FlattenedAreLinked, FlattenedRules, ContextsOfHeads, LinksHaveNumbers};
+ghost use Rattle.lmn_body.specs.Laws.{BodyFires, BodyFiresWithin, BodyCanRun, FiringLeavesSolid, FiringLeavesAtoms, CopiesInSolid, PrepareStops, FlattenedArePlaced, FlattenedKeepLinks, FlattenedAreMade, FlattenedHeads, FlattenedAreLinked, FlattenedRules, ContextsOfHeads, LinksHaveNumbers};
+ghost use Rattle.lmn_body.specs.CopyExamples.{PartHasCopy};
 ghost use Rattle.lmn_body.specs.Worked.{WorkedBodies};
 
 mod items;
@@ -22,9 +23,11 @@ pub fn body_code_fires_within()
     ensures { BodyFiresWithin }
 {}
 
-/// A firing leaves the atoms of the solid, in each membrane.
+/// A firing leaves the atoms of the solid, in each membrane; those of a copy are the atoms of its part, each link at its image.
 pub fn firing_leaves_atoms()
-    ensures { FiringLeavesAtoms }
+    ensures solid { FiringLeavesSolid }
+    ensures atoms { FiringLeavesAtoms }
+    ensures copies { CopiesInSolid }
 {}
 
 /// A prepare may be given up after any of its instructions: what was made waits alone, and without it the heap is as it was,
@@ -62,4 +65,9 @@ pub fn body_code_can_run()
 /// The listings of the bodies of some rules.
 pub fn worked_bodies()
     ensures { WorkedBodies }
+{}
+
+/// The part that `a` holds in `a(X), f(X,Y), b(Y)` has a copy, whose atoms are in depth-first order.
+pub fn part_has_copy()
+    ensures { PartHasCopy }
 {}

@@ -1,49 +1,49 @@
-mod Pieces
-mod Counting
-mod HeadTrees
-mod Lying
-mod Read
-mod Walking
-mod Weighing
-mod Forests
-mod Ports
-mod Laying
-mod Keeping
-mod Contexts
-mod Occurrences
-mod Into
-mod Empty
-mod Back
-mod Lengths
-mod OutOf
-mod HeadFacts
-mod Numbering
-mod Wholes
-mod TypedFacts
-mod Expressions
-mod TypeConditions
-mod Values
-mod Results
-mod KindConditions
-mod WholeGuards
-mod WholeRules
-mod SolidRegions
-mod Order
-mod PartLists
-mod GroundParts
-mod PartsBack
-mod SameParts
-mod Matchings
-mod SameWholes
-mod PartLaws
-mod PartsApart
-mod PartsOut
-mod PartsLaid
-mod Functors
-mod Runs
-mod Naming
-mod KindsAsked
-mod OnePart
-mod GroundGuards
-mod EmbeddedParts
-mod ExampleReadings
+pub mod Pieces
+pub mod Counting
+pub mod HeadTrees
+pub mod Lying
+pub mod Read
+pub mod Walking
+pub mod Weighing
+pub mod Forests
+pub mod Ports
+pub mod Laying
+pub mod Keeping
+pub mod Contexts
+pub mod Occurrences
+pub mod Into
+pub mod Empty
+pub mod Back
+pub mod Lengths
+pub mod OutOf
+pub mod HeadFacts
+pub mod Numbering
+pub mod Wholes
+pub mod TypedFacts
+pub mod Expressions
+pub mod TypeConditions
+pub mod Values
+pub mod Results
+pub mod KindConditions
+pub mod WholeGuards
+pub mod WholeRules
+pub mod SolidRegions
+pub mod Order
+pub mod PartLists
+pub mod GroundParts
+pub mod PartsBack
+pub mod SameParts
+pub mod Matchings
+pub mod SameWholes
+pub mod PartLaws
+pub mod PartsApart
+pub mod PartsOut
+pub mod PartsLaid
+pub mod Functors
+pub mod Runs
+pub mod Naming
+pub mod KindsAsked
+pub mod OnePart
+pub mod GroundGuards
+pub mod EmbeddedParts
+pub mod ExampleReadings

@@ -3,7 +3,7 @@ pub mod Joins
 pub mod Steps
 pub mod Bounds
 mod Registers
-mod BodyTrees
+pub mod BodyTrees
 mod Accepted
-mod HeadContexts
+pub mod HeadContexts
 mod Nested

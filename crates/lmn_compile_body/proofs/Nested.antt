@@ -1,5 +1,5 @@
 -- An accepted rule, flattened, is one of which the laws of firing hold.
-use Rattle.std.proofs.Common.{ℕ, ◌≡◌, ◌≤◌, ◌<◌, ◌+◌, ◌⊎◌, Bool, true, false, List, [], ◌∷◌, ◌++◌, length, map, refl, ap, sym, subst, ◌∙◌, inl, inr, arith}
+use Rattle.std.proofs.Common.{ℕ, suc, Some, ◌≡◌, ◌≤◌, ◌<◌, ◌+◌, ◌⊎◌, Bool, true, false, List, [], ◌∷◌, ◌++◌, length, map, refl, ap, sym, subst, ◌∙◌, inl, inr, arith}
 use Rattle.std.specs.Prelude.{◌==◌, ◌||◌, if◌then◌else◌, Contains, All, slice_get}
 use Rattle.std.specs.List.{flat_map, list_any, AllByRecursion}
 use Rattle.std.proofs.lemmas.List.Elements.{recursion_from_All, All-from_recursion}
@@ -22,8 +22,9 @@ use Rattle.lmn_base.specs.WellMade.{FitsArity}
 use Rattle.lmn_guards.specs.declared.plan.GuardPlan.{GuardPlan}
 use Rattle.lmn_guards.specs.Accepted.{IsInOrder}
 use Rattle.lmn_guards.proofs.AcceptedLemmas.{in_order}
-use Rattle.lmn_solid.specs.Heads.{HeadMembrane, membranes_of}
-use Rattle.lmn_solid.specs.Embeddings.{HasMembrane}
+use Rattle.lmn_solid.specs.Guards.{typed_number}
+use Rattle.lmn_solid.specs.Heads.{HeadTyped, HeadMembrane, typed_contexts_of, membranes_of}
+use Rattle.lmn_solid.specs.Embeddings.{HasTyped, HasMembrane}
 use Rattle.lmn_solid.proofs.HeadTrees.{Head, head_at, head_uses, same_uses, flat_items, flat_membranes}
 use Rattle.lmn_solid.proofs.HeadTrees as trees
 use Rattle.lmn_splice.specs.Splice.{In, Distinct, often}
@@ -32,7 +33,6 @@ use Rattle.lmn_compile_head.specs.Accepted.{head_items, AcceptedHeads}
 use Rattle.lmn_compile_head.specs.Heads.{kind_in}
 use Rattle.lmn_compile_head.specs.Tables.{AllBelow}
 use Rattle.lmn_body.specs.Flattening.{membrane_named}
-use Rattle.lmn_body.specs.Items.{NoCopies}
 use Rattle.lmn_body.specs.Rules.{NestedRule, IsHeadMembrane}
 use Rattle.lmn_body.proofs.Firing.{in_often, often_in}
 use Rattle.lmn_body.proofs.HeadPorts.{in_append, in_front, in_back, in_map}
@@ -118,6 +118,16 @@ all_back P xs ys h = All-from_recursion P ys (go xs (recursion_from_All P (xs ++
     go : (xs : List Leaf) → AllByRecursion P (xs ++ ys) → AllByRecursion P ys
     go [] h = h
     go (x ∷ xs) h = go xs h.1
+
+-- the number of a name among typed contexts is that of one of them
+typed_there : (ts : List HeadTyped) (n x g : ℕ) → typed_number ts n x ≡ Some g → (i : ℕ) × (t : HeadTyped) × (g ≡ n + i) × (slice_get ts i ≡ Some t)
+typed_there [] n x g e = absurd (cc)
+typed_there (t ∷ ts) n x g e = by (t.name == x) e (typed_there ts (n + 1) x g)
+  where
+    by : (b : Bool) → (if b then Some n else typed_number ts (n + 1) x) ≡ Some g → (typed_number ts (n + 1) x ≡ Some g → (i : ℕ) × (u : HeadTyped) × (g ≡ (n + 1) + i) × (slice_get ts i ≡ Some u))
+        → (i : ℕ) × (u : HeadTyped) × (g ≡ n + i) × (slice_get (t ∷ ts) i ≡ Some u)
+    by true e later = let s : n ≡ g = (cc) in (0, t, omega (arith, s), refl)
+    by false e later = let w = later e in (suc w.0, w.1, (let k = w.2 in omega (arith, k)), w.3)
 
 module _ (heads : AcceptedHeads) (table : List RuleTree) (r : RuleTree) (plan : GuardPlan) (whole : IsWhole table r plan) where
   abbrev entries : List (ℕ × ℕ)
@@ -245,11 +255,20 @@ module _ (heads : AcceptedHeads) (table : List RuleTree) (r : RuleTree) (plan : 
         | inr j ↦ all_below (length r.links) (links_of r.body) x (below_front (length r.links) (links_of r.body) [] (below_back (length r.links) (links_of r.head) (links_of r.body ++ []) below)) j
       ]
 
-  nested : NoCopies (rule_body_items r plan) → NestedRule (head_items r plan) (rule_body_items r plan) (length r.links)
-  nested no_copies =
+  -- a name of a part is one of the typed contexts of the head
+  named : (x g : ℕ) → (rule_names r plan).part x ≡ Some g → (t : HeadTyped) × HasTyped (head_items r plan) g t
+  named x g e =
+      let w = typed_there (typed_contexts_of (head_items r plan)) 0 x g e in
+      (w.1, subst (λ k. slice_get (typed_contexts_of (head_items r plan)) k ≡ Some w.1) (sym (w.2 ∙ zero_plus w.0)) w.3)
+    where
+      zero_plus : (i : ℕ) → 0 + i ≡ i
+      zero_plus i = omega arith
+
+  nested : NestedRule (head_items r plan) (rule_body_items r plan) (length r.links)
+  nested =
       flattened_rules (kind_in plan.kinds) (rule_names r plan) r.head r.body (length r.links) whole.ready.accepted.linked low
       (all_front FitsArity (leaves_of r.head) (leaves_of r.body) whole.ready.made.arities) (all_back FitsArity (leaves_of r.head) (leaves_of r.body) whole.ready.made.arities)
-      no_copies (heads.head table r plan whole.ready).held owned rules_owned apart stands
+      named (heads.head table r plan whole.ready).held owned rules_owned apart stands
 
 pub accepted_nested : AcceptedHeads → AcceptedNested
 accepted_nested heads table r plan whole = nested heads table r plan whole

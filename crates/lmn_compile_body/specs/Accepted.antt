@@ -11,7 +11,6 @@ use Rattle.lmn_compile_head.specs.Tables.{HasFewLinks}
 use Rattle.lmn_body.specs.declared.items.BodyItem.{BodyItem}
 use Rattle.lmn_body.specs.Code.{body_code}
 use Rattle.lmn_body.specs.Flattening.{BodyNames, body_items}
-use Rattle.lmn_body.specs.Items.{NoCopies}
 use Rattle.lmn_body.specs.Rules.{NestedRule}
 use Rattle.lmn_compile_body.specs.Naming.{names_of, unnumbered, contexts_in, rule_contexts_in}
 use Rattle.lmn_compile_body.specs.Tables.{BodyFits}
@@ -47,7 +46,7 @@ pub record IsWhole (table : List RuleTree) (r : RuleTree) (plan : GuardPlan) : T
 abbrev pub AcceptedBodies : Type 0
 AcceptedBodies = (table : List RuleTree) (r : RuleTree) (plan : GuardPlan) → IsWhole table r plan → HasBodyRoom r plan
 
--- Where no typed context of the head stands in the body, each such rule, flattened, is as the laws of firing ask.
+-- Each such rule, flattened, is as the laws of firing ask.
 abbrev pub AcceptedNested : Type 0
 AcceptedNested = (table : List RuleTree) (r : RuleTree) (plan : GuardPlan) → IsWhole table r plan →
-    NoCopies (rule_body_items r plan) → NestedRule (head_items r plan) (rule_body_items r plan) (length r.links)
+    NestedRule (head_items r plan) (rule_body_items r plan) (length r.links)

@@ -19,8 +19,7 @@ pub use bodies::{body, code_of_body};
 pub use levels::flatten_body;
 use lmn_compile_head::accepted_heads;
 
-/// There is room for the code of the body of each accepted rule, and where its body has no copy of a typed context the laws
-/// of firing hold of it.
+/// There is room for the code of the body of each accepted rule, and the laws of firing hold of it.
 pub fn accepted_bodies()
     ensures room { AcceptedBodies }
     ensures nested { AcceptedNested }

@@ -13,9 +13,9 @@ pub mod Nesting
 pub mod Places
 pub mod Holding
 pub mod Bounds
-mod HeadLeaves
+pub mod HeadLeaves
 mod HeadUses
-mod PlanKinds
+pub mod PlanKinds
 mod GuardUses
 mod AcceptedHeads
 mod GuardRoom

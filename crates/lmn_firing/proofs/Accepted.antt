@@ -7,18 +7,18 @@ use Rattle.lmn_splice.specs.Ports.{Port}
 use Rattle.lmn_compile_head.specs.Accepted.{head_items, AcceptedLeast}
 use Rattle.lmn_compile_body.specs.Accepted.{IsWhole, rule_body_items, rule_body_code, AcceptedNested}
 use Rattle.lmn_body.specs.Fired.{images_of}
-use Rattle.lmn_body.specs.Items.{NoCopies}
 use Rattle.lmn_body.specs.Running.{Registers, RunsBody}
 use Rattle.lmn_body.proofs.Laws.{body_fires_within, body_can_run}
-use Rattle.lmn_body.proofs.SolidWithin.{firing_leaves_atoms}
+use Rattle.lmn_body.proofs.SolidWithin.{firing_leaves_solid, firing_leaves_atoms, copies_in_solid}
+use Rattle.lmn_body.proofs.Parts.{part_hangs}
 use Rattle.lmn_firing.specs.Accepted.{Finds, Fired, AcceptedFires}
 
-fired : AcceptedLeast → AcceptedNested → (table : List RuleTree) (r : RuleTree) (plan : GuardPlan) → IsWhole table r plan → NoCopies (rule_body_items r plan) →
+fired : AcceptedLeast → AcceptedNested → (table : List RuleTree) (r : RuleTree) (plan : GuardPlan) → IsWhole table r plan →
     (h : Heap) (m : ℕ) (s : Registers) (c : Port → ℕ) → Finds r plan h m s c → (h' : Heap) → RunsBody s (rule_body_code r plan) h h' → Fired r plan h m s c h'
-fired heads bodies table r plan whole no_copies h m s c finds h' runs =
+fired heads bodies table r plan whole h m s c finds h' runs =
     let head = head_items r plan in
     let body = rule_body_items r plan in
-    let rule = bodies table r plan whole no_copies in
+    let rule = bodies table r plan whole in
     let least = heads.least table r plan h m s.head whole.ready finds.valid finds.first in
     let f = body_fires_within head body (length r.links) rule s h finds.valid r.guard m least.embeds finds.placed c finds.named h' runs in
     record {
@@ -27,13 +27,16 @@ fired heads bodies table r plan whole no_copies h m s c finds h' runs =
       are = f.1;
       valid = f.2;
       fires = f.3;
-      solid = firing_leaves_atoms h finds.valid c s head body rule.atoms.made no_copies (images_of s head ++ f.0) h' f.3;
+      solid = firing_leaves_solid h finds.valid c s head body rule.atoms.made (images_of s head ++ f.0) h' f.3;
+      atoms = λ plain. firing_leaves_atoms h finds.valid c s head body rule.atoms.made plain (images_of s head ++ f.0) h' f.3;
+      copies = λ e i. let t = rule.atoms.copied e i in
+          copies_in_solid h finds.valid c finds.named s head body (images_of s head ++ f.0) h' f.2 f.3 e i (part_hangs h finds.valid head r.guard body (length r.links) m s rule.atoms least.embeds e.1 t.0 t.1);
     }
 
 pub accepted_fires : AcceptedLeast → AcceptedNested → AcceptedFires
 accepted_fires heads bodies = record {
   fires = fired heads bodies;
-  can_run = λ table r plan whole no_copies h m s c finds t prepared spares.
+  can_run = λ table r plan whole h m s c finds t prepared spares.
       let least = heads.least table r plan h m s.head whole.ready finds.valid finds.first in
-      body_can_run (head_items r plan) (rule_body_items r plan) (length r.links) (bodies table r plan whole no_copies) s h finds.valid r.guard m least.embeds finds.placed c finds.named t prepared spares;
+      body_can_run (head_items r plan) (rule_body_items r plan) (length r.links) (bodies table r plan whole) s h finds.valid r.guard m least.embeds finds.placed c finds.named t prepared spares;
 }

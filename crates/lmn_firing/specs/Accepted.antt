@@ -12,11 +12,15 @@ use Rattle.lmn_compile_body.specs.Accepted.{IsWhole, rule_body_items, rule_body_
 use Rattle.lmn_body.specs.Added.{added_rules}
 use Rattle.lmn_body.specs.Conditions.{CanRun}
 use Rattle.lmn_body.specs.Fired.{images_of}
-use Rattle.lmn_body.specs.Items.{NoCopies}
+use Rattle.lmn_body.specs.CopiedSolid.{IsSolidCopy}
+use Rattle.lmn_body.specs.Made.{copies_of}
+use Rattle.lmn_heap.specs.Solid.{atoms_of}
+use Rattle.lmn_splice.specs.Splice.{In}
 use Rattle.lmn_body.specs.Names.{Names}
 use Rattle.lmn_body.specs.Rules.{PartAtoms}
 use Rattle.lmn_body.specs.Running.{Registers, Prepares, RunsBody}
-use Rattle.lmn_body.specs.Within.{FiresWithin, FiredAtoms}
+use Rattle.lmn_body.specs.Within.{FiresWithin, FiredSolid, FiredAtoms}
+use Rattle.lmn_body.specs.Items.{NoCopies}
 
 -- The code of a rule that has its plan, with these registers, from a heap whose links have these numbers: its head code
 -- succeeds first with these registers in the membrane m.
@@ -30,23 +34,28 @@ pub record Finds (r : RuleTree) (plan : GuardPlan) (h : Heap) (m : ℕ) (s : Reg
 --   least         its head embeds there, at the least positions
 --   parts, are    the atoms of its typed contexts
 --   valid         the heap is valid again
---   fires, solid  its links and the lists of its membranes are those of the firing, and so are the atoms of its solid
+--   fires         its links, the lists of its membranes and its copies are those of the firing
+--   solid, atoms  and so are the atoms of its solid, which is said more shortly where the body has no copies
+--   copies        those of a copy are the atoms of its part, each link at its image
 pub record Fired (r : RuleTree) (plan : GuardPlan) (h : Heap) (m : ℕ) (s : Registers) (c : Port → ℕ) (h' : Heap) : Type 0 where
   pub least : IsLeast h (head_items r plan) r.guard m s.head.images
   pub parts : List ℕ
   pub are : PartAtoms h (head_items r plan) s.head.images parts
   pub valid : Valid h'
   pub fires : FiresWithin h c s (head_items r plan) (rule_body_items r plan) (images_of s (head_items r plan) ++ parts) h'
-  pub solid : FiredAtoms h c s (head_items r plan) (rule_body_items r plan) (images_of s (head_items r plan) ++ parts) h' fires
+  pub solid : FiredSolid h c s (head_items r plan) (rule_body_items r plan) (images_of s (head_items r plan) ++ parts) h' fires
+  pub atoms : NoCopies (rule_body_items r plan) → FiredAtoms h c s (head_items r plan) (rule_body_items r plan) (images_of s (head_items r plan) ++ parts) h' fires
+  pub copies : (e : ℕ × ℕ) → In e (copies_of 0 (rule_body_items r plan)) →
+      IsSolidCopy h c h' fires.number (s.head.images.part e.1) (s.copy e.0) (s.copied e.0) (atoms_of h' (λ a i. fires.number (a, i)) (s.copied e.0))
 
--- Where the head code of an accepted rule without copies of typed contexts first succeeds, its body code, run with the same
--- registers, fires the rule; and when the body is prepared, with enough spares for the rules that it adds, each
--- instruction can run in its turn.
+-- Where the head code of an accepted rule first succeeds, its body code, run with the same registers, fires
+-- the rule; and when the body is prepared, with enough spares for the rules that it adds, each instruction can run in its
+-- turn.
 pub record AcceptedFires : Type 0 where
-  pub fires : (table : List RuleTree) (r : RuleTree) (plan : GuardPlan) → IsWhole table r plan → NoCopies (rule_body_items r plan) →
+  pub fires : (table : List RuleTree) (r : RuleTree) (plan : GuardPlan) → IsWhole table r plan →
       (h : Heap) (m : ℕ) (s : Registers) (c : Port → ℕ) → Finds r plan h m s c →
       (h' : Heap) → RunsBody s (rule_body_code r plan) h h' → Fired r plan h m s c h'
-  pub can_run : (table : List RuleTree) (r : RuleTree) (plan : GuardPlan) → IsWhole table r plan → NoCopies (rule_body_items r plan) →
+  pub can_run : (table : List RuleTree) (r : RuleTree) (plan : GuardPlan) → IsWhole table r plan →
       (h : Heap) (m : ℕ) (s : Registers) (c : Port → ℕ) → Finds r plan h m s c →
       (t : Heap) → Prepares s (rule_body_code r plan) h t →
       ((x : ℕ) → length (added_rules s (rules_in h) (rule_body_items r plan) x) ≤ spare_of t x) → CanRun s (rule_body_code r plan) t

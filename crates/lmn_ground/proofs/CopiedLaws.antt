@@ -6,11 +6,10 @@ use Rattle.std.specs.Result.{IfOk, OnErr}
 use Rattle.std.specs.Prelude.{slice_get, slice_index_or, replicate}
 use Rattle.lmn_base.specs.declared.functor.Functor.{Functor}
 use Rattle.lmn_base.specs.Graphs.{Reached, at_root, across, SameGraph}
-use Rattle.lmn_heap.specs.Heap.{Heap, HeapAtom, In, Distinct, waiting, IsAtom, with_link, new_atom, links_of, marks_of, functor_of, link_of, arity_of, place_of, joined}
+use Rattle.lmn_heap.specs.Heap.{Heap, HeapAtom, In, waiting, IsAtom, with_link, new_atom, links_of, marks_of, functor_of, link_of, arity_of, place_of, joined}
 use Rattle.lmn_heap.specs.Conditions.{Alone}
 use Rattle.lmn_heap.specs.Sound.{Paired, Sound}
 use Rattle.lmn_heap.specs.Graphs.{atom_map}
-use Rattle.lmn_heap.proofs.ListLemmas.{each_in}
 use Rattle.lmn_ground.specs.Walks.{HasPort, Net, net, ports, IsPart}
 use Rattle.lmn_ground.specs.Marks.{paint, painted, first_marks}
 use Rattle.lmn_ground.specs.Spread.{IsWhole, Numbered}
@@ -20,7 +19,8 @@ use Rattle.lmn_ground.proofs.WalkLaws.{holds_left, holds_right, holds_port}
 use Rattle.lmn_ground.proofs.PaintLaws.{net_painted, is_painted, in_or_not}
 use Rattle.lmn_ground.proofs.SpreadLaws.{link_inside, part_reached}
 use Rattle.lmn_ground.proofs.GroundLaws.{part_atoms}
-use Rattle.lmn_ground.proofs.EqualLaws.{answer_here, answer_on, answer_in, answer_one, answer_onto, same_pair}
+use Rattle.lmn_ground.proofs.EqualLaws.{answer_here, answer_in, answer_one, answer_onto, same_pair}
+use Rattle.lmn_parts.proofs.AnswerLaws.{map_answer}
 use Rattle.lmn_ground.proofs.NumberLaws.{begins, numbered_same}
 use Rattle.lmn_ground.proofs.FollowLaws.{walked}
 use Rattle.lmn_ground.proofs.JoinLaws.{like_by, all_view, all_marks, all_copying, all_away, all_joins}
@@ -197,18 +197,6 @@ ports_of_in : (s : Heap) (xs all : List ℕ) → ((x : ℕ) → In x xs → In x
 ports_of_in s [] all h p k = absurd k
 ports_of_in s (x ∷ xs) all h p k = ports_within all x 0 (arity_of s x) (ports_of s xs) p (h x (inl refl)) (λ m. ports_of_in s xs all (λ z i. h z (inr i)) p m) k
 
-map_answer : (xs ys : List ℕ) → Distinct xs → length ys ≡ length xs → map (answer xs ys) xs ≡ ys
-map_answer [] [] d l = refl
-map_answer [] (y ∷ ys) d l = absurd (omega arith)
-map_answer (x ∷ xs) [] d l = absurd (omega arith)
-map_answer (x ∷ xs) (y ∷ ys) d l =
-    ap (λ z. z ∷ map (answer (x ∷ xs) (y ∷ ys)) xs) (answer_here x y xs ys x refl)
-    ∙ ap (λ zs. y ∷ zs) (same xs (λ z k. answer_on x y xs ys z (each_in (λ (w : ℕ). x ≢ w) xs z d.0 k)) ∙ map_answer xs ys d.1 (omega (arith, l)))
-  where
-    same : (zs : List ℕ) → ((z : ℕ) → In z zs → answer (x ∷ xs) (y ∷ ys) z ≡ answer xs ys z) → map (answer (x ∷ xs) (y ∷ ys)) zs ≡ map (answer xs ys) zs
-    same [] h = refl
-    same (z ∷ zs) h = ap (λ w. w ∷ map (answer (x ∷ xs) (y ∷ ys)) zs) (h z (inl refl)) ∙ ap (λ ws. answer xs ys z ∷ ws) (same zs (λ w k. h w (inr k)))
-
 module _ (s : Heap) (root : ℕ × ℕ) (xs ys : List ℕ) (sound : Sound s) (full : IsWhole s root None) (part : IsPart s root xs) (there : AllAtoms s xs) (fresh : AreNew s ys)
     (long : length ys ≡ length xs) (outside : LeadsOut s root) where
   abbrev start : Heap
@@ -311,6 +299,10 @@ module _ (s : Heap) (root : ℕ × ℕ) (xs ys : List ℕ) (sound : Sound s) (fu
     joined = λ a b i j r q. (forth a b i j (in_xs a r) (in_xs b q), back a b i j (in_xs a r) (in_xs b q));
     root = refl;
   }
+
+  pub answers_are : (a : ℕ) → copied_same.to a ≡ answer xs ys a
+  unfolding copied_same
+  answers_are a = refl
 
   pub copied_part : IsPart t new_root ys
   unfolding copied_same
@@ -438,13 +430,17 @@ module _ (s now : Heap) (xs : List ℕ) (marks : Numbers s now xs) where
           ap (λ (h : Heap). unmarked_all h xs) e
           ∙ unmarked_painted (copied s root xs ys) marks.marks xs
           (λ x k. all_marks (answer xs ys) root (made_like s xs ys) (ports_of (made_like s xs ys) xs) x 0 ∙ old_marks ys made.fresh x k) marks.outside in
+          let same = subst (λ (h : Heap). (g : SameGraph (atom_map s) root (atom_map h) (answer xs ys root.0, root.1)) × ((a : ℕ) → g.to a ≡ answer xs ys a)) (sym f)
+          (copied_same s root xs ys sound full found.part marks.there fresh long outside, answers_are s root xs ys sound full found.part marks.there fresh long outside) in
           record {
             atoms = xs;
             copies = ys;
             part = found.part;
             is = f;
             beside = subst (λ (h : Heap). Beside s h ys) (sym f) (copied_beside s root xs ys sound full found.part marks.there fresh long outside);
-            same = subst (λ (h : Heap). SameGraph (atom_map s) root (atom_map h) (answer xs ys root.0, root.1)) (sym f) (copied_same s root xs ys sound full found.part marks.there fresh long outside);
+            same = same.0;
+            long = long;
+            answers = same.1;
             in_order = subst (λ (h : Heap). IsPart h (answer xs ys root.0, root.1) ys) (sym f) (copied_part s root xs ys sound full found.part marks.there fresh long outside);
             free = subst (λ (h : Heap). link_of h (answer xs ys root.0) root.1 ≡ None) (sym f) (copied_free s root xs ys sound full found.part marks.there fresh long outside);
           }

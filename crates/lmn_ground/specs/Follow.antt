@@ -1,17 +1,12 @@
 -- Two parts that are walked in step: the first walk gives numbers to the atoms of y's part; the second goes through x's part and
 -- compares.
-use Rattle.std.specs.Prelude.{ℕ, ◌≡◌, ◌⊎◌, ◌<◌, ◌==◌, true, List, [], ◌∷◌, Some, None, if◌then◌else◌, length}
+use Rattle.std.specs.Prelude.{ℕ, ◌≡◌, ◌⊎◌, ◌<◌, true, List, Some, None, length}
 use Rattle.lmn_heap.specs.Heap.{Heap, In, arity_of, link_of, functor_of}
 use Rattle.lmn_heap.specs.Sound.{Sound}
+pub use Rattle.lmn_parts.specs.Copies.{answer}
 use Rattle.lmn_ground.specs.Walks.{HasPort, net, Walk, next, IsPart}
 use Rattle.lmn_ground.specs.Marks.{first_marks, ahead}
 use Rattle.lmn_ground.specs.Spread.{IsWhole, Numbered, Spreading}
-
--- The atom of ys that stands where a stands in xs.
-abbrev pub answer : List ℕ → List ℕ → ℕ → ℕ
-answer [] ys a = 0
-answer (x ∷ xs) [] a = 0
-answer (x ∷ xs) (y ∷ ys) a = if x == a then y else answer xs ys a
 
 -- a port and its answer lead to a port and its answer
 abbrev pub SameEnd : Heap → List ℕ → List ℕ → ℕ → ℕ → Type 0

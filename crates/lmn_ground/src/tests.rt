@@ -395,6 +395,99 @@ fn heaps_are_written_out(rt: HostRuntime) -> Result<(), NoMemory> {
     is_written(&rt, &store, 6, TAKEN.as_slice())
 }
 
+/// A line of `written`: an atom of this name, with its home, what its ports are joined to, and its own mark. No port is
+/// marked.
+fn push_atom(
+    text: &mut Rows<u64>,
+    name: u64,
+    home: u64,
+    partners: &[(u64, u64)],
+    own: u64,
+) -> Result<(), NoMemory> {
+    text.push(name)?;
+    text.push(home)?;
+    for (b, j) in partners {
+        text.push(*b)?;
+        text.push(*j)?;
+        text.push(0)?;
+    }
+    text.push(own)
+}
+
+/// The same without an own mark.
+fn push_line(
+    text: &mut Rows<u64>,
+    name: u64,
+    home: u64,
+    partners: &[(u64, u64)],
+) -> Result<(), NoMemory> {
+    push_atom(text, name, home, partners, 0)
+}
+
+/// The lines of a list as `list` makes it in an empty store: the end is atom 0, cell k is atom 2k + 1 and holds atom 2k + 2.
+fn push_list(text: &mut Rows<u64>, cells: u32, home: u64) -> Result<(), NoMemory> {
+    push_line(text, 6, home, [(2, 2)].as_slice())?;
+    for k in 0..cells {
+        let at = 2 * u64::from(k);
+        let rest = if k == 0 { (1, 1) } else { (at, 3) };
+        let root = if k + 1 == cells { (0, 0) } else { (at + 4, 2) };
+        push_line(text, 4, home, [(at + 3, 1), rest, root].as_slice())?;
+        push_line(text, 5, home, [(at + 2, 1)].as_slice())?;
+    }
+    Ok(())
+}
+
+/// The lines of its copy, which waits: each cell, then what it holds, from the root on, and the end last.
+fn push_copy(text: &mut Rows<u64>, cells: u32) -> Result<(), NoMemory> {
+    let first = 2 * u64::from(cells) + 1;
+    for i in 0..cells {
+        let at = first + 2 * u64::from(i);
+        let rest = if i + 1 == cells { 1 } else { 3 };
+        let root = if i == 0 { (0, 0) } else { (at - 1, 2) };
+        push_line(text, 4, 0, [(at + 2, 1), (at + 3, rest), root].as_slice())?;
+        push_line(text, 5, 0, [(at + 1, 1)].as_slice())?;
+    }
+    push_line(text, 6, 0, [(2 * first - 2, 2)].as_slice())
+}
+
+/// The whole heap of a list of 1,000 cells before and after each call.
+#[test]
+fn lists_are_written_out(rt: HostRuntime) -> Result<(), NoMemory> {
+    let cells = 1000;
+    let mut store = new_store(&rt)?;
+    let m = membrane(&rt, &mut store)?;
+    let x = list(&rt, &mut store, m, cells)?;
+    let mut text = Rows::new(rt.alloc());
+    push_list(&mut text, cells, 2)?;
+    is_written(&rt, &store, 2001, text.as_slice())?;
+    holds(&rt, grounds(&rt, &mut store, x, m));
+    is_written(&rt, &store, 2001, text.as_slice())?;
+    holds(&rt, size(&rt, &mut store, x, m) == 2001);
+    is_written(&rt, &store, 2001, text.as_slice())?;
+    let y = copied(&rt, &mut store, x, m)?;
+    holds(&rt, y == (2001, 2));
+    push_copy(&mut text, cells)?;
+    is_written(&rt, &store, 4002, text.as_slice())?;
+    take(&rt, &mut store, x, m);
+    let mut taken = Rows::new(rt.alloc());
+    push_list(&mut taken, cells, 0)?;
+    push_copy(&mut taken, cells)?;
+    is_written(&rt, &store, 4002, taken.as_slice())
+}
+
+/// Two lists are equal, and the heap is as it was.
+#[test]
+fn equal_lists_stay(rt: HostRuntime) -> Result<(), NoMemory> {
+    let mut store = new_store(&rt)?;
+    let m = membrane(&rt, &mut store)?;
+    let n = membrane(&rt, &mut store)?;
+    let x = list(&rt, &mut store, m, 1000)?;
+    let y = list(&rt, &mut store, n, 1000)?;
+    let before = written(&rt, &store, 4002)?;
+    holds(&rt, equals(&rt, &mut store, x, m, y, n));
+    is_written(&rt, &store, 4002, before.as_slice())
+}
+
 /// Cycles: equal ones, and ones that differ in the ports of one link. A copy is joined as the original.
 #[test]
 fn cycles(rt: HostRuntime) -> Result<(), NoMemory> {
@@ -418,8 +511,18 @@ fn cycles(rt: HostRuntime) -> Result<(), NoMemory> {
     Ok(())
 }
 
+/// The lines of a head and what stands round it: `back`, to which two links of the head lead; `near`, a link of which goes
+/// through a wall to `far`; and `lone`, a part of one atom in the membrane of `far`.
+fn push_scene(text: &mut Rows<u64>, own: u64, home_of_far: u64) -> Result<(), NoMemory> {
+    push_atom(text, 4, 1, [(2, 1), (2, 2)].as_slice(), own)?;
+    push_line(text, 5, 1, [(1, 1), (1, 2)].as_slice())?;
+    push_line(text, 5, 1, [(0, 0), (4, 1)].as_slice())?;
+    push_line(text, 6, home_of_far, [(3, 2)].as_slice())?;
+    push_line(text, 6, 2, [(0, 0)].as_slice())
+}
+
 /// A part of one atom; and what isn't ground: a part that leads back to the head by a second link, and one that goes
-/// through a wall.
+/// through a wall. The whole heap before and after each call.
 #[test]
 fn heads_and_walls(rt: HostRuntime) -> Result<(), NoMemory> {
     let mut store = new_store(&rt)?;
@@ -427,18 +530,37 @@ fn heads_and_walls(rt: HostRuntime) -> Result<(), NoMemory> {
     let m = membrane(&rt, &mut store)?;
     let head = atom(&rt, &mut store, root, functor(4, 2))?;
     let back = atom(&rt, &mut store, root, functor(5, 2))?;
-    join(&rt, &mut store, head, 0, back, 0);
-    join(&rt, &mut store, head, 1, back, 1);
-    holds(&rt, grounds(&rt, &mut store, (back, 0), root));
-    match_atom(&rt, &mut store, head);
-    holds(&rt, !grounds(&rt, &mut store, (back, 0), root));
     let near = atom(&rt, &mut store, root, functor(5, 2))?;
     let far = atom(&rt, &mut store, m, functor(6, 1))?;
+    let lone = atom(&rt, &mut store, m, functor(6, 1))?;
+    join(&rt, &mut store, head, 0, back, 0);
+    join(&rt, &mut store, head, 1, back, 1);
     join(&rt, &mut store, near, 1, far, 0);
+    let mut text = Rows::new(rt.alloc());
+    push_scene(&mut text, 0, 2)?;
+    is_written(&rt, &store, 5, text.as_slice())?;
+    holds(&rt, grounds(&rt, &mut store, (back, 0), root));
+    is_written(&rt, &store, 5, text.as_slice())?;
+    match_atom(&rt, &mut store, head);
+    let mut matched = Rows::new(rt.alloc());
+    push_scene(&mut matched, 1, 2)?;
+    is_written(&rt, &store, 5, matched.as_slice())?;
+    holds(&rt, !grounds(&rt, &mut store, (back, 0), root));
+    is_written(&rt, &store, 5, matched.as_slice())?;
     holds(&rt, !grounds(&rt, &mut store, (near, 0), root));
+    is_written(&rt, &store, 5, matched.as_slice())?;
     holds(&rt, !grounds(&rt, &mut store, (near, 0), m));
+    is_written(&rt, &store, 5, matched.as_slice())?;
     holds(&rt, size(&rt, &mut store, (far, 0), m) == 1);
+    is_written(&rt, &store, 5, matched.as_slice())?;
     take(&rt, &mut store, (far, 0), m);
-    holds(&rt, count(&rt, &store, m) == 0);
+    let mut taken = Rows::new(rt.alloc());
+    push_scene(&mut taken, 1, 0)?;
+    is_written(&rt, &store, 5, taken.as_slice())?;
+    let c = copied(&rt, &mut store, (lone, 0), m)?;
+    holds(&rt, c == (5, 0));
+    push_line(&mut taken, 6, 0, [(0, 0)].as_slice())?;
+    is_written(&rt, &store, 6, taken.as_slice())?;
+    holds(&rt, count(&rt, &store, m) == 1);
     Ok(())
 }

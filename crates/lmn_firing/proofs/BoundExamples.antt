@@ -1,0 +1,6 @@
+-- What small guards bind.
+use Rattle.std.proofs.Common.{refl}
+use Rattle.lmn_firing.specs.BoundExamples.{BindsFromLeft}
+
+pub binds_from_left : BindsFromLeft
+binds_from_left = record { bound = λ h p. refl; not_bound = λ h p q. refl }
