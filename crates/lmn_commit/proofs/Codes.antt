@@ -6,8 +6,7 @@ use Rattle.lmn_instr.specs.declared.instr.NewPort.TheVariants as new
 use Rattle.lmn_instr.specs.declared.instr.Instr.{Instr}
 use Rattle.lmn_instr.specs.declared.instr.Instr.TheVariants.{RemoveAtom, RemovePart, RemoveMem, NewAtom, NewInt, NewMem, CopyGround, MoveCells, LoadRule, CopyRules, NewLink, Relink, Unify, Proceed}
 use Rattle.lmn_body.specs.Running.{Registers}
-use Rattle.lmn_body.specs.Stopping.{NoCopying}
-use Rattle.lmn_commit.specs.Preparing.{Uses, UsesPort, AllUse, Reads, needed, needed_by, atoms_made, membranes_made}
+use Rattle.lmn_commit.specs.Preparing.{Uses, UsesPort, AllUse, Reads, needed, needed_by, atoms_made, membranes_made, copies_made}
 
 -- Lists
 
@@ -15,6 +14,11 @@ pub read_at : {A : Type 0} (xs : List A) (i : ℕ) (x : A) → i < length xs →
 read_at [] i x l e = absurd (omega arith)
 read_at (z ∷ xs) zero x l e = ap (λ w. Some w) (sym e)
 read_at (z ∷ xs) (suc i) x l e = read_at xs i x (omega arith) e
+
+pub get_below : {A : Type 0} (xs : List A) (k : ℕ) (x : A) → slice_get xs k ≡ Some x → k < length xs
+get_below [] k x e = absurd (cc)
+get_below (y ∷ xs) zero x e = omega arith
+get_below (y ∷ xs) (suc k) x e = let l = get_below xs k x e in omega (arith, l)
 
 pub drop_get : {A : Type 0} (k : ℕ) (xs : List A) (x : A) → slice_get xs k ≡ Some x → drop k xs ≡ x ∷ drop (k + 1) xs
 drop_get k [] x e = absurd (cc)
@@ -62,77 +66,59 @@ length_one (y ∷ xs) x = let k = length_one xs x in omega (arith, k)
 
 -- Registers that code uses
 
-port_more : (a b : ℕ) → a ≤ b → (p : NewPort) → UsesPort a p → UsesPort b p
-port_more a b l (new.Atom p) u = let v : p.atom < a = u in omega (arith, v)
-port_more a b l (new.Copy c) u = absurd u
+port_more : (a b c d : ℕ) → a ≤ b → c ≤ d → (p : NewPort) → UsesPort a c p → UsesPort b d p
+port_more a b c d l k (new.Atom p) u = let v : p.atom < a = u in omega (arith, v)
+port_more a b c d l k (new.Copy x) u = let v : x < c = u in omega (arith, v)
 
-uses_more : (a b m n g : ℕ) → a ≤ b → m ≤ n → (i : Instr) → Uses a m g i → Uses b n g i
-uses_more a b m n g l k (RemoveAtom x) u = let v : x < a = u in omega (arith, v)
-uses_more a b m n g l k (RemovePart x) u = u
-uses_more a b m n g l k (RemoveMem x) u = let v : x < m = u in omega (arith, v)
-uses_more a b m n g l k (NewAtom x y f) u = let v = u.0 in let w = u.1 in (omega (arith, v), omega (arith, w))
-uses_more a b m n g l k (NewInt x y z) u = let v = u.0 in let w = u.1 in (omega (arith, v), omega (arith, w))
-uses_more a b m n g l k (NewMem x y) u = let v = u.0 in let w = u.1 in (omega (arith, v), omega (arith, w))
-uses_more a b m n g l k (CopyGround x y z) u = absurd u
-uses_more a b m n g l k (MoveCells x y) u = let v = u.0 in let w = u.1 in (omega (arith, v), omega (arith, w))
-uses_more a b m n g l k (LoadRule x y) u = let v : x < m = u in omega (arith, v)
-uses_more a b m n g l k (CopyRules x y) u = let v = u.0 in let w = u.1 in (omega (arith, v), omega (arith, w))
-uses_more a b m n g l k (NewLink p q) u = (port_more a b l p u.0, port_more a b l q u.1)
-uses_more a b m n g l k (Relink p h) u = let w = u.1 in (port_more a b l p u.0, omega (arith, w))
-uses_more a b m n g l k (Unify p h) u = let v = u.0 in let w = u.1 in (omega (arith, v), omega (arith, w))
-uses_more a b m n g l k Proceed u = tt
-uses_more a b m n g l k _ u = absurd u
+uses_more : (a b m n g c d : ℕ) → a ≤ b → m ≤ n → c ≤ d → (i : Instr) → Uses a m g c i → Uses b n g d i
+uses_more a b m n g c d l k e (RemoveAtom x) u = let v : x < a = u in omega (arith, v)
+uses_more a b m n g c d l k e (RemovePart x) u = u
+uses_more a b m n g c d l k e (RemoveMem x) u = let v : x < m = u in omega (arith, v)
+uses_more a b m n g c d l k e (NewAtom x y f) u = let v = u.0 in let w = u.1 in (omega (arith, v), omega (arith, w))
+uses_more a b m n g c d l k e (NewInt x y z) u = let v = u.0 in let w = u.1 in (omega (arith, v), omega (arith, w))
+uses_more a b m n g c d l k e (NewMem x y) u = let v = u.0 in let w = u.1 in (omega (arith, v), omega (arith, w))
+uses_more a b m n g c d l k e (CopyGround x y z) u = let v = u.0 in let w = u.1 in (omega (arith, v), omega (arith, w), u.2)
+uses_more a b m n g c d l k e (MoveCells x y) u = let v = u.0 in let w = u.1 in (omega (arith, v), omega (arith, w))
+uses_more a b m n g c d l k e (LoadRule x y) u = let v : x < m = u in omega (arith, v)
+uses_more a b m n g c d l k e (CopyRules x y) u = let v = u.0 in let w = u.1 in (omega (arith, v), omega (arith, w))
+uses_more a b m n g c d l k e (NewLink p q) u = (port_more a b c d l e p u.0, port_more a b c d l e q u.1)
+uses_more a b m n g c d l k e (Relink p h) u = let w = u.1 in (port_more a b c d l e p u.0, omega (arith, w))
+uses_more a b m n g c d l k e (Unify p h) u = let v = u.0 in let w = u.1 in (omega (arith, v), omega (arith, w))
+uses_more a b m n g c d l k e Proceed u = tt
+uses_more a b m n g c d l k e _ u = absurd u
 
-pub all_use_more : (a b m n g : ℕ) → a ≤ b → m ≤ n → (is : List Instr) → AllUse a m g is → AllUse b n g is
-all_use_more a b m n g l k [] u = tt
-all_use_more a b m n g l k (i ∷ is) u = (uses_more a b m n g l k i u.0, all_use_more a b m n g l k is u.1)
+pub all_use_more : (a b m n g c d : ℕ) → a ≤ b → m ≤ n → c ≤ d → (is : List Instr) → AllUse a m g c is → AllUse b n g d is
+all_use_more a b m n g c d l k e [] u = tt
+all_use_more a b m n g c d l k e (i ∷ is) u = (uses_more a b m n g c d l k e i u.0, all_use_more a b m n g c d l k e is u.1)
 
-pub use_one_more : (a m g : ℕ) (is : List Instr) (i : Instr) → AllUse a m g is → Uses a m g i → AllUse a m g (is ++ i ∷ [])
-use_one_more a m g [] i u v = (v, tt)
-use_one_more a m g (j ∷ is) i u v = (u.0, use_one_more a m g is i u.1 v)
+pub use_one_more : (a m g c : ℕ) (is : List Instr) (i : Instr) → AllUse a m g c is → Uses a m g c i → AllUse a m g c (is ++ i ∷ [])
+use_one_more a m g c [] i u v = (v, tt)
+use_one_more a m g c (j ∷ is) i u v = (u.0, use_one_more a m g c is i u.1 v)
 
 -- what an instruction reads and sets it uses, when it has set it
-pub reads_uses : (a m g v : ℕ) (i : Instr) → Reads a m g v i → Uses (a + atoms_made i) (m + membranes_made i) g i
-reads_uses a m g v (NewAtom x y f) u = let e = u.0.0 in let w = u.1 in (omega (arith, e), omega (arith, w))
-reads_uses a m g v (NewInt x y z) u = let e = u.0.0 in let w = u.1 in (omega (arith, e), omega (arith, w))
-reads_uses a m g v (NewMem x y) u = let e = u.0.0 in let w = u.1 in (omega (arith, e), omega (arith, w))
-reads_uses a m g v (RemoveAtom x) u = uses_more a (a + 0) m (m + 0) g (omega arith) (omega arith) (RemoveAtom x) u
-reads_uses a m g v (RemovePart x) u = u
-reads_uses a m g v (RemoveMem x) u = uses_more a (a + 0) m (m + 0) g (omega arith) (omega arith) (RemoveMem x) u
-reads_uses a m g v (CopyGround x y z) u = absurd u
-reads_uses a m g v (MoveCells x y) u = uses_more a (a + 0) m (m + 0) g (omega arith) (omega arith) (MoveCells x y) u
-reads_uses a m g v (LoadRule x y) u = uses_more a (a + 0) m (m + 0) g (omega arith) (omega arith) (LoadRule x y) u
-reads_uses a m g v (CopyRules x y) u = uses_more a (a + 0) m (m + 0) g (omega arith) (omega arith) (CopyRules x y) u
-reads_uses a m g v (NewLink p q) u = uses_more a (a + 0) m (m + 0) g (omega arith) (omega arith) (NewLink p q) u
-reads_uses a m g v (Relink p h) u = uses_more a (a + 0) m (m + 0) g (omega arith) (omega arith) (Relink p h) u
-reads_uses a m g v (Unify p h) u = uses_more a (a + 0) m (m + 0) g (omega arith) (omega arith) (Unify p h) u
-reads_uses a m g v Proceed u = tt
-reads_uses a m g v _ u = absurd u
+pub reads_uses : (a m g v c : ℕ) (i : Instr) → Reads a m g v c i → Uses (a + atoms_made i) (m + membranes_made i) g (c + copies_made i) i
+reads_uses a m g v c (NewAtom x y f) u = let e = u.0.0 in let w = u.1 in (omega (arith, e), omega (arith, w))
+reads_uses a m g v c (NewInt x y z) u = let e = u.0.0 in let w = u.1 in (omega (arith, e), omega (arith, w))
+reads_uses a m g v c (NewMem x y) u = let e = u.0.0 in let w = u.1 in (omega (arith, e), omega (arith, w))
+reads_uses a m g v c (CopyGround x y z) u = let e = u.0.0 in let w = u.1 in (omega (arith, e), omega (arith, w), u.2)
+reads_uses a m g v c (RemoveAtom x) u = uses_more a (a + 0) m (m + 0) g c (c + 0) (omega arith) (omega arith) (omega arith) (RemoveAtom x) u
+reads_uses a m g v c (RemovePart x) u = u
+reads_uses a m g v c (RemoveMem x) u = uses_more a (a + 0) m (m + 0) g c (c + 0) (omega arith) (omega arith) (omega arith) (RemoveMem x) u
+reads_uses a m g v c (MoveCells x y) u = uses_more a (a + 0) m (m + 0) g c (c + 0) (omega arith) (omega arith) (omega arith) (MoveCells x y) u
+reads_uses a m g v c (LoadRule x y) u = uses_more a (a + 0) m (m + 0) g c (c + 0) (omega arith) (omega arith) (omega arith) (LoadRule x y) u
+reads_uses a m g v c (CopyRules x y) u = uses_more a (a + 0) m (m + 0) g c (c + 0) (omega arith) (omega arith) (omega arith) (CopyRules x y) u
+reads_uses a m g v c (NewLink p q) u = uses_more a (a + 0) m (m + 0) g c (c + 0) (omega arith) (omega arith) (omega arith) (NewLink p q) u
+reads_uses a m g v c (Relink p h) u = uses_more a (a + 0) m (m + 0) g c (c + 0) (omega arith) (omega arith) (omega arith) (Relink p h) u
+reads_uses a m g v c (Unify p h) u = uses_more a (a + 0) m (m + 0) g c (c + 0) (omega arith) (omega arith) (omega arith) (Unify p h) u
+reads_uses a m g v c Proceed u = tt
+reads_uses a m g v c _ u = absurd u
 
 -- an instruction of code that uses registers
-pub use_at : (a m g k n : ℕ) (is : List Instr) (i : Instr) → AllUse a m g (take n is) → k < n → slice_get is k ≡ Some i → Uses a m g i
-use_at a m g k n [] i u l e = absurd (cc)
-use_at a m g k zero (j ∷ is) i u l e = absurd (omega arith)
-use_at a m g zero (suc n) (j ∷ is) i u l e = let t : j ≡ i = cc in subst (λ x. Uses a m g x) t u.0
-use_at a m g (suc k) (suc n) (j ∷ is) i u l e = use_at a m g k n is i u.1 (omega arith) e
-
-pub none_copies : (a m g : ℕ) (is : List Instr) → AllUse a m g is → NoCopying is
-none_copies a m g [] u = tt
-none_copies a m g (CopyGround x y z ∷ is) u = absurd u.0
-none_copies a m g (RemoveAtom x ∷ is) u = (λ t. t, none_copies a m g is u.1)
-none_copies a m g (RemovePart x ∷ is) u = (λ t. t, none_copies a m g is u.1)
-none_copies a m g (RemoveMem x ∷ is) u = (λ t. t, none_copies a m g is u.1)
-none_copies a m g (NewAtom x y f ∷ is) u = (λ t. t, none_copies a m g is u.1)
-none_copies a m g (NewInt x y z ∷ is) u = (λ t. t, none_copies a m g is u.1)
-none_copies a m g (NewMem x y ∷ is) u = (λ t. t, none_copies a m g is u.1)
-none_copies a m g (MoveCells x y ∷ is) u = (λ t. t, none_copies a m g is u.1)
-none_copies a m g (LoadRule x y ∷ is) u = (λ t. t, none_copies a m g is u.1)
-none_copies a m g (CopyRules x y ∷ is) u = (λ t. t, none_copies a m g is u.1)
-none_copies a m g (NewLink p q ∷ is) u = (λ t. t, none_copies a m g is u.1)
-none_copies a m g (Relink p h ∷ is) u = (λ t. t, none_copies a m g is u.1)
-none_copies a m g (Unify p h ∷ is) u = (λ t. t, none_copies a m g is u.1)
-none_copies a m g (Proceed ∷ is) u = (λ t. t, none_copies a m g is u.1)
-none_copies a m g (_ ∷ is) u = absurd u.0
+pub use_at : (a m g c k n : ℕ) (is : List Instr) (i : Instr) → AllUse a m g c (take n is) → k < n → slice_get is k ≡ Some i → Uses a m g c i
+use_at a m g c k n [] i u l e = absurd (cc)
+use_at a m g c k zero (j ∷ is) i u l e = absurd (omega arith)
+use_at a m g c zero (suc n) (j ∷ is) i u l e = let t : j ≡ i = cc in subst (λ x. Uses a m g c x) t u.0
+use_at a m g c (suc k) (suc n) (j ∷ is) i u l e = use_at a m g c k n is i u.1 (omega arith) e
 
 -- Room for rules
 
@@ -140,7 +126,7 @@ pub needed_more : (r : Registers) (rules : ℕ → List ℕ) (is : List Instr) (
 needed_more r rules [] i x = omega arith
 needed_more r rules (j ∷ is) i x = let t = needed_more r rules is i x in omega (arith, t)
 
-pub used_at : (a m g k : ℕ) (is : List Instr) (i : Instr) → AllUse a m g is → slice_get is k ≡ Some i → Uses a m g i
-used_at a m g k [] i u e = absurd (cc)
-used_at a m g zero (j ∷ is) i u e = let t : j ≡ i = cc in subst (λ x. Uses a m g x) t u.0
-used_at a m g (suc k) (j ∷ is) i u e = used_at a m g k is i u.1 e
+pub used_at : (a m g c k : ℕ) (is : List Instr) (i : Instr) → AllUse a m g c is → slice_get is k ≡ Some i → Uses a m g c i
+used_at a m g c k [] i u e = absurd (cc)
+used_at a m g c zero (j ∷ is) i u e = let t : j ≡ i = cc in subst (λ x. Uses a m g c x) t u.0
+used_at a m g c (suc k) (j ∷ is) i u e = used_at a m g c k is i u.1 e

@@ -1,18 +1,19 @@
 -- Code that is committed, one instruction after the other.
-use Rattle.std.proofs.Common.{ℕ, ◌≡◌, List, [], ◌∷◌, Some, refl, sym, subst, ◌∙◌}
+use Rattle.std.proofs.Common.{ℕ, ◌≡◌, List, [], ◌∷◌, ◌++◌, map, length, Some, refl, ap, sym, subst, ◌∙◌}
 use Rattle.std.specs.Prelude.{slice_get}
 use Rattle.std.specs.Prelude.{◌↔◌}
 use Rattle.lmn_base.specs.Graphs.{Reached}
 use Rattle.lmn_heap.specs.Graphs.{atom_map}
-use Rattle.lmn_heap.specs.Heap.{Heap, In, Distinct, port_id}
+use Rattle.lmn_heap.specs.Heap.{Heap, In, Distinct, IsMemInPlace, port_id}
 use Rattle.lmn_ground.specs.Walks.{IsPart}
 use Rattle.lmn_ground.specs.Spread.{taken_all}
 use Rattle.lmn_ground.proofs.GroundLaws.{part_atoms}
 use Rattle.lmn_instr.specs.declared.instr.Instr.{Instr}
-use Rattle.lmn_instr.specs.declared.instr.Instr.TheVariants.{RemovePart}
-use Rattle.lmn_body.specs.Running.{Registers, Does, Commits, all_taken}
+use Rattle.lmn_instr.specs.declared.instr.Instr.TheVariants.{RemovePart, CopyGround}
+use Rattle.lmn_body.specs.Running.{Registers, Does, Commits, all_taken, all_placed}
 use Rattle.lmn_body.specs.Conditions.{Can}
-use Rattle.lmn_commit.specs.declared.registers.SetRegisters.{SetRegisters}
+use Rattle.lmn_registers.specs.declared.registers.PartCopy.{PartCopy}
+use Rattle.lmn_registers.specs.declared.registers.SetRegisters.{SetRegisters}
 use Rattle.lmn_commit.specs.Registers.{Agrees}
 use Rattle.lmn_commit.specs.Committing.{Runs, Stands}
 
@@ -28,6 +29,24 @@ module _ {A M : Type 0} (atom : A → ℕ) (membrane : M → ℕ) (g : SetRegist
       let found = part_atoms s (atom p.0, p.1) all part in
       subst (λ j. Does r j s t) (sym e)
       (subst (λ q. (ns : List ℕ) × Distinct ns × ((b : ℕ) → In b ns ↔ Reached (atom_map s) q b) × (t ≡ all_taken s ns)) (sym root) (all, found.0, found.1, is ∙ same_taken all s))
+
+  -- the atoms of a copy that is to be placed wait
+  pub copy_waits : (r : Registers) (i : Instr) (x y z : ℕ) (p : PartCopy A) (s : Heap) → Agrees atom membrane g r → i ≡ CopyGround x y z → slice_get g.copies x ≡ Some p → Can r i s →
+      (atoms rest : List ℕ) × (length atoms ≡ p.atoms) × (s.new_atoms ≡ atoms ++ rest)
+  copy_waits r i x y z p s u e at can =
+      let w : Can r (CopyGround x y z) s = subst (λ j. Can r j s) e can in
+      (r.copied x, w.1.0, (u.copies x p at).1, w.1.1)
+
+  -- and they go to a membrane that is in place
+  pub copy_goes : (r : Registers) (i : Instr) (x y z : ℕ) (m : M) (s : Heap) → Agrees atom membrane g r → i ≡ CopyGround x y z → slice_get g.membranes y ≡ Some m → Can r i s → IsMemInPlace s (membrane m)
+  copy_goes r i x y z m s u e at can = let w : Can r (CopyGround x y z) s = subst (λ j. Can r j s) e can in subst (IsMemInPlace s) (u.membranes y m at) w.0
+
+  pub copy_placed : (r : Registers) (i : Instr) (x y z : ℕ) (p : PartCopy A) (m : M) (s t : Heap) → Agrees atom membrane g r → i ≡ CopyGround x y z → slice_get g.copies x ≡ Some p → slice_get g.membranes y ≡ Some m →
+      Can r i s → ((atoms rest : List ℕ) → length atoms ≡ p.atoms → s.new_atoms ≡ atoms ++ rest → t ≡ all_placed s (map (λ a. (membrane m, a)) atoms)) → Does r i s t
+  copy_placed r i x y z p m s t u e copy inside can placed =
+      let w : Can r (CopyGround x y z) s = subst (λ j. Can r j s) e can in
+      subst (λ j. Does r j s t) (sym e)
+      (w.1.0, w.1.1, placed (r.copied x) w.1.0 (u.copies x p copy).1 w.1.1 ∙ ap (λ n. all_placed s (map (λ a. (n, a)) (r.copied x))) (sym (u.membranes y m inside)))
 
   -- what is done of code, from the heap s0 to the heap s: the rest can be run, and makes of s what the whole makes of s0
   abbrev pub Done : List Instr → List Instr → Heap → Heap → Type 0

@@ -1,4 +1,7 @@
 pub mod Codes
+pub mod CopyMeaning
+pub mod Waiting
+pub mod Placing
 pub mod Making
 pub mod Marks
 pub mod Doing

@@ -1,18 +1,21 @@
 -- What an instruction makes, and code that is prepared by it.
-use Rattle.std.proofs.Common.{ℕ, ℤ, ◌≡◌, ◌≢◌, ◌==◌, ◌≤◌, ◌+◌, inl, inr, Bool, true, false, cond, List, [], ◌∷◌, ◌++◌, Option, Some, None, IsSome, refl, arith, ap, sym, subst, length, ◌∙◌}
+use Rattle.std.proofs.Common.{ℕ, zero, suc, ℤ, ◌≡◌, ◌≢◌, ◌==◌, ◌≤◌, ◌+◌, inl, inr, Bool, true, false, cond, List, [], ◌∷◌, ◌++◌, Option, Some, None, IsSome, refl, arith, ap, sym, subst, length, ◌∙◌}
 use Rattle.std.proofs.lemmas.Bool.{cases_eq, eqb-true}
 use Rattle.std.specs.Option.{option_map}
 use Rattle.std.specs.Prelude.{slice_get, pos}
 use Rattle.lmn_base.specs.declared.functor.Functor.{Functor}
-use Rattle.lmn_heap.specs.Heap.{Heap, HeapMem, IsAtom, IsMem, alter, new_atom, new_mem, mem_with_spare, made_atom, made_mem, reserved, rules_in, rules_by, spare_of, spare_by, port_id}
+use Rattle.lmn_heap.specs.Heap.{Heap, HeapAtom, HeapMem, IsAtom, IsMem, alter, new_atom, new_mem, mem_with_spare, made_atom, made_mem, reserved, rules_in, rules_by, spare_of, spare_by, port_id}
+use Rattle.lmn_heap.specs.Sound.{Paired}
 use Rattle.lmn_heap.proofs.Listing.{alter_at, alter_away, alter_keeps}
 use Rattle.lmn_instr.specs.declared.instr.Instr.{Instr}
-use Rattle.lmn_instr.specs.declared.instr.Instr.TheVariants.{RemoveAtom, RemovePart, RemoveMem, NewAtom, NewInt, NewMem, MoveCells, LoadRule, CopyRules, NewLink, Relink, Unify, Proceed}
-use Rattle.lmn_body.specs.Running.{Registers, Makes, Prepares, integer_functor}
-use Rattle.lmn_commit.specs.declared.registers.SetRegisters.{SetRegisters}
-use Rattle.lmn_commit.specs.Registers.{Agrees, AreHeld, Grows}
-use Rattle.lmn_commit.specs.Preparing.{Uses, AllUse, Reads, InOrder, needed, needed_by, atoms_made, membranes_made, AtomIsMade, MembraneIsMade, RoomIsMade, IsMade, Prepared}
+use Rattle.lmn_instr.specs.declared.instr.Instr.TheVariants.{RemoveAtom, RemovePart, RemoveMem, NewAtom, NewInt, NewMem, MoveCells, CopyGround, LoadRule, CopyRules, NewLink, Relink, Unify, Proceed}
+use Rattle.lmn_body.specs.Running.{Registers, IsCopied, Makes, Prepares, integer_functor}
+use Rattle.lmn_registers.specs.declared.registers.PartCopy.{PartCopy}
+use Rattle.lmn_registers.specs.declared.registers.SetRegisters.{SetRegisters}
+use Rattle.lmn_commit.specs.Registers.{Agrees, AreHeld, AreSized, Grows, HasCopies}
+use Rattle.lmn_commit.specs.Preparing.{Uses, AllUse, Reads, InOrder, needed, needed_by, atoms_made, membranes_made, copies_made, AtomIsMade, MembraneIsMade, CopyIsMade, OnlyMakes, RoomIsMade, IsMade, Prepared, CanCopy}
 use Rattle.lmn_commit.proofs.Codes.{get_last, get_front, get_either, length_one, all_use_more, use_one_more, reads_uses, needed_more}
+use Rattle.lmn_commit.proofs.Waiting.{makes_nothing, makes_on, still_copied}
 
 some_altered : {X : Type 0} (f : ℕ → Option X) (n m : ℕ) (v : X) → IsSome (f m) → IsSome (alter f n (λ _. Some v) m)
 some_altered {X} f n m v e = by (m == n)
@@ -32,13 +35,44 @@ some_changed {X} f n m g e = by (m == n)
     by true = on (f m) e
     by false = e
 
--- a list that grows at its end by one number
+none_there : (o : Option HeapAtom) → IsSome o → o ≡ None → ⊥
+none_there o i e = let z : IsSome {T = HeapAtom} None = subst (λ (p : Option HeapAtom). IsSome p) e i in cc
+
+-- what has an index in one list has it in another one of the same length
+get_too : {X Y : Type 0} (xs : List X) (ys : List Y) → length xs ≡ length ys → (k : ℕ) (x : X) → slice_get xs k ≡ Some x → (y : Y) × (slice_get ys k ≡ Some y)
+get_too [] ys l k x e = absurd (cc)
+get_too (z ∷ xs) [] l k x e = absurd (omega (arith, l))
+get_too (z ∷ xs) (y ∷ ys) l zero x e = (y, refl)
+get_too (z ∷ xs) (y ∷ ys) l (suc k) x e = get_too xs ys (omega (arith, l)) k x e
+
+nothing_more : {X : Type 0} (xs : List X) → xs ++ [] ≡ xs
+nothing_more [] = refl
+nothing_more (x ∷ xs) = ap (λ ys. x ∷ ys) (nothing_more xs)
+
+none_sized : {A : Type 0} (ps qs : List (PartCopy A)) → qs ≡ ps → (earlier : List (List ℕ)) → AreSized ps earlier → AreSized qs (earlier ++ [])
+none_sized ps qs e es w = subst (λ xss. AreSized qs xss) (sym (nothing_more es)) (subst (λ rs. AreSized rs es) (sym e) w)
+
+one_sized : {A : Type 0} (ps : List (PartCopy A)) (es : List (List ℕ)) (p : PartCopy A) (xs : List ℕ) → length xs ≡ p.atoms → AreSized ps es → AreSized (ps ++ p ∷ []) (es ++ xs ∷ [])
+one_sized {A} ps es p xs l w = record {
+  count = (let a = length_one ps p in let b = length_one es xs in let c = w.count in omega (arith, a, b, c));
+  sizes = λ k q ys a b. both ps es w.count w.sizes k q ys a b;
+}
+  where
+    both : (qs : List (PartCopy A)) (fs : List (List ℕ)) → length fs ≡ length qs → ((k : ℕ) (q : PartCopy A) (ys : List ℕ) → slice_get qs k ≡ Some q → slice_get fs k ≡ Some ys → length ys ≡ q.atoms) →
+        (k : ℕ) (q : PartCopy A) (ys : List ℕ) → slice_get (qs ++ p ∷ []) k ≡ Some q → slice_get (fs ++ xs ∷ []) k ≡ Some ys → length ys ≡ q.atoms
+    both [] [] c h zero q ys a b = let e : p ≡ q = cc in let f : xs ≡ ys = cc in ap length (sym f) ∙ (l ∙ ap (λ z. z.atoms) e)
+    both [] [] c h (suc k) q ys a b = absurd (cc)
+    both [] (f ∷ fs) c h k q ys a b = absurd (omega (arith, c))
+    both (z ∷ qs) [] c h k q ys a b = absurd (omega (arith, c))
+    both (z ∷ qs) (f ∷ fs) c h zero q ys a b = h zero q ys a b
+    both (z ∷ qs) (f ∷ fs) c h (suc k) q ys a b = both qs fs (omega (arith, c)) (λ j. h (suc j)) k q ys a b
+
 module _ {A M : Type 0} (atom : A → ℕ) (membrane : M → ℕ) where
   pub grows_none : (g : SetRegisters A M) → Grows g g
-  grows_none g = record { atoms = λ i a e. e; membranes = λ i m e. e; parts = refl; integers = refl }
+  grows_none g = record { atoms = λ i a e. e; membranes = λ i m e. e; parts = refl; integers = refl; copies = λ i p e. e }
 
   pub grows_on : (g k l : SetRegisters A M) → Grows g k → Grows k l → Grows g l
-  grows_on g k l u v = record { atoms = λ i a e. v.atoms i a (u.atoms i a e); membranes = λ i m e. v.membranes i m (u.membranes i m e); parts = v.parts ∙ u.parts; integers = v.integers ∙ u.integers }
+  grows_on g k l u v = record { atoms = λ i a e. v.atoms i a (u.atoms i a e); membranes = λ i m e. v.membranes i m (u.membranes i m e); parts = v.parts ∙ u.parts; integers = v.integers ∙ u.integers; copies = λ i p e. v.copies i p (u.copies i p e) }
 
   -- registers that agree with those that are set later agree with those that were set before
   pub agrees_before : (g k : SetRegisters A M) (r : Registers) → Grows g k → Agrees atom membrane k r → Agrees atom membrane g r
@@ -47,11 +81,12 @@ module _ {A M : Type 0} (atom : A → ℕ) (membrane : M → ℕ) where
     membranes = λ i x e. a.membranes i x (u.membranes i x e);
     parts = λ i x e. a.parts i x (subst (λ ps. slice_get ps i ≡ Some x) (sym u.parts) e);
     integers = λ i x e. a.integers i x (subst (λ zs. slice_get zs i ≡ Some x) (sym u.integers) e);
+    copies = λ i x e. a.copies i x (u.copies i x e);
   }
 
-  -- there are such registers
-  pub some_registers : (g : SetRegisters A M) → (r : Registers) × Agrees atom membrane g r
-  some_registers g = (
+  -- there are such registers, whose copies have given atoms
+  pub some_registers : (g : SetRegisters A M) (copied : List (List ℕ)) → AreSized g.copies copied → (r : Registers) × Agrees atom membrane g r × HasCopies r copied
+  some_registers g copied sized = (
     record {
       head = record {
         images = record {
@@ -61,15 +96,17 @@ module _ {A M : Type 0} (atom : A → ℕ) (membrane : M → ℕ) where
         };
         integer = λ k. integer (slice_get g.integers k);
       };
-      copy = λ k. (0, 0);
-      copied = λ k. [];
+      copy = λ k. root (slice_get g.copies k);
+      copied = λ k. atoms (slice_get copied k);
     },
     record {
       atoms = λ k a e. ap (number atom) e;
       membranes = λ k m e. ap (number membrane) e;
       parts = λ k p e. ap port e;
       integers = λ k z e. ap integer e;
+      copies = λ k p e. (ap root e, (let x = get_too g.copies copied (sym sized.count) k p e in ap (λ xs. length (atoms xs)) x.1 ∙ sized.sizes k p x.0 e x.1));
     },
+    λ k xs e. ap atoms e,
   )
     where
       number : {X : Type 0} → (X → ℕ) → Option X → ℕ
@@ -79,6 +116,14 @@ module _ {A M : Type 0} (atom : A → ℕ) (membrane : M → ℕ) where
       port : Option (A × ℕ) → ℕ × ℕ
       port None = (0, 0)
       port (Some p) = port_id atom p
+
+      root : Option (PartCopy A) → ℕ × ℕ
+      root None = (0, 0)
+      root (Some p) = port_id atom p.root
+
+      atoms : Option (List ℕ) → List ℕ
+      atoms None = []
+      atoms (Some xs) = xs
 
       integer : Option ℤ → ℤ
       integer None = pos 0
@@ -90,7 +135,7 @@ module _ {A M : Type 0} (atom : A → ℕ) (membrane : M → ℕ) where
     new_one = made.0
 
     grown : Grows g k
-    grown = subst (λ l. Grows g l) (sym made.3) (record { atoms = λ n x e. get_front g.atoms (new_one ∷ []) n x e; membranes = λ n m e. e; parts = refl; integers = refl })
+    grown = subst (λ l. Grows g l) (sym made.3) (record { atoms = λ n x e. get_front g.atoms (new_one ∷ []) n x e; membranes = λ n m e. e; parts = refl; integers = refl; copies = λ n p e. e })
 
     held_now : AreHeld atom membrane t k
     held_now = subst (λ l. AreHeld atom membrane t l) (sym made.3) (subst (λ u. AreHeld atom membrane u (record g { atoms = g.atoms ++ new_one ∷ [] })) (sym made.2) (record {
@@ -105,30 +150,33 @@ module _ {A M : Type 0} (atom : A → ℕ) (membrane : M → ℕ) where
     in_next : slice_get k.atoms (length g.atoms) ≡ Some new_one
     in_next = subst (λ (l : SetRegisters A M). slice_get l.atoms (length g.atoms) ≡ Some new_one) (sym made.3) (get_last g.atoms new_one)
 
-    atom_made : atoms_made i ≡ 1 → membranes_made i ≡ 0 → ((r : Registers) (rules : ℕ → List ℕ) (x : ℕ) → needed_by r rules i x ≡ 0) →
+    atom_made : atoms_made i ≡ 1 → membranes_made i ≡ 0 → copies_made i ≡ 0 → ((r : Registers) (rules : ℕ → List ℕ) (x : ℕ) → needed_by r rules i x ≡ 0) →
         ((r : Registers) → Agrees atom membrane k r → r.head.images.atom (length g.atoms) ≡ atom new_one → Makes r i s t) → IsMade atom membrane s t g k before i
-    atom_made one none free makes = record {
+    atom_made one none no_copy free makes = record {
       grows = grown;
       held = held_now;
       atoms = ap (λ (l : SetRegisters A M). length l.atoms) made.3 ∙ length_one g.atoms new_one ∙ ap (λ n. length g.atoms + n) (sym one);
       membranes = ap (λ (l : SetRegisters A M). length l.membranes) made.3 ∙ (let e : length g.membranes ≡ length g.membranes + 0 = omega arith in e) ∙ ap (λ n. length g.membranes + n) (sym none);
-      makes = λ r u. makes r u (u.atoms (length g.atoms) new_one in_next);
+      copies = ap (λ (l : SetRegisters A M). length l.copies) made.3 ∙ (let e : length g.copies ≡ length g.copies + 0 = omega arith in e) ∙ ap (λ n. length g.copies + n) (sym no_copy);
+      copied = [];
+      sizes = none_sized g.copies k.copies (ap (λ (l : SetRegisters A M). l.copies) made.3);
+      makes = λ r es u z h. makes r u (u.atoms (length g.atoms) new_one in_next);
       rules = λ x. ap (λ (u : Heap). rules_in u x) made.2;
       spares = λ r u e x. (let v = e x in let w = free r (rules_in s) x in let z : spare_of t x ≡ spare_of s x = ap (λ (q : Heap). spare_of q x) made.2 in omega (arith, v, w, z));
     }
 
-    pub new_atom_made : (x y : ℕ) → i ≡ NewAtom x y f → (v : ℕ) → Reads (length g.atoms) (length g.membranes) (length g.parts) v i → IsMade atom membrane s t g k before i
-    new_atom_made x y e v reads =
-        let u : Reads (length g.atoms) (length g.membranes) (length g.parts) v (NewAtom x y f) = subst (λ j. Reads (length g.atoms) (length g.membranes) (length g.parts) v j) e reads in
-        atom_made (ap atoms_made e) (ap membranes_made e) (λ r rules z. ap (λ j. needed_by r rules j z) e)
+    pub new_atom_made : (x y : ℕ) → i ≡ NewAtom x y f → (v c : ℕ) → Reads (length g.atoms) (length g.membranes) (length g.parts) v c i → IsMade atom membrane s t g k before i
+    new_atom_made x y e v c reads =
+        let u : Reads (length g.atoms) (length g.membranes) (length g.parts) v c (NewAtom x y f) = subst (λ j. Reads (length g.atoms) (length g.membranes) (length g.parts) v c j) e reads in
+        atom_made (ap atoms_made e) (ap membranes_made e) (ap copies_made e) (λ r rules z. ap (λ j. needed_by r rules j z) e)
         (λ r w q. subst (λ j. Makes r j s t) (sym e)
         (let n : r.head.images.atom x ≡ atom new_one = ap r.head.images.atom u.0.0 ∙ q in
         (ap s.atoms n ∙ made.1, made.2 ∙ ap (λ m. made_atom s m f) (sym n))))
 
-    pub new_int_made : (x y z : ℕ) (value : ℤ) → i ≡ NewInt x y z → f ≡ integer_functor value → slice_get g.integers z ≡ Some value → (v : ℕ) → Reads (length g.atoms) (length g.membranes) (length g.parts) v i → IsMade atom membrane s t g k before i
-    new_int_made x y z value e is at v reads =
-        let u : Reads (length g.atoms) (length g.membranes) (length g.parts) v (NewInt x y z) = subst (λ j. Reads (length g.atoms) (length g.membranes) (length g.parts) v j) e reads in
-        atom_made (ap atoms_made e) (ap membranes_made e) (λ r rules n. ap (λ j. needed_by r rules j n) e)
+    pub new_int_made : (x y z : ℕ) (value : ℤ) → i ≡ NewInt x y z → f ≡ integer_functor value → slice_get g.integers z ≡ Some value → (v c : ℕ) → Reads (length g.atoms) (length g.membranes) (length g.parts) v c i → IsMade atom membrane s t g k before i
+    new_int_made x y z value e is at v c reads =
+        let u : Reads (length g.atoms) (length g.membranes) (length g.parts) v c (NewInt x y z) = subst (λ j. Reads (length g.atoms) (length g.membranes) (length g.parts) v c j) e reads in
+        atom_made (ap atoms_made e) (ap membranes_made e) (ap copies_made e) (λ r rules n. ap (λ j. needed_by r rules j n) e)
         (λ r w q. subst (λ j. Makes r j s t) (sym e)
         (let n : r.head.images.atom x ≡ atom new_one = ap r.head.images.atom u.0.0 ∙ q in
         let b : r.head.integer z ≡ value = w.integers z value (subst (λ zs. slice_get zs z ≡ Some value) (sym grown.integers) at) in
@@ -140,7 +188,7 @@ module _ {A M : Type 0} (atom : A → ℕ) (membrane : M → ℕ) where
     new_handle = made.0
 
     more : Grows g k
-    more = subst (λ l. Grows g l) (sym made.3) (record { atoms = λ n x e. e; membranes = λ n m e. get_front g.membranes (new_handle ∷ []) n m e; parts = refl; integers = refl })
+    more = subst (λ l. Grows g l) (sym made.3) (record { atoms = λ n x e. e; membranes = λ n m e. get_front g.membranes (new_handle ∷ []) n m e; parts = refl; integers = refl; copies = λ n p e. e })
 
     held_too : AreHeld atom membrane t k
     held_too = subst (λ l. AreHeld atom membrane t l) (sym made.3) (subst (λ u. AreHeld atom membrane u (record g { membranes = g.membranes ++ new_handle ∷ [] })) (sym made.2) (record {
@@ -164,23 +212,26 @@ module _ {A M : Type 0} (atom : A → ℕ) (membrane : M → ℕ) where
       | inr d ↦ (let z : spare_of (made_mem s (membrane new_handle)) x ≡ spare_of s x = ap spare_by (alter_away s.mems (membrane new_handle) (λ _. Some new_mem) x d) in omega (arith, z, l))
     ]
 
-    pub new_mem_made : (x y : ℕ) → i ≡ NewMem x y → (v : ℕ) → Reads (length g.atoms) (length g.membranes) (length g.parts) v i → IsMade atom membrane s t g k before i
-    new_mem_made x y e v reads =
-        let u : Reads (length g.atoms) (length g.membranes) (length g.parts) v (NewMem x y) = subst (λ j. Reads (length g.atoms) (length g.membranes) (length g.parts) v j) e reads in
+    pub new_mem_made : (x y : ℕ) → i ≡ NewMem x y → (v c : ℕ) → Reads (length g.atoms) (length g.membranes) (length g.parts) v c i → IsMade atom membrane s t g k before i
+    new_mem_made x y e v c reads =
+        let u : Reads (length g.atoms) (length g.membranes) (length g.parts) v c (NewMem x y) = subst (λ j. Reads (length g.atoms) (length g.membranes) (length g.parts) v c j) e reads in
         record {
           grows = more;
           held = held_too;
           atoms = ap (λ (l : SetRegisters A M). length l.atoms) made.3 ∙ (let z : length g.atoms ≡ length g.atoms + 0 = omega arith in z) ∙ ap (λ n. length g.atoms + n) (sym (ap atoms_made e));
           membranes = ap (λ (l : SetRegisters A M). length l.membranes) made.3 ∙ length_one g.membranes new_handle ∙ ap (λ n. length g.membranes + n) (sym (ap membranes_made e));
-          makes = λ r w. subst (λ j. Makes r j s t) (sym e)
+          copies = ap (λ (l : SetRegisters A M). length l.copies) made.3 ∙ (let z : length g.copies ≡ length g.copies + 0 = omega arith in z) ∙ ap (λ n. length g.copies + n) (sym (ap copies_made e));
+          copied = [];
+          sizes = none_sized g.copies k.copies (ap (λ (l : SetRegisters A M). l.copies) made.3);
+          makes = λ r es w z h. subst (λ j. Makes r j s t) (sym e)
               (let q = w.membranes (length g.membranes) new_handle (subst (λ (l : SetRegisters A M). slice_get l.membranes (length g.membranes) ≡ Some new_handle) (sym made.3) (get_last g.membranes new_handle)) in
               let n : r.head.images.membrane x ≡ membrane new_handle = ap r.head.images.membrane u.0.0 ∙ q in
               (ap s.mems n ∙ made.1, made.2 ∙ ap (λ m. made_mem s m) (sym n)));
           rules = λ z. ap (λ (w : Heap). rules_in w z) made.2 ∙ same_rules z;
           spares = λ r w l z. (let p = room z (needed r (rules_in s) before z) (l z) in
               let q : needed_by r (rules_in s) i z ≡ 0 = ap (λ j. needed_by r (rules_in s) j z) e in
-              let c : spare_of t z ≡ spare_of (made_mem s (membrane new_handle)) z = ap (λ (w : Heap). spare_of w z) made.2 in
-              omega (arith, p, q, c));
+              let d : spare_of t z ≡ spare_of (made_mem s (membrane new_handle)) z = ap (λ (w : Heap). spare_of w z) made.2 in
+              omega (arith, p, q, d));
         }
 
   -- Room is made for the rules of the code up to an instruction.
@@ -195,14 +246,17 @@ module _ {A M : Type 0} (atom : A → ℕ) (membrane : M → ℕ) where
         on None = refl
         on (Some z) = refl
 
-    pub room_made : atoms_made i ≡ 0 → membranes_made i ≡ 0 → ((r : Registers) → Agrees atom membrane g r → Makes r i s t) →
+    pub room_made : atoms_made i ≡ 0 → membranes_made i ≡ 0 → copies_made i ≡ 0 → ((r : Registers) → Agrees atom membrane g r → Makes r i s t) →
         ((r : Registers) → Agrees atom membrane g r → (x : ℕ) → x ≢ y → needed_by r (rules_in s) i x ≡ 0) → IsMade atom membrane s t g g before i
-    room_made none none_too makes away = record {
+    room_made none none_too no_copy makes away = record {
       grows = grows_none g;
       held = subst (λ u. AreHeld atom membrane u g) (sym made.0) (record { atoms = held.atoms; membranes = λ k m e. some_changed s.mems y (membrane m) (mem_with_spare room_now) (held.membranes k m e); parts = held.parts });
       atoms = (let z : length g.atoms ≡ length g.atoms + 0 = omega arith in z) ∙ ap (λ k. length g.atoms + k) (sym none);
       membranes = (let z : length g.membranes ≡ length g.membranes + 0 = omega arith in z) ∙ ap (λ k. length g.membranes + k) (sym none_too);
-      makes = makes;
+      copies = (let z : length g.copies ≡ length g.copies + 0 = omega arith in z) ∙ ap (λ k. length g.copies + k) (sym no_copy);
+      copied = [];
+      sizes = none_sized g.copies g.copies refl;
+      makes = λ r es u z h. makes r u;
       rules = λ x. ap (λ (u : Heap). rules_in u x) made.0 ∙ rules_stay x;
       spares = λ r u l x. elim (cases_eq x y) [
         | inl e ↦ (let p = made.1 r u in let q : needed r (rules_in s) upto y ≡ needed r (rules_in s) before y + needed_by r (rules_in s) i y = ap (λ is. needed r (rules_in s) is y) is ∙ needed_more r (rules_in s) before i y in
@@ -222,57 +276,113 @@ module _ {A M : Type 0} (atom : A → ℕ) (membrane : M → ℕ) where
 
   pub load_rule_made : (s t : Heap) (g : SetRegisters A M) (before upto : List Instr) (i : Instr) (h : M) (m k : ℕ) → AreHeld atom membrane s g → RoomIsMade {A = A} {M = M} atom membrane s t g upto (membrane h) → upto ≡ before ++ i ∷ [] →
       i ≡ LoadRule m k → slice_get g.membranes m ≡ Some h → IsMade atom membrane s t g g before i
-  load_rule_made s t g before upto i h m k held made is e at = room_made s t g before upto i (membrane h) held made is (ap atoms_made e) (ap membranes_made e)
+  load_rule_made s t g before upto i h m k held made is e at = room_made s t g before upto i (membrane h) held made is (ap atoms_made e) (ap membranes_made e) (ap copies_made e)
       (λ r u. subst (λ j. Makes r j s t) (sym e) (spare_of t (membrane h), made.0 ∙ ap (λ x. reserved s x (spare_of t (membrane h))) (sym (u.membranes m h at))))
       (λ r u x d. ap (λ j. needed_by r (rules_in s) j x) e ∙ other r x (membrane h) 1 m (u.membranes m h at) d)
 
   pub copy_rules_made : (s t : Heap) (g : SetRegisters A M) (before upto : List Instr) (i : Instr) (h : M) (m n : ℕ) → AreHeld atom membrane s g → RoomIsMade {A = A} {M = M} atom membrane s t g upto (membrane h) → upto ≡ before ++ i ∷ [] →
       i ≡ CopyRules m n → slice_get g.membranes n ≡ Some h → IsMade atom membrane s t g g before i
-  copy_rules_made s t g before upto i h m n held made is e at = room_made s t g before upto i (membrane h) held made is (ap atoms_made e) (ap membranes_made e)
+  copy_rules_made s t g before upto i h m n held made is e at = room_made s t g before upto i (membrane h) held made is (ap atoms_made e) (ap membranes_made e) (ap copies_made e)
       (λ r u. subst (λ j. Makes r j s t) (sym e) (spare_of t (membrane h), made.0 ∙ ap (λ x. reserved s x (spare_of t (membrane h))) (sym (u.membranes n h at))))
       (λ r u x d. ap (λ j. needed_by r (rules_in s) j x) e ∙ other r x (membrane h) (length (rules_in s (r.head.images.membrane m))) n (u.membranes n h at) d)
 
+  -- A copy is made.
+  pub copy_made : (s t : Heap) (g k : SetRegisters A M) (before : List Instr) (i : Instr) (x y z : ℕ) (p : A × ℕ) → AreHeld atom membrane s g → i ≡ CopyGround x y z → slice_get g.parts z ≡ Some p →
+      CopyIsMade {A = A} {M = M} atom s t g k (port_id atom p) → (v c : ℕ) → c ≡ length g.copies → Reads (length g.atoms) (length g.membranes) (length g.parts) v c i → IsMade atom membrane s t g k before i
+  copy_made s t g k before i x y z p held e at made v c is_c reads =
+      let u : Reads (length g.atoms) (length g.membranes) (length g.parts) v c (CopyGround x y z) = subst (λ j. Reads (length g.atoms) (length g.membranes) (length g.parts) v c j) e reads in
+      let next : x ≡ length g.copies = u.0.0 ∙ is_c in
+      let beside = made.1.beside in
+      let kept : (a : ℕ) → IsAtom s a → IsAtom t a = λ a w. subst (λ (o : Option HeapAtom). IsSome o) (sym (beside.kept a (λ n. none_there (s.atoms a) w (beside.fresh.1 a n)))) w in
+      let same_mems : (m : ℕ) → t.mems m ≡ s.mems m = λ m. ap (λ (f : ℕ → Option HeapMem). f m) beside.mems in
+      let in_next : slice_get k.copies (length g.copies) ≡ Some made.0 = subst (λ (l : SetRegisters A M). slice_get l.copies (length g.copies) ≡ Some made.0) (sym made.3) (get_last g.copies made.0) in
+      let same_parts : k.parts ≡ g.parts = ap (λ (l : SetRegisters A M). l.parts) made.3 in
+      record {
+        grows = subst (λ l. Grows g l) (sym made.3) (record { atoms = λ n a q. q; membranes = λ n m q. q; parts = refl; integers = refl; copies = λ n q w. get_front g.copies (made.0 ∷ []) n q w });
+        held = subst (λ l. AreHeld atom membrane t l) (sym made.3) (record {
+          atoms = λ n a q. kept (atom a) (held.atoms n a q);
+          membranes = λ n m q. subst (λ (o : Option HeapMem). IsSome o) (sym (same_mems (membrane m))) (held.membranes n m q);
+          parts = λ n q w. kept (atom q.0) (held.parts n q w);
+        });
+        atoms = ap (λ (l : SetRegisters A M). length l.atoms) made.3 ∙ (let w : length g.atoms ≡ length g.atoms + 0 = omega arith in w) ∙ ap (λ n. length g.atoms + n) (sym (ap atoms_made e));
+        membranes = ap (λ (l : SetRegisters A M). length l.membranes) made.3 ∙ (let w : length g.membranes ≡ length g.membranes + 0 = omega arith in w) ∙ ap (λ n. length g.membranes + n) (sym (ap membranes_made e));
+        copies = ap (λ (l : SetRegisters A M). length l.copies) made.3 ∙ length_one g.copies made.0 ∙ ap (λ n. length g.copies + n) (sym (ap copies_made e));
+        copied = made.1.copies ∷ [];
+        sizes = λ es w. subst (λ (l : SetRegisters A M). AreSized l.copies (es ++ made.1.copies ∷ [])) (sym made.3) (one_sized g.copies es made.0 made.1.copies made.2 w);
+        makes = λ r es w sized has. subst (λ j. Makes r j s t) (sym e)
+            (let root : r.head.images.part z ≡ port_id atom p = w.parts z p (subst (λ ps. slice_get ps z ≡ Some p) (sym same_parts) at) in
+            let copy : r.copy x ≡ port_id atom made.0.root = ap r.copy next ∙ (w.copies (length g.copies) made.0 in_next).0 in
+            let atoms : r.copied x ≡ made.1.copies = ap r.copied (next ∙ sym sized.count) ∙ has (length es) made.1.copies (get_last es made.1.copies) in
+            subst (λ q. IsCopied s q (r.copy x) (r.copied x) t) (sym root) (subst (λ q. IsCopied s (port_id atom p) q (r.copied x) t) (sym copy) (made.1, sym atoms)));
+        rules = λ m. ap rules_by (same_mems m);
+        spares = λ r w l m. (let b = l m in let q : needed_by r (rules_in s) i m ≡ 0 = ap (λ j. needed_by r (rules_in s) j m) e in let d : spare_of t m ≡ spare_of s m = ap spare_by (same_mems m) in omega (arith, b, q, d));
+      }
+
   -- the other instructions make nothing
   abbrev MakesNone : Instr → Type 0
-  MakesNone i = (atoms_made i ≡ 0) × (membranes_made i ≡ 0) × ((r : Registers) (s : Heap) → Makes r i s s) × ((r : Registers) (rules : ℕ → List ℕ) (x : ℕ) → needed_by r rules i x ≡ 0)
+  MakesNone i = (atoms_made i ≡ 0) × (membranes_made i ≡ 0) × (copies_made i ≡ 0) × ((r : Registers) (s : Heap) → Makes r i s s) × ((r : Registers) (rules : ℕ → List ℕ) (x : ℕ) → needed_by r rules i x ≡ 0)
 
-  makes_none : (a m g v : ℕ) (i : Instr) → Reads a m g v i → ((x y : ℕ) (f : Functor) → i ≡ NewAtom x y f → ⊥) → ((x y z : ℕ) → i ≡ NewInt x y z → ⊥) → ((x y : ℕ) → i ≡ NewMem x y → ⊥) →
-      ((x y : ℕ) → i ≡ LoadRule x y → ⊥) → ((x y : ℕ) → i ≡ CopyRules x y → ⊥) → MakesNone i
-  makes_none a m g v (NewAtom x y f) u p q w d k = absurd (p x y f refl)
-  makes_none a m g v (NewInt x y z) u p q w d k = absurd (q x y z refl)
-  makes_none a m g v (NewMem x y) u p q w d k = absurd (w x y refl)
-  makes_none a m g v (LoadRule x y) u p q w d k = absurd (d x y refl)
-  makes_none a m g v (CopyRules x y) u p q w d k = absurd (k x y refl)
-  makes_none a m g v (RemoveAtom x) u p q w d k = (refl, refl, λ r s. refl, λ r rules x. refl)
-  makes_none a m g v (RemovePart x) u p q w d k = (refl, refl, λ r s. refl, λ r rules x. refl)
-  makes_none a m g v (RemoveMem x) u p q w d k = (refl, refl, λ r s. refl, λ r rules x. refl)
-  makes_none a m g v (MoveCells x y) u p q w d k = (refl, refl, λ r s. refl, λ r rules x. refl)
-  makes_none a m g v (NewLink x y) u p q w d k = (refl, refl, λ r s. refl, λ r rules x. refl)
-  makes_none a m g v (Relink x y) u p q w d k = (refl, refl, λ r s. refl, λ r rules x. refl)
-  makes_none a m g v (Unify x y) u p q w d k = (refl, refl, λ r s. refl, λ r rules x. refl)
-  makes_none a m g v Proceed u p q w d k = (refl, refl, λ r s. refl, λ r rules x. refl)
-  makes_none a m g v _ u p q w d k = absurd u
+  -- it is none of those that make something
+  pub record IsOther (i : Instr) : Type 0 where
+    pub no_atom : (x y : ℕ) (f : Functor) → i ≡ NewAtom x y f → ⊥
+    pub no_integer : (x y z : ℕ) → i ≡ NewInt x y z → ⊥
+    pub no_mem : (x y : ℕ) → i ≡ NewMem x y → ⊥
+    pub no_copy : (x y z : ℕ) → i ≡ CopyGround x y z → ⊥
+    pub no_rule : (x y : ℕ) → i ≡ LoadRule x y → ⊥
+    pub no_rules : (x y : ℕ) → i ≡ CopyRules x y → ⊥
 
-  pub nothing_made : (s : Heap) (g : SetRegisters A M) (before : List Instr) (i : Instr) → AreHeld atom membrane s g → (v : ℕ) → Reads (length g.atoms) (length g.membranes) (length g.parts) v i →
-      ((x y : ℕ) (f : Functor) → i ≡ NewAtom x y f → ⊥) → ((x y z : ℕ) → i ≡ NewInt x y z → ⊥) → ((x y : ℕ) → i ≡ NewMem x y → ⊥) →
-      ((x y : ℕ) → i ≡ LoadRule x y → ⊥) → ((x y : ℕ) → i ≡ CopyRules x y → ⊥) → IsMade atom membrane s s g g before i
-  nothing_made s g before i held v reads p q w d k =
-      let none = makes_none (length g.atoms) (length g.membranes) (length g.parts) v i reads p q w d k in
-      let first = none.0 in let second = none.1 in
+  makes_none : (a m g v c : ℕ) (i : Instr) → Reads a m g v c i → IsOther i → MakesNone i
+  makes_none a m g v c (NewAtom x y f) u o = absurd (o.no_atom x y f refl)
+  makes_none a m g v c (NewInt x y z) u o = absurd (o.no_integer x y z refl)
+  makes_none a m g v c (NewMem x y) u o = absurd (o.no_mem x y refl)
+  makes_none a m g v c (CopyGround x y z) u o = absurd (o.no_copy x y z refl)
+  makes_none a m g v c (LoadRule x y) u o = absurd (o.no_rule x y refl)
+  makes_none a m g v c (CopyRules x y) u o = absurd (o.no_rules x y refl)
+  makes_none a m g v c (RemoveAtom x) u o = (refl, refl, refl, λ r s. refl, λ r rules x. refl)
+  makes_none a m g v c (RemovePart x) u o = (refl, refl, refl, λ r s. refl, λ r rules x. refl)
+  makes_none a m g v c (RemoveMem x) u o = (refl, refl, refl, λ r s. refl, λ r rules x. refl)
+  makes_none a m g v c (MoveCells x y) u o = (refl, refl, refl, λ r s. refl, λ r rules x. refl)
+  makes_none a m g v c (NewLink x y) u o = (refl, refl, refl, λ r s. refl, λ r rules x. refl)
+  makes_none a m g v c (Relink x y) u o = (refl, refl, refl, λ r s. refl, λ r rules x. refl)
+  makes_none a m g v c (Unify x y) u o = (refl, refl, refl, λ r s. refl, λ r rules x. refl)
+  makes_none a m g v c Proceed u o = (refl, refl, refl, λ r s. refl, λ r rules x. refl)
+  makes_none a m g v c _ u o = absurd u
+
+  pub nothing_made : (s : Heap) (g : SetRegisters A M) (before : List Instr) (i : Instr) → AreHeld atom membrane s g → (v c : ℕ) → Reads (length g.atoms) (length g.membranes) (length g.parts) v c i → IsOther i → IsMade atom membrane s s g g before i
+  nothing_made s g before i held v c reads o =
+      let none = makes_none (length g.atoms) (length g.membranes) (length g.parts) v c i reads o in
+      let first = none.0 in let second = none.1 in let third = none.2 in
       record {
         grows = grows_none g;
         held = held;
         atoms = omega (arith, first);
         membranes = omega (arith, second);
-        makes = λ r u. none.2 r s;
+        copies = omega (arith, third);
+        copied = [];
+        sizes = none_sized g.copies g.copies refl;
+        makes = λ r es u z h. none.3 r s;
         rules = λ x. refl;
-        spares = λ r u l x. (let e = none.3 r (rules_in s) x in let b = l x in omega (arith, e, b));
+        spares = λ r u l x. (let e = none.4 r (rules_in s) x in let b = l x in omega (arith, e, b));
       }
 
   -- Code
 
-  pub prepared_nothing : (s : Heap) (g : SetRegisters A M) → AreHeld atom membrane s g → Prepared atom membrane s s g g []
-  prepared_nothing s g held = record { grows = grows_none g; held = held; uses = tt; prepares = λ r u. refl; rules = λ x. refl; spares = λ r u x. omega arith }
+  pub prepared_nothing : (s : Heap) (g : SetRegisters A M) → g.copies ≡ [] → AreHeld atom membrane s g → Prepared atom membrane s s g g []
+  prepared_nothing s g e held = record {
+    grows = grows_none g;
+    held = held;
+    uses = tt;
+    copied = [];
+    sizes = subst (λ ps. AreSized ps []) (sym e) (record { count = refl; sizes = λ k p xs a b. absurd (cc) });
+    prepares = λ r u h. refl;
+    makes = makes_nothing s;
+    rules = λ x. refl;
+    spares = λ r u x. omega arith;
+  }
+
+  -- the parts in registers can be copied when code is prepared
+  pub still_copies : (h s : Heap) (g k : SetRegisters A M) (is : List Instr) → Paired h → Prepared atom membrane h s g k is → CanCopy {A = A} {M = M} atom h g → CanCopy {A = A} {M = M} atom s k
+  still_copies h s g k is paired p can = λ n q e. still_copied h s paired p.makes (port_id atom q) (can n q (subst (λ ps. slice_get ps n ≡ Some q) p.grows.parts e))
 
   prepares_more : (r : Registers) (is : List Instr) (i : Instr) (h s t : Heap) → Prepares r is h s → Makes r i s t → Prepares r (is ++ i ∷ []) h t
   prepares_more r [] i h s t p m = (t, subst (λ u. Makes r i u t) p m, refl)
@@ -281,21 +391,26 @@ module _ {A M : Type 0} (atom : A → ℕ) (membrane : M → ℕ) where
   same_needed : (r : Registers) (f g : ℕ → List ℕ) (is : List Instr) (x : ℕ) → ((y : ℕ) → f y ≡ g y) → needed r f is x ≡ needed r g is x
   same_needed r f g is x e = let q : f ≡ g = λ i y. e y i in ap (λ h. needed r h is x) q
 
-  pub prepared_more : (h s t : Heap) (g k l : SetRegisters A M) (is : List Instr) (i : Instr) (v : ℕ) → Prepared atom membrane h s g k is → IsMade atom membrane s t k l is i →
-      Reads (length k.atoms) (length k.membranes) (length k.parts) v i → Prepared atom membrane h t g l (is ++ i ∷ [])
-  prepared_more h s t g k l is i v p m reads =
+  pub prepared_more : (h s t : Heap) (g k l : SetRegisters A M) (is : List Instr) (i : Instr) (v : ℕ) → Prepared atom membrane h s g k is → IsMade atom membrane s t k l is i → OnlyMakes s t →
+      Reads (length k.atoms) (length k.membranes) (length k.parts) v (length k.copies) i → Prepared atom membrane h t g l (is ++ i ∷ [])
+  prepared_more h s t g k l is i v p m makes reads =
       let more = m.atoms in
-      let more_too = m.membranes in
+      let more_mems = m.membranes in
+      let more_copies = m.copies in
       let parts : length l.parts ≡ length k.parts = ap length m.grows.parts in
-      let uses : AllUse (length l.atoms) (length l.membranes) (length k.parts) (is ++ i ∷ []) =
-      use_one_more (length l.atoms) (length l.membranes) (length k.parts) is i
-      (all_use_more (length k.atoms) (length l.atoms) (length k.membranes) (length l.membranes) (length k.parts) (omega (arith, more)) (omega (arith, more_too)) is p.uses)
-      (subst (λ n. Uses n (length l.membranes) (length k.parts) i) (sym m.atoms) (subst (λ n. Uses (length k.atoms + atoms_made i) n (length k.parts) i) (sym m.membranes) (reads_uses (length k.atoms) (length k.membranes) (length k.parts) v i reads))) in
+      let uses : AllUse (length l.atoms) (length l.membranes) (length k.parts) (length l.copies) (is ++ i ∷ []) =
+      use_one_more (length l.atoms) (length l.membranes) (length k.parts) (length l.copies) is i
+      (all_use_more (length k.atoms) (length l.atoms) (length k.membranes) (length l.membranes) (length k.parts) (length k.copies) (length l.copies) (omega (arith, more)) (omega (arith, more_mems)) (omega (arith, more_copies)) is p.uses)
+      (subst (λ n. Uses n (length l.membranes) (length k.parts) (length l.copies) i) (sym m.atoms) (subst (λ n. Uses (length k.atoms + atoms_made i) n (length k.parts) (length l.copies) i) (sym m.membranes)
+      (subst (λ n. Uses (length k.atoms + atoms_made i) (length k.membranes + membranes_made i) (length k.parts) n i) (sym m.copies) (reads_uses (length k.atoms) (length k.membranes) (length k.parts) v (length k.copies) i reads)))) in
       record {
         grows = grows_on g k l p.grows m.grows;
         held = m.held;
-        uses = subst (λ n. AllUse (length l.atoms) (length l.membranes) n (is ++ i ∷ [])) (sym parts) uses;
-        prepares = λ r u. prepares_more r is i h s t (p.prepares r (agrees_before k l r m.grows u)) (m.makes r u);
+        uses = subst (λ n. AllUse (length l.atoms) (length l.membranes) n (length l.copies) (is ++ i ∷ [])) (sym parts) uses;
+        copied = p.copied ++ m.copied;
+        sizes = m.sizes p.copied p.sizes;
+        prepares = λ r u has. prepares_more r is i h s t (p.prepares r (agrees_before k l r m.grows u) (λ n xs e. has n xs (get_front p.copied m.copied n xs e))) (m.makes r p.copied u p.sizes has);
+        makes = makes_on h s t p.makes makes;
         rules = λ x. m.rules x ∙ p.rules x;
         spares = λ r u x. (
             let same : (js : List Instr) (y : ℕ) → needed r (rules_in s) js y ≡ needed r (rules_in h) js y = λ js y. same_needed r (rules_in s) (rules_in h) js y p.rules in
@@ -307,9 +422,11 @@ module _ {A M : Type 0} (atom : A → ℕ) (membrane : M → ℕ) where
 
   -- the registers of the code ahead
   pub in_order_next : (k l : SetRegisters A M) (i : Instr) (is : List Instr) → length l.atoms ≡ length k.atoms + atoms_made i → length l.membranes ≡ length k.membranes + membranes_made i → l.parts ≡ k.parts → l.integers ≡ k.integers →
-      InOrder (length k.atoms) (length k.membranes) (length k.parts) (length k.integers) (i ∷ is) → InOrder (length l.atoms) (length l.membranes) (length l.parts) (length l.integers) is
-  in_order_next k l i is e f p q o =
-      subst (λ n. InOrder n (length l.membranes) (length l.parts) (length l.integers) is) (sym e)
-      (subst (λ n. InOrder (length k.atoms + atoms_made i) n (length l.parts) (length l.integers) is) (sym f)
-      (subst (λ ps. InOrder (length k.atoms + atoms_made i) (length k.membranes + membranes_made i) (length ps) (length l.integers) is) (sym p)
-      (subst (λ zs. InOrder (length k.atoms + atoms_made i) (length k.membranes + membranes_made i) (length k.parts) (length zs) is) (sym q) o.1)))
+      length l.copies ≡ length k.copies + copies_made i → InOrder (length k.atoms) (length k.membranes) (length k.parts) (length k.integers) (length k.copies) (i ∷ is) →
+      InOrder (length l.atoms) (length l.membranes) (length l.parts) (length l.integers) (length l.copies) is
+  in_order_next k l i is e f p q w o =
+      subst (λ n. InOrder n (length l.membranes) (length l.parts) (length l.integers) (length l.copies) is) (sym e)
+      (subst (λ n. InOrder (length k.atoms + atoms_made i) n (length l.parts) (length l.integers) (length l.copies) is) (sym f)
+      (subst (λ ps. InOrder (length k.atoms + atoms_made i) (length k.membranes + membranes_made i) (length ps) (length l.integers) (length l.copies) is) (sym p)
+      (subst (λ zs. InOrder (length k.atoms + atoms_made i) (length k.membranes + membranes_made i) (length k.parts) (length zs) (length l.copies) is) (sym q)
+      (subst (λ n. InOrder (length k.atoms + atoms_made i) (length k.membranes + membranes_made i) (length k.parts) (length k.integers) n is) (sym w) o.1))))

@@ -11,31 +11,57 @@ use Rattle.lmn_instr.specs.declared.instr.Instr.TheVariants.{RemoveAtom, RemoveP
 use Rattle.lmn_body.specs.declared.items.BodyItem.{BodyItem}
 use Rattle.lmn_body.specs.declared.items.BodyItem.TheVariants.{Atom, Connector, Copy, Bound, Membrane, Rest, Rule, Rules}
 use Rattle.lmn_body.specs.Code.{making, link_code, links_code}
-use Rattle.lmn_body.specs.Items.{new_ports, old_ports, connectors, ports_from, once_in, NoCopies}
+use Rattle.lmn_body.specs.Items.{new_ports, old_ports, connectors, ports_from, once_in}
+use Rattle.lmn_splice.specs.Splice as splice
+use Rattle.lmn_body.specs.Made.{copies_of}
 use Rattle.lmn_body.specs.Rules.{StandsIn, IsHeadMembrane, WellPlaced}
 use Rattle.lmn_body.proofs.Firing.{rising_below}
-use Rattle.lmn_commit.specs.declared.stack.TheConstants.{ROOM}
+use Rattle.lmn_registers.specs.declared.stack.TheConstants.{ROOM}
+use Rattle.lmn_commit.proofs.Codes.{get_below}
 use Rattle.lmn_commit.specs.Preparing.{UsesPort, InOrder}
-use Rattle.lmn_commit.specs.Orders.{atoms_in_body, membranes_in_body, BoundBelow, BodiesAreInOrder}
+use Rattle.lmn_commit.specs.Orders.{atoms_in_body, membranes_in_body, copies_in_body, BoundBelow, BodiesAreInOrder}
 
-order_same : (a b m n g v : ℕ) (is : List Instr) → a ≡ b → m ≡ n → InOrder a m g v is → InOrder b n g v is
-order_same a b m n g v is e f o = subst (λ x. InOrder x n g v is) e (subst (λ y. InOrder a y g v is) f o)
+-- it copies only the first g typed contexts
+abbrev CopiedBelow : ℕ → List BodyItem → Type 0
+CopiedBelow g [] = Unit {0}
+CopiedBelow g (Atom functor links inside ∷ xs) = CopiedBelow g xs
+CopiedBelow g (Connector left right ∷ xs) = CopiedBelow g xs
+CopiedBelow g (Copy part link inside ∷ xs) = (part < g) × CopiedBelow g xs
+CopiedBelow g (Bound integer link inside ∷ xs) = CopiedBelow g xs
+CopiedBelow g (Membrane inside ∷ xs) = CopiedBelow g xs
+CopiedBelow g (Rest of inside ∷ xs) = CopiedBelow g xs
+CopiedBelow g (Rule rule inside ∷ xs) = CopiedBelow g xs
+CopiedBelow g (Rules of inside ∷ xs) = CopiedBelow g xs
+
+copied_below : (g c : ℕ) (body : List BodyItem) → ((e : ℕ × ℕ) → splice.In e (copies_of c body) → e.1 < g) → CopiedBelow g body
+copied_below g c [] h = tt
+copied_below g c (Atom functor links inside ∷ xs) h = copied_below g c xs h
+copied_below g c (Connector left right ∷ xs) h = copied_below g c xs h
+copied_below g c (Copy part link inside ∷ xs) h = (h (c, part) (inl refl), copied_below g (c + 1) xs (λ e i. h e (inr i)))
+copied_below g c (Bound integer link inside ∷ xs) h = copied_below g c xs h
+copied_below g c (Membrane inside ∷ xs) h = copied_below g c xs h
+copied_below g c (Rest of inside ∷ xs) h = copied_below g c xs h
+copied_below g c (Rule rule inside ∷ xs) h = copied_below g c xs h
+copied_below g c (Rules of inside ∷ xs) h = copied_below g c xs h
+
+order_same : (a b m n g v c d : ℕ) (is : List Instr) → a ≡ b → m ≡ n → c ≡ d → InOrder a m g v c is → InOrder b n g v d is
+order_same a b m n g v c d is e f h o = subst (λ x. InOrder x n g v d is) e (subst (λ y. InOrder a y g v d is) f (subst (λ z. InOrder a m g v z is) h o))
 
 -- an instruction that makes nothing
-still : (a m g v : ℕ) (is : List Instr) → InOrder a m g v is → InOrder (a + 0) (m + 0) g v is
-still a m g v is o = order_same a (a + 0) m (m + 0) g v is (omega arith) (omega arith) o
+still : (a m g v c : ℕ) (is : List Instr) → InOrder a m g v c is → InOrder (a + 0) (m + 0) g v (c + 0) is
+still a m g v c is o = order_same a (a + 0) m (m + 0) g v c (c + 0) is (omega arith) (omega arith) (omega arith) o
 
-atoms_in_order : (a m g v : ℕ) (ns : List ℕ) (rest : List Instr) → ((n : ℕ) → In n ns → n < a) → InOrder a m g v rest → InOrder a m g v (map RemoveAtom ns ++ rest)
-atoms_in_order a m g v [] rest b o = o
-atoms_in_order a m g v (n ∷ ns) rest b o = (b n (inl refl), still a m g v (map RemoveAtom ns ++ rest) (atoms_in_order a m g v ns rest (λ k i. b k (inr i)) o))
+atoms_in_order : (a m g v c : ℕ) (ns : List ℕ) (rest : List Instr) → ((n : ℕ) → In n ns → n < a) → InOrder a m g v c rest → InOrder a m g v c (map RemoveAtom ns ++ rest)
+atoms_in_order a m g v c [] rest b o = o
+atoms_in_order a m g v c (n ∷ ns) rest b o = (b n (inl refl), still a m g v c (map RemoveAtom ns ++ rest) (atoms_in_order a m g v c ns rest (λ k i. b k (inr i)) o))
 
-parts_in_order : (a m g v : ℕ) (ns : List ℕ) (rest : List Instr) → ((n : ℕ) → In n ns → n < g) → InOrder a m g v rest → InOrder a m g v (map RemovePart ns ++ rest)
-parts_in_order a m g v [] rest b o = o
-parts_in_order a m g v (n ∷ ns) rest b o = (b n (inl refl), still a m g v (map RemovePart ns ++ rest) (parts_in_order a m g v ns rest (λ k i. b k (inr i)) o))
+parts_in_order : (a m g v c : ℕ) (ns : List ℕ) (rest : List Instr) → ((n : ℕ) → In n ns → n < g) → InOrder a m g v c rest → InOrder a m g v c (map RemovePart ns ++ rest)
+parts_in_order a m g v c [] rest b o = o
+parts_in_order a m g v c (n ∷ ns) rest b o = (b n (inl refl), still a m g v c (map RemovePart ns ++ rest) (parts_in_order a m g v c ns rest (λ k i. b k (inr i)) o))
 
-mems_in_order : (a m g v : ℕ) (ns : List ℕ) (rest : List Instr) → ((n : ℕ) → In n ns → n < m) → InOrder a m g v rest → InOrder a m g v (map RemoveMem ns ++ rest)
-mems_in_order a m g v [] rest b o = o
-mems_in_order a m g v (n ∷ ns) rest b o = (b n (inl refl), still a m g v (map RemoveMem ns ++ rest) (mems_in_order a m g v ns rest (λ k i. b k (inr i)) o))
+mems_in_order : (a m g v c : ℕ) (ns : List ℕ) (rest : List Instr) → ((n : ℕ) → In n ns → n < m) → InOrder a m g v c rest → InOrder a m g v c (map RemoveMem ns ++ rest)
+mems_in_order a m g v c [] rest b o = o
+mems_in_order a m g v c (n ∷ ns) rest b o = (b n (inl refl), still a m g v c (map RemoveMem ns ++ rest) (mems_in_order a m g v c ns rest (λ k i. b k (inr i)) o))
 
 inside_below : (k m inside : ℕ) → 1 + k ≤ m → StandsIn k m inside → inside < m
 inside_below k m inside l (inl e) = omega (arith, l, e)
@@ -44,53 +70,65 @@ inside_below k m inside l (inr w) = w.1
 head_below : (k m of : ℕ) → 1 + k ≤ m → IsHeadMembrane k of → of < m
 head_below k m of l w = let e = w.1 in let b = w.2 in omega (arith, l, e, b)
 
-making_in_order : (k a m g v : ℕ) (body : List BodyItem) (rest : List Instr) → 1 + k ≤ m → WellPlaced k m body → NoCopies body → BoundBelow v body → a + atoms_in_body body ≤ ROOM → m + membranes_in_body body ≤ ROOM →
-    InOrder (a + atoms_in_body body) (m + membranes_in_body body) g v rest → InOrder a m g v (making a m 0 body ++ rest)
-making_in_order k a m g v [] rest l w n b r q o = order_same (a + 0) a (m + 0) m g v rest (omega arith) (omega arith) o
-making_in_order k a m g v (Atom functor links inside ∷ xs) rest l w n b r q o = (
+making_in_order : (k a m g v c : ℕ) (body : List BodyItem) (rest : List Instr) → 1 + k ≤ m → WellPlaced k m body → BoundBelow v body → CopiedBelow g body →
+    a + atoms_in_body body ≤ ROOM → m + membranes_in_body body ≤ ROOM → c + copies_in_body body ≤ ROOM →
+    InOrder (a + atoms_in_body body) (m + membranes_in_body body) g v (c + copies_in_body body) rest → InOrder a m g v c (making a m c body ++ rest)
+making_in_order k a m g v c [] rest l w b h r q p o = order_same (a + 0) a (m + 0) m g v (c + 0) c rest (omega arith) (omega arith) (omega arith) o
+making_in_order k a m g v c (Atom functor links inside ∷ xs) rest l w b h r q p o = (
   ((refl, omega (arith, r)), inside_below k m inside l w.0),
-  order_same (a + 1) (a + 1) m (m + 0) g v (making (a + 1) m 0 xs ++ rest) refl (omega arith)
-      (making_in_order k (a + 1) m g v xs rest l w.1 n b (omega (arith, r)) q (order_same (a + (1 + atoms_in_body xs)) (a + 1 + atoms_in_body xs) (m + membranes_in_body xs) (m + membranes_in_body xs) g v rest (omega arith) refl o)),
+  order_same (a + 1) (a + 1) m (m + 0) g v c (c + 0) (making (a + 1) m c xs ++ rest) refl (omega arith) (omega arith)
+      (making_in_order k (a + 1) m g v c xs rest l w.1 b h (omega (arith, r)) q p
+      (order_same (a + (1 + atoms_in_body xs)) (a + 1 + atoms_in_body xs) (m + membranes_in_body xs) (m + membranes_in_body xs) g v (c + copies_in_body xs) (c + copies_in_body xs) rest (omega arith) refl refl o)),
 )
-making_in_order k a m g v (Connector left right ∷ xs) rest l w n b r q o = making_in_order k a m g v xs rest l w n b r q o
-making_in_order k a m g v (Copy part link inside ∷ xs) rest l w n b r q o = absurd n
-making_in_order k a m g v (Bound integer link inside ∷ xs) rest l w n b r q o = (
+making_in_order k a m g v c (Connector left right ∷ xs) rest l w b h r q p o = making_in_order k a m g v c xs rest l w b h r q p o
+making_in_order k a m g v c (Copy part link inside ∷ xs) rest l w b h r q p o = (
+  ((refl, omega (arith, p)), inside_below k m inside l w.0, h.0),
+  order_same a (a + 0) m (m + 0) g v (c + 1) (c + 1) (making a m (c + 1) xs ++ rest) (omega arith) (omega arith) refl
+      (making_in_order k a m g v (c + 1) xs rest l w.1 b h.1 r q (omega (arith, p))
+      (order_same (a + atoms_in_body xs) (a + atoms_in_body xs) (m + membranes_in_body xs) (m + membranes_in_body xs) g v (c + (1 + copies_in_body xs)) (c + 1 + copies_in_body xs) rest refl refl (omega arith) o)),
+)
+making_in_order k a m g v c (Bound integer link inside ∷ xs) rest l w b h r q p o = (
   ((refl, omega (arith, r)), inside_below k m inside l w.0, b.0),
-  order_same (a + 1) (a + 1) m (m + 0) g v (making (a + 1) m 0 xs ++ rest) refl (omega arith)
-      (making_in_order k (a + 1) m g v xs rest l w.1 n b.1 (omega (arith, r)) q (order_same (a + (1 + atoms_in_body xs)) (a + 1 + atoms_in_body xs) (m + membranes_in_body xs) (m + membranes_in_body xs) g v rest (omega arith) refl o)),
+  order_same (a + 1) (a + 1) m (m + 0) g v c (c + 0) (making (a + 1) m c xs ++ rest) refl (omega arith) (omega arith)
+      (making_in_order k (a + 1) m g v c xs rest l w.1 b.1 h (omega (arith, r)) q p
+      (order_same (a + (1 + atoms_in_body xs)) (a + 1 + atoms_in_body xs) (m + membranes_in_body xs) (m + membranes_in_body xs) g v (c + copies_in_body xs) (c + copies_in_body xs) rest (omega arith) refl refl o)),
 )
-making_in_order k a m g v (Membrane inside ∷ xs) rest l w n b r q o = (
+making_in_order k a m g v c (Membrane inside ∷ xs) rest l w b h r q p o = (
   ((refl, omega (arith, q)), inside_below k m inside l w.0),
-  order_same a (a + 0) (m + 1) (m + 1) g v (making a (m + 1) 0 xs ++ rest) (omega arith) refl
-      (making_in_order k a (m + 1) g v xs rest (omega (arith, l)) w.1 n b r (omega (arith, q)) (order_same (a + atoms_in_body xs) (a + atoms_in_body xs) (m + (1 + membranes_in_body xs)) (m + 1 + membranes_in_body xs) g v rest refl (omega arith) o)),
+  order_same a (a + 0) (m + 1) (m + 1) g v c (c + 0) (making a (m + 1) c xs ++ rest) (omega arith) refl (omega arith)
+      (making_in_order k a (m + 1) g v c xs rest (omega (arith, l)) w.1 b h r (omega (arith, q)) p
+      (order_same (a + atoms_in_body xs) (a + atoms_in_body xs) (m + (1 + membranes_in_body xs)) (m + 1 + membranes_in_body xs) g v (c + copies_in_body xs) (c + copies_in_body xs) rest refl (omega arith) refl o)),
 )
-making_in_order k a m g v (Rest of inside ∷ xs) rest l w n b r q o = ((head_below k m of l w.0, inside_below k m inside l w.2), still a m g v (making a m 0 xs ++ rest) (making_in_order k a m g v xs rest l w.3 n b r q o))
-making_in_order k a m g v (Rule rule inside ∷ xs) rest l w n b r q o = (inside_below k m inside l w.0, still a m g v (making a m 0 xs ++ rest) (making_in_order k a m g v xs rest l w.1 n b r q o))
-making_in_order k a m g v (Rules of inside ∷ xs) rest l w n b r q o = ((head_below k m of l w.0, inside_below k m inside l w.1), still a m g v (making a m 0 xs ++ rest) (making_in_order k a m g v xs rest l w.2 n b r q o))
+making_in_order k a m g v c (Rest of inside ∷ xs) rest l w b h r q p o =
+    ((head_below k m of l w.0, inside_below k m inside l w.2), still a m g v c (making a m c xs ++ rest) (making_in_order k a m g v c xs rest l w.3 b h r q p o))
+making_in_order k a m g v c (Rule rule inside ∷ xs) rest l w b h r q p o =
+    (inside_below k m inside l w.0, still a m g v c (making a m c xs ++ rest) (making_in_order k a m g v c xs rest l w.1 b h r q p o))
+making_in_order k a m g v c (Rules of inside ∷ xs) rest l w b h r q p o =
+    ((head_below k m of l w.0, inside_below k m inside l w.1), still a m g v c (making a m c xs ++ rest) (making_in_order k a m g v c xs rest l w.2 b h r q p o))
 
--- Ports of made atoms, and of atoms of the head, among the first a registers
+-- Ports of made atoms and copies, the first a and c, and of atoms of the head
 
-abbrev EachNew : ℕ → List NewPort → Type 0
-EachNew a [] = Unit {0}
-EachNew a (p ∷ ps) = UsesPort a p × EachNew a ps
+abbrev EachNew : ℕ → ℕ → List NewPort → Type 0
+EachNew a c [] = Unit {0}
+EachNew a c (p ∷ ps) = UsesPort a c p × EachNew a c ps
 
 abbrev EachOld : ℕ → List AtomPort → Type 0
 EachOld a [] = Unit {0}
 EachOld a (p ∷ ps) = (p.atom < a) × EachOld a ps
 
-abbrev News : ℕ → List (NewPort × ℕ) → Type 0
-News a [] = Unit {0}
-News a (e ∷ es) = UsesPort a e.0 × News a es
+abbrev News : ℕ → ℕ → List (NewPort × ℕ) → Type 0
+News a c [] = Unit {0}
+News a c (e ∷ es) = UsesPort a c e.0 × News a c es
 
 abbrev Olds : ℕ → List (AtomPort × ℕ) → Type 0
 Olds a [] = Unit {0}
 Olds a (e ∷ es) = (e.0.atom < a) × Olds a es
 
-ends_new : (a : ℕ) (m : ℕ → ℕ) (z : ℕ) (es : List (NewPort × ℕ)) → News a es → EachNew a (ends m z es)
-ends_new a m z [] w = tt
-ends_new a m z (e ∷ es) w = by (m e.1 == z) (ends_new a m z es w.1)
+ends_new : (a c : ℕ) (m : ℕ → ℕ) (z : ℕ) (es : List (NewPort × ℕ)) → News a c es → EachNew a c (ends m z es)
+ends_new a c m z [] w = tt
+ends_new a c m z (e ∷ es) w = by (m e.1 == z) (ends_new a c m z es w.1)
   where
-    by : (t : Bool) → EachNew a (ends m z es) → EachNew a (cond t (e.0 ∷ ends m z es) (ends m z es))
+    by : (t : Bool) → EachNew a c (ends m z es) → EachNew a c (cond t (e.0 ∷ ends m z es) (ends m z es))
     by true q = (w.0, q)
     by false q = q
 
@@ -102,24 +140,24 @@ ends_old a m z (e ∷ es) w = by (m e.1 == z) (ends_old a m z es w.1)
     by true q = (w.0, q)
     by false q = q
 
-news_append : (a : ℕ) (xs ys : List (NewPort × ℕ)) → News a xs → News a ys → News a (xs ++ ys)
-news_append a [] ys p q = q
-news_append a (x ∷ xs) ys p q = (p.0, news_append a xs ys p.1 q)
+news_append : (a c : ℕ) (xs ys : List (NewPort × ℕ)) → News a c xs → News a c ys → News a c (xs ++ ys)
+news_append a c [] ys p q = q
+news_append a c (x ∷ xs) ys p q = (p.0, news_append a c xs ys p.1 q)
 
-news_of : (b a i : ℕ) (xs : List ℕ) → a < b → News b (ports_from a i xs)
-news_of b a i [] l = tt
-news_of b a i (x ∷ xs) l = (l, news_of b a (i + 1) xs l)
+news_of : (b d a i : ℕ) (xs : List ℕ) → a < b → News b d (ports_from a i xs)
+news_of b d a i [] l = tt
+news_of b d a i (x ∷ xs) l = (l, news_of b d a (i + 1) xs l)
 
-news_below : (b a : ℕ) (body : List BodyItem) → NoCopies body → a + atoms_in_body body ≤ b → News b (new_ports a 0 body)
-news_below b a [] n l = tt
-news_below b a (Atom functor links inside ∷ xs) n l = news_append b (ports_from a 0 links) (new_ports (a + 1) 0 xs) (news_of b a 0 links (omega (arith, l))) (news_below b (a + 1) xs n (omega (arith, l)))
-news_below b a (Connector left right ∷ xs) n l = news_below b a xs n l
-news_below b a (Copy part link inside ∷ xs) n l = absurd n
-news_below b a (Bound integer link inside ∷ xs) n l = (let q : a < b = omega (arith, l) in q, news_below b (a + 1) xs n (omega (arith, l)))
-news_below b a (Membrane inside ∷ xs) n l = news_below b a xs n l
-news_below b a (Rest of inside ∷ xs) n l = news_below b a xs n l
-news_below b a (Rule rule inside ∷ xs) n l = news_below b a xs n l
-news_below b a (Rules of inside ∷ xs) n l = news_below b a xs n l
+news_below : (b d a c : ℕ) (body : List BodyItem) → a + atoms_in_body body ≤ b → c + copies_in_body body ≤ d → News b d (new_ports a c body)
+news_below b d a c [] l k = tt
+news_below b d a c (Atom functor links inside ∷ xs) l k = news_append b d (ports_from a 0 links) (new_ports (a + 1) c xs) (news_of b d a 0 links (omega (arith, l))) (news_below b d (a + 1) c xs (omega (arith, l)) k)
+news_below b d a c (Connector left right ∷ xs) l k = news_below b d a c xs l k
+news_below b d a c (Copy part link inside ∷ xs) l k = (let q : c < d = omega (arith, k) in q, news_below b d a (c + 1) xs l (omega (arith, k)))
+news_below b d a c (Bound integer link inside ∷ xs) l k = (let q : a < b = omega (arith, l) in q, news_below b d (a + 1) c xs (omega (arith, l)) k)
+news_below b d a c (Membrane inside ∷ xs) l k = news_below b d a c xs l k
+news_below b d a c (Rest of inside ∷ xs) l k = news_below b d a c xs l k
+news_below b d a c (Rule rule inside ∷ xs) l k = news_below b d a c xs l k
+news_below b d a c (Rules of inside ∷ xs) l k = news_below b d a c xs l k
 
 abbrev Stand : ℕ → List Occurrence → Type 0
 Stand b [] = Unit {0}
@@ -145,45 +183,47 @@ olds_once b xs (o ∷ os) w = by (times o.link xs == 1) (olds_once b xs os w.1)
     by true q = (w.0, q)
     by false q = q
 
-link_in_order : (a m g v : ℕ) (ps : List NewPort) (hs : List AtomPort) (rest : List Instr) → EachNew a ps → EachOld a hs → InOrder a m g v rest → InOrder a m g v (link_code ps hs ++ rest)
-link_in_order a m g v [] [] rest p h o = o
-link_in_order a m g v [] (x ∷ []) rest p h o = o
-link_in_order a m g v [] (x ∷ y ∷ []) rest p h o = ((h.0, h.1.0), still a m g v rest o)
-link_in_order a m g v [] (x ∷ y ∷ z ∷ hs) rest p h o = o
-link_in_order a m g v (q ∷ []) [] rest p h o = o
-link_in_order a m g v (q ∷ []) (x ∷ []) rest p h o = ((p.0, h.0), still a m g v rest o)
-link_in_order a m g v (q ∷ []) (x ∷ y ∷ hs) rest p h o = o
-link_in_order a m g v (q ∷ w ∷ []) [] rest p h o = ((p.0, p.1.0), still a m g v rest o)
-link_in_order a m g v (q ∷ w ∷ []) (x ∷ hs) rest p h o = o
-link_in_order a m g v (q ∷ w ∷ u ∷ ps) hs rest p h o = o
+link_in_order : (a m g v c : ℕ) (ps : List NewPort) (hs : List AtomPort) (rest : List Instr) → EachNew a c ps → EachOld a hs → InOrder a m g v c rest → InOrder a m g v c (link_code ps hs ++ rest)
+link_in_order a m g v c [] [] rest p h o = o
+link_in_order a m g v c [] (x ∷ []) rest p h o = o
+link_in_order a m g v c [] (x ∷ y ∷ []) rest p h o = ((h.0, h.1.0), still a m g v c rest o)
+link_in_order a m g v c [] (x ∷ y ∷ z ∷ hs) rest p h o = o
+link_in_order a m g v c (q ∷ []) [] rest p h o = o
+link_in_order a m g v c (q ∷ []) (x ∷ []) rest p h o = ((p.0, h.0), still a m g v c rest o)
+link_in_order a m g v c (q ∷ []) (x ∷ y ∷ hs) rest p h o = o
+link_in_order a m g v c (q ∷ w ∷ []) [] rest p h o = ((p.0, p.1.0), still a m g v c rest o)
+link_in_order a m g v c (q ∷ w ∷ []) (x ∷ hs) rest p h o = o
+link_in_order a m g v c (q ∷ w ∷ u ∷ ps) hs rest p h o = o
 
-links_in_order : (a m g v : ℕ) (c : ℕ → ℕ) (news : List (NewPort × ℕ)) (olds : List (AtomPort × ℕ)) (zs : List ℕ) (rest : List Instr) → News a news → Olds a olds → InOrder a m g v rest → InOrder a m g v (links_code c news olds zs ++ rest)
-links_in_order a m g v c news olds [] rest p h o = o
-links_in_order a m g v c news olds (z ∷ zs) rest p h o =
-    subst (InOrder a m g v) (sym (append_assoc (link_code (ends c z news) (ends c z olds)) (links_code c news olds zs) rest))
-    (link_in_order a m g v (ends c z news) (ends c z olds) (links_code c news olds zs ++ rest) (ends_new a c z news p) (ends_old a c z olds h) (links_in_order a m g v c news olds zs rest p h o))
+links_in_order : (a m g v c : ℕ) (f : ℕ → ℕ) (news : List (NewPort × ℕ)) (olds : List (AtomPort × ℕ)) (zs : List ℕ) (rest : List Instr) → News a c news → Olds a olds → InOrder a m g v c rest → InOrder a m g v c (links_code f news olds zs ++ rest)
+links_in_order a m g v c f news olds [] rest p h o = o
+links_in_order a m g v c f news olds (z ∷ zs) rest p h o =
+    subst (InOrder a m g v c) (sym (append_assoc (link_code (ends f z news) (ends f z olds)) (links_code f news olds zs) rest))
+    (link_in_order a m g v c (ends f z news) (ends f z olds) (links_code f news olds zs ++ rest) (ends_new a c f z news p) (ends_old a f z olds h) (links_in_order a m g v c f news olds zs rest p h o))
 
 olds_more : (a b : ℕ) → a ≤ b → (es : List (AtomPort × ℕ)) → Olds a es → Olds b es
 olds_more a b l [] w = tt
 olds_more a b l (e ∷ es) w = let u = w.0 in (omega (arith, l, u), olds_more a b l es w.1)
 
 pub bodies_are_in_order : BodiesAreInOrder
-bodies_are_in_order head body n v rule below room room_too =
+bodies_are_in_order head body n v rule below room room_mems room_copies =
+    let copied = copied_below (length (typed_contexts_of head)) 0 body (λ e i. (let w = rule.atoms.copied e i in get_below (typed_contexts_of head) e.1 w.0 w.1)) in
     let a = length (atoms_of head) in
     let k = length (membranes_of head) in
     let g = length (typed_contexts_of head) in
+    let e = copies_in_body body in
     let made = making a (1 + k) 0 body in
-    let news = news_below (a + atoms_in_body body) a body rule.atoms.no_copies (omega arith) in
+    let news = news_below (a + atoms_in_body body) (0 + e) a 0 body (omega arith) (omega arith) in
     let olds = olds_more a (a + atoms_in_body body) (omega arith) (old_ports head) (olds_once a (links_of head) (at_atoms 0 (atoms_of head)) (stand_atoms a 0 (atoms_of head) (omega arith))) in
     let ls = links_code (class_of (connectors body)) (new_ports a 0 body) (old_ports head) (rising 0 n) in
     let os = map RemoveAtom (rising 0 a) in
     let gs = map RemovePart (rising 0 g) in
     let ms = map RemoveMem (rising 1 k) in
     let tail = made ++ (ls ++ (Proceed ∷ [])) in
-    let end : InOrder (a + atoms_in_body body) (1 + k + membranes_in_body body) g v (Proceed ∷ []) = (tt, tt) in
-    let links = links_in_order (a + atoms_in_body body) (1 + k + membranes_in_body body) g v (class_of (connectors body)) (new_ports a 0 body) (old_ports head) (rising 0 n) (Proceed ∷ []) news olds end in
-    let making_part = making_in_order k a (1 + k) g v body (ls ++ (Proceed ∷ [])) (omega arith) rule.placed rule.atoms.no_copies below room room_too links in
-    let mems_part = mems_in_order a (1 + k) g v (rising 1 k) tail (λ x i. (let b = (rising_below k 1 x i).1 in b)) making_part in
-    let parts_part = parts_in_order a (1 + k) g v (rising 0 g) (ms ++ tail) (λ x i. (let b = (rising_below g 0 x i).1 in omega (arith, b))) mems_part in
-    let atoms_part = atoms_in_order a (1 + k) g v (rising 0 a) (gs ++ (ms ++ tail)) (λ x i. (let b = (rising_below a 0 x i).1 in omega (arith, b))) parts_part in
-    subst (InOrder a (1 + k) g v) (sym (append_assoc os (gs ++ ms) tail ∙ ap (λ is. os ++ is) (append_assoc gs ms tail))) atoms_part
+    let end : InOrder (a + atoms_in_body body) (1 + k + membranes_in_body body) g v (0 + e) (Proceed ∷ []) = (tt, tt) in
+    let links = links_in_order (a + atoms_in_body body) (1 + k + membranes_in_body body) g v (0 + e) (class_of (connectors body)) (new_ports a 0 body) (old_ports head) (rising 0 n) (Proceed ∷ []) news olds end in
+    let making_part = making_in_order k a (1 + k) g v 0 body (ls ++ (Proceed ∷ [])) (omega arith) rule.placed below copied room room_mems (omega (arith, room_copies)) links in
+    let mems_part = mems_in_order a (1 + k) g v 0 (rising 1 k) tail (λ x i. (let b = (rising_below k 1 x i).1 in b)) making_part in
+    let parts_part = parts_in_order a (1 + k) g v 0 (rising 0 g) (ms ++ tail) (λ x i. (let b = (rising_below g 0 x i).1 in omega (arith, b))) mems_part in
+    let atoms_part = atoms_in_order a (1 + k) g v 0 (rising 0 a) (gs ++ (ms ++ tail)) (λ x i. (let b = (rising_below a 0 x i).1 in omega (arith, b))) parts_part in
+    subst (InOrder a (1 + k) g v 0) (sym (append_assoc os (gs ++ ms) tail ∙ ap (λ is. os ++ is) (append_assoc gs ms tail))) atoms_part

@@ -1,12 +1,13 @@
 -- The code of the body of a rule that is matched and prepared can be committed.
-use Rattle.std.proofs.Common.{ℕ, zero, suc, ◌≡◌, ◌≢◌, ◌<◌, ◌≤◌, ◌+◌, ◌==◌, ◌⊎◌, inl, inr, Bool, true, false, cond, List, [], ◌∷◌, ◌++◌, map, replicate, Option, Some, None, IsSome, refl, arith, ap, sym, subst, length, ◌∙◌}
+use Rattle.std.proofs.Common.{ℕ, zero, suc, ◌≡◌, ◌≢◌, ◌<◌, ◌≤◌, ◌+◌, ◌==◌, ◌⊎◌, inl, inr, Bool, true, false, cond, List, [], ◌∷◌, ◌++◌, map, Option, Some, None, IsSome, refl, arith, ap, sym, subst, length, ◌∙◌}
 use Rattle.std.specs.Option.{option_map, option_and_then}
-use Rattle.std.specs.Prelude.{slice_get, slice_index_or}
-use Rattle.lmn_heap.specs.Heap.{Heap, HeapAtom, Place, top, within, waiting, gone, In, IsInPlace, home_by, links_of, marks_of, arity_of, link_of, rules_in, spare_of, new_atom, unless_waiting, discarded, taken, with_place, made_atom}
+use Rattle.std.specs.Prelude.{slice_get, slice_index_or, pos}
+use Rattle.lmn_heap.specs.Heap.{Heap, HeapAtom, Place, top, within, waiting, gone, In, IsInPlace, home_by, links_of, marks_of, arity_of, link_of, rules_in, spare_of, unless_waiting, discarded, taken, with_place}
 use Rattle.lmn_heap.specs.Sound.{Sound, Valid, Forest, bare, mem, Forms}
 use Rattle.lmn_heap.specs.Heap.{HeapMem, mems_in, mems_by, mem_with_spare}
 use Rattle.lmn_base.specs.Solids.{connector}
 use Rattle.lmn_heap.proofs.Replacing.{port_within}
+use Rattle.lmn_heap.specs.Conditions.{Alone}
 use Rattle.lmn_solid.specs.declared.items.HeadItem.{HeadItem}
 use Rattle.lmn_solid.specs.Heads.{HeadTyped, typed_contexts_of, atoms_of, membranes_of}
 use Rattle.lmn_solid.specs.Embeddings.{Embeds}
@@ -14,28 +15,26 @@ use Rattle.lmn_splice.specs.Classes.{class_of, ends, rising}
 use Rattle.lmn_instr.specs.declared.instr.AtomPort.{AtomPort}
 use Rattle.lmn_instr.specs.declared.instr.NewPort.{NewPort}
 use Rattle.lmn_instr.specs.declared.instr.Instr.{Instr}
-use Rattle.lmn_instr.specs.declared.instr.Instr.TheVariants.{RemoveAtom, RemovePart, RemoveMem, NewAtom, NewInt, NewMem, CopyGround, MoveCells, LoadRule, CopyRules, NewLink, Relink, Unify, Proceed}
+use Rattle.lmn_instr.specs.declared.instr.Instr.TheVariants.{RemoveAtom, RemovePart, RemoveMem, LoadRule, CopyRules, Proceed}
 use Rattle.lmn_body.specs.declared.items.BodyItem.{BodyItem}
 use Rattle.lmn_body.specs.declared.items.BodyItem.TheVariants.{Atom, Connector, Copy, Bound, Membrane, Rest, Rule, Rules}
 use Rattle.lmn_body.specs.Added.{added_rules, if_inside}
 use Rattle.lmn_body.specs.Code.{body_code, removals, making, link_code, links_code}
 use Rattle.lmn_body.specs.Items.{new_ports, old_ports, connectors}
-use Rattle.lmn_body.specs.Running.{Registers, Makes, Prepares, Commits, RunsBody, all_taken, integer_functor}
+use Rattle.lmn_body.specs.Running.{Registers, Prepares, Commits, RunsBody, all_taken}
 use Rattle.lmn_body.specs.Conditions.{Can, CanRun}
-use Rattle.lmn_body.specs.Stopping.{SameButSpares, NoCopying, IsCopying}
+use Rattle.lmn_body.specs.Stopping.{SameButSpares}
 use Rattle.lmn_body.proofs.Stops.{prepare_stops}
 use Rattle.lmn_body.proofs.Parts.{taken_links}
 use Rattle.lmn_body.proofs.Firing.{rising_below}
-use Rattle.lmn_commit.specs.declared.registers.SetRegisters.{SetRegisters}
-use Rattle.lmn_commit.specs.Registers.{Agrees}
+use Rattle.lmn_registers.specs.declared.registers.SetRegisters.{SetRegisters}
+use Rattle.lmn_commit.specs.Registers.{Agrees, HasCopies}
 use Rattle.lmn_commit.specs.Preparing.{needed, needed_by}
 use Rattle.lmn_commit.specs.Committing.{Runs, Stands, Unmarked}
 use Rattle.lmn_commit.specs.Matched.{IsPrepared}
 use Rattle.lmn_body.proofs.Numbering.{links_have_numbers}
 use Rattle.lmn_body.proofs.Laws.{body_can_run, body_fires_within}
-use Rattle.lmn_commit.proofs.Codes.{none_copies}
 use Rattle.lmn_commit.proofs.Making.{agrees_before}
-use Rattle.lmn_base.specs.declared.functor.Functor.{Functor}
 use Rattle.std.proofs.lemmas.List.{append_assoc}
 
 -- Instructions of a list, each with a property
@@ -266,6 +265,10 @@ atoms_run r (a ∷ ns) gs rest s j n c = (c.0, tt, λ t d. atoms_run r ns gs res
 
 -- A prepared heap
 
+-- a valid heap, in which nothing is made
+pub itself : (h : Heap) → Valid h → Alone h × SameButSpares h (discarded h)
+itself h v = prepare_stops (record { head = record { images = record { atom = λ k. 0; membrane = λ k. 0; part = λ k. (0, 0) }; integer = λ k. pos 0 }; copy = λ k. (0, 0); copied = λ k. [] }) [] tt h v h refl
+
 not_gone : (p : Place) → IsSome (home_by p) → (x : HeapAtom) → x.place ≡ p → unless_waiting x ≡ Some x
 not_gone top e x q = rw q refl
 not_gone (within m) e x q = rw q refl
@@ -310,7 +313,7 @@ get_typed [] k l = absurd (omega arith)
 get_typed (x ∷ xs) zero l = (x, refl)
 get_typed (x ∷ xs) (suc k) l = get_typed xs k (omega arith)
 
-module _ {A M : Type 0} (atom : A → ℕ) (membrane : M → ℕ) (s : Heap) (k : SetRegisters A M) (code : List Instr) (p : IsPrepared atom membrane s k code) (r : Registers) (u : Agrees atom membrane k r) where
+module _ {A M : Type 0} (atom : A → ℕ) (membrane : M → ℕ) (s : Heap) (k : SetRegisters A M) (code : List Instr) (p : IsPrepared atom membrane s k code) (r : Registers) (u : Agrees atom membrane k r) (has : HasCopies r p.prepared.copied) where
   abbrev h : Heap
   h = p.before
 
@@ -320,11 +323,11 @@ module _ {A M : Type 0} (atom : A → ℕ) (membrane : M → ℕ) (s : Heap) (k 
   abbrev em : Embeds h p.matched.head p.matched.guard p.matched.place r.head.images
   em = p.matched.embeds r agreed
 
-  prepares : Prepares r code h s
-  prepares = p.prepared.prepares r u
+  pub prepares : Prepares r code h s
+  prepares = p.prepared.prepares r u has
 
   before_it : SameButSpares h (discarded s)
-  before_it = (prepare_stops r code (none_copies (length k.atoms) (length k.membranes) (length k.parts) code p.prepared.uses) h p.matched.valid s prepares).1
+  before_it = p.prepared.makes.rest h (itself h p.matched.valid).1
 
   root_joined : (g : ℕ) → g < length (typed_contexts_of p.matched.head) → IsSome (link_of h (r.head.images.part g).0 (r.head.images.part g).1)
   root_joined g l =
@@ -376,54 +379,10 @@ module _ {A M : Type 0} (atom : A → ℕ) (membrane : M → ℕ) (s : Heap) (k 
       (body_fires_within p.matched.head p.matched.body p.matched.links p.matched.rule r h p.matched.valid p.matched.guard p.matched.place em p.matched.in_place c.0 c.1 t
       (subst (λ is. RunsBody r is h t) p.matched.is_code (s, prepares, w))).2
 
--- Marks
-
-no_marks : (n i : ℕ) → ◌≡◌ {A = ℕ} (slice_index_or (replicate n 0) i 0) 0
-no_marks zero zero = refl
-no_marks zero (suc i) = refl
-no_marks (suc n) zero = refl
-no_marks (suc n) (suc i) = no_marks n i
-
-made_unmarked : (s t : Heap) (a : ℕ) (f : Functor) → t ≡ made_atom s a f → Unmarked s → Unmarked t
-made_unmarked s t a f e u = subst Unmarked (sym e) (λ b i. by (b == a) i (s.atoms b) (u b i))
-  where
-    by : (c : Bool) (i : ℕ) (o : Option HeapAtom) → slice_index_or (marks_of o) i 0 ≡ 0 → slice_index_or (marks_of (cond c (Some (new_atom f)) o)) i 0 ≡ 0
-    by true i o q = no_marks (f.arity + 1) i
-    by false i o q = q
-
-abbrev TakesCopy : Instr → Type 0
-TakesCopy (CopyGround c m g) = ⊥
-TakesCopy _ = Unit {0}
-
-copies_none : (i : Instr) → (IsCopying i → ⊥) → TakesCopy i
-copies_none (CopyGround c m g) n = n tt
-copies_none _ n = tt
-
-makes_unmarked : (r : Registers) (i : Instr) (s t : Heap) → TakesCopy i → Makes r i s t → Unmarked s → Unmarked t
-makes_unmarked r (NewAtom a m f) s t n w u = made_unmarked s t (r.head.images.atom a) f w.1 u
-makes_unmarked r (NewInt a m v) s t n w u = made_unmarked s t (r.head.images.atom a) (integer_functor (r.head.integer v)) w.1 u
-makes_unmarked r (NewMem m k) s t n w u = subst Unmarked (sym w.1) u
-makes_unmarked r (LoadRule m k) s t n w u = subst Unmarked (sym w.1) u
-makes_unmarked r (CopyRules m k) s t n w u = subst Unmarked (sym w.1) u
-makes_unmarked r (CopyGround c m g) s t n w u = absurd n
-makes_unmarked r (RemoveAtom a) s t n w u = subst Unmarked (sym w) u
-makes_unmarked r (RemovePart g) s t n w u = subst Unmarked (sym w) u
-makes_unmarked r (RemoveMem m) s t n w u = subst Unmarked (sym w) u
-makes_unmarked r (MoveCells m k) s t n w u = subst Unmarked (sym w) u
-makes_unmarked r (NewLink p q) s t n w u = subst Unmarked (sym w) u
-makes_unmarked r (Relink p q) s t n w u = subst Unmarked (sym w) u
-makes_unmarked r (Unify p q) s t n w u = subst Unmarked (sym w) u
-makes_unmarked r Proceed s t n w u = subst Unmarked (sym w) u
-makes_unmarked r _ s t n w u = absurd w
-
-pub prepares_unmarked : (r : Registers) (is : List Instr) (s t : Heap) → NoCopying is → Prepares r is s t → Unmarked s → Unmarked t
-prepares_unmarked r [] s t n w u = subst Unmarked (sym w) u
-prepares_unmarked r (i ∷ is) s t n w u = prepares_unmarked r is w.0 t n.1 w.2 (makes_unmarked r i s w.0 (copies_none i n.0) w.1 u)
+-- A heap that differs from a valid one in spares alone has no marks and is valid.
 
 pub stops_unmarked : (h t : Heap) → SameButSpares h t → Unmarked h → Unmarked t
 stops_unmarked h t e u a i = ap (λ (o : Option HeapAtom). slice_index_or (marks_of o) i 0) (e.atoms a) ∙ u a i
-
--- A heap that differs from a valid one in spares alone is valid.
 
 forms_on : (h t : Heap) → ((m : ℕ) → mems_in t m ≡ mems_in h m) → (f : Forest) (ms : List ℕ) → Forms h f ms → Forms t f ms
 forms_on h t e bare ms w = w

@@ -10,7 +10,7 @@ use Rattle.lmn_body.specs.declared.items.BodyItem.{BodyItem}
 use Rattle.lmn_body.specs.Code.{body_code}
 use Rattle.lmn_body.specs.Rules.{NestedRule}
 use Rattle.lmn_body.specs.Running.{Registers}
-use Rattle.lmn_commit.specs.declared.registers.SetRegisters.{SetRegisters}
+use Rattle.lmn_registers.specs.declared.registers.SetRegisters.{SetRegisters}
 use Rattle.lmn_commit.specs.Registers.{Agrees}
 use Rattle.lmn_commit.specs.Preparing.{Prepared}
 use Rattle.lmn_commit.specs.Committing.{Unmarked}

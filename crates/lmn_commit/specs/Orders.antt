@@ -6,7 +6,7 @@ use Rattle.lmn_body.specs.declared.items.BodyItem.{BodyItem}
 use Rattle.lmn_body.specs.declared.items.BodyItem.TheVariants.{Atom, Connector, Copy, Bound, Membrane, Rest, Rule, Rules}
 use Rattle.lmn_body.specs.Code.{body_code}
 use Rattle.lmn_body.specs.Rules.{NestedRule}
-use Rattle.lmn_commit.specs.declared.stack.TheConstants.{ROOM}
+use Rattle.lmn_registers.specs.declared.stack.TheConstants.{ROOM}
 use Rattle.lmn_commit.specs.Preparing.{InOrder}
 
 -- how many atoms a body makes
@@ -33,6 +33,18 @@ membranes_in_body (Rest of inside ∷ xs) = membranes_in_body xs
 membranes_in_body (Rule rule inside ∷ xs) = membranes_in_body xs
 membranes_in_body (Rules of inside ∷ xs) = membranes_in_body xs
 
+-- how many copies of typed contexts
+abbrev pub copies_in_body : List BodyItem → ℕ
+copies_in_body [] = 0
+copies_in_body (Atom functor links inside ∷ xs) = copies_in_body xs
+copies_in_body (Connector left right ∷ xs) = copies_in_body xs
+copies_in_body (Copy part link inside ∷ xs) = 1 + copies_in_body xs
+copies_in_body (Bound integer link inside ∷ xs) = copies_in_body xs
+copies_in_body (Membrane inside ∷ xs) = copies_in_body xs
+copies_in_body (Rest of inside ∷ xs) = copies_in_body xs
+copies_in_body (Rule rule inside ∷ xs) = copies_in_body xs
+copies_in_body (Rules of inside ∷ xs) = copies_in_body xs
+
 -- its integers are in the first v registers
 abbrev pub BoundBelow : ℕ → List BodyItem → Type 0
 BoundBelow v [] = Unit {0}
@@ -49,5 +61,5 @@ BoundBelow v (Rules of inside ∷ xs) = BoundBelow v xs
 -- its integers are set.
 abbrev pub BodiesAreInOrder : Type 0
 BodiesAreInOrder = (head : List HeadItem) (body : List BodyItem) (n v : ℕ) → NestedRule head body n → BoundBelow v body →
-    length (atoms_of head) + atoms_in_body body ≤ ROOM → 1 + length (membranes_of head) + membranes_in_body body ≤ ROOM →
-    InOrder (length (atoms_of head)) (1 + length (membranes_of head)) (length (typed_contexts_of head)) v (body_code head body n)
+    length (atoms_of head) + atoms_in_body body ≤ ROOM → 1 + length (membranes_of head) + membranes_in_body body ≤ ROOM → copies_in_body body ≤ ROOM →
+    InOrder (length (atoms_of head)) (1 + length (membranes_of head)) (length (typed_contexts_of head)) v 0 (body_code head body n)

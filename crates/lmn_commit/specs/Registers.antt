@@ -1,8 +1,9 @@
 -- The registers of a machine, by the numbers of what they hold.
-use Rattle.std.specs.Prelude.{ℕ, ℤ, ◌≡◌, Some, slice_get}
+use Rattle.std.specs.Prelude.{ℕ, ℤ, ◌≡◌, List, Some, length, slice_get}
 use Rattle.lmn_heap.specs.Heap.{Heap, IsAtom, IsMem, port_id}
 use Rattle.lmn_body.specs.Running.{Registers}
-use Rattle.lmn_commit.specs.declared.registers.SetRegisters.{SetRegisters}
+use Rattle.lmn_registers.specs.declared.registers.PartCopy.{PartCopy}
+use Rattle.lmn_registers.specs.declared.registers.SetRegisters.{SetRegisters}
 
 -- Registers that have the values of those that are set, where `atom` and `membrane` number the handles of a store.
 pub record Agrees {A M : Type 0} (atom : A → ℕ) (membrane : M → ℕ) (g : SetRegisters A M) (r : Registers) : Type 0 where
@@ -10,6 +11,7 @@ pub record Agrees {A M : Type 0} (atom : A → ℕ) (membrane : M → ℕ) (g : 
   pub membranes : (k : ℕ) (m : M) → slice_get g.membranes k ≡ Some m → r.head.images.membrane k ≡ membrane m
   pub parts : (k : ℕ) (p : A × ℕ) → slice_get g.parts k ≡ Some p → r.head.images.part k ≡ port_id atom p
   pub integers : (k : ℕ) (z : ℤ) → slice_get g.integers k ≡ Some z → r.head.integer k ≡ z
+  pub copies : (k : ℕ) (p : PartCopy A) → slice_get g.copies k ≡ Some p → (r.copy k ≡ port_id atom p.root) × (length (r.copied k) ≡ p.atoms)
 
 -- the handles in the registers are of atoms and of membranes
 pub record AreHeld {A M : Type 0} (atom : A → ℕ) (membrane : M → ℕ) (h : Heap) (g : SetRegisters A M) : Type 0 where
@@ -17,9 +19,19 @@ pub record AreHeld {A M : Type 0} (atom : A → ℕ) (membrane : M → ℕ) (h :
   pub membranes : (k : ℕ) (m : M) → slice_get g.membranes k ≡ Some m → IsMem h (membrane m)
   pub parts : (k : ℕ) (p : A × ℕ) → slice_get g.parts k ≡ Some p → IsAtom h (atom p.0)
 
--- more atoms and membranes are set, and all that was set before is as it was
+-- the copies in registers have as many atoms as these lists
+pub record AreSized {A : Type 0} (copies : List (PartCopy A)) (copied : List (List ℕ)) : Type 0 where
+  pub count : length copied ≡ length copies
+  pub sizes : (k : ℕ) (p : PartCopy A) (atoms : List ℕ) → slice_get copies k ≡ Some p → slice_get copied k ≡ Some atoms → length atoms ≡ p.atoms
+
+-- the copies have these atoms, each list in order
+abbrev pub HasCopies : Registers → List (List ℕ) → Type 0
+HasCopies r copied = (k : ℕ) (atoms : List ℕ) → slice_get copied k ≡ Some atoms → r.copied k ≡ atoms
+
+-- more atoms, membranes and copies are set, and all that was set before is as it was
 pub record Grows {A M : Type 0} (g k : SetRegisters A M) : Type 0 where
   pub atoms : (i : ℕ) (a : A) → slice_get g.atoms i ≡ Some a → slice_get k.atoms i ≡ Some a
   pub membranes : (i : ℕ) (m : M) → slice_get g.membranes i ≡ Some m → slice_get k.membranes i ≡ Some m
   pub parts : k.parts ≡ g.parts
   pub integers : k.integers ≡ g.integers
+  pub copies : (i : ℕ) (p : PartCopy A) → slice_get g.copies i ≡ Some p → slice_get k.copies i ≡ Some p

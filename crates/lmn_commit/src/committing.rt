@@ -1,18 +1,18 @@
 //! Does what the code of a body does, when all that it makes is made.
-ghost use Rattle.std.specs.Prelude.{◌≡◌, ◌<◌, ℕ, length};
-ghost use Rattle.lmn_body.specs.Running.{Registers, Commits, Does, old_port, new_port};
-ghost use Rattle.lmn_heap.specs.Heap.{port_id};
+ghost use Rattle.std.specs.Prelude.{◌≡◌, ◌<◌, ◌++◌, ℕ, List, length, map};
+ghost use Rattle.lmn_body.specs.Running.{Registers, Commits, Does, RunsBody, all_placed, old_port, new_port};
+ghost use Rattle.lmn_heap.specs.Heap.{IsMemInPlace, port_id};
 ghost use Rattle.lmn_body.specs.Conditions.{Can};
-ghost use Rattle.lmn_commit.specs.Registers.{Agrees};
+ghost use Rattle.lmn_commit.specs.Registers.{Agrees, HasCopies};
 ghost use Rattle.lmn_commit.specs.Preparing.{AllUse, Uses, UsesPort};
 ghost use Rattle.lmn_commit.specs.Committing.{Runs, Stands, Unmarked};
 ghost use Rattle.lmn_commit.specs.Matched.{IsPrepared};
 ghost use Rattle.lmn_heap.specs.Sound.{Valid};
 
-use crate::registers::SetRegisters;
 use crate::splicing::{relink, unify};
 use lmn_ground::take_part;
 use lmn_instr::{AtomPort, Instr, NewPort};
+use lmn_registers::SetRegisters;
 use lmn_store::LinkStore;
 
 /// A port of the atom in a register.
@@ -25,19 +25,31 @@ fn port_of<A: Copy, M: Copy>(set: &SetRegisters<A, M>, port: AtomPort) -> (A, u8
 
 /// A port of a made atom.
 fn made_port<A: Copy, M: Copy>(set: &SetRegisters<A, M>, port: NewPort) -> (A, u8)
-    requires { UsesPort (length set.now.atoms) port }
+    requires { UsesPort (length set.now.atoms) (length set.now.copies) port }
     ensures { (id : A → ℕ) (membrane : M → ℕ) (r : Registers) → Agrees id membrane set.now r → new_port r port ≡ port_id id result }
 {
     match port {
         NewPort::Atom(p) => port_of(set, p),
-        NewPort::Copy(_) => unreachable!(),
+        NewPort::Copy(copy) => set.copies.at(copy as usize).root,
+    }
+}
+
+/// The first atoms that wait go to a membrane, so many of them.
+fn place_atoms<S: LinkStore>(store: &mut S, count: u64, m: S::Mem)
+    requires membrane { IsMemInPlace (S.heap store.old) (S.mem_id m) }
+    requires waiting { (atoms rest : List ℕ) × (length atoms ≡ count) × ((S.heap store.old).new_atoms ≡ atoms ++ rest) }
+    ensures { (atoms rest : List ℕ) → length atoms ≡ count → (S.heap store.old).new_atoms ≡ atoms ++ rest →
+        S.heap store.new ≡ all_placed (S.heap store.old) (map (λ a. (S.mem_id m, a)) atoms) }
+{
+    for i in 0..count {
+        let _atom = store.place_atom(m);
     }
 }
 
 /// Does what an instruction does.
 fn run<S: LinkStore>(store: &mut S, instr: &Instr, set: &SetRegisters<S::Atom, S::Mem>)
     requires unmarked { Unmarked (S.heap store.old) }
-    requires uses { Uses (length set.now.atoms) (length set.now.membranes) (length set.now.parts) instr.now }
+    requires uses { Uses (length set.now.atoms) (length set.now.membranes) (length set.now.parts) (length set.now.copies) instr.now }
     requires can { (r : Registers) × Agrees S.atom_id S.mem_id set.now r × Can r instr.now (S.heap store.old) × Stands r instr.now (S.heap store.old) }
     ensures { (r : Registers) → Agrees S.atom_id S.mem_id set.now r → Can r instr.now (S.heap store.old) → Does r instr.now (S.heap store.old) (S.heap store.new) }
 {
@@ -54,6 +66,10 @@ fn run<S: LinkStore>(store: &mut S, instr: &Instr, set: &SetRegisters<S::Atom, S
         }
         Instr::NewMem { inside, .. } => {
             let _membrane = store.place_mem(set.membranes.at(*inside as usize));
+        }
+        Instr::CopyGround { copy, membrane, .. } => {
+            let atoms = set.copies.at(*copy as usize).atoms;
+            place_atoms(store, atoms, set.membranes.at(*membrane as usize));
         }
         Instr::MoveCells { from, to } => {
             store.move_all(
@@ -93,7 +109,7 @@ fn run<S: LinkStore>(store: &mut S, instr: &Instr, set: &SetRegisters<S::Atom, S
 /// Does what code does, one instruction after the other.
 fn run_all<S: LinkStore>(store: &mut S, code: &[Instr], set: &SetRegisters<S::Atom, S::Mem>)
     requires unmarked { Unmarked (S.heap store.old) }
-    requires uses { AllUse (length set.now.atoms) (length set.now.membranes) (length set.now.parts) code.now }
+    requires uses { AllUse (length set.now.atoms) (length set.now.membranes) (length set.now.parts) (length set.now.copies) code.now }
     requires runs { (r : Registers) × Agrees S.atom_id S.mem_id set.now r × Runs r code.now (S.heap store.old) }
     ensures commits { (r : Registers) → Agrees S.atom_id S.mem_id set.now r → Runs r code.now (S.heap store.old) → Commits r code.now (S.heap store.old) (S.heap store.new) }
     ensures unmarked { Unmarked (S.heap store.new) }
@@ -107,7 +123,8 @@ fn run_all<S: LinkStore>(store: &mut S, code: &[Instr], set: &SetRegisters<S::At
 /// memory and can't fail, and leaves a valid store without marks.
 pub fn commit<S: LinkStore>(store: &mut S, code: &[Instr], set: &SetRegisters<S::Atom, S::Mem>)
     requires { IsPrepared S.atom_id S.mem_id (S.heap store.old) set.now code.now }
-    ensures commits { (r : Registers) → Agrees S.atom_id S.mem_id set.now r → Commits r code.now (S.heap store.old) (S.heap store.new) }
+    ensures fires { (p : IsPrepared S.atom_id S.mem_id (S.heap store.old) set.now code.now) (r : Registers) → Agrees S.atom_id S.mem_id set.now r → HasCopies r p.prepared.copied →
+        RunsBody r code.now p.before (S.heap store.new) }
     ensures valid { Valid (S.heap store.new) }
     ensures unmarked { Unmarked (S.heap store.new) }
 {

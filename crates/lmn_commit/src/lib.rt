@@ -7,14 +7,10 @@
 mod committing;
 mod laws;
 mod preparing;
-mod registers;
 mod splicing;
-mod stack;
 #[cfg(test)]
 mod tests;
 
 pub use committing::commit;
 pub use laws::bodies_are_in_order;
 pub use preparing::prepare;
-pub use registers::SetRegisters;
-pub use stack::Stack;

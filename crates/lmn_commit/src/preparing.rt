@@ -1,17 +1,18 @@
 //! Makes all that the code of a body makes.
-ghost use Rattle.std.specs.Prelude.{◌≡◌, ◌<◌, ◌≤◌, ◌+◌, ℕ, length, take, slice_get, Some, OnOk, OnErr};
+ghost use Rattle.std.specs.Prelude.{◌≡◌, ◌<◌, ◌≤◌, ◌+◌, ℕ, [], length, take, slice_get, Some, OnOk, OnErr};
 ghost use Rattle.lmn_heap.specs.Heap.{IsMem, rules_in, spare_of};
 ghost use Rattle.lmn_heap.specs.Sound.{Valid};
 ghost use Rattle.lmn_body.specs.Running.{Registers};
 ghost use Rattle.lmn_body.specs.Stopping.{SameButSpares};
 ghost use Rattle.lmn_commit.specs.Registers.{Agrees, AreHeld};
-ghost use Rattle.lmn_commit.specs.Preparing.{AllUse, AtomIsMade, MembraneIsMade, RoomIsMade, InOrder, IsMade, Prepared, Reads, Uses, needed, needed_by};
+ghost use Rattle.lmn_commit.specs.Preparing.{AllUse, AtomIsMade, CanBeCopied, CanCopy, CopyIsMade, MembraneIsMade, OnlyMakes, RoomIsMade, InOrder, IsMade, Prepared, Reads, Uses, needed, needed_by};
 ghost use Rattle.lmn_commit.specs.Committing.{Unmarked};
-ghost use Rattle.lmn_commit.specs.declared.stack.TheConstants.{ROOM};
+ghost use Rattle.lmn_registers.specs.declared.stack.TheConstants.{ROOM};
 
-use crate::registers::SetRegisters;
 use lmn_base::{Functor, Label, NoMemory};
+use lmn_ground::{copy, size_of};
 use lmn_instr::Instr;
+use lmn_registers::{PartCopy, SetRegisters};
 use lmn_store::LinkStore;
 use std::alloc::Global;
 
@@ -24,7 +25,7 @@ fn make_atom<S: LinkStore>(
 ) -> Result<(), NoMemory>
     requires room { length set.old.atoms < ROOM }
     ensures ok { OnOk result (AtomIsMade S.atom_id (S.heap store.old) (S.heap store.new) set.old set.new functor) }
-    ensures err { OnErr result ((S.heap store.new ≡ S.heap store.old) × (set.new ≡ set.old)) }
+    ensures makes { OnlyMakes (S.heap store.old) (S.heap store.new) }
 {
     let atom = store.make_atom(alloc, functor)?;
     set.atoms.push(atom);
@@ -39,10 +40,29 @@ fn make_membrane<S: LinkStore>(
 ) -> Result<(), NoMemory>
     requires room { length set.old.membranes < ROOM }
     ensures ok { OnOk result (MembraneIsMade S.mem_id (S.heap store.old) (S.heap store.new) set.old set.new) }
-    ensures err { OnErr result ((S.heap store.new ≡ S.heap store.old) × (set.new ≡ set.old)) }
+    ensures makes { OnlyMakes (S.heap store.old) (S.heap store.new) }
 {
     let membrane = store.make_mem(alloc)?;
     set.membranes.push(membrane);
+    Ok(())
+}
+
+/// Copies a part; the root of the copy and the number of its atoms go into the next register.
+fn make_copy<S: LinkStore>(
+    alloc: Global,
+    store: &mut S,
+    part: (S::Atom, u8),
+    set: &mut SetRegisters<S::Atom, S::Mem>,
+) -> Result<(), NoMemory>
+    requires room { length set.old.copies < ROOM }
+    requires unmarked { Unmarked (S.heap store.old) }
+    requires part { CanBeCopied (S.heap store.old) (S.atom_id part.0, part.1) }
+    ensures ok { OnOk result (CopyIsMade S.atom_id (S.heap store.old) (S.heap store.new) set.old set.new (S.atom_id part.0, part.1)) }
+    ensures makes { OnlyMakes (S.heap store.old) (S.heap store.new) }
+{
+    let atoms = size_of(store, part);
+    let root = copy(alloc, store, part)?;
+    set.copies.push(PartCopy { root, atoms });
     Ok(())
 }
 
@@ -54,7 +74,7 @@ fn rules_added<S: LinkStore>(
     membrane: S::Mem,
 ) -> u64
     requires held { AreHeld S.atom_id S.mem_id (S.heap store.now) set.now }
-    requires uses { Uses (length set.now.atoms) (length set.now.membranes) (length set.now.parts) instr.now }
+    requires uses { Uses (length set.now.atoms) (length set.now.membranes) (length set.now.parts) (length set.now.copies) instr.now }
     requires membrane { IsMem (S.heap store.now) (S.mem_id membrane) }
     ensures { (r : Registers) → Agrees S.atom_id S.mem_id set.now r → result ≡ needed_by r (rules_in (S.heap store.now)) instr.now (S.mem_id membrane) }
 {
@@ -87,7 +107,7 @@ fn rules_needed<S: LinkStore>(
 ) -> Option<u64>
     requires held { AreHeld S.atom_id S.mem_id (S.heap store.now) set.now }
     requires upto { upto ≤ length code.now }
-    requires uses { AllUse (length set.now.atoms) (length set.now.membranes) (length set.now.parts) (take upto code.now) }
+    requires uses { AllUse (length set.now.atoms) (length set.now.membranes) (length set.now.parts) (length set.now.copies) (take upto code.now) }
     requires membrane { IsMem (S.heap store.now) (S.mem_id membrane) }
     ensures { (r : Registers) (n : ℕ) → Agrees S.atom_id S.mem_id set.now r → result ≡ Some n → n ≡ needed r (rules_in (S.heap store.now)) (take upto code.now) (S.mem_id membrane) }
 {
@@ -109,10 +129,10 @@ fn reserve<S: LinkStore>(
 ) -> Result<(), NoMemory>
     requires held { AreHeld S.atom_id S.mem_id (S.heap store.old) set.now }
     requires at { at < length code.now }
-    requires uses { AllUse (length set.now.atoms) (length set.now.membranes) (length set.now.parts) (take (at + 1) code.now) }
+    requires uses { AllUse (length set.now.atoms) (length set.now.membranes) (length set.now.parts) (length set.now.copies) (take (at + 1) code.now) }
     requires membrane { IsMem (S.heap store.old) (S.mem_id membrane) }
     ensures ok { OnOk result (RoomIsMade S.atom_id S.mem_id (S.heap store.old) (S.heap store.new) set.now (take (at + 1) code.now) (S.mem_id membrane)) }
-    ensures err { OnErr result (S.heap store.new ≡ S.heap store.old) }
+    ensures makes { OnlyMakes (S.heap store.old) (S.heap store.new) }
 {
     match rules_needed(store, code, at + 1, set, membrane) {
         Some(count) => store.reserve_rules(alloc, membrane, count),
@@ -131,10 +151,12 @@ fn make<S: LinkStore>(
 ) -> Result<(), NoMemory>
     requires at { slice_get code.now at ≡ Some instr.now }
     requires held { AreHeld S.atom_id S.mem_id (S.heap store.old) set.old }
-    requires uses { AllUse (length set.old.atoms) (length set.old.membranes) (length set.old.parts) (take at code.now) }
-    requires reads { Reads (length set.old.atoms) (length set.old.membranes) (length set.old.parts) (length set.old.integers) instr.now }
+    requires uses { AllUse (length set.old.atoms) (length set.old.membranes) (length set.old.parts) (length set.old.copies) (take at code.now) }
+    requires reads { Reads (length set.old.atoms) (length set.old.membranes) (length set.old.parts) (length set.old.integers) (length set.old.copies) instr.now }
+    requires unmarked { Unmarked (S.heap store.old) }
+    requires parts { CanCopy S.atom_id (S.heap store.old) set.old }
     ensures ok { OnOk result (IsMade S.atom_id S.mem_id (S.heap store.old) (S.heap store.new) set.old set.new (take at code.now) instr.now) }
-    ensures err { OnErr result ((S.heap store.new ≡ S.heap store.old) × (set.new ≡ set.old)) }
+    ensures makes { OnlyMakes (S.heap store.old) (S.heap store.new) }
 {
     match instr {
         Instr::NewAtom { functor, .. } => make_atom(alloc, store, *functor, set),
@@ -146,6 +168,9 @@ fn make<S: LinkStore>(
             make_atom(alloc, store, functor, set)
         }
         Instr::NewMem { .. } => make_membrane(alloc, store, set),
+        Instr::CopyGround { part, .. } => {
+            make_copy(alloc, store, set.parts.at(*part as usize), set)
+        }
         Instr::LoadRule { membrane, .. } => {
             let to = set.membranes.at(*membrane as usize);
             reserve(alloc, store, code, at, set, to)
@@ -165,10 +190,14 @@ fn make_all<S: LinkStore>(
     code: &[Instr],
     set: &mut SetRegisters<S::Atom, S::Mem>,
 ) -> Result<(), NoMemory>
+    requires valid { Valid (S.heap store.old) }
+    requires unmarked { Unmarked (S.heap store.old) }
     requires held { AreHeld S.atom_id S.mem_id (S.heap store.old) set.old }
-    requires order { InOrder (length set.old.atoms) (length set.old.membranes) (length set.old.parts) (length set.old.integers) code.now }
-    ensures some { (n : ℕ) × Prepared S.atom_id S.mem_id (S.heap store.old) (S.heap store.new) set.old set.new (take n code.now) }
+    requires parts { CanCopy S.atom_id (S.heap store.old) set.old }
+    requires copies { set.old.copies ≡ [] }
+    requires order { InOrder (length set.old.atoms) (length set.old.membranes) (length set.old.parts) (length set.old.integers) 0 code.now }
     ensures ok { OnOk result (Prepared S.atom_id S.mem_id (S.heap store.old) (S.heap store.new) set.old set.new code.now) }
+    ensures makes { OnlyMakes (S.heap store.old) (S.heap store.new) }
 {
     for i in 0..code.len() {
         make(alloc, store, code, i, &code[i], set)?;
@@ -178,7 +207,7 @@ fn make_all<S: LinkStore>(
 
 /// Makes all that the code of a body makes, detached, and room for the rules that it adds. The registers of the head
 /// are set before, those of what is made afterwards. Want of memory leaves the store as it was, but for room for
-/// rules, and the registers of the head too.
+/// rules.
 pub fn prepare<S: LinkStore>(
     alloc: Global,
     store: &mut S,
@@ -188,7 +217,9 @@ pub fn prepare<S: LinkStore>(
     requires valid { Valid (S.heap store.old) }
     requires unmarked { Unmarked (S.heap store.old) }
     requires held { AreHeld S.atom_id S.mem_id (S.heap store.old) set.old }
-    requires order { InOrder (length set.old.atoms) (length set.old.membranes) (length set.old.parts) (length set.old.integers) code.now }
+    requires parts { CanCopy S.atom_id (S.heap store.old) set.old }
+    requires copies { set.old.copies ≡ [] }
+    requires order { InOrder (length set.old.atoms) (length set.old.membranes) (length set.old.parts) (length set.old.integers) 0 code.now }
     ensures ok { OnOk result (Prepared S.atom_id S.mem_id (S.heap store.old) (S.heap store.new) set.old set.new code.now) }
     ensures err { OnErr result (SameButSpares (S.heap store.old) (S.heap store.new)) }
     ensures valid { OnErr result (Valid (S.heap store.new)) }

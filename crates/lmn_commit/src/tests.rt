@@ -1,18 +1,14 @@
-use crate::{SetRegisters, Stack, prepare};
+use crate::prepare;
 use lmn_base::{Functor, Label, NoMemory};
 use lmn_instr::{AtomPort, Instr, NewPort};
+use lmn_registers::SetRegisters;
 use lmn_store::{LinkStore, SlabStore};
 
 /// A body of two atoms and a membrane with a rule is prepared.
 #[test]
 fn a_body_is_prepared(rt: HostRuntime) -> Result<(), NoMemory> {
     let mut store = SlabStore::new(rt.alloc())?;
-    let mut set = SetRegisters {
-        atoms: Stack::new(rt.alloc())?,
-        membranes: Stack::new(rt.alloc())?,
-        parts: Stack::new(rt.alloc())?,
-        integers: Stack::new(rt.alloc())?,
-    };
+    let mut set = SetRegisters::new(rt.alloc())?;
     set.membranes.push(store.root());
     let functor = Functor {
         label: Label::Name(8),

@@ -3,16 +3,15 @@ use Rattle.std.proofs.Common.{ℕ, ℤ, zero, suc, ◌≡◌, ◌<◌, ◌≤◌
 use Rattle.std.specs.Prelude.{slice_get, IfSome}
 use Rattle.lmn_base.specs.declared.functor.Functor.{Functor}
 use Rattle.lmn_instr.specs.declared.instr.Instr.{Instr}
-use Rattle.lmn_instr.specs.declared.instr.Instr.TheVariants.{FindAtom, AnyMem, NAtoms}
-use Rattle.lmn_machine.specs.Searching.{InOrder, ChoosesNone, Extends, Reads}
+use Rattle.lmn_instr.specs.declared.instr.Instr.TheVariants.{FindAtom, AnyMem}
+use Rattle.lmn_machine.specs.Searching.{InOrder, ChoosesNone, Extends}
 use Rattle.std.specs.Option.{option_map}
 use Rattle.lmn_heap.specs.Lists.{from, after}
 use Rattle.lmn_heap.specs.Functors.{with_functor}
 use Rattle.lmn_heap.specs.Heap.{Heap, atoms_in, mems_in, functor_of, home_of, parent_of}
-use Rattle.lmn_instr.specs.Running.{Registers, Holds, HasOthers}
-use Rattle.std.specs.Prelude.{Bool, true}
-use Rattle.lmn_machine.specs.declared.registers.SetRegisters.{SetRegisters}
-use Rattle.lmn_machine.specs.declared.stack.TheConstants.{ROOM}
+use Rattle.lmn_registers.specs.declared.registers.PartCopy.{PartCopy}
+use Rattle.lmn_registers.specs.declared.registers.SetRegisters.{SetRegisters}
+use Rattle.lmn_registers.specs.declared.stack.TheConstants.{ROOM}
 use Rattle.lmn_machine.proofs.Choosing.{drop_get, with_atom, with_membrane}
 
 pub read_at : {A : Type 0} (xs : List A) (i : ℕ) (x y : A) → i < length xs → x ≡ get_or xs i x → x ≡ y → slice_get xs i ≡ Some y
@@ -61,10 +60,10 @@ none_is (Some a) d = absurd (d a refl)
 
 -- with other atoms, with other membranes
 abbrev pub having_atoms : {A M : Type 0} → SetRegisters A M → List A → SetRegisters A M
-having_atoms t xs = record { atoms = xs; membranes = t.membranes; parts = t.parts; integers = t.integers }
+having_atoms t xs = record { atoms = xs; membranes = t.membranes; parts = t.parts; integers = t.integers; copies = t.copies }
 
 abbrev pub having_membranes : {A M : Type 0} → SetRegisters A M → List M → SetRegisters A M
-having_membranes t xs = record { atoms = t.atoms; membranes = xs; parts = t.parts; integers = t.integers }
+having_membranes t xs = record { atoms = t.atoms; membranes = xs; parts = t.parts; integers = t.integers; copies = t.copies }
 
 -- the registers after one more, and after a search that is taken back
 pub one_more : {A M : Type 0} (s t : SetRegisters A M) (a : A) (xs : List A) → t ≡ s → xs ≡ t.atoms ++ a ∷ [] → having_atoms t xs ≡ with_atom s a
@@ -78,19 +77,19 @@ one_membrane_more {A} {M} s t m xs e f =
     ap R f ∙ ap (λ u. with_membrane u m) e
 
 pub taken_back : {A M : Type 0} (s k r : SetRegisters A M) (n m p v : ℕ) → n ≡ length s.atoms → m ≡ length s.membranes → p ≡ length s.parts → v ≡ length s.integers → Extends s k →
-    r ≡ record { atoms = take n k.atoms; membranes = take m k.membranes; parts = take p k.parts; integers = take v k.integers } → r ≡ s
+    r ≡ record { atoms = take n k.atoms; membranes = take m k.membranes; parts = take p k.parts; integers = take v k.integers; copies = k.copies } → r ≡ s
 taken_back {A} {M} s k r n m p v e f i j x t =
-    let R : List A → List M → List (A × ℕ) → List ℤ → SetRegisters A M = λ as' ms ps zs. record { atoms = as'; membranes = ms; parts = ps; integers = zs } in
+    let R : List A → List M → List (A × ℕ) → List ℤ → List (PartCopy A) → SetRegisters A M = λ as' ms ps zs cs. record { atoms = as'; membranes = ms; parts = ps; integers = zs; copies = cs } in
     let a : take n k.atoms ≡ s.atoms = ap (λ o. take o k.atoms) e ∙ x.atoms in
     let b : take m k.membranes ≡ s.membranes = ap (λ o. take o k.membranes) f ∙ x.membranes in
     let c : take p k.parts ≡ s.parts = ap (λ o. take o k.parts) i ∙ x.parts in
     let d : take v k.integers ≡ s.integers = ap (λ o. take o k.integers) j ∙ x.integers in
-    t ∙ (ap (λ ys. R ys (take m k.membranes) (take p k.parts) (take v k.integers)) a ∙ (ap (λ ys. R s.atoms ys (take p k.parts) (take v k.integers)) b
-    ∙ (ap (λ ys. R s.atoms s.membranes ys (take v k.integers)) c ∙ ap (λ ys. R s.atoms s.membranes s.parts ys) d)))
+    t ∙ (ap (λ ys. R ys (take m k.membranes) (take p k.parts) (take v k.integers) k.copies) a ∙ (ap (λ ys. R s.atoms ys (take p k.parts) (take v k.integers) k.copies) b
+    ∙ (ap (λ ys. R s.atoms s.membranes ys (take v k.integers) k.copies) c ∙ (ap (λ ys. R s.atoms s.membranes s.parts ys k.copies) d ∙ ap (λ ys. R s.atoms s.membranes s.parts s.integers ys) x.copies))))
 
 -- no register
 abbrev pub nothing_set : {A M : Type 0} → SetRegisters A M
-nothing_set = record { atoms = []; membranes = []; parts = []; integers = [] }
+nothing_set = record { atoms = []; membranes = []; parts = []; integers = []; copies = [] }
 
 -- what is told of the next candidate, in a heap that is the same
 pub next_same : {A : Type 0} (atom : A → ℕ) (h k : Heap) (a : A) (o : Option A) → k ≡ h →
@@ -111,13 +110,3 @@ next_mem_same {M} membrane h k n o e l p = (
   subst (λ (s : Heap). (m : ℕ) → parent_of s (membrane n) ≡ Some m → from (option_map membrane o) (mems_in s m) ≡ after (membrane n) (mems_in s m)) e l,
   subst (λ (s : Heap). IfSome o (λ b. parent_of s (membrane b) ≡ parent_of s (membrane n))) e p,
 )
-
--- NATOMS without typed contexts
-pub atoms_counted : (h : Heap) (c : ℕ) (s : Registers) (i : Instr) (x n : ℕ) (gs : List ℕ) (a b v m : ℕ) (result : Bool) → i ≡ NAtoms x n gs → Reads a b v i → s.images.membrane x ≡ m →
-    ((result ≡ true → HasOthers (λ k. ⊥) n (atoms_in h m)) × (HasOthers (λ k. ⊥) n (atoms_in h m) → result ≡ true)) → (result ≡ true → Holds h c s i) × (Holds h c s i → result ≡ true)
-atoms_counted h c s i x n gs a b v m result e reads at f =
-    let r : Reads a b v (NAtoms x n gs) = subst (λ j. Reads a b v j) e reads in
-    let bare : NAtoms x n gs ≡ NAtoms x n [] = ap (λ k. NAtoms x n k) r.1 in (
-      λ t. subst (λ j. Holds h c s j) (sym (e ∙ bare)) (subst (λ k. HasOthers (λ b. ⊥) n (atoms_in h k)) (sym at) (f.0 t)),
-      λ o. f.1 (subst (λ k. HasOthers (λ b. ⊥) n (atoms_in h k)) at (let held : Holds h c s (NAtoms x n []) = subst (λ j. Holds h c s j) (e ∙ bare) o in held)),
-    )

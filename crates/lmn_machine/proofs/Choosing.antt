@@ -11,8 +11,9 @@ use Rattle.lmn_solid.specs.Embeddings.{NotAfter, index_of}
 use Rattle.lmn_instr.specs.declared.instr.Instr.{Instr}
 use Rattle.lmn_instr.specs.declared.instr.Instr.TheVariants.{FindAtom, AnyMem}
 use Rattle.lmn_instr.specs.Running.{Registers, AllHold, atoms_set, choices}
-use Rattle.lmn_machine.specs.declared.registers.SetRegisters.{SetRegisters}
-use Rattle.lmn_machine.specs.Searching.{Agrees, AreHeld, Extends, SetsAll, Searched}
+use Rattle.lmn_registers.specs.declared.registers.SetRegisters.{SetRegisters}
+use Rattle.lmn_registers.specs.Agreeing.{Agrees}
+use Rattle.lmn_machine.specs.Searching.{AreHeld, Extends, SetsAll, Searched, Sets}
 use Rattle.lmn_machine.proofs.Stepping.{extends_itself, agrees_before, extends_on}
 use Rattle.lmn_machine.proofs.Candidates.{index_after, index_behind, with_functor_in}
 
@@ -90,10 +91,10 @@ module _ {A M : Type 0} (atom : A → ℕ) (membrane : M → ℕ) (h : Heap) whe
   -- One more register
 
   pub extends_atom : (g : SetRegisters A M) (a : A) → Extends g (with_atom g a)
-  extends_atom g a = record { atoms = take_front g.atoms (a ∷ []); membranes = take_whole g.membranes; parts = take_whole g.parts; integers = take_whole g.integers }
+  extends_atom g a = record { atoms = take_front g.atoms (a ∷ []); membranes = take_whole g.membranes; parts = take_whole g.parts; integers = take_whole g.integers; copies = refl }
 
   pub extends_membrane : (g : SetRegisters A M) (m : M) → Extends g (with_membrane g m)
-  extends_membrane g m = record { atoms = take_whole g.atoms; membranes = take_front g.membranes (m ∷ []); parts = take_whole g.parts; integers = take_whole g.integers }
+  extends_membrane g m = record { atoms = take_whole g.atoms; membranes = take_front g.membranes (m ∷ []); parts = take_whole g.parts; integers = take_whole g.integers; copies = refl }
 
   pub agrees_atom : (g : SetRegisters A M) (a : A) (s : Registers) → Agrees atom membrane g s → s.images.atom (length g.atoms) ≡ atom a → Agrees atom membrane (with_atom g a) s
   agrees_atom g a s t e = record {
@@ -169,6 +170,7 @@ module _ {A M : Type 0} (atom : A → ℕ) (membrane : M → ℕ) (h : Heap) whe
   atoms_none g code f m held left = record {
     held = held;
     extends = extends_itself atom membrane h g;
+    sets = λ u. absurd (cc);
     found = λ u. absurd (cc);
     none = λ u c s k a t. left.left c s k a t;
   }
@@ -178,6 +180,12 @@ module _ {A M : Type 0} (atom : A → ℕ) (membrane : M → ℕ) (h : Heap) whe
   atoms_found g k code is f y m a e at listed home functor left t = record {
     held = t.held;
     extends = extends_on atom membrane h g (with_atom g a) k (extends_atom g a) t.extends;
+    sets = λ u. subst (λ c. Sets g k c) (sym e) (record {
+      atoms = (let n = (t.sets refl).atoms in let l = longer g.atoms a in omega (arith, n, l));
+      membranes = (t.sets refl).membranes;
+      parts = (t.sets refl).parts;
+      integers = (t.sets refl).integers;
+    });
     found = λ u. record {
       holds = λ c s l v.
           (let w = agrees_before atom membrane h (with_atom g a) k s t.extends v in
@@ -239,6 +247,7 @@ module _ {A M : Type 0} (atom : A → ℕ) (membrane : M → ℕ) (h : Heap) whe
   membranes_none g code m held left = record {
     held = held;
     extends = extends_itself atom membrane h g;
+    sets = λ u. absurd (cc);
     found = λ u. absurd (cc);
     none = λ u c s k a t. left.left c s k a t;
   }
@@ -248,6 +257,12 @@ module _ {A M : Type 0} (atom : A → ℕ) (membrane : M → ℕ) (h : Heap) whe
   membranes_found g k code is y m a e at listed parent left t = record {
     held = t.held;
     extends = extends_on atom membrane h g (with_membrane g a) k (extends_membrane g a) t.extends;
+    sets = λ u. subst (λ c. Sets g k c) (sym e) (record {
+      atoms = (t.sets refl).atoms;
+      membranes = (let n = (t.sets refl).membranes in let l = longer g.membranes a in omega (arith, n, l));
+      parts = (t.sets refl).parts;
+      integers = (t.sets refl).integers;
+    });
     found = λ u. record {
       holds = λ c s l v.
           (let w = agrees_before atom membrane h (with_membrane g a) k s t.extends v in

@@ -4,17 +4,18 @@ use Rattle.std.specs.Prelude.{true, Bool, slice_get, IfSome}
 use Rattle.std.specs.Option.{option_map}
 use Rattle.std.proofs.lemmas.Option.{slice_get_within}
 use Rattle.lmn_base.specs.Graphs.{StandsWhole, SameGraph}
-use Rattle.lmn_heap.specs.Heap.{Heap, IsAtom, link_of, port_id}
+use Rattle.lmn_heap.specs.Heap.{Heap, IsAtom, atoms_in, link_of, port_id}
 use Rattle.lmn_heap.specs.Graphs.{atom_map}
 use Rattle.lmn_guards.specs.declared.plan.TypeKind.TheVariants as kind
 use Rattle.lmn_instr.specs.declared.instr.AtomPort.{AtomPort}
 use Rattle.lmn_instr.specs.declared.instr.Instr.{Instr}
-use Rattle.lmn_instr.specs.declared.instr.Instr.TheVariants.{IsGround, EqGround, NeqGround}
-use Rattle.lmn_instr.specs.Running.{Registers, Holds, IsContext, atoms_set}
-use Rattle.lmn_machine.specs.declared.registers.SetRegisters.{SetRegisters}
-use Rattle.lmn_machine.specs.Searching.{Agrees, AreHeld, Stepped, InOrder, HasGivenPart, IsWholeApart}
+use Rattle.lmn_instr.specs.declared.instr.Instr.TheVariants.{IsGround, NAtoms, EqGround, NeqGround}
+use Rattle.lmn_instr.specs.Running.{Registers, Holds, IsContext, HasOthers, IsInSome}
+use Rattle.lmn_registers.specs.declared.registers.SetRegisters.{SetRegisters}
+use Rattle.lmn_registers.specs.Agreeing.{Agrees}
+use Rattle.lmn_machine.specs.Searching.{AreHeld, Stepped, InOrder, HasGivenPart, IsWholeApart}
 use Rattle.lmn_heap.specs.Sound.{Sound}
-use Rattle.lmn_machine.proofs.Stepping.{extends_itself}
+use Rattle.lmn_machine.proofs.Stepping.{SetsSo, extends_itself, nothing_more}
 use Rattle.lmn_machine.proofs.Lone.{GivesPart, part_stepped}
 
 module _ {A M : Type 0} (atom : A → ℕ) (membrane : M → ℕ) (h : Heap) where
@@ -60,10 +61,10 @@ module _ {A M : Type 0} (atom : A → ℕ) (membrane : M → ℕ) (h : Heap) whe
   ground_stepped sound g k result i x p y a m o e order held from place there t given =
       let u : InOrder (length g.atoms) (length g.membranes) (length g.parts) (length g.integers) (IsGround x p y ∷ []) = subst (λ j. InOrder (length g.atoms) (length g.membranes) (length g.parts) (length g.integers) (j ∷ [])) e order in
       subst (λ j. Stepped atom membrane h g k result j) (sym (e ∙ ap (λ j. IsGround j p y) u.0.0.0.0))
-      (part_stepped atom membrane h sound g k result (IsGround (length g.parts) p y) p.atom a p.port (membrane m) o from (λ q u. (t.ends q u, t.whole q u)) held there (λ is w. w.1) (λ c w. w) refl (ground_gives g p y a m o from place t) given)
+      (part_stepped atom membrane h sound g k result (IsGround (length g.parts) p y) p.atom a p.port (membrane m) o from (λ q u. (t.ends q u, t.whole q u)) held there (λ is w. w.1) (λ c w. w) (refl, refl, refl, refl) (ground_gives g p y a m o from place t) given)
 
   -- A test of two parts that are set: what it answers is whether their graphs are the same, or not.
-  parts_stepped : (g : SetRegisters A M) (result : Bool) (i : Instr) (P : ℕ × ℕ → ℕ × ℕ → Type 0) (x y : ℕ) (p q : A × ℕ) → AreHeld atom membrane h g → slice_get g.parts x ≡ Some p → slice_get g.parts y ≡ Some q → atoms_set (i ∷ []) ≡ 0 →
+  parts_stepped : (g : SetRegisters A M) (result : Bool) (i : Instr) (P : ℕ × ℕ → ℕ × ℕ → Type 0) (x y : ℕ) (p q : A × ℕ) → AreHeld atom membrane h g → slice_get g.parts x ≡ Some p → slice_get g.parts y ≡ Some q → SetsSo i 0 0 0 0 →
       ((is : List Instr) → InOrder (length g.atoms) (length g.membranes) (length g.parts) (length g.integers) (i ∷ is) → InOrder (length g.atoms) (length g.membranes) (length g.parts) (length g.integers) is) →
       ((c : ℕ) (s : Registers) → (Holds h c s i → P (s.images.part x) (s.images.part y)) × (P (s.images.part x) (s.images.part y) → Holds h c s i)) →
       ((result ≡ true → P (port_id atom p) (port_id atom q)) × (P (port_id atom p) (port_id atom q) → result ≡ true)) → Stepped atom membrane h g g result i
@@ -72,16 +73,27 @@ module _ {A M : Type 0} (atom : A → ℕ) (membrane : M → ℕ) (h : Heap) whe
     extends = extends_itself atom membrane h g;
     holds = λ t c s n a. (means c s).1 (subst (λ u. P u (s.images.part y)) (sym (a.parts x p at_x)) (subst (λ u. P (port_id atom p) u) (sym (a.parts y q at_y)) (given.0 t)));
     only = λ c s n a u. (given.1 (subst (λ w. P w (port_id atom q)) (a.parts x p at_x) (subst (λ w. P (s.images.part x) w) (a.parts y q at_y) ((means c s).0 u))), a);
-    count = λ t. omega (arith, none);
+    sets = λ t. nothing_more atom membrane h g i none;
     order = λ t is o. next is o;
   }
 
   pub equal_stepped : (g : SetRegisters A M) (result : Bool) (i : Instr) (x y : ℕ) (p q : A × ℕ) → i ≡ EqGround x y → AreHeld atom membrane h g → slice_get g.parts x ≡ Some p → slice_get g.parts y ≡ Some q →
       ((result ≡ true → SameGraph (atom_map h) (port_id atom p) (atom_map h) (port_id atom q)) × (SameGraph (atom_map h) (port_id atom p) (atom_map h) (port_id atom q) → result ≡ true)) → Stepped atom membrane h g g result i
   equal_stepped g result i x y p q e held at_x at_y given = subst (λ j. Stepped atom membrane h g g result j) (sym e)
-      (parts_stepped g result (EqGround x y) (λ u w. SameGraph (atom_map h) u (atom_map h) w) x y p q held at_x at_y refl (λ is o. o.1) (λ c s. (λ t. t, λ t. t)) given)
+      (parts_stepped g result (EqGround x y) (λ u w. SameGraph (atom_map h) u (atom_map h) w) x y p q held at_x at_y (refl, refl, refl, refl) (λ is o. o.1) (λ c s. (λ t. t, λ t. t)) given)
 
   pub differ_stepped : (g : SetRegisters A M) (result : Bool) (i : Instr) (x y : ℕ) (p q : A × ℕ) → i ≡ NeqGround x y → AreHeld atom membrane h g → slice_get g.parts x ≡ Some p → slice_get g.parts y ≡ Some q →
       ((result ≡ true → SameGraph (atom_map h) (port_id atom p) (atom_map h) (port_id atom q) → ⊥) × ((SameGraph (atom_map h) (port_id atom p) (atom_map h) (port_id atom q) → ⊥) → result ≡ true)) → Stepped atom membrane h g g result i
   differ_stepped g result i x y p q e held at_x at_y given = subst (λ j. Stepped atom membrane h g g result j) (sym e)
-      (parts_stepped g result (NeqGround x y) (λ u w. SameGraph (atom_map h) u (atom_map h) w → ⊥) x y p q held at_x at_y refl (λ is o. o.1) (λ c s. (λ t. t, λ t. t)) given)
+      (parts_stepped g result (NeqGround x y) (λ u w. SameGraph (atom_map h) u (atom_map h) w → ⊥) x y p q held at_x at_y (refl, refl, refl, refl) (λ is o. o.1) (λ c s. (λ t. t, λ t. t)) given)
+
+  pub others_stepped : (g : SetRegisters A M) (result : Bool) (i : Instr) (x n : ℕ) (gs xs : List ℕ) (m : M) → i ≡ NAtoms x n gs → xs ≡ gs → AreHeld atom membrane h g → slice_get g.membranes x ≡ Some m →
+      ((s : Registers) → Agrees atom membrane g s → (result ≡ true → HasOthers (IsInSome h s xs) n (atoms_in h (membrane m))) × (HasOthers (IsInSome h s xs) n (atoms_in h (membrane m)) → result ≡ true)) → Stepped atom membrane h g g result i
+  others_stepped g result i x n gs xs m e same held at given = subst (λ j. Stepped atom membrane h g g result j) (sym e) (record {
+    held = held;
+    extends = extends_itself atom membrane h g;
+    holds = λ t c s _ a. subst (λ k. HasOthers (IsInSome h s gs) n (atoms_in h k)) (sym (a.membranes x m at)) (subst (λ ks. HasOthers (IsInSome h s ks) n (atoms_in h (membrane m))) same ((given s a).0 t));
+    only = λ c s _ a u. ((given s a).1 (subst (λ ks. HasOthers (IsInSome h s ks) n (atoms_in h (membrane m))) (sym same) (subst (λ k. HasOthers (IsInSome h s gs) n (atoms_in h k)) (a.membranes x m at) u)), a);
+    sets = λ t. nothing_more atom membrane h g (NAtoms x n gs) (refl, refl, refl, refl);
+    order = λ t is o. o.1;
+  })

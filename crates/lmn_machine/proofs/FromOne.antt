@@ -4,13 +4,14 @@ use Rattle.std.specs.Prelude.{Bool, true, false, slice_get}
 use Rattle.lmn_heap.specs.Heap.{Heap, IsMem}
 use Rattle.lmn_instr.specs.declared.instr.Instr.{Instr}
 use Rattle.lmn_instr.specs.Running.{Registers, Succeeds, IsFirst, atoms_set}
-use Rattle.lmn_machine.specs.declared.registers.SetRegisters.{SetRegisters}
-use Rattle.lmn_machine.specs.Searching.{Agrees, AreHeld, Searched}
+use Rattle.lmn_registers.specs.declared.registers.SetRegisters.{SetRegisters}
+use Rattle.lmn_registers.specs.Agreeing.{Agrees}
+use Rattle.lmn_machine.specs.Searching.{AreHeld, Searched, AreAllSet}
 use Rattle.lmn_machine.proofs.Stepping.{agrees_before}
 
 -- one membrane register
 abbrev pub only_membrane : {A M : Type 0} → M → SetRegisters A M
-only_membrane m = record { atoms = []; membranes = m ∷ []; parts = []; integers = [] }
+only_membrane m = record { atoms = []; membranes = m ∷ []; parts = []; integers = []; copies = [] }
 
 module _ {A M : Type 0} (atom : A → ℕ) (membrane : M → ℕ) (h : Heap) where
   pub one_held : (m : M) → IsMem h (membrane m) → AreHeld atom membrane h (only_membrane m)
@@ -39,3 +40,11 @@ module _ {A M : Type 0} (atom : A → ℕ) (membrane : M → ℕ) (h : Heap) whe
 
   pub none_found : (m : M) (k : SetRegisters A M) (result : Bool) (code : List Instr) → Searched atom membrane h (only_membrane m) k result code → result ≡ false → (r : Registers) → Succeeds h code (membrane m) r → ⊥
   none_found m k result code t e r s = t.none e (atoms_set code) r (omega arith) (one_agrees m r s.here) s.all
+
+  pub all_set : (m : M) (k : SetRegisters A M) (result : Bool) (code : List Instr) → Searched atom membrane h (only_membrane m) k result code → result ≡ true → AreAllSet k code
+  all_set m k result code t e = let s = t.sets e in record {
+    atoms = (let n = s.atoms in omega (arith, n));
+    membranes = (let n = s.membranes in omega (arith, n));
+    parts = (let n = s.parts in omega (arith, n));
+    integers = (let n = s.integers in omega (arith, n));
+  }

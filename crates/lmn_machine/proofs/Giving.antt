@@ -8,10 +8,11 @@ use Rattle.lmn_guards.specs.Values.{result_of}
 use Rattle.lmn_solid.specs.Guards.{integer_at, integer_of}
 use Rattle.lmn_instr.specs.declared.instr.Instr.{Instr}
 use Rattle.lmn_instr.specs.declared.instr.Instr.TheVariants.{GetInt, Const, Add, Sub, Mul, Div, Mod}
-use Rattle.lmn_instr.specs.Running.{Registers, Holds, atoms_set}
-use Rattle.lmn_machine.specs.declared.registers.SetRegisters.{SetRegisters}
-use Rattle.lmn_machine.specs.Searching.{Agrees, AreHeld, Extends, Stepped, InOrder, HasGiven}
-use Rattle.lmn_machine.proofs.Stepping.{extends_itself, agrees_before}
+use Rattle.lmn_instr.specs.Running.{Registers, Holds}
+use Rattle.lmn_registers.specs.declared.registers.SetRegisters.{SetRegisters}
+use Rattle.lmn_registers.specs.Agreeing.{Agrees}
+use Rattle.lmn_machine.specs.Searching.{AreHeld, Extends, Stepped, InOrder, HasGiven}
+use Rattle.lmn_machine.proofs.Stepping.{SetsSo, extends_itself, agrees_before}
 use Rattle.lmn_machine.proofs.Choosing.{get_either, get_last, take_front, take_whole}
 use Rattle.lmn_machine.proofs.Calling.{length_one}
 
@@ -27,7 +28,7 @@ uncast f m n p q = ap (λ x. f x (cast n)) (to_z-of_z w64 m p) ∙ ap (λ x. f m
 
 module _ {A M : Type 0} (atom : A → ℕ) (membrane : M → ℕ) (h : Heap) where
   extends_integer : (g : SetRegisters A M) (z : ℤ) → Extends g (with_integer g z)
-  extends_integer g z = record { atoms = take_whole g.atoms; membranes = take_whole g.membranes; parts = take_whole g.parts; integers = take_front g.integers (z ∷ []) }
+  extends_integer g z = record { atoms = take_whole g.atoms; membranes = take_whole g.membranes; parts = take_whole g.parts; integers = take_front g.integers (z ∷ []); copies = refl }
 
   agrees_integer : (g : SetRegisters A M) (z : ℤ) (s : Registers) → Agrees atom membrane g s → s.integer (length g.integers) ≡ z → Agrees atom membrane (with_integer g z) s
   agrees_integer g z s t e = record {
@@ -44,13 +45,13 @@ module _ {A M : Type 0} (atom : A → ℕ) (membrane : M → ℕ) (h : Heap) whe
 
   integer_stepped : (g k : SetRegisters A M) (result : Bool) (i : Instr) (o : Option ℤ) → AreHeld atom membrane h g →
       ((is : List Instr) → InOrder (length g.atoms) (length g.membranes) (length g.parts) (length g.integers) (i ∷ is) → InOrder (length g.atoms) (length g.membranes) (length g.parts) (length g.integers + 1) is) →
-      atoms_set (i ∷ []) ≡ 0 → GivesInteger g i o → HasGiven g k result o → Stepped atom membrane h g k result i
+      SetsSo i 0 0 0 1 → GivesInteger g i o → HasGiven g k result o → Stepped atom membrane h g k result i
   integer_stepped g k result i None held next count means given = record {
     held = subst (λ l. AreHeld atom membrane h l) (sym given.1) held;
     extends = subst (λ l. Extends g l) (sym given.1) (extends_itself atom membrane h g);
     holds = λ t. (let f = given.0 in absurd (cc));
     only = λ c s n a u. (let e = (means c s a).0 u in absurd (cc));
-    count = λ t. (let f = given.0 in absurd (cc));
+    sets = λ t. (let f = given.0 in absurd (cc));
     order = λ t. (let f = given.0 in absurd (cc));
   }
   integer_stepped g k result i (Some z) held next count means given = subst (λ b. Stepped atom membrane h g k b i) (sym given.0) (subst (λ l. Stepped atom membrane h g l true i) (sym given.1) stepped)
@@ -62,7 +63,12 @@ module _ {A M : Type 0} (atom : A → ℕ) (membrane : M → ℕ) (h : Heap) whe
         holds = λ t c s n a.
             (means c s (agrees_before atom membrane h g (with_integer g z) s (extends_integer g z) a)).1 (ap (λ x. Some x) (sym (a.integers (length g.integers) z (get_last g.integers z))));
         only = λ c s n a u. (let e = (means c s a).0 u in let v : s.integer (length g.integers) ≡ z = cc in (refl, agrees_integer g z s a v));
-        count = λ t. omega (arith, count);
+        sets = λ t. record {
+          atoms = (let n = count.0 in omega (arith, n));
+          membranes = (let n = count.1 in omega (arith, n));
+          parts = (let n = count.2 in omega (arith, n));
+          integers = (let n = count.3 in let l = length_one g.integers z in omega (arith, n, l));
+        };
         order = λ t is u. subst (λ n. InOrder (length g.atoms) (length g.membranes) (length g.parts) n is) (sym (length_one g.integers z)) (next is u);
       }
 
@@ -79,7 +85,7 @@ module _ {A M : Type 0} (atom : A → ℕ) (membrane : M → ℕ) (h : Heap) whe
   const_stepped g k result i v z e order held o value given =
       let u : InOrder (length g.atoms) (length g.membranes) (length g.parts) (length g.integers) (Const v z ∷ []) = subst (λ j. InOrder (length g.atoms) (length g.membranes) (length g.parts) (length g.integers) (j ∷ [])) e order in
       subst (λ j. Stepped atom membrane h g k result j) (sym e)
-      (integer_stepped g k result (Const v z) (Some z) held (λ is w. w.1) refl
+      (integer_stepped g k result (Const v z) (Some z) held (λ is w. w.1) (refl, refl, refl, refl)
       (λ c s t. (λ w. ap (λ x. Some x) (sym w ∙ ap s.integer u.0.0), λ w. (let y : z ≡ s.integer (length g.integers) = cc in ap s.integer u.0.0 ∙ sym y))) (subst (λ y. HasGiven g k result y) value given))
 
   pub get_stepped : (g k : SetRegisters A M) (result : Bool) (i : Instr) (v n : ℕ) (p : A × ℕ) (o : Option ℤ) → i ≡ GetInt v n → InOrder (length g.atoms) (length g.membranes) (length g.parts) (length g.integers) (i ∷ []) → AreHeld atom membrane h g →
@@ -87,7 +93,7 @@ module _ {A M : Type 0} (atom : A → ℕ) (membrane : M → ℕ) (h : Heap) whe
   get_stepped g k result i v n p o e order held at value given =
       let u : InOrder (length g.atoms) (length g.membranes) (length g.parts) (length g.integers) (GetInt v n ∷ []) = subst (λ j. InOrder (length g.atoms) (length g.membranes) (length g.parts) (length g.integers) (j ∷ [])) e order in
       subst (λ j. Stepped atom membrane h g k result j) (sym e)
-      (integer_stepped g k result (GetInt v n) o held (λ is w. w.1) refl
+      (integer_stepped g k result (GetInt v n) o held (λ is w. w.1) (refl, refl, refl, refl)
       (λ c s t. (let values : integer_at h (s.images.part n) ≡ o = ap (λ q. integer_at h q) (t.parts n p at) ∙ sym value in
       let place : s.integer v ≡ s.integer (length g.integers) = ap s.integer u.0.0.0 in
       (λ w. sym values ∙ (w ∙ ap (λ y. Some y) place), λ w. values ∙ (w ∙ ap (λ y. Some y) (sym place))))) given)
@@ -97,32 +103,32 @@ module _ {A M : Type 0} (atom : A → ℕ) (membrane : M → ℕ) (h : Heap) whe
   sum_stepped g k result i v w x m n o e order held left right fits_left fits_right value given =
       let u : InOrder (length g.atoms) (length g.membranes) (length g.parts) (length g.integers) (Add v w x ∷ []) = subst (λ j. InOrder (length g.atoms) (length g.membranes) (length g.parts) (length g.integers) (j ∷ [])) e order in
       subst (λ j. Stepped atom membrane h g k result j) (sym e)
-      (integer_stepped g k result (Add v w x) o held (λ is w. w.1) refl (λ c s t. binary (result_of arithmetic.Add) g s v w x m n o t left right u.0.0.0 (value ∙ uncast (result_of arithmetic.Add) m n fits_left fits_right)) given)
+      (integer_stepped g k result (Add v w x) o held (λ is w. w.1) (refl, refl, refl, refl) (λ c s t. binary (result_of arithmetic.Add) g s v w x m n o t left right u.0.0.0 (value ∙ uncast (result_of arithmetic.Add) m n fits_left fits_right)) given)
 
   pub difference_stepped : (g k : SetRegisters A M) (result : Bool) (i : Instr) (v w x : ℕ) (m n : ℤ) (o : Option ℤ) → i ≡ Sub v w x → InOrder (length g.atoms) (length g.membranes) (length g.parts) (length g.integers) (i ∷ []) → AreHeld atom membrane h g →
       slice_get g.integers w ≡ Some m → slice_get g.integers x ≡ Some n → FitsSigned w64 m → FitsSigned w64 n → o ≡ result_of arithmetic.Sub (cast m) (cast n) → HasGiven g k result o → Stepped atom membrane h g k result i
   difference_stepped g k result i v w x m n o e order held left right fits_left fits_right value given =
       let u : InOrder (length g.atoms) (length g.membranes) (length g.parts) (length g.integers) (Sub v w x ∷ []) = subst (λ j. InOrder (length g.atoms) (length g.membranes) (length g.parts) (length g.integers) (j ∷ [])) e order in
       subst (λ j. Stepped atom membrane h g k result j) (sym e)
-      (integer_stepped g k result (Sub v w x) o held (λ is w. w.1) refl (λ c s t. binary (result_of arithmetic.Sub) g s v w x m n o t left right u.0.0.0 (value ∙ uncast (result_of arithmetic.Sub) m n fits_left fits_right)) given)
+      (integer_stepped g k result (Sub v w x) o held (λ is w. w.1) (refl, refl, refl, refl) (λ c s t. binary (result_of arithmetic.Sub) g s v w x m n o t left right u.0.0.0 (value ∙ uncast (result_of arithmetic.Sub) m n fits_left fits_right)) given)
 
   pub product_stepped : (g k : SetRegisters A M) (result : Bool) (i : Instr) (v w x : ℕ) (m n : ℤ) (o : Option ℤ) → i ≡ Mul v w x → InOrder (length g.atoms) (length g.membranes) (length g.parts) (length g.integers) (i ∷ []) → AreHeld atom membrane h g →
       slice_get g.integers w ≡ Some m → slice_get g.integers x ≡ Some n → FitsSigned w64 m → FitsSigned w64 n → o ≡ result_of arithmetic.Mul (cast m) (cast n) → HasGiven g k result o → Stepped atom membrane h g k result i
   product_stepped g k result i v w x m n o e order held left right fits_left fits_right value given =
       let u : InOrder (length g.atoms) (length g.membranes) (length g.parts) (length g.integers) (Mul v w x ∷ []) = subst (λ j. InOrder (length g.atoms) (length g.membranes) (length g.parts) (length g.integers) (j ∷ [])) e order in
       subst (λ j. Stepped atom membrane h g k result j) (sym e)
-      (integer_stepped g k result (Mul v w x) o held (λ is w. w.1) refl (λ c s t. binary (result_of arithmetic.Mul) g s v w x m n o t left right u.0.0.0 (value ∙ uncast (result_of arithmetic.Mul) m n fits_left fits_right)) given)
+      (integer_stepped g k result (Mul v w x) o held (λ is w. w.1) (refl, refl, refl, refl) (λ c s t. binary (result_of arithmetic.Mul) g s v w x m n o t left right u.0.0.0 (value ∙ uncast (result_of arithmetic.Mul) m n fits_left fits_right)) given)
 
   pub quotient_stepped : (g k : SetRegisters A M) (result : Bool) (i : Instr) (v w x : ℕ) (m n : ℤ) (o : Option ℤ) → i ≡ Div v w x → InOrder (length g.atoms) (length g.membranes) (length g.parts) (length g.integers) (i ∷ []) → AreHeld atom membrane h g →
       slice_get g.integers w ≡ Some m → slice_get g.integers x ≡ Some n → FitsSigned w64 m → FitsSigned w64 n → o ≡ result_of arithmetic.Div (cast m) (cast n) → HasGiven g k result o → Stepped atom membrane h g k result i
   quotient_stepped g k result i v w x m n o e order held left right fits_left fits_right value given =
       let u : InOrder (length g.atoms) (length g.membranes) (length g.parts) (length g.integers) (Div v w x ∷ []) = subst (λ j. InOrder (length g.atoms) (length g.membranes) (length g.parts) (length g.integers) (j ∷ [])) e order in
       subst (λ j. Stepped atom membrane h g k result j) (sym e)
-      (integer_stepped g k result (Div v w x) o held (λ is w. w.1) refl (λ c s t. binary (result_of arithmetic.Div) g s v w x m n o t left right u.0.0.0 (value ∙ uncast (result_of arithmetic.Div) m n fits_left fits_right)) given)
+      (integer_stepped g k result (Div v w x) o held (λ is w. w.1) (refl, refl, refl, refl) (λ c s t. binary (result_of arithmetic.Div) g s v w x m n o t left right u.0.0.0 (value ∙ uncast (result_of arithmetic.Div) m n fits_left fits_right)) given)
 
   pub remainder_stepped : (g k : SetRegisters A M) (result : Bool) (i : Instr) (v w x : ℕ) (m n : ℤ) (o : Option ℤ) → i ≡ Mod v w x → InOrder (length g.atoms) (length g.membranes) (length g.parts) (length g.integers) (i ∷ []) → AreHeld atom membrane h g →
       slice_get g.integers w ≡ Some m → slice_get g.integers x ≡ Some n → FitsSigned w64 m → FitsSigned w64 n → o ≡ result_of arithmetic.Mod (cast m) (cast n) → HasGiven g k result o → Stepped atom membrane h g k result i
   remainder_stepped g k result i v w x m n o e order held left right fits_left fits_right value given =
       let u : InOrder (length g.atoms) (length g.membranes) (length g.parts) (length g.integers) (Mod v w x ∷ []) = subst (λ j. InOrder (length g.atoms) (length g.membranes) (length g.parts) (length g.integers) (j ∷ [])) e order in
       subst (λ j. Stepped atom membrane h g k result j) (sym e)
-      (integer_stepped g k result (Mod v w x) o held (λ is w. w.1) refl (λ c s t. binary (result_of arithmetic.Mod) g s v w x m n o t left right u.0.0.0 (value ∙ uncast (result_of arithmetic.Mod) m n fits_left fits_right)) given)
+      (integer_stepped g k result (Mod v w x) o held (λ is w. w.1) (refl, refl, refl, refl) (λ c s t. binary (result_of arithmetic.Mod) g s v w x m n o t left right u.0.0.0 (value ∙ uncast (result_of arithmetic.Mod) m n fits_left fits_right)) given)

@@ -11,3 +11,6 @@ pub mod Worked
 pub mod Owning
 pub mod Contexts
 pub mod Apart
+pub mod Besides
+pub mod Costing
+pub mod Bodies

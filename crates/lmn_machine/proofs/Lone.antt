@@ -16,10 +16,11 @@ use Rattle.lmn_solid.specs.Guards.{integer_at, integer_by, integer_of, IsUnary a
 use Rattle.lmn_instr.specs.declared.instr.AtomPort.{AtomPort}
 use Rattle.lmn_instr.specs.declared.instr.Instr.{Instr}
 use Rattle.lmn_instr.specs.declared.instr.Instr.TheVariants.{IsInt, IsUnary}
-use Rattle.lmn_instr.specs.Running.{Registers, Holds, IsContext, atoms_set, port_of}
-use Rattle.lmn_machine.specs.declared.registers.SetRegisters.{SetRegisters}
-use Rattle.lmn_machine.specs.Searching.{Agrees, AreHeld, Extends, AllSet, Stepped, InOrder, HasGivenPart, AreApart, IsLone, IsWholeApart, IsHeldPart}
-use Rattle.lmn_machine.proofs.Stepping.{extends_itself, agrees_before}
+use Rattle.lmn_instr.specs.Running.{Registers, Holds, IsContext, port_of}
+use Rattle.lmn_registers.specs.declared.registers.SetRegisters.{SetRegisters}
+use Rattle.lmn_registers.specs.Agreeing.{Agrees}
+use Rattle.lmn_machine.specs.Searching.{AreHeld, Extends, AllSet, Stepped, InOrder, HasGivenPart, AreApart, IsLone, IsWholeApart, IsHeldPart}
+use Rattle.lmn_machine.proofs.Stepping.{SetsSo, extends_itself, agrees_before}
 use Rattle.lmn_machine.proofs.Choosing.{get_either, get_last, take_front, take_whole}
 use Rattle.lmn_machine.proofs.Calling.{length_one}
 
@@ -145,7 +146,7 @@ with_part g p = record g { parts = g.parts ++ p ∷ [] }
 
 module _ {A M : Type 0} (atom : A → ℕ) (membrane : M → ℕ) (h : Heap) where
   extends_part : (g : SetRegisters A M) (p : A × ℕ) → Extends g (with_part g p)
-  extends_part g p = record { atoms = take_whole g.atoms; membranes = take_whole g.membranes; parts = take_front g.parts (p ∷ []); integers = take_whole g.integers }
+  extends_part g p = record { atoms = take_whole g.atoms; membranes = take_whole g.membranes; parts = take_front g.parts (p ∷ []); integers = take_whole g.integers; copies = refl }
 
   agrees_part : (g : SetRegisters A M) (p : A × ℕ) (s : Registers) → Agrees atom membrane g s → s.images.part (length g.parts) ≡ port_id atom p → Agrees atom membrane (with_part g p) s
   agrees_part g p s t e = record {
@@ -175,13 +176,13 @@ module _ {A M : Type 0} (atom : A → ℕ) (membrane : M → ℕ) (h : Heap) whe
 
   pub part_stepped : Sound h → (g k : SetRegisters A M) (result : Bool) (i : Instr) (j : ℕ) (a : A) (port m : ℕ) (o : Option (A × ℕ)) → slice_get g.atoms j ≡ Some a → FoundFrom g a port m o → AreHeld atom membrane h g → IfSome o (λ p. IsAtom h (atom p.0)) →
       ((is : List Instr) → InOrder (length g.atoms) (length g.membranes) (length g.parts) (length g.integers) (i ∷ is) → InOrder (length g.atoms) (length g.membranes) (length g.parts + 1) (length g.integers) is) →
-      ((c : ℕ) → AllSet c (length g.atoms) i → c ≡ length g.atoms) → atoms_set (i ∷ []) ≡ 0 → GivesPart g i o → HasGivenPart g k result o → Stepped atom membrane h g k result i
+      ((c : ℕ) → AllSet c (length g.atoms) i → c ≡ length g.atoms) → SetsSo i 0 0 1 0 → GivesPart g i o → HasGivenPart g k result o → Stepped atom membrane h g k result i
   part_stepped sound g k result i j a port m None from known held there next all count means given = record {
     held = subst (λ l. AreHeld atom membrane h l) (sym given.1) held;
     extends = subst (λ l. Extends g l) (sym given.1) (extends_itself atom membrane h g);
     holds = λ t. (let f = given.0 in absurd (cc));
     only = λ c s n a u. (let e = (means c s (all c n) a).0 u in absurd (cc));
-    count = λ t. (let f = given.0 in absurd (cc));
+    sets = λ t. (let f = given.0 in absurd (cc));
     order = λ t. (let f = given.0 in absurd (cc));
   }
   part_stepped sound g k result i j a port m (Some p) from known held there next all count means given = subst (λ b. Stepped atom membrane h g k b i) (sym given.0) (subst (λ l. Stepped atom membrane h g l true i) (sym given.1) stepped)
@@ -198,7 +199,12 @@ module _ {A M : Type 0} (atom : A → ℕ) (membrane : M → ℕ) (h : Heap) whe
         holds = λ t c s n a.
             (means c s (all c n) (agrees_before atom membrane h g (with_part g p) s (extends_part g p) a)).1 (ap (λ x. Some x) (sym (a.parts (length g.parts) p (get_last g.parts p))));
         only = λ c s n a u. (let e = (means c s (all c n) a).0 u in let v : s.images.part (length g.parts) ≡ port_id atom p = cc in (refl, agrees_part g p s a v));
-        count = λ t. omega (arith, count);
+        sets = λ t. record {
+          atoms = (let n = count.0 in omega (arith, n));
+          membranes = (let n = count.1 in omega (arith, n));
+          parts = (let n = count.2 in let l = length_one g.parts p in omega (arith, n, l));
+          integers = (let n = count.3 in omega (arith, n));
+        };
         order = λ t is u. subst (λ n. InOrder (length g.atoms) (length g.membranes) n (length g.integers) is) (sym (length_one g.parts p)) (next is u);
       }
 
@@ -246,11 +252,11 @@ module _ {A M : Type 0} (atom : A → ℕ) (membrane : M → ℕ) (h : Heap) whe
   unary_stepped sound g k result i x p y a m o e order held from place there t given =
       let u : InOrder (length g.atoms) (length g.membranes) (length g.parts) (length g.integers) (IsUnary x p y ∷ []) = subst (λ j. InOrder (length g.atoms) (length g.membranes) (length g.parts) (length g.integers) (j ∷ [])) e order in
       subst (λ j. Stepped atom membrane h g k result j) (sym (e ∙ ap (λ j. IsUnary j p y) u.0.0.0.0))
-      (part_stepped sound g k result (IsUnary (length g.parts) p y) p.atom a p.port (membrane m) o from (lone_known sound g a p.port m o t) held there (λ is w. w.1) (λ c w. w) refl (unary_gives sound g p y a m o from place t) given)
+      (part_stepped sound g k result (IsUnary (length g.parts) p y) p.atom a p.port (membrane m) o from (lone_known sound g a p.port m o t) held there (λ is w. w.1) (λ c w. w) (refl, refl, refl, refl) (unary_gives sound g p y a m o from place t) given)
 
   pub int_stepped : Sound h → (g k : SetRegisters A M) (result : Bool) (i : Instr) (x : ℕ) (p : AtomPort) (y : ℕ) (a : A) (m : M) (end o : Option (A × ℕ)) → i ≡ IsInt x p y → InOrder (length g.atoms) (length g.membranes) (length g.parts) (length g.integers) (i ∷ []) → AreHeld atom membrane h g →
       slice_get g.atoms p.atom ≡ Some a → slice_get g.membranes y ≡ Some m → IfSome o (λ p. IsAtom h (atom p.0)) → LoneEnd g a p.port m end → IntegerRoot end o → HasGivenPart g k result o → Stepped atom membrane h g k result i
   int_stepped sound g k result i x p y a m end o e order held from place there t root given =
       let u : InOrder (length g.atoms) (length g.membranes) (length g.parts) (length g.integers) (IsInt x p y ∷ []) = subst (λ j. InOrder (length g.atoms) (length g.membranes) (length g.parts) (length g.integers) (j ∷ [])) e order in
       subst (λ j. Stepped atom membrane h g k result j) (sym (e ∙ ap (λ j. IsInt j p y) u.0.0.0.0))
-      (part_stepped sound g k result (IsInt (length g.parts) p y) p.atom a p.port (membrane m) o from (λ q u. lone_known sound g a p.port m end t q (root.is_end q u)) held there (λ is w. w.1) (λ c w. w) refl (int_gives sound g p y a m end o from place t root) given)
+      (part_stepped sound g k result (IsInt (length g.parts) p y) p.atom a p.port (membrane m) o from (λ q u. lone_known sound g a p.port m end t q (root.is_end q u)) held there (λ is w. w.1) (λ c w. w) (refl, refl, refl, refl) (int_gives sound g p y a m end o from place t root) given)

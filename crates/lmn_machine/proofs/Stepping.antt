@@ -1,14 +1,16 @@
 -- Steps of the machine, and what is passed so far.
 use Rattle.std.proofs.Common.{ℕ, ℤ, zero, suc, ◌≡◌, ◌≤◌, ◌+◌, List, [], ◌∷◌, Some, refl, arith, ap, sym, subst, length, take, ◌∙◌}
 use Rattle.std.specs.Prelude.{Bool, true, false, slice_get}
+use Rattle.lmn_base.specs.declared.functor.Functor.{Functor}
 use Rattle.lmn_heap.specs.Heap.{Heap}
 use Rattle.lmn_solid.specs.Embeddings.{NotAfter}
 use Rattle.lmn_instr.specs.declared.instr.AtomPort.{AtomPort}
 use Rattle.lmn_instr.specs.declared.instr.Instr.{Instr}
-use Rattle.lmn_instr.specs.declared.instr.Instr.TheVariants.{FindAtom, Deref, AnyMem, IsInt, IsUnary, IsGround, EqGround, NeqGround, GetInt, Const, Add, Sub, Mul, Div, Mod}
+use Rattle.lmn_instr.specs.declared.instr.Instr.TheVariants.{FindAtom, Deref, Func, InMem, NeqAtom, Joined, NotIn, AnyMem, NeqMem, IsInt, IsUnary, IsGround, NAtoms, NMems, NoRules, EqGround, NeqGround, GetInt, Const, Add, Sub, Mul, Div, Mod}
 use Rattle.lmn_instr.specs.Running.{Registers, Holds, AllHold, atoms_set, choices}
-use Rattle.lmn_machine.specs.declared.registers.SetRegisters.{SetRegisters}
-use Rattle.lmn_machine.specs.Searching.{Agrees, AreHeld, Extends, SetsAll, AllSet, Reads, Searched, Stepped, ChoosesNone, InOrder}
+use Rattle.lmn_registers.specs.declared.registers.SetRegisters.{SetRegisters}
+use Rattle.lmn_registers.specs.Agreeing.{Agrees}
+use Rattle.lmn_machine.specs.Searching.{AreHeld, AsksNoPart, Compares, Extends, SetsAll, AllSet, Reads, Searched, Stepped, ChoosesNone, InOrder, Sets, membranes_set, parts_set, integers_set}
 
 take_all : {A : Type 0} (xs : List A) → take (length xs) xs ≡ xs
 take_all [] = refl
@@ -25,6 +27,7 @@ check_order (IsUnary x p y) a m g v is r o = absurd r
 check_order (IsGround x p y) a m g v is r o = absurd r
 check_order (EqGround x y) a m g v is r o = absurd r
 check_order (NeqGround x y) a m g v is r o = absurd r
+check_order (NAtoms x n gs) a m g v is r o = absurd r
 check_order (GetInt x y) a m g v is r o = absurd r
 check_order (Const x z) a m g v is r o = absurd r
 check_order (Add x y z) a m g v is r o = absurd r
@@ -34,25 +37,53 @@ check_order (Div x y z) a m g v is r o = absurd r
 check_order (Mod x y z) a m g v is r o = absurd r
 check_order _ a m g v is r o = o.1
 
--- an instruction without a choice that sets nothing is a test of registers that are set
-pub test_reads : (i : Instr) (a m g v : ℕ) → ChoosesNone i → ((x : ℕ) (p : AtomPort) (e : ℕ) → i ≡ Deref x p e → ⊥) → ((x : ℕ) (p : AtomPort) (y : ℕ) → i ≡ IsInt x p y → ⊥) → ((x : ℕ) (p : AtomPort) (y : ℕ) → i ≡ IsUnary x p y → ⊥) → ((x : ℕ) (p : AtomPort) (y : ℕ) → i ≡ IsGround x p y → ⊥) → ((x y : ℕ) → i ≡ EqGround x y → ⊥) → ((x y : ℕ) → i ≡ NeqGround x y → ⊥) → ((x y : ℕ) → i ≡ GetInt x y → ⊥) → ((x : ℕ) (z : ℤ) → i ≡ Const x z → ⊥) →
-    ((x y z : ℕ) → i ≡ Add x y z → ⊥) → ((x y z : ℕ) → i ≡ Sub x y z → ⊥) → ((x y z : ℕ) → i ≡ Mul x y z → ⊥) → ((x y z : ℕ) → i ≡ Div x y z → ⊥) → ((x y z : ℕ) → i ≡ Mod x y z → ⊥) → InOrder a m g v (i ∷ []) → Reads a m v i
-test_reads (FindAtom x y f) a m g v c d k l b eq ne w n p q r s t o = absurd c
-test_reads (AnyMem x y) a m g v c d k l b eq ne w n p q r s t o = absurd c
-test_reads (Deref x y e) a m g v c d k l b eq ne w n p q r s t o = absurd (d x y e refl)
-test_reads (IsInt x y z) a m g v c d k l b eq ne w n p q r s t o = absurd (k x y z refl)
-test_reads (IsUnary x y z) a m g v c d k l b eq ne w n p q r s t o = absurd (l x y z refl)
-test_reads (IsGround x y z) a m g v c d k l b eq ne w n p q r s t o = absurd (b x y z refl)
-test_reads (EqGround x y) a m g v c d k l b eq ne w n p q r s t o = absurd (eq x y refl)
-test_reads (NeqGround x y) a m g v c d k l b eq ne w n p q r s t o = absurd (ne x y refl)
-test_reads (GetInt x y) a m g v c d k l b eq ne w n p q r s t o = absurd (w x y refl)
-test_reads (Const x z) a m g v c d k l b eq ne w n p q r s t o = absurd (n x z refl)
-test_reads (Add x y z) a m g v c d k l b eq ne w n p q r s t o = absurd (p x y z refl)
-test_reads (Sub x y z) a m g v c d k l b eq ne w n p q r s t o = absurd (q x y z refl)
-test_reads (Mul x y z) a m g v c d k l b eq ne w n p q r s t o = absurd (r x y z refl)
-test_reads (Div x y z) a m g v c d k l b eq ne w n p q r s t o = absurd (s x y z refl)
-test_reads (Mod x y z) a m g v c d k l b eq ne w n p q r s t o = absurd (t x y z refl)
-test_reads _ a m g v c d k l b eq ne w n p q r s t o = o.0
+-- an instruction without a choice that neither sets an atom nor looks at a part
+pub asks_no_part : (i : Instr) → ChoosesNone i → ((x : ℕ) (p : AtomPort) (e : ℕ) → i ≡ Deref x p e → ⊥) → ((x : ℕ) (p : AtomPort) (y : ℕ) → i ≡ IsInt x p y → ⊥) → ((x : ℕ) (p : AtomPort) (y : ℕ) → i ≡ IsUnary x p y → ⊥) →
+    ((x : ℕ) (p : AtomPort) (y : ℕ) → i ≡ IsGround x p y → ⊥) → ((x y : ℕ) → i ≡ EqGround x y → ⊥) → ((x y : ℕ) → i ≡ NeqGround x y → ⊥) → ((x n : ℕ) (gs : List ℕ) → i ≡ NAtoms x n gs → ⊥) → AsksNoPart i
+asks_no_part (FindAtom x y f) c d k l b eq ne n = absurd c
+asks_no_part (AnyMem x y) c d k l b eq ne n = absurd c
+asks_no_part (Deref x y e) c d k l b eq ne n = absurd (d x y e refl)
+asks_no_part (IsInt x y z) c d k l b eq ne n = absurd (k x y z refl)
+asks_no_part (IsUnary x y z) c d k l b eq ne n = absurd (l x y z refl)
+asks_no_part (IsGround x y z) c d k l b eq ne n = absurd (b x y z refl)
+asks_no_part (EqGround x y) c d k l b eq ne n = absurd (eq x y refl)
+asks_no_part (NeqGround x y) c d k l b eq ne n = absurd (ne x y refl)
+asks_no_part (NAtoms x y gs) c d k l b eq ne n = absurd (n x y gs refl)
+asks_no_part _ c d k l b eq ne n = tt
+
+-- where it doesn't set an integer either, it is a test of registers that are set
+pub test_reads : (i : Instr) (a m g v : ℕ) → AsksNoPart i → ((x y : ℕ) → i ≡ GetInt x y → ⊥) → ((x : ℕ) (z : ℤ) → i ≡ Const x z → ⊥) → ((x y z : ℕ) → i ≡ Add x y z → ⊥) → ((x y z : ℕ) → i ≡ Sub x y z → ⊥) →
+    ((x y z : ℕ) → i ≡ Mul x y z → ⊥) → ((x y z : ℕ) → i ≡ Div x y z → ⊥) → ((x y z : ℕ) → i ≡ Mod x y z → ⊥) → InOrder a m g v (i ∷ []) → Reads a m v i
+test_reads (FindAtom x y f) a m g v c w n p q r s t o = absurd c
+test_reads (AnyMem x y) a m g v c w n p q r s t o = absurd c
+test_reads (Deref x y e) a m g v c w n p q r s t o = absurd c
+test_reads (IsInt x y z) a m g v c w n p q r s t o = absurd c
+test_reads (IsUnary x y z) a m g v c w n p q r s t o = absurd c
+test_reads (IsGround x y z) a m g v c w n p q r s t o = absurd c
+test_reads (EqGround x y) a m g v c w n p q r s t o = absurd c
+test_reads (NeqGround x y) a m g v c w n p q r s t o = absurd c
+test_reads (NAtoms x y gs) a m g v c w n p q r s t o = absurd c
+test_reads (GetInt x y) a m g v c w n p q r s t o = absurd (w x y refl)
+test_reads (Const x z) a m g v c w n p q r s t o = absurd (n x z refl)
+test_reads (Add x y z) a m g v c w n p q r s t o = absurd (p x y z refl)
+test_reads (Sub x y z) a m g v c w n p q r s t o = absurd (q x y z refl)
+test_reads (Mul x y z) a m g v c w n p q r s t o = absurd (r x y z refl)
+test_reads (Div x y z) a m g v c w n p q r s t o = absurd (s x y z refl)
+test_reads (Mod x y z) a m g v c w n p q r s t o = absurd (t x y z refl)
+test_reads _ a m g v c w n p q r s t o = o.0
+
+-- where it doesn't look at atoms or membranes either, it compares integers
+pub test_compares : (i : Instr) (a m v : ℕ) → Reads a m v i → ((x : ℕ) (f : Functor) → i ≡ Func x f → ⊥) → ((x y : ℕ) → i ≡ InMem x y → ⊥) → ((x y : ℕ) → i ≡ NeqAtom x y → ⊥) → ((p q : AtomPort) → i ≡ Joined p q → ⊥) →
+    ((x y : ℕ) → i ≡ NeqMem x y → ⊥) → ((x n : ℕ) → i ≡ NMems x n → ⊥) → ((x : ℕ) → i ≡ NoRules x → ⊥) → ((p : AtomPort) (x : ℕ) → i ≡ NotIn p x → ⊥) → Compares v i
+test_compares (Func x f) a m v r b c d e g k l n = absurd (b x f refl)
+test_compares (InMem x y) a m v r b c d e g k l n = absurd (c x y refl)
+test_compares (NeqAtom x y) a m v r b c d e g k l n = absurd (d x y refl)
+test_compares (Joined p q) a m v r b c d e g k l n = absurd (e p q refl)
+test_compares (NeqMem x y) a m v r b c d e g k l n = absurd (g x y refl)
+test_compares (NMems x y) a m v r b c d e g k l n = absurd (k x y refl)
+test_compares (NoRules x) a m v r b c d e g k l n = absurd (l x refl)
+test_compares (NotIn p x) a m v r b c d e g k l n = absurd (n p x refl)
+test_compares _ a m v r b c d e g k l n = r
 
 -- c is the number of all atom registers, where a are set and code is run next
 abbrev pub AllAtEnd : ℕ → ℕ → List Instr → Type 0
@@ -69,10 +100,45 @@ sets_more (FindAtom x y f) is = omega arith
 sets_more (Deref x p k) is = omega arith
 sets_more _ is = omega arith
 
-test_sets_none : (a m v : ℕ) (i : Instr) → Reads a m v i → atoms_set (i ∷ []) ≡ 0
+membranes_more : (i : Instr) (is : List Instr) → membranes_set (i ∷ is) ≡ membranes_set (i ∷ []) + membranes_set is
+membranes_more (AnyMem x y) is = omega arith
+membranes_more _ is = omega arith
+
+parts_more : (i : Instr) (is : List Instr) → parts_set (i ∷ is) ≡ parts_set (i ∷ []) + parts_set is
+parts_more (IsInt x p y) is = omega arith
+parts_more (IsUnary x p y) is = omega arith
+parts_more (IsGround x p y) is = omega arith
+parts_more _ is = omega arith
+
+integers_more : (i : Instr) (is : List Instr) → integers_set (i ∷ is) ≡ integers_set (i ∷ []) + integers_set is
+integers_more (GetInt x y) is = omega arith
+integers_more (Const x z) is = omega arith
+integers_more (Add x y z) is = omega arith
+integers_more (Sub x y z) is = omega arith
+integers_more (Mul x y z) is = omega arith
+integers_more (Div x y z) is = omega arith
+integers_more (Mod x y z) is = omega arith
+integers_more _ is = omega arith
+
+-- what an instruction sets: so many atoms, membranes, typed contexts and integers
+abbrev pub SetsSo : Instr → ℕ → ℕ → ℕ → ℕ → Type 0
+SetsSo i a m g v = (atoms_set (i ∷ []) ≡ a) × (membranes_set (i ∷ []) ≡ m) × (parts_set (i ∷ []) ≡ g) × (integers_set (i ∷ []) ≡ v)
+
+test_sets_none : (a m v : ℕ) (i : Instr) → Reads a m v i → SetsSo i 0 0 0 0
 test_sets_none a m v (FindAtom x y f) r = absurd r
 test_sets_none a m v (Deref x p k) r = absurd r
-test_sets_none a m v _ r = refl
+test_sets_none a m v (AnyMem x y) r = absurd r
+test_sets_none a m v (IsInt x p y) r = absurd r
+test_sets_none a m v (IsUnary x p y) r = absurd r
+test_sets_none a m v (IsGround x p y) r = absurd r
+test_sets_none a m v (GetInt x y) r = absurd r
+test_sets_none a m v (Const x z) r = absurd r
+test_sets_none a m v (Add x y z) r = absurd r
+test_sets_none a m v (Sub x y z) r = absurd r
+test_sets_none a m v (Mul x y z) r = absurd r
+test_sets_none a m v (Div x y z) r = absurd r
+test_sets_none a m v (Mod x y z) r = absurd r
+test_sets_none a m v _ r = (refl, refl, refl, refl)
 
 choice_none : (h : Heap) (s : Registers) (i : Instr) (is : List Instr) → ChoosesNone i → choices h s (i ∷ is) ≡ choices h s is
 choice_none h s (FindAtom x y f) is n = absurd n
@@ -81,7 +147,20 @@ choice_none h s _ is n = refl
 
 module _ {A M : Type 0} (atom : A → ℕ) (membrane : M → ℕ) (h : Heap) where
   pub extends_itself : (g : SetRegisters A M) → Extends g g
-  extends_itself g = record { atoms = take_all g.atoms; membranes = take_all g.membranes; parts = take_all g.parts; integers = take_all g.integers }
+  extends_itself g = record { atoms = take_all g.atoms; membranes = take_all g.membranes; parts = take_all g.parts; integers = take_all g.integers; copies = refl }
+
+  -- an instruction that sets nothing
+  pub nothing_more : (g : SetRegisters A M) (i : Instr) → SetsSo i 0 0 0 0 → Sets g g (i ∷ [])
+  nothing_more g i n = let a = n.0 in let m = n.1 in let p = n.2 in let v = n.3 in record { atoms = omega (arith, a); membranes = omega (arith, m); parts = omega (arith, p); integers = omega (arith, v) }
+
+  -- an instruction, and the code behind it
+  sets_then : (g k l : SetRegisters A M) (i : Instr) (is : List Instr) → Sets g k (i ∷ []) → Sets k l is → Sets g l (i ∷ is)
+  sets_then g k l i is s t = record {
+    atoms = (let a = s.atoms in let b = t.atoms in let c = sets_more i is in omega (arith, a, b, c));
+    membranes = (let a = s.membranes in let b = t.membranes in let c = membranes_more i is in omega (arith, a, b, c));
+    parts = (let a = s.parts in let b = t.parts in let c = parts_more i is in omega (arith, a, b, c));
+    integers = (let a = s.integers in let b = t.integers in let c = integers_more i is in omega (arith, a, b, c));
+  }
 
   pub check_stepped : (g : SetRegisters A M) (result : Bool) (i : Instr) → AreHeld atom membrane h g → Reads (length g.atoms) (length g.membranes) (length g.integers) i →
       ((c : ℕ) (s : Registers) → Agrees atom membrane g s → (result ≡ true → Holds h c s i) × (Holds h c s i → result ≡ true)) → Stepped atom membrane h g g result i
@@ -90,7 +169,7 @@ module _ {A M : Type 0} (atom : A → ℕ) (membrane : M → ℕ) (h : Heap) whe
     extends = extends_itself g;
     holds = λ t c s n a. (f c s a).0 t;
     only = λ c s n a t. ((f c s a).1 t, a);
-    count = λ t. (let n = test_sets_none (length g.atoms) (length g.membranes) (length g.integers) i r in omega (arith, n));
+    sets = λ t. nothing_more g i (test_sets_none (length g.atoms) (length g.membranes) (length g.integers) i r);
     order = λ t is o. check_order i (length g.atoms) (length g.membranes) (length g.parts) (length g.integers) is r o;
   }
 
@@ -108,7 +187,12 @@ module _ {A M : Type 0} (atom : A → ℕ) (membrane : M → ℕ) (h : Heap) whe
         extends = extends;
         holds = λ u c s n a. subst (λ j. Holds h c s j) (sym is_deref) (holds u c s a);
         only = λ c s n a u. only c s a (subst (λ j. Holds h c s j) is_deref u);
-        count = λ u. more u ∙ ap (λ j. length g.atoms + atoms_set (j ∷ [])) (sym is_deref);
+        sets = λ u. subst (λ j. Sets g k (j ∷ [])) (sym is_deref) (record {
+          atoms = more u;
+          membranes = (let e = ap length same in omega (arith, e));
+          parts = (let e = ap length same_parts in omega (arith, e));
+          integers = (let e = ap length same_integers in omega (arith, e));
+        });
         order = λ u is v. (let w : InOrder (length g.atoms) (length g.membranes) (length g.parts) (length g.integers) (Deref (length g.atoms) p e ∷ is) = subst (λ j. InOrder (length g.atoms) (length g.membranes) (length g.parts) (length g.integers) (j ∷ is)) is_deref v in
             subst (λ n. InOrder n (length k.membranes) (length k.parts) (length k.integers) is) (sym (more u))
             (subst (λ ms. InOrder (length g.atoms + 1) (length ms) (length k.parts) (length k.integers) is) (sym same)
@@ -125,6 +209,7 @@ module _ {A M : Type 0} (atom : A → ℕ) (membrane : M → ℕ) (h : Heap) whe
     pub on : (c : ℕ) (s : Registers) → SetsAll c g0 code0 → Agrees atom membrane g0 s → AllHold h c s code0 → Agrees atom membrane g s × AllHold h c s code
     pub count : length g0.atoms + atoms_set code0 ≡ length g.atoms + atoms_set code
     pub same : (s : Registers) → choices h s code0 ≡ choices h s code
+    pub sets : (k : SetRegisters A M) → Sets g k code → Sets g0 k code0
 
   get_take : {X : Type 0} (n k : ℕ) (x : X) (xs : List X) → slice_get (take n xs) k ≡ Some x → slice_get xs k ≡ Some x
   get_take zero k x xs e = absurd (cc)
@@ -164,10 +249,11 @@ module _ {A M : Type 0} (atom : A → ℕ) (membrane : M → ℕ) (h : Heap) whe
     membranes = takes_on g.membranes k.membranes l.membranes e.membranes f.membranes;
     parts = takes_on g.parts k.parts l.parts e.parts f.parts;
     integers = takes_on g.integers k.integers l.integers e.integers f.integers;
+    copies = f.copies ∙ e.copies;
   }
 
   pub passed_nothing : (g : SetRegisters A M) (code : List Instr) → AreHeld atom membrane h g → InOrder (length g.atoms) (length g.membranes) (length g.parts) (length g.integers) code → Passed g g code code
-  passed_nothing g code held order = record { held = held; extends = extends_itself g; order = order; back = λ c s n a t. t; on = λ c s n a t. (a, t); count = refl; same = λ s. refl }
+  passed_nothing g code held order = record { held = held; extends = extends_itself g; order = order; back = λ c s n a t. t; on = λ c s n a t. (a, t); count = refl; same = λ s. refl; sets = λ k s. s }
 
   -- the instruction ahead knows the number of atom registers
   ahead_set : (g0 g : SetRegisters A M) (code0 is : List Instr) (i : Instr) → Passed g0 g code0 (i ∷ is) → (c : ℕ) → SetsAll c g0 code0 → AllSet c (length g.atoms) i
@@ -180,7 +266,8 @@ module _ {A M : Type 0} (atom : A → ℕ) (membrane : M → ℕ) (h : Heap) whe
     order = t.order refl is p.order;
     back = λ c s m a u. p.back c s m (agrees_before g k s t.extends a) (t.holds refl c s (ahead_set g0 g code0 is i p c m) a, u);
     on = λ c s m a u. (let v = p.on c s m a u in ((t.only c s (ahead_set g0 g code0 is i p c m) v.0 v.1.0).1, v.1.1));
-    count = (let a = p.count in let b = t.count refl in let d = sets_more i is in omega (arith, a, b, d));
+    sets = λ l s. p.sets l (sets_then g k l i is (t.sets refl) s);
+    count = (let a = p.count in let b = (t.sets refl).atoms in let d = sets_more i is in omega (arith, a, b, d));
     same = λ s. p.same s ∙ choice_none h s i is n;
   }
 
@@ -188,6 +275,7 @@ module _ {A M : Type 0} (atom : A → ℕ) (membrane : M → ℕ) (h : Heap) whe
   failed g0 g k code0 is i p t = record {
     held = t.held;
     extends = extends_on g0 g k p.extends t.extends;
+    sets = λ u. absurd (cc);
     found = λ u. absurd (cc);
     none = λ u c s m a v. (let w = p.on c s m a v in let z = (t.only c s (ahead_set g0 g code0 is i p c m) w.0 w.1.0).0 in cc);
   }
@@ -196,6 +284,7 @@ module _ {A M : Type 0} (atom : A → ℕ) (membrane : M → ℕ) (h : Heap) whe
   passed_all g0 g code0 p = record {
     held = p.held;
     extends = p.extends;
+    sets = λ u. p.sets g (record { atoms = omega arith; membranes = omega arith; parts = omega arith; integers = omega arith });
     found = λ u. record {
       holds = λ c s m a. p.back c s m a tt;
       first = λ c s t m a b v. subst (λ cs. NotAfter cs (choices h t code0)) (sym (p.same s)) tt;
@@ -207,6 +296,7 @@ module _ {A M : Type 0} (atom : A → ℕ) (membrane : M → ℕ) (h : Heap) whe
   passed_search g0 g k code0 code result p t = record {
     held = t.held;
     extends = extends_on g0 g k p.extends t.extends;
+    sets = λ u. p.sets k (t.sets u);
     found = λ u. record {
       holds = λ c s m a. p.back c s m (agrees_before g k s t.extends a) ((t.found u).holds c s (m ∙ p.count) a);
       first = λ c s v m a b w. (let z = p.on c v m b w in

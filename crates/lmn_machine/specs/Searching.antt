@@ -1,5 +1,6 @@
 -- What the machine knows while it looks for a match.
 use Rattle.std.specs.Prelude.{ℕ, ℤ, Bool, true, false, ◌≡◌, ◌<◌, ◌+◌, List, [], ◌∷◌, ◌++◌, Option, Some, None, length, slice_get, take}
+use Rattle.std.specs.List.{AllByRecursion}
 use Rattle.lmn_base.specs.Graphs.{Reached, StandsWhole}
 use Rattle.lmn_heap.specs.Heap.{Heap, IsAtom, IsMem, port_id, home_of, link_of, mark_of, arity_of, marked}
 use Rattle.lmn_heap.specs.Graphs.{atom_map}
@@ -8,15 +9,9 @@ use Rattle.lmn_instr.specs.declared.instr.Instr.TheVariants.{FindAtom, Deref, Fu
 use Rattle.lmn_instr.specs.Running.{Registers, Holds, AllHold, atoms_set, choices}
 use Rattle.lmn_solid.specs.Embeddings.{NotAfter}
 use Rattle.lmn_solid.specs.Guards.{IsUnary as IsUnaryPart}
-use Rattle.lmn_machine.specs.declared.registers.SetRegisters.{SetRegisters}
-use Rattle.lmn_machine.specs.declared.stack.TheConstants.{ROOM}
-
--- Registers that have the values of those that are set, where `atom` and `membrane` number the handles of a store.
-pub record Agrees {A M : Type 0} (atom : A → ℕ) (membrane : M → ℕ) (g : SetRegisters A M) (s : Registers) : Type 0 where
-  pub atoms : (k : ℕ) (a : A) → slice_get g.atoms k ≡ Some a → s.images.atom k ≡ atom a
-  pub membranes : (k : ℕ) (m : M) → slice_get g.membranes k ≡ Some m → s.images.membrane k ≡ membrane m
-  pub parts : (k : ℕ) (p : A × ℕ) → slice_get g.parts k ≡ Some p → s.images.part k ≡ port_id atom p
-  pub integers : (k : ℕ) (z : ℤ) → slice_get g.integers k ≡ Some z → s.integer k ≡ z
+use Rattle.lmn_registers.specs.Agreeing.{Agrees}
+use Rattle.lmn_registers.specs.declared.registers.SetRegisters.{SetRegisters}
+use Rattle.lmn_registers.specs.declared.stack.TheConstants.{ROOM}
 
 -- none of these handles is of an atom
 pub record AreApart {A : Type 0} (atom : A → ℕ) (handles : List A) (n : ℕ) : Type 0 where
@@ -42,6 +37,47 @@ pub record Extends {A M : Type 0} (g k : SetRegisters A M) : Type 0 where
   pub membranes : take (length g.membranes) k.membranes ≡ g.membranes
   pub parts : take (length g.parts) k.parts ≡ g.parts
   pub integers : take (length g.integers) k.integers ≡ g.integers
+  pub copies : k.copies ≡ g.copies
+
+-- how many registers of membranes code sets
+abbrev pub membranes_set : List Instr → ℕ
+membranes_set [] = 0
+membranes_set (AnyMem m k ∷ is) = 1 + membranes_set is
+membranes_set (_ ∷ is) = membranes_set is
+
+-- how many of typed contexts
+abbrev pub parts_set : List Instr → ℕ
+parts_set [] = 0
+parts_set (IsInt g p m ∷ is) = 1 + parts_set is
+parts_set (IsUnary g p m ∷ is) = 1 + parts_set is
+parts_set (IsGround g p m ∷ is) = 1 + parts_set is
+parts_set (_ ∷ is) = parts_set is
+
+-- how many of integers
+abbrev pub integers_set : List Instr → ℕ
+integers_set [] = 0
+integers_set (GetInt v g ∷ is) = 1 + integers_set is
+integers_set (Const v z ∷ is) = 1 + integers_set is
+integers_set (Add v w x ∷ is) = 1 + integers_set is
+integers_set (Sub v w x ∷ is) = 1 + integers_set is
+integers_set (Mul v w x ∷ is) = 1 + integers_set is
+integers_set (Div v w x ∷ is) = 1 + integers_set is
+integers_set (Mod v w x ∷ is) = 1 + integers_set is
+integers_set (_ ∷ is) = integers_set is
+
+-- As many more registers are set as code sets.
+pub record Sets {A M : Type 0} (g k : SetRegisters A M) (code : List Instr) : Type 0 where
+  pub atoms : length k.atoms ≡ length g.atoms + atoms_set code
+  pub membranes : length k.membranes ≡ length g.membranes + membranes_set code
+  pub parts : length k.parts ≡ length g.parts + parts_set code
+  pub integers : length k.integers ≡ length g.integers + integers_set code
+
+-- Exactly the registers are set that head code sets, and that of the membrane in which it is run.
+pub record AreAllSet {A M : Type 0} (g : SetRegisters A M) (code : List Instr) : Type 0 where
+  pub atoms : length g.atoms ≡ atoms_set code
+  pub membranes : length g.membranes ≡ 1 + membranes_set code
+  pub parts : length g.parts ≡ parts_set code
+  pub integers : length g.integers ≡ integers_set code
 
 -- c atom registers are set when all of the code is run that begins with the registers g.
 abbrev pub SetsAll : {A M : Type 0} → ℕ → SetRegisters A M → List Instr → Type 0
@@ -58,10 +94,22 @@ pub record Found {A M : Type 0} (atom : A → ℕ) (membrane : M → ℕ) (h : H
 pub record Searched {A M : Type 0} (atom : A → ℕ) (membrane : M → ℕ) (h : Heap) (g k : SetRegisters A M) (result : Bool) (code : List Instr) : Type 0 where
   pub held : AreHeld atom membrane h k
   pub extends : Extends g k
+  pub sets : result ≡ true → Sets g k code
   pub found : result ≡ true → Found atom membrane h g k code
   pub none : result ≡ false → (c : ℕ) (s : Registers) → SetsAll c g code → Agrees atom membrane g s → AllHold h c s code → ⊥
 
--- Tests of registers that are set, where a atoms, m membranes and v integers are. NATOMS with typed contexts isn't run yet.
+-- two integers that are set are compared, or the match is found
+abbrev pub Compares : ℕ → Instr → Type 0
+Compares v (Lt x y) = (x < v) × (y < v)
+Compares v (Le x y) = (x < v) × (y < v)
+Compares v (Gt x y) = (x < v) × (y < v)
+Compares v (Ge x y) = (x < v) × (y < v)
+Compares v (Eq x y) = (x < v) × (y < v)
+Compares v (Ne x y) = (x < v) × (y < v)
+Compares v Commit = Unit {0}
+Compares v _ = ⊥
+
+-- Tests of registers that are set, where a atoms, m membranes and v integers are, but for those that look at typed contexts.
 abbrev pub Reads : ℕ → ℕ → ℕ → Instr → Type 0
 Reads a m v (Func x f) = x < a
 Reads a m v (InMem x y) = (x < a) × (y < m)
@@ -71,15 +119,7 @@ Reads a m v (NeqMem x y) = (x < m) × (y < m)
 Reads a m v (NMems x n) = x < m
 Reads a m v (NoRules x) = x < m
 Reads a m v (NotIn p x) = (p.atom < a) × (x < m)
-Reads a m v (NAtoms x n gs) = (x < m) × (gs ≡ [])
-Reads a m v (Lt x y) = (x < v) × (y < v)
-Reads a m v (Le x y) = (x < v) × (y < v)
-Reads a m v (Gt x y) = (x < v) × (y < v)
-Reads a m v (Ge x y) = (x < v) × (y < v)
-Reads a m v (Eq x y) = (x < v) × (y < v)
-Reads a m v (Ne x y) = (x < v) × (y < v)
-Reads a m v Commit = Unit {0}
-Reads a m v _ = ⊥
+Reads a m v i = Compares v i
 
 -- x is the number of the next register, and there is room for it
 abbrev pub IsNext : ℕ → ℕ → Type 0
@@ -96,6 +136,7 @@ InOrder a m g v (AnyMem x y ∷ is) = ((x ≡ m) × (y < m) × (m < ROOM)) × In
 InOrder a m g v (IsInt x p y ∷ is) = ((IsNext x g × (p.atom < a) × (y < m)) × (atoms_set is ≡ 0)) × InOrder a m (g + 1) v is
 InOrder a m g v (IsUnary x p y ∷ is) = ((IsNext x g × (p.atom < a) × (y < m)) × (atoms_set is ≡ 0)) × InOrder a m (g + 1) v is
 InOrder a m g v (IsGround x p y ∷ is) = ((IsNext x g × (p.atom < a) × (y < m)) × (atoms_set is ≡ 0)) × InOrder a m (g + 1) v is
+InOrder a m g v (NAtoms x n gs ∷ is) = ((x < m) × AllByRecursion (λ k. k < g) gs) × InOrder a m g v is
 InOrder a m g v (EqGround x y ∷ is) = ((x < g) × (y < g)) × InOrder a m g v is
 InOrder a m g v (NeqGround x y ∷ is) = ((x < g) × (y < g)) × InOrder a m g v is
 InOrder a m g v (GetInt x y ∷ is) = (IsNext x v × (y < g)) × InOrder a m g (v + 1) is
@@ -112,6 +153,19 @@ abbrev pub ChoosesNone : Instr → Type 0
 ChoosesNone (FindAtom x y f) = ⊥
 ChoosesNone (AnyMem x y) = ⊥
 ChoosesNone _ = Unit {0}
+
+-- Neither a choice, nor DEREF, nor an instruction that sets or looks at typed contexts; GETINT may be one.
+abbrev pub AsksNoPart : Instr → Type 0
+AsksNoPart (FindAtom x y f) = ⊥
+AsksNoPart (AnyMem x y) = ⊥
+AsksNoPart (Deref x p k) = ⊥
+AsksNoPart (IsInt x p y) = ⊥
+AsksNoPart (IsUnary x p y) = ⊥
+AsksNoPart (IsGround x p y) = ⊥
+AsksNoPart (NAtoms x n gs) = ⊥
+AsksNoPart (EqGround x y) = ⊥
+AsksNoPart (NeqGround x y) = ⊥
+AsksNoPart _ = Unit {0}
 
 -- c is the number a of the atom registers that are set, where an instruction speaks of all atom registers
 abbrev pub AllSet : ℕ → ℕ → Instr → Type 0
@@ -157,6 +211,6 @@ pub record Stepped {A M : Type 0} (atom : A → ℕ) (membrane : M → ℕ) (h :
   pub extends : Extends g k
   pub holds : result ≡ true → (c : ℕ) (s : Registers) → AllSet c (length g.atoms) i → Agrees atom membrane k s → Holds h c s i
   pub only : (c : ℕ) (s : Registers) → AllSet c (length g.atoms) i → Agrees atom membrane g s → Holds h c s i → (result ≡ true) × Agrees atom membrane k s
-  pub count : result ≡ true → length k.atoms ≡ length g.atoms + atoms_set (i ∷ [])
+  pub sets : result ≡ true → Sets g k (i ∷ [])
   pub order : result ≡ true → (is : List Instr) → InOrder (length g.atoms) (length g.membranes) (length g.parts) (length g.integers) (i ∷ is) →
       InOrder (length k.atoms) (length k.membranes) (length k.parts) (length k.integers) is

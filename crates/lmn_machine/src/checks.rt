@@ -3,7 +3,6 @@ ghost use Rattle.std.specs.Option.{option_map};
 ghost use Rattle.lmn_heap.specs.Heap.{In, IsAtom, IsInPlace, IsMem, functor_of, link_of, arity_of, port_id, atoms_in, mems_in, rules_in};
 ghost use Rattle.lmn_heap.specs.Sound.{Valid};
 ghost use Rattle.lmn_solid.specs.Embeddings.{IsWithin};
-ghost use Rattle.lmn_instr.specs.Running.{HasOthers};
 
 use lmn_base::Functor;
 use lmn_store::LinkStore;
@@ -132,13 +131,4 @@ pub fn is_outside<S: LinkStore>(store: &S, a: S::Atom, port: u8, m: S::Mem) -> b
         Some((b, _)) => !is_within(store, b, m),
         None => true,
     }
-}
-
-/// Whether a membrane holds so many atoms.
-pub fn has_atoms<S: LinkStore>(store: &S, m: S::Mem, n: u64) -> bool
-    requires { IsMem (S.heap store.now) (S.mem_id m) }
-    ensures { IsTrue result ↔ HasOthers (λ b. ⊥) n (atoms_in (S.heap store.now) (S.mem_id m)) }
-{
-    let _root = store.root();
-    store.atoms(m) == n
 }

@@ -1,12 +1,13 @@
-ghost use Rattle.std.specs.Prelude.{◌≡◌, ℕ, IsTrue, IsFalse};
+ghost use Rattle.std.specs.Prelude.{◌≡◌, ℕ, [], IsTrue, IsFalse};
 ghost use Rattle.lmn_heap.specs.Heap.{IsMem};
 ghost use Rattle.lmn_heap.specs.Sound.{Valid};
 ghost use Rattle.lmn_instr.specs.Running.{Registers, Succeeds, IsFirst};
-ghost use Rattle.lmn_machine.specs.Searching.{Agrees, InOrder, Unmarked};
+ghost use Rattle.lmn_registers.specs.Agreeing.{Agrees};
+ghost use Rattle.lmn_machine.specs.Searching.{AreAllSet, AreHeld, InOrder, Unmarked};
 
-use crate::registers::SetRegisters;
 use crate::search;
 use lmn_instr::Instr;
+use lmn_registers::SetRegisters;
 use lmn_store::LinkStore;
 
 /// Looks for the first success of head code in a membrane: the registers then hold it. It takes no memory.
@@ -21,10 +22,13 @@ pub fn find<S: LinkStore>(
     requires membrane { IsMem (S.heap store.old) (S.mem_id membrane) }
     requires order { InOrder 0 1 0 0 code.now }
     ensures same { S.heap store.new ≡ S.heap store.old }
+    ensures held { AreHeld S.atom_id S.mem_id (S.heap store.old) set.new }
+    ensures set { IsTrue result → AreAllSet set.new code.now }
+    ensures copies { set.new.copies ≡ [] }
     ensures found { IsTrue result → (r : Registers) → Agrees S.atom_id S.mem_id set.new r → IsFirst (S.heap store.old) code.now (S.mem_id membrane) r }
     ensures none { IsFalse result → (r : Registers) → Succeeds (S.heap store.old) code.now (S.mem_id membrane) r → ⊥ }
 {
-    set.keep(0, 0, 0, 0);
+    set.clear();
     set.membranes.push(membrane);
     search::search(store, code, 0, set)
 }

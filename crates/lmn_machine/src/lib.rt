@@ -2,14 +2,14 @@
 #![tactic(auto)]
 
 mod checks;
+mod cost;
 mod counting;
 mod finding;
 mod integers;
 mod machine;
+mod others;
 mod parts;
-mod registers;
 mod search;
-mod stack;
 mod steps;
 #[cfg(test)]
 mod tests;
@@ -18,4 +18,3 @@ mod whole;
 pub use counting::Steps;
 pub use finding::find;
 pub use machine::Machine;
-pub use registers::SetRegisters;

@@ -1,14 +1,23 @@
-ghost use Rattle.std.specs.Prelude.{◌≡◌, ◌+◌, ℕ, [], IfOk, IsTrue, IsFalse};
+ghost use Rattle.std.specs.Prelude.{◌≡◌, ◌+◌, ℕ, [], length, IfOk, OnErr, OnOk, IsTrue, IsFalse};
 ghost use Rattle.lmn_heap.specs.Heap.{IsMem};
 ghost use Rattle.lmn_heap.specs.Sound.{Valid};
 ghost use Rattle.lmn_instr.specs.Running.{Registers, Succeeds, IsFirst};
-ghost use Rattle.lmn_machine.specs.Searching.{Agrees, InOrder, Unmarked};
+ghost use Rattle.lmn_body.specs.Running.{Registers as BodyRegisters, RunsBody};
+ghost use Rattle.lmn_body.specs.Stopping.{SameButSpares};
+ghost use Rattle.lmn_commit.specs.Registers.{Agrees as BodyAgrees, HasCopies};
+ghost use Rattle.lmn_commit.specs.Preparing.{InOrder as BodyInOrder, Prepared};
+ghost use Rattle.lmn_commit.specs.Matched.{IsPrepared};
+ghost use Rattle.lmn_registers.specs.Agreeing.{Agrees};
+ghost use Rattle.lmn_machine.specs.Searching.{AreAllSet, AreHeld, InOrder, Unmarked};
+ghost use Rattle.std.specs.Borrow.{sem};
+ghost use Rattle.lmn_machine.specs.Lending.{lends_store};
 
 use crate::counting::Steps;
 use crate::finding;
-use crate::registers::SetRegisters;
 use lmn_base::NoMemory;
+use lmn_commit::{commit, prepare};
 use lmn_instr::Code;
+use lmn_registers::SetRegisters;
 use lmn_store::LinkStore;
 use std::alloc::Global;
 use std::sync::ledger::Ledger;
@@ -16,8 +25,8 @@ use std::sync::ledger::Ledger;
 /// A store, and the registers that hold the match that was found last.
 #[derive(Drop)]
 pub struct Machine<S: LinkStore> {
-    store: S,
-    set: SetRegisters<S::Atom, S::Mem>,
+    pub(crate) store: S,
+    pub(crate) set: SetRegisters<S::Atom, S::Mem>,
 }
 
 impl<S: LinkStore + Drop> Machine<S> {
@@ -38,8 +47,9 @@ impl<S: LinkStore> Machine<S> {
         &self.store
     }
 
-    /// The store, to be changed.
+    /// The store, to be changed. The machine then holds it as it was left, and the registers as they were.
     pub fn store_mut(&mut self) -> &mut S
+        ensures* writes_back { sem 𝓛 (lends_store S.row S.Atom.row S.Mem.row self.entry result) }
         ensures value { result.now ≡ self.old.store }
     {
         &mut self.store
@@ -61,6 +71,9 @@ impl<S: LinkStore> Machine<S> {
         requires order { InOrder 0 1 0 0 code.now.head }
         ensures steps { steps.new ≡ steps.old + 1 }
         ensures same { S.heap self.new.store ≡ S.heap self.old.store }
+        ensures held { AreHeld S.atom_id S.mem_id (S.heap self.old.store) self.new.set }
+        ensures set { IsTrue result → AreAllSet self.new.set code.now.head }
+        ensures copies { self.new.set.copies ≡ [] }
         ensures found { IsTrue result → (r : Registers) → Agrees S.atom_id S.mem_id self.new.set r → IsFirst (S.heap self.old.store) code.now.head (S.mem_id membrane) r }
         ensures none { IsFalse result → (r : Registers) → Succeeds (S.heap self.old.store) code.now.head (S.mem_id membrane) r → ⊥ }
     {
@@ -71,5 +84,34 @@ impl<S: LinkStore> Machine<S> {
             membrane,
             &mut self.set,
         )
+    }
+
+    /// Makes all that the body of a code makes, detached, after the head was found: then `commit` can't fail. Want of
+    /// memory leaves the store as it was, but for room for rules.
+    pub fn prepare(&mut self, alloc: Global, code: &Code) -> Result<(), NoMemory>
+        requires valid { Valid (S.heap self.old.store) }
+        requires unmarked { Unmarked (S.heap self.old.store) }
+        requires held { AreHeld S.atom_id S.mem_id (S.heap self.old.store) self.old.set }
+        requires copies { self.old.set.copies ≡ [] }
+        requires order { BodyInOrder (length self.old.set.atoms) (length self.old.set.membranes) (length self.old.set.parts) (length self.old.set.integers) 0 code.now.body }
+        ensures ok { OnOk result (Prepared S.atom_id S.mem_id (S.heap self.old.store) (S.heap self.new.store) self.old.set self.new.set code.now.body) }
+        ensures err { OnErr result (SameButSpares (S.heap self.old.store) (S.heap self.new.store)) }
+        ensures valid { OnErr result (Valid (S.heap self.new.store)) }
+        ensures unmarked { Unmarked (S.heap self.new.store) }
+    {
+        let _root = self.store.root();
+        prepare(alloc, &mut self.store, code.body.as_slice(), &mut self.set)
+    }
+
+    /// Does what the body of a code does, after it was prepared: the rule is fired. It takes no memory and can't fail.
+    pub fn commit(&mut self, code: &Code)
+        requires { IsPrepared S.atom_id S.mem_id (S.heap self.old.store) self.old.set code.now.body }
+        ensures fires { (p : IsPrepared S.atom_id S.mem_id (S.heap self.old.store) self.old.set code.now.body) (r : BodyRegisters) → BodyAgrees S.atom_id S.mem_id self.old.set r → HasCopies r p.prepared.copied →
+            RunsBody r code.now.body p.before (S.heap self.new.store) }
+        ensures valid { Valid (S.heap self.new.store) }
+        ensures unmarked { Unmarked (S.heap self.new.store) }
+        ensures registers { self.new.set ≡ self.old.set }
+    {
+        commit(&mut self.store, code.body.as_slice(), &self.set);
     }
 }

@@ -3,10 +3,10 @@ ghost use Rattle.lmn_heap.specs.Sound.{Valid};
 ghost use Rattle.lmn_instr.specs.declared.instr.Instr.TheVariants.{FindAtom, AnyMem};
 ghost use Rattle.lmn_machine.specs.Searching.{AreHeld, InOrder, Searched, Unmarked};
 
-use crate::registers::SetRegisters;
 use crate::steps;
 use lmn_base::Functor;
 use lmn_instr::Instr;
+use lmn_registers::SetRegisters;
 use lmn_store::LinkStore;
 
 /// Runs code from an instruction on, and tries the candidates of its first choice in order.

@@ -1,17 +1,53 @@
 ghost use Rattle.std.specs.Prelude.{◌≡◌, ◌<◌, ◌↔◌, ◌+◌, ℕ, [], ◌∷◌, length, IsTrue};
 ghost use Rattle.lmn_heap.specs.Sound.{Valid};
 ghost use Rattle.lmn_instr.specs.Running.{Registers, Holds};
-ghost use Rattle.lmn_machine.specs.Searching.{Agrees, AreHeld, Extends, Reads, InOrder, ChoosesNone, HasGiven, HasGivenPart, Stepped, Unmarked};
+ghost use Rattle.lmn_heap.specs.Heap.{Heap};
+ghost use Rattle.lmn_registers.specs.Agreeing.{Agrees};
+ghost use Rattle.lmn_machine.specs.Searching.{AreHeld, AsksNoPart, Compares, Extends, Reads, InOrder, ChoosesNone, HasGiven, HasGivenPart, Stepped, Unmarked};
 ghost use Rattle.lmn_instr.specs.declared.instr.Instr.TheVariants.{Deref};
 
-use crate::registers::SetRegisters;
-use crate::stack::ROOM;
-use crate::{checks, integers, parts, whole};
+use crate::{checks, integers, others, parts, whole};
 use lmn_instr::{AtomPort, Instr};
+use lmn_registers::{ROOM, SetRegisters};
 use lmn_store::LinkStore;
 
+/// Whether a comparison holds of the integers that are set; COMMIT holds.
+fn compare<A: Copy, M: Copy>(set: &SetRegisters<A, M>, instr: &Instr) -> bool
+    requires { Compares (length set.now.integers) instr.now }
+    ensures { (atom : A → ℕ) (membrane : M → ℕ) (h : Heap) (c : ℕ) (s : Registers) → Agrees atom membrane set.now s → (IsTrue result ↔ Holds h c s instr.now) }
+{
+    match instr {
+        Instr::Lt { left, right } => integers::is_less(
+            set.integers.at(*left as usize),
+            set.integers.at(*right as usize),
+        ),
+        Instr::Le { left, right } => integers::is_at_most(
+            set.integers.at(*left as usize),
+            set.integers.at(*right as usize),
+        ),
+        Instr::Gt { left, right } => integers::is_greater(
+            set.integers.at(*left as usize),
+            set.integers.at(*right as usize),
+        ),
+        Instr::Ge { left, right } => integers::is_at_least(
+            set.integers.at(*left as usize),
+            set.integers.at(*right as usize),
+        ),
+        Instr::Eq { left, right } => integers::are_equal(
+            set.integers.at(*left as usize),
+            set.integers.at(*right as usize),
+        ),
+        Instr::Ne { left, right } => integers::are_different(
+            set.integers.at(*left as usize),
+            set.integers.at(*right as usize),
+        ),
+        Instr::Commit => true,
+        _ => false,
+    }
+}
+
 /// Whether a test holds of the registers that are set.
-pub fn check<S: LinkStore>(store: &S, set: &SetRegisters<S::Atom, S::Mem>, instr: &Instr) -> bool
+fn check<S: LinkStore>(store: &S, set: &SetRegisters<S::Atom, S::Mem>, instr: &Instr) -> bool
     requires valid { Valid (S.heap store.now) }
     requires held { AreHeld S.atom_id S.mem_id (S.heap store.now) set.now }
     requires reads { Reads (length set.now.atoms) (length set.now.membranes) (length set.now.integers) instr.now }
@@ -64,37 +100,7 @@ pub fn check<S: LinkStore>(store: &S, set: &SetRegisters<S::Atom, S::Mem>, instr
                 set.membranes.at(*membrane as usize),
             )
         }
-        Instr::NAtoms {
-            membrane,
-            count,
-            ..
-        } => checks::has_atoms(store, set.membranes.at(*membrane as usize), *count),
-        Instr::Lt { left, right } => integers::is_less(
-            set.integers.at(*left as usize),
-            set.integers.at(*right as usize),
-        ),
-        Instr::Le { left, right } => integers::is_at_most(
-            set.integers.at(*left as usize),
-            set.integers.at(*right as usize),
-        ),
-        Instr::Gt { left, right } => integers::is_greater(
-            set.integers.at(*left as usize),
-            set.integers.at(*right as usize),
-        ),
-        Instr::Ge { left, right } => integers::is_at_least(
-            set.integers.at(*left as usize),
-            set.integers.at(*right as usize),
-        ),
-        Instr::Eq { left, right } => integers::are_equal(
-            set.integers.at(*left as usize),
-            set.integers.at(*right as usize),
-        ),
-        Instr::Ne { left, right } => integers::are_different(
-            set.integers.at(*left as usize),
-            set.integers.at(*right as usize),
-        ),
-        Instr::Commit => true,
-        _ => false,
+        _ => compare(set, instr),
     }
 }
 
@@ -160,51 +166,15 @@ pub fn set_part<A: Copy, M: Copy>(set: &mut SetRegisters<A, M>, root: Option<(A,
     }
 }
 
-/// Runs an instruction that makes no choice.
-pub fn step<S: LinkStore>(
-    store: &mut S,
-    set: &mut SetRegisters<S::Atom, S::Mem>,
-    instr: &Instr,
-) -> bool
-    requires valid { Valid (S.heap store.old) }
-    requires unmarked { Unmarked (S.heap store.old) }
-    requires held { AreHeld S.atom_id S.mem_id (S.heap store.old) set.old }
+/// Runs an instruction that sets an integer, or a test.
+fn compute<S: LinkStore>(store: &S, set: &mut SetRegisters<S::Atom, S::Mem>, instr: &Instr) -> bool
+    requires valid { Valid (S.heap store.now) }
+    requires held { AreHeld S.atom_id S.mem_id (S.heap store.now) set.old }
     requires order { InOrder (length set.old.atoms) (length set.old.membranes) (length set.old.parts) (length set.old.integers) (instr.now ∷ []) }
-    requires no_choice { ChoosesNone instr.now }
-    ensures same { S.heap store.new ≡ S.heap store.old }
-    ensures stepped { Stepped S.atom_id S.mem_id (S.heap store.old) set.old set.new result instr.now }
+    requires no_part { AsksNoPart instr.now }
+    ensures { Stepped S.atom_id S.mem_id (S.heap store.now) set.old set.new result instr.now }
 {
     match instr {
-        Instr::Deref { from, port, .. } => follow(store, set, *from, *port),
-        Instr::IsInt { port, membrane, .. } => {
-            let from = set.atoms.at(port.atom as usize);
-            let place = set.membranes.at(*membrane as usize);
-            let end = parts::lone_end(store, from, port.port, place, &set.atoms);
-            let root = parts::integer_root(store, end);
-            set_part(set, root)
-        }
-        Instr::IsUnary { port, membrane, .. } => {
-            let from = set.atoms.at(port.atom as usize);
-            let place = set.membranes.at(*membrane as usize);
-            let root = parts::lone_end(store, from, port.port, place, &set.atoms);
-            set_part(set, root)
-        }
-        Instr::IsGround { port, membrane, .. } => {
-            let from = set.atoms.at(port.atom as usize);
-            let place = set.membranes.at(*membrane as usize);
-            let root = whole::whole_end(store, from, port.port, place, &set.atoms);
-            set_part(set, root)
-        }
-        Instr::EqGround { part, other } => {
-            let root = set.parts.at(*part as usize);
-            let other_root = set.parts.at(*other as usize);
-            whole::are_equal(store, root, other_root)
-        }
-        Instr::NeqGround { part, other } => {
-            let root = set.parts.at(*part as usize);
-            let other_root = set.parts.at(*other as usize);
-            whole::are_different(store, root, other_root)
-        }
         Instr::GetInt { part, .. } => {
             let root = set.parts.at(*part as usize);
             let value = parts::integer_of(store, root.0);
@@ -250,5 +220,62 @@ pub fn step<S: LinkStore>(
             set_integer(set, value)
         }
         _ => check(store, set, instr),
+    }
+}
+
+/// Runs an instruction that makes no choice.
+pub fn step<S: LinkStore>(
+    store: &mut S,
+    set: &mut SetRegisters<S::Atom, S::Mem>,
+    instr: &Instr,
+) -> bool
+    requires valid { Valid (S.heap store.old) }
+    requires unmarked { Unmarked (S.heap store.old) }
+    requires held { AreHeld S.atom_id S.mem_id (S.heap store.old) set.old }
+    requires order { InOrder (length set.old.atoms) (length set.old.membranes) (length set.old.parts) (length set.old.integers) (instr.now ∷ []) }
+    requires no_choice { ChoosesNone instr.now }
+    ensures same { S.heap store.new ≡ S.heap store.old }
+    ensures stepped { Stepped S.atom_id S.mem_id (S.heap store.old) set.old set.new result instr.now }
+{
+    match instr {
+        Instr::Deref { from, port, .. } => follow(store, set, *from, *port),
+        Instr::IsInt { port, membrane, .. } => {
+            let from = set.atoms.at(port.atom as usize);
+            let place = set.membranes.at(*membrane as usize);
+            let end = parts::lone_end(store, from, port.port, place, &set.atoms);
+            let root = parts::integer_root(store, end);
+            set_part(set, root)
+        }
+        Instr::IsUnary { port, membrane, .. } => {
+            let from = set.atoms.at(port.atom as usize);
+            let place = set.membranes.at(*membrane as usize);
+            let root = parts::lone_end(store, from, port.port, place, &set.atoms);
+            set_part(set, root)
+        }
+        Instr::IsGround { port, membrane, .. } => {
+            let from = set.atoms.at(port.atom as usize);
+            let place = set.membranes.at(*membrane as usize);
+            let root = whole::whole_end(store, from, port.port, place, &set.atoms);
+            set_part(set, root)
+        }
+        Instr::EqGround { part, other } => {
+            let root = set.parts.at(*part as usize);
+            let other_root = set.parts.at(*other as usize);
+            whole::are_equal(store, root, other_root)
+        }
+        Instr::NeqGround { part, other } => {
+            let root = set.parts.at(*part as usize);
+            let other_root = set.parts.at(*other as usize);
+            whole::are_different(store, root, other_root)
+        }
+        Instr::NAtoms {
+            membrane,
+            count,
+            parts,
+        } => {
+            let place = set.membranes.at(*membrane as usize);
+            others::has_others(store, set, place, parts.as_slice(), *count)
+        }
+        _ => compute(store, set, instr),
     }
 }

@@ -7,8 +7,8 @@ ghost use Rattle.lmn_heap.specs.Graphs.{atom_map};
 ghost use Rattle.lmn_machine.specs.Searching.{IsHeldPart, IsWholeApart, Unmarked, own_marked};
 
 use crate::checks;
-use crate::stack::Stack;
 use lmn_ground::{equal, is_ground};
+use lmn_registers::Stack;
 use lmn_store::LinkStore;
 
 /// Sets the own mark of an atom.

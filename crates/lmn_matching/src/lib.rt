@@ -1,21 +1,40 @@
-//! Finds the least match of the head of a rule in a store.
+//! Finds the least match of the head of an accepted rule in a store.
 #![tactic(auto)]
 
-ghost use Rattle.std.specs.Prelude.{◌≡◌, ℕ, List, [], IsTrue, IsFalse};
+ghost use Rattle.std.specs.Prelude.{◌≡◌, List, IsTrue, IsFalse};
+ghost use Rattle.lmn_base.specs.declared.rule.RuleTree.{RuleTree};
+ghost use Rattle.lmn_guards.specs.declared.plan.GuardPlan.{GuardPlan};
 ghost use Rattle.lmn_heap.specs.Heap.{IsMem};
 ghost use Rattle.lmn_heap.specs.Sound.{Valid};
-ghost use Rattle.lmn_solid.specs.declared.items.HeadItem.{HeadItem};
 ghost use Rattle.lmn_solid.specs.Embeddings.{Images, Embeds, IsLeast};
 ghost use Rattle.lmn_instr.specs.Running.{Registers};
-ghost use Rattle.lmn_machine.specs.Searching.{Agrees, Unmarked};
-ghost use Rattle.lmn_matching.specs.PlainHeads.{IsCodeOf};
+ghost use Rattle.lmn_compile_head.specs.Accepted.{head_items};
+ghost use Rattle.lmn_registers.specs.Agreeing.{Agrees};
+ghost use Rattle.lmn_machine.specs.Searching.{Unmarked};
+ghost use Rattle.lmn_matching.specs.AcceptedCode.{IsCodeOf, AcceptedInOrder, AcceptedSetsItems};
 
+use lmn_compile_head::{accepted_heads, accepted_least};
 use lmn_instr::Instr;
-use lmn_machine::{SetRegisters, find};
+use lmn_machine::find;
+use lmn_registers::SetRegisters;
 use lmn_store::LinkStore;
 
-/// Looks for a match in a membrane by the code of a head. True says that the registers hold the least embedding of the head,
-/// and false that the head doesn't embed there.
+/// The machine can run the code of the head of each accepted rule.
+pub fn accepted_in_order()
+    ensures { AcceptedInOrder }
+{
+    accepted_heads();
+}
+
+/// The code of the head of each accepted rule sets a register for each atom, membrane and typed context of the head.
+pub fn accepted_sets_items()
+    ensures { AcceptedSetsItems }
+{
+    accepted_heads();
+}
+
+/// Looks for a match in a membrane by the code of the head of an accepted rule. True says that the registers hold the least
+/// embedding of the head, and false that the head doesn't embed there.
 pub fn find_match<S: LinkStore>(
     store: &mut S,
     code: &[Instr],
@@ -25,11 +44,14 @@ pub fn find_match<S: LinkStore>(
     requires valid { Valid (S.heap store.old) }
     requires unmarked { Unmarked (S.heap store.old) }
     requires membrane { IsMem (S.heap store.old) (S.mem_id membrane) }
-    requires code { (items : List HeadItem) × IsCodeOf code.now items }
+    requires code { (table : List RuleTree) × (r : RuleTree) × (plan : GuardPlan) × IsCodeOf code.now table r plan }
     ensures same { S.heap store.new ≡ S.heap store.old }
-    ensures least { IsTrue result → (items : List HeadItem) → IsCodeOf code.now items → (r : Registers) → Agrees S.atom_id S.mem_id set.new r →
-        IsLeast (S.heap store.old) items [] (S.mem_id membrane) r.images }
-    ensures none { IsFalse result → (items : List HeadItem) → IsCodeOf code.now items → (f : Images) → Embeds (S.heap store.old) items [] (S.mem_id membrane) f → ⊥ }
+    ensures least { IsTrue result → (table : List RuleTree) (r : RuleTree) (plan : GuardPlan) → IsCodeOf code.now table r plan → (s : Registers) → Agrees S.atom_id S.mem_id set.new s →
+        IsLeast (S.heap store.old) (head_items r plan) r.guard (S.mem_id membrane) s.images }
+    ensures none { IsFalse result → (table : List RuleTree) (r : RuleTree) (plan : GuardPlan) → IsCodeOf code.now table r plan → (f : Images) →
+        Embeds (S.heap store.old) (head_items r plan) r.guard (S.mem_id membrane) f → ⊥ }
 {
+    accepted_in_order();
+    accepted_least();
     find(store, code, membrane, set)
 }

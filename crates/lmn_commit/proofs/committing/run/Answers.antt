@@ -1,7 +1,22 @@
-use Rattle.lmn_commit.proofs.Doing.{part_taken}
+use Rattle.lmn_commit.proofs.Doing.{part_taken, copy_waits, copy_goes, copy_placed}
 use Rattle.lmn_commit.proofs.committing.run.Goals as goal
 
 pub returns-in-RemovePart : goal.returns-in-RemovePart
 returns-in-RemovePart g c = λ r u k.
     part_taken g.S.LinkStore.atom_id g.S.LinkStore.mem_id c.args.set.now r c.args.instr.now c.in-RemovePart.part c.at-in-RemovePart.result (g.S.LinkStore.heap c.args.store.now) (g.S.LinkStore.heap c.take_part.new.store) c.take_part.ensures.0 u c.in-RemovePart.is
     c.at-in-RemovePart.ensures c.take_part.ensures.1 c.take_part.ensures.2
+
+pub place_atoms-requires-clause-membrane : goal.place_atoms-requires-clause-membrane
+place_atoms-requires-clause-membrane g c =
+    let k = c.requires.can in
+    copy_goes g.S.LinkStore.atom_id g.S.LinkStore.mem_id c.args.set.now k.0 c.args.instr.now c.in-CopyGround.copy c.in-CopyGround.membrane c.in-CopyGround.part c.at-in-CopyGround.result (g.S.LinkStore.heap c.args.store.now) k.1 c.in-CopyGround.is c.at-in-CopyGround.ensures k.2
+
+pub place_atoms-requires-clause-waiting : goal.place_atoms-requires-clause-waiting
+place_atoms-requires-clause-waiting g c =
+    let k = c.requires.can in
+    copy_waits g.S.LinkStore.atom_id g.S.LinkStore.mem_id c.args.set.now k.0 c.args.instr.now c.in-CopyGround.copy c.in-CopyGround.membrane c.in-CopyGround.part c.at-atoms.result (g.S.LinkStore.heap c.args.store.now) k.1 c.in-CopyGround.is c.at-atoms.ensures k.2
+
+pub returns-in-CopyGround : goal.returns-in-CopyGround
+returns-in-CopyGround g c = λ r u k.
+    copy_placed g.S.LinkStore.atom_id g.S.LinkStore.mem_id c.args.set.now r c.args.instr.now c.in-CopyGround.copy c.in-CopyGround.membrane c.in-CopyGround.part c.at-atoms.result c.at-in-CopyGround.result (g.S.LinkStore.heap c.args.store.now) (g.S.LinkStore.heap c.place_atoms.new.store)
+    u c.in-CopyGround.is c.at-atoms.ensures c.at-in-CopyGround.ensures k c.place_atoms.ensures

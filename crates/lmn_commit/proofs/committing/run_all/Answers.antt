@@ -7,7 +7,7 @@ use Rattle.lmn_commit.proofs.committing.run_all.Goals as goal
 pub run-requires-clause-uses : goal.run-requires-clause-uses
 run-requires-clause-uses g c =
     let here = read_at c.args.code.now c.loop-i.i c.index-code-i.result c.loop-i-test.true c.index-code-i.is in
-    used_at _ _ _ c.loop-i.i c.args.code.now c.index-code-i.result c.requires.uses here
+    used_at _ _ _ _ c.loop-i.i c.args.code.now c.index-code-i.result c.requires.uses here
 
 pub run-requires-clause-can : goal.run-requires-clause-can
 run-requires-clause-can g c =

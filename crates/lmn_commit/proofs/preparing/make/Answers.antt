@@ -1,39 +1,54 @@
-use Rattle.std.proofs.Common.{◌+◌, take, Some, length, ap, w64, sym, subst, ◌∙◌}
+use Rattle.std.proofs.Common.{◌+◌, take, Some, length, ap, w64, refl, sym, subst, ◌∙◌}
 use Rattle.std.proofs.lemmas.Result.{on_ok_weaker}
 use Rattle.std.proofs.lemmas.Int.{to_z-of_z}
 use Rattle.lmn_body.specs.Running.{integer_functor}
 use Rattle.lmn_instr.specs.declared.instr.Instr.TheVariants.{LoadRule, CopyRules}
 use Rattle.lmn_commit.specs.Preparing.{AllUse, Reads}
-use Rattle.lmn_commit.proofs.Codes.{take_get, use_one_more}
-use Rattle.lmn_commit.proofs.Making.{new_atom_made, new_int_made, new_mem_made, load_rule_made, copy_rules_made, nothing_made}
+use Rattle.lmn_commit.proofs.Codes.{take_get, get_below, use_one_more}
+use Rattle.lmn_commit.proofs.Making.{new_atom_made, new_int_made, new_mem_made, copy_made, load_rule_made, copy_rules_made, nothing_made}
+use Rattle.lmn_commit.proofs.Waiting.{makes_nothing}
 use Rattle.lmn_commit.proofs.preparing.make.Goals as goal
+
+pub make_copy-requires-clause-part : goal.make_copy-requires-clause-part
+make_copy-requires-clause-part g c = c.requires.parts c.in-CopyGround.part c.at-in-CopyGround.result c.at-in-CopyGround.ensures
+
+pub reserve-requires-clause-at : goal.reserve-requires-clause-at
+reserve-requires-clause-at g c = get_below c.args.code.now c.args.at c.args.instr.now c.requires.at
+
+pub reserve-requires-in-CopyRules-clause-at : goal.reserve-requires-in-CopyRules-clause-at
+reserve-requires-in-CopyRules-clause-at g c = get_below c.args.code.now c.args.at c.args.instr.now c.requires.at
 
 pub reserve-requires-clause-uses : goal.reserve-requires-clause-uses
 reserve-requires-clause-uses g c =
-    let reads = subst (λ i. Reads (length c.args.set.now.atoms) (length c.args.set.now.membranes) (length c.args.set.now.parts) (length c.args.set.now.integers) i) c.in-LoadRule.is c.requires.reads in
-    subst (λ is. AllUse (length c.args.set.now.atoms) (length c.args.set.now.membranes) (length c.args.set.now.parts) is) (sym (take_get c.args.at c.args.code.now (LoadRule c.in-LoadRule.membrane c.in-LoadRule.rule) (c.requires.at ∙ ap (λ i. Some i) c.in-LoadRule.is)))
-    (use_one_more (length c.args.set.now.atoms) (length c.args.set.now.membranes) (length c.args.set.now.parts) (take c.args.at c.args.code.now) (LoadRule c.in-LoadRule.membrane c.in-LoadRule.rule) c.requires.uses reads)
+    let reads = subst (λ i. Reads (length c.args.set.now.atoms) (length c.args.set.now.membranes) (length c.args.set.now.parts) (length c.args.set.now.integers) (length c.args.set.now.copies) i) c.in-LoadRule.is c.requires.reads in
+    subst (λ is. AllUse (length c.args.set.now.atoms) (length c.args.set.now.membranes) (length c.args.set.now.parts) (length c.args.set.now.copies) is) (sym (take_get c.args.at c.args.code.now (LoadRule c.in-LoadRule.membrane c.in-LoadRule.rule) (c.requires.at ∙ ap (λ i. Some i) c.in-LoadRule.is)))
+    (use_one_more (length c.args.set.now.atoms) (length c.args.set.now.membranes) (length c.args.set.now.parts) (length c.args.set.now.copies) (take c.args.at c.args.code.now) (LoadRule c.in-LoadRule.membrane c.in-LoadRule.rule) c.requires.uses reads)
 
 pub reserve-requires-in-CopyRules-clause-uses : goal.reserve-requires-in-CopyRules-clause-uses
 reserve-requires-in-CopyRules-clause-uses g c =
-    let reads = subst (λ i. Reads (length c.args.set.now.atoms) (length c.args.set.now.membranes) (length c.args.set.now.parts) (length c.args.set.now.integers) i) c.in-CopyRules.is c.requires.reads in
-    subst (λ is. AllUse (length c.args.set.now.atoms) (length c.args.set.now.membranes) (length c.args.set.now.parts) is) (sym (take_get c.args.at c.args.code.now (CopyRules c.in-CopyRules.from c.in-CopyRules.to) (c.requires.at ∙ ap (λ i. Some i) c.in-CopyRules.is)))
-    (use_one_more (length c.args.set.now.atoms) (length c.args.set.now.membranes) (length c.args.set.now.parts) (take c.args.at c.args.code.now) (CopyRules c.in-CopyRules.from c.in-CopyRules.to) c.requires.uses reads)
+    let reads = subst (λ i. Reads (length c.args.set.now.atoms) (length c.args.set.now.membranes) (length c.args.set.now.parts) (length c.args.set.now.integers) (length c.args.set.now.copies) i) c.in-CopyRules.is c.requires.reads in
+    subst (λ is. AllUse (length c.args.set.now.atoms) (length c.args.set.now.membranes) (length c.args.set.now.parts) (length c.args.set.now.copies) is) (sym (take_get c.args.at c.args.code.now (CopyRules c.in-CopyRules.from c.in-CopyRules.to) (c.requires.at ∙ ap (λ i. Some i) c.in-CopyRules.is)))
+    (use_one_more (length c.args.set.now.atoms) (length c.args.set.now.membranes) (length c.args.set.now.parts) (length c.args.set.now.copies) (take c.args.at c.args.code.now) (CopyRules c.in-CopyRules.from c.in-CopyRules.to) c.requires.uses reads)
 
 pub returns-in-NewAtom-clause-ok : goal.returns-in-NewAtom-clause-ok
 returns-in-NewAtom-clause-ok g c = on_ok_weaker c.make_atom.result
     (λ made. new_atom_made g.S.LinkStore.atom_id g.S.LinkStore.mem_id (g.S.LinkStore.heap c.args.store.now) (g.S.LinkStore.heap c.make_atom.new.store) c.args.set.now c.make_atom.new.set (take c.args.at c.args.code.now) c.args.instr.now c.in-NewAtom.functor
-    c.requires.held made c.in-NewAtom.atom c.in-NewAtom.membrane c.in-NewAtom.is (length c.args.set.now.integers) c.requires.reads) c.make_atom.ensures.ok
+    c.requires.held made c.in-NewAtom.atom c.in-NewAtom.membrane c.in-NewAtom.is (length c.args.set.now.integers) (length c.args.set.now.copies) c.requires.reads) c.make_atom.ensures.ok
 
 pub returns-in-NewInt-clause-ok : goal.returns-in-NewInt-clause-ok
 returns-in-NewInt-clause-ok g c = on_ok_weaker c.make_atom-in-NewInt.result
     (λ made. new_int_made g.S.LinkStore.atom_id g.S.LinkStore.mem_id (g.S.LinkStore.heap c.args.store.now) (g.S.LinkStore.heap c.make_atom-in-NewInt.new.store) c.args.set.now c.make_atom-in-NewInt.new.set (take c.args.at c.args.code.now) c.args.instr.now _
-    c.requires.held made c.in-NewInt.atom c.in-NewInt.membrane c.in-NewInt.integer c.at.result c.in-NewInt.is (ap integer_functor (to_z-of_z w64 c.at.result (record { sfits = c.at.type_inv }))) c.at.ensures (length c.args.set.now.integers) c.requires.reads) c.make_atom-in-NewInt.ensures.ok
+    c.requires.held made c.in-NewInt.atom c.in-NewInt.membrane c.in-NewInt.integer c.at.result c.in-NewInt.is (ap integer_functor (to_z-of_z w64 c.at.result (record { sfits = c.at.type_inv }))) c.at.ensures (length c.args.set.now.integers) (length c.args.set.now.copies) c.requires.reads) c.make_atom-in-NewInt.ensures.ok
 
 pub returns-in-NewMem-clause-ok : goal.returns-in-NewMem-clause-ok
 returns-in-NewMem-clause-ok g c = on_ok_weaker c.make_membrane.result
     (λ made. new_mem_made g.S.LinkStore.atom_id g.S.LinkStore.mem_id (g.S.LinkStore.heap c.args.store.now) (g.S.LinkStore.heap c.make_membrane.new.store) c.args.set.now c.make_membrane.new.set (take c.args.at c.args.code.now) c.args.instr.now
-    c.requires.held made c.in-NewMem.membrane c.in-NewMem.inside c.in-NewMem.is (length c.args.set.now.integers) c.requires.reads) c.make_membrane.ensures.ok
+    c.requires.held made c.in-NewMem.membrane c.in-NewMem.inside c.in-NewMem.is (length c.args.set.now.integers) (length c.args.set.now.copies) c.requires.reads) c.make_membrane.ensures.ok
+
+pub returns-in-CopyGround-clause-ok : goal.returns-in-CopyGround-clause-ok
+returns-in-CopyGround-clause-ok g c = on_ok_weaker c.make_copy.result
+    (λ made. copy_made g.S.LinkStore.atom_id g.S.LinkStore.mem_id (g.S.LinkStore.heap c.args.store.now) (g.S.LinkStore.heap c.make_copy.new.store) c.args.set.now c.make_copy.new.set (take c.args.at c.args.code.now) c.args.instr.now
+    c.in-CopyGround.copy c.in-CopyGround.membrane c.in-CopyGround.part c.at-in-CopyGround.result c.requires.held c.in-CopyGround.is c.at-in-CopyGround.ensures made (length c.args.set.now.integers) (length c.args.set.now.copies) refl c.requires.reads) c.make_copy.ensures.ok
 
 pub returns-in-LoadRule-clause-ok : goal.returns-in-LoadRule-clause-ok
 returns-in-LoadRule-clause-ok g c = on_ok_weaker c.reserve.result
@@ -47,7 +62,7 @@ returns-in-CopyRules-clause-ok g c = on_ok_weaker c.reserve-in-CopyRules.result
 
 pub returns-in_default : goal.returns-in_default
 returns-in_default g c = record {
-  ok = nothing_made g.S.LinkStore.atom_id g.S.LinkStore.mem_id (g.S.LinkStore.heap c.args.store.now) c.args.set.now (take c.args.at c.args.code.now) c.args.instr.now c.requires.held (length c.args.set.now.integers) c.requires.reads
-      c.in_default.not-NewAtom c.in_default.not-NewInt c.in_default.not-NewMem c.in_default.not-LoadRule c.in_default.not-CopyRules;
-  err = tt;
+  ok = nothing_made g.S.LinkStore.atom_id g.S.LinkStore.mem_id (g.S.LinkStore.heap c.args.store.now) c.args.set.now (take c.args.at c.args.code.now) c.args.instr.now c.requires.held (length c.args.set.now.integers) (length c.args.set.now.copies) c.requires.reads
+      (record { no_atom = c.in_default.not-NewAtom; no_integer = c.in_default.not-NewInt; no_mem = c.in_default.not-NewMem; no_copy = c.in_default.not-CopyGround; no_rule = c.in_default.not-LoadRule; no_rules = c.in_default.not-CopyRules });
+  makes = makes_nothing (g.S.LinkStore.heap c.args.store.now);
 }

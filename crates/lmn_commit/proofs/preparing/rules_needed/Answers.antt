@@ -8,7 +8,7 @@ pub rules_added-requires-clause-uses : goal.rules_added-requires-clause-uses
 rules_added-requires-clause-uses g c =
     let up = c.requires.upto in
     let at = c.loop-i-test.true in
-    use_at _ _ _ c.loop-i.i c.args.upto c.args.code.now c.index-code-i.result c.requires.uses c.loop-i-test.true (read_at c.args.code.now c.loop-i.i c.index-code-i.result (omega (arith, up, at)) c.index-code-i.is)
+    use_at _ _ _ _ c.loop-i.i c.args.upto c.args.code.now c.index-code-i.result c.requires.uses c.loop-i-test.true (read_at c.args.code.now c.loop-i.i c.index-code-i.result (omega (arith, up, at)) c.index-code-i.is)
 
 pub loop-i-preserved : goal.loop-i-preserved
 loop-i-preserved g c = λ r u.

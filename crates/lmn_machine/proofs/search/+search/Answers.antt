@@ -6,7 +6,7 @@ use Rattle.lmn_heap.specs.Heap.{functor_of, home_of, parent_of}
 use Rattle.lmn_instr.specs.declared.instr.Instr.TheVariants.{FindAtom, AnyMem}
 use Rattle.lmn_heap.specs.Sound.{Valid}
 use Rattle.lmn_machine.specs.Searching.{Unmarked, AreHeld, InOrder, Searched, Stepped}
-use Rattle.lmn_machine.specs.declared.stack.TheConstants.{ROOM}
+use Rattle.lmn_registers.specs.declared.stack.TheConstants.{ROOM}
 use Rattle.lmn_machine.proofs.Stepping.{Passed, extends_on, passed_one, failed, passed_all, passed_search}
 use Rattle.lmn_machine.proofs.Choosing.{drop_get, AtomsLeft, MembranesLeft, with_atom, with_membrane, extends_atom, extends_membrane, atoms_first, atoms_next, atoms_none, atoms_found, membranes_first, membranes_next, membranes_none, membranes_found, held_atom, held_membrane}
 use Rattle.lmn_machine.proofs.Calling.{read_at, drop_at, drop_none, length_one, no_choice, if_both, if_same, none_is, one_more, one_membrane_more, taken_back, having_atoms, having_membranes, next_same, next_mem_same, atom_ahead, membrane_ahead}

@@ -1,53 +1,12 @@
-use Rattle.lmn_machine.proofs.Stepping.{check_stepped, deref_stepped, test_reads}
+use Rattle.lmn_machine.proofs.Stepping.{deref_stepped, asks_no_part}
 use Rattle.lmn_machine.proofs.Lone.{unary_stepped, int_stepped}
-use Rattle.lmn_machine.proofs.Contexts.{ground_stepped, equal_stepped, differ_stepped}
-use Rattle.lmn_machine.proofs.Giving.{const_stepped, get_stepped, sum_stepped, difference_stepped, product_stepped, quotient_stepped, remainder_stepped}
+use Rattle.lmn_machine.proofs.Contexts.{ground_stepped, equal_stepped, differ_stepped, others_stepped}
 use Rattle.lmn_machine.proofs.steps.step.Goals as goal
 
 pub returns-in-Deref-clause-stepped : goal.returns-in-Deref-clause-stepped
 returns-in-Deref-clause-stepped g c =
     deref_stepped g.S.LinkStore.atom_id g.S.LinkStore.mem_id (g.S.LinkStore.heap c.args.store.now) c.args.set.now c.follow.new.set c.follow.result c.args.instr.now _ _ _ c.in-Deref.is c.requires.order
     c.follow.ensures.held c.follow.ensures.extends c.follow.ensures.atoms c.follow.ensures.membranes c.follow.ensures.parts c.follow.ensures.integers c.follow.ensures.holds c.follow.ensures.only
-
-pub returns-in_default-clause-stepped : goal.returns-in_default-clause-stepped
-returns-in_default-clause-stepped g c =
-    check_stepped g.S.LinkStore.atom_id g.S.LinkStore.mem_id (g.S.LinkStore.heap c.args.store.now) c.args.set.now c.check.result c.args.instr.now c.requires.held
-    (test_reads c.args.instr.now _ _ _ _ c.requires.no_choice c.in_default.not-Deref c.in_default.not-IsInt c.in_default.not-IsUnary c.in_default.not-IsGround c.in_default.not-EqGround c.in_default.not-NeqGround c.in_default.not-GetInt c.in_default.not-Const c.in_default.not-Add c.in_default.not-Sub c.in_default.not-Mul c.in_default.not-Div c.in_default.not-Mod c.requires.order)
-    c.check.ensures
-
-pub returns-in-Const-clause-stepped : goal.returns-in-Const-clause-stepped
-returns-in-Const-clause-stepped g c =
-    const_stepped g.S.LinkStore.atom_id g.S.LinkStore.mem_id (g.S.LinkStore.heap c.args.store.now) c.args.set.now c.set_integer-in-Const.new.set c.set_integer-in-Const.result c.args.instr.now _ _ c.in-Const.is c.requires.order c.requires.held c.constant-number.result c.constant-number.ensures c.set_integer-in-Const.ensures
-
-pub returns-in-GetInt-clause-stepped : goal.returns-in-GetInt-clause-stepped
-returns-in-GetInt-clause-stepped g c =
-    get_stepped g.S.LinkStore.atom_id g.S.LinkStore.mem_id (g.S.LinkStore.heap c.args.store.now) c.args.set.now c.set_integer.new.set c.set_integer.result c.args.instr.now _ _ _ c.integer_of-value.result c.in-GetInt.is c.requires.order c.requires.held
-    c.at-root-in-GetInt.ensures c.integer_of-value.ensures c.set_integer.ensures
-
-pub returns-in-Add-clause-stepped : goal.returns-in-Add-clause-stepped
-returns-in-Add-clause-stepped g c =
-    sum_stepped g.S.LinkStore.atom_id g.S.LinkStore.mem_id (g.S.LinkStore.heap c.args.store.now) c.args.set.now c.set_integer-in-Add.new.set c.set_integer-in-Add.result c.args.instr.now _ _ _ _ _ c.sum-value.result c.in-Add.is c.requires.order c.requires.held
-    c.at.ensures c.at-in-Add.ensures (record { sfits = c.at.type_inv }) (record { sfits = c.at-in-Add.type_inv }) c.sum-value.ensures c.set_integer-in-Add.ensures
-
-pub returns-in-Sub-clause-stepped : goal.returns-in-Sub-clause-stepped
-returns-in-Sub-clause-stepped g c =
-    difference_stepped g.S.LinkStore.atom_id g.S.LinkStore.mem_id (g.S.LinkStore.heap c.args.store.now) c.args.set.now c.set_integer-in-Sub.new.set c.set_integer-in-Sub.result c.args.instr.now _ _ _ _ _ c.difference-value.result c.in-Sub.is c.requires.order c.requires.held
-    c.at-in-Sub.ensures c.at-in-Sub-2.ensures (record { sfits = c.at-in-Sub.type_inv }) (record { sfits = c.at-in-Sub-2.type_inv }) c.difference-value.ensures c.set_integer-in-Sub.ensures
-
-pub returns-in-Mul-clause-stepped : goal.returns-in-Mul-clause-stepped
-returns-in-Mul-clause-stepped g c =
-    product_stepped g.S.LinkStore.atom_id g.S.LinkStore.mem_id (g.S.LinkStore.heap c.args.store.now) c.args.set.now c.set_integer-in-Mul.new.set c.set_integer-in-Mul.result c.args.instr.now _ _ _ _ _ c.product-value.result c.in-Mul.is c.requires.order c.requires.held
-    c.at-in-Mul.ensures c.at-in-Mul-2.ensures (record { sfits = c.at-in-Mul.type_inv }) (record { sfits = c.at-in-Mul-2.type_inv }) c.product-value.ensures c.set_integer-in-Mul.ensures
-
-pub returns-in-Div-clause-stepped : goal.returns-in-Div-clause-stepped
-returns-in-Div-clause-stepped g c =
-    quotient_stepped g.S.LinkStore.atom_id g.S.LinkStore.mem_id (g.S.LinkStore.heap c.args.store.now) c.args.set.now c.set_integer-in-Div.new.set c.set_integer-in-Div.result c.args.instr.now _ _ _ _ _ c.quotient-value.result c.in-Div.is c.requires.order c.requires.held
-    c.at-in-Div.ensures c.at-in-Div-2.ensures (record { sfits = c.at-in-Div.type_inv }) (record { sfits = c.at-in-Div-2.type_inv }) c.quotient-value.ensures c.set_integer-in-Div.ensures
-
-pub returns-in-Mod-clause-stepped : goal.returns-in-Mod-clause-stepped
-returns-in-Mod-clause-stepped g c =
-    remainder_stepped g.S.LinkStore.atom_id g.S.LinkStore.mem_id (g.S.LinkStore.heap c.args.store.now) c.args.set.now c.set_integer-in-Mod.new.set c.set_integer-in-Mod.result c.args.instr.now _ _ _ _ _ c.remainder-value.result c.in-Mod.is c.requires.order c.requires.held
-    c.at-in-Mod.ensures c.at-in-Mod-2.ensures (record { sfits = c.at-in-Mod.type_inv }) (record { sfits = c.at-in-Mod-2.type_inv }) c.remainder-value.ensures c.set_integer-in-Mod.ensures
 
 pub returns-in-IsInt-clause-stepped : goal.returns-in-IsInt-clause-stepped
 returns-in-IsInt-clause-stepped g c =
@@ -78,3 +37,11 @@ returns-in-EqGround-clause-stepped g c =
 pub returns-in-NeqGround-clause-stepped : goal.returns-in-NeqGround-clause-stepped
 returns-in-NeqGround-clause-stepped g c =
     differ_stepped g.S.LinkStore.atom_id g.S.LinkStore.mem_id (g.S.LinkStore.heap c.args.store.now) c.args.set.now c.are_different.result c.args.instr.now _ _ _ _ c.in-NeqGround.is c.requires.held c.at-root-in-NeqGround.ensures c.at-other_root-in-NeqGround.ensures c.are_different.ensures.different
+
+pub compute-requires-clause-no_part : goal.compute-requires-clause-no_part
+compute-requires-clause-no_part g c = asks_no_part c.args.instr.now c.requires.no_choice c.in_default.not-Deref c.in_default.not-IsInt c.in_default.not-IsUnary c.in_default.not-IsGround c.in_default.not-EqGround c.in_default.not-NeqGround c.in_default.not-NAtoms
+
+pub returns-in-NAtoms-clause-stepped : goal.returns-in-NAtoms-clause-stepped
+returns-in-NAtoms-clause-stepped g c =
+    others_stepped g.S.LinkStore.atom_id g.S.LinkStore.mem_id (g.S.LinkStore.heap c.args.store.now) c.args.set.now c.has_others.result c.args.instr.now _ _ _ c.as_slice.result.now _ c.in-NAtoms.is c.as_slice.ensures c.requires.held c.at-place-in-NAtoms.ensures
+    (λ s a. c.has_others.ensures.others s (record { atoms = a.atoms; membranes = a.membranes; parts = a.parts; integers = a.integers }))

@@ -1,0 +1,65 @@
+-- The items that a commit leaves.
+use Rattle.std.proofs.Common.{ℕ, zero, suc, ◌≡◌, ◌+◌, List, [], ◌∷◌, Some, refl, arith, sym, subst, ◌∙◌}
+use Rattle.std.specs.Prelude.{slice_get}
+use Rattle.std.specs.List.{AllByRecursion}
+use Rattle.lmn_heap.specs.Heap.{Heap}
+use Rattle.lmn_heap.specs.Sound.{Forest, IsTree, flat, items_in}
+use Rattle.lmn_heap.proofs.Pigeonholes.{not_longer}
+use Rattle.lmn_instr.specs.declared.instr.Instr.{Instr}
+use Rattle.lmn_instr.specs.declared.instr.Instr.TheVariants.{RemoveAtom, RemovePart, RemoveMem, NewAtom, NewInt, NewMem, CopyGround, LoadRule, CopyRules}
+use Rattle.lmn_instr.specs.Running.{Registers}
+use Rattle.lmn_machine.specs.Costs.{IsSize, Adds, Takes, InAll, Leaves}
+
+-- a part has one size
+one_size : (h : Heap) (root : ℕ × ℕ) (m n : ℕ) → IsSize h root m → IsSize h root n → m ≡ n
+one_size h root m n (xs, a, e) (ys, b, f) =
+    let x = not_longer xs ys a.0 (λ k s. (b.1 k).1 ((a.1 k).0 s)) in
+    let y = not_longer ys xs b.0 (λ k s. (a.1 k).1 ((b.1 k).0 s)) in
+    omega (arith, x, y, e, f)
+
+adds_one : (h : Heap) (r : Registers) (i : Instr) (m n : ℕ) → Adds h r i m → Adds h r i n → m ≡ n
+adds_one h r (NewAtom a x f) m n s t = s ∙ sym t
+adds_one h r (NewInt a x v) m n s t = s ∙ sym t
+adds_one h r (NewMem x k) m n s t = s ∙ sym t
+adds_one h r (CopyGround c x g) m n s t = one_size h (r.images.part g) m n s t
+adds_one h r (LoadRule x k) m n s t = s ∙ sym t
+adds_one h r (CopyRules x k) m n s t = s ∙ sym t
+adds_one h r _ m n s t = s ∙ sym t
+
+takes_one : (h : Heap) (r : Registers) (i : Instr) (m n : ℕ) → Takes h r i m → Takes h r i n → m ≡ n
+takes_one h r (RemoveAtom a) m n s t = s ∙ sym t
+takes_one h r (RemovePart g) m n s t = one_size h (r.images.part g) m n s t
+takes_one h r (RemoveMem x) m n s t = s ∙ sym t
+takes_one h r _ m n s t = s ∙ sym t
+
+one_sum : (P : Instr → ℕ → Type 0) → ((i : Instr) (m n : ℕ) → P i m → P i n → m ≡ n) → (is : List Instr) (m n : ℕ) → InAll P is m → InAll P is n → m ≡ n
+one_sum P one [] m n s t = s ∙ sym t
+one_sum P one (i ∷ is) m n (a, b, (p, s, e)) (c, d, (q, t, f)) = let u = one i a c p q in let v = one_sum P one is b d s t in omega (arith, u, v, e, f)
+
+-- The sum of what is left gives the sum of all, with the sum so far.
+pub record SoFar (P : Instr → ℕ → Type 0) (all left : List Instr) (sum : ℕ) : Type 0 where
+  pub whole : (n : ℕ) → InAll P left n → InAll P all (sum + n)
+
+pub sum_first : (P : Instr → ℕ → Type 0) (all left : List Instr) (sum : ℕ) → left ≡ all → sum ≡ 0 → SoFar P all left sum
+sum_first P all left sum e z = record { whole = λ n s. (let t : n ≡ sum + n = omega (arith, z) in subst (λ k. InAll P all k) t (subst (λ xs. InAll P xs n) e s)) }
+
+pub sum_next : (P : Instr → ℕ → Type 0) (all left is : List Instr) (i : Instr) (sum a next : ℕ) → left ≡ i ∷ is → P i a → next ≡ sum + a → SoFar P all left sum → SoFar P all is next
+sum_next P all left is i sum a next e p f s = record {
+  whole = λ n t. (let u : sum + (a + n) ≡ next + n = omega (arith, f) in subst (λ k. InAll P all k) u (s.whole (a + n) (subst (λ xs. InAll P xs (a + n)) (sym e) (a, n, (p, t, refl)))));
+}
+
+pub sum_last : (P : Instr → ℕ → Type 0) (all left : List Instr) (sum : ℕ) → left ≡ [] → SoFar P all left sum → InAll P all sum
+sum_last P all left sum e s = let t : sum + 0 ≡ sum = omega arith in subst (λ k. InAll P all k) t (s.whole 0 (subst (λ xs. InAll P xs 0) (sym e) refl))
+
+-- what is left, by the sums
+pub left_over : (h : Heap) (r : Registers) (body : List Instr) (n items added taken : ℕ) → (f : Forest) → IsTree h f → items + 1 ≡ items_in h (flat f) → InAll (Adds h r) body added → InAll (Takes h r) body taken → Leaves h r body n → n + taken ≡ items + added
+left_over h r body n items added taken f tree count adds takes l =
+    let a = one_sum (Adds h r) (adds_one h r) body added l.added adds l.adds in
+    let t = one_sum (Takes h r) (takes_one h r) body taken l.taken takes l.takes in
+    let c = l.count f tree in
+    omega (arith, a, t, c, count)
+
+pub told_at : (P : Instr → Type 0) (is : List Instr) (k : ℕ) (i : Instr) → AllByRecursion P is → slice_get is k ≡ Some i → P i
+told_at P [] k i a e = absurd (cc)
+told_at P (j ∷ is) zero i a e = let t : j ≡ i = cc in subst P t a.0
+told_at P (j ∷ is) (suc k) i a e = told_at P is k i a.1 e

@@ -1,0 +1,125 @@
+//! How many items a commit leaves.
+ghost use Rattle.std.specs.Prelude.{◌≡◌, ◌<◌, ◌≤◌, ◌+◌, ◌-◌, ◌^◌, ℕ, length, min};
+ghost use Rattle.std.specs.List.{AllByRecursion};
+ghost use Rattle.lmn_heap.specs.Heap.{rules_in};
+ghost use Rattle.lmn_heap.specs.Sound.{Valid};
+ghost use Rattle.lmn_instr.specs.Running.{Registers};
+ghost use Rattle.lmn_registers.specs.Agreeing.{Agrees};
+ghost use Rattle.lmn_machine.specs.Searching.{AreHeld, Unmarked};
+ghost use Rattle.lmn_machine.specs.Costs.{Adds, InAll, IsSize, IsTold, Leaves, Takes};
+
+use crate::machine::Machine;
+use lmn_ground::size_of;
+use lmn_instr::{Code, Instr};
+use lmn_registers::SetRegisters;
+use lmn_store::LinkStore;
+
+/// The number of atoms of a typed context that was found.
+fn part_size<S: LinkStore>(store: &mut S, set: &SetRegisters<S::Atom, S::Mem>, part: u16) -> u64
+    requires unmarked { Unmarked (S.heap store.old) }
+    requires held { AreHeld S.atom_id S.mem_id (S.heap store.old) set.now }
+    requires part { part < length set.now.parts }
+    ensures same { S.heap store.new ≡ S.heap store.old }
+    ensures size { (s : Registers) → Agrees S.atom_id S.mem_id set.now s → IsSize (S.heap store.old) (s.images.part part) result }
+{
+    let _root = store.root();
+    let root = set.parts.at(part as usize);
+    size_of(store, root)
+}
+
+/// The number of rules of a membrane that was found.
+fn rules_of<S: LinkStore>(store: &S, set: &SetRegisters<S::Atom, S::Mem>, membrane: u16) -> u64
+    requires held { AreHeld S.atom_id S.mem_id (S.heap store.now) set.now }
+    requires membrane { membrane < length set.now.membranes }
+    ensures { (s : Registers) → Agrees S.atom_id S.mem_id set.now s → result ≡ length (rules_in (S.heap store.now) (s.images.membrane membrane)) }
+{
+    let _root = store.root();
+    store.rules(set.membranes.at(membrane as usize))
+}
+
+/// How many items an instruction of a body adds.
+fn added<S: LinkStore>(store: &mut S, set: &SetRegisters<S::Atom, S::Mem>, instr: &Instr) -> u64
+    requires unmarked { Unmarked (S.heap store.old) }
+    requires held { AreHeld S.atom_id S.mem_id (S.heap store.old) set.now }
+    requires told { IsTold (length set.now.membranes) (length set.now.parts) instr.now }
+    ensures same { S.heap store.new ≡ S.heap store.old }
+    ensures adds { (s : Registers) → Agrees S.atom_id S.mem_id set.now s → Adds (S.heap store.old) s instr.now result }
+{
+    match instr {
+        Instr::NewAtom { .. } => 1,
+        Instr::NewInt { .. } => 1,
+        Instr::NewMem { .. } => 1,
+        Instr::CopyGround { part, .. } => part_size(store, set, *part),
+        Instr::LoadRule { .. } => 1,
+        Instr::CopyRules { from, .. } => rules_of(store, set, *from),
+        _ => 0,
+    }
+}
+
+/// How many items an instruction of a body takes.
+fn taken<S: LinkStore>(store: &mut S, set: &SetRegisters<S::Atom, S::Mem>, instr: &Instr) -> u128
+    requires unmarked { Unmarked (S.heap store.old) }
+    requires held { AreHeld S.atom_id S.mem_id (S.heap store.old) set.now }
+    requires told { IsTold (length set.now.membranes) (length set.now.parts) instr.now }
+    ensures same { S.heap store.new ≡ S.heap store.old }
+    ensures few { result ≤ 2 ^ 64 }
+    ensures takes { (s : Registers) → Agrees S.atom_id S.mem_id set.now s → Takes (S.heap store.old) s instr.now result }
+{
+    match instr {
+        Instr::RemoveAtom { .. } => 1,
+        Instr::RemovePart { part } => u128::from(part_size(store, set, *part)),
+        Instr::RemoveMem { membrane } => 1 + u128::from(rules_of(store, set, *membrane)),
+        _ => 0,
+    }
+}
+
+/// The number of items that are left by a commit with the code of a body, or 2^64 - 1 where it is more.
+fn items_left<S: LinkStore>(
+    store: &mut S,
+    set: &SetRegisters<S::Atom, S::Mem>,
+    body: &[Instr],
+) -> u64
+    requires valid { Valid (S.heap store.old) }
+    requires unmarked { Unmarked (S.heap store.old) }
+    requires held { AreHeld S.atom_id S.mem_id (S.heap store.old) set.now }
+    requires told { AllByRecursion (IsTold (length set.now.membranes) (length set.now.parts)) body.now }
+    ensures same { S.heap store.new ≡ S.heap store.old }
+    ensures left { (s : Registers) (n : ℕ) → Agrees S.atom_id S.mem_id set.now s → Leaves (S.heap store.old) s body.now n → result ≡ min n (2 ^ 64 - 1) }
+{
+    let mut all_added: u128 = 0;
+    let mut all_taken: u128 = 0;
+    for i in 0..body.len() {
+        all_added += u128::from(added(store, set, &body[i]));
+        all_taken += taken(store, set, &body[i]);
+    }
+    capped(store.items(), all_added, all_taken)
+}
+
+/// A sum less a number, or 2^64 - 1 where it is more.
+fn capped(items: u64, added: u128, taken: u128) -> u64
+    requires { items + added < 2 ^ 128 }
+    ensures { (n : ℕ) → n + taken ≡ items + added → result ≡ min n (2 ^ 64 - 1) }
+{
+    let left = (u128::from(items) + added).saturating_sub(taken);
+    if left < u128::from(u64::MAX) {
+        left as u64
+    } else {
+        u64::MAX
+    }
+}
+
+impl<S: LinkStore> Machine<S> {
+    /// The number of items that the commit with a code leaves, or 2^64 - 1 where that is more. The registers hold a match
+    /// of its head. It takes no memory, and the store is left as it was.
+    pub fn cost(&mut self, code: &Code) -> u64
+        requires valid { Valid (S.heap self.old.store) }
+        requires unmarked { Unmarked (S.heap self.old.store) }
+        requires held { AreHeld S.atom_id S.mem_id (S.heap self.old.store) self.old.set }
+        requires told { AllByRecursion (IsTold (length self.old.set.membranes) (length self.old.set.parts)) code.now.body }
+        ensures same { S.heap self.new.store ≡ S.heap self.old.store }
+        ensures registers { self.new.set ≡ self.old.set }
+        ensures left { (s : Registers) (n : ℕ) → Agrees S.atom_id S.mem_id self.old.set s → Leaves (S.heap self.old.store) s code.now.body n → result ≡ min n (2 ^ 64 - 1) }
+    {
+        items_left(&mut self.store, &self.set, code.body.as_slice())
+    }
+}

@@ -1,0 +1,112 @@
+//! How many atoms a membrane holds besides those of typed contexts.
+ghost use Rattle.std.specs.Prelude.{◌≡◌, ◌≢◌, ◌<◌, ◌≤◌, ◌+◌, ◌-◌, ◌↔◌, ℕ, Some, IsTrue, IsFalse, length, slice_get, take};
+ghost use Rattle.std.specs.List.{AllByRecursion};
+ghost use Rattle.lmn_heap.specs.Heap.{IsAtom, IsMem, atoms_in, port_id};
+ghost use Rattle.lmn_instr.specs.Running.{Registers, HasOthers, IsInSome};
+ghost use Rattle.lmn_registers.specs.Agreeing.{Agrees};
+ghost use Rattle.lmn_machine.specs.Searching.{AreHeld, Unmarked};
+
+use crate::checks;
+use lmn_ground::size_of;
+use lmn_registers::{SetRegisters, Stack};
+use lmn_store::LinkStore;
+
+/// Whether two parts are entered at one port.
+fn is_same_root<S: LinkStore>(store: &S, p: (S::Atom, u8), q: (S::Atom, u8)) -> bool
+    requires p { IsAtom (S.heap store.now) (S.atom_id p.0) }
+    requires q { IsAtom (S.heap store.now) (S.atom_id q.0) }
+    ensures { IsTrue result ↔ (port_id S.atom_id p ≡ port_id S.atom_id q) }
+{
+    store.same_atom(p.0, q.0) && p.1 == q.1
+}
+
+/// Whether one of the first n parts that are listed is entered at a port.
+fn is_listed<S: LinkStore>(
+    store: &S,
+    parts: &Stack<(S::Atom, u8)>,
+    listed: &[u16],
+    n: usize,
+    root: (S::Atom, u8),
+) -> bool
+    requires parts { (k : ℕ) (p : _) → slice_get parts.now k ≡ Some p → IsAtom (S.heap store.now) (S.atom_id p.0) }
+    requires listed { AllByRecursion (λ k. k < length parts.now) listed.now }
+    requires n { n ≤ length listed.now }
+    requires root { IsAtom (S.heap store.now) (S.atom_id root.0) }
+    ensures found { IsTrue result → (j k : ℕ) × ((p : _) × (j < n) × (slice_get listed.now j ≡ Some k) × (slice_get parts.now k ≡ Some p) × (port_id S.atom_id p ≡ port_id S.atom_id root)) }
+    ensures none { IsFalse result → (j k : ℕ) (p : _) → j < n → slice_get listed.now j ≡ Some k → slice_get parts.now k ≡ Some p → port_id S.atom_id p ≢ port_id S.atom_id root }
+{
+    for j in 0..n {
+        if is_same_root(store, parts.at(listed[j] as usize), root) {
+            return true;
+        }
+    }
+    false
+}
+
+/// The number of atoms of a membrane that the listed part number i has and no earlier one.
+fn atoms_more<S: LinkStore>(
+    store: &mut S,
+    set: &SetRegisters<S::Atom, S::Mem>,
+    m: S::Mem,
+    listed: &[u16],
+    i: usize,
+) -> u64
+    requires unmarked { Unmarked (S.heap store.old) }
+    requires membrane { IsMem (S.heap store.old) (S.mem_id m) }
+    requires held { AreHeld S.atom_id S.mem_id (S.heap store.old) set.now }
+    requires listed { AllByRecursion (λ k. k < length set.now.parts) listed.now }
+    requires i { i < length listed.now }
+    ensures same { S.heap store.new ≡ S.heap store.old }
+    ensures fewer { (s : Registers) (n : ℕ) → Agrees S.atom_id S.mem_id set.now s → HasOthers (IsInSome (S.heap store.old) s (take i listed.now)) n (atoms_in (S.heap store.old) (S.mem_id m)) →
+        (result ≤ n) × HasOthers (IsInSome (S.heap store.old) s (take (i + 1) listed.now)) (n - result) (atoms_in (S.heap store.old) (S.mem_id m)) }
+{
+    let _root = store.root();
+    let part = set.parts.at(listed[i] as usize);
+    if !checks::stands_in(store, part.0, m) {
+        return 0;
+    }
+    if is_listed(store, &set.parts, listed, i, part) {
+        return 0;
+    }
+    size_of(store, part)
+}
+
+/// The number of atoms of a membrane that are in none of the listed parts.
+fn atoms_besides<S: LinkStore>(
+    store: &mut S,
+    set: &SetRegisters<S::Atom, S::Mem>,
+    m: S::Mem,
+    listed: &[u16],
+) -> u64
+    requires unmarked { Unmarked (S.heap store.old) }
+    requires membrane { IsMem (S.heap store.old) (S.mem_id m) }
+    requires held { AreHeld S.atom_id S.mem_id (S.heap store.old) set.now }
+    requires listed { AllByRecursion (λ k. k < length set.now.parts) listed.now }
+    ensures same { S.heap store.new ≡ S.heap store.old }
+    ensures others { (s : Registers) → Agrees S.atom_id S.mem_id set.now s → HasOthers (IsInSome (S.heap store.old) s listed.now) result (atoms_in (S.heap store.old) (S.mem_id m)) }
+{
+    let _root = store.root();
+    let mut left = store.atoms(m);
+    for i in 0..listed.len() {
+        left -= atoms_more(store, set, m, listed, i);
+    }
+    left
+}
+
+/// Whether a membrane holds so many atoms besides those of the listed parts.
+pub fn has_others<S: LinkStore>(
+    store: &mut S,
+    set: &SetRegisters<S::Atom, S::Mem>,
+    m: S::Mem,
+    listed: &[u16],
+    count: u64,
+) -> bool
+    requires unmarked { Unmarked (S.heap store.old) }
+    requires membrane { IsMem (S.heap store.old) (S.mem_id m) }
+    requires held { AreHeld S.atom_id S.mem_id (S.heap store.old) set.now }
+    requires listed { AllByRecursion (λ k. k < length set.now.parts) listed.now }
+    ensures same { S.heap store.new ≡ S.heap store.old }
+    ensures others { (s : Registers) → Agrees S.atom_id S.mem_id set.now s → (IsTrue result ↔ HasOthers (IsInSome (S.heap store.old) s listed.now) count (atoms_in (S.heap store.old) (S.mem_id m))) }
+{
+    atoms_besides(store, set, m, listed) == count
+}
