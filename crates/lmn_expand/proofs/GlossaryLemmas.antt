@@ -20,7 +20,7 @@ use Rattle.lmn_lexer.specs.declared.token.Kind.{Kind}
 use Rattle.lmn_lexer.specs.declared.token.Kind.TheVariants.{Name, Quoted, Mod, Link, Int, Context, RuleCtx, End}
 use Rattle.lmn_lexer.specs.declared.token.Token.{Token}
 use Rattle.lmn_lexer.specs.Cutting.{Cuts, token_at}
-use Rattle.lmn_lexer.specs.Laying.{Word, word_of, end_word}
+use Rattle.lmn_lexer.specs.Laying.{Word, word_of, words_of, end_word}
 use Rattle.lmn_lexer.specs.Faults.{InRange, TokenFault, integer_out_of_range, long_name, floating_point, value_behind, NothingWrong}
 use Rattle.lmn_lexer.specs.Spelling.{Spells, IsQuoted, Quotes, nothing, quote, byte}
 use Rattle.lmn_lexer.specs.Values.{bytes_of, integer_of, IsSound}
@@ -29,6 +29,7 @@ use Rattle.lmn_plain.specs.Meanings.{undoubled, between_quotes, name_spelled, la
 use Rattle.lmn_plain.specs.Plains.{Each, number_of, numbered_label}
 use Rattle.lmn_base.specs.declared.memory.NoMemory.{NoMemory}
 use Rattle.lmn_expand.specs.Glossaries.{Reading, IsLabel, IsMeaning, IsGlossary, AreEntries, HasEntries, IsRightWord, IsRightToken, GrowsBy, reading_of}
+use Rattle.lmn_expand.specs.NameLists.{names_read, with_name, with_word, with_words}
 use Rattle.lmn_expand.specs.declared.glossary.Entry.{Entry}
 use Rattle.lmn_expand.specs.declared.glossary.Glossary.{Glossary}
 use Rattle.lmn_expand.specs.declared.glossary.Meaning.{Meaning}
@@ -93,6 +94,38 @@ grows_put old new name held absent = by (list_any (bytes_eq name) old) refl
     by false e =
         let none : ¬ (Contains old name) = λ there. true≢false (sym (list_any-from_Contains nat_list_eq_equiv name old there) ∙ e) in
         record { more = name ∷ []; grown = absent none; few = omega arith }
+
+-- a name is put where the list doesn't hold it
+pub with_put : (old new : List tree.Name) (name : tree.Name) (r : Result ℕ NoMemory) → OnOk r (Contains old name → new ≡ old)
+    → OnOk r (¬ (Contains old name) → new ≡ old ++ name ∷ []) → OnOk r (new ≡ with_name old name)
+with_put old new name (Err e) held absent = tt
+with_put old new name (Ok k) held absent = by (list_any (bytes_eq name) old) refl
+  where
+    by : (b : Bool) → list_any (bytes_eq name) old ≡ b → new ≡ (if b then old else old ++ name ∷ [])
+    by true e = held (Contains-from_any (λ x y. (bytes_eq-Decides x y).0) name old e)
+    by false e = absent (λ there. true≢false (sym (list_any-from_Contains nat_list_eq_equiv name old there) ∙ e))
+
+with_more : (names : List tree.Name) (ws : List Word) (w : Word) → with_words names (ws ++ w ∷ []) ≡ with_word (with_words names ws) w
+with_more names [] w = refl
+with_more names (v ∷ ws) w = with_more (with_word names v) ws w
+
+map_more : {A B : Type 0} (f : A → B) (xs : List A) (x : A) → map f (xs ++ x ∷ []) ≡ map f xs ++ f x ∷ []
+map_more f [] x = refl
+map_more f (y ∷ xs) x = ap (λ l. f y ∷ l) (map_more f xs x)
+
+-- the names of one word more
+words_more : (text : List ℕ) (names0 names names' : List tree.Name) (i : ℕ) (tokens : List Token) (d t : Token) → i < length tokens → t ≡ get_or tokens i d
+    → names ≡ with_words names0 (words_of text (take i tokens)) → names' ≡ with_word names (word_of text t) → names' ≡ with_words names0 (words_of text (take (i + 1) tokens))
+words_more text names0 names names' i tokens d t l at h k =
+    let whole = ap (words_of text) (take_more tokens i d l ∙ ap (λ z. take i tokens ++ z ∷ []) (sym at)) ∙ map_more (word_of text) (take i tokens) t in
+    k ∙ ap (λ ns. with_word ns (word_of text t)) h ∙ sym (with_more names0 (words_of text (take i tokens)) (word_of text t)) ∙ ap (with_words names0) (sym whole)
+
+-- three names and then those of the words
+pub names_chain : (a b c d e : List tree.Name) (text : List ℕ) (tokens seen : List Token) → seen ≡ tokens → b ≡ with_name a (codes ".") → c ≡ with_name b (codes "[]")
+    → d ≡ with_name c (codes "+") → e ≡ with_words d (words_of text seen) → e ≡ names_read a (words_of text tokens)
+names_chain a b c d e text tokens seen same f g h i =
+    i ∙ ap (λ ts. with_words d (words_of text ts)) same
+    ∙ ap (λ ns. with_words ns (words_of text tokens)) (h ∙ ap (λ ns. with_name ns (codes "+")) (g ∙ ap (λ ns. with_name ns (codes "[]")) f))
 
 front : (xs ys : List tree.Name) (k : ℕ) (n : tree.Name) → slice_get xs k ≡ Some n → slice_get (xs ++ ys) k ≡ Some n
 front [] ys k n h = absurd (let l = slice_get_within [] k n h in omega arith)
@@ -210,6 +243,13 @@ quoted_meaning r names links kind bytes seen name all e s q a h =
     let same : label_spelled kind bytes ≡ tree.named all = ap (λ k. label_spelled k bytes) e ∙ ap tree.named (quoted_name bytes name (subst Q s q) ∙ sym a) in
     IfOk-weaker r _ _ (λ made more. more links (record { kind = kind; bytes = bytes }) same) h
 
+pub quoted_put : (r : Result Meaning NoMemory) (old new : List tree.Name) (kind : Kind) (bytes seen name all : List ℕ) → kind ≡ Quoted → seen ≡ bytes
+    → IsQuoted seen name → all ≡ name → OnOk r (new ≡ with_name old all) → OnOk r (new ≡ with_word old (record { kind = kind; bytes = bytes }))
+quoted_put (Err e) old new kind bytes seen name all k s q a h = tt
+quoted_put (Ok m) old new kind bytes seen name all k s q a h =
+    let Q : List ℕ → Type 0 = λ b. IsQuoted b name in
+    h ∙ ap (with_name old) (a ∙ sym (quoted_name bytes name (subst Q s q))) ∙ sym (ap (λ z. with_word old (record { kind = z; bytes = bytes })) k)
+
 -- ---- entries of tokens
 
 abbrev pub IsEntry : List ℕ → List tree.Name → List tree.Name → Token → Entry → Type 0
@@ -217,6 +257,7 @@ IsEntry text names links t e = (e.pos ≡ t.pos) × IsMeaning names links (word_
 
 pub record SoFar (text : List ℕ) (names0 names links0 links : List tree.Name) (i : ℕ) (done : List Token) (es : List Entry) : Type 0 where
   pub names_grown : GrowsBy i names0 names
+  pub names_are : names ≡ with_words names0 (words_of text done)
   pub links_grown : GrowsBy i links0 links
   pub entries : Each (IsEntry text names links) done es
 
@@ -232,15 +273,16 @@ meaning_grown names names' links links' w meaning.Sign g k h = tt
 
 pub so_far_next : (text : List ℕ) (names0 names names' links0 links links' : List tree.Name) (i : ℕ) (tokens : List Token) (d t : Token) (es es' : List Entry) (m : Meaning) (e : Entry)
     → i < length tokens → t ≡ get_or tokens i d → SoFar text names0 names links0 links i (take i tokens) es → GrowsBy 1 names names' → GrowsBy 1 links links'
-    → IsMeaning names' links' (word_of text t) m → e ≡ record { meaning = m; pos = t.pos } → es' ≡ es ++ e ∷ []
+    → names' ≡ with_word names (word_of text t) → IsMeaning names' links' (word_of text t) m → e ≡ record { meaning = m; pos = t.pos } → es' ≡ es ++ e ∷ []
     → SoFar text names0 names' links0 links' (i + 1) (take (i + 1) tokens) es'
-so_far_next text names0 names names' links0 links links' i tokens d t es es' m e l at h g k is same pushed =
+so_far_next text names0 names names' links0 links links' i tokens d t es es' m e l at h g k put is same pushed =
     let P : Token → Type 0 = λ z. Each (IsEntry text names' links') (take i tokens ++ z ∷ []) (es ++ e ∷ []) in
     let Q : List Token → Type 0 = λ z. Each (IsEntry text names' links') z (es ++ e ∷ []) in
     let R : List Entry → Type 0 = λ z. Each (IsEntry text names' links') (take (i + 1) tokens) z in
     let S : Entry → Type 0 = IsEntry text names' links' t in
     record {
       names_grown = grows_more names0 names names' h.names_grown g;
+      names_are = words_more text names0 names names' i tokens d t l at h.names_are put;
       links_grown = grows_more links0 links links' h.links_grown k;
       entries = subst R (sym pushed) (subst Q (sym (take_more tokens i d l)) (subst P at
           (each_append (IsEntry text names' links') (take i tokens) (t ∷ []) es (e ∷ [])
@@ -275,10 +317,14 @@ has_entries text tokens names0 names links0 links i es l n k h =
     let P : List Token → Type 0 = λ z. Each (IsEntry text names links) z es in
     (links, n, k, are_entries text tokens names links es (subst P (take_all i tokens l) h.entries))
 
+pub names_done : (text : List ℕ) (tokens : List Token) (names0 names links0 links : List tree.Name) (i : ℕ) (es : List Entry) → length tokens ≤ i
+    → SoFar text names0 names links0 links i (take i tokens) es → names ≡ with_words names0 (words_of text tokens)
+names_done text tokens names0 names links0 links i es l h = h.names_are ∙ ap (λ ts. with_words names0 (words_of text ts)) (take_all i tokens l)
+
 pub nothing_so_far : (text : List ℕ) (names links : List tree.Name) (tokens : List Token) (es : List Entry) → es ≡ [] → SoFar text names names links links 0 (take 0 tokens) es
 nothing_so_far text names links tokens es e =
     let P : List Entry → Type 0 = λ z. Each (IsEntry text names links) [] z in
-    record { names_grown = grows_not names; links_grown = grows_not links; entries = subst P (sym e) tt }
+    record { names_grown = grows_not names; names_are = refl; links_grown = grows_not links; entries = subst P (sym e) tt }
 
 pub put_grows : (old new : List tree.Name) (name : tree.Name) (r : Result ℕ NoMemory) → OnOk r (Contains old name → new ≡ old)
     → OnOk r (¬ (Contains old name) → new ≡ old ++ name ∷ []) → OnErr r (new ≡ old) → GrowsBy 1 old new

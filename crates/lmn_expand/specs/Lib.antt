@@ -4,3 +4,4 @@ pub mod Built
 pub mod Copies
 pub mod Growing
 pub mod Outside
+pub mod NameLists

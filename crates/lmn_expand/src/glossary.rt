@@ -1,14 +1,15 @@
-ghost use Rattle.std.specs.Prelude.{◌≡◌, ◌+◌, ◌≤◌, ◌<◌, ◌^◌, List, length, slice_get, Some, IfOk};
+ghost use Rattle.std.specs.Prelude.{◌≡◌, ◌+◌, ◌≤◌, ◌<◌, ◌^◌, List, length, slice_get, Some, IfOk, OnOk};
 ghost use Rattle.std.specs.List.{AllByRecursion};
 ghost use Rattle.lmn_base.specs.Names.{IsNames};
 ghost use Rattle.lmn_congruence.specs.Rules.{Name, named};
 ghost use Rattle.lmn_lexer.specs.Cutting.{Cuts};
 ghost use Rattle.lmn_lexer.specs.Faults.{NothingWrong};
-ghost use Rattle.lmn_lexer.specs.Laying.{Word, word_of};
+ghost use Rattle.lmn_lexer.specs.Laying.{Word, word_of, words_of};
 ghost use Rattle.lmn_lexer.specs.Values.{bytes_of, integer_of};
 ghost use Rattle.lmn_plain.specs.Meanings.{word_at, place_at, name_at, label_at, label_spelled};
 ghost use Rattle.lmn_plain.specs.Plains.{number_of, numbered_label, context_use};
 ghost use Rattle.lmn_expand.specs.Glossaries.{Reading, IsGlossary, IsMeaning, IsRightToken, GrowsBy, HasEntries, reading_of};
+ghost use Rattle.lmn_expand.specs.NameLists.{names_read, with_name, with_word, with_words};
 
 use lmn_base::{CtxUse, Label, Names, NoMemory, Pos, Rows};
 use lmn_lexer::{Kind, PackedToken, Token, Tokens, integer, unquoted};
@@ -61,6 +62,7 @@ impl Glossary {
         requires cut { Cuts text.now tokens.now }
         requires room { length names.old + (length tokens.now + 3) ≤ 2 ^ 32 }
         ensures grows { GrowsBy (length tokens.now + 3) names.old names.new }
+        ensures names { OnOk result (names.new ≡ names_read names.old (words_of text.now tokens.now)) }
         ensures glossary { IfOk result (λ glossary. (links : List Name) × IsGlossary (reading_of text.now tokens.now names.new links) glossary) }
     {
         known(names);
@@ -157,6 +159,7 @@ fn put(names: &mut Names, name: &[u8]) -> Result<u32, NoMemory>
     requires short { length name.now ≤ 255 }
     requires room { length names.old < 2 ^ 32 }
     ensures grows { GrowsBy 1 names.old names.new }
+    ensures names { OnOk result (names.new ≡ with_name names.old name.now) }
     ensures number { IfOk result (λ number. slice_get names.new number ≡ Some name.now) }
 {
     names.put(name)
@@ -173,6 +176,7 @@ fn entries(
     requires room { length names.old + length tokens.now ≤ 2 ^ 32 }
     requires links { 4 + length tokens.now ≤ 2 ^ 32 }
     ensures grows { GrowsBy (length tokens.now) names.old names.new }
+    ensures names { OnOk result (names.new ≡ with_words names.old (words_of text.now tokens.now)) }
     ensures entries { IfOk result (λ entries. HasEntries text.now tokens.now names.new entries) }
 {
     let mut links = Names::new(alloc);
@@ -210,6 +214,7 @@ fn spelled(
     requires links { length links.old < 2 ^ 32 }
     ensures grows { GrowsBy 1 names.old names.new }
     ensures links { GrowsBy 1 links.old links.new }
+    ensures names { OnOk result (names.new ≡ with_word names.old (word_of text.now token)) }
     ensures meaning { IfOk result (λ made. IsMeaning names.new links.new (word_of text.now token) made) }
 {
     let bytes = bytes_of(text, token);
@@ -236,6 +241,7 @@ fn named_by(names: &mut Names, name: &[u8]) -> Result<Meaning, NoMemory>
     requires short { length name.now ≤ 255 }
     requires room { length names.old < 2 ^ 32 }
     ensures grows { GrowsBy 1 names.old names.new }
+    ensures names { OnOk result (names.new ≡ with_name names.old name.now) }
     ensures meaning { IfOk result (λ made. (links : List Name) (word : Word) → label_spelled word.kind word.bytes ≡ named name.now
         → IsMeaning names.new links word made) }
 {

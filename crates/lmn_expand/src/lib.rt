@@ -8,18 +8,26 @@ mod number;
 mod part;
 mod scope;
 #[cfg(test)]
+mod test_lines;
+#[cfg(test)]
+mod test_processes;
+#[cfg(test)]
+mod test_rules;
+#[cfg(test)]
 mod tests;
 mod walk;
 
-ghost use Rattle.std.specs.Prelude.{◌+◌, ◌≤◌, ◌^◌, [], ◌∷◌, length, MatchResult};
+ghost use Rattle.std.specs.Prelude.{◌≡◌, ◌+◌, ◌≤◌, ◌^◌, [], ◌∷◌, length, MatchResult};
 ghost use Rattle.lmn_base.specs.declared.rule.Plain.{Plain};
 ghost use Rattle.lmn_base.specs.Firsts.{NoneApplies, RefusedBy};
 ghost use Rattle.lmn_base.specs.Refusals.{IfRefused};
 ghost use Rattle.lmn_lexer.specs.Faults.{NothingWrong};
+ghost use Rattle.lmn_lexer.specs.Laying.{words_of};
 ghost use Rattle.lmn_parser.specs.Readings.{Reads};
 ghost use Rattle.lmn_parser.specs.Syntax.{tree_of};
 ghost use Rattle.lmn_plain.specs.Laws.{IsPlain};
 ghost use Rattle.lmn_expand.specs.Glossaries.{GrowsBy};
+ghost use Rattle.lmn_expand.specs.NameLists.{names_read};
 ghost use Rattle.lmn_expand.specs.Outside.{outside_rules};
 
 use crate::glossary::Glossary;
@@ -42,6 +50,8 @@ pub fn flatten(
     requires reads { Reads text.now tokens.now (tree_of tree.now) }
     requires room { length names.old + (length tokens.now + 3) ≤ 2 ^ 32 }
     ensures grows { GrowsBy (length tokens.now + 3) names.old names.new }
+    ensures names { MatchResult result (λ plain. names.new ≡ names_read names.old (words_of text.now tokens.now))
+        (λ fault. IfRefused fault (λ refusal. names.new ≡ names_read names.old (words_of text.now tokens.now))) }
     ensures plain { MatchResult result
         (λ plain. IsPlain text.now tokens.now (tree_of tree.now) names.new plain × NoneApplies (outside_rules plain.top ∷ []))
         (λ fault. IfRefused fault (λ refusal. (plain : Plain) × IsPlain text.now tokens.now (tree_of tree.now) names.new plain

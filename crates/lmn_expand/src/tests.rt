@@ -1,67 +1,134 @@
 use crate::flatten;
-use lmn_base::{Names, Plain, Pos, Refusal, TextFault};
+use crate::test_lines::write_plain;
+use crate::test_processes::PROCESSES;
+use crate::test_rules::RULES;
+use lmn_base::{Names, NoMemory, Plain, Pos, Refusal, TextFault};
 use lmn_lexer::lex;
 use lmn_parser::parse;
-use std::alloc::Global;
+use std::alloc::{AllocGlobal, Global};
+use std::process::Abort;
 
 /// The most tokens of a text here.
 const TOKENS: usize = 100_000;
 
-/// The plain of a text.
-fn plain(alloc: Global, text: &[u8]) -> Result<Plain, TextFault> {
+/// The cells of the long lists.
+const CELLS: usize = 300;
+
+/// The plain of a text, and the names in it.
+fn plain(alloc: Global, text: &[u8]) -> Result<(Plain, Names), TextFault> {
     let tokens = lex(alloc, text)?;
     let tree = parse(alloc, &tokens)?;
     if tokens.len() > TOKENS {
         return Err(TextFault::NoMemory);
     }
     let mut names = Names::new(alloc);
-    flatten(alloc, text, &tokens, &tree, &mut names)
+    let plain = flatten(alloc, text, &tokens, &tree, &mut names)?;
+    Ok((plain, names))
 }
 
-/// The numbers of leaves, membranes and links at the top of a text's plain, and of its rules.
-fn sizes(alloc: Global, text: &[u8]) -> Result<(usize, usize, usize, usize), TextFault> {
-    let plain = plain(alloc, text)?;
-    Ok((
-        plain.top.leaves.len(),
-        plain.top.membranes.len(),
-        plain.links.len(),
-        plain.rules.len(),
-    ))
+/// The lines of a text's plain.
+fn written(alloc: Global, text: &[u8]) -> Result<String, TextFault> {
+    let (plain, names) = plain(alloc, text)?;
+    let mut out = String::new(alloc);
+    write_plain(&mut out, &names, &plain)?;
+    Ok(out)
+}
+
+/// Lines, each with its line feed.
+fn joined(alloc: Global, lines: &[&str]) -> Result<String, NoMemory> {
+    let mut out = String::new(alloc);
+    for line in lines {
+        out.push_str(line)?;
+        out.push('\n')?;
+    }
+    Ok(out)
+}
+
+fn compare(rt: &(impl Abort + AllocGlobal), text: &str, lines: &[&str]) {
+    let found = written(rt.alloc(), text.as_bytes()).expect(rt, text);
+    let wanted = joined(rt.alloc(), lines).expect(rt, "memory");
+    assert_eq!(rt; found.as_str(), wanted.as_str(), "in {text}");
 }
 
 #[test]
-fn abbreviations(rt: HostRuntime) {
-    for (text, wanted) in [
-        (b"".as_slice(), (0, 0, 0, 0)),
-        (b"p(q(r))".as_slice(), (3, 0, 2, 0)),
-        (b"p([])".as_slice(), (2, 0, 1, 0)),
-        (b"p([a,X|Y]), r(X,Y)".as_slice(), (5, 0, 5, 0)),
-        (b"p({a})".as_slice(), (1, 1, 1, 0)),
-        (b"{+X, a}, p(X)".as_slice(), (1, 1, 1, 0)),
-        (b"f(X) = g(X)".as_slice(), (3, 0, 3, 0)),
-        (b"a, (b :- c, (d :- e)), (g :- h)".as_slice(), (1, 0, 0, 3)),
-    ] {
-        assert_eq!(rt; sizes(rt.alloc(), text), Ok(wanted));
+fn texts_have_their_plains(rt: HostRuntime) {
+    for (text, lines) in PROCESSES {
+        compare(&rt, text, lines);
+    }
+    for (text, lines) in RULES {
+        compare(&rt, text, lines);
     }
 }
+
+/// `p([a,a,..,a|b])`, or `p([a,a,..,a])`, and its plain. The list's cells and links have the place of p, and the elements
+/// stand at every other column.
+fn long_list(alloc: Global, has_rest: bool) -> Result<(String, String), NoMemory> {
+    let mut text = String::new(alloc);
+    let mut plain = String::new(alloc);
+    text.push_str("p([a")?;
+    plain.push_str(" p/1^1(0^1)")?;
+    for i in 0..CELLS {
+        let own = 2 * i;
+        let element = 2 * i + 1;
+        let rest = 2 * i + 2;
+        let column = 2 * i + 4;
+        if i > 0 {
+            text.push_str(",a")?;
+        }
+        write!(
+            plain,
+            " ./3^1({element}^1 {rest}^1 {own}^1) a/1^{column}({element}^1)"
+        )?;
+    }
+    let last = 2 * CELLS;
+    let column = 2 * CELLS + 4;
+    if has_rest {
+        text.push_str("|b])")?;
+        write!(plain, " b/1^{column}({last}^1);")?;
+    } else {
+        text.push_str("])")?;
+        write!(plain, " []/1^1({last}^1);")?;
+    }
+    for _ in 0..2 * CELLS + 1 {
+        plain.push_str(" 2^1")?;
+    }
+    plain.push('\n')?;
+    Ok((text, plain))
+}
+
+#[test]
+fn long_lists(rt: HostRuntime) {
+    for has_rest in [false, true] {
+        let (text, wanted) = long_list(rt.alloc(), has_rest).expect(&rt, "memory");
+        let found = written(rt.alloc(), text.as_bytes()).expect(&rt, "memory");
+        assert_eq!(rt; found.as_str(), wanted.as_str());
+    }
+}
+
+/// Texts with a context outside of every rule, and the line and column of the first.
+const OUTSIDE: [(&str, u64, u64); 12] = [
+    ("a, $p", 1, 4),
+    ("@r", 1, 1),
+    ("p($x)", 1, 3),
+    ("$x[X], a(X)", 1, 1),
+    ("X = $x, a(X)", 1, 5),
+    ("p([a,q($x)])", 1, 8),
+    ("f({$p})", 1, 4),
+    ("{a, @r}, p($x)", 1, 5),
+    ("p($x), {$p}", 1, 3),
+    ("a.\n{{@r}}", 2, 3),
+    ("(a :- $p), p([$x])", 1, 15),
+    ("{a :- $p}, @r", 1, 12),
+];
 
 #[test]
 fn contexts_outside(rt: HostRuntime) {
-    for (text, column) in [(b"a, $p".as_slice(), 4), (b"{a, @r}, p($x)".as_slice(), 5)] {
+    for (text, line, column) in OUTSIDE {
         let refusal = Refusal {
             code: 39,
-            pos: Pos { line: 1, column },
+            pos: Pos { line, column },
         };
-        assert_eq!(rt; sizes(rt.alloc(), text), Err(TextFault::Refused(refusal)));
-    }
-}
-
-#[test]
-fn kept_heads(rt: HostRuntime) {
-    let plain = plain(rt.alloc(), b"a(X,X), c(Y) \\ b(Y) :- d.").expect(&rt, "memory");
-    for rule in plain.rules.as_slice() {
-        assert_eq!(rt; rule.head.leaves.len(), 3);
-        assert_eq!(rt; rule.body.leaves.len(), 3);
-        assert_eq!(rt; rule.links.len(), 3);
+        let found = written(rt.alloc(), text.as_bytes());
+        assert_eq!(rt; found.err(), Some(TextFault::Refused(refusal)), "in {text}");
     }
 }

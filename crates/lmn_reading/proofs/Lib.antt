@@ -1,3 +1,10 @@
 mod Levels
 mod Rules
-mod Readings
+pub mod Readings
+mod SameRules
+pub mod OneRead
+pub mod AcceptedOrRefused
+pub mod CodeLemmas
+pub mod ListedNames
+mod NamedParts
+pub mod NamedPlains

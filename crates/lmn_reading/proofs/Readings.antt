@@ -1,39 +1,79 @@
 -- What is read of a text, layer by layer.
-use Rattle.std.proofs.Common.{◌≡◌, ℕ, ◌≤◌, List, [], ◌∷◌, map, Result, Ok, Err, MatchResult, sym, subst, arith}
+use Rattle.std.proofs.Common.{◌≡◌, ℕ, ◌≤◌, List, [], ◌∷◌, map, Result, Ok, Err, MatchResult, sym, ap, ◌∙◌, subst, arith}
 use Rattle.std.proofs.lemmas.List.Elements.{All-head}
 use Rattle.lmn_base.specs.declared.refusal.Refusal.{Refusal}
 use Rattle.lmn_base.specs.declared.refusal.TextFault.{TextFault}
 use Rattle.lmn_base.specs.declared.refusal.TextFault.TheVariants.{Refused, NoMemory}
 use Rattle.lmn_base.specs.declared.rule.Plain.{Plain}
 use Rattle.lmn_base.specs.Firsts.{Row, NoneApplies, RefusedBy}
-use Rattle.lmn_base.specs.LinkCodes.{LinkFault, IsFirstFault, AnswersLinks}
+use Rattle.lmn_base.specs.LinkCodes.{AnswersLinks}
 use Rattle.lmn_base.specs.Refusals.{IfRefused}
 use Rattle.lmn_base.specs.WellMade.{IsWellMade}
 use Rattle.lmn_congruence.specs.Rules.{Name}
 use Rattle.lmn_expand.specs.Glossaries.{GrowsBy}
+use Rattle.lmn_expand.specs.NameLists.{names_read}
 use Rattle.lmn_expand.specs.Outside.{outside_rules}
-use Rattle.lmn_grammar.specs.Refusing.{IsWithin}
+use Rattle.lmn_grammar.specs.Refusing.{IsWithin, IsRefused as IsRefusedAt}
+use Rattle.lmn_grammar.proofs.Refusals.{refused_derive_nothing}
 use Rattle.lmn_guards.specs.Plans.{IsPlan}
 use Rattle.lmn_lexer.specs.Cutting.{Cuts}
-use Rattle.lmn_lexer.specs.Faults.{NothingWrong}
+use Rattle.lmn_lexer.specs.Faults.{IsRefusal, NothingWrong}
 use Rattle.lmn_lexer.specs.Laying.{words_of}
+use Rattle.lmn_lexer.specs.declared.token.Kind.{Kind}
 use Rattle.lmn_lexer.specs.declared.token.Token.{Token}
+use Rattle.lmn_lexer.proofs.OneCut.{one_cut, refused_is_wrong}
 use Rattle.lmn_linkcheck.proofs.LinkedLemmas.{no_fault_is_linked}
 use Rattle.lmn_parser.specs.Parsing.{IsFaultOf, kinds_of}
 use Rattle.lmn_parser.specs.Readings.{Reads}
 use Rattle.lmn_parser.specs.Syntax.{Clauses}
+use Rattle.lmn_parser.proofs.TreeWords.{trees_derive}
 use Rattle.lmn_plain.specs.Laws.{IsPlain}
 use Rattle.lmn_plain.specs.Plains.{Each}
 use Rattle.lmn_plain.proofs.PrintedLines.{plains_are_well_made}
 use Rattle.lmn_reading.specs.declared.reading.Accepted.{Accepted}
-use Rattle.lmn_reading.specs.Texts.{IsAcceptedAs, IsRefusedAs, ReadsAs, by_tokens, by_contexts, by_links, by_rules, rows_of_rules}
+use Rattle.lmn_reading.specs.Texts.{IsAcceptedAs, IsRefusedAs, LeavesNames, ReadsAs, by_bytes, by_tokens, by_contexts, by_links, by_rules, rows_of_rules}
 use Rattle.lmn_reading.proofs.Levels.{no_context}
 use Rattle.lmn_reading.proofs.Rules.{rules_accepted}
 
 pub grows_less : {m n : ℕ} (old new : List Name) → m ≤ n → GrowsBy m old new → GrowsBy n old new
 grows_less old new l g = record { more = g.more; grown = g.grown; few = omega (arith, l, g.few) }
 
+-- What holds of the names holds with each answer.
+pub with_each : {A : Type 0} (P : Type 0) (x : Result A TextFault) → P → MatchResult x (λ read. P) (λ fault. IfRefused fault (λ refusal. P))
+with_each P (Ok a) p = p
+with_each P (Err (Refused r)) p = p
+with_each P (Err NoMemory) p = tt
+
+module _ (text : List ℕ) (before after : List Name) where
+  -- a text with a wrong byte reads as no tree
+  pub none_by_bytes : (fault : TextFault) → IfRefused fault (λ refusal. IsRefusal text refusal) → IfRefused fault (λ refusal. LeavesNames text before after)
+  none_by_bytes (Refused r) h = λ tokens tree right reads within. absurd (refused_is_wrong text r h right)
+  none_by_bytes NoMemory h = tt
+
+  -- nor does one whose tokens are no program within the limits
+  pub none_by_tokens : (tokens : List Token) (fault : TextFault) → Cuts text tokens → IsFaultOf tokens fault → IfRefused fault (λ refusal. LeavesNames text before after)
+  none_by_tokens ts (Refused r) cut (n, token, at, pos, h) = λ tokens tree right reads within.
+      let same = ap kinds_of (one_cut text ts tokens cut reads.cut) in
+      let P : List Kind → Type 0 = λ k. IsRefusedAt k n r.code in
+      absurd (refused_derive_nothing (kinds_of tokens) n r.code (subst P same h) (trees_derive tokens tree reads.is_tree) within)
+  none_by_tokens ts NoMemory cut h = tt
+
+  names_left : (ts : List Token) (tree : Clauses) → Reads text ts tree → after ≡ names_read before (words_of text ts) → LeavesNames text before after
+  names_left ts tree reads h tokens other right also within =
+      h ∙ ap (λ z. names_read before (words_of text z)) (one_cut text ts tokens reads.cut also.cut)
+
+  pub names_with_each : {A : Type 0} (ts : List Token) (tree : Clauses) (x : Result A TextFault) → Reads text ts tree
+      → MatchResult x (λ plain. after ≡ names_read before (words_of text ts)) (λ fault. IfRefused fault (λ refusal. after ≡ names_read before (words_of text ts)))
+      → MatchResult x (λ read. LeavesNames text before after) (λ fault. IfRefused fault (λ refusal. LeavesNames text before after))
+  names_with_each ts tree (Ok a) reads h = names_left ts tree reads h
+  names_with_each ts tree (Err (Refused r)) reads h = names_left ts tree reads h
+  names_with_each ts tree (Err NoMemory) reads h = tt
+
 module _ (text : List ℕ) (names : List Name) where
+  pub bytes_refused : (fault : TextFault) → IfRefused fault (λ refusal. IsRefusal text refusal) → IfRefused fault (IsRefusedAs text names)
+  bytes_refused (Refused refusal) h = by_bytes h
+  bytes_refused NoMemory h = tt
+
   pub tokens_refused : (tokens : List Token) (fault : TextFault) → NothingWrong text → Cuts text tokens → IsFaultOf tokens fault → IfRefused fault (IsRefusedAs text names)
   tokens_refused tokens (Refused refusal) right cut h = by_tokens tokens right cut h
   tokens_refused tokens NoMemory right cut h = tt

@@ -9,6 +9,7 @@ use Rattle.lmn_base.specs.Firsts.{Row, NoneApplies, RefusedBy}
 use Rattle.lmn_base.specs.LinkCodes.{LinkFault, IsFirstFault}
 use Rattle.lmn_base.specs.RuleCodes.{rule_rows}
 use Rattle.lmn_congruence.specs.Rules.{Name}
+use Rattle.lmn_expand.specs.NameLists.{names_read}
 use Rattle.lmn_expand.specs.Outside.{outside_rules}
 use Rattle.lmn_grammar.specs.Refusing.{IsWithin}
 use Rattle.lmn_guards.specs.Accepted.{IsAccepted}
@@ -17,6 +18,7 @@ use Rattle.lmn_guards.specs.Plans.{IsPlan}
 use Rattle.lmn_guards.specs.declared.plan.GuardPlan.{GuardPlan}
 use Rattle.lmn_lexer.specs.Cutting.{Cuts}
 use Rattle.lmn_lexer.specs.Faults.{IsRefusal, NothingWrong}
+use Rattle.lmn_lexer.specs.Laying.{words_of}
 use Rattle.lmn_lexer.specs.declared.token.Token.{Token}
 use Rattle.lmn_parser.specs.Parsing.{IsFaultOf, kinds_of}
 use Rattle.lmn_parser.specs.Readings.{Reads}
@@ -33,6 +35,12 @@ pub record ReadsAs (text : List ℕ) (names : List Name) (plain : Plain) : Type 
   pub reads : Reads text tokens tree
   pub within : IsWithin (kinds_of tokens)
   pub is_plain : IsPlain text tokens tree names plain
+
+-- The list of names once the text is read: behind the names before, those that abbreviations bring in and those of the text. Where
+-- the text reads as no tree within the limits nothing is said.
+abbrev pub LeavesNames : List ℕ → List Name → List Name → Type 0
+LeavesNames text before after = (tokens : List Token) (tree : Clauses) → NothingWrong text → Reads text tokens tree → IsWithin (kinds_of tokens)
+    → after ≡ names_read before (words_of text tokens)
 
 -- what is asked of a rule, in order: first of its size, its head and its contexts, and then of its guard
 abbrev pub rows_of_rule : List RuleTree → RuleTree → List Row

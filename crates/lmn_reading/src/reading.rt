@@ -5,14 +5,16 @@ ghost use Rattle.lmn_base.specs.Refusals.{IfRefused};
 ghost use Rattle.lmn_expand.specs.Glossaries.{GrowsBy};
 ghost use Rattle.lmn_expand.specs.Outside.{outside_rules};
 ghost use Rattle.lmn_guards.specs.Plans.{IsPlan};
+ghost use Rattle.lmn_lexer.specs.Cutting.{Cuts};
+ghost use Rattle.lmn_lexer.specs.Faults.{NothingWrong};
 ghost use Rattle.lmn_plain.specs.Plains.{Each};
-ghost use Rattle.lmn_reading.specs.Texts.{IsAcceptedAs, IsRefusedAs, ReadsAs, rows_of_rule, rows_of_rules};
+ghost use Rattle.lmn_reading.specs.Texts.{IsAcceptedAs, IsRefusedAs, LeavesNames, ReadsAs, rows_of_rule, rows_of_rules};
 
 use lmn_base::{Names, NoMemory, Plain, Rows, TextFault};
 use lmn_contexts::check_rule;
 use lmn_expand::flatten;
 use lmn_guards::{GuardPlan, analyse};
-use lmn_lexer::lex;
+use lmn_lexer::{Tokens, lex};
 use lmn_linkcheck::check_links;
 use lmn_parser::parse;
 use std::alloc::Global;
@@ -38,6 +40,7 @@ pub struct Accepted {
 pub fn read(alloc: Global, text: &[u8], names: &mut Names) -> Result<Accepted, TextFault>
     requires room { length names.old + (length text.now + 4) ≤ 2 ^ 32 }
     ensures grows { GrowsBy (length text.now + 4) names.old names.new }
+    ensures names { MatchResult result (λ read. LeavesNames text.now names.old names.new) (λ fault. IfRefused fault (λ refusal. LeavesNames text.now names.old names.new)) }
     ensures reads { MatchResult result
         (λ accepted. IsAcceptedAs text.now names.new accepted.plain accepted.plans)
         (λ fault. IfRefused fault (IsRefusedAs text.now names.new)) }
@@ -63,14 +66,36 @@ fn with_plans(alloc: Global, plain: Plain, names: &Names) -> Result<Accepted, Te
 fn plain_of(alloc: Global, text: &[u8], names: &mut Names) -> Result<Plain, TextFault>
     requires room { length names.old + (length text.now + 4) ≤ 2 ^ 32 }
     ensures grows { GrowsBy (length text.now + 4) names.old names.new }
+    ensures names { MatchResult result (λ read. LeavesNames text.now names.old names.new) (λ fault. IfRefused fault (λ refusal. LeavesNames text.now names.old names.new)) }
     ensures reads { MatchResult result
         (λ plain. ReadsAs text.now names.new plain × NoneApplies (outside_rules plain.top ∷ []))
         (λ fault. IfRefused fault (IsRefusedAs text.now names.new)) }
 {
-    let tokens = lex(alloc, text)?;
-    match parse(alloc, &tokens) {
+    match lex(alloc, text) {
         Err(fault) => Err(fault),
-        Ok(tree) => flatten(alloc, text, &tokens, &tree, names),
+        Ok(tokens) => plain_of_tokens(alloc, text, &tokens, names),
+    }
+}
+
+/// The plain of a text that is cut into these tokens, in which nothing is wrong.
+fn plain_of_tokens(
+    alloc: Global,
+    text: &[u8],
+    tokens: &Tokens,
+    names: &mut Names,
+) -> Result<Plain, TextFault>
+    requires right { NothingWrong text.now }
+    requires cut { Cuts text.now tokens.now }
+    requires room { length names.old + (length tokens.now + 3) ≤ 2 ^ 32 }
+    ensures grows { GrowsBy (length tokens.now + 3) names.old names.new }
+    ensures names { MatchResult result (λ read. LeavesNames text.now names.old names.new) (λ fault. IfRefused fault (λ refusal. LeavesNames text.now names.old names.new)) }
+    ensures reads { MatchResult result
+        (λ plain. ReadsAs text.now names.new plain × NoneApplies (outside_rules plain.top ∷ []))
+        (λ fault. IfRefused fault (IsRefusedAs text.now names.new)) }
+{
+    match parse(alloc, tokens) {
+        Err(fault) => Err(fault),
+        Ok(tree) => flatten(alloc, text, tokens, &tree, names),
     }
 }
 

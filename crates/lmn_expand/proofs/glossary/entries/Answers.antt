@@ -1,5 +1,5 @@
 use Rattle.std.proofs.Common.{arith, ap, length, refl, ◌∙◌}
-use Rattle.lmn_expand.proofs.GlossaryLemmas.{grown_length, grows_less, grows_more, has_entries, nothing_so_far, so_far_next}
+use Rattle.lmn_expand.proofs.GlossaryLemmas.{grown_length, grows_less, grows_more, has_entries, names_done, nothing_so_far, so_far_next}
 use Rattle.lmn_expand.proofs.glossary.entries.Goals as goal
 
 pub loop-token-init : goal.loop-token-init
@@ -25,7 +25,7 @@ pub loop-token-preserved : goal.loop-token-preserved
 loop-token-preserved c =
     so_far_next c.args.text.now c.args.names.now c.loop-token.names c.spelled.new.names c.new-links.result c.loop-token.links c.spelled.new.links
     c.loop-token.token-index c.args.tokens.now _ c.token-token.result c.loop-token.entries c.push.new.self c.in_ok-meaning.meaning _
-    c.loop-token-test.true (c.token-token.ensures ∙ c.token-item.is) c.loop-token.invariant c.spelled.ensures.grows c.spelled.ensures.links c.in_ok-meaning.ensures.meaning refl c.in_ok-push.ensures.ok
+    c.loop-token-test.true (c.token-token.ensures ∙ c.token-item.is) c.loop-token.invariant c.spelled.ensures.grows c.spelled.ensures.links c.in_ok-meaning.ensures.names c.in_ok-meaning.ensures.meaning refl c.in_ok-push.ensures.ok
 
 pub returns-clause-grows : goal.returns-clause-grows
 returns-clause-grows c = grows_less c.args.names.now c.loop-token.names c.loop-token.auto.token-index-end c.loop-token.invariant.names_grown
@@ -34,3 +34,8 @@ pub returns-clause-entries : goal.returns-clause-entries
 returns-clause-entries c =
     has_entries c.args.text.now c.args.tokens.now c.args.names.now c.loop-token.names c.new-links.result c.loop-token.links c.loop-token.token-index c.loop-token.entries
     c.loop-token-test.false c.known.ensures c.known-2.ensures c.loop-token.invariant
+
+pub returns-clause-names : goal.returns-clause-names
+returns-clause-names c =
+    names_done c.args.text.now c.args.tokens.now c.args.names.now c.loop-token.names c.new-links.result c.loop-token.links c.loop-token.token-index c.loop-token.entries
+    c.loop-token-test.false c.loop-token.invariant

@@ -1,4 +1,4 @@
-use Rattle.lmn_expand.proofs.GlossaryLemmas.{quoted_meaning, quoted_short}
+use Rattle.lmn_expand.proofs.GlossaryLemmas.{quoted_meaning, quoted_put, quoted_short}
 use Rattle.lmn_lexer.specs.Values.{bytes_of}
 use Rattle.lmn_expand.proofs.glossary.spelled.Goals as goal
 
@@ -12,3 +12,9 @@ returns-in_ok-name-in-Quoted-clause-meaning c =
     quoted_meaning c.named_by.result c.named_by.new.names c.args.links.now c.args.token.kind (bytes_of c.args.text.now c.args.token) c.bytes_of-bytes.result.now
     c.in_ok-name-in-Quoted.name c.as_slice.result.now c.in-Quoted.is c.bytes_of-bytes.ensures c.in_ok-name-in-Quoted.ensures c.as_slice.ensures
     c.named_by.ensures.meaning
+
+pub returns-in_ok-name-in-Quoted-clause-names : goal.returns-in_ok-name-in-Quoted-clause-names
+returns-in_ok-name-in-Quoted-clause-names c =
+    quoted_put c.named_by.result c.args.names.now c.named_by.new.names c.args.token.kind (bytes_of c.args.text.now c.args.token) c.bytes_of-bytes.result.now
+    c.in_ok-name-in-Quoted.name c.as_slice.result.now c.in-Quoted.is c.bytes_of-bytes.ensures c.in_ok-name-in-Quoted.ensures c.as_slice.ensures
+    c.named_by.ensures.names

@@ -2,7 +2,7 @@ use Rattle.std.proofs.Common.{List, subst, sym}
 use Rattle.std.specs.List.{AllByRecursion}
 use Rattle.lmn_lexer.specs.declared.token.Token.{Token}
 use Rattle.lmn_expand.specs.Glossaries.{HasEntries, IsRightToken}
-use Rattle.lmn_expand.proofs.GlossaryLemmas.{grows_four, room_for_links, read_glossary, tokens_are_right}
+use Rattle.lmn_expand.proofs.GlossaryLemmas.{grows_four, names_chain, room_for_links, read_glossary, tokens_are_right}
 use Rattle.lmn_expand.proofs.glossary.Glossary.read.Goals as goal
 
 pub entries-requires-clause-right : goal.entries-requires-clause-right
@@ -29,3 +29,8 @@ returns-clause-glossary c =
     read_glossary c.args.text.now c.args.tokens.now c.put.new.names c.put-2.new.names c.put-3.new.names c.entries.new.names _
     (subst P c.as_slice.ensures c.in_ok-entries.ensures.entries) c.in_ok-cell.ensures.number c.in_ok-empty.ensures.number c.in_ok-plus.ensures.number
     c.put-2.ensures.grows c.put-3.ensures.grows c.entries.ensures.grows
+
+pub returns-clause-names : goal.returns-clause-names
+returns-clause-names c =
+    names_chain c.args.names.now c.put.new.names c.put-2.new.names c.put-3.new.names c.entries.new.names c.args.text.now c.args.tokens.now c.as_slice.result.now c.as_slice.ensures
+    c.in_ok-cell.ensures.names c.in_ok-empty.ensures.names c.in_ok-plus.ensures.names c.in_ok-entries.ensures.names

@@ -1,0 +1,237 @@
+-- How often contexts are used, by their names and forms, in an accepted rule.
+use Rattle.std.proofs.Common.{ℕ, zero, suc, ◌≡◌, ◌≤◌, ◌+◌, ◌==◌, ◌⊎◌, inl, inr, ◌&&◌, Bool, true, false, cond, List, [], ◌∷◌, ◌++◌, length, Contains, refl, sym, ap, subst, ◌∙◌, arith}
+use Rattle.std.specs.List.{flat_map, list_any}
+use Rattle.std.proofs.lemmas.List.Concat.{flat_map-append}
+use Rattle.lmn_base.specs.declared.item.Form.{Form}
+use Rattle.lmn_base.specs.declared.item.Form.TheVariants as form
+use Rattle.lmn_base.specs.declared.item.FormedUse.{FormedUse}
+use Rattle.lmn_base.specs.declared.item.Item.{Item}
+use Rattle.lmn_base.specs.declared.item.Item.TheVariants as item
+use Rattle.lmn_base.specs.declared.level.CtxUse.{CtxUse}
+use Rattle.lmn_base.specs.declared.refusal.Pos.{Pos}
+use Rattle.lmn_base.specs.declared.rule.RuleTree.{RuleTree}
+use Rattle.lmn_base.specs.Items.{items_of, guard_items, rule_items}
+use Rattle.lmn_base.specs.RuleCodes.{is_bare, bare_use, rule_use, is_left_of}
+use Rattle.lmn_base.specs.Uses.{use_of, has_use, is_some_place}
+use Rattle.lmn_guards.specs.Accepted.{IsInOrder}
+use Rattle.lmn_guards.specs.GuardCodes.{in_head}
+use Rattle.lmn_accepted.proofs.Listed.{times, times_both, some_of, alone}
+use Rattle.lmn_accepted.proofs.Items.{bare_name, typed_name, rule_context_name}
+use Rattle.lmn_accepted.proofs.Expressions.{or_either, typed_is}
+use Rattle.lmn_accepted.proofs.Types.{left_used_there}
+
+-- ---- counts
+
+some_length : (ps : List Pos) → is_some_place ps ≡ true → 1 ≤ length ps
+some_length [] e = absurd (cc)
+some_length (p ∷ ps) e = omega arith
+
+length_some : (ps : List Pos) → 1 ≤ length ps → is_some_place ps ≡ true
+length_some [] l = absurd (omega (arith, l))
+length_some (p ∷ ps) l = refl
+
+-- the uses of a context, bare and typed
+pub use_count : (n : ℕ) (xs : List Item) → length (flat_map (use_of n) xs) ≡ times n (flat_map bare_name xs) + times n (flat_map typed_name xs)
+use_count n [] = refl
+use_count n (item.Atom f p ∷ xs) = use_count n xs
+use_count n (item.RuleContext u ∷ xs) = use_count n xs
+use_count n (item.Rule k ∷ xs) = use_count n xs
+use_count n (item.Context u ∷ xs) = by u.form (use_count n xs)
+  where
+    by : (f : Form) → length (flat_map (use_of n) xs) ≡ times n (flat_map bare_name xs) + times n (flat_map typed_name xs)
+        → length ((cond (u.name == n) (u.pos ∷ []) []) ++ flat_map (use_of n) xs)
+        ≡ times n (cond (is_bare f) (u.name ∷ []) [] ++ flat_map bare_name xs) + times n (cond (is_bare f) [] (u.name ∷ []) ++ flat_map typed_name xs)
+    by form.Bare h = on (u.name == n)
+      where
+        on : (b : Bool) → length (cond b (u.pos ∷ []) [] ++ flat_map (use_of n) xs) ≡ cond b (suc (times n (flat_map bare_name xs))) (times n (flat_map bare_name xs)) + times n (flat_map typed_name xs)
+        on true = omega (arith, h)
+        on false = h
+    by form.Typed h = on (u.name == n)
+      where
+        on : (b : Bool) → length (cond b (u.pos ∷ []) [] ++ flat_map (use_of n) xs) ≡ times n (flat_map bare_name xs) + cond b (suc (times n (flat_map typed_name xs))) (times n (flat_map typed_name xs))
+        on true = omega (arith, h)
+        on false = h
+
+pub bare_count : (n : ℕ) (xs : List Item) → length (flat_map (bare_use n) xs) ≡ times n (flat_map bare_name xs)
+bare_count n [] = refl
+bare_count n (item.Atom f p ∷ xs) = bare_count n xs
+bare_count n (item.RuleContext u ∷ xs) = bare_count n xs
+bare_count n (item.Rule k ∷ xs) = bare_count n xs
+bare_count n (item.Context u ∷ xs) = by u.form (bare_count n xs)
+  where
+    by : (f : Form) → length (flat_map (bare_use n) xs) ≡ times n (flat_map bare_name xs)
+        → length (cond ((u.name == n) && is_bare f) (u.pos ∷ []) [] ++ flat_map (bare_use n) xs) ≡ times n (cond (is_bare f) (u.name ∷ []) [] ++ flat_map bare_name xs)
+    by form.Bare h = on (u.name == n)
+      where
+        on : (b : Bool) → length (cond (b && true) (u.pos ∷ []) [] ++ flat_map (bare_use n) xs) ≡ cond b (suc (times n (flat_map bare_name xs))) (times n (flat_map bare_name xs))
+        on true = ap suc h
+        on false = h
+    by form.Typed h = on (u.name == n)
+      where
+        on : (b : Bool) → length (cond (b && false) (u.pos ∷ []) [] ++ flat_map (bare_use n) xs) ≡ times n (flat_map bare_name xs)
+        on true = h
+        on false = h
+
+pub rule_count : (n : ℕ) (xs : List Item) → length (flat_map (rule_use n) xs) ≡ times n (flat_map rule_context_name xs)
+rule_count n [] = refl
+rule_count n (item.Atom f p ∷ xs) = rule_count n xs
+rule_count n (item.Context u ∷ xs) = rule_count n xs
+rule_count n (item.Rule k ∷ xs) = rule_count n xs
+rule_count n (item.RuleContext u ∷ xs) = on (u.name == n) (rule_count n xs)
+  where
+    on : (b : Bool) → length (flat_map (rule_use n) xs) ≡ times n (flat_map rule_context_name xs)
+        → length (cond b (u.pos ∷ []) [] ++ flat_map (rule_use n) xs) ≡ cond b (suc (times n (flat_map rule_context_name xs))) (times n (flat_map rule_context_name xs))
+    on true h = ap suc h
+    on false h = h
+
+-- ---- items that use a name
+
+pub bare_is : (x : Item) (n : ℕ) → 1 ≤ times n (bare_name x) → (u : FormedUse) × (x ≡ item.Context u) × (u.form ≡ form.Bare) × (u.name ≡ n)
+bare_is (item.Atom f p) n h = absurd (omega (arith, h))
+bare_is (item.Context u) n h = by u.form refl h
+  where
+    by : (f : Form) → u.form ≡ f → 1 ≤ times n (cond (is_bare f) (u.name ∷ []) []) → (v : FormedUse) × (item.Context u ≡ item.Context v) × (v.form ≡ form.Bare) × (v.name ≡ n)
+    by form.Bare e h = (u, refl, e, alone n u.name h)
+    by form.Typed e h = absurd (omega (arith, h))
+bare_is (item.RuleContext u) n h = absurd (omega (arith, h))
+bare_is (item.Rule k) n h = absurd (omega (arith, h))
+
+rule_context_is : (x : Item) (n : ℕ) → 1 ≤ times n (rule_context_name x) → (u : CtxUse) × (x ≡ item.RuleContext u) × (u.name ≡ n)
+rule_context_is (item.Atom f p) n h = absurd (omega (arith, h))
+rule_context_is (item.Context u) n h = absurd (omega (arith, h))
+rule_context_is (item.RuleContext u) n h = (u, refl, alone n u.name h)
+rule_context_is (item.Rule k) n h = absurd (omega (arith, h))
+
+abbrev Uses : List Item → (FormedUse → Type 0) → Type 0
+Uses xs P = (u : FormedUse) × Contains xs (item.Context u) × P u
+
+pub some_bare : (n : ℕ) (xs : List Item) → 1 ≤ times n (flat_map bare_name xs) → Uses xs (λ u. (u.form ≡ form.Bare) × (u.name ≡ n))
+some_bare n xs h =
+    let found = some_of bare_name n xs h in
+    let u = bare_is found.0 n found.2 in
+    (u.0, subst (Contains xs) u.1 found.1, (u.2, u.3))
+
+pub some_typed : (n : ℕ) (xs : List Item) → 1 ≤ times n (flat_map typed_name xs) → Uses xs (λ u. (u.form ≡ form.Typed) × (u.name ≡ n))
+some_typed n xs h =
+    let found = some_of typed_name n xs h in
+    let u = typed_is found.0 n found.2 in
+    (u.0, subst (Contains xs) u.1 found.1, (u.2, u.3))
+
+pub some_rule_context : (n : ℕ) (xs : List Item) → 1 ≤ times n (flat_map rule_context_name xs) → (u : CtxUse) × Contains xs (item.RuleContext u) × (u.name ≡ n)
+some_rule_context n xs h =
+    let found = some_of rule_context_name n xs h in
+    let u = rule_context_is found.0 n found.2 in
+    (u.0, subst (Contains xs) u.1 found.1, u.2)
+
+-- ---- an accepted rule
+
+module _ (table : List RuleTree) (r : RuleTree) (order : IsInOrder table r) where
+  abbrev pub bare_in : List Item → ℕ → ℕ
+  bare_in xs n = times n (flat_map bare_name xs)
+
+  abbrev pub typed_in : List Item → ℕ → ℕ
+  typed_in xs n = times n (flat_map typed_name xs)
+
+  abbrev H : List Item
+  H = items_of r.head
+
+  abbrev G : List Item
+  G = guard_items r.guard
+
+  abbrev B : List Item
+  B = items_of r.body
+
+  in_three : (f : Item → List ℕ) (n : ℕ) → times n (flat_map f (rule_items r)) ≡ times n (flat_map f (items_of r.head)) + (times n (flat_map f (guard_items r.guard)) + times n (flat_map f (items_of r.body)))
+  in_three f n =
+      let e = ap (times n) (flat_map-append f (items_of r.head) (guard_items r.guard ++ items_of r.body) ∙ ap (λ xs. flat_map f (items_of r.head) ++ xs) (flat_map-append f (guard_items r.guard) (items_of r.body))) in
+      let g = times_both n (flat_map f (items_of r.head)) (flat_map f (guard_items r.guard) ++ flat_map f (items_of r.body)) in
+      let h = times_both n (flat_map f (guard_items r.guard)) (flat_map f (items_of r.body)) in
+      omega (arith, e, g, h)
+
+  -- a context is not bare in one place and typed in another
+  one_form : (n : ℕ) → 1 ≤ times n (flat_map bare_name (rule_items r)) → 1 ≤ times n (flat_map typed_name (rule_items r)) → ⊥
+  one_form n b t =
+      let u = some_bare n (rule_items r) b in
+      let v = some_typed n (rule_items r) t in
+      let same = order.one_form u.0 v.0 u.1 v.1 (u.2.1 ∙ sym v.2.1) in
+      let clash : form.Bare ≡ form.Typed = sym u.2.0 ∙ (same ∙ v.2.0) in
+      cc
+
+  apart : (n : ℕ) → 1 ≤ bare_in (items_of r.head) n + bare_in (items_of r.body) n → 1 ≤ typed_in (items_of r.head) n + (typed_in (guard_items r.guard) n + typed_in (items_of r.body) n) → ⊥
+  apart n b t = one_form n (let e = in_three bare_name n in omega (arith, e, b)) (let e = in_three typed_name n in omega (arith, e, t))
+
+  -- what stands in the head
+  pub in_head_counts : (n : ℕ) → in_head r.head n ≡ true → 1 ≤ bare_in (items_of r.head) n + typed_in (items_of r.head) n
+  in_head_counts n e = let l = some_length (flat_map (use_of n) (items_of r.head)) e in let c = use_count n (items_of r.head) in omega (arith, l, c)
+
+  pub typed_in_head : (n : ℕ) → 1 ≤ typed_in (items_of r.head) n → in_head r.head n ≡ true
+  typed_in_head n l = length_some (flat_map (use_of n) (items_of r.head)) (let c = use_count n (items_of r.head) in omega (arith, l, c))
+
+  pub once_in_head : (n : ℕ) → bare_in (items_of r.head) n + typed_in (items_of r.head) n ≤ 1
+  once_in_head n = let l = order.once_in_head n in let c = use_count n (items_of r.head) in omega (arith, l, c)
+
+  pub rule_context_once : (n : ℕ) → times n (flat_map rule_context_name (items_of r.head)) ≤ 1
+  rule_context_once n = let l = order.rule_context_once_in_head n in let c = rule_count n (items_of r.head) in omega (arith, l, c)
+
+  -- a context of the guard that stands in the head is typed there
+  pub guard_typed : (n : ℕ) → 1 ≤ typed_in (guard_items r.guard) n → in_head r.head n ≡ true → 1 ≤ typed_in (items_of r.head) n
+  guard_typed n g e = by (typed_in (items_of r.head) n) refl
+    where
+      by : (m : ℕ) → typed_in (items_of r.head) n ≡ m → 1 ≤ m
+      by (suc m) q = omega arith
+      by zero q = absurd (let l = in_head_counts n e in apart n (omega (arith, l, q)) (omega (arith, g)))
+
+  -- what a context of the body is
+  body_known : (u : FormedUse) → Contains (items_of r.body) (item.Context u) → (1 ≤ bare_in (items_of r.head) u.name + typed_in (items_of r.head) u.name) ⊎ (list_any (is_left_of u.name) r.guard ≡ true)
+  body_known u c = elim (or_either (has_use u.name (items_of r.head)) (list_any (is_left_of u.name) r.guard) (order.of_the_head u c)) [
+    | inl h ↦ inl (in_head_counts u.name h)
+    | inr h ↦ inr h
+  ]
+
+  -- untyped contexts stand in the body as often as in the head
+  pub kept : (n : ℕ) → bare_in (items_of r.head) n ≡ bare_in (items_of r.body) n
+  kept n = by (bare_in (items_of r.head) n) refl
+    where
+      once : (m : ℕ) → bare_in (items_of r.head) n ≡ suc m → bare_in (items_of r.body) n ≡ 1
+      once m e =
+          let u = some_bare n (items_of r.head) (omega (arith, e)) in
+          let one = order.once_in_body u.0 u.1 u.2.0 in
+          let c = bare_count u.0.name (items_of r.body) in
+          subst (λ k. bare_in (items_of r.body) k ≡ 1) u.2.1 (sym c ∙ one)
+
+      none : bare_in (items_of r.head) n ≡ 0 → (m : ℕ) → bare_in (items_of r.body) n ≡ m → m ≡ 0
+      none e zero q = refl
+      none e (suc m) q = absurd (
+          let u = some_bare n (items_of r.body) (omega (arith, q)) in
+          let known = subst (λ k. (1 ≤ bare_in (items_of r.head) k + typed_in (items_of r.head) k) ⊎ (list_any (is_left_of k) r.guard ≡ true)) u.2.1 (body_known u.0 u.1) in
+          elim known [
+            | inl h ↦ apart n (omega (arith, q)) (omega (arith, h, e))
+            | inr h ↦ (let g = left_used_there [] n r.guard h in apart n (omega (arith, q)) (omega (arith, g)))
+          ]
+          )
+
+      by : (m : ℕ) → bare_in (items_of r.head) n ≡ m → m ≡ bare_in (items_of r.body) n
+      by zero e = sym (none e (bare_in (items_of r.body) n) refl)
+      by (suc m) e = let one = once m e in let few = once_in_head n in omega (arith, one, few, e)
+
+  -- a typed context of the body is typed in the head, or bound
+  pub typed_known : (n : ℕ) → 1 ≤ typed_in (items_of r.body) n → (1 ≤ typed_in (items_of r.head) n) ⊎ (list_any (is_left_of n) r.guard ≡ true)
+  typed_known n h =
+      let u = some_typed n (items_of r.body) h in
+      let known = subst (λ k. (1 ≤ bare_in (items_of r.head) k + typed_in (items_of r.head) k) ⊎ (list_any (is_left_of k) r.guard ≡ true)) u.2.1 (body_known u.0 u.1) in
+      elim known [
+        | inl k ↦ inl (by k (typed_in (items_of r.head) n) refl)
+        | inr k ↦ inr k
+      ]
+    where
+      by : 1 ≤ bare_in (items_of r.head) n + typed_in (items_of r.head) n → (m : ℕ) → typed_in (items_of r.head) n ≡ m → 1 ≤ m
+      by k (suc m) e = omega arith
+      by k zero e = absurd (apart n (omega (arith, k, e)) (omega (arith, h)))
+
+  -- a rule context of the body stands in the head
+  pub rule_context_known : (n : ℕ) → 1 ≤ times n (flat_map rule_context_name (items_of r.body)) → 1 ≤ times n (flat_map rule_context_name (items_of r.head))
+  rule_context_known n h =
+      let u = some_rule_context n (items_of r.body) h in
+      let there = some_length (flat_map (rule_use u.0.name) (items_of r.head)) (order.rule_context_of_the_head u.0 u.1) in
+      let c = rule_count u.0.name (items_of r.head) in
+      subst (λ k. 1 ≤ times k (flat_map rule_context_name (items_of r.head))) u.2 (omega (arith, there, c))

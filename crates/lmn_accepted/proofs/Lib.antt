@@ -1,0 +1,11 @@
+mod Listed
+mod FewLinks
+mod PlanKinds
+mod Items
+mod Trees
+mod Expressions
+mod InTurns
+mod Types
+mod Counts
+mod AcceptedRules
+mod AcceptedTexts

@@ -1,0 +1,226 @@
+-- Levels as trees of the calculus: the contexts, links and rules that stand in them, by the items of the level.
+use Rattle.std.proofs.Common.{ℕ, zero, suc, ◌≡◌, List, [], ◌∷◌, ◌++◌, map, length, refl, sym, ap, subst, ◌∙◌}
+use Rattle.std.specs.List.{AllByRecursion, flat_map}
+use Rattle.std.proofs.lemmas.List.{length-map, map-append}
+use Rattle.std.proofs.lemmas.List.Concat.{flat_map-append}
+use Rattle.lmn_base.specs.declared.functor.Functor.{Functor}
+use Rattle.lmn_base.specs.declared.functor.Label.{Label}
+use Rattle.lmn_base.specs.declared.functor.Label.TheVariants.{Name, Int}
+use Rattle.lmn_base.specs.declared.level.CtxUse.{CtxUse}
+use Rattle.lmn_base.specs.declared.level.Leaf.{Leaf}
+use Rattle.lmn_base.specs.declared.level.Leaf.TheVariants as leaf
+use Rattle.lmn_base.specs.declared.level.Level.{Level}
+use Rattle.lmn_base.specs.declared.level.Level.TheFolds.{fold-roll-Level, ind-Level}
+use Rattle.lmn_base.specs.Items.{leaf_item}
+use Rattle.lmn_base.specs.RuleCodes.{behind_the_first}
+use Rattle.lmn_base.specs.Solids.{connector}
+use Rattle.lmn_adequacy.specs.Accepted.{EachLevel, EachOf, NoConnectorLeaf, AtMostOne, leaves_of, own_contexts, own_rule_contexts, own_rules, all_contexts, contexts_in, all_rule_contexts, rule_contexts_in, typed_links_of, typed_links, typed_links_in, port_links_of, port_links, port_links_in}
+use Rattle.lmn_congruence.specs.Rules as tree
+use Rattle.lmn_congruence.specs.Translation.{atom_of, leaf_of, names_of, levels, rules, level_step, level_of}
+use Rattle.lmn_reduction.specs.Firing.{typed_leaves, typed_contexts, typed_contexts_of}
+use Rattle.lmn_solid.proofs.HeadTrees.{Head, Heads, head, no_head, head_and, heads, head_step, head_at, head_leaves, heads_leaves, head_uses, heads_uses}
+use Rattle.lmn_accepted.proofs.Listed.{all_left, all_right, N}
+use Rattle.lmn_accepted.proofs.Items.{bare_name, typed_name, rule_context_name, rule_number, gathered, gathered_in, own_seconds, bare_own, rule_context_own, typed_own, rule_own}
+
+-- ---- a level as a tree
+
+abbrev mutual
+  pub tree_of : List tree.Name → (ℕ → tree.Rule) → Head → tree.Level
+  tree_of names rule (head leaves membranes contexts rule_contexts rs) =
+      tree.level (map (leaf_of names) leaves) (trees_of names rule membranes)
+      (names_of names contexts) (names_of names rule_contexts) (rules (map rule rs))
+
+  pub trees_of : List tree.Name → (ℕ → tree.Rule) → Heads → tree.Levels
+  trees_of names rule no_head = tree.no_level
+  trees_of names rule (head_and h hs) = tree.level_and (tree_of names rule h) (trees_of names rule hs)
+
+module _ (names : List tree.Name) (rule : ℕ → tree.Rule) where
+  abbrev AsTree : Level → Type 0
+  AsTree l = level_of names rule l ≡ tree_of names rule (head_at l)
+
+  inside_trees : (ls : List ((l : Level) × AsTree l)) → levels (map (level_of names rule) (map (λ e. e.0) ls)) ≡ trees_of names rule (heads (map head_at (map (λ e. e.0) ls)))
+  inside_trees [] = refl
+  inside_trees (e ∷ ls) = λ i. tree.level_and (e.1 i) (inside_trees ls i)
+
+  pub level_tree : (l : Level) → AsTree l
+  level_tree = ind-Level AsTree (λ y z is.
+      let inside = subst (λ l. levels (map (level_of names rule) l.membranes) ≡ trees_of names rule (heads (map head_at l.membranes))) is (inside_trees z.membranes) in
+      rw (fold-roll-Level tree.Level (level_step names rule) y, fold-roll-Level Head head_step y, inside) refl)
+
+-- ---- of the tree
+
+module _ (names : List tree.Name) (rule : ℕ → tree.Rule) where
+  named : (us : List CtxUse) → map (N names) (map (λ u. u.name) us) ≡ names_of names us
+  named [] = refl
+  named (u ∷ us) = ap (λ ns. N names u.name ∷ ns) (named us)
+
+  mutual
+    pub contexts_named : (h : Head) → all_contexts (tree_of names rule h) ≡ map (N names) (flat_map bare_name (head_uses h))
+    contexts_named (head ls hs cs os rs) =
+        (λ i. sym (named cs) i ++ all_contexts_named hs i) ∙ sym (map-append (N names) (map (λ u. u.name) cs) (flat_map bare_name (heads_uses hs)))
+        ∙ sym (ap (map (N names)) (bare_own ls cs os rs (heads_uses hs)))
+
+    all_contexts_named : (hs : Heads) → contexts_in (trees_of names rule hs) ≡ map (N names) (flat_map bare_name (heads_uses hs))
+    all_contexts_named no_head = refl
+    all_contexts_named (head_and h hs) =
+        (λ i. contexts_named h i ++ all_contexts_named hs i) ∙ sym (map-append (N names) (flat_map bare_name (head_uses h)) (flat_map bare_name (heads_uses hs)))
+        ∙ sym (ap (map (N names)) (flat_map-append bare_name (head_uses h) (heads_uses hs)))
+
+  mutual
+    pub rule_contexts_named : (h : Head) → all_rule_contexts (tree_of names rule h) ≡ map (N names) (flat_map rule_context_name (head_uses h))
+    rule_contexts_named (head ls hs cs os rs) =
+        (λ i. sym (named os) i ++ all_rule_contexts_named hs i) ∙ sym (map-append (N names) (map (λ u. u.name) os) (flat_map rule_context_name (heads_uses hs)))
+        ∙ sym (ap (map (N names)) (rule_context_own ls cs os rs (heads_uses hs)))
+
+    all_rule_contexts_named : (hs : Heads) → rule_contexts_in (trees_of names rule hs) ≡ map (N names) (flat_map rule_context_name (heads_uses hs))
+    all_rule_contexts_named no_head = refl
+    all_rule_contexts_named (head_and h hs) =
+        (λ i. rule_contexts_named h i ++ all_rule_contexts_named hs i) ∙ sym (map-append (N names) (flat_map rule_context_name (head_uses h)) (flat_map rule_context_name (heads_uses hs)))
+        ∙ sym (ap (map (N names)) (flat_map-append rule_context_name (head_uses h) (heads_uses hs)))
+
+  atom_skipped : (l : Label) (xs : List ℕ) (ls : List tree.Leaf) → typed_leaves (atom_of names l xs ∷ ls) ≡ typed_leaves ls
+  atom_skipped (Name zero) [] ls = refl
+  atom_skipped (Name zero) (x ∷ []) ls = refl
+  atom_skipped (Name zero) (x ∷ (y ∷ [])) ls = refl
+  atom_skipped (Name zero) (x ∷ (y ∷ (z ∷ xs))) ls = refl
+  atom_skipped (Name (suc n)) xs ls = refl
+  atom_skipped (Int z) xs ls = refl
+
+  leaves_named : (ls : List Leaf) → typed_leaves (map (leaf_of names) ls) ≡ map (N names) (flat_map typed_name (map leaf_item ls))
+  leaves_named [] = refl
+  leaves_named (leaf.Atom f os p ∷ ls) = atom_skipped f.label (map (λ o. o.link) os) (map (leaf_of names) ls) ∙ leaves_named ls
+  leaves_named (leaf.Typed n o p ∷ ls) = ap (λ ns. N names n ∷ ns) (leaves_named ls)
+
+  mutual
+    pub typed_named : (h : Head) → typed_contexts (tree_of names rule h) ≡ map (N names) (flat_map typed_name (head_uses h))
+    typed_named (head ls hs cs os rs) =
+        (λ i. leaves_named ls i ++ all_typed_named hs i) ∙ sym (map-append (N names) (flat_map typed_name (map leaf_item ls)) (flat_map typed_name (heads_uses hs)))
+        ∙ sym (ap (map (N names)) (typed_own ls cs os rs (heads_uses hs)))
+
+    all_typed_named : (hs : Heads) → typed_contexts_of (trees_of names rule hs) ≡ map (N names) (flat_map typed_name (heads_uses hs))
+    all_typed_named no_head = refl
+    all_typed_named (head_and h hs) =
+        (λ i. typed_named h i ++ all_typed_named hs i) ∙ sym (map-append (N names) (flat_map typed_name (head_uses h)) (flat_map typed_name (heads_uses hs)))
+        ∙ sym (ap (map (N names)) (flat_map-append typed_name (head_uses h) (heads_uses hs)))
+
+  -- ---- rules
+
+  no_rules_here : (rs : List ℕ) → rs ≡ [] → rules (map rule rs) ≡ tree.no_rule
+  no_rules_here rs e = ap (λ ks. rules (map rule ks)) e
+
+  nothing_left : {A : Type 0} (xs ys : List A) → xs ++ ys ≡ [] → (xs ≡ []) × (ys ≡ [])
+  nothing_left [] ys e = (refl, e)
+  nothing_left (x ∷ xs) ys e = absurd (cc)
+
+  mutual
+    pub no_rules_stand : (h : Head) → flat_map rule_number (head_uses h) ≡ [] → EachLevel (λ l. own_rules l ≡ tree.no_rule) (tree_of names rule h)
+    no_rules_stand (head ls hs cs os rs) e =
+        let apart = nothing_left rs (flat_map rule_number (heads_uses hs)) (sym (rule_own ls cs os rs (heads_uses hs)) ∙ e) in
+        (no_rules_here rs apart.0, no_rules_in hs apart.1)
+
+    no_rules_in : (hs : Heads) → flat_map rule_number (heads_uses hs) ≡ [] → EachOf (λ l. own_rules l ≡ tree.no_rule) (trees_of names rule hs)
+    no_rules_in no_head e = tt
+    no_rules_in (head_and h hs) e =
+        let apart = nothing_left (flat_map rule_number (head_uses h)) (flat_map rule_number (heads_uses hs)) (sym (flat_map-append rule_number (head_uses h) (heads_uses hs)) ∙ e) in
+        (no_rules_stand h apart.0, no_rules_in hs apart.1)
+
+  -- ---- connectors
+
+  -- an atom with as many links as its arity, and no connector
+  abbrev pub IsPlainLeaf : Leaf → Type 0
+  IsPlainLeaf (leaf.Atom f os p) = (length os ≡ f.arity) × (¬ (f ≡ connector))
+  IsPlainLeaf (leaf.Typed n o p) = Unit {0}
+
+  -- such an atom is no connector of the calculus
+  plain_atom : (f : Functor) (xs : List ℕ) (ls : List tree.Leaf) → length xs ≡ f.arity → ¬ (f ≡ connector)
+      → (NoConnectorLeaf ls → NoConnectorLeaf (atom_of names f.label xs ∷ ls)) × (port_links_of (atom_of names f.label xs ∷ ls) ≡ xs ++ port_links_of ls) × (typed_links_of (atom_of names f.label xs ∷ ls) ≡ typed_links_of ls)
+  plain_atom f xs ls e other = by f.label refl xs e
+    where
+      by : (l : Label) → f.label ≡ l → (ys : List ℕ) → length ys ≡ f.arity
+          → (NoConnectorLeaf ls → NoConnectorLeaf (atom_of names l ys ∷ ls)) × (port_links_of (atom_of names l ys ∷ ls) ≡ ys ++ port_links_of ls) × (typed_links_of (atom_of names l ys ∷ ls) ≡ typed_links_of ls)
+      by (Name zero) q [] e = (λ k. k, refl, refl)
+      by (Name zero) q (x ∷ []) e = (λ k. k, refl, refl)
+      by (Name zero) q (x ∷ (y ∷ [])) e = absurd (other (λ i. record { label = q i; arity = sym e i }))
+      by (Name zero) q (x ∷ (y ∷ (z ∷ ys))) e = (λ k. k, refl, refl)
+      by (Name (suc n)) q ys e = (λ k. k, refl, refl)
+      by (Int z) q ys e = (λ k. k, refl, refl)
+
+  -- the links of typed contexts, and of atoms
+  abbrev pub typed_link : Leaf → List ℕ
+  typed_link (leaf.Atom f os p) = []
+  typed_link (leaf.Typed n o p) = o.link ∷ []
+
+  abbrev pub atom_links : Leaf → List ℕ
+  atom_links (leaf.Atom f os p) = map (λ o. o.link) os
+  atom_links (leaf.Typed n o p) = []
+
+  record LeavesAre (ls : List Leaf) : Type 0 where
+    no_connector : NoConnectorLeaf (map (leaf_of names) ls)
+    typed : typed_links_of (map (leaf_of names) ls) ≡ flat_map typed_link ls
+    ports : port_links_of (map (leaf_of names) ls) ≡ flat_map atom_links ls
+
+  leaves_are : (ls : List Leaf) → AllByRecursion IsPlainLeaf ls → LeavesAre ls
+  leaves_are [] h = record { no_connector = tt; typed = refl; ports = refl }
+  leaves_are (leaf.Atom f os p ∷ ls) h =
+      let links = map (λ o. o.link) os in
+      let one = plain_atom f links (map (leaf_of names) ls) (length-map os (λ o. o.link) ∙ h.0.0) h.0.1 in
+      let rest = leaves_are ls h.1 in
+      record { no_connector = one.0 rest.no_connector; typed = one.2 ∙ rest.typed; ports = one.1 ∙ ap (λ xs. links ++ xs) rest.ports }
+  leaves_are (leaf.Typed n o p ∷ ls) h =
+      let rest = leaves_are ls h.1 in
+      record { no_connector = rest.no_connector; typed = ap (λ xs. o.link ∷ xs) rest.typed; ports = rest.ports }
+
+  pub record LevelIs (h : Head) : Type 0 where
+    pub no_connectors : EachLevel (λ l. NoConnectorLeaf (leaves_of l)) (tree_of names rule h)
+    pub typed : typed_links (tree_of names rule h) ≡ flat_map typed_link (head_leaves h)
+    pub ports : port_links (tree_of names rule h) ≡ flat_map atom_links (head_leaves h)
+
+  record LevelsAre (hs : Heads) : Type 0 where
+    no_connectors : EachOf (λ l. NoConnectorLeaf (leaves_of l)) (trees_of names rule hs)
+    typed : typed_links_in (trees_of names rule hs) ≡ flat_map typed_link (heads_leaves hs)
+    ports : port_links_in (trees_of names rule hs) ≡ flat_map atom_links (heads_leaves hs)
+
+  mutual
+    pub level_is : (h : Head) → AllByRecursion IsPlainLeaf (head_leaves h) → LevelIs h
+    level_is (head ls hs cs os rs) k =
+        let here = leaves_are ls (all_left IsPlainLeaf ls (heads_leaves hs) k) in
+        let below = levels_are hs (all_right IsPlainLeaf ls (heads_leaves hs) k) in
+        record {
+          no_connectors = (here.no_connector, below.no_connectors);
+          typed = (λ i. here.typed i ++ below.typed i) ∙ sym (flat_map-append typed_link ls (heads_leaves hs));
+          ports = (λ i. here.ports i ++ below.ports i) ∙ sym (flat_map-append atom_links ls (heads_leaves hs));
+        }
+
+    levels_are : (hs : Heads) → AllByRecursion IsPlainLeaf (heads_leaves hs) → LevelsAre hs
+    levels_are no_head k = record { no_connectors = tt; typed = refl; ports = refl }
+    levels_are (head_and h hs) k =
+        let one = level_is h (all_left IsPlainLeaf (head_leaves h) (heads_leaves hs) k) in
+        let rest = levels_are hs (all_right IsPlainLeaf (head_leaves h) (heads_leaves hs) k) in
+        record {
+          no_connectors = (one.no_connectors, rest.no_connectors);
+          typed = (λ i. one.typed i ++ rest.typed i) ∙ sym (flat_map-append typed_link (head_leaves h) (heads_leaves hs));
+          ports = (λ i. one.ports i ++ rest.ports i) ∙ sym (flat_map-append atom_links (head_leaves h) (heads_leaves hs));
+        }
+
+  -- ---- contexts of one membrane
+
+  abbrev pub Few : tree.Level → Type 0
+  Few l = AtMostOne (own_contexts l) × AtMostOne (own_rule_contexts l)
+
+  at_most_one : (us : List CtxUse) → behind_the_first us ≡ [] → AtMostOne (names_of names us)
+  at_most_one [] e = tt
+  at_most_one (u ∷ []) e = tt
+  at_most_one (u ∷ (v ∷ us)) e = absurd (cc)
+
+  mutual
+    few_here : (h : Head) → AllByRecursion (λ ps. ps ≡ []) (gathered own_seconds h) → EachLevel Few (tree_of names rule h)
+    few_here (head ls hs cs os rs) k =
+        let apart = nothing_left (behind_the_first cs) (behind_the_first os) k.0 in
+        ((at_most_one cs apart.0, at_most_one os apart.1), few_in hs k.1)
+
+    pub few_in : (hs : Heads) → AllByRecursion (λ ps. ps ≡ []) (gathered_in own_seconds hs) → EachOf Few (trees_of names rule hs)
+    few_in no_head k = tt
+    few_in (head_and h hs) k = (
+      few_here h (all_left (λ ps. ps ≡ []) (gathered own_seconds h) (gathered_in own_seconds hs) k),
+      few_in hs (all_right (λ ps. ps ≡ []) (gathered own_seconds h) (gathered_in own_seconds hs) k),
+    )
