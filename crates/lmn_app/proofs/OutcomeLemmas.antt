@@ -95,3 +95,24 @@ accepted_answered Words told words before after oo on ob oa status eo en eb ea c
 accepted_answered ReadFault told words before after oo on ob oa status eo en eb ea c e (inl h) form read out err = absurd (read c.1)
 accepted_answered WriteFault told words before after oo on ob oa status eo en eb ea c e (inl h) form read out err = absurd (out e.1)
 accepted_answered NoMemory told words before after oo on ob oa status eo en eb ea c e (inl h) form read out err = when_told told _ (λ text a. inr (inr h.0))
+
+-- a text that isn't accepted is answered by 2, 4, 5 or 6
+
+run_accepted : (told : Option (Option (List ℕ))) (A : Type 0) (printed : List ℕ) (s : Stop) (n : ℕ) → IsToldAnd told (λ bytes. IsRun bytes printed s n)
+    → IfTold told (λ text. ¬ (IsAccepted text) → A)
+run_accepted None A printed s n h = tt
+run_accepted (Some None) A printed s n h = tt
+run_accepted (Some (Some text)) A printed s n h = λ none. absurd (none (h.names, h.plain, h.plans, h.accepted))
+
+pub unaccepted_answered : (ending : Ending) (told : Option (Option (List ℕ))) (words : List (String Global)) (before after : ℕ) (out_old out_new : Option (List ℕ)) (out_before out_after status : ℕ)
+    (err_old err_new : Option (List ℕ)) (err_before err_after : ℕ) → Causes ending told words before after → Effects ending told out_old out_new out_before out_after
+    → Concludes ending status err_old err_new err_before err_after → InForm words
+    → IfTold told (λ text. ¬ (IsAccepted text) → (status ≡ 2) ⊎ (status ≡ 4) ⊎ (status ≡ 5) ⊎ (status ≡ 6))
+unaccepted_answered ending told words before after oo on ob oa status eo en eb ea c e (inr (s, p, rose, line)) form = when_told told _ (λ text n. inr (inr (inl s)))
+unaccepted_answered Done told words before after oo on ob oa status eo en eb ea c e (inl h) form = let w = e.0 in run_accepted told _ w.0 stop.Irreducible w.1 w.2
+unaccepted_answered Budget told words before after oo on ob oa status eo en eb ea c e (inl h) form = let w = e.0 in run_accepted told _ w.0 stop.Budget w.1 w.2
+unaccepted_answered (Refused r) told words before after oo on ob oa status eo en eb ea c e (inl h) form = when_told told _ (λ text n. inl h.0)
+unaccepted_answered Words told words before after oo on ob oa status eo en eb ea c e (inl h) form = absurd (c form)
+unaccepted_answered ReadFault told words before after oo on ob oa status eo en eb ea c e (inl h) form = when_told told _ (λ text n. inr (inl h.0))
+unaccepted_answered WriteFault told words before after oo on ob oa status eo en eb ea c e (inl h) form = when_told told _ (λ text n. inr (inr (inl h.0)))
+unaccepted_answered NoMemory told words before after oo on ob oa status eo en eb ea c e (inl h) form = when_told told _ (λ text n. inr (inr (inr h.0)))

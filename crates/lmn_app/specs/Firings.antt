@@ -1,7 +1,7 @@
 -- How the rules of a process of atoms without links fire, and what that is in the calculus.
 use Rattle.std.specs.Prelude.{◌≡◌, ◌↔◌, ℕ, ◌+◌, ◌<◌, ◌≤◌, List, [], ◌∷◌, ◌++◌, cond}
 use Rattle.lmn_congruence.specs.Orders.{Among}
-use Rattle.lmn_congruence.specs.Process.{Process, Closed}
+use Rattle.lmn_congruence.specs.Process.{Closed}
 use Rattle.lmn_congruence.specs.Rules.{Label}
 use Rattle.lmn_reduction.specs.Chains.{Chain, Commits}
 use Rattle.lmn_reduction.specs.Commits.{Settles, Commit, Irreducible}

@@ -1,6 +1,10 @@
+pub mod Built
 pub mod Endings
 pub mod Firings
+pub mod FlatPlains
+pub mod FlatTexts
 pub mod Labels
+pub mod NameExamples
 pub mod Outcomes
 pub mod Printing
 pub mod Processes

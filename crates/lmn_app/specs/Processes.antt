@@ -19,5 +19,9 @@ abbrev pub flat_rules : List FlatRule → Rules
 flat_rules [] = no_rule
 flat_rules (r ∷ rs) = rule_and (flat_rule r) (flat_rules rs)
 
+-- the top of a plain
+abbrev pub flat_top : List Label → List FlatRule → Level
+flat_top atoms rules = flat_level atoms (flat_rules rules)
+
 abbrev pub flat_process : List Label → List FlatRule → Process
-flat_process atoms rules = level_process (flat_level atoms (flat_rules rules))
+flat_process atoms rules = level_process (flat_top atoms rules)

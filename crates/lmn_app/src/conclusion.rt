@@ -1,7 +1,7 @@
 ghost use Rattle.std.specs.Prelude.{◌≡◌, OnOk, OnErr};
 ghost use Rattle.lmn_io.specs.Counts.{Rose};
 ghost use Rattle.lmn_io.specs.Taking.{Takes, TakesPrefix};
-ghost use Rattle.lmn_app.specs.Endings.{Concludes, HasLine, code_letters, code_words, line_of, refusal_line};
+ghost use Rattle.lmn_app.specs.Endings.{Concludes, HasLine, code_letters, line_of, refusal_line};
 
 use crate::ending::Ending;
 use itoa::Buffer;
@@ -55,7 +55,7 @@ fn report_refusal<E: Sink>(err: &mut E, refusal: Refusal) -> Result<(), Failed>
             b":".as_slice(),
             column.format(refusal.pos.column).as_bytes(),
             b" ".as_slice(),
-            refusal_words(refusal.code),
+            lmn_reading::words(refusal.code),
             b"\n".as_slice(),
         ],
     )
@@ -66,25 +66,4 @@ fn code_letters(code: u8) -> &'static [u8]
     ensures { result.now ≡ code_letters code }
 {
     if code < 10 { b"E0" } else { b"E" }
-}
-
-/// The words of a refusal's code.
-fn refusal_words(code: u8) -> &'static [u8]
-    ensures { result.now ≡ code_words code }
-{
-    match code {
-        1 => b"text too long",
-        2 => b"bad byte",
-        3 => b"not closed",
-        4 => b"integer out of range",
-        5 => b"name too long",
-        6 => b"floating-point number",
-        7 => b"string literal",
-        8 => b"inline code",
-        9 => b"hyperlink",
-        10 => b"unexpected token",
-        11 => b"nesting too deep",
-        12 => b"too many arguments",
-        _ => b"form not built",
-    }
 }

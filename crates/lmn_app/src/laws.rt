@@ -1,7 +1,9 @@
 //! The laws of runs and refusals. The firings of atoms without links are commits of the calculus; a text is accepted
 //! or refused, and refused in one way.
 
+ghost use Rattle.lmn_app.specs.FlatTexts.{FirstTextsAreRead, FlatTextsAreRead};
 ghost use Rattle.lmn_app.specs.Labels.{SameLabels};
+ghost use Rattle.lmn_app.specs.NameExamples.{SomeNames};
 ghost use Rattle.lmn_app.specs.Texts.{AcceptedOrRefused, OneRefusal, RefusedNotAccepted};
 ghost use Rattle.lmn_app.specs.Firings.{FiringCommits, FiringsCommit, FlatClosed, FlatSettles, FlatIrreducible};
 
@@ -40,4 +42,16 @@ pub fn refusals_are_one()
 /// A text is accepted, or it is refused.
 pub fn texts_are_accepted_or_refused()
     ensures { AcceptedOrRefused }
+{}
+
+/// A text whose tree has nothing but atoms without arguments, and rules between them, reads as these atoms and rules. So
+/// does a text of names and rules between them.
+pub fn flat_texts_are_read()
+    ensures trees { FlatTextsAreRead }
+    ensures first { FirstTextsAreRead }
+{}
+
+/// The list of names of a small text.
+pub fn small_list_of_names()
+    ensures { SomeNames }
 {}

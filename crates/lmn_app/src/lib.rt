@@ -3,6 +3,7 @@
 
 mod conclusion;
 mod ending;
+mod flat;
 pub mod laws;
 mod printing;
 mod reading;

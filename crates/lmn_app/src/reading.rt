@@ -1,16 +1,16 @@
-ghost use Rattle.std.specs.Prelude.{◌+◌, ◌≤◌, ◌^◌, length, IfOk, IfErr};
+ghost use Rattle.std.specs.Prelude.{◌≡◌, ◌+◌, ◌≤◌, ◌^◌, length, IfOk, IfErr, MatchResult};
+ghost use Rattle.lmn_base.specs.Names.{first_names};
 ghost use Rattle.lmn_base.specs.Refusals.{IfRefused};
-ghost use Rattle.lmn_flatten.specs.Programs.{labels_of, rules_of, GrowsBy, HasLabels, HasEachRule};
-ghost use Rattle.lmn_flatten.specs.Texts.{IsTextOf};
-ghost use Rattle.lmn_lexer.specs.Cutting.{Cuts};
-ghost use Rattle.lmn_lexer.specs.Faults.{NothingWrong};
-ghost use Rattle.lmn_parser.specs.Syntax.{tree_of};
-ghost use Rattle.lmn_app.specs.Texts.{IsBuiltText, IsRefused};
+ghost use Rattle.lmn_base.specs.WellMade.{IsWellMade};
+ghost use Rattle.lmn_flatten.specs.Programs.{labels_of, rules_of};
+ghost use Rattle.lmn_app.specs.Built.{IsBuilt};
+ghost use Rattle.lmn_app.specs.FlatPlains.{AreHeld, AreRulesHeld, HasFlatTop};
+ghost use Rattle.lmn_app.specs.Runs.{ReadsAsProgram};
+ghost use Rattle.lmn_app.specs.Texts.{IsRefused, at_start};
 
-use lmn_base::{Names, NoMemory, Pos, Refusal, TextFault};
-use lmn_flatten::{Program, flatten};
-use lmn_lexer::{Tokens, lex};
-use lmn_parser::{Tree, parse};
+use crate::flat;
+use lmn_base::{Names, NoMemory, Plain, Pos, Refusal, TextFault};
+use lmn_flatten::Program;
 use std::alloc::Global;
 
 /// The refusal of a text of which a form isn't built.
@@ -20,36 +20,35 @@ const NOT_BUILT: Refusal = Refusal {
 };
 
 /// Reads a text: its atoms and its rules, each in the order of the text. The names of its atoms go to the end of
-/// the list, but for those that it holds already. There must be room for as many names as the text has bytes, and
-/// one: a list holds no more than 2^32.
+/// the list, which holds the fixed names alone before.
 ///
 /// # Errors
 ///
-/// A text that isn't of the language is refused by the code and at the place of its first fault, and one of
-/// which a form isn't built by code 90 at line 1, column 1. `NoMemory` says nothing of the text.
+/// A text is refused as `lmn_reading::read` tells; one that is accepted there and of which a form isn't built, by code
+/// 90 at line 1, column 1. `NoMemory` says nothing of the text.
 pub(crate) fn read(alloc: Global, names: &mut Names, text: &[u8]) -> Result<Program, TextFault>
-    requires room { length names.old + (length text.now + 1) ≤ 2 ^ 32 }
-    ensures grows { GrowsBy (length text.now + 1) names.old names.new }
-    ensures has_atoms { IfOk result (λ program. HasLabels names.new program.atoms) }
-    ensures has_rules { IfOk result (λ program. HasEachRule names.new program.rules) }
-    ensures read { IfOk result (λ program. IsBuiltText text.now (labels_of names.new program.atoms) (rules_of names.new program.rules)) }
+    requires new { names.old ≡ first_names }
+    requires room { length text.now + 8 ≤ 2 ^ 32 }
+    ensures has_atoms { IfOk result (λ program. AreHeld names.new program.atoms) }
+    ensures has_rules { IfOk result (λ program. AreRulesHeld names.new program.rules) }
+    ensures read { IfOk result (λ program. ReadsAsProgram text.now names.new (labels_of names.new program.atoms) (rules_of names.new program.rules)) }
     ensures refused { IfErr result (λ fault. IfRefused fault (IsRefused text.now)) }
 {
-    let tokens = lex(alloc, text)?;
-    let tree = parsed(alloc, text, &tokens)?;
-    match flatten(alloc, text, &tokens, &tree, names) {
+    match lmn_reading::read(alloc, text, names) {
+        Err(fault) => Err(fault),
+        Ok(accepted) => built(alloc, &accepted.plain),
+    }
+}
+
+/// The atoms and the rules of a plain, or the refusal where it isn't built.
+fn built(alloc: Global, plain: &Plain) -> Result<Program, TextFault>
+    requires { IsWellMade plain.now }
+    ensures { MatchResult result (λ program. IsBuilt plain.now × HasFlatTop plain.now program)
+        (λ fault. IfRefused fault (λ refusal. ¬ (IsBuilt plain.now) × (refusal ≡ at_start 90))) }
+{
+    match flat::program(alloc, plain) {
         Ok(Some(program)) => Ok(program),
         Ok(None) => Err(TextFault::Refused(NOT_BUILT)),
         Err(NoMemory) => Err(TextFault::NoMemory),
     }
-}
-
-/// The tree of the tokens of a text in which nothing is wrong, or why the text is refused.
-fn parsed(alloc: Global, text: &[u8], tokens: &Tokens) -> Result<Tree, TextFault>
-    requires right { NothingWrong text.now }
-    requires cut { Cuts text.now tokens.now }
-    ensures language { IfOk result (λ tree. IsTextOf text.now tokens.now (tree_of tree)) }
-    ensures refused { IfErr result (λ fault. IfRefused fault (IsRefused text.now)) }
-{
-    parse(alloc, tokens)
 }

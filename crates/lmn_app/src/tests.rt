@@ -85,7 +85,7 @@ const ROWS: [Row; 13] = [
     },
     Row {
         words: RUN,
-        text: b"a. a(X).",
+        text: b"a. {b}.",
         fetches_failing: &[],
         puts_failing: &[],
         err_room: 100,
@@ -145,7 +145,7 @@ const ROWS: [Row; 13] = [
     },
     Row {
         words: RUN,
-        text: b"a. a(X).",
+        text: b"a. {b}.",
         fetches_failing: &[],
         puts_failing: &[],
         err_room: 0,
@@ -166,7 +166,7 @@ const ROWS: [Row; 13] = [
 ];
 
 /// A text that runs until nothing reacts, and the lines on `out`.
-const RUNS: [(&[u8], &[u8]); 7] = [
+const RUNS: [(&[u8], &[u8]); 8] = [
     (
         b"x @@ a :- 'B c'. a",
         b"'B c'. (a :- 'B c').\n% irreducible after 1\n",
@@ -185,6 +185,10 @@ const RUNS: [(&[u8], &[u8]); 7] = [
     ),
     (b"-0. 0 :- 'a'.", b"a. (0 :- a).\n% irreducible after 1\n"),
     (
+        b"a \\ b :- c. a. b",
+        b"a. c. (a, b :- a, c).\n% irreducible after 1\n",
+    ),
+    (
         b"a, a :- | b. a. a",
         b"b. (a, a :- b).\n% irreducible after 1\n",
     ),
@@ -195,7 +199,7 @@ const RUNS: [(&[u8], &[u8]); 7] = [
 ];
 
 /// A text that is refused, and the line on `err`.
-const REFUSED: [(&[u8], &[u8]); 23] = [
+const REFUSED: [(&[u8], &[u8]); 40] = [
     (&[b'a'; 256], b"E05 1:1 name too long\n"),
     (&[b'('; 201], b"E11 1:201 nesting too deep\n"),
     (b"p(1.5).", b"E06 1:3 floating-point number\n"),
@@ -214,16 +218,49 @@ const REFUSED: [(&[u8], &[u8]); 23] = [
     // The bytes are asked before the tokens, and the tokens before what is built.
     (b"a,, ;", b"E02 1:5 bad byte\n"),
     (b"a(X).. b", b"E10 1:6 unexpected token\n"),
-    // Forms that aren't built.
+    // The whole language is read: links, contexts and rules.
+    (b"a(X).", b"E20 1:3 link occurs once\n"),
+    (b"a(X), b(X), c(X).", b"E21 1:15 link occurs too often\n"),
+    (b"a(X) :- b.", b"E22 1:3 link occurs once in rule\n"),
+    (
+        b"a(X) \\ b(X) :- .",
+        b"E23 1:3 link occurs too often in rule\n",
+    ),
+    (b"$p :- .", b"E30 1:1 context outside a head membrane\n"),
+    (
+        b"{$p, $q} :- $p, $q.",
+        b"E31 1:6 two contexts in one membrane\n",
+    ),
+    (b"{$p}, {$p} :- $p.", b"E32 1:8 context twice in head\n"),
+    (b"{$p} :- .", b"E33 1:2 context not once in body\n"),
+    (b"a.\nb :- $p.", b"E34 2:6 context not in head\n"),
+    (
+        b"@r :- .",
+        b"E35 1:1 rule context outside a head membrane\n",
+    ),
+    (b"(a :- b) :- c.", b"E36 1:2 rule in head\n"),
+    (b"X=Y, a(X,Y) :- .", b"E37 1:2 connector in head\n"),
+    (b":- a.", b"E38 1:1 empty head\n"),
+    (b"a, $p.", b"E39 1:4 context outside a rule\n"),
+    (b"a($x) :- b.", b"E40 1:3 context without type\n"),
+    (b"a($x) :- float($x) | b.", b"E41 1:10 unknown guard\n"),
+    (b"a($x) :- $x = 1 | .", b"E42 1:13 wrong operands\n"),
+    (b"a :- $x < 1 | b.", b"E43 1:6 unbound context\n"),
+    (
+        b"{a, $p} :- int($p) | $p.",
+        b"E45 1:16 context in two forms\n",
+    ),
+    (
+        b"$x[X] :- int($x) | a(X).",
+        b"E46 1:1 typed context not held\n",
+    ),
+    // Forms that are accepted and aren't run yet.
     (b"a(X), b(X)", b"E90 1:1 form not built\n"),
     (b"a. {b}", b"E90 1:1 form not built\n"),
-    (b"a, $p", b"E90 1:1 form not built\n"),
-    (b"a, @r", b"E90 1:1 form not built\n"),
-    (b"X = Y", b"E90 1:1 form not built\n"),
-    (b":- a", b"E90 1:1 form not built\n"),
-    (b"a \\ b :- c", b"E90 1:1 form not built\n"),
+    (b"a \\ b :- (b :- c)", b"E90 1:1 form not built\n"),
     (b"a :- (b :- c)", b"E90 1:1 form not built\n"),
     (b"a :- 1 < 2 | b", b"E90 1:1 form not built\n"),
+    (b"a(X) :- b(X)", b"E90 1:1 form not built\n"),
 ];
 
 fn rows_of<T: Copy + Drop>(alloc: Global, items: &[T]) -> Result<Rows<T>, AllocError> {

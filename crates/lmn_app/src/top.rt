@@ -4,14 +4,15 @@ ghost use Rattle.lmn_io.specs.Counts.{Rose};
 ghost use Rattle.lmn_io.specs.Texts.{asked_once_more};
 ghost use Rattle.lmn_io.specs.Taking.{Takes, TakesPrefix};
 ghost use Rattle.lmn_base.specs.declared.refusal.Refusal.{Refusal};
+ghost use Rattle.lmn_base.specs.Names.{IsNames};
 ghost use Rattle.lmn_flatten.specs.Programs.{labels_of, rules_of};
 ghost use Rattle.lmn_app.specs.Words.{InForm, file_of};
 ghost use Rattle.lmn_app.specs.Endings.{HasLine, IsCode, line_of, refusal_line};
 ghost use Rattle.lmn_app.specs.Outcomes.{Causes, Effects, Writes, WritesPrefix};
-ghost use Rattle.lmn_app.specs.Programs.{NamesAll};
-ghost use Rattle.lmn_app.specs.Runs.{IfTold, IsToldAnd, named_text, told_under};
+ghost use Rattle.lmn_app.specs.FlatPlains.{AreHeld, AreRulesHeld};
+ghost use Rattle.lmn_app.specs.Runs.{IfTold, IsToldAnd, ReadsAsProgram, named_text, told_under};
 ghost use Rattle.lmn_app.specs.Stops.{stop_ending};
-ghost use Rattle.lmn_app.specs.Texts.{Accepts, IsAccepted, IsRefusal, text_bytes};
+ghost use Rattle.lmn_app.specs.Texts.{IsAccepted, IsRefusal, text_bytes};
 ghost use Rattle.lmn_app.specs.declared.ending.Ending.{Ending};
 
 use crate::conclusion::conclude;
@@ -146,10 +147,12 @@ fn run_text<O: Sink>(alloc: Global, text: &[u8], out: &mut O) -> Ending
 
 /// Lets a program react, and writes its last process and why it stopped.
 fn run_program<O: Sink>(names: &Names, program: Program, out: &mut O) -> Result<Stop, Failed>
-    requires { NamesAll names.now program.atoms program.rules }
-    ensures wrote { (text : List ℕ) → Accepts text (labels_of names.now program.atoms) (rules_of names.now program.rules) →
+    requires names { IsNames names.now }
+    requires atoms { AreHeld names.now program.atoms }
+    requires rules { AreRulesHeld names.now program.rules }
+    ensures wrote { (alloc : Global) (text : List ℕ) → length text ≤ text_bytes → ReadsAsProgram text names.now (labels_of names.now program.atoms) (rules_of names.now program.rules) →
         IfOk result (λ stop. Writes (Some (Some text)) stop (O.told out.old) (O.told out.new)) }
-    ensures prefix { (text : List ℕ) → Accepts text (labels_of names.now program.atoms) (rules_of names.now program.rules) →
+    ensures prefix { (alloc : Global) (text : List ℕ) → length text ≤ text_bytes → ReadsAsProgram text names.now (labels_of names.now program.atoms) (rules_of names.now program.rules) →
         OnErr result (WritesPrefix (Some (Some text)) (O.told out.old) (O.told out.new)) }
     ensures same { OnOk result (O.faults out.new ≡ O.faults out.old) }
     ensures rose { OnErr result (Rose (O.faults out.old) (O.faults out.new)) }

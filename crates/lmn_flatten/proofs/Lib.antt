@@ -3,15 +3,10 @@ pub mod EachLemmas
 pub mod FirstGrammarLaws
 pub mod FlatLimits
 pub mod FlatNumbers
-pub mod FlatParts
 pub mod FlatTexts
 pub mod FlatTreeLemmas
 pub mod FlatWords
-pub mod Flattened
-pub mod LabelledTrees
 pub mod LaidLexemes
 pub mod LaidTexts
-pub mod NumberingLaws
 pub mod OneLabel
 pub mod RightWords
-pub mod WordLemmas

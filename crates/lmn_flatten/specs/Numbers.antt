@@ -1,25 +1,6 @@
--- Flat trees by the numbers of their tokens, and lists that agree place by place.
-use Rattle.std.specs.Prelude.{◌≡◌, ◌+◌, ℕ, Bool, true, false, ⊤, List, [], ◌∷◌, ◌++◌, length, map}
-use Rattle.lmn_flatten.specs.declared.flat.TokenProgram.{TokenProgram}
-use Rattle.lmn_flatten.specs.declared.flat.TokenRule.{TokenRule}
+-- Lists that agree place by place. No public contract cites a word of this.
+use Rattle.std.specs.Prelude.{◌+◌, ℕ, ⊤, List, [], ◌∷◌, length}
 use Rattle.lmn_flatten.specs.FlatTrees.{RuleOf}
-
--- the atoms of rules, by the numbers of their tokens
-abbrev pub numbers_of : TokenRule → RuleOf ℕ
-numbers_of r = record { head = r.head; body = r.body }
-
-abbrev pub all_numbers : List TokenRule → List (RuleOf ℕ)
-all_numbers rs = map numbers_of rs
-
--- these atoms and rules come behind those of a program
-pub record Extends (old new : TokenProgram) (atoms : List ℕ) (rules : List (RuleOf ℕ)) : Type 0 where
-  pub atoms_added : new.atoms ≡ old.atoms ++ atoms
-  pub rules_added : all_numbers new.rules ≡ all_numbers old.rules ++ rules
-
--- The program is extended by what is flat, or nothing is flat here.
-abbrev pub Flattens : (List ℕ → List (RuleOf ℕ) → Type 0) → TokenProgram → TokenProgram → Bool → Type 0
-Flattens R old new true = (atoms : List ℕ) × (rules : List (RuleOf ℕ)) × R atoms rules × Extends old new atoms rules
-Flattens R old new false = (atoms : List ℕ) (rules : List (RuleOf ℕ)) → R atoms rules → ⊥
 
 -- how many atoms rules have
 abbrev pub atoms_in : List (RuleOf ℕ) → ℕ

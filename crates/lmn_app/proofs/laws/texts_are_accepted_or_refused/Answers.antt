@@ -1,4 +1,4 @@
-use Rattle.lmn_app.proofs.AcceptedOrRefused.{accepted_or_refused}
+use Rattle.lmn_app.proofs.TextLemmas.{accepted_or_refused}
 use Rattle.lmn_app.proofs.laws.texts_are_accepted_or_refused.Goals as goal
 
 pub returns : goal.returns
