@@ -1,0 +1,8 @@
+pub mod Totals
+pub mod Sums
+pub mod Codes
+pub mod Finite
+pub mod Existing
+pub mod Prepared
+pub mod Counting
+pub mod Laws

@@ -1,0 +1,12 @@
+pub mod ClassTables
+pub mod Composing
+pub mod Atoms
+pub mod Membranes
+pub mod Meeting
+pub mod PlainLinks
+pub mod Whole
+pub mod Items
+pub mod FillingSteps
+pub mod JoiningSteps
+pub mod RuleNumbers
+pub mod AloneLemmas

@@ -1,0 +1,5 @@
+pub mod Adding
+pub mod Joining
+pub mod Loaded
+pub mod Laws
+pub mod Alone

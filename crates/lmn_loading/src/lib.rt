@@ -1,0 +1,14 @@
+//! Loading: puts the process of a plain into a new store.
+#![tactic(auto)]
+
+mod classes;
+mod filling;
+mod joining;
+mod laws;
+mod leaves;
+mod loading;
+#[cfg(test)]
+mod tests;
+
+pub use laws::loading_settles;
+pub use loading::{LoadFault, load};

@@ -1,0 +1,9 @@
+pub mod RowLemmas
+pub mod LeafLemmas
+pub mod GuardLemmas
+pub mod RuleLemmas
+pub mod DueLemmas
+pub mod StoredLemmas
+pub mod WalkLemmas
+pub mod LineLemmas
+pub mod ToldLemmas

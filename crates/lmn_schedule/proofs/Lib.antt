@@ -1,0 +1,3 @@
+pub mod RuleCodes
+pub mod Numbers
+pub mod Climbs

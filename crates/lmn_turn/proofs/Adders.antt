@@ -1,0 +1,164 @@
+-- What a body adds to a membrane comes from the items that are written in it.
+use Rattle.std.proofs.Common.{ℕ, suc, ◌+◌, ◌≡◌, ◌≢◌, ◌==◌, Bool, true, false, cond, List, [], ◌∷◌, ◌++◌, refl, sym, ap, subst, ◌∙◌, arith, append_assoc}
+use Rattle.std.proofs.lemmas.Bool.{eq-eqb}
+use Rattle.lmn_base.specs.declared.solid.SolidAtom.{SolidAtom}
+use Rattle.lmn_body.specs.declared.items.BodyItem.{BodyItem}
+use Rattle.lmn_body.specs.declared.items.BodyItem.TheVariants.{Atom, Connector, Copy, Bound, Membrane, Rest, Rule, Rules}
+use Rattle.lmn_body.specs.Running.{Registers}
+use Rattle.lmn_body.specs.Added.{added_mems, added_rules}
+use Rattle.lmn_body.specs.Within.{added_solid}
+use Rattle.lmn_body.proofs.Below.{not_eq}
+
+-- the membrane of a register
+abbrev pub at : Registers → ℕ → ℕ
+at s j = s.head.images.membrane j
+
+-- how many membranes items make
+abbrev pub many : List BodyItem → ℕ
+many [] = 0
+many (Atom functor links inside ∷ xs) = many xs
+many (Connector left right ∷ xs) = many xs
+many (Copy part link inside ∷ xs) = many xs
+many (Bound integer link inside ∷ xs) = many xs
+many (Membrane inside ∷ xs) = suc (many xs)
+many (Rest of inside ∷ xs) = many xs
+many (Rule rule inside ∷ xs) = many xs
+many (Rules of inside ∷ xs) = many xs
+
+pub many_both : (xs ys : List BodyItem) → many (xs ++ ys) ≡ many xs + many ys
+many_both [] ys = omega arith
+many_both (Atom functor links inside ∷ xs) ys = many_both xs ys
+many_both (Connector left right ∷ xs) ys = many_both xs ys
+many_both (Copy part link inside ∷ xs) ys = many_both xs ys
+many_both (Bound integer link inside ∷ xs) ys = many_both xs ys
+many_both (Membrane inside ∷ xs) ys = omega (arith, many_both xs ys)
+many_both (Rest of inside ∷ xs) ys = many_both xs ys
+many_both (Rule rule inside ∷ xs) ys = many_both xs ys
+many_both (Rules of inside ∷ xs) ys = many_both xs ys
+
+-- the membrane in which an item is written isn't this one
+abbrev pub Elsewhere : Registers → ℕ → BodyItem → Type 0
+Elsewhere s x (Atom functor links inside) = at s inside ≢ x
+Elsewhere s x (Connector left right) = Unit {0}
+Elsewhere s x (Copy part link inside) = at s inside ≢ x
+Elsewhere s x (Bound integer link inside) = at s inside ≢ x
+Elsewhere s x (Membrane inside) = at s inside ≢ x
+Elsewhere s x (Rest of inside) = at s inside ≢ x
+Elsewhere s x (Rule rule inside) = at s inside ≢ x
+Elsewhere s x (Rules of inside) = at s inside ≢ x
+
+-- nothing of this is written in the membrane
+abbrev pub Misses : Registers → ℕ → List BodyItem → Type 0
+Misses s x [] = Unit {0}
+Misses s x (i ∷ is) = Elsewhere s x i × Misses s x is
+
+pub misses_both : (s : Registers) (x : ℕ) (xs ys : List BodyItem) → Misses s x xs → Misses s x ys → Misses s x (xs ++ ys)
+misses_both s x [] ys a b = b
+misses_both s x (i ∷ is) ys a b = (a.0, misses_both s x is ys a.1 b)
+
+-- What items add to a membrane, where the next membrane has a register: it comes from the items one after another, and items
+-- that are written elsewhere add nothing.
+pub record Adder (s : Registers) (X : Type 0) : Type 0 where
+  pub adds : ℕ → List BodyItem → ℕ → List X
+  pub both : (n : ℕ) (xs ys : List BodyItem) (x : ℕ) → adds n (xs ++ ys) x ≡ adds n xs x ++ adds (n + many xs) ys x
+  pub missed : (n : ℕ) (xs : List BodyItem) (x : ℕ) → Misses s x xs → adds n xs x ≡ []
+
+-- one choice more
+more : {X : Type 0} (b : Bool) (as' bs cs ds : List X) → bs ≡ cs ++ ds → cond b as' [] ++ bs ≡ (cond b as' [] ++ cs) ++ ds
+more true as' bs cs ds e = ap (λ z. as' ++ z) e ∙ sym (append_assoc as' cs ds)
+more false as' bs cs ds e = e
+
+-- a choice that isn't taken
+missing : {X : Type 0} (a x : ℕ) (as' bs : List X) → a ≢ x → bs ≡ [] → cond (a == x) as' [] ++ bs ≡ []
+missing a x as' bs d e = rw (not_eq a x d) e
+
+-- a choice that is
+pub here_is : {X : Type 0} (x : ℕ) (as' bs : List X) → cond (x == x) as' [] ++ bs ≡ as' ++ bs
+here_is x as' bs = rw (eq-eqb x x refl) refl
+
+module _ (s : Registers) (left : ℕ → List SolidAtom) (g : ℕ → ℕ) where
+  pub solid_both : (xs ys : List BodyItem) (x : ℕ) → added_solid s left g (xs ++ ys) x ≡ added_solid s left g xs x ++ added_solid s left g ys x
+  solid_both [] ys x = refl
+  solid_both (Atom functor links inside ∷ xs) ys x = more (at s inside == x) _ _ _ _ (solid_both xs ys x)
+  solid_both (Connector l l' ∷ xs) ys x = solid_both xs ys x
+  solid_both (Copy part link inside ∷ xs) ys x = solid_both xs ys x
+  solid_both (Bound integer link inside ∷ xs) ys x = more (at s inside == x) _ _ _ _ (solid_both xs ys x)
+  solid_both (Membrane inside ∷ xs) ys x = solid_both xs ys x
+  solid_both (Rest of inside ∷ xs) ys x = more (at s inside == x) _ _ _ _ (solid_both xs ys x)
+  solid_both (Rule rule inside ∷ xs) ys x = solid_both xs ys x
+  solid_both (Rules of inside ∷ xs) ys x = solid_both xs ys x
+
+  pub solid_missed : (xs : List BodyItem) (x : ℕ) → Misses s x xs → added_solid s left g xs x ≡ []
+  solid_missed [] x m = refl
+  solid_missed (Atom functor links inside ∷ xs) x m = missing (at s inside) x _ _ m.0 (solid_missed xs x m.1)
+  solid_missed (Connector l l' ∷ xs) x m = solid_missed xs x m.1
+  solid_missed (Copy part link inside ∷ xs) x m = solid_missed xs x m.1
+  solid_missed (Bound integer link inside ∷ xs) x m = missing (at s inside) x _ _ m.0 (solid_missed xs x m.1)
+  solid_missed (Membrane inside ∷ xs) x m = solid_missed xs x m.1
+  solid_missed (Rest of inside ∷ xs) x m = missing (at s inside) x _ _ m.0 (solid_missed xs x m.1)
+  solid_missed (Rule rule inside ∷ xs) x m = solid_missed xs x m.1
+  solid_missed (Rules of inside ∷ xs) x m = solid_missed xs x m.1
+
+  -- the atoms of the solid
+  abbrev pub atoms_adder : Adder s SolidAtom
+  atoms_adder = record {
+    adds = λ n xs x. added_solid s left g xs x;
+    both = λ n xs ys x. solid_both xs ys x;
+    missed = λ n xs x m. solid_missed xs x m;
+  }
+
+module _ (s : Registers) (left : ℕ → List ℕ) where
+  pub mems_both : (n : ℕ) (xs ys : List BodyItem) (x : ℕ) → added_mems s left n (xs ++ ys) x ≡ added_mems s left n xs x ++ added_mems s left (n + many xs) ys x
+  mems_both n [] ys x = subst (λ z. added_mems s left n ys x ≡ added_mems s left z ys x) (omega arith) refl
+  mems_both n (Atom functor links inside ∷ xs) ys x = mems_both n xs ys x
+  mems_both n (Connector l l' ∷ xs) ys x = mems_both n xs ys x
+  mems_both n (Copy part link inside ∷ xs) ys x = mems_both n xs ys x
+  mems_both n (Bound integer link inside ∷ xs) ys x = mems_both n xs ys x
+  mems_both n (Membrane inside ∷ xs) ys x =
+      let z : (n + 1) + many xs ≡ n + suc (many xs) = omega arith in
+      more (at s inside == x) _ _ _ _ (mems_both (n + 1) xs ys x ∙ ap (λ k. added_mems s left (n + 1) xs x ++ added_mems s left k ys x) z)
+  mems_both n (Rest of inside ∷ xs) ys x = more (at s inside == x) _ _ _ _ (mems_both n xs ys x)
+  mems_both n (Rule rule inside ∷ xs) ys x = mems_both n xs ys x
+  mems_both n (Rules of inside ∷ xs) ys x = mems_both n xs ys x
+
+  pub mems_missed : (n : ℕ) (xs : List BodyItem) (x : ℕ) → Misses s x xs → added_mems s left n xs x ≡ []
+  mems_missed n [] x m = refl
+  mems_missed n (Atom functor links inside ∷ xs) x m = mems_missed n xs x m.1
+  mems_missed n (Connector l l' ∷ xs) x m = mems_missed n xs x m.1
+  mems_missed n (Copy part link inside ∷ xs) x m = mems_missed n xs x m.1
+  mems_missed n (Bound integer link inside ∷ xs) x m = mems_missed n xs x m.1
+  mems_missed n (Membrane inside ∷ xs) x m = missing (at s inside) x _ _ m.0 (mems_missed (n + 1) xs x m.1)
+  mems_missed n (Rest of inside ∷ xs) x m = missing (at s inside) x _ _ m.0 (mems_missed n xs x m.1)
+  mems_missed n (Rule rule inside ∷ xs) x m = mems_missed n xs x m.1
+  mems_missed n (Rules of inside ∷ xs) x m = mems_missed n xs x m.1
+
+  -- the membranes
+  abbrev pub mems_adder : Adder s ℕ
+  mems_adder = record { adds = added_mems s left; both = mems_both; missed = mems_missed }
+
+module _ (s : Registers) (rules : ℕ → List ℕ) where
+  pub rules_both : (xs ys : List BodyItem) (x : ℕ) → added_rules s rules (xs ++ ys) x ≡ added_rules s rules xs x ++ added_rules s rules ys x
+  rules_both [] ys x = refl
+  rules_both (Atom functor links inside ∷ xs) ys x = rules_both xs ys x
+  rules_both (Connector l l' ∷ xs) ys x = rules_both xs ys x
+  rules_both (Copy part link inside ∷ xs) ys x = rules_both xs ys x
+  rules_both (Bound integer link inside ∷ xs) ys x = rules_both xs ys x
+  rules_both (Membrane inside ∷ xs) ys x = rules_both xs ys x
+  rules_both (Rest of inside ∷ xs) ys x = rules_both xs ys x
+  rules_both (Rule rule inside ∷ xs) ys x = more (at s inside == x) _ _ _ _ (rules_both xs ys x)
+  rules_both (Rules of inside ∷ xs) ys x = more (at s inside == x) _ _ _ _ (rules_both xs ys x)
+
+  pub rules_missed : (xs : List BodyItem) (x : ℕ) → Misses s x xs → added_rules s rules xs x ≡ []
+  rules_missed [] x m = refl
+  rules_missed (Atom functor links inside ∷ xs) x m = rules_missed xs x m.1
+  rules_missed (Connector l l' ∷ xs) x m = rules_missed xs x m.1
+  rules_missed (Copy part link inside ∷ xs) x m = rules_missed xs x m.1
+  rules_missed (Bound integer link inside ∷ xs) x m = rules_missed xs x m.1
+  rules_missed (Membrane inside ∷ xs) x m = rules_missed xs x m.1
+  rules_missed (Rest of inside ∷ xs) x m = rules_missed xs x m.1
+  rules_missed (Rule rule inside ∷ xs) x m = missing (at s inside) x _ _ m.0 (rules_missed xs x m.1)
+  rules_missed (Rules of inside ∷ xs) x m = missing (at s inside) x _ _ m.0 (rules_missed xs x m.1)
+
+  -- the rules
+  abbrev pub rules_adder : Adder s ℕ
+  rules_adder = record { adds = λ n xs x. added_rules s rules xs x; both = λ n xs ys x. rules_both xs ys x; missed = λ n xs x m. rules_missed xs x m }

@@ -1,0 +1,120 @@
+-- Each context of the body of an accepted rule is one of its head, and so has a membrane there.
+use Rattle.std.proofs.Common.{ℕ, ◌≡◌, ◌<◌, ◌⊎◌, List, [], ◌∷◌, ◌++◌, length, refl, sym, ap, subst, ◌∙◌, inl, inr}
+use Rattle.std.specs.Prelude.{Contains, All}
+use Rattle.std.specs.List.{flat_map}
+use Rattle.std.proofs.lemmas.List.{map-append}
+use Rattle.std.proofs.lemmas.List.Elements.{All-head, All-tail, All-cons, All-nil}
+use Rattle.lmn_base.specs.declared.item.Form.TheVariants.{Bare}
+use Rattle.lmn_base.specs.declared.level.CtxUse.{CtxUse}
+use Rattle.lmn_base.specs.declared.rule.RuleTree.{RuleTree}
+use Rattle.lmn_base.specs.Levels.{leaves_of, contexts_of, rule_contexts_of}
+use Rattle.lmn_base.specs.declared.level.Level.{Level}
+use Rattle.lmn_base.specs.Names.{IsNames, HasNames, leaf_names, context_names, condition_names, level_names}
+use Rattle.lmn_congruence.specs.Orders.{Among, at_head, further, Put, here, there, Shuffle, none, more}
+use Rattle.lmn_congruence.specs.Rules as tree
+use Rattle.lmn_congruence.specs.Translation.{name_of, names_of}
+use Rattle.lmn_congruence.proofs.Appended.{all_left, all_right}
+use Rattle.lmn_adequacy.specs.Accepted.{all_contexts, contexts_in, all_rule_contexts, rule_contexts_in}
+use Rattle.lmn_solid.proofs.HeadTrees.{Head, Heads, head, no_head, head_and, head_at}
+use Rattle.lmn_splice.specs.Splice.{In}
+use Rattle.lmn_body.specs.Flattening.{context_membrane, rule_context_membrane}
+use Rattle.lmn_bridge.specs.HeapRegions.{Reading}
+use Rattle.lmn_bridge.specs.Premises.{IsRule}
+use Rattle.lmn_bridge.proofs.HeadTrees.{tree_of, trees_of, level_tree}
+use Rattle.lmn_bridge.proofs.KindConditions.{same_number}
+use Rattle.lmn_compile_body.proofs.HeadContexts.{is_in, head_names, untyped, of_rules, firsts, names_are, named_there, head_contexts, heads_contexts, same_contexts, context_used, rule_context_used, has_name, has_rule_name}
+
+-- ---- contexts of a level as names of the calculus
+
+mutual
+  tree_contexts : (names : List tree.Name) (rule : ℕ → tree.Rule) (hd : Head) → all_contexts (tree_of names rule hd) ≡ names_of names (head_contexts untyped hd)
+  tree_contexts names rule (head leaves hs cs rcs rs) = ap (λ z. names_of names cs ++ z) (trees_contexts names rule hs) ∙ sym (map-append (λ (u : CtxUse). name_of names u.name) cs (heads_contexts untyped hs))
+
+  trees_contexts : (names : List tree.Name) (rule : ℕ → tree.Rule) (hs : Heads) → contexts_in (trees_of names rule hs) ≡ names_of names (heads_contexts untyped hs)
+  trees_contexts names rule no_head = refl
+  trees_contexts names rule (head_and hd hs) = (λ i. tree_contexts names rule hd i ++ trees_contexts names rule hs i) ∙ sym (map-append (λ (u : CtxUse). name_of names u.name) (head_contexts untyped hd) (heads_contexts untyped hs))
+
+mutual
+  tree_rule_contexts : (names : List tree.Name) (rule : ℕ → tree.Rule) (hd : Head) → all_rule_contexts (tree_of names rule hd) ≡ names_of names (head_contexts of_rules hd)
+  tree_rule_contexts names rule (head leaves hs cs rcs rs) = ap (λ z. names_of names rcs ++ z) (trees_rule_contexts names rule hs) ∙ sym (map-append (λ (u : CtxUse). name_of names u.name) rcs (heads_contexts of_rules hs))
+
+  trees_rule_contexts : (names : List tree.Name) (rule : ℕ → tree.Rule) (hs : Heads) → rule_contexts_in (trees_of names rule hs) ≡ names_of names (heads_contexts of_rules hs)
+  trees_rule_contexts names rule no_head = refl
+  trees_rule_contexts names rule (head_and hd hs) = (λ i. tree_rule_contexts names rule hd i ++ trees_rule_contexts names rule hs i) ∙ sym (map-append (λ (u : CtxUse). name_of names u.name) (head_contexts of_rules hd) (heads_contexts of_rules hs))
+
+among_put : {A : Type 0} {y z : A} {ys zs : List A} → Put y ys zs → Among z zs → (z ≡ y) ⊎ Among z ys
+among_put here at_head = inl refl
+among_put here (further k) = inr k
+among_put (there p) at_head = inr at_head
+among_put (there p) (further k) = elim (among_put p k) [ inl e ↦ inl e | inr j ↦ inr (further j) ]
+
+shuffled_back : {A : Type 0} {xs ys : List A} → Shuffle (λ p q. p ≡ q) xs ys → {y : A} → Among y ys → Among y xs
+shuffled_back none k = elim k [ ]
+shuffled_back (more {x = x} {xs = xs} e s p) {y = y} k = elim (among_put p k) [
+  | inl q ↦ subst (λ z. Among z (x ∷ xs)) (e ∙ sym q) at_head
+  | inr j ↦ further (shuffled_back s j)
+]
+
+among_use : (names : List tree.Name) (us : List CtxUse) (u : CtxUse) → In u us → Among (name_of names u.name) (names_of names us)
+among_use names [] u i = absurd i
+among_use names (v ∷ us) u (inl e) = subst (λ (z : CtxUse). Among (name_of names z.name) (name_of names v.name ∷ names_of names us)) e at_head
+among_use names (v ∷ us) u (inr i) = further (among_use names us u i)
+
+use_among : (names : List tree.Name) (us : List CtxUse) {p : tree.Name} → Among p (names_of names us) → (u : CtxUse) × In u us × (name_of names u.name ≡ p)
+use_among names [] k = elim k [ ]
+use_among names (u ∷ us) at_head = (u, inl refl, refl)
+use_among names (u ∷ us) (further k) = let w = use_among names us k in (w.0, inr w.1, w.2)
+
+all_named : (P : ℕ → Type 0) (us : List CtxUse) → All P (context_names us) → (u : CtxUse) → In u us → P u.name
+all_named P [] a u i = absurd i
+all_named P (v ∷ us) a u (inl e) = subst (λ (z : CtxUse). P z.name) e (All-head P v.name (context_names us) a)
+all_named P (v ∷ us) a u (inr i) = all_named P us (All-tail P v.name (context_names us) a) u i
+
+module _ (r : Reading) (rule : RuleTree) (read_names : IsNames r.names) (is : IsRule r rule) where
+  abbrev P : ℕ → Type 0
+  P n = n < length r.names
+
+  one_named : (n : ℕ) → n < length r.names → HasNames r.names (n ∷ [])
+  one_named n l = All-cons P n [] l (All-nil P)
+
+  head_known : All P (level_names rule.head)
+  head_known = all_left P (level_names rule.head) (flat_map condition_names rule.guard) (all_left P (level_names rule.head ++ flat_map condition_names rule.guard) (level_names rule.body) is.known)
+
+  body_known : All P (level_names rule.body)
+  body_known = all_right P (level_names rule.head ++ flat_map condition_names rule.guard) (level_names rule.body) is.known
+
+  contexts_known : (l : Level) → All P (level_names l) → All P (context_names (contexts_of l))
+  contexts_known l a = all_right P (flat_map leaf_names (leaves_of l)) (context_names (contexts_of l)) (all_left P (flat_map leaf_names (leaves_of l) ++ context_names (contexts_of l)) (context_names (rule_contexts_of l)) a)
+
+  rule_contexts_known : (l : Level) → All P (level_names l) → All P (context_names (rule_contexts_of l))
+  rule_contexts_known l a = all_right P (flat_map leaf_names (leaves_of l) ++ context_names (contexts_of l)) (context_names (rule_contexts_of l)) a
+
+  -- an untyped context of the body has its membrane in the head
+  pub context_there : (u : CtxUse) → Contains (contexts_of rule.body) u → In {A = ℕ × ℕ} (u.name, context_membrane rule.head u.name) (head_names untyped 0 1 (head_at rule.head))
+  context_there u w =
+      let i = is_in u (contexts_of rule.body) w in
+      let in_body = subst (λ l. Among (name_of r.names u.name) (all_contexts l)) (sym (level_tree r.names r.rule rule.body))
+      (subst (Among (name_of r.names u.name)) (sym (tree_contexts r.names r.rule (head_at rule.body))) (among_use r.names (head_contexts untyped (head_at rule.body)) u (subst (In u) (same_contexts untyped rule.body) i))) in
+      let in_head = subst (Among (name_of r.names u.name)) (tree_contexts r.names r.rule (head_at rule.head))
+      (subst (λ l. Among (name_of r.names u.name) (all_contexts l)) (level_tree r.names r.rule rule.head) (shuffled_back is.accepted.kept in_body)) in
+      let v = use_among r.names (head_contexts untyped (head_at rule.head)) in_head in
+      let in_list = subst (In v.0) (sym (same_contexts untyped rule.head)) v.1 in
+      let same = same_number r.names v.0.name u.name read_names (one_named v.0.name (all_named P (contexts_of rule.head) (contexts_known rule.head head_known) v.0 in_list)) (one_named u.name (all_named P (contexts_of rule.body) (contexts_known rule.body body_known) u i)) v.2 in
+      let first = subst (λ y. In y (firsts (head_names untyped 0 1 (head_at rule.head)))) same (has_name 0 1 (head_at rule.head) (record { name = v.0.name; form = Bare; pos = v.0.pos }) (context_used (head_at rule.head) v.0 v.1) refl) in
+      let e = sym (names_are untyped rule.head) in
+      subst (λ es. In {A = ℕ × ℕ} (u.name, context_membrane rule.head u.name) es) (names_are untyped rule.head) (named_there _ u.name (subst (λ es. In u.name (firsts es)) e first))
+
+  -- and so has a rule context
+  pub rule_context_there : (u : CtxUse) → Contains (rule_contexts_of rule.body) u → In {A = ℕ × ℕ} (u.name, rule_context_membrane rule.head u.name) (head_names of_rules 0 1 (head_at rule.head))
+  rule_context_there u w =
+      let i = is_in u (rule_contexts_of rule.body) w in
+      let in_body = subst (λ l. Among (name_of r.names u.name) (all_rule_contexts l)) (sym (level_tree r.names r.rule rule.body))
+      (subst (Among (name_of r.names u.name)) (sym (tree_rule_contexts r.names r.rule (head_at rule.body))) (among_use r.names (head_contexts of_rules (head_at rule.body)) u (subst (In u) (same_contexts of_rules rule.body) i))) in
+      let in_head = subst (Among (name_of r.names u.name)) (tree_rule_contexts r.names r.rule (head_at rule.head))
+      (subst (λ l. Among (name_of r.names u.name) (all_rule_contexts l)) (level_tree r.names r.rule rule.head) (is.accepted.known_rules (name_of r.names u.name) in_body)) in
+      let v = use_among r.names (head_contexts of_rules (head_at rule.head)) in_head in
+      let in_list = subst (In v.0) (sym (same_contexts of_rules rule.head)) v.1 in
+      let same = same_number r.names v.0.name u.name read_names (one_named v.0.name (all_named P (rule_contexts_of rule.head) (rule_contexts_known rule.head head_known) v.0 in_list)) (one_named u.name (all_named P (rule_contexts_of rule.body) (rule_contexts_known rule.body body_known) u i)) v.2 in
+      let first = subst (λ y. In y (firsts (head_names of_rules 0 1 (head_at rule.head)))) same (has_rule_name 0 1 (head_at rule.head) v.0 (rule_context_used (head_at rule.head) v.0 v.1)) in
+      let e = sym (names_are of_rules rule.head) in
+      subst (λ es. In {A = ℕ × ℕ} (u.name, rule_context_membrane rule.head u.name) es) (names_are of_rules rule.head) (named_there _ u.name (subst (λ es. In u.name (firsts es)) e first))

@@ -1,0 +1,211 @@
+-- An embedding in order, found on the heap: its images, links and parts are those of the heap's embedding.
+use Rattle.std.proofs.Common.{ℕ, zero, suc, ◌≡◌, ◌≢◌, ◌+◌, ◌<◌, ◌≤◌, List, [], ◌∷◌, map, length, Some, refl, sym, ap, subst, ◌∙◌, inl, inr, arith}
+use Rattle.std.specs.Prelude.{slice_get, slice_index_or}
+use Rattle.lmn_base.specs.declared.guard.Cond.{Cond}
+use Rattle.lmn_guards.specs.declared.plan.TypeKind.{TypeKind}
+use Rattle.lmn_heap.specs.Heap.{Heap, atoms_in, mems_in, rules_in}
+use Rattle.lmn_heap.specs.Lists.{In, Distinct}
+use Rattle.lmn_heap.specs.Sound.{Forest, flat, Forms, Valid}
+use Rattle.lmn_heap.proofs.Trees.{nil_right, in_either}
+use Rattle.lmn_heap.proofs.ListLemmas.{in_left, in_right}
+use Rattle.lmn_solid.specs.declared.items.HeadItem.{HeadItem}
+use Rattle.lmn_solid.specs.Heads.{HeadAtom, HeadTyped, Port, atoms_of, typed_contexts_of, membranes_of, inside_of}
+use Rattle.lmn_solid.specs.Embeddings.{Images, Embeds, HasLink, HasAtom, HasTyped}
+use Rattle.lmn_solid.proofs.HeadTrees.{Head, flat_items}
+use Rattle.lmn_congruence.specs.Links.{one_if_same, places}
+use Rattle.lmn_congruence.specs.Regions.{Region, region}
+use Rattle.lmn_congruence.specs.Translation.{name_of}
+use Rattle.lmn_reduction.specs.Assignments.{Assignment}
+use Rattle.lmn_adequacy.specs.Accepted.{NoConnectorLeaf, EachLevel, leaves_of}
+use Rattle.lmn_adequacy.specs.Embedding.{Plain, LevelImages, IsPart}
+use Rattle.lmn_adequacy.specs.Next.{Contents, assignment_of, EachLeft}
+use Rattle.lmn_compile_head.specs.Heads.{EachInside}
+use Rattle.lmn_bridge.specs.HeapRegions.{Reading, regions_at, region_at}
+use Rattle.lmn_bridge.specs.Numbers.{numbers_left}
+use Rattle.lmn_bridge.specs.Premises.{IsRead}
+use Rattle.lmn_bridge.specs.Parts.{HasPart, IsGroundPart}
+use Rattle.lmn_bridge.proofs.Back.{Reads, walk_level, Stood}
+use Rattle.lmn_bridge.proofs.Contexts.{NoRules}
+use Rattle.lmn_bridge.proofs.Counting.{weigh, weigh_both, weigh_same, list_atoms, tree_atoms, forest_atoms, places_both}
+use Rattle.lmn_bridge.proofs.Forests.{forms_tops, forms_grown, once_of, some_of, tree_once, distinct_of}
+use Rattle.lmn_bridge.proofs.HeadTrees.{tree_of}
+use Rattle.lmn_bridge.proofs.Laying.{AtomLies, MembraneLies, TypedLies, all_atoms, all_parts, all_membranes, total}
+use Rattle.lmn_bridge.proofs.Lengths.{level_length}
+use Rattle.lmn_bridge.proofs.Numbering.{level_numbers}
+use Rattle.lmn_bridge.proofs.Occurrences.{times_are, times_parts, port_counts, typed_counts}
+use Rattle.lmn_bridge.proofs.PartLaws.{ground_parts_stand_whole}
+use Rattle.lmn_bridge.proofs.PartsLaid.{held_part}
+use Rattle.lmn_bridge.proofs.PartsOut.{flattened}
+use Rattle.lmn_bridge.proofs.Pieces.{atom_at, atoms_each}
+use Rattle.lmn_bridge.proofs.Ports.{port_named, get_map}
+use Rattle.lmn_bridge.proofs.Runs.{get_below, get_inside}
+use Rattle.lmn_bridge.proofs.Walking.{Walk, walk_from, walk_atom, walk_typed, atoms_in_items, typed_in_items, membranes_in_items, run}
+use Rattle.lmn_bridge.proofs.Weighing.{level_weighs, weigh_nothing}
+use Rattle.lmn_turn.proofs.Held.{Held, HeldLevel, held_level, lies_kept}
+use Rattle.lmn_turn.proofs.Numbered.{SameImages, same_images, embedding_fresh}
+
+-- ---- lists by their indices
+
+reads_index : {A : Type 0} (none : A) (xs : List A) (g : ℕ → A) (n : ℕ) → ((i : ℕ) → i < length xs → g (n + i) ≡ slice_index_or xs i none) → Reads g n xs
+reads_index none [] g n h = tt
+reads_index none (x ∷ xs) g n h =
+    let z : n + 0 ≡ n = omega arith in
+    (ap g (sym z) ∙ h 0 (omega arith), reads_index none xs g (n + 1) (λ i l. let y : (n + 1) + i ≡ n + suc i = omega arith in ap g y ∙ h (suc i) (omega (arith, l))))
+
+pub reads_run : {A : Type 0} (g : ℕ → A) (n : ℕ) (bs : List A) → Reads g n bs → run g n (length bs) ≡ bs
+reads_run g n [] h = refl
+reads_run g n (b ∷ bs) h = λ j. h.0 j ∷ reads_run g (n + 1) bs h.1 j
+
+in_index : (xs : List ℕ) (b : ℕ) → In b xs → (i : ℕ) × (i < length xs) × (slice_index_or xs i 0 ≡ b)
+in_index [] b p = absurd p
+in_index (x ∷ xs) b (inl e) = (0, omega arith, e)
+in_index (x ∷ xs) b (inr p) = let u = in_index xs b p in (suc u.0, omega (arith, u.1), u.2)
+
+in_flattened : (ps : List (List ℕ)) (b : ℕ) → In b (flattened ps) → (i : ℕ) × (i < length ps) × In b (slice_index_or ps i [])
+in_flattened [] b k = absurd k
+in_flattened (p ∷ ps) b k = elim (in_either b p (flattened ps) k) [
+  | inl j ↦ (0, omega arith, j)
+  | inr j ↦ (let u = in_flattened ps b j in (suc u.0, omega (arith, u.1), u.2))
+]
+
+places_part : (ps : List (List ℕ)) (b n : ℕ) → places b (slice_index_or ps n []) ≤ places b (flattened ps)
+places_part [] b n = omega arith
+places_part (p ∷ ps) b zero = omega (arith, places_both b p (flattened ps))
+places_part (p ∷ ps) b (suc n) = omega (arith, places_part ps b n, places_both b p (flattened ps))
+
+flattened_in : (ps : List (List ℕ)) (b n : ℕ) → In b (slice_index_or ps n []) → In b (flattened ps)
+flattened_in [] b n k = absurd k
+flattened_in (p ∷ ps) b zero k = in_left b p (flattened ps) k
+flattened_in (p ∷ ps) b (suc n) k = in_right b p (flattened ps) (flattened_in ps b n k)
+
+index_in : (xs : List ℕ) (i : ℕ) → i < length xs → In (slice_index_or xs i 0) xs
+index_in [] i l = absurd (omega (arith, l))
+index_in (x ∷ xs) zero l = inl refl
+index_in (x ∷ xs) (suc i) l = inr (index_in xs i (omega (arith, l)))
+
+module _ (h : Heap) (r : Reading) (read : IsRead h r) (kind : ℕ → TypeKind) (hd : Head) (m : ℕ) (inner : Forest) (forms : Forms h inner (mems_in h m)) (once : Distinct (m ∷ flat inner))
+    (c : Contents) (plain : Plain (assignment_of c)) (ns : List ℕ) (rest : Region) (images : LevelImages (assignment_of c) (tree_of r.names r.rule hd) ns (region_at h r m inner) rest) (left : EachLeft c images)
+    (o : EachLevel (λ l. NoConnectorLeaf (leaves_of l)) (tree_of r.names r.rule hd)) (none : EachLevel NoRules (tree_of r.names r.rule hd))
+    (holds_typed : (n : ℕ) (u : HeadTyped) → HasTyped (flat_items kind 0 1 hd) n u → (p : Port) × HasLink (flat_items kind 0 1 hd) u.link p) (inside : EachInside 0 (flat_items kind 0 1 hd))
+    (guard : List Cond) (f : Images) (em : Embeds h (flat_items kind 0 1 hd) guard m f) (numbers : numbers_left h f 0 1 [] [] (flat_items kind 0 1 hd) ≡ ns) where
+  abbrev items : List HeadItem
+  items = flat_items kind 0 1 hd
+
+  abbrev v : Valid h
+  v = read.valid
+
+  abbrev t : Assignment
+  t = assignment_of c
+
+  -- the head lies in the lists of the heap
+  pub found : HeldLevel h read.valid r c (tree_of r.names r.rule hd) ns (atoms_in h m) inner (map r.rule (rules_in h m)) rest
+  found = held_level h v r c (atoms_in h m) inner (map r.rule (rules_in h m)) (v.sound.listed.atoms_once m) images left
+      (λ j. region (atoms_each h r (atoms_in h m) (list_atoms h v m) j) (regions_at h r inner) (map r.rule (rules_in h m)))
+
+  -- the atoms of the part of each typed context
+  abbrev pub part_at : ℕ → List ℕ
+  part_at n = slice_index_or found.parts n []
+
+  abbrev listed : Images
+  listed = record {
+    atom = λ n. slice_index_or found.atoms n 0;
+    membrane = λ k. slice_index_or (m ∷ found.membranes) k 0;
+    part = λ n. (0, 0);
+  }
+
+  lengths : (length found.atoms ≡ atoms_in_items items) × (length found.membranes ≡ membranes_in_items items) × (length found.parts ≡ typed_in_items items)
+  lengths = level_length h r c.link_of c.typed_of (Held h v r c) kind 0 1 hd o found.lying
+
+  pub whole_once : (b : ℕ) → weigh (one_if_same b) (atoms_in h m) + weigh (one_if_same b) (forest_atoms h inner) ≤ 1
+  whole_once b =
+      let whole = subst (λ z. Distinct (m ∷ z)) (sym (nil_right (flat inner))) once in
+      let u = tree_once h v m inner whole b in
+      omega (arith, u, weigh_both (one_if_same b) (atoms_in h m) (forest_atoms h inner), weigh_same b (tree_atoms h m inner))
+
+  listed_numbers : numbers_left h listed 0 1 [] [] items ≡ ns
+  listed_numbers = level_numbers h v r c.link_of c.typed_of (Held h v r c) listed kind 0 1 0 hd m [] [] refl o found.lying
+      (reads_index 0 found.atoms listed.atom 0 (λ i l. let z : 0 + i ≡ i = omega arith in ap listed.atom z))
+      (reads_index 0 found.membranes listed.membrane 1 (λ i l. let z : 1 + i ≡ suc i = omega arith in ap listed.membrane z))
+      (forms_tops h inner (mems_in h m) forms) (forms_grown h inner (mems_in h m) forms)
+      (λ b. omega (arith, whole_once b)) (λ b. omega (arith, once_of b (flat inner) once.1, weigh_same b (flat inner)))
+
+  same : SameImages f listed 0 1 items
+  same = same_images h f listed 0 0 1 [] [] items (omega arith) inside
+      (λ j l. let z : j ≡ 0 = omega (arith, l) in subst (λ k. f.membrane k ≡ listed.membrane k) (sym z) em.here)
+      (embedding_fresh h items guard m f em) (numbers ∙ sym listed_numbers)
+
+  atoms_read : Reads f.atom 0 found.atoms
+  atoms_read = reads_index 0 found.atoms f.atom 0 (λ i l. let z : 0 + i ≡ i = omega arith in let q = lengths.0 in same.atoms i (omega (arith, l, q)) ∙ ap listed.atom z)
+
+  pub membranes_read : Reads f.membrane 1 found.membranes
+  membranes_read = reads_index 0 found.membranes f.membrane 1 (λ i l. let z : 1 + i ≡ suc i = omega arith in let q = lengths.1 in same.mems i (omega (arith, l, q)) ∙ ap listed.membrane z)
+
+  parts_read : Reads part_at 0 found.parts
+  parts_read = reads_index [] found.parts part_at 0 (λ i l. let z : 0 + i ≡ i = omega arith in ap part_at z)
+
+  pub atoms_are : all_atoms h r f part_at c.link_of c.typed_of items ≡ found.atoms
+  atoms_are = ap (run f.atom 0) (sym lengths.0) ∙ reads_run f.atom 0 found.atoms atoms_read
+
+  pub membranes_are : all_membranes h r f part_at c.link_of c.typed_of items ≡ found.membranes
+  membranes_are = ap (run f.membrane 1) (sym lengths.1) ∙ reads_run f.membrane 1 found.membranes membranes_read
+
+  pub parts_are : all_parts h r f part_at c.link_of c.typed_of items ≡ flattened found.parts
+  parts_are = ap flattened (ap (run part_at 0) (sym lengths.2) ∙ reads_run part_at 0 found.parts parts_read)
+
+  typed_twice : (i : ℕ) (u : HeadTyped) → HasTyped items i u → total h r f part_at c.link_of c.typed_of items u.link ≢ 1
+  typed_twice i u k q =
+      let p = holds_typed i u k in
+      omega (arith, q, times_parts u.link items, port_counts u.link (atoms_of items) 0 p.0.0 p.0.1 p.1.0 p.1.1 p.1.2, typed_counts u.link (typed_contexts_of items) i u k refl)
+
+  facts : Walk (λ n a. Unit {0}) (λ n a. total h r f part_at c.link_of c.typed_of items a.link ≢ 1) (λ k n. (inside_of (membranes_of items) k ≡ n.inside) × (k ≤ length (membranes_of items))) 0 0 1 items
+  facts = walk_from (λ n a. Unit {0}) (λ n a. total h r f part_at c.link_of c.typed_of items a.link ≢ 1) (λ k n. (inside_of (membranes_of items) k ≡ n.inside) × (k ≤ length (membranes_of items))) items 0 0 1
+      (λ i a e. tt) (λ i a e. typed_twice i a e) (λ i n e. let z : 1 + i ≡ suc i = omega arith in (rw z (get_inside (membranes_of items) i n e), omega (arith, get_below (membranes_of items) i n e)))
+
+  stood : Stood h v r read.naming f part_at t plain items kind 0 0 1 items found.atoms found.parts found.membranes
+  stood = walk_level h v r read.naming f part_at t plain items kind 0 1 0 0 hd m em.here (omega arith) o none facts (lies_kept h v r c found.lying)
+      atoms_read parts_read membranes_read
+      (forms_tops h inner (mems_in h m) forms) (forms_grown h inner (mems_in h m) forms) (inl refl)
+      (λ x. omega (arith, times_are r.names r.rule kind x 0 1 hd))
+      (λ b p. subst (In b) (sym atoms_are) p) (λ b p. subst (In b) (sym parts_are) p) (λ b p. subst (In b) (sym membranes_are) p)
+
+  atom_there : (n : ℕ) (a : HeadAtom) → HasAtom items n a → AtomLies h r f part_at c.link_of c.typed_of items n a
+  atom_there n a k = let z : 0 + n ≡ n = omega arith in subst (λ z. AtomLies h r f part_at c.link_of c.typed_of items z a) z
+      (walk_atom (AtomLies h r f part_at c.link_of c.typed_of items) (TypedLies h r f part_at c.link_of c.typed_of items) (MembraneLies h r f part_at c.link_of c.typed_of items) items 0 0 1 stood.walk n a k)
+
+  typed_there : (n : ℕ) (u : HeadTyped) → HasTyped items n u → TypedLies h r f part_at c.link_of c.typed_of items n u
+  typed_there n u k = let z : 0 + n ≡ n = omega arith in subst (λ z. TypedLies h r f part_at c.link_of c.typed_of items z u) z
+      (walk_typed (AtomLies h r f part_at c.link_of c.typed_of items) (TypedLies h r f part_at c.link_of c.typed_of items) (MembraneLies h r f part_at c.link_of c.typed_of items) items 0 0 1 stood.walk n u k)
+
+  -- a link of the head is that at the image of each of its ports
+  pub link_is : (x : ℕ) (p : Port) → HasLink items x p → r.name (f.atom p.0) p.1 ≡ c.link_of x
+  link_is x p k =
+      let w = atom_there p.0 k.0 k.1 in
+      (port_named h v r (f.atom p.0) p.1 (c.link_of x) (subst (λ z. slice_get z.links p.1 ≡ Some (c.link_of x)) (sym w.is) (get_map c.link_of k.0.links p.1 x k.2))).0
+
+  places_few : (b : ℕ) → places b found.atoms + places b (flattened found.parts) ≤ 1
+  places_few b =
+      let heavy = level_weighs h (one_if_same b) (λ a. 0) found.lying in
+      let u = whole_once b in
+      omega (arith, heavy, u, weigh_nothing found.membranes, weigh_nothing (flat inner), weigh_nothing (flat found.left_forest), weigh_same b found.atoms, weigh_same b (flattened found.parts))
+
+  -- the part of a typed context is ground
+  pub part_ground : (n : ℕ) (u : HeadTyped) → HasTyped items n u → IsGroundPart h r (f.membrane u.inside) (f.part n) (part_at n) (c.typed_of (name_of r.names u.name))
+  part_ground n u k =
+      let w = typed_there n u k in
+      let p = holds_typed n u k in
+      let G = c.typed_of (name_of r.names u.name) in
+      let q = lengths.0 in
+      held_part h r read (f.membrane u.inside) (f.part n) (f.atom p.0.0, p.0.1) (part_at n) G w.ground
+      (subst (λ z. IsPart (c.typed_of (name_of r.names u.name)) z (map (atom_at h r) (part_at n))) (sym (link_is u.link p.0 p.1)) w.is)
+      (distinct_of (part_at n) (λ b. let s = places_few b in omega (arith, s, places_part found.parts b n))) w.placed ((em.parts n u k).held p.0 p.1)
+      (λ i.
+      let l = get_below (atoms_of items) p.0.0 p.1.0 p.1.1 in
+      let z : 0 + p.0.0 ≡ p.0.0 = omega arith in
+      let here = subst (λ z. In z found.atoms) (sym (ap f.atom (sym z) ∙ same.atoms p.0.0 l ∙ ap listed.atom z)) (index_in found.atoms p.0.0 (omega (arith, l, q))) in
+      let there = flattened_in found.parts (f.atom p.0.0) n i in
+      let few = places_few (f.atom p.0.0) in
+      omega (arith, few, some_of (f.atom p.0.0) found.atoms here, some_of (f.atom p.0.0) (flattened found.parts) there))
+
+  -- it is what is reached on the heap
+  pub part_is : (n : ℕ) (u : HeadTyped) → HasTyped items n u → HasPart h (f.part n) (part_at n)
+  part_is n u k = (ground_parts_stand_whole h r (f.membrane u.inside) (f.part n) (part_at n) (c.typed_of (name_of r.names u.name)) read (part_ground n u k)).1

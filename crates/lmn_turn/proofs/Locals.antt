@@ -1,0 +1,173 @@
+-- What a body adds to the membrane of a level is what the items of the level add to it.
+use Rattle.std.proofs.Common.{ℕ, ◌+◌, ◌<◌, ◌≤◌, ◌≡◌, ◌≢◌, ◌⊎◌, inl, inr, Bool, true, false, List, [], ◌∷◌, ◌++◌, map, Option, Some, None, refl, ap, ◌∙◌, arith}
+use Rattle.lmn_base.specs.declared.functor.Functor.{Functor}
+use Rattle.lmn_base.specs.declared.level.CtxUse.{CtxUse}
+use Rattle.lmn_base.specs.declared.level.Leaf.{Leaf}
+use Rattle.lmn_base.specs.declared.level.Leaf.TheVariants as leaf
+use Rattle.lmn_base.specs.Solids.{connector}
+use Rattle.lmn_heap.specs.Functors.{same_functor}
+use Rattle.std.proofs.lemmas.List.{append-nil}
+use Rattle.lmn_solid.proofs.HeadTrees.{Head, Heads, head, no_head, head_and, size, sizes}
+use Rattle.lmn_body.specs.declared.items.BodyItem.{BodyItem}
+use Rattle.lmn_body.specs.declared.items.BodyItem.TheVariants.{Membrane}
+use Rattle.lmn_body.specs.Flattening.{BodyNames, atom_item, typed_item, leaf_items, context_items, rule_items, rule_context_items}
+use Rattle.lmn_body.specs.Running.{Registers}
+use Rattle.lmn_compile_body.proofs.BodyTrees.{flat_body, flat_bodies}
+use Rattle.lmn_turn.proofs.Adders.{at, many, many_both, Elsewhere, Misses, misses_both, Adder}
+
+-- ---- how many membranes
+
+leaf_makes_none : (b : Bool) (f : Functor) (ys : List ℕ) (inside : ℕ) (xs : List BodyItem) → many (atom_item b f ys inside ∷ xs) ≡ many xs
+leaf_makes_none true f [] inside xs = refl
+leaf_makes_none true f (a ∷ []) inside xs = refl
+leaf_makes_none true f (a ∷ (b ∷ [])) inside xs = refl
+leaf_makes_none true f (a ∷ (b ∷ (c ∷ ys))) inside xs = refl
+leaf_makes_none false f ys inside xs = refl
+
+typed_makes_none : (o : Option ℕ) (i x inside : ℕ) (xs : List BodyItem) → many (typed_item o i x inside ∷ xs) ≡ many xs
+typed_makes_none (Some g) i x inside xs = refl
+typed_makes_none None i x inside xs = refl
+
+module _ (bn : BodyNames) where
+  pub no_leaf_membrane : (inside : ℕ) (ls : List Leaf) → many (leaf_items bn inside ls) ≡ 0
+  no_leaf_membrane inside [] = refl
+  no_leaf_membrane inside (leaf.Atom f os p ∷ ls) = leaf_makes_none (same_functor f connector) f (map (λ o. o.link) os) inside (leaf_items bn inside ls) ∙ no_leaf_membrane inside ls
+  no_leaf_membrane inside (leaf.Typed n o p ∷ ls) = typed_makes_none (bn.part n) (bn.integer n) o.link inside (leaf_items bn inside ls) ∙ no_leaf_membrane inside ls
+
+  no_context_membrane : (inside : ℕ) (us : List CtxUse) → many (context_items bn inside us) ≡ 0
+  no_context_membrane inside [] = refl
+  no_context_membrane inside (u ∷ us) = no_context_membrane inside us
+
+  no_rule_membrane : (inside : ℕ) (ks : List ℕ) → many (rule_items inside ks) ≡ 0
+  no_rule_membrane inside [] = refl
+  no_rule_membrane inside (k ∷ ks) = no_rule_membrane inside ks
+
+  no_rule_context_membrane : (inside : ℕ) (us : List CtxUse) → many (rule_context_items bn inside us) ≡ 0
+  no_rule_context_membrane inside [] = refl
+  no_rule_context_membrane inside (u ∷ us) = no_rule_context_membrane inside us
+
+  mutual
+    -- a level makes as many membranes as it has
+    pub many_flat : (inside next : ℕ) (h : Head) → many (flat_body bn inside next h) ≡ size h
+    many_flat inside next (head leaves hs cs rcs rs) =
+        let a = many_both (leaf_items bn inside leaves) (flat_bodies bn inside next hs ++ (context_items bn inside cs ++ (rule_items inside rs ++ rule_context_items bn inside rcs))) in
+        let b = many_both (flat_bodies bn inside next hs) (context_items bn inside cs ++ (rule_items inside rs ++ rule_context_items bn inside rcs)) in
+        let c = many_both (context_items bn inside cs) (rule_items inside rs ++ rule_context_items bn inside rcs) in
+        let d = many_both (rule_items inside rs) (rule_context_items bn inside rcs) in
+        omega (arith, a, b, c, d, no_leaf_membrane inside leaves, many_inside inside next hs, no_context_membrane inside cs, no_rule_membrane inside rs, no_rule_context_membrane inside rcs)
+
+    many_inside : (inside next : ℕ) (hs : Heads) → many (flat_bodies bn inside next hs) ≡ sizes hs
+    many_inside inside next no_head = refl
+    many_inside inside next (head_and h hs) =
+        let a = many_both (flat_body bn next (next + 1) h) (flat_bodies bn inside (next + 1 + size h) hs) in
+        omega (arith, a, many_flat next (next + 1) h, many_inside inside (next + 1 + size h) hs)
+
+  -- ---- where items are written
+
+  module _ (s : Registers) where
+    atom_elsewhere : (x : ℕ) (b : Bool) (f : Functor) (ys : List ℕ) (inside : ℕ) → at s inside ≢ x → Elsewhere s x (atom_item b f ys inside)
+    atom_elsewhere x true f [] inside d = d
+    atom_elsewhere x true f (a ∷ []) inside d = d
+    atom_elsewhere x true f (a ∷ (b ∷ [])) inside d = tt
+    atom_elsewhere x true f (a ∷ (b ∷ (c ∷ ys))) inside d = d
+    atom_elsewhere x false f ys inside d = d
+
+    typed_elsewhere : (x : ℕ) (o : Option ℕ) (i y inside : ℕ) → at s inside ≢ x → Elsewhere s x (typed_item o i y inside)
+    typed_elsewhere x (Some g) i y inside d = d
+    typed_elsewhere x None i y inside d = d
+
+    pub leaves_miss : (x inside : ℕ) → at s inside ≢ x → (ls : List Leaf) → Misses s x (leaf_items bn inside ls)
+    leaves_miss x inside d [] = tt
+    leaves_miss x inside d (leaf.Atom f os p ∷ ls) = (atom_elsewhere x (same_functor f connector) f (map (λ o. o.link) os) inside d, leaves_miss x inside d ls)
+    leaves_miss x inside d (leaf.Typed n o p ∷ ls) = (typed_elsewhere x (bn.part n) (bn.integer n) o.link inside d, leaves_miss x inside d ls)
+
+    contexts_miss : (x inside : ℕ) → at s inside ≢ x → (us : List CtxUse) → Misses s x (context_items bn inside us)
+    contexts_miss x inside d [] = tt
+    contexts_miss x inside d (u ∷ us) = (d, contexts_miss x inside d us)
+
+    rules_miss : (x inside : ℕ) → at s inside ≢ x → (ks : List ℕ) → Misses s x (rule_items inside ks)
+    rules_miss x inside d [] = tt
+    rules_miss x inside d (k ∷ ks) = (d, rules_miss x inside d ks)
+
+    rule_contexts_miss : (x inside : ℕ) → at s inside ≢ x → (us : List CtxUse) → Misses s x (rule_context_items bn inside us)
+    rule_contexts_miss x inside d [] = tt
+    rule_contexts_miss x inside d (u ∷ us) = (d, rule_contexts_miss x inside d us)
+
+    abbrev behind : ℕ → List CtxUse → List CtxUse → List ℕ → List BodyItem
+    behind inside cs rcs rs = context_items bn inside cs ++ (rule_items inside rs ++ rule_context_items bn inside rcs)
+
+    behind_miss : (x inside : ℕ) → at s inside ≢ x → (cs rcs : List CtxUse) (rs : List ℕ) → Misses s x (context_items bn inside cs ++ (rule_items inside rs ++ rule_context_items bn inside rcs))
+    behind_miss x inside d cs rcs rs =
+        misses_both s x (context_items bn inside cs) (rule_items inside rs ++ rule_context_items bn inside rcs) (contexts_miss x inside d cs)
+        (misses_both s x (rule_items inside rs) (rule_context_items bn inside rcs) (rules_miss x inside d rs) (rule_contexts_miss x inside d rcs))
+
+    mutual
+      -- a level adds nothing elsewhere
+      pub body_misses : (x inside next : ℕ) (h : Head) → at s inside ≢ x → ((j : ℕ) → next ≤ j → j < next + size h → at s j ≢ x) → Misses s x (flat_body bn inside next h)
+      body_misses x inside next (head leaves hs cs rcs rs) d o =
+          misses_both s x (leaf_items bn inside leaves) (flat_bodies bn inside next hs ++ (context_items bn inside cs ++ (rule_items inside rs ++ rule_context_items bn inside rcs))) (leaves_miss x inside d leaves)
+          (misses_both s x (flat_bodies bn inside next hs) (context_items bn inside cs ++ (rule_items inside rs ++ rule_context_items bn inside rcs)) (bodies_miss x inside next hs d o) (behind_miss x inside d cs rcs rs))
+
+      bodies_miss : (x inside next : ℕ) (hs : Heads) → at s inside ≢ x → ((j : ℕ) → next ≤ j → j < next + sizes hs → at s j ≢ x) → Misses s x (flat_bodies bn inside next hs)
+      bodies_miss x inside next no_head d o = tt
+      bodies_miss x inside next (head_and h hs) d o = (
+        d,
+        misses_both s x (flat_body bn next (next + 1) h) (flat_bodies bn inside (next + 1 + size h) hs)
+            (body_misses x next (next + 1) h (o next (omega arith) (omega arith)) (λ j l k. o j (omega (arith, l)) (omega (arith, k))))
+            (bodies_miss x inside (next + 1 + size h) hs d (λ j l k. o j (omega (arith, l)) (omega (arith, k)))),
+      )
+
+    -- ---- what is local
+
+    module _ {X : Type 0} (A : Adder s X) (first : ℕ) (B : List BodyItem) (low high : ℕ) (apart : (j k : ℕ) → (j ≡ 0) ⊎ ((low ≤ j) × (j < high)) → (k ≡ 0) ⊎ ((low ≤ k) × (k < high)) → at s j ≡ at s k → j ≡ k) where
+      -- a register of the rule's membrane, or of one that is made
+      abbrev Used : ℕ → Type 0
+      Used j = (j ≡ 0) ⊎ ((low ≤ j) × (j < high))
+
+      -- the body adds to the membranes of a level what the level adds
+      abbrev pub Local : Head → ℕ → ℕ → Type 0
+      Local h inside next = (j : ℕ) → (j ≡ inside) ⊎ ((next ≤ j) × (j < next + size h)) → A.adds first B (at s j) ≡ A.adds next (flat_body bn inside next h) (at s j)
+
+      -- and so for levels side by side
+      abbrev pub LocalIn : Heads → ℕ → ℕ → Type 0
+      LocalIn hs inside next = (j : ℕ) → next ≤ j → j < next + sizes hs → A.adds first B (at s j) ≡ A.adds next (flat_bodies bn inside next hs) (at s j)
+
+      differ : (j k : ℕ) → Used j → Used k → j ≢ k → at s j ≢ at s k
+      differ j k u w d e = d (apart j k u w e)
+
+      skip : (n k : ℕ) (xs ys : List BodyItem) (x : ℕ) → Misses s x xs → many xs ≡ k → A.adds n (xs ++ ys) x ≡ A.adds (n + k) ys x
+      skip n k xs ys x m e = A.both n xs ys x ∙ ap (λ z. z ++ A.adds (n + many xs) ys x) (A.missed n xs x m) ∙ ap (λ z. A.adds (n + z) ys x) e
+
+      front : (n : ℕ) (xs ys : List BodyItem) (x : ℕ) → Misses s x ys → A.adds n (xs ++ ys) x ≡ A.adds n xs x
+      front n xs ys x m = A.both n xs ys x ∙ ap (λ z. A.adds n xs x ++ z) (A.missed (n + many xs) ys x m) ∙ append-nil (A.adds n xs x)
+
+      pub local_inside : (inside next : ℕ) (leaves : List Leaf) (hs : Heads) (cs rcs : List CtxUse) (rs : List ℕ) → Used inside → low ≤ next → inside < next → next + sizes hs ≤ high →
+          Local (head leaves hs cs rcs rs) inside next → LocalIn hs inside next
+      local_inside inside next leaves hs cs rcs rs u l i t L j a b =
+          let d = differ inside j u (inr (omega (arith, l, a), omega (arith, b, t))) (λ e. omega (arith, e, i, a)) in
+          let z : next + 0 ≡ next = omega arith in
+          L j (inr (a, b))
+          ∙ skip next 0 (leaf_items bn inside leaves) (flat_bodies bn inside next hs ++ (context_items bn inside cs ++ (rule_items inside rs ++ rule_context_items bn inside rcs))) (at s j) (leaves_miss (at s j) inside d leaves) (no_leaf_membrane inside leaves)
+          ∙ ap (λ n. A.adds n (flat_bodies bn inside next hs ++ (context_items bn inside cs ++ (rule_items inside rs ++ rule_context_items bn inside rcs))) (at s j)) z
+          ∙ front next (flat_bodies bn inside next hs) (context_items bn inside cs ++ (rule_items inside rs ++ rule_context_items bn inside rcs)) (at s j) (behind_miss (at s j) inside d cs rcs rs)
+
+      pub local_first : (inside next : ℕ) (h : Head) (hs : Heads) → Used inside → low ≤ next → inside < next → next + sizes (head_and h hs) ≤ high → LocalIn (head_and h hs) inside next → Local h next (next + 1)
+      local_first inside next h hs u l i t L j w =
+          let within : (next ≤ j) × (j < next + 1 + size h) = elim w [ inl e ↦ (omega (arith, e), omega (arith, e)) | inr p ↦ (let a = p.0 in omega (arith, a), p.1) ] in
+          let a = within.0 in
+          let b = within.1 in
+          let used : Used j = inr (omega (arith, l, a), omega (arith, b, t)) in
+          let d = differ inside j u used (λ e. omega (arith, e, i, a)) in
+          let others = bodies_miss (at s j) inside (next + 1 + size h) hs d (λ k c e. differ k j (inr (omega (arith, l, c), omega (arith, e, t))) used (λ q. omega (arith, q, c, b))) in
+          L j a (omega (arith, b))
+          ∙ skip next 1 (Membrane inside ∷ []) (flat_body bn next (next + 1) h ++ flat_bodies bn inside (next + 1 + size h) hs) (at s j) (d, tt) refl
+          ∙ front (next + 1) (flat_body bn next (next + 1) h) (flat_bodies bn inside (next + 1 + size h) hs) (at s j) others
+
+      pub local_rest : (inside next : ℕ) (h : Head) (hs : Heads) → Used inside → low ≤ next → inside < next → next + sizes (head_and h hs) ≤ high → LocalIn (head_and h hs) inside next → LocalIn hs inside (next + 1 + size h)
+      local_rest inside next h hs u l i t L j a b =
+          let used : Used j = inr (omega (arith, l, a), omega (arith, b, t)) in
+          let d = differ inside j u used (λ e. omega (arith, e, i, a)) in
+          let mine = body_misses (at s j) next (next + 1) h (differ next j (inr (l, omega (arith, t))) used (λ e. omega (arith, e, a))) (λ k c e. differ k j (inr (omega (arith, l, c), omega (arith, e, t))) used (λ q. omega (arith, q, e, a))) in
+          L j (omega (arith, a)) (omega (arith, b))
+          ∙ skip next 1 (Membrane inside ∷ []) (flat_body bn next (next + 1) h ++ flat_bodies bn inside (next + 1 + size h) hs) (at s j) (d, tt) refl
+          ∙ skip (next + 1) (size h) (flat_body bn next (next + 1) h) (flat_bodies bn inside (next + 1 + size h) hs) (at s j) mine (many_flat next (next + 1) h)

@@ -1,0 +1,121 @@
+-- What the code of a body makes is new, and the root stays.
+use Rattle.std.proofs.Common.{ℕ, ◌≡◌, ◌+◌, Bool, true, false, List, [], ◌∷◌, ◌++◌, map, length, Option, Some, None, refl, ap, subst, ◌∙◌}
+use Rattle.std.specs.Prelude.{◌==◌, ◌&&◌, cond}
+use Rattle.lmn_heap.specs.Heap.{Heap, link_of, taken, placed, joined}
+use Rattle.lmn_heap.specs.Splice.{joined_to, joined_both}
+use Rattle.lmn_solid.specs.declared.items.HeadItem.{HeadItem}
+use Rattle.lmn_solid.specs.Heads.{atoms_of, membranes_of, typed_contexts_of}
+use Rattle.lmn_splice.specs.Ports.{Port}
+use Rattle.lmn_splice.specs.Classes.{class_of, rising}
+use Rattle.lmn_splice.specs.Ties.{Tie, newlink, relink, unify}
+use Rattle.lmn_instr.specs.declared.instr.Instr.{Instr}
+use Rattle.lmn_instr.specs.declared.instr.Instr.TheVariants.{RemoveAtom, RemovePart, RemoveMem, NewAtom, NewInt, NewMem, CopyGround, MoveCells, LoadRule, CopyRules, NewLink, Relink, Unify, Proceed}
+use Rattle.lmn_body.specs.declared.items.BodyItem.{BodyItem}
+use Rattle.lmn_body.specs.Added.{made_mems}
+use Rattle.lmn_body.specs.Code.{body_code, making, removals, links_code}
+use Rattle.lmn_body.specs.Items.{new_ports, old_ports, connectors}
+use Rattle.lmn_body.specs.Running.{Registers, Prepares, Commits, RunsBody, Makes, Does, all_taken, all_placed, new_port, old_port}
+use Rattle.lmn_body.specs.Tied.{tied}
+use Rattle.lmn_body.proofs.Coding.{prepares_append, prepares_taken}
+use Rattle.lmn_body.proofs.Preparing.{MemsMade, making_mems}
+
+-- ---- the root
+
+taken_root : (ns : List ℕ) (s : Heap) → (all_taken s ns).root ≡ s.root
+taken_root [] s = refl
+taken_root (a ∷ ns) s = taken_root ns (taken s a)
+
+placed_root : (es : List (ℕ × ℕ)) (s : Heap) → (all_placed s es).root ≡ s.root
+placed_root [] s = refl
+placed_root (e ∷ es) s = placed_root es (placed s e.0 e.1)
+
+to_root : (s : Heap) (a i : ℕ) (o : Option (ℕ × ℕ)) → (joined_to s a i o).root ≡ s.root
+to_root s a i None = refl
+to_root s a i (Some c) = refl
+
+both_root : (s : Heap) (b j : ℕ) (o u : Option (ℕ × ℕ)) → (joined_both s b j o u).root ≡ s.root
+both_root s b j None u = refl
+both_root s b j (Some c) None = refl
+both_root s b j (Some c) (Some d) = by ((c.0 == b) && (c.1 == j))
+  where
+    by : (t : Bool) → (cond t s (joined s c.0 c.1 d.0 d.1)).root ≡ s.root
+    by true = refl
+    by false = refl
+
+tied_root : (t : Tie Port) (s : Heap) → (tied s t).root ≡ s.root
+tied_root (newlink p q) s = refl
+tied_root (relink p o) s = to_root s p.0 p.1 (link_of s o.0 o.1)
+tied_root (unify g o) s = both_root s o.0 o.1 (link_of s g.0 g.1) (link_of s o.0 o.1)
+
+makes_root : (r : Registers) (i : Instr) (s t : Heap) → Makes r i s t → t.root ≡ s.root
+makes_root r (RemoveAtom a) s t w = ap (λ z. z.root) w
+makes_root r (RemovePart g) s t w = ap (λ z. z.root) w
+makes_root r (RemoveMem m) s t w = ap (λ z. z.root) w
+makes_root r (NewAtom a m f) s t w = ap (λ z. z.root) w.1
+makes_root r (NewInt a m v) s t w = ap (λ z. z.root) w.1
+makes_root r (NewMem m n) s t w = ap (λ z. z.root) w.1
+makes_root r (CopyGround c m g) s t w = w.0.beside.root
+makes_root r (MoveCells m n) s t w = ap (λ z. z.root) w
+makes_root r (LoadRule m k) s t w = ap (λ z. z.root) w.1
+makes_root r (CopyRules m n) s t w = ap (λ z. z.root) w.1
+makes_root r (NewLink p q) s t w = ap (λ z. z.root) w
+makes_root r (Relink p h) s t w = ap (λ z. z.root) w
+makes_root r (Unify g h) s t w = ap (λ z. z.root) w
+makes_root r Proceed s t w = ap (λ z. z.root) w
+makes_root r _ s t w = absurd w
+
+does_root : (r : Registers) (i : Instr) (s t : Heap) → Does r i s t → t.root ≡ s.root
+does_root r (RemoveAtom a) s t w = ap (λ z. z.root) w
+does_root r (RemovePart g) s t w = ap (λ z. z.root) w.3 ∙ taken_root w.0 s
+does_root r (RemoveMem m) s t w = ap (λ z. z.root) w
+does_root r (NewAtom a m f) s t w = ap (λ z. z.root) w.1
+does_root r (NewInt a m v) s t w = ap (λ z. z.root) w.1
+does_root r (NewMem m n) s t w = ap (λ z. z.root) w.1
+does_root r (CopyGround c m g) s t w = ap (λ z. z.root) w.2 ∙ placed_root (map (λ a. (r.head.images.membrane m, a)) (r.copied c)) s
+does_root r (MoveCells m n) s t w = ap (λ z. z.root) w
+does_root r (LoadRule m k) s t w = ap (λ z. z.root) w
+does_root r (CopyRules m n) s t w = ap (λ z. z.root) w
+does_root r (NewLink p q) s t w = ap (λ z. z.root) w
+does_root r (Relink p h) s t w = ap (λ z. z.root) w ∙ tied_root (relink (new_port r p) (old_port r h)) s
+does_root r (Unify g h) s t w = ap (λ z. z.root) w ∙ tied_root (unify (old_port r g) (old_port r h)) s
+does_root r Proceed s t w = ap (λ z. z.root) w
+does_root r _ s t w = absurd w
+
+prepares_root : (r : Registers) (is : List Instr) (s t : Heap) → Prepares r is s t → t.root ≡ s.root
+prepares_root r [] s t w = ap (λ z. z.root) w
+prepares_root r (i ∷ is) s t w = prepares_root r is w.0 t w.2 ∙ makes_root r i s w.0 w.1
+
+commits_root : (r : Registers) (is : List Instr) (s t : Heap) → Commits r is s t → t.root ≡ s.root
+commits_root r [] s t w = ap (λ z. z.root) w
+commits_root r (i ∷ is) s t w = commits_root r is w.0 t w.2 ∙ does_root r i s w.0 w.1
+
+-- code of a body leaves the root where it is
+pub root_stays : (r : Registers) (code : List Instr) (s t : Heap) → RunsBody r code s t → t.root ≡ s.root
+root_stays r code s t w = commits_root r code w.0 t w.2 ∙ prepares_root r code s w.0 w.1
+
+-- ---- what is made
+
+part_prepares : (r : Registers) (gs : List ℕ) (s t : Heap) → Prepares r (map RemovePart gs) s t → t ≡ s
+part_prepares r [] s t w = w
+part_prepares r (g ∷ gs) s t w = part_prepares r gs w.0 t w.2 ∙ w.1
+
+mem_prepares : (r : Registers) (ms : List ℕ) (s t : Heap) → Prepares r (map RemoveMem ms) s t → t ≡ s
+mem_prepares r [] s t w = w
+mem_prepares r (m ∷ ms) s t w = mem_prepares r ms w.0 t w.2 ∙ w.1
+
+-- what a body makes is new, each once
+pub all_new : (head : List HeadItem) (body : List BodyItem) (n : ℕ) → (r : Registers) (h h' : Heap) → RunsBody r (body_code head body n) h h' →
+    (t : Heap) × MemsMade h t (made_mems r (1 + length (membranes_of head)) body)
+all_new head body n r h h' (s, prepares, commits) =
+    let N = length (atoms_of head) in
+    let K = length (membranes_of head) in
+    let links_part = links_code (class_of (connectors body)) (new_ports N 0 body) (old_ports head) (rising 0 n) in
+    let parts = map RemovePart (rising 0 (length (typed_contexts_of head))) in
+    let mems = map RemoveMem (rising 1 K) in
+    let make = making N (1 + K) 0 body in
+    let pa = prepares_append r (removals head) (make ++ (links_part ++ (Proceed ∷ []))) h s prepares in
+    let pb = prepares_append r (map RemoveAtom (rising 0 N)) (parts ++ mems) h pa.0 pa.1 in
+    let pc = prepares_append r parts mems pb.0 pa.0 pb.2 in
+    let pd = prepares_append r make (links_part ++ (Proceed ∷ [])) pa.0 s pa.2 in
+    let first : pa.0 ≡ h = mem_prepares r (rising 1 K) pc.0 pa.0 pc.2 ∙ part_prepares r (rising 0 (length (typed_contexts_of head))) pb.0 pc.0 pc.1 ∙ prepares_taken r (rising 0 N) h pb.0 pb.1 in
+    (pd.0, making_mems r N (1 + K) 0 body h pd.0 (subst (λ z. Prepares r make z pd.0) first pd.1))

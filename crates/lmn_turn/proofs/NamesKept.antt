@@ -1,0 +1,258 @@
+-- After a firing no removed membrane is in the tree, and the names of functors are known.
+use Rattle.std.proofs.Common.{ℕ, ◌≡◌, ◌+◌, ◌⊎◌, ◌==◌, Bool, true, false, cond, List, [], ◌∷◌, ◌++◌, map, length, Option, Some, None, IsSome, refl, sym, ap, subst, ◌∙◌, inl, inr, arith}
+use Rattle.std.specs.Option.{option_map}
+use Rattle.std.proofs.lemmas.Option.{same_Some}
+use Rattle.lmn_base.specs.declared.functor.Functor.{Functor}
+use Rattle.lmn_base.specs.declared.level.CtxUse.{CtxUse}
+use Rattle.lmn_base.specs.declared.level.Leaf.{Leaf}
+use Rattle.lmn_base.specs.declared.level.Leaf.TheVariants as leaf
+use Rattle.lmn_base.specs.Names.{HasNames, label_names}
+use Rattle.lmn_base.specs.Solids.{connector}
+use Rattle.lmn_heap.specs.Functors.{same_functor}
+use Rattle.lmn_heap.specs.Heap.{Heap, HeapAtom, HeapMem, IsAtom, IsMem, functor_of, home_of, atoms_in, mems_in, atoms_by}
+use Rattle.lmn_heap.specs.Lists.{In}
+use Rattle.lmn_heap.specs.Sound.{Forest, bare, mem, flat, Forms, IsTree, Valid}
+use Rattle.lmn_heap.proofs.Trees.{in_either}
+use Rattle.lmn_solid.specs.declared.items.HeadItem.{HeadItem}
+use Rattle.lmn_solid.specs.Heads as heads
+use Rattle.lmn_solid.proofs.HeadTrees.{Head, Heads, head, no_head, head_and, size, head_leaves, heads_leaves}
+use Rattle.lmn_splice.specs.Ports.{Port}
+use Rattle.lmn_splice.specs.Splice as splice
+use Rattle.lmn_body.specs.declared.items.BodyItem.{BodyItem}
+use Rattle.lmn_body.specs.declared.items.BodyItem.TheVariants.{Atom, Connector, Copy, Bound, Membrane, Rest, Rule, Rules}
+use Rattle.lmn_body.specs.Added.{if_inside, added_atoms, added_mems, made_mems}
+use Rattle.lmn_body.specs.Flattening.{BodyNames, atom_item, typed_item, leaf_items, context_items, rule_items, rule_context_items}
+use Rattle.lmn_body.specs.Made.{made_of, new_atoms, copies_of}
+use Rattle.lmn_parts.proofs.AnswerLaws.{answer_onto}
+use Rattle.lmn_parts.proofs.WalkLaws.{once}
+use Rattle.lmn_parts.specs.Walks.{net, next}
+use Rattle.lmn_body.specs.Running.{Registers, withouts, integer_functor}
+use Rattle.lmn_body.specs.Within.{membrane_images, FiresWithin}
+use Rattle.lmn_body.proofs.AddedLemmas.{comes_from}
+use Rattle.lmn_body.proofs.BodyPorts.{numbers}
+use Rattle.lmn_body.proofs.Committing.{in_withouts_of}
+use Rattle.lmn_body.proofs.Finishing.{in_place_listed}
+use Rattle.lmn_bridge.proofs.Forests.{in_place}
+use Rattle.lmn_compile_body.proofs.BodyTrees.{flat_body, flat_bodies}
+use Rattle.lmn_turn.proofs.Adders.{at}
+
+-- ---- where added membranes come from
+
+pub if_in : (s : Registers) (x inside : ℕ) (ns : List ℕ) (b : ℕ) → In b (if_inside s x inside ns) → In b ns
+if_in s x inside ns b i = by (at s inside == x) i
+  where
+    by : (t : Bool) → In b (cond t ns []) → In b ns
+    by true i = i
+    by false i = absurd i
+
+-- an added membrane is made, or was left of another
+added_from : (s : Registers) (left : ℕ → List ℕ) (n : ℕ) (xs : List BodyItem) (x z : ℕ) → In z (added_mems s left n xs x) → In z (made_mems s n xs) ⊎ ((k : ℕ) × In z (left k))
+added_from s left n [] x z i = absurd i
+added_from s left n (Atom functor links inside ∷ xs) x z i = added_from s left n xs x z i
+added_from s left n (Connector l l' ∷ xs) x z i = added_from s left n xs x z i
+added_from s left n (Copy part link inside ∷ xs) x z i = added_from s left n xs x z i
+added_from s left n (Bound integer link inside ∷ xs) x z i = added_from s left n xs x z i
+added_from s left n (Membrane inside ∷ xs) x z i = elim (in_either z (if_inside s x inside (at s n ∷ [])) (added_mems s left (n + 1) xs x) i) [
+  | inl j ↦ elim (if_in s x inside (at s n ∷ []) z j) [ inl e ↦ inl (inl e) | inr w ↦ absurd w ]
+  | inr j ↦ elim (added_from s left (n + 1) xs x z j) [ inl w ↦ inl (inr w) | inr w ↦ inr w ]
+]
+added_from s left n (Rest of inside ∷ xs) x z i = elim (in_either z (if_inside s x inside (left (at s of))) (added_mems s left n xs x) i) [
+  | inl j ↦ inr (at s of, if_in s x inside (left (at s of)) z j)
+  | inr j ↦ added_from s left n xs x z j
+]
+added_from s left n (Rule k inside ∷ xs) x z i = added_from s left n xs x z i
+added_from s left n (Rules of inside ∷ xs) x z i = added_from s left n xs x z i
+
+-- a new atom is written, or is one of a copy
+new_from : (s : Registers) (a c : ℕ) (body : List BodyItem) (b : ℕ) → In b (new_atoms s a c body) → In b (numbers (made_of s a body)) ⊎ ((e : ℕ × ℕ) × splice.In e (copies_of c body) × In b (s.copied e.0))
+new_from s a c [] b i = absurd i
+new_from s a c (Atom functor links inside ∷ xs) b (inl e) = inl (inl e)
+new_from s a c (Atom functor links inside ∷ xs) b (inr i) = elim (new_from s (a + 1) c xs b i) [ inl w ↦ inl (inr w) | inr w ↦ inr w ]
+new_from s a c (Bound integer link inside ∷ xs) b (inl e) = inl (inl e)
+new_from s a c (Bound integer link inside ∷ xs) b (inr i) = elim (new_from s (a + 1) c xs b i) [ inl w ↦ inl (inr w) | inr w ↦ inr w ]
+new_from s a c (Connector left right ∷ xs) b i = new_from s a c xs b i
+new_from s a c (Copy part link inside ∷ xs) b i = elim (in_either b (s.copied c) (new_atoms s a (c + 1) xs) i) [
+  | inl j ↦ inr ((c, part), inl refl, j)
+  | inr j ↦ elim (new_from s a (c + 1) xs b j) [ inl w ↦ inl w | inr w ↦ inr (w.0, inr w.1, w.2) ]
+]
+new_from s a c (Membrane inside ∷ xs) b i = new_from s a c xs b i
+new_from s a c (Rest of inside ∷ xs) b i = new_from s a c xs b i
+new_from s a c (Rule k inside ∷ xs) b i = new_from s a c xs b i
+new_from s a c (Rules of inside ∷ xs) b i = new_from s a c xs b i
+
+-- ---- names of what a body makes
+
+module _ (names : List (List ℕ)) where
+  abbrev pub ItemNamed : BodyItem → Type 0
+  ItemNamed (Atom functor links inside) = HasNames names (label_names functor.label)
+  ItemNamed (Connector left right) = Unit {0}
+  ItemNamed (Copy part link inside) = Unit {0}
+  ItemNamed (Bound integer link inside) = Unit {0}
+  ItemNamed (Membrane inside) = Unit {0}
+  ItemNamed (Rest of inside) = Unit {0}
+  ItemNamed (Rule k inside) = Unit {0}
+  ItemNamed (Rules of inside) = Unit {0}
+
+  abbrev pub AllNamed : List BodyItem → Type 0
+  AllNamed [] = Unit {0}
+  AllNamed (x ∷ xs) = ItemNamed x × AllNamed xs
+
+  named_both : (xs ys : List BodyItem) → AllNamed xs → AllNamed ys → AllNamed (xs ++ ys)
+  named_both [] ys a b = b
+  named_both (x ∷ xs) ys a b = (a.0, named_both xs ys a.1 b)
+
+  -- each atom among these leaves has a known name
+  abbrev pub LeafNamed : Leaf → Type 0
+  LeafNamed (leaf.Atom f os p) = HasNames names (label_names f.label)
+  LeafNamed (leaf.Typed n o p) = Unit {0}
+
+  abbrev pub LeavesNamed : List Leaf → Type 0
+  LeavesNamed [] = Unit {0}
+  LeavesNamed (l ∷ ls) = LeafNamed l × LeavesNamed ls
+
+  leaves_split : (xs ys : List Leaf) → LeavesNamed (xs ++ ys) → LeavesNamed xs × LeavesNamed ys
+  leaves_split [] ys a = (tt, a)
+  leaves_split (x ∷ xs) ys a = let u = leaves_split xs ys a.1 in ((a.0, u.0), u.1)
+
+  no_name : (z : List ℕ) → HasNames names []
+  no_name z i d l = absurd (omega (arith, l))
+
+  made_named : (s : Registers) (a : ℕ) (xs : List BodyItem) → AllNamed xs → (b : ℕ) → In b (numbers (made_of s a xs)) → (e : ℕ × Functor) × splice.In e (made_of s a xs) × (e.0 ≡ b) × HasNames names (label_names e.1.label)
+  made_named s a [] n b i = absurd i
+  made_named s a (Atom functor links inside ∷ xs) n b (inl e) = ((s.head.images.atom a, functor), inl refl, e, n.0)
+  made_named s a (Atom functor links inside ∷ xs) n b (inr i) = let u = made_named s (a + 1) xs n.1 b i in (u.0, inr u.1, u.2, u.3)
+  made_named s a (Bound integer link inside ∷ xs) n b (inl e) = ((s.head.images.atom a, integer_functor (s.head.integer integer)), inl refl, e, no_name [])
+  made_named s a (Bound integer link inside ∷ xs) n b (inr i) = let u = made_named s (a + 1) xs n.1 b i in (u.0, inr u.1, u.2, u.3)
+  made_named s a (Connector left right ∷ xs) n b i = made_named s a xs n.1 b i
+  made_named s a (Copy part link inside ∷ xs) n b i = made_named s a xs n.1 b i
+  made_named s a (Membrane inside ∷ xs) n b i = made_named s a xs n.1 b i
+  made_named s a (Rest of inside ∷ xs) n b i = made_named s a xs n.1 b i
+  made_named s a (Rule k inside ∷ xs) n b i = made_named s a xs n.1 b i
+  made_named s a (Rules of inside ∷ xs) n b i = made_named s a xs n.1 b i
+
+  module _ (bn : BodyNames) where
+    atom_named : (t : Bool) (f : Functor) (ys : List ℕ) (inside : ℕ) → HasNames names (label_names f.label) → ItemNamed (atom_item t f ys inside)
+    atom_named true f [] inside n = n
+    atom_named true f (a ∷ []) inside n = n
+    atom_named true f (a ∷ (b ∷ [])) inside n = tt
+    atom_named true f (a ∷ (b ∷ (c ∷ ys))) inside n = n
+    atom_named false f ys inside n = n
+
+    typed_named : (o : Option ℕ) (i x inside : ℕ) → ItemNamed (typed_item o i x inside)
+    typed_named (Some g) i x inside = tt
+    typed_named None i x inside = tt
+
+    items_named : (inside : ℕ) (ls : List Leaf) → LeavesNamed ls → AllNamed (leaf_items bn inside ls)
+    items_named inside [] n = tt
+    items_named inside (leaf.Atom f os p ∷ ls) n = (atom_named (same_functor f connector) f (map (λ o. o.link) os) inside n.0, items_named inside ls n.1)
+    items_named inside (leaf.Typed m o p ∷ ls) n = (typed_named (bn.part m) (bn.integer m) o.link inside, items_named inside ls n.1)
+
+    contexts_named : (inside : ℕ) (us : List CtxUse) → AllNamed (context_items bn inside us)
+    contexts_named inside [] = tt
+    contexts_named inside (u ∷ us) = (tt, contexts_named inside us)
+
+    rules_named : (inside : ℕ) (ks : List ℕ) → AllNamed (rule_items inside ks)
+    rules_named inside [] = tt
+    rules_named inside (k ∷ ks) = (tt, rules_named inside ks)
+
+    rule_contexts_named : (inside : ℕ) (us : List CtxUse) → AllNamed (rule_context_items bn inside us)
+    rule_contexts_named inside [] = tt
+    rule_contexts_named inside (u ∷ us) = (tt, rule_contexts_named inside us)
+
+    mutual
+      -- the names of a body are known
+      pub body_named : (inside next : ℕ) (hd : Head) → LeavesNamed (head_leaves hd) → AllNamed (flat_body bn inside next hd)
+      body_named inside next (head leaves hs cs rcs rs) n =
+          let u = leaves_split leaves (heads_leaves hs) n in
+          named_both (leaf_items bn inside leaves) (flat_bodies bn inside next hs ++ (context_items bn inside cs ++ (rule_items inside rs ++ rule_context_items bn inside rcs))) (items_named inside leaves u.0)
+          (named_both (flat_bodies bn inside next hs) (context_items bn inside cs ++ (rule_items inside rs ++ rule_context_items bn inside rcs)) (bodies_named inside next hs u.1)
+          (named_both (context_items bn inside cs) (rule_items inside rs ++ rule_context_items bn inside rcs) (contexts_named inside cs)
+          (named_both (rule_items inside rs) (rule_context_items bn inside rcs) (rules_named inside rs) (rule_contexts_named inside rcs))))
+
+      bodies_named : (inside next : ℕ) (hs : Heads) → LeavesNamed (heads_leaves hs) → AllNamed (flat_bodies bn inside next hs)
+      bodies_named inside next no_head n = tt
+      bodies_named inside next (head_and h hs) n =
+          let u = leaves_split (head_leaves h) (heads_leaves hs) n in
+          (tt, named_both (flat_body bn next (next + 1) h) (flat_bodies bn inside (next + 1 + size h) hs) (body_named next (next + 1) h u.0) (bodies_named inside (next + 1 + size h) hs u.1))
+
+-- ---- after a firing
+
+module _ (h h' : Heap) (v : Valid h) (v' : Valid h') (c : Port → ℕ) (s : Registers) (head : List HeadItem) (body : List BodyItem) (taken : List ℕ) (f : FiresWithin h c s head body taken h')
+    (new : (x : ℕ) → In x (made_mems s (1 + length (heads.membranes_of head)) body) → In x (membrane_images s head) → ⊥) where
+  abbrev ks : List ℕ
+  ks = membrane_images s head
+
+  -- no membrane of the tree is removed
+  pub none_removed : (t : Forest) (ms : List ℕ) → Forms h' t ms → ((z : ℕ) → In z ms → In z ks → ⊥) → (y : ℕ) → In y (flat t) → In y ks → ⊥
+  none_removed bare ms F o y p = absurd p
+  none_removed (mem k i t) ms F o y p =
+      let mine : In k ks → ⊥ = o k (subst (In k) (sym F.1) (inl refl)) in
+      elim p [
+        | inl e ↦ subst (λ z. In z ks → ⊥) e mine
+        | inr q ↦ elim (in_either y (flat i) (flat t) q) [
+          | inl a ↦ none_removed i (mems_in h' k) F.2 (λ z j. children k mine z (subst (In z) (f.mems k mine) j)) y a
+          | inr b ↦ none_removed t F.0 F.3 (λ z j. o z (subst (In z) (sym F.1) (inr j))) y b
+        ]
+      ]
+    where
+      kept : (k z : ℕ) → In z (withouts ks (mems_in h k)) → In z ks → ⊥
+      kept k z i = (in_withouts_of ks (mems_in h k) z (v.sound.listed.mems_once k) i).1
+
+      children : (k : ℕ) → (In k ks → ⊥) → (z : ℕ) → In z (withouts ks (mems_in h k) ++ added_mems s (λ j. withouts ks (mems_in h j)) (1 + length (heads.membranes_of head)) body k) → In z ks → ⊥
+      children k o z i = elim (in_either z (withouts ks (mems_in h k)) (added_mems s (λ j. withouts ks (mems_in h j)) (1 + length (heads.membranes_of head)) body k) i) [
+        | inl a ↦ kept k z a
+        | inr b ↦ elim (added_from s (λ j. withouts ks (mems_in h j)) (1 + length (heads.membranes_of head)) body k z b) [
+          | inl w ↦ new z w
+          | inr w ↦ kept w.0 z w.1
+        ]
+      ]
+
+  home_is : (a : ℕ) → IsSome (home_of h' a) → (m : ℕ) × (home_of h' a ≡ Some m)
+  home_is a i = by (home_of h' a) refl i
+    where
+      by : (o : Option ℕ) → home_of h' a ≡ o → IsSome o → (m : ℕ) × (home_of h' a ≡ Some m)
+      by None e i = absurd (cc)
+      by (Some m) e i = (m, e)
+
+  list_mem : (x a : ℕ) → In a (atoms_in h' x) → IsMem h' x
+  list_mem x a i = by (h'.mems x) i
+    where
+      by : (o : Option HeapMem) → In a (atoms_by o) → IsSome o
+      by None i = absurd i
+      by (Some y) i = refl
+
+  functor_atom : (a : ℕ) (g : Functor) → functor_of h' a ≡ Some g → IsAtom h' a
+  functor_atom a g e = by (h'.atoms a) e
+    where
+      by : (o : Option HeapAtom) → option_map (λ x. x.functor) o ≡ Some g → IsSome o
+      by None e = absurd (cc)
+      by (Some y) e = refl
+
+  -- the names of functors are known
+  pub names_known : (names : List (List ℕ)) → ((a : ℕ) (g : Functor) → functor_of h a ≡ Some g → HasNames names (label_names g.label)) → AllNamed names body →
+      (t : Forest) → IsTree h' t → (In h'.root ks → ⊥) → (a : ℕ) (g : Functor) → functor_of h' a ≡ Some g → HasNames names (label_names g.label)
+  names_known names known named t tr o a g e =
+      let x = home_is a (v'.settled.atoms a (functor_atom a g e)) in
+      let i = in_place h' v' a x.0 x.1 in
+      let outside = none_removed t (h'.root ∷ []) tr.forms (λ z j. elim j [ inl q ↦ subst (λ w. In w ks → ⊥) q o | inr w ↦ absurd w ]) x.0 (tr.all x.0 (list_mem x.0 a i)) in
+      let left = λ (k : ℕ). withouts taken (atoms_in h k) in
+      let N = length (heads.atoms_of head) in
+      elim (in_either a (left x.0) (added_atoms s left N 0 body x.0) (subst (In a) (f.atoms x.0 outside) i)) [
+        | inl j ↦ old x.0 j
+        | inr j ↦ elim (comes_from s left N 0 body x.0 a j) [
+          | inl w ↦ elim (new_from s N 0 body a w) [
+            | inl k ↦ (let u = made_named names s N body named a k in
+                let same : u.0.1 ≡ g = same_Some u.0.1 g (sym (f.made_functors u.0 u.1) ∙ ap (functor_of h') u.2 ∙ e) in
+                subst (λ z. HasNames names (label_names z.label)) same u.3)
+            | inr k ↦ (let w = f.copies k.0 k.1 in
+                let u = answer_onto w.atoms (s.copied k.0.0) a (sym w.long) (once (net h).arity (next (net h) (s.head.images.part k.0.1) (λ _. true)) w.part (tt, tt)) k.2 in
+                known u.0 g (sym (w.functors u.0 u.1) ∙ ap (functor_of h') u.2 ∙ e))
+          ]
+          | inr w ↦ old w.0 w.2
+        ]
+      ]
+    where
+      old : (k : ℕ) → In a (withouts taken (atoms_in h k)) → HasNames names (label_names g.label)
+      old k j =
+          let w = in_withouts_of taken (atoms_in h k) a (v.sound.listed.atoms_once k) j in
+          known a g (sym (f.kept_functors a (in_place_listed h k a v.sound.listed w.0) w.1) ∙ e)

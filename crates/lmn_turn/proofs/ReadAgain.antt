@@ -1,0 +1,171 @@
+-- After a turn the heap is read again.
+use Rattle.std.proofs.Common.{ℕ, ◌≡◌, ◌+◌, ◌<◌, ◌⊎◌, List, [], ◌∷◌, ◌++◌, length, Option, Some, None, IsSome, refl, sym, subst, ◌∙◌, inl, inr}
+use Rattle.std.specs.Prelude.{Contains, All}
+use Rattle.std.specs.List.{flat_map}
+use Rattle.std.proofs.lemmas.List.Elements.{All-contains}
+use Rattle.lmn_base.specs.declared.level.Leaf.{Leaf}
+use Rattle.lmn_base.specs.declared.level.Leaf.TheVariants as leaf
+use Rattle.lmn_base.specs.declared.rule.RuleTree.{RuleTree}
+use Rattle.lmn_base.specs.Levels.{leaves_of, contexts_of, rule_contexts_of, rules_of}
+use Rattle.lmn_base.specs.Names.{leaf_names, context_names, condition_names, level_names}
+use Rattle.lmn_base.specs.WellMade.{FitsArity}
+use Rattle.lmn_guards.specs.declared.plan.GuardPlan.{GuardPlan}
+use Rattle.std.specs.Option.{option_map}
+use Rattle.lmn_heap.specs.Heap.{Heap, HeapMem, top, within, Place, IsMem, mems_in, rules_in}
+use Rattle.lmn_heap.specs.Lists.{In, Distinct}
+use Rattle.lmn_heap.specs.Sound.{Forest, bare, mem, IsTree, Valid}
+use Rattle.lmn_congruence.proofs.Appended.{all_left, all_right}
+use Rattle.lmn_solid.specs.declared.items.HeadItem.{HeadItem}
+use Rattle.lmn_solid.specs.Heads.{Port, membranes_of}
+use Rattle.lmn_solid.proofs.HeadTrees.{Head, head_at, head_leaves, same_leaves}
+use Rattle.lmn_instr.specs.Running.{IsFirst}
+use Rattle.lmn_compile_head.specs.Accepted.{AcceptedHeads, head_items, rule_head_code}
+use Rattle.lmn_compile_head.specs.Heads.{IsHead}
+use Rattle.lmn_compile_body.specs.Accepted.{AcceptedNested, IsWhole, rule_names, rule_body_items, rule_body_code}
+use Rattle.lmn_compile_body.proofs.BodyTrees.{flat_body, items_flat}
+use Rattle.lmn_body.specs.declared.items.BodyItem.{BodyItem}
+use Rattle.lmn_body.specs.Added.{made_mems}
+use Rattle.lmn_body.specs.Fired.{images_of}
+use Rattle.lmn_body.specs.Flattening.{BodyNames}
+use Rattle.lmn_body.specs.Running.{Registers, RunsBody}
+use Rattle.lmn_body.specs.Within.{membrane_images, FiresWithin}
+use Rattle.lmn_body.proofs.Below.{removed_is}
+use Rattle.lmn_firing.specs.Accepted.{AcceptedFires, Fired}
+use Rattle.lmn_bridge.specs.HeapRegions.{Reading}
+use Rattle.lmn_bridge.specs.Premises.{IsRead, HasForest, IsRule}
+use Rattle.lmn_turn.proofs.RulesKept.{head_rules, same_rules, body_written, rules_kept}
+use Rattle.lmn_turn.specs.Turning.{TurnIsRead, renumbered}
+use Rattle.lmn_turn.proofs.Adders.{at}
+use Rattle.lmn_turn.proofs.Leavings.{root_tree}
+use Rattle.lmn_turn.proofs.Made.{root_stays, all_new}
+use Rattle.lmn_turn.proofs.Namings.{names_of_naming, naming_of_names, mem_stands}
+use Rattle.lmn_turn.proofs.NamesKept.{LeavesNamed, body_named, names_known}
+use Rattle.lmn_turn.proofs.Places.{placing}
+use Rattle.lmn_turn.proofs.Turns.{Placing}
+
+-- ---- names
+
+leaves_named : (names : List (List ℕ)) (ls : List Leaf) → All (λ n. n < length names) (flat_map leaf_names ls) → LeavesNamed names ls
+leaves_named names [] a = tt
+leaves_named names (leaf.Atom f os p ∷ ls) a =
+    (all_left (λ n. n < length names) (leaf_names (leaf.Atom f os p)) (flat_map leaf_names ls) a, leaves_named names ls (all_right (λ n. n < length names) (leaf_names (leaf.Atom f os p)) (flat_map leaf_names ls) a))
+leaves_named names (leaf.Typed n o p ∷ ls) a = (tt, leaves_named names ls (all_right (λ n. n < length names) (n ∷ []) (flat_map leaf_names ls) a))
+
+-- the root is there
+pub root_mem : (h : Heap) → Valid h → IsMem h h.root
+root_mem h v = by (h.mems h.root) ((v.sound.listed.root h.root).1 refl)
+  where
+    by : (o : Option HeapMem) → option_map (λ z. z.place) o ≡ Some top → IsSome o
+    by None e = absurd (cc)
+    by (Some z) e = refl
+
+module _ (r : Reading) (rule : RuleTree) (is : IsRule r rule) where
+  pub body_leaves_named : LeavesNamed r.names (head_leaves (head_at rule.body))
+  body_leaves_named =
+      let P : ℕ → Type 0 = λ n. n < length r.names in
+      let body = all_right P (level_names rule.head ++ flat_map condition_names rule.guard) (level_names rule.body) is.known in
+      let leaves = all_left P (flat_map leaf_names (leaves_of rule.body)) (context_names (contexts_of rule.body))
+      (all_left P (flat_map leaf_names (leaves_of rule.body) ++ context_names (contexts_of rule.body)) (context_names (rule_contexts_of rule.body)) body) in
+      subst (LeavesNamed r.names) (same_leaves rule.body) (leaves_named r.names (leaves_of rule.body) leaves)
+
+  pub body_fits : (l : Leaf) → Contains (head_leaves (head_at rule.body)) l → FitsArity l
+  body_fits l c = All-contains FitsArity (leaves_of rule.body) l (all_right FitsArity (leaves_of rule.head) (leaves_of rule.body) is.well_made.arities) (subst (λ ls. Contains ls l) (sym (same_leaves rule.body)) c)
+
+-- ---- the turn
+
+module _ (firing : AcceptedFires) (head_law : AcceptedHeads) (nested : AcceptedNested) (table : List RuleTree) (rule : RuleTree) (plan : GuardPlan) (whole : IsWhole table rule plan)
+    (h : Heap) (r : Reading) (read : IsRead h r) (is_rule : IsRule r rule)
+    (m : ℕ) (mi : Forest) (there : IsMem h m) (forest : HasForest h m mi) (s : Registers) (first : IsFirst h (rule_head_code rule plan) m s.head)
+    (h' : Heap) (runs : RunsBody s (rule_body_code rule plan) h h') where
+  abbrev items : List HeadItem
+  items = head_items rule plan
+
+  abbrev bn : BodyNames
+  bn = rule_names rule plan
+
+  abbrev hd : Head
+  hd = head_at rule.body
+
+  abbrev low : ℕ
+  low = 1 + length (membranes_of (head_items rule plan))
+
+  abbrev B : List BodyItem
+  B = flat_body (rule_names rule plan) 0 (1 + length (membranes_of (head_items rule plan))) (head_at rule.body)
+
+  abbrev c : Port → ℕ
+  c p = r.name p.0 p.1
+
+  pub body_is : rule_body_items rule plan ≡ B
+  body_is = items_flat bn (length (membranes_of items)) rule.body
+
+  pub fired : Fired rule plan h m s c h'
+  fired = firing.fires table rule plan whole h m s c (record { valid = read.valid; placed = mem_stands h read.valid m there; first = first; named = names_of_naming h read.valid r.name read.naming }) h' runs
+
+  abbrev taken : List ℕ
+  taken = images_of s items ++ fired.parts
+
+  pub flat_fires : FiresWithin h c s items B taken h'
+  flat_fires = subst (λ b. FiresWithin h c s items b taken h') body_is fired.fires
+
+  is_head : IsHead items
+  is_head = head_law.head table rule plan whole.ready
+
+  new_mems : ((x : ℕ) → In x (made_mems s low (rule_body_items rule plan)) → h.mems x ≡ None) × Distinct (made_mems s low (rule_body_items rule plan))
+  new_mems = let u = all_new items (rule_body_items rule plan) (length rule.links) s h h' runs in (u.1.fresh, u.1.once)
+
+  pub place : Placing h s (membrane_images s items) (made_mems s low B) taken m mi
+  place =
+      let n = nested table rule plan whole in
+      subst (λ b. Placing h s (membrane_images s items) (made_mems s low b) taken m mi) body_is
+      (placing h read.valid items rule.guard m mi s fired.least.embeds n.head_nests is_head.inside there forest.forms forest.once fired.parts fired.are (made_mems s low (rule_body_items rule plan)) new_mems.0 new_mems.1)
+
+  module _ (f : FiresWithin h (λ p. r.name p.0 p.1) s (head_items rule plan) (flat_body (rule_names rule plan) 0 (1 + length (membranes_of (head_items rule plan))) (head_at rule.body)) (images_of s (head_items rule plan) ++ fired.parts) h') where
+    pub not_removed : (x : ℕ) → In x (made_mems s low B) → In x (membrane_images s items) → ⊥
+    not_removed x i j = by (h.mems x) (place.images_there x j) (place.fresh x i)
+      where
+        by : (o : Option HeapMem) → IsSome o → o ≡ None → ⊥
+        by None i e = absurd (cc)
+        by (Some y) i e = absurd (cc)
+
+    pub same_root : h'.root ≡ h.root
+    same_root = root_stays s (rule_body_code rule plan) h h' runs
+
+    root_not_removed : In h'.root (membrane_images s items) → ⊥
+    root_not_removed i =
+        let w = removed_is items s h.root (subst (λ z. In z (membrane_images s items)) same_root i) in
+        let placed = subst (λ z. In z (mems_in h (at s w.1.inside))) w.3 (fired.least.embeds.membranes_placed w.0 w.1 w.2) in
+        clash (sym ((read.valid.sound.listed.root h.root).1 refl) ∙ (read.valid.sound.listed.mems (at s w.1.inside) h.root).0 placed)
+      where
+        clash : {y : ℕ} → ◌≡◌ {A = Option Place} (Some top) (Some (within y)) → ⊥
+        clash e = absurd (cc)
+
+    pub read_again : IsRead h' (renumbered r f.number)
+    read_again = record {
+      valid = fired.valid;
+      naming = naming_of_names h' fired.valid f.number f.named;
+      names = read.names;
+      known = names_known h h' read.valid fired.valid c s items B taken f not_removed r.names read.known (body_named r.names bn 0 low hd (body_leaves_named r rule is_rule)) fired.valid.tree.0 fired.valid.tree.1 root_not_removed;
+    }
+
+    pub tree_again : (t : Forest) × IsTree h' (mem h'.root t bare)
+    tree_again = let u = root_tree h' fired.valid.tree.0 fired.valid.tree.1 in (u.0, subst (IsTree h') u.1 fired.valid.tree.1)
+
+    -- each rule of a membrane stood in one before, or stands in the body
+    pub rules_again : (x k : ℕ) → In k (rules_in h' x) → ((y : ℕ) × In k (rules_in h y)) ⊎ Contains (rules_of rule.body) k
+    rules_again x k i = elim (rules_kept h h' read.valid fired.valid c s items B taken f not_removed (Contains (head_rules hd)) (body_written (Contains (head_rules hd)) bn 0 low hd (λ k w. w)) fired.valid.tree.0 fired.valid.tree.1 root_not_removed x k i) [
+      | inl w ↦ inl w
+      | inr w ↦ inr (subst (λ ks. Contains ks k) (sym (same_rules rule.body)) w)
+    ]
+
+-- a heap is read again after a turn
+pub turn_is_read : AcceptedFires → AcceptedHeads → AcceptedNested → TurnIsRead
+turn_is_read firing head_law nested table rule plan whole h r read is_rule m mi there forest s first h' runs =
+    let f = flat_fires firing head_law nested table rule plan whole h r read is_rule m mi there forest s first h' runs in
+    let t = tree_again firing head_law nested table rule plan whole h r read is_rule m mi there forest s first h' runs f in
+    record {
+      number = f.number;
+      read = read_again firing head_law nested table rule plan whole h r read is_rule m mi there forest s first h' runs f;
+      forest = t.0;
+      tree = t.1;
+      rules = rules_again firing head_law nested table rule plan whole h r read is_rule m mi there forest s first h' runs f;
+    }

@@ -1,0 +1,4 @@
+pub mod Ends
+pub mod Standing
+pub mod Turning
+pub mod Commits

@@ -1,0 +1,66 @@
+//! A turn on a heap and the calculus: what the code of rules does is what the terms say.
+//!
+//! The definitions stand in `specs/`. Each law is the contract of a function that at most names other laws, so nothing here
+//! does anything when it runs.
+#![tactic(auto)]
+
+ghost use Rattle.lmn_turn.specs.Commits.{PlainsAreTables, TurnsCommit};
+ghost use Rattle.lmn_turn.specs.Ends.{IrreducibleByCode, StepsByCode};
+ghost use Rattle.lmn_turn.specs.Turning.{TurnIsNext, TurnIsRead};
+
+use lmn_adequacy::firings_commit;
+use lmn_bridge::{least_embeddings_are_alike, rules_embed_alike, steps_are_exact};
+use lmn_compile_body::accepted_bodies;
+use lmn_compile_head::{accepted_heads, accepted_least, code_means_embedding};
+use lmn_firing::{accepted_rules_fire, bound_names_have_values};
+
+/// A step is possible from the process of a heap exactly where the head code of a rule succeeds in some membrane, and the
+/// process is irreducible exactly where none does.
+pub fn turns_end_exactly()
+    ensures steps { StepsByCode }
+    ensures irreducible { IrreducibleByCode }
+{
+    accepted_heads();
+    code_means_embedding();
+    steps_are_exact();
+}
+
+/// Where the head code of an accepted rule first succeeds, its body code, run with the same registers, leaves a valid heap that
+/// can be read again, with the same names and rules. Each rule of a membrane of it stood in one before or stands in the body.
+pub fn turns_are_read()
+    ensures { TurnIsRead }
+{
+    accepted_rules_fire();
+    accepted_heads();
+    accepted_bodies();
+}
+
+/// Where the head code of an accepted rule without copies of typed contexts first succeeds, its body code, run with the same
+/// registers, leaves a heap whose region is the next one of the calculus.
+pub fn turns_are_next()
+    ensures { TurnIsNext }
+{
+    accepted_rules_fire();
+    accepted_heads();
+    accepted_bodies();
+}
+
+/// Where the head code of an accepted rule of a membrane first succeeds, and its body copies no typed context, its body code
+/// makes a turn: the heap that it leaves has the next solid of the calculus, by the least positions of the rule in its membrane,
+/// and its process comes by one commit.
+pub fn turns_commit()
+    ensures { TurnsCommit }
+{
+    turns_are_next();
+    accepted_heads();
+    accepted_least();
+    bound_names_have_values();
+    rules_embed_alike();
+    least_embeddings_are_alike();
+    firings_commit();
+}
+
+/// The rules of a well made plain are a table that each turn keeps to: a rule that stands in the body of one is one of them.
+pub fn plains_are_tables()
+    ensures { PlainsAreTables }
+{}
