@@ -6,7 +6,7 @@ use Rattle.lmn_body.specs.declared.items.BodyItem.{BodyItem}
 use Rattle.lmn_body.specs.declared.items.BodyItem.TheVariants.{Atom, Connector, Copy, Bound, Membrane, Rest, Rule, Rules}
 use Rattle.lmn_body.specs.Running.{Registers}
 use Rattle.lmn_body.specs.Added.{added_mems, added_rules}
-use Rattle.lmn_body.specs.Within.{added_solid}
+use Rattle.lmn_body.specs.Within.{added_with_copies}
 use Rattle.lmn_body.proofs.Below.{not_eq}
 
 -- the membrane of a register
@@ -36,6 +36,29 @@ many_both (Rest of inside ∷ xs) ys = many_both xs ys
 many_both (Rule rule inside ∷ xs) ys = many_both xs ys
 many_both (Rules of inside ∷ xs) ys = many_both xs ys
 
+-- the number of the next copy behind items, the first of them that makes one making number k
+abbrev pub past : ℕ → List BodyItem → ℕ
+past k [] = k
+past k (Atom functor links inside ∷ xs) = past k xs
+past k (Connector left right ∷ xs) = past k xs
+past k (Copy part link inside ∷ xs) = past (k + 1) xs
+past k (Bound integer link inside ∷ xs) = past k xs
+past k (Membrane inside ∷ xs) = past k xs
+past k (Rest of inside ∷ xs) = past k xs
+past k (Rule rule inside ∷ xs) = past k xs
+past k (Rules of inside ∷ xs) = past k xs
+
+pub past_both : (k : ℕ) (xs ys : List BodyItem) → past k (xs ++ ys) ≡ past (past k xs) ys
+past_both k [] ys = refl
+past_both k (Atom functor links inside ∷ xs) ys = past_both k xs ys
+past_both k (Connector left right ∷ xs) ys = past_both k xs ys
+past_both k (Copy part link inside ∷ xs) ys = past_both (k + 1) xs ys
+past_both k (Bound integer link inside ∷ xs) ys = past_both k xs ys
+past_both k (Membrane inside ∷ xs) ys = past_both k xs ys
+past_both k (Rest of inside ∷ xs) ys = past_both k xs ys
+past_both k (Rule rule inside ∷ xs) ys = past_both k xs ys
+past_both k (Rules of inside ∷ xs) ys = past_both k xs ys
+
 -- the membrane in which an item is written isn't this one
 abbrev pub Elsewhere : Registers → ℕ → BodyItem → Type 0
 Elsewhere s x (Atom functor links inside) = at s inside ≢ x
@@ -56,12 +79,12 @@ pub misses_both : (s : Registers) (x : ℕ) (xs ys : List BodyItem) → Misses s
 misses_both s x [] ys a b = b
 misses_both s x (i ∷ is) ys a b = (a.0, misses_both s x is ys a.1 b)
 
--- What items add to a membrane, where the next membrane has a register: it comes from the items one after another, and items
--- that are written elsewhere add nothing.
+-- What items add to a membrane, where the next membrane has a register and the next copy a number: it comes from the items one
+-- after another, and items that are written elsewhere add nothing.
 pub record Adder (s : Registers) (X : Type 0) : Type 0 where
-  pub adds : ℕ → List BodyItem → ℕ → List X
-  pub both : (n : ℕ) (xs ys : List BodyItem) (x : ℕ) → adds n (xs ++ ys) x ≡ adds n xs x ++ adds (n + many xs) ys x
-  pub missed : (n : ℕ) (xs : List BodyItem) (x : ℕ) → Misses s x xs → adds n xs x ≡ []
+  pub adds : ℕ → ℕ → List BodyItem → ℕ → List X
+  pub both : (n k : ℕ) (xs ys : List BodyItem) (x : ℕ) → adds n k (xs ++ ys) x ≡ adds n k xs x ++ adds (n + many xs) (past k xs) ys x
+  pub missed : (n k : ℕ) (xs : List BodyItem) (x : ℕ) → Misses s x xs → adds n k xs x ≡ []
 
 -- one choice more
 more : {X : Type 0} (b : Bool) (as' bs cs ds : List X) → bs ≡ cs ++ ds → cond b as' [] ++ bs ≡ (cond b as' [] ++ cs) ++ ds
@@ -76,35 +99,35 @@ missing a x as' bs d e = rw (not_eq a x d) e
 pub here_is : {X : Type 0} (x : ℕ) (as' bs : List X) → cond (x == x) as' [] ++ bs ≡ as' ++ bs
 here_is x as' bs = rw (eq-eqb x x refl) refl
 
-module _ (s : Registers) (left : ℕ → List SolidAtom) (g : ℕ → ℕ) where
-  pub solid_both : (xs ys : List BodyItem) (x : ℕ) → added_solid s left g (xs ++ ys) x ≡ added_solid s left g xs x ++ added_solid s left g ys x
-  solid_both [] ys x = refl
-  solid_both (Atom functor links inside ∷ xs) ys x = more (at s inside == x) _ _ _ _ (solid_both xs ys x)
-  solid_both (Connector l l' ∷ xs) ys x = solid_both xs ys x
-  solid_both (Copy part link inside ∷ xs) ys x = solid_both xs ys x
-  solid_both (Bound integer link inside ∷ xs) ys x = more (at s inside == x) _ _ _ _ (solid_both xs ys x)
-  solid_both (Membrane inside ∷ xs) ys x = solid_both xs ys x
-  solid_both (Rest of inside ∷ xs) ys x = more (at s inside == x) _ _ _ _ (solid_both xs ys x)
-  solid_both (Rule rule inside ∷ xs) ys x = solid_both xs ys x
-  solid_both (Rules of inside ∷ xs) ys x = solid_both xs ys x
+module _ (s : Registers) (left copy : ℕ → List SolidAtom) (g : ℕ → ℕ) where
+  pub solid_both : (k : ℕ) (xs ys : List BodyItem) (x : ℕ) → added_with_copies s left copy g k (xs ++ ys) x ≡ added_with_copies s left copy g k xs x ++ added_with_copies s left copy g (past k xs) ys x
+  solid_both k [] ys x = refl
+  solid_both k (Atom functor links inside ∷ xs) ys x = more (at s inside == x) _ _ _ _ (solid_both k xs ys x)
+  solid_both k (Connector l l' ∷ xs) ys x = solid_both k xs ys x
+  solid_both k (Copy part link inside ∷ xs) ys x = more (at s inside == x) _ _ _ _ (solid_both (k + 1) xs ys x)
+  solid_both k (Bound integer link inside ∷ xs) ys x = more (at s inside == x) _ _ _ _ (solid_both k xs ys x)
+  solid_both k (Membrane inside ∷ xs) ys x = solid_both k xs ys x
+  solid_both k (Rest of inside ∷ xs) ys x = more (at s inside == x) _ _ _ _ (solid_both k xs ys x)
+  solid_both k (Rule rule inside ∷ xs) ys x = solid_both k xs ys x
+  solid_both k (Rules of inside ∷ xs) ys x = solid_both k xs ys x
 
-  pub solid_missed : (xs : List BodyItem) (x : ℕ) → Misses s x xs → added_solid s left g xs x ≡ []
-  solid_missed [] x m = refl
-  solid_missed (Atom functor links inside ∷ xs) x m = missing (at s inside) x _ _ m.0 (solid_missed xs x m.1)
-  solid_missed (Connector l l' ∷ xs) x m = solid_missed xs x m.1
-  solid_missed (Copy part link inside ∷ xs) x m = solid_missed xs x m.1
-  solid_missed (Bound integer link inside ∷ xs) x m = missing (at s inside) x _ _ m.0 (solid_missed xs x m.1)
-  solid_missed (Membrane inside ∷ xs) x m = solid_missed xs x m.1
-  solid_missed (Rest of inside ∷ xs) x m = missing (at s inside) x _ _ m.0 (solid_missed xs x m.1)
-  solid_missed (Rule rule inside ∷ xs) x m = solid_missed xs x m.1
-  solid_missed (Rules of inside ∷ xs) x m = solid_missed xs x m.1
+  pub solid_missed : (k : ℕ) (xs : List BodyItem) (x : ℕ) → Misses s x xs → added_with_copies s left copy g k xs x ≡ []
+  solid_missed k [] x m = refl
+  solid_missed k (Atom functor links inside ∷ xs) x m = missing (at s inside) x _ _ m.0 (solid_missed k xs x m.1)
+  solid_missed k (Connector l l' ∷ xs) x m = solid_missed k xs x m.1
+  solid_missed k (Copy part link inside ∷ xs) x m = missing (at s inside) x _ _ m.0 (solid_missed (k + 1) xs x m.1)
+  solid_missed k (Bound integer link inside ∷ xs) x m = missing (at s inside) x _ _ m.0 (solid_missed k xs x m.1)
+  solid_missed k (Membrane inside ∷ xs) x m = solid_missed k xs x m.1
+  solid_missed k (Rest of inside ∷ xs) x m = missing (at s inside) x _ _ m.0 (solid_missed k xs x m.1)
+  solid_missed k (Rule rule inside ∷ xs) x m = solid_missed k xs x m.1
+  solid_missed k (Rules of inside ∷ xs) x m = solid_missed k xs x m.1
 
   -- the atoms of the solid
   abbrev pub atoms_adder : Adder s SolidAtom
   atoms_adder = record {
-    adds = λ n xs x. added_solid s left g xs x;
-    both = λ n xs ys x. solid_both xs ys x;
-    missed = λ n xs x m. solid_missed xs x m;
+    adds = λ n k xs x. added_with_copies s left copy g k xs x;
+    both = λ n k xs ys x. solid_both k xs ys x;
+    missed = λ n k xs x m. solid_missed k xs x m;
   }
 
 module _ (s : Registers) (left : ℕ → List ℕ) where
@@ -134,7 +157,7 @@ module _ (s : Registers) (left : ℕ → List ℕ) where
 
   -- the membranes
   abbrev pub mems_adder : Adder s ℕ
-  mems_adder = record { adds = added_mems s left; both = mems_both; missed = mems_missed }
+  mems_adder = record { adds = λ n k xs x. added_mems s left n xs x; both = λ n k xs ys x. mems_both n xs ys x; missed = λ n k xs x m. mems_missed n xs x m }
 
 module _ (s : Registers) (rules : ℕ → List ℕ) where
   pub rules_both : (xs ys : List BodyItem) (x : ℕ) → added_rules s rules (xs ++ ys) x ≡ added_rules s rules xs x ++ added_rules s rules ys x
@@ -161,4 +184,4 @@ module _ (s : Registers) (rules : ℕ → List ℕ) where
 
   -- the rules
   abbrev pub rules_adder : Adder s ℕ
-  rules_adder = record { adds = λ n xs x. added_rules s rules xs x; both = λ n xs ys x. rules_both xs ys x; missed = λ n xs x m. rules_missed xs x m }
+  rules_adder = record { adds = λ n k xs x. added_rules s rules xs x; both = λ n k xs ys x. rules_both xs ys x; missed = λ n k xs x m. rules_missed xs x m }

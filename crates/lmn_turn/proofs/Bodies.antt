@@ -1,5 +1,5 @@
 -- What a level of a body makes of its membrane is what the calculus says.
-use Rattle.std.proofs.Common.{ℕ, ℤ, zero, suc, ◌≡◌, ◌≢◌, ◌⊎◌, ◌==◌, inl, inr, Bool, true, false, List, [], ◌∷◌, ◌++◌, map, length, Option, Some, None, refl, sym, ap, subst, ◌∙◌, arith}
+use Rattle.std.proofs.Common.{ℕ, ℤ, zero, suc, ◌≡◌, ◌≢◌, ◌⊎◌, ◌==◌, ◌+◌, inl, inr, Bool, true, false, List, [], ◌∷◌, ◌++◌, map, length, Option, Some, None, refl, sym, ap, subst, ◌∙◌, arith}
 use Rattle.std.proofs.lemmas.List.{map-append, length-map}
 use Rattle.lmn_base.specs.declared.functor.Functor.{Functor}
 use Rattle.lmn_base.specs.declared.functor.Label.{Label}
@@ -11,7 +11,7 @@ use Rattle.lmn_base.specs.declared.solid.SolidAtom.{SolidAtom}
 use Rattle.lmn_base.specs.Solids.{connector}
 use Rattle.lmn_heap.specs.Functors.{same_functor}
 use Rattle.lmn_heap.specs.Heap.{Heap, rules_in}
-use Rattle.lmn_congruence.specs.Orders.{Shuffle, none, more, here}
+use Rattle.lmn_congruence.specs.Orders.{Among, at_head, further, none, more, here}
 use Rattle.lmn_congruence.specs.Plains.{fused_leaves, fused_levels}
 use Rattle.lmn_congruence.specs.Regions as region
 use Rattle.lmn_congruence.specs.Rules as tree
@@ -19,7 +19,9 @@ use Rattle.lmn_congruence.specs.Same.{renamed_atom}
 use Rattle.lmn_congruence.specs.Translation.{name_of, names_of, atom_of, label_of, leaf_of, levels, solid_atom_of}
 use Rattle.lmn_reduction.specs.Parts.{Rooted, IsInteger, an_integer}
 use Rattle.lmn_adequacy.specs.Embedding.{IsPart}
-use Rattle.lmn_adequacy.specs.Next.{Contents, MadeLeaves, no_made_leaf, made_atom, made_connector, made_copy, made_atoms, kept_atoms, kept_membranes, context_atoms, context_membranes, context_rules, of_rule, of_solid}
+use Rattle.lmn_congruence.specs.Links.{places}
+use Rattle.lmn_congruence.proofs.Counts.{none_if_apart, one_if_equal, same_or_not}
+use Rattle.lmn_adequacy.specs.Next.{Contents, DepthFirst, reaches_listed, reaches_new, reaches_none, made_atoms, kept_atoms, kept_membranes, context_atoms, context_membranes, context_rules, links_at, of_rule, of_solid}
 use Rattle.lmn_solid.proofs.HeadTrees.{Head, Heads, head, no_head, head_and}
 use Rattle.lmn_bridge.specs.HeapRegions.{Reading}
 use Rattle.lmn_body.specs.declared.items.BodyItem.{BodyItem}
@@ -27,12 +29,15 @@ use Rattle.lmn_body.specs.declared.items.BodyItem.TheVariants.{Atom, Connector}
 use Rattle.lmn_body.specs.Flattening.{BodyNames, atom_item, typed_item, leaf_items, context_items, rule_items, rule_context_items}
 use Rattle.lmn_body.specs.Running.{Registers, integer_functor}
 use Rattle.lmn_body.specs.Added.{added_mems, added_rules}
-use Rattle.lmn_body.specs.Within.{added_solid}
+use Rattle.lmn_body.specs.Within.{added_with_copies}
 use Rattle.lmn_body.proofs.Below.{not_eq}
 use Rattle.std.specs.Prelude.{◌&&◌}
 use Rattle.lmn_turn.specs.Standing.{StandAs, none_stands}
 use Rattle.lmn_turn.proofs.Standings.{stand_both}
 use Rattle.lmn_turn.proofs.Adders.{at, here_is}
+use Rattle.lmn_turn.proofs.CopyLinks.{Block}
+use Rattle.lmn_turn.proofs.OwnLinks.{OwnLeaves, own_none, own_atom, own_connector, own_integer, own_copy}
+use Rattle.lmn_turn.proofs.Locals.{next_copy, after_leaves, after_level}
 
 -- ---- lists of leaves
 
@@ -73,41 +78,74 @@ leaf_cases names f ys inside e = by f.label f.arity ys e
     by (label.Name (suc k)) n ys e = inr (refl, ap (λ b. atom_item (b && (n == 2)) (record { label = label.Name (suc k); arity = n }) ys inside) (not_eq (suc k) 0 (λ q. omega (arith, q))))
     by (label.Int z) n ys e = inr (refl, refl)
 
+pub fused_made : (to : ℕ → ℕ) (xs : List region.SolidAtom) → fused_leaves to (made_atoms xs) ≡ map (renamed_atom to) xs
+fused_made to [] = refl
+fused_made to (x ∷ xs) = ap (λ ys. renamed_atom to x ∷ ys) (fused_made to xs)
+
+-- a leaf of a body that is no typed context, with its links in a raw level
+abbrev pub placed_leaf : tree.Leaf → tree.Leaf
+placed_leaf (tree.atom_leaf a ys) = tree.atom_leaf a (map of_rule ys)
+placed_leaf (tree.connector_leaf x y) = tree.connector_leaf (of_rule x) (of_rule y)
+placed_leaf (tree.typed_leaf p x) = tree.typed_leaf p x
+
 -- the part that an integer stands for is one atom
-one_integer : (z : ℤ) (g : Rooted) (x : ℕ) (part : List region.SolidAtom) → IsInteger z g → IsPart g x part → part ≡ record { label = tree.integer z; links = x ∷ [] } ∷ []
-one_integer z g x part (an_integer {x = y}) i = by i.to i.root i.atoms
+abbrev pub integer_atom : ℤ → ℕ → region.SolidAtom
+integer_atom z x = record { label = tree.integer z; links = of_rule x ∷ [] }
+
+pub integer_part : (z : ℤ) (g : Rooted) (x : ℕ) → IsInteger z g → IsPart g (of_rule x) (integer_atom z x ∷ [])
+integer_part z g x (an_integer {x = y}) = record {
+  only_atoms = tt;
+  to = λ u. of_rule x;
+  one_to_one = λ a b d e q. one a d ∙ sym (one b e);
+  root = refl;
+  atoms = more refl none here;
+}
   where
-    one : (to : ℕ → ℕ) → to y ≡ x → (b : region.SolidAtom) → record { label = tree.integer z; links = to y ∷ [] } ≡ b → (b ∷ []) ≡ record { label = tree.integer z; links = x ∷ [] } ∷ []
-    one to e b q = ap (λ v. v ∷ []) (sym q ∙ ap (λ v. record { label = tree.integer z; links = v ∷ [] }) e)
+    one : (a : ℕ) → places a (y ∷ []) ≢ 0 → a ≡ y
+    one a d = elim (same_or_not a y) [
+      | inl e ↦ e
+      | inr n ↦ absurd (d (omega (arith, none_if_apart a y n)))
+    ]
 
-    by : (to : ℕ → ℕ) → to y ≡ x → {part : List region.SolidAtom} → Shuffle (λ (a : tree.Label × List ℕ) (b : region.SolidAtom). record { label = a.0; links = map to a.1 } ≡ b) ((tree.integer z, y ∷ []) ∷ []) part → part ≡ record { label = tree.integer z; links = x ∷ [] } ∷ []
-    by to e (more {y = b} q none here) = one to e b q
+among_one : {x y : ℕ} → Among y (x ∷ []) → y ≡ x
+among_one at_head = refl
+among_one (further w) = elim w [ ]
 
-module _ (c : Contents) where
-  atom_made : {a : tree.Label} {ys : List ℕ} {ls outs : List tree.Leaf} → MadeLeaves c (tree.atom_leaf a ys ∷ ls) outs → (rest : List tree.Leaf) × (outs ≡ tree.atom_leaf a (map of_rule ys) ∷ rest) × MadeLeaves c ls rest
-  atom_made (made_atom d) = (_, refl, d)
+pub integer_first : (z : ℤ) (x : ℕ) → DepthFirst (of_rule x) (integer_atom z x ∷ [])
+integer_first z x =
+    let one = one_if_equal (of_rule x) (of_rule x) refl in
+    reaches_new {bs = []} {cs = []} (omega (arith, one)) at_head (reaches_listed (omega (arith, one)) reaches_none) reaches_none
 
-  connector_made : {x y : ℕ} {ls outs : List tree.Leaf} → MadeLeaves c (tree.connector_leaf x y ∷ ls) outs → (rest : List tree.Leaf) × (outs ≡ tree.connector_leaf (of_rule x) (of_rule y) ∷ rest) × MadeLeaves c ls rest
-  connector_made (made_connector d) = (_, refl, d)
-
-module _ (h h' : Heap) (r r' : Reading) (s : Registers) (bn : BodyNames) (c : Contents) (left : ℕ → List SolidAtom) (left_mems : ℕ → List ℕ) (to : ℕ → ℕ) where
+module _ (h h' : Heap) (r r' : Reading) (s : Registers) (bn : BodyNames) (c : Contents) (left : ℕ → List SolidAtom) (left_mems : ℕ → List ℕ) (to : ℕ → ℕ) (limit : ℕ) (copy : ℕ → List SolidAtom) (part : ℕ → ℕ → List region.SolidAtom) where
   abbrev names : List tree.Name
   names = r.names
 
-  -- the atoms that items add
-  abbrev solid : List BodyItem → ℕ → List region.SolidAtom
-  solid xs x = map (solid_atom_of r.names) (added_solid s left (λ z. to (of_rule z)) xs x)
+  -- the atoms that items add, the next copy with a number
+  abbrev solid : ℕ → List BodyItem → ℕ → List region.SolidAtom
+  solid k xs x = map (solid_atom_of r.names) (added_with_copies s left copy (λ z. to (of_rule z)) k xs x)
 
   -- ---- what is asked of the contents
 
-  -- an atom fits its arity; a name is bound to its integer
-  abbrev pub LeafAgrees : Leaf → Type 0
-  LeafAgrees (leaf.Atom f os p) = length os ≡ f.arity
-  LeafAgrees (leaf.Typed n o p) = (bn.part n ≡ None) × IsInteger (s.head.integer (bn.integer n)) (c.typed_of (name_of r.names n))
+  -- Raw atoms stand for copy number k of what a name stands for, at a link x of the rule.
+  --   is, order   they are such a part, depth first
+  --   own         their links are that of the rule, and links of this copy alone
+  --   atoms       and with each link at its image they are the atoms of the copy
+  pub record CopyAgrees (k n x : ℕ) : Type 0 where
+    pub is : IsPart (c.typed_of (name_of r.names n)) (of_rule x) (part k x)
+    pub order : DepthFirst (of_rule x) (part k x)
+    pub own : (z : ℕ) → Among z (links_at (part k x)) → (z ≡ of_rule x) ⊎ ((L : ℕ) × (z ≡ of_solid L) × Block limit k L)
+    pub atoms : map (renamed_atom to) (part k x) ≡ map (solid_atom_of r.names) (copy k)
 
-  abbrev pub LeavesAgree : List Leaf → Type 0
-  LeavesAgree [] = Unit {0}
-  LeavesAgree (l ∷ ls) = LeafAgrees l × LeavesAgree ls
+  -- a typed context of the head is copied; a name that the guard binds stands for its integer
+  abbrev pub TypedAgrees : Option ℕ → ℕ → ℕ → ℕ → Type 0
+  TypedAgrees (Some g) k n x = CopyAgrees k n x
+  TypedAgrees None k n x = IsInteger (s.head.integer (bn.integer n)) (c.typed_of (name_of r.names n))
+
+  -- and an atom fits its arity
+  abbrev pub LeavesAgree : ℕ → List Leaf → Type 0
+  LeavesAgree k [] = Unit {0}
+  LeavesAgree k (leaf.Atom f os p ∷ ls) = (length os ≡ f.arity) × LeavesAgree k ls
+  LeavesAgree k (leaf.Typed n o p ∷ ls) = TypedAgrees (bn.part n) k n o.link × LeavesAgree (next_copy (bn.part n) k) ls
 
   -- an untyped context stands for what is left of its membrane
   pub record ContextAgrees (u : CtxUse) : Type 0 where
@@ -123,37 +161,72 @@ module _ (h h' : Heap) (r r' : Reading) (s : Registers) (bn : BodyNames) (c : Co
   RuleContextsAgree (u ∷ us) = (c.rules_of (name_of r.names u.name) ≡ map r.rule (rules_in h (at s (bn.rule_context u.name)))) × RuleContextsAgree us
 
   abbrev mutual
-    pub BodyAgrees : Head → Type 0
-    BodyAgrees (head leaves hs cs rcs rs) = LeavesAgree leaves × ContextsAgree cs × RuleContextsAgree rcs × BodiesAgree hs
+    pub BodyAgrees : ℕ → Head → Type 0
+    BodyAgrees k (head leaves hs cs rcs rs) = LeavesAgree k leaves × ContextsAgree cs × RuleContextsAgree rcs × BodiesAgree (after_leaves bn k leaves) hs
 
-    pub BodiesAgree : Heads → Type 0
-    BodiesAgree no_head = Unit {0}
-    BodiesAgree (head_and h hs) = BodyAgrees h × BodiesAgree hs
+    pub BodiesAgree : ℕ → Heads → Type 0
+    BodiesAgree k no_head = Unit {0}
+    BodiesAgree k (head_and h hs) = BodyAgrees k h × BodiesAgree (after_level bn k h) hs
 
   -- ---- leaves
 
-  pub leaf_atoms : (inside : ℕ) (ls : List Leaf) {outs : List tree.Leaf} → LeavesAgree ls → MadeLeaves c (map (leaf_of r.names) ls) outs →
-      fused_leaves to outs ≡ map (solid_atom_of r.names) (added_solid s left (λ z. to (of_rule z)) (leaf_items bn inside ls) (at s inside))
-  leaf_atoms inside [] a no_made_leaf = refl
-  leaf_atoms inside (leaf.Atom f os p ∷ ls) {outs} a d = elim (leaf_cases r.names f (map (λ o. o.link) os) inside (length-map os (λ o. o.link) ∙ a.0)) [
-    | inl k ↦ (let w = connector_made c (subst (λ l. MadeLeaves c (l ∷ map (leaf_of r.names) ls) outs) k.2 d) in
-        ap (fused_leaves to) w.1 ∙ leaf_atoms inside ls a.1 w.2 ∙ ap (λ (i : BodyItem). solid (i ∷ leaf_items bn inside ls) (at s inside)) (sym k.3))
-    | inr k ↦ (let w = atom_made c (subst (λ l. MadeLeaves c (l ∷ map (leaf_of r.names) ls) outs) k.0 d) in
-        let ys = map (λ o. o.link) os in
+  -- what a typed context makes, and what leaves make
+  abbrev pub typed_made : Option ℕ → ℕ → ℕ → ℕ → List tree.Leaf
+  typed_made (Some g) k i x = made_atoms (part k x)
+  typed_made None k i x = made_atoms (integer_atom (s.head.integer i) x ∷ [])
+
+  abbrev pub leaves_made : ℕ → List Leaf → List tree.Leaf
+  leaves_made k [] = []
+  leaves_made k (leaf.Atom f os p ∷ ls) = placed_leaf (leaf_of r.names (leaf.Atom f os p)) ∷ leaves_made k ls
+  leaves_made k (leaf.Typed n o p ∷ ls) = typed_made (bn.part n) k (bn.integer n) o.link ++ leaves_made (next_copy (bn.part n) k) ls
+
+  -- it is what the calculus says
+  typed_makes : (o : Option ℕ) (k j n x : ℕ) {ls outs : List tree.Leaf} → TypedAgrees o k n x → OwnLeaves c (Block limit) (next_copy o k) j ls outs →
+      OwnLeaves c (Block limit) k j (tree.typed_leaf (name_of r.names n) x ∷ ls) (typed_made o k (bn.integer n) x ++ outs)
+  typed_makes (Some g) k j n x a d = own_copy a.is a.order a.own d
+  typed_makes None k j n x a d =
+      let z = s.head.integer (bn.integer n) in
+      own_integer {part = integer_atom z x ∷ []} (integer_part z (c.typed_of (name_of r.names n)) x a) (integer_first z x) (λ y w. among_one w) d
+
+  pub leaves_make : (inside k : ℕ) (ls : List Leaf) → LeavesAgree k ls → OwnLeaves c (Block limit) k (after_leaves bn k ls) (map (leaf_of r.names) ls) (leaves_made k ls)
+  leaves_make inside k [] a = own_none
+  leaves_make inside k (leaf.Atom f os p ∷ ls) a =
+      let rest = leaves_make inside k ls a.1 in
+      elim (leaf_cases r.names f (map (λ o. o.link) os) inside (length-map os (λ o. o.link) ∙ a.0)) [
+        | inl e ↦ subst (λ l. OwnLeaves c (Block limit) k (after_leaves bn k ls) (l ∷ map (leaf_of r.names) ls) (placed_leaf l ∷ leaves_made k ls)) (sym e.2) (own_connector rest)
+        | inr e ↦ subst (λ l. OwnLeaves c (Block limit) k (after_leaves bn k ls) (l ∷ map (leaf_of r.names) ls) (placed_leaf l ∷ leaves_made k ls)) (sym e.0) (own_atom rest)
+      ]
+  leaves_make inside k (leaf.Typed n o p ∷ ls) a = typed_makes (bn.part n) k (after_leaves bn (next_copy (bn.part n) k) ls) n o.link a.0 (leaves_make inside (next_copy (bn.part n) k) ls a.1)
+
+  -- and what the items add
+  typed_atoms : (inside : ℕ) (o : Option ℕ) (k n x : ℕ) (xs : List BodyItem) → TypedAgrees o k n x →
+      fused_leaves to (typed_made o k (bn.integer n) x) ++ map (solid_atom_of r.names) (added_with_copies s left copy (λ z. to (of_rule z)) (next_copy o k) xs (at s inside))
+      ≡ map (solid_atom_of r.names) (added_with_copies s left copy (λ z. to (of_rule z)) k (typed_item o (bn.integer n) x inside ∷ xs) (at s inside))
+  typed_atoms inside (Some g) k n x xs a =
+      let rest = added_with_copies s left copy (λ z. to (of_rule z)) (k + 1) xs (at s inside) in
+      ap (λ ys. ys ++ map (solid_atom_of r.names) rest) (fused_made to (part k x) ∙ a.atoms)
+      ∙ sym (map-append (solid_atom_of r.names) (copy k) rest)
+      ∙ ap (map (solid_atom_of r.names)) (sym (here_is (at s inside) (copy k) rest))
+  typed_atoms inside None k n x xs a =
+      let atom : SolidAtom = record { functor = integer_functor (s.head.integer (bn.integer n)); links = to (of_rule x) ∷ [] } in
+      ap (map (solid_atom_of r.names)) (sym (here_is (at s inside) (atom ∷ []) (added_with_copies s left copy (λ z. to (of_rule z)) k xs (at s inside))))
+
+  pub leaf_atoms : (inside k : ℕ) (ls : List Leaf) → LeavesAgree k ls →
+      fused_leaves to (leaves_made k ls) ≡ map (solid_atom_of r.names) (added_with_copies s left copy (λ z. to (of_rule z)) k (leaf_items bn inside ls) (at s inside))
+  leaf_atoms inside k [] a = refl
+  leaf_atoms inside k (leaf.Atom f os p ∷ ls) a = elim (leaf_cases r.names f (map (λ o. o.link) os) inside (length-map os (λ o. o.link) ∙ a.0)) [
+    | inl e ↦ ap (λ l. fused_leaves to (placed_leaf l ∷ leaves_made k ls)) e.2 ∙ leaf_atoms inside k ls a.1 ∙ ap (λ (i : BodyItem). solid k (i ∷ leaf_items bn inside ls) (at s inside)) (sym e.3)
+    | inr e ↦ (let ys = map (λ o. o.link) os in
         let one : record { label = label_of r.names f.label; links = map to (map of_rule ys) } ≡ solid_atom_of r.names (record { functor = f; links = map (λ z. to (of_rule z)) ys }) =
         λ i. record { label = label_of r.names f.label; links = map_twice to of_rule ys i } in
-        ap (fused_leaves to) w.1 ∙ (λ i. one i ∷ leaf_atoms inside ls a.1 w.2 i)
-        ∙ ap (map (solid_atom_of r.names)) (sym (here_is (at s inside) ((record { functor = f; links = map (λ z. to (of_rule z)) ys }) ∷ []) (added_solid s left (λ z. to (of_rule z)) (leaf_items bn inside ls) (at s inside))))
-        ∙ ap (λ (i : BodyItem). solid (i ∷ leaf_items bn inside ls) (at s inside)) (sym k.1))
+        ap (λ l. fused_leaves to (placed_leaf l ∷ leaves_made k ls)) e.0 ∙ (λ i. one i ∷ leaf_atoms inside k ls a.1 i)
+        ∙ ap (map (solid_atom_of r.names)) (sym (here_is (at s inside) ((record { functor = f; links = map (λ z. to (of_rule z)) ys }) ∷ []) (added_with_copies s left copy (λ z. to (of_rule z)) k (leaf_items bn inside ls) (at s inside))))
+        ∙ ap (λ (i : BodyItem). solid k (i ∷ leaf_items bn inside ls) (at s inside)) (sym e.1))
   ]
-  leaf_atoms inside (leaf.Typed n o p ∷ ls) a (made_copy {x = x} {part = part} {outs = outs} i order d) =
-      let z = s.head.integer (bn.integer n) in
-      let part_is = one_integer z (c.typed_of (name_of r.names n)) (of_rule o.link) part a.0.1 i in
-      let atom : SolidAtom = record { functor = integer_functor z; links = to (of_rule o.link) ∷ [] } in
-      ap (λ xs. fused_leaves to (made_atoms xs ++ outs)) part_is
-      ∙ ap (λ l. solid_atom_of r.names atom ∷ l) (leaf_atoms inside ls a.1 d)
-      ∙ ap (map (solid_atom_of r.names)) (sym (here_is (at s inside) (atom ∷ []) (added_solid s left (λ z. to (of_rule z)) (leaf_items bn inside ls) (at s inside))))
-      ∙ ap (λ (w : Option ℕ). solid (typed_item w (bn.integer n) o.link inside ∷ leaf_items bn inside ls) (at s inside)) (sym a.0.0)
+  leaf_atoms inside k (leaf.Typed n o p ∷ ls) a =
+      fused_both to (typed_made (bn.part n) k (bn.integer n) o.link) (leaves_made (next_copy (bn.part n) k) ls)
+      ∙ ap (λ ys. fused_leaves to (typed_made (bn.part n) k (bn.integer n) o.link) ++ ys) (leaf_atoms inside (next_copy (bn.part n) k) ls a.1)
+      ∙ typed_atoms inside (bn.part n) k n o.link (leaf_items bn inside ls) a.0
 
   -- leaves add no membranes and no rules
   atom_item_adds : (b : Bool) (f : Functor) (ys : List ℕ) (inside n x : ℕ) (xs : List BodyItem) →
@@ -182,15 +255,15 @@ module _ (h h' : Heap) (r r' : Reading) (s : Registers) (bn : BodyNames) (c : Co
 
   -- ---- contexts and rules
 
-  pub context_atoms_are : (inside : ℕ) (us : List CtxUse) → ContextsAgree us →
-      fused_leaves to (kept_atoms (context_atoms c (names_of r.names us))) ≡ map (solid_atom_of r.names) (added_solid s left (λ z. to (of_rule z)) (context_items bn inside us) (at s inside))
-  context_atoms_are inside us a = fused_kept to (context_atoms c (names_of r.names us)) ∙ by us a
+  pub context_atoms_are : (inside k : ℕ) (us : List CtxUse) → ContextsAgree us →
+      fused_leaves to (kept_atoms (context_atoms c (names_of r.names us))) ≡ map (solid_atom_of r.names) (added_with_copies s left copy (λ z. to (of_rule z)) k (context_items bn inside us) (at s inside))
+  context_atoms_are inside k us a = fused_kept to (context_atoms c (names_of r.names us)) ∙ by us a
     where
-      by : (us : List CtxUse) → ContextsAgree us → map (renamed_atom (λ z. to (of_solid z))) (context_atoms c (names_of r.names us)) ≡ map (solid_atom_of r.names) (added_solid s left (λ z. to (of_rule z)) (context_items bn inside us) (at s inside))
+      by : (us : List CtxUse) → ContextsAgree us → map (renamed_atom (λ z. to (of_solid z))) (context_atoms c (names_of r.names us)) ≡ map (solid_atom_of r.names) (added_with_copies s left copy (λ z. to (of_rule z)) k (context_items bn inside us) (at s inside))
       by [] a = refl
       by (u ∷ us) a =
           let mine = left (at s (bn.context u.name)) in
-          let rest = added_solid s left (λ z. to (of_rule z)) (context_items bn inside us) (at s inside) in
+          let rest = added_with_copies s left copy (λ z. to (of_rule z)) k (context_items bn inside us) (at s inside) in
           map-append (renamed_atom (λ z. to (of_solid z))) (c.atoms_of (name_of r.names u.name)) (context_atoms c (names_of r.names us))
           ∙ (λ i. a.0.atoms i ++ by us a.1 i) ∙ sym (map-append (solid_atom_of r.names) mine rest)
           ∙ ap (map (solid_atom_of r.names)) (sym (here_is (at s inside) mine rest))
@@ -208,13 +281,13 @@ module _ (h h' : Heap) (r r' : Reading) (s : Registers) (bn : BodyNames) (c : Co
   contexts_no_rules inside x [] = refl
   contexts_no_rules inside x (u ∷ us) = contexts_no_rules inside x us
 
-  pub rules_alone : (inside n x : ℕ) (ks : List ℕ) → (added_solid s left (λ z. to (of_rule z)) (rule_items inside ks) x ≡ []) × (added_mems s left_mems n (rule_items inside ks) x ≡ [])
-  rules_alone inside n x [] = (refl, refl)
-  rules_alone inside n x (k ∷ ks) = rules_alone inside n x ks
+  pub rules_alone : (inside n k x : ℕ) (ks : List ℕ) → (added_with_copies s left copy (λ z. to (of_rule z)) k (rule_items inside ks) x ≡ []) × (added_mems s left_mems n (rule_items inside ks) x ≡ [])
+  rules_alone inside n k x [] = (refl, refl)
+  rules_alone inside n k x (j ∷ ks) = rules_alone inside n k x ks
 
-  pub rule_contexts_alone : (inside n x : ℕ) (us : List CtxUse) → (added_solid s left (λ z. to (of_rule z)) (rule_context_items bn inside us) x ≡ []) × (added_mems s left_mems n (rule_context_items bn inside us) x ≡ [])
-  rule_contexts_alone inside n x [] = (refl, refl)
-  rule_contexts_alone inside n x (u ∷ us) = rule_contexts_alone inside n x us
+  pub rule_contexts_alone : (inside n k x : ℕ) (us : List CtxUse) → (added_with_copies s left copy (λ z. to (of_rule z)) k (rule_context_items bn inside us) x ≡ []) × (added_mems s left_mems n (rule_context_items bn inside us) x ≡ [])
+  rule_contexts_alone inside n k x [] = (refl, refl)
+  rule_contexts_alone inside n k x (u ∷ us) = rule_contexts_alone inside n k x us
 
   pub rules_are : (inside : ℕ) (ks : List ℕ) → map r.rule ks ≡ map r.rule (added_rules s (rules_in h) (rule_items inside ks) (at s inside))
   rules_are inside [] = refl

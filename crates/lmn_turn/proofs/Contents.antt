@@ -1,8 +1,8 @@
 -- Contents that are those of the heap are what the levels of a body ask.
-use Rattle.std.proofs.Common.{ℕ, zero, suc, ◌≡◌, ◌+◌, List, [], ◌∷◌, ◌++◌, map, Option, Some, None, refl, subst, inl, inr, arith}
+use Rattle.std.proofs.Common.{ℕ, suc, ◌≡◌, ◌+◌, List, [], ◌∷◌, ◌++◌, map, length, Option, Some, None, refl, subst, arith}
 use Rattle.std.specs.Prelude.{Bool, true, false, Contains}
 use Rattle.std.specs.List.{flat_map}
-use Rattle.std.proofs.lemmas.List.Elements.{Contains-append_left, Contains-append_right, Contains-append_cases}
+use Rattle.std.proofs.lemmas.List.Elements.{Contains-append_left, Contains-append_right}
 use Rattle.lmn_base.specs.declared.functor.Functor.{Functor}
 use Rattle.lmn_base.specs.declared.level.CtxUse.{CtxUse}
 use Rattle.lmn_base.specs.declared.level.Leaf.{Leaf}
@@ -16,18 +16,20 @@ use Rattle.lmn_heap.specs.Heap.{Heap, rules_in}
 use Rattle.lmn_base.specs.declared.level.Occ.{Occ}
 use Rattle.lmn_base.specs.declared.refusal.Pos.{Pos}
 use Rattle.lmn_congruence.specs.Translation.{name_of}
-use Rattle.lmn_turn.proofs.Adders.{at}
+use Rattle.lmn_turn.proofs.Adders.{at, past}
+use Rattle.lmn_turn.proofs.EachCopy.{EachCopy, each_both}
+use Rattle.lmn_turn.proofs.Locals.{after_leaves, after_level, leaves_past, level_past, next_copy}
+use Rattle.lmn_congruence.specs.Regions as region
+use Rattle.lmn_reduction.specs.Parts.{IsInteger}
 use Rattle.lmn_base.specs.declared.solid.SolidAtom.{SolidAtom}
 use Rattle.lmn_adequacy.specs.Next.{Contents}
 use Rattle.lmn_solid.proofs.HeadTrees.{Head, Heads, head, no_head, head_and, heads, head_step, head_at, head_leaves, heads_leaves, size}
 use Rattle.lmn_body.specs.declared.items.BodyItem.{BodyItem}
-use Rattle.lmn_body.specs.declared.items.BodyItem.TheVariants.{Atom, Connector, Copy, Bound, Membrane, Rest, Rule, Rules}
 use Rattle.lmn_body.specs.Flattening.{BodyNames, atom_item, typed_item, leaf_items, context_items, rule_items, rule_context_items}
-use Rattle.lmn_body.specs.Items.{NoCopies}
 use Rattle.lmn_body.specs.Running.{Registers}
 use Rattle.lmn_bridge.specs.HeapRegions.{Reading}
 use Rattle.lmn_compile_body.proofs.BodyTrees.{flat_body, flat_bodies}
-use Rattle.lmn_turn.proofs.Bodies.{LeafAgrees, LeavesAgree, ContextAgrees, ContextsAgree, RuleContextsAgree, BodyAgrees, BodiesAgree}
+use Rattle.lmn_turn.proofs.Bodies.{CopyAgrees, TypedAgrees, LeavesAgree, ContextAgrees, ContextsAgree, RuleContextsAgree, BodyAgrees, BodiesAgree}
 use Rattle.lmn_turn.proofs.Connectors.{Fit, AllFit, AllFitIn}
 
 -- ---- the contexts of a level, at every depth
@@ -81,111 +83,96 @@ first_is x xs = (0, omega arith, refl)
 pub later_is : {X : Type 0} (x : X) (xs : List X) (y : X) → Contains xs y → Contains (x ∷ xs) y
 later_is x xs y (k, within, e) = (suc k, omega (arith, within), e)
 
-module _ (h h' : Heap) (r r' : Reading) (s : Registers) (bn : BodyNames) (c : Contents) (left : ℕ → List SolidAtom) (left_mems : ℕ → List ℕ) (to : ℕ → ℕ) where
-  abbrev OfLeaf : Leaf → Type 0
-  OfLeaf = LeafAgrees h h' r r' s bn c left left_mems to
-
+module _ (h h' : Heap) (r r' : Reading) (s : Registers) (bn : BodyNames) (c : Contents) (left : ℕ → List SolidAtom) (left_mems : ℕ → List ℕ) (to : ℕ → ℕ) (limit : ℕ) (copy : ℕ → List SolidAtom) (part : ℕ → ℕ → List region.SolidAtom) where
   abbrev OfContext : CtxUse → Type 0
-  OfContext = ContextAgrees h h' r r' s bn c left left_mems to
+  OfContext = ContextAgrees h h' r r' s bn c left left_mems to limit copy part
 
   abbrev OfRules : CtxUse → Type 0
   OfRules u = c.rules_of (name_of r.names u.name) ≡ map r.rule (rules_in h (at s (bn.rule_context u.name)))
 
-  leaves_agree : (ls : List Leaf) → ((l : Leaf) → Contains ls l → OfLeaf l) → LeavesAgree h h' r r' s bn c left left_mems to ls
-  leaves_agree [] a = tt
-  leaves_agree (l ∷ ls) a = (a l (first_is l ls), leaves_agree ls (λ k w. a k (later_is l ls k w)))
-
-  contexts_agree : (us : List CtxUse) → ((u : CtxUse) → Contains us u → OfContext u) → ContextsAgree h h' r r' s bn c left left_mems to us
+  contexts_agree : (us : List CtxUse) → ((u : CtxUse) → Contains us u → OfContext u) → ContextsAgree h h' r r' s bn c left left_mems to limit copy part us
   contexts_agree [] a = tt
   contexts_agree (u ∷ us) a = (a u (first_is u us), contexts_agree us (λ k w. a k (later_is u us k w)))
 
-  rule_contexts_agree : (us : List CtxUse) → ((u : CtxUse) → Contains us u → OfRules u) → RuleContextsAgree h h' r r' s bn c left left_mems to us
+  rule_contexts_agree : (us : List CtxUse) → ((u : CtxUse) → Contains us u → OfRules u) → RuleContextsAgree h h' r r' s bn c left left_mems to limit copy part us
   rule_contexts_agree [] a = tt
   rule_contexts_agree (u ∷ us) a = (a u (first_is u us), rule_contexts_agree us (λ k w. a k (later_is u us k w)))
 
-  mutual
-    -- so it is at every depth
-    pub body_agrees : (hd : Head) → ((l : Leaf) → Contains (head_leaves hd) l → LeafAgrees h h' r r' s bn c left left_mems to l) → ((u : CtxUse) → Contains (head_contexts hd) u → ContextAgrees h h' r r' s bn c left left_mems to u) →
-        ((u : CtxUse) → Contains (head_rule_contexts hd) u → c.rules_of (name_of r.names u.name) ≡ map r.rule (rules_in h (at s (bn.rule_context u.name)))) → BodyAgrees h h' r r' s bn c left left_mems to hd
-    body_agrees (head leaves hs cs rcs rs) a b d = (
-      leaves_agree leaves (λ l w. a l (Contains-append_left leaves (heads_leaves hs) l w)),
-      contexts_agree cs (λ u w. b u (Contains-append_left cs (heads_contexts hs) u w)),
-      rule_contexts_agree rcs (λ u w. d u (Contains-append_left rcs (heads_rule_contexts hs) u w)),
-      bodies_agree hs (λ l w. a l (Contains-append_right leaves (heads_leaves hs) l w)) (λ u w. b u (Contains-append_right cs (heads_contexts hs) u w)) (λ u w. d u (Contains-append_right rcs (heads_rule_contexts hs) u w)),
+  module _ (P : ℕ → ℕ → ℕ → Type 0) where
+    -- An atom fits its arity. A name that the guard binds stands for its integer. For one of the head, what is known of a copy says
+    -- that the raw atoms agree.
+    abbrev pub LeafFits : Leaf → Type 0
+    LeafFits (leaf.Atom f os p) = length os ≡ f.arity
+    LeafFits (leaf.Typed n o p) =
+        (bn.part n ≡ None → IsInteger (s.head.integer (bn.integer n)) (c.typed_of (name_of r.names n)))
+        × ((k g x : ℕ) → bn.part n ≡ Some g → P k g x → CopyAgrees h h' r r' s bn c left left_mems to limit copy part k n x)
+
+    atom_each : (b : Bool) (f : Functor) (ys : List ℕ) (inside k : ℕ) (xs : List BodyItem) → EachCopy P k (atom_item b f ys inside ∷ xs) → EachCopy P k xs
+    atom_each true f [] inside k xs e = e
+    atom_each true f (a ∷ []) inside k xs e = e
+    atom_each true f (a ∷ (b ∷ [])) inside k xs e = e
+    atom_each true f (a ∷ (b ∷ (d ∷ ys))) inside k xs e = e
+    atom_each false f ys inside k xs e = e
+
+    typed_each : (o : Option ℕ) (n x : ℕ) (q : Occ) (p : Pos) (inside k : ℕ) (xs : List BodyItem) → bn.part n ≡ o → LeafFits (leaf.Typed n q p) → EachCopy P k (typed_item o (bn.integer n) x inside ∷ xs) →
+        TypedAgrees h h' r r' s bn c left left_mems to limit copy part o k n x × EachCopy P (next_copy o k) xs
+    typed_each (Some g) n x q p inside k xs i fits e = (fits.1 k g x i e.0, e.1)
+    typed_each None n x q p inside k xs i fits e = (fits.0 i, e)
+
+    leaves_agree : (inside k : ℕ) (ls : List Leaf) → ((l : Leaf) → Contains ls l → LeafFits l) → EachCopy P k (leaf_items bn inside ls) → LeavesAgree h h' r r' s bn c left left_mems to limit copy part k ls
+    leaves_agree inside k [] a e = tt
+    leaves_agree inside k (leaf.Atom f os p ∷ ls) a e = (
+      a (leaf.Atom f os p) (first_is (leaf.Atom f os p) ls),
+      leaves_agree inside k ls (λ l w. a l (later_is (leaf.Atom f os p) ls l w)) (atom_each (same_functor f connector) f (map (λ o. o.link) os) inside k (leaf_items bn inside ls) e),
     )
+    leaves_agree inside k (leaf.Typed n o p ∷ ls) a e =
+        let u = typed_each (bn.part n) n o.link o p inside k (leaf_items bn inside ls) refl (a (leaf.Typed n o p) (first_is (leaf.Typed n o p) ls)) e in
+        (u.0, leaves_agree inside (next_copy (bn.part n) k) ls (λ l w. a l (later_is (leaf.Typed n o p) ls l w)) u.1)
 
-    bodies_agree : (hs : Heads) → ((l : Leaf) → Contains (heads_leaves hs) l → LeafAgrees h h' r r' s bn c left left_mems to l) → ((u : CtxUse) → Contains (heads_contexts hs) u → ContextAgrees h h' r r' s bn c left left_mems to u) →
-        ((u : CtxUse) → Contains (heads_rule_contexts hs) u → c.rules_of (name_of r.names u.name) ≡ map r.rule (rules_in h (at s (bn.rule_context u.name)))) → BodiesAgree h h' r r' s bn c left left_mems to hs
-    bodies_agree no_head a b d = tt
-    bodies_agree (head_and hd hs) a b d = (
-      body_agrees hd (λ l w. a l (Contains-append_left (head_leaves hd) (heads_leaves hs) l w)) (λ u w. b u (Contains-append_left (head_contexts hd) (heads_contexts hs) u w)) (λ u w. d u (Contains-append_left (head_rule_contexts hd) (heads_rule_contexts hs) u w)),
-      bodies_agree hs (λ l w. a l (Contains-append_right (head_leaves hd) (heads_leaves hs) l w)) (λ u w. b u (Contains-append_right (head_contexts hd) (heads_contexts hs) u w)) (λ u w. d u (Contains-append_right (head_rule_contexts hd) (heads_rule_contexts hs) u w)),
-    )
+    mutual
+      -- so it is at every depth
+      pub body_agrees : (inside next k : ℕ) (hd : Head) → ((l : Leaf) → Contains (head_leaves hd) l → LeafFits l) →
+          ((u : CtxUse) → Contains (head_contexts hd) u → ContextAgrees h h' r r' s bn c left left_mems to limit copy part u) →
+          ((u : CtxUse) → Contains (head_rule_contexts hd) u → c.rules_of (name_of r.names u.name) ≡ map r.rule (rules_in h (at s (bn.rule_context u.name)))) →
+          EachCopy P k (flat_body bn inside next hd) → BodyAgrees h h' r r' s bn c left left_mems to limit copy part k hd
+      body_agrees inside next k (head leaves hs cs rcs rs) a b d e =
+          let L = leaf_items bn inside leaves in
+          let D = flat_bodies bn inside next hs in
+          let T = context_items bn inside cs ++ (rule_items inside rs ++ rule_context_items bn inside rcs) in
+          let u = each_both P k L (D ++ T) e in
+          let v = each_both P (past k L) D T u.1 in (
+            leaves_agree inside k leaves (λ l w. a l (Contains-append_left leaves (heads_leaves hs) l w)) u.0,
+            contexts_agree cs (λ u w. b u (Contains-append_left cs (heads_contexts hs) u w)),
+            rule_contexts_agree rcs (λ u w. d u (Contains-append_left rcs (heads_rule_contexts hs) u w)),
+            bodies_agree inside next (after_leaves bn k leaves) hs (λ l w. a l (Contains-append_right leaves (heads_leaves hs) l w)) (λ u w. b u (Contains-append_right cs (heads_contexts hs) u w))
+                (λ u w. d u (Contains-append_right rcs (heads_rule_contexts hs) u w)) (subst (λ z. EachCopy P z D) (leaves_past bn inside k leaves) v.0),
+          )
 
-  fit_leaves : (ls : List Leaf) → LeavesAgree h h' r r' s bn c left left_mems to ls → Fit r.names r.rule bn c to ls
-  fit_leaves [] a = tt
-  fit_leaves (leaf.Atom f os p ∷ ls) a = (a.0, fit_leaves ls a.1)
-  fit_leaves (leaf.Typed n o p ∷ ls) a = fit_leaves ls a.1
+      bodies_agree : (inside next k : ℕ) (hs : Heads) → ((l : Leaf) → Contains (heads_leaves hs) l → LeafFits l) →
+          ((u : CtxUse) → Contains (heads_contexts hs) u → ContextAgrees h h' r r' s bn c left left_mems to limit copy part u) →
+          ((u : CtxUse) → Contains (heads_rule_contexts hs) u → c.rules_of (name_of r.names u.name) ≡ map r.rule (rules_in h (at s (bn.rule_context u.name)))) →
+          EachCopy P k (flat_bodies bn inside next hs) → BodiesAgree h h' r r' s bn c left left_mems to limit copy part k hs
+      bodies_agree inside next k no_head a b d e = tt
+      bodies_agree inside next k (head_and hd hs) a b d e =
+          let inner = flat_body bn next (next + 1) hd in
+          let behind = flat_bodies bn inside (next + 1 + size hd) hs in
+          let u = each_both P k inner behind e in (
+            body_agrees next (next + 1) k hd (λ l w. a l (Contains-append_left (head_leaves hd) (heads_leaves hs) l w)) (λ u w. b u (Contains-append_left (head_contexts hd) (heads_contexts hs) u w))
+                (λ u w. d u (Contains-append_left (head_rule_contexts hd) (heads_rule_contexts hs) u w)) u.0,
+            bodies_agree inside (next + 1 + size hd) (after_level bn k hd) hs (λ l w. a l (Contains-append_right (head_leaves hd) (heads_leaves hs) l w))
+                (λ u w. b u (Contains-append_right (head_contexts hd) (heads_contexts hs) u w)) (λ u w. d u (Contains-append_right (head_rule_contexts hd) (heads_rule_contexts hs) u w))
+                (subst (λ z. EachCopy P z behind) (level_past bn next (next + 1) k hd) u.1),
+          )
 
-  mutual
-    pub all_fit : (hd : Head) → BodyAgrees h h' r r' s bn c left left_mems to hd → AllFit r.names r.rule bn c to hd
-    all_fit (head leaves hs cs rcs rs) a = (fit_leaves leaves a.0, all_fit_in hs a.3)
-
-    all_fit_in : (hs : Heads) → BodiesAgree h h' r r' s bn c left left_mems to hs → AllFitIn r.names r.rule bn c to hs
-    all_fit_in no_head a = tt
-    all_fit_in (head_and hd hs) a = (all_fit hd a.0, all_fit_in hs a.1)
-
--- ---- no copies
-
-none_left : (xs ys : List BodyItem) → NoCopies (xs ++ ys) → NoCopies xs × NoCopies ys
-none_left [] ys n = (tt, n)
-none_left (Atom f ls i ∷ xs) ys n = none_left xs ys n
-none_left (Connector a b ∷ xs) ys n = none_left xs ys n
-none_left (Copy g l i ∷ xs) ys n = absurd n
-none_left (Bound v l i ∷ xs) ys n = none_left xs ys n
-none_left (Membrane i ∷ xs) ys n = none_left xs ys n
-none_left (Rest o i ∷ xs) ys n = none_left xs ys n
-none_left (Rule k i ∷ xs) ys n = none_left xs ys n
-none_left (Rules o i ∷ xs) ys n = none_left xs ys n
-
-module _ (bn : BodyNames) where
-  atom_then : (t : Bool) (f : Functor) (ys : List ℕ) (inside : ℕ) (xs : List BodyItem) → NoCopies (atom_item t f ys inside ∷ xs) → NoCopies xs
-  atom_then true f [] inside xs n = n
-  atom_then true f (a ∷ []) inside xs n = n
-  atom_then true f (a ∷ (b ∷ [])) inside xs n = n
-  atom_then true f (a ∷ (b ∷ (d ∷ ys))) inside xs n = n
-  atom_then false f ys inside xs n = n
-
-  typed_then : (o : Option ℕ) (i x inside : ℕ) (xs : List BodyItem) → NoCopies (typed_item o i x inside ∷ xs) → (o ≡ None) × NoCopies xs
-  typed_then None i x inside xs n = (refl, n)
-  typed_then (Some g) i x inside xs n = absurd n
-
-  -- the names of typed contexts of a body without copies aren't parts
-  abbrev pub NoParts : List Leaf → Type 0
-  NoParts ls = (n : ℕ) (o : Occ) (p : Pos) → Contains ls (leaf.Typed n o p) → bn.part n ≡ None
-
-  leaves_no_parts : (inside : ℕ) (ls : List Leaf) → NoCopies (leaf_items bn inside ls) → (n : ℕ) (o : Occ) (p : Pos) → Contains ls (leaf.Typed n o p) → bn.part n ≡ None
-  leaves_no_parts inside [] w n o p (k, within, e) = absurd (omega (arith, within))
-  leaves_no_parts inside (leaf.Atom f os q ∷ ls) w n o p (zero, within, e) = absurd (cc)
-  leaves_no_parts inside (leaf.Atom f os q ∷ ls) w n o p (suc k, within, e) = leaves_no_parts inside ls (atom_then (same_functor f connector) f (map (λ o. o.link) os) inside (leaf_items bn inside ls) w) n o p (k, omega (arith, within), e)
-  leaves_no_parts inside (leaf.Typed m u q ∷ ls) w n o p (zero, within, e) =
-      let same : m ≡ n = cc in subst (λ z. bn.part z ≡ None) same (typed_then (bn.part m) (bn.integer m) u.link inside (leaf_items bn inside ls) w).0
-  leaves_no_parts inside (leaf.Typed m u q ∷ ls) w n o p (suc k, within, e) = leaves_no_parts inside ls (typed_then (bn.part m) (bn.integer m) u.link inside (leaf_items bn inside ls) w).1 n o p (k, omega (arith, within), e)
+  fit_leaves : (k : ℕ) (ls : List Leaf) → LeavesAgree h h' r r' s bn c left left_mems to limit copy part k ls → Fit r.names r.rule bn c to ls
+  fit_leaves k [] a = tt
+  fit_leaves k (leaf.Atom f os p ∷ ls) a = (a.0, fit_leaves k ls a.1)
+  fit_leaves k (leaf.Typed n o p ∷ ls) a = fit_leaves (next_copy (bn.part n) k) ls a.1
 
   mutual
-    pub body_no_parts : (inside next : ℕ) (hd : Head) → NoCopies (flat_body bn inside next hd) → (n : ℕ) (o : Occ) (p : Pos) → Contains (head_leaves hd) (leaf.Typed n o p) → bn.part n ≡ None
-    body_no_parts inside next (head leaves hs cs rcs rs) w n o p i =
-        let u = none_left (leaf_items bn inside leaves) (flat_bodies bn inside next hs ++ (context_items bn inside cs ++ (rule_items inside rs ++ rule_context_items bn inside rcs))) w in
-        elim (Contains-append_cases leaves (heads_leaves hs) (leaf.Typed n o p) i) [
-          | inl j ↦ leaves_no_parts inside leaves u.0 n o p j
-          | inr j ↦ bodies_no_parts inside next hs (none_left (flat_bodies bn inside next hs) (context_items bn inside cs ++ (rule_items inside rs ++ rule_context_items bn inside rcs)) u.1).0 n o p j
-        ]
+    pub all_fit : (k : ℕ) (hd : Head) → BodyAgrees h h' r r' s bn c left left_mems to limit copy part k hd → AllFit r.names r.rule bn c to hd
+    all_fit k (head leaves hs cs rcs rs) a = (fit_leaves k leaves a.0, all_fit_in (after_leaves bn k leaves) hs a.3)
 
-    bodies_no_parts : (inside next : ℕ) (hs : Heads) → NoCopies (flat_bodies bn inside next hs) → (n : ℕ) (o : Occ) (p : Pos) → Contains (heads_leaves hs) (leaf.Typed n o p) → bn.part n ≡ None
-    bodies_no_parts inside next no_head w n o p (k, within, e) = absurd (omega (arith, within))
-    bodies_no_parts inside next (head_and hd hs) w n o p i =
-        let u = none_left (flat_body bn next (next + 1) hd) (flat_bodies bn inside (next + 1 + size hd) hs) w in
-        elim (Contains-append_cases (head_leaves hd) (heads_leaves hs) (leaf.Typed n o p) i) [
-          | inl j ↦ body_no_parts next (next + 1) hd u.0 n o p j
-          | inr j ↦ bodies_no_parts inside (next + 1 + size hd) hs u.1 n o p j
-        ]
+    all_fit_in : (k : ℕ) (hs : Heads) → BodiesAgree h h' r r' s bn c left left_mems to limit copy part k hs → AllFitIn r.names r.rule bn c to hs
+    all_fit_in k no_head a = tt
+    all_fit_in k (head_and hd hs) a = (all_fit k hd a.0, all_fit_in (after_level bn k hd) hs a.1)

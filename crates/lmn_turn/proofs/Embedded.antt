@@ -71,6 +71,7 @@ use Rattle.lmn_turn.proofs.Contexts.{context_there, rule_context_there}
 use Rattle.lmn_turn.proofs.Found.{found, part_at, whole_once, atoms_are, membranes_are, parts_are, membranes_read, link_is, part_is, part_ground}
 use Rattle.lmn_turn.proofs.Held.{Held, HeldLevel}
 use Rattle.lmn_turn.proofs.LeftOver.{Room, LeftThere, left_there, each_read, contexts_there, name_among}
+use Rattle.lmn_turn.proofs.PartNames.{part_named}
 use Rattle.lmn_turn.proofs.PlanTypes.{plan_types}
 
 -- the images of numbers in a row
@@ -295,6 +296,7 @@ module _ (head_law : AcceptedHeads) (least_law : AcceptedLeast) (alike : EmbedsA
           contexts = λ u w. subst (λ xs. IsLeft h r (images_of s xs ++ parts) (membrane_images s xs) (at s (context_membrane rule.head u.name)) (region (c.atoms_of (name_of r.names u.name)) (c.membranes_of (name_of r.names u.name)) (map r.rule (rules_in h (at s (context_membrane rule.head u.name)))))) back
               ((in_head parts are').contexts (u.name, context_membrane rule.head u.name) (context_there r rule read.names is_rule u w));
           rule_contexts = λ u w. (in_head parts are').rules (u.name, rule_context_membrane rule.head u.name) (rule_context_there r rule read.names is_rule u w);
+          parts = λ n o p g w e. part_named h r kind rule s.head.images c.typed_of takes n g e;
           bound = bound_is;
         },
         subst (λ xs. IsLeft h r (images_of s xs ++ parts) (membrane_images s xs) m ordered.rest) back (rest_left parts are'),

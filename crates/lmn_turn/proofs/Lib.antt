@@ -3,13 +3,19 @@ mod Steps
 mod Standings
 mod Adders
 mod Locals
+mod CopyLinks
+mod EachCopy
+mod CopyMaps
+mod OwnLinks
 mod Bodies
 mod MadeLevels
 mod Kept
 mod Leading
+mod LinksBelow
+mod LinksKept
 mod Paths
-mod Raw
 mod Connectors
+mod MadeMembers
 mod Turns
 mod Made
 mod Namings
@@ -19,6 +25,8 @@ mod Contents
 mod Leavings
 mod RulesKept
 mod ReadAgain
+mod HeadLinks
+mod FiredMaps
 mod TurnsNext
 mod Sublists
 mod Numbered
@@ -30,3 +38,7 @@ mod BoundIntegers
 mod Embedded
 mod Tables
 mod Turned
+mod PartOrder
+mod CopiedParts
+mod PartNames
+mod PartLinks

@@ -13,7 +13,80 @@ use Rattle.lmn_body.specs.declared.items.BodyItem.TheVariants.{Membrane}
 use Rattle.lmn_body.specs.Flattening.{BodyNames, atom_item, typed_item, leaf_items, context_items, rule_items, rule_context_items}
 use Rattle.lmn_body.specs.Running.{Registers}
 use Rattle.lmn_compile_body.proofs.BodyTrees.{flat_body, flat_bodies}
-use Rattle.lmn_turn.proofs.Adders.{at, many, many_both, Elsewhere, Misses, misses_both, Adder}
+use Rattle.lmn_turn.proofs.Adders.{at, many, many_both, past, past_both, Elsewhere, Misses, misses_both, Adder}
+
+-- ---- the numbers of copies
+
+-- the number of the next copy behind a typed context
+abbrev pub next_copy : Option ℕ → ℕ → ℕ
+next_copy (Some g) k = k + 1
+next_copy None k = k
+
+-- and behind leaves
+abbrev pub after_leaves : BodyNames → ℕ → List Leaf → ℕ
+after_leaves bn k [] = k
+after_leaves bn k (leaf.Atom f os p ∷ ls) = after_leaves bn k ls
+after_leaves bn k (leaf.Typed n o p ∷ ls) = after_leaves bn (next_copy (bn.part n) k) ls
+
+-- and behind a level
+abbrev mutual
+  pub after_level : BodyNames → ℕ → Head → ℕ
+  after_level bn k (head leaves hs cs rcs rs) = after_levels bn (after_leaves bn k leaves) hs
+
+  pub after_levels : BodyNames → ℕ → Heads → ℕ
+  after_levels bn k no_head = k
+  after_levels bn k (head_and h hs) = after_levels bn (after_level bn k h) hs
+
+atom_past : (b : Bool) (f : Functor) (ys : List ℕ) (inside k : ℕ) (xs : List BodyItem) → past k (atom_item b f ys inside ∷ xs) ≡ past k xs
+atom_past true f [] inside k xs = refl
+atom_past true f (a ∷ []) inside k xs = refl
+atom_past true f (a ∷ (b ∷ [])) inside k xs = refl
+atom_past true f (a ∷ (b ∷ (c ∷ ys))) inside k xs = refl
+atom_past false f ys inside k xs = refl
+
+typed_past : (o : Option ℕ) (i x inside k : ℕ) (xs : List BodyItem) → past k (typed_item o i x inside ∷ xs) ≡ past (next_copy o k) xs
+typed_past (Some g) i x inside k xs = refl
+typed_past None i x inside k xs = refl
+
+module _ (bn : BodyNames) where
+  pub leaves_past : (inside k : ℕ) (ls : List Leaf) → past k (leaf_items bn inside ls) ≡ after_leaves bn k ls
+  leaves_past inside k [] = refl
+  leaves_past inside k (leaf.Atom f os p ∷ ls) = atom_past (same_functor f connector) f (map (λ o. o.link) os) inside k (leaf_items bn inside ls) ∙ leaves_past inside k ls
+  leaves_past inside k (leaf.Typed n o p ∷ ls) = typed_past (bn.part n) (bn.integer n) o.link inside k (leaf_items bn inside ls) ∙ leaves_past inside (next_copy (bn.part n) k) ls
+
+  pub contexts_past : (inside k : ℕ) (us : List CtxUse) → past k (context_items bn inside us) ≡ k
+  contexts_past inside k [] = refl
+  contexts_past inside k (u ∷ us) = contexts_past inside k us
+
+  rules_past : (inside k : ℕ) (ks : List ℕ) → past k (rule_items inside ks) ≡ k
+  rules_past inside k [] = refl
+  rules_past inside k (j ∷ ks) = rules_past inside k ks
+
+  rule_contexts_past : (inside k : ℕ) (us : List CtxUse) → past k (rule_context_items bn inside us) ≡ k
+  rule_contexts_past inside k [] = refl
+  rule_contexts_past inside k (u ∷ us) = rule_contexts_past inside k us
+
+  mutual
+    -- the items of a level make as many copies as the level
+    pub level_past : (inside next k : ℕ) (h : Head) → past k (flat_body bn inside next h) ≡ after_level bn k h
+    level_past inside next k (head leaves hs cs rcs rs) =
+        let n = after_levels bn (after_leaves bn k leaves) hs in
+        past_both k (leaf_items bn inside leaves) (flat_bodies bn inside next hs ++ (context_items bn inside cs ++ (rule_items inside rs ++ rule_context_items bn inside rcs)))
+        ∙ ap (λ z. past z (flat_bodies bn inside next hs ++ (context_items bn inside cs ++ (rule_items inside rs ++ rule_context_items bn inside rcs)))) (leaves_past inside k leaves)
+        ∙ past_both (after_leaves bn k leaves) (flat_bodies bn inside next hs) (context_items bn inside cs ++ (rule_items inside rs ++ rule_context_items bn inside rcs))
+        ∙ ap (λ z. past z (context_items bn inside cs ++ (rule_items inside rs ++ rule_context_items bn inside rcs))) (levels_past inside next (after_leaves bn k leaves) hs)
+        ∙ past_both n (context_items bn inside cs) (rule_items inside rs ++ rule_context_items bn inside rcs)
+        ∙ ap (λ z. past z (rule_items inside rs ++ rule_context_items bn inside rcs)) (contexts_past inside n cs)
+        ∙ past_both n (rule_items inside rs) (rule_context_items bn inside rcs)
+        ∙ ap (λ z. past z (rule_context_items bn inside rcs)) (rules_past inside n rs)
+        ∙ rule_contexts_past inside n rcs
+
+    pub levels_past : (inside next k : ℕ) (hs : Heads) → past k (flat_bodies bn inside next hs) ≡ after_levels bn k hs
+    levels_past inside next k no_head = refl
+    levels_past inside next k (head_and h hs) =
+        past_both k (flat_body bn next (next + 1) h) (flat_bodies bn inside (next + 1 + size h) hs)
+        ∙ ap (λ z. past z (flat_bodies bn inside (next + 1 + size h) hs)) (level_past next (next + 1) k h)
+        ∙ levels_past inside (next + 1 + size h) (after_level bn k h) hs
 
 -- ---- how many membranes
 
@@ -125,49 +198,53 @@ module _ (bn : BodyNames) where
       Used j = (j ≡ 0) ⊎ ((low ≤ j) × (j < high))
 
       -- the body adds to the membranes of a level what the level adds
-      abbrev pub Local : Head → ℕ → ℕ → Type 0
-      Local h inside next = (j : ℕ) → (j ≡ inside) ⊎ ((next ≤ j) × (j < next + size h)) → A.adds first B (at s j) ≡ A.adds next (flat_body bn inside next h) (at s j)
+      abbrev pub Local : Head → ℕ → ℕ → ℕ → Type 0
+      Local h inside next c = (j : ℕ) → (j ≡ inside) ⊎ ((next ≤ j) × (j < next + size h)) → A.adds first 0 B (at s j) ≡ A.adds next c (flat_body bn inside next h) (at s j)
 
       -- and so for levels side by side
-      abbrev pub LocalIn : Heads → ℕ → ℕ → Type 0
-      LocalIn hs inside next = (j : ℕ) → next ≤ j → j < next + sizes hs → A.adds first B (at s j) ≡ A.adds next (flat_bodies bn inside next hs) (at s j)
+      abbrev pub LocalIn : Heads → ℕ → ℕ → ℕ → Type 0
+      LocalIn hs inside next c = (j : ℕ) → next ≤ j → j < next + sizes hs → A.adds first 0 B (at s j) ≡ A.adds next c (flat_bodies bn inside next hs) (at s j)
 
       differ : (j k : ℕ) → Used j → Used k → j ≢ k → at s j ≢ at s k
       differ j k u w d e = d (apart j k u w e)
 
-      skip : (n k : ℕ) (xs ys : List BodyItem) (x : ℕ) → Misses s x xs → many xs ≡ k → A.adds n (xs ++ ys) x ≡ A.adds (n + k) ys x
-      skip n k xs ys x m e = A.both n xs ys x ∙ ap (λ z. z ++ A.adds (n + many xs) ys x) (A.missed n xs x m) ∙ ap (λ z. A.adds (n + z) ys x) e
+      skip : (n k c d : ℕ) (xs ys : List BodyItem) (x : ℕ) → Misses s x xs → many xs ≡ k → past c xs ≡ d → A.adds n c (xs ++ ys) x ≡ A.adds (n + k) d ys x
+      skip n k c d xs ys x m e f =
+          A.both n c xs ys x ∙ ap (λ z. z ++ A.adds (n + many xs) (past c xs) ys x) (A.missed n c xs x m) ∙ ap (λ z. A.adds (n + z) (past c xs) ys x) e ∙ ap (λ z. A.adds (n + k) z ys x) f
 
-      front : (n : ℕ) (xs ys : List BodyItem) (x : ℕ) → Misses s x ys → A.adds n (xs ++ ys) x ≡ A.adds n xs x
-      front n xs ys x m = A.both n xs ys x ∙ ap (λ z. A.adds n xs x ++ z) (A.missed (n + many xs) ys x m) ∙ append-nil (A.adds n xs x)
+      front : (n c : ℕ) (xs ys : List BodyItem) (x : ℕ) → Misses s x ys → A.adds n c (xs ++ ys) x ≡ A.adds n c xs x
+      front n c xs ys x m = A.both n c xs ys x ∙ ap (λ z. A.adds n c xs x ++ z) (A.missed (n + many xs) (past c xs) ys x m) ∙ append-nil (A.adds n c xs x)
 
-      pub local_inside : (inside next : ℕ) (leaves : List Leaf) (hs : Heads) (cs rcs : List CtxUse) (rs : List ℕ) → Used inside → low ≤ next → inside < next → next + sizes hs ≤ high →
-          Local (head leaves hs cs rcs rs) inside next → LocalIn hs inside next
-      local_inside inside next leaves hs cs rcs rs u l i t L j a b =
+      pub local_inside : (inside next c : ℕ) (leaves : List Leaf) (hs : Heads) (cs rcs : List CtxUse) (rs : List ℕ) → Used inside → low ≤ next → inside < next → next + sizes hs ≤ high →
+          Local (head leaves hs cs rcs rs) inside next c → LocalIn hs inside next (after_leaves bn c leaves)
+      local_inside inside next c leaves hs cs rcs rs u l i t L j a b =
           let d = differ inside j u (inr (omega (arith, l, a), omega (arith, b, t))) (λ e. omega (arith, e, i, a)) in
           let z : next + 0 ≡ next = omega arith in
+          let c' = after_leaves bn c leaves in
           L j (inr (a, b))
-          ∙ skip next 0 (leaf_items bn inside leaves) (flat_bodies bn inside next hs ++ (context_items bn inside cs ++ (rule_items inside rs ++ rule_context_items bn inside rcs))) (at s j) (leaves_miss (at s j) inside d leaves) (no_leaf_membrane inside leaves)
-          ∙ ap (λ n. A.adds n (flat_bodies bn inside next hs ++ (context_items bn inside cs ++ (rule_items inside rs ++ rule_context_items bn inside rcs))) (at s j)) z
-          ∙ front next (flat_bodies bn inside next hs) (context_items bn inside cs ++ (rule_items inside rs ++ rule_context_items bn inside rcs)) (at s j) (behind_miss (at s j) inside d cs rcs rs)
+          ∙ skip next 0 c c' (leaf_items bn inside leaves) (flat_bodies bn inside next hs ++ (context_items bn inside cs ++ (rule_items inside rs ++ rule_context_items bn inside rcs))) (at s j) (leaves_miss (at s j) inside d leaves) (no_leaf_membrane inside leaves)
+          (leaves_past bn inside c leaves)
+          ∙ ap (λ n. A.adds n c' (flat_bodies bn inside next hs ++ (context_items bn inside cs ++ (rule_items inside rs ++ rule_context_items bn inside rcs))) (at s j)) z
+          ∙ front next c' (flat_bodies bn inside next hs) (context_items bn inside cs ++ (rule_items inside rs ++ rule_context_items bn inside rcs)) (at s j) (behind_miss (at s j) inside d cs rcs rs)
 
-      pub local_first : (inside next : ℕ) (h : Head) (hs : Heads) → Used inside → low ≤ next → inside < next → next + sizes (head_and h hs) ≤ high → LocalIn (head_and h hs) inside next → Local h next (next + 1)
-      local_first inside next h hs u l i t L j w =
+      pub local_first : (inside next c : ℕ) (h : Head) (hs : Heads) → Used inside → low ≤ next → inside < next → next + sizes (head_and h hs) ≤ high → LocalIn (head_and h hs) inside next c → Local h next (next + 1) c
+      local_first inside next c h hs u l i t L j w =
           let within : (next ≤ j) × (j < next + 1 + size h) = elim w [ inl e ↦ (omega (arith, e), omega (arith, e)) | inr p ↦ (let a = p.0 in omega (arith, a), p.1) ] in
           let a = within.0 in
           let b = within.1 in
           let used : Used j = inr (omega (arith, l, a), omega (arith, b, t)) in
           let d = differ inside j u used (λ e. omega (arith, e, i, a)) in
-          let others = bodies_miss (at s j) inside (next + 1 + size h) hs d (λ k c e. differ k j (inr (omega (arith, l, c), omega (arith, e, t))) used (λ q. omega (arith, q, c, b))) in
+          let others = bodies_miss (at s j) inside (next + 1 + size h) hs d (λ k x e. differ k j (inr (omega (arith, l, x), omega (arith, e, t))) used (λ q. omega (arith, q, x, b))) in
           L j a (omega (arith, b))
-          ∙ skip next 1 (Membrane inside ∷ []) (flat_body bn next (next + 1) h ++ flat_bodies bn inside (next + 1 + size h) hs) (at s j) (d, tt) refl
-          ∙ front (next + 1) (flat_body bn next (next + 1) h) (flat_bodies bn inside (next + 1 + size h) hs) (at s j) others
+          ∙ skip next 1 c c (Membrane inside ∷ []) (flat_body bn next (next + 1) h ++ flat_bodies bn inside (next + 1 + size h) hs) (at s j) (d, tt) refl refl
+          ∙ front (next + 1) c (flat_body bn next (next + 1) h) (flat_bodies bn inside (next + 1 + size h) hs) (at s j) others
 
-      pub local_rest : (inside next : ℕ) (h : Head) (hs : Heads) → Used inside → low ≤ next → inside < next → next + sizes (head_and h hs) ≤ high → LocalIn (head_and h hs) inside next → LocalIn hs inside (next + 1 + size h)
-      local_rest inside next h hs u l i t L j a b =
+      pub local_rest : (inside next c : ℕ) (h : Head) (hs : Heads) → Used inside → low ≤ next → inside < next → next + sizes (head_and h hs) ≤ high → LocalIn (head_and h hs) inside next c →
+          LocalIn hs inside (next + 1 + size h) (after_level bn c h)
+      local_rest inside next c h hs u l i t L j a b =
           let used : Used j = inr (omega (arith, l, a), omega (arith, b, t)) in
           let d = differ inside j u used (λ e. omega (arith, e, i, a)) in
-          let mine = body_misses (at s j) next (next + 1) h (differ next j (inr (l, omega (arith, t))) used (λ e. omega (arith, e, a))) (λ k c e. differ k j (inr (omega (arith, l, c), omega (arith, e, t))) used (λ q. omega (arith, q, e, a))) in
+          let mine = body_misses (at s j) next (next + 1) h (differ next j (inr (l, omega (arith, t))) used (λ e. omega (arith, e, a))) (λ k x e. differ k j (inr (omega (arith, l, x), omega (arith, e, t))) used (λ q. omega (arith, q, e, a))) in
           L j (omega (arith, a)) (omega (arith, b))
-          ∙ skip next 1 (Membrane inside ∷ []) (flat_body bn next (next + 1) h ++ flat_bodies bn inside (next + 1 + size h) hs) (at s j) (d, tt) refl
-          ∙ skip (next + 1) (size h) (flat_body bn next (next + 1) h) (flat_bodies bn inside (next + 1 + size h) hs) (at s j) mine (many_flat next (next + 1) h)
+          ∙ skip next 1 c c (Membrane inside ∷ []) (flat_body bn next (next + 1) h ++ flat_bodies bn inside (next + 1 + size h) hs) (at s j) (d, tt) refl refl
+          ∙ skip (next + 1) (size h) c (after_level bn c h) (flat_body bn next (next + 1) h) (flat_bodies bn inside (next + 1 + size h) hs) (at s j) mine (many_flat next (next + 1) h) (level_past bn next (next + 1) c h)

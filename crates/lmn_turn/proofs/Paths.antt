@@ -1,5 +1,5 @@
 -- From the membrane in which a rule fires to the root.
-use Rattle.std.proofs.Common.{ℕ, suc, ◌≡◌, ◌≢◌, Some, List, [], ◌∷◌, ◌++◌, map, refl, sym, subst, ◌∙◌, inl, inr, arith}
+use Rattle.std.proofs.Common.{ℕ, suc, ◌≡◌, ◌≢◌, ◌+◌, ◌≤◌, Some, List, [], ◌∷◌, ◌++◌, map, refl, sym, subst, ◌∙◌, inl, inr, arith}
 use Rattle.std.specs.Prelude.{slice_get}
 use Rattle.lmn_heap.specs.Heap.{Heap, atoms_in, mems_in, rules_in}
 use Rattle.lmn_heap.specs.Lists.{In, Distinct}
@@ -7,6 +7,7 @@ use Rattle.lmn_heap.specs.Sound.{Forest, bare, mem, flat, Forms}
 use Rattle.lmn_heap.proofs.Groves.{forms_one}
 use Rattle.lmn_heap.proofs.ListLemmas.{in_left, in_right, each_in, distinct_left, distinct_right, apart}
 use Rattle.lmn_heap.proofs.Trees.{in_either}
+use Rattle.lmn_congruence.specs.FreeLinks.{link_bound}
 use Rattle.lmn_congruence.specs.Fused.{Joins}
 use Rattle.lmn_congruence.specs.Plains.{fused_level, fused_levels, level_process, levels_processes}
 use Rattle.lmn_congruence.specs.Process.{Closed, Process, pair, renamed, together}
@@ -24,6 +25,7 @@ use Rattle.lmn_adequacy.proofs.Orders.{r_over}
 use Rattle.lmn_bridge.specs.HeapRegions.{Reading, atoms_at, regions_at, region_at}
 use Rattle.lmn_bridge.proofs.Lying.{TakenTree, tree_first, tree_later, taken_region}
 use Rattle.lmn_turn.specs.Turning.{Leads, enters}
+use Rattle.lmn_turn.proofs.LinksBelow.{reordered_bound}
 use Rattle.lmn_turn.specs.Standing.{StandAs, none_stands, one_stands}
 use Rattle.lmn_turn.proofs.Kept.{Untouched, kept_one, kept_stand, kept_atoms_join, rules_join, kept_level_joins, kept_membranes_join}
 
@@ -33,6 +35,10 @@ below_order : {n : ℕ} {m : Region} {ms ms' : Regions} (xs : List SolidAtom) (r
 below_order {n = n} {ms = ms} {ms' = ms'} xs rs L k =
     r_chain (r_same (level_listed (kept_atoms xs) (replaced n L (kept_membranes ms)) rs))
     (r_chain (r_right (r_chain (r_beside (r_back (put_together (replaced_put L k)))) (r_back r_regroup))) (r_chain r_over (r_right (r_same (kept_listed xs ms' rs)))))
+
+-- links stay below a number
+taken_out : (s m q o n : ℕ) → s ≡ m + q → s + o ≤ n → m + (q + o) ≤ n
+taken_out s m q o n e b = omega (arith, e, b)
 
 -- what a membrane of a forest has inside is inside the forest
 inner_within : (h : Heap) (m : ℕ) (mi : Forest) → Forms h mi (mems_in h m) → (f : Forest) (ms : List ℕ) → Forms h f ms → In m (flat f) → (y : ℕ) → In y (m ∷ flat mi) → In y (flat f)
@@ -59,10 +65,11 @@ module _ (h h' : Heap) (r : Reading) (name : ℕ → ℕ → ℕ) (to : ℕ → 
     pub stands : StandAs h' (record { name = name; names = r.names; rule = r.rule }) (x ∷ []) (region_and (fused_level to raw) no_region)
     pub joins : Joins to (level_process raw)
 
-  abbrev pub Firing : ℕ → Forest → Type 0
-  Firing x i = (O : Process) → Closed (pair (region_process (region_at h r x i)) O) → RawFrom x i O
+  -- so it is beside each process with which the links stay below a number
+  abbrev pub Firing : ℕ → ℕ → Forest → Type 0
+  Firing limit x i = (O : Process) → Closed (pair (region_process (region_at h r x i)) O) → link_bound (region_process (region_at h r x i)) + link_bound O ≤ limit → RawFrom x i O
 
-  module _ (mi : Forest) (formed : Forms h mi (mems_in h m)) (here : (O : Process) → Closed (pair (region_process (region_at h r m mi)) O) → RawFrom m mi O) where
+  module _ (limit : ℕ) (mi : Forest) (formed : Forms h mi (mems_in h m)) (here : Firing limit m mi) where
     -- the tree of a forest in which the rule fires
     record FoundIn (f : Forest) (ms : List ℕ) : Type 0 where
       pub place : ℕ
@@ -71,7 +78,7 @@ module _ (h h' : Heap) (r : Reading) (name : ℕ → ℕ → ℕ) (to : ℕ → 
       pub others : Forest
       pub taken : TakenTree place child inner f others
       pub at : slice_get ms place ≡ Some child
-      pub fires : Firing child inner
+      pub fires : Firing limit child inner
       pub stands : (L : Level) → StandAs h' r' (child ∷ []) (region_and (fused_level to L) no_region) → StandAs h' r' ms (fused_levels to (levels (replaced place L (kept_membranes (regions_at h r f)))))
       pub joins : (L : Level) → Joins to (level_process L) → Joins to (together (levels_processes (levels (replaced place L (kept_membranes (regions_at h r f))))))
 
@@ -79,8 +86,8 @@ module _ (h h' : Heap) (r : Reading) (name : ℕ → ℕ → ℕ) (to : ℕ → 
     Outer f = (y : ℕ) → In y (flat f) → (In y (m ∷ flat mi) → ⊥) → Untouched h h' r name to y
 
     -- one membrane more round it
-    step : (x : ℕ) (i : Forest) → FoundIn i (mems_in h x) → Untouched h h' r name to x → Firing x i
-    step x i w u O c =
+    step : (x : ℕ) (i : Forest) → FoundIn i (mems_in h x) → Untouched h h' r name to x → Firing limit x i
+    step x i w u O c below =
         let xs = atoms_at h r (atoms_in h x) in
         let rs = map r.rule (rules_in h x) in
         let ms' = regions_at h r w.others in
@@ -89,7 +96,8 @@ module _ (h h' : Heap) (r : Reading) (name : ℕ → ℕ → ℕ) (to : ℕ → 
         let k = taken_region h r w.taken in
         let out = region_out xs rs k in
         let m' = region_process (region_at h r w.child w.inner) in
-        let a = w.fires (pair Q O) (closed_as (pair (region_process S) O) (pair m' (pair Q O)) (λ z. omega (arith, reordered_count out z)) c) in
+        let a = w.fires (pair Q O) (closed_as (pair (region_process S) O) (pair m' (pair Q O)) (λ z. omega (arith, reordered_count out z)) c)
+        (taken_out (link_bound (region_process S)) (link_bound m') (link_bound Q) (link_bound O) limit (reordered_bound out) below) in
         let order = below_order xs rs a.raw k in
         let inside = replaced w.place a.raw (kept_membranes (regions_at h r i)) in
         let raw = level (kept_atoms xs) (levels inside) [] [] (listed_rules rs) in
@@ -112,7 +120,7 @@ module _ (h h' : Heap) (r : Reading) (name : ℕ → ℕ → ℕ) (to : ℕ → 
             subst (λ z. StandAs h' r' (x ∷ ns) (region_and z (fused_levels to (levels others)))) same (one_stands a t)
 
     -- the first tree of a forest
-    found_first : (k : ℕ) (i f : Forest) (ms : List ℕ) → Forms h (mem k i f) ms → ((y : ℕ) → In y (flat f) → Untouched h h' r name to y) → Firing k i → FoundIn (mem k i f) ms
+    found_first : (k : ℕ) (i f : Forest) (ms : List ℕ) → Forms h (mem k i f) ms → ((y : ℕ) → In y (flat f) → Untouched h h' r name to y) → Firing limit k i → FoundIn (mem k i f) ms
     found_first k i f ms F u fires = record {
       place = 0;
       child = k;
@@ -150,7 +158,7 @@ module _ (h h' : Heap) (r : Reading) (name : ℕ → ℕ → ℕ) (to : ℕ → 
           | inl z ↦ each_in (λ v. k ≢ v) (flat i ++ flat f) y d.0 (in_right y (flat i) (flat f) q) (e ∙ z)
           | inr z ↦ apart (flat i) (flat f) y y d.1 (subst (λ v. In y (flat v)) same z) q refl
         ]))
-        (subst (λ z. Firing z i) (sym e) (subst (Firing m) same here))
+        (subst (λ z. Firing limit z i) (sym e) (subst (Firing limit m) same here))
     find (mem k i f) ms F d u (inr p) = elim (in_either m (flat i) (flat f) p) [
       | inl a ↦ (let w = find i (mems_in h k) F.2 (distinct_left (flat i) (flat f) d.1) (λ y q o. u y (inr (in_left y (flat i) (flat f) q)) o) a in
           let within = inner_within h m mi formed i (mems_in h k) F.2 a in
@@ -166,10 +174,10 @@ module _ (h h' : Heap) (r : Reading) (name : ℕ → ℕ → ℕ) (to : ℕ → 
     ]
 
     -- where the rule fires in one of the membranes of a tree, what is left of the whole tree stands as a raw level says
-    pub from_root : (x : ℕ) (i : Forest) → Forms h i (mems_in h x) → Distinct (x ∷ flat i) → ((y : ℕ) → In y (x ∷ flat i) → (In y (m ∷ flat mi) → ⊥) → Untouched h h' r name to y) → In m (x ∷ flat i) → Firing x i
+    pub from_root : (x : ℕ) (i : Forest) → Forms h i (mems_in h x) → Distinct (x ∷ flat i) → ((y : ℕ) → In y (x ∷ flat i) → (In y (m ∷ flat mi) → ⊥) → Untouched h h' r name to y) → In m (x ∷ flat i) → Firing limit x i
     from_root x i F d u (inl e) =
         let same = forms_one h mi i (mems_in h x) (subst (λ z. Forms h mi (mems_in h z)) (sym e) formed) F in
-        subst (λ z. Firing z i) (sym e) (subst (Firing m) same here)
+        subst (λ z. Firing limit z i) (sym e) (subst (Firing limit m) same here)
     from_root x i F d u (inr p) =
         step x i (find i (mems_in h x) F d.1 (λ y q o. u y (inr q) o) p)
         (u x (inl refl) (λ z. each_in (λ v. x ≢ v) (flat i) x d.0 (inner_within h m mi formed i (mems_in h x) F p x z) refl))

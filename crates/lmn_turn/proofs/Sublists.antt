@@ -10,7 +10,7 @@ use Rattle.lmn_body.specs.Running.{withouts}
 use Rattle.lmn_bridge.specs.Numbers.{without_all}
 use Rattle.lmn_bridge.proofs.Forests.{tops}
 use Rattle.lmn_bridge.proofs.Lying.{TakenTree, tree_first, tree_later}
-use Rattle.lmn_turn.proofs.Turns.{withouts_nothing}
+use Rattle.lmn_turn.proofs.MadeMembers.{withouts_nothing}
 
 -- the first list has elements of the second, in their order
 pub data Sublist : List ℕ → List ℕ → Type 0 where

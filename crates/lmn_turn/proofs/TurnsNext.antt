@@ -1,19 +1,22 @@
 -- A turn on a heap is the next solid of the calculus.
 use Rattle.std.proofs.Common.{ℕ, suc, ◌≡◌, ◌+◌, ◌<◌, ◌≤◌, ◌⊎◌, List, [], ◌∷◌, ◌++◌, map, length, Some, refl, sym, ap, subst, ◌∙◌, inl, inr, arith}
 use Rattle.std.specs.Prelude.{slice_get, Contains}
-use Rattle.std.proofs.lemmas.Bool.{cases_eq}
 use Rattle.lmn_base.specs.declared.level.CtxUse.{CtxUse}
 use Rattle.lmn_base.specs.declared.level.Leaf.{Leaf}
 use Rattle.lmn_base.specs.declared.level.Leaf.TheVariants as leaf
 use Rattle.lmn_base.specs.declared.rule.RuleTree.{RuleTree}
 use Rattle.lmn_guards.specs.declared.plan.GuardPlan.{GuardPlan}
 use Rattle.lmn_base.specs.declared.solid.SolidAtom.{SolidAtom}
-use Rattle.lmn_bridge.proofs.Counting.{apart_none}
 use Rattle.lmn_heap.specs.Heap.{Heap, IsMem, atoms_in, mems_in, rules_in}
 use Rattle.lmn_heap.specs.Lists.{In, Distinct}
 use Rattle.lmn_heap.specs.Sound.{Forest, bare, mem, flat, Forms, IsTree}
 use Rattle.lmn_heap.proofs.Trees.{nil_right}
-use Rattle.lmn_congruence.specs.Links.{places}
+use Rattle.lmn_congruence.specs.FreeLinks.{link_bound, total}
+use Rattle.lmn_congruence.proofs.Counts.{below_or_from}
+use Rattle.lmn_congruence.proofs.Totals.{highest}
+use Rattle.lmn_adequacy.proofs.Existence.{level_bound}
+use Rattle.lmn_bridge.specs.Parts.{IsGroundPart}
+use Rattle.lmn_body.specs.Made.{copies_of}
 use Rattle.lmn_congruence.specs.LinkedRules.{level_occurrences}
 use Rattle.lmn_congruence.specs.Plains.{fused_level, fused_levels, level_process}
 use Rattle.lmn_congruence.specs.Process.{nothing, pair}
@@ -26,12 +29,10 @@ use Rattle.lmn_adequacy.specs.Embedding.{Taken}
 use Rattle.lmn_adequacy.specs.Next.{EmbedsInOrder, kept_membranes, of_rule, of_solid}
 use Rattle.lmn_adequacy.proofs.Commits.{beside_nothing, closed_as}
 use Rattle.lmn_solid.specs.declared.items.HeadItem.{HeadItem}
-use Rattle.lmn_solid.specs.Heads.{HeadTyped, Occurrence, Port, at_atoms, atoms_of, typed_contexts_of, membranes_of, links_of, times}
-use Rattle.lmn_solid.specs.Embeddings.{HasLink}
+use Rattle.lmn_solid.specs.Heads.{Port, membranes_of, links_of, times}
 use Rattle.lmn_solid.proofs.HeadTrees.{Head, head_at, head_leaves, same_leaves, items_flat as head_flat}
 use Rattle.lmn_splice.specs.Splice as splice
 use Rattle.lmn_instr.specs.Running.{IsFirst}
-use Rattle.lmn_instr.specs.declared.instr.AtomPort.{AtomPort}
 use Rattle.lmn_compile_head.specs.Accepted.{AcceptedHeads, head_items, rule_head_code}
 use Rattle.lmn_compile_head.specs.Heads.{IsHead, kind_in}
 use Rattle.lmn_compile_body.specs.Accepted.{AcceptedNested, IsWhole, rule_names, rule_body_items, rule_body_code}
@@ -40,18 +41,17 @@ use Rattle.lmn_body.specs.declared.items.BodyItem.{BodyItem}
 use Rattle.lmn_body.specs.Added.{made_mems}
 use Rattle.lmn_body.specs.Fired.{images_of}
 use Rattle.lmn_body.specs.Flattening.{BodyNames}
-use Rattle.lmn_body.specs.Items.{NoCopies, old_ports, port_at}
+use Rattle.lmn_body.specs.Items.{connectors, port_at}
 use Rattle.lmn_body.specs.Running.{Registers, RunsBody, withouts}
-use Rattle.lmn_body.specs.Within.{membrane_images, FiresWithin, FiredAtoms}
+use Rattle.lmn_body.specs.Within.{membrane_images, FiresWithin, FiredSolid}
 use Rattle.lmn_body.proofs.Below.{is_removed}
 use Rattle.lmn_body.proofs.Committing.{in_withouts_of}
-use Rattle.lmn_body.proofs.HeadPorts.{at_atoms_in, in_at_atoms, of_once_in}
 use Rattle.lmn_body.proofs.Numbered.{contexts_of_heads}
 use Rattle.lmn_firing.specs.Accepted.{AcceptedFires, Fired}
 use Rattle.lmn_bridge.specs.HeapRegions.{Reading, atoms_at, regions_at, region_at}
 use Rattle.lmn_bridge.specs.Premises.{IsRead, HasForest, IsRule}
 use Rattle.lmn_bridge.proofs.HeadTrees.{level_tree}
-use Rattle.lmn_bridge.proofs.Occurrences.{times_are, times_parts}
+use Rattle.lmn_bridge.proofs.Occurrences.{times_are}
 use Rattle.lmn_bridge.proofs.Wholes.{closed_heap}
 use Rattle.lmn_turn.specs.Standing.{StandAs}
 use Rattle.lmn_turn.proofs.ReadAgain as again
@@ -60,52 +60,21 @@ use Rattle.lmn_turn.proofs.Leading.{taken_at}
 use Rattle.lmn_turn.specs.Turning.{IsLeft, HasContents, HasNext, TurnIsNext, renumbered}
 use Rattle.lmn_turn.proofs.Standings.{stands_one}
 use Rattle.lmn_turn.proofs.Adders.{at}
-use Rattle.lmn_turn.proofs.Bodies.{LeafAgrees, ContextAgrees, BodyAgrees}
-use Rattle.lmn_turn.proofs.Contents.{head_contexts, same_contexts, same_rule_contexts, body_agrees, all_fit, body_no_parts}
+use Rattle.lmn_turn.proofs.Bodies.{CopyAgrees, ContextAgrees, BodyAgrees}
+use Rattle.lmn_turn.proofs.Contents.{head_contexts, same_contexts, same_rule_contexts, body_agrees, all_fit, LeafFits}
+use Rattle.lmn_turn.proofs.CopyMaps.{CopyData, Copies, raw_is, raw_order, raw_own_links, raw_atoms}
+use Rattle.lmn_turn.proofs.FiredMaps.{Known, copies_known, copy_of, data_of, map_fired, map_joins, map_of, map_rule, map_solid, part_of}
+use Rattle.lmn_turn.proofs.HeadLinks.{has_port, is_old}
+use Rattle.lmn_turn.proofs.LinksBelow.{links_limit}
 use Rattle.lmn_turn.proofs.Kept.{kept_stand}
 use Rattle.lmn_turn.proofs.Leavings.{listed_there, forest_there, left_free}
 use Rattle.lmn_turn.proofs.Paths.{RawFrom}
-use Rattle.lmn_turn.proofs.Turns.{Placing, LeavesRest, left, left_read, untouched, fires_in_tree}
-
--- ---- links of a head
-
-some_occurrence : (x : ℕ) (os : List Occurrence) → 1 ≤ places x (map (λ o. o.link) os) → (o : Occurrence) × splice.In o os × (o.link ≡ x)
-some_occurrence x [] l = absurd (omega (arith, l))
-some_occurrence x (o ∷ os) l = elim (cases_eq x o.link) [
-  | inl e ↦ (o, inl refl, sym e)
-  | inr d ↦ (let u = some_occurrence x os (let z = apart_none x o.link d in omega (arith, l, z)) in (u.0, inr u.1, u.2))
-]
-
-some_typed : (x : ℕ) (ts : List HeadTyped) → 1 ≤ places x (map (λ t. t.link) ts) → (n : ℕ) × (t : HeadTyped) × (slice_get ts n ≡ Some t) × (t.link ≡ x)
-some_typed x [] l = absurd (omega (arith, l))
-some_typed x (t ∷ ts) l = elim (cases_eq x t.link) [
-  | inl e ↦ (0, t, refl, sym e)
-  | inr d ↦ (let u = some_typed x ts (let z = apart_none x t.link d in omega (arith, l, z)) in (suc u.0, u.1, u.2, u.3))
-]
-
--- a link that stands in a head stands at a port of it
-has_port : (items : List HeadItem) → IsHead items → (x : ℕ) → times x (links_of items) ≡ 1 → (p : Port) × HasLink items x p
-has_port items is x one = elim (cases_eq (places x (map (λ o. o.link) (at_atoms 0 (atoms_of items)))) 0) [
-  | inl z ↦ (let u = some_typed x (typed_contexts_of items) (omega (arith, one, z, times_parts x items)) in
-      let w = is.held u.0 u.1 u.2 in (w.0, subst (λ y. HasLink items y w.0) u.3 w.1))
-  | inr d ↦ (let u = some_occurrence x (at_atoms 0 (atoms_of items)) (omega (arith, d)) in
-      let w = at_atoms_in 0 (atoms_of items) u.0 u.1 in
-      ((w.k, u.0.port.1), (w.atom, w.is, w.link ∙ ap (λ z. Some z) u.2)))
-]
-
--- and where it stands once, it is at an old port
-is_old : (items : List HeadItem) (x : ℕ) (p : Port) → times x (links_of items) ≡ 1 → HasLink items x p → splice.In {A = AtomPort × ℕ} (port_at p.0 p.1, x) (old_ports items)
-is_old items x p one k =
-    let z : 0 + p.0 ≡ p.0 = omega arith in
-    let there = subst (λ n. splice.In {A = Occurrence} (record { link = x; port = (n, p.1) }) (at_atoms 0 (atoms_of items))) z (in_at_atoms 0 (atoms_of items) p.0 p.1 x k.0 k.1 k.2) in
-    of_once_in (links_of items) (at_atoms 0 (atoms_of items)) (record { link = x; port = p }) there one
-
--- ---- the law
+use Rattle.lmn_turn.proofs.Turns.{FiredTo, Placing, LeavesRest, left, left_read, untouched, fires_in_tree}
 
 same_region : {as' bs : List solid.SolidAtom} {is js : Regions} {rs ss : List tree.Rule} → region as' is rs ≡ region bs js ss → (as' ≡ bs) × (is ≡ js)
 same_region e = (cc, cc)
 
-module _ (firing : AcceptedFires) (head_law : AcceptedHeads) (nested : AcceptedNested) (table : List RuleTree) (rule : RuleTree) (plan : GuardPlan) (whole : IsWhole table rule plan) (plain : NoCopies (rule_body_items rule plan))
+module _ (firing : AcceptedFires) (head_law : AcceptedHeads) (nested : AcceptedNested) (table : List RuleTree) (rule : RuleTree) (plan : GuardPlan) (whole : IsWhole table rule plan)
     (h : Heap) (r : Reading) (inner : Forest) (read : IsRead h r) (tr : IsTree h (mem h.root inner bare)) (is_rule : IsRule r rule)
     (m : ℕ) (mi : Forest) (there : IsMem h m) (forest : HasForest h m mi) (s : Registers) (first : IsFirst h (rule_head_code rule plan) m s.head)
     (h' : Heap) (runs : RunsBody s (rule_body_code rule plan) h h') where
@@ -136,8 +105,9 @@ module _ (firing : AcceptedFires) (head_law : AcceptedHeads) (nested : AcceptedN
   abbrev taken : List ℕ
   taken = images_of s items ++ fired.parts
 
-  both : (f : FiresWithin h c s items B taken h') × FiredAtoms h c s items B taken h' f
-  both = subst (λ b. (f : FiresWithin h c s items b taken h') × FiredAtoms h c s items b taken h' f) body_is (fired.fires, fired.atoms plain)
+  -- how the body fires, what its solid is, and its copies
+  both : (f : FiresWithin h c s items B taken h') × FiredSolid h c s items B taken h' f × Copies h h' c f.number s (λ z. f.to (of_rule z)) (copies_of 0 B)
+  both = subst (λ b. (f : FiresWithin h c s items b taken h') × FiredSolid h c s items b taken h' f × Copies h h' c f.number s (λ z. f.to (of_rule z)) (copies_of 0 b)) body_is (fired.fires, fired.solid, fired.copies)
 
   is_head : IsHead items
   is_head = head_law.head table rule plan whole.ready
@@ -151,17 +121,8 @@ module _ (firing : AcceptedFires) (head_law : AcceptedHeads) (nested : AcceptedN
   abbrev r' : Reading
   r' = renumbered r both.0.number
 
-  abbrev left_at : ℕ → List SolidAtom
-  left_at = left h h' r s items bn hd low taken both.0 both.1 refl m mi place
-
   abbrev mems_at : ℕ → List ℕ
   mems_at x = withouts (membrane_images s items) (mems_in h x)
-
-  -- what is left of a membrane stands after the firing
-  left_stands : (x : ℕ) → In x (m ∷ flat mi) → (t : Forest) → Forms h t (mems_at x) → StandAs h' r' (mems_at x) (fused_levels f.to (levels (kept_membranes (regions_at h r t))))
-  left_stands x i t F =
-      let free = left_free h read.valid s (membrane_images s items) (made_mems s low B) taken m mi place x i t (mems_at x) F (λ z j. in_withouts_of (membrane_images s items) (mems_in h x) z (read.valid.sound.listed.mems_once x) j) in
-      kept_stand h h' r (λ a i. both.0.number (a, i)) f.to t (mems_at x) F (λ y j. let w = free y j in untouched h h' r s items bn hd low taken both.0 both.1 refl m mi place y w.0 w.1)
 
   -- a membrane of a context
   register_inside : (k : ℕ) → (k ≡ 0) ⊎ ((i : ℕ) × (k ≡ suc i) × (i < length (membranes_of items))) → In (at s k) (m ∷ flat mi)
@@ -169,57 +130,131 @@ module _ (firing : AcceptedFires) (head_law : AcceptedHeads) (nested : AcceptedN
   register_inside k (inr w) = inr (subst (λ z. In (at s z) (flat mi)) (sym w.1) (place.images_below (at s (suc w.0)) (is_removed items s w.0 w.2)))
 
   module _ (ns : List ℕ) (e : EmbedsInOrder (rule_tree r.names r.rule rule) ns (region_at h r m mi)) (has : HasContents h r rule plan s taken e.contents) (rest : IsLeft h r taken (membrane_images s items) m e.rest) where
-    context_agrees : (u : CtxUse) → Contains (head_contexts hd) u → ContextAgrees h h' r r' s bn e.contents left_at mems_at f.to u
+    -- ---- the map of raw links
+
+    abbrev T : tree.Rule
+    T = rule_tree r.names r.rule rule
+
+    -- a number above the links of the head
+    abbrev bound : ℕ
+    bound = (level_bound (tree.head_of (rule_tree r.names r.rule rule))).0
+
+    -- all links of the solid are below this number, and those that links of the head stand for
+    abbrev limit : ℕ
+    limit = (links_limit h r (flat (mem h.root inner bare)) + link_bound (region_process (region_at h r h.root inner))) + total bound (λ x. suc (e.contents.link_of x))
+
+    above : links_limit h r (flat (mem h.root inner bare)) ≤ limit
+    above = omega arith
+
+    abbrev to : ℕ → ℕ
+    to = map_of h h' r s items B taken both.0 both.1 both.2 (flat (mem h.root inner bare)) tr.all limit above
+
+    abbrev D : ℕ → CopyData
+    D = data_of h h' r s items B taken both.0 both.1 both.2 (flat (mem h.root inner bare)) tr.all limit above
+
+    abbrev copy : ℕ → List SolidAtom
+    copy = copy_of h h' r s items B taken both.0 both.1 both.2 (flat (mem h.root inner bare)) tr.all limit above
+
+    abbrev part : ℕ → ℕ → List solid.SolidAtom
+    part = part_of h h' r s items B taken both.0 both.1 both.2 (flat (mem h.root inner bare)) tr.all limit above
+
+    joined : (d : ℕ × ℕ) → splice.In d (connectors B) → to (of_rule d.0) ≡ to (of_rule d.1)
+    joined = map_joins h h' r s items B taken both.0 both.1 both.2 (flat (mem h.root inner bare)) tr.all limit above
+
+    fired_to : FiredTo h c s items B taken h' (λ a i. both.0.number (a, i)) to copy
+    fired_to = map_fired h h' r s items B taken both.0 both.1 both.2 (flat (mem h.root inner bare)) tr.all limit above
+
+    abbrev left_at : ℕ → List SolidAtom
+    left_at = left h h' r s items bn hd low taken both.0 to limit copy part joined fired_to refl m mi place
+
+    -- ---- what the contents stand for
+
+    -- what is left of a membrane stands after the firing
+    left_stands : (x : ℕ) → In x (m ∷ flat mi) → (t : Forest) → Forms h t (mems_at x) → StandAs h' r' (mems_at x) (fused_levels to (levels (kept_membranes (regions_at h r t))))
+    left_stands x i t F =
+        let free = left_free h read.valid s (membrane_images s items) (made_mems s low B) taken m mi place x i t (mems_at x) F (λ z j. in_withouts_of (membrane_images s items) (mems_in h x) z (read.valid.sound.listed.mems_once x) j) in
+        kept_stand h h' r (λ a i. both.0.number (a, i)) to t (mems_at x) F (λ y j. let w = free y j in untouched h h' r s items bn hd low taken both.0 to limit copy part joined fired_to refl m mi place y w.0 w.1)
+
+    -- an untyped context stands for what is left of its membrane
+    context_agrees : (u : CtxUse) → Contains (head_contexts hd) u → ContextAgrees h h' r r' s bn e.contents left_at mems_at to limit copy part u
     context_agrees u w =
         let x = at s (bn.context u.name) in
         let p = name_of r.names u.name in
         let L = has.contexts u (subst (λ us. Contains us u) (sym (same_contexts rule.body)) w) in
         let same = same_region L.is in
         record {
-          atoms = ap (map (renamed_atom (λ z. f.to (of_solid z)))) same.0 ∙ sym (left_read h h' r s items bn hd low taken both.0 both.1 refl m mi place x);
-          membranes = subst (λ R. StandAs h' r' (mems_at x) (fused_levels f.to (levels (kept_membranes R)))) (sym same.1)
+          atoms = ap (map (renamed_atom (λ z. to (of_solid z)))) same.0 ∙ sym (left_read h h' r s items bn hd low taken both.0 to limit copy part joined fired_to refl m mi place x);
+          membranes = subst (λ R. StandAs h' r' (mems_at x) (fused_levels to (levels (kept_membranes R)))) (sym same.1)
               (left_stands x (register_inside (bn.context u.name) (contexts_of_heads (kind_in plan.kinds) rule.head u.name).0) L.forest L.forms);
         }
 
-    leaf_agrees : (l : Leaf) → Contains (head_leaves hd) l → LeafAgrees h h' r r' s bn e.contents left_at mems_at f.to l
-    leaf_agrees (leaf.Atom fu os p) w = body_fits r rule is_rule (leaf.Atom fu os p) w
-    leaf_agrees (leaf.Typed n o p) w =
-        let none = body_no_parts bn 0 low hd (subst NoCopies body_is plain) n o p w in
-        (none, has.bound n o p (subst (λ ls. Contains ls (leaf.Typed n o p)) (sym (same_leaves rule.body)) w) none)
+    abbrev Stands : ℕ → ℕ → ℕ → Type 0
+    Stands = Known h h' r s items B taken both.0 both.1 both.2 (flat (mem h.root inner bare)) tr.all limit above
 
-    agrees : BodyAgrees h h' r r' s bn e.contents left_at mems_at f.to hd
-    agrees = body_agrees h h' r r' s bn e.contents left_at mems_at f.to hd leaf_agrees context_agrees (λ u w. has.rule_contexts u (subst (λ us. Contains us u) (sym (same_rule_contexts rule.body)) w))
+    -- the raw atoms of a copy are a copy of what its name stands for
+    copy_agrees : (n g k x : ℕ) (m' : ℕ) (atoms : List ℕ) → IsGroundPart h r m' (s.head.images.part g) atoms (e.contents.typed_of (name_of r.names n)) → Stands k g x →
+        CopyAgrees h h' r r' s bn e.contents left_at mems_at to limit copy part k n x
+    copy_agrees n g k x m' atoms ground known = record {
+      is = raw_is h h' r read both.0.number s both.0.to limit (length (copies_of 0 B)) D k g x known m' atoms (e.contents.typed_of (name_of r.names n)) ground;
+      order = raw_order h h' r read both.0.number s both.0.to limit (length (copies_of 0 B)) D k g x known m' atoms (e.contents.typed_of (name_of r.names n)) ground;
+      own = raw_own_links h h' r read both.0.number s both.0.to limit (length (copies_of 0 B)) D k g x known;
+      atoms = raw_atoms h h' r read both.0.number s both.0.to limit (length (copies_of 0 B)) D k g x known;
+    }
 
-    leaves_rest : LeavesRest h h' r s items bn hd low taken both.0 both.1 refl m mi place e.rest
+    leaf_fits : (l : Leaf) → Contains (head_leaves hd) l → LeafFits h h' r r' s bn e.contents left_at mems_at to limit copy part Stands l
+    leaf_fits (leaf.Atom fu os p) w = body_fits r rule is_rule (leaf.Atom fu os p) w
+    leaf_fits (leaf.Typed n o p) w =
+        let there = subst (λ ls. Contains ls (leaf.Typed n o p)) (sym (same_leaves rule.body)) w in (
+          λ none. has.bound n o p there none,
+          λ k g x i known. let u = has.parts n o p g there i in copy_agrees n g k x u.0 u.1 u.2 known,
+        )
+
+    agrees : BodyAgrees h h' r r' s bn e.contents left_at mems_at to limit copy part 0 hd
+    agrees = body_agrees h h' r r' s bn e.contents left_at mems_at to limit copy part Stands 0 low 0 hd leaf_fits context_agrees
+        (λ u w. has.rule_contexts u (subst (λ us. Contains us u) (sym (same_rule_contexts rule.body)) w))
+        (copies_known h h' r s items B taken both.0 both.1 both.2 (flat (mem h.root inner bare)) tr.all limit above)
+
+    leaves_rest : LeavesRest h h' r s items bn hd low taken both.0 to limit copy part joined fired_to refl m mi place e.rest
     leaves_rest = record {
       atoms = atoms_at h r (withouts taken (atoms_in h m));
       membranes = regions_at h r rest.forest;
       rules = map r.rule (rules_in h m);
       is = rest.is;
-      atoms_are = sym (left_read h h' r s items bn hd low taken both.0 both.1 refl m mi place m);
+      atoms_are = sym (left_read h h' r s items bn hd low taken both.0 to limit copy part joined fired_to refl m mi place m);
       membranes_are = left_stands m (inl refl) rest.forest rest.forms;
       rules_are = refl;
     }
 
-    wires : (x : ℕ) → level_occurrences x (tree.head_of (rule_tree r.names r.rule rule)) ≡ 1 → f.to (of_rule x) ≡ f.to (of_solid (e.contents.link_of x))
+    -- a link that stands once in the head is below the bound
+    head_below : (x : ℕ) → level_occurrences x (tree.head_of T) ≡ 1 → x < bound
+    head_below x one = elim (below_or_from x bound) [
+      | inl l ↦ l
+      | inr l ↦ absurd (let z = (level_bound (tree.head_of T)).1 x l in omega (arith, z, one))
+    ]
+
+    -- and has one image with the link of the solid at its port
+    wires : (x : ℕ) → level_occurrences x (tree.head_of (rule_tree r.names r.rule rule)) ≡ 1 → to (of_rule x) ≡ to (of_solid (e.contents.link_of x))
     wires x one =
         let kind = kind_in plan.kinds in
         let once : times x (links_of items) ≡ 1 = ap (λ is. times x (links_of is)) (head_flat kind rule.head) ∙ times_are r.names r.rule kind x 0 1 (head_at rule.head) ∙ ap (level_occurrences x) (sym (level_tree r.names r.rule rule.head)) ∙ one in
         let p = has_port items is_head x once in
-        f.heads_fused (port_at p.0.0 p.0.1, x) (is_old items x p.0 once p.1) ∙ ap (λ z. f.to (of_solid z)) (sym (has.links x p.0 p.1))
+        let low_link = highest bound e.contents.link_of x (head_below x one) in
+        map_rule h h' r s items B taken both.0 both.1 both.2 (flat (mem h.root inner bare)) tr.all limit above x
+        ∙ f.heads_fused (port_at p.0.0 p.0.1, x) (is_old items x p.0 once p.1) ∙ ap (λ z. f.to (of_solid z)) (sym (has.links x p.0 p.1))
+        ∙ sym (map_solid h h' r s items B taken both.0 both.1 both.2 (flat (mem h.root inner bare)) tr.all limit above (e.contents.link_of x) (omega (arith, low_link)))
 
     module _ (index k : ℕ) (stands : slice_get (rules_in h m) index ≡ Some k) (rule_is : r.rule k ≡ rule_tree r.names r.rule rule) where
       in_tree : In m (h.root ∷ flat inner)
       in_tree = subst (In m) (ap (λ z. h.root ∷ z) (nil_right (flat inner))) (tr.all m there)
 
-      raw : RawFrom h h' r (λ a i. both.0.number (a, i)) f.to index ns m h.root inner nothing
+      raw : RawFrom h h' r (λ a i. both.0.number (a, i)) to index ns m h.root inner nothing
       raw =
           let w = taken_at r.rule (rules_in h m) index k stands in
-          fires_in_tree h h' r s items bn hd low taken both.0 both.1 refl m mi place (rule_tree r.names r.rule rule) is_rule.accepted ns index w.0 (subst (λ z. Taken index z (map r.rule (rules_in h m)) w.0) rule_is w.1)
-          (level_tree r.names r.rule rule.body) e leaves_rest agrees (all_fit h h' r r' s bn e.contents left_at mems_at f.to hd agrees) wires
+          fires_in_tree h h' r s items bn hd low taken both.0 to limit copy part joined fired_to refl m mi place (rule_tree r.names r.rule rule) is_rule.accepted ns index w.0 (subst (λ z. Taken index z (map r.rule (rules_in h m)) w.0) rule_is w.1)
+          (level_tree r.names r.rule rule.body) e leaves_rest agrees (all_fit h h' r r' s bn e.contents left_at mems_at to limit copy part 0 hd agrees) wires
           inner tr.forms.2 (subst (λ z. Distinct (h.root ∷ z)) (nil_right (flat inner)) tr.once) in_tree
           (λ y j. elim j [ inl q ↦ subst (IsMem h) q (root_mem h read.valid) | inr q ↦ forest_there h read.valid inner (mems_in h h.root) tr.forms.2 (λ z u. listed_there h read.valid z h.root u) y q ])
-          nothing (beside_nothing (region_process (region_at h r h.root inner)) (closed_heap h r inner read tr))
+          nothing (beside_nothing (region_process (region_at h r h.root inner)) (closed_heap h r inner read tr)) (omega arith)
 
       read_again : IsRead h' (renumbered r both.0.number)
       read_again = again.read_again firing head_law nested table rule plan whole h r read is_rule m mi there forest s first h' runs both.0
@@ -236,7 +271,7 @@ module _ (firing : AcceptedFires) (head_law : AcceptedHeads) (nested : AcceptedN
       pub turned : HasNext h r inner rule m index ns h'
       turned =
           let is = first_region (stands_one h' (renumbered r both.0.number) (mem h'.root tree_again.0 bare) (h'.root ∷ []) tree_again.1.forms
-          (subst (λ z. StandAs h' (renumbered r both.0.number) (z ∷ []) (region_and (fused_level f.to raw.raw) no_region)) (sym same_root) raw.stands)) in
+          (subst (λ z. StandAs h' (renumbered r both.0.number) (z ∷ []) (region_and (fused_level to raw.raw) no_region)) (sym same_root) raw.stands)) in
           record {
             again = record {
               number = both.0.number;
@@ -252,7 +287,7 @@ module _ (firing : AcceptedFires) (head_law : AcceptedHeads) (nested : AcceptedN
               fires = raw.fires;
               fuses = record {
                 closed_top = closed_as (pair (level_process raw.raw) nothing) (level_process raw.raw) (λ z. omega arith) raw.closed;
-                to = f.to;
+                to = to;
                 joins = raw.joins;
                 is = sym is;
                 closed = closed_heap h' (renumbered r both.0.number) tree_again.0 read_again tree_again.1;
@@ -262,7 +297,7 @@ module _ (firing : AcceptedFires) (head_law : AcceptedHeads) (nested : AcceptedN
 
 -- a turn on a heap is the next solid
 pub turn_is_next : AcceptedFires → AcceptedHeads → AcceptedNested → TurnIsNext
-turn_is_next firing head_law nested table rule plan whole plain h r inner read tr is_rule m mi there forest index k stands rule_is s first ns e regs h' runs =
-    let fires = fired firing head_law nested table rule plan whole plain h r inner read tr is_rule m mi there forest s first h' runs in
+turn_is_next firing head_law nested table rule plan whole h r inner read tr is_rule m mi there forest index k stands rule_is s first ns e regs h' runs =
+    let fires = fired firing head_law nested table rule plan whole h r inner read tr is_rule m mi there forest s first h' runs in
     let both_are = regs fires.parts fires.are in
-    turned firing head_law nested table rule plan whole plain h r inner read tr is_rule m mi there forest s first h' runs ns e both_are.0 both_are.1 index k stands rule_is
+    turned firing head_law nested table rule plan whole h r inner read tr is_rule m mi there forest s first h' runs ns e both_are.0 both_are.1 index k stands rule_is

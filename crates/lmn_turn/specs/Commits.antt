@@ -9,8 +9,7 @@ use Rattle.lmn_heap.specs.Heap.{Heap, IsMem, rules_in}
 use Rattle.lmn_heap.specs.Sound.{Forest, bare, mem, IsTree}
 use Rattle.lmn_instr.specs.Running.{IsFirst}
 use Rattle.lmn_compile_head.specs.Accepted.{head_items, rule_head_code}
-use Rattle.lmn_compile_body.specs.Accepted.{IsWhole, rule_body_code, rule_body_items}
-use Rattle.lmn_body.specs.Items.{NoCopies}
+use Rattle.lmn_compile_body.specs.Accepted.{IsWhole, rule_body_code}
 use Rattle.lmn_body.specs.Running.{Registers, RunsBody}
 use Rattle.lmn_reduction.specs.Commits.{Commit}
 use Rattle.lmn_adequacy.specs.Choice.{Before}
@@ -40,10 +39,10 @@ pub record Turned (table : List RuleTree) (h : Heap) (r : Reading) (inner : Fore
   pub commits : Commit (heap_process h r inner) (heap_process h' (renumbered r next.again.number) next.again.forest)
   pub rules : IsTable r table → HasRules h' (renumbered r next.again.number) table
 
--- Where the head code of a rule of a membrane first succeeds, and its body copies no typed context, its body code, run with the
--- same registers, makes a turn, at the numbers of the images.
+-- Where the head code of a rule of a membrane first succeeds, its body code, run with the same registers, makes a turn, at the
+-- numbers of the images.
 abbrev pub TurnsCommit : Type 0
-TurnsCommit = (table : List RuleTree) (rule : RuleTree) (plan : GuardPlan) → IsWhole table rule plan → NoCopies (rule_body_items rule plan) →
+TurnsCommit = (table : List RuleTree) (rule : RuleTree) (plan : GuardPlan) → IsWhole table rule plan →
     (h : Heap) (r : Reading) (inner : Forest) → IsRead h r → IsTree h (mem h.root inner bare) → HasRules h r table →
     (m : ℕ) (mi : Forest) → IsMem h m → HasForest h m mi →
     (index k : ℕ) → slice_get (rules_in h m) index ≡ Some k → slice_get table k ≡ Some rule →

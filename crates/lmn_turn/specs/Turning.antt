@@ -14,9 +14,8 @@ use Rattle.lmn_solid.specs.Embeddings.{HasLink}
 use Rattle.lmn_solid.specs.Heads.{Port}
 use Rattle.lmn_instr.specs.Running.{IsFirst}
 use Rattle.lmn_compile_head.specs.Accepted.{head_items, rule_head_code}
-use Rattle.lmn_compile_body.specs.Accepted.{IsWhole, rule_names, rule_body_items, rule_body_code}
+use Rattle.lmn_compile_body.specs.Accepted.{IsWhole, rule_names, rule_body_code}
 use Rattle.lmn_body.specs.Fired.{images_of}
-use Rattle.lmn_body.specs.Items.{NoCopies}
 use Rattle.lmn_body.specs.Rules.{PartAtoms}
 use Rattle.lmn_body.specs.Running.{Registers, RunsBody, withouts}
 use Rattle.lmn_body.specs.Within.{membrane_images}
@@ -25,6 +24,7 @@ use Rattle.lmn_congruence.specs.Translation.{name_of, rule_tree}
 use Rattle.lmn_reduction.specs.Parts.{IsInteger}
 use Rattle.lmn_adequacy.specs.Next.{Contents, EmbedsInOrder, NextAt}
 use Rattle.lmn_bridge.specs.HeapRegions.{Reading, atoms_at, regions_at, region_at}
+use Rattle.lmn_bridge.specs.Parts.{IsGroundPart}
 use Rattle.lmn_bridge.specs.Premises.{IsRead, HasForest, IsRule}
 
 -- The region is what is left of membrane x when these atoms and membranes are taken: of each list what isn't taken, in its
@@ -38,6 +38,7 @@ pub record IsLeft (h : Heap) (r : Reading) (atoms membranes : List ℕ) (x : ℕ
 --   links           a link of the head is that at the images of its ports
 --   contexts        an untyped context of the body stands for what is left of its membrane
 --   rule_contexts   a rule context stands for the rules of its membrane
+--   parts           a name of a typed context of the head stands for the part of the heap at its port
 --   bound           a name that the guard binds stands for its integer
 pub record HasContents (h : Heap) (r : Reading) (rule : RuleTree) (plan : GuardPlan) (s : Registers) (taken : List ℕ) (c : Contents) : Type 0 where
   pub links : (x : ℕ) (p : Port) → HasLink (head_items rule plan) x p → c.link_of x ≡ r.name (s.head.images.atom p.0) p.1
@@ -46,6 +47,8 @@ pub record HasContents (h : Heap) (r : Reading) (rule : RuleTree) (plan : GuardP
       IsLeft h r taken (membrane_images s (head_items rule plan)) x (region (c.atoms_of p) (c.membranes_of p) (map r.rule (rules_in h x)))
   pub rule_contexts : (u : CtxUse) → Contains (rule_contexts_of rule.body) u →
       c.rules_of (name_of r.names u.name) ≡ map r.rule (rules_in h (s.head.images.membrane ((rule_names rule plan).rule_context u.name)))
+  pub parts : (n : ℕ) (o : Occ) (p : Pos) (g : ℕ) → Contains (leaves_of rule.body) (Typed n o p) → (rule_names rule plan).part n ≡ Some g →
+      (x : ℕ) × (part : List ℕ) × IsGroundPart h r x (s.head.images.part g) part (c.typed_of (name_of r.names n))
   pub bound : (n : ℕ) (o : Occ) (p : Pos) → Contains (leaves_of rule.body) (Typed n o p) → (rule_names rule plan).part n ≡ None →
       IsInteger (s.head.integer ((rule_names rule plan).integer n)) (c.typed_of (name_of r.names n))
 
@@ -90,10 +93,10 @@ TurnIsRead = (table : List RuleTree) (rule : RuleTree) (plan : GuardPlan) → Is
     (s : Registers) → IsFirst h (rule_head_code rule plan) m s.head → (h' : Heap) → RunsBody s (rule_body_code rule plan) h h' →
     IsReadAgain h r rule h'
 
--- Where the head code of an accepted rule without copies of typed contexts first succeeds in a membrane, its body code, run with
--- the same registers, leaves the next solid of the calculus, for each embedding that is that of the registers.
+-- Where the head code of an accepted rule first succeeds in a membrane, its body code, run with the same registers, leaves the next
+-- solid of the calculus, for each embedding that is that of the registers.
 abbrev pub TurnIsNext : Type 0
-TurnIsNext = (table : List RuleTree) (rule : RuleTree) (plan : GuardPlan) → IsWhole table rule plan → NoCopies (rule_body_items rule plan) →
+TurnIsNext = (table : List RuleTree) (rule : RuleTree) (plan : GuardPlan) → IsWhole table rule plan →
     (h : Heap) (r : Reading) (inner : Forest) → IsRead h r → IsTree h (mem h.root inner bare) → IsRule r rule →
     (m : ℕ) (mi : Forest) → IsMem h m → HasForest h m mi →
     (index k : ℕ) → slice_get (rules_in h m) index ≡ Some k → r.rule k ≡ rule_tree r.names r.rule rule →

@@ -35,8 +35,8 @@ pub fn turns_are_read()
     accepted_bodies();
 }
 
-/// Where the head code of an accepted rule without copies of typed contexts first succeeds, its body code, run with the same
-/// registers, leaves a heap whose region is the next one of the calculus.
+/// Where the head code of an accepted rule first succeeds, its body code, run with the same registers, leaves a heap whose region
+/// is the next one of the calculus.
 pub fn turns_are_next()
     ensures { TurnIsNext }
 {
@@ -45,9 +45,8 @@ pub fn turns_are_next()
     accepted_bodies();
 }
 
-/// Where the head code of an accepted rule of a membrane first succeeds, and its body copies no typed context, its body code
-/// makes a turn: the heap that it leaves has the next solid of the calculus, by the least positions of the rule in its membrane,
-/// and its process comes by one commit.
+/// Where the head code of an accepted rule of a membrane first succeeds, its body code makes a turn: the heap that it leaves has
+/// the next solid of the calculus, by the least positions of the rule in its membrane, and its process comes by one commit.
 pub fn turns_commit()
     ensures { TurnsCommit }
 {

@@ -1,0 +1,177 @@
+-- The raw atoms of each copy that a body makes, and the map of raw links that is known at them.
+use Rattle.std.proofs.Common.{ℕ, zero, suc, cond, eqb, ◌≡◌, ◌≢◌, ◌+◌, ◌<◌, ◌≤◌, ◌⊎◌, List, [], ◌∷◌, map, length, inl, inr, refl, sym, ap, subst, ◌∙◌, arith}
+use Rattle.lmn_base.specs.declared.solid.SolidAtom.{SolidAtom}
+use Rattle.lmn_heap.specs.Heap.{Heap}
+use Rattle.lmn_heap.specs.Solid.{atoms_of}
+use Rattle.lmn_congruence.specs.Orders.{Among, at_head, further}
+use Rattle.lmn_congruence.specs.Regions as region
+use Rattle.lmn_congruence.specs.Rules.{Name}
+use Rattle.lmn_congruence.specs.Same.{renamed_atom}
+use Rattle.lmn_congruence.specs.Translation.{solid_atom_of}
+use Rattle.lmn_congruence.proofs.Counts.{same_or_not}
+use Rattle.lmn_adequacy.specs.Next.{DepthFirst, links_at, of_rule, of_solid}
+use Rattle.lmn_adequacy.specs.Embedding.{IsPart}
+use Rattle.lmn_adequacy.proofs.Depth.{renamed_links}
+use Rattle.lmn_adequacy.proofs.Skeleton.{even_not_odd, odd_differs}
+use Rattle.lmn_reduction.specs.Parts.{Rooted}
+use Rattle.lmn_bridge.specs.HeapRegions.{Reading, atoms_at}
+use Rattle.lmn_bridge.specs.Parts.{IsGroundPart}
+use Rattle.lmn_bridge.specs.Premises.{IsRead}
+use Rattle.lmn_parts.specs.Walks.{IsPart as InDepth}
+use Rattle.lmn_splice.specs.Ports.{Port}
+use Rattle.lmn_splice.specs.Splice.{In}
+use Rattle.lmn_instr.specs.declared.instr.NewPort.{NewPort}
+use Rattle.lmn_instr.specs.declared.instr.NewPort.TheVariants as new
+use Rattle.lmn_body.specs.declared.items.BodyItem.{BodyItem}
+use Rattle.lmn_body.specs.declared.items.BodyItem.TheVariants.{Atom, Connector, Copy, Bound, Membrane, Rest, Rule, Rules}
+use Rattle.lmn_body.specs.CopiedSolid.{IsSolidCopy}
+use Rattle.lmn_body.specs.Fired.{linked_by}
+use Rattle.lmn_body.specs.Items.{new_ports, ports_from}
+use Rattle.lmn_body.specs.Made.{copies_of}
+use Rattle.lmn_body.specs.Running.{Registers, new_port}
+use Rattle.lmn_body.proofs.HeadPorts.{in_back}
+use Rattle.lmn_turn.proofs.Bodies.{map_twice}
+use Rattle.lmn_turn.proofs.CopiedParts.{copied_part}
+use Rattle.lmn_turn.proofs.CopyLinks.{Block, code, code_apart, copy_link, over, over_copy, over_rule}
+use Rattle.lmn_turn.proofs.EachCopy.{EachCopy}
+
+-- ---- renaming atoms
+
+renamed_twice : (f g k : ℕ → ℕ) → ((y : ℕ) → f (g y) ≡ k y) → (xs : List region.SolidAtom) → map (renamed_atom f) (map (renamed_atom g) xs) ≡ map (renamed_atom k) xs
+renamed_twice f g k e [] = refl
+renamed_twice f g k e (x ∷ xs) = λ i. record { label = x.label; links = links x.links i } ∷ renamed_twice f g k e xs i
+  where
+    links : (ys : List ℕ) → map f (map g ys) ≡ map k ys
+    links [] = refl
+    links (y ∷ ys) = λ i. e y i ∷ links ys i
+
+-- read atoms with other links are the atoms with other links, read
+pub read_linked : (names : List Name) (f : ℕ → ℕ) (xs : List SolidAtom) → map (solid_atom_of names) (map (linked_by f) xs) ≡ map (renamed_atom f) (map (solid_atom_of names) xs)
+read_linked names f xs = map_twice (solid_atom_of names) (linked_by f) xs ∙ sym (map_twice (renamed_atom f) (solid_atom_of names) xs)
+
+from_map : (f : ℕ → ℕ) (z : ℕ) (ys : List ℕ) → Among z (map f ys) → (y : ℕ) × (z ≡ f y)
+from_map f z [] a = elim a [ ]
+from_map f z (y ∷ ys) at_head = (y, refl)
+from_map f z (y ∷ ys) (further a) = from_map f z ys a
+
+-- ---- what is known of the copies
+
+-- of a copy: where the links of its part go, the atoms of the part, and the link of its root
+pub record CopyData : Type 0 where
+  pub to : ℕ → ℕ
+  pub atoms : List ℕ
+  pub root : ℕ
+
+module _ (h h' : Heap) (c number : Port → ℕ) (s : Registers) (g : ℕ → ℕ) where
+  -- each of these copies is one in the solid
+  abbrev pub Copies : List (ℕ × ℕ) → Type 0
+  Copies es = (e : ℕ × ℕ) → In e es → IsSolidCopy h c h' number (s.head.images.part e.1) (s.copy e.0) (s.copied e.0) (atoms_of h' (λ a i. number (a, i)) (s.copied e.0))
+
+  abbrev pub chosen : (es : List (ℕ × ℕ)) → Copies es → ℕ → CopyData
+  chosen [] f k = record { to = λ y. y; atoms = []; root = 0 }
+  chosen (e ∷ es) f zero = let i = f e (inl refl) in record { to = i.to; atoms = i.atoms; root = c (s.head.images.part e.1) }
+  chosen (e ∷ es) f (suc k) = chosen es (λ d i. f d (inr i)) k
+
+  -- Of copy number k, of the typed context p, at the rule's link x. All copies have numbers below n.
+  pub record KnownBy (n : ℕ) (d : CopyData) (k p x : ℕ) : Type 0 where
+    pub part : InDepth h (s.head.images.part p) d.atoms
+    pub are : atoms_of h' (λ a i. number (a, i)) (s.copied k) ≡ map (linked_by d.to) (atoms_of h (λ a i. c (a, i)) d.atoms)
+    pub root : d.root ≡ c (s.head.images.part p)
+    pub entered : d.to (c (s.head.images.part p)) ≡ g x
+    pub below : k < n
+
+  -- so much is known of each copy that items make
+  pub each_known : (n : ℕ) (D : ℕ → CopyData) (items : List BodyItem) (a k : ℕ) (f : Copies (copies_of k items)) → ((e : NewPort × ℕ) → In e (new_ports a k items) → number (new_port s e.0) ≡ g e.1) →
+      ((j : ℕ) → D (k + j) ≡ chosen (copies_of k items) f j) → k + length (copies_of k items) ≤ n → EachCopy (λ i p x. KnownBy n (D i) i p x) k items
+  each_known n D [] a k f links e b = tt
+  each_known n D (Atom functor ls inside ∷ xs) a k f links e b = each_known n D xs (a + 1) k f (λ d i. links d (in_back d (ports_from a 0 ls) (new_ports (a + 1) k xs) i)) e b
+  each_known n D (Connector left right ∷ xs) a k f links e b = each_known n D xs a k f links e b
+  each_known n D (Copy p x inside ∷ xs) a k f links e b =
+      let i = f (k, p) (inl refl) in
+      let z : k + 0 ≡ k = omega arith in
+      let same : D k ≡ record { to = i.to; atoms = i.atoms; root = c (s.head.images.part p) } = ap D (sym z) ∙ e 0 in (
+        subst (λ d. KnownBy n d k p x) (sym same) (record {
+          part = i.part;
+          are = i.are;
+          root = refl;
+          entered = i.entered ∙ links (new.Copy k, x) (inl refl);
+          below = omega (arith, b);
+        }),
+        each_known n D xs a (k + 1) (λ d j. f d (inr j)) (λ d j. links d (inr j)) (λ j. let w : (k + 1) + j ≡ k + suc j = omega arith in ap D w ∙ e (suc j)) (omega (arith, b)),
+      )
+  each_known n D (Bound integer link inside ∷ xs) a k f links e b = each_known n D xs (a + 1) k f (λ d i. links d (inr i)) e b
+  each_known n D (Membrane inside ∷ xs) a k f links e b = each_known n D xs a k f links e b
+  each_known n D (Rest of inside ∷ xs) a k f links e b = each_known n D xs a k f links e b
+  each_known n D (Rule rule inside ∷ xs) a k f links e b = each_known n D xs a k f links e b
+  each_known n D (Rules of inside ∷ xs) a k f links e b = each_known n D xs a k f links e b
+
+-- ---- raw links and raw atoms of a copy
+
+-- the raw link of a link of the part: that of the rule at the root, and else one of the copy alone
+abbrev pub raw_link : ℕ → CopyData → ℕ → ℕ → ℕ → ℕ
+raw_link limit d k x y = cond (eqb y d.root) (of_rule x) (copy_link limit k y)
+
+at_root : (m n y r : ℕ) → y ≡ r → cond (eqb y r) m n ≡ m
+at_root m n y r e = grind arith
+
+elsewhere : (m n y r : ℕ) → y ≢ r → cond (eqb y r) m n ≡ n
+elsewhere m n y r e = grind arith
+
+copy_link_one : (limit k x y z : ℕ) (d : CopyData) → raw_link limit d k x y ≡ raw_link limit d k x z → y ≡ z
+copy_link_one limit k x y z d e = by (same_or_not y d.root) (same_or_not z d.root)
+  where
+    by : (y ≡ d.root) ⊎ (y ≢ d.root) → (z ≡ d.root) ⊎ (z ≢ d.root) → y ≡ z
+    by (inl p) (inl q) = p ∙ sym q
+    by (inl p) (inr q) = absurd (even_not_odd x (limit + code k z) (sym (at_root (of_rule x) (copy_link limit k y) y d.root p) ∙ e ∙ elsewhere (of_rule x) (copy_link limit k z) z d.root q))
+    by (inr p) (inl q) = absurd (even_not_odd x (limit + code k y) (sym (at_root (of_rule x) (copy_link limit k z) z d.root q) ∙ sym e ∙ elsewhere (of_rule x) (copy_link limit k y) y d.root p))
+    by (inr p) (inr q) =
+        let u : copy_link limit k y ≡ copy_link limit k z = sym (elsewhere (of_rule x) (copy_link limit k y) y d.root p) ∙ e ∙ elsewhere (of_rule x) (copy_link limit k z) z d.root q in
+        (code_apart k y k z (omega (arith, odd_differs (limit + code k y) (limit + code k z) u))).1
+
+-- the raw atoms of a copy
+abbrev pub raw_part : Heap → Reading → ℕ → CopyData → ℕ → ℕ → List region.SolidAtom
+raw_part h r limit d k x = map (renamed_atom (raw_link limit d k x)) (atoms_at h r d.atoms)
+
+module _ (h h' : Heap) (r : Reading) (read : IsRead h r) (number : Port → ℕ) (s : Registers) (to : ℕ → ℕ) (limit n : ℕ) (D : ℕ → CopyData) where
+  -- the map at all raw links
+  abbrev pub to_all : ℕ → ℕ
+  to_all = over to limit n (λ k. (D k).to)
+
+  module _ (k p x : ℕ) (known : KnownBy h h' (λ q. r.name q.0 q.1) number s (λ z. to (of_rule z)) n (D k) k p x) (m : ℕ) (part : List ℕ) (g : Rooted) (ground : IsGroundPart h r m (s.head.images.part p) part g) where
+    copy_of_part : IsPart g (of_rule x) (raw_part h r limit (D k) k x) × DepthFirst (of_rule x) (raw_part h r limit (D k) k x)
+    copy_of_part =
+        let root = s.head.images.part p in
+        let w = copied_part h r read m root part g ground (D k).atoms known.part (raw_link limit (D k) k x) (λ y z i j e. copy_link_one limit k x y z (D k) e) in
+        let e : raw_link limit (D k) k x (r.name root.0 root.1) ≡ of_rule x = at_root (of_rule x) (copy_link limit k (r.name root.0 root.1)) (r.name root.0 root.1) (D k).root (sym known.root) in
+        (subst (λ z. IsPart g z (raw_part h r limit (D k) k x)) e w.is, subst (λ z. DepthFirst z (raw_part h r limit (D k) k x)) e w.in_order)
+
+    -- it is the part, depth first
+    pub raw_is : IsPart g (of_rule x) (raw_part h r limit (D k) k x)
+    raw_is = copy_of_part.0
+
+    pub raw_order : DepthFirst (of_rule x) (raw_part h r limit (D k) k x)
+    raw_order = copy_of_part.1
+
+  module _ (k p x : ℕ) (known : KnownBy h h' (λ q. r.name q.0 q.1) number s (λ z. to (of_rule z)) n (D k) k p x) where
+    -- its links are that of the rule, and links of the copy
+    pub raw_own_links : (z : ℕ) → Among z (links_at (raw_part h r limit (D k) k x)) → (z ≡ of_rule x) ⊎ ((L : ℕ) × (z ≡ of_solid L) × Block limit k L)
+    raw_own_links z a =
+        let f = raw_link limit (D k) k x in
+        let w = from_map f z (links_at (atoms_at h r (D k).atoms)) (subst (λ ys. Among z ys) (renamed_links f (atoms_at h r (D k).atoms)) a) in
+        by w.0 w.1 (same_or_not w.0 (D k).root)
+      where
+        by : (y : ℕ) → z ≡ raw_link limit (D k) k x y → (y ≡ (D k).root) ⊎ (y ≢ (D k).root) → (z ≡ of_rule x) ⊎ ((L : ℕ) × (z ≡ of_solid L) × Block limit k L)
+        by y e (inl q) = inl (e ∙ at_root (of_rule x) (copy_link limit k y) y (D k).root q)
+        by y e (inr q) = inr (limit + code k y, e ∙ elsewhere (of_rule x) (copy_link limit k y) y (D k).root q, (y, refl))
+
+    -- and with each link at its image it is the copy in the solid
+    pub raw_atoms : map (renamed_atom to_all) (raw_part h r limit (D k) k x) ≡ map (solid_atom_of r.names) (atoms_of h' (λ a i. number (a, i)) (s.copied k))
+    raw_atoms =
+        renamed_twice to_all (raw_link limit (D k) k x) (D k).to (λ y. at y (same_or_not y (D k).root)) (atoms_at h r (D k).atoms)
+        ∙ sym (read_linked r.names (D k).to (atoms_of h r.name (D k).atoms)) ∙ ap (map (solid_atom_of r.names)) (sym known.are)
+      where
+        at : (y : ℕ) → (y ≡ (D k).root) ⊎ (y ≢ (D k).root) → to_all (raw_link limit (D k) k x y) ≡ (D k).to y
+        at y (inl q) =
+            ap to_all (at_root (of_rule x) (copy_link limit k y) y (D k).root q) ∙ over_rule to limit n (λ k. (D k).to) x
+            ∙ sym known.entered ∙ ap (D k).to (sym known.root ∙ sym q)
+        at y (inr q) = ap to_all (elsewhere (of_rule x) (copy_link limit k y) y (D k).root q) ∙ over_copy to limit n (λ k. (D k).to) k y known.below

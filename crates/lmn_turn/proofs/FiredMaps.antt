@@ -1,0 +1,75 @@
+-- The map of raw links after a firing, with the links inside copies, and what the firing says by it.
+use Rattle.std.proofs.Common.{ℕ, ◌≡◌, ◌+◌, ◌<◌, ◌≤◌, List, ◌++◌, length, sym, ap, ◌∙◌, arith}
+use Rattle.lmn_base.specs.declared.solid.SolidAtom.{SolidAtom}
+use Rattle.lmn_heap.specs.Heap.{Heap, IsMem}
+use Rattle.lmn_heap.specs.Lists.{In}
+use Rattle.lmn_heap.specs.Solid.{atoms_of}
+use Rattle.lmn_congruence.specs.Regions as region
+use Rattle.lmn_adequacy.specs.Next.{of_rule, of_solid}
+use Rattle.lmn_solid.specs.declared.items.HeadItem.{HeadItem}
+use Rattle.lmn_solid.specs.Heads.{atoms_of as atoms_of_head}
+use Rattle.lmn_splice.specs.Splice as splice
+use Rattle.lmn_body.specs.declared.items.BodyItem.{BodyItem}
+use Rattle.lmn_body.specs.Items.{connectors}
+use Rattle.lmn_body.specs.Made.{copies_of}
+use Rattle.lmn_body.specs.Running.{Registers}
+use Rattle.lmn_body.specs.Within.{FiresWithin, FiredSolid, added_with_copies, left_solid}
+use Rattle.lmn_bridge.specs.HeapRegions.{Reading}
+use Rattle.lmn_turn.proofs.CopyLinks.{over, over_rule, over_solid}
+use Rattle.lmn_turn.proofs.CopyMaps.{CopyData, Copies, chosen, KnownBy, each_known, raw_part}
+use Rattle.lmn_turn.proofs.EachCopy.{EachCopy}
+use Rattle.lmn_turn.proofs.LinksBelow.{links_limit}
+use Rattle.lmn_turn.proofs.LinksKept.{left_same}
+use Rattle.lmn_turn.proofs.Turns.{FiredTo}
+
+-- All membranes are among ms, and the links of their atoms are below the limit.
+module _ (h h' : Heap) (r : Reading) (s : Registers) (head : List HeadItem) (body : List BodyItem) (taken : List ℕ) (f : FiresWithin h (λ p. r.name p.0 p.1) s head body taken h')
+    (solid : FiredSolid h (λ p. r.name p.0 p.1) s head body taken h' f) (copies : Copies h h' (λ p. r.name p.0 p.1) f.number s (λ z. f.to (of_rule z)) (copies_of 0 body))
+    (ms : List ℕ) (all : (x : ℕ) → IsMem h x → In x ms) (limit : ℕ) (above : links_limit h r ms ≤ limit) where
+  -- the copies of the body by their numbers, and how many they are
+  abbrev pub data_of : ℕ → CopyData
+  data_of = chosen h h' (λ p. r.name p.0 p.1) f.number s (λ z. f.to (of_rule z)) (copies_of 0 body) copies
+
+  abbrev pub count : ℕ
+  count = length (copies_of 0 body)
+
+  -- the map of the firing, with the links inside each copy at those of the heap's copy
+  abbrev pub map_of : ℕ → ℕ
+  map_of = over f.to limit count (λ k. (data_of k).to)
+
+  -- the atoms of each copy after the firing, and those of the raw level at a link of the rule
+  abbrev pub copy_of : ℕ → List SolidAtom
+  copy_of k = atoms_of h' (λ a i. f.number (a, i)) (s.copied k)
+
+  abbrev pub part_of : ℕ → ℕ → List region.SolidAtom
+  part_of k x = raw_part h r limit (data_of k) k x
+
+  -- it is the firing's map at links of the rule and of the solid
+  pub map_rule : (x : ℕ) → map_of (of_rule x) ≡ f.to (of_rule x)
+  map_rule = over_rule f.to limit count (λ k. (data_of k).to)
+
+  pub map_solid : (y : ℕ) → y < limit → map_of (of_solid y) ≡ f.to (of_solid y)
+  map_solid = over_solid f.to limit count (λ k. (data_of k).to)
+
+  -- so it fuses the connectors of the body,
+  pub map_joins : (d : ℕ × ℕ) → splice.In d (connectors body) → map_of (of_rule d.0) ≡ map_of (of_rule d.1)
+  map_joins d i = map_rule d.0 ∙ f.connectors_fused d i ∙ sym (map_rule d.1)
+
+  left_is : left_solid h (λ p. r.name p.0 p.1) taken (λ z. f.to (of_solid z)) ≡ left_solid h (λ p. r.name p.0 p.1) taken (λ z. map_of (of_solid z))
+  left_is = λ i x. left_same h r ms all taken (λ z. f.to (of_solid z)) (λ z. map_of (of_solid z)) (λ y l. sym (map_solid y (omega (arith, l, above)))) x i
+
+  rule_is : ◌≡◌ {A = ℕ → ℕ} (λ z. f.to (of_rule z)) (λ z. map_of (of_rule z))
+  rule_is = λ i z. sym (map_rule z) i
+
+  -- and by it the atoms of each membrane are what is left and what is added
+  pub map_fired : FiredTo h (λ p. r.name p.0 p.1) s head body taken h' (λ a i. f.number (a, i)) map_of copy_of
+  map_fired x o = solid x o ∙ (λ i. left_is i x ++ added_with_copies s (left_is i) copy_of (rule_is i) 0 body x)
+
+  -- what is known of each copy
+  abbrev pub Known : ℕ → ℕ → ℕ → Type 0
+  Known k p x = KnownBy h h' (λ q. r.name q.0 q.1) f.number s (λ z. f.to (of_rule z)) count (data_of k) k p x
+
+  pub copies_known : EachCopy Known 0 body
+  copies_known =
+      each_known h h' (λ q. r.name q.0 q.1) f.number s (λ z. f.to (of_rule z)) count data_of body (length (atoms_of_head head)) 0 copies f.made_links
+      (λ j. let z : 0 + j ≡ j = omega arith in ap data_of z) (omega arith)

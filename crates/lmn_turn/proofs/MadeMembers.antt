@@ -1,0 +1,58 @@
+-- Lists without some numbers, and the membranes that a body makes.
+use Rattle.std.proofs.Common.{ℕ, ◌≡◌, ◌+◌, ◌<◌, ◌≤◌, List, [], ◌∷◌, refl, sym, ap, ◌∙◌, inl, inr, arith}
+use Rattle.std.proofs.lemmas.Bool.{cases_eq}
+use Rattle.std.specs.Prelude.{◌≢◌}
+use Rattle.lmn_heap.specs.Lists.{In, Distinct}
+use Rattle.lmn_heap.proofs.Groves.{without_absent}
+use Rattle.lmn_heap.proofs.ListLemmas.{each_in}
+use Rattle.lmn_body.specs.declared.items.BodyItem.{BodyItem}
+use Rattle.lmn_body.specs.declared.items.BodyItem.TheVariants.{Atom, Connector, Copy, Bound, Membrane, Rest, Rule, Rules}
+use Rattle.lmn_body.specs.Added.{made_mems}
+use Rattle.lmn_body.specs.Running.{Registers, withouts}
+use Rattle.lmn_turn.proofs.Adders.{at, many}
+
+-- ---- lists without some numbers
+
+pub withouts_nothing : (ns : List ℕ) → withouts ns [] ≡ []
+withouts_nothing [] = refl
+withouts_nothing (a ∷ ns) = withouts_nothing ns
+
+pub withouts_absent : (ns xs : List ℕ) → ((a : ℕ) → In a ns → In a xs → ⊥) → withouts ns xs ≡ xs
+withouts_absent [] xs d = refl
+withouts_absent (a ∷ ns) xs d = ap (withouts ns) (without_absent a xs (d a (inl refl))) ∙ withouts_absent ns xs (λ b i j. d b (inr i) j)
+
+-- ---- the membranes that a body makes
+
+pub in_made : (s : Registers) (n : ℕ) (xs : List BodyItem) (j : ℕ) → n ≤ j → j < n + many xs → In (at s j) (made_mems s n xs)
+in_made s n [] j a b = absurd (omega (arith, a, b))
+in_made s n (Atom functor links inside ∷ xs) j a b = in_made s n xs j a b
+in_made s n (Connector left right ∷ xs) j a b = in_made s n xs j a b
+in_made s n (Copy part link inside ∷ xs) j a b = in_made s n xs j a b
+in_made s n (Bound integer link inside ∷ xs) j a b = in_made s n xs j a b
+in_made s n (Membrane inside ∷ xs) j a b = elim (cases_eq j n) [
+  | inl e ↦ inl (ap (at s) (sym e))
+  | inr d ↦ inr (in_made s (n + 1) xs j (omega (arith, a, d)) (omega (arith, b)))
+]
+in_made s n (Rest of inside ∷ xs) j a b = in_made s n xs j a b
+in_made s n (Rule rule inside ∷ xs) j a b = in_made s n xs j a b
+in_made s n (Rules of inside ∷ xs) j a b = in_made s n xs j a b
+
+pub made_apart : (s : Registers) (n : ℕ) (xs : List BodyItem) → Distinct (made_mems s n xs) → (j k : ℕ) → n ≤ j → j < n + many xs → n ≤ k → k < n + many xs → at s j ≡ at s k → j ≡ k
+made_apart s n [] d j k a b a' b' e = absurd (omega (arith, a, b))
+made_apart s n (Atom functor links inside ∷ xs) d j k a b a' b' e = made_apart s n xs d j k a b a' b' e
+made_apart s n (Connector left right ∷ xs) d j k a b a' b' e = made_apart s n xs d j k a b a' b' e
+made_apart s n (Copy part link inside ∷ xs) d j k a b a' b' e = made_apart s n xs d j k a b a' b' e
+made_apart s n (Bound integer link inside ∷ xs) d j k a b a' b' e = made_apart s n xs d j k a b a' b' e
+made_apart s n (Membrane inside ∷ xs) d j k a b a' b' e = elim (cases_eq j n) [
+  | inl p ↦ elim (cases_eq k n) [
+    | inl q ↦ p ∙ sym q
+    | inr q ↦ absurd (each_in (λ y. at s n ≢ y) (made_mems s (n + 1) xs) (at s k) d.0 (in_made s (n + 1) xs k (omega (arith, a', q)) (omega (arith, b'))) (ap (at s) (sym p) ∙ e))
+  ]
+  | inr p ↦ elim (cases_eq k n) [
+    | inl q ↦ absurd (each_in (λ y. at s n ≢ y) (made_mems s (n + 1) xs) (at s j) d.0 (in_made s (n + 1) xs j (omega (arith, a, p)) (omega (arith, b))) (ap (at s) (sym q) ∙ sym e))
+    | inr q ↦ made_apart s (n + 1) xs d.1 j k (omega (arith, a, p)) (omega (arith, b)) (omega (arith, a', q)) (omega (arith, b')) e
+  ]
+]
+made_apart s n (Rest of inside ∷ xs) d j k a b a' b' e = made_apart s n xs d j k a b a' b' e
+made_apart s n (Rule rule inside ∷ xs) d j k a b a' b' e = made_apart s n xs d j k a b a' b' e
+made_apart s n (Rules of inside ∷ xs) d j k a b a' b' e = made_apart s n xs d j k a b a' b' e
