@@ -1,0 +1,46 @@
+-- The small heap of the examples.
+use Rattle.std.proofs.Common.{ℕ, ◌≡◌, ◌⊎◌, [], Option, Some, None, IsSome, refl, sym, subst, inl, inr, arith}
+use Rattle.std.proofs.lemmas.Bool.{cases_eq}
+use Rattle.lmn_heap.specs.Examples.{across}
+use Rattle.lmn_heap.specs.Heap.{HeapMem, rules_by, rules_in}
+use Rattle.lmn_heap.specs.Lists.{In}
+use Rattle.lmn_heap.specs.Sound.{IsTree}
+use Rattle.lmn_heap.proofs.ListLemmas.{apart_test}
+use Rattle.lmn_choice.specs.Examples.{inner, AcrossIsReadWith, AcrossHasTwoPaths}
+use Rattle.lmn_choice.specs.Turns.{tree_of}
+
+-- a membrane of it is one of two
+mem_cases : (m : ℕ) → (m ≡ 0) ⊎ ((m ≡ 1) ⊎ (across.mems m ≡ None))
+mem_cases m = elim (cases_eq m 0) [
+  | inl e ↦ inl e
+  | inr d ↦ elim (cases_eq m 1) [ inl e ↦ inr (inl e) | inr f ↦ inr (inr (rw (apart_test m 0 d, apart_test m 1 f) refl)) ]
+]
+
+no_mem : (o : Option HeapMem) → o ≡ None → IsSome o → ⊥
+no_mem None e i = absurd (cc)
+no_mem (Some x) e i = absurd (cc)
+
+across_tree : IsTree across (tree_of across inner)
+across_tree = record {
+  forms = ([], refl, ([], refl, refl, refl), refl);
+  once = (((λ e. absurd (omega (arith, e))), tt), (tt, tt));
+  all = λ m i. elim (mem_cases m) [
+    | inl e ↦ inl (sym e)
+    | inr w ↦ elim w [ inl e ↦ inr (inl (sym e)) | inr e ↦ absurd (no_mem (across.mems m) e i) ]
+  ];
+}
+
+no_rule : (m k : ℕ) → In k (rules_in across m) → ⊥
+no_rule m k i = elim (mem_cases m) [
+  | inl e ↦ subst (λ z. In k (rules_in across z)) e i
+  | inr w ↦ elim w [ inl e ↦ subst (λ z. In k (rules_in across z)) e i | inr e ↦ subst (λ z. In k (rules_by z)) e i ]
+]
+
+pub across_is_read_with : AcrossIsReadWith
+across_is_read_with r read = (
+  record { read = read; tree = across_tree; rules = record { known = λ m k i. absurd (no_rule m k i); read = λ k rule e. absurd (cc) } },
+  (λ w. let e = w.tree.forms.2 in cc),
+)
+
+pub across_has_two_paths : AcrossHasTwoPaths
+across_has_two_paths r = (refl, refl)

@@ -1,0 +1,120 @@
+-- The laws of the strategy by code.
+use Rattle.std.specs.Prelude.{ℕ, ◌≡◌, ◌↔◌, List, [], ◌∷◌, length}
+use Rattle.lmn_base.specs.declared.rule.RuleTree.{RuleTree}
+use Rattle.lmn_guards.specs.declared.plan.GuardPlan.{GuardPlan}
+use Rattle.lmn_heap.specs.Heap.{Heap, rules_in}
+use Rattle.lmn_heap.specs.Lists.{In}
+use Rattle.lmn_heap.specs.Sound.{Forest, IsTree, Valid}
+use Rattle.lmn_instr.specs.declared.instr.Code.{Code}
+use Rattle.lmn_body.specs.Running.{Registers, RunsBody}
+use Rattle.lmn_body.specs.Stopping.{SameButSpares}
+use Rattle.lmn_machine.specs.Costs.{Leaves}
+use Rattle.lmn_congruence.specs.Regions.{Region, items}
+use Rattle.lmn_reduction.specs.Commits.{Irreducible}
+use Rattle.lmn_adequacy.specs.Choice.{NextFrom, paths, asked}
+use Rattle.lmn_adequacy.specs.Embedding.{Embeds}
+use Rattle.lmn_adequacy.specs.Numbered.{IsNumbered}
+use Rattle.lmn_adequacy.specs.Runs.{Chooser, Turn}
+use Rattle.lmn_bridge.specs.HeapRegions.{Reading}
+use Rattle.lmn_bridge.specs.Laws.{heap_process}
+use Rattle.lmn_bridge.specs.Premises.{IsRead}
+use Rattle.lmn_strategy.specs.Choosing.{CodeSucceeds, NoneIn, asked as asked_on_heap}
+use Rattle.lmn_turn.specs.Commits.{IsTable}
+use Rattle.lmn_turn.specs.Turning.{Leads, renumbered}
+use Rattle.lmn_choice.specs.Turns.{tree_of, membranes_of, heap_region, HaveCodes, IsReadWith, IsChosen, IsChoice, IsNextHeap, IsNumberedAnew}
+
+-- Two lists are as long, and what has one number in both is related.
+pub data EachWith {A B : Type 0} (R : A → B → Type 0) : List A → List B → Type 0 where
+  each_none : EachWith R [] []
+  each_and : {x : A} {y : B} {xs : List A} {ys : List B} → R x y → EachWith R xs ys → EachWith R (x ∷ xs) (y ∷ ys)
+
+-- The paths of the calculus and the membranes of the heap have the same numbers.
+--   numbers   the path with a number leads to the membrane with this number
+--   many      there are as many
+--   asked     so they are asked in the same order, from each number on
+--   one       and one path leads to each membrane
+pub record SameNumbers (h : Heap) (r : Reading) (inner : Forest) : Type 0 where
+  pub numbers : EachWith (λ path m. Leads h m path h.root) (paths (heap_region h r inner)) (membranes_of h inner)
+  pub many : length (paths (heap_region h r inner)) ≡ length (membranes_of h inner)
+  pub asked : (from : ℕ) → EachWith (λ path m. Leads h m path h.root) (asked from (heap_region h r inner)) (asked_on_heap from (tree_of h inner))
+  pub one : (m : ℕ) (path other : List ℕ) → Leads h m path h.root → Leads h m other h.root → path ≡ other
+
+abbrev pub MembranesAreNumberedAlike : Type 0
+MembranesAreNumberedAlike = (h : Heap) (r : Reading) (inner : Forest) → IsTree h (tree_of h inner) → SameNumbers h r inner
+
+-- What the codes of a table say of a heap.
+--   embeds       none succeeds in any membrane exactly where no rule embeds
+--   irreducible  and exactly where the process is irreducible
+--   some         where one succeeds, a rule embeds
+pub record EndsByCode (codes : List Code) (h : Heap) (r : Reading) (inner : Forest) : Type 0 where
+  pub embeds : NoneIn h codes (membranes_of h inner) ↔ (¬ (Embeds (heap_region h r inner)))
+  pub irreducible : NoneIn h codes (membranes_of h inner) ↔ Irreducible (heap_process h r inner)
+  pub some : (m n : ℕ) → In m (membranes_of h inner) → In n (rules_in h m) → CodeSucceeds h codes m n → Embeds (heap_region h r inner)
+
+abbrev pub NothingEmbeds : Type 0
+NothingEmbeds = (table : List RuleTree) (plans : List GuardPlan) (codes : List Code) → HaveCodes table plans codes →
+    (h : Heap) (r : Reading) (inner : Forest) → IsReadWith h r inner table → EndsByCode codes h r inner
+
+-- What is chosen by code is chosen by the calculus,
+abbrev pub ChoicesAlike : Type 0
+ChoicesAlike = (table : List RuleTree) (plans : List GuardPlan) (codes : List Code) → HaveCodes table plans codes →
+    (h : Heap) (r : Reading) (inner : Forest) → IsReadWith h r inner table →
+    (from : ℕ) (code : Code) (s : Registers) (c : IsChosen from codes h inner code s) → IsChoice from h r inner c.membrane c.place
+
+-- the run of its body code leaves the next heap,
+abbrev pub ChoicesAgree : Type 0
+ChoicesAgree = (table : List RuleTree) (plans : List GuardPlan) (codes : List Code) → HaveCodes table plans codes →
+    (h : Heap) (r : Reading) (inner : Forest) → IsReadWith h r inner table → IsTable r table →
+    (from : ℕ) (code : Code) (s : Registers) → IsChosen from codes h inner code s →
+    (h' : Heap) → RunsBody s code.body h h' → IsNextHeap from h r inner table h'
+
+-- and its cost is the number of items of the region of that heap, however this is read.
+abbrev pub CostsAreItems : Type 0
+CostsAreItems = (table : List RuleTree) (plans : List GuardPlan) (codes : List Code) → HaveCodes table plans codes →
+    (h : Heap) (r : Reading) (inner : Forest) → IsReadWith h r inner table →
+    (from : ℕ) (code : Code) (s : Registers) → IsChosen from codes h inner code s → (h' : Heap) → RunsBody s code.body h h' →
+    (r' : Reading) (inner' : Forest) → IsRead h' r' → IsTree h' (tree_of h' inner') →
+    (k : ℕ) → Leaves h s.head code.body k ↔ (items (heap_region h' r' inner') ≡ k)
+
+-- So before anything runs, what is chosen has a next region with as many items as its cost tells, numbered in printed order.
+abbrev pub CostsAreTold : Type 0
+CostsAreTold = (table : List RuleTree) (plans : List GuardPlan) (codes : List Code) → HaveCodes table plans codes →
+    (h : Heap) (r : Reading) (inner : Forest) → IsReadWith h r inner table → IsTable r table →
+    (from : ℕ) (code : Code) (s : Registers) → IsChosen from codes h inner code s →
+    (k : ℕ) → Leaves h s.head code.body k → (S' : Region) × NextFrom from (heap_region h r inner) S' × IsNumbered S' × (items S' ≡ k)
+
+-- The links of a heap can have the numbers of printed order.
+abbrev pub HeapsAreNumbered : Type 0
+HeapsAreNumbered = (h : Heap) (r : Reading) (inner : Forest) (table : List RuleTree) → IsReadWith h r inner table → IsNumberedAnew h r inner table
+
+-- Room for more rules is no part of what is read: a heap that differs in it alone is read alike, and has the same region.
+abbrev pub SparesAreNotRead : Type 0
+SparesAreNotRead = (h h' : Heap) (r : Reading) (inner : Forest) (table : List RuleTree) → SameButSpares h h' → Valid h' → IsReadWith h r inner table →
+    IsReadWith h' r inner table × (heap_region h' r inner ≡ heap_region h r inner)
+
+-- Where a chooser gives the number of the membrane that is asked first, by the number of commits and that of membranes, a next
+-- region that is numbered comes by a turn of the strategy.
+abbrev pub TurnsAreOfChooser : Type 0
+TurnsAreOfChooser = (chooser : Chooser) (n : ℕ) (h : Heap) (r : Reading) (inner : Forest) → IsTree h (tree_of h inner) →
+    (S' : Region) → NextFrom (chooser n (length (membranes_of h inner))) (heap_region h r inner) S' → IsNumbered S' → Turn chooser n (heap_region h r inner) S'
+
+-- What a turn by code is in the calculus, where membranes are asked from a number on.
+--   none    where no code succeeds nothing embeds, and the process is irreducible
+--   embeds, some    what is chosen by code embeds, and is what the strategy chooses
+--   next    a run of its body code leaves the next heap, for which all of this holds again
+--   told    before it runs, there is a next region with as many items as its cost tells
+--   items   and the region of the heap that its run leaves has so many
+pub record TurnsAgree (table : List RuleTree) (plans : List GuardPlan) (codes : List Code) (from : ℕ) (h : Heap) (r : Reading) (inner : Forest) : Type 0 where
+  pub none : NoneIn h codes (membranes_of h inner) → (¬ (Embeds (heap_region h r inner))) × Irreducible (heap_process h r inner)
+  pub embeds : (code : Code) (s : Registers) → IsChosen from codes h inner code s → Embeds (heap_region h r inner)
+  pub some : (code : Code) (s : Registers) (c : IsChosen from codes h inner code s) → IsChoice from h r inner c.membrane c.place
+  pub next : (code : Code) (s : Registers) → IsChosen from codes h inner code s →
+      (h' : Heap) → RunsBody s code.body h h' → IsNextHeap from h r inner table h'
+  pub told : (code : Code) (s : Registers) → IsChosen from codes h inner code s →
+      (k : ℕ) → Leaves h s.head code.body k → (S' : Region) × NextFrom from (heap_region h r inner) S' × IsNumbered S' × (items S' ≡ k)
+  pub items : (code : Code) (s : Registers) → IsChosen from codes h inner code s → (h' : Heap) → RunsBody s code.body h h' →
+      (n : IsNextHeap from h r inner table h') (k : ℕ) → Leaves h s.head code.body k → items (heap_region h' (renumbered r n.number) n.forest) ≡ k
+
+abbrev pub TurnsAreAlike : Type 0
+TurnsAreAlike = (table : List RuleTree) (plans : List GuardPlan) (codes : List Code) → HaveCodes table plans codes →
+    (h : Heap) (r : Reading) (inner : Forest) → IsReadWith h r inner table → IsTable r table → (from : ℕ) → TurnsAgree table plans codes from h r inner

@@ -1,0 +1,139 @@
+-- What is known while rules are asked, and membranes.
+use Rattle.std.proofs.Common.{ℕ, zero, suc, ◌≡◌, ◌<◌, ◌≤◌, ◌+◌, ◌-◌, List, [], ◌∷◌, ◌++◌, length, Option, Some, None, inl, inr, refl, sym, ap, subst, ◌∙◌, arith}
+use Rattle.std.specs.Prelude.{slice_get, take, drop, slice_index_or, MatchOption}
+use Rattle.std.proofs.lemmas.List.{append_assoc, length-drop}
+use Rattle.std.proofs.lemmas.Option.{slice_get_within, slice_get-get_or}
+use Rattle.lmn_base.specs.declared.rule.RuleTree.{RuleTree}
+use Rattle.lmn_guards.specs.declared.plan.GuardPlan.{GuardPlan}
+use Rattle.lmn_heap.specs.Heap.{Heap, rules_in}
+use Rattle.lmn_heap.specs.Lists.{In}
+use Rattle.lmn_heap.specs.Sound.{Forest, IsTree, flat}
+use Rattle.lmn_heap.proofs.Trees.{in_either, in_here}
+use Rattle.lmn_instr.specs.declared.instr.Code.{Code}
+use Rattle.lmn_instr.specs.Running.{Registers, Succeeds}
+use Rattle.lmn_machine.proofs.Besides.{known, known_agrees}
+use Rattle.lmn_matching.specs.AcceptedCode.{AcceptedInOrder}
+use Rattle.lmn_registers.specs.declared.registers.SetRegisters.{SetRegisters}
+use Rattle.lmn_strategy.specs.Compiled.{AreWhole, AreCompiled}
+use Rattle.lmn_strategy.specs.Choosing.{AllInOrder, CodeSucceeds, NoneOf, NoneIn, IsFirstRule, IsFirstIn, HasFound, asked}
+use Rattle.lmn_strategy.proofs.Numbers.{cut_at, get_drop, take_one_more, take_farther, take_no_more, take_whole, root_number}
+
+-- where a code has no success, its rule has none
+pub fails : (h : Heap) (codes : List Code) (m n : ℕ) (code : Code) → slice_get codes n ≡ Some code → ((r : Registers) → Succeeds h code.head m r → ⊥) → CodeSucceeds h codes m n → ⊥
+fails h codes m n code e none s =
+    let same : s.code ≡ code = (let u : Some s.code ≡ Some code = sym s.is ∙ e in cc u) in
+    none s.registers (subst (λ c. Succeeds h c.head m s.registers) same s.succeeds)
+
+-- what was found is a success
+pub found_succeeds : {A M : Type 0} (atom : A → ℕ) (membrane : M → ℕ) (h : Heap) (codes : List Code) (m n : ℕ) (g : SetRegisters A M) → HasFound atom membrane h codes m n g → CodeSucceeds h codes m n
+found_succeeds atom membrane h codes m n g f = record {
+  code = f.code;
+  is = f.is;
+  registers = known atom membrane g;
+  succeeds = (f.first (known atom membrane g) (known_agrees atom membrane g)).succeeds;
+}
+
+-- an element of a list stands in it
+pub get_in : (xs : List ℕ) (i m : ℕ) → slice_get xs i ≡ Some m → In m xs
+get_in xs i m e = let c = cut_at xs i m e in subst (In m) (sym c.is) (in_here m c.before c.rest)
+
+in_one : (n m : ℕ) → In n (m ∷ []) → m ≡ n
+in_one n m (inl e) = e
+in_one n m (inr i) = absurd i
+
+-- one rule more
+pub none_of_more : (h : Heap) (codes : List Code) (m i n : ℕ) (xs : List ℕ) → slice_get xs i ≡ Some n → NoneOf h codes m (take i xs) → (CodeSucceeds h codes m n → ⊥) → NoneOf h codes m (take (i + 1) xs)
+none_of_more h codes m i n xs e none fails = λ k p s. elim (in_either k (take i xs) (n ∷ []) (subst (In k) (ap (λ z. take z xs) (let z : i + 1 ≡ suc i = omega arith in z) ∙ take_one_more xs i n e) p)) [
+  | inl q ↦ none k q s
+  | inr q ↦ fails (subst (CodeSucceeds h codes m) (sym (in_one k n q)) s)
+]
+
+-- and all of them
+pub none_of_all : (h : Heap) (codes : List Code) (m i : ℕ) (xs : List ℕ) → length xs ≤ i → NoneOf h codes m (take i xs) → NoneOf h codes m xs
+none_of_all h codes m i xs l none = subst (NoneOf h codes m) (take_whole xs i l) none
+
+module _ (h : Heap) (codes : List Code) where
+  none_in_both : (ms ns : List ℕ) → NoneIn h codes ms → NoneIn h codes ns → NoneIn h codes (ms ++ ns)
+  none_in_both ms ns a b = λ m p. elim (in_either m ms ns p) [ inl q ↦ a m q | inr q ↦ b m q ]
+
+  -- one membrane more
+  pub none_in_more : (xs : List ℕ) (i a m : ℕ) → slice_get xs (i + a) ≡ Some m → NoneIn h codes (take a (drop i xs)) → NoneOf h codes m (rules_in h m) → NoneIn h codes (take (a + 1) (drop i xs))
+  none_in_more xs i a m e none last =
+      let one : take (a + 1) (drop i xs) ≡ take a (drop i xs) ++ (m ∷ []) = ap (λ z. take z (drop i xs)) (let z : a + 1 ≡ suc a = omega arith in z) ∙ take_one_more (drop i xs) a m (get_drop xs i a ∙ e) in
+      subst (NoneIn h codes) (sym one)
+      (none_in_both (take a (drop i xs)) (m ∷ []) none (λ k p. subst (λ z. NoneOf h codes z (rules_in h z)) (in_one k m p) last))
+
+  -- where the list ends
+  pub none_in_end : (xs : List ℕ) (i a b : ℕ) → a ≤ b → slice_get xs (i + a) ≡ None → NoneIn h codes (take a (drop i xs)) → NoneIn h codes (take b (drop i xs))
+  none_in_end xs i a b l e none = subst (NoneIn h codes) (sym (take_no_more (drop i xs) a b l (get_drop xs i a ∙ e))) none
+
+  -- the first membrane of which a rule succeeds
+  pub first_in : (xs : List ℕ) (i a b m place n : ℕ) → a < b → slice_get xs (i + a) ≡ Some m → NoneIn h codes (take a (drop i xs)) → IsFirstRule h codes m place n → IsFirstIn h codes (take b (drop i xs)) m place n
+  first_in xs i a b m place n l e none first =
+      let r = take_farther (drop i xs) a b m l (get_drop xs i a ∙ e) in
+      record { earlier = take a (drop i xs); later = r.0; order = r.1; none = none; rule = first }
+
+  -- the first of some is the first of them and others
+  pub first_before : (ms ns : List ℕ) (m place n : ℕ) → IsFirstIn h codes ms m place n → IsFirstIn h codes (ms ++ ns) m place n
+  first_before ms ns m place n f = record {
+    earlier = f.earlier;
+    later = f.later ++ ns;
+    order = ap (λ z. z ++ ns) f.order ∙ append_assoc f.earlier (m ∷ f.later) ns;
+    none = f.none;
+    rule = f.rule;
+  }
+
+  pub first_behind : (ms ns : List ℕ) (m place n : ℕ) → NoneIn h codes ms → IsFirstIn h codes ns m place n → IsFirstIn h codes (ms ++ ns) m place n
+  first_behind ms ns m place n none f = record {
+    earlier = ms ++ f.earlier;
+    later = f.later;
+    order = ap (λ z. ms ++ z) f.order ∙ sym (append_assoc ms f.earlier (m ∷ f.later));
+    none = none_in_both ms f.earlier none f.none;
+    rule = f.rule;
+  }
+
+  -- all membranes are asked
+  pub all_asked : (xs : List ℕ) (i : ℕ) → NoneIn h codes (drop i xs) → NoneIn h codes (take i xs) → NoneIn h codes xs
+  all_asked xs i a b = subst (NoneIn h codes) (take_and_drop xs i) (none_in_both (take i xs) (drop i xs) b a)
+    where
+      take_and_drop : (xs : List ℕ) (i : ℕ) → take i xs ++ drop i xs ≡ xs
+      take_and_drop xs zero = refl
+      take_and_drop [] (suc i) = refl
+      take_and_drop (x ∷ xs) (suc i) = ap (λ z. x ∷ z) (take_and_drop xs i)
+
+  -- None of those from a number on has a rule that succeeds, and the others are asked.
+  pub asked_behind : {C : Type 0} (m place n : C → ℕ) (f : Forest) (from : ℕ) (r : Option C) → NoneIn h codes (drop from (flat f)) →
+      MatchOption r (NoneIn h codes (take from (flat f))) (λ c. IsFirstIn h codes (take from (flat f)) (m c) (place c) (n c)) →
+      MatchOption r (NoneIn h codes (flat f)) (λ c. IsFirstIn h codes (asked from f) (m c) (place c) (n c))
+  asked_behind m place n f from None none rest = all_asked (flat f) from none rest
+  asked_behind m place n f from (Some c) none rest = first_behind (drop from (flat f)) (take from (flat f)) (m c) (place c) (n c) none rest
+
+-- from a number on, all
+pub take_rest : (xs : List ℕ) (i many : ℕ) → many ≡ length xs → take (many - i) (drop i xs) ≡ drop i xs
+take_rest xs i many e = take_whole (drop i xs) (many - i) (let l = length-drop i xs in omega (arith, l, e))
+
+-- the root is a membrane
+pub some_membrane : (h : Heap) (f : Forest) → IsTree h f → 0 < length (flat f)
+some_membrane h f t = slice_get_within (flat f) 0 h.root (root_number h h.root refl f t)
+
+-- compiled code is in order
+pub compiled_in_order : (codes : List Code) (table : List RuleTree) (plans : List GuardPlan) → AcceptedInOrder → AreWhole table plans → AreCompiled table plans codes → AllInOrder codes
+compiled_in_order codes table plans law whole are n code e =
+    let l = slice_get_within codes n code e in
+    let rule = there table n (let m = are.many in omega (arith, l, m)) in
+    let plan = there plans n (let m = are.many in let k = whole.many in omega (arith, l, m, k)) in
+    law code.head table rule.0 plan.0 (record { ready = (whole.whole n rule.0 plan.0 rule.1 plan.1).ready; is = (are.each n rule.0 plan.0 code rule.1 plan.1 e).head })
+  where
+    there : {X : Type 0} (xs : List X) (k : ℕ) → k < length xs → (x : X) × (slice_get xs k ≡ Some x)
+    there [] k l = absurd (omega (arith, l))
+    there (x ∷ xs) zero l = (x, refl)
+    there (x ∷ xs) (suc k) l = there xs k (omega (arith, l))
+
+-- A rule is read at a place below the number of rules that were counted, and the heap is the same each time.
+pub rule_below : (h j k : Heap) (m place many : ℕ) → j ≡ h → k ≡ h → many ≡ length (rules_in j m) → place < many → place < length (rules_in k m)
+rule_below h j k m place many e f l p = let q : length (rules_in j m) ≡ length (rules_in k m) = ap (λ z. length (rules_in z m)) (e ∙ sym f) in omega (arith, l, p, q)
+
+pub rule_read : (h j k : Heap) (m place many n : ℕ) → j ≡ h → k ≡ h → many ≡ length (rules_in j m) → place < many → slice_index_or (rules_in k m) place 0 ≡ n → slice_get (rules_in h m) place ≡ Some n
+rule_read h j k m place many n e f l p r =
+    subst (λ z. slice_get (rules_in z m) place ≡ Some n) f
+    (slice_get-get_or (rules_in k m) place 0 (rule_below h j k m place many e f l p) ∙ ap (λ z. Some z) r)

@@ -1,0 +1,11 @@
+pub mod RuleCodes
+pub mod Numbers
+pub mod Climbs
+pub mod Chosen
+pub mod KeptRules
+pub mod BodyInstructions
+pub mod GuardIntegers
+pub mod BodyUses
+pub mod BodyAll
+pub mod ReadyBodies
+pub mod Firing

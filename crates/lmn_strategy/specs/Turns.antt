@@ -1,0 +1,88 @@
+-- What one turn does on a heap.
+use Rattle.std.specs.Prelude.{ℕ, ◌≡◌, ◌<◌, ◌≤◌, ◌+◌, List, [], Some, length, slice_get, All}
+use Rattle.std.specs.List.{AllByRecursion}
+use Rattle.lmn_base.specs.Levels.{rules_of}
+use Rattle.lmn_base.specs.declared.rule.RuleTree.{RuleTree}
+use Rattle.lmn_guards.specs.declared.plan.GuardPlan.{GuardPlan}
+use Rattle.lmn_heap.specs.Heap.{Heap}
+use Rattle.lmn_heap.specs.Sound.{Forest, flat}
+use Rattle.lmn_instr.specs.declared.instr.Code.{Code}
+use Rattle.lmn_instr.specs.declared.instr.Instr.{Instr}
+use Rattle.lmn_instr.specs.Running.{Registers as HeadRegisters, IsFirst, atoms_set}
+use Rattle.lmn_compile_body.specs.Accepted.{IsWhole}
+use Rattle.lmn_body.specs.Running.{Registers, RunsBody}
+use Rattle.lmn_body.specs.Stopping.{SameButSpares}
+use Rattle.lmn_registers.specs.Agreeing.{Agrees}
+use Rattle.lmn_registers.specs.declared.registers.SetRegisters.{SetRegisters}
+use Rattle.lmn_commit.specs.Matched.{IsMatched}
+use Rattle.lmn_commit.specs.Preparing.{InOrder}
+use Rattle.lmn_machine.specs.Costs.{IsTold, Leaves}
+use Rattle.lmn_machine.specs.Searching.{AreHeld, membranes_set, parts_set, integers_set}
+use Rattle.lmn_strategy.specs.declared.turning.Turn.{Turn}
+use Rattle.lmn_strategy.specs.declared.turning.Turn.TheVariants.{Committed, Irreducible, Full, NoMemory}
+use Rattle.lmn_strategy.specs.Compiled.{AreWhole, IsCompiled, AreCompiled}
+use Rattle.lmn_strategy.specs.Choosing.{NoneIn, IsFirstIn, asked}
+
+-- The code of a table of rules: each is whole with its plan, and the rules in its body are of the table.
+pub record IsTableCode (codes : List Code) : Type 0 where
+  pub table : List RuleTree
+  pub plans : List GuardPlan
+  pub whole : AreWhole table plans
+  pub compiled : AreCompiled table plans codes
+  pub inner : (k : ℕ) (rule : RuleTree) → slice_get table k ≡ Some rule → All (λ j. j < length table) (rules_of rule.body)
+
+-- The answer to a rule that is chosen, whose commit with these registers would leave n items, where there may be `size`:
+-- the heap is h' then.
+abbrev pub IsAnswer : Heap → Registers → List Instr → ℕ → ℕ → Turn → Heap → Type 0
+IsAnswer h s body n size Committed h' = (n ≤ size) × RunsBody s body h h'
+IsAnswer h s body n size Irreducible h' = ⊥
+IsAnswer h s body n size Full h' = (size < n) × (h' ≡ h)
+IsAnswer h s body n size NoMemory h' = (n ≤ size) × SameButSpares h h'
+
+-- Where membranes are asked in this order a rule is chosen, the first whose code succeeds. These registers are its first
+-- success, its commit with them leaves so many items, and this is the answer.
+pub record Chooses (h : Heap) (codes : List Code) (ms : List ℕ) (size : ℕ) (answer : Turn) (h' : Heap) : Type 0 where
+  pub membrane : ℕ
+  pub place : ℕ
+  pub rule : ℕ
+  pub chosen : IsFirstIn h codes ms membrane place rule
+  pub code : Code
+  pub is : slice_get codes rule ≡ Some code
+  pub registers : Registers
+  pub first : IsFirst h code.head membrane registers.head
+  pub left : ℕ
+  pub leaves : Leaves h registers.head code.body left
+  pub answered : IsAnswer h registers code.body left size answer h'
+
+-- What a turn does on the heap h with this tree, where the membrane with a number is asked first: the heap is h' then.
+abbrev pub IsTurn : Heap → List Code → Forest → ℕ → ℕ → Turn → Heap → Type 0
+IsTurn h codes f from size Committed h' = Chooses h codes (asked from f) size Committed h'
+IsTurn h codes f from size Irreducible h' = NoneIn h codes (flat f) × (h' ≡ h)
+IsTurn h codes f from size Full h' = Chooses h codes (asked from f) size Full h'
+IsTurn h codes f from size NoMemory h' = Chooses h codes (asked from f) size NoMemory h'
+
+-- After its head the body of a code can be prepared, and what is read to tell its cost is set.
+pub record IsReadyCode (code : Code) : Type 0 where
+  pub order : InOrder (atoms_set code.head) (1 + membranes_set code.head) (parts_set code.head) (integers_set code.head) 0 code.body
+  pub told : AllByRecursion (IsTold (1 + membranes_set code.head) (parts_set code.head)) code.body
+
+-- So it is with the code of each accepted rule.
+abbrev pub BodiesAreReady : Type 0
+BodiesAreReady = (table : List RuleTree) (r : RuleTree) (plan : GuardPlan) → IsWhole table r plan → (code : Code) → IsCompiled r plan code → IsReadyCode code
+
+-- The registers hold a match of the head of a code, and its body can be prepared and committed.
+pub record CanFire {A M : Type 0} (atom : A → ℕ) (membrane : M → ℕ) (h : Heap) (g : SetRegisters A M) (code : Code) : Type 0 where
+  pub held : AreHeld atom membrane h g
+  pub copies : g.copies ≡ []
+  pub order : InOrder (length g.atoms) (length g.membranes) (length g.parts) (length g.integers) 0 code.body
+  pub told : AllByRecursion (IsTold (length g.membranes) (length g.parts)) code.body
+  pub matched : IsMatched atom membrane h g code.body
+  pub some : (s : HeadRegisters) → Agrees atom membrane g s → (n : ℕ) × Leaves h s code.body n
+
+-- The answer to a match that the registers hold, for registers that have the values of those that are set.
+pub record Fires {A M : Type 0} (atom : A → ℕ) (membrane : M → ℕ) (h : Heap) (g : SetRegisters A M) (code : Code) (size : ℕ) (answer : Turn) (h' : Heap) : Type 0 where
+  pub registers : Registers
+  pub agrees : Agrees atom membrane g registers.head
+  pub left : ℕ
+  pub leaves : Leaves h registers.head code.body left
+  pub answered : IsAnswer h registers code.body left size answer h'

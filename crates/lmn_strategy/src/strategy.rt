@@ -1,0 +1,133 @@
+//! The search of the strategy: the first membrane that is asked and has a rule that succeeds, and its first such rule.
+ghost use Rattle.std.specs.Prelude.{◌≡◌, ◌<◌, ◌≤◌, ◌+◌, ℕ, List, Some, IsTrue, IsFalse, IfSome, MatchOption, length, slice_get, take, drop};
+ghost use Rattle.lmn_heap.specs.Heap.{IsMem, rules_in};
+ghost use Rattle.lmn_heap.specs.Sound.{Forest, IsTree, flat};
+ghost use Rattle.lmn_base.specs.declared.rule.RuleTree.{RuleTree};
+ghost use Rattle.lmn_guards.specs.declared.plan.GuardPlan.{GuardPlan};
+ghost use Rattle.lmn_strategy.specs.Compiled.{AreWhole, AreCompiled};
+ghost use Rattle.lmn_strategy.specs.Choosing.{AllInOrder, CanTurn, CodeSucceeds, NoneOf, NoneIn, IsFirstRule, IsFirstIn, HasFound, asked};
+
+use crate::preorder::{membrane_at, next_membrane};
+use lmn_instr::Code;
+use lmn_machine::{Machine, Steps};
+use lmn_matching::accepted_in_order;
+use lmn_store::LinkStore;
+use std::sync::ledger::Ledger;
+
+/// The rule that fires next, and where.
+#[derive(Clone, Copy)]
+pub struct Choice<M> {
+    /// The membrane in which it fires.
+    pub membrane: M,
+    /// Its place in the list of rules of this membrane, counted from 0.
+    pub place: u64,
+    /// Its number in the table of rules.
+    pub rule: u32,
+}
+
+/// Whether the code of the head of a rule succeeds in a membrane. The registers then hold its first success.
+fn succeeds<S: LinkStore, L: Ledger>(
+    machine: &mut Machine<S>,
+    codes: &[Code],
+    membrane: S::Mem,
+    rule: u32,
+    steps: &mut Steps<L>,
+) -> bool
+    requires turn { CanTurn (S.heap machine.old.store) (length codes.now) }
+    requires order { AllInOrder codes.now }
+    requires membrane { IsMem (S.heap machine.old.store) (S.mem_id membrane) }
+    requires rule { rule < length codes.now }
+    ensures same { S.heap machine.new.store ≡ S.heap machine.old.store }
+    ensures found { IsTrue result → HasFound S.atom_id S.mem_id (S.heap machine.old.store) codes.now (S.mem_id membrane) rule machine.new.set }
+    ensures none { IsFalse result → CodeSucceeds (S.heap machine.old.store) codes.now (S.mem_id membrane) rule → ⊥ }
+{
+    machine.find(&codes[rule as usize], membrane, steps)
+}
+
+/// The first rule of a membrane whose code succeeds. The registers then hold its first success.
+fn first_rule<S: LinkStore, L: Ledger>(
+    machine: &mut Machine<S>,
+    codes: &[Code],
+    membrane: S::Mem,
+    steps: &mut Steps<L>,
+) -> Option<Choice<S::Mem>>
+    requires turn { CanTurn (S.heap machine.old.store) (length codes.now) }
+    requires order { AllInOrder codes.now }
+    requires membrane { IsMem (S.heap machine.old.store) (S.mem_id membrane) }
+    ensures same { S.heap machine.new.store ≡ S.heap machine.old.store }
+    ensures first { MatchOption result
+        (NoneOf (S.heap machine.old.store) codes.now (S.mem_id membrane) (rules_in (S.heap machine.old.store) (S.mem_id membrane)))
+        (λ c. IsFirstRule (S.heap machine.old.store) codes.now (S.mem_id c.membrane) c.place c.rule) }
+    ensures membrane { IfSome result (λ c. c.membrane ≡ membrane) }
+    ensures found { IfSome result (λ c. HasFound S.atom_id S.mem_id (S.heap machine.old.store) codes.now (S.mem_id c.membrane) c.rule machine.new.set) }
+{
+    let rules = machine.store().rules(membrane);
+    for place in 0..rules {
+        let rule = machine.store().rule(membrane, place);
+        if succeeds(machine, codes, membrane, rule, steps) {
+            return Some(Choice {
+                membrane,
+                place,
+                rule,
+            });
+        }
+    }
+    None
+}
+
+/// Asks so many membranes in preorder, from one on, which has the number `from`.
+fn first_of_some<S: LinkStore, L: Ledger>(
+    machine: &mut Machine<S>,
+    codes: &[Code],
+    from: u64,
+    count: u64,
+    steps: &mut Steps<L>,
+) -> Option<Choice<S::Mem>>
+    requires turn { CanTurn (S.heap machine.old.store) (length codes.now) }
+    requires order { AllInOrder codes.now }
+    requires from { (f : Forest) → IsTree (S.heap machine.old.store) f → from < length (flat f) }
+    ensures same { S.heap machine.new.store ≡ S.heap machine.old.store }
+    ensures first { (f : Forest) → IsTree (S.heap machine.old.store) f → MatchOption result
+        (NoneIn (S.heap machine.old.store) codes.now (take count (drop from (flat f))))
+        (λ c. IsFirstIn (S.heap machine.old.store) codes.now (take count (drop from (flat f))) (S.mem_id c.membrane) c.place c.rule) }
+    ensures found { IfSome result (λ c. HasFound S.atom_id S.mem_id (S.heap machine.old.store) codes.now (S.mem_id c.membrane) c.rule machine.new.set) }
+{
+    let start = membrane_at(machine.store(), from);
+    let mut at = Some(start);
+    for asked in 0..count {
+        match at {
+            Some(membrane) => match first_rule(machine, codes, membrane, steps) {
+                Some(choice) => return Some(choice),
+                None => at = next_membrane(machine.store(), membrane),
+            },
+            None => return None,
+        }
+    }
+    None
+}
+
+/// What the strategy chooses, where the membrane with the number `from` in preorder is asked first and there are `many`
+/// membranes. It takes no memory, and the store is left as it was. The registers then hold the first success of the code.
+pub fn search<S: LinkStore, L: Ledger>(
+    machine: &mut Machine<S>,
+    codes: &[Code],
+    from: u64,
+    many: u64,
+    steps: &mut Steps<L>,
+) -> Option<Choice<S::Mem>>
+    requires turn { CanTurn (S.heap machine.old.store) (length codes.now) }
+    requires codes { (table : List RuleTree) × (plans : List GuardPlan) × AreWhole table plans × AreCompiled table plans codes.now }
+    requires many { (f : Forest) → IsTree (S.heap machine.old.store) f → many ≡ length (flat f) }
+    requires from { from < many }
+    ensures same { S.heap machine.new.store ≡ S.heap machine.old.store }
+    ensures first { (f : Forest) → IsTree (S.heap machine.old.store) f → MatchOption result
+        (NoneIn (S.heap machine.old.store) codes.now (flat f))
+        (λ c. IsFirstIn (S.heap machine.old.store) codes.now (asked from f) (S.mem_id c.membrane) c.place c.rule) }
+    ensures found { IfSome result (λ c. HasFound S.atom_id S.mem_id (S.heap machine.old.store) codes.now (S.mem_id c.membrane) c.rule machine.new.set) }
+{
+    accepted_in_order();
+    match first_of_some(machine, codes, from, many - from, steps) {
+        Some(choice) => Some(choice),
+        None => first_of_some(machine, codes, 0, from, steps),
+    }
+}

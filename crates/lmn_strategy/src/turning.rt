@@ -1,0 +1,81 @@
+//! One turn: what the strategy chooses is prepared and committed, where the store may have that many items.
+ghost use Rattle.std.specs.Prelude.{◌≡◌, ◌<◌, ◌-◌, ◌^◌, length};
+ghost use Rattle.lmn_heap.specs.Sound.{Forest, IsTree, Valid, flat};
+ghost use Rattle.lmn_machine.specs.Searching.{Unmarked};
+ghost use Rattle.lmn_strategy.specs.Choosing.{CanTurn};
+ghost use Rattle.lmn_strategy.specs.Turns.{CanFire, Fires, IsTableCode, IsTurn};
+
+use crate::ready::bodies_are_ready;
+use crate::strategy::search;
+use lmn_compile_body::accepted_bodies;
+use lmn_compile_head::accepted_least;
+use lmn_cost::commits_cost_what_is_told;
+use lmn_instr::Code;
+use lmn_machine::{Machine, Steps};
+use lmn_store::LinkStore;
+use std::alloc::Global;
+use std::sync::ledger::Ledger;
+
+/// How a turn ended.
+#[derive(Clone, Copy, Debug, PartialEq, Eq)]
+pub enum Turn {
+    /// A rule fired.
+    Committed,
+    /// No rule of any membrane has a match.
+    Irreducible,
+    /// The commit of the rule that is chosen would leave more items than there may be.
+    Full,
+    /// There is no memory for what the rule that is chosen makes.
+    NoMemory,
+}
+
+/// Lets the rule of a code fire whose head was found, where its commit leaves at most `size` items.
+fn fire<S: LinkStore>(alloc: Global, machine: &mut Machine<S>, code: &Code, size: u64) -> Turn
+    requires fire { CanFire S.atom_id S.mem_id (S.heap machine.old.store) machine.old.set code.now }
+    requires size { size < 2 ^ 64 - 1 }
+    ensures fires { Fires S.atom_id S.mem_id (S.heap machine.old.store) machine.old.set code.now size result (S.heap machine.new.store) }
+    ensures valid { Valid (S.heap machine.new.store) }
+    ensures unmarked { Unmarked (S.heap machine.new.store) }
+{
+    if machine.cost(code) > size {
+        return Turn::Full;
+    }
+    match machine.prepare(alloc, code) {
+        Ok(()) => {
+            machine.commit(code);
+            Turn::Committed
+        }
+        Err(_) => Turn::NoMemory,
+    }
+}
+
+/// One turn. `codes` has the code of each rule of the table, by its number. There are `many` membranes, and the one with
+/// the number `from` in preorder is asked first. The first rule that has a match fires at its first match, unless more than
+/// `size` items would be left, the root not counted. With another answer than `Committed` the store is as it was, but for
+/// room for rules at `NoMemory`.
+pub fn take_turn<S: LinkStore, L: Ledger>(
+    alloc: Global,
+    machine: &mut Machine<S>,
+    codes: &[Code],
+    from: u64,
+    many: u64,
+    size: u64,
+    steps: &mut Steps<L>,
+) -> Turn
+    requires turn { CanTurn (S.heap machine.old.store) (length codes.now) }
+    requires codes { IsTableCode codes.now }
+    requires many { (f : Forest) → IsTree (S.heap machine.old.store) f → many ≡ length (flat f) }
+    requires from { from < many }
+    requires size { size < 2 ^ 64 - 1 }
+    ensures turned { (f : Forest) → IsTree (S.heap machine.old.store) f → IsTurn (S.heap machine.old.store) codes.now f from size result (S.heap machine.new.store) }
+    ensures again { CanTurn (S.heap machine.new.store) (length codes.now) }
+{
+    bodies_are_ready();
+    accepted_bodies();
+    accepted_least();
+    commits_cost_what_is_told();
+    match search(machine, codes, from, many, steps) {
+        Some(choice) => fire(alloc, machine, &codes[choice.rule as usize], size),
+        None => Turn::Irreducible,
+    }
+}
