@@ -7,3 +7,15 @@ pub mod StoredLemmas
 pub mod WalkLemmas
 pub mod LineLemmas
 pub mod ToldLemmas
+pub mod OrderLemmas
+pub mod MarkLemmas
+pub mod NumberLemmas
+pub mod PortLemmas
+pub mod SolidLinks
+pub mod NumberingLemmas
+pub mod NumberExampleProofs
+pub mod ClearLemmas
+pub mod KeptLemmas
+pub mod FirstNames
+pub mod HeapSolids
+pub mod SolidShapes

@@ -21,11 +21,12 @@ use Rattle.lmn_printer.specs.Walks.{Texts, texts_in, members, tree_text, has_any
 use Rattle.lmn_printer.proofs.LineLemmas.{line_is, stop_if}
 use Rattle.lmn_printer.proofs.RowLemmas.{any_map}
 
-numbered_alike : (u v : ℕ → ℕ → ℕ) (a i n : ℕ) → ((j : ℕ) → j < i + n → u a j ≡ v a j) → numbered u a i n ≡ numbered v a i n
+-- names that say the same of some ports number them alike
+pub numbered_alike : (u v : ℕ → ℕ → ℕ) (a i n : ℕ) → ((j : ℕ) → j < i + n → u a j ≡ v a j) → numbered u a i n ≡ numbered v a i n
 numbered_alike u v a i zero h = refl
 numbered_alike u v a i (suc n) h = ap (λ x. x ∷ numbered u a (i + 1) n) (h i (omega arith)) ∙ ap (λ xs. v a i ∷ xs) (numbered_alike u v a (i + 1) n (λ j l. h j (omega (arith, l))))
 
-abbrev solid_atom : Functor → List ℕ → SolidAtom
+abbrev pub solid_atom : Functor → List ℕ → SolidAtom
 solid_atom f ls = record { functor = f; links = ls }
 
 module _ (h : Heap) (sound : Sound h) (name : ℕ → ℕ → ℕ) (told : TellsNumbers h name) where

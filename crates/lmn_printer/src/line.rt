@@ -1,13 +1,8 @@
 //! The line of a store.
-ghost use Rattle.std.specs.Prelude.{◌≡◌, ◌≤◌, ◌<◌, ◌+◌, ℕ, Bool, OnOk, OnErr};
-ghost use Rattle.lmn_base.specs.declared.solid.Solid.{Solid};
-ghost use Rattle.lmn_heap.specs.Solid.{SolidOf};
-ghost use Rattle.lmn_heap.specs.Sound.{Forest, IsTree, Valid};
-ghost use Rattle.lmn_io.specs.Counts.{Rose};
-ghost use Rattle.lmn_io.specs.Taking.{Takes, TakesPrefix};
-ghost use Rattle.lmn_plain.specs.SolidLines.{solid_line};
-ghost use Rattle.lmn_printer.specs.Stored.{TellsNumbers, atom_texts, rule_texts};
+ghost use Rattle.std.specs.Prelude.{◌≡◌};
+ghost use Rattle.lmn_heap.specs.Sound.{Valid};
 ghost use Rattle.lmn_printer.specs.Walks.{has_any};
+ghost use Rattle.lmn_printer.specs.Writing.{Writes, IsMarkedLineOf};
 
 use crate::leaves::add_between;
 use crate::walk::add_tree;
@@ -28,11 +23,7 @@ pub fn write_line<S: LinkStore, O: Sink>(
     sink: &mut O,
 ) -> Result<(), Failed>
     requires { Valid (S.heap store.now) }
-    ensures took { (x : Solid) (of : SolidOf (S.heap store.now) x) → TellsNumbers (S.heap store.now) of.name → OnOk result (Takes (solid_line names.now plain.now.rules x) (O.told sink.old) (O.told sink.new)) }
-    ensures prefix { (x : Solid) (of : SolidOf (S.heap store.now) x) → TellsNumbers (S.heap store.now) of.name → OnErr result (TakesPrefix (solid_line names.now plain.now.rules x) (O.told sink.old) (O.told sink.new)) }
-    ensures later { O.faults sink.old ≤ O.faults sink.new }
-    ensures same { OnOk result (O.faults sink.new ≡ O.faults sink.old) }
-    ensures rose { OnErr result (Rose (O.faults sink.old) (O.faults sink.new)) }
+    ensures { Writes (IsMarkedLineOf names.now plain.now.rules (S.heap store.now)) result (O.told sink.old) (O.faults sink.old) (O.told sink.new) (O.faults sink.new) }
 {
     let mut buffer = LineBuffer::new();
     add_tree(&mut buffer, sink, names, plain.rules.as_slice(), store);

@@ -1,9 +1,10 @@
-use crate::add_rule;
+use crate::{add_rule, print};
 use lmn_base::{
     Arith, CONNECTOR_NAME, Cmp, Cond, CtxUse, Expr, Functor, GROUND_NAME, INT_NAME, Label, Leaf,
-    Level, Names, NoMemory, Occ, Pos, Rows, RuleTree, UNARY_NAME,
+    Level, Names, NoMemory, Occ, Plain, Pos, Rows, RuleTree, UNARY_NAME,
 };
 use lmn_io::{LineBuffer, MemSink};
+use lmn_store::SlabStore;
 use std::alloc::Global;
 use std::test::Fail;
 
@@ -151,5 +152,31 @@ fn rules_of_every_form_are_written(rt: HostRuntime) -> Result<(), Fail> {
         out.taken(),
         b"('='(L0), $unary[L0], {$ground, @int} :- int($unary), ($unary + 1) * 2 =< -3, $ground = $unary, $unary \\= $ground, ground($unary, $ground) | L1 = L2, 5(L1, L2), (ground :- ))".as_slice()
     );
+    Ok(())
+}
+
+/// The line of a store with the root alone, where the sink has so much room, and how many bytes were taken.
+fn line_of_nothing(alloc: Global, room: usize) -> Result<(bool, usize), NoMemory> {
+    let mut store = SlabStore::new(alloc)?;
+    let plain = Plain {
+        top: nothing(alloc),
+        links: Rows::new(alloc),
+        rules: Rows::new(alloc),
+    };
+    let names = Names::new(alloc);
+    let mut out = MemSink::new(alloc, room, Rows::new(alloc))?;
+    let written = print(&mut store, &plain, &names, &mut out).is_ok();
+    Ok((written, out.taken().len()))
+}
+
+#[test]
+fn nothing_is_an_empty_line(rt: HostRuntime) -> Result<(), Fail> {
+    assert_eq!(rt; line_of_nothing(rt.alloc(), 1)?, (true, 1));
+    Ok(())
+}
+
+#[test]
+fn a_full_sink_takes_no_line(rt: HostRuntime) -> Result<(), Fail> {
+    assert_eq!(rt; line_of_nothing(rt.alloc(), 0)?, (false, 0));
     Ok(())
 }

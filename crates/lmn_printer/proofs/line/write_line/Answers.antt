@@ -35,17 +35,13 @@ whole g c x of told =
 pub add_tree-requires : goal.add_tree-requires
 add_tree-requires g c = c.requires.tree
 
-pub returns-clause-took : goal.returns-clause-took
-returns-clause-took g c = λ x of told. c.finish.ensures.took _ _ _ (whole g c x of told)
-
-pub returns-clause-prefix : goal.returns-clause-prefix
-returns-clause-prefix g c = λ x of told. c.finish.ensures.prefix _ _ _ (whole g c x of told)
-
-pub returns-clause-later : goal.returns-clause-later
-returns-clause-later g c = c.finish.ensures.later _ _ _ (added g c c.requires.tree.0 c.requires.tree.1)
-
-pub returns-clause-same : goal.returns-clause-same
-returns-clause-same g c = c.finish.ensures.same _ _ _ (added g c c.requires.tree.0 c.requires.tree.1)
-
-pub returns-clause-rose : goal.returns-clause-rose
-returns-clause-rose g c = c.finish.ensures.rose _ _ _ (added g c c.requires.tree.0 c.requires.tree.1)
+pub returns : goal.returns
+returns g c =
+    let tree = added g c c.requires.tree.0 c.requires.tree.1 in
+    record {
+      took = λ text line. c.finish.ensures.took _ _ _ (adds_as (sym line.3) (whole g c line.0 line.1 line.2));
+      prefix = λ text line. c.finish.ensures.prefix _ _ _ (adds_as (sym line.3) (whole g c line.0 line.1 line.2));
+      later = c.finish.ensures.later _ _ _ tree;
+      same = c.finish.ensures.same _ _ _ tree;
+      rose = c.finish.ensures.rose _ _ _ tree;
+    }
