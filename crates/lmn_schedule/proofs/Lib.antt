@@ -1,3 +1,5 @@
-pub mod RuleCodes
-pub mod Numbers
-pub mod Climbs
+pub mod Printed
+mod Named
+pub mod Loaded
+mod Turned
+mod TestPlains

@@ -1,1 +1,3 @@
-pub mod Compiled
+pub mod Held
+pub mod Lending
+pub mod Turning

@@ -1,8 +1,10 @@
-//! One turn of the engine: the code of all rules, and the walk over the membranes of a store in preorder.
+//! The engine: the process of a plain in a store, and turns of the strategy on it.
 #![tactic(auto)]
 
-mod compiling;
-mod preorder;
+mod engine;
+#[cfg(test)]
+mod tests;
 
-pub use compiling::compiled;
-pub use preorder::{membrane_at, membranes, next_membrane};
+pub use engine::Engine;
+pub use lmn_loading::LoadFault;
+pub use lmn_strategy::Turn;

@@ -1,0 +1,24 @@
+use Rattle.std.proofs.Common.{◌≡◌, ◌∙◌, subst}
+use Rattle.std.specs.Result.{OnOk, OnErr}
+use Rattle.lmn_io.specs.Taking.{Takes, TakesPrefix}
+use Rattle.lmn_drive.specs.Written.{end_line}
+use Rattle.lmn_drive.specs.Driving.{stop_word}
+use Rattle.lmn_drive.proofs.Writings.{rest_broke, rest_written}
+use Rattle.lmn_drive.proofs.driving.write_rest.Goals as goal
+
+pub returns-in_err-write_traced-clause-writes : goal.returns-in_err-write_traced-clause-writes
+returns-in_err-write_traced-clause-writes g c =
+    rest_broke c.args.names.now c.args.plain.now.rules (g.S.LinkStore.heap c.args.engine.now.machine.store) c.args.trace (stop_word c.args.stop) c.args.engine.now.commits _ _ c.from_residual.result
+    (g.O.Sink.told c.args.out.now) (g.O.Sink.faults c.args.out.now) (g.O.Sink.told c.write_traced.new.out) (g.O.Sink.faults c.write_traced.new.out) c.from_residual.ensures.1 c.in_err-write_traced.ensures.writes
+
+pub returns-clause-writes : goal.returns-clause-writes
+returns-clause-writes g c =
+    let word = stop_word c.args.stop in
+    let commits : c.commits.result ≡ c.args.engine.now.commits = c.commits.ensures ∙ (λ i. (c.write_traced.ensures.keeps i).commits) in
+    let mid = g.O.Sink.told c.write_traced.new.out in
+    let new = g.O.Sink.told c.write_end.new.out in
+    rest_written c.args.names.now c.args.plain.now.rules (g.S.LinkStore.heap c.args.engine.now.machine.store) c.args.trace word c.args.engine.now.commits _ c.write_end.result
+    (g.O.Sink.told c.args.out.now) mid new (g.O.Sink.faults c.args.out.now) (g.O.Sink.faults c.write_traced.new.out) (g.O.Sink.faults c.write_end.new.out) c.in_ok-write_traced.ensures.writes
+    (subst (λ n. OnOk c.write_end.result (Takes (end_line word n) mid new)) commits c.write_end.ensures.took)
+    (subst (λ n. OnErr c.write_end.result (TakesPrefix (end_line word n) mid new)) commits c.write_end.ensures.prefix)
+    c.write_end.ensures.later c.write_end.ensures.same c.write_end.ensures.rose

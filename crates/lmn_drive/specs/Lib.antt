@@ -1,0 +1,4 @@
+pub mod Written
+pub mod Driving
+pub mod Laws
+pub mod Examples

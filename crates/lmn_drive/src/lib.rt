@@ -1,0 +1,8 @@
+//! Runs an engine, and writes its process and why it stopped.
+#![tactic(auto)]
+
+mod driving;
+mod laws;
+
+pub use driving::{RunEnd, RunOptions, drive};
+pub use laws::{answers_are_exact, full_run_is_written};

@@ -1,0 +1,9 @@
+mod LabelsStay
+mod Tables
+mod Counted
+mod GoodLevels
+mod TraceRuns
+mod SpelledParts
+mod SpelledRules
+mod RightWords
+mod Printable

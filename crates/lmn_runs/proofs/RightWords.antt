@@ -1,0 +1,217 @@
+-- A text can spell what the tokens of a right text mean, and the list of names that reading leaves holds their names.
+use Rattle.std.proofs.Common.{◌≡◌, ◌≢◌, ℕ, zero, suc, pos, ◌-◌, ◌≤◌, ◌<◌, ◌^◌, ◌==◌, ◌&&◌, not, Bool, true, false, if◌then◌else◌, List, [], ◌∷◌, ◌++◌, length, take, drop, slice_get, Option, Some, None, refl, sym, ap, ◌∙◌, subst, ◌⊎◌, inl, inr, arith}
+use lib.Dec.{le→leb, lt→ltb}
+use Rattle.std.specs.Prelude.{Contains, codes, option_map}
+use Rattle.std.specs.Char.{is_ascii_lowercase}
+use Rattle.std.specs.List.{AllByRecursion}
+use Rattle.std.proofs.lemmas.Bool.{cases_lt, cases_order}
+use Rattle.std.proofs.lemmas.Bool.Decides.{nat_tests}
+use Rattle.std.proofs.lemmas.List.{length-append, take_at}
+use Rattle.std.proofs.lemmas.Option.{get_or_from_slice_get, same_Some, slice_get-map}
+use Rattle.lmn_base.specs.declared.refusal.Pos.{Pos}
+use Rattle.lmn_base.specs.Names.{IsNames}
+use Rattle.lmn_congruence.specs.Rules as tree
+use Rattle.lmn_guards.specs.Values as guards
+use Rattle.lmn_lexer.specs.Cutting.{Cuts, token_at as token_of}
+use Rattle.lmn_lexer.specs.Faults.{InRange, NothingWrong, TokenFault, floating_point, integer_out_of_range, long_name, value_behind}
+use Rattle.lmn_lexer.specs.Laying.{Word, end_word, word_of, words_of}
+use Rattle.lmn_lexer.specs.Spelling.{AllPass, IsQuoted, IsWord, Quotes, Spells, byte, goes_on, is_quotable, nothing, quote}
+use Rattle.lmn_lexer.specs.Values.{IsSound, bytes_of, integer_of, minus_of}
+use Rattle.lmn_lexer.specs.declared.token.Kind.{Kind}
+use Rattle.lmn_lexer.specs.declared.token.Kind.TheVariants as kind
+use Rattle.lmn_lexer.specs.declared.token.Token.{Token}
+use Rattle.lmn_lexer.proofs.SoundTokens.{tokens_are_sound}
+use Rattle.lmn_parser.specs.Trees.{At, NameAt}
+use Rattle.lmn_plain.specs.Meanings.{between_quotes, label_at, label_spelled, name_at, name_spelled, undoubled, word_at}
+use Rattle.lmn_plain.specs.Spelled.{IsContextName}
+use Rattle.lmn_plain.proofs.LabelWords.{undoubled_other}
+use Rattle.lmn_print.specs.Laws.{IsSpelled}
+use Rattle.lmn_runs.specs.Texts.{HasName, Holds}
+use Rattle.lmn_runs.proofs.GoodLevels.{fits}
+use Rattle.lmn_runs.proofs.SpelledParts.{IntegerAt, RightTokens}
+use Rattle.lmn_runs.proofs.SpelledRules.{IsContext, IsLabel}
+
+-- ---- words
+
+small_quotable : (b : ℕ) → is_ascii_lowercase b ≡ true → is_quotable b ≡ true
+small_quotable b h = grind (arith, nat_tests)
+
+word_quotable : (b : ℕ) → goes_on b ≡ true → is_quotable b ≡ true
+word_quotable b h = grind (arith, nat_tests)
+
+stand_for_themselves : (bs : List ℕ) → AllPass goes_on bs → Quotes bs bs
+stand_for_themselves [] h = nothing
+stand_for_themselves (b ∷ bs) h = byte (word_quotable b h.0) (stand_for_themselves bs h.1)
+
+name_quotes : (bs : List ℕ) → IsWord is_ascii_lowercase bs → Quotes bs bs
+name_quotes [] h = absurd h
+name_quotes (b ∷ bs) h = byte (small_quotable b h.0) (stand_for_themselves bs h.1)
+
+at_most : (a b : ℕ) → (b < a → ⊥) → a ≤ b
+at_most a b h = elim (cases_lt b a) [
+  | inl l ↦ absurd (h l)
+  | inr l ↦ l
+]
+
+not_quote : (a b : Bool) → (a && not b) ≡ true → b ≡ false
+not_quote true true h = cc
+not_quote true false h = refl
+not_quote false b h = absurd (cc)
+
+undouble : {inside name : List ℕ} → Quotes inside name → undoubled inside ≡ name
+undouble nothing = refl
+undouble (quote h) = ap (λ z. 39 ∷ z) (undouble h)
+undouble (byte {b = b} {bs = bs} e h) = undoubled_other b bs (not_quote _ (b == 39) e) ∙ ap (λ z. b ∷ z) (undouble h)
+
+quoted_name_is : (bytes name : List ℕ) → IsQuoted bytes name → between_quotes bytes ≡ name
+quoted_name_is bytes name q =
+    let size = ap length q.stands in
+    let sum = length-append q.inside (39 ∷ []) in
+    let n : length q.inside ≡ length bytes - 2 = omega arith in
+    ap (λ x. undoubled (take (length bytes - 2) (drop 1 x))) q.stands ∙ ap undoubled (take_at q.inside (39 ∷ []) (length bytes - 2) n) ∙ undouble q.quotes
+
+abbrev NameSpelled : List ℕ → Type 0
+NameSpelled name = IsSpelled (tree.named name)
+
+-- what a word of a kind means
+abbrev IsRightWord : Kind → List ℕ → Type 0
+IsRightWord kind.Name bytes = NameSpelled (name_spelled kind.Name bytes)
+IsRightWord kind.Quoted bytes = NameSpelled (name_spelled kind.Quoted bytes)
+IsRightWord kind.Mod bytes = NameSpelled (name_spelled kind.Mod bytes)
+IsRightWord kind.Context bytes = IsContextName (name_spelled kind.Context bytes)
+IsRightWord kind.RuleCtx bytes = IsContextName (name_spelled kind.RuleCtx bytes)
+IsRightWord kind.Int bytes = InRange bytes
+IsRightWord _ bytes = Unit {0}
+
+in_range : (bytes : List ℕ) → ((InRange bytes → ⊥) → ⊥) → InRange bytes
+in_range [] h = absurd (h (λ r. r))
+in_range (b ∷ bs) h = elim (cases_order b 45) [
+  | inl same ↦ inl (same, at_most (value_behind 0 bs) (2 ^ 63) (λ more. h (λ r. below same more r)))
+  | inr other ↦ inr (unequal other, at_most (value_behind 0 (b ∷ bs)) (2 ^ 63 - 1) (λ more. h (λ r. above (unequal other) more r)))
+]
+  where
+    unequal : (b < 45) ⊎ (45 < b) → b ≢ 45
+    unequal (inl l) e = omega arith
+    unequal (inr l) e = omega arith
+
+    below : b ≡ 45 → 2 ^ 63 < value_behind 0 bs → InRange (b ∷ bs) → ⊥
+    below same more (inl (e, l)) = omega arith
+    below same more (inr (e, l)) = e same
+
+    above : b ≢ 45 → 2 ^ 63 - 1 < value_behind 0 (b ∷ bs) → InRange (b ∷ bs) → ⊥
+    above other more (inl (e, l)) = other e
+    above other more (inr (e, l)) = omega arith
+
+right_word : (minus : Bool) (k : Kind) (bytes after : List ℕ) → Spells minus k bytes → ((code : ℕ) → TokenFault k bytes after code → ⊥) → IsRightWord k bytes
+right_word minus kind.Name bytes after s right = (at_most (length bytes) 255 (λ l. right 5 (long_name l)), (bytes, name_quotes bytes s.0))
+right_word minus kind.Quoted bytes after s right =
+    let q = s.1 in
+    subst NameSpelled (sym (quoted_name_is bytes s.0 q)) (at_most (length s.0) 255 (λ l. right 5 (long_name (s.0, q, l))), (q.inside, q.quotes))
+right_word minus kind.Mod bytes after s right = subst NameSpelled (sym s) (omega arith, (codes "mod", byte refl (byte refl (byte refl nothing))))
+right_word minus kind.Context [] after s right = absurd s
+right_word minus kind.Context (b ∷ bs) after s right = (at_most (length bs) 255 (λ l. right 5 (long_name (omega (arith, l)))), s.1)
+right_word minus kind.RuleCtx [] after s right = absurd s
+right_word minus kind.RuleCtx (b ∷ bs) after s right = (at_most (length bs) 255 (λ l. right 5 (long_name (omega (arith, l)))), s.1)
+right_word minus kind.Int bytes after s right = in_range bytes (λ out. right 4 (integer_out_of_range refl (λ fraction. right 6 (floating_point refl fraction)) out))
+right_word minus _ bytes after s right = tt
+
+-- an integer in range
+minus_in_range : (n : ℕ) → n ≤ 2 ^ 63 → guards.InRange (minus_of n)
+minus_in_range zero h = (record { le = tt }, record { lt = lt→ltb 0 (2 ^ 63) (omega arith) })
+minus_in_range (suc n) h = (record { le = le→leb n (2 ^ 63 - 1) (omega (arith, h)) }, record { lt = tt })
+
+integer_in_range : (bytes : List ℕ) → InRange bytes → guards.InRange (integer_of bytes)
+integer_in_range [] h = absurd h
+integer_in_range (b ∷ bs) h = go (b == 45) refl h
+  where
+    go : (t : Bool) → (b == 45) ≡ t → InRange (b ∷ bs) → guards.InRange (if t then minus_of (value_behind 0 bs) else pos (value_behind 0 (b ∷ bs)))
+    go true e (inl (same, l)) = minus_in_range (value_behind 0 bs) l
+    go true e (inr (other, l)) = absurd (other (grind (arith, nat_tests, e)))
+    go false e (inl (same, l)) = absurd (let no : ¬ (b ≡ 45) = grind (arith, nat_tests, e) in no same)
+    go false e (inr (other, l)) = (record { le = tt }, record { lt = lt→ltb (value_behind 0 (b ∷ bs)) (2 ^ 63) (omega (arith, l)) })
+
+-- ---- tokens
+
+token_there : (o : Option Token) (k : Kind) → option_map (λ (t : Token). t.kind) o ≡ Some k → (t : Token) × (o ≡ Some t) × (t.kind ≡ k)
+token_there None k h = absurd (cc)
+token_there (Some t) k h = (t, refl, cc)
+
+sound_at : (text : List ℕ) (before : List Token) (p : ℕ) (t : Token) → AllByRecursion (IsSound text) before → slice_get (before ++ token_of kind.End text [] ∷ []) p ≡ Some t → IsRightWord t.kind (bytes_of text t)
+sound_at text [] zero t h e = let P : Token → Type 0 = λ t. IsRightWord t.kind (bytes_of text t) in subst P (same_Some _ t e) tt
+sound_at text [] (suc zero) t h e = absurd (cc)
+sound_at text [] (suc (suc p)) t h e = absurd (cc)
+sound_at text (u ∷ before) zero t h e =
+    let s = h.0 in
+    let P : Token → Type 0 = λ t. IsRightWord t.kind (bytes_of text t) in
+    subst P (same_Some u t e) (right_word s.minus u.kind (bytes_of text u) (drop u.end text) s.spells s.right)
+sound_at text (u ∷ before) (suc p) t h e = sound_at text before p t h.1 e
+
+module _ (text : List ℕ) (tokens : List Token) (cut : Cuts text tokens) (none : NothingWrong text) (places : List Pos) (names : List tree.Name) (is : IsNames names) (holds : Holds names text tokens) where
+  abbrev words : List Word
+  words = words_of text tokens
+
+  right_at : (p : ℕ) (t : Token) → slice_get tokens p ≡ Some t → IsRightWord t.kind (bytes_of text t)
+  right_at p t e =
+      let sound = tokens_are_sound text tokens cut none in
+      sound_at text sound.0 p t sound.1 (ap (λ ts. slice_get ts p) (sym sound.2) ∙ e)
+
+  -- the token at a place: its word, what it means, and that its name is held
+  record TokenHere (p : ℕ) (k : Kind) : Type 0 where
+    pub bytes : List ℕ
+    pub word : word_at words places p ≡ record { kind = k; bytes = bytes }
+    pub right : IsRightWord k bytes
+    pub held : HasName k → Contains names (name_spelled k bytes)
+
+  token_here : (p : ℕ) (k : Kind) → At tokens p k → TokenHere p k
+  token_here p k h =
+      let there = token_there (slice_get tokens p) k (sym (slice_get-map (λ (t : Token). t.kind) tokens p) ∙ h) in
+      let t = there.0 in
+      let bytes = bytes_of text t in
+      let word = get_or_from_slice_get words p (word_of text t) end_word (slice_get-map (word_of text) tokens p ∙ ap (option_map (word_of text)) there.1) in
+      let P : Kind → Type 0 = λ k. IsRightWord k bytes in
+      let Q : Kind → Type 0 = λ k. HasName k → Contains names (name_spelled k bytes) in
+      record {
+        bytes = bytes;
+        word = word ∙ ap (λ k. record { kind = k; bytes = bytes }) there.2;
+        right = subst P there.2 (right_at p t there.1);
+        held = subst Q there.2 (holds.token p t there.1);
+      }
+
+  name_here : (p : ℕ) (k : Kind) → At tokens p k → ((bytes : List ℕ) → IsRightWord k bytes → Contains names (name_spelled k bytes) → IsLabel names is (label_spelled k bytes)) → HasName k
+      → IsLabel names is (label_at words places p)
+  name_here p k h means named =
+      let t = token_here p k h in
+      let P : Word → Type 0 = λ w. IsLabel names is (label_spelled w.kind w.bytes) in
+      subst P (sym t.word) (means t.bytes t.right (t.held named))
+
+  label_here : (p : ℕ) → NameAt tokens p → IsLabel names is (label_at words places p)
+  label_here p (inl h) = name_here p kind.Name h (λ bytes r c. (r, c)) tt
+  label_here p (inr (inl h)) = name_here p kind.Quoted h (λ bytes r c. (r, c)) tt
+  label_here p (inr (inr h)) = name_here p kind.Mod h (λ bytes r c. (r, c)) tt
+
+  number_here : (p : ℕ) → At tokens p kind.Int → IsLabel names is (label_at words places p) × IntegerAt (IsLabel names is) (IsContext names is) words places p
+  number_here p h =
+      let t = token_here p kind.Int h in
+      let P : Word → Type 0 = λ w. IsLabel names is (label_spelled w.kind w.bytes) in
+      let Q : Word → Type 0 = λ w. guards.InRange (integer_of w.bytes) in
+      let range = integer_in_range t.bytes t.right in
+      (subst P (sym t.word) (fits (integer_of t.bytes) range), subst Q (sym t.word) range)
+
+  context_here : (p : ℕ) (k : Kind) → At tokens p k → (IsRightWord k ≡ λ bytes. IsContextName (name_spelled k bytes)) → HasName k → IsContext names is (name_at words places p)
+  context_here p k h means named =
+      let t = token_here p k h in
+      let P : Word → Type 0 = λ w. IsContext names is (name_spelled w.kind w.bytes) in
+      subst P (sym t.word) ((subst (λ (f : List ℕ → Type 0). f t.bytes) means t.right), t.held named)
+
+  -- what the tokens mean may stand
+  pub right_tokens : RightTokens (IsLabel names is) (IsContext names is) words places tokens
+  right_tokens = record {
+    cell = ((omega arith, (codes ".", byte refl nothing)), holds.cell);
+    empty = ((omega arith, (codes "[]", byte refl (byte refl nothing))), holds.empty);
+    plus = ((omega arith, (codes "+", byte refl nothing)), holds.plus);
+    equals = ((omega arith, (codes "=", byte refl nothing)), holds.equals);
+    label = label_here;
+    number = number_here;
+    context = λ p h. context_here p kind.Context h refl tt;
+    rule_context = λ p h. context_here p kind.RuleCtx h refl tt;
+  }

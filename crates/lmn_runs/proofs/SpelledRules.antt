@@ -1,0 +1,280 @@
+-- A text can spell the rules and the top of the plain of a tree, where it can spell what their tokens mean.
+use Rattle.std.proofs.Common.{◌≡◌, ◌≢◌, ℕ, zero, suc, ◌+◌, ◌<◌, ◌≤◌, ◌^◌, ◌==◌, Bool, true, false, if◌then◌else◌, List, [], ◌∷◌, ◌++◌, map, length, get_or, slice_get, Some, All, refl, sym, ap, ◌∙◌, subst, arith}
+use Rattle.std.specs.Prelude.{Contains, codes}
+use Rattle.std.specs.List.{AllByRecursion, flat_map}
+use Rattle.std.proofs.lemmas.List.{append-nil}
+use Rattle.std.proofs.lemmas.Option.{get_or_from_slice_get, same_Some}
+use Rattle.lmn_base.specs.declared.functor.Label.TheVariants.{Name as Named}
+use Rattle.lmn_base.specs.declared.functor.TheConstants.{INT_NAME, UNARY_NAME, GROUND_NAME}
+use Rattle.lmn_base.specs.declared.guard.Cond.{Cond}
+use Rattle.lmn_base.specs.declared.guard.Expr.{Expr}
+use Rattle.lmn_base.specs.declared.guard.Expr.TheFolds.{fold-roll-Expr}
+use Rattle.lmn_base.specs.declared.level.CtxUse.{CtxUse}
+use Rattle.lmn_base.specs.declared.level.Level as base_level
+use Rattle.lmn_base.specs.declared.level.Level.TheFolds.{fold-roll-Level}
+use Rattle.lmn_base.specs.declared.level.Occ.{Occ}
+use Rattle.lmn_base.specs.declared.refusal.Pos.{Pos}
+use Rattle.lmn_base.specs.declared.rule.Plain.{Plain}
+use Rattle.lmn_base.specs.declared.rule.RuleTree.{RuleTree}
+use Rattle.lmn_base.specs.Levels.{links_of as base_links, rules_of}
+use Rattle.lmn_base.specs.Links.{NumbersLinks}
+use Rattle.lmn_base.specs.Names.{IsNames}
+use Rattle.lmn_base.specs.WellMade.{IsWellMade, IsWellMadeRule}
+use Rattle.lmn_congruence.specs.Orders.{Among, at_head, further}
+use Rattle.lmn_congruence.specs.Rules as tree
+use Rattle.lmn_congruence.specs.Rules.{Name}
+use Rattle.lmn_congruence.specs.Translation.{atom_of, condition_of, expression_of, kind_of, leaf_of, level_of, level_step, levels, name_of, names_of, numbered_rule, rules, top_of}
+use Rattle.lmn_congruence.specs.Translation as translation
+use Rattle.lmn_congruence.proofs.Appended.{all_left, all_right}
+use Rattle.lmn_congruence.proofs.NumberedRules.{rule_has_number}
+use Rattle.lmn_lexer.specs.Laying.{Word}
+use Rattle.lmn_parser.specs.Syntax as syntax
+use Rattle.lmn_parser.specs.Syntax.{Clauses}
+use Rattle.lmn_plain.specs.Expanded.{Context, Leaf, Level, Levels, Rule, atom_leaf, leaf_links, leaves_links, level, level_and, links_in, links_of, no_level, typed_leaf, use_links}
+use Rattle.lmn_plain.specs.Links.{Link, Use}
+use Rattle.lmn_plain.specs.Plains.{Each, IsCond, IsExpr, IsRuleOf, all_numbered, context_use, number_of, numbered, numbered_context, numbered_leaf, numbered_use}
+use Rattle.lmn_plain.specs.Spelled.{ConditionSpelled, ExpressionSpelled, IsContextName, IsLinkNumber, LeafSpelled, LevelSpelled, LevelsSpelled, NoConnector, RuleSpelled, RulesSpelled}
+use Rattle.lmn_plain.proofs.Fitting.{numbers_in, rule_numbers}
+use Rattle.lmn_plain.proofs.HeldLabels.{connector_number, held_back}
+use Rattle.lmn_plain.proofs.NumberedLevels.{links_numbered, rules_numbered}
+use Rattle.lmn_plain.proofs.SolidNumbers.{there}
+use Rattle.lmn_print.specs.Laws.{IsSpelled}
+use Rattle.lmn_adequacy.proofs.Orders.{among_left, among_map, among_right}
+use Rattle.lmn_runs.proofs.Counted.{numbers_below}
+use Rattle.lmn_runs.proofs.GoodLevels.{fits}
+use Rattle.lmn_runs.proofs.SpelledParts.{ConditionRight, ContextRight, ExprRight, LeafRight, LevelRight, LevelsRight, RuleRight, TokenRight}
+
+-- the conditions of a guard are those of the language
+abbrev pub NoneUnknown : List tree.Condition → Type 0
+NoneUnknown [] = Unit {0}
+NoneUnknown (tree.unknown n ns ∷ cs) = ⊥
+NoneUnknown (tree.is_kind k p ∷ cs) = NoneUnknown cs
+NoneUnknown (tree.compares c e f ∷ cs) = NoneUnknown cs
+NoneUnknown (tree.equates p e ∷ cs) = NoneUnknown cs
+NoneUnknown (tree.differs p q ∷ cs) = NoneUnknown cs
+
+module _ (names : List Name) (is : IsNames names) where
+  -- labels and names of contexts that a text can spell and the list holds
+  abbrev pub IsLabel : tree.Label → Type 0
+  IsLabel (tree.named n) = IsSpelled (tree.named n) × Contains names n
+  IsLabel (tree.integer z) = IsSpelled (tree.integer z)
+
+  abbrev pub IsContext : Name → Type 0
+  IsContext n = IsContextName n × Contains names n
+
+  context_back : (n : Name) → IsContext n → IsContextName (name_of names (number_of names n))
+  context_back n h = subst IsContextName (sym (held_back names n h.1)) h.0
+
+  -- ---- leaves
+
+  named_leaf : (n : Name) (xs : List ℕ) → IsLabel (tree.named n) → AllByRecursion IsLinkNumber xs → LeafSpelled (atom_of names (Named (number_of names n)) xs)
+  named_leaf n xs h small = go (number_of names n) refl xs small
+    where
+      spelled : (k : ℕ) → number_of names n ≡ k → IsSpelled (tree.named (name_of names k))
+      spelled k e = subst (λ m. IsSpelled (tree.named m)) (sym (held_back names n h.1) ∙ ap (name_of names) e) h.0
+
+      apart : (j : ℕ) → number_of names n ≡ suc j → name_of names (suc j) ≢ codes "="
+      apart j e f =
+          let same : n ≡ codes "=" = sym (held_back names n h.1) ∙ ap (name_of names) e ∙ f in
+          let zero_is : number_of names n ≡ 0 = ap (number_of names) same ∙ connector_number names is in
+          absurd (omega (arith, e, zero_is))
+
+      other : (j : ℕ) → number_of names n ≡ suc j → (xs : List ℕ) → NoConnector (tree.named (name_of names (suc j))) xs
+      other j e [] = tt
+      other j e (x ∷ []) = tt
+      other j e (x ∷ y ∷ []) = apart j e
+      other j e (x ∷ y ∷ z ∷ xs) = tt
+
+      go : (k : ℕ) → number_of names n ≡ k → (xs : List ℕ) → AllByRecursion IsLinkNumber xs → LeafSpelled (atom_of names (Named k) xs)
+      go zero e [] s = (spelled 0 e, tt, tt)
+      go zero e (x ∷ []) s = (spelled 0 e, s, tt)
+      go zero e (x ∷ y ∷ []) s = (s.0, s.1.0)
+      go zero e (x ∷ y ∷ z ∷ xs) s = (spelled 0 e, s, tt)
+      go (suc j) e xs s = (spelled (suc j) e, s, other j e xs)
+
+  module _ (number : Link → ℕ) (ρ : ℕ → tree.Rule) where
+    -- the links have numbers that can be spelled
+    abbrev Small : List Link → Type 0
+    Small xs = (x : Link) → Among x xs → number x < 2 ^ 64
+
+    small_uses : (us : List Use) → Small (use_links us) → AllByRecursion IsLinkNumber (map (λ (o : Occ). o.link) (map (numbered_use names number) us))
+    small_uses [] h = tt
+    small_uses (u ∷ us) h = (h u.link at_head, small_uses us (λ x i. h x (further i)))
+
+    leaf_spelled : (l : Leaf) → LeafRight IsLabel IsContext l → Small (leaf_links l) → LeafSpelled (leaf_of names (numbered_leaf names number l))
+    leaf_spelled (atom_leaf (tree.named n) us place) h s = named_leaf n _ h (small_uses us s)
+    leaf_spelled (atom_leaf (tree.integer z) us place) h s = (h, small_uses us s, tt)
+    leaf_spelled (typed_leaf n u place) h s = (context_back n h, s u.link at_head)
+
+    leaves_spelled : (ls : List Leaf) → AllByRecursion (LeafRight IsLabel IsContext) ls → Small (leaves_links ls) → AllByRecursion LeafSpelled (map (leaf_of names) (map (numbered_leaf names number) ls))
+    leaves_spelled [] h s = tt
+    leaves_spelled (l ∷ ls) h s = (leaf_spelled l h.0 (λ x i. s x (among_left (leaves_links ls) i)), leaves_spelled ls h.1 (λ x i. s x (among_right (leaf_links l) i)))
+
+    contexts_spelled : (cs : List Context) → AllByRecursion (ContextRight IsLabel IsContext) cs → AllByRecursion IsContextName (names_of names (map (numbered_context names number) cs))
+    contexts_spelled [] h = tt
+    contexts_spelled (c ∷ cs) h = (context_back c.name h.0, contexts_spelled cs h.1)
+
+    abbrev T : ℕ → Type 0
+    T k = RuleSpelled (ρ k)
+
+    each_spelled : (ks : List ℕ) → All T ks → RulesSpelled (rules (map ρ ks))
+    each_spelled [] h = tt
+    each_spelled (k ∷ ks) h = (h zero k (omega arith), each_spelled ks (all_right T (k ∷ []) ks h))
+
+    -- ---- levels
+
+    -- the level of the calculus, by recursion on the level
+    abbrev mutual
+      tree_level : Level → tree.Level
+      tree_level (level ls ms cs os rs) =
+          tree.level (map (leaf_of names) (map (numbered_leaf names number) ls)) (tree_levels ms)
+          (names_of names (map (numbered_context names number) cs)) (names_of names (map (numbered_context names number) os)) (rules (map ρ rs))
+
+      tree_levels : Levels → tree.Levels
+      tree_levels no_level = tree.no_level
+      tree_levels (level_and l ls) = tree.level_and (tree_level l) (tree_levels ls)
+
+    two : {a b : tree.Level} {ks ls : tree.Levels} → a ≡ b → ks ≡ ls → tree.level_and a ks ≡ tree.level_and b ls
+    two e f = cc
+
+    mutual
+      as_tree : (l : Level) → level_of names ρ (numbered names number l) ≡ tree_level l
+      as_tree (level ls ms cs os rs) =
+          fold-roll-Level tree.Level (level_step names ρ) _
+          ∙ ap (λ ks. tree.level (map (leaf_of names) (map (numbered_leaf names number) ls)) ks
+          (names_of names (map (numbered_context names number) cs)) (names_of names (map (numbered_context names number) os)) (rules (map ρ rs))) (as_trees ms)
+
+      as_trees : (ls : Levels) → levels (map (level_of names ρ) (all_numbered names number ls)) ≡ tree_levels ls
+      as_trees no_level = refl
+      as_trees (level_and l ls) = two (as_tree l) (as_trees ls)
+
+    mutual
+      tree_spelled : (l : Level) → LevelRight IsLabel IsContext l → Small (links_of l) → All T (rule_numbers l) → LevelSpelled (tree_level l)
+      tree_spelled (level ls ms cs os rs) h s k = (
+        leaves_spelled ls h.0 (λ x i. s x (among_left (links_in ms) i)),
+        trees_spelled ms h.1 (λ x i. s x (among_right (leaves_links ls) i)) (all_right T rs (numbers_in ms) k),
+        contexts_spelled cs h.2,
+        contexts_spelled os h.3,
+        each_spelled rs (all_left T rs (numbers_in ms) k),
+      )
+
+      trees_spelled : (ls : Levels) → LevelsRight IsLabel IsContext ls → Small (links_in ls) → All T (numbers_in ls) → LevelsSpelled (tree_levels ls)
+      trees_spelled no_level h s k = tt
+      trees_spelled (level_and l ls) h s k = (
+        tree_spelled l h.0 (λ x i. s x (among_left (links_in ls) i)) (all_left T (rule_numbers l) (numbers_in ls) k),
+        trees_spelled ls h.1 (λ x i. s x (among_right (links_of l) i)) (all_right T (rule_numbers l) (numbers_in ls) k),
+      )
+
+    -- a level with numbers for names and links
+    pub level_spelled : (l : Level) (b : base_level.Level) → b ≡ numbered names number l → LevelRight IsLabel IsContext l → Small (links_of l) → All T (rules_of b) → LevelSpelled (level_of names ρ b)
+    level_spelled l b e h s k =
+        let numbers : All T (rule_numbers l) = subst (All T) (ap rules_of e ∙ rules_numbered names number l) k in
+        subst LevelSpelled (sym (ap (level_of names ρ) e ∙ as_tree l)) (tree_spelled l h s numbers)
+
+  -- ---- guards
+
+  module _ (words : List Word) (places : List Pos) where
+    expression_spelled : (e : syntax.Expr) (x : Expr) → IsExpr words places names e x → ExprRight IsLabel IsContext words places e → ExpressionSpelled (expression_of names x)
+    expression_spelled (syntax.integer p) x i h =
+        subst ExpressionSpelled (sym (ap (expression_of names) i ∙ fold-roll-Expr tree.Expression (translation.expression_step names) _)) (fits _ h)
+    expression_spelled (syntax.value p) x i h =
+        subst ExpressionSpelled (sym (ap (expression_of names) i ∙ fold-roll-Expr tree.Expression (translation.expression_step names) _)) (context_back _ h)
+    expression_spelled (syntax.operation op l r) x (left, right, i, a, b) h =
+        subst ExpressionSpelled (sym (ap (expression_of names) i ∙ fold-roll-Expr tree.Expression (translation.expression_step names) _))
+        (expression_spelled l left.value a h.0, expression_spelled r right.value b h.1)
+
+    first_of : (ps : List ℕ) → AllByRecursion (TokenRight IsLabel IsContext words places) ps → AllByRecursion IsContextName (names_of names (map (context_use words places names) ps))
+    first_of [] h = tt
+    first_of (p ∷ ps) h = (context_back _ h.0, first_of ps h.1)
+
+    -- the condition with this name and context, by what the number of its name is
+    abbrev kind_by : ℕ → CtxUse → Bool → Bool → Bool → tree.Condition
+    kind_by n u a b c =
+        if a then tree.is_kind tree.int (name_of names u.name) else (if b then tree.is_kind tree.unary (name_of names u.name)
+        else (if c then tree.is_kind tree.grounded (name_of names u.name) else tree.unknown (name_of names n) (names_of names (u ∷ []))))
+
+    kind_spelled : (n : ℕ) (us : List CtxUse) (cs : List tree.Condition) → AllByRecursion IsContextName (names_of names us) → NoneUnknown (kind_of names n us ∷ cs) → ConditionSpelled (kind_of names n us) × NoneUnknown cs
+    kind_spelled n [] cs h k = absurd k
+    kind_spelled n (u ∷ []) cs h k = go (n == INT_NAME) (n == UNARY_NAME) (n == GROUND_NAME) k
+      where
+        go : (a b c : Bool) → NoneUnknown (kind_by n u a b c ∷ cs) → ConditionSpelled (kind_by n u a b c) × NoneUnknown cs
+        go true b c k = (h.0, k)
+        go false true c k = (h.0, k)
+        go false false true k = (h.0, k)
+        go false false false k = absurd k
+    kind_spelled n (u ∷ v ∷ us) cs h k = absurd k
+
+    guard_spelled : (cs : List syntax.Condition) (xs : List Cond) → Each (IsCond words places names) cs xs → AllByRecursion (ConditionRight IsLabel IsContext words places) cs
+        → NoneUnknown (map (condition_of names) xs) → AllByRecursion ConditionSpelled (map (condition_of names) xs)
+    guard_spelled [] [] i h k = tt
+    guard_spelled [] (x ∷ xs) i h k = absurd i
+    guard_spelled (c ∷ cs) [] i h k = absurd i
+    guard_spelled (syntax.called p ps ∷ cs) (x ∷ xs) i h k =
+        let more = map (condition_of names) xs in
+        let P : tree.Condition → Type 0 = λ y. NoneUnknown (y ∷ more) in
+        let u = kind_spelled _ (map (context_use words places names) ps) more (first_of ps h.0) (subst P (ap (condition_of names) i.0) k) in
+        (subst ConditionSpelled (sym (ap (condition_of names) i.0)) u.0, guard_spelled cs xs i.1 h.1 u.1)
+    guard_spelled (syntax.compared op l r s ∷ cs) (x ∷ xs) ((left, right, e, a, b), i) h k =
+        let more = map (condition_of names) xs in
+        let P : tree.Condition → Type 0 = λ y. NoneUnknown (y ∷ more) in
+        (subst ConditionSpelled (sym (ap (condition_of names) e)) (expression_spelled l left a h.0.0, expression_spelled r right b h.0.1), guard_spelled cs xs i h.1 (subst P (ap (condition_of names) e) k))
+    guard_spelled (syntax.equal p r s ∷ cs) (x ∷ xs) ((right, e, a), i) h k =
+        let more = map (condition_of names) xs in
+        let P : tree.Condition → Type 0 = λ y. NoneUnknown (y ∷ more) in
+        (subst ConditionSpelled (sym (ap (condition_of names) e)) (context_back _ h.0.0, expression_spelled r right a h.0.1), guard_spelled cs xs i h.1 (subst P (ap (condition_of names) e) k))
+    guard_spelled (syntax.different p q s ∷ cs) (x ∷ xs) (e, i) h k =
+        let more = map (condition_of names) xs in
+        let P : tree.Condition → Type 0 = λ y. NoneUnknown (y ∷ more) in
+        (subst ConditionSpelled (sym (ap (condition_of names) e)) (context_back _ h.0.0, context_back _ h.0.1), guard_spelled cs xs i h.1 (subst P (ap (condition_of names) e) k))
+
+    -- ---- rules of a table
+
+    rule_here : (rs : List Rule) (ts : List RuleTree) → Each (IsRuleOf words places names) rs ts → AllByRecursion (RuleRight IsLabel IsContext words places) rs
+        → (k : ℕ) (t : RuleTree) → slice_get ts k ≡ Some t → (r : Rule) × IsRuleOf words places names r t × RuleRight IsLabel IsContext words places r
+    rule_here [] [] i h zero t e = absurd (cc)
+    rule_here [] [] i h (suc k) t e = absurd (cc)
+    rule_here [] (u ∷ ts) i h k t e = absurd i
+    rule_here (r ∷ rs) [] i h k t e = absurd i
+    rule_here (r ∷ rs) (u ∷ ts) i h zero t e =
+        let P : RuleTree → Type 0 = IsRuleOf words places names r in (r, subst P (same_Some u t e) i.0, h.0)
+    rule_here (r ∷ rs) (u ∷ ts) i h (suc k) t e = rule_here rs ts i.1 h.1 k t e
+
+    module _ (p : Plain) (well : IsWellMade p) (rs : List Rule) (each : Each (IsRuleOf words places names) rs p.rules) (right : AllByRecursion (RuleRight IsLabel IsContext words places) rs)
+        (few : (k : ℕ) (t : RuleTree) → slice_get p.rules k ≡ Some t → length t.links ≤ 2 ^ 64)
+        (known : (k : ℕ) (t : RuleTree) → slice_get p.rules k ≡ Some t → NoneUnknown (map (condition_of names) t.guard)) where
+      abbrev rule_at : ℕ → tree.Rule
+      rule_at = numbered_rule names p.rules
+
+      spelled_rule : (m k : ℕ) → length p.rules ≤ k + m → k < length p.rules → RuleSpelled (rule_at k)
+      spelled_rule zero k h l = absurd (omega (arith, h, l))
+      spelled_rule (suc m) k h l =
+          let found = there p.rules k l in
+          let t = found.0 in
+          let here = rule_here rs p.rules each right k t found.1 in
+          let r = here.0 in
+          let i = here.1 in
+          let P : RuleTree → Type 0 = IsWellMadeRule in
+          let made = subst P (get_or_from_slice_get p.rules k t t found.1) (well.each_rule k t l) in
+          let table = made.table in
+          let inside = well.rules_in_rules k t found.1 in
+          let T : ℕ → Type 0 = λ j. RuleSpelled (rule_at j) in
+          let all : All T (rules_of t.head ++ rules_of t.body) =
+          (λ j d b. let u = inside j d b in spelled_rule m (get_or (rules_of t.head ++ rules_of t.body) j d) (omega (arith, h, u.0)) u.1) in
+          let Q : List ℕ → Type 0 = λ xs. NumbersLinks xs (length t.links) in
+          let same : flat_map base_links (t.head ∷ t.body ∷ []) ≡ map i.number (links_of r.head) ++ map i.number (links_of r.body) =
+          ap (λ xs. base_links t.head ++ xs) (append-nil (base_links t.body))
+          ∙ ap (λ xs. xs ++ base_links t.body) (ap base_links i.head ∙ links_numbered names i.number r.head)
+          ∙ ap (λ xs. map i.number (links_of r.head) ++ xs) (ap base_links i.body ∙ links_numbered names i.number r.body) in
+          let numbers = subst Q same table.numbered in
+          let most = few k t found.1 in
+          let small : (x : ℕ) → Among x (map i.number (links_of r.head) ++ map i.number (links_of r.body)) → x < 2 ^ 64 =
+          (λ x a. let b = numbers_below numbers x a in omega (arith, b, most)) in
+          let R : tree.Rule → Type 0 = RuleSpelled in
+          subst R (sym (rule_has_number names p k t well found.1)) (
+            level_spelled i.number rule_at r.head t.head i.head here.2.0 (λ x a. small (i.number x) (among_left (map i.number (links_of r.body)) (among_map i.number a))) (all_left T (rules_of t.head) (rules_of t.body) all),
+            guard_spelled r.guard t.guard i.guard here.2.1 (known k t found.1),
+            level_spelled i.number rule_at r.body t.body i.body here.2.2 (λ x a. small (i.number x) (among_right (map i.number (links_of r.head)) (among_map i.number a))) (all_right T (rules_of t.head) (rules_of t.body) all),
+          )
+
+      pub rules_spelled : (k : ℕ) → k < length p.rules → RuleSpelled (rule_at k)
+      rules_spelled k l = spelled_rule (length p.rules) k (omega arith) l

@@ -1,0 +1,450 @@
+-- What is printed of a trace is a run.
+use Rattle.std.proofs.Common.{◌≡◌, ℕ, ◌+◌, ◌*◌, ◌^◌, ◌<◌, ◌≤◌, ◌⊎◌, ◌↔◌, inl, inr, Bool, true, false, List, [], ◌∷◌, ◌++◌, map, length, get_or, All, refl, sym, ap, ◌∙◌, subst, arith}
+use Rattle.std.specs.Prelude.{sum}
+use Rattle.std.specs.List.{AllByRecursion, flat_map}
+use Rattle.std.proofs.lemmas.List.Elements.{All-from_recursion}
+use Rattle.std.specs.declared.alloc.Global.{Global}
+use Rattle.std.proofs.lemmas.List.{length-append, length-map, map-append}
+use Rattle.std.proofs.lemmas.List.Sums.{sum_by-cons}
+use Rattle.lmn_base.specs.declared.rule.Plain.{Plain}
+use Rattle.lmn_base.specs.declared.rule.RuleTree.{RuleTree}
+use Rattle.lmn_base.specs.declared.solid.Solid.{Solid}
+use Rattle.lmn_base.specs.declared.solid.SolidAtom as base_atom
+use Rattle.lmn_base.specs.declared.solid.Region as base_region
+use Rattle.lmn_base.specs.declared.solid.Region.TheFolds.{fold-Region, fold-roll-Region, ind-Region}
+use Rattle.lmn_base.specs.declared.solid.Region.TheViews.{roll-Region}
+use Rattle.lmn_base.specs.Levels.{contexts_of, leaves_of, rule_contexts_of, rules_of}
+use Rattle.lmn_base.specs.Links.{NumbersLinks}
+use Rattle.lmn_base.specs.Names.{HasNames, IsNames, NamesSolid, context_names, label_names, leaf_names, level_names, rule_names}
+use Rattle.lmn_base.specs.Solids.{HasRules, atoms_step, items_of, items_step, rules_step}
+use Rattle.lmn_congruence.specs.Orders.{Among, at_head, further}
+use Rattle.lmn_congruence.specs.Plains.{leaf_process, level_process, levels_processes}
+use Rattle.lmn_congruence.specs.Process.{Closed, Process, membrane, pair, rule, together}
+use Rattle.lmn_congruence.specs.Regions.{Region, Regions, SolidAtom, atom_process, items, items_of_all, no_region, region, region_and, region_process, regions_processes}
+use Rattle.lmn_congruence.specs.Rules as tree
+use Rattle.lmn_congruence.specs.Rules.{Leaf, Level, Name, Rule, Rules, atom_leaf, body_of, level, level_and, named, integer, no_level, no_rule, rule_and, rules_list}
+use Rattle.lmn_congruence.specs.SolidsOfPlains.{IsSolidOf}
+use Rattle.lmn_congruence.specs.Translation.{numbered_rule, region_of, region_step, regions, solid_atom_of, top_of}
+use Rattle.lmn_congruence.proofs.Appended.{all_left, all_right}
+use Rattle.lmn_congruence.proofs.NumberedRules.{rule_has_number}
+use Rattle.lmn_congruence.proofs.SolidsOfPlains.{solids_of_plains}
+use Rattle.lmn_plain.specs.LinkNumbers.{AllRulesNumbered, EachNumbered, RuleNumbered, RulesNumbered, leaves_links, level_links, levels_links}
+use Rattle.lmn_plain.specs.NamesHeld.{LeafHeld, LevelHeld, LevelsHeld, RuleHeld, RulesHeld}
+use Rattle.lmn_plain.specs.Outside.{AllWithout, NoContexts, NotTyped}
+use Rattle.lmn_plain.specs.SolidLines.{as_level, as_levels, atom_as_leaf, rules as as_rules}
+use Rattle.lmn_plain.specs.Spelled.{IsLinkNumber, LeafSpelled, LevelSpelled, LevelsSpelled, RuleSpelled, RulesSpelled}
+use Rattle.lmn_plain.specs.Words.{line_of}
+use Rattle.lmn_plain.proofs.HeldSolids.{level_held}
+use Rattle.lmn_plain.proofs.SolidNames.{solid_held}
+use Rattle.lmn_plain.proofs.SolidNumbers.{solid_numbers, solid_rules_numbered, there}
+use Rattle.lmn_plain.proofs.TextPlains.{lines_read_back}
+use Rattle.lmn_adequacy.specs.Accepted.{Accepted, Throughout}
+use Rattle.lmn_adequacy.specs.Embedding.{AllRules, AllRulesIn, EachRule, Embeds}
+use Rattle.lmn_adequacy.specs.Next.{links_at}
+use Rattle.lmn_adequacy.specs.Numbered.{IsNumbered, printed_links, printed_links_in}
+use Rattle.lmn_adequacy.specs.Runs.{Chooser, End, Ends, Trace, Turn, budget_done, full, irreducible, loaded, none_allowed, nothing_embeds, too_many, turned}
+use Rattle.lmn_adequacy.proofs.Heads.{all_rules_so}
+use Rattle.lmn_adequacy.proofs.Orders.{among_left, among_right}
+use Rattle.lmn_adequacy.proofs.Results.{firings_commit, irreducible_exactly}
+use Rattle.lmn_adequacy.proofs.RulesStay.{next_rules}
+use Rattle.lmn_reduction.specs.Chains.{Commits, no_step, step_after}
+use Rattle.lmn_reduction.specs.Commits.{Commit, Irreducible}
+use Rattle.lmn_runs.specs.Laws.{IsPrintable, TracesAreRuns, solid_of}
+use Rattle.lmn_runs.specs.Runs.{AllLines, IsLineOf, Prints, Stop, StopsBy, StopsSo, at_end, first_line, next_line, no_memory, solid_line, solid_lines}
+use Rattle.lmn_runs.proofs.Counted.{numbers_below, numbers_count}
+use Rattle.lmn_runs.proofs.GoodLevels.{Good, GoodRule, LabelHeld, LevelFew, good_integer, integer_good, level_few, level_good, not_connector, rule_good}
+use Rattle.lmn_runs.proofs.LabelsStay.{AllAtoms, AllAtomsIn, Atoms, fused_good, next_atoms}
+use Rattle.lmn_runs.proofs.Tables.{solid_has_rules, solid_rules}
+
+-- ---- the process of a line
+
+same_rules : (rs : List Rule) → rules_list (as_rules rs) ≡ rs
+same_rules [] = refl
+same_rules (r ∷ rs) = ap (λ xs. r ∷ xs) (same_rules rs)
+
+same_atoms : (xs : List SolidAtom) → map leaf_process (map atom_as_leaf xs) ≡ map atom_process xs
+same_atoms [] = refl
+same_atoms (a ∷ xs) = ap (λ ps. atom_process a ∷ ps) (same_atoms xs)
+
+two : {a b : Process} {ps qs : List Process} → a ≡ b → ps ≡ qs → membrane a ∷ ps ≡ membrane b ∷ qs
+two e f = cc
+
+mutual
+  same_process : (r : Region) → level_process (as_level r) ≡ region_process r
+  same_process (region atoms membranes rs) =
+      ap (λ ps. pair (together ps) (pair (together (levels_processes (as_levels membranes))) (together (map rule (rules_list (as_rules rs)))))) (same_atoms atoms)
+      ∙ ap (λ ps. pair (together (map atom_process atoms)) (pair (together ps) (together (map rule (rules_list (as_rules rs)))))) (same_processes membranes)
+      ∙ ap (λ xs. pair (together (map atom_process atoms)) (pair (together (regions_processes membranes)) (together (map rule xs)))) (same_rules rs)
+
+  same_processes : (rs : Regions) → levels_processes (as_levels rs) ≡ regions_processes rs
+  same_processes no_region = refl
+  same_processes (region_and r rs) = two (same_process r) (same_processes rs)
+
+-- ---- its links
+
+atoms_links : (xs : List SolidAtom) → leaves_links (map atom_as_leaf xs) ≡ links_at xs
+atoms_links [] = refl
+atoms_links (a ∷ xs) = ap (λ ys. a.links ++ ys) (atoms_links xs)
+
+mutual
+  region_links : (r : Region) → level_links (as_level r) ≡ printed_links r
+  region_links (region xs ms rs) = ap (λ ys. ys ++ levels_links (as_levels ms)) (atoms_links xs) ∙ ap (λ ys. links_at xs ++ ys) (regions_links ms)
+
+  regions_links : (ms : Regions) → levels_links (as_levels ms) ≡ printed_links_in ms
+  regions_links no_region = refl
+  regions_links (region_and m ms) = ap (λ ys. ys ++ levels_links (as_levels ms)) (region_links m) ∙ ap (λ ys. printed_links m ++ ys) (regions_links ms)
+
+-- no context stands in it
+
+atoms_not_typed : (xs : List SolidAtom) → AllByRecursion NotTyped (map atom_as_leaf xs)
+atoms_not_typed [] = tt
+atoms_not_typed (a ∷ xs) = (tt, atoms_not_typed xs)
+
+mutual
+  no_contexts : (r : Region) → NoContexts (as_level r)
+  no_contexts (region atoms membranes rs) = (atoms_not_typed atoms, none_below membranes, refl, refl)
+
+  none_below : (rs : Regions) → AllWithout (as_levels rs)
+  none_below no_region = tt
+  none_below (region_and r rs) = (no_contexts r, none_below rs)
+
+module _ (names : List Name) where
+  abbrev AtomsGood : List SolidAtom → Type 0
+  AtomsGood = Atoms (Good names) (good_integer names) (integer_good names)
+
+  abbrev RegionGood : Region → Type 0
+  RegionGood = AllAtoms (Good names) (good_integer names) (integer_good names)
+
+  abbrev RegionsGood : Regions → Type 0
+  RegionsGood = AllAtomsIn (Good names) (good_integer names) (integer_good names)
+
+  -- as many ports as 255 for each item
+  few_ports : (xs : List SolidAtom) → AtomsGood xs → length (links_at xs) ≤ 255 * length xs
+  few_ports [] h = omega arith
+  few_ports (a ∷ xs) h =
+      let first = h a at_head in
+      omega (arith, length-append a.links (links_at xs), first.few, few_ports xs (λ b i. h b (further i)))
+
+  mutual
+    region_ports : (r : Region) → RegionGood r → length (printed_links r) ≤ 255 * items r
+    region_ports (region xs ms rs) h = omega (arith, length-append (links_at xs) (printed_links_in ms), few_ports xs h.0, regions_ports ms h.1)
+
+    regions_ports : (ms : Regions) → RegionsGood ms → length (printed_links_in ms) ≤ 255 * items_of_all ms
+    regions_ports no_region h = omega arith
+    regions_ports (region_and m ms) h = omega (arith, length-append (printed_links m) (printed_links_in ms), region_ports m h.0, regions_ports ms h.1)
+
+  -- ---- what a text can spell, and what the list holds
+
+  -- what is asked of each rule
+  pub record RuleFine (r : Rule) : Type 0 where
+    pub accepted : Accepted r
+    pub held : RuleHeld names r
+    pub numbered : RuleNumbered r
+    pub spelled : RuleSpelled r
+    pub good : GoodRule names r
+
+  rules_held : (rs : List Rule) → EachRule RuleFine rs → RulesHeld names (as_rules rs)
+  rules_held [] h = tt
+  rules_held (r ∷ rs) h = let f = h.0 in (f.held, rules_held rs h.1)
+
+  rules_numbered : (rs : List Rule) → EachRule RuleFine rs → EachNumbered (as_rules rs)
+  rules_numbered [] h = tt
+  rules_numbered (r ∷ rs) h = let f = h.0 in (f.numbered, rules_numbered rs h.1)
+
+  rules_spelled : (rs : List Rule) → EachRule RuleFine rs → RulesSpelled (as_rules rs)
+  rules_spelled [] h = tt
+  rules_spelled (r ∷ rs) h = let f = h.0 in (f.spelled, rules_spelled rs h.1)
+
+  label_leaf : (l : tree.Label) (xs : List ℕ) → LabelHeld names l → LeafHeld names (atom_leaf l xs)
+  label_leaf (named n) xs h = h
+  label_leaf (integer z) xs h = tt
+
+  leaf_held : (a : SolidAtom) → Good names a.label (length a.links) → LeafHeld names (atom_as_leaf a)
+  leaf_held a g = label_leaf a.label a.links g.held
+
+  links_small : (bound : ℕ) (xs : List ℕ) → bound ≤ 2 ^ 64 → ((x : ℕ) → Among x xs → x < bound) → AllByRecursion IsLinkNumber xs
+  links_small bound [] small h = tt
+  links_small bound (x ∷ xs) small h = (omega (arith, small, h x at_head), links_small bound xs small (λ y i. h y (further i)))
+
+  atoms_held : (xs : List SolidAtom) → AtomsGood xs → AllByRecursion (LeafHeld names) (map atom_as_leaf xs)
+  atoms_held [] h = tt
+  atoms_held (a ∷ xs) h = (leaf_held a (h a at_head), atoms_held xs (λ b i. h b (further i)))
+
+  atoms_spelled : (bound : ℕ) (xs : List SolidAtom) → bound ≤ 2 ^ 64 → AtomsGood xs → ((x : ℕ) → Among x (links_at xs) → x < bound) → AllByRecursion LeafSpelled (map atom_as_leaf xs)
+  atoms_spelled bound [] small h b = tt
+  atoms_spelled bound (a ∷ xs) small h b =
+      let g = h a at_head in (
+        (g.spelled, links_small bound a.links small (λ x i. b x (among_left (links_at xs) i)), not_connector names a.label a.links g.no_connector),
+        atoms_spelled bound xs small (λ c i. h c (further i)) (λ x i. b x (among_right a.links i)),
+      )
+
+  mutual
+    region_held : (r : Region) → RegionGood r → AllRules RuleFine r → LevelHeld names (as_level r)
+    region_held (region xs ms rs) h k = (atoms_held xs h.0, regions_held ms h.1 k.1, tt, tt, rules_held rs k.0)
+
+    regions_held : (ms : Regions) → RegionsGood ms → AllRulesIn RuleFine ms → LevelsHeld names (as_levels ms)
+    regions_held no_region h k = tt
+    regions_held (region_and m ms) h k = (region_held m h.0 k.0, regions_held ms h.1 k.1)
+
+  mutual
+    region_numbered : (r : Region) → AllRules RuleFine r → RulesNumbered (as_level r)
+    region_numbered (region xs ms rs) k = (regions_numbered ms k.1, rules_numbered rs k.0)
+
+    regions_numbered : (ms : Regions) → AllRulesIn RuleFine ms → AllRulesNumbered (as_levels ms)
+    regions_numbered no_region k = tt
+    regions_numbered (region_and m ms) k = (region_numbered m k.0, regions_numbered ms k.1)
+
+  mutual
+    region_spelled : (bound : ℕ) (r : Region) → bound ≤ 2 ^ 64 → RegionGood r → AllRules RuleFine r → ((x : ℕ) → Among x (printed_links r) → x < bound) → LevelSpelled (as_level r)
+    region_spelled bound (region xs ms rs) small h k b = (
+      atoms_spelled bound xs small h.0 (λ x i. b x (among_left (printed_links_in ms) i)),
+      regions_spelled bound ms small h.1 k.1 (λ x i. b x (among_right (links_at xs) i)),
+      tt,
+      tt,
+      rules_spelled rs k.0,
+    )
+
+    regions_spelled : (bound : ℕ) (ms : Regions) → bound ≤ 2 ^ 64 → RegionsGood ms → AllRulesIn RuleFine ms → ((x : ℕ) → Among x (printed_links_in ms) → x < bound) → LevelsSpelled (as_levels ms)
+    regions_spelled bound no_region small h k b = tt
+    regions_spelled bound (region_and m ms) small h k b = (
+      region_spelled bound m small h.0 k.0 (λ x i. b x (among_left (printed_links_in ms) i)),
+      regions_spelled bound ms small h.1 k.1 (λ x i. b x (among_right (printed_links m) i)),
+    )
+
+  -- ---- the line of a solid
+
+  -- what each solid of a trace is like
+  record Fine (size : ℕ) (S : Region) : Type 0 where
+    pub closed : Closed (region_process S)
+    pub rules : AllRules (Throughout RuleFine) S
+    pub atoms : RegionGood S
+    pub numbered : IsNumbered S
+    pub few : items S ≤ size
+
+  itself : (r : Rule) → Throughout RuleFine r → RuleFine r
+  itself (tree.rule_of head guard body) h = h.0
+
+  accepted_rule : (r : Rule) → Throughout RuleFine r → Accepted r
+  accepted_rule r h = let f = itself r h in f.accepted
+
+  good_rule : (r : Rule) → Throughout RuleFine r → GoodRule names r
+  good_rule r h = let f = itself r h in f.good
+
+  module _ (alloc : Global) (is : IsNames names) (size : ℕ) (small : size < 2 ^ 32) where
+    -- the line of such a solid is that of its process
+    line_fine : (S : Region) → Fine size S → IsLineOf names (region_process S) (solid_line S)
+    line_fine S f =
+        let n = f.numbered in
+        let count = numbers_count n.1 in
+        let ports = region_ports S f.atoms in
+        let bound : n.0 ≤ 2 ^ 64 = omega (arith, count.1, ports, f.few, small) in
+        let fine = all_rules_so itself S f.rules in
+        let spelled = region_spelled n.0 S bound f.atoms fine (numbers_below n.1) in
+        let numbers : NumbersLinks (level_links (as_level S)) n.0 = subst (λ xs. NumbersLinks xs n.0) (sym (region_links S)) n.1 in
+        let back = lines_read_back alloc names (as_level S) n.0 is (region_held S f.atoms fine) spelled numbers (region_numbered S fine) (no_contexts S) in
+        record {
+          plain = back.0;
+          reads = back.1;
+          is = ap line_of (sym back.2);
+          process = sym (same_process S) ∙ ap level_process (sym back.2);
+          closed = f.closed;
+        }
+
+    -- ---- traces
+
+    module _ (chooser : Chooser) (budget : ℕ) (S : Region) (start : Fine size S) where
+      abbrev IsTrace : List Region → Region → Type 0
+      IsTrace = Trace chooser budget size S
+
+      next_fine : {n : ℕ} {R T : Region} → Fine size R → Turn chooser n R T → items T ≤ size → Fine size T
+      next_fine {n} {R} {T} f t few =
+          let next = t.next.next in
+          let accepted = all_rules_so accepted_rule R f.rules in
+          record {
+            closed = next.fuses.closed;
+            rules = next_rules RuleFine next accepted f.rules;
+            atoms = next_atoms (Good names) (good_integer names) (integer_good names) next accepted (all_rules_so good_rule R f.rules) f.atoms;
+            numbered = t.numbered;
+            few = few;
+          }
+
+      fine : {before : List Region} {R : Region} → IsTrace before R → Fine size R
+      fine loaded = start
+      fine (turned p l t few) = next_fine (fine p) t few
+
+      one_commit : {n : ℕ} {R T : Region} → Fine size R → Turn chooser n R T → Commit (region_process R) (region_process T)
+      one_commit {n} {R} {T} f t =
+          let from = t.next in
+          firings_commit R T f.closed (all_rules_so accepted_rule R f.rules) (record { path = from.path; number = from.number; positions = from.positions; next = from.next })
+
+      one_longer : (before : List Region) (R : Region) → length (before ++ R ∷ []) ≡ length before + 1
+      one_longer before R = length-append before (R ∷ [])
+
+      commits : {before : List Region} {R : Region} → IsTrace before R → Commits (length before) (region_process S) (region_process R)
+      commits loaded = no_step
+      commits (turned {before = before} {S' = R} {S'' = T} p l t few) =
+          subst (λ n. Commits n (region_process S) (region_process T)) (sym (one_longer before R)) (step_after (commits p) (one_commit (fine p) t))
+
+      all_lines : {before : List Region} {R : Region} → IsTrace before R → AllLines names (region_process S) (length before) (region_process R) (map solid_line (before ++ R ∷ []))
+      all_lines loaded = first_line (line_fine S start)
+      all_lines (turned {before = before} {S' = R} {S'' = T} p l t few) =
+          let f = fine p in
+          let more = next_line (all_lines p) (one_commit f t) (line_fine T (next_fine f t few)) in
+          let longer : AllLines names (region_process S) (length (before ++ R ∷ [])) (region_process T) (map solid_line (before ++ R ∷ []) ++ solid_line T ∷ []) =
+          subst (λ n. AllLines names (region_process S) n (region_process T) (map solid_line (before ++ R ∷ []) ++ solid_line T ∷ [])) (sym (one_longer before R)) more in
+          subst (AllLines names (region_process S) (length (before ++ R ∷ [])) (region_process T)) (sym (map-append solid_line (before ++ R ∷ []) (T ∷ []))) longer
+
+      prints : (trace : Bool) {before : List Region} {R : Region} → IsTrace before R → Prints trace names (region_process S) (length before) (region_process R) (solid_lines trace before R)
+      prints true p = all_lines p
+      prints false {before} {R} p = record { commits = commits p; line = solid_line R; alone = refl; of = line_fine R (fine p) }
+
+      at_most : {before : List Region} {R : Region} → IsTrace before R → length before ≤ budget
+      at_most loaded = omega arith
+      at_most (turned {before = before} {S' = R} p l t few) = omega (arith, l, one_longer before R)
+
+      -- how it stops
+      stops : (trace : Bool) {before : List Region} {R : Region} → IsTrace before R → (why : Stop) →
+          StopsSo (record { trace = trace; budget = budget; size = size; chooser = chooser }) (length before) R why → StopsBy budget why (length before) (region_process R)
+      stops trace {before} {R} p = go
+        where
+          f : Fine size R
+          f = fine p
+
+          stuck : Irreducible (region_process R) ↔ (¬ (Embeds R))
+          stuck = irreducible_exactly R f.closed (all_rules_so accepted_rule R f.rules)
+
+          most : length before ≤ budget
+          most = at_most p
+
+          ends : (e : End) → Ends chooser budget size (length before) R e → StopsBy budget (at_end e) (length before) (region_process R)
+          ends irreducible (nothing_embeds h) = (most, stuck.1 h)
+          ends budget_done (none_allowed m q) = (q, λ i. stuck.0 i m)
+          ends full (too_many l t m) = (l, λ i. stuck.0 i (embeds_in t))
+            where
+              embeds_in : {T : Region} → Turn chooser (length before) R T → Embeds R
+              embeds_in t = let n = t.next in record { path = n.path; number = n.number; positions = n.positions; embeds = n.chosen.embeds }
+
+          below : (n k : ℕ) → n ≤ k → (n < k) ⊎ (n ≡ k)
+          below n k h = grind arith
+
+          go : (why : Stop) → StopsSo (record { trace = trace; budget = budget; size = size; chooser = chooser }) (length before) R why → StopsBy budget why (length before) (region_process R)
+          go (at_end e) h = ends e h
+          go no_memory h = (
+            elim (below (length before) budget most) [
+              | inl l ↦ l
+              | inr q ↦ absurd (h irreducible (nothing_embeds (λ m. h budget_done (none_allowed m q))))
+            ],
+            λ i. h irreducible (nothing_embeds (stuck.0 i)),
+          )
+
+-- ---- the solid of a plain
+
+-- as many items
+abbrev SameItems : List Name → List RuleTree → base_region.Region → Type 0
+SameItems names table r = items (fold-Region Region (region_step names (numbered_rule names table)) r) ≡ fold-Region ℕ items_step r
+
+inner_items : (names : List Name) (table : List RuleTree) (rs : List ((r : base_region.Region) × SameItems names table r))
+    → items_of_all (regions (map (fold-Region Region (region_step names (numbered_rule names table))) (map (λ e. e.0) rs))) ≡ length (map (λ e. e.0) rs) + sum (map (fold-Region ℕ items_step) (map (λ e. e.0) rs))
+inner_items names table [] = refl
+inner_items names table (e ∷ rs) =
+    omega (arith, e.1, inner_items names table rs, sum_by-cons (λ (n : ℕ). n) (fold-Region ℕ items_step e.0) (map (fold-Region ℕ items_step) (map (λ (e : (r : base_region.Region) × SameItems names table r). e.0) rs)))
+
+same_items : (names : List Name) (table : List RuleTree) (r : base_region.Region) → SameItems names table r
+same_items names table = ind-Region (SameItems names table) (λ y z is.
+    let inside = subst (λ r. items_of_all (regions (map (fold-Region Region (region_step names (numbered_rule names table))) r.membranes)) ≡ length r.membranes + sum (map (fold-Region ℕ items_step) r.membranes)) is (inner_items names table z.membranes) in
+    rw (fold-roll-Region Region (region_step names (numbered_rule names table)) y, fold-roll-Region ℕ items_step y)
+    (omega (arith, inside, length-map y.atoms (solid_atom_of names), length-map y.rules (numbered_rule names table), length-map y.membranes (fold-Region ℕ items_step))))
+
+module _ (names : List Name) (p : Plain) (printable : IsPrintable names p) where
+  abbrev ρ : ℕ → Rule
+  ρ = numbered_rule names p.rules
+
+  -- the solid of one rule alone
+  abbrev lone_root : ℕ → base_region.Region
+  lone_root k = roll-Region (record { atoms = []; membranes = []; rules = k ∷ [] })
+
+  abbrev lone : ℕ → Solid
+  lone k = record { root = lone_root k }
+
+  lone_region : (k : ℕ) → region_of names p.rules (lone k) ≡ region [] no_region (ρ k ∷ [])
+  lone_region k = fold-roll-Region Region (region_step names ρ) _
+
+  lone_has : (k : ℕ) → k < length p.rules → HasRules p.rules (lone k)
+  lone_has k l =
+      let P : List ℕ → Type 0 = All (λ j. j < length p.rules) in
+      subst P (sym (fold-roll-Region (List ℕ) rules_step _)) (All-from_recursion (λ j. j < length p.rules) (k ∷ []) (l, tt))
+
+  names_of_rules : All (λ n. n < length names) (flat_map rule_names p.rules)
+  names_of_rules = all_right (λ n. n < length names) (level_names p.top) (flat_map rule_names p.rules) printable.named.1
+
+  names_of_top : All (λ n. n < length names) (level_names p.top)
+  names_of_top = all_left (λ n. n < length names) (level_names p.top) (flat_map rule_names p.rules) printable.named.1
+
+  lone_named : (k : ℕ) → NamesSolid names p.rules (lone k)
+  lone_named k =
+      let P : List base_atom.SolidAtom → Type 0 = λ xs. HasNames names (flat_map (λ a. label_names a.functor.label) xs) in
+      (printable.named.0, names_of_rules, subst P (sym (fold-roll-Region (List base_atom.SolidAtom) atoms_step _)) (λ i d l. absurd (omega (arith, l))))
+
+  rule_held : (k : ℕ) → k < length p.rules → RuleHeld names (ρ k)
+  rule_held k l =
+      let P : Region → Type 0 = λ r. LevelHeld names (as_level r) in
+      (subst P (lone_region k) (solid_held names p (lone k) printable.made (lone_has k l) (lone_named k))).4.0
+
+  rule_numbered : (k : ℕ) → k < length p.rules → RuleNumbered (ρ k)
+  rule_numbered k l =
+      let P : Region → Type 0 = λ r. RulesNumbered (as_level r) in
+      (subst P (lone_region k) (solid_rules_numbered names p (lone k) printable.made (lone_has k l))).1.0
+
+  body_few : (k : ℕ) → k < length p.rules → LevelFew names (body_of (ρ k))
+  body_few k l =
+      let found = there p.rules k l in
+      let t = found.0 in
+      let P : Rule → Type 0 = λ r. LevelFew names (body_of r) in
+      subst P (sym (rule_has_number names p k t printable.made found.1)) (level_few names ρ t.body (printable.rules_few k t found.1))
+
+  rule_fine : (k : ℕ) → k < length p.rules → RuleFine names (ρ k)
+  rule_fine k l =
+      let r = printable.rules k l in
+      record {
+        accepted = r.1;
+        held = rule_held k l;
+        numbered = rule_numbered k l;
+        spelled = r.0;
+        good = rule_good names (ρ k) r.0 (rule_held k l) (body_few k l);
+      }
+
+  top_held : LevelHeld names (top_of names p)
+  top_held =
+      let ls = flat_map leaf_names (leaves_of p.top) in
+      let cs = context_names (contexts_of p.top) in
+      let os = context_names (rule_contexts_of p.top) in
+      let front = all_left (λ n. n < length names) (ls ++ cs) os names_of_top in
+      level_held names ρ p.top (record {
+        leaves = all_left (λ n. n < length names) ls cs front;
+        contexts = all_right (λ n. n < length names) ls cs front;
+        rule_contexts = all_right (λ n. n < length names) (ls ++ cs) os names_of_top;
+        rule_numbers = λ i d l. rule_held (get_or (rules_of p.top) i d) (printable.made.rules_at_top i d l);
+      })
+
+  solid_fine : (size : ℕ) (s : Solid) → IsSolidOf p s → items_of s ≤ size → Fine names size (solid_of names p s)
+  solid_fine size s i few =
+      let S = solid_of names p s in
+      let so = solids_of_plains names p s printable.made i in
+      let good = fused_good (Good names) (good_integer names) (integer_good names) so.to (top_of names p) (level_good names (top_of names p) printable.top top_held (level_few names ρ p.top printable.top_few)) in
+      let n = solid_numbers names p s i.is_solid in
+      let P : Region → Type 0 = RegionGood names in
+      record {
+        closed = so.closed;
+        rules = solid_rules (RuleFine names) names p printable.made rule_fine s (solid_has_rules p s printable.made i);
+        atoms = subst P (sym so.is) good;
+        numbered = (n.0, subst (λ xs. NumbersLinks xs n.0) (region_links S) n.1);
+        few = omega (arith, same_items names p.rules s.root, few);
+      }
+
+pub traces_are_runs : TracesAreRuns
+traces_are_runs alloc g names p s printable i few small before last trace =
+    let start = solid_fine names p printable g.size s i few in
+    record {
+      prints = prints names alloc printable.named.0 g.size small g.chooser g.budget (solid_of names p s) start g.trace trace;
+      stops = stops names alloc printable.named.0 g.size small g.chooser g.budget (solid_of names p s) start g.trace trace;
+    }

@@ -1,0 +1,52 @@
+-- The law of runs.
+use Rattle.std.specs.Prelude.{ℕ, ◌≡◌, ◌<◌, ◌≤◌, ◌^◌, ⊤, List, Some, length, slice_get}
+use Rattle.std.specs.List.{AllByRecursion}
+use Rattle.std.specs.declared.alloc.Global.{Global}
+use Rattle.lmn_base.specs.declared.level.Leaf.{Leaf}
+use Rattle.lmn_base.specs.declared.level.Leaf.TheVariants.{Atom, Typed}
+use Rattle.lmn_base.specs.declared.rule.Plain.{Plain}
+use Rattle.lmn_base.specs.declared.rule.RuleTree.{RuleTree}
+use Rattle.lmn_base.specs.declared.solid.Solid.{Solid}
+use Rattle.lmn_base.specs.Levels.{leaves_of}
+use Rattle.lmn_base.specs.Names.{NamesPlain}
+use Rattle.lmn_base.specs.Solids.{items_of}
+use Rattle.lmn_base.specs.WellMade.{IsWellMade}
+use Rattle.lmn_congruence.specs.Regions.{Region, region_process}
+use Rattle.lmn_congruence.specs.Rules.{Name}
+use Rattle.lmn_congruence.specs.SolidsOfPlains.{IsSolidOf}
+use Rattle.lmn_congruence.specs.Translation.{numbered_rule, region_of, top_of}
+use Rattle.lmn_plain.specs.Spelled.{LevelSpelled, RuleSpelled}
+use Rattle.lmn_adequacy.specs.Accepted.{Accepted}
+use Rattle.lmn_adequacy.specs.Runs.{Trace}
+use Rattle.lmn_runs.specs.Runs.{Given, Prints, Stop, StopsBy, StopsSo, solid_lines}
+
+-- an atom has at most 255 links
+abbrev pub HasFewLinks : Leaf → Type 0
+HasFewLinks (Atom functor links pos) = length links ≤ 255
+HasFewLinks (Typed name link pos) = ⊤
+
+-- A plain of which runs can be printed, by a list of names: it is well made and has names of the list alone; a text can spell its top
+-- and its rules; no atom has more than 255 links; and each rule is accepted.
+pub record IsPrintable (names : List Name) (plain : Plain) : Type 0 where
+  pub made : IsWellMade plain
+  pub named : NamesPlain names plain
+  pub top : LevelSpelled (top_of names plain)
+  pub rules : (k : ℕ) → k < length plain.rules → RuleSpelled (numbered_rule names plain.rules k) × Accepted (numbered_rule names plain.rules k)
+  pub top_few : AllByRecursion HasFewLinks (leaves_of plain.top)
+  pub rules_few : (k : ℕ) (r : RuleTree) → slice_get plain.rules k ≡ Some r → AllByRecursion HasFewLinks (leaves_of r.body)
+
+-- the process of the solid of a plain, as a region
+abbrev pub solid_of : List Name → Plain → Solid → Region
+solid_of names plain s = region_of names plain.rules s
+
+-- What is printed of a trace of the solid of such a plain: the lines are those of processes, each of which reads back as its process;
+-- each next process comes by one commit; and a stop of the trace is one of the run.
+pub record IsRunOf (g : Given) (names : List Name) (plain : Plain) (s : Solid) (before : List Region) (last : Region) : Type 0 where
+  pub prints : Prints g.trace names (region_process (solid_of names plain s)) (length before) (region_process last) (solid_lines g.trace before last)
+  pub stops : (why : Stop) → StopsSo g (length before) last why → StopsBy g.budget why (length before) (region_process last)
+
+-- Each trace is such a run, where fewer than 2 ^ 32 items are allowed. A box in a condition belongs to an allocator, so one is given.
+abbrev pub TracesAreRuns : Type 0
+TracesAreRuns = (alloc : Global) (g : Given) (names : List Name) (plain : Plain) (s : Solid) → IsPrintable names plain → IsSolidOf plain s →
+    items_of s ≤ g.size → g.size < 2 ^ 32 → (before : List Region) (last : Region) →
+    Trace g.chooser g.budget g.size (solid_of names plain s) before last → IsRunOf g names plain s before last

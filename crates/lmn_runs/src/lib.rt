@@ -1,0 +1,19 @@
+//! What a run is, by what it prints, and that each trace is one.
+//!
+//! The definitions stand in `specs/`. Each law is the contract of a function with an empty body, so nothing here does anything
+//! when it runs.
+#![tactic(auto)]
+
+ghost use Rattle.lmn_runs.specs.Laws.{TracesAreRuns};
+ghost use Rattle.lmn_runs.specs.Texts.{PlainsArePrintable};
+
+/// The lines of a trace of the solid of a plain are those of a run: each reads back as its process, each next process comes by
+/// one commit, and the run stops at an irreducible process exactly where its word says so.
+pub fn traces_are_runs()
+    ensures { TracesAreRuns }
+{}
+
+/// Runs of the plain that is read of a text can be printed: a text can spell its top and its rules, since its tokens did.
+pub fn plains_are_printable()
+    ensures { PlainsArePrintable }
+{}

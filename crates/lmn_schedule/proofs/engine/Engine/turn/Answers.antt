@@ -1,0 +1,39 @@
+use Rattle.std.proofs.Common.{◌≡◌, length, subst, arith}
+use Rattle.lmn_choice.specs.Turns.{HaveCodes, tree_of}
+use Rattle.lmn_heap.specs.Sound.{Forest, IsTree, flat}
+use Rattle.lmn_strategy.specs.Turns.{IsTurn}
+use Rattle.lmn_schedule.proofs.Turned.{some_membrane, turned}
+use Rattle.lmn_schedule.proofs.engine.Engine.turn.Goals as goal
+
+pub pick-from-requires-clause-some : goal.pick-from-requires-clause-some
+pick-from-requires-clause-some g c =
+    some_membrane (g.S.LinkStore.heap c.args.self.now.machine.store) c.requires.run.turn.valid c.membranes-many.result
+    (subst (λ s. (f : Forest) → IsTree (g.S.LinkStore.heap s) f → c.membranes-many.result ≡ length (flat f)) c.store.ensures c.membranes-many.ensures)
+
+pub returns-then-eq-clause-turned : goal.returns-then-eq-clause-turned
+returns-then-eq-clause-turned g c k gives names solid o =
+    let h = g.S.LinkStore.heap c.args.self.now.machine.store in
+    let f = tree_of h o.inner in
+    let counts = subst (λ s. (f : Forest) → IsTree (g.S.LinkStore.heap s) f → c.membranes-many.result ≡ length (flat f)) c.store.ensures c.membranes-many.ensures in
+    let some = some_membrane h c.requires.run.turn.valid c.membranes-many.result counts in
+    let first = gives c.args.self.now.commits c.membranes-many.result c.pick-from.result (omega (arith, c.requires.commits)) (omega (arith, c.membranes-many.type_inv)) some c.pick-from.ensures.answer in
+    let have : HaveCodes c.args.self.now.plain.now.rules c.requires.run.plans c.args.self.now.codes = record { whole = c.requires.run.whole; compiled = c.requires.run.compiled } in
+    turned names c.args.self.now.plain.now.rules k c.args.self.now.commits c.args.self.now.size c.requires.run.plans c.args.self.now.codes
+    c.turns_are_alike.ensures c.turns_are_of_chooser.ensures c.spares_are_not_read.ensures have h solid o c.pick-from.result
+    (subst (λ n. c.pick-from.result ≡ k c.args.self.now.commits n) (counts f o.tree) first)
+    c.take_turn-answer.result (g.S.LinkStore.heap c.take_turn-answer.new.machine.store) c.take_turn-answer.ensures.again.valid
+    (subst (λ xs. IsTurn h xs f c.pick-from.result c.args.self.now.size c.take_turn-answer.result (g.S.LinkStore.heap c.take_turn-answer.new.machine.store)) c.as_slice.ensures (c.take_turn-answer.ensures.turned f o.tree))
+
+pub returns-else-eq-clause-turned : goal.returns-else-eq-clause-turned
+returns-else-eq-clause-turned g c k gives names solid o =
+    let h = g.S.LinkStore.heap c.args.self.now.machine.store in
+    let f = tree_of h o.inner in
+    let counts = subst (λ s. (f : Forest) → IsTree (g.S.LinkStore.heap s) f → c.membranes-many.result ≡ length (flat f)) c.store.ensures c.membranes-many.ensures in
+    let some = some_membrane h c.requires.run.turn.valid c.membranes-many.result counts in
+    let first = gives c.args.self.now.commits c.membranes-many.result c.pick-from.result (omega (arith, c.requires.commits)) (omega (arith, c.membranes-many.type_inv)) some c.pick-from.ensures.answer in
+    let have : HaveCodes c.args.self.now.plain.now.rules c.requires.run.plans c.args.self.now.codes = record { whole = c.requires.run.whole; compiled = c.requires.run.compiled } in
+    turned names c.args.self.now.plain.now.rules k c.args.self.now.commits c.args.self.now.size c.requires.run.plans c.args.self.now.codes
+    c.turns_are_alike.ensures c.turns_are_of_chooser.ensures c.spares_are_not_read.ensures have h solid o c.pick-from.result
+    (subst (λ n. c.pick-from.result ≡ k c.args.self.now.commits n) (counts f o.tree) first)
+    c.take_turn-answer.result (g.S.LinkStore.heap c.take_turn-answer.new.machine.store) c.take_turn-answer.ensures.again.valid
+    (subst (λ xs. IsTurn h xs f c.pick-from.result c.args.self.now.size c.take_turn-answer.result (g.S.LinkStore.heap c.take_turn-answer.new.machine.store)) c.as_slice.ensures (c.take_turn-answer.ensures.turned f o.tree))

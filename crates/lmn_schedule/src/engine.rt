@@ -1,0 +1,178 @@
+ghost use Rattle.std.specs.Prelude.{[], ◌≡◌, ◌<◌, ◌≤◌, ◌+◌, ◌-◌, ◌^◌, ℕ, List, IfOk, IfErr, OnOk, IsTrue, IsFalse};
+ghost use Rattle.std.specs.Borrow.{sem};
+ghost use mir.Syntax.{named};
+ghost use Rattle.lmn_base.specs.declared.solid.Solid.{Solid};
+ghost use Rattle.lmn_base.specs.Solids.{items_of};
+ghost use Rattle.lmn_congruence.specs.Rules.{Name};
+ghost use Rattle.lmn_congruence.specs.SolidsOfPlains.{IsSolidOf};
+ghost use Rattle.lmn_heap.specs.Sound.{Forest, IsTree, Settled, flat, items_in};
+ghost use Rattle.lmn_loading.specs.Loaded.{IsEmpty, IsLoaded, Causes};
+ghost use Rattle.lmn_schedule.specs.Held.{AreNames, CanBeLoaded, CanRun, Holds, HoldsSolid};
+ghost use Rattle.lmn_schedule.specs.Turning.{Gives, IsDone, IsTurned, counted};
+ghost use Rattle.lmn_adequacy.specs.Embedding.{Embeds};
+ghost use Rattle.lmn_adequacy.specs.Runs.{Chooser as Choosing};
+ghost use Rattle.lmn_order.specs.Answers.{AnswersBelow};
+ghost use Rattle.lmn_congruence.specs.Regions.{Region};
+ghost use Rattle.lmn_schedule.specs.Lending.{lends_store};
+
+use lmn_base::{NoMemory, Plain, Rows};
+use lmn_bridge::solids_are_regions;
+use lmn_choice::{nothing_embeds, spares_are_not_read, turns_are_alike, turns_are_of_chooser};
+use lmn_guards::GuardPlan;
+use lmn_instr::Code;
+use lmn_loading::{LoadFault, load, loading_settles};
+use lmn_machine::{Machine, Steps};
+use lmn_order::Chooser;
+use lmn_store::LinkStore;
+use lmn_strategy::{Turn, compiled, membranes, search, take_turn};
+use lmn_turn::plains_are_tables;
+use std::alloc::Global;
+use std::sync::ledger::Ledger;
+
+/// A process in a store, with the rules that make it react.
+#[derive(Drop)]
+pub struct Engine<'p, S: LinkStore, F> {
+    plain: &'p Plain,
+    codes: Rows<Code>,
+    machine: Machine<S>,
+    chooser: Chooser<F>,
+    /// The most items that a commit may leave.
+    size: u64,
+    commits: u64,
+}
+
+impl<'p, S: LinkStore + Drop, F: Fn(u64, u64) -> u64 + Drop> Engine<'p, S, F> {
+    /// Loads the process of an accepted plain into a new store, where at most `size` items are allowed. `plans` has the plan of
+    /// each rule, by its number. The chooser says which membrane is asked first in each turn.
+    ///
+    /// # Errors
+    ///
+    /// `Size` with the number of items, exactly where it is more than `size`; `NoMemory` at want of memory.
+    pub fn load(
+        alloc: Global,
+        plain: &'p Plain,
+        plans: &[GuardPlan],
+        store: S,
+        chooser: Chooser<F>,
+        size: u64,
+    ) -> Result<Engine<'p, S, F>, LoadFault>
+        requires plain { CanBeLoaded plain.now plans.now }
+        requires store { IsEmpty (S.heap store) }
+        requires size { size < 2 ^ 64 - 1 }
+        ensures holds { IfOk result (λ e. (names : List Name) → AreNames names plain.now → HoldsSolid names plain.now (S.heap e.machine.store)) }
+        ensures run { IfOk result (λ e. CanRun (S.heap e.machine.store) plain.now.rules e.codes e.size) }
+        ensures keeps { IfOk result (λ e. (e.plain.now ≡ plain.now) × (e.chooser ≡ chooser) × (e.size ≡ size) × (e.commits ≡ 0)) }
+        ensures fits { OnOk result ((s : Solid) → IsSolidOf plain.now s → items_of s ≤ size) }
+        ensures fault { IfErr result (λ fault. Causes plain.now size fault) }
+    {
+        loading_settles();
+        plains_are_tables();
+        solids_are_regions();
+        let mut store = store;
+        load(alloc, plain, &mut store, size)?;
+        match Engine::over(alloc, plain, plans, store, chooser, size) {
+            Ok(engine) => Ok(engine),
+            Err(NoMemory) => Err(LoadFault::NoMemory),
+        }
+    }
+
+    /// An engine over a store in which the process of the plain is.
+    fn over(
+        alloc: Global,
+        plain: &'p Plain,
+        plans: &[GuardPlan],
+        store: S,
+        chooser: Chooser<F>,
+        size: u64,
+    ) -> Result<Engine<'p, S, F>, NoMemory>
+        requires plain { CanBeLoaded plain.now plans.now }
+        requires store { IsLoaded plain.now (S.heap store) }
+        requires size { size < 2 ^ 64 - 1 }
+        ensures store { IfOk result (λ e. e.machine.store ≡ store) }
+        ensures run { IfOk result (λ e. CanRun (S.heap e.machine.store) plain.now.rules e.codes e.size) }
+        ensures keeps { IfOk result (λ e. (e.plain.now ≡ plain.now) × (e.chooser ≡ chooser) × (e.size ≡ size) × (e.commits ≡ 0)) }
+    {
+        loading_settles();
+        Ok(Engine {
+            plain,
+            codes: compiled(alloc, plain, plans)?,
+            machine: Machine::new(alloc, store)?,
+            chooser,
+            size,
+            commits: 0,
+        })
+    }
+}
+
+impl<'p, S: LinkStore, F: Fn(u64, u64) -> u64> Engine<'p, S, F> {
+    /// One turn: the rule that the strategy chooses fires, at its least match, unless more items would be left than are allowed.
+    /// With another answer than `Committed` the solid is as it was.
+    pub fn turn<L: Ledger>(&mut self, alloc: Global, steps: &mut Steps<L>) -> Turn
+        requires run { CanRun (S.heap self.old.machine.store) self.old.plain.now.rules self.old.codes self.old.size }
+        requires chooser { AnswersBelow F.pre F.post self.old.chooser.f }
+        requires commits { self.old.commits < 2 ^ 63 }
+        ensures turned { (c : Choosing) → Gives F.post self.old.chooser.f c → (names : List Name) (solid : Region) → Holds names self.old.plain.now.rules (S.heap self.old.machine.store) solid →
+            IsTurned names self.old.plain.now.rules c self.old.size self.old.commits solid result (S.heap self.new.machine.store) }
+        ensures again { CanRun (S.heap self.new.machine.store) self.old.plain.now.rules self.old.codes self.old.size }
+        ensures keeps { self.new ≡ record self.old { machine = self.new.machine; commits = self.old.commits + counted result } }
+    {
+        turns_are_alike();
+        turns_are_of_chooser();
+        spares_are_not_read();
+        let many = membranes(self.machine.store());
+        let from = self.chooser.pick(self.commits, many);
+        let answer = take_turn(
+            alloc,
+            &mut self.machine,
+            self.codes.as_slice(),
+            from,
+            many,
+            self.size,
+            steps,
+        );
+        if answer == Turn::Committed {
+            self.commits += 1;
+        }
+        answer
+    }
+
+    /// Whether some rule of some membrane has a match. It takes no memory and changes nothing.
+    pub fn reducible<L: Ledger>(&mut self, steps: &mut Steps<L>) -> bool
+        requires run { CanRun (S.heap self.old.machine.store) self.old.plain.now.rules self.old.codes self.old.size }
+        ensures yes { IsTrue result → (names : List Name) (solid : Region) → Holds names self.old.plain.now.rules (S.heap self.old.machine.store) solid → Embeds solid }
+        ensures no { IsFalse result → (names : List Name) (solid : Region) → Holds names self.old.plain.now.rules (S.heap self.old.machine.store) solid → IsDone solid }
+        ensures same { S.heap self.new.machine.store ≡ S.heap self.old.machine.store }
+        ensures keeps { self.new ≡ record self.old { machine = self.new.machine } }
+    {
+        nothing_embeds();
+        turns_are_alike();
+        let many = membranes(self.machine.store());
+        match search(&mut self.machine, self.codes.as_slice(), 0, many, steps) {
+            Some(_) => true,
+            None => false,
+        }
+    }
+
+    /// How many commits were done.
+    pub fn commits(&self) -> u64
+        ensures { result ≡ self.now.commits }
+    {
+        self.commits
+    }
+
+    /// How many items there are: atoms, membranes without the root, and rules that stand in membranes.
+    pub fn items(&self) -> u64
+        requires { Settled (S.heap self.now.machine.store) }
+        ensures { (f : Forest) → IsTree (S.heap self.now.machine.store) f → result + 1 ≡ items_in (S.heap self.now.machine.store) (flat f) }
+    {
+        self.machine.store().items()
+    }
+
+    /// The store, to be changed. The engine then holds it as it was left.
+    pub fn store(&mut self) -> &mut S
+        ensures* writes_back { sem 𝓛 (lends_store (record { mir = named 0; lft = [] }) S.row F.row S.Atom.row S.Mem.row self.entry result) }
+        ensures value { result.now ≡ self.old.machine.store }
+    {
+        self.machine.store_mut()
+    }
+}
