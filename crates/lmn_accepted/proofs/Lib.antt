@@ -9,3 +9,9 @@ mod Types
 mod Counts
 mod AcceptedRules
 mod AcceptedTexts
+mod NumbersBack
+mod HeldLevels
+mod SameTrees
+mod SameGuards
+mod SamePlainTrees
+mod OneProcess

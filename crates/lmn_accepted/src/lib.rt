@@ -1,11 +1,19 @@
-//! What holds of the rules of an accepted text.
+//! What holds of the rules of an accepted text, and that a text is one process by any list of names.
 #![tactic(auto)]
 
 ghost use Rattle.lmn_accepted.specs.Rules.{AcceptedTexts};
+ghost use Rattle.lmn_accepted.specs.OneProcess.{OneProcess, OneProcessOfReadings};
 
 /// The plain of an accepted text is well made, and has only names of the list that reading leaves. Each of its rules is whole,
 /// with its plan; the kinds of the plan are those that its guard gives; and the tree of the rule is accepted, where names and
 /// links have their numbers.
 pub fn accepted_texts()
     ensures { AcceptedTexts }
+{}
+
+/// A text is one process, whatever the list by which its names have numbers: where each of two lists holds the names of its
+/// plain, and where each is what reading leaves.
+pub fn texts_are_one_process()
+    ensures held { OneProcess }
+    ensures read { OneProcessOfReadings }
 {}

@@ -1,0 +1,4 @@
+mod HeadNames
+mod BodyNames
+mod CodeNames
+mod Listed

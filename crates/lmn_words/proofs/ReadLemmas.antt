@@ -1,0 +1,371 @@
+-- That the words are read exactly as they are of the form.
+use Rattle.std.specs.declared.string.String.{String}
+use Rattle.std.specs.declared.alloc.Global.{Global}
+use Rattle.std.proofs.Common.{IfSome, IsSome, ◌≤◌, ◌≡◌, ℕ, ◌+◌, ◌==◌, Bool, true, false, if◌then◌else◌, List, [], ◌∷◌, ◌++◌, length, take, drop, Option, Some, None, is_some, option_map, option_and_then, option_to_list, filter_map, bytes_eq, codes, inl, inr, refl, sym, ap, ◌∙◌, subst, arith}
+use Rattle.std.specs.Prelude.{⊤, unwrap_or}
+use Rattle.std.proofs.lemmas.Bool.{eq-eqb}
+use Rattle.std.proofs.lemmas.List.{append-nil}
+use Rattle.std.proofs.lemmas.Option.{none-some, same_Some, option_and_then_some}
+use Rattle.std.proofs.lemmas.Slice.Eq.{bytes_eq-Decides}
+use Rattle.lmn_words.specs.declared.setting.Setting.{Setting}
+use Rattle.lmn_words.specs.declared.setting.Setting.TheVariants as set
+use Rattle.lmn_words.specs.declared.setting.Settings.{Settings}
+use Rattle.lmn_words.specs.declared.setting.Valued.{Valued}
+use Rattle.lmn_words.specs.declared.setting.Valued.TheVariants as valued
+use Rattle.lmn_words.specs.declared.setting.OrderName.TheVariants as name
+use Rattle.lmn_words.specs.declared.command.Command.{Command}
+use Rattle.lmn_words.specs.Forms.{texts_of, request_of, Asks, InForm, IsInRanges, Word, IsFileName, Sets, Spells, nothing, a_file, a_trace, two_words, one_word, EachAtMostOnce, OnlyOr, ordered_by, Run, Request, to_run, to_compile, AsksRun, TextsAsk, IsForm, trace_of, budget_of, size_of, order_name_of, seed_of}
+use Rattle.lmn_words.specs.Hearing.{is_file_name, option_named, setting_of, with_setting, Heard, no_settings, nothing_heard, hear_setting, hear_value, hear_file, equals_at, hear_option, hear_word, hear_waiting, hear, hear_all, run_by, run_heard, run_read, file_read, request_read}
+use Rattle.lmn_words.proofs.WordLemmas.{not_same, false_true, if_some, map_some, then_some, option_word, option_told, setting_told, setting_read, file_told, file_read_is, cut_told}
+use Rattle.lmn_words.proofs.SettingLemmas.{settings_all, is_none, list_option, front_empty, all_told, all_read, firsts, firsts_collected, at_most_one, only_value, value_only, flag_only, trace_value}
+
+is_bytes : (w v : Word) → bytes_eq w v ≡ true → w ≡ v
+is_bytes w v e = (bytes_eq-Decides w v).0 e
+
+-- ---- what is read was spelled
+
+-- the words, with the name of the option that waits before them
+abbrev behind : Option Valued → List Word → List Word
+behind None words = words
+behind (Some o) words = option_word o ∷ words
+
+-- The words spell files and settings that lead from one state to the other.
+abbrev Leads : List Word → Heard → Heard → Type 0
+Leads words h u = (files : List Word) × (settings : List Setting) × Spells words files settings
+    × (option_to_list h.file ++ files ≡ option_to_list u.file) × (settings_all h.settings settings ≡ Some u.settings)
+
+leads_nowhere : (h : Heard) (o : Option Valued) → o ≡ None → Leads (behind o []) h h
+leads_nowhere h o e = subst (λ p. Leads (behind p []) h h) (sym e) ([], [], nothing, append-nil (option_to_list h.file), refl)
+
+-- one more setting before
+abbrev LeadsBy : Setting → List Word → Heard → Heard → Type 0
+LeadsBy x words h u = (files : List Word) × (settings : List Setting) × Spells words files settings
+    × (option_to_list h.file ++ files ≡ option_to_list u.file) × (settings_all h.settings (x ∷ settings) ≡ Some u.settings)
+
+set_told : (x : Setting) (words : List Word) (h v u : Heard) → hear_setting h x ≡ Some v → Leads (behind v.waiting words) v u → LeadsBy x words h u
+set_told x words h v u e more = map_some (λ settings. record h { settings = settings; waiting = None }) (with_setting h.settings x) v e (λ s is same.
+    let P : Heard → Type 0 = λ w. Leads (behind w.waiting words) w u in
+    let k : P (record h { settings = s; waiting = None }) = subst P (sym same) more in
+    (k.0, k.1, k.2, k.3, then_some (λ t. settings_all t k.1) (with_setting h.settings x) s (Some u.settings) is k.4))
+
+value_told : (o : Valued) (value : Word) (h v : Heard) → hear_value h o value ≡ Some v → (x : Setting) × Sets (option_word o) value x × (hear_setting h x ≡ Some v)
+value_told o value h v e = option_and_then_some (hear_setting h) (setting_of o value) v e (λ x is heard. (x, setting_told o value x is, heard))
+
+file_more : (w : Word) (words : List Word) (h v u : Heard) → h.waiting ≡ None → is_file_name w ≡ true → hear_file h w ≡ Some v
+    → Leads (behind v.waiting words) v u → Leads (w ∷ words) h u
+file_more w words h v u e named heard more = if_some (is_some h.file) None (Some (record h { file = Some w })) v heard (λ t bad. absurd (none-some v bad)) (λ free same.
+    let P : Heard → Type 0 = λ g. Leads (behind g.waiting words) g u in
+    let k : P (record h { file = Some w }) = subst P (sym (same_Some (record h { file = Some w }) v same)) more in
+    let Q : Option Valued → Type 0 = λ o. Leads (behind o words) (record h { file = Some w }) u in
+    let l : Leads words (record h { file = Some w }) u = subst Q e k in
+    (w ∷ l.0, l.1, a_file (file_told w named) l.2, ap (λ o. option_to_list o ++ (w ∷ l.0)) (is_none h.file free) ∙ l.3, l.4))
+
+trace_more : (w : Word) (words : List Word) (h v u : Heard) → w ≡ codes "--trace" → hear_setting h set.Trace ≡ Some v
+    → Leads (behind v.waiting words) v u → Leads (w ∷ words) h u
+trace_more w words h v u is heard more =
+    let k = set_told set.Trace words h v u heard more in
+    (k.0, set.Trace ∷ k.1, a_trace is k.2, k.3, k.4)
+
+name_more : (w : Word) (words : List Word) (h v u : Heard) → option_map (λ o. record h { waiting = Some o }) (option_named w) ≡ Some v
+    → Leads (behind v.waiting words) v u → Leads (w ∷ words) h u
+name_more w words h v u heard more = map_some (λ o. record h { waiting = Some o }) (option_named w) v heard (λ o is same.
+    let P : Heard → Type 0 = λ g. Leads (behind g.waiting words) g u in
+    let k : P (record h { waiting = Some o }) = subst P (sym same) more in
+    let l : Leads (option_word o ∷ words) h u = k in
+    subst (λ x. Leads (x ∷ words) h u) (sym (option_told w o is)) l)
+
+both_more : (w front back : Word) (words : List Word) (h v u : Heard) → w ≡ front ++ (61 ∷ back)
+    → option_and_then (λ o. hear_value h o back) (option_named front) ≡ Some v → Leads (behind v.waiting words) v u → Leads (w ∷ words) h u
+both_more w front back words h v u cut heard more = option_and_then_some (λ o. hear_value h o back) (option_named front) v heard (λ o is heard'.
+    let t = value_told o back h v heard' in
+    let k = set_told t.0 words h v u t.2 more in
+    (k.0, t.0 ∷ k.1, one_word front back cut (subst (λ n. Sets n back t.0) (sym (option_told front o is)) t.1) k.2, k.3, k.4))
+
+option_more : (w : Word) (words : List Word) (h v u : Heard) → hear_option h w ≡ Some v → Leads (behind v.waiting words) v u → Leads (w ∷ words) h u
+option_more w words h v u heard more = if_some (equals_at w == length w) (option_map (λ o. record h { waiting = Some o }) (option_named w))
+    (option_and_then (λ o. hear_value h o (drop (equals_at w + 1) w)) (option_named (take (equals_at w) w))) v heard
+    (λ t e. name_more w words h v u e more)
+    (λ f e. both_more w (take (equals_at w) w) (drop (equals_at w + 1) w) words h v u (cut_told w (λ is. false_true (sym f ∙ eq-eqb (equals_at w) (length w) is))) e more)
+
+word_more : (w : Word) (words : List Word) (h v u : Heard) → h.waiting ≡ None → hear_word h w ≡ Some v → Leads (behind v.waiting words) v u → Leads (w ∷ words) h u
+word_more w words h v u e heard more = if_some (is_file_name w) (hear_file h w)
+    (if bytes_eq w (codes "--trace") then hear_setting h set.Trace else hear_option h w) v heard
+    (λ t g. file_more w words h v u e t g more)
+    (λ f g. if_some (bytes_eq w (codes "--trace")) (hear_setting h set.Trace) (hear_option h w) v g
+    (λ t k. trace_more w words h v u (is_bytes w (codes "--trace") t) k more)
+    (λ f k. option_more w words h v u k more))
+
+waiting_more : (o : Option Valued) (w : Word) (words : List Word) (h v u : Heard) → h.waiting ≡ o → hear_waiting o h w ≡ Some v
+    → Leads (behind v.waiting words) v u → Leads (behind o (w ∷ words)) h u
+waiting_more None w words h v u e heard more = word_more w words h v u e heard more
+waiting_more (Some o) w words h v u e heard more =
+    let t = value_told o w h v heard in
+    let k = set_told t.0 words h v u t.2 more in
+    (k.0, t.0 ∷ k.1, two_words t.1 k.2, k.3, k.4)
+
+-- words that are read to an end without an option that waits spell what was read
+all_heard : (words : List Word) (h u : Heard) → u.waiting ≡ None → hear_all h words ≡ Some u → Leads (behind h.waiting words) h u
+all_heard [] h u e heard =
+    let same = same_Some h u heard in
+    subst (Leads (behind h.waiting []) h) same (leads_nowhere h h.waiting (ap (λ g. g.waiting) same ∙ e))
+all_heard (w ∷ words) h u e heard = option_and_then_some (λ g. hear_all g words) (hear h w) u heard (λ v is rest.
+    waiting_more h.waiting w words h v u refl is (all_heard words v u e rest))
+
+-- ---- what is spelled is read
+
+abbrev at : Option Word → Settings → Heard
+at file settings = record { file = file; settings = settings; waiting = None }
+
+abbrev waits : Option Word → Settings → Valued → Heard
+waits file settings o = record { file = file; settings = settings; waiting = Some o }
+
+name_heard : (o : Valued) (f : Option Word) (s : Settings) → hear (at f s) (option_word o) ≡ Some (waits f s o)
+name_heard valued.Budget f s = refl
+name_heard valued.Size f s = refl
+name_heard valued.Order f s = refl
+name_heard valued.Seed f s = refl
+
+if_false : {A : Type 0} (b : Bool) (x y : A) → b ≡ false → (if b then x else y) ≡ y
+if_false true x y e = false_true (sym e)
+if_false false x y e = refl
+
+cut_heard : (h : Heard) (w : Word) → (equals_at w ≡ length w → ⊥)
+    → hear_option h w ≡ option_and_then (λ o. hear_value h o (drop (equals_at w + 1) w)) (option_named (take (equals_at w) w))
+cut_heard h w e = if_false (equals_at w == length w) (option_map (λ o. record h { waiting = Some o }) (option_named w))
+    (option_and_then (λ o. hear_value h o (drop (equals_at w + 1) w)) (option_named (take (equals_at w) w))) (not_same (equals_at w) (length w) e)
+
+both_heard : (o : Valued) (value : Word) (f : Option Word) (s : Settings)
+    → hear (at f s) (option_word o ++ (61 ∷ value)) ≡ hear_value (at f s) o value
+both_heard valued.Budget value f s = cut_heard (at f s) (codes "--budget" ++ (61 ∷ value)) (λ e. omega (arith, e))
+both_heard valued.Size value f s = cut_heard (at f s) (codes "--size" ++ (61 ∷ value)) (λ e. omega (arith, e))
+both_heard valued.Order value f s = cut_heard (at f s) (codes "--order" ++ (61 ∷ value)) (λ e. omega (arith, e))
+both_heard valued.Seed value f s = cut_heard (at f s) (codes "--seed" ++ (61 ∷ value)) (λ e. omega (arith, e))
+
+set_heard : (x : Setting) (f : Option Word) (s t : Settings) (g : Heard) → g.file ≡ f → g.settings ≡ s → with_setting s x ≡ Some t → hear_setting g x ≡ Some (at f t)
+set_heard x f s t g e k is =
+    ap (λ r. option_map (λ settings. record g { settings = settings; waiting = None }) (with_setting r x)) k
+    ∙ ap (option_map (λ settings. record g { settings = settings; waiting = None })) is
+    ∙ (λ i. Some (record { file = e i; settings = t; waiting = None }))
+
+value_heard : (o : Valued) (value : Word) (x : Setting) (f : Option Word) (s t : Settings) (g : Heard) → g.file ≡ f → g.settings ≡ s
+    → setting_of o value ≡ Some x → with_setting s x ≡ Some t → hear_value g o value ≡ Some (at f t)
+value_heard o value x f s t g e k v is = then_some (hear_setting g) (setting_of o value) x (Some (at f t)) v (set_heard x f s t g e k is)
+
+file_heard : (w : Word) (f : Option Word) (s : Settings) → IsFileName w → f ≡ None → hear (at f s) w ≡ Some (at (Some w) s)
+file_heard w f s named e =
+    ap (λ b. if b then hear_file (at f s) w else (if bytes_eq w (codes "--trace") then hear_setting (at f s) set.Trace else hear_option (at f s) w)) (file_read_is w named)
+    ∙ ap (λ o. if is_some o then None else Some (at (Some w) s)) e
+
+-- the words of files and settings are read as these
+all_spelled : {words files : List Word} {settings : List Setting} → Spells words files settings → (f g : Option Word) (s t : Settings)
+    → option_to_list f ++ files ≡ option_to_list g → settings_all s settings ≡ Some t → hear_all (at f s) words ≡ Some (at g t)
+all_spelled nothing f g s t e k =
+    let file = list_option f g e in
+    let settings = same_Some s t k in
+    λ i. Some (at (file i) (settings i))
+all_spelled (a_file {file = w} {words = words} {files = files} named more) f g s t e k =
+    let free = front_empty f g w files e in
+    then_some (λ h. hear_all h words) (hear (at f s) w) (at (Some w) s) (Some (at g t)) (file_heard w f s named free)
+    (all_spelled more (Some w) g s t (ap (λ o. option_to_list o ++ (w ∷ files)) (sym free) ∙ e) k)
+all_spelled (a_trace {option = w} {words = words} {settings = settings} is more) f g s t e k =
+    option_and_then_some (λ r. settings_all r settings) (with_setting s set.Trace) t k (λ r isset rest.
+    then_some (λ h. hear_all h words) (hear (at f s) w) (at f r) (Some (at g t))
+    (ap (hear (at f s)) is ∙ set_heard set.Trace f s r (at f s) refl refl isset)
+    (all_spelled more f g r t e rest))
+all_spelled (two_words {option = w} {value = value} {words = words} {setting = x} {settings = settings} sets more) f g s t e k =
+    let o = setting_read w value x sets in
+    option_and_then_some (λ r. settings_all r settings) (with_setting s x) t k (λ r isset rest.
+    then_some (λ h. hear_all h (value ∷ words)) (hear (at f s) w) (waits f s o.0) (Some (at g t))
+    (ap (hear (at f s)) o.1 ∙ name_heard o.0 f s)
+    (then_some (λ h. hear_all h words) (hear (waits f s o.0) value) (at f r) (Some (at g t))
+    (value_heard o.0 value x f s r (waits f s o.0) refl refl o.2 isset)
+    (all_spelled more f g r t e rest)))
+all_spelled (one_word {word = w} option value {words = words} {setting = x} {settings = settings} cut sets more) f g s t e k =
+    let o = setting_read option value x sets in
+    option_and_then_some (λ r. settings_all r settings) (with_setting s x) t k (λ r isset rest.
+    then_some (λ h. hear_all h words) (hear (at f s) w) (at f r) (Some (at g t))
+    (ap (hear (at f s)) (cut ∙ ap (λ n. n ++ (61 ∷ value)) o.1) ∙ both_heard o.0 value f s ∙ value_heard o.0 value x f s r (at f s) refl refl o.2 isset)
+    (all_spelled more f g r t e rest))
+
+-- ---- runs
+
+asked_by : (words : List Word) (h : Heard) (file : Word) → h.waiting ≡ None → h.file ≡ Some file → hear_all nothing_heard words ≡ Some h
+    → AsksRun words (run_by h.settings file)
+asked_by words h file waiting named heard =
+    let k : Leads words nothing_heard h = all_heard words nothing_heard h waiting heard in
+    let c = all_told no_settings h.settings k.1 k.4 in
+    let s = h.settings in
+    record {
+      settings = k.1;
+      spelled = subst (λ files. Spells words files k.1) (k.3 ∙ ap option_to_list named) k.2;
+      trace = subst (λ l. OnlyOr false l s.trace) (sym c.trace) (flag_only s.trace);
+      budget = subst (λ l. OnlyOr 1000000 l (unwrap_or s.budget 1000000)) (sym c.budget) (value_only 1000000 s.budget);
+      size = subst (λ l. OnlyOr 16777216 l (unwrap_or s.size 16777216)) (sym c.size) (value_only 16777216 s.size);
+      order_name = unwrap_or s.order name.First;
+      named = subst (λ l. OnlyOr name.First l (unwrap_or s.order name.First)) (sym c.order) (value_only name.First s.order);
+      seed = unwrap_or s.seed 0;
+      seeded = subst (λ l. OnlyOr 0 l (unwrap_or s.seed 0)) (sym c.seed) (value_only 0 s.seed);
+      order = refl;
+    }
+
+run_told : (words : List Word) (run : Run) → run_read words ≡ Some run → AsksRun words run
+run_told words run e = option_and_then_some run_heard (hear_all nothing_heard words) run e (λ h heard rest.
+    if_some (is_some h.waiting) None (option_map (run_by h.settings) h.file) run rest (λ t bad. absurd (none-some run bad)) (λ free m.
+    map_some (run_by h.settings) h.file run m (λ file named same.
+    subst (AsksRun words) same (asked_by words h file (is_none h.waiting free) named heard))))
+
+-- one file and settings, each at most once, are read
+run_spelled : (words : List Word) (file : Word) (settings : List Setting) → Spells words (file ∷ []) settings → EachAtMostOnce settings
+    → run_read words ≡ Some (run_by (firsts settings) file)
+run_spelled words file settings spelled once =
+    let collected = all_read no_settings (firsts settings) settings (firsts_collected settings once) in
+    then_some run_heard (hear_all nothing_heard words) (at (Some file) (firsts settings)) (Some (run_by (firsts settings) file))
+    (all_spelled spelled None (Some file) no_settings (firsts settings) refl collected) refl
+
+each_once : {words : List Word} {run : Run} → (a : AsksRun words run) → EachAtMostOnce a.settings
+each_once {words} {run} a = (
+  at_most_one false (filter_map trace_of a.settings) run.trace a.trace,
+  at_most_one 1000000 (filter_map budget_of a.settings) run.budget a.budget,
+  at_most_one 16777216 (filter_map size_of a.settings) run.size a.size,
+  at_most_one name.First (filter_map order_name_of a.settings) a.order_name a.named,
+  at_most_one 0 (filter_map seed_of a.settings) a.seed a.seeded,
+)
+
+run_reads : (words : List Word) (run : Run) → AsksRun words run → run_read words ≡ Some run
+run_reads words run a =
+    let trace = trace_value a.settings run.trace a.trace in
+    let budget = only_value 1000000 (filter_map budget_of a.settings) run.budget a.budget in
+    let size = only_value 16777216 (filter_map size_of a.settings) run.size a.size in
+    let named = only_value name.First (filter_map order_name_of a.settings) a.order_name a.named in
+    let seeded = only_value 0 (filter_map seed_of a.settings) a.seed a.seeded in
+    let order = (λ i. ordered_by (named i) (seeded i)) ∙ sym a.order in
+    run_spelled words run.file a.settings a.spelled (each_once a)
+    ∙ (λ i. Some (record { file = run.file; trace = trace i; budget = budget i; size = size i; order = order i }))
+
+-- ---- requests
+
+file_told_of : (words : List Word) (file : Word) → file_read words ≡ Some file → (words ≡ file ∷ []) × IsFileName file
+file_told_of [] file e = absurd (none-some file e)
+file_told_of (w ∷ []) file e = if_some (is_file_name w) (Some w) None file e
+    (λ t s. let same = same_Some w file s in (ap (λ x. x ∷ []) same, subst IsFileName same (file_told w t)))
+    (λ f s. absurd (none-some file s))
+file_told_of (w ∷ (v ∷ words)) file e = absurd (none-some file e)
+
+file_reads : (words : List Word) (file : Word) → words ≡ file ∷ [] → IsFileName file → file_read words ≡ Some file
+file_reads words file e named = ap file_read e ∙ ap (λ b. if b then Some file else None) (file_read_is file named)
+
+pub request_told : (words : List Word) (r : Request) → request_read words ≡ Some r → TextsAsk words r
+request_told [] r e = absurd (none-some r e)
+request_told (w ∷ words) r e = if_some (bytes_eq w (codes "run")) (option_map to_run (run_read words))
+    (if bytes_eq w (codes "compile") then option_map to_compile (file_read words) else None) r e
+    (λ t g. map_some to_run (run_read words) r g (λ run is same. subst (TextsAsk (w ∷ words)) same (is_bytes w (codes "run") t, run_told words run is)))
+    (λ f g. if_some (bytes_eq w (codes "compile")) (option_map to_compile (file_read words)) None r g
+    (λ t k. map_some to_compile (file_read words) r k (λ file is same.
+    let p = file_told_of words file is in
+    subst (TextsAsk (w ∷ words)) same (is_bytes w (codes "compile") t, p.0, p.1)))
+    (λ f k. absurd (none-some r k)))
+
+run_first : (w : Word) (words : List Word) → w ≡ codes "run" → request_read (w ∷ words) ≡ option_map to_run (run_read words)
+run_first w words e = ap (λ v. request_read (v ∷ words)) e
+
+compile_first : (w : Word) (words : List Word) → w ≡ codes "compile" → request_read (w ∷ words) ≡ option_map to_compile (file_read words)
+compile_first w words e = ap (λ v. request_read (v ∷ words)) e
+
+-- what words ask for is read
+pub request_reads : (words : List Word) (r : Request) → TextsAsk words r → request_read words ≡ Some r
+request_reads [] r h = absurd h
+request_reads (w ∷ words) (to_run run) h = run_first w words h.0 ∙ ap (option_map to_run) (run_reads words run h.1)
+request_reads (w ∷ words) (to_compile file) h = compile_first w words h.0 ∙ ap (option_map to_compile) (file_reads words file h.1 h.2)
+
+-- words of the form are read
+pub form_reads : (words : List Word) → IsForm words → (r : Request) × (request_read words ≡ Some r)
+form_reads [] h = absurd h
+form_reads (w ∷ words) (inl h) = (
+  to_run (run_by (firsts h.1.1) h.1.0),
+  run_first w words h.0 ∙ ap (option_map to_run) (run_spelled words h.1.0 h.1.1 h.1.2 h.1.3),
+)
+form_reads (w ∷ words) (inr h) = (to_compile h.1.0, compile_first w words h.0 ∙ ap (option_map to_compile) (file_reads words h.1.0 h.1.1 h.1.2))
+
+-- words that ask for something are of the form
+pub asks_form : (words : List Word) (r : Request) → TextsAsk words r → IsForm words
+asks_form [] r h = absurd h
+asks_form (w ∷ words) (to_run run) h = inl (h.0, (run.file, h.1.settings, h.1.spelled, each_once h.1))
+asks_form (w ∷ words) (to_compile file) h = inr (h.0, (file, h.1, h.2))
+
+-- ---- ranges
+
+abbrev InRange : Setting → Type 0
+InRange set.Trace = ⊤
+InRange (set.Budget n) = n ≤ 9223372036854775807
+InRange (set.Size n) = (1 ≤ n) × (n ≤ 4294967295)
+InRange (set.Order kind) = ⊤
+InRange (set.Seed n) = ⊤
+
+abbrev AllInRange : List Setting → Type 0
+AllInRange [] = ⊤
+AllInRange (x ∷ xs) = InRange x × AllInRange xs
+
+set_in_range : (option value : Word) (x : Setting) → Sets option value x → InRange x
+set_in_range option value set.Trace h = absurd h
+set_in_range option value (set.Budget n) h = h.1.4
+set_in_range option value (set.Size n) h = (h.1.3, h.1.4)
+set_in_range option value (set.Order kind) h = tt
+set_in_range option value (set.Seed n) h = tt
+
+all_in_range : {words files : List Word} {settings : List Setting} → Spells words files settings → AllInRange settings
+all_in_range nothing = tt
+all_in_range (a_file named more) = all_in_range more
+all_in_range (a_trace is more) = (tt, all_in_range more)
+all_in_range (two_words {option = w} {value = value} {setting = x} sets more) = (set_in_range w value x sets, all_in_range more)
+all_in_range (one_word option value {setting = x} cut sets more) = (set_in_range option value x sets, all_in_range more)
+
+only_head : {A : Type 0} (d x : A) (xs : List A) (v : A) → OnlyOr d (x ∷ xs) v → v ≡ x
+only_head d x [] v h = h
+only_head d x (y ∷ xs) v h = absurd h
+
+budget_in_range : (xs : List Setting) (v : ℕ) → AllInRange xs → OnlyOr 1000000 (filter_map budget_of xs) v → v ≤ 9223372036854775807
+budget_in_range [] v r h = omega (arith, h)
+budget_in_range (set.Trace ∷ xs) v r h = budget_in_range xs v r.1 h
+budget_in_range (set.Budget n ∷ xs) v r h = omega (arith, only_head 1000000 n (filter_map budget_of xs) v h, r.0)
+budget_in_range (set.Size n ∷ xs) v r h = budget_in_range xs v r.1 h
+budget_in_range (set.Order kind ∷ xs) v r h = budget_in_range xs v r.1 h
+budget_in_range (set.Seed n ∷ xs) v r h = budget_in_range xs v r.1 h
+
+size_in_range : (xs : List Setting) (v : ℕ) → AllInRange xs → OnlyOr 16777216 (filter_map size_of xs) v → (1 ≤ v) × (v ≤ 4294967295)
+size_in_range [] v r h = (omega (arith, h), omega (arith, h))
+size_in_range (set.Trace ∷ xs) v r h = size_in_range xs v r.1 h
+size_in_range (set.Budget n ∷ xs) v r h = size_in_range xs v r.1 h
+size_in_range (set.Size n ∷ xs) v r h =
+    let same = only_head 16777216 n (filter_map size_of xs) v h in
+    (omega (arith, same, r.0.0), omega (arith, same, r.0.1))
+size_in_range (set.Order kind ∷ xs) v r h = size_in_range xs v r.1 h
+size_in_range (set.Seed n ∷ xs) v r h = size_in_range xs v r.1 h
+
+-- the numbers of what is asked for lie in their ranges
+pub in_ranges : (words : List Word) (r : Request) → TextsAsk words r → IsInRanges r
+in_ranges [] r h = absurd h
+in_ranges (w ∷ words) (to_run run) h =
+    let a = h.1 in
+    let size = size_in_range a.settings run.size (all_in_range a.spelled) a.size in
+    (budget_in_range a.settings run.budget (all_in_range a.spelled) a.budget, size.0, size.1)
+in_ranges (w ∷ words) (to_compile file) h = tt
+
+-- ---- commands
+
+pub command_in_ranges : (words : List (String Global)) (o : Option Command) → option_map request_of o ≡ request_read (texts_of words)
+    → IfSome o (λ command. IsInRanges (request_of command))
+command_in_ranges words None e = tt
+command_in_ranges words (Some command) e = in_ranges (texts_of words) (request_of command) (request_told (texts_of words) (request_of command) (sym e))
+
+pub command_asks : (words : List (String Global)) (o : Option Command) → option_map request_of o ≡ request_read (texts_of words)
+    → IfSome o (λ command. Asks words (request_of command))
+command_asks words None e = tt
+command_asks words (Some command) e = request_told (texts_of words) (request_of command) (sym e)
+
+pub command_form : (words : List (String Global)) (o : Option Command) → option_map request_of o ≡ request_read (texts_of words)
+    → (IsSome o → InForm words) × (InForm words → IsSome o)
+command_form words None e = (λ is. false_true is, λ h. absurd (let r = form_reads (texts_of words) h in none-some r.0 (e ∙ r.1)))
+command_form words (Some command) e = (
+  λ is. asks_form (texts_of words) (request_of command) (request_told (texts_of words) (request_of command) (sym e)),
+  λ h. refl,
+)

@@ -1,0 +1,169 @@
+-- The form of the words of the command line, and what words of the form ask for.
+use Rattle.std.specs.Prelude.{◌≡◌, ◌≢◌, ◌⊎◌, ◌≤◌, ⊤, ℕ, Bool, true, false, List, [], ◌∷◌, ◌++◌, Option, Some, None, length, map, filter_map, codes, string_bytes}
+use Rattle.std.specs.Str.Parse.{IsNumeral, digits_value}
+use Rattle.std.specs.declared.string.String.{String}
+use Rattle.std.specs.declared.alloc.Global.{Global}
+use Rattle.lmn_order.specs.declared.order.Order.{Order}
+use Rattle.lmn_order.specs.declared.order.Order.TheVariants as order
+use Rattle.lmn_words.specs.declared.setting.Setting.{Setting}
+use Rattle.lmn_words.specs.declared.setting.Setting.TheVariants as set
+use Rattle.lmn_words.specs.declared.setting.OrderName.{OrderName}
+use Rattle.lmn_words.specs.declared.setting.OrderName.TheVariants as name
+use Rattle.lmn_words.specs.declared.command.Command.{Command}
+use Rattle.lmn_words.specs.declared.command.Command.TheVariants as command
+use Rattle.lmn_words.specs.declared.command.RunWords.{RunWords}
+
+-- ---- words
+
+abbrev pub Word : Type 0
+Word = List ℕ
+
+-- a word that can name a file isn't empty and doesn't begin with `-`
+abbrev pub IsFileName : Word → Type 0
+IsFileName [] = ⊥
+IsFileName (first ∷ rest) = first ≢ 45
+
+-- the word is the number n, in 1 to 19 decimal digits, and n lies between the two
+abbrev pub IsNumber : ℕ → ℕ → Word → ℕ → Type 0
+IsNumber least most word n = IsNumeral 10 word × (length word ≤ 19) × (digits_value 10 word ≡ n) × (least ≤ n) × (n ≤ most)
+
+abbrev pub order_word : OrderName → Word
+order_word name.First = codes "first"
+order_word name.Turn = codes "turn"
+order_word name.Seed = codes "seed"
+
+-- the option of this name, with this value, sets this
+abbrev pub Sets : Word → Word → Setting → Type 0
+Sets option value set.Trace = ⊥
+Sets option value (set.Budget n) = (option ≡ codes "--budget") × IsNumber 0 9223372036854775807 value n
+Sets option value (set.Size n) = (option ≡ codes "--size") × IsNumber 1 4294967295 value n
+Sets option value (set.Order kind) = (option ≡ codes "--order") × (value ≡ order_word kind)
+Sets option value (set.Seed n) = (option ≡ codes "--seed") × IsNumber 0 9223372036854775807 value n
+
+-- The words are these files and these settings, in any order. An option with a value is two words, or one with `=`.
+pub data Spells : List Word → List Word → List Setting → Type 0 where
+  nothing : Spells [] [] []
+  a_file : {file : Word} {words files : List Word} {settings : List Setting} → IsFileName file
+      → Spells words files settings → Spells (file ∷ words) (file ∷ files) settings
+  a_trace : {option : Word} {words files : List Word} {settings : List Setting} → option ≡ codes "--trace"
+      → Spells words files settings → Spells (option ∷ words) files (set.Trace ∷ settings)
+  two_words : {option value : Word} {words files : List Word} {setting : Setting} {settings : List Setting} → Sets option value setting
+      → Spells words files settings → Spells (option ∷ (value ∷ words)) files (setting ∷ settings)
+  one_word : {word : Word} (option value : Word) {words files : List Word} {setting : Setting} {settings : List Setting}
+      → word ≡ option ++ (codes "=" ++ value) → Sets option value setting
+      → Spells words files settings → Spells (word ∷ words) files (setting ∷ settings)
+
+-- ---- what is given
+
+abbrev pub trace_of : Setting → Option Bool
+trace_of set.Trace = Some true
+trace_of _ = None
+
+abbrev pub budget_of : Setting → Option ℕ
+budget_of (set.Budget n) = Some n
+budget_of _ = None
+
+abbrev pub size_of : Setting → Option ℕ
+size_of (set.Size n) = Some n
+size_of _ = None
+
+abbrev pub order_name_of : Setting → Option OrderName
+order_name_of (set.Order kind) = Some kind
+order_name_of _ = None
+
+abbrev pub seed_of : Setting → Option ℕ
+seed_of (set.Seed n) = Some n
+seed_of _ = None
+
+-- the option that has these values is given at most once
+abbrev pub AtMostOne : {A : Type 0} → (Setting → Option A) → List Setting → Type 0
+AtMostOne value_of settings = length (filter_map value_of settings) ≤ 1
+
+-- each option is given at most once
+abbrev pub EachAtMostOnce : List Setting → Type 0
+EachAtMostOnce settings = AtMostOne trace_of settings × AtMostOne budget_of settings × AtMostOne size_of settings
+    × AtMostOne order_name_of settings × AtMostOne seed_of settings
+
+-- the one value that is given, or the default where none is
+abbrev pub OnlyOr : {A : Type 0} → A → List A → A → Type 0
+OnlyOr default [] value = value ≡ default
+OnlyOr default (given ∷ []) value = value ≡ given
+OnlyOr default (given ∷ again ∷ more) value = ⊥
+
+abbrev pub ordered_by : OrderName → ℕ → Order
+ordered_by name.First seed = order.First
+ordered_by name.Turn seed = order.Turn
+ordered_by name.Seed seed = order.Seed seed
+
+-- ---- what is asked for
+
+-- what `run` is asked for: the file and the options, with the defaults of those that aren't given
+pub record Run : Type 0 where
+  pub file : Word
+  pub trace : Bool
+  pub budget : ℕ
+  pub size : ℕ
+  pub order : Order
+
+pub data Request : Type 0 where
+  to_run : Run → Request
+  to_compile : Word → Request
+
+-- the words behind `run` name one file, and settings that give these values
+pub record AsksRun (words : List Word) (run : Run) : Type 0 where
+  pub settings : List Setting
+  pub spelled : Spells words (run.file ∷ []) settings
+  pub trace : OnlyOr false (filter_map trace_of settings) run.trace
+  pub budget : OnlyOr 1000000 (filter_map budget_of settings) run.budget
+  pub size : OnlyOr 16777216 (filter_map size_of settings) run.size
+  pub order_name : OrderName
+  pub named : OnlyOr name.First (filter_map order_name_of settings) order_name
+  pub seed : ℕ
+  pub seeded : OnlyOr 0 (filter_map seed_of settings) seed
+  pub order : run.order ≡ ordered_by order_name seed
+
+abbrev pub texts_of : List (String Global) → List Word
+texts_of = map string_bytes
+
+-- these texts ask for this
+abbrev pub TextsAsk : List Word → Request → Type 0
+TextsAsk [] request = ⊥
+TextsAsk (first ∷ words) (to_run run) = (first ≡ codes "run") × AsksRun words run
+TextsAsk (first ∷ words) (to_compile file) = (first ≡ codes "compile") × (words ≡ file ∷ []) × IsFileName file
+
+-- the words ask for this
+abbrev pub Asks : List (String Global) → Request → Type 0
+Asks words = TextsAsk (texts_of words)
+
+-- the numbers of a request lie in their ranges
+abbrev pub IsInRanges : Request → Type 0
+IsInRanges (to_run run) = (run.budget ≤ 9223372036854775807) × (1 ≤ run.size) × (run.size ≤ 4294967295)
+IsInRanges (to_compile file) = ⊤
+
+-- ---- the form
+
+-- one file, and each option at most once
+abbrev pub IsRunForm : List Word → Type 0
+IsRunForm words = (file : Word) × (settings : List Setting) × Spells words (file ∷ []) settings × EachAtMostOnce settings
+
+-- one file
+abbrev pub IsCompileForm : List Word → Type 0
+IsCompileForm words = (file : Word) × (words ≡ file ∷ []) × IsFileName file
+
+abbrev pub IsForm : List Word → Type 0
+IsForm [] = ⊥
+IsForm (first ∷ words) = ((first ≡ codes "run") × IsRunForm words) ⊎ ((first ≡ codes "compile") × IsCompileForm words)
+
+-- the words are of the form
+abbrev pub InForm : List (String Global) → Type 0
+InForm words = IsForm (texts_of words)
+
+-- ---- what a command is
+
+abbrev pub run_of : RunWords → Run
+run_of words = record { file = words.file.now; trace = words.trace; budget = words.budget; size = words.size; order = words.order }
+
+-- the request of a command
+abbrev pub request_of : Command → Request
+request_of (command.Run run) = to_run (run_of run)
+request_of (command.Compile file) = to_compile file.now

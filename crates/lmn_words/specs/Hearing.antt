@@ -1,0 +1,136 @@
+-- How the words are read, one after another. No public contract cites a word of this module.
+use Rattle.std.specs.Prelude.{◌==◌, ◌&&◌, not, ℕ, Bool, true, false, List, [], ◌∷◌, ◌+◌, Option, Some, None, is_some, length, take, drop, codes, nat_le, if◌then◌else◌, option_map, option_and_then, unwrap_or, bytes_eq}
+use Rattle.std.specs.List.{list_all, position_or_len}
+use Rattle.std.specs.Str.Parse.{digits_value}
+use Rattle.lmn_words.specs.declared.setting.Setting.{Setting}
+use Rattle.lmn_words.specs.declared.setting.Setting.TheVariants as set
+use Rattle.lmn_words.specs.declared.setting.Settings.{Settings}
+use Rattle.lmn_words.specs.declared.setting.Valued.{Valued}
+use Rattle.lmn_words.specs.declared.setting.Valued.TheVariants as valued
+use Rattle.lmn_words.specs.declared.setting.OrderName.{OrderName}
+use Rattle.lmn_words.specs.declared.setting.OrderName.TheVariants as name
+use Rattle.lmn_words.specs.declared.reading.Reader.{Reader}
+use Rattle.lmn_words.specs.Forms.{Word, Request, Run, ordered_by, to_run, to_compile}
+
+-- ---- one word
+
+abbrev pub begins_with : ℕ → Word → Bool
+begins_with byte [] = false
+begins_with byte (first ∷ rest) = first == byte
+
+abbrev pub is_file_name : Word → Bool
+is_file_name [] = false
+is_file_name (first ∷ rest) = not (first == 45)
+
+abbrev pub is_digit : ℕ → Bool
+is_digit byte = nat_le 48 byte && nat_le byte 57
+
+-- the number that 1 to 19 digits write
+abbrev pub number_of : Word → Option ℕ
+number_of word = if not (length word == 0) && (nat_le (length word) 19 && list_all is_digit word) then Some (digits_value 10 word) else None
+
+-- the number, where it lies between the two
+abbrev pub number_from : ℕ → ℕ → Word → Option ℕ
+number_from least most word = option_and_then (λ n. if nat_le least n && nat_le n most then Some n else None) (number_of word)
+
+abbrev pub order_named : Word → Option OrderName
+order_named word = if bytes_eq word (codes "first") then Some name.First
+    else if bytes_eq word (codes "turn") then Some name.Turn
+    else if bytes_eq word (codes "seed") then Some name.Seed else None
+
+abbrev pub option_named : Word → Option Valued
+option_named word = if bytes_eq word (codes "--budget") then Some valued.Budget
+    else if bytes_eq word (codes "--size") then Some valued.Size
+    else if bytes_eq word (codes "--order") then Some valued.Order
+    else if bytes_eq word (codes "--seed") then Some valued.Seed else None
+
+abbrev pub setting_of : Valued → Word → Option Setting
+setting_of valued.Budget value = option_map set.Budget (number_from 0 9223372036854775807 value)
+setting_of valued.Size value = option_map set.Size (number_from 1 4294967295 value)
+setting_of valued.Order value = option_map set.Order (order_named value)
+setting_of valued.Seed value = option_map set.Seed (number_from 0 9223372036854775807 value)
+
+-- ---- what was read so far
+
+-- the settings with one more, which isn't among them
+abbrev pub with_setting : Settings → Setting → Option Settings
+with_setting s set.Trace = if s.trace then None else Some (record s { trace = true })
+with_setting s (set.Budget n) = if is_some s.budget then None else Some (record s { budget = Some n })
+with_setting s (set.Size n) = if is_some s.size then None else Some (record s { size = Some n })
+with_setting s (set.Order kind) = if is_some s.order then None else Some (record s { order = Some kind })
+with_setting s (set.Seed n) = if is_some s.seed then None else Some (record s { seed = Some n })
+
+-- the file, the settings, and the option that waits for its value
+pub record Heard : Type 0 where
+  pub file : Option Word
+  pub settings : Settings
+  pub waiting : Option Valued
+
+abbrev pub heard_of : Reader → Heard
+heard_of reader = record { file = option_map (λ file. file.now) reader.file; settings = reader.settings; waiting = reader.waiting }
+
+abbrev pub no_settings : Settings
+no_settings = record { trace = false; budget = None; size = None; order = None; seed = None }
+
+abbrev pub nothing_heard : Heard
+nothing_heard = record { file = None; settings = no_settings; waiting = None }
+
+abbrev pub hear_setting : Heard → Setting → Option Heard
+hear_setting h setting = option_map (λ settings. record h { settings = settings; waiting = None }) (with_setting h.settings setting)
+
+abbrev pub hear_value : Heard → Valued → Word → Option Heard
+hear_value h option value = option_and_then (hear_setting h) (setting_of option value)
+
+abbrev pub hear_file : Heard → Word → Option Heard
+hear_file h word = if is_some h.file then None else Some (record h { file = Some word })
+
+-- the place of the first `=`, or the length
+abbrev pub equals_at : Word → ℕ
+equals_at = position_or_len (λ b. b == 61)
+
+abbrev pub hear_option : Heard → Word → Option Heard
+hear_option h word = if equals_at word == length word
+    then option_map (λ option. record h { waiting = Some option }) (option_named word)
+    else option_and_then (λ option. hear_value h option (drop (equals_at word + 1) word)) (option_named (take (equals_at word) word))
+
+abbrev pub hear_word : Heard → Word → Option Heard
+hear_word h word = if is_file_name word then hear_file h word
+    else if bytes_eq word (codes "--trace") then hear_setting h set.Trace else hear_option h word
+
+abbrev pub hear_waiting : Option Valued → Heard → Word → Option Heard
+hear_waiting (Some option) h word = hear_value h option word
+hear_waiting None h word = hear_word h word
+
+abbrev pub hear : Heard → Word → Option Heard
+hear h = hear_waiting h.waiting h
+
+abbrev pub hear_all : Heard → List Word → Option Heard
+hear_all h [] = Some h
+hear_all h (word ∷ words) = option_and_then (λ next. hear_all next words) (hear h word)
+
+-- ---- the end
+
+abbrev pub run_by : Settings → Word → Run
+run_by s file = record {
+  file = file;
+  trace = s.trace;
+  budget = unwrap_or s.budget 1000000;
+  size = unwrap_or s.size 16777216;
+  order = ordered_by (unwrap_or s.order name.First) (unwrap_or s.seed 0);
+}
+
+abbrev pub run_heard : Heard → Option Run
+run_heard h = if is_some h.waiting then None else option_map (run_by h.settings) h.file
+
+abbrev pub run_read : List Word → Option Run
+run_read words = option_and_then run_heard (hear_all nothing_heard words)
+
+abbrev pub file_read : List Word → Option Word
+file_read [] = None
+file_read (file ∷ []) = if is_file_name file then Some file else None
+file_read (file ∷ more ∷ words) = None
+
+abbrev pub request_read : List Word → Option Request
+request_read [] = None
+request_read (first ∷ words) = if bytes_eq first (codes "run") then option_map to_run (run_read words)
+    else if bytes_eq first (codes "compile") then option_map to_compile (file_read words) else None

@@ -1,0 +1,11 @@
+//! The law of what words ask for.
+
+ghost use Rattle.lmn_words.specs.Laws.{FormsAsk, OneRequest, RequestsInRanges};
+
+/// Words of the form ask for exactly one thing, whose numbers lie in their ranges, and words that aren't of the form ask
+/// for none.
+pub fn asks_one()
+    ensures some { FormsAsk }
+    ensures one { OneRequest }
+    ensures ranges { RequestsInRanges }
+{}

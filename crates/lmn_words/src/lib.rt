@@ -1,0 +1,13 @@
+//! The words of the command line: their form, and what they ask for.
+#![tactic(auto)]
+
+mod command;
+mod laws;
+mod reading;
+mod setting;
+#[cfg(test)]
+mod tests;
+
+pub use command::{Command, RunWords};
+pub use laws::asks_one;
+pub use reading::in_form;

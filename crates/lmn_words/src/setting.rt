@@ -1,0 +1,239 @@
+ghost use Rattle.std.specs.Prelude.{◌≡◌};
+ghost use Rattle.lmn_words.specs.Hearing.{
+  begins_with,
+  no_settings,
+  number_from,
+  number_of,
+  option_named,
+  order_named,
+  run_by,
+  setting_of,
+  with_setting,
+};
+ghost use Rattle.lmn_words.specs.Forms.{ordered_by, run_of};
+
+use crate::command::RunWords;
+use lmn_order::Order;
+
+/// The most digits of a number.
+const DIGITS: usize = 19;
+
+/// The most that `--budget` and `--seed` take.
+const MOST: u64 = 9_223_372_036_854_775_807;
+
+/// The most that `--size` takes.
+const MOST_ITEMS: u64 = 4_294_967_295;
+
+/// The budget where none is given.
+const BUDGET: u64 = 1_000_000;
+
+/// The size where none is given.
+const SIZE: u64 = 16_777_216;
+
+/// What one option sets.
+#[derive(Clone, Copy, Debug, PartialEq, Eq)]
+pub(crate) enum Setting {
+    Trace,
+    Budget(u64),
+    Size(u64),
+    Order(OrderName),
+    Seed(u64),
+}
+
+/// The value of `--order`.
+#[derive(Clone, Copy, Debug, PartialEq, Eq)]
+pub(crate) enum OrderName {
+    First,
+    Turn,
+    Seed,
+}
+
+impl OrderName {
+    /// The order of this name.
+    fn named(word: &str) -> Option<OrderName>
+        ensures { result ≡ order_named word.now }
+    {
+        match word {
+            "first" => Some(OrderName::First),
+            "turn" => Some(OrderName::Turn),
+            "seed" => Some(OrderName::Seed),
+            _ => None,
+        }
+    }
+
+    /// The order, with the seed that it may carry.
+    fn with_seed(self, seed: u64) -> Order
+        ensures { result ≡ ordered_by self seed }
+    {
+        match self {
+            OrderName::First => Order::First,
+            OrderName::Turn => Order::Turn,
+            OrderName::Seed => Order::Seed(seed),
+        }
+    }
+}
+
+/// An option with a value.
+#[derive(Clone, Copy, Debug, PartialEq, Eq)]
+pub(crate) enum Valued {
+    Budget,
+    Size,
+    Order,
+    Seed,
+}
+
+impl Valued {
+    /// The option of this name.
+    pub(crate) fn named(word: &str) -> Option<Valued>
+        ensures { result ≡ option_named word.now }
+    {
+        match word {
+            "--budget" => Some(Valued::Budget),
+            "--size" => Some(Valued::Size),
+            "--order" => Some(Valued::Order),
+            "--seed" => Some(Valued::Seed),
+            _ => None,
+        }
+    }
+
+    /// What the option sets with this value.
+    pub(crate) fn setting(self, value: &str) -> Option<Setting>
+        ensures { result ≡ setting_of self value.now }
+    {
+        match self {
+            Valued::Budget => Some(Setting::Budget(number_between(value, 0, MOST)?)),
+            Valued::Size => Some(Setting::Size(number_between(value, 1, MOST_ITEMS)?)),
+            Valued::Order => Some(Setting::Order(OrderName::named(value)?)),
+            Valued::Seed => Some(Setting::Seed(number_between(value, 0, MOST)?)),
+        }
+    }
+}
+
+/// The number that a word writes, where it lies between the two.
+fn number_between(word: &str, least: u64, most: u64) -> Option<u64>
+    ensures { result ≡ number_from least most word.now }
+{
+    let n = number(word)?;
+    if least <= n && n <= most {
+        Some(n)
+    } else {
+        None
+    }
+}
+
+/// The number that 1 to 19 decimal digits write.
+fn number(word: &str) -> Option<u64>
+    ensures { result ≡ number_of word.now }
+{
+    if word.len() > DIGITS || begins_with(word.as_bytes(), b'+') {
+        return None;
+    }
+    word.parse::<u64>().ok()
+}
+
+/// Whether a word begins with this byte.
+fn begins_with(word: &[u8], byte: u8) -> bool
+    ensures { result ≡ begins_with byte word.now }
+{
+    match word {
+        [] => false,
+        [first, ..] => *first == byte,
+    }
+}
+
+/// What the options of `run` set so far, each at most once.
+#[derive(Clone, Copy, Debug, PartialEq, Eq)]
+pub(crate) struct Settings {
+    trace: bool,
+    budget: Option<u64>,
+    size: Option<u64>,
+    order: Option<OrderName>,
+    seed: Option<u64>,
+}
+
+impl Settings {
+    /// Nothing is set.
+    pub(crate) fn new() -> Settings
+        ensures { result ≡ no_settings }
+    {
+        Settings {
+            trace: false,
+            budget: None,
+            size: None,
+            order: None,
+            seed: None,
+        }
+    }
+
+    /// The settings with one more; `None` where that option is set already.
+    pub(crate) fn with(self, setting: Setting) -> Option<Settings>
+        ensures { result ≡ with_setting self setting }
+    {
+        match setting {
+            Setting::Trace => {
+                if self.trace {
+                    None
+                } else {
+                    Some(Settings {
+                        trace: true,
+                        ..self
+                    })
+                }
+            }
+            Setting::Budget(n) => {
+                if self.budget.is_some() {
+                    None
+                } else {
+                    Some(Settings {
+                        budget: Some(n),
+                        ..self
+                    })
+                }
+            }
+            Setting::Size(n) => {
+                if self.size.is_some() {
+                    None
+                } else {
+                    Some(Settings {
+                        size: Some(n),
+                        ..self
+                    })
+                }
+            }
+            Setting::Order(name) => {
+                if self.order.is_some() {
+                    None
+                } else {
+                    Some(Settings {
+                        order: Some(name),
+                        ..self
+                    })
+                }
+            }
+            Setting::Seed(n) => {
+                if self.seed.is_some() {
+                    None
+                } else {
+                    Some(Settings {
+                        seed: Some(n),
+                        ..self
+                    })
+                }
+            }
+        }
+    }
+
+    /// A run of a file by these settings, and by the defaults of those that aren't set.
+    pub(crate) fn run<'w>(self, file: &'w str) -> RunWords<'w>
+        ensures { run_of result ≡ run_by self file.now }
+    {
+        let seed = self.seed.unwrap_or(0);
+        RunWords {
+            file,
+            trace: self.trace,
+            budget: self.budget.unwrap_or(BUDGET),
+            size: self.size.unwrap_or(SIZE),
+            order: self.order.unwrap_or(OrderName::First).with_seed(seed),
+        }
+    }
+}

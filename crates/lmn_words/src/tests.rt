@@ -1,0 +1,213 @@
+use crate::{Command, RunWords, in_form};
+use lmn_order::Order;
+use std::alloc::{AllocError, Global};
+use std::test::Fail;
+
+/// What `run f` asks for.
+const PLAIN: RunWords = RunWords {
+    file: "f",
+    trace: false,
+    budget: 1_000_000,
+    size: 16_777_216,
+    order: Order::First,
+};
+
+/// Words behind `run`, and what they ask for.
+const RUNS: [(&[&str], RunWords); 17] = [
+    (&["f"], PLAIN),
+    (
+        &["a=b"],
+        RunWords {
+            file: "a=b",
+            ..PLAIN
+        },
+    ),
+    (
+        &["run"],
+        RunWords {
+            file: "run",
+            ..PLAIN
+        },
+    ),
+    (
+        &["--trace", "f", "--budget=5"],
+        RunWords {
+            trace: true,
+            budget: 5,
+            ..PLAIN
+        },
+    ),
+    (&["f", "--budget", "0"], RunWords { budget: 0, ..PLAIN }),
+    (
+        &["--budget", "9223372036854775807", "f"],
+        RunWords {
+            budget: 9_223_372_036_854_775_807,
+            ..PLAIN
+        },
+    ),
+    (
+        &["f", "--budget=0000000000000000005"],
+        RunWords { budget: 5, ..PLAIN },
+    ),
+    (&["--size=1", "f"], RunWords { size: 1, ..PLAIN }),
+    (
+        &["f", "--size", "4294967295"],
+        RunWords {
+            size: 4_294_967_295,
+            ..PLAIN
+        },
+    ),
+    (&["f", "--order", "first"], PLAIN),
+    (
+        &["f", "--order", "turn"],
+        RunWords {
+            order: Order::Turn,
+            ..PLAIN
+        },
+    ),
+    (
+        &["f", "--order=seed"],
+        RunWords {
+            order: Order::Seed(0),
+            ..PLAIN
+        },
+    ),
+    (
+        &["f", "--order=seed", "--seed", "7"],
+        RunWords {
+            order: Order::Seed(7),
+            ..PLAIN
+        },
+    ),
+    (
+        &["--seed=7", "f", "--order", "seed"],
+        RunWords {
+            order: Order::Seed(7),
+            ..PLAIN
+        },
+    ),
+    (&["f", "--seed=7"], PLAIN),
+    (
+        &["--seed", "0", "f", "--order=turn"],
+        RunWords {
+            order: Order::Turn,
+            ..PLAIN
+        },
+    ),
+    (
+        &[
+            "--seed=9223372036854775807",
+            "--order",
+            "seed",
+            "--size",
+            "2",
+            "f",
+            "--budget=3",
+            "--trace",
+        ],
+        RunWords {
+            file: "f",
+            trace: true,
+            budget: 3,
+            size: 2,
+            order: Order::Seed(9_223_372_036_854_775_807),
+        },
+    ),
+];
+
+/// Words that aren't of the form.
+const OTHERS: [&[&str]; 46] = [
+    &[],
+    &[""],
+    &["walk", "f"],
+    &["--help"],
+    &["run"],
+    &["compile"],
+    &["run", ""],
+    &["run", "-"],
+    &["run", "-f"],
+    &["run", "f", "g"],
+    &["run", "f", "f"],
+    &["compile", ""],
+    &["compile", "-f"],
+    &["compile", "f", "g"],
+    &["compile", "f", "--trace"],
+    &["compile", "--", "f"],
+    &["run", "--help"],
+    &["run", "f", "--help"],
+    &["run", "--", "f"],
+    &["run", "f", "--"],
+    &["run", "-t", "f"],
+    &["run", "-b5", "f"],
+    &["run", "f", "--walk"],
+    &["run", "f", "--Trace"],
+    &["run", "f", "--trace=1"],
+    &["run", "f", "--trace="],
+    &["run", "f", "--budget"],
+    &["run", "f", "--budget="],
+    &["run", "f", "--budget", ""],
+    &["run", "f", "--budget", "-1"],
+    &["run", "f", "--budget", "+5"],
+    &["run", "f", "--budget", "5x"],
+    &["run", "f", "--budget", "9223372036854775808"],
+    &["run", "f", "--budget", "00000000000000000005"],
+    &["run", "f", "--budget==5"],
+    &["run", "f", "--size", "0"],
+    &["run", "f", "--size=4294967296"],
+    &["run", "f", "--seed", "9223372036854775808"],
+    &["run", "f", "--order", "last"],
+    &["run", "f", "--order", "First"],
+    &["run", "f", "--trace", "--trace"],
+    &["run", "f", "--budget", "5", "--budget", "5"],
+    &["run", "f", "--size=5", "--size", "5"],
+    &["run", "f", "--order=turn", "--order=turn"],
+    &["run", "f", "--seed=1", "--seed=1"],
+    &["run", "--budget", "f"],
+];
+
+/// These words, behind a first one.
+fn words_of(alloc: Global, first: &[&str], rest: &[&str]) -> Result<Vec<String>, AllocError> {
+    let mut strings = Vec::new(alloc);
+    for word in first {
+        strings.push(String::from_str(alloc, word)?)?;
+    }
+    for word in rest {
+        strings.push(String::from_str(alloc, word)?)?;
+    }
+    Ok(strings)
+}
+
+#[test]
+fn runs_ask_for_these(rt: HostRuntime) -> Result<(), Fail> {
+    for (i, row) in RUNS.iter().enumerate() {
+        let words = words_of(rt.alloc(), &["run"], row.0)?;
+        assert!(rt; in_form(words.as_slice()), "form of row {i}");
+        assert_eq!(rt;
+            Command::from_words(words.as_slice()),
+            Some(Command::Run(row.1)),
+            "row {i}"
+        );
+    }
+    Ok(())
+}
+
+#[test]
+fn others_ask_for_nothing(rt: HostRuntime) -> Result<(), Fail> {
+    for (i, row) in OTHERS.iter().enumerate() {
+        let words = words_of(rt.alloc(), &[], row)?;
+        assert!(rt; !in_form(words.as_slice()), "form of row {i}");
+        assert_eq!(rt; Command::from_words(words.as_slice()), None, "row {i}");
+    }
+    Ok(())
+}
+
+#[test]
+fn one_file_is_compiled(rt: HostRuntime) -> Result<(), Fail> {
+    let words = words_of(rt.alloc(), &["compile"], &["f"])?;
+    assert!(rt; in_form(words.as_slice()));
+    assert_eq!(rt;
+        Command::from_words(words.as_slice()),
+        Some(Command::Compile("f"))
+    );
+    Ok(())
+}
