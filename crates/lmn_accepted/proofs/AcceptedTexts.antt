@@ -1,18 +1,19 @@
 -- What holds of the rules of an accepted text.
 use Rattle.std.proofs.Common.{ℕ, zero, suc, ◌≡◌, ◌<◌, List, [], ◌∷◌, length, map, Some, All, sym, subst}
 use Rattle.std.specs.Prelude.{slice_get}
-use Rattle.std.specs.List.{flat_map}
+use Rattle.std.specs.List.{flat_map, AllByRecursion}
 use Rattle.std.proofs.lemmas.List.Elements.{All-weaker}
 use Rattle.std.proofs.lemmas.Option.{same_Some}
 use Rattle.lmn_base.specs.declared.rule.Plain.{Plain}
 use Rattle.lmn_base.specs.declared.rule.RuleTree.{RuleTree}
-use Rattle.lmn_base.specs.Levels.{rules_of}
+use Rattle.lmn_base.specs.Levels.{leaves_of, rules_of}
 use Rattle.lmn_base.specs.Names.{IsNames, NamesPlain, level_names, rule_names}
 use Rattle.lmn_base.specs.WellMade.{IsWellMade}
 use Rattle.lmn_bridge.specs.HeapRegions.{Reading}
 use Rattle.lmn_bridge.specs.Premises.{IsRule, HasTypes}
 use Rattle.lmn_compile_body.specs.Accepted.{IsWhole}
 use Rattle.lmn_compile_head.specs.Heads.{kind_in}
+use Rattle.lmn_compile_head.specs.Tables.{HasFewLinks}
 use Rattle.lmn_congruence.proofs.Appended.{all_left, all_right}
 use Rattle.lmn_congruence.specs.Rules.{Name}
 use Rattle.lmn_guards.proofs.AcceptedLemmas.{in_order}
@@ -27,7 +28,7 @@ use Rattle.lmn_reading.proofs.NamedPlains.{plains_are_named}
 use Rattle.lmn_reading.proofs.Readings.{well_made}
 use Rattle.lmn_reading.specs.Texts.{IsAcceptedAs, LeavesNames}
 use Rattle.lmn_accepted.proofs.AcceptedRules.{accepted_tree}
-use Rattle.lmn_accepted.proofs.FewLinks.{RuleHasFew, few_links}
+use Rattle.lmn_accepted.proofs.FewLinks.{RuleHasFew, few_links, top_few}
 use Rattle.lmn_accepted.proofs.PlanKinds.{at_index, plan_types}
 use Rattle.lmn_accepted.specs.Rules.{HasRule, AcceptedTexts}
 
@@ -72,6 +73,11 @@ module _ (text : List ℕ) (names : List Name) (plain : Plain) (plans : List Gua
         few_links = few.body;
       }
 
+  few : AllByRecursion HasFewLinks (leaves_of plain.top)
+  few =
+      let reads = a.reads in
+      top_few (words_of text reads.tokens) (map (λ t. t.pos) reads.tokens) names reads.tree plain reads.is_plain (trees_fit reads.tokens reads.tree reads.reads.is_tree reads.within)
+
   types : (k : ℕ) (r : RuleTree) (plan : GuardPlan) → HasRule plain plans k r plan → HasTypes (kind_in plan.kinds) r
   types k r plan h =
       let order = in_order plain.rules r (accepted_at k r h.rule) in
@@ -97,6 +103,7 @@ named text before names plain plans is left a = plains_are_named text before nam
 pub accepted_texts : AcceptedTexts
 accepted_texts = record {
   made = made;
+  few = few;
   whole = whole;
   types = types;
   named = named;

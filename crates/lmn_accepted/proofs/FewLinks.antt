@@ -199,3 +199,7 @@ module _ (words : List Word) (places : List Pos) where
 
     pub few_links : (t : Clauses) (p : Plain) → IsPlainOf words places names t p → FitsClauses t → AllByRecursion RuleHasFew p.rules
     few_links t p h fits = let parts = parts_of words places t in let few = clauses_few t [] fits 0 in rules_few parts.table p.rules h.rules few.table
+
+    -- and so have those of its top
+    pub top_few : (t : Clauses) (p : Plain) → IsPlainOf words places names t p → FitsClauses t → AllByRecursion HasFewLinks (leaves_of p.top)
+    top_few t p h fits = let parts = parts_of words places t in few_in_level h.number (level_of parts) p.top h.top (level_few parts (clauses_few t [] fits 0))

@@ -1,12 +1,15 @@
 -- What holds of the rules of an accepted text.
 use Rattle.std.specs.Prelude.{ℕ, ◌≡◌, List, slice_get, Some}
+use Rattle.std.specs.List.{AllByRecursion}
 use Rattle.lmn_base.specs.declared.rule.Plain.{Plain}
 use Rattle.lmn_base.specs.declared.rule.RuleTree.{RuleTree}
+use Rattle.lmn_base.specs.Levels.{leaves_of}
 use Rattle.lmn_base.specs.Names.{IsNames, NamesPlain}
 use Rattle.lmn_base.specs.WellMade.{IsWellMade}
 use Rattle.lmn_congruence.specs.Rules.{Name}
 use Rattle.lmn_guards.specs.declared.plan.GuardPlan.{GuardPlan}
 use Rattle.lmn_compile_head.specs.Heads.{kind_in}
+use Rattle.lmn_compile_head.specs.Tables.{HasFewLinks}
 use Rattle.lmn_compile_body.specs.Accepted.{IsWhole}
 use Rattle.lmn_bridge.specs.HeapRegions.{Reading}
 use Rattle.lmn_bridge.specs.Premises.{IsRule, HasTypes}
@@ -19,6 +22,7 @@ pub record HasRule (plain : Plain) (plans : List GuardPlan) (k : ℕ) (r : RuleT
 
 -- Of an accepted text:
 --   made   its plain is well made
+--   few    each atom of its top has at most 255 links
 --   whole  each rule is accepted and well made, with its plan, and each atom of it has at most 255 links
 --   types  each typed context of a head has the kind that its plan gives it
 --   named  its plain has only names of the list that reading leaves
@@ -26,6 +30,7 @@ pub record HasRule (plain : Plain) (plans : List GuardPlan) (k : ℕ) (r : RuleT
 --   tree_by_names  the same by any list that holds the names of the plain
 pub record AcceptedTexts : Type 0 where
   pub made : (text : List ℕ) (names : List Name) (plain : Plain) (plans : List GuardPlan) → IsAcceptedAs text names plain plans → IsWellMade plain
+  pub few : (text : List ℕ) (names : List Name) (plain : Plain) (plans : List GuardPlan) → IsAcceptedAs text names plain plans → AllByRecursion HasFewLinks (leaves_of plain.top)
   pub whole : (text : List ℕ) (names : List Name) (plain : Plain) (plans : List GuardPlan) → IsAcceptedAs text names plain plans →
       (k : ℕ) (r : RuleTree) (plan : GuardPlan) → HasRule plain plans k r plan → IsWhole plain.rules r plan
   pub types : (text : List ℕ) (names : List Name) (plain : Plain) (plans : List GuardPlan) → IsAcceptedAs text names plain plans →
