@@ -1,19 +1,9 @@
-pub mod FiringLemmas
-pub mod FlatAccepted
-pub mod FlatExpansions
-pub mod FlatReadings
-pub mod FlatRedexes
-pub mod FlatTextsRead
-pub mod FlatTops
-pub mod FlatNames
-pub mod HeldWords
-pub mod LabelLaws
-pub mod LineLimits
-pub mod LineReadings
-pub mod LineTexts
-pub mod OutcomeLemmas
-pub mod ReadTexts
-pub mod RunLemmas
-pub mod RunningLemmas
-pub mod SpelledNames
-pub mod TextLemmas
+mod FirstNames
+mod TextLemmas
+mod ReadPlains
+mod Loadable
+mod RunLemmas
+mod OutcomeLemmas
+mod ListLemmas
+mod DriveLemmas
+mod MainLemmas

@@ -1,118 +1,190 @@
--- What follows from what a call leaves behind.
-use Rattle.std.specs.Prelude.{◌≡◌, ℕ, ◌⊎◌, List, ◌++◌, Option, None, Some, IfSome, IsSomeAnd}
-use Rattle.std.proofs.Common.{inl, inr, subst, sym}
-use Rattle.lmn_io.proofs.TakingLemmas.{takes_prefix}
-use Rattle.std.specs.declared.string.String.{String}
-use Rattle.std.specs.declared.alloc.Global.{Global}
-use Rattle.lmn_app.specs.declared.ending.Ending.{Ending}
-use Rattle.lmn_app.specs.declared.ending.Ending.TheVariants.{Done, Budget, Refused, Words, ReadFault, WriteFault, NoMemory}
-use Rattle.lmn_app.specs.declared.running.Stop.{Stop}
-use Rattle.lmn_app.specs.declared.running.Stop.TheVariants as stop
-use Rattle.lmn_app.specs.Printing.{end_line}
-use Rattle.lmn_app.specs.Stops.{stop_ending, stop_word}
+-- What follows from what a command leaves behind.
+use Rattle.std.specs.Prelude.{◌≡◌, ◌<◌, ℕ, ◌⊎◌, List, Option, None, Some, IfSome, IsSomeAnd}
+use Rattle.std.proofs.Common.{inl, inr, refl, subst, sym, length}
 use Rattle.lmn_base.specs.declared.refusal.Refusal.{Refusal}
 use Rattle.lmn_io.specs.Counts.{Rose}
-use Rattle.lmn_app.specs.Endings.{Concludes}
-use Rattle.lmn_app.specs.Words.{InForm}
-use Rattle.lmn_app.specs.Texts.{IsAccepted, IsRefusal}
-use Rattle.lmn_app.specs.Runs.{IsRun, IfTold, IsToldAnd, told_under}
+use Rattle.lmn_runs.specs.Runs.{Stop}
+use Rattle.lmn_app.specs.declared.ending.Ending.{Ending}
+use Rattle.lmn_app.specs.declared.ending.Ending.TheVariants.{Done, Budget, Refused, Words, ReadFault, WriteFault, NoMemory, Full}
+use Rattle.lmn_words.specs.Forms.{Request, Run, to_run, to_compile}
+use Rattle.lmn_app.specs.Endings.{Concludes, IsCode}
+use Rattle.lmn_app.specs.Outcomes.{Answers, Causes, Counts, Ended, Output}
+use Rattle.lmn_app.specs.Texts.{IsAccepted, IsRefusal, at_start, text_bytes, too_long}
+use Rattle.lmn_app.specs.Requests.{size_of}
+use Rattle.lmn_app.specs.Writing.{IfTold, IsToldAnd, Lists, ListsPart, Writes, WritesPart, told_under}
 use Rattle.lmn_app.proofs.TextLemmas.{refused_not_accepted}
-use Rattle.lmn_app.specs.Outcomes.{Causes, Effects, Writes, WritesPrefix}
 
-whole_prefix : (text : Option (Option (List ℕ))) (s : Stop) (old new : Option (List ℕ)) → Writes text s old new → WritesPrefix text old new
-whole_prefix text s old new w = (w.0, s, w.1, w.2, takes_prefix (w.0 ++ end_line (stop_word s) w.1) old new w.3)
-
--- the output of a run is that of the ending that its reason gives
-pub reason_effects : (s : Stop) (text : Option (Option (List ℕ))) (old new : Option (List ℕ)) (before after : ℕ) → Writes text s old new → after ≡ before → Effects (stop_ending s) text old new before after
-reason_effects stop.Irreducible text old new before after w e = (w, e)
-reason_effects stop.Budget text old new before after w e = (w, e)
-reason_effects stop.NoMemory text old new before after w e = (inr w, e)
-
--- with every ending `out` took nothing or a prefix of what a run writes
-pub effects_prefix : (e : Ending) (text : Option (Option (List ℕ))) (old new : Option (List ℕ)) (before after : ℕ) → Effects e text old new before after → (new ≡ old) ⊎ WritesPrefix text old new
-effects_prefix Done text old new before after o = inr (whole_prefix text stop.Irreducible old new o.0)
-effects_prefix Budget text old new before after o = inr (whole_prefix text stop.Budget old new o.0)
-effects_prefix (Refused r) text old new before after o = inl o.0
-effects_prefix Words text old new before after o = inl o.0
-effects_prefix ReadFault text old new before after o = inl o.0
-effects_prefix WriteFault text old new before after o = inr o.0
-effects_prefix NoMemory text old new before after o = elim (o.0) [ inl same ↦ inl same | inr w ↦ inr (whole_prefix text stop.NoMemory old new w) ]
+-- ---- a text that is told under a name
 
 -- what is said of a text is said of what is told under its name, if that is told at all
 told_here : (P : List ℕ → Type 0) (told : Option (List ℕ → Option (List ℕ))) (name bytes : List ℕ) → IfSome told (λ text. text name ≡ Some bytes) → P bytes → IsToldAnd (told_under told name) P
 told_here P None name bytes e p = tt
 told_here P (Some text) name bytes e p = subst (λ found. IsSomeAnd found P) (sym e) p
 
-pub causes_told : (e : Ending) (told : Option (List ℕ → Option (List ℕ))) (name bytes : List ℕ) (words : List (String Global)) (before after : ℕ)
-    → IfSome told (λ text. text name ≡ Some bytes) → Causes e (Some (Some bytes)) words before after → Causes e (told_under told name) words before after
-causes_told Done told name bytes words before after e c = c
-causes_told Budget told name bytes words before after e c = c
-causes_told (Refused r) told name bytes words before after e c = (c.0, told_here (λ text. IsRefusal text r) told name bytes e c.1, c.2)
-causes_told Words told name bytes words before after e c = c
-causes_told ReadFault told name bytes words before after e c = c
-causes_told WriteFault told name bytes words before after e c = c
-causes_told NoMemory told name bytes words before after e c = c
+module _ (told : Option (List ℕ → Option (List ℕ))) (name bytes : List ℕ) (e : IfSome told (λ text. text name ≡ Some bytes)) where
+  writes_told : (w : Run) (why : Stop) (old new : Option (List ℕ)) → Writes w (Some (Some bytes)) why old new → Writes w (told_under told name) why old new
+  writes_told w why old new h = record {
+    text = h.text;
+    is_told = told_here (λ found. found ≡ h.text) told name bytes e h.is_told;
+    lines = h.lines;
+    commits = h.commits;
+    run = h.run;
+    trace = h.trace;
+    stops = h.stops;
+    took = h.took;
+  }
 
-writes_told : (told : Option (List ℕ → Option (List ℕ))) (name bytes : List ℕ) (s : Stop) (old new : Option (List ℕ))
-    → IfSome told (λ text. text name ≡ Some bytes) → Writes (Some (Some bytes)) s old new → Writes (told_under told name) s old new
-writes_told told name bytes s old new e w = (w.0, w.1, told_here (λ text. IsRun text w.0 s w.1) told name bytes e w.2, w.3)
+  part_told : (w : Run) (old new : Option (List ℕ)) → WritesPart w (Some (Some bytes)) old new → WritesPart w (told_under told name) old new
+  part_told w old new h = record {
+    text = h.text;
+    is_told = told_here (λ found. found ≡ h.text) told name bytes e h.is_told;
+    lines = h.lines;
+    commits = h.commits;
+    trace = h.trace;
+    run = h.run;
+    took = h.took;
+  }
 
-pub effects_told : (e : Ending) (told : Option (List ℕ → Option (List ℕ))) (name bytes : List ℕ) (old new : Option (List ℕ)) (before after : ℕ)
-    → IfSome told (λ text. text name ≡ Some bytes) → Effects e (Some (Some bytes)) old new before after → Effects e (told_under told name) old new before after
-effects_told Done told name bytes old new before after e o = (writes_told told name bytes stop.Irreducible old new e o.0, o.1)
-effects_told Budget told name bytes old new before after e o = (writes_told told name bytes stop.Budget old new e o.0, o.1)
-effects_told (Refused r) told name bytes old new before after e o = o
-effects_told Words told name bytes old new before after e o = o
-effects_told ReadFault told name bytes old new before after e o = o
-effects_told WriteFault told name bytes old new before after e o =
-    ((o.0.0, o.0.1, o.0.2, told_here (λ text. IsRun text o.0.0 o.0.1 o.0.2) told name bytes e o.0.3, o.0.4), o.1)
-effects_told NoMemory told name bytes old new before after e o = (
-  elim (o.0) [ inl same ↦ inl same | inr w ↦ inr (writes_told told name bytes stop.NoMemory old new e w) ],
-  o.1,
-)
+  lists_told : (old new : Option (List ℕ)) → Lists (Some (Some bytes)) old new → Lists (told_under told name) old new
+  lists_told old new h = record { text = h.text; is_told = told_here (λ found. found ≡ h.text) told name bytes e h.is_told; listing = h.listing; of = h.of; took = h.took }
 
--- where nothing fails, an accepted text is answered by 0, 1 or 6
+  lists_part_told : (old new : Option (List ℕ)) → ListsPart (Some (Some bytes)) old new → ListsPart (told_under told name) old new
+  lists_part_told old new h = record { text = h.text; is_told = told_here (λ found. found ≡ h.text) told name bytes e h.is_told; listing = h.listing; of = h.of; took = h.took }
+
+  causes_told : (c : Request) (ending : Ending) (before after : ℕ) → Causes c ending (Some (Some bytes)) before after → Causes c ending (told_under told name) before after
+  causes_told c Done before after h = h
+  causes_told c Budget before after h = h
+  causes_told c (Refused r) before after h = (told_here (λ text. IsRefusal (size_of c) text r) told name bytes e h.0, h.1)
+  causes_told c Words before after h = h
+  causes_told c ReadFault before after h = h
+  causes_told c WriteFault before after h = h
+  causes_told c NoMemory before after h = h
+  causes_told c Full before after h = h
+
+  output_told : (c : Request) (ending : Ending) (old new : Option (List ℕ)) → Output c ending (Some (Some bytes)) old new → Output c ending (told_under told name) old new
+  output_told (to_run w) Done old new h = writes_told w _ old new h
+  output_told (to_run w) Budget old new h = writes_told w _ old new h
+  output_told (to_run w) Full old new h = writes_told w _ old new h
+  output_told (to_run w) NoMemory old new h = elim h [ inl same ↦ inl same | inr more ↦ inr (writes_told w _ old new more) ]
+  output_told (to_run w) WriteFault old new h = part_told w old new h
+  output_told (to_run w) (Refused r) old new h = h
+  output_told (to_run w) Words old new h = h
+  output_told (to_run w) ReadFault old new h = h
+  output_told (to_compile file) Done old new h = lists_told old new h
+  output_told (to_compile file) Budget old new h = h
+  output_told (to_compile file) Full old new h = h
+  output_told (to_compile file) NoMemory old new h = h
+  output_told (to_compile file) WriteFault old new h = lists_part_told old new h
+  output_told (to_compile file) (Refused r) old new h = h
+  output_told (to_compile file) Words old new h = h
+  output_told (to_compile file) ReadFault old new h = h
+
+  pub ended_told : (c : Request) (ending : Ending) (old new : Option (List ℕ)) (before after read_before read_after : ℕ) → Ended c ending (Some (Some bytes)) old new before after read_before read_after
+      → Ended c ending (told_under told name) old new before after read_before read_after
+  ended_told c ending old new before after read_before read_after h =
+      record { cause = causes_told c ending read_before read_after h.cause; output = output_told c ending old new h.output; counts = h.counts }
+
+-- ---- statuses
 
 when_told : (told : Option (Option (List ℕ))) (P : List ℕ → Type 0) → ((text : List ℕ) → P text) → IfTold told P
 when_told None P h = tt
 when_told (Some None) P h = tt
 when_told (Some (Some text)) P h = h text
 
-refused_told : (told : Option (Option (List ℕ))) (r : Refusal) (A : Type 0) → IsToldAnd told (λ text. IsRefusal text r) → IfTold told (λ text. IsAccepted text → A)
-refused_told None r A h = tt
-refused_told (Some None) r A h = tt
-refused_told (Some (Some text)) r A h = λ a. absurd (refused_not_accepted text r h a)
+refused_told : (size : Option ℕ) (told : Option (Option (List ℕ))) (r : Refusal) (A : Type 0) → IsToldAnd told (λ text. IsRefusal size text r) → IfTold told (λ text. IsAccepted size text → A)
+refused_told size None r A h = tt
+refused_told size (Some None) r A h = tt
+refused_told size (Some (Some text)) r A h = λ a. absurd (refused_not_accepted size text r h a)
 
-pub accepted_answered : (ending : Ending) (told : Option (Option (List ℕ))) (words : List (String Global)) (before after : ℕ) (out_old out_new : Option (List ℕ)) (out_before out_after status : ℕ)
-    (err_old err_new : Option (List ℕ)) (err_before err_after : ℕ) → Causes ending told words before after → Effects ending told out_old out_new out_before out_after
-    → Concludes ending status err_old err_new err_before err_after → InForm words → ¬ (Rose before after) → ¬ (Rose out_before out_after) → ¬ (Rose err_before err_after)
-    → IfTold told (λ text. IsAccepted text → (status ≡ 0) ⊎ (status ≡ 1) ⊎ (status ≡ 6))
-accepted_answered ending told words before after oo on ob oa status eo en eb ea c e (inr (s, p, rose, line)) form read out err = absurd (err rose)
-accepted_answered Done told words before after oo on ob oa status eo en eb ea c e (inl h) form read out err = when_told told _ (λ text a. inl h.0)
-accepted_answered Budget told words before after oo on ob oa status eo en eb ea c e (inl h) form read out err = when_told told _ (λ text a. inr (inl h.0))
-accepted_answered (Refused r) told words before after oo on ob oa status eo en eb ea c e (inl h) form read out err = refused_told told r _ c.1
-accepted_answered Words told words before after oo on ob oa status eo en eb ea c e (inl h) form read out err = absurd (c form)
-accepted_answered ReadFault told words before after oo on ob oa status eo en eb ea c e (inl h) form read out err = absurd (read c.1)
-accepted_answered WriteFault told words before after oo on ob oa status eo en eb ea c e (inl h) form read out err = absurd (out e.1)
-accepted_answered NoMemory told words before after oo on ob oa status eo en eb ea c e (inl h) form read out err = when_told told _ (λ text a. inr (inr h.0))
+-- the text that is told is this one
+told_is : (told : Option (Option (List ℕ))) (text : List ℕ) (P : List ℕ → Type 0) → IsToldAnd told (λ found. found ≡ text) → P text → IfTold told P
+told_is None text P h p = tt
+told_is (Some None) text P h p = tt
+told_is (Some (Some found)) text P h p = subst P (sym h) p
+
+-- where nothing fails, an accepted text is answered so
+pub accepted_answered : (c : Request) (ending : Ending) (told : Option (Option (List ℕ))) (oo on : Option (List ℕ)) (ob oa rb ra status : ℕ) (eo en : Option (List ℕ)) (eb ea : ℕ)
+    → Ended c ending told oo on ob oa rb ra → Concludes ending status eo en eb ea → ¬ (Rose rb ra) → ¬ (Rose ob oa) → ¬ (Rose eb ea)
+    → IfTold told (λ text. IsAccepted (size_of c) text → Answers c status)
+accepted_answered c ending told oo on ob oa rb ra status eo en eb ea h (inr (s, p, rose, line)) read out err = absurd (err rose)
+accepted_answered (to_run w) Done told oo on ob oa rb ra status eo en eb ea h (inl k) read out err = when_told told _ (λ text a. inl k.0)
+accepted_answered (to_run w) Budget told oo on ob oa rb ra status eo en eb ea h (inl k) read out err = when_told told _ (λ text a. inr (inl k.0))
+accepted_answered (to_run w) Full told oo on ob oa rb ra status eo en eb ea h (inl k) read out err = when_told told _ (λ text a. inr (inr (inl k.0)))
+accepted_answered (to_run w) NoMemory told oo on ob oa rb ra status eo en eb ea h (inl k) read out err = when_told told _ (λ text a. inr (inr (inr k.0)))
+accepted_answered (to_compile file) Done told oo on ob oa rb ra status eo en eb ea h (inl k) read out err = when_told told _ (λ text a. inl k.0)
+accepted_answered (to_compile file) Budget told oo on ob oa rb ra status eo en eb ea h (inl k) read out err = absurd (h.output)
+accepted_answered (to_compile file) Full told oo on ob oa rb ra status eo en eb ea h (inl k) read out err = absurd (h.output)
+accepted_answered (to_compile file) NoMemory told oo on ob oa rb ra status eo en eb ea h (inl k) read out err = when_told told _ (λ text a. inr k.0)
+accepted_answered c (Refused r) told oo on ob oa rb ra status eo en eb ea h (inl k) read out err = let cause = h.cause in refused_told (size_of c) told r (Answers c status) cause.0
+accepted_answered c Words told oo on ob oa rb ra status eo en eb ea h (inl k) read out err = absurd (h.cause)
+accepted_answered c ReadFault told oo on ob oa rb ra status eo en eb ea h (inl k) read out err = absurd (read h.cause)
+accepted_answered c WriteFault told oo on ob oa rb ra status eo en eb ea h (inl k) read out err = absurd (out h.counts)
+
+abbrev pub Refusing : ℕ → Type 0
+Refusing status = (status ≡ 2) ⊎ (status ≡ 4) ⊎ (status ≡ 5) ⊎ (status ≡ 6)
+
+-- a run of a text is one of an accepted text
+run_accepted : (w : Run) (told : Option (Option (List ℕ))) (why : Stop) (old new : Option (List ℕ)) (A : Type 0) → Writes w told why old new → IfTold told (λ text. ¬ (IsAccepted (Some w.size) text) → A)
+run_accepted w told why old new A h =
+    let t = h.trace in
+    told_is told h.text (λ text. ¬ (IsAccepted (Some w.size) text) → A) h.is_told (λ none. absurd (none (t.names, t.plain, t.plans, t.accepted, (t.solid, t.of_plain, t.few))))
+
+list_accepted : (told : Option (Option (List ℕ))) (old new : Option (List ℕ)) (A : Type 0) → Lists told old new → IfTold told (λ text. ¬ (IsAccepted None text) → A)
+list_accepted told old new A h =
+    let l = h.of in
+    told_is told h.text (λ text. ¬ (IsAccepted None text) → A) h.is_told (λ none. absurd (none (l.names, l.plain, l.plans, l.accepted, tt)))
 
 -- a text that isn't accepted is answered by 2, 4, 5 or 6
+pub unaccepted_answered : (c : Request) (ending : Ending) (told : Option (Option (List ℕ))) (oo on : Option (List ℕ)) (ob oa rb ra status : ℕ) (eo en : Option (List ℕ)) (eb ea : ℕ)
+    → Ended c ending told oo on ob oa rb ra → Concludes ending status eo en eb ea → IfTold told (λ text. ¬ (IsAccepted (size_of c) text) → Refusing status)
+unaccepted_answered c ending told oo on ob oa rb ra status eo en eb ea h (inr (s, p, rose, line)) = when_told told _ (λ text n. inr (inr (inl s)))
+unaccepted_answered (to_run w) Done told oo on ob oa rb ra status eo en eb ea h (inl k) = run_accepted w told _ oo on (Refusing status) h.output
+unaccepted_answered (to_run w) Budget told oo on ob oa rb ra status eo en eb ea h (inl k) = run_accepted w told _ oo on (Refusing status) h.output
+unaccepted_answered (to_run w) Full told oo on ob oa rb ra status eo en eb ea h (inl k) = run_accepted w told _ oo on (Refusing status) h.output
+unaccepted_answered (to_compile file) Done told oo on ob oa rb ra status eo en eb ea h (inl k) = list_accepted told oo on (Refusing status) h.output
+unaccepted_answered (to_compile file) Budget told oo on ob oa rb ra status eo en eb ea h (inl k) = absurd (h.output)
+unaccepted_answered (to_compile file) Full told oo on ob oa rb ra status eo en eb ea h (inl k) = absurd (h.output)
+unaccepted_answered c (Refused r) told oo on ob oa rb ra status eo en eb ea h (inl k) = when_told told _ (λ text n. inl k.0)
+unaccepted_answered c Words told oo on ob oa rb ra status eo en eb ea h (inl k) = absurd (h.cause)
+unaccepted_answered c ReadFault told oo on ob oa rb ra status eo en eb ea h (inl k) = when_told told _ (λ text n. inr (inl k.0))
+unaccepted_answered c WriteFault told oo on ob oa rb ra status eo en eb ea h (inl k) = when_told told _ (λ text n. inr (inr (inl k.0)))
+unaccepted_answered c NoMemory told oo on ob oa rb ra status eo en eb ea h (inl k) = when_told told _ (λ text n. inr (inr (inr k.0)))
 
-run_accepted : (told : Option (Option (List ℕ))) (A : Type 0) (printed : List ℕ) (s : Stop) (n : ℕ) → IsToldAnd told (λ bytes. IsRun bytes printed s n)
-    → IfTold told (λ text. ¬ (IsAccepted text) → A)
-run_accepted None A printed s n h = tt
-run_accepted (Some None) A printed s n h = tt
-run_accepted (Some (Some text)) A printed s n h = λ none. absurd (none (h.names, h.plain, h.plans, h.accepted))
+-- ---- endings at which nothing was taken
 
-pub unaccepted_answered : (ending : Ending) (told : Option (Option (List ℕ))) (words : List (String Global)) (before after : ℕ) (out_old out_new : Option (List ℕ)) (out_before out_after status : ℕ)
-    (err_old err_new : Option (List ℕ)) (err_before err_after : ℕ) → Causes ending told words before after → Effects ending told out_old out_new out_before out_after
-    → Concludes ending status err_old err_new err_before err_after → InForm words
-    → IfTold told (λ text. ¬ (IsAccepted text) → (status ≡ 2) ⊎ (status ≡ 4) ⊎ (status ≡ 5) ⊎ (status ≡ 6))
-unaccepted_answered ending told words before after oo on ob oa status eo en eb ea c e (inr (s, p, rose, line)) form = when_told told _ (λ text n. inr (inr (inl s)))
-unaccepted_answered Done told words before after oo on ob oa status eo en eb ea c e (inl h) form = let w = e.0 in run_accepted told _ w.0 stop.Irreducible w.1 w.2
-unaccepted_answered Budget told words before after oo on ob oa status eo en eb ea c e (inl h) form = let w = e.0 in run_accepted told _ w.0 stop.Budget w.1 w.2
-unaccepted_answered (Refused r) told words before after oo on ob oa status eo en eb ea c e (inl h) form = when_told told _ (λ text n. inl h.0)
-unaccepted_answered Words told words before after oo on ob oa status eo en eb ea c e (inl h) form = absurd (c form)
-unaccepted_answered ReadFault told words before after oo on ob oa status eo en eb ea c e (inl h) form = when_told told _ (λ text n. inr (inl h.0))
-unaccepted_answered WriteFault told words before after oo on ob oa status eo en eb ea c e (inl h) form = when_told told _ (λ text n. inr (inr (inl h.0)))
-unaccepted_answered NoMemory told words before after oo on ob oa status eo en eb ea c e (inl h) form = when_told told _ (λ text n. inr (inr (inr h.0)))
+nothing_refused : (c : Request) (r : Refusal) (told : Option (Option (List ℕ))) (x : Option (List ℕ)) → Output c (Refused r) told x x
+nothing_refused (to_run w) r told x = refl
+nothing_refused (to_compile file) r told x = refl
+
+nothing_read : (c : Request) (told : Option (Option (List ℕ))) (x : Option (List ℕ)) → Output c ReadFault told x x
+nothing_read (to_run w) told x = refl
+nothing_read (to_compile file) told x = refl
+
+nothing_more : (c : Request) (told : Option (Option (List ℕ))) (x : Option (List ℕ)) → Output c NoMemory told x x
+nothing_more (to_run w) told x = inl refl
+nothing_more (to_compile file) told x = refl
+
+pub refused_ended : (c : Request) (r : Refusal) (told : Option (Option (List ℕ))) (x : Option (List ℕ)) (n rb ra : ℕ) → IsToldAnd told (λ text. IsRefusal (size_of c) text r) → IsCode r.code
+    → Ended c (Refused r) told x x n n rb ra
+refused_ended c r told x n rb ra h k = record { cause = (h, k); output = nothing_refused c r told x; counts = refl }
+
+pub fault_ended : (c : Request) (told : Option (Option (List ℕ))) (x : Option (List ℕ)) (n rb ra : ℕ) → Rose rb ra → Ended c ReadFault told x x n n rb ra
+fault_ended c told x n rb ra h = record { cause = h; output = nothing_read c told x; counts = refl }
+
+pub memory_ended : (c : Request) (told : Option (Option (List ℕ))) (x : Option (List ℕ)) (n rb ra : ℕ) → Ended c NoMemory told x x n n rb ra
+memory_ended c told x n rb ra = record { cause = tt; output = nothing_more c told x; counts = refl }
+
+-- a text that is told and is too long
+long_told : (P : List ℕ → Type 0) (told : Option (List ℕ → Option (List ℕ))) (name : List ℕ) (most : ℕ) → IfSome told (λ text. IsSomeAnd (text name) (λ bytes. most < length bytes))
+    → ((bytes : List ℕ) → most < length bytes → P bytes) → IsToldAnd (told_under told name) P
+long_told P None name most h f = tt
+long_told P (Some text) name most h f = go (text name) h
+  where
+    go : (o : Option (List ℕ)) → IsSomeAnd o (λ bytes. most < length bytes) → IsSomeAnd o P
+    go None k = k
+    go (Some bytes) k = f bytes k
+
+pub long_ended : (c : Request) (told : Option (List ℕ → Option (List ℕ))) (name : List ℕ) (x : Option (List ℕ)) (n rb ra : ℕ) → IfSome told (λ text. IsSomeAnd (text name) (λ bytes. text_bytes < length bytes))
+    → Ended c (Refused (at_start 1)) (told_under told name) x x n n rb ra
+long_ended c told name x n rb ra h =
+    refused_ended c (at_start 1) (told_under told name) x n rb ra (long_told (λ text. IsRefusal (size_of c) text (at_start 1)) told name text_bytes h (λ bytes l. too_long l refl)) refl

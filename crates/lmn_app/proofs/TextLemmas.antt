@@ -1,14 +1,20 @@
 -- Which texts are accepted, and why others are refused.
-use Rattle.std.proofs.Common.{◌≡◌, ℕ, ◌≤◌, ◌&&◌, ◌==◌, Bool, true, false, List, [], ◌∷◌, length, ◌⊎◌, inl, inr, refl, sym, ap, ◌∙◌, subst, arith, true≢false}
-use Rattle.std.specs.List.{list_all}
+use Rattle.std.proofs.Common.{◌≡◌, ℕ, ◌≤◌, ◌<◌, List, length, ◌⊎◌, All, inl, inr, refl, sym, ap, ◌∙◌, subst, arith}
+use Rattle.std.specs.Prelude.{Option, Some, None}
 use Rattle.std.specs.declared.alloc.Global.{Global}
 use Rattle.std.proofs.lemmas.Bool.{cases_lt}
-use Rattle.lmn_base.specs.declared.guard.Cond.{Cond}
+use Rattle.lmn_base.specs.declared.level.Level.{Level}
 use Rattle.lmn_base.specs.declared.refusal.Refusal.{Refusal}
 use Rattle.lmn_base.specs.declared.rule.Plain.{Plain}
-use Rattle.lmn_base.specs.declared.rule.RuleTree.{RuleTree}
+use Rattle.lmn_base.specs.declared.solid.Solid.{Solid}
+use Rattle.lmn_base.specs.Levels.{leaves_of, links_of}
+use Rattle.lmn_base.specs.Links.{EachTwice}
 use Rattle.lmn_base.specs.Names.{first_names}
+use Rattle.lmn_base.specs.Solids.{items_of}
+use Rattle.lmn_base.specs.WellMade.{IsWellMade}
 use Rattle.lmn_congruence.specs.Rules.{Name}
+use Rattle.lmn_congruence.specs.SolidsOfPlains.{IsSolidOf, JoinsLeaf, fused_region}
+use Rattle.lmn_adequacy.proofs.PlainSolids.{solid_of_plain_is_one, solids_of_plains_exist}
 use Rattle.lmn_expand.specs.NameLists.{names_read}
 use Rattle.lmn_grammar.specs.Refusing.{IsRefused as IsRefusedAt}
 use Rattle.lmn_grammar.proofs.Refusals.{refused_derive_nothing}
@@ -16,24 +22,28 @@ use Rattle.lmn_guards.specs.declared.plan.GuardPlan.{GuardPlan}
 use Rattle.lmn_lexer.specs.Laying.{words_of}
 use Rattle.lmn_lexer.specs.declared.token.Kind.{Kind}
 use Rattle.lmn_lexer.proofs.OneCut.{one_cut, refused_is_wrong}
+use Rattle.lmn_linkcheck.proofs.LinkedLemmas.{no_fault_is_linked}
 use Rattle.lmn_parser.specs.Parsing.{kinds_of}
 use Rattle.lmn_parser.proofs.TreeWords.{trees_derive}
-use Rattle.lmn_plain.specs.Plains.{Each}
-use Rattle.lmn_plain.specs.SamePlains.{SameCond, SamePlain, SameRule}
+use Rattle.lmn_plain.specs.SamePlains.{SamePlain}
 use Rattle.lmn_reading.specs.Laws.{IsAcceptedText}
 use Rattle.lmn_reading.specs.Texts.{IsAcceptedAs, IsRefusedAs, ReadsAs, by_bytes, by_contexts, by_links, by_rules, by_tokens}
 use Rattle.lmn_reading.proofs.AcceptedOrRefused as reading
 use Rattle.lmn_reading.proofs.CodeLemmas.{refusals_have_codes}
 use Rattle.lmn_reading.proofs.OneRead as read
-use Rattle.lmn_app.specs.Built.{has_atoms_alone, is_built, is_flat, is_flat_rule}
+use Rattle.lmn_reading.proofs.Readings.{well_made}
 use Rattle.lmn_app.specs.Endings.{IsCode}
-use Rattle.lmn_app.specs.Texts.{AcceptedOrRefused, IsAccepted, IsRefusal, IsRefused, NamesText, OneRefusal, RefusedNotAccepted, at_start, by_reading, not_built, text_bytes}
+use Rattle.lmn_app.specs.Texts.{Accepts, AcceptedOrRefused, Fits, IsAccepted, IsRefusal, IsTooLarge, NamesText, OneRefusal, RefusedNotAccepted, at_start, by_reading, text_bytes, too_large, too_long}
 
 -- ---- codes
 
-pub refusal_code : (text : List ℕ) (r : Refusal) → IsRefused text r → IsCode r.code
-refusal_code text r (by_reading names named h) = refusals_have_codes text names r h
-refusal_code text r (not_built names p ps named a n e) = let P : ℕ → Type 0 = IsCode in subst P (sym (ap (λ (z : Refusal). z.code) e)) refl
+has_code : (r : Refusal) (n : ℕ) → r ≡ at_start n → IsCode n → IsCode r.code
+has_code r n e h = let P : ℕ → Type 0 = IsCode in subst P (sym (ap (λ (z : Refusal). z.code) e)) h
+
+pub refusal_code : (size : Option ℕ) (text : List ℕ) (r : Refusal) → IsRefusal size text r → IsCode r.code
+refusal_code size text r (too_long l e) = has_code r 1 e refl
+refusal_code size text r (by_reading short names named h) = refusals_have_codes text names r h
+refusal_code size text r (too_large names p ps a l e) = has_code r 50 e refl
 
 -- ---- the list of names
 
@@ -54,92 +64,109 @@ accepted_at : (text : List ℕ) (names others : List Name) (p : Plain) (ps : Lis
     → IsAcceptedAs text others p ps
 accepted_at text names others p ps h k a = let P : List Name → Type 0 = λ ns. IsAcceptedAs text ns p ps in subst P (one_list text names others p h k a.reads) a
 
--- ---- plains that are the same are built alike
+-- ---- sizes
 
-same_length : (cs ds : List Cond) → Each SameCond cs ds → length cs ≡ length ds
-same_length [] [] h = refl
-same_length [] (d ∷ ds) h = absurd h
-same_length (c ∷ cs) [] h = absurd h
-same_length (c ∷ cs) (d ∷ ds) h = omega (arith, same_length cs ds h.1)
+-- plains with one top have one solid
+moved_solid : (p q : Plain) (s : Solid) → p.top ≡ q.top → IsSolidOf p s → IsSolidOf q s
+moved_solid p q s e i =
+    let P : Level → Type 0 = λ l. EachTwice (links_of l) in
+    let Q : Level → Type 0 = λ l. All (JoinsLeaf i.to) (leaves_of l) in
+    let R : Level → Type 0 = λ l. s.root ≡ fused_region i.to l in
+    record { closed = subst P e i.closed; to = i.to; joins = subst Q e i.joins; is = subst R e i.is; is_solid = i.is_solid }
 
-same_rule : (r s : RuleTree) → SameRule r s → is_flat_rule r ≡ is_flat_rule s
-same_rule r s h =
-    ap (λ l. has_atoms_alone l && (length r.guard == 0 && has_atoms_alone r.body)) h.head
-    ∙ ap (λ n. has_atoms_alone s.head && (n == 0 && has_atoms_alone r.body)) (same_length r.guard s.guard h.guard)
-    ∙ ap (λ l. has_atoms_alone s.head && (length s.guard == 0 && has_atoms_alone l)) h.body
+-- a plain that is too large doesn't fit, nor does one that is the same
+fits_not : (size : Option ℕ) (p q : Plain) → IsWellMade q → p.top ≡ q.top → IsTooLarge size p → Fits size q → ⊥
+fits_not None p q well e large fits = large
+fits_not (Some size) p q well e (s, i, l) (t, j, m) =
+    let same = solid_of_plain_is_one q s t well (moved_solid p q s e i) j in
+    let few : items_of s ≤ size = subst (λ z. items_of z ≤ size) (sym same) m in
+    omega (arith, l, few)
 
-same_rules : (rs ss : List RuleTree) → Each SameRule rs ss → list_all is_flat_rule rs ≡ list_all is_flat_rule ss
-same_rules [] [] h = refl
-same_rules [] (s ∷ ss) h = absurd h
-same_rules (r ∷ rs) [] h = absurd h
-same_rules (r ∷ rs) (s ∷ ss) h = ap (λ b. b && list_all is_flat_rule rs) (same_rule r s h.0) ∙ ap (λ b. is_flat_rule s && b) (same_rules rs ss h.1)
+made : {text : List ℕ} {names : List Name} {p : Plain} {ps : List GuardPlan} → IsAcceptedAs text names p ps → IsWellMade p
+made {text} {names} {p} a = well_made text names p a.reads a.outside
 
-same_built : (p q : Plain) → SamePlain p q → is_built p ≡ is_built q
-same_built p q h = ap (λ l. is_flat l && list_all is_flat_rule p.rules) h.top ∙ ap (λ b. is_flat q.top && b) (same_rules p.rules q.rules h.rules)
+fits_or_not : (size : Option ℕ) (p : Plain) → IsWellMade p → EachTwice (links_of p.top) → Fits size p ⊎ IsTooLarge size p
+fits_or_not None p well closed = inl tt
+fits_or_not (Some size) p well closed =
+    let s = solids_of_plains_exist p well closed in
+    elim (cases_lt size (items_of s.0)) [
+      | inl more ↦ inr (s.0, s.1, more)
+      | inr few ↦ inl (s.0, s.1, few)
+    ]
 
 -- ---- what is refused isn't accepted, and has one refusal
 
-pub refused_not_accepted : RefusedNotAccepted
-refused_not_accepted text r (inl (long, e)) (names, plain, plans, a) = omega (arith, long, a.short)
-refused_not_accepted text r (inr (short, by_reading others named h)) (names, plain, plans, a) =
-    read.refused_not_accepted text names r (at_names text others names r named a.named h) (plain, plans, a.accepted)
-refused_not_accepted text r (inr (short, not_built others p ps named h n e)) (names, plain, plans, a) =
-    let one = read.one_acceptance text names p plain ps plans (accepted_at text others names p ps named a.named h) a.accepted in
-    n (same_built p plain one.plain ∙ a.built)
+-- two acceptances of a text are of plains with one top
+one_top : (text : List ℕ) (names others : List Name) (p q : Plain) (ps qs : List GuardPlan) → Accepts text names p ps → Accepts text others q qs → p.top ≡ q.top
+one_top text names others p q ps qs a b =
+    let one = read.one_acceptance text others p q ps qs (accepted_at text names others p ps a.named b.named a.accepted) b.accepted in
+    let same = one.plain in
+    same.top
 
-one_refused : (text : List ℕ) (r q : Refusal) → IsRefused text r → IsRefused text q → r ≡ q
-one_refused text r q (by_reading names h f) (by_reading others k g) = read.one_refusal text others r q (at_names text names others r h k f) g
-one_refused text r q (by_reading names h f) (not_built others p ps k a n e) =
-    absurd (read.refused_not_accepted text others r (at_names text names others r h k f) (p, ps, a))
-one_refused text r q (not_built names p ps h a n e) (by_reading others k g) =
-    absurd (read.refused_not_accepted text names q (at_names text others names q k h g) (p, ps, a))
-one_refused text r q (not_built names p ps h a n e) (not_built others o os k b m d) = e ∙ sym d
+pub refused_not_accepted : RefusedNotAccepted
+refused_not_accepted size text r (too_long long e) (names, plain, plans, a, fits) = omega (arith, long, a.short)
+refused_not_accepted size text r (by_reading short others named h) (names, plain, plans, a, fits) =
+    read.refused_not_accepted text names r (at_names text others names r named a.named h) (plain, plans, a.accepted)
+refused_not_accepted size text r (too_large others p ps b l e) (names, plain, plans, a, fits) =
+    fits_not size p plain (made a.accepted) (one_top text others names p plain ps plans b a) l fits
+
+accepted_not_refused : (text : List ℕ) (names others : List Name) (p : Plain) (ps : List GuardPlan) (r : Refusal) → Accepts text names p ps → NamesText text others → IsRefusedAs text others r → ⊥
+accepted_not_refused text names others p ps r a named h = read.refused_not_accepted text names r (at_names text others names r named a.named h) (p, ps, a.accepted)
 
 pub one_refusal : OneRefusal
-one_refusal text r q (inl h) (inl k) = h.1 ∙ sym k.1
-one_refusal text r q (inl h) (inr k) = absurd (omega (arith, h.0, k.0))
-one_refusal text r q (inr h) (inl k) = absurd (omega (arith, h.0, k.0))
-one_refusal text r q (inr h) (inr k) = one_refused text r q h.1 k.1
+one_refusal size text r q (too_long l e) (too_long m d) = e ∙ sym d
+one_refusal size text r q (too_long l e) (by_reading short names k g) = absurd (omega (arith, l, short))
+one_refusal size text r q (too_long l e) (too_large names p ps a m d) = absurd (omega (arith, l, a.short))
+one_refusal size text r q (by_reading short names h f) (too_long m d) = absurd (omega (arith, m, short))
+one_refusal size text r q (by_reading short names h f) (by_reading also others k g) = read.one_refusal text others r q (at_names text names others r h k f) g
+one_refusal size text r q (by_reading short names h f) (too_large others p ps a m d) = absurd (accepted_not_refused text others names p ps r a h f)
+one_refusal size text r q (too_large names p ps a l e) (too_long m d) = absurd (omega (arith, m, a.short))
+one_refusal size text r q (too_large names p ps a l e) (by_reading short others k g) = absurd (accepted_not_refused text names others p ps q a k g)
+one_refusal size text r q (too_large names p ps a l e) (too_large others o os b m d) = e ∙ sym d
 
 -- ---- each text is accepted or refused
 
-abbrev Answered : List ℕ → Type 0
-Answered text = IsAccepted text ⊎ ((refusal : Refusal) × IsRefusal text refusal)
+module _ (size : Option ℕ) where
+  abbrev Answered : List ℕ → Type 0
+  Answered text = IsAccepted size text ⊎ ((refusal : Refusal) × IsRefusal size text refusal)
 
-built_or_not : (text : List ℕ) (names : List Name) (p : Plain) (ps : List GuardPlan) → length text ≤ text_bytes → NamesText text names → IsAcceptedAs text names p ps → Answered text
-built_or_not text names p ps short named a = go (is_built p) refl
-  where
-    go : (b : Bool) → is_built p ≡ b → Answered text
-    go true e = inl (names, p, ps, record { short = short; named = named; accepted = a; built = e })
-    go false e = inr (at_start 90, inr (short, not_built names p ps named a (λ built. true≢false (sym built ∙ e)) refl))
+  sized : (text : List ℕ) (names : List Name) (p : Plain) (ps : List GuardPlan) → Accepts text names p ps → Answered text
+  sized text names p ps a =
+      let r = a.accepted in
+      let well = made r in
+      let linked = (no_fault_is_linked p well).0 r.links in
+      elim (fits_or_not size p well linked.process) [
+        | inl fits ↦ inl (names, p, ps, a, fits)
+        | inr large ↦ inr (at_start 50, too_large names p ps a large refl)
+      ]
 
-by_names : (text : List ℕ) (names : List Name) → length text ≤ text_bytes → NamesText text names → IsAcceptedText text names ⊎ ((r : Refusal) × IsRefusedAs text names r) → Answered text
-by_names text names short named (inl (p, ps, a)) = built_or_not text names p ps short named a
-by_names text names short named (inr (r, h)) = inr (r, inr (short, by_reading names named h))
+  by_names : (text : List ℕ) (names : List Name) → length text ≤ text_bytes → NamesText text names → IsAcceptedText text names ⊎ ((r : Refusal) × IsRefusedAs text names r) → Answered text
+  by_names text names short named (inl (p, ps, a)) = sized text names p ps (record { short = short; named = named; accepted = a })
+  by_names text names short named (inr (r, h)) = inr (r, by_reading short names named h)
 
--- a text that reads has a list of names
-reads_so : (alloc : Global) (text : List ℕ) (names : List Name) (p : Plain) → length text ≤ text_bytes → ReadsAs text names p → Answered text
-reads_so alloc text names p short r =
-    let list = names_read first_names (words_of text r.tokens) in
-    let named : NamesText text list = λ tokens tree right reads within. ap (λ ts. names_read first_names (words_of text ts)) (one_cut text r.tokens tokens r.reads.cut reads.cut) in
-    by_names text list short named (reading.accepted_or_refused alloc text list)
+  -- a text that reads has a list of names
+  reads_so : (alloc : Global) (text : List ℕ) (names : List Name) (p : Plain) → length text ≤ text_bytes → ReadsAs text names p → Answered text
+  reads_so alloc text names p short r =
+      let list = names_read first_names (words_of text r.tokens) in
+      let named : NamesText text list = λ tokens tree right reads within. ap (λ ts. names_read first_names (words_of text ts)) (one_cut text r.tokens tokens r.reads.cut reads.cut) in
+      by_names text list short named (reading.accepted_or_refused alloc text list)
 
-short_text : (alloc : Global) (text : List ℕ) → length text ≤ text_bytes → IsAcceptedText text first_names ⊎ ((r : Refusal) × IsRefusedAs text first_names r) → Answered text
-short_text alloc text short (inl (p, ps, a)) = reads_so alloc text first_names p short a.reads
-short_text alloc text short (inr (r, by_bytes h)) =
-    inr (r, inr (short, by_reading first_names (λ tokens tree right reads within. absurd (refused_is_wrong text r h right)) (by_bytes h)))
-short_text alloc text short (inr (r, by_tokens ts right cut (n, token, at, pos, h))) =
-    let none : NamesText text first_names = λ tokens tree right reads within.
-    let same = ap kinds_of (one_cut text ts tokens cut reads.cut) in
-    let P : List Kind → Type 0 = λ k. IsRefusedAt k n r.code in
-    absurd (refused_derive_nothing (kinds_of tokens) n r.code (subst P same h) (trees_derive tokens tree reads.is_tree) within) in
-    inr (r, inr (short, by_reading first_names none (by_tokens ts right cut (n, token, at, pos, h))))
-short_text alloc text short (inr (r, by_contexts p reads f)) = reads_so alloc text first_names p short reads
-short_text alloc text short (inr (r, by_links p reads n f)) = reads_so alloc text first_names p short reads
-short_text alloc text short (inr (r, by_rules p reads n l f)) = reads_so alloc text first_names p short reads
+  short_text : (alloc : Global) (text : List ℕ) → length text ≤ text_bytes → IsAcceptedText text first_names ⊎ ((r : Refusal) × IsRefusedAs text first_names r) → Answered text
+  short_text alloc text short (inl (p, ps, a)) = reads_so alloc text first_names p short a.reads
+  short_text alloc text short (inr (r, by_bytes h)) =
+      inr (r, by_reading short first_names (λ tokens tree right reads within. absurd (refused_is_wrong text r h right)) (by_bytes h))
+  short_text alloc text short (inr (r, by_tokens ts right cut (n, token, at, pos, h))) =
+      let none : NamesText text first_names = λ tokens tree right reads within.
+      let same = ap kinds_of (one_cut text ts tokens cut reads.cut) in
+      let P : List Kind → Type 0 = λ k. IsRefusedAt k n r.code in
+      absurd (refused_derive_nothing (kinds_of tokens) n r.code (subst P same h) (trees_derive tokens tree reads.is_tree) within) in
+      inr (r, by_reading short first_names none (by_tokens ts right cut (n, token, at, pos, h)))
+  short_text alloc text short (inr (r, by_contexts p reads f)) = reads_so alloc text first_names p short reads
+  short_text alloc text short (inr (r, by_links p reads n f)) = reads_so alloc text first_names p short reads
+  short_text alloc text short (inr (r, by_rules p reads n l f)) = reads_so alloc text first_names p short reads
 
 pub accepted_or_refused : AcceptedOrRefused
-accepted_or_refused alloc text = elim (cases_lt text_bytes (length text)) [
-  | inl long ↦ inr (at_start 1, inl (long, refl))
-  | inr short ↦ short_text alloc text short (reading.accepted_or_refused alloc text first_names)
+accepted_or_refused alloc size text = elim (cases_lt text_bytes (length text)) [
+  | inl long ↦ inr (at_start 1, too_long long refl)
+  | inr short ↦ short_text size alloc text short (reading.accepted_or_refused alloc text first_names)
 ]

@@ -3,7 +3,7 @@ use Rattle.std.specs.Prelude.{◌≡◌, ℕ, ⊤, ◌⊎◌, List, [], ◌∷�
 use Rattle.std.specs.List.{concat}
 use Rattle.lmn_base.specs.declared.refusal.Refusal.{Refusal}
 use Rattle.lmn_app.specs.declared.ending.Ending.{Ending}
-use Rattle.lmn_app.specs.declared.ending.Ending.TheVariants.{Done, Budget, Refused, Words, ReadFault, WriteFault, NoMemory}
+use Rattle.lmn_app.specs.declared.ending.Ending.TheVariants.{Done, Budget, Refused, Words, ReadFault, WriteFault, NoMemory, Full}
 use Rattle.lmn_io.specs.Counts.{Rose}
 use Rattle.lmn_io.specs.Taking.{Takes, TakesPrefix}
 use Rattle.lmn_reading.specs.Codes.{code_of, words_of_number}
@@ -16,6 +16,7 @@ status_of Words = 3
 status_of ReadFault = 4
 status_of WriteFault = 5
 status_of NoMemory = 6
+status_of Full = 7
 
 -- what stands before the number of a code, which has two digits
 abbrev pub code_letters : ℕ → List ℕ
@@ -35,6 +36,7 @@ refusal_line refusal =
 abbrev pub line_of : Ending → List ℕ
 line_of Done = []
 line_of Budget = []
+line_of Full = []
 line_of (Refused refusal) = refusal_line refusal
 line_of Words = codes "lmn: words not understood\n"
 line_of ReadFault = codes "lmn: read failed\n"
@@ -45,6 +47,7 @@ line_of NoMemory = codes "lmn: out of memory\n"
 abbrev pub HasLine : Ending → Type 0
 HasLine Done = ⊥
 HasLine Budget = ⊥
+HasLine Full = ⊥
 HasLine (Refused refusal) = ⊤
 HasLine Words = ⊤
 HasLine ReadFault = ⊤

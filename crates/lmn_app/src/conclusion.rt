@@ -28,7 +28,7 @@ fn report<E: Sink>(err: &mut E, ending: Ending) -> Result<(), Failed>
     ensures rose { OnErr result (Rose (E.faults err.old) (E.faults err.new)) }
 {
     match ending {
-        Ending::Done | Ending::Budget => Ok(()),
+        Ending::Done | Ending::Budget | Ending::Full => Ok(()),
         Ending::Refused(refusal) => report_refusal(err, refusal),
         Ending::Words => err.put(b"lmn: words not understood\n"),
         Ending::ReadFault => err.put(b"lmn: read failed\n"),

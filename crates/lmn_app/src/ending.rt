@@ -5,7 +5,7 @@ use lmn_base::Refusal;
 pub enum Ending {
     /// The last process has no reduction, and all was written.
     Done,
-    /// The budget's firings are done, the last process has a reduction, and all was written.
+    /// The budget's commits are done, the last process has a reduction, and all was written.
     Budget,
     /// The text is refused.
     Refused(Refusal),
@@ -17,6 +17,8 @@ pub enum Ending {
     WriteFault,
     /// Memory was wanting.
     NoMemory,
+    /// The next commit would leave too many items, and all was written.
+    Full,
 }
 
 impl Ending {
@@ -24,7 +26,7 @@ impl Ending {
     ghost use Rattle.lmn_app.specs.Endings.{status_of};
 
     /// The status of the program: 0 for done, 1 for the budget, 2 for a refused text, 3 for the words,
-    /// 4 for a read fault, 5 for a write fault, 6 for want of memory.
+    /// 4 for a read fault, 5 for a write fault, 6 for want of memory, 7 for too many items.
     pub fn status(self) -> u8
         ensures { result ≡ status_of self }
     {
@@ -36,6 +38,7 @@ impl Ending {
             Ending::ReadFault => 4,
             Ending::WriteFault => 5,
             Ending::NoMemory => 6,
+            Ending::Full => 7,
         }
     }
 }

@@ -31,7 +31,7 @@ struct Ended {
 
 const RUN: &[&str] = &["run", "f"];
 
-const ROWS: [Row; 13] = [
+const ROWS: [Row; 12] = [
     Row {
         words: RUN,
         text: b"a. a. a, a :- b.",
@@ -52,17 +52,7 @@ const ROWS: [Row; 13] = [
         err: b"",
         status: 0,
     },
-    Row {
-        words: RUN,
-        text: b"a. a :- a.",
-        fetches_failing: &[],
-        puts_failing: &[],
-        err_room: 100,
-        out: b"a. (a :- a).\n% budget after 1000\n",
-        err: b"",
-        status: 1,
-    },
-    // 1 + 10 + 100 firings for each c, and one for the first a: 1,000, the whole budget.
+    // 1 + 10 + 100 commits for each c, and one for the first a.
     Row {
         words: RUN,
         text: b"a. c. c. c. c. c. c. c. c. c. c :- b, b, b, b, b, b, b, b, b, b. b :- a, a, a, a, a, a, a, a, a, a. a :- .",
@@ -85,12 +75,12 @@ const ROWS: [Row; 13] = [
     },
     Row {
         words: RUN,
-        text: b"a. {b}.",
+        text: b"a(X).",
         fetches_failing: &[],
         puts_failing: &[],
         err_room: 100,
         out: b"",
-        err: b"E90 1:1 form not built\n",
+        err: b"E20 1:3 link occurs once\n",
         status: 2,
     },
     Row {
@@ -145,7 +135,7 @@ const ROWS: [Row; 13] = [
     },
     Row {
         words: RUN,
-        text: b"a. {b}.",
+        text: b"a(X).",
         fetches_failing: &[],
         puts_failing: &[],
         err_room: 0,
@@ -166,7 +156,7 @@ const ROWS: [Row; 13] = [
 ];
 
 /// A text that runs until nothing reacts, and the lines on `out`.
-const RUNS: [(&[u8], &[u8]); 8] = [
+const RUNS: [(&[u8], &[u8]); 29] = [
     (
         b"x @@ a :- 'B c'. a",
         b"'B c'. (a :- 'B c').\n% irreducible after 1\n",
@@ -196,10 +186,173 @@ const RUNS: [(&[u8], &[u8]); 8] = [
         b"1, 'A' :- -1. 'A'. 1. a",
         b"a. -1. (1, 'A' :- -1).\n% irreducible after 1\n",
     ),
+    // Links: two links of the head are one of the process, connectors, loops.
+    (
+        b"a(X), b(X). a(X), b(Y) :- c(X,Y).",
+        b"c(L0, L0). (a(L0), b(L1) :- c(L0, L1)).\n% irreducible after 1\n",
+    ),
+    (
+        b"a(X,X). a(X,Y) :- X=Y.",
+        b"(a(L0, L1) :- L0 = L1).\n% irreducible after 1\n",
+    ),
+    (
+        b"{X=Y}, a(X), b(Y).",
+        b"a(L0). b(L0). {}.\n% irreducible after 0\n",
+    ),
+    // Membranes: a link inside a head membrane and one across, contexts, rules that stand there.
+    (
+        b"{a(X), b(X)}. {a(X), b(Y)} :- c(X,Y).",
+        b"{a(L0), b(L0)}. ({a(L0), b(L1)} :- c(L0, L1)).\n% irreducible after 0\n",
+    ),
+    (
+        b"{a(X)}, {b(X)}. {a(X)}, {b(Y)} :- c(X,Y).",
+        b"c(L0, L0). ({a(L0)}, {b(L1)} :- c(L0, L1)).\n% irreducible after 1\n",
+    ),
+    (
+        b"{a. b. {c}}. {a, $p} :- $p.",
+        b"b. {c}. ({a, $p} :- $p).\n% irreducible after 1\n",
+    ),
+    (
+        b"{a. b :- c.}. {a, $p} :- {$p}, d.",
+        b"{a, (b :- c)}. ({a, $p} :- d, {$p}).\n% irreducible after 0\n",
+    ),
+    (
+        b"{d(X). e(Y). d(Z), e(Z) :- f.}, a(X), b(Y). a(X), b(Y) :- X=Y.",
+        b"{f, (d(L0), e(L0) :- f)}. (a(L0), b(L1) :- L0 = L1).\n% irreducible after 2\n",
+    ),
+    (
+        b"{a. b. b :- c.}. {a, $p, @r} :- {$p, @r, @r}.",
+        b"{c, (b :- c), (b :- c)}. ({a, $p, @r} :- {$p, @r, @r}).\n% irreducible after 2\n",
+    ),
+    (
+        b"a. a :- (b :- c), b.",
+        b"c. (a :- b, (b :- c)). (b :- c).\n% irreducible after 2\n",
+    ),
+    (b"p({a}).", b"p(L0). {'+'(L0), a}.\n% irreducible after 0\n"),
+    (
+        b"p(-5), 'A b'(X), 'it''s'(X).",
+        b"p(L0). -5(L0). 'A b'(L1). 'it''s'(L1).\n% irreducible after 0\n",
+    ),
+    // Guards: integers and their range, comparisons, kept heads.
+    (
+        b"p(3), p(4). p($x), p($y) :- $z = $x + $y | p($z).",
+        b"p(L0). 7(L0). (p(L0), $x[L0], p(L1), $y[L1] :- $z = $x + $y | p(L2), $z[L2]).\n% irreducible after 1\n",
+    ),
+    (
+        b"p(9223372036854775807), p(1). p($x), p($y) :- $z = $x + $y | p($z).",
+        b"p(L0). 9223372036854775807(L0). p(L1). 1(L1). (p(L0), $x[L0], p(L1), $y[L1] :- $z = $x + $y | p(L2), $z[L2]).\n% irreducible after 0\n",
+    ),
+    (
+        b"p(-7). p($x) :- $q = $x / 2, $r = $x mod 2 | q($q), r($r).",
+        b"q(L0). -3(L0). r(L1). -1(L1). (p(L0), $x[L0] :- $q = $x / 2, $r = $x mod 2 | q(L1), $q[L1], r(L2), $r[L2]).\n% irreducible after 1\n",
+    ),
+    (
+        b"n(3), n(5). n($x) \\ n($y) :- $x < $y | .",
+        b"n(L0). 3(L0). (n(L0), $x[L0], n(L1), $y[L1] :- $x < $y | n(L2), $x[L2]).\n% irreducible after 1\n",
+    ),
+    // Ground contexts: copies, equality, a part that reaches the head by a second link.
+    (
+        b"d([1,2]). d($g) :- ground($g) | e($g,$g).",
+        b"e(L0, L1). '.'(L2, L3, L0). 1(L2). '.'(L4, L5, L3). 2(L4). '[]'(L5). '.'(L6, L7, L1). 1(L6). '.'(L8, L9, L7). 2(L8). '[]'(L9). (d(L0), $g[L0] :- ground($g) | e(L1, L2), $g[L1], $g[L2]).\n% irreducible after 1\n",
+    ),
+    (
+        b"d(X,Y), f(X,Y). d($g,Z) :- ground($g) | e(Z).",
+        b"d(L0, L1). f(L0, L1). (d(L0, L1), $g[L0] :- ground($g) | e(L1)).\n% irreducible after 0\n",
+    ),
+    (
+        b"p([1]), p([1]). p($x), p($y) :- $x = $y | same.",
+        b"same. (p(L0), $x[L0], p(L1), $y[L1] :- $x = $y | same).\n% irreducible after 1\n",
+    ),
+    (
+        b"{a. a :- b.}. {c. c :- d.}.",
+        b"{b, (a :- b)}. {d, (c :- d)}.\n% irreducible after 2\n",
+    ),
+    (b"", b"\n% irreducible after 0\n"),
+];
+
+/// Calls with options: the words, the text, what `out` and `err` take, and the status.
+const OPTIONS: [(&[&str], &[u8], &[u8], &[u8], u8); 11] = [
+    (
+        &["run", "f", "--budget", "5"],
+        b"a. a :- a.",
+        b"a. (a :- a).\n% budget after 5\n",
+        b"",
+        1,
+    ),
+    (
+        &["run", "--budget=1", "f"],
+        b"a. a :- b.",
+        b"b. (a :- b).\n% irreducible after 1\n",
+        b"",
+        0,
+    ),
+    (
+        &["run", "f", "--budget", "0"],
+        b"a. a. a, a :- b.",
+        b"a. a. (a, a :- b).\n% budget after 0\n",
+        b"",
+        1,
+    ),
+    (
+        &["run", "f", "--size", "3"],
+        b"a. a :- a, a.",
+        b"a. a. (a :- a, a).\n% full after 1\n",
+        b"",
+        7,
+    ),
+    (
+        &["run", "f", "--size=2"],
+        b"a. b. c.",
+        b"",
+        b"E50 1:1 process too large\n",
+        2,
+    ),
+    (
+        &["run", "--trace", "f"],
+        b"{a. a :- b.}. {c. c :- d.}.",
+        b"{a, (a :- b)}. {c, (c :- d)}.\n{b, (a :- b)}. {c, (c :- d)}.\n{b, (a :- b)}. {d, (c :- d)}.\n% irreducible after 2\n",
+        b"",
+        0,
+    ),
+    (
+        &["run", "f", "--order", "turn", "--budget", "3"],
+        b"{a. a :- a.}. {c. c :- d.}.",
+        b"{a, (a :- a)}. {d, (c :- d)}.\n% budget after 3\n",
+        b"",
+        1,
+    ),
+    (
+        &["run", "f", "--order", "seed", "--budget", "1"],
+        b"{a. a :- b.}. {c. c :- d.}.",
+        b"{a, (a :- b)}. {d, (c :- d)}.\n% budget after 1\n",
+        b"",
+        1,
+    ),
+    (
+        &["run", "f", "--size", "0"],
+        b"",
+        b"",
+        b"lmn: words not understood\n",
+        3,
+    ),
+    (
+        &["run", "--", "f"],
+        b"",
+        b"",
+        b"lmn: words not understood\n",
+        3,
+    ),
+    (
+        &["run", "f", "--budget", "9223372036854775808"],
+        b"",
+        b"",
+        b"lmn: words not understood\n",
+        3,
+    ),
 ];
 
 /// A text that is refused, and the line on `err`.
-const REFUSED: [(&[u8], &[u8]); 40] = [
+const REFUSED: [(&[u8], &[u8]); 34] = [
     (&[b'a'; 256], b"E05 1:1 name too long\n"),
     (&[b'('; 201], b"E11 1:201 nesting too deep\n"),
     (b"p(1.5).", b"E06 1:3 floating-point number\n"),
@@ -254,13 +407,6 @@ const REFUSED: [(&[u8], &[u8]); 40] = [
         b"$x[X] :- int($x) | a(X).",
         b"E46 1:1 typed context not held\n",
     ),
-    // Forms that are accepted and aren't run yet.
-    (b"a(X), b(X)", b"E90 1:1 form not built\n"),
-    (b"a. {b}", b"E90 1:1 form not built\n"),
-    (b"a \\ b :- (b :- c)", b"E90 1:1 form not built\n"),
-    (b"a :- (b :- c)", b"E90 1:1 form not built\n"),
-    (b"a :- 1 < 2 | b", b"E90 1:1 form not built\n"),
-    (b"a(X) :- b(X)", b"E90 1:1 form not built\n"),
 ];
 
 fn rows_of<T: Copy + Drop>(alloc: Global, items: &[T]) -> Result<Rows<T>, AllocError> {
@@ -288,7 +434,7 @@ fn shelf_of(alloc: Global, text: &[u8], failing: &[u64]) -> Result<MemShelf, NoM
 fn call(alloc: Global, row: &Row) -> Result<Ended, NoMemory> {
     let words = words_of(alloc, row.words)?;
     let mut shelf = shelf_of(alloc, row.text, row.fetches_failing)?;
-    let mut out = MemSink::new(alloc, 1000, rows_of(alloc, row.puts_failing)?)?;
+    let mut out = MemSink::new(alloc, 4000, rows_of(alloc, row.puts_failing)?)?;
     let mut err = MemSink::new(alloc, row.err_room, Rows::new(alloc))?;
     let status = lmn_main(alloc, words.as_slice(), &mut shelf, &mut out, &mut err);
     Ok(Ended { out, err, status })
@@ -340,5 +486,52 @@ fn texts_run(rt: HostRuntime) -> Result<(), Fail> {
         assert_eq!(rt; ended.status, 0, "status of row {i}");
         assert_eq!(rt; ended.out.taken(), *lines, "output of row {i}");
     }
+    Ok(())
+}
+
+#[test]
+fn options_are_heard(rt: HostRuntime) -> Result<(), Fail> {
+    for (i, (words, text, out, err, status)) in OPTIONS.iter().enumerate() {
+        let ended = call(
+            rt.alloc(),
+            &Row {
+                words: *words,
+                text: *text,
+                fetches_failing: &[],
+                puts_failing: &[],
+                err_room: 100,
+                out: *out,
+                err: *err,
+                status: *status,
+            },
+        )?;
+        assert_eq!(rt; ended.status, *status, "status of row {i}");
+        assert_eq!(rt; ended.out.taken(), *out, "output of row {i}");
+        assert_eq!(rt; ended.err.taken(), *err, "errors of row {i}");
+    }
+    Ok(())
+}
+
+/// The listing of the rule of two numbers that are summed.
+const LISTING: &[u8] =
+    b"rule 0\n  FINDATOM A0 M0 p/1\n  FINDATOM A1 M0 p/1\n  NEQATOM A1 A0\n  ISINT G0 A0.0 M0\n  ISINT G1 A1.0 M0\n  GETINT V0 G0\n  GETINT V1 G1\n  ADD V2 V0 V1\n  COMMIT\n  REMOVEATOM A0\n  REMOVEATOM A1\n  REMOVEPART G0\n  REMOVEPART G1\n  NEWATOM A2 M0 p/1\n  NEWINT A3 M0 V2\n  NEWLINK A2.0 A3.0\n  PROCEED\n";
+
+#[test]
+fn rules_are_compiled(rt: HostRuntime) -> Result<(), Fail> {
+    let ended = call(
+        rt.alloc(),
+        &Row {
+            words: &["compile", "f"],
+            text: b"p(3), p(4). p($x), p($y) :- $z = $x + $y | p($z).",
+            fetches_failing: &[],
+            puts_failing: &[],
+            err_room: 100,
+            out: LISTING,
+            err: b"",
+            status: 0,
+        },
+    )?;
+    assert_eq!(rt; ended.status, 0);
+    assert_eq!(rt; ended.out.taken(), LISTING);
     Ok(())
 }

@@ -1,28 +1,24 @@
-ghost use Rattle.std.specs.Prelude.{◌≡◌, ◌≤◌, ◌⊎◌, ℕ, List, option_map, Some, String, codes, length, IfOk, OnErr, OnOk};
-ghost use Rattle.std.specs.declared.alloc.Global.{Global};
+ghost use Rattle.std.specs.Prelude.{◌≡◌, ◌≤◌, ◌⊎◌, ℕ, List, option_map, Some, String, codes, length};
 ghost use Rattle.lmn_io.specs.Counts.{Rose};
 ghost use Rattle.lmn_io.specs.Texts.{asked_once_more};
 ghost use Rattle.lmn_io.specs.Taking.{Takes, TakesPrefix};
 ghost use Rattle.lmn_base.specs.declared.refusal.Refusal.{Refusal};
-ghost use Rattle.lmn_base.specs.Names.{IsNames};
-ghost use Rattle.lmn_flatten.specs.Programs.{labels_of, rules_of};
-ghost use Rattle.lmn_app.specs.Words.{InForm, file_of};
+ghost use Rattle.lmn_app.specs.Requests.{Asked, file_of, size_of};
+ghost use Rattle.lmn_words.specs.Forms.{InForm, IsInRanges, request_of};
 ghost use Rattle.lmn_app.specs.Endings.{HasLine, IsCode, line_of, refusal_line};
-ghost use Rattle.lmn_app.specs.Outcomes.{Causes, Effects, Writes, WritesPrefix};
-ghost use Rattle.lmn_app.specs.FlatPlains.{AreHeld, AreRulesHeld};
-ghost use Rattle.lmn_app.specs.Runs.{IfTold, IsToldAnd, ReadsAsProgram, named_text, told_under};
-ghost use Rattle.lmn_app.specs.Stops.{stop_ending};
+ghost use Rattle.lmn_app.specs.Outcomes.{Answers, Ended, Output};
 ghost use Rattle.lmn_app.specs.Texts.{IsAccepted, IsRefusal, text_bytes};
+ghost use Rattle.lmn_app.specs.Writing.{IfTold, IsToldAnd, told_under};
 ghost use Rattle.lmn_app.specs.declared.ending.Ending.{Ending};
 
+use crate::compiling::compile;
 use crate::conclusion::conclude;
 use crate::ending::Ending;
-use crate::running::{self, Stop};
-use crate::words::in_form;
-use crate::{printing, reading};
+use crate::running::run;
 use lmn_base::{Names, Pos, Refusal, TextFault};
-use lmn_flatten::Program;
-use lmn_io::{Failed, FetchFault, Fetched, Shelf, Sink};
+use lmn_io::{FetchFault, Fetched, Shelf, Sink};
+use lmn_reading::read;
+use lmn_words::{Command, asks_one};
 use std::alloc::Global;
 
 /// The most bytes of a text.
@@ -43,7 +39,7 @@ pub fn lmn_main<F: Shelf, O: Sink, E: Sink>(
     out: &mut O,
     err: &mut E,
 ) -> u8
-    ensures status { result ≤ 6 }
+    ensures status { result ≤ 7 }
 
     // Status 3 comes where the words aren't of the form; a failing `err` alone takes its place.
     ensures words { result ≡ 3 → ¬ (InForm words.now) }
@@ -56,45 +52,44 @@ pub fn lmn_main<F: Shelf, O: Sink, E: Sink>(
     ensures unasked { ¬ (InForm words.now) → (name : List ℕ) → F.faults shelf.new name ≡ F.faults shelf.old name }
 
     // Status 4 comes only where the count of the file rose, and 5 only where that of a sink did.
-    ensures read { result ≡ 4 → InForm words.now × Rose (F.faults shelf.old (file_of words.now)) (F.faults shelf.new (file_of words.now)) }
+    ensures read { result ≡ 4 → Asked words.now (λ c. Rose (F.faults shelf.old (file_of c)) (F.faults shelf.new (file_of c))) }
     ensures write { result ≡ 5 → Rose (O.faults out.old) (O.faults out.new) ⊎ Rose (E.faults err.old) (E.faults err.new) }
 
     // A put that fails is answered by 5: with every other status both counts stay.
     ensures puts { ¬ (result ≡ 5) → (O.faults out.new ≡ O.faults out.old) × (E.faults err.new ≡ E.faults err.old) }
 
     // Status 2 comes where the text isn't accepted; 4, 5 and 6 alone take its place.
-    ensures refused { result ≡ 2 → (refusal : Refusal) × IsToldAnd (named_text (F.told shelf.old) words.now) (λ text. IsRefusal text refusal)
-        × IsCode refusal.code × Takes (refusal_line refusal) (E.told err.old) (E.told err.new) }
-    ensures not_accepted { InForm words.now → IfTold (named_text (F.told shelf.old) words.now) (λ text.
-        ¬ (IsAccepted text) → (result ≡ 2) ⊎ (result ≡ 4) ⊎ (result ≡ 5) ⊎ (result ≡ 6)) }
+    ensures refused { result ≡ 2 → Asked words.now (λ c. (refusal : Refusal) × IsToldAnd (told_under (F.told shelf.old) (file_of c)) (λ text. IsRefusal (size_of c) text refusal)
+        × IsCode refusal.code × Takes (refusal_line refusal) (E.told err.old) (E.told err.new)) }
+    ensures not_accepted { InForm words.now → Asked words.now (λ c. IfTold (told_under (F.told shelf.old) (file_of c)) (λ text.
+        ¬ (IsAccepted (size_of c) text) → (result ≡ 2) ⊎ (result ≡ 4) ⊎ (result ≡ 5) ⊎ (result ≡ 6))) }
 
-    // Where nothing fails, an accepted text runs, or memory is wanting.
-    ensures answers { InForm words.now → ¬ (Rose (F.faults shelf.old (file_of words.now)) (F.faults shelf.new (file_of words.now)))
+    // Where nothing fails, the command does what it says for an accepted text, or memory is wanting.
+    ensures answers { InForm words.now → Asked words.now (λ c. ¬ (Rose (F.faults shelf.old (file_of c)) (F.faults shelf.new (file_of c)))
         → ¬ (Rose (O.faults out.old) (O.faults out.new)) → ¬ (Rose (E.faults err.old) (E.faults err.new))
-        → IfTold (named_text (F.told shelf.old) words.now) (λ text. IsAccepted text → (result ≡ 0) ⊎ (result ≡ 1) ⊎ (result ≡ 6)) }
+        → IfTold (told_under (F.told shelf.old) (file_of c)) (λ text. IsAccepted (size_of c) text → Answers c result)) }
 
     // What `out` took, for each status.
-    ensures out_done { result ≡ 0 → Writes (named_text (F.told shelf.old) words.now) Stop.Irreducible (O.told out.old) (O.told out.new) }
-    ensures out_budget { result ≡ 1 → Writes (named_text (F.told shelf.old) words.now) Stop.Budget (O.told out.old) (O.told out.new) }
+    ensures out_done { result ≡ 0 → Asked words.now (λ c. Output c Ending.Done (told_under (F.told shelf.old) (file_of c)) (O.told out.old) (O.told out.new)) }
+    ensures out_budget { result ≡ 1 → Asked words.now (λ c. Output c Ending.Budget (told_under (F.told shelf.old) (file_of c)) (O.told out.old) (O.told out.new)) }
+    ensures out_full { result ≡ 7 → Asked words.now (λ c. Output c Ending.Full (told_under (F.told shelf.old) (file_of c)) (O.told out.old) (O.told out.new)) }
+    ensures out_memory { result ≡ 6 → Asked words.now (λ c. Output c Ending.NoMemory (told_under (F.told shelf.old) (file_of c)) (O.told out.old) (O.told out.new)) }
     ensures out_untouched { (result ≡ 2) ⊎ (result ≡ 3) ⊎ (result ≡ 4) → O.told out.new ≡ O.told out.old }
-    ensures out_part { result ≡ 5 → (O.told out.new ≡ O.told out.old) ⊎ WritesPrefix (named_text (F.told shelf.old) words.now) (O.told out.old) (O.told out.new) }
-    ensures out_memory { result ≡ 6 → (O.told out.new ≡ O.told out.old)
-        ⊎ Writes (named_text (F.told shelf.old) words.now) Stop.NoMemory (O.told out.old) (O.told out.new) }
 
     // What `err` took, for each status but 2.
-    ensures err_quiet { (result ≡ 0) ⊎ (result ≡ 1) → E.told err.new ≡ E.told err.old }
+    ensures err_quiet { (result ≡ 0) ⊎ (result ≡ 1) ⊎ (result ≡ 7) → E.told err.new ≡ E.told err.old }
     ensures err_words { result ≡ 3 → Takes (codes "lmn: words not understood\n") (E.told err.old) (E.told err.new) }
     ensures err_read { result ≡ 4 → Takes (codes "lmn: read failed\n") (E.told err.old) (E.told err.new) }
     ensures err_memory { result ≡ 6 → Takes (codes "lmn: out of memory\n") (E.told err.old) (E.told err.new) }
-    // With 5 either `out` failed, in the lines of a run, and `err` took its whole line; or `err` failed.
-    ensures err_part { result ≡ 5 →
-        (InForm words.now × WritesPrefix (named_text (F.told shelf.old) words.now) (O.told out.old) (O.told out.new) × Rose (O.faults out.old) (O.faults out.new)
+    // With 5 either `out` failed, in what a command writes, and `err` took its whole line; or `err` failed, in the line of an ending.
+    ensures part { result ≡ 5 →
+        (Asked words.now (λ c. Output c Ending.WriteFault (told_under (F.told shelf.old) (file_of c)) (O.told out.old) (O.told out.new)) × Rose (O.faults out.old) (O.faults out.new)
         × Takes (codes "lmn: write failed\n") (E.told err.old) (E.told err.new) × (E.faults err.new ≡ E.faults err.old))
-        ⊎ (Rose (E.faults err.old) (E.faults err.new) × ((ending : Ending)
-        × Causes ending (named_text (F.told shelf.old) words.now) words.now (F.faults shelf.old (file_of words.now)) (F.faults shelf.new (file_of words.now))
-        × Effects ending (named_text (F.told shelf.old) words.now) (O.told out.old) (O.told out.new) (O.faults out.old) (O.faults out.new)
-        × TakesPrefix (line_of ending) (E.told err.old) (E.told err.new) × HasLine ending)) }
+        ⊎ (Rose (E.faults err.old) (E.faults err.new) × ((ending : Ending) × HasLine ending × TakesPrefix (line_of ending) (E.told err.old) (E.told err.new)
+        × (Asked words.now (λ c. Ended c ending (told_under (F.told shelf.old) (file_of c)) (O.told out.old) (O.told out.new) (O.faults out.old) (O.faults out.new) (F.faults shelf.old (file_of c)) (F.faults shelf.new (file_of c)))
+        ⊎ (¬ (InForm words.now) × (ending ≡ Ending.Words) × (O.told out.new ≡ O.told out.old) × (O.faults out.new ≡ O.faults out.old))))) }
 {
+    asks_one();
     let ending = act(alloc, words, shelf, out);
     conclude(err, ending)
 }
@@ -104,73 +99,58 @@ fn act<F: Shelf, O: Sink>(alloc: Global, words: &[String], shelf: &mut F, out: &
     ensures asked { InForm words.now → F.asked shelf.new ≡ option_map (asked_once_more text_bytes) (F.asked shelf.old) }
     ensures not_asked { ¬ (InForm words.now) → F.asked shelf.new ≡ F.asked shelf.old }
     ensures unasked { ¬ (InForm words.now) → (name : List ℕ) → F.faults shelf.new name ≡ F.faults shelf.old name }
-    ensures causes { Causes result (named_text (F.told shelf.old) words.now) words.now (F.faults shelf.old (file_of words.now)) (F.faults shelf.new (file_of words.now)) }
-    ensures effects { Effects result (named_text (F.told shelf.old) words.now) (O.told out.old) (O.told out.new) (O.faults out.old) (O.faults out.new) }
+    ensures ended { Asked words.now (λ c. Ended c result (told_under (F.told shelf.old) (file_of c)) (O.told out.old) (O.told out.new) (O.faults out.old) (O.faults out.new) (F.faults shelf.old (file_of c)) (F.faults shelf.new (file_of c)))
+        ⊎ (¬ (InForm words.now) × (result ≡ Ending.Words) × (O.told out.new ≡ O.told out.old) × (O.faults out.new ≡ O.faults out.old)) }
 {
-    match words {
-        [_, file] if in_form(words) => run(alloc, file.as_str(), shelf, out),
-        _ => Ending::Words,
+    asks_one();
+    match Command::from_words(words) {
+        Some(command) => perform(alloc, command, shelf, out),
+        None => Ending::Words,
     }
 }
 
-/// Fetches a text and runs it.
-fn run<F: Shelf, O: Sink>(alloc: Global, file: &str, shelf: &mut F, out: &mut O) -> Ending
+/// Fetches the text that a command names, and does what the command asks for.
+fn perform<F: Shelf, O: Sink>(
+    alloc: Global,
+    command: Command<'_>,
+    shelf: &mut F,
+    out: &mut O,
+) -> Ending
+    requires { IsInRanges (request_of command) }
     ensures asked { F.asked shelf.new ≡ option_map (asked_once_more text_bytes) (F.asked shelf.old) }
-    ensures causes { (words : List (String Global)) → InForm words →
-        Causes result (told_under (F.told shelf.old) file.now) words (F.faults shelf.old file.now) (F.faults shelf.new file.now) }
-    ensures effects { Effects result (told_under (F.told shelf.old) file.now) (O.told out.old) (O.told out.new) (O.faults out.old) (O.faults out.new) }
+    ensures ended { Ended (request_of command.entry) result (told_under (F.told shelf.old) (file_of (request_of command.entry))) (O.told out.old) (O.told out.new) (O.faults out.old) (O.faults out.new) (F.faults shelf.old (file_of (request_of command.entry))) (F.faults shelf.new (file_of (request_of command.entry))) }
 {
-    match shelf.fetch(alloc, file, TEXT_BYTES) {
-        Ok(Fetched::Whole(text)) => run_text(alloc, text.as_slice(), out),
+    match shelf.fetch(alloc, file_of(command), TEXT_BYTES) {
+        Ok(Fetched::Whole(text)) => perform_on(alloc, command, text.as_slice(), out),
         Ok(Fetched::TooLong) => Ending::Refused(TOO_LONG),
         Err(FetchFault::Failed) => Ending::ReadFault,
         Err(FetchFault::NoMemory) => Ending::NoMemory,
     }
 }
 
-/// Reads a text and runs it.
-fn run_text<O: Sink>(alloc: Global, text: &[u8], out: &mut O) -> Ending
-    requires { length text.now ≤ text_bytes }
-    ensures causes { (words : List (String Global)) (before after : ℕ) → InForm words → Causes result (Some (Some text.now)) words before after }
-    ensures effects { Effects result (Some (Some text.now)) (O.told out.old) (O.told out.new) (O.faults out.old) (O.faults out.new) }
+/// The file that a command names.
+fn file_of<'w>(command: Command<'w>) -> &'w str
+    ensures { result.now ≡ file_of (request_of command.entry) }
 {
-    let mut names = Names::new(alloc);
-    match reading::read(alloc, &mut names, text) {
-        Ok(program) => match run_program(&names, program, out) {
-            Ok(stop) => ending_of(stop),
-            Err(_) => Ending::WriteFault,
-        },
-        Err(TextFault::Refused(refusal)) => Ending::Refused(refusal),
-        Err(TextFault::NoMemory) => Ending::NoMemory,
+    match command {
+        Command::Run(words) => words.file,
+        Command::Compile(file) => file,
     }
 }
 
-/// Lets a program react, and writes its last process and why it stopped.
-fn run_program<O: Sink>(names: &Names, program: Program, out: &mut O) -> Result<Stop, Failed>
-    requires names { IsNames names.now }
-    requires atoms { AreHeld names.now program.atoms }
-    requires rules { AreRulesHeld names.now program.rules }
-    ensures wrote { (alloc : Global) (text : List ℕ) → length text ≤ text_bytes → ReadsAsProgram text names.now (labels_of names.now program.atoms) (rules_of names.now program.rules) →
-        IfOk result (λ stop. Writes (Some (Some text)) stop (O.told out.old) (O.told out.new)) }
-    ensures prefix { (alloc : Global) (text : List ℕ) → length text ≤ text_bytes → ReadsAsProgram text names.now (labels_of names.now program.atoms) (rules_of names.now program.rules) →
-        OnErr result (WritesPrefix (Some (Some text)) (O.told out.old) (O.told out.new)) }
-    ensures same { OnOk result (O.faults out.new ≡ O.faults out.old) }
-    ensures rose { OnErr result (Rose (O.faults out.old) (O.faults out.new)) }
+/// Reads a text, and does with it what a command asks for.
+fn perform_on<O: Sink>(alloc: Global, command: Command<'_>, text: &[u8], out: &mut O) -> Ending
+    requires short { length text.now ≤ text_bytes }
+    requires range { IsInRanges (request_of command) }
+    ensures { (before after : ℕ) → Ended (request_of command.entry) result (Some (Some text.now)) (O.told out.old) (O.told out.new) (O.faults out.old) (O.faults out.new) before after }
 {
-    let Program { atoms, rules } = program;
-    let mut atoms = atoms.into_vec();
-    let (stop, fired) = running::react(&mut atoms, rules.as_slice());
-    printing::print_run(out, names, atoms.as_slice(), rules.as_slice(), stop, fired)?;
-    Ok(stop)
-}
-
-/// How a call ends whose run stopped so and was written.
-fn ending_of(stop: Stop) -> Ending
-    ensures { result ≡ stop_ending stop }
-{
-    match stop {
-        Stop::Irreducible => Ending::Done,
-        Stop::Budget => Ending::Budget,
-        Stop::NoMemory => Ending::NoMemory,
+    let mut names = Names::new(alloc);
+    match read(alloc, text, &mut names) {
+        Ok(accepted) => match command {
+            Command::Run(words) => run(alloc, &accepted, &names, &words, out),
+            Command::Compile(_) => compile(alloc, &accepted, &names, out),
+        },
+        Err(TextFault::Refused(refusal)) => Ending::Refused(refusal),
+        Err(TextFault::NoMemory) => Ending::NoMemory,
     }
 }

@@ -18,7 +18,7 @@ use Rattle.lmn_guards.specs.GuardCodes.{guard_rows, rows_of_condition, rows_of_c
 use Rattle.lmn_lexer.specs.declared.token.Kind.{Kind}
 use Rattle.lmn_lexer.specs.Faults.{Wrong, bad_byte, bad_quoted_byte, open_quote, open_comment, wrong_token, string, inline_code, hyperlink, TokenFault, integer_out_of_range, long_name, floating_point}
 use Rattle.lmn_reading.specs.declared.code.Code.{Code}
-use Rattle.lmn_reading.specs.declared.code.Code.TheVariants.{TextTooLong, BadByte, NotClosed, IntegerOutOfRange, NameTooLong, FloatingPoint, StringLiteral, InlineCode, Hyperlink, UnexpectedToken, NestingTooDeep, TooManyArguments, LinkOnce, LinkTooOften, LinkOnceInRule, LinkTooOftenInRule, ContextOutsideHeadMembrane, TwoContextsInMembrane, ContextTwiceInHead, ContextNotOnceInBody, ContextNotInHead, RuleContextOutsideHeadMembrane, RuleInHead, ConnectorInHead, EmptyHead, ContextOutsideRule, ContextWithoutType, UnknownGuard, WrongOperands, UnboundContext, RuleTooLarge, ContextInTwoForms, TypedContextNotHeld, FormNotBuilt}
+use Rattle.lmn_reading.specs.declared.code.Code.TheVariants.{TextTooLong, BadByte, NotClosed, IntegerOutOfRange, NameTooLong, FloatingPoint, StringLiteral, InlineCode, Hyperlink, UnexpectedToken, NestingTooDeep, TooManyArguments, LinkOnce, LinkTooOften, LinkOnceInRule, LinkTooOftenInRule, ContextOutsideHeadMembrane, TwoContextsInMembrane, ContextTwiceInHead, ContextNotOnceInBody, ContextNotInHead, RuleContextOutsideHeadMembrane, RuleInHead, ConnectorInHead, EmptyHead, ContextOutsideRule, ContextWithoutType, UnknownGuard, WrongOperands, UnboundContext, RuleTooLarge, ContextInTwoForms, TypedContextNotHeld, ProcessTooLarge}
 use Rattle.lmn_reading.specs.Codes.{number_of, code_of, CodesAreNumbered, NumbersAreOfCodes}
 use Rattle.lmn_reading.specs.Laws.{RefusalsHaveCodes}
 use Rattle.lmn_reading.specs.Texts.{by_bytes, by_tokens, by_contexts, by_links, by_rules, rows_of_rule, rows_of_rules}
@@ -57,7 +57,7 @@ codes_are_numbered UnboundContext = refl
 codes_are_numbered RuleTooLarge = refl
 codes_are_numbered ContextInTwoForms = refl
 codes_are_numbered TypedContextNotHeld = refl
-codes_are_numbered FormNotBuilt = refl
+codes_are_numbered ProcessTooLarge = refl
 
 equal_number : (n m : ℕ) → (n == m) ≡ true → n ≡ m
 equal_number n m e = grind (arith, nat_tests)
@@ -105,7 +105,7 @@ numbers_are_of_codes n code e =
     found n 44 RuleTooLarge code _ refl e (λ e.
     found n 45 ContextInTwoForms code _ refl e (λ e.
     found n 46 TypedContextNotHeld code _ refl e (λ e.
-    found n 90 FormNotBuilt code _ refl e (λ e.
+    found n 50 ProcessTooLarge code _ refl e (λ e.
     absurd (cc)))))))))))))))))))))))))))))))))))
 
 -- ---- refusals

@@ -1,7 +1,7 @@
 -- The table of refusals: the number and the words of each code.
 use Rattle.std.specs.Prelude.{ℕ, ◌≡◌, ◌==◌, List, [], Option, Some, None, codes, if◌then◌else◌}
 use Rattle.lmn_reading.specs.declared.code.Code.{Code}
-use Rattle.lmn_reading.specs.declared.code.Code.TheVariants.{TextTooLong, BadByte, NotClosed, IntegerOutOfRange, NameTooLong, FloatingPoint, StringLiteral, InlineCode, Hyperlink, UnexpectedToken, NestingTooDeep, TooManyArguments, LinkOnce, LinkTooOften, LinkOnceInRule, LinkTooOftenInRule, ContextOutsideHeadMembrane, TwoContextsInMembrane, ContextTwiceInHead, ContextNotOnceInBody, ContextNotInHead, RuleContextOutsideHeadMembrane, RuleInHead, ConnectorInHead, EmptyHead, ContextOutsideRule, ContextWithoutType, UnknownGuard, WrongOperands, UnboundContext, RuleTooLarge, ContextInTwoForms, TypedContextNotHeld, FormNotBuilt}
+use Rattle.lmn_reading.specs.declared.code.Code.TheVariants.{TextTooLong, BadByte, NotClosed, IntegerOutOfRange, NameTooLong, FloatingPoint, StringLiteral, InlineCode, Hyperlink, UnexpectedToken, NestingTooDeep, TooManyArguments, LinkOnce, LinkTooOften, LinkOnceInRule, LinkTooOftenInRule, ContextOutsideHeadMembrane, TwoContextsInMembrane, ContextTwiceInHead, ContextNotOnceInBody, ContextNotInHead, RuleContextOutsideHeadMembrane, RuleInHead, ConnectorInHead, EmptyHead, ContextOutsideRule, ContextWithoutType, UnknownGuard, WrongOperands, UnboundContext, RuleTooLarge, ContextInTwoForms, TypedContextNotHeld, ProcessTooLarge}
 
 abbrev pub number_of : Code → ℕ
 number_of TextTooLong = 1
@@ -37,7 +37,7 @@ number_of UnboundContext = 43
 number_of RuleTooLarge = 44
 number_of ContextInTwoForms = 45
 number_of TypedContextNotHeld = 46
-number_of FormNotBuilt = 90
+number_of ProcessTooLarge = 50
 
 abbrev pub words_of : Code → List ℕ
 words_of TextTooLong = codes "text too long"
@@ -73,7 +73,7 @@ words_of UnboundContext = codes "unbound context"
 words_of RuleTooLarge = codes "rule too large"
 words_of ContextInTwoForms = codes "context in two forms"
 words_of TypedContextNotHeld = codes "typed context not held"
-words_of FormNotBuilt = codes "form not built"
+words_of ProcessTooLarge = codes "process too large"
 
 -- the code with a number
 abbrev pub code_of : ℕ → Option Code
@@ -111,7 +111,7 @@ code_of n =
     else if n == 44 then Some RuleTooLarge
     else if n == 45 then Some ContextInTwoForms
     else if n == 46 then Some TypedContextNotHeld
-    else if n == 90 then Some FormNotBuilt
+    else if n == 50 then Some ProcessTooLarge
     else None
 
 abbrev pub words_or_none : Option Code → List ℕ

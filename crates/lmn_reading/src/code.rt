@@ -72,12 +72,12 @@ pub enum Code {
     ContextInTwoForms,
     /// The link of a typed context of the head is no argument of a head atom.
     TypedContextNotHeld,
-    /// The text is of the language and isn't run yet.
-    FormNotBuilt,
+    /// The process of the text has more items than there may be.
+    ProcessTooLarge,
 }
 
 impl Code {
-    /// Its number: 1 for `E01`, 90 for `E90`.
+    /// Its number: 1 for `E01`, 46 for `E46`.
     pub fn number(self) -> u8
         ensures { result ≡ number_of self }
     {
@@ -115,7 +115,7 @@ impl Code {
             Code::RuleTooLarge => 44,
             Code::ContextInTwoForms => 45,
             Code::TypedContextNotHeld => 46,
-            Code::FormNotBuilt => 90,
+            Code::ProcessTooLarge => 50,
         }
     }
 
@@ -157,7 +157,7 @@ impl Code {
             Code::RuleTooLarge => b"rule too large",
             Code::ContextInTwoForms => b"context in two forms",
             Code::TypedContextNotHeld => b"typed context not held",
-            Code::FormNotBuilt => b"form not built",
+            Code::ProcessTooLarge => b"process too large",
         }
     }
 
@@ -199,7 +199,7 @@ impl Code {
             44 => Some(Code::RuleTooLarge),
             45 => Some(Code::ContextInTwoForms),
             46 => Some(Code::TypedContextNotHeld),
-            90 => Some(Code::FormNotBuilt),
+            50 => Some(Code::ProcessTooLarge),
             _ => None,
         }
     }

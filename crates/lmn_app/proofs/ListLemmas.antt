@@ -1,0 +1,60 @@
+-- What the listings of an accepted text leave behind.
+use Rattle.std.proofs.Common.{◌≡◌, ℕ, ◌≤◌, List, length, Option, Some, inl, refl, subst}
+use Rattle.lmn_accepted.specs.Rules.{AcceptedTexts}
+use Rattle.lmn_base.specs.declared.refusal.Refusal.{Refusal}
+use Rattle.lmn_base.specs.declared.rule.Plain.{Plain}
+use Rattle.lmn_base.specs.Names.{NamesPlain, first_names}
+use Rattle.lmn_congruence.specs.Rules.{Name}
+use Rattle.lmn_guards.specs.declared.plan.GuardPlan.{GuardPlan}
+use Rattle.lmn_io.specs.Counts.{Rose}
+use Rattle.lmn_io.specs.Taking.{Takes, TakesPrefix}
+use Rattle.lmn_listing.specs.Listings.{rule_listings}
+use Rattle.lmn_reading.specs.Texts.{IsAcceptedAs, IsRefusedAs, LeavesNames}
+use Rattle.lmn_words.specs.Forms.{Request, to_run, to_compile}
+use Rattle.lmn_app.specs.declared.ending.Ending.TheVariants.{Done, NoMemory, Refused, WriteFault}
+use Rattle.lmn_app.specs.Outcomes.{Ended, IsCompile}
+use Rattle.lmn_app.specs.Requests.{size_of}
+use Rattle.lmn_app.specs.Texts.{Accepts, by_reading, text_bytes}
+use Rattle.lmn_app.specs.Writing.{IsListing}
+use Rattle.lmn_app.proofs.FirstNames.{first_are_names}
+use Rattle.lmn_app.proofs.OutcomeLemmas.{refused_ended}
+use Rattle.lmn_app.proofs.TextLemmas.{refusal_code}
+
+-- the list that reading leaves has the names of the plain
+pub plain_named : AcceptedTexts → (text : List ℕ) (names : List Name) (plain : Plain) (plans : List GuardPlan) → Accepts text names plain plans → NamesPlain names plain
+plain_named accepted_texts text names plain plans a = accepted_texts.named text first_names names plain plans first_are_names a.named a.accepted
+
+module _ (text : List ℕ) (names : List Name) (plain : Plain) (plans : List GuardPlan) (a : Accepts text names plain plans) where
+  listing_is : IsListing text (rule_listings names plain.rules plans)
+  listing_is = record { names = names; plain = plain; plans = plans; accepted = a; is = refl }
+
+  -- all listings are taken
+  pub listed_ended : (q : Request) (old new : Option (List ℕ)) (ob oa rb ra : ℕ) → IsCompile q → Takes (rule_listings names plain.rules plans) old new → oa ≡ ob
+      → Ended q Done (Some (Some text)) old new ob oa rb ra
+  listed_ended (to_run w) old new ob oa rb ra is took same = absurd is
+  listed_ended (to_compile file) old new ob oa rb ra is took same =
+      record { cause = tt; output = record { text = text; is_told = refl; listing = rule_listings names plain.rules plans; of = listing_is; took = took }; counts = same }
+
+  -- the sink failed, and took a prefix
+  pub listed_part : (q : Request) (old new : Option (List ℕ)) (ob oa rb ra : ℕ) → IsCompile q → TakesPrefix (rule_listings names plain.rules plans) old new → Rose ob oa
+      → Ended q WriteFault (Some (Some text)) old new ob oa rb ra
+  listed_part (to_run w) old new ob oa rb ra is took rose = absurd is
+  listed_part (to_compile file) old new ob oa rb ra is took rose =
+      record { cause = tt; output = record { text = text; is_told = refl; listing = rule_listings names plain.rules plans; of = listing_is; took = took }; counts = rose }
+
+-- nothing was written
+pub none_listed : (q : Request) (text : List ℕ) (old new : Option (List ℕ)) (ob oa rb ra : ℕ) → new ≡ old → oa ≡ ob → Ended q NoMemory (Some (Some text)) old new ob oa rb ra
+none_listed (to_run w) text old new ob oa rb ra same stays = record { cause = tt; output = inl same; counts = stays }
+none_listed (to_compile file) text old new ob oa rb ra same stays = record { cause = tt; output = same; counts = stays }
+
+-- what is read of a short text is accepted
+pub read_accepts : (text : List ℕ) (before names : List Name) (plain : Plain) (plans : List GuardPlan) → length text ≤ text_bytes → before ≡ first_names → LeavesNames text before names
+    → IsAcceptedAs text names plain plans → Accepts text names plain plans
+read_accepts text before names plain plans short e named a = record { short = short; named = subst (λ b. LeavesNames text b names) e named; accepted = a }
+
+-- and its refusal is that of the text
+pub read_refused : (q : Request) (text : List ℕ) (before names : List Name) (r : Refusal) (x : Option (List ℕ)) (n rb ra : ℕ) → length text ≤ text_bytes → before ≡ first_names → LeavesNames text before names
+    → IsRefusedAs text names r → Ended q (Refused r) (Some (Some text)) x x n n rb ra
+read_refused q text before names r x n rb ra short e named h =
+    let refused = by_reading short names (subst (λ b. LeavesNames text b names) e named) h in
+    refused_ended q r (Some (Some text)) x n rb ra refused (refusal_code (size_of q) text r refused)

@@ -1,0 +1,84 @@
+-- What commands write of a text.
+use Rattle.std.specs.Prelude.{◌≡◌, ℕ, List, [], ◌∷◌, ◌++◌, Option, None, Some, IfSome, IsSomeAnd, codes, decimal}
+use Rattle.std.specs.List.{concat}
+use Rattle.lmn_base.specs.declared.rule.Plain.{Plain}
+use Rattle.lmn_congruence.specs.Rules.{Name}
+use Rattle.lmn_guards.specs.declared.plan.GuardPlan.{GuardPlan}
+use Rattle.lmn_io.specs.Taking.{Takes, TakesPrefix}
+use Rattle.lmn_listing.specs.Listings.{rule_listings}
+use Rattle.lmn_runs.specs.Runs.{Stop, StopsSo, word_of}
+use Rattle.lmn_app.specs.Runs.{IsRun, IsTraceOf}
+use Rattle.lmn_app.specs.Texts.{Accepts}
+use Rattle.lmn_words.specs.Forms.{Run}
+use Rattle.lmn_app.specs.Requests.{given}
+
+-- what a map of texts, if one is told, has under a name
+abbrev pub told_under : Option (List ℕ → Option (List ℕ)) → List ℕ → Option (Option (List ℕ))
+told_under None name = None
+told_under (Some texts) name = Some (texts name)
+
+-- where a map is told, the text is there, and this holds of it
+abbrev pub IsToldAnd : Option (Option (List ℕ)) → (List ℕ → Type 0) → Type 0
+IsToldAnd told P = IfSome told (λ found. IsSomeAnd found P)
+
+-- where a map is told and the text is there, this holds of it
+abbrev pub IfTold : Option (Option (List ℕ)) → (List ℕ → Type 0) → Type 0
+IfTold told P = IfSome told (λ found. IfSome found P)
+
+-- ---- runs
+
+-- the end line: a word, and after how many commits
+abbrev pub end_line : List ℕ → ℕ → List ℕ
+end_line word commits = concat (codes "% " ∷ word ∷ codes " after " ∷ decimal commits ∷ codes "\n" ∷ [])
+
+-- process lines, and the end line
+abbrev pub run_text : List (List ℕ) → Stop → ℕ → List ℕ
+run_text lines why commits = concat lines ++ end_line (word_of why) commits
+
+-- A run of the text stopped so, and its lines were taken. The text is the one that is told, if one is. Its lines are those of a run
+-- of the calculus, and which run that is the strategy says.
+pub record Writes (w : Run) (told : Option (Option (List ℕ))) (why : Stop) (old new : Option (List ℕ)) : Type 0 where
+  pub text : List ℕ
+  pub is_told : IsToldAnd told (λ found. found ≡ text)
+  pub lines : List (List ℕ)
+  pub commits : ℕ
+  pub run : IsRun w.trace w.budget text lines why commits
+  pub trace : IsTraceOf (given w) text lines commits
+  pub stops : StopsSo (given w) commits trace.last why
+  pub took : Takes (run_text lines why commits) old new
+
+-- A prefix of the lines of a run of the text was taken, with the word that is due: that of the end of its trace, or `no memory` where
+-- the trace goes on.
+pub record WritesPart (w : Run) (told : Option (Option (List ℕ))) (old new : Option (List ℕ)) : Type 0 where
+  pub text : List ℕ
+  pub is_told : IsToldAnd told (λ found. found ≡ text)
+  pub lines : List (List ℕ)
+  pub commits : ℕ
+  pub trace : IsTraceOf (given w) text lines commits
+  pub run : (why : Stop) → StopsSo (given w) commits trace.last why → IsRun w.trace w.budget text lines why commits
+  pub took : (why : Stop) → StopsSo (given w) commits trace.last why → TakesPrefix (run_text lines why commits) old new
+
+-- ---- listings
+
+-- The listing of the code of each rule of the text, by rising number.
+pub record IsListing (text listing : List ℕ) : Type 0 where
+  pub names : List Name
+  pub plain : Plain
+  pub plans : List GuardPlan
+  pub accepted : Accepts text names plain plans
+  pub is : listing ≡ rule_listings names plain.rules plans
+
+-- the listing of the text was taken, or a prefix of it
+pub record Lists (told : Option (Option (List ℕ))) (old new : Option (List ℕ)) : Type 0 where
+  pub text : List ℕ
+  pub is_told : IsToldAnd told (λ found. found ≡ text)
+  pub listing : List ℕ
+  pub of : IsListing text listing
+  pub took : Takes listing old new
+
+pub record ListsPart (told : Option (Option (List ℕ))) (old new : Option (List ℕ)) : Type 0 where
+  pub text : List ℕ
+  pub is_told : IsToldAnd told (λ found. found ≡ text)
+  pub listing : List ℕ
+  pub of : IsListing text listing
+  pub took : TakesPrefix listing old new

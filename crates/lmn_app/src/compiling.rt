@@ -1,0 +1,43 @@
+ghost use Rattle.std.specs.Prelude.{◌≡◌, ℕ, List, Some};
+ghost use Rattle.lmn_app.specs.Outcomes.{Ended, IsCompile};
+ghost use Rattle.lmn_app.specs.Texts.{Accepts};
+ghost use Rattle.lmn_words.specs.Forms.{Request};
+
+use crate::ending::Ending;
+use lmn_accepted::accepted_texts;
+use lmn_base::Names;
+use lmn_compile_body::accepted_bodies;
+use lmn_io::Sink;
+use lmn_listing::{ListFault, list_rules};
+use lmn_reading::Accepted;
+use std::alloc::Global;
+
+/// Writes the listing of the code of each rule of an accepted text, by rising number.
+/// So many rules that 32 bits don't count them would stand in no memory.
+pub(crate) fn compile<O: Sink>(
+    alloc: Global,
+    accepted: &Accepted,
+    names: &Names,
+    out: &mut O,
+) -> Ending
+    requires accepted { (text : List ℕ) × Accepts text names.now accepted.now.plain accepted.now.plans }
+    ensures { (q : Request) (text : List ℕ) (before after : ℕ) → IsCompile q → Accepts text names.now accepted.now.plain accepted.now.plans →
+        Ended q result (Some (Some text)) (O.told out.old) (O.told out.new) (O.faults out.old) (O.faults out.new) before after }
+{
+    accepted_texts();
+    accepted_bodies();
+    if accepted.plain.rules.len() >= 1 << 32 {
+        return Ending::NoMemory;
+    }
+    match list_rules(
+        alloc,
+        &accepted.plain,
+        accepted.plans.as_slice(),
+        names,
+        out,
+    ) {
+        Ok(()) => Ending::Done,
+        Err(ListFault::Failed) => Ending::WriteFault,
+        Err(ListFault::NoMemory) => Ending::NoMemory,
+    }
+}
