@@ -41,20 +41,19 @@ use Rattle.lmn_solid.proofs.HeadTrees.{Head, Heads, head, no_head, head_and, hea
 use Rattle.lmn_accepted.proofs.InTurns.{guard_in_turn}
 use Rattle.lmn_accepted.proofs.Types.{left_among, type_given}
 use Rattle.lmn_accepted.proofs.Counts.{guard_typed, kept, once_in_head, rule_context_known, rule_context_once, typed_in_head, typed_known}
-use Rattle.lmn_accepted.proofs.Listed.{all_both, all_left, all_right, alone, among_left, among_right, each_so, times, times_here, some_of, among_name, name_among, N, Known, each_once, same_shuffle}
+use Rattle.lmn_accepted.proofs.Listed.{alone, each_so, times, times_here, some_of, among_name, name_among, N, Known, each_once, same_shuffle}
+use Rattle.lmn_plain.proofs.AllLemmas.{all_append, all_front, all_back}
+use Rattle.lmn_adequacy.proofs.Orders.{among_left, among_right}
 use Rattle.lmn_accepted.proofs.PlanKinds.{leaf_name}
 use Rattle.lmn_accepted.proofs.Items.{bare_name, typed_name, rule_context_name, rule_number, own_seconds, all_seconds, gathered_in, rules_are, contexts_are, rule_contexts_are, typed_are}
 use Rattle.lmn_accepted.proofs.Trees.{tree_of, level_tree, contexts_named, rule_contexts_named, typed_named, no_rules_stand, IsPlainLeaf, typed_link, atom_links, LevelIs, level_is, few_in}
+use Rattle.lmn_reading.proofs.Levels.{two_empty}
 
 -- ---- lists
 
 to_recursion : {A : Type 0} (P : A → Type 0) (xs : List A) → All P xs → AllByRecursion P xs
 to_recursion P [] h = tt
 to_recursion P (x ∷ xs) h = (All-head P x xs h, to_recursion P xs (All-tail P x xs h))
-
-nothing_left : {A : Type 0} (xs ys : List A) → xs ++ ys ≡ [] → (xs ≡ []) × (ys ≡ [])
-nothing_left [] ys e = (refl, e)
-nothing_left (x ∷ xs) ys e = absurd (cc)
 
 -- ---- names that are known
 
@@ -64,7 +63,7 @@ module _ (names : List tree.Name) where
 
   leaves_known : (ls : List Leaf) → AllByRecursion Below (flat_map leaf_names ls) → Known names (flat_map leaf_name ls)
   leaves_known [] h = tt
-  leaves_known (leaf.Atom f os p ∷ ls) h = leaves_known ls (all_right Below (label_names f.label) (flat_map leaf_names ls) h)
+  leaves_known (leaf.Atom f os p ∷ ls) h = leaves_known ls (all_back Below (label_names f.label) (flat_map leaf_names ls) h)
   leaves_known (leaf.Typed n o p ∷ ls) h = (h.0, leaves_known ls h.1)
 
   record LevelKnown (l : Level) : Type 0 where
@@ -75,10 +74,10 @@ module _ (names : List tree.Name) where
   level_known : (l : Level) → AllByRecursion Below (level_names l) → LevelKnown l
   level_known l h =
       let P : List ℕ → Type 0 = AllByRecursion Below in
-      let front = all_left Below (flat_map leaf_names (base.leaves_of l) ++ context_names (contexts_of l)) (context_names (rule_contexts_of l)) h in
-      let others = all_right Below (flat_map leaf_names (base.leaves_of l) ++ context_names (contexts_of l)) (context_names (rule_contexts_of l)) h in
-      let leaves = all_left Below (flat_map leaf_names (base.leaves_of l)) (context_names (contexts_of l)) front in
-      let contexts = all_right Below (flat_map leaf_names (base.leaves_of l)) (context_names (contexts_of l)) front in
+      let front = all_front Below (flat_map leaf_names (base.leaves_of l) ++ context_names (contexts_of l)) (context_names (rule_contexts_of l)) h in
+      let others = all_back Below (flat_map leaf_names (base.leaves_of l) ++ context_names (contexts_of l)) (context_names (rule_contexts_of l)) h in
+      let leaves = all_front Below (flat_map leaf_names (base.leaves_of l)) (context_names (contexts_of l)) front in
+      let contexts = all_back Below (flat_map leaf_names (base.leaves_of l)) (context_names (contexts_of l)) front in
       record {
         bare = subst P (contexts_are l ∙ ap (flat_map bare_name) (sym (same_uses l))) contexts;
         rule_contexts = subst P (rule_contexts_are l ∙ ap (flat_map rule_context_name) (sym (same_uses l))) others;
@@ -87,7 +86,7 @@ module _ (names : List tree.Name) where
 
   conditions_known : (cs : List Cond) → AllByRecursion Below (flat_map condition_names cs) → AllByRecursion (λ c. Known names (condition_names c)) cs
   conditions_known [] h = tt
-  conditions_known (c ∷ cs) h = (all_left Below (condition_names c) (flat_map condition_names cs) h, conditions_known cs (all_right Below (condition_names c) (flat_map condition_names cs) h))
+  conditions_known (c ∷ cs) h = (all_front Below (condition_names c) (flat_map condition_names cs) h, conditions_known cs (all_back Below (condition_names c) (flat_map condition_names cs) h))
 
 -- ---- one level as a tree
 
@@ -119,22 +118,22 @@ NoPlace l = connector_place (leaf_item l) ≡ []
 
 leaves_nowhere : (ls : List Leaf) → flat_map connector_place (map leaf_item ls) ≡ [] → AllByRecursion NoPlace ls
 leaves_nowhere [] e = tt
-leaves_nowhere (l ∷ ls) e = let apart = nothing_left (connector_place (leaf_item l)) (flat_map connector_place (map leaf_item ls)) e in (apart.0, leaves_nowhere ls apart.1)
+leaves_nowhere (l ∷ ls) e = let apart = two_empty (connector_place (leaf_item l)) (flat_map connector_place (map leaf_item ls)) e in (apart.0, leaves_nowhere ls apart.1)
 
 mutual
   head_nowhere : (h : Head) → flat_map connector_place (head_uses h) ≡ [] → AllByRecursion NoPlace (head_leaves h)
   head_nowhere (head ls hs cs os rs) e =
       let more = map (used form.Bare) cs ++ (map item.RuleContext os ++ map item.Rule rs) in
       let own = map leaf_item ls ++ more in
-      let apart = nothing_left (flat_map connector_place own) (flat_map connector_place (heads_uses hs)) (sym (flat_map-append connector_place own (heads_uses hs)) ∙ e) in
-      let here = nothing_left (flat_map connector_place (map leaf_item ls)) (flat_map connector_place more) (sym (flat_map-append connector_place (map leaf_item ls) more) ∙ apart.0) in
-      all_both NoPlace ls (heads_leaves hs) (leaves_nowhere ls here.0) (heads_nowhere hs apart.1)
+      let apart = two_empty (flat_map connector_place own) (flat_map connector_place (heads_uses hs)) (sym (flat_map-append connector_place own (heads_uses hs)) ∙ e) in
+      let here = two_empty (flat_map connector_place (map leaf_item ls)) (flat_map connector_place more) (sym (flat_map-append connector_place (map leaf_item ls) more) ∙ apart.0) in
+      all_append NoPlace ls (heads_leaves hs) (leaves_nowhere ls here.0) (heads_nowhere hs apart.1)
 
   heads_nowhere : (hs : Heads) → flat_map connector_place (heads_uses hs) ≡ [] → AllByRecursion NoPlace (heads_leaves hs)
   heads_nowhere no_head e = tt
   heads_nowhere (head_and h hs) e =
-      let apart = nothing_left (flat_map connector_place (head_uses h)) (flat_map connector_place (heads_uses hs)) (sym (flat_map-append connector_place (head_uses h) (heads_uses hs)) ∙ e) in
-      all_both NoPlace (head_leaves h) (heads_leaves hs) (head_nowhere h apart.0) (heads_nowhere hs apart.1)
+      let apart = two_empty (flat_map connector_place (head_uses h)) (flat_map connector_place (heads_uses hs)) (sym (flat_map-append connector_place (head_uses h) (heads_uses hs)) ∙ e) in
+      all_append NoPlace (head_leaves h) (heads_leaves hs) (head_nowhere h apart.0) (heads_nowhere hs apart.1)
 
 plain_leaves : (names : List tree.Name) (rule : ℕ → tree.Rule) (ls : List Leaf) → AllByRecursion NoPlace ls → AllByRecursion FitsArity ls → AllByRecursion (IsPlainLeaf names rule) ls
 plain_leaves names rule [] h k = tt
@@ -194,20 +193,14 @@ module _ (names : List tree.Name) (rule : ℕ → tree.Rule) (is_names : IsNames
   order : IsInOrder table r
   order = in_order table r accepted
 
-  abbrev T : tree.Rule
-  T = rule_tree names rule r
-
-  head_tree : tree.Level
-  head_tree = level_of names rule r.head
-
   known_parts : LevelKnown names r.head × AllByRecursion (λ c. Known names (condition_names c)) r.guard × LevelKnown names r.body
   known_parts =
       let P : ℕ → Type 0 = λ n. n < length names in
       let all = to_recursion P (rule_names r) known in
-      let front = all_left P (level_names r.head ++ flat_map condition_names r.guard) (level_names r.body) all in (
-        level_known names r.head (all_left P (level_names r.head) (flat_map condition_names r.guard) front),
-        conditions_known names r.guard (all_right P (level_names r.head) (flat_map condition_names r.guard) front),
-        level_known names r.body (all_right P (level_names r.head ++ flat_map condition_names r.guard) (level_names r.body) all),
+      let front = all_front P (level_names r.head ++ flat_map condition_names r.guard) (level_names r.body) all in (
+        level_known names r.head (all_front P (level_names r.head) (flat_map condition_names r.guard) front),
+        conditions_known names r.guard (all_back P (level_names r.head) (flat_map condition_names r.guard) front),
+        level_known names r.body (all_back P (level_names r.head ++ flat_map condition_names r.guard) (level_names r.body) all),
       )
 
   -- no rule stands in the head
@@ -235,7 +228,7 @@ module _ (names : List tree.Name) (rule : ℕ → tree.Rule) (is_names : IsNames
       let nowhere = accepted.contexts 3 (connector_in_head r) (omega arith) in
       let P : List Item → Type 0 = λ xs. flat_map connector_place xs ≡ [] in
       let no = head_nowhere (head_at r.head) (subst P (same_uses r.head) nowhere) in
-      let fits = all_left FitsArity (base.leaves_of r.head) (base.leaves_of r.body) (to_recursion FitsArity (base.leaves_of r.head ++ base.leaves_of r.body) made.arities) in
+      let fits = all_front FitsArity (base.leaves_of r.head) (base.leaves_of r.body) (to_recursion FitsArity (base.leaves_of r.head ++ base.leaves_of r.body) made.arities) in
       let Q : List Leaf → Type 0 = AllByRecursion FitsArity in
       level_is names rule (head_at r.head) (plain_leaves names rule (head_leaves (head_at r.head)) no (subst Q (same_leaves r.head) fits))
 

@@ -17,7 +17,8 @@ use Rattle.lmn_guards.specs.Accepted.{IsInOrder}
 use Rattle.lmn_guards.specs.GuardCodes.{in_head}
 use Rattle.lmn_accepted.proofs.Listed.{times, times_both, some_of, alone}
 use Rattle.lmn_accepted.proofs.Items.{bare_name, typed_name, rule_context_name}
-use Rattle.lmn_accepted.proofs.Expressions.{or_either, typed_is}
+use Rattle.lmn_accepted.proofs.Expressions.{typed_is}
+use Rattle.lmn_grammar.proofs.Theory.{or_true}
 use Rattle.lmn_accepted.proofs.Types.{left_used_there}
 
 -- ---- counts
@@ -132,15 +133,6 @@ module _ (table : List RuleTree) (r : RuleTree) (order : IsInOrder table r) wher
   abbrev pub typed_in : List Item → ℕ → ℕ
   typed_in xs n = times n (flat_map typed_name xs)
 
-  abbrev H : List Item
-  H = items_of r.head
-
-  abbrev G : List Item
-  G = guard_items r.guard
-
-  abbrev B : List Item
-  B = items_of r.body
-
   in_three : (f : Item → List ℕ) (n : ℕ) → times n (flat_map f (rule_items r)) ≡ times n (flat_map f (items_of r.head)) + (times n (flat_map f (guard_items r.guard)) + times n (flat_map f (items_of r.body)))
   in_three f n =
       let e = ap (times n) (flat_map-append f (items_of r.head) (guard_items r.guard ++ items_of r.body) ∙ ap (λ xs. flat_map f (items_of r.head) ++ xs) (flat_map-append f (guard_items r.guard) (items_of r.body))) in
@@ -183,7 +175,7 @@ module _ (table : List RuleTree) (r : RuleTree) (order : IsInOrder table r) wher
 
   -- what a context of the body is
   body_known : (u : FormedUse) → Contains (items_of r.body) (item.Context u) → (1 ≤ bare_in (items_of r.head) u.name + typed_in (items_of r.head) u.name) ⊎ (list_any (is_left_of u.name) r.guard ≡ true)
-  body_known u c = elim (or_either (has_use u.name (items_of r.head)) (list_any (is_left_of u.name) r.guard) (order.of_the_head u c)) [
+  body_known u c = elim (or_true (has_use u.name (items_of r.head)) (list_any (is_left_of u.name) r.guard) (order.of_the_head u c)) [
     | inl h ↦ inl (in_head_counts u.name h)
     | inr h ↦ inr h
   ]

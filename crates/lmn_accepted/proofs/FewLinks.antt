@@ -20,7 +20,7 @@ use Rattle.lmn_plain.specs.Parts.{Parts, no_parts, joined, level_of, Numbered, �
 use Rattle.lmn_plain.specs.Expansion.{used, arguments, last_link, term, cells, terms, item, items, clause, clauses, parts_of}
 use Rattle.lmn_plain.specs.Plains.{Each, numbered, numbered_leaf, numbered_use, IsRuleOf, IsPlainOf}
 use Rattle.lmn_plain.proofs.NumberedLevels.{all_leaves, leaves_below, leaves_numbered}
-use Rattle.lmn_accepted.proofs.Listed.{all_both, all_left, all_right}
+use Rattle.lmn_plain.proofs.AllLemmas.{all_append, all_front, all_back}
 
 abbrev FewUses : Leaf → Type 0
 FewUses (atom_leaf l us pos) = length us < 256
@@ -41,21 +41,21 @@ record Few (p : Parts) : Type 0 where
 below_joined : (ls ms : List Level) → AllFew (leaves_below (levels ls)) → AllFew (leaves_below (levels ms)) → AllFew (leaves_below (levels (ls ++ ms)))
 below_joined [] ms h k = k
 below_joined (l ∷ ls) ms h k =
-    all_both FewUses (all_leaves l) (leaves_below (levels (ls ++ ms))) (all_left FewUses (all_leaves l) (leaves_below (levels ls)) h)
-    (below_joined ls ms (all_right FewUses (all_leaves l) (leaves_below (levels ls)) h) k)
+    all_append FewUses (all_leaves l) (leaves_below (levels (ls ++ ms))) (all_front FewUses (all_leaves l) (leaves_below (levels ls)) h)
+    (below_joined ls ms (all_back FewUses (all_leaves l) (leaves_below (levels ls)) h) k)
 
 joined_few : (p q : Parts) → Few p → Few q → Few (joined p q)
 joined_few p q f g = record {
-  leaves = all_both FewUses p.leaves q.leaves f.leaves g.leaves;
+  leaves = all_append FewUses p.leaves q.leaves f.leaves g.leaves;
   membranes = below_joined p.membranes q.membranes f.membranes g.membranes;
-  table = all_both RuleFew p.table q.table f.table g.table;
+  table = all_append RuleFew p.table q.table f.table g.table;
 }
 
 level_few : (p : Parts) → Few p → AllFew (all_leaves (level_of p))
-level_few p f = all_both FewUses p.leaves (leaves_below (levels p.membranes)) f.leaves f.membranes
+level_few p f = all_append FewUses p.leaves (leaves_below (levels p.membranes)) f.leaves f.membranes
 
 membrane_few : (p : Parts) → Few p → Few (record { leaves = []; membranes = level_of p ∷ []; contexts = []; rule_contexts = []; rules = []; table = p.table })
-membrane_few p f = record { leaves = tt; membranes = all_both FewUses (all_leaves (level_of p)) [] (level_few p f) tt; table = f.table }
+membrane_few p f = record { leaves = tt; membranes = all_append FewUses (all_leaves (level_of p)) [] (level_few p f) tt; table = f.table }
 
 -- other links leave their numbers
 
@@ -70,20 +70,20 @@ all_few_renamed f (l ∷ ls) h = (few_renamed f l h.0, all_few_renamed f ls h.1)
 mutual
   level_renamed : (f : Link → Link) (l : Level) → AllFew (all_leaves l) → AllFew (all_leaves (renamed f l))
   level_renamed f (level ls ms cs os rs) h =
-      all_both FewUses (map (renamed_leaf f) ls) (leaves_below (all_renamed f ms)) (all_few_renamed f ls (all_left FewUses ls (leaves_below ms) h))
-      (levels_renamed f ms (all_right FewUses ls (leaves_below ms) h))
+      all_append FewUses (map (renamed_leaf f) ls) (leaves_below (all_renamed f ms)) (all_few_renamed f ls (all_front FewUses ls (leaves_below ms) h))
+      (levels_renamed f ms (all_back FewUses ls (leaves_below ms) h))
 
   levels_renamed : (f : Link → Link) (ls : Levels) → AllFew (leaves_below ls) → AllFew (leaves_below (all_renamed f ls))
   levels_renamed f no_level h = tt
   levels_renamed f (level_and l ls) h =
-      all_both FewUses (all_leaves (renamed f l)) (leaves_below (all_renamed f ls)) (level_renamed f l (all_left FewUses (all_leaves l) (leaves_below ls) h))
-      (levels_renamed f ls (all_right FewUses (all_leaves l) (leaves_below ls) h))
+      all_append FewUses (all_leaves (renamed f l)) (leaves_below (all_renamed f ls)) (level_renamed f l (all_front FewUses (all_leaves l) (leaves_below ls) h))
+      (levels_renamed f ls (all_back FewUses (all_leaves l) (leaves_below ls) h))
 
 below_renamed : (f : Link → Link) (ls : List Level) → AllFew (leaves_below (levels ls)) → AllFew (leaves_below (levels (map (renamed f) ls)))
 below_renamed f [] h = tt
 below_renamed f (l ∷ ls) h =
-    all_both FewUses (all_leaves (renamed f l)) (leaves_below (levels (map (renamed f) ls))) (level_renamed f l (all_left FewUses (all_leaves l) (leaves_below (levels ls)) h))
-    (below_renamed f ls (all_right FewUses (all_leaves l) (leaves_below (levels ls)) h))
+    all_append FewUses (all_leaves (renamed f l)) (leaves_below (levels (map (renamed f) ls))) (level_renamed f l (all_front FewUses (all_leaves l) (leaves_below (levels ls)) h))
+    (below_renamed f ls (all_back FewUses (all_leaves l) (leaves_below (levels ls)) h))
 
 copied_few : (p : Parts) → Few p → Few (copied p)
 copied_few p f = record { leaves = all_few_renamed _ p.leaves f.leaves; membranes = below_renamed _ p.membranes f.membranes; table = f.table }
@@ -95,7 +95,7 @@ rule_few k p q r cs pos f g h = record {
   membranes = tt;
   table = (
     (level_few (joined p q) (joined_few p q f g), level_few (joined (copied p) r) (joined_few (copied p) r (copied_few p f) h)),
-    all_both RuleFew p.table (q.table ++ r.table) f.table (all_both RuleFew q.table r.table g.table h.table),
+    all_append RuleFew p.table (q.table ++ r.table) f.table (all_append RuleFew q.table r.table g.table h.table),
   );
 }
 

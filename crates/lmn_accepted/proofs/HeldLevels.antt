@@ -9,7 +9,7 @@ use Rattle.lmn_base.specs.declared.level.Level.TheFolds.{fold-roll-Level}
 use Rattle.lmn_base.specs.Levels.{leaves_of, contexts_of, rule_contexts_of}
 use Rattle.lmn_base.specs.Names.{leaf_names, context_names, level_names}
 use Rattle.lmn_congruence.specs.Rules as tree
-use Rattle.lmn_flatten.proofs.AllLemmas.{all_front, all_back}
+use Rattle.lmn_plain.proofs.AllLemmas.{all_front, all_back}
 use Rattle.lmn_plain.specs.Links.{Link}
 use Rattle.lmn_plain.specs.Expanded.{Leaf, atom_leaf, typed_leaf, Context, Level, level, Levels, no_level, level_and}
 use Rattle.lmn_plain.specs.Plains.{numbered, all_numbered, numbered_leaf, numbered_context}

@@ -29,7 +29,9 @@ use Rattle.lmn_guards.proofs.OrderLemmas.{not_then, so_else}
 use Rattle.lmn_reduction.proofs.Values.{context_tree}
 use Rattle.lmn_accepted.proofs.Listed.{times, times_both, times_here, times_later, N, Known, among_name, number_among}
 use Rattle.lmn_accepted.proofs.Items.{typed_name}
-use Rattle.lmn_accepted.proofs.Expressions.{or_either, or_neither, and_both, use_known, context_items, used_names, used_there}
+use Rattle.lmn_accepted.proofs.Expressions.{or_neither, use_known, context_items, used_names, used_there}
+use Rattle.lmn_grammar.proofs.Theory.{or_true}
+use Rattle.lmn_lexer.proofs.Runs.{both_true}
 
 -- ---- what earlier conditions bind
 
@@ -77,11 +79,11 @@ binds_left head before left right pos bs new b = record { into = into; back = ba
     is n = ap (λ b. not (in_head head n) && b) (any_more (is_left_of n) before (Equal left right pos))
 
     into : (n : ℕ) → is_bound head (before ++ Equal left right pos ∷ []) n ≡ true → 1 ≤ times n (left.name ∷ bs)
-    into n e = by (left.name == n) refl (and_both (not (in_head head n)) (list_any (is_left_of n) before || (left.name == n)) (sym (is n) ∙ e))
+    into n e = by (left.name == n) refl (both_true (not (in_head head n)) (list_any (is_left_of n) before || (left.name == n)) (sym (is n) ∙ e))
       where
         by : (t : Bool) → (left.name == n) ≡ t → (not (in_head head n) ≡ true) × ((list_any (is_left_of n) before || (left.name == n)) ≡ true) → 1 ≤ cond t (suc (times n bs)) (times n bs)
         by true q h = omega arith
-        by false q h = elim (or_either (list_any (is_left_of n) before) (left.name == n) h.1) [
+        by false q h = elim (or_true (list_any (is_left_of n) before) (left.name == n) h.1) [
           | inl k ↦ b.into n (rw (h.0, k) refl)
           | inr k ↦ absurd (cc)
         ]
@@ -97,7 +99,7 @@ binds_left head before left right pos bs new b = record { into = into; back = ba
             or_true : (b : Bool) → (b || true) ≡ true
             or_true true = refl
             or_true false = refl
-        by false q h = (let k = and_both (not (in_head head n)) (list_any (is_left_of n) before) (b.back n h) in rw (k.0, k.1) refl)
+        by false q h = (let k = both_true (not (in_head head n)) (list_any (is_left_of n) before) (b.back n h) in rw (k.0, k.1) refl)
 
 -- ---- conditions in turn
 
@@ -142,7 +144,7 @@ module _ (names : List tree.Name) (is : IsNames names) (head : Level) (ts : List
   -- a use that is of the head or bound stands among the names of either
   known_use : (before : List Cond) (bs : List ℕ) (xs : List Item) → Binds head before bs → flat_map (use_of_none head before) xs ≡ [] → Typed xs
       → (n : ℕ) → 1 ≤ times n (flat_map typed_name xs) → Among (N names n) (map (N names) ts) ⊎ Among (N names n) (map (N names) bs)
-  known_use before bs xs b none t n h = elim (or_either (in_head head n) (is_bound head before n) (use_known head before xs none n h)) [
+  known_use before bs xs b none t n h = elim (or_true (in_head head n) (is_bound head before n) (use_known head before xs none n h)) [
     | inl k ↦ inl (among_name names n ts (t n h k))
     | inr k ↦ inr (among_name names n bs (b.into n k))
   ]
@@ -155,7 +157,7 @@ module _ (names : List tree.Name) (is : IsNames names) (head : Level) (ts : List
       → AllByRecursion (λ c. Known names (condition_names c)) cs → InTurn (map (N names) ts) (map (N names) bs) (map (condition_of names) cs)
   in_turn before [] bs kb b rows t kc = all_asked
   in_turn before (Kind n args pos ∷ cs) bs kb b rows t kc =
-      by args (and_both (is_type n) (length args == 1) (so_else (is_type n && (length args == 1)) pos r.0)) r.1 (typed_left (condition_items (Kind n args pos)) (guard_items cs) t)
+      by args (both_true (is_type n) (length args == 1) (so_else (is_type n && (length args == 1)) pos r.0)) r.1 (typed_left (condition_items (Kind n args pos)) (guard_items cs) t)
       (in_turn (before ++ Kind n args pos ∷ []) cs bs kb (binds_as_before head before (Kind n args pos) bs (no_left head before (Kind n args pos) (λ m. refl)) b) r.3
       (typed_right (condition_items (Kind n args pos)) (guard_items cs) t) kc.1)
     where

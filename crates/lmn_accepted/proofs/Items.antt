@@ -11,7 +11,6 @@ use Rattle.lmn_base.specs.declared.level.Leaf.{Leaf}
 use Rattle.lmn_base.specs.declared.level.Leaf.TheVariants as leaf
 use Rattle.lmn_base.specs.declared.level.Level.{Level}
 use Rattle.lmn_base.specs.declared.level.Level.TheFolds.{fold-roll-Level, ind-Level}
-use Rattle.lmn_base.specs.declared.level.Level.TheOpen.{Level-F}
 use Rattle.lmn_base.specs.declared.refusal.Pos.{Pos}
 use Rattle.lmn_base.specs.Items.{leaf_item, used}
 use Rattle.lmn_base.specs.Levels as base
@@ -19,6 +18,7 @@ use Rattle.lmn_base.specs.Levels.{everywhere, rules_of, contexts_of, rule_contex
 use Rattle.lmn_base.specs.RuleCodes.{behind_the_first, is_bare, seconds, seconds_by_membrane}
 use Rattle.lmn_solid.proofs.HeadTrees.{Head, Heads, head, no_head, head_and, heads, head_step, head_at, head_leaves, heads_leaves, same_leaves, head_uses, heads_uses}
 use Rattle.lmn_accepted.proofs.PlanKinds.{leaf_name}
+use Rattle.lmn_base.specs.declared.level.Level.TheOpen.{Level-F}
 
 -- ---- the names of contexts, by their form, and of rule contexts; the numbers of rules
 

@@ -1,9 +1,9 @@
 -- Numbers in lists: how often each stands there, and the names that they stand for.
-use Rattle.std.proofs.Common.{ℕ, zero, suc, ◌≡◌, ◌+◌, ◌<◌, ◌≤◌, ◌==◌, List, [], ◌∷◌, ◌++◌, map, length, Bool, true, false, cond, Contains, refl, sym, ap, subst, ◌∙◌, arith}
+use Rattle.std.proofs.Common.{ℕ, zero, suc, ◌≡◌, ◌+◌, ◌<◌, ◌≤◌, ◌==◌, List, [], ◌∷◌, ◌++◌, map, length, Bool, true, false, cond, Contains, refl, ap, subst, ◌∙◌, arith}
 use Rattle.std.specs.List.{AllByRecursion, flat_map}
 use Rattle.std.proofs.lemmas.Bool.{eq-eqb, eqb-true}
 use Rattle.lmn_base.specs.declared.functor.Label.TheVariants.{Name as ByName}
-use Rattle.lmn_base.specs.Names.{IsNames, HasNames}
+use Rattle.lmn_base.specs.Names.{HasNames, IsNames}
 use Rattle.lmn_adequacy.specs.Accepted.{EachOnce}
 use Rattle.lmn_congruence.proofs.TranslatedNames.{labels_apart}
 use Rattle.lmn_congruence.specs.Orders.{Among, at_head, further, Put, here, there, Shuffle, none, more}
@@ -13,27 +13,10 @@ use Rattle.lmn_congruence.specs.Translation.{name_of}
 -- ---- all
 
 module _ {A : Type 0} (P : A → Type 0) where
-  pub all_both : (xs ys : List A) → AllByRecursion P xs → AllByRecursion P ys → AllByRecursion P (xs ++ ys)
-  all_both [] ys h k = k
-  all_both (x ∷ xs) ys h k = (h.0, all_both xs ys h.1 k)
-
-  pub all_left : (xs ys : List A) → AllByRecursion P (xs ++ ys) → AllByRecursion P xs
-  all_left [] ys h = tt
-  all_left (x ∷ xs) ys h = (h.0, all_left xs ys h.1)
-
-  pub all_right : (xs ys : List A) → AllByRecursion P (xs ++ ys) → AllByRecursion P ys
-  all_right [] ys h = h
-  all_right (x ∷ xs) ys h = all_right xs ys h.1
-
   -- what holds of each element
   pub each_so : (xs : List A) → ((x : A) → Contains xs x → P x) → AllByRecursion P xs
   each_so [] h = tt
   each_so (x ∷ xs) h = (h x (0, omega arith, refl), each_so xs (λ y c. h y (suc c.0, (let w = c.1 in omega (arith, w)), c.2)))
-
-  pub so_each : (xs : List A) (x : A) → AllByRecursion P xs → Contains xs x → P x
-  so_each [] x h (k, within, is) = absurd (omega (arith, within))
-  so_each (y ∷ xs) x h (zero, within, is) = subst P is h.0
-  so_each (y ∷ xs) x h (suc k, within, is) = so_each xs x h.1 (k, omega (arith, within), is)
 
 pub all_so : {A : Type 0} {P Q : A → Type 0} → ((x : A) → P x → Q x) → (xs : List A) → AllByRecursion P xs → AllByRecursion Q xs
 all_so f [] h = tt
@@ -83,26 +66,7 @@ some_of f n (x ∷ xs) h = by (times n (f x)) refl (some_of f n xs)
         (later.0, (suc c.0, (let w = c.1 in omega (arith, w)), c.2), later.2)
     by (suc m) e rest = (x, (0, omega arith, refl), omega (arith, e))
 
-pub one_of : {A : Type 0} (f : A → List ℕ) (n : ℕ) (xs : List A) (x : A) → Contains xs x → 1 ≤ times n (f x) → 1 ≤ times n (flat_map f xs)
-one_of f n [] x (k, within, is) h = absurd (omega (arith, within))
-one_of f n (y ∷ xs) x (zero, within, is) h =
-    let both = times_both n (f y) (flat_map f xs) in
-    let g = subst (λ z. 1 ≤ times n (f z)) (sym is) h in
-    omega (arith, both, g)
-one_of f n (y ∷ xs) x (suc k, within, is) h =
-    let both = times_both n (f y) (flat_map f xs) in
-    let g = one_of f n xs x (k, omega (arith, within), is) h in
-    omega (arith, both, g)
-
 -- ---- names
-
-pub among_left : {A : Type 0} {x : A} {xs : List A} (ys : List A) → Among x xs → Among x (xs ++ ys)
-among_left ys at_head = at_head
-among_left ys (further k) = further (among_left ys k)
-
-pub among_right : {A : Type 0} {x : A} (xs : List A) {ys : List A} → Among x ys → Among x (xs ++ ys)
-among_right [] k = k
-among_right (y ∷ xs) k = further (among_right xs k)
 
 module _ (names : List tree.Name) where
   abbrev pub N : ℕ → tree.Name

@@ -10,6 +10,7 @@ use Rattle.lmn_base.specs.Names.{first_names, IsNames}
 use Rattle.lmn_congruence.specs.Rules as tree
 use Rattle.lmn_congruence.specs.Translation.{name_of, atom_of}
 use Rattle.lmn_plain.specs.Plains.{number_of}
+use Rattle.std.proofs.lemmas.Bool.{eq-eqb, eqb-true}
 
 -- the number of a name is one of the list
 abbrev pub Numbered : List tree.Name → tree.Name → Type 0
@@ -49,19 +50,13 @@ unary_fixed = fixed_by UNARY_NAME (codes "unary") (λ more. refl) (λ more. refl
 ground_fixed : IsFixed GROUND_NAME (codes "ground")
 ground_fixed = fixed_by GROUND_NAME (codes "ground") (λ more. refl) (λ more. refl)
 
-same_number : (b k : ℕ) → b ≡ k → (b == k) ≡ true
-same_number b k e = grind (arith, nat_tests)
-
-other_number : (b k : ℕ) → (b == k) ≡ true → b ≡ k
-other_number b k e = grind (arith, nat_tests)
-
 same_tests : (a b k : ℕ) → (a ≡ k → b ≡ k) → (b ≡ k → a ≡ k) → (a == k) ≡ (b == k)
 same_tests a b k f g = go (a == k) (b == k) refl refl
   where
     go : (s t : Bool) → (a == k) ≡ s → (b == k) ≡ t → s ≡ t
     go true true d e = refl
-    go true false d e = sym (same_number b k (f (other_number a k d))) ∙ e
-    go false true d e = sym d ∙ same_number a k (g (other_number b k e))
+    go true false d e = sym (eq-eqb b k (f (eqb-true a k d))) ∙ e
+    go false true d e = sym d ∙ eq-eqb a k (g (eqb-true b k e))
     go false false d e = refl
 
 same_atom : (names others : List tree.Name) (a b : ℕ) → name_of names a ≡ name_of others b → (a ≡ 0 → b ≡ 0) → (b ≡ 0 → a ≡ 0) → (xs : List ℕ)

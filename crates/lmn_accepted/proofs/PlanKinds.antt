@@ -25,7 +25,8 @@ use Rattle.lmn_solid.specs.declared.items.HeadItem.{HeadItem}
 use Rattle.lmn_solid.specs.Flattening.{leaf_items}
 use Rattle.lmn_solid.specs.Heads.{HeadTyped, typed_of, typed_contexts_of}
 use Rattle.lmn_solid.proofs.HeadTrees.{Head, Heads, head, no_head, head_and, head_at, size, flat_items, flat_membranes, items_flat, head_leaves, heads_leaves, same_leaves, head_membranes, heads_membranes, same_membranes}
-use Rattle.lmn_accepted.proofs.Listed.{all_both, all_left, all_right, all_so, each_so, times, times_here, times_later}
+use Rattle.lmn_accepted.proofs.Listed.{all_so, each_so, times, times_here, times_later}
+use Rattle.lmn_plain.proofs.AllLemmas.{all_append, all_front, all_back}
 
 -- the name of a typed leaf
 abbrev pub leaf_name : Leaf → List ℕ
@@ -56,12 +57,12 @@ module _ (top : Level) (guard : List Cond) where
   leaves_right number [] = tt
   leaves_right number (leaf.Atom f os p ∷ ls) = leaves_right number ls
   leaves_right number (leaf.Typed n o p ∷ ls) =
-      all_both Right (with_type n number (type_of top guard n)) (flat_map (typed_use top guard number) ls) (with_right n number (type_of top guard n) refl) (leaves_right number ls)
+      all_append Right (with_type n number (type_of top guard n)) (flat_map (typed_use top guard number) ls) (with_right n number (type_of top guard n) refl) (leaves_right number ls)
 
   uses_right : (number : ℕ) (lss : List (List Leaf)) → AllByRecursion Right (numbered_uses (typed_use top guard) number lss)
   uses_right number [] = tt
   uses_right number (ls ∷ lss) =
-      all_both Right (flat_map (typed_use top guard number) ls) (numbered_uses (typed_use top guard) (number + 1) lss) (leaves_right number ls) (uses_right (number + 1) lss)
+      all_append Right (flat_map (typed_use top guard number) ls) (numbered_uses (typed_use top guard) (number + 1) lss) (leaves_right number ls) (uses_right (number + 1) lss)
 
   with_name : (n number : ℕ) (o : Option TypeKind) → IsSome o → flat_map use_name (with_type n number o) ≡ n ∷ []
   with_name n number None s = absurd (cc)
@@ -91,13 +92,13 @@ module _ (top : Level) (guard : List Cond) where
 
   mutual
     in_membranes : (h : Head) → AllByRecursion HasType (head_leaves h) → AllByRecursion (AllByRecursion HasType) (head_membranes h)
-    in_membranes (head leaves hs cs rcs rs) k = (all_left HasType leaves (heads_leaves hs) k, in_all hs (all_right HasType leaves (heads_leaves hs) k))
+    in_membranes (head leaves hs cs rcs rs) k = (all_front HasType leaves (heads_leaves hs) k, in_all hs (all_back HasType leaves (heads_leaves hs) k))
 
     in_all : (hs : Heads) → AllByRecursion HasType (heads_leaves hs) → AllByRecursion (AllByRecursion HasType) (heads_membranes hs)
     in_all no_head k = tt
     in_all (head_and h hs) k =
-        all_both (AllByRecursion HasType) (head_membranes h) (heads_membranes hs) (in_membranes h (all_left HasType (head_leaves h) (heads_leaves hs) k))
-        (in_all hs (all_right HasType (head_leaves h) (heads_leaves hs) k))
+        all_append (AllByRecursion HasType) (head_membranes h) (heads_membranes hs) (in_membranes h (all_front HasType (head_leaves h) (heads_leaves hs) k))
+        (in_all hs (all_back HasType (head_leaves h) (heads_leaves hs) k))
 
 mutual
   membranes_named : (h : Head) → names_in (head_membranes h) ≡ flat_map leaf_name (head_leaves h)
@@ -130,13 +131,13 @@ module _ (kind : ℕ → TypeKind) (names : List ℕ) where
 
   joined_one : (xs ys : List HeadItem) → AllByRecursion IsOne (typed_contexts_of xs) → AllByRecursion IsOne (typed_contexts_of ys) → AllByRecursion IsOne (typed_contexts_of (xs ++ ys))
   joined_one xs ys h k =
-      let P : List HeadTyped → Type 0 = AllByRecursion IsOne in subst P (sym (typed_more xs ys)) (all_both IsOne (typed_contexts_of xs) (typed_contexts_of ys) h k)
+      let P : List HeadTyped → Type 0 = AllByRecursion IsOne in subst P (sym (typed_more xs ys)) (all_append IsOne (typed_contexts_of xs) (typed_contexts_of ys) h k)
 
   front : (ls ms : List Leaf) → Named (flat_map leaf_name (ls ++ ms)) → Named (flat_map leaf_name ls)
-  front ls ms h = let P : List ℕ → Type 0 = Named in all_left (λ n. 1 ≤ times n names) (flat_map leaf_name ls) (flat_map leaf_name ms) (subst P (flat_map-append leaf_name ls ms) h)
+  front ls ms h = let P : List ℕ → Type 0 = Named in all_front (λ n. 1 ≤ times n names) (flat_map leaf_name ls) (flat_map leaf_name ms) (subst P (flat_map-append leaf_name ls ms) h)
 
   back : (ls ms : List Leaf) → Named (flat_map leaf_name (ls ++ ms)) → Named (flat_map leaf_name ms)
-  back ls ms h = let P : List ℕ → Type 0 = Named in all_right (λ n. 1 ≤ times n names) (flat_map leaf_name ls) (flat_map leaf_name ms) (subst P (flat_map-append leaf_name ls ms) h)
+  back ls ms h = let P : List ℕ → Type 0 = Named in all_back (λ n. 1 ≤ times n names) (flat_map leaf_name ls) (flat_map leaf_name ms) (subst P (flat_map-append leaf_name ls ms) h)
 
   mutual
     level_one : (inside next : ℕ) (h : Head) → Named (flat_map leaf_name (head_leaves h)) → AllByRecursion IsOne (typed_contexts_of (flat_items kind inside next h))

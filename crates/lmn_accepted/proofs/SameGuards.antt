@@ -10,7 +10,7 @@ use Rattle.lmn_base.specs.Names as base
 use Rattle.lmn_base.specs.Names.{IsNames, context_names, expression_names, condition_names}
 use Rattle.lmn_congruence.specs.Rules as tree
 use Rattle.lmn_congruence.specs.Translation.{name_of, names_of, operator_of, comparison_of, expression_step, expression_of, kind_of, condition_of}
-use Rattle.lmn_flatten.proofs.AllLemmas.{all_front, all_back}
+use Rattle.lmn_plain.proofs.AllLemmas.{all_front, all_back}
 use Rattle.lmn_lexer.specs.Laying.{Word}
 use Rattle.lmn_parser.specs.Syntax as syntax
 use Rattle.lmn_plain.specs.Meanings.{name_at}

@@ -7,11 +7,12 @@ use Rattle.lmn_base.specs.declared.rule.Plain.{Plain}
 use Rattle.lmn_base.specs.declared.rule.RuleTree.{RuleTree}
 use Rattle.lmn_base.specs.Levels.{links_of}
 use Rattle.lmn_base.specs.Links.{NumbersLinks}
-use Rattle.lmn_base.specs.Names.{IsNames, level_names, condition_names, rule_names, plain_names}
+use Rattle.lmn_base.specs.Names.{level_names, condition_names, rule_names, plain_names, IsNames}
 use Rattle.lmn_congruence.specs.Rules as tree
 use Rattle.lmn_congruence.specs.Translation as translation
 use Rattle.lmn_congruence.specs.Translation.{rule_tree, rules_from, no_such_rule, top_of}
-use Rattle.lmn_flatten.proofs.AllLemmas.{all_front, all_back}
+use Rattle.lmn_plain.proofs.OnePlain.{plain_links, rule_links}
+use Rattle.lmn_plain.proofs.AllLemmas.{all_front, all_back}
 use Rattle.lmn_lexer.specs.Laying.{Word}
 use Rattle.lmn_parser.specs.Syntax.{Clauses}
 use Rattle.lmn_plain.specs.Expanded as expanded
@@ -34,20 +35,6 @@ same_counts R S (x ∷ xs) (y ∷ ys) [] h g = absurd g
 same_counts R S (x ∷ xs) (y ∷ ys) (z ∷ zs) h g = ap suc (same_counts R S xs ys zs h.1 g.1)
 
 module _ (words : List Word) (places : List Pos) where
-  -- the links of a rule, and of a top, by their numbers
-
-  rule_links : (names : List tree.Name) (r : Rule) (t : RuleTree) (h : IsRuleOf words places names r t)
-      → flat_map links_of (t.head ∷ t.body ∷ []) ≡ map h.number (expanded.links_of r.head ++ expanded.links_of r.body)
-  rule_links names r t h =
-      ap (λ xs. links_of t.head ++ xs) (append-nil (links_of t.body)) ∙ ap (λ l. links_of l ++ links_of t.body) h.head
-      ∙ ap (λ xs. xs ++ links_of t.body) (links_numbered names h.number r.head) ∙ ap (λ l. map h.number (expanded.links_of r.head) ++ links_of l) h.body
-      ∙ ap (λ xs. map h.number (expanded.links_of r.head) ++ xs) (links_numbered names h.number r.body)
-      ∙ sym (map-append h.number (expanded.links_of r.head) (expanded.links_of r.body))
-
-  top_links : (names : List tree.Name) (t : Clauses) (p : Plain) (h : IsPlainOf words places names t p)
-      → flat_map links_of (p.top ∷ []) ≡ map h.number (expanded.links_of (level_of (parts_of words places t)))
-  top_links names t p h = append-nil (links_of p.top) ∙ ap links_of h.top ∙ links_numbered names h.number (level_of (parts_of words places t))
-
   module _ (names others : List tree.Name) (is : IsNames names) (are : IsNames others) where
     rule_same : (rule other : ℕ → tree.Rule) → rule ≡ other → (r : Rule) (t u : RuleTree) → IsRuleOf words places names r t → IsRuleOf words places others r u
         → AllBelow names (rule_names t) → AllBelow others (rule_names u) → rule_tree names rule t ≡ rule_tree others other u
@@ -57,8 +44,8 @@ module _ (words : List Word) (places : List Pos) where
         let gt = g.table in
         let P : List ℕ → Type 0 = λ xs. NumbersLinks xs (length t.links) in
         let Q : List ℕ → Type 0 = λ xs. NumbersLinks xs (length u.links) in
-        let agree = numbers_agree h.number g.number all (length t.links) (length u.links) h.apart g.apart (subst P (rule_links names r t h) ht.numbered)
-        (subst Q (rule_links others r u g) gt.numbered) in
+        let agree = numbers_agree h.number g.number all (length t.links) (length u.links) h.apart g.apart (subst P (rule_links words places names r t h) ht.numbered)
+        (subst Q (rule_links words places others r u g) gt.numbered) in
         let N : ℕ → Type 0 = λ n. n < length names in
         let O : ℕ → Type 0 = λ n. n < length others in
         let guards = flat_map condition_names t.guard in
@@ -110,8 +97,8 @@ module _ (words : List Word) (places : List Pos) where
         let gt = g.table in
         let P : List ℕ → Type 0 = λ xs. NumbersLinks xs (length p.links) in
         let Q : List ℕ → Type 0 = λ xs. NumbersLinks xs (length q.links) in
-        let agree = numbers_agree h.number g.number (expanded.links_of l) (length p.links) (length q.links) h.apart g.apart (subst P (top_links names t p h) ht.numbered)
-        (subst Q (top_links others t q g) gt.numbered) in
+        let agree = numbers_agree h.number g.number (expanded.links_of l) (length p.links) (length q.links) h.apart g.apart (subst P (plain_links words places names t p h) ht.numbered)
+        (subst Q (plain_links words places others t q g) gt.numbered) in
         let rest = tables_same t p q h g v w in
         let rule : ℕ → tree.Rule = λ n. slice_index_or (rules_from names 0 p.rules) n no_such_rule in
         let other : ℕ → tree.Rule = λ n. slice_index_or (rules_from others 0 q.rules) n no_such_rule in

@@ -1,5 +1,5 @@
 -- A level with the numbers of two lists of names is one tree of names.
-use Rattle.std.proofs.Common.{◌≡◌, ℕ, List, [], ◌∷◌, map, refl, sym, ap, ◌∙◌}
+use Rattle.std.proofs.Common.{◌≡◌, List, [], ◌∷◌, map, refl, sym, ap, ◌∙◌, ℕ}
 use Rattle.std.specs.List.{AllByRecursion}
 use Rattle.lmn_base.specs.declared.functor.Label.TheVariants.{Name}
 use Rattle.lmn_base.specs.declared.level.Level.TheFolds.{fold-roll-Level}
@@ -7,7 +7,7 @@ use Rattle.lmn_base.specs.declared.level.Occ.{Occ}
 use Rattle.lmn_base.specs.Names.{IsNames}
 use Rattle.lmn_congruence.specs.Rules as tree
 use Rattle.lmn_congruence.specs.Translation.{atom_of, leaf_of, name_of, names_of, levels, rules, level_step, level_of}
-use Rattle.lmn_flatten.proofs.AllLemmas.{all_front, all_back}
+use Rattle.lmn_plain.proofs.AllLemmas.{all_front, all_back}
 use Rattle.lmn_plain.specs.Links.{Link, Use}
 use Rattle.lmn_plain.specs.Expanded as expanded
 use Rattle.lmn_plain.specs.Expanded.{Leaf, atom_leaf, typed_leaf, Context, Level, level, Levels, no_level, level_and, use_links, leaf_links, leaves_links, links_in}

@@ -19,8 +19,10 @@ use Rattle.lmn_congruence.specs.Rules as tree
 use Rattle.lmn_congruence.specs.Translation.{atom_of, leaf_of, names_of, levels, rules, level_step, level_of}
 use Rattle.lmn_reduction.specs.Firing.{typed_leaves, typed_contexts, typed_contexts_of}
 use Rattle.lmn_solid.proofs.HeadTrees.{Head, Heads, head, no_head, head_and, heads, head_step, head_at, head_leaves, heads_leaves, head_uses, heads_uses}
-use Rattle.lmn_accepted.proofs.Listed.{all_left, all_right, N}
+use Rattle.lmn_accepted.proofs.Listed.{N}
+use Rattle.lmn_plain.proofs.AllLemmas.{all_front, all_back}
 use Rattle.lmn_accepted.proofs.Items.{bare_name, typed_name, rule_context_name, rule_number, gathered, gathered_in, own_seconds, bare_own, rule_context_own, typed_own, rule_own}
+use Rattle.lmn_reading.proofs.Levels.{two_empty}
 
 -- ---- a level as a tree
 
@@ -108,20 +110,16 @@ module _ (names : List tree.Name) (rule : ℕ → tree.Rule) where
   no_rules_here : (rs : List ℕ) → rs ≡ [] → rules (map rule rs) ≡ tree.no_rule
   no_rules_here rs e = ap (λ ks. rules (map rule ks)) e
 
-  nothing_left : {A : Type 0} (xs ys : List A) → xs ++ ys ≡ [] → (xs ≡ []) × (ys ≡ [])
-  nothing_left [] ys e = (refl, e)
-  nothing_left (x ∷ xs) ys e = absurd (cc)
-
   mutual
     pub no_rules_stand : (h : Head) → flat_map rule_number (head_uses h) ≡ [] → EachLevel (λ l. own_rules l ≡ tree.no_rule) (tree_of names rule h)
     no_rules_stand (head ls hs cs os rs) e =
-        let apart = nothing_left rs (flat_map rule_number (heads_uses hs)) (sym (rule_own ls cs os rs (heads_uses hs)) ∙ e) in
+        let apart = two_empty rs (flat_map rule_number (heads_uses hs)) (sym (rule_own ls cs os rs (heads_uses hs)) ∙ e) in
         (no_rules_here rs apart.0, no_rules_in hs apart.1)
 
     no_rules_in : (hs : Heads) → flat_map rule_number (heads_uses hs) ≡ [] → EachOf (λ l. own_rules l ≡ tree.no_rule) (trees_of names rule hs)
     no_rules_in no_head e = tt
     no_rules_in (head_and h hs) e =
-        let apart = nothing_left (flat_map rule_number (head_uses h)) (flat_map rule_number (heads_uses hs)) (sym (flat_map-append rule_number (head_uses h) (heads_uses hs)) ∙ e) in
+        let apart = two_empty (flat_map rule_number (head_uses h)) (flat_map rule_number (heads_uses hs)) (sym (flat_map-append rule_number (head_uses h) (heads_uses hs)) ∙ e) in
         (no_rules_stand h apart.0, no_rules_in hs apart.1)
 
   -- ---- connectors
@@ -183,8 +181,8 @@ module _ (names : List tree.Name) (rule : ℕ → tree.Rule) where
   mutual
     pub level_is : (h : Head) → AllByRecursion IsPlainLeaf (head_leaves h) → LevelIs h
     level_is (head ls hs cs os rs) k =
-        let here = leaves_are ls (all_left IsPlainLeaf ls (heads_leaves hs) k) in
-        let below = levels_are hs (all_right IsPlainLeaf ls (heads_leaves hs) k) in
+        let here = leaves_are ls (all_front IsPlainLeaf ls (heads_leaves hs) k) in
+        let below = levels_are hs (all_back IsPlainLeaf ls (heads_leaves hs) k) in
         record {
           no_connectors = (here.no_connector, below.no_connectors);
           typed = (λ i. here.typed i ++ below.typed i) ∙ sym (flat_map-append typed_link ls (heads_leaves hs));
@@ -194,8 +192,8 @@ module _ (names : List tree.Name) (rule : ℕ → tree.Rule) where
     levels_are : (hs : Heads) → AllByRecursion IsPlainLeaf (heads_leaves hs) → LevelsAre hs
     levels_are no_head k = record { no_connectors = tt; typed = refl; ports = refl }
     levels_are (head_and h hs) k =
-        let one = level_is h (all_left IsPlainLeaf (head_leaves h) (heads_leaves hs) k) in
-        let rest = levels_are hs (all_right IsPlainLeaf (head_leaves h) (heads_leaves hs) k) in
+        let one = level_is h (all_front IsPlainLeaf (head_leaves h) (heads_leaves hs) k) in
+        let rest = levels_are hs (all_back IsPlainLeaf (head_leaves h) (heads_leaves hs) k) in
         record {
           no_connectors = (one.no_connectors, rest.no_connectors);
           typed = (λ i. one.typed i ++ rest.typed i) ∙ sym (flat_map-append typed_link (head_leaves h) (heads_leaves hs));
@@ -215,12 +213,12 @@ module _ (names : List tree.Name) (rule : ℕ → tree.Rule) where
   mutual
     few_here : (h : Head) → AllByRecursion (λ ps. ps ≡ []) (gathered own_seconds h) → EachLevel Few (tree_of names rule h)
     few_here (head ls hs cs os rs) k =
-        let apart = nothing_left (behind_the_first cs) (behind_the_first os) k.0 in
+        let apart = two_empty (behind_the_first cs) (behind_the_first os) k.0 in
         ((at_most_one cs apart.0, at_most_one os apart.1), few_in hs k.1)
 
     pub few_in : (hs : Heads) → AllByRecursion (λ ps. ps ≡ []) (gathered_in own_seconds hs) → EachOf Few (trees_of names rule hs)
     few_in no_head k = tt
     few_in (head_and h hs) k = (
-      few_here h (all_left (λ ps. ps ≡ []) (gathered own_seconds h) (gathered_in own_seconds hs) k),
-      few_in hs (all_right (λ ps. ps ≡ []) (gathered own_seconds h) (gathered_in own_seconds hs) k),
+      few_here h (all_front (λ ps. ps ≡ []) (gathered own_seconds h) (gathered_in own_seconds hs) k),
+      few_in hs (all_back (λ ps. ps ≡ []) (gathered own_seconds h) (gathered_in own_seconds hs) k),
     )

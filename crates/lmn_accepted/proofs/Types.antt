@@ -25,9 +25,12 @@ use Rattle.lmn_guards.specs.declared.plan.TypeKind.{TypeKind}
 use Rattle.lmn_guards.specs.declared.plan.TypeKind.TheVariants as kind
 use Rattle.lmn_guards.specs.GuardCodes.{in_head, is_type, unknown, asks, type_of, type_name, rows_of_conditions}
 use Rattle.lmn_guards.proofs.OrderLemmas.{so_else}
-use Rattle.lmn_accepted.proofs.Listed.{all_both, times, times_both, alone, N}
+use Rattle.lmn_accepted.proofs.Listed.{times, times_both, alone, N}
+use Rattle.lmn_plain.proofs.AllLemmas.{all_append}
 use Rattle.lmn_accepted.proofs.Items.{typed_name}
-use Rattle.lmn_accepted.proofs.Expressions.{or_either, and_both, number_items, context_items, operation_items, used_names, in_either, there_used}
+use Rattle.lmn_accepted.proofs.Expressions.{number_items, context_items, operation_items, used_names, in_either, there_used}
+use Rattle.lmn_grammar.proofs.Theory.{or_true}
+use Rattle.lmn_lexer.proofs.Runs.{both_true}
 use Rattle.lmn_accepted.proofs.InTurns.{rows_apart, kind_tree}
 
 -- ---- types and left sides
@@ -59,11 +62,11 @@ expression_typed (expr.Int z) = let P : List Item → Type 0 = AllTyped in subst
 expression_typed (expr.Ctx u) = let P : List Item → Type 0 = AllTyped in subst P (sym (context_items u)) ((u, refl), tt)
 expression_typed (expr.Op' op a l b r) =
     let P : List Item → Type 0 = AllTyped in
-    subst P (sym (operation_items op a l b r)) (all_both (λ x. (u : CtxUse) × (x ≡ used form.Typed u)) (expression_items l) (expression_items r) (expression_typed l) (expression_typed r))
+    subst P (sym (operation_items op a l b r)) (all_append (λ x. (u : CtxUse) × (x ≡ used form.Typed u)) (expression_items l) (expression_items r) (expression_typed l) (expression_typed r))
 
 pub condition_typed : (c : Cond) → AllTyped (condition_items c)
 condition_typed (Kind n args pos) = args_typed args
-condition_typed (Compare op l r pos) = all_both (λ x. (u : CtxUse) × (x ≡ used form.Typed u)) (expression_items l) (expression_items r) (expression_typed l) (expression_typed r)
+condition_typed (Compare op l r pos) = all_append (λ x. (u : CtxUse) × (x ≡ used form.Typed u)) (expression_items l) (expression_items r) (expression_typed l) (expression_typed r)
 condition_typed (Equal u r pos) = ((u, refl), expression_typed r)
 condition_typed (Differ u v pos) = ((u, refl), ((v, refl), tt))
 
@@ -73,7 +76,7 @@ module _ (names : List tree.Name) (head : Level) (n : ℕ) where
 
   -- a condition that asks a type of a name gives it one
   gives : (k : TypeKind) (c : Cond) → unknown c ≡ [] → asks head k n c ≡ true → GivesType (N names n) (condition_of names c)
-  gives k (Kind m args pos) none e = by args (and_both (is_type m) (length args == 1) (so_else (is_type m && (length args == 1)) pos none)) (and_both (m == type_name k) (has_use n (map (used form.Typed) args)) e).1
+  gives k (Kind m args pos) none e = by args (both_true (is_type m) (length args == 1) (so_else (is_type m && (length args == 1)) pos none)) (both_true (m == type_name k) (has_use n (map (used form.Typed) args)) e).1
     where
       by : (us : List CtxUse) → (is_type m ≡ true) × ((length us == 1) ≡ true) → has_use n (map (used form.Typed) us) ≡ true → GivesType (N names n) (kind_of names m us)
       by [] w h = absurd (cc)
@@ -91,9 +94,9 @@ module _ (names : List tree.Name) (head : Level) (n : ℕ) where
       ]
   gives kind.Unary (Compare op l r pos) none e = absurd (cc)
   gives kind.Ground (Compare op l r pos) none e = absurd (cc)
-  gives kind.Int (Equal u r pos) none e = by_value (used_expression r (and_both (not (in_head head u.name)) (has_use n (expression_items r)) e).1)
+  gives kind.Int (Equal u r pos) none e = by_value (used_expression r (both_true (not (in_head head u.name)) (has_use n (expression_items r)) e).1)
   gives kind.Unary (Equal u r pos) none e = absurd (cc)
-  gives kind.Ground (Equal u r pos) none e = by (u.name == n) refl (typed_use_there n (used form.Typed u ∷ expression_items r) (condition_typed (Equal u r pos)) (and_both (in_head head u.name) (has_use n (condition_items (Equal u r pos))) e).1)
+  gives kind.Ground (Equal u r pos) none e = by (u.name == n) refl (typed_use_there n (used form.Typed u ∷ expression_items r) (condition_typed (Equal u r pos)) (both_true (in_head head u.name) (has_use n (condition_items (Equal u r pos))) e).1)
     where
       by : (b : Bool) → (u.name == n) ≡ b → 1 ≤ cond b (suc (times n (used_names r))) (times n (used_names r)) → GivesType (N names n) (tree.equates (N names u.name) (expression_of names r))
       by true q h = subst (λ x. GivesType (N names x) (tree.equates (N names u.name) (expression_of names r))) (eqb-true u.name n q) by_equality
@@ -110,7 +113,7 @@ module _ (names : List tree.Name) (head : Level) (n : ℕ) where
   some_gives k before [] rows e = absurd (cc)
   some_gives k before (c ∷ cs) rows e =
       let r = rows_apart head before c cs rows in
-      elim (or_either (asks head k n c) (list_any (asks head k n) cs) e) [
+      elim (or_true (asks head k n c) (list_any (asks head k n) cs) e) [
         | inl h ↦ (condition_of names c, at_head, gives k c r.0 h)
         | inr h ↦ (let rest = some_gives k (before ++ c ∷ []) cs r.3 h in (rest.0, further rest.1, rest.2))
       ]
@@ -157,7 +160,7 @@ module _ (names : List tree.Name) (n : ℕ) where
   left_used_there [] e = absurd (cc)
   left_used_there (c ∷ cs) e =
       let both = ap (times n) (flat_map-append typed_name (condition_items c) (guard_items cs)) ∙ times_both n (flat_map typed_name (condition_items c)) (flat_map typed_name (guard_items cs)) in
-      elim (or_either (is_left_of n c) (list_any (is_left_of n) cs) e) [
+      elim (or_true (is_left_of n c) (list_any (is_left_of n) cs) e) [
         | inl h ↦ (let one = here c h in omega (arith, both, one))
         | inr h ↦ (let rest = left_used_there cs h in omega (arith, both, rest))
       ]

@@ -22,7 +22,7 @@ use Rattle.lmn_adequacy.specs.Accepted.{Accepted, all_contexts, contexts_in, lef
 use Rattle.lmn_adequacy.specs.Embedding.{Plain}
 use Rattle.lmn_adequacy.specs.Next.{of_rule, of_solid}
 use Rattle.lmn_adequacy.proofs.Accepting.{accepted_head, integer_ground, typed_ground}
-use Rattle.lmn_adequacy.proofs.Bodies.{Copied, LevelMade, Whole, context_places, context_places_append, context_places_shuffle, odd_contexts, odd_not_even}
+use Rattle.lmn_adequacy.proofs.Bodies.{Copied, Whole, context_places, context_places_append, context_places_shuffle, odd_contexts, odd_not_even, LevelMade}
 use Rattle.lmn_adequacy.proofs.Embedding.{EvenMore, not_one_even}
 use Rattle.lmn_adequacy.proofs.Exposing.{Source, found, missing, source}
 use Rattle.lmn_adequacy.proofs.Heads.{HeadLeaves, HeadLevel, HeadLevels}

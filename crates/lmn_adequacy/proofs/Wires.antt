@@ -4,7 +4,7 @@ use Rattle.lmn_congruence.specs.FreeLinks.{link_bound, one_if_once, total}
 use Rattle.lmn_congruence.specs.Fused.{Joins, fused}
 use Rattle.lmn_congruence.specs.LinkedRules.{level_occurrences}
 use Rattle.lmn_congruence.specs.Links.{one_if_same}
-use Rattle.lmn_congruence.specs.Process.{Linked, Process, connector, nothing, occurrences, pair, renamed}
+use Rattle.lmn_congruence.specs.Process.{Process, connector, nothing, occurrences, pair, renamed, Linked}
 use Rattle.lmn_congruence.specs.Rules.{Level}
 use Rattle.lmn_congruence.specs.UpToOrder.{Reordered, r_chain, r_same, r_unit}
 use Rattle.lmn_reduction.specs.Assignments.{Assignment}
@@ -12,10 +12,10 @@ use Rattle.lmn_congruence.proofs.Counts.{below_or_from, none_if_apart, one_bound
 use Rattle.lmn_congruence.proofs.Crossings.{occurrences_above}
 use Rattle.lmn_congruence.proofs.FewestCrossings.{image_count, with_image}
 use Rattle.lmn_congruence.proofs.Totals.{total_one, total_same, total_single, total_zero}
-use Rattle.lmn_adequacy.specs.Embedding.{Plain}
 use Rattle.lmn_adequacy.specs.Next.{of_rule, of_solid}
 use Rattle.lmn_adequacy.proofs.RawProcesses.{head_wires}
 use Rattle.lmn_adequacy.proofs.Skeleton.{Parity, even, even_differs, even_not_odd, odd, odd_differs, parity, place, place_rule, place_solid}
+use Rattle.lmn_adequacy.specs.Embedding.{Plain}
 
 abbrev pub IsEven : ℕ → Type 0
 IsEven n = (k : ℕ) × (n ≡ k + k)

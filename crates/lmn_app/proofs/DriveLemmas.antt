@@ -34,7 +34,7 @@ use Rattle.lmn_app.specs.Runnings.{ended_as}
 use Rattle.lmn_app.specs.Runs.{IsTraceOf}
 use Rattle.lmn_app.specs.Texts.{Accepts, at_start, too_large}
 use Rattle.lmn_app.specs.Requests.{given}
-use Rattle.lmn_app.specs.Writing.{Writes, end_line, run_text}
+use Rattle.lmn_app.specs.Writing.{WritesRun, end_line, run_text}
 use Rattle.lmn_app.proofs.RunLemmas.{Laws, lines_joined, trace_is_run}
 
 -- the words of ends are those of runs
@@ -78,7 +78,7 @@ module _ (alloc : Global) (laws : Laws) (w : Run) (small : w.size < 2 ^ 32)
         ∙ ap (λ k. concat (solid_lines w.trace r.before r.last) ++ end_line (word_of why) k) r.count
 
     writes : (why : Stop) (word : List ℕ) (old new : Option (List ℕ)) → word ≡ word_of why → StopsSo (given w) n r.last why → Takes (written w.trace r.before r.last word) old new
-        → Writes w (Some (Some text)) why old new
+        → WritesRun w (Some (Some text)) why old new
     unfolding trace
     writes why word old new e stops took = record {
       text = text;

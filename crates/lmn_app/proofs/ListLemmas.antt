@@ -1,17 +1,18 @@
 -- What the listings of an accepted text leave behind.
-use Rattle.std.proofs.Common.{◌≡◌, ℕ, ◌≤◌, List, length, Option, Some, inl, refl, subst}
+use Rattle.std.proofs.Common.{◌≡◌, ℕ, ◌≤◌, List, length, Option, Some, Ok, Err, refl, ap, ◌∙◌, subst}
 use Rattle.lmn_accepted.specs.Rules.{AcceptedTexts}
 use Rattle.lmn_base.specs.declared.refusal.Refusal.{Refusal}
 use Rattle.lmn_base.specs.declared.rule.Plain.{Plain}
+use Rattle.lmn_base.specs.declared.rule.RuleTree.{RuleTree}
 use Rattle.lmn_base.specs.Names.{NamesPlain, first_names}
 use Rattle.lmn_congruence.specs.Rules.{Name}
 use Rattle.lmn_guards.specs.declared.plan.GuardPlan.{GuardPlan}
-use Rattle.lmn_io.specs.Counts.{Rose}
-use Rattle.lmn_io.specs.Taking.{Takes, TakesPrefix}
-use Rattle.lmn_listing.specs.Listings.{rule_listings}
+use Rattle.lmn_instr.specs.declared.instr.Code.{Code}
+use Rattle.lmn_io.specs.Writing.{WritesText}
+use Rattle.lmn_listing.specs.Listings.{code_listings, rule_codes, rule_listings}
 use Rattle.lmn_reading.specs.Texts.{IsAcceptedAs, IsRefusedAs, LeavesNames}
 use Rattle.lmn_words.specs.Forms.{Request, to_run, to_compile}
-use Rattle.lmn_app.specs.declared.ending.Ending.TheVariants.{Done, NoMemory, Refused, WriteFault}
+use Rattle.lmn_app.specs.declared.ending.Ending.TheVariants.{Done, Refused, WriteFault}
 use Rattle.lmn_app.specs.Outcomes.{Ended, IsCompile}
 use Rattle.lmn_app.specs.Requests.{size_of}
 use Rattle.lmn_app.specs.Texts.{Accepts, by_reading, text_bytes}
@@ -28,24 +29,24 @@ module _ (text : List ℕ) (names : List Name) (plain : Plain) (plans : List Gua
   listing_is : IsListing text (rule_listings names plain.rules plans)
   listing_is = record { names = names; plain = plain; plans = plans; accepted = a; is = refl }
 
-  -- all listings are taken
-  pub listed_ended : (q : Request) (old new : Option (List ℕ)) (ob oa rb ra : ℕ) → IsCompile q → Takes (rule_listings names plain.rules plans) old new → oa ≡ ob
+  -- all listings are written
+  pub listed_ended : {A E : Type 0} (x : A) (q : Request) (old new : Option (List ℕ)) (ob oa rb ra : ℕ) → IsCompile q → WritesText {A = A} {E = E} (rule_listings names plain.rules plans) (Ok x) old ob new oa
       → Ended q Done (Some (Some text)) old new ob oa rb ra
-  listed_ended (to_run w) old new ob oa rb ra is took same = absurd is
-  listed_ended (to_compile file) old new ob oa rb ra is took same =
-      record { cause = tt; output = record { text = text; is_told = refl; listing = rule_listings names plain.rules plans; of = listing_is; took = took }; counts = same }
+  listed_ended x (to_run w) old new ob oa rb ra is written = absurd is
+  listed_ended x (to_compile file) old new ob oa rb ra is written =
+      record { cause = tt; output = record { text = text; is_told = refl; listing = rule_listings names plain.rules plans; of = listing_is; took = written.took _ refl }; counts = written.same }
 
   -- the sink failed, and took a prefix
-  pub listed_part : (q : Request) (old new : Option (List ℕ)) (ob oa rb ra : ℕ) → IsCompile q → TakesPrefix (rule_listings names plain.rules plans) old new → Rose ob oa
+  pub listed_part : {A E : Type 0} (e : E) (q : Request) (old new : Option (List ℕ)) (ob oa rb ra : ℕ) → IsCompile q → WritesText {A = A} {E = E} (rule_listings names plain.rules plans) (Err e) old ob new oa
       → Ended q WriteFault (Some (Some text)) old new ob oa rb ra
-  listed_part (to_run w) old new ob oa rb ra is took rose = absurd is
-  listed_part (to_compile file) old new ob oa rb ra is took rose =
-      record { cause = tt; output = record { text = text; is_told = refl; listing = rule_listings names plain.rules plans; of = listing_is; took = took }; counts = rose }
+  listed_part e (to_run w) old new ob oa rb ra is written = absurd is
+  listed_part e (to_compile file) old new ob oa rb ra is written =
+      record { cause = tt; output = record { text = text; is_told = refl; listing = rule_listings names plain.rules plans; of = listing_is; took = written.prefix _ refl }; counts = written.rose }
 
--- nothing was written
-pub none_listed : (q : Request) (text : List ℕ) (old new : Option (List ℕ)) (ob oa rb ra : ℕ) → new ≡ old → oa ≡ ob → Ended q NoMemory (Some (Some text)) old new ob oa rb ra
-none_listed (to_run w) text old new ob oa rb ra same stays = record { cause = tt; output = inl same; counts = stays }
-none_listed (to_compile file) text old new ob oa rb ra same stays = record { cause = tt; output = same; counts = stays }
+-- the text of codes that are those of the rules
+pub listing_text : (names : List Name) (table : List RuleTree) (given plans : List GuardPlan) (codes slice : List Code) → slice ≡ codes → codes ≡ rule_codes table given → given ≡ plans
+    → code_listings names 0 slice ≡ rule_listings names table plans
+listing_text names table given plans codes slice same are is = ap (code_listings names 0) (same ∙ are ∙ ap (rule_codes table) is)
 
 -- what is read of a short text is accepted
 pub read_accepts : (text : List ℕ) (before names : List Name) (plain : Plain) (plans : List GuardPlan) → length text ≤ text_bytes → before ≡ first_names → LeavesNames text before names

@@ -1,5 +1,5 @@
 -- What the top call leaves behind, by its status.
-use Rattle.std.proofs.Common.{◌≡◌, ◌≢◌, ℕ, List, Option, ◌⊎◌, inl, inr, refl, sym, ◌∙◌, subst, arith}
+use Rattle.std.proofs.Common.{◌≡◌, ◌≢◌, ℕ, List, Option, ◌⊎◌, inl, inr, refl, sym, ap, ◌∙◌, subst, arith}
 use Rattle.std.specs.declared.string.String.{String}
 use Rattle.std.specs.declared.alloc.Global.{Global}
 use Rattle.lmn_base.specs.declared.refusal.Refusal.{Refusal}
@@ -98,6 +98,12 @@ module _ (one : OneRequest) (words : List (String Global)) (told : Request → O
 
   abbrev pub Concluded : Ending → Type 0
   Concluded e = Concludes e status eo en eb ea
+
+  -- the shelf was asked, or memory was wanting for the words
+  pub asked_or_memory : {P Q : Type 0} (e : Ending) → P ⊎ (Q × (e ≡ NoMemory)) → Concluded e → P ⊎ (Q × ((status ≡ 6) ⊎ ((status ≡ 5) × Rose eb ea)))
+  asked_or_memory e (inl p) k = inl p
+  asked_or_memory e (inr (q, is)) (inl (s, t, stays)) = inr (q, inl (s ∙ ap status_of is))
+  asked_or_memory e (inr (q, is)) (inr (s, p, rose, line)) = inr (q, inr (s, rose))
 
   -- what `out` took where the status is that of one ending
   pub out_taken : (e ending : Ending) → Acted e → Concluded e → (k : ℕ) → k ≢ 5 → ending ≢ Words → (status_of e ≡ k → e ≡ ending) → status ≡ k → Asked words (λ c. Output c ending (told c) oo on)

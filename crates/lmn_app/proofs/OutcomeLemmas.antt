@@ -8,10 +8,10 @@ use Rattle.lmn_app.specs.declared.ending.Ending.{Ending}
 use Rattle.lmn_app.specs.declared.ending.Ending.TheVariants.{Done, Budget, Refused, Words, ReadFault, WriteFault, NoMemory, Full}
 use Rattle.lmn_words.specs.Forms.{Request, Run, to_run, to_compile}
 use Rattle.lmn_app.specs.Endings.{Concludes, IsCode}
-use Rattle.lmn_app.specs.Outcomes.{Answers, Causes, Counts, Ended, Output}
+use Rattle.lmn_app.specs.Outcomes.{Answers, Causes, Ended, Output}
 use Rattle.lmn_app.specs.Texts.{IsAccepted, IsRefusal, at_start, text_bytes, too_long}
 use Rattle.lmn_app.specs.Requests.{size_of}
-use Rattle.lmn_app.specs.Writing.{IfTold, IsToldAnd, Lists, ListsPart, Writes, WritesPart, told_under}
+use Rattle.lmn_app.specs.Writing.{IfTold, IsToldAnd, Lists, ListsPart, WritesRun, WritesPartOfRun, told_under}
 use Rattle.lmn_app.proofs.TextLemmas.{refused_not_accepted}
 
 -- ---- a text that is told under a name
@@ -22,7 +22,7 @@ told_here P None name bytes e p = tt
 told_here P (Some text) name bytes e p = subst (λ found. IsSomeAnd found P) (sym e) p
 
 module _ (told : Option (List ℕ → Option (List ℕ))) (name bytes : List ℕ) (e : IfSome told (λ text. text name ≡ Some bytes)) where
-  writes_told : (w : Run) (why : Stop) (old new : Option (List ℕ)) → Writes w (Some (Some bytes)) why old new → Writes w (told_under told name) why old new
+  writes_told : (w : Run) (why : Stop) (old new : Option (List ℕ)) → WritesRun w (Some (Some bytes)) why old new → WritesRun w (told_under told name) why old new
   writes_told w why old new h = record {
     text = h.text;
     is_told = told_here (λ found. found ≡ h.text) told name bytes e h.is_told;
@@ -34,7 +34,7 @@ module _ (told : Option (List ℕ → Option (List ℕ))) (name bytes : List ℕ
     took = h.took;
   }
 
-  part_told : (w : Run) (old new : Option (List ℕ)) → WritesPart w (Some (Some bytes)) old new → WritesPart w (told_under told name) old new
+  part_told : (w : Run) (old new : Option (List ℕ)) → WritesPartOfRun w (Some (Some bytes)) old new → WritesPartOfRun w (told_under told name) old new
   part_told w old new h = record {
     text = h.text;
     is_told = told_here (λ found. found ≡ h.text) told name bytes e h.is_told;
@@ -124,7 +124,7 @@ abbrev pub Refusing : ℕ → Type 0
 Refusing status = (status ≡ 2) ⊎ (status ≡ 4) ⊎ (status ≡ 5) ⊎ (status ≡ 6)
 
 -- a run of a text is one of an accepted text
-run_accepted : (w : Run) (told : Option (Option (List ℕ))) (why : Stop) (old new : Option (List ℕ)) (A : Type 0) → Writes w told why old new → IfTold told (λ text. ¬ (IsAccepted (Some w.size) text) → A)
+run_accepted : (w : Run) (told : Option (Option (List ℕ))) (why : Stop) (old new : Option (List ℕ)) (A : Type 0) → WritesRun w told why old new → IfTold told (λ text. ¬ (IsAccepted (Some w.size) text) → A)
 run_accepted w told why old new A h =
     let t = h.trace in
     told_is told h.text (λ text. ¬ (IsAccepted (Some w.size) text) → A) h.is_told (λ none. absurd (none (t.names, t.plain, t.plans, t.accepted, (t.solid, t.of_plain, t.few))))

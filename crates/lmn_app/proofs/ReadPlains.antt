@@ -1,5 +1,5 @@
 -- The plain of an accepted text is one of which runs can be printed.
-use Rattle.std.proofs.Common.{◌≡◌, ℕ, zero, suc, ◌≤◌, ◌<◌, ◌^◌, true, List, [], ◌∷◌, length, slice_get, Some, refl, sym, subst, arith}
+use Rattle.std.proofs.Common.{◌≡◌, ℕ, zero, suc, true, List, [], ◌∷◌, length, slice_get, Some, refl, sym, subst, arith}
 use Rattle.std.specs.List.{AllByRecursion}
 use Rattle.lmn_accepted.specs.Rules.{AcceptedTexts}
 use Rattle.lmn_base.specs.declared.level.Leaf.{Leaf}
@@ -9,11 +9,10 @@ use Rattle.lmn_base.specs.declared.rule.RuleTree.{RuleTree}
 use Rattle.lmn_base.specs.Levels.{leaves_of}
 use Rattle.lmn_base.specs.Names.{first_names}
 use Rattle.lmn_bridge.specs.HeapRegions.{Reading}
-use Rattle.lmn_compile_body.specs.Accepted.{AcceptedBodies, IsWhole}
+use Rattle.lmn_compile_body.specs.Accepted.{AcceptedBodies}
 use Rattle.lmn_compile_head.specs.Tables as tables
 use Rattle.lmn_congruence.specs.Rules.{Name}
-use Rattle.lmn_congruence.specs.Translation.{numbered_rule, rule_tree}
-use Rattle.lmn_adequacy.specs.Accepted.{Accepted}
+use Rattle.lmn_congruence.specs.Translation.{numbered_rule}
 use Rattle.lmn_expand.specs.NameLists.{has_name}
 use Rattle.lmn_guards.specs.Plans.{IsPlan}
 use Rattle.lmn_guards.specs.declared.plan.GuardPlan.{GuardPlan}
@@ -21,10 +20,10 @@ use Rattle.lmn_lexer.specs.declared.token.Kind.{Kind}
 use Rattle.lmn_lexer.specs.declared.token.Kind.TheVariants as kind
 use Rattle.lmn_plain.specs.Plains.{Each}
 use Rattle.lmn_reading.proofs.ListedNames.{HoldsNames, names_held}
-use Rattle.lmn_runs.specs.Laws.{HasFewLinks, IsPrintable}
-use Rattle.lmn_runs.specs.Texts.{HasName, IsPlainRead, PlainsArePrintable}
+use Rattle.lmn_runs.specs.Laws.{HasFewLinks}
+use Rattle.lmn_runs.specs.Texts.{HasName, IsPlainRead}
 use Rattle.lmn_strategy.specs.Compiled.{AreWhole}
-use Rattle.lmn_app.specs.Texts.{Accepts, text_bytes}
+use Rattle.lmn_app.specs.Texts.{Accepts}
 use Rattle.lmn_app.proofs.FirstNames.{first_are_names}
 
 -- as many plans as rules, and each rule has its plan

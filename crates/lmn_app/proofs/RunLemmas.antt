@@ -1,20 +1,17 @@
 -- What is printed of the trace of a text is a run of it.
-use Rattle.std.proofs.Common.{◌≡◌, ℕ, ◌≤◌, ◌<◌, ◌^◌, ◌++◌, Bool, true, false, List, [], ◌∷◌, length, map, refl, sym, ap, ◌∙◌, subst, arith}
+use Rattle.std.proofs.Common.{◌≡◌, ℕ, ◌<◌, ◌^◌, ◌++◌, List, [], ◌∷◌, map, sym, ap, ◌∙◌, subst}
 use Rattle.std.specs.List.{concat, flat_map}
 use Rattle.std.specs.declared.alloc.Global.{Global}
 use Rattle.std.proofs.lemmas.List.{append_assoc, append-nil}
 use Rattle.lmn_accepted.specs.Rules.{AcceptedTexts}
 use Rattle.lmn_compile_body.specs.Accepted.{AcceptedBodies}
-use Rattle.lmn_congruence.specs.Process.{Process}
 use Rattle.lmn_congruence.specs.Regions.{Region, region_process}
-use Rattle.lmn_congruence.specs.Translation.{region_of, top_of}
+use Rattle.lmn_congruence.specs.Translation.{top_of}
 use Rattle.lmn_congruence.proofs.SolidsOfPlains.{solids_of_plains}
 use Rattle.lmn_reduction.proofs.Plains.{plain_settles}
-use Rattle.lmn_runs.specs.Laws.{IsPrintable, TracesAreRuns, solid_of}
-use Rattle.lmn_runs.specs.Runs.{Given, Prints, Stop, StopsBy, StopsSo, solid_line, solid_lines, word_of}
+use Rattle.lmn_runs.specs.Laws.{TracesAreRuns, solid_of}
+use Rattle.lmn_runs.specs.Runs.{Given, Prints, Stop, StopsBy, StopsSo, solid_line, solid_lines}
 use Rattle.lmn_app.specs.Runs.{IsRun, IsTraceOf}
-use Rattle.lmn_app.specs.Texts.{text_bytes}
-use Rattle.lmn_app.specs.Writing.{end_line, run_text}
 use Rattle.lmn_runs.specs.Texts.{PlainsArePrintable}
 use Rattle.lmn_app.proofs.ReadPlains.{plain_read}
 

@@ -1,5 +1,5 @@
 -- Which texts are accepted, and why others are refused.
-use Rattle.std.proofs.Common.{◌≡◌, ℕ, ◌≤◌, ◌<◌, List, length, ◌⊎◌, All, inl, inr, refl, sym, ap, ◌∙◌, subst, arith}
+use Rattle.std.proofs.Common.{◌≡◌, ℕ, ◌≤◌, List, length, ◌⊎◌, All, inl, inr, refl, sym, ap, ◌∙◌, subst, arith}
 use Rattle.std.specs.Prelude.{Option, Some, None}
 use Rattle.std.specs.declared.alloc.Global.{Global}
 use Rattle.std.proofs.lemmas.Bool.{cases_lt}
@@ -25,7 +25,6 @@ use Rattle.lmn_lexer.proofs.OneCut.{one_cut, refused_is_wrong}
 use Rattle.lmn_linkcheck.proofs.LinkedLemmas.{no_fault_is_linked}
 use Rattle.lmn_parser.specs.Parsing.{kinds_of}
 use Rattle.lmn_parser.proofs.TreeWords.{trees_derive}
-use Rattle.lmn_plain.specs.SamePlains.{SamePlain}
 use Rattle.lmn_reading.specs.Laws.{IsAcceptedText}
 use Rattle.lmn_reading.specs.Texts.{IsAcceptedAs, IsRefusedAs, ReadsAs, by_bytes, by_contexts, by_links, by_rules, by_tokens}
 use Rattle.lmn_reading.proofs.AcceptedOrRefused as reading

@@ -9,7 +9,7 @@ use Rattle.lmn_words.specs.Forms.{Request, to_run, to_compile}
 use Rattle.lmn_app.specs.Endings.{IsCode}
 use Rattle.lmn_app.specs.Texts.{IsRefusal}
 use Rattle.lmn_app.specs.Requests.{size_of}
-use Rattle.lmn_app.specs.Writing.{IsToldAnd, Lists, ListsPart, Writes, WritesPart}
+use Rattle.lmn_app.specs.Writing.{IsToldAnd, Lists, ListsPart, WritesRun, WritesPartOfRun}
 
 -- Why a command ends so: what is told of the text, and the count of faults of the file that it names, before and after.
 abbrev pub Causes : Request → Ending → Option (Option (List ℕ)) → ℕ → ℕ → Type 0
@@ -24,11 +24,11 @@ Causes c Full text before after = ⊤
 
 -- What `out` took of the text where a command ends so.
 abbrev pub Output : Request → Ending → Option (Option (List ℕ)) → Option (List ℕ) → Option (List ℕ) → Type 0
-Output (to_run w) Done text old new = Writes w text (at_end irreducible) old new
-Output (to_run w) Budget text old new = Writes w text (at_end budget_done) old new
-Output (to_run w) Full text old new = Writes w text (at_end full) old new
-Output (to_run w) NoMemory text old new = (new ≡ old) ⊎ Writes w text no_memory old new
-Output (to_run w) WriteFault text old new = WritesPart w text old new
+Output (to_run w) Done text old new = WritesRun w text (at_end irreducible) old new
+Output (to_run w) Budget text old new = WritesRun w text (at_end budget_done) old new
+Output (to_run w) Full text old new = WritesRun w text (at_end full) old new
+Output (to_run w) NoMemory text old new = (new ≡ old) ⊎ WritesRun w text no_memory old new
+Output (to_run w) WriteFault text old new = WritesPartOfRun w text old new
 Output (to_compile file) Done text old new = Lists text old new
 Output (to_compile file) Budget text old new = ⊥
 Output (to_compile file) Full text old new = ⊥

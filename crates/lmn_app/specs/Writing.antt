@@ -37,7 +37,7 @@ run_text lines why commits = concat lines ++ end_line (word_of why) commits
 
 -- A run of the text stopped so, and its lines were taken. The text is the one that is told, if one is. Its lines are those of a run
 -- of the calculus, and which run that is the strategy says.
-pub record Writes (w : Run) (told : Option (Option (List ℕ))) (why : Stop) (old new : Option (List ℕ)) : Type 0 where
+pub record WritesRun (w : Run) (told : Option (Option (List ℕ))) (why : Stop) (old new : Option (List ℕ)) : Type 0 where
   pub text : List ℕ
   pub is_told : IsToldAnd told (λ found. found ≡ text)
   pub lines : List (List ℕ)
@@ -49,7 +49,7 @@ pub record Writes (w : Run) (told : Option (Option (List ℕ))) (why : Stop) (ol
 
 -- A prefix of the lines of a run of the text was taken, with the word that is due: that of the end of its trace, or `no memory` where
 -- the trace goes on.
-pub record WritesPart (w : Run) (told : Option (Option (List ℕ))) (old new : Option (List ℕ)) : Type 0 where
+pub record WritesPartOfRun (w : Run) (told : Option (Option (List ℕ))) (old new : Option (List ℕ)) : Type 0 where
   pub text : List ℕ
   pub is_told : IsToldAnd told (λ found. found ≡ text)
   pub lines : List (List ℕ)

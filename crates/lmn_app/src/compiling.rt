@@ -1,4 +1,4 @@
-ghost use Rattle.std.specs.Prelude.{◌≡◌, ℕ, List, Some};
+ghost use Rattle.std.specs.Prelude.{ℕ, List, Some};
 ghost use Rattle.lmn_app.specs.Outcomes.{Ended, IsCompile};
 ghost use Rattle.lmn_app.specs.Texts.{Accepts};
 ghost use Rattle.lmn_words.specs.Forms.{Request};
@@ -7,12 +7,13 @@ use crate::ending::Ending;
 use lmn_accepted::accepted_texts;
 use lmn_base::Names;
 use lmn_compile_body::accepted_bodies;
-use lmn_io::Sink;
-use lmn_listing::{ListFault, list_rules};
+use lmn_io::{Failed, Sink};
+use lmn_listing::{compile_rules, list_codes};
 use lmn_reading::Accepted;
 use std::alloc::Global;
 
-/// Writes the listing of the code of each rule of an accepted text, by rising number.
+/// Writes the listing of the code of each rule of an accepted text, by rising number. All rules are compiled before the
+/// first byte is written.
 /// So many rules that 32 bits don't count them would stand in no memory.
 pub(crate) fn compile<O: Sink>(
     alloc: Global,
@@ -26,18 +27,14 @@ pub(crate) fn compile<O: Sink>(
 {
     accepted_texts();
     accepted_bodies();
-    if accepted.plain.rules.len() >= 1 << 32 {
+    let Ok(codes) = compile_rules(alloc, &accepted.plain, accepted.plans.as_slice()) else {
+        return Ending::NoMemory;
+    };
+    if codes.len() >= 1 << 32 {
         return Ending::NoMemory;
     }
-    match list_rules(
-        alloc,
-        &accepted.plain,
-        accepted.plans.as_slice(),
-        names,
-        out,
-    ) {
+    match list_codes(codes.as_slice(), names, out) {
         Ok(()) => Ending::Done,
-        Err(ListFault::Failed) => Ending::WriteFault,
-        Err(ListFault::NoMemory) => Ending::NoMemory,
+        Err(Failed) => Ending::WriteFault,
     }
 }

@@ -1,6 +1,5 @@
-ghost use Rattle.std.specs.Prelude.{◌≡◌, OnOk, OnErr};
-ghost use Rattle.lmn_io.specs.Counts.{Rose};
-ghost use Rattle.lmn_io.specs.Taking.{Takes, TakesPrefix};
+ghost use Rattle.std.specs.Prelude.{◌≡◌, OnErr};
+ghost use Rattle.lmn_io.specs.Writing.{WritesText};
 ghost use Rattle.lmn_app.specs.Endings.{Concludes, HasLine, code_letters, line_of, refusal_line};
 
 use crate::ending::Ending;
@@ -22,10 +21,7 @@ pub(crate) fn conclude<E: Sink>(err: &mut E, ending: Ending) -> u8
 #[tactic(auto, using(lmn_io::proofs::TakingLemmas::taking))]
 fn report<E: Sink>(err: &mut E, ending: Ending) -> Result<(), Failed>
     ensures line { OnErr result (HasLine ending) }
-    ensures took { OnOk result (Takes (line_of ending) (E.told err.old) (E.told err.new)) }
-    ensures prefix { OnErr result (TakesPrefix (line_of ending) (E.told err.old) (E.told err.new)) }
-    ensures same { OnOk result (E.faults err.new ≡ E.faults err.old) }
-    ensures rose { OnErr result (Rose (E.faults err.old) (E.faults err.new)) }
+    ensures writes { WritesText (line_of ending) result (E.told err.old) (E.faults err.old) (E.told err.new) (E.faults err.new) }
 {
     match ending {
         Ending::Done | Ending::Budget | Ending::Full => Ok(()),
@@ -39,10 +35,7 @@ fn report<E: Sink>(err: &mut E, ending: Ending) -> Result<(), Failed>
 
 /// Puts the line of a refusal: its code, its place and its words.
 fn report_refusal<E: Sink>(err: &mut E, refusal: Refusal) -> Result<(), Failed>
-    ensures took { OnOk result (Takes (refusal_line refusal) (E.told err.old) (E.told err.new)) }
-    ensures prefix { OnErr result (TakesPrefix (refusal_line refusal) (E.told err.old) (E.told err.new)) }
-    ensures same { OnOk result (E.faults err.new ≡ E.faults err.old) }
-    ensures rose { OnErr result (Rose (E.faults err.old) (E.faults err.new)) }
+    ensures { WritesText (refusal_line refusal) result (E.told err.old) (E.faults err.old) (E.told err.new) (E.faults err.new) }
 {
     let (mut code, mut line, mut column) = (Buffer::new(), Buffer::new(), Buffer::new());
     put_all(

@@ -7,6 +7,8 @@ mod ending;
 pub mod laws;
 mod running;
 #[cfg(test)]
+mod test_listings;
+#[cfg(test)]
 mod tests;
 mod top;
 

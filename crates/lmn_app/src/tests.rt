@@ -1,7 +1,22 @@
+ghost use Rattle.std.specs.Prelude.{◌≡◌, ◌<◌, ℕ, List};
+ghost use Rattle.lmn_app.specs.Texts.{Accepts};
+
 use crate::lmn_main;
-use lmn_base::{NoMemory, Rows};
+use crate::test_listings::LISTINGS;
+use lmn_accepted::accepted_texts;
+use lmn_base::{Names, NoMemory, Rows};
+use lmn_compile_body::accepted_bodies;
+use lmn_drive::{RunEnd, RunOptions, drive};
 use lmn_io::{MemShelf, MemSink};
+use lmn_loading::loading_settles;
+use lmn_machine::Steps;
+use lmn_order::{Chooser, follow};
+use lmn_reading::{Accepted, read};
+use lmn_schedule::Engine;
+use lmn_store::SlabStore;
 use std::alloc::{AllocError, Global};
+use std::marker::Brand;
+use std::sync::ledger::{Blank, Ledger};
 use std::test::Fail;
 
 /// A call, and what is wanted of it.
@@ -156,7 +171,7 @@ const ROWS: [Row; 12] = [
 ];
 
 /// A text that runs until nothing reacts, and the lines on `out`.
-const RUNS: [(&[u8], &[u8]); 29] = [
+const RUNS: [(&[u8], &[u8]); 31] = [
     (
         b"x @@ a :- 'B c'. a",
         b"'B c'. (a :- 'B c').\n% irreducible after 1\n",
@@ -268,6 +283,14 @@ const RUNS: [(&[u8], &[u8]); 29] = [
         b"{b, (a :- b)}. {d, (c :- d)}.\n% irreducible after 2\n",
     ),
     (b"", b"\n% irreducible after 0\n"),
+    (
+        b"p(1). p(2). p(3). p(4). p($x), p($y) :- $z = $x + $y | p($z).",
+        b"p(L0). 10(L0). (p(L0), $x[L0], p(L1), $y[L1] :- $z = $x + $y | p(L2), $z[L2]).\n% irreducible after 3\n",
+    ),
+    (
+        b"append([1,2],[3],R), ans(R). append([],Y,Z) :- Y=Z. append([A|X],Y,Z) :- Z=[A|W], append(X,Y,W).",
+        b"1(L0). 2(L1). '.'(L2, L3, L4). 3(L2). '[]'(L3). ans(L5). '.'(L0, L6, L5). '.'(L1, L4, L6). (append(L0, L1, L2), '[]'(L0) :- L1 = L2). (append(L0, L1, L2), '.'(L3, L4, L0) :- L2 = L5, '.'(L3, L6, L5), append(L4, L1, L6)).\n% irreducible after 3\n",
+    ),
 ];
 
 /// Calls with options: the words, the text, what `out` and `err` take, and the status.
@@ -432,10 +455,23 @@ fn shelf_of(alloc: Global, text: &[u8], failing: &[u64]) -> Result<MemShelf, NoM
 }
 
 fn call(alloc: Global, row: &Row) -> Result<Ended, NoMemory> {
-    let words = words_of(alloc, row.words)?;
-    let mut shelf = shelf_of(alloc, row.text, row.fetches_failing)?;
-    let mut out = MemSink::new(alloc, 4000, rows_of(alloc, row.puts_failing)?)?;
-    let mut err = MemSink::new(alloc, row.err_room, Rows::new(alloc))?;
+    let shelf = shelf_of(alloc, row.text, row.fetches_failing)?;
+    let out = MemSink::new(alloc, 4000, rows_of(alloc, row.puts_failing)?)?;
+    let err = MemSink::new(alloc, row.err_room, Rows::new(alloc))?;
+    call_on(alloc, row.words, shelf, out, err)
+}
+
+fn call_on(
+    alloc: Global,
+    words: &[&str],
+    shelf: MemShelf,
+    out: MemSink,
+    err: MemSink,
+) -> Result<Ended, NoMemory> {
+    let words = words_of(alloc, words)?;
+    let mut shelf = shelf;
+    let mut out = out;
+    let mut err = err;
     let status = lmn_main(alloc, words.as_slice(), &mut shelf, &mut out, &mut err);
     Ok(Ended { out, err, status })
 }
@@ -512,26 +548,176 @@ fn options_are_heard(rt: HostRuntime) -> Result<(), Fail> {
     Ok(())
 }
 
-/// The listing of the rule of two numbers that are summed.
-const LISTING: &[u8] =
-    b"rule 0\n  FINDATOM A0 M0 p/1\n  FINDATOM A1 M0 p/1\n  NEQATOM A1 A0\n  ISINT G0 A0.0 M0\n  ISINT G1 A1.0 M0\n  GETINT V0 G0\n  GETINT V1 G1\n  ADD V2 V0 V1\n  COMMIT\n  REMOVEATOM A0\n  REMOVEATOM A1\n  REMOVEPART G0\n  REMOVEPART G1\n  NEWATOM A2 M0 p/1\n  NEWINT A3 M0 V2\n  NEWLINK A2.0 A3.0\n  PROCEED\n";
-
 #[test]
 fn rules_are_compiled(rt: HostRuntime) -> Result<(), Fail> {
-    let ended = call(
-        rt.alloc(),
-        &Row {
-            words: &["compile", "f"],
-            text: b"p(3), p(4). p($x), p($y) :- $z = $x + $y | p($z).",
-            fetches_failing: &[],
-            puts_failing: &[],
-            err_room: 100,
-            out: LISTING,
-            err: b"",
-            status: 0,
-        },
-    )?;
-    assert_eq!(rt; ended.status, 0);
-    assert_eq!(rt; ended.out.taken(), LISTING);
+    for (i, (text, listing)) in LISTINGS.iter().enumerate() {
+        let ended = call(
+            rt.alloc(),
+            &Row {
+                words: &["compile", "f"],
+                text: *text,
+                fetches_failing: &[],
+                puts_failing: &[],
+                err_room: 100,
+                out: *listing,
+                err: b"",
+                status: 0,
+            },
+        )?;
+        assert_eq!(rt; ended.status, 0, "status of row {i}");
+        assert_eq!(rt; ended.out.taken(), *listing, "listing of row {i}");
+    }
+    Ok(())
+}
+
+#[test]
+fn a_million_firings_end(rt: HostRuntime) -> Result<(), Fail> {
+    let ended = run_of(rt.alloc(), b"a. a :- a.")?;
+    assert_eq!(rt; ended.status, 1);
+    assert_eq!(rt;
+        ended.out.taken(),
+        b"a. (a :- a).\n% budget after 1000000\n".as_slice()
+    );
+    Ok(())
+}
+
+/// The walls that one firing makes, in place of one.
+const WALLS: usize = 190;
+
+/// The walls after 530 firings that each make 190 of one.
+const ALL_WALLS: usize = 1 + 530 * 189;
+
+fn add_times(bytes: &mut Vec<u8>, byte: u8, times: usize) -> Result<(), AllocError> {
+    for _ in 0..times {
+        bytes.push(byte)?;
+    }
+    Ok(())
+}
+
+/// Adds what stands inside so many walls.
+fn add_inside(bytes: &mut Vec<u8>, walls: usize, inside: &[u8]) -> Result<(), AllocError> {
+    add_times(bytes, b'{', walls)?;
+    bytes.extend_from_slice(inside)?;
+    add_times(bytes, b'}', walls)
+}
+
+/// A rule that puts what stands in a membrane behind more walls, and a link through them.
+fn walls_grow(alloc: Global) -> Result<Vec<u8>, AllocError> {
+    let mut text = Vec::new(alloc);
+    text.extend_from_slice(b"b(X). c. {a(X)}. c, {$p} :- c, ")?;
+    add_inside(&mut text, WALLS, b"$p")?;
+    text.extend_from_slice(b".")?;
+    Ok(text)
+}
+
+/// The lines of its run.
+fn walls_grown(alloc: Global) -> Result<Vec<u8>, AllocError> {
+    let mut lines = Vec::new(alloc);
+    lines.extend_from_slice(b"b(L0). c. ")?;
+    add_inside(&mut lines, ALL_WALLS, b"a(L0)")?;
+    lines.extend_from_slice(b". (c, {$p} :- c, ")?;
+    add_inside(&mut lines, WALLS, b"$p")?;
+    lines.extend_from_slice(b").\n% budget after 530\n")?;
+    Ok(lines)
+}
+
+#[test]
+fn a_link_goes_through_a_hundred_thousand_walls(rt: HostRuntime) -> Result<(), Fail> {
+    let alloc = rt.alloc();
+    let text = walls_grow(alloc)?;
+    let lines = walls_grown(alloc)?;
+    let shelf = shelf_of(alloc, text.as_slice(), &[])?;
+    let out = MemSink::new(alloc, lines.len(), Rows::new(alloc))?;
+    let err = MemSink::new(alloc, 100, Rows::new(alloc))?;
+    let ended = call_on(alloc, &["run", "f", "--budget", "530"], shelf, out, err)?;
+    assert_eq!(rt; ended.status, 1);
+    assert_eq!(rt; ended.out.taken(), lines.as_slice());
+    Ok(())
+}
+
+/// Runs an accepted text with a trace. The membrane that is asked first follows a list of numbers.
+fn run_by_list<L: Ledger>(
+    alloc: Global,
+    accepted: &Accepted,
+    names: &Names,
+    numbers: &[u64],
+    out: &mut MemSink,
+    blank: Blank,
+) -> Result<RunEnd, NoMemory>
+    requires accepted { (text : List ℕ) × Accepts text names.now accepted.now.plain accepted.now.plans }
+    requires name { blank.name ≡ L.name }
+    requires parts { blank.parts ≡ L.parts }
+    requires some { 0 < blank.parts }
+{
+    loading_settles();
+    accepted_texts();
+    accepted_bodies();
+    let chooser = Chooser::new(
+        |t: u64, m: u64| -> u64
+            requires { 0 < m }
+            ensures { result < m }
+        { follow(numbers, t, m) },
+    );
+    let store = SlabStore::new(alloc)?;
+    match Engine::load(
+        alloc,
+        &accepted.plain,
+        accepted.plans.as_slice(),
+        store,
+        chooser,
+        1000,
+    ) {
+        Ok(engine) => {
+            let mut engine = engine;
+            let mut steps = Steps::<L>::new(blank);
+            let options = RunOptions {
+                trace: true,
+                budget: 1000,
+            };
+            Ok(drive(
+                alloc,
+                &mut engine,
+                &accepted.plain,
+                names,
+                &options,
+                out,
+                &mut steps,
+            ))
+        }
+        Err(_) => Err(NoMemory),
+    }
+}
+
+/// How a text runs by a list of numbers, or `None` where it is refused.
+fn ended_by_list(
+    alloc: Global,
+    text: &[u8],
+    numbers: &[u64],
+    out: &mut MemSink,
+) -> Result<Option<RunEnd>, NoMemory> {
+    if text.len() > 1000 {
+        return Ok(None);
+    }
+    let mut names = Names::new(alloc);
+    match read(alloc, text, &mut names) {
+        Ok(accepted) => {
+            let end = run_by_list::<Brand>(alloc, &accepted, &names, numbers, out, Blank::new(1))?;
+            Ok(Some(end))
+        }
+        Err(_) => Ok(None),
+    }
+}
+
+/// The second membrane inside the root is asked first, and then the first one.
+#[test]
+fn a_list_says_who_is_asked(rt: HostRuntime) -> Result<(), Fail> {
+    let alloc = rt.alloc();
+    let mut out = MemSink::new(alloc, 1000, Rows::new(alloc))?;
+    let end = ended_by_list(alloc, b"{a. a :- b.}. {c. c :- d.}.", &[2, 1], &mut out)?;
+    assert_eq!(rt; end, Some(RunEnd::Irreducible));
+    assert_eq!(rt;
+        out.taken(),
+        b"{a, (a :- b)}. {c, (c :- d)}.\n{a, (a :- b)}. {d, (c :- d)}.\n{b, (a :- b)}. {d, (c :- d)}.\n% irreducible after 2\n".as_slice()
+    );
     Ok(())
 }

@@ -19,7 +19,7 @@ use lmn_base::{Names, Pos, Refusal, TextFault};
 use lmn_io::{FetchFault, Fetched, Shelf, Sink};
 use lmn_reading::read;
 use lmn_words::{Command, asks_one};
-use std::alloc::Global;
+use std::alloc::{AllocError, Global};
 
 /// The most bytes of a text.
 const TEXT_BYTES: u64 = 4_194_304;
@@ -45,9 +45,10 @@ pub fn lmn_main<F: Shelf, O: Sink, E: Sink>(
     ensures words { result ≡ 3 → ¬ (InForm words.now) }
     ensures form { ¬ (InForm words.now) → (result ≡ 3) ⊎ ((result ≡ 5) × Rose (E.faults err.old) (E.faults err.new)) }
 
-    // The shelf is asked once, for at most 4,194,304 bytes; where the words aren't of the form it isn't asked, and no
-    // count of it changes.
-    ensures asked { InForm words.now → F.asked shelf.new ≡ option_map (asked_once_more text_bytes) (F.asked shelf.old) }
+    // The shelf is asked once, for at most 4,194,304 bytes, or not at all where memory was wanting for the words; where the
+    // words aren't of the form it isn't asked, and no count of it changes.
+    ensures asked { InForm words.now → (F.asked shelf.new ≡ option_map (asked_once_more text_bytes) (F.asked shelf.old))
+        ⊎ ((F.asked shelf.new ≡ F.asked shelf.old) × ((result ≡ 6) ⊎ ((result ≡ 5) × Rose (E.faults err.old) (E.faults err.new)))) }
     ensures not_asked { ¬ (InForm words.now) → F.asked shelf.new ≡ F.asked shelf.old }
     ensures unasked { ¬ (InForm words.now) → (name : List ℕ) → F.faults shelf.new name ≡ F.faults shelf.old name }
 
@@ -96,16 +97,18 @@ pub fn lmn_main<F: Shelf, O: Sink, E: Sink>(
 
 /// Does what the words ask for, and says how it ended.
 fn act<F: Shelf, O: Sink>(alloc: Global, words: &[String], shelf: &mut F, out: &mut O) -> Ending
-    ensures asked { InForm words.now → F.asked shelf.new ≡ option_map (asked_once_more text_bytes) (F.asked shelf.old) }
+    ensures asked { InForm words.now → (F.asked shelf.new ≡ option_map (asked_once_more text_bytes) (F.asked shelf.old))
+        ⊎ ((F.asked shelf.new ≡ F.asked shelf.old) × (result ≡ Ending.NoMemory)) }
     ensures not_asked { ¬ (InForm words.now) → F.asked shelf.new ≡ F.asked shelf.old }
     ensures unasked { ¬ (InForm words.now) → (name : List ℕ) → F.faults shelf.new name ≡ F.faults shelf.old name }
     ensures ended { Asked words.now (λ c. Ended c result (told_under (F.told shelf.old) (file_of c)) (O.told out.old) (O.told out.new) (O.faults out.old) (O.faults out.new) (F.faults shelf.old (file_of c)) (F.faults shelf.new (file_of c)))
         ⊎ (¬ (InForm words.now) × (result ≡ Ending.Words) × (O.told out.new ≡ O.told out.old) × (O.faults out.new ≡ O.faults out.old)) }
 {
     asks_one();
-    match Command::from_words(words) {
-        Some(command) => perform(alloc, command, shelf, out),
-        None => Ending::Words,
+    match Command::from_words(alloc, words) {
+        Ok(Some(command)) => perform(alloc, command, shelf, out),
+        Ok(None) => Ending::Words,
+        Err(AllocError) => Ending::NoMemory,
     }
 }
 

@@ -81,10 +81,6 @@ next_piece f xs i d within =
     ap (flat_map f) (take_more xs i d within) ∙ flat_map-append f (take i xs) (get_or xs i d ∷ []) ∙ ap (λ l. flat_map f (take i xs) ++ l) (append-nil (f (get_or xs i d)))
 
 module _ {X : Type 0} (f : X → List Pos) (xs : List X) where
-  -- one more was asked
-  pub found_next : (i : ℕ) (d : X) (found : Found) → i < length xs → IsFound (flat_map f (take i xs) ++ f (get_or xs i d)) found → IsFound (flat_map f (take (i + 1) xs)) found
-  found_next i d found within h = subst (λ l. IsFound l found) (sym (next_piece f xs i d within)) h
-
   -- all were asked
   pub found_all : (i : ℕ) (found : Found) → length xs ≤ i → IsFound (flat_map f (take i xs)) found → IsFound (flat_map f xs) found
   found_all i found end h = subst (λ l. IsFound (flat_map f l) found) (take_all i xs end) h

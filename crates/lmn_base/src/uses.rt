@@ -1,7 +1,6 @@
 ghost use Rattle.std.specs.Prelude.{◌≡◌};
-ghost use Rattle.lmn_base.specs.Firsts.{IsFound};
 ghost use Rattle.lmn_base.specs.Items.{items_of, expression_items, condition_items};
-ghost use Rattle.lmn_base.specs.Uses.{is_some_place, has_use};
+ghost use Rattle.lmn_base.specs.Uses.{has_use};
 
 use crate::guard::{Cond, Expr};
 use crate::item::Item;

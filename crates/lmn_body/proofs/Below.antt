@@ -1,7 +1,6 @@
 -- Preorder: a membrane comes after those round it, so the images of the membranes of a head after that of the rule.
 use Rattle.std.proofs.Common.{ℕ, zero, suc, ◌+◌, ◌<◌, ◌≤◌, ◌≡◌, ◌≢◌, ◌==◌, Bool, true, false, cond, List, [], ◌∷◌, ◌++◌, length, refl, sym, ap, subst, ◌∙◌, inl, inr, arith}
 use Rattle.std.proofs.lemmas.Bool.{eq-eqb, eqb-true}
-use Rattle.lmn_base.specs.declared.guard.Cond.{Cond}
 use Rattle.lmn_heap.specs.Heap.{Heap, mems_in, In, Distinct}
 use Rattle.lmn_heap.specs.Sound.{Forest, flat, Valid}
 use Rattle.lmn_heap.proofs.ListLemmas.{each_in, in_left, in_right}
@@ -9,15 +8,16 @@ use Rattle.lmn_heap.proofs.Trees.{find_at, split_at, around}
 use Rattle.lmn_heap.proofs.Groves.{list_inside}
 use Rattle.lmn_solid.specs.declared.items.HeadItem.{HeadItem}
 use Rattle.lmn_solid.specs.Heads.{HeadMembrane, membranes_of}
-use Rattle.lmn_solid.specs.Embeddings.{Embeds, HasMembrane, index_of}
+use Rattle.lmn_solid.specs.Embeddings.{HasMembrane, index_of, Embeds}
 use Rattle.lmn_splice.specs.Classes.{rising}
 use Rattle.lmn_body.specs.Running.{Registers}
-use Rattle.lmn_body.specs.Rules.{HeadNests}
 use Rattle.lmn_body.specs.Within.{membrane_images}
 use Rattle.lmn_body.proofs.HeadPorts.{of_map, in_map, get_some, get_below}
 use Rattle.lmn_body.proofs.Firing.{rising_below, heap_in_of, of_heap_in}
 use Rattle.lmn_splice.proofs.EndLemmas.{in_rising}
 use Rattle.lmn_heap.proofs.Heights.{mem_of_list}
+use Rattle.lmn_base.specs.declared.guard.Cond.{Cond}
+use Rattle.lmn_body.specs.Rules.{HeadNests}
 
 -- Indices
 

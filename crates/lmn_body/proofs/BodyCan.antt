@@ -3,7 +3,7 @@ use Rattle.std.proofs.Common.{true, ℕ, ◌+◌, ◌<◌, ◌≤◌, ◌≡◌,
 use Rattle.std.specs.Option.{option_map, option_and_then}
 use Rattle.lmn_base.specs.declared.guard.Cond.{Cond}
 use Rattle.lmn_heap.specs.Heap as heap
-use Rattle.lmn_heap.specs.Heap.{Heap, HeapAtom, HeapMem, Place, within, waiting, gone, alter, mem_with_atoms, mem_with_mems, mem_with_place, without, functor_of, arity_of, mem_place_of, mems_in, rules_in, spare_of, spare_by, atom_out, mem_out, home_of, parent_of, IsAtom, IsMem, IsInPlace, IsMemInPlace, In, Distinct, taken, taken_mem}
+use Rattle.lmn_heap.specs.Heap.{Heap, HeapAtom, HeapMem, Place, within, gone, mem_with_atoms, mem_with_mems, mem_with_place, without, arity_of, mem_place_of, mems_in, rules_in, spare_of, spare_by, atom_out, mem_out, home_of, parent_of, IsMem, IsInPlace, IsMemInPlace, In, Distinct, taken, taken_mem}
 use Rattle.lmn_heap.specs.Sound.{Listed, Valid}
 use Rattle.lmn_heap.proofs.ListLemmas.{each_in}
 use Rattle.lmn_heap.proofs.Trees.{nil_right}

@@ -189,11 +189,6 @@ new_all r a c (Rules of inside ∷ xs) w h s wr cp p i l = new_all r a c xs w.1 
 abbrev pub numbers : List (ℕ × Functor) → List ℕ
 numbers es = map (λ (e : ℕ × Functor). e.0) es
 
-pub number_in : (a : ℕ) (f : Functor) (es : List (ℕ × Functor)) → In {A = ℕ × Functor} (a, f) es → heap.In a (numbers es)
-number_in a f [] i = absurd i
-number_in a f (e ∷ es) (inl h) = inl (ap (λ (q : ℕ × Functor). q.0) h)
-number_in a f (e ∷ es) (inr i) = inr (number_in a f es i)
-
 -- a written atom is a new one
 pub written_new : (r : Registers) (a c : ℕ) (body : List BodyItem) (x : ℕ) (f : Functor) → In {A = ℕ × Functor} (x, f) (made_of r a body) → heap.In x (new_atoms r a c body)
 written_new r a c [] x f i = absurd i

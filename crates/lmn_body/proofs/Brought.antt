@@ -6,7 +6,7 @@ use Rattle.std.specs.Option.{option_map, option_and_then}
 use Rattle.std.specs.Prelude.{slice_index_or}
 use Rattle.lmn_base.specs.declared.functor.Functor.{Functor}
 use Rattle.lmn_base.specs.Graphs.{Reached, at_root, across}
-use Rattle.lmn_heap.specs.Heap.{Heap, HeapAtom, within, waiting, top, new_atom, links_of, functor_of, arity_of, link_of, place_of, mem_place_of, atoms_in, IsAtom, In, Distinct, made_atom}
+use Rattle.lmn_heap.specs.Heap.{Heap, HeapAtom, within, waiting, top, links_of, functor_of, arity_of, link_of, place_of, IsAtom, In, Distinct, made_atom}
 use Rattle.lmn_heap.specs.Heap as heap
 use Rattle.lmn_heap.specs.Sound.{Paired, Shaped, Listed}
 use Rattle.lmn_heap.specs.Graphs.{atom_map}

@@ -3,7 +3,7 @@ use Rattle.std.proofs.Common.{ℕ, zero, suc, ◌+◌, ◌-◌, ◌≡◌, ◌�
 use Rattle.std.specs.Prelude.{min, slice_index_or}
 use Rattle.std.proofs.lemmas.Bool.{cases_eq, eq-eqb, eqb-true}
 use Rattle.std.proofs.Math.Nat.{min_comm}
-use Rattle.lmn_heap.specs.Heap.{Heap, HeapAtom, IsAtom, IsInPlace, In}
+use Rattle.lmn_heap.specs.Heap.{Heap, HeapAtom, IsAtom, In}
 use Rattle.lmn_heap.specs.Sound.{Paired}
 use Rattle.lmn_parts.specs.Walks.{is_in}
 use Rattle.lmn_solid.specs.declared.items.HeadItem.{HeadItem}

@@ -7,9 +7,9 @@ use Rattle.std.specs.Prelude as prelude
 use Rattle.lmn_base.specs.declared.functor.Functor.{Functor}
 use Rattle.lmn_base.specs.declared.guard.Cond.{Cond}
 use Rattle.lmn_base.specs.Solids.{connector}
-use Rattle.lmn_heap.specs.Heap.{Heap, HeapAtom, HeapMem, within, waiting, gone, top, new_atom, links_of, functor_of, arity_of, link_of, place_of, mem_place_of, home_of, home_by, atoms_in, IsAtom, IsMem, IsInPlace, IsMemInPlace, finished}
+use Rattle.lmn_heap.specs.Heap.{Heap, HeapAtom, HeapMem, within, waiting, gone, top, links_of, functor_of, arity_of, mem_place_of, home_of, home_by, atoms_in, IsAtom, IsInPlace, IsMemInPlace}
 use Rattle.lmn_heap.specs.Heap as heap
-use Rattle.lmn_heap.specs.Sound.{Sound, Listed, Paired, Forest, IsTree, Valid}
+use Rattle.lmn_heap.specs.Sound.{Valid}
 use Rattle.lmn_heap.specs.Sound as heapsound
 use Rattle.lmn_heap.proofs.Groves.{forms_frame}
 use Rattle.lmn_base.specs.Graphs.{Reached, at_root, across}
@@ -18,7 +18,7 @@ use Rattle.lmn_heap.proofs.ListLemmas.{each_of, in_left, in_right}
 use Rattle.lmn_heap.proofs.Trees.{in_either}
 use Rattle.lmn_heap.proofs.Replacing.{no_waiting, no_waiting_mems}
 use Rattle.lmn_solid.specs.declared.items.HeadItem.{HeadItem}
-use Rattle.lmn_solid.specs.Heads.{HeadAtom, Occurrence, atoms_of, typed_contexts_of, membranes_of, at_atoms, times}
+use Rattle.lmn_solid.specs.Heads.{HeadAtom, Occurrence, atoms_of, typed_contexts_of, at_atoms, times}
 use Rattle.lmn_solid.specs.Heads as heads
 use Rattle.lmn_solid.specs.Embeddings.{Embeds, HasAtom, HasTyped, HasLink}
 use Rattle.lmn_splice.specs.Ports.{Port, Coloured}
@@ -412,9 +412,6 @@ module _ (h : Heap) (valid : Valid h) (head : List HeadItem) (guard : List Cond)
     where
       zero_plus : (k : ℕ) → 0 + k ≡ k
       zero_plus k = omega arith
-
-  occurrence : ℕ → ℕ → ℕ → Occurrence
-  occurrence k i x = record { link = x; port = (k, i) }
 
   head_occurrence : (k i x : ℕ) → HasLink head x (k, i) → In {A = Occurrence} (record { link = x; port = (k, i) }) (at_atoms 0 (atoms_of head))
   head_occurrence k i x w = subst (λ z. In {A = Occurrence} (record { link = x; port = (z, i) }) (at_atoms 0 (atoms_of head))) (zero_plus k) (in_at_atoms 0 (atoms_of head) k i x w.0 w.1 w.2)

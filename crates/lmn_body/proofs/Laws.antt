@@ -2,7 +2,7 @@
 use Rattle.std.proofs.Common.{ℕ, ◌+◌, ◌<◌, ◌≡◌, ◌≤◌, ◌==◌, Bool, true, false, cond, List, [], ◌∷◌, ◌++◌, map, length, Option, Some, None, IsSome, refl, sym, ap, subst, ◌∙◌, inl, inr, arith}
 use Rattle.lmn_base.specs.declared.functor.Functor.{Functor}
 use Rattle.lmn_base.specs.declared.guard.Cond.{Cond}
-use Rattle.lmn_heap.specs.Heap.{Heap, IsAtom, functor_of, atoms_in, rules_in, IsInPlace, IsMemInPlace, finished}
+use Rattle.lmn_heap.specs.Heap.{Heap, IsAtom, atoms_in, IsInPlace, finished, IsMemInPlace}
 use Rattle.lmn_heap.specs.Heap as heap
 use Rattle.lmn_heap.specs.Sound.{Listed, Settled, Valid}
 use Rattle.lmn_heap.proofs.ListLemmas.{in_right}

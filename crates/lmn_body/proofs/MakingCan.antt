@@ -4,7 +4,7 @@ use Rattle.std.proofs.lemmas.Bool.{cases_eq, eq-eqb, eqb-true}
 use Rattle.std.proofs.lemmas.List.{append_assoc, length-append}
 use Rattle.std.specs.Option.{option_map}
 use Rattle.lmn_heap.specs.Heap as heap
-use Rattle.lmn_heap.specs.Heap.{Heap, HeapMem, Place, top, within, waiting, gone, alter, sent, mem_with_atoms, mem_with_mems, mem_with_place, mem_with_rules, mem_sent, emptied, filled, mem_place_of, mems_in, rules_in, spare_of, spare_by, IsMem, IsMemInPlace, StandsAt, In, Distinct, placed, placed_mem, moved_all}
+use Rattle.lmn_heap.specs.Heap.{Heap, HeapMem, Place, top, within, waiting, gone, alter, mem_with_atoms, mem_with_mems, mem_with_place, mem_with_rules, mem_sent, emptied, filled, mem_place_of, mems_in, rules_in, spare_of, spare_by, IsMemInPlace, StandsAt, In, Distinct, placed, placed_mem, moved_all}
 use Rattle.lmn_heap.specs.Sound.{Listed}
 use Rattle.lmn_heap.specs.Conditions.{Above, IsOutside}
 use Rattle.lmn_heap.proofs.ListLemmas as lists

@@ -2,7 +2,7 @@
 use Rattle.std.proofs.Common.{ℕ, ◌≡◌, ◌≢◌, ◌==◌, Bool, true, false, cond, [], ◌∷◌, ◌++◌, Option, Some, None, refl, sym, ap, ◌∙◌, inl, inr}
 use Rattle.std.proofs.lemmas.Bool.{cases_eq}
 use Rattle.std.specs.Option.{option_map}
-use Rattle.lmn_heap.specs.Heap.{Heap, HeapAtom, HeapMem, Place, top, within, waiting, gone, alter, home_by, new_mem, sent, atom_sent, mem_sent, emptied, filled, mem_with_place, mem_with_spare, mem_with_rules, mem_out, place_of, mem_place_of, parent_of, atoms_in, mems_in, atoms_by, mems_by, IsMem, In, Distinct, without, after, from, made_mem, reserved, taken_mem, placed_mem, moved_all}
+use Rattle.lmn_heap.specs.Heap.{Heap, HeapMem, Place, top, within, waiting, gone, alter, sent, mem_sent, emptied, filled, mem_with_place, mem_place_of, atoms_in, mems_in, atoms_by, mems_by, placed_mem, moved_all}
 use Rattle.lmn_heap.specs.Heap as heap
 use Rattle.lmn_heap.specs.Sound.{Listed}
 use Rattle.lmn_heap.proofs.Listing.{same_listed, alter_at}

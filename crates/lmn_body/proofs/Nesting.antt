@@ -1,13 +1,11 @@
 -- A body with membranes and contexts fires.
 use Rattle.std.proofs.Common.{ℕ, zero, suc, ◌+◌, ◌<◌, ◌≤◌, ◌≡◌, ◌⊎◌, Bool, true, false, List, [], ◌∷◌, ◌++◌, length, Option, Some, None, IsSome, refl, sym, ap, subst, ◌∙◌, inl, inr, arith}
 use Rattle.std.specs.Option.{option_map, option_and_then}
-use Rattle.std.specs.Prelude.{slice_get}
 use Rattle.std.specs.Prelude as prelude
-use Rattle.lmn_base.specs.declared.functor.Functor.{Functor}
 use Rattle.lmn_base.specs.declared.guard.Cond.{Cond}
-use Rattle.lmn_heap.specs.Heap.{Heap, HeapAtom, HeapMem, top, within, waiting, gone, home_by, links_of, functor_of, arity_of, link_of, place_of, mem_place_of, home_of, parent_of, atoms_in, mems_in, rules_in, atoms_by, mems_by, rules_by, IsAtom, IsMem, IsInPlace, IsMemInPlace, In, Distinct, finished}
+use Rattle.lmn_heap.specs.Heap.{Heap, HeapAtom, HeapMem, top, within, waiting, gone, home_by, links_of, functor_of, arity_of, link_of, place_of, mem_place_of, home_of, atoms_in, mems_in, rules_in, atoms_by, mems_by, rules_by, IsMem, IsInPlace, IsMemInPlace, In, Distinct, finished}
 use Rattle.lmn_heap.specs.Heap as heap
-use Rattle.lmn_heap.specs.Sound.{Sound, Paired, Valid}
+use Rattle.lmn_heap.specs.Sound.{Paired, Valid, Sound}
 use Rattle.lmn_heap.specs.Conditions.{Ready}
 use Rattle.lmn_heap.proofs.ListLemmas.{in_left, in_right}
 use Rattle.lmn_heap.proofs.Trees.{in_either, nil_right}
@@ -26,7 +24,6 @@ use Rattle.lmn_parts.proofs.AnswerLaws.{answer_in}
 use Rattle.lmn_body.specs.declared.items.BodyItem.{BodyItem}
 use Rattle.lmn_body.specs.Tied.{partners, all_tied}
 use Rattle.lmn_body.specs.Items.{new_ports, old_ports, connectors}
-use Rattle.lmn_body.specs.Code.{making}
 use Rattle.lmn_body.specs.Running.{Registers, old_port, new_port, withouts, all_taken, Commits}
 use Rattle.lmn_body.specs.Names.{StandsPort, Names}
 use Rattle.lmn_body.specs.Added.{added_atoms, added_mems, added_rules, moved_mems, made_mems}
@@ -35,7 +32,7 @@ use Rattle.lmn_body.specs.Within.{membrane_images, IsCopyIn, FiresWithin}
 use Rattle.lmn_body.proofs.HeapTies.{SameItems, heap_fusion}
 use Rattle.lmn_body.proofs.Phases.{atoms_of_pairs, listed_some, place_home}
 use Rattle.lmn_body.proofs.Coding.{at_heap}
-use Rattle.lmn_body.specs.Made.{made_of, places_of, new_atoms, copies_of}
+use Rattle.lmn_body.specs.Made.{places_of, new_atoms, copies_of}
 use Rattle.lmn_body.proofs.BodyPorts.{heap_in, written_new, copied_new}
 use Rattle.lmn_body.proofs.Finishing.{within_of, in_place_within, in_place_listed, ready, names_left, stands_on}
 use Rattle.lmn_body.proofs.Committing.{in_withouts_of, in_withouts, EndsLive}
@@ -47,6 +44,7 @@ use Rattle.lmn_body.proofs.MakingParts.{GrownBy, making_grows, same_atoms_added,
 use Rattle.lmn_body.proofs.Removing.{Shrunk, InOneList, MemInOneList, all_taken_mems, shrunk_atoms, shrunk_mems, shrunk_after, taken_places, place_parent}
 use Rattle.lmn_body.proofs.Preparing.{Brought, AllPrepared}
 use Rattle.lmn_body.proofs.AddedLemmas.{comes_from, new_arrives, moved_arrives}
+use Rattle.lmn_body.specs.Code.{making}
 
 module _ (h : Heap) (valid : Valid h) (head : List HeadItem) (guard : List Cond) (body : List BodyItem) (n m : ℕ) (r : Registers) (rule : AtomRule head body n)
     (em : Embeds h head guard m r.head.images) (stand : IsMemInPlace h m) (c : Port → ℕ) (names : Names h c)
@@ -59,9 +57,6 @@ module _ (h : Heap) (valid : Valid h) (head : List HeadItem) (guard : List Cond)
 
   abbrev pub K : ℕ
   K = length (membranes_of head)
-
-  abbrev pub mk : List (ℕ × Functor)
-  mk = made_of r N body
 
   abbrev pub es : List (ℕ × ℕ)
   es = places_of r N 0 body

@@ -57,10 +57,6 @@ none_made s = record {
   root = refl;
 }
 
-is_none : (o : Option HeapMem) → (IsSome o → ⊥) → o ≡ None
-is_none None d = refl
-is_none (Some x) d = absurd (d refl)
-
 some_or_none : (o : Option HeapMem) → IsSome o ⊎ (o ≡ None)
 some_or_none None = inr refl
 some_or_none (Some x) = inl refl

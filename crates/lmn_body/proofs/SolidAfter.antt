@@ -5,7 +5,7 @@ use Rattle.std.specs.Option.{option_map}
 use Rattle.lmn_base.specs.declared.functor.Functor.{Functor}
 use Rattle.lmn_base.specs.declared.solid.SolidAtom.{SolidAtom}
 use Rattle.lmn_base.specs.declared.solid.Region.TheViews.{roll-Region}
-use Rattle.lmn_heap.specs.Heap.{Heap, HeapAtom, functor_of, atoms_in, mems_in, rules_in, rules_by, IsInPlace, IsMemInPlace, finished}
+use Rattle.lmn_heap.specs.Heap.{Heap, HeapAtom, functor_of, atoms_in, rules_in}
 use Rattle.lmn_heap.specs.Heap as heap
 use Rattle.lmn_heap.specs.Sound.{Forest, bare, mem, flat}
 use Rattle.lmn_heap.specs.Solid.{numbered, atom_of, atoms_of, regions_of}

@@ -4,7 +4,7 @@ use Rattle.std.proofs.lemmas.Bool.{cases_eq, eq-eqb}
 use Rattle.std.specs.Option.{option_map, option_and_then}
 use Rattle.lmn_base.specs.declared.guard.Cond.{Cond}
 use Rattle.lmn_heap.specs.Heap as heap
-use Rattle.lmn_heap.specs.Heap.{Heap, HeapAtom, HeapMem, Place, within, waiting, gone, links_of, marks_of, functor_of, arity_of, place_of, mem_place_of, parent_of, home_of, atoms_in, mems_in, atoms_by, mems_by, IsMem, IsMemInPlace, In, Distinct, placed, placed_mem, moved_all, taken_mem}
+use Rattle.lmn_heap.specs.Heap.{Heap, HeapAtom, HeapMem, waiting, gone, functor_of, arity_of, mem_place_of, parent_of, atoms_by, mems_by, IsMem, IsMemInPlace, In, Distinct, placed, placed_mem, moved_all, taken_mem}
 use Rattle.lmn_heap.specs.Sound.{Sound, Listed, Paired, Shaped, Valid}
 use Rattle.lmn_heap.proofs.ListLemmas.{each_in}
 use Rattle.lmn_heap.proofs.Trees.{in_either}

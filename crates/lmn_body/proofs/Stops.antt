@@ -25,9 +25,6 @@ same_spare : (o : Option HeapMem) → (k : ℕ) × (o ≡ option_map (mem_with_s
 same_spare None = (0, refl)
 same_spare (Some x) = (x.spare, refl)
 
-some_none : {X : Type 0} (x : X) (o : Option X) → o ≡ None → o ≡ Some x → ⊥
-some_none x o e f = let g : None ≡ Some x = sym e ∙ f in absurd (cc)
-
 none_of : (k : ℕ) (o : Option HeapMem) → None ≡ option_map (mem_with_spare k) o → o ≡ None
 none_of k None e = refl
 none_of k (Some x) e = absurd (cc)

@@ -7,8 +7,8 @@ use Rattle.lmn_base.specs.declared.guard.Cond.{Cond}
 use Rattle.lmn_base.specs.Solids.{connector}
 use Rattle.lmn_heap.specs.Heap as heap
 use Rattle.lmn_heap.specs.Conditions.{Ready}
-use Rattle.lmn_heap.specs.Heap.{Heap, HeapAtom, HeapMem, top, within, gone, mem_place_of, mems_in, mems_by, functor_of, IsMem, IsInPlace, IsMemInPlace, In, Distinct, finished}
-use Rattle.lmn_heap.specs.Sound.{Sound, Forest, flat, Valid}
+use Rattle.lmn_heap.specs.Heap.{Heap, HeapAtom, HeapMem, top, within, gone, mem_place_of, mems_in, functor_of, IsMem, IsInPlace, IsMemInPlace, In, Distinct, finished}
+use Rattle.lmn_heap.specs.Sound.{Forest, flat, Valid, Sound}
 use Rattle.lmn_heap.proofs.ListLemmas.{in_left, in_right}
 use Rattle.lmn_heap.proofs.Trees.{in_either}
 use Rattle.lmn_heap.proofs.Finish.{finish_valid}
@@ -18,7 +18,6 @@ use Rattle.lmn_solid.specs.Embeddings.{Embeds, HasMembrane, index_of}
 use Rattle.lmn_splice.specs.Ports.{Port}
 use Rattle.lmn_body.specs.declared.items.BodyItem.{BodyItem}
 use Rattle.lmn_body.specs.declared.items.BodyItem.TheVariants.{Atom, Connector, Copy, Bound, Membrane, Rest, Rule, Rules}
-use Rattle.lmn_body.specs.Code.{making}
 use Rattle.lmn_body.specs.Running.{Registers, withouts, Commits}
 use Rattle.lmn_body.specs.Names.{Names}
 use Rattle.lmn_body.specs.Added.{if_inside, added_mems, moved_mems, made_mems}
@@ -33,6 +32,7 @@ use Rattle.lmn_body.proofs.Preparing.{AllPrepared}
 use Rattle.lmn_heap.proofs.Heights.{mem_of_list}
 use Rattle.lmn_heap.proofs.Ranks.{tree, tree_forms, tree_once, tree_all}
 use Rattle.lmn_body.proofs.Nesting as nesting
+use Rattle.lmn_body.specs.Code.{making}
 
 -- Membranes that are added
 

@@ -1,5 +1,5 @@
 -- What a firing leaves in the lists of each membrane, with membranes and contexts.
-use Rattle.std.specs.Prelude.{ℕ, ◌+◌, ◌≡◌, ◌≢◌, ◌==◌, if◌then◌else◌, List, [], ◌∷◌, ◌++◌, length, map, Some}
+use Rattle.std.specs.Prelude.{ℕ, ◌+◌, ◌≡◌, ◌==◌, if◌then◌else◌, List, [], ◌∷◌, ◌++◌, length, map, Some, ◌≢◌}
 use Rattle.lmn_base.specs.declared.solid.SolidAtom.{SolidAtom}
 use Rattle.lmn_heap.specs.Heap.{Heap, In, IsInPlace, functor_of, link_of, atoms_in, mems_in, rules_in}
 use Rattle.lmn_base.specs.declared.functor.Functor.{Functor}

@@ -94,9 +94,6 @@ abbrev pub NoRules : Level → Type 0
 NoRules l = own_rules l ≡ no_rule
 
 module _ (h : Heap) (r : Reading) (link_of' : ℕ → ℕ) (typed_of : Name → Rooted) (Q : Level → ℕ → List ℕ → Forest → Forest → Type 0) where
-  abbrev With : Assignment → Level → ℕ → List ℕ → Forest → Forest → Type 0
-  With t l m xs i i' = Q l m xs i i' × Agrees h r t l m xs i i'
-
   -- what the contexts in a level stand for, by their names
   pub record LevelContents (l : Level) (bs : List ℕ) (ps : List (List ℕ)) (ms ns xs rest : List ℕ) (f f' : Forest) : Type 0 where
     pub held : List (Name × (List SolidAtom × Regions))

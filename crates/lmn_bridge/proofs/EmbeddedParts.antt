@@ -1,5 +1,5 @@
 -- The parts of an embedded head are ground.
-use Rattle.std.proofs.Common.{ℕ, ◌≡◌, Option, Some, refl, sym, ap, ◌∙◌}
+use Rattle.std.proofs.Common.{ℕ, Option, Some, refl, sym, ap, ◌∙◌, ◌≡◌}
 use Rattle.lmn_heap.specs.Heap.{link_of}
 use Rattle.lmn_solid.specs.Heads.{atoms_of}
 use Rattle.lmn_bridge.specs.Parts.{EmbeddedPartsAreApart, EmbeddedPartsAreGround}

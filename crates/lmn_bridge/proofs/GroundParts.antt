@@ -1,12 +1,12 @@
 -- A part that stands whole in a membrane is ground in the calculus.
-use Rattle.std.proofs.Common.{ℕ, zero, suc, ◌≡◌, ◌≢◌, ◌<◌, ◌≤◌, List, [], ◌∷◌, map, Option, Some, None, refl, sym, ap, subst, ◌∙◌, inl, inr, arith}
+use Rattle.std.proofs.Common.{ℕ, zero, suc, ◌≡◌, ◌<◌, ◌≤◌, List, [], ◌∷◌, map, Option, Some, None, refl, sym, ap, subst, ◌∙◌, inl, inr, arith, ◌≢◌}
 use Rattle.std.specs.Prelude.{IsSome, slice_get}
 use Rattle.std.proofs.lemmas.Bool.{cases_eq}
 use Rattle.std.proofs.lemmas.Option.{same_Some}
 use Rattle.lmn_base.specs.Graphs.{Reached as ReachedOnHeap, at_root, across as across_port}
-use Rattle.lmn_heap.specs.Heap.{Heap, IsAtom, arity_of, link_of}
+use Rattle.lmn_heap.specs.Heap.{Heap, arity_of, link_of, IsAtom}
 use Rattle.lmn_heap.specs.Graphs.{atom_map}
-use Rattle.lmn_heap.specs.Lists.{Each, In}
+use Rattle.lmn_heap.specs.Lists.{In, Each}
 use Rattle.lmn_heap.specs.Sound.{Valid}
 use Rattle.lmn_congruence.specs.Links.{places}
 use Rattle.lmn_congruence.specs.Orders.{Among, at_head, further}
@@ -14,13 +14,13 @@ use Rattle.lmn_congruence.specs.Process.{Process, pair, occurrences}
 use Rattle.lmn_congruence.specs.Regions.{SolidAtom, atom_process}
 use Rattle.lmn_congruence.specs.Rules.{Label}
 use Rattle.lmn_reduction.specs.Parts.{Rooted, OnlyAtoms, IsGround, Reached, the_root, across, atoms_of}
-use Rattle.lmn_heap.specs.Solid.{IsNaming}
 use Rattle.lmn_bridge.specs.HeapRegions.{Reading}
 use Rattle.lmn_bridge.proofs.Pieces.{atom_at}
 use Rattle.lmn_bridge.proofs.Counting.{weigh, times_at, ends_among, within_arity, apart_none}
 use Rattle.lmn_bridge.proofs.Forests.{none_of, some_of, once_of}
 use Rattle.lmn_bridge.proofs.Ports.{port_named, named_port}
-use Rattle.lmn_bridge.proofs.PartLists.{PartList, is_port, all_of_part}
+use Rattle.lmn_bridge.proofs.PartLists.{is_port, all_of_part, PartList}
+use Rattle.lmn_heap.specs.Solid.{IsNaming}
 
 -- atoms side by side: a first one and others
 abbrev pub side_by_side : SolidAtom → List SolidAtom → Process
@@ -80,11 +80,6 @@ pub in_among : (xs : List ℕ) (x : ℕ) → Among x xs → In x xs
 in_among [] y k = elim k [ ]
 in_among (x ∷ xs) y at_head = inl refl
 in_among (x ∷ xs) y (further k) = inr (in_among xs y k)
-
-pub mapped_among : {B : Type 0} (f : ℕ → B) (xs : List ℕ) (x : ℕ) → In x xs → Among (f x) (map f xs)
-mapped_among f [] x k = absurd k
-mapped_among f (y ∷ xs) x (inl e) = subst (λ z. Among (f z) (f y ∷ map f xs)) e at_head
-mapped_among f (y ∷ xs) x (inr k) = further (mapped_among f xs x k)
 
 module _ (h : Heap) (r : Reading) (v : Valid h) where
   pub occurs_beside : (y x : ℕ) (xs : List ℕ) → occurrences y (side_by_side (atom_at h r x) (map (atom_at h r) xs)) ≡ weigh (times_at h r y) (x ∷ xs)

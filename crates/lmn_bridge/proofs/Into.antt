@@ -3,16 +3,15 @@ use Rattle.std.proofs.Common.{ℕ, zero, suc, ◌≡◌, ◌≢◌, ◌+◌, ◌
 use Rattle.std.specs.Prelude.{IsSome, slice_get}
 use Rattle.std.proofs.lemmas.Bool.{cases_eq}
 use Rattle.std.proofs.lemmas.Option.{same_Some}
-use Rattle.lmn_base.specs.declared.guard.Cond.{Cond}
 use Rattle.lmn_guards.specs.declared.plan.TypeKind.{TypeKind}
 use Rattle.lmn_heap.specs.Heap.{Heap, HeapAtom, IsAtom, atoms_in, mems_in, rules_in, arity_of, link_of}
 use Rattle.lmn_heap.specs.Lists.{Each, In, Distinct}
-use Rattle.lmn_heap.specs.Sound.{Forest, bare, mem, flat, Forms, Valid}
+use Rattle.lmn_heap.specs.Sound.{Forest, bare, mem, flat, Valid, Forms}
 use Rattle.lmn_heap.specs.Solid.{IsNaming, numbered}
 use Rattle.lmn_heap.proofs.Trees.{nil_right}
 use Rattle.lmn_solid.specs.declared.items.HeadItem.{HeadItem}
 use Rattle.lmn_solid.specs.Heads.{HeadAtom, HeadTyped, HeadMembrane, Port, atoms_of, typed_contexts_of, membranes_of, at_atoms}
-use Rattle.lmn_solid.specs.Embeddings.{Images, Embeds, HasLink, HasAtom, HasTyped, HasMembrane}
+use Rattle.lmn_solid.specs.Embeddings.{Images, HasLink, HasAtom, HasTyped, HasMembrane, Embeds}
 use Rattle.lmn_congruence.specs.Links.{one_if_same, places}
 use Rattle.lmn_congruence.specs.LinkedRules.{level_occurrences}
 use Rattle.lmn_congruence.specs.Process.{Free}
@@ -20,8 +19,7 @@ use Rattle.lmn_congruence.specs.Regions.{Region, region, no_region, region_proce
 use Rattle.lmn_congruence.specs.Rules as tree
 use Rattle.lmn_congruence.specs.Translation.{label_of, name_of}
 use Rattle.lmn_reduction.specs.Assignments.{Assignment}
-use Rattle.lmn_reduction.specs.Parts.{Rooted}
-use Rattle.lmn_adequacy.specs.Accepted.{EachLevel, EachOf, EachOnce, NoConnectorLeaf, leaves_of, membranes_of as inner_levels, contexts_in, rule_contexts_in}
+use Rattle.lmn_adequacy.specs.Accepted.{EachOf, EachOnce, membranes_of as inner_levels, contexts_in, rule_contexts_in, EachLevel, NoConnectorLeaf, leaves_of}
 use Rattle.lmn_adequacy.specs.Embedding.{Plain, LevelImages, IsPart}
 use Rattle.lmn_adequacy.specs.Next.{Contents, assignment_of}
 use Rattle.lmn_adequacy.proofs.InOrder.{contents_plain}
@@ -34,8 +32,7 @@ use Rattle.lmn_bridge.proofs.Lying.{level_images_of}
 use Rattle.lmn_bridge.proofs.Walking.{Walk, walk_from, run}
 use Rattle.lmn_bridge.proofs.Forests.{forms_tops, forms_grown, once_of, tree_once, each_tree, find_in}
 use Rattle.lmn_bridge.proofs.Ports.{find_place, port_named}
-use Rattle.lmn_bridge.specs.Premises.{IsRead}
-use Rattle.lmn_bridge.specs.Parts.{IsGroundPart, HasPart}
+use Rattle.lmn_bridge.specs.Parts.{HasPart, IsGroundPart}
 use Rattle.lmn_bridge.proofs.EmbeddedParts.{embedded_parts_are_apart}
 use Rattle.lmn_bridge.proofs.PartLists.{is_port}
 use Rattle.lmn_bridge.proofs.PartLaws.{ground_parts_stand_whole}
@@ -48,6 +45,9 @@ use Rattle.lmn_bridge.proofs.Contexts.{Few, NoRules, level_contents, look, looke
 use Rattle.lmn_bridge.specs.Numbers.{numbers_left}
 use Rattle.lmn_bridge.proofs.Numbering.{level_numbers, run_reads}
 use Rattle.lmn_bridge.proofs.Occurrences.{first_name, first_found, times_are, times_parts, port_counts, typed_counts, two_typed}
+use Rattle.lmn_base.specs.declared.guard.Cond.{Cond}
+use Rattle.lmn_bridge.specs.Premises.{IsRead}
+use Rattle.lmn_reduction.specs.Parts.{Rooted}
 
 -- ---- links of an atom
 

@@ -84,9 +84,6 @@ module _ (h : Heap) (v : Valid h) (r : Reading) (f : Images) (part_at : ℕ → 
   abbrev Told : Level → ℕ → List ℕ → Forest → Forest → Type 0
   Told l m xs i i' = Known h r f part_at t.link_of t.typed_of items l m xs i i' × Agrees h r t l m xs i i'
 
-  abbrev Link : ℕ → ℕ → ℕ
-  Link x = times_at h r (t.link_of x)
-
   abbrev all : ℕ → ℕ → ℕ
   all b a = one_if_same b a
 

@@ -20,7 +20,7 @@ use Rattle.lmn_base.specs.declared.level.Level.{Level}
 use Rattle.lmn_base.specs.declared.refusal.Pos.{Pos}
 use Rattle.lmn_base.specs.declared.rule.RuleTree.{RuleTree}
 use Rattle.lmn_base.specs.Items as base
-use Rattle.lmn_base.specs.Items.{used, leaf_item, expression_step, expression_items, condition_items}
+use Rattle.lmn_base.specs.Items.{used, leaf_item, expression_step, expression_items}
 use Rattle.lmn_base.specs.Levels.{leaves_of}
 use Rattle.std.proofs.lemmas.Option.{same_Some}
 use Rattle.lmn_base.specs.Names.{IsNames, HasNames, condition_names, expression_names}
@@ -173,9 +173,6 @@ integer_ground (an_integer {n = n} {x = x}) = one_ground (tree.integer n) x
 
 module _ (names : List tree.Name) (heads : List tree.Name) (t : Assignment) (top : Level) (x : ℕ) (here : Among (name_of names x) heads)
     (in_top : (y : ℕ) → HasNames names (y ∷ []) → Among (name_of names y) heads → in_head top y ≡ true) where
-  abbrev G : Rooted
-  G = t.typed_of (name_of names x)
-
   value_context : {p : tree.Name} {n : ℤ} → Value t (tree.value_of p) n → IsInteger n (t.typed_of p)
   value_context (of_context i) = i
 

@@ -4,7 +4,6 @@ use Rattle.std.specs.Prelude.{slice_get}
 use Rattle.std.proofs.lemmas.Bool.{cases_eq}
 use Rattle.lmn_base.specs.declared.level.Leaf.{Leaf}
 use Rattle.lmn_base.specs.declared.level.Leaf.TheVariants as leaf
-use Rattle.lmn_base.specs.declared.level.CtxUse.{CtxUse}
 use Rattle.lmn_base.specs.declared.functor.Label.{Label}
 use Rattle.lmn_base.specs.declared.functor.Label.TheVariants.{Name as ByName, Int as ByInt}
 use Rattle.lmn_guards.specs.declared.plan.TypeKind.{TypeKind}
@@ -59,11 +58,6 @@ only_atom names l ys ls o = elim (atom_cases names l ys) [
   | inl e ↦ (e, subst (λ z. NoConnectorLeaf (z ∷ ls)) e o)
   | inr e ↦ absurd (subst (λ z. NoConnectorLeaf (z ∷ ls)) e.2 o)
 ]
-
--- no names, no uses
-pub no_use : (cs : List CtxUse) (names : List tree.Name) → names_of names cs ≡ [] → cs ≡ []
-no_use [] names e = refl
-no_use (c ∷ cs) names e = absurd (cc)
 
 -- ---- what holds of each item
 

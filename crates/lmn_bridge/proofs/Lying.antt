@@ -81,11 +81,6 @@ pub each_without : (b : ℕ) (xs cs : List ℕ) → Each (λ c. b ≢ c) cs → 
 each_without b xs [] u w = tt
 each_without b xs (c ∷ cs) u w = (in_without b c xs w.0 (λ q. u.0 (sym q)), each_without b xs cs u.1 w.1)
 
--- what holds of two lists holds of the first
-pub each_first : (P : ℕ → Type 0) (bs cs : List ℕ) → Each P (bs ++ cs) → Each P bs
-each_first P [] cs e = tt
-each_first P (b ∷ bs) cs e = (e.0, each_first P bs cs e.1)
-
 -- a tree of a forest is a membrane of its region
 pub taken_region : (h : Heap) (r : Reading) {n m : ℕ} {i f f' : Forest} → TakenTree n m i f f' → TakenRegion n (region_at h r m i) (regions_at h r f) (regions_at h r f')
 taken_region h r tree_first = region_first

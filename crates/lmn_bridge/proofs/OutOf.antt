@@ -2,9 +2,7 @@
 use Rattle.std.proofs.Common.{ℕ, zero, suc, ◌≡◌, ◌≢◌, ◌+◌, ◌<◌, ◌≤◌, List, [], ◌∷◌, map, length, Option, Some, None, refl, sym, ap, subst, ◌∙◌, inl, inr, arith}
 use Rattle.std.specs.Prelude.{slice_get, slice_index_or, IsSome}
 use Rattle.std.proofs.lemmas.List.{length-map}
-use Rattle.lmn_base.specs.declared.functor.Functor.{Functor}
 use Rattle.lmn_base.specs.declared.guard.Cond.{Cond}
-use Rattle.lmn_base.specs.Names.{IsNames, HasNames, label_names}
 use Rattle.lmn_guards.specs.declared.plan.TypeKind.{TypeKind}
 use Rattle.lmn_heap.specs.Heap.{Heap, IsAtom, atoms_in, mems_in, rules_in, arity_of, link_of, functor_of}
 use Rattle.lmn_heap.specs.Lists.{In, Distinct}
@@ -44,12 +42,14 @@ use Rattle.lmn_bridge.proofs.Functors.{functor_read}
 use Rattle.lmn_bridge.proofs.PartsOut.{flattened}
 use Rattle.lmn_bridge.proofs.PartsLaid.{held_part, in_either}
 use Rattle.lmn_bridge.proofs.PartLaws.{ground_parts_stand_whole}
-use Rattle.lmn_bridge.specs.Premises.{IsRead}
 use Rattle.lmn_bridge.specs.Parts.{IsGroundPart, HasPart}
 use Rattle.lmn_bridge.proofs.Back.{Reads, walk_level, Stood}
 use Rattle.lmn_bridge.proofs.Lengths.{level_length}
 use Rattle.lmn_bridge.proofs.Numbering.{level_numbers}
 use Rattle.lmn_bridge.specs.Numbers.{numbers_left}
+use Rattle.lmn_base.specs.declared.functor.Functor.{Functor}
+use Rattle.lmn_base.specs.Names.{HasNames, IsNames, label_names}
+use Rattle.lmn_bridge.specs.Premises.{IsRead}
 
 -- ---- lists by their indices
 
@@ -203,10 +203,6 @@ module _ (h : Heap) (v : Valid h) (r : Reading) (naming : IsNaming h r.name) (ki
       let heavy = level_weighs h (λ a. 0) (one_if_same b) found.lying in
       let u = once_of b (flat inner) once.1 in
       omega (arith, heavy, u, weigh_nothing found.atoms, weigh_nothing (flattened found.parts), weigh_nothing found.left_atoms, weigh_nothing (atoms_in h m), weigh_nothing (forest_atoms h inner), weigh_nothing (forest_atoms h found.left_forest), weigh_same b found.membranes, weigh_same b (flat inner))
-
-  typed_lying : (n : ℕ) (u : HeadTyped) → HasTyped items n u → TypedLies h r images_at part_at t.link_of t.typed_of items n u
-  typed_lying n u k = let z : 0 + n ≡ n = omega arith in subst (λ z. TypedLies h r images_at part_at t.link_of t.typed_of items z u) z
-      (walk_typed (AtomLies h r images_at part_at t.link_of t.typed_of items) (TypedLies h r images_at part_at t.link_of t.typed_of items) (MembraneLies h r images_at part_at t.link_of t.typed_of items) items 0 0 1 stood.walk n u k)
 
   module _ (read : IsRead h r) (names : IsNames r.names) (heap_names : (a : ℕ) (g : Functor) → functor_of h a ≡ Some g → HasNames r.names (label_names g.label))
       (head_names : (n : ℕ) (a : HeadAtom) → HasAtom (flat_items kind 0 1 hd) n a → HasNames r.names (label_names a.functor.label))

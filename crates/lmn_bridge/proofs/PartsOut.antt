@@ -124,12 +124,6 @@ merged_first (from_first m) a (inl e) = inl e
 merged_first (from_first m) a (inr k) = inr (merged_first m a k)
 merged_first (from_second m) a k = inr (merged_first m a k)
 
--- what is taken has no repetition
-pub merged_first_once : {xs ys zs : List ℕ} → Merged xs ys zs → Distinct zs → Distinct xs
-merged_first_once merged_none d = tt
-merged_first_once (from_first {x = x} {ys = ys} {xs = zs} m) d = (each_of (λ y. x ≢ y) ys (λ a k. each_in (λ y. x ≢ y) zs a d.0 (merged_first m a k)), merged_first_once m d.1)
-merged_first_once (from_second m) d = merged_first_once m d.1
-
 -- ---- two lists of parts
 
 -- the atoms of two lists of parts in a row

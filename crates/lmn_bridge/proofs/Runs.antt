@@ -70,11 +70,6 @@ get_some [] i l = absurd (omega (arith, l))
 get_some (x ∷ xs) zero l = (x, refl)
 get_some (x ∷ xs) (suc i) l = get_some xs i (omega (arith, l))
 
--- in an empty list nothing is found
-pub no_element : {A : Type 0} (xs : List A) (i : ℕ) (a : A) → xs ≡ [] → slice_get xs i ≡ Some a → ⊥
-no_element [] i a e f = absurd (cc)
-no_element (x ∷ xs) i a e f = absurd (cc)
-
 -- ---- lists in a row
 
 -- what is in lists in a row is in one of them

@@ -90,11 +90,6 @@ pub shuffle_within : {A B : Type 0} {R S : A → B → Type 0} {as' : List A} {b
 shuffle_within none h = none
 shuffle_within (more {x = a} {y = b} e s p) h = more (h a b at_head e) (shuffle_within s (λ c d k. h c d (further k))) p
 
-places_among : (x : ℕ) (xs : List ℕ) → Among x xs → 1 ≤ places x xs
-places_among x [] k = elim k [ ]
-places_among x (y ∷ xs) at_head = omega (arith, same_one x x refl)
-places_among x (y ∷ xs) (further k) = omega (arith, places_among x xs k)
-
 among_links : (f : ℕ → ℕ) (x : ℕ) (xs : List ℕ) → Among x xs → Among (f x) (map f xs)
 among_links f x [] k = elim k [ ]
 among_links f x (y ∷ xs) at_head = at_head

@@ -10,7 +10,7 @@ use Rattle.lmn_base.specs.Names.{IsNames, HasNames, label_names}
 use Rattle.lmn_heap.specs.Heap.{Heap, IsAtom, arity_of, link_of, functor_of}
 use Rattle.lmn_heap.specs.Graphs.{atom_map}
 use Rattle.lmn_heap.specs.Lists.{Each, In}
-use Rattle.lmn_heap.specs.Solid.{IsNaming, numbered}
+use Rattle.lmn_heap.specs.Solid.{numbered, IsNaming}
 use Rattle.lmn_heap.specs.Sound.{Valid}
 use Rattle.lmn_heap.proofs.ListLemmas.{apart_test, each_in}
 use Rattle.lmn_solid.specs.Embeddings.{index_of}

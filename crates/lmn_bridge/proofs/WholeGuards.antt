@@ -190,9 +190,6 @@ module _ (h : Heap) (v : Valid h) (names : List tree.Name) (is_names : IsNames n
   context_is (expr.Ctx u) q w = (u, refl, (let y = sym (context_tree names u) ∙ w in cc))
   context_is (expr.Op' o p l i r) q w = absurd (let y = sym (operation_tree names o p l i r) ∙ w in cc)
 
-  abbrev In' : List tree.Name → tree.Name → Type 0
-  In' done p = Among p heads ⊎ Among p done
-
   value_there : (s : Meaning) (done : List tree.Name) → Parts s.part_of → BoundRight s.bound_to → BoundAll done s.bound_to → (e : Expr) (n : ℤ) → All (λ i. i < length names) (expression_names e) →
       ((q : tree.Name) → UsedIn q (expression_of names e) → Among q heads ⊎ Among q done) → Value t (expression_of names e) n → value (integer_named h s) e ≡ Some n
   value_there s done f b c e n k u w =

@@ -25,12 +25,6 @@ drop_get k [] x e = absurd (cc)
 drop_get zero (y ∷ xs) x e = let t : y ≡ x = cc in ap (λ w. w ∷ xs) t
 drop_get (suc k) (y ∷ xs) x e = let t : suc (k + 1) ≡ suc k + 1 = omega arith in drop_get k xs x e ∙ ap (λ n. x ∷ drop n (y ∷ xs)) t
 
-pub drop_none : {A : Type 0} (xs : List A) (i : ℕ) → length xs ≤ i → drop i xs ≡ []
-drop_none [] zero l = refl
-drop_none [] (suc i) l = refl
-drop_none (x ∷ xs) zero l = absurd (omega arith)
-drop_none (x ∷ xs) (suc i) l = drop_none xs i (omega arith)
-
 take_suc : {A : Type 0} (k : ℕ) (xs : List A) (x : A) → slice_get xs k ≡ Some x → take (suc k) xs ≡ take k xs ++ x ∷ []
 take_suc k [] x e = absurd (cc)
 take_suc zero (y ∷ xs) x e = let t : y ≡ x = cc in ap (λ w. w ∷ []) t
@@ -38,12 +32,6 @@ take_suc (suc k) (y ∷ xs) x e = ap (λ ys. y ∷ ys) (take_suc k xs x e)
 
 pub take_get : {A : Type 0} (k : ℕ) (xs : List A) (x : A) → slice_get xs k ≡ Some x → take (k + 1) xs ≡ take k xs ++ x ∷ []
 take_get k xs x e = let t : k + 1 ≡ suc k = omega arith in ap (λ n. take n xs) t ∙ take_suc k xs x e
-
-pub take_over : {A : Type 0} (k : ℕ) (xs : List A) → length xs ≤ k → take k xs ≡ xs
-take_over zero [] l = refl
-take_over (suc k) [] l = refl
-take_over zero (x ∷ xs) l = absurd (omega arith)
-take_over (suc k) (x ∷ xs) l = ap (λ ys. x ∷ ys) (take_over k xs (omega arith))
 
 pub get_last : {A : Type 0} (xs : List A) (y : A) → slice_get (xs ++ y ∷ []) (length xs) ≡ Some y
 get_last [] y = refl

@@ -59,9 +59,6 @@ module _ {A M : Type 0} (atom : A → ℕ) (membrane : M → ℕ) (g : SetRegist
       let step = does r u runs.0 in
       (runs.2 t step, λ v c. q.1 v (subst (λ js. Commits r js s v) (sym e) (t, step, c)))
 
-  pub done_all : (whole rest : List Instr) (s0 s : Heap) → rest ≡ [] → Done whole rest s0 s → (r : Registers) → Agrees atom membrane g r → Runs r whole s0 → Commits r whole s0 s
-  done_all whole rest s0 s e d r u w = (d r u w).1 s (subst (λ js. Commits r js s s) (sym e) refl)
-
   pub can_now : (whole rest is : List Instr) (i : Instr) (s0 s : Heap) → rest ≡ i ∷ is → Done whole rest s0 s → (w : (r : Registers) × Agrees atom membrane g r × Runs r whole s0) →
       (r : Registers) × Agrees atom membrane g r × Can r i s × Stands r i s
   can_now whole rest is i s0 s e d w =

@@ -13,7 +13,7 @@ use Rattle.lmn_body.specs.Running.{Registers, IsCopied, Makes, Prepares, integer
 use Rattle.lmn_registers.specs.declared.registers.PartCopy.{PartCopy}
 use Rattle.lmn_registers.specs.declared.registers.SetRegisters.{SetRegisters}
 use Rattle.lmn_commit.specs.Registers.{Agrees, AreHeld, AreSized, Grows, HasCopies}
-use Rattle.lmn_commit.specs.Preparing.{Uses, AllUse, Reads, InOrder, needed, needed_by, atoms_made, membranes_made, copies_made, AtomIsMade, MembraneIsMade, CopyIsMade, OnlyMakes, RoomIsMade, IsMade, Prepared, CanCopy}
+use Rattle.lmn_commit.specs.Preparing.{Uses, AllUse, Reads, InOrder, needed, needed_by, atoms_made, membranes_made, copies_made, CopyIsMade, OnlyMakes, RoomIsMade, IsMade, Prepared, CanCopy, AtomIsMade, MembraneIsMade}
 use Rattle.lmn_commit.proofs.Codes.{get_last, get_front, get_either, length_one, all_use_more, use_one_more, reads_uses, needed_more}
 use Rattle.lmn_commit.proofs.Waiting.{makes_nothing, makes_on, still_copied}
 

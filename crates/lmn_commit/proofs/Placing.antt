@@ -1,11 +1,10 @@
 -- Atoms of the line that are placed in a membrane, one after the other.
-use Rattle.std.proofs.Common.{ℕ, zero, suc, ◌≡◌, ◌<◌, ◌≤◌, ◌+◌, List, [], ◌∷◌, ◌++◌, map, Option, Some, None, refl, arith, ap, sym, subst, length, drop, ◌∙◌}
+use Rattle.std.proofs.Common.{ℕ, zero, suc, ◌≡◌, ◌<◌, ◌+◌, List, [], ◌∷◌, ◌++◌, map, Option, Some, None, refl, arith, ap, sym, subst, length, drop, ◌∙◌}
 use Rattle.std.proofs.lemmas.Bool.{eq-eqb}
 use Rattle.std.specs.Option.{option_map}
 use Rattle.lmn_heap.specs.Heap.{Heap, HeapMem, StandsAt, IsMemInPlace, from, after, placed, mem_with_atoms}
 use Rattle.lmn_heap.proofs.Listing.{alter_keeps}
 use Rattle.lmn_body.specs.Running.{all_placed}
-use Rattle.lmn_commit.proofs.Codes.{drop_none}
 
 after_first : (a : ℕ) (xs ys : List ℕ) → xs ≡ a ∷ ys → after a xs ≡ ys
 after_first a xs ys e = ap (after a) e ∙ rw (eq-eqb a a refl) refl
@@ -50,6 +49,3 @@ still_in_place s t m a n e w = subst (λ u. IsMemInPlace u n) (sym e) (subst Sta
     on : (o : Option HeapMem) → option_map (λ x. x.place) (option_map (mem_with_atoms (λ xs. xs ++ a ∷ [])) o) ≡ option_map (λ x. x.place) o
     on None = refl
     on (Some x) = refl
-
-pub all_are_placed : (m : ℕ) (h s : Heap) (i : ℕ) (atoms : List ℕ) → length atoms ≤ i → all_placed s (pairs m (drop i atoms)) ≡ all_placed h (pairs m atoms) → s ≡ all_placed h (pairs m atoms)
-all_are_placed m h s i atoms l e = sym (ap (λ xs. all_placed s (pairs m xs)) (drop_none atoms i l)) ∙ e

@@ -178,10 +178,6 @@ code_needs r rules head body n x =
 
 -- Parts stand whole until they are taken
 
-some_place : (o : Option HeapAtom) → IsSome (option_and_then (λ x. home_by x.place) o) → IsSome o
-some_place None e = e
-some_place (Some x) e = refl
-
 -- What is in place has all its ports joined, and so are the roots of these parts.
 record Joined (r : Registers) (gs : List ℕ) (s : Heap) : Type 0 where
   pub full : (a i : ℕ) → IsInPlace s a → i < arity_of s a → IsSome (link_of s a i)

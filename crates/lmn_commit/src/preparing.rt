@@ -1,6 +1,6 @@
 //! Makes all that the code of a body makes.
 ghost use Rattle.std.specs.Prelude.{◌≡◌, ◌<◌, ◌≤◌, ◌+◌, ℕ, [], length, take, slice_get, Some, OnOk, OnErr};
-ghost use Rattle.lmn_heap.specs.Heap.{IsMem, rules_in, spare_of};
+ghost use Rattle.lmn_heap.specs.Heap.{IsMem, rules_in};
 ghost use Rattle.lmn_heap.specs.Sound.{Valid};
 ghost use Rattle.lmn_body.specs.Running.{Registers};
 ghost use Rattle.lmn_body.specs.Stopping.{SameButSpares};

@@ -25,7 +25,7 @@ use Rattle.lmn_guards.proofs.AcceptedLemmas.{in_order}
 use Rattle.lmn_solid.specs.Guards.{typed_number}
 use Rattle.lmn_solid.specs.Heads.{HeadTyped, HeadMembrane, typed_contexts_of, membranes_of}
 use Rattle.lmn_solid.specs.Embeddings.{HasTyped, HasMembrane}
-use Rattle.lmn_solid.proofs.HeadTrees.{Head, head_at, head_uses, same_uses, flat_items, flat_membranes}
+use Rattle.lmn_solid.proofs.HeadTrees.{head_at, same_uses, flat_items, flat_membranes}
 use Rattle.lmn_solid.proofs.HeadTrees as trees
 use Rattle.lmn_splice.specs.Splice.{In, Distinct, often}
 use Rattle.lmn_splice.proofs.ClassLemmas.{one_same}

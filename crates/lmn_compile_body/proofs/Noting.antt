@@ -1,12 +1,11 @@
 -- Counts of links, item by item.
-use Rattle.std.proofs.Common.{ℕ, zero, suc, ◌≡◌, ◌<◌, ◌+◌, List, [], ◌∷◌, ◌++◌, refl, arith, ap, sym, subst, length, get_or, drop, min, ◌∙◌, map}
+use Rattle.std.proofs.Common.{ℕ, zero, suc, ◌≡◌, ◌<◌, ◌+◌, List, [], ◌∷◌, ◌++◌, refl, arith, ap, sym, length, get_or, drop, min, ◌∙◌, map}
 use Rattle.std.specs.Prelude.{◌==◌, if◌then◌else◌}
 use Rattle.lmn_base.specs.declared.functor.Functor.{Functor}
 use Rattle.lmn_guards.specs.declared.plan.TypeKind.{TypeKind}
 use Rattle.lmn_solid.specs.declared.items.HeadItem.{HeadItem}
 use Rattle.lmn_solid.specs.declared.items.HeadItem.TheVariants.{Atom, Typed}
 use Rattle.lmn_solid.specs.Heads.{HeadAtom, Occurrence, atoms_of, typed_contexts_of, at_ports, at_atoms, links_of, times}
-use Rattle.lmn_compile_head.specs.Tables.{AllBelow}
 
 times_append : (x : ℕ) (xs ys : List ℕ) → times x (xs ++ ys) ≡ times x xs + times x ys
 times_append x [] ys = let t : times x ys ≡ 0 + times x ys = omega arith in t
@@ -67,11 +66,3 @@ pub typed_counted : (size : ℕ) (items left rest : List HeadItem) (n : ℕ) (k 
     ((x more : ℕ) → min 2 (get_or u x 0 + more) ≡ min 2 (get_or t x 0 + ((if l == x then 1 else 0) + more))) → (x : ℕ) → min 2 (get_or u x 0 + times x (links_of rest)) ≡ min 2 (times x (links_of items))
 typed_counted size items left rest n k l m t u e a b x =
     b x (times x (links_of rest)) ∙ (ap (λ k. min 2 (get_or t x 0 + k)) (sym (typed_times x n k l m rest) ∙ ap (λ k. times x (links_of k)) (sym e)) ∙ a x)
-
--- a link of a list of links that are below a number
-pub link_dropped : (n : ℕ) (xs : List ℕ) (i x : ℕ) → i < length xs → x ≡ get_or xs i 0 → AllBelow n (drop i xs) → (drop i xs ≡ x ∷ drop (i + 1) xs) × (x < n) × AllBelow n (drop (i + 1) xs)
-link_dropped n [] i x l e b = absurd (omega arith)
-link_dropped n (y ∷ xs) zero x l e b = (ap (λ w. w ∷ xs) (sym e), subst (λ w. w < n) (sym e) b.0, b.1)
-link_dropped n (y ∷ xs) (suc i) x l e b =
-    let t : suc (i + 1) ≡ suc i + 1 = omega arith in let r = link_dropped n xs i x (omega arith) e b in
-    (r.0 ∙ ap (λ k. x ∷ drop k (y ∷ xs)) t, r.1, subst (λ k. AllBelow n (drop k (y ∷ xs))) t r.2)

@@ -1,7 +1,7 @@
 ghost use Rattle.std.specs.Prelude.{◌≡◌, ◌+◌, ◌<◌, ◌++◌, ◌^◌, ℕ, List, map, length, IfOk, OnOk};
 ghost use Rattle.lmn_base.specs.Solids.{connector};
 ghost use Rattle.lmn_heap.specs.Functors.{same_functor};
-ghost use Rattle.lmn_body.specs.Flattening.{leaf_item, leaf_items, context_items, rule_items, rule_context_items};
+ghost use Rattle.lmn_body.specs.Flattening.{leaf_items, context_items, rule_items, rule_context_items};
 ghost use Rattle.lmn_body.specs.Flattening as flattening;
 ghost use Rattle.lmn_solid.specs.declared.items.HeadItem.{HeadItem};
 ghost use Rattle.lmn_compile_body.specs.Naming.{names_by, unnumbered, tail_items};

@@ -1,5 +1,5 @@
-ghost use Rattle.std.specs.Prelude.{◌≡◌, ◌+◌, ◌<◌, ◌++◌, ◌^◌, ℕ, List, [], ◌∷◌, length, IfOk, OnOk};
-ghost use Rattle.lmn_solid.specs.Heads.{atoms_of, at_atoms, at_ports, links_of};
+ghost use Rattle.std.specs.Prelude.{◌≡◌, ◌+◌, ◌<◌, ◌++◌, ◌^◌, List, [], ◌∷◌, length, IfOk, OnOk};
+ghost use Rattle.lmn_solid.specs.Heads.{at_ports, links_of};
 ghost use Rattle.lmn_body.specs.Items.{ports_from, new_ports, old_ports, once_in, connectors};
 ghost use Rattle.lmn_compile_head.specs.Tables.{AllBelow, Fits};
 ghost use Rattle.lmn_compile_body.specs.Tables.{Counts, AllFew};

@@ -1,5 +1,5 @@
-ghost use Rattle.std.specs.Prelude.{◌≡◌, ◌==◌, ◌+◌, ◌<◌, ◌++◌, ℕ, [], ◌∷◌, List, min, length, slice_index_or, IfOk, if◌then◌else◌, replicate};
-ghost use Rattle.lmn_solid.specs.Heads.{times, links_of};
+ghost use Rattle.std.specs.Prelude.{◌≡◌, ◌==◌, ◌+◌, ◌<◌, ℕ, min, length, slice_index_or, IfOk, if◌then◌else◌};
+ghost use Rattle.lmn_solid.specs.Heads.{times};
 ghost use Rattle.lmn_compile_head.specs.Tables.{AllBelow, Fits};
 ghost use Rattle.lmn_compile_body.specs.Tables.{Counts};
 

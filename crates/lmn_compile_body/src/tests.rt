@@ -1,5 +1,4 @@
 ghost use Rattle.std.specs.Prelude.{◌≡◌, ◌+◌, ◌<◌, ◌^◌, length, IfOk};
-ghost use Rattle.lmn_base.specs.declared.functor.Functor.{Functor};
 ghost use Rattle.lmn_base.specs.declared.functor.Label.TheVariants.{Name};
 ghost use Rattle.lmn_guards.specs.declared.plan.TypeKind.TheVariants as kind;
 ghost use Rattle.lmn_solid.specs.declared.items.HeadItem.TheVariants as head;

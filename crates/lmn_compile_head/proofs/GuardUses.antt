@@ -85,9 +85,6 @@ some_is : {X : Type 0} (o : Option X) → is_some o ≡ true → (x : X) × (o �
 some_is (Some x) e = (x, refl)
 some_is None e = absurd (cc)
 
-is_some_of : {X : Type 0} (o : Option X) (x : X) → o ≡ Some x → IsSome o
-is_some_of o x e = subst (λ r. IsSome r) (sym e) refl
-
 -- ---- contexts of expressions
 
 ctx_items : (u : CtxUse) → expression_items (expr.Ctx u) ≡ used form.Typed u ∷ []

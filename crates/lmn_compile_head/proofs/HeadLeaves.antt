@@ -19,7 +19,7 @@ use Rattle.lmn_base.specs.Levels.{leaves_of, leaf_occurrences, links_of}
 use Rattle.lmn_guards.specs.declared.plan.TypeKind.{TypeKind}
 use Rattle.lmn_solid.specs.declared.items.HeadItem.{HeadItem}
 use Rattle.lmn_solid.specs.declared.items.HeadItem.TheVariants.{Atom, Typed, Membrane}
-use Rattle.lmn_solid.specs.Heads.{HeadAtom, HeadTyped, Port, atoms_of, typed_contexts_of, membranes_of, times}
+use Rattle.lmn_solid.specs.Heads.{HeadAtom, HeadTyped, Port, typed_contexts_of, membranes_of, times}
 use Rattle.lmn_solid.specs.Heads as heads
 use Rattle.lmn_solid.specs.Guards.{typed_number}
 use Rattle.lmn_solid.specs.Flattening.{leaf_items, items_of, unnumbered}

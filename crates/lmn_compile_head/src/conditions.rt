@@ -1,4 +1,4 @@
-ghost use Rattle.std.specs.Prelude.{◌≡◌, ◌+◌, ◌*◌, ◌<◌, ◌≤◌, sum_by, ◌++◌, ◌^◌, [], ◌∷◌, List, length, IfOk, OnOk};
+ghost use Rattle.std.specs.Prelude.{◌≡◌, ◌+◌, ◌*◌, ◌<◌, ◌≤◌, sum_by, ◌++◌, ◌^◌, ◌∷◌, List, length, IfOk, OnOk};
 ghost use Rattle.lmn_instr.specs.HeadCode as code_of;
 ghost use Rattle.lmn_instr.specs.HeadCode.{value_code, guard_code};
 ghost use Rattle.lmn_base.specs.declared.guard.Cond.{Cond};

@@ -25,10 +25,6 @@ use Rattle.lmn_congruence.specs.TranslationLaws.{SolidsOfPlains}
 use Rattle.lmn_congruence.proofs.Appended.{all_left, all_right}
 use Rattle.lmn_congruence.proofs.TranslatedLinks.{plains_closed, solids_closed}
 
-append_nil : {A : Type 0} (xs : List A) → xs ++ [] ≡ xs
-append_nil [] = refl
-append_nil (x ∷ xs) = ap (λ ys. x ∷ ys) (append_nil xs)
-
 -- ---- one leaf
 
 pub twice_mapped : (v : ℕ → ℕ) (os : List Occ) → map (λ o. v o.link) os ≡ map v (map (λ o. o.link) os)

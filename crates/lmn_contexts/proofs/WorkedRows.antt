@@ -1,5 +1,5 @@
 -- Where the rows apply to the rules of small texts, by computation.
-use Rattle.std.proofs.Common.{ℕ, ◌≡◌, ◌+◌, ◌==◌, List, [], ◌∷◌, ◌++◌, map, length, cond, sum, refl, sym, ap, subst, ◌∙◌, All}
+use Rattle.std.proofs.Common.{ℕ, ◌≡◌, ◌==◌, List, [], ◌∷◌, ◌++◌, ap, ◌∙◌}
 use Rattle.std.specs.Prelude.{nat_lt, ◌||◌, if◌then◌else◌}
 use Rattle.std.specs.List.{flat_map}
 use Rattle.std.proofs.lemmas.List.Elements.{All-from_recursion}
@@ -20,7 +20,7 @@ use Rattle.lmn_base.specs.Firsts.{Row}
 use Rattle.lmn_base.specs.Items.{items_of, own_items, leaf_item, guard_items, number_of_items, number_step}
 use Rattle.lmn_base.specs.RuleCodes.{rule_rows, bare_place, rule_context_place, connector_place, inner_rule, seconds, seconds_by_membrane, first_with_some, used_again, in_other_form, missing, bare_again, from_nowhere}
 use Rattle.lmn_base.proofs.ItemLemmas.{items_apart}
-use Rattle.lmn_contexts.specs.Examples.{at, a, b, p, q, r, x, alone, use_at, holding, empty, one_membrane, without_guard, EmptyHead, RuleInHead, ConnectorInHead, ContextAtTop, RuleContextAtTop, TwoInMembrane, OuterPairFirst, TwiceInHead, TwiceInTwoForms, NotInBody, TwiceInBody, NotInHead, RuleContextNotInHead, InTwoForms, LargestHead, LargestBody, NothingOffends, many}
+use Rattle.lmn_contexts.specs.Examples.{at, a, b, p, r, x, alone, use_at, holding, empty, one_membrane, without_guard, EmptyHead, RuleInHead, ConnectorInHead, ContextAtTop, RuleContextAtTop, TwoInMembrane, OuterPairFirst, TwiceInHead, TwiceInTwoForms, NotInBody, TwiceInBody, NotInHead, RuleContextNotInHead, InTwoForms, LargestHead, LargestBody, NothingOffends, many}
 
 -- the items of a level, by its lists
 listed : (l : Level-F Level) → items_of (roll-Level l) ≡ own_items l ++ flat_map items_of l.membranes

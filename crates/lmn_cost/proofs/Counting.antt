@@ -3,8 +3,8 @@ use Rattle.std.proofs.Common.{ℕ, ◌+◌, ◌≡◌, ◌⊎◌, ◌==◌, cond
 use Rattle.std.specs.Option.{option_map, option_and_then}
 use Rattle.lmn_base.specs.declared.guard.Cond.{Cond}
 use Rattle.lmn_heap.specs.Heap as heap
-use Rattle.lmn_heap.specs.Heap.{Heap, HeapMem, top, within, waiting, gone, place_of, mem_place_of, atoms_in, atoms_by, mems_in, mems_by, rules_in, rules_by, IsMem, IsInPlace, IsMemInPlace, In, Distinct, finished, mem_unless_gone}
-use Rattle.lmn_heap.specs.Sound.{Sound, Forest, flat, IsTree, Valid, items_in}
+use Rattle.lmn_heap.specs.Heap.{Heap, HeapMem, top, within, waiting, gone, mem_place_of, atoms_in, atoms_by, mems_in, mems_by, rules_in, rules_by, IsMem, IsMemInPlace, In, Distinct, finished, mem_unless_gone}
+use Rattle.lmn_heap.specs.Sound.{Sound, flat, Valid, items_in, Forest, IsTree}
 use Rattle.lmn_heap.proofs.Depths.{both_distinct}
 use Rattle.lmn_heap.proofs.ListLemmas.{in_left, in_right}
 use Rattle.lmn_heap.proofs.Trees.{in_either}

@@ -4,14 +4,9 @@ use Rattle.std.specs.List.{flat_map}
 use Rattle.std.proofs.lemmas.List.Concat.{flat_map-append}
 use Rattle.lmn_congruence.specs.Regions.{Region}
 use Rattle.lmn_io.specs.Taking.{Takes, TakesPrefix}
-use Rattle.lmn_io.proofs.TakingLemmas.{prefix_more, prefix_after}
+use Rattle.lmn_io.proofs.TakingLemmas.{prefix_more, prefix_after, takes_both}
 use Rattle.lmn_drive.specs.Written.{end_line, line, traced, written}
 use Rattle.lmn_drive.specs.Driving.{rest_of}
-
--- one piece is taken, and then another
-pub takes_both : (a b : List ℕ) (old mid new : Option (List ℕ)) → Takes a old mid → Takes b mid new → Takes (a ++ b) old new
-takes_both a b None mid new first later = subst (λ m. Takes b m new) first later
-takes_both a b (Some old) mid new first later = subst (λ m. Takes b m new) first later ∙ ap Some (append_assoc old a b)
 
 -- the lines of one solid more
 pub traced_more : (trace : Bool) (Ss Ts : List Region) → traced trace Ss ++ traced trace Ts ≡ traced trace (Ss ++ Ts)

@@ -1,12 +1,12 @@
 ghost use Rattle.std.specs.Prelude.{◌≡◌, ◌<◌, ◌≤◌, ◌-◌, ◌^◌, ℕ, List, Option, IfOk, OnOk, OnErr, MatchResult};
 ghost use Rattle.lmn_congruence.specs.Regions.{Region};
 ghost use Rattle.lmn_io.specs.Counts.{Rose};
-ghost use Rattle.lmn_io.specs.Taking.{Takes, TakesPrefix};
+ghost use Rattle.lmn_io.specs.Writing.{Writes, WritesText};
 ghost use Rattle.lmn_adequacy.specs.Runs.{Chooser};
 ghost use Rattle.lmn_order.specs.Answers.{AnswersBelow};
 ghost use Rattle.lmn_schedule.specs.Held.{CanRun, Holds};
 ghost use Rattle.lmn_schedule.specs.Turning.{Gives};
-ghost use Rattle.lmn_printer.specs.Writing.{IsLineOf, Writes};
+ghost use Rattle.lmn_printer.specs.Writing.{IsLineOf};
 ghost use Rattle.lmn_drive.specs.Written.{end_line};
 ghost use Rattle.lmn_drive.specs.Driving.{Broke, Counts, Drove, Going, IsRestOf, IsTracedLineOf, StepsOn, Stopped, given, stop_end, stop_word};
 
@@ -250,11 +250,7 @@ fn end_of(stop: Stop) -> RunEnd
 
 /// Writes the end line.
 fn write_end<O: Sink>(stop: Stop, commits: u64, out: &mut O) -> Result<(), Failed>
-    ensures took { OnOk result (Takes (end_line (stop_word stop) commits) (O.told out.old) (O.told out.new)) }
-    ensures prefix { OnErr result (TakesPrefix (end_line (stop_word stop) commits) (O.told out.old) (O.told out.new)) }
-    ensures later { O.faults out.old ≤ O.faults out.new }
-    ensures same { OnOk result (O.faults out.new ≡ O.faults out.old) }
-    ensures rose { OnErr result (Rose (O.faults out.old) (O.faults out.new)) }
+    ensures { WritesText (end_line (stop_word stop) commits) result (O.told out.old) (O.faults out.old) (O.told out.new) (O.faults out.new) }
 {
     put_all(
         out,

@@ -23,9 +23,6 @@ use Rattle.lmn_expand.specs.Built.{IsUse, IsLeaf, IsLevel, AreLevels}
 use Rattle.lmn_expand.specs.Copies as copies
 use Rattle.lmn_expand.proofs.EachLemmas.{each_append, each_by}
 
-Relation : Type 1
-Relation = Link → ℕ → Type 0
-
 module _ (names : List tree.Name) where
   -- another relation of which the first is a case
   module _ (R S : Link → ℕ → Type 0) (more : (a : Link) (x : ℕ) → R a x → S a x) where

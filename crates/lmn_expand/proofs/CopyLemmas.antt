@@ -3,7 +3,7 @@ use Rattle.std.proofs.Common.{◌≡◌, ℕ, zero, suc, ◌+◌, ◌<◌, ◌�
 use Rattle.std.specs.Prelude.{min, Result, Ok, Err, IfOk, OnOk}
 use Rattle.std.specs.List.{flat_map}
 use Rattle.std.proofs.Math.Nat.{min-eq_left, min-eq_right}
-use Rattle.std.proofs.lemmas.Bool.{cases_lt}
+use Rattle.std.proofs.lemmas.Bool.{cases_lt, eq-eqb, eqb-true}
 use Rattle.std.proofs.lemmas.List.{append_assoc, append-nil, length-append, map-append, take_all, take_more}
 use Rattle.std.proofs.lemmas.List.Recursion.{is_count_by}
 use Rattle.std.proofs.lemmas.Option.{same_Some, slice_get_within}
@@ -148,16 +148,10 @@ same_test true false f g = sym (f refl)
 same_test false true f g = g refl
 same_test false false f g = refl
 
-eq_true : (x y : ℕ) → x ≡ y → (x == y) ≡ true
-eq_true x y e = grind arith
-
-eq_from : (x y : ℕ) → (x == y) ≡ true → x ≡ y
-eq_from x y e = grind arith
-
 test_is : (keys : List Link) (a b : Link) (x y : ℕ) → IsKey keys a x → IsKey keys b y → same_link a b ≡ (x == y)
 test_is keys a b x y h k = same_test (same_link a b) (x == y)
-    (λ e. eq_true x y (sym h.1 ∙ ap (λ c. index_of c keys) (link_same a b e) ∙ k.1))
-    (λ e. ap (same_link a) (sym (index_one a b keys h.0 k.0 (h.1 ∙ eq_from x y e ∙ sym k.1))) ∙ link_itself a)
+    (λ e. eq-eqb x y (sym h.1 ∙ ap (λ c. index_of c keys) (link_same a b e) ∙ k.1))
+    (λ e. ap (same_link a) (sym (index_one a b keys h.0 k.0 (h.1 ∙ eqb-true x y e ∙ sym k.1))) ∙ link_itself a)
 
 counts_agree : (keys : List Link) (a : Link) (x : ℕ) → IsKey keys a x → (bs : List Link) (ys : List ℕ) → Each (IsKey keys) bs ys → occurs a bs ≡ count x ys
 counts_agree keys a x h [] [] e = refl
@@ -173,13 +167,13 @@ times_often keys a x bs ys h e = sym (times_is a bs) ∙ counts_agree keys a x h
 -- two of a count that stops at 3
 pub two_of : (m : ℕ) → (min 3 (0 + m) == 2) ≡ (m == 2)
 two_of m = same_test (min 3 (0 + m) == 2) (m == 2)
-    (λ e. eq_true m 2 (elim (min_is 3 (0 + m)) [
-      | inl x ↦ omega (arith, eq_from (min 3 (0 + m)) 2 e, x.0)
-      | inr x ↦ omega (arith, eq_from (min 3 (0 + m)) 2 e, x.0)
+    (λ e. eq-eqb m 2 (elim (min_is 3 (0 + m)) [
+      | inl x ↦ omega (arith, eqb-true (min 3 (0 + m)) 2 e, x.0)
+      | inr x ↦ omega (arith, eqb-true (min 3 (0 + m)) 2 e, x.0)
     ]))
-    (λ e. eq_true (min 3 (0 + m)) 2 (elim (min_is 3 (0 + m)) [
-      | inl x ↦ omega (arith, eq_from m 2 e, x.0, x.1)
-      | inr x ↦ omega (arith, eq_from m 2 e, x.0)
+    (λ e. eq-eqb (min 3 (0 + m)) 2 (elim (min_is 3 (0 + m)) [
+      | inl x ↦ omega (arith, eqb-true m 2 e, x.0, x.1)
+      | inr x ↦ omega (arith, eqb-true m 2 e, x.0)
     ]))
 
 -- ---- counts of whole lists
@@ -230,7 +224,7 @@ fresh_one r keys a n new s t two h absent number count same = record {
   only = λ b i. is_fresh b i;
   key = (let P : Bool → Type 0 = λ z. IsKey (keys ++ fresh a ∷ []) (if z then fresh a else a) new in
       let Q : ℕ → Type 0 = λ y. IsKey (keys ++ fresh a ∷ []) (fresh a) y in
-      subst P (sym (eq_true n 2 two)) (subst Q (sym (number ∙ h.count)) (key_new keys (fresh a) absent)));
+      subst P (sym (eq-eqb n 2 two)) (subst Q (sym (number ∙ h.count)) (key_new keys (fresh a) absent)));
 }
   where
     is_fresh : (b : Link) → In b (fresh a ∷ []) → b ≡ fresh a

@@ -1,11 +1,9 @@
 -- Words, their labels and the lists of names.
-use Rattle.std.proofs.Common.{◌≡◌, ◌≢◌, ℕ, ℤ, zero, suc, ◌+◌, ◌-◌, ◌^◌, ◌<◌, ◌≤◌, ◌⊎◌, inl, inr, Bool, true, false, if◌then◌else◌, List, [], ◌∷◌, ◌++◌, map, length, take, drop, get_or, slice_get, Some, Contains, Decides, refl, sym, ap, ◌∙◌, subst, arith, true≢false}
-use Rattle.std.specs.Prelude.{bytes_eq, ◌==◌, ◌&&◌, not, Result, Ok, Err, IfOk, OnOk, OnErr, codes, slice_index_or}
-use Rattle.lmn_plain.proofs.LabelWords.{undoubled_other}
+use Rattle.std.proofs.Common.{◌≡◌, ℕ, zero, suc, ◌+◌, ◌^◌, ◌<◌, ◌≤◌, ◌⊎◌, inl, inr, Bool, true, false, if◌then◌else◌, List, [], ◌∷◌, ◌++◌, map, length, take, drop, get_or, slice_get, Some, Contains, Decides, refl, sym, ap, ◌∙◌, subst, arith, true≢false}
+use Rattle.std.specs.Prelude.{bytes_eq, Result, Ok, Err, IfOk, OnOk, OnErr, codes, slice_index_or}
 use Rattle.std.specs.List.{AllByRecursion, list_any}
 use Rattle.std.specs.Cmp.Lexicographic.{nat_list_eq_equiv}
-use Rattle.std.proofs.lemmas.Bool.{cases_lt, cases_order}
-use Rattle.std.proofs.lemmas.List.{append_assoc, append-nil, length-append, take_at, take_all, take_more}
+use Rattle.std.proofs.lemmas.List.{append_assoc, append-nil, length-append, take_all, take_more}
 use Rattle.std.proofs.lemmas.Map.Views.{list_any-from_Contains, Contains-from_any}
 use Rattle.std.proofs.lemmas.Option.{same_Some, slice_get_within}
 use Rattle.std.proofs.lemmas.Result.{IfOk-weaker}
@@ -21,12 +19,14 @@ use Rattle.lmn_lexer.specs.declared.token.Kind.TheVariants.{Name, Quoted, Mod, L
 use Rattle.lmn_lexer.specs.declared.token.Token.{Token}
 use Rattle.lmn_lexer.specs.Cutting.{Cuts, token_at}
 use Rattle.lmn_lexer.specs.Laying.{Word, word_of, words_of, end_word}
-use Rattle.lmn_lexer.specs.Faults.{InRange, TokenFault, integer_out_of_range, long_name, floating_point, value_behind, NothingWrong}
-use Rattle.lmn_lexer.specs.Spelling.{Spells, IsQuoted, Quotes, nothing, quote, byte}
-use Rattle.lmn_lexer.specs.Values.{bytes_of, integer_of, IsSound}
+use Rattle.lmn_lexer.specs.Faults.{TokenFault, integer_out_of_range, long_name, floating_point, NothingWrong}
+use Rattle.lmn_lexer.specs.Spelling.{Spells, IsQuoted}
+use Rattle.lmn_lexer.specs.Values.{bytes_of, IsSound}
 use Rattle.lmn_lexer.proofs.SoundTokens.{tokens_are_sound}
-use Rattle.lmn_plain.specs.Meanings.{undoubled, between_quotes, name_spelled, label_spelled, word_at, label_at, nowhere}
+use Rattle.lmn_plain.specs.Meanings.{label_spelled, word_at, label_at, nowhere}
 use Rattle.lmn_plain.specs.Plains.{Each, number_of, numbered_label}
+use Rattle.lmn_plain.proofs.LabelWords.{quoted_name}
+use Rattle.lmn_plain.proofs.Ranges.{at_most, in_range}
 use Rattle.lmn_base.specs.declared.memory.NoMemory.{NoMemory}
 use Rattle.lmn_expand.specs.Glossaries.{Reading, IsLabel, IsMeaning, IsGlossary, AreEntries, HasEntries, IsRightWord, IsRightToken, GrowsBy, reading_of}
 use Rattle.lmn_expand.specs.NameLists.{names_read, with_name, with_word, with_words}
@@ -55,16 +55,6 @@ number_is ns is k n h = one_place ns is k (number_of ns n) n h (number_there ns 
 pub label_is : (ns : List tree.Name) → IsNames ns → (l : tree.Label) (x : Label) → IsLabel ns l x → x ≡ numbered_label ns (λ a. 0) l
 label_is ns is (tree.named n) x h = h.1 ∙ ap base.Name (number_is ns is h.0 n h.2)
 label_is ns is (tree.integer z) x h = h
-
-pub spelled_name : (ns : List tree.Name) (kind : Kind) (bytes : List ℕ) (k : ℕ) → base.Name k ≡ numbered_label ns (λ a. 0) (label_spelled kind bytes)
-    → k ≡ number_of ns (name_spelled kind bytes)
-spelled_name ns Int bytes k h = absurd (cc)
-spelled_name ns _ bytes k h = cc
-
-pub spelled_integer : (ns : List tree.Name) (kind : Kind) (bytes : List ℕ) (z : ℤ) → base.Int z ≡ numbered_label ns (λ a. 0) (label_spelled kind bytes)
-    → z ≡ integer_of bytes
-spelled_integer ns Int bytes z h = cc
-spelled_integer ns _ bytes z h = absurd (cc)
 
 -- ---- lists of names that grow
 
@@ -137,31 +127,6 @@ place_grown old new k n g h = let P : List tree.Name → Type 0 = λ ns. slice_g
 
 -- ---- right words
 
-at_most : (a b : ℕ) → (b < a → ⊥) → a ≤ b
-at_most a b h = elim (cases_lt b a) [
-  | inl l ↦ absurd (h l)
-  | inr l ↦ l
-]
-
-in_range : (bytes : List ℕ) → ((InRange bytes → ⊥) → ⊥) → InRange bytes
-in_range [] h = absurd (h (λ r. r))
-in_range (b ∷ bs) h = elim (cases_order b 45) [
-  | inl same ↦ inl (same, at_most (value_behind 0 bs) (2 ^ 63) (λ more. h (λ r. below same more r)))
-  | inr other ↦ inr (unequal other, at_most (value_behind 0 (b ∷ bs)) (2 ^ 63 - 1) (λ more. h (λ r. above (unequal other) more r)))
-]
-  where
-    unequal : (b < 45) ⊎ (45 < b) → b ≢ 45
-    unequal (inl l) e = omega arith
-    unequal (inr l) e = omega arith
-
-    below : b ≡ 45 → 2 ^ 63 < value_behind 0 bs → InRange (b ∷ bs) → ⊥
-    below same more (inl (e, l)) = omega arith
-    below same more (inr (e, l)) = e same
-
-    above : b ≢ 45 → 2 ^ 63 - 1 < value_behind 0 (b ∷ bs) → InRange (b ∷ bs) → ⊥
-    above other more (inl (e, l)) = other e
-    above other more (inr (e, l)) = omega arith
-
 some_byte : (minus : Bool) (bytes : List ℕ) → Spells minus Context bytes ⊎ Spells minus RuleCtx bytes → 1 ≤ length bytes
 some_byte minus [] (inl h) = absurd h
 some_byte minus [] (inr h) = absurd h
@@ -196,28 +161,7 @@ tokens_are_right text tokens none cut =
     let P : List Token → Type 0 = AllByRecursion (IsRightToken text) in
     subst P (sym sound.2) (right_tokens text sound.0 sound.1)
 
--- the text has a token, its end
-pub some_token : (text : List ℕ) (tokens : List Token) → Cuts text tokens → 1 ≤ length tokens
-some_token text tokens cut = omega (arith, ap length cut.with_end, length-append cut.but_end (token_at End text [] ∷ []))
-
--- ---- names in quotes
-
-not_quote : (a b : Bool) → (a && not b) ≡ true → b ≡ false
-not_quote true true h = cc
-not_quote true false h = refl
-not_quote false b h = absurd (cc)
-
-undouble : {inside name : List ℕ} → Quotes inside name → undoubled inside ≡ name
-undouble nothing = refl
-undouble (quote h) = ap (λ z. 39 ∷ z) (undouble h)
-undouble (byte {b = b} {bs = bs} e h) = undoubled_other b bs (not_quote _ (b == 39) e) ∙ ap (λ z. b ∷ z) (undouble h)
-
-pub quoted_name : (bytes name : List ℕ) → IsQuoted bytes name → between_quotes bytes ≡ name
-quoted_name bytes name q =
-    let size = ap length q.stands in
-    let sum = length-append q.inside (39 ∷ []) in
-    let n : length q.inside ≡ length bytes - 2 = omega arith in
-    ap (λ x. undoubled (take (length bytes - 2) (drop 1 x))) q.stands ∙ ap undoubled (take_at q.inside (39 ∷ []) (length bytes - 2) n) ∙ undouble q.quotes
+-- ---- labels
 
 pub entry_label : (r : Reading) (g : Glossary) (p : ℕ) (e : Entry) (l : Label) → IsGlossary r g → slice_get g.entries p ≡ Some e → e.meaning ≡ meaning.Label l
     → l ≡ numbered_label r.names (λ a. 0) (label_at r.words r.places p)
@@ -295,7 +239,8 @@ map_at f [] p x d h = absurd (let l = slice_get_within [] p x h in omega arith)
 map_at f (y ∷ xs) zero x d h = ap f (same_Some y x h)
 map_at f (y ∷ xs) (suc p) x d h = map_at f xs p x d h
 
-some_at : {A : Type 0} (xs : List A) (p : ℕ) → p < length xs → (x : A) × (slice_get xs p ≡ Some x)
+-- what stands at a place of a list
+pub some_at : {A : Type 0} (xs : List A) (p : ℕ) → p < length xs → (x : A) × (slice_get xs p ≡ Some x)
 some_at [] p l = absurd (omega (arith, l))
 some_at (x ∷ xs) zero l = (x, refl)
 some_at (x ∷ xs) (suc p) l = some_at xs p (omega (arith, l))

@@ -2,7 +2,7 @@ mod EachLemmas
 mod BuiltLemmas
 mod GrowingLemmas
 mod ScopeLemmas
-mod GlossaryLemmas
+pub mod GlossaryLemmas
 mod WayLemmas
 mod CopyLemmas
 mod SmallParts

@@ -8,17 +8,16 @@ use Rattle.std.proofs.lemmas.Bool.{cases_lt, cases_order}
 use Rattle.std.proofs.lemmas.List.{length-append}
 use Rattle.std.proofs.lemmas.Map.Lookups.{exact_unsigned}
 use Rattle.std.proofs.lemmas.Option.{same_Some, slice_get_within, get_or_from_slice_get}
-use Rattle.lmn_base.specs.declared.level.Occ.{Occ}
 use Rattle.lmn_base.specs.Names.{IsNames}
 use Rattle.lmn_congruence.specs.Rules.{Name}
 use Rattle.lmn_plain.specs.Keys.{In, IsKey}
-use Rattle.lmn_plain.specs.Links.{Link, Use, written, made}
+use Rattle.lmn_plain.specs.Links.{Link, written, made}
 use Rattle.lmn_plain.proofs.SomeNumbers.{in_last, index_last}
-use Rattle.lmn_expand.specs.Built.{IsUse}
 use Rattle.lmn_expand.specs.Glossaries.{Reading}
 use Rattle.lmn_expand.specs.Scopes.{IsScope, IsOf, Meets, NoWay}
 use Rattle.lmn_expand.specs.declared.scope.Scope.{Scope}
 use Rattle.lmn_expand.proofs.GrowingLemmas.{key_more, in_either, meets_nothing}
+use Rattle.lmn_plain.proofs.ReadBack.{written_same}
 
 -- what stands in a list with one more link
 at_end : (keys : List Link) (a b : Link) (x : ℕ) → slice_get (keys ++ a ∷ []) x ≡ Some b → (slice_get keys x ≡ Some b) ⊎ ((x ≡ length keys) × (a ≡ b))
@@ -106,9 +105,6 @@ updated m n k x j up = elim (cases_order k j) [
     unequal (inl l) e = omega arith
     unequal (inr l) e = omega arith
 
-same_written : (m n : Name) → written m ≡ written n → m ≡ n
-same_written m n e = cc
-
 -- a link with a name that wasn't met before
 pub met_first : (r : Reading) (keys : List Link) (s t u : Scope) (k x : ℕ) (n : Name) → IsNames r.links → IsScope r keys s → slice_get r.links k ≡ Some n
     → get nat_cmp s.written k ≡ None → x ≡ s.count → t.count ≡ s.count + 1 → t.written ≡ s.written → u.count ≡ t.count
@@ -159,7 +155,7 @@ met_first r keys s t u k x n names h g none number count same same_count up =
       | inr f ↦ elim (in_either (written o) keys (written n ∷ []) l) [
         | inl w ↦ h.absent j o (before j None f.1 e) i w
         | inr (inl w) ↦
-            let at : slice_get r.links j ≡ Some n = i ∙ ap Some (same_written o n w) in
+            let at : slice_get r.links j ≡ Some n = i ∙ ap Some (written_same o n w) in
             f.0 (one_place r.links names k j n g at)
         | inr (inr w) ↦ w
       ]
@@ -171,7 +167,3 @@ met_first r keys s t u k x n names h g none number count same same_count up =
     is_written : (a : Link) → In a (written n ∷ []) → IsOf NoWay a
     is_written a (inl e) = let P : Link → Type 0 = IsOf NoWay in subst P (sym e) tt
     is_written a (inr e) = absurd e
-
--- one occurrence more is known
-pub use_with : (r : Reading) (keys : List Link) (u : Use) (a : Link) (o : Occ) → u.link ≡ a → IsKey keys a o.link → o.pos ≡ u.pos → IsUse r.names (IsKey keys) u o
-use_with r keys u a o e k p = (let P : Link → Type 0 = λ b. IsKey keys b o.link in subst P (sym e) k, p)

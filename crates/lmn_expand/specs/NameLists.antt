@@ -1,5 +1,5 @@
 -- The list of names once a text is read.
-use Rattle.std.specs.Prelude.{ℕ, ◌≡◌, Bool, true, false, if◌then◌else◌, List, [], ◌∷◌, ◌++◌, codes, bytes_eq}
+use Rattle.std.specs.Prelude.{Bool, true, false, if◌then◌else◌, List, [], ◌∷◌, ◌++◌, codes, bytes_eq}
 use Rattle.std.specs.List.{list_any}
 use Rattle.lmn_congruence.specs.Rules as tree
 use Rattle.lmn_lexer.specs.declared.token.Kind.{Kind}

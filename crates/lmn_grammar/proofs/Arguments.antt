@@ -2,7 +2,7 @@
 use Rattle.std.proofs.Common.{◌≡◌, ℕ, zero, suc, ◌+◌, ◌≤◌, ◌<◌, Bool, true, false, ◌&&◌, ◌||◌, List, [], ◌∷◌, ◌++◌, refl, sym, ◌∙◌, ap, arith, subst, inl, inr, append_assoc}
 use Rattle.std.proofs.lemmas.Bool.{cases_lt}
 use Rattle.lmn_grammar.specs.Grammar.{Exp, Tok, Seq, Alt, Opt, Many, Within, Ref, Bracket, Round, Square, Curly, opener, closer, Part, TermPart, SumPart, ClausePart, ClausesPart, meaning, Derives, here, both, left, right, without, with, no_more, one_more, inside, by}
-use Rattle.lmn_grammar.specs.Limits.{is_opener, is_closer, is_comma, IsAtomName, Balanced, empty, comma, other, closed, Open, Side, operand, operator, begun, TermNext, of_any, of_term}
+use Rattle.lmn_grammar.specs.Limits.{is_opener, is_closer, is_comma, Balanced, empty, comma, other, closed, Open, Side, operand, operator, begun, of_any, of_term}
 use Rattle.lmn_grammar.specs.Limits as limits
 use Rattle.lmn_grammar.specs.Refusing.{IsWithin}
 use Rattle.lmn_grammar.specs.Laws.{BracketsWithin, OperatorsWithin, TermsWithCommas, ArgumentsWithin}

@@ -602,15 +602,6 @@ answered u k c false false d m h = absurd (none_some c h)
 pub scan_passes : (u : List Kind) (k : Kind) (c : ℕ) → passes (scan u) k ≡ Some c → Passes c u k
 scan_passes u k c h = answered u k c (is_too_deep (scan u) k) (many u k) refl refl h
 
-not_true : (b : Bool) → ¬ (b ≡ true) → b ≡ false
-not_true true h = absurd (h refl)
-not_true false h = refl
-
-pub passes_scan : (u : List Kind) (k : Kind) (c : ℕ) → Passes c u k → passes (scan u) k ≡ Some c
-passes_scan u k c (inl (e, d)) = ap (λ a. answer a (many u k)) (deep_scan u k d) ∙ ap Some (sym e)
-passes_scan u k c (inr (e, d, m)) =
-    ap (λ a. answer a (many u k)) (not_true (is_too_deep (scan u) k) (λ t. d (scan_deep u k t))) ∙ ap (answer false) (many_scan m) ∙ ap Some (sym e)
-
 nothing_passes : (u : List Kind) (k : Kind) (a b : Bool) → is_too_deep (scan u) k ≡ a → many u k ≡ b → answer a b ≡ None → PassesNone u k
 nothing_passes u k true b d m h = absurd (none_some 11 (sym h))
 nothing_passes u k false true d m h = absurd (none_some 12 (sym h))
@@ -618,7 +609,3 @@ nothing_passes u k false false d m h = ((λ t. clash (sym d ∙ deep_scan u k t)
 
 pub scan_none : (u : List Kind) (k : Kind) → passes (scan u) k ≡ None → PassesNone u k
 scan_none u k h = nothing_passes u k (is_too_deep (scan u) k) (many u k) refl refl h
-
-pub none_scan : (u : List Kind) (k : Kind) → PassesNone u k → passes (scan u) k ≡ None
-none_scan u k (d, m) =
-    ap (λ a. answer a (many u k)) (not_true (is_too_deep (scan u) k) (λ t. d (scan_deep u k t))) ∙ ap (answer false) (not_true (many u k) (λ t. m (scan_many u k t)))

@@ -2,14 +2,14 @@
 use Rattle.std.proofs.Common.{◌≡◌, ◌≢◌, ℕ, suc, ◌<◌, Bool, true, List, [], ◌∷◌, length, map, None, IsSome, refl, sym, ap, subst, ◌∙◌}
 use Rattle.std.specs.Prelude.{slice_index_or, ◌↔◌}
 use Rattle.lmn_base.specs.Graphs.{AtomMap, Reached, at_root, SameGraph}
-use Rattle.lmn_heap.specs.Heap.{Heap, IsAtom, arity_of, link_of, functor_of, marks_of}
+use Rattle.lmn_heap.specs.Heap.{Heap, link_of, functor_of, marks_of}
 use Rattle.lmn_heap.specs.Sound.{Sound}
 use Rattle.lmn_heap.specs.Graphs.{atom_map}
 use Rattle.lmn_ground.specs.Walks.{Net, net, FoundInside, IsPart}
 use Rattle.lmn_ground.specs.Marks.{paint, painted, first_marks}
 use Rattle.lmn_ground.specs.Spread.{IsWhole, Spread, CleanPart}
 use Rattle.lmn_ground.specs.Follow.{Two}
-use Rattle.lmn_ground.proofs.PaintLaws.{net_painted, is_painted}
+use Rattle.lmn_ground.proofs.PaintLaws.{net_painted}
 use Rattle.lmn_ground.proofs.SpreadLaws.{fits_home}
 use Rattle.lmn_ground.proofs.GroundLaws.{part_atoms}
 use Rattle.lmn_ground.proofs.FollowLaws.{functor_painted, carried}
@@ -25,9 +25,6 @@ same_self m x y e f = subst (λ (p : ℕ × ℕ). SameGraph m x m p) (λ i. (e i
   joined = λ a b i j r q. (λ h. h, λ h. h);
   root = refl;
 })
-
-pub same_index : (m : AtomMap) (x y : ℕ × ℕ) → SameGraph m x m y → x.1 ≡ y.1
-same_index m x y g = ap (λ (p : ℕ × ℕ). p.1) g.root
 
 pub same_root_functor : (s : Heap) (x y : ℕ × ℕ) → SameGraph (atom_map s) x (atom_map s) y → functor_of s y.0 ≡ functor_of s x.0
 same_root_functor s x y g = sym (ap (λ (p : ℕ × ℕ). functor_of s p.0) g.root) ∙ g.functors x.0 at_root
@@ -59,15 +56,6 @@ module _ (s now : Heap) (x y : ℕ × ℕ) (m : ℕ) (all : Bool) (t : Spread s 
 
   map_is : atom_map now ≡ atom_map s
   map_is = ap atom_map t.is ∙ map_painted s t.marks
-
-  pub there_now : (z : ℕ) → IsAtom s z → IsAtom now z
-  there_now z is = subst (λ (h : Heap). IsAtom h z) (sym t.is) (is_painted s t.marks z is)
-
-  pub port_now : (z k : ℕ) → k < arity_of s z → k < arity_of now z
-  port_now z k l = subst (λ (n : Net). k < n.arity z) (sym net_is) l
-
-  pub functor_now : (a b : ℕ) → functor_of s a ≡ functor_of s b → functor_of now a ≡ functor_of now b
-  functor_now a b e = subst (λ (n : AtomMap). n.functor a ≡ n.functor b) (sym map_is) e
 
   pub graph_now : SameGraph (atom_map now) x (atom_map now) y ↔ SameGraph (atom_map s) x (atom_map s) y
   graph_now = (subst (λ (n : AtomMap). SameGraph n x n y) map_is, subst (λ (n : AtomMap). SameGraph n x n y) (sym map_is))

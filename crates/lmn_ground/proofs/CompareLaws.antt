@@ -1,5 +1,5 @@
 -- Two parts in step: what each step of the comparison needs.
-use Rattle.std.proofs.Common.{◌≡◌, ◌≢◌, ℕ, suc, ◌+◌, ◌-◌, ◌*◌, ◌/◌, ◌%◌, ◌<◌, ◌≤◌, true, false, List, length, Option, Some, None, sym, ap, subst, ◌∙◌, arith, length-append, add-one}
+use Rattle.std.proofs.Common.{◌≡◌, ℕ, suc, ◌+◌, ◌-◌, ◌*◌, ◌/◌, ◌%◌, ◌<◌, ◌≤◌, true, false, List, length, Option, Some, None, sym, ap, subst, ◌∙◌, arith, length-append, add-one, ◌≢◌}
 use Rattle.lmn_base.specs.Graphs.{SameGraph}
 use Rattle.lmn_heap.specs.Heap.{Heap, In, IsAtom, marked, arity_of, link_of}
 use Rattle.lmn_heap.specs.Sound.{Sound}

@@ -1,5 +1,5 @@
 -- What was copied is equal to the part, stands beside everything else, and its atoms are in order.
-use Rattle.std.proofs.Common.{◌≡◌, ◌≢◌, ℕ, zero, suc, ◌+◌, ◌<◌, ◌≤◌, List, [], ◌∷◌, ◌++◌, length, map, Option, Some, None, IsSome, Result, Ok, Err, refl, sym, ap, subst, ◌∙◌, inl, inr, arith, append_assoc}
+use Rattle.std.proofs.Common.{◌≡◌, ℕ, zero, suc, ◌+◌, ◌<◌, ◌≤◌, List, [], ◌∷◌, ◌++◌, length, map, Option, Some, None, IsSome, Result, Ok, Err, refl, sym, ap, subst, ◌∙◌, inl, inr, arith, append_assoc, ◌≢◌}
 use Rattle.std.proofs.lemmas.List.{length-replicate}
 use Rattle.std.specs.Option.{option_map}
 use Rattle.std.specs.Result.{IfOk, OnErr}
@@ -14,7 +14,7 @@ use Rattle.lmn_ground.specs.Walks.{HasPort, Net, net, ports, IsPart}
 use Rattle.lmn_ground.specs.Marks.{paint, painted, first_marks}
 use Rattle.lmn_ground.specs.Spread.{IsWhole, Numbered}
 use Rattle.lmn_ground.specs.Follow.{answer}
-use Rattle.lmn_ground.specs.Copies.{made_as, made_like, moved, joined_like, all_joined, ports_of, copied, unmarked_all, AreNew, AllAtoms, LeadsOut, Beside, Copied, Remains, Numbers, Gathered, Made, Copying}
+use Rattle.lmn_ground.specs.Copies.{made_as, made_like, moved, joined_like, all_joined, ports_of, copied, unmarked_all, AreNew, AllAtoms, LeadsOut, Beside, Copied, Remains, Numbers, Made, Copying, Gathered}
 use Rattle.lmn_ground.proofs.WalkLaws.{holds_left, holds_right, holds_port}
 use Rattle.lmn_ground.proofs.PaintLaws.{net_painted, is_painted, in_or_not}
 use Rattle.lmn_ground.proofs.SpreadLaws.{link_inside, part_reached}

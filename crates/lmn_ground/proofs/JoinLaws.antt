@@ -200,16 +200,6 @@ module _ (s : Heap) (root : ℕ × ℕ) (xs ys : List ℕ) (t : Copying s root x
         none (inl e) = d (is_root_port a i root e)
         none (inr e) = let is' = subst (λ (o : Option (ℕ × ℕ)). IsSome o) e is in absurd (cc)
 
-pub like_root : (f : ℕ → ℕ) (root : ℕ × ℕ) (s : Heap) (p : ℕ × ℕ) → is_port p root ≡ true → joined_like f root s p ≡ s
-like_root f root s p e = rw e refl
-
-pub like_none : (f : ℕ → ℕ) (root : ℕ × ℕ) (s : Heap) (p : ℕ × ℕ) → link_of s p.0 p.1 ≡ None → joined_like f root s p ≡ s
-like_none f root s p g = rw g (by (is_port p root))
-  where
-    by : (t : Bool) → cond t s s ≡ s
-    by true = refl
-    by false = refl
-
 pub like_some : (f : ℕ → ℕ) (root : ℕ × ℕ) (s : Heap) (a i b j : ℕ) → is_port (a, i) root ≡ false → link_of s a i ≡ Some (b, j) → joined_like f root s (a, i) ≡ joined s (f a) i (f b) j
 like_some f root s a i b j e g = rw (e, g) refl
 

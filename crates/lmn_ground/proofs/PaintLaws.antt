@@ -36,15 +36,6 @@ painted_is s v a i = paint_is (v a) (s.atoms a) i
 pub is_painted : (s : Heap) (v : ℕ → ℕ) (a : ℕ) → IsAtom s a → IsAtom (painted s v) a
 is_painted s v a i = is_paint (v a) (s.atoms a) i
 
--- the first mark is the painted one
-pub mark_painted : (s : Heap) (v : ℕ → ℕ) (a : ℕ) → 0 < length (marks_of (s.atoms a)) → (v a ≡ 0 → first_marks s a ≡ 0) → first_marks (painted s v) a ≡ v a
-mark_painted s v a l z = by (v a) (s.atoms a) l z
-  where
-    by : (m : ℕ) (o : Option HeapAtom) → 0 < length (marks_of o) → (m ≡ 0 → slice_index_or (marks_of o) 0 0 ≡ 0) → slice_index_or (marks_of (paint m o)) 0 0 ≡ m
-    by zero o l z = z refl
-    by (suc m) None l z = absurd (omega arith)
-    by (suc m) (Some x) l z = get_or-set_same x.marks 0 (suc m) 0 l
-
 set_twice : (xs : List ℕ) (v w : ℕ) → slice_set (slice_set xs 0 v) 0 w ≡ slice_set xs 0 w
 set_twice [] v w = refl
 set_twice (x ∷ xs) v w = refl

@@ -366,14 +366,6 @@ unjoined before now root home seen depth a i count t given low other f =
     by None e i = absurd (cc)
     by (Some x) e i = absurd (cc)
 
--- no more atoms than a heap holds
-pub few_seen : (before now : Heap) (root : ℕ × ℕ) (home : Option ℕ) (seen : List ℕ) (depth a i count m : ℕ) → Spreading before now root home seen depth a i count → AtMost m now → count ≤ m
-few_seen before now root home seen depth a i count m t f =
-    let h = not_longer seen f.atoms t.once (λ x k. f.all_atoms x (subst (λ (s : Heap). IsAtom s x) (sym t.is) (is_painted before t.marks x (with_port before x (t.ports x k))))) in
-    let c = t.counted in
-    let g = f.few in
-    omega (arith, h, c, g)
-
 -- the way back, read on the heap as it stands
 pub way_now : (before now : Heap) (root : ℕ × ℕ) (home : Option ℕ) (seen : List ℕ) (depth a i count : ℕ) → Spreading before now root home seen depth a i count → OnWay (net now) (first_marks now) root depth a
 way_now before now root home seen depth a i count t =

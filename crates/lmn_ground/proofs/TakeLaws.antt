@@ -6,8 +6,7 @@ use Rattle.std.specs.Prelude.{slice_index_or}
 use Rattle.lmn_base.specs.Graphs.{AtomMap, Reached, at_root, across}
 use Rattle.lmn_heap.specs.Graphs.{atom_map}
 use Rattle.lmn_ground.proofs.WipeLaws.{b_reached}
-use Rattle.lmn_heap.specs.Heap.{link_of, Heap, HeapAtom, In, Distinct, IsAtom, IsInPlace, alter, gone, home_by, with_place, with_mark, links_of, marks_of, marked, taken, atom_out, place_of, arity_of, home_of}
-use Rattle.lmn_heap.proofs.ListLemmas.{each_in}
+use Rattle.lmn_heap.specs.Heap.{link_of, Heap, HeapAtom, In, Distinct, IsAtom, IsInPlace, alter, gone, home_by, with_place, with_mark, links_of, marks_of, marked, taken, atom_out, arity_of, home_of}
 use Rattle.lmn_heap.proofs.Listing.{alter_at, alter_away}
 use Rattle.lmn_ground.specs.Walks.{is_port, Net, net, next, is_in, Walk, ends}
 use Rattle.lmn_ground.specs.Marks.{paint, painted, first_marks, way, ahead, OnWay}
@@ -145,16 +144,6 @@ weight_taken mid to b d c k e =
 pub lighter_taken : (mid to : Heap) (b d c k m n : ℕ) → to ≡ taken mid b → m + weight (net mid) (first_marks mid) d c k < n → m + weight (net to) (first_marks to) d c k < n
 lighter_taken mid to b d c k m n e h = subst (λ (x : ℕ). m + x < n) (sym (weight_taken mid to b d c k e)) h
 
-pub still_there : (s : Heap) (x a : ℕ) → IsAtom s a → IsAtom (taken s x) a
-still_there s x a is = elim (cases_eq a x) [
-  | inl e ↦ subst (λ (z : ℕ). IsSome (alter s.atoms x (option_map (with_place gone)) z)) (sym e) (subst (λ (o : Option HeapAtom). IsSome o) (sym (alter_at s.atoms x (option_map (with_place gone)))) (by (s.atoms x) (subst (λ (z : ℕ). IsAtom s z) e is)))
-  | inr d ↦ subst (λ (o : Option HeapAtom). IsSome o) (sym (alter_away s.atoms x (option_map (with_place gone)) a d)) is
-]
-  where
-    by : (o : Option HeapAtom) → IsSome o → IsSome (option_map (with_place gone) o)
-    by None i = absurd (cc)
-    by (Some h) i = refl
-
 pub there_taken : (mid to : Heap) (b : ℕ) → to ≡ taken mid b → IsAtom mid b → IsAtom to b
 there_taken mid to b e i = subst (λ (s : Heap). IsAtom s b) (sym e) (subst (λ (o : Option HeapAtom). IsSome o) (sym (alter_at mid.atoms b (option_map (with_place gone)))) (by (mid.atoms b) i))
   where
@@ -182,19 +171,3 @@ pub taken_too : (before0 : Heap) (root : ℕ × ℕ) (seen met : List ℕ) (mid 
 taken_too before0 root seen met mid to b d c k l e w =
     subst (λ (s : Heap). Wiping s to root seen (met ++ b ∷ []) d c k l) (sym (taken_snoc before0 met b))
     (subst (λ (s : Heap). Wiping (taken (taken_all before0 met) b) s root seen (met ++ b ∷ []) d c k l) (sym e) (wiping_taken (taken_all before0 met) mid root seen (met ++ b ∷ []) d c k l b w))
-
-pub atom_kept : (s : Heap) (xs : List ℕ) (a : ℕ) → (In a xs → ⊥) → (taken_all s xs).atoms a ≡ s.atoms a
-atom_kept s [] a d = refl
-atom_kept s (x ∷ xs) a d = atom_kept (taken s x) xs a (λ k. d (inr k)) ∙ alter_away s.atoms x (option_map (with_place gone)) a (λ e. d (inl (sym e)))
-
--- Of these atoms each is gone, and every other atom is as it was.
-pub taken_gone : (s : Heap) (xs : List ℕ) (a : ℕ) → In a xs → Distinct xs → IsAtom s a → place_of (taken_all s xs) a ≡ Some gone
-taken_gone s [] a i d is = absurd i
-taken_gone s (x ∷ xs) a (inl e) d is =
-    ap (option_map (λ (h : HeapAtom). h.place)) (atom_kept (taken s x) xs a (λ k. each_in (λ (z : ℕ). x ≢ z) xs a d.0 k e))
-    ∙ subst (λ (z : ℕ). place_of (taken s z) a ≡ Some gone) (sym e) (ap (option_map (λ (h : HeapAtom). h.place)) (alter_at s.atoms a (option_map (with_place gone))) ∙ by (s.atoms a) is)
-  where
-    by : (o : Option HeapAtom) → IsSome o → option_map (λ (h : HeapAtom). h.place) (option_map (with_place gone) o) ≡ Some gone
-    by None i = absurd (cc)
-    by (Some h) i = refl
-taken_gone s (x ∷ xs) a (inr k) d is = taken_gone (taken s x) xs a k d.1 (still_there s x a is)

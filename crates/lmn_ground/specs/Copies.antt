@@ -1,5 +1,5 @@
 -- Copies of parts.
-use Rattle.std.specs.Prelude.{ℕ, ◌≡◌, ◌≢◌, ◌⊎◌, ◌≤◌, List, [], ◌∷◌, Some, None, IsSome, length}
+use Rattle.std.specs.Prelude.{ℕ, ◌≡◌, ◌⊎◌, ◌≤◌, List, [], ◌∷◌, Some, None, IsSome, length, ◌≢◌}
 use Rattle.std.specs.Option.{option_map}
 use Rattle.lmn_heap.specs.Heap.{Heap, In, Distinct, arity_of, link_of, marked}
 use Rattle.lmn_heap.specs.Sound.{Paired}

@@ -1,9 +1,7 @@
 //! A part is copied.
-ghost use Rattle.std.specs.Prelude.{◌≡◌, ◌≢◌, ◌<◌, ℕ, List, [], None, Some, IfOk, OnErr, OnOk, length, map};
-ghost use Rattle.lmn_base.specs.Graphs.{Reached};
-ghost use Rattle.lmn_heap.specs.Graphs.{atom_map};
+ghost use Rattle.std.specs.Prelude.{◌≡◌, ◌<◌, ℕ, List, [], None, IfOk, OnErr, OnOk, length, map, Some};
 ghost use Rattle.lmn_heap.specs.Conditions.{Alone};
-ghost use Rattle.lmn_heap.specs.Heap.{In, IsAtom, arity_of, link_of};
+ghost use Rattle.lmn_heap.specs.Heap.{In, IsAtom, arity_of};
 ghost use Rattle.lmn_ground.specs.Marks.{first_marks};
 ghost use Rattle.lmn_ground.specs.Walks.{ports};
 ghost use Rattle.lmn_ground.specs.Spread.{Clean, CleanPart, IsWhole, Numbered};

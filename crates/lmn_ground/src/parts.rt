@@ -1,5 +1,5 @@
 //! What can be asked of a part.
-ghost use Rattle.std.specs.Prelude.{◌≡◌, ◌<◌, ◌↔◌, ℕ, List, None, Some, IsTrue, length};
+ghost use Rattle.std.specs.Prelude.{◌≡◌, ◌<◌, ◌↔◌, ℕ, List, None, IsTrue, length, Some};
 ghost use Rattle.lmn_base.specs.Graphs.{Reached};
 ghost use Rattle.lmn_heap.specs.Graphs.{atom_map};
 ghost use Rattle.lmn_heap.specs.Heap.{IsAtom, IsInPlace, IsMem, arity_of};

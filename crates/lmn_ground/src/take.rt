@@ -1,5 +1,5 @@
 //! The walk that takes the marks back and the atoms out.
-ghost use Rattle.std.specs.Prelude.{◌≡◌, ◌<◌, ◌+◌, ℕ, Bool};
+ghost use Rattle.std.specs.Prelude.{◌≡◌, ◌<◌, ℕ, Bool, ◌+◌};
 ghost use Rattle.lmn_heap.specs.Heap.{Heap, In, IsAtom, IsInPlace, arity_of};
 ghost use Rattle.lmn_ground.specs.Spread.{Spread, taken_all};
 

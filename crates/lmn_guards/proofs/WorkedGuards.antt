@@ -1,12 +1,11 @@
 -- What is said of the guards of small texts, by computation.
-use Rattle.std.proofs.Common.{ℕ, ℤ, pos, false, ◌≡◌, List, [], ◌∷◌, ◌++◌, refl, sym, ap, subst, ◌∙◌}
+use Rattle.std.proofs.Common.{ℕ, ℤ, pos, false, ◌≡◌, List, [], ◌∷◌, ◌++◌, refl, ap, ◌∙◌}
 use Rattle.std.specs.List.{flat_map}
 use Rattle.lmn_base.specs.declared.item.Item.{Item}
 use Rattle.lmn_base.specs.declared.level.Level.{Level}
 use Rattle.lmn_base.specs.declared.level.Level.TheOpen.{Level-F}
 use Rattle.lmn_base.specs.declared.level.Level.TheViews.{roll-Level, out-roll-Level}
-use Rattle.lmn_base.specs.Items.{items_of, own_items, leaf_item, used, expression_items, expression_step, condition_items}
-use Rattle.lmn_base.specs.Uses.{has_use}
+use Rattle.lmn_base.specs.Items.{items_of, own_items, used, expression_items, expression_step, condition_items}
 use Rattle.lmn_base.proofs.ItemLemmas.{items_apart}
 use Rattle.lmn_base.specs.declared.guard.Cmp.TheVariants.{Lt}
 use Rattle.lmn_base.specs.declared.guard.Cond.TheVariants.{Compare}
@@ -18,7 +17,7 @@ use Rattle.lmn_base.specs.declared.guard.Expr.TheFolds.{fold-roll-Expr}
 use Rattle.lmn_base.specs.declared.item.Form.TheVariants.{Typed}
 use Rattle.lmn_base.specs.declared.level.CtxUse.{CtxUse}
 use Rattle.lmn_guards.specs.GuardCodes.{in_head, use_of_none}
-use Rattle.lmn_guards.specs.Examples.{at, x, z, use_at, bound_z, a_of_x, a_alone, Unknown, WrongOperands, Unbound, BoundBefore, BoundOperands, Narrowest}
+use Rattle.lmn_guards.specs.Examples.{at, x, z, use_at, bound_z, a_alone, Unknown, WrongOperands, Unbound, BoundBefore, BoundOperands, Narrowest}
 
 listed : (l : Level-F Level) → items_of (roll-Level l) ≡ own_items l ++ flat_map items_of l.membranes
 listed l = items_apart (roll-Level l) ∙ ap (λ o. own_items o ++ flat_map items_of o.membranes) (out-roll-Level l)

@@ -1,5 +1,5 @@
 -- Rules of small texts, and what is said of their guards.
-use Rattle.std.specs.Prelude.{ℕ, pos, ◌≡◌, List, [], ◌∷◌, Option, Some, None}
+use Rattle.std.specs.Prelude.{ℕ, pos, ◌≡◌, List, [], ◌∷◌, Some, None}
 use Rattle.lmn_base.specs.declared.functor.Label.TheVariants.{Name}
 use Rattle.lmn_base.specs.declared.guard.Cmp.TheVariants.{Lt}
 use Rattle.lmn_base.specs.declared.guard.Cond.{Cond}
@@ -11,8 +11,7 @@ use Rattle.lmn_base.specs.declared.level.Leaf.TheVariants.{Atom, Typed}
 use Rattle.lmn_base.specs.declared.level.Level.{Level}
 use Rattle.lmn_base.specs.declared.level.Level.TheViews.{roll-Level}
 use Rattle.lmn_base.specs.declared.refusal.Pos.{Pos}
-use Rattle.lmn_base.specs.declared.rule.RuleTree.{RuleTree}
-use Rattle.lmn_guards.specs.GuardCodes.{unknown, unbound, wrong_operands, type_of, rows_of_typed}
+use Rattle.lmn_guards.specs.GuardCodes.{unknown, unbound, wrong_operands, type_of}
 use Rattle.lmn_guards.specs.declared.plan.TypeKind.TheVariants as kind
 
 -- a place in the first line
@@ -41,10 +40,6 @@ only_leaves leaves = roll-Level (record { leaves = leaves; membranes = []; conte
 -- `a($x)`, with a link
 abbrev pub a_of_x : Level
 a_of_x = only_leaves (Atom (record { label = Name a; arity = 1 }) (record { link = 0; pos = at 1 } ∷ []) (at 1) ∷ Typed x (record { link = 0; pos = at 1 }) (at 3) ∷ [])
-
--- `$x[X]` alone
-abbrev pub x_alone : Level
-x_alone = only_leaves (Typed x (record { link = 0; pos = at 4 }) (at 1) ∷ [])
 
 -- `a` alone
 abbrev pub a_alone : Level

@@ -1,7 +1,7 @@
 -- A membrane stands in one place of the tree.
 use Rattle.std.proofs.Common.{◌≡◌, ◌≢◌, ◌⊎◌, ℕ, zero, suc, ◌+◌, ◌≤◌, ◌^◌, List, [], ◌∷◌, ◌++◌, length, Option, Some, None, refl, sym, ap, subst, ◌∙◌, inl, inr, arith, length-append}
 use Rattle.lmn_heap.specs.Lists.{In, Distinct}
-use Rattle.lmn_heap.specs.Heap.{Heap, top, parent_of, mems_in, IsMem}
+use Rattle.lmn_heap.specs.Heap.{Heap, top, parent_of, mems_in}
 use Rattle.lmn_heap.specs.Sound.{Forest, bare, mem, flat, Forms, IsTree, Listed, Sound, AtMost}
 use Rattle.lmn_heap.specs.Conditions.{Above}
 use Rattle.lmn_heap.specs.Trees.{forest_of, tree_of}
@@ -105,7 +105,3 @@ tree_is s f sound most t =
     let short = not_longer (flat f) most.mems t.once (λ x i. most.all_mems x (is_mem s sound f t x i)) in
     let few = most.few in
     forest_is s (2 ^ 48) f (s.root ∷ []) t.forms (omega (arith, short, few))
-
--- the tree of the root, from its forest alone
-pub tree_by : (s : Heap) (f : Forest) → Listed s → Forms s f (s.root ∷ []) → ((m : ℕ) → IsMem s m → In m (flat f)) → IsTree s f
-tree_by s f h F all = record { forms = F; once = tree_once s h f F; all = all }

@@ -1,13 +1,12 @@
 -- The lists of a store agree with the places of its items, after each call on membranes.
 use Rattle.std.proofs.Common.{◌≡◌, ◌≢◌, ℕ, List, [], ◌∷◌, ◌++◌, Option, Some, None, IsSome, refl, sym, ap, subst, ◌∙◌, inl, inr}
 use Rattle.std.proofs.lemmas.Bool.{cases_eq}
-use Rattle.std.specs.Prelude.{slice_index_or}
 use Rattle.std.specs.Option.{option_map}
 use Rattle.lmn_heap.specs.Lists.{In, Distinct, from, without}
-use Rattle.lmn_heap.specs.Heap.{Heap, HeapAtom, HeapMem, Place, top, within, waiting, gone, alter, place_of, mem_place_of, parent_of, atoms_in, mems_in, atoms_by, mems_by, links_of, mem_with_place, mem_with_mems, mem_out, new_mem, made_mem, placed_mem, taken_mem}
-use Rattle.lmn_heap.specs.Sound.{Paired, Listed}
+use Rattle.lmn_heap.specs.Heap.{Heap, HeapMem, Place, top, within, waiting, gone, alter, place_of, mem_place_of, parent_of, atoms_in, mems_in, atoms_by, mems_by, mem_with_place, mem_with_mems, mem_out, new_mem, made_mem, placed_mem, taken_mem}
+use Rattle.lmn_heap.specs.Sound.{Listed}
 use Rattle.lmn_heap.proofs.Heights.{parent_place, mem_of_list}
-use Rattle.lmn_heap.proofs.Listing.{alter_at, alter_away, alter_keeps, Turns, gains, loses, keeps, turned, distinct_without, distinct_snoc, without_first, same_paired}
+use Rattle.lmn_heap.proofs.Listing.{alter_at, alter_away, alter_keeps, Turns, gains, loses, keeps, turned, distinct_without, distinct_snoc, without_first}
 
 -- a membrane goes to another place
 pub record OneMemMoves (s t : Heap) (n : ℕ) (Q : Place) : Type 0 where
@@ -234,7 +233,3 @@ made_mem_listed s n h fresh =
             (read (List ℕ) atoms_by refl k ∙ b.0, read (List ℕ) mems_by refl k ∙ b.1))
       ];
     }) h
-
--- calls on membranes keep the partners
-pub mems_paired : (s t : Heap) → t.atoms ≡ s.atoms → Paired s → Paired t
-mems_paired s t e = same_paired s t (λ x i. ap (λ (f : ℕ → Option HeapAtom). slice_index_or (links_of (f x)) i None) e)

@@ -1,5 +1,5 @@
 -- Where a membrane stands in a forest, and what follows it.
-use Rattle.std.proofs.Common.{◌≡◌, ◌⊎◌, ℕ, ◌<◌, ◌+◌, ◌-◌, ◌==◌, List, [], ◌∷◌, ◌++◌, length, cond, true, false, Bool, Option, Some, None, IsSome, IfSome, refl, sym, ap, subst, ◌∙◌, inl, inr, arith}
+use Rattle.std.proofs.Common.{◌≡◌, ◌⊎◌, ℕ, ◌<◌, ◌+◌, ◌-◌, ◌==◌, List, [], ◌∷◌, ◌++◌, length, cond, true, false, Bool, Option, Some, None, IsSome, refl, sym, ap, subst, ◌∙◌, inl, inr, arith}
 use Rattle.std.proofs.lemmas.Bool.{eq-eqb}
 use Rattle.std.proofs.lemmas.List.{append_assoc, length-append}
 use Rattle.std.specs.Option.{option_map, option_and_then}
@@ -317,7 +317,3 @@ root_first s f t = by f t.forms
 -- what comes next is there
 pub next_in : (m n : ℕ) (xs : List ℕ) → from (Some n) xs ≡ after m xs → In n xs
 next_in m n xs e = let t = tail_of m xs in subst (In n) (sym (t.1 ∙ ap (λ ys. t.0 ++ ys) (sym e))) (in_here n t.0 (after n xs))
-
-pub next_there : {A : Type 0} (o : Option A) (id : A → ℕ) (m : ℕ) (xs : List ℕ) → from (option_map id o) xs ≡ after m xs → IfSome o (λ n. In (id n) xs)
-next_there None id m xs e = tt
-next_there (Some n) id m xs e = next_in m (id n) xs e

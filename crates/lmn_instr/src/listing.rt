@@ -1,9 +1,8 @@
-ghost use Rattle.std.specs.Prelude.{◌≡◌, ◌≤◌, ◌++◌, codes, map, option_to_list, OnOk, OnErr};
+ghost use Rattle.std.specs.Prelude.{◌++◌, codes, map, option_to_list};
 ghost use Rattle.std.specs.Fmt.{decimal, signed_decimal};
 ghost use Rattle.std.specs.List.{flat_map, AllByRecursion};
-ghost use Rattle.lmn_io.specs.Counts.{Rose};
 ghost use Rattle.lmn_io.specs.Gathering.{Adds, output};
-ghost use Rattle.lmn_io.specs.Taking.{Takes, TakesPrefix};
+ghost use Rattle.lmn_io.specs.Writing.{WritesText};
 ghost use Rattle.lmn_instr.specs.Labels.{HasLabel};
 ghost use Rattle.lmn_instr.specs.Listings.{port_text, functor_text, operand_text, operands_text, line, code_listing, HasOperand, HasInstr, HasCode};
 ghost use Rattle.lmn_instr.specs.declared.words.Operand.TheVariants as operand;
@@ -23,11 +22,7 @@ use lmn_io::{Failed, LineBuffer, Sink};
 /// `Failed` where the sink failed; it then took a prefix of the listing.
 pub fn list<O: Sink>(code: &Code, number: u32, names: &Names, sink: &mut O) -> Result<(), Failed>
     requires { HasCode names.now code.now }
-    ensures took { OnOk result (Takes (code_listing names.now code.now number) (O.told sink.old) (O.told sink.new)) }
-    ensures prefix { OnErr result (TakesPrefix (code_listing names.now code.now number) (O.told sink.old) (O.told sink.new)) }
-    ensures later { O.faults sink.old ≤ O.faults sink.new }
-    ensures same { OnOk result (O.faults sink.new ≡ O.faults sink.old) }
-    ensures rose { OnErr result (Rose (O.faults sink.old) (O.faults sink.new)) }
+    ensures { WritesText (code_listing names.now code.now number) result (O.told sink.old) (O.faults sink.old) (O.told sink.new) (O.faults sink.new) }
 {
     let mut buffer = LineBuffer::new();
     add_code(&mut buffer, sink, names, code, number);

@@ -67,10 +67,19 @@ gathers_part a kept (Some old) mid new first later =
       then'.3 ∙ ap Some (append_assoc old first.0 then'.0),
     )
 
--- one piece is taken, and then another
+-- one piece is taken, and another is kept back behind it
+pub kept_behind : (a b kept : List ℕ) (old mid : Option (List ℕ)) → kept ≡ b → Takes a old mid → Gathers (a ++ b) old kept mid
+kept_behind a b kept old mid behind first =
+    subst (λ k. Gathers (a ++ b) old k mid) (sym behind) (gathers_more a b [] b old mid mid (takes_gathers a old mid first) (nothing_taken b mid))
+
+-- one piece is taken, and then another, behind which nothing is kept back
 pub takes_more : (a b kept : List ℕ) (old mid new : Option (List ℕ)) → kept ≡ [] → Takes a old mid → Takes b mid new → Gathers (a ++ b) old kept new
 takes_more a b kept old mid new none first later =
     rw none (gathers_more a b [] [] old mid new (takes_gathers a old mid first) (takes_gathers b mid new later))
+
+-- one piece is taken, and then another
+pub takes_both : (a b : List ℕ) (old mid new : Option (List ℕ)) → Takes a old mid → Takes b mid new → Takes (a ++ b) old new
+takes_both a b old mid new first later = gathers_takes (a ++ b) b old mid new (kept_behind a b b old mid refl first) later
 
 -- one piece is taken, and then a prefix of another
 pub prefix_after : (a b : List ℕ) (old mid new : Option (List ℕ)) → Takes a old mid → TakesPrefix b mid new → TakesPrefix (a ++ b) old new

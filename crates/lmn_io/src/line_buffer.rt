@@ -1,7 +1,8 @@
 ghost use Rattle.std.specs.Prelude.{◌≡◌, ◌≤◌, ◌++◌, ℕ, List, Option, OnOk, OnErr};
 ghost use Rattle.lmn_io.specs.Counts.{Rose};
-ghost use Rattle.lmn_io.specs.Taking.{Takes, TakesPrefix, Gathers};
+ghost use Rattle.lmn_io.specs.Taking.{TakesPrefix, Gathers};
 ghost use Rattle.lmn_io.specs.Gathering.{Adds, all_of, nothing_pending, output};
+ghost use Rattle.lmn_io.specs.Writing.{WritesText};
 
 use crate::kept::Kept;
 use crate::sink::{Failed, Sink};
@@ -84,11 +85,7 @@ impl LineBuffer {
     /// `Failed` where a put has failed; the sink then took a prefix of all that was added.
     #[tactic(auto, using(crate::proofs::TakingLemmas::taking))]
     pub fn finish<O: Sink>(self, sink: &mut O) -> Result<(), Failed>
-        ensures took { (text : List ℕ) (told : Option (List ℕ)) (faults : ℕ) → Adds text (output nothing_pending told faults) (output self (O.told sink.old) (O.faults sink.old)) → OnOk result (Takes text told (O.told sink.new)) }
-        ensures prefix { (text : List ℕ) (told : Option (List ℕ)) (faults : ℕ) → Adds text (output nothing_pending told faults) (output self (O.told sink.old) (O.faults sink.old)) → OnErr result (TakesPrefix text told (O.told sink.new)) }
-        ensures later { (text : List ℕ) (told : Option (List ℕ)) (faults : ℕ) → Adds text (output nothing_pending told faults) (output self (O.told sink.old) (O.faults sink.old)) → faults ≤ O.faults sink.new }
-        ensures same { (text : List ℕ) (told : Option (List ℕ)) (faults : ℕ) → Adds text (output nothing_pending told faults) (output self (O.told sink.old) (O.faults sink.old)) → OnOk result (O.faults sink.new ≡ faults) }
-        ensures rose { (text : List ℕ) (told : Option (List ℕ)) (faults : ℕ) → Adds text (output nothing_pending told faults) (output self (O.told sink.old) (O.faults sink.old)) → OnErr result (Rose faults (O.faults sink.new)) }
+        ensures { (text : List ℕ) (told : Option (List ℕ)) (faults : ℕ) → Adds text (output nothing_pending told faults) (output self (O.told sink.old) (O.faults sink.old)) → WritesText text result told faults (O.told sink.new) (O.faults sink.new) }
     {
         if self.failed {
             return Err(Failed);
@@ -103,11 +100,7 @@ impl LineBuffer {
 ///
 /// `Failed` where a put failed; the sink then took a prefix of the pieces.
 pub fn put_all<O: Sink>(sink: &mut O, pieces: &[&[u8]]) -> Result<(), Failed>
-    ensures took { OnOk result (Takes (all_of pieces.now) (O.told sink.old) (O.told sink.new)) }
-    ensures prefix { OnErr result (TakesPrefix (all_of pieces.now) (O.told sink.old) (O.told sink.new)) }
-    ensures later { O.faults sink.old ≤ O.faults sink.new }
-    ensures same { OnOk result (O.faults sink.new ≡ O.faults sink.old) }
-    ensures rose { OnErr result (Rose (O.faults sink.old) (O.faults sink.new)) }
+    ensures { WritesText (all_of pieces.now) result (O.told sink.old) (O.faults sink.old) (O.told sink.new) (O.faults sink.new) }
 {
     let mut buffer = LineBuffer::new();
     buffer.add_all(sink, pieces);

@@ -1,7 +1,7 @@
 ghost use Rattle.std.specs.Prelude.{◌≡◌, ◌≤◌, ◌↔◌, ◌++◌, List, [], Some, length, IfOk, IsErr, OnErr, OnOk};
-ghost use Rattle.lmn_io.specs.Counts.{Rose, one_more};
-ghost use Rattle.lmn_io.specs.Taking.{Takes, TakesPrefix};
+ghost use Rattle.lmn_io.specs.Counts.{one_more};
 ghost use Rattle.lmn_io.specs.Memory.{Taken, PutFails};
+ghost use Rattle.lmn_io.specs.Writing.{WritesText};
 
 use crate::sink::{Failed, Sink};
 use lmn_base::{NoMemory, Rows};
@@ -63,11 +63,7 @@ impl Sink for MemSink {
 
     /// A put fails exactly where its number is listed or there is no room for the whole piece; then nothing is taken.
     fn put(&mut self, piece: &[u8]) -> Result<(), Failed>
-        ensures later { self.old.failures ≤ self.new.failures }
-        ensures took { OnOk result (Takes piece.now (Some self.old.bytes) (Some self.new.bytes)) }
-        ensures prefix { OnErr result (TakesPrefix piece.now (Some self.old.bytes) (Some self.new.bytes)) }
-        ensures same { OnOk result (self.new.failures ≡ self.old.failures) }
-        ensures rose { OnErr result (Rose self.old.failures self.new.failures) }
+        ensures writes { WritesText piece.now result (Some self.old.bytes) self.old.failures (Some self.new.bytes) self.new.failures }
         ensures fails { IsErr result ↔ PutFails self.old piece.now }
         ensures refused { OnErr result (self.new ≡ record self.old { calls = one_more self.old.calls; failures = one_more self.old.failures }) }
         ensures accepted { OnOk result (self.new ≡ record self.old { bytes = self.old.bytes ++ piece.now; calls = one_more self.old.calls }) }

@@ -7,9 +7,8 @@ pub struct Failed;
 
 /// Where output goes.
 pub trait Sink {
-    ghost use Rattle.std.specs.Prelude.{◌≡◌, ◌≤◌, ℕ, List, Option, OnOk, OnErr};
-    ghost use Rattle.lmn_io.specs.Counts.{Rose};
-    ghost use Rattle.lmn_io.specs.Taking.{Takes, TakesPrefix};
+    ghost use Rattle.std.specs.Prelude.{ℕ, List, Option};
+    ghost use Rattle.lmn_io.specs.Writing.{WritesText};
 
     /// The bytes that the sink took, where it tells them.
     ghost told: { Self → Option (List ℕ) };
@@ -22,9 +21,5 @@ pub trait Sink {
     ///
     /// `Failed` where the sink took only a prefix of the piece, which the count shows.
     fn put(&mut self, piece: &[u8]) -> Result<(), Failed>
-        ensures later { faults self.old ≤ faults self.new }
-        ensures took { OnOk result (Takes piece.now (told self.old) (told self.new)) }
-        ensures prefix { OnErr result (TakesPrefix piece.now (told self.old) (told self.new)) }
-        ensures same { OnOk result (faults self.new ≡ faults self.old) }
-        ensures rose { OnErr result (Rose (faults self.old) (faults self.new)) };
+        ensures writes { WritesText piece.now result (told self.old) (faults self.old) (told self.new) (faults self.new) };
 }

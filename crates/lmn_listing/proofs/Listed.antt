@@ -1,6 +1,7 @@
 -- One listing after the other.
-use Rattle.std.proofs.Common.{ℕ, zero, suc, ◌≡◌, ◌<◌, ◌+◌, List, [], ◌∷◌, ◌++◌, length, take, Option, Some, None, refl, sym, ap, subst, ◌∙◌, append_assoc, append-nil, arith}
-use Rattle.std.specs.Prelude.{slice_get, All, Result, Ok, Err, OnErr}
+use Rattle.std.proofs.Common.{ℕ, zero, suc, ◌≡◌, ◌<◌, ◌+◌, List, [], ◌∷◌, ◌++◌, length, take, Option, Some, refl, sym, ap, subst, ◌∙◌, append_assoc, append-nil, arith}
+use Rattle.std.specs.Prelude.{slice_get, All, Result, Ok, Err}
+use Rattle.std.specs.Result.{IsErrAnd}
 use Rattle.std.specs.List.{flat_map, AllByRecursion}
 use Rattle.std.proofs.lemmas.List.Elements.{All-from_recursion, recursion_from_All}
 use Rattle.std.proofs.lemmas.Option.{same_Some}
@@ -11,8 +12,8 @@ use Rattle.lmn_guards.specs.declared.plan.GuardPlan.{GuardPlan}
 use Rattle.lmn_instr.specs.declared.instr.Code.{Code}
 use Rattle.lmn_instr.specs.Listings.{code_listing, HasCode}
 use Rattle.lmn_instr.proofs.ListingLemmas.{all_front, all_back}
-use Rattle.lmn_io.specs.Taking.{Takes, TakesPrefix}
-use Rattle.lmn_io.proofs.TakingLemmas.{prefix_after, prefix_more}
+use Rattle.lmn_io.specs.Writing.{WritesText}
+use Rattle.lmn_io.proofs.WritingLemmas.{writes_both, writes_front}
 use Rattle.lmn_strategy.specs.Compiled.{AreCompiled, IsCompiled}
 use Rattle.lmn_listing.specs.Listings.{rule_codes, code_listings, CodesHaveNames}
 
@@ -31,8 +32,8 @@ each_code (r ∷ rs) (p ∷ ps) (c ∷ cs) m n each =
     λ i. record { head = is.head i; body = is.body i } ∷ rest i
 
 -- codes that are compiled are those of the rules
-pub codes_are : (table : List RuleTree) (plans : List GuardPlan) (codes slice : List Code) → length plans ≡ length table → AreCompiled table plans codes → slice ≡ codes → slice ≡ rule_codes table plans
-codes_are table plans codes slice many are same = same ∙ each_code table plans codes many are.many are.each
+pub codes_are : (table : List RuleTree) (plans : List GuardPlan) (codes : List Code) → length plans ≡ length table → AreCompiled table plans codes → codes ≡ rule_codes table plans
+codes_are table plans codes many are = each_code table plans codes many are.many are.each
 
 table_held : (names : List (List ℕ)) → CodesHaveNames → (table : List RuleTree) (plans : List GuardPlan) →
     AllByRecursion (λ n. n < length names) (flat_map rule_names table) → AllByRecursion (HasCode names) (rule_codes table plans)
@@ -51,17 +52,7 @@ codes_held names p plans law known =
     All-from_recursion (HasCode names) (rule_codes p.rules plans)
     (table_held names law p.rules plans (all_back P (level_names p.top) (flat_map rule_names p.rules) (recursion_from_All P (plain_names p) known)))
 
--- what holds anyway holds where there is an error
-pub on_err : {T E : Type 0} (r : Result T E) (P : Type 0) → P → OnErr r P
-on_err (Ok x) P p = tt
-on_err (Err e) P p = p
-
--- ---- what is taken
-
--- one text, and then another
-pub both_taken : (a b : List ℕ) (old mid new : Option (List ℕ)) → Takes a old mid → Takes b mid new → Takes (a ++ b) old new
-both_taken a b None mid new first later = subst (λ m. Takes b m new) first later
-both_taken a b (Some old) mid new first later = subst (λ m. Takes b m new) first later ∙ ap Some (append_assoc old a b)
+-- ---- what is written
 
 module _ (names : List (List ℕ)) where
   -- the next listing follows those of the codes before it
@@ -83,23 +74,26 @@ module _ (names : List (List ℕ)) where
       let r = front_from xs (j + 1) k in
       (r.0, ap (λ t. code_listing names x j ++ t) r.1 ∙ sym (append_assoc (code_listing names x j) (code_listings names (j + 1) (take k xs)) r.0))
 
-  abbrev so_far : List Code → ℕ → List ℕ
+  abbrev pub so_far : List Code → ℕ → List ℕ
   so_far codes k = code_listings names 0 (take k codes)
 
   next_is : (codes : List Code) (k : ℕ) (code : Code) → slice_get codes k ≡ Some code → so_far codes (k + 1) ≡ so_far codes k ++ code_listing names code k
   next_is codes k code e =
       subst (λ n. so_far codes n ≡ so_far codes k ++ code_listing names code k) (let s : suc k ≡ k + 1 = omega arith in s) (next_from codes 0 k k code (let z : k ≡ 0 + k = omega arith in z) e)
 
-  -- one more is taken
-  pub one_more : (codes : List Code) (k : ℕ) (code : Code) (old mid new : Option (List ℕ)) → slice_get codes k ≡ Some code →
-      Takes (so_far codes k) old mid → Takes (code_listing names code k) mid new → Takes (so_far codes (k + 1)) old new
-  one_more codes k code old mid new e first later =
-      subst (λ t. Takes t old new) (sym (next_is codes k code e)) (both_taken (so_far codes k) (code_listing names code k) old mid new first later)
+  -- the code at a place, as a list has it
+  module _ (codes : List Code) (k : ℕ) (code : Code) (at : slice_get codes k ≡ Some code) where
+    -- one listing more is written, or a part of it
+    pub next_written : {A B D E : Type 0} (x : A) (r : Result B E) (old mid new : Option (List ℕ)) (f g n : ℕ) →
+        WritesText {A = A} {E = D} (so_far codes k) (Ok x) old f mid g → WritesText (code_listing names code k) r mid g new n → WritesText (so_far codes (k + 1)) r old f new n
+    next_written x r old mid new f g n =
+        writes_both (λ text. text ≡ so_far codes k) (λ text. text ≡ code_listing names code k) (λ text. text ≡ so_far codes (k + 1)) x r old mid new f g n
+        (λ text is. (so_far codes k, code_listing names code k, refl, refl, is ∙ next_is codes k code at))
 
-  -- a prefix of one more is taken
-  pub part_more : (codes : List Code) (k : ℕ) (code : Code) (old mid new : Option (List ℕ)) → slice_get codes k ≡ Some code →
-      Takes (so_far codes k) old mid → TakesPrefix (code_listing names code k) mid new → TakesPrefix (code_listings names 0 codes) old new
-  part_more codes k code old mid new e first later =
-      let rest = front_from codes 0 (k + 1) in
-      let part = subst (λ t. TakesPrefix t old new) (sym (next_is codes k code e)) (prefix_after (so_far codes k) (code_listing names code k) old mid new first later) in
-      subst (λ t. TakesPrefix t old new) (sym rest.1) (prefix_more (so_far codes (k + 1)) rest.0 old new part)
+    -- a part of one listing more is a part of all
+    pub part_written : {A B D E : Type 0} (S : E → Type 0) (x : A) (d : D) (r : Result B E) (old mid new : Option (List ℕ)) (f g n : ℕ) → IsErrAnd r S →
+        WritesText {A = A} {E = D} (so_far codes k) (Ok x) old f mid g → WritesText {A = B} {E = D} (code_listing names code k) (Err d) mid g new n → WritesText (code_listings names 0 codes) r old f new n
+    part_written S x d r old mid new f g n failed first later =
+        let rest = front_from codes 0 (k + 1) in
+        writes_front (λ text. text ≡ so_far codes (k + 1)) (λ text. text ≡ code_listings names 0 codes) S d r old new f n failed
+        (λ text is. (so_far codes (k + 1), rest.0, refl, is ∙ rest.1)) (next_written x (Err d) old mid new f g n first later)

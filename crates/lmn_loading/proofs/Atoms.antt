@@ -131,10 +131,6 @@ line_first xs a e = rw e (rw (eq-eqb a a refl) refl)
 pub line_rest : (xs : List ℕ) (a : ℕ) → xs ≡ [] → after a (xs ++ a ∷ []) ≡ []
 line_rest xs a e = rw e (rw (eq-eqb a a refl) refl)
 
--- what is first in a line of one
-pub only_first : (xs : List ℕ) (a b : ℕ) → xs ≡ [] → from (Some b) (xs ++ a ∷ []) ≡ xs ++ a ∷ [] → b ≡ a
-only_first xs a b e h = let w : b ∷ after b (xs ++ a ∷ []) ≡ xs ++ a ∷ [] = h in let u : b ∷ after b (xs ++ a ∷ []) ≡ a ∷ [] = w ∙ ap (λ ys. ys ++ a ∷ []) e in cc u
-
 module _ (s : Heap) (m a : ℕ) (f : Functor) (os : List Occ) (pos : Pos) (h : IsReady s m) (fresh : s.atoms a ≡ None) (plain : is_connector f ≡ false) (fits : length os ≡ f.arity) where
   abbrev t : Heap
   t = with_atom s m a f

@@ -1,5 +1,5 @@
 -- Tables of classes: a way made shorter, and two classes joined.
-use Rattle.std.proofs.Common.{ℕ, ◌≤◌, ◌<◌, ◌≡◌, List, [], ◌∷◌, length, get_or, refl, sym, ap, subst, ◌∙◌, inl, inr, arith, length-set}
+use Rattle.std.proofs.Common.{ℕ, ◌≤◌, ◌<◌, ◌≡◌, List, length, get_or, sym, ap, subst, ◌∙◌, inl, inr, arith, length-set}
 use Rattle.std.specs.Prelude.{min, max, slice_set, slice_get, Some}
 use Rattle.std.proofs.lemmas.List.{get_or-set_same, get_or-set_other}
 use Rattle.std.proofs.lemmas.Option.{get_or_from_slice_get}
@@ -83,24 +83,6 @@ pub record Leads (table : List ℕ) (es : List (ℕ × ℕ)) (whole : ℕ → �
   pub class : ℕ → ℕ
   pub now : Represents table class
   pub rest : classes class es ≡ whole
-
-pub leads_on : (t u : List ℕ) (left es : List (ℕ × ℕ)) (e : ℕ × ℕ) (whole : ℕ → ℕ) → left ≡ e ∷ es → Leads t left whole →
-    ((m : ℕ → ℕ) → Represents t m → Represents u (with_joined m e.0 e.1)) → Leads u es whole
-leads_on t u left es e whole h l step = record {
-  class = with_joined l.class e.0 e.1;
-  now = step l.class l.now;
-  rest = ap (λ k. classes l.class k) (sym h) ∙ l.rest;
-}
-
-pub leads_end : (t : List ℕ) (left : List (ℕ × ℕ)) (whole : ℕ → ℕ) → left ≡ [] → Leads t left whole → Represents t whole
-leads_end t left whole h l = subst (λ k. Represents t k) (ap (λ k. classes l.class k) (sym h) ∙ l.rest) l.now
-
--- links alone
-pub alone_forest : (t : List ℕ) (n : ℕ) → length t ≡ n → ((x : ℕ) → x < n → get_or t x 0 ≡ x) → IsForest t
-alone_forest t n e same = record { down = λ x k. (let s = same x (subst (λ w. x < w) e k) in omega (arith, s)) }
-
-pub alone_classes : (t : List ℕ) (n : ℕ) → length t ≡ n → ((x : ℕ) → x < n → get_or t x 0 ≡ x) → Represents t (λ z. z)
-alone_classes t n e same = record { same = λ x k. same x (subst (λ w. x < w) e k); root = λ x k h. refl }
 
 -- one step to the least link
 pub find_step : (old t u : List ℕ) (x y z link : ℕ) → link < length old → length t ≡ length old → IsForest t → x ≤ link → slice_get t x ≡ Some y → (y ≡ x → ⊥) → slice_get t y ≡ Some z → u ≡ slice_set t x z →

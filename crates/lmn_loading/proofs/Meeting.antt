@@ -42,9 +42,6 @@ some_is p q e = (cc)
 not_some : (o : Option Port) (p : Port) → o ≡ None → o ≡ Some p → ⊥
 not_some o p e f = absurd (let w : ◌≡◌ {A = Option Port} None (Some p) = sym e ∙ f in cc)
 
-none_some : (o : Option Port) → o ≡ None → IsSome o → ⊥
-none_some o e i = absurd (cc (e, i))
-
 apart_parts : (p q : Port) → p ≢ q → SamePort p.0 p.1 q.0 q.1 → ⊥
 apart_parts p q d w = d (λ t. (w.0 t, w.1 t))
 

@@ -20,11 +20,11 @@ use Rattle.lmn_heap.proofs.Calls.{calls_keep_sound}
 use Rattle.lmn_heap.proofs.ListLemmas as lemmas
 use Rattle.lmn_heap.proofs.Trees.{nil_right}
 use Rattle.lmn_heap.proofs.Listing.{alter_at, alter_away}
-use Rattle.lmn_splice.specs.Ports.{Port}
 use Rattle.lmn_splice.specs.Splice.{often, links}
 use Rattle.lmn_loading.specs.Adding.{IsReady, Named, atom_links, Adds, with_mem}
 use Rattle.lmn_loading.proofs.Composing.{standing_is_mem, none_is_not, leaves_both}
 use Rattle.lmn_loading.proofs.Atoms.{line_first, line_rest}
+use Rattle.lmn_splice.specs.Ports.{Port}
 
 -- a level without its connectors, by its lists
 pub fused_apart : (v : ℕ → ℕ) (l : Level) → fused_region v l ≡ roll-Region (record { atoms = flat_map (fused_leaf v) (out-Level l).leaves; membranes = map (fused_region v) (out-Level l).membranes; rules = (out-Level l).rules })

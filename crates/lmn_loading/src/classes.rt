@@ -1,4 +1,4 @@
-ghost use Rattle.std.specs.Prelude.{◌≡◌, ◌<◌, ◌≤◌, ◌^◌, ℕ, length, IfOk};
+ghost use Rattle.std.specs.Prelude.{◌≡◌, ◌<◌, ◌≤◌, ℕ, length, IfOk};
 ghost use Rattle.lmn_splice.specs.Classes.{with_joined, class_of};
 ghost use Rattle.lmn_loading.specs.Joining.{IsForest, Represents, PairsBelow};
 

@@ -1,10 +1,9 @@
 //! Puts what stands in a level into a membrane. No port is joined yet.
-ghost use Rattle.std.specs.Prelude.{◌≡◌, ◌<◌, ◌≤◌, ◌++◌, [], ◌∷◌, length, All, None, IfOk, OnOk};
+ghost use Rattle.std.specs.Prelude.{◌≡◌, ◌<◌, ◌++◌, [], ◌∷◌, length, All, None, IfOk, OnOk};
 ghost use Rattle.lmn_base.specs.declared.level.Level.{out-Level};
 ghost use Rattle.lmn_base.specs.Levels.{leaves_of};
 ghost use Rattle.lmn_base.specs.WellMade.{FitsArity};
 ghost use Rattle.lmn_loading.specs.Adding.{IsReady, Adds, Fills, AtomIsAdded, with_atom, with_mem, ports_from};
-ghost use Rattle.lmn_heap.specs.Heap.{atoms_in, mems_in, rules_in};
 
 use crate::leaves::is_connector;
 use lmn_base::{Functor, Leaf, Level, NoMemory, Occ, Rows};

@@ -4,7 +4,7 @@ ghost use Rattle.lmn_heap.specs.Heap.{port_id};
 ghost use Rattle.lmn_splice.specs.Splice.{EachTwice, both_links, links};
 ghost use Rattle.lmn_splice.specs.Classes.{class_of};
 ghost use Rattle.lmn_loading.specs.Adding.{by_id};
-ghost use Rattle.lmn_loading.specs.Joining.{IsForest, Represents, PairsBelow, LinksBelow, AreFree, AreJoined, MayMeet, held_at, held_after, met};
+ghost use Rattle.lmn_loading.specs.Joining.{PairsBelow, LinksBelow, AreFree, AreJoined, MayMeet, held_at, held_after, met};
 
 use crate::classes::{classes_of, find};
 use lmn_base::{NoMemory, Rows};

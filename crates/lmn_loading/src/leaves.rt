@@ -2,7 +2,6 @@
 ghost use Rattle.std.specs.Prelude.{◌≡◌, ◌-◌, ◌++◌, ◌^◌, min, OnOk};
 ghost use Rattle.lmn_congruence.specs.SolidsOfPlains as solids;
 ghost use Rattle.lmn_base.specs.Levels.{leaves_of};
-ghost use Rattle.lmn_base.specs.declared.level.Level.{out-Level};
 ghost use Rattle.lmn_loading.specs.Joining.{pair_of, leaf_pairs, connectors};
 ghost use Rattle.lmn_loading.specs.Loaded.{atoms_among, loaded_items, one_if_atom};
 

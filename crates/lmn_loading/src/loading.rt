@@ -1,5 +1,5 @@
 //! Loads the process of a plain.
-ghost use Rattle.std.specs.Prelude.{◌≡◌, ◌<◌, ◌≤◌, ◌-◌, ◌^◌, ℕ, min, OnOk, IfErr};
+ghost use Rattle.std.specs.Prelude.{◌≡◌, ◌<◌, ◌≤◌, ◌-◌, ◌^◌, ℕ, OnOk, IfErr};
 ghost use Rattle.lmn_base.specs.declared.solid.Solid.{Solid};
 ghost use Rattle.lmn_base.specs.Levels.{links_of};
 ghost use Rattle.lmn_base.specs.Links.{EachTwice};

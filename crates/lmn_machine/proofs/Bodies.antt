@@ -1,12 +1,9 @@
 -- What the registers of a head give the code of a body.
-use Rattle.std.proofs.Common.{ℕ, ◌≡◌, ◌<◌, ◌≢◌, Option, Some, None, IsSome, refl, arith, ap, sym, subst, length, ◌∙◌}
+use Rattle.std.proofs.Common.{ℕ, ◌≡◌, ◌<◌, Option, Some, None, IsSome, refl, arith, ap, sym, subst, length, ◌∙◌}
 use Rattle.std.specs.Option.{option_map}
-use Rattle.std.specs.Prelude.{slice_get}
 use Rattle.lmn_base.specs.declared.functor.Functor.{Functor}
-use Rattle.lmn_base.specs.Graphs.{Reached}
-use Rattle.lmn_heap.specs.Heap.{Heap, HeapAtom, IsAtom, links_of, functor_of, arity_of, link_of, port_id}
+use Rattle.lmn_heap.specs.Heap.{Heap, HeapAtom, IsAtom, links_of, arity_of, port_id}
 use Rattle.lmn_heap.specs.Sound.{Sound}
-use Rattle.lmn_heap.specs.Graphs.{atom_map}
 use Rattle.lmn_registers.specs.declared.registers.SetRegisters.{SetRegisters}
 use Rattle.lmn_commit.specs.Registers as body
 use Rattle.lmn_commit.specs.Preparing.{CanBeCopied, CanCopy}

@@ -1,7 +1,5 @@
 -- The items that a commit leaves.
-use Rattle.std.proofs.Common.{ℕ, zero, suc, ◌≡◌, ◌+◌, List, [], ◌∷◌, Some, refl, arith, sym, subst, ◌∙◌}
-use Rattle.std.specs.Prelude.{slice_get}
-use Rattle.std.specs.List.{AllByRecursion}
+use Rattle.std.proofs.Common.{ℕ, ◌≡◌, ◌+◌, List, [], ◌∷◌, refl, arith, sym, subst, ◌∙◌}
 use Rattle.lmn_heap.specs.Heap.{Heap}
 use Rattle.lmn_heap.specs.Sound.{Forest, IsTree, flat, items_in}
 use Rattle.lmn_heap.proofs.Pigeonholes.{not_longer}
@@ -58,8 +56,3 @@ left_over h r body n items added taken f tree count adds takes l =
     let t = one_sum (Takes h r) (takes_one h r) body taken l.taken takes l.takes in
     let c = l.count f tree in
     omega (arith, a, t, c, count)
-
-pub told_at : (P : Instr → Type 0) (is : List Instr) (k : ℕ) (i : Instr) → AllByRecursion P is → slice_get is k ≡ Some i → P i
-told_at P [] k i a e = absurd (cc)
-told_at P (j ∷ is) zero i a e = let t : j ≡ i = cc in subst P t a.0
-told_at P (j ∷ is) (suc k) i a e = told_at P is k i a.1 e

@@ -1,12 +1,12 @@
 -- The search from the membrane alone.
-use Rattle.std.proofs.Common.{ℕ, zero, suc, ◌≡◌, List, [], ◌∷◌, Some, refl, arith, ap, subst, ◌∙◌}
+use Rattle.std.proofs.Common.{ℕ, zero, suc, ◌≡◌, List, [], ◌∷◌, Some, refl, arith, ap, ◌∙◌}
 use Rattle.std.specs.Prelude.{Bool, true, false, slice_get}
-use Rattle.lmn_heap.specs.Heap.{Heap, IsMem}
+use Rattle.lmn_heap.specs.Heap.{Heap}
 use Rattle.lmn_instr.specs.declared.instr.Instr.{Instr}
 use Rattle.lmn_instr.specs.Running.{Registers, Succeeds, IsFirst, atoms_set}
 use Rattle.lmn_registers.specs.declared.registers.SetRegisters.{SetRegisters}
 use Rattle.lmn_registers.specs.Agreeing.{Agrees}
-use Rattle.lmn_machine.specs.Searching.{AreHeld, Searched, AreAllSet}
+use Rattle.lmn_machine.specs.Searching.{Searched, AreAllSet}
 use Rattle.lmn_machine.proofs.Stepping.{agrees_before}
 
 -- one membrane register
@@ -14,13 +14,6 @@ abbrev pub only_membrane : {A M : Type 0} → M → SetRegisters A M
 only_membrane m = record { atoms = []; membranes = m ∷ []; parts = []; integers = []; copies = [] }
 
 module _ {A M : Type 0} (atom : A → ℕ) (membrane : M → ℕ) (h : Heap) where
-  pub one_held : (m : M) → IsMem h (membrane m) → AreHeld atom membrane h (only_membrane m)
-  one_held m t = record { atoms = λ k a u. absurd (cc); membranes = λ k n u. at k n u; parts = λ k a u. absurd (cc); whole = λ k a u. absurd (cc) }
-    where
-      at : (k : ℕ) (n : M) → slice_get (m ∷ []) k ≡ Some n → IsMem h (membrane n)
-      at zero n u = let e : m ≡ n = cc in subst (λ x. IsMem h (membrane x)) e t
-      at (suc k) n u = absurd (cc)
-
   one_agrees : (m : M) (s : Registers) → s.images.membrane 0 ≡ membrane m → Agrees atom membrane (only_membrane m) s
   one_agrees m s e = record { atoms = λ k a u. absurd (cc); membranes = λ k n u. at k n u; parts = λ k a u. absurd (cc); integers = λ k a u. absurd (cc) }
     where

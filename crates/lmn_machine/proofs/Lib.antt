@@ -7,7 +7,6 @@ pub mod FromOne
 pub mod Climbing
 pub mod Giving
 pub mod Lone
-pub mod Worked
 pub mod Owning
 pub mod Contexts
 pub mod Apart

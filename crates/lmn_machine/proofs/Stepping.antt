@@ -252,9 +252,6 @@ module _ {A M : Type 0} (atom : A → ℕ) (membrane : M → ℕ) (h : Heap) whe
     copies = f.copies ∙ e.copies;
   }
 
-  pub passed_nothing : (g : SetRegisters A M) (code : List Instr) → AreHeld atom membrane h g → InOrder (length g.atoms) (length g.membranes) (length g.parts) (length g.integers) code → Passed g g code code
-  passed_nothing g code held order = record { held = held; extends = extends_itself g; order = order; back = λ c s n a t. t; on = λ c s n a t. (a, t); count = refl; same = λ s. refl; sets = λ k s. s }
-
   -- the instruction ahead knows the number of atom registers
   ahead_set : (g0 g : SetRegisters A M) (code0 is : List Instr) (i : Instr) → Passed g0 g code0 (i ∷ is) → (c : ℕ) → SetsAll c g0 code0 → AllSet c (length g.atoms) i
   ahead_set g0 g code0 is i p c n = all_set c (length g.atoms) (length g.membranes) (length g.parts) (length g.integers) i is (n ∙ p.count) p.order

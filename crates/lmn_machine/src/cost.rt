@@ -6,7 +6,7 @@ ghost use Rattle.lmn_heap.specs.Sound.{Valid};
 ghost use Rattle.lmn_instr.specs.Running.{Registers};
 ghost use Rattle.lmn_registers.specs.Agreeing.{Agrees};
 ghost use Rattle.lmn_machine.specs.Searching.{AreHeld, Unmarked};
-ghost use Rattle.lmn_machine.specs.Costs.{Adds, InAll, IsSize, IsTold, Leaves, Takes};
+ghost use Rattle.lmn_machine.specs.Costs.{Adds, IsSize, IsTold, Leaves, Takes};
 
 use crate::machine::Machine;
 use lmn_ground::size_of;

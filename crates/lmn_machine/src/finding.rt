@@ -1,4 +1,4 @@
-ghost use Rattle.std.specs.Prelude.{◌≡◌, ℕ, [], IsTrue, IsFalse};
+ghost use Rattle.std.specs.Prelude.{◌≡◌, [], IsTrue, IsFalse};
 ghost use Rattle.lmn_heap.specs.Heap.{IsMem};
 ghost use Rattle.lmn_heap.specs.Sound.{Valid};
 ghost use Rattle.lmn_instr.specs.Running.{Registers, Succeeds, IsFirst};

@@ -1,4 +1,4 @@
-ghost use Rattle.std.specs.Prelude.{◌≡◌, ◌<◌, ◌≤◌, ℕ, length, drop, slice_get, Some};
+ghost use Rattle.std.specs.Prelude.{◌≡◌, ◌≤◌, ℕ, length, drop, slice_get, Some};
 ghost use Rattle.lmn_heap.specs.Sound.{Valid};
 ghost use Rattle.lmn_instr.specs.declared.instr.Instr.TheVariants.{FindAtom, AnyMem};
 ghost use Rattle.lmn_machine.specs.Searching.{AreHeld, InOrder, Searched, Unmarked};

@@ -22,9 +22,6 @@ module _ (n : ℕ) where
         ap (flat_map g) (take_more xs i d l) ∙ flat_map-append g (take i xs) (get_or xs i d ∷ []) ∙ ap (λ ks. flat_map g (take i xs) ++ ks) (append-nil (g (get_or xs i d))) in
         subst Below (sym next) (All-append (λ k. k < n) (flat_map g (take i xs)) (g (get_or xs i d)) h k)
 
-    bound_all : (i : ℕ) (xs : List A) → length xs ≤ i → Below (flat_map g (take i xs)) → Below (flat_map g xs)
-    bound_all i xs l h = let P : List A → Type 0 = λ ys. Below (flat_map g ys) in subst P (take_all i xs l) h
-
   pub link_bound : (i : ℕ) (os : List Occ) (d : Occ) → i < length os → Below (links_in (take i os)) → (get_or os i d).link < n → Below (links_in (take (i + 1) os))
   link_bound i os d l h k =
       subst Below (sym (links_one (take (i + 1) os)))

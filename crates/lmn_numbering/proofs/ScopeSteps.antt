@@ -1,21 +1,21 @@
 -- What the numbers, the tallies and the table say together.
-use Rattle.std.proofs.Common.{◌≡◌, ℕ, ◌<◌, List, [], ◌++◌, map, length, slice_get, Option, Some, None, All, sym, ap, ◌∙◌, subst}
+use Rattle.std.proofs.Common.{◌≡◌, ℕ, ◌<◌, List, ◌++◌, map, length, slice_get, Option, Some, None, All, sym, ap, ◌∙◌, subst, []}
 use Rattle.std.proofs.lemmas.List.{map-append}
 use Rattle.std.proofs.lemmas.List.Elements.{All-contains}
 use Rattle.lmn_base.specs.declared.level.Level.{Level}
 use Rattle.lmn_base.specs.declared.rule.LinkUse.{LinkUse}
-use Rattle.lmn_base.specs.Levels.{occurrences, links_of}
+use Rattle.lmn_base.specs.Levels.{links_of, occurrences}
 use Rattle.lmn_base.specs.Links.{Numbers}
 use Rattle.lmn_numbering.specs.declared.numbering.Numbering.{Numbering}
-use Rattle.lmn_numbering.specs.declared.tally.Tally.{Tally}
 use Rattle.lmn_numbering.specs.Numberings.{HasNumber, IsNew, Agrees, Gives}
 use Rattle.lmn_numbering.specs.Renumbered.{renumbered}
 use Rattle.lmn_numbering.specs.Scopes.{OneToOne, NumbersLevel, NumbersRule}
-use Rattle.lmn_numbering.specs.Tallies.{AreTallies, AreJoined, EachOccurs}
+use Rattle.lmn_numbering.specs.Tallies.{AreJoined, EachOccurs, AreTallies}
 use Rattle.lmn_numbering.proofs.NumberSteps.{agrees_before, gives_more}
 use Rattle.lmn_numbering.proofs.LevelSteps.{all_left, all_right}
 use Rattle.lmn_numbering.proofs.Renamed.{renumbered_links}
 use Rattle.lmn_numbering.proofs.Tables.{numbers_below, each_occurs, each_occurs_alone, rule_table, level_table}
+use Rattle.lmn_numbering.specs.declared.tally.Tally.{Tally}
 
 -- the numbers as a function
 abbrev number_or_none : Option (Option ℕ) → ℕ

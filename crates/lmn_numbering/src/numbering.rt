@@ -1,5 +1,4 @@
 ghost use Rattle.std.specs.Prelude.{ℕ, ◌≡◌, ◌<◌, ◌∷◌, [], length, map, flat_map, All, IfOk, Some};
-ghost use Rattle.lmn_base.specs.declared.level.Occ.{Occ};
 ghost use Rattle.lmn_base.specs.Levels.{leaf_occurrences, links_of};
 ghost use Rattle.lmn_numbering.specs.Renumbered.{renumbered_occurrence, renumbered_leaf, renumbered};
 ghost use Rattle.lmn_numbering.specs.Numberings.{IsNew, IsNumbering, Agrees, Gives, links_in};

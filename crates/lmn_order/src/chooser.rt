@@ -1,4 +1,4 @@
-ghost use Rattle.std.specs.Prelude.{◌≡◌, ◌<◌, ◌^◌, ℕ};
+ghost use Rattle.std.specs.Prelude.{◌≡◌, ◌<◌};
 ghost use Rattle.lmn_order.specs.Answers.{AnswersBelow};
 
 /// A closure that is asked for a number below its second argument: which of `m` membranes, by their numbers in

@@ -13,7 +13,7 @@ use Rattle.lmn_parser.specs.declared.tree.Clause.TheViews as view
 use Rattle.lmn_parser.specs.declared.tree.Clause.TheVariants as clause_variant
 use Rattle.lmn_parser.specs.declared.tree.Item.TheVariants as item_variant
 use Rattle.lmn_parser.specs.declared.tree.Term.TheVariants as term_variant
-use Rattle.lmn_parser.specs.declared.tree.Clause.TheFolds.{fold-AtomNode, fold-RuleNode, fold-roll-Clause, fold-roll-Item, fold-roll-Term, fold-roll-AtomNode, fold-roll-RuleNode}
+use Rattle.lmn_parser.specs.declared.tree.Clause.TheFolds.{fold-AtomNode, fold-roll-Clause, fold-roll-Item, fold-roll-Term, fold-roll-AtomNode, fold-roll-RuleNode}
 use Rattle.lmn_parser.specs.Syntax.{Expr, integer, value, expr_of, expr_step, Term, Item, Clause, Terms, terms_of, items_of, clauses_of, condition_of, term_of, item_of, clause_of, rule_of, clause_step, item_step, term_step, atom_step, rule_step, process, rule, atom_item, membrane_item, context_item, bracketed, rule_context, plus_link, group, equation, link, atom, list, list_onto, context, membrane}
 
 atom_parts : (n : AtomNode) → fold-AtomNode Clause Item Term (ℕ × Terms) Clause clause_step item_step term_step atom_step rule_step n ≡ (n.token, terms_of n.args)

@@ -1,4 +1,4 @@
-ghost use Rattle.std.specs.Prelude.{◌≡◌, ◌<◌, ◌≤◌, ◌+◌, length, IfOk};
+ghost use Rattle.std.specs.Prelude.{◌≡◌, ◌<◌, ◌≤◌, IfOk, ◌+◌};
 ghost use Rattle.lmn_grammar.specs.Grammar.{Ref, SumPart, product, fact};
 ghost use Rattle.lmn_grammar.specs.Reading.{Owed, EndsSum, EndsProduct};
 ghost use Rattle.lmn_parser.specs.Parsing.{kinds_of};

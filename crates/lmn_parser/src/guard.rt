@@ -1,4 +1,4 @@
-ghost use Rattle.std.specs.Prelude.{◌≡◌, ℕ, ◌<◌, ◌≤◌, ◌+◌, length, IfOk, []};
+ghost use Rattle.std.specs.Prelude.{◌≡◌, ℕ, ◌<◌, ◌≤◌, ◌+◌, IfOk, []};
 ghost use Rattle.lmn_grammar.specs.Grammar.{Opt, Seq, Ref, SumPart, cmp, cond};
 ghost use Rattle.lmn_grammar.specs.Factored.{contexts, guard_bar};
 ghost use Rattle.lmn_grammar.specs.Reading.{Owed, next, EndsCond, EndsSum};

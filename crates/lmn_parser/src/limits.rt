@@ -1,4 +1,4 @@
-ghost use Rattle.std.specs.Prelude.{◌≡◌, ℕ, ◌∷◌, [], ◌<◌, length, slice_get, IfOk, Some, None, false};
+ghost use Rattle.std.specs.Prelude.{◌≡◌, ◌∷◌, [], ◌<◌, length, slice_get, IfOk, Some, None, false};
 ghost use Rattle.lmn_grammar.specs.Limits as limits;
 ghost use Rattle.lmn_grammar.specs.Scan as scanner;
 ghost use Rattle.lmn_parser.specs.Scans.{opened_of, last_of, stack_of, scan_of, innermost_of, is_equals_last, IsFirstPassing};

@@ -5,6 +5,7 @@ pub mod Parts
 pub mod Meanings
 pub mod Expansion
 pub mod Plains
+pub mod Labels
 pub mod Words
 pub mod Spelled
 pub mod Agreement

@@ -1,5 +1,5 @@
 -- A heap with its marks changed has the same solid, and the marks of the beginning give it back.
-use Rattle.std.proofs.Common.{◌≡◌, ℕ, ◌+◌, ◌<◌, ◌⊎◌, inl, inr, List, length, Option, Some, None, IsSome, Result, refl, sym, ap, ◌∙◌, subst, arith}
+use Rattle.std.proofs.Common.{◌≡◌, ℕ, ◌+◌, ◌<◌, ◌⊎◌, inl, inr, List, length, Option, Some, None, IsSome, refl, sym, ap, ◌∙◌, subst, arith}
 use Rattle.std.specs.Option.{option_map}
 use Rattle.std.specs.Prelude.{slice_index_or}
 use Rattle.std.proofs.lemmas.Bool.{cases_eq}
@@ -13,7 +13,7 @@ use Rattle.lmn_heap.specs.Sound.{Shaped, Sound, Valid}
 use Rattle.lmn_heap.proofs.SolidLemmas.{regions_frame}
 use Rattle.lmn_printer.specs.Numbers.{Remarks, Unmarked, with_marks}
 use Rattle.lmn_printer.specs.Stored.{TellsNumbers}
-use Rattle.lmn_printer.specs.Writing.{Writes, IsLineOf, IsMarkedLineOf}
+use Rattle.lmn_printer.specs.Writing.{IsLineOf, IsMarkedLineOf}
 use Rattle.lmn_printer.proofs.MarkLemmas.{same_atoms, arity_same, link_same, home_same, functor_same, atom_before, naming_same, tree_same, atoms_same}
 
 -- it is valid
@@ -71,13 +71,3 @@ kept_heap s u r shape shape' before behind = r.is ∙ same_atoms s _ s.atoms (λ
         let same : r.marks a ≡ x.marks = same_number_lists (r.marks a) x.marks (long ∙ sym long') (λ k l.
         ap (λ ms. slice_index_or ms k 0) (sym now) ∙ mark a k (subst (λ n. k < n) long l) ∙ ap (λ ms. slice_index_or ms k 0) old) in
         ap (λ ms. Some (with_marks ms x)) same
-
--- what is written, by another word for the text
-pub writes_as : {A E : Type 0} (P Q : List ℕ → Type 0) (result : Result A E) (told told' : Option (List ℕ)) (n n' : ℕ) → ((text : List ℕ) → Q text → P text) → Writes P result told n told' n' → Writes Q result told n told' n'
-writes_as P Q result told told' n n' h w = record {
-  took = λ text q. w.took text (h text q);
-  prefix = λ text q. w.prefix text (h text q);
-  later = w.later;
-  same = w.same;
-  rose = w.rose;
-}

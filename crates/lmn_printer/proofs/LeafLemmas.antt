@@ -18,7 +18,7 @@ use Rattle.lmn_base.specs.declared.level.Occ.{Occ}
 use Rattle.lmn_congruence.specs.Rules as tree
 use Rattle.lmn_congruence.specs.Translation.{name_of, names_of, atom_of, label_of, comparison_of, condition_of, expression_of, kind_of}
 use Rattle.lmn_plain.specs.Words.{text_of, piece_text, with_commas, label_piece, name_piece, link_name, link_piece, links_pieces, context_piece, contexts_pieces, leaf_pieces, side_pieces, comparison_pieces, condition_pieces, guard_pieces}
-use Rattle.lmn_print.specs.Labels.{label_text}
+use Rattle.lmn_plain.specs.Labels.{label_text}
 use Rattle.lmn_printer.specs.Parts.{condition_text, context_text, is_connector, leaf_text, link_numbers}
 use Rattle.lmn_printer.specs.Rows.{in_row}
 use Rattle.lmn_printer.proofs.RowLemmas.{text_append, comma_row}

@@ -10,7 +10,7 @@ use Rattle.lmn_heap.specs.Lists.{from, after}
 use Rattle.lmn_heap.specs.Solid.{numbered}
 use Rattle.lmn_io.specs.Gathering.{Output, Adds}
 use Rattle.lmn_plain.specs.Words.{text_of, with_commas, link_name, link_piece, links_pieces}
-use Rattle.lmn_print.specs.Labels.{label_text}
+use Rattle.lmn_plain.specs.Labels.{label_text}
 use Rattle.lmn_printer.specs.Rows.{between_if, in_row}
 use Rattle.lmn_printer.specs.Stored.{number_by_mark, stored_text, atom_text}
 use Rattle.lmn_printer.proofs.DueLemmas.{Due, due_first, due_next, due_as, due_last, row_step, fewer_left}

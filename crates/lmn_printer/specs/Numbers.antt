@@ -1,5 +1,4 @@
--- Links get their numbers in printed order, in the marks of their ports. Contracts of this crate's own functions alone cite
--- these words, but for `Unmarked`.
+-- Links get their numbers in printed order, in the marks of their ports.
 use Rattle.std.specs.Prelude.{ℕ, ◌≡◌, ◌<◌, ◌+◌, nat_lt, if◌then◌else◌, List, [], ◌∷◌, ◌++◌}
 use Rattle.std.specs.Option.{option_map}
 use Rattle.lmn_base.specs.Links.{Numbers}

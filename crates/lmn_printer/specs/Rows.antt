@@ -1,4 +1,4 @@
--- Items in a row, with the same bytes between two of them. Contracts of this crate's own functions alone cite these words.
+-- Items in a row, with the same bytes between two of them.
 use Rattle.std.specs.Prelude.{ℕ, Bool, true, if◌then◌else◌, List, [], ◌∷◌, ◌++◌}
 
 -- the bytes between two items, where one stands before

@@ -1,5 +1,4 @@
 -- What is written of an atom and of a membrane in a store, where the marks of ports tell the numbers of links.
--- Contracts of this crate's own functions alone cite these words, but for `TellsNumbers`.
 use Rattle.std.specs.Prelude.{ℕ, ◌≡◌, ◌<◌, ◌+◌, ◌-◌, List, [], map, Option, Some, None}
 use Rattle.lmn_base.specs.declared.rule.RuleTree.{RuleTree}
 use Rattle.lmn_base.specs.declared.solid.SolidAtom.{SolidAtom}

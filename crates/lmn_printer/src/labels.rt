@@ -8,7 +8,7 @@ ghost use Rattle.lmn_congruence.specs.Translation.{label_of, name_of};
 ghost use Rattle.lmn_base.specs.Names.{IsNames};
 ghost use Rattle.lmn_lexer.specs.Spelling.{goes_on};
 ghost use Rattle.lmn_plain.specs.Words.{link_name};
-ghost use Rattle.lmn_print.specs.Labels.{is_bare, label_text, quoted, quoted_byte};
+ghost use Rattle.lmn_plain.specs.Labels.{is_bare, label_text, quoted, quoted_byte};
 
 use itoa::Buffer;
 use lmn_base::{Label, Names};
@@ -16,7 +16,7 @@ use lmn_io::{LineBuffer, Sink};
 use std::slice;
 
 /// The bytes of a name, and none where no name has the number.
-pub(crate) fn name_of(names: &Names, number: u32) -> &[u8]
+pub fn name_of(names: &Names, number: u32) -> &[u8]
     ensures text { result.now ≡ name_of names.now number }
     ensures names { IsNames names.now }
 {
@@ -28,7 +28,7 @@ pub(crate) fn name_of(names: &Names, number: u32) -> &[u8]
 }
 
 /// Adds a label: a name, bare or in quotes, or an integer in decimal.
-pub(crate) fn add_label<O: Sink>(buffer: &mut LineBuffer, out: &mut O, names: &Names, label: Label)
+pub fn add_label<O: Sink>(buffer: &mut LineBuffer, out: &mut O, names: &Names, label: Label)
     ensures { Adds (label_text (label_of names.now label)) (output buffer.old (O.told out.old) (O.faults out.old)) (output buffer.new (O.told out.new) (O.faults out.new)) }
 {
     match label {
@@ -45,7 +45,7 @@ pub(crate) fn add_integer<O: Sink>(buffer: &mut LineBuffer, out: &mut O, value: 
 }
 
 /// Adds a link by its number: `L0`, `L1` and so on.
-pub(crate) fn add_link<O: Sink>(buffer: &mut LineBuffer, out: &mut O, link: u64)
+pub fn add_link<O: Sink>(buffer: &mut LineBuffer, out: &mut O, link: u64)
     ensures { Adds (link_name link) (output buffer.old (O.told out.old) (O.faults out.old)) (output buffer.new (O.told out.new) (O.faults out.new)) }
 {
     buffer.add(out, b"L");

@@ -11,7 +11,7 @@ use lmn_base::{CONNECTOR_NAME, CtxUse, Label, Leaf, Names, Occ};
 use lmn_io::{LineBuffer, Sink};
 
 /// Adds what stands between two items, where an item stands before.
-pub(crate) fn add_between<O: Sink>(buffer: &mut LineBuffer, out: &mut O, any: bool, between: &[u8])
+pub fn add_between<O: Sink>(buffer: &mut LineBuffer, out: &mut O, any: bool, between: &[u8])
     ensures { Adds (between_if between.now any) (output buffer.old (O.told out.old) (O.faults out.old)) (output buffer.new (O.told out.new) (O.faults out.new)) }
 {
     if any {

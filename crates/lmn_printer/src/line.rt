@@ -1,8 +1,9 @@
 //! The line of a store.
 ghost use Rattle.std.specs.Prelude.{◌≡◌};
 ghost use Rattle.lmn_heap.specs.Sound.{Valid};
+ghost use Rattle.lmn_io.specs.Writing.{Writes};
 ghost use Rattle.lmn_printer.specs.Walks.{has_any};
-ghost use Rattle.lmn_printer.specs.Writing.{Writes, IsMarkedLineOf};
+ghost use Rattle.lmn_printer.specs.Writing.{IsMarkedLineOf};
 
 use crate::leaves::add_between;
 use crate::walk::add_tree;

@@ -43,7 +43,7 @@ fn number_ports<S: LinkStore>(store: &mut S, atom: S::Atom, count: u64) -> u64
 }
 
 /// Gives the link at a port its number, where it has none and so many have one. Answers how many have one then.
-fn number_port<S: LinkStore>(store: &mut S, atom: S::Atom, port: u8, count: u64) -> u64
+pub fn number_port<S: LinkStore>(store: &mut S, atom: S::Atom, port: u8, count: u64) -> u64
     requires atom { IsAtom (S.heap store.old) (S.atom_id atom) }
     requires port { port < arity_of (S.heap store.old) (S.atom_id atom) }
     requires count { count + 1 < 2 ^ 64 }

@@ -9,7 +9,7 @@ ghost use Rattle.lmn_printer.specs.Numbers.{printed_atoms};
 use lmn_store::LinkStore;
 
 /// The first atom.
-pub(crate) fn first_printed<S: LinkStore>(store: &S) -> Option<S::Atom>
+pub fn first_printed<S: LinkStore>(store: &S) -> Option<S::Atom>
     requires { (f : Forest) × IsTree (S.heap store.now) f }
     ensures list { (f : Forest) → IsTree (S.heap store.now) f → let all = printed_atoms (S.heap store.now) (flat f) in from (option_map S.atom_id result) all ≡ all }
     ensures place { IfSome result (λ a. IsInPlace (S.heap store.now) (S.atom_id a)) }
@@ -18,7 +18,7 @@ pub(crate) fn first_printed<S: LinkStore>(store: &S) -> Option<S::Atom>
 }
 
 /// The atom behind this one.
-pub(crate) fn next_printed<S: LinkStore>(store: &S, atom: S::Atom) -> Option<S::Atom>
+pub fn next_printed<S: LinkStore>(store: &S, atom: S::Atom) -> Option<S::Atom>
     requires tree { (f : Forest) × IsTree (S.heap store.now) f }
     requires place { IsInPlace (S.heap store.now) (S.atom_id atom) }
     ensures list { (f : Forest) → IsTree (S.heap store.now) f → let all = printed_atoms (S.heap store.now) (flat f) in from (option_map S.atom_id result) all ≡ after (S.atom_id atom) all }
@@ -58,7 +58,7 @@ fn first_from<S: LinkStore>(store: &S, mem: S::Mem) -> Option<S::Atom>
 }
 
 /// The membrane behind this one in preorder: the first in it, the one beside it, or the one beside a membrane round it.
-fn next_mem_printed<S: LinkStore>(store: &S, mem: S::Mem) -> Option<S::Mem>
+pub fn next_mem_printed<S: LinkStore>(store: &S, mem: S::Mem) -> Option<S::Mem>
     requires tree { (f : Forest) × IsTree (S.heap store.now) f }
     requires mem { IsMem (S.heap store.now) (S.mem_id mem) }
     ensures list { (f : Forest) → IsTree (S.heap store.now) f → from (option_map S.mem_id result) (flat f) ≡ after (S.mem_id mem) (flat f) }

@@ -1,8 +1,9 @@
 //! The line of a store whose marks of ports are 0, before and after.
 ghost use Rattle.std.specs.Prelude.{◌≡◌};
 ghost use Rattle.lmn_heap.specs.Sound.{Valid};
+ghost use Rattle.lmn_io.specs.Writing.{Writes};
 ghost use Rattle.lmn_printer.specs.Numbers.{Unmarked};
-ghost use Rattle.lmn_printer.specs.Writing.{Writes, IsLineOf};
+ghost use Rattle.lmn_printer.specs.Writing.{IsLineOf};
 
 use crate::line::write_line;
 use crate::numbers::{clear_numbers, number_links};

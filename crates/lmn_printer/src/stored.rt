@@ -79,7 +79,7 @@ fn add_ports<S: LinkStore, O: Sink>(
 }
 
 /// Adds the rules of a membrane behind other items, of which there are some or not.
-pub(crate) fn add_rules<S: LinkStore, O: Sink>(
+pub fn add_rules<S: LinkStore, O: Sink>(
     buffer: &mut LineBuffer,
     out: &mut O,
     names: &Names,

@@ -1,3 +1,6 @@
+ghost use Rattle.std.specs.Prelude.{◌≤◌, length};
+
+use crate::labels::add_label;
 use crate::{add_rule, print};
 use lmn_base::{
     Arith, CONNECTOR_NAME, Cmp, Cond, CtxUse, Expr, Functor, GROUND_NAME, INT_NAME, Label, Leaf,
@@ -178,5 +181,59 @@ fn nothing_is_an_empty_line(rt: HostRuntime) -> Result<(), Fail> {
 #[test]
 fn a_full_sink_takes_no_line(rt: HostRuntime) -> Result<(), Fail> {
     assert_eq!(rt; line_of_nothing(rt.alloc(), 0)?, (false, 0));
+    Ok(())
+}
+
+/// A sink that took the text of a label.
+fn printed(alloc: Global, names: &Names, label: Label) -> Result<MemSink, NoMemory> {
+    let mut out = MemSink::new(alloc, 100, Rows::new(alloc))?;
+    let mut buffer = LineBuffer::new();
+    add_label(&mut buffer, &mut out, names, label);
+    let _ = buffer.finish(&mut out);
+    Ok(out)
+}
+
+/// A sink that took the text of a name.
+fn printed_name(alloc: Global, name: &[u8]) -> Result<MemSink, NoMemory>
+    requires { length name.now ≤ 255 }
+{
+    let mut names = Names::new(alloc);
+    let number = names.put(name)?;
+    printed(alloc, &names, Label::Name(number))
+}
+
+#[test]
+fn names_are_quoted_where_they_must(rt: HostRuntime) -> Result<(), Fail> {
+    let names: [(&[u8], &[u8]); 8] = [
+        (b"a_B1", b"a_B1"),
+        (b"mod", b"mod"),
+        (b"", b"''"),
+        (b"A", b"'A'"),
+        (b"1", b"'1'"),
+        (b"a b", b"'a b'"),
+        (b"it's", b"'it''s'"),
+        (b"'", b"''''"),
+    ];
+    for (name, text) in names {
+        assert!(rt; name.len() <= 255);
+        let out = printed_name(rt.alloc(), name)?;
+        assert_eq!(rt; out.taken(), text);
+    }
+    Ok(())
+}
+
+#[test]
+fn integers_are_decimal(rt: HostRuntime) -> Result<(), Fail> {
+    let names = Names::new(rt.alloc());
+    let integers: [(i64, &[u8]); 4] = [
+        (0, b"0"),
+        (-10, b"-10"),
+        (i64::MAX, b"9223372036854775807"),
+        (i64::MIN, b"-9223372036854775808"),
+    ];
+    for (integer, text) in integers {
+        let out = printed(rt.alloc(), &names, Label::Int(integer))?;
+        assert_eq!(rt; out.taken(), text);
+    }
     Ok(())
 }

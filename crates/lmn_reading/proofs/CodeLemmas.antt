@@ -22,6 +22,7 @@ use Rattle.lmn_reading.specs.declared.code.Code.TheVariants.{TextTooLong, BadByt
 use Rattle.lmn_reading.specs.Codes.{number_of, code_of, CodesAreNumbered, NumbersAreOfCodes}
 use Rattle.lmn_reading.specs.Laws.{RefusalsHaveCodes}
 use Rattle.lmn_reading.specs.Texts.{by_bytes, by_tokens, by_contexts, by_links, by_rules, rows_of_rule, rows_of_rules}
+use Rattle.std.proofs.lemmas.Bool.{eqb-true}
 
 pub codes_are_numbered : CodesAreNumbered
 codes_are_numbered TextTooLong = refl
@@ -59,15 +60,12 @@ codes_are_numbered ContextInTwoForms = refl
 codes_are_numbered TypedContextNotHeld = refl
 codes_are_numbered ProcessTooLarge = refl
 
-equal_number : (n m : ℕ) → (n == m) ≡ true → n ≡ m
-equal_number n m e = grind (arith, nat_tests)
-
 -- a code that is found by a test, or by what comes later
 found : (n m : ℕ) (here code : Code) (later : Option Code) → number_of here ≡ m → (cond (n == m) (Some here) later) ≡ Some code → (later ≡ Some code → n ≡ number_of code) → n ≡ number_of code
 found n m here code later is e rest = by (n == m) refl e
   where
     by : (b : Bool) → (n == m) ≡ b → cond b (Some here) later ≡ Some code → n ≡ number_of code
-    by true t h = equal_number n m t ∙ sym is ∙ ap number_of (same_Some here code h)
+    by true t h = eqb-true n m t ∙ sym is ∙ ap number_of (same_Some here code h)
     by false t h = rest h
 
 pub numbers_are_of_codes : NumbersAreOfCodes

@@ -17,7 +17,8 @@ use Rattle.lmn_base.specs.WellMade.{IsAtom}
 use Rattle.lmn_numbering.specs.Outside.{context_place, context_places}
 use Rattle.lmn_plain.proofs.WellMadePlains.{NoContext}
 
-two_empty : {A : Type 0} (xs ys : List A) → xs ++ ys ≡ [] → (xs ≡ []) × (ys ≡ [])
+-- where two lists make nothing, each is empty
+pub two_empty : {A : Type 0} (xs ys : List A) → xs ++ ys ≡ [] → (xs ≡ []) × (ys ≡ [])
 two_empty [] ys e = (refl, e)
 two_empty (x ∷ xs) ys e = absurd (cc)
 

@@ -1,4 +1,4 @@
-mod Levels
+pub mod Levels
 mod Rules
 pub mod Readings
 mod SameRules

@@ -5,7 +5,7 @@ use Rattle.std.specs.List.{AllByRecursion}
 use Rattle.lmn_base.specs.declared.refusal.Pos.{Pos}
 use Rattle.lmn_congruence.specs.Rules.{Name, Label, named, integer as whole}
 use Rattle.lmn_expand.specs.NameLists.{has_name}
-use Rattle.lmn_flatten.proofs.AllLemmas.{all_append}
+use Rattle.lmn_plain.proofs.AllLemmas.{all_append}
 use Rattle.lmn_lexer.specs.Laying.{Word}
 use Rattle.lmn_lexer.specs.declared.token.Kind.{Kind}
 use Rattle.lmn_lexer.specs.declared.token.Kind.TheVariants as kind

@@ -19,7 +19,8 @@ use Rattle.lmn_base.specs.Names.{leaf_names, context_names, level_names, express
 use Rattle.lmn_congruence.specs.Rules as tree
 use Rattle.lmn_congruence.specs.Rules.{Name}
 use Rattle.lmn_expand.specs.NameLists.{has_name}
-use Rattle.lmn_flatten.proofs.AllLemmas.{all_append}
+use Rattle.lmn_plain.proofs.AllLemmas.{all_append}
+use Rattle.lmn_plain.proofs.Standing.{token_there}
 use Rattle.lmn_lexer.specs.Laying.{Word, word_of, words_of, end_word}
 use Rattle.lmn_lexer.specs.declared.token.Kind.{Kind}
 use Rattle.lmn_lexer.specs.declared.token.Token.{Token}
@@ -166,10 +167,6 @@ module _ (names : List Name) where
     rules_below (r ∷ rs) (t ∷ ts) is h = all_append Below (rule_names t) (flat_map rule_names ts) (rule_below r t is.0 h.0) (rules_below rs ts is.1 h.1)
 
 -- ---- the tokens of a text
-
-token_there : (o : Option Token) (k : Kind) → option_map (λ (t : Token). t.kind) o ≡ Some k → (t : Token) × (o ≡ Some t) × (t.kind ≡ k)
-token_there None k h = absurd (cc)
-token_there (Some t) k h = (t, refl, cc)
 
 module _ (text : List ℕ) (tokens : List Token) (places : List Pos) where
   word_here : (p : ℕ) (t : Token) → slice_get tokens p ≡ Some t → word_at (words_of text tokens) places p ≡ word_of text t

@@ -35,9 +35,6 @@ use Rattle.lmn_reading.specs.Texts.{IsAcceptedAs, IsRefusedAs, LeavesNames, Read
 use Rattle.lmn_reading.proofs.Levels.{no_context}
 use Rattle.lmn_reading.proofs.Rules.{rules_accepted}
 
-pub grows_less : {m n : ℕ} (old new : List Name) → m ≤ n → GrowsBy m old new → GrowsBy n old new
-grows_less old new l g = record { more = g.more; grown = g.grown; few = omega (arith, l, g.few) }
-
 -- What holds of the names holds with each answer.
 pub with_each : {A : Type 0} (P : Type 0) (x : Result A TextFault) → P → MatchResult x (λ read. P) (λ fault. IfRefused fault (λ refusal. P))
 with_each P (Ok a) p = p

@@ -18,6 +18,7 @@ use Rattle.lmn_guards.specs.GuardCodes.{guard_rows}
 use Rattle.lmn_guards.specs.Plans.{IsPlan}
 use Rattle.lmn_guards.specs.declared.plan.GuardPlan.{GuardPlan}
 use Rattle.lmn_plain.specs.Plains.{Each}
+use Rattle.lmn_expand.proofs.GlossaryLemmas.{some_at}
 use Rattle.lmn_reading.specs.Texts.{rows_of_rule}
 
 abbrev Nowhere : Row → Type 0
@@ -30,11 +31,6 @@ none_left (row ∷ rows) more h = All-cons Nowhere row rows (All-head Nowhere ro
 none_right : (rows more : List Row) → NoneApplies (rows ++ more) → NoneApplies more
 none_right [] more h = h
 none_right (row ∷ rows) more h = none_right rows more (All-tail Nowhere row (rows ++ more) h)
-
-some_at : {A : Type 0} (xs : List A) (p : ℕ) → p < length xs → (x : A) × (slice_get xs p ≡ Some x)
-some_at [] p l = absurd (omega (arith, l))
-some_at (x ∷ xs) zero l = (x, refl)
-some_at (x ∷ xs) (suc p) l = some_at xs p (omega (arith, l))
 
 -- rules of which nothing that is asked applies are accepted, where they are linked
 pub rules_accepted : (table rules : List RuleTree) → ((k : ℕ) (r : RuleTree) → slice_get rules k ≡ Some r → IsLinkedRule r)

@@ -15,7 +15,7 @@ pub struct Stack<T> {
 }
 
 impl<T> Model for Stack<T> {
-    ghost use Rattle.std.specs.Prelude.{List, vec_len, vec_capacity, ◌≤◌};
+    ghost use Rattle.std.specs.Prelude.{List, vec_capacity, ◌≤◌};
     ghost use Rattle.std.specs.Coded.{coded_list};
     ghost use Rattle.lmn_registers.specs.declared.stack.TheConstants.{ROOM};
 

@@ -14,12 +14,11 @@ use Rattle.lmn_base.specs.declared.level.Occ.{Occ}
 use Rattle.lmn_base.specs.Levels.{leaves_of}
 use Rattle.lmn_congruence.specs.Orders.{at_head, further}
 use Rattle.lmn_congruence.specs.Rules as tree
-use Rattle.lmn_congruence.specs.Rules.{Condition, Expression, Label, Leaf, Level, Levels, Rule, Rules, atom_leaf, body_of, compares, connector_leaf, differs, equates, guard_of, integer, is_kind, level, level_and, named, no_level, number, operation, rule_of, typed_leaf, unknown, value_of}
+use Rattle.lmn_congruence.specs.Rules.{Condition, Expression, Label, Leaf, Level, Levels, Rule, atom_leaf, body_of, compares, connector_leaf, differs, equates, integer, is_kind, level, level_and, named, no_level, number, operation, rule_of, typed_leaf, unknown, value_of}
 use Rattle.lmn_congruence.specs.Translation.{atom_of, leaf_of, level_of, level_step, levels}
 use Rattle.lmn_guards.specs.Values.{InRange}
 use Rattle.lmn_plain.specs.NamesHeld.{LeafHeld, LevelHeld, LevelsHeld, RuleHeld}
-use Rattle.lmn_plain.specs.Spelled.{ConditionSpelled, ExpressionSpelled, LeafSpelled, LevelSpelled, LevelsSpelled, NoConnector, RuleSpelled}
-use Rattle.lmn_print.specs.Laws.{IsSpelled}
+use Rattle.lmn_plain.specs.Spelled.{ConditionSpelled, ExpressionSpelled, LabelSpelled, LeafSpelled, LevelSpelled, LevelsSpelled, NoConnector, RuleSpelled}
 use Rattle.lmn_runs.specs.Laws.{HasFewLinks}
 use Rattle.lmn_runs.proofs.LabelsStay.{ExpressionInRange, GuardInRange, Leaves, LevelGood, LevelsGood, RuleGood}
 
@@ -59,7 +58,7 @@ module _ (names : List tree.Name) where
 
   -- A label of a solid, on an atom with so many links.
   pub record Good (l : Label) (k : ℕ) : Type 0 where
-    pub spelled : IsSpelled l
+    pub spelled : LabelSpelled l
     pub held : LabelHeld l
     pub few : k ≤ 255
     pub no_connector : IsNoConnector l k

@@ -12,7 +12,7 @@ use Rattle.lmn_base.specs.declared.level.Occ.{Occ}
 use Rattle.lmn_base.specs.Levels.{leaf_occurrences, leaves_of, links_of, rules_of}
 use Rattle.lmn_base.specs.Links.{NumbersLinks}
 use Rattle.lmn_congruence.specs.Rules as tree
-use Rattle.lmn_congruence.specs.Rules.{Name, guard_of}
+use Rattle.lmn_congruence.specs.Rules.{Name}
 use Rattle.lmn_congruence.specs.Translation.{numbered_rule, top_of}
 use Rattle.lmn_congruence.proofs.NumberedRules.{rule_has_number}
 use Rattle.lmn_adequacy.specs.Accepted.{Accepted, InTurn, all_asked, binding_in_turn, comparison_in_turn, difference_in_turn, equality_in_turn, kind_in_turn}

@@ -1,12 +1,10 @@
 -- A text can spell what the tokens of a right text mean, and the list of names that reading leaves holds their names.
-use Rattle.std.proofs.Common.{◌≡◌, ◌≢◌, ℕ, zero, suc, pos, ◌-◌, ◌≤◌, ◌<◌, ◌^◌, ◌==◌, ◌&&◌, not, Bool, true, false, if◌then◌else◌, List, [], ◌∷◌, ◌++◌, length, take, drop, slice_get, Option, Some, None, refl, sym, ap, ◌∙◌, subst, ◌⊎◌, inl, inr, arith}
+use Rattle.std.proofs.Common.{◌≡◌, ℕ, zero, suc, pos, ◌-◌, ◌≤◌, ◌^◌, ◌==◌, Bool, true, false, if◌then◌else◌, List, [], ◌∷◌, ◌++◌, length, drop, slice_get, Some, refl, sym, ap, ◌∙◌, subst, inl, inr, arith}
 use lib.Dec.{le→leb, lt→ltb}
 use Rattle.std.specs.Prelude.{Contains, codes, option_map}
 use Rattle.std.specs.Char.{is_ascii_lowercase}
 use Rattle.std.specs.List.{AllByRecursion}
-use Rattle.std.proofs.lemmas.Bool.{cases_lt, cases_order}
 use Rattle.std.proofs.lemmas.Bool.Decides.{nat_tests}
-use Rattle.std.proofs.lemmas.List.{length-append, take_at}
 use Rattle.std.proofs.lemmas.Option.{get_or_from_slice_get, same_Some, slice_get-map}
 use Rattle.lmn_base.specs.declared.refusal.Pos.{Pos}
 use Rattle.lmn_base.specs.Names.{IsNames}
@@ -15,17 +13,18 @@ use Rattle.lmn_guards.specs.Values as guards
 use Rattle.lmn_lexer.specs.Cutting.{Cuts, token_at as token_of}
 use Rattle.lmn_lexer.specs.Faults.{InRange, NothingWrong, TokenFault, floating_point, integer_out_of_range, long_name, value_behind}
 use Rattle.lmn_lexer.specs.Laying.{Word, end_word, word_of, words_of}
-use Rattle.lmn_lexer.specs.Spelling.{AllPass, IsQuoted, IsWord, Quotes, Spells, byte, goes_on, is_quotable, nothing, quote}
+use Rattle.lmn_lexer.specs.Spelling.{AllPass, IsWord, Quotes, Spells, byte, goes_on, is_quotable, nothing}
 use Rattle.lmn_lexer.specs.Values.{IsSound, bytes_of, integer_of, minus_of}
 use Rattle.lmn_lexer.specs.declared.token.Kind.{Kind}
 use Rattle.lmn_lexer.specs.declared.token.Kind.TheVariants as kind
 use Rattle.lmn_lexer.specs.declared.token.Token.{Token}
 use Rattle.lmn_lexer.proofs.SoundTokens.{tokens_are_sound}
 use Rattle.lmn_parser.specs.Trees.{At, NameAt}
-use Rattle.lmn_plain.specs.Meanings.{between_quotes, label_at, label_spelled, name_at, name_spelled, undoubled, word_at}
-use Rattle.lmn_plain.specs.Spelled.{IsContextName}
-use Rattle.lmn_plain.proofs.LabelWords.{undoubled_other}
-use Rattle.lmn_print.specs.Laws.{IsSpelled}
+use Rattle.lmn_plain.specs.Meanings.{label_at, label_spelled, name_at, name_spelled, word_at}
+use Rattle.lmn_plain.specs.Spelled.{IsContextName, LabelSpelled}
+use Rattle.lmn_plain.proofs.LabelWords.{quoted_name}
+use Rattle.lmn_plain.proofs.Ranges.{at_most, in_range}
+use Rattle.lmn_plain.proofs.Standing.{token_there}
 use Rattle.lmn_runs.specs.Texts.{HasName, Holds}
 use Rattle.lmn_runs.proofs.GoodLevels.{fits}
 use Rattle.lmn_runs.proofs.SpelledParts.{IntegerAt, RightTokens}
@@ -47,31 +46,8 @@ name_quotes : (bs : List ℕ) → IsWord is_ascii_lowercase bs → Quotes bs bs
 name_quotes [] h = absurd h
 name_quotes (b ∷ bs) h = byte (small_quotable b h.0) (stand_for_themselves bs h.1)
 
-at_most : (a b : ℕ) → (b < a → ⊥) → a ≤ b
-at_most a b h = elim (cases_lt b a) [
-  | inl l ↦ absurd (h l)
-  | inr l ↦ l
-]
-
-not_quote : (a b : Bool) → (a && not b) ≡ true → b ≡ false
-not_quote true true h = cc
-not_quote true false h = refl
-not_quote false b h = absurd (cc)
-
-undouble : {inside name : List ℕ} → Quotes inside name → undoubled inside ≡ name
-undouble nothing = refl
-undouble (quote h) = ap (λ z. 39 ∷ z) (undouble h)
-undouble (byte {b = b} {bs = bs} e h) = undoubled_other b bs (not_quote _ (b == 39) e) ∙ ap (λ z. b ∷ z) (undouble h)
-
-quoted_name_is : (bytes name : List ℕ) → IsQuoted bytes name → between_quotes bytes ≡ name
-quoted_name_is bytes name q =
-    let size = ap length q.stands in
-    let sum = length-append q.inside (39 ∷ []) in
-    let n : length q.inside ≡ length bytes - 2 = omega arith in
-    ap (λ x. undoubled (take (length bytes - 2) (drop 1 x))) q.stands ∙ ap undoubled (take_at q.inside (39 ∷ []) (length bytes - 2) n) ∙ undouble q.quotes
-
 abbrev NameSpelled : List ℕ → Type 0
-NameSpelled name = IsSpelled (tree.named name)
+NameSpelled name = LabelSpelled (tree.named name)
 
 -- what a word of a kind means
 abbrev IsRightWord : Kind → List ℕ → Type 0
@@ -83,30 +59,11 @@ IsRightWord kind.RuleCtx bytes = IsContextName (name_spelled kind.RuleCtx bytes)
 IsRightWord kind.Int bytes = InRange bytes
 IsRightWord _ bytes = Unit {0}
 
-in_range : (bytes : List ℕ) → ((InRange bytes → ⊥) → ⊥) → InRange bytes
-in_range [] h = absurd (h (λ r. r))
-in_range (b ∷ bs) h = elim (cases_order b 45) [
-  | inl same ↦ inl (same, at_most (value_behind 0 bs) (2 ^ 63) (λ more. h (λ r. below same more r)))
-  | inr other ↦ inr (unequal other, at_most (value_behind 0 (b ∷ bs)) (2 ^ 63 - 1) (λ more. h (λ r. above (unequal other) more r)))
-]
-  where
-    unequal : (b < 45) ⊎ (45 < b) → b ≢ 45
-    unequal (inl l) e = omega arith
-    unequal (inr l) e = omega arith
-
-    below : b ≡ 45 → 2 ^ 63 < value_behind 0 bs → InRange (b ∷ bs) → ⊥
-    below same more (inl (e, l)) = omega arith
-    below same more (inr (e, l)) = e same
-
-    above : b ≢ 45 → 2 ^ 63 - 1 < value_behind 0 (b ∷ bs) → InRange (b ∷ bs) → ⊥
-    above other more (inl (e, l)) = other e
-    above other more (inr (e, l)) = omega arith
-
 right_word : (minus : Bool) (k : Kind) (bytes after : List ℕ) → Spells minus k bytes → ((code : ℕ) → TokenFault k bytes after code → ⊥) → IsRightWord k bytes
 right_word minus kind.Name bytes after s right = (at_most (length bytes) 255 (λ l. right 5 (long_name l)), (bytes, name_quotes bytes s.0))
 right_word minus kind.Quoted bytes after s right =
     let q = s.1 in
-    subst NameSpelled (sym (quoted_name_is bytes s.0 q)) (at_most (length s.0) 255 (λ l. right 5 (long_name (s.0, q, l))), (q.inside, q.quotes))
+    subst NameSpelled (sym (quoted_name bytes s.0 q)) (at_most (length s.0) 255 (λ l. right 5 (long_name (s.0, q, l))), (q.inside, q.quotes))
 right_word minus kind.Mod bytes after s right = subst NameSpelled (sym s) (omega arith, (codes "mod", byte refl (byte refl (byte refl nothing))))
 right_word minus kind.Context [] after s right = absurd s
 right_word minus kind.Context (b ∷ bs) after s right = (at_most (length bs) 255 (λ l. right 5 (long_name (omega (arith, l)))), s.1)
@@ -131,10 +88,6 @@ integer_in_range (b ∷ bs) h = go (b == 45) refl h
     go false e (inr (other, l)) = (record { le = tt }, record { lt = lt→ltb (value_behind 0 (b ∷ bs)) (2 ^ 63) (omega (arith, l)) })
 
 -- ---- tokens
-
-token_there : (o : Option Token) (k : Kind) → option_map (λ (t : Token). t.kind) o ≡ Some k → (t : Token) × (o ≡ Some t) × (t.kind ≡ k)
-token_there None k h = absurd (cc)
-token_there (Some t) k h = (t, refl, cc)
 
 sound_at : (text : List ℕ) (before : List Token) (p : ℕ) (t : Token) → AllByRecursion (IsSound text) before → slice_get (before ++ token_of kind.End text [] ∷ []) p ≡ Some t → IsRightWord t.kind (bytes_of text t)
 sound_at text [] zero t h e = let P : Token → Type 0 = λ t. IsRightWord t.kind (bytes_of text t) in subst P (same_Some _ t e) tt

@@ -5,10 +5,9 @@ use Rattle.std.specs.Prelude.{⊤, codes}
 use Rattle.std.specs.List.{AllByRecursion}
 use Rattle.lmn_base.specs.declared.refusal.Pos.{Pos}
 use Rattle.lmn_congruence.specs.Rules.{Name, Label, named}
-use Rattle.lmn_flatten.proofs.AllLemmas.{all_append}
+use Rattle.lmn_plain.proofs.AllLemmas.{all_append}
 use Rattle.lmn_guards.specs.Values.{InRange}
 use Rattle.lmn_lexer.specs.Values.{integer_of}
-use Rattle.lmn_lexer.specs.Laying.{Word}
 use Rattle.lmn_lexer.specs.declared.token.Kind.TheVariants as kind
 use Rattle.lmn_lexer.specs.declared.token.Token.{Token}
 use Rattle.lmn_parser.specs.Syntax.{Expr, integer, value, operation, Condition, called, compared, equal, different, Term, Terms, Item, Items, Clause, Clauses}
@@ -18,6 +17,7 @@ use Rattle.lmn_plain.specs.Expanded.{Leaf, atom_leaf, typed_leaf, Context, Level
 use Rattle.lmn_plain.specs.Parts.{Parts, no_parts, joined, level_of, Numbered, ◌⊕◌, one_leaf, copied, rule_of}
 use Rattle.lmn_plain.specs.Expansion.{used, last_link, term, cells, terms, item, items, clause, clauses, parts_of}
 use Rattle.lmn_plain.specs.Meanings.{word_at, name_at, label_at, place_at}
+use Rattle.lmn_lexer.specs.Laying.{Word}
 
 -- What is meant by a label and by the name of a context that may stand is left open.
 module _ (L : Label → Type 0) (C : Name → Type 0) where

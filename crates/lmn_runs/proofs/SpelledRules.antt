@@ -13,36 +13,34 @@ use Rattle.lmn_base.specs.declared.level.CtxUse.{CtxUse}
 use Rattle.lmn_base.specs.declared.level.Level as base_level
 use Rattle.lmn_base.specs.declared.level.Level.TheFolds.{fold-roll-Level}
 use Rattle.lmn_base.specs.declared.level.Occ.{Occ}
-use Rattle.lmn_base.specs.declared.refusal.Pos.{Pos}
-use Rattle.lmn_base.specs.declared.rule.Plain.{Plain}
 use Rattle.lmn_base.specs.declared.rule.RuleTree.{RuleTree}
 use Rattle.lmn_base.specs.Levels.{links_of as base_links, rules_of}
 use Rattle.lmn_base.specs.Links.{NumbersLinks}
 use Rattle.lmn_base.specs.Names.{IsNames}
-use Rattle.lmn_base.specs.WellMade.{IsWellMade, IsWellMadeRule}
+use Rattle.lmn_base.specs.WellMade.{IsWellMadeRule, IsWellMade}
 use Rattle.lmn_congruence.specs.Orders.{Among, at_head, further}
 use Rattle.lmn_congruence.specs.Rules as tree
 use Rattle.lmn_congruence.specs.Rules.{Name}
-use Rattle.lmn_congruence.specs.Translation.{atom_of, condition_of, expression_of, kind_of, leaf_of, level_of, level_step, levels, name_of, names_of, numbered_rule, rules, top_of}
+use Rattle.lmn_congruence.specs.Translation.{atom_of, condition_of, expression_of, kind_of, leaf_of, level_of, level_step, levels, name_of, names_of, numbered_rule, rules}
 use Rattle.lmn_congruence.specs.Translation as translation
 use Rattle.lmn_congruence.proofs.Appended.{all_left, all_right}
 use Rattle.lmn_congruence.proofs.NumberedRules.{rule_has_number}
-use Rattle.lmn_lexer.specs.Laying.{Word}
 use Rattle.lmn_parser.specs.Syntax as syntax
-use Rattle.lmn_parser.specs.Syntax.{Clauses}
 use Rattle.lmn_plain.specs.Expanded.{Context, Leaf, Level, Levels, Rule, atom_leaf, leaf_links, leaves_links, level, level_and, links_in, links_of, no_level, typed_leaf, use_links}
 use Rattle.lmn_plain.specs.Links.{Link, Use}
 use Rattle.lmn_plain.specs.Plains.{Each, IsCond, IsExpr, IsRuleOf, all_numbered, context_use, number_of, numbered, numbered_context, numbered_leaf, numbered_use}
-use Rattle.lmn_plain.specs.Spelled.{ConditionSpelled, ExpressionSpelled, IsContextName, IsLinkNumber, LeafSpelled, LevelSpelled, LevelsSpelled, NoConnector, RuleSpelled, RulesSpelled}
+use Rattle.lmn_plain.specs.Spelled.{ConditionSpelled, ExpressionSpelled, IsContextName, IsLinkNumber, LabelSpelled, LeafSpelled, LevelSpelled, LevelsSpelled, NoConnector, RuleSpelled, RulesSpelled}
 use Rattle.lmn_plain.proofs.Fitting.{numbers_in, rule_numbers}
 use Rattle.lmn_plain.proofs.HeldLabels.{connector_number, held_back}
 use Rattle.lmn_plain.proofs.NumberedLevels.{links_numbered, rules_numbered}
 use Rattle.lmn_plain.proofs.SolidNumbers.{there}
-use Rattle.lmn_print.specs.Laws.{IsSpelled}
 use Rattle.lmn_adequacy.proofs.Orders.{among_left, among_map, among_right}
 use Rattle.lmn_runs.proofs.Counted.{numbers_below}
 use Rattle.lmn_runs.proofs.GoodLevels.{fits}
 use Rattle.lmn_runs.proofs.SpelledParts.{ConditionRight, ContextRight, ExprRight, LeafRight, LevelRight, LevelsRight, RuleRight, TokenRight}
+use Rattle.lmn_base.specs.declared.rule.Plain.{Plain}
+use Rattle.lmn_base.specs.declared.refusal.Pos.{Pos}
+use Rattle.lmn_lexer.specs.Laying.{Word}
 
 -- the conditions of a guard are those of the language
 abbrev pub NoneUnknown : List tree.Condition → Type 0
@@ -56,8 +54,8 @@ NoneUnknown (tree.differs p q ∷ cs) = NoneUnknown cs
 module _ (names : List Name) (is : IsNames names) where
   -- labels and names of contexts that a text can spell and the list holds
   abbrev pub IsLabel : tree.Label → Type 0
-  IsLabel (tree.named n) = IsSpelled (tree.named n) × Contains names n
-  IsLabel (tree.integer z) = IsSpelled (tree.integer z)
+  IsLabel (tree.named n) = LabelSpelled (tree.named n) × Contains names n
+  IsLabel (tree.integer z) = LabelSpelled (tree.integer z)
 
   abbrev pub IsContext : Name → Type 0
   IsContext n = IsContextName n × Contains names n
@@ -70,8 +68,8 @@ module _ (names : List Name) (is : IsNames names) where
   named_leaf : (n : Name) (xs : List ℕ) → IsLabel (tree.named n) → AllByRecursion IsLinkNumber xs → LeafSpelled (atom_of names (Named (number_of names n)) xs)
   named_leaf n xs h small = go (number_of names n) refl xs small
     where
-      spelled : (k : ℕ) → number_of names n ≡ k → IsSpelled (tree.named (name_of names k))
-      spelled k e = subst (λ m. IsSpelled (tree.named m)) (sym (held_back names n h.1) ∙ ap (name_of names) e) h.0
+      spelled : (k : ℕ) → number_of names n ≡ k → LabelSpelled (tree.named (name_of names k))
+      spelled k e = subst (λ m. LabelSpelled (tree.named m)) (sym (held_back names n h.1) ∙ ap (name_of names) e) h.0
 
       apart : (j : ℕ) → number_of names n ≡ suc j → name_of names (suc j) ≢ codes "="
       apart j e f =

@@ -3,7 +3,6 @@ use Rattle.std.proofs.Common.{◌≡◌, ℕ, ◌+◌, ◌*◌, ◌^◌, ◌<◌
 use Rattle.std.specs.Prelude.{sum}
 use Rattle.std.specs.List.{AllByRecursion, flat_map}
 use Rattle.std.proofs.lemmas.List.Elements.{All-from_recursion}
-use Rattle.std.specs.declared.alloc.Global.{Global}
 use Rattle.std.proofs.lemmas.List.{length-append, length-map, map-append}
 use Rattle.std.proofs.lemmas.List.Sums.{sum_by-cons}
 use Rattle.lmn_base.specs.declared.rule.Plain.{Plain}
@@ -15,14 +14,14 @@ use Rattle.lmn_base.specs.declared.solid.Region.TheFolds.{fold-Region, fold-roll
 use Rattle.lmn_base.specs.declared.solid.Region.TheViews.{roll-Region}
 use Rattle.lmn_base.specs.Levels.{contexts_of, leaves_of, rule_contexts_of, rules_of}
 use Rattle.lmn_base.specs.Links.{NumbersLinks}
-use Rattle.lmn_base.specs.Names.{HasNames, IsNames, NamesSolid, context_names, label_names, leaf_names, level_names, rule_names}
+use Rattle.lmn_base.specs.Names.{HasNames, NamesSolid, context_names, label_names, leaf_names, level_names, rule_names, IsNames}
 use Rattle.lmn_base.specs.Solids.{HasRules, atoms_step, items_of, items_step, rules_step}
 use Rattle.lmn_congruence.specs.Orders.{Among, at_head, further}
-use Rattle.lmn_congruence.specs.Plains.{leaf_process, level_process, levels_processes}
-use Rattle.lmn_congruence.specs.Process.{Closed, Process, membrane, pair, rule, together}
-use Rattle.lmn_congruence.specs.Regions.{Region, Regions, SolidAtom, atom_process, items, items_of_all, no_region, region, region_and, region_process, regions_processes}
+use Rattle.lmn_congruence.specs.Plains.{level_process}
+use Rattle.lmn_congruence.specs.Process.{Closed}
+use Rattle.lmn_congruence.specs.Regions.{Region, Regions, SolidAtom, items, items_of_all, no_region, region, region_and, region_process}
 use Rattle.lmn_congruence.specs.Rules as tree
-use Rattle.lmn_congruence.specs.Rules.{Leaf, Level, Name, Rule, Rules, atom_leaf, body_of, level, level_and, named, integer, no_level, no_rule, rule_and, rules_list}
+use Rattle.lmn_congruence.specs.Rules.{Name, Rule, atom_leaf, body_of, named, integer, rules_list}
 use Rattle.lmn_congruence.specs.SolidsOfPlains.{IsSolidOf}
 use Rattle.lmn_congruence.specs.Translation.{numbered_rule, region_of, region_step, regions, solid_atom_of, top_of}
 use Rattle.lmn_congruence.proofs.Appended.{all_left, all_right}
@@ -30,11 +29,11 @@ use Rattle.lmn_congruence.proofs.NumberedRules.{rule_has_number}
 use Rattle.lmn_congruence.proofs.SolidsOfPlains.{solids_of_plains}
 use Rattle.lmn_plain.specs.LinkNumbers.{AllRulesNumbered, EachNumbered, RuleNumbered, RulesNumbered, leaves_links, level_links, levels_links}
 use Rattle.lmn_plain.specs.NamesHeld.{LeafHeld, LevelHeld, LevelsHeld, RuleHeld, RulesHeld}
-use Rattle.lmn_plain.specs.Outside.{AllWithout, NoContexts, NotTyped}
 use Rattle.lmn_plain.specs.SolidLines.{as_level, as_levels, atom_as_leaf, rules as as_rules}
 use Rattle.lmn_plain.specs.Spelled.{IsLinkNumber, LeafSpelled, LevelSpelled, LevelsSpelled, RuleSpelled, RulesSpelled}
 use Rattle.lmn_plain.specs.Words.{line_of}
 use Rattle.lmn_plain.proofs.HeldSolids.{level_held}
+use Rattle.lmn_plain.proofs.SolidLines.{no_contexts, same_process}
 use Rattle.lmn_plain.proofs.SolidNames.{solid_held}
 use Rattle.lmn_plain.proofs.SolidNumbers.{solid_numbers, solid_rules_numbered, there}
 use Rattle.lmn_plain.proofs.TextPlains.{lines_read_back}
@@ -42,7 +41,7 @@ use Rattle.lmn_adequacy.specs.Accepted.{Accepted, Throughout}
 use Rattle.lmn_adequacy.specs.Embedding.{AllRules, AllRulesIn, EachRule, Embeds}
 use Rattle.lmn_adequacy.specs.Next.{links_at}
 use Rattle.lmn_adequacy.specs.Numbered.{IsNumbered, printed_links, printed_links_in}
-use Rattle.lmn_adequacy.specs.Runs.{Chooser, End, Ends, Trace, Turn, budget_done, full, irreducible, loaded, none_allowed, nothing_embeds, too_many, turned}
+use Rattle.lmn_adequacy.specs.Runs.{End, Ends, Trace, Turn, budget_done, full, irreducible, loaded, none_allowed, nothing_embeds, too_many, turned, Chooser}
 use Rattle.lmn_adequacy.proofs.Heads.{all_rules_so}
 use Rattle.lmn_adequacy.proofs.Orders.{among_left, among_right}
 use Rattle.lmn_adequacy.proofs.Results.{firings_commit, irreducible_exactly}
@@ -55,32 +54,9 @@ use Rattle.lmn_runs.proofs.Counted.{numbers_below, numbers_count}
 use Rattle.lmn_runs.proofs.GoodLevels.{Good, GoodRule, LabelHeld, LevelFew, good_integer, integer_good, level_few, level_good, not_connector, rule_good}
 use Rattle.lmn_runs.proofs.LabelsStay.{AllAtoms, AllAtomsIn, Atoms, fused_good, next_atoms}
 use Rattle.lmn_runs.proofs.Tables.{solid_has_rules, solid_rules}
+use Rattle.std.specs.declared.alloc.Global.{Global}
 
--- ---- the process of a line
-
-same_rules : (rs : List Rule) → rules_list (as_rules rs) ≡ rs
-same_rules [] = refl
-same_rules (r ∷ rs) = ap (λ xs. r ∷ xs) (same_rules rs)
-
-same_atoms : (xs : List SolidAtom) → map leaf_process (map atom_as_leaf xs) ≡ map atom_process xs
-same_atoms [] = refl
-same_atoms (a ∷ xs) = ap (λ ps. atom_process a ∷ ps) (same_atoms xs)
-
-two : {a b : Process} {ps qs : List Process} → a ≡ b → ps ≡ qs → membrane a ∷ ps ≡ membrane b ∷ qs
-two e f = cc
-
-mutual
-  same_process : (r : Region) → level_process (as_level r) ≡ region_process r
-  same_process (region atoms membranes rs) =
-      ap (λ ps. pair (together ps) (pair (together (levels_processes (as_levels membranes))) (together (map rule (rules_list (as_rules rs)))))) (same_atoms atoms)
-      ∙ ap (λ ps. pair (together (map atom_process atoms)) (pair (together ps) (together (map rule (rules_list (as_rules rs)))))) (same_processes membranes)
-      ∙ ap (λ xs. pair (together (map atom_process atoms)) (pair (together (regions_processes membranes)) (together (map rule xs)))) (same_rules rs)
-
-  same_processes : (rs : Regions) → levels_processes (as_levels rs) ≡ regions_processes rs
-  same_processes no_region = refl
-  same_processes (region_and r rs) = two (same_process r) (same_processes rs)
-
--- ---- its links
+-- ---- the links of a line
 
 atoms_links : (xs : List SolidAtom) → leaves_links (map atom_as_leaf xs) ≡ links_at xs
 atoms_links [] = refl
@@ -93,20 +69,6 @@ mutual
   regions_links : (ms : Regions) → levels_links (as_levels ms) ≡ printed_links_in ms
   regions_links no_region = refl
   regions_links (region_and m ms) = ap (λ ys. ys ++ levels_links (as_levels ms)) (region_links m) ∙ ap (λ ys. printed_links m ++ ys) (regions_links ms)
-
--- no context stands in it
-
-atoms_not_typed : (xs : List SolidAtom) → AllByRecursion NotTyped (map atom_as_leaf xs)
-atoms_not_typed [] = tt
-atoms_not_typed (a ∷ xs) = (tt, atoms_not_typed xs)
-
-mutual
-  no_contexts : (r : Region) → NoContexts (as_level r)
-  no_contexts (region atoms membranes rs) = (atoms_not_typed atoms, none_below membranes, refl, refl)
-
-  none_below : (rs : Regions) → AllWithout (as_levels rs)
-  none_below no_region = tt
-  none_below (region_and r rs) = (no_contexts r, none_below rs)
 
 module _ (names : List Name) where
   abbrev AtomsGood : List SolidAtom → Type 0

@@ -17,7 +17,7 @@ use Rattle.lmn_adequacy.specs.Embedding.{Embeds}
 use Rattle.lmn_adequacy.specs.Numbered.{IsNumbered}
 use Rattle.lmn_adequacy.specs.Runs.{Chooser, Turn as Chosen}
 use Rattle.lmn_turn.specs.Turning.{renumbered}
-use Rattle.lmn_choice.specs.Laws.{NothingEmbeds, SparesAreNotRead, TurnsAgree, TurnsAreAlike, TurnsAreOfChooser}
+use Rattle.lmn_choice.specs.Laws.{NothingEmbeds, TurnsAgree, TurnsAreAlike, SparesAreNotRead, TurnsAreOfChooser}
 use Rattle.lmn_choice.specs.Turns.{HaveCodes, IsChosen, IsReadWith, heap_region, membranes_of, tree_of}
 use Rattle.lmn_strategy.specs.Choosing.{NoneIn, IsFirstIn, asked}
 use Rattle.lmn_strategy.specs.Turns.{IsTurn}

@@ -1,4 +1,4 @@
-ghost use Rattle.std.specs.Prelude.{[], ◌≡◌, ◌<◌, ◌≤◌, ◌+◌, ◌-◌, ◌^◌, ℕ, List, IfOk, IfErr, OnOk, IsTrue, IsFalse};
+ghost use Rattle.std.specs.Prelude.{[], ◌≡◌, ◌<◌, ◌≤◌, ◌+◌, ◌-◌, ◌^◌, List, IfOk, IfErr, OnOk, IsTrue, IsFalse};
 ghost use Rattle.std.specs.Borrow.{sem};
 ghost use mir.Syntax.{named};
 ghost use Rattle.lmn_base.specs.declared.solid.Solid.{Solid};

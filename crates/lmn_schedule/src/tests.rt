@@ -1,4 +1,4 @@
-ghost use Rattle.std.specs.Prelude.{◌<◌, ◌≤◌, All, IfOk, [], length};
+ghost use Rattle.std.specs.Prelude.{◌<◌, All, IfOk, []};
 ghost use Rattle.lmn_loading.specs.Alone.{IsAlone};
 ghost use Rattle.lmn_schedule.specs.Held.{CanBeLoaded};
 

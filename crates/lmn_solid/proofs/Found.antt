@@ -1,5 +1,5 @@
 -- What stands at an index of a short list.
-use Rattle.std.proofs.Common.{ℕ, zero, suc, ◌≡◌, ◌⊎◌, [], ◌∷◌, Some, slice_get, refl, inl, inr}
+use Rattle.std.proofs.Common.{ℕ, zero, suc, ◌≡◌, [], ◌∷◌, Some, slice_get, refl}
 use Rattle.std.proofs.lemmas.Option.{same_Some}
 
 pub found_none : {A : Type 0} {x : A} (n : ℕ) → slice_get [] n ≡ Some x → ⊥
@@ -8,10 +8,3 @@ found_none n e = cc e
 pub found_one : {A : Type 0} {x y : A} (n : ℕ) → slice_get (x ∷ []) n ≡ Some y → (n ≡ 0) × (x ≡ y)
 found_one zero e = (refl, same_Some _ _ e)
 found_one (suc n) e = absurd (found_none n e)
-
-pub found_two : {A : Type 0} {x z y : A} (n : ℕ) → slice_get (x ∷ z ∷ []) n ≡ Some y → ((n ≡ 0) × (x ≡ y)) ⊎ ((n ≡ 1) × (z ≡ y))
-found_two zero e = inl (refl, same_Some _ _ e)
-found_two (suc n) e = let u = found_one n e in inr (by n u.0, u.1)
-  where
-    by : (n : ℕ) → n ≡ 0 → suc n ≡ 1
-    by n e = rw e refl

@@ -1,4 +1,4 @@
-ghost use Rattle.std.specs.Prelude.{◌≡◌, IfOk};
+ghost use Rattle.std.specs.Prelude.{IfOk};
 ghost use Rattle.lmn_strategy.specs.Compiled.{AreWhole, AreCompiled, IsCompiled};
 ghost use Rattle.lmn_compile_body.specs.Accepted.{HasBodyRoom};
 

@@ -9,7 +9,7 @@ use Rattle.lmn_heap.specs.Functors.{same_functor}
 use Rattle.lmn_congruence.specs.Fused.{Joins}
 use Rattle.lmn_congruence.specs.LinkedRules.{level_occurrences}
 use Rattle.lmn_congruence.specs.Plains.{leaf_process, levels_processes}
-use Rattle.lmn_congruence.specs.Process.{Process, together}
+use Rattle.lmn_congruence.specs.Process.{together}
 use Rattle.lmn_congruence.specs.Rules as tree
 use Rattle.lmn_congruence.specs.Translation.{leaf_of, levels, rules as listed_rules}
 use Rattle.lmn_adequacy.specs.Next.{Contents, MadeLeaves, no_made_leaf, made_atom, made_connector, made_copy, MadeLevel, made_level, MadeMembranes, no_made_membrane, made_membrane, made_atoms, kept_atoms, kept_membranes, context_atoms, context_membranes, of_rule, of_solid, wire_leaves}
@@ -27,10 +27,6 @@ use Rattle.lmn_turn.proofs.Bodies.{leaf_cases}
 use Rattle.lmn_turn.proofs.Kept.{kept_atoms_join, kept_membranes_join, rules_join}
 
 -- ---- lists of processes
-
-pub joins_both : (to : ℕ → ℕ) (Ps Qs : List Process) → Joins to (together Ps) → Joins to (together Qs) → Joins to (together (Ps ++ Qs))
-joins_both to [] Qs a b = b
-joins_both to (P ∷ Ps) Qs a b = (a.0, joins_both to Ps Qs a.1 b)
 
 pub leaves_join_both : (to : ℕ → ℕ) (xs ys : List tree.Leaf) → Joins to (together (map leaf_process xs)) → Joins to (together (map leaf_process ys)) → Joins to (together (map leaf_process (xs ++ ys)))
 leaves_join_both to [] ys a b = b

@@ -1,5 +1,5 @@
 -- A part of a heap in the order in which it is copied, and its links renamed: it is what a typed context stands for.
-use Rattle.std.proofs.Common.{ℕ, ◌≡◌, ◌<◌, true, List, [], ◌∷◌, ◌++◌, map, Some, refl, sym, ap, subst, ◌∙◌, inl, inr, arith}
+use Rattle.std.proofs.Common.{ℕ, ◌≡◌, ◌<◌, true, List, [], ◌∷◌, ◌++◌, map, refl, sym, ap, subst, ◌∙◌, inl, inr, arith, Some}
 use Rattle.std.proofs.lemmas.List.{append-nil}
 use Rattle.lmn_base.specs.Graphs.{Reached}
 use Rattle.lmn_heap.specs.Heap.{Heap, IsAtom, arity_of, atoms_in, link_of}

@@ -13,9 +13,7 @@ use Rattle.lmn_adequacy.specs.Next.{DepthFirst, links_at, of_rule, of_solid}
 use Rattle.lmn_adequacy.specs.Embedding.{IsPart}
 use Rattle.lmn_adequacy.proofs.Depth.{renamed_links}
 use Rattle.lmn_adequacy.proofs.Skeleton.{even_not_odd, odd_differs}
-use Rattle.lmn_reduction.specs.Parts.{Rooted}
 use Rattle.lmn_bridge.specs.HeapRegions.{Reading, atoms_at}
-use Rattle.lmn_bridge.specs.Parts.{IsGroundPart}
 use Rattle.lmn_bridge.specs.Premises.{IsRead}
 use Rattle.lmn_parts.specs.Walks.{IsPart as InDepth}
 use Rattle.lmn_splice.specs.Ports.{Port}
@@ -34,6 +32,8 @@ use Rattle.lmn_turn.proofs.Bodies.{map_twice}
 use Rattle.lmn_turn.proofs.CopiedParts.{copied_part}
 use Rattle.lmn_turn.proofs.CopyLinks.{Block, code, code_apart, copy_link, over, over_copy, over_rule}
 use Rattle.lmn_turn.proofs.EachCopy.{EachCopy}
+use Rattle.lmn_bridge.specs.Parts.{IsGroundPart}
+use Rattle.lmn_reduction.specs.Parts.{Rooted}
 
 -- ---- renaming atoms
 

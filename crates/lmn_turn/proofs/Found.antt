@@ -6,7 +6,7 @@ use Rattle.lmn_guards.specs.declared.plan.TypeKind.{TypeKind}
 use Rattle.lmn_heap.specs.Heap.{Heap, atoms_in, mems_in, rules_in}
 use Rattle.lmn_heap.specs.Lists.{In, Distinct}
 use Rattle.lmn_heap.specs.Sound.{Forest, flat, Forms, Valid}
-use Rattle.lmn_heap.proofs.Trees.{nil_right, in_either}
+use Rattle.lmn_heap.proofs.Trees.{nil_right}
 use Rattle.lmn_heap.proofs.ListLemmas.{in_left, in_right}
 use Rattle.lmn_solid.specs.declared.items.HeadItem.{HeadItem}
 use Rattle.lmn_solid.specs.Heads.{HeadAtom, HeadTyped, Port, atoms_of, typed_contexts_of, membranes_of, inside_of}
@@ -55,18 +55,6 @@ reads_index none (x ∷ xs) g n h =
 pub reads_run : {A : Type 0} (g : ℕ → A) (n : ℕ) (bs : List A) → Reads g n bs → run g n (length bs) ≡ bs
 reads_run g n [] h = refl
 reads_run g n (b ∷ bs) h = λ j. h.0 j ∷ reads_run g (n + 1) bs h.1 j
-
-in_index : (xs : List ℕ) (b : ℕ) → In b xs → (i : ℕ) × (i < length xs) × (slice_index_or xs i 0 ≡ b)
-in_index [] b p = absurd p
-in_index (x ∷ xs) b (inl e) = (0, omega arith, e)
-in_index (x ∷ xs) b (inr p) = let u = in_index xs b p in (suc u.0, omega (arith, u.1), u.2)
-
-in_flattened : (ps : List (List ℕ)) (b : ℕ) → In b (flattened ps) → (i : ℕ) × (i < length ps) × In b (slice_index_or ps i [])
-in_flattened [] b k = absurd k
-in_flattened (p ∷ ps) b k = elim (in_either b p (flattened ps) k) [
-  | inl j ↦ (0, omega arith, j)
-  | inr j ↦ (let u = in_flattened ps b j in (suc u.0, omega (arith, u.1), u.2))
-]
 
 places_part : (ps : List (List ℕ)) (b n : ℕ) → places b (slice_index_or ps n []) ≤ places b (flattened ps)
 places_part [] b n = omega arith

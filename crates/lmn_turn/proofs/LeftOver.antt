@@ -1,7 +1,6 @@
 -- What the head leaves of its membranes, and what its contexts stand for, are what is left on the heap.
 use Rattle.std.proofs.Common.{ℕ, ◌≡◌, ◌+◌, ◌≤◌, ◌⊎◌, List, [], ◌∷◌, ◌++◌, map, length, sym, ap, subst, ◌∙◌, inl, inr, arith}
 use Rattle.lmn_base.specs.declared.level.CtxUse.{CtxUse}
-use Rattle.lmn_guards.specs.declared.plan.TypeKind.{TypeKind}
 use Rattle.lmn_heap.specs.Heap.{Heap, IsAtom, atoms_in, mems_in, rules_in}
 use Rattle.lmn_heap.specs.Lists.{In}
 use Rattle.lmn_heap.specs.Sound.{Forest, flat, Forms, Valid}
@@ -35,6 +34,7 @@ use Rattle.lmn_compile_body.proofs.HeadContexts.{heads_names, untyped, of_rules}
 use Rattle.lmn_turn.specs.Turning.{IsLeft}
 use Rattle.lmn_turn.proofs.Held.{Held, context_is, rule_context_is, parts_sub, parts_or_left, tops_sub, tops_or_left, left_grown, grown_forms}
 use Rattle.lmn_turn.proofs.Sublists.{Sublist, sub_then, sub_without_all, gone_or_left, sub_is}
+use Rattle.lmn_guards.specs.declared.plan.TypeKind.{TypeKind}
 
 in_some : (b : ℕ) (xs : List ℕ) → In b xs → 1 ≤ weigh (one_if_same b) xs
 in_some b xs p = omega (arith, weigh_same b xs, some_of b xs p)

@@ -11,9 +11,9 @@ use Rattle.lmn_solid.proofs.HeadTrees.{Head, Heads, head, no_head, head_and, siz
 use Rattle.lmn_body.specs.declared.items.BodyItem.{BodyItem}
 use Rattle.lmn_body.specs.declared.items.BodyItem.TheVariants.{Membrane}
 use Rattle.lmn_body.specs.Flattening.{BodyNames, atom_item, typed_item, leaf_items, context_items, rule_items, rule_context_items}
-use Rattle.lmn_body.specs.Running.{Registers}
 use Rattle.lmn_compile_body.proofs.BodyTrees.{flat_body, flat_bodies}
 use Rattle.lmn_turn.proofs.Adders.{at, many, many_both, past, past_both, Elsewhere, Misses, misses_both, Adder}
+use Rattle.lmn_body.specs.Running.{Registers}
 
 -- ---- the numbers of copies
 
@@ -165,9 +165,6 @@ module _ (bn : BodyNames) where
     rule_contexts_miss : (x inside : ℕ) → at s inside ≢ x → (us : List CtxUse) → Misses s x (rule_context_items bn inside us)
     rule_contexts_miss x inside d [] = tt
     rule_contexts_miss x inside d (u ∷ us) = (d, rule_contexts_miss x inside d us)
-
-    abbrev behind : ℕ → List CtxUse → List CtxUse → List ℕ → List BodyItem
-    behind inside cs rcs rs = context_items bn inside cs ++ (rule_items inside rs ++ rule_context_items bn inside rcs)
 
     behind_miss : (x inside : ℕ) → at s inside ≢ x → (cs rcs : List CtxUse) (rs : List ℕ) → Misses s x (context_items bn inside cs ++ (rule_items inside rs ++ rule_context_items bn inside rcs))
     behind_miss x inside d cs rcs rs =

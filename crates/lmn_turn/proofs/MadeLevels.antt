@@ -4,7 +4,7 @@ use Rattle.std.proofs.lemmas.List.{map-append, append-nil}
 use Rattle.lmn_base.specs.declared.level.CtxUse.{CtxUse}
 use Rattle.lmn_base.specs.declared.level.Leaf.{Leaf}
 use Rattle.lmn_base.specs.declared.solid.SolidAtom.{SolidAtom}
-use Rattle.lmn_heap.specs.Heap.{Heap, atoms_in, mems_in, rules_in}
+use Rattle.lmn_heap.specs.Heap.{Heap, atoms_in, rules_in, mems_in}
 use Rattle.lmn_congruence.specs.Plains.{fused_leaves, fused_levels}
 use Rattle.lmn_congruence.specs.Regions as region
 use Rattle.lmn_congruence.specs.Rules as tree
@@ -14,7 +14,6 @@ use Rattle.lmn_adequacy.proofs.InOrder.{rules_listed}
 use Rattle.lmn_solid.proofs.HeadTrees.{Head, Heads, head, no_head, head_and, size, sizes}
 use Rattle.lmn_bridge.specs.HeapRegions.{Reading, atoms_at}
 use Rattle.lmn_bridge.proofs.HeadTrees.{tree_of, trees_of}
-use Rattle.lmn_body.specs.declared.items.BodyItem.{BodyItem}
 use Rattle.lmn_body.specs.Flattening.{BodyNames, leaf_items, context_items, rule_items, rule_context_items}
 use Rattle.lmn_body.specs.Running.{Registers}
 use Rattle.lmn_body.specs.Added.{added_mems, added_rules}
@@ -27,6 +26,7 @@ use Rattle.lmn_turn.proofs.OwnLinks.{OwnLevel, OwnMembranes, own_level, own_memb
 use Rattle.lmn_turn.proofs.Adders.{at, many, past, Adder, atoms_adder, mems_adder, rules_adder, here_is}
 use Rattle.lmn_turn.proofs.Locals.{Local, LocalIn, after_leaves, after_level, after_levels, local_inside, local_first, local_rest, body_misses, many_flat, no_leaf_membrane}
 use Rattle.lmn_turn.proofs.Bodies.{BodyAgrees, BodiesAgree, fused_both, leaves_made, leaves_make, leaf_atoms, leaf_adds, context_atoms_are, context_membranes_stand, contexts_no_rules, rules_alone, rule_contexts_alone, rules_are, rule_contexts_are}
+use Rattle.lmn_body.specs.declared.items.BodyItem.{BodyItem}
 
 -- nothing in front, nothing behind
 no_front : {X : Type 0} {as' bs cs : List X} → as' ≡ [] → bs ≡ cs → as' ++ bs ≡ cs
@@ -38,9 +38,6 @@ no_back {as' = as'} e f = ap (λ z. as' ++ z) f ∙ append-nil as' ∙ e
 module _ (h h' : Heap) (r : Reading) (name : ℕ → ℕ → ℕ) (s : Registers) (bn : BodyNames) (c : Contents) (left : ℕ → List SolidAtom) (left_mems : ℕ → List ℕ) (to : ℕ → ℕ) (limit : ℕ) (copy : ℕ → List SolidAtom) (part : ℕ → ℕ → List region.SolidAtom) where
   abbrev r' : Reading
   r' = record { name = name; names = r.names; rule = r.rule }
-
-  abbrev g : ℕ → ℕ
-  g z = to (of_rule z)
 
   abbrev A : Adder s SolidAtom
   A = atoms_adder s left copy (λ z. to (of_rule z))
@@ -162,15 +159,6 @@ module _ (h h' : Heap) (r : Reading) (name : ℕ → ℕ → ℕ) (s : Registers
       pub atoms : fused_leaves to outs ≡ map (solid_atom_of r.names) (added_with_copies s left copy (λ z. to (of_rule z)) 0 B (at s inside))
       pub membranes : StandAs h' (record { name = name; names = r.names; rule = r.rule }) (added_mems s left_mems low B (at s inside)) (fused_levels to (levels inner))
       pub rules : rs ≡ map r.rule (added_rules s (rules_in h) B (at s inside))
-
-    abbrev LocalA : Head → ℕ → ℕ → ℕ → Type 0
-    LocalA = Local bn s A low B low high apart
-
-    abbrev LocalM : Head → ℕ → ℕ → ℕ → Type 0
-    LocalM = Local bn s M low B low high apart
-
-    abbrev LocalR : Head → ℕ → ℕ → ℕ → Type 0
-    LocalR = Local bn s R low B low high apart
 
     -- a membrane that is made
     child_stands : (next : ℕ) (outs : List tree.Leaf) (inner others : List tree.Level) (rs : List tree.Rule) (ns : List ℕ) → low ≤ next → next < high → LevelStands next outs inner rs →

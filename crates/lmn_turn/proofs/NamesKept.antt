@@ -21,7 +21,7 @@ use Rattle.lmn_splice.specs.Splice as splice
 use Rattle.lmn_body.specs.declared.items.BodyItem.{BodyItem}
 use Rattle.lmn_body.specs.declared.items.BodyItem.TheVariants.{Atom, Connector, Copy, Bound, Membrane, Rest, Rule, Rules}
 use Rattle.lmn_body.specs.Added.{if_inside, added_atoms, added_mems, made_mems}
-use Rattle.lmn_body.specs.Flattening.{BodyNames, atom_item, typed_item, leaf_items, context_items, rule_items, rule_context_items}
+use Rattle.lmn_body.specs.Flattening.{atom_item, typed_item, leaf_items, context_items, rule_items, rule_context_items, BodyNames}
 use Rattle.lmn_body.specs.Made.{made_of, new_atoms, copies_of}
 use Rattle.lmn_parts.proofs.AnswerLaws.{answer_onto}
 use Rattle.lmn_parts.proofs.WalkLaws.{once}

@@ -5,7 +5,7 @@ use Rattle.lmn_congruence.specs.LinkedRules.{leaves_occurrences, level_occurrenc
 use Rattle.lmn_congruence.specs.Links.{one_if_same, places}
 use Rattle.lmn_congruence.specs.Orders.{Among, at_head, further}
 use Rattle.lmn_congruence.specs.Plains.{leaf_process, level_process}
-use Rattle.lmn_congruence.specs.Process.{Closed, Free, Process, occurrences, pair, renamed, together}
+use Rattle.lmn_congruence.specs.Process.{Closed, Process, occurrences, pair, renamed, together, Free}
 use Rattle.lmn_congruence.specs.Regions.{Region, SolidAtom, region_process}
 use Rattle.lmn_congruence.specs.Rules.{Label, Leaf, Level, Levels, Name, Rule, Rules, atom_leaf, body_of, connector_leaf, head_of, level, level_and, no_level, no_rule, rules_list, typed_leaf}
 use Rattle.lmn_congruence.specs.Translation.{levels, rules as listed_rules}
@@ -14,7 +14,6 @@ use Rattle.lmn_congruence.proofs.Crossings.{occurs_below}
 use Rattle.lmn_congruence.proofs.Reordered.{reordered_count}
 use Rattle.lmn_reduction.specs.Assignments.{Assignment}
 use Rattle.lmn_reduction.specs.Firing.{typed_contexts, typed_contexts_of, typed_leaves}
-use Rattle.lmn_reduction.specs.Parts.{Rooted}
 use Rattle.lmn_adequacy.specs.Accepted.{Accepted, all_contexts, contexts_in}
 use Rattle.lmn_adequacy.specs.Embedding.{IsPart, LevelImages, Plain}
 use Rattle.lmn_adequacy.specs.Next.{Contents, DepthFirst, EmbedsInOrder, MadeLeaves, MadeLevel, MadeMembranes, assignment_of, context_atoms, context_membranes, context_rules, kept_atoms, links_at, made_atom, made_atoms, made_connector, made_copy, made_level, made_membrane, no_made_leaf, no_made_membrane, of_rule, of_solid, raw_level, wire_leaves}
@@ -30,6 +29,7 @@ use Rattle.lmn_adequacy.proofs.Orders.{among_left, among_right}
 use Rattle.lmn_adequacy.proofs.RawProcesses.{head_wires, made}
 use Rattle.lmn_adequacy.proofs.Skeleton.{even_differs, even_not_odd, level_skeleton, no_even_contexts, odd_differs, places_even}
 use Rattle.lmn_turn.proofs.PartLinks.{part_links_twice, part_root_once}
+use Rattle.lmn_reduction.specs.Parts.{Rooted}
 
 -- ---- what is made, with the numbers of the copies
 

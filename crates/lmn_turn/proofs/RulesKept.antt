@@ -23,7 +23,7 @@ use Rattle.lmn_splice.specs.Ports.{Port}
 use Rattle.lmn_body.specs.declared.items.BodyItem.{BodyItem}
 use Rattle.lmn_body.specs.declared.items.BodyItem.TheVariants.{Atom, Connector, Copy, Bound, Membrane, Rest, Rule, Rules}
 use Rattle.lmn_body.specs.Added.{if_inside, added_rules, made_mems}
-use Rattle.lmn_body.specs.Flattening.{BodyNames, atom_item, typed_item, leaf_items, context_items, rule_items, rule_context_items}
+use Rattle.lmn_body.specs.Flattening.{atom_item, typed_item, leaf_items, context_items, rule_items, rule_context_items, BodyNames}
 use Rattle.lmn_body.specs.Running.{Registers}
 use Rattle.lmn_body.specs.Within.{membrane_images, FiresWithin}
 use Rattle.lmn_compile_body.proofs.BodyTrees.{flat_body, flat_bodies}

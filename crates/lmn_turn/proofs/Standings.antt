@@ -34,7 +34,3 @@ stand_both h r to ns ks xs ys s t = by ns xs s refl
         let first : region (atoms_at h r (atoms_in h n)) is (map r.rule (rules_in h n)) ≡ fused_level to x = cc in
         let others : rs ≡ fused_levels to (levels xs) = cc in
         subst (λ z. StandAs h r (n ∷ (ns ++ ks)) (region_and z (fused_levels to (levels (xs ++ ys))))) first (one_stands a (by ns xs b others))
-
--- no membrane, and one with what stands in it
-pub stand_none : (h : Heap) (r : Reading) (to : ℕ → ℕ) → StandAs h r [] (fused_levels to (levels []))
-stand_none h r to = none_stands

@@ -2,15 +2,15 @@
 use Rattle.std.proofs.Common.{ℕ, ◌≡◌, List, Some, slice_get}
 use Rattle.lmn_base.specs.declared.rule.RuleTree.{RuleTree}
 use Rattle.lmn_guards.specs.declared.plan.GuardPlan.{GuardPlan}
-use Rattle.lmn_heap.specs.Heap.{Heap}
 use Rattle.lmn_compile_head.specs.Accepted.{AcceptedHeads, head_items}
 use Rattle.lmn_compile_head.specs.Heads.{kind_in}
 use Rattle.lmn_compile_head.specs.Laws.{CodeOfEmbeddings, Meets}
-use Rattle.lmn_bridge.specs.HeapRegions.{Reading}
 use Rattle.lmn_bridge.specs.Laws.{SomeRuleEmbeds, AllTyped, StepsExactly, IrreducibleExactly}
-use Rattle.lmn_bridge.specs.Premises.{IsRead}
 use Rattle.lmn_turn.specs.Ends.{AllPlanned, SomeCodeSucceeds, StepsByCode, IrreducibleByCode}
 use Rattle.lmn_turn.proofs.PlanTypes.{plan_types}
+use Rattle.lmn_heap.specs.Heap.{Heap}
+use Rattle.lmn_bridge.specs.Premises.{IsRead}
+use Rattle.lmn_bridge.specs.HeapRegions.{Reading}
 
 module _ (heads : AcceptedHeads) (codes : CodeOfEmbeddings) where
   all_typed : (table : List RuleTree) (plans : ℕ → GuardPlan) → AllPlanned table plans → AllTyped table (λ k. kind_in (plans k).kinds)

@@ -21,9 +21,7 @@ use Rattle.lmn_congruence.specs.Regions.{Region, region_process}
 use Rattle.lmn_congruence.specs.Rules as tree
 use Rattle.lmn_congruence.specs.Same.{renamed_atom}
 use Rattle.lmn_congruence.specs.Translation.{levels, rules as listed_rules, solid_atom_of}
-use Rattle.lmn_adequacy.specs.Accepted.{Accepted}
-use Rattle.lmn_adequacy.specs.Embedding.{Taken}
-use Rattle.lmn_adequacy.specs.Next.{EmbedsInOrder, MadeLevel, fires_here, kept_atoms, kept_membranes, of_rule, of_solid, raw_level, wire_leaves}
+use Rattle.lmn_adequacy.specs.Next.{MadeLevel, fires_here, kept_atoms, kept_membranes, of_rule, of_solid, raw_level, wire_leaves, EmbedsInOrder}
 use Rattle.lmn_adequacy.proofs.InOrder.{rules_listed}
 use Rattle.lmn_solid.specs.declared.items.HeadItem.{HeadItem}
 use Rattle.lmn_solid.proofs.HeadTrees.{Head, size}
@@ -37,7 +35,6 @@ use Rattle.lmn_splice.specs.Splice as splice
 use Rattle.lmn_body.specs.Running.{Registers, withouts}
 use Rattle.lmn_body.specs.Within.{membrane_images, FiresWithin, added_with_copies, left_solid}
 use Rattle.lmn_bridge.specs.HeapRegions.{Reading, atoms_at, region_at}
-use Rattle.lmn_bridge.proofs.HeadTrees.{tree_of}
 use Rattle.lmn_compile_body.proofs.BodyTrees.{flat_body}
 use Rattle.lmn_turn.specs.Turning.{stays}
 use Rattle.lmn_turn.specs.Standing.{StandAs, none_stands, one_stands}
@@ -51,7 +48,10 @@ use Rattle.lmn_turn.proofs.OwnLinks.{OwnLevel, own_made, raw_own}
 use Rattle.lmn_turn.proofs.Kept.{Untouched, kept_atoms_join, kept_membranes_join, rules_join}
 use Rattle.lmn_turn.proofs.MadeMembers.{withouts_nothing, withouts_absent, in_made, made_apart}
 use Rattle.lmn_turn.proofs.Paths.{Firing, from_root}
-use Rattle.lmn_turn.proofs.Connectors.{AllFit, level_joins, wires_join, leaves_join_both, levels_join_both}
+use Rattle.lmn_turn.proofs.Connectors.{level_joins, wires_join, leaves_join_both, levels_join_both, AllFit}
+use Rattle.lmn_adequacy.specs.Accepted.{Accepted}
+use Rattle.lmn_adequacy.specs.Embedding.{Taken}
+use Rattle.lmn_bridge.proofs.HeadTrees.{tree_of}
 
 -- The atoms of each membrane after a firing, copies included: what is left, then what is added, raw links at their images by a map.
 abbrev pub FiredTo : (h : Heap) (c : Port → ℕ) (s : Registers) (head : List HeadItem) (body : List BodyItem) (taken : List ℕ) (h' : Heap) (name : ℕ → ℕ → ℕ) (to : ℕ → ℕ) (copy : ℕ → List SolidAtom) → Type 0
@@ -109,9 +109,6 @@ module _ (h h' : Heap) (r : Reading) (s : Registers) (head : List HeadItem) (bn 
 
   abbrev pub left_mems : ℕ → List ℕ
   left_mems x = withouts (membrane_images s head) (mems_in h x)
-
-  added : ℕ → List SolidAtom
-  added x = added_with_copies s left copy (λ z. to (of_rule z)) 0 B x
 
   atoms_after : (x : ℕ) → (In x ks → ⊥) → atoms_at h' r' (atoms_in h' x) ≡ map (solid_atom_of r.names) (left x) ++ map (solid_atom_of r.names) (added_with_copies s left copy (λ z. to (of_rule z)) 0 B x)
   atoms_after x o = ap (map (solid_atom_of r.names)) (fired x o) ∙ map-append (solid_atom_of r.names) (left x) (added_with_copies s left copy (λ z. to (of_rule z)) 0 B x)

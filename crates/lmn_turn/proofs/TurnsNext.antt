@@ -1,6 +1,6 @@
 -- A turn on a heap is the next solid of the calculus.
-use Rattle.std.proofs.Common.{ℕ, suc, ◌≡◌, ◌+◌, ◌<◌, ◌≤◌, ◌⊎◌, List, [], ◌∷◌, ◌++◌, map, length, Some, refl, sym, ap, subst, ◌∙◌, inl, inr, arith}
-use Rattle.std.specs.Prelude.{slice_get, Contains}
+use Rattle.std.proofs.Common.{ℕ, suc, ◌≡◌, ◌+◌, ◌<◌, ◌≤◌, ◌⊎◌, List, [], ◌∷◌, ◌++◌, map, length, refl, sym, ap, subst, ◌∙◌, inl, inr, arith, Some}
+use Rattle.std.specs.Prelude.{Contains, slice_get}
 use Rattle.lmn_base.specs.declared.level.CtxUse.{CtxUse}
 use Rattle.lmn_base.specs.declared.level.Leaf.{Leaf}
 use Rattle.lmn_base.specs.declared.level.Leaf.TheVariants as leaf
@@ -26,7 +26,7 @@ use Rattle.lmn_congruence.specs.Rules as tree
 use Rattle.lmn_congruence.specs.Same.{renamed_atom}
 use Rattle.lmn_congruence.specs.Translation.{levels, name_of, rule_tree}
 use Rattle.lmn_adequacy.specs.Embedding.{Taken}
-use Rattle.lmn_adequacy.specs.Next.{EmbedsInOrder, kept_membranes, of_rule, of_solid}
+use Rattle.lmn_adequacy.specs.Next.{kept_membranes, of_rule, of_solid, EmbedsInOrder}
 use Rattle.lmn_adequacy.proofs.Commits.{beside_nothing, closed_as}
 use Rattle.lmn_solid.specs.declared.items.HeadItem.{HeadItem}
 use Rattle.lmn_solid.specs.Heads.{Port, membranes_of, links_of, times}
@@ -55,9 +55,9 @@ use Rattle.lmn_bridge.proofs.Occurrences.{times_are}
 use Rattle.lmn_bridge.proofs.Wholes.{closed_heap}
 use Rattle.lmn_turn.specs.Standing.{StandAs}
 use Rattle.lmn_turn.proofs.ReadAgain as again
-use Rattle.lmn_turn.proofs.ReadAgain.{body_leaves_named, body_fits, root_mem}
+use Rattle.lmn_turn.proofs.ReadAgain.{body_fits, root_mem}
 use Rattle.lmn_turn.proofs.Leading.{taken_at}
-use Rattle.lmn_turn.specs.Turning.{IsLeft, HasContents, HasNext, TurnIsNext, renumbered}
+use Rattle.lmn_turn.specs.Turning.{HasNext, TurnIsNext, renumbered, HasContents, IsLeft}
 use Rattle.lmn_turn.proofs.Standings.{stands_one}
 use Rattle.lmn_turn.proofs.Adders.{at}
 use Rattle.lmn_turn.proofs.Bodies.{CopyAgrees, ContextAgrees, BodyAgrees}

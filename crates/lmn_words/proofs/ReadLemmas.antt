@@ -1,7 +1,7 @@
 -- That the words are read exactly as they are of the form.
 use Rattle.std.specs.declared.string.String.{String}
 use Rattle.std.specs.declared.alloc.Global.{Global}
-use Rattle.std.proofs.Common.{IfSome, IsSome, ◌≤◌, ◌≡◌, ℕ, ◌+◌, ◌==◌, Bool, true, false, if◌then◌else◌, List, [], ◌∷◌, ◌++◌, length, take, drop, Option, Some, None, is_some, option_map, option_and_then, option_to_list, filter_map, bytes_eq, codes, inl, inr, refl, sym, ap, ◌∙◌, subst, arith}
+use Rattle.std.proofs.Common.{◌≤◌, ◌≡◌, ℕ, ◌+◌, ◌==◌, Bool, true, false, if◌then◌else◌, List, [], ◌∷◌, ◌++◌, length, take, drop, Option, Some, None, is_some, option_map, option_and_then, option_to_list, filter_map, bytes_eq, codes, inl, inr, refl, sym, ap, ◌∙◌, subst, arith}
 use Rattle.std.specs.Prelude.{⊤, unwrap_or}
 use Rattle.std.proofs.lemmas.Bool.{eq-eqb}
 use Rattle.std.proofs.lemmas.List.{append-nil}
@@ -13,8 +13,7 @@ use Rattle.lmn_words.specs.declared.setting.Settings.{Settings}
 use Rattle.lmn_words.specs.declared.setting.Valued.{Valued}
 use Rattle.lmn_words.specs.declared.setting.Valued.TheVariants as valued
 use Rattle.lmn_words.specs.declared.setting.OrderName.TheVariants as name
-use Rattle.lmn_words.specs.declared.command.Command.{Command}
-use Rattle.lmn_words.specs.Forms.{texts_of, request_of, Asks, InForm, IsInRanges, Word, IsFileName, Sets, Spells, nothing, a_file, a_trace, two_words, one_word, EachAtMostOnce, OnlyOr, ordered_by, Run, Request, to_run, to_compile, AsksRun, TextsAsk, IsForm, trace_of, budget_of, size_of, order_name_of, seed_of}
+use Rattle.lmn_words.specs.Forms.{texts_of, InForm, IsInRanges, Word, IsFileName, Sets, Spells, nothing, a_file, a_trace, two_words, one_word, EachAtMostOnce, OnlyOr, ordered_by, Run, Request, to_run, to_compile, AsksRun, TextsAsk, IsForm, trace_of, budget_of, size_of, order_name_of, seed_of}
 use Rattle.lmn_words.specs.Hearing.{is_file_name, option_named, setting_of, with_setting, Heard, no_settings, nothing_heard, hear_setting, hear_value, hear_file, equals_at, hear_option, hear_word, hear_waiting, hear, hear_all, run_by, run_heard, run_read, file_read, request_read}
 use Rattle.lmn_words.proofs.WordLemmas.{not_same, false_true, if_some, map_some, then_some, option_word, option_told, setting_told, setting_read, file_told, file_read_is, cut_told}
 use Rattle.lmn_words.proofs.SettingLemmas.{settings_all, is_none, list_option, front_empty, all_told, all_read, firsts, firsts_collected, at_most_one, only_value, value_only, flag_only, trace_value}
@@ -222,7 +221,7 @@ run_spelled words file settings spelled once =
     then_some run_heard (hear_all nothing_heard words) (at (Some file) (firsts settings)) (Some (run_by (firsts settings) file))
     (all_spelled spelled None (Some file) no_settings (firsts settings) refl collected) refl
 
-each_once : {words : List Word} {run : Run} → (a : AsksRun words run) → EachAtMostOnce a.settings
+pub each_once : {words : List Word} {run : Run} → (a : AsksRun words run) → EachAtMostOnce a.settings
 each_once {words} {run} a = (
   at_most_one false (filter_map trace_of a.settings) run.trace a.trace,
   at_most_one 1000000 (filter_map budget_of a.settings) run.budget a.budget,
@@ -350,22 +349,15 @@ in_ranges (w ∷ words) (to_run run) h =
     (budget_in_range a.settings run.budget (all_in_range a.spelled) a.budget, size.0, size.1)
 in_ranges (w ∷ words) (to_compile file) h = tt
 
--- ---- commands
+-- ---- the form
 
-pub command_in_ranges : (words : List (String Global)) (o : Option Command) → option_map request_of o ≡ request_read (texts_of words)
-    → IfSome o (λ command. IsInRanges (request_of command))
-command_in_ranges words None e = tt
-command_in_ranges words (Some command) e = in_ranges (texts_of words) (request_of command) (request_told (texts_of words) (request_of command) (sym e))
+some_form : (words : List Word) (o : Option Request) → request_read words ≡ o → is_some o ≡ true → IsForm words
+some_form words None e is = false_true is
+some_form words (Some r) e is = asks_form words r (request_told words r e)
 
-pub command_asks : (words : List (String Global)) (o : Option Command) → option_map request_of o ≡ request_read (texts_of words)
-    → IfSome o (λ command. Asks words (request_of command))
-command_asks words None e = tt
-command_asks words (Some command) e = request_told (texts_of words) (request_of command) (sym e)
-
-pub command_form : (words : List (String Global)) (o : Option Command) → option_map request_of o ≡ request_read (texts_of words)
-    → (IsSome o → InForm words) × (InForm words → IsSome o)
-command_form words None e = (λ is. false_true is, λ h. absurd (let r = form_reads (texts_of words) h in none-some r.0 (e ∙ r.1)))
-command_form words (Some command) e = (
-  λ is. asks_form (texts_of words) (request_of command) (request_told (texts_of words) (request_of command) (sym e)),
-  λ h. refl,
+-- the words are read exactly where they are of the form
+pub form_read : (words : List (String Global)) (b : Bool) → b ≡ is_some (request_read (texts_of words)) → (b ≡ true → InForm words) × (InForm words → b ≡ true)
+form_read words b e = (
+  λ is. some_form (texts_of words) (request_read (texts_of words)) refl (sym e ∙ is),
+  λ h. e ∙ ap is_some (form_reads (texts_of words) h).1,
 )

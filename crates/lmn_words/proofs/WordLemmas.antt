@@ -202,7 +202,7 @@ order_told w o e =
     if_some (bytes_eq w (codes "seed")) _ _ o e (λ t s. is_bytes w _ t ∙ ap order_word (same_Some name.Seed o s)) (λ f e.
     absurd (none-some o e))))
 
-order_read : (o : OrderName) → order_named (order_word o) ≡ Some o
+pub order_read : (o : OrderName) → order_named (order_word o) ≡ Some o
 order_read name.First = refl
 order_read name.Turn = refl
 order_read name.Seed = refl

@@ -1,4 +1,4 @@
--- How the words are read, one after another. No public contract cites a word of this module.
+-- How the form of the words is decided, one word after another. No public contract cites a word of this module.
 use Rattle.std.specs.Prelude.{◌==◌, ◌&&◌, not, ℕ, Bool, true, false, List, [], ◌∷◌, ◌+◌, Option, Some, None, is_some, length, take, drop, codes, nat_le, if◌then◌else◌, option_map, option_and_then, unwrap_or, bytes_eq}
 use Rattle.std.specs.List.{list_all, position_or_len}
 use Rattle.std.specs.Str.Parse.{digits_value}

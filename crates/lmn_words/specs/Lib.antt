@@ -1,3 +1,4 @@
 pub mod Forms
 pub mod Hearing
 pub mod Laws
+pub mod Parsing

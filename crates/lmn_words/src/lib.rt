@@ -3,6 +3,7 @@
 
 mod command;
 mod laws;
+mod parsing;
 mod reading;
 mod setting;
 #[cfg(test)]

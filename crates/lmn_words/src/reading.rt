@@ -1,4 +1,5 @@
-ghost use Rattle.std.specs.Prelude.{◌≡◌, ◌↔◌, IfSome, IsSome, IsTrue, option_map};
+//! The form of the words.
+ghost use Rattle.std.specs.Prelude.{◌≡◌, ◌↔◌, IsTrue, is_some, option_map};
 ghost use Rattle.lmn_words.specs.Hearing.{
   file_read,
   hear,
@@ -15,64 +16,48 @@ ghost use Rattle.lmn_words.specs.Hearing.{
   run_heard,
   run_read,
 };
-ghost use Rattle.lmn_words.specs.Forms.{Asks, InForm, IsInRanges, request_of, run_of, texts_of};
+ghost use Rattle.lmn_words.specs.Forms.{InForm, texts_of};
 
-use crate::command::{Command, RunWords};
 use crate::setting::{Setting, Settings, Valued};
 
 /// Whether the words of the command line are of the form. It takes no memory.
 pub fn in_form(words: &[String]) -> bool
     ensures { IsTrue result ↔ InForm words.now }
 {
-    Command::from_words(words).is_some()
+    is_form(words)
 }
 
-impl Command<'_> {
-    /// What the words of the command line ask for; `None` where they aren't of the form. It takes no memory.
-    pub fn from_words<'w>(words: &'w [String]) -> Option<Command<'w>>
-        ensures form { IsSome result ↔ InForm words.now }
-        ensures asks { IfSome result (λ command. Asks words.now (request_of command)) }
-        ensures ranges { IfSome result (λ command. IsInRanges (request_of command)) }
-    {
-        read(words)
-    }
-}
-
-/// What words ask for.
-fn read<'w>(words: &'w [String]) -> Option<Command<'w>>
-    ensures { option_map request_of result ≡ request_read (texts_of words.now) }
+/// Whether words are of the form.
+fn is_form(words: &[String]) -> bool
+    ensures { result ≡ is_some (request_read (texts_of words.now)) }
 {
     match words {
-        [] => None,
+        [] => false,
         [first, rest @ ..] => match first.as_str() {
-            "run" => Some(Command::Run(run_words(rest)?)),
-            "compile" => Some(Command::Compile(only_file(rest)?)),
-            _ => None,
+            "run" => is_run_form(rest),
+            "compile" => is_compile_form(rest),
+            _ => false,
         },
     }
 }
 
-/// What the words behind `run` ask for.
-fn run_words<'w>(words: &'w [String]) -> Option<RunWords<'w>>
-    ensures { option_map run_of result ≡ run_read (texts_of words.now) }
+/// Whether the words behind `run` are one file and each option at most once.
+fn is_run_form(words: &[String]) -> bool
+    ensures { result ≡ is_some (run_read (texts_of words.now)) }
 {
-    let reader = Reader::new().all(words)?;
-    reader.run()
+    match Reader::new().all(words) {
+        Some(reader) => reader.is_whole(),
+        None => false,
+    }
 }
 
-/// The one word behind `compile`.
-fn only_file<'w>(words: &'w [String]) -> Option<&'w str>
-    ensures { option_map (λ file. file.now) result ≡ file_read (texts_of words.now) }
+/// Whether the words behind `compile` are one file.
+fn is_compile_form(words: &[String]) -> bool
+    ensures { result ≡ is_some (file_read (texts_of words.now)) }
 {
     match words {
-        [file] => {
-            if is_file_name(file.as_bytes()) {
-                Some(file.as_str())
-            } else {
-                None
-            }
-        }
-        _ => None,
+        [file] => is_file_name(file.as_bytes()),
+        _ => false,
     }
 }
 
@@ -185,14 +170,10 @@ impl<'w> Reader<'w> {
         })
     }
 
-    /// What is asked for, behind the last word.
-    fn run(self) -> Option<RunWords<'w>>
-        ensures { option_map run_of result ≡ run_heard (heard_of self.entry) }
+    /// Whether nothing is wanting behind the last word.
+    fn is_whole(self) -> bool
+        ensures { result ≡ is_some (run_heard (heard_of self.entry)) }
     {
-        if self.waiting.is_some() {
-            return None;
-        }
-        let file = self.file?;
-        Some(self.settings.run(file))
+        self.waiting.is_none() && self.file.is_some()
     }
 }

@@ -6,13 +6,11 @@ ghost use Rattle.lmn_words.specs.Hearing.{
   number_of,
   option_named,
   order_named,
-  run_by,
   setting_of,
   with_setting,
 };
-ghost use Rattle.lmn_words.specs.Forms.{ordered_by, run_of};
+ghost use Rattle.lmn_words.specs.Forms.{ordered_by};
 
-use crate::command::RunWords;
 use lmn_order::Order;
 
 /// The most digits of a number.
@@ -23,12 +21,6 @@ const MOST: u64 = 9_223_372_036_854_775_807;
 
 /// The most that `--size` takes.
 const MOST_ITEMS: u64 = 4_294_967_295;
-
-/// The budget where none is given.
-const BUDGET: u64 = 1_000_000;
-
-/// The size where none is given.
-const SIZE: u64 = 16_777_216;
 
 /// What one option sets.
 #[derive(Clone, Copy, Debug, PartialEq, Eq)]
@@ -50,7 +42,7 @@ pub(crate) enum OrderName {
 
 impl OrderName {
     /// The order of this name.
-    fn named(word: &str) -> Option<OrderName>
+    pub(crate) fn named(word: &str) -> Option<OrderName>
         ensures { result ≡ order_named word.now }
     {
         match word {
@@ -62,7 +54,7 @@ impl OrderName {
     }
 
     /// The order, with the seed that it may carry.
-    fn with_seed(self, seed: u64) -> Order
+    pub(crate) fn with_seed(self, seed: u64) -> Order
         ensures { result ≡ ordered_by self seed }
     {
         match self {
@@ -122,7 +114,7 @@ fn number_between(word: &str, least: u64, most: u64) -> Option<u64>
 }
 
 /// The number that 1 to 19 decimal digits write.
-fn number(word: &str) -> Option<u64>
+pub(crate) fn number(word: &str) -> Option<u64>
     ensures { result ≡ number_of word.now }
 {
     if word.len() > DIGITS || begins_with(word.as_bytes(), b'+') {
@@ -220,20 +212,6 @@ impl Settings {
                     })
                 }
             }
-        }
-    }
-
-    /// A run of a file by these settings, and by the defaults of those that aren't set.
-    pub(crate) fn run<'w>(self, file: &'w str) -> RunWords<'w>
-        ensures { run_of result ≡ run_by self file.now }
-    {
-        let seed = self.seed.unwrap_or(0);
-        RunWords {
-            file,
-            trace: self.trace,
-            budget: self.budget.unwrap_or(BUDGET),
-            size: self.size.unwrap_or(SIZE),
-            order: self.order.unwrap_or(OrderName::First).with_seed(seed),
         }
     }
 }

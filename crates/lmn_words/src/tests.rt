@@ -183,7 +183,7 @@ fn runs_ask_for_these(rt: HostRuntime) -> Result<(), Fail> {
         let words = words_of(rt.alloc(), &["run"], row.0)?;
         assert!(rt; in_form(words.as_slice()), "form of row {i}");
         assert_eq!(rt;
-            Command::from_words(words.as_slice()),
+            Command::from_words(rt.alloc(), words.as_slice())?,
             Some(Command::Run(row.1)),
             "row {i}"
         );
@@ -196,7 +196,11 @@ fn others_ask_for_nothing(rt: HostRuntime) -> Result<(), Fail> {
     for (i, row) in OTHERS.iter().enumerate() {
         let words = words_of(rt.alloc(), &[], row)?;
         assert!(rt; !in_form(words.as_slice()), "form of row {i}");
-        assert_eq!(rt; Command::from_words(words.as_slice()), None, "row {i}");
+        assert_eq!(rt;
+            Command::from_words(rt.alloc(), words.as_slice())?,
+            None,
+            "row {i}"
+        );
     }
     Ok(())
 }
@@ -206,7 +210,7 @@ fn one_file_is_compiled(rt: HostRuntime) -> Result<(), Fail> {
     let words = words_of(rt.alloc(), &["compile"], &["f"])?;
     assert!(rt; in_form(words.as_slice()));
     assert_eq!(rt;
-        Command::from_words(words.as_slice()),
+        Command::from_words(rt.alloc(), words.as_slice())?,
         Some(Command::Compile("f"))
     );
     Ok(())

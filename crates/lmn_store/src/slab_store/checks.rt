@@ -1,6 +1,6 @@
 //! The conditions of calls, looked up, for a caller that can't show them otherwise, as a test.
-ghost use Rattle.std.specs.Prelude.{◌≡◌, ◌≢◌, ◌<◌, ◌≤◌, ℕ, Some, IsTrue, IsSome, []};
-ghost use Rattle.lmn_heap.specs.Heap.{gone, arity_of, link_of, place_of, mem_place_of, atoms_in, mems_in, spare_of, IsAtom, IsMem, IsInPlace, IsMemInPlace};
+ghost use Rattle.std.specs.Prelude.{◌≡◌, ◌≢◌, ◌<◌, ℕ, Some, IsTrue, []};
+ghost use Rattle.lmn_heap.specs.Heap.{gone, arity_of, mem_place_of, atoms_in, mems_in, spare_of, IsAtom, IsMem, IsInPlace, IsMemInPlace};
 ghost use Rattle.lmn_heap.specs.Conditions.{Alone, Ready, IsOutside};
 ghost use Rattle.lmn_heap.specs.Sound.{Settled};
 ghost use Rattle.lmn_store.specs.Kept.{heap_of};

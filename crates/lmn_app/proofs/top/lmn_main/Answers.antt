@@ -2,7 +2,7 @@ use Rattle.std.proofs.Common.{arith}
 use Rattle.lmn_app.specs.declared.ending.Ending.TheVariants.{Budget, Done, Full, NoMemory, ReadFault, Words}
 use Rattle.lmn_app.specs.Requests.{file_of}
 use Rattle.lmn_app.specs.Writing.{told_under}
-use Rattle.lmn_app.proofs.MainLemmas.{answered, budget_is, done_is, failed, form_answered, full_is, line_taken, memory_is, not_of_form, out_taken, puts_stay, read_is, read_rose, refusal_told, refused_so, untouched, words_is, write_rose}
+use Rattle.lmn_app.proofs.MainLemmas.{answered, asked_or_memory, budget_is, done_is, failed, form_answered, full_is, line_taken, memory_is, not_of_form, out_taken, puts_stay, read_is, read_rose, refusal_told, refused_so, untouched, words_is, write_rose}
 use Rattle.lmn_app.proofs.top.lmn_main.Goals as goal
 
 pub returns-clause-words : goal.returns-clause-words
@@ -18,6 +18,13 @@ returns-clause-form g c =
     (g.O.Sink.told c.args.out.now) (g.O.Sink.told c.act-ending.new.out) (g.E.Sink.told c.args.err.now) (g.E.Sink.told c.conclude.new.err)
     (g.O.Sink.faults c.args.out.now) (g.O.Sink.faults c.act-ending.new.out) (g.E.Sink.faults c.args.err.now) (g.E.Sink.faults c.conclude.new.err) c.conclude.result
     c.act-ending.result c.act-ending.ensures.ended c.conclude.ensures
+
+pub returns-clause-asked : goal.returns-clause-asked
+returns-clause-asked g c = λ form.
+    asked_or_memory c.asks_one.ensures.one c.args.words.now (λ k. told_under (g.F.Shelf.told c.args.shelf.now) (file_of k)) (λ k. g.F.Shelf.faults c.args.shelf.now (file_of k)) (λ k. g.F.Shelf.faults c.act-ending.new.shelf (file_of k))
+    (g.O.Sink.told c.args.out.now) (g.O.Sink.told c.act-ending.new.out) (g.E.Sink.told c.args.err.now) (g.E.Sink.told c.conclude.new.err)
+    (g.O.Sink.faults c.args.out.now) (g.O.Sink.faults c.act-ending.new.out) (g.E.Sink.faults c.args.err.now) (g.E.Sink.faults c.conclude.new.err) c.conclude.result
+    c.act-ending.result (c.act-ending.ensures.asked form) c.conclude.ensures
 
 pub returns-clause-read : goal.returns-clause-read
 returns-clause-read g c =

@@ -1,7 +1,8 @@
 use Rattle.std.proofs.Common.{◌∙◌, ap, subst, sym}
 use Rattle.lmn_heap.specs.Sound.{Valid}
 use Rattle.lmn_printer.specs.Numbers.{Unmarked}
-use Rattle.lmn_printer.specs.Writing.{IsLineOf, Writes}
+use Rattle.lmn_io.specs.Writing.{Writes}
+use Rattle.lmn_printer.specs.Writing.{IsLineOf}
 use Rattle.lmn_drive.proofs.Lines.{can_print}
 use Rattle.lmn_drive.proofs.driving.write_process.Goals as goal
 

@@ -1,6 +1,5 @@
 use Rattle.std.proofs.Common.{◌≡◌, ◌∙◌, subst}
-use Rattle.std.specs.Result.{OnOk, OnErr}
-use Rattle.lmn_io.specs.Taking.{Takes, TakesPrefix}
+use Rattle.lmn_io.specs.Writing.{WritesText}
 use Rattle.lmn_drive.specs.Written.{end_line}
 use Rattle.lmn_drive.specs.Driving.{stop_word}
 use Rattle.lmn_drive.proofs.Writings.{rest_broke, rest_written}
@@ -19,6 +18,4 @@ returns-clause-writes g c =
     let new = g.O.Sink.told c.write_end.new.out in
     rest_written c.args.names.now c.args.plain.now.rules (g.S.LinkStore.heap c.args.engine.now.machine.store) c.args.trace word c.args.engine.now.commits _ c.write_end.result
     (g.O.Sink.told c.args.out.now) mid new (g.O.Sink.faults c.args.out.now) (g.O.Sink.faults c.write_traced.new.out) (g.O.Sink.faults c.write_end.new.out) c.in_ok-write_traced.ensures.writes
-    (subst (λ n. OnOk c.write_end.result (Takes (end_line word n) mid new)) commits c.write_end.ensures.took)
-    (subst (λ n. OnErr c.write_end.result (TakesPrefix (end_line word n) mid new)) commits c.write_end.ensures.prefix)
-    c.write_end.ensures.later c.write_end.ensures.same c.write_end.ensures.rose
+    (subst (λ n. WritesText (end_line word n) c.write_end.result mid (g.O.Sink.faults c.write_traced.new.out) new (g.O.Sink.faults c.write_end.new.out)) commits c.write_end.ensures)

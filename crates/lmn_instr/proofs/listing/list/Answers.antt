@@ -12,17 +12,5 @@ whole g c =
     subst (λ pending. Adds (code_listing c.args.names.now c.args.code.now c.args.number) (output pending (g.O.Sink.told c.args.sink.now) (g.O.Sink.faults c.args.sink.now)) (output c.add_code.new.buffer (g.O.Sink.told c.add_code.new.out) (g.O.Sink.faults c.add_code.new.out)))
     c.new-buffer.ensures c.add_code.ensures
 
-pub returns-clause-took : goal.returns-clause-took
-returns-clause-took g c = c.finish.ensures.took _ _ _ (whole g c)
-
-pub returns-clause-prefix : goal.returns-clause-prefix
-returns-clause-prefix g c = c.finish.ensures.prefix _ _ _ (whole g c)
-
-pub returns-clause-later : goal.returns-clause-later
-returns-clause-later g c = c.finish.ensures.later _ _ _ (whole g c)
-
-pub returns-clause-same : goal.returns-clause-same
-returns-clause-same g c = c.finish.ensures.same _ _ _ (whole g c)
-
-pub returns-clause-rose : goal.returns-clause-rose
-returns-clause-rose g c = c.finish.ensures.rose _ _ _ (whole g c)
+pub returns : goal.returns
+returns g c = c.finish.ensures _ _ _ (whole g c)

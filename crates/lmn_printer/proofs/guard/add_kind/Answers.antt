@@ -1,7 +1,7 @@
 use Rattle.lmn_io.proofs.TakingLemmas.{adds_as, adds_more}
 use Rattle.std.proofs.Common.{ap}
 use Rattle.lmn_congruence.specs.Rules.{named}
-use Rattle.lmn_print.specs.Labels.{label_text}
+use Rattle.lmn_plain.specs.Labels.{label_text}
 use Rattle.lmn_printer.proofs.LeafLemmas.{kind_text}
 use Rattle.lmn_printer.proofs.guard.add_kind.Goals as goal
 

@@ -1,7 +1,7 @@
 use Rattle.std.specs.Prelude.{codes}
 use Rattle.std.specs.List.{flat_map}
 use Rattle.lmn_io.proofs.TakingLemmas.{adds_all, adds_as, adds_more, adds_next}
-use Rattle.lmn_print.specs.Labels.{quoted_byte}
+use Rattle.lmn_plain.specs.Labels.{quoted_byte}
 use Rattle.lmn_printer.proofs.labels.add_quoted.Goals as goal
 
 pub loop-byte-preserved : goal.loop-byte-preserved

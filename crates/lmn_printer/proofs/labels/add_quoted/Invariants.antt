@@ -1,7 +1,7 @@
 use Rattle.std.proofs.Common.{take}
 use Rattle.std.specs.List.{flat_map}
 use Rattle.lmn_io.specs.Gathering.{Adds, output}
-use Rattle.lmn_print.specs.Labels.{quoted_byte}
+use Rattle.lmn_plain.specs.Labels.{quoted_byte}
 use Rattle.lmn_printer.proofs.labels.add_quoted.Given as goal
 
 abbrev pub invariant-loop-byte : goal.invariant-loop-byte

@@ -1,4 +1,4 @@
-use Rattle.std.proofs.Common.{subst, sym, ap, ◌++◌}
+use Rattle.std.proofs.Common.{subst, sym, refl, ap, ◌++◌}
 use Rattle.std.specs.Prelude.{codes}
 use Rattle.lmn_base.specs.declared.solid.Solid.{Solid}
 use Rattle.lmn_heap.specs.Solid.{SolidOf}
@@ -37,11 +37,11 @@ add_tree-requires g c = c.requires.tree
 
 pub returns : goal.returns
 returns g c =
-    let tree = added g c c.requires.tree.0 c.requires.tree.1 in
+    let written = c.finish.ensures _ _ _ (added g c c.requires.tree.0 c.requires.tree.1) in
     record {
-      took = λ text line. c.finish.ensures.took _ _ _ (adds_as (sym line.3) (whole g c line.0 line.1 line.2));
-      prefix = λ text line. c.finish.ensures.prefix _ _ _ (adds_as (sym line.3) (whole g c line.0 line.1 line.2));
-      later = c.finish.ensures.later _ _ _ tree;
-      same = c.finish.ensures.same _ _ _ tree;
-      rose = c.finish.ensures.rose _ _ _ tree;
+      took = λ text is. (c.finish.ensures text _ _ (adds_as (sym is.3) (whole g c is.0 is.1 is.2))).took text refl;
+      prefix = λ text is. (c.finish.ensures text _ _ (adds_as (sym is.3) (whole g c is.0 is.1 is.2))).prefix text refl;
+      later = written.later;
+      same = written.same;
+      rose = written.rose;
     }

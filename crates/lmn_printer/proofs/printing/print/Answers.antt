@@ -1,5 +1,6 @@
+use Rattle.lmn_io.proofs.WritingLemmas.{writes_as}
 use Rattle.lmn_printer.specs.Writing.{IsLineOf, IsMarkedLineOf}
-use Rattle.lmn_printer.proofs.KeptLemmas.{valid_same, line_same, kept_heap, writes_as}
+use Rattle.lmn_printer.proofs.KeptLemmas.{valid_same, line_same, kept_heap}
 use Rattle.lmn_printer.proofs.MarkLemmas.{remarks_more}
 use Rattle.lmn_printer.proofs.printing.print.Goals as goal
 

@@ -1,6 +1,7 @@
 use Rattle.std.proofs.Common.{arith}
 use Rattle.lmn_lexer.proofs.FewTokens.{few_tokens}
-use Rattle.lmn_reading.proofs.Readings.{bytes_refused, grows_less, none_by_bytes}
+use Rattle.lmn_reading.proofs.Readings.{bytes_refused, none_by_bytes}
+use Rattle.lmn_expand.proofs.GlossaryLemmas.{grows_less}
 use Rattle.lmn_reading.proofs.reading.plain_of.Goals as goal
 
 pub returns-in-Err-clause-names : goal.returns-in-Err-clause-names

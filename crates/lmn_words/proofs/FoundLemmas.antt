@@ -1,0 +1,100 @@
+-- What matches ask for.
+use Rattle.std.specs.declared.string.String.{String}
+use Rattle.std.specs.declared.alloc.Global.{Global}
+use Rattle.std.proofs.Common.{IfSome, IsSome, ◌≡◌, ◌∙◌, refl, sym, ap, subst, Bool, true, false, List, Option, Some, None, length, option_map, codes, arith}
+use Rattle.std.specs.Prelude.{Box}
+use Rattle.std.specs.Box.{box_value}
+use Rattle.std.proofs.lemmas.Option.{none-some, same_Some}
+use Rattle.clap.specs.Walk.{Row, Text, first_of, one_of}
+use Rattle.clap.specs.Simple.{App, is_simple, subcommand_of, subcommand_rows}
+use Rattle.clap.specs.Takes.{takes}
+use Rattle.clap.specs.Values.{bool_text}
+use Rattle.clap.specs.declared.parser.matches.SubCommand.{SubCommand}
+use Rattle.clap.specs.declared.parser.matches.ArgMatches.TheViews.{out-SubCommand}
+use Rattle.lmn_words.specs.declared.command.RunWords.{RunWords}
+use Rattle.lmn_words.specs.declared.command.Command.{Command}
+use Rattle.lmn_words.specs.Forms.{Asks, InForm, IsForm, IsInRanges, Request, Run, TextsAsk, Word, ordered_by, request_of, run_of, texts_of, to_compile, to_run}
+use Rattle.lmn_words.specs.Parsing.{IsFound, Tells, number_given, order_given, whole_line}
+use Rattle.lmn_words.proofs.ReadLemmas.{form_reads, in_ranges, request_told}
+use Rattle.lmn_words.proofs.ParseLemmas.{asked_taken}
+
+-- words of the form are taken
+pub form_taken : (line : App) (words : List Word) → line ≡ whole_line → IsForm words → takes line words ≡ true
+form_taken line words is form =
+    let r = form_reads words form in
+    ap (λ a. takes a words) is ∙ (asked_taken words r.0 (request_told words r.0 r.1)).0
+
+-- and what they ask for is found
+pub asked_found : {A : Type 0} (line : App) (words : List Word) (o : Option (Text × List Row)) → line ≡ whole_line → (is_simple line ≡ true → A × (o ≡ subcommand_of line words))
+    → (r : Request) → TextsAsk words r → IsFound o r
+asked_found line words o is matches r asks =
+    subst (λ x. IsFound x r) (sym ((matches (ap is_simple is)).1 ∙ ap (λ a. subcommand_of a words) is)) (asked_taken words r asks).1
+
+module _ {Z : Type 0} where
+  -- a command that was found, by its name and its rows
+  found_is : (o : Option (Box SubCommand Z)) (n : Text) (rows : List Row) → Some n ≡ option_map (λ b. (out-SubCommand (box_value b)).name.now) o
+      → Some rows ≡ option_map (λ p. p.1) (subcommand_rows o) → subcommand_rows o ≡ Some (n, rows)
+  found_is None n rows e f = absurd (none-some n (sym e))
+  found_is (Some b) n rows e f = λ i. Some (sym (same_Some n _ e) i, sym (same_Some rows _ f) i)
+
+  pub found_so : (o : Option (Box SubCommand Z)) (n : Text) (rows : List Row) (r : Request) → Some n ≡ option_map (λ b. (out-SubCommand (box_value b)).name.now) o
+      → Some rows ≡ option_map (λ p. p.1) (subcommand_rows o) → IsFound (subcommand_rows o) r → IsFound (Some (n, rows)) r
+  found_so o n rows r e f h = subst (λ x. IsFound x r) (found_is o n rows e f) h
+
+not_run : codes "compile" ≡ codes "run" → ⊥
+not_run e = let l = ap length e in omega (arith, l)
+
+-- the file of `compile`
+pub compile_found : (n : Text) (rows : List Row) (r : Request) (o : Option Text) → n ≡ codes "compile" → o ≡ first_of (codes "file") rows → IsFound (Some (n, rows)) r
+    → option_map to_compile o ≡ Some r
+compile_found n rows (to_run run) o is e h = absurd (not_run (sym is ∙ h.0))
+compile_found n rows (to_compile file) o is e h = ap (option_map to_compile) (e ∙ h.1)
+
+flag_is : (rows : List Row) (a b : Bool) → (one_of (codes "trace") rows ≡ Some (codes "true") → a ≡ true) → (one_of (codes "trace") rows ≡ Some (codes "false") → a ≡ false)
+    → one_of (codes "trace") rows ≡ Some (bool_text b) → a ≡ b
+flag_is rows a true given missing e = given e
+flag_is rows a false given missing e = missing e
+
+-- the parts of a run
+pub run_found : (rows : List Row) (w : RunWords) (run : Run) → Some w.file.now ≡ first_of (codes "file") rows
+    → (one_of (codes "trace") rows ≡ Some (codes "true") → w.trace ≡ true) → (one_of (codes "trace") rows ≡ Some (codes "false") → w.trace ≡ false)
+    → w.budget ≡ number_given rows (codes "budget") 1000000 → w.size ≡ number_given rows (codes "size") 16777216
+    → w.order ≡ ordered_by (order_given rows) (number_given rows (codes "seed") 0) → Tells rows run → run_of w ≡ run
+run_found rows w run file given missing budget size order t =
+    let file_is = same_Some w.file.now run.file (file ∙ t.file) in
+    let trace_is = flag_is rows w.trace run.trace given missing t.trace in
+    let budget_is = budget ∙ t.budget in
+    let size_is = size ∙ t.size in
+    let order_is = order ∙ t.order in
+    λ i. record { file = file_is i; trace = trace_is i; budget = budget_is i; size = size_is i; order = order_is i }
+
+-- ---- commands
+
+-- where what words of the form ask for is found, the answer is a command, and it is that
+module _ (words : List (String Global)) (o : Option Command) (form : InForm words) (found : (r : Request) → Asks words r → option_map request_of o ≡ Some r) where
+  asked : (r : Request) × Asks words r × (option_map request_of o ≡ Some r)
+  asked =
+      let r = form_reads (texts_of words) form in
+      let asks = request_told (texts_of words) r.0 r.1 in
+      (r.0, asks, found r.0 asks)
+
+  some_command : (p : Option Command) (r : Request) → option_map request_of p ≡ Some r → IsSome p
+  some_command None r e = absurd (none-some r e)
+  some_command (Some command) r e = refl
+
+  is_asked : (p : Option Command) (r : Request) → Asks words r → option_map request_of p ≡ Some r → IfSome p (λ command. Asks words (request_of command))
+  is_asked None r asks e = tt
+  is_asked (Some command) r asks e = subst (Asks words) (sym (same_Some (request_of command) r e)) asks
+
+  is_in_ranges : (p : Option Command) (r : Request) → Asks words r → option_map request_of p ≡ Some r → IfSome p (λ command. IsInRanges (request_of command))
+  is_in_ranges None r asks e = tt
+  is_in_ranges (Some command) r asks e = subst IsInRanges (sym (same_Some (request_of command) r e)) (in_ranges (texts_of words) r asks)
+
+  pub command_form : (IsSome o → InForm words) × (InForm words → IsSome o)
+  command_form = (λ is. form, λ is. some_command o asked.0 asked.2)
+
+  pub command_asks : IfSome o (λ command. Asks words (request_of command))
+  command_asks = is_asked o asked.0 asked.1 asked.2
+
+  pub command_in_ranges : IfSome o (λ command. IsInRanges (request_of command))
+  command_in_ranges = is_in_ranges o asked.0 asked.1 asked.2

@@ -1,0 +1,10 @@
+use Rattle.std.proofs.lemmas.Result.{IfOk-weaker}
+use Rattle.lmn_words.proofs.LineLemmas.{command_more, settings_made}
+use Rattle.lmn_words.proofs.parsing.whole_line.Goals as goal
+
+pub returns : goal.returns
+returns c =
+    let top = settings_made c.new.result c.no_binary_name.result c.disable_help_flag.result c.disable_help_subcommand.result c.subcommand_required.result _
+    (c.new.ensures.app, c.new.ensures.local) c.no_binary_name.ensures c.disable_help_flag.ensures c.disable_help_subcommand.ensures c.subcommand_required.ensures in
+    let run = command_more _ _ _ _ _ c.in_ok-subcommand.ensures top c.in_ok-run_line.ensures in
+    IfOk-weaker c.subcommand-2.result _ _ (λ line adds. command_more _ _ line _ _ adds run c.in_ok-compile_line.ensures) c.subcommand-2.ensures

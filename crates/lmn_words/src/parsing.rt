@@ -1,0 +1,162 @@
+//! Words of the form as `clap` reads them.
+ghost use Rattle.std.specs.Prelude.{◌≡◌, ◌↔◌, IfOk, false, IfSome, IsSome, OnErr, Some, option_and_then, option_map, unwrap_or};
+ghost use Rattle.clap.specs.Words.{found_of, rows_of, rule_of, subcommand_rows_of};
+ghost use Rattle.lmn_words.specs.Forms.{Asks, InForm, IsInRanges, Request, Run, request_of, run_of};
+ghost use Rattle.lmn_words.specs.Hearing.{number_of, order_named};
+ghost use Rattle.lmn_words.specs.Parsing.{IsFound, IsLine, Tells, compile_line, file_rule, flag_rule, option_rule, run_line, whole_line};
+
+use crate::command::{Command, RunWords};
+use crate::reading::in_form;
+use crate::setting::{OrderName, number};
+use clap::error::ErrorKind;
+use clap::{Arg, ArgAction, ArgMatches};
+use std::alloc::{AllocError, Global};
+
+/// The budget where none is given.
+const BUDGET: u64 = 1_000_000;
+
+/// The size where none is given.
+const SIZE: u64 = 16_777_216;
+
+impl Command<'_> {
+    /// What the words of the command line ask for; `None` where they aren't of the form. Memory is taken for words of
+    /// the form alone.
+    pub fn from_words<'w>(
+        alloc: Global,
+        words: &'w [String],
+    ) -> Result<Option<Command<'w>>, AllocError>
+        ensures form { IfOk result (λ command. IsSome command ↔ InForm words.now) }
+        ensures memory { OnErr result (InForm words.now) }
+        ensures asks { IfOk result (λ found. IfSome found (λ command. Asks words.now (request_of command))) }
+        ensures ranges { IfOk result (λ found. IfSome found (λ command. IsInRanges (request_of command))) }
+    {
+        if !in_form(words) {
+            return Ok(None);
+        }
+        let matches = matches_of(alloc, words)?;
+        Ok(command_of(&matches))
+    }
+}
+
+/// The matches of words of the form. Of the errors of `clap` only want of memory is met.
+fn matches_of<'w>(alloc: Global, words: &'w [String]) -> Result<ArgMatches<'w>, AllocError>
+    requires { InForm words.now }
+    ensures { IfOk result (λ matches. (request : Request) → Asks words.now request → IsFound (subcommand_rows_of matches) request) }
+{
+    match whole_line(alloc)?.try_get_matches_from(words) {
+        Ok(matches) => Ok(matches),
+        Err(error) => {
+            let kind = error.kind();
+            prove!(kind == ErrorKind::OutOfMemory);
+            Err(AllocError)
+        }
+    }
+}
+
+/// The whole command line.
+fn whole_line<'w>(alloc: Global) -> Result<clap::Command<'w>, AllocError>
+    ensures { IfOk result (λ line. IsLine line whole_line) }
+{
+    clap::Command::new(alloc, "lmn")
+        .no_binary_name(true)
+        .disable_help_flag(true)
+        .disable_help_subcommand(true)
+        .subcommand_required(true)
+        .subcommand(run_line(alloc)?)?
+        .subcommand(compile_line(alloc)?)
+}
+
+/// The words of `run`.
+fn run_line<'w>(alloc: Global) -> Result<clap::Command<'w>, AllocError>
+    ensures { IfOk result (λ line. IsLine line run_line) }
+{
+    clap::Command::new(alloc, "run")
+        .arg(file_arg(alloc))?
+        .arg(flag(alloc, "trace"))?
+        .arg(option(alloc, "budget"))?
+        .arg(option(alloc, "size"))?
+        .arg(option(alloc, "order"))?
+        .arg(option(alloc, "seed"))
+}
+
+/// The words of `compile`.
+fn compile_line<'w>(alloc: Global) -> Result<clap::Command<'w>, AllocError>
+    ensures { IfOk result (λ line. IsLine line compile_line) }
+{
+    clap::Command::new(alloc, "compile").arg(file_arg(alloc))
+}
+
+/// The file.
+fn file_arg<'w>(alloc: Global) -> Arg<'w>
+    ensures rule { rule_of result ≡ file_rule }
+    ensures local { result.global ≡ false }
+{
+    Arg::new(alloc, "file").required(true)
+}
+
+/// An option without a value.
+fn flag<'w>(alloc: Global, name: &'w str) -> Arg<'w>
+    ensures rule { rule_of result ≡ flag_rule name.entry.now }
+    ensures local { result.global ≡ false }
+{
+    Arg::new(alloc, name).long(name).action(ArgAction::SetTrue)
+}
+
+/// An option with a value.
+fn option<'w>(alloc: Global, name: &'w str) -> Arg<'w>
+    ensures rule { rule_of result ≡ option_rule name.entry.now }
+    ensures local { result.global ≡ false }
+{
+    Arg::new(alloc, name).long(name)
+}
+
+/// What matches ask for.
+fn command_of<'w>(matches: &ArgMatches<'w>) -> Option<Command<'w>>
+    ensures { (request : Request) → IsFound (subcommand_rows_of matches.now) request → option_map request_of result ≡ Some request }
+{
+    let (name, words) = matches.subcommand()?;
+    match name {
+        "run" => Some(Command::Run(run_words(words)?)),
+        "compile" => Some(Command::Compile(words.get_str("file")?)),
+        _ => None,
+    }
+}
+
+/// What the matches of `run` ask for.
+fn run_words<'w>(matches: &ArgMatches<'w>) -> Option<RunWords<'w>>
+    ensures { (run : Run) → Tells (rows_of (found_of matches.now)) run → option_map run_of result ≡ Some run }
+{
+    let file = matches.get_str("file")?;
+    let trace = matches.get_flag("trace");
+    let budget = number_or(matches.get_str("budget"), BUDGET);
+    let size = number_or(matches.get_str("size"), SIZE);
+    let seed = number_or(matches.get_str("seed"), 0);
+    let order = order_or_first(matches.get_str("order")).with_seed(seed);
+    Some(RunWords {
+        file,
+        trace,
+        budget,
+        size,
+        order,
+    })
+}
+
+/// The number that a word writes, or the default.
+fn number_or(word: Option<&str>, default: u64) -> u64
+    ensures { result ≡ unwrap_or (option_and_then number_of (option_map (λ text. text.now) word.entry)) default }
+{
+    match word {
+        Some(word) => number(word).unwrap_or(default),
+        None => default,
+    }
+}
+
+/// The order that a word names, or the first one.
+fn order_or_first(word: Option<&str>) -> OrderName
+    ensures { result ≡ unwrap_or (option_and_then order_named (option_map (λ text. text.now) word.entry)) OrderName.First }
+{
+    match word {
+        Some(word) => OrderName::named(word).unwrap_or(OrderName::First),
+        None => OrderName::First,
+    }
+}
