@@ -1,0 +1,9 @@
+pub mod Places
+pub mod OneFolded
+pub mod Choosing
+pub mod SomeFolded
+pub mod Computing
+pub mod Computed
+pub mod Numbering
+pub mod FoldedLines
+pub mod ExampleLines

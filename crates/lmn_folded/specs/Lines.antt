@@ -1,0 +1,24 @@
+-- The folded line of a region.
+use Rattle.std.specs.Prelude.{ℕ, ◌≡◌, List}
+use Rattle.lmn_base.specs.Links.{NumbersLinks}
+use Rattle.lmn_congruence.specs.Orders.{Among}
+use Rattle.lmn_congruence.specs.Regions.{Region}
+use Rattle.lmn_folded.specs.Terms.{Folded, folded_links, renamed_folded}
+use Rattle.lmn_folded.specs.Folding.{Folds}
+use Rattle.lmn_folded.specs.Words.{line_of_folded}
+
+-- The folded form with a number for each link that is printed, different ones for different links, by first occurrence over
+-- the whole line.
+pub record IsNumbered (given numbered : Folded) : Type 0 where
+  pub to : ℕ → ℕ
+  pub one_to_one : (x y : ℕ) → Among x (folded_links given) → Among y (folded_links given) → to x ≡ to y → x ≡ y
+  pub is : numbered ≡ renamed_folded to given
+  pub count : ℕ
+  pub by_first_occurrence : NumbersLinks (folded_links numbered) count
+
+pub record IsFoldedLine (S : Region) (line : List ℕ) : Type 0 where
+  pub given : Folded
+  pub folds : Folds S given
+  pub numbered : Folded
+  pub numbers : IsNumbered given numbered
+  pub is : line ≡ line_of_folded numbered

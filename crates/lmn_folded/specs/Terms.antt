@@ -1,0 +1,70 @@
+-- Processes whose atoms stand as terms in the arguments of other atoms.
+use Rattle.std.specs.Prelude.{ℕ, List, [], ◌∷◌, ◌++◌, map}
+use Rattle.lmn_congruence.specs.Rules.{Label, Rule}
+
+-- A term is a link, or a label with terms. This one stands for an atom that has one link more: its last, which isn't printed.
+mutual
+  pub data Term : Type 0 where
+    link : ℕ → Term
+    labelled : Label → Terms → Term
+
+  pub data Terms : Type 0 where
+    no_term : Terms
+    term_and : Term → Terms → Terms
+
+-- an atom that is printed as an item, with all its arguments
+pub record Item : Type 0 where
+  pub label : Label
+  pub arguments : Terms
+
+-- The content of a membrane, or of the root: items, membranes and rules, in order.
+mutual
+  pub data Folded : Type 0 where
+    folded : List Item → FoldedMembranes → List Rule → Folded
+
+  pub data FoldedMembranes : Type 0 where
+    no_membrane : FoldedMembranes
+    membrane_and : Folded → FoldedMembranes → FoldedMembranes
+
+-- The links that are printed, in printed order.
+abbrev mutual
+  pub term_links : Term → List ℕ
+  term_links (link x) = x ∷ []
+  term_links (labelled l ts) = terms_links ts
+
+  pub terms_links : Terms → List ℕ
+  terms_links no_term = []
+  terms_links (term_and t ts) = term_links t ++ terms_links ts
+
+abbrev pub items_links : List Item → List ℕ
+items_links [] = []
+items_links (i ∷ is) = terms_links i.arguments ++ items_links is
+
+abbrev mutual
+  pub folded_links : Folded → List ℕ
+  folded_links (folded items membranes rules) = items_links items ++ membranes_links membranes
+
+  pub membranes_links : FoldedMembranes → List ℕ
+  membranes_links no_membrane = []
+  membranes_links (membrane_and f fs) = folded_links f ++ membranes_links fs
+
+-- All links renamed.
+abbrev mutual
+  pub renamed_term : (ℕ → ℕ) → Term → Term
+  renamed_term f (link x) = link (f x)
+  renamed_term f (labelled l ts) = labelled l (renamed_terms f ts)
+
+  pub renamed_terms : (ℕ → ℕ) → Terms → Terms
+  renamed_terms f no_term = no_term
+  renamed_terms f (term_and t ts) = term_and (renamed_term f t) (renamed_terms f ts)
+
+abbrev pub renamed_item : (ℕ → ℕ) → Item → Item
+renamed_item f i = record { label = i.label; arguments = renamed_terms f i.arguments }
+
+abbrev mutual
+  pub renamed_folded : (ℕ → ℕ) → Folded → Folded
+  renamed_folded f (folded items membranes rules) = folded (map (renamed_item f) items) (renamed_membranes f membranes) rules
+
+  pub renamed_membranes : (ℕ → ℕ) → FoldedMembranes → FoldedMembranes
+  renamed_membranes f no_membrane = no_membrane
+  renamed_membranes f (membrane_and m ms) = membrane_and (renamed_folded f m) (renamed_membranes f ms)

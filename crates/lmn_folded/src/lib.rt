@@ -1,0 +1,4 @@
+//! The folded form of a printed process.
+#![tactic(auto)]
+
+pub mod laws;

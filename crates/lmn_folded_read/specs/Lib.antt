@@ -1,0 +1,3 @@
+pub mod Spelled
+pub mod Apart
+pub mod Laws

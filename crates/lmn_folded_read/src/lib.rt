@@ -1,0 +1,4 @@
+//! Folded lines read as what was printed.
+#![tactic(auto)]
+
+pub mod laws;

@@ -1,0 +1,4 @@
+//! A folded form has each atom once.
+#![tactic(auto)]
+
+pub mod laws;

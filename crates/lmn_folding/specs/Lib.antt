@@ -1,0 +1,5 @@
+pub mod Marks
+pub mod Events
+pub mod Printed
+pub mod Laws
+pub mod PrintedExamples
