@@ -6,7 +6,8 @@ use Rattle.lmn_congruence.specs.Orders.{Among, at_head, further}
 use Rattle.lmn_congruence.specs.Regions.{SolidAtom}
 use Rattle.lmn_folded.specs.Folding as folding
 use Rattle.lmn_folded.specs.Folding.{IsChild, Descends, itself}
-use Rattle.lmn_folded.proofs.Places.{AtMostTwice, same_or_apart, one_parent, ends_in_one_way, not_nil}
+use Rattle.lmn_folded.proofs.Places.{AtMostTwice, one_parent, ends_in_one_way, not_nil}
+use Rattle.lmn_congruence.proofs.Counts.{below_or_from as below_or_not, same_or_not as same_or_apart}
 
 abbrev pub Decided : Type 0 → Type 0
 Decided P = P ⊎ (¬ P)
@@ -38,9 +39,6 @@ apart m n = go (same_or_apart m n)
     go : (m ≡ n) ⊎ (m ≢ n) → Decided (m ≢ n)
     go (inl e) = inr (λ d. d e)
     go (inr d) = inl d
-
-below_or_not : (m n : ℕ) → (m < n) ⊎ (n ≤ m)
-below_or_not m n = grind arith
 
 below : (m n : ℕ) → Decided (m < n)
 below m n = go (below_or_not m n)

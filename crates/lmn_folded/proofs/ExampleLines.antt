@@ -7,13 +7,12 @@ use Rattle.lmn_congruence.specs.Links.{one_if_same, places}
 use Rattle.lmn_congruence.specs.Orders.{Among, at_head, further}
 use Rattle.lmn_congruence.specs.Process.{Process, nothing, connector, atom, pair, membrane, rule, occurrences, Closed, Fresh, Local}
 use Rattle.lmn_congruence.specs.Regions.{Region, region_process}
-use Rattle.lmn_congruence.proofs.Counts.{none_if_apart, one_if_equal}
+use Rattle.lmn_congruence.proofs.Counts.{none_if_apart, one_if_equal, below_or_from, same_or_not as same_or_apart}
 use Rattle.lmn_folded.specs.Terms.{Folded, folded_links, renamed_folded}
 use Rattle.lmn_folded.specs.Lines.{IsFoldedLine}
 use Rattle.lmn_folded.specs.Words.{line_of_folded}
 use Rattle.lmn_folded.specs.Examples as example
 use Rattle.lmn_folded.proofs.OneFolded.{FewIn}
-use Rattle.lmn_folded.proofs.Places.{same_or_apart}
 use Rattle.lmn_folded.proofs.Computed.{folded_of, computed}
 use Rattle.lmn_folded.proofs.FoldedLines.{one_folded_line}
 
@@ -76,9 +75,6 @@ few_there (suc n) P x e l = let h = halves (nat_le (occurrences n P) 2) (few_bel
     go : (x < n) ⊎ (x ≡ n) → occurrences n P ≤ 2 → (x < n → occurrences x P ≤ 2) → occurrences x P ≤ 2
     go (inl l) a more = more l
     go (inr e) a more = let Q : ℕ → Type 0 = λ y. occurrences y P ≤ 2 in subst Q (sym e) a
-
-below_or_from : (x n : ℕ) → (x < n) ⊎ (n ≤ x)
-below_or_from x n = grind arith
 
 few_by : (n : ℕ) (P : Process) → links_below n P ≡ true → few_below n P ≡ true → FewIn P
 few_by n P e f x = go (below_or_from x n)

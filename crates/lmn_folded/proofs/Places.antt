@@ -5,7 +5,7 @@ use Rattle.std.proofs.lemmas.Option.{same_Some}
 use Rattle.lmn_congruence.specs.Links.{places}
 use Rattle.lmn_congruence.specs.Process.{occurrences, together}
 use Rattle.lmn_congruence.specs.Regions.{SolidAtom, atom_process}
-use Rattle.lmn_congruence.proofs.Counts.{one_if_equal, none_if_apart}
+use Rattle.lmn_congruence.proofs.Counts.{one_if_equal, none_if_apart, same_or_not as same_or_apart}
 use Rattle.lmn_folded.specs.Folding.{IsChild}
 
 -- how often a link stands at atoms
@@ -14,9 +14,6 @@ count x atoms = occurrences x (together (map atom_process atoms))
 
 abbrev pub AtMostTwice : List SolidAtom → Type 0
 AtMostTwice atoms = (x : ℕ) → count x atoms ≤ 2
-
-pub same_or_apart : (m n : ℕ) → (m ≡ n) ⊎ (m ≢ n)
-same_or_apart m n = grind arith
 
 -- a list with another number at a place
 abbrev replaced : List ℕ → ℕ → ℕ → List ℕ

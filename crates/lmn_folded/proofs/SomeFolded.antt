@@ -7,9 +7,10 @@ use Rattle.lmn_congruence.specs.Regions.{SolidAtom, Region, region, Regions, no_
 use Rattle.lmn_folded.specs.Terms.{Term, link, labelled, Terms, no_term, term_and, Item, Folded, folded, FoldedMembranes, no_membrane, membrane_and}
 use Rattle.lmn_folded.specs.Folding as folding
 use Rattle.lmn_folded.specs.Folding.{IsChild, Descends, NoChildren, Further, AreItems, positions, Shows, as_link, as_term, ShowsAll, ShowsItems, Folds, folds, FoldsAll}
-use Rattle.lmn_folded.proofs.Places.{AtMostTwice, same_or_apart, one_child, one_parent}
+use Rattle.lmn_folded.proofs.Places.{AtMostTwice, one_child, one_parent}
 use Rattle.lmn_folded.proofs.OneFolded.{FewIn}
 use Rattle.lmn_folded.proofs.Choosing.{Decided, within, element, among, child_at, parent, taken_out, Seen, FromItem, from_item, positions_all, suc_less}
+use Rattle.lmn_congruence.proofs.Counts.{same_or_not as same_or_apart}
 
 -- The way down to an atom that is printed as a term: an item, then children that are no items.
 pub data Path (atoms : List SolidAtom) (items : List ℕ) : ℕ → List ℕ → Type 0 where

@@ -1,8 +1,10 @@
--- The folded line of a region.
-use Rattle.std.specs.Prelude.{ℕ, ◌≡◌, List}
+-- The line of a region, in the folded form and in the plain one.
+use Rattle.std.specs.Prelude.{ℕ, ◌≡◌, List, Bool, true, false}
 use Rattle.lmn_base.specs.Links.{NumbersLinks}
 use Rattle.lmn_congruence.specs.Orders.{Among}
 use Rattle.lmn_congruence.specs.Regions.{Region}
+use Rattle.lmn_plain.specs.SolidLines.{as_level}
+use Rattle.lmn_plain.specs.Words.{line_of}
 use Rattle.lmn_folded.specs.Terms.{Folded, folded_links, renamed_folded}
 use Rattle.lmn_folded.specs.Folding.{Folds}
 use Rattle.lmn_folded.specs.Words.{line_of_folded}
@@ -22,3 +24,8 @@ pub record IsFoldedLine (S : Region) (line : List ℕ) : Type 0 where
   pub numbered : Folded
   pub numbers : IsNumbered given numbered
   pub is : line ≡ line_of_folded numbered
+
+-- the line of a region, in the folded form where that is asked, and else in the plain one
+abbrev pub IsLine : Bool → Region → List ℕ → Type 0
+IsLine true S line = IsFoldedLine S line
+IsLine false S line = line ≡ line_of (as_level S)

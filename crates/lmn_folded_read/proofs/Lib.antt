@@ -1,4 +1,5 @@
 pub mod FoldedLaid
+pub mod Lists
 pub mod Ways
 pub mod ReadTerms
 pub mod ReadFolded

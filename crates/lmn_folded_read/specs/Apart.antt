@@ -47,6 +47,7 @@ module _ (words : List Word) (places : List Pos) (table : List Rule) where
         (first : List Link) × (more : List Link) × (made ≡ first ++ more) × FoldedApart f l first × MembranesApart fs ls more
     MembranesApart _ _ made = ⊥
 
-abbrev pub AllDifferent : List Link → Type 0
+-- no element stands twice in a list
+abbrev pub AllDifferent : {A : Type 0} → List A → Type 0
 AllDifferent [] = ⊤
 AllDifferent (a ∷ bs) = ¬ (Among a bs) × AllDifferent bs

@@ -1,2 +1,13 @@
+pub mod Once
+pub mod Printing
+pub mod WholeForms
+pub mod Naming
 pub mod SameTexts
 pub mod SameLines
+pub mod Kept
+pub mod SpelledForms
+pub mod TopsBack
+pub mod OwnSolids
+pub mod ReadBack
+pub mod OneRegion
+pub mod ExampleLines

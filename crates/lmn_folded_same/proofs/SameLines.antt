@@ -13,26 +13,18 @@ use Rattle.lmn_plain.specs.Spelled.{IsLinkNumber}
 use Rattle.lmn_folded.specs.Terms.{Term, link, labelled, Terms, no_term, term_and, Item, Folded, folded, FoldedMembranes, no_membrane, membrane_and, term_links, terms_links, items_links, folded_links, membranes_links}
 use Rattle.lmn_folded_read.specs.Laws.{IsTreeOf}
 use Rattle.lmn_folded_read.specs.Spelled.{TermSpelled, TermsSpelled, ItemSpelled, FoldedSpelled, MembranesSpelled}
+use Rattle.lmn_folded_read.proofs.Lists.{among_apart}
 use Rattle.lmn_folded_read.proofs.FoldedLines.{folded_lines_are_read}
 use Rattle.lmn_folded_same.specs.Lines.{FoldedLinesAreSame}
 use Rattle.lmn_folded_same.proofs.SameTexts.{folded_texts_are_same}
 
 -- The printed links of what can be spelled.
 
-abbrev Small : List ℕ → Type 0
+abbrev pub Small : List ℕ → Type 0
 Small xs = (x : ℕ) → Among x xs → IsLinkNumber x
 
-among_apart : (x : ℕ) (xs ys : List ℕ) → Among x (xs ++ ys) → Among x xs ⊎ Among x ys
-among_apart x [] ys h = inr h
-among_apart x (y ∷ xs) ys at_head = inl at_head
-among_apart x (y ∷ xs) ys (further h) = go (among_apart x xs ys h)
-  where
-    go : Among x xs ⊎ Among x ys → Among x (y ∷ xs) ⊎ Among x ys
-    go (inl i) = inl (further i)
-    go (inr i) = inr i
-
 both_small : (xs ys : List ℕ) → Small xs → Small ys → Small (xs ++ ys)
-both_small xs ys h k x i = go (among_apart x xs ys i)
+both_small xs ys h k x i = go (among_apart xs ys i)
   where
     go : Among x xs ⊎ Among x ys → IsLinkNumber x
     go (inl j) = h x j
@@ -62,7 +54,7 @@ items_small [] h = none_small
 items_small (i ∷ is) h = both_small (terms_links i.arguments) (items_links is) (terms_small i.arguments h.0.1) (items_small is h.1)
 
 mutual
-  folded_small : (f : Folded) → FoldedSpelled f → Small (folded_links f)
+  pub folded_small : (f : Folded) → FoldedSpelled f → Small (folded_links f)
   folded_small (folded is fs rs) h = both_small (items_links is) (membranes_links fs) (items_small is h.0) (membranes_small fs h.1)
 
   membranes_small : (fs : FoldedMembranes) → MembranesSpelled fs → Small (membranes_links fs)

@@ -10,7 +10,7 @@ use Rattle.lmn_congruence.specs.Process.{Process, nothing, connector, atom, pair
 use Rattle.lmn_congruence.specs.Regions.{SolidAtom, Region, region, Regions, no_region, region_and, atom_process, region_process, regions_processes}
 use Rattle.lmn_congruence.specs.Rules.{Rule as RuleTree}
 use Rattle.lmn_congruence.specs.Same.{renamed_atom, renamed_region, renamed_regions, PutRegion, first, later, SameRegion, same_region, SameRegions, none_left, one_more}
-use Rattle.lmn_congruence.proofs.Counts.{one_if_equal, none_if_apart}
+use Rattle.lmn_congruence.proofs.Counts.{one_if_equal, none_if_apart, same_or_not as same_or_apart}
 use Rattle.lmn_congruence.proofs.Renaming.{renamed_id, occurrences_image}
 use Rattle.lmn_lexer.specs.Laying.{Word}
 use Rattle.lmn_plain.specs.Links.{Link}
@@ -18,12 +18,12 @@ use Rattle.lmn_plain.specs.Expanded.{Leaf, atom_leaf, typed_leaf, Level, level, 
 use Rattle.lmn_plain.specs.Plains.{Each}
 use Rattle.lmn_plain.proofs.SameNumbers.{contains_here}
 use Rattle.lmn_folded.specs.Terms.{Folded, FoldedMembranes, renamed_folded, renamed_membranes}
-use Rattle.lmn_folded.proofs.Places.{count, same_or_apart}
+use Rattle.lmn_folded.proofs.Places.{count}
 use Rattle.lmn_folded_read.specs.Apart.{FoldedApart, MembranesApart}
-use Rattle.lmn_folded_whole.specs.Whole.{FoldedWhole, folded_whole, MembranesWhole, no_membranes, membranes_whole}
-use Rattle.lmn_folded_whole.proofs.WholeForms.{folded_forms_are_whole}
-use Rattle.lmn_folded_named.specs.Named.{AtomNamed, RegionNamed, RegionsNamed}
-use Rattle.lmn_folded_named.proofs.Naming.{folded_links_are_named}
+use Rattle.lmn_folded_same.specs.Whole.{FoldedWhole, folded_whole, MembranesWhole, no_membranes, membranes_whole}
+use Rattle.lmn_folded_same.proofs.WholeForms.{folded_forms_are_whole}
+use Rattle.lmn_folded_same.specs.Named.{AtomNamed, RegionNamed, RegionsNamed}
+use Rattle.lmn_folded_same.proofs.Naming.{folded_links_are_named, no_rule_links}
 use Rattle.lmn_folded_same.specs.Numbered.{AtomNumbered, RegionNumbered, RegionsNumbered, FoldedTextsAreSame}
 
 -- Two regions that are the same have the same links, renamed.
@@ -47,21 +47,17 @@ put_region_count : (y : ℕ) {m : Region} {ms ns : Regions} → PutRegion m ms n
 put_region_count y first = refl
 put_region_count y (later p) = let h = put_region_count y p in omega (arith, h)
 
-no_rule_links : (f : ℕ → ℕ) (y : ℕ) (rs : List RuleTree) → occurrences y (renamed f (together (map rule rs))) ≡ 0
-no_rule_links f y [] = refl
-no_rule_links f y (r ∷ rs) = let h = no_rule_links f y rs in omega (arith, h)
-
-no_links : (y : ℕ) (rs : List RuleTree) → occurrences y (together (map rule rs)) ≡ 0
-no_links y [] = refl
-no_links y (r ∷ rs) = let h = no_links y rs in omega (arith, h)
+no_renamed_links : (f : ℕ → ℕ) (y : ℕ) (rs : List RuleTree) → occurrences y (renamed f (together (map rule rs))) ≡ 0
+no_renamed_links f y [] = refl
+no_renamed_links f y (r ∷ rs) = let h = no_renamed_links f y rs in omega (arith, h)
 
 mutual
   same_count : (f : ℕ → ℕ) (y : ℕ) {S T : Region} → SameRegion f S T → occurrences y (renamed f (region_process S)) ≡ occurrences y (region_process T)
   same_count f y (same_region {rs = rs} {ss = ss} a m r) =
       let atoms = atoms_count f y a in
       let inside = same_counts f y m in
-      let here_none = no_rule_links f y rs in
-      let there_none = no_links y ss in omega (arith, atoms, inside, here_none, there_none)
+      let here_none = no_renamed_links f y rs in
+      let there_none = no_rule_links y ss in omega (arith, atoms, inside, here_none, there_none)
 
   same_counts : (f : ℕ → ℕ) (y : ℕ) {ms ns : Regions} → SameRegions f ms ns → occurrences y (renamed f (together (regions_processes ms))) ≡ occurrences y (together (regions_processes ns))
   same_counts f y none_left = refl
@@ -101,8 +97,8 @@ module _ (f : ℕ → ℕ) where
 
 -- A link that occurs in the region has its name among those of the level.
 
-contains_left : {A : Type 0} (xs ys : List A) (a : A) → Contains xs a → Contains (xs ++ ys) a
-contains_left xs ys a h = Contains-append_left xs ys a h
+one_or_other : (m n : ℕ) → m + n ≢ 0 → (m ≢ 0) ⊎ (n ≢ 0)
+one_or_other m n h = grind arith
 
 module _ (name : ℕ → Link) where
   name_in_links : (x : ℕ) (xs : List ℕ) → places x xs ≢ 0 → Contains (map name xs) (name x)
@@ -113,9 +109,6 @@ module _ (name : ℕ → Link) where
       go (inl e) others = let P : ℕ → Type 0 = λ z. Contains (name z ∷ map name xs) (name x) in subst P e (contains_here (name x) (map name xs))
       go (inr d) others = let h = none_if_apart x y d in Contains-append_right (name y ∷ []) (map name xs) (name x) (others (λ z. n (omega (arith, h, z))))
 
-  one_or_other : (m n : ℕ) → m + n ≢ 0 → (m ≢ 0) ⊎ (n ≢ 0)
-  one_or_other m n h = grind arith
-
   name_in_atoms : (x : ℕ) (xs : List SolidAtom) (ls : List Leaf) → Each (AtomNamed name) xs ls → count x xs ≢ 0 → Contains (leaves_links ls) (name x)
   name_in_atoms x [] ls h n = absurd (n refl)
   name_in_atoms x (a ∷ xs) [] h n = absurd h
@@ -123,15 +116,15 @@ module _ (name : ℕ → Link) where
   name_in_atoms x (a ∷ xs) (atom_leaf l us pos ∷ ls) h n = go (one_or_other (places x a.links) (count x xs) n) (name_in_atoms x xs ls h.1)
     where
       go : (places x a.links ≢ 0) ⊎ (count x xs ≢ 0) → (count x xs ≢ 0 → Contains (leaves_links ls) (name x)) → Contains (use_links us ++ leaves_links ls) (name x)
-      go (inl m) others = let P : List Link → Type 0 = λ zs. Contains zs (name x) in contains_left (use_links us) (leaves_links ls) (name x) (subst P (sym h.0.1) (name_in_links x a.links m))
+      go (inl m) others = let P : List Link → Type 0 = λ zs. Contains zs (name x) in Contains-append_left (use_links us) (leaves_links ls) (name x) (subst P (sym h.0.1) (name_in_links x a.links m))
       go (inr m) others = Contains-append_right (use_links us) (leaves_links ls) (name x) (others m)
 
   in_level : (x : ℕ) (xs : List SolidAtom) (ms : Regions) (rs : List RuleTree) (ls : List Leaf) (ns : Levels) → Each (AtomNamed name) xs ls
       → (occurrences x (together (regions_processes ms)) ≢ 0 → Contains (links_in ns) (name x)) → occurrences x (region_process (region xs ms rs)) ≢ 0 → Contains (leaves_links ls ++ links_in ns) (name x)
-  in_level x xs ms rs ls ns h inside n = go (one_or_other (count x xs) (occurrences x (together (regions_processes ms))) (λ e. let r = no_links x rs in n (omega (arith, e, r))))
+  in_level x xs ms rs ls ns h inside n = go (one_or_other (count x xs) (occurrences x (together (regions_processes ms))) (λ e. let r = no_rule_links x rs in n (omega (arith, e, r))))
     where
       go : (count x xs ≢ 0) ⊎ (occurrences x (together (regions_processes ms)) ≢ 0) → Contains (leaves_links ls ++ links_in ns) (name x)
-      go (inl m) = contains_left (leaves_links ls) (links_in ns) (name x) (name_in_atoms x xs ls h m)
+      go (inl m) = Contains-append_left (leaves_links ls) (links_in ns) (name x) (name_in_atoms x xs ls h m)
       go (inr m) = Contains-append_right (leaves_links ls) (links_in ns) (name x) (inside m)
 
   in_levels : (x : ℕ) (r : Region) (rs : Regions) (l : Level) (ls : Levels) → (occurrences x (region_process r) ≢ 0 → Contains (links_of l) (name x))
@@ -139,7 +132,7 @@ module _ (name : ℕ → Link) where
   in_levels x r rs l ls one others n = go (one_or_other (occurrences x (region_process r)) (occurrences x (together (regions_processes rs))) n)
     where
       go : (occurrences x (region_process r) ≢ 0) ⊎ (occurrences x (together (regions_processes rs)) ≢ 0) → Contains (links_of l ++ links_in ls) (name x)
-      go (inl m) = contains_left (links_of l) (links_in ls) (name x) (one m)
+      go (inl m) = Contains-append_left (links_of l) (links_in ls) (name x) (one m)
       go (inr m) = Contains-append_right (links_of l) (links_in ls) (name x) (others m)
 
   mutual
@@ -182,9 +175,6 @@ module _ (words : List Word) (places_of : List Pos) (table : List Rule) (number 
     regions_numbered (level_and l ls) own (membranes_whole w ws) h named = (region_numbered l h.0 w h.3 named.0, regions_numbered ls h.1 ws h.4 named.1)
 
 -- a link of a renamed process is the image of one
-some_more : (m n : ℕ) → m + n ≢ 0 → (m ≢ 0) ⊎ (n ≢ 0)
-some_more m n h = grind arith
-
 image_place : (f : ℕ → ℕ) (y : ℕ) (xs : List ℕ) → places y (map f xs) ≢ 0 → (x : ℕ) × (places x xs ≢ 0) × (f x ≡ y)
 image_place f y [] n = absurd (n refl)
 image_place f y (x ∷ xs) n = go (same_or_apart y (f x)) (image_place f y xs)
@@ -200,7 +190,7 @@ image_of f y nothing n = absurd (n refl)
 image_of f y (connector u v) n =
     let r = image_place f y (u ∷ v ∷ []) (λ z. n (omega (arith, z))) in (r.0, (λ z. r.1 (omega (arith, z))), r.2)
 image_of f y (atom a xs) n = image_place f y xs n
-image_of f y (pair P Q) n = go (some_more _ _ n) (image_of f y P) (image_of f y Q)
+image_of f y (pair P Q) n = go (one_or_other _ _ n) (image_of f y P) (image_of f y Q)
   where
     go : (occurrences y (renamed f P) ≢ 0) ⊎ (occurrences y (renamed f Q) ≢ 0) → (occurrences y (renamed f P) ≢ 0 → (x : ℕ) × (occurrences x P ≢ 0) × (f x ≡ y))
         → (occurrences y (renamed f Q) ≢ 0 → (x : ℕ) × (occurrences x Q ≢ 0) × (f x ≡ y)) → (x : ℕ) × (occurrences x (pair P Q) ≢ 0) × (f x ≡ y)

@@ -1,2 +1,6 @@
+pub mod Whole
+pub mod Named
 pub mod Numbered
 pub mod Lines
+pub mod ReadBack
+pub mod Examples

@@ -7,27 +7,15 @@ use Rattle.lmn_congruence.specs.Regions.{SolidAtom}
 use Rattle.lmn_folded.specs.Terms.{Term, Terms, Item}
 use Rattle.lmn_folded.specs.Folding as folding
 use Rattle.lmn_folded.specs.Folding.{IsChild, Descends, itself, NoChildren, Further, AreItems, positions, Shows, as_link, as_term, ShowsAll, ShowsItems}
-use Rattle.lmn_folded.proofs.Places.{AtMostTwice, same_or_apart, one_child, one_parent, one_link, last_place, parent_place, three_places, Place}
+use Rattle.lmn_folded.proofs.Places.{AtMostTwice, one_child, one_parent, one_link, last_place, parent_place, three_places, Place}
 use Rattle.lmn_folded.proofs.Choosing.{Decided, within, among}
 use Rattle.lmn_folded.proofs.SomeFolded.{Path, start, below, new_one, kept_below}
-use Rattle.lmn_folded_whole.proofs.Once.{EachOnce, among_apart, among_left, among_right, once_append, range_once}
+use Rattle.lmn_folded_read.specs.Apart.{AllDifferent}
+use Rattle.lmn_folded_read.proofs.Lists.{all_different, among_apart, among_left, among_right, longer, same_step}
+use Rattle.lmn_folded_same.proofs.Once.{range_once}
+use Rattle.lmn_congruence.proofs.Counts.{same_or_not as same_or_apart}
 
 -- ways
-
-tail_same : (x y : ℕ) (xs ys : List ℕ) → x ∷ xs ≡ y ∷ ys → xs ≡ ys
-tail_same x y xs ys e = cc
-
-head_same : (x y : ℕ) (xs ys : List ℕ) → x ∷ xs ≡ y ∷ ys → x ≡ y
-head_same x y xs ys e = cc
-
-longer : (v : List ℕ) (c : ℕ) (way : List ℕ) → way ≡ v ++ c ∷ way → ⊥
-longer v c way e = let size = length-append v (c ∷ way) in let same = ap length e in omega (arith, size, same)
-
-same_step : (u v : List ℕ) (b c : ℕ) (way : List ℕ) → u ++ b ∷ way ≡ v ++ c ∷ way → b ≡ c
-same_step [] [] b c way e = head_same b c way way e
-same_step [] (y ∷ v) b c way e = absurd (longer v c way (tail_same b y way (v ++ c ∷ way) e))
-same_step (x ∷ u) [] b c way e = absurd (longer u b way (sym (tail_same x c (u ++ b ∷ way) way e)))
-same_step (x ∷ u) (y ∷ v) b c way e = same_step u v b c way (tail_same x y _ _ e)
 
 same_end : (u v : List ℕ) (b c : ℕ) → u ++ b ∷ [] ≡ v ++ c ∷ [] → b ≡ c
 same_end u v b c e = same_step u v b c [] e
@@ -100,7 +88,7 @@ module _ (atoms : List SolidAtom) (few : AtMostTwice atoms) (items : List ℕ) w
     reach_all : {p k : ℕ} {xs : List ℕ} {ts : Terms} {above : List ℕ} → (s : ShowsAll atoms items p k xs ts) → Path atoms items p above → (q : ℕ) → Among q (all_order s) → ReachedFrom p k (p ∷ above) q
     reach_all folding.none path q a = elim a [ ]
     reach_all {p} {k} {above = above} (folding.more h hs) path q a =
-        go (among_apart q (shown_order h) (all_order hs) a) (λ b. reach_one h path q b) (λ b. reach_all hs path q b)
+        go (among_apart (shown_order h) (all_order hs) a) (λ b. reach_one h path q b) (λ b. reach_all hs path q b)
       where
         go : Among q (shown_order h) ⊎ Among q (all_order hs) → (Among q (shown_order h) → Reached p k (p ∷ above) q) → (Among q (all_order hs) → ReachedFrom p (suc k) (p ∷ above) q)
             → ReachedFrom p k (p ∷ above) q
@@ -115,7 +103,7 @@ module _ (atoms : List SolidAtom) (few : AtMostTwice atoms) (items : List ℕ) w
       let e = one_parent atoms b.top p k p j few (subst P same a.is_child) b.is_child in e.1
 
   mutual
-    once_one : {p k x : ℕ} {t : Term} {above : List ℕ} → (s : Shows atoms items p k x t) → Path atoms items p above → EachOnce (shown_order s)
+    once_one : {p k x : ℕ} {t : Term} {above : List ℕ} → (s : Shows atoms items p k x t) → Path atoms items p above → AllDifferent (shown_order s)
     once_one (as_link h) path = tt
     once_one {p} {above = above} (as_term {q = c} ch n s) path = (not_below, once_all s (down path ch n))
       where
@@ -125,9 +113,9 @@ module _ (atoms : List SolidAtom) (few : AtMostTwice atoms) (items : List ℕ) w
             let it = r.2 in
             longer it.ahead it.top (c ∷ p ∷ above) (ap (λ xs. c ∷ xs) (path_same (down path ch n) it.path) ∙ it.is)
 
-    once_all : {p k : ℕ} {xs : List ℕ} {ts : Terms} {above : List ℕ} → (s : ShowsAll atoms items p k xs ts) → Path atoms items p above → EachOnce (all_order s)
+    once_all : {p k : ℕ} {xs : List ℕ} {ts : Terms} {above : List ℕ} → (s : ShowsAll atoms items p k xs ts) → Path atoms items p above → AllDifferent (all_order s)
     once_all folding.none path = tt
-    once_all {p} {k} (folding.more h hs) path = once_append (shown_order h) (all_order hs) (once_one h path) (once_all hs path) apart
+    once_all {p} {k} (folding.more h hs) path = all_different (shown_order h) (all_order hs) (once_one h path) (once_all hs path) apart
       where
         apart : (q : ℕ) → Among q (shown_order h) → Among q (all_order hs) → ⊥
         apart q a b =
@@ -146,16 +134,16 @@ module _ (atoms : List SolidAtom) (few : AtMostTwice atoms) (items : List ℕ) w
     where
       go : (q : ℕ) → Among q (p ∷ (all_order s ++ items_order next)) → ((q : ℕ) → Among q (items_order next) → OfItems ps q) → OfItems (p ∷ ps) q
       go q at_head rest = (p, (at_head, inl refl))
-      go q (further b) rest = side (among_apart q (all_order s) (items_order next) b)
+      go q (further b) rest = side (among_apart (all_order s) (items_order next) b)
         where
           side : Among q (all_order s) ⊎ Among q (items_order next) → OfItems (p ∷ ps) q
           side (inl c) = let r = reach_all s (start (f p at_head)) q c in (p, (at_head, inr (r.0, r.2)))
           side (inr c) = let r = rest q c in (r.0, (further r.1.0, r.1.1))
 
-  pub once_items : {ps : List ℕ} {is : List Item} → (s : ShowsItems atoms items ps is) → EachOnce ps → ((v : ℕ) → Among v ps → Among v items) → EachOnce (items_order s)
+  pub once_items : {ps : List ℕ} {is : List Item} → (s : ShowsItems atoms items ps is) → AllDifferent ps → ((v : ℕ) → Among v ps → Among v items) → AllDifferent (items_order s)
   once_items folding.none once f = tt
   once_items (folding.more {p = p} {ps = ps} a e s next) once f =
-      (itself_once, once_append (all_order s) (items_order next) (once_all s path) (once_items next once.1 (λ v d. f v (further d))) apart)
+      (itself_once, all_different (all_order s) (items_order next) (once_all s path) (once_items next once.1 (λ v d. f v (further d))) apart)
     where
       path : Path atoms items p []
       path = start (f p at_head)
@@ -170,7 +158,7 @@ module _ (atoms : List SolidAtom) (few : AtMostTwice atoms) (items : List ℕ) w
       in_terms a = let r = reach_all s path p a in let it = r.2 in it.no_item (f p at_head)
 
       itself_once : Among p (all_order s ++ items_order next) → ⊥
-      itself_once a = go (among_apart p (all_order s) (items_order next) a)
+      itself_once a = go (among_apart (all_order s) (items_order next) a)
         where
           behind : OfItems ps p → ⊥
           behind r = by r.1.1
@@ -282,12 +270,12 @@ module _ (atoms : List SolidAtom) (few : AtMostTwice atoms) (items : List ℕ) w
 
     holds_all : {p k : ℕ} {xs : List ℕ} {ts : Terms} (s : ShowsAll atoms items p k xs ts) (q : ℕ) → Among q (all_order s) → Holds (all_order s) q
     holds_all folding.none q a = elim a [ ]
-    holds_all (folding.more h hs) q a = go (among_apart q (shown_order h) (all_order hs) a) (λ b. holds_one h q b) (λ b. holds_all hs q b)
+    holds_all (folding.more h hs) q a = go (among_apart (shown_order h) (all_order hs) a) (λ b. holds_one h q b) (λ b. holds_all hs q b)
       where
         go : Among q (shown_order h) ⊎ Among q (all_order hs) → (Among q (shown_order h) → Holds (shown_order h) q) → (Among q (all_order hs) → Holds (all_order hs) q)
             → Holds (shown_order h ++ all_order hs) q
-        go (inl b) one more = wider (λ v c. among_left v (shown_order h) (all_order hs) c) (one b)
-        go (inr b) one more = wider (λ v c. among_right v (shown_order h) (all_order hs) c) (more b)
+        go (inl b) one more = wider (λ v c. among_left (shown_order h) (all_order hs) c) (one b)
+        go (inr b) one more = wider (λ v c. among_right (shown_order h) (all_order hs) c) (more b)
 
   holds_items : {ps : List ℕ} {is : List Item} (s : ShowsItems atoms items ps is) (q : ℕ) → Among q (items_order s) → Holds (items_order s) q
   holds_items folding.none q a = elim a [ ]
@@ -299,12 +287,12 @@ module _ (atoms : List SolidAtom) (few : AtMostTwice atoms) (items : List ℕ) w
           let l = within d.parent.links k d.last_link d.joined in omega (arith, same, l)
 
       go : (q : ℕ) → Among q (p ∷ (all_order s ++ items_order next)) → ((q : ℕ) → Among q (items_order next) → Holds (items_order next) q) → Holds (p ∷ (all_order s ++ items_order next)) q
-      go q at_head rest = record { xs = a.links; ts = ts; shows = s; inside = λ v c. further (among_left v (all_order s) (items_order next) c); ports = ports }
-      go q (further c) rest = side (among_apart q (all_order s) (items_order next) c)
+      go q at_head rest = record { xs = a.links; ts = ts; shows = s; inside = λ v c. further (among_left (all_order s) (items_order next) c); ports = ports }
+      go q (further c) rest = side (among_apart (all_order s) (items_order next) c)
         where
           side : Among q (all_order s) ⊎ Among q (items_order next) → Holds (p ∷ (all_order s ++ items_order next)) q
-          side (inl d) = wider (λ v i. further (among_left v (all_order s) (items_order next) i)) (holds_all s q d)
-          side (inr d) = wider (λ v i. further (among_right v (all_order s) (items_order next) i)) (rest q d)
+          side (inl d) = wider (λ v i. further (among_left (all_order s) (items_order next) i)) (holds_all s q d)
+          side (inr d) = wider (λ v i. further (among_right (all_order s) (items_order next) i)) (rest q d)
 
   -- a child that is no item is printed at its port
   port_shown : {p k x : ℕ} {t : Term} (s : Shows atoms items p k x t) (r : ℕ) → IsChild atoms r p k → ¬ (Among r items) → Among r (shown_order s)
@@ -315,10 +303,10 @@ module _ (atoms : List SolidAtom) (few : AtMostTwice atoms) (items : List ℕ) w
   ports_shown folding.none j r l d n = absurd (omega (arith, l))
   ports_shown {p} {k} (folding.more h hs) zero r l d n =
       let P : ℕ → Type 0 = λ z. IsChild atoms r p z in
-      let e : k + 0 ≡ k = omega arith in among_left r (shown_order h) (all_order hs) (port_shown h r (subst P e d) n)
+      let e : k + 0 ≡ k = omega arith in among_left (shown_order h) (all_order hs) (port_shown h r (subst P e d) n)
   ports_shown {p} {k} (folding.more h hs) (suc j) r l d n =
       let P : ℕ → Type 0 = λ z. IsChild atoms r p z in
-      let e : k + suc j ≡ suc k + j = omega arith in among_right r (shown_order h) (all_order hs) (ports_shown hs j r (omega (arith, l)) (subst P e d) n)
+      let e : k + suc j ≡ suc k + j = omega arith in among_right (shown_order h) (all_order hs) (ports_shown hs j r (omega (arith, l)) (subst P e d) n)
 
   item_there : {ps : List ℕ} {is : List Item} (s : ShowsItems atoms items ps is) (q : ℕ) → Among q ps → Among q (items_order s)
   item_there folding.none q a = elim a [ ]
@@ -326,7 +314,7 @@ module _ (atoms : List SolidAtom) (few : AtMostTwice atoms) (items : List ℕ) w
     where
       go : (q : ℕ) → Among q (p ∷ ps) → (Among q ps → Among q (items_order next)) → Among q (p ∷ (all_order s ++ items_order next))
       go q at_head rest = at_head
-      go q (further c) rest = further (among_right q (all_order s) (items_order next) (rest c))
+      go q (further c) rest = further (among_right (all_order s) (items_order next) (rest c))
 
   pub all_printed : {is : List Item} (s : ShowsItems atoms items items is) {i q : ℕ} → Among i items → Descends atoms i q → Among q (items_order s)
   all_printed s a itself = item_there s _ a
@@ -359,15 +347,15 @@ module _ (atoms : List SolidAtom) (few : AtMostTwice atoms) (items : List ℕ) w
 firsts_among : {atoms : List SolidAtom} {qs is : List ℕ} → NoChildren atoms qs is → (v : ℕ) → Among v is → Among v qs
 firsts_among {qs = qs} h = kept_below (λ v. Among v qs) h (λ v a. a)
 
-firsts_once : {atoms : List SolidAtom} {qs is : List ℕ} → NoChildren atoms qs is → EachOnce qs → EachOnce is
+firsts_once : {atoms : List SolidAtom} {qs is : List ℕ} → NoChildren atoms qs is → AllDifferent qs → AllDifferent is
 firsts_once folding.none once = tt
 firsts_once (folding.kept {q = q} n h) once = (λ a. once.0 (firsts_among h q a), firsts_once h once.1)
 firsts_once (folding.left p k c h) once = firsts_once h once.1
 
-further_once : {atoms : List SolidAtom} {is qs all : List ℕ} → Further atoms is qs all → EachOnce is → EachOnce all
+further_once : {atoms : List SolidAtom} {is qs all : List ℕ} → Further atoms is qs all → AllDifferent is → AllDifferent all
 further_once folding.none once = once
 further_once (folding.printed i a d h) once = further_once h once
-further_once (folding.item {q = q} {items = is} n h) once = further_once h (once_append is (q ∷ []) once ((λ a. elim a [ ]), tt) apart)
+further_once (folding.item {q = q} {items = is} n h) once = further_once h (all_different is (q ∷ []) once ((λ a. elim a [ ]), tt) apart)
   where
     apart : (v : ℕ) → Among v is → Among v (q ∷ []) → ⊥
     apart v a at_head = n q a itself
@@ -376,7 +364,7 @@ further_once (folding.item {q = q} {items = is} n h) once = further_once h (once
 grows : {atoms : List SolidAtom} {is qs all : List ℕ} → Further atoms is qs all → (v : ℕ) → Among v is → Among v all
 grows folding.none v a = a
 grows (folding.printed i b d h) v a = grows h v a
-grows (folding.item {q = q} {items = is} n h) v a = grows h v (among_left v is (q ∷ []) a)
+grows (folding.item {q = q} {items = is} n h) v a = grows h v (among_left is (q ∷ []) a)
 
 from_items : {atoms : List SolidAtom} {is qs all : List ℕ} → Further atoms is qs all → (q : ℕ) → Among q qs → (i : ℕ) × (Among i all × Descends atoms i q)
 from_items folding.none q a = elim a [ ]
@@ -388,10 +376,10 @@ from_items {atoms} (folding.printed {q = p} {qs = qs} {all = all} i b d h) q a =
 from_items {atoms} (folding.item {q = p} {items = is} {qs = qs} {all = all} n h) q a = go q a (λ c. from_items h q c)
   where
     go : (q : ℕ) → Among q (p ∷ qs) → (Among q qs → (i : ℕ) × (Among i all × Descends atoms i q)) → (i : ℕ) × (Among i all × Descends atoms i q)
-    go q at_head more = (p, (grows h p (among_right p is (p ∷ []) at_head), itself))
+    go q at_head more = (p, (grows h p (among_right is (p ∷ []) at_head), itself))
     go q (further c) more = more c
 
-pub items_once : (atoms : List SolidAtom) (items : List ℕ) → AreItems atoms items → EachOnce items
+pub items_once : (atoms : List SolidAtom) (items : List ℕ) → AreItems atoms items → AllDifferent items
 items_once atoms items h = further_once h.further (firsts_once h.no_children (range_once 0 (length atoms)))
 
 pub each_from_item : (atoms : List SolidAtom) (items : List ℕ) → AreItems atoms items → (q : ℕ) → Among q (positions atoms) → (i : ℕ) × (Among i items × Descends atoms i q)

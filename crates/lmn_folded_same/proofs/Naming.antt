@@ -8,22 +8,25 @@ use Rattle.lmn_congruence.specs.Orders.{Among, at_head, further}
 use Rattle.lmn_congruence.specs.Process.{Fresh, Local, occurrences, together, rule}
 use Rattle.lmn_congruence.specs.Regions.{SolidAtom, Region, Regions, region_process, regions_processes}
 use Rattle.lmn_congruence.specs.Rules.{Rule as RuleTree}
-use Rattle.lmn_congruence.proofs.Counts.{one_if_equal, none_if_apart}
+use Rattle.lmn_congruence.proofs.Counts.{one_if_equal, none_if_apart, same_or_not as same_or_apart}
 use Rattle.lmn_lexer.specs.Laying.{Word}
+use Rattle.lmn_lexer.proofs.Found.{tail_is}
 use Rattle.lmn_plain.specs.Links.{Link, written, made}
 use Rattle.lmn_plain.specs.Expanded.{Leaf, Level, level, Levels, no_level, level_and, Rule}
 use Rattle.lmn_plain.specs.Agreement.{link_of}
 use Rattle.lmn_plain.specs.Plains.{Each}
 use Rattle.lmn_plain.specs.Spelled.{IsLinkNumber}
 use Rattle.lmn_plain.specs.Words.{link_name}
+use Rattle.lmn_plain.proofs.ReadBack.{written_same}
 use Rattle.lmn_folded.specs.Terms.{Term, Terms, Item, Folded, FoldedMembranes, term_links, terms_links, items_links, folded_links, membranes_links, renamed_term, renamed_terms, renamed_item, renamed_folded, renamed_membranes}
 use Rattle.lmn_folded.proofs.Numbering.{renamed_links}
-use Rattle.lmn_folded.proofs.Places.{count, same_or_apart}
+use Rattle.lmn_folded.proofs.Places.{count}
 use Rattle.lmn_folded_read.specs.Apart as apart
 use Rattle.lmn_folded_read.specs.Apart.{TermApart, link_apart, atom_apart, TermsApart, none_apart, more_apart, ItemsApart, items_apart, FoldedApart, MembranesApart, AllDifferent}
-use Rattle.lmn_folded_whole.specs.Whole as whole
-use Rattle.lmn_folded_whole.specs.Whole.{TermWhole, link_whole, atom_whole, TermsWhole, none_whole, more_whole, ItemsWhole, items_whole, FoldedWhole, folded_whole, MembranesWhole, no_membranes, membranes_whole}
-use Rattle.lmn_folded_named.specs.Named.{AtomNamed, RegionNamed, RegionsNamed, OneToOneNames, FoldedLinksAreNamed}
+use Rattle.lmn_folded_read.proofs.Lists.{among_mapped}
+use Rattle.lmn_folded_same.specs.Whole as whole
+use Rattle.lmn_folded_same.specs.Whole.{TermWhole, link_whole, atom_whole, TermsWhole, none_whole, more_whole, ItemsWhole, items_whole, FoldedWhole, folded_whole, MembranesWhole, no_membranes, membranes_whole}
+use Rattle.lmn_folded_same.specs.Named.{AtomNamed, RegionNamed, RegionsNamed, OneToOneNames, FoldedLinksAreNamed}
 
 -- Tables of links and their names.
 
@@ -116,6 +119,10 @@ right_there e [] t a = a
 right_there e (f ∷ s) t a = further (right_there e s t a)
 
 -- The table of a folded process: the link that stands for each term, in the region and in the text.
+
+pub no_rule_links : (y : ℕ) (rs : List RuleTree) → occurrences y (together (map rule rs)) ≡ 0
+no_rule_links y [] = refl
+no_rule_links y (r ∷ rs) = let h = no_rule_links y rs in omega (arith, h)
 
 module _ (to : ℕ → ℕ) where
   abbrev mutual
@@ -222,10 +229,6 @@ module _ (to : ℕ → ℕ) where
       let others = items_named name ws ss (right_right name (terms_table w s) (items_table ws ss) (terms_links i.arguments) (items_links is) h) in
       ((e, one.0), each_append name as' bs ls ks one.1 others)
 
-  no_rule_links : (y : ℕ) (rs : List RuleTree) → occurrences y (together (map rule rs)) ≡ 0
-  no_rule_links y [] = refl
-  no_rule_links y (r ∷ rs) = let h = no_rule_links y rs in omega (arith, h)
-
   -- Whole processes: a table, with what is said of it.
   module _ (words : List Word) (places_of : List Pos) (table : List Rule) where
     record Tabled (f : Folded) (T : Region) (l : Level) (own : List Link) : Type 0 where
@@ -299,22 +302,11 @@ places_printed x (y ∷ xs) n = go (same_or_apart x y) (places_printed x xs)
 zero_or_not : (n : ℕ) → (n ≡ 0) ⊎ (n ≢ 0)
 zero_or_not n = same_or_apart n 0
 
-among_mapped : (f : ℕ → ℕ) (x : ℕ) (xs : List ℕ) → Among x xs → Among (f x) (map f xs)
-among_mapped f x (y ∷ xs) at_head = at_head
-among_mapped f x (y ∷ xs) (further a) = further (among_mapped f x xs a)
-among_mapped f x [] a = elim a [ ]
-
-written_same : (m n : List ℕ) → written m ≡ written n → m ≡ n
-written_same m n e = cc
-
 no_made : (m way : List ℕ) → written m ≡ made way → ⊥
 no_made m way e = cc
 
-tail_same : (x y : ℕ) (xs ys : List ℕ) → x ∷ xs ≡ y ∷ ys → xs ≡ ys
-tail_same x y xs ys e = cc
-
 link_same : (x y : ℕ) → IsLinkNumber x → IsLinkNumber y → link_of x ≡ link_of y → x ≡ y
-link_same x y h k e = decimal_injective x y h k (tail_same _ _ _ _ (written_same (link_name x) (link_name y) e))
+link_same x y h k e = decimal_injective x y h k (tail_is (written_same (link_name x) (link_name y) e))
 
 pub folded_links_are_named : FoldedLinksAreNamed
 folded_links_are_named words places_of table given numbered T l own closed w n small a different none_written =
@@ -345,7 +337,7 @@ folded_links_are_named words places_of table given numbered T l own closed w n s
     small_here : (x : ℕ) → Among x (folded_links given) → IsLinkNumber (n.to x)
     small_here x i =
         let P : List ℕ → Type 0 = λ xs. Among (n.to x) xs in
-        small (n.to x) (subst P (sym (ap folded_links n.is ∙ renamed_links n.to given)) (among_mapped n.to x (folded_links given) i))
+        small (n.to x) (subst P (sym (ap folded_links n.is ∙ renamed_links n.to given)) (among_mapped n.to (folded_links given) i))
 
     printed : (x : ℕ) → occurrences x (region_process T) ≢ 0 → places x (firsts it.links) ≡ 0 → Among x (folded_links given)
     printed x o e = let c = it.counts x in places_printed x (folded_links given) (λ z. o (omega (arith, c, e, z)))

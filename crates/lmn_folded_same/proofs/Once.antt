@@ -1,41 +1,12 @@
 -- Lists of positions in which each stands once.
-use Rattle.std.proofs.Common.{◌≡◌, ◌≢◌, ℕ, suc, zero, ◌+◌, ◌≤◌, ◌⊎◌, inl, inr, List, [], ◌∷◌, ◌++◌, map, length, slice_get, Some, refl, sym, ap, ◌∙◌, subst, arith}
+use Rattle.std.proofs.Common.{◌≡◌, ◌≢◌, ℕ, suc, zero, ◌+◌, ◌≤◌, List, [], ◌∷◌, ◌++◌, length, slice_get, Some, refl, sym, ap, ◌∙◌, subst, arith}
 use Rattle.std.specs.List.{range_with_len}
-use Rattle.std.proofs.lemmas.List.{length-append}
+use Rattle.std.proofs.lemmas.List.{length-append, map-id}
 use Rattle.std.proofs.lemmas.Option.{same_Some}
 use Rattle.lmn_congruence.specs.Orders.{Among, at_head, further, Put, here, there, Shuffle, none, more}
 use Rattle.lmn_congruence.specs.Regions.{SolidAtom}
 use Rattle.lmn_congruence.specs.Same.{renamed_atom}
-
-abbrev pub EachOnce : List ℕ → Type 0
-EachOnce [] = Unit {0}
-EachOnce (x ∷ xs) = ¬ (Among x xs) × EachOnce xs
-
-pub among_apart : (x : ℕ) (xs ys : List ℕ) → Among x (xs ++ ys) → Among x xs ⊎ Among x ys
-among_apart x [] ys h = inr h
-among_apart x (y ∷ xs) ys at_head = inl at_head
-among_apart x (y ∷ xs) ys (further h) = go (among_apart x xs ys h)
-  where
-    go : Among x xs ⊎ Among x ys → Among x (y ∷ xs) ⊎ Among x ys
-    go (inl i) = inl (further i)
-    go (inr i) = inr i
-
-pub among_left : (x : ℕ) (xs ys : List ℕ) → Among x xs → Among x (xs ++ ys)
-among_left x (y ∷ xs) ys at_head = at_head
-among_left x (y ∷ xs) ys (further h) = further (among_left x xs ys h)
-among_left x [] ys h = elim h [ ]
-
-pub among_right : (x : ℕ) (xs ys : List ℕ) → Among x ys → Among x (xs ++ ys)
-among_right x [] ys h = h
-among_right x (y ∷ xs) ys h = further (among_right x xs ys h)
-
-pub once_append : (xs ys : List ℕ) → EachOnce xs → EachOnce ys → ((x : ℕ) → Among x xs → Among x ys → ⊥) → EachOnce (xs ++ ys)
-once_append [] ys h k d = k
-once_append (x ∷ xs) ys h k d = (λ i. go (among_apart x xs ys i), once_append xs ys h.1 k (λ a i j. d a (further i) j))
-  where
-    go : Among x xs ⊎ Among x ys → ⊥
-    go (inl i) = h.0 i
-    go (inr i) = d x at_head i
+use Rattle.lmn_folded_read.specs.Apart.{AllDifferent}
 
 -- a list is another one with one element put in
 put_in : (x : ℕ) (ys : List ℕ) → Among x ys → (zs : List ℕ) × Put x zs ys
@@ -58,7 +29,7 @@ it_stands : {x : ℕ} {zs ys : List ℕ} → Put x zs ys → Among x ys
 it_stands here = at_head
 it_stands (there p) = further (it_stands p)
 
-put_once : {x : ℕ} {zs ys : List ℕ} → Put x zs ys → EachOnce ys → (¬ (Among x zs)) × EachOnce zs
+put_once : {x : ℕ} {zs ys : List ℕ} → Put x zs ys → AllDifferent ys → (¬ (Among x zs)) × AllDifferent zs
 put_once here h = (h.0, h.1)
 put_once {x} (there {z = z} {ys = zs} p) h =
     let more = put_once p h.1 in
@@ -69,7 +40,7 @@ put_once {x} (there {z = z} {ys = zs} p) h =
     go x n p m (further i) = n i
 
 -- Two lists with the same elements, each once, are one up to their order.
-pub same_elements : (xs ys : List ℕ) → EachOnce xs → EachOnce ys → ((v : ℕ) → Among v xs → Among v ys) → ((v : ℕ) → Among v ys → Among v xs) → Shuffle (λ a b. a ≡ b) xs ys
+pub same_elements : (xs ys : List ℕ) → AllDifferent xs → AllDifferent ys → ((v : ℕ) → Among v xs → Among v ys) → ((v : ℕ) → Among v ys → Among v xs) → Shuffle (λ a b. a ≡ b) xs ys
 same_elements [] [] h k f g = none
 same_elements [] (y ∷ ys) h k f g = elim (g y at_head) [ ]
 same_elements (x ∷ xs) ys h k f g =
@@ -95,7 +66,7 @@ range_from k zero v h = elim h [ ]
 range_from k (suc n) v at_head = omega arith
 range_from k (suc n) v (further h) = let l = range_from (k + 1) n v h in omega (arith, l)
 
-pub range_once : (k n : ℕ) → EachOnce (range_with_len k n)
+pub range_once : (k n : ℕ) → AllDifferent (range_with_len k n)
 range_once k zero = tt
 range_once k (suc n) = (λ h. let l = range_from (k + 1) n k h in omega (arith, l), range_once (k + 1) n)
 
@@ -131,12 +102,8 @@ all_positions front (a ∷ back) =
 pub positions_at : (atoms : List SolidAtom) → AtomsAt atoms (range_with_len 0 (length atoms)) atoms
 positions_at atoms = all_positions [] atoms
 
-map_itself : (xs : List ℕ) → map (λ x. x) xs ≡ xs
-map_itself [] = refl
-map_itself (x ∷ xs) = ap (λ ys. x ∷ ys) (map_itself xs)
-
 same_atom : (a b : SolidAtom) → a ≡ b → renamed_atom (λ x. x) a ≡ b
-same_atom a b e = ap (λ ls. record { label = a.label; links = ls }) (map_itself a.links) ∙ e
+same_atom a b e = ap (λ ls. record { label = a.label; links = ls }) (map-id a.links) ∙ e
 
 put_atoms : (atoms : List SolidAtom) {q : ℕ} {qs rs : List ℕ} (ys : List SolidAtom) → Put q qs rs → AtomsAt atoms rs ys
     → (a : SolidAtom) × (zs : List SolidAtom) × (slice_get atoms q ≡ Some a) × AtomsAt atoms qs zs × Put a zs ys

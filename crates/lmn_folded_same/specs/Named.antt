@@ -12,7 +12,7 @@ use Rattle.lmn_plain.specs.Spelled.{IsLinkNumber}
 use Rattle.lmn_folded.specs.Terms.{Folded, folded_links}
 use Rattle.lmn_folded.specs.Lines.{IsNumbered}
 use Rattle.lmn_folded_read.specs.Apart.{FoldedApart, AllDifferent}
-use Rattle.lmn_folded_whole.specs.Whole.{FoldedWhole}
+use Rattle.lmn_folded_same.specs.Whole.{FoldedWhole}
 
 module _ (name : ℕ → Link) where
   abbrev pub AtomNamed : SolidAtom → Leaf → Type 0

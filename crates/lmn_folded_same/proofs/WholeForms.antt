@@ -14,9 +14,9 @@ use Rattle.lmn_folded.proofs.OneFolded.{FewIn}
 use Rattle.lmn_folded.proofs.FoldedLines.{few_in}
 use Rattle.lmn_folded.proofs.SomeFolded.{items_below}
 use Rattle.lmn_folded.proofs.Choosing.{positions_all}
-use Rattle.lmn_folded_whole.specs.Whole.{atom, TermWhole, link_whole, atom_whole, TermsWhole, none_whole, more_whole, ItemsWhole, no_items, items_whole, FoldedWhole, folded_whole, MembranesWhole, no_membranes, membranes_whole, FoldedFormsAreWhole}
-use Rattle.lmn_folded_whole.proofs.Once.{AtomsAt, atoms_append, positions_at, same_atoms, same_elements, range_once}
-use Rattle.lmn_folded_whole.proofs.Printing.{shown_order, all_order, items_order, once_items, all_printed, printed_below, items_once, each_from_item}
+use Rattle.lmn_folded_same.specs.Whole.{atom, TermWhole, link_whole, atom_whole, TermsWhole, none_whole, more_whole, ItemsWhole, no_items, items_whole, FoldedWhole, folded_whole, MembranesWhole, no_membranes, membranes_whole, FoldedFormsAreWhole}
+use Rattle.lmn_folded_same.proofs.Once.{AtomsAt, atoms_append, positions_at, same_atoms, same_elements, range_once}
+use Rattle.lmn_folded_same.proofs.Printing.{shown_order, all_order, items_order, once_items, all_printed, printed_below, items_once, each_from_item}
 
 module _ (atoms : List SolidAtom) (few : AtMostTwice atoms) (items : List ℕ) where
   -- these are the links of ports of the atom p from k on

@@ -1,3 +1,0 @@
-pub mod Once
-pub mod Printing
-pub mod WholeForms

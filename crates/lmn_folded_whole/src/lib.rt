@@ -1,4 +1,0 @@
-//! A folded form has each atom once.
-#![tactic(auto)]
-
-pub mod laws;
