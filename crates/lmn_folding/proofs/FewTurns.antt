@@ -1,13 +1,15 @@
 -- A walk turns into each atom and leaves it once at most, so it ends, and soon.
-use Rattle.std.proofs.Common.{◌≡◌, ◌≢◌, ℕ, suc, ◌+◌, ◌<◌, ◌≤◌, ◌^◌, inl, inr, List, [], ◌∷◌, length, Option, Some, None, IsSome, refl, sym, ap, subst, arith}
+use Rattle.std.proofs.Common.{◌≡◌, ◌≢◌, ℕ, ◌+◌, ◌<◌, ◌≤◌, ◌^◌, inl, inr, List, [], ◌∷◌, length, Option, Some, None, IsSome, refl, sym, ap, subst, arith}
 use Rattle.std.specs.Prelude.{slice_index_or}
 use Rattle.lmn_heap.specs.Heap.{Heap, HeapAtom, IsAtom, link_of, links_of}
 use Rattle.lmn_heap.specs.Lists.{Each, In, Distinct}
 use Rattle.lmn_heap.specs.Sound.{Paired, AtMost}
 use Rattle.lmn_heap.proofs.Pigeonholes.{not_longer}
+pub use Rattle.lmn_folding.specs.Marks.{turns}
 use Rattle.lmn_folding.specs.Marks.{arguments, Event, meets_link, meets_term, leaves, Walk, link, term, end_of_term, end_of_item}
 use Rattle.lmn_folding.proofs.PrintedWalks.{term_is}
 use Rattle.lmn_folding.proofs.WalkLemmas.{one_walk}
+use Rattle.lmn_heap.proofs.ListLemmas.{each_of}
 
 -- the atoms that are entered as terms, and those that are left
 abbrev pub entered : List Event → List ℕ
@@ -22,22 +24,18 @@ left (meets_link a i ∷ es) = left es
 left (meets_term a i c ∷ es) = left es
 left (leaves a ∷ es) = a ∷ left es
 
--- how often a walk turns into a term, or leaves an atom
-abbrev pub turns : List Event → ℕ
-turns [] = 0
-turns (meets_link a i ∷ es) = turns es
-turns (meets_term a i c ∷ es) = suc (turns es)
-turns (leaves a ∷ es) = suc (turns es)
+-- a walk leaves an atom at its end
+pub walk_turns : (s : Heap) (a i : ℕ) (es : List Event) → Walk s a i es → 1 ≤ turns es
+walk_turns s a i _ (link l n w) = walk_turns s a (i + 1) _ w
+walk_turns s a i _ (term c l t w) = omega arith
+walk_turns s a i _ (end_of_term p j e x ports l w) = omega arith
+walk_turns s a i _ (end_of_item e x) = omega arith
 
-counted : (es : List Event) → turns es ≡ length (entered es) + length (left es)
+pub counted : (es : List Event) → turns es ≡ length (entered es) + length (left es)
 counted [] = refl
 counted (meets_link a i ∷ es) = counted es
 counted (meets_term a i c ∷ es) = let e = counted es in omega (arith, e)
 counted (leaves a ∷ es) = let e = counted es in omega (arith, e)
-
-each_of : (P : ℕ → Type 0) (xs : List ℕ) → ((y : ℕ) → In y xs → P y) → Each P xs
-each_of P [] h = tt
-each_of P (x ∷ xs) h = (h x (inl refl), each_of P xs (λ y i. h y (inr i)))
 
 -- where a walk enters an atom, and where it leaves one
 entering : (s : Heap) (a i c : ℕ) (es : List Event) → Walk s a i es → In c (entered es) → (fs : List Event) × Walk s c 0 fs × (length fs < length es)
@@ -57,7 +55,7 @@ leaving s a i b _ (end_of_item e x) (inl h) =
     (leaves a ∷ [], subst (λ z. Walk s z (arguments s z) (leaves a ∷ [])) h (subst (λ k. Walk s a k (leaves a ∷ [])) e (end_of_item e x)), omega arith)
 leaving s a i b _ (end_of_item e x) (inr h) = absurd h
 
-entered_once : (s : Heap) (a i : ℕ) (es : List Event) → Walk s a i es → Distinct (entered es)
+pub entered_once : (s : Heap) (a i : ℕ) (es : List Event) → Walk s a i es → Distinct (entered es)
 entered_once s a i _ (link l n w) = entered_once s a (i + 1) _ w
 entered_once s a i _ (term {es = es} c l t w) = (each_of (λ y. c ≢ y) (entered es) again, entered_once s c 0 es w)
   where
@@ -70,7 +68,7 @@ entered_once s a i _ (term {es = es} c l t w) = (each_of (λ y. c ≢ y) (entere
 entered_once s a i _ (end_of_term p j e x ports l w) = entered_once s p (j + 1) _ w
 entered_once s a i _ (end_of_item e x) = tt
 
-left_once : (s : Heap) (a i : ℕ) (es : List Event) → Walk s a i es → Distinct (left es)
+pub left_once : (s : Heap) (a i : ℕ) (es : List Event) → Walk s a i es → Distinct (left es)
 left_once s a i _ (link l n w) = left_once s a (i + 1) _ w
 left_once s a i _ (term {es = es} c l t w) = left_once s c 0 es w
 left_once s a i _ (end_of_term {es = es} p j e x ports l w) = (each_of (λ y. a ≢ y) (left es) again, left_once s p (j + 1) es w)
@@ -92,14 +90,14 @@ end_there s paired a i b j e = by (s.atoms b) (paired.back a i b j e)
     by None l = absurd (cc l)
     by (Some x) l = refl
 
-entered_there : (s : Heap) → Paired s → (a i : ℕ) (es : List Event) → Walk s a i es → (b : ℕ) → In b (entered es) → IsAtom s b
+pub entered_there : (s : Heap) → Paired s → (a i : ℕ) (es : List Event) → Walk s a i es → (b : ℕ) → In b (entered es) → IsAtom s b
 entered_there s paired a i _ (link l n w) b h = entered_there s paired a (i + 1) _ w b h
 entered_there s paired a i _ (term {es = es} c l t w) b (inl e) = subst (IsAtom s) e (end_there s paired a i c (term_is s a i c t).0 (term_is s a i c t).1)
 entered_there s paired a i _ (term {es = es} c l t w) b (inr h) = entered_there s paired c 0 es w b h
 entered_there s paired a i _ (end_of_term p j e x ports l w) b h = entered_there s paired p (j + 1) _ w b h
 entered_there s paired a i _ (end_of_item e x) b h = absurd h
 
-left_there : (s : Heap) → Paired s → (a i : ℕ) (es : List Event) → IsAtom s a → Walk s a i es → (b : ℕ) → In b (left es) → IsAtom s b
+pub left_there : (s : Heap) → Paired s → (a i : ℕ) (es : List Event) → IsAtom s a → Walk s a i es → (b : ℕ) → In b (left es) → IsAtom s b
 left_there s paired a i _ there (link l n w) b h = left_there s paired a (i + 1) _ there w b h
 left_there s paired a i _ there (term {es = es} c l t w) b h = left_there s paired c 0 es (end_there s paired a i c (term_is s a i c t).0 (term_is s a i c t).1) w b h
 left_there s paired a i _ there (end_of_term {es = es} p j e x ports l w) b (inl h) = subst (IsAtom s) h there

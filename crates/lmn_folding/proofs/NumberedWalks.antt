@@ -1,13 +1,13 @@
 -- The links of an item get their numbers while it is walked.
-use Rattle.std.proofs.Common.{◌≡◌, ℕ, suc, ◌+◌, ◌-◌, ◌<◌, ◌≤◌, ◌==◌, ◌&&◌, ◌||◌, not, true, false, if◌then◌else◌, List, [], ◌∷◌, ◌++◌, length, Option, Some, None, refl, sym, ap, ◌∙◌, subst, arith}
+use Rattle.std.proofs.Common.{◌≡◌, ℕ, suc, ◌+◌, ◌-◌, ◌*◌, ◌<◌, ◌≤◌, ◌==◌, ◌&&◌, ◌||◌, not, true, false, if◌then◌else◌, List, [], ◌∷◌, ◌++◌, Option, Some, None, refl, sym, ap, ◌∙◌, subst, arith}
 use Rattle.std.proofs.lemmas.List.{append-nil, append_assoc}
 use Rattle.lmn_heap.specs.Heap.{Heap, arity_of, link_of, mark_of}
 use Rattle.lmn_printer.specs.Numbers.{GoOn, Remarks}
 use Rattle.lmn_printer.proofs.MarkLemmas.{arity_same, link_same}
-use Rattle.lmn_printer.proofs.NumberLemmas.{go_none, go_more, go_as}
-use Rattle.lmn_folding.specs.Marks.{own_mark, is_item, is_end_of_term, term_by, term_at, arguments, Event, Walk, links_met}
-use Rattle.lmn_folding.proofs.FewTurns.{turns}
-use Rattle.lmn_folding.proofs.WalkLemmas.{at_link, at_term, at_end_of_term, at_end_of_item, arguments_of_term, same_port, walk_some}
+use Rattle.lmn_printer.proofs.NumberLemmas.{go_none, go_more, go_as, same_ports as same_port}
+use Rattle.lmn_folding.specs.Marks.{own_mark, is_item, is_end_of_term, term_by, term_at, arguments, Event, Walk, links_met, turns}
+use Rattle.lmn_folding.proofs.FewTurns.{walk_turns}
+use Rattle.lmn_folding.proofs.WalkLemmas.{at_link, at_term, at_end_of_term, at_end_of_item, arguments_of_term}
 
 -- other marks of ports change nothing of how atoms are printed
 module _ (s t : Heap) (r : Remarks s t) where
@@ -34,7 +34,7 @@ module _ (s : Heap) (item count : ℕ) where
   -- where the walk over an item stands at port i of the atom a, the links that were met have their numbers, and there are n
   abbrev pub NumbersLeft : Heap → ℕ → ℕ → ℕ → ℕ → Type 0
   NumbersLeft t a i n k = (es : List Event) → Walk s item 0 es → (left : List Event) × Walk s a i left × (done : (ℕ → ℕ → ℕ) → List ℕ)
-      × ((name : ℕ → ℕ → ℕ) → done name ++ links_met left name ≡ links_met es name) × GoOn s t count n done × (n + length left ≤ count + length es) × (k + turns left ≤ turns es)
+      × ((name : ℕ → ℕ → ℕ) → done name ++ links_met left name ≡ links_met es name) × GoOn s t count n done × (n ≤ count + 255 * k + i) × (k + turns left ≤ turns es)
 
   pub numbers_first : NumbersLeft s item 0 count 0
   numbers_first es w = (es, w, (λ name. []), (λ name. refl), go_none s count, omega arith, omega arith)
@@ -45,7 +45,6 @@ module _ (s : Heap) (item count : ℕ) where
       let l = h es w in
       let met = at_link s a i l.0 l.1 low none in
       let e = met.1 in
-      let long : length l.0 ≡ suc (length met.0) = ap length e in
       let turned : turns l.0 ≡ turns met.0 = ap turns e in
       let few = l.5 in
       let some = l.6 in (
@@ -54,28 +53,26 @@ module _ (s : Heap) (item count : ℕ) where
         (λ name. l.2 name ++ (name a i ∷ [])),
         (λ name. append_assoc (l.2 name) (name a i ∷ []) (links_met met.0 name) ∙ ap (λ x. l.2 name ++ links_met x name) (sym e) ∙ l.3 name),
         go_more s t u count n m l.2 (λ name. name a i ∷ []) r l.4 go,
-        omega (arith, long, few, more),
+        omega (arith, few, more),
         omega (arith, turned, some),
       )
 
-  pub numbers_term : (t : Heap) (a i c n k : ℕ) → NumbersLeft t a i n k → i < arguments s a → term_at s a i ≡ Some c → NumbersLeft t c 0 n (k + 1)
-  numbers_term t a i c n k h low is es w =
+  pub numbers_term : (t : Heap) (a i c n k : ℕ) → NumbersLeft t a i n k → i < 256 → i < arguments s a → term_at s a i ≡ Some c → NumbersLeft t c 0 n (k + 1)
+  numbers_term t a i c n k h small low is es w =
       let l = h es w in
       let met = at_term s a i c l.0 l.1 low is in
       let e = met.1 in
-      let long : length l.0 ≡ suc (length met.0) = ap length e in
       let turned : turns l.0 ≡ suc (turns met.0) = ap turns e in
       let few = l.5 in
       let some = l.6 in
-      (met.0, met.2, l.2, (λ name. ap (λ x. l.2 name ++ links_met x name) (sym e) ∙ l.3 name), l.4, omega (arith, long, few), omega (arith, turned, some))
+      (met.0, met.2, l.2, (λ name. ap (λ x. l.2 name ++ links_met x name) (sym e) ∙ l.3 name), l.4, omega (arith, small, few), omega (arith, turned, some))
 
-  pub numbers_end : (t : Heap) (a i p j port n k : ℕ) → NumbersLeft t a i n k → arguments s a ≤ i → is_item s a ≡ false
+  pub numbers_end : (t : Heap) (a i p j port n k : ℕ) → NumbersLeft t a i n k → i < 256 → arguments s a ≤ i → is_item s a ≡ false
       → port ≡ j + 1 → link_of s a (arity_of s a - 1) ≡ Some (p, j) → NumbersLeft t p port n (k + 1)
-  numbers_end t a i p j port n k h high no_item behind link es w =
+  numbers_end t a i p j port n k h small high no_item behind link es w =
       let l = h es w in
       let met = at_end_of_term s a i l.0 l.1 high no_item in
       let e = met.3 in
-      let long : length l.0 ≡ suc (length met.0) = ap length e in
       let turned : turns l.0 ≡ suc (turns met.0) = ap turns e in
       let few = l.5 in
       let some = l.6 in
@@ -85,23 +82,28 @@ module _ (s : Heap) (item count : ℕ) where
         l.2,
         (λ name. ap (λ x. l.2 name ++ links_met x name) (sym e) ∙ l.3 name),
         l.4,
-        omega (arith, long, few),
+        omega (arith, small, few),
         omega (arith, turned, some),
       )
 
-  pub numbers_all : (t : Heap) (a i n k : ℕ) → NumbersLeft t a i n k → arguments s a ≤ i → is_item s a ≡ true
-      → (es : List Event) → Walk s item 0 es → GoOn s t count n (links_met es) × (n ≤ count + length es)
-  numbers_all t a i n k h high is es w =
+  pub numbers_all : (t : Heap) (a i n k : ℕ) → NumbersLeft t a i n k → i < 256 → arguments s a ≤ i → is_item s a ≡ true
+      → (es : List Event) → Walk s item 0 es → GoOn s t count n (links_met es) × (n ≤ count + 255 * turns es)
+  numbers_all t a i n k h small high is es w =
       let l = h es w in
       let e = at_end_of_item s a i l.0 l.1 high is in
+      let turned : turns l.0 ≡ 1 = ap turns e in
       let few = l.5 in
-      (go_as s t count n l.2 (links_met es) (λ name. sym (append-nil (l.2 name)) ∙ ap (λ x. l.2 name ++ links_met x name) (sym e) ∙ l.3 name) l.4, omega (arith, few))
+      let some = l.6 in
+      (go_as s t count n l.2 (links_met es) (λ name. sym (append-nil (l.2 name)) ∙ ap (λ x. l.2 name ++ links_met x name) (sym e) ∙ l.3 name) l.4, omega (arith, few, small, turned, some))
 
-  -- there is room for one number more, and at most so many turns were taken as there are
-  pub numbers_room : (t : Heap) (a i n k : ℕ) → NumbersLeft t a i n k → (es : List Event) → Walk s item 0 es → (n + 1 ≤ count + length es) × (k ≤ turns es)
-  numbers_room t a i n k h es w =
+  -- there is room for one number more where a port is met, and at most so many turns were taken as there are
+  pub numbers_room : (t : Heap) (a i n k : ℕ) → NumbersLeft t a i n k → i < 255 → (es : List Event) → Walk s item 0 es → n + 1 ≤ count + 255 * turns es
+  numbers_room t a i n k h small es w =
       let l = h es w in
       let few = l.5 in
       let some = l.6 in
-      let one = walk_some s a i l.0 l.1 in
-      (omega (arith, few, one), omega (arith, some))
+      let one = walk_turns s a i l.0 l.1 in
+      omega (arith, few, some, one, small)
+
+  pub numbers_turns : (t : Heap) (a i n k : ℕ) → NumbersLeft t a i n k → (es : List Event) → Walk s item 0 es → k ≤ turns es
+  numbers_turns t a i n k h es w = let some = (h es w).6 in omega (arith, some)

@@ -16,12 +16,14 @@ use Rattle.lmn_plain.specs.Words.{Piece, word, space, spaced, text_of, link_name
 use Rattle.lmn_plain.specs.Labels.{label_text}
 use Rattle.lmn_printer.specs.Rows.{in_row}
 use Rattle.lmn_printer.proofs.LeafLemmas.{label_is}
-use Rattle.lmn_printer.proofs.RowLemmas.{text_append, comma_row}
+use Rattle.lmn_printer.proofs.RowLemmas.{comma_row}
 use Rattle.lmn_folding.specs.Marks.{is_item, term_at, arguments, Event, meets_link, meets_term, leaves}
 use Rattle.lmn_folding.specs.Events.{is_functor_named, is_cell, is_nil, is_rest_port, is_rest, is_listed, functor_text, opening, before, closing, events_text}
 use Rattle.lmn_folding.specs.Printed.{Prints, as_link, as_term, PrintsAll, none, more}
 use Rattle.lmn_folding.proofs.WalkLemmas.{arguments_of_term}
-use Rattle.lmn_folding.proofs.PrintedWalks.{and_both, equal_numbers, term_is, events, events_all}
+use Rattle.lmn_folding.proofs.PrintedWalks.{term_is, events, events_all}
+use Rattle.lmn_lexer.proofs.Runs.{both_true as and_both, equal_when as equal_numbers}
+use Rattle.lmn_plain.proofs.LaidLines.{text_append}
 
 four_not_three : (n : ℕ) → (suc (suc (suc (suc n))) == 3) ≡ false
 four_not_three n = grind (arith, nat_tests)

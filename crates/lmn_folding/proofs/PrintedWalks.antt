@@ -10,13 +10,7 @@ use Rattle.lmn_folding.specs.Marks.{is_item, is_end_of_term, term_by, term_at, a
 use Rattle.lmn_folding.specs.Marks as walk
 use Rattle.lmn_folding.specs.Printed.{Prints, as_link, as_term, PrintsAll, none, more}
 use Rattle.lmn_folding.proofs.WalkLemmas.{arguments_of_term}
-
-pub equal_numbers : (m n : ℕ) → (m == n) ≡ true → m ≡ n
-equal_numbers m n e = grind (arith, nat_tests)
-
-pub and_both : (a b : Bool) → (a && b) ≡ true → (a ≡ true) × (b ≡ true)
-and_both true b e = (refl, e)
-and_both false b e = absurd (cc e)
+use Rattle.lmn_lexer.proofs.Runs.{both_true as and_both, equal_when as equal_numbers}
 
 pub not_true : (b : Bool) → not b ≡ true → b ≡ false
 not_true false e = refl

@@ -1,14 +1,11 @@
 -- What a walk meets where it stands.
-use Rattle.std.proofs.Common.{◌≡◌, ℕ, ◌+◌, ◌-◌, ◌<◌, ◌≤◌, Bool, true, false, if◌then◌else◌, List, [], ◌∷◌, length, Option, Some, None, refl, sym, ap, ◌∙◌, subst, arith}
+use Rattle.std.proofs.Common.{◌≡◌, ℕ, ◌+◌, ◌-◌, ◌<◌, ◌≤◌, Bool, true, false, if◌then◌else◌, List, [], ◌∷◌, Option, Some, None, refl, sym, ap, ◌∙◌, subst, arith}
 use Rattle.lmn_heap.specs.Heap.{Heap, arity_of, link_of}
 use Rattle.lmn_folding.specs.Marks.{is_item, term_at, arguments, Event, meets_link, meets_term, leaves, Walk, link, term, end_of_term, end_of_item}
+use Rattle.lmn_printer.proofs.NumberLemmas.{same_ports as same_port}
 
 absurd_less : {A : Type 0} (i n : ℕ) → i < n → i ≡ n → A
 absurd_less i n l e = absurd (omega (arith, l, e))
-
--- two ports that are one
-pub same_port : (p i q j : ℕ) → ◌≡◌ {A = Option (ℕ × ℕ)} (Some (p, i)) (Some (q, j)) → (p ≡ q) × (i ≡ j)
-same_port p i q j e = let pair : ◌≡◌ {A = ℕ × ℕ} (p, i) (q, j) = cc e in (ap (λ x. x.0) pair, ap (λ x. x.1) pair)
 
 -- a port that is printed as a link
 pub at_link : (s : Heap) (a i : ℕ) (es : List Event) → Walk s a i es → i < arguments s a → term_at s a i ≡ None
@@ -50,13 +47,6 @@ one_walk s a i _ fs (end_of_term p j e x ports l w) v =
     let same = same_port m.1 m.2 p j (sym m.6 ∙ l) in
     ap (λ z. leaves a ∷ z) (one_walk s p (j + 1) _ m.0 w (subst (λ q. Walk s q (j + 1) m.0) same.0 (subst (λ k. Walk s m.1 (k + 1) m.0) same.1 m.7))) ∙ sym m.3
 one_walk s a i _ fs (end_of_item e x) v = sym (at_end_of_item s a i fs v (omega (arith, e)) x)
-
--- a walk meets something
-pub walk_some : (s : Heap) (a i : ℕ) (es : List Event) → Walk s a i es → 1 ≤ length es
-walk_some s a i _ (link l n w) = omega arith
-walk_some s a i _ (term c l t w) = omega arith
-walk_some s a i _ (end_of_term p j e x ports l w) = omega arith
-walk_some s a i _ (end_of_item e x) = omega arith
 
 -- an atom that is printed as a term doesn't print its last argument
 pub arguments_of_term : (s : Heap) (a : ℕ) → is_item s a ≡ false → arguments s a ≡ arity_of s a - 1

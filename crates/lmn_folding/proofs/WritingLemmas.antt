@@ -9,7 +9,8 @@ use Rattle.lmn_printer.proofs.DueLemmas.{Due, due_first, due_next, due_last}
 use Rattle.lmn_folding.specs.Marks.{is_item, term_at, arguments, Event, Walk}
 use Rattle.lmn_folding.specs.Events.{before, closing, opening, events_text}
 use Rattle.lmn_folding.proofs.FewTurns.{turns}
-use Rattle.lmn_folding.proofs.WalkLemmas.{at_link, at_term, at_end_of_term, at_end_of_item, arguments_of_term, same_port}
+use Rattle.lmn_folding.proofs.WalkLemmas.{at_link, at_term, at_end_of_term, at_end_of_item, arguments_of_term}
+use Rattle.lmn_printer.proofs.NumberLemmas.{same_ports as same_port}
 
 module _ (names : List Name) (s : Heap) (number : ℕ → ℕ → ℕ) (item : ℕ) (start : Output) where
   abbrev text : List Event → List ℕ

@@ -1,5 +1,5 @@
 -- How atoms are printed stands in their own marks: 1 and 2 for items, and another number for a term.
-use Rattle.std.specs.Prelude.{ℕ, ◌≡◌, ◌<◌, ◌+◌, ◌-◌, ◌==◌, ◌&&◌, ◌||◌, not, Bool, true, false, if◌then◌else◌, List, [], ◌∷◌, Option, Some, None}
+use Rattle.std.specs.Prelude.{ℕ, suc, ◌≡◌, ◌<◌, ◌+◌, ◌-◌, ◌==◌, ◌&&◌, ◌||◌, not, Bool, true, false, if◌then◌else◌, List, [], ◌∷◌, Option, Some, None}
 use Rattle.lmn_heap.specs.Heap.{Heap, arity_of, link_of, mark_of}
 
 -- the own mark of an atom
@@ -40,6 +40,13 @@ pub data Walk (s : Heap) : ℕ → ℕ → List Event → Type 0 where
   end_of_term : {a i : ℕ} {es : List Event} (p j : ℕ) → i ≡ arguments s a → is_item s a ≡ false → 0 < arity_of s a → link_of s a i ≡ Some (p, j)
       → Walk s p (j + 1) es → Walk s a i (leaves a ∷ es)
   end_of_item : {a i : ℕ} → i ≡ arguments s a → is_item s a ≡ true → Walk s a i (leaves a ∷ [])
+
+-- how often a walk turns into a term, or leaves an atom
+abbrev pub turns : List Event → ℕ
+turns [] = 0
+turns (meets_link a i ∷ es) = turns es
+turns (meets_term a i c ∷ es) = suc (turns es)
+turns (leaves a ∷ es) = suc (turns es)
 
 -- the links that are met, by the names of links at ports
 abbrev pub links_met : List Event → (ℕ → ℕ → ℕ) → List ℕ

@@ -8,7 +8,7 @@ ghost use Rattle.lmn_folding.specs.Marks.{arguments, is_end_of_term, is_item, ow
 use lmn_store::LinkStore;
 
 /// How many ports an atom has.
-pub(crate) fn arity<S: LinkStore>(store: &S, atom: S::Atom) -> u8
+pub fn arity<S: LinkStore>(store: &S, atom: S::Atom) -> u8
     requires { IsAtom (S.heap store.now) (S.atom_id atom) }
     ensures arity { result ≡ arity_of (S.heap store.now) (S.atom_id atom) }
     ensures sound { Sound (S.heap store.now) }
@@ -18,7 +18,7 @@ pub(crate) fn arity<S: LinkStore>(store: &S, atom: S::Atom) -> u8
 }
 
 /// The own mark of an atom.
-fn own_mark<S: LinkStore>(store: &S, atom: S::Atom) -> u64
+pub fn own_mark<S: LinkStore>(store: &S, atom: S::Atom) -> u64
     requires { IsAtom (S.heap store.now) (S.atom_id atom) }
     ensures { result ≡ own_mark (S.heap store.now) (S.atom_id atom) }
 {
@@ -26,7 +26,7 @@ fn own_mark<S: LinkStore>(store: &S, atom: S::Atom) -> u64
 }
 
 /// Whether an atom is printed as an item.
-pub(crate) fn is_item<S: LinkStore>(store: &S, atom: S::Atom) -> bool
+pub fn is_item<S: LinkStore>(store: &S, atom: S::Atom) -> bool
     requires { IsAtom (S.heap store.now) (S.atom_id atom) }
     ensures { result ≡ is_item (S.heap store.now) (S.atom_id atom) }
 {
@@ -35,7 +35,7 @@ pub(crate) fn is_item<S: LinkStore>(store: &S, atom: S::Atom) -> bool
 }
 
 /// How many arguments of an atom are printed: a term doesn't print its last.
-pub(crate) fn arguments<S: LinkStore>(store: &S, atom: S::Atom) -> u8
+pub fn arguments<S: LinkStore>(store: &S, atom: S::Atom) -> u8
     requires { IsAtom (S.heap store.now) (S.atom_id atom) }
     ensures { result ≡ arguments (S.heap store.now) (S.atom_id atom) }
 {
@@ -58,7 +58,7 @@ fn is_end_of_term<S: LinkStore>(store: &S, atom: S::Atom, port: u8) -> bool
 }
 
 /// The atom that is printed as a term at a port, if one is.
-pub(crate) fn term_at<S: LinkStore>(store: &S, atom: S::Atom, port: u8) -> Option<S::Atom>
+pub fn term_at<S: LinkStore>(store: &S, atom: S::Atom, port: u8) -> Option<S::Atom>
     requires atom { IsAtom (S.heap store.now) (S.atom_id atom) }
     requires port { port < arity_of (S.heap store.now) (S.atom_id atom) }
     ensures term { option_map S.atom_id result ≡ term_at (S.heap store.now) (S.atom_id atom) port }

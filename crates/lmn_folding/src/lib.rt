@@ -10,6 +10,8 @@ mod terms;
 mod walk;
 
 pub use examples::{link_is_printed, no_term_is_printed, term_is_printed};
+pub use family::{arguments, arity, is_item, own_mark, term_at};
 pub use laws::items_are_walked;
 pub use numbers::number_item;
 pub use terms::add_item;
+pub use walk::{Stand, behind_term};

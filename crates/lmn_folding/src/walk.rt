@@ -8,13 +8,13 @@ use lmn_store::LinkStore;
 
 /// A port of an atom, or the end of its ports.
 #[derive(Clone, Copy)]
-pub(crate) struct Stand<A> {
-    pub(crate) atom: A,
-    pub(crate) port: u8,
+pub struct Stand<A> {
+    pub atom: A,
+    pub port: u8,
 }
 
 /// Behind the port at which a term stands.
-pub(crate) fn behind_term<S: LinkStore>(store: &S, term: S::Atom) -> Stand<S::Atom>
+pub fn behind_term<S: LinkStore>(store: &S, term: S::Atom) -> Stand<S::Atom>
     requires valid { Valid (S.heap store.now) }
     requires atom { IsAtom (S.heap store.now) (S.atom_id term) }
     requires ports { 0 < arity_of (S.heap store.now) (S.atom_id term) }

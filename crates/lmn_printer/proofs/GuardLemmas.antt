@@ -12,7 +12,7 @@ use denote.Hole.Carrier
 use Rattle.lmn_congruence.specs.Rules as tree
 use Rattle.lmn_congruence.specs.Translation.{expression_of, expression_step, operator_of}
 use Rattle.lmn_plain.specs.Words.{text_of, operand_pieces, operator_pieces, side_pieces}
-use Rattle.lmn_printer.proofs.RowLemmas.{text_append}
+use Rattle.lmn_plain.proofs.LaidLines.{text_append}
 
 -- an operation, in parentheses
 pub in_parentheses : (op : tree.Arithmetic) (l r : tree.Expression)

@@ -21,7 +21,9 @@ use Rattle.lmn_plain.specs.Words.{text_of, piece_text, with_commas, label_piece,
 use Rattle.lmn_plain.specs.Labels.{label_text}
 use Rattle.lmn_printer.specs.Parts.{condition_text, context_text, is_connector, leaf_text, link_numbers}
 use Rattle.lmn_printer.specs.Rows.{in_row}
-use Rattle.lmn_printer.proofs.RowLemmas.{text_append, comma_row}
+use Rattle.lmn_printer.proofs.RowLemmas.{comma_row}
+use Rattle.lmn_lexer.proofs.Runs.{both_true, equal_when as tested}
+use Rattle.lmn_plain.proofs.LaidLines.{text_append}
 
 -- the piece of a label is its text
 pub label_is : (l : tree.Label) → label_text l ≡ piece_text (label_piece l)
@@ -38,16 +40,6 @@ atom_is names (Name (suc n)) [] e = refl
 atom_is names (Name (suc n)) (x ∷ xs) e = refl
 atom_is names (Int z) [] e = refl
 atom_is names (Int z) (x ∷ xs) e = refl
-
--- a connector
-both_true : (a b : Bool) → (a && b) ≡ true → (a ≡ true) × (b ≡ true)
-both_true true true e = (refl, refl)
-both_true true false e = absurd (cc e)
-both_true false b e = absurd (cc e)
-
--- what a test says
-tested : (m n : ℕ) → (m == n) ≡ true → m ≡ n
-tested m n e = grind (arith, nat_tests)
 
 two : (xs : List ℕ) → length xs ≡ 2 → (x : ℕ) × (y : ℕ) × (xs ≡ x ∷ y ∷ [])
 two [] e = absurd (omega (arith, e))

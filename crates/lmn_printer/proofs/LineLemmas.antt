@@ -20,7 +20,8 @@ use Rattle.lmn_plain.specs.Words.{Piece, text_of, with_commas, with_full_stops, 
 use Rattle.lmn_printer.specs.Rows.{in_row, any_behind}
 use Rattle.lmn_printer.specs.Stored.{number_by_mark, solid_atom_text, stored_text, atom_text, atom_texts, rule_texts}
 use Rattle.lmn_printer.specs.Walks.{Texts, items, members, has_atoms, tree_text}
-use Rattle.lmn_printer.proofs.RowLemmas.{row_append, any_map, text_append, comma_row}
+use Rattle.lmn_printer.proofs.RowLemmas.{row_append, any_map, comma_row}
+use Rattle.lmn_plain.proofs.LaidLines.{text_append}
 
 -- items with full stops are a row, and a full stop behind it where there is one
 abbrev pub stop_if : Bool → List ℕ
@@ -37,6 +38,15 @@ stops_row (p ∷ q ∷ ps) =
     ∙ ap (λ z. z ++ (32 ∷ text_of (with_full_stops (q ∷ ps)))) (text_append p _)
     ∙ ap (λ z. (text_of p ++ (46 ∷ [])) ++ (32 ∷ z)) (stops_row (q ∷ ps))
     ∙ rejoin (text_of p) (text_of q) (in_row (codes ". ") true (map text_of ps))
+
+pub rules_texts : (names : List tree.Name) (table : List RuleTree) (ks : List ℕ) → map text_of (rules_pieces (rules (map (numbered_rule names table) ks))) ≡ map (λ k. text_of (rule_pieces (numbered_rule names table k))) ks
+rules_texts names table [] = refl
+rules_texts names table (k ∷ ks) = ap (λ ts. text_of (rule_pieces (numbered_rule names table k)) ∷ ts) (rules_texts names table ks)
+
+pub row_is : (t : Texts) (b : List ℕ) (m : ℕ) (inside : List (List ℕ)) → in_row b false (t.atoms m ++ (inside ++ t.rules m)) ≡ items t b m inside
+row_is t b m inside =
+    row_append b false (t.atoms m) (inside ++ t.rules m)
+    ∙ ap (λ x. in_row b false (t.atoms m) ++ x) (row_append b (has_atoms t m) inside (t.rules m))
 
 module _ (names : List tree.Name) (table : List RuleTree) (s : Heap) (all : (m a : ℕ) → In a (atoms_in s m) → IsAtom s a) where
   abbrev texts : Texts
@@ -65,10 +75,6 @@ module _ (names : List tree.Name) (table : List RuleTree) (s : Heap) (all : (m a
   leaves_texts [] = refl
   leaves_texts (x ∷ xs) = ap (λ ts. solid_atom_text names x ∷ ts) (leaves_texts xs)
 
-  rules_texts : (ks : List ℕ) → map text_of (rules_pieces (rules (map rule ks))) ≡ map (λ k. text_of (rule_pieces (rule k))) ks
-  rules_texts [] = refl
-  rules_texts (k ∷ ks) = ap (λ ts. text_of (rule_pieces (rule k)) ∷ ts) (rules_texts ks)
-
   -- what stands in a membrane, list by list
   level_texts : (m : ℕ) (rs : List Region) (inside : List (List ℕ)) → map text_of (levels_pieces (as_levels (regions (map reg rs)))) ≡ inside
       → map text_of (level_pieces (as_level (reg (roll-Region (record { atoms = atoms_of s name (atoms_in s m); membranes = rs; rules = rules_in s m })))))
@@ -81,12 +87,7 @@ module _ (names : List tree.Name) (table : List RuleTree) (s : Heap) (all : (m a
       ap (λ r. map text_of (level_pieces (as_level r))) (fold-roll-Region solid.Region (region_step names rule) z)
       ∙ map-append text_of ls (ms ++ ks)
       ∙ ap (λ x. x ++ map text_of (ms ++ ks)) (leaves_texts z.atoms ∙ list_texts (atoms_in s m) (all m))
-      ∙ ap (λ x. texts.atoms m ++ x) (map-append text_of ms ks ∙ ap (λ x. x ++ map text_of ks) e ∙ ap (λ x. inside ++ x) (rules_texts z.rules))
-
-  row_is : (b : List ℕ) (m : ℕ) (inside : List (List ℕ)) → in_row b false (texts.atoms m ++ (inside ++ texts.rules m)) ≡ items texts b m inside
-  row_is b m inside =
-      row_append b false (texts.atoms m) (inside ++ texts.rules m)
-      ∙ ap (λ x. in_row b false (texts.atoms m) ++ x) (row_append b (has_atoms texts m) inside (texts.rules m))
+      ∙ ap (λ x. texts.atoms m ++ x) (map-append text_of ms ks ∙ ap (λ x. x ++ map text_of ks) e ∙ ap (λ x. inside ++ x) (rules_texts names table z.rules))
 
   -- the membranes of a forest
   forest_texts : (f : Forest) → map text_of (levels_pieces (as_levels (regions (map reg (regions_of s name f))))) ≡ members texts f
@@ -95,7 +96,7 @@ module _ (names : List tree.Name) (table : List RuleTree) (s : Heap) (all : (m a
       let here = reg (roll-Region (record { atoms = atoms_of s name (atoms_in s m); membranes = regions_of s name i; rules = rules_in s m })) in
       let ps = level_pieces (as_level here) in
       let inside : text_of (with_commas ps) ≡ items texts (codes ", ") m (members texts i) =
-      comma_row ps ∙ ap (in_row (codes ", ") false) (level_texts m (regions_of s name i) (members texts i) (forest_texts i)) ∙ row_is (codes ", ") m (members texts i) in
+      comma_row ps ∙ ap (in_row (codes ", ") false) (level_texts m (regions_of s name i) (members texts i) (forest_texts i)) ∙ row_is texts (codes ", ") m (members texts i) in
       ap (λ t. (123 ∷ t) ∷ map text_of (levels_pieces (as_levels (regions (map reg (regions_of s name r)))))) (text_append (with_commas ps) _ ∙ ap (λ t. t ++ (125 ∷ [])) inside)
       ∙ ap (λ ts. (codes "{" ++ (items texts (codes ", ") m (members texts i) ++ codes "}")) ∷ ts) (forest_texts r)
 
@@ -114,4 +115,4 @@ module _ (names : List tree.Name) (table : List RuleTree) (s : Heap) (all : (m a
       ∙ ap (λ t. t ++ codes "\n") (stops_row ps
       ∙ ap (λ z. in_row (codes ". ") false (map text_of ps) ++ stop_if z) (sym (any_texts ps))
       ∙ ap (λ us. in_row (codes ". ") false us ++ stop_if (any_behind false us)) ts
-      ∙ ap (λ t. t ++ stop_if (any_behind false (texts.atoms m ++ (members texts i ++ texts.rules m)))) (row_is (codes ". ") m (members texts i)))
+      ∙ ap (λ t. t ++ stop_if (any_behind false (texts.atoms m ++ (members texts i ++ texts.rules m)))) (row_is texts (codes ". ") m (members texts i)))

@@ -18,14 +18,6 @@ use Rattle.lmn_printer.specs.Numbers.{printed_atoms}
 pub parent_there : (s : Heap) → Sound s → (m p : ℕ) → parent_of s m ≡ Some p → IsMem s p
 parent_there s sound m p e = mem_of_list s p m ((sound.listed.mems p m).1 (parent_place s m p e))
 
--- the membrane beside one is there
-pub beside_there : {A : Type 0} (id : A → ℕ) (s : Heap) (m p : ℕ) (o : Option A) (n : A) → o ≡ Some n → parent_of s m ≡ Some p → IfSome o (λ k. parent_of s (id k) ≡ parent_of s m) → IsMem s (id n)
-beside_there id s m p o n is e h = has_parent (s.mems (id n)) p (subst (λ x. IfSome x (λ k. parent_of s (id k) ≡ parent_of s m)) is h ∙ e)
-
--- a membrane in another is there
-pub inner_there : (s : Heap) (n p : ℕ) → parent_of s n ≡ Some p → IsMem s n
-inner_there s n p e = has_parent (s.mems n) p e
-
 -- the tree is that of the heap
 pub tree_there : (s : Heap) → Sound s → AtMost (2 ^ 48) s → (f : Forest) → IsTree s f → IsTree s (tree_of s)
 tree_there s sound few f t = subst (IsTree s) (sym (tree_is s f sound few t)) t

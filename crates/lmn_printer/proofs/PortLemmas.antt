@@ -32,6 +32,3 @@ ports_more s t u a n m m' k p r g l = record {
       (go_more s t u n m m' (λ name. numbered name a 0 k) (λ name. name a k ∷ []) p.marks p.numbers g);
   few = let f = p.few in omega (arith, f, l);
 }
-
-pub ports_all : (s t : Heap) (a n m k : ℕ) → k ≡ arity_of s a → Ports s t a n m k → GoOn s t n m (links_at s a)
-ports_all s t a n m k e p = go_as s t n m (λ name. numbered name a 0 k) (links_at s a) (λ name. ap (numbered name a 0) e) p.numbers

@@ -6,6 +6,7 @@ use Rattle.lmn_io.specs.Gathering.{Output, Adds}
 use Rattle.lmn_io.proofs.TakingLemmas.{adds_as, adds_more, adds_nothing}
 use Rattle.lmn_plain.specs.Words.{Piece, word, space, text_of, with_commas}
 use Rattle.lmn_printer.specs.Rows.{between_if, in_row, any_behind}
+use Rattle.lmn_plain.proofs.LaidLines.{text_append}
 
 -- where an item stands before, one stands behind
 stays : {X : Type 0} (xs : List X) → any_behind true xs ≡ true
@@ -69,11 +70,6 @@ row_all s any f xs i now before after end row =
     (adds_as (ap (λ ys. in_row s any (map f ys)) whole) row.0, row.1 ∙ ap (any_behind any) whole)
 
 -- Pieces and their text.
-
-pub text_append : (ps qs : List Piece) → text_of (ps ++ qs) ≡ text_of ps ++ text_of qs
-text_append [] qs = refl
-text_append (word k b ∷ ps) qs = ap (λ t. b ++ t) (text_append ps qs) ∙ sym (append_assoc b (text_of ps) (text_of qs))
-text_append (space ∷ ps) qs = ap (λ t. 32 ∷ t) (text_append ps qs)
 
 -- items with commas are a row
 pub comma_row : (ps : List (List Piece)) → text_of (with_commas ps) ≡ in_row (codes ", ") false (map text_of ps)

@@ -17,15 +17,12 @@ use Rattle.lmn_io.proofs.TakingLemmas.{adds_as, adds_more}
 use Rattle.lmn_plain.specs.Words.{Piece, text_of, with_commas, context_piece, rule_context_piece, leaf_pieces, level_pieces, levels_pieces, rule_pieces, rules_pieces, guard_pieces}
 use Rattle.lmn_printer.specs.Parts.{context_text, leaf_text, rule_from, level_in, rule_text}
 use Rattle.lmn_printer.specs.Rows.{in_row, any_behind}
-use Rattle.lmn_printer.proofs.RowLemmas.{row_append, any_map, text_append, comma_row}
+use Rattle.lmn_printer.proofs.RowLemmas.{row_append, any_map, comma_row}
+use Rattle.lmn_plain.proofs.LaidLines.{text_append}
 
 map_map : {A B C : Type 0} (g : B → C) (f : A → B) (xs : List A) → map g (map f xs) ≡ map (λ x. g (f x)) xs
 map_map g f [] = refl
 map_map g f (x ∷ xs) = ap (λ ys. g (f x) ∷ ys) (map_map g f xs)
-
-map_alike : {A B : Type 0} (f g : A → B) (xs : List A) → ((x : A) → f x ≡ g x) → map f xs ≡ map g xs
-map_alike f g [] e = refl
-map_alike f g (x ∷ xs) e = ap (λ y. y ∷ map f xs) (e x) ∙ ap (λ ys. g x ∷ ys) (map_alike f g xs e)
 
 -- a membrane in braces
 abbrev pub membrane_text : tree.Level → List ℕ
@@ -174,10 +171,6 @@ rule_line head guard body =
     ∙ ap (λ t. text_of (with_commas (level_pieces head)) ++ (32 ∷ (58 ∷ (45 ∷ (32 ∷ t))))) (text_append (guard_pieces guard) _
     ∙ ap (λ t. text_of (guard_pieces guard) ++ t) (text_append (with_commas (level_pieces body)) _)))
 
--- all rules, each from its own number on, are those of the table
-pub from_first : (names : List tree.Name) (table : List RuleTree) (n : ℕ) → rule_from names 0 table n ≡ numbered_rule names table n
-from_first names table n = let e : n - 0 ≡ n = omega arith in rw e refl
-
 -- Measures: a level is as heavy as the levels in it, and rules as the levels of their heads and bodies.
 
 abbrev pub levels_in : Level → ℕ
@@ -189,9 +182,6 @@ levels_of_rules (r ∷ rs) = suc (levels_in r.head + levels_in r.body + levels_o
 
 abbrev pub levels_behind : ℕ → List RuleTree → ℕ
 levels_behind first table = levels_of_rules (drop first table)
-
-pub some_level : (l : Level) → 0 < levels_in l
-some_level l = let all : levels_in l ≡ suc (sum (map levels_in (out-Level l).membranes)) = fold_out-Level ℕ (λ l. suc (sum l.membranes)) l in omega (arith, all)
 
 membrane_smaller : (l : Level) (x : Level) (i : ℕ) → i < length (out-Level l).membranes → levels_in (get_or (out-Level l).membranes i x) < levels_in l
 membrane_smaller l x i h =

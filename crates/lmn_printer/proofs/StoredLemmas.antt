@@ -15,7 +15,8 @@ use Rattle.lmn_printer.specs.Rows.{between_if, in_row}
 use Rattle.lmn_printer.specs.Stored.{number_by_mark, stored_text, atom_text}
 use Rattle.lmn_printer.proofs.DueLemmas.{Due, due_first, due_next, due_as, due_last, row_step, fewer_left}
 use Rattle.lmn_printer.proofs.LeafLemmas.{label_is, links_row}
-use Rattle.lmn_printer.proofs.RowLemmas.{text_append, comma_row}
+use Rattle.lmn_printer.proofs.RowLemmas.{comma_row}
+use Rattle.lmn_plain.proofs.LaidLines.{text_append}
 
 -- Atoms by `first` and `next`.
 
@@ -87,9 +88,6 @@ ports_text name a zero h = absurd (omega (arith, h))
 ports_text name a (suc n) h =
     let ps = map (λ y. link_piece y ∷ []) (numbered name a 0 (suc n)) in
     sym (ap (λ t. 40 ∷ t) (text_append (with_commas ps) _ ∙ ap (λ t. t ++ (41 ∷ [])) (comma_row ps ∙ ap (in_row (codes ", ") false) (links_row (numbered name a 0 (suc n))))))
-
-pub no_ports_text : (name : ℕ → ℕ → ℕ) (a n : ℕ) → n ≡ 0 → [] ≡ text_of (links_pieces (numbered name a 0 n))
-no_ports_text name a n e = ap (λ k. text_of (links_pieces (numbered name a 0 k))) (sym e)
 
 -- an atom by its label and its links
 pub atom_is_written : (names : List Name) (h : Heap) (a : ℕ) (f : Functor) → functor_of h a ≡ Some f

@@ -55,12 +55,12 @@ atom_by_place (Some x) p e = refl
 all_atoms : (h : Heap) → Sound h → (m a : ℕ) → In a (atoms_in h m) → IsAtom h a
 all_atoms h sound m a i = atom_by_place (h.atoms a) (within m) ((sound.listed.atoms m a).0 i)
 
-any_append : (any : Bool) (xs ys : List (List ℕ)) → any_behind any (xs ++ ys) ≡ any_behind (any_behind any xs) ys
+pub any_append : (any : Bool) (xs ys : List (List ℕ)) → any_behind any (xs ++ ys) ≡ any_behind (any_behind any xs) ys
 any_append any [] ys = refl
 any_append any (x ∷ xs) [] = refl
 any_append any (x ∷ xs) (y ∷ ys) = refl
 
-any_members : (t : Texts) (h : Heap) (any : Bool) (f : Forest) (ms : List ℕ) → Forms h f ms → any_behind any (members t f) ≡ any_behind any ms
+pub any_members : (t : Texts) (h : Heap) (any : Bool) (f : Forest) (ms : List ℕ) → Forms h f ms → any_behind any (members t f) ≡ any_behind any ms
 any_members t h any bare ms F = ap (any_behind any) (sym F)
 any_members t h any (mem m i r) ms F = ap (any_behind any) (sym F.1)
 

@@ -1,7 +1,6 @@
 -- The walk over membranes, step by step.
-use Rattle.std.proofs.Common.{◌≡◌, ℕ, suc, ◌+◌, ◌-◌, ◌<◌, ◌≤◌, ◌^◌, Bool, true, false, List, [], ◌∷◌, ◌++◌, map, length, Option, Some, None, refl, sym, ap, ◌∙◌, subst, length-append, arith}
-use Rattle.std.specs.Prelude.{codes, nat_lt, MatchOption}
-use Rattle.std.proofs.lemmas.Bool.Decides.{nat_tests}
+use Rattle.std.proofs.Common.{◌≡◌, ℕ, suc, ◌+◌, ◌-◌, ◌<◌, ◌≤◌, ◌^◌, Bool, true, false, List, [], ◌∷◌, ◌++◌, length, Option, Some, None, refl, sym, ap, ◌∙◌, subst, length-append, arith}
+use Rattle.std.specs.Prelude.{codes, MatchOption}
 use Rattle.std.proofs.lemmas.List.{append-nil, append_assoc}
 use Rattle.lmn_heap.specs.Heap.{Heap, top as at_top, within, In, Distinct, IsMem, from, after, mems_in, parent_of}
 use Rattle.lmn_heap.specs.Sound.{Forest, bare, mem, flat, Forms, IsTree, Sound, AtMost}
@@ -10,7 +9,7 @@ use Rattle.lmn_heap.proofs.Pigeonholes.{not_longer}
 use Rattle.lmn_heap.proofs.Trees.{after_split, in_here, is_mem, parent_by}
 use Rattle.lmn_io.specs.Gathering.{Output, Adds}
 use Rattle.lmn_io.proofs.TakingLemmas.{adds_as, adds_more}
-use Rattle.lmn_printer.specs.Rows.{between_if, in_row, any_behind}
+use Rattle.lmn_printer.specs.Rows.{between_if, in_row}
 use Rattle.lmn_printer.specs.Walks.{Texts, Way, top, inside, levels, between, Stands, size, behind, Position, Leaving, members, items, has_atoms, has_some, closing, from_atoms, from_membranes, from_rules, ahead, left_behind, GoesOn, tree_text}
 use Rattle.lmn_printer.proofs.DueLemmas.{Due, due_first, due_next, due_as, due_end}
 
@@ -59,10 +58,6 @@ stands_in s sound m depth p = position_by s sound m p.beside p.way p.stands
 
 pub leaves_in : (s : Heap) (sound : Sound s) (m depth : ℕ) → Leaving s m depth → IsMem s m
 leaves_in s sound m depth p = position_by s sound m p.beside p.way p.stands
-
--- the depth of a walk is small
-pub shallow : (s : Heap) (m depth : ℕ) → Position s m depth → depth < 2 ^ 48
-shallow s m depth p = let d = p.deep in let f = p.few in omega (arith, d, f)
 
 -- behind the atoms the membranes and the rules are left
 pub atoms_written : (t : Texts) (s : Heap) (m depth : ℕ) (p : Position s m depth) (whole : List ℕ) (before o1 o2 : Output)
@@ -261,11 +256,6 @@ weaker (Some x) B B' P P' m f k = k x m
 pub goes_same : (t : Texts) (s : Heap) (left left' : List ℕ) (more more' m depth : ℕ) (old new : Output) → left ≡ left' → more ≤ more' → GoesOn t s left more m depth old new → GoesOn t s left' more' m depth old new
 goes_same t s left left' more more' m depth old new e l h =
     let f = h.fewer in record { position = h.position; written = h.written; adds = h.adds; rest = sym e ∙ h.rest; fewer = omega (arith, f, l) }
-
--- a membrane has atoms where there are some
-pub some_atoms : (f : ℕ → List ℕ) (xs : List ℕ) (n : ℕ) → n ≡ length xs → nat_lt 0 n ≡ any_behind false (map f xs)
-some_atoms f [] n e = ap (nat_lt 0) e
-some_atoms f (x ∷ xs) n e = grind (arith, nat_tests, e)
 
 -- The same as the calls say it: what stands between two items is known for each way of the depth.
 

@@ -1,8 +1,8 @@
--- The walk over the membranes of a store that writes them. Contracts of this crate's own functions alone cite these words.
+-- The walk over the membranes of a store that writes them. Public contracts cite `AreTexts` of these words, and what `IsLineWith` says by them.
 use Rattle.std.specs.Prelude.{ℕ, ◌≡◌, ◌+◌, ◌≤◌, ◌^◌, Bool, true, false, List, [], ◌∷◌, ◌++◌, codes, length}
 use Rattle.lmn_base.specs.declared.rule.RuleTree.{RuleTree}
 use Rattle.lmn_congruence.specs.Rules.{Name}
-use Rattle.lmn_heap.specs.Heap.{Heap, atoms_in, mems_in, rules_in}
+use Rattle.lmn_heap.specs.Heap.{Heap, IsMem, atoms_in, mems_in, rules_in}
 use Rattle.lmn_heap.specs.Sound.{Forest, bare, mem, flat, Forms}
 use Rattle.lmn_io.specs.Gathering.{Output, Adds}
 use Rattle.lmn_printer.specs.Rows.{in_row, any_behind}
@@ -13,9 +13,17 @@ pub record Texts : Type 0 where
   pub atoms : ℕ → List (List ℕ)
   pub rules : ℕ → List (List ℕ)
 
+-- those of a heap, where the texts of atoms are given
+abbrev pub texts_with : (ℕ → List (List ℕ)) → List Name → List RuleTree → Heap → Texts
+texts_with atoms names table s = record { atoms = atoms; rules = rule_texts names table s }
+
+-- the texts that are given for each membrane of a heap are some of those that `Are` tells for it
+abbrev pub AreTexts : Heap → (ℕ → List (List ℕ) → Type 0) → (ℕ → List (List ℕ)) → Type 0
+AreTexts s Are atoms = (m : ℕ) → IsMem s m → Are m (atoms m)
+
 -- those of a heap whose marks tell the numbers of links
 abbrev pub texts_in : List Name → List RuleTree → Heap → Texts
-texts_in names table s = record { atoms = atom_texts names s; rules = rule_texts names table s }
+texts_in names table s = texts_with (atom_texts names s) names table s
 
 -- whether a membrane has an atom, and whether it has an atom or a membrane
 abbrev pub has_atoms : Texts → ℕ → Bool

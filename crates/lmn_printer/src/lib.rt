@@ -15,14 +15,16 @@ mod stored;
 #[cfg(test)]
 mod tests;
 mod walk;
+mod writer;
 
 pub use examples::{both_ports_tell, one_port_tells_nothing};
 pub use labels::{add_label, add_link, name_of};
 pub use laws::{heap_solids_are_solids, heaps_have_solids, one_solid};
 pub use leaves::add_between;
-pub use line::write_line;
+pub use line::{write_line, write_line_with};
 pub use numbers::number_port;
 pub use order::{first_printed, next_mem_printed, next_printed};
 pub use printing::print;
 pub use rules::add_rule;
 pub use stored::add_rules;
+pub use writer::AtomWriter;

@@ -1,12 +1,13 @@
 //! The walk over the membranes of a store that writes them. It takes no memory, and no more stack for a deeper store.
-ghost use Rattle.std.specs.Prelude.{◌≡◌, ◌<◌, ◌≤◌, ℕ, Bool, MatchOption, IsTrue};
+ghost use Rattle.std.specs.Prelude.{◌≡◌, ◌<◌, ◌≤◌, ℕ, Bool, List, MatchOption, IsTrue};
 ghost use Rattle.lmn_heap.specs.Heap.{IsMem};
 ghost use Rattle.lmn_heap.specs.Sound.{Forest, IsTree};
 ghost use Rattle.lmn_io.specs.Gathering.{Adds, output};
-ghost use Rattle.lmn_printer.specs.Walks.{GoesOn, Leaving, Position, Way, ahead, between, from_membranes, from_rules, left_behind, levels, texts_in, tree_text};
+ghost use Rattle.lmn_printer.specs.Walks.{AreTexts, GoesOn, Leaving, Position, Way, ahead, between, from_membranes, from_rules, left_behind, levels, texts_with, tree_text};
 
 use crate::leaves::add_between;
-use crate::stored::{add_atoms, add_rules};
+use crate::stored::add_rules;
+use crate::writer::AtomWriter;
 use lmn_base::{Names, RuleTree};
 use lmn_io::{LineBuffer, Sink};
 use lmn_store::LinkStore;
@@ -25,17 +26,20 @@ fn between(depth: u64) -> &'static [u8]
     if depth == 0 { b". " } else { b", " }
 }
 
-/// Adds the items of the root, with a full stop and a space between two of them. The marks of ports tell the numbers of
-/// links.
-pub(crate) fn add_tree<S: LinkStore, O: Sink>(
+/// Adds the items of the root, with a full stop and a space between two of them, where the writer writes the atoms of each
+/// membrane.
+pub(crate) fn add_tree<S: LinkStore, O: Sink, W: AtomWriter<S, O>>(
+    writer: &W,
     buffer: &mut LineBuffer,
     out: &mut O,
     names: &Names,
     table: &[RuleTree],
     store: &S,
 )
-    requires { (f : Forest) × IsTree (S.heap store.now) f }
-    ensures { (f : Forest) → IsTree (S.heap store.now) f → Adds (tree_text (texts_in names.now table.now (S.heap store.now)) f) (output buffer.old (O.told out.old) (O.faults out.old)) (output buffer.new (O.told out.new) (O.faults out.new)) }
+    requires tree { (f : Forest) × IsTree (S.heap store.now) f }
+    requires texts { (atoms : ℕ → List (List ℕ)) × AreTexts (S.heap store.now) (W.are_texts names.now (S.heap store.now)) atoms }
+    ensures { (f : Forest) → IsTree (S.heap store.now) f → (atoms : ℕ → List (List ℕ)) → AreTexts (S.heap store.now) (W.are_texts names.now (S.heap store.now)) atoms →
+        Adds (tree_text (texts_with atoms names.now table.now (S.heap store.now)) f) (output buffer.old (O.told out.old) (O.faults out.old)) (output buffer.new (O.told out.new) (O.faults out.new)) }
 {
     let root = store.root();
     let mut at = Stand {
@@ -44,8 +48,8 @@ pub(crate) fn add_tree<S: LinkStore, O: Sink>(
     };
     let mut entered: u64 = 1;
     loop {
-        add_atoms(buffer, out, names, store, at.mem, between(at.depth));
-        match go_on(buffer, out, names, table, store, at) {
+        writer.add_atoms(buffer, out, names, store, at.mem, between(at.depth));
+        match go_on(writer, buffer, out, names, table, store, at) {
             Some(next) => at = next,
             None => return,
         }
@@ -54,7 +58,8 @@ pub(crate) fn add_tree<S: LinkStore, O: Sink>(
 }
 
 /// Goes from behind the atoms of a membrane to the beginning of the next membrane, and nowhere behind the last.
-fn go_on<S: LinkStore, O: Sink>(
+fn go_on<S: LinkStore, O: Sink, W: AtomWriter<S, O>>(
+    writer: &W,
     buffer: &mut LineBuffer,
     out: &mut O,
     names: &Names,
@@ -63,13 +68,14 @@ fn go_on<S: LinkStore, O: Sink>(
     at: Stand<S::Mem>,
 ) -> Option<Stand<S::Mem>>
     requires { Position (S.heap store.now) (S.mem_id at.mem) at.depth }
-    ensures { let t = texts_in names.now table.now (S.heap store.now) in
+    ensures { (atoms : ℕ → List (List ℕ)) → AreTexts (S.heap store.now) (W.are_texts names.now (S.heap store.now)) atoms →
+        let t = texts_with atoms names.now table.now (S.heap store.now) in
         (p : Position (S.heap store.now) (S.mem_id at.mem) at.depth) → MatchOption result
         (Adds (from_membranes t p) (output buffer.old (O.told out.old) (O.faults out.old)) (output buffer.new (O.told out.new) (O.faults out.new)))
         (λ next. GoesOn t (S.heap store.now) (from_membranes t p) (ahead p) (S.mem_id next.mem) next.depth (output buffer.old (O.told out.old) (O.faults out.old)) (output buffer.new (O.told out.new) (O.faults out.new))) }
 {
     let _root = store.root();
-    let any = store.atoms(at.mem) > 0;
+    let any = writer.has_atoms(store, at.mem);
     match store.first_mem(at.mem) {
         Some(inner) => {
             add_between(buffer, out, any, between(at.depth));
@@ -94,7 +100,7 @@ fn leave<S: LinkStore, O: Sink>(
     before: bool,
 ) -> Option<Stand<S::Mem>>
     requires { Leaving (S.heap store.now) (S.mem_id from.mem) from.depth }
-    ensures { let t = texts_in names.now table.now (S.heap store.now) in
+    ensures { (atoms : ℕ → List (List ℕ)) → let t = texts_with atoms names.now table.now (S.heap store.now) in
         (p : Leaving (S.heap store.now) (S.mem_id from.mem) from.depth) → MatchOption result
         (Adds (from_rules t before p) (output buffer.old (O.told out.old) (O.faults out.old)) (output buffer.new (O.told out.new) (O.faults out.new)))
         (λ next. GoesOn t (S.heap store.now) (from_rules t before p) (left_behind p) (S.mem_id next.mem) next.depth (output buffer.old (O.told out.old) (O.faults out.old)) (output buffer.new (O.told out.new) (O.faults out.new))) }

@@ -4,7 +4,7 @@ use Rattle.lmn_printer.proofs.KeptLemmas.{valid_same}
 use Rattle.lmn_printer.proofs.MarkLemmas.{arity_same, atom_same, atom_before, link_same, remarks_none, remarks_more}
 use Rattle.lmn_folding.specs.Marks.{arguments}
 use Rattle.lmn_folding.proofs.FewTurns.{few_turns}
-use Rattle.lmn_folding.proofs.NumberedWalks.{item_same, arguments_same, term_same, numbers_first, numbers_link, numbers_term, numbers_end, numbers_all, numbers_room}
+use Rattle.lmn_folding.proofs.NumberedWalks.{item_same, arguments_same, term_same, numbers_first, numbers_link, numbers_term, numbers_end, numbers_all, numbers_room, numbers_turns}
 use Rattle.lmn_folding.proofs.WalkLemmas.{arguments_low, term_ends}
 use Rattle.lmn_folding.proofs.numbers.number_item.Goals as goal
 
@@ -43,8 +43,10 @@ number_port-numbered-requires-clause-port g c =
 
 pub number_port-numbered-requires-clause-count : goal.number_port-numbered-requires-clause-count
 number_port-numbered-requires-clause-count g c =
-    let room = (numbers_room (g.S.LinkStore.heap c.args.store.now) (g.S.LinkStore.atom_id c.args.item) c.args.count (g.S.LinkStore.heap c.loop-at.store) (g.S.LinkStore.atom_id c.loop-at.at.atom) c.loop-at.at.port c.loop-at.numbered c.loop-at.turns
-    c.loop-at.invariant.walk c.requires.walk.0 c.requires.walk.1).0 in
+    let small : c.loop-at.at.port < 255 = omega arith in
+    let room =
+    numbers_room (g.S.LinkStore.heap c.args.store.now) (g.S.LinkStore.atom_id c.args.item) c.args.count (g.S.LinkStore.heap c.loop-at.store) (g.S.LinkStore.atom_id c.loop-at.at.atom) c.loop-at.at.port c.loop-at.numbered c.loop-at.turns
+    c.loop-at.invariant.walk small c.requires.walk.0 c.requires.walk.1 in
     let most = c.requires.walk.2 in
     omega (arith, room, most)
 
@@ -74,9 +76,9 @@ loop-at-preserved-in-Some g c =
     let at = g.S.LinkStore.atom_id c.loop-at.at.atom in
     let r = c.loop-at.invariant.marks in
     let low = subst (λ n. c.loop-at.at.port < n) (c.arguments.ensures ∙ arguments_same s t r at) c.if-at-arguments.true in
-    let walk = numbers_term s item c.args.count t at c.loop-at.at.port (g.S.LinkStore.atom_id c.in-Some.term) c.loop-at.numbered c.loop-at.turns c.loop-at.invariant.walk low (sym (term_same s t r at c.loop-at.at.port) ∙ sym c.in-Some.ensures.term) in
+    let walk = numbers_term s item c.args.count t at c.loop-at.at.port (g.S.LinkStore.atom_id c.in-Some.term) c.loop-at.numbered c.loop-at.turns c.loop-at.invariant.walk c.loop-at.invariant.low low (sym (term_same s t r at c.loop-at.at.port) ∙ sym c.in-Some.ensures.term) in
     let most = few_turns s c.requires.valid.sound.paired c.root-root.ensures.few item 0 c.requires.walk.0 c.requires.atom c.requires.walk.1 in
-    let room = (numbers_room s item c.args.count t (g.S.LinkStore.atom_id c.in-Some.term) 0 c.loop-at.numbered (c.loop-at.turns + 1) walk c.requires.walk.0 c.requires.walk.1).1 in
+    let room = numbers_turns s item c.args.count t (g.S.LinkStore.atom_id c.in-Some.term) 0 c.loop-at.numbered (c.loop-at.turns + 1) walk c.requires.walk.0 c.requires.walk.1 in
     record { atom = atom_before s t r (g.S.LinkStore.atom_id c.in-Some.term) c.in-Some.ensures.atom; marks = r; walk = walk; few = omega (arith, most, room); low = omega arith }
 
 pub loop-at-preserved-in-None : goal.loop-at-preserved-in-None
@@ -106,10 +108,10 @@ loop-at-preserved g c =
     let r = c.loop-at.invariant.marks in
     let b = c.behind_term-at.ensures.port in
     let high = subst (λ n. n ≤ c.loop-at.at.port) (c.arguments.ensures ∙ arguments_same s t r at) c.if-at-arguments.false in
-    let walk = numbers_end s item c.args.count t at c.loop-at.at.port p b.0 c.behind_term-at.result.port c.loop-at.numbered c.loop-at.turns c.loop-at.invariant.walk high
+    let walk = numbers_end s item c.args.count t at c.loop-at.at.port p b.0 c.behind_term-at.result.port c.loop-at.numbered c.loop-at.turns c.loop-at.invariant.walk c.loop-at.invariant.low high
     (sym (item_same s t r at) ∙ sym c.is_item.ensures ∙ c.if-is_item.false) b.1 (sym (link_same s t r at (arity_of s at - 1)) ∙ ap (λ k. link_of t at (k - 1)) (sym (arity_same s t r at)) ∙ b.2) in
     let most = few_turns s c.requires.valid.sound.paired c.root-root.ensures.few item 0 c.requires.walk.0 c.requires.atom c.requires.walk.1 in
-    let room = (numbers_room s item c.args.count t p c.behind_term-at.result.port c.loop-at.numbered (c.loop-at.turns + 1) walk c.requires.walk.0 c.requires.walk.1).1 in
+    let room = numbers_turns s item c.args.count t p c.behind_term-at.result.port c.loop-at.numbered (c.loop-at.turns + 1) walk c.requires.walk.0 c.requires.walk.1 in
     record { atom = atom_before s t r p c.behind_term-at.ensures.atom; marks = r; walk = walk; few = omega (arith, most, room); low = c.behind_term-at.ensures.small }
 
 pub returns-then-is_item-clause-marks : goal.returns-then-is_item-clause-marks
@@ -121,7 +123,7 @@ returns-then-is_item-clause-numbers g c = λ es w.
     let t = g.S.LinkStore.heap c.loop-at.store in
     let at = g.S.LinkStore.atom_id c.loop-at.at.atom in
     let r = c.loop-at.invariant.marks in
-    (numbers_all s (g.S.LinkStore.atom_id c.args.item) c.args.count t at c.loop-at.at.port c.loop-at.numbered c.loop-at.turns c.loop-at.invariant.walk
+    (numbers_all s (g.S.LinkStore.atom_id c.args.item) c.args.count t at c.loop-at.at.port c.loop-at.numbered c.loop-at.turns c.loop-at.invariant.walk c.loop-at.invariant.low
     (subst (λ n. n ≤ c.loop-at.at.port) (c.arguments.ensures ∙ arguments_same s t r at) c.if-at-arguments.false) (sym (item_same s t r at) ∙ sym c.is_item.ensures ∙ c.if-is_item.true) es w).0
 
 pub returns-then-is_item-clause-few : goal.returns-then-is_item-clause-few
@@ -130,5 +132,5 @@ returns-then-is_item-clause-few g c = λ es w.
     let t = g.S.LinkStore.heap c.loop-at.store in
     let at = g.S.LinkStore.atom_id c.loop-at.at.atom in
     let r = c.loop-at.invariant.marks in
-    (numbers_all s (g.S.LinkStore.atom_id c.args.item) c.args.count t at c.loop-at.at.port c.loop-at.numbered c.loop-at.turns c.loop-at.invariant.walk
+    (numbers_all s (g.S.LinkStore.atom_id c.args.item) c.args.count t at c.loop-at.at.port c.loop-at.numbered c.loop-at.turns c.loop-at.invariant.walk c.loop-at.invariant.low
     (subst (λ n. n ≤ c.loop-at.at.port) (c.arguments.ensures ∙ arguments_same s t r at) c.if-at-arguments.false) (sym (item_same s t r at) ∙ sym c.is_item.ensures ∙ c.if-is_item.true) es w).1

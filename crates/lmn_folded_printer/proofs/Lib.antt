@@ -1,0 +1,15 @@
+mod ItemLemmas
+mod ClearedMarks
+mod WalkedLinks
+mod RenamedForests
+mod FirstNumbers
+mod FewItemTurns
+mod ItemsOnce
+mod ItemsLeft
+mod ItemRows
+mod OneText
+mod FoldedText
+mod ChosenForms
+mod MarkedSolids
+mod PrintLemmas
+mod HeapLines

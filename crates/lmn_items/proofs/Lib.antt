@@ -1,0 +1,16 @@
+pub mod Positions
+pub mod TwoPlaces
+pub mod AtomsOfPositions
+pub mod ChildPositions
+pub mod ItemsByMarks
+pub mod Told
+pub mod MarkedExampleProofs
+pub mod ToldExampleProofs
+pub mod OwnMarks
+pub mod Orders
+pub mod ChildLemmas
+pub mod ItemWalks
+pub mod BelowLemmas
+pub mod FirstLemmas
+pub mod PassLemmas
+pub mod PassEnds
