@@ -1,7 +1,7 @@
 -- What matches ask for.
 use Rattle.std.specs.declared.string.String.{String}
 use Rattle.std.specs.declared.alloc.Global.{Global}
-use Rattle.std.proofs.Common.{IfSome, IsSome, ◌≡◌, ◌∙◌, refl, sym, ap, subst, Bool, true, false, List, Option, Some, None, length, option_map, codes, arith}
+use Rattle.std.proofs.Common.{IfSome, IsSome, ◌≡◌, ◌∙◌, refl, sym, ap, subst, ℕ, Bool, true, false, List, Option, Some, None, length, option_map, option_and_then, codes, arith}
 use Rattle.std.specs.Prelude.{Box}
 use Rattle.std.specs.Box.{box_value}
 use Rattle.std.proofs.lemmas.Option.{none-some, same_Some}
@@ -13,7 +13,8 @@ use Rattle.clap.specs.declared.parser.matches.SubCommand.{SubCommand}
 use Rattle.clap.specs.declared.parser.matches.ArgMatches.TheViews.{out-SubCommand}
 use Rattle.lmn_words.specs.declared.command.RunWords.{RunWords}
 use Rattle.lmn_words.specs.declared.command.Command.{Command}
-use Rattle.lmn_words.specs.Forms.{Asks, InForm, IsForm, IsInRanges, Request, Run, TextsAsk, Word, ordered_by, request_of, run_of, texts_of, to_compile, to_run}
+use Rattle.lmn_words.specs.Forms.{Asks, InForm, IsForm, IsInRanges, Request, Run, TextsAsk, Word, ordered_by, request_of, run_of, texts_of, to_compile, to_demo, to_run}
+use Rattle.lmn_words.specs.Hearing.{number_of}
 use Rattle.lmn_words.specs.Parsing.{IsFound, Tells, number_given, order_given, whole_line}
 use Rattle.lmn_words.proofs.ReadLemmas.{form_reads, in_ranges, request_told}
 use Rattle.lmn_words.proofs.ParseLemmas.{asked_taken}
@@ -41,32 +42,41 @@ module _ {Z : Type 0} where
       → Some rows ≡ option_map (λ p. p.1) (subcommand_rows o) → IsFound (subcommand_rows o) r → IsFound (Some (n, rows)) r
   found_so o n rows r e f h = subst (λ x. IsFound x r) (found_is o n rows e f) h
 
-not_run : codes "compile" ≡ codes "run" → ⊥
-not_run e = let l = ap length e in omega (arith, l)
+other_length : (a b : Text) → a ≡ b → (length a ≡ length b → ⊥) → ⊥
+other_length a b e differs = differs (ap length e)
 
 -- the file of `compile`
 pub compile_found : (n : Text) (rows : List Row) (r : Request) (o : Option Text) → n ≡ codes "compile" → o ≡ first_of (codes "file") rows → IsFound (Some (n, rows)) r
     → option_map to_compile o ≡ Some r
-compile_found n rows (to_run run) o is e h = absurd (not_run (sym is ∙ h.0))
+compile_found n rows (to_run run) o is e h = absurd (other_length (codes "compile") (codes "run") (sym is ∙ h.0) (λ l. omega (arith, l)))
+compile_found n rows (to_demo k) o is e h = absurd (other_length (codes "compile") (codes "demo") (sym is ∙ h.0) (λ l. omega (arith, l)))
 compile_found n rows (to_compile file) o is e h = ap (option_map to_compile) (e ∙ h.1)
 
-flag_is : (rows : List Row) (a b : Bool) → (one_of (codes "trace") rows ≡ Some (codes "true") → a ≡ true) → (one_of (codes "trace") rows ≡ Some (codes "false") → a ≡ false)
-    → one_of (codes "trace") rows ≡ Some (bool_text b) → a ≡ b
-flag_is rows a true given missing e = given e
-flag_is rows a false given missing e = missing e
+-- the number of `demo`
+pub demo_found : (n : Text) (rows : List Row) (r : Request) (o : Option ℕ) → n ≡ codes "demo" → o ≡ option_and_then number_of (first_of (codes "number") rows) → IsFound (Some (n, rows)) r
+    → option_map to_demo o ≡ Some r
+demo_found n rows (to_run run) o is e h = absurd (other_length (codes "demo") (codes "run") (sym is ∙ h.0) (λ l. omega (arith, l)))
+demo_found n rows (to_compile file) o is e h = absurd (other_length (codes "demo") (codes "compile") (sym is ∙ h.0) (λ l. omega (arith, l)))
+demo_found n rows (to_demo k) o is e h = ap (option_map to_demo) (e ∙ h.1)
+
+flag_is : (o : Option Text) (a b : Bool) → (o ≡ Some (codes "true") → a ≡ true) → (o ≡ Some (codes "false") → a ≡ false) → o ≡ Some (bool_text b) → a ≡ b
+flag_is o a true given missing e = given e
+flag_is o a false given missing e = missing e
 
 -- the parts of a run
 pub run_found : (rows : List Row) (w : RunWords) (run : Run) → Some w.file.now ≡ first_of (codes "file") rows
     → (one_of (codes "trace") rows ≡ Some (codes "true") → w.trace ≡ true) → (one_of (codes "trace") rows ≡ Some (codes "false") → w.trace ≡ false)
+    → (one_of (codes "folded") rows ≡ Some (codes "true") → w.folded ≡ true) → (one_of (codes "folded") rows ≡ Some (codes "false") → w.folded ≡ false)
     → w.budget ≡ number_given rows (codes "budget") 1000000 → w.size ≡ number_given rows (codes "size") 16777216
     → w.order ≡ ordered_by (order_given rows) (number_given rows (codes "seed") 0) → Tells rows run → run_of w ≡ run
-run_found rows w run file given missing budget size order t =
+run_found rows w run file given missing folds plain budget size order t =
     let file_is = same_Some w.file.now run.file (file ∙ t.file) in
-    let trace_is = flag_is rows w.trace run.trace given missing t.trace in
+    let trace_is = flag_is (one_of (codes "trace") rows) w.trace run.trace given missing t.trace in
+    let folded_is = flag_is (one_of (codes "folded") rows) w.folded run.folded folds plain t.folded in
     let budget_is = budget ∙ t.budget in
     let size_is = size ∙ t.size in
     let order_is = order ∙ t.order in
-    λ i. record { file = file_is i; trace = trace_is i; budget = budget_is i; size = size_is i; order = order_is i }
+    λ i. record { file = file_is i; trace = trace_is i; folded = folded_is i; budget = budget_is i; size = size_is i; order = order_is i }
 
 -- ---- commands
 

@@ -5,3 +5,4 @@ pub mod WalkLemmas
 pub mod ParseLemmas
 pub mod LineLemmas
 pub mod FoundLemmas
+pub mod Examples

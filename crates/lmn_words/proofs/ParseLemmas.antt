@@ -19,16 +19,18 @@ use Rattle.clap.proofs.OnLiterals.{clap_on_literals}
 use Rattle.lmn_words.specs.declared.setting.Setting.{Setting}
 use Rattle.lmn_words.specs.declared.setting.Setting.TheVariants as set
 use Rattle.lmn_words.specs.declared.setting.Settings.{Settings}
+use Rattle.lmn_words.specs.declared.setting.Flag.{Flag}
+use Rattle.lmn_words.specs.declared.setting.Flag.TheVariants as flag
 use Rattle.lmn_words.specs.declared.setting.Valued.{Valued}
 use Rattle.lmn_words.specs.declared.setting.Valued.TheVariants as valued
 use Rattle.lmn_words.specs.declared.setting.OrderName.TheVariants as name
-use Rattle.lmn_words.specs.Forms.{Word, IsFileName, IsNumber, Sets, Spells, nothing, a_file, a_trace, two_words, one_word, ordered_by, Run, Request, to_run, to_compile, AsksRun, TextsAsk, budget_of, size_of, order_name_of, seed_of}
+use Rattle.lmn_words.specs.Forms.{Word, IsFileName, IsNumber, Sets, Spells, nothing, a_file, a_flag, two_words, one_word, ordered_by, Run, Request, to_run, to_compile, to_demo, AsksRun, TextsAsk, budget_of, size_of, order_name_of, seed_of}
 use Rattle.lmn_words.specs.Hearing.{no_settings, number_of, order_named, with_setting}
-use Rattle.lmn_words.specs.Parsing.{IsFound, Tells, compile_line, whole_line}
+use Rattle.lmn_words.specs.Parsing.{IsFound, Tells, compile_line, demo_line, whole_line}
 use Rattle.lmn_words.proofs.WordLemmas.{and_true, bool_cases, if_some, not_same, number_read, option_word, order_read}
-use Rattle.lmn_words.proofs.SettingLemmas.{all_read, firsts, firsts_collected, front_empty, is_none, list_option, only_value, settings_all, trace_value}
+use Rattle.lmn_words.proofs.SettingLemmas.{all_read, firsts, firsts_collected, front_empty, is_none, list_option, only_value, settings_all, trace_value, folded_value}
 use Rattle.lmn_words.proofs.ReadLemmas.{each_once}
-use Rattle.lmn_words.proofs.WalkLemmas.{Stands, after_met, and_first_true, at_new_row, between, both_passes, both_walked, built_line, file_passes, file_walked, given, held, name_passes, name_walked, named, option_id, passes, plain_met, plain_passes, run_rules, run_shape, stands_done, stands_file, stands_option, step_of_met, trace_passes, trace_walked, used_new, used_once, value_walked, value_word_passes}
+use Rattle.lmn_words.proofs.WalkLemmas.{Stands, after_met, and_first_true, at_new_row, between, both_passes, both_walked, built_line, file_passes, file_walked, flag_id, flag_passes, flag_walked, given, held, name_passes, name_walked, named, option_id, passes, plain_met, plain_passes, run_rules, run_shape, stands_done, stands_file, stands_option, step_of_met, used_new, used_once, value_walked, value_word_passes}
 
 -- ---- what rows tell
 
@@ -76,23 +78,29 @@ Reads g o a = (option_and_then g o ≡ a) × (is_some o ≡ is_some a)
 record Means (t : Text → Option Text) (f : Option Word) (s : Settings) : Type 0 where
   pub file : t (codes "file") ≡ f
   pub trace : t (codes "trace") ≡ (if s.trace then Some (codes "true") else None)
+  pub folded : t (codes "folded") ≡ (if s.folded then Some (codes "true") else None)
   pub budget : Reads number_of (t (codes "budget")) s.budget
   pub size : Reads number_of (t (codes "size")) s.size
   pub order : Reads order_named (t (codes "order")) s.order
   pub seed : Reads number_of (t (codes "seed")) s.seed
 
 means_nothing : Means (λ _. None) None no_settings
-means_nothing = record { file = refl; trace = refl; budget = (refl, refl); size = (refl, refl); order = (refl, refl); seed = (refl, refl) }
+means_nothing = record { file = refl; trace = refl; folded = refl; budget = (refl, refl); size = (refl, refl); order = (refl, refl); seed = (refl, refl) }
 
 means_file : (t : Text → Option Text) (file : Word) (s : Settings) → Means t None s → Means (put t (codes "file") file) (Some file) s
-means_file t file s m = record { file = refl; trace = m.trace; budget = m.budget; size = m.size; order = m.order; seed = m.seed }
+means_file t file s m = record { file = refl; trace = m.trace; folded = m.folded; budget = m.budget; size = m.size; order = m.order; seed = m.seed }
 
-means_trace : (t : Text → Option Text) (file : Option Word) (s r : Settings) → with_setting s set.Trace ≡ Some r → Means t file s
-    → (t (codes "trace") ≡ None) × Means (put t (codes "trace") (codes "true")) file r
-means_trace t file s r e m = if_some s.trace None (Some (record s { trace = true })) r e (λ is bad. absurd (none-some r bad)) (λ free same. (
+means_flag : (f : Flag) (t : Text → Option Text) (file : Option Word) (s r : Settings) → with_setting s (set.Flag f) ≡ Some r → Means t file s
+    → (t (flag_id f) ≡ None) × Means (put t (flag_id f) (codes "true")) file r
+means_flag flag.Trace t file s r e m = if_some s.trace None (Some (record s { trace = true })) r e (λ is bad. absurd (none-some r bad)) (λ free same. (
   m.trace ∙ ap (λ b. if b then Some (codes "true") else None) free,
   subst (Means (put t (codes "trace") (codes "true")) file) (same_Some (record s { trace = true }) r same)
-      (record { file = m.file; trace = refl; budget = m.budget; size = m.size; order = m.order; seed = m.seed }),
+      (record { file = m.file; trace = refl; folded = m.folded; budget = m.budget; size = m.size; order = m.order; seed = m.seed }),
+))
+means_flag flag.Folded t file s r e m = if_some s.folded None (Some (record s { folded = true })) r e (λ is bad. absurd (none-some r bad)) (λ free same. (
+  m.folded ∙ ap (λ b. if b then Some (codes "true") else None) free,
+  subst (Means (put t (codes "folded") (codes "true")) file) (same_Some (record s { folded = true }) r same)
+      (record { file = m.file; trace = m.trace; folded = refl; budget = m.budget; size = m.size; order = m.order; seed = m.seed }),
 ))
 
 number_is : (least most : ℕ) (w : Word) (n : ℕ) → IsNumber least most w n → number_of w ≡ Some n
@@ -104,7 +112,7 @@ SetsOnce o v x = (t : Text → Option Text) (file : Option Word) (s r : Settings
     → (t (option_id o) ≡ None) × Means (put t (option_id o) v) file r
 
 option_met : (option v : Word) (x : Setting) → Sets option v x → (o : Valued) × (option ≡ option_word o) × SetsOnce o v x
-option_met option v set.Trace h = absurd h
+option_met option v (set.Flag f) h = absurd h
 option_met option v (set.Budget n) h = (
   valued.Budget,
   h.0,
@@ -112,7 +120,7 @@ option_met option v (set.Budget n) h = (
       if_some (is_some s.budget) None (Some (record s { budget = Some n })) r e (λ is bad. absurd (none-some r bad)) (λ free same. (
         is_none (t (codes "budget")) (m.budget.1 ∙ free),
         subst (Means (put t (codes "budget") v) file) (same_Some (record s { budget = Some n }) r same)
-            (record { file = m.file; trace = m.trace; budget = (number_is 0 9223372036854775807 v n h.1, refl); size = m.size; order = m.order; seed = m.seed }),
+            (record { file = m.file; trace = m.trace; folded = m.folded; budget = (number_is 0 9223372036854775807 v n h.1, refl); size = m.size; order = m.order; seed = m.seed }),
       )),
 )
 option_met option v (set.Size n) h = (
@@ -122,7 +130,7 @@ option_met option v (set.Size n) h = (
       if_some (is_some s.size) None (Some (record s { size = Some n })) r e (λ is bad. absurd (none-some r bad)) (λ free same. (
         is_none (t (codes "size")) (m.size.1 ∙ free),
         subst (Means (put t (codes "size") v) file) (same_Some (record s { size = Some n }) r same)
-            (record { file = m.file; trace = m.trace; budget = m.budget; size = (number_is 1 4294967295 v n h.1, refl); order = m.order; seed = m.seed }),
+            (record { file = m.file; trace = m.trace; folded = m.folded; budget = m.budget; size = (number_is 1 4294967295 v n h.1, refl); order = m.order; seed = m.seed }),
       )),
 )
 option_met option v (set.Order kind) h = (
@@ -132,7 +140,7 @@ option_met option v (set.Order kind) h = (
       if_some (is_some s.order) None (Some (record s { order = Some kind })) r e (λ is bad. absurd (none-some r bad)) (λ free same. (
         is_none (t (codes "order")) (m.order.1 ∙ free),
         subst (Means (put t (codes "order") v) file) (same_Some (record s { order = Some kind }) r same)
-            (record { file = m.file; trace = m.trace; budget = m.budget; size = m.size; order = (ap order_named h.1 ∙ order_read kind, refl); seed = m.seed }),
+            (record { file = m.file; trace = m.trace; folded = m.folded; budget = m.budget; size = m.size; order = (ap order_named h.1 ∙ order_read kind, refl); seed = m.seed }),
       )),
 )
 option_met option v (set.Seed n) h = (
@@ -142,7 +150,7 @@ option_met option v (set.Seed n) h = (
       if_some (is_some s.seed) None (Some (record s { seed = Some n })) r e (λ is bad. absurd (none-some r bad)) (λ free same. (
         is_none (t (codes "seed")) (m.seed.1 ∙ free),
         subst (Means (put t (codes "seed") v) file) (same_Some (record s { seed = Some n }) r same)
-            (record { file = m.file; trace = m.trace; budget = m.budget; size = m.size; order = m.order; seed = (number_is 0 9223372036854775807 v n h.1, refl) }),
+            (record { file = m.file; trace = m.trace; folded = m.folded; budget = m.budget; size = m.size; order = m.order; seed = (number_is 0 9223372036854775807 v n h.1, refl) }),
       )),
 )
 
@@ -152,7 +160,7 @@ numeral_plain [] h = absurd (omega (arith, h.0))
 numeral_plain (b ∷ w) h = λ e. let r = digit_from_value b h.1.0 in omega (arith, e, r.0)
 
 value_plain : (option v : Word) (x : Setting) → Sets option v x → IsFileName v
-value_plain option v set.Trace h = absurd h
+value_plain option v (set.Flag f) h = absurd h
 value_plain option v (set.Budget n) h = numeral_plain v h.1.0
 value_plain option v (set.Size n) h = numeral_plain v h.1.0
 value_plain option v (set.Order name.First) h = subst IsFileName (sym h.1) (λ e. omega (arith, e))
@@ -242,18 +250,18 @@ all_walked (a_file {file = w} {words = words} {files = files} plain more) f g s 
     (all_walked more (Some w) g s u (Some (codes "file", w ∷ [])) rows (rows ++ (given (codes "file") w ∷ [])) (put t (codes "file") w)
     (stands_file w rows fresh) (looks_more rows t (codes "file") w looks none) (means_file t w s (subst (λ o. Means t o s) free means))
     (ap (λ o. option_to_list o ++ (w ∷ files)) (sym free) ∙ e) k)
-all_walked (a_trace {option = w} {words = words} {settings = settings} is more) f g s u p before rows t stands looks means e k =
-    option_and_then_some (λ r. settings_all r settings) (with_setting s set.Trace) u k (λ r isset rest.
-    let m = means_trace t f s r isset means in
-    let fresh = no_row rows t (codes "trace") looks m.0 in
-    let after = rows ++ (given (codes "trace") (codes "true") ∷ []) in
+all_walked (a_flag {option = w} x {words = words} {settings = settings} is more) f g s u p before rows t stands looks means e k =
+    option_and_then_some (λ r. settings_all r settings) (with_setting s (set.Flag x)) u k (λ r isset rest.
+    let m = means_flag x t f s r isset means in
+    let fresh = no_row rows t (flag_id x) looks m.0 in
+    let after = rows ++ (given (flag_id x) (codes "true") ∷ []) in
     reaches_on (between p before (position_of f)) (between None after (position_of f)) w words g u
-    (ap (walked run_rules [] (between p before (position_of f))) is ∙ trace_walked p before (position_of f)
-    ∙ ap (λ rs. between None (used_once (codes "trace") (codes "true") rs) (position_of f)) stands.settled
-    ∙ ap (λ rs. between None rs (position_of f)) (used_new (codes "trace") (codes "true") rows fresh))
-    (ap (passes (between p before (position_of f))) is ∙ trace_passes p before (position_of f) stands.settle (ap (has_row (codes "trace")) stands.settled ∙ fresh))
-    (all_walked more f g r u None after after (put t (codes "trace") (codes "true")) (stands_done after)
-    (looks_more rows t (codes "trace") (codes "true") looks m.0) m.1 e rest))
+    (ap (walked run_rules [] (between p before (position_of f))) is ∙ flag_walked x p before (position_of f)
+    ∙ ap (λ rs. between None (used_once (flag_id x) (codes "true") rs) (position_of f)) stands.settled
+    ∙ ap (λ rs. between None rs (position_of f)) (used_new (flag_id x) (codes "true") rows fresh))
+    (ap (passes (between p before (position_of f))) is ∙ flag_passes x p before (position_of f) stands.settle (ap (has_row (flag_id x)) stands.settled ∙ fresh))
+    (all_walked more f g r u None after after (put t (flag_id x) (codes "true")) (stands_done after)
+    (looks_more rows t (flag_id x) (codes "true") looks m.0) m.1 e rest))
 all_walked (two_words {option = w} {value = v} {words = words} {setting = x} {settings = settings} sets more) f g s u p before rows t stands looks means e k =
     option_and_then_some (λ r. settings_all r settings) (with_setting s x) u k (λ r isset rest.
     let o = option_met w v x sets in
@@ -285,9 +293,13 @@ all_walked (one_word {word = w} option v {words = words} {setting = x} {settings
 
 -- ---- the end of the walk
 
--- the rows with the default of the flag that isn't given
-abbrev flagged : List Row → List Row
-flagged rows = if has_row (codes "trace") rows then rows else with_values (codes "trace") AsWritten DefaultValue (codes "false" ∷ []) rows
+-- the rows with the default of a flag that isn't given
+abbrev flagged : Text → List Row → List Row
+flagged id rows = if has_row id rows then rows else with_values id AsWritten DefaultValue (codes "false" ∷ []) rows
+
+-- the rows with the defaults of both flags
+abbrev with_flags : List Row → List Row
+with_flags rows = flagged (codes "folded") (flagged (codes "trace") rows)
 
 -- an option without a default changes nothing
 abbrev unchanged : Text → List Row → List Row
@@ -303,57 +315,74 @@ unchanged_is id rows = go (has_row id rows)
 four_unchanged : (a b c d : Text) (rows : List Row) → unchanged d (unchanged c (unchanged b (unchanged a rows))) ≡ rows
 four_unchanged a b c d rows = unchanged_is d (unchanged c (unchanged b (unchanged a rows))) ∙ unchanged_is c (unchanged b (unchanged a rows)) ∙ unchanged_is b (unchanged a rows) ∙ unchanged_is a rows
 
-defaults_are : (rows : List Row) → fold with_default rows run_rules ≡ flagged rows
-defaults_are rows = four_unchanged (codes "budget") (codes "size") (codes "order") (codes "seed") (flagged (unchanged (codes "file") rows)) ∙ ap flagged (unchanged_is (codes "file") rows)
+defaults_are : (rows : List Row) → fold with_default rows run_rules ≡ with_flags rows
+defaults_are rows = four_unchanged (codes "budget") (codes "size") (codes "order") (codes "seed") (with_flags (unchanged (codes "file") rows)) ∙ ap with_flags (unchanged_is (codes "file") rows)
 
-abbrev default_row : Row
-default_row = record { id = codes "trace"; values = codes "false" ∷ []; count = None; source = Some DefaultValue; reading = AsWritten }
+abbrev default_row : Text → Row
+default_row id = record { id = id; values = codes "false" ∷ []; count = None; source = Some DefaultValue; reading = AsWritten }
 
--- what the rows tell at the end, where the flag is given or not
-record Ends (b : Bool) (rows : List Row) : Type 0 where
-  pub flag : one_of (codes "trace") (flagged rows) ≡ Some (bool_text b)
-  pub others : (id : Text) → bytes_eq (codes "trace") id ≡ false → find (has_id id) (flagged rows) ≡ find (has_id id) rows
+-- what the rows tell at the end, where a flag is given or not
+record Ends (id : Text) (b : Bool) (rows : List Row) : Type 0 where
+  pub flag : one_of id (flagged id rows) ≡ Some (bool_text b)
+  pub others : (other : Text) → bytes_eq id other ≡ false → find (has_id other) (flagged id rows) ≡ find (has_id other) rows
 
-ends : (b : Bool) (rows : List Row) (t : Text → Option Text) → Looks rows t → t (codes "trace") ≡ (if b then Some (codes "true") else None) → Ends b rows
-ends true rows t looks e =
-    let found : find (has_id (codes "trace")) rows ≡ Some (given (codes "trace") (codes "true")) = looks (codes "trace") ∙ ap (option_map (given (codes "trace"))) e in
-    let there : has_row (codes "trace") rows ≡ true = has_row_find (codes "trace") rows ∙ ap is_some found in
-    let same : flagged rows ≡ rows = ap (λ b. if b then rows else with_values (codes "trace") AsWritten DefaultValue (codes "false" ∷ []) rows) there in
+ends : (id : Text) (b : Bool) (rows : List Row) → find (has_id id) rows ≡ option_map (given id) (if b then Some (codes "true") else None) → Ends id b rows
+ends id true rows found =
+    let there : has_row id rows ≡ true = has_row_find id rows ∙ ap is_some found in
+    let same : flagged id rows ≡ rows = ap (λ b. if b then rows else with_values id AsWritten DefaultValue (codes "false" ∷ []) rows) there in
     record {
-      flag = ap (one_of (codes "trace")) same ∙ ap (option_and_then row_text) found;
-      others = λ id other. ap (find (has_id id)) same;
+      flag = ap (one_of id) same ∙ ap (option_and_then row_text) found;
+      others = λ other no. ap (find (has_id other)) same;
     }
-ends false rows t looks e =
-    let none : find (has_id (codes "trace")) rows ≡ None = looks (codes "trace") ∙ ap (option_map (given (codes "trace"))) e in
-    let free : has_row (codes "trace") rows ≡ false = has_row_find (codes "trace") rows ∙ ap is_some none in
-    let same : flagged rows ≡ rows ++ (default_row ∷ []) =
-    ap (λ b. if b then rows else with_values (codes "trace") AsWritten DefaultValue (codes "false" ∷ []) rows) free
-    ∙ at_new_row (codes "trace") (more_values DefaultValue (codes "false" ∷ [])) (default_row ∷ []) rows free in
+ends id false rows none =
+    let free : has_row id rows ≡ false = has_row_find id rows ∙ ap is_some none in
+    let same : flagged id rows ≡ rows ++ (default_row id ∷ []) =
+    ap (λ b. if b then rows else with_values id AsWritten DefaultValue (codes "false" ∷ []) rows) free
+    ∙ at_new_row id (more_values DefaultValue (codes "false" ∷ [])) (default_row id ∷ []) rows free in
+    let mine : bytes_eq id id ≡ true = (bytes_eq-Decides id id).1 refl in
     record {
-      flag = ap (one_of (codes "trace")) same ∙ ap (option_and_then row_text) (find-append (has_id (codes "trace")) rows (default_row ∷ []) ∙ ap (λ o. option_or o (Some default_row)) none);
-      others = λ id other. ap (find (has_id id)) same ∙ find-append (has_id id) rows (default_row ∷ [])
-          ∙ ap (λ b. option_or (find (has_id id) rows) (cond b (Some default_row) None)) other ∙ or_none (find (has_id id) rows);
+      flag = ap (one_of id) same ∙ ap (option_and_then row_text) (find-append (has_id id) rows (default_row id ∷ [])
+          ∙ ap (λ b. option_or (find (has_id id) rows) (cond b (Some (default_row id)) None)) mine ∙ ap (λ o. option_or o (Some (default_row id))) none);
+      others = λ other no. ap (find (has_id other)) same ∙ find-append (has_id other) rows (default_row id ∷ [])
+          ∙ ap (λ b. option_or (find (has_id other) rows) (cond b (Some (default_row id)) None)) no ∙ or_none (find (has_id other) rows);
+    }
+
+-- what the rows tell at the end of both flags
+record BothEnd (s : Settings) (rows : List Row) : Type 0 where
+  pub trace : one_of (codes "trace") (with_flags rows) ≡ Some (bool_text s.trace)
+  pub folded : one_of (codes "folded") (with_flags rows) ≡ Some (bool_text s.folded)
+  pub others : (id : Text) → bytes_eq (codes "trace") id ≡ false → bytes_eq (codes "folded") id ≡ false → find (has_id id) (with_flags rows) ≡ find (has_id id) rows
+
+both_end : (f : Option Word) (s : Settings) (rows : List Row) (t : Text → Option Text) → Looks rows t → Means t f s → BothEnd s rows
+both_end f s rows t looks m =
+    let a = ends (codes "trace") s.trace rows (looks (codes "trace") ∙ ap (option_map (given (codes "trace"))) m.trace) in
+    let b = ends (codes "folded") s.folded (flagged (codes "trace") rows) (a.others (codes "folded") refl ∙ looks (codes "folded") ∙ ap (option_map (given (codes "folded"))) m.folded) in
+    record {
+      trace = ap (option_and_then row_text) (b.others (codes "trace") refl) ∙ a.flag;
+      folded = b.flag;
+      others = λ id first second. b.others id second ∙ a.others id first;
     }
 
 first_given : (id : Text) (o : Option Text) → option_and_then (λ (r : Row). slice_get r.values 0) (option_map (given id) o) ≡ o
 first_given id None = refl
 first_given id (Some v) = refl
 
-first_told : (b : Bool) (rows : List Row) (t : Text → Option Text) (id : Text) → Looks rows t → Ends b rows → bytes_eq (codes "trace") id ≡ false → first_text id (flagged rows) ≡ t id
-first_told b rows t id looks e other = ap (option_and_then (λ (r : Row). slice_get r.values 0)) (e.others id other ∙ looks id) ∙ first_given id (t id)
+first_told : (s : Settings) (rows : List Row) (t : Text → Option Text) (id : Text) → Looks rows t → BothEnd s rows → bytes_eq (codes "trace") id ≡ false → bytes_eq (codes "folded") id ≡ false
+    → first_text id (with_flags rows) ≡ t id
+first_told s rows t id looks e first second = ap (option_and_then (λ (r : Row). slice_get r.values 0)) (e.others id first second ∙ looks id) ∙ first_given id (t id)
 
 -- what is read of a text is given, or the default
 reads_or : {A : Type 0} (g : Word → Option A) (o p : Option Word) (a : Option A) (d v : A) → p ≡ o → Reads g o a → unwrap_or a d ≡ v → unwrap_or (option_and_then g p) d ≡ v
 reads_or g o p a d v same reads is = ap (λ q. unwrap_or (option_and_then g q) d) same ∙ ap (λ q. unwrap_or q d) reads.0 ∙ is
 
--- the matches at the end are the rows with the default
-rows_are : (words : List Word) (rows : List Row) → Goes (between None [] 1) words rows → rows_after run_rules [] words ≡ flagged rows
+-- the matches at the end are the rows with the defaults
+rows_are : (words : List Word) (rows : List Row) → Goes (between None [] 1) words rows → rows_after run_rules [] words ≡ with_flags rows
 rows_are words rows g = ap (λ (w : Walk). finished run_rules w.held) g.end ∙ ap (λ rs. fold with_default rs run_rules) g.stands.settled ∙ defaults_are rows
 
-file_given : (file : Word) (rows : List Row) (t : Text → Option Text) (b : Bool) → Looks rows t → Ends b rows → t (codes "file") ≡ Some file → is_given (codes "file") (flagged rows) ≡ true
-file_given file rows t b looks e is = ap (λ o. option_map_or (λ (r : Row). explicit_source r.source) o false) (e.others (codes "file") refl ∙ looks (codes "file") ∙ ap (option_map (given (codes "file"))) is)
+file_given : (file : Word) (rows : List Row) (t : Text → Option Text) (s : Settings) → Looks rows t → BothEnd s rows → t (codes "file") ≡ Some file → is_given (codes "file") (with_flags rows) ≡ true
+file_given file rows t s looks e is = ap (λ o. option_map_or (λ (r : Row). explicit_source r.source) o false) (e.others (codes "file") refl refl ∙ looks (codes "file") ∙ ap (option_map (given (codes "file"))) is)
 
-level_taken : (words : List Word) (rows : List Row) → Goes (between None [] 1) words rows → is_given (codes "file") (flagged rows) ≡ true
+level_taken : (words : List Word) (rows : List Row) → Goes (between None [] 1) words rows → is_given (codes "file") (with_flags rows) ≡ true
     → level_passes run_shape [] nothing_held words false ≡ true
 level_taken words rows g file =
     let end = (fold (walked run_rules []) (between None [] 1) words).held in
@@ -369,53 +398,85 @@ run_taken words run a =
     let u = firsts s in
     let k = all_walked a.spelled None (Some run.file) no_settings u None [] [] (λ _. None) (stands_done []) (λ id. refl) means_nothing refl
     (all_read no_settings u s (firsts_collected s (each_once a))) in
-    let e = ends u.trace k.rows k.texts k.looks k.means.trace in
-    let seed = reads_or number_of (k.texts (codes "seed")) (first_text (codes "seed") (flagged k.rows)) u.seed 0 a.seed
-    (first_told u.trace k.rows k.texts (codes "seed") k.looks e refl) k.means.seed (only_value 0 (filter_map seed_of s) a.seed a.seeded) in
-    let order = reads_or order_named (k.texts (codes "order")) (first_text (codes "order") (flagged k.rows)) u.order name.First a.order_name
-    (first_told u.trace k.rows k.texts (codes "order") k.looks e refl) k.means.order (only_value name.First (filter_map order_name_of s) a.order_name a.named) in (
-      level_taken words k.rows k.goes (file_given run.file k.rows k.texts u.trace k.looks e k.means.file),
+    let e = both_end (Some run.file) u k.rows k.texts k.looks k.means in
+    let seed = reads_or number_of (k.texts (codes "seed")) (first_text (codes "seed") (with_flags k.rows)) u.seed 0 a.seed
+    (first_told u k.rows k.texts (codes "seed") k.looks e refl refl) k.means.seed (only_value 0 (filter_map seed_of s) a.seed a.seeded) in
+    let order = reads_or order_named (k.texts (codes "order")) (first_text (codes "order") (with_flags k.rows)) u.order name.First a.order_name
+    (first_told u k.rows k.texts (codes "order") k.looks e refl refl) k.means.order (only_value name.First (filter_map order_name_of s) a.order_name a.named) in (
+      level_taken words k.rows k.goes (file_given run.file k.rows k.texts u k.looks e k.means.file),
       subst (λ rows. Tells rows run) (sym (rows_are words k.rows k.goes)) (record {
-        file = first_told u.trace k.rows k.texts (codes "file") k.looks e refl ∙ k.means.file;
-        trace = e.flag ∙ ap (λ b. Some (bool_text b)) (trace_value s run.trace a.trace);
-        budget = reads_or number_of (k.texts (codes "budget")) (first_text (codes "budget") (flagged k.rows)) u.budget 1000000 run.budget
-            (first_told u.trace k.rows k.texts (codes "budget") k.looks e refl) k.means.budget (only_value 1000000 (filter_map budget_of s) run.budget a.budget);
-        size = reads_or number_of (k.texts (codes "size")) (first_text (codes "size") (flagged k.rows)) u.size 16777216 run.size
-            (first_told u.trace k.rows k.texts (codes "size") k.looks e refl) k.means.size (only_value 16777216 (filter_map size_of s) run.size a.size);
+        file = first_told u k.rows k.texts (codes "file") k.looks e refl refl ∙ k.means.file;
+        trace = e.trace ∙ ap (λ b. Some (bool_text b)) (trace_value s run.trace a.trace);
+        folded = e.folded ∙ ap (λ b. Some (bool_text b)) (folded_value s run.folded a.folded);
+        budget = reads_or number_of (k.texts (codes "budget")) (first_text (codes "budget") (with_flags k.rows)) u.budget 1000000 run.budget
+            (first_told u k.rows k.texts (codes "budget") k.looks e refl refl) k.means.budget (only_value 1000000 (filter_map budget_of s) run.budget a.budget);
+        size = reads_or number_of (k.texts (codes "size")) (first_text (codes "size") (with_flags k.rows)) u.size 16777216 run.size
+            (first_told u k.rows k.texts (codes "size") k.looks e refl refl) k.means.size (only_value 16777216 (filter_map size_of s) run.size a.size);
         order = (λ i. ordered_by (order i) (seed i)) ∙ sym a.order;
       }),
     )
 
--- ---- the words of `compile`
+-- ---- the words of `compile` and `demo`
 
-abbrev compile_shape : Shape
-compile_shape = built_line compile_line.top
+-- the commands behind which one word stands
+data OneWord : Type 0 where
+  of_compile : OneWord
+  of_demo : OneWord
 
-abbrev compile_rules : List Rule
-compile_rules = compile_shape.rules
+abbrev one_line : OneWord → App
+one_line of_compile = compile_line
+one_line of_demo = demo_line
 
-compile_walked : (b : ℕ) (bs : Text) → (b == 45) ≡ false → walk compile_rules [] nothing_held ((b ∷ bs) ∷ []) ≡ between (Some (codes "file", (b ∷ bs) ∷ [])) [] 2
+abbrev one_id : OneWord → Text
+one_id of_compile = codes "file"
+one_id of_demo = codes "number"
+
+abbrev one_shape : OneWord → Shape
+one_shape o = built_line (one_line o).top
+
+abbrev one_rules : OneWord → List Rule
+one_rules o = (one_shape o).rules
+
+one_walked : (o : OneWord) (b : ℕ) (bs : Text) → (b == 45) ≡ false → walk (one_rules o) [] nothing_held ((b ∷ bs) ∷ []) ≡ between (Some (one_id o, (b ∷ bs) ∷ [])) [] 2
 unfolding walked
-compile_walked b bs e = ap (after_met compile_rules (between None [] 1) (b ∷ bs)) (plain_met compile_rules idle b bs 1 (held None []) e refl)
+one_walked of_compile b bs e = ap (after_met (one_rules of_compile) (between None [] 1) (b ∷ bs)) (plain_met (one_rules of_compile) idle b bs 1 (held None []) e refl)
+one_walked of_demo b bs e = ap (after_met (one_rules of_demo) (between None [] 1) (b ∷ bs)) (plain_met (one_rules of_demo) idle b bs 1 (held None []) e refl)
 
-compile_passes : (b : ℕ) (bs : Text) → (b == 45) ≡ false → walk_passes compile_shape [] (between None [] 1) ((b ∷ bs) ∷ []) ≡ true
+-- what the one word is at the walk
+abbrev one_met : OneWord → ℕ → Text → Bool
+one_met o b bs = step_of_met (one_shape o) 1 (word_met (one_rules o) [] false idle 1 (b ∷ bs) (held None []))
+
+one_steps : (o : OneWord) (b : ℕ) (bs : Text) → (b == 45) ≡ false → one_met o b bs ≡ true
+one_steps of_compile b bs e = ap (step_of_met (one_shape of_compile) 1) (plain_met (one_rules of_compile) idle b bs 1 (held None []) e refl)
+one_steps of_demo b bs e = ap (step_of_met (one_shape of_demo) 1) (plain_met (one_rules of_demo) idle b bs 1 (held None []) e refl)
+
+one_passes : (o : OneWord) (b : ℕ) (bs : Text) → (b == 45) ≡ false → walk_passes (one_shape o) [] (between None [] 1) ((b ∷ bs) ∷ []) ≡ true
 unfolding walk_passes
-compile_passes b bs e = and_true (turn_passes compile_shape [] (between None [] 1) (b ∷ bs)) true
-    (and_first_true (word_passes compile_shape [] false idle (b ∷ bs) (held None [])) (step_of_met compile_shape 1 (word_met compile_rules [] false idle 1 (b ∷ bs) (held None []))) (plain_passes compile_shape idle b bs (held None []) e refl)
-    ∙ ap (step_of_met compile_shape 1) (plain_met compile_rules idle b bs 1 (held None []) e refl)) refl
+one_passes o b bs e = and_true (turn_passes (one_shape o) [] (between None [] 1) (b ∷ bs)) true
+    (and_first_true (word_passes (one_shape o) [] false idle (b ∷ bs) (held None [])) (one_met o b bs) (plain_passes (one_shape o) idle b bs (held None []) e refl) ∙ one_steps o b bs e) refl
 
 -- what is asked behind the walk
-abbrev after_walk : Walk → Bool
-after_walk w = settle_passes compile_rules false w.held && (list_all default_passes compile_rules && is_valid compile_shape (finished compile_rules w.held) false)
+abbrev after_walk : OneWord → Walk → Bool
+after_walk o w = settle_passes (one_rules o) (one_shape o).args_override_self w.held && (list_all default_passes (one_rules o) && is_valid (one_shape o) (finished (one_rules o) w.held) false)
 
--- one file is taken, and the matches tell it
-compile_taken : (file : Word) → IsFileName file
-    → (level_passes compile_shape [] nothing_held (file ∷ []) false ≡ true) × (first_text (codes "file") (rows_after compile_rules [] (file ∷ [])) ≡ Some file)
-compile_taken [] h = absurd h
-compile_taken (b ∷ bs) h =
+-- and met there
+after_word : (o : OneWord) (word : Word) → after_walk o (between (Some (one_id o, word ∷ [])) [] 2) ≡ true
+after_word of_compile word = refl
+after_word of_demo word = refl
+
+first_word : (o : OneWord) (word : Word) → first_text (one_id o) (finished (one_rules o) (between (Some (one_id o, word ∷ [])) [] 2).held) ≡ Some word
+first_word of_compile word = refl
+first_word of_demo word = refl
+
+-- one word that doesn't begin with a hyphen is taken, and the matches tell it
+one_taken : (o : OneWord) (word : Word) → IsFileName word
+    → (level_passes (one_shape o) [] nothing_held (word ∷ []) false ≡ true) × (first_text (one_id o) (rows_after (one_rules o) [] (word ∷ [])) ≡ Some word)
+one_taken o [] h = absurd h
+one_taken o (b ∷ bs) h =
     let e = not_same b 45 h in (
-      and_true (walk_passes compile_shape [] (between None [] 1) ((b ∷ bs) ∷ [])) (after_walk (walk compile_rules [] nothing_held ((b ∷ bs) ∷ []))) (compile_passes b bs e) (ap after_walk (compile_walked b bs e)),
-      ap (λ (w : Walk). first_text (codes "file") (finished compile_rules w.held)) (compile_walked b bs e),
+      and_true (walk_passes (one_shape o) [] (between None [] 1) ((b ∷ bs) ∷ [])) (after_walk o (walk (one_rules o) [] nothing_held ((b ∷ bs) ∷ [])))
+          (one_passes o b bs e) (ap (after_walk o) (one_walked o b bs e) ∙ after_word o (b ∷ bs)),
+      ap (λ (w : Walk). first_text (one_id o) (finished (one_rules o) w.held)) (one_walked o b bs e) ∙ first_word o (b ∷ bs),
     )
 
 -- ---- the first word
@@ -450,6 +511,10 @@ compile_stops : Stops (codes "compile")
 unfolding clap_on_literals
 compile_stops = (refl, refl)
 
+demo_stops : Stops (codes "demo")
+unfolding clap_on_literals
+demo_stops = (refl, refl)
+
 top_walked : (n : Text) (words : List Word) → Stops n → walk top.top.rules (names_of top) nothing_held (n ∷ words) ≡ stopped_at n words
 top_walked n words h = ap (λ w. fold (walked top.top.rules (names_of top)) w words) h.0 ∙ kept_words top.top.rules (names_of top) (walk_from nothing_held) n [] words
 
@@ -483,9 +548,19 @@ asked_taken (w ∷ words) (to_run run) h =
       subst (λ (v : Walk). IsFound (entered top v.stopped) (to_run run)) (sym (top_walked (codes "run") words run_stops)) (refl, t.1),
     )
 asked_taken (w ∷ words) (to_compile file) h =
-    let t = compile_taken file h.2 in
+    let t = one_taken of_compile file h.1.1 in
     let P : Word → List Word → Type 0 = λ v ws. (takes whole_line (v ∷ ws) ≡ true) × IsFound (subcommand_of whole_line (v ∷ ws)) (to_compile file) in
-    subst (λ v. P v words) (sym h.0) (subst (P (codes "compile")) (sym h.1) (
+    subst (λ v. P v words) (sym h.0) (subst (P (codes "compile")) (sym h.1.0) (
       top_takes (codes "compile") (file ∷ []) compile_stops refl t.0,
       subst (λ (v : Walk). IsFound (entered top v.stopped) (to_compile file)) (sym (top_walked (codes "compile") (file ∷ []) compile_stops)) (refl, t.1),
+    ))
+asked_taken (w ∷ words) (to_demo n) h =
+    let word = h.1.0 in
+    let is = h.1.2 in
+    let t = one_taken of_demo word (numeral_plain word is.0) in
+    let P : Word → List Word → Type 0 = λ v ws. (takes whole_line (v ∷ ws) ≡ true) × IsFound (subcommand_of whole_line (v ∷ ws)) (to_demo n) in
+    subst (λ v. P v words) (sym h.0) (subst (P (codes "demo")) (sym h.1.1) (
+      top_takes (codes "demo") (word ∷ []) demo_stops refl t.0,
+      subst (λ (v : Walk). IsFound (entered top v.stopped) (to_demo n)) (sym (top_walked (codes "demo") (word ∷ []) demo_stops))
+          (refl, ap (option_and_then number_of) t.1 ∙ number_is 1 100000 word n is),
     ))

@@ -10,13 +10,15 @@ use Rattle.std.proofs.lemmas.Slice.Eq.{bytes_eq-Decides}
 use Rattle.lmn_words.specs.declared.setting.Setting.{Setting}
 use Rattle.lmn_words.specs.declared.setting.Setting.TheVariants as set
 use Rattle.lmn_words.specs.declared.setting.Settings.{Settings}
+use Rattle.lmn_words.specs.declared.setting.Flag.{Flag}
+use Rattle.lmn_words.specs.declared.setting.Flag.TheVariants as flag
 use Rattle.lmn_words.specs.declared.setting.Valued.{Valued}
 use Rattle.lmn_words.specs.declared.setting.Valued.TheVariants as valued
 use Rattle.lmn_words.specs.declared.setting.OrderName.TheVariants as name
-use Rattle.lmn_words.specs.Forms.{texts_of, InForm, IsInRanges, Word, IsFileName, Sets, Spells, nothing, a_file, a_trace, two_words, one_word, EachAtMostOnce, OnlyOr, ordered_by, Run, Request, to_run, to_compile, AsksRun, TextsAsk, IsForm, trace_of, budget_of, size_of, order_name_of, seed_of}
-use Rattle.lmn_words.specs.Hearing.{is_file_name, option_named, setting_of, with_setting, Heard, no_settings, nothing_heard, hear_setting, hear_value, hear_file, equals_at, hear_option, hear_word, hear_waiting, hear, hear_all, run_by, run_heard, run_read, file_read, request_read}
-use Rattle.lmn_words.proofs.WordLemmas.{not_same, false_true, if_some, map_some, then_some, option_word, option_told, setting_told, setting_read, file_told, file_read_is, cut_told}
-use Rattle.lmn_words.proofs.SettingLemmas.{settings_all, is_none, list_option, front_empty, all_told, all_read, firsts, firsts_collected, at_most_one, only_value, value_only, flag_only, trace_value}
+use Rattle.lmn_words.specs.Forms.{texts_of, InForm, IsInRanges, Word, IsFileName, Sets, Spells, nothing, a_file, a_flag, two_words, one_word, EachAtMostOnce, OnlyOr, ordered_by, Run, Request, to_run, to_compile, to_demo, AsksRun, AsksCompile, AsksDemo, TextsAsk, IsForm, flag_word, trace_of, folded_of, budget_of, size_of, order_name_of, seed_of}
+use Rattle.lmn_words.specs.Hearing.{is_file_name, flag_named, option_named, setting_of, with_setting, Heard, no_settings, nothing_heard, hear_setting, hear_value, hear_file, equals_at, hear_option, hear_flag, hear_dashes, hear_word, hear_waiting, hear, hear_all, run_by, run_heard, run_read, file_read, demo_read, request_read}
+use Rattle.lmn_words.proofs.WordLemmas.{not_same, false_true, if_some, map_some, then_some, number_from_told, number_from_read, flag_told, option_word, option_told, setting_told, setting_read, file_told, file_read_is, cut_told}
+use Rattle.lmn_words.proofs.SettingLemmas.{settings_all, is_none, list_option, front_empty, all_told, all_read, firsts, firsts_collected, at_most_one, only_value, value_only, flag_only, trace_value, folded_value}
 
 is_bytes : (w v : Word) → bytes_eq w v ≡ true → w ≡ v
 is_bytes w v e = (bytes_eq-Decides w v).0 e
@@ -59,11 +61,11 @@ file_more w words h v u e named heard more = if_some (is_some h.file) None (Some
     let l : Leads words (record h { file = Some w }) u = subst Q e k in
     (w ∷ l.0, l.1, a_file (file_told w named) l.2, ap (λ o. option_to_list o ++ (w ∷ l.0)) (is_none h.file free) ∙ l.3, l.4))
 
-trace_more : (w : Word) (words : List Word) (h v u : Heard) → w ≡ codes "--trace" → hear_setting h set.Trace ≡ Some v
+given_more : (f : Flag) (w : Word) (words : List Word) (h v u : Heard) → w ≡ flag_word f → hear_setting h (set.Flag f) ≡ Some v
     → Leads (behind v.waiting words) v u → Leads (w ∷ words) h u
-trace_more w words h v u is heard more =
-    let k = set_told set.Trace words h v u heard more in
-    (k.0, set.Trace ∷ k.1, a_trace is k.2, k.3, k.4)
+given_more f w words h v u is heard more =
+    let k = set_told (set.Flag f) words h v u heard more in
+    (k.0, set.Flag f ∷ k.1, a_flag f is k.2, k.3, k.4)
 
 name_more : (w : Word) (words : List Word) (h v u : Heard) → option_map (λ o. record h { waiting = Some o }) (option_named w) ≡ Some v
     → Leads (behind v.waiting words) v u → Leads (w ∷ words) h u
@@ -86,13 +88,15 @@ option_more w words h v u heard more = if_some (equals_at w == length w) (option
     (λ t e. name_more w words h v u e more)
     (λ f e. both_more w (take (equals_at w) w) (drop (equals_at w + 1) w) words h v u (cut_told w (λ is. false_true (sym f ∙ eq-eqb (equals_at w) (length w) is))) e more)
 
+flag_more : (o : Option Flag) (w : Word) (words : List Word) (h v u : Heard) → flag_named w ≡ o → hear_flag o h w ≡ Some v
+    → Leads (behind v.waiting words) v u → Leads (w ∷ words) h u
+flag_more (Some f) w words h v u e heard more = given_more f w words h v u (flag_told w f e) heard more
+flag_more None w words h v u e heard more = option_more w words h v u heard more
+
 word_more : (w : Word) (words : List Word) (h v u : Heard) → h.waiting ≡ None → hear_word h w ≡ Some v → Leads (behind v.waiting words) v u → Leads (w ∷ words) h u
-word_more w words h v u e heard more = if_some (is_file_name w) (hear_file h w)
-    (if bytes_eq w (codes "--trace") then hear_setting h set.Trace else hear_option h w) v heard
+word_more w words h v u e heard more = if_some (is_file_name w) (hear_file h w) (hear_dashes h w) v heard
     (λ t g. file_more w words h v u e t g more)
-    (λ f g. if_some (bytes_eq w (codes "--trace")) (hear_setting h set.Trace) (hear_option h w) v g
-    (λ t k. trace_more w words h v u (is_bytes w (codes "--trace") t) k more)
-    (λ f k. option_more w words h v u k more))
+    (λ f g. flag_more (flag_named w) w words h v u refl g more)
 
 waiting_more : (o : Option Valued) (w : Word) (words : List Word) (h v u : Heard) → h.waiting ≡ o → hear_waiting o h w ≡ Some v
     → Leads (behind v.waiting words) v u → Leads (behind o (w ∷ words)) h u
@@ -117,6 +121,10 @@ at file settings = record { file = file; settings = settings; waiting = None }
 
 abbrev waits : Option Word → Settings → Valued → Heard
 waits file settings o = record { file = file; settings = settings; waiting = Some o }
+
+flag_heard : (f : Flag) (file : Option Word) (s : Settings) → hear (at file s) (flag_word f) ≡ hear_setting (at file s) (set.Flag f)
+flag_heard flag.Trace file s = refl
+flag_heard flag.Folded file s = refl
 
 name_heard : (o : Valued) (f : Option Word) (s : Settings) → hear (at f s) (option_word o) ≡ Some (waits f s o)
 name_heard valued.Budget f s = refl
@@ -152,7 +160,7 @@ value_heard o value x f s t g e k v is = then_some (hear_setting g) (setting_of 
 
 file_heard : (w : Word) (f : Option Word) (s : Settings) → IsFileName w → f ≡ None → hear (at f s) w ≡ Some (at (Some w) s)
 file_heard w f s named e =
-    ap (λ b. if b then hear_file (at f s) w else (if bytes_eq w (codes "--trace") then hear_setting (at f s) set.Trace else hear_option (at f s) w)) (file_read_is w named)
+    ap (λ b. if b then hear_file (at f s) w else hear_dashes (at f s) w) (file_read_is w named)
     ∙ ap (λ o. if is_some o then None else Some (at (Some w) s)) e
 
 -- the words of files and settings are read as these
@@ -166,10 +174,10 @@ all_spelled (a_file {file = w} {words = words} {files = files} named more) f g s
     let free = front_empty f g w files e in
     then_some (λ h. hear_all h words) (hear (at f s) w) (at (Some w) s) (Some (at g t)) (file_heard w f s named free)
     (all_spelled more (Some w) g s t (ap (λ o. option_to_list o ++ (w ∷ files)) (sym free) ∙ e) k)
-all_spelled (a_trace {option = w} {words = words} {settings = settings} is more) f g s t e k =
-    option_and_then_some (λ r. settings_all r settings) (with_setting s set.Trace) t k (λ r isset rest.
+all_spelled (a_flag {option = w} x {words = words} {settings = settings} is more) f g s t e k =
+    option_and_then_some (λ r. settings_all r settings) (with_setting s (set.Flag x)) t k (λ r isset rest.
     then_some (λ h. hear_all h words) (hear (at f s) w) (at f r) (Some (at g t))
-    (ap (hear (at f s)) is ∙ set_heard set.Trace f s r (at f s) refl refl isset)
+    (ap (hear (at f s)) is ∙ flag_heard x f s ∙ set_heard (set.Flag x) f s r (at f s) refl refl isset)
     (all_spelled more f g r t e rest))
 all_spelled (two_words {option = w} {value = value} {words = words} {setting = x} {settings = settings} sets more) f g s t e k =
     let o = setting_read w value x sets in
@@ -198,6 +206,7 @@ asked_by words h file waiting named heard =
       settings = k.1;
       spelled = subst (λ files. Spells words files k.1) (k.3 ∙ ap option_to_list named) k.2;
       trace = subst (λ l. OnlyOr false l s.trace) (sym c.trace) (flag_only s.trace);
+      folded = subst (λ l. OnlyOr false l s.folded) (sym c.folded) (flag_only s.folded);
       budget = subst (λ l. OnlyOr 1000000 l (unwrap_or s.budget 1000000)) (sym c.budget) (value_only 1000000 s.budget);
       size = subst (λ l. OnlyOr 16777216 l (unwrap_or s.size 16777216)) (sym c.size) (value_only 16777216 s.size);
       order_name = unwrap_or s.order name.First;
@@ -224,6 +233,7 @@ run_spelled words file settings spelled once =
 pub each_once : {words : List Word} {run : Run} → (a : AsksRun words run) → EachAtMostOnce a.settings
 each_once {words} {run} a = (
   at_most_one false (filter_map trace_of a.settings) run.trace a.trace,
+  at_most_one false (filter_map folded_of a.settings) run.folded a.folded,
   at_most_one 1000000 (filter_map budget_of a.settings) run.budget a.budget,
   at_most_one 16777216 (filter_map size_of a.settings) run.size a.size,
   at_most_one name.First (filter_map order_name_of a.settings) a.order_name a.named,
@@ -233,36 +243,52 @@ each_once {words} {run} a = (
 run_reads : (words : List Word) (run : Run) → AsksRun words run → run_read words ≡ Some run
 run_reads words run a =
     let trace = trace_value a.settings run.trace a.trace in
+    let folded = folded_value a.settings run.folded a.folded in
     let budget = only_value 1000000 (filter_map budget_of a.settings) run.budget a.budget in
     let size = only_value 16777216 (filter_map size_of a.settings) run.size a.size in
     let named = only_value name.First (filter_map order_name_of a.settings) a.order_name a.named in
     let seeded = only_value 0 (filter_map seed_of a.settings) a.seed a.seeded in
     let order = (λ i. ordered_by (named i) (seeded i)) ∙ sym a.order in
     run_spelled words run.file a.settings a.spelled (each_once a)
-    ∙ (λ i. Some (record { file = run.file; trace = trace i; budget = budget i; size = size i; order = order i }))
+    ∙ (λ i. Some (record { file = run.file; trace = trace i; folded = folded i; budget = budget i; size = size i; order = order i }))
 
 -- ---- requests
 
-file_told_of : (words : List Word) (file : Word) → file_read words ≡ Some file → (words ≡ file ∷ []) × IsFileName file
+file_told_of : (words : List Word) (file : Word) → file_read words ≡ Some file → AsksCompile words file
 file_told_of [] file e = absurd (none-some file e)
 file_told_of (w ∷ []) file e = if_some (is_file_name w) (Some w) None file e
     (λ t s. let same = same_Some w file s in (ap (λ x. x ∷ []) same, subst IsFileName same (file_told w t)))
     (λ f s. absurd (none-some file s))
 file_told_of (w ∷ (v ∷ words)) file e = absurd (none-some file e)
 
-file_reads : (words : List Word) (file : Word) → words ≡ file ∷ [] → IsFileName file → file_read words ≡ Some file
-file_reads words file e named = ap file_read e ∙ ap (λ b. if b then Some file else None) (file_read_is file named)
+file_reads : (words : List Word) (file : Word) → AsksCompile words file → file_read words ≡ Some file
+file_reads words file h = ap file_read h.0 ∙ ap (λ b. if b then Some file else None) (file_read_is file h.1)
+
+demo_told : (words : List Word) (n : ℕ) → demo_read words ≡ Some n → AsksDemo words n
+demo_told [] n e = absurd (none-some n e)
+demo_told (w ∷ []) n e = (w, refl, number_from_told 1 100000 w n e)
+demo_told (w ∷ (v ∷ words)) n e = absurd (none-some n e)
+
+demo_reads : (words : List Word) (n : ℕ) → AsksDemo words n → demo_read words ≡ Some n
+demo_reads words n h = ap demo_read h.1 ∙ number_from_read 1 100000 h.0 n h.2
+
+-- what other first words are read as
+abbrev behind_compile : Word → List Word → Option Request
+behind_compile w words = if bytes_eq w (codes "demo") then option_map to_demo (demo_read words) else None
+
+abbrev behind_run : Word → List Word → Option Request
+behind_run w words = if bytes_eq w (codes "compile") then option_map to_compile (file_read words) else behind_compile w words
 
 pub request_told : (words : List Word) (r : Request) → request_read words ≡ Some r → TextsAsk words r
 request_told [] r e = absurd (none-some r e)
-request_told (w ∷ words) r e = if_some (bytes_eq w (codes "run")) (option_map to_run (run_read words))
-    (if bytes_eq w (codes "compile") then option_map to_compile (file_read words) else None) r e
+request_told (w ∷ words) r e =
+    if_some (bytes_eq w (codes "run")) (option_map to_run (run_read words)) (behind_run w words) r e
     (λ t g. map_some to_run (run_read words) r g (λ run is same. subst (TextsAsk (w ∷ words)) same (is_bytes w (codes "run") t, run_told words run is)))
-    (λ f g. if_some (bytes_eq w (codes "compile")) (option_map to_compile (file_read words)) None r g
-    (λ t k. map_some to_compile (file_read words) r k (λ file is same.
-    let p = file_told_of words file is in
-    subst (TextsAsk (w ∷ words)) same (is_bytes w (codes "compile") t, p.0, p.1)))
-    (λ f k. absurd (none-some r k)))
+    (λ f g. if_some (bytes_eq w (codes "compile")) (option_map to_compile (file_read words)) (behind_compile w words) r g
+    (λ t k. map_some to_compile (file_read words) r k (λ file is same. subst (TextsAsk (w ∷ words)) same (is_bytes w (codes "compile") t, file_told_of words file is)))
+    (λ f k. if_some (bytes_eq w (codes "demo")) (option_map to_demo (demo_read words)) None r k
+    (λ t l. map_some to_demo (demo_read words) r l (λ n is same. subst (TextsAsk (w ∷ words)) same (is_bytes w (codes "demo") t, demo_told words n is)))
+    (λ f l. absurd (none-some r l))))
 
 run_first : (w : Word) (words : List Word) → w ≡ codes "run" → request_read (w ∷ words) ≡ option_map to_run (run_read words)
 run_first w words e = ap (λ v. request_read (v ∷ words)) e
@@ -270,11 +296,15 @@ run_first w words e = ap (λ v. request_read (v ∷ words)) e
 compile_first : (w : Word) (words : List Word) → w ≡ codes "compile" → request_read (w ∷ words) ≡ option_map to_compile (file_read words)
 compile_first w words e = ap (λ v. request_read (v ∷ words)) e
 
+demo_first : (w : Word) (words : List Word) → w ≡ codes "demo" → request_read (w ∷ words) ≡ option_map to_demo (demo_read words)
+demo_first w words e = ap (λ v. request_read (v ∷ words)) e
+
 -- what words ask for is read
 pub request_reads : (words : List Word) (r : Request) → TextsAsk words r → request_read words ≡ Some r
 request_reads [] r h = absurd h
 request_reads (w ∷ words) (to_run run) h = run_first w words h.0 ∙ ap (option_map to_run) (run_reads words run h.1)
-request_reads (w ∷ words) (to_compile file) h = compile_first w words h.0 ∙ ap (option_map to_compile) (file_reads words file h.1 h.2)
+request_reads (w ∷ words) (to_compile file) h = compile_first w words h.0 ∙ ap (option_map to_compile) (file_reads words file h.1)
+request_reads (w ∷ words) (to_demo n) h = demo_first w words h.0 ∙ ap (option_map to_demo) (demo_reads words n h.1)
 
 -- words of the form are read
 pub form_reads : (words : List Word) → IsForm words → (r : Request) × (request_read words ≡ Some r)
@@ -283,18 +313,20 @@ form_reads (w ∷ words) (inl h) = (
   to_run (run_by (firsts h.1.1) h.1.0),
   run_first w words h.0 ∙ ap (option_map to_run) (run_spelled words h.1.0 h.1.1 h.1.2 h.1.3),
 )
-form_reads (w ∷ words) (inr h) = (to_compile h.1.0, compile_first w words h.0 ∙ ap (option_map to_compile) (file_reads words h.1.0 h.1.1 h.1.2))
+form_reads (w ∷ words) (inr (inl h)) = (to_compile h.1.0, compile_first w words h.0 ∙ ap (option_map to_compile) (file_reads words h.1.0 h.1.1))
+form_reads (w ∷ words) (inr (inr h)) = (to_demo h.1.0, demo_first w words h.0 ∙ ap (option_map to_demo) (demo_reads words h.1.0 h.1.1))
 
 -- words that ask for something are of the form
 pub asks_form : (words : List Word) (r : Request) → TextsAsk words r → IsForm words
 asks_form [] r h = absurd h
 asks_form (w ∷ words) (to_run run) h = inl (h.0, (run.file, h.1.settings, h.1.spelled, each_once h.1))
-asks_form (w ∷ words) (to_compile file) h = inr (h.0, (file, h.1, h.2))
+asks_form (w ∷ words) (to_compile file) h = inr (inl (h.0, (file, h.1)))
+asks_form (w ∷ words) (to_demo n) h = inr (inr (h.0, (n, h.1)))
 
 -- ---- ranges
 
 abbrev InRange : Setting → Type 0
-InRange set.Trace = ⊤
+InRange (set.Flag f) = ⊤
 InRange (set.Budget n) = n ≤ 9223372036854775807
 InRange (set.Size n) = (1 ≤ n) × (n ≤ 4294967295)
 InRange (set.Order kind) = ⊤
@@ -305,7 +337,7 @@ AllInRange [] = ⊤
 AllInRange (x ∷ xs) = InRange x × AllInRange xs
 
 set_in_range : (option value : Word) (x : Setting) → Sets option value x → InRange x
-set_in_range option value set.Trace h = absurd h
+set_in_range option value (set.Flag f) h = absurd h
 set_in_range option value (set.Budget n) h = h.1.4
 set_in_range option value (set.Size n) h = (h.1.3, h.1.4)
 set_in_range option value (set.Order kind) h = tt
@@ -314,7 +346,7 @@ set_in_range option value (set.Seed n) h = tt
 all_in_range : {words files : List Word} {settings : List Setting} → Spells words files settings → AllInRange settings
 all_in_range nothing = tt
 all_in_range (a_file named more) = all_in_range more
-all_in_range (a_trace is more) = (tt, all_in_range more)
+all_in_range (a_flag f is more) = (tt, all_in_range more)
 all_in_range (two_words {option = w} {value = value} {setting = x} sets more) = (set_in_range w value x sets, all_in_range more)
 all_in_range (one_word option value {setting = x} cut sets more) = (set_in_range option value x sets, all_in_range more)
 
@@ -324,7 +356,7 @@ only_head d x (y ∷ xs) v h = absurd h
 
 budget_in_range : (xs : List Setting) (v : ℕ) → AllInRange xs → OnlyOr 1000000 (filter_map budget_of xs) v → v ≤ 9223372036854775807
 budget_in_range [] v r h = omega (arith, h)
-budget_in_range (set.Trace ∷ xs) v r h = budget_in_range xs v r.1 h
+budget_in_range (set.Flag f ∷ xs) v r h = budget_in_range xs v r.1 h
 budget_in_range (set.Budget n ∷ xs) v r h = omega (arith, only_head 1000000 n (filter_map budget_of xs) v h, r.0)
 budget_in_range (set.Size n ∷ xs) v r h = budget_in_range xs v r.1 h
 budget_in_range (set.Order kind ∷ xs) v r h = budget_in_range xs v r.1 h
@@ -332,7 +364,7 @@ budget_in_range (set.Seed n ∷ xs) v r h = budget_in_range xs v r.1 h
 
 size_in_range : (xs : List Setting) (v : ℕ) → AllInRange xs → OnlyOr 16777216 (filter_map size_of xs) v → (1 ≤ v) × (v ≤ 4294967295)
 size_in_range [] v r h = (omega (arith, h), omega (arith, h))
-size_in_range (set.Trace ∷ xs) v r h = size_in_range xs v r.1 h
+size_in_range (set.Flag f ∷ xs) v r h = size_in_range xs v r.1 h
 size_in_range (set.Budget n ∷ xs) v r h = size_in_range xs v r.1 h
 size_in_range (set.Size n ∷ xs) v r h =
     let same = only_head 16777216 n (filter_map size_of xs) v h in
@@ -348,6 +380,7 @@ in_ranges (w ∷ words) (to_run run) h =
     let size = size_in_range a.settings run.size (all_in_range a.spelled) a.size in
     (budget_in_range a.settings run.budget (all_in_range a.spelled) a.budget, size.0, size.1)
 in_ranges (w ∷ words) (to_compile file) h = tt
+in_ranges (w ∷ words) (to_demo n) h = (h.1.2.3, h.1.2.4)
 
 -- ---- the form
 

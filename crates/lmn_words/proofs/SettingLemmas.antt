@@ -5,8 +5,9 @@ use Rattle.std.proofs.lemmas.List.{append-nil}
 use Rattle.std.proofs.lemmas.Option.{none-some, same_Some}
 use Rattle.lmn_words.specs.declared.setting.Setting.{Setting}
 use Rattle.lmn_words.specs.declared.setting.Setting.TheVariants as set
+use Rattle.lmn_words.specs.declared.setting.Flag.TheVariants as flag
 use Rattle.lmn_words.specs.declared.setting.Settings.{Settings}
-use Rattle.lmn_words.specs.Forms.{trace_of, budget_of, size_of, order_name_of, seed_of, EachAtMostOnce, OnlyOr}
+use Rattle.lmn_words.specs.Forms.{trace_of, folded_of, budget_of, size_of, order_name_of, seed_of, EachAtMostOnce, OnlyOr}
 use Rattle.lmn_words.specs.Hearing.{with_setting, no_settings}
 use Rattle.lmn_words.proofs.WordLemmas.{false_true, then_some}
 
@@ -22,6 +23,7 @@ flagged false = []
 -- t has what s has and what the list gives, each once
 pub record Collects (s : Settings) (xs : List Setting) (t : Settings) : Type 0 where
   pub trace : flagged s.trace ++ filter_map trace_of xs ≡ flagged t.trace
+  pub folded : flagged s.folded ++ filter_map folded_of xs ≡ flagged t.folded
   pub budget : option_to_list s.budget ++ filter_map budget_of xs ≡ option_to_list t.budget
   pub size : option_to_list s.size ++ filter_map size_of xs ≡ option_to_list t.size
   pub order : option_to_list s.order ++ filter_map order_name_of xs ≡ option_to_list t.order
@@ -68,14 +70,25 @@ taken false r t xs e k = k refl e
 pub all_told : (s t : Settings) (xs : List Setting) → settings_all s xs ≡ Some t → Collects s xs t
 all_told s t [] e = subst (Collects s []) (same_Some s t e) (record {
   trace = append-nil (flagged s.trace);
+  folded = append-nil (flagged s.folded);
   budget = append-nil (option_to_list s.budget);
   size = append-nil (option_to_list s.size);
   order = append-nil (option_to_list s.order);
   seed = append-nil (option_to_list s.seed);
 })
-all_told s t (set.Trace ∷ xs) e = taken s.trace (record s { trace = true }) t xs e (λ free rest.
+all_told s t (set.Flag flag.Trace ∷ xs) e = taken s.trace (record s { trace = true }) t xs e (λ free rest.
     let k = all_told (record s { trace = true }) t xs rest in record {
       trace = ap (λ b. flagged b ++ (true ∷ filter_map trace_of xs)) free ∙ k.trace;
+      folded = k.folded;
+      budget = k.budget;
+      size = k.size;
+      order = k.order;
+      seed = k.seed;
+    })
+all_told s t (set.Flag flag.Folded ∷ xs) e = taken s.folded (record s { folded = true }) t xs e (λ free rest.
+    let k = all_told (record s { folded = true }) t xs rest in record {
+      trace = k.trace;
+      folded = ap (λ b. flagged b ++ (true ∷ filter_map folded_of xs)) free ∙ k.folded;
       budget = k.budget;
       size = k.size;
       order = k.order;
@@ -84,6 +97,7 @@ all_told s t (set.Trace ∷ xs) e = taken s.trace (record s { trace = true }) t 
 all_told s t (set.Budget n ∷ xs) e = taken (is_some s.budget) (record s { budget = Some n }) t xs e (λ free rest.
     let k = all_told (record s { budget = Some n }) t xs rest in record {
       trace = k.trace;
+      folded = k.folded;
       budget = ap (λ o. option_to_list o ++ (n ∷ filter_map budget_of xs)) (is_none s.budget free) ∙ k.budget;
       size = k.size;
       order = k.order;
@@ -92,6 +106,7 @@ all_told s t (set.Budget n ∷ xs) e = taken (is_some s.budget) (record s { budg
 all_told s t (set.Size n ∷ xs) e = taken (is_some s.size) (record s { size = Some n }) t xs e (λ free rest.
     let k = all_told (record s { size = Some n }) t xs rest in record {
       trace = k.trace;
+      folded = k.folded;
       budget = k.budget;
       size = ap (λ o. option_to_list o ++ (n ∷ filter_map size_of xs)) (is_none s.size free) ∙ k.size;
       order = k.order;
@@ -100,6 +115,7 @@ all_told s t (set.Size n ∷ xs) e = taken (is_some s.size) (record s { size = S
 all_told s t (set.Order n ∷ xs) e = taken (is_some s.order) (record s { order = Some n }) t xs e (λ free rest.
     let k = all_told (record s { order = Some n }) t xs rest in record {
       trace = k.trace;
+      folded = k.folded;
       budget = k.budget;
       size = k.size;
       order = ap (λ o. option_to_list o ++ (n ∷ filter_map order_name_of xs)) (is_none s.order free) ∙ k.order;
@@ -108,6 +124,7 @@ all_told s t (set.Order n ∷ xs) e = taken (is_some s.order) (record s { order 
 all_told s t (set.Seed n ∷ xs) e = taken (is_some s.seed) (record s { seed = Some n }) t xs e (λ free rest.
     let k = all_told (record s { seed = Some n }) t xs rest in record {
       trace = k.trace;
+      folded = k.folded;
       budget = k.budget;
       size = k.size;
       order = k.order;
@@ -118,17 +135,31 @@ all_told s t (set.Seed n ∷ xs) e = taken (is_some s.seed) (record s { seed = S
 pub all_read : (s t : Settings) (xs : List Setting) → Collects s xs t → settings_all s xs ≡ Some t
 all_read s t [] c =
     let trace = list_flag s.trace t.trace c.trace in
+    let folded = list_flag s.folded t.folded c.folded in
     let budget = list_option s.budget t.budget c.budget in
     let size = list_option s.size t.size c.size in
     let order = list_option s.order t.order c.order in
     let seed = list_option s.seed t.seed c.seed in
-    λ i. Some (record { trace = trace i; budget = budget i; size = size i; order = order i; seed = seed i })
-all_read s t (set.Trace ∷ xs) c =
+    λ i. Some (record { trace = trace i; folded = folded i; budget = budget i; size = size i; order = order i; seed = seed i })
+all_read s t (set.Flag flag.Trace ∷ xs) c =
     let free = front_unset s.trace t.trace (filter_map trace_of xs) c.trace in
-    then_some (λ u. settings_all u xs) (with_setting s set.Trace) (record s { trace = true }) (Some t)
+    then_some (λ u. settings_all u xs) (with_setting s (set.Flag flag.Trace)) (record s { trace = true }) (Some t)
     (ap (λ b. if b then None else Some (record s { trace = true })) free)
     (all_read (record s { trace = true }) t xs (record {
       trace = ap (λ b. flagged b ++ (true ∷ filter_map trace_of xs)) (sym free) ∙ c.trace;
+      folded = c.folded;
+      budget = c.budget;
+      size = c.size;
+      order = c.order;
+      seed = c.seed;
+    }))
+all_read s t (set.Flag flag.Folded ∷ xs) c =
+    let free = front_unset s.folded t.folded (filter_map folded_of xs) c.folded in
+    then_some (λ u. settings_all u xs) (with_setting s (set.Flag flag.Folded)) (record s { folded = true }) (Some t)
+    (ap (λ b. if b then None else Some (record s { folded = true })) free)
+    (all_read (record s { folded = true }) t xs (record {
+      trace = c.trace;
+      folded = ap (λ b. flagged b ++ (true ∷ filter_map folded_of xs)) (sym free) ∙ c.folded;
       budget = c.budget;
       size = c.size;
       order = c.order;
@@ -140,6 +171,7 @@ all_read s t (set.Budget n ∷ xs) c =
     (ap (λ o. if is_some o then None else Some (record s { budget = Some n })) free)
     (all_read (record s { budget = Some n }) t xs (record {
       trace = c.trace;
+      folded = c.folded;
       budget = ap (λ o. option_to_list o ++ (n ∷ filter_map budget_of xs)) (sym free) ∙ c.budget;
       size = c.size;
       order = c.order;
@@ -151,6 +183,7 @@ all_read s t (set.Size n ∷ xs) c =
     (ap (λ o. if is_some o then None else Some (record s { size = Some n })) free)
     (all_read (record s { size = Some n }) t xs (record {
       trace = c.trace;
+      folded = c.folded;
       budget = c.budget;
       size = ap (λ o. option_to_list o ++ (n ∷ filter_map size_of xs)) (sym free) ∙ c.size;
       order = c.order;
@@ -162,6 +195,7 @@ all_read s t (set.Order n ∷ xs) c =
     (ap (λ o. if is_some o then None else Some (record s { order = Some n })) free)
     (all_read (record s { order = Some n }) t xs (record {
       trace = c.trace;
+      folded = c.folded;
       budget = c.budget;
       size = c.size;
       order = ap (λ o. option_to_list o ++ (n ∷ filter_map order_name_of xs)) (sym free) ∙ c.order;
@@ -173,6 +207,7 @@ all_read s t (set.Seed n ∷ xs) c =
     (ap (λ o. if is_some o then None else Some (record s { seed = Some n })) free)
     (all_read (record s { seed = Some n }) t xs (record {
       trace = c.trace;
+      folded = c.folded;
       budget = c.budget;
       size = c.size;
       order = c.order;
@@ -196,11 +231,21 @@ all_true (b ∷ bs) = true ∷ all_true bs
 
 traces_true : (xs : List Setting) → filter_map trace_of xs ≡ all_true (filter_map trace_of xs)
 traces_true [] = refl
-traces_true (set.Trace ∷ xs) = ap (λ bs. true ∷ bs) (traces_true xs)
+traces_true (set.Flag flag.Trace ∷ xs) = ap (λ bs. true ∷ bs) (traces_true xs)
+traces_true (set.Flag flag.Folded ∷ xs) = traces_true xs
 traces_true (set.Budget n ∷ xs) = traces_true xs
 traces_true (set.Size n ∷ xs) = traces_true xs
 traces_true (set.Order n ∷ xs) = traces_true xs
 traces_true (set.Seed n ∷ xs) = traces_true xs
+
+folds_true : (xs : List Setting) → filter_map folded_of xs ≡ all_true (filter_map folded_of xs)
+folds_true [] = refl
+folds_true (set.Flag flag.Trace ∷ xs) = folds_true xs
+folds_true (set.Flag flag.Folded ∷ xs) = ap (λ bs. true ∷ bs) (folds_true xs)
+folds_true (set.Budget n ∷ xs) = folds_true xs
+folds_true (set.Size n ∷ xs) = folds_true xs
+folds_true (set.Order n ∷ xs) = folds_true xs
+folds_true (set.Seed n ∷ xs) = folds_true xs
 
 only_flag : (bs : List Bool) → length bs ≤ 1 → all_true bs ≡ flagged (is_some (first_of bs))
 only_flag [] h = refl
@@ -210,6 +255,7 @@ only_flag (b ∷ (c ∷ bs)) h = absurd (omega (arith, h))
 abbrev pub firsts : List Setting → Settings
 firsts xs = record {
   trace = is_some (first_of (filter_map trace_of xs));
+  folded = is_some (first_of (filter_map folded_of xs));
   budget = first_of (filter_map budget_of xs);
   size = first_of (filter_map size_of xs);
   order = first_of (filter_map order_name_of xs);
@@ -219,10 +265,11 @@ firsts xs = record {
 pub firsts_collected : (xs : List Setting) → EachAtMostOnce xs → Collects no_settings xs (firsts xs)
 firsts_collected xs h = record {
   trace = traces_true xs ∙ only_flag (filter_map trace_of xs) h.0;
-  budget = only_first (filter_map budget_of xs) h.1;
-  size = only_first (filter_map size_of xs) h.2;
-  order = only_first (filter_map order_name_of xs) h.3;
-  seed = only_first (filter_map seed_of xs) h.4;
+  folded = folds_true xs ∙ only_flag (filter_map folded_of xs) h.1;
+  budget = only_first (filter_map budget_of xs) h.2;
+  size = only_first (filter_map size_of xs) h.3;
+  order = only_first (filter_map order_name_of xs) h.4;
+  seed = only_first (filter_map seed_of xs) h.5;
 }
 
 -- ---- the one value, or the default
@@ -252,3 +299,6 @@ flag_value (b ∷ (c ∷ bs)) v t h = absurd h
 
 pub trace_value : (xs : List Setting) (v : Bool) → OnlyOr false (filter_map trace_of xs) v → is_some (first_of (filter_map trace_of xs)) ≡ v
 trace_value xs v h = flag_value (filter_map trace_of xs) v (traces_true xs) h
+
+pub folded_value : (xs : List Setting) (v : Bool) → OnlyOr false (filter_map folded_of xs) v → is_some (first_of (filter_map folded_of xs)) ≡ v
+folded_value xs v h = flag_value (filter_map folded_of xs) v (folds_true xs) h

@@ -8,8 +8,11 @@ use Rattle.clap.specs.Takes.{bundle_passes, flag_word_passes, other_passes, sett
 use Rattle.clap.specs.declared.parser.matches.ValueSource.TheVariants.{CommandLine}
 use Rattle.clap.specs.declared.builder.value_parser.Reading.TheVariants.{AsWritten}
 use Rattle.clap.proofs.OnLiterals.{clap_on_literals}
+use Rattle.lmn_words.specs.declared.setting.Flag.{Flag}
+use Rattle.lmn_words.specs.declared.setting.Flag.TheVariants as flag
 use Rattle.lmn_words.specs.declared.setting.Valued.{Valued}
 use Rattle.lmn_words.specs.declared.setting.Valued.TheVariants as valued
+use Rattle.lmn_words.specs.Forms.{flag_word}
 use Rattle.lmn_words.specs.Parsing.{run_line, whole_line}
 use Rattle.lmn_words.proofs.WordLemmas.{bool_cases, option_word}
 
@@ -34,7 +37,11 @@ held pending rows = record { rows = rows; pending = pending; skip = 0 }
 abbrev pub between : Option (Text × List Text) → List Row → ℕ → Walk
 between pending rows position = record { held = held pending rows; waiting = idle; position = position; is_trailing = false; stopped = None }
 
--- an option with a value, by its name without the hyphens
+-- an option, by its name without the hyphens
+abbrev pub flag_id : Flag → Text
+flag_id flag.Trace = codes "trace"
+flag_id flag.Folded = codes "folded"
+
 abbrev pub option_id : Valued → Text
 option_id valued.Budget = codes "budget"
 option_id valued.Size = codes "size"
@@ -55,10 +62,11 @@ named pending rows position o = record {
 abbrev pub used_once : Text → Text → List Row → List Row
 used_once id v rows = with_values id AsWritten CommandLine (v ∷ []) (without id rows)
 
-pub trace_walked : (p : Option (Text × List Text)) (rows : List Row) (n : ℕ)
-    → walked run_rules [] (between p rows n) (codes "--trace") ≡ between None (used_once (codes "trace") (codes "true") (settled_rows run_rules p rows)) n
+pub flag_walked : (f : Flag) (p : Option (Text × List Text)) (rows : List Row) (n : ℕ)
+    → walked run_rules [] (between p rows n) (flag_word f) ≡ between None (used_once (flag_id f) (codes "true") (settled_rows run_rules p rows)) n
 unfolding clap_on_literals
-trace_walked p rows n = refl
+flag_walked flag.Trace p rows n = refl
+flag_walked flag.Folded p rows n = refl
 
 pub name_walked : (o : Valued) (p : Option (Text × List Text)) (rows : List Row) (n : ℕ) → walked run_rules [] (between p rows n) (option_word o) ≡ named p rows n o
 unfolding clap_on_literals
@@ -152,10 +160,11 @@ used_passes true false e f = refl
 used_passes true true e f = absurd (true≢false f)
 used_passes false b e f = absurd (true≢false (sym e))
 
-pub trace_passes : (p : Option (Text × List Text)) (rows : List Row) (n : ℕ) → settles p rows ≡ true → has_row (codes "trace") (settled_rows run_rules p rows) ≡ false
-    → passes (between p rows n) (codes "--trace") ≡ true
+pub flag_passes : (f : Flag) (p : Option (Text × List Text)) (rows : List Row) (n : ℕ) → settles p rows ≡ true → has_row (flag_id f) (settled_rows run_rules p rows) ≡ false
+    → passes (between p rows n) (flag_word f) ≡ true
 unfolding clap_on_literals
-trace_passes p rows n e f = used_passes (settles p rows) (has_row (codes "trace") (settled_rows run_rules p rows)) e f
+flag_passes flag.Trace p rows n e f = used_passes (settles p rows) (has_row (codes "trace") (settled_rows run_rules p rows)) e f
+flag_passes flag.Folded p rows n e f = used_passes (settles p rows) (has_row (codes "folded") (settled_rows run_rules p rows)) e f
 
 pub name_passes : (o : Valued) (p : Option (Text × List Text)) (rows : List Row) (n : ℕ) → settles p rows ≡ true → passes (between p rows n) (option_word o) ≡ true
 unfolding clap_on_literals

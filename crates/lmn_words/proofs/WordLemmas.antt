@@ -11,12 +11,14 @@ use Rattle.std.proofs.lemmas.Str.{digit_value_digit}
 use Rattle.std.proofs.lemmas.Str.Parse.{digit_from_value, digits_value_short, numerals_by_value, tells_digits}
 use Rattle.lmn_words.specs.declared.setting.Setting.{Setting}
 use Rattle.lmn_words.specs.declared.setting.Setting.TheVariants as set
+use Rattle.lmn_words.specs.declared.setting.Flag.{Flag}
+use Rattle.lmn_words.specs.declared.setting.Flag.TheVariants as flag
 use Rattle.lmn_words.specs.declared.setting.Valued.{Valued}
 use Rattle.lmn_words.specs.declared.setting.Valued.TheVariants as valued
 use Rattle.lmn_words.specs.declared.setting.OrderName.{OrderName}
 use Rattle.lmn_words.specs.declared.setting.OrderName.TheVariants as name
-use Rattle.lmn_words.specs.Forms.{Word, IsFileName, IsNumber, order_word, Sets}
-use Rattle.lmn_words.specs.Hearing.{begins_with, is_file_name, is_digit, number_of, number_from, order_named, option_named, setting_of, equals_at}
+use Rattle.lmn_words.specs.Forms.{Word, IsFileName, IsNumber, flag_word, order_word, Sets}
+use Rattle.lmn_words.specs.Hearing.{begins_with, is_file_name, is_digit, number_of, number_from, order_named, flag_named, option_named, setting_of, equals_at}
 
 -- ---- tests and options
 
@@ -145,19 +147,6 @@ pub number_parsed : {E : Type 0} (w : Word) (r : Result ℕ E) → length w ≤ 
     → OkIff r (IsNumeral 10 (without_leading_plus w) × (digits_value 10 (without_leading_plus w) < 2 ^ 64)) (digits_value 10 (without_leading_plus w)) → result_ok r ≡ number_of w
 number_parsed w r l e h = number_parsed_at w (without_leading_plus w) r (no_plus w e) l h
 
--- a word with a plus in front, or too long, is no number
-pub number_none : (w : Word) → (begins_with 43 w ≡ true) ⊎ (19 < length w) → None ≡ number_of w
-number_none w h = go (number_of w) refl h
-  where
-    plus_first : (v : Word) → begins_with 43 v ≡ true → AllDigits 10 v → ⊥
-    plus_first [] e d = false_true e
-    plus_first (b ∷ v) e d = let is : b ≡ 43 = eqb-true b 43 e in let r = digit_from_value b d.0 in omega (arith, is, r.0)
-
-    go : (o : Option ℕ) → number_of w ≡ o → (begins_with 43 w ≡ true) ⊎ (19 < length w) → None ≡ o
-    go None f h = refl
-    go (Some n) f (inl p) = absurd (let t = number_told w n f in plus_first w p t.0.1)
-    go (Some n) f (inr p) = absurd (let t = number_told w n f in omega (arith, t.1, p))
-
 -- a number from a range is a number and in it
 pub number_from_told : (least most : ℕ) (w : Word) (n : ℕ) → number_from least most w ≡ Some n → IsNumber least most w n
 number_from_told least most w n e = option_and_then_some (λ m. if nat_le least m && nat_le m most then Some m else None) (number_of w) n e (λ m is answers.
@@ -186,6 +175,12 @@ option_word valued.Seed = codes "--seed"
 
 is_bytes : (w v : Word) → bytes_eq w v ≡ true → w ≡ v
 is_bytes w v e = (bytes_eq-Decides w v).0 e
+
+pub flag_told : (w : Word) (f : Flag) → flag_named w ≡ Some f → w ≡ flag_word f
+flag_told w f e =
+    if_some (bytes_eq w (codes "--trace")) _ _ f e (λ t s. is_bytes w _ t ∙ ap flag_word (same_Some flag.Trace f s)) (λ no e.
+    if_some (bytes_eq w (codes "--folded")) _ _ f e (λ t s. is_bytes w _ t ∙ ap flag_word (same_Some flag.Folded f s)) (λ no e.
+    absurd (none-some f e)))
 
 pub option_told : (w : Word) (o : Valued) → option_named w ≡ Some o → w ≡ option_word o
 option_told w o e =
@@ -220,7 +215,7 @@ setting_told valued.Seed value s e = map_some set.Seed (number_from 0 9223372036
 
 -- what sets something is one of the options
 pub setting_read : (option value : Word) (s : Setting) → Sets option value s → (o : Valued) × (option ≡ option_word o) × (setting_of o value ≡ Some s)
-setting_read option value set.Trace h = absurd h
+setting_read option value (set.Flag f) h = absurd h
 setting_read option value (set.Budget n) h = (valued.Budget, h.0, ap (option_map set.Budget) (number_from_read 0 9223372036854775807 value n h.1))
 setting_read option value (set.Size n) h = (valued.Size, h.0, ap (option_map set.Size) (number_from_read 1 4294967295 value n h.1))
 setting_read option value (set.Order kind) h = (valued.Order, h.0, ap (option_map set.Order) (ap order_named h.1 ∙ order_read kind))

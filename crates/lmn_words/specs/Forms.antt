@@ -7,6 +7,8 @@ use Rattle.lmn_order.specs.declared.order.Order.{Order}
 use Rattle.lmn_order.specs.declared.order.Order.TheVariants as order
 use Rattle.lmn_words.specs.declared.setting.Setting.{Setting}
 use Rattle.lmn_words.specs.declared.setting.Setting.TheVariants as set
+use Rattle.lmn_words.specs.declared.setting.Flag.{Flag}
+use Rattle.lmn_words.specs.declared.setting.Flag.TheVariants as flag
 use Rattle.lmn_words.specs.declared.setting.OrderName.{OrderName}
 use Rattle.lmn_words.specs.declared.setting.OrderName.TheVariants as name
 use Rattle.lmn_words.specs.declared.command.Command.{Command}
@@ -32,9 +34,14 @@ order_word name.First = codes "first"
 order_word name.Turn = codes "turn"
 order_word name.Seed = codes "seed"
 
+-- the name of an option without a value
+abbrev pub flag_word : Flag → Word
+flag_word flag.Trace = codes "--trace"
+flag_word flag.Folded = codes "--folded"
+
 -- the option of this name, with this value, sets this
 abbrev pub Sets : Word → Word → Setting → Type 0
-Sets option value set.Trace = ⊥
+Sets option value (set.Flag f) = ⊥
 Sets option value (set.Budget n) = (option ≡ codes "--budget") × IsNumber 0 9223372036854775807 value n
 Sets option value (set.Size n) = (option ≡ codes "--size") × IsNumber 1 4294967295 value n
 Sets option value (set.Order kind) = (option ≡ codes "--order") × (value ≡ order_word kind)
@@ -45,8 +52,8 @@ pub data Spells : List Word → List Word → List Setting → Type 0 where
   nothing : Spells [] [] []
   a_file : {file : Word} {words files : List Word} {settings : List Setting} → IsFileName file
       → Spells words files settings → Spells (file ∷ words) (file ∷ files) settings
-  a_trace : {option : Word} {words files : List Word} {settings : List Setting} → option ≡ codes "--trace"
-      → Spells words files settings → Spells (option ∷ words) files (set.Trace ∷ settings)
+  a_flag : {option : Word} (f : Flag) {words files : List Word} {settings : List Setting} → option ≡ flag_word f
+      → Spells words files settings → Spells (option ∷ words) files (set.Flag f ∷ settings)
   two_words : {option value : Word} {words files : List Word} {setting : Setting} {settings : List Setting} → Sets option value setting
       → Spells words files settings → Spells (option ∷ (value ∷ words)) files (setting ∷ settings)
   one_word : {word : Word} (option value : Word) {words files : List Word} {setting : Setting} {settings : List Setting}
@@ -56,8 +63,12 @@ pub data Spells : List Word → List Word → List Setting → Type 0 where
 -- ---- what is given
 
 abbrev pub trace_of : Setting → Option Bool
-trace_of set.Trace = Some true
+trace_of (set.Flag flag.Trace) = Some true
 trace_of _ = None
+
+abbrev pub folded_of : Setting → Option Bool
+folded_of (set.Flag flag.Folded) = Some true
+folded_of _ = None
 
 abbrev pub budget_of : Setting → Option ℕ
 budget_of (set.Budget n) = Some n
@@ -81,8 +92,8 @@ AtMostOne value_of settings = length (filter_map value_of settings) ≤ 1
 
 -- each option is given at most once
 abbrev pub EachAtMostOnce : List Setting → Type 0
-EachAtMostOnce settings = AtMostOne trace_of settings × AtMostOne budget_of settings × AtMostOne size_of settings
-    × AtMostOne order_name_of settings × AtMostOne seed_of settings
+EachAtMostOnce settings = AtMostOne trace_of settings × AtMostOne folded_of settings × AtMostOne budget_of settings
+    × AtMostOne size_of settings × AtMostOne order_name_of settings × AtMostOne seed_of settings
 
 -- the one value that is given, or the default where none is
 abbrev pub OnlyOr : {A : Type 0} → A → List A → A → Type 0
@@ -101,6 +112,7 @@ ordered_by name.Seed seed = order.Seed seed
 pub record Run : Type 0 where
   pub file : Word
   pub trace : Bool
+  pub folded : Bool
   pub budget : ℕ
   pub size : ℕ
   pub order : Order
@@ -108,12 +120,14 @@ pub record Run : Type 0 where
 pub data Request : Type 0 where
   to_run : Run → Request
   to_compile : Word → Request
+  to_demo : ℕ → Request
 
 -- the words behind `run` name one file, and settings that give these values
 pub record AsksRun (words : List Word) (run : Run) : Type 0 where
   pub settings : List Setting
   pub spelled : Spells words (run.file ∷ []) settings
   pub trace : OnlyOr false (filter_map trace_of settings) run.trace
+  pub folded : OnlyOr false (filter_map folded_of settings) run.folded
   pub budget : OnlyOr 1000000 (filter_map budget_of settings) run.budget
   pub size : OnlyOr 16777216 (filter_map size_of settings) run.size
   pub order_name : OrderName
@@ -122,6 +136,14 @@ pub record AsksRun (words : List Word) (run : Run) : Type 0 where
   pub seeded : OnlyOr 0 (filter_map seed_of settings) seed
   pub order : run.order ≡ ordered_by order_name seed
 
+-- the words are this one file
+abbrev pub AsksCompile : List Word → Word → Type 0
+AsksCompile words file = (words ≡ file ∷ []) × IsFileName file
+
+-- the words behind `demo` are this one number
+abbrev pub AsksDemo : List Word → ℕ → Type 0
+AsksDemo words n = (word : Word) × (words ≡ word ∷ []) × IsNumber 1 100000 word n
+
 abbrev pub texts_of : List (String Global) → List Word
 texts_of = map string_bytes
 
@@ -129,7 +151,8 @@ texts_of = map string_bytes
 abbrev pub TextsAsk : List Word → Request → Type 0
 TextsAsk [] request = ⊥
 TextsAsk (first ∷ words) (to_run run) = (first ≡ codes "run") × AsksRun words run
-TextsAsk (first ∷ words) (to_compile file) = (first ≡ codes "compile") × (words ≡ file ∷ []) × IsFileName file
+TextsAsk (first ∷ words) (to_compile file) = (first ≡ codes "compile") × AsksCompile words file
+TextsAsk (first ∷ words) (to_demo n) = (first ≡ codes "demo") × AsksDemo words n
 
 -- the words ask for this
 abbrev pub Asks : List (String Global) → Request → Type 0
@@ -139,6 +162,7 @@ Asks words = TextsAsk (texts_of words)
 abbrev pub IsInRanges : Request → Type 0
 IsInRanges (to_run run) = (run.budget ≤ 9223372036854775807) × (1 ≤ run.size) × (run.size ≤ 4294967295)
 IsInRanges (to_compile file) = ⊤
+IsInRanges (to_demo n) = (1 ≤ n) × (n ≤ 100000)
 
 -- ---- the form
 
@@ -148,11 +172,16 @@ IsRunForm words = (file : Word) × (settings : List Setting) × Spells words (fi
 
 -- one file
 abbrev pub IsCompileForm : List Word → Type 0
-IsCompileForm words = (file : Word) × (words ≡ file ∷ []) × IsFileName file
+IsCompileForm words = (file : Word) × AsksCompile words file
+
+-- one number
+abbrev pub IsDemoForm : List Word → Type 0
+IsDemoForm words = (n : ℕ) × AsksDemo words n
 
 abbrev pub IsForm : List Word → Type 0
 IsForm [] = ⊥
 IsForm (first ∷ words) = ((first ≡ codes "run") × IsRunForm words) ⊎ ((first ≡ codes "compile") × IsCompileForm words)
+    ⊎ ((first ≡ codes "demo") × IsDemoForm words)
 
 -- the words are of the form
 abbrev pub InForm : List (String Global) → Type 0
@@ -161,9 +190,17 @@ InForm words = IsForm (texts_of words)
 -- ---- what a command is
 
 abbrev pub run_of : RunWords → Run
-run_of words = record { file = words.file.now; trace = words.trace; budget = words.budget; size = words.size; order = words.order }
+run_of words = record {
+  file = words.file.now;
+  trace = words.trace;
+  folded = words.folded;
+  budget = words.budget;
+  size = words.size;
+  order = words.order;
+}
 
 -- the request of a command
 abbrev pub request_of : Command → Request
 request_of (command.Run run) = to_run (run_of run)
 request_of (command.Compile file) = to_compile file.now
+request_of (command.Demo n) = to_demo n

@@ -5,12 +5,14 @@ use Rattle.std.specs.Str.Parse.{digits_value}
 use Rattle.lmn_words.specs.declared.setting.Setting.{Setting}
 use Rattle.lmn_words.specs.declared.setting.Setting.TheVariants as set
 use Rattle.lmn_words.specs.declared.setting.Settings.{Settings}
+use Rattle.lmn_words.specs.declared.setting.Flag.{Flag}
+use Rattle.lmn_words.specs.declared.setting.Flag.TheVariants as flag
 use Rattle.lmn_words.specs.declared.setting.Valued.{Valued}
 use Rattle.lmn_words.specs.declared.setting.Valued.TheVariants as valued
 use Rattle.lmn_words.specs.declared.setting.OrderName.{OrderName}
 use Rattle.lmn_words.specs.declared.setting.OrderName.TheVariants as name
 use Rattle.lmn_words.specs.declared.reading.Reader.{Reader}
-use Rattle.lmn_words.specs.Forms.{Word, Request, Run, ordered_by, to_run, to_compile}
+use Rattle.lmn_words.specs.Forms.{Word, Request, Run, ordered_by, to_run, to_compile, to_demo}
 
 -- ---- one word
 
@@ -38,6 +40,10 @@ order_named word = if bytes_eq word (codes "first") then Some name.First
     else if bytes_eq word (codes "turn") then Some name.Turn
     else if bytes_eq word (codes "seed") then Some name.Seed else None
 
+abbrev pub flag_named : Word → Option Flag
+flag_named word = if bytes_eq word (codes "--trace") then Some flag.Trace
+    else if bytes_eq word (codes "--folded") then Some flag.Folded else None
+
 abbrev pub option_named : Word → Option Valued
 option_named word = if bytes_eq word (codes "--budget") then Some valued.Budget
     else if bytes_eq word (codes "--size") then Some valued.Size
@@ -54,7 +60,8 @@ setting_of valued.Seed value = option_map set.Seed (number_from 0 92233720368547
 
 -- the settings with one more, which isn't among them
 abbrev pub with_setting : Settings → Setting → Option Settings
-with_setting s set.Trace = if s.trace then None else Some (record s { trace = true })
+with_setting s (set.Flag flag.Trace) = if s.trace then None else Some (record s { trace = true })
+with_setting s (set.Flag flag.Folded) = if s.folded then None else Some (record s { folded = true })
 with_setting s (set.Budget n) = if is_some s.budget then None else Some (record s { budget = Some n })
 with_setting s (set.Size n) = if is_some s.size then None else Some (record s { size = Some n })
 with_setting s (set.Order kind) = if is_some s.order then None else Some (record s { order = Some kind })
@@ -70,7 +77,7 @@ abbrev pub heard_of : Reader → Heard
 heard_of reader = record { file = option_map (λ file. file.now) reader.file; settings = reader.settings; waiting = reader.waiting }
 
 abbrev pub no_settings : Settings
-no_settings = record { trace = false; budget = None; size = None; order = None; seed = None }
+no_settings = record { trace = false; folded = false; budget = None; size = None; order = None; seed = None }
 
 abbrev pub nothing_heard : Heard
 nothing_heard = record { file = None; settings = no_settings; waiting = None }
@@ -93,9 +100,15 @@ hear_option h word = if equals_at word == length word
     then option_map (λ option. record h { waiting = Some option }) (option_named word)
     else option_and_then (λ option. hear_value h option (drop (equals_at word + 1) word)) (option_named (take (equals_at word) word))
 
+abbrev pub hear_flag : Option Flag → Heard → Word → Option Heard
+hear_flag (Some f) h word = hear_setting h (set.Flag f)
+hear_flag None h word = hear_option h word
+
+abbrev pub hear_dashes : Heard → Word → Option Heard
+hear_dashes h word = hear_flag (flag_named word) h word
+
 abbrev pub hear_word : Heard → Word → Option Heard
-hear_word h word = if is_file_name word then hear_file h word
-    else if bytes_eq word (codes "--trace") then hear_setting h set.Trace else hear_option h word
+hear_word h word = if is_file_name word then hear_file h word else hear_dashes h word
 
 abbrev pub hear_waiting : Option Valued → Heard → Word → Option Heard
 hear_waiting (Some option) h word = hear_value h option word
@@ -114,6 +127,7 @@ abbrev pub run_by : Settings → Word → Run
 run_by s file = record {
   file = file;
   trace = s.trace;
+  folded = s.folded;
   budget = unwrap_or s.budget 1000000;
   size = unwrap_or s.size 16777216;
   order = ordered_by (unwrap_or s.order name.First) (unwrap_or s.seed 0);
@@ -130,7 +144,13 @@ file_read [] = None
 file_read (file ∷ []) = if is_file_name file then Some file else None
 file_read (file ∷ more ∷ words) = None
 
+abbrev pub demo_read : List Word → Option ℕ
+demo_read [] = None
+demo_read (word ∷ []) = number_from 1 100000 word
+demo_read (word ∷ more ∷ words) = None
+
 abbrev pub request_read : List Word → Option Request
 request_read [] = None
 request_read (first ∷ words) = if bytes_eq first (codes "run") then option_map to_run (run_read words)
-    else if bytes_eq first (codes "compile") then option_map to_compile (file_read words) else None
+    else if bytes_eq first (codes "compile") then option_map to_compile (file_read words)
+    else if bytes_eq first (codes "demo") then option_map to_demo (demo_read words) else None

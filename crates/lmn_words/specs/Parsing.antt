@@ -8,14 +8,14 @@ use Rattle.clap.specs.declared.builder.command.Command.{Command}
 use Rattle.clap.specs.declared.builder.command.Command.TheViews.{out-Command}
 use Rattle.lmn_words.specs.declared.setting.OrderName.{OrderName}
 use Rattle.lmn_words.specs.declared.setting.OrderName.TheVariants as name
-use Rattle.lmn_words.specs.Forms.{Request, Run, ordered_by, to_compile, to_run}
+use Rattle.lmn_words.specs.Forms.{Request, Run, ordered_by, to_compile, to_demo, to_run}
 use Rattle.lmn_words.specs.Hearing.{number_of, order_named}
 
 -- ---- the command line
 
--- the file
-abbrev pub file_rule : Rule
-file_rule = record (new_rule (codes "file")) { required = true }
+-- a word that has to stand there
+abbrev pub required_rule : Text → Rule
+required_rule id = record (new_rule id) { required = true }
 
 -- an option without a value
 abbrev pub flag_rule : Text → Rule
@@ -26,18 +26,22 @@ abbrev pub option_rule : Text → Rule
 option_rule id = record (new_rule id) { long = Some id }
 
 abbrev pub run_line : App
-run_line = with_rule (with_rule (with_rule (with_rule (with_rule (with_rule (new_app (codes "run")) file_rule) (flag_rule (codes "trace")))
+run_line = with_rule (with_rule (with_rule (with_rule (with_rule (with_rule (with_rule (new_app (codes "run"))
+    (required_rule (codes "file"))) (flag_rule (codes "trace"))) (flag_rule (codes "folded")))
     (option_rule (codes "budget"))) (option_rule (codes "size"))) (option_rule (codes "order"))) (option_rule (codes "seed"))
 
 abbrev pub compile_line : App
-compile_line = with_rule (new_app (codes "compile")) file_rule
+compile_line = with_rule (new_app (codes "compile")) (required_rule (codes "file"))
 
--- no name of the program stands before the words, nothing is asked for but the two commands, and one is
+abbrev pub demo_line : App
+demo_line = with_rule (new_app (codes "demo")) (required_rule (codes "number"))
+
+-- no name of the program stands before the words, nothing is asked for but the commands, and one is
 abbrev pub with_settings : Shape → Shape
 with_settings top = record top { no_binary_name = true; disable_help_flag = true; disable_help_subcommand = true; subcommand_required = true }
 
 abbrev pub whole_line : App
-whole_line = with_subcommand (with_subcommand (on_top with_settings (new_app (codes "lmn"))) run_line.top) compile_line.top
+whole_line = with_subcommand (with_subcommand (with_subcommand (on_top with_settings (new_app (codes "lmn"))) run_line.top) compile_line.top) demo_line.top
 
 -- a command is a line, in which no argument is global
 abbrev pub IsLine : Command → App → Type 0
@@ -57,6 +61,7 @@ order_given rows = unwrap_or (option_and_then order_named (first_of (codes "orde
 pub record Tells (rows : List Row) (run : Run) : Type 0 where
   pub file : first_of (codes "file") rows ≡ Some run.file
   pub trace : one_of (codes "trace") rows ≡ Some (bool_text run.trace)
+  pub folded : one_of (codes "folded") rows ≡ Some (bool_text run.folded)
   pub budget : number_given rows (codes "budget") 1000000 ≡ run.budget
   pub size : number_given rows (codes "size") 16777216 ≡ run.size
   pub order : ordered_by (order_given rows) (number_given rows (codes "seed") 0) ≡ run.order
@@ -66,3 +71,4 @@ abbrev pub IsFound : Option (Text × List Row) → Request → Type 0
 IsFound None request = ⊥
 IsFound (Some found) (to_run run) = (found.0 ≡ codes "run") × Tells found.1 run
 IsFound (Some found) (to_compile file) = (found.0 ≡ codes "compile") × (first_of (codes "file") found.1 ≡ Some file)
+IsFound (Some found) (to_demo n) = (found.0 ≡ codes "demo") × (option_and_then number_of (first_of (codes "number") found.1) ≡ Some n)

@@ -7,6 +7,8 @@ pub enum Command<'w> {
     Run(RunWords<'w>),
     /// A listing of the code of a file, by its name, which isn't empty and doesn't begin with `-`.
     Compile(&'w str),
+    /// A run of the text that is made of this number: 1 to 100000.
+    Demo(u64),
 }
 
 /// What the words of `run` ask for.
@@ -16,6 +18,8 @@ pub struct RunWords<'w> {
     pub file: &'w str,
     /// Whether each process is written, and not the last one alone.
     pub trace: bool,
+    /// Whether processes are written in the folded form.
+    pub folded: bool,
     /// How many commits are done at most: 0 to 9223372036854775807.
     pub budget: u64,
     /// How many items a commit may leave: 1 to 4294967295.

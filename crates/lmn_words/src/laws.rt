@@ -1,6 +1,6 @@
-//! The law of what words ask for.
+//! The laws of what words ask for.
 
-ghost use Rattle.lmn_words.specs.Laws.{FormsAsk, OneRequest, RequestsInRanges};
+ghost use Rattle.lmn_words.specs.Laws.{FoldedRun, FormsAsk, OneRequest, RequestsInRanges};
 
 /// Words of the form ask for exactly one thing, whose numbers lie in their ranges, and words that aren't of the form ask
 /// for none.
@@ -8,4 +8,9 @@ pub fn asks_one()
     ensures some { FormsAsk }
     ensures one { OneRequest }
     ensures ranges { RequestsInRanges }
+{}
+
+/// What `run --folded FILE` asks for.
+pub fn folded_run()
+    ensures { FoldedRun }
 {}

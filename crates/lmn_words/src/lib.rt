@@ -10,5 +10,5 @@ mod setting;
 mod tests;
 
 pub use command::{Command, RunWords};
-pub use laws::asks_one;
+pub use laws::{asks_one, folded_run};
 pub use reading::in_form;

@@ -3,7 +3,7 @@ ghost use Rattle.std.specs.Prelude.{◌≡◌, ◌↔◌, IfOk, false, IfSome, I
 ghost use Rattle.clap.specs.Words.{found_of, rows_of, rule_of, subcommand_rows_of};
 ghost use Rattle.lmn_words.specs.Forms.{Asks, InForm, IsInRanges, Request, Run, request_of, run_of};
 ghost use Rattle.lmn_words.specs.Hearing.{number_of, order_named};
-ghost use Rattle.lmn_words.specs.Parsing.{IsFound, IsLine, Tells, compile_line, file_rule, flag_rule, option_rule, run_line, whole_line};
+ghost use Rattle.lmn_words.specs.Parsing.{IsFound, IsLine, Tells, compile_line, demo_line, flag_rule, option_rule, required_rule, run_line, whole_line};
 
 use crate::command::{Command, RunWords};
 use crate::reading::in_form;
@@ -63,7 +63,8 @@ fn whole_line<'w>(alloc: Global) -> Result<clap::Command<'w>, AllocError>
         .disable_help_subcommand(true)
         .subcommand_required(true)
         .subcommand(run_line(alloc)?)?
-        .subcommand(compile_line(alloc)?)
+        .subcommand(compile_line(alloc)?)?
+        .subcommand(demo_line(alloc)?)
 }
 
 /// The words of `run`.
@@ -71,8 +72,9 @@ fn run_line<'w>(alloc: Global) -> Result<clap::Command<'w>, AllocError>
     ensures { IfOk result (λ line. IsLine line run_line) }
 {
     clap::Command::new(alloc, "run")
-        .arg(file_arg(alloc))?
+        .arg(required(alloc, "file"))?
         .arg(flag(alloc, "trace"))?
+        .arg(flag(alloc, "folded"))?
         .arg(option(alloc, "budget"))?
         .arg(option(alloc, "size"))?
         .arg(option(alloc, "order"))?
@@ -83,15 +85,22 @@ fn run_line<'w>(alloc: Global) -> Result<clap::Command<'w>, AllocError>
 fn compile_line<'w>(alloc: Global) -> Result<clap::Command<'w>, AllocError>
     ensures { IfOk result (λ line. IsLine line compile_line) }
 {
-    clap::Command::new(alloc, "compile").arg(file_arg(alloc))
+    clap::Command::new(alloc, "compile").arg(required(alloc, "file"))
 }
 
-/// The file.
-fn file_arg<'w>(alloc: Global) -> Arg<'w>
-    ensures rule { rule_of result ≡ file_rule }
+/// The words of `demo`.
+fn demo_line<'w>(alloc: Global) -> Result<clap::Command<'w>, AllocError>
+    ensures { IfOk result (λ line. IsLine line demo_line) }
+{
+    clap::Command::new(alloc, "demo").arg(required(alloc, "number"))
+}
+
+/// A word that has to stand there.
+fn required<'w>(alloc: Global, name: &'w str) -> Arg<'w>
+    ensures rule { rule_of result ≡ required_rule name.entry.now }
     ensures local { result.global ≡ false }
 {
-    Arg::new(alloc, "file").required(true)
+    Arg::new(alloc, name).required(true)
 }
 
 /// An option without a value.
@@ -118,6 +127,7 @@ fn command_of<'w>(matches: &ArgMatches<'w>) -> Option<Command<'w>>
     match name {
         "run" => Some(Command::Run(run_words(words)?)),
         "compile" => Some(Command::Compile(words.get_str("file")?)),
+        "demo" => Some(Command::Demo(number(words.get_str("number")?)?)),
         _ => None,
     }
 }
@@ -128,6 +138,7 @@ fn run_words<'w>(matches: &ArgMatches<'w>) -> Option<RunWords<'w>>
 {
     let file = matches.get_str("file")?;
     let trace = matches.get_flag("trace");
+    let folded = matches.get_flag("folded");
     let budget = number_or(matches.get_str("budget"), BUDGET);
     let size = number_or(matches.get_str("size"), SIZE);
     let seed = number_or(matches.get_str("seed"), 0);
@@ -135,6 +146,7 @@ fn run_words<'w>(matches: &ArgMatches<'w>) -> Option<RunWords<'w>>
     Some(RunWords {
         file,
         trace,
+        folded,
         budget,
         size,
         order,

@@ -1,9 +1,11 @@
 //! The form of the words.
 ghost use Rattle.std.specs.Prelude.{◌≡◌, ◌↔◌, IsTrue, is_some, option_map};
 ghost use Rattle.lmn_words.specs.Hearing.{
+  demo_read,
   file_read,
   hear,
   hear_all,
+  hear_dashes,
   hear_file,
   hear_option,
   hear_setting,
@@ -18,7 +20,7 @@ ghost use Rattle.lmn_words.specs.Hearing.{
 };
 ghost use Rattle.lmn_words.specs.Forms.{InForm, texts_of};
 
-use crate::setting::{Setting, Settings, Valued};
+use crate::setting::{Flag, Setting, Settings, Valued, demo_number};
 
 /// Whether the words of the command line are of the form. It takes no memory.
 pub fn in_form(words: &[String]) -> bool
@@ -36,6 +38,7 @@ fn is_form(words: &[String]) -> bool
         [first, rest @ ..] => match first.as_str() {
             "run" => is_run_form(rest),
             "compile" => is_compile_form(rest),
+            "demo" => is_demo_form(rest),
             _ => false,
         },
     }
@@ -57,6 +60,16 @@ fn is_compile_form(words: &[String]) -> bool
 {
     match words {
         [file] => is_file_name(file.as_bytes()),
+        _ => false,
+    }
+}
+
+/// Whether the words behind `demo` are one number that it takes.
+fn is_demo_form(words: &[String]) -> bool
+    ensures { result ≡ is_some (demo_read (texts_of words.now)) }
+{
+    match words {
+        [word] => demo_number(word.as_str()).is_some(),
         _ => false,
     }
 }
@@ -102,7 +115,7 @@ impl<'w> Reader<'w> {
         }
     }
 
-    /// After some more words: each sets what wasn't set before, so those of the form are a dozen at most.
+    /// After some more words: each sets what wasn't set before, so those of the form are a dozen or so.
     fn all(self, words: &'w [String]) -> Option<Reader<'w>>
         ensures { option_map heard_of result ≡ hear_all (heard_of self.entry) (texts_of words.now) }
     {
@@ -120,10 +133,18 @@ impl<'w> Reader<'w> {
     {
         if is_file_name(word.as_bytes()) {
             self.with_file(word)
-        } else if word == "--trace" {
-            self.with_setting(Setting::Trace)
         } else {
-            self.with_option(word)
+            self.with_dashes(word)
+        }
+    }
+
+    /// After a word that can't name a file.
+    fn with_dashes(self, word: &str) -> Option<Reader<'w>>
+        ensures { option_map heard_of result ≡ hear_dashes (heard_of self.entry) word.now }
+    {
+        match Flag::named(word) {
+            Some(flag) => self.with_setting(Setting::Flag(flag)),
+            None => self.with_option(word),
         }
     }
 

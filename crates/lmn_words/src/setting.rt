@@ -1,6 +1,7 @@
 ghost use Rattle.std.specs.Prelude.{◌≡◌};
 ghost use Rattle.lmn_words.specs.Hearing.{
   begins_with,
+  flag_named,
   no_settings,
   number_from,
   number_of,
@@ -22,14 +23,37 @@ const MOST: u64 = 9_223_372_036_854_775_807;
 /// The most that `--size` takes.
 const MOST_ITEMS: u64 = 4_294_967_295;
 
+/// The most that `demo` takes.
+const MOST_ATOMS: u64 = 100_000;
+
 /// What one option sets.
 #[derive(Clone, Copy, Debug, PartialEq, Eq)]
 pub(crate) enum Setting {
-    Trace,
+    Flag(Flag),
     Budget(u64),
     Size(u64),
     Order(OrderName),
     Seed(u64),
+}
+
+/// An option without a value.
+#[derive(Clone, Copy, Debug, PartialEq, Eq)]
+pub(crate) enum Flag {
+    Trace,
+    Folded,
+}
+
+impl Flag {
+    /// The option of this name.
+    pub(crate) fn named(word: &str) -> Option<Flag>
+        ensures { result ≡ flag_named word.now }
+    {
+        match word {
+            "--trace" => Some(Flag::Trace),
+            "--folded" => Some(Flag::Folded),
+            _ => None,
+        }
+    }
 }
 
 /// The value of `--order`.
@@ -101,6 +125,13 @@ impl Valued {
     }
 }
 
+/// The number that a word writes, where `demo` takes it.
+pub(crate) fn demo_number(word: &str) -> Option<u64>
+    ensures { result ≡ number_from 1 100000 word.now }
+{
+    number_between(word, 1, MOST_ATOMS)
+}
+
 /// The number that a word writes, where it lies between the two.
 fn number_between(word: &str, least: u64, most: u64) -> Option<u64>
     ensures { result ≡ number_from least most word.now }
@@ -137,6 +168,7 @@ fn begins_with(word: &[u8], byte: u8) -> bool
 #[derive(Clone, Copy, Debug, PartialEq, Eq)]
 pub(crate) struct Settings {
     trace: bool,
+    folded: bool,
     budget: Option<u64>,
     size: Option<u64>,
     order: Option<OrderName>,
@@ -150,6 +182,7 @@ impl Settings {
     {
         Settings {
             trace: false,
+            folded: false,
             budget: None,
             size: None,
             order: None,
@@ -162,12 +195,22 @@ impl Settings {
         ensures { result ≡ with_setting self setting }
     {
         match setting {
-            Setting::Trace => {
+            Setting::Flag(Flag::Trace) => {
                 if self.trace {
                     None
                 } else {
                     Some(Settings {
                         trace: true,
+                        ..self
+                    })
+                }
+            }
+            Setting::Flag(Flag::Folded) => {
+                if self.folded {
+                    None
+                } else {
+                    Some(Settings {
+                        folded: true,
                         ..self
                     })
                 }

@@ -7,13 +7,14 @@ use std::test::Fail;
 const PLAIN: RunWords = RunWords {
     file: "f",
     trace: false,
+    folded: false,
     budget: 1_000_000,
     size: 16_777_216,
     order: Order::First,
 };
 
 /// Words behind `run`, and what they ask for.
-const RUNS: [(&[&str], RunWords); 17] = [
+const RUNS: [(&[&str], RunWords); 18] = [
     (&["f"], PLAIN),
     (
         &["a=b"],
@@ -34,6 +35,13 @@ const RUNS: [(&[&str], RunWords); 17] = [
         RunWords {
             trace: true,
             budget: 5,
+            ..PLAIN
+        },
+    ),
+    (
+        &["--folded", "f"],
+        RunWords {
+            folded: true,
             ..PLAIN
         },
     ),
@@ -102,12 +110,14 @@ const RUNS: [(&[&str], RunWords); 17] = [
             "--size",
             "2",
             "f",
+            "--folded",
             "--budget=3",
             "--trace",
         ],
         RunWords {
             file: "f",
             trace: true,
+            folded: true,
             budget: 3,
             size: 2,
             order: Order::Seed(9_223_372_036_854_775_807),
@@ -116,7 +126,7 @@ const RUNS: [(&[&str], RunWords); 17] = [
 ];
 
 /// Words that aren't of the form.
-const OTHERS: [&[&str]; 46] = [
+const OTHERS: [&[&str]; 59] = [
     &[],
     &[""],
     &["walk", "f"],
@@ -143,6 +153,8 @@ const OTHERS: [&[&str]; 46] = [
     &["run", "f", "--Trace"],
     &["run", "f", "--trace=1"],
     &["run", "f", "--trace="],
+    &["run", "f", "--folded=x"],
+    &["run", "--folded", "--folded", "f"],
     &["run", "f", "--budget"],
     &["run", "f", "--budget="],
     &["run", "f", "--budget", ""],
@@ -163,6 +175,17 @@ const OTHERS: [&[&str]; 46] = [
     &["run", "f", "--order=turn", "--order=turn"],
     &["run", "f", "--seed=1", "--seed=1"],
     &["run", "--budget", "f"],
+    &["demo"],
+    &["demo", ""],
+    &["demo", "0"],
+    &["demo", "100001"],
+    &["demo", "00000000000000000001"],
+    &["demo", "1", "2"],
+    &["demo", "-1"],
+    &["demo", "+1"],
+    &["demo", "x"],
+    &["demo=4"],
+    &["demo", "4", "--folded"],
 ];
 
 /// These words, behind a first one.
@@ -213,5 +236,24 @@ fn one_file_is_compiled(rt: HostRuntime) -> Result<(), Fail> {
         Command::from_words(rt.alloc(), words.as_slice())?,
         Some(Command::Compile("f"))
     );
+    Ok(())
+}
+
+#[test]
+fn demonstrations_have_a_number(rt: HostRuntime) -> Result<(), Fail> {
+    for (word, number) in [
+        ("1", 1),
+        ("007", 7),
+        ("0000000000000000001", 1),
+        ("100000", 100_000),
+    ] {
+        let words = words_of(rt.alloc(), &["demo"], &[word])?;
+        assert!(rt; in_form(words.as_slice()), "form of {word}");
+        assert_eq!(rt;
+            Command::from_words(rt.alloc(), words.as_slice())?,
+            Some(Command::Demo(number)),
+            "{word}"
+        );
+    }
     Ok(())
 }

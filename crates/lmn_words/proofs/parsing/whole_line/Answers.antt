@@ -7,4 +7,5 @@ returns c =
     let top = settings_made c.new.result c.no_binary_name.result c.disable_help_flag.result c.disable_help_subcommand.result c.subcommand_required.result _
     (c.new.ensures.app, c.new.ensures.local) c.no_binary_name.ensures c.disable_help_flag.ensures c.disable_help_subcommand.ensures c.subcommand_required.ensures in
     let run = command_more _ _ _ _ _ c.in_ok-subcommand.ensures top c.in_ok-run_line.ensures in
-    IfOk-weaker c.subcommand-2.result _ _ (λ line adds. command_more _ _ line _ _ adds run c.in_ok-compile_line.ensures) c.subcommand-2.ensures
+    let compile = command_more _ _ _ _ _ c.in_ok-subcommand-2.ensures run c.in_ok-compile_line.ensures in
+    IfOk-weaker c.subcommand-3.result _ _ (λ line adds. command_more _ _ line _ _ adds compile c.in_ok-demo_line.ensures) c.subcommand-3.ensures
