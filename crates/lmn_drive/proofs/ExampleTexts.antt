@@ -1,8 +1,19 @@
--- What is written of a small run.
-use Rattle.std.proofs.Common.{refl}
+-- What is written of small runs.
+use Rattle.std.proofs.Common.{[], ◌∷◌, codes, refl}
 use Rattle.std.specs.Fmt.{digits}
-use Rattle.lmn_drive.specs.Examples.{FullRunIsWritten}
+use Rattle.lmn_folded.proofs.ExampleLines as folded
+use Rattle.lmn_drive.specs.Examples.{FoldedRunIsWritten, FullRunIsWritten}
 
 pub full_run_is_written : FullRunIsWritten
 unfolding digits
-full_run_is_written = (refl, refl)
+full_run_is_written = (
+  (record { first_lines = codes "a. (a :- a, a).\n" ∷ []; last_line = codes "a. a. (a :- a, a).\n"; are_lines = (refl, tt); is_line = refl }, refl),
+  (record { first_lines = codes "a. (a :- a, a).\n" ∷ []; last_line = codes "a. a. (a :- a, a).\n"; are_lines = (refl, tt); is_line = refl }, refl),
+)
+
+pub folded_run_is_written : FoldedRunIsWritten
+unfolding digits
+folded_run_is_written = (
+  (record { first_lines = []; last_line = codes "a(b).\n"; are_lines = tt; is_line = folded.last_ports }, refl),
+  (record { first_lines = []; last_line = codes "a(L0). b(L0).\n"; are_lines = tt; is_line = refl }, refl),
+)

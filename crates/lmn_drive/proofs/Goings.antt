@@ -1,20 +1,24 @@
 -- How a run goes on, stops and fails. Each exit of the code is one of these.
-use Rattle.std.proofs.Common.{ℕ, ◌≡◌, ◌<◌, ◌+◌, List, [], ◌∷◌, ◌++◌, Option, refl, sym, ap, subst, ◌∙◌, arith}
+use Rattle.std.proofs.Common.{ℕ, ◌≡◌, ◌<◌, ◌+◌, List, [], ◌∷◌, ◌++◌, length, Option, refl, sym, ap, subst, ◌∙◌, arith}
 use Rattle.std.proofs.lemmas.List.{length-append}
 use Rattle.lmn_heap.specs.Heap.{Heap}
 use Rattle.lmn_io.specs.Taking.{Takes, TakesPrefix}
+use Rattle.lmn_congruence.specs.Regions.{Region}
 use Rattle.lmn_adequacy.specs.Embedding.{Embeds}
 use Rattle.lmn_adequacy.specs.Runs.{Turn as Chooses, loaded, turned, End, irreducible, budget_done, full, nothing_embeds, none_allowed, too_many}
 use Rattle.lmn_strategy.specs.declared.turning.Turn.{Turn}
 use Rattle.lmn_strategy.specs.declared.turning.Turn.TheVariants as answer
+use Rattle.lmn_folded.specs.Lines.{IsLine}
+use Rattle.lmn_runs.proofs.TraceLines.{lines_count, lines_with, some_line}
 use Rattle.lmn_schedule.specs.Held.{Holds}
 use Rattle.lmn_schedule.specs.Turning.{IsDone, IsTurned}
 use Rattle.lmn_drive.specs.declared.driving.RunEnd.TheVariants.{Failed}
 use Rattle.lmn_drive.specs.declared.driving.Stop.{Stop}
 use Rattle.lmn_drive.specs.declared.driving.Stop.TheVariants as stop
 use Rattle.lmn_drive.specs.Written.{traced}
-use Rattle.lmn_drive.specs.Driving.{Given, Ran, EndsSo, GoesOn, text, word_of, no_memory, Ended, Drove, Going, StopsSo, Stopped, Broke, stop_word, stop_end, rest_of}
+use Rattle.lmn_drive.specs.Driving.{Given, Ran, EndsSo, GoesOn, text, word_of, no_memory, Ended, Drove, Going, IsRestOf, IsTracedLineOf, StopsSo, Stopped, Broke, stop_word, stop_end, rest_of}
 use Rattle.lmn_drive.proofs.Ends.{accepted_held, closed_held, no_end, one_end}
+use Rattle.lmn_drive.proofs.Writings.{rest_held, traced_held}
 use Rattle.lmn_drive.proofs.Texts.{all_taken, front_taken, line_begun, line_taken, part_taken}
 
 -- what a turn answers at the last solid of a run
@@ -31,46 +35,93 @@ none_more n = omega arith
 module _ (g : Given) (n : ℕ) (h : Heap) where
   -- the same run, where the heap holds its last solid too
   abbrev held_by : (r : Ran g n h) (h' : Heap) → Holds g.names g.table h' r.last → Ran g n h'
-  held_by r h' held = record { before = r.before; last = r.last; trace = r.trace; count = r.count; holds = held }
+  held_by r h' held = record { before = r.before; last = r.last; trace = r.trace; count = r.count; holds = held; lines = r.lines }
 
   -- two ends of a run are the same
   pub ends_once : (r : Ran g n h) (e d : End) → EndsSo r e → EndsSo r d → e ≡ d
   ends_once r e d = one_end g.chooser g.budget g.size n r.last e d
 
+  -- as many lines as commits
+  pub counted : (r : Ran g n h) → length r.lines.first_lines ≡ n
+  counted r = lines_count g.folded r.before r.lines.first_lines r.lines.are_lines ∙ r.count
+
   -- a run that failed after a prefix of its lines
-  broke_so : (r : Ran g n h) (old new : Option (List ℕ)) → TakesPrefix (traced g.trace (r.before ++ r.last ∷ [])) old new → Broke g n h old new
+  broke_so : (r : Ran g n h) (old new : Option (List ℕ)) → TakesPrefix (traced g.trace (r.lines.first_lines ++ r.lines.last_line ∷ [])) old new → Broke g n h old new
   broke_so r old new part =
-      let any : (word : List ℕ) → TakesPrefix (text r word) old new = λ word. front_taken g.trace r.before r.last word n r.count old new part in
+      let any : (word : List ℕ) → TakesPrefix (text r word) old new = λ word. front_taken g.trace r.lines.first_lines r.lines.last_line word n (counted r) old new part in
       record { ran = r; took = record { at_end = λ e ends. any (word_of e); elsewhere = λ on. any no_memory } }
 
+-- a call that is to write the line of a heap, with a trace alone, has written it, or a prefix of it
+abbrev TakesLine : Given → Heap → Option (List ℕ) → Option (List ℕ) → Type 0
+TakesLine g h old new = (bytes : List ℕ) → IsTracedLineOf g.trace g.folded g.names g.table h bytes → Takes bytes old new
+
+abbrev TakesPartOfLine : Given → Heap → Option (List ℕ) → Option (List ℕ) → Type 0
+TakesPartOfLine g h old new = (bytes : List ℕ) → IsTracedLineOf g.trace g.folded g.names g.table h bytes → TakesPrefix bytes old new
+
+-- a solid that a heap holds has a line
+line_of_held : (g : Given) {h : Heap} {S : Region} → Holds g.names g.table h S → (line : List ℕ) × IsLine g.folded S line
+line_of_held g {h} {S} held = some_line g.folded S (closed_held held)
+
 -- before the first turn: the heap holds the first solid
-abbrev first_ran : (g : Given) (n : ℕ) (h : Heap) → n ≡ 0 → Holds g.names g.table h g.first → Ran g n h
-first_ran g n h e held = record { before = []; last = g.first; trace = loaded; count = sym e; holds = held }
+module _ (g : Given) (n : ℕ) (h : Heap) (old new : Option (List ℕ)) (none : n ≡ 0) (held : Holds g.names g.table h g.first) where
+  abbrev first_line : (line : List ℕ) × IsLine g.folded g.first line
+  first_line = line_of_held g held
 
-pub going_first : (g : Given) (n : ℕ) (h : Heap) (old new : Option (List ℕ)) → n ≡ 0 → Holds g.names g.table h g.first → Takes (traced g.trace (g.first ∷ [])) old new → Going g n h old new
-going_first g n h old new e held took = record { ran = first_ran g n h e held; took = took }
+  abbrev first_ran : Ran g n h
+  first_ran = record {
+    before = [];
+    last = g.first;
+    trace = loaded;
+    count = sym none;
+    holds = held;
+    lines = record { first_lines = []; last_line = first_line.0; are_lines = tt; is_line = first_line.1 };
+  }
 
-pub broke_first : (g : Given) (n : ℕ) (h : Heap) (old new : Option (List ℕ)) → n ≡ 0 → Holds g.names g.table h g.first → TakesPrefix (traced g.trace (g.first ∷ [])) old new → Broke g n h old new
-broke_first g n h old new e held part = broke_so g n h (first_ran g n h e held) old new part
+  abbrev first_bytes : IsTracedLineOf g.trace g.folded g.names g.table h (traced g.trace (first_line.0 ∷ []))
+  first_bytes = traced_held g.folded g.names g.table h g.trace g.first first_line.0 held first_line.1
+
+  pub going_first : TakesLine g h old new → Going g n h old new
+  going_first took = record { ran = first_ran; took = took (traced g.trace (first_line.0 ∷ [])) first_bytes }
+
+  pub broke_first : TakesPartOfLine g h old new → Broke g n h old new
+  broke_first part = broke_so g n h first_ran old new (part (traced g.trace (first_line.0 ∷ [])) first_bytes)
 
 module _ (g : Given) (n : ℕ) (h h' : Heap) (told old : Option (List ℕ)) (s : Going g n h told old) where
   -- one commit more
-  abbrev ran_more : n < g.budget → Answers s.ran answer.Committed h' → Ran g (n + 1) h'
-  ran_more below t = record {
-    before = s.ran.before ++ s.ran.last ∷ [];
-    last = t.0;
-    trace = turned s.ran.trace (subst (λ k. k < g.budget) (sym s.ran.count) below) (subst (λ k. Chooses g.chooser k s.ran.last t.0) (sym s.ran.count) t.1.turn) t.2;
-    count = length-append s.ran.before (s.ran.last ∷ []) ∙ ap (λ k. k + 1) s.ran.count;
-    holds = t.3;
-  }
+  module _ (below : n < g.budget) (t : Answers s.ran answer.Committed h') (new : Option (List ℕ)) where
+    abbrev next_line : (line : List ℕ) × IsLine g.folded t.0 line
+    next_line = line_of_held g t.3
 
-  -- its line is written,
-  pub going_more : n < g.budget → (t : Answers s.ran answer.Committed h') (new : Option (List ℕ)) → Takes (traced g.trace (t.0 ∷ [])) old new → Going g (n + 1) h' told new
-  going_more below t new took = record { ran = ran_more below t; took = line_taken g.trace (s.ran.before ++ s.ran.last ∷ []) t.0 told old new s.took took }
+    abbrev ran_more : Ran g (n + 1) h'
+    ran_more = record {
+      before = s.ran.before ++ s.ran.last ∷ [];
+      last = t.0;
+      trace = turned s.ran.trace (subst (λ k. k < g.budget) (sym s.ran.count) below) (subst (λ k. Chooses g.chooser k s.ran.last t.0) (sym s.ran.count) t.1.turn) t.2;
+      count = length-append s.ran.before (s.ran.last ∷ []) ∙ ap (λ k. k + 1) s.ran.count;
+      holds = t.3;
+      lines = record {
+        first_lines = s.ran.lines.first_lines ++ s.ran.lines.last_line ∷ [];
+        last_line = next_line.0;
+        are_lines = lines_with g.folded s.ran.before s.ran.last s.ran.lines.first_lines s.ran.lines.last_line s.ran.lines.are_lines s.ran.lines.is_line;
+        is_line = next_line.1;
+      };
+    }
 
-  -- or a prefix of it
-  pub broke_more : n < g.budget → (t : Answers s.ran answer.Committed h') (new : Option (List ℕ)) → TakesPrefix (traced g.trace (t.0 ∷ [])) old new → Broke g (n + 1) h' told new
-  broke_more below t new part = broke_so g (n + 1) h' (ran_more below t) told new (line_begun g.trace (s.ran.before ++ s.ran.last ∷ []) t.0 told old new s.took part)
+    abbrev next_bytes : IsTracedLineOf g.trace g.folded g.names g.table h' (traced g.trace (next_line.0 ∷ []))
+    next_bytes = traced_held g.folded g.names g.table h' g.trace t.0 next_line.0 t.3 next_line.1
+
+    -- its line is written,
+    pub going_more : TakesLine g h' old new → Going g (n + 1) h' told new
+    going_more took = record {
+      ran = ran_more;
+      took = line_taken g.trace (s.ran.lines.first_lines ++ s.ran.lines.last_line ∷ []) next_line.0 told old new s.took (took (traced g.trace (next_line.0 ∷ [])) next_bytes);
+    }
+
+    -- or a prefix of it
+    pub broke_more : TakesPartOfLine g h' old new → Broke g (n + 1) h' told new
+    broke_more part =
+        broke_so g (n + 1) h' ran_more told new
+        (line_begun g.trace (s.ran.lines.first_lines ++ s.ran.lines.last_line ∷ []) next_line.0 told old new s.took (part (traced g.trace (next_line.0 ∷ [])) next_bytes))
 
   -- the run stops, since it ends there or since memory is wanting
   stops_so : (why : Stop) → (held : Holds g.names g.table h' s.ran.last) → StopsSo (held_by g n h s.ran h' held) why → Stopped g n h' why told old
@@ -95,35 +146,41 @@ module _ (g : Given) (n : ℕ) (h h' : Heap) (told old : Option (List ℕ)) (s :
 
 -- the rest of a run that stopped is written,
 module _ (g : Given) (n : ℕ) (h : Heap) (why : Stop) (old mid new : Option (List ℕ)) (s : Stopped g n h why old mid) where
-  pub concluded : Takes (rest_of g.trace s.going.ran.last (stop_word why) n) mid new → Drove g n h (stop_end why) old new
-  concluded rest = record { ran = s.going.ran; ended = by why s.stops all }
-    where
-      all : Takes (text s.going.ran (stop_word why)) old new
-      all = all_taken g.trace s.going.ran.before s.going.ran.last (stop_word why) n s.going.ran.count old mid new s.going.took rest
+  abbrev stopped : Ran g n h
+  stopped = s.going.ran
 
-      by : (why : Stop) → StopsSo s.going.ran why → Takes (text s.going.ran (stop_word why)) old new → Ended s.going.ran (stop_end why) old new
+  abbrev rest : List ℕ
+  rest = rest_of g.trace stopped.lines.last_line (stop_word why) n
+
+  abbrev rest_bytes : IsRestOf g.trace g.folded g.names g.table h (stop_word why) n rest
+  rest_bytes = rest_held g.folded g.names g.table h g.trace stopped.last stopped.lines.last_line stopped.holds stopped.lines.is_line (stop_word why) n
+
+  pub concluded : ((bytes : List ℕ) → IsRestOf g.trace g.folded g.names g.table h (stop_word why) n bytes → Takes bytes mid new) → Drove g n h (stop_end why) old new
+  concluded took = record { ran = stopped; ended = by why s.stops all }
+    where
+      all : Takes (text stopped (stop_word why)) old new
+      all = all_taken g.trace stopped.lines.first_lines stopped.lines.last_line (stop_word why) n (counted g n h stopped) old mid new s.going.took (took rest rest_bytes)
+
+      by : (why : Stop) → StopsSo stopped why → Takes (text stopped (stop_word why)) old new → Ended stopped (stop_end why) old new
       by stop.Irreducible stops took = (stops, took)
       by stop.Budget stops took = (stops, took)
       by stop.Full stops took = (stops, took)
       by stop.NoMemory stops took = (stops, took)
 
   -- or a prefix of it
-  pub broken_off : TakesPrefix (rest_of g.trace s.going.ran.last (stop_word why) n) mid new → Drove g n h Failed old new
-  broken_off rest = record { ran = r; ended = record { at_end = λ e ends. subst (λ word. TakesPrefix (text r word) old new) (at_end why s.stops e ends) part; elsewhere = λ on. subst (λ word. TakesPrefix (text r word) old new) (elsewhere why s.stops on) part } }
+  pub broken_off : ((bytes : List ℕ) → IsRestOf g.trace g.folded g.names g.table h (stop_word why) n bytes → TakesPrefix bytes mid new) → Drove g n h Failed old new
+  broken_off took = record { ran = stopped; ended = record { at_end = λ e ends. subst (λ word. TakesPrefix (text stopped word) old new) (at_end why s.stops e ends) part; elsewhere = λ on. subst (λ word. TakesPrefix (text stopped word) old new) (elsewhere why s.stops on) part } }
     where
-      r : Ran g n h
-      r = s.going.ran
+      part : TakesPrefix (text stopped (stop_word why)) old new
+      part = part_taken g.trace stopped.lines.first_lines stopped.lines.last_line (stop_word why) n (counted g n h stopped) old mid new s.going.took (took rest rest_bytes)
 
-      part : TakesPrefix (text s.going.ran (stop_word why)) old new
-      part = part_taken g.trace s.going.ran.before s.going.ran.last (stop_word why) n s.going.ran.count old mid new s.going.took rest
-
-      at_end : (why : Stop) → StopsSo s.going.ran why → (e : End) → EndsSo s.going.ran e → stop_word why ≡ word_of e
-      at_end stop.Irreducible stops e ends = ap word_of (ends_once g n h s.going.ran irreducible e stops ends)
-      at_end stop.Budget stops e ends = ap word_of (ends_once g n h s.going.ran budget_done e stops ends)
-      at_end stop.Full stops e ends = ap word_of (ends_once g n h s.going.ran full e stops ends)
+      at_end : (why : Stop) → StopsSo stopped why → (e : End) → EndsSo stopped e → stop_word why ≡ word_of e
+      at_end stop.Irreducible stops e ends = ap word_of (ends_once g n h stopped irreducible e stops ends)
+      at_end stop.Budget stops e ends = ap word_of (ends_once g n h stopped budget_done e stops ends)
+      at_end stop.Full stops e ends = ap word_of (ends_once g n h stopped full e stops ends)
       at_end stop.NoMemory stops e ends = absurd (stops e ends)
 
-      elsewhere : (why : Stop) → StopsSo s.going.ran why → GoesOn s.going.ran → stop_word why ≡ no_memory
+      elsewhere : (why : Stop) → StopsSo stopped why → GoesOn stopped → stop_word why ≡ no_memory
       elsewhere stop.Irreducible stops on = absurd (on irreducible stops)
       elsewhere stop.Budget stops on = absurd (on budget_done stops)
       elsewhere stop.Full stops on = absurd (on full stops)

@@ -5,3 +5,4 @@ pub mod Goings
 pub mod Writings
 pub mod Answering
 pub mod ExampleTexts
+pub mod OneText

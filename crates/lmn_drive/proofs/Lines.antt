@@ -1,5 +1,5 @@
 -- The line that is written of a heap is that of the solid that it holds.
-use Rattle.std.proofs.Common.{ℕ, ◌≡◌, List, refl, sym, ap, subst, ◌∙◌}
+use Rattle.std.proofs.Common.{ℕ, ◌≡◌, Bool, List, refl, sym, ap, subst, ◌∙◌}
 use Rattle.lmn_base.specs.Links.{NumbersLinks}
 use Rattle.lmn_base.specs.Solids.{links_of}
 use Rattle.lmn_base.specs.declared.rule.RuleTree.{RuleTree}
@@ -14,14 +14,12 @@ use Rattle.lmn_congruence.specs.Rules.{Name}
 use Rattle.lmn_congruence.specs.Translation.{numbered_rule, region_of}
 use Rattle.lmn_adequacy.specs.Numbered.{printed_links}
 use Rattle.lmn_bridge.proofs.SolidRegions.{solids_are_regions}
-use Rattle.lmn_plain.specs.SolidLines.{as_level}
-use Rattle.lmn_plain.specs.Words.{line_of}
-use Rattle.lmn_printer.specs.Numbers.{Unmarked}
-use Rattle.lmn_printer.specs.Writing.{IsLineOf}
+use Rattle.lmn_folded.specs.Lines.{IsLine}
+use Rattle.lmn_items.specs.Chosen.{AllUnmarked}
+use Rattle.lmn_folded_printer.specs.Lines.{IsHeapLine}
 use Rattle.lmn_instr.specs.declared.instr.Code.{Code}
 use Rattle.lmn_schedule.specs.Held.{CanRun, Holds, reading_by}
 use Rattle.lmn_schedule.proofs.Printed.{printed}
-use Rattle.lmn_drive.specs.Written.{line}
 
 -- the membranes of a heap and what is in them, by the numbers of its links
 abbrev root_of : Heap → (ℕ → ℕ → ℕ) → Forest → Region
@@ -32,8 +30,8 @@ first_of solid.no_region d = d
 first_of (solid.region_and m ms) d = m
 
 -- a heap that holds a solid has its line
-pub line_held : (names : List Name) (table : List RuleTree) (h : Heap) (S : solid.Region) → Holds names table h S → IsLineOf names table h (line S)
-line_held names table h S held =
+pub line_held : (folded : Bool) (names : List Name) (table : List RuleTree) (h : Heap) (S : solid.Region) (line : List ℕ) → Holds names table h S → IsLine folded S line → IsHeapLine folded names table h line
+line_held folded names table h S line held is_line =
     let x : Solid = record { root = root_of h held.number held.inner } in
     let same : region_of names table x ≡ S =
     ap (λ rs. first_of rs S) (solids_are_regions h (reading_by names table held.number) (mem h.root held.inner bare)) ∙ sym held.is in
@@ -47,8 +45,8 @@ line_held names table h S held =
       count = held.numbered.0;
       numbers = subst (λ ls. NumbersLinks ls held.numbered.0) links held.numbered.1;
     } in
-    (x, of, ap (λ R. line_of (as_level R)) (sym same))
+    (x, of, subst (λ R. IsLine folded R line) (sym same) is_line)
 
 -- a heap on which a turn can be made can be printed
-pub can_print : {h : Heap} {table : List RuleTree} {codes : List Code} {size : ℕ} → CanRun h table codes size → Valid h × Unmarked h
-can_print run = (run.turn.valid, λ a i below. run.turn.unmarked a i)
+pub can_print : {h : Heap} {table : List RuleTree} {codes : List Code} {size : ℕ} → CanRun h table codes size → Valid h × AllUnmarked h
+can_print run = (run.turn.valid, run.turn.unmarked)

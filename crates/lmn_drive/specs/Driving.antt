@@ -6,16 +6,17 @@ use Rattle.lmn_io.specs.Taking.{Takes, TakesPrefix}
 use Rattle.lmn_congruence.specs.Regions.{Region}
 use Rattle.lmn_congruence.specs.Rules.{Name}
 use Rattle.lmn_adequacy.specs.Runs.{Chooser, Trace, End, Ends, irreducible, budget_done, full}
-use Rattle.lmn_printer.specs.Writing.{IsLineOf}
+use Rattle.lmn_folded_printer.specs.Lines.{IsHeapLine}
 use Rattle.lmn_schedule.specs.Held.{Holds}
 use Rattle.lmn_drive.specs.declared.driving.RunEnd.{RunEnd}
+use Rattle.lmn_drive.specs.declared.driving.RunOptions.{RunOptions}
 use Rattle.lmn_drive.specs.declared.driving.RunEnd.TheVariants.{Irreducible, Budget, Full, NoMemory, Failed}
 use Rattle.lmn_drive.specs.declared.driving.Stop.{Stop}
 use Rattle.lmn_drive.specs.declared.driving.Stop.TheVariants as stop
-use Rattle.lmn_drive.specs.Written.{written, traced, end_line}
+use Rattle.lmn_drive.specs.Written.{Lines, written, traced, end_line}
 
 -- What a run is given: a list of names and a table of rules, what the chooser answers, the budget and the size, whether all lines
--- are written, and the solid at the start.
+-- are written, and in the folded form, and the solid at the start.
 pub record Given : Type 0 where
   pub names : List Name
   pub table : List RuleTree
@@ -23,15 +24,17 @@ pub record Given : Type 0 where
   pub budget : ℕ
   pub size : ℕ
   pub trace : Bool
+  pub folded : Bool
   pub first : Region
 
--- So many commits were done from the first solid on, and the heap holds the last one.
+-- So many commits were done from the first solid on, and the heap holds the last one. Each solid has its line.
 pub record Ran (g : Given) (commits : ℕ) (h : Heap) : Type 0 where
   pub before : List Region
   pub last : Region
   pub trace : Trace g.chooser g.budget g.size g.first before last
   pub count : length before ≡ commits
   pub holds : Holds g.names g.table h last
+  pub lines : Lines g.folded before last
 
 -- how the trace ends there, and that it goes on
 abbrev pub EndsSo : {g : Given} {commits : ℕ} {h : Heap} → Ran g commits h → End → Type 0
@@ -42,7 +45,7 @@ GoesOn r = (e : End) → ¬ (EndsSo r e)
 
 -- the text of the run with a word
 abbrev pub text : {g : Given} {commits : ℕ} {h : Heap} → Ran g commits h → List ℕ → List ℕ
-text {g} r word = written g.trace r.before r.last word
+text {g} r word = written g.trace r.lines.first_lines r.lines.last_line word
 
 -- the word for an end
 abbrev pub word_of : End → List ℕ
@@ -72,14 +75,14 @@ pub record Drove (g : Given) (commits : ℕ) (h : Heap) (end : RunEnd) (old new 
   pub ended : Ended ran end old new
 
 -- what a run is given by an engine with this table and size, where the chooser answers as the function does
-abbrev pub given : List Name → List RuleTree → ℕ → Bool → ℕ → Chooser → Region → Given
-given names table size trace budget chooser first =
-    record { names = names; table = table; chooser = chooser; budget = budget; size = size; trace = trace; first = first }
+abbrev pub given : List Name → List RuleTree → ℕ → RunOptions → Chooser → Region → Given
+given names table size options chooser first =
+    record { names = names; table = table; chooser = chooser; budget = options.budget; size = size; trace = options.trace; folded = options.folded; first = first }
 
 -- While a run goes on: with a trace the lines of all solids so far are written, and nothing without one.
 pub record Going (g : Given) (commits : ℕ) (h : Heap) (old new : Option (List ℕ)) : Type 0 where
   pub ran : Ran g commits h
-  pub took : Takes (traced g.trace (ran.before ++ ran.last ∷ [])) old new
+  pub took : Takes (traced g.trace (ran.lines.first_lines ++ ran.lines.last_line ∷ [])) old new
 
 -- why a run stopped
 abbrev pub StopsSo : {g : Given} {commits : ℕ} {h : Heap} → Ran g commits h → Stop → Type 0
@@ -121,17 +124,17 @@ abbrev pub Counts : Option Stop → ℕ → ℕ → Type 0
 Counts None old new = new ≡ old + 1
 Counts (Some why) old new = new ≡ old
 
--- the text of what is written with a trace alone: the line of a solid of the heap
-abbrev pub IsTracedLineOf : Bool → List Name → List RuleTree → Heap → List ℕ → Type 0
-IsTracedLineOf true names table h bytes = IsLineOf names table h bytes
-IsTracedLineOf false names table h bytes = bytes ≡ []
+-- what is written with a trace alone: the line of a solid of the heap
+abbrev pub IsTracedLineOf : (trace folded : Bool) → List Name → List RuleTree → Heap → List ℕ → Type 0
+IsTracedLineOf true folded names table h bytes = IsHeapLine folded names table h bytes
+IsTracedLineOf false folded names table h bytes = bytes ≡ []
 
 -- what is left to be written of a run that stopped: the last line, without a trace, and the end line
-abbrev pub rest_of : Bool → Region → List ℕ → ℕ → List ℕ
-rest_of trace last word commits = traced (not trace) (last ∷ []) ++ end_line word commits
+abbrev pub rest_of : Bool → List ℕ → List ℕ → ℕ → List ℕ
+rest_of trace last_line word commits = traced (not trace) (last_line ∷ []) ++ end_line word commits
 
 -- the same, where the last line is that of a solid of the heap
-pub record IsRestOf (trace : Bool) (names : List Name) (table : List RuleTree) (h : Heap) (word : List ℕ) (commits : ℕ) (bytes : List ℕ) : Type 0 where
+pub record IsRestOf (trace folded : Bool) (names : List Name) (table : List RuleTree) (h : Heap) (word : List ℕ) (commits : ℕ) (bytes : List ℕ) : Type 0 where
   pub last : List ℕ
-  pub is_line : IsTracedLineOf (not trace) names table h last
+  pub is_line : IsTracedLineOf (not trace) folded names table h last
   pub is : bytes ≡ last ++ end_line word commits

@@ -6,15 +6,15 @@ ghost use Rattle.lmn_adequacy.specs.Runs.{Chooser};
 ghost use Rattle.lmn_order.specs.Answers.{AnswersBelow};
 ghost use Rattle.lmn_schedule.specs.Held.{CanRun, Holds};
 ghost use Rattle.lmn_schedule.specs.Turning.{Gives};
-ghost use Rattle.lmn_printer.specs.Writing.{IsLineOf};
+ghost use Rattle.lmn_folded_printer.specs.Lines.{IsHeapLine};
 ghost use Rattle.lmn_drive.specs.Written.{end_line};
 ghost use Rattle.lmn_drive.specs.Driving.{Broke, Counts, Drove, Going, IsRestOf, IsTracedLineOf, StepsOn, Stopped, given, stop_end, stop_word};
 
 use itoa::Buffer;
 use lmn_base::{Names, Plain};
+use lmn_folded_printer::print;
 use lmn_io::{Failed, Sink, put_all};
 use lmn_machine::Steps;
-use lmn_printer::print;
 use lmn_schedule::{Engine, Turn};
 use lmn_store::LinkStore;
 use std::alloc::Global;
@@ -25,6 +25,8 @@ use std::sync::ledger::Ledger;
 pub struct RunOptions {
     /// Whether the process is written after loading and after each commit, and not the last one alone.
     pub trace: bool,
+    /// Whether lines are written in the folded form, and not in the plain one.
+    pub folded: bool,
     /// The most commits, at most 2^63 - 1.
     pub budget: u64,
 }
@@ -73,7 +75,7 @@ pub fn drive<S: LinkStore, F: Fn(u64, u64) -> u64, O: Sink, L: Ledger>(
     requires commits { engine.old.commits ≡ 0 }
     requires budget { options.now.budget ≤ 2 ^ 63 - 1 }
     ensures drove { (c : Chooser) → Gives F.post engine.old.chooser.f c → (solid : Region) → Holds names.now plain.now.rules (S.heap engine.old.machine.store) solid →
-        Drove (given names.now plain.now.rules engine.old.size options.now.trace options.now.budget c solid) engine.new.commits (S.heap engine.new.machine.store) result (O.told out.old) (O.told out.new) }
+        Drove (given names.now plain.now.rules engine.old.size options.now c solid) engine.new.commits (S.heap engine.new.machine.store) result (O.told out.old) (O.told out.new) }
     ensures again { CanRun (S.heap engine.new.machine.store) plain.now.rules engine.old.codes engine.old.size }
     ensures keeps { engine.new ≡ record engine.old { machine = engine.new.machine; commits = engine.new.commits } }
     ensures same { ¬ (result ≡ RunEnd.Failed) → O.faults out.new ≡ O.faults out.old }
@@ -101,7 +103,7 @@ fn run<S: LinkStore, F: Fn(u64, u64) -> u64, O: Sink, L: Ledger>(
     requires commits { engine.old.commits ≡ 0 }
     requires budget { options.now.budget ≤ 2 ^ 63 - 1 }
     ensures stops { (c : Chooser) → Gives F.post engine.old.chooser.f c → (solid : Region) → Holds names.now plain.now.rules (S.heap engine.old.machine.store) solid →
-        let g = given names.now plain.now.rules engine.old.size options.now.trace options.now.budget c solid in MatchResult result
+        let g = given names.now plain.now.rules engine.old.size options.now c solid in MatchResult result
         (λ stop. Stopped g engine.new.commits (S.heap engine.new.machine.store) stop (O.told out.old) (O.told out.new))
         (λ failed. Broke g engine.new.commits (S.heap engine.new.machine.store) (O.told out.old) (O.told out.new)) }
     ensures again { CanRun (S.heap engine.new.machine.store) plain.now.rules engine.old.codes engine.old.size }
@@ -109,7 +111,7 @@ fn run<S: LinkStore, F: Fn(u64, u64) -> u64, O: Sink, L: Ledger>(
     ensures same { OnOk result (O.faults out.new ≡ O.faults out.old) }
     ensures rose { OnErr result (Rose (O.faults out.old) (O.faults out.new)) }
 {
-    write_traced(engine, plain, names, options.trace, out)?;
+    write_traced(engine, plain, names, options.trace, options.folded, out)?;
     for _ in 0..options.budget {
         if let Some(stop) = step(alloc, engine, plain, names, options, out, steps)? {
             return Ok(stop);
@@ -137,7 +139,7 @@ fn step<S: LinkStore, F: Fn(u64, u64) -> u64, O: Sink, L: Ledger>(
     requires chooser { AnswersBelow F.pre F.post engine.old.chooser.f }
     requires commits { engine.old.commits < 2 ^ 63 }
     ensures goes { (c : Chooser) → Gives F.post engine.old.chooser.f c → (solid : Region) (told : Option (List ℕ)) → engine.old.commits < options.now.budget →
-        let g = given names.now plain.now.rules engine.old.size options.now.trace options.now.budget c solid in
+        let g = given names.now plain.now.rules engine.old.size options.now c solid in
         Going g engine.old.commits (S.heap engine.old.machine.store) told (O.told out.old) → MatchResult result
         (StepsOn g engine.new.commits (S.heap engine.new.machine.store) told (O.told out.new))
         (λ failed. Broke g engine.new.commits (S.heap engine.new.machine.store) told (O.told out.new)) }
@@ -149,7 +151,7 @@ fn step<S: LinkStore, F: Fn(u64, u64) -> u64, O: Sink, L: Ledger>(
 {
     match engine.turn(alloc, steps) {
         Turn::Committed => {
-            write_traced(engine, plain, names, options.trace, out)?;
+            write_traced(engine, plain, names, options.trace, options.folded, out)?;
             Ok(None)
         }
         Turn::Irreducible => Ok(Some(Stop::Irreducible)),
@@ -164,15 +166,16 @@ fn write_traced<S: LinkStore, F: Fn(u64, u64) -> u64, O: Sink>(
     plain: &Plain,
     names: &Names,
     trace: bool,
+    folded: bool,
     out: &mut O,
 ) -> Result<(), Failed>
     requires run { CanRun (S.heap engine.old.machine.store) plain.now.rules engine.old.codes engine.old.size }
-    ensures writes { Writes (IsTracedLineOf trace names.now plain.now.rules (S.heap engine.old.machine.store)) result (O.told out.old) (O.faults out.old) (O.told out.new) (O.faults out.new) }
+    ensures writes { Writes (IsTracedLineOf trace folded names.now plain.now.rules (S.heap engine.old.machine.store)) result (O.told out.old) (O.faults out.old) (O.told out.new) (O.faults out.new) }
     ensures kept { S.heap engine.new.machine.store ≡ S.heap engine.old.machine.store }
     ensures keeps { engine.new ≡ record engine.old { machine = engine.new.machine } }
 {
     if trace {
-        write_process(engine, plain, names, out)
+        write_process(engine, plain, names, folded, out)
     } else {
         Ok(())
     }
@@ -183,14 +186,15 @@ fn write_process<S: LinkStore, F: Fn(u64, u64) -> u64, O: Sink>(
     engine: &mut Engine<'_, S, F>,
     plain: &Plain,
     names: &Names,
+    folded: bool,
     out: &mut O,
 ) -> Result<(), Failed>
     requires run { CanRun (S.heap engine.old.machine.store) plain.now.rules engine.old.codes engine.old.size }
-    ensures writes { Writes (IsLineOf names.now plain.now.rules (S.heap engine.old.machine.store)) result (O.told out.old) (O.faults out.old) (O.told out.new) (O.faults out.new) }
+    ensures writes { Writes (IsHeapLine folded names.now plain.now.rules (S.heap engine.old.machine.store)) result (O.told out.old) (O.faults out.old) (O.told out.new) (O.faults out.new) }
     ensures kept { S.heap engine.new.machine.store ≡ S.heap engine.old.machine.store }
     ensures keeps { engine.new ≡ record engine.old { machine = engine.new.machine } }
 {
-    print(engine.store(), plain, names, out)
+    print(engine.store(), plain, names, folded, out)
 }
 
 /// Writes the last line, where it isn't written, and the end line.
@@ -204,7 +208,7 @@ fn conclude<S: LinkStore, F: Fn(u64, u64) -> u64, O: Sink>(
 ) -> RunEnd
     requires run { CanRun (S.heap engine.old.machine.store) plain.now.rules engine.old.codes engine.old.size }
     ensures drove { (c : Chooser) (solid : Region) (told : Option (List ℕ)) →
-        let g = given names.now plain.now.rules engine.old.size options.now.trace options.now.budget c solid in
+        let g = given names.now plain.now.rules engine.old.size options.now c solid in
         Stopped g engine.old.commits (S.heap engine.old.machine.store) stop told (O.told out.old) →
         Drove g engine.old.commits (S.heap engine.new.machine.store) result told (O.told out.new) }
     ensures kept { S.heap engine.new.machine.store ≡ S.heap engine.old.machine.store }
@@ -212,7 +216,7 @@ fn conclude<S: LinkStore, F: Fn(u64, u64) -> u64, O: Sink>(
     ensures same { ¬ (result ≡ RunEnd.Failed) → O.faults out.new ≡ O.faults out.old }
     ensures rose { result ≡ RunEnd.Failed → Rose (O.faults out.old) (O.faults out.new) }
 {
-    match write_rest(engine, plain, names, options.trace, stop, out) {
+    match write_rest(engine, plain, names, options, stop, out) {
         Ok(()) => end_of(stop),
         Err(Failed) => RunEnd::Failed,
     }
@@ -223,16 +227,16 @@ fn write_rest<S: LinkStore, F: Fn(u64, u64) -> u64, O: Sink>(
     engine: &mut Engine<'_, S, F>,
     plain: &Plain,
     names: &Names,
-    trace: bool,
+    options: &RunOptions,
     stop: Stop,
     out: &mut O,
 ) -> Result<(), Failed>
     requires run { CanRun (S.heap engine.old.machine.store) plain.now.rules engine.old.codes engine.old.size }
-    ensures writes { Writes (IsRestOf trace names.now plain.now.rules (S.heap engine.old.machine.store) (stop_word stop) engine.old.commits) result (O.told out.old) (O.faults out.old) (O.told out.new) (O.faults out.new) }
+    ensures writes { Writes (IsRestOf options.now.trace options.now.folded names.now plain.now.rules (S.heap engine.old.machine.store) (stop_word stop) engine.old.commits) result (O.told out.old) (O.faults out.old) (O.told out.new) (O.faults out.new) }
     ensures kept { S.heap engine.new.machine.store ≡ S.heap engine.old.machine.store }
     ensures keeps { engine.new ≡ record engine.old { machine = engine.new.machine } }
 {
-    write_traced(engine, plain, names, !trace, out)?;
+    write_traced(engine, plain, names, !options.trace, options.folded, out)?;
     write_end(stop, engine.commits(), out)
 }
 

@@ -5,4 +5,4 @@ mod driving;
 mod laws;
 
 pub use driving::{RunEnd, RunOptions, drive};
-pub use laws::{answers_are_exact, full_run_is_written};
+pub use laws::{answers_are_exact, folded_run_is_written, full_run_is_written, texts_are_one};

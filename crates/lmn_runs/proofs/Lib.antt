@@ -2,6 +2,7 @@ mod LabelsStay
 mod Tables
 mod Counted
 mod GoodLevels
+pub mod TraceLines
 mod TraceRuns
 mod SpelledParts
 mod SpelledRules

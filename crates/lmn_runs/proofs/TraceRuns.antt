@@ -3,7 +3,7 @@ use Rattle.std.proofs.Common.{◌≡◌, ℕ, ◌+◌, ◌*◌, ◌^◌, ◌<◌
 use Rattle.std.specs.Prelude.{sum}
 use Rattle.std.specs.List.{AllByRecursion, flat_map}
 use Rattle.std.proofs.lemmas.List.Elements.{All-from_recursion}
-use Rattle.std.proofs.lemmas.List.{length-append, length-map, map-append}
+use Rattle.std.proofs.lemmas.List.{length-append, length-map}
 use Rattle.std.proofs.lemmas.List.Sums.{sum_by-cons}
 use Rattle.lmn_base.specs.declared.rule.Plain.{Plain}
 use Rattle.lmn_base.specs.declared.rule.RuleTree.{RuleTree}
@@ -37,6 +37,9 @@ use Rattle.lmn_plain.proofs.SolidLines.{no_contexts, same_process}
 use Rattle.lmn_plain.proofs.SolidNames.{solid_held}
 use Rattle.lmn_plain.proofs.SolidNumbers.{solid_numbers, solid_rules_numbered, there}
 use Rattle.lmn_plain.proofs.TextPlains.{lines_read_back}
+use Rattle.lmn_folded.specs.Lines.{IsFoldedLine, IsLine}
+use Rattle.lmn_folded_same.specs.ReadBack.{IsFoldedLineOf}
+use Rattle.lmn_folded_same.proofs.ReadBack.{folded_lines_read_back}
 use Rattle.lmn_adequacy.specs.Accepted.{Accepted, Throughout}
 use Rattle.lmn_adequacy.specs.Embedding.{AllRules, AllRulesIn, EachRule, Embeds}
 use Rattle.lmn_adequacy.specs.Next.{links_at}
@@ -49,9 +52,10 @@ use Rattle.lmn_adequacy.proofs.RulesStay.{next_rules}
 use Rattle.lmn_reduction.specs.Chains.{Commits, no_step, step_after}
 use Rattle.lmn_reduction.specs.Commits.{Commit, Irreducible}
 use Rattle.lmn_runs.specs.Laws.{IsPrintable, TracesAreRuns, solid_of}
-use Rattle.lmn_runs.specs.Runs.{AllLines, IsLineOf, Prints, Stop, StopsBy, StopsSo, at_end, first_line, next_line, no_memory, solid_line, solid_lines}
+use Rattle.lmn_runs.specs.Runs.{AllLines, IsLineOf, IsProcessLine, LastLine, LinesOf, Prints, Stop, StopsBy, StopsSo, at_end, first_line, next_line, no_memory, printed_solids}
 use Rattle.lmn_runs.proofs.Counted.{numbers_below, numbers_count}
 use Rattle.lmn_runs.proofs.GoodLevels.{Good, GoodRule, LabelHeld, LevelFew, good_integer, integer_good, level_few, level_good, not_connector, rule_good}
+use Rattle.lmn_runs.proofs.TraceLines.{one_more_line}
 use Rattle.lmn_runs.proofs.LabelsStay.{AllAtoms, AllAtomsIn, Atoms, fused_good, next_atoms}
 use Rattle.lmn_runs.proofs.Tables.{solid_has_rules, solid_rules}
 use Rattle.std.specs.declared.alloc.Global.{Global}
@@ -193,17 +197,25 @@ module _ (names : List Name) where
   good_rule r h = let f = itself r h in f.good
 
   module _ (alloc : Global) (is : IsNames names) (size : ℕ) (small : size < 2 ^ 32) where
-    -- the line of such a solid is that of its process
-    line_fine : (S : Region) → Fine size S → IsLineOf names (region_process S) (solid_line S)
-    line_fine S f =
+    rules_fine : (S : Region) → Fine size S → AllRules RuleFine S
+    rules_fine S f = all_rules_so itself S f.rules
+
+    spelled_fine : (S : Region) → Fine size S → LevelSpelled (as_level S)
+    spelled_fine S f =
         let n = f.numbered in
         let count = numbers_count n.1 in
         let ports = region_ports S f.atoms in
         let bound : n.0 ≤ 2 ^ 64 = omega (arith, count.1, ports, f.few, small) in
-        let fine = all_rules_so itself S f.rules in
-        let spelled = region_spelled n.0 S bound f.atoms fine (numbers_below n.1) in
-        let numbers : NumbersLinks (level_links (as_level S)) n.0 = subst (λ xs. NumbersLinks xs n.0) (sym (region_links S)) n.1 in
-        let back = lines_read_back alloc names (as_level S) n.0 is (region_held S f.atoms fine) spelled numbers (region_numbered S fine) (no_contexts S) in
+        region_spelled n.0 S bound f.atoms (rules_fine S f) (numbers_below n.1)
+
+    numbers_fine : (S : Region) (f : Fine size S) → NumbersLinks (level_links (as_level S)) f.numbered.0
+    numbers_fine S f = subst (λ xs. NumbersLinks xs f.numbered.0) (sym (region_links S)) f.numbered.1
+
+    -- the plain line of such a solid is that of its process,
+    plain_fine : (S : Region) → Fine size S → IsLineOf names (region_process S) (line_of (as_level S))
+    plain_fine S f =
+        let fine = rules_fine S f in
+        let back = lines_read_back alloc names (as_level S) f.numbered.0 is (region_held S f.atoms fine) (spelled_fine S f) (numbers_fine S f) (region_numbered S fine) (no_contexts S) in
         record {
           plain = back.0;
           reads = back.1;
@@ -211,6 +223,16 @@ module _ (names : List Name) where
           process = sym (same_process S) ∙ ap level_process (sym back.2);
           closed = f.closed;
         }
+
+    -- and so is its folded line
+    folded_fine : (S : Region) (line : List ℕ) → Fine size S → IsFoldedLine S line → IsFoldedLineOf names (region_process S) line
+    folded_fine S line f h =
+        let fine = rules_fine S f in
+        folded_lines_read_back alloc names S line is (region_held S f.atoms fine) (spelled_fine S f) (region_numbered S fine) f.closed h
+
+    line_fine : (folded : Bool) (S : Region) (line : List ℕ) → Fine size S → IsLine folded S line → IsProcessLine folded names (region_process S) line
+    line_fine true S line f h = folded_fine S line f h
+    line_fine false S line f h = subst (IsLineOf names (region_process S)) (sym h) (plain_fine S f)
 
     -- ---- traces
 
@@ -247,27 +269,38 @@ module _ (names : List Name) where
       commits (turned {before = before} {S' = R} {S'' = T} p l t few) =
           subst (λ n. Commits n (region_process S) (region_process T)) (sym (one_longer before R)) (step_after (commits p) (one_commit (fine p) t))
 
-      all_lines : {before : List Region} {R : Region} → IsTrace before R → AllLines names (region_process S) (length before) (region_process R) (map solid_line (before ++ R ∷ []))
-      all_lines loaded = first_line (line_fine S start)
-      all_lines (turned {before = before} {S' = R} {S'' = T} p l t few) =
+      all_lines : (folded : Bool) {before : List Region} {R : Region} → IsTrace before R → (lines : List (List ℕ)) → LinesOf folded (before ++ R ∷ []) lines →
+          AllLines folded names (region_process S) (length before) (region_process R) lines
+      all_lines folded loaded [] h = absurd h
+      all_lines folded loaded (line ∷ []) h = first_line line (line_fine folded S line start h.0)
+      all_lines folded loaded (line ∷ (more ∷ lines)) h = absurd h.1
+      all_lines folded (turned {before = before} {S' = R} {S'' = T} p l t few) lines h =
           let f = fine p in
-          let more = next_line (all_lines p) (one_commit f t) (line_fine T (next_fine f t few)) in
-          let longer : AllLines names (region_process S) (length (before ++ R ∷ [])) (region_process T) (map solid_line (before ++ R ∷ []) ++ solid_line T ∷ []) =
-          subst (λ n. AllLines names (region_process S) n (region_process T) (map solid_line (before ++ R ∷ []) ++ solid_line T ∷ [])) (sym (one_longer before R)) more in
-          subst (AllLines names (region_process S) (length (before ++ R ∷ [])) (region_process T)) (sym (map-append solid_line (before ++ R ∷ []) (T ∷ []))) longer
+          let cut = one_more_line folded (before ++ R ∷ []) T lines h in
+          let more = next_line cut.1 (all_lines folded p cut.0 cut.2) (one_commit f t) (line_fine folded T cut.1 (next_fine f t few) cut.3) in
+          let longer : AllLines folded names (region_process S) (length (before ++ R ∷ [])) (region_process T) (cut.0 ++ cut.1 ∷ []) =
+          subst (λ n. AllLines folded names (region_process S) n (region_process T) (cut.0 ++ cut.1 ∷ [])) (sym (one_longer before R)) more in
+          subst (AllLines folded names (region_process S) (length (before ++ R ∷ [])) (region_process T)) (sym cut.4) longer
 
-      prints : (trace : Bool) {before : List Region} {R : Region} → IsTrace before R → Prints trace names (region_process S) (length before) (region_process R) (solid_lines trace before R)
-      prints true p = all_lines p
-      prints false {before} {R} p = record { commits = commits p; line = solid_line R; alone = refl; of = line_fine R (fine p) }
+      last_line : (folded : Bool) {before : List Region} {R : Region} → IsTrace before R → (lines : List (List ℕ)) → LinesOf folded (R ∷ []) lines →
+          LastLine folded names (region_process S) (length before) (region_process R) lines
+      last_line folded p [] h = absurd h
+      last_line folded {before} {R} p (line ∷ []) h = record { commits = commits p; line = line; alone = refl; of = line_fine folded R line (fine p) h.0 }
+      last_line folded p (line ∷ (more ∷ lines)) h = absurd h.1
+
+      prints : (trace folded : Bool) {before : List Region} {R : Region} → IsTrace before R → (lines : List (List ℕ)) → LinesOf folded (printed_solids trace before R) lines →
+          Prints trace folded names (region_process S) (length before) (region_process R) lines
+      prints true folded p lines h = all_lines folded p lines h
+      prints false folded p lines h = last_line folded p lines h
 
       at_most : {before : List Region} {R : Region} → IsTrace before R → length before ≤ budget
       at_most loaded = omega arith
       at_most (turned {before = before} {S' = R} p l t few) = omega (arith, l, one_longer before R)
 
       -- how it stops
-      stops : (trace : Bool) {before : List Region} {R : Region} → IsTrace before R → (why : Stop) →
-          StopsSo (record { trace = trace; budget = budget; size = size; chooser = chooser }) (length before) R why → StopsBy budget why (length before) (region_process R)
-      stops trace {before} {R} p = go
+      stops : (trace folded : Bool) {before : List Region} {R : Region} → IsTrace before R → (why : Stop) →
+          StopsSo (record { trace = trace; folded = folded; budget = budget; size = size; chooser = chooser }) (length before) R why → StopsBy budget why (length before) (region_process R)
+      stops trace folded {before} {R} p = go
         where
           f : Fine size R
           f = fine p
@@ -289,7 +322,7 @@ module _ (names : List Name) where
           below : (n k : ℕ) → n ≤ k → (n < k) ⊎ (n ≡ k)
           below n k h = grind arith
 
-          go : (why : Stop) → StopsSo (record { trace = trace; budget = budget; size = size; chooser = chooser }) (length before) R why → StopsBy budget why (length before) (region_process R)
+          go : (why : Stop) → StopsSo (record { trace = trace; folded = folded; budget = budget; size = size; chooser = chooser }) (length before) R why → StopsBy budget why (length before) (region_process R)
           go (at_end e) h = ends e h
           go no_memory h = (
             elim (below (length before) budget most) [
@@ -407,6 +440,6 @@ pub traces_are_runs : TracesAreRuns
 traces_are_runs alloc g names p s printable i few small before last trace =
     let start = solid_fine names p printable g.size s i few in
     record {
-      prints = prints names alloc printable.named.0 g.size small g.chooser g.budget (solid_of names p s) start g.trace trace;
-      stops = stops names alloc printable.named.0 g.size small g.chooser g.budget (solid_of names p s) start g.trace trace;
+      prints = λ lines. prints names alloc printable.named.0 g.size small g.chooser g.budget (solid_of names p s) start g.trace g.folded trace lines;
+      stops = stops names alloc printable.named.0 g.size small g.chooser g.budget (solid_of names p s) start g.trace g.folded trace;
     }

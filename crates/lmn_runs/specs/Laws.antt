@@ -1,4 +1,4 @@
--- The law of runs.
+-- The laws of runs.
 use Rattle.std.specs.Prelude.{ℕ, ◌≡◌, ◌<◌, ◌≤◌, ◌^◌, ⊤, List, Some, length, slice_get}
 use Rattle.std.specs.List.{AllByRecursion}
 use Rattle.std.specs.declared.alloc.Global.{Global}
@@ -11,6 +11,7 @@ use Rattle.lmn_base.specs.Levels.{leaves_of}
 use Rattle.lmn_base.specs.Names.{NamesPlain}
 use Rattle.lmn_base.specs.Solids.{items_of}
 use Rattle.lmn_base.specs.WellMade.{IsWellMade}
+use Rattle.lmn_congruence.specs.Process.{Closed}
 use Rattle.lmn_congruence.specs.Regions.{Region, region_process}
 use Rattle.lmn_congruence.specs.Rules.{Name}
 use Rattle.lmn_congruence.specs.SolidsOfPlains.{IsSolidOf}
@@ -18,7 +19,7 @@ use Rattle.lmn_congruence.specs.Translation.{numbered_rule, region_of, top_of}
 use Rattle.lmn_plain.specs.Spelled.{LevelSpelled, RuleSpelled}
 use Rattle.lmn_adequacy.specs.Accepted.{Accepted}
 use Rattle.lmn_adequacy.specs.Runs.{Trace}
-use Rattle.lmn_runs.specs.Runs.{Given, Prints, Stop, StopsBy, StopsSo, solid_lines}
+use Rattle.lmn_runs.specs.Runs.{Given, PrintedLines, Prints, Stop, StopsBy, StopsSo}
 
 -- an atom has at most 255 links
 abbrev pub HasFewLinks : Leaf → Type 0
@@ -42,7 +43,8 @@ solid_of names plain s = region_of names plain.rules s
 -- What is printed of a trace of the solid of such a plain: the lines are those of processes, each of which reads back as its process;
 -- each next process comes by one commit; and a stop of the trace is one of the run.
 pub record IsRunOf (g : Given) (names : List Name) (plain : Plain) (s : Solid) (before : List Region) (last : Region) : Type 0 where
-  pub prints : Prints g.trace names (region_process (solid_of names plain s)) (length before) (region_process last) (solid_lines g.trace before last)
+  pub prints : (lines : List (List ℕ)) → PrintedLines g before last lines →
+      Prints g.trace g.folded names (region_process (solid_of names plain s)) (length before) (region_process last) lines
   pub stops : (why : Stop) → StopsSo g (length before) last why → StopsBy g.budget why (length before) (region_process last)
 
 -- Each trace is such a run, where fewer than 2 ^ 32 items are allowed. A box in a condition belongs to an allocator, so one is given.
@@ -50,3 +52,9 @@ abbrev pub TracesAreRuns : Type 0
 TracesAreRuns = (alloc : Global) (g : Given) (names : List Name) (plain : Plain) (s : Solid) → IsPrintable names plain → IsSolidOf plain s →
     items_of s ≤ g.size → g.size < 2 ^ 32 → (before : List Region) (last : Region) →
     Trace g.chooser g.budget g.size (solid_of names plain s) before last → IsRunOf g names plain s before last
+
+-- Lines are printed of each trace whose first solid has each link in two places, as that of a plain has, and no others are.
+abbrev pub TracesHaveLines : Type 0
+TracesHaveLines = (g : Given) (S : Region) (before : List Region) (last : Region) → Closed (region_process S) →
+    Trace g.chooser g.budget g.size S before last →
+    (lines : List (List ℕ)) × PrintedLines g before last lines × ((other : List (List ℕ)) → PrintedLines g before last other → other ≡ lines)

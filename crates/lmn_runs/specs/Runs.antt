@@ -1,13 +1,15 @@
 -- What a run is, by what it prints: in the calculus, and by the strategy.
-use Rattle.std.specs.Prelude.{ℕ, ◌≡◌, ◌+◌, ◌<◌, ◌≤◌, List, [], ◌∷◌, ◌++◌, Bool, true, false, map, if◌then◌else◌, codes}
+use Rattle.std.specs.Prelude.{ℕ, ◌≡◌, ◌+◌, ◌<◌, ◌≤◌, List, [], ◌∷◌, ◌++◌, Bool, true, false, if◌then◌else◌, codes}
 use Rattle.lmn_base.specs.declared.rule.Plain.{Plain}
 use Rattle.lmn_congruence.specs.Process.{Process, Closed}
 use Rattle.lmn_congruence.specs.Regions.{Region}
 use Rattle.lmn_congruence.specs.Rules.{Name}
 use Rattle.lmn_congruence.specs.Translation.{plain_process, top_of}
-use Rattle.lmn_plain.specs.SolidLines.{as_level}
+use Rattle.lmn_plain.specs.Plains.{Each}
 use Rattle.lmn_plain.specs.Texts.{IsPlainOfText}
 use Rattle.lmn_plain.specs.Words.{line_of}
+use Rattle.lmn_folded.specs.Lines.{IsLine}
+use Rattle.lmn_folded_same.specs.ReadBack.{IsFoldedLineOf}
 use Rattle.lmn_reduction.specs.Chains.{Commits}
 use Rattle.lmn_reduction.specs.Commits.{Commit, Irreducible}
 use Rattle.lmn_adequacy.specs.Runs.{Chooser, End, irreducible, budget_done, full, Ends}
@@ -47,39 +49,52 @@ pub record IsLineOf (names : List Name) (P : Process) (line : List ℕ) : Type 0
   pub process : P ≡ plain_process names plain
   pub closed : Closed P
 
+-- The line of a process, in the folded form where that is asked, and else in the plain one. The process of a folded line is P up to
+-- congruence: the atoms of a membrane may stand in another order in it, and its links have other numbers.
+abbrev pub IsProcessLine : Bool → List Name → Process → List ℕ → Type 0
+IsProcessLine true = IsFoldedLineOf
+IsProcessLine false = IsLineOf
+
 -- The lines of processes from P on, and the last process. Each next one comes from the one before it by one commit; n commits in all.
-pub data AllLines (names : List Name) (P : Process) : ℕ → Process → List (List ℕ) → Type 0 where
-  first_line : {line : List ℕ} → IsLineOf names P line → AllLines names P 0 P (line ∷ [])
-  next_line : {n : ℕ} {Q R : Process} {lines : List (List ℕ)} {line : List ℕ} →
-      AllLines names P n Q lines → Commit Q R → IsLineOf names R line → AllLines names P (n + 1) R (lines ++ line ∷ [])
+pub data AllLines (folded : Bool) (names : List Name) (P : Process) : ℕ → Process → List (List ℕ) → Type 0 where
+  first_line : (line : List ℕ) → IsProcessLine folded names P line → AllLines folded names P 0 P (line ∷ [])
+  next_line : {n : ℕ} {Q R : Process} {lines : List (List ℕ)} (line : List ℕ) →
+      AllLines folded names P n Q lines → Commit Q R → IsProcessLine folded names R line → AllLines folded names P (n + 1) R (lines ++ line ∷ [])
 
 -- The line of the last process alone, to which a chain of n commits leads from P.
-pub record LastLine (names : List Name) (P : Process) (n : ℕ) (Q : Process) (lines : List (List ℕ)) : Type 0 where
+pub record LastLine (folded : Bool) (names : List Name) (P : Process) (n : ℕ) (Q : Process) (lines : List (List ℕ)) : Type 0 where
   pub commits : Commits n P Q
   pub line : List ℕ
   pub alone : lines ≡ line ∷ []
-  pub of : IsLineOf names Q line
+  pub of : IsProcessLine folded names Q line
 
 -- with a trace all lines, and without one the last
-abbrev pub Prints : Bool → List Name → Process → ℕ → Process → List (List ℕ) → Type 0
-Prints true = AllLines
-Prints false = LastLine
+abbrev pub Prints : (trace folded : Bool) → List Name → Process → ℕ → Process → List (List ℕ) → Type 0
+Prints true folded = AllLines folded
+Prints false folded = LastLine folded
 
 -- ---- which of these is printed, by the strategy
 
--- the line of a solid
-abbrev pub solid_line : Region → List ℕ
-solid_line S = line_of (as_level S)
+-- the solids that are printed: with a trace all, and without one the last
+abbrev pub printed_solids : Bool → List Region → Region → List Region
+printed_solids trace before last = if trace then before ++ last ∷ [] else last ∷ []
 
-abbrev pub solid_lines : Bool → List Region → Region → List (List ℕ)
-solid_lines trace before last = if trace then map solid_line (before ++ last ∷ []) else solid_line last ∷ []
+-- the lines of solids, one for each
+abbrev pub LinesOf : Bool → List Region → List (List ℕ) → Type 0
+LinesOf folded = Each (IsLine folded)
 
--- What a run is given: whether all lines are printed, the most commits, the most items, and which membrane is asked first.
+-- What a run is given: whether all lines are printed, and in the folded form, the most commits, the most items, and which membrane is
+-- asked first.
 pub record Given : Type 0 where
   pub trace : Bool
+  pub folded : Bool
   pub budget : ℕ
   pub size : ℕ
   pub chooser : Chooser
+
+-- the lines that are printed of a trace
+abbrev pub PrintedLines : Given → List Region → Region → List (List ℕ) → Type 0
+PrintedLines g before last = LinesOf g.folded (printed_solids g.trace before last)
 
 -- how the trace stops after its last solid, n commits done
 abbrev pub StopsSo : Given → ℕ → Region → Stop → Type 0

@@ -4,13 +4,18 @@
 //! when it runs.
 #![tactic(auto)]
 
-ghost use Rattle.lmn_runs.specs.Laws.{TracesAreRuns};
+ghost use Rattle.lmn_runs.specs.Laws.{TracesAreRuns, TracesHaveLines};
 ghost use Rattle.lmn_runs.specs.Texts.{PlainsArePrintable};
 
 /// The lines of a trace of the solid of a plain are those of a run: each reads back as its process, each next process comes by
 /// one commit, and the run stops at an irreducible process exactly where its word says so.
 pub fn traces_are_runs()
     ensures { TracesAreRuns }
+{}
+
+/// Each trace has lines, and one line for each solid.
+pub fn traces_have_lines()
+    ensures { TracesHaveLines }
 {}
 
 /// Runs of the plain that is read of a text can be printed: a text can spell its top and its rules, since its tokens did.

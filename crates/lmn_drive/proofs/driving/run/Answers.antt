@@ -1,28 +1,26 @@
-use Rattle.std.proofs.Common.{◌≡◌, ◌+◌, ◌<◌, [], ◌∷◌, refl, sym, ap, subst, ◌∙◌, arith}
+use Rattle.std.proofs.Common.{◌≡◌, ◌+◌, ◌<◌, refl, sym, ap, subst, ◌∙◌, arith}
 use Rattle.lmn_schedule.specs.Held.{CanRun, Holds}
 use Rattle.lmn_io.specs.Counts.{Rose}
 use Rattle.lmn_order.specs.Answers.{AnswersBelow}
 use Rattle.lmn_schedule.specs.Turning.{Gives}
 use Rattle.lmn_drive.specs.Driving.{Broke, Counts, Given, Going, StepsOn, Stopped, given}
-use Rattle.lmn_drive.specs.Written.{traced}
 use Rattle.lmn_drive.specs.declared.driving.Stop.TheVariants as stop
 use Rattle.lmn_drive.proofs.Goings.{broke_first, going_first, moved, stops_budget, stops_done}
-use Rattle.lmn_drive.proofs.Writings.{at_err, traced_held}
+use Rattle.lmn_drive.proofs.Writings.{at_err}
 use Rattle.lmn_drive.proofs.driving.run.Goals as goal
 
 pub returns-in_err-write_traced-clause-stops : goal.returns-in_err-write_traced-clause-stops
 returns-in_err-write_traced-clause-stops g c k gives solid held =
     let names = c.args.names.now in
     let table = c.args.plain.now.rules in
-    let trace = c.args.options.now.trace in
-    let budget = c.args.options.now.budget in
+    let options = c.args.options.now in
     let told = g.O.Sink.told c.args.out.now in
-    let r : Given = given names table c.args.engine.now.size trace budget k solid in
+    let r : Given = given names table c.args.engine.now.size options k solid in
     let h = g.S.LinkStore.heap c.args.engine.now.machine.store in
     let new = g.O.Sink.told c.write_traced.new.out in
     at_err _ c.from_residual.result _ _ c.from_residual.ensures.1
     (moved (λ n h. Broke r n h told new) (λ i. (c.write_traced.ensures.keeps i).commits) c.write_traced.ensures.kept
-    (broke_first r c.args.engine.now.commits h told new c.requires.commits held (c.in_err-write_traced.ensures.writes.prefix (traced trace (solid ∷ [])) (traced_held names table h trace solid held))))
+    (broke_first r c.args.engine.now.commits h told new c.requires.commits held (λ bytes is. c.in_err-write_traced.ensures.writes.prefix bytes is)))
 
 pub returns-in_err-write_traced-clause-again : goal.returns-in_err-write_traced-clause-again
 returns-in_err-write_traced-clause-again g c = subst (λ h. CanRun h c.args.plain.now.rules c.args.engine.now.codes c.args.engine.now.size) (sym c.write_traced.ensures.kept) c.requires.run
@@ -39,8 +37,7 @@ pub loop-init : goal.loop-init
 loop-init g c =
     let names = c.args.names.now in
     let table = c.args.plain.now.rules in
-    let trace = c.args.options.now.trace in
-    let budget = c.args.options.now.budget in
+    let options = c.args.options.now in
     let told = g.O.Sink.told c.args.out.now in
     let h = g.S.LinkStore.heap c.args.engine.now.machine.store in
     let new = g.O.Sink.told c.write_traced.new.out in
@@ -50,9 +47,9 @@ loop-init g c =
       keeps = wrote ∙ sym (λ i. record c.args.engine.now { machine = c.write_traced.new.engine.machine; commits = (wrote i).commits });
       count = (λ i. (wrote i).commits) ∙ c.requires.commits;
       same = c.in_ok-write_traced.ensures.writes.same;
-      going = λ k gives solid held. (let r : Given = given names table c.args.engine.now.size trace budget k solid in
+      going = λ k gives solid held. (let r : Given = given names table c.args.engine.now.size options k solid in
           moved (λ n h. Going r n h told new) (λ i. (wrote i).commits) c.write_traced.ensures.kept
-          (going_first r c.args.engine.now.commits h told new c.requires.commits held (c.in_ok-write_traced.ensures.writes.took (traced trace (solid ∷ [])) (traced_held names table h trace solid held))));
+          (going_first r c.args.engine.now.commits h told new c.requires.commits held (λ bytes is. c.in_ok-write_traced.ensures.writes.took bytes is)));
     }
 
 pub step-requires-clause-run : goal.step-requires-clause-run
@@ -79,15 +76,14 @@ pub returns-in_err-stop-clause-stops : goal.returns-in_err-stop-clause-stops
 returns-in_err-stop-clause-stops g c k gives solid held =
     let names = c.args.names.now in
     let table = c.args.plain.now.rules in
-    let trace = c.args.options.now.trace in
-    let budget = c.args.options.now.budget in
+    let options = c.args.options.now in
     let told = g.O.Sink.told c.args.out.now in
     let size : c.loop.engine.size ≡ c.args.engine.now.size = λ i. (c.loop.invariant.keeps i).size in
-    let below : c.loop.engine.commits < budget = (let l = c.loop-test.true in let e = c.loop.invariant.count in omega (arith, l, e)) in
+    let below : c.loop.engine.commits < options.budget = (let l = c.loop-test.true in let e = c.loop.invariant.count in omega (arith, l, e)) in
     let gives' = subst (λ f. Gives (λ f t m r. g.F.Fn.post f (t, (m, tt)) r) f k) (sym (λ i. (c.loop.invariant.keeps i).chooser.f)) gives in
-    let going = subst (λ n. Going (given names table n trace budget k solid) c.loop.engine.commits (g.S.LinkStore.heap c.loop.engine.machine.store) told (g.O.Sink.told c.loop.out)) (sym size) (c.loop.invariant.going k gives solid held) in
+    let going = subst (λ n. Going (given names table n options k solid) c.loop.engine.commits (g.S.LinkStore.heap c.loop.engine.machine.store) told (g.O.Sink.told c.loop.out)) (sym size) (c.loop.invariant.going k gives solid held) in
     at_err _ c.from_residual-in_err-stop.result _ _ c.from_residual-in_err-stop.ensures.1
-    (subst (λ n. Broke (given names table n trace budget k solid) c.step.new.engine.commits (g.S.LinkStore.heap c.step.new.engine.machine.store) told (g.O.Sink.told c.step.new.out)) size (c.in_err-stop.ensures.goes k gives' solid told below going))
+    (subst (λ n. Broke (given names table n options k solid) c.step.new.engine.commits (g.S.LinkStore.heap c.step.new.engine.machine.store) told (g.O.Sink.told c.step.new.out)) size (c.in_err-stop.ensures.goes k gives' solid told below going))
 
 pub returns-in_err-stop-clause-again : goal.returns-in_err-stop-clause-again
 returns-in_err-stop-clause-again g c =
@@ -104,15 +100,14 @@ pub returns-in-Some-clause-stops : goal.returns-in-Some-clause-stops
 returns-in-Some-clause-stops g c k gives solid held =
     let names = c.args.names.now in
     let table = c.args.plain.now.rules in
-    let trace = c.args.options.now.trace in
-    let budget = c.args.options.now.budget in
+    let options = c.args.options.now in
     let told = g.O.Sink.told c.args.out.now in
     let size : c.loop.engine.size ≡ c.args.engine.now.size = λ i. (c.loop.invariant.keeps i).size in
-    let below : c.loop.engine.commits < budget = (let l = c.loop-test.true in let e = c.loop.invariant.count in omega (arith, l, e)) in
+    let below : c.loop.engine.commits < options.budget = (let l = c.loop-test.true in let e = c.loop.invariant.count in omega (arith, l, e)) in
     let gives' = subst (λ f. Gives (λ f t m r. g.F.Fn.post f (t, (m, tt)) r) f k) (sym (λ i. (c.loop.invariant.keeps i).chooser.f)) gives in
-    let going = subst (λ n. Going (given names table n trace budget k solid) c.loop.engine.commits (g.S.LinkStore.heap c.loop.engine.machine.store) told (g.O.Sink.told c.loop.out)) (sym size) (c.loop.invariant.going k gives solid held) in
-    let r : Given = given names table c.loop.engine.size trace budget k solid in
-    subst (λ n. Stopped (given names table n trace budget k solid) c.step.new.engine.commits (g.S.LinkStore.heap c.step.new.engine.machine.store) c.in-Some.stop told (g.O.Sink.told c.step.new.out)) size
+    let going = subst (λ n. Going (given names table n options k solid) c.loop.engine.commits (g.S.LinkStore.heap c.loop.engine.machine.store) told (g.O.Sink.told c.loop.out)) (sym size) (c.loop.invariant.going k gives solid held) in
+    let r : Given = given names table c.loop.engine.size options k solid in
+    subst (λ n. Stopped (given names table n options k solid) c.step.new.engine.commits (g.S.LinkStore.heap c.step.new.engine.machine.store) c.in-Some.stop told (g.O.Sink.told c.step.new.out)) size
     (subst (StepsOn r c.step.new.engine.commits (g.S.LinkStore.heap c.step.new.engine.machine.store) told (g.O.Sink.told c.step.new.out)) c.in-Some.is (c.in_ok-stop.ensures.goes k gives' solid told below going))
 
 pub returns-in-Some-clause-again : goal.returns-in-Some-clause-again
@@ -130,8 +125,7 @@ pub loop-preserved : goal.loop-preserved
 loop-preserved g c =
     let names = c.args.names.now in
     let table = c.args.plain.now.rules in
-    let trace = c.args.options.now.trace in
-    let budget = c.args.options.now.budget in
+    let options = c.args.options.now in
     let told = g.O.Sink.told c.args.out.now in
     record {
       run = subst (λ size. CanRun (g.S.LinkStore.heap c.step.new.engine.machine.store) c.args.plain.now.rules c.args.engine.now.codes size) (λ i. (c.loop.invariant.keeps i).size)
@@ -141,11 +135,11 @@ loop-preserved g c =
       same = c.in_ok-stop.ensures.same ∙ c.loop.invariant.same;
       going = λ k gives solid held. (
           let size : c.loop.engine.size ≡ c.args.engine.now.size = λ i. (c.loop.invariant.keeps i).size in
-          let below : c.loop.engine.commits < budget = (let l = c.loop-test.true in let e = c.loop.invariant.count in omega (arith, l, e)) in
+          let below : c.loop.engine.commits < options.budget = (let l = c.loop-test.true in let e = c.loop.invariant.count in omega (arith, l, e)) in
           let gives' = subst (λ f. Gives (λ f t m r. g.F.Fn.post f (t, (m, tt)) r) f k) (sym (λ i. (c.loop.invariant.keeps i).chooser.f)) gives in
-          let going = subst (λ n. Going (given names table n trace budget k solid) c.loop.engine.commits (g.S.LinkStore.heap c.loop.engine.machine.store) told (g.O.Sink.told c.loop.out)) (sym size) (c.loop.invariant.going k gives solid held) in
-          subst (λ n. Going (given names table n trace budget k solid) c.step.new.engine.commits (g.S.LinkStore.heap c.step.new.engine.machine.store) told (g.O.Sink.told c.step.new.out)) size
-          (subst (StepsOn (given names table c.loop.engine.size trace budget k solid) c.step.new.engine.commits (g.S.LinkStore.heap c.step.new.engine.machine.store) told (g.O.Sink.told c.step.new.out)) c.in_default.is (c.in_ok-stop.ensures.goes k gives' solid told below going)));
+          let going = subst (λ n. Going (given names table n options k solid) c.loop.engine.commits (g.S.LinkStore.heap c.loop.engine.machine.store) told (g.O.Sink.told c.loop.out)) (sym size) (c.loop.invariant.going k gives solid held) in
+          subst (λ n. Going (given names table n options k solid) c.step.new.engine.commits (g.S.LinkStore.heap c.step.new.engine.machine.store) told (g.O.Sink.told c.step.new.out)) size
+          (subst (StepsOn (given names table c.loop.engine.size options k solid) c.step.new.engine.commits (g.S.LinkStore.heap c.step.new.engine.machine.store) told (g.O.Sink.told c.step.new.out)) c.in_default.is (c.in_ok-stop.ensures.goes k gives' solid told below going)));
     }
 
 pub reducible-requires : goal.reducible-requires
@@ -161,16 +155,15 @@ pub returns-then-reducible-clause-stops : goal.returns-then-reducible-clause-sto
 returns-then-reducible-clause-stops g c k gives solid held =
     let names = c.args.names.now in
     let table = c.args.plain.now.rules in
-    let trace = c.args.options.now.trace in
-    let budget = c.args.options.now.budget in
+    let options = c.args.options.now in
     let told = g.O.Sink.told c.args.out.now in
-    let r : Given = given names table c.args.engine.now.size trace budget k solid in
+    let r : Given = given names table c.args.engine.now.size options k solid in
     let keeps = c.loop.invariant.keeps in
     let h = g.S.LinkStore.heap c.loop.engine.machine.store in
     let h' = g.S.LinkStore.heap c.reducible.new.self.machine.store in
     let new = g.O.Sink.told c.loop.out in
     let s = c.loop.invariant.going k gives solid held in
-    let e : c.loop.engine.commits ≡ budget = (let f = c.loop-test.false in let l = c.loop.auto in let n = c.loop.invariant.count in omega (arith, n)) in
+    let e : c.loop.engine.commits ≡ options.budget = (let f = c.loop-test.false in let l = c.loop.auto in let n = c.loop.invariant.count in omega (arith, n)) in
     let rules : c.loop.engine.plain.now.rules ≡ table = (λ i. (keeps i).plain.now.rules) ∙ (λ i. (c.requires.plain i).rules) in
     let holds = subst (λ T. Holds names T h s.ran.last) (sym rules) s.ran.holds in
     moved (λ n h. Stopped r n h stop.Budget told new) {h' = h'} (λ i. (c.reducible.ensures.keeps i).commits) refl
@@ -192,16 +185,15 @@ pub returns-else-reducible-clause-stops : goal.returns-else-reducible-clause-sto
 returns-else-reducible-clause-stops g c k gives solid held =
     let names = c.args.names.now in
     let table = c.args.plain.now.rules in
-    let trace = c.args.options.now.trace in
-    let budget = c.args.options.now.budget in
+    let options = c.args.options.now in
     let told = g.O.Sink.told c.args.out.now in
-    let r : Given = given names table c.args.engine.now.size trace budget k solid in
+    let r : Given = given names table c.args.engine.now.size options k solid in
     let keeps = c.loop.invariant.keeps in
     let h = g.S.LinkStore.heap c.loop.engine.machine.store in
     let h' = g.S.LinkStore.heap c.reducible.new.self.machine.store in
     let new = g.O.Sink.told c.loop.out in
     let s = c.loop.invariant.going k gives solid held in
-    let e : c.loop.engine.commits ≡ budget = (let f = c.loop-test.false in let l = c.loop.auto in let n = c.loop.invariant.count in omega (arith, n)) in
+    let e : c.loop.engine.commits ≡ options.budget = (let f = c.loop-test.false in let l = c.loop.auto in let n = c.loop.invariant.count in omega (arith, n)) in
     let rules : c.loop.engine.plain.now.rules ≡ table = (λ i. (keeps i).plain.now.rules) ∙ (λ i. (c.requires.plain i).rules) in
     let holds = subst (λ T. Holds names T h s.ran.last) (sym rules) s.ran.holds in
     moved (λ n h. Stopped r n h stop.Irreducible told new) {h' = h'} (λ i. (c.reducible.ensures.keeps i).commits) refl

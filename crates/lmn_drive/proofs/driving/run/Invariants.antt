@@ -15,5 +15,5 @@ invariant-loop g l =
       count : l.engine.commits ≡ l.counter;
       same : g.O.Sink.faults l.out ≡ g.O.Sink.faults l.fn.out;
       going : (c : Chooser) → Gives (λ f t m r. g.F.Fn.post f (t, (m, tt)) r) l.fn.engine.chooser.f c → (solid : Region) → Holds l.names l.plain.rules (heap l.fn.engine.machine.store) solid →
-          Going (given l.names l.plain.rules l.fn.engine.size l.options.trace l.options.budget c solid) l.engine.commits (heap l.engine.machine.store) (g.O.Sink.told l.fn.out) (g.O.Sink.told l.out);
+          Going (given l.names l.plain.rules l.fn.engine.size l.options c solid) l.engine.commits (heap l.engine.machine.store) (g.O.Sink.told l.fn.out) (g.O.Sink.told l.out);
     }

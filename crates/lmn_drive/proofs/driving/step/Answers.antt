@@ -1,12 +1,11 @@
-use Rattle.std.proofs.Common.{[], ◌∷◌, refl, sym, subst, ◌∙◌}
+use Rattle.std.proofs.Common.{refl, sym, subst, ◌∙◌}
 use Rattle.lmn_schedule.specs.Held.{CanRun, Holds}
 use Rattle.lmn_strategy.specs.declared.turning.Turn.TheVariants as answer
 use Rattle.lmn_schedule.specs.Turning.{IsTurned}
 use Rattle.lmn_drive.specs.Driving.{Broke, Given, Going, Stopped, given}
-use Rattle.lmn_drive.specs.Written.{traced}
 use Rattle.lmn_drive.specs.declared.driving.Stop.TheVariants as stop
 use Rattle.lmn_drive.proofs.Goings.{broke_more, going_more, moved, none_more, stops_full, stops_irreducible, stops_no_memory}
-use Rattle.lmn_drive.proofs.Writings.{at_err, traced_held}
+use Rattle.lmn_drive.proofs.Writings.{at_err}
 use Rattle.lmn_drive.proofs.driving.step.Goals as goal
 
 pub returns-in_err-write_traced-in-Committed-clause-goes : goal.returns-in_err-write_traced-in-Committed-clause-goes
@@ -14,7 +13,7 @@ returns-in_err-write_traced-in-Committed-clause-goes g c k gives solid told belo
     let names = c.args.names.now in
     let size = c.args.engine.now.size in
     let commits = c.args.engine.now.commits in
-    let r : Given = given names c.args.plain.now.rules size c.args.options.now.trace c.args.options.now.budget k solid in
+    let r : Given = given names c.args.plain.now.rules size c.args.options.now k solid in
     let h = g.S.LinkStore.heap c.args.engine.now.machine.store in
     let h' = g.S.LinkStore.heap c.turn.new.self.machine.store in
     let t = subst (λ T. Holds names T h s.ran.last → IsTurned names T k size commits s.ran.last answer.Committed h') (λ i. (c.requires.plain i).rules) (c.in-Committed.ensures.turned k gives names s.ran.last) s.ran.holds in
@@ -23,7 +22,7 @@ returns-in_err-write_traced-in-Committed-clause-goes g c k gives solid told belo
     (moved (λ n h. Broke r n h told new) (λ i. (c.write_traced.ensures.keeps i).commits) c.write_traced.ensures.kept
     (moved (λ n h. Broke r n h told new) {h' = h'} (λ i. (c.in-Committed.ensures.keeps i).commits) refl
     (broke_more r commits h h' told (g.O.Sink.told c.args.out.now) s below t new
-    (c.in_err-write_traced-in-Committed.ensures.writes.prefix (traced r.trace (t.0 ∷ [])) (traced_held names r.table h' r.trace t.0 t.3)))))
+    (λ bytes is. c.in_err-write_traced-in-Committed.ensures.writes.prefix bytes is))))
 
 pub returns-in_err-write_traced-in-Committed-clause-again : goal.returns-in_err-write_traced-in-Committed-clause-again
 returns-in_err-write_traced-in-Committed-clause-again g c =
@@ -42,7 +41,7 @@ returns-in_ok-write_traced-in-Committed-clause-goes g c k gives solid told below
     let names = c.args.names.now in
     let size = c.args.engine.now.size in
     let commits = c.args.engine.now.commits in
-    let r : Given = given names c.args.plain.now.rules size c.args.options.now.trace c.args.options.now.budget k solid in
+    let r : Given = given names c.args.plain.now.rules size c.args.options.now k solid in
     let h = g.S.LinkStore.heap c.args.engine.now.machine.store in
     let h' = g.S.LinkStore.heap c.turn.new.self.machine.store in
     let t = subst (λ T. Holds names T h s.ran.last → IsTurned names T k size commits s.ran.last answer.Committed h') (λ i. (c.requires.plain i).rules) (c.in-Committed.ensures.turned k gives names s.ran.last) s.ran.holds in
@@ -50,7 +49,7 @@ returns-in_ok-write_traced-in-Committed-clause-goes g c k gives solid told below
     moved (λ n h. Going r n h told new) (λ i. (c.write_traced.ensures.keeps i).commits) c.write_traced.ensures.kept
     (moved (λ n h. Going r n h told new) {h' = h'} (λ i. (c.in-Committed.ensures.keeps i).commits) refl
     (going_more r commits h h' told (g.O.Sink.told c.args.out.now) s below t new
-    (c.in_ok-write_traced-in-Committed.ensures.writes.took (traced r.trace (t.0 ∷ [])) (traced_held names r.table h' r.trace t.0 t.3))))
+    (λ bytes is. c.in_ok-write_traced-in-Committed.ensures.writes.took bytes is)))
 
 pub returns-in_ok-write_traced-in-Committed-clause-again : goal.returns-in_ok-write_traced-in-Committed-clause-again
 returns-in_ok-write_traced-in-Committed-clause-again g c =
@@ -78,7 +77,7 @@ returns-in-Irreducible-clause-goes g c k gives solid told below s =
     let names = c.args.names.now in
     let size = c.args.engine.now.size in
     let commits = c.args.engine.now.commits in
-    let r : Given = given names c.args.plain.now.rules size c.args.options.now.trace c.args.options.now.budget k solid in
+    let r : Given = given names c.args.plain.now.rules size c.args.options.now k solid in
     let h = g.S.LinkStore.heap c.args.engine.now.machine.store in
     let h' = g.S.LinkStore.heap c.turn.new.self.machine.store in
     let t = subst (λ T. Holds names T h s.ran.last → IsTurned names T k size commits s.ran.last answer.Irreducible h') (λ i. (c.requires.plain i).rules) (c.in-Irreducible.ensures.turned k gives names s.ran.last) s.ran.holds in
@@ -101,7 +100,7 @@ returns-in-Full-clause-goes g c k gives solid told below s =
     let names = c.args.names.now in
     let size = c.args.engine.now.size in
     let commits = c.args.engine.now.commits in
-    let r : Given = given names c.args.plain.now.rules size c.args.options.now.trace c.args.options.now.budget k solid in
+    let r : Given = given names c.args.plain.now.rules size c.args.options.now k solid in
     let h = g.S.LinkStore.heap c.args.engine.now.machine.store in
     let h' = g.S.LinkStore.heap c.turn.new.self.machine.store in
     let t = subst (λ T. Holds names T h s.ran.last → IsTurned names T k size commits s.ran.last answer.Full h') (λ i. (c.requires.plain i).rules) (c.in-Full.ensures.turned k gives names s.ran.last) s.ran.holds in
@@ -124,7 +123,7 @@ returns-in-NoMemory-clause-goes g c k gives solid told below s =
     let names = c.args.names.now in
     let size = c.args.engine.now.size in
     let commits = c.args.engine.now.commits in
-    let r : Given = given names c.args.plain.now.rules size c.args.options.now.trace c.args.options.now.budget k solid in
+    let r : Given = given names c.args.plain.now.rules size c.args.options.now k solid in
     let h = g.S.LinkStore.heap c.args.engine.now.machine.store in
     let h' = g.S.LinkStore.heap c.turn.new.self.machine.store in
     let t = subst (λ T. Holds names T h s.ran.last → IsTurned names T k size commits s.ran.last answer.NoMemory h') (λ i. (c.requires.plain i).rules) (c.in-NoMemory.ensures.turned k gives names s.ran.last) s.ran.holds in
