@@ -1,8 +1,9 @@
 -- What a run of an engine wrote is a run of the text that was loaded.
-use Rattle.std.proofs.Common.{◌≡◌, ℕ, ◌≤◌, ◌<◌, ◌^◌, ◌++◌, Bool, true, false, List, length, Option, Some, inr, refl, sym, ap, ◌∙◌, subst}
+use Rattle.std.proofs.Common.{◌≡◌, ℕ, ◌≤◌, ◌<◌, ◌^◌, ◌++◌, Bool, true, false, List, [], ◌∷◌, length, Option, Some, inr, refl, sym, ap, ◌∙◌, subst}
 use Rattle.std.specs.List.{concat}
 use Rattle.std.specs.declared.alloc.Global.{Global}
-use Rattle.std.proofs.lemmas.List.{append-nil}
+use Rattle.std.proofs.lemmas.List.{append-nil, append_assoc}
+use Rattle.std.proofs.lemmas.List.Folds.{concat-append}
 use Rattle.lmn_base.specs.declared.rule.Plain.{Plain}
 use Rattle.lmn_base.specs.declared.solid.Solid.{Solid}
 use Rattle.lmn_base.specs.Levels.{links_of}
@@ -24,18 +25,19 @@ use Rattle.lmn_adequacy.specs.Runs.{End, irreducible, budget_done, full}
 use Rattle.lmn_drive.specs.declared.driving.RunEnd.{RunEnd}
 use Rattle.lmn_drive.specs.declared.driving.RunEnd.TheVariants as run
 use Rattle.lmn_drive.specs.Driving.{Drove, Given as Driven, Ran, given as driven, no_memory as no_memory_word, word_of as driven_word}
-use Rattle.lmn_drive.specs.Written.{written}
+use Rattle.lmn_drive.specs.Written.{Lines, written}
 use Rattle.lmn_runs.specs.Laws.{solid_of}
-use Rattle.lmn_runs.specs.Runs.{Stop, StopsSo, at_end, no_memory, solid_lines, word_of}
-use Rattle.lmn_words.specs.Forms.{Run, to_run}
+use Rattle.lmn_runs.specs.Runs.{LinesOf, Stop, StopsSo, at_end, no_memory, printed_solids, word_of}
+use Rattle.lmn_runs.proofs.TraceLines.{lines_count, lines_with}
+use Rattle.lmn_app.specs.declared.task.RunSettings.{RunSettings}
+use Rattle.lmn_app.specs.declared.task.Task.TheVariants as task
 use Rattle.lmn_app.specs.declared.ending.Ending.TheVariants.{Refused}
 use Rattle.lmn_app.specs.Outcomes.{Causes, Counts, Ended, Output}
 use Rattle.lmn_app.specs.Runnings.{ended_as}
 use Rattle.lmn_app.specs.Runs.{IsTraceOf}
 use Rattle.lmn_app.specs.Texts.{Accepts, at_start, too_large}
-use Rattle.lmn_app.specs.Requests.{given}
-use Rattle.lmn_app.specs.Writing.{WritesRun, end_line, run_text}
-use Rattle.lmn_app.proofs.RunLemmas.{Laws, lines_joined, trace_is_run}
+use Rattle.lmn_app.specs.Writing.{WritesRun, end_line, given, run_text}
+use Rattle.lmn_app.proofs.RunLemmas.{Laws, trace_is_run}
 
 -- the words of ends are those of runs
 same_word : (e : End) → driven_word e ≡ word_of (at_end e)
@@ -43,19 +45,35 @@ same_word irreducible = refl
 same_word budget_done = refl
 same_word full = refl
 
--- what is written of a trace that is cut, by lines
-written_is : (trace : Bool) (before : List Region) (last : Region) (word : List ℕ) → written trace before last word ≡ concat (solid_lines trace before last) ++ end_line word (length before)
-written_is true before last word = lines_joined before (end_line word (length before)) last
-written_is false before last word = ap (λ xs. xs ++ end_line word (length before)) (sym (append-nil _))
+-- the lines that are printed
+abbrev printed : Bool → List (List ℕ) → List ℕ → List (List ℕ)
+printed true first_lines last_line = first_lines ++ last_line ∷ []
+printed false first_lines last_line = last_line ∷ []
 
-module _ (alloc : Global) (laws : Laws) (w : Run) (small : w.size < 2 ^ 32)
+are_printed : (trace folded : Bool) (before : List Region) (last : Region) (lines : Lines folded before last) →
+    LinesOf folded (printed_solids trace before last) (printed trace lines.first_lines lines.last_line)
+are_printed true folded before last lines = lines_with folded before last lines.first_lines lines.last_line lines.are_lines lines.is_line
+are_printed false folded before last lines = (lines.is_line, tt)
+
+-- what is written, by these lines
+written_is : (trace : Bool) (first_lines : List (List ℕ)) (last_line word : List ℕ) →
+    written trace first_lines last_line word ≡ concat (printed trace first_lines last_line) ++ end_line word (length first_lines)
+written_is true first_lines last_line word =
+    let rest = end_line word (length first_lines) in
+    sym (ap (λ xs. xs ++ rest) (concat-append first_lines (last_line ∷ []) ∙ ap (λ xs. concat first_lines ++ xs) (append-nil last_line)) ∙ append_assoc (concat first_lines) last_line rest)
+written_is false first_lines last_line word = ap (λ xs. xs ++ end_line word (length first_lines)) (sym (append-nil last_line))
+
+module _ (alloc : Global) (laws : Laws) (w : RunSettings) (small : w.size < 2 ^ 32)
     (text : List ℕ) (names : List Name) (plain : Plain) (plans : List GuardPlan) (a : Accepts text names plain plans) (s : Solid) (i : IsSolidOf plain s) (few : items_of s ≤ w.size) where
   -- what the engine is given
   abbrev g : Driven
-  g = driven names plain.rules w.size w.trace w.budget (chosen w.order) (solid_of names plain s)
+  g = driven names plain.rules w.size (record { trace = w.trace; folded = w.folded; budget = w.budget }) (chosen w.order) (solid_of names plain s)
 
   module _ (n : ℕ) (h : Heap) (r : Ran g n h) where
-    trace : IsTraceOf (given w) text (solid_lines w.trace r.before r.last) n
+    abbrev lines : List (List ℕ)
+    lines = printed w.trace r.lines.first_lines r.lines.last_line
+
+    trace : IsTraceOf (given w) text lines n
     trace = record {
       names = names;
       plain = plain;
@@ -68,31 +86,31 @@ module _ (alloc : Global) (laws : Laws) (w : Run) (small : w.size < 2 ^ 32)
       last = r.last;
       trace = r.trace;
       count = r.count;
-      are = refl;
+      are = are_printed w.trace w.folded r.before r.last r.lines;
     }
 
     -- the text with a word
-    text_is : (why : Stop) (word : List ℕ) → word ≡ word_of why → written w.trace r.before r.last word ≡ run_text (solid_lines w.trace r.before r.last) why n
+    text_is : (why : Stop) (word : List ℕ) → word ≡ word_of why → written w.trace r.lines.first_lines r.lines.last_line word ≡ run_text lines why n
     text_is why word e =
-        ap (written w.trace r.before r.last) e ∙ written_is w.trace r.before r.last (word_of why)
-        ∙ ap (λ k. concat (solid_lines w.trace r.before r.last) ++ end_line (word_of why) k) r.count
+        ap (written w.trace r.lines.first_lines r.lines.last_line) e ∙ written_is w.trace r.lines.first_lines r.lines.last_line (word_of why)
+        ∙ ap (λ k. concat lines ++ end_line (word_of why) k) (lines_count w.folded r.before r.lines.first_lines r.lines.are_lines ∙ r.count)
 
-    writes : (why : Stop) (word : List ℕ) (old new : Option (List ℕ)) → word ≡ word_of why → StopsSo (given w) n r.last why → Takes (written w.trace r.before r.last word) old new
+    writes : (why : Stop) (word : List ℕ) (old new : Option (List ℕ)) → word ≡ word_of why → StopsSo (given w) n r.last why → Takes (written w.trace r.lines.first_lines r.lines.last_line word) old new
         → WritesRun w (Some (Some text)) why old new
     unfolding trace
     writes why word old new e stops took = record {
       text = text;
       is_told = refl;
-      lines = solid_lines w.trace r.before r.last;
+      lines = lines;
       commits = n;
-      run = trace_is_run laws alloc (given w) text (solid_lines w.trace r.before r.last) n trace small why stops;
+      run = trace_is_run laws alloc (given w) text lines n trace small why stops;
       trace = trace;
       stops = stops;
       took = subst (λ xs. Takes xs old new) (text_is why word e) took;
     }
 
   -- what was written by a run that ended so
-  pub driven_output : (n : ℕ) (h : Heap) (end : RunEnd) (old new : Option (List ℕ)) → Drove g n h end old new → Output (to_run w) (ended_as end) (Some (Some text)) old new
+  pub driven_output : (n : ℕ) (h : Heap) (end : RunEnd) (old new : Option (List ℕ)) → Drove g n h end old new → Output (task.Run w) (ended_as end) (Some (Some text)) old new
   unfolding trace
   driven_output n h run.Irreducible old new d = writes n h d.ran (at_end irreducible) (driven_word irreducible) old new refl d.ended.0 d.ended.1
   driven_output n h run.Budget old new d = writes n h d.ran (at_end budget_done) (driven_word budget_done) old new refl d.ended.0 d.ended.1
@@ -101,7 +119,7 @@ module _ (alloc : Global) (laws : Laws) (w : Run) (small : w.size < 2 ^ 32)
   driven_output n h run.Failed old new d =
       let r = d.ran in
       let part = d.ended in
-      let lines = solid_lines w.trace r.before r.last in
+      let lines = printed w.trace r.lines.first_lines r.lines.last_line in
       record {
         text = text;
         is_told = refl;
@@ -112,11 +130,11 @@ module _ (alloc : Global) (laws : Laws) (w : Run) (small : w.size < 2 ^ 32)
         took = λ why stops. took why stops;
       }
     where
-      took : (why : Stop) → StopsSo (given w) n d.ran.last why → TakesPrefix (run_text (solid_lines w.trace d.ran.before d.ran.last) why n) old new
+      took : (why : Stop) → StopsSo (given w) n d.ran.last why → TakesPrefix (run_text (printed w.trace d.ran.lines.first_lines d.ran.lines.last_line) why n) old new
       took (at_end e) stops = subst (λ xs. TakesPrefix xs old new) (text_is n h d.ran (at_end e) (driven_word e) (same_word e)) (d.ended.at_end e stops)
       took no_memory stops = subst (λ xs. TakesPrefix xs old new) (text_is n h d.ran no_memory no_memory_word refl) (d.ended.elsewhere stops)
 
-  no_cause : (end : RunEnd) (before after : ℕ) → Causes (to_run w) (ended_as end) (Some (Some text)) before after
+  no_cause : (end : RunEnd) (before after : ℕ) → Causes (task.Run w) (ended_as end) (Some (Some text)) before after
   no_cause run.Irreducible before after = tt
   no_cause run.Budget before after = tt
   no_cause run.Full before after = tt
@@ -132,14 +150,14 @@ module _ (alloc : Global) (laws : Laws) (w : Run) (small : w.size < 2 ^ 32)
 
   -- how a call ends that ran so
   pub driven_ended : (n : ℕ) (h : Heap) (end : RunEnd) (old new : Option (List ℕ)) (before after read_before read_after : ℕ) → Drove g n h end old new → (¬ (end ≡ run.Failed) → after ≡ before)
-      → (end ≡ run.Failed → Rose before after) → Ended (to_run w) (ended_as end) (Some (Some text)) old new before after read_before read_after
+      → (end ≡ run.Failed → Rose before after) → Ended (task.Run w) (ended_as end) (Some (Some text)) old new before after read_before read_after
   driven_ended n h end old new before after read_before read_after d same rose =
       record { cause = no_cause end read_before read_after; output = driven_output n h end old new d; counts = counted end before after same rose }
 
 -- a text whose process has too many items is refused
-pub too_large_ended : (w : Run) (text : List ℕ) (names : List Name) (plain : Plain) (plans : List GuardPlan) (k : ℕ) → Accepts text names plain plans → IsWellMade plain → EachTwice (links_of plain.top)
+pub too_large_ended : (w : RunSettings) (text : List ℕ) (names : List Name) (plain : Plain) (plans : List GuardPlan) (k : ℕ) → Accepts text names plain plans → IsWellMade plain → EachTwice (links_of plain.top)
     → LoadCauses plain w.size (Size k) → (told : Option (List ℕ)) (count read_before read_after : ℕ)
-    → Ended (to_run w) (Refused (at_start 50)) (Some (Some text)) told told count count read_before read_after
+    → Ended (task.Run w) (Refused (at_start 50)) (Some (Some text)) told told count count read_before read_after
 too_large_ended w text names plain plans k a well closed causes told count read_before read_after =
     let s = solids_of_plains_exist plain well closed in
     let large = causes s.0 s.1 in

@@ -7,3 +7,5 @@ mod OutcomeLemmas
 mod ListLemmas
 mod DriveLemmas
 mod MainLemmas
+mod DemoLemmas
+mod TaskLemmas

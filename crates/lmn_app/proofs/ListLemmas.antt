@@ -11,9 +11,10 @@ use Rattle.lmn_instr.specs.declared.instr.Code.{Code}
 use Rattle.lmn_io.specs.Writing.{WritesText}
 use Rattle.lmn_listing.specs.Listings.{code_listings, rule_codes, rule_listings}
 use Rattle.lmn_reading.specs.Texts.{IsAcceptedAs, IsRefusedAs, LeavesNames}
-use Rattle.lmn_words.specs.Forms.{Request, to_run, to_compile}
+use Rattle.lmn_app.specs.declared.task.Task.{Task}
+use Rattle.lmn_app.specs.declared.task.Task.TheVariants as task
 use Rattle.lmn_app.specs.declared.ending.Ending.TheVariants.{Done, Refused, WriteFault}
-use Rattle.lmn_app.specs.Outcomes.{Ended, IsCompile}
+use Rattle.lmn_app.specs.Outcomes.{Ended}
 use Rattle.lmn_app.specs.Requests.{size_of}
 use Rattle.lmn_app.specs.Texts.{Accepts, by_reading, text_bytes}
 use Rattle.lmn_app.specs.Writing.{IsListing}
@@ -30,17 +31,15 @@ module _ (text : List ℕ) (names : List Name) (plain : Plain) (plans : List Gua
   listing_is = record { names = names; plain = plain; plans = plans; accepted = a; is = refl }
 
   -- all listings are written
-  pub listed_ended : {A E : Type 0} (x : A) (q : Request) (old new : Option (List ℕ)) (ob oa rb ra : ℕ) → IsCompile q → WritesText {A = A} {E = E} (rule_listings names plain.rules plans) (Ok x) old ob new oa
-      → Ended q Done (Some (Some text)) old new ob oa rb ra
-  listed_ended x (to_run w) old new ob oa rb ra is written = absurd is
-  listed_ended x (to_compile file) old new ob oa rb ra is written =
+  pub listed_ended : {A E : Type 0} (x : A) (old new : Option (List ℕ)) (ob oa rb ra : ℕ) → WritesText {A = A} {E = E} (rule_listings names plain.rules plans) (Ok x) old ob new oa
+      → Ended task.List Done (Some (Some text)) old new ob oa rb ra
+  listed_ended x old new ob oa rb ra written =
       record { cause = tt; output = record { text = text; is_told = refl; listing = rule_listings names plain.rules plans; of = listing_is; took = written.took _ refl }; counts = written.same }
 
   -- the sink failed, and took a prefix
-  pub listed_part : {A E : Type 0} (e : E) (q : Request) (old new : Option (List ℕ)) (ob oa rb ra : ℕ) → IsCompile q → WritesText {A = A} {E = E} (rule_listings names plain.rules plans) (Err e) old ob new oa
-      → Ended q WriteFault (Some (Some text)) old new ob oa rb ra
-  listed_part e (to_run w) old new ob oa rb ra is written = absurd is
-  listed_part e (to_compile file) old new ob oa rb ra is written =
+  pub listed_part : {A E : Type 0} (e : E) (old new : Option (List ℕ)) (ob oa rb ra : ℕ) → WritesText {A = A} {E = E} (rule_listings names plain.rules plans) (Err e) old ob new oa
+      → Ended task.List WriteFault (Some (Some text)) old new ob oa rb ra
+  listed_part e old new ob oa rb ra written =
       record { cause = tt; output = record { text = text; is_told = refl; listing = rule_listings names plain.rules plans; of = listing_is; took = written.prefix _ refl }; counts = written.rose }
 
 -- the text of codes that are those of the rules
@@ -54,8 +53,8 @@ pub read_accepts : (text : List ℕ) (before names : List Name) (plain : Plain) 
 read_accepts text before names plain plans short e named a = record { short = short; named = subst (λ b. LeavesNames text b names) e named; accepted = a }
 
 -- and its refusal is that of the text
-pub read_refused : (q : Request) (text : List ℕ) (before names : List Name) (r : Refusal) (x : Option (List ℕ)) (n rb ra : ℕ) → length text ≤ text_bytes → before ≡ first_names → LeavesNames text before names
-    → IsRefusedAs text names r → Ended q (Refused r) (Some (Some text)) x x n n rb ra
-read_refused q text before names r x n rb ra short e named h =
+pub read_refused : (t : Task) (text : List ℕ) (before names : List Name) (r : Refusal) (x : Option (List ℕ)) (n rb ra : ℕ) → length text ≤ text_bytes → before ≡ first_names → LeavesNames text before names
+    → IsRefusedAs text names r → Ended t (Refused r) (Some (Some text)) x x n n rb ra
+read_refused t text before names r x n rb ra short e named h =
     let refused = by_reading short names (subst (λ b. LeavesNames text b names) e named) h in
-    refused_ended q r (Some (Some text)) x n rb ra refused (refusal_code (size_of q) text r refused)
+    refused_ended t r (Some (Some text)) x n rb ra refused (refusal_code (size_of t) text r refused)

@@ -8,11 +8,13 @@ use Rattle.lmn_io.specs.Taking.{Takes, TakesPrefix}
 use Rattle.lmn_app.specs.declared.ending.Ending.{Ending}
 use Rattle.lmn_app.specs.declared.ending.Ending.TheVariants.{Done, Budget, Refused, Words, ReadFault, WriteFault, NoMemory, Full}
 use Rattle.lmn_words.specs.Laws.{OneRequest}
-use Rattle.lmn_words.specs.Forms.{InForm, Request, to_run, to_compile}
+use Rattle.lmn_words.specs.Forms.{InForm, Request}
 use Rattle.lmn_app.specs.Endings.{Concludes, HasLine, IsCode, line_of, refusal_line, status_of}
 use Rattle.lmn_app.specs.Outcomes.{Counts, Ended, Output}
 use Rattle.lmn_app.specs.Texts.{IsRefusal}
-use Rattle.lmn_app.specs.Requests.{Asked, size_of}
+use Rattle.lmn_app.specs.declared.task.Task.{Task}
+use Rattle.lmn_app.specs.declared.task.Task.TheVariants as task
+use Rattle.lmn_app.specs.Requests.{Asked, size_of, task_of}
 use Rattle.lmn_app.specs.Texts.{IsAccepted}
 use Rattle.lmn_app.specs.Outcomes.{Answers}
 use Rattle.lmn_app.specs.Writing.{IfTold, IsToldAnd}
@@ -94,7 +96,7 @@ write_is Full h = absurd (cc)
 -- command, `read` and `reads` are the counts of its file.
 module _ (one : OneRequest) (words : List (String Global)) (told : Request → Option (Option (List ℕ))) (read reads : Request → ℕ) (oo on eo en : Option (List ℕ)) (ob oa eb ea status : ℕ) where
   abbrev pub Acted : Ending → Type 0
-  Acted e = Asked words (λ c. Ended c e (told c) oo on ob oa (read c) (reads c)) ⊎ (¬ (InForm words) × (e ≡ Words) × (on ≡ oo) × (oa ≡ ob))
+  Acted e = Asked words (λ c. Ended (task_of c) e (told c) oo on ob oa (read c) (reads c)) ⊎ (¬ (InForm words) × (e ≡ Words) × (on ≡ oo) × (oa ≡ ob))
 
   abbrev pub Concluded : Ending → Type 0
   Concluded e = Concludes e status eo en eb ea
@@ -106,39 +108,39 @@ module _ (one : OneRequest) (words : List (String Global)) (told : Request → O
   asked_or_memory e (inr (q, is)) (inr (s, p, rose, line)) = inr (q, inr (s, rose))
 
   -- what `out` took where the status is that of one ending
-  pub out_taken : (e ending : Ending) → Acted e → Concluded e → (k : ℕ) → k ≢ 5 → ending ≢ Words → (status_of e ≡ k → e ≡ ending) → status ≡ k → Asked words (λ c. Output c ending (told c) oo on)
+  pub out_taken : (e ending : Ending) → Acted e → Concluded e → (k : ℕ) → k ≢ 5 → ending ≢ Words → (status_of e ≡ k → e ≡ ending) → status ≡ k → Asked words (λ c. Output (task_of c) ending (told c) oo on)
   out_taken e ending (inl (c, asks, h)) (inl (s, t, q)) k five words is same =
       let here = is (sym s ∙ same) in
-      (c, asks, subst (λ x. Output c x (told c) oo on) here h.output)
+      (c, asks, subst (λ x. Output (task_of c) x (told c) oo on) here h.output)
   out_taken e ending (inr (none, w, o, f)) (inl (s, t, q)) k five words is same = absurd (words (sym (is (sym s ∙ same)) ∙ w))
   out_taken e ending a (inr (s, p, rose, line)) k five words is same = absurd (five (sym same ∙ s))
 
   -- nothing was taken where the ending has no output
-  none_taken : (c : Request) (e : Ending) → (status_of e ≡ 2) ⊎ (status_of e ≡ 3) ⊎ (status_of e ≡ 4) → Output c e (told c) oo on → on ≡ oo
-  none_taken (to_run w) (Refused r) k h = h
-  none_taken (to_run w) Words k h = h
-  none_taken (to_run w) ReadFault k h = h
-  none_taken (to_compile file) (Refused r) k h = h
-  none_taken (to_compile file) Words k h = h
-  none_taken (to_compile file) ReadFault k h = h
-  none_taken c Done (inl k) h = absurd (cc)
-  none_taken c Done (inr (inl k)) h = absurd (cc)
-  none_taken c Done (inr (inr k)) h = absurd (cc)
-  none_taken c Budget (inl k) h = absurd (cc)
-  none_taken c Budget (inr (inl k)) h = absurd (cc)
-  none_taken c Budget (inr (inr k)) h = absurd (cc)
-  none_taken c WriteFault (inl k) h = absurd (cc)
-  none_taken c WriteFault (inr (inl k)) h = absurd (cc)
-  none_taken c WriteFault (inr (inr k)) h = absurd (cc)
-  none_taken c NoMemory (inl k) h = absurd (cc)
-  none_taken c NoMemory (inr (inl k)) h = absurd (cc)
-  none_taken c NoMemory (inr (inr k)) h = absurd (cc)
-  none_taken c Full (inl k) h = absurd (cc)
-  none_taken c Full (inr (inl k)) h = absurd (cc)
-  none_taken c Full (inr (inr k)) h = absurd (cc)
+  none_taken : (t : Task) (e : Ending) (text : Option (Option (List ℕ))) → (status_of e ≡ 2) ⊎ (status_of e ≡ 3) ⊎ (status_of e ≡ 4) → Output t e text oo on → on ≡ oo
+  none_taken (task.Run s) (Refused r) text k h = h
+  none_taken (task.Run s) Words text k h = h
+  none_taken (task.Run s) ReadFault text k h = h
+  none_taken task.List (Refused r) text k h = h
+  none_taken task.List Words text k h = h
+  none_taken task.List ReadFault text k h = h
+  none_taken t Done text (inl k) h = absurd (cc)
+  none_taken t Done text (inr (inl k)) h = absurd (cc)
+  none_taken t Done text (inr (inr k)) h = absurd (cc)
+  none_taken t Budget text (inl k) h = absurd (cc)
+  none_taken t Budget text (inr (inl k)) h = absurd (cc)
+  none_taken t Budget text (inr (inr k)) h = absurd (cc)
+  none_taken t WriteFault text (inl k) h = absurd (cc)
+  none_taken t WriteFault text (inr (inl k)) h = absurd (cc)
+  none_taken t WriteFault text (inr (inr k)) h = absurd (cc)
+  none_taken t NoMemory text (inl k) h = absurd (cc)
+  none_taken t NoMemory text (inr (inl k)) h = absurd (cc)
+  none_taken t NoMemory text (inr (inr k)) h = absurd (cc)
+  none_taken t Full text (inl k) h = absurd (cc)
+  none_taken t Full text (inr (inl k)) h = absurd (cc)
+  none_taken t Full text (inr (inr k)) h = absurd (cc)
 
   untouched_by : (e : Ending) → Acted e → (status_of e ≡ 2) ⊎ (status_of e ≡ 3) ⊎ (status_of e ≡ 4) → on ≡ oo
-  untouched_by e (inl (c, asks, h)) k = none_taken c e k h.output
+  untouched_by e (inl (c, asks, h)) k = none_taken (task_of c) e (told c) k h.output
   untouched_by e (inr (none, w, o, f)) k = o
 
   pub untouched : (e : Ending) → Acted e → Concluded e → (status ≡ 2) ⊎ (status ≡ 3) ⊎ (status ≡ 4) → on ≡ oo
@@ -153,7 +155,7 @@ module _ (one : OneRequest) (words : List (String Global)) (told : Request → O
   pub not_of_form : (e : Ending) → Acted e → Concluded e → status ≡ 3 → ¬ (InForm words)
   not_of_form e (inl (c, asks, h)) (inl (s, t, q)) k =
       let here = words_is e (sym s ∙ k) in
-      absurd (let gone = subst (λ x. Ended c x (told c) oo on ob oa (read c) (reads c)) here h in gone.cause)
+      absurd (let gone = subst (λ x. Ended (task_of c) x (told c) oo on ob oa (read c) (reads c)) here h in gone.cause)
   not_of_form e (inr (none, w, o, f)) (inl (s, t, q)) k = none
   not_of_form e a (inr (s, p, rose, line)) k = absurd (omega (arith, s, k))
 
@@ -164,12 +166,12 @@ module _ (one : OneRequest) (words : List (String Global)) (told : Request → O
 
   pub read_rose : (e : Ending) → Acted e → Concluded e → status ≡ 4 → Asked words (λ c. Rose (read c) (reads c))
   read_rose e (inl (c, asks, h)) (inl (s, t, q)) k =
-      let here = subst (λ x. Ended c x (told c) oo on ob oa (read c) (reads c)) (read_is e (sym s ∙ k)) h in (c, asks, here.cause)
+      let here = subst (λ x. Ended (task_of c) x (told c) oo on ob oa (read c) (reads c)) (read_is e (sym s ∙ k)) h in (c, asks, here.cause)
   read_rose e (inr (none, w, o, f)) (inl (s, t, q)) k = absurd (let three : status ≡ 3 = subst (λ x. status ≡ status_of x) w s in omega (arith, three, k))
   read_rose e a (inr (s, p, rose, line)) k = absurd (omega (arith, s, k))
 
   pub write_rose : (e : Ending) → Acted e → Concluded e → status ≡ 5 → Rose ob oa ⊎ Rose eb ea
-  write_rose e (inl (c, asks, h)) (inl (s, t, q)) k = inl (let here = subst (λ x. Ended c x (told c) oo on ob oa (read c) (reads c)) (write_is e (sym s ∙ k)) h in here.counts)
+  write_rose e (inl (c, asks, h)) (inl (s, t, q)) k = inl (let here = subst (λ x. Ended (task_of c) x (told c) oo on ob oa (read c) (reads c)) (write_is e (sym s ∙ k)) h in here.counts)
   write_rose e (inr (none, w, o, f)) (inl (s, t, q)) k = absurd (let three : status ≡ 3 = subst (λ x. status ≡ status_of x) w s in omega (arith, three, k))
   write_rose e a (inr (s, p, rose, line)) k = inr rose
 
@@ -189,7 +191,7 @@ module _ (one : OneRequest) (words : List (String Global)) (told : Request → O
   puts_stay e a (inr (s, p, rose, line)) n = absurd (n s)
 
   pub refusal_told : (e : Ending) → Acted e → Concluded e → status ≡ 2 →
-      Asked words (λ c. (r : Refusal) × IsToldAnd (told c) (λ text. IsRefusal (size_of c) text r) × IsCode r.code × Takes (refusal_line r) eo en)
+      Asked words (λ c. (r : Refusal) × IsToldAnd (told c) (λ text. IsRefusal (size_of (task_of c)) text r) × IsCode r.code × Takes (refusal_line r) eo en)
   refusal_told (Refused r) (inl (c, asks, h)) (inl (s, t, same)) k = let cause = h.cause in (c, asks, (r, cause.0, cause.1, t))
   refusal_told Done (inl (c, asks, h)) (inl (s, t, q)) k = absurd (omega (arith, s, k))
   refusal_told Budget (inl (c, asks, h)) (inl (s, t, q)) k = absurd (omega (arith, s, k))
@@ -208,20 +210,20 @@ module _ (one : OneRequest) (words : List (String Global)) (told : Request → O
 
   -- with 5 either `out` failed and `err` took its line, or `err` failed
   pub failed : (e : Ending) → Acted e → Concluded e → status ≡ 5 →
-      (Asked words (λ c. Output c WriteFault (told c) oo on) × Rose ob oa × Takes (line_of WriteFault) eo en × (ea ≡ eb))
+      (Asked words (λ c. Output (task_of c) WriteFault (told c) oo on) × Rose ob oa × Takes (line_of WriteFault) eo en × (ea ≡ eb))
       ⊎ (Rose eb ea × ((ending : Ending) × HasLine ending × TakesPrefix (line_of ending) eo en × Acted ending))
   failed e (inl (c, asks, h)) (inl (s, t, same)) k =
       let is = write_is e (sym s ∙ k) in
-      let here = subst (λ x. Ended c x (told c) oo on ob oa (read c) (reads c)) is h in
+      let here = subst (λ x. Ended (task_of c) x (told c) oo on ob oa (read c) (reads c)) is h in
       inl ((c, asks, here.output), here.counts, subst (λ x. Takes (line_of x) eo en) is t, same)
   failed e (inr (none, w, o, f)) (inl (s, t, same)) k = absurd (let three : status ≡ 3 = subst (λ x. status ≡ status_of x) w s in omega (arith, three, k))
   failed e a (inr (s, p, rose, line)) k = inr (rose, (e, line, p, a))
 
   -- an accepted text is answered so where nothing fails, and one that isn't is refused
-  pub answered : (e : Ending) → Acted e → Concluded e → InForm words → Asked words (λ c. ¬ (Rose (read c) (reads c)) → ¬ (Rose ob oa) → ¬ (Rose eb ea) → IfTold (told c) (λ text. IsAccepted (size_of c) text → Answers c status))
-  answered e (inl (c, asks, h)) k form = (c, asks, λ r o x. accepted_answered c e (told c) oo on ob oa (read c) (reads c) status eo en eb ea h k r o x)
+  pub answered : (e : Ending) → Acted e → Concluded e → InForm words → Asked words (λ c. ¬ (Rose (read c) (reads c)) → ¬ (Rose ob oa) → ¬ (Rose eb ea) → IfTold (told c) (λ text. IsAccepted (size_of (task_of c)) text → Answers (task_of c) status))
+  answered e (inl (c, asks, h)) k form = (c, asks, λ r o x. accepted_answered (task_of c) e (told c) oo on ob oa (read c) (reads c) status eo en eb ea h k r o x)
   answered e (inr (none, w, o, f)) k form = absurd (none form)
 
-  pub refused_so : (e : Ending) → Acted e → Concluded e → InForm words → Asked words (λ c. IfTold (told c) (λ text. ¬ (IsAccepted (size_of c) text) → Refusing status))
-  refused_so e (inl (c, asks, h)) k form = (c, asks, unaccepted_answered c e (told c) oo on ob oa (read c) (reads c) status eo en eb ea h k)
+  pub refused_so : (e : Ending) → Acted e → Concluded e → InForm words → Asked words (λ c. IfTold (told c) (λ text. ¬ (IsAccepted (size_of (task_of c)) text) → Refusing status))
+  refused_so e (inl (c, asks, h)) k form = (c, asks, unaccepted_answered (task_of c) e (told c) oo on ob oa (read c) (reads c) status eo en eb ea h k)
   refused_so e (inr (none, w, o, f)) k form = absurd (none form)

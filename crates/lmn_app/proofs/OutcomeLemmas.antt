@@ -6,7 +6,9 @@ use Rattle.lmn_io.specs.Counts.{Rose}
 use Rattle.lmn_runs.specs.Runs.{Stop}
 use Rattle.lmn_app.specs.declared.ending.Ending.{Ending}
 use Rattle.lmn_app.specs.declared.ending.Ending.TheVariants.{Done, Budget, Refused, Words, ReadFault, WriteFault, NoMemory, Full}
-use Rattle.lmn_words.specs.Forms.{Request, Run, to_run, to_compile}
+use Rattle.lmn_app.specs.declared.task.RunSettings.{RunSettings}
+use Rattle.lmn_app.specs.declared.task.Task.{Task}
+use Rattle.lmn_app.specs.declared.task.Task.TheVariants as task
 use Rattle.lmn_app.specs.Endings.{Concludes, IsCode}
 use Rattle.lmn_app.specs.Outcomes.{Answers, Causes, Ended, Output}
 use Rattle.lmn_app.specs.Texts.{IsAccepted, IsRefusal, at_start, text_bytes, too_long}
@@ -14,18 +16,23 @@ use Rattle.lmn_app.specs.Requests.{size_of}
 use Rattle.lmn_app.specs.Writing.{IfTold, IsToldAnd, Lists, ListsPart, WritesRun, WritesPartOfRun, told_under}
 use Rattle.lmn_app.proofs.TextLemmas.{refused_not_accepted}
 
--- ---- a text that is told under a name
+-- ---- a text that is told
 
--- what is said of a text is said of what is told under its name, if that is told at all
-told_here : (P : List ℕ → Type 0) (told : Option (List ℕ → Option (List ℕ))) (name bytes : List ℕ) → IfSome told (λ text. text name ≡ Some bytes) → P bytes → IsToldAnd (told_under told name) P
-told_here P None name bytes e p = tt
-told_here P (Some text) name bytes e p = subst (λ found. IsSomeAnd found P) (sym e) p
+-- what is said of a text is said of what is told, if that is told at all
+told_here : (P : List ℕ → Type 0) (told : Option (Option (List ℕ))) (bytes : List ℕ) → IfSome told (λ found. found ≡ Some bytes) → P bytes → IsToldAnd told P
+told_here P None bytes e p = tt
+told_here P (Some found) bytes e p = subst (λ o. IsSomeAnd o P) (sym e) p
 
-module _ (told : Option (List ℕ → Option (List ℕ))) (name bytes : List ℕ) (e : IfSome told (λ text. text name ≡ Some bytes)) where
-  writes_told : (w : Run) (why : Stop) (old new : Option (List ℕ)) → WritesRun w (Some (Some bytes)) why old new → WritesRun w (told_under told name) why old new
-  writes_told w why old new h = record {
+-- what a map has under a name is what is told
+pub under_told : (texts : Option (List ℕ → Option (List ℕ))) (name bytes : List ℕ) → IfSome texts (λ text. text name ≡ Some bytes) → IfSome (told_under texts name) (λ found. found ≡ Some bytes)
+under_told None name bytes e = tt
+under_told (Some texts) name bytes e = e
+
+module _ (told : Option (Option (List ℕ))) (bytes : List ℕ) (e : IfSome told (λ found. found ≡ Some bytes)) where
+  writes_told : (s : RunSettings) (why : Stop) (old new : Option (List ℕ)) → WritesRun s (Some (Some bytes)) why old new → WritesRun s told why old new
+  writes_told s why old new h = record {
     text = h.text;
-    is_told = told_here (λ found. found ≡ h.text) told name bytes e h.is_told;
+    is_told = told_here (λ found. found ≡ h.text) told bytes e h.is_told;
     lines = h.lines;
     commits = h.commits;
     run = h.run;
@@ -34,10 +41,10 @@ module _ (told : Option (List ℕ → Option (List ℕ))) (name bytes : List ℕ
     took = h.took;
   }
 
-  part_told : (w : Run) (old new : Option (List ℕ)) → WritesPartOfRun w (Some (Some bytes)) old new → WritesPartOfRun w (told_under told name) old new
-  part_told w old new h = record {
+  part_told : (s : RunSettings) (old new : Option (List ℕ)) → WritesPartOfRun s (Some (Some bytes)) old new → WritesPartOfRun s told old new
+  part_told s old new h = record {
     text = h.text;
-    is_told = told_here (λ found. found ≡ h.text) told name bytes e h.is_told;
+    is_told = told_here (λ found. found ≡ h.text) told bytes e h.is_told;
     lines = h.lines;
     commits = h.commits;
     trace = h.trace;
@@ -45,44 +52,44 @@ module _ (told : Option (List ℕ → Option (List ℕ))) (name bytes : List ℕ
     took = h.took;
   }
 
-  lists_told : (old new : Option (List ℕ)) → Lists (Some (Some bytes)) old new → Lists (told_under told name) old new
-  lists_told old new h = record { text = h.text; is_told = told_here (λ found. found ≡ h.text) told name bytes e h.is_told; listing = h.listing; of = h.of; took = h.took }
+  lists_told : (old new : Option (List ℕ)) → Lists (Some (Some bytes)) old new → Lists told old new
+  lists_told old new h = record { text = h.text; is_told = told_here (λ found. found ≡ h.text) told bytes e h.is_told; listing = h.listing; of = h.of; took = h.took }
 
-  lists_part_told : (old new : Option (List ℕ)) → ListsPart (Some (Some bytes)) old new → ListsPart (told_under told name) old new
-  lists_part_told old new h = record { text = h.text; is_told = told_here (λ found. found ≡ h.text) told name bytes e h.is_told; listing = h.listing; of = h.of; took = h.took }
+  lists_part_told : (old new : Option (List ℕ)) → ListsPart (Some (Some bytes)) old new → ListsPart told old new
+  lists_part_told old new h = record { text = h.text; is_told = told_here (λ found. found ≡ h.text) told bytes e h.is_told; listing = h.listing; of = h.of; took = h.took }
 
-  causes_told : (c : Request) (ending : Ending) (before after : ℕ) → Causes c ending (Some (Some bytes)) before after → Causes c ending (told_under told name) before after
-  causes_told c Done before after h = h
-  causes_told c Budget before after h = h
-  causes_told c (Refused r) before after h = (told_here (λ text. IsRefusal (size_of c) text r) told name bytes e h.0, h.1)
-  causes_told c Words before after h = h
-  causes_told c ReadFault before after h = h
-  causes_told c WriteFault before after h = h
-  causes_told c NoMemory before after h = h
-  causes_told c Full before after h = h
+  causes_told : (t : Task) (ending : Ending) (before after : ℕ) → Causes t ending (Some (Some bytes)) before after → Causes t ending told before after
+  causes_told t Done before after h = h
+  causes_told t Budget before after h = h
+  causes_told t (Refused r) before after h = (told_here (λ text. IsRefusal (size_of t) text r) told bytes e h.0, h.1)
+  causes_told t Words before after h = h
+  causes_told t ReadFault before after h = h
+  causes_told t WriteFault before after h = h
+  causes_told t NoMemory before after h = h
+  causes_told t Full before after h = h
 
-  output_told : (c : Request) (ending : Ending) (old new : Option (List ℕ)) → Output c ending (Some (Some bytes)) old new → Output c ending (told_under told name) old new
-  output_told (to_run w) Done old new h = writes_told w _ old new h
-  output_told (to_run w) Budget old new h = writes_told w _ old new h
-  output_told (to_run w) Full old new h = writes_told w _ old new h
-  output_told (to_run w) NoMemory old new h = elim h [ inl same ↦ inl same | inr more ↦ inr (writes_told w _ old new more) ]
-  output_told (to_run w) WriteFault old new h = part_told w old new h
-  output_told (to_run w) (Refused r) old new h = h
-  output_told (to_run w) Words old new h = h
-  output_told (to_run w) ReadFault old new h = h
-  output_told (to_compile file) Done old new h = lists_told old new h
-  output_told (to_compile file) Budget old new h = h
-  output_told (to_compile file) Full old new h = h
-  output_told (to_compile file) NoMemory old new h = h
-  output_told (to_compile file) WriteFault old new h = lists_part_told old new h
-  output_told (to_compile file) (Refused r) old new h = h
-  output_told (to_compile file) Words old new h = h
-  output_told (to_compile file) ReadFault old new h = h
+  output_told : (t : Task) (ending : Ending) (old new : Option (List ℕ)) → Output t ending (Some (Some bytes)) old new → Output t ending told old new
+  output_told (task.Run s) Done old new h = writes_told s _ old new h
+  output_told (task.Run s) Budget old new h = writes_told s _ old new h
+  output_told (task.Run s) Full old new h = writes_told s _ old new h
+  output_told (task.Run s) NoMemory old new h = elim h [ inl same ↦ inl same | inr more ↦ inr (writes_told s _ old new more) ]
+  output_told (task.Run s) WriteFault old new h = part_told s old new h
+  output_told (task.Run s) (Refused r) old new h = h
+  output_told (task.Run s) Words old new h = h
+  output_told (task.Run s) ReadFault old new h = h
+  output_told task.List Done old new h = lists_told old new h
+  output_told task.List Budget old new h = h
+  output_told task.List Full old new h = h
+  output_told task.List NoMemory old new h = h
+  output_told task.List WriteFault old new h = lists_part_told old new h
+  output_told task.List (Refused r) old new h = h
+  output_told task.List Words old new h = h
+  output_told task.List ReadFault old new h = h
 
-  pub ended_told : (c : Request) (ending : Ending) (old new : Option (List ℕ)) (before after read_before read_after : ℕ) → Ended c ending (Some (Some bytes)) old new before after read_before read_after
-      → Ended c ending (told_under told name) old new before after read_before read_after
-  ended_told c ending old new before after read_before read_after h =
-      record { cause = causes_told c ending read_before read_after h.cause; output = output_told c ending old new h.output; counts = h.counts }
+  pub ended_told : (t : Task) (ending : Ending) (old new : Option (List ℕ)) (before after read_before read_after : ℕ) → Ended t ending (Some (Some bytes)) old new before after read_before read_after
+      → Ended t ending told old new before after read_before read_after
+  ended_told t ending old new before after read_before read_after h =
+      record { cause = causes_told t ending read_before read_after h.cause; output = output_told t ending old new h.output; counts = h.counts }
 
 -- ---- statuses
 
@@ -103,31 +110,31 @@ told_is (Some None) text P h p = tt
 told_is (Some (Some found)) text P h p = subst P (sym h) p
 
 -- where nothing fails, an accepted text is answered so
-pub accepted_answered : (c : Request) (ending : Ending) (told : Option (Option (List ℕ))) (oo on : Option (List ℕ)) (ob oa rb ra status : ℕ) (eo en : Option (List ℕ)) (eb ea : ℕ)
-    → Ended c ending told oo on ob oa rb ra → Concludes ending status eo en eb ea → ¬ (Rose rb ra) → ¬ (Rose ob oa) → ¬ (Rose eb ea)
-    → IfTold told (λ text. IsAccepted (size_of c) text → Answers c status)
-accepted_answered c ending told oo on ob oa rb ra status eo en eb ea h (inr (s, p, rose, line)) read out err = absurd (err rose)
-accepted_answered (to_run w) Done told oo on ob oa rb ra status eo en eb ea h (inl k) read out err = when_told told _ (λ text a. inl k.0)
-accepted_answered (to_run w) Budget told oo on ob oa rb ra status eo en eb ea h (inl k) read out err = when_told told _ (λ text a. inr (inl k.0))
-accepted_answered (to_run w) Full told oo on ob oa rb ra status eo en eb ea h (inl k) read out err = when_told told _ (λ text a. inr (inr (inl k.0)))
-accepted_answered (to_run w) NoMemory told oo on ob oa rb ra status eo en eb ea h (inl k) read out err = when_told told _ (λ text a. inr (inr (inr k.0)))
-accepted_answered (to_compile file) Done told oo on ob oa rb ra status eo en eb ea h (inl k) read out err = when_told told _ (λ text a. inl k.0)
-accepted_answered (to_compile file) Budget told oo on ob oa rb ra status eo en eb ea h (inl k) read out err = absurd (h.output)
-accepted_answered (to_compile file) Full told oo on ob oa rb ra status eo en eb ea h (inl k) read out err = absurd (h.output)
-accepted_answered (to_compile file) NoMemory told oo on ob oa rb ra status eo en eb ea h (inl k) read out err = when_told told _ (λ text a. inr k.0)
-accepted_answered c (Refused r) told oo on ob oa rb ra status eo en eb ea h (inl k) read out err = let cause = h.cause in refused_told (size_of c) told r (Answers c status) cause.0
-accepted_answered c Words told oo on ob oa rb ra status eo en eb ea h (inl k) read out err = absurd (h.cause)
-accepted_answered c ReadFault told oo on ob oa rb ra status eo en eb ea h (inl k) read out err = absurd (read h.cause)
-accepted_answered c WriteFault told oo on ob oa rb ra status eo en eb ea h (inl k) read out err = absurd (out h.counts)
+pub accepted_answered : (t : Task) (ending : Ending) (told : Option (Option (List ℕ))) (oo on : Option (List ℕ)) (ob oa rb ra status : ℕ) (eo en : Option (List ℕ)) (eb ea : ℕ)
+    → Ended t ending told oo on ob oa rb ra → Concludes ending status eo en eb ea → ¬ (Rose rb ra) → ¬ (Rose ob oa) → ¬ (Rose eb ea)
+    → IfTold told (λ text. IsAccepted (size_of t) text → Answers t status)
+accepted_answered t ending told oo on ob oa rb ra status eo en eb ea h (inr (s, p, rose, line)) read out err = absurd (err rose)
+accepted_answered (task.Run s) Done told oo on ob oa rb ra status eo en eb ea h (inl k) read out err = when_told told _ (λ text a. inl k.0)
+accepted_answered (task.Run s) Budget told oo on ob oa rb ra status eo en eb ea h (inl k) read out err = when_told told _ (λ text a. inr (inl k.0))
+accepted_answered (task.Run s) Full told oo on ob oa rb ra status eo en eb ea h (inl k) read out err = when_told told _ (λ text a. inr (inr (inl k.0)))
+accepted_answered (task.Run s) NoMemory told oo on ob oa rb ra status eo en eb ea h (inl k) read out err = when_told told _ (λ text a. inr (inr (inr k.0)))
+accepted_answered task.List Done told oo on ob oa rb ra status eo en eb ea h (inl k) read out err = when_told told _ (λ text a. inl k.0)
+accepted_answered task.List Budget told oo on ob oa rb ra status eo en eb ea h (inl k) read out err = absurd (h.output)
+accepted_answered task.List Full told oo on ob oa rb ra status eo en eb ea h (inl k) read out err = absurd (h.output)
+accepted_answered task.List NoMemory told oo on ob oa rb ra status eo en eb ea h (inl k) read out err = when_told told _ (λ text a. inr k.0)
+accepted_answered t (Refused r) told oo on ob oa rb ra status eo en eb ea h (inl k) read out err = let cause = h.cause in refused_told (size_of t) told r (Answers t status) cause.0
+accepted_answered t Words told oo on ob oa rb ra status eo en eb ea h (inl k) read out err = absurd (h.cause)
+accepted_answered t ReadFault told oo on ob oa rb ra status eo en eb ea h (inl k) read out err = absurd (read h.cause)
+accepted_answered t WriteFault told oo on ob oa rb ra status eo en eb ea h (inl k) read out err = absurd (out h.counts)
 
 abbrev pub Refusing : ℕ → Type 0
 Refusing status = (status ≡ 2) ⊎ (status ≡ 4) ⊎ (status ≡ 5) ⊎ (status ≡ 6)
 
 -- a run of a text is one of an accepted text
-run_accepted : (w : Run) (told : Option (Option (List ℕ))) (why : Stop) (old new : Option (List ℕ)) (A : Type 0) → WritesRun w told why old new → IfTold told (λ text. ¬ (IsAccepted (Some w.size) text) → A)
-run_accepted w told why old new A h =
+run_accepted : (s : RunSettings) (told : Option (Option (List ℕ))) (why : Stop) (old new : Option (List ℕ)) (A : Type 0) → WritesRun s told why old new → IfTold told (λ text. ¬ (IsAccepted (Some s.size) text) → A)
+run_accepted s told why old new A h =
     let t = h.trace in
-    told_is told h.text (λ text. ¬ (IsAccepted (Some w.size) text) → A) h.is_told (λ none. absurd (none (t.names, t.plain, t.plans, t.accepted, (t.solid, t.of_plain, t.few))))
+    told_is told h.text (λ text. ¬ (IsAccepted (Some s.size) text) → A) h.is_told (λ none. absurd (none (t.names, t.plain, t.plans, t.accepted, (t.solid, t.of_plain, t.few))))
 
 list_accepted : (told : Option (Option (List ℕ))) (old new : Option (List ℕ)) (A : Type 0) → Lists told old new → IfTold told (λ text. ¬ (IsAccepted None text) → A)
 list_accepted told old new A h =
@@ -135,44 +142,44 @@ list_accepted told old new A h =
     told_is told h.text (λ text. ¬ (IsAccepted None text) → A) h.is_told (λ none. absurd (none (l.names, l.plain, l.plans, l.accepted, tt)))
 
 -- a text that isn't accepted is answered by 2, 4, 5 or 6
-pub unaccepted_answered : (c : Request) (ending : Ending) (told : Option (Option (List ℕ))) (oo on : Option (List ℕ)) (ob oa rb ra status : ℕ) (eo en : Option (List ℕ)) (eb ea : ℕ)
-    → Ended c ending told oo on ob oa rb ra → Concludes ending status eo en eb ea → IfTold told (λ text. ¬ (IsAccepted (size_of c) text) → Refusing status)
-unaccepted_answered c ending told oo on ob oa rb ra status eo en eb ea h (inr (s, p, rose, line)) = when_told told _ (λ text n. inr (inr (inl s)))
-unaccepted_answered (to_run w) Done told oo on ob oa rb ra status eo en eb ea h (inl k) = run_accepted w told _ oo on (Refusing status) h.output
-unaccepted_answered (to_run w) Budget told oo on ob oa rb ra status eo en eb ea h (inl k) = run_accepted w told _ oo on (Refusing status) h.output
-unaccepted_answered (to_run w) Full told oo on ob oa rb ra status eo en eb ea h (inl k) = run_accepted w told _ oo on (Refusing status) h.output
-unaccepted_answered (to_compile file) Done told oo on ob oa rb ra status eo en eb ea h (inl k) = list_accepted told oo on (Refusing status) h.output
-unaccepted_answered (to_compile file) Budget told oo on ob oa rb ra status eo en eb ea h (inl k) = absurd (h.output)
-unaccepted_answered (to_compile file) Full told oo on ob oa rb ra status eo en eb ea h (inl k) = absurd (h.output)
-unaccepted_answered c (Refused r) told oo on ob oa rb ra status eo en eb ea h (inl k) = when_told told _ (λ text n. inl k.0)
-unaccepted_answered c Words told oo on ob oa rb ra status eo en eb ea h (inl k) = absurd (h.cause)
-unaccepted_answered c ReadFault told oo on ob oa rb ra status eo en eb ea h (inl k) = when_told told _ (λ text n. inr (inl k.0))
-unaccepted_answered c WriteFault told oo on ob oa rb ra status eo en eb ea h (inl k) = when_told told _ (λ text n. inr (inr (inl k.0)))
-unaccepted_answered c NoMemory told oo on ob oa rb ra status eo en eb ea h (inl k) = when_told told _ (λ text n. inr (inr (inr k.0)))
+pub unaccepted_answered : (t : Task) (ending : Ending) (told : Option (Option (List ℕ))) (oo on : Option (List ℕ)) (ob oa rb ra status : ℕ) (eo en : Option (List ℕ)) (eb ea : ℕ)
+    → Ended t ending told oo on ob oa rb ra → Concludes ending status eo en eb ea → IfTold told (λ text. ¬ (IsAccepted (size_of t) text) → Refusing status)
+unaccepted_answered t ending told oo on ob oa rb ra status eo en eb ea h (inr (s, p, rose, line)) = when_told told _ (λ text n. inr (inr (inl s)))
+unaccepted_answered (task.Run s) Done told oo on ob oa rb ra status eo en eb ea h (inl k) = run_accepted s told _ oo on (Refusing status) h.output
+unaccepted_answered (task.Run s) Budget told oo on ob oa rb ra status eo en eb ea h (inl k) = run_accepted s told _ oo on (Refusing status) h.output
+unaccepted_answered (task.Run s) Full told oo on ob oa rb ra status eo en eb ea h (inl k) = run_accepted s told _ oo on (Refusing status) h.output
+unaccepted_answered task.List Done told oo on ob oa rb ra status eo en eb ea h (inl k) = list_accepted told oo on (Refusing status) h.output
+unaccepted_answered task.List Budget told oo on ob oa rb ra status eo en eb ea h (inl k) = absurd (h.output)
+unaccepted_answered task.List Full told oo on ob oa rb ra status eo en eb ea h (inl k) = absurd (h.output)
+unaccepted_answered t (Refused r) told oo on ob oa rb ra status eo en eb ea h (inl k) = when_told told _ (λ text n. inl k.0)
+unaccepted_answered t Words told oo on ob oa rb ra status eo en eb ea h (inl k) = absurd (h.cause)
+unaccepted_answered t ReadFault told oo on ob oa rb ra status eo en eb ea h (inl k) = when_told told _ (λ text n. inr (inl k.0))
+unaccepted_answered t WriteFault told oo on ob oa rb ra status eo en eb ea h (inl k) = when_told told _ (λ text n. inr (inr (inl k.0)))
+unaccepted_answered t NoMemory told oo on ob oa rb ra status eo en eb ea h (inl k) = when_told told _ (λ text n. inr (inr (inr k.0)))
 
 -- ---- endings at which nothing was taken
 
-nothing_refused : (c : Request) (r : Refusal) (told : Option (Option (List ℕ))) (x : Option (List ℕ)) → Output c (Refused r) told x x
-nothing_refused (to_run w) r told x = refl
-nothing_refused (to_compile file) r told x = refl
+nothing_refused : (t : Task) (r : Refusal) (told : Option (Option (List ℕ))) (x : Option (List ℕ)) → Output t (Refused r) told x x
+nothing_refused (task.Run s) r told x = refl
+nothing_refused task.List r told x = refl
 
-nothing_read : (c : Request) (told : Option (Option (List ℕ))) (x : Option (List ℕ)) → Output c ReadFault told x x
-nothing_read (to_run w) told x = refl
-nothing_read (to_compile file) told x = refl
+nothing_read : (t : Task) (told : Option (Option (List ℕ))) (x : Option (List ℕ)) → Output t ReadFault told x x
+nothing_read (task.Run s) told x = refl
+nothing_read task.List told x = refl
 
-nothing_more : (c : Request) (told : Option (Option (List ℕ))) (x : Option (List ℕ)) → Output c NoMemory told x x
-nothing_more (to_run w) told x = inl refl
-nothing_more (to_compile file) told x = refl
+nothing_more : (t : Task) (told : Option (Option (List ℕ))) (x : Option (List ℕ)) → Output t NoMemory told x x
+nothing_more (task.Run s) told x = inl refl
+nothing_more task.List told x = refl
 
-pub refused_ended : (c : Request) (r : Refusal) (told : Option (Option (List ℕ))) (x : Option (List ℕ)) (n rb ra : ℕ) → IsToldAnd told (λ text. IsRefusal (size_of c) text r) → IsCode r.code
-    → Ended c (Refused r) told x x n n rb ra
-refused_ended c r told x n rb ra h k = record { cause = (h, k); output = nothing_refused c r told x; counts = refl }
+pub refused_ended : (t : Task) (r : Refusal) (told : Option (Option (List ℕ))) (x : Option (List ℕ)) (n rb ra : ℕ) → IsToldAnd told (λ text. IsRefusal (size_of t) text r) → IsCode r.code
+    → Ended t (Refused r) told x x n n rb ra
+refused_ended t r told x n rb ra h k = record { cause = (h, k); output = nothing_refused t r told x; counts = refl }
 
-pub fault_ended : (c : Request) (told : Option (Option (List ℕ))) (x : Option (List ℕ)) (n rb ra : ℕ) → Rose rb ra → Ended c ReadFault told x x n n rb ra
-fault_ended c told x n rb ra h = record { cause = h; output = nothing_read c told x; counts = refl }
+pub fault_ended : (t : Task) (told : Option (Option (List ℕ))) (x : Option (List ℕ)) (n rb ra : ℕ) → Rose rb ra → Ended t ReadFault told x x n n rb ra
+fault_ended t told x n rb ra h = record { cause = h; output = nothing_read t told x; counts = refl }
 
-pub memory_ended : (c : Request) (told : Option (Option (List ℕ))) (x : Option (List ℕ)) (n rb ra : ℕ) → Ended c NoMemory told x x n n rb ra
-memory_ended c told x n rb ra = record { cause = tt; output = nothing_more c told x; counts = refl }
+pub memory_ended : (t : Task) (told : Option (Option (List ℕ))) (x : Option (List ℕ)) (n rb ra : ℕ) → Ended t NoMemory told x x n n rb ra
+memory_ended t told x n rb ra = record { cause = tt; output = nothing_more t told x; counts = refl }
 
 -- a text that is told and is too long
 long_told : (P : List ℕ → Type 0) (told : Option (List ℕ → Option (List ℕ))) (name : List ℕ) (most : ℕ) → IfSome told (λ text. IsSomeAnd (text name) (λ bytes. most < length bytes))
@@ -184,7 +191,7 @@ long_told P (Some text) name most h f = go (text name) h
     go None k = k
     go (Some bytes) k = f bytes k
 
-pub long_ended : (c : Request) (told : Option (List ℕ → Option (List ℕ))) (name : List ℕ) (x : Option (List ℕ)) (n rb ra : ℕ) → IfSome told (λ text. IsSomeAnd (text name) (λ bytes. text_bytes < length bytes))
-    → Ended c (Refused (at_start 1)) (told_under told name) x x n n rb ra
-long_ended c told name x n rb ra h =
-    refused_ended c (at_start 1) (told_under told name) x n rb ra (long_told (λ text. IsRefusal (size_of c) text (at_start 1)) told name text_bytes h (λ bytes l. too_long l refl)) refl
+pub long_ended : (t : Task) (told : Option (List ℕ → Option (List ℕ))) (name : List ℕ) (x : Option (List ℕ)) (n rb ra : ℕ) → IfSome told (λ text. IsSomeAnd (text name) (λ bytes. text_bytes < length bytes))
+    → Ended t (Refused (at_start 1)) (told_under told name) x x n n rb ra
+long_ended t told name x n rb ra h =
+    refused_ended t (at_start 1) (told_under told name) x n rb ra (long_told (λ text. IsRefusal (size_of t) text (at_start 1)) told name text_bytes h (λ bytes l. too_long l refl)) refl

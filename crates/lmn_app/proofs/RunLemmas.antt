@@ -1,16 +1,14 @@
 -- What is printed of the trace of a text is a run of it.
-use Rattle.std.proofs.Common.{◌≡◌, ℕ, ◌<◌, ◌^◌, ◌++◌, List, [], ◌∷◌, map, sym, ap, ◌∙◌, subst}
-use Rattle.std.specs.List.{concat, flat_map}
+use Rattle.std.proofs.Common.{ℕ, ◌<◌, ◌^◌, List, sym, subst}
 use Rattle.std.specs.declared.alloc.Global.{Global}
-use Rattle.std.proofs.lemmas.List.{append_assoc, append-nil}
 use Rattle.lmn_accepted.specs.Rules.{AcceptedTexts}
 use Rattle.lmn_compile_body.specs.Accepted.{AcceptedBodies}
-use Rattle.lmn_congruence.specs.Regions.{Region, region_process}
+use Rattle.lmn_congruence.specs.Regions.{region_process}
 use Rattle.lmn_congruence.specs.Translation.{top_of}
 use Rattle.lmn_congruence.proofs.SolidsOfPlains.{solids_of_plains}
 use Rattle.lmn_reduction.proofs.Plains.{plain_settles}
 use Rattle.lmn_runs.specs.Laws.{TracesAreRuns, solid_of}
-use Rattle.lmn_runs.specs.Runs.{Given, Prints, Stop, StopsBy, StopsSo, solid_line, solid_lines}
+use Rattle.lmn_runs.specs.Runs.{Given, Prints, Stop, StopsBy, StopsSo}
 use Rattle.lmn_app.specs.Runs.{IsRun, IsTraceOf}
 use Rattle.lmn_runs.specs.Texts.{PlainsArePrintable}
 use Rattle.lmn_app.proofs.ReadPlains.{plain_read}
@@ -23,15 +21,14 @@ pub record Laws : Type 0 where
   pub runs : TracesAreRuns
 
 pub trace_is_run : Laws → Global → (g : Given) (text : List ℕ) (lines : List (List ℕ)) (n : ℕ) (t : IsTraceOf g text lines n) → g.size < 2 ^ 32 →
-    (why : Stop) → StopsSo g n t.last why → IsRun g.trace g.budget text lines why n
+    (why : Stop) → StopsSo g n t.last why → IsRun g.trace g.folded g.budget text lines why n
 trace_is_run laws alloc g text lines n t small why stops =
     let a = t.accepted in
     let printable = laws.printable text t.names t.plain (plain_read laws.accepted laws.bodies text t.names t.plain t.plans a) in
     let run = laws.runs alloc g t.names t.plain t.solid printable t.of_plain t.few small t.before t.last t.trace in
     let first = region_process (solid_of t.names t.plain t.solid) in
     let last = region_process t.last in
-    let P : List (List ℕ) → Type 0 = Prints g.trace t.names first n last in
-    let Q : ℕ → Type 0 = λ k. Prints g.trace t.names first k last (solid_lines g.trace t.before t.last) in
+    let Q : ℕ → Type 0 = λ k. Prints g.trace g.folded t.names first k last lines in
     record {
       names = t.names;
       plain = t.plain;
@@ -40,14 +37,6 @@ trace_is_run laws alloc g text lines n t small why stops =
       first = first;
       settles = plain_settles (top_of t.names t.plain) (solid_of t.names t.plain t.solid) (solids_of_plains t.names t.plain t.solid printable.made t.of_plain);
       last = last;
-      prints = subst P (sym t.are) (subst Q t.count run.prints);
+      prints = subst Q t.count (run.prints lines t.are);
       stops = subst (λ k. StopsBy g.budget why k last) t.count (run.stops why (subst (λ k. StopsSo g k t.last why) (sym t.count) stops));
     }
-
--- the text of a trace that is cut, as a list of lines
-pub lines_joined : (before : List Region) (rest : List ℕ) (last : Region) → flat_map solid_line before ++ (solid_line last ++ rest) ≡ concat (map solid_line (before ++ last ∷ [])) ++ rest
-lines_joined [] rest last = ap (λ xs. xs ++ rest) (sym (append-nil (solid_line last)))
-lines_joined (S ∷ before) rest last =
-    append_assoc (solid_line S) (flat_map solid_line before) (solid_line last ++ rest)
-    ∙ ap (λ xs. solid_line S ++ xs) (lines_joined before rest last)
-    ∙ sym (append_assoc (solid_line S) (concat (map solid_line (before ++ last ∷ []))) rest)

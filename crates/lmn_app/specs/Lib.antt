@@ -1,4 +1,7 @@
+pub mod DemoLaws
+pub mod Demos
 pub mod Endings
+pub mod Loading
 pub mod NameExamples
 pub mod Outcomes
 pub mod Requests

@@ -12,12 +12,12 @@ use Rattle.lmn_guards.specs.declared.plan.GuardPlan.{GuardPlan}
 use Rattle.lmn_reduction.specs.Commits.{Settles}
 use Rattle.lmn_adequacy.specs.Runs.{Trace}
 use Rattle.lmn_runs.specs.Laws.{solid_of}
-use Rattle.lmn_runs.specs.Runs.{Given, Prints, Stop, StopsBy, solid_lines}
+use Rattle.lmn_runs.specs.Runs.{Given, PrintedLines, Prints, Stop, StopsBy}
 use Rattle.lmn_app.specs.Texts.{Accepts}
 
 -- These lines are printed of a text by a run that stops after n commits. The text is accepted; the process of its plain settles to
 -- the first process, and the lines are those of processes that come from there, each by one commit (`Prints`).
-pub record IsRun (trace : Bool) (budget : ℕ) (text : List ℕ) (lines : List (List ℕ)) (why : Stop) (n : ℕ) : Type 0 where
+pub record IsRun (trace folded : Bool) (budget : ℕ) (text : List ℕ) (lines : List (List ℕ)) (why : Stop) (n : ℕ) : Type 0 where
   pub names : List Name
   pub plain : Plain
   pub plans : List GuardPlan
@@ -25,7 +25,7 @@ pub record IsRun (trace : Bool) (budget : ℕ) (text : List ℕ) (lines : List (
   pub first : Process
   pub settles : Settles (plain_process names plain) first
   pub last : Process
-  pub prints : Prints trace names first n last lines
+  pub prints : Prints trace folded names first n last lines
   pub stops : StopsBy budget why n last
 
 -- The trace of a text under what a run is given, cut after n commits, and its lines: it begins with the solid of the text's plain,
@@ -42,4 +42,4 @@ pub record IsTraceOf (g : Given) (text : List ℕ) (lines : List (List ℕ)) (n 
   pub last : Region
   pub trace : Trace g.chooser g.budget g.size (solid_of names plain solid) before last
   pub count : length before ≡ n
-  pub are : lines ≡ solid_lines g.trace before last
+  pub are : PrintedLines g before last lines

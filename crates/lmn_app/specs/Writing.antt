@@ -1,16 +1,16 @@
 -- What commands write of a text.
-use Rattle.std.specs.Prelude.{◌≡◌, ℕ, List, [], ◌∷◌, ◌++◌, Option, None, Some, IfSome, IsSomeAnd, codes, decimal}
+use Rattle.std.specs.Prelude.{◌≡◌, ◌≤◌, ℕ, length, List, [], ◌∷◌, ◌++◌, Option, None, Some, IfSome, IsSomeAnd, codes, decimal}
 use Rattle.std.specs.List.{concat}
 use Rattle.lmn_base.specs.declared.rule.Plain.{Plain}
 use Rattle.lmn_congruence.specs.Rules.{Name}
 use Rattle.lmn_guards.specs.declared.plan.GuardPlan.{GuardPlan}
 use Rattle.lmn_io.specs.Taking.{Takes, TakesPrefix}
 use Rattle.lmn_listing.specs.Listings.{rule_listings}
-use Rattle.lmn_runs.specs.Runs.{Stop, StopsSo, word_of}
+use Rattle.lmn_runs.specs.Runs.{Given, Stop, StopsSo, word_of}
 use Rattle.lmn_app.specs.Runs.{IsRun, IsTraceOf}
-use Rattle.lmn_app.specs.Texts.{Accepts}
-use Rattle.lmn_words.specs.Forms.{Run}
-use Rattle.lmn_app.specs.Requests.{given}
+use Rattle.lmn_app.specs.Texts.{Accepts, text_bytes}
+use Rattle.lmn_order.specs.Orders.{chosen}
+use Rattle.lmn_app.specs.declared.task.RunSettings.{RunSettings}
 
 -- what a map of texts, if one is told, has under a name
 abbrev pub told_under : Option (List ℕ → Option (List ℕ)) → List ℕ → Option (Option (List ℕ))
@@ -25,7 +25,15 @@ IsToldAnd told P = IfSome told (λ found. IsSomeAnd found P)
 abbrev pub IfTold : Option (Option (List ℕ)) → (List ℕ → Type 0) → Type 0
 IfTold told P = IfSome told (λ found. IfSome found P)
 
+-- the text is short enough, and it is the one that is told, if one is
+abbrev pub IsTextOf : Option (Option (List ℕ)) → List ℕ → Type 0
+IsTextOf told text = (length text ≤ text_bytes) × IfSome told (λ found. found ≡ Some text)
+
 -- ---- runs
+
+-- what a run is given
+abbrev pub given : RunSettings → Given
+given s = record { trace = s.trace; folded = s.folded; budget = s.budget; size = s.size; chooser = chosen s.order }
 
 -- the end line: a word, and after how many commits
 abbrev pub end_line : List ℕ → ℕ → List ℕ
@@ -37,26 +45,26 @@ run_text lines why commits = concat lines ++ end_line (word_of why) commits
 
 -- A run of the text stopped so, and its lines were taken. The text is the one that is told, if one is. Its lines are those of a run
 -- of the calculus, and which run that is the strategy says.
-pub record WritesRun (w : Run) (told : Option (Option (List ℕ))) (why : Stop) (old new : Option (List ℕ)) : Type 0 where
+pub record WritesRun (s : RunSettings) (told : Option (Option (List ℕ))) (why : Stop) (old new : Option (List ℕ)) : Type 0 where
   pub text : List ℕ
   pub is_told : IsToldAnd told (λ found. found ≡ text)
   pub lines : List (List ℕ)
   pub commits : ℕ
-  pub run : IsRun w.trace w.budget text lines why commits
-  pub trace : IsTraceOf (given w) text lines commits
-  pub stops : StopsSo (given w) commits trace.last why
+  pub run : IsRun s.trace s.folded s.budget text lines why commits
+  pub trace : IsTraceOf (given s) text lines commits
+  pub stops : StopsSo (given s) commits trace.last why
   pub took : Takes (run_text lines why commits) old new
 
 -- A prefix of the lines of a run of the text was taken, with the word that is due: that of the end of its trace, or `no memory` where
 -- the trace goes on.
-pub record WritesPartOfRun (w : Run) (told : Option (Option (List ℕ))) (old new : Option (List ℕ)) : Type 0 where
+pub record WritesPartOfRun (s : RunSettings) (told : Option (Option (List ℕ))) (old new : Option (List ℕ)) : Type 0 where
   pub text : List ℕ
   pub is_told : IsToldAnd told (λ found. found ≡ text)
   pub lines : List (List ℕ)
   pub commits : ℕ
-  pub trace : IsTraceOf (given w) text lines commits
-  pub run : (why : Stop) → StopsSo (given w) commits trace.last why → IsRun w.trace w.budget text lines why commits
-  pub took : (why : Stop) → StopsSo (given w) commits trace.last why → TakesPrefix (run_text lines why commits) old new
+  pub trace : IsTraceOf (given s) text lines commits
+  pub run : (why : Stop) → StopsSo (given s) commits trace.last why → IsRun s.trace s.folded s.budget text lines why commits
+  pub took : (why : Stop) → StopsSo (given s) commits trace.last why → TakesPrefix (run_text lines why commits) old new
 
 -- ---- listings
 

@@ -1,9 +1,10 @@
 ghost use Rattle.std.specs.Prelude.{ℕ, List, Some};
-ghost use Rattle.lmn_app.specs.Outcomes.{Ended, IsCompile};
+ghost use Rattle.lmn_app.specs.Outcomes.{Ended};
+ghost use Rattle.lmn_app.specs.declared.task.Task.{Task};
 ghost use Rattle.lmn_app.specs.Texts.{Accepts};
-ghost use Rattle.lmn_words.specs.Forms.{Request};
 
 use crate::ending::Ending;
+use crate::task::Task;
 use lmn_accepted::accepted_texts;
 use lmn_base::Names;
 use lmn_compile_body::accepted_bodies;
@@ -22,8 +23,8 @@ pub(crate) fn compile<O: Sink>(
     out: &mut O,
 ) -> Ending
     requires accepted { (text : List ℕ) × Accepts text names.now accepted.now.plain accepted.now.plans }
-    ensures { (q : Request) (text : List ℕ) (before after : ℕ) → IsCompile q → Accepts text names.now accepted.now.plain accepted.now.plans →
-        Ended q result (Some (Some text)) (O.told out.old) (O.told out.new) (O.faults out.old) (O.faults out.new) before after }
+    ensures { (text : List ℕ) (before after : ℕ) → Accepts text names.now accepted.now.plain accepted.now.plans →
+        Ended Task.List result (Some (Some text)) (O.told out.old) (O.told out.new) (O.faults out.old) (O.faults out.new) before after }
 {
     accepted_texts();
     accepted_bodies();

@@ -3,9 +3,11 @@
 
 mod compiling;
 mod conclusion;
+mod demo;
 mod ending;
 pub mod laws;
 mod running;
+mod task;
 #[cfg(test)]
 mod test_listings;
 #[cfg(test)]

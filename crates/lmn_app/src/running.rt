@@ -4,9 +4,10 @@ ghost use Rattle.lmn_order.specs.Orders.{chosen};
 ghost use Rattle.lmn_app.specs.Outcomes.{Ended};
 ghost use Rattle.lmn_app.specs.Runnings.{ended_as};
 ghost use Rattle.lmn_app.specs.Texts.{Accepts};
-ghost use Rattle.lmn_words.specs.Forms.{run_of, to_run};
+ghost use Rattle.lmn_app.specs.declared.task.Task.{Task};
 
 use crate::ending::Ending;
+use crate::task::{RunSettings, Task};
 use lmn_accepted::accepted_texts;
 use lmn_base::{Names, NoMemory, Pos, Refusal};
 use lmn_compile_body::accepted_bodies;
@@ -19,7 +20,6 @@ use lmn_reading::Accepted;
 use lmn_runs::{plains_are_printable, traces_are_runs};
 use lmn_schedule::{Engine, LoadFault};
 use lmn_store::{LinkStore, SlabStore};
-use lmn_words::RunWords;
 use std::alloc::Global;
 use std::marker::Brand;
 use std::sync::ledger::{Blank, Ledger};
@@ -35,14 +35,14 @@ pub(crate) fn run<O: Sink>(
     alloc: Global,
     accepted: &Accepted,
     names: &Names,
-    words: &RunWords<'_>,
+    settings: &RunSettings,
     out: &mut O,
 ) -> Ending
     requires accepted { (text : List ℕ) × Accepts text names.now accepted.now.plain accepted.now.plans }
-    requires size { words.now.size < 2 ^ 32 }
-    requires budget { words.now.budget ≤ 2 ^ 63 - 1 }
+    requires size { settings.now.size < 2 ^ 32 }
+    requires budget { settings.now.budget ≤ 2 ^ 63 - 1 }
     ensures { (text : List ℕ) (before after : ℕ) → Accepts text names.now accepted.now.plain accepted.now.plans →
-        Ended (to_run (run_of words.now)) result (Some (Some text)) (O.told out.old) (O.told out.new) (O.faults out.old) (O.faults out.new) before after }
+        Ended (Task.Run settings.now) result (Some (Some text)) (O.told out.old) (O.told out.new) (O.faults out.old) (O.faults out.new) before after }
 {
     loading_settles();
     match SlabStore::new(alloc) {
@@ -50,7 +50,7 @@ pub(crate) fn run<O: Sink>(
             alloc,
             accepted,
             names,
-            words,
+            settings,
             store,
             out,
             Blank::new(1),
@@ -64,26 +64,26 @@ fn run_in<S: LinkStore + Drop, O: Sink, L: Ledger>(
     alloc: Global,
     accepted: &Accepted,
     names: &Names,
-    words: &RunWords<'_>,
+    settings: &RunSettings,
     store: S,
     out: &mut O,
     blank: Blank,
 ) -> Ending
     requires accepted { (text : List ℕ) × Accepts text names.now accepted.now.plain accepted.now.plans }
-    requires size { words.now.size < 2 ^ 32 }
-    requires budget { words.now.budget ≤ 2 ^ 63 - 1 }
+    requires size { settings.now.size < 2 ^ 32 }
+    requires budget { settings.now.budget ≤ 2 ^ 63 - 1 }
     requires store { IsEmpty (S.heap store) }
     requires name { blank.name ≡ L.name }
     requires parts { blank.parts ≡ L.parts }
     requires some { 0 < blank.parts }
     ensures { (text : List ℕ) (before after : ℕ) → Accepts text names.now accepted.now.plain accepted.now.plans →
-        Ended (to_run (run_of words.now)) result (Some (Some text)) (O.told out.old) (O.told out.new) (O.faults out.old) (O.faults out.new) before after }
+        Ended (Task.Run settings.now) result (Some (Some text)) (O.told out.old) (O.told out.new) (O.faults out.old) (O.faults out.new) before after }
 {
     accepted_texts();
     accepted_bodies();
     plains_are_printable();
     traces_are_runs();
-    let order = words.order;
+    let order = settings.order;
     let chooser = Chooser::new(
         |t: u64, m: u64| -> u64
             requires { 0 < m }
@@ -97,14 +97,15 @@ fn run_in<S: LinkStore + Drop, O: Sink, L: Ledger>(
         accepted.plans.as_slice(),
         store,
         chooser,
-        words.size,
+        settings.size,
     ) {
         Ok(engine) => {
             let mut engine = engine;
             let mut steps = Steps::<L>::new(blank);
             let options = RunOptions {
-                trace: words.trace,
-                budget: words.budget,
+                trace: settings.trace,
+                folded: settings.folded,
+                budget: settings.budget,
             };
             let end = drive(
                 alloc,

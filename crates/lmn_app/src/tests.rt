@@ -46,7 +46,7 @@ struct Ended {
 
 const RUN: &[&str] = &["run", "f"];
 
-const ROWS: [Row; 12] = [
+const ROWS: [Row; 13] = [
     Row {
         words: RUN,
         text: b"a. a. a, a :- b.",
@@ -167,6 +167,17 @@ const ROWS: [Row; 12] = [
         out: b"",
         err: b"lmn: read failed\n",
         status: 4,
+    },
+    // Nothing is fetched.
+    Row {
+        words: &["demo", "2"],
+        text: b"",
+        fetches_failing: &[0],
+        puts_failing: &[],
+        err_room: 100,
+        out: b"p(3). (p(L0), $x[L0], p(L1), $y[L1] :- $z = $x + $y | p(L2), $z[L2]).\n% irreducible after 1\n",
+        err: b"",
+        status: 0,
     },
 ];
 
@@ -294,7 +305,7 @@ const RUNS: [(&[u8], &[u8]); 31] = [
 ];
 
 /// Calls with options: the words, the text, what `out` and `err` take, and the status.
-const OPTIONS: [(&[&str], &[u8], &[u8], &[u8], u8); 11] = [
+const OPTIONS: [(&[&str], &[u8], &[u8], &[u8], u8); 18] = [
     (
         &["run", "f", "--budget", "5"],
         b"a. a :- a.",
@@ -372,6 +383,50 @@ const OPTIONS: [(&[&str], &[u8], &[u8], &[u8], u8); 11] = [
         b"lmn: words not understood\n",
         3,
     ),
+    // The folded form, and texts that are made from a number.
+    (
+        &["run", "--folded", "f"],
+        b"d([1,2]). d($g) :- ground($g) | e($g,$g).",
+        b"e([1, 2], [1, 2]). (d(L0), $g[L0] :- ground($g) | e(L1, L2), $g[L1], $g[L2]).\n% irreducible after 1\n",
+        b"",
+        0,
+    ),
+    (
+        &["run", "f", "--folded"],
+        b"append([1,2],[3],R), ans(R). append([],Y,Z) :- Y=Z. append([A|X],Y,Z) :- Z=[A|W], append(X,Y,W).",
+        b"ans([1, 2, 3]). (append(L0, L1, L2), '[]'(L0) :- L1 = L2). (append(L0, L1, L2), '.'(L3, L4, L0) :- L2 = L5, '.'(L3, L6, L5), append(L4, L1, L6)).\n% irreducible after 3\n",
+        b"",
+        0,
+    ),
+    (
+        &["run", "--folded", "--trace", "f"],
+        b"p(1). p(2). p($x), p($y) :- $z = $x + $y | p($z).",
+        b"p(1). p(2). (p(L0), $x[L0], p(L1), $y[L1] :- $z = $x + $y | p(L2), $z[L2]).\np(3). (p(L0), $x[L0], p(L1), $y[L1] :- $z = $x + $y | p(L2), $z[L2]).\n% irreducible after 1\n",
+        b"",
+        0,
+    ),
+    (
+        &["demo", "1"],
+        b"",
+        b"p(1). (p(L0), $x[L0], p(L1), $y[L1] :- $z = $x + $y | p(L2), $z[L2]).\n% irreducible after 0\n",
+        b"",
+        0,
+    ),
+    (
+        &["demo", "4"],
+        b"",
+        b"p(10). (p(L0), $x[L0], p(L1), $y[L1] :- $z = $x + $y | p(L2), $z[L2]).\n% irreducible after 3\n",
+        b"",
+        0,
+    ),
+    (
+        &["demo", "0000000000000000100"],
+        b"",
+        b"p(5050). (p(L0), $x[L0], p(L1), $y[L1] :- $z = $x + $y | p(L2), $z[L2]).\n% irreducible after 99\n",
+        b"",
+        0,
+    ),
+    (&["demo", "0"], b"", b"", b"lmn: words not understood\n", 3),
 ];
 
 /// A text that is refused, and the line on `err`.
@@ -571,6 +626,29 @@ fn rules_are_compiled(rt: HostRuntime) -> Result<(), Fail> {
 }
 
 #[test]
+fn a_hundred_thousand_numbers_are_added(rt: HostRuntime) -> Result<(), Fail> {
+    let ended = call(
+        rt.alloc(),
+        &Row {
+            words: &["demo", "100000"],
+            text: b"",
+            fetches_failing: &[],
+            puts_failing: &[],
+            err_room: 100,
+            out: b"",
+            err: b"",
+            status: 0,
+        },
+    )?;
+    assert_eq!(rt; ended.status, 0);
+    assert_eq!(rt;
+        ended.out.taken(),
+        b"p(5000050000). (p(L0), $x[L0], p(L1), $y[L1] :- $z = $x + $y | p(L2), $z[L2]).\n% irreducible after 99999\n".as_slice()
+    );
+    Ok(())
+}
+
+#[test]
 fn a_million_firings_end(rt: HostRuntime) -> Result<(), Fail> {
     let ended = run_of(rt.alloc(), b"a. a :- a.")?;
     assert_eq!(rt; ended.status, 1);
@@ -672,6 +750,7 @@ fn run_by_list<L: Ledger>(
             let mut steps = Steps::<L>::new(blank);
             let options = RunOptions {
                 trace: true,
+                folded: false,
                 budget: 1000,
             };
             Ok(drive(

@@ -1,21 +1,24 @@
-ghost use Rattle.std.specs.Prelude.{◌≡◌, ◌≤◌, ◌⊎◌, ℕ, List, option_map, Some, String, codes, length};
+ghost use Rattle.std.specs.Prelude.{◌≡◌, ◌≤◌, ◌⊎◌, ℕ, IfErr, IfOk, List, Option, option_map, Some, String, codes, length};
 ghost use Rattle.lmn_io.specs.Counts.{Rose};
 ghost use Rattle.lmn_io.specs.Texts.{asked_once_more};
 ghost use Rattle.lmn_io.specs.Taking.{Takes, TakesPrefix};
 ghost use Rattle.lmn_base.specs.declared.refusal.Refusal.{Refusal};
-ghost use Rattle.lmn_app.specs.Requests.{Asked, file_of, size_of};
+ghost use Rattle.lmn_app.specs.Requests.{Asked, Fetches, IsInRange, faults_of, file_of, size_of, task_of, told_of};
 ghost use Rattle.lmn_words.specs.Forms.{InForm, IsInRanges, request_of};
 ghost use Rattle.lmn_app.specs.Endings.{HasLine, IsCode, line_of, refusal_line};
 ghost use Rattle.lmn_app.specs.Outcomes.{Answers, Ended, Output};
 ghost use Rattle.lmn_app.specs.Texts.{IsAccepted, IsRefusal, text_bytes};
-ghost use Rattle.lmn_app.specs.Writing.{IfTold, IsToldAnd, told_under};
+ghost use Rattle.lmn_app.specs.Writing.{IfTold, IsTextOf, IsToldAnd, told_under};
 ghost use Rattle.lmn_app.specs.declared.ending.Ending.{Ending};
+ghost use Rattle.lmn_app.specs.declared.task.Task.{Task};
 
 use crate::compiling::compile;
 use crate::conclusion::conclude;
+use crate::demo::demo_text;
 use crate::ending::Ending;
 use crate::running::run;
-use lmn_base::{Names, Pos, Refusal, TextFault};
+use crate::task::Task;
+use lmn_base::{Names, Pos, Refusal, Rows, TextFault};
 use lmn_io::{FetchFault, Fetched, Shelf, Sink};
 use lmn_reading::read;
 use lmn_words::{Command, asks_one};
@@ -45,36 +48,36 @@ pub fn lmn_main<F: Shelf, O: Sink, E: Sink>(
     ensures words { result ≡ 3 → ¬ (InForm words.now) }
     ensures form { ¬ (InForm words.now) → (result ≡ 3) ⊎ ((result ≡ 5) × Rose (E.faults err.old) (E.faults err.new)) }
 
-    // The shelf is asked once, for at most 4,194,304 bytes, or not at all where memory was wanting for the words; where the
-    // words aren't of the form it isn't asked, and no count of it changes.
-    ensures asked { InForm words.now → (F.asked shelf.new ≡ option_map (asked_once_more text_bytes) (F.asked shelf.old))
+    // For a file that the words name the shelf is asked once, for at most 4,194,304 bytes, or not at all where memory was
+    // wanting for the words. Where they name none, or aren't of the form, it isn't asked, and no count of it changes.
+    ensures asked { InForm words.now → Asked words.now (λ c. Fetches (file_of c) (F.asked shelf.old) (F.asked shelf.new) (F.faults shelf.old) (F.faults shelf.new))
         ⊎ ((F.asked shelf.new ≡ F.asked shelf.old) × ((result ≡ 6) ⊎ ((result ≡ 5) × Rose (E.faults err.old) (E.faults err.new)))) }
     ensures not_asked { ¬ (InForm words.now) → F.asked shelf.new ≡ F.asked shelf.old }
     ensures unasked { ¬ (InForm words.now) → (name : List ℕ) → F.faults shelf.new name ≡ F.faults shelf.old name }
 
     // Status 4 comes only where the count of the file rose, and 5 only where that of a sink did.
-    ensures read { result ≡ 4 → Asked words.now (λ c. Rose (F.faults shelf.old (file_of c)) (F.faults shelf.new (file_of c))) }
+    ensures read { result ≡ 4 → Asked words.now (λ c. Rose (faults_of c (F.faults shelf.old)) (faults_of c (F.faults shelf.new))) }
     ensures write { result ≡ 5 → Rose (O.faults out.old) (O.faults out.new) ⊎ Rose (E.faults err.old) (E.faults err.new) }
 
     // A put that fails is answered by 5: with every other status both counts stay.
     ensures puts { ¬ (result ≡ 5) → (O.faults out.new ≡ O.faults out.old) × (E.faults err.new ≡ E.faults err.old) }
 
     // Status 2 comes where the text isn't accepted; 4, 5 and 6 alone take its place.
-    ensures refused { result ≡ 2 → Asked words.now (λ c. (refusal : Refusal) × IsToldAnd (told_under (F.told shelf.old) (file_of c)) (λ text. IsRefusal (size_of c) text refusal)
+    ensures refused { result ≡ 2 → Asked words.now (λ c. (refusal : Refusal) × IsToldAnd (told_of c (F.told shelf.old)) (λ text. IsRefusal (size_of (task_of c)) text refusal)
         × IsCode refusal.code × Takes (refusal_line refusal) (E.told err.old) (E.told err.new)) }
-    ensures not_accepted { InForm words.now → Asked words.now (λ c. IfTold (told_under (F.told shelf.old) (file_of c)) (λ text.
-        ¬ (IsAccepted (size_of c) text) → (result ≡ 2) ⊎ (result ≡ 4) ⊎ (result ≡ 5) ⊎ (result ≡ 6))) }
+    ensures not_accepted { InForm words.now → Asked words.now (λ c. IfTold (told_of c (F.told shelf.old)) (λ text.
+        ¬ (IsAccepted (size_of (task_of c)) text) → (result ≡ 2) ⊎ (result ≡ 4) ⊎ (result ≡ 5) ⊎ (result ≡ 6))) }
 
     // Where nothing fails, the command does what it says for an accepted text, or memory is wanting.
-    ensures answers { InForm words.now → Asked words.now (λ c. ¬ (Rose (F.faults shelf.old (file_of c)) (F.faults shelf.new (file_of c)))
+    ensures answers { InForm words.now → Asked words.now (λ c. ¬ (Rose (faults_of c (F.faults shelf.old)) (faults_of c (F.faults shelf.new)))
         → ¬ (Rose (O.faults out.old) (O.faults out.new)) → ¬ (Rose (E.faults err.old) (E.faults err.new))
-        → IfTold (told_under (F.told shelf.old) (file_of c)) (λ text. IsAccepted (size_of c) text → Answers c result)) }
+        → IfTold (told_of c (F.told shelf.old)) (λ text. IsAccepted (size_of (task_of c)) text → Answers (task_of c) result)) }
 
     // What `out` took, for each status.
-    ensures out_done { result ≡ 0 → Asked words.now (λ c. Output c Ending.Done (told_under (F.told shelf.old) (file_of c)) (O.told out.old) (O.told out.new)) }
-    ensures out_budget { result ≡ 1 → Asked words.now (λ c. Output c Ending.Budget (told_under (F.told shelf.old) (file_of c)) (O.told out.old) (O.told out.new)) }
-    ensures out_full { result ≡ 7 → Asked words.now (λ c. Output c Ending.Full (told_under (F.told shelf.old) (file_of c)) (O.told out.old) (O.told out.new)) }
-    ensures out_memory { result ≡ 6 → Asked words.now (λ c. Output c Ending.NoMemory (told_under (F.told shelf.old) (file_of c)) (O.told out.old) (O.told out.new)) }
+    ensures out_done { result ≡ 0 → Asked words.now (λ c. Output (task_of c) Ending.Done (told_of c (F.told shelf.old)) (O.told out.old) (O.told out.new)) }
+    ensures out_budget { result ≡ 1 → Asked words.now (λ c. Output (task_of c) Ending.Budget (told_of c (F.told shelf.old)) (O.told out.old) (O.told out.new)) }
+    ensures out_full { result ≡ 7 → Asked words.now (λ c. Output (task_of c) Ending.Full (told_of c (F.told shelf.old)) (O.told out.old) (O.told out.new)) }
+    ensures out_memory { result ≡ 6 → Asked words.now (λ c. Output (task_of c) Ending.NoMemory (told_of c (F.told shelf.old)) (O.told out.old) (O.told out.new)) }
     ensures out_untouched { (result ≡ 2) ⊎ (result ≡ 3) ⊎ (result ≡ 4) → O.told out.new ≡ O.told out.old }
 
     // What `err` took, for each status but 2.
@@ -84,10 +87,10 @@ pub fn lmn_main<F: Shelf, O: Sink, E: Sink>(
     ensures err_memory { result ≡ 6 → Takes (codes "lmn: out of memory\n") (E.told err.old) (E.told err.new) }
     // With 5 either `out` failed, in what a command writes, and `err` took its whole line; or `err` failed, in the line of an ending.
     ensures part { result ≡ 5 →
-        (Asked words.now (λ c. Output c Ending.WriteFault (told_under (F.told shelf.old) (file_of c)) (O.told out.old) (O.told out.new)) × Rose (O.faults out.old) (O.faults out.new)
+        (Asked words.now (λ c. Output (task_of c) Ending.WriteFault (told_of c (F.told shelf.old)) (O.told out.old) (O.told out.new)) × Rose (O.faults out.old) (O.faults out.new)
         × Takes (codes "lmn: write failed\n") (E.told err.old) (E.told err.new) × (E.faults err.new ≡ E.faults err.old))
         ⊎ (Rose (E.faults err.old) (E.faults err.new) × ((ending : Ending) × HasLine ending × TakesPrefix (line_of ending) (E.told err.old) (E.told err.new)
-        × (Asked words.now (λ c. Ended c ending (told_under (F.told shelf.old) (file_of c)) (O.told out.old) (O.told out.new) (O.faults out.old) (O.faults out.new) (F.faults shelf.old (file_of c)) (F.faults shelf.new (file_of c)))
+        × (Asked words.now (λ c. Ended (task_of c) ending (told_of c (F.told shelf.old)) (O.told out.old) (O.told out.new) (O.faults out.old) (O.faults out.new) (faults_of c (F.faults shelf.old)) (faults_of c (F.faults shelf.new)))
         ⊎ (¬ (InForm words.now) × (ending ≡ Ending.Words) × (O.told out.new ≡ O.told out.old) × (O.faults out.new ≡ O.faults out.old))))) }
 {
     asks_one();
@@ -97,11 +100,11 @@ pub fn lmn_main<F: Shelf, O: Sink, E: Sink>(
 
 /// Does what the words ask for, and says how it ended.
 fn act<F: Shelf, O: Sink>(alloc: Global, words: &[String], shelf: &mut F, out: &mut O) -> Ending
-    ensures asked { InForm words.now → (F.asked shelf.new ≡ option_map (asked_once_more text_bytes) (F.asked shelf.old))
+    ensures asked { InForm words.now → Asked words.now (λ c. Fetches (file_of c) (F.asked shelf.old) (F.asked shelf.new) (F.faults shelf.old) (F.faults shelf.new))
         ⊎ ((F.asked shelf.new ≡ F.asked shelf.old) × (result ≡ Ending.NoMemory)) }
     ensures not_asked { ¬ (InForm words.now) → F.asked shelf.new ≡ F.asked shelf.old }
     ensures unasked { ¬ (InForm words.now) → (name : List ℕ) → F.faults shelf.new name ≡ F.faults shelf.old name }
-    ensures ended { Asked words.now (λ c. Ended c result (told_under (F.told shelf.old) (file_of c)) (O.told out.old) (O.told out.new) (O.faults out.old) (O.faults out.new) (F.faults shelf.old (file_of c)) (F.faults shelf.new (file_of c)))
+    ensures ended { Asked words.now (λ c. Ended (task_of c) result (told_of c (F.told shelf.old)) (O.told out.old) (O.told out.new) (O.faults out.old) (O.faults out.new) (faults_of c (F.faults shelf.old)) (faults_of c (F.faults shelf.new)))
         ⊎ (¬ (InForm words.now) × (result ≡ Ending.Words) × (O.told out.new ≡ O.told out.old) × (O.faults out.new ≡ O.faults out.old)) }
 {
     asks_one();
@@ -112,7 +115,7 @@ fn act<F: Shelf, O: Sink>(alloc: Global, words: &[String], shelf: &mut F, out: &
     }
 }
 
-/// Fetches the text that a command names, and does what the command asks for.
+/// Gets the text of a command, and does what the command asks for.
 fn perform<F: Shelf, O: Sink>(
     alloc: Global,
     command: Command<'_>,
@@ -120,38 +123,60 @@ fn perform<F: Shelf, O: Sink>(
     out: &mut O,
 ) -> Ending
     requires { IsInRanges (request_of command) }
-    ensures asked { F.asked shelf.new ≡ option_map (asked_once_more text_bytes) (F.asked shelf.old) }
-    ensures ended { Ended (request_of command.entry) result (told_under (F.told shelf.old) (file_of (request_of command.entry))) (O.told out.old) (O.told out.new) (O.faults out.old) (O.faults out.new) (F.faults shelf.old (file_of (request_of command.entry))) (F.faults shelf.new (file_of (request_of command.entry))) }
+    ensures asked { Fetches (file_of (request_of command.entry)) (F.asked shelf.old) (F.asked shelf.new) (F.faults shelf.old) (F.faults shelf.new) }
+    ensures ended { let c = request_of command.entry in
+        Ended (task_of c) result (told_of c (F.told shelf.old)) (O.told out.old) (O.told out.new) (O.faults out.old) (O.faults out.new) (faults_of c (F.faults shelf.old)) (faults_of c (F.faults shelf.new)) }
 {
-    match shelf.fetch(alloc, file_of(command), TEXT_BYTES) {
-        Ok(Fetched::Whole(text)) => perform_on(alloc, command, text.as_slice(), out),
-        Ok(Fetched::TooLong) => Ending::Refused(TOO_LONG),
-        Err(FetchFault::Failed) => Ending::ReadFault,
-        Err(FetchFault::NoMemory) => Ending::NoMemory,
+    match text_of(alloc, command, shelf) {
+        Ok(text) => perform_on(alloc, Task::of(command), text.as_slice(), out),
+        Err(ending) => ending,
     }
 }
 
-/// The file that a command names.
-fn file_of<'w>(command: Command<'w>) -> &'w str
-    ensures { result.now ≡ file_of (request_of command.entry) }
+/// The text of a command, or how a call ends without one: of a file the shelf's, and of `demo` its own.
+fn text_of<F: Shelf>(alloc: Global, command: Command<'_>, shelf: &mut F) -> Result<Rows<u8>, Ending>
+    requires { IsInRanges (request_of command) }
+    ensures asked { Fetches (file_of (request_of command.entry)) (F.asked shelf.old) (F.asked shelf.new) (F.faults shelf.old) (F.faults shelf.new) }
+    ensures text { IfOk result (λ text. IsTextOf (told_of (request_of command.entry) (F.told shelf.old)) text) }
+    ensures fault { IfErr result (λ ending. (t : Task) (took : Option (List ℕ)) (count : ℕ) →
+        Ended t ending (told_of (request_of command.entry) (F.told shelf.old)) took took count count (faults_of (request_of command.entry) (F.faults shelf.old)) (faults_of (request_of command.entry) (F.faults shelf.new))) }
 {
     match command {
-        Command::Run(words) => words.file,
-        Command::Compile(file) => file,
+        Command::Run(words) => fetch(alloc, words.file, shelf),
+        Command::Compile(file) => fetch(alloc, file, shelf),
+        Command::Demo(n) => match demo_text(alloc, n) {
+            Ok(text) => Ok(Rows::from_vec(text)),
+            Err(AllocError) => Err(Ending::NoMemory),
+        },
     }
 }
 
-/// Reads a text, and does with it what a command asks for.
-fn perform_on<O: Sink>(alloc: Global, command: Command<'_>, text: &[u8], out: &mut O) -> Ending
+/// The text of a file, or how a call ends without one.
+fn fetch<F: Shelf>(alloc: Global, name: &str, shelf: &mut F) -> Result<Rows<u8>, Ending>
+    ensures asked { F.asked shelf.new ≡ option_map (asked_once_more text_bytes) (F.asked shelf.old) }
+    ensures text { IfOk result (λ text. IsTextOf (told_under (F.told shelf.old) name.now) text) }
+    ensures fault { IfErr result (λ ending. (t : Task) (took : Option (List ℕ)) (count : ℕ) →
+        Ended t ending (told_under (F.told shelf.old) name.now) took took count count (F.faults shelf.old name.now) (F.faults shelf.new name.now)) }
+{
+    match shelf.fetch(alloc, name, TEXT_BYTES) {
+        Ok(Fetched::Whole(text)) => Ok(text),
+        Ok(Fetched::TooLong) => Err(Ending::Refused(TOO_LONG)),
+        Err(FetchFault::Failed) => Err(Ending::ReadFault),
+        Err(FetchFault::NoMemory) => Err(Ending::NoMemory),
+    }
+}
+
+/// Reads a text, and does with it what is to be done.
+fn perform_on<O: Sink>(alloc: Global, task: Task, text: &[u8], out: &mut O) -> Ending
     requires short { length text.now ≤ text_bytes }
-    requires range { IsInRanges (request_of command) }
-    ensures { (before after : ℕ) → Ended (request_of command.entry) result (Some (Some text.now)) (O.told out.old) (O.told out.new) (O.faults out.old) (O.faults out.new) before after }
+    requires range { IsInRange task }
+    ensures { (before after : ℕ) → Ended task result (Some (Some text.now)) (O.told out.old) (O.told out.new) (O.faults out.old) (O.faults out.new) before after }
 {
     let mut names = Names::new(alloc);
     match read(alloc, text, &mut names) {
-        Ok(accepted) => match command {
-            Command::Run(words) => run(alloc, &accepted, &names, &words, out),
-            Command::Compile(_) => compile(alloc, &accepted, &names, out),
+        Ok(accepted) => match task {
+            Task::Run(settings) => run(alloc, &accepted, &names, &settings, out),
+            Task::List => compile(alloc, &accepted, &names, out),
         },
         Err(TextFault::Refused(refusal)) => Ending::Refused(refusal),
         Err(TextFault::NoMemory) => Ending::NoMemory,

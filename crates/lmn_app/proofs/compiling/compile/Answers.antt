@@ -2,6 +2,7 @@ use Rattle.std.proofs.Common.{All, length, ◌<◌, arith, sym, subst}
 use Rattle.lmn_instr.specs.Listings.{HasCode}
 use Rattle.lmn_io.proofs.WritingLemmas.{writes_same}
 use Rattle.lmn_strategy.specs.Compiled.{AreWhole}
+use Rattle.lmn_app.specs.declared.task.Task.TheVariants as task
 use Rattle.lmn_app.proofs.ListLemmas.{listed_ended, listed_part, listing_text, plain_named}
 use Rattle.lmn_app.proofs.OutcomeLemmas.{memory_ended}
 use Rattle.lmn_app.proofs.ReadPlains.{rules_whole}
@@ -23,19 +24,19 @@ list_codes-requires-clause-few g c =
     let few = c.if-len.false in let count = c.len.ensures in subst (λ codes. length codes < 4294967296) (sym c.as_slice-2.ensures) (omega (arith, few, count))
 
 pub returns-in-Ok-list_codes : goal.returns-in-Ok-list_codes
-returns-in-Ok-list_codes g c = λ q text before after is a.
+returns-in-Ok-list_codes g c = λ text before after a.
     let read = c.args.accepted.now in
-    listed_ended text c.args.names.now read.plain read.plans a _ q _ _ _ _ before after is
+    listed_ended text c.args.names.now read.plain read.plans a _ _ _ _ _ before after
     (writes_same _ _ _ _ _ _ _ (listing_text c.args.names.now read.plain.rules _ _ _ _ c.as_slice-2.ensures c.in-Ok.ensures.codes c.as_slice.ensures) c.in-Ok-list_codes.ensures)
 
 pub returns : goal.returns
-returns g c = λ q text before after is a.
+returns g c = λ text before after a.
     let read = c.args.accepted.now in
-    listed_part text c.args.names.now read.plain read.plans a _ q _ _ _ _ before after is
+    listed_part text c.args.names.now read.plain read.plans a _ _ _ _ _ before after
     (writes_same _ _ _ _ _ _ _ (listing_text c.args.names.now read.plain.rules _ _ _ _ c.as_slice-2.ensures c.in-Ok.ensures.codes c.as_slice.ensures) c.in-Err.ensures)
 
 pub returns-then-len : goal.returns-then-len
-returns-then-len g c = λ q text before after is a. memory_ended q _ _ _ before after
+returns-then-len g c = λ text before after a. memory_ended task.List _ _ _ before after
 
 pub returns-in_default : goal.returns-in_default
-returns-in_default g c = λ q text before after is a. memory_ended q _ _ _ before after
+returns-in_default g c = λ text before after a. memory_ended task.List _ _ _ before after

@@ -5,7 +5,7 @@ use Rattle.lmn_order.specs.Orders.{chosen}
 use Rattle.lmn_schedule.specs.Held.{CanBeLoaded}
 use Rattle.lmn_drive.specs.Driving.{Drove, given}
 use Rattle.lmn_runs.specs.Laws.{solid_of}
-use Rattle.lmn_words.specs.Forms.{run_of, to_run}
+use Rattle.lmn_app.specs.declared.task.Task.TheVariants as task
 use Rattle.lmn_app.specs.Outcomes.{Ended}
 use Rattle.lmn_app.proofs.DriveLemmas.{driven_ended, too_large_ended}
 use Rattle.lmn_app.proofs.Loadable.{loadable, well_named}
@@ -24,7 +24,7 @@ returns-in-Ok g c text before after a =
     let names = c.args.names.now in
     let plain = c.args.accepted.now.plain in
     let plans = c.args.accepted.now.plans in
-    let words = c.args.words.now in
+    let settings = c.args.settings.now in
     let engine = c.in-Ok.engine in
     let n = c.drive-end.new.engine.commits in
     let h = g.S.LinkStore.heap c.drive-end.new.engine.machine.store in
@@ -36,16 +36,16 @@ returns-in-Ok g c text before after a =
     let laws : Laws = record { accepted = c.accepted_texts.ensures; bodies = c.accepted_bodies.ensures.room; printable = c.plains_are_printable.ensures; runs = c.traces_are_runs.ensures } in
     let held = c.in-Ok.ensures.holds names (well_named c.accepted_texts.ensures c.accepted_bodies.ensures.room text names plain plans a) in
     let from = held.from in
-    let D : Region → ℕ → Type 0 = λ S size. Drove (given names plain.rules size words.trace words.budget (chosen words.order) S) n h end old new in
+    let D : Region → ℕ → Type 0 = λ S size. Drove (given names plain.rules size (record { trace = settings.trace; folded = settings.folded; budget = settings.budget }) (chosen settings.order) S) n h end old new in
     let keeps = c.in-Ok.ensures.keeps.1 in
     let same = c.new-chooser.ensures.same in
     let drove : D held.solid engine.size =
-    c.drive-end.ensures.drove (chosen words.order)
+    c.drive-end.ensures.drove (chosen settings.order)
     (λ t m r t_is m_is some answer. answer.0 ∙ (λ i. chosen (keeps i).f.0.now t m) ∙ (λ i. chosen (same i).0.now t m)) held.solid held.holds in
     let first = subst (λ S. D S engine.size) from.2 drove in
     let driven = subst (D (solid_of names plain from.0)) c.in-Ok.ensures.keeps.2 first in
-    subst (λ ending. Ended (to_run (run_of words)) ending (Some (Some text)) old new count count' before after) (sym c.ending_of.ensures)
-    (driven_ended c.args.alloc laws (run_of words) c.requires.size text names plain plans a from.0 from.1 (c.in-Ok.ensures.fits from.0 from.1) n h end old new count count' before after driven c.drive-end.ensures.same c.drive-end.ensures.rose)
+    subst (λ ending. Ended (task.Run settings) ending (Some (Some text)) old new count count' before after) (sym c.ending_of.ensures)
+    (driven_ended c.args.alloc laws settings c.requires.size text names plain plans a from.0 from.1 (c.in-Ok.ensures.fits from.0 from.1) n h end old new count count' before after driven c.drive-end.ensures.same c.drive-end.ensures.rose)
 
 pub returns-in-Err-Size : goal.returns-in-Err-Size
 returns-in-Err-Size g c text before after a =
@@ -53,6 +53,6 @@ returns-in-Err-Size g c text before after a =
     let plain = c.args.accepted.now.plain in
     let plans = c.args.accepted.now.plans in
     let can = loadable c.accepted_texts.ensures c.accepted_bodies.ensures.room text names plain plans a in
-    let causes = subst (LoadCauses plain c.args.words.now.size) c.in-Err-Size.field-0-is c.in-Err-Size.ensures.fault in
-    too_large_ended (run_of c.args.words.now) text names plain plans c.in-Err-Size.field-0-0 a can.made can.closed causes
+    let causes = subst (LoadCauses plain c.args.settings.now.size) c.in-Err-Size.field-0-is c.in-Err-Size.ensures.fault in
+    too_large_ended c.args.settings.now text names plain plans c.in-Err-Size.field-0-0 a can.made can.closed causes
     (g.O.Sink.told c.args.out.now) (g.O.Sink.faults c.args.out.now) before after

@@ -1,10 +1,11 @@
 use Rattle.std.proofs.Common.{inl, inr, refl, sym, true≢false}
 use Rattle.lmn_words.specs.Forms.{request_of}
+use Rattle.lmn_app.specs.Requests.{task_of}
 use Rattle.lmn_app.proofs.OutcomeLemmas.{memory_ended}
 use Rattle.lmn_app.proofs.top.act.Goals as goal
 
 pub returns-in-Ok-Some-clause-asked : goal.returns-in-Ok-Some-clause-asked
-returns-in-Ok-Some-clause-asked g c = λ form. inl c.perform.ensures.asked
+returns-in-Ok-Some-clause-asked g c = λ form. let asks = rw c.in-Ok-Some.field-0-is at c.in-Ok-Some.ensures.asks in inl (request_of c.in-Ok-Some.command, asks, c.perform.ensures.asked)
 
 pub returns-in-Ok-Some-clause-not_asked : goal.returns-in-Ok-Some-clause-not_asked
 returns-in-Ok-Some-clause-not_asked g c = λ none. let form = rw c.in-Ok-Some.field-0-is at c.in-Ok-Some.ensures.form in absurd (none (form.0 refl))
@@ -27,4 +28,4 @@ returns-in-Err-clause-asked g c = λ form. inr (refl, refl)
 pub returns-in-Err-clause-ended : goal.returns-in-Err-clause-ended
 returns-in-Err-clause-ended g c =
     let asks = c.asks_one.ensures.some c.args.words.now c.in-Err.ensures.memory in
-    inl (asks.0, asks.1, memory_ended asks.0 _ _ _ _ _)
+    inl (asks.0, asks.1, memory_ended (task_of asks.0) _ _ _ _ _)

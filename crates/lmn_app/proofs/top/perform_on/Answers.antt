@@ -1,5 +1,4 @@
-use Rattle.std.proofs.Common.{arith, ap, length, ◌≤◌}
-use Rattle.lmn_words.specs.Forms.{request_of, to_compile}
+use Rattle.std.proofs.Common.{arith, ap, length}
 use Rattle.lmn_app.proofs.ListLemmas.{read_accepts, read_refused}
 use Rattle.lmn_app.proofs.OutcomeLemmas.{memory_ended}
 use Rattle.lmn_app.proofs.top.perform_on.Goals as goal
@@ -12,14 +11,10 @@ run-requires-clause-accepted g c =
     (c.args.text.now, read_accepts c.args.text.now c.new-names.result c.read.new.names c.in-Ok.accepted.plain c.in-Ok.accepted.plans c.requires.short c.new-names.ensures c.in-Ok.ensures.names c.in-Ok.ensures.reads)
 
 pub run-requires-clause-size : goal.run-requires-clause-size
-run-requires-clause-size g c =
-    let range : (c.in-Run.words.budget ≤ 9223372036854775807) × (1 ≤ c.in-Run.words.size) × (c.in-Run.words.size ≤ 4294967295) = rw c.in-Run.is at c.requires.range in
-    omega (arith, range.2)
+run-requires-clause-size g c = (rw c.in-Run.is at c.requires.range).0
 
 pub run-requires-clause-budget : goal.run-requires-clause-budget
-run-requires-clause-budget g c =
-    let range : (c.in-Run.words.budget ≤ 9223372036854775807) × (1 ≤ c.in-Run.words.size) × (c.in-Run.words.size ≤ 4294967295) = rw c.in-Run.is at c.requires.range in
-    range.0
+run-requires-clause-budget g c = (rw c.in-Run.is at c.requires.range).1
 
 pub returns-in-Run : goal.returns-in-Run
 returns-in-Run g c = λ before after.
@@ -34,13 +29,13 @@ compile-requires g c = record {
 pub returns-in-Ok : goal.returns-in-Ok
 returns-in-Ok g c = λ before after.
     let accepts = read_accepts c.args.text.now c.new-names.result c.read.new.names c.in-Ok.accepted.plain c.in-Ok.accepted.plans c.requires.short c.new-names.ensures c.in-Ok.ensures.names c.in-Ok.ensures.reads in
-    rw c.in-Compile.is (c.compile.ensures (to_compile c.in-Compile.field-0.now) c.args.text.now before after tt accepts)
+    rw c.in-List.is (c.compile.ensures c.args.text.now before after accepts)
 
 pub returns-in-Err-Refused : goal.returns-in-Err-Refused
 returns-in-Err-Refused g c = λ before after.
     let named = rw c.in-Err-Refused.field-0-is at c.in-Err-Refused.ensures.names in
     let refused = rw c.in-Err-Refused.field-0-is at c.in-Err-Refused.ensures.reads in
-    rw c.in-Err-Refused.field-0-is (read_refused (request_of c.args.command) c.args.text.now c.new-names.result c.read.new.names c.in-Err-Refused.refusal (g.O.Sink.told c.args.out.now) (g.O.Sink.faults c.args.out.now) before after c.requires.short c.new-names.ensures named refused)
+    rw c.in-Err-Refused.field-0-is (read_refused c.args.task c.args.text.now c.new-names.result c.read.new.names c.in-Err-Refused.refusal (g.O.Sink.told c.args.out.now) (g.O.Sink.faults c.args.out.now) before after c.requires.short c.new-names.ensures named refused)
 
 pub returns : goal.returns
 returns g c = λ before after. memory_ended _ _ _ _ before after

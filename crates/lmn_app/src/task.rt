@@ -1,0 +1,58 @@
+use lmn_order::Order;
+use lmn_words::Command;
+
+/// What a command does with a text.
+#[derive(Clone, Copy, Debug, PartialEq, Eq)]
+pub(crate) enum Task {
+    /// A run of it.
+    Run(RunSettings),
+    /// A listing of the code of its rules.
+    List,
+}
+
+/// What a run is given.
+#[derive(Clone, Copy, Debug, PartialEq, Eq)]
+pub(crate) struct RunSettings {
+    /// Whether each process is written, and not the last one alone.
+    pub trace: bool,
+    /// Whether processes are written in the folded form.
+    pub folded: bool,
+    /// How many commits are done at most: below 2^63.
+    pub budget: u64,
+    /// How many items a commit may leave: below 2^32.
+    pub size: u64,
+    /// Which membrane is asked first.
+    pub order: Order,
+}
+
+/// What `run --folded` gives with all other defaults.
+const DEMO: RunSettings = RunSettings {
+    trace: false,
+    folded: true,
+    budget: 1_000_000,
+    size: 16_777_216,
+    order: Order::First,
+};
+
+impl Task {
+    ghost use Rattle.std.specs.Prelude.{◌≡◌};
+    ghost use Rattle.lmn_words.specs.Forms.{request_of};
+    ghost use Rattle.lmn_app.specs.Requests.{task_of};
+
+    /// The task of a command.
+    pub(crate) fn of(command: Command<'_>) -> Task
+        ensures { result ≡ task_of (request_of command.entry) }
+    {
+        match command {
+            Command::Run(words) => Task::Run(RunSettings {
+                trace: words.trace,
+                folded: words.folded,
+                budget: words.budget,
+                size: words.size,
+                order: words.order,
+            }),
+            Command::Compile(_) => Task::List,
+            Command::Demo(_) => Task::Run(DEMO),
+        }
+    }
+}
