@@ -10,7 +10,7 @@ use Rattle.lmn_numbering.specs.declared.numbering.Numbering.{Numbering}
 use Rattle.lmn_numbering.specs.Numberings.{HasNumber, IsNew, Agrees, Gives}
 use Rattle.lmn_numbering.specs.Renumbered.{renumbered}
 use Rattle.lmn_numbering.specs.Scopes.{OneToOne, NumbersLevel, NumbersRule}
-use Rattle.lmn_numbering.specs.Tallies.{AreJoined, EachOccurs, AreTallies}
+use Rattle.lmn_numbering.specs.Tallies.{AreAlone, AreJoined, EachOccurs, EachOccursAlone, AreTallies}
 use Rattle.lmn_numbering.proofs.NumberSteps.{agrees_before, gives_more}
 use Rattle.lmn_numbering.proofs.LevelSteps.{all_left, all_right}
 use Rattle.lmn_numbering.proofs.Renamed.{renumbered_links}
@@ -52,16 +52,16 @@ module _ (keys : ℕ) (t u : Numbering) (old new : Level) (n : IsNew keys t) (g 
   pub level_below : All (λ k. k < count) (links_of new)
   level_below = numbers_below level_numbers
 
-  module _ (heads bodies : List Tally) (h : (length heads ≡ count) × AreTallies (occurrences new) heads) (b : (length bodies ≡ count) × AreTallies [] bodies) where
-    pub level_occur : EachOccurs heads bodies
-    level_occur = each_occurs_alone new count heads bodies level_numbers h
+  module _ (tallies : List Tally) (h : (length tallies ≡ count) × AreTallies (occurrences new) tallies) where
+    pub level_occur : EachOccursAlone tallies
+    level_occur = each_occurs_alone new count tallies level_numbers h
 
-    pub level_is_numbered : (table : List LinkUse) → AreJoined heads bodies table → NumbersLevel old new table
+    pub level_is_numbered : (table : List LinkUse) → AreAlone tallies table → NumbersLevel old new table
     level_is_numbered table j = record {
       to = number_in u;
       apart = apart_in t u (links_of old) g;
       level = r (number_in u) (agrees_itself u);
-      table = level_table new count heads bodies table level_numbers h b j;
+      table = level_table new count tallies level_numbers h table j;
     }
 
 -- ---- a rule

@@ -16,7 +16,7 @@ use Rattle.lmn_base.specs.LinkUses.{RisingPlaces, no_places, places_and, TellsOf
 use Rattle.lmn_numbering.specs.declared.tally.FirstPlaces.{FirstPlaces}
 use Rattle.lmn_numbering.specs.declared.tally.Tally.{Tally}
 use Rattle.lmn_numbering.specs.Numberings.{links_in}
-use Rattle.lmn_numbering.specs.Tallies.{Rising, FirstOf, IsTally, places_among, AreTallies, EachOccurs, IsJoined, EachJoined, AreJoined}
+use Rattle.lmn_numbering.specs.Tallies.{Rising, FirstOf, IsTally, places_among, AreTallies, EachOccurs, EachOccursAlone, IsAlone, EachAlone, AreAlone, IsJoined, EachJoined, AreJoined}
 use Rattle.lmn_numbering.proofs.TallySteps.{last_or_before}
 
 -- ---- one entry
@@ -40,6 +40,22 @@ joined_tells head body places count first third follows e f n ps qs h b =
         third = let P : Option Pos → Type 0 = λ o. MatchOption o (third ≡ first) (λ p. third ≡ p) in subst P fs.third (of_third places.third f);
       },
     )
+  where
+    of_third : (o : Option Pos) → third ≡ unwrap_or o first → MatchOption o (third ≡ first) (λ p. third ≡ p)
+    of_third None g = g
+    of_third (Some p) g = g
+
+pub alone_tells : (t : Tally) (first third : Pos) → t.places.first ≡ Some first → third ≡ unwrap_or t.places.third first
+    → IsAlone t (record { count = t.count; first = first; third = third })
+alone_tells t first third e f ps h = (
+  h.first.rising,
+  h.first.sorted,
+  record {
+    count = let a = h.count in let d = length_permutation ps h.first.rising h.first.sorted.same in omega (arith, a, d);
+    first = sym h.first.first.first ∙ e;
+    third = let P : Option Pos → Type 0 = λ o. MatchOption o (third ≡ first) (λ p. third ≡ p) in subst P h.first.first.third (of_third t.places.third f);
+  },
+)
   where
     of_third : (o : Option Pos) → third ≡ unwrap_or o first → MatchOption o (third ≡ first) (λ p. third ≡ p)
     of_third None g = g
@@ -168,6 +184,37 @@ module _ (heads bodies : List Tally) where
   pub entries_all : (table : List LinkUse) (i n : ℕ) → (length table ≡ i) × EachJoined heads bodies table → n ≤ i → i ≤ n → n ≡ length heads → AreJoined heads bodies table
   entries_all table i n before l m e = let was = before.0 in record { links = omega (arith, l, m, e, was); each = before.1 }
 
+same_alone : (t r : Tally) (u v : LinkUse) → t ≡ r → u ≡ v → IsAlone t u → IsAlone r v
+same_alone t r u v e k j =
+    let P : Tally → Type 0 = λ s. IsAlone s u in
+    let R : LinkUse → Type 0 = λ w. IsAlone r w in
+    subst R k (subst P e j)
+
+module _ (tallies : List Tally) where
+  pub alone_none : (table : List LinkUse) → table ≡ [] → (length table ≡ 0) × EachAlone tallies table
+  alone_none table e = (ap length e, λ x t u r s. let P : List LinkUse → Type 0 = λ us. slice_get us x ≡ Some u in absurd (nothing x u (subst P e s)))
+    where
+      nothing : (x : ℕ) (u : LinkUse) → slice_get [] x ≡ Some u → ⊥
+      nothing x u r = cc
+
+  pub alone_next : (i : ℕ) (table longer : List LinkUse) (t : Tally) (u : LinkUse) → (length table ≡ i) × EachAlone tallies table → slice_get tallies i ≡ Some t
+      → IsAlone t u → longer ≡ table ++ u ∷ [] → (length longer ≡ i + 1) × EachAlone tallies longer
+  alone_next i table longer t u before r alone e =
+      let size = length-append table (u ∷ []) in
+      let whole = ap length e in
+      let was = before.0 in
+      (omega (arith, size, whole, was), λ x s v p q. let P : List LinkUse → Type 0 = λ us. slice_get us x ≡ Some v in go x s v p (last_or_before table u v x (subst P e q)))
+    where
+      go : (x : ℕ) (s : Tally) (v : LinkUse) → slice_get tallies x ≡ Some s → (slice_get table x ≡ Some v) ⊎ ((x ≡ length table) × (u ≡ v)) → IsAlone s v
+      go x s v p (inl q) = before.1 x s v p q
+      go x s v p (inr q) =
+          let at : x ≡ i = q.0 ∙ before.0 in
+          let R : ℕ → Type 0 = λ y. slice_get tallies y ≡ Some s in
+          same_alone t s u v (same_Some t s (sym r ∙ subst R at p)) q.1 alone
+
+  pub alone_all : (table : List LinkUse) (i n : ℕ) → (length table ≡ i) × EachAlone tallies table → n ≤ i → i ≤ n → n ≡ length tallies → AreAlone tallies table
+  alone_all table i n before l m e = let was = before.0 in record { links = omega (arith, l, m, e, was); each = before.1 }
+
 -- ---- the table of a rule, and of a level
 
 rule_places : (head body : Level) (x : ℕ) (u : LinkUse) (hs bs : List Pos) → Rising (places_among x (occurrences head)) hs → Rising (places_among x (occurrences body)) bs → TellsOf (hs ++ bs) u
@@ -176,15 +223,11 @@ rule_places head body x u hs bs h b t =
     let R : List Pos → Type 0 = λ ps. TellsOf (hs ++ ps) u in
     (hs ++ (bs ++ []), places_and h.same h.rise (places_and b.same b.rise no_places), subst R (sym (append-nil bs)) t)
 
-none_rise : (ps : List Pos) → Rising [] ps → ps ≡ []
-none_rise [] r = refl
-none_rise (p ∷ ps) r = absurd (let e = length_permutation [] (p ∷ ps) r.same in omega (arith, e))
-
-level_places : (level : Level) (x : ℕ) (u : LinkUse) (hs bs : List Pos) → Rising (places_among x (occurrences level)) hs → Rising [] bs → TellsOf (hs ++ bs) u
-    → (ps : List Pos) × RisingPlaces x (level ∷ []) ps × TellsOf ps u
-level_places level x u hs bs h b t =
-    let R : List Pos → Type 0 = λ ps. TellsOf (hs ++ ps) u in
-    (hs ++ [], places_and h.same h.rise no_places, subst R (none_rise bs b) t)
+level_places : (level : Level) (x : ℕ) (u : LinkUse) (ps : List Pos) → Rising (places_among x (occurrences level)) ps → TellsOf ps u
+    → (qs : List Pos) × RisingPlaces x (level ∷ []) qs × TellsOf qs u
+level_places level x u ps h t =
+    let R : List Pos → Type 0 = λ qs. TellsOf qs u in
+    (ps ++ [], places_and h.same h.rise no_places, subst R (sym (append-nil ps)) t)
 
 module _ (head body : Level) (n : ℕ) (heads bodies : List Tally) (table : List LinkUse) (numbered : Numbers 0 (links_of head ++ links_of body) n)
     (h : (length heads ≡ n) × AreTallies (occurrences head) heads) (b : (length bodies ≡ n) × AreTallies (occurrences body) bodies) (t : AreJoined heads bodies table) where
@@ -204,10 +247,9 @@ module _ (head body : Level) (n : ℕ) (heads bodies : List Tally) (table : List
             rule_places head body x u j.0 j.1 j.2 j.3 j.4;
       }
 
-module _ (level : Level) (n : ℕ) (heads bodies : List Tally) (table : List LinkUse) (numbered : Numbers 0 (links_of level) n)
-    (h : (length heads ≡ n) × AreTallies (occurrences level) heads) (b : (length bodies ≡ n) × AreTallies [] bodies) (t : AreJoined heads bodies table) where
-  pub level_table : IsTableOf (level ∷ []) table
-  level_table =
+module _ (level : Level) (n : ℕ) (tallies : List Tally) (numbered : Numbers 0 (links_of level) n) (h : (length tallies ≡ n) × AreTallies (occurrences level) tallies) where
+  pub level_table : (table : List LinkUse) → AreAlone tallies table → IsTableOf (level ∷ []) table
+  level_table table t =
       let P : ℕ → Type 0 = λ m. NumbersLinks (links_of level) m in
       let Q : List ℕ → Type 0 = λ xs. NumbersLinks xs (length table) in
       let size : n ≡ length table = sym h.0 ∙ sym t.links in
@@ -215,17 +257,14 @@ module _ (level : Level) (n : ℕ) (heads bodies : List Tally) (table : List Lin
         numbered = subst Q (sym (append-nil (links_of level))) (subst P size numbered);
         tells = λ x u r.
             let l = slice_get_within table x u r in
-            let k = t.links in let m = h.0 in let o = b.0 in
-            let hd = read_at heads x (omega (arith, l, k)) in
-            let bd = read_at bodies x (omega (arith, l, k, m, o)) in
-            let j = t.each x hd.0 bd.0 u hd.1 bd.1 r (places_among x (occurrences level)) [] (h.1 x hd.0 hd.1) (b.1 x bd.0 bd.1) in
-            level_places level x u j.0 j.1 j.2 j.3 j.4;
+            let k = t.links in
+            let s = read_at tallies x (omega (arith, l, k)) in
+            let j = t.each x s.0 u s.1 r (places_among x (occurrences level)) (h.1 x s.0 s.1) in
+            level_places level x u j.0 j.1 j.2;
       }
 
--- a level in which nothing is counted behind it
-module _ (level : Level) (n : ℕ) (heads bodies : List Tally) (numbered : Numbers 0 (links_of level) n) (h : (length heads ≡ n) × AreTallies (occurrences level) heads) where
-  pub each_occurs_alone : EachOccurs heads bodies
-  each_occurs_alone x t u r s =
-      let l = slice_get_within heads x t r in
+  pub each_occurs_alone : EachOccursAlone tallies
+  each_occurs_alone x t r =
+      let l = slice_get_within tallies x t r in
       let size = h.0 in
-      either_some t.places.first u.places.first (inl (has_first (places_among x (occurrences level)) t (h.1 x t r) (some_place x (occurrences level) (numbers_in numbered x (omega arith) (omega (arith, l, size))))))
+      has_first (places_among x (occurrences level)) t (h.1 x t r) (some_place x (occurrences level) (numbers_in numbered x (omega arith) (omega (arith, l, size))))

@@ -70,3 +70,19 @@ EachJoined heads bodies table = (x : ℕ) (head body : Tally) (u : LinkUse) →
 pub record AreJoined (heads bodies : List Tally) (table : List LinkUse) : Type 0 where
   pub links : length table ≡ length heads
   pub each : EachJoined heads bodies table
+
+-- a link occurs in the level
+abbrev pub EachOccursAlone : List Tally → Type 0
+EachOccursAlone tallies = (x : ℕ) (t : Tally) → slice_get tallies x ≡ Some t → IsSome t.places.first
+
+-- What an entry says of a link by what was counted of it in one level: its places come by rising place.
+abbrev pub IsAlone : Tally → LinkUse → Type 0
+IsAlone t u = (places : List Pos) → IsTally places t → (ps : List Pos) × Rising places ps × TellsOf ps u
+
+-- the same of every link
+abbrev pub EachAlone : List Tally → List LinkUse → Type 0
+EachAlone tallies table = (x : ℕ) (t : Tally) (u : LinkUse) → slice_get tallies x ≡ Some t → slice_get table x ≡ Some u → IsAlone t u
+
+pub record AreAlone (tallies : List Tally) (table : List LinkUse) : Type 0 where
+  pub links : length table ≡ length tallies
+  pub each : EachAlone tallies table

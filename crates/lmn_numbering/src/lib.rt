@@ -8,6 +8,7 @@
 mod laws;
 mod numbering;
 mod outside;
+mod packed;
 mod scope;
 mod table;
 mod tally;

@@ -28,9 +28,9 @@ impl Numbering {
         Ok(Numbering { numbers, count: 0 })
     }
 
-    /// How many links have a number.
-    pub(crate) fn count(&self) -> u32
-        ensures { result ≡ self.now.count }
+    /// How many links have a number. The numbers themselves are let go.
+    pub(crate) fn count(self) -> u32
+        ensures { result ≡ self.count }
     {
         self.count
     }

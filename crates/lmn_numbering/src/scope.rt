@@ -3,8 +3,8 @@ ghost use Rattle.lmn_base.specs.Levels.{links_of};
 ghost use Rattle.lmn_numbering.specs.Scopes.{NumbersLevel, NumbersRule};
 
 use crate::numbering::Numbering;
-use crate::table::table_of;
-use crate::tally::{no_tallies, tallies_of};
+use crate::table::{table_alone, table_of};
+use crate::tally::tallies_of;
 use lmn_base::{Level, LinkUse, NoMemory, Rows};
 use std::alloc::Global;
 
@@ -20,7 +20,7 @@ pub fn number_level(alloc: Global, level: &mut Level, keys: u32) -> Result<Rows<
     numbering.number_level(alloc, level);
     let count = numbering.count();
     let tallies = tallies_of(alloc, level, count)?;
-    table_of(alloc, &tallies, &no_tallies(alloc, count)?)
+    table_alone(alloc, &tallies)
 }
 
 /// Numbers the links of a rule by first occurrence in its head and then its body, each in the order in which it is printed,

@@ -1,6 +1,8 @@
 ghost use Rattle.std.specs.Prelude.{◌≡◌, length, IfOk};
-ghost use Rattle.lmn_numbering.specs.Tallies.{Occurs, EachOccurs, IsJoined, AreJoined};
+ghost use Rattle.std.specs.Option.{IsSome};
+ghost use Rattle.lmn_numbering.specs.Tallies.{Occurs, EachOccurs, EachOccursAlone, IsAlone, AreAlone, IsJoined, AreJoined};
 
+use crate::packed::PackedTally;
 use crate::tally::Tally;
 use lmn_base::{LinkUse, NoMemory, Rows};
 use std::alloc::Global;
@@ -8,8 +10,8 @@ use std::alloc::Global;
 /// The table of links by what was counted in two levels, of which the places in the first come first.
 pub(crate) fn table_of(
     alloc: Global,
-    head: &Rows<Tally>,
-    body: &Rows<Tally>,
+    head: &Rows<PackedTally>,
+    body: &Rows<PackedTally>,
 ) -> Result<Rows<LinkUse>, NoMemory>
     requires lengths { length head.now ≡ length body.now }
     requires occur { EachOccurs head.now body.now }
@@ -17,7 +19,7 @@ pub(crate) fn table_of(
 {
     let mut table = Rows::new(alloc);
     for i in 0..head.len() {
-        let links = joined(*head.at(i), *body.at(i))?;
+        let links = joined(head.at(i).tally(), body.at(i).tally())?;
         table.push(links)?;
     }
     Ok(table)
@@ -37,5 +39,34 @@ fn joined(head: Tally, body: Tally) -> Result<LinkUse, NoMemory>
             first,
             third: places.third.unwrap_or(first),
         }),
+    }
+}
+
+/// The table of links by what was counted in one level.
+pub(crate) fn table_alone(
+    alloc: Global,
+    tallies: &Rows<PackedTally>,
+) -> Result<Rows<LinkUse>, NoMemory>
+    requires { EachOccursAlone tallies.now }
+    ensures { IfOk result (AreAlone tallies.now) }
+{
+    let mut table = Rows::new(alloc);
+    for i in 0..tallies.len() {
+        table.push(alone(tallies.at(i).tally()))?;
+    }
+    Ok(table)
+}
+
+/// What is said of a link that occurs in a level.
+fn alone(tally: Tally) -> LinkUse
+    requires { IsSome tally.places.first }
+    ensures { IsAlone tally result }
+{
+    let first = tally.places.first.unwrap();
+    let third = tally.places.third.unwrap_or(first);
+    LinkUse {
+        count: tally.count,
+        first,
+        third,
     }
 }

@@ -5,6 +5,7 @@ ghost use Rattle.lmn_base.specs.Levels.{leaf_occurrences, occurrences, links_of}
 ghost use Rattle.lmn_numbering.specs.Numberings.{links_in};
 ghost use Rattle.lmn_numbering.specs.Tallies.{FirstOf, AreFirst, IsTally, AreTallies, Counts, comes_before};
 
+use crate::packed::{PackedTally, packed};
 use lmn_base::{Leaf, Level, NoMemory, Occ, Pos, Rows};
 use std::alloc::Global;
 
@@ -17,17 +18,6 @@ pub(crate) struct FirstPlaces {
 }
 
 impl FirstPlaces {
-    /// Those of no places.
-    fn none() -> FirstPlaces
-        ensures { AreFirst [] result }
-    {
-        FirstPlaces {
-            first: None,
-            second: None,
-            third: None,
-        }
-    }
-
     /// The same with one place more.
     fn with(self, pos: Pos) -> FirstPlaces
         ensures { (ps : List Pos) → AreFirst ps self → AreFirst (ps ++ pos ∷ []) result }
@@ -105,16 +95,6 @@ pub(crate) struct Tally {
 }
 
 impl Tally {
-    /// A link that doesn't occur.
-    fn none() -> Tally
-        ensures { IsTally [] result }
-    {
-        Tally {
-            count: 0,
-            places: FirstPlaces::none(),
-        }
-    }
-
     /// The same with one occurrence more. No memory holds so many that their number needs more than 64 bits.
     fn with(self, pos: Pos) -> Result<Tally, NoMemory>
         ensures { IfOk result (λ more. (ps : List Pos) → IsTally ps self → IsTally (ps ++ pos ∷ []) more) }
@@ -130,7 +110,11 @@ impl Tally {
 }
 
 /// The tallies of a level, one for each of `count` links, by its number.
-pub(crate) fn tallies_of(alloc: Global, level: &Level, count: u32) -> Result<Rows<Tally>, NoMemory>
+pub(crate) fn tallies_of(
+    alloc: Global,
+    level: &Level,
+    count: u32,
+) -> Result<Rows<PackedTally>, NoMemory>
     requires { All (λ k. k < count) (links_of level.now) }
     ensures { IfOk result (λ tallies. (length tallies ≡ count) × AreTallies (occurrences level.now) tallies) }
 {
@@ -140,18 +124,18 @@ pub(crate) fn tallies_of(alloc: Global, level: &Level, count: u32) -> Result<Row
 }
 
 /// The tallies of links that don't occur.
-pub(crate) fn no_tallies(alloc: Global, count: u32) -> Result<Rows<Tally>, NoMemory>
+fn no_tallies(alloc: Global, count: u32) -> Result<Rows<PackedTally>, NoMemory>
     ensures { IfOk result (λ tallies. (length tallies ≡ count) × AreTallies [] tallies) }
 {
     let mut tallies = Rows::new(alloc);
     for _ in 0..count {
-        tallies.push(Tally::none())?;
+        tallies.push(PackedTally::none())?;
     }
     Ok(tallies)
 }
 
 /// Counts what occurs in a level, at every depth.
-fn count_level(tallies: &mut Rows<Tally>, level: &Level) -> Result<(), NoMemory>
+fn count_level(tallies: &mut Rows<PackedTally>, level: &Level) -> Result<(), NoMemory>
     requires { All (λ k. k < length tallies.old) (links_of level.now) }
     ensures { OnOk result (Counts (occurrences level.now) tallies.old tallies.new) }
 {
@@ -164,7 +148,7 @@ fn count_level(tallies: &mut Rows<Tally>, level: &Level) -> Result<(), NoMemory>
     Ok(())
 }
 
-fn count_leaf(tallies: &mut Rows<Tally>, leaf: &Leaf) -> Result<(), NoMemory>
+fn count_leaf(tallies: &mut Rows<PackedTally>, leaf: &Leaf) -> Result<(), NoMemory>
     requires { All (λ k. k < length tallies.old) (links_in (leaf_occurrences leaf.now)) }
     ensures { OnOk result (Counts (leaf_occurrences leaf.now) tallies.old tallies.new) }
 {
@@ -174,7 +158,7 @@ fn count_leaf(tallies: &mut Rows<Tally>, leaf: &Leaf) -> Result<(), NoMemory>
     }
 }
 
-fn count_links(tallies: &mut Rows<Tally>, links: &[Occ]) -> Result<(), NoMemory>
+fn count_links(tallies: &mut Rows<PackedTally>, links: &[Occ]) -> Result<(), NoMemory>
     requires { All (λ k. k < length tallies.old) (links_in links.now) }
     ensures { OnOk result (Counts links.now tallies.old tallies.new) }
 {
@@ -184,12 +168,12 @@ fn count_links(tallies: &mut Rows<Tally>, links: &[Occ]) -> Result<(), NoMemory>
     Ok(())
 }
 
-fn count_link(tallies: &mut Rows<Tally>, occurrence: Occ) -> Result<(), NoMemory>
+fn count_link(tallies: &mut Rows<PackedTally>, occurrence: Occ) -> Result<(), NoMemory>
     requires { occurrence.link < length tallies.old }
     ensures { OnOk result (Counts (occurrence ∷ []) tallies.old tallies.new) }
 {
     let i = occurrence.link as usize;
-    let tally = tallies.at(i).with(occurrence.pos)?;
-    tallies.set(i, tally);
+    let tally = tallies.at(i).tally().with(occurrence.pos)?;
+    tallies.set(i, packed(tally)?);
     Ok(())
 }

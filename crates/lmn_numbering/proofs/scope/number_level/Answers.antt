@@ -1,4 +1,3 @@
-use Rattle.std.proofs.Common.{sym, ◌∙◌}
 use Rattle.std.proofs.lemmas.Result.{IfOk-weaker}
 use Rattle.lmn_numbering.proofs.ScopeSteps.{level_keys, level_below, level_occur, level_is_numbered}
 use Rattle.lmn_numbering.proofs.scope.number_level.Goals as goal
@@ -10,16 +9,13 @@ pub tallies_of-requires : goal.tallies_of-requires
 tallies_of-requires c =
     level_below c.args.keys c.in_ok-numbering.numbering c.number_level.new.self c.args.level.now c.number_level.new.level c.in_ok-numbering.ensures c.number_level.ensures.gives c.number_level.ensures.level c.count-count.result c.count-count.ensures
 
-pub table_of-requires : goal.table_of-requires
-table_of-requires c = record {
-  lengths = c.in_ok-tallies.ensures.0 ∙ sym c.in_ok-no_tallies.ensures.0;
-  occur =
-      level_occur c.args.keys c.in_ok-numbering.numbering c.number_level.new.self c.args.level.now c.number_level.new.level c.in_ok-numbering.ensures c.number_level.ensures.gives c.number_level.ensures.level c.count-count.result
-      c.count-count.ensures c.in_ok-tallies.tallies c.in_ok-no_tallies.field-0 c.in_ok-tallies.ensures c.in_ok-no_tallies.ensures;
-}
+pub table_alone-requires : goal.table_alone-requires
+table_alone-requires c =
+    level_occur c.args.keys c.in_ok-numbering.numbering c.number_level.new.self c.args.level.now c.number_level.new.level c.in_ok-numbering.ensures c.number_level.ensures.gives c.number_level.ensures.level c.count-count.result
+    c.count-count.ensures c.in_ok-tallies.tallies c.in_ok-tallies.ensures
 
 pub returns : goal.returns
 returns c =
-    IfOk-weaker c.table_of-2.result _ _ (λ table j.
+    IfOk-weaker c.table_alone.result _ _ (λ table j.
     level_is_numbered c.args.keys c.in_ok-numbering.numbering c.number_level.new.self c.args.level.now c.number_level.new.level c.in_ok-numbering.ensures c.number_level.ensures.gives c.number_level.ensures.level c.count-count.result
-    c.count-count.ensures c.in_ok-tallies.tallies c.in_ok-no_tallies.field-0 c.in_ok-tallies.ensures c.in_ok-no_tallies.ensures table j) c.table_of-2.ensures
+    c.count-count.ensures c.in_ok-tallies.tallies c.in_ok-tallies.ensures table j) c.table_alone.ensures
