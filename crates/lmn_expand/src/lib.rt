@@ -58,7 +58,7 @@ pub fn flatten(
         × RefusedBy (outside_rules plain.top ∷ []) refusal)) }
 {
     let glossary = Glossary::read(alloc, text, tokens, names)?;
-    let plain = expanded(&glossary, tree)?;
+    let plain = expanded(glossary, tree)?;
     match refuse(39, first_outside(&plain.top)) {
         Ok(()) => Ok(plain),
         Err(refusal) => Err(TextFault::Refused(refusal)),

@@ -24,24 +24,29 @@ use lmn_base::{CONNECTOR_NAME, Label, Leaf, NoMemory, Occ, Plain, Pos, Rows, Rul
 use lmn_numbering::{number_level, number_rule};
 use lmn_parser::{AtomNode, Clause, Item, RuleNode, Term, Tree};
 use std::alloc::Global;
+use std::mem::drop;
 
-/// The plain of a tree.
-pub(crate) fn expanded(glossary: &Glossary, tree: &Tree) -> Result<Plain, NoMemory>
-    requires known { IsKnown glossary.now }
-    ensures { IfOk result (λ plain. (r : Reading) → IsGlossary r glossary.now → IsPlainOf r.words r.places r.names (tree_of tree.now) plain) }
+/// The plain of a tree. The glossary is let go before the links of the process get their numbers.
+pub(crate) fn expanded(glossary: Glossary, tree: &Tree) -> Result<Plain, NoMemory>
+    requires known { IsKnown glossary }
+    ensures { IfOk result (λ plain. (r : Reading) → IsGlossary r glossary → IsPlainOf r.words r.places r.names (tree_of tree.now) plain) }
 {
-    let mut part = Part::new(glossary.alloc);
-    let mut scope = Scope::new(glossary.alloc);
-    let mut rules = Rows::new(glossary.alloc);
+    let alloc = glossary.alloc;
+    let mut part = Part::new(alloc);
+    let mut scope = Scope::new(alloc);
+    let mut rules = Rows::new(alloc);
     add_clauses(
-        glossary,
+        &glossary,
         &mut part,
         &mut scope,
         &mut rules,
         tree.clauses.as_slice(),
     )?;
+    let count = scope.count;
+    drop(scope);
+    drop(glossary);
     let mut top = part.into_level();
-    let links = number_level(glossary.alloc, &mut top, scope.count)?;
+    let links = number_level(alloc, &mut top, count)?;
     Ok(Plain { top, links, rules })
 }
 
@@ -387,11 +392,19 @@ fn add_cell(
     ensures { OnOk result ((r : Reading) (keys : List Link) (a b c : Use) → IsGlossary r glossary.now → IsUse r.names (IsKey keys) a element → IsUse r.names (IsKey keys) b rest → IsUse r.names (IsKey keys) c own
         → AddsLeaf r.names (IsKey keys) (atom_leaf (named (codes ".")) (a ∷ b ∷ c ∷ []) pos) part.old part.new) }
 {
-    let mut links = Rows::new(glossary.alloc);
+    let mut links = room_of_a_cell(glossary.alloc)?;
     links.push(element)?;
     links.push(rest)?;
     links.push(own)?;
     part.add_atom(Label::Name(glossary.cell), links, pos)
+}
+
+/// No occurrences, with room for the three of a cell.
+fn room_of_a_cell(alloc: Global) -> Result<Rows<Occ>, NoMemory>
+    ensures { IfOk result (λ room. room ≡ []) }
+{
+    let room = Vec::with_capacity(alloc, 3)?;
+    Ok(Rows::from_vec(room))
 }
 
 /// Adds an atom with one link.

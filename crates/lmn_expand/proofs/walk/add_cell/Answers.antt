@@ -10,6 +10,6 @@ use Rattle.lmn_expand.proofs.walk.add_cell.Goals as goal
 pub returns : goal.returns
 returns c = on_ok_weaker c.add_atom.result
     (λ added r keys u v w g a b d. added r.names keys (named (codes ".")) (u ∷ v ∷ w ∷ []) (ap Name (number_is r.names g.names c.args.glossary.now.cell (codes ".") g.cell))
-    (three_uses r.names (IsKey keys) u v w c.args.element c.args.rest c.args.own c.new-links.result c.push.new.self c.push-2.new.self c.push-3.new.self c.new-links.ensures
+    (three_uses r.names (IsKey keys) u v w c.args.element c.args.rest c.args.own c.in_ok-links.links c.push.new.self c.push-2.new.self c.push-3.new.self c.in_ok-links.ensures
     c.in_ok-push.ensures.ok c.in_ok-push-2.ensures.ok c.in_ok-push-3.ensures.ok a b d))
     c.add_atom.ensures
