@@ -1,6 +1,7 @@
 -- At a place a text goes on in one way, or one fault stands there.
 use Rattle.std.proofs.Common.{◌≡◌, ◌≢◌, ℕ, ◌≤◌, Bool, true, false, List, [], ◌∷◌, ◌++◌, length, take, drop, ◌⊎◌, inl, inr, refl, sym, ap, ◌∙◌, subst, arith}
 use Rattle.std.specs.Char.{is_ascii_whitespace}
+use Rattle.std.proofs.lemmas.Bool.Decides.{nat_tests}
 use Rattle.std.proofs.lemmas.List.{take-append-drop, take_at, drop_at, length-take-le}
 use Rattle.lmn_lexer.specs.declared.token.Kind.{Kind}
 use Rattle.lmn_lexer.specs.declared.token.Kind.TheVariants.{Int, LBracket, Slash}
@@ -8,11 +9,32 @@ use Rattle.lmn_lexer.specs.declared.piece.Piece.{Piece}
 use Rattle.lmn_lexer.specs.declared.piece.Piece.TheVariants as piece
 use Rattle.lmn_lexer.specs.Gaps.{Gap, separator, percent, slashes, block}
 use Rattle.lmn_lexer.specs.Cutting.{BeginsToken}
-use Rattle.lmn_lexer.specs.Faults.{Wrong, bad_byte, bad_quoted_byte, open_quote, open_comment, wrong_token, string, inline_code, hyperlink, BeginsNoToken, TooLong, TokenFault, integer_out_of_range, long_name, floating_point}
+use Rattle.lmn_lexer.specs.Faults.{Wrong, bad_byte, bad_quoted_byte, open_quote, open_comment, wrong_token, string, inline_code, hyperlink, BeginsNoToken, TooLong, TokenFault, integer_out_of_range, long_name, floating_point, has_its_own}
 use Rattle.lmn_lexer.specs.Scanning.{piece_of}
 use Rattle.lmn_lexer.proofs.Found.{Stands, IsGap, IsPiece, found, head_is}
 use Rattle.lmn_lexer.proofs.Exact.{IsFree, Covers, covered}
 use Rattle.lmn_lexer.proofs.OnePiece.{token_piece, gap_piece, bad_quoted_piece, open_quote_piece, open_comment_piece}
+
+-- a byte without a row of its own
+
+no_row : (b : ℕ) → is_ascii_whitespace b ≡ false → b ≢ 37 → b ≢ 34 → b ≢ 33 → b ≢ 39 → has_its_own b ≡ false
+no_row b s p t h q = grind (arith, nat_tests)
+
+record NoRow (b : ℕ) : Type 0 where
+  space : is_ascii_whitespace b ≡ false
+  percent : b ≢ 37
+  string : b ≢ 34
+  hyperlink : b ≢ 33
+  quote : b ≢ 39
+
+row_parts : (b : ℕ) → has_its_own b ≡ false → NoRow b
+row_parts b h = record {
+  space = grind (arith, nat_tests);
+  percent = λ e. grind (arith, nat_tests);
+  string = λ e. grind (arith, nat_tests);
+  hyperlink = λ e. grind (arith, nat_tests);
+  quote = λ e. grind (arith, nat_tests);
+}
 
 -- what is found is there
 
@@ -60,7 +82,7 @@ wrong_found minus b bs code n e = let P : Piece → Type 0 = IsPiece minus (b �
         let zero_is = h.at_first in (
           omega arith,
           subst Q (sym h.code_is) (subst R (sym h.at_first)
-              (bad_byte b bs refl h.not_space h.not_percent h.not_string h.not_hyperlink h.not_quote (no_token minus (b ∷ bs) code n e h.code_is h.at_first))),
+              (bad_byte b bs refl (no_row b h.not_space h.not_percent h.not_string h.not_hyperlink h.not_quote) (no_token minus (b ∷ bs) code n e h.code_is h.at_first))),
         )
 
 -- what is there is found
@@ -85,7 +107,7 @@ slash_spells minus b bs e none = none Slash (47 ∷ []) bs refl (ap (λ x. x ∷
 -- only this fault can stand at such a byte
 bad_byte_alone : (minus : Bool) (b : ℕ) (bs : List ℕ) (code : ℕ) (skipped : List ℕ) → b ≢ 34 → b ≢ 33 → b ≢ 39 → BeginsNoToken minus (b ∷ bs)
     → Wrong minus (b ∷ bs) code skipped → (code ≡ 2) × (skipped ≡ [])
-bad_byte_alone minus b bs _ _ string_not link_not quote_not none (bad_byte c after e s p t h q n) = (refl, refl)
+bad_byte_alone minus b bs _ _ string_not link_not quote_not none (bad_byte c after e r n) = (refl, refl)
 bad_byte_alone minus b bs _ _ string_not link_not quote_not none (bad_quoted_byte c inside name after e q n x y) = absurd (quote_not (head_is e))
 bad_byte_alone minus b bs _ _ string_not link_not quote_not none (open_quote inside name after e q l) = absurd (quote_not (head_is e))
 bad_byte_alone minus b bs _ _ string_not link_not quote_not none (open_comment inside e h) = absurd (slash_spells minus b bs (head_is e) none)
@@ -116,9 +138,10 @@ bad_byte_piece minus b bs space percent_not string_not link_not quote_not none =
 
 pub fault_piece : {minus : Bool} {text : List ℕ} {code : ℕ} {skipped : List ℕ} → Wrong minus text code skipped
     → (piece_of minus text ≡ piece.Wrong code (length skipped)) ⊎ IsTokenFault minus text code skipped
-fault_piece {minus = minus} (bad_byte b after e s p t h q n) =
+fault_piece {minus = minus} (bad_byte b after e r n) =
     let P : List ℕ → Type 0 = BeginsNoToken minus in
-    inl (ap (piece_of minus) e ∙ bad_byte_piece minus b after s p t h q (subst P e n))
+    let o = row_parts b r in
+    inl (ap (piece_of minus) e ∙ bad_byte_piece minus b after o.space o.percent o.string o.hyperlink o.quote (subst P e n))
 fault_piece {minus = minus} (bad_quoted_byte b inside name after e q n x y) = inl (ap (piece_of minus) e ∙ bad_quoted_piece minus b after q n x y)
 fault_piece {minus = minus} (open_quote inside name after e q l) = inl (ap (piece_of minus) e ∙ open_quote_piece minus after q l)
 fault_piece {minus = minus} (open_comment inside e h) = inl (ap (piece_of minus) e ∙ open_comment_piece minus inside h)
@@ -171,7 +194,7 @@ one_code (floating_point k g) (long_name l) = absurd (int_not_long _ _ k l)
 one_code (floating_point k g) (floating_point k' g') = refl
 
 wrong_front : {minus : Bool} {text : List ℕ} {code : ℕ} {skipped : List ℕ} → Wrong minus text code skipped → (rest : List ℕ) × (text ≡ skipped ++ rest)
-wrong_front {text = text} (bad_byte b after e s p t h q n) = (text, refl)
+wrong_front {text = text} (bad_byte b after e r n) = (text, refl)
 wrong_front (bad_quoted_byte b inside name after e q n x y) = (b ∷ after, e)
 wrong_front {text = text} (open_quote inside name after e q l) = (text, refl)
 wrong_front {text = text} (open_comment inside e h) = (text, refl)
@@ -219,7 +242,7 @@ token_not_wrong {minus = minus} {kind = kind} {xs = xs} {ys = ys} {text = text} 
 
 -- nothing is wrong at the end of a text
 pub nothing_wrong : {minus : Bool} {code : ℕ} {skipped : List ℕ} → Wrong minus [] code skipped → ⊥
-nothing_wrong (bad_byte b after e s p t h q n) = cc
+nothing_wrong (bad_byte b after e r n) = cc
 nothing_wrong (bad_quoted_byte b inside name after e q n x y) = cc
 nothing_wrong (open_quote inside name after e q l) = cc
 nothing_wrong (open_comment inside e h) = cc

@@ -1,5 +1,5 @@
 -- Why a text is refused before its tokens are read, and where.
-use Rattle.std.specs.Prelude.{◌≡◌, ◌≢◌, ℕ, ◌+◌, ◌-◌, ◌*◌, ◌<◌, ◌≤◌, ◌^◌, Bool, true, false, ◌⊎◌, List, [], ◌∷◌, ◌++◌, length, codes}
+use Rattle.std.specs.Prelude.{◌≡◌, ◌≢◌, ℕ, ◌+◌, ◌-◌, ◌*◌, ◌<◌, ◌≤◌, ◌^◌, ◌==◌, Bool, true, false, ◌||◌, ◌⊎◌, List, [], ◌∷◌, ◌++◌, length, codes}
 use Rattle.std.specs.Char.{is_ascii_digit, is_ascii_whitespace}
 use Rattle.lmn_base.specs.declared.refusal.Refusal.{Refusal}
 use Rattle.lmn_lexer.specs.declared.token.Kind.{Kind}
@@ -13,24 +13,12 @@ abbrev pub value_behind : ℕ → List ℕ → ℕ
 value_behind n [] = n
 value_behind n (d ∷ ds) = value_behind (n * 10 + (d - 48)) ds
 
--- bytes by their names: `%`, `"`, `!`, `'`, `-` and the line feed
-abbrev pub percent : ℕ
-percent = 37
-
-abbrev pub double_quote : ℕ
-double_quote = 34
-
-abbrev pub exclamation : ℕ
-exclamation = 33
-
+-- bytes by their names: `'` and `-`
 abbrev pub quote : ℕ
 quote = 39
 
 abbrev pub minus_sign : ℕ
 minus_sign = 45
-
-abbrev pub line_feed : ℕ
-line_feed = 10
 
 -- the integer is -2^63 to 2^63 - 1
 abbrev pub InRange : List ℕ → Type 0
@@ -61,16 +49,24 @@ pub data TokenFault (kind : Kind) (bytes after : List ℕ) : ℕ → Type 0 wher
 abbrev pub BeginsNoToken : Bool → List ℕ → Type 0
 BeginsNoToken minus text = (kind : Kind) (bytes after : List ℕ) → Spells minus kind bytes → text ≡ bytes ++ after → ⊥
 
+-- the byte is one of the signs
+abbrev pub is_one_of : List ℕ → ℕ → Bool
+is_one_of [] b = false
+is_one_of (sign ∷ signs) b = (b == sign) || is_one_of signs b
+
+-- The byte has a row of its own though no token begins at it: it is a separator, or begins a comment, a name in quotes,
+-- a string or a hyperlink.
+abbrev pub has_its_own : ℕ → Bool
+has_its_own b = is_ascii_whitespace b || is_one_of (codes "%'\"!") b
+
 -- What is wrong at the front of a text: the number of the code, and the bytes of the text that stand before the place to
 -- which the code points.
 pub data Wrong (minus : Bool) (text : List ℕ) : ℕ → List ℕ → Type 0 where
-  -- a byte at which no token begins, and that has no row of its own: it is no separator and begins no comment, string,
-  -- hyperlink or name in quotes
-  bad_byte : (b : ℕ) (after : List ℕ) → text ≡ b ∷ after → is_ascii_whitespace b ≡ false → b ≢ percent → b ≢ double_quote → b ≢ exclamation → b ≢ quote
-      → BeginsNoToken minus text → Wrong minus text 2 []
+  -- a byte at which no token begins, and that has no row of its own
+  bad_byte : (b : ℕ) (after : List ℕ) → text ≡ b ∷ after → has_its_own b ≡ false → BeginsNoToken minus text → Wrong minus text 2 []
   -- a name in quotes holds a byte that may not stand there
   bad_quoted_byte : (b : ℕ) (inside name after : List ℕ) → text ≡ codes "'" ++ (inside ++ b ∷ after) → Quotes inside name
-      → is_quotable b ≡ false → b ≢ quote → b ≢ line_feed → Wrong minus text 2 (codes "'" ++ inside)
+      → is_quotable b ≡ false → b ≢ quote → ¬ (EndsLine (b ∷ after)) → Wrong minus text 2 (codes "'" ++ inside)
   -- a name in quotes meets a line feed or the end
   open_quote : (inside name after : List ℕ) → text ≡ codes "'" ++ (inside ++ after) → Quotes inside name → EndsLine after → Wrong minus text 3 []
   -- a comment meets the end

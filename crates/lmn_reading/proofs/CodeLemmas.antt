@@ -147,7 +147,7 @@ of_token_fault kind bytes after _ (long_name a) = refl
 of_token_fault kind bytes after _ (floating_point a b) = refl
 
 of_bytes : (minus : Bool) (text skipped : List ℕ) (code : ℕ) → Wrong minus text code skipped → IsSome (code_of code)
-of_bytes minus text _ _ (bad_byte a b c d e f g h i) = refl
+of_bytes minus text _ _ (bad_byte a b c d e) = refl
 of_bytes minus text _ _ (bad_quoted_byte a b c d e f g h i) = refl
 of_bytes minus text _ _ (open_quote a b c d e f) = refl
 of_bytes minus text _ _ (open_comment a b c) = refl
