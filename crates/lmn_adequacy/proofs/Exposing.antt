@@ -1,7 +1,8 @@
 -- A region that holds the images of a head is congruent to an instance of the head with links of its own, beside wires.
 use Rattle.std.proofs.Common.{ℕ, zero, suc, cond, eqb, ltb, Bool, true, false, List, refl, sym, ap, subst, inl, inr, arith, ◌≡◌, ◌≢◌, ◌+◌, ◌≤◌, ◌<◌, ◌⊎◌, [], ◌∷◌, ◌∙◌, ◌-◌}
 use Rattle.lmn_congruence.specs.Congruence.{Congruent}
-use Rattle.lmn_congruence.specs.FreeLinks.{free_number, link_bound, one_if_free, one_if_once, total}
+use Rattle.lmn_congruence.specs.FreeNumber.{free_number}
+use Rattle.lmn_congruence.specs.FreeLinks.{link_bound, one_if_free, one_if_once, total}
 use Rattle.lmn_congruence.specs.Fused.{Joins, NoConnector, fused}
 use Rattle.lmn_congruence.specs.LinkMaps.{SameCrossings}
 use Rattle.lmn_congruence.specs.Links.{one_if_same}
@@ -9,6 +10,7 @@ use Rattle.lmn_congruence.specs.Process.{Linked, Process, atom, connector, membr
 use Rattle.lmn_congruence.specs.UpToOrder.{Reordered, r_beside, r_chain, r_same, r_unit}
 use Rattle.lmn_congruence.proofs.Counts.{Occurs, same_or_not}
 use Rattle.lmn_congruence.proofs.Crossings.{free_number_below, occurrences_above, occurs_below}
+use Rattle.lmn_congruence.proofs.FreeNumbers.{free_total}
 use Rattle.lmn_congruence.proofs.FewestCrossings.{all_images, image_count, image_pick, with_image}
 use Rattle.lmn_congruence.proofs.LinkMaps.{Leaves, fused_is_renamed, joins_plain, two_occurrences}
 use Rattle.lmn_reduction.proofs.Merges.{row}
@@ -261,7 +263,7 @@ free_number_kept w P k =
     let n = link_bound P in
     let Q = renamed w P in
     let N = link_bound Q + total n (λ y. suc (w y)) in
-    sym (free_number_below N Q (omega arith)) ∙ total_same N (one_if_free Q) (λ z. total n (with_image w z (one_if_free P))) (λ z b. at z (source w P z)) ∙ all_images N n w (one_if_free P) (λ y b. omega (arith, highest n w y b))
+    sym (free_number_below N Q (omega arith)) ∙ total_same N (one_if_free Q) (λ z. total n (with_image w z (one_if_free P))) (λ z b. at z (source w P z)) ∙ all_images N n w (one_if_free P) (λ y b. omega (arith, highest n w y b)) ∙ free_total P
   where
     one_alone : (m n k : ℕ) → n ≢ 0 → k ≡ m → ¬ (m + n ≤ k)
     one_alone m n k o e = omega arith

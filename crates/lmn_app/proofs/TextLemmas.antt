@@ -17,14 +17,14 @@ use Rattle.lmn_congruence.specs.SolidsOfPlains.{IsSolidOf, JoinsLeaf, fused_regi
 use Rattle.lmn_adequacy.proofs.PlainSolids.{solid_of_plain_is_one, solids_of_plains_exist}
 use Rattle.lmn_expand.specs.NameLists.{names_read}
 use Rattle.lmn_grammar.specs.Refusing.{IsRefused as IsRefusedAt}
-use Rattle.lmn_grammar.proofs.Refusals.{refused_derive_nothing}
 use Rattle.lmn_guards.specs.declared.plan.GuardPlan.{GuardPlan}
 use Rattle.lmn_lexer.specs.Laying.{words_of}
 use Rattle.lmn_lexer.specs.declared.token.Kind.{Kind}
 use Rattle.lmn_lexer.proofs.OneCut.{one_cut, refused_is_wrong}
 use Rattle.lmn_linkcheck.proofs.LinkedLemmas.{no_fault_is_linked}
 use Rattle.lmn_parser.specs.Parsing.{kinds_of}
-use Rattle.lmn_parser.proofs.TreeWords.{trees_derive}
+use Rattle.lmn_parser.proofs.OneLanguage.{refused_no_tree}
+use Rattle.lmn_parser.specs.Faults.{IsProgram}
 use Rattle.lmn_reading.specs.Laws.{IsAcceptedText}
 use Rattle.lmn_reading.specs.Texts.{IsAcceptedAs, IsRefusedAs, ReadsAs, by_bytes, by_contexts, by_links, by_rules, by_tokens}
 use Rattle.lmn_reading.proofs.AcceptedOrRefused as reading
@@ -154,12 +154,12 @@ module _ (size : Option ℕ) where
   short_text alloc text short (inl (p, ps, a)) = reads_so alloc text first_names p short a.reads
   short_text alloc text short (inr (r, by_bytes h)) =
       inr (r, by_reading short first_names (λ tokens tree right reads within. absurd (refused_is_wrong text r h right)) (by_bytes h))
-  short_text alloc text short (inr (r, by_tokens ts right cut (n, token, at, pos, h))) =
+  short_text alloc text short (inr (r, by_tokens ts right cut h)) =
       let none : NamesText text first_names = λ tokens tree right reads within.
       let same = ap kinds_of (one_cut text ts tokens cut reads.cut) in
-      let P : List Kind → Type 0 = λ k. IsRefusedAt k n r.code in
-      absurd (refused_derive_nothing (kinds_of tokens) n r.code (subst P same h) (trees_derive tokens tree reads.is_tree) within) in
-      inr (r, by_reading short first_names none (by_tokens ts right cut (n, token, at, pos, h)))
+      let P : List Kind → Type 0 = λ k. IsRefusedAt IsProgram k h.number r.code in
+      absurd (refused_no_tree tokens tree h.number r.code (subst P same h.refused) reads.is_tree within) in
+      inr (r, by_reading short first_names none (by_tokens ts right cut h))
   short_text alloc text short (inr (r, by_contexts p reads f)) = reads_so alloc text first_names p short reads
   short_text alloc text short (inr (r, by_links p reads n f)) = reads_so alloc text first_names p short reads
   short_text alloc text short (inr (r, by_rules p reads n l f)) = reads_so alloc text first_names p short reads

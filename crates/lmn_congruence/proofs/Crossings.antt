@@ -3,9 +3,11 @@ use Rattle.std.proofs.Common.{ℕ, suc, ◌≡◌, ◌≢◌, ◌+◌, ◌≤◌
 use Rattle.lmn_congruence.specs.Links.{one_if_same, places}
 use Rattle.lmn_congruence.specs.Process.{Process, nothing, connector, atom, pair, membrane, rule, occurrences, Fresh, Linked, substitute}
 use Rattle.lmn_congruence.specs.Congruence.{Congruent, unit, swap, regroup, rename, beside, inside, loop, turn, absorb, pass, same, back, chain, IsAtom, a_connector, an_atom, ExactlyOneFree}
-use Rattle.lmn_congruence.specs.FreeLinks.{total, above_all, link_bound, one_if_once, one_if_free, free_number}
+use Rattle.lmn_congruence.specs.FreeNumber.{free_number}
+use Rattle.lmn_congruence.specs.FreeLinks.{total, above_all, link_bound, one_if_once, one_if_free}
 use Rattle.lmn_congruence.proofs.Counts.{below_or_from, Occurs, count_first, count_second, Alike, same_free, fresh_differs, occurrences_old, occurrences_new, occurrences_other}
 use Rattle.lmn_congruence.proofs.Totals.{total_same, total_two, total_past}
+use Rattle.lmn_congruence.proofs.FreeNumbers.{free_total}
 
 pub places_above : (x : ℕ) (xs : List ℕ) → above_all xs ≤ x → places x xs ≡ 0
 places_above x [] b = refl
@@ -27,7 +29,7 @@ occurs_below P x o = go (below_or_from x (link_bound P))
     go (inr c) = absurd (o (occurrences_above x P c))
 
 pub free_number_below : (n : ℕ) (P : Process) → link_bound P ≤ n → total n (one_if_free P) ≡ free_number P
-free_number_below n P b = total_past (link_bound P) n (one_if_free P) b (λ z c. ap one_if_once (occurrences_above z P c))
+free_number_below n P b = total_past (link_bound P) n (one_if_free P) b (λ z c. ap one_if_once (occurrences_above z P c)) ∙ free_total P
 
 pub one_if_free_alike : (m n : ℕ) → Alike m n → one_if_once m ≡ one_if_once n
 one_if_free_alike m n a = grind arith

@@ -4,10 +4,12 @@ use Rattle.lmn_congruence.specs.Links.{one_if_same, places}
 use Rattle.lmn_congruence.specs.Process.{Process, nothing, connector, atom, pair, membrane, rule, occurrences, Linked, renamed}
 use Rattle.lmn_congruence.specs.Fused.{Joins, fused}
 use Rattle.lmn_congruence.specs.LinkMaps.{SameCrossings}
-use Rattle.lmn_congruence.specs.FreeLinks.{total, above_all, link_bound, one_if_once, one_if_free, free_number}
+use Rattle.lmn_congruence.specs.FreeNumber.{free_number}
+use Rattle.lmn_congruence.specs.FreeLinks.{total, above_all, link_bound, one_if_once, one_if_free}
 use Rattle.lmn_congruence.proofs.Counts.{same_or_not, linked_left, linked_right, linked_inside}
 use Rattle.lmn_congruence.proofs.Totals.{total_same, total_single, total_sum, total_zero, total_at_most, highest}
 use Rattle.lmn_congruence.proofs.Crossings.{free_number_below, crossings}
+use Rattle.lmn_congruence.proofs.FreeNumbers.{free_total}
 
 -- ---- the links that go to one link
 
@@ -100,7 +102,7 @@ free_number_fused v P h l =
     let N = link_bound (fused v P) + total n (λ y. suc (v y)) in
     let a = total_at_most N (one_if_free (fused v P)) (λ z. total n (with_image v z (one_if_free P))) (λ z. free_image v z P h l) in
     let b = all_images N n v (one_if_free P) (λ y q. at y q) in
-    omega (arith, a, b, free_number_below N (fused v P) (omega arith))
+    omega (arith, a, b, free_number_below N (fused v P) (omega arith), free_total P)
   where
     at : (y : ℕ) → y < link_bound P → v y < link_bound (fused v P) + total (link_bound P) (λ y. suc (v y))
     at y q = omega (arith, highest (link_bound P) v y q)

@@ -8,6 +8,7 @@ pub mod TranslatedItems
 pub mod TranslatedNames
 pub mod Counts
 pub mod Totals
+pub mod FreeNumbers
 pub mod Crossings
 pub mod Shuffles
 pub mod Reordered

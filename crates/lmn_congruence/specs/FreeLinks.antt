@@ -1,4 +1,4 @@
--- How many links of a process are free.
+-- No public contract cites these words: the number of free links as a sum over the numbers below a bound.
 use Rattle.std.specs.Prelude.{ℕ, zero, suc, ◌+◌, ◌==◌, cond, List, [], ◌∷◌}
 use Rattle.lmn_congruence.specs.Process.{Process, nothing, connector, atom, pair, membrane, rule, occurrences}
 
@@ -26,7 +26,3 @@ one_if_once n = cond (n == 1) 1 0
 
 abbrev pub one_if_free : Process → ℕ → ℕ
 one_if_free P x = one_if_once (occurrences x P)
-
--- the number of free links of a process
-abbrev pub free_number : Process → ℕ
-free_number P = total (link_bound P) (one_if_free P)

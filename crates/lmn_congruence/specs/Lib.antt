@@ -10,6 +10,7 @@ pub mod Fused
 pub mod Plains
 pub mod UpToOrder
 pub mod FreeLinks
+pub mod FreeNumber
 pub mod LinkMaps
 pub mod Weights
 pub mod Laws

@@ -2,7 +2,7 @@
 use Rattle.std.specs.Prelude.{ℕ, ◌≡◌}
 use Rattle.lmn_congruence.specs.Process.{Process, nothing, connector, atom, pair, membrane, rule, Free}
 use Rattle.lmn_congruence.specs.Fused.{Joins, fused}
-use Rattle.lmn_congruence.specs.FreeLinks.{free_number}
+use Rattle.lmn_congruence.specs.FreeNumber.{free_number}
 use Rattle.lmn_congruence.specs.UpToOrder.{Reordered}
 
 -- each membrane is crossed by as many links as its atoms need: its content has as many free links as it has

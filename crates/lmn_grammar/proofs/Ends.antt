@@ -68,7 +68,7 @@ end_inside [] y h = clash (sym h.0)
 end_inside (t ∷ u) y h = end_inside u y h.1
 
 -- what begins a program and ends with 'End' is one
-pub begun_to_end : (u : List Kind) → Begins (u ++ End ∷ []) → Derives program (u ++ End ∷ [])
+pub begun_to_end : (u : List Kind) → Begins (Derives program) (u ++ End ∷ []) → Derives program (u ++ End ∷ [])
 begun_to_end u (rest, d) =
     let s = seq_parts (Ref ClausesPart) (Tok End) ((u ++ End ∷ []) ++ rest) d in
     let e : s.0 ++ End ∷ [] ≡ u ++ End ∷ rest = ap (λ z. s.0 ++ z) (sym (of_tok End s.1 s.4)) ∙ sym s.2 ∙ append_assoc u (End ∷ []) rest in
@@ -80,10 +80,10 @@ begun_to_end u (rest, d) =
     ]
 
 abbrev Settled : List Kind → Type 0
-Settled u = (Derives program u × IsWithin u) ⊎ ((p : ℕ) × (c : ℕ) × IsRefused u p c)
+Settled u = (Derives program u × IsWithin u) ⊎ ((p : ℕ) × (c : ℕ) × IsRefused (Derives program) u p c)
 
 -- reading stops at a token, in front of which no token passes a limit
-unexpected : (u : List Kind) (r : ℕ) (t : Tells start 0 u r) (x : Kind) (v : List Kind) → t.left ≡ x ∷ v → IsWithin t.taken → IsRefused u (length t.taken) 10
+unexpected : (u : List Kind) (r : ℕ) (t : Tells start 0 u r) (x : Kind) (v : List Kind) → t.left ≡ x ∷ v → IsWithin t.taken → IsRefused (Derives program) u (length t.taken) 10
 unexpected u r t x v e w = record {
   before = t.taken;
   token = x;
@@ -102,7 +102,7 @@ within_limits kinds r t w = go t.left refl
     W = IsWithin
 
     go : (v : List Kind) → t.left ≡ v → Settled (kinds ++ End ∷ [])
-    go [] e = inl (begun_to_end kinds (begins_same t.taken (kinds ++ End ∷ []) (sym (plus_nothing t.taken) ∙ ap (λ z. t.taken ++ z) (sym e) ∙ sym t.split) (taken_begins _ r t)), w)
+    go [] e = inl (begun_to_end kinds (begins_same (Derives program) t.taken (kinds ++ End ∷ []) (sym (plus_nothing t.taken) ∙ ap (λ z. t.taken ++ z) (sym e) ∙ sym t.split) (taken_begins _ r t)), w)
     go (x ∷ v) e = inr (length t.taken, 10, unexpected (kinds ++ End ∷ []) r t x v e (within_front t.taken t.left (let F : List Kind → Type 0 = IsWithin in subst F t.split w)))
 
 beyond_limits : (u : List Kind) (r : ℕ) → Tells start 0 u r → FirstPassing u → Settled u
@@ -111,14 +111,14 @@ beyond_limits u r t (before, token, rest, code, e, w, c) = elim (cases_lt (lengt
     F : List Kind → Type 0
     F = IsWithin
 
-    taken : length before < length t.taken → IsRefused u (length before) code
+    taken : length before < length t.taken → IsRefused (Derives program) u (length before) code
     taken far =
         let size : length (before ++ token ∷ []) ≡ length before + 1 = length-append before (token ∷ []) in
         let x = longer_front (before ++ token ∷ []) rest t.taken t.left (append_assoc before (token ∷ []) rest ∙ sym e ∙ t.split) (omega (arith, size, far)) in
-        let all : Begins (before ++ token ∷ []) = begins_front (before ++ token ∷ []) x.0 (begins_same t.taken _ x.1 (taken_begins u r t)) in
-        record { before = before; token = token; rest = rest; split = e; is_there = refl; begins = begins_front before (token ∷ []) all; within = w; refuses = inr (all, c) }
+        let all : Begins (Derives program) (before ++ token ∷ []) = begins_front (Derives program) (before ++ token ∷ []) x.0 (begins_same (Derives program) t.taken _ x.1 (taken_begins u r t)) in
+        record { before = before; token = token; rest = rest; split = e; is_there = refl; begins = begins_front (Derives program) before (token ∷ []) all; within = w; refuses = inr (all, c) }
 
-    not_taken : length t.taken ≤ length before → (p : ℕ) × (d : ℕ) × IsRefused u p d
+    not_taken : length t.taken ≤ length before → (p : ℕ) × (d : ℕ) × IsRefused (Derives program) u p d
     not_taken near =
         let x = longer_front t.taken t.left before (token ∷ rest) (sym t.split ∙ e) near in
         go x.0 x.1 t.left refl
@@ -130,7 +130,7 @@ beyond_limits u r t (before, token, rest, code, e, w, c) = elim (cases_lt (lengt
             let same : length u ≡ length (before ++ token ∷ rest) = ap length e in
             omega (arith, size, whole, same, near)
 
-        go : (x : List Kind) → before ≡ t.taken ++ x → (v : List Kind) → t.left ≡ v → (p : ℕ) × (d : ℕ) × IsRefused u p d
+        go : (x : List Kind) → before ≡ t.taken ++ x → (v : List Kind) → t.left ≡ v → (p : ℕ) × (d : ℕ) × IsRefused (Derives program) u p d
         go x s [] l = absurd (nothing_left x s l)
         go x s (y ∷ v) l = (length t.taken, 10, unexpected u r t y v l (within_front t.taken x (subst F s w)))
 

@@ -25,18 +25,20 @@ derived w f = let d = found_one (program ∷ []) w f in
 started : (w : List Kind) → Derives program w → Found start w
 started w d = one_found (program ∷ []) w (w, [], sym (plus_nothing w), d, refl)
 
--- A front of what begins a program begins one.
-pub begins_front : (u v : List Kind) → Begins (u ++ v) → Begins u
-begins_front u v (rest, d) = let D : List Kind → Type 0 = Derives program in (v ++ rest, subst D (append_assoc u v rest) d)
+-- of any language
 
-pub begins_same : (u v : List Kind) → u ≡ v → Begins u → Begins v
-begins_same u v e b = let B : List Kind → Type 0 = Begins in subst B e b
+-- A front of what begins a program begins one.
+pub begins_front : (P : List Kind → Type 0) (u v : List Kind) → Begins P (u ++ v) → Begins P u
+begins_front P u v (rest, d) = (v ++ rest, subst P (append_assoc u v rest) d)
+
+pub begins_same : (P : List Kind → Type 0) (u v : List Kind) → u ≡ v → Begins P u → Begins P v
+begins_same P u v e b = let B : List Kind → Type 0 = Begins P in subst B e b
 
 -- What reading takes begins a program, and with one more token it doesn't.
-pub taken_begins : (w : List Kind) (r : ℕ) (t : Tells start 0 w r) → Begins t.taken
+pub taken_begins : (w : List Kind) (r : ℕ) (t : Tells start 0 w r) → Begins (Derives program) t.taken
 taken_begins w r t = (t.rest, derived (t.taken ++ t.rest) t.goes_on)
 
-pub no_more_begins : (w : List Kind) (r : ℕ) (t : Tells start 0 w r) (x : Kind) (v : List Kind) → t.left ≡ x ∷ v → Begins (t.taken ++ x ∷ []) → ⊥
+pub no_more_begins : (w : List Kind) (r : ℕ) (t : Tells start 0 w r) (x : Kind) (v : List Kind) → t.left ≡ x ∷ v → Begins (Derives program) (t.taken ++ x ∷ []) → ⊥
 no_more_begins w r t x v e (rest, d) =
     let D : List Kind → Type 0 = Derives program in
     t.no_farther x v e rest (started (t.taken ++ x ∷ rest) (subst D (append_assoc t.taken (x ∷ []) rest) d))
@@ -54,33 +56,33 @@ same_front u v u' v' e l =
     empty (a ∷ x) h = cc
 
 -- what reading takes to the end begins a program
-pub all_begins : (u : List Kind) → stop 0 start u ≡ length u → Begins u
+pub all_begins : (u : List Kind) → stop 0 start u ≡ length u → Begins (Derives program) u
 all_begins u s =
     let P : ℕ → Type 0 = Tells start 0 u in
     let t = subst P s (tells u 0 start (one_alive (program ∷ []))) in
     let same : t.taken ≡ u = same_front t.taken t.left u [] (sym t.split ∙ sym (plus_nothing u)) (omega (arith, t.count)) in
-    begins_same t.taken u same (taken_begins u (length u) t)
+    begins_same (Derives program) t.taken u same (taken_begins u (length u) t)
 
 -- a refusal comes at no token that is followed by more within the limits
-stays : (before : List Kind) (token : Kind) (c : ℕ) → Refuses c before token → Begins (before ++ token ∷ []) → PassesNone before token → ⊥
-stays before token c (inl r) b n = r.1 b
-stays before token c (inr (b0, inl d)) b n = n.0 d.1
-stays before token c (inr (b0, inr m)) b n = n.1 m.2
+stays : (P : List Kind → Type 0) (before : List Kind) (token : Kind) (c : ℕ) → Refuses P c before token → Begins P (before ++ token ∷ []) → PassesNone before token → ⊥
+stays P before token c (inl r) b n = r.1 b
+stays P before token c (inr (b0, inl d)) b n = n.0 d.1
+stays P before token c (inr (b0, inr m)) b n = n.1 m.2
 
-refused_not_before : (kinds : List Kind) (p q c d : ℕ) → IsRefused kinds p c → IsRefused kinds q d → p < q → ⊥
-refused_not_before kinds p q c d a b lt =
+refused_not_before : (P : List Kind → Type 0) (kinds : List Kind) (p q c d : ℕ) → IsRefused P kinds p c → IsRefused P kinds q d → p < q → ⊥
+refused_not_before P kinds p q c d a b lt =
     let size : length (a.before ++ a.token ∷ []) ≡ length a.before + 1 = length-append a.before (a.token ∷ []) in
     let le : length (a.before ++ a.token ∷ []) ≤ length b.before = omega (arith, size, a.is_there, b.is_there, lt) in
     let x = longer_front (a.before ++ a.token ∷ []) a.rest b.before (b.token ∷ b.rest) (append_assoc a.before (a.token ∷ []) a.rest ∙ sym a.split ∙ b.split) le in
-    stays a.before a.token c a.refuses
-    (begins_front (a.before ++ a.token ∷ []) x.0 (begins_same b.before _ x.1 b.begins))
+    stays P a.before a.token c a.refuses
+    (begins_front P (a.before ++ a.token ∷ []) x.0 (begins_same P b.before _ x.1 b.begins))
     (b.within a.before a.token x.0 (x.1 ∙ append_assoc a.before (a.token ∷ []) x.0))
 
-one_code : (before : List Kind) (token : Kind) (c d : ℕ) → Refuses c before token → Refuses d before token → c ≡ d
-one_code before token c d (inl a) (inl b) = a.0 ∙ sym b.0
-one_code before token c d (inl a) (inr b) = absurd (a.1 b.0)
-one_code before token c d (inr a) (inl b) = absurd (b.1 a.0)
-one_code before token c d (inr a) (inr b) = one_limit a.1 b.1
+one_code : (P : List Kind → Type 0) (before : List Kind) (token : Kind) (c d : ℕ) → Refuses P c before token → Refuses P d before token → c ≡ d
+one_code P before token c d (inl a) (inl b) = a.0 ∙ sym b.0
+one_code P before token c d (inl a) (inr b) = absurd (a.1 b.0)
+one_code P before token c d (inr a) (inl b) = absurd (b.1 a.0)
+one_code P before token c d (inr a) (inr b) = one_limit a.1 b.1
   where
     one_limit : Passes c before token → Passes d before token → c ≡ d
     one_limit (inl x) (inl y) = x.0 ∙ sym y.0
@@ -88,19 +90,19 @@ one_code before token c d (inr a) (inr b) = one_limit a.1 b.1
     one_limit (inr x) (inl y) = absurd (x.1 y.1)
     one_limit (inr x) (inr y) = x.0 ∙ sym y.0
 
-refuses_along : (u u' : List Kind) (t t' : Kind) (c : ℕ) → u ≡ u' → t ≡ t' → Refuses c u t → Refuses c u' t'
-refuses_along u u' t t' c e e' r =
-    let P : List Kind → Type 0 = λ z. Refuses c z t in
-    let Q : Kind → Type 0 = λ z. Refuses c u' z in
-    subst Q e' (subst P e r)
+refuses_along : (P : List Kind → Type 0) (u u' : List Kind) (t t' : Kind) (c : ℕ) → u ≡ u' → t ≡ t' → Refuses P c u t → Refuses P c u' t'
+refuses_along P u u' t t' c e e' r =
+    let U : List Kind → Type 0 = λ z. Refuses P c z t in
+    let T : Kind → Type 0 = λ z. Refuses P c u' z in
+    subst T e' (subst U e r)
 
-pub one_refusal : OneRefusal
-one_refusal kinds p q c d a b = (place, code)
+pub refused_once : (P : List Kind → Type 0) (kinds : List Kind) (p q c d : ℕ) → IsRefused P kinds p c → IsRefused P kinds q d → (p ≡ q) × (c ≡ d)
+refused_once P kinds p q c d a b = (place, code)
   where
     place : p ≡ q
     place = elim (cases_lt p q) [
-      | inl lt ↦ absurd (refused_not_before kinds p q c d a b lt)
-      | inr le ↦ elim (cases_lt q p) [ inl lt ↦ absurd (refused_not_before kinds q p d c b a lt) | inr le' ↦ omega (arith, le, le') ]
+      | inl lt ↦ absurd (refused_not_before P kinds p q c d a b lt)
+      | inr le ↦ elim (cases_lt q p) [ inl lt ↦ absurd (refused_not_before P kinds q p d c b a lt) | inr le' ↦ omega (arith, le, le') ]
     ]
 
     before : a.before ≡ b.before
@@ -110,15 +112,39 @@ one_refusal kinds p q c d a b = (place, code)
     behind = append_same b.before (a.token ∷ a.rest) (b.token ∷ b.rest) (ap (λ z. z ++ a.token ∷ a.rest) (sym before) ∙ sym a.split ∙ b.split)
 
     code : c ≡ d
-    code = one_code b.before b.token c d (refuses_along a.before b.before a.token b.token c before (cons_same a.token b.token a.rest b.rest behind).0 a.refuses) b.refuses
+    code = one_code P b.before b.token c d (refuses_along P a.before b.before a.token b.token c before (cons_same a.token b.token a.rest b.rest behind).0 a.refuses) b.refuses
+
+pub refused_is_none : (P : List Kind → Type 0) (kinds : List Kind) (p c : ℕ) → IsRefused P kinds p c → P kinds → IsWithin kinds → ⊥
+refused_is_none P kinds p c r d w =
+    stays P r.before r.token c r.refuses (r.rest, subst P (r.split ∙ sym (append_assoc r.before (r.token ∷ []) r.rest)) d) (w r.before r.token r.rest r.split)
+
+-- Two languages with the same programs refuse the same.
+refuses_alike : (P Q : List Kind → Type 0) → ((u : List Kind) → P u → Q u) → ((u : List Kind) → Q u → P u) → (c : ℕ) (before : List Kind) (token : Kind) → Refuses P c before token → Refuses Q c before token
+refuses_alike P Q to from c before token (inl r) = inl (r.0, λ b. r.1 (b.0, from _ b.1))
+refuses_alike P Q to from c before token (inr (b, passes)) = inr ((b.0, to _ b.1), passes)
+
+pub refused_alike : (P Q : List Kind → Type 0) → ((u : List Kind) → P u → Q u) → ((u : List Kind) → Q u → P u) → (kinds : List Kind) (p c : ℕ) → IsRefused P kinds p c → IsRefused Q kinds p c
+refused_alike P Q to from kinds p c r = record {
+  before = r.before;
+  token = r.token;
+  rest = r.rest;
+  split = r.split;
+  is_there = r.is_there;
+  begins = let b = r.begins in (b.0, to _ b.1);
+  within = r.within;
+  refuses = refuses_alike P Q to from c r.before r.token r.refuses;
+}
+
+-- of the grammar
+
+pub one_refusal : OneRefusal
+one_refusal = refused_once (Derives program)
 
 pub refused_derive_nothing : RefusedDeriveNothing
-refused_derive_nothing kinds p c r d w =
-    let D : List Kind → Type 0 = Derives program in
-    stays r.before r.token c r.refuses (r.rest, subst D (r.split ∙ sym (append_assoc r.before (r.token ∷ []) r.rest)) d) (w r.before r.token r.rest r.split)
+refused_derive_nothing = refused_is_none (Derives program)
 
 -- Where reading stops within the limits, the token there isn't expected.
-pub refused_unexpected : (cut more : List Kind) (j : ℕ) → stop 0 start cut ≡ j → j < length cut → ((u v : List Kind) → cut ≡ u ++ v → length u ≡ j → IsWithin u) → IsRefused (cut ++ more) j 10
+pub refused_unexpected : (cut more : List Kind) (j : ℕ) → stop 0 start cut ≡ j → j < length cut → ((u v : List Kind) → cut ≡ u ++ v → length u ≡ j → IsWithin u) → IsRefused (Derives program) (cut ++ more) j 10
 refused_unexpected cut more j s lt w =
     let P : ℕ → Type 0 = Tells start 0 cut in
     go (subst P s (tells cut 0 start (one_alive (program ∷ []))))
@@ -126,10 +152,10 @@ refused_unexpected cut more j s lt w =
     none_left : (u : List Kind) → cut ≡ u ++ [] → j ≡ 0 + length u → ⊥
     none_left u e c = let l : length cut ≡ length u + 0 = ap length e ∙ length-append u [] in omega (arith, l, c, lt)
 
-    go : Tells start 0 cut j → IsRefused (cut ++ more) j 10
+    go : Tells start 0 cut j → IsRefused (Derives program) (cut ++ more) j 10
     go t = by_left t.left refl
       where
-        by_left : (v : List Kind) → t.left ≡ v → IsRefused (cut ++ more) j 10
+        by_left : (v : List Kind) → t.left ≡ v → IsRefused (Derives program) (cut ++ more) j 10
         by_left [] e = absurd (none_left t.taken (t.split ∙ ap (λ z. t.taken ++ z) e) t.count)
         by_left (x ∷ v) e = record {
           before = t.taken;
@@ -143,19 +169,19 @@ refused_unexpected cut more j s lt w =
         }
 
 -- All tokens are within the limits.
-pub refused_plain : (kinds : List Kind) (j : ℕ) → IsWithin kinds → stop_at kinds 0 start ≡ j → j < length kinds → IsRefused kinds j 10
+pub refused_plain : (kinds : List Kind) (j : ℕ) → IsWithin kinds → stop_at kinds 0 start ≡ j → j < length kinds → IsRefused (Derives program) kinds j 10
 refused_plain kinds j w s lt =
-    let R : List Kind → Type 0 = λ z. IsRefused z j 10 in
+    let R : List Kind → Type 0 = λ z. IsRefused (Derives program) z j 10 in
     let W : List Kind → Type 0 = IsWithin in
     subst R (plus_nothing kinds) (refused_unexpected kinds [] j s lt (λ u v e l. within_front u v (subst W e w)))
 
 -- The first token that passes a limit has the number m, and reading stops before it or at it.
 pub refused_before_limit : (kinds : List Kind) (m j : ℕ) (token : Kind) → slice_get kinds m ≡ Some token → IsWithin (take m kinds) →
-    stop_at (take (m + 1) kinds) 0 start ≡ j → j ≤ m → IsRefused kinds j 10
+    stop_at (take (m + 1) kinds) 0 start ≡ j → j ≤ m → IsRefused (Derives program) kinds j 10
 refused_before_limit kinds m j token h w s le =
     let cut = take m kinds ++ token ∷ [] in
     let more = drop (suc m) kinds in
-    let R : List Kind → Type 0 = λ z. IsRefused z j 10 in
+    let R : List Kind → Type 0 = λ z. IsRefused (Derives program) z j 10 in
     let size : length cut ≡ length (take m kinds) + 1 = length-append (take m kinds) (token ∷ []) in
     let len : length (take m kinds) ≡ m = length_take kinds m token h in
     subst R (append_assoc (take m kinds) (token ∷ []) more ∙ sym (cut_at kinds m token h))
@@ -169,19 +195,19 @@ refused_before_limit kinds m j token h w s le =
 
 -- The first token that passes a limit is taken by reading.
 pub refused_by_limit : (kinds : List Kind) (m code : ℕ) (token : Kind) → slice_get kinds m ≡ Some token → IsWithin (take m kinds) →
-    Passes code (take m kinds) token → stop_at (take (m + 1) kinds) 0 start ≡ m + 1 → IsRefused kinds m code
+    Passes code (take m kinds) token → stop_at (take (m + 1) kinds) 0 start ≡ m + 1 → IsRefused (Derives program) kinds m code
 refused_by_limit kinds m code token h w c s =
     let before = take m kinds in
     let len : length before ≡ m = length_take kinds m token h in
     let size : length (before ++ token ∷ []) ≡ length before + 1 = length-append before (token ∷ []) in
-    let all : Begins (before ++ token ∷ []) = all_begins (before ++ token ∷ []) (ap (stop 0 start) (sym (take_more kinds m token h)) ∙ s ∙ omega (arith, size, len)) in
+    let all : Begins (Derives program) (before ++ token ∷ []) = all_begins (before ++ token ∷ []) (ap (stop 0 start) (sym (take_more kinds m token h)) ∙ s ∙ omega (arith, size, len)) in
     record {
       before = before;
       token = token;
       rest = drop (suc m) kinds;
       split = cut_at kinds m token h;
       is_there = sym len;
-      begins = begins_front before (token ∷ []) all;
+      begins = begins_front (Derives program) before (token ∷ []) all;
       within = w;
       refuses = inr (all, c);
     }

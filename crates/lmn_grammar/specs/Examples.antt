@@ -13,15 +13,17 @@ WholeText = Derives program (Name ∷ AtAt ∷ Name ∷ LParen ∷ Link ∷ RPar
 
 -- 'a :- b, {c} | d' is refused at the bar, since what stands before it is no guard.
 abbrev pub NoGuard : Type 0
-NoGuard = IsRefused (Name ∷ Arrow ∷ Name ∷ Comma ∷ LBrace ∷ Name ∷ RBrace ∷ Bar ∷ Name ∷ End ∷ []) 7 10
+NoGuard = IsRefused (Derives program) (Name ∷ Arrow ∷ Name ∷ Comma ∷ LBrace ∷ Name ∷ RBrace ∷ Bar ∷ Name ∷ End ∷ []) 7 10
 
 -- 'a :- $x < 1, b.' is refused at the full stop, since a comparison stands in no list.
 abbrev pub NoList : Type 0
-NoList = IsRefused (Name ∷ Arrow ∷ Context ∷ Less ∷ Int ∷ Comma ∷ Name ∷ Dot ∷ End ∷ []) 7 10
+NoList = IsRefused (Derives program) (Name ∷ Arrow ∷ Context ∷ Less ∷ Int ∷ Comma ∷ Name ∷ Dot ∷ End ∷ []) 7 10
 
 -- '()' is refused at ')', '{.}' at '.', and 'X, a' at the comma, since '=' is owed there.
 abbrev pub NotExpected : Type 0
-NotExpected = IsRefused (LParen ∷ RParen ∷ End ∷ []) 1 10 × IsRefused (LBrace ∷ Dot ∷ RBrace ∷ End ∷ []) 1 10 × IsRefused (Link ∷ Comma ∷ Name ∷ End ∷ []) 1 10
+NotExpected = IsRefused (Derives program) (LParen ∷ RParen ∷ End ∷ []) 1 10
+    × IsRefused (Derives program) (LBrace ∷ Dot ∷ RBrace ∷ End ∷ []) 1 10
+    × IsRefused (Derives program) (Link ∷ Comma ∷ Name ∷ End ∷ []) 1 10
 
 -- these kinds, n times
 abbrev pub repeated : ℕ → List Kind → List Kind

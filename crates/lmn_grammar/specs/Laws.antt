@@ -8,16 +8,16 @@ use Rattle.lmn_lexer.specs.declared.token.Kind.TheVariants.{End, LParen, Comma}
 
 -- a list of kinds is refused at one place and by one code at most
 abbrev pub OneRefusal : Type 0
-OneRefusal = (kinds : List Kind) (p q c d : ℕ) → IsRefused kinds p c → IsRefused kinds q d → (p ≡ q) × (c ≡ d)
+OneRefusal = (kinds : List Kind) (p q c d : ℕ) → IsRefused (Derives program) kinds p c → IsRefused (Derives program) kinds q d → (p ≡ q) × (c ≡ d)
 
 -- what is refused derives no program within the limits
 abbrev pub RefusedDeriveNothing : Type 0
-RefusedDeriveNothing = (kinds : List Kind) (p c : ℕ) → IsRefused kinds p c → Derives program kinds → IsWithin kinds → ⊥
+RefusedDeriveNothing = (kinds : List Kind) (p c : ℕ) → IsRefused (Derives program) kinds p c → Derives program kinds → IsWithin kinds → ⊥
 
 -- what ends with 'End' derives a program within the limits, or is refused
 abbrev pub DerivedOrRefused : Type 0
 DerivedOrRefused = (kinds : List Kind) → (Derives program (kinds ++ End ∷ []) × IsWithin (kinds ++ End ∷ []))
-    ⊎ ((p : ℕ) × (c : ℕ) × IsRefused (kinds ++ End ∷ []) p c)
+    ⊎ ((p : ℕ) × (c : ℕ) × IsRefused (Derives program) (kinds ++ End ∷ []) p c)
 
 -- within the limits no more than 200 brackets are open
 abbrev pub BracketsWithin : Type 0

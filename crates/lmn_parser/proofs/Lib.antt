@@ -10,6 +10,7 @@ pub mod OneReading
 pub mod TreeTokens
 pub mod TreesExist
 pub mod TreeWords
+pub mod OneLanguage
 pub mod Names
 pub mod Fitting
 pub mod Walks

@@ -16,7 +16,9 @@ use Rattle.lmn_grammar.proofs.Refusals.{all_begins, refused_plain, refused_befor
 use Rattle.lmn_parser.specs.Outcomes.{Stops, ReadsWhole, reach}
 use Rattle.lmn_parser.specs.Syntax.{Clauses}
 use Rattle.lmn_parser.specs.Trees.{At as KindAt, IsClauses, IsTree}
+use Rattle.lmn_parser.specs.Faults.{IsProgram}
 use Rattle.lmn_parser.specs.Parsing.{kinds_of, EndsWithEnd}
+use Rattle.lmn_parser.proofs.OneLanguage.{refused_by_trees}
 use Rattle.lmn_parser.proofs.Onward.{stops_on}
 use Rattle.lmn_parser.proofs.Places.{reach_within, reach_of_ended}
 
@@ -44,16 +46,16 @@ has_token ts r (before, e) h =
     let n = sym (kinds_length ts) ∙ ap length e ∙ length-append before (End ∷ []) in
     omega (arith, h, l, n)
 
-pub stops_unexpected : (ts : List Token) (r : ℕ) → EndsWithEnd ts → IsWithin (kinds_of ts) → Stops (kinds_of ts) 0 start (At r) → IsRefused (kinds_of ts) r 10
+pub stops_unexpected : (ts : List Token) (r : ℕ) → EndsWithEnd ts → IsWithin (kinds_of ts) → Stops (kinds_of ts) 0 start (At r) → IsRefused IsProgram (kinds_of ts) r 10
 stops_unexpected ts r ends w s =
     let n = kinds_length ts in
     let lt = has_token ts r ends s.1 in
     let there : r < length (kinds_of ts) = omega (arith, lt, n) in
-    refused_plain (kinds_of ts) r w s.0 there
+    refused_by_trees (kinds_of ts) r 10 (refused_plain (kinds_of ts) r w s.0 there)
 
 pub whole_derived : (ts us : List Token) → us ≡ ts → EndsWithEnd ts → stop_at (kinds_of us) 0 start ≡ length (kinds_of us) → Derives program (kinds_of ts)
 whole_derived ts us e (before, split) s =
-    let P : List Kind → Type 0 = Begins in
+    let P : List Kind → Type 0 = Begins (Derives program) in
     let D : List Kind → Type 0 = Derives program in
     let b = all_begins (kinds_of us) s in
     subst D (sym split) (begun_to_end before (subst P (ap kinds_of e ∙ split) b))
@@ -72,10 +74,11 @@ cut_length : (ts : List Token) (m : ℕ) (k : Kind) → slice_get (kinds_of ts) 
 cut_length ts m k h = let lt = slice_get_within (kinds_of ts) m k h in length-take-le (m + 1) (kinds_of ts) (omega (arith, lt))
 
 pub cut_read : (ts us : List Token) (m code : ℕ) (k : Kind) → us ≡ ts → slice_get (kinds_of ts) m ≡ Some k → IsWithin (take m (kinds_of ts)) →
-    Passes code (take m (kinds_of ts)) k → stop_at (kinds_of (take (m + 1) us)) 0 start ≡ length (kinds_of (take (m + 1) us)) → IsRefused (kinds_of ts) m code
+    Passes code (take m (kinds_of ts)) k → stop_at (kinds_of (take (m + 1) us)) 0 start ≡ length (kinds_of (take (m + 1) us)) → IsRefused IsProgram (kinds_of ts) m code
 cut_read ts us m code k e h w p s =
     let cut = cut_kinds ts us (m + 1) e in
-    refused_by_limit (kinds_of ts) m code k h w p (ap (λ z. stop_at z 0 start) (sym cut) ∙ s ∙ ap length cut ∙ cut_length ts m k h)
+    refused_by_trees (kinds_of ts) m code
+    (refused_by_limit (kinds_of ts) m code k h w p (ap (λ z. stop_at z 0 start) (sym cut) ∙ s ∙ ap length cut ∙ cut_length ts m k h))
 
 cut_stop : (ts us : List Token) (m r : ℕ) (x : Stop) → us ≡ ts → x ≡ At r → Stops (kinds_of (take (m + 1) us)) 0 start x → Stops (take (m + 1) (kinds_of ts)) 0 start (At r)
 cut_stop ts us m r x e h s =
@@ -84,14 +87,15 @@ cut_stop ts us m r x e h s =
     subst P (cut_kinds ts us (m + 1) e) (subst Q h s)
 
 pub cut_stopped : (ts us : List Token) (m r code : ℕ) (k : Kind) (x : Stop) → us ≡ ts → x ≡ At r → slice_get (kinds_of ts) m ≡ Some k → IsWithin (take m (kinds_of ts)) →
-    Passes code (take m (kinds_of ts)) k → Stops (kinds_of (take (m + 1) us)) 0 start x → m < r → IsRefused (kinds_of ts) m code
+    Passes code (take m (kinds_of ts)) k → Stops (kinds_of (take (m + 1) us)) 0 start x → m < r → IsRefused IsProgram (kinds_of ts) m code
 cut_stopped ts us m r code k x e f h w p s lt =
     let t = cut_stop ts us m r x e f s in
     let l = cut_length ts m k h in
     let n = reach_within (take (m + 1) (kinds_of ts)) in
     let there : r ≡ m + 1 = omega (arith, t.1, l, n, lt) in
-    refused_by_limit (kinds_of ts) m code k h w p (t.0 ∙ there)
+    refused_by_trees (kinds_of ts) m code (refused_by_limit (kinds_of ts) m code k h w p (t.0 ∙ there))
 
 pub cut_unexpected : (ts us : List Token) (m r : ℕ) (k : Kind) (x : Stop) → us ≡ ts → x ≡ At r → slice_get (kinds_of ts) m ≡ Some k → IsWithin (take m (kinds_of ts)) →
-    Stops (kinds_of (take (m + 1) us)) 0 start x → r ≤ m → IsRefused (kinds_of ts) r 10
-cut_unexpected ts us m r k x e f h w s le = refused_before_limit (kinds_of ts) m r k h w (cut_stop ts us m r x e f s).0 le
+    Stops (kinds_of (take (m + 1) us)) 0 start x → r ≤ m → IsRefused IsProgram (kinds_of ts) r 10
+cut_unexpected ts us m r k x e f h w s le =
+    refused_by_trees (kinds_of ts) r 10 (refused_before_limit (kinds_of ts) m r k h w (cut_stop ts us m r x e f s).0 le)

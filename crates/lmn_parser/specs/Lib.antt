@@ -3,6 +3,7 @@ pub mod Outcomes
 pub mod Scans
 pub mod Syntax
 pub mod Trees
+pub mod Faults
 pub mod Arities
 pub mod TreeLaws
 pub mod TreeExamples

@@ -1,4 +1,4 @@
--- What a function of the reader answers.
+-- What a function of the reader answers. No public contract cites these words.
 use Rattle.std.specs.Prelude.{◌≡◌, ◌≤◌, ℕ, suc, List, [], ◌∷◌, length, Result, Ok, Err, if◌then◌else◌}
 use Rattle.lmn_grammar.specs.Grammar.{Exp, program}
 use Rattle.lmn_grammar.specs.Reading.{Owed, is_kind, stop_at, ReadsTo}

@@ -1,7 +1,8 @@
 ghost use Rattle.std.specs.Prelude.{◌<◌, length, IfErr, IfOk, OnOk, Some};
 ghost use Rattle.lmn_grammar.specs.Grammar as grammar;
 ghost use Rattle.lmn_grammar.specs.Refusing.{IsRefused, IsWithin};
-ghost use Rattle.lmn_parser.specs.Parsing.{kinds_of, EndsWithEnd, IsFaultOf};
+ghost use Rattle.lmn_parser.specs.Faults.{IsFaultOf, IsProgram};
+ghost use Rattle.lmn_parser.specs.Parsing.{kinds_of, EndsWithEnd};
 ghost use Rattle.lmn_parser.specs.Outcomes.{ReadsWhole};
 ghost use Rattle.lmn_parser.specs.Scans.{IsFirstPassing};
 ghost use Rattle.lmn_parser.specs.Syntax.{clauses_of, tree_of};
@@ -85,7 +86,7 @@ fn program(alloc: Global, tokens: &[PackedToken]) -> Result<Rows<Clause>, Stop>
 /// The refusal at a token by a code.
 fn refused(tokens: &Tokens, at: usize, code: u8) -> TextFault
     requires place { at < length tokens.now }
-    requires refused { IsRefused (kinds_of tokens.now) at code }
+    requires refused { IsRefused IsProgram (kinds_of tokens.now) at code }
     ensures { IsFaultOf tokens.now result }
 {
     let token = tokens.at(at);

@@ -30,7 +30,9 @@ use Rattle.lmn_linkcheck.proofs.LinkedLemmas.{no_fault_is_linked}
 use Rattle.lmn_linkcheck.proofs.Tables.{absent, fault_is_told, told_is_fault}
 use Rattle.lmn_linkcheck.specs.Least.{IsFirstOf, first_of}
 use Rattle.lmn_parser.proofs.OneReading.{cut_ends}
+use Rattle.lmn_parser.proofs.OneLanguage.{refused_by_trees}
 use Rattle.lmn_parser.proofs.TreesExist.{trees_exist}
+use Rattle.lmn_parser.specs.Faults.{IsRefusalOf}
 use Rattle.lmn_parser.specs.Parsing.{kinds_of}
 use Rattle.lmn_plain.proofs.SomePlain.{some_plain}
 use Rattle.lmn_plain.specs.Plains.{Each}
@@ -118,7 +120,7 @@ module _ (alloc : Global) (text : List ℕ) (names : List Name) where
   by_the_contexts plain reads (inr (refusal, h)) = inr (refusal, by_contexts plain reads h)
 
   by_the_tokens : (tokens : List Token) → Cuts text tokens → NothingWrong text
-      → (Derives program (kinds_of tokens) × IsWithin (kinds_of tokens)) ⊎ ((p : ℕ) × (c : ℕ) × IsRefused (kinds_of tokens) p c) → Decided
+      → (Derives program (kinds_of tokens) × IsWithin (kinds_of tokens)) ⊎ ((p : ℕ) × (c : ℕ) × IsRefused (Derives program) (kinds_of tokens) p c) → Decided
   by_the_tokens tokens cut right (inl (derived, within)) =
       let tree = trees_exist tokens derived in
       let plain = some_plain alloc (words_of text tokens) (map (λ t. t.pos) tokens) names tree.0 in
@@ -129,13 +131,14 @@ module _ (alloc : Global) (text : List ℕ) (names : List Name) where
       let there = token_there tokens h.before h.rest h.token h.split in
       let at = ap (slice_get tokens) h.is_there ∙ there.1 in
       let refusal : Refusal = record { code = c; pos = there.0.pos } in
-      inr (refusal, by_tokens tokens right cut (p, there.0, at, refl, h))
+      let is_refusal : IsRefusalOf tokens refusal = record { number = p; token = there.0; is_there = at; placed = refl; refused = refused_by_trees (kinds_of tokens) p c h } in
+      inr (refusal, by_tokens tokens right cut is_refusal)
 
   by_the_bytes : ((tokens : List Token) × Cuts text tokens × NothingWrong text) ⊎ ((refusal : Refusal) × IsRefusal text refusal) → Decided
   by_the_bytes (inr (refusal, h)) = inr (refusal, by_bytes h)
   by_the_bytes (inl (tokens, cut, right)) =
       let end = cut_ends text tokens cut in
-      let P : List Kind → Type 0 = λ ks. (Derives program ks × IsWithin ks) ⊎ ((p : ℕ) × (c : ℕ) × IsRefused ks p c) in
+      let P : List Kind → Type 0 = λ ks. (Derives program ks × IsWithin ks) ⊎ ((p : ℕ) × (c : ℕ) × IsRefused (Derives program) ks p c) in
       by_the_tokens tokens cut right (subst P (sym end.1) (derived_or_refused end.0))
 
 pub accepted_or_refused : AcceptedOrRefused

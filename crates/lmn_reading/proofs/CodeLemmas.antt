@@ -14,6 +14,7 @@ use Rattle.lmn_base.specs.LinkCodes.{LinkFault, once_in_process, too_often_in_pr
 use Rattle.lmn_base.specs.RuleCodes.{rule_rows}
 use Rattle.lmn_expand.specs.Outside.{outside_rules}
 use Rattle.lmn_grammar.specs.Refusing.{Refuses}
+use Rattle.lmn_parser.specs.Faults.{IsProgram}
 use Rattle.lmn_guards.specs.GuardCodes.{guard_rows, rows_of_condition, rows_of_conditions, rows_of_typed}
 use Rattle.lmn_lexer.specs.declared.token.Kind.{Kind}
 use Rattle.lmn_lexer.specs.Faults.{Wrong, bad_byte, bad_quoted_byte, open_quote, open_comment, wrong_token, string, inline_code, hyperlink, TokenFault, integer_out_of_range, long_name, floating_point}
@@ -159,14 +160,14 @@ of_bytes minus text _ _ (hyperlink a b) = refl
 abbrev IsOfCode : ℕ → Type 0
 IsOfCode n = IsSome (code_of n)
 
-of_tokens : (code : ℕ) (before : List Kind) (token : Kind) → Refuses code before token → IsSome (code_of code)
+of_tokens : (code : ℕ) (before : List Kind) (token : Kind) → Refuses IsProgram code before token → IsSome (code_of code)
 of_tokens code before token (inl (e, h)) = subst IsOfCode (sym e) refl
 of_tokens code before token (inr (b, inl h)) = let e = h.0 in subst IsOfCode (sym e) refl
 of_tokens code before token (inr (b, inr h)) = let e = h.0 in subst IsOfCode (sym e) refl
 
 pub refusals_have_codes : RefusalsHaveCodes
 refusals_have_codes text names refusal (by_bytes h) = of_bytes _ _ _ _ h.wrong
-refusals_have_codes text names refusal (by_tokens tokens right cut (n, token, at, pos, h)) = of_tokens _ _ _ h.refuses
+refusals_have_codes text names refusal (by_tokens tokens right cut h) = let r = h.refused in of_tokens _ _ _ r.refuses
 refusals_have_codes text names refusal (by_contexts p r h) = of_rows (outside_rules p.top ∷ []) refusal (All-from_recursion HasCode (outside_rules p.top ∷ []) (refl, tt)) h
 refusals_have_codes text names refusal (by_links p r outside h) = of_links p refusal h.applies
 refusals_have_codes text names refusal (by_rules p r outside links h) = of_rows (rows_of_rules p) refusal (of_rules p.rules p.rules) h

@@ -17,8 +17,7 @@ use Rattle.lmn_base.proofs.RowLemmas.{no_rows, none_or_refused}
 use Rattle.lmn_base.proofs.RowLemmas.{one_refusal as one_of_rows}
 use Rattle.lmn_congruence.specs.Rules.{Name}
 use Rattle.lmn_expand.specs.Outside.{outside_rules}
-use Rattle.lmn_grammar.proofs.Refusals.{refused_derive_nothing}
-use Rattle.lmn_grammar.proofs.Refusals.{one_refusal as one_of_tokens}
+use Rattle.lmn_grammar.proofs.Refusals.{refused_once}
 use Rattle.lmn_grammar.specs.Refusing.{IsRefused}
 use Rattle.lmn_guards.specs.Accepted.{IsAccepted}
 use Rattle.lmn_guards.specs.GuardCodes.{guard_rows}
@@ -30,8 +29,9 @@ use Rattle.lmn_lexer.specs.Faults.{IsRefusal}
 use Rattle.lmn_lexer.specs.Laying.{words_of}
 use Rattle.lmn_lexer.specs.declared.token.Token.{Token}
 use Rattle.lmn_parser.proofs.OneReading.{one_reading}
-use Rattle.lmn_parser.proofs.TreeWords.{trees_derive}
-use Rattle.lmn_parser.specs.Parsing.{kinds_of, IsFaultOf}
+use Rattle.lmn_parser.proofs.OneLanguage.{refused_no_tree}
+use Rattle.lmn_parser.specs.Faults.{IsFaultOf, IsProgram}
+use Rattle.lmn_parser.specs.Parsing.{kinds_of}
 use Rattle.lmn_parser.specs.Syntax.{Clauses}
 use Rattle.lmn_plain.proofs.OnePlain.{one_plain}
 use Rattle.lmn_plain.specs.Laws.{IsPlain}
@@ -47,9 +47,9 @@ same_refusal a b c p = λ i. record { code = c i; pos = p i }
 -- ---- tokens
 
 one_token_fault : (ts : List Token) (a b : Refusal) → IsFaultOf ts (Refused a) → IsFaultOf ts (Refused b) → a ≡ b
-one_token_fault ts a b (n, t, at, pos, h) (m, u, there, place, k) =
-    let same = one_of_tokens (kinds_of ts) n m a.code b.code h k in
-    same_refusal a b same.1 (pos ∙ ap (λ z. z.pos) (same_Some t u (sym at ∙ ap (slice_get ts) same.0 ∙ there)) ∙ sym place)
+one_token_fault ts a b h k =
+    let same = refused_once IsProgram (kinds_of ts) h.number k.number a.code b.code h.refused k.refused in
+    same_refusal a b same.1 (h.placed ∙ ap (λ z. z.pos) (same_Some h.token k.token (sym h.is_there ∙ ap (slice_get ts) same.0 ∙ k.is_there)) ∙ sym k.placed)
 
 -- ---- links
 
@@ -116,10 +116,10 @@ module _ (text : List ℕ) (names : List Name) where
   not_by_bytes a p h r = refused_is_wrong text a h r.right
 
   not_by_tokens : (a : Refusal) (p : Plain) (ts : List Token) → Cuts text ts → IsFaultOf ts (Refused a) → ReadsAs text names p → ⊥
-  not_by_tokens a p ts c (n, token, at, pos, h) r =
+  not_by_tokens a p ts c h r =
       let same = ap kinds_of (one_cut text ts r.tokens c r.reads.cut) in
-      let P : List _ → Type 0 = λ k. IsRefused k n a.code in
-      refused_derive_nothing (kinds_of r.tokens) n a.code (subst P same h) (trees_derive r.tokens r.tree r.reads.is_tree) r.within
+      let P : List _ → Type 0 = λ k. IsRefused IsProgram k h.number a.code in
+      refused_no_tree r.tokens r.tree h.number a.code (subst P same h.refused) r.reads.is_tree r.within
 
   -- nor by its contexts, where none stands outside every rule; and so on
   not_by_contexts : (a : Refusal) (p q : Plain) → ReadsAs text names p → ReadsAs text names q → RefusedBy (outside_rules p.top ∷ []) a → NoneApplies (outside_rules q.top ∷ []) → ⊥

@@ -14,7 +14,6 @@ use Rattle.lmn_expand.specs.Glossaries.{GrowsBy}
 use Rattle.lmn_expand.specs.NameLists.{names_read}
 use Rattle.lmn_expand.specs.Outside.{outside_rules}
 use Rattle.lmn_grammar.specs.Refusing.{IsWithin, IsRefused as IsRefusedAt}
-use Rattle.lmn_grammar.proofs.Refusals.{refused_derive_nothing}
 use Rattle.lmn_guards.specs.Plans.{IsPlan}
 use Rattle.lmn_lexer.specs.Cutting.{Cuts}
 use Rattle.lmn_lexer.specs.Faults.{IsRefusal, NothingWrong}
@@ -23,10 +22,11 @@ use Rattle.lmn_lexer.specs.declared.token.Kind.{Kind}
 use Rattle.lmn_lexer.specs.declared.token.Token.{Token}
 use Rattle.lmn_lexer.proofs.OneCut.{one_cut, refused_is_wrong}
 use Rattle.lmn_linkcheck.proofs.LinkedLemmas.{no_fault_is_linked}
-use Rattle.lmn_parser.specs.Parsing.{IsFaultOf, kinds_of}
+use Rattle.lmn_parser.proofs.OneLanguage.{refused_no_tree}
+use Rattle.lmn_parser.specs.Faults.{IsFaultOf, IsProgram}
+use Rattle.lmn_parser.specs.Parsing.{kinds_of}
 use Rattle.lmn_parser.specs.Readings.{Reads}
 use Rattle.lmn_parser.specs.Syntax.{Clauses}
-use Rattle.lmn_parser.proofs.TreeWords.{trees_derive}
 use Rattle.lmn_plain.specs.Laws.{IsPlain}
 use Rattle.lmn_plain.specs.Plains.{Each}
 use Rattle.lmn_plain.proofs.PrintedLines.{plains_are_well_made}
@@ -49,10 +49,10 @@ module _ (text : List ℕ) (before after : List Name) where
 
   -- nor does one whose tokens are no program within the limits
   pub none_by_tokens : (tokens : List Token) (fault : TextFault) → Cuts text tokens → IsFaultOf tokens fault → IfRefused fault (λ refusal. LeavesNames text before after)
-  none_by_tokens ts (Refused r) cut (n, token, at, pos, h) = λ tokens tree right reads within.
+  none_by_tokens ts (Refused r) cut h = λ tokens tree right reads within.
       let same = ap kinds_of (one_cut text ts tokens cut reads.cut) in
-      let P : List Kind → Type 0 = λ k. IsRefusedAt k n r.code in
-      absurd (refused_derive_nothing (kinds_of tokens) n r.code (subst P same h) (trees_derive tokens tree reads.is_tree) within)
+      let P : List Kind → Type 0 = λ k. IsRefusedAt IsProgram k h.number r.code in
+      absurd (refused_no_tree tokens tree h.number r.code (subst P same h.refused) reads.is_tree within)
   none_by_tokens ts NoMemory cut h = tt
 
   names_left : (ts : List Token) (tree : Clauses) → Reads text ts tree → after ≡ names_read before (words_of text ts) → LeavesNames text before after

@@ -20,7 +20,8 @@ use Rattle.lmn_lexer.specs.Cutting.{Cuts}
 use Rattle.lmn_lexer.specs.Faults.{IsRefusal, NothingWrong}
 use Rattle.lmn_lexer.specs.Laying.{words_of}
 use Rattle.lmn_lexer.specs.declared.token.Token.{Token}
-use Rattle.lmn_parser.specs.Parsing.{IsFaultOf, kinds_of}
+use Rattle.lmn_parser.specs.Faults.{IsFaultOf}
+use Rattle.lmn_parser.specs.Parsing.{kinds_of}
 use Rattle.lmn_parser.specs.Readings.{Reads}
 use Rattle.lmn_parser.specs.Syntax.{Clauses}
 use Rattle.lmn_plain.specs.Laws.{IsPlain}

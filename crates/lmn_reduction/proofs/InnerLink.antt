@@ -4,7 +4,8 @@ use Rattle.std.proofs.Common.{ℕ, ◌≡◌, ◌≢◌, ◌+◌, ◌≤◌, [],
 use Rattle.lmn_congruence.specs.Links.{one_if_same}
 use Rattle.lmn_congruence.specs.Process.{Process, atom, membrane, rule, occurrences, together}
 use Rattle.lmn_congruence.specs.Rules.{Rule, head_of}
-use Rattle.lmn_congruence.specs.FreeLinks.{link_bound, one_if_once, one_if_free, free_number}
+use Rattle.lmn_congruence.specs.FreeNumber.{free_number}
+use Rattle.lmn_congruence.specs.FreeLinks.{link_bound, one_if_once, one_if_free}
 use Rattle.lmn_reduction.specs.Assignments.{Assignment, Proper}
 use Rattle.lmn_reduction.specs.Instances.{Instance, instance, no_leaf, leaf_and, of_atom, no_membrane, membrane_and}
 use Rattle.lmn_reduction.specs.Firing.{Matches}
@@ -13,6 +14,7 @@ use Rattle.lmn_reduction.specs.Redexes.{HasRedex, at_top, in_membrane}
 use Rattle.lmn_reduction.specs.Examples.{a, b, join_from_membrane, InnerLinkStays}
 use Rattle.lmn_congruence.proofs.Counts.{occurs_once}
 use Rattle.lmn_congruence.proofs.Totals.{total_includes}
+use Rattle.lmn_congruence.proofs.FreeNumbers.{free_total}
 use Rattle.lmn_congruence.proofs.Crossings.{occurs_below, crossings, same_crossings}
 use Rattle.lmn_reduction.proofs.SettledProcesses.{no_connector_settled}
 use Rattle.lmn_reduction.proofs.Derivations.{zero_not_one}
@@ -22,7 +24,8 @@ use Rattle.lmn_reduction.proofs.Redexes.{step_shows}
 -- ---- the links across the membrane of an instance of the head
 
 one_free : (x y : ℕ) (C : Process) → x ≢ y → ((z : ℕ) → occurrences z C ≡ one_if_same z x + one_if_same z y) → free_number C ≢ 0
-one_free x y C d h = not_zero (one_if_free C x) (free_number C) (ap one_if_once f) (total_includes (link_bound C) (one_if_free C) x (occurs_below C x (occurs_once (occurrences x C) f)))
+one_free x y C d h = not_zero (one_if_free C x) (free_number C) (ap one_if_once f)
+    (omega (arith, total_includes (link_bound C) (one_if_free C) x (occurs_below C x (occurs_once (occurrences x C) f)), free_total C))
   where
     first_one : (x y : ℕ) → x ≢ y → one_if_same x x + one_if_same x y ≡ 1
     first_one x y d = grind arith

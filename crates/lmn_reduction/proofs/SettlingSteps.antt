@@ -1,7 +1,8 @@
 -- Settling steps keep free links, lower the links across membranes by two, and carry maps of links.
 use Rattle.std.proofs.Common.{ℕ, suc, ◌≡◌, ◌≢◌, ◌+◌, refl, sym, ◌∙◌, ap, arith}
 use Rattle.lmn_congruence.specs.UpToOrder.{r_back}
-use Rattle.lmn_congruence.specs.FreeLinks.{one_if_once, one_if_free, free_number}
+use Rattle.lmn_congruence.specs.FreeNumber.{free_number}
+use Rattle.lmn_congruence.specs.FreeLinks.{one_if_once, one_if_free}
 use Rattle.lmn_congruence.proofs.Reordered.{nothing_out}
 use Rattle.lmn_congruence.proofs.Carried.{Carries, carried_as, carried_chain, carried_inside, carried_beside, congruence_carries}
 use Rattle.lmn_congruence.specs.Process.{Process, connector, pair, membrane, occurrences, Free, Linked}
