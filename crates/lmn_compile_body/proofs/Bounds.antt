@@ -8,7 +8,8 @@ use Rattle.lmn_body.specs.declared.items.BodyItem.{BodyItem}
 use Rattle.lmn_body.specs.declared.items.BodyItem.TheVariants.{Atom, Connector, Copy, Bound, Membrane, Rest, Rule, Rules}
 use Rattle.lmn_body.specs.Items.{port_at, ports_from, new_ports, once_in, old_ports, connectors}
 use Rattle.lmn_compile_head.specs.Tables.{AllBelow, Fits}
-use Rattle.lmn_compile_body.specs.Tables.{PairsBelow, LinksBelow, BodyFits, AllFew}
+use Rattle.lmn_classes.specs.Tables.{PairsBelow, LinksBelow}
+use Rattle.lmn_compile_body.specs.Tables.{BodyFits, AllFew}
 
 pub fits_few : (n : ℕ) (xs : List BodyItem) → BodyFits n xs → AllFew xs
 fits_few n [] h = h

@@ -1,5 +1,3 @@
-pub mod Noting
-pub mod Joins
 pub mod Steps
 pub mod Bounds
 mod Registers

@@ -1,4 +1,4 @@
-ghost use Rattle.std.specs.Prelude.{◌≡◌, ◌+◌, ◌<◌, ◌++◌, ◌^◌, ℕ, List, map, length, IfOk, OnOk};
+ghost use Rattle.std.specs.Prelude.{◌≡◌, ◌+◌, ◌<◌, ◌++◌, ◌^◌, ℕ, List, length, IfOk, OnOk};
 ghost use Rattle.lmn_base.specs.Solids.{connector};
 ghost use Rattle.lmn_heap.specs.Functors.{same_functor};
 ghost use Rattle.lmn_body.specs.Flattening.{leaf_items, context_items, rule_items, rule_context_items};
@@ -8,21 +8,11 @@ ghost use Rattle.lmn_compile_body.specs.Naming.{names_by, unnumbered, tail_items
 
 use crate::integers::register_of;
 use crate::names::{number_of, part_of};
-use lmn_base::{CONNECTOR_NAME, CtxUse, Functor, Label, Leaf, Level, NoMemory, Occ, Rows};
+use lmn_base::{CONNECTOR_NAME, CtxUse, Functor, Label, Leaf, Level, NoMemory, Rows};
 use lmn_body::BodyItem;
+use lmn_compile_head::numbers;
 use lmn_solid::HeadItem;
 use std::alloc::Global;
-
-/// The numbers of links.
-fn numbers(alloc: Global, links: &[Occ]) -> Result<Rows<u32>, NoMemory>
-    ensures { IfOk result (λ numbers. numbers ≡ map (λ o. o.link) links.now) }
-{
-    let mut numbers = Rows::new(alloc);
-    for occurrence in links {
-        numbers.push(occurrence.link)?;
-    }
-    Ok(numbers)
-}
 
 /// Whether a functor is that of connectors.
 fn is_connector(functor: Functor) -> bool

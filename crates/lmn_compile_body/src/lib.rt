@@ -4,14 +4,12 @@
 ghost use Rattle.lmn_compile_body.specs.Accepted.{AcceptedBodies, AcceptedNested};
 
 mod bodies;
-mod classes;
 mod ends;
 mod integers;
 mod levels;
 mod makes;
 mod names;
 mod ports;
-mod tables;
 #[cfg(test)]
 mod tests;
 

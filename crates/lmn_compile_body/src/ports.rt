@@ -1,12 +1,12 @@
 ghost use Rattle.std.specs.Prelude.{◌≡◌, ◌+◌, ◌<◌, ◌++◌, ◌^◌, List, [], ◌∷◌, length, IfOk, OnOk};
 ghost use Rattle.lmn_solid.specs.Heads.{at_ports, links_of};
 ghost use Rattle.lmn_body.specs.Items.{ports_from, new_ports, old_ports, once_in, connectors};
-ghost use Rattle.lmn_compile_head.specs.Tables.{AllBelow, Fits};
-ghost use Rattle.lmn_compile_body.specs.Tables.{Counts, AllFew};
+ghost use Rattle.lmn_compile_head.specs.Tables.{AllBelow, Counts, Fits};
+ghost use Rattle.lmn_compile_body.specs.Tables.{AllFew};
 
-use crate::tables::times_of;
 use lmn_base::{NoMemory, Rows};
 use lmn_body::BodyItem;
+use lmn_compile_head::times_of;
 use lmn_instr::{AtomPort, NewPort};
 use lmn_solid::HeadItem;
 use std::alloc::Global;

@@ -14,7 +14,8 @@ mod tables;
 mod tests;
 
 pub use heads::{code_of_items, head};
-pub use levels::flatten;
+pub use levels::{flatten, numbers};
+pub use tables::times_of;
 
 /// The code of a head succeeds exactly with the embeddings of the head.
 #[tactic(auto, using(crate::proofs::Laws::code_of_embeddings))]

@@ -10,7 +10,8 @@ use Rattle.lmn_splice.specs.Splice.{EachTwice, both_links, links}
 use Rattle.lmn_splice.specs.Classes.{class_of}
 use Rattle.lmn_splice.proofs.ClassLemmas.{classes_twice}
 use Rattle.lmn_loading.specs.Adding.{by_id}
-use Rattle.lmn_loading.specs.Joining.{LinksBelow, held_at, held_after, met, MayMeet, AreFree, AreJoined}
+use Rattle.lmn_classes.specs.Tables.{LinksBelow}
+use Rattle.lmn_loading.specs.Joining.{held_at, held_after, met, MayMeet, AreFree, AreJoined}
 use Rattle.lmn_loading.proofs.Whole.{past_end}
 use Rattle.lmn_loading.proofs.Meeting.{Meets, none_met, one_more, may_meet, all_met}
 

@@ -1,4 +1,3 @@
-pub mod ClassTables
 pub mod Composing
 pub mod Atoms
 pub mod Membranes

@@ -34,7 +34,8 @@ use Rattle.lmn_splice.specs.Classes.{class_of, ends}
 use Rattle.lmn_splice.proofs.ClassLemmas.{often_append, ends_length}
 use Rattle.lmn_splice.proofs.EndLemmas.{in_ports, ports_in, link_found, in_ends}
 use Rattle.lmn_loading.specs.Adding.{IsReady, Named, atom_links, IsMadeAtom, Adds, Fills, by_id}
-use Rattle.lmn_loading.specs.Joining.{connectors, PairsBelow, LinksBelow, AreFree, AreJoined}
+use Rattle.lmn_classes.specs.Tables.{PairsBelow, LinksBelow}
+use Rattle.lmn_loading.specs.Joining.{connectors, AreFree, AreJoined}
 use Rattle.lmn_loading.specs.Loaded.{IsEmpty, IsLoaded}
 use Rattle.lmn_loading.proofs.Composing.{both, left_in, right_in, none_is_not, leaves_both}
 use Rattle.lmn_loading.proofs.Membranes.{fused_apart}

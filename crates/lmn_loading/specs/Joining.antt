@@ -1,5 +1,5 @@
--- Classes of links that connectors join, and what is held while ports are joined. No public contract cites a word of this.
-use Rattle.std.specs.Prelude.{ℕ, ◌≡◌, ◌≢◌, ◌<◌, ◌≤◌, ◌==◌, List, [], ◌∷◌, flat_map, length, slice_index_or, if◌then◌else◌, Option, Some, None, IsSome}
+-- Links that connectors join, and what is held while ports are joined. No public contract cites a word of this.
+use Rattle.std.specs.Prelude.{ℕ, ◌≡◌, ◌≢◌, ◌==◌, List, [], ◌∷◌, flat_map, slice_index_or, if◌then◌else◌, Option, Some, None, IsSome}
 use Rattle.std.specs.Option.{option_map}
 use Rattle.lmn_heap.specs.Heap.{Heap, functor_of, arity_of, place_of, mark_of, link_of, joined, port_id}
 use Rattle.lmn_heap.specs.Splice.{IsPort}
@@ -9,25 +9,6 @@ use Rattle.lmn_base.specs.declared.level.Leaf.{Leaf}
 use Rattle.lmn_base.specs.declared.level.Leaf.TheVariants.{Atom, Typed}
 use Rattle.lmn_congruence.specs.SolidsOfPlains.{is_connector}
 use Rattle.lmn_base.specs.declared.level.Occ.{Occ}
-
--- a table in which no link has a greater one
-pub record IsForest (table : List ℕ) : Type 0 where
-  pub down : (x : ℕ) → x < length table → slice_index_or table x 0 ≤ x
-
--- a table of classes: the link that a link has is of its class, and where that is itself it is the class's name
-pub record Represents (table : List ℕ) (m : ℕ → ℕ) : Type 0 where
-  pub same : (x : ℕ) → x < length table → m (slice_index_or table x 0) ≡ m x
-  pub root : (x : ℕ) → x < length table → slice_index_or table x 0 ≡ x → m x ≡ x
-
--- both links of each pair
-abbrev pub PairsBelow : ℕ → List (ℕ × ℕ) → Type 0
-PairsBelow n [] = Unit {0}
-PairsBelow n (e ∷ es) = (e.0 < n) × (e.1 < n) × PairsBelow n es
-
--- the links of ports
-abbrev pub LinksBelow : {P : Type 0} → ℕ → List (P × ℕ) → Type 0
-LinksBelow n [] = Unit {0}
-LinksBelow n (e ∷ es) = (e.1 < n) × LinksBelow n es
 
 -- the two links of a connector
 abbrev pub pair_of : List Occ → List (ℕ × ℕ)

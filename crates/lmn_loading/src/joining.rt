@@ -3,11 +3,12 @@ ghost use Rattle.std.specs.Prelude.{◌≡◌, ◌<◌, ◌++◌, ℕ, length, s
 ghost use Rattle.lmn_heap.specs.Heap.{port_id};
 ghost use Rattle.lmn_splice.specs.Splice.{EachTwice, both_links, links};
 ghost use Rattle.lmn_splice.specs.Classes.{class_of};
+ghost use Rattle.lmn_classes.specs.Tables.{PairsBelow, LinksBelow};
 ghost use Rattle.lmn_loading.specs.Adding.{by_id};
-ghost use Rattle.lmn_loading.specs.Joining.{PairsBelow, LinksBelow, AreFree, AreJoined, MayMeet, held_at, held_after, met};
+ghost use Rattle.lmn_loading.specs.Joining.{AreFree, AreJoined, MayMeet, held_at, held_after, met};
 
-use crate::classes::{classes_of, find};
 use lmn_base::{NoMemory, Rows};
+use lmn_classes::{classes_of, find};
 use lmn_store::LinkStore;
 use std::alloc::Global;
 

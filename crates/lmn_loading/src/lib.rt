@@ -1,7 +1,6 @@
 //! Loading: puts the process of a plain into a new store.
 #![tactic(auto)]
 
-mod classes;
 mod filling;
 mod joining;
 mod laws;

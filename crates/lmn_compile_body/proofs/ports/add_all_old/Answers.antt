@@ -3,7 +3,7 @@ use Rattle.lmn_solid.specs.declared.items.HeadItem.TheVariants.{Atom, Typed, Mem
 use Rattle.lmn_solid.specs.Heads.{at_ports, at_atoms, atoms_of, links_of}
 use Rattle.lmn_body.specs.Items.{once_in, old_ports}
 use Rattle.lmn_compile_head.specs.Tables.{Fits}
-use Rattle.lmn_compile_body.proofs.Noting.{dropped}
+use Rattle.lmn_compile_head.proofs.Noting.{dropped}
 use Rattle.lmn_compile_body.proofs.Steps.{old_step}
 use Rattle.lmn_compile_body.proofs.ports.add_all_old.Goals as goal
 use Rattle.lmn_compile_body.proofs.ports.add_all_old.Goals.{in-Atom+in_ok-add_old-in-Atom, in-Typed, in-Membrane}

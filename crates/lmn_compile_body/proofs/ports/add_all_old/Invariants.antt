@@ -1,8 +1,7 @@
 use Rattle.std.proofs.Common.{◌≡◌, ◌≤◌, ◌++◌, drop, length}
 use Rattle.lmn_solid.specs.Heads.{at_atoms, atoms_of, links_of}
 use Rattle.lmn_body.specs.Items.{once_in, old_ports}
-use Rattle.lmn_compile_head.specs.Tables.{Fits}
-use Rattle.lmn_compile_body.specs.Tables.{Counts}
+use Rattle.lmn_compile_head.specs.Tables.{Counts, Fits}
 use Rattle.lmn_compile_body.proofs.ports.add_all_old.Given as goal
 
 abbrev pub invariant-loop-item : goal.invariant-loop-item

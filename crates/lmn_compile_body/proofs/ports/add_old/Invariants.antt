@@ -2,8 +2,7 @@ use Rattle.std.proofs.Common.{◌≡◌, ◌++◌, List, drop, length}
 use Rattle.lmn_solid.specs.declared.items.HeadItem.{HeadItem}
 use Rattle.lmn_solid.specs.Heads.{at_ports, links_of}
 use Rattle.lmn_body.specs.Items.{once_in}
-use Rattle.lmn_compile_head.specs.Tables.{AllBelow}
-use Rattle.lmn_compile_body.specs.Tables.{Counts}
+use Rattle.lmn_compile_head.specs.Tables.{AllBelow, Counts}
 use Rattle.lmn_compile_body.proofs.ports.add_old.Given as goal
 
 abbrev pub invariant-loop-i : goal.invariant-loop-i

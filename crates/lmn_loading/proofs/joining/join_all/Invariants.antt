@@ -1,7 +1,8 @@
 use Rattle.std.proofs.Common.{◌≡◌, length, take, drop}
 use Rattle.lmn_splice.specs.Classes.{class_of}
 use Rattle.lmn_loading.specs.Adding.{by_id}
-use Rattle.lmn_loading.specs.Joining.{IsForest, Represents, LinksBelow, held_at}
+use Rattle.lmn_classes.specs.Tables.{IsForest, Represents, LinksBelow}
+use Rattle.lmn_loading.specs.Joining.{held_at}
 use Rattle.lmn_loading.proofs.Meeting.{Meets}
 use Rattle.lmn_loading.proofs.joining.join_all.Given as goal
 

@@ -1,5 +1,5 @@
 use Rattle.std.proofs.Common.{ℕ, ◌≡◌, ◌<◌, length, get_or}
-use Rattle.lmn_loading.proofs.classes.alone.Given as goal
+use Rattle.lmn_classes.proofs.alone.Given as goal
 
 abbrev pub invariant-loop-link : goal.invariant-loop-link
 invariant-loop-link l = record {

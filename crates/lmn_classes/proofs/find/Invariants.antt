@@ -1,6 +1,6 @@
 use Rattle.std.proofs.Common.{ℕ, ◌≡◌, ◌≤◌, length}
-use Rattle.lmn_loading.specs.Joining.{IsForest, Represents}
-use Rattle.lmn_loading.proofs.classes.find.Given as goal
+use Rattle.lmn_classes.specs.Tables.{IsForest, Represents}
+use Rattle.lmn_classes.proofs.find.Given as goal
 
 abbrev pub invariant-loop-at : goal.invariant-loop-at
 invariant-loop-at l = record {

@@ -1,8 +1,8 @@
 use Rattle.std.proofs.Common.{◌≡◌, length, drop}
 use Rattle.lmn_splice.specs.Classes.{class_of}
-use Rattle.lmn_loading.specs.Joining.{IsForest, PairsBelow}
-use Rattle.lmn_loading.proofs.ClassTables.{Leads}
-use Rattle.lmn_loading.proofs.classes.classes_of.Given as goal
+use Rattle.lmn_classes.specs.Tables.{IsForest, PairsBelow}
+use Rattle.lmn_classes.proofs.ClassTables.{Leads}
+use Rattle.lmn_classes.proofs.classes_of.Given as goal
 
 abbrev pub invariant-loop-connector : goal.invariant-loop-connector
 invariant-loop-connector l = record {
