@@ -34,7 +34,7 @@ pub use refusal::{Pos, Refusal, TextFault, first_refusal, refuse};
 pub use rows::Rows;
 pub use rule::{LinkUse, Plain, RuleTree};
 pub use solid::{Region, Solid, SolidAtom};
-pub use uses::{is_used, is_used_in_condition, is_used_in_expression};
+pub use uses::{is_left, is_used, is_used_in_condition, is_used_in_expression};
 pub use walk::{
     find, find_in_condition, find_in_expression, find_in_guard, find_in_level_itself, find_in_rule,
     number_of_items,

@@ -1,5 +1,7 @@
 ghost use Rattle.std.specs.Prelude.{◌≡◌};
+ghost use Rattle.std.specs.List.{list_any};
 ghost use Rattle.lmn_base.specs.Items.{items_of, expression_items, condition_items};
+ghost use Rattle.lmn_base.specs.RuleCodes.{is_left_of};
 ghost use Rattle.lmn_base.specs.Uses.{has_use};
 
 use crate::guard::{Cond, Expr};
@@ -55,4 +57,27 @@ pub fn is_used_in_expression(name: u32, expression: &Expr) -> bool
     ensures { result ≡ has_use name (expression_items expression.now) }
 {
     find_in_expression(&UseOf { name }, expression).is_somewhere()
+}
+
+/// Whether a name is the left side of a condition `=`.
+pub fn is_left(conditions: &[Cond], name: u32) -> bool
+    ensures { result ≡ list_any (is_left_of name) conditions.now }
+{
+    for condition in conditions {
+        if is_left_of(condition, name) {
+            return true;
+        }
+    }
+    false
+}
+
+fn is_left_of(condition: &Cond, name: u32) -> bool
+    ensures { result ≡ is_left_of name condition.now }
+{
+    match condition {
+        Cond::Kind { .. } => false,
+        Cond::Compare { .. } => false,
+        Cond::Equal { left, .. } => left.name == name,
+        Cond::Differ { .. } => false,
+    }
 }
