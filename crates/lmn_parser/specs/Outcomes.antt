@@ -1,5 +1,5 @@
 -- What a function of the reader answers. No public contract cites these words.
-use Rattle.std.specs.Prelude.{◌≡◌, ◌≤◌, ℕ, suc, List, [], ◌∷◌, length, Result, Ok, Err, if◌then◌else◌}
+use Rattle.std.specs.Prelude.{◌≡◌, ◌<◌, ◌≤◌, ℕ, suc, List, [], ◌∷◌, length, Result, Ok, Err, IfOk, if◌then◌else◌}
 use Rattle.lmn_grammar.specs.Grammar.{Exp, program}
 use Rattle.lmn_grammar.specs.Reading.{Owed, is_kind, stop_at, ReadsTo}
 use Rattle.lmn_lexer.specs.declared.token.Kind.{Kind}
@@ -27,6 +27,14 @@ Reads ts p e κ (Err s) = Stops ts p ((e ∷ κ) ∷ []) s
 abbrev pub Takes : List Kind → ℕ → Exp → Owed → Result ℕ Stop → Type 0
 Takes ts p e κ (Ok q) = ReadsTo ts p e q κ
 Takes ts p e κ (Err s) = Stops ts p ((e ∷ κ) ∷ []) s
+
+-- The place behind the part that is read from p on is farther on, and no farther than the tokens reach.
+abbrev pub GoesForth : {X : Type 0} → List Kind → ℕ → Result (X × ℕ) Stop → Type 0
+GoesForth ts p result = IfOk result (λ r. (p < r.1) × (r.1 ≤ reach ts))
+
+-- The same for a part that may be empty.
+abbrev pub StaysOrGoesForth : {X : Type 0} → List Kind → ℕ → Result (X × ℕ) Stop → Type 0
+StaysOrGoesForth ts p result = IfOk result (λ r. (p ≤ r.1) × (r.1 ≤ reach ts))
 
 -- The tokens are read to their end, or stop.
 abbrev pub ReadsWhole : {X : Type 0} → List Kind → Result X Stop → Type 0

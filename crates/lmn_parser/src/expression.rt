@@ -1,8 +1,8 @@
-ghost use Rattle.std.specs.Prelude.{◌≡◌, ◌<◌, ◌≤◌, IfOk, ◌+◌};
+ghost use Rattle.std.specs.Prelude.{◌≡◌, ◌≤◌, IfOk, ◌+◌};
 ghost use Rattle.lmn_grammar.specs.Grammar.{Ref, SumPart, product, fact};
 ghost use Rattle.lmn_grammar.specs.Reading.{Owed, EndsSum, EndsProduct};
 ghost use Rattle.lmn_parser.specs.Parsing.{kinds_of};
-ghost use Rattle.lmn_parser.specs.Outcomes.{Reads, reach};
+ghost use Rattle.lmn_parser.specs.Outcomes.{GoesForth, Reads, reach};
 ghost use Rattle.lmn_parser.specs.Syntax.{expr_of, operation};
 ghost use Rattle.lmn_parser.specs.Trees.{IsSum, IsProduct, IsFactor};
 
@@ -22,7 +22,7 @@ pub(crate) fn sum(
 ) -> Result<(ExprNode, usize), Stop>
     requires place { at ≤ reach (kinds_of tokens.now) }
     ensures reads { (κ : Owed) → EndsSum κ → Reads (kinds_of tokens.now) at (Ref SumPart) κ result }
-    ensures forth { IfOk result (λ r. (at < r.1) × (r.1 ≤ reach (kinds_of tokens.now))) }
+    ensures forth { GoesForth (kinds_of tokens.now) at result }
     ensures tree { IfOk result (λ r. IsSum tokens.now (expr_of r.0) at r.1) }
 {
     let (first, after) = product(alloc, tokens, at)?;
@@ -41,7 +41,7 @@ pub(crate) fn sum(
 fn product(alloc: Global, tokens: &[PackedToken], at: usize) -> Result<(ExprNode, usize), Stop>
     requires place { at ≤ reach (kinds_of tokens.now) }
     ensures reads { (κ : Owed) → EndsProduct κ → Reads (kinds_of tokens.now) at product κ result }
-    ensures forth { IfOk result (λ r. (at < r.1) × (r.1 ≤ reach (kinds_of tokens.now))) }
+    ensures forth { GoesForth (kinds_of tokens.now) at result }
     ensures tree { IfOk result (λ r. IsProduct tokens.now (expr_of r.0) at r.1) }
 {
     let (first, after) = factor(alloc, tokens, at)?;
@@ -60,7 +60,7 @@ fn product(alloc: Global, tokens: &[PackedToken], at: usize) -> Result<(ExprNode
 fn factor(alloc: Global, tokens: &[PackedToken], at: usize) -> Result<(ExprNode, usize), Stop>
     requires place { at ≤ reach (kinds_of tokens.now) }
     ensures reads { (κ : Owed) → Reads (kinds_of tokens.now) at fact κ result }
-    ensures forth { IfOk result (λ r. (at < r.1) × (r.1 ≤ reach (kinds_of tokens.now))) }
+    ensures forth { GoesForth (kinds_of tokens.now) at result }
     ensures tree { IfOk result (λ r. IsFactor tokens.now (expr_of r.0) at r.1) }
 {
     if is_at(tokens, at, Kind::Int) {

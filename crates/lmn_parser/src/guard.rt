@@ -1,9 +1,9 @@
-ghost use Rattle.std.specs.Prelude.{◌≡◌, ℕ, ◌<◌, ◌≤◌, ◌+◌, IfOk, []};
+ghost use Rattle.std.specs.Prelude.{◌≡◌, ℕ, ◌≤◌, ◌+◌, IfOk, []};
 ghost use Rattle.lmn_grammar.specs.Grammar.{Opt, Seq, Ref, SumPart, cmp, cond};
 ghost use Rattle.lmn_grammar.specs.Factored.{contexts, guard_bar};
 ghost use Rattle.lmn_grammar.specs.Reading.{Owed, next, EndsCond, EndsSum};
 ghost use Rattle.lmn_parser.specs.Parsing.{kinds_of};
-ghost use Rattle.lmn_parser.specs.Outcomes.{Reads, reach};
+ghost use Rattle.lmn_parser.specs.Outcomes.{GoesForth, Reads, StaysOrGoesForth, reach};
 ghost use Rattle.lmn_parser.specs.Syntax.{condition_of, conditions_of};
 ghost use Rattle.lmn_parser.specs.Trees.{At, IsContextArguments, IsCondition, IsGuard};
 
@@ -23,7 +23,7 @@ pub(crate) fn guard(
 ) -> Result<(Rows<CondNode>, usize), Stop>
     requires place { at ≤ reach (kinds_of tokens.now) }
     ensures reads { (κ : Owed) → Reads (kinds_of tokens.now) at guard_bar κ result }
-    ensures forth { IfOk result (λ r. (at < r.1) × (r.1 ≤ reach (kinds_of tokens.now))) }
+    ensures forth { GoesForth (kinds_of tokens.now) at result }
     ensures tree { IfOk result (λ r. (bar : ℕ) × IsGuard tokens.now (conditions_of r.0) at bar × At tokens.now bar Kind.Bar × (r.1 ≡ bar + 1)) }
 {
     let mut conditions = Rows::new(alloc);
@@ -43,7 +43,7 @@ pub(crate) fn guard(
 fn condition(alloc: Global, tokens: &[PackedToken], at: usize) -> Result<(CondNode, usize), Stop>
     requires place { at ≤ reach (kinds_of tokens.now) }
     ensures reads { (κ : Owed) → EndsCond κ → Reads (kinds_of tokens.now) at cond κ result }
-    ensures forth { IfOk result (λ r. (at < r.1) × (r.1 ≤ reach (kinds_of tokens.now))) }
+    ensures forth { GoesForth (kinds_of tokens.now) at result }
     ensures tree { IfOk result (λ r. IsCondition tokens.now (condition_of r.0) at r.1) }
 {
     if is_name_at(tokens, at) {
@@ -79,7 +79,7 @@ fn condition(alloc: Global, tokens: &[PackedToken], at: usize) -> Result<(CondNo
 fn contexts(alloc: Global, tokens: &[PackedToken], at: usize) -> Result<(Rows<usize>, usize), Stop>
     requires place { at ≤ reach (kinds_of tokens.now) }
     ensures reads { (κ : Owed) → next κ Kind.LParen ≡ [] → Reads (kinds_of tokens.now) at (Opt contexts) κ result }
-    ensures forth { IfOk result (λ r. (at ≤ r.1) × (r.1 ≤ reach (kinds_of tokens.now))) }
+    ensures forth { StaysOrGoesForth (kinds_of tokens.now) at result }
     ensures tree { IfOk result (λ r. IsContextArguments tokens.now r.0 at r.1) }
 {
     let mut found = Rows::new(alloc);
@@ -102,7 +102,7 @@ fn contexts(alloc: Global, tokens: &[PackedToken], at: usize) -> Result<(Rows<us
 fn comparison(alloc: Global, tokens: &[PackedToken], at: usize) -> Result<(CondNode, usize), Stop>
     requires place { at ≤ reach (kinds_of tokens.now) }
     ensures reads { (κ : Owed) → EndsSum κ → Reads (kinds_of tokens.now) at (Seq (Ref SumPart) (Seq cmp (Ref SumPart))) κ result }
-    ensures forth { IfOk result (λ r. (at < r.1) × (r.1 ≤ reach (kinds_of tokens.now))) }
+    ensures forth { GoesForth (kinds_of tokens.now) at result }
     ensures tree { IfOk result (λ r. IsCondition tokens.now (condition_of r.0) at r.1) }
 {
     let (left, sign) = sum(alloc, tokens, at)?;

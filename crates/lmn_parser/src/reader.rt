@@ -3,7 +3,7 @@ ghost use Rattle.lmn_grammar.specs.Grammar.{Ref, Opt, some_of, TermPart, ClauseP
 ghost use Rattle.lmn_grammar.specs.Factored.{right_side, rule_tail};
 ghost use Rattle.lmn_grammar.specs.Reading.{Owed, NoArgs, NoMore, EndsItem, EndsList, EndsOptList, OnlyClosers, OnlyEnds};
 ghost use Rattle.lmn_parser.specs.Parsing.{kinds_of};
-ghost use Rattle.lmn_parser.specs.Outcomes.{Reads, reach};
+ghost use Rattle.lmn_parser.specs.Outcomes.{GoesForth, Reads, StaysOrGoesForth, reach};
 ghost use Rattle.lmn_parser.specs.Syntax.{term_of, terms_of, item_of, items_of, clause_of, clauses_of, conditions_of};
 ghost use Rattle.lmn_parser.specs.Trees.{IsTerm, IsTermList, IsArguments, IsTerms, IsItem, IsList, IsOptList, IsClause, IsRule, IsBody, IsMembrane, IsClauses};
 
@@ -22,7 +22,7 @@ use std::alloc::Global;
 fn term(alloc: Global, tokens: &[PackedToken], at: usize) -> Result<(Term, usize), Stop>
     requires place { at ≤ reach (kinds_of tokens.now) }
     ensures reads { (κ : Owed) → NoArgs κ → Reads (kinds_of tokens.now) at (Ref TermPart) κ result }
-    ensures forth { IfOk result (λ r. (at < r.1) × (r.1 ≤ reach (kinds_of tokens.now))) }
+    ensures forth { GoesForth (kinds_of tokens.now) at result }
     ensures tree { IfOk result (λ r. IsTerm tokens.now (term_of r.0) at r.1) }
 {
     if is_at(tokens, at, Kind::Link) {
@@ -52,7 +52,7 @@ fn term_list(alloc: Global, tokens: &[PackedToken], at: usize) -> Result<(Term, 
     requires place { at < length tokens.now }
     requires inside { at < reach (kinds_of tokens.now) }
     ensures reads { (κ : Owed) → Reads (kinds_of tokens.now) at tlist κ result }
-    ensures forth { IfOk result (λ r. (at < r.1) × (r.1 ≤ reach (kinds_of tokens.now))) }
+    ensures forth { GoesForth (kinds_of tokens.now) at result }
     ensures tree { IfOk result (λ r. IsTermList tokens.now (term_of r.0) at r.1) }
 {
     if is_at(tokens, at + 1, Kind::RBracket) {
@@ -74,7 +74,7 @@ fn term_list(alloc: Global, tokens: &[PackedToken], at: usize) -> Result<(Term, 
 fn arguments(alloc: Global, tokens: &[PackedToken], at: usize) -> Result<(Rows<Term>, usize), Stop>
     requires place { at ≤ reach (kinds_of tokens.now) }
     ensures reads { (κ : Owed) → NoArgs κ → Reads (kinds_of tokens.now) at (Opt arguments) κ result }
-    ensures forth { IfOk result (λ r. (at ≤ r.1) × (r.1 ≤ reach (kinds_of tokens.now))) }
+    ensures forth { StaysOrGoesForth (kinds_of tokens.now) at result }
     ensures tree { IfOk result (λ r. IsArguments tokens.now (terms_of r.0) at r.1) }
 {
     if !is_at(tokens, at, Kind::LParen) {
@@ -93,7 +93,7 @@ fn arguments(alloc: Global, tokens: &[PackedToken], at: usize) -> Result<(Rows<T
 fn terms(alloc: Global, tokens: &[PackedToken], at: usize) -> Result<(Rows<Term>, usize), Stop>
     requires place { at ≤ reach (kinds_of tokens.now) }
     ensures reads { (κ : Owed) → NoMore κ → Reads (kinds_of tokens.now) at (some_of (Ref TermPart)) κ result }
-    ensures forth { IfOk result (λ r. (at < r.1) × (r.1 ≤ reach (kinds_of tokens.now))) }
+    ensures forth { GoesForth (kinds_of tokens.now) at result }
     ensures tree { IfOk result (λ r. IsTerms tokens.now (terms_of r.0) at r.1) }
 {
     let mut terms = Rows::new(alloc);
@@ -113,7 +113,7 @@ fn terms(alloc: Global, tokens: &[PackedToken], at: usize) -> Result<(Rows<Term>
 fn item(alloc: Global, tokens: &[PackedToken], at: usize) -> Result<(Item, usize), Stop>
     requires place { at ≤ reach (kinds_of tokens.now) }
     ensures reads { (κ : Owed) → EndsItem κ → Reads (kinds_of tokens.now) at item κ result }
-    ensures forth { IfOk result (λ r. (at < r.1) × (r.1 ≤ reach (kinds_of tokens.now))) }
+    ensures forth { GoesForth (kinds_of tokens.now) at result }
     ensures tree { IfOk result (λ r. IsItem tokens.now (item_of r.0) at r.1) }
 {
     if is_at(tokens, at, Kind::RuleCtx) {
@@ -142,7 +142,7 @@ fn context(alloc: Global, tokens: &[PackedToken], at: usize) -> Result<(Item, us
     requires place { at < length tokens.now }
     requires inside { at < reach (kinds_of tokens.now) }
     ensures reads { (κ : Owed) → EndsItem κ → Reads (kinds_of tokens.now) at item κ result }
-    ensures forth { IfOk result (λ r. (at < r.1) × (r.1 ≤ reach (kinds_of tokens.now))) }
+    ensures forth { GoesForth (kinds_of tokens.now) at result }
     ensures tree { IfOk result (λ r. IsItem tokens.now (item_of r.0) at r.1) }
 {
     if is_at(tokens, at + 1, Kind::LBracket) {
@@ -165,7 +165,7 @@ fn relation(alloc: Global, tokens: &[PackedToken], at: usize) -> Result<(Item, u
     requires context { slice_get (kinds_of tokens.now) at ≡ Some Kind.Context → ⊥ }
     requires place { at ≤ reach (kinds_of tokens.now) }
     ensures reads { (κ : Owed) → EndsItem κ → Reads (kinds_of tokens.now) at item κ result }
-    ensures forth { IfOk result (λ r. (at < r.1) × (r.1 ≤ reach (kinds_of tokens.now))) }
+    ensures forth { GoesForth (kinds_of tokens.now) at result }
     ensures tree { IfOk result (λ r. IsItem tokens.now (item_of r.0) at r.1) }
 {
     if begins_atom(tokens, at) {
@@ -203,7 +203,7 @@ fn equation(
 ) -> Result<(Item, usize), Stop>
     requires place { sign ≤ reach (kinds_of tokens.now) }
     ensures reads { (κ : Owed) → NoArgs κ → Reads (kinds_of tokens.now) sign right_side κ result }
-    ensures forth { IfOk result (λ r. (sign < r.1) × (r.1 ≤ reach (kinds_of tokens.now))) }
+    ensures forth { GoesForth (kinds_of tokens.now) sign result }
     ensures tree { (start : ℕ) → IsTerm tokens.now (term_of left) start sign → IfOk result (λ r. IsItem tokens.now (item_of r.0) start r.1) }
 {
     let start = expect(tokens, sign, Kind::Equal)?;
@@ -218,7 +218,7 @@ fn equation(
 fn list(alloc: Global, tokens: &[PackedToken], at: usize) -> Result<(Rows<Item>, usize), Stop>
     requires place { at ≤ reach (kinds_of tokens.now) }
     ensures reads { (κ : Owed) → EndsList κ → Reads (kinds_of tokens.now) at list κ result }
-    ensures forth { IfOk result (λ r. (at < r.1) × (r.1 ≤ reach (kinds_of tokens.now))) }
+    ensures forth { GoesForth (kinds_of tokens.now) at result }
     ensures tree { IfOk result (λ r. IsList tokens.now (items_of r.0) at r.1) }
 {
     let mut items = Rows::new(alloc);
@@ -238,7 +238,7 @@ fn list(alloc: Global, tokens: &[PackedToken], at: usize) -> Result<(Rows<Item>,
 fn items(alloc: Global, tokens: &[PackedToken], at: usize) -> Result<(Rows<Item>, usize), Stop>
     requires place { at ≤ reach (kinds_of tokens.now) }
     ensures reads { (κ : Owed) → EndsOptList κ → Reads (kinds_of tokens.now) at (Opt list) κ result }
-    ensures forth { IfOk result (λ r. (at ≤ r.1) × (r.1 ≤ reach (kinds_of tokens.now))) }
+    ensures forth { StaysOrGoesForth (kinds_of tokens.now) at result }
     ensures tree { IfOk result (λ r. IsOptList tokens.now (items_of r.0) at r.1) }
 {
     if !begins_list(tokens, at) {
@@ -252,7 +252,7 @@ fn items(alloc: Global, tokens: &[PackedToken], at: usize) -> Result<(Rows<Item>
 fn clause(alloc: Global, tokens: &[PackedToken], at: usize) -> Result<(Clause, usize), Stop>
     requires place { at ≤ reach (kinds_of tokens.now) }
     ensures reads { (κ : Owed) → OnlyClosers κ → Reads (kinds_of tokens.now) at (Ref ClausePart) κ result }
-    ensures forth { IfOk result (λ r. (at < r.1) × (r.1 ≤ reach (kinds_of tokens.now))) }
+    ensures forth { GoesForth (kinds_of tokens.now) at result }
     ensures tree { IfOk result (λ r. IsClause tokens.now (clause_of r.0) at r.1) }
 {
     if is_label_at(tokens, at) {
@@ -281,7 +281,7 @@ fn rule(
     requires start { start ≤ at }
     requires place { at ≤ reach (kinds_of tokens.now) }
     ensures reads { (κ : Owed) → OnlyClosers κ → Reads (kinds_of tokens.now) at rule_tail κ result }
-    ensures forth { IfOk result (λ r. (at < r.1) × (r.1 ≤ reach (kinds_of tokens.now))) }
+    ensures forth { GoesForth (kinds_of tokens.now) at result }
     ensures tree { (heads : ℕ) → IsOptList tokens.now (items_of first) heads at → IfOk result (λ r. IsRule tokens.now start (clause_of r.0) heads r.1) }
 {
     if is_at(tokens, at, Kind::Backslash) {
@@ -328,7 +328,7 @@ fn guarded_body(
 ) -> Result<((Rows<CondNode>, Rows<Item>), usize), Stop>
     requires place { at ≤ reach (kinds_of tokens.now) }
     ensures reads { (κ : Owed) → OnlyClosers κ → Reads (kinds_of tokens.now) at body κ result }
-    ensures forth { IfOk result (λ r. (at ≤ r.1) × (r.1 ≤ reach (kinds_of tokens.now))) }
+    ensures forth { StaysOrGoesForth (kinds_of tokens.now) at result }
     ensures tree { IfOk result (λ r. IsBody tokens.now (conditions_of r.0.0) (items_of r.0.1) at r.1) }
 {
     if is_at(tokens, at, Kind::Bar) {
@@ -361,7 +361,7 @@ fn membrane(alloc: Global, tokens: &[PackedToken], at: usize) -> Result<(Rows<Cl
     requires place { at < length tokens.now }
     requires inside { at < reach (kinds_of tokens.now) }
     ensures reads { (κ : Owed) → Reads (kinds_of tokens.now) at membrane κ result }
-    ensures forth { IfOk result (λ r. (at < r.1) × (r.1 ≤ reach (kinds_of tokens.now))) }
+    ensures forth { GoesForth (kinds_of tokens.now) at result }
     ensures tree { IfOk result (λ r. IsMembrane tokens.now (clauses_of r.0) at r.1) }
 {
     let (clauses, end) = clauses(alloc, tokens, at + 1)?;
@@ -378,7 +378,7 @@ pub(crate) fn clauses(
 ) -> Result<(Rows<Clause>, usize), Stop>
     requires place { at ≤ reach (kinds_of tokens.now) }
     ensures reads { (κ : Owed) → OnlyEnds κ → Reads (kinds_of tokens.now) at (Ref ClausesPart) κ result }
-    ensures forth { IfOk result (λ r. (at ≤ r.1) × (r.1 ≤ reach (kinds_of tokens.now))) }
+    ensures forth { StaysOrGoesForth (kinds_of tokens.now) at result }
     ensures tree { IfOk result (λ r. IsClauses tokens.now (clauses_of r.0) at r.1) }
 {
     let mut clauses = Rows::new(alloc);
