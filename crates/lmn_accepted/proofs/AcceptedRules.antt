@@ -6,12 +6,9 @@ use Rattle.std.specs.List.{AllByRecursion, flat_map, list_any}
 use Rattle.std.proofs.lemmas.List.Concat.{flat_map-append}
 use Rattle.std.proofs.lemmas.List.Elements.{All-head, All-tail, Contains-append_left, Contains-append_right}
 use Rattle.lmn_base.specs.declared.guard.Cond.{Cond}
-use Rattle.lmn_base.specs.declared.item.Form.TheVariants as form
 use Rattle.lmn_base.specs.declared.item.Item.{Item}
-use Rattle.lmn_base.specs.declared.item.Item.TheVariants as item
 use Rattle.lmn_base.specs.declared.level.CtxUse.{CtxUse}
 use Rattle.lmn_base.specs.declared.level.Leaf.{Leaf}
-use Rattle.lmn_base.specs.declared.level.Leaf.TheVariants as leaf
 use Rattle.lmn_base.specs.declared.level.Level.{Level, out-Level}
 use Rattle.lmn_base.specs.declared.level.Level.TheFolds.{fold_out-Level}
 use Rattle.lmn_base.specs.declared.level.Occ.{Occ}
@@ -19,35 +16,40 @@ use Rattle.lmn_base.specs.declared.refusal.Pos.{Pos}
 use Rattle.lmn_base.specs.declared.rule.RuleTree.{RuleTree}
 use Rattle.lmn_base.specs.Firsts.{Row, NoneApplies}
 use Rattle.lmn_base.specs.Items.{items_of, leaf_item, used}
-use Rattle.lmn_base.specs.Levels as base
 use Rattle.lmn_base.specs.Levels.{contexts_of, rule_contexts_of, rules_of}
 use Rattle.lmn_base.specs.Names.{IsNames, HasNames, label_names, leaf_names, level_names, condition_names, rule_names, context_names}
 use Rattle.lmn_base.specs.RuleCodes.{connector_in_head, connector_place, is_connector_label, seconds_by_membrane}
 use Rattle.lmn_base.specs.Solids.{connector}
 use Rattle.lmn_base.specs.Uses.{is_some_place}
 use Rattle.lmn_base.specs.WellMade.{FitsArity, IsWellMadeRule}
-use Rattle.lmn_adequacy.specs.Accepted.{Accepted, GivesType, InTurn, EachLevel, EachOf, EachOnce, AtMostOne, NoConnectorLeaf, leaves_of, membranes_of, own_contexts, own_rule_contexts, own_rules, all_contexts, all_rule_contexts, typed_links, port_links, left_sides}
+use Rattle.lmn_adequacy.specs.Accepted.{Accepted, GivesType, InTurn, EachLevel, EachOf, AtMostOne, NoConnectorLeaf, own_leaves, own_membranes, own_contexts, own_rule_contexts, own_rules, all_contexts, all_rule_contexts, typed_links, port_links, left_sides}
 use Rattle.lmn_congruence.proofs.TranslatedLinks.{linked_rules}
-use Rattle.lmn_congruence.proofs.Appended as appended
-use Rattle.lmn_congruence.specs.Orders.{Among, at_head, further, Shuffle}
-use Rattle.lmn_congruence.specs.Rules as tree
+use Rattle.lmn_congruence.specs.Orders.{Among, at_head, further, Shuffle, EachOnce}
 use Rattle.lmn_congruence.specs.Translation.{level_of, condition_of, rule_tree}
 use Rattle.lmn_guards.proofs.AcceptedLemmas.{in_order}
 use Rattle.lmn_guards.proofs.OrderLemmas.{not_then}
-use Rattle.lmn_guards.specs.Accepted.{IsAccepted, IsInOrder}
+use Rattle.lmn_guards.specs.Accepted.{IsAcceptedRule, IsInOrder}
 use Rattle.lmn_guards.specs.GuardCodes.{holds, rows_of_conditions, rows_of_typed, type_of}
 use Rattle.lmn_reduction.specs.Firing.{typed_contexts}
 use Rattle.lmn_solid.proofs.HeadTrees.{Head, Heads, head, no_head, head_and, heads, head_step, head_at, head_leaves, heads_leaves, same_leaves, head_uses, heads_uses, same_uses, head_number, same_number}
 use Rattle.lmn_accepted.proofs.InTurns.{guard_in_turn}
 use Rattle.lmn_accepted.proofs.Types.{left_among, type_given}
 use Rattle.lmn_accepted.proofs.Counts.{guard_typed, kept, once_in_head, rule_context_known, rule_context_once, typed_in_head, typed_known}
-use Rattle.lmn_accepted.proofs.Listed.{alone, each_so, times, times_here, some_of, among_name, name_among, N, Known, each_once, same_shuffle}
-use Rattle.lmn_plain.proofs.AllLemmas.{all_append, all_front, all_back}
-use Rattle.lmn_adequacy.proofs.Orders.{among_left, among_right}
+use Rattle.lmn_accepted.proofs.Listed.{alone, each_so, times, times_here, some_of, among_name, name_among, N, each_once, same_shuffle}
 use Rattle.lmn_accepted.proofs.PlanKinds.{leaf_name}
 use Rattle.lmn_accepted.proofs.Items.{bare_name, typed_name, rule_context_name, rule_number, own_seconds, all_seconds, gathered_in, rules_are, contexts_are, rule_contexts_are, typed_are}
-use Rattle.lmn_accepted.proofs.Trees.{tree_of, level_tree, contexts_named, rule_contexts_named, typed_named, no_rules_stand, IsPlainLeaf, typed_link, atom_links, LevelIs, level_is, few_in}
+use Rattle.lmn_accepted.proofs.Trees.{contexts_named, rule_contexts_named, typed_named, no_rules_stand, IsPlainLeaf, typed_link, atom_links, LevelIs, level_is, few_in}
 use Rattle.lmn_reading.proofs.Levels.{two_empty}
+use Rattle.lmn_base.proofs.Lists.{all_append, all_left as all_front, all_right as all_back}
+use Rattle.lmn_congruence.proofs.Common.{among_left, among_right}
+use Rattle.lmn_bridge.proofs.HeadTrees.{tree_of, level_tree}
+use Rattle.lmn_reading.proofs.NamedPlains.{Below, AllBelow}
+use Rattle.lmn_base.specs.declared.item.Form.TheVariants as form
+use Rattle.lmn_base.specs.declared.item.Item.TheVariants as item
+use Rattle.lmn_base.specs.declared.level.Leaf.TheVariants as leaf
+use Rattle.lmn_base.specs.Levels as base
+use Rattle.lmn_congruence.proofs.Appended as appended
+use Rattle.lmn_congruence.specs.Rules as tree
 
 -- ---- lists
 
@@ -58,35 +60,32 @@ to_recursion P (x ∷ xs) h = (All-head P x xs h, to_recursion P xs (All-tail P 
 -- ---- names that are known
 
 module _ (names : List tree.Name) where
-  abbrev Below : ℕ → Type 0
-  Below n = n < length names
-
-  leaves_known : (ls : List Leaf) → AllByRecursion Below (flat_map leaf_names ls) → Known names (flat_map leaf_name ls)
+  leaves_known : (ls : List Leaf) → AllByRecursion (Below names) (flat_map leaf_names ls) → AllBelow names (flat_map leaf_name ls)
   leaves_known [] h = tt
-  leaves_known (leaf.Atom f os p ∷ ls) h = leaves_known ls (all_back Below (label_names f.label) (flat_map leaf_names ls) h)
+  leaves_known (leaf.Atom f os p ∷ ls) h = leaves_known ls (all_back (Below names) (label_names f.label) (flat_map leaf_names ls) h)
   leaves_known (leaf.Typed n o p ∷ ls) h = (h.0, leaves_known ls h.1)
 
   record LevelKnown (l : Level) : Type 0 where
-    bare : Known names (flat_map bare_name (items_of l))
-    rule_contexts : Known names (flat_map rule_context_name (items_of l))
-    typed : Known names (flat_map typed_name (items_of l))
+    bare : AllBelow names (flat_map bare_name (items_of l))
+    rule_contexts : AllBelow names (flat_map rule_context_name (items_of l))
+    typed : AllBelow names (flat_map typed_name (items_of l))
 
-  level_known : (l : Level) → AllByRecursion Below (level_names l) → LevelKnown l
+  level_known : (l : Level) → AllByRecursion (Below names) (level_names l) → LevelKnown l
   level_known l h =
-      let P : List ℕ → Type 0 = AllByRecursion Below in
-      let front = all_front Below (flat_map leaf_names (base.leaves_of l) ++ context_names (contexts_of l)) (context_names (rule_contexts_of l)) h in
-      let others = all_back Below (flat_map leaf_names (base.leaves_of l) ++ context_names (contexts_of l)) (context_names (rule_contexts_of l)) h in
-      let leaves = all_front Below (flat_map leaf_names (base.leaves_of l)) (context_names (contexts_of l)) front in
-      let contexts = all_back Below (flat_map leaf_names (base.leaves_of l)) (context_names (contexts_of l)) front in
+      let P : List ℕ → Type 0 = AllByRecursion (Below names) in
+      let front = all_front (Below names) (flat_map leaf_names (base.leaves_of l) ++ context_names (contexts_of l)) (context_names (rule_contexts_of l)) h in
+      let others = all_back (Below names) (flat_map leaf_names (base.leaves_of l) ++ context_names (contexts_of l)) (context_names (rule_contexts_of l)) h in
+      let leaves = all_front (Below names) (flat_map leaf_names (base.leaves_of l)) (context_names (contexts_of l)) front in
+      let contexts = all_back (Below names) (flat_map leaf_names (base.leaves_of l)) (context_names (contexts_of l)) front in
       record {
         bare = subst P (contexts_are l ∙ ap (flat_map bare_name) (sym (same_uses l))) contexts;
         rule_contexts = subst P (rule_contexts_are l ∙ ap (flat_map rule_context_name) (sym (same_uses l))) others;
         typed = subst P (typed_are l ∙ ap (flat_map typed_name) (sym (same_uses l))) (leaves_known (base.leaves_of l) leaves);
       }
 
-  conditions_known : (cs : List Cond) → AllByRecursion Below (flat_map condition_names cs) → AllByRecursion (λ c. Known names (condition_names c)) cs
+  conditions_known : (cs : List Cond) → AllByRecursion (Below names) (flat_map condition_names cs) → AllByRecursion (λ c. AllBelow names (condition_names c)) cs
   conditions_known [] h = tt
-  conditions_known (c ∷ cs) h = (all_front Below (condition_names c) (flat_map condition_names cs) h, conditions_known cs (all_back Below (condition_names c) (flat_map condition_names cs) h))
+  conditions_known (c ∷ cs) h = (all_front (Below names) (condition_names c) (flat_map condition_names cs) h, conditions_known cs (all_back (Below names) (condition_names c) (flat_map condition_names cs) h))
 
 -- ---- one level as a tree
 
@@ -189,11 +188,11 @@ typed_link_there names rule x (leaf.Typed n o p ∷ ls) a = by a refl (λ k. typ
 -- ---- the rule
 
 module _ (names : List tree.Name) (rule : ℕ → tree.Rule) (is_names : IsNames names) (table : List RuleTree) (r : RuleTree)
-    (accepted : IsAccepted table r) (made : IsWellMadeRule r) (numbers : All (λ k. k < length table) (rules_of r.head)) (known : HasNames names (rule_names r)) where
+    (accepted : IsAcceptedRule table r) (made : IsWellMadeRule r) (numbers : All (λ k. k < length table) (rules_of r.head)) (known : HasNames names (rule_names r)) where
   order : IsInOrder table r
   order = in_order table r accepted
 
-  known_parts : LevelKnown names r.head × AllByRecursion (λ c. Known names (condition_names c)) r.guard × LevelKnown names r.body
+  known_parts : LevelKnown names r.head × AllByRecursion (λ c. AllBelow names (condition_names c)) r.guard × LevelKnown names r.body
   known_parts =
       let P : ℕ → Type 0 = λ n. n < length names in
       let all = to_recursion P (rule_names r) known in
@@ -303,9 +302,9 @@ module _ (names : List tree.Name) (rule : ℕ → tree.Rule) (is_names : IsNames
   pub accepted_tree : Accepted (rule_tree names rule r)
   accepted_tree =
       let linked = linked_rules names rule r in
-      let E = λ (l : tree.Level). EachLevel (λ l. NoConnectorLeaf (leaves_of l)) l in
+      let E = λ (l : tree.Level). EachLevel (λ l. NoConnectorLeaf (own_leaves l)) l in
       let R = λ (l : tree.Level). EachLevel (λ l. own_rules l ≡ tree.no_rule) l in
-      let F = λ (l : tree.Level). EachOf (λ l. AtMostOne (own_contexts l) × AtMostOne (own_rule_contexts l)) (membranes_of l) in
+      let F = λ (l : tree.Level). EachOf (λ l. AtMostOne (own_contexts l) × AtMostOne (own_rule_contexts l)) (own_membranes l) in
       let Q : List Item → Type 0 = λ xs. flat_map rule_number xs ≡ [] in
       let k = known_parts in
       let o = out-Level r.head in

@@ -9,21 +9,21 @@ use Rattle.lmn_base.specs.declared.rule.RuleTree.{RuleTree}
 use Rattle.lmn_base.specs.Levels.{leaves_of, rules_of}
 use Rattle.lmn_base.specs.Names.{IsNames, NamesPlain, level_names, rule_names}
 use Rattle.lmn_base.specs.WellMade.{IsWellMade}
-use Rattle.lmn_bridge.specs.HeapRegions.{Reading}
+use Rattle.lmn_bridge.specs.HeapRegions.{HeapReading}
 use Rattle.lmn_bridge.specs.Premises.{IsRule, HasTypes}
-use Rattle.lmn_compile_body.specs.Accepted.{IsWhole}
+use Rattle.lmn_compile_body.specs.Accepted.{IsCompilable}
 use Rattle.lmn_compile_head.specs.Heads.{kind_in}
 use Rattle.lmn_compile_head.specs.Tables.{HasFewLinks}
 use Rattle.lmn_congruence.proofs.Appended.{all_left, all_right}
 use Rattle.lmn_congruence.specs.Rules.{Name}
 use Rattle.lmn_guards.proofs.AcceptedLemmas.{in_order}
-use Rattle.lmn_guards.specs.Accepted.{IsAccepted}
+use Rattle.lmn_guards.specs.Accepted.{IsAcceptedRule}
 use Rattle.lmn_guards.specs.declared.plan.GuardPlan.{GuardPlan}
 use Rattle.lmn_guards.specs.Plans.{IsPlan}
 use Rattle.lmn_lexer.specs.Laying.{words_of}
 use Rattle.lmn_linkcheck.proofs.Tables.{rule_at}
 use Rattle.lmn_parser.proofs.Fitting.{trees_fit}
-use Rattle.lmn_plain.specs.Plains.{Each}
+use Rattle.lmn_plain.specs.Plains.{EachPair}
 use Rattle.lmn_reading.proofs.NamedPlains.{plains_are_named}
 use Rattle.lmn_reading.proofs.Readings.{well_made}
 use Rattle.lmn_reading.specs.Texts.{IsAcceptedAs, LeavesNames}
@@ -32,7 +32,7 @@ use Rattle.lmn_accepted.proofs.FewLinks.{RuleHasFew, few_links, top_few}
 use Rattle.lmn_accepted.proofs.PlanKinds.{at_index, plan_types}
 use Rattle.lmn_accepted.specs.Rules.{HasRule, AcceptedTexts}
 
-each_at : (rs : List RuleTree) (plans : List GuardPlan) (k : ℕ) (r : RuleTree) (plan : GuardPlan) → Each IsPlan rs plans → slice_get rs k ≡ Some r → slice_get plans k ≡ Some plan → IsPlan r plan
+each_at : (rs : List RuleTree) (plans : List GuardPlan) (k : ℕ) (r : RuleTree) (plan : GuardPlan) → EachPair IsPlan rs plans → slice_get rs k ≡ Some r → slice_get plans k ≡ Some plan → IsPlan r plan
 each_at [] [] zero r plan h e f = absurd (cc)
 each_at [] [] (suc k) r plan h e f = absurd (cc)
 each_at [] (q ∷ qs) k r plan h e f = absurd h
@@ -53,10 +53,10 @@ module _ (text : List ℕ) (names : List Name) (plain : Plain) (plans : List Gua
   made : IsWellMade plain
   made = well_made text names plain a.reads a.outside
 
-  accepted_at : (k : ℕ) (r : RuleTree) → slice_get plain.rules k ≡ Some r → IsAccepted plain.rules r
-  accepted_at k r e = at_index (IsAccepted plain.rules) plain.rules k r a.rules e
+  accepted_at : (k : ℕ) (r : RuleTree) → slice_get plain.rules k ≡ Some r → IsAcceptedRule plain.rules r
+  accepted_at k r e = at_index (IsAcceptedRule plain.rules) plain.rules k r a.rules e
 
-  whole : (k : ℕ) (r : RuleTree) (plan : GuardPlan) → HasRule plain plans k r plan → IsWhole plain.rules r plan
+  whole : (k : ℕ) (r : RuleTree) (plan : GuardPlan) → HasRule plain plans k r plan → IsCompilable plain.rules r plan
   whole k r plan h =
       let reads = a.reads in
       let words = words_of text reads.tokens in
@@ -83,7 +83,7 @@ module _ (text : List ℕ) (names : List Name) (plain : Plain) (plans : List Gua
       let order = in_order plain.rules r (accepted_at k r h.rule) in
       plan_types r plan (each_at plain.rules plans k r plan a.planned h.rule h.plan_is) order.has_type
 
-  is_rule : NamesPlain names plain → (reading : Reading) → reading.names ≡ names → (k : ℕ) (r : RuleTree) → slice_get plain.rules k ≡ Some r → IsRule reading r
+  is_rule : NamesPlain names plain → (reading : HeapReading) → reading.names ≡ names → (k : ℕ) (r : RuleTree) → slice_get plain.rules k ≡ Some r → IsRule reading r
   is_rule named reading same k r e =
       let P : List Name → Type 0 = λ names. NamesPlain names plain in
       let here = subst P (sym same) named in

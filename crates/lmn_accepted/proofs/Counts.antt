@@ -18,14 +18,11 @@ use Rattle.lmn_guards.specs.GuardCodes.{in_head}
 use Rattle.lmn_accepted.proofs.Listed.{times, times_both, some_of, alone}
 use Rattle.lmn_accepted.proofs.Items.{bare_name, typed_name, rule_context_name}
 use Rattle.lmn_accepted.proofs.Expressions.{typed_is}
-use Rattle.lmn_grammar.proofs.Theory.{or_true}
 use Rattle.lmn_accepted.proofs.Types.{left_used_there}
+use Rattle.lmn_base.proofs.Truth.{either_true as or_true}
+use Rattle.lmn_guards.proofs.AcceptedLemmas.{at_least_one as some_length}
 
 -- ---- counts
-
-some_length : (ps : List Pos) → is_some_place ps ≡ true → 1 ≤ length ps
-some_length [] e = absurd (cc)
-some_length (p ∷ ps) e = omega arith
 
 length_some : (ps : List Pos) → 1 ≤ length ps → is_some_place ps ≡ true
 length_some [] l = absurd (omega (arith, l))

@@ -1,22 +1,19 @@
 -- What is used in an expression.
-use Rattle.std.proofs.Common.{Box, Global, ℕ, zero, suc, ◌≡◌, ◌≤◌, ◌+◌, ◌⊎◌, inl, inr, ◌&&◌, ◌||◌, not, Bool, true, false, cond, List, [], ◌∷◌, ◌++◌, refl, sym, ap, subst, ◌∙◌, arith}
+use Rattle.std.proofs.Common.{Box, Global, ℕ, zero, suc, ◌≡◌, ◌≤◌, ◌+◌, ◌⊎◌, inl, inr, ◌||◌, true, cond, List, [], ◌∷◌, ◌++◌, refl, sym, ap, subst, ◌∙◌, arith}
 use Rattle.std.specs.Prelude.{ℤ}
 use Rattle.std.specs.List.{flat_map}
 use Rattle.std.proofs.lemmas.List.Concat.{flat_map-append}
 use Rattle.lmn_base.specs.declared.guard.Arith.{Arith}
 use Rattle.lmn_base.specs.declared.guard.Cond.{Cond}
 use Rattle.lmn_base.specs.declared.guard.Expr.{Expr}
-use Rattle.lmn_base.specs.declared.guard.Expr.TheOpen as step
 use Rattle.lmn_base.specs.declared.guard.Expr.TheVariants as expr
-use Rattle.lmn_base.specs.declared.guard.Expr.TheFolds.{fold-roll-Expr}
 use Rattle.lmn_base.specs.declared.item.Form.{Form}
 use Rattle.lmn_base.specs.declared.item.Form.TheVariants as form
 use Rattle.lmn_base.specs.declared.item.FormedUse.{FormedUse}
 use Rattle.lmn_base.specs.declared.item.Item.{Item}
 use Rattle.lmn_base.specs.declared.item.Item.TheVariants as item
-use Rattle.lmn_base.specs.declared.level.CtxUse.{CtxUse}
 use Rattle.lmn_base.specs.declared.level.Level.{Level}
-use Rattle.lmn_base.specs.Items.{used, expression_step, expression_items}
+use Rattle.lmn_base.specs.Items.{expression_items}
 use Rattle.lmn_base.specs.RuleCodes.{is_bare}
 use Rattle.lmn_adequacy.specs.Accepted.{UsedIn, here_used, left_used, right_used}
 use Rattle.lmn_congruence.specs.Rules as tree
@@ -26,12 +23,10 @@ use Rattle.lmn_guards.proofs.OrderLemmas.{none_offends, so_else}
 use Rattle.lmn_reduction.proofs.Values.{number_tree, context_tree, operation_tree}
 use Rattle.lmn_accepted.proofs.Listed.{times, times_both, times_here, some_of, alone, N}
 use Rattle.lmn_accepted.proofs.Items.{typed_name}
+use Rattle.lmn_base.proofs.Common.{operation_items}
+use Rattle.lmn_guards.proofs.WorkedGuards.{of_context as context_items, of_integer as number_items}
 
 -- ---- tests
-
-pub or_neither : (a b : Bool) → (a || b) ≡ false → (a ≡ false) × (b ≡ false)
-or_neither true b e = absurd (cc)
-or_neither false b e = (refl, e)
 
 -- ---- uses
 
@@ -57,18 +52,6 @@ module _ (head : Level) (before : List Cond) where
       subst (λ m. (in_head head m || is_bound head before m) ≡ true) u.3 (so_else (in_head head u.0.name || is_bound head before u.0.name) u.0.pos here)
 
 -- ---- expressions
-
-pub number_items : (z : ℤ) → expression_items (expr.Int z) ≡ []
-number_items z = ap expression_items (sym (expr.rolls-Int z)) ∙ fold-roll-Expr (List Item) expression_step (step.Int z)
-
-pub context_items : (u : CtxUse) → expression_items (expr.Ctx u) ≡ used form.Typed u ∷ []
-context_items u = ap expression_items (sym (expr.rolls-Ctx u)) ∙ fold-roll-Expr (List Item) expression_step (step.Ctx u)
-
-pub operation_items : (op : Arith) (p : Box (Unit {0}) Global) (left : Expr) (q : Box (Unit {0}) Global) (right : Expr) → expression_items (expr.Op' op p left q right) ≡ expression_items left ++ expression_items right
-operation_items op p left q right =
-    let l : Box Expr Global = record { value = left; ptr = p.ptr; alloc = p.alloc } in
-    let k : Box Expr Global = record { value = right; ptr = q.ptr; alloc = q.alloc } in
-    ap expression_items (sym (expr.rolls-Op op l k)) ∙ fold-roll-Expr (List Item) expression_step (step.Op op l k)
 
 abbrev pub used_names : Expr → List ℕ
 used_names e = flat_map typed_name (expression_items e)

@@ -27,11 +27,12 @@ use Rattle.lmn_congruence.specs.Translation.{expression_of, kind_of, condition_o
 use Rattle.lmn_guards.specs.GuardCodes.{in_head, is_bound, is_type, unknown, use_of_none, unbound, is_of_head, has_wrong_operands, wrong_operands, rows_of_conditions}
 use Rattle.lmn_guards.proofs.OrderLemmas.{not_then, so_else}
 use Rattle.lmn_reduction.proofs.Values.{context_tree}
-use Rattle.lmn_accepted.proofs.Listed.{times, times_both, times_here, times_later, N, Known, among_name, number_among}
+use Rattle.lmn_accepted.proofs.Listed.{times, times_both, times_here, times_later, N, among_name, number_among}
+use Rattle.lmn_reading.proofs.NamedPlains.{AllBelow}
 use Rattle.lmn_accepted.proofs.Items.{typed_name}
-use Rattle.lmn_accepted.proofs.Expressions.{or_neither, use_known, context_items, used_names, used_there}
-use Rattle.lmn_grammar.proofs.Theory.{or_true}
-use Rattle.lmn_lexer.proofs.Runs.{both_true}
+use Rattle.lmn_accepted.proofs.Expressions.{use_known, used_names, used_there}
+use Rattle.lmn_base.proofs.Truth.{and_true as both_true, either_true as or_true, neither_true as or_neither}
+use Rattle.lmn_guards.proofs.WorkedGuards.{of_context as context_items}
 
 -- ---- what earlier conditions bind
 
@@ -130,7 +131,7 @@ kind_tree names n u e = by (n == INT_NAME) (n == UNARY_NAME) (n == GROUND_NAME) 
     by false false true e = (tree.grounded, refl)
     by false false false e = absurd (cc)
 
-module _ (names : List tree.Name) (is : IsNames names) (head : Level) (ts : List ℕ) (known : Known names ts) (typed : (n : ℕ) → 1 ≤ times n ts → in_head head n ≡ true) where
+module _ (names : List tree.Name) (is : IsNames names) (head : Level) (ts : List ℕ) (known : AllBelow names ts) (typed : (n : ℕ) → 1 ≤ times n ts → in_head head n ≡ true) where
   -- what is used in a guard is a typed context, where it stands in the head
   abbrev pub Typed : List Item → Type 0
   Typed xs = (n : ℕ) → 1 ≤ times n (flat_map typed_name xs) → in_head head n ≡ true → 1 ≤ times n ts
@@ -153,8 +154,8 @@ module _ (names : List tree.Name) (is : IsNames names) (head : Level) (ts : List
   one_use u more = let e = times_here u.name (flat_map typed_name more) in omega (arith, e)
 
   -- the guard's conditions, behind those that are before
-  in_turn : (before cs : List Cond) (bs : List ℕ) → Known names bs → Binds head before bs → NoneApplies (rows_of_conditions head before cs) → Typed (guard_items cs)
-      → AllByRecursion (λ c. Known names (condition_names c)) cs → InTurn (map (N names) ts) (map (N names) bs) (map (condition_of names) cs)
+  in_turn : (before cs : List Cond) (bs : List ℕ) → AllBelow names bs → Binds head before bs → NoneApplies (rows_of_conditions head before cs) → Typed (guard_items cs)
+      → AllByRecursion (λ c. AllBelow names (condition_names c)) cs → InTurn (map (N names) ts) (map (N names) bs) (map (condition_of names) cs)
   in_turn before [] bs kb b rows t kc = all_asked
   in_turn before (Kind n args pos ∷ cs) bs kb b rows t kc =
       by args (both_true (is_type n) (length args == 1) (so_else (is_type n && (length args == 1)) pos r.0)) r.1 (typed_left (condition_items (Kind n args pos)) (guard_items cs) t)
@@ -236,7 +237,7 @@ module _ (names : List tree.Name) (is : IsNames names) (head : Level) (ts : List
       so false e = absurd (cc)
 
       by : (x : Bool) → in_head head left.name ≡ x → ((x && not (is_of_head head right)) ≡ false) × (is_bound head before left.name ≡ false)
-          → ((bs : List ℕ) → Known names bs → Binds head (before ++ Equal left right pos ∷ []) bs → InTurn (map (N names) ts) (map (N names) bs) (map (condition_of names) cs))
+          → ((bs : List ℕ) → AllBelow names bs → Binds head (before ++ Equal left right pos ∷ []) bs → InTurn (map (N names) ts) (map (N names) bs) (map (condition_of names) cs))
           → InTurn (map (N names) ts) (map (N names) bs) (tree.equates (N names left.name) (expression_of names right) ∷ map (condition_of names) cs)
       by true there w again =
           compared there right (so (is_of_head head right) w.0) (typed_right (used form.Typed left ∷ []) (expression_items right) here)
@@ -278,7 +279,7 @@ module _ (names : List tree.Name) (is : IsNames names) (head : Level) (ts : List
           on false y e h = absurd (let clash : true ≡ false = sym h ∙ e in cc)
 
   -- the whole guard
-  pub guard_in_turn : (cs : List Cond) → NoneApplies (rows_of_conditions head [] cs) → Typed (guard_items cs) → AllByRecursion (λ c. Known names (condition_names c)) cs → InTurn (map (N names) ts) [] (map (condition_of names) cs)
+  pub guard_in_turn : (cs : List Cond) → NoneApplies (rows_of_conditions head [] cs) → Typed (guard_items cs) → AllByRecursion (λ c. AllBelow names (condition_names c)) cs → InTurn (map (N names) ts) [] (map (condition_of names) cs)
   guard_in_turn cs rows t kc = in_turn [] cs [] tt (record { into = λ n e. absurd (nothing n e); back = λ n h. absurd (omega (arith, h)) }) rows t kc
     where
       nothing : (n : ℕ) → is_bound head [] n ≡ true → ⊥

@@ -4,11 +4,11 @@ use Rattle.std.specs.List.{AllByRecursion, flat_map}
 use Rattle.std.proofs.lemmas.Bool.{eq-eqb, eqb-true}
 use Rattle.lmn_base.specs.declared.functor.Label.TheVariants.{Name as ByName}
 use Rattle.lmn_base.specs.Names.{HasNames, IsNames}
-use Rattle.lmn_adequacy.specs.Accepted.{EachOnce}
 use Rattle.lmn_congruence.proofs.TranslatedNames.{labels_apart}
-use Rattle.lmn_congruence.specs.Orders.{Among, at_head, further, Put, here, there, Shuffle, none, more}
+use Rattle.lmn_congruence.specs.Orders.{Among, at_head, further, Put, here, there, Shuffle, none, more, EachOnce}
 use Rattle.lmn_congruence.specs.Rules as tree
 use Rattle.lmn_congruence.specs.Translation.{name_of}
+use Rattle.lmn_reading.proofs.NamedPlains.{AllBelow}
 
 -- ---- all
 
@@ -91,11 +91,7 @@ module _ (names : List tree.Name) where
           let r = rest (subst (λ zs. Among p zs) tail j) in
           (r.0, (let l = times_later r.0 x xs in let h = r.1 in omega (arith, l, h)), r.2)
 
-  -- the numbers of a list of names
-  abbrev pub Known : List ℕ → Type 0
-  Known xs = AllByRecursion (λ n. n < length names) xs
-
-  pub known_one : (xs : List ℕ) (n : ℕ) → Known xs → 1 ≤ times n xs → n < length names
+  pub known_one : (xs : List ℕ) (n : ℕ) → AllBelow names xs → 1 ≤ times n xs → n < length names
   known_one [] n k h = absurd (omega (arith, h))
   known_one (x ∷ xs) n k h = by (x == n) refl h (λ l. known_one xs n k.1 l)
     where
@@ -114,13 +110,13 @@ module _ (names : List tree.Name) where
         both (suc (suc k)) d l = absurd (omega (arith, l))
 
     -- and stands in a list of names where its number does
-    pub number_among : (n : ℕ) (xs : List ℕ) → n < length names → Known xs → Among (N n) (map N xs) → 1 ≤ times n xs
+    pub number_among : (n : ℕ) (xs : List ℕ) → n < length names → AllBelow names xs → Among (N n) (map N xs) → 1 ≤ times n xs
     number_among n xs l k a =
         let found = name_among (N n) xs a in
         let same = one_number found.0 n (known_one xs found.0 k found.1) l found.2 in
         subst (λ m. 1 ≤ times m xs) same found.1
 
-    pub each_once : (xs : List ℕ) → Known xs → ((n : ℕ) → times n xs ≤ 1) → EachOnce (map N xs)
+    pub each_once : (xs : List ℕ) → AllBelow names xs → ((n : ℕ) → times n xs ≤ 1) → EachOnce (map N xs)
     each_once [] k h = tt
     each_once (x ∷ xs) k h = (
       λ a. (let again = number_among x xs k.0 k.1 a in let e = times_here x xs in let few = h x in omega (arith, again, e, few)),

@@ -2,13 +2,12 @@
 use Rattle.std.proofs.Common.{◌≡◌, ℕ, zero, suc, ◌<◌, ◌==◌, Bool, true, false, if◌then◌else◌, List, [], ◌∷◌, ◌++◌, length, slice_index_or, refl, sym, ap, ◌∙◌, Decides, arith}
 use Rattle.std.specs.Prelude.{codes}
 use Rattle.std.specs.Str.{bytes_eq}
-use Rattle.std.proofs.lemmas.Bool.Decides.{nat_tests}
 use Rattle.std.proofs.lemmas.Slice.Eq.{bytes_eq-Decides}
 use Rattle.lmn_base.specs.declared.functor.TheConstants.{INT_NAME, UNARY_NAME, GROUND_NAME}
 use Rattle.lmn_base.specs.declared.functor.Label.TheVariants.{Name}
 use Rattle.lmn_base.specs.Names.{first_names, IsNames}
 use Rattle.lmn_congruence.specs.Rules as tree
-use Rattle.lmn_congruence.specs.Translation.{name_of, atom_of}
+use Rattle.lmn_congruence.specs.Translation.{name_of, atom_or_connector}
 use Rattle.lmn_plain.specs.Plains.{number_of}
 use Rattle.std.proofs.lemmas.Bool.{eq-eqb, eqb-true}
 
@@ -60,7 +59,7 @@ same_tests a b k f g = go (a == k) (b == k) refl refl
     go false false d e = refl
 
 same_atom : (names others : List tree.Name) (a b : ℕ) → name_of names a ≡ name_of others b → (a ≡ 0 → b ≡ 0) → (b ≡ 0 → a ≡ 0) → (xs : List ℕ)
-    → atom_of names (Name a) xs ≡ atom_of others (Name b) xs
+    → atom_or_connector names (Name a) xs ≡ atom_or_connector others (Name b) xs
 same_atom names others zero zero e f g [] = ap (λ n. tree.atom_leaf (tree.named n) []) e
 same_atom names others zero zero e f g (x ∷ []) = ap (λ n. tree.atom_leaf (tree.named n) (x ∷ [])) e
 same_atom names others zero zero e f g (x ∷ y ∷ []) = refl
@@ -96,5 +95,5 @@ module _ (names others : List tree.Name) (is : IsNames names) (are : IsNames oth
   ground_same = test_same GROUND_NAME (codes "ground") ground_fixed
 
   -- and an atom with this name is one
-  pub atom_same : (xs : List ℕ) → atom_of names (Name (number_of names n)) xs ≡ atom_of others (Name (number_of others n)) xs
+  pub atom_same : (xs : List ℕ) → atom_or_connector names (Name (number_of names n)) xs ≡ atom_or_connector others (Name (number_of others n)) xs
   atom_same = same_atom names others (number_of names n) (number_of others n) name_same (fixed_there 0 (codes "=") connector_fixed) (fixed_here 0 (codes "=") connector_fixed)

@@ -3,7 +3,6 @@ use Rattle.std.proofs.Common.{ℕ, zero, suc, ◌≡◌, ◌≤◌, ◌+◌, ◌
 use Rattle.std.specs.Prelude.{slice_get, if◌then◌else◌}
 use Rattle.std.specs.List.{flat_map, AllByRecursion}
 use Rattle.std.proofs.lemmas.Bool.{eqb-true}
-use Rattle.std.proofs.lemmas.List.{append_assoc}
 use Rattle.std.proofs.lemmas.List.Concat.{flat_map-append}
 use Rattle.std.proofs.lemmas.Option.{same_Some}
 use Rattle.lmn_base.specs.declared.guard.Cond.{Cond}
@@ -23,10 +22,11 @@ use Rattle.lmn_guards.specs.GuardCodes.{type_of}
 use Rattle.lmn_guards.specs.Plans.{IsPlan, with_type, typed_use, numbered_uses}
 use Rattle.lmn_solid.specs.declared.items.HeadItem.{HeadItem}
 use Rattle.lmn_solid.specs.Flattening.{leaf_items}
-use Rattle.lmn_solid.specs.Heads.{HeadTyped, typed_of, typed_contexts_of}
+use Rattle.lmn_solid.specs.Heads.{HeadTyped, typed_contexts_of}
 use Rattle.lmn_solid.proofs.HeadTrees.{Head, Heads, head, no_head, head_and, head_at, size, flat_items, flat_membranes, items_flat, head_leaves, heads_leaves, same_leaves, head_membranes, heads_membranes, same_membranes}
 use Rattle.lmn_accepted.proofs.Listed.{all_so, each_so, times, times_here, times_later}
-use Rattle.lmn_plain.proofs.AllLemmas.{all_append, all_front, all_back}
+use Rattle.lmn_base.proofs.Lists.{all_append, all_left as all_front, all_right as all_back}
+use Rattle.lmn_bridge.proofs.TypeConditions.{typed_more}
 
 -- the name of a typed leaf
 abbrev pub leaf_name : Leaf → List ℕ
@@ -111,10 +111,6 @@ mutual
       ∙ sym (flat_map-append leaf_name (head_leaves h) (heads_leaves hs))
 
 -- ---- the typed contexts among the items
-
-typed_more : (xs ys : List HeadItem) → typed_contexts_of (xs ++ ys) ≡ typed_contexts_of xs ++ typed_contexts_of ys
-typed_more [] ys = refl
-typed_more (x ∷ xs) ys = ap (λ ts. typed_of x ++ ts) (typed_more xs ys) ∙ sym (append_assoc (typed_of x) (typed_contexts_of xs) (typed_contexts_of ys))
 
 module _ (kind : ℕ → TypeKind) (names : List ℕ) where
   -- it is of its kind, and its name is one of these

@@ -10,13 +10,13 @@ use Rattle.lmn_base.specs.Names as base
 use Rattle.lmn_base.specs.Names.{IsNames, context_names, expression_names, condition_names}
 use Rattle.lmn_congruence.specs.Rules as tree
 use Rattle.lmn_congruence.specs.Translation.{name_of, names_of, operator_of, comparison_of, expression_step, expression_of, kind_of, condition_of}
-use Rattle.lmn_plain.proofs.AllLemmas.{all_front, all_back}
 use Rattle.lmn_lexer.specs.Laying.{Word}
 use Rattle.lmn_parser.specs.Syntax as syntax
 use Rattle.lmn_plain.specs.Meanings.{name_at}
-use Rattle.lmn_plain.specs.Plains.{number_of, Each, context_use, IsExpr, IsCond}
+use Rattle.lmn_plain.specs.Plains.{number_of, EachPair, context_use, IsExpr, IsCond}
 use Rattle.lmn_accepted.proofs.NumbersBack.{Numbered, name_same, int_same, unary_same, ground_same}
-use Rattle.lmn_accepted.proofs.HeldLevels.{AllBelow}
+use Rattle.lmn_reading.proofs.NamedPlains.{AllBelow}
+use Rattle.lmn_base.proofs.Lists.{all_left as all_front, all_right as all_back}
 
 -- a condition with one context, where it is known which of the fixed names it has
 abbrev kind_tree : tree.Name → tree.Name → Bool → Bool → Bool → tree.Condition
@@ -34,13 +34,13 @@ module _ (words : List Word) (places : List Pos) (names others : List tree.Name)
       ap (expression_of names) h ∙ fold-roll-Expr tree.Expression (expression_step names) _ ∙ sym (fold-roll-Expr tree.Expression (expression_step others) _)
       ∙ sym (ap (expression_of others) g)
   expression_same (syntax.value p) a b h g u v =
-      let here = subst (AllBelow names) (ap expression_names h ∙ fold-roll-Expr (List ℕ) base.expression_step _) u in
-      let there = subst (AllBelow others) (ap expression_names g ∙ fold-roll-Expr (List ℕ) base.expression_step _) v in
+      let here = subst (AllBelow names) (ap expression_names h ∙ fold-roll-Expr (List ℕ) base.expression_names_step _) u in
+      let there = subst (AllBelow others) (ap expression_names g ∙ fold-roll-Expr (List ℕ) base.expression_names_step _) v in
       ap (expression_of names) h ∙ fold-roll-Expr tree.Expression (expression_step names) _ ∙ ap tree.value_of (token_same p here.0 there.0)
       ∙ sym (fold-roll-Expr tree.Expression (expression_step others) _) ∙ sym (ap (expression_of others) g)
   expression_same (syntax.operation op l r) a b (la, ra, h, hl, hr) (lb, rb, g, gl, gr) u v =
-      let here = subst (AllBelow names) (ap expression_names h ∙ fold-roll-Expr (List ℕ) base.expression_step (step.Op op la ra)) u in
-      let there = subst (AllBelow others) (ap expression_names g ∙ fold-roll-Expr (List ℕ) base.expression_step (step.Op op lb rb)) v in
+      let here = subst (AllBelow names) (ap expression_names h ∙ fold-roll-Expr (List ℕ) base.expression_names_step (step.Op op la ra)) u in
+      let there = subst (AllBelow others) (ap expression_names g ∙ fold-roll-Expr (List ℕ) base.expression_names_step (step.Op op lb rb)) v in
       let P : ℕ → Type 0 = λ n. n < length names in
       let Q : ℕ → Type 0 = λ n. n < length others in
       let left = expression_same l la.value lb.value hl gl (all_front P (expression_names la.value) (expression_names ra.value) here)
@@ -70,7 +70,7 @@ module _ (words : List Word) (places : List Pos) (names others : List tree.Name)
   kind_same n (p ∷ q ∷ ps) h k u v =
       let name = name_same names others is are n h k in let arguments = arguments_same (p ∷ q ∷ ps) u v in λ i. tree.unknown (name i) (arguments i)
 
-  condition_same : (x : syntax.Condition) (a b : Cond) → IsCond words places names x a → IsCond words places others x b → AllBelow names (condition_names a)
+  condition_same : (x : syntax.WrittenCondition) (a b : Cond) → IsCond words places names x a → IsCond words places others x b → AllBelow names (condition_names a)
       → AllBelow others (condition_names b) → condition_of names a ≡ condition_of others b
   condition_same (syntax.called p ps) a b h g u v =
       let here = subst (λ c. AllBelow names (condition_names c)) h u in
@@ -99,7 +99,7 @@ module _ (words : List Word) (places : List Pos) (names others : List tree.Name)
       let right = token_same q more.0 behind.0 in
       ap (condition_of names) h ∙ (λ i. tree.differs (left i) (right i)) ∙ sym (ap (condition_of others) g)
 
-  pub guard_same : (xs : List syntax.Condition) (as_ bs : List Cond) → Each (IsCond words places names) xs as_ → Each (IsCond words places others) xs bs
+  pub guard_same : (xs : List syntax.WrittenCondition) (as_ bs : List Cond) → EachPair (IsCond words places names) xs as_ → EachPair (IsCond words places others) xs bs
       → AllBelow names (flat_map condition_names as_) → AllBelow others (flat_map condition_names bs) → map (condition_of names) as_ ≡ map (condition_of others) bs
   guard_same [] [] [] h g u v = refl
   guard_same [] [] (b ∷ bs) h g u v = absurd g

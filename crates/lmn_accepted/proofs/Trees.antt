@@ -1,5 +1,5 @@
 -- Levels as trees of the calculus: the contexts, links and rules that stand in them, by the items of the level.
-use Rattle.std.proofs.Common.{ℕ, zero, suc, ◌≡◌, List, [], ◌∷◌, ◌++◌, map, length, refl, sym, ap, subst, ◌∙◌}
+use Rattle.std.proofs.Common.{ℕ, zero, suc, ◌≡◌, List, [], ◌∷◌, ◌++◌, map, length, refl, sym, ap, ◌∙◌}
 use Rattle.std.specs.List.{AllByRecursion, flat_map}
 use Rattle.std.proofs.lemmas.List.{length-map, map-append}
 use Rattle.std.proofs.lemmas.List.Concat.{flat_map-append}
@@ -10,44 +10,19 @@ use Rattle.lmn_base.specs.declared.level.CtxUse.{CtxUse}
 use Rattle.lmn_base.specs.declared.level.Leaf.{Leaf}
 use Rattle.lmn_base.specs.declared.level.Leaf.TheVariants as leaf
 use Rattle.lmn_base.specs.declared.level.Level.{Level}
-use Rattle.lmn_base.specs.declared.level.Level.TheFolds.{fold-roll-Level, ind-Level}
 use Rattle.lmn_base.specs.Items.{leaf_item}
 use Rattle.lmn_base.specs.RuleCodes.{behind_the_first}
 use Rattle.lmn_base.specs.Solids.{connector}
-use Rattle.lmn_adequacy.specs.Accepted.{EachLevel, EachOf, NoConnectorLeaf, AtMostOne, leaves_of, own_contexts, own_rule_contexts, own_rules, all_contexts, contexts_in, all_rule_contexts, rule_contexts_in, typed_links_of, typed_links, typed_links_in, port_links_of, port_links, port_links_in}
+use Rattle.lmn_adequacy.specs.Accepted.{EachLevel, EachOf, NoConnectorLeaf, AtMostOne, own_leaves, own_contexts, own_rule_contexts, own_rules, all_contexts, contexts_in, all_rule_contexts, rule_contexts_in, typed_links_of, typed_links, typed_links_in, port_links_of, port_links, port_links_in}
 use Rattle.lmn_congruence.specs.Rules as tree
-use Rattle.lmn_congruence.specs.Translation.{atom_of, leaf_of, names_of, levels, rules, level_step, level_of}
-use Rattle.lmn_reduction.specs.Firing.{typed_leaves, typed_contexts, typed_contexts_of}
-use Rattle.lmn_solid.proofs.HeadTrees.{Head, Heads, head, no_head, head_and, heads, head_step, head_at, head_leaves, heads_leaves, head_uses, heads_uses}
+use Rattle.lmn_congruence.specs.Translation.{atom_or_connector, leaf_of, names_of, rules}
+use Rattle.lmn_reduction.specs.Firing.{typed_leaves, typed_contexts, typed_contexts_in}
+use Rattle.lmn_solid.proofs.HeadTrees.{Head, Heads, head, no_head, head_and, head_leaves, heads_leaves, head_uses, heads_uses}
 use Rattle.lmn_accepted.proofs.Listed.{N}
-use Rattle.lmn_plain.proofs.AllLemmas.{all_front, all_back}
 use Rattle.lmn_accepted.proofs.Items.{bare_name, typed_name, rule_context_name, rule_number, gathered, gathered_in, own_seconds, bare_own, rule_context_own, typed_own, rule_own}
 use Rattle.lmn_reading.proofs.Levels.{two_empty}
-
--- ---- a level as a tree
-
-abbrev mutual
-  pub tree_of : List tree.Name → (ℕ → tree.Rule) → Head → tree.Level
-  tree_of names rule (head leaves membranes contexts rule_contexts rs) =
-      tree.level (map (leaf_of names) leaves) (trees_of names rule membranes)
-      (names_of names contexts) (names_of names rule_contexts) (rules (map rule rs))
-
-  pub trees_of : List tree.Name → (ℕ → tree.Rule) → Heads → tree.Levels
-  trees_of names rule no_head = tree.no_level
-  trees_of names rule (head_and h hs) = tree.level_and (tree_of names rule h) (trees_of names rule hs)
-
-module _ (names : List tree.Name) (rule : ℕ → tree.Rule) where
-  abbrev AsTree : Level → Type 0
-  AsTree l = level_of names rule l ≡ tree_of names rule (head_at l)
-
-  inside_trees : (ls : List ((l : Level) × AsTree l)) → levels (map (level_of names rule) (map (λ e. e.0) ls)) ≡ trees_of names rule (heads (map head_at (map (λ e. e.0) ls)))
-  inside_trees [] = refl
-  inside_trees (e ∷ ls) = λ i. tree.level_and (e.1 i) (inside_trees ls i)
-
-  pub level_tree : (l : Level) → AsTree l
-  level_tree = ind-Level AsTree (λ y z is.
-      let inside = subst (λ l. levels (map (level_of names rule) l.membranes) ≡ trees_of names rule (heads (map head_at l.membranes))) is (inside_trees z.membranes) in
-      rw (fold-roll-Level tree.Level (level_step names rule) y, fold-roll-Level Head head_step y, inside) refl)
+use Rattle.lmn_base.proofs.Lists.{all_left as all_front, all_right as all_back}
+use Rattle.lmn_bridge.proofs.HeadTrees.{tree_of, trees_of}
 
 -- ---- of the tree
 
@@ -80,7 +55,7 @@ module _ (names : List tree.Name) (rule : ℕ → tree.Rule) where
         (λ i. rule_contexts_named h i ++ all_rule_contexts_named hs i) ∙ sym (map-append (N names) (flat_map rule_context_name (head_uses h)) (flat_map rule_context_name (heads_uses hs)))
         ∙ sym (ap (map (N names)) (flat_map-append rule_context_name (head_uses h) (heads_uses hs)))
 
-  atom_skipped : (l : Label) (xs : List ℕ) (ls : List tree.Leaf) → typed_leaves (atom_of names l xs ∷ ls) ≡ typed_leaves ls
+  atom_skipped : (l : Label) (xs : List ℕ) (ls : List tree.Leaf) → typed_leaves (atom_or_connector names l xs ∷ ls) ≡ typed_leaves ls
   atom_skipped (Name zero) [] ls = refl
   atom_skipped (Name zero) (x ∷ []) ls = refl
   atom_skipped (Name zero) (x ∷ (y ∷ [])) ls = refl
@@ -99,7 +74,7 @@ module _ (names : List tree.Name) (rule : ℕ → tree.Rule) where
         (λ i. leaves_named ls i ++ all_typed_named hs i) ∙ sym (map-append (N names) (flat_map typed_name (map leaf_item ls)) (flat_map typed_name (heads_uses hs)))
         ∙ sym (ap (map (N names)) (typed_own ls cs os rs (heads_uses hs)))
 
-    all_typed_named : (hs : Heads) → typed_contexts_of (trees_of names rule hs) ≡ map (N names) (flat_map typed_name (heads_uses hs))
+    all_typed_named : (hs : Heads) → typed_contexts_in (trees_of names rule hs) ≡ map (N names) (flat_map typed_name (heads_uses hs))
     all_typed_named no_head = refl
     all_typed_named (head_and h hs) =
         (λ i. typed_named h i ++ all_typed_named hs i) ∙ sym (map-append (N names) (flat_map typed_name (head_uses h)) (flat_map typed_name (heads_uses hs)))
@@ -131,11 +106,11 @@ module _ (names : List tree.Name) (rule : ℕ → tree.Rule) where
 
   -- such an atom is no connector of the calculus
   plain_atom : (f : Functor) (xs : List ℕ) (ls : List tree.Leaf) → length xs ≡ f.arity → ¬ (f ≡ connector)
-      → (NoConnectorLeaf ls → NoConnectorLeaf (atom_of names f.label xs ∷ ls)) × (port_links_of (atom_of names f.label xs ∷ ls) ≡ xs ++ port_links_of ls) × (typed_links_of (atom_of names f.label xs ∷ ls) ≡ typed_links_of ls)
+      → (NoConnectorLeaf ls → NoConnectorLeaf (atom_or_connector names f.label xs ∷ ls)) × (port_links_of (atom_or_connector names f.label xs ∷ ls) ≡ xs ++ port_links_of ls) × (typed_links_of (atom_or_connector names f.label xs ∷ ls) ≡ typed_links_of ls)
   plain_atom f xs ls e other = by f.label refl xs e
     where
       by : (l : Label) → f.label ≡ l → (ys : List ℕ) → length ys ≡ f.arity
-          → (NoConnectorLeaf ls → NoConnectorLeaf (atom_of names l ys ∷ ls)) × (port_links_of (atom_of names l ys ∷ ls) ≡ ys ++ port_links_of ls) × (typed_links_of (atom_of names l ys ∷ ls) ≡ typed_links_of ls)
+          → (NoConnectorLeaf ls → NoConnectorLeaf (atom_or_connector names l ys ∷ ls)) × (port_links_of (atom_or_connector names l ys ∷ ls) ≡ ys ++ port_links_of ls) × (typed_links_of (atom_or_connector names l ys ∷ ls) ≡ typed_links_of ls)
       by (Name zero) q [] e = (λ k. k, refl, refl)
       by (Name zero) q (x ∷ []) e = (λ k. k, refl, refl)
       by (Name zero) q (x ∷ (y ∷ [])) e = absurd (other (λ i. record { label = q i; arity = sym e i }))
@@ -169,12 +144,12 @@ module _ (names : List tree.Name) (rule : ℕ → tree.Rule) where
       record { no_connector = rest.no_connector; typed = ap (λ xs. o.link ∷ xs) rest.typed; ports = rest.ports }
 
   pub record LevelIs (h : Head) : Type 0 where
-    pub no_connectors : EachLevel (λ l. NoConnectorLeaf (leaves_of l)) (tree_of names rule h)
+    pub no_connectors : EachLevel (λ l. NoConnectorLeaf (own_leaves l)) (tree_of names rule h)
     pub typed : typed_links (tree_of names rule h) ≡ flat_map typed_link (head_leaves h)
     pub ports : port_links (tree_of names rule h) ≡ flat_map atom_links (head_leaves h)
 
   record LevelsAre (hs : Heads) : Type 0 where
-    no_connectors : EachOf (λ l. NoConnectorLeaf (leaves_of l)) (trees_of names rule hs)
+    no_connectors : EachOf (λ l. NoConnectorLeaf (own_leaves l)) (trees_of names rule hs)
     typed : typed_links_in (trees_of names rule hs) ≡ flat_map typed_link (heads_leaves hs)
     ports : port_links_in (trees_of names rule hs) ≡ flat_map atom_links (heads_leaves hs)
 

@@ -26,12 +26,13 @@ use Rattle.lmn_guards.specs.declared.plan.TypeKind.TheVariants as kind
 use Rattle.lmn_guards.specs.GuardCodes.{in_head, is_type, unknown, asks, type_of, type_name, rows_of_conditions}
 use Rattle.lmn_guards.proofs.OrderLemmas.{so_else}
 use Rattle.lmn_accepted.proofs.Listed.{times, times_both, alone, N}
-use Rattle.lmn_plain.proofs.AllLemmas.{all_append}
 use Rattle.lmn_accepted.proofs.Items.{typed_name}
-use Rattle.lmn_accepted.proofs.Expressions.{number_items, context_items, operation_items, used_names, in_either, there_used}
-use Rattle.lmn_grammar.proofs.Theory.{or_true}
-use Rattle.lmn_lexer.proofs.Runs.{both_true}
+use Rattle.lmn_accepted.proofs.Expressions.{used_names, in_either, there_used}
 use Rattle.lmn_accepted.proofs.InTurns.{rows_apart, kind_tree}
+use Rattle.lmn_base.proofs.Common.{operation_items}
+use Rattle.lmn_base.proofs.Lists.{all_append}
+use Rattle.lmn_base.proofs.Truth.{and_true as both_true, either_true as or_true}
+use Rattle.lmn_guards.proofs.WorkedGuards.{of_context as context_items, of_integer as number_items}
 
 -- ---- types and left sides
 

@@ -10,8 +10,8 @@ use Rattle.lmn_congruence.specs.Rules.{Name}
 use Rattle.lmn_guards.specs.declared.plan.GuardPlan.{GuardPlan}
 use Rattle.lmn_compile_head.specs.Heads.{kind_in}
 use Rattle.lmn_compile_head.specs.Tables.{HasFewLinks}
-use Rattle.lmn_compile_body.specs.Accepted.{IsWhole}
-use Rattle.lmn_bridge.specs.HeapRegions.{Reading}
+use Rattle.lmn_compile_body.specs.Accepted.{IsCompilable}
+use Rattle.lmn_bridge.specs.HeapRegions.{HeapReading}
 use Rattle.lmn_bridge.specs.Premises.{IsRule, HasTypes}
 use Rattle.lmn_reading.specs.Texts.{IsAcceptedAs, LeavesNames}
 
@@ -32,14 +32,14 @@ pub record AcceptedTexts : Type 0 where
   pub made : (text : List ℕ) (names : List Name) (plain : Plain) (plans : List GuardPlan) → IsAcceptedAs text names plain plans → IsWellMade plain
   pub few : (text : List ℕ) (names : List Name) (plain : Plain) (plans : List GuardPlan) → IsAcceptedAs text names plain plans → AllByRecursion HasFewLinks (leaves_of plain.top)
   pub whole : (text : List ℕ) (names : List Name) (plain : Plain) (plans : List GuardPlan) → IsAcceptedAs text names plain plans →
-      (k : ℕ) (r : RuleTree) (plan : GuardPlan) → HasRule plain plans k r plan → IsWhole plain.rules r plan
+      (k : ℕ) (r : RuleTree) (plan : GuardPlan) → HasRule plain plans k r plan → IsCompilable plain.rules r plan
   pub types : (text : List ℕ) (names : List Name) (plain : Plain) (plans : List GuardPlan) → IsAcceptedAs text names plain plans →
       (k : ℕ) (r : RuleTree) (plan : GuardPlan) → HasRule plain plans k r plan → HasTypes (kind_in plan.kinds) r
   pub named : (text : List ℕ) (before names : List Name) (plain : Plain) (plans : List GuardPlan) → IsNames before → LeavesNames text before names →
       IsAcceptedAs text names plain plans → NamesPlain names plain
   pub tree : (text : List ℕ) (before names : List Name) (plain : Plain) (plans : List GuardPlan) → IsNames before → LeavesNames text before names →
-      IsAcceptedAs text names plain plans → (reading : Reading) → reading.names ≡ names →
+      IsAcceptedAs text names plain plans → (reading : HeapReading) → reading.names ≡ names →
       (k : ℕ) (r : RuleTree) → slice_get plain.rules k ≡ Some r → IsRule reading r
   pub tree_by_names : (text : List ℕ) (names : List Name) (plain : Plain) (plans : List GuardPlan) → IsAcceptedAs text names plain plans →
-      NamesPlain names plain → (reading : Reading) → reading.names ≡ names →
+      NamesPlain names plain → (reading : HeapReading) → reading.names ≡ names →
       (k : ℕ) (r : RuleTree) → slice_get plain.rules k ≡ Some r → IsRule reading r

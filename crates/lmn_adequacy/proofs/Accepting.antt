@@ -5,14 +5,14 @@ use Rattle.lmn_congruence.specs.Orders.{Among, at_head, further}
 use Rattle.lmn_congruence.specs.Process.{atom}
 use Rattle.lmn_congruence.specs.Rules.{Condition, Expression, Kind, Label, Leaf, Level, Levels, Name, Rule, atom_leaf, connector_leaf, grounded, guard_of, head_of, int, integer, level, level_and, no_level, no_rule, typed_leaf, unary}
 use Rattle.lmn_reduction.specs.Assignments.{Assignment}
-use Rattle.lmn_reduction.specs.Firing.{typed_contexts, typed_contexts_of, typed_leaves}
+use Rattle.lmn_reduction.specs.Firing.{typed_contexts, typed_contexts_in, typed_leaves}
 use Rattle.lmn_reduction.specs.Guards.{GuardHolds, Holds, IsOfKind, alike, binds, condition_and, in_order, of_kind, unlike}
-use Rattle.lmn_reduction.specs.Parts.{IsGround, IsInteger, IsUnary, Reached, Rooted, an_integer, one_atom, the_root}
+use Rattle.lmn_reduction.specs.Parts.{IsGround, IsInteger, IsUnary, ReachesLink, Rooted, an_integer, one_atom, the_root}
 use Rattle.lmn_guards.specs.Values.{of_context, of_operation}
 use Rattle.lmn_reduction.specs.Values.{Value}
-use Rattle.lmn_adequacy.specs.Accepted.{Accepted, EachLevel, EachOf, GivesType, NoConnectorLeaf, UsedIn, by_difference_left, by_difference_right, by_equality, by_kind, by_left, by_right, by_value, here_used, leaves_of, left_used, membranes_of, own_contexts, own_rule_contexts, own_rules, right_used}
+use Rattle.lmn_adequacy.specs.Accepted.{Accepted, EachLevel, EachOf, GivesType, NoConnectorLeaf, UsedIn, by_difference_left, by_difference_right, by_equality, by_kind, by_left, by_right, by_value, here_used, own_leaves, left_used, own_membranes, own_contexts, own_rule_contexts, own_rules, right_used}
 use Rattle.lmn_adequacy.proofs.Heads.{Bare, HeadAllowed, HeadLeaves, HeadLevel, HeadLevels}
-use Rattle.lmn_adequacy.proofs.Orders.{among_left, among_right}
+use Rattle.lmn_congruence.proofs.Common.{among_left, among_right}
 
 -- ---- a context whose type the guard gives stands for a ground process
 
@@ -33,7 +33,7 @@ one_atom_ground a x = record {
     same_link : (y x : ℕ) → one_if_same y x + 0 ≡ 1 → y ≡ x
     same_link y x f = grind arith
 
-    at_it : {b : Label} {xs : List ℕ} → Among {A = Label × List ℕ} (b, xs) ((a, x ∷ []) ∷ []) → (y : ℕ) × (Among y xs) × Reached (atom_at a x) y
+    at_it : {b : Label} {xs : List ℕ} → Among {A = Label × List ℕ} (b, xs) ((a, x ∷ []) ∷ []) → (y : ℕ) × (Among y xs) × ReachesLink (atom_at a x) y
     at_it at_head = (x, at_head, the_root)
     at_it (further k) = elim k [ ]
 
@@ -80,18 +80,18 @@ head_leaves t (connector_leaf x y ∷ ls) n g = n
 head_leaves t (typed_leaf p x ∷ ls) n g = (g p at_head, head_leaves t ls n (λ q a. g q (further a)))
 
 mutual
-  head_level : (t : Assignment) (l : Level) → EachLevel (λ l. NoConnectorLeaf (leaves_of l)) l → ((p : Name) → Among p (typed_contexts l) → IsGround (t.typed_of p)) → HeadLevel t l
+  head_level : (t : Assignment) (l : Level) → EachLevel (λ l. NoConnectorLeaf (own_leaves l)) l → ((p : Name) → Among p (typed_contexts l) → IsGround (t.typed_of p)) → HeadLevel t l
   head_level t (level leaves membranes contexts rule_contexts rules) n g =
-      (head_leaves t leaves n.0 (λ p a. g p (among_left (typed_contexts_of membranes) a)), head_levels t membranes n.1 (λ p a. g p (among_right (typed_leaves leaves) a)))
+      (head_leaves t leaves n.0 (λ p a. g p (among_left (typed_contexts_in membranes) a)), head_levels t membranes n.1 (λ p a. g p (among_right (typed_leaves leaves) a)))
 
-  head_levels : (t : Assignment) (ls : Levels) → EachOf (λ l. NoConnectorLeaf (leaves_of l)) ls → ((p : Name) → Among p (typed_contexts_of ls) → IsGround (t.typed_of p)) → HeadLevels t ls
+  head_levels : (t : Assignment) (ls : Levels) → EachOf (λ l. NoConnectorLeaf (own_leaves l)) ls → ((p : Name) → Among p (typed_contexts_in ls) → IsGround (t.typed_of p)) → HeadLevels t ls
   head_levels t no_level n g = tt
-  head_levels t (level_and l ls) n g = (head_level t l n.0 (λ p a. g p (among_left (typed_contexts_of ls) a)), head_levels t ls n.1 (λ p a. g p (among_right (typed_contexts l) a)))
+  head_levels t (level_and l ls) n g = (head_level t l n.0 (λ p a. g p (among_left (typed_contexts_in ls) a)), head_levels t ls n.1 (λ p a. g p (among_right (typed_contexts l) a)))
 
 pub accepted_head : (r : Rule) → Accepted r → HeadAllowed r
 accepted_head r a t g = head_level t (head_of r) a.no_connectors (λ p k. typed_ground a t g p k)
 
-bare_level : (l : Level) → own_contexts l ≡ [] → own_rule_contexts l ≡ [] → own_rules l ≡ no_rule → l ≡ level (leaves_of l) (membranes_of l) [] [] no_rule
+bare_level : (l : Level) → own_contexts l ≡ [] → own_rule_contexts l ≡ [] → own_rules l ≡ no_rule → l ≡ level (own_leaves l) (own_membranes l) [] [] no_rule
 bare_level (level leaves membranes contexts rule_contexts rules) c d e = cc (c, d, e)
 
 first_rules : (l : Level) → EachLevel (λ l. own_rules l ≡ no_rule) l → own_rules l ≡ no_rule
@@ -99,7 +99,7 @@ first_rules (level leaves membranes contexts rule_contexts rules) e = e.0
 
 pub accepted_bare : (r : Rule) → Accepted r → Bare r
 accepted_bare r a = record {
-  leaves = leaves_of (head_of r);
-  membranes = membranes_of (head_of r);
+  leaves = own_leaves (head_of r);
+  membranes = own_membranes (head_of r);
   is = bare_level (head_of r) a.top_contexts a.top_rule_contexts (first_rules (head_of r) a.no_rules);
 }

@@ -15,10 +15,11 @@ use Rattle.lmn_congruence.proofs.Crossings.{occurs_below}
 use Rattle.lmn_congruence.proofs.Renaming.{occurrences_image, occurrences_none}
 use Rattle.lmn_adequacy.specs.Accepted.{all_contexts}
 use Rattle.lmn_adequacy.specs.Embedding.{Plain}
-use Rattle.lmn_adequacy.specs.Next.{of_rule, of_solid}
 use Rattle.lmn_adequacy.proofs.Exposing.{Source, found, missing, source}
 use Rattle.lmn_adequacy.proofs.RawProcesses.{made}
-use Rattle.lmn_adequacy.proofs.Skeleton.{copy_map, copy_one, copy_other, copy_root, even_not_odd, odd_differs}
+use Rattle.lmn_adequacy.proofs.Skeleton.{copy_map, copy_one, copy_other, copy_root}
+use Rattle.lmn_splice.specs.Splice.{of_rule, of_solid}
+use Rattle.lmn_splice.proofs.Fusions.{apart_rule as even_not_odd, solid_once as odd_differs}
 
 -- each link but the root stands in two places, or in none
 abbrev pub Whole : Rooted → Type 0

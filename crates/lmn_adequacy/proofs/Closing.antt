@@ -9,7 +9,7 @@ use Rattle.lmn_congruence.specs.Regions.{Region, region_process}
 use Rattle.lmn_congruence.specs.Rules.{Condition, Leaf, Level, Levels, Name, Rule, body_of, compares, differs, equates, guard_of, head_of, is_kind, level, no_rule, rules_list, unknown}
 use Rattle.lmn_congruence.specs.UpToOrder.{Reordered, r_beside, r_chain, r_regroup, r_swap, r_unit}
 use Rattle.lmn_reduction.specs.Assignments.{Assignment}
-use Rattle.lmn_reduction.specs.Firing.{typed_contexts, typed_contexts_of, typed_leaves}
+use Rattle.lmn_reduction.specs.Firing.{typed_contexts, typed_contexts_in, typed_leaves}
 use Rattle.lmn_reduction.specs.Guards.{GuardHolds, alike, binds, condition_and}
 use Rattle.lmn_reduction.specs.Instances.{Instance, IsCopy, LeafInstances, MembraneInstances, instance, leaf_and, membrane_and, no_leaf, no_membrane, of_atom, of_connector, of_typed}
 use Rattle.lmn_reduction.specs.Parts.{IsGround, IsInteger, Rooted, an_integer}
@@ -20,17 +20,20 @@ use Rattle.lmn_congruence.proofs.Renaming.{occurrences_image, occurrences_none}
 use Rattle.lmn_congruence.proofs.Reordered.{r_right, reordered_count}
 use Rattle.lmn_adequacy.specs.Accepted.{Accepted, all_contexts, contexts_in, left_sides}
 use Rattle.lmn_adequacy.specs.Embedding.{Plain}
-use Rattle.lmn_adequacy.specs.Next.{of_rule, of_solid}
 use Rattle.lmn_adequacy.proofs.Accepting.{accepted_head, integer_ground, typed_ground}
 use Rattle.lmn_adequacy.proofs.Bodies.{Copied, Whole, context_places, context_places_append, context_places_shuffle, odd_contexts, odd_not_even, LevelMade}
 use Rattle.lmn_adequacy.proofs.Embedding.{EvenMore, not_one_even}
 use Rattle.lmn_adequacy.proofs.Exposing.{Source, found, missing, source}
 use Rattle.lmn_adequacy.proofs.Heads.{HeadLeaves, HeadLevel, HeadLevels}
-use Rattle.lmn_adequacy.proofs.Images.{image_at_least, no_link_rule_contexts, no_link_rules}
-use Rattle.lmn_adequacy.proofs.Orders.{among_append, either}
+use Rattle.lmn_adequacy.proofs.Images.{image_at_least, no_link_rule_contexts}
+use Rattle.lmn_adequacy.proofs.Orders.{either}
 use Rattle.lmn_adequacy.proofs.RawProcesses.{head_wires, made}
-use Rattle.lmn_adequacy.proofs.Skeleton.{LevelSkeleton, Parity, even, even_not_odd, odd, odd_differs, parity, place}
+use Rattle.lmn_adequacy.proofs.Skeleton.{LevelSkeleton, Parity, even, odd, parity, place}
 use Rattle.lmn_adequacy.proofs.Wires.{IsEven, at_most_two, even_less, even_zero_or_two, places_enough, same_parity, wires_exact, zero_or_two_even}
+use Rattle.lmn_splice.specs.Splice.{of_rule, of_solid}
+use Rattle.lmn_congruence.proofs.Common.{among_apart as among_append}
+use Rattle.lmn_congruence.proofs.TranslatedLinks.{no_link_in_rules as no_link_rules}
+use Rattle.lmn_splice.proofs.Fusions.{apart_rule as even_not_odd, solid_once as odd_differs}
 
 -- ---- the links of the region in an instance of the head
 
@@ -92,11 +95,11 @@ module _ (t s : Assignment) (same_typed : (q : Name) → s.typed_of q ≡ t.type
 
   mutual
     level_whole : {l : Level} {C : Process} → Instance s l C → HeadLevel t l → Linked C → (q : Name) → Among q (typed_contexts l) → Whole (t.typed_of q)
-    level_whole (instance {leaves = leaves} {membranes = membranes} i j) a l q k = either (among_append (typed_leaves leaves) (typed_contexts_of membranes) k) (leaves_whole i a.0 (linked_left l) q) (levels_whole j a.1 (linked_left (linked_right l)) q)
+    level_whole (instance {leaves = leaves} {membranes = membranes} i j) a l q k = either (among_append (typed_leaves leaves) (typed_contexts_in membranes) k) (leaves_whole i a.0 (linked_left l) q) (levels_whole j a.1 (linked_left (linked_right l)) q)
 
-    levels_whole : {ls : Levels} {Qs : List Process} → MembraneInstances s ls Qs → HeadLevels t ls → Linked (together Qs) → (q : Name) → Among q (typed_contexts_of ls) → Whole (t.typed_of q)
+    levels_whole : {ls : Levels} {Qs : List Process} → MembraneInstances s ls Qs → HeadLevels t ls → Linked (together Qs) → (q : Name) → Among q (typed_contexts_in ls) → Whole (t.typed_of q)
     levels_whole no_membrane a l q k = elim k [ ]
-    levels_whole (membrane_and {l = l'} {ls = ls} i j) a l q k = either (among_append (typed_contexts l') (typed_contexts_of ls) k) (level_whole i a.0 (linked_inside (linked_left l)) q) (levels_whole j a.1 (linked_right l) q)
+    levels_whole (membrane_and {l = l'} {ls = ls} i j) a l q k = either (among_append (typed_contexts l') (typed_contexts_in ls) k) (level_whole i a.0 (linked_inside (linked_left l)) q) (levels_whole j a.1 (linked_right l) q)
 
 integer_whole : (n : ℤ) (g : Rooted) → IsInteger n g → Whole g
 integer_whole n g (an_integer {x = x}) z d = inl (none z x d)

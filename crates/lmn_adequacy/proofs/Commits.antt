@@ -23,12 +23,12 @@ use Rattle.lmn_reduction.proofs.SettledForms.{settles_fused}
 use Rattle.lmn_reduction.proofs.SettledProcesses.{towards_joined}
 use Rattle.lmn_congruence.proofs.Solids.{put_together, region_plain}
 use Rattle.lmn_adequacy.specs.Embedding.{AllRules, LevelImages, Plain, TakenRegion, level_images}
-use Rattle.lmn_adequacy.specs.Next.{of_solid}
 use Rattle.lmn_adequacy.proofs.Firings.{K, after, after_closed, joins_here, kept_fused, order_here, raw_link, steps_to}
 use Rattle.lmn_adequacy.proofs.Heads.{Bare, region_there, rule_there}
 use Rattle.lmn_adequacy.proofs.Orders.{region_put}
 use Rattle.lmn_adequacy.proofs.RawProcesses.{FusesTo, NextUpToOrder, Raw, head_wires, made, raw_below, raw_here}
 use Rattle.lmn_adequacy.proofs.Skeleton.{level_skeleton}
+use Rattle.lmn_splice.specs.Splice.{of_solid}
 
 -- What a firing that gives the raw process P makes of the process of S, beside O.
 pub record Made (S : Region) (P O : Process) : Type 0 where

@@ -7,33 +7,23 @@ use Rattle.lmn_congruence.specs.Process.{Free, Process, atom, connector, membran
 use Rattle.lmn_congruence.specs.Regions.{SolidAtom}
 use Rattle.lmn_congruence.specs.Rules.{Label}
 use Rattle.lmn_congruence.specs.Same.{renamed_atom}
-use Rattle.lmn_reduction.specs.Parts.{OnlyAtoms, Rooted, SameGraph, atoms_of}
-use Rattle.lmn_congruence.proofs.Counts.{Occurs, none_if_apart, occurs_once, one_bound, same_or_not}
+use Rattle.lmn_reduction.specs.Parts.{OnlyAtoms, Rooted, EqualParts, atoms_at_top}
+use Rattle.lmn_congruence.proofs.Counts.{Occurs, none_if_apart, occurs_once, one_bound}
 use Rattle.lmn_congruence.proofs.Renaming.{occurrences_none}
 use Rattle.lmn_congruence.proofs.Shuffles.{shuffle_chain, shuffle_flip}
 use Rattle.lmn_adequacy.specs.Embedding.{IsPart}
-use Rattle.lmn_adequacy.specs.Next.{DepthFirst, Reaches, links_at, made_atoms}
+use Rattle.lmn_adequacy.specs.Next.{DepthFirst, ReachesAtoms, links_at, part_leaves}
 use Rattle.lmn_adequacy.proofs.Bodies.{Whole}
-use Rattle.lmn_adequacy.proofs.Depth.{SameAtoms, among_places, at_cons, at_same, depth_first_one, order_kept}
+use Rattle.lmn_adequacy.proofs.Depth.{SameAtoms, at_cons, at_same, depth_first_one, order_kept}
 use Rattle.lmn_adequacy.proofs.Embedding.{part_atom}
 use Rattle.lmn_adequacy.proofs.Exposing.{Source, found, missing, source}
 use Rattle.lmn_adequacy.proofs.Images.{map_maps, not_one, positive}
 use Rattle.lmn_adequacy.proofs.Moved.{MovedList}
-use Rattle.lmn_adequacy.proofs.Orders.{among_left, among_map, among_right}
-use Rattle.lmn_adequacy.proofs.SameParts.{Knows, atoms_occur, knows, map_known, part_count, part_image, shuffle_among, shuffle_known}
+use Rattle.lmn_adequacy.proofs.SameParts.{Knows, atoms_occur, knows, part_count, part_image, shuffle_among, shuffle_known}
+use Rattle.lmn_base.proofs.Numbers.{same_or_not}
+use Rattle.lmn_congruence.proofs.Common.{among_left, among_right, among_map, places_among, among_places, map_known}
 
-pub places_among : (x : ℕ) (ys : List ℕ) → places x ys ≢ 0 → Among x ys
-places_among x [] d = absurd (d refl)
-places_among x (y ∷ ys) d = go (same_or_not x y) (places_among x ys)
-  where
-    not_here : x ≢ y → places x ys ≢ 0
-    not_here n e = d (omega (arith, none_if_apart x y n, e))
-
-    go : (x ≡ y) ⊎ (x ≢ y) → (places x ys ≢ 0 → Among x ys) → Among x (y ∷ ys)
-    go (inl e) k = subst (λ k. Among x (k ∷ ys)) e at_head
-    go (inr n) k = further (k (not_here n))
-
-occurs_atoms : (P : Process) → OnlyAtoms P → {x : ℕ} → Occurs x P → (a : Label × List ℕ) × (Among a (atoms_of P)) × Among x a.1
+occurs_atoms : (P : Process) → OnlyAtoms P → {x : ℕ} → Occurs x P → (a : Label × List ℕ) × (Among a (atoms_at_top P)) × Among x a.1
 occurs_atoms nothing o d = absurd o
 occurs_atoms (connector y z) o d = absurd o
 occurs_atoms (atom b ys) o {x} d = ((b, ys), at_head, places_among x ys d)
@@ -42,9 +32,9 @@ occurs_atoms (pair P Q) o {x} d = go (same_or_not (occurrences x P) 0) (λ n. oc
     in_other : (m n : ℕ) → m ≡ 0 → m + n ≢ 0 → n ≢ 0
     in_other m n e d = grind arith
 
-    go : (occurrences x P ≡ 0) ⊎ (occurrences x P ≢ 0) → (Occurs x P → (a : Label × List ℕ) × (Among a (atoms_of P)) × Among x a.1) → (Occurs x Q → (a : Label × List ℕ) × (Among a (atoms_of Q)) × Among x a.1) → (a : Label × List ℕ) × (Among a (atoms_of P ++ atoms_of Q)) × Among x a.1
-    go (inl e) p q = let u = q (in_other (occurrences x P) (occurrences x Q) e d) in (u.0, among_right (atoms_of P) u.1, u.2)
-    go (inr n) p q = let u = p n in (u.0, among_left (atoms_of Q) u.1, u.2)
+    go : (occurrences x P ≡ 0) ⊎ (occurrences x P ≢ 0) → (Occurs x P → (a : Label × List ℕ) × (Among a (atoms_at_top P)) × Among x a.1) → (Occurs x Q → (a : Label × List ℕ) × (Among a (atoms_at_top Q)) × Among x a.1) → (a : Label × List ℕ) × (Among a (atoms_at_top P ++ atoms_at_top Q)) × Among x a.1
+    go (inl e) p q = let u = q (in_other (occurrences x P) (occurrences x Q) e d) in (u.0, among_right (atoms_at_top P) u.1, u.2)
+    go (inr n) p q = let u = p n in (u.0, among_left (atoms_at_top Q) u.1, u.2)
 occurs_atoms (membrane P) o d = absurd o
 occurs_atoms (rule r) o d = absurd o
 
@@ -52,15 +42,15 @@ remap : {A B : Type 0} (f : A → B) {xs : List A} {ys : List B} → Shuffle (λ
 remap f none = none
 remap f (more r s p) = more r (remap f s) p
 
-atoms_listed : (f : ℕ → ℕ) (xs : List SolidAtom) → map leaf_process (made_atoms (map (renamed_atom f) xs)) ≡ map (renamed f) (map leaf_process (made_atoms xs))
+atoms_listed : (f : ℕ → ℕ) (xs : List SolidAtom) → map leaf_process (part_leaves (map (renamed_atom f) xs)) ≡ map (renamed f) (map leaf_process (part_leaves xs))
 atoms_listed f [] = refl
 atoms_listed f (x ∷ xs) = ap (λ k. atom x.label (map f x.links) ∷ k) (atoms_listed f xs)
 
-pub made_places : (z : ℕ) (xs : List SolidAtom) → occurrences z (together (map leaf_process (made_atoms xs))) ≡ places z (links_at xs)
+pub made_places : (z : ℕ) (xs : List SolidAtom) → occurrences z (together (map leaf_process (part_leaves xs))) ≡ places z (links_at xs)
 made_places z [] = refl
 made_places z (x ∷ xs) = omega (arith, made_places z xs, at_cons z x xs)
 
-module _ {g h : Rooted} {y : ℕ} {part part' : List SolidAtom} (whole : Whole g) (free : Free g.root g.process) (free' : Free h.root h.process) (i : IsPart g y part) (j : IsPart h y part') (s : SameGraph g h) where
+module _ {g h : Rooted} {y : ℕ} {part part' : List SolidAtom} (whole : Whole g) (free : Free g.root g.process) (free' : Free h.root h.process) (i : IsPart g y part) (j : IsPart h y part') (s : EqualParts g h) where
   abbrev carry : (z : ℕ) → Source i.to g.process z → ℕ
   carry z (found x o e) = j.to (s.to x)
   carry z (missing k) = z
@@ -89,7 +79,7 @@ module _ {g h : Rooted} {y : ℕ} {part part' : List SolidAtom} (whole : Whole g
   carried x o =
       let u = occurs_atoms g.process i.only_atoms o in
       let v = shuffle_among s.atoms u.1 in
-      atoms_occur h.process (subst (λ a. Among a (atoms_of h.process)) (sym v.2) v.1) (among_map s.to u.2)
+      atoms_occur h.process (subst (λ a. Among a (atoms_at_top h.process)) (sym v.2) v.1) (among_map s.to u.2)
 
   across_differs : (x z : ℕ) → Here x → Here z → across_to x ≡ across_to z → x ≡ z
   across_differs x z d d' e =
@@ -110,17 +100,17 @@ module _ {g h : Rooted} {y : ℕ} {part part' : List SolidAtom} (whole : Whole g
   atoms_across : Shuffle (λ b d. renamed_atom across_to b ≡ d) part part'
   atoms_across =
       let u = shuffle_known (Knows g) (λ b. Unit {0}) (λ a k. knows g a k) (λ b k. tt) i.atoms in
-      let v : Shuffle (λ b c. (a : Label × List ℕ) × (part_atom i.to a ≡ b) × (Knows g a) × ((a.0, map s.to a.1) ≡ c)) part (atoms_of h.process) = shuffle_chain (λ b a c p q. (a, p.0, p.1, q)) (shuffle_flip u) (atoms_of h.process) s.atoms in
+      let v : Shuffle (λ b c. (a : Label × List ℕ) × (part_atom i.to a ≡ b) × (Knows g a) × ((a.0, map s.to a.1) ≡ c)) part (atoms_at_top h.process) = shuffle_chain (λ b a c p q. (a, p.0, p.1, q)) (shuffle_flip u) (atoms_at_top h.process) s.atoms in
       shuffle_chain (λ b c d p q. atom_across p.0 b c d p.1 p.2 p.3 q) v part' j.atoms
 
-  pub copies_moved : DepthFirst y part → DepthFirst y part' → ((z : ℕ) → places z (links_at part') ≤ 2) → MovedList (map leaf_process (made_atoms part)) (map leaf_process (made_atoms part'))
+  pub copies_moved : DepthFirst y part → DepthFirst y part' → ((z : ℕ) → places z (links_at part') ≤ 2) → MovedList (map leaf_process (part_leaves part)) (map leaf_process (part_leaves part'))
   copies_moved d d' two =
       let f : ℕ → ℕ = across_to in
       let t : SameAtoms (map (renamed_atom f) part) part' = remap (renamed_atom f) atoms_across in
-      let k : Reaches (f y ∷ []) (f y ∷ []) (map (renamed_atom f) part) = order_kept f Here across_differs d (λ z a. root_here z a) (λ z a. root_here z a) (λ z a. positive (places z (links_at part)) (among_places a)) in
-      let k' : DepthFirst y (map (renamed_atom f) part) = subst (λ w. Reaches (w ∷ []) (w ∷ []) (map (renamed_atom f) part)) root_across k in
+      let k : ReachesAtoms (f y ∷ []) (f y ∷ []) (map (renamed_atom f) part) = order_kept f Here across_differs d (λ z a. root_here z a) (λ z a. root_here z a) (λ z a. positive (places z (links_at part)) (among_places a)) in
+      let k' : DepthFirst y (map (renamed_atom f) part) = subst (λ w. ReachesAtoms (w ∷ []) (w ∷ []) (map (renamed_atom f) part)) root_across k in
       let e : map (renamed_atom f) part ≡ part' = depth_first_one y (map (renamed_atom f) part) part' k' d' t (λ z. room z (at_same z t)) in
-      record { to = f; is = ap (λ w. map leaf_process (made_atoms w)) (sym e) ∙ atoms_listed f part; stays = λ z a. stays z (sym (made_places z part) ∙ a) }
+      record { to = f; is = ap (λ w. map leaf_process (part_leaves w)) (sym e) ∙ atoms_listed f part; stays = λ z a. stays z (sym (made_places z part) ∙ a) }
     where
       root_places : places y (links_at part) ≡ 1
       root_places = ap (λ w. places w (links_at part)) (sym i.root) ∙ part_image i g.root (occurs_once (occurrences g.root g.process) free) ∙ free

@@ -14,25 +14,27 @@ use Rattle.lmn_reduction.specs.Assignments.{Assignment, NoRuleAtTop, Proper}
 use Rattle.lmn_reduction.specs.Firing.{typed_contexts}
 use Rattle.lmn_reduction.specs.Guards.{GuardHolds, Holds, alike, binds, condition_and, in_order, no_condition, of_kind, unlike}
 use Rattle.lmn_reduction.specs.Instances.{Instance, IsCopy, LeafInstances, MembraneInstances, instance, leaf_and, membrane_and, no_leaf, no_membrane, of_atom, of_connector, of_typed, rules_of_contexts}
-use Rattle.lmn_reduction.specs.Parts.{IsGround, OnlyAtoms, Rooted, atoms_of}
+use Rattle.lmn_reduction.specs.Parts.{IsGround, OnlyAtoms, Rooted, atoms_at_top}
 use Rattle.lmn_reduction.specs.Redexes.{HasRedex, at_top, in_membrane}
 use Rattle.lmn_reduction.specs.Steps.{Step}
 use Rattle.lmn_guards.specs.Values.{of_context, of_number, of_operation}
 use Rattle.lmn_reduction.specs.Values.{Value}
-use Rattle.lmn_congruence.proofs.Counts.{linked_as, linked_both, linked_inside, linked_left, linked_right, same_or_not}
+use Rattle.lmn_congruence.proofs.Counts.{linked_as, linked_both, linked_inside, linked_left, linked_right}
 use Rattle.lmn_congruence.proofs.LinkMaps.{closed_linked, congruent_reads, fused_is_renamed, fused_plain, two_occurrences}
 use Rattle.lmn_reduction.proofs.Redexes.{step_shows}
 use Rattle.lmn_congruence.proofs.Renaming.{occurrences_image, occurrences_none, renamed_id}
 use Rattle.lmn_congruence.proofs.Reordered.{SamePiece, content, itself, pieces, reordered_count, reordered_pieces, same_piece_chain}
 use Rattle.lmn_congruence.proofs.Shuffles.{find_right, put_back, put_between, shuffle_append, shuffle_chain, shuffle_same, shuffle_swap}
 use Rattle.lmn_congruence.proofs.Solids.{PutOnto, as_rule, picks, present, put_picks, region_plain, region_rules, same_rules, shuffle_picks, stay}
-use Rattle.lmn_adequacy.specs.Embedding.{AllRules, AllRulesIn, AtomImages, Embeds, EmbedsAt, IsPart, KeepsLinks, LevelImages, MembraneImages, Merged, Plain, Taken, TakenRegion, TypedParts, embeds_below, embeds_here, filling, image_and, level_images, membrane_image_and, no_image, no_membrane_image, no_part, no_part_of_atom, part_and, typed_later}
+use Rattle.lmn_adequacy.specs.Embedding.{AllRules, AllRulesIn, AtomImages, HasEmbedding, EmbedsAt, IsPart, KeepsLinks, LevelImages, MembraneImages, Merged, Plain, Taken, TakenRegion, TypedParts, embeds_below, embeds_here, filling, image_and, level_images, membrane_image_and, no_image, no_membrane_image, no_part, no_part_of_atom, part_and, typed_later}
 use Rattle.lmn_adequacy.proofs.Ends.{EndsOutside, ends_outside}
 use Rattle.lmn_adequacy.proofs.Exposing.{Source, found, missing, source}
 use Rattle.lmn_adequacy.proofs.Heads.{HeadAllowed, HeadLeaves, HeadLevel, HeadLevels, region_there, rule_there}
-use Rattle.lmn_adequacy.proofs.Images.{atoms_plain, fused_renamed, image_at_least, map_maps, no_link_rule_contexts, no_link_rules, places_least}
+use Rattle.lmn_adequacy.proofs.Images.{atoms_plain, fused_renamed, image_at_least, map_maps, no_link_rule_contexts, places_least}
 use Rattle.lmn_adequacy.proofs.Orders.{all_second, merged_taken, pieces_reordered, put_taken, shuffled_atoms, together_pieces}
 use Rattle.lmn_adequacy.proofs.RegionPieces.{pieces_of, region_pieces, take_atom, take_region}
+use Rattle.lmn_base.proofs.Numbers.{same_or_not}
+use Rattle.lmn_congruence.proofs.TranslatedLinks.{no_link_in_rules as no_link_rules}
 
 -- ---- copies of rooted processes
 
@@ -42,11 +44,11 @@ fused_atoms v f P o = fused_renamed v f P ∙ fused_is_renamed (λ z. v (f z)) P
 abbrev pub part_atom : (ℕ → ℕ) → Label × List ℕ → SolidAtom
 part_atom f a = record { label = a.0; links = map f a.1 }
 
-pub part_pieces : (f : ℕ → ℕ) (P : Process) → OnlyAtoms P → pieces (renamed f P) ≡ map atom_process (map (part_atom f) (atoms_of P))
+pub part_pieces : (f : ℕ → ℕ) (P : Process) → OnlyAtoms P → pieces (renamed f P) ≡ map atom_process (map (part_atom f) (atoms_at_top P))
 part_pieces f nothing o = absurd o
 part_pieces f (connector x y) o = absurd o
 part_pieces f (atom a xs) o = refl
-part_pieces f (pair P Q) o = cc (part_pieces f P o.0, part_pieces f Q o.1) ∙ sym (both_maps (atoms_of P) (atoms_of Q))
+part_pieces f (pair P Q) o = cc (part_pieces f P o.0, part_pieces f Q o.1) ∙ sym (both_maps (atoms_at_top P) (atoms_at_top Q))
   where
     both_maps : (xs ys : List (Label × List ℕ)) → map atom_process (map (part_atom f) (xs ++ ys)) ≡ map atom_process (map (part_atom f) xs) ++ map atom_process (map (part_atom f) ys)
     both_maps [] ys = refl
@@ -55,9 +57,9 @@ part_pieces f (membrane P) o = absurd o
 part_pieces f (rule r) o = absurd o
 
 -- the atoms of a part side by side
-pub part_order : (f : ℕ → ℕ) (P : Process) (part : List SolidAtom) → OnlyAtoms P → Shuffle (λ a b. part_atom f a ≡ b) (atoms_of P) part → Reordered (renamed f P) (together (map atom_process part))
+pub part_order : (f : ℕ → ℕ) (P : Process) (part : List SolidAtom) → OnlyAtoms P → Shuffle (λ a b. part_atom f a ≡ b) (atoms_at_top P) part → Reordered (renamed f P) (together (map atom_process part))
 part_order f P part o s =
-    r_chain (together_pieces (renamed f P)) (r_chain (r_same (ap together (part_pieces f P o ∙ twice (atoms_of P)))) (shuffled_atoms (part_atom f) s))
+    r_chain (together_pieces (renamed f P)) (r_chain (r_same (ap together (part_pieces f P o ∙ twice (atoms_at_top P)))) (shuffled_atoms (part_atom f) s))
   where
     twice : (xs : List (Label × List ℕ)) → map atom_process (map (part_atom f) xs) ≡ map (λ a. atom_process (part_atom f a)) xs
     twice [] = refl
@@ -308,7 +310,7 @@ module _ (t : Assignment) (p : Proper t) (v : ℕ → ℕ) where
   match_parts (leaf_and (of_typed {p = q} {x = x} {P = P} c) j) a l W xs ms rs s =
       let g = t.typed_of q in
       let F : ℕ → ℕ = λ z. v (c.to z) in
-      let part = map (part_atom F) (atoms_of g.process) in
+      let part = map (part_atom F) (atoms_at_top g.process) in
       let e : fused v P ≡ renamed F g.process = ap (fused v) c.is ∙ fused_atoms v c.to g.process a.0.only_atoms in
       let e' : pieces (fused v P) ≡ map atom_process part = ap pieces e ∙ part_pieces F g.process a.0.only_atoms in
       let lp : Linked (fused v P) = linked_left l in
@@ -317,7 +319,7 @@ module _ (t : Assignment) (p : Proper t) (v : ℕ → ℕ) where
       subst (λ k. Shuffle SamePiece (k ++ (parts_of j ++ W)) (pieces_of (region xs ms rs))) e' (subst (λ k. Shuffle SamePiece k (pieces_of (region xs ms rs))) (append_assoc (pieces (fused v P)) (parts_of j) W) s) in
       let u = take_part part (parts_of j ++ W) xs ms rs s' in
       let k = match_parts j a.1 (linked_right l) W u.rest ms rs u.left in
-      let y : IsPart g (v (t.link_of x)) u.taken = record { only_atoms = a.0.only_atoms; to = F; one_to_one = ground_one_to_one F g a.0 lg; root = ap v c.root; atoms = shuffle_chain (λ a b c e f. e ∙ f) (part_shuffled F (atoms_of g.process)) u.taken u.same } in
+      let y : IsPart g (v (t.link_of x)) u.taken = record { only_atoms = a.0.only_atoms; to = F; one_to_one = ground_one_to_one F g a.0 lg; root = ap v c.root; atoms = shuffle_chain (λ a b c e f. e ∙ f) (part_shuffled F (atoms_at_top g.process)) u.taken u.same } in
       record { rest = k.rest; parts = part_and a.0 y u.merged k.parts; left = k.left }
 
   -- Each link has as many places in the image of a head membrane as in the head membrane.
@@ -455,14 +457,14 @@ redex_rule v r A P xs ms rs d =
     chosen : {B : Type 0} {b : B} {xs zs : List B} → PutOnto (Some b) xs zs → Put b xs zs
     chosen (present p) = p
 
-in_itself : {k : ℕ} {r : Rule} {f : List ℕ} {xs : List SolidAtom} {ms : Regions} {rs rs' : List Rule} → Taken k r rs rs' → EmbedsAt r f (region xs ms rs) → Embeds (region xs ms rs)
+in_itself : {k : ℕ} {r : Rule} {f : List ℕ} {xs : List SolidAtom} {ms : Regions} {rs rs' : List Rule} → Taken k r rs rs' → EmbedsAt r f (region xs ms rs) → HasEmbedding (region xs ms rs)
 in_itself k e = record { path = []; number = _; positions = _; embeds = embeds_here k e }
 
-in_a_membrane : {n : ℕ} {m : Region} {xs : List SolidAtom} {ms ms' : Regions} {rs : List Rule} → TakenRegion n m ms ms' → Embeds m → Embeds (region xs ms rs)
+pub in_a_membrane : {n : ℕ} {m : Region} {xs : List SolidAtom} {ms ms' : Regions} {rs : List Rule} → TakenRegion n m ms ms' → HasEmbedding m → HasEmbedding (region xs ms rs)
 in_a_membrane k e = record { path = _; number = e.number; positions = e.positions; embeds = embeds_below k e.embeds }
 
 -- An instance in a process that is read against a solid shows a place where the head lies in the solid.
-pub redex_embeds : (v : ℕ → ℕ) {P : Process} (d : HasRedex P) → Linked P → Linked (fused v P) → EndsOutside v P → (S : Region) → AllRules HeadAllowed S → Reordered (fused v P) (region_process S) → Embeds S
+pub redex_embeds : (v : ℕ → ℕ) {P : Process} (d : HasRedex P) → Linked P → Linked (fused v P) → EndsOutside v P → (S : Region) → AllRules HeadAllowed S → Reordered (fused v P) (region_process S) → HasEmbedding S
 redex_embeds v (at_top {r = r} {A = A} {P = P} m) l l' f (region xs ms rs) h o =
     let t = m.assignment in
     let X = pieces (fused v A) in
@@ -484,13 +486,13 @@ redex_embeds v (in_membrane {P = P} {Q = Q} d) l l' f (region xs ms rs) h o =
     below v P (pieces (fused v Q)) xs ms rs h.1 (λ n g e. redex_embeds v d (linked_inside (linked_left l)) (linked_inside (linked_left l')) f.0.1 n g e)
     (subst (Shuffle SamePiece (membrane (fused v P) ∷ pieces (fused v Q))) (region_pieces (region xs ms rs)) (reordered_pieces o))
   where
-    below : (v : ℕ → ℕ) (P : Process) (Ws : List Process) (xs : List SolidAtom) (ms : Regions) (rs : List Rule) → AllRulesIn HeadAllowed ms → ((n : Region) → AllRules HeadAllowed n → Reordered (fused v P) (region_process n) → Embeds n)
-        → Shuffle SamePiece (membrane (fused v P) ∷ Ws) (pieces_of (region xs ms rs)) → Embeds (region xs ms rs)
+    below : (v : ℕ → ℕ) (P : Process) (Ws : List Process) (xs : List SolidAtom) (ms : Regions) (rs : List Rule) → AllRulesIn HeadAllowed ms → ((n : Region) → AllRules HeadAllowed n → Reordered (fused v P) (region_process n) → HasEmbedding n)
+        → Shuffle SamePiece (membrane (fused v P) ∷ Ws) (pieces_of (region xs ms rs)) → HasEmbedding (region xs ms rs)
     below v P Ws xs ms rs g h (more itself s q) = let u = take_region xs ms rs q in in_a_membrane u.taken (h u.region_there (region_there HeadAllowed g u.taken) (r_same u.is))
     below v P Ws xs ms rs g h (more (content d) s q) = let u = take_region xs ms rs q in in_a_membrane u.taken (h u.region_there (region_there HeadAllowed g u.taken) (r_chain d (r_same u.is)))
 
 -- Where a step is possible from a solid, some rule embeds in it.
-pub step_embeds : (S : Region) (Q : Process) → Closed (region_process S) → AllRules HeadAllowed S → Step (region_process S) Q → Embeds S
+pub step_embeds : (S : Region) (Q : Process) → Closed (region_process S) → AllRules HeadAllowed S → Step (region_process S) Q → HasEmbedding S
 step_embeds S Q c h s =
     let k = step_shows s in
     let r = congruent_reads k.process (region_process S) (region_plain S) (back k.congruent) in

@@ -4,19 +4,19 @@ use Rattle.lmn_congruence.specs.LinkedRules.{level_occurrences}
 use Rattle.lmn_congruence.specs.Orders.{at_head, here, more, none}
 use Rattle.lmn_congruence.specs.Plains.{level_process}
 use Rattle.lmn_congruence.specs.Process.{OneToOneOn}
-use Rattle.lmn_congruence.specs.Regions.{no_region, region, region_process}
+use Rattle.lmn_congruence.specs.Regions.{no_region, region, region_process, solid_atom_with}
 use Rattle.lmn_congruence.specs.Rules.{Leaf, Level, atom_leaf, head_of}
-use Rattle.lmn_reduction.specs.Examples.{a, b, double_part}
+use Rattle.lmn_reduction.specs.Examples.{label_a, label_b, double_part}
 use Rattle.lmn_reduction.specs.Guards.{condition_and, no_condition, of_kind}
 use Rattle.lmn_congruence.proofs.Counts.{none_if_apart}
 use Rattle.lmn_reduction.proofs.Derivations.{closed_by}
 use Rattle.lmn_reduction.proofs.ExampleSteps.{looped, looped_ground}
 use Rattle.lmn_adequacy.specs.Embedding.{IsPart, from_first, image_and, level_images, merged_none, no_image, no_membrane_image, no_part, no_part_of_atom, part_and, taken_first, typed_later}
-use Rattle.lmn_adequacy.specs.Examples.{PartIsCopied, at}
+use Rattle.lmn_adequacy.specs.Examples.{CopiesStandAsWritten}
 use Rattle.lmn_adequacy.specs.Next.{Contents, DepthFirst, EmbedsInOrder, fires_here, made_atom, made_copy, made_level, no_made_leaf, no_made_membrane, raw_level, reaches_listed, reaches_new, reaches_none}
 
 -- the atom with the root at x, and its other link y
-looped_part : (x y : ℕ) → x ≢ y → IsPart looped x (at b (x ∷ y ∷ y ∷ []) ∷ [])
+looped_part : (x y : ℕ) → x ≢ y → IsPart looped x (solid_atom_with label_b (x ∷ y ∷ y ∷ []) ∷ [])
 looped_part x y d = record { only_atoms = tt; to = λ n. cond (eqb n 0) x y; one_to_one = differ; root = refl; atoms = more refl none here }
   where
     differ : OneToOneOn (λ n. cond (eqb n 0) x y) looped.process
@@ -25,7 +25,7 @@ looped_part x y d = record { only_atoms = tt; to = λ n. cond (eqb n 0) x y; one
 abbrev bound_part : Contents
 bound_part = record { link_of = λ x. 0; atoms_of = λ p. []; membranes_of = λ p. no_region; rules_of = λ p. []; typed_of = λ p. looped }
 
-lies : EmbedsInOrder double_part (0 ∷ []) (region (at a (0 ∷ []) ∷ at b (0 ∷ 1 ∷ 1 ∷ []) ∷ []) no_region (double_part ∷ []))
+lies : EmbedsInOrder double_part (0 ∷ []) (region (solid_atom_with label_a (0 ∷ []) ∷ solid_atom_with label_b (0 ∷ 1 ∷ 1 ∷ []) ∷ []) no_region (double_part ∷ []))
 lies = record {
   contents = bound_part;
   rest = region [] no_region (double_part ∷ []);
@@ -42,18 +42,18 @@ past_one x h = omega (arith, none_if_apart x 0 (apart x h))
     apart x h = grind arith
 
 abbrev made : List Leaf
-made = atom_leaf a (2 ∷ 4 ∷ []) ∷ atom_leaf b (2 ∷ 6 ∷ 6 ∷ []) ∷ atom_leaf b (4 ∷ 8 ∷ 8 ∷ []) ∷ []
+made = atom_leaf label_a (2 ∷ 4 ∷ []) ∷ atom_leaf label_b (2 ∷ 6 ∷ 6 ∷ []) ∷ atom_leaf label_b (4 ∷ 8 ∷ 8 ∷ []) ∷ []
 
 abbrev copied_raw : Level
 copied_raw = raw_level (region [] no_region (double_part ∷ [])) [] made [] []
 
-listed_two : DepthFirst 2 (at b (2 ∷ 6 ∷ 6 ∷ []) ∷ [])
+listed_two : DepthFirst 2 (solid_atom_with label_b (2 ∷ 6 ∷ 6 ∷ []) ∷ [])
 listed_two = reaches_new refl at_head (reaches_listed refl (reaches_listed refl (reaches_listed refl reaches_none))) reaches_none
 
-listed_four : DepthFirst 4 (at b (4 ∷ 8 ∷ 8 ∷ []) ∷ [])
+listed_four : DepthFirst 4 (solid_atom_with label_b (4 ∷ 8 ∷ 8 ∷ []) ∷ [])
 listed_four = reaches_new refl at_head (reaches_listed refl (reaches_listed refl (reaches_listed refl reaches_none))) reaches_none
 
-pub part_is_copied : PartIsCopied
+pub part_is_copied : CopiesStandAsWritten
 unfolding lies
 part_is_copied = record {
   path = [];
@@ -76,7 +76,7 @@ part_is_copied = record {
       to = λ n. n / 2 - 1;
       joins = ((tt, (tt, (tt, tt))), (tt, (tt, tt)));
       is = refl;
-      closed = closed_by (region_process (region (at a (0 ∷ 1 ∷ []) ∷ at b (0 ∷ 2 ∷ 2 ∷ []) ∷ at b (1 ∷ 3 ∷ 3 ∷ []) ∷ []) no_region (double_part ∷ []))) refl;
+      closed = closed_by (region_process (region (solid_atom_with label_a (0 ∷ 1 ∷ []) ∷ solid_atom_with label_b (0 ∷ 2 ∷ 2 ∷ []) ∷ solid_atom_with label_b (1 ∷ 3 ∷ 3 ∷ []) ∷ []) no_region (double_part ∷ []))) refl;
     };
   };
 }

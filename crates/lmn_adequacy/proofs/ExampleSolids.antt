@@ -5,25 +5,25 @@ use Rattle.lmn_congruence.specs.Links.{one_if_same}
 use Rattle.lmn_congruence.specs.Orders.{at_head, further}
 use Rattle.lmn_congruence.specs.Plains.{level_process}
 use Rattle.lmn_congruence.specs.Process.{Closed, atom}
-use Rattle.lmn_congruence.specs.Regions.{Region, SolidAtom, no_region, region, region_and, region_process}
-use Rattle.lmn_congruence.specs.Rules.{Label, Level, Name, atom_leaf, connector_leaf, head_of, integer, named}
+use Rattle.lmn_congruence.specs.Regions.{Region, SolidAtom, no_region, region, region_and, region_process, solid_atom_with}
+use Rattle.lmn_congruence.specs.Rules.{Label, Level, Name, atom_leaf, connector_leaf, head_of, integer, named, only_leaves}
 use Rattle.lmn_congruence.specs.UpToOrder.{r_back, r_chain, r_unit}
 use Rattle.lmn_reduction.specs.Assignments.{Assignment}
-use Rattle.lmn_reduction.specs.Examples.{a, b, c, join_from_membrane, join_in_c, leaves, tie_ends}
+use Rattle.lmn_reduction.specs.Examples.{label_a, label_b, label_c, join_from_membrane, join_in_c, tie_ends}
 use Rattle.lmn_reduction.specs.Guards.{no_condition}
 use Rattle.lmn_reduction.specs.Parts.{Rooted}
 use Rattle.lmn_congruence.proofs.Counts.{none_if_apart}
-use Rattle.lmn_reduction.proofs.Derivations.{closed_by}
+use Rattle.lmn_reduction.proofs.Derivations.{closed_by, alone as r_alone}
 use Rattle.lmn_reduction.proofs.SettledForms.{all_join}
 use Rattle.lmn_adequacy.specs.Embedding.{EmbedsIn, KeepsLinks, LevelImages, Taken, embeds_below, embeds_here, image_and, level_images, membrane_image_and, no_image, no_membrane_image, no_part, no_part_of_atom, region_first, region_later, taken_first, taken_later}
-use Rattle.lmn_adequacy.specs.Examples.{InnerLinkDoesNotEmbed, LinkMeetsItself, ListDepthFirst, LoopVanishes, MembraneOpens, at, open_membrane}
+use Rattle.lmn_adequacy.specs.Examples.{InnerLinkDoesNotEmbed, EndsMeetInOneAtom, ListDepthFirst, NextHasNoLoop, MembraneOpens, open_membrane}
 use Rattle.lmn_adequacy.specs.Next.{Contents, fires_here, kept_level, made_atom, made_connector, made_level, no_made_leaf, no_made_membrane, no_rule_context, one_context, raw_level, reaches_listed, reaches_new, reaches_none, wire_leaves}
 use Rattle.lmn_adequacy.proofs.OneEmbedding.{same_head}
-use Rattle.lmn_adequacy.proofs.Orders.{r_alone, r_both}
+use Rattle.lmn_adequacy.proofs.Orders.{r_both}
 
 -- any process with a free root
 one_port : Name → Rooted
-one_port p = record { process = atom a (0 ∷ []); root = 0 }
+one_port p = record { process = atom label_a (0 ∷ []); root = 0 }
 
 pub list_depth_first : ListDepthFirst
 list_depth_first =
@@ -45,13 +45,13 @@ joined : Contents
 joined = record { link_of = λ x. 0; atoms_of = λ p. []; membranes_of = λ p. no_region; rules_of = λ p. []; typed_of = one_port }
 
 joined_raw : Level
-joined_raw = raw_level (region [] no_region (join_in_c ∷ [])) (wire_leaves (λ x. 0) (head_of join_in_c) 2) (atom_leaf c (0 ∷ 2 ∷ []) ∷ []) [] []
+joined_raw = raw_level (region [] no_region (join_in_c ∷ [])) (wire_leaves (λ x. 0) (head_of join_in_c) 2) (atom_leaf label_c (0 ∷ 2 ∷ []) ∷ []) [] []
 
 joined_closed : Closed (level_process joined_raw)
 unfolding joined_raw
 joined_closed = closed_by (level_process joined_raw) refl
 
-pub link_meets_itself : LinkMeetsItself
+pub link_meets_itself : EndsMeetInOneAtom
 unfolding joined one_port joined_raw
 link_meets_itself =
     let r = join_in_c in
@@ -70,7 +70,7 @@ link_meets_itself =
             left = tt;
             guard = no_condition;
           };
-          outs = atom_leaf c (0 ∷ 2 ∷ []) ∷ [];
+          outs = atom_leaf label_c (0 ∷ 2 ∷ []) ∷ [];
           made_membranes = [];
           made_rules = [];
           makes = made_level (made_atom no_made_leaf) no_made_membrane;
@@ -78,7 +78,7 @@ link_meets_itself =
           bounded = past_two;
           is = refl;
         });
-        fuses = record { closed_top = joined_closed; to = λ x. 0; joins = all_join (level_process joined_raw); is = refl; closed = closed_by (region_process (region (at c (0 ∷ 0 ∷ []) ∷ []) no_region (r ∷ []))) refl };
+        fuses = record { closed_top = joined_closed; to = λ x. 0; joins = all_join (level_process joined_raw); is = refl; closed = closed_by (region_process (region (solid_atom_with label_c (0 ∷ 0 ∷ []) ∷ []) no_region (r ∷ []))) refl };
       };
     }
 
@@ -97,7 +97,7 @@ past_both x h = omega (arith, none_if_apart x 0 (apart x 0 (omega (arith, h))), 
     apart : (x y : ℕ) → suc y ≤ x → x ≢ y
     apart x y h = grind arith
 
-pub loop_vanishes : LoopVanishes
+pub loop_vanishes : NextHasNoLoop
 unfolding joined one_port tied_raw
 loop_vanishes =
     let r = tie_ends in
@@ -131,18 +131,18 @@ loop_vanishes =
 -- ---- a membrane is opened
 
 opened : Contents
-opened = record { link_of = λ x. 0; atoms_of = λ p. at b [] ∷ at c [] ∷ []; membranes_of = λ p. region_and (region (at b [] ∷ []) no_region []) no_region; rules_of = λ p. []; typed_of = one_port }
+opened = record { link_of = λ x. 0; atoms_of = λ p. solid_atom_with label_b [] ∷ solid_atom_with label_c [] ∷ []; membranes_of = λ p. region_and (region (solid_atom_with label_b [] ∷ []) no_region []) no_region; rules_of = λ p. []; typed_of = one_port }
 
 opened_raw : Level
 opened_raw =
-    raw_level (region (at c [] ∷ []) (region_and (region [] no_region []) no_region) (open_membrane ∷ [])) [] (atom_leaf a [] ∷ atom_leaf b [] ∷ atom_leaf c [] ∷ [])
-    (kept_level (region (at b [] ∷ []) no_region []) ∷ []) []
+    raw_level (region (solid_atom_with label_c [] ∷ []) (region_and (region [] no_region []) no_region) (open_membrane ∷ [])) [] (atom_leaf label_a [] ∷ atom_leaf label_b [] ∷ atom_leaf label_c [] ∷ [])
+    (kept_level (region (solid_atom_with label_b [] ∷ []) no_region []) ∷ []) []
 
 pub membrane_opens : MembraneOpens
 unfolding opened one_port opened_raw
 membrane_opens =
     let empty : Region = region [] no_region [] in
-    let inner : Region = region (at b [] ∷ []) no_region [] in
+    let inner : Region = region (solid_atom_with label_b [] ∷ []) no_region [] in
     record {
       path = [];
       number = 0;
@@ -152,14 +152,14 @@ membrane_opens =
         fires = fires_here taken_first (record {
           at = record {
             contents = opened;
-            rest = region (at c [] ∷ []) (region_and empty no_region) (open_membrane ∷ []);
+            rest = region (solid_atom_with label_c [] ∷ []) (region_and empty no_region) (open_membrane ∷ []);
             root_is_free = λ p. refl;
             images = level_images no_image no_part (membrane_image_and region_first (level_images (image_and (taken_later taken_first) no_image) (no_part_of_atom no_part) no_membrane_image) (record { as_often = λ x d. absurd (d refl) })
                 (r_chain (r_both (r_back r_alone) r_unit) (r_back r_alone)) no_membrane_image);
             left = ((one_context, no_rule_context), tt, tt);
             guard = no_condition;
           };
-          outs = atom_leaf a [] ∷ atom_leaf b [] ∷ atom_leaf c [] ∷ [];
+          outs = atom_leaf label_a [] ∷ atom_leaf label_b [] ∷ atom_leaf label_c [] ∷ [];
           made_membranes = kept_level inner ∷ [];
           made_rules = [];
           makes = made_level (made_atom no_made_leaf) no_made_membrane;
@@ -174,9 +174,9 @@ membrane_opens =
 -- ---- a link that stays inside a membrane
 
 abbrev held_inside : Region
-held_inside = region (at a (0 ∷ []) ∷ at b (0 ∷ []) ∷ []) no_region []
+held_inside = region (solid_atom_with label_a (0 ∷ []) ∷ solid_atom_with label_b (0 ∷ []) ∷ []) no_region []
 
-not_once : (t : Assignment) → t.link_of 0 ≡ 0 → ¬ (KeepsLinks t (leaves (atom_leaf a (0 ∷ []) ∷ atom_leaf b (1 ∷ []) ∷ [])) held_inside)
+not_once : (t : Assignment) → t.link_of 0 ≡ 0 → ¬ (KeepsLinks t (only_leaves (atom_leaf label_a (0 ∷ []) ∷ atom_leaf label_b (1 ∷ []) ∷ [])) held_inside)
 not_once t e k = absurd (two (t.link_of 0) e (k.as_often 0 one))
   where
     one : ◌≢◌ {A = ℕ} 1 0
@@ -185,7 +185,7 @@ not_once t e k = absurd (two (t.link_of 0) e (k.as_often 0 one))
     two : (x : ℕ) → x ≡ 0 → ¬ ((one_if_same x 0 + 0) + ((one_if_same x 0 + 0) + 0) + (0 + 0) ≡ 1)
     two x e h = absurd (grind arith)
 
-first_link : (t : Assignment) {n : ℕ} {rest : List SolidAtom} → Taken n (record { label = a; links = map t.link_of (0 ∷ []) }) (at a (0 ∷ []) ∷ at b (0 ∷ []) ∷ []) rest → t.link_of 0 ≡ 0
+first_link : (t : Assignment) {n : ℕ} {rest : List SolidAtom} → Taken n (record { label = label_a; links = map t.link_of (0 ∷ []) }) (solid_atom_with label_a (0 ∷ []) ∷ solid_atom_with label_b (0 ∷ []) ∷ []) rest → t.link_of 0 ≡ 0
 first_link t k = go k
   where
     letter : Label → ℕ
@@ -196,15 +196,15 @@ first_link t k = go k
     not_so : ¬ (◌≡◌ {A = ℕ} 97 98)
     not_so = omega arith
 
-    names : ¬ (a ≡ b)
+    names : ¬ (label_a ≡ label_b)
     names e = not_so (ap letter e)
 
-    is_first : {x : SolidAtom} {n : ℕ} {rest : List SolidAtom} → Taken n x (at a (0 ∷ []) ∷ at b (0 ∷ []) ∷ []) rest → x.label ≡ a → x ≡ at a (0 ∷ [])
+    is_first : {x : SolidAtom} {n : ℕ} {rest : List SolidAtom} → Taken n x (solid_atom_with label_a (0 ∷ []) ∷ solid_atom_with label_b (0 ∷ []) ∷ []) rest → x.label ≡ label_a → x ≡ solid_atom_with label_a (0 ∷ [])
     is_first taken_first e = refl
     is_first (taken_later taken_first) e = absurd (names (sym e))
     is_first (taken_later (taken_later k)) e = elim k [ ]
 
-    go : {n : ℕ} {rest : List SolidAtom} → Taken n (record { label = a; links = map t.link_of (0 ∷ []) }) (at a (0 ∷ []) ∷ at b (0 ∷ []) ∷ []) rest → t.link_of 0 ≡ 0
+    go : {n : ℕ} {rest : List SolidAtom} → Taken n (record { label = label_a; links = map t.link_of (0 ∷ []) }) (solid_atom_with label_a (0 ∷ []) ∷ solid_atom_with label_b (0 ∷ []) ∷ []) rest → t.link_of 0 ≡ 0
     go k = same_head (t.link_of 0) 0 [] [] (ap (λ z. z.links) (is_first k refl))
 
 no_images : (t : Assignment) {f : List ℕ} {rest : Region} → LevelImages t (head_of join_from_membrane) f (region [] (region_and held_inside no_region) (join_from_membrane ∷ [])) rest → ⊥

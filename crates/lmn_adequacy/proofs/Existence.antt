@@ -14,7 +14,7 @@ use Rattle.lmn_congruence.proofs.Reordered.{r_right, reordered_count}
 use Rattle.lmn_congruence.proofs.Solids.{put_together}
 use Rattle.lmn_adequacy.specs.Accepted.{Accepted, all_contexts}
 use Rattle.lmn_adequacy.specs.Embedding.{AllRules, EmbedsIn, LevelImages, TakenRegion, embeds_below, embeds_here}
-use Rattle.lmn_adequacy.specs.Next.{EmbedsInOrder, FiresInOrder, NextAt, RawAt, assignment_of, fires_below, fires_here, kept_atoms, kept_membranes, of_rule, of_solid, raw_level, replaced, wire_leaves}
+use Rattle.lmn_adequacy.specs.Next.{EmbedsInOrder, FiresInOrder, NextAt, RawAt, assignment_of, fires_below, fires_here, kept_atoms, kept_membranes, raw_level, replaced, wire_leaves}
 use Rattle.lmn_adequacy.proofs.Accepting.{accepted_bare}
 use Rattle.lmn_adequacy.proofs.Bodies.{Copied, LevelMade, context_places}
 use Rattle.lmn_adequacy.proofs.Closing.{body_ground, body_whole, head_whole, raw_closes}
@@ -26,6 +26,7 @@ use Rattle.lmn_adequacy.proofs.MadeBodies.{level_listed_from}
 use Rattle.lmn_adequacy.proofs.Orders.{r_over, taken_put}
 use Rattle.lmn_adequacy.proofs.RawProcesses.{head_wires}
 use Rattle.lmn_adequacy.proofs.Skeleton.{level_skeleton}
+use Rattle.lmn_splice.specs.Splice.{of_rule, of_solid}
 
 leaves_bound : (ls : List Leaf) → (n : ℕ) × ((x : ℕ) → n ≤ x → leaves_occurrences x ls ≡ 0)
 leaves_bound [] = (0, λ x b. refl)
@@ -83,7 +84,7 @@ pub record RawClosed (path : List ℕ) (k : ℕ) (f : List ℕ) (S : Region) (O 
   pub closed : Closed (pair (level_process raw) (renamed of_solid O))
 
 -- a membrane of a raw level in its place
-below_order : {n : ℕ} {m : Region} {ms ms' : Regions} (xs : List SolidAtom) (rs : List Rule) (L : Level) → TakenRegion n m ms ms'
+pub below_order : {n : ℕ} {m : Region} {ms ms' : Regions} (xs : List SolidAtom) (rs : List Rule) (L : Level) → TakenRegion n m ms ms'
     → Reordered (level_process (level (kept_atoms xs) (levels (replaced n L (kept_membranes ms))) [] [] (listed_rules rs))) (pair (held L) (renamed of_solid (region_process (region xs ms' rs))))
 below_order {n = n} {ms = ms} {ms' = ms'} xs rs L k =
     r_chain (r_same (level_listed (kept_atoms xs) (replaced n L (kept_membranes ms)) rs))

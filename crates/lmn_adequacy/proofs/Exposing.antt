@@ -2,13 +2,13 @@
 use Rattle.std.proofs.Common.{ℕ, zero, suc, cond, eqb, ltb, Bool, true, false, List, refl, sym, ap, subst, inl, inr, arith, ◌≡◌, ◌≢◌, ◌+◌, ◌≤◌, ◌<◌, ◌⊎◌, [], ◌∷◌, ◌∙◌, ◌-◌}
 use Rattle.lmn_congruence.specs.Congruence.{Congruent}
 use Rattle.lmn_congruence.specs.FreeNumber.{free_number}
-use Rattle.lmn_congruence.specs.FreeLinks.{link_bound, one_if_free, one_if_once, total}
+use Rattle.lmn_congruence.specs.FreeLinks.{link_bound, one_if_free, one_if_once, sum_below}
 use Rattle.lmn_congruence.specs.Fused.{Joins, NoConnector, fused}
 use Rattle.lmn_congruence.specs.LinkMaps.{SameCrossings}
 use Rattle.lmn_congruence.specs.Links.{one_if_same}
 use Rattle.lmn_congruence.specs.Process.{Linked, Process, atom, connector, membrane, nothing, occurrences, pair, renamed, rule}
 use Rattle.lmn_congruence.specs.UpToOrder.{Reordered, r_beside, r_chain, r_same, r_unit}
-use Rattle.lmn_congruence.proofs.Counts.{Occurs, same_or_not}
+use Rattle.lmn_congruence.proofs.Counts.{Occurs}
 use Rattle.lmn_congruence.proofs.Crossings.{free_number_below, occurrences_above, occurs_below}
 use Rattle.lmn_congruence.proofs.FreeNumbers.{free_total}
 use Rattle.lmn_congruence.proofs.FewestCrossings.{all_images, image_count, image_pick, with_image}
@@ -20,6 +20,7 @@ use Rattle.lmn_reduction.proofs.SettledForms.{reads_congruent}
 use Rattle.lmn_congruence.proofs.Totals.{highest, total_at_most, total_same, total_zero}
 use Rattle.lmn_adequacy.proofs.Ends.{AllMembranes}
 use Rattle.lmn_adequacy.proofs.Images.{no_connector_renamed, renamed_renamed, row_vanishes}
+use Rattle.lmn_base.proofs.Numbers.{same_or_not}
 
 -- H is a process whose links are those of a head, w its map into the solid, and K lies above all links.
 -- Each link of the head has a new name x + K, and a wire to w x where it stands once in the head.
@@ -31,24 +32,24 @@ module _ (H : Process) (w : ℕ → ℕ) (K : ℕ) where
   abbrev pub wire_places : ℕ → ℕ → ℕ
   wire_places z x = cond (eqb (occurrences x H) 1) (one_if_same z (x + K) + one_if_same z (w x)) 0
 
-  pub row_count : (n z : ℕ) → occurrences z (row (wires n)) ≡ total n (wire_places z)
+  pub row_count : (n z : ℕ) → occurrences z (row (wires n)) ≡ sum_below n (wire_places z)
   row_count zero z = refl
   row_count (suc n) z = go (eqb (occurrences n H) 1) (row_count n z)
     where
-      go : (b : Bool) → occurrences z (row (wires n)) ≡ total n (wire_places z)
-          → occurrences z (row (cond b ((n + K, w n) ∷ wires n) (wires n))) ≡ cond b (one_if_same z (n + K) + one_if_same z (w n)) 0 + total n (wire_places z)
+      go : (b : Bool) → occurrences z (row (wires n)) ≡ sum_below n (wire_places z)
+          → occurrences z (row (cond b ((n + K, w n) ∷ wires n) (wires n))) ≡ cond b (one_if_same z (n + K) + one_if_same z (w n)) 0 + sum_below n (wire_places z)
       go true i = omega (arith, i)
       go false i = omega (arith, i)
 
   -- below K the wires stand in for the images
-  wires_low : (n z : ℕ) → z < K → total n (wire_places z) ≤ total n (with_image w z (λ y. occurrences y H))
+  wires_low : (n z : ℕ) → z < K → sum_below n (wire_places z) ≤ sum_below n (with_image w z (λ y. occurrences y H))
   wires_low n z b = total_at_most n (wire_places z) (with_image w z (λ y. occurrences y H)) (λ x. at x (occurrences x H) (w x))
     where
       at : (x m k : ℕ) → cond (eqb m 1) (one_if_same z (x + K) + one_if_same z k) 0 ≤ cond (eqb k z) m 0
       at x m k = grind arith
 
   -- from K on there is one wire where the link stands once
-  wires_high : (n x : ℕ) → ((y : ℕ) → y < n → w y < K) → x < n → total n (wire_places (x + K)) ≡ cond (eqb (occurrences x H) 1) 1 0
+  wires_high : (n x : ℕ) → ((y : ℕ) → y < n → w y < K) → x < n → sum_below n (wire_places (x + K)) ≡ cond (eqb (occurrences x H) 1) 1 0
   wires_high n x low b = total_same n (wire_places (x + K)) (λ y. cond (eqb x y) (cond (eqb (occurrences x H) 1) 1 0) 0) (λ y c. at y (low y c) (same_or_not x y)) ∙ image_pick n x (cond (eqb (occurrences x H) 1) 1 0) b
     where
       same_here : (m k x : ℕ) → k < K → cond (eqb m 1) (one_if_same (x + K) (x + K) + one_if_same (x + K) k) 0 ≡ cond (eqb x x) (cond (eqb m 1) 1 0) 0
@@ -61,7 +62,7 @@ module _ (H : Process) (w : ℕ → ℕ) (K : ℕ) where
       at y c (inl e) = rw (← e) (same_here (occurrences x H) (w x) x (rw e c))
       at y c (inr d) = other (occurrences y H) (w y) y c d (cond (eqb (occurrences x H) 1) 1 0)
 
-  wires_past : (n x : ℕ) → ((y : ℕ) → y < n → w y < K) → n ≤ x → total n (wire_places (x + K)) ≡ 0
+  wires_past : (n x : ℕ) → ((y : ℕ) → y < n → w y < K) → n ≤ x → sum_below n (wire_places (x + K)) ≡ 0
   wires_past n x low b = total_same n (wire_places (x + K)) (λ y. 0) (λ y c. at (occurrences y H) (w y) y (low y c) (apart y c)) ∙ total_zero n (λ y. 0) (λ y. refl)
     where
       apart : (y : ℕ) → y < n → x ≢ y
@@ -146,7 +147,7 @@ module _ (H Z : Process) (w : ℕ → ℕ) (K : ℕ) (plain : NoConnector H) (pl
       above : (x : ℕ) → x + K ≢ z
       above x = omega arith
 
-  pub new_wires : (x : ℕ) → total (link_bound H) (wire_places H w K (x + K)) ≡ cond (eqb (occurrences x H) 1) 1 0
+  pub new_wires : (x : ℕ) → sum_below (link_bound H) (wire_places H w K (x + K)) ≡ cond (eqb (occurrences x H) 1) 1 0
   new_wires x = go (below_or_from x (link_bound H))
     where
       below_or_from : (x n : ℕ) → (x < n) ⊎ (n ≤ x)
@@ -155,7 +156,7 @@ module _ (H Z : Process) (w : ℕ → ℕ) (K : ℕ) (plain : NoConnector H) (pl
       none_there : (m : ℕ) → m ≡ 0 → ◌≡◌ {A = ℕ} 0 (cond (eqb m 1) 1 0)
       none_there m e = grind arith
 
-      go : (x < link_bound H) ⊎ (link_bound H ≤ x) → total (link_bound H) (wire_places H w K (x + K)) ≡ cond (eqb (occurrences x H) 1) 1 0
+      go : (x < link_bound H) ⊎ (link_bound H ≤ x) → sum_below (link_bound H) (wire_places H w K (x + K)) ≡ cond (eqb (occurrences x H) 1) 1 0
       go (inl b) = wires_high H w K (link_bound H) x low b
       go (inr b) = wires_past H w K (link_bound H) x low b ∙ none_there (occurrences x H) (occurrences_above x H b)
 
@@ -262,8 +263,8 @@ pub free_number_kept : (w : ℕ → ℕ) (P : Process) → KeepsCounts w P → f
 free_number_kept w P k =
     let n = link_bound P in
     let Q = renamed w P in
-    let N = link_bound Q + total n (λ y. suc (w y)) in
-    sym (free_number_below N Q (omega arith)) ∙ total_same N (one_if_free Q) (λ z. total n (with_image w z (one_if_free P))) (λ z b. at z (source w P z)) ∙ all_images N n w (one_if_free P) (λ y b. omega (arith, highest n w y b)) ∙ free_total P
+    let N = link_bound Q + sum_below n (λ y. suc (w y)) in
+    sym (free_number_below N Q (omega arith)) ∙ total_same N (one_if_free Q) (λ z. sum_below n (with_image w z (one_if_free P))) (λ z b. at z (source w P z)) ∙ all_images N n w (one_if_free P) (λ y b. omega (arith, highest n w y b)) ∙ free_total P
   where
     one_alone : (m n k : ℕ) → n ≢ 0 → k ≡ m → ¬ (m + n ≤ k)
     one_alone m n k o e = omega arith
@@ -291,7 +292,7 @@ free_number_kept w P k =
     none_of z y h (inl r) = no_places (eqb (w y) z) (one_if_free P y) (not_occurring P y r)
     none_of z y h (inr r) = other_colour (w y) z (one_if_free P y) (h y r)
 
-    at : (z : ℕ) → Source w P z → one_if_free (renamed w P) z ≡ total (link_bound P) (with_image w z (one_if_free P))
+    at : (z : ℕ) → Source w P z → one_if_free (renamed w P) z ≡ sum_below (link_bound P) (with_image w z (one_if_free P))
     at z (found x o e) =
         ap one_if_once (ap (λ i. occurrences i (renamed w P)) (sym e) ∙ k x o)
         ∙ sym (total_same (link_bound P) (with_image w z (one_if_free P)) (λ y. cond (eqb x y) (one_if_free P x) 0) (λ y b. pick z x y o e (same_or_not (occurrences y P) 0) (same_or_not x y)) ∙ image_pick (link_bound P) x (one_if_free P x) (occurs_below P x o))

@@ -1,7 +1,7 @@
 -- From where a head lies in a region to a step.
 use Rattle.std.proofs.Common.{ℕ, zero, suc, cond, eqb, ltb, Bool, true, false, List, map, refl, sym, ap, subst, inl, inr, arith, ◌≡◌, ◌≢◌, ◌+◌, ◌≤◌, ◌<◌, ◌⊎◌, [], ◌∷◌, ◌∙◌, ◌-◌}
 use Rattle.lmn_congruence.specs.Congruence.{Congruent, back, chain, same}
-use Rattle.lmn_congruence.specs.FreeLinks.{link_bound, one_if_once, total}
+use Rattle.lmn_congruence.specs.FreeLinks.{link_bound, one_if_once, sum_below}
 use Rattle.lmn_congruence.specs.Fused.{Joins, NoConnector, fused}
 use Rattle.lmn_congruence.specs.LinkedRules.{level_occurrences}
 use Rattle.lmn_congruence.specs.Orders.{Put, here, there}
@@ -25,15 +25,16 @@ use Rattle.lmn_congruence.proofs.Reordered.{r_right, reordered_congruent, reorde
 use Rattle.lmn_congruence.proofs.Solids.{put_together, region_plain}
 use Rattle.lmn_congruence.proofs.Totals.{highest}
 use Rattle.lmn_adequacy.specs.Embedding.{Plain}
-use Rattle.lmn_adequacy.specs.Next.{of_rule, of_solid}
 use Rattle.lmn_adequacy.proofs.Embedding.{same_guard}
 use Rattle.lmn_adequacy.proofs.Ends.{AllMembranes}
 use Rattle.lmn_adequacy.proofs.Exposing.{KeepsCounts, exposed_congruent, kept_ends, low_count, low_not_in_head, low_or_new, new_wires, row_count, wires}
 use Rattle.lmn_adequacy.proofs.Images.{fused_renamed, image_at_least, joins_renamed, reordered_fused, row_vanishes}
 use Rattle.lmn_adequacy.proofs.Orders.{r_over}
 use Rattle.lmn_adequacy.proofs.RawProcesses.{head_wires, made}
-use Rattle.lmn_adequacy.proofs.Skeleton.{LevelSkeleton, Parity, even, even_differs, even_not_odd, odd, odd_differs, parity, place, place_rule, place_solid}
+use Rattle.lmn_adequacy.proofs.Skeleton.{LevelSkeleton, Parity, even, odd, parity, place, place_rule, place_solid}
 use Rattle.lmn_adequacy.proofs.Wires.{at_most_two, even_less, once_below, same_parity, wires_exact, wires_join, wires_vanish, zero_or_two_even}
+use Rattle.lmn_splice.specs.Splice.{of_rule, of_solid}
+use Rattle.lmn_splice.proofs.Fusions.{apart_rule as even_not_odd, rule_once as even_differs, solid_once as odd_differs}
 
 made_proper : (t : Assignment) → Plain t → Proper (made t)
 made_proper t p = record {
@@ -100,7 +101,7 @@ module _ (t : Assignment) (p : Plain t) (r : Rule) (leaves : List Leaf) (membran
 
   -- a number above all links
   abbrev pub K : ℕ
-  K = above + (link_bound left + total (link_bound head) (λ y. suc (at y)))
+  K = above + (link_bound left + sum_below (link_bound head) (λ y. suc (at y)))
 
   pub head_order : Reordered (pair (renamed at head) left) (region_process m)
   head_order = r_chain (r_beside (r_chain r_regroup (r_chain (r_right (r_chain r_unit r_unit)) (r_chain r_swap r_unit)))) u.order

@@ -3,13 +3,15 @@ use Rattle.std.proofs.Common.{ℕ, List, map, refl, sym, ap, inl, inr, arith, �
 use Rattle.lmn_congruence.specs.Fused.{Joins, NoConnector, fused}
 use Rattle.lmn_congruence.specs.Links.{one_if_same, places}
 use Rattle.lmn_congruence.specs.Process.{Process, atom, connector, membrane, nothing, occurrences, pair, renamed, rule, together}
-use Rattle.lmn_congruence.specs.Rules.{Name, Rule}
+use Rattle.lmn_congruence.specs.Rules.{Name}
 use Rattle.lmn_congruence.specs.UpToOrder.{Reordered, r_back, r_beside, r_chain, r_inside, r_regroup, r_same, r_swap, r_unit}
 use Rattle.lmn_reduction.specs.Assignments.{Assignment}
 use Rattle.lmn_reduction.specs.Instances.{rules_of_contexts}
 use Rattle.lmn_reduction.specs.Parts.{OnlyAtoms}
-use Rattle.lmn_congruence.proofs.Counts.{map_after, none_if_apart, one_if_equal, same_or_not}
+use Rattle.lmn_congruence.proofs.Counts.{map_after, none_if_apart, one_if_equal}
 use Rattle.lmn_reduction.proofs.Merges.{row}
+use Rattle.lmn_base.proofs.Numbers.{same_or_not}
+use Rattle.lmn_congruence.proofs.TranslatedLinks.{no_link_in_rules as no_link_rules}
 
 one_least : (f : ℕ → ℕ) (x y : ℕ) → one_if_same x y ≤ one_if_same (f x) (f y)
 one_least f x y = go (same_or_not x y)
@@ -79,10 +81,6 @@ reordered_fused v (r_back d) = r_back (reordered_fused v d)
 reordered_fused v (r_chain d e) = r_chain (reordered_fused v d) (reordered_fused v e)
 
 -- ---- links that aren't there
-
-pub no_link_rules : (z : ℕ) (rs : List Rule) → occurrences z (together (map rule rs)) ≡ 0
-no_link_rules z [] = refl
-no_link_rules z (r ∷ rs) = omega (arith, no_link_rules z rs)
 
 pub no_link_rule_contexts : (t : Assignment) (z : ℕ) (qs : List Name) → occurrences z (together (rules_of_contexts t qs)) ≡ 0
 no_link_rule_contexts t z [] = refl

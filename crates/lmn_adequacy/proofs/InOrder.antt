@@ -15,18 +15,17 @@ use Rattle.lmn_reduction.proofs.Plains.{level_reordered}
 use Rattle.lmn_congruence.proofs.Reordered.{r_right, reordered_count}
 use Rattle.lmn_congruence.proofs.Solids.{put_together, region_plain}
 use Rattle.lmn_adequacy.specs.Embedding.{EmbedsAt, Plain, TakenRegion, filling, region_first, region_later}
-use Rattle.lmn_adequacy.specs.Next.{Contents, EmbedsInOrder, LeftToContext, LeftToRuleContext, MadeLeaves, MadeLevel, MadeMembranes, NextAt, RawAt, assignment_of, context_atoms, context_membranes, context_rules, fires_below, fires_here, kept_atoms, kept_level, kept_membranes, made_atom, made_atoms, made_connector, made_copy, made_level, made_membrane, no_context, no_made_leaf, no_made_membrane, no_rule_context, of_rule, of_solid, one_context, one_rule_context, raw_level, replaced, wire_leaves}
+use Rattle.lmn_adequacy.specs.Next.{Contents, EmbedsInOrder, LeftToContext, LeftToRuleContext, MadeLeaves, MadeLevel, MadeMembranes, NextAt, RawAt, assignment_of, context_atoms, context_membranes, context_rules, fires_below, fires_here, kept_atoms, kept_level, kept_membranes, made_atom, part_leaves, made_connector, made_copy, made_level, made_membrane, no_context, no_made_leaf, no_made_membrane, no_rule_context, one_context, one_rule_context, raw_level, replaced, wire_leaves}
 use Rattle.lmn_adequacy.proofs.Commits.{closed_as}
 use Rattle.lmn_adequacy.proofs.Embedding.{part_order}
 use Rattle.lmn_adequacy.proofs.Images.{reordered_fused}
-use Rattle.lmn_adequacy.proofs.Orders.{r_alone, r_both, r_exchange, r_over, taken_put}
+use Rattle.lmn_adequacy.proofs.Orders.{r_both, r_exchange, r_over, taken_put}
 use Rattle.lmn_adequacy.proofs.RawProcesses.{NextUpToOrder, Raw, head_wires, made, raw_below, raw_here}
+use Rattle.lmn_splice.specs.Splice.{of_rule, of_solid}
+use Rattle.lmn_congruence.proofs.Common.{rules_listed}
+use Rattle.lmn_reduction.proofs.Derivations.{alone as r_alone}
 
 -- ---- processes of levels in lists
-
-pub rules_listed : (rs : List Rule) → rules_list (listed_rules rs) ≡ rs
-rules_listed [] = refl
-rules_listed (r ∷ rs) = ap (λ k. r ∷ k) (rules_listed rs)
 
 abbrev pub held : Level → Process
 held l = membrane (level_process l)
@@ -76,7 +75,7 @@ kept_listed xs ms rs = kept_listed_from xs ms rs (kept_membranes_process ms)
 
 -- ---- what the body makes
 
-made_atoms_process : (xs : List SolidAtom) → together (map leaf_process (made_atoms xs)) ≡ together (map atom_process xs)
+made_atoms_process : (xs : List SolidAtom) → together (map leaf_process (part_leaves xs)) ≡ together (map atom_process xs)
 made_atoms_process [] = refl
 made_atoms_process (x ∷ xs) = ap (pair (atom_process x)) (made_atoms_process xs)
 
@@ -109,7 +108,7 @@ module _ (c : Contents) where
       record {
         processes = renamed i.to g.process ∷ u.processes;
         instances = leaf_and (of_typed k) u.instances;
-        order = r_chain (together_both leaf_process (made_atoms part) outs) (r_both (r_chain (r_same (made_atoms_process part)) (r_back (part_order i.to g.process part i.only_atoms i.atoms))) u.order);
+        order = r_chain (together_both leaf_process (part_leaves part) outs) (r_both (r_chain (r_same (made_atoms_process part)) (r_back (part_order i.to g.process part i.only_atoms i.atoms))) u.order);
       }
 
   -- what untyped contexts, rule contexts and rules stand for

@@ -5,22 +5,24 @@ use Rattle.lmn_congruence.specs.Links.{places}
 use Rattle.lmn_congruence.specs.Orders.{Among, Put, Shuffle, at_head, further, here, more, none, there}
 use Rattle.lmn_congruence.specs.Process.{OneToOneOn}
 use Rattle.lmn_congruence.specs.Regions.{SolidAtom}
-use Rattle.lmn_reduction.specs.Parts.{IsGround, Reached, Rooted, across, atoms_of, the_root}
-use Rattle.lmn_congruence.proofs.Counts.{none_if_apart, occurs_once, one_if_equal, same_or_not}
+use Rattle.lmn_reduction.specs.Parts.{IsGround, ReachesLink, Rooted, across, atoms_at_top, the_root}
+use Rattle.lmn_congruence.proofs.Counts.{none_if_apart, occurs_once, one_if_equal}
 use Rattle.lmn_congruence.proofs.Renaming.{occurrences_none}
 use Rattle.lmn_congruence.proofs.Shuffles.{shuffle_append, shuffle_chain, shuffle_flip, shuffle_same}
 use Rattle.lmn_adequacy.specs.Embedding.{IsPart}
-use Rattle.lmn_adequacy.specs.Next.{DepthFirst, Reaches, links_at, reaches_listed, reaches_new, reaches_none}
+use Rattle.lmn_adequacy.specs.Next.{DepthFirst, ReachesAtoms, links_at, reaches_listed, reaches_new, reaches_none}
 use Rattle.lmn_adequacy.proofs.Bodies.{Whole}
-use Rattle.lmn_adequacy.proofs.Copies.{places_among}
-use Rattle.lmn_adequacy.proofs.Depth.{SameAtoms, among_places, at_append, at_cons, at_put, at_same, places_append, same_back, same_then}
+use Rattle.lmn_adequacy.proofs.Depth.{SameAtoms, at_append, at_cons, at_put, at_same, same_back, same_then}
 use Rattle.lmn_adequacy.proofs.Embedding.{part_atom, part_shuffled}
 use Rattle.lmn_adequacy.proofs.Exposing.{Source, found, missing, source}
 use Rattle.lmn_adequacy.proofs.Images.{positive}
 use Rattle.lmn_adequacy.proofs.OneEmbedding.{root_occurs}
-use Rattle.lmn_adequacy.proofs.Orders.{among_append, among_left, among_map, among_right, either}
+use Rattle.lmn_adequacy.proofs.Orders.{either}
 use Rattle.lmn_adequacy.proofs.SameParts.{at_among, part_count, part_image, shuffle_among}
 use Rattle.lmn_adequacy.proofs.Wires.{at_most_two}
+use Rattle.lmn_base.proofs.Numbers.{same_or_not}
+use Rattle.lmn_congruence.proofs.Common.{among_apart as among_append, among_left, among_right, among_map, places_among, among_places}
+use Rattle.lmn_congruence.proofs.TranslatedLinks.{places_append}
 
 -- each link stands in two places of both lists together, or in none
 abbrev Even : List ℕ → List SolidAtom → Type 0
@@ -29,7 +31,7 @@ Even seen G = (z : ℕ) → (places z seen + places z (links_at G) ≡ 0) ⊎ (p
 record Reach (ys seen : List ℕ) (G : List SolidAtom) : Type 0 where
   pub listed : List SolidAtom
   pub rest : List SolidAtom
-  pub reaches : Reaches ys seen listed
+  pub reaches : ReachesAtoms ys seen listed
   pub same : SameAtoms (listed ++ rest) G
   pub done : (z : ℕ) → Among z ys ⊎ Among z (links_at listed) → places z (seen ++ links_at listed) ≡ 2
 
@@ -141,57 +143,57 @@ reach (suc n) ys seen G l e w = reach_step (suc n) (λ ys' seen' G' b e' w'. rea
 
 pub record Listed (g : Rooted) (f : ℕ → ℕ) (x : ℕ) : Type 0 where
   pub part : List SolidAtom
-  pub atoms : Shuffle (λ a b. part_atom f a ≡ b) (atoms_of g.process) part
+  pub atoms : Shuffle (λ a b. part_atom f a ≡ b) (atoms_at_top g.process) part
   pub order : DepthFirst x part
 
 pub listing : (g : Rooted) → IsGround g → Whole g → (f : ℕ → ℕ) → OneToOneOn f g.process → (x : ℕ) → f g.root ≡ x → Listed g f x
 listing g ground whole f one x root = record { part = u.listed; atoms = shuffle_chain (λ a b c p q. p ∙ q) i.atoms u.listed (same_back (subst (λ k. SameAtoms k G) (ap (λ k. u.listed ++ k) none_over ∙ append-nil u.listed) u.same)); order = u.reaches }
   where
     G : List SolidAtom
-    G = map (part_atom f) (atoms_of g.process)
+    G = map (part_atom f) (atoms_at_top g.process)
 
-    i : IsPart g x (map (part_atom f) (atoms_of g.process))
-    i = record { only_atoms = ground.only_atoms; to = f; one_to_one = one; root = root; atoms = part_shuffled f (atoms_of g.process) }
+    i : IsPart g x (map (part_atom f) (atoms_at_top g.process))
+    i = record { only_atoms = ground.only_atoms; to = f; one_to_one = one; root = root; atoms = part_shuffled f (atoms_at_top g.process) }
 
-    root_places : places x (links_at (map (part_atom f) (atoms_of g.process))) ≡ 1
-    root_places = ap (λ w. places w (links_at (map (part_atom f) (atoms_of g.process)))) (sym root) ∙ part_image i g.root (root_occurs ground) ∙ ground.root_is_free
+    root_places : places x (links_at (map (part_atom f) (atoms_at_top g.process))) ≡ 1
+    root_places = ap (λ w. places w (links_at (map (part_atom f) (atoms_at_top g.process)))) (sym root) ∙ part_image i g.root (root_occurs ground) ∙ ground.root_is_free
 
-    even : Even (x ∷ []) (map (part_atom f) (atoms_of g.process))
+    even : Even (x ∷ []) (map (part_atom f) (atoms_at_top g.process))
     even z = go (source f g.process z)
       where
-        at_root : (z : ℕ) → z ≡ x → (places z (x ∷ []) + places z (links_at (map (part_atom f) (atoms_of g.process))) ≡ 0) ⊎ (places z (x ∷ []) + places z (links_at (map (part_atom f) (atoms_of g.process))) ≡ 2)
-        at_root z e = inr (omega (arith, one_if_equal z x e, ap (λ w. places w (links_at (map (part_atom f) (atoms_of g.process)))) e, root_places))
+        at_root : (z : ℕ) → z ≡ x → (places z (x ∷ []) + places z (links_at (map (part_atom f) (atoms_at_top g.process))) ≡ 0) ⊎ (places z (x ∷ []) + places z (links_at (map (part_atom f) (atoms_at_top g.process))) ≡ 2)
+        at_root z e = inr (omega (arith, one_if_equal z x e, ap (λ w. places w (links_at (map (part_atom f) (atoms_at_top g.process)))) e, root_places))
 
-        elsewhere : (z : ℕ) → z ≢ x → (places z (links_at (map (part_atom f) (atoms_of g.process))) ≡ 0) ⊎ (places z (links_at (map (part_atom f) (atoms_of g.process))) ≡ 2)
-            → (places z (x ∷ []) + places z (links_at (map (part_atom f) (atoms_of g.process))) ≡ 0) ⊎ (places z (x ∷ []) + places z (links_at (map (part_atom f) (atoms_of g.process))) ≡ 2)
+        elsewhere : (z : ℕ) → z ≢ x → (places z (links_at (map (part_atom f) (atoms_at_top g.process))) ≡ 0) ⊎ (places z (links_at (map (part_atom f) (atoms_at_top g.process))) ≡ 2)
+            → (places z (x ∷ []) + places z (links_at (map (part_atom f) (atoms_at_top g.process))) ≡ 0) ⊎ (places z (x ∷ []) + places z (links_at (map (part_atom f) (atoms_at_top g.process))) ≡ 2)
         elsewhere z d (inl e) = inl (omega (arith, none_if_apart z x d, e))
         elsewhere z d (inr e) = inr (omega (arith, none_if_apart z x d, e))
 
-        go : Source f g.process z → (places z (x ∷ []) + places z (links_at (map (part_atom f) (atoms_of g.process))) ≡ 0) ⊎ (places z (x ∷ []) + places z (links_at (map (part_atom f) (atoms_of g.process))) ≡ 2)
+        go : Source f g.process z → (places z (x ∷ []) + places z (links_at (map (part_atom f) (atoms_at_top g.process))) ≡ 0) ⊎ (places z (x ∷ []) + places z (links_at (map (part_atom f) (atoms_at_top g.process))) ≡ 2)
         go (found y o e) = by_root (same_or_not y g.root)
           where
-            by_root : (y ≡ g.root) ⊎ (y ≢ g.root) → (places z (x ∷ []) + places z (links_at (map (part_atom f) (atoms_of g.process))) ≡ 0) ⊎ (places z (x ∷ []) + places z (links_at (map (part_atom f) (atoms_of g.process))) ≡ 2)
+            by_root : (y ≡ g.root) ⊎ (y ≢ g.root) → (places z (x ∷ []) + places z (links_at (map (part_atom f) (atoms_at_top g.process))) ≡ 0) ⊎ (places z (x ∷ []) + places z (links_at (map (part_atom f) (atoms_at_top g.process))) ≡ 2)
             by_root (inl q) = at_root z (sym e ∙ ap f q ∙ root)
             by_root (inr d) =
                 elsewhere z (λ q. d (one y g.root o (root_occurs ground) (e ∙ q ∙ sym root)))
-                (subst (λ k. (k ≡ 0) ⊎ (k ≡ 2)) (sym (ap (λ w. places w (links_at (map (part_atom f) (atoms_of g.process)))) (sym e) ∙ part_image i y o)) (whole y d))
+                (subst (λ k. (k ≡ 0) ⊎ (k ≡ 2)) (sym (ap (λ w. places w (links_at (map (part_atom f) (atoms_at_top g.process)))) (sym e) ∙ part_image i y o)) (whole y d))
         go (missing h) = elsewhere z (λ q. h g.root (root_occurs ground) (root ∙ sym q)) (inl (part_count i z ∙ occurrences_none f z g.process h))
 
-    u : Reach (x ∷ []) (x ∷ []) (map (part_atom f) (atoms_of g.process))
-    u = reach (length (map (part_atom f) (atoms_of g.process))) (x ∷ []) (x ∷ []) (map (part_atom f) (atoms_of g.process)) (omega arith) even (λ y k. root_there y k)
+    u : Reach (x ∷ []) (x ∷ []) (map (part_atom f) (atoms_at_top g.process))
+    u = reach (length (map (part_atom f) (atoms_at_top g.process))) (x ∷ []) (x ∷ []) (map (part_atom f) (atoms_at_top g.process)) (omega arith) even (λ y k. root_there y k)
       where
         root_there : (y : ℕ) → Among y (x ∷ []) → places y (x ∷ []) ≢ 0
         root_there y at_head = occurs_once (places y (y ∷ [])) (omega (arith, one_if_equal y y refl))
         root_there y (further k) = elim k [ ]
 
     count : (z : ℕ) → places z (x ∷ []) + (places z (links_at u.listed) + places z (links_at u.rest)) ≤ 2
-    count z = omega (arith, at_most_two (places z (x ∷ []) + places z (links_at (map (part_atom f) (atoms_of g.process)))) (even z), at_same z u.same, at_append z u.listed u.rest)
+    count z = omega (arith, at_most_two (places z (x ∷ []) + places z (links_at (map (part_atom f) (atoms_at_top g.process)))) (even z), at_same z u.same, at_append z u.listed u.rest)
 
     -- each link that is reached has both places among what is listed
-    reached_done : {y : ℕ} → Reached g y → places (f y) ((x ∷ []) ++ links_at u.listed) ≡ 2
+    reached_done : {y : ℕ} → ReachesLink g y → places (f y) ((x ∷ []) ++ links_at u.listed) ≡ 2
     reached_done the_root = u.done (f g.root) (inl (subst (λ k. Among k (x ∷ [])) (sym root) at_head))
     reached_done (across {a = a} {xs = ys} {x = y} {y = z} k l l' r) =
-        let b : Among (part_atom f (a, ys)) (map (part_atom f) (atoms_of g.process)) = among_map (part_atom f) k in
+        let b : Among (part_atom f (a, ys)) (map (part_atom f) (atoms_at_top g.process)) = among_map (part_atom f) k in
         let v = shuffle_among (shuffle_flip u.same) b in
         either (among_append u.listed u.rest v.1)
         (λ w. u.done (f z) (inr (at_there (f z) (subst (λ c. Among (f z) c.links) (sym v.2) (among_map f l')) w)))
@@ -211,7 +213,7 @@ listing g ground whole f one x root = record { part = u.listed; atoms = shuffle_
         go [] e = sym e
         go (b ∷ us) e = absurd (clash (shuffle_among u.same (among_right u.listed (subst (Among b) e at_head))))
           where
-            clash : (c : SolidAtom) × (Among c (map (part_atom f) (atoms_of g.process))) × (b ≡ c) → ⊥
+            clash : (c : SolidAtom) × (Among c (map (part_atom f) (atoms_at_top g.process))) × (b ≡ c) → ⊥
             clash v =
                 let w = shuffle_among (shuffle_flip i.atoms) v.1 in
                 let c = ground.connected w.1 in

@@ -1,6 +1,6 @@
 -- An embedding gives its contexts the lists that they stand for, in their order.
 use Rattle.std.proofs.Common.{ℕ, List, map, refl, sym, subst, subst₂, inl, inr, ◌≡◌, ◌≢◌, ◌⊎◌, [], ◌∷◌, ◌++◌, ◌∙◌}
-use Rattle.lmn_congruence.specs.Orders.{Among, Shuffle, at_head, further}
+use Rattle.lmn_congruence.specs.Orders.{Among, Shuffle, at_head, further, EachOnce}
 use Rattle.lmn_congruence.specs.Process.{Process, atom, connector, membrane, nothing, pair, rule, together}
 use Rattle.lmn_congruence.specs.Regions.{Region, Regions, SolidAtom, atom_process, no_region, region, region_and, region_process, regions_processes}
 use Rattle.lmn_congruence.specs.Rules.{Label, Leaf, Level, Levels, Name, Rule, Rules, head_of, level, level_and, no_rule}
@@ -8,18 +8,19 @@ use Rattle.lmn_congruence.specs.UpToOrder.{Reordered}
 use Rattle.lmn_reduction.specs.Assignments.{Assignment, NoRuleAtTop}
 use Rattle.lmn_reduction.specs.Firing.{typed_contexts}
 use Rattle.lmn_reduction.specs.Instances.{rules_of_contexts}
-use Rattle.lmn_congruence.proofs.Counts.{same_or_not}
 use Rattle.lmn_congruence.proofs.Reordered.{SamePiece, itself, pieces, reordered_pieces}
 use Rattle.lmn_congruence.proofs.Shuffles.{shuffle_flip}
-use Rattle.lmn_adequacy.specs.Accepted.{Accepted, AtMostOne, EachLevel, EachOf, EachOnce, all_contexts, all_rule_contexts, contexts_in, membranes_of, own_contexts, own_rule_contexts, own_rules, rule_contexts_in}
+use Rattle.lmn_adequacy.specs.Accepted.{Accepted, AtMostOne, EachLevel, EachOf, all_contexts, all_rule_contexts, contexts_in, own_membranes, own_contexts, own_rule_contexts, own_rules, rule_contexts_in}
 use Rattle.lmn_adequacy.specs.Embedding.{AtomImages, EmbedsAt, KeepsLinks, LevelImages, MembraneImages, Plain, TakenRegion, TypedParts, filling, image_and, level_images, membrane_image_and, no_image, no_membrane_image, no_part, no_part_of_atom, part_and, typed_later}
 use Rattle.lmn_adequacy.specs.Next.{Contents, EachLeft, EachLeftIn, EmbedsInOrder, LeftToContext, LeftToRuleContext, assignment_of, no_context, no_rule_context, one_context, one_rule_context}
 use Rattle.lmn_adequacy.proofs.Embedding.{same_guard}
 use Rattle.lmn_adequacy.proofs.InOrder.{literal_filling}
 use Rattle.lmn_adequacy.proofs.OneEmbedding.{same_head, same_tail}
-use Rattle.lmn_adequacy.proofs.Orders.{among_append, among_left, among_right, either}
+use Rattle.lmn_adequacy.proofs.Orders.{either}
 use Rattle.lmn_adequacy.proofs.RegionPieces.{pieces_of, region_pieces}
 use Rattle.lmn_adequacy.proofs.SameParts.{shuffle_among}
+use Rattle.lmn_base.proofs.Numbers.{same_or_not}
+use Rattle.lmn_congruence.proofs.Common.{among_apart as among_append, among_left, among_right}
 
 -- ---- names
 
@@ -171,8 +172,8 @@ module _ (t : Assignment) (plain : Plain t) where
     pub atoms : Name → List SolidAtom
     pub membranes : Name → Regions
     pub rule_lists : Name → List Rule
-    pub holds : (A : Name → List SolidAtom) (M : Name → Regions) (R : Name → List Rule) → ((p : Name) → Among p (contexts_in (membranes_of l)) → (A p ≡ atoms p) × (M p ≡ membranes p))
-        → ((q : Name) → Among q (rule_contexts_in (membranes_of l)) → R q ≡ rule_lists q) → (i : LevelImages (read_as t A M R) l ns m rest) × EachLeft (contents_with t A M R) i
+    pub holds : (A : Name → List SolidAtom) (M : Name → Regions) (R : Name → List Rule) → ((p : Name) → Among p (contexts_in (own_membranes l)) → (A p ≡ atoms p) × (M p ≡ membranes p))
+        → ((q : Name) → Among q (rule_contexts_in (own_membranes l)) → R q ≡ rule_lists q) → (i : LevelImages (read_as t A M R) l ns m rest) × EachLeft (contents_with t A M R) i
 
   pub record LiteralLevels (ls : Levels) (ns : List ℕ) (ms rest : Regions) : Type 0 where
     pub atoms : Name → List SolidAtom
@@ -244,7 +245,7 @@ module _ (t : Assignment) (plain : Plain t) where
   NoRules ls = EachOf (λ l. own_rules l ≡ no_rule) ls
 
   mutual
-    pub level_literal : {l : Level} {ns : List ℕ} {m rest : Region} → LevelImages t l ns m rest → Few (membranes_of l) → NoRules (membranes_of l) → EachOnce (contexts_in (membranes_of l)) → EachOnce (rule_contexts_in (membranes_of l)) → LiteralLevel l ns m rest
+    pub level_literal : {l : Level} {ns : List ℕ} {m rest : Region} → LevelImages t l ns m rest → Few (own_membranes l) → NoRules (own_membranes l) → EachOnce (contexts_in (own_membranes l)) → EachOnce (rule_contexts_in (own_membranes l)) → LiteralLevel l ns m rest
     level_literal (level_images i j k) few rules once once' =
         let u = membranes_literal k few rules once once' in
         record {
@@ -263,10 +264,10 @@ module _ (t : Assignment) (plain : Plain t) where
         let w = membranes_literal v few.1 no_rules.1 (once_right P (contexts_in ls) once) (once_right Q (rule_contexts_in ls) once') in
         membrane_step leaves membranes ls ps qs rules n ns os m rest ms ms' ms'' no_rules.0.0 k u kl d w few.0.0.0 few.0.0.1 once once'
 
-inner_rules : (l : Level) → EachLevel (λ l. own_rules l ≡ no_rule) l → EachOf (λ l. own_rules l ≡ no_rule) (membranes_of l)
+inner_rules : (l : Level) → EachLevel (λ l. own_rules l ≡ no_rule) l → EachOf (λ l. own_rules l ≡ no_rule) (own_membranes l)
 inner_rules (level leaves membranes contexts rule_contexts rules) e = e.1
 
-inner_once : (l : Level) → EachOnce (all_contexts l) → EachOnce (all_rule_contexts l) → EachOnce (contexts_in (membranes_of l)) × EachOnce (rule_contexts_in (membranes_of l))
+inner_once : (l : Level) → EachOnce (all_contexts l) → EachOnce (all_rule_contexts l) → EachOnce (contexts_in (own_membranes l)) × EachOnce (rule_contexts_in (own_membranes l))
 inner_once (level leaves membranes ps qs rules) o o' = (once_right ps (contexts_in membranes) o, once_right qs (rule_contexts_in membranes) o')
 
 pub embeds_in_order : {r : Rule} {f : List ℕ} {m : Region} → Accepted r → EmbedsAt r f m → EmbedsInOrder r f m

@@ -9,21 +9,22 @@ use Rattle.lmn_congruence.specs.Process.{OneToOneOn, occurrences, renamed, toget
 use Rattle.lmn_congruence.specs.Rules.{Leaf, Level, Levels, Name, Rule, atom_leaf, connector_leaf, level, level_and, no_level, rules_list, typed_leaf}
 use Rattle.lmn_congruence.specs.Translation.{levels, rules as listed_rules}
 use Rattle.lmn_reduction.specs.Assignments.{Assignment}
-use Rattle.lmn_reduction.specs.Firing.{typed_contexts, typed_contexts_of, typed_leaves}
+use Rattle.lmn_reduction.specs.Firing.{typed_contexts, typed_contexts_in, typed_leaves}
 use Rattle.lmn_reduction.specs.Parts.{IsGround}
 use Rattle.lmn_congruence.proofs.Reordered.{reordered_count}
 use Rattle.lmn_adequacy.specs.Accepted.{all_contexts, contexts_in}
 use Rattle.lmn_adequacy.specs.Embedding.{IsPart, Plain}
-use Rattle.lmn_adequacy.specs.Next.{Contents, MadeLeaves, MadeLevel, MadeMembranes, assignment_of, context_atoms, context_membranes, context_rules, kept_atoms, made_atom, made_atoms, made_connector, made_copy, made_level, made_membrane, no_made_leaf, no_made_membrane, of_rule, of_solid}
+use Rattle.lmn_adequacy.specs.Next.{Contents, MadeLeaves, MadeLevel, MadeMembranes, assignment_of, context_atoms, context_membranes, context_rules, kept_atoms, made_atom, part_leaves, made_connector, made_copy, made_level, made_membrane, no_made_leaf, no_made_membrane}
 use Rattle.lmn_adequacy.proofs.Bodies.{Copied, Whole, context_places, context_places_append, copied_links, copied_more, copied_none, odd_contexts, odd_not_even, past, past_differs}
 use Rattle.lmn_adequacy.proofs.Copies.{made_places}
-use Rattle.lmn_adequacy.proofs.Images.{no_link_rules}
 use Rattle.lmn_adequacy.proofs.InOrder.{contexts_listed, held, level_listed, listed, listed_both, together_both}
 use Rattle.lmn_adequacy.proofs.Listing.{listing}
-use Rattle.lmn_adequacy.proofs.Orders.{among_left, among_right}
 use Rattle.lmn_adequacy.proofs.RawProcesses.{made}
 use Rattle.lmn_adequacy.proofs.SameParts.{part_count}
 use Rattle.lmn_adequacy.proofs.Skeleton.{copy_count, copy_map, copy_one, copy_root, no_even_contexts, places_even}
+use Rattle.lmn_splice.specs.Splice.{of_rule, of_solid}
+use Rattle.lmn_congruence.proofs.TranslatedLinks.{no_link_in_rules as no_link_rules}
+use Rattle.lmn_congruence.proofs.Common.{among_left, among_right}
 
 leaves_both : (z : ℕ) (xs ys : List Leaf) → occurrences z (together (map leaf_process (xs ++ ys))) ≡ occurrences z (together (map leaf_process xs)) + occurrences z (together (map leaf_process ys))
 leaves_both z xs ys = reordered_count (together_both leaf_process xs ys) z
@@ -94,10 +95,10 @@ module _ (c : Contents) (p : Plain (assignment_of c)) where
       let root = copy_root t p G (past t p N) y G.root refl in
       let k = listing G e.0 e.1 f one_f (of_rule y) root in
       let i : IsPart G (of_rule y) k.part = record { only_atoms = e.0.only_atoms; to = f; one_to_one = one_f; root = root; atoms = k.atoms } in
-      let n : (z : ℕ) → occurrences z (together (map leaf_process (made_atoms k.part ++ u.outs))) ≡ occurrences z (renamed f G.process) + occurrences z (together (map leaf_process u.outs)) =
-      λ z. omega (arith, leaves_both z (made_atoms k.part) u.outs, made_places z k.part, part_count i z) in
+      let n : (z : ℕ) → occurrences z (together (map leaf_process (part_leaves k.part ++ u.outs))) ≡ occurrences z (renamed f G.process) + occurrences z (together (map leaf_process u.outs)) =
+      λ z. omega (arith, leaves_both z (part_leaves k.part) u.outs, made_places z k.part, part_count i z) in
       record {
-        outs = made_atoms k.part ++ u.outs;
+        outs = part_leaves k.part ++ u.outs;
         makes = made_copy i k.order u.makes;
         count = λ x. omega (arith, n (of_rule x), copy_count t p G (past t p N) y x (p.root_is_free q) one, u.count x);
         next = u.next;
@@ -116,7 +117,7 @@ module _ (c : Contents) (p : Plain (assignment_of c)) where
   mutual
     pub level_listed_from : (l : Level) → Ready (typed_contexts l) → (N : ℕ) → LevelListed l N
     level_listed_from (level leaves membranes ps qs rules) w N =
-        let u = leaves_listed leaves (λ q a. w q (among_left (typed_contexts_of membranes) a)) N in
+        let u = leaves_listed leaves (λ q a. w q (among_left (typed_contexts_in membranes) a)) N in
         let v = levels_listed_from membranes (λ q a. w q (among_right (typed_leaves leaves) a)) u.next in
         record {
           outs = u.outs ++ kept_atoms (context_atoms c ps);
@@ -131,10 +132,10 @@ module _ (c : Contents) (p : Plain (assignment_of c)) where
               record { copies = d.copies; is = omega (arith, d.is, level_count (of_solid L) u.outs v.membranes ps qs (rules_list rules), odd_contexts t p L ps, context_places_append t p L ps (contexts_in membranes)); whole = d.whole };
         }
 
-    pub levels_listed_from : (ls : Levels) → Ready (typed_contexts_of ls) → (N : ℕ) → LevelsListed ls N
+    pub levels_listed_from : (ls : Levels) → Ready (typed_contexts_in ls) → (N : ℕ) → LevelsListed ls N
     levels_listed_from no_level w N = record { membranes = []; makes = no_made_membrane; count = λ x. refl; next = N; later = omega arith; odd = λ L. copied_none N N L 0 0 refl }
     levels_listed_from (level_and l ls) w N =
-        let u = level_listed_from l (λ q a. w q (among_left (typed_contexts_of ls) a)) N in
+        let u = level_listed_from l (λ q a. w q (among_left (typed_contexts_in ls) a)) N in
         let v = levels_listed_from ls (λ q a. w q (among_right (typed_contexts l) a)) u.next in
         let e = level_listed u.outs u.membranes u.rule_list in
         record {

@@ -8,11 +8,12 @@ use Rattle.lmn_congruence.specs.Process.{Free, Linked, Process, atom, connector,
 use Rattle.lmn_congruence.specs.Regions.{Region, Regions, SolidAtom, no_region, region, region_and}
 use Rattle.lmn_congruence.specs.Rules.{Leaf, Level, Levels, Rule, atom_leaf, connector_leaf, level, level_and, no_level, rules_list, typed_leaf}
 use Rattle.lmn_congruence.specs.Same.{IsRenamed}
-use Rattle.lmn_congruence.proofs.Counts.{Occurs, in_left, in_right, same_or_not}
+use Rattle.lmn_congruence.proofs.Counts.{Occurs, in_left, in_right}
 use Rattle.lmn_reduction.proofs.OneSolid.{solid_is_one}
 use Rattle.lmn_congruence.proofs.Renaming.{renamed_agree, renamed_id}
 use Rattle.lmn_adequacy.proofs.Images.{fused_renamed}
 use Rattle.lmn_adequacy.proofs.ReadRegions.{append_regions, joined, region_from}
+use Rattle.lmn_base.proofs.Numbers.{same_or_not}
 
 pub record Moved (P P' : Process) : Type 0 where
   pub to : ℕ → ℕ

@@ -1,6 +1,6 @@
 -- Each solid has a renaming with its links numbered in printed order, and only one.
-use Rattle.std.proofs.Common.{ℕ, suc, cond, eqb, List, map, refl, sym, ap, subst, inl, inr, arith, ◌≡◌, ◌≢◌, ◌≤◌, ◌<◌, ◌⊎◌, [], ◌∷◌, ◌++◌, ◌∙◌}
-use Rattle.std.proofs.lemmas.List.{map-append, map-id}
+use Rattle.std.proofs.Common.{ℕ, suc, cond, eqb, List, map, refl, sym, ap, subst, inl, inr, arith, ◌≡◌, ◌≢◌, ◌≤◌, ◌<◌, ◌⊎◌, [], ◌∷◌, ◌∙◌}
+use Rattle.std.proofs.lemmas.List.{map-id}
 use Rattle.lmn_base.specs.Links.{Numbers, NumbersLinks, known, new, no_more}
 use Rattle.lmn_congruence.specs.Fused.{Joins}
 use Rattle.lmn_congruence.specs.Links.{places}
@@ -10,26 +10,22 @@ use Rattle.lmn_congruence.specs.Process.{Closed, OneToOneOn, Process, atom, conn
 use Rattle.lmn_congruence.specs.Regions.{Region, Regions, SolidAtom, no_region, region, region_and, region_process, regions_processes}
 use Rattle.lmn_congruence.specs.Rules.{Level}
 use Rattle.lmn_congruence.specs.Same.{IsRenamed, renamed_atom, renamed_region, renamed_regions}
-use Rattle.lmn_congruence.proofs.Counts.{Occurs, same_or_not}
+use Rattle.lmn_congruence.proofs.Counts.{Occurs}
 use Rattle.lmn_reduction.proofs.OneSolid.{level_taken, region_renamed}
 use Rattle.lmn_congruence.proofs.Renaming.{occurrences_image, occurrences_none}
 use Rattle.lmn_adequacy.specs.Next.{links_at}
 use Rattle.lmn_adequacy.specs.Numbered.{IsNumbered, printed_links, printed_links_in}
-use Rattle.lmn_adequacy.proofs.Copies.{places_among}
-use Rattle.lmn_adequacy.proofs.Depth.{among_places, places_append}
+use Rattle.lmn_adequacy.proofs.Depth.{renamed_links as atoms_links}
 use Rattle.lmn_adequacy.proofs.Exposing.{Source, found, missing, source}
-use Rattle.lmn_adequacy.proofs.Images.{no_link_rules}
-use Rattle.lmn_adequacy.proofs.Orders.{among_left, among_right, either}
-use Rattle.lmn_adequacy.proofs.SameParts.{atoms_places, map_known}
+use Rattle.lmn_adequacy.proofs.Orders.{either}
+use Rattle.lmn_adequacy.proofs.SameParts.{atoms_places}
+use Rattle.lmn_base.proofs.Common.{numbers_head as one_number}
+use Rattle.lmn_base.proofs.Numbers.{same_or_not}
+use Rattle.lmn_congruence.proofs.TranslatedLinks.{no_link_in_rules as no_link_rules, places_append}
+use Rattle.lmn_congruence.proofs.Common.{among_left, among_right, places_among, among_places, map_known}
+use Rattle.lmn_base.proofs.Lists.{join_maps}
 
 -- ---- printed links
-
-join_maps : (f : ℕ → ℕ) (xs ys : List ℕ) {xs' ys' : List ℕ} → xs' ≡ map f xs → ys' ≡ map f ys → xs' ++ ys' ≡ map f (xs ++ ys)
-join_maps f xs ys e d = cc (e, d) ∙ sym (map-append f xs ys)
-
-atoms_links : (f : ℕ → ℕ) (xs : List SolidAtom) → links_at (map (renamed_atom f) xs) ≡ map f (links_at xs)
-atoms_links f [] = refl
-atoms_links f (x ∷ xs) = join_maps f x.links (links_at xs) refl (atoms_links f xs)
 
 mutual
   region_links : (f : ℕ → ℕ) (S : Region) → printed_links (renamed_region f S) ≡ map f (printed_links S)
@@ -70,10 +66,6 @@ mutual
 record Leaves (f : ℕ → ℕ) (P : Process) (n : ℕ) : Type 0 where
   pub occur : (x : ℕ) → x < n → Occurs x P
   pub stay : (x : ℕ) → x < n → f x ≡ x
-
-one_number : {n m y : ℕ} {ys : List ℕ} → Numbers n (y ∷ ys) m → ((y < n) × Numbers n ys m) ⊎ ((y ≡ n) × Numbers (suc n) ys m)
-one_number (known l s) = inl (l, s)
-one_number (new s) = inr (refl, s)
 
 module _ (f : ℕ → ℕ) (P : Process) (one : OneToOneOn f P) where
   one_further : (n : ℕ) → Leaves f P n → Occurs n P → f n ≡ n → Leaves f P (suc n)

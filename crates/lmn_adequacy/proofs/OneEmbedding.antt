@@ -7,24 +7,25 @@ use Rattle.lmn_congruence.specs.Process.{occurrences, together}
 use Rattle.lmn_congruence.specs.Regions.{Region, Regions, SolidAtom, region, region_and, region_process, regions_processes}
 use Rattle.lmn_congruence.specs.Rules.{Leaf, Level, Levels, Name, Rule, level}
 use Rattle.lmn_reduction.specs.Assignments.{Assignment}
-use Rattle.lmn_reduction.specs.Firing.{typed_contexts, typed_contexts_of, typed_leaves}
-use Rattle.lmn_reduction.specs.Parts.{IsGround, Rooted, SameGraph}
+use Rattle.lmn_reduction.specs.Firing.{typed_contexts, typed_contexts_in, typed_leaves}
+use Rattle.lmn_reduction.specs.Parts.{IsGround, Rooted, EqualParts}
 use Rattle.lmn_congruence.proofs.Counts.{Occurs, occurs_once}
 use Rattle.lmn_congruence.proofs.Reordered.{reordered_count}
 use Rattle.lmn_congruence.proofs.Solids.{put_together}
-use Rattle.lmn_adequacy.specs.Accepted.{contexts_in, membranes_of, port_links, port_links_in, port_links_of, rule_contexts_in, typed_links, typed_links_in, typed_links_of}
+use Rattle.lmn_adequacy.specs.Accepted.{contexts_in, own_membranes, port_links, port_links_in, port_links_of, rule_contexts_in, typed_links, typed_links_in, typed_links_of}
 use Rattle.lmn_adequacy.specs.Embedding.{AtomImages, IsPart, LevelImages, MembraneImages, Merged, Taken, TakenRegion, TypedParts, image_and, level_images, membrane_image_and, no_image, no_membrane_image, no_part, no_part_of_atom, part_and, region_first, region_later, taken_first, taken_later, typed_later}
 use Rattle.lmn_adequacy.specs.Next.{Contents, EachLeft, EachLeftIn, LeftTo, LeftToContext, LeftToRuleContext, links_at, no_context, no_rule_context, one_context, one_rule_context}
-use Rattle.lmn_adequacy.proofs.Depth.{among_places, at_put}
-use Rattle.lmn_adequacy.proofs.Images.{no_link_rules}
-use Rattle.lmn_adequacy.proofs.Orders.{among_append, among_left, among_map, among_right, either, region_put, taken_put}
+use Rattle.lmn_adequacy.proofs.Depth.{at_put}
+use Rattle.lmn_adequacy.proofs.Orders.{either, region_put, taken_put}
 use Rattle.lmn_adequacy.proofs.SameParts.{atoms_places, merged_count, one_graph, one_part}
+use Rattle.lmn_congruence.proofs.Common.{among_apart as among_append, among_left, among_right, among_map, among_places}
+use Rattle.lmn_congruence.proofs.TranslatedLinks.{no_link_in_rules as no_link_rules}
 
 abbrev pub AgreeOn : Assignment → Assignment → List ℕ → Type 0
 AgreeOn t s xs = (x : ℕ) → Among x xs → t.link_of x ≡ s.link_of x
 
 abbrev pub SameTyped : Assignment → Assignment → List Name → Type 0
-SameTyped t s ps = (p : Name) → Among p ps → SameGraph (t.typed_of p) (s.typed_of p)
+SameTyped t s ps = (p : Name) → Among p ps → EqualParts (t.typed_of p) (s.typed_of p)
 
 abbrev pub SameContexts : Contents → Contents → List Name → Type 0
 SameContexts c d ps = (p : Name) → Among p ps → (c.atoms_of p ≡ d.atoms_of p) × (c.membranes_of p ≡ d.membranes_of p)
@@ -80,13 +81,13 @@ pub record LinksAgree (t s : Assignment) (xs : List ℕ) (ks ks' : List ℕ) : T
   pub links : AgreeOn t s xs
   pub numbers : ks ≡ ks'
 
-abbrev atoms_in : Region → List SolidAtom
+abbrev pub atoms_in : Region → List SolidAtom
 atoms_in (region xs ms rs) = xs
 
-abbrev membranes_in : Region → Regions
+abbrev pub membranes_in : Region → Regions
 membranes_in (region xs ms rs) = ms
 
-abbrev rules_in : Region → List Rule
+abbrev pub rules_in : Region → List Rule
 rules_in (region xs ms rs) = rs
 
 mutual
@@ -173,7 +174,7 @@ parts_agree {t} {s} (part_and {p = p} {x = x} {part = part} {xs = xs} {xs' = us}
     let u = one_part g i m g' i₁ m₁ two (one x at_head) in
     let i₂ : IsPart (s.typed_of p) L part = subst (IsPart (s.typed_of p) L) (sym u.0) i₁ in
     let v = parts_agree j j' u.1 (λ y k. h y (further k)) (λ z. omega (arith, merged_count m z, two z)) (λ y k. omega (arith, merged_count m (t.link_of y), one y (further k))) in
-    record { rests = v.rests; typed = with_first (λ q. SameGraph (t.typed_of q) (s.typed_of q)) (one_graph i i₂ (root_occurs g) (root_occurs g')) v.typed }
+    record { rests = v.rests; typed = with_first (λ q. EqualParts (t.typed_of q) (s.typed_of q)) (one_graph i i₂ (root_occurs g) (root_occurs g')) v.typed }
 
 -- ---- what is left to contexts
 
@@ -221,7 +222,7 @@ module _ (t s : Assignment) (c d : Contents) where
   mutual
     pub parts_same : {l : Level} {ns ns' : List ℕ} {m m' rest rest' : Region} (i : LevelImages t l ns m rest) (i' : LevelImages s l ns' m' rest') → m ≡ m' → (ks ks' : List ℕ) → ns ++ ks ≡ ns' ++ ks'
         → (out : ℕ → ℕ) → ((z : ℕ) → occurrences z (region_process m) + out z ≤ 2) → AgreeOn t s (typed_links l) → HeldIn t out (typed_links l) (port_links l) → EachLeft c i → EachLeft d i'
-        → PartsSame t s c d rest rest' (typed_contexts l) (contexts_in (membranes_of l)) (rule_contexts_in (membranes_of l))
+        → PartsSame t s c d rest rest' (typed_contexts l) (contexts_in (own_membranes l)) (rule_contexts_in (own_membranes l))
     parts_same (level_images {leaves = leaves} {membranes = membranes} {ns = ns} {ns' = os} {xs = xs} {ms = ms} {rs = rs} i j k) (level_images {ns = ns'} {ns' = os'} {rs = rs'} i' j' k') e ks ks' f out two h held u u' =
         let v = images_agree i i' (ap atoms_in e) (sym (append_assoc ns os ks) ∙ f ∙ append_assoc ns' os' ks') in
         let w = parts_agree j j' v.rests (λ x a. h x (among_left (typed_links_in membranes) a)) (λ z. omega (arith, atom_count z xs ms rs, images_less z i, two z))
@@ -236,14 +237,14 @@ module _ (t s : Assignment) (c d : Contents) where
         (λ b. inr (omega (arith, b)))) u u' in
         record {
           rests = cc (w.rests, y.rests, ap rules_in e);
-          same_typed = both_names (typed_leaves leaves) (typed_contexts_of membranes) w.typed y.same_typed;
+          same_typed = both_names (typed_leaves leaves) (typed_contexts_in membranes) w.typed y.same_typed;
           same_contexts = y.same_contexts;
           same_rules = y.same_rules;
         }
 
     pub membranes_same : {ls : Levels} {ns ns' : List ℕ} {ms ms' rest rest' : Regions} (k : MembraneImages t ls ns ms rest) (k' : MembraneImages s ls ns' ms' rest') → ms ≡ ms' → (ks ks' : List ℕ) → ns ++ ks ≡ ns' ++ ks'
         → (out : ℕ → ℕ) → ((z : ℕ) → occurrences z (together (regions_processes ms)) + out z ≤ 2) → AgreeOn t s (typed_links_in ls) → HeldIn t out (typed_links_in ls) (port_links_in ls) → EachLeftIn c k → EachLeftIn d k'
-        → MembranesSame t s c d rest rest' (typed_contexts_of ls) (contexts_in ls) (rule_contexts_in ls)
+        → MembranesSame t s c d rest rest' (typed_contexts_in ls) (contexts_in ls) (rule_contexts_in ls)
     membranes_same no_membrane_image no_membrane_image e ks ks' f out two h held u u' = record { rests = e; same_typed = λ p k. elim k [ ]; same_contexts = λ p k. elim k [ ]; same_rules = λ p k. elim k [ ] }
     membranes_same (membrane_image_and {leaves = leaves} {membranes = membranes} {ls = ls} {contexts = ps} {rule_contexts = qs} {rules = rules} {n = n} {ns = ns} {ns' = os} {m = m} {rest = rest} {ms = ms} {ms' = us} k i a b q)
         (membrane_image_and {n = n'} {ns = ns'} {ns' = os'} {m = m'} {rest = rest'} {ms = ms₁} {ms' = us'} k' i' a' b' q') e ks ks' f out two h held u u' =
@@ -265,7 +266,7 @@ module _ (t s : Assignment) (c d : Contents) where
         let z = left_same c d rest rest' u.0 u'.0 v.rests in
         record {
           rests = w.rests;
-          same_typed = both_names (typed_contexts l) (typed_contexts_of ls) v.same_typed w.same_typed;
+          same_typed = both_names (typed_contexts l) (typed_contexts_in ls) v.same_typed w.same_typed;
           same_contexts = both_names (ps ++ contexts_in membranes) (contexts_in ls) (both_names ps (contexts_in membranes) z.0 v.same_contexts) w.same_contexts;
           same_rules = both_names (qs ++ rule_contexts_in membranes) (rule_contexts_in ls) (both_names qs (rule_contexts_in membranes) z.1 v.same_rules) w.same_rules;
         }

@@ -5,13 +5,13 @@ use Rattle.lmn_congruence.specs.Orders.{Among, Shuffle, at_head, further, here, 
 use Rattle.lmn_congruence.specs.Rules.{Condition, Expression, Label, Name, integer}
 use Rattle.lmn_reduction.specs.Assignments.{Assignment}
 use Rattle.lmn_reduction.specs.Guards.{GuardHolds, alike, binds, condition_and}
-use Rattle.lmn_reduction.specs.Parts.{IsInteger, Rooted, SameGraph, an_integer}
+use Rattle.lmn_reduction.specs.Parts.{IsInteger, Rooted, EqualParts, an_integer}
 use Rattle.lmn_guards.specs.Values.{of_context, of_number, of_operation}
 use Rattle.lmn_reduction.specs.Values.{Value}
 use Rattle.lmn_adequacy.specs.Accepted.{InTurn, UsedIn, all_asked, binding_in_turn, comparison_in_turn, difference_in_turn, equality_in_turn, here_used, kind_in_turn, left_sides, left_used, right_used}
 use Rattle.lmn_adequacy.proofs.Orders.{either}
 
-integer_one : (m n : ℤ) (g h : Rooted) → IsInteger m g → IsInteger n h → SameGraph g h → m ≡ n
+integer_one : (m n : ℤ) (g h : Rooted) → IsInteger m g → IsInteger n h → EqualParts g h → m ≡ n
 integer_one m n g h (an_integer {x = x}) (an_integer {x = y}) s = go s.atoms
   where
     labels : (m n : ℤ) → integer m ≡ integer n → m ≡ n
@@ -21,7 +21,7 @@ integer_one m n g h (an_integer {x = x}) (an_integer {x = y}) s = go s.atoms
     go (more r k here) = labels m n (ap (λ w. w.0) r)
     go (more r k (there p)) = elim p [ ]
 
-integer_graph : (m n : ℤ) (g h : Rooted) → m ≡ n → IsInteger m g → IsInteger n h → SameGraph g h
+integer_graph : (m n : ℤ) (g h : Rooted) → m ≡ n → IsInteger m g → IsInteger n h → EqualParts g h
 integer_graph m n g h e (an_integer {x = x}) (an_integer {x = y}) = record {
   to = λ z. y;
   one_to_one = λ u v o o' q. same_link u x o ∙ sym (same_link v x o');
@@ -34,7 +34,7 @@ integer_graph m n g h e (an_integer {x = x}) (an_integer {x = y}) = record {
 
 module _ (t s : Assignment) where
   abbrev Alike : Name → Type 0
-  Alike p = SameGraph (t.typed_of p) (s.typed_of p)
+  Alike p = EqualParts (t.typed_of p) (s.typed_of p)
 
   value_one : {e : Expression} {m n : ℤ} → ((p : Name) → UsedIn p e → Alike p) → Value t e m → Value s e n → m ≡ n
   value_one h of_number of_number = refl

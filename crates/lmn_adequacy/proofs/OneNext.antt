@@ -9,34 +9,34 @@ use Rattle.lmn_congruence.specs.Process.{Closed, Free, Linked, Process, nothing,
 use Rattle.lmn_congruence.specs.Regions.{Region, Regions, region, region_process}
 use Rattle.lmn_congruence.specs.Rules.{Leaf, Level, Levels, Name, Rule, atom_leaf, body_of, connector_leaf, head_of, level, level_and, no_level, no_rule, rules_list, typed_leaf}
 use Rattle.lmn_congruence.specs.Same.{IsRenamed}
-use Rattle.lmn_reduction.specs.Firing.{typed_contexts, typed_contexts_of, typed_leaves}
-use Rattle.lmn_reduction.specs.Parts.{SameGraph}
-use Rattle.lmn_congruence.proofs.Counts.{linked_as, linked_inside, linked_left, linked_right, none_if_apart, occurs_once, same_or_not}
+use Rattle.lmn_reduction.specs.Firing.{typed_contexts, typed_contexts_in, typed_leaves}
+use Rattle.lmn_reduction.specs.Parts.{EqualParts}
+use Rattle.lmn_congruence.proofs.Counts.{linked_as, linked_inside, linked_left, linked_right, none_if_apart, occurs_once}
 use Rattle.lmn_congruence.proofs.LinkMaps.{closed_linked}
 use Rattle.lmn_congruence.proofs.Reordered.{reordered_count}
 use Rattle.lmn_congruence.proofs.Shuffles.{shuffle_flip}
-use Rattle.lmn_adequacy.specs.Accepted.{Accepted, EachLevel, EachOf, NoConnectorLeaf, all_contexts, all_rule_contexts, contexts_in, leaves_of, membranes_of, own_contexts, own_rule_contexts, port_links, port_links_in, port_links_of, rule_contexts_in, typed_links, typed_links_in, typed_links_of}
+use Rattle.lmn_adequacy.specs.Accepted.{Accepted, EachLevel, EachOf, NoConnectorLeaf, all_contexts, all_rule_contexts, contexts_in, own_leaves, own_membranes, own_contexts, own_rule_contexts, port_links, port_links_in, port_links_of, rule_contexts_in, typed_links, typed_links_in, typed_links_of}
 use Rattle.lmn_adequacy.specs.Embedding.{AllRules, LevelImages, TakenRegion, region_first, region_later}
-use Rattle.lmn_adequacy.specs.Next.{Contents, FiresInOrder, MadeLeaves, MadeLevel, MadeMembranes, NextAt, RawAt, assignment_of, context_atoms, context_membranes, context_rules, fires_below, fires_here, kept_atoms, kept_membranes, made_atom, made_atoms, made_connector, made_copy, made_level, made_membrane, no_made_leaf, no_made_membrane, of_rule, of_solid, raw_level, replaced, wire_leaves}
+use Rattle.lmn_adequacy.specs.Next.{Contents, FiresInOrder, MadeLeaves, MadeLevel, MadeMembranes, NextAt, RawAt, assignment_of, context_atoms, context_membranes, context_rules, fires_below, fires_here, kept_atoms, kept_membranes, made_atom, part_leaves, made_connector, made_copy, made_level, made_membrane, no_made_leaf, no_made_membrane, raw_level, replaced, wire_leaves}
 use Rattle.lmn_adequacy.proofs.Accepting.{accepted_bare}
 use Rattle.lmn_adequacy.proofs.Bodies.{Whole}
 use Rattle.lmn_adequacy.proofs.Closing.{body_whole, head_whole}
 use Rattle.lmn_adequacy.proofs.Commits.{beside_nothing, closed_as, region_out}
-use Rattle.lmn_adequacy.proofs.Copies.{copies_moved, made_places, places_among}
+use Rattle.lmn_adequacy.proofs.Copies.{copies_moved, made_places}
 use Rattle.lmn_adequacy.proofs.Heads.{region_there, rule_there}
 use Rattle.lmn_adequacy.proofs.InOrder.{contents_plain, held, level_listed, listed, listed_both, together_both}
 use Rattle.lmn_adequacy.proofs.Moved.{Moved, MovedList, moved_append, moved_cons, moved_inside, moved_list_same, moved_pair, moved_same, moved_solid, moved_together}
 use Rattle.lmn_adequacy.proofs.OneEmbedding.{AgreeOn, SameContexts, SameRuleContexts, parts_same, ports_agree, region_one, taken_one}
 use Rattle.lmn_adequacy.proofs.OneGuard.{guard_one}
-use Rattle.lmn_adequacy.proofs.Orders.{among_left, among_right, either, taken_put}
+use Rattle.lmn_adequacy.proofs.Orders.{either, taken_put}
 use Rattle.lmn_adequacy.proofs.SameParts.{shuffle_among}
 use Rattle.lmn_adequacy.proofs.Skeleton.{level_skeleton}
+use Rattle.lmn_splice.specs.Splice.{of_rule, of_solid}
+use Rattle.lmn_base.proofs.Lists.{map_append as maps_append}
+use Rattle.lmn_base.proofs.Numbers.{one_not_zero as split_sum, same_or_not}
+use Rattle.lmn_congruence.proofs.Common.{among_left, among_right, places_among}
 
 -- ---- what the body makes
-
-maps_append : {A B : Type 0} (g : A → B) (xs ys : List A) → map g (xs ++ ys) ≡ map g xs ++ map g ys
-maps_append g [] ys = refl
-maps_append g (x ∷ xs) ys = ap (λ k. g x ∷ k) (maps_append g xs ys)
 
 linked_parts : {A : Type 0} (g : A → Process) (xs ys : List A) → Linked (together (map g (xs ++ ys))) → Linked (together (map g xs)) × Linked (together (map g ys))
 linked_parts g xs ys l =
@@ -60,18 +60,18 @@ listed_moved u l = moved_pair (moved_together u.leaves) (moved_pair (moved_toget
 
 module _ (c d : Contents) (free : (p : Name) → Free (c.typed_of p).root (c.typed_of p).process) (free' : (p : Name) → Free (d.typed_of p).root (d.typed_of p).process) where
   abbrev Known : List Name → Type 0
-  Known ps = (p : Name) → Among p ps → (Whole (c.typed_of p)) × SameGraph (c.typed_of p) (d.typed_of p)
+  Known ps = (p : Name) → Among p ps → (Whole (c.typed_of p)) × EqualParts (c.typed_of p) (d.typed_of p)
 
   leaves_moved : {ls outs outs' : List Leaf} → MadeLeaves c ls outs → MadeLeaves d ls outs' → Known (typed_leaves ls) → Linked (together (map leaf_process outs)) → Linked (together (map leaf_process outs')) → MovedList (map leaf_process outs) (map leaf_process outs')
   leaves_moved no_made_leaf no_made_leaf k l l' = moved_list_same refl
   leaves_moved (made_atom u) (made_atom v) k l l' = moved_cons (moved_same refl) (leaves_moved u v k (linked_right l) (linked_right l')) l
   leaves_moved (made_connector u) (made_connector v) k l l' = moved_cons (moved_same refl) (leaves_moved u v k (linked_right l) (linked_right l')) l
   leaves_moved (made_copy {p = p} {part = part} {outs = outs} i o u) (made_copy {part = part'} {outs = outs'} i' o' v) k l l' =
-      let a = linked_parts leaf_process (made_atoms part) outs l in
-      let b = linked_parts leaf_process (made_atoms part') outs' l' in
+      let a = linked_parts leaf_process (part_leaves part) outs l in
+      let b = linked_parts leaf_process (part_leaves part') outs' l' in
       let e = k p at_head in
       let m = copies_moved e.0 (free p) (free' p) i i' e.1 o o' (λ z. omega (arith, made_places z part', b.0.at_most_twice z)) in
-      moved_both leaf_process (made_atoms part) (made_atoms part') outs outs' m (leaves_moved u v (λ q x. k q (further x)) a.1 b.1) l
+      moved_both leaf_process (part_leaves part) (part_leaves part') outs outs' m (leaves_moved u v (λ q x. k q (further x)) a.1 b.1) l
 
   contexts_same : (ps : List Name) → SameContexts c d ps → (context_atoms c ps ≡ context_atoms d ps) × (context_membranes c ps ≡ context_membranes d ps)
   contexts_same [] h = (refl, refl)
@@ -94,12 +94,12 @@ module _ (c d : Contents) (free : (p : Name) → Free (c.typed_of p).root (c.typ
         let f = linked_parts held ms' (context_membranes d ps) (linked_left (linked_right l')) in
         let w = contexts_same ps (λ q x. h q (among_left (contexts_in membranes) x)) in
         record {
-          leaves = moved_both leaf_process outs outs' (kept_atoms (context_atoms c ps)) (kept_atoms (context_atoms d ps)) (leaves_moved u u' (λ q x. k q (among_left (typed_contexts_of membranes) x)) a.0 b.0) (moved_list_same (ap (λ x. map leaf_process (kept_atoms x)) w.0)) (linked_left l);
+          leaves = moved_both leaf_process outs outs' (kept_atoms (context_atoms c ps)) (kept_atoms (context_atoms d ps)) (leaves_moved u u' (λ q x. k q (among_left (typed_contexts_in membranes) x)) a.0 b.0) (moved_list_same (ap (λ x. map leaf_process (kept_atoms x)) w.0)) (linked_left l);
           membranes = moved_both held ms ms' (context_membranes c ps) (context_membranes d ps) (membranes_moved v v' (λ q x. k q (among_right (typed_leaves leaves) x)) (λ q x. h q (among_right ps x)) (λ q x. h' q (among_right qs x)) e.0 f.0) (moved_list_same (ap (map held) w.1)) (linked_left (linked_right l));
           rules = ap (λ x. rules_list rules ++ x) (rules_same qs (λ q x. h' q (among_left (rule_contexts_in membranes) x)));
         }
 
-    pub membranes_moved : {ls : Levels} {ms ms' : List Level} → MadeMembranes c ls ms → MadeMembranes d ls ms' → Known (typed_contexts_of ls) → SameContexts c d (contexts_in ls) → SameRuleContexts c d (rule_contexts_in ls)
+    pub membranes_moved : {ls : Levels} {ms ms' : List Level} → MadeMembranes c ls ms → MadeMembranes d ls ms' → Known (typed_contexts_in ls) → SameContexts c d (contexts_in ls) → SameRuleContexts c d (rule_contexts_in ls)
         → Linked (together (map held ms)) → Linked (together (map held ms')) → MovedList (map held ms) (map held ms')
     membranes_moved no_made_membrane no_made_membrane k h h' l l' = moved_list_same refl
     membranes_moved (made_membrane {l = x} {ls = xs} {outs = outs} {inner = inner} {rs = rs} u v) (made_membrane {outs = outs'} {inner = inner'} {rs = rs'} u' v') k h h' l l' =
@@ -107,7 +107,7 @@ module _ (c d : Contents) (free : (p : Name) → Free (c.typed_of p).root (c.typ
         let e' = level_listed outs' inner' rs' in
         let a : Linked (listed outs inner rs) = subst Linked e (linked_inside (linked_left l)) in
         let a' : Linked (listed outs' inner' rs') = subst Linked e' (linked_inside (linked_left l')) in
-        let m = level_moved u u' (λ q y. k q (among_left (typed_contexts_of xs) y)) (λ q y. h q (among_left (contexts_in xs) y)) (λ q y. h' q (among_left (rule_contexts_in xs) y)) a a' in
+        let m = level_moved u u' (λ q y. k q (among_left (typed_contexts_in xs) y)) (λ q y. h q (among_left (contexts_in xs) y)) (λ q y. h' q (among_left (rule_contexts_in xs) y)) a a' in
         let m' = subst₂ Moved (sym e) (sym e') (listed_moved m a) in
         moved_cons (moved_inside m') (membranes_moved v v' (λ q y. k q (among_right (typed_contexts x) y)) (λ q y. h q (among_right (all_contexts x) y)) (λ q y. h' q (among_right (all_rule_contexts x) y)) (linked_right l) (linked_right l')) l
 
@@ -134,17 +134,14 @@ leaves_links x (typed_leaf p y ∷ ls) n o = go (same_or_not x y) (leaves_links 
     go (inl e) i = inr (subst (λ k. Among x (k ∷ typed_links_of ls)) e at_head)
     go (inr d) i = either (i (not_here d)) (λ k. inl k) (λ k. inr (further k))
 
-split_sum : (m n : ℕ) → m + n ≢ 0 → (m ≢ 0) ⊎ (n ≢ 0)
-split_sum m n d = grind arith
-
 mutual
-  level_links : (x : ℕ) (l : Level) → EachLevel (λ l. NoConnectorLeaf (leaves_of l)) l → level_occurrences x l ≢ 0 → Among x (port_links l) ⊎ Among x (typed_links l)
+  level_links : (x : ℕ) (l : Level) → EachLevel (λ l. NoConnectorLeaf (own_leaves l)) l → level_occurrences x l ≢ 0 → Among x (port_links l) ⊎ Among x (typed_links l)
   level_links x (level leaves membranes contexts rule_contexts rules) n o =
       either (split_sum (leaves_occurrences x leaves) (levels_occurrences x membranes) o)
       (λ k. either (leaves_links x leaves n.0 k) (λ w. inl (among_left (port_links_in membranes) w)) (λ w. inr (among_left (typed_links_in membranes) w)))
       (λ k. either (levels_links x membranes n.1 k) (λ w. inl (among_right (port_links_of leaves) w)) (λ w. inr (among_right (typed_links_of leaves) w)))
 
-  levels_links : (x : ℕ) (ls : Levels) → EachOf (λ l. NoConnectorLeaf (leaves_of l)) ls → levels_occurrences x ls ≢ 0 → Among x (port_links_in ls) ⊎ Among x (typed_links_in ls)
+  levels_links : (x : ℕ) (ls : Levels) → EachOf (λ l. NoConnectorLeaf (own_leaves l)) ls → levels_occurrences x ls ≢ 0 → Among x (port_links_in ls) ⊎ Among x (typed_links_in ls)
   levels_links x no_level n o = absurd (o refl)
   levels_links x (level_and l ls) n o =
       either (split_sum (level_occurrences x l) (levels_occurrences x ls) o)
@@ -206,7 +203,7 @@ raw_linked (region xs us ts) W outs ms rs l =
     linked_as (λ z. reordered_count (listed_both (kept_atoms xs ++ W) outs (kept_membranes us) ms ts rs) z) (subst (λ v. Linked (listed v (kept_membranes us ++ ms) (ts ++ rs))) (sym (append_assoc (kept_atoms xs) W outs)) (subst Linked e l)) in
     linked_right i
 
-pub names_split : (l : Level) → (all_contexts l ≡ own_contexts l ++ contexts_in (membranes_of l)) × (all_rule_contexts l ≡ own_rule_contexts l ++ rule_contexts_in (membranes_of l))
+pub names_split : (l : Level) → (all_contexts l ≡ own_contexts l ++ contexts_in (own_membranes l)) × (all_rule_contexts l ≡ own_rule_contexts l ++ rule_contexts_in (own_membranes l))
 names_split (level leaves membranes contexts rule_contexts rules) = (refl, refl)
 
 fires_one : {r : Rule} {f : List ℕ} {m : Region} {L L' : Level} → Accepted r → FiresInOrder r f m L → FiresInOrder r f m L' → (O : Process) → Closed (pair (region_process m) O) → Linked (level_process L) → Linked (level_process L') → Moved (level_process L) (level_process L')
@@ -229,9 +226,9 @@ fires_one {r} {f} {m} {L} {L'} a F F' O closed l l' =
     let u = level_skeleton t p i in
     let whole = head_whole r a t p e.guard b.leaves b.membranes b.is m e.rest u O closed in
     let guards = guard_one t s (typed_contexts hd) a.in_turn e.guard e'.guard (λ q k. either k (λ j. same.same_typed q j) (λ j. elim j [ ])) in
-    let known : (q : Name) → Among q (typed_contexts (body_of r)) → (Whole (c.typed_of q)) × SameGraph (c.typed_of q) (d.typed_of q) = λ q k. (body_whole a t e.guard whole q k, either (a.known q k) (λ j. same.same_typed q j) (λ j. guards q j)) in
-    let contexts : SameContexts c d (all_contexts (body_of r)) = λ q k. let j = shuffle_among (shuffle_flip a.kept) k in subst (λ n. (c.atoms_of n ≡ d.atoms_of n) × (c.membranes_of n ≡ d.membranes_of n)) j.2 (same.same_contexts j.0 (subst (Among j.0) ((names_split hd).0 ∙ ap (λ n. n ++ contexts_in (membranes_of hd)) a.top_contexts) j.1)) in
-    let rules : SameRuleContexts c d (all_rule_contexts (body_of r)) = λ q k. same.same_rules q (subst (Among q) ((names_split hd).1 ∙ ap (λ n. n ++ rule_contexts_in (membranes_of hd)) a.top_rule_contexts) (a.known_rules q k)) in
+    let known : (q : Name) → Among q (typed_contexts (body_of r)) → (Whole (c.typed_of q)) × EqualParts (c.typed_of q) (d.typed_of q) = λ q k. (body_whole a t e.guard whole q k, either (a.known q k) (λ j. same.same_typed q j) (λ j. guards q j)) in
+    let contexts : SameContexts c d (all_contexts (body_of r)) = λ q k. let j = shuffle_among (shuffle_flip a.kept) k in subst (λ n. (c.atoms_of n ≡ d.atoms_of n) × (c.membranes_of n ≡ d.membranes_of n)) j.2 (same.same_contexts j.0 (subst (Among j.0) ((names_split hd).0 ∙ ap (λ n. n ++ contexts_in (own_membranes hd)) a.top_contexts) j.1)) in
+    let rules : SameRuleContexts c d (all_rule_contexts (body_of r)) = λ q k. same.same_rules q (subst (Among q) ((names_split hd).1 ∙ ap (λ n. n ++ rule_contexts_in (own_membranes hd)) a.top_rule_contexts) (a.known_rules q k)) in
     let q : L' ≡ raw_level e.rest (wire_leaves c.link_of hd F.bound) F'.outs F'.made_membranes F'.made_rules = F'.is ∙ cc (w, same.rests) in
     let k : Linked (level_process (raw_level e.rest (wire_leaves c.link_of hd F.bound) F.outs F.made_membranes F.made_rules)) = subst (λ n. Linked (level_process n)) F.is l in
     let k' = raw_linked e.rest (wire_leaves c.link_of hd F.bound) F'.outs F'.made_membranes F'.made_rules (subst (λ n. Linked (level_process n)) q l') in

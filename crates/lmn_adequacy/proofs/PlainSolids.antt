@@ -19,15 +19,13 @@ use Rattle.lmn_base.specs.declared.solid.Solid.{Solid}
 use Rattle.lmn_base.specs.declared.solid.SolidAtom.{SolidAtom}
 use Rattle.lmn_base.specs.Levels.{leaves_of}
 use Rattle.lmn_base.specs.Links.{NumbersLinks}
-use Rattle.lmn_base.specs.Solids.{atoms_of, atoms_step, connector}
+use Rattle.lmn_base.specs.Solids.{atoms_of_region, atoms_step, connector}
 use Rattle.lmn_base.specs.WellMade.{FitsArity}
 use Rattle.lmn_congruence.specs.Fused.{Joins}
 use Rattle.lmn_congruence.specs.Plains.{SolidOf, fused_leaves, fused_level, fused_levels, leaf_process, level_process, levels_processes}
 use Rattle.lmn_congruence.specs.Process.{Closed, together}
-use Rattle.lmn_congruence.specs.Regions as solid
-use Rattle.lmn_congruence.specs.Rules as tree
 use Rattle.lmn_congruence.specs.SolidsOfPlains.{JoinsLeaf, fused_leaf, fused_region, fused_step, is_connector}
-use Rattle.lmn_congruence.specs.Translation.{leaf_of, level_of, level_step, levels, numbered_rule, region_of, region_step, regions, solid_atom_of, top_of}
+use Rattle.lmn_congruence.specs.Translation.{leaf_of, level_of, level_step, levels, numbered_rule, region_of, region_step, regions, solid_atom_of, top_of, numbered_region}
 use Rattle.lmn_congruence.proofs.Appended.{all_left, all_right}
 use Rattle.lmn_congruence.proofs.SolidsOfPlains.{fused, solids_of_plains, twice_mapped}
 use Rattle.lmn_congruence.proofs.TranslatedLinks.{plains_closed, solid_links_kept}
@@ -37,20 +35,17 @@ use Rattle.lmn_adequacy.specs.Laws.{SolidOfPlainIsOne, SolidsOfPlainsExist}
 use Rattle.lmn_adequacy.specs.Next.{links_at}
 use Rattle.lmn_adequacy.specs.Numbered.{IsNumbered, printed_links, printed_links_in}
 use Rattle.lmn_adequacy.proofs.Numbering.{numbered_one, numbering, renamed_solid}
+use Rattle.lmn_adequacy.proofs.OneEmbedding.{atoms_in as its_atoms, membranes_in as its_membranes}
+use Rattle.lmn_base.proofs.Lists.{all_both as all_of_both, all_none as all_of_none, head_is, tail_is}
+use Rattle.lmn_base.proofs.Common.{inner_leaves, inner_atoms}
+use Rattle.lmn_congruence.specs.Regions as solid
+use Rattle.lmn_congruence.specs.Rules as tree
 
 -- ---- lists
-
-all_of_both : {A : Type 0} (P : A → Type 0) (xs ys : List A) → All P xs → All P ys → All P (xs ++ ys)
-all_of_both P [] ys h k n d l = k n d l
-all_of_both P (x ∷ xs) ys h k zero d l = h zero d (omega arith)
-all_of_both P (x ∷ xs) ys h k (suc n) d l = all_of_both P xs ys (λ j e m. h (suc j) e (omega (arith, m))) k n d (omega (arith, l))
 
 all_of_one : {A : Type 0} (P : A → Type 0) (x : A) → P x → All P (x ∷ [])
 all_of_one P x p zero d l = p
 all_of_one P x p (suc n) d l = absurd (omega (arith, l))
-
-all_of_none : {A : Type 0} (P : A → Type 0) → All P []
-all_of_none P k d l = absurd (omega (arith, l))
 
 -- ---- what joins the connectors of the top as a tree joins those of the top
 
@@ -70,9 +65,6 @@ module _ (names : List tree.Name) (number : ℕ → tree.Rule) (v : ℕ → ℕ)
   leaves_back : (ls : List Leaf) → Joins v (together (map leaf_process (map (leaf_of names) ls))) → All (JoinsLeaf v) ls
   leaves_back [] h = all_of_none (JoinsLeaf v)
   leaves_back (l ∷ ls) h = all_of_both (JoinsLeaf v) (l ∷ []) ls (all_of_one (JoinsLeaf v) l (leaf_back l h.0)) (leaves_back ls h.1)
-
-  abbrev inner_leaves : List Level → List Leaf
-  inner_leaves ls = flat_map (λ inner. inner) (map leaves_of ls)
 
   abbrev Back : Level → Type 0
   Back l = Joins v (level_process (level_of names number l)) → All (JoinsLeaf v) (leaves_of l)
@@ -110,57 +102,46 @@ module _ (v : ℕ → ℕ) where
   leaves_solid [] h = all_of_none IsSolidAtom
   leaves_solid (l ∷ ls) h = all_of_both IsSolidAtom (fused_leaf v l) (flat_map (fused_leaf v) ls) (leaf_solid l (h zero l (omega arith))) (leaves_solid ls (all_right FitsArity (l ∷ []) ls h))
 
-  abbrev inner_of : List Level → List Leaf
-  inner_of ls = flat_map (λ inner. inner) (map leaves_of ls)
-
-  abbrev inner_atoms : List Region → List SolidAtom
-  inner_atoms rs = flat_map (λ inner. inner) (map atoms_of rs)
-
   abbrev Solidly : Level → Type 0
-  Solidly l = All FitsArity (leaves_of l) → All IsSolidAtom (atoms_of (fused_region v l))
+  Solidly l = All FitsArity (leaves_of l) → All IsSolidAtom (atoms_of_region (fused_region v l))
 
-  inner_solid : (ls : List ((l : Level) × Solidly l)) → All FitsArity (inner_of (map (λ e. e.0) ls)) → All IsSolidAtom (inner_atoms (map (fused_region v) (map (λ e. e.0) ls)))
+  inner_solid : (ls : List ((l : Level) × Solidly l)) → All FitsArity (inner_leaves (map (λ e. e.0) ls)) → All IsSolidAtom (inner_atoms (map (fused_region v) (map (λ e. e.0) ls)))
   inner_solid [] h = all_of_none IsSolidAtom
   inner_solid (e ∷ ls) h =
-      let behind = inner_of (map (λ e. e.0) ls) in
-      all_of_both IsSolidAtom (atoms_of (fused_region v e.0)) (inner_atoms (map (fused_region v) (map (λ e. e.0) ls))) (e.1 (all_left FitsArity (leaves_of e.0) behind h)) (inner_solid ls (all_right FitsArity (leaves_of e.0) behind h))
+      let behind = inner_leaves (map (λ e. e.0) ls) in
+      all_of_both IsSolidAtom (atoms_of_region (fused_region v e.0)) (inner_atoms (map (fused_region v) (map (λ e. e.0) ls))) (e.1 (all_left FitsArity (leaves_of e.0) behind h)) (inner_solid ls (all_right FitsArity (leaves_of e.0) behind h))
 
   solidly : (l : Level) → Solidly l
   solidly = ind-Level Solidly (λ y z is h.
       let split = fold-roll-Level (List Leaf) (λ l. l.leaves ++ flat_map (λ inner. inner) l.membranes) y in
       let here = subst (All FitsArity) split h in
-      let inside = subst (λ l. All FitsArity (inner_of l.membranes) → All IsSolidAtom (inner_atoms (map (fused_region v) l.membranes))) is (inner_solid z.membranes) in
+      let inside = subst (λ l. All FitsArity (inner_leaves l.membranes) → All IsSolidAtom (inner_atoms (map (fused_region v) l.membranes))) is (inner_solid z.membranes) in
       rw (fold-roll-Level Region (fused_step v) y, fold-roll-Region (List SolidAtom) atoms_step _)
-      (all_of_both IsSolidAtom (flat_map (fused_leaf v) y.leaves) (inner_atoms (map (fused_region v) y.membranes)) (leaves_solid y.leaves (all_left FitsArity y.leaves (inner_of y.membranes) here)) (inside (all_right FitsArity y.leaves (inner_of y.membranes) here))))
+      (all_of_both IsSolidAtom (flat_map (fused_leaf v) y.leaves) (inner_atoms (map (fused_region v) y.membranes)) (leaves_solid y.leaves (all_left FitsArity y.leaves (inner_leaves y.membranes) here)) (inside (all_right FitsArity y.leaves (inner_leaves y.membranes) here))))
 
 -- ---- the printed links of a region
 
-links_read : (names : List tree.Name) (ks : List SolidAtom) → links_at (map (solid_atom_of names) ks) ≡ flat_map (λ a. a.links) ks
+pub links_read : (names : List tree.Name) (ks : List SolidAtom) → links_at (map (solid_atom_of names) ks) ≡ flat_map (λ a. a.links) ks
 links_read names [] = refl
 links_read names (a ∷ ks) = ap (λ ls. a.links ++ ls) (links_read names ks)
 
 module _ (names : List tree.Name) (number : ℕ → tree.Rule) where
-  abbrev read_region : Region → solid.Region
-  read_region = fold-Region solid.Region (region_step names number)
-
-  abbrev atoms_inside : List Region → List SolidAtom
-  atoms_inside rs = flat_map (λ inner. inner) (map atoms_of rs)
-
   abbrev Printed : Region → Type 0
-  Printed r = printed_links (read_region r) ≡ flat_map (λ a. a.links) (atoms_of r)
+  Printed r = printed_links (numbered_region names number r) ≡ flat_map (λ a. a.links) (atoms_of_region r)
 
   both_links : (ks ls : List SolidAtom) {xs ys : List ℕ} → xs ≡ flat_map (λ a. a.links) ks → ys ≡ flat_map (λ a. a.links) ls → xs ++ ys ≡ flat_map (λ a. a.links) (ks ++ ls)
   both_links ks ls e d = rw (flat_map-append (λ a. a.links) ks ls, e, d) refl
 
-  inner_printed : (rs : List ((r : Region) × Printed r)) → printed_links_in (regions (map read_region (map (λ e. e.0) rs))) ≡ flat_map (λ a. a.links) (atoms_inside (map (λ e. e.0) rs))
+  inner_printed : (rs : List ((r : Region) × Printed r)) → printed_links_in (regions (map (numbered_region names number) (map (λ e. e.0) rs))) ≡ flat_map (λ a. a.links) (inner_atoms (map (λ e. e.0) rs))
   inner_printed [] = refl
-  inner_printed (e ∷ rs) = both_links (atoms_of e.0) (atoms_inside (map (λ e. e.0) rs)) e.1 (inner_printed rs)
+  inner_printed (e ∷ rs) = both_links (atoms_of_region e.0) (inner_atoms (map (λ e. e.0) rs)) e.1 (inner_printed rs)
 
-  printed : (r : Region) → Printed r
+  -- the links of a region in printed order
+  pub printed : (r : Region) → Printed r
   printed = ind-Region Printed (λ y z is.
-      let inside = subst (λ r. printed_links_in (regions (map read_region r.membranes)) ≡ flat_map (λ a. a.links) (atoms_inside r.membranes)) is (inner_printed z.membranes) in
+      let inside = subst (λ r. printed_links_in (regions (map (numbered_region names number) r.membranes)) ≡ flat_map (λ a. a.links) (inner_atoms r.membranes)) is (inner_printed z.membranes) in
       rw (fold-roll-Region solid.Region (region_step names number) y, fold-roll-Region (List SolidAtom) atoms_step y)
-      (both_links y.atoms (atoms_inside y.membranes) (links_read names y.atoms) inside))
+      (both_links y.atoms (inner_atoms y.membranes) (links_read names y.atoms) inside))
 
 -- ---- the law
 
@@ -191,23 +172,11 @@ solids_of_plains_exist p w e =
 
 -- ---- the solid is one
 
-heads : {A : Type 0} {x y : A} {xs ys : List A} → x ∷ xs ≡ y ∷ ys → x ≡ y
-heads e = cc e
-
-tails : {A : Type 0} {x y : A} {xs ys : List A} → x ∷ xs ≡ y ∷ ys → xs ≡ ys
-tails e = cc e
-
-abbrev its_atoms : solid.Region → List solid.SolidAtom
-its_atoms (solid.region xs ms rs) = xs
-
-abbrev its_membranes : solid.Region → solid.Regions
-its_membranes (solid.region xs ms rs) = ms
-
-abbrev first_or : solid.Region → solid.Regions → solid.Region
+abbrev pub first_or : solid.Region → solid.Regions → solid.Region
 first_or d solid.no_region = d
 first_or d (solid.region_and m ms) = m
 
-abbrev others : solid.Regions → solid.Regions
+abbrev pub others : solid.Regions → solid.Regions
 others solid.no_region = solid.no_region
 others (solid.region_and m ms) = ms
 
@@ -222,12 +191,12 @@ module _ (names : List tree.Name) (number : ℕ → tree.Rule) (v w : ℕ → �
   one_atom : (l : Label) (n : ℕ) (os : List Occ) (p : Pos) → length os ≡ n → (ls : List tree.Leaf) →
       fused_leaves v (leaf_of names (Atom (record { label = l; arity = n }) os p) ∷ ls) ≡ fused_leaves w (leaf_of names (Atom (record { label = l; arity = n }) os p) ∷ ls) →
       (fused_leaf v (Atom (record { label = l; arity = n }) os p) ≡ fused_leaf w (Atom (record { label = l; arity = n }) os p)) × (fused_leaves v ls ≡ fused_leaves w ls)
-  one_atom (Int z) n os p h ls e = (ap (made_leaf (record { label = Int z; arity = n })) (same_images os (ap (λ a. a.links) (heads e))), tails e)
-  one_atom (Name (suc m)) n os p h ls e = (ap (made_leaf (record { label = Name (suc m); arity = n })) (same_images os (ap (λ a. a.links) (heads e))), tails e)
-  one_atom (Name zero) n [] p h ls e = (refl, tails e)
-  one_atom (Name zero) n (a ∷ []) p h ls e = (ap (made_leaf (record { label = Name zero; arity = n })) (same_images (a ∷ []) (ap (λ a. a.links) (heads e))), tails e)
+  one_atom (Int z) n os p h ls e = (ap (made_leaf (record { label = Int z; arity = n })) (same_images os (ap (λ a. a.links) (head_is e))), tail_is e)
+  one_atom (Name (suc m)) n os p h ls e = (ap (made_leaf (record { label = Name (suc m); arity = n })) (same_images os (ap (λ a. a.links) (head_is e))), tail_is e)
+  one_atom (Name zero) n [] p h ls e = (refl, tail_is e)
+  one_atom (Name zero) n (a ∷ []) p h ls e = (ap (made_leaf (record { label = Name zero; arity = n })) (same_images (a ∷ []) (ap (λ a. a.links) (head_is e))), tail_is e)
   one_atom (Name zero) n (a ∷ b ∷ []) p h ls e = (rw (sym h) refl, e)
-  one_atom (Name zero) n (a ∷ b ∷ c ∷ os) p h ls e = (ap (made_leaf (record { label = Name zero; arity = n })) (same_images (a ∷ b ∷ c ∷ os) (ap (λ a. a.links) (heads e))), tails e)
+  one_atom (Name zero) n (a ∷ b ∷ c ∷ os) p h ls e = (ap (made_leaf (record { label = Name zero; arity = n })) (same_images (a ∷ b ∷ c ∷ os) (ap (λ a. a.links) (head_is e))), tail_is e)
 
   one_leaf : (l : Leaf) → FitsArity l → (ls : List tree.Leaf) → fused_leaves v (leaf_of names l ∷ ls) ≡ fused_leaves w (leaf_of names l ∷ ls) → (fused_leaf v l ≡ fused_leaf w l) × (fused_leaves v ls ≡ fused_leaves w ls)
   one_leaf (Typed n o p) h ls e = (refl, e)

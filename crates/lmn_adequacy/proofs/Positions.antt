@@ -5,7 +5,7 @@ use Rattle.lmn_congruence.specs.Regions.{Region, Regions, SolidAtom, region, reg
 use Rattle.lmn_congruence.specs.Rules.{Leaf, Level, Levels, Rule, atom_leaf, connector_leaf, head_of, level, level_and, no_level, typed_leaf}
 use Rattle.lmn_reduction.specs.Assignments.{Assignment}
 use Rattle.lmn_congruence.proofs.Counts.{three_ways}
-use Rattle.lmn_adequacy.specs.Choice.{AtomsStand, Before, LevelStands, MembranesStand, atom_stands, leaf_positions, less_behind, less_here, level_positions, level_stands, membrane_positions, membrane_stands, no_atom_stands, no_membrane_stands, positions_of, typed_stands, whole_list, without}
+use Rattle.lmn_adequacy.specs.Choice.{AtomsStand, Before, LevelStands, MembranesStand, atom_stands, leaf_positions, less_behind, less_here, level_positions, level_stands, membrane_positions, membrane_stands, no_atom_stands, no_membrane_stands, positions_of, typed_stands, whole_list, left_without}
 use Rattle.lmn_adequacy.specs.Embedding.{AtomImages, EmbedsAt, LevelImages, MembraneImages, Taken, TakenRegion, image_and, level_images, membrane_image_and, no_image, no_membrane_image, region_first, region_later, taken_first, taken_later, typed_later}
 use Rattle.lmn_adequacy.proofs.OneEmbedding.{same_head, same_tail}
 
@@ -16,12 +16,12 @@ later_rising : (at : ℕ → ℕ) → Rising at → Rising (λ k. at (suc k))
 later_rising at h i j l = h (suc i) (suc j) (omega arith)
 
 -- what is left stands somewhere in the list
-without_some : (n : ℕ) (at : ℕ → ℕ) (i : ℕ) → (k : ℕ) × (without n at i ≡ at k)
+without_some : (n : ℕ) (at : ℕ → ℕ) (i : ℕ) → (k : ℕ) × (left_without n at i ≡ at k)
 without_some zero at i = (suc i, refl)
 without_some (suc n) at zero = (0, refl)
 without_some (suc n) at (suc i) = let u = without_some n (λ k. at (suc k)) i in (suc u.0, u.1)
 
-without_rising : (n : ℕ) (at : ℕ → ℕ) → Rising at → Rising (without n at)
+without_rising : (n : ℕ) (at : ℕ → ℕ) → Rising at → Rising (left_without n at)
 without_rising zero at h i j l = h (suc i) (suc j) (omega arith)
 without_rising (suc n) at h zero zero l = absurd (no l)
   where
@@ -98,9 +98,9 @@ head_keeps at F h k (n ∷ ns) (m ∷ ms) = ((λ b. there (before_is b n m ns ms
 leaves_keep : (ls : List Leaf) (at : ℕ → ℕ) (rest : List ℕ → List ℕ) → Rising at → Keeps rest → Keeps (leaf_positions ls at rest)
 leaves_keep [] at rest h k ns ms = k ns ms
 leaves_keep (atom_leaf a xs ∷ ls) at rest h k ns ms =
-    subst₂ (λ x y. (Before ns ms → Before x y) × (Before x y → Before ns ms)) (same ns) (same ms) (head_keeps at (λ n. leaf_positions ls (without n at) rest) h (λ n. leaves_keep ls (without n at) rest (without_rising n at h) k) ns ms)
+    subst₂ (λ x y. (Before ns ms → Before x y) × (Before x y → Before ns ms)) (same ns) (same ms) (head_keeps at (λ n. leaf_positions ls (left_without n at) rest) h (λ n. leaves_keep ls (left_without n at) rest (without_rising n at h) k) ns ms)
   where
-    same : (ns : List ℕ) → head_first at (λ n. leaf_positions ls (without n at) rest) ns ≡ leaf_positions (atom_leaf a xs ∷ ls) at rest ns
+    same : (ns : List ℕ) → head_first at (λ n. leaf_positions ls (left_without n at) rest) ns ≡ leaf_positions (atom_leaf a xs ∷ ls) at rest ns
     same [] = refl
     same (n ∷ ns) = refl
 leaves_keep (connector_leaf x y ∷ ls) at rest h k ns ms = leaves_keep ls at rest h k ns ms
@@ -109,7 +109,7 @@ leaves_keep (typed_leaf p x ∷ ls) at rest h k ns ms = leaves_keep ls at rest h
 whole_rising : Rising whole_list
 whole_rising i j l = l
 
-as_head : (l : Level) (ls : Levels) (at : ℕ → ℕ) (rest : List ℕ → List ℕ) (ns : List ℕ) → head_first at (λ n. level_positions l (membrane_positions ls (without n at) rest)) ns ≡ membrane_positions (level_and l ls) at rest ns
+as_head : (l : Level) (ls : Levels) (at : ℕ → ℕ) (rest : List ℕ → List ℕ) (ns : List ℕ) → head_first at (λ n. level_positions l (membrane_positions ls (left_without n at) rest)) ns ≡ membrane_positions (level_and l ls) at rest ns
 as_head l ls at rest [] = refl
 as_head l ls at rest (n ∷ ns) = refl
 
@@ -121,7 +121,7 @@ mutual
   membranes_keep no_level at rest h k ns ms = k ns ms
   membranes_keep (level_and l ls) at rest h k ns ms =
       subst₂ (λ x y. (Before ns ms → Before x y) × (Before x y → Before ns ms)) (as_head l ls at rest ns) (as_head l ls at rest ms)
-      (head_keeps at (λ n. level_positions l (membrane_positions ls (without n at) rest)) h (λ n. level_keeps l (membrane_positions ls (without n at) rest) (membranes_keep ls (without n at) rest (without_rising n at h) k)) ns ms)
+      (head_keeps at (λ n. level_positions l (membrane_positions ls (left_without n at) rest)) h (λ n. level_keeps l (membrane_positions ls (left_without n at) rest) (membranes_keep ls (left_without n at) rest (without_rising n at h) k)) ns ms)
 
 pub numbers_in_order : (r : Rule) (f g : List ℕ) → (Before f g → Before (positions_of r f) (positions_of r g)) × (Before (positions_of r f) (positions_of r g) → Before f g)
 numbers_in_order r f g = level_keeps (head_of r) (λ ns. ns) (λ ns ms. ((λ b. b), (λ b. b))) f g
@@ -135,7 +135,7 @@ Stands {A} at zs xs = (i : ℕ) (x : A) (rest : List A) → Taken i x zs rest �
 pub stands_itself : {A : Type 0} (xs : List A) → Stands whole_list xs xs
 stands_itself xs i x rest k = (rest, k)
 
-pub left_stands : {A : Type 0} {n : ℕ} {y : A} {zs ys xs : List A} (at : ℕ → ℕ) → Taken n y zs ys → Stands at zs xs → Stands (without n at) ys xs
+pub left_stands : {A : Type 0} {n : ℕ} {y : A} {zs ys xs : List A} (at : ℕ → ℕ) → Taken n y zs ys → Stands at zs xs → Stands (left_without n at) ys xs
 left_stands at (taken_first {y = y}) h i x rest k = h (suc i) x (y ∷ rest) (taken_later k)
 left_stands at (taken_later {z = z} {zs = zs} k) h zero x rest taken_first = h 0 z zs taken_first
 left_stands at (taken_later {z = z} k) h (suc i) x rest (taken_later {ys = us} q) = left_stands (λ j. at (suc j)) k (λ j x us q. h (suc j) x (z ∷ us) (taken_later q)) i x us q
@@ -143,7 +143,7 @@ left_stands at (taken_later {z = z} k) h (suc i) x rest (taken_later {ys = us} q
 abbrev StandsIn : (ℕ → ℕ) → Regions → Regions → Type 0
 StandsIn at zs ms = (i : ℕ) (m : Region) (rest : Regions) → TakenRegion i m zs rest → (others : Regions) × TakenRegion (at i) m ms others
 
-left_stands_in : {n : ℕ} {m : Region} {zs ys ms : Regions} (at : ℕ → ℕ) → TakenRegion n m zs ys → StandsIn at zs ms → StandsIn (without n at) ys ms
+left_stands_in : {n : ℕ} {m : Region} {zs ys ms : Regions} (at : ℕ → ℕ) → TakenRegion n m zs ys → StandsIn at zs ms → StandsIn (left_without n at) ys ms
 left_stands_in at (region_first {m = y}) h i x rest k = h (suc i) x (region_and y rest) (region_later k)
 left_stands_in at (region_later {k = z} {ms = zs} k) h zero x rest region_first = h 0 z zs region_first
 left_stands_in at (region_later {k = z} k) h (suc i) x rest (region_later {ns = us} q) = left_stands_in (λ j. at (suc j)) k (λ j x us q. h (suc j) x (region_and z us) (region_later q)) i x us q
@@ -151,7 +151,7 @@ left_stands_in at (region_later {k = z} k) h (suc i) x rest (region_later {ns = 
 -- what images of atoms read of the numbers, and what they leave to others
 leaves_read : {t : Assignment} {ls : List Leaf} {ns : List ℕ} {zs rest : List SolidAtom} (at : ℕ → ℕ) (f : List ℕ → List ℕ) (os : List ℕ) → AtomImages t ls ns zs rest → leaf_positions ls at f (ns ++ os) ≡ leaf_positions ls at (λ r. r) ns ++ f os
 leaves_read at f os no_image = refl
-leaves_read at f os (image_and {n = n} k i) = ap (λ w. at n ∷ w) (leaves_read (without n at) f os i)
+leaves_read at f os (image_and {n = n} k i) = ap (λ w. at n ∷ w) (leaves_read (left_without n at) f os i)
 leaves_read at f os (typed_later i) = leaves_read at f os i
 
 mutual
@@ -168,17 +168,17 @@ mutual
   membranes_read at f os no_membrane_image = refl
   membranes_read at f os (membrane_image_and {leaves = leaves} {membranes = membranes} {ls = ls} {contexts = ps} {rule_contexts = qs} {rules = rules} {n = n} {ns = ns} {ns' = ns'} k i a b c) =
       let l = level leaves membranes ps qs rules in
-      let g = membrane_positions ls (without n at) f in
-      let g' = membrane_positions ls (without n at) (λ r. r) in
+      let g = membrane_positions ls (left_without n at) f in
+      let g' = membrane_positions ls (left_without n at) (λ r. r) in
       ap (λ w. at n ∷ w)
       (ap (level_positions l g) (append_assoc ns ns' os) ∙ level_read g (ns' ++ os) i
-      ∙ ap (λ w. level_positions l (λ r. r) ns ++ w) (membranes_read (without n at) f os c)
+      ∙ ap (λ w. level_positions l (λ r. r) ns ++ w) (membranes_read (left_without n at) f os c)
       ∙ sym (append_assoc (level_positions l (λ r. r) ns) (g' ns') (f os))
       ∙ ap (λ w. w ++ f os) (sym (level_read g' ns' i)))
 
 atoms_stand : {t : Assignment} {ls : List Leaf} {ns : List ℕ} {zs rest xs : List SolidAtom} (at : ℕ → ℕ) → AtomImages t ls ns zs rest → Stands at zs xs → AtomsStand t xs ls (leaf_positions ls at (λ r. r) ns)
 atoms_stand at no_image h = no_atom_stands
-atoms_stand {t} at (image_and {a = a} {ys = ys} {n = n} {xs' = us} k i) h = atom_stands (h n (record { label = a; links = map t.link_of ys }) us k).1 (atoms_stand (without n at) i (left_stands at k h))
+atoms_stand {t} at (image_and {a = a} {ys = ys} {n = n} {xs' = us} k i) h = atom_stands (h n (record { label = a; links = map t.link_of ys }) us k).1 (atoms_stand (left_without n at) i (left_stands at k h))
 atoms_stand at (typed_later i) h = typed_stands (atoms_stand at i h)
 
 mutual
@@ -191,8 +191,8 @@ mutual
   membranes_stand_at at no_membrane_image h = no_membrane_stands
   membranes_stand_at {t} {ms = ms} at (membrane_image_and {leaves = leaves} {membranes = membranes} {ls = ls} {contexts = ps} {rule_contexts = qs} {rules = rules} {n = n} {ns = ns} {ns' = ns'} {m = m} {ms' = us} k i a b c) h =
       let l = level leaves membranes ps qs rules in
-      subst (λ w. MembranesStand t (level_and l ls) (at n ∷ w) ms) (sym (level_read (membrane_positions ls (without n at) (λ r. r)) ns' i))
-      (membrane_stands (h n m us k).1 (level_stands_at i) (membranes_stand_at (without n at) c (left_stands_in at k h)))
+      subst (λ w. MembranesStand t (level_and l ls) (at n ∷ w) ms) (sym (level_read (membrane_positions ls (left_without n at) (λ r. r)) ns' i))
+      (membrane_stands (h n m us k).1 (level_stands_at i) (membranes_stand_at (left_without n at) c (left_stands_in at k h)))
 
 pub images_stand : (r : Rule) (f : List ℕ) (m : Region) (e : EmbedsAt r f m) → LevelStands e.assignment (head_of r) (positions_of r f) m
 images_stand r f m e = level_stands_at e.images

@@ -10,7 +10,7 @@ use Rattle.lmn_congruence.specs.UpToOrder.{Reordered}
 use Rattle.lmn_reduction.specs.Assignments.{Assignment}
 use Rattle.lmn_reduction.specs.Instances.{Instance}
 use Rattle.lmn_adequacy.specs.Embedding.{EmbedsAt, TakenRegion}
-use Rattle.lmn_adequacy.specs.Next.{of_rule, of_solid}
+use Rattle.lmn_splice.specs.Splice.{of_rule, of_solid}
 
 -- what the body stands for: each link of the rule is new, and the contexts keep their links
 abbrev pub made : Assignment → Assignment

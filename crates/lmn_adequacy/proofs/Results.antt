@@ -9,7 +9,7 @@ use Rattle.lmn_reduction.proofs.Plains.{solids_settled}
 use Rattle.lmn_congruence.proofs.Reordered.{SamePiece, reordered_pieces}
 use Rattle.lmn_adequacy.specs.Accepted.{Accepted, Throughout}
 use Rattle.lmn_adequacy.specs.Choice.{ChosenFrom, NextFrom}
-use Rattle.lmn_adequacy.specs.Embedding.{AllRules, Embeds}
+use Rattle.lmn_adequacy.specs.Embedding.{AllRules, HasEmbedding}
 use Rattle.lmn_adequacy.specs.Laws.{ChoiceIsExact, ChoiceIsOne, EmbeddingsFire, FiringsCommit, ImagesStand, IrreducibleExactly, NextIsOne, NextIsSolid, NothingLeft, NumberedIsOne, NumberingExists, NumbersInOrder, RenamedNext, StepsEmbed, StepsExactly}
 use Rattle.lmn_adequacy.proofs.Accepting.{accepted_bare, accepted_head}
 use Rattle.lmn_adequacy.proofs.Commits.{next_commits, next_steps}
@@ -34,7 +34,7 @@ embeddings_fire path f k S c h = ((λ e. embeds_next path f k S c h e), (λ n. n
 pub firings_commit : FiringsCommit
 firings_commit S S' c h n = next_commits S S' c (all_rules_so accepted_bare S h) (next_up_to_order n.next)
 
-embeds_step : (S : Region) → Closed (region_process S) → AllRules Accepted S → Embeds S → (Q : Process) × Step (region_process S) Q
+embeds_step : (S : Region) → Closed (region_process S) → AllRules Accepted S → HasEmbedding S → (Q : Process) × Step (region_process S) Q
 embeds_step S c h e = let n = embeds_next e.path e.positions e.number S c h e.embeds in next_steps S n.0 c (all_rules_so accepted_bare S h) (next_up_to_order n.1)
 
 pub steps_exactly : StepsExactly

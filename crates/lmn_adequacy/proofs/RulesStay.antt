@@ -7,14 +7,14 @@ use Rattle.lmn_congruence.specs.Rules.{Leaf, Level, Levels, Name, Rule, Rules, b
 use Rattle.lmn_congruence.specs.Translation.{levels, rules as listed_rules}
 use Rattle.lmn_reduction.specs.Assignments.{Assignment}
 use Rattle.lmn_congruence.proofs.Shuffles.{shuffle_flip}
-use Rattle.lmn_adequacy.specs.Accepted.{Accepted, Throughout, ThroughoutLevel, ThroughoutLevels, ThroughoutRules, all_contexts, all_rule_contexts, contexts_in, membranes_of, rule_contexts_in}
+use Rattle.lmn_adequacy.specs.Accepted.{Accepted, Throughout, ThroughoutLevel, ThroughoutLevels, ThroughoutRules, all_contexts, all_rule_contexts, contexts_in, own_membranes, rule_contexts_in}
 use Rattle.lmn_adequacy.specs.Embedding.{AllRules, AllRulesIn, EachRule, LevelImages, MembraneImages, TakenRegion, level_images, membrane_image_and, no_membrane_image, region_first, region_later}
 use Rattle.lmn_adequacy.specs.Next.{Contents, EachLeft, EachLeftIn, FiresInOrder, LeftTo, LeftToContext, LeftToRuleContext, MadeLevel, MadeMembranes, NextAt, RawAt, context_membranes, context_rules, fires_below, fires_here, kept_atoms, kept_level, kept_membranes, made_level, made_membrane, no_context, no_made_membrane, no_rule_context, one_context, one_rule_context, raw_level, replaced, wire_leaves}
 use Rattle.lmn_adequacy.proofs.Heads.{region_there, rule_there}
-use Rattle.lmn_adequacy.proofs.InOrder.{rules_listed}
 use Rattle.lmn_adequacy.proofs.OneNext.{names_split}
-use Rattle.lmn_adequacy.proofs.Orders.{among_append, among_left, among_right, either, taken_put}
+use Rattle.lmn_adequacy.proofs.Orders.{either, taken_put}
 use Rattle.lmn_adequacy.proofs.SameParts.{shuffle_among}
+use Rattle.lmn_congruence.proofs.Common.{among_apart as among_append, rules_listed, among_left, among_right}
 
 each_append : (K : Rule → Type 0) (rs ss : List Rule) → EachRule K rs → EachRule K ss → EachRule K (rs ++ ss)
 each_append K [] ss h k = k
@@ -95,7 +95,7 @@ module _ (H : Rule → Type 0) where
   both_contexts c ps ps' qs qs' h k = ((λ p i. either (among_append ps ps' i) (h.0 p) (k.0 p)), (λ q i. either (among_append qs qs' i) (h.1 q) (k.1 q)))
 
   mutual
-    images_rules : (c : Contents) {t : Assignment} {l : Level} {ns : List ℕ} {m rest : Region} (i : LevelImages t l ns m rest) → EachLeft c i → AllRules K m → AllRules K rest × ContextRules c (contexts_in (membranes_of l)) (rule_contexts_in (membranes_of l))
+    images_rules : (c : Contents) {t : Assignment} {l : Level} {ns : List ℕ} {m rest : Region} (i : LevelImages t l ns m rest) → EachLeft c i → AllRules K m → AllRules K rest × ContextRules c (contexts_in (own_membranes l)) (rule_contexts_in (own_membranes l))
     images_rules c (level_images i j k) e h = let u = membranes_rules c k e h.1 in ((h.0, u.0), u.1)
 
     membranes_rules : (c : Contents) {t : Assignment} {ls : Levels} {ns : List ℕ} {ms rest : Regions} (i : MembraneImages t ls ns ms rest) → EachLeftIn c i → AllRulesIn K ms → AllRulesIn K rest × ContextRules c (contexts_in ls) (rule_contexts_in ls)
@@ -142,8 +142,8 @@ module _ (H : Rule → Type 0) where
       let u = images_rules c e.images e.left h in
       let n = names_split (head_of r) in
       let k : ContextRules c (all_contexts (body_of r)) (all_rule_contexts (body_of r)) = (
-        (λ p i. let j = shuffle_among (shuffle_flip a.kept) i in subst (λ w. AllRulesIn K (c.membranes_of w)) j.2 (u.1.0 j.0 (subst (Among j.0) (n.0 ∙ ap (λ w. w ++ contexts_in (membranes_of (head_of r))) a.top_contexts) j.1))),
-        (λ q i. u.1.1 q (subst (Among q) (n.1 ∙ ap (λ w. w ++ rule_contexts_in (membranes_of (head_of r))) a.top_rule_contexts) (a.known_rules q i))),
+        (λ p i. let j = shuffle_among (shuffle_flip a.kept) i in subst (λ w. AllRulesIn K (c.membranes_of w)) j.2 (u.1.0 j.0 (subst (Among j.0) (n.0 ∙ ap (λ w. w ++ contexts_in (own_membranes (head_of r))) a.top_contexts) j.1))),
+        (λ q i. u.1.1 q (subst (Among q) (n.1 ∙ ap (λ w. w ++ rule_contexts_in (own_membranes (head_of r))) a.top_rule_contexts) (a.known_rules q i))),
       ) in
       let v = made_rules_of c F.makes (body_rules r g) k in
       subst LevelRules (sym F.is) (raw_level_rules e.rest (wire_leaves c.link_of (head_of r) F.bound) F.outs F.made_membranes F.made_rules u.0 v.0 v.1)

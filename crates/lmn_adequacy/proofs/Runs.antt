@@ -2,13 +2,13 @@
 use Rattle.std.proofs.Common.{ℕ, List, length, [], ◌∷◌, ◌++◌, refl, sym, subst, arith, ◌≡◌, ◌+◌, ◌<◌, ◌≤◌, ◌↔◌, ◌⊎◌, inl, inr}
 use Rattle.std.proofs.lemmas.List.{length-append}
 use Rattle.lmn_congruence.specs.Process.{Closed}
-use Rattle.lmn_congruence.specs.Regions.{Region, items, region_process}
+use Rattle.lmn_congruence.specs.Regions.{Region, item_count_of_region, region_process}
 use Rattle.lmn_congruence.specs.Same.{IsRenamed}
 use Rattle.lmn_reduction.specs.Chains.{Commits, no_step, step_after}
 use Rattle.lmn_reduction.specs.Commits.{Irreducible}
 use Rattle.lmn_adequacy.specs.Accepted.{Accepted, Throughout}
 use Rattle.lmn_adequacy.specs.Choice.{NextFrom, paths}
-use Rattle.lmn_adequacy.specs.Embedding.{AllRules, Embeds}
+use Rattle.lmn_adequacy.specs.Embedding.{AllRules, HasEmbedding}
 use Rattle.lmn_adequacy.specs.Laws.{TraceIsOne, EndIsOne, TraceCommits, TraceEnds, TraceStops}
 use Rattle.lmn_adequacy.specs.Next.{Next}
 use Rattle.lmn_adequacy.specs.Numbered.{IsNumbered}
@@ -29,7 +29,7 @@ good_rules {S} g = all_rules_so throughout_itself S g.accepted
 next_of : {from : ℕ} {S S' : Region} → NextFrom from S S' → Next S S'
 next_of n = record { path = n.path; number = n.number; positions = n.positions; next = n.next }
 
-embeds_in : {from : ℕ} {S S' : Region} → NextFrom from S S' → Embeds S
+pub embeds_in : {from : ℕ} {S S' : Region} → NextFrom from S S' → HasEmbedding S
 embeds_in n = record { path = n.path; number = n.number; positions = n.positions; embeds = n.chosen.embeds }
 
 good_next : {from : ℕ} {S S' : Region} → Good S → NextFrom from S S' → Good S'
@@ -81,7 +81,7 @@ module _ (chooser : Chooser) (budget size : ℕ) (S : Region) where
     pub trace : IsTrace solids solid
     pub below : n < budget
     pub turn : Turn chooser n solid after
-    pub few : items after ≤ size
+    pub few : item_count_of_region after ≤ size
 
   goes_on : {before : List Region} {S' : Region} → IsTrace before S' → (n : ℕ) → n < length before → GoesOn n
   goes_on loaded n h = absurd (omega (arith, h))
@@ -96,20 +96,20 @@ module _ (chooser : Chooser) (budget size : ℕ) (S : Region) where
 
   -- what has ended doesn't go on
   ended : {before : List Region} {S' : Region} {e : End} → Good S → IsTrace before S' → Ends chooser budget size (length before) S' e → ¬ (GoesOn (length before))
-  ended g p (nothing_embeds h) o = h (subst Embeds (sym (trace_one g p o.trace (sym o.number)).1) (embeds_in o.turn.next))
+  ended g p (nothing_embeds h) o = h (subst HasEmbedding (sym (trace_one g p o.trace (sym o.number)).1) (embeds_in o.turn.next))
   ended g p (none_allowed h e) o = absurd (omega (arith, e, o.below))
   ended g p (too_many {S' = R} l t m) o =
       let same : R ≡ o.after = turn_one refl (trace_one g p o.trace (sym o.number)).1 (good_trace g p) t o.turn in
-      absurd (let few : items R ≤ size = subst (λ w. items w ≤ size) (sym same) o.few in omega (arith, few, m))
+      absurd (let few : item_count_of_region R ≤ size = subst (λ w. item_count_of_region w ≤ size) (sym same) o.few in omega (arith, few, m))
 
   one_end : {n k : ℕ} {T T' : Region} {e d : End} → n ≡ k → T ≡ T' → Ends chooser budget size n T e → Ends chooser budget size k T' d → e ≡ d
   one_end q s (nothing_embeds h) (nothing_embeds h') = refl
-  one_end q s (nothing_embeds h) (none_allowed h' a) = absurd (h (subst Embeds (sym s) h'))
-  one_end q s (nothing_embeds h) (too_many l t m) = absurd (h (subst Embeds (sym s) (embeds_in t.next)))
-  one_end q s (none_allowed h a) (nothing_embeds h') = absurd (h' (subst Embeds s h))
+  one_end q s (nothing_embeds h) (none_allowed h' a) = absurd (h (subst HasEmbedding (sym s) h'))
+  one_end q s (nothing_embeds h) (too_many l t m) = absurd (h (subst HasEmbedding (sym s) (embeds_in t.next)))
+  one_end q s (none_allowed h a) (nothing_embeds h') = absurd (h' (subst HasEmbedding s h))
   one_end q s (none_allowed h a) (none_allowed h' a') = refl
   one_end q s (none_allowed h a) (too_many l t m) = absurd (omega (arith, q, a, l))
-  one_end q s (too_many l t m) (nothing_embeds h') = absurd (h' (subst Embeds s (embeds_in t.next)))
+  one_end q s (too_many l t m) (nothing_embeds h') = absurd (h' (subst HasEmbedding s (embeds_in t.next)))
   one_end q s (too_many l t m) (none_allowed h a) = absurd (omega (arith, q, a, l))
   one_end q s (too_many l t m) (too_many l' t' m') = refl
 
@@ -144,7 +144,7 @@ trace_ends chooser budget size S before S' e c h p a = ((λ i. into i a), (λ i.
     g : Good S'
     g = good_trace chooser budget size S (good c h) p
 
-    stuck : Irreducible (region_process S') ↔ (¬ (Embeds S'))
+    stuck : Irreducible (region_process S') ↔ (¬ (HasEmbedding S'))
     stuck = irreducible_exactly S' g.closed (good_rules g)
 
     not_budget : ¬ (budget_done ≡ irreducible)

@@ -6,34 +6,31 @@ use Rattle.lmn_congruence.specs.Orders.{Among, Shuffle, at_head, further, more, 
 use Rattle.lmn_congruence.specs.Process.{OneToOneOn, Process, atom, connector, membrane, nothing, occurrences, pair, renamed, rule, together}
 use Rattle.lmn_congruence.specs.Regions.{SolidAtom, atom_process}
 use Rattle.lmn_congruence.specs.Rules.{Label}
-use Rattle.lmn_reduction.specs.Parts.{IsGround, Reached, Rooted, SameGraph, across, atoms_of, the_root}
-use Rattle.lmn_congruence.proofs.Counts.{Occurs, in_left, in_right, occurs_once, same_or_not}
+use Rattle.lmn_reduction.specs.Parts.{IsGround, ReachesLink, Rooted, EqualParts, across, atoms_at_top, the_root}
+use Rattle.lmn_congruence.proofs.Counts.{Occurs, in_left, in_right, occurs_once}
 use Rattle.lmn_congruence.proofs.Renaming.{occurrences_image, occurrences_none}
 use Rattle.lmn_congruence.proofs.Reordered.{reordered_count}
 use Rattle.lmn_congruence.proofs.Shuffles.{shuffle_chain, shuffle_flip}
 use Rattle.lmn_adequacy.specs.Embedding.{IsPart, Merged, from_first, from_second, merged_none}
 use Rattle.lmn_adequacy.specs.Next.{links_at}
-use Rattle.lmn_adequacy.proofs.Depth.{among_places, at_append, at_cons, at_same}
+use Rattle.lmn_adequacy.proofs.Depth.{at_append, at_cons, at_same}
 use Rattle.lmn_adequacy.proofs.Embedding.{part_atom, part_order}
 use Rattle.lmn_adequacy.proofs.Exposing.{Source, found, missing, source}
 use Rattle.lmn_adequacy.proofs.Images.{map_maps, positive}
-use Rattle.lmn_adequacy.proofs.Orders.{among_append, among_map, among_others, among_put, either, merged_shuffle}
+use Rattle.lmn_adequacy.proofs.Orders.{among_others, among_put, either, merged_shuffle}
+use Rattle.lmn_base.proofs.Numbers.{same_or_not}
+use Rattle.lmn_congruence.proofs.Common.{among_apart as among_append, among_map, among_places, map_known}
 
 -- ---- atoms and their links
 
-pub atoms_occur : (P : Process) {a : Label × List ℕ} {x : ℕ} → Among a (atoms_of P) → Among x a.1 → Occurs x P
+pub atoms_occur : (P : Process) {a : Label × List ℕ} {x : ℕ} → Among a (atoms_at_top P) → Among x a.1 → Occurs x P
 atoms_occur nothing k l = elim k [ ]
 atoms_occur (connector y z) k l = elim k [ ]
 atoms_occur (atom b ys) at_head l = positive (places _ ys) (among_places l)
 atoms_occur (atom b ys) (further k) l = elim k [ ]
-atoms_occur (pair P Q) {a} {x} k l = either (among_append (atoms_of P) (atoms_of Q) k) (λ i. in_left (occurrences x P) (occurrences x Q) (atoms_occur P i l)) (λ i. in_right (occurrences x P) (occurrences x Q) (atoms_occur Q i l))
+atoms_occur (pair P Q) {a} {x} k l = either (among_append (atoms_at_top P) (atoms_at_top Q) k) (λ i. in_left (occurrences x P) (occurrences x Q) (atoms_occur P i l)) (λ i. in_right (occurrences x P) (occurrences x Q) (atoms_occur Q i l))
 atoms_occur (membrane P) k l = elim k [ ]
 atoms_occur (rule r) k l = elim k [ ]
-
--- f and g agree on the links of an atom
-pub map_known : {f g : ℕ → ℕ} (xs : List ℕ) → ((x : ℕ) → Among x xs → f x ≡ g x) → map f xs ≡ map g xs
-map_known [] h = refl
-map_known (x ∷ xs) h = cc (h x at_head, map_known xs (λ y k. h y (further k)))
 
 pub shuffle_known : {A B : Type 0} {R : A → B → Type 0} (P : A → Type 0) (Q : B → Type 0) {xs : List A} {ys : List B} → ((a : A) → Among a xs → P a) → ((b : B) → Among b ys → Q b) → Shuffle R xs ys → Shuffle (λ a b. R a b × P a × Q b) xs ys
 shuffle_known P Q p q none = none
@@ -54,7 +51,7 @@ part_image {g} i y o = part_count i (i.to y) ∙ occurrences_image i.to y g.proc
 abbrev pub Knows : Rooted → Label × List ℕ → Type 0
 Knows g a = (x : ℕ) → Among x a.1 → Occurs x g.process
 
-pub knows : (g : Rooted) (a : Label × List ℕ) → Among a (atoms_of g.process) → Knows g a
+pub knows : (g : Rooted) (a : Label × List ℕ) → Among a (atoms_at_top g.process) → Knows g a
 knows g a k x l = atoms_occur g.process k l
 
 abbrev pub found_or : (w : ℕ → ℕ) (P : Process) (z d : ℕ) → Source w P z → ℕ
@@ -76,12 +73,12 @@ pair_is : {A B : Type 0} (a : A) (b : B) (c : A × B) → a ≡ c.0 → b ≡ c.
 pair_is a b c e f = let k : ◌≡◌ (a, b) (c.0, c.1) = cc (e, f) in k
 
 -- two processes of one part are equal as rooted graphs
-pub one_graph : {g h : Rooted} {x : ℕ} {part : List SolidAtom} → IsPart g x part → IsPart h x part → Occurs g.root g.process → Occurs h.root h.process → SameGraph g h
+pub one_graph : {g h : Rooted} {x : ℕ} {part : List SolidAtom} → IsPart g x part → IsPart h x part → Occurs g.root g.process → Occurs h.root h.process → EqualParts g h
 one_graph {g} {h} {x} {part} i j o o' =
     let s = shuffle_known (Knows g) (λ b. Unit {0}) (λ a k. knows g a k) (λ b k. tt) i.atoms in
     let t = shuffle_known (Knows h) (λ b. Unit {0}) (λ a k. knows h a k) (λ b k. tt) j.atoms in
     let w : ℕ → ℕ = λ z. backward j.to h.process (i.to z) in
-    let u : Shuffle (λ a b. (a.0, map w a.1) ≡ b) (atoms_of g.process) (atoms_of h.process) = shuffle_chain (λ a b c p q. joined_atom a b c p.0 q.0 q.1) s (atoms_of h.process) (shuffle_flip t) in
+    let u : Shuffle (λ a b. (a.0, map w a.1) ≡ b) (atoms_at_top g.process) (atoms_at_top h.process) = shuffle_chain (λ a b c p q. joined_atom a b c p.0 q.0 q.1) s (atoms_at_top h.process) (shuffle_flip t) in
     record {
       to = w;
       one_to_one = λ y z p q e. i.one_to_one y z p q (same_image y z p q e);
@@ -180,7 +177,7 @@ none_left {g} {L} {part} {rest} {xs} ground i m two one {a} {y} k l d = go (sour
 module _ {g h : Rooted} {L : ℕ} {part rest part' rest' xs : List SolidAtom} (i : IsPart g L part) (m : Merged part rest xs) (ground : IsGround h) (j : IsPart h L part') (n : Merged part' rest' xs)
     (two : (z : ℕ) → places z (links_at xs) ≤ 2) (one : places L (links_at xs) ≤ 1) where
   -- each link of the one part is one of the other
-  links_shared : {y : ℕ} → Reached g y → places (i.to y) (links_at part') ≢ 0
+  links_shared : {y : ℕ} → ReachesLink g y → places (i.to y) (links_at part') ≢ 0
   links_shared the_root =
       let c : places (i.to g.root) (links_at part') ≡ 1 = ap (λ w. places w (links_at part')) (i.root ∙ sym j.root) ∙ part_image j h.root (occurs_once (occurrences h.root h.process) ground.root_is_free) ∙ ground.root_is_free in
       occurs_once (places (i.to g.root) (links_at part')) c

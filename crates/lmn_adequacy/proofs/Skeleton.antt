@@ -10,19 +10,22 @@ use Rattle.lmn_congruence.specs.UpToOrder.{Reordered, r_back, r_beside, r_chain,
 use Rattle.lmn_reduction.specs.Assignments.{Assignment}
 use Rattle.lmn_reduction.specs.Instances.{IsCopy, LeafInstances, MembraneInstances, instance, leaf_and, membrane_and, no_leaf, no_membrane, of_atom, of_typed, rules_of_contexts}
 use Rattle.lmn_reduction.specs.Parts.{IsGround, OnlyAtoms, Rooted}
-use Rattle.lmn_congruence.proofs.Counts.{Occurs, same_or_not}
+use Rattle.lmn_congruence.proofs.Counts.{Occurs}
 use Rattle.lmn_congruence.proofs.LinkMaps.{two_occurrences}
 use Rattle.lmn_congruence.proofs.Renaming.{occurrences_image, occurrences_none, renamed_agree, renamed_id}
 use Rattle.lmn_congruence.proofs.Reordered.{r_right, reordered_count}
 use Rattle.lmn_congruence.proofs.Solids.{put_map, put_together}
 use Rattle.lmn_adequacy.specs.Embedding.{AtomImages, IsPart, KeepsLinks, LevelImages, MembraneImages, Plain, TakenRegion, TypedParts, filling, image_and, level_images, membrane_image_and, no_image, no_membrane_image, no_part, no_part_of_atom, part_and, typed_later}
-use Rattle.lmn_adequacy.specs.Next.{of_rule, of_solid}
 use Rattle.lmn_adequacy.proofs.Embedding.{part_order}
 use Rattle.lmn_adequacy.proofs.Ends.{AllMembranes}
 use Rattle.lmn_adequacy.proofs.Exposing.{KeepsCounts}
-use Rattle.lmn_adequacy.proofs.Images.{atoms_plain, no_connector_renamed, no_link_rule_contexts, no_link_rules, renamed_renamed}
+use Rattle.lmn_adequacy.proofs.Images.{atoms_plain, no_connector_renamed, no_link_rule_contexts, renamed_renamed}
 use Rattle.lmn_adequacy.proofs.Orders.{atoms_joined, merged_shuffle, r_both, r_over, region_put, shuffled_atoms, taken_put}
 use Rattle.lmn_adequacy.proofs.RawProcesses.{made}
+use Rattle.lmn_splice.specs.Splice.{of_rule, of_solid}
+use Rattle.lmn_base.proofs.Numbers.{same_or_not}
+use Rattle.lmn_congruence.proofs.TranslatedLinks.{no_link_in_rules as no_link_rules}
+use Rattle.lmn_splice.proofs.Fusions.{apart_rule as even_not_odd, rule_once as even_differs, solid_once as odd_differs}
 
 -- ---- even and odd numbers
 
@@ -50,18 +53,6 @@ next_parity {z = z} (odd x e) = even (suc x) (omega (arith, e))
 pub parity : (z : ℕ) → Parity z
 parity zero = even 0 refl
 parity (suc z) = next_parity (parity z)
-
-pub even_differs : (x y : ℕ) → of_rule x ≡ of_rule y → x ≡ y
-even_differs x y e = omega (arith, e)
-
-pub odd_differs : (x y : ℕ) → of_solid x ≡ of_solid y → x ≡ y
-odd_differs x y e = omega (arith, e)
-
-pub even_not_odd : (x y : ℕ) → of_rule x ≢ of_solid y
-even_not_odd x y e = absurd (go x y e)
-  where
-    go : (x y : ℕ) → ¬ (x + x ≡ suc (y + y))
-    go x y = omega arith
 
 module _ (t : Assignment) (plain_t : Plain t) where
   abbrev pub T : Assignment

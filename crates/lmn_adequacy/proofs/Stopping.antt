@@ -6,11 +6,12 @@ use Rattle.lmn_congruence.specs.Regions.{Region, Regions, SolidAtom}
 use Rattle.lmn_congruence.specs.Rules.{Leaf, Level, Levels, atom_leaf, connector_leaf, head_of, level, level_and, no_level, typed_leaf}
 use Rattle.lmn_reduction.specs.Assignments.{Assignment}
 use Rattle.lmn_congruence.proofs.Counts.{three_ways}
-use Rattle.lmn_adequacy.specs.Choice.{Before, ChosenFrom, asked, less_behind, less_here, paths, paths_from}
-use Rattle.lmn_adequacy.specs.Embedding.{AtomImages, Embeds, EmbedsIn, LevelImages, MembraneImages, TakenRegion, embeds_below, embeds_here, image_and, level_images, membrane_image_and, no_image, no_membrane_image, region_first, region_later, typed_later}
+use Rattle.lmn_adequacy.specs.Choice.{Before, ChosenFrom, asked_paths, less_behind, less_here, paths, paths_from}
+use Rattle.lmn_adequacy.specs.Embedding.{AtomImages, HasEmbedding, EmbedsIn, LevelImages, MembraneImages, TakenRegion, embeds_below, embeds_here, image_and, level_images, membrane_image_and, no_image, no_membrane_image, region_first, region_later, typed_later}
 use Rattle.lmn_adequacy.proofs.OneEmbedding.{region_one, taken_one}
-use Rattle.lmn_adequacy.proofs.Orders.{among_append, among_left, among_map, among_right, either}
+use Rattle.lmn_adequacy.proofs.Orders.{either}
 use Rattle.lmn_adequacy.proofs.Positions.{before_is, nothing_before, nothing_behind}
+use Rattle.lmn_congruence.proofs.Common.{among_apart as among_append, among_left, among_right, among_map}
 
 abbrev atom_items : List Leaf → ℕ
 atom_items [] = 0
@@ -117,14 +118,14 @@ cut (suc n) [] a = elim a [ ]
 cut (suc n) (q ∷ ps) at_head = inr at_head
 cut (suc n) (q ∷ ps) (further a) = either (cut n ps a) (λ k. inl k) (λ k. inr (further k))
 
-asked_there : (from : ℕ) (S : Region) {p : List ℕ} → Among p (paths S) → Among p (asked from S)
+asked_there : (from : ℕ) (S : Region) {p : List ℕ} → Among p (paths S) → Among p (asked_paths from S)
 asked_there from S a = either (cut from (paths S) a) (λ k. among_left (take from (paths S)) k) (λ k. among_right (drop from (paths S)) k)
 
 module _ (from : ℕ) (S : Region) (never : (path : List ℕ) (k : ℕ) (f : List ℕ) → ¬ (ChosenFrom from S path k f)) where
-  none_there : (earlier others : List (List ℕ)) (q : List ℕ) → asked from S ≡ earlier ++ (q ∷ others) → ((p : List ℕ) → Among p earlier → (j : ℕ) (g : List ℕ) → ¬ (EmbedsIn p j g S)) → (j : ℕ) (g : List ℕ) → ¬ (EmbedsIn q j g S)
+  none_there : (earlier others : List (List ℕ)) (q : List ℕ) → asked_paths from S ≡ earlier ++ (q ∷ others) → ((p : List ℕ) → Among p earlier → (j : ℕ) (g : List ℕ) → ¬ (EmbedsIn p j g S)) → (j : ℕ) (g : List ℕ) → ¬ (EmbedsIn q j g S)
   none_there earlier others q e h j g = no_number (λ k f. EmbedsIn q k f S) (λ k f f' u v. same_length u v) (λ k f u first smallest. never q k f (record { embeds = u; earlier = earlier; later = others; order = e; first_membrane = h; first_rule = first; least = smallest })) (suc j) j (omega arith) g
 
-  none_asked : (earlier others : List (List ℕ)) → asked from S ≡ earlier ++ others → ((p : List ℕ) → Among p earlier → (j : ℕ) (g : List ℕ) → ¬ (EmbedsIn p j g S)) → (p : List ℕ) → Among p others → (j : ℕ) (g : List ℕ) → ¬ (EmbedsIn p j g S)
+  none_asked : (earlier others : List (List ℕ)) → asked_paths from S ≡ earlier ++ others → ((p : List ℕ) → Among p earlier → (j : ℕ) (g : List ℕ) → ¬ (EmbedsIn p j g S)) → (p : List ℕ) → Among p others → (j : ℕ) (g : List ℕ) → ¬ (EmbedsIn p j g S)
   none_asked earlier [] e h p a = elim a [ ]
   none_asked earlier (q ∷ others) e h p at_head = none_there earlier others q e h
   none_asked earlier (q ∷ others) e h p (further a) = none_asked (earlier ++ (q ∷ [])) others (e ∙ sym (append_assoc earlier (q ∷ []) others)) (λ r b. either (among_append earlier (q ∷ []) b) (λ c. h r c) (λ c. one_more r c (none_there earlier others q e h))) p a
@@ -133,5 +134,5 @@ module _ (from : ℕ) (S : Region) (never : (path : List ℕ) (k : ℕ) (f : Lis
       one_more r at_head n = n
       one_more r (further c) n = elim c [ ]
 
-  pub no_choice : ¬ (Embeds S)
-  no_choice e = none_asked [] (asked from S) refl (λ p a. elim a [ ]) e.path (asked_there from S (path_there e.embeds)) e.number e.positions e.embeds
+  pub no_choice : ¬ (HasEmbedding S)
+  no_choice e = none_asked [] (asked_paths from S) refl (λ p a. elim a [ ]) e.path (asked_there from S (path_there e.embeds)) e.number e.positions e.embeds

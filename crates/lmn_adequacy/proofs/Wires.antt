@@ -1,6 +1,6 @@
 -- The connectors from a head's links to the links of the region, and how often a link stands at them.
 use Rattle.std.proofs.Common.{ℕ, zero, suc, cond, eqb, ltb, Bool, true, false, refl, sym, ap, subst, inl, inr, arith, ◌≡◌, ◌≢◌, ◌+◌, ◌≤◌, ◌<◌, ◌⊎◌, ◌∙◌, ◌-◌}
-use Rattle.lmn_congruence.specs.FreeLinks.{link_bound, one_if_once, total}
+use Rattle.lmn_congruence.specs.FreeLinks.{link_bound, one_if_once, sum_below}
 use Rattle.lmn_congruence.specs.Fused.{Joins, fused}
 use Rattle.lmn_congruence.specs.LinkedRules.{level_occurrences}
 use Rattle.lmn_congruence.specs.Links.{one_if_same}
@@ -8,13 +8,15 @@ use Rattle.lmn_congruence.specs.Process.{Process, connector, nothing, occurrence
 use Rattle.lmn_congruence.specs.Rules.{Level}
 use Rattle.lmn_congruence.specs.UpToOrder.{Reordered, r_chain, r_same, r_unit}
 use Rattle.lmn_reduction.specs.Assignments.{Assignment}
-use Rattle.lmn_congruence.proofs.Counts.{below_or_from, none_if_apart, one_bound, one_if_equal, same_or_not}
+use Rattle.lmn_congruence.proofs.Counts.{below_or_from, none_if_apart, one_bound, one_if_equal}
 use Rattle.lmn_congruence.proofs.Crossings.{occurrences_above}
 use Rattle.lmn_congruence.proofs.FewestCrossings.{image_count, with_image}
 use Rattle.lmn_congruence.proofs.Totals.{total_one, total_same, total_single, total_zero}
-use Rattle.lmn_adequacy.specs.Next.{of_rule, of_solid}
 use Rattle.lmn_adequacy.proofs.RawProcesses.{head_wires}
-use Rattle.lmn_adequacy.proofs.Skeleton.{Parity, even, even_differs, even_not_odd, odd, odd_differs, parity, place, place_rule, place_solid}
+use Rattle.lmn_adequacy.proofs.Skeleton.{Parity, even, odd, parity, place, place_rule, place_solid}
+use Rattle.lmn_splice.specs.Splice.{of_rule, of_solid}
+use Rattle.lmn_base.proofs.Numbers.{same_or_not}
+use Rattle.lmn_splice.proofs.Fusions.{apart_rule as even_not_odd, rule_once as even_differs, solid_once as odd_differs}
 use Rattle.lmn_adequacy.specs.Embedding.{Plain}
 
 abbrev pub IsEven : ℕ → Type 0
@@ -38,7 +40,7 @@ even_less n a b e = (b - a, half n a b e)
     half n a b e = grind arith
 
 -- a sum whose terms but one are even
-total_even_but : (n : ℕ) (g : ℕ → ℕ) (z₀ : ℕ) → ((z : ℕ) → z ≢ z₀ → IsEven (g z)) → (k : ℕ) × (total n g ≡ cond (ltb z₀ n) (g z₀) 0 + (k + k))
+total_even_but : (n : ℕ) (g : ℕ → ℕ) (z₀ : ℕ) → ((z : ℕ) → z ≢ z₀ → IsEven (g z)) → (k : ℕ) × (sum_below n g ≡ cond (ltb z₀ n) (g z₀) 0 + (k + k))
 total_even_but zero g z₀ h = (0, zero_case (g z₀))
   where
     zero_case : (m : ℕ) → ◌≡◌ {A = ℕ} 0 (cond (ltb z₀ 0) m 0 + (0 + 0))
@@ -51,15 +53,15 @@ total_even_but (suc n) g z₀ h = go (same_or_not n z₀) (total_even_but n g z�
     past_it : (n z m k t a j : ℕ) → n ≢ z → t ≡ cond (ltb z n) m 0 + (k + k) → a ≡ j + j → a + t ≡ cond (ltb z (suc n)) m 0 + ((k + j) + (k + j))
     past_it n z m k t a j e f g = grind arith
 
-    go : (n ≡ z₀) ⊎ (n ≢ z₀) → (k : ℕ) × (total n g ≡ cond (ltb z₀ n) (g z₀) 0 + (k + k)) → (k : ℕ) × (g n + total n g ≡ cond (ltb z₀ (suc n)) (g z₀) 0 + (k + k))
-    go (inl e) i = (i.0, at_it n z₀ (g z₀) i.0 (total n g) (g n) e i.1 (ap g e))
-    go (inr d) i = let j = h n d in (i.0 + j.0, past_it n z₀ (g z₀) i.0 (total n g) (g n) j.0 d i.1 j.1)
+    go : (n ≡ z₀) ⊎ (n ≢ z₀) → (k : ℕ) × (sum_below n g ≡ cond (ltb z₀ n) (g z₀) 0 + (k + k)) → (k : ℕ) × (g n + sum_below n g ≡ cond (ltb z₀ (suc n)) (g z₀) 0 + (k + k))
+    go (inl e) i = (i.0, at_it n z₀ (g z₀) i.0 (sum_below n g) (g n) e i.1 (ap g e))
+    go (inr d) i = let j = h n d in (i.0 + j.0, past_it n z₀ (g z₀) i.0 (sum_below n g) (g n) j.0 d i.1 j.1)
 
-total_more : (n m : ℕ) (f : ℕ → ℕ) → n ≤ m → total n f ≤ total m f
+total_more : (n m : ℕ) (f : ℕ → ℕ) → n ≤ m → sum_below n f ≤ sum_below m f
 total_more n zero f b = let e : n ≡ 0 = omega arith in rw e (omega arith)
 total_more n (suc m) f b = go (same_or_not n (suc m)) (λ c. total_more n m f c)
   where
-    go : (n ≡ suc m) ⊎ (n ≢ suc m) → (n ≤ m → total n f ≤ total m f) → total n f ≤ f m + total m f
+    go : (n ≡ suc m) ⊎ (n ≢ suc m) → (n ≤ m → sum_below n f ≤ sum_below m f) → sum_below n f ≤ f m + sum_below m f
     go (inl e) i = rw e (omega arith)
     go (inr d) i = let c : n ≤ m = omega arith in omega (arith, i c)
 
@@ -75,12 +77,12 @@ module _ (t : Assignment) (l : Level) where
   abbrev wire_terms : ℕ → ℕ → ℕ
   wire_terms z x = cond (eqb (level_occurrences x l) 1) (one_if_same z (of_rule x) + one_if_same z (of_solid (t.link_of x))) 0
 
-  wires_count : (z n : ℕ) → occurrences z (head_wires t l n) ≡ total n (wire_terms z)
+  wires_count : (z n : ℕ) → occurrences z (head_wires t l n) ≡ sum_below n (wire_terms z)
   wires_count z zero = refl
   wires_count z (suc n) = go (eqb (level_occurrences n l) 1) (wires_count z n)
     where
-      go : (b : Bool) → occurrences z (head_wires t l n) ≡ total n (wire_terms z)
-          → occurrences z (cond b (pair (connector (of_rule n) (of_solid (t.link_of n))) (head_wires t l n)) (head_wires t l n)) ≡ cond b (one_if_same z (of_rule n) + one_if_same z (of_solid (t.link_of n))) 0 + total n (wire_terms z)
+      go : (b : Bool) → occurrences z (head_wires t l n) ≡ sum_below n (wire_terms z)
+          → occurrences z (cond b (pair (connector (of_rule n) (of_solid (t.link_of n))) (head_wires t l n)) (head_wires t l n)) ≡ cond b (one_if_same z (of_rule n) + one_if_same z (of_solid (t.link_of n))) 0 + sum_below n (wire_terms z)
       go true i = omega (arith, i)
       go false i = omega (arith, i)
 
@@ -143,7 +145,7 @@ module _ (t : Assignment) (l : Level) where
         not_once : (n : ℕ) → n ≡ 0 → ◌≡◌ {A = ℕ} 0 (one_if_once n)
         not_once n e = grind arith
 
-        go : (x < bound) ⊎ (bound ≤ x) → total bound (wire_terms (of_rule x)) ≡ one_if_once (level_occurrences x l)
+        go : (x < bound) ⊎ (bound ≤ x) → sum_below bound (wire_terms (of_rule x)) ≡ one_if_once (level_occurrences x l)
         go (inl b) = total_single bound x (wire_terms (of_rule x)) b other ∙ own
         go (inr b) = total_same bound (wire_terms (of_rule x)) (λ z. 0) (λ z c. other z (below_not z x bound c b)) ∙ total_zero bound (λ z. 0) (λ z. refl) ∙ not_once (level_occurrences x l) (bounded x b)
           where
@@ -219,7 +221,7 @@ module _ (t : Assignment) (l : Level) where
           let f : ℕ → ℕ = with_image at y (λ z. occurrences z head) in
           let g : ℕ → ℕ = λ z. cond (eqb z s) 0 (f z) in
           let M = (link_bound head + suc s) + double bound in
-          let one : total M f + g s ≡ total M g + f s = total_one M s f g (omega arith) (λ z b d. not_there z s (f z) d) in
+          let one : sum_below M f + g s ≡ sum_below M g + f s = total_one M s f g (omega arith) (λ z b d. not_there z s (f z) d) in
           omega (arith, image_count M at y head (omega arith), one, at_it s (f s), here, total_more (double bound) M g (omega arith), wires_below bound, wires_count s bound)
         where
           not_there : (z s m : ℕ) → z ≢ s → m ≡ cond (eqb z s) 0 m
@@ -249,7 +251,7 @@ module _ (t : Assignment) (l : Level) where
               term (of_solid y) (of_rule n) (at (of_rule n)) (level_occurrences n l) (occurrences (of_rule n) head) (one_if_same (of_solid y) (of_rule n)) (one_if_same (of_solid y) (of_solid (t.link_of n)))
               (even_not_odd n y) (count n) (none_if_apart (of_solid y) (of_rule n) (λ e. even_not_odd n y (sym e))) (subst (λ k. one_if_same (of_solid y) (of_solid (t.link_of n)) ≤ one_if_same y k) (sym (place_rule t p n)) (one_odd (t.link_of n)))
 
-          wires_below : (n : ℕ) → total n (wire_terms (of_solid y)) ≤ total (double n) (λ z. cond (eqb z (of_solid y)) 0 (with_image at y (λ z. occurrences z head) z))
+          wires_below : (n : ℕ) → sum_below n (wire_terms (of_solid y)) ≤ sum_below (double n) (λ z. cond (eqb z (of_solid y)) 0 (with_image at y (λ z. occurrences z head) z))
           wires_below zero = omega arith
           wires_below (suc n) =
               let h : wire_terms (of_solid y) n ≤ cond (eqb (double n) (of_solid y)) 0 (with_image at y (λ z. occurrences z head) (double n)) = subst (λ k. wire_terms (of_solid y) n ≤ cond (eqb k (of_solid y)) 0 (with_image at y (λ z. occurrences z head) k)) (sym (double_is n)) (even_term n) in

@@ -2,7 +2,7 @@
 -- form in which a context is written aren't asked here.
 use Rattle.std.specs.Prelude.{ℕ, List, ◌≡◌, ◌⊎◌, [], ◌∷◌, ◌++◌}
 use Rattle.lmn_congruence.specs.LinkedRules.{LinkedRule}
-use Rattle.lmn_congruence.specs.Orders.{Among, Shuffle}
+use Rattle.lmn_congruence.specs.Orders.{Among, Shuffle, EachOnce}
 use Rattle.lmn_congruence.specs.Rules.{Arithmetic, Comparison, Condition, Expression, Kind, Leaf, Level, Levels, Name, Rule, Rules, atom_leaf, body_of, compares, connector_leaf, differs, equates, guard_of, head_of, is_kind, level, level_and, no_level, no_rule, operation, rule_and, rule_of, typed_leaf, unknown, value_of}
 use Rattle.lmn_reduction.specs.Firing.{typed_contexts}
 
@@ -16,11 +16,12 @@ abbrev mutual
   EachOf H no_level = Unit {0}
   EachOf H (level_and l ls) = EachLevel H l × EachOf H ls
 
-abbrev pub leaves_of : Level → List Leaf
-leaves_of (level leaves membranes contexts rule_contexts rules) = leaves
+-- what stands in a level itself: its leaves, membranes, untyped contexts, rule contexts and rules
+abbrev pub own_leaves : Level → List Leaf
+own_leaves (level leaves membranes contexts rule_contexts rules) = leaves
 
-abbrev pub membranes_of : Level → Levels
-membranes_of (level leaves membranes contexts rule_contexts rules) = membranes
+abbrev pub own_membranes : Level → Levels
+own_membranes (level leaves membranes contexts rule_contexts rules) = membranes
 
 abbrev pub own_contexts : Level → List Name
 own_contexts (level leaves membranes contexts rule_contexts rules) = contexts
@@ -79,11 +80,7 @@ abbrev mutual
   port_links_in no_level = []
   port_links_in (level_and l ls) = port_links l ++ port_links_in ls
 
--- no element stands twice in a list
-abbrev pub EachOnce : {A : Type 0} → List A → Type 0
-EachOnce [] = Unit {0}
-EachOnce (x ∷ xs) = (¬ (Among x xs)) × EachOnce xs
-
+-- none of the leaves is a connector
 abbrev pub NoConnectorLeaf : List Leaf → Type 0
 NoConnectorLeaf [] = Unit {0}
 NoConnectorLeaf (atom_leaf a xs ∷ ls) = NoConnectorLeaf ls
@@ -161,11 +158,11 @@ pub data InTurn (heads : List Name) : List Name → List Condition → Type 0 wh
 pub record Accepted (r : Rule) : Type 0 where
   pub linked : LinkedRule r
   pub not_empty : ¬ (head_of r ≡ level [] no_level [] [] no_rule)
-  pub no_connectors : EachLevel (λ l. NoConnectorLeaf (leaves_of l)) (head_of r)
+  pub no_connectors : EachLevel (λ l. NoConnectorLeaf (own_leaves l)) (head_of r)
   pub no_rules : EachLevel (λ l. own_rules l ≡ no_rule) (head_of r)
   pub top_contexts : own_contexts (head_of r) ≡ []
   pub top_rule_contexts : own_rule_contexts (head_of r) ≡ []
-  pub few : EachOf (λ l. AtMostOne (own_contexts l) × AtMostOne (own_rule_contexts l)) (membranes_of (head_of r))
+  pub few : EachOf (λ l. AtMostOne (own_contexts l) × AtMostOne (own_rule_contexts l)) (own_membranes (head_of r))
   pub once : EachOnce (all_contexts (head_of r)) × EachOnce (all_rule_contexts (head_of r)) ×
       EachOnce (typed_contexts (head_of r))
   pub kept : Shuffle (λ p q. p ≡ q) (all_contexts (head_of r)) (all_contexts (body_of r))

@@ -16,9 +16,9 @@ abbrev mutual
   paths_from n no_region = []
   paths_from n (region_and m ms) = map (λ path. n ∷ path) (paths m) ++ paths_from (suc n) ms
 
--- the membranes as they are asked, from a number on, wrapping round
-abbrev pub asked : ℕ → Region → List (List ℕ)
-asked from S = drop from (paths S) ++ take from (paths S)
+-- the paths of the membranes as they are asked, from a number on, wrapping round
+abbrev pub asked_paths : ℕ → Region → List (List ℕ)
+asked_paths from S = drop from (paths S) ++ take from (paths S)
 
 -- the lexicographic order of lists of numbers
 pub data Before : List ℕ → List ℕ → Type 0 where
@@ -28,11 +28,12 @@ pub data Before : List ℕ → List ℕ → Type 0 where
 -- ---- positions
 
 -- A map says where in a list each item stands that is left; here it says so when item number n has been taken out too.
-abbrev pub without : ℕ → (ℕ → ℕ) → ℕ → ℕ
-without zero at i = at (suc i)
-without (suc n) at zero = at zero
-without (suc n) at (suc i) = without n (λ k. at (suc k)) i
+abbrev pub left_without : ℕ → (ℕ → ℕ) → ℕ → ℕ
+left_without zero at i = at (suc i)
+left_without (suc n) at zero = at zero
+left_without (suc n) at (suc i) = left_without n (λ k. at (suc k)) i
 
+-- the places of items in a list of which nothing is taken out
 abbrev pub whole_list : ℕ → ℕ
 whole_list i = i
 
@@ -42,7 +43,7 @@ whole_list i = i
 abbrev pub leaf_positions : List Leaf → (ℕ → ℕ) → (List ℕ → List ℕ) → List ℕ → List ℕ
 leaf_positions [] at rest ns = rest ns
 leaf_positions (atom_leaf a xs ∷ ls) at rest [] = []
-leaf_positions (atom_leaf a xs ∷ ls) at rest (n ∷ ns) = at n ∷ leaf_positions ls (without n at) rest ns
+leaf_positions (atom_leaf a xs ∷ ls) at rest (n ∷ ns) = at n ∷ leaf_positions ls (left_without n at) rest ns
 leaf_positions (connector_leaf x y ∷ ls) at rest ns = leaf_positions ls at rest ns
 leaf_positions (typed_leaf p x ∷ ls) at rest ns = leaf_positions ls at rest ns
 
@@ -55,7 +56,7 @@ abbrev mutual
   membrane_positions no_level at rest ns = rest ns
   membrane_positions (level_and l ls) at rest [] = []
   membrane_positions (level_and l ls) at rest (n ∷ ns) =
-      at n ∷ level_positions l (membrane_positions ls (without n at) rest) ns
+      at n ∷ level_positions l (membrane_positions ls (left_without n at) rest) ns
 
 -- the positions at which the head of a rule is, by the numbers of an embedding
 abbrev pub positions_of : Rule → List ℕ → List ℕ
@@ -90,7 +91,7 @@ pub record ChosenFrom (from : ℕ) (S : Region) (path : List ℕ) (k : ℕ) (f :
   pub embeds : EmbedsIn path k f S
   pub earlier : List (List ℕ)
   pub later : List (List ℕ)
-  pub order : asked from S ≡ earlier ++ (path ∷ later)
+  pub order : asked_paths from S ≡ earlier ++ (path ∷ later)
   pub first_membrane : (p : List ℕ) → Among p earlier → (j : ℕ) (g : List ℕ) → ¬ (EmbedsIn p j g S)
   pub first_rule : (j : ℕ) → j < k → (g : List ℕ) → ¬ (EmbedsIn path j g S)
   pub least : (g : List ℕ) → EmbedsIn path k g S → (f ≡ g) ⊎ Before f g

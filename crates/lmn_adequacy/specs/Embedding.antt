@@ -11,7 +11,7 @@ use Rattle.lmn_reduction.specs.Assignments.{Assignment, NoRuleAtTop}
 use Rattle.lmn_reduction.specs.Firing.{typed_contexts}
 use Rattle.lmn_reduction.specs.Guards.{GuardHolds}
 use Rattle.lmn_reduction.specs.Instances.{rules_of_contexts}
-use Rattle.lmn_reduction.specs.Parts.{IsGround, OnlyAtoms, Rooted, atoms_of}
+use Rattle.lmn_reduction.specs.Parts.{IsGround, OnlyAtoms, Rooted, atoms_at_top}
 
 -- An embedding has an assignment too. It gives each link of the rule the link of the solid at its ports, and so
 -- needn't be one to one: two links that each occur once in the head may be joined in the solid.
@@ -27,6 +27,7 @@ pub data Merged {A : Type 0} : List A → List A → List A → Type 0 where
   from_first : {x : A} {ys zs xs : List A} → Merged ys zs xs → Merged (x ∷ ys) zs (x ∷ xs)
   from_second : {x : A} {ys zs xs : List A} → Merged ys zs xs → Merged ys (x ∷ zs) (x ∷ xs)
 
+-- m is region number n of a list, and the last list has the others in their order
 pub data TakenRegion : ℕ → Region → Regions → Regions → Type 0 where
   region_first : {m : Region} {ms : Regions} → TakenRegion 0 m (region_and m ms) ms
   region_later : {n : ℕ} {m k : Region} {ms ns : Regions} →
@@ -49,7 +50,7 @@ pub record IsPart (g : Rooted) (x : ℕ) (part : List SolidAtom) : Type 0 where
   pub to : ℕ → ℕ
   pub one_to_one : OneToOneOn to g.process
   pub root : to g.root ≡ x
-  pub atoms : Shuffle (λ a b. record { label = a.0; links = map to a.1 } ≡ b) (atoms_of g.process) part
+  pub atoms : Shuffle (λ a b. record { label = a.0; links = map to a.1 } ≡ b) (atoms_at_top g.process) part
 
 -- The parts of the typed contexts of a level, taken out of the atoms that all images have left; the others stay in
 -- their order. A part is ground: it is connected and has no free link but its root, so it is what is reached through
@@ -117,8 +118,8 @@ pub data EmbedsIn : List ℕ → ℕ → List ℕ → Region → Type 0 where
   embeds_below : {n k : ℕ} {path f : List ℕ} {m : Region} {xs : List SolidAtom} {ms ms' : Regions} {rs : List Rule} →
       TakenRegion n m ms ms' → EmbedsIn path k f m → EmbedsIn (n ∷ path) k f (region xs ms rs)
 
--- some rule of some membrane of a region embeds
-pub record Embeds (S : Region) : Type 0 where
+-- some rule of some membrane of the region embeds
+pub record HasEmbedding (S : Region) : Type 0 where
   pub path : List ℕ
   pub number : ℕ
   pub positions : List ℕ

@@ -17,7 +17,7 @@ use Rattle.lmn_reduction.specs.Commits.{Commit, Irreducible}
 use Rattle.lmn_reduction.specs.Steps.{Step}
 use Rattle.lmn_adequacy.specs.Accepted.{Accepted, Throughout}
 use Rattle.lmn_adequacy.specs.Choice.{Before, LevelStands, NextFrom, positions_of}
-use Rattle.lmn_adequacy.specs.Embedding.{AllRules, Embeds, EmbedsAt, EmbedsIn, filling}
+use Rattle.lmn_adequacy.specs.Embedding.{AllRules, HasEmbedding, EmbedsAt, EmbedsIn, filling}
 use Rattle.lmn_adequacy.specs.Next.{Next, NextAt}
 use Rattle.lmn_adequacy.specs.Numbered.{IsNumbered}
 use Rattle.lmn_adequacy.specs.Runs.{Chooser, Turn, Trace, End, Ends, irreducible}
@@ -25,7 +25,7 @@ use Rattle.lmn_adequacy.specs.Runs.{Chooser, Turn, Trace, End, Ends, irreducible
 -- where a step is possible from a solid, a rule embeds in it
 abbrev pub StepsEmbed : Type 0
 StepsEmbed = (S : Region) (Q : Process) → Closed (region_process S) → AllRules Accepted S →
-    Step (region_process S) Q → Embeds S
+    Step (region_process S) Q → HasEmbedding S
 
 -- an embedding has a next solid, and only an embedding has one
 abbrev pub EmbeddingsFire : Type 0
@@ -40,12 +40,12 @@ FiringsCommit = (S S' : Region) → Closed (region_process S) → AllRules Accep
 -- so a step is possible exactly where a rule embeds
 abbrev pub StepsExactly : Type 0
 StepsExactly = (S : Region) → Closed (region_process S) → AllRules Accepted S →
-    ((Q : Process) × Step (region_process S) Q) ↔ Embeds S
+    ((Q : Process) × Step (region_process S) Q) ↔ HasEmbedding S
 
 -- and the process of a solid is irreducible exactly where none embeds
 abbrev pub IrreducibleExactly : Type 0
 IrreducibleExactly = (S : Region) → Closed (region_process S) → AllRules Accepted S →
-    Irreducible (region_process S) ↔ (¬ (Embeds S))
+    Irreducible (region_process S) ↔ (¬ (HasEmbedding S))
 
 -- what is left of the image of a head membrane without contexts holds nothing
 abbrev pub NothingLeft : Type 0

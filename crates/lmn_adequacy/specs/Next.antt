@@ -1,5 +1,5 @@
 -- The solid after a firing, with every list in its order: a raw level, and one fusion of its connectors.
-use Rattle.std.specs.Prelude.{ℕ, zero, suc, cond, List, map, ◌≡◌, ◌+◌, ◌≤◌, [], ◌∷◌, ◌++◌, ◌==◌}
+use Rattle.std.specs.Prelude.{ℕ, zero, suc, cond, List, map, ◌≡◌, ◌≤◌, [], ◌∷◌, ◌++◌, ◌==◌}
 use Rattle.lmn_congruence.specs.LinkedRules.{level_occurrences}
 use Rattle.lmn_congruence.specs.Links.{places}
 use Rattle.lmn_congruence.specs.Orders.{Among}
@@ -13,6 +13,7 @@ use Rattle.lmn_reduction.specs.Firing.{typed_contexts}
 use Rattle.lmn_reduction.specs.Guards.{GuardHolds}
 use Rattle.lmn_reduction.specs.Parts.{Rooted}
 use Rattle.lmn_adequacy.specs.Embedding.{IsPart, LevelImages, MembraneImages, Taken, TakenRegion, level_images, membrane_image_and, no_membrane_image}
+use Rattle.lmn_splice.specs.Splice.{of_rule, of_solid}
 
 -- What the parts of a rule stand for: as `Assignment`, with the lists of atoms and membranes that an untyped context
 -- stands for.
@@ -23,6 +24,7 @@ pub record Contents : Type 0 where
   pub rules_of : Name → List Rule
   pub typed_of : Name → Rooted
 
+-- the assignment: the untyped contexts as processes
 abbrev pub assignment_of : Contents → Assignment
 assignment_of c = record {
   link_of = c.link_of;
@@ -43,6 +45,7 @@ pub data LeftToRuleContext (c : Contents) : List Name → List Rule → Type 0 w
   no_rule_context : LeftToRuleContext c [] []
   one_rule_context : {p : Name} → LeftToRuleContext c (p ∷ []) (c.rules_of p)
 
+-- what an image has left is what its contexts stand for
 abbrev pub LeftTo : Contents → List Name → List Name → Region → Type 0
 LeftTo c contexts rule_contexts (region xs ms rs) =
     LeftToContext c contexts xs ms × LeftToRuleContext c rule_contexts rs
@@ -68,13 +71,6 @@ pub record EmbedsInOrder (r : Rule) (f : List ℕ) (m : Region) : Type 0 where
 
 -- ---- what stays
 
--- In a raw level the links of the solid have the odd numbers, and those of the rule the even ones.
-abbrev pub of_rule : ℕ → ℕ
-of_rule x = x + x
-
-abbrev pub of_solid : ℕ → ℕ
-of_solid x = suc (x + x)
-
 -- atoms, membranes and rules of the solid in a raw level
 abbrev pub kept_atoms : List SolidAtom → List Leaf
 kept_atoms xs = map (λ a. atom_leaf a.label (map of_solid a.links)) xs
@@ -89,6 +85,7 @@ abbrev mutual
 
 -- ---- what the body makes
 
+-- the links at atoms, in order
 abbrev pub links_at : List SolidAtom → List ℕ
 links_at [] = []
 links_at (a ∷ xs) = a.links ++ links_at xs
@@ -96,20 +93,21 @@ links_at (a ∷ xs) = a.links ++ links_at xs
 -- The atoms that are reached over the links of the first list, one link after another, depth first. In the second list
 -- stand the links at the ports of all atoms that have been listed. A link that stands there twice leads to such an
 -- atom. One that stands there once leads to a new one: this is listed, then what its own links reach, by rising index.
-pub data Reaches : List ℕ → List ℕ → List SolidAtom → Type 0 where
-  reaches_none : {seen : List ℕ} → Reaches [] seen []
+pub data ReachesAtoms : List ℕ → List ℕ → List SolidAtom → Type 0 where
+  reaches_none : {seen : List ℕ} → ReachesAtoms [] seen []
   reaches_listed : {y : ℕ} {ys seen : List ℕ} {bs : List SolidAtom} →
-      places y seen ≡ 2 → Reaches ys seen bs → Reaches (y ∷ ys) seen bs
+      places y seen ≡ 2 → ReachesAtoms ys seen bs → ReachesAtoms (y ∷ ys) seen bs
   reaches_new : {y : ℕ} {ys seen : List ℕ} {b : SolidAtom} {bs cs : List SolidAtom} →
-      places y seen ≡ 1 → Among y b.links → Reaches b.links (seen ++ b.links) bs →
-      Reaches ys (seen ++ (b.links ++ links_at bs)) cs → Reaches (y ∷ ys) seen (b ∷ (bs ++ cs))
+      places y seen ≡ 1 → Among y b.links → ReachesAtoms b.links (seen ++ b.links) bs →
+      ReachesAtoms ys (seen ++ (b.links ++ links_at bs)) cs → ReachesAtoms (y ∷ ys) seen (b ∷ (bs ++ cs))
 
 -- the atoms are listed depth first from the link x, which holds them
 abbrev pub DepthFirst : ℕ → List SolidAtom → Type 0
-DepthFirst x bs = Reaches (x ∷ []) (x ∷ []) bs
+DepthFirst x bs = ReachesAtoms (x ∷ []) (x ∷ []) bs
 
-abbrev pub made_atoms : List SolidAtom → List Leaf
-made_atoms xs = map (λ a. atom_leaf a.label a.links) xs
+-- the atoms of a part as leaves of a level
+abbrev pub part_leaves : List SolidAtom → List Leaf
+part_leaves xs = map (λ a. atom_leaf a.label a.links) xs
 
 -- the leaves of a body, each typed context as a copy in depth-first order
 pub data MadeLeaves (c : Contents) : List Leaf → List Leaf → Type 0 where
@@ -120,8 +118,9 @@ pub data MadeLeaves (c : Contents) : List Leaf → List Leaf → Type 0 where
       MadeLeaves c ls outs → MadeLeaves c (connector_leaf x y ∷ ls) (connector_leaf (of_rule x) (of_rule y) ∷ outs)
   made_copy : {p : Name} {x : ℕ} {part : List SolidAtom} {ls outs : List Leaf} →
       IsPart (c.typed_of p) (of_rule x) part → DepthFirst (of_rule x) part → MadeLeaves c ls outs →
-      MadeLeaves c (typed_leaf p x ∷ ls) (made_atoms part ++ outs)
+      MadeLeaves c (typed_leaf p x ∷ ls) (part_leaves part ++ outs)
 
+-- the atoms, membranes and rules for which the contexts of a level stand
 abbrev pub context_atoms : Contents → List Name → List SolidAtom
 context_atoms c [] = []
 context_atoms c (p ∷ ps) = c.atoms_of p ++ context_atoms c ps

@@ -1,8 +1,8 @@
 -- Runs of the strategy: traces under a budget and a size.
 use Rattle.std.specs.Prelude.{ℕ, List, length, ◌≡◌, ◌<◌, ◌≤◌, [], ◌∷◌, ◌++◌}
-use Rattle.lmn_congruence.specs.Regions.{Region, items}
+use Rattle.lmn_congruence.specs.Regions.{Region, item_count_of_region}
 use Rattle.lmn_adequacy.specs.Choice.{NextFrom, paths}
-use Rattle.lmn_adequacy.specs.Embedding.{Embeds}
+use Rattle.lmn_adequacy.specs.Embedding.{HasEmbedding}
 use Rattle.lmn_adequacy.specs.Numbered.{IsNumbered}
 
 -- A chooser gives the number of the membrane that is asked first, by the number of commits done and that of membranes.
@@ -20,7 +20,7 @@ pub data Trace (chooser : Chooser) (budget size : ℕ) (S : Region) : List Regio
   loaded : Trace chooser budget size S [] S
   turned : {before : List Region} {S' S'' : Region} →
       Trace chooser budget size S before S' → length before < budget → Turn chooser (length before) S' S'' →
-      items S'' ≤ size → Trace chooser budget size S (before ++ S' ∷ []) S''
+      item_count_of_region S'' ≤ size → Trace chooser budget size S (before ++ S' ∷ []) S''
 
 -- nothing embeds; the budget is done; the next solid has too many items
 pub data End : Type 0 where
@@ -29,6 +29,6 @@ pub data End : Type 0 where
 -- How a trace ends at a solid, after n commits. It is asked first whether something embeds, then whether the budget is
 -- done, then whether the next solid has too many items.
 pub data Ends (chooser : Chooser) (budget size n : ℕ) (S : Region) : End → Type 0 where
-  nothing_embeds : ¬ (Embeds S) → Ends chooser budget size n S irreducible
-  none_allowed : Embeds S → n ≡ budget → Ends chooser budget size n S budget_done
-  too_many : {S' : Region} → n < budget → Turn chooser n S S' → size < items S' → Ends chooser budget size n S full
+  nothing_embeds : ¬ (HasEmbedding S) → Ends chooser budget size n S irreducible
+  none_allowed : HasEmbedding S → n ≡ budget → Ends chooser budget size n S budget_done
+  too_many : {S' : Region} → n < budget → Turn chooser n S S' → size < item_count_of_region S' → Ends chooser budget size n S full

@@ -1,12 +1,12 @@
 //! Small solids, and what they do: each the contract of an empty function.
 
-ghost use Rattle.lmn_adequacy.specs.Examples.{LinkMeetsItself, InnerLinkDoesNotEmbed, MembraneOpens, ListDepthFirst};
-ghost use Rattle.lmn_adequacy.specs.Examples.{TheseAreAccepted, LoopVanishes, PartIsCopied, TracesEnd};
+ghost use Rattle.lmn_adequacy.specs.Examples.{EndsMeetInOneAtom, InnerLinkDoesNotEmbed, MembraneOpens, ListDepthFirst};
+ghost use Rattle.lmn_adequacy.specs.Examples.{TheseAreAccepted, NextHasNoLoop, CopiesStandAsWritten, TracesEnd};
 
 /// `a(X), b(X). a(X), b(Y) :- c(X,Y).` goes to `c(X,X)` beside its rule.
 #[tactic(auto, using(crate::proofs::ExampleSolids::link_meets_itself))]
 pub fn link_meets_itself()
-    ensures { LinkMeetsItself }
+    ensures { EndsMeetInOneAtom }
 {}
 
 /// In `{a(X), b(X)}. {a(X), b(Y)} :- c(X,Y).` nothing embeds.
@@ -36,13 +36,13 @@ pub fn these_are_accepted()
 /// `a(X,X). a(X,Y) :- X=Y.` goes to the rule alone.
 #[tactic(auto, using(crate::proofs::ExampleSolids::loop_vanishes))]
 pub fn loop_vanishes()
-    ensures { LoopVanishes }
+    ensures { NextHasNoLoop }
 {}
 
 /// `a(X), b(X,Y,Y). a($x) :- ground($x) | a($x,$x).` goes to `a(X,Z), b(X,Y,Y), b(Z,W,W)` beside its rule.
 #[tactic(auto, using(crate::proofs::ExampleCopies::part_is_copied))]
 pub fn part_is_copied()
-    ensures { PartIsCopied }
+    ensures { CopiesStandAsWritten }
 {}
 
 /// `a. a :- a, a.` is full after one commit with the size 3, and with the budget 1 the budget is done there first. Where

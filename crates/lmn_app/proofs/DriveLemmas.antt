@@ -8,7 +8,7 @@ use Rattle.lmn_base.specs.declared.rule.Plain.{Plain}
 use Rattle.lmn_base.specs.declared.solid.Solid.{Solid}
 use Rattle.lmn_base.specs.Levels.{links_of}
 use Rattle.lmn_base.specs.Links.{EachTwice}
-use Rattle.lmn_base.specs.Solids.{items_of}
+use Rattle.lmn_base.specs.Solids.{item_count}
 use Rattle.lmn_base.specs.WellMade.{IsWellMade}
 use Rattle.lmn_adequacy.proofs.PlainSolids.{solids_of_plains_exist}
 use Rattle.lmn_congruence.specs.Regions.{Region}
@@ -18,29 +18,29 @@ use Rattle.lmn_guards.specs.declared.plan.GuardPlan.{GuardPlan}
 use Rattle.lmn_heap.specs.Heap.{Heap}
 use Rattle.lmn_io.specs.Counts.{Rose}
 use Rattle.lmn_io.specs.Taking.{Takes, TakesPrefix}
-use Rattle.lmn_loading.specs.Loaded.{Causes as LoadCauses}
+use Rattle.lmn_loading.specs.Loaded.{LoadCauses}
 use Rattle.lmn_loading.specs.declared.loading.LoadFault.TheVariants.{Size}
 use Rattle.lmn_order.specs.Orders.{chosen}
 use Rattle.lmn_adequacy.specs.Runs.{End, irreducible, budget_done, full}
 use Rattle.lmn_drive.specs.declared.driving.RunEnd.{RunEnd}
 use Rattle.lmn_drive.specs.declared.driving.RunEnd.TheVariants as run
-use Rattle.lmn_drive.specs.Driving.{Drove, Given as Driven, Ran, given as driven, no_memory as no_memory_word, word_of as driven_word}
-use Rattle.lmn_drive.specs.Written.{Lines, written}
+use Rattle.lmn_drive.specs.Driving.{Drove, RunInput as Driven, given_by_engine as driven, no_memory as no_memory_word, Ran}
+use Rattle.lmn_drive.specs.Written.{Lines, written, end_line}
 use Rattle.lmn_runs.specs.Laws.{solid_of}
-use Rattle.lmn_runs.specs.Runs.{LinesOf, Stop, StopsSo, at_end, no_memory, printed_solids, word_of}
+use Rattle.lmn_runs.specs.Runs.{LinesOf, Stop, StopsSo, at_end, no_memory, printed_solids, word_of_stop, end_word as driven_word}
 use Rattle.lmn_runs.proofs.TraceLines.{lines_count, lines_with}
 use Rattle.lmn_app.specs.declared.task.RunSettings.{RunSettings}
 use Rattle.lmn_app.specs.declared.task.Task.TheVariants as task
 use Rattle.lmn_app.specs.declared.ending.Ending.TheVariants.{Refused}
-use Rattle.lmn_app.specs.Outcomes.{Causes, Counts, Ended, Output}
+use Rattle.lmn_app.specs.Outcomes.{Causes, CountsFaults, Ended, Output}
 use Rattle.lmn_app.specs.Runnings.{ended_as}
 use Rattle.lmn_app.specs.Runs.{IsTraceOf}
 use Rattle.lmn_app.specs.Texts.{Accepts, at_start, too_large}
-use Rattle.lmn_app.specs.Writing.{WritesRun, end_line, given, run_text}
+use Rattle.lmn_app.specs.Writing.{WritesRun, given, run_text}
 use Rattle.lmn_app.proofs.RunLemmas.{Laws, trace_is_run}
 
 -- the words of ends are those of runs
-same_word : (e : End) → driven_word e ≡ word_of (at_end e)
+same_word : (e : End) → driven_word e ≡ word_of_stop (at_end e)
 same_word irreducible = refl
 same_word budget_done = refl
 same_word full = refl
@@ -64,7 +64,7 @@ written_is true first_lines last_line word =
 written_is false first_lines last_line word = ap (λ xs. xs ++ end_line word (length first_lines)) (sym (append-nil last_line))
 
 module _ (alloc : Global) (laws : Laws) (w : RunSettings) (small : w.size < 2 ^ 32)
-    (text : List ℕ) (names : List Name) (plain : Plain) (plans : List GuardPlan) (a : Accepts text names plain plans) (s : Solid) (i : IsSolidOf plain s) (few : items_of s ≤ w.size) where
+    (text : List ℕ) (names : List Name) (plain : Plain) (plans : List GuardPlan) (a : Accepts text names plain plans) (s : Solid) (i : IsSolidOf plain s) (few : item_count s ≤ w.size) where
   -- what the engine is given
   abbrev g : Driven
   g = driven names plain.rules w.size (record { trace = w.trace; folded = w.folded; budget = w.budget }) (chosen w.order) (solid_of names plain s)
@@ -90,12 +90,12 @@ module _ (alloc : Global) (laws : Laws) (w : RunSettings) (small : w.size < 2 ^ 
     }
 
     -- the text with a word
-    text_is : (why : Stop) (word : List ℕ) → word ≡ word_of why → written w.trace r.lines.first_lines r.lines.last_line word ≡ run_text lines why n
+    text_is : (why : Stop) (word : List ℕ) → word ≡ word_of_stop why → written w.trace r.lines.first_lines r.lines.last_line word ≡ run_text lines why n
     text_is why word e =
-        ap (written w.trace r.lines.first_lines r.lines.last_line) e ∙ written_is w.trace r.lines.first_lines r.lines.last_line (word_of why)
-        ∙ ap (λ k. concat lines ++ end_line (word_of why) k) (lines_count w.folded r.before r.lines.first_lines r.lines.are_lines ∙ r.count)
+        ap (written w.trace r.lines.first_lines r.lines.last_line) e ∙ written_is w.trace r.lines.first_lines r.lines.last_line (word_of_stop why)
+        ∙ ap (λ k. concat lines ++ end_line (word_of_stop why) k) (lines_count w.folded r.before r.lines.first_lines r.lines.are_lines ∙ r.count)
 
-    writes : (why : Stop) (word : List ℕ) (old new : Option (List ℕ)) → word ≡ word_of why → StopsSo (given w) n r.last why → Takes (written w.trace r.lines.first_lines r.lines.last_line word) old new
+    writes : (why : Stop) (word : List ℕ) (old new : Option (List ℕ)) → word ≡ word_of_stop why → StopsSo (given w) n r.last why → Takes (written w.trace r.lines.first_lines r.lines.last_line word) old new
         → WritesRun w (Some (Some text)) why old new
     unfolding trace
     writes why word old new e stops took = record {
@@ -141,7 +141,7 @@ module _ (alloc : Global) (laws : Laws) (w : RunSettings) (small : w.size < 2 ^ 
   no_cause run.NoMemory before after = tt
   no_cause run.Failed before after = tt
 
-  counted : (end : RunEnd) (before after : ℕ) → (¬ (end ≡ run.Failed) → after ≡ before) → (end ≡ run.Failed → Rose before after) → Counts (ended_as end) before after
+  counted : (end : RunEnd) (before after : ℕ) → (¬ (end ≡ run.Failed) → after ≡ before) → (end ≡ run.Failed → Rose before after) → CountsFaults (ended_as end) before after
   counted run.Irreducible before after same rose = same (λ e. cc e)
   counted run.Budget before after same rose = same (λ e. cc e)
   counted run.Full before after same rose = same (λ e. cc e)

@@ -15,7 +15,7 @@ use Rattle.lmn_app.specs.declared.task.Task.{Task}
 use Rattle.lmn_app.specs.declared.task.Task.TheVariants as task
 use Rattle.lmn_app.specs.declared.ending.Ending.TheVariants.{Done, Refused, WriteFault}
 use Rattle.lmn_app.specs.Outcomes.{Ended}
-use Rattle.lmn_app.specs.Requests.{size_of}
+use Rattle.lmn_app.specs.Requests.{most_items}
 use Rattle.lmn_app.specs.Texts.{Accepts, by_reading, text_bytes}
 use Rattle.lmn_app.specs.Writing.{IsListing}
 use Rattle.lmn_app.proofs.FirstNames.{first_are_names}
@@ -57,4 +57,4 @@ pub read_refused : (t : Task) (text : List ℕ) (before names : List Name) (r : 
     → IsRefusedAs text names r → Ended t (Refused r) (Some (Some text)) x x n n rb ra
 read_refused t text before names r x n rb ra short e named h =
     let refused = by_reading short names (subst (λ b. LeavesNames text b names) e named) h in
-    refused_ended t r (Some (Some text)) x n rb ra refused (refusal_code (size_of t) text r refused)
+    refused_ended t r (Some (Some text)) x n rb ra refused (refusal_code (most_items t) text r refused)

@@ -9,12 +9,13 @@ use Rattle.lmn_app.specs.declared.ending.Ending.{Ending}
 use Rattle.lmn_app.specs.declared.ending.Ending.TheVariants.{Done, Budget, Refused, Words, ReadFault, WriteFault, NoMemory, Full}
 use Rattle.lmn_words.specs.Laws.{OneRequest}
 use Rattle.lmn_words.specs.Forms.{InForm, Request}
-use Rattle.lmn_app.specs.Endings.{Concludes, HasLine, IsCode, line_of, refusal_line, status_of}
-use Rattle.lmn_app.specs.Outcomes.{Counts, Ended, Output}
+use Rattle.lmn_app.specs.Endings.{Concludes, HasLine, line_of_ending, refusal_line, status_of}
+use Rattle.lmn_reading.specs.Codes.{IsCode}
+use Rattle.lmn_app.specs.Outcomes.{CountsFaults, Ended, Output}
 use Rattle.lmn_app.specs.Texts.{IsRefusal}
 use Rattle.lmn_app.specs.declared.task.Task.{Task}
 use Rattle.lmn_app.specs.declared.task.Task.TheVariants as task
-use Rattle.lmn_app.specs.Requests.{Asked, size_of, task_of}
+use Rattle.lmn_app.specs.Requests.{Asked, most_items, task_of}
 use Rattle.lmn_app.specs.Texts.{IsAccepted}
 use Rattle.lmn_app.specs.Outcomes.{Answers}
 use Rattle.lmn_app.specs.Writing.{IfTold, IsToldAnd}
@@ -175,7 +176,7 @@ module _ (one : OneRequest) (words : List (String Global)) (told : Request → O
   write_rose e (inr (none, w, o, f)) (inl (s, t, q)) k = absurd (let three : status ≡ 3 = subst (λ x. status ≡ status_of x) w s in omega (arith, three, k))
   write_rose e a (inr (s, p, rose, line)) k = inr rose
 
-  counts_stay : (e : Ending) → ¬ (status_of e ≡ 5) → Counts e ob oa → oa ≡ ob
+  counts_stay : (e : Ending) → ¬ (status_of e ≡ 5) → CountsFaults e ob oa → oa ≡ ob
   counts_stay Done n h = h
   counts_stay Budget n h = h
   counts_stay (Refused r) n h = h
@@ -191,7 +192,7 @@ module _ (one : OneRequest) (words : List (String Global)) (told : Request → O
   puts_stay e a (inr (s, p, rose, line)) n = absurd (n s)
 
   pub refusal_told : (e : Ending) → Acted e → Concluded e → status ≡ 2 →
-      Asked words (λ c. (r : Refusal) × IsToldAnd (told c) (λ text. IsRefusal (size_of (task_of c)) text r) × IsCode r.code × Takes (refusal_line r) eo en)
+      Asked words (λ c. (r : Refusal) × IsToldAnd (told c) (λ text. IsRefusal (most_items (task_of c)) text r) × IsCode r.code × Takes (refusal_line r) eo en)
   refusal_told (Refused r) (inl (c, asks, h)) (inl (s, t, same)) k = let cause = h.cause in (c, asks, (r, cause.0, cause.1, t))
   refusal_told Done (inl (c, asks, h)) (inl (s, t, q)) k = absurd (omega (arith, s, k))
   refusal_told Budget (inl (c, asks, h)) (inl (s, t, q)) k = absurd (omega (arith, s, k))
@@ -204,26 +205,26 @@ module _ (one : OneRequest) (words : List (String Global)) (told : Request → O
   refusal_told e a (inr (s, p, rose, line)) k = absurd (omega (arith, s, k))
 
   -- the line that `err` took, where the status is that of one ending
-  pub line_taken : (e ending : Ending) → Concluded e → (k : ℕ) → k ≢ 5 → (status_of e ≡ k → e ≡ ending) → status ≡ k → Takes (line_of ending) eo en
-  line_taken e ending (inl (s, t, same)) k five is h = subst (λ x. Takes (line_of x) eo en) (is (sym s ∙ h)) t
+  pub line_taken : (e ending : Ending) → Concluded e → (k : ℕ) → k ≢ 5 → (status_of e ≡ k → e ≡ ending) → status ≡ k → Takes (line_of_ending ending) eo en
+  line_taken e ending (inl (s, t, same)) k five is h = subst (λ x. Takes (line_of_ending x) eo en) (is (sym s ∙ h)) t
   line_taken e ending (inr (s, p, rose, line)) k five is h = absurd (five (sym h ∙ s))
 
   -- with 5 either `out` failed and `err` took its line, or `err` failed
   pub failed : (e : Ending) → Acted e → Concluded e → status ≡ 5 →
-      (Asked words (λ c. Output (task_of c) WriteFault (told c) oo on) × Rose ob oa × Takes (line_of WriteFault) eo en × (ea ≡ eb))
-      ⊎ (Rose eb ea × ((ending : Ending) × HasLine ending × TakesPrefix (line_of ending) eo en × Acted ending))
+      (Asked words (λ c. Output (task_of c) WriteFault (told c) oo on) × Rose ob oa × Takes (line_of_ending WriteFault) eo en × (ea ≡ eb))
+      ⊎ (Rose eb ea × ((ending : Ending) × HasLine ending × TakesPrefix (line_of_ending ending) eo en × Acted ending))
   failed e (inl (c, asks, h)) (inl (s, t, same)) k =
       let is = write_is e (sym s ∙ k) in
       let here = subst (λ x. Ended (task_of c) x (told c) oo on ob oa (read c) (reads c)) is h in
-      inl ((c, asks, here.output), here.counts, subst (λ x. Takes (line_of x) eo en) is t, same)
+      inl ((c, asks, here.output), here.counts, subst (λ x. Takes (line_of_ending x) eo en) is t, same)
   failed e (inr (none, w, o, f)) (inl (s, t, same)) k = absurd (let three : status ≡ 3 = subst (λ x. status ≡ status_of x) w s in omega (arith, three, k))
   failed e a (inr (s, p, rose, line)) k = inr (rose, (e, line, p, a))
 
   -- an accepted text is answered so where nothing fails, and one that isn't is refused
-  pub answered : (e : Ending) → Acted e → Concluded e → InForm words → Asked words (λ c. ¬ (Rose (read c) (reads c)) → ¬ (Rose ob oa) → ¬ (Rose eb ea) → IfTold (told c) (λ text. IsAccepted (size_of (task_of c)) text → Answers (task_of c) status))
+  pub answered : (e : Ending) → Acted e → Concluded e → InForm words → Asked words (λ c. ¬ (Rose (read c) (reads c)) → ¬ (Rose ob oa) → ¬ (Rose eb ea) → IfTold (told c) (λ text. IsAccepted (most_items (task_of c)) text → Answers (task_of c) status))
   answered e (inl (c, asks, h)) k form = (c, asks, λ r o x. accepted_answered (task_of c) e (told c) oo on ob oa (read c) (reads c) status eo en eb ea h k r o x)
   answered e (inr (none, w, o, f)) k form = absurd (none form)
 
-  pub refused_so : (e : Ending) → Acted e → Concluded e → InForm words → Asked words (λ c. IfTold (told c) (λ text. ¬ (IsAccepted (size_of (task_of c)) text) → Refusing status))
+  pub refused_so : (e : Ending) → Acted e → Concluded e → InForm words → Asked words (λ c. IfTold (told c) (λ text. ¬ (IsAccepted (most_items (task_of c)) text) → Refusing status))
   refused_so e (inl (c, asks, h)) k form = (c, asks, unaccepted_answered (task_of c) e (told c) oo on ob oa (read c) (reads c) status eo en eb ea h k)
   refused_so e (inr (none, w, o, f)) k form = absurd (none form)

@@ -9,10 +9,11 @@ use Rattle.lmn_app.specs.declared.ending.Ending.TheVariants.{Done, Budget, Refus
 use Rattle.lmn_app.specs.declared.task.RunSettings.{RunSettings}
 use Rattle.lmn_app.specs.declared.task.Task.{Task}
 use Rattle.lmn_app.specs.declared.task.Task.TheVariants as task
-use Rattle.lmn_app.specs.Endings.{Concludes, IsCode}
+use Rattle.lmn_app.specs.Endings.{Concludes}
+use Rattle.lmn_reading.specs.Codes.{IsCode}
 use Rattle.lmn_app.specs.Outcomes.{Answers, Causes, Ended, Output}
 use Rattle.lmn_app.specs.Texts.{IsAccepted, IsRefusal, at_start, text_bytes, too_long}
-use Rattle.lmn_app.specs.Requests.{size_of}
+use Rattle.lmn_app.specs.Requests.{most_items}
 use Rattle.lmn_app.specs.Writing.{IfTold, IsToldAnd, Lists, ListsPart, WritesRun, WritesPartOfRun, told_under}
 use Rattle.lmn_app.proofs.TextLemmas.{refused_not_accepted}
 
@@ -61,7 +62,7 @@ module _ (told : Option (Option (List ℕ))) (bytes : List ℕ) (e : IfSome told
   causes_told : (t : Task) (ending : Ending) (before after : ℕ) → Causes t ending (Some (Some bytes)) before after → Causes t ending told before after
   causes_told t Done before after h = h
   causes_told t Budget before after h = h
-  causes_told t (Refused r) before after h = (told_here (λ text. IsRefusal (size_of t) text r) told bytes e h.0, h.1)
+  causes_told t (Refused r) before after h = (told_here (λ text. IsRefusal (most_items t) text r) told bytes e h.0, h.1)
   causes_told t Words before after h = h
   causes_told t ReadFault before after h = h
   causes_told t WriteFault before after h = h
@@ -112,7 +113,7 @@ told_is (Some (Some found)) text P h p = subst P (sym h) p
 -- where nothing fails, an accepted text is answered so
 pub accepted_answered : (t : Task) (ending : Ending) (told : Option (Option (List ℕ))) (oo on : Option (List ℕ)) (ob oa rb ra status : ℕ) (eo en : Option (List ℕ)) (eb ea : ℕ)
     → Ended t ending told oo on ob oa rb ra → Concludes ending status eo en eb ea → ¬ (Rose rb ra) → ¬ (Rose ob oa) → ¬ (Rose eb ea)
-    → IfTold told (λ text. IsAccepted (size_of t) text → Answers t status)
+    → IfTold told (λ text. IsAccepted (most_items t) text → Answers t status)
 accepted_answered t ending told oo on ob oa rb ra status eo en eb ea h (inr (s, p, rose, line)) read out err = absurd (err rose)
 accepted_answered (task.Run s) Done told oo on ob oa rb ra status eo en eb ea h (inl k) read out err = when_told told _ (λ text a. inl k.0)
 accepted_answered (task.Run s) Budget told oo on ob oa rb ra status eo en eb ea h (inl k) read out err = when_told told _ (λ text a. inr (inl k.0))
@@ -122,7 +123,7 @@ accepted_answered task.List Done told oo on ob oa rb ra status eo en eb ea h (in
 accepted_answered task.List Budget told oo on ob oa rb ra status eo en eb ea h (inl k) read out err = absurd (h.output)
 accepted_answered task.List Full told oo on ob oa rb ra status eo en eb ea h (inl k) read out err = absurd (h.output)
 accepted_answered task.List NoMemory told oo on ob oa rb ra status eo en eb ea h (inl k) read out err = when_told told _ (λ text a. inr k.0)
-accepted_answered t (Refused r) told oo on ob oa rb ra status eo en eb ea h (inl k) read out err = let cause = h.cause in refused_told (size_of t) told r (Answers t status) cause.0
+accepted_answered t (Refused r) told oo on ob oa rb ra status eo en eb ea h (inl k) read out err = let cause = h.cause in refused_told (most_items t) told r (Answers t status) cause.0
 accepted_answered t Words told oo on ob oa rb ra status eo en eb ea h (inl k) read out err = absurd (h.cause)
 accepted_answered t ReadFault told oo on ob oa rb ra status eo en eb ea h (inl k) read out err = absurd (read h.cause)
 accepted_answered t WriteFault told oo on ob oa rb ra status eo en eb ea h (inl k) read out err = absurd (out h.counts)
@@ -143,7 +144,7 @@ list_accepted told old new A h =
 
 -- a text that isn't accepted is answered by 2, 4, 5 or 6
 pub unaccepted_answered : (t : Task) (ending : Ending) (told : Option (Option (List ℕ))) (oo on : Option (List ℕ)) (ob oa rb ra status : ℕ) (eo en : Option (List ℕ)) (eb ea : ℕ)
-    → Ended t ending told oo on ob oa rb ra → Concludes ending status eo en eb ea → IfTold told (λ text. ¬ (IsAccepted (size_of t) text) → Refusing status)
+    → Ended t ending told oo on ob oa rb ra → Concludes ending status eo en eb ea → IfTold told (λ text. ¬ (IsAccepted (most_items t) text) → Refusing status)
 unaccepted_answered t ending told oo on ob oa rb ra status eo en eb ea h (inr (s, p, rose, line)) = when_told told _ (λ text n. inr (inr (inl s)))
 unaccepted_answered (task.Run s) Done told oo on ob oa rb ra status eo en eb ea h (inl k) = run_accepted s told _ oo on (Refusing status) h.output
 unaccepted_answered (task.Run s) Budget told oo on ob oa rb ra status eo en eb ea h (inl k) = run_accepted s told _ oo on (Refusing status) h.output
@@ -171,7 +172,7 @@ nothing_more : (t : Task) (told : Option (Option (List ℕ))) (x : Option (List 
 nothing_more (task.Run s) told x = inl refl
 nothing_more task.List told x = refl
 
-pub refused_ended : (t : Task) (r : Refusal) (told : Option (Option (List ℕ))) (x : Option (List ℕ)) (n rb ra : ℕ) → IsToldAnd told (λ text. IsRefusal (size_of t) text r) → IsCode r.code
+pub refused_ended : (t : Task) (r : Refusal) (told : Option (Option (List ℕ))) (x : Option (List ℕ)) (n rb ra : ℕ) → IsToldAnd told (λ text. IsRefusal (most_items t) text r) → IsCode r.code
     → Ended t (Refused r) told x x n n rb ra
 refused_ended t r told x n rb ra h k = record { cause = (h, k); output = nothing_refused t r told x; counts = refl }
 
@@ -194,4 +195,4 @@ long_told P (Some text) name most h f = go (text name) h
 pub long_ended : (t : Task) (told : Option (List ℕ → Option (List ℕ))) (name : List ℕ) (x : Option (List ℕ)) (n rb ra : ℕ) → IfSome told (λ text. IsSomeAnd (text name) (λ bytes. text_bytes < length bytes))
     → Ended t (Refused (at_start 1)) (told_under told name) x x n n rb ra
 long_ended t told name x n rb ra h =
-    refused_ended t (at_start 1) (told_under told name) x n rb ra (long_told (λ text. IsRefusal (size_of t) text (at_start 1)) told name text_bytes h (λ bytes l. too_long l refl)) refl
+    refused_ended t (at_start 1) (told_under told name) x n rb ra (long_told (λ text. IsRefusal (most_items t) text (at_start 1)) told name text_bytes h (λ bytes l. too_long l refl)) refl

@@ -8,7 +8,7 @@ use Rattle.lmn_base.specs.declared.rule.Plain.{Plain}
 use Rattle.lmn_base.specs.declared.rule.RuleTree.{RuleTree}
 use Rattle.lmn_base.specs.Levels.{leaves_of}
 use Rattle.lmn_base.specs.Names.{first_names}
-use Rattle.lmn_bridge.specs.HeapRegions.{Reading}
+use Rattle.lmn_bridge.specs.HeapRegions.{HeapReading}
 use Rattle.lmn_compile_body.specs.Accepted.{AcceptedBodies}
 use Rattle.lmn_compile_head.specs.Tables as tables
 use Rattle.lmn_congruence.specs.Rules.{Name}
@@ -18,22 +18,22 @@ use Rattle.lmn_guards.specs.Plans.{IsPlan}
 use Rattle.lmn_guards.specs.declared.plan.GuardPlan.{GuardPlan}
 use Rattle.lmn_lexer.specs.declared.token.Kind.{Kind}
 use Rattle.lmn_lexer.specs.declared.token.Kind.TheVariants as kind
-use Rattle.lmn_plain.specs.Plains.{Each}
+use Rattle.lmn_plain.specs.Plains.{EachPair}
 use Rattle.lmn_reading.proofs.ListedNames.{HoldsNames, names_held}
-use Rattle.lmn_runs.specs.Laws.{HasFewLinks}
+use Rattle.lmn_runs.specs.Laws.{LinksAreFew}
 use Rattle.lmn_runs.specs.Texts.{HasName, IsPlainRead}
 use Rattle.lmn_strategy.specs.Compiled.{AreWhole}
 use Rattle.lmn_app.specs.Texts.{Accepts}
 use Rattle.lmn_app.proofs.FirstNames.{first_are_names}
 
 -- as many plans as rules, and each rule has its plan
-pub as_many : (rs : List RuleTree) (plans : List GuardPlan) → Each IsPlan rs plans → length plans ≡ length rs
+pub as_many : (rs : List RuleTree) (plans : List GuardPlan) → EachPair IsPlan rs plans → length plans ≡ length rs
 as_many [] [] h = refl
 as_many [] (q ∷ qs) h = absurd h
 as_many (r ∷ rs) [] h = absurd h
 as_many (r ∷ rs) (q ∷ qs) h = omega (arith, as_many rs qs h.1)
 
-plan_there : (rs : List RuleTree) (plans : List GuardPlan) (k : ℕ) (r : RuleTree) → Each IsPlan rs plans → slice_get rs k ≡ Some r → (plan : GuardPlan) × (slice_get plans k ≡ Some plan)
+plan_there : (rs : List RuleTree) (plans : List GuardPlan) (k : ℕ) (r : RuleTree) → EachPair IsPlan rs plans → slice_get rs k ≡ Some r → (plan : GuardPlan) × (slice_get plans k ≡ Some plan)
 plan_there [] [] zero r h e = absurd (cc)
 plan_there [] [] (suc k) r h e = absurd (cc)
 plan_there [] (q ∷ qs) k r h e = absurd h
@@ -41,7 +41,7 @@ plan_there (s ∷ rs) [] k r h e = absurd h
 plan_there (s ∷ rs) (q ∷ qs) zero r h e = (q, refl)
 plan_there (s ∷ rs) (q ∷ qs) (suc k) r h e = plan_there rs qs k r h.1 e
 
-as_few : (ls : List Leaf) → AllByRecursion tables.HasFewLinks ls → AllByRecursion HasFewLinks ls
+as_few : (ls : List Leaf) → AllByRecursion tables.HasFewLinks ls → AllByRecursion LinksAreFew ls
 as_few [] h = tt
 as_few (Atom f os place ∷ ls) h = (omega (arith, h.0), as_few ls h.1)
 as_few (Typed n o place ∷ ls) h = (tt, as_few ls h.1)
@@ -68,7 +68,7 @@ module _ (accepted_texts : AcceptedTexts) (bodies : AcceptedBodies) (text : List
       let named = accepted_texts.named text first_names names plain plans first_are_names a.named r in
       let P : List Name → Type 0 = HoldsNames text reads.tokens in
       let held = subst P (sym (a.named reads.tokens reads.tree reads.right reads.reads reads.within)) (names_held text reads.tokens first_names first_are_names) in
-      let reading : Reading = record { name = λ m i. 0; names = names; rule = numbered_rule names plain.rules } in
+      let reading : HeapReading = record { name = λ m i. 0; names = names; rule = numbered_rule names plain.rules } in
       record {
         short = omega (arith, a.short);
         tokens = reads.tokens;

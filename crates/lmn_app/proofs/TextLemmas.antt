@@ -10,7 +10,7 @@ use Rattle.lmn_base.specs.declared.solid.Solid.{Solid}
 use Rattle.lmn_base.specs.Levels.{leaves_of, links_of}
 use Rattle.lmn_base.specs.Links.{EachTwice}
 use Rattle.lmn_base.specs.Names.{first_names}
-use Rattle.lmn_base.specs.Solids.{items_of}
+use Rattle.lmn_base.specs.Solids.{item_count}
 use Rattle.lmn_base.specs.WellMade.{IsWellMade}
 use Rattle.lmn_congruence.specs.Rules.{Name}
 use Rattle.lmn_congruence.specs.SolidsOfPlains.{IsSolidOf, JoinsLeaf, fused_region}
@@ -24,14 +24,14 @@ use Rattle.lmn_lexer.proofs.OneCut.{one_cut, refused_is_wrong}
 use Rattle.lmn_linkcheck.proofs.LinkedLemmas.{no_fault_is_linked}
 use Rattle.lmn_parser.specs.Parsing.{kinds_of}
 use Rattle.lmn_parser.proofs.OneLanguage.{refused_no_tree}
-use Rattle.lmn_parser.specs.Faults.{IsProgram}
+use Rattle.lmn_parser.specs.Faults.{AreKindsOfProgram}
 use Rattle.lmn_reading.specs.Laws.{IsAcceptedText}
 use Rattle.lmn_reading.specs.Texts.{IsAcceptedAs, IsRefusedAs, ReadsAs, by_bytes, by_contexts, by_links, by_rules, by_tokens}
 use Rattle.lmn_reading.proofs.AcceptedOrRefused as reading
 use Rattle.lmn_reading.proofs.CodeLemmas.{refusals_have_codes}
 use Rattle.lmn_reading.proofs.OneRead as read
 use Rattle.lmn_reading.proofs.Readings.{well_made}
-use Rattle.lmn_app.specs.Endings.{IsCode}
+use Rattle.lmn_reading.specs.Codes.{IsCode}
 use Rattle.lmn_app.specs.Texts.{Accepts, AcceptedOrRefused, Fits, IsAccepted, IsRefusal, IsTooLarge, NamesText, OneRefusal, RefusedNotAccepted, at_start, by_reading, text_bytes, too_large, too_long}
 
 -- ---- codes
@@ -78,7 +78,7 @@ fits_not : (size : Option ℕ) (p q : Plain) → IsWellMade q → p.top ≡ q.to
 fits_not None p q well e large fits = large
 fits_not (Some size) p q well e (s, i, l) (t, j, m) =
     let same = solid_of_plain_is_one q s t well (moved_solid p q s e i) j in
-    let few : items_of s ≤ size = subst (λ z. items_of z ≤ size) (sym same) m in
+    let few : item_count s ≤ size = subst (λ z. item_count z ≤ size) (sym same) m in
     omega (arith, l, few)
 
 made : {text : List ℕ} {names : List Name} {p : Plain} {ps : List GuardPlan} → IsAcceptedAs text names p ps → IsWellMade p
@@ -88,7 +88,7 @@ fits_or_not : (size : Option ℕ) (p : Plain) → IsWellMade p → EachTwice (li
 fits_or_not None p well closed = inl tt
 fits_or_not (Some size) p well closed =
     let s = solids_of_plains_exist p well closed in
-    elim (cases_lt size (items_of s.0)) [
+    elim (cases_lt size (item_count s.0)) [
       | inl more ↦ inr (s.0, s.1, more)
       | inr few ↦ inl (s.0, s.1, few)
     ]
@@ -157,7 +157,7 @@ module _ (size : Option ℕ) where
   short_text alloc text short (inr (r, by_tokens ts right cut h)) =
       let none : NamesText text first_names = λ tokens tree right reads within.
       let same = ap kinds_of (one_cut text ts tokens cut reads.cut) in
-      let P : List Kind → Type 0 = λ k. IsRefusedAt IsProgram k h.number r.code in
+      let P : List Kind → Type 0 = λ k. IsRefusedAt AreKindsOfProgram k h.number r.code in
       absurd (refused_no_tree tokens tree h.number r.code (subst P same h.refused) reads.is_tree within) in
       inr (r, by_reading short first_names none (by_tokens ts right cut h))
   short_text alloc text short (inr (r, by_contexts p reads f)) = reads_so alloc text first_names p short reads

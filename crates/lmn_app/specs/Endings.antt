@@ -1,13 +1,14 @@
 -- How a call ends: its status, and the line that `err` takes.
-use Rattle.std.specs.Prelude.{◌≡◌, ℕ, ⊤, ◌⊎◌, List, [], ◌∷◌, Option, IsSome, codes, decimal, nat_lt, if◌then◌else◌}
+use Rattle.std.specs.Prelude.{◌≡◌, ℕ, ⊤, ◌⊎◌, List, [], ◌∷◌, Option, codes, decimal, nat_lt, if◌then◌else◌}
 use Rattle.std.specs.List.{concat}
 use Rattle.lmn_base.specs.declared.refusal.Refusal.{Refusal}
 use Rattle.lmn_app.specs.declared.ending.Ending.{Ending}
 use Rattle.lmn_app.specs.declared.ending.Ending.TheVariants.{Done, Budget, Refused, Words, ReadFault, WriteFault, NoMemory, Full}
 use Rattle.lmn_io.specs.Counts.{Rose}
 use Rattle.lmn_io.specs.Taking.{Takes, TakesPrefix}
-use Rattle.lmn_reading.specs.Codes.{code_of, words_of_number}
+use Rattle.lmn_reading.specs.Codes.{words_of_number}
 
+-- the status of each ending
 abbrev pub status_of : Ending → ℕ
 status_of Done = 0
 status_of Budget = 1
@@ -22,10 +23,6 @@ status_of Full = 7
 abbrev pub code_letters : ℕ → List ℕ
 code_letters code = if nat_lt code 10 then codes "E0" else codes "E"
 
--- a code that refuses a text
-abbrev pub IsCode : ℕ → Type 0
-IsCode code = IsSome (code_of code)
-
 -- the code, the line and the column of the place, and the words
 abbrev pub refusal_line : Refusal → List ℕ
 refusal_line refusal =
@@ -33,15 +30,15 @@ refusal_line refusal =
     ∷ codes " " ∷ words_of_number refusal.code ∷ codes "\n" ∷ [])
 
 -- the line of an ending, or nothing
-abbrev pub line_of : Ending → List ℕ
-line_of Done = []
-line_of Budget = []
-line_of Full = []
-line_of (Refused refusal) = refusal_line refusal
-line_of Words = codes "lmn: words not understood\n"
-line_of ReadFault = codes "lmn: read failed\n"
-line_of WriteFault = codes "lmn: write failed\n"
-line_of NoMemory = codes "lmn: out of memory\n"
+abbrev pub line_of_ending : Ending → List ℕ
+line_of_ending Done = []
+line_of_ending Budget = []
+line_of_ending Full = []
+line_of_ending (Refused refusal) = refusal_line refusal
+line_of_ending Words = codes "lmn: words not understood\n"
+line_of_ending ReadFault = codes "lmn: read failed\n"
+line_of_ending WriteFault = codes "lmn: write failed\n"
+line_of_ending NoMemory = codes "lmn: out of memory\n"
 
 -- the endings that have a line
 abbrev pub HasLine : Ending → Type 0
@@ -58,4 +55,4 @@ HasLine NoMemory = ⊤
 -- the ending's status where `err` took the whole line, and else 5; `err` fails only where a line is due.
 abbrev pub Concludes : Ending → ℕ → Option (List ℕ) → Option (List ℕ) → ℕ → ℕ → Type 0
 Concludes ending status old new before after =
-    ((status ≡ status_of ending) × Takes (line_of ending) old new × (after ≡ before)) ⊎ ((status ≡ 5) × TakesPrefix (line_of ending) old new × Rose before after × HasLine ending)
+    ((status ≡ status_of ending) × Takes (line_of_ending ending) old new × (after ≡ before)) ⊎ ((status ≡ 5) × TakesPrefix (line_of_ending ending) old new × Rose before after × HasLine ending)

@@ -7,16 +7,16 @@ use Rattle.lmn_app.specs.declared.ending.Ending.{Ending}
 use Rattle.lmn_app.specs.declared.ending.Ending.TheVariants.{Done, Budget, Refused, Words, ReadFault, WriteFault, NoMemory, Full}
 use Rattle.lmn_app.specs.declared.task.Task.{Task}
 use Rattle.lmn_app.specs.declared.task.Task.TheVariants as task
-use Rattle.lmn_app.specs.Endings.{IsCode}
+use Rattle.lmn_reading.specs.Codes.{IsCode}
 use Rattle.lmn_app.specs.Texts.{IsRefusal}
-use Rattle.lmn_app.specs.Requests.{size_of}
+use Rattle.lmn_app.specs.Requests.{most_items}
 use Rattle.lmn_app.specs.Writing.{IsToldAnd, Lists, ListsPart, WritesRun, WritesPartOfRun}
 
 -- Why a task ends so: what is told of the text, and the count of faults of its file, before and after.
 abbrev pub Causes : Task → Ending → Option (Option (List ℕ)) → ℕ → ℕ → Type 0
 Causes t Done text before after = ⊤
 Causes t Budget text before after = ⊤
-Causes t (Refused r) text before after = IsToldAnd text (λ bytes. IsRefusal (size_of t) bytes r) × IsCode r.code
+Causes t (Refused r) text before after = IsToldAnd text (λ bytes. IsRefusal (most_items t) bytes r) × IsCode r.code
 Causes t Words text before after = ⊥
 Causes t ReadFault text before after = Rose before after
 Causes t WriteFault text before after = ⊤
@@ -40,9 +40,9 @@ Output t Words text old new = new ≡ old
 Output t ReadFault text old new = new ≡ old
 
 -- Its count of faults, before and after: it rose where the ending says so, and else it stayed.
-abbrev pub Counts : Ending → ℕ → ℕ → Type 0
-Counts WriteFault before after = Rose before after
-Counts ending before after = after ≡ before
+abbrev pub CountsFaults : Ending → ℕ → ℕ → Type 0
+CountsFaults WriteFault before after = Rose before after
+CountsFaults ending before after = after ≡ before
 
 -- the statuses of an accepted text, where nothing fails
 abbrev pub Answers : Task → ℕ → Type 0
@@ -53,4 +53,4 @@ Answers task.List status = (status ≡ 0) ⊎ (status ≡ 6)
 pub record Ended (t : Task) (ending : Ending) (text : Option (Option (List ℕ))) (old new : Option (List ℕ)) (before after read_before read_after : ℕ) : Type 0 where
   pub cause : Causes t ending text read_before read_after
   pub output : Output t ending text old new
-  pub counts : Counts ending before after
+  pub counts : CountsFaults ending before after

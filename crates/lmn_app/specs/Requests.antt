@@ -2,7 +2,7 @@
 use Rattle.std.specs.Prelude.{◌≡◌, ◌<◌, ◌≤◌, ◌-◌, ⊤, ℕ, true, false, List, Option, Some, None, option_map, ◌^◌}
 use Rattle.std.specs.declared.string.String.{String}
 use Rattle.std.specs.declared.alloc.Global.{Global}
-use Rattle.lmn_io.specs.Texts.{Asked as ShelfAsked, asked_once_more}
+use Rattle.lmn_io.specs.Texts.{ShelfAsked, asked_once_more}
 use Rattle.lmn_order.specs.declared.order.Order.TheVariants as order
 use Rattle.lmn_words.specs.Forms.{Asks, Request, to_run, to_compile, to_demo}
 use Rattle.lmn_app.specs.declared.task.RunSettings.{RunSettings}
@@ -47,15 +47,16 @@ Fetches None before after faults faults_after = (after ≡ before) × ((name : L
 abbrev pub folded_run : RunSettings
 folded_run = record { trace = false; folded = true; budget = 1000000; size = 16777216; order = order.First }
 
+-- what a request asks to do with its text
 abbrev pub task_of : Request → Task
 task_of (to_run run) = task.Run (record { trace = run.trace; folded = run.folded; budget = run.budget; size = run.size; order = run.order })
 task_of (to_compile file) = task.List
 task_of (to_demo n) = task.Run folded_run
 
 -- the most items of the process that is loaded; a listing loads none and has no such number
-abbrev pub size_of : Task → Option ℕ
-size_of (task.Run s) = Some s.size
-size_of task.List = None
+abbrev pub most_items : Task → Option ℕ
+most_items (task.Run s) = Some s.size
+most_items task.List = None
 
 -- the numbers of a task lie in their ranges
 abbrev pub IsInRange : Task → Type 0

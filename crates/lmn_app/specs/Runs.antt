@@ -2,7 +2,7 @@
 use Rattle.std.specs.Prelude.{ℕ, ◌≡◌, ◌≤◌, List, Bool, length}
 use Rattle.lmn_base.specs.declared.rule.Plain.{Plain}
 use Rattle.lmn_base.specs.declared.solid.Solid.{Solid}
-use Rattle.lmn_base.specs.Solids.{items_of}
+use Rattle.lmn_base.specs.Solids.{item_count}
 use Rattle.lmn_congruence.specs.Process.{Process}
 use Rattle.lmn_congruence.specs.Regions.{Region}
 use Rattle.lmn_congruence.specs.Rules.{Name}
@@ -37,7 +37,7 @@ pub record IsTraceOf (g : Given) (text : List ℕ) (lines : List (List ℕ)) (n 
   pub accepted : Accepts text names plain plans
   pub solid : Solid
   pub of_plain : IsSolidOf plain solid
-  pub few : items_of solid ≤ g.size
+  pub few : item_count solid ≤ g.size
   pub before : List Region
   pub last : Region
   pub trace : Trace g.chooser g.budget g.size (solid_of names plain solid) before last

@@ -5,7 +5,7 @@ use Rattle.lmn_base.specs.declared.refusal.Refusal.{Refusal}
 use Rattle.lmn_base.specs.declared.rule.Plain.{Plain}
 use Rattle.lmn_base.specs.declared.solid.Solid.{Solid}
 use Rattle.lmn_base.specs.Names.{first_names}
-use Rattle.lmn_base.specs.Solids.{items_of}
+use Rattle.lmn_base.specs.Solids.{item_count}
 use Rattle.lmn_congruence.specs.Rules.{Name}
 use Rattle.lmn_congruence.specs.SolidsOfPlains.{IsSolidOf}
 use Rattle.lmn_guards.specs.declared.plan.GuardPlan.{GuardPlan}
@@ -28,11 +28,11 @@ pub record Accepts (text : List ℕ) (names : List Name) (plain : Plain) (plans 
 -- The solid of the plain has at most so many items, where a command asks for that; or it has more.
 abbrev pub Fits : Option ℕ → Plain → Type 0
 Fits None plain = Unit {0}
-Fits (Some size) plain = (s : Solid) × IsSolidOf plain s × (items_of s ≤ size)
+Fits (Some size) plain = (s : Solid) × IsSolidOf plain s × (item_count s ≤ size)
 
 abbrev pub IsTooLarge : Option ℕ → Plain → Type 0
 IsTooLarge None plain = ⊥
-IsTooLarge (Some size) plain = (s : Solid) × IsSolidOf plain s × (size < items_of s)
+IsTooLarge (Some size) plain = (s : Solid) × IsSolidOf plain s × (size < item_count s)
 
 -- the text is accepted, and its process fits
 abbrev pub IsAccepted : Option ℕ → List ℕ → Type 0

@@ -1,16 +1,17 @@
 -- What commands write of a text.
-use Rattle.std.specs.Prelude.{◌≡◌, ◌≤◌, ℕ, length, List, [], ◌∷◌, ◌++◌, Option, None, Some, IfSome, IsSomeAnd, codes, decimal}
+use Rattle.std.specs.Prelude.{◌≡◌, ◌≤◌, ℕ, length, List, ◌++◌, Option, None, Some, IfSome, IsSomeAnd}
 use Rattle.std.specs.List.{concat}
 use Rattle.lmn_base.specs.declared.rule.Plain.{Plain}
 use Rattle.lmn_congruence.specs.Rules.{Name}
 use Rattle.lmn_guards.specs.declared.plan.GuardPlan.{GuardPlan}
 use Rattle.lmn_io.specs.Taking.{Takes, TakesPrefix}
 use Rattle.lmn_listing.specs.Listings.{rule_listings}
-use Rattle.lmn_runs.specs.Runs.{Given, Stop, StopsSo, word_of}
+use Rattle.lmn_runs.specs.Runs.{Given, Stop, StopsSo, word_of_stop}
 use Rattle.lmn_app.specs.Runs.{IsRun, IsTraceOf}
 use Rattle.lmn_app.specs.Texts.{Accepts, text_bytes}
 use Rattle.lmn_order.specs.Orders.{chosen}
 use Rattle.lmn_app.specs.declared.task.RunSettings.{RunSettings}
+use Rattle.lmn_drive.specs.Written.{end_line}
 
 -- what a map of texts, if one is told, has under a name
 abbrev pub told_under : Option (List ℕ → Option (List ℕ)) → List ℕ → Option (Option (List ℕ))
@@ -35,13 +36,9 @@ IsTextOf told text = (length text ≤ text_bytes) × IfSome told (λ found. foun
 abbrev pub given : RunSettings → Given
 given s = record { trace = s.trace; folded = s.folded; budget = s.budget; size = s.size; chooser = chosen s.order }
 
--- the end line: a word, and after how many commits
-abbrev pub end_line : List ℕ → ℕ → List ℕ
-end_line word commits = concat (codes "% " ∷ word ∷ codes " after " ∷ decimal commits ∷ codes "\n" ∷ [])
-
 -- process lines, and the end line
 abbrev pub run_text : List (List ℕ) → Stop → ℕ → List ℕ
-run_text lines why commits = concat lines ++ end_line (word_of why) commits
+run_text lines why commits = concat lines ++ end_line (word_of_stop why) commits
 
 -- A run of the text stopped so, and its lines were taken. The text is the one that is told, if one is. Its lines are those of a run
 -- of the calculus, and which run that is the strategy says.

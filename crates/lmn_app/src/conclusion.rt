@@ -1,6 +1,6 @@
 ghost use Rattle.std.specs.Prelude.{◌≡◌, OnErr};
 ghost use Rattle.lmn_io.specs.Writing.{WritesText};
-ghost use Rattle.lmn_app.specs.Endings.{Concludes, HasLine, code_letters, line_of, refusal_line};
+ghost use Rattle.lmn_app.specs.Endings.{Concludes, HasLine, code_letters, line_of_ending, refusal_line};
 
 use crate::ending::Ending;
 use itoa::Buffer;
@@ -21,7 +21,7 @@ pub(crate) fn conclude<E: Sink>(err: &mut E, ending: Ending) -> u8
 #[tactic(auto, using(lmn_io::proofs::TakingLemmas::taking))]
 fn report<E: Sink>(err: &mut E, ending: Ending) -> Result<(), Failed>
     ensures line { OnErr result (HasLine ending) }
-    ensures writes { WritesText (line_of ending) result (E.told err.old) (E.faults err.old) (E.told err.new) (E.faults err.new) }
+    ensures writes { WritesText (line_of_ending ending) result (E.told err.old) (E.faults err.old) (E.told err.new) (E.faults err.new) }
 {
     match ending {
         Ending::Done | Ending::Budget | Ending::Full => Ok(()),

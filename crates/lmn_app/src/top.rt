@@ -1,11 +1,12 @@
-ghost use Rattle.std.specs.Prelude.{◌≡◌, ◌≤◌, ◌⊎◌, ℕ, IfErr, IfOk, List, Option, option_map, Some, String, codes, length};
+ghost use Rattle.std.specs.Prelude.{◌≡◌, ◌≤◌, ◌⊎◌, ℕ, IfErr, IfOk, List, Option, option_map, Some, codes, length};
 ghost use Rattle.lmn_io.specs.Counts.{Rose};
 ghost use Rattle.lmn_io.specs.Texts.{asked_once_more};
 ghost use Rattle.lmn_io.specs.Taking.{Takes, TakesPrefix};
 ghost use Rattle.lmn_base.specs.declared.refusal.Refusal.{Refusal};
-ghost use Rattle.lmn_app.specs.Requests.{Asked, Fetches, IsInRange, faults_of, file_of, size_of, task_of, told_of};
+ghost use Rattle.lmn_app.specs.Requests.{Asked, Fetches, IsInRange, faults_of, file_of, most_items, task_of, told_of};
 ghost use Rattle.lmn_words.specs.Forms.{InForm, IsInRanges, request_of};
-ghost use Rattle.lmn_app.specs.Endings.{HasLine, IsCode, line_of, refusal_line};
+ghost use Rattle.lmn_app.specs.Endings.{HasLine, line_of_ending, refusal_line};
+ghost use Rattle.lmn_reading.specs.Codes.{IsCode};
 ghost use Rattle.lmn_app.specs.Outcomes.{Answers, Ended, Output};
 ghost use Rattle.lmn_app.specs.Texts.{IsAccepted, IsRefusal, text_bytes};
 ghost use Rattle.lmn_app.specs.Writing.{IfTold, IsTextOf, IsToldAnd, told_under};
@@ -63,15 +64,15 @@ pub fn lmn_main<F: Shelf, O: Sink, E: Sink>(
     ensures puts { ¬ (result ≡ 5) → (O.faults out.new ≡ O.faults out.old) × (E.faults err.new ≡ E.faults err.old) }
 
     // Status 2 comes where the text isn't accepted; 4, 5 and 6 alone take its place.
-    ensures refused { result ≡ 2 → Asked words.now (λ c. (refusal : Refusal) × IsToldAnd (told_of c (F.told shelf.old)) (λ text. IsRefusal (size_of (task_of c)) text refusal)
+    ensures refused { result ≡ 2 → Asked words.now (λ c. (refusal : Refusal) × IsToldAnd (told_of c (F.told shelf.old)) (λ text. IsRefusal (most_items (task_of c)) text refusal)
         × IsCode refusal.code × Takes (refusal_line refusal) (E.told err.old) (E.told err.new)) }
     ensures not_accepted { InForm words.now → Asked words.now (λ c. IfTold (told_of c (F.told shelf.old)) (λ text.
-        ¬ (IsAccepted (size_of (task_of c)) text) → (result ≡ 2) ⊎ (result ≡ 4) ⊎ (result ≡ 5) ⊎ (result ≡ 6))) }
+        ¬ (IsAccepted (most_items (task_of c)) text) → (result ≡ 2) ⊎ (result ≡ 4) ⊎ (result ≡ 5) ⊎ (result ≡ 6))) }
 
     // Where nothing fails, the command does what it says for an accepted text, or memory is wanting.
     ensures answers { InForm words.now → Asked words.now (λ c. ¬ (Rose (faults_of c (F.faults shelf.old)) (faults_of c (F.faults shelf.new)))
         → ¬ (Rose (O.faults out.old) (O.faults out.new)) → ¬ (Rose (E.faults err.old) (E.faults err.new))
-        → IfTold (told_of c (F.told shelf.old)) (λ text. IsAccepted (size_of (task_of c)) text → Answers (task_of c) result)) }
+        → IfTold (told_of c (F.told shelf.old)) (λ text. IsAccepted (most_items (task_of c)) text → Answers (task_of c) result)) }
 
     // What `out` took, for each status.
     ensures out_done { result ≡ 0 → Asked words.now (λ c. Output (task_of c) Ending.Done (told_of c (F.told shelf.old)) (O.told out.old) (O.told out.new)) }
@@ -89,7 +90,7 @@ pub fn lmn_main<F: Shelf, O: Sink, E: Sink>(
     ensures part { result ≡ 5 →
         (Asked words.now (λ c. Output (task_of c) Ending.WriteFault (told_of c (F.told shelf.old)) (O.told out.old) (O.told out.new)) × Rose (O.faults out.old) (O.faults out.new)
         × Takes (codes "lmn: write failed\n") (E.told err.old) (E.told err.new) × (E.faults err.new ≡ E.faults err.old))
-        ⊎ (Rose (E.faults err.old) (E.faults err.new) × ((ending : Ending) × HasLine ending × TakesPrefix (line_of ending) (E.told err.old) (E.told err.new)
+        ⊎ (Rose (E.faults err.old) (E.faults err.new) × ((ending : Ending) × HasLine ending × TakesPrefix (line_of_ending ending) (E.told err.old) (E.told err.new)
         × (Asked words.now (λ c. Ended (task_of c) ending (told_of c (F.told shelf.old)) (O.told out.old) (O.told out.new) (O.faults out.old) (O.faults out.new) (faults_of c (F.faults shelf.old)) (faults_of c (F.faults shelf.new)))
         ⊎ (¬ (InForm words.now) × (ending ≡ Ending.Words) × (O.told out.new ≡ O.told out.old) × (O.faults out.new ≡ O.faults out.old))))) }
 {

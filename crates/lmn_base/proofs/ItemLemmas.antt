@@ -14,10 +14,16 @@ use Rattle.lmn_base.specs.declared.refusal.Pos.{Pos}
 use Rattle.lmn_base.specs.Firsts.{IsFound}
 use Rattle.lmn_base.specs.Items.{own_items, items_of}
 use Rattle.lmn_base.proofs.FirstLemmas.{next_piece, found_all}
+use Rattle.lmn_base.specs.declared.level.Level.TheOpen.{Level-F}
+use Rattle.lmn_base.specs.declared.level.Level.TheViews.{roll-Level, out-roll-Level}
 
 -- the items of a level are its own and then those of its membranes
 pub items_apart : (l : Level) → items_of l ≡ own_items (out-Level l) ++ flat_map items_of (out-Level l).membranes
 items_apart l = fold_out-Level (List Item) (λ l. own_items l ++ flat_map (λ inner. inner) l.membranes) l ∙ ap (λ is. own_items (out-Level l) ++ is) (flat_map-map (λ inner. inner) items_of (out-Level l).membranes)
+
+-- the items of a level, by its lists
+pub listed_items : (l : Level-F Level) → items_of (roll-Level l) ≡ own_items l ++ flat_map items_of l.membranes
+listed_items l = items_apart (roll-Level l) ∙ ap (λ o. own_items o ++ flat_map items_of o.membranes) (out-roll-Level l)
 
 pub flat_map-flat_map : {X Y Z : Type 0} (f : Y → List Z) (h : X → List Y) (xs : List X) → flat_map f (flat_map h xs) ≡ flat_map (λ x. flat_map f (h x)) xs
 flat_map-flat_map f h [] = refl

@@ -4,7 +4,7 @@ use Rattle.std.proofs.lemmas.List.Elements.{All-head, All-tail, All-cons, All-ni
 use Rattle.lmn_base.specs.declared.refusal.Pos.{Pos}
 use Rattle.lmn_base.specs.declared.refusal.Refusal.{Refusal}
 use Rattle.lmn_base.specs.Firsts.{FirstAt, IsFirst, Row, RefusedBy, by_this, by_later, NoneApplies, AnswersBy}
-use Rattle.lmn_base.specs.FirstLaws.{OneRefusal, NoneOrRefused}
+use Rattle.lmn_base.specs.FirstLaws.{OneRefusalOfRows, NoneOrRefused}
 use Rattle.lmn_base.specs.Uses.{is_some_place}
 use Rattle.lmn_base.proofs.FirstLemmas.{first_is_one}
 
@@ -16,7 +16,7 @@ by_first : (row : Row) (rows : List Row) (a : Refusal) → RefusedBy (row ∷ ro
 by_first row rows a (by_this f) = inl (f, refl)
 by_first row rows a (by_later r) = inr (refl, r)
 
-pub one_refusal : OneRefusal
+pub one_refusal : OneRefusalOfRows
 one_refusal [] a b r s = elim r [ ]
 one_refusal (row ∷ rows) a b r s = both (one_refusal rows a b) (by_first row rows a r) (by_first row rows b s)
   where
@@ -26,7 +26,7 @@ one_refusal (row ∷ rows) a b r s = both (one_refusal rows a b) (by_first row r
     both rest (inr p) (inl q) = absurd (nowhere b.pos (subst (λ ps. FirstAt ps b.pos) p.0 q.0))
     both rest (inr p) (inr q) = rest p.1 q.1
 
-abbrev Nowhere : Row → Type 0
+abbrev pub Nowhere : Row → Type 0
 Nowhere row = row.places ≡ []
 
 pub none_or_refused : NoneOrRefused

@@ -3,9 +3,9 @@ use Rattle.std.specs.Prelude.{◌≡◌, List}
 use Rattle.lmn_base.specs.declared.refusal.Refusal.{Refusal}
 use Rattle.lmn_base.specs.Firsts.{Row, RefusedBy, NoneApplies}
 
--- there is one refusal at most
-abbrev pub OneRefusal : Type 0
-OneRefusal = (rows : List Row) (a b : Refusal) → RefusedBy rows a → RefusedBy rows b → a ≡ b
+-- rows give one refusal at most
+abbrev pub OneRefusalOfRows : Type 0
+OneRefusalOfRows = (rows : List Row) (a b : Refusal) → RefusedBy rows a → RefusedBy rows b → a ≡ b
 
 -- where no row applies nothing is refused
 abbrev pub NoneOrRefused : Type 0

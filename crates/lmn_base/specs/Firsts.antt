@@ -14,10 +14,12 @@ pub record FirstAt (ps : List Pos) (p : Pos) : Type 0 where
 abbrev pub IsFirst : List Pos → Option Pos → Type 0
 IsFirst ps first = MatchOption first (ps ≡ []) (FirstAt ps)
 
+-- the first of some places, and how many they are
 pub record IsFound (ps : List Pos) (found : Found) : Type 0 where
   pub first : IsFirst ps found.first
   pub count : found.count ≡ min (length ps) (2 ^ 64 - 1)
 
+-- the earlier of two places, where there are any
 abbrev pub earlier : Option Pos → Option Pos → Option Pos
 earlier None q = q
 earlier (Some p) None = Some p

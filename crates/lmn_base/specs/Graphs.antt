@@ -36,3 +36,7 @@ pub record SameGraph (m : AtomMap) (x : ℕ × ℕ) (n : AtomMap) (y : ℕ × �
   pub joined : (a b i j : ℕ) → Reached m x a → Reached m x b →
       (m.partner (a, i) ≡ Some (b, j)) ↔ (n.partner (to a, i) ≡ Some (to b, j))
   pub root : (to x.0, x.1) ≡ y
+
+-- A port of the head or of a heap: the number of an atom and an index from 0.
+abbrev pub Port : Type 0
+Port = ℕ × ℕ

@@ -22,6 +22,7 @@ use Rattle.lmn_base.specs.Levels.{everywhere}
 abbrev pub used : Form → CtxUse → Item
 used form u = item.Context (record { name = u.name; form = form; pos = u.pos })
 
+-- a leaf as an item: an atom, or a use of a typed context
 abbrev pub leaf_item : Leaf → Item
 leaf_item (Atom functor links pos) = item.Atom functor pos
 leaf_item (Typed name link pos) = used form.Typed (record { name = name; pos = pos })
@@ -35,14 +36,15 @@ abbrev pub items_of : Level → List Item
 items_of = everywhere own_items
 
 -- the contexts of an expression, from left to right
-abbrev pub expression_step : Expr-F (List Item) → List Item
-expression_step (Integer z) = []
-expression_step (Ctx u) = used form.Typed u ∷ []
-expression_step (Op op left right) = left.value ++ right.value
+abbrev pub expression_items_step : Expr-F (List Item) → List Item
+expression_items_step (Integer z) = []
+expression_items_step (Ctx u) = used form.Typed u ∷ []
+expression_items_step (Op op left right) = left.value ++ right.value
 
 abbrev pub expression_items : Expr → List Item
-expression_items = fold-Expr (List Item) expression_step
+expression_items = fold-Expr (List Item) expression_items_step
 
+-- the contexts of a condition, of a guard, and what stands in a whole rule
 abbrev pub condition_items : Cond → List Item
 condition_items (Kind name args pos) = map (used form.Typed) args
 condition_items (Compare op left right pos) = expression_items left ++ expression_items right

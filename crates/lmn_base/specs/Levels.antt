@@ -13,6 +13,7 @@ use Rattle.lmn_base.specs.declared.level.CtxUse.{CtxUse}
 abbrev pub everywhere : {A : Type 0} → (Level-F (List A) → List A) → Level → List A
 everywhere {A} here = fold-Level (List A) (λ l. here l ++ flat_map (λ inner. inner) l.membranes)
 
+-- the leaves, contexts, rule contexts and rules of a level, at every depth
 abbrev pub leaves_of : Level → List Leaf
 leaves_of = everywhere (λ l. l.leaves)
 
@@ -25,14 +26,23 @@ rule_contexts_of = everywhere (λ l. l.rule_contexts)
 abbrev pub rules_of : Level → List ℕ
 rules_of = everywhere (λ l. l.rules)
 
-abbrev pub leaf_occurrences : Leaf → List Occ
-leaf_occurrences (Atom functor links pos) = links
-leaf_occurrences (Typed name link pos) = link ∷ []
+-- the occurrences of links at a leaf
+abbrev pub occurrences_of_leaf : Leaf → List Occ
+occurrences_of_leaf (Atom functor links pos) = links
+occurrences_of_leaf (Typed name link pos) = link ∷ []
 
 -- the occurrences of links in a level, in printed order
-abbrev pub occurrences : Level → List Occ
-occurrences l = flat_map leaf_occurrences (leaves_of l)
+abbrev pub occurrences_of : Level → List Occ
+occurrences_of l = flat_map occurrences_of_leaf (leaves_of l)
 
 -- the same, each by the number of its link
 abbrev pub links_of : Level → List ℕ
-links_of l = map (λ o. o.link) (occurrences l)
+links_of l = map (λ o. o.link) (occurrences_of l)
+
+-- the links of leaves, by their numbers
+abbrev pub links_of_leaves : List Leaf → List ℕ
+links_of_leaves ls = map (λ o. o.link) (flat_map occurrences_of_leaf ls)
+
+-- the links of occurrences, by their numbers
+abbrev pub link_numbers : List Occ → List ℕ
+link_numbers os = map (λ o. o.link) os

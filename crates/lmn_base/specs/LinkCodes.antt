@@ -48,6 +48,7 @@ told once too_often u =
     else if nat_lt 2 u.count then record { code = too_often; pos = u.third } ∷ []
     else []
 
+-- what the tables of a rule and of a plain tell
 abbrev pub told_of_rule : RuleTree → List Refusal
 told_of_rule r = flat_map (told 22 23) r.links
 

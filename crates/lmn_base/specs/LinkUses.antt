@@ -3,7 +3,7 @@ use Rattle.std.specs.Prelude.{ℕ, ◌≡◌, ◌<◌, ◌≤◌, ◌⊎◌, ◌
 use Rattle.lmn_base.specs.declared.level.Level.{Level}
 use Rattle.lmn_base.specs.declared.refusal.Pos.{Pos}
 use Rattle.lmn_base.specs.declared.rule.LinkUse.{LinkUse}
-use Rattle.lmn_base.specs.Levels.{occurrences, links_of}
+use Rattle.lmn_base.specs.Levels.{occurrences_of, links_of}
 use Rattle.lmn_base.specs.Links.{NumbersLinks}
 
 -- one place is before another in the text, or is the same
@@ -11,14 +11,14 @@ abbrev pub NotAfter : Pos → Pos → Type 0
 NotAfter p q = (p.line < q.line) ⊎ ((p.line ≡ q.line) × (p.column ≤ q.column))
 
 -- the places where a link occurs in a level
-abbrev pub places : ℕ → Level → List Pos
-places x l = map (λ o. o.pos) (filter (λ o. o.link == x) (occurrences l))
+abbrev pub places_of_link : ℕ → Level → List Pos
+places_of_link x l = map (λ o. o.pos) (filter (λ o. o.link == x) (occurrences_of l))
 
 -- ps are the places where a link occurs in some levels: level by level, in each by rising place
 pub data RisingPlaces (x : ℕ) : List Level → List Pos → Type 0 where
   no_places : RisingPlaces x [] []
   places_and : {l : Level} {ls : List Level} {ps qs : List Pos} →
-      IsPermutation (places x l) ps → AllPairs NotAfter ps → RisingPlaces x ls qs →
+      IsPermutation (places_of_link x l) ps → AllPairs NotAfter ps → RisingPlaces x ls qs →
       RisingPlaces x (l ∷ ls) (ps ++ qs)
 
 -- what an entry says of a link that occurs at these places: how often, and the first and third place

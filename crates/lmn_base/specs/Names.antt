@@ -15,7 +15,7 @@ use Rattle.lmn_base.specs.declared.rule.RuleTree.{RuleTree}
 use Rattle.lmn_base.specs.declared.rule.Plain.{Plain}
 use Rattle.lmn_base.specs.declared.solid.Solid.{Solid}
 use Rattle.lmn_base.specs.Levels.{leaves_of, contexts_of, rule_contexts_of}
-use Rattle.lmn_base.specs.Solids.{atoms_of}
+use Rattle.lmn_base.specs.Solids.{atoms_of_region}
 
 -- the names with the numbers 0 to 3, by their bytes
 abbrev pub first_names : List (List ℕ)
@@ -26,6 +26,7 @@ pub record IsNames (names : List (List ℕ)) : Type 0 where
   pub begins : (more : List (List ℕ)) × (names ≡ first_names ++ more)
   pub once : AllPairs (λ m n. m ≢ n) names
 
+-- the names of a label, of a leaf and of contexts
 abbrev pub label_names : Label → List ℕ
 label_names (Name n) = n ∷ []
 label_names (Int z) = []
@@ -42,13 +43,14 @@ abbrev pub level_names : Level → List ℕ
 level_names l =
     flat_map leaf_names (leaves_of l) ++ context_names (contexts_of l) ++ context_names (rule_contexts_of l)
 
-abbrev pub expression_step : Expr-F (List ℕ) → List ℕ
-expression_step (Integer z) = []
-expression_step (Ctx u) = u.name ∷ []
-expression_step (Op op left right) = left.value ++ right.value
+-- the names in an expression and in a condition
+abbrev pub expression_names_step : Expr-F (List ℕ) → List ℕ
+expression_names_step (Integer z) = []
+expression_names_step (Ctx u) = u.name ∷ []
+expression_names_step (Op op left right) = left.value ++ right.value
 
 abbrev pub expression_names : Expr → List ℕ
-expression_names = fold-Expr (List ℕ) expression_step
+expression_names = fold-Expr (List ℕ) expression_names_step
 
 abbrev pub condition_names : Cond → List ℕ
 condition_names (Kind name args pos) = name ∷ context_names args
@@ -56,6 +58,7 @@ condition_names (Compare op left right pos) = expression_names left ++ expressio
 condition_names (Equal left right pos) = left.name ∷ expression_names right
 condition_names (Differ left right pos) = left.name ∷ right.name ∷ []
 
+-- all names of a rule, and of a plain
 abbrev pub rule_names : RuleTree → List ℕ
 rule_names r = level_names r.head ++ flat_map condition_names r.guard ++ level_names r.body
 
@@ -64,7 +67,7 @@ plain_names p = level_names p.top ++ flat_map rule_names p.rules
 
 -- the names of a solid's atoms; those in its rules are names of the table
 abbrev pub solid_names : Solid → List ℕ
-solid_names s = flat_map (λ a. label_names a.functor.label) (atoms_of s.root)
+solid_names s = flat_map (λ a. label_names a.functor.label) (atoms_of_region s.root)
 
 -- a list of names has one for each of these numbers
 abbrev pub HasNames : List (List ℕ) → List ℕ → Type 0

@@ -232,6 +232,7 @@ in_two_forms r = record { code = 45; places = flat_map (in_other_form (rule_item
 
 -- ---- all of them, in their order
 
+-- the rows on the size and the head's emptiness, on the head, and on the uses of contexts
 abbrev pub size_rows : RuleTree → List Row
 size_rows r = too_large r ∷ empty_head r ∷ []
 

@@ -19,31 +19,32 @@ connector = record { label = Name CONNECTOR_NAME; arity = 2 }
 abbrev pub atoms_step : Region-F (List SolidAtom) → List SolidAtom
 atoms_step r = r.atoms ++ flat_map (λ inner. inner) r.membranes
 
-abbrev pub atoms_of : Region → List SolidAtom
-atoms_of = fold-Region (List SolidAtom) atoms_step
+abbrev pub atoms_of_region : Region → List SolidAtom
+atoms_of_region = fold-Region (List SolidAtom) atoms_step
 
 -- their links, in printed order
-abbrev pub links_of : Region → List ℕ
-links_of r = flat_map (λ a. a.links) (atoms_of r)
+abbrev pub links_of_region : Region → List ℕ
+links_of_region r = flat_map (λ a. a.links) (atoms_of_region r)
 
+-- Each atom has as many links as its arity and isn't a connector; each link stands twice; links are numbered in printed order.
 pub record IsSolid (s : Solid) : Type 0 where
-  pub arities : All (λ a. length a.links ≡ a.functor.arity) (atoms_of s.root)
-  pub no_connector : All (λ a. a.functor ≢ connector) (atoms_of s.root)
-  pub closed : EachTwice (links_of s.root)
-  pub numbered : (n : ℕ) × NumbersLinks (links_of s.root) n
+  pub arities : All (λ a. length a.links ≡ a.functor.arity) (atoms_of_region s.root)
+  pub no_connector : All (λ a. a.functor ≢ connector) (atoms_of_region s.root)
+  pub closed : EachTwice (links_of_region s.root)
+  pub numbered : (n : ℕ) × NumbersLinks (links_of_region s.root) n
 
 -- a region's atoms, membranes and rules, and those inside its membranes
 abbrev pub items_step : Region-F ℕ → ℕ
 items_step r = length r.atoms + length r.membranes + sum r.membranes + length r.rules
 
 -- how many items a solid has: its root isn't counted
-abbrev pub items_of : Solid → ℕ
-items_of s = fold-Region ℕ items_step s.root
+abbrev pub item_count : Solid → ℕ
+item_count s = fold-Region ℕ items_step s.root
 
 -- the rules of a region and of its membranes, by number
 abbrev pub rules_step : Region-F (List ℕ) → List ℕ
 rules_step r = r.rules ++ flat_map (λ inner. inner) r.membranes
 
 -- a table has one rule for each of a solid's numbers
-abbrev pub HasRules : List RuleTree → Solid → Type 0
-HasRules table s = All (λ k. k < length table) (fold-Region (List ℕ) rules_step s.root)
+abbrev pub HasEachRule : List RuleTree → Solid → Type 0
+HasEachRule table s = All (λ k. k < length table) (fold-Region (List ℕ) rules_step s.root)

@@ -4,6 +4,7 @@ use Rattle.lmn_base.specs.declared.item.Item.{Item}
 use Rattle.lmn_base.specs.declared.item.Item.TheVariants.{Atom, Context, RuleContext, Rule}
 use Rattle.lmn_base.specs.declared.refusal.Pos.{Pos}
 
+-- there is a place in the list
 abbrev pub is_some_place : List Pos → Bool
 is_some_place [] = false
 is_some_place (p ∷ ps) = true

@@ -13,9 +13,10 @@ abbrev pub FitsArity : Leaf → Type 0
 FitsArity (Atom functor links pos) = length links ≡ functor.arity
 FitsArity (Typed name link pos) = Unit {0}
 
-abbrev pub IsAtom : Leaf → Type 0
-IsAtom (Atom functor links pos) = Unit {0}
-IsAtom (Typed name link pos) = ⊥
+-- a leaf that is an atom and no typed context
+abbrev pub IsAtomLeaf : Leaf → Type 0
+IsAtomLeaf (Atom functor links pos) = Unit {0}
+IsAtomLeaf (Typed name link pos) = ⊥
 
 -- Each atom has as many links as its arity, and `links` is the table of the links of head and body.
 pub record IsWellMadeRule (r : RuleTree) : Type 0 where
@@ -31,7 +32,7 @@ pub record IsWellMade (p : Plain) : Type 0 where
   pub rules_at_top : All (λ k. k < length p.rules) (rules_of p.top)
   pub rules_in_rules : (n : ℕ) (r : RuleTree) → slice_get p.rules n ≡ Some r →
       All (λ k. (n < k) × (k < length p.rules)) (rules_of r.head ++ rules_of r.body)
-  pub only_atoms : All IsAtom (leaves_of p.top)
+  pub only_atoms : All IsAtomLeaf (leaves_of p.top)
   pub no_context : contexts_of p.top ≡ []
   pub no_rule_context : rule_contexts_of p.top ≡ []
 

@@ -2,7 +2,6 @@ ghost use Rattle.std.specs.Prelude.{◌≡◌, ◌-◌, ◌^◌, min, map, flat_
 ghost use Rattle.lmn_base.specs.declared.level.Level.{out-Level};
 ghost use Rattle.lmn_base.specs.Firsts.{IsFound};
 ghost use Rattle.lmn_base.specs.Items.{used, leaf_item, own_items, items_of, expression_items, condition_items, guard_items, rule_items, number_of_items};
-ghost use Rattle.lmn_base.specs.declared.item.Form.TheVariants.{Bare, Typed};
 
 use crate::guard::{Cond, Expr};
 use crate::item::{Form, FormedUse, Item, leaf_item};

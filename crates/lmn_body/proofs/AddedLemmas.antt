@@ -11,7 +11,7 @@ use Rattle.lmn_body.specs.Added.{if_inside, added_atoms, moved_mems}
 use Rattle.lmn_body.specs.Made.{new_atoms}
 use Rattle.lmn_body.specs.Rules.{Goes}
 
-in_if : (r : Registers) (x inside : ℕ) (ns : List ℕ) (b : ℕ) → In b (if_inside r x inside ns) → In b ns
+pub in_if : (r : Registers) (x inside : ℕ) (ns : List ℕ) (b : ℕ) → In b (if_inside r x inside ns) → In b ns
 in_if r x inside ns b i = by (r.head.images.membrane inside == x) i
   where
     by : (t : Bool) → In b (cond t ns []) → In b ns

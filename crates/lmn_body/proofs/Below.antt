@@ -1,6 +1,6 @@
 -- Preorder: a membrane comes after those round it, so the images of the membranes of a head after that of the rule.
 use Rattle.std.proofs.Common.{ℕ, zero, suc, ◌+◌, ◌<◌, ◌≤◌, ◌≡◌, ◌≢◌, ◌==◌, Bool, true, false, cond, List, [], ◌∷◌, ◌++◌, length, refl, sym, ap, subst, ◌∙◌, inl, inr, arith}
-use Rattle.std.proofs.lemmas.Bool.{eq-eqb, eqb-true}
+use Rattle.std.proofs.lemmas.Bool.{eq-eqb}
 use Rattle.lmn_heap.specs.Heap.{Heap, mems_in, In, Distinct}
 use Rattle.lmn_heap.specs.Sound.{Forest, flat, Valid}
 use Rattle.lmn_heap.proofs.ListLemmas.{each_in, in_left, in_right}
@@ -12,21 +12,16 @@ use Rattle.lmn_solid.specs.Embeddings.{HasMembrane, index_of, Embeds}
 use Rattle.lmn_splice.specs.Classes.{rising}
 use Rattle.lmn_body.specs.Running.{Registers}
 use Rattle.lmn_body.specs.Within.{membrane_images}
-use Rattle.lmn_body.proofs.HeadPorts.{of_map, in_map, get_some, get_below}
+use Rattle.lmn_body.proofs.HeadPorts.{of_map, in_map}
 use Rattle.lmn_body.proofs.Firing.{rising_below, heap_in_of, of_heap_in}
 use Rattle.lmn_splice.proofs.EndLemmas.{in_rising}
 use Rattle.lmn_heap.proofs.Heights.{mem_of_list}
+use Rattle.lmn_base.proofs.Lists.{get_below, get_there as get_some}
+use Rattle.lmn_base.proofs.Numbers.{not_equal as not_eq}
 use Rattle.lmn_base.specs.declared.guard.Cond.{Cond}
 use Rattle.lmn_body.specs.Rules.{HeadNests}
 
 -- Indices
-
-pub not_eq : (x y : ℕ) → x ≢ y → (x == y) ≡ false
-not_eq x y d = by (x == y) refl
-  where
-    by : (t : Bool) → (x == y) ≡ t → t ≡ false
-    by true e = absurd (d (eqb-true x y e))
-    by false e = refl
 
 pub index_most : (x : ℕ) (xs : List ℕ) → index_of x xs ≤ length xs
 index_most x [] = omega arith

@@ -3,7 +3,7 @@ use Rattle.std.proofs.Common.{true, ℕ, ◌+◌, ◌<◌, ◌≤◌, ◌≡◌,
 use Rattle.std.specs.Option.{option_map, option_and_then}
 use Rattle.lmn_base.specs.declared.guard.Cond.{Cond}
 use Rattle.lmn_heap.specs.Heap as heap
-use Rattle.lmn_heap.specs.Heap.{Heap, HeapAtom, HeapMem, Place, within, gone, mem_with_atoms, mem_with_mems, mem_with_place, without, arity_of, mem_place_of, mems_in, rules_in, spare_of, spare_by, atom_out, mem_out, home_of, parent_of, IsMem, IsInPlace, IsMemInPlace, In, Distinct, taken, taken_mem}
+use Rattle.lmn_heap.specs.Heap.{Heap, HeapAtom, HeapMem, Place, within, gone, mem_with_atoms, mem_with_mems, mem_with_place, without, arity_of, mem_place_of, mems_in, rules_in, spare_of, spare_by, atom_out, mem_out, home_of, parent_of, IsMem, IsInPlace, IsMemInPlace, In, Distinct, taken, taken_mem, taken_all}
 use Rattle.lmn_heap.specs.Sound.{Listed, Valid}
 use Rattle.lmn_heap.proofs.ListLemmas.{each_in}
 use Rattle.lmn_heap.proofs.Trees.{nil_right}
@@ -12,7 +12,6 @@ use Rattle.lmn_heap.proofs.Replacing.{no_waiting, no_waiting_mems}
 use Rattle.lmn_solid.specs.declared.items.HeadItem.{HeadItem}
 use Rattle.lmn_solid.specs.Heads.{HeadMembrane, atoms_of, membranes_of}
 use Rattle.lmn_solid.specs.Embeddings.{Embeds, HasMembrane}
-use Rattle.lmn_splice.specs.Ports.{Port}
 use Rattle.lmn_splice.specs.Classes.{class_of, rising, body_ties}
 use Rattle.lmn_splice.specs.Splice.{Splice, ports, links}
 use Rattle.lmn_splice.specs.Splice as splice
@@ -21,7 +20,7 @@ use Rattle.lmn_body.specs.declared.items.BodyItem.{BodyItem}
 use Rattle.lmn_body.specs.Tied.{partners}
 use Rattle.lmn_body.specs.Items.{new_ports, old_ports, connectors}
 use Rattle.lmn_body.specs.Code.{making, links_code}
-use Rattle.lmn_body.specs.Running.{Registers, old_port, new_port, withouts, all_taken, Commits}
+use Rattle.lmn_body.specs.Running.{Registers, old_port, new_port, DoesAll}
 use Rattle.lmn_body.specs.Conditions.{StandsAsPort, CanRun}
 use Rattle.lmn_body.specs.Names.{Names}
 use Rattle.lmn_body.specs.Added.{added_rules, moved_mems, made_mems}
@@ -29,7 +28,6 @@ use Rattle.lmn_body.specs.Made.{new_atoms}
 use Rattle.lmn_body.specs.Rules.{AtomRule, Goes, Exists, Nests, HeadNests, PartAtoms}
 use Rattle.lmn_body.specs.Within.{membrane_images}
 use Rattle.lmn_body.proofs.Firing.{links_below, old_port_stands, arity_old}
-use Rattle.lmn_body.proofs.Removing as removing
 use Rattle.lmn_body.proofs.Coding.{at_heap}
 use Rattle.lmn_body.proofs.ListOps.{change_keeps, place_by, out_place}
 use Rattle.lmn_body.proofs.MakingParts.{same_rules_added}
@@ -41,6 +39,9 @@ use Rattle.lmn_body.proofs.LinksCan.{all_can, links_can}
 use Rattle.lmn_body.proofs.Nesting as nesting
 use Rattle.lmn_body.proofs.TreeAfter as treeafter
 use Rattle.lmn_body.proofs.Soundness as soundness
+use Rattle.lmn_base.specs.Graphs.{Port}
+use Rattle.lmn_heap.specs.Lists.{without_all}
+use Rattle.lmn_heap.proofs.Common.{in_of_without}
 
 -- membranes that aren't taken stay, and those that are are gone
 taken_mems_away : (ks : List ℕ) (s : Heap) (x : ℕ) → (In x ks → ⊥) → mem_place_of (all_taken_mems s ks) x ≡ mem_place_of s x
@@ -66,7 +67,7 @@ taken_mems_gone (k ∷ ks) s d p x (inl e) =
 taken_mems_gone (k ∷ ks) s d p x (inr i) =
     taken_mems_gone ks (taken_mem s k) d.1 (λ b j. let w = p b (inr j) in (w.0, out_place s k b (λ e. each_in (λ z. k ≢ z) ks b d.0 j (sym e)) ∙ w.1)) x i
 
-taken_spare : (ns : List ℕ) (s : Heap) (x : ℕ) → spare_of (all_taken s ns) x ≡ spare_of s x
+taken_spare : (ns : List ℕ) (s : Heap) (x : ℕ) → spare_of (taken_all s ns) x ≡ spare_of s x
 taken_spare [] s x = refl
 taken_spare (a ∷ ns) s x = taken_spare ns (taken s a) x ∙ by (home_of s a)
   where
@@ -152,7 +153,7 @@ module _ (h : Heap) (valid : Valid h) (head : List HeadItem) (guard : List Cond)
         let child = in_left_mems p x (subst (In x) (nesting.mems_t2 h valid head guard body n m r rule em stand c names goes contexts ps parts s pr p) i) in
         treeafter.old_up h valid head guard body n m r rule em stand c names goes contexts ps parts s pr nests head_nests p x (never_new p (mem_of_list h p x child)) (never_new x (child_mem p x child))
         (treeafter.child_later h valid head guard body n m r rule em stand c names goes contexts ps parts s pr nests head_nests p x child);
-    place = λ x i. elim i [ inl e ↦ subst heap.StandsAt (sym (ap (mem_place_of t2) e ∙ place_t2 m home_apart ∙ pr.mems.places m home_mem)) stand | inr v ↦ absurd v ];
+    place = λ x i. elim i [ inl e ↦ subst heap.IsTopOrWithin (sym (ap (mem_place_of t2) e ∙ place_t2 m home_apart ∙ pr.mems.places m home_mem)) stand | inr v ↦ absurd v ];
     gone_ks = taken_mems_gone ks t1 (nesting.ks_once h valid head guard body n m r rule em stand c names goes contexts ps parts s pr) (λ k i. some_place t1 k (stands_t1 k i));
     wait = λ x i. place_t2 x (new_apart x i) ∙ (listed_s.new_mems x).0 (subst (In x) (sym line_s) i);
     line = (
@@ -169,15 +170,15 @@ module _ (h : Heap) (valid : Valid h) (head : List HeadItem) (guard : List Cond)
       line_s : s.new_mems ≡ nm
       line_s = pr.mems.line ∙ ap (λ xs. xs ++ nm) (no_waiting_mems h valid.sound.listed valid.settled)
 
-      in_left_mems : (p x : ℕ) → In x (withouts ks (mems_in h p)) → In x (mems_in h p)
+      in_left_mems : (p x : ℕ) → In x (without_all ks (mems_in h p)) → In x (mems_in h p)
       in_left_mems p x i = go ks (mems_in h p) i
         where
-          go : (ks xs : List ℕ) → In x (withouts ks xs) → In x xs
+          go : (ks xs : List ℕ) → In x (without_all ks xs) → In x xs
           go [] xs i = i
           go (k ∷ ks) xs i = less xs (go ks (without k xs) i)
             where
               less : (xs : List ℕ) → In x (without k xs) → In x xs
-              less xs i = removing.in_less k x xs i
+              less xs i = in_of_without k x xs i
 
       child_mem : (p x : ℕ) → In x (mems_in h p) → IsMem h x
       child_mem p x i = by (h.mems x) ((valid.sound.listed.mems p x).0 i)
@@ -203,7 +204,7 @@ module _ (h : Heap) (valid : Valid h) (head : List HeadItem) (guard : List Cond)
   pub making_part_can : CanRun r (making N (1 + K) 0 body) t2
   making_part_can = making_can r m ks nm rank (Exists h r head body) ranked [] N (1 + K) 0 body refl goes nests t2 state_t2
 
-  module _ (t3 : Heap) (run : Commits r (making N (1 + K) 0 body) t2 t3) where
+  module _ (t3 : Heap) (run : DoesAll r (making N (1 + K) 0 body) t2 t3) where
     abbrev news : List (Port × ℕ)
     news = at_heap (new_port r) (new_ports N 0 body)
 
@@ -220,7 +221,7 @@ module _ (h : Heap) (valid : Valid h) (head : List HeadItem) (guard : List Cond)
     sp = subst (λ k. Splice F c k news olds wires) (sym (nesting.same_partners h valid head guard body n m r rule em stand c names goes contexts ps parts s pr t3 run))
         (nesting.sp_s h valid head guard body n m r rule em stand c names goes contexts ps parts s pr t3 run)
 
-    below : (x : ℕ) → splice.In x (links news ++ links olds) → x < n
+    below : (x : ℕ) → splice.IsOneOf x (links news ++ links olds) → x < n
     below = links_below h valid head guard body n m r rule em stand c names pr.free ps parts
 
     -- a port of the heap where all waits is one after the making part
@@ -230,7 +231,7 @@ module _ (h : Heap) (valid : Valid h) (head : List HeadItem) (guard : List Cond)
       subst (λ k. p.1 < k) (sym (nesting.arities_t3 h valid head guard body n m r rule em stand c names goes contexts ps parts s pr t3 run p.0)) l,
     )
       where
-        has_ports : (o : Option HeapAtom) → p.1 < length (heap.links_of o) → IsSome o
+        has_ports : (o : Option HeapAtom) → p.1 < length (heap.partners_of o) → IsSome o
         has_ports None l = absurd (off l)
           where
             off : p.1 < 0 → ⊥
@@ -242,13 +243,13 @@ module _ (h : Heap) (valid : Valid h) (head : List HeadItem) (guard : List Cond)
         some (Some x) None e i = absurd (cc)
         some (Some x) (Some y) e i = refl
 
-    old_stands : (p : Port) → splice.In p (ports olds) → StandsAsPort t3 p
+    old_stands : (p : Port) → splice.IsOneOf p (ports olds) → StandsAsPort t3 p
     old_stands p i =
         let w = old_port_stands h valid head guard body n m r rule em stand c names pr.free ps parts p i in
         stands_t3 p (subst (λ k. p.1 < k) (sym (old_arity p.0 w.0)) w.1)
       where
         old_arity : (a : ℕ) → IsInPlace h a → arity_of s a ≡ arity_of h a
-        old_arity a i = ap (λ (f : ℕ → Option HeapAtom). length (heap.links_of (f a))) pr.atoms.atoms ∙ arity_old h valid head guard body n m r rule em stand c names pr.free ps parts a i
+        old_arity a i = ap (λ (f : ℕ → Option HeapAtom). length (heap.partners_of (f a))) pr.atoms.atoms ∙ arity_old h valid head guard body n m r rule em stand c names pr.free ps parts a i
 
     pub links_part_can : CanRun r (links_code (class_of wires) (new_ports N 0 body) (old_ports head) (rising 0 n)) t3
     links_part_can = links_can r (class_of wires) (new_ports N 0 body) (old_ports head) (rising 0 n) t3

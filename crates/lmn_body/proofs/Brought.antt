@@ -5,8 +5,8 @@ use Rattle.std.proofs.lemmas.List.{append_assoc}
 use Rattle.std.specs.Option.{option_map, option_and_then}
 use Rattle.std.specs.Prelude.{slice_index_or}
 use Rattle.lmn_base.specs.declared.functor.Functor.{Functor}
-use Rattle.lmn_base.specs.Graphs.{Reached, at_root, across}
-use Rattle.lmn_heap.specs.Heap.{Heap, HeapAtom, within, waiting, top, links_of, functor_of, arity_of, link_of, place_of, IsAtom, In, Distinct, made_atom}
+use Rattle.lmn_base.specs.Graphs.{Reached, at_root, across, Port}
+use Rattle.lmn_heap.specs.Heap.{Heap, HeapAtom, within, waiting, top, partners_of, functor_of, arity_of, link_of, place_of, IsAtom, In, Distinct, made_atom}
 use Rattle.lmn_heap.specs.Heap as heap
 use Rattle.lmn_heap.specs.Sound.{Paired, Shaped, Listed}
 use Rattle.lmn_heap.specs.Graphs.{atom_map}
@@ -16,15 +16,15 @@ use Rattle.lmn_heap.proofs.Trees.{in_either, nil_right}
 use Rattle.lmn_heap.proofs.Depths.{both_distinct}
 use Rattle.lmn_heap.proofs.Replacing.{port_within}
 use Rattle.lmn_heap.proofs.Shapes.{WellShaped, shaped_of, shaped_at, made_shape, joined_shape}
-use Rattle.lmn_parts.specs.Walks.{HasPort, Walk, ends, passes, finds, ports, is_port, kept, net, next, IsPart}
+use Rattle.lmn_parts.specs.Walks.{HasPort, Walk, ends, passes, finds, port_range, is_port, kept, net, neighbour, IsPartInDepth}
 use Rattle.lmn_parts.specs.Copies.{made_as, made_like, moved, joined_like, all_joined, ports_of, answer, copied, Copied}
 use Rattle.lmn_parts.proofs.WalkLaws.{only, once, closed, start_covers, kept_seen}
 use Rattle.lmn_parts.proofs.AnswerLaws.{answer_in, answer_onto}
-use Rattle.lmn_splice.specs.Ports.{Port}
-use Rattle.lmn_splice.proofs.Joining.{port_cases}
 use Rattle.lmn_body.specs.Tied.{partners}
 use Rattle.lmn_body.specs.Within.{IsCopyIn}
 use Rattle.lmn_body.proofs.Making.{made_at, made_away, made_paired, made_shaped}
+use Rattle.lmn_base.proofs.Common.{port_cases}
+use Rattle.lmn_heap.proofs.Common.{is_atom_at}
 
 -- From s to t new atoms are made, and wait; each other atom is as it was.
 pub record Brings (s t : Heap) (new : List ℕ) : Type 0 where
@@ -178,10 +178,10 @@ made_shapes (x ∷ xs) (y ∷ ys) s w = made_shapes xs ys (made_as s y (functor_
     one (Some f) = made_shape s.atoms y f w
 
 -- a walk doesn't leave by its root, and goes on from each other port that has a partner
-none_at : (s : Heap) (p : Port) → next (net s) p (λ _. true) p ≡ None
+none_at : (s : Heap) (p : Port) → neighbour (net s) p (λ _. true) p ≡ None
 none_at s p = rw (eq-eqb p.0 p.0 refl) (rw (eq-eqb p.1 p.1 refl) refl)
 
-leads : (s : Heap) (root p q : Port) → p ≢ root → link_of s p.0 p.1 ≡ Some q → next (net s) root (λ _. true) p ≡ Some q.0
+leads : (s : Heap) (root p q : Port) → p ≢ root → link_of s p.0 p.1 ≡ Some q → neighbour (net s) root (λ _. true) p ≡ Some q.0
 leads s root p q d e = ap (λ o. cond (is_port p root) None (option_and_then (kept (λ _. true)) o)) e ∙ by (is_port p root) refl
   where
     by : (t : Bool) → is_port p root ≡ t → cond t None (Some q.0) ≡ Some q.0
@@ -197,19 +197,19 @@ leads s root p q d e = ap (λ o. cond (is_port p root) None (option_and_then (ke
     by false f = refl
 
 -- atoms of a part are those that are reached
-pub in_part : (s : Heap) (root : Port) (xs : List ℕ) → IsPart s root xs → (a : ℕ) → In a xs → Reached (atom_map s) root a
-in_part s root xs part a i = only (net s).arity (next (net s) root (λ _. true)) (Reached (atom_map s) root) step part
+pub in_part : (s : Heap) (root : Port) (xs : List ℕ) → IsPartInDepth s root xs → (a : ℕ) → In a xs → Reached (atom_map s) root a
+in_part s root xs part a i = only (net s).arity (neighbour (net s) root (λ _. true)) (Reached (atom_map s) root) step part
     (λ x j. elim j [ inl e ↦ subst (Reached (atom_map s) root) e at_root | inr v ↦ absurd v ])
     (λ p k. subst (Reached (atom_map s) root) (sym (port_atom root.0 0 ((net s).arity root.0) p k)) at_root) a i
   where
-    port_atom : (a i n : ℕ) (p : Port) → HasPort p (ports a i n) → p.0 ≡ a
+    port_atom : (a i n : ℕ) (p : Port) → HasPort p (port_range a i n) → p.0 ≡ a
     port_atom a i zero p k = absurd k
     port_atom a i (suc n) p (inl e) = ap (λ (q : Port). q.0) (sym e)
     port_atom a i (suc n) p (inr k) = port_atom a (i + 1) n p k
 
-    step : (a i b : ℕ) → Reached (atom_map s) root a → next (net s) root (λ _. true) (a, i) ≡ Some b → Reached (atom_map s) root b
+    step : (a i b : ℕ) → Reached (atom_map s) root a → neighbour (net s) root (λ _. true) (a, i) ≡ Some b → Reached (atom_map s) root b
     step a i b r e = elim (port_cases (a, i) root) [
-      | inl o ↦ some_not_none b _ (ap (next (net s) root (λ _. true)) o ∙ none_at s root) e
+      | inl o ↦ some_not_none b _ (ap (neighbour (net s) root (λ _. true)) o ∙ none_at s root) e
       | inr d ↦ by (is_port (a, i) root) (link_of s a i) refl d e
     ]
       where
@@ -219,10 +219,10 @@ in_part s root xs part a i = only (net s).arity (next (net s) root (λ _. true))
         by false (Some q) f d e = let g : q.0 ≡ b = (cc) in subst (Reached (atom_map s) root) g (across {a = a} {b = q.0} {i = i} {j = q.1} r d f)
 
 -- and all of them
-pub part_all : (s : Heap) (root : Port) (xs : List ℕ) → Paired s → IsPart s root xs → (a : ℕ) → Reached (atom_map s) root a → In a xs
-part_all s root xs p part a at_root = kept_seen (net s).arity (next (net s) root (λ _. true)) part root.0 (inl refl)
+pub part_all : (s : Heap) (root : Port) (xs : List ℕ) → Paired s → IsPartInDepth s root xs → (a : ℕ) → Reached (atom_map s) root a → In a xs
+part_all s root xs p part a at_root = kept_seen (net s).arity (neighbour (net s) root (λ _. true)) part root.0 (inl refl)
 part_all s root xs p part a (across {a = b} {i = i} {j = j} r d e) =
-    let w = closed (net s).arity (next (net s) root (λ _. true)) part (start_covers (net s).arity (next (net s) root (λ _. true)) root.0)
+    let w = closed (net s).arity (neighbour (net s) root (λ _. true)) part (start_covers (net s).arity (neighbour (net s) root (λ _. true)) root.0)
     b i a (part_all s root xs p part b r) (port_within s b i (a, j) e) (leads s root (b, i) (a, j) d e) in
     elim w [ inl k ↦ k | inr v ↦ absurd v ]
 
@@ -243,15 +243,8 @@ pub record HasCopy (h s : Heap) (root copy : Port) (ys : List ℕ) : Type 0 wher
   pub free : partners s copy ≡ None
   pub inside : (p : Port) → In p.0 ys → p.1 < arity_of s p.0 → p ≢ copy → (q : Port) × In q.0 ys × (partners s p ≡ Some q)
 
-pub is_atom_at : (s : Heap) (a i : ℕ) → i < arity_of s a → IsAtom s a
-is_atom_at s a i l = by (s.atoms a) l
-  where
-    by : (o : Option HeapAtom) → i < length (links_of o) → IsSome o
-    by None l = absurd (omega arith)
-    by (Some x) l = refl
-
 abbrev link_at : Option HeapAtom → ℕ → Option Port
-link_at o i = slice_index_or (links_of o) i None
+link_at o i = slice_index_or (partners_of o) i None
 
 -- what was there before stays as it was
 abbrev pub Old : Heap → Heap → Type 0
@@ -288,7 +281,7 @@ module _ (s t : Heap) (root copy : Port) (c : Copied s t root copy) where
   ys = c.copies
 
   atoms_once : Distinct xs
-  atoms_once = once (net s).arity (next (net s) root (λ _. true)) c.part (tt, tt)
+  atoms_once = once (net s).arity (neighbour (net s) root (λ _. true)) c.part (tt, tt)
 
   origin : (y : ℕ) → In y ys → (x : ℕ) × In x xs × Reached (atom_map s) root x × (c.same.to x ≡ y)
   origin y i = let w = answer_onto xs ys y (sym c.long) atoms_once i in (w.0, w.1, in_part s root xs c.part w.0 w.1, c.answers w.0 ∙ w.2)
@@ -343,13 +336,13 @@ module _ (s t : Heap) (root copy : Port) (c : Copied s t root copy) where
     in_h : (a : ℕ) → Reached (atom_map s) root a → IsAtom h a × Reached (atom_map h) root a
     in_h = reached_into h s root paired whole.atom (λ p is. link_old p.0 p.1 is)
 
-    same_next : (p : Port) → IsAtom h p.0 → next (net s) root (λ _. true) p ≡ next (net h) root (λ _. true) p
+    same_next : (p : Port) → IsAtom h p.0 → neighbour (net s) root (λ _. true) p ≡ neighbour (net h) root (λ _. true) p
     same_next p is = ap (λ q. cond (is_port p root) None (option_and_then (kept (λ _. true)) q)) (link_old p.0 p.1 is)
 
     arity_old : (a : ℕ) → IsAtom h a → arity_of s a ≡ arity_of h a
-    arity_old a is = ap (λ (q : Option HeapAtom). length (links_of q)) (old a is)
+    arity_old a is = ap (λ (q : Option HeapAtom). length (partners_of q)) (old a is)
 
-    next_is : (p : Port) (b : ℕ) → next (net h) root (λ _. true) p ≡ Some b → IsAtom h b
+    next_is : (p : Port) (b : ℕ) → neighbour (net h) root (λ _. true) p ≡ Some b → IsAtom h b
     next_is p b e = by (is_port p root) (link_of h p.0 p.1) refl e
       where
         by : (u : Bool) (o : Option Port) → link_of h p.0 p.1 ≡ o → cond u None (option_and_then (kept (λ _. true)) o) ≡ Some b → IsAtom h b
@@ -357,24 +350,24 @@ module _ (s t : Heap) (root copy : Port) (c : Copied s t root copy) where
         by false None f e = absurd (cc)
         by false (Some q) f e = let g : q.0 ≡ b = (cc) in subst (IsAtom h) g (other_end_of p.0 p.1 q.0 q.1 f)
 
-    ports_there : (b i n : ℕ) (ps : List Port) → IsAtom h b → ((p : Port) → HasPort p ps → IsAtom h p.0) → (p : Port) → HasPort p (ports b i n ++ ps) → IsAtom h p.0
+    ports_there : (b i n : ℕ) (ps : List Port) → IsAtom h b → ((p : Port) → HasPort p ps → IsAtom h p.0) → (p : Port) → HasPort p (port_range b i n ++ ps) → IsAtom h p.0
     ports_there b i zero ps is r p k = r p k
     ports_there b i (suc n) ps is r p (inl e) = subst (λ (q : Port). IsAtom h q.0) e is
     ports_there b i (suc n) ps is r p (inr k) = ports_there b (i + 1) n ps is r p k
 
-    walk_old : {seen all : List ℕ} {ps : List Port} → Walk (net s).arity (next (net s) root (λ _. true)) seen ps all → ((p : Port) → HasPort p ps → IsAtom h p.0)
-        → Walk (net h).arity (next (net h) root (λ _. true)) seen ps all
+    walk_old : {seen all : List ℕ} {ps : List Port} → Walk (net s).arity (neighbour (net s) root (λ _. true)) seen ps all → ((p : Port) → HasPort p ps → IsAtom h p.0)
+        → Walk (net h).arity (neighbour (net h) root (λ _. true)) seen ps all
     walk_old ends r = ends
     walk_old (passes {p = p} k w) r = passes (λ b e. k b (same_next p (r p (inl refl)) ∙ e)) (walk_old w (λ q i. r q (inr i)))
     walk_old {all = all} (finds {seen = seen} {ps = ps} {p = p} {b = b} e n w) r =
-        let e' : next (net h) root (λ _. true) p ≡ Some b = sym (same_next p (r p (inl refl))) ∙ e in
+        let e' : neighbour (net h) root (λ _. true) p ≡ Some b = sym (same_next p (r p (inl refl))) ∙ e in
         let is = next_is p b e' in
-        finds e' n (subst (λ (k : ℕ). Walk (net h).arity (next (net h) root (λ _. true)) (seen ++ b ∷ []) (ports b 0 k ++ ps) all) (arity_old b is)
+        finds e' n (subst (λ (k : ℕ). Walk (net h).arity (neighbour (net h) root (λ _. true)) (seen ++ b ∷ []) (port_range b 0 k ++ ps) all) (arity_old b is)
         (walk_old w (ports_there b 0 ((net s).arity b) ps is (λ q i. r q (inr i)))))
 
-    part_old : IsPart h root xs
-    part_old = subst (λ (k : ℕ). Walk (net h).arity (next (net h) root (λ _. true)) (root.0 ∷ []) (ports root.0 0 k) xs) (arity_old root.0 whole.atom)
-        (walk_old c.part (λ p k. ports_there root.0 0 ((net s).arity root.0) [] whole.atom (λ q v. absurd v) p (subst (HasPort p) (sym (no_more (ports root.0 0 ((net s).arity root.0)))) k)))
+    part_old : IsPartInDepth h root xs
+    part_old = subst (λ (k : ℕ). Walk (net h).arity (neighbour (net h) root (λ _. true)) (root.0 ∷ []) (port_range root.0 0 k) xs) (arity_old root.0 whole.atom)
+        (walk_old c.part (λ p k. ports_there root.0 0 ((net s).arity root.0) [] whole.atom (λ q v. absurd v) p (subst (HasPort p) (sym (no_more (port_range root.0 0 ((net s).arity root.0)))) k)))
       where
         no_more : (ps : List Port) → ps ++ [] ≡ ps
         no_more [] = refl
@@ -457,7 +450,7 @@ has_copy_on {t = t} {u = u} h root copy ys b k =
       there = λ y i. subst (λ (o : Option HeapAtom). IsSome o) (sym (same y i)) (k.there y i);
       from = λ y i. let w = k.from y i in (w.0, w.1, ap (option_map (λ (x : HeapAtom). x.functor)) (same y i) ∙ w.2);
       ours = k.ours;
-      port = subst (λ (o : Option HeapAtom). copy.1 < length (links_of o)) (sym (same copy.0 k.ours)) k.port;
+      port = subst (λ (o : Option HeapAtom). copy.1 < length (partners_of o)) (sym (same copy.0 k.ours)) k.port;
       free = ap (λ q. link_at q copy.1) (same copy.0 k.ours) ∙ k.free;
-      inside = λ p i l d. let w = k.inside p i (subst (λ (o : Option HeapAtom). p.1 < length (links_of o)) (same p.0 i) l) d in (w.0, w.1, ap (λ q. link_at q p.1) (same p.0 i) ∙ w.2);
+      inside = λ p i l d. let w = k.inside p i (subst (λ (o : Option HeapAtom). p.1 < length (partners_of o)) (same p.0 i) l) d in (w.0, w.1, ap (λ q. link_at q p.1) (same p.0 i) ∙ w.2);
     }

@@ -7,9 +7,7 @@ use Rattle.lmn_heap.specs.Heap.{Heap, HeapAtom, IsAtom, In}
 use Rattle.lmn_heap.specs.Sound.{Paired}
 use Rattle.lmn_parts.specs.Walks.{is_in}
 use Rattle.lmn_solid.specs.declared.items.HeadItem.{HeadItem}
-use Rattle.lmn_splice.specs.Ports.{Port}
 use Rattle.lmn_splice.specs.Splice.{of_rule, of_solid}
-use Rattle.lmn_splice.specs.Splice as splice
 use Rattle.lmn_instr.specs.declared.instr.AtomPort.{AtomPort}
 use Rattle.lmn_body.specs.declared.items.BodyItem.{BodyItem}
 use Rattle.lmn_body.specs.Tied.{partners}
@@ -17,10 +15,14 @@ use Rattle.lmn_body.specs.Names.{StandsPort, Names}
 use Rattle.lmn_body.specs.Items.{old_ports}
 use Rattle.lmn_body.specs.Running.{Registers, old_port}
 use Rattle.lmn_body.specs.Within.{FiresWithin}
-use Rattle.lmn_body.proofs.Brought.{Brings, brought_old, is_atom_at, atom_not_none}
-use Rattle.lmn_body.proofs.Numbering.{code, lesser, one_link}
+use Rattle.lmn_body.proofs.Brought.{Brings, brought_old, atom_not_none}
+use Rattle.lmn_body.proofs.Numbering.{one_link}
 use Rattle.lmn_heap.proofs.Replacing.{port_within}
 use Rattle.std.specs.Option.{option_and_then}
+use Rattle.lmn_base.specs.Graphs.{Port}
+use Rattle.lmn_heap.proofs.Common.{is_atom_at}
+use Rattle.lmn_base.proofs.Common.{lesser, port_number}
+use Rattle.lmn_splice.specs.Splice as splice
 use Rattle.lmn_heap.specs.Heap as heap
 
 -- ports of new atoms have odd colours, by their links in s; the others the even ones, by their colours
@@ -60,7 +62,7 @@ module _ (h s : Heap) (new : List ℕ) (b : Brings h s new) (paired_h : Paired h
   pub old_colour : (p : Port) → IsAtom h p.0 → d p ≡ c p + c p
   old_colour p is = ap (λ t. cond t (suc (lesser p (partners s p) + lesser p (partners s p))) (c p + c p)) (in_false new p.0 (brought_old b p.0 is).0)
 
-  inner_colour : (p q : Port) → In p.0 new → partners s p ≡ Some q → d p ≡ suc (min (code p) (code q) + min (code p) (code q))
+  inner_colour : (p q : Port) → In p.0 new → partners s p ≡ Some q → d p ≡ suc (min (port_number p) (port_number q) + min (port_number p) (port_number q))
   inner_colour p q i e =
       ap (λ t. cond t (suc (lesser p (partners s p) + lesser p (partners s p))) (c p + c p)) (in_true new p.0 i)
       ∙ ap (λ o. suc (lesser p o + lesser p o)) e
@@ -80,7 +82,7 @@ module _ (h s : Heap) (new : List ℕ) (b : Brings h s new) (paired_h : Paired h
       by (inl j) = j
       by (inr o) =
           let back : partners s q ≡ Some p = paired.back p.0 p.1 q.0 q.1 e in
-          let in_h : partners h q ≡ Some p = ap (λ (x : Option HeapAtom). slice_index_or (heap.links_of x) q.1 None) (sym (b.others q.0 o)) ∙ back in
+          let in_h : partners h q ≡ Some p = ap (λ (x : Option HeapAtom). slice_index_or (heap.partners_of x) q.1 None) (sym (b.others q.0 o)) ∙ back in
           let is = is_atom_at h p.0 p.1 (port_within h p.0 p.1 q (paired_h.back q.0 q.1 p.0 p.1 in_h)) in
           atom_not_none (h.atoms p.0) (b.fresh p.0 i) is
 
@@ -92,18 +94,18 @@ module _ (h s : Heap) (new : List ℕ) (b : Brings h s new) (paired_h : Paired h
 
   pub same_beside : (p q : Port) → In p.0 new → partners s p ≡ Some q → d q ≡ d p
   same_beside p q i e =
-      inner_colour q p (partner_new p q i e) (paired.back p.0 p.1 q.0 q.1 e) ∙ ap (λ k. suc (k + k)) (min_comm (code q) (code p)) ∙ sym (inner_colour p q i e)
+      inner_colour q p (partner_new p q i e) (paired.back p.0 p.1 q.0 q.1 e) ∙ ap (λ k. suc (k + k)) (min_comm (port_number q) (port_number p)) ∙ sym (inner_colour p q i e)
 
   pub only_beside : (p q x y : Port) → In p.0 new → In q.0 new → partners s p ≡ Some x → partners s q ≡ Some y → d p ≡ d q → (p ≡ q) ⊎ (partners s p ≡ Some q)
   only_beside p q x y i j ex ey e =
       one_link s (λ p q e. paired.back p.0 p.1 q.0 q.1 e) p q x y ex ey
-      (twice_one (min (code p) (code x)) (min (code q) (code y)) (less (min (code p) (code x) + min (code p) (code x)) (min (code q) (code y) + min (code q) (code y)) (sym (inner_colour p x i ex) ∙ e ∙ inner_colour q y j ey)))
+      (twice_one (min (port_number p) (port_number x)) (min (port_number q) (port_number y)) (less (min (port_number p) (port_number x) + min (port_number p) (port_number x)) (min (port_number q) (port_number y) + min (port_number q) (port_number y)) (sym (inner_colour p x i ex) ∙ e ∙ inner_colour q y j ey)))
     where
       less : (u v : ℕ) → suc u ≡ suc v → u ≡ v
       less u v e = omega (arith, e)
 
   pub apart_beside : (p q x : Port) → In p.0 new → partners s p ≡ Some x → StandsPort h q → d p ≢ d q
-  apart_beside p q x i ex st e = odd_even (min (code p) (code x)) (c q) (sym (inner_colour p x i ex) ∙ e ∙ old_colour q (stands_atom q st))
+  apart_beside p q x i ex st e = odd_even (min (port_number p) (port_number x)) (c q) (sym (inner_colour p x i ex) ∙ e ∙ old_colour q (stands_atom q st))
 
 -- Raw links by colours that are twice as large
 
@@ -140,7 +142,7 @@ stretched_solid x = ap (λ t. cond (not t) (suc (x + x) + (suc (x + x) - 1)) (su
 
 -- A firing by such colours is one by the colours of the heap.
 pub fires_by : (h h' : Heap) (c d : Port → ℕ) (r : Registers) (head : List HeadItem) (body : List BodyItem) (taken : List ℕ) → ((p : Port) → IsAtom h p.0 → d p ≡ c p + c p)
-    → ((e : AtomPort × ℕ) → splice.In e (old_ports head) → IsAtom h (old_port r e.0).0) → FiresWithin h d r head body taken h' → FiresWithin h c r head body taken h'
+    → ((e : AtomPort × ℕ) → splice.IsOneOf e (old_ports head) → IsAtom h (old_port r e.0).0) → FiresWithin h d r head body taken h' → FiresWithin h c r head body taken h'
 fires_by h h' c d r head body taken colour there f = record {
   to = λ z. f.to (stretched z);
   connectors_fused = λ e i. ap f.to (stretched_rule e.0) ∙ f.connectors_fused e i ∙ ap f.to (sym (stretched_rule e.1));

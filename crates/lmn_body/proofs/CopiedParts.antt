@@ -9,10 +9,10 @@ use Rattle.lmn_base.specs.declared.level.Level.TheFolds.{fold-roll-Level, ind-Le
 use Rattle.lmn_base.specs.declared.level.CtxUse.{CtxUse}
 use Rattle.lmn_base.specs.Solids.{connector}
 use Rattle.lmn_heap.specs.Functors.{same_functor}
-use Rattle.lmn_splice.specs.Splice.{In}
+use Rattle.lmn_splice.specs.Splice.{IsOneOf}
 use Rattle.lmn_body.specs.declared.items.BodyItem.{BodyItem}
 use Rattle.lmn_body.specs.declared.items.BodyItem.TheVariants.{Atom, Connector, Copy, Bound, Membrane, Rest, Rule, Rules}
-use Rattle.lmn_body.specs.Flattening.{BodyNames, Unnumbered, atom_item, typed_item, leaf_items, membrane_items, context_items, rule_items, rule_context_items, flatten_step, body_items}
+use Rattle.lmn_body.specs.Flattening.{BodyNames, UnnumberedBody, atom_item, typed_item, body_leaf_items, body_membrane_items, context_items, body_rule_items, rule_context_items, flatten_body_step, body_items}
 use Rattle.lmn_body.specs.Made.{copies_of}
 use Rattle.lmn_body.proofs.Flattened.{flattened, regroup, nil_right}
 
@@ -28,7 +28,7 @@ Parts P (Rest of inside ∷ xs) = Parts P xs
 Parts P (Rule rule inside ∷ xs) = Parts P xs
 Parts P (Rules of inside ∷ xs) = Parts P xs
 
-each_part : (P : ℕ → Type 0) (c : ℕ) (body : List BodyItem) → Parts P body → (e : ℕ × ℕ) → In e (copies_of c body) → P e.1
+each_part : (P : ℕ → Type 0) (c : ℕ) (body : List BodyItem) → Parts P body → (e : ℕ × ℕ) → IsOneOf e (copies_of c body) → P e.1
 each_part P c [] w e i = absurd i
 each_part P c (Atom functor links inside ∷ xs) w e i = each_part P c xs w e i
 each_part P c (Connector left right ∷ xs) w e i = each_part P c xs w e i
@@ -52,16 +52,16 @@ module _ (s : BodyNames) (k : ℕ) (P : ℕ → Type 0) (named : (x g : ℕ) →
   typed_parts x None e v l inside rest w = w
   typed_parts x (Some g) e v l inside rest w = (named x g e, w)
 
-  leaf_parts : (inside : ℕ) (ls : List Leaf) (rest : List BodyItem) → Parts P rest → Parts P (leaf_items s inside ls ++ rest)
+  leaf_parts : (inside : ℕ) (ls : List Leaf) (rest : List BodyItem) → Parts P rest → Parts P (body_leaf_items s inside ls ++ rest)
   leaf_parts inside [] rest w = w
-  leaf_parts inside (leaf.Atom f os p ∷ ls) rest w = atom_parts (same_functor f connector) f (map (λ o. o.link) os) inside (leaf_items s inside ls ++ rest) (leaf_parts inside ls rest w)
-  leaf_parts inside (leaf.Typed n o p ∷ ls) rest w = typed_parts n (s.part n) refl (s.integer n) o.link inside (leaf_items s inside ls ++ rest) (leaf_parts inside ls rest w)
+  leaf_parts inside (leaf.Atom f os p ∷ ls) rest w = atom_parts (same_functor f connector) f (map (λ o. o.link) os) inside (body_leaf_items s inside ls ++ rest) (leaf_parts inside ls rest w)
+  leaf_parts inside (leaf.Typed n o p ∷ ls) rest w = typed_parts n (s.part n) refl (s.integer n) o.link inside (body_leaf_items s inside ls ++ rest) (leaf_parts inside ls rest w)
 
   context_parts : (inside : ℕ) (us : List CtxUse) (rest : List BodyItem) → Parts P rest → Parts P (context_items s inside us ++ rest)
   context_parts inside [] rest w = w
   context_parts inside (u ∷ us) rest w = context_parts inside us rest w
 
-  rule_parts : (inside : ℕ) (ks : List ℕ) (rest : List BodyItem) → Parts P rest → Parts P (rule_items inside ks ++ rest)
+  rule_parts : (inside : ℕ) (ks : List ℕ) (rest : List BodyItem) → Parts P rest → Parts P (body_rule_items inside ks ++ rest)
   rule_parts inside [] rest w = w
   rule_parts inside (x ∷ xs) rest w = rule_parts inside xs rest w
 
@@ -73,23 +73,23 @@ module _ (s : BodyNames) (k : ℕ) (P : ℕ → Type 0) (named : (x g : ℕ) →
   PartsAre l = (inside next : ℕ) (rest : List BodyItem) → Parts P rest → Parts P ((flattened s k l).items inside next ++ rest)
 
   abbrev InnerParts : List Level → Type 0
-  InnerParts ls = (inside next : ℕ) (rest : List BodyItem) → Parts P rest → Parts P (membrane_items inside next (map (flattened s k) ls) ++ rest)
+  InnerParts ls = (inside next : ℕ) (rest : List BodyItem) → Parts P rest → Parts P (body_membrane_items inside next (map (flattened s k) ls) ++ rest)
 
   inner_parts : (ls : List ((l : Level) × PartsAre l)) → InnerParts (map (λ e. e.0) ls)
   inner_parts [] inside next rest w = w
   inner_parts (e ∷ ls) inside next rest w =
       let size = (flattened s k e.0).size in
       let others = map (flattened s k) (map (λ (e : (l : Level) × PartsAre l). e.0) ls) in
-      subst (Parts P) (sym (append_assoc ((flattened s k e.0).items next (next + 1)) (membrane_items inside (next + 1 + size) others) rest))
-      (e.1 next (next + 1) (membrane_items inside (next + 1 + size) others ++ rest) (inner_parts ls inside (next + 1 + size) rest w))
+      subst (Parts P) (sym (append_assoc ((flattened s k e.0).items next (next + 1)) (body_membrane_items inside (next + 1 + size) others) rest))
+      (e.1 next (next + 1) (body_membrane_items inside (next + 1 + size) others ++ rest) (inner_parts ls inside (next + 1 + size) rest w))
 
   level_parts : (l : Level) → PartsAre l
   level_parts = ind-Level PartsAre (λ y w is.
       let inner : InnerParts y.membranes = subst (λ l. InnerParts l.membranes) is (inner_parts w.membranes) in
-      rw (fold-roll-Level Unnumbered (flatten_step s) y) (λ inside next rest r.
-      subst (Parts P) (regroup s k (leaf_items s inside y.leaves) (membrane_items inside next (map (flattened s k) y.membranes)) (context_items s inside y.contexts) (rule_items inside y.rules) (rule_context_items s inside y.rule_contexts) rest)
+      rw (fold-roll-Level UnnumberedBody (flatten_body_step s) y) (λ inside next rest r.
+      subst (Parts P) (regroup s k (body_leaf_items s inside y.leaves) (body_membrane_items inside next (map (flattened s k) y.membranes)) (context_items s inside y.contexts) (body_rule_items inside y.rules) (rule_context_items s inside y.rule_contexts) rest)
       (leaf_parts inside y.leaves _ (inner inside next _ (context_parts inside y.contexts _ (rule_parts inside y.rules _ (rule_context_parts inside y.rule_contexts rest r)))))))
 
   -- the context of each copy is one that a name stands for
-  pub copies_named : (l : Level) (e : ℕ × ℕ) → In e (copies_of 0 (body_items s k l)) → P e.1
+  pub copies_named : (l : Level) (e : ℕ × ℕ) → IsOneOf e (copies_of 0 (body_items s k l)) → P e.1
   copies_named l e i = each_part P 0 (body_items s k l) (subst (Parts P) (nil_right s k (body_items s k l)) (level_parts l 0 (1 + k) [] tt)) e i

@@ -2,34 +2,32 @@
 use Rattle.std.proofs.Common.{ℕ, zero, suc, ◌≡◌, true, List, [], ◌∷◌, Option, Some, None, refl, sym, ap, subst, ◌∙◌, inl, inr, arith, ◌≢◌}
 use Rattle.lmn_base.specs.declared.functor.Functor.{Functor}
 use Rattle.lmn_heap.specs.Heap.{In, functor_of, link_of}
-use Rattle.lmn_parts.specs.Walks.{ends, passes, finds, net, next, IsPart}
+use Rattle.lmn_parts.specs.Walks.{ends, passes, finds, net, neighbour, IsPartInDepth}
 use Rattle.lmn_parts.specs.Copies.{answer, moved}
 use Rattle.lmn_parts.proofs.WalkLaws.{determined}
-use Rattle.lmn_splice.specs.Ports.{Port}
-use Rattle.lmn_body.specs.CopyExamples.{f, whole, after, PartHasCopy}
+use Rattle.lmn_body.specs.CopyExamples.{binary_f, whole, with_copy, PartHasCopy}
+use Rattle.lmn_base.specs.Graphs.{Port}
+use Rattle.lmn_splice.proofs.Joining.{same_some as some_pair}
 
 abbrev parted : List ℕ
 parted = 1 ∷ 2 ∷ []
 
 abbrev leads : Port → Option ℕ
-leads = next (net whole) (1, 0) (λ _. true)
+leads = neighbour (net whole) (1, 0) (λ _. true)
 
 back : (x : ℕ) → ◌≡◌ {A = Option ℕ} (Some 1) (Some x) → In x parted
 back x e = let s : ◌≡◌ {A = ℕ} 1 x = (cc) in inl s
 
-part : IsPart whole (1, 0) parted
+part : IsPartInDepth whole (1, 0) parted
 part = passes (λ b e. absurd (cc)) (finds refl (λ i. elim i [ inl e ↦ absurd (omega (arith, e)) | inr v ↦ v ]) (passes back ends))
 
-functors : (x : ℕ) → In x parted → functor_of after (answer parted (3 ∷ 4 ∷ []) x) ≡ functor_of whole x
-functors x (inl e) = subst (λ z. functor_of after (answer parted (3 ∷ 4 ∷ []) z) ≡ functor_of whole z) e refl
-functors x (inr (inl e)) = subst (λ z. functor_of after (answer parted (3 ∷ 4 ∷ []) z) ≡ functor_of whole z) e refl
+functors : (x : ℕ) → In x parted → functor_of with_copy (answer parted (3 ∷ 4 ∷ []) x) ≡ functor_of whole x
+functors x (inl e) = subst (λ z. functor_of with_copy (answer parted (3 ∷ 4 ∷ []) z) ≡ functor_of whole z) e refl
+functors x (inr (inl e)) = subst (λ z. functor_of with_copy (answer parted (3 ∷ 4 ∷ []) z) ≡ functor_of whole z) e refl
 functors x (inr (inr v)) = absurd v
 
 abbrev Inner : ℕ → ℕ → ℕ → ℕ → Type 0
-Inner x i y j = In y parted × (link_of after (answer parted (3 ∷ 4 ∷ []) x) i ≡ Some (answer parted (3 ∷ 4 ∷ []) y, j))
-
-some_pair : (p q : Port) → ◌≡◌ {A = Option Port} (Some p) (Some q) → p ≡ q
-some_pair p q e = (cc)
+Inner x i y j = In y parted × (link_of with_copy (answer parted (3 ∷ 4 ∷ []) x) i ≡ Some (answer parted (3 ∷ 4 ∷ []) y, j))
 
 of_first : (i y j : ℕ) → ◌≢◌ {A = Port} (1, i) (1, 0) → link_of whole 1 i ≡ Some (y, j) → Inner 1 i y j
 of_first zero y j d e = absurd (d refl)
@@ -59,7 +57,7 @@ part_has_copy = record {
       three_four (ap (λ (p : Port). p.0) e);
   not_made = λ k.
       let same : k.atoms ≡ parted = determined (net whole).arity leads k.part part in
-      no_functor f (k.functors 1 (subst (In 1) (sym same) (inl refl))) (ap (λ xs. functor_of whole (answer xs (3 ∷ 4 ∷ []) 1)) same);
+      no_functor binary_f (k.functors 1 (subst (In 1) (sym same) (inl refl))) (ap (λ xs. functor_of whole (answer xs (3 ∷ 4 ∷ []) 1)) same);
 }
   where
     three_four : ◌≡◌ {A = ℕ} 3 4 → ⊥

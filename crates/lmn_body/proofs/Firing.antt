@@ -7,12 +7,12 @@ use Rattle.std.specs.Prelude as prelude
 use Rattle.lmn_base.specs.declared.functor.Functor.{Functor}
 use Rattle.lmn_base.specs.declared.guard.Cond.{Cond}
 use Rattle.lmn_base.specs.Solids.{connector}
-use Rattle.lmn_heap.specs.Heap.{Heap, HeapAtom, HeapMem, within, waiting, gone, top, links_of, functor_of, arity_of, mem_place_of, home_of, home_by, atoms_in, IsAtom, IsInPlace, IsMemInPlace}
+use Rattle.lmn_heap.specs.Heap.{Heap, HeapAtom, HeapMem, within, waiting, gone, top, partners_of, functor_of, arity_of, mem_place_of, home_of, home_by, atoms_in, IsAtom, IsInPlace, IsMemInPlace}
 use Rattle.lmn_heap.specs.Heap as heap
 use Rattle.lmn_heap.specs.Sound.{Valid}
 use Rattle.lmn_heap.specs.Sound as heapsound
 use Rattle.lmn_heap.proofs.Groves.{forms_frame}
-use Rattle.lmn_base.specs.Graphs.{Reached, at_root, across}
+use Rattle.lmn_base.specs.Graphs.{Reached, at_root, across, Port}
 use Rattle.lmn_heap.specs.Graphs.{atom_map}
 use Rattle.lmn_heap.proofs.ListLemmas.{each_of, in_left, in_right}
 use Rattle.lmn_heap.proofs.Trees.{in_either}
@@ -21,13 +21,12 @@ use Rattle.lmn_solid.specs.declared.items.HeadItem.{HeadItem}
 use Rattle.lmn_solid.specs.Heads.{HeadAtom, Occurrence, atoms_of, typed_contexts_of, at_atoms, times}
 use Rattle.lmn_solid.specs.Heads as heads
 use Rattle.lmn_solid.specs.Embeddings.{Embeds, HasAtom, HasTyped, HasLink}
-use Rattle.lmn_splice.specs.Ports.{Port, Coloured}
+use Rattle.lmn_splice.specs.Ports.{Coloured}
 use Rattle.lmn_splice.specs.Classes.{rising}
-use Rattle.lmn_splice.specs.Splice.{In, EachTwice, often, both_links, ports, links, LiveBefore, of_rule, of_solid, raw_by, raw_link, Splice}
+use Rattle.lmn_splice.specs.Splice.{IsOneOf, TwiceOrNever, both_links, ports, links, LiveBefore, of_rule, of_solid, raw_by, raw_link, Splice}
 use Rattle.lmn_splice.specs.Splice as splice
-use Rattle.lmn_splice.proofs.Joining.{port_cases, same_some}
+use Rattle.lmn_splice.proofs.Joining.{same_some}
 use Rattle.lmn_splice.proofs.EndLemmas.{in_rising, link_found, link_absent}
-use Rattle.lmn_splice.proofs.ClassLemmas.{often_append, one_same, one_other}
 use Rattle.lmn_instr.specs.declared.instr.AtomPort.{AtomPort}
 use Rattle.lmn_body.specs.declared.items.BodyItem.{BodyItem}
 use Rattle.lmn_body.specs.declared.items.BodyItem.TheVariants as item
@@ -37,20 +36,28 @@ use Rattle.lmn_body.specs.Running.{Registers, old_port, new_port, integer_functo
 use Rattle.lmn_body.specs.Rules.{AtomRule, PartAtoms}
 use Rattle.lmn_heap.proofs.Depths.{both_distinct}
 use Rattle.lmn_body.specs.Names.{StandsPort, Names}
-use Rattle.lmn_body.proofs.Phases.{AllHome, AllStand, place_home, atoms_of_pairs}
+use Rattle.lmn_body.proofs.Phases.{AllHome, AllStand, atoms_of_pairs}
 use Rattle.lmn_body.proofs.Finishing.{within_of, in_place_listed}
 use Rattle.lmn_body.proofs.Brought.{brought_old}
 use Rattle.lmn_body.proofs.Preparing.{Brought}
 use Rattle.lmn_heap.proofs.Replacing.{port_within}
 use Rattle.lmn_body.proofs.Coding.{at_heap}
 use Rattle.lmn_body.specs.Made.{made_of, places_of, new_atoms, copies_of}
-use Rattle.lmn_body.proofs.HeadPorts.{in_append, times_one, times_append, in_map, of_map, get_some, get_below, times_often, at_atoms_in, in_at_atoms, at_atoms_once, other_port, once_in_of, of_once_in}
+use Rattle.lmn_body.proofs.HeadPorts.{times_one, in_map, of_map, at_atoms_in, in_at_atoms, at_atoms_once, other_port, once_in_of, of_once_in}
 use Rattle.lmn_body.proofs.BodyPorts.{heap_in, of_heap, IsNewPort, Written, NewOrInside, new_is, new_all, new_ports_once, body_count, once_count}
 use Rattle.lmn_body.proofs.Committing.{Poised, EndsLive}
+use Rattle.lmn_congruence.specs.Links.{places, one_if_same}
+use Rattle.lmn_base.proofs.Common.{port_cases}
+use Rattle.lmn_base.proofs.Lists.{get_below, get_there as get_some}
+use Rattle.lmn_congruence.proofs.Counts.{none_if_apart as one_other, one_if_equal as one_same}
+use Rattle.lmn_congruence.proofs.TranslatedLinks.{places_append as often_append}
+use Rattle.lmn_heap.proofs.Common.{decide_in, place_home}
+use Rattle.lmn_solid.proofs.Common.{times_append, times_places as times_often}
+use Rattle.lmn_splice.proofs.Common.{in_append}
 
 -- Numbers from 0 on
 
-pub rising_below : (n a x : ℕ) → In x (rising a n) → (a ≤ x) × (x < a + n)
+pub rising_below : (n a x : ℕ) → IsOneOf x (rising a n) → (a ≤ x) × (x < a + n)
 rising_below zero a x i = absurd i
 rising_below (suc n) a x (inl e) = (subst (λ z. a ≤ z) e (omega arith), subst (λ z. z < a + suc n) e (omega arith))
 rising_below (suc n) a x (inr i) = let w = rising_below n (suc a) x i in (low w.0, high w.1)
@@ -61,22 +68,15 @@ rising_below (suc n) a x (inr i) = let w = rising_below n (suc a) x i in (low w.
     high : x < suc a + n → x < a + suc n
     high h = omega arith
 
-pub heap_in_of : (a : ℕ) (xs : List ℕ) → heap.In a xs → In a xs
+pub heap_in_of : (a : ℕ) (xs : List ℕ) → heap.In a xs → IsOneOf a xs
 heap_in_of a [] i = i
 heap_in_of a (x ∷ xs) (inl e) = inl e
 heap_in_of a (x ∷ xs) (inr i) = inr (heap_in_of a xs i)
 
-pub of_heap_in : (a : ℕ) (xs : List ℕ) → In a xs → heap.In a xs
+pub of_heap_in : (a : ℕ) (xs : List ℕ) → IsOneOf a xs → heap.In a xs
 of_heap_in a [] i = i
 of_heap_in a (x ∷ xs) (inl e) = inl e
 of_heap_in a (x ∷ xs) (inr i) = inr (of_heap_in a xs i)
-
-pub decide_in : (a : ℕ) (xs : List ℕ) → heap.In a xs ⊎ (heap.In a xs → ⊥)
-decide_in a [] = inr (λ i. i)
-decide_in a (x ∷ xs) = elim (cases_eq x a) [
-  | inl e ↦ inl (inl e)
-  | inr d ↦ elim (decide_in a xs) [ inl i ↦ inl (inr i) | inr o ↦ inr (λ j. elim j [ inl e ↦ d e | inr i ↦ o i ]) ]
-]
 
 pub distinct_images : (f : ℕ → ℕ) (n a : ℕ) → ((x y : ℕ) → a ≤ x → x < a + n → a ≤ y → y < a + n → f x ≡ f y → x ≡ y) → heap.Distinct (map f (rising a n))
 distinct_images f zero a once = tt
@@ -123,7 +123,7 @@ stand_at s r a c (item.Rules of inside ∷ xs) p i w = absurd p.0
 
 -- a new atom is written, or one of a copy
 new_or_copied : (s : Heap) (r : Registers) (a c : ℕ) (body : List BodyItem) → Written s r a body → (b : ℕ) → heap.In b (new_atoms r a c body)
-    → ((f : Functor) × In {A = ℕ × Functor} (b, f) (made_of r a body)) ⊎ ((e : ℕ × ℕ) × In e (copies_of c body) × heap.In b (r.copied e.0))
+    → ((f : Functor) × IsOneOf {A = ℕ × Functor} (b, f) (made_of r a body)) ⊎ ((e : ℕ × ℕ) × IsOneOf e (copies_of c body) × heap.In b (r.copied e.0))
 new_or_copied s r a c [] w b i = absurd i
 new_or_copied s r a c (item.Atom functor ls inside ∷ xs) w b (inl e) = inl (functor, inl (λ t. (e t, functor)))
 new_or_copied s r a c (item.Atom functor ls inside ∷ xs) w b (inr i) = elim (new_or_copied s r (a + 1) c xs (λ x k. w x (inr k)) b i) [ inl v ↦ inl (v.0, inr v.1) | inr v ↦ inr v ]
@@ -140,7 +140,7 @@ new_or_copied s r a c (item.Rule rule inside ∷ xs) w b i = new_or_copied s r a
 new_or_copied s r a c (item.Rules of inside ∷ xs) w b i = new_or_copied s r a c xs w b i
 
 -- no new atom is a connector
-plain_made : (r : Registers) (a : ℕ) (body : List BodyItem) → AllMade body → (e : ℕ × Functor) → In e (made_of r a body) → e.1 ≢ connector
+plain_made : (r : Registers) (a : ℕ) (body : List BodyItem) → AllMade body → (e : ℕ × Functor) → IsOneOf e (made_of r a body) → e.1 ≢ connector
 plain_made r a [] w e i g = absurd i
 plain_made r a (item.Atom functor ls inside ∷ xs) w e (inl q) g = w.0.1 (ap (λ (x : ℕ × Functor). x.1) q ∙ g)
 plain_made r a (item.Atom functor ls inside ∷ xs) w e (inr i) g = plain_made r (a + 1) xs w.1 e i g
@@ -157,7 +157,7 @@ plain_made r a (item.Rule rule inside ∷ xs) w e i g = plain_made r a xs w.1 e 
 plain_made r a (item.Rules of inside ∷ xs) w e i g = plain_made r a xs w.1 e i g
 
 -- a link that stands at an occurrence stands at least once
-stands_times : (os : List Occurrence) (o : Occurrence) → In o os → 1 ≤ times o.link (map (λ (q : Occurrence). q.link) os)
+stands_times : (os : List Occurrence) (o : Occurrence) → IsOneOf o os → 1 ≤ times o.link (map (λ (q : Occurrence). q.link) os)
 stands_times [] o i = absurd i
 stands_times (p ∷ os) o (inl e) = by (cond (p.link == o.link) 1 0) (times o.link (map (λ (q : Occurrence). q.link) os)) (times_one o.link p.link ∙ one_same o.link p.link (sym (ap (λ (q : Occurrence). q.link) e)))
   where
@@ -168,26 +168,26 @@ stands_times (p ∷ os) o (inr i) = by (cond (p.link == o.link) 1 0) (times o.li
     by : (x n : ℕ) → 1 ≤ n → 1 ≤ x + n
     by x n h = omega arith
 
-pub often_in : (x : ℕ) (xs : List ℕ) → 1 ≤ often x xs → In x xs
+pub often_in : (x : ℕ) (xs : List ℕ) → 1 ≤ places x xs → IsOneOf x xs
 often_in x [] h = absurd (off h)
   where
     off : 1 ≤ 0 → ⊥
     off h = omega arith
 often_in x (y ∷ xs) h = elim (cases_eq y x) [
   | inl e ↦ inl e
-  | inr d ↦ inr (often_in x xs (rest (splice.one_if_same x y) (often x xs) (one_other x y (λ e. d (sym e))) h))
+  | inr d ↦ inr (often_in x xs (rest (one_if_same x y) (places x xs) (one_other x y (λ e. d (sym e))) h))
 ]
   where
     rest : (a n : ℕ) → a ≡ 0 → 1 ≤ a + n → 1 ≤ n
     rest a n e h = omega arith
 
-pub in_often : (x : ℕ) (xs : List ℕ) → In x xs → 1 ≤ often x xs
+pub in_often : (x : ℕ) (xs : List ℕ) → IsOneOf x xs → 1 ≤ places x xs
 in_often x [] i = absurd i
-in_often x (y ∷ xs) (inl e) = by (splice.one_if_same x y) (often x xs) (one_same x y (sym e))
+in_often x (y ∷ xs) (inl e) = by (one_if_same x y) (places x xs) (one_same x y (sym e))
   where
     by : (a n : ℕ) → a ≡ 1 → 1 ≤ a + n
     by a n e = omega arith
-in_often x (y ∷ xs) (inr i) = by (splice.one_if_same x y) (often x xs) (in_often x xs i)
+in_often x (y ∷ xs) (inr i) = by (one_if_same x y) (places x xs) (in_often x xs i)
   where
     by : (a n : ℕ) → 1 ≤ n → 1 ≤ a + n
     by a n h = omega arith
@@ -233,12 +233,12 @@ total_two all a b o l (suc (suc x)) y false e f g h one other (inr s) = inl (ome
 
 -- the ports of the heap at which links stand once are named once
 olds_once : (r : Registers) (N : ℕ) (once : (x y : ℕ) → x < N → y < N → r.head.images.atom x ≡ r.head.images.atom y → x ≡ y) (xs : List ℕ) (os : List Occurrence)
-    → splice.Distinct (map (λ (o : Occurrence). o.port) os) → ((o : Occurrence) → In o os → o.port.0 < N) → splice.Distinct (ports (at_heap (old_port r) (once_in xs os)))
+    → splice.NoneTwice (map (λ (o : Occurrence). o.port) os) → ((o : Occurrence) → IsOneOf o os → o.port.0 < N) → splice.NoneTwice (ports (at_heap (old_port r) (once_in xs os)))
 olds_once r N once xs [] d below = tt
 olds_once r N once xs (o ∷ os) d below = by (times o.link xs == 1) (olds_once r N once xs os d.1 (λ q i. below q (inr i)))
   where
-    by : (t : Bool) → splice.Distinct (ports (at_heap (old_port r) (once_in xs os)))
-        → splice.Distinct (ports (at_heap (old_port r) (cond t ((port_at o.port.0 o.port.1, o.link) ∷ once_in xs os) (once_in xs os))))
+    by : (t : Bool) → splice.NoneTwice (ports (at_heap (old_port r) (once_in xs os)))
+        → splice.NoneTwice (ports (at_heap (old_port r) (cond t ((port_at o.port.0 o.port.1, o.link) ∷ once_in xs os) (once_in xs os))))
     by true w = (
       (λ i.
           let v = of_map (λ (e : Port × ℕ). e.0) (r.head.images.atom o.port.0, o.port.1) (at_heap (old_port r) (once_in xs os)) i in
@@ -248,7 +248,7 @@ olds_once r N once xs (o ∷ os) d below = by (times o.link xs == 1) (olds_once 
           let number : q.0.port.0 ≡ o.port.0 = once q.0.port.0 o.port.0 (below q.0 (inr q.1)) (below o (inl refl)) (ap (λ (p : Port). p.0) image) in
           let index : q.0.port.1 ≡ o.port.1 = ap (λ (p : Port). p.1) image in
           let same : q.0.port ≡ o.port = λ t. (number t, index t) in
-          d.0 (subst (λ z. In z (map (λ (o : Occurrence). o.port) os)) same (in_map (λ (o : Occurrence). o.port) q.0 os q.1))),
+          d.0 (subst (λ z. IsOneOf z (map (λ (o : Occurrence). o.port) os)) same (in_map (λ (o : Occurrence). o.port) q.0 os q.1))),
       w,
     )
     by false w = w
@@ -292,7 +292,7 @@ module _ (h : Heap) (valid : Valid h) (head : List HeadItem) (guard : List Cond)
   old_atom a is = (brought_old free.brings a is).1
 
   old_link : (p : Port) → IsAtom h p.0 → partners s p ≡ partners h p
-  old_link p is = ap (λ (o : Option HeapAtom). prelude.slice_index_or (links_of o) p.1 None) (old_atom p.0 is)
+  old_link p is = ap (λ (o : Option HeapAtom). prelude.slice_index_or (partners_of o) p.1 None) (old_atom p.0 is)
 
   -- Head atoms
 
@@ -357,27 +357,27 @@ module _ (h : Heap) (valid : Valid h) (head : List HeadItem) (guard : List Cond)
     | inr o ↦ subst (λ (x : Option HeapAtom). IsSome (option_and_then (λ y. home_by y.place) x)) (free.brings.others a o) i
   ]
 
-  in_place_new : (a : ℕ) → IsInPlace h a → IsInPlace s a
+  pub in_place_new : (a : ℕ) → IsInPlace h a → IsInPlace s a
   in_place_new a i = subst (λ (x : Option HeapAtom). IsSome (option_and_then (λ y. home_by y.place) x)) (sym (old_atom a (is_atom a i))) i
 
   pub arity_old : (a : ℕ) → IsInPlace h a → arity_of s a ≡ arity_of h a
-  arity_old a i = ap (λ (o : Option HeapAtom). length (links_of o)) (old_atom a (is_atom a i))
+  arity_old a i = ap (λ (o : Option HeapAtom). length (partners_of o)) (old_atom a (is_atom a i))
 
   -- Splice
 
   abbrev pub F : Port → Type 0
   F = EndsLive s ns es
 
-  es_numbers : atoms_of_pairs es ≡ new
+  pub es_numbers : atoms_of_pairs es ≡ new
   es_numbers = places_numbers r N 0 body
 
-  new_entry : (p : Port) → In p (ports news) → IsNewPort s new p
+  new_entry : (p : Port) → IsOneOf p (ports news) → IsNewPort s new p
   new_entry p i = let w = of_map (λ (e : Port × ℕ). e.0) p news i in subst (IsNewPort s new) w.2 (new_is r N 0 body rule.made h s free.written free.copies w.0 w.1)
 
-  new_atom_in : (p : Port) → In p (ports news) → heap.In p.0 new
+  new_atom_in : (p : Port) → IsOneOf p (ports news) → heap.In p.0 new
   new_atom_in p i = (new_entry p i).0
 
-  new_live : (p : Port) → In p (ports news) → F p × (partners s p ≡ None)
+  new_live : (p : Port) → IsOneOf p (ports news) → F p × (partners s p ≡ None)
   new_live p i = let w = new_entry p i in ((w.1, inr (subst (heap.In p.0) (sym es_numbers) w.0)), w.2)
 
   all_new : (p : Port) → p.1 < arity_of s p.0 → heap.In p.0 new → NewOrInside s r N 0 body p
@@ -391,13 +391,13 @@ module _ (h : Heap) (valid : Valid h) (head : List HeadItem) (guard : List Cond)
     pub number : k < N
     pub is : ◌≡◌ {A = Port} (r.head.images.atom k, i) p
     pub stands : HasLink head link (k, i)
-    pub once : times link (heads.links_of head) ≡ 1
+    pub once : times link (heads.links_of_head head) ≡ 1
 
-  pub old_entry : (p : Port) → In p (ports olds) → OldPort p
+  pub old_entry : (p : Port) → IsOneOf p (ports olds) → OldPort p
   old_entry p i =
       let v = of_map (λ (e : Port × ℕ). e.0) p olds i in
       let u = of_heap (old_port r) v.0 (old_ports head) v.1 in
-      let q = once_in_of (heads.links_of head) (at_atoms 0 (atoms_of head)) u.0 u.1 in
+      let q = once_in_of (heads.links_of_head head) (at_atoms 0 (atoms_of head)) u.0 u.1 in
       let a = at_atoms_in 0 (atoms_of head) q.0 q.1 in
       let number : q.0.port.0 ≡ a.k = a.number ∙ zero_plus a.k in
       record {
@@ -413,23 +413,23 @@ module _ (h : Heap) (valid : Valid h) (head : List HeadItem) (guard : List Cond)
       zero_plus : (k : ℕ) → 0 + k ≡ k
       zero_plus k = omega arith
 
-  head_occurrence : (k i x : ℕ) → HasLink head x (k, i) → In {A = Occurrence} (record { link = x; port = (k, i) }) (at_atoms 0 (atoms_of head))
-  head_occurrence k i x w = subst (λ z. In {A = Occurrence} (record { link = x; port = (z, i) }) (at_atoms 0 (atoms_of head))) (zero_plus k) (in_at_atoms 0 (atoms_of head) k i x w.0 w.1 w.2)
+  head_occurrence : (k i x : ℕ) → HasLink head x (k, i) → IsOneOf {A = Occurrence} (record { link = x; port = (k, i) }) (at_atoms 0 (atoms_of head))
+  head_occurrence k i x w = subst (λ z. IsOneOf {A = Occurrence} (record { link = x; port = (z, i) }) (at_atoms 0 (atoms_of head))) (zero_plus k) (in_at_atoms 0 (atoms_of head) k i x w.0 w.1 w.2)
     where
       zero_plus : (k : ℕ) → 0 + k ≡ k
       zero_plus k = omega arith
 
-  is_old : (k i x : ℕ) → HasLink head x (k, i) → times x (heads.links_of head) ≡ 1 → In {A = Port} (r.head.images.atom k, i) (ports olds)
+  is_old : (k i x : ℕ) → HasLink head x (k, i) → times x (heads.links_of_head head) ≡ 1 → IsOneOf {A = Port} (r.head.images.atom k, i) (ports olds)
   is_old k i x w once = in_map (λ (e : Port × ℕ). e.0) ((r.head.images.atom k, i), x) olds
-      (heap_in (old_port r) (port_at k i, x) (old_ports head) (of_once_in (heads.links_of head) (at_atoms 0 (atoms_of head)) (record { link = x; port = (k, i) }) (head_occurrence k i x w) once))
+      (heap_in (old_port r) (port_at k i, x) (old_ports head) (of_once_in (heads.links_of_head head) (at_atoms 0 (atoms_of head)) (record { link = x; port = (k, i) }) (head_occurrence k i x w) once))
 
-  old_gone : (p : Port) → In p (ports olds) → F p → ⊥
+  old_gone : (p : Port) → IsOneOf p (ports olds) → F p → ⊥
   old_gone p i f = let o = old_entry p i in let same : r.head.images.atom o.k ≡ p.0 = ap (λ (q : Port). q.0) o.is in elim f.1 [
     | inl w ↦ w.1 (subst (λ z. heap.In z ns) same (is_taken o.k o.number))
     | inr j ↦ not_new p.0 (subst (IsAtom h) same (is_atom (r.head.images.atom o.k) (head_in_place o.k o.number))) (subst (heap.In p.0) es_numbers j)
   ]
 
-  head_below : (o : Occurrence) → In o (at_atoms 0 (atoms_of head)) → o.port.0 < N
+  head_below : (o : Occurrence) → IsOneOf o (at_atoms 0 (atoms_of head)) → o.port.0 < N
   head_below o i = let a = at_atoms_in 0 (atoms_of head) o i in subst (λ z. z < N) (sym (a.number ∙ zero_plus a.k)) (get_below (atoms_of head) a.k a.atom a.is)
     where
       zero_plus : (k : ℕ) → 0 + k ≡ k
@@ -447,7 +447,7 @@ module _ (h : Heap) (valid : Valid h) (head : List HeadItem) (guard : List Cond)
   typed_links = map (λ (t : heads.HeadTyped). t.link) (typed_contexts_of head)
 
   -- how often a link stands in a head: at atoms, and at typed contexts
-  head_times : (x : ℕ) → times x (heads.links_of head) ≡ times x at_links + times x typed_links
+  head_times : (x : ℕ) → times x (heads.links_of_head head) ≡ times x at_links + times x typed_links
   head_times x = times_append x at_links typed_links
 
   -- the link of a typed context stands at an atom too
@@ -457,7 +457,7 @@ module _ (h : Heap) (valid : Valid h) (head : List HeadItem) (guard : List Cond)
   at_some : (k i x : ℕ) → HasLink head x (k, i) → 1 ≤ times x at_links
   at_some k i x w = stands_times occs (record { link = x; port = (k, i) }) (head_occurrence k i x w)
 
-  typed_twice : (g : ℕ) (t : heads.HeadTyped) → HasTyped head g t → 2 ≤ times t.link (heads.links_of head)
+  typed_twice : (g : ℕ) (t : heads.HeadTyped) → HasTyped head g t → 2 ≤ times t.link (heads.links_of_head head)
   typed_twice g t w =
       let p = rule.held g t w in
       let a = at_some p.0.0 p.0.1 t.link p.1 in
@@ -465,24 +465,24 @@ module _ (h : Heap) (valid : Valid h) (head : List HeadItem) (guard : List Cond)
       let e = head_times t.link in
       omega arith
 
-  once_at : (x : ℕ) → times x (heads.links_of head) ≡ 1 → often x at_links ≡ 1
+  once_at : (x : ℕ) → times x (heads.links_of_head head) ≡ 1 → places x at_links ≡ 1
   once_at x e = sym (times_often x at_links) ∙ by (cases_lt (times x typed_links) 1)
     where
       by : (times x typed_links < 1) ⊎ (1 ≤ times x typed_links) → times x at_links ≡ 1
       by (inl l) = let f = head_times x in omega arith
-      by (inr l) = let w = typed_held x l in let two = typed_twice w.0 w.1 w.2 in absurd (off (times w.1.link (heads.links_of head)) two (ap (λ z. times z (heads.links_of head)) w.3 ∙ e))
+      by (inr l) = let w = typed_held x l in let two = typed_twice w.0 w.1 w.2 in absurd (off (times w.1.link (heads.links_of_head head)) two (ap (λ z. times z (heads.links_of_head head)) w.3 ∙ e))
         where
           off : (k : ℕ) → 2 ≤ k → k ≡ 1 → ⊥
           off k h g = omega arith
 
-  linked : EachTwice (both_links wires ++ (links news ++ links olds))
-  linked z = total_two _ (often z (both_links wires)) (often z (links news)) (often z (links olds)) (often z (body_links body)) (times z (heads.links_of head))
-      (often z (map (λ (o : Occurrence). o.link) (at_atoms 0 (atoms_of head)))) (times z (heads.links_of head) == 1)
-      (often_append z (both_links wires) (links news ++ links olds) ∙ ap (λ k. often z (both_links wires) + k) (often_append z (links news) (links olds)))
-      (body_count r N 0 z body) (once_count r z (heads.links_of head) (at_atoms 0 (atoms_of head))) (once_at z)
-      (eqb-true (times z (heads.links_of head)) 1)
-      (λ e f. let g : true ≡ false = sym (eq-eqb (times z (heads.links_of head)) 1 f) ∙ e in absurd (cc))
-      (elim (rule.linked z) [ inl e ↦ inl (ap (λ k. times z (heads.links_of head) + k) (sym (times_often z (body_links body))) ∙ e) | inr e ↦ inr (ap (λ k. times z (heads.links_of head) + k) (sym (times_often z (body_links body))) ∙ e) ])
+  linked : TwiceOrNever (both_links wires ++ (links news ++ links olds))
+  linked z = total_two _ (places z (both_links wires)) (places z (links news)) (places z (links olds)) (places z (body_links body)) (times z (heads.links_of_head head))
+      (places z (map (λ (o : Occurrence). o.link) (at_atoms 0 (atoms_of head)))) (times z (heads.links_of_head head) == 1)
+      (often_append z (both_links wires) (links news ++ links olds) ∙ ap (λ k. places z (both_links wires) + k) (often_append z (links news) (links olds)))
+      (body_count r N 0 z body) (once_count r z (heads.links_of_head head) (at_atoms 0 (atoms_of head))) (once_at z)
+      (eqb-true (times z (heads.links_of_head head)) 1)
+      (λ e f. let g : true ≡ false = sym (eq-eqb (times z (heads.links_of_head head)) 1 f) ∙ e in absurd (cc))
+      (elim (rule.linked z) [ inl e ↦ inl (ap (λ k. times z (heads.links_of_head head) + k) (sym (times_often z (body_links body))) ∙ e) | inr e ↦ inr (ap (λ k. times z (heads.links_of_head head) + k) (sym (times_often z (body_links body))) ∙ e) ])
 
   -- colours
 
@@ -490,7 +490,7 @@ module _ (h : Heap) (valid : Valid h) (head : List HeadItem) (guard : List Cond)
   arity_in k i b e = let a = get_some (atoms_of head) k b in
       (a.0, a.1, subst (λ z. i < z) (valid.sound.shaped.ports (r.head.images.atom k) a.0.functor (em.functors k a.0 a.1) ∙ sym (rule.head_made k a.0 a.1)) e)
 
-  pub old_port_stands : (p : Port) → In p (ports olds) → StandsPort h p
+  pub old_port_stands : (p : Port) → IsOneOf p (ports olds) → StandsPort h p
   old_port_stands p i =
       let o = old_entry p i in
       let a = o.stands in
@@ -533,8 +533,8 @@ module _ (h : Heap) (valid : Valid h) (head : List HeadItem) (guard : List Cond)
           let x = get_some a.0.links q.1 a.2 in
           let has : HasLink head x.0 (k.0, q.1) = (a.0, a.1, x.1) in
           let is_q : ◌≡◌ {A = Port} (r.head.images.atom k.0, q.1) q = λ t. (k.2 t, q.1) in
-          elim (cases_eq (times x.0 (heads.links_of head)) 1) [
-            | inl once ↦ inr (subst (λ z. In z (ports olds)) is_q (is_old k.0 q.1 x.0 has once))
+          elim (cases_eq (times x.0 (heads.links_of_head head)) 1) [
+            | inl once ↦ inr (subst (λ z. IsOneOf z (ports olds)) is_q (is_old k.0 q.1 x.0 has once))
             | inr more ↦ absurd (never k.0 q.1 x.0 has more p l (ap (partners h) is_q ∙ e))
           ])
     ]
@@ -551,7 +551,7 @@ module _ (h : Heap) (valid : Valid h) (head : List HeadItem) (guard : List Cond)
       ]
 
       -- a live port that is an image of a port of the head has a link that stands once in the head
-      live_once : (p : Port) → LiveBefore F news olds p → (k i x : ℕ) → HasLink head x (k, i) → p ≡ (r.head.images.atom k, i) → times x (heads.links_of head) ≡ 1
+      live_once : (p : Port) → LiveBefore F news olds p → (k i x : ℕ) → HasLink head x (k, i) → p ≡ (r.head.images.atom k, i) → times x (heads.links_of_head head) ≡ 1
       live_once p l k i x has is_p =
           let below = get_below (atoms_of head) k has.0 has.1 in
           elim l [
@@ -565,7 +565,7 @@ module _ (h : Heap) (valid : Valid h) (head : List HeadItem) (guard : List Cond)
                 let same_i : o.i ≡ i = ap (λ (q : Port). q.1) image in
                 let same_atom = one_atom o.stands.0 has.0 (sym o.stands.1 ∙ ap (slice_get (atoms_of head)) same_k ∙ has.1) in
                 let same_link = one_link o.link x (sym o.stands.2 ∙ (λ t. slice_get (same_atom t).links (same_i t)) ∙ has.2) in
-                ap (λ z. times z (heads.links_of head)) (sym same_link) ∙ o.once)
+                ap (λ z. times z (heads.links_of_head head)) (sym same_link) ∙ o.once)
           ]
         where
           one_atom : (x y : HeadAtom) → ◌≡◌ {A = Option HeadAtom} (Some x) (Some y) → x ≡ y
@@ -590,7 +590,7 @@ module _ (h : Heap) (valid : Valid h) (head : List HeadItem) (guard : List Cond)
           off {k = k} h g = omega arith
 
       -- a link that stands twice in the head joins two ports of the head, or holds a typed context
-      never : (k i x : ℕ) → HasLink head x (k, i) → times x (heads.links_of head) ≢ 1 → (p : Port) → LiveBefore F news olds p → partners h (r.head.images.atom k, i) ≡ Some p → ⊥
+      never : (k i x : ℕ) → HasLink head x (k, i) → times x (heads.links_of_head head) ≢ 1 → (p : Port) → LiveBefore F news olds p → partners h (r.head.images.atom k, i) ≡ Some p → ⊥
       never k i x has more p l e = elim (cases_lt (times x typed_links) 1) [
         | inr typed ↦ (let w = typed_held x typed in
             let held = (em.parts w.0 w.1 w.2).held (k, i) (subst (λ z. HasLink head z (k, i)) (sym w.3) has) in
@@ -598,7 +598,7 @@ module _ (h : Heap) (valid : Valid h) (head : List HeadItem) (guard : List Cond)
             not_in_part w.0 w.1 w.2 p l (subst (λ (z : Port). Reached (atom_map h) (r.head.images.part w.0) z.0) (sym is_p) at_root))
         | inl none ↦ (let occ = head_occurrence k i x has in
             let some = at_some k i x has in
-            let w = other_port occs (at_atoms_once 0 (atoms_of head)) (record { link = x; port = (k, i) }) occ (two (times x (heads.links_of head)) (times x at_links) (times x typed_links) (head_times x) none more some) in
+            let w = other_port occs (at_atoms_once 0 (atoms_of head)) (record { link = x; port = (k, i) }) occ (two (times x (heads.links_of_head head)) (times x at_links) (times x typed_links) (head_times x) none more some) in
             let b = at_atoms_in 0 (atoms_of head) w.0 w.1 in
             let number : w.0.port.0 ≡ b.k = b.number ∙ zero_plus b.k in
             let has' : HasLink head x (b.k, w.0.port.1) = (b.atom, b.is, b.link ∙ ap (λ z. Some z) w.2) in
@@ -634,7 +634,7 @@ module _ (h : Heap) (valid : Valid h) (head : List HeadItem) (guard : List Cond)
   pub splice_at : Splice F c (partners s) news olds wires
   splice_at = record {
     new_once = new_ports_once r N 0 body rule.made h s free.written free.copies free.brings.once;
-    old_once = olds_once r N em.atoms_differ (heads.links_of head) (at_atoms 0 (atoms_of head)) (at_atoms_once 0 (atoms_of head)) head_below;
+    old_once = olds_once r N em.atoms_differ (heads.links_of_head head) (at_atoms 0 (atoms_of head)) (at_atoms_once 0 (atoms_of head)) head_below;
     made = new_live;
     gone = old_gone;
     linked = linked;
@@ -644,13 +644,13 @@ module _ (h : Heap) (valid : Valid h) (head : List HeadItem) (guard : List Cond)
   pub stands_mem : (q : ℕ) → IsMemInPlace h q → IsSome (h.mems q) × (mem_place_of h q ≡ Some waiting → ⊥)
   stands_mem q i = by (h.mems q) i
     where
-      place : (x : HeapMem) (p : heap.Place) → x.place ≡ p → heap.StandsAt (Some p) → IsSome {T = HeapMem} (Some x) × (Some x.place ≡ Some waiting → ⊥)
+      place : (x : HeapMem) (p : heap.Place) → x.place ≡ p → heap.IsTopOrWithin (Some p) → IsSome {T = HeapMem} (Some x) × (Some x.place ≡ Some waiting → ⊥)
       place x top e i = (refl, λ f. let g : top ≡ waiting = sym e ∙ (cc) in absurd (cc))
       place x (within k) e i = (refl, λ f. let g : within k ≡ waiting = sym e ∙ (cc) in absurd (cc))
       place x waiting e i = absurd i
       place x gone e i = absurd i
 
-      by : (o : Option HeapMem) → heap.StandsAt (option_map (λ x. x.place) o) → IsSome o × (option_map (λ x. x.place) o ≡ Some waiting → ⊥)
+      by : (o : Option HeapMem) → heap.IsTopOrWithin (option_map (λ x. x.place) o) → IsSome o × (option_map (λ x. x.place) o ≡ Some waiting → ⊥)
       by None i = absurd i
       by (Some x) i = place x x.place refl i
 
@@ -697,12 +697,12 @@ module _ (h : Heap) (valid : Valid h) (head : List HeadItem) (guard : List Cond)
           by (Some x) e f = place x (cc) (f refl)
 
   -- the links of the ties are links of the rule
-  pub links_below : (x : ℕ) → In x (links news ++ links olds) → x < n
+  pub links_below : (x : ℕ) → IsOneOf x (links news ++ links olds) → x < n
   links_below x i = elim (in_append x (links news) (links olds) i) [
-    | inl j ↦ rule.below x (inr (often_in x (body_links body) (more (often x (both_links wires)) (often x (links news)) (often x (body_links body)) (body_count r N 0 x body) (in_often x (links news) j))))
-    | inr j ↦ rule.below x (inl (often_in x (heads.links_of head) (most (often x (heads.links_of head)) (often x at_links) (times x typed_links)
-        (sym (times_often x (heads.links_of head)) ∙ head_times x ∙ ap (λ k. k + times x typed_links) (times_often x at_links))
-        (some (times x (heads.links_of head) == 1) _ (subst (λ k. 1 ≤ k) (once_count r x (heads.links_of head) (at_atoms 0 (atoms_of head))) (in_often x (links olds) j))))))
+    | inl j ↦ rule.below x (inr (often_in x (body_links body) (more (places x (both_links wires)) (places x (links news)) (places x (body_links body)) (body_count r N 0 x body) (in_often x (links news) j))))
+    | inr j ↦ rule.below x (inl (often_in x (heads.links_of_head head) (most (places x (heads.links_of_head head)) (places x at_links) (times x typed_links)
+        (sym (times_often x (heads.links_of_head head)) ∙ head_times x ∙ ap (λ k. k + times x typed_links) (times_often x at_links))
+        (some (times x (heads.links_of_head head) == 1) _ (subst (λ k. 1 ≤ k) (once_count r x (heads.links_of_head head) (at_atoms 0 (atoms_of head))) (in_often x (links olds) j))))))
   ]
     where
       more : (a b l : ℕ) → a + b ≡ l → 1 ≤ b → 1 ≤ l
@@ -719,7 +719,7 @@ module _ (h : Heap) (valid : Valid h) (head : List HeadItem) (guard : List Cond)
           off h = omega arith
 
   -- the port of a new atom is named by its link
-  pub new_link : (e : Port × ℕ) → In e news → raw_link news c e.0 ≡ of_rule e.1
+  pub new_link : (e : Port × ℕ) → IsOneOf e news → raw_link news c e.0 ≡ of_rule e.1
   new_link e i = ap (raw_by (c e.0)) (link_found news (new_ports_once r N 0 body rule.made h s free.written free.copies free.brings.once) e.0 e.1 i)
 
   -- the port of an atom that is left is named by its link in the solid
@@ -729,7 +729,7 @@ module _ (h : Heap) (valid : Valid h) (head : List HeadItem) (guard : List Cond)
   pub kept_functor : (a : ℕ) → IsInPlace h a → functor_of s a ≡ functor_of h a
   kept_functor a i = ap (λ (o : Option HeapAtom). option_map (λ x. x.functor) o) (old_atom a (is_atom a i))
 
-  pub new_functor : (e : ℕ × Functor) → In e mk → functor_of s e.0 ≡ Some e.1
+  pub new_functor : (e : ℕ × Functor) → IsOneOf e mk → functor_of s e.0 ≡ Some e.1
   new_functor e i = ap (λ (o : Option HeapAtom). option_map (λ x. x.functor) o) (free.written e i)
 
   pub same_atoms : (k : ℕ) → atoms_in s k ≡ atoms_in h k
@@ -738,12 +738,6 @@ module _ (h : Heap) (valid : Valid h) (head : List HeadItem) (guard : List Cond)
   pub same_rules : (k : ℕ) → heap.rules_in s k ≡ heap.rules_in h k
   same_rules k = ap (λ f. heap.rules_by (f k)) free.mems
 
-  pub stands_again : (a : ℕ) → IsInPlace h a → IsInPlace s a
-  stands_again = in_place_new
-
   -- the port inside a copy is named by its colour
   pub inner_link : (p q : Port) → heap.In p.0 new → partners s p ≡ Some q → raw_link news c p ≡ of_solid (c p)
   inner_link p q i e = ap (raw_by (c p)) (link_absent news p (λ j. let z : ◌≡◌ {A = Option Port} None (Some q) = sym (new_live p j).1 ∙ e in absurd (cc)))
-
-  pub es_are : atoms_of_pairs es ≡ new
-  es_are = es_numbers

@@ -1,35 +1,34 @@
 -- The code of a body of atoms fires it.
-use Rattle.std.proofs.Common.{ℕ, ◌+◌, ◌<◌, ◌≡◌, ◌≤◌, ◌==◌, Bool, true, false, cond, List, [], ◌∷◌, ◌++◌, map, length, Option, Some, None, IsSome, refl, sym, ap, subst, ◌∙◌, inl, inr, arith}
+use Rattle.std.proofs.Common.{ℕ, ◌+◌, ◌<◌, ◌≡◌, ◌==◌, Bool, true, false, cond, List, [], ◌∷◌, ◌++◌, map, length, Option, Some, None, IsSome, refl, sym, ap, subst, ◌∙◌, inl, inr}
 use Rattle.lmn_base.specs.declared.functor.Functor.{Functor}
 use Rattle.lmn_base.specs.declared.guard.Cond.{Cond}
-use Rattle.lmn_heap.specs.Heap.{Heap, IsAtom, atoms_in, IsInPlace, finished, IsMemInPlace}
+use Rattle.lmn_heap.specs.Heap.{Heap, IsAtom, atoms_in, IsInPlace, finished, taken_all, IsMemInPlace}
 use Rattle.lmn_heap.specs.Heap as heap
-use Rattle.lmn_heap.specs.Sound.{Listed, Settled, Valid}
+use Rattle.lmn_heap.specs.Sound.{Listed, AllInPlace, Valid}
 use Rattle.lmn_heap.proofs.ListLemmas.{in_right}
 use Rattle.lmn_body.specs.Items.{NoCopies, Simple}
 use Rattle.lmn_body.specs.declared.items.BodyItem.TheVariants as item
-use Rattle.lmn_heap.specs.Solid.{atoms_of}
+use Rattle.lmn_heap.specs.Solid.{solid_atoms_at}
 use Rattle.std.specs.Prelude.{slice_get}
 use Rattle.std.specs.Prelude as prelude
-use Rattle.lmn_heap.specs.Heap.{HeapAtom, links_of}
+use Rattle.lmn_heap.specs.Heap.{HeapAtom, partners_of}
 use Rattle.lmn_heap.proofs.Trees.{nil_right}
 use Rattle.lmn_heap.proofs.SolidLemmas.{atoms_append}
 use Rattle.lmn_solid.specs.declared.items.HeadItem.{HeadItem}
 use Rattle.lmn_solid.specs.Heads.{HeadTyped, HeadMembrane, atoms_of as head_atoms, typed_contexts_of, membranes_of}
 use Rattle.lmn_solid.specs.Embeddings.{Embeds, HasMembrane, HasTyped}
-use Rattle.lmn_splice.specs.Ports.{Port}
 use Rattle.lmn_splice.specs.Classes.{class_of, rising, body_ties}
-use Rattle.lmn_splice.specs.Splice.{In, links, raw_link, of_rule, of_solid, Splice, Fusion}
+use Rattle.lmn_splice.specs.Splice.{IsOneOf, links, raw_link, of_rule, of_solid, Splice, Fusion}
 use Rattle.lmn_instr.specs.declared.instr.Instr.{Instr}
 use Rattle.lmn_instr.specs.declared.instr.Instr.TheVariants.{RemoveAtom, RemovePart, RemoveMem, Proceed}
 use Rattle.lmn_body.specs.declared.items.BodyItem.{BodyItem}
 use Rattle.lmn_body.specs.Tied.{partners, all_tied}
 use Rattle.lmn_body.specs.Items.{new_ports, old_ports, connectors}
 use Rattle.lmn_body.specs.Code.{removals, making, links_code, body_code}
-use Rattle.lmn_body.specs.Running.{Registers, old_port, new_port, withouts, all_taken, all_placed, Prepares, Commits}
+use Rattle.lmn_body.specs.Running.{Registers, old_port, new_port, all_placed, Prepares, DoesAll}
 use Rattle.lmn_body.specs.Rules.{PlainRule, AtomRule, PartAtoms}
 use Rattle.lmn_splice.proofs.EndLemmas.{in_rising, rising_distinct}
-use Rattle.lmn_body.proofs.HeadPorts.{in_map, of_map, get_some, get_below}
+use Rattle.lmn_body.proofs.HeadPorts.{in_map, of_map}
 use Rattle.lmn_body.proofs.Parts.{parts_apart, part_there, part_whole, parts_commit, taken_append, taken_links, no_part_prepares}
 use Rattle.lmn_body.specs.Names.{Names}
 use Rattle.lmn_body.specs.Added.{moved_mems}
@@ -41,14 +40,14 @@ use Rattle.lmn_body.specs.Within.{membrane_images, FiresWithin}
 use Rattle.lmn_body.specs.Laws.{BodyFires, BodyFiresWithin, BodyCanRun}
 use Rattle.lmn_body.proofs.Removing.{all_taken_mems, commits_taken_mems, prepares_taken_mems}
 use Rattle.lmn_body.proofs.Preparing.{MakesAll, Brought, AllPrepared, making_prepares}
-use Rattle.lmn_body.proofs.Brought.{Brings, brought_old, brings_none, brings_on, brings_listed, Whole, has_copy_on, is_atom_at}
+use Rattle.lmn_body.proofs.Brought.{Brings, brought_old, brings_none, brings_on, brings_listed, Whole, has_copy_on}
 use Rattle.lmn_body.proofs.Colours.{beside, old_colour, names_beside, same_beside, only_beside, apart_beside, fires_by}
 use Rattle.lmn_body.proofs.Nesting.{fires_within, ready_v, ks_once, once_t1}
 use Rattle.lmn_body.proofs.TreeAfter.{valid_after}
 use Rattle.lmn_body.specs.Conditions.{CanRun}
 use Rattle.lmn_heap.specs.Conditions.{Ready}
 use Rattle.std.specs.Option.{option_and_then}
-use Rattle.lmn_body.specs.Fired.{linked_by, made_atoms, images_of, Fires}
+use Rattle.lmn_body.specs.Fired.{linked_by, made_atoms, images_of, FiresOnHeap}
 use Rattle.lmn_body.proofs.Phases.{placed_in}
 use Rattle.lmn_body.proofs.Making.{AfterMaking, all_made, all_made_after, made_functor, made_once, AllFree}
 use Rattle.lmn_body.proofs.Coding.{at_heap, commits_append, prepares_append, commits_taken, prepares_taken, commits_placed, prepares_made, commits_tied, prepares_tied}
@@ -56,12 +55,17 @@ use Rattle.lmn_body.specs.Made.{made_of, places_of, new_atoms, copies_of}
 use Rattle.lmn_body.proofs.BodyPorts.{heap_in, numbers, written_new, plain_new}
 use Rattle.lmn_body.proofs.Finishing.{in_place_listed}
 use Rattle.lmn_body.proofs.Committing.{Poised, EndsLive, in_withouts_of, commit_names, commit_fusion, commit_valid, commit_tree, commit_lists, commit_rules, commit_functor}
-use Rattle.lmn_body.proofs.Firing.{old_port_stands, rising_below, heap_in_of, distinct_images, splice_at, poised, links_below, new_link, kept_link, kept_functor, new_functor, same_atoms, same_rules, stands_again, es_are}
+use Rattle.lmn_body.proofs.Firing.{old_port_stands, rising_below, heap_in_of, distinct_images, splice_at, poised, links_below, new_link, kept_link, kept_functor, new_functor, same_atoms, same_rules, in_place_new, es_numbers}
 use Rattle.lmn_body.proofs.SolidAfter.{kept_atoms, new_atoms_are, placed_here, fired_are}
+use Rattle.lmn_base.specs.Graphs.{Port}
+use Rattle.lmn_heap.specs.Lists.{without_all}
+use Rattle.lmn_base.proofs.Lists.{get_below, get_there as get_some}
+use Rattle.lmn_base.proofs.Numbers.{below_zero_plus as below_plain, zero_least as nothing_less, zero_plus_below as plain_below}
+use Rattle.lmn_heap.proofs.Common.{is_atom_at, in_map as mapped}
 
 -- a head of atoms alone: nothing else is removed
 nothing_else_commits : (r : Registers) (ts : List HeadTyped) (ms : List HeadMembrane) (s t : Heap) → ts ≡ [] → ms ≡ []
-    → Commits r (map RemovePart (rising 0 (length ts)) ++ map RemoveMem (rising 1 (length ms))) s t → t ≡ s
+    → DoesAll r (map RemovePart (rising 0 (length ts)) ++ map RemoveMem (rising 1 (length ms))) s t → t ≡ s
 nothing_else_commits r [] [] s t e f w = w
 nothing_else_commits r [] (m ∷ ms) s t e f w = absurd (cc)
 nothing_else_commits r (x ∷ ts) ms s t e f w = absurd (cc)
@@ -84,7 +88,7 @@ simple_plain (item.Rest of inside ∷ xs) s = absurd s.0
 simple_plain (item.Rule rule inside ∷ xs) s = absurd s.0
 simple_plain (item.Rules of inside ∷ xs) s = absurd s.0
 
-no_copies : (c : ℕ) (body : List BodyItem) → NoCopies body → (e : ℕ × ℕ) → In e (copies_of c body) → ⊥
+no_copies : (c : ℕ) (body : List BodyItem) → NoCopies body → (e : ℕ × ℕ) → IsOneOf e (copies_of c body) → ⊥
 no_copies c [] s e i = i
 no_copies c (item.Atom functor links inside ∷ xs) s e i = no_copies c xs s e i
 no_copies c (item.Bound integer link inside ∷ xs) s e i = no_copies c xs s e i
@@ -95,7 +99,7 @@ no_copies c (item.Rest of inside ∷ xs) s e i = no_copies c xs s e i
 no_copies c (item.Rule rule inside ∷ xs) s e i = no_copies c xs s e i
 no_copies c (item.Rules of inside ∷ xs) s e i = no_copies c xs s e i
 
-made_brings : (h s : Heap) (mk : List (ℕ × Functor)) → Listed h → Settled h → AfterMaking h s mk → heap.Distinct (numbers mk) → Brings h s (numbers mk)
+made_brings : (h s : Heap) (mk : List (ℕ × Functor)) → Listed h → AllInPlace h → AfterMaking h s mk → heap.Distinct (numbers mk) → Brings h s (numbers mk)
 made_brings h s mk listed settled ma once = record {
   others = ma.others;
   fresh = ma.fresh;
@@ -141,15 +145,15 @@ module _ (head : List HeadItem) (body : List BodyItem) (n : ℕ) (rule : PlainRu
       (subst (λ z. AllFree z mk) first made.0, last ∙ made.1 ∙ ap (λ z. all_made z mk) first)
 
   -- what commits takes, places, ties and frees
-  committed : (s h' : Heap) → Commits r (body_code head body n) s h' → h' ≡ finished (all_tied (all_placed (all_taken s ns) es) (body_ties news olds (connectors body) n))
+  committed : (s h' : Heap) → DoesAll r (body_code head body n) s h' → h' ≡ finished (all_tied (all_placed (taken_all s ns) es) (body_ties news olds (connectors body) n))
   committed s h' w =
       let a = commits_append r (removals head) (making N (1 + length (membranes_of head)) 0 body ++ (link_part ++ (Proceed ∷ []))) s h' w in
       let a1 = commits_append r (map RemoveAtom (rising 0 N)) (map RemovePart (rising 0 (length (typed_contexts_of head))) ++ map RemoveMem (rising 1 (length (membranes_of head)))) s a.0 a.1 in
       let b = commits_append r (making N (1 + length (membranes_of head)) 0 body) (link_part ++ (Proceed ∷ [])) a.0 h' a.2 in
       let d = commits_append r link_part (Proceed ∷ []) b.0 h' b.2 in
-      let first : a.0 ≡ all_taken s ns = nothing_else_commits r (typed_contexts_of head) (membranes_of head) a1.0 a.0 rule.no_typed rule.no_membranes a1.2 ∙ commits_taken r (rising 0 N) s a1.0 a1.1 in
-      let second : b.0 ≡ all_placed (all_taken s ns) es = commits_placed r N (1 + length (membranes_of head)) 0 body rule.simple a.0 b.0 b.1 ∙ ap (λ z. all_placed z es) first in
-      let third : d.0 ≡ all_tied (all_placed (all_taken s ns) es) (body_ties news olds (connectors body) n) =
+      let first : a.0 ≡ taken_all s ns = nothing_else_commits r (typed_contexts_of head) (membranes_of head) a1.0 a.0 rule.no_typed rule.no_membranes a1.2 ∙ commits_taken r (rising 0 N) s a1.0 a1.1 in
+      let second : b.0 ≡ all_placed (taken_all s ns) es = commits_placed r N (1 + length (membranes_of head)) 0 body rule.simple a.0 b.0 b.1 ∙ ap (λ z. all_placed z es) first in
+      let third : d.0 ≡ all_tied (all_placed (taken_all s ns) es) (body_ties news olds (connectors body) n) =
       commits_tied r (class_of (connectors body)) (new_ports N 0 body) (old_ports head) (rising 0 n) b.0 d.0 d.1 ∙ ap (λ z. all_tied z (body_ties news olds (connectors body) n)) second in
       d.2.2 ∙ d.2.1 ∙ ap finished third
 
@@ -164,7 +168,7 @@ module _ (head : List HeadItem) (body : List BodyItem) (n : ℕ) (rule : PlainRu
     unjoined : (p q : Port) → heap.In p.0 (new_atoms r N 0 body) → partners s p ≡ Some q → ⊥
     unjoined p q i e =
         let j = subst (heap.In p.0) (plain_new r N 0 body (simple_plain body rule.simple)) i in
-        let z : ◌≡◌ {A = Option Port} None (Some q) = sym (ap (λ (o : Option HeapAtom). prelude.slice_index_or (links_of o) p.1 None) (ma.fresh p.0 j)) ∙ sym (ma.links p.0 p.1) ∙ e in absurd (cc)
+        let z : ◌≡◌ {A = Option Port} None (Some q) = sym (ap (λ (o : Option HeapAtom). prelude.slice_index_or (partners_of o) p.1 None) (ma.fresh p.0 j)) ∙ sym (ma.links p.0 p.1) ∙ e in absurd (cc)
 
     abbrev bro : Brought c h r N body
     bro = record {
@@ -182,7 +186,7 @@ module _ (head : List HeadItem) (body : List BodyItem) (n : ℕ) (rule : PlainRu
     }
 
     abbrev v : Heap
-    v = all_tied (all_placed (all_taken s ns) es) (body_ties news olds (connectors body) n)
+    v = all_tied (all_placed (taken_all s ns) es) (body_ties news olds (connectors body) n)
 
     no_parts : PartAtoms h head r.head.images []
     no_parts = record {
@@ -197,7 +201,7 @@ module _ (head : List HeadItem) (body : List BodyItem) (n : ℕ) (rule : PlainRu
     abbrev sp : Splice (EndsLive s ns es) c (partners s) news olds (connectors body)
     sp = subst (λ z. Splice (EndsLive s z es) c (partners s) news olds (connectors body)) (nil_right (images_of r head)) (splice_at h valid head guard body n m r rule.atoms em stand c names bro [] no_parts)
 
-    abbrev below : (x : ℕ) → In x (links news ++ links olds) → x < n
+    abbrev below : (x : ℕ) → IsOneOf x (links news ++ links olds) → x < n
     below = links_below h valid head guard body n m r rule.atoms em stand c names bro [] no_parts
 
     abbrev fu : Fusion (EndsLive s ns es) c (partners v) news olds (connectors body)
@@ -206,38 +210,38 @@ module _ (head : List HeadItem) (body : List BodyItem) (n : ℕ) (rule : PlainRu
     abbrev name : ℕ → ℕ → ℕ
     name a i = fu.to (raw_link news c (a, i))
 
-    left_atoms : (k : ℕ) → atoms_of (finished v) name (withouts ns (atoms_in h k)) ≡ map (linked_by (λ x. fu.to (of_solid x))) (atoms_of h (λ a i. c (a, i)) (withouts ns (atoms_in h k)))
-    left_atoms k = kept_atoms h (finished v) (λ a i. c (a, i)) name (λ x. fu.to (of_solid x)) (withouts ns (atoms_in h k)) (λ a i.
+    left_atoms : (k : ℕ) → solid_atoms_at (finished v) name (without_all ns (atoms_in h k)) ≡ map (linked_by (λ x. fu.to (of_solid x))) (solid_atoms_at h (λ a i. c (a, i)) (without_all ns (atoms_in h k)))
+    left_atoms k = kept_atoms h (finished v) (λ a i. c (a, i)) name (λ x. fu.to (of_solid x)) (without_all ns (atoms_in h k)) (λ a i.
         let w = in_withouts_of ns (atoms_in h k) a (valid.sound.listed.atoms_once k) i in
         let p = in_place_listed h k a valid.sound.listed w.0 in (
-          commit_functor s ns es valid.tree.0 po c news olds (connectors body) n sp below a (inl (stands_again h valid head guard body n m r rule.atoms em stand c names bro [] no_parts a p, w.1))
+          commit_functor s ns es valid.tree.0 po c news olds (connectors body) n sp below a (inl (in_place_new h valid head guard body n m r rule.atoms em stand c names bro [] no_parts a p, w.1))
               ∙ kept_functor h valid head guard body n m r rule.atoms em stand c names bro [] no_parts a p,
           λ j. ap fu.to (kept_link h valid head guard body n m r rule.atoms em stand c names bro [] no_parts (a, j) p),
         ))
 
-    new_solid : atoms_of (finished v) name (numbers mk) ≡ made_atoms r (λ x. fu.to (of_rule x)) body
+    new_solid : solid_atoms_at (finished v) name (numbers mk) ≡ made_atoms r (λ x. fu.to (of_rule x)) body
     new_solid = new_atoms_are (finished v) r name (λ x. fu.to (of_rule x)) N 0 body rule.atoms.made rule.simple
         (λ e i. commit_functor s ns es valid.tree.0 po c news olds (connectors body) n sp below e.0
-        (inr (subst (heap.In e.0) (sym (es_are h valid head guard body n m r rule.atoms em stand c names bro [] no_parts)) (written_new r N 0 body e.0 e.1 i)))
+        (inr (subst (heap.In e.0) (sym (es_numbers h valid head guard body n m r rule.atoms em stand c names bro [] no_parts)) (written_new r N 0 body e.0 e.1 i)))
         ∙ new_functor h valid head guard body n m r rule.atoms em stand c names bro [] no_parts e i)
         (λ e i. ap fu.to (new_link h valid head guard body n m r rule.atoms em stand c names bro [] no_parts e i))
 
-    placed_atoms : (k : ℕ) → atoms_of (finished v) name (placed_in k es) ≡ cond (k == m) (made_atoms r (λ x. fu.to (of_rule x)) body) []
-    placed_atoms k = ap (atoms_of (finished v) name) (placed_here r N 0 k m body rule.simple em.here) ∙ by (k == m)
+    placed_atoms : (k : ℕ) → solid_atoms_at (finished v) name (placed_in k es) ≡ cond (k == m) (made_atoms r (λ x. fu.to (of_rule x)) body) []
+    placed_atoms k = ap (solid_atoms_at (finished v) name) (placed_here r N 0 k m body rule.simple em.here) ∙ by (k == m)
       where
-        by : (t : Bool) → atoms_of (finished v) name (cond t (numbers mk) []) ≡ cond t (made_atoms r (λ x. fu.to (of_rule x)) body) []
+        by : (t : Bool) → solid_atoms_at (finished v) name (cond t (numbers mk) []) ≡ cond t (made_atoms r (λ x. fu.to (of_rule x)) body) []
         by true = new_solid
         by false = refl
 
-    atoms_then : (k : ℕ) → atoms_of (finished v) name (atoms_in (finished v) k)
-        ≡ map (linked_by (λ x. fu.to (of_solid x))) (atoms_of h (λ a i. c (a, i)) (withouts ns (atoms_in h k))) ++ cond (k == m) (made_atoms r (λ x. fu.to (of_rule x)) body) []
+    atoms_then : (k : ℕ) → solid_atoms_at (finished v) name (atoms_in (finished v) k)
+        ≡ map (linked_by (λ x. fu.to (of_solid x))) (solid_atoms_at h (λ a i. c (a, i)) (without_all ns (atoms_in h k))) ++ cond (k == m) (made_atoms r (λ x. fu.to (of_rule x)) body) []
     atoms_then k =
-        ap (atoms_of (finished v) name) (commit_lists s ns es valid.tree.0 po c news olds (connectors body) n sp below k
-        ∙ ap (λ xs. withouts ns xs ++ placed_in k es) (same_atoms h valid head guard body n m r rule.atoms em stand c names bro [] no_parts k))
-        ∙ atoms_append (finished v) name (withouts ns (atoms_in h k)) (placed_in k es)
+        ap (solid_atoms_at (finished v) name) (commit_lists s ns es valid.tree.0 po c news olds (connectors body) n sp below k
+        ∙ ap (λ xs. without_all ns xs ++ placed_in k es) (same_atoms h valid head guard body n m r rule.atoms em stand c names bro [] no_parts k))
+        ∙ atoms_append (finished v) name (without_all ns (atoms_in h k)) (placed_in k es)
         ∙ (λ t. left_atoms k t ++ placed_atoms k t)
 
-    pub fires : Fires h c valid.tree.0 r head body m (finished v)
+    pub fires : FiresOnHeap h c valid.tree.0 r head body m (finished v)
     fires = record {
       valid = commit_valid s ns es valid.tree.0 po c news olds (connectors body) n sp below;
       tree = commit_tree s ns es valid.tree.0 po c news olds (connectors body) n sp below;
@@ -257,25 +261,16 @@ module _ (head : List HeadItem) (body : List BodyItem) (n : ℕ) (rule : PlainRu
 pub body_fires : BodyFires
 body_fires head body n rule r h valid guard m em stand c names h' w =
     let p = prepared head body n rule r h w.0 w.1 in
-    let q : Commits r (body_code head body n) (all_made h (made_of r (length (head_atoms head)) body)) h' = subst (λ z. Commits r (body_code head body n) z h') p.1 w.2 in
-    subst (λ z. Fires h c valid.tree.0 r head body m z) (sym (committed head body n rule r (all_made h (made_of r (length (head_atoms head)) body)) h' q))
+    let q : DoesAll r (body_code head body n) (all_made h (made_of r (length (head_atoms head)) body)) h' = subst (λ z. DoesAll r (body_code head body n) z h') p.1 w.2 in
+    subst (λ z. FiresOnHeap h c valid.tree.0 r head body m z) (sym (committed head body n rule r (all_made h (made_of r (length (head_atoms head)) body)) h' q))
     (fires head body n rule r h valid guard m em stand c names p.0)
 
 -- With membranes
 
-below_plain : (g k : ℕ) → g < 0 + k → g < k
-below_plain g k h = omega arith
-
-plain_below : (g k : ℕ) → g < k → g < 0 + k
-plain_below g k h = omega arith
-
-nothing_less : (g : ℕ) → 0 ≤ g
-nothing_less g = omega arith
-
 -- what stood before has the same partner
 prepared_links : (d : Port → ℕ) (h : Heap) (s : Heap) (r : Registers) (a m : ℕ) (body : List BodyItem) → AllPrepared d h s r a m body → (p : Port) → IsAtom h p.0 → partners s p ≡ partners h p
 prepared_links d h s r a m body pr p is =
-    ap (λ (f : ℕ → Option HeapAtom). prelude.slice_index_or (links_of (f p.0)) p.1 None) pr.atoms.atoms ∙ ap (λ (o : Option HeapAtom). prelude.slice_index_or (links_of o) p.1 None) (brought_old pr.free.brings p.0 is).1
+    ap (λ (f : ℕ → Option HeapAtom). prelude.slice_index_or (partners_of (f p.0)) p.1 None) pr.atoms.atoms ∙ ap (λ (o : Option HeapAtom). prelude.slice_index_or (partners_of o) p.1 None) (brought_old pr.free.brings p.0 is).1
 
 -- what prepares: everything that the code makes, with colours
 pub record Prepared (c : Port → ℕ) (h s : Heap) (r : Registers) (a m : ℕ) (body : List BodyItem) : Type 0 where
@@ -302,7 +297,7 @@ prepared_all head body n rule r h valid guard m em c names s prepares =
     let first : pa.0 ≡ h = prepares_taken_mems r (rising 1 K) pc.0 pa.0 pc.2 ∙ no_part_prepares r (rising 0 (length (typed_contexts_of head))) pb.0 pc.0 pc.1 ∙ prepares_taken r (rising 0 N) h pb.0 pb.1 in
     let last : s ≡ pd.0 = pe.2.2 ∙ pe.2.1 ∙ prepares_tied r (class_of (connectors body)) (new_ports N 0 body) (old_ports head) (rising 0 n) pd.0 pe.0 pe.1 in
     let from_h : Prepares r make h s = subst (λ z. Prepares r make h z) (sym last) (subst (λ z. Prepares r make z pd.0) first pd.1) in
-    let whole : (e : ℕ × ℕ) → In e (copies_of 0 body) → Whole h (r.head.images.part e.1) = λ e i. let t = rule.copied e i in part_whole h valid head guard body n m r rule em e.1 t.0 t.1 in
+    let whole : (e : ℕ × ℕ) → IsOneOf e (copies_of 0 body) → Whole h (r.head.images.part e.1) = λ e i. let t = rule.copied e i in part_whole h valid head guard body n m r rule em e.1 t.0 t.1 in
     with_colours c h s r N (1 + K) body valid names
     (making_prepares r N (1 + K) 0 body h valid.sound.paired valid.sound.shaped whole h s (λ a i. refl) valid.sound.paired valid.sound.shaped from_h)
     (prepares_listed r N (1 + K) 0 body h s valid.sound.listed from_h)
@@ -358,7 +353,7 @@ body_fires_within head body n nested r h valid guard m em stand c names h' (s, p
     let cd = commits_append r parts mems cb.0 ca.0 cb.2 in
     let ce = commits_append r make (links_part ++ (Proceed ∷ [])) ca.0 h' ca.2 in
     let cf = commits_append r links_part (Proceed ∷ []) ce.0 h' ce.2 in
-    let images : cb.0 ≡ all_taken s (images_of r head) = commits_taken r (rising 0 N) s cb.0 cb.1 in
+    let images : cb.0 ≡ taken_all s (images_of r head) = commits_taken r (rising 0 N) s cb.0 cb.1 in
     let taken_parts = parts_commit h valid head guard body n m r rule em (rising 0 (length (typed_contexts_of head))) (rising_distinct (length (typed_contexts_of head)) 0)
     (λ g i. get_some (typed_contexts_of head) g (below_plain g (length (typed_contexts_of head)) (rising_below (length (typed_contexts_of head)) 0 g i).1)) cb.0 cd.0
     (λ p is. ap (λ z. partners z p) images ∙ taken_links (images_of r head) s p.0 p.1 ∙ prepared_links d h s r N (1 + K) body pr p is) cd.1 in
@@ -369,10 +364,10 @@ body_fires_within head body n nested r h valid guard m em stand c names h' (s, p
           let t = get_some (typed_contexts_of head) u.0 (below_plain u.0 (length (typed_contexts_of head)) (rising_below (length (typed_contexts_of head)) 0 u.0 u.1).1) in (u.0, t.0, t.1, u.2);
       all = λ g t a w i. taken_parts.1.all g a (in_rising (length (typed_contexts_of head)) 0 g (nothing_less g) (plain_below g (length (typed_contexts_of head)) (get_below (typed_contexts_of head) g t w))) i;
     } in
-    let out : cd.0 ≡ all_taken s (images_of r head ++ ps) = taken_parts.1.is ∙ ap (λ z. all_taken z ps) images ∙ sym (taken_append s (images_of r head) ps) in
-    let removed : ca.0 ≡ all_taken_mems (all_taken s (images_of r head ++ ps)) (membrane_images r head) =
+    let out : cd.0 ≡ taken_all s (images_of r head ++ ps) = taken_parts.1.is ∙ ap (λ z. taken_all z ps) images ∙ sym (taken_append s (images_of r head) ps) in
+    let removed : ca.0 ≡ all_taken_mems (taken_all s (images_of r head ++ ps)) (membrane_images r head) =
     commits_taken_mems r (rising 1 K) cd.0 ca.0 cd.2 ∙ ap (λ z. all_taken_mems z (membrane_images r head)) out in
-    let run : Commits r make (all_taken_mems (all_taken s (images_of r head ++ ps)) (membrane_images r head)) ce.0 = subst (λ z. Commits r make z ce.0) removed ce.1 in
+    let run : DoesAll r make (all_taken_mems (taken_all s (images_of r head ++ ps)) (membrane_images r head)) ce.0 = subst (λ z. DoesAll r make z ce.0) removed ce.1 in
     let ties : cf.0 ≡ all_tied ce.0 (body_ties (at_heap (new_port r) (new_ports N 0 body)) (at_heap (old_port r) (old_ports head)) (connectors body) n) =
     commits_tied r (class_of (connectors body)) (new_ports N 0 body) (old_ports head) (rising 0 n) ce.0 cf.0 cf.1 in
     let v = all_tied ce.0 (body_ties (at_heap (new_port r) (new_ports N 0 body)) (at_heap (old_port r) (old_ports head)) (connectors body) n) in
@@ -386,11 +381,6 @@ body_fires_within head body n nested r h valid guard m em stand c names h' (s, p
       subst (λ z. FiresWithin h c r head body (images_of r head ++ ps) z) (sym done) (fires_by h (finished v) c d r head body (images_of r head ++ ps) all.colour
           (λ e i. is_atom_at h (old_port r e.0).0 (old_port r e.0).1 (old_port_stands h valid head guard body n m r rule em stand d all.names pr.free ps parts_are (old_port r e.0) (in_map (λ (q : Port × ℕ). q.0) (old_port r e.0, e.1) (at_heap (old_port r) (old_ports head)) (heap_in (old_port r) e (old_ports head) i))).1) (fires_within h valid head guard body n m r rule em stand d all.names goes contexts ps parts_are s pr ce.0 run sound)),
     )
-
-mapped : (f : ℕ → ℕ) (k : ℕ) (xs : List ℕ) → heap.In k xs → heap.In (f k) (map f xs)
-mapped f k [] i = i
-mapped f k (x ∷ xs) (inl e) = inl (ap f e)
-mapped f k (x ∷ xs) (inr i) = inr (mapped f k xs i)
 
 rising_once : (n a : ℕ) → heap.Distinct (rising a n)
 rising_once n a = subst heap.Distinct (same (rising a n)) (distinct_images (λ x. x) n a (λ x y k h l g e. e))
@@ -410,7 +400,7 @@ module _ (head : List HeadItem) (body : List BodyItem) (n : ℕ) (rule : AtomRul
   abbrev T2 : ℕ
   T2 = length (typed_contexts_of head)
 
-  typed_at : (g : ℕ) → In g (rising 0 T2) → (t : HeadTyped) × HasTyped head g t
+  typed_at : (g : ℕ) → IsOneOf g (rising 0 T2) → (t : HeadTyped) × HasTyped head g t
   typed_at g i = get_some (typed_contexts_of head) g (below_plain g T2 (rising_below T2 0 g i).1)
 
   -- what stood before stands when all is made
@@ -426,7 +416,7 @@ module _ (head : List HeadItem) (body : List BodyItem) (n : ℕ) (rule : AtomRul
   image_of : (a : ℕ) → heap.In a (images_of r head) → (k : ℕ) × (k < N2) × (r.head.images.atom k ≡ a)
   image_of a i = let w = of_map r.head.images.atom a (rising 0 N2) (heap_in_of a (images_of r head) i) in (w.0, below_plain w.0 N2 (rising_below N2 0 w.0 w.1).1, w.2)
 
-  same_links : (t : Heap) → t ≡ all_taken s (images_of r head) → (p : Port) → IsAtom h p.0 → partners t p ≡ partners h p
+  same_links : (t : Heap) → t ≡ taken_all s (images_of r head) → (p : Port) → IsAtom h p.0 → partners t p ≡ partners h p
   same_links t e p is = ap (λ z. partners z p) e ∙ taken_links (images_of r head) s p.0 p.1 ∙ prepared_links d h s r N2 (1 + K2) body pr p is
 
   head_atoms_can : CanRun r (map RemoveAtom (rising 0 N2)) s
@@ -436,7 +426,7 @@ module _ (head : List HeadItem) (body : List BodyItem) (n : ℕ) (rule : AtomRul
       let a = get_some (head_atoms head) k b in
       prepared_stands (r.head.images.atom k) (in_place_listed h (r.head.images.membrane a.0.inside) (r.head.images.atom k) valid.sound.listed (em.atoms_placed k a.0 a.1)))
 
-  head_parts_can : (t : Heap) → t ≡ all_taken s (images_of r head) → CanRun r (map RemovePart (rising 0 T2)) t
+  head_parts_can : (t : Heap) → t ≡ taken_all s (images_of r head) → CanRun r (map RemovePart (rising 0 T2)) t
   head_parts_can t e = parts_can r h (rising 0 T2) (rising_once T2 0) t valid.sound.paired
       (λ g i. let x = typed_at g (heap_in_of g (rising 0 T2) i) in part_there h valid head guard body n m r rule em g x.0 x.1) (same_links t e)
       (λ g k a i j d p q. let x = typed_at g (heap_in_of g (rising 0 T2) i) in let y = typed_at k (heap_in_of k (rising 0 T2) j) in
@@ -447,7 +437,7 @@ module _ (head : List HeadItem) (body : List BodyItem) (n : ℕ) (rule : AtomRul
       (prepared_stands a (subst (λ (o : Option ℕ). IsSome o) (sym ((em.parts g x.0 x.1).whole.at_home a p)) refl))))
 
   -- the parts that are taken
-  parts_taken : (t u : Heap) → t ≡ all_taken s (images_of r head) → Commits r (map RemovePart (rising 0 T2)) t u → (ps : List ℕ) × PartAtoms h head r.head.images ps × (u ≡ all_taken s (images_of r head ++ ps))
+  parts_taken : (t u : Heap) → t ≡ taken_all s (images_of r head) → DoesAll r (map RemovePart (rising 0 T2)) t u → (ps : List ℕ) × PartAtoms h head r.head.images ps × (u ≡ taken_all s (images_of r head ++ ps))
   parts_taken t u e w =
       let v = parts_commit h valid head guard body n m r rule em (rising 0 T2) (rising_distinct T2 0) typed_at t u (same_links t e) w in (
         v.0,
@@ -456,11 +446,11 @@ module _ (head : List HeadItem) (body : List BodyItem) (n : ℕ) (rule : AtomRul
           are = λ a i. let q = v.1.are a i in let x = typed_at q.0 q.1 in (q.0, x.0, x.1, q.2);
           all = λ g x a y i. v.1.all g a (in_rising T2 0 g (nothing_less g) (plain_below g T2 (get_below (typed_contexts_of head) g x y))) i;
         },
-        v.1.is ∙ ap (λ z. all_taken z v.0) e ∙ sym (taken_append s (images_of r head) v.0),
+        v.1.is ∙ ap (λ z. taken_all z v.0) e ∙ sym (taken_append s (images_of r head) v.0),
       )
 
   -- all removals
-  removals_commit : (t : Heap) → Commits r (removals head) s t → (ps : List ℕ) × PartAtoms h head r.head.images ps × (t ≡ all_taken_mems (all_taken s (images_of r head ++ ps)) (membrane_images r head))
+  removals_commit : (t : Heap) → DoesAll r (removals head) s t → (ps : List ℕ) × PartAtoms h head r.head.images ps × (t ≡ all_taken_mems (taken_all s (images_of r head ++ ps)) (membrane_images r head))
   removals_commit t w =
       let a = commits_append r (map RemoveAtom (rising 0 N2)) (map RemovePart (rising 0 T2) ++ map RemoveMem (rising 1 K2)) s t w in
       let b = commits_append r (map RemovePart (rising 0 T2)) (map RemoveMem (rising 1 K2)) a.0 t a.2 in
@@ -499,11 +489,11 @@ body_can_run head body n nested r h valid guard m em stand c names s prepares sp
     (u.0, ap (λ z. heap.parent_of z (r.head.images.membrane k)) p.2 ∙ u.1)))))
     (λ tb wb.
     let p = removals_commit head body n rule r h valid guard m em s d pr tb wb in
-    let t2 = all_taken_mems (all_taken s (images_of r head ++ p.0)) (membrane_images r head) in
+    let t2 = all_taken_mems (taken_all s (images_of r head ++ p.0)) (membrane_images r head) in
     can_append r make (links_part ++ (Proceed ∷ [])) tb
     (subst (CanRun r make) (sym p.2) (making_part_can h valid head guard body n m r rule em stand d all.names goes contexts p.0 p.1 s pr nests nested.head_nests listed removed home_mem home_out new_out spares))
     (λ tc wc.
-    let run : Commits r make t2 tc = subst (λ z. Commits r make z tc) p.2 wc in
+    let run : DoesAll r make t2 tc = subst (λ z. DoesAll r make z tc) p.2 wc in
     can_append r links_part (Proceed ∷ []) tc
     (links_part_can h valid head guard body n m r rule em stand d all.names goes contexts p.0 p.1 s pr nests nested.head_nests listed removed home_mem home_out new_out spares tc run)
     (λ td wd.

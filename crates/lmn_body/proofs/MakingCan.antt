@@ -4,12 +4,12 @@ use Rattle.std.proofs.lemmas.Bool.{cases_eq, eq-eqb, eqb-true}
 use Rattle.std.proofs.lemmas.List.{append_assoc, length-append}
 use Rattle.std.specs.Option.{option_map}
 use Rattle.lmn_heap.specs.Heap as heap
-use Rattle.lmn_heap.specs.Heap.{Heap, HeapMem, Place, top, within, waiting, gone, alter, mem_with_atoms, mem_with_mems, mem_with_place, mem_with_rules, mem_sent, emptied, filled, mem_place_of, mems_in, rules_in, spare_of, spare_by, IsMemInPlace, StandsAt, In, Distinct, placed, placed_mem, moved_all}
+use Rattle.lmn_heap.specs.Heap.{Heap, HeapMem, Place, top, within, waiting, gone, alter, mem_with_atoms, mem_with_mems, mem_with_place, mem_with_rules, mem_sent, emptied, filled, mem_place_of, mems_in, rules_in, spare_of, spare_by, IsMemInPlace, IsTopOrWithin, In, Distinct, placed, placed_mem, moved_all}
 use Rattle.lmn_heap.specs.Sound.{Listed}
 use Rattle.lmn_heap.specs.Conditions.{Above, IsOutside}
 use Rattle.lmn_heap.proofs.ListLemmas as lists
 use Rattle.lmn_heap.proofs.ListLemmas.{in_left, in_right}
-use Rattle.lmn_heap.proofs.Trees.{in_either}
+use Rattle.lmn_heap.proofs.Trees.{in_either, mem_by as is_some}
 use Rattle.lmn_heap.proofs.Listing.{alter_at, placed_listed, same_mem_place}
 use Rattle.lmn_solid.specs.Embeddings.{index_of}
 use Rattle.lmn_body.specs.declared.items.BodyItem.{BodyItem}
@@ -26,8 +26,9 @@ use Rattle.lmn_body.proofs.MakingParts.{same_rules_added}
 use Rattle.lmn_body.proofs.MemListing.{same_lists_listed, sent_at, moved_place}
 use Rattle.lmn_heap.proofs.MemListing.{placed_mem_listed}
 use Rattle.lmn_heap.proofs.MoveListing.{moved_all_listed}
-use Rattle.lmn_body.proofs.Removing.{parent_place}
 use Rattle.lmn_body.proofs.Below.{index_split, index_front}
+use Rattle.lmn_heap.proofs.Common.{decide_in as decide}
+use Rattle.lmn_heap.proofs.Heights.{parent_place}
 
 -- Ranks of membranes: the membrane of the rule and the made ones are low, in the order in which they are made, and removed
 -- ones are high.
@@ -53,32 +54,25 @@ pub record State (r : Registers) (home : ℕ) (ks : List ℕ) (rank : ℕ → �
 place_some : (s : Heap) (x : ℕ) → IsMemInPlace s x → IsSome (s.mems x)
 place_some s x i = by (s.mems x) i
   where
-    by : (o : Option HeapMem) → StandsAt (option_map (λ y. y.place) o) → IsSome o
+    by : (o : Option HeapMem) → IsTopOrWithin (option_map (λ y. y.place) o) → IsSome o
     by None i = absurd i
     by (Some y) i = refl
 
-is_some : (s : Heap) (x : ℕ) (P : Place) → mem_place_of s x ≡ Some P → IsSome (s.mems x)
-is_some s x P e = by (s.mems x) e
-  where
-    by : (o : Option HeapMem) → place_by o ≡ Some P → IsSome o
-    by None e = absurd (cc)
-    by (Some y) e = refl
-
 not_waiting : (s : Heap) (x : ℕ) → IsMemInPlace s x → mem_place_of s x ≡ Some waiting → ⊥
-not_waiting s x i e = subst StandsAt e i
+not_waiting s x i e = subst IsTopOrWithin e i
 
 same_in_place : (s t : Heap) (x : ℕ) → mem_place_of t x ≡ mem_place_of s x → IsMemInPlace s x → IsMemInPlace t x
-same_in_place s t x e i = subst StandsAt (sym e) i
+same_in_place s t x e i = subst IsTopOrWithin (sym e) i
 
 gone_waiting : (s : Heap) (x : ℕ) → mem_place_of s x ≡ Some gone → mem_place_of s x ≡ Some waiting → ⊥
 gone_waiting s x e f = let w : Some gone ≡ Some waiting = sym e ∙ f in absurd (cc)
 
-sent_stands : (m n : ℕ) (o : Option Place) → StandsAt o → StandsAt (sent_at m n o)
+sent_stands : (m n : ℕ) (o : Option Place) → IsTopOrWithin o → IsTopOrWithin (sent_at m n o)
 sent_stands m n None i = absurd i
 sent_stands m n (Some top) i = tt
 sent_stands m n (Some (within k)) i = by (k == m)
   where
-    by : (t : Bool) → StandsAt (Some (cond t (within n) (within k)))
+    by : (t : Bool) → IsTopOrWithin (Some (cond t (within n) (within k)))
     by true = tt
     by false = tt
 sent_stands m n (Some waiting) i = absurd i
@@ -100,13 +94,6 @@ up_after ks rank s t mv na nm A M R dk dm g up more p x i = elim (dk p) [
     | inl j ↦ absurd (subst (In x) (g.empty p j).1 i)
     | inr o ↦ up p x (subst (In x) (g.head_mems p k o) i)
   ]
-]
-
-decide : (a : ℕ) (xs : List ℕ) → In a xs ⊎ (In a xs → ⊥)
-decide a [] = inr (λ i. i)
-decide a (x ∷ xs) = elim (cases_eq x a) [
-  | inl e ↦ inl (inl e)
-  | inr d ↦ elim (decide a xs) [ inl i ↦ inl (inr i) | inr o ↦ inr (λ j. elim j [ inl e ↦ d e | inr i ↦ o i ]) ]
 ]
 
 -- what is above has no greater rank
@@ -285,7 +272,7 @@ module _ (r : Registers) (home : ℕ) (ks nm : List ℕ) (rank : ℕ → ℕ) (E
       split_once (x ∷ xs) z ys d i = split_once xs z ys d.1 i
 
       now_placed : (s : Heap) (y z : ℕ) → mem_place_of s z ≡ Some waiting → IsMemInPlace (placed_mem s y z) z
-      now_placed s y z e = subst StandsAt (sym (change_keeps place_by (alter s.mems z (option_map (mem_with_place (within y)))) y (mem_with_mems (λ ws. ws ++ z ∷ [])) (λ q. refl) z
+      now_placed s y z e = subst IsTopOrWithin (sym (change_keeps place_by (alter s.mems z (option_map (mem_with_place (within y)))) y (mem_with_mems (λ ws. ws ++ z ∷ [])) (λ q. refl) z
           ∙ ap place_by (alter_at s.mems z (option_map (mem_with_place (within y)))) ∙ by (s.mems z) e)) tt
         where
           by : (o : Option HeapMem) → place_by o ≡ Some waiting → place_by (option_map (mem_with_place (within y)) o) ≡ Some (within y)
@@ -320,7 +307,7 @@ module _ (r : Registers) (home : ℕ) (ks nm : List ℕ) (rank : ℕ → ℕ) (E
             let high = rk.removed q k in
             let child = st.up q x w.0 in
             subst (λ z. rank z < rank x) w.1 (omega arith));
-        place = λ x i. subst StandsAt (sym (place x)) (sent_stands q y (mem_place_of s x) (st.place x i));
+        place = λ x i. subst IsTopOrWithin (sym (place x)) (sent_stands q y (mem_place_of s x) (st.place x i));
         gone_ks = λ x i. place x ∙ ap (sent_at q y) (st.gone_ks x i);
         wait = λ x i. place x ∙ ap (sent_at q y) (st.wait x i);
         line = st.line;

@@ -4,7 +4,7 @@ use Rattle.lmn_heap.specs.Heap.{Heap, In, atoms_in, mems_in, rules_in}
 use Rattle.lmn_body.specs.declared.items.BodyItem.{BodyItem}
 use Rattle.lmn_body.specs.declared.items.BodyItem.TheVariants.{Atom, Connector, Copy, Bound, Membrane, Rest, Rule, Rules}
 use Rattle.lmn_body.specs.Code.{making}
-use Rattle.lmn_body.specs.Running.{Registers, Commits}
+use Rattle.lmn_body.specs.Running.{Registers, DoesAll}
 use Rattle.lmn_body.specs.Rules.{Goes}
 use Rattle.lmn_body.specs.Added.{if_inside, added_atoms, added_mems, added_rules, moved_mems, made_mems}
 use Rattle.lmn_body.specs.Made.{new_atoms}
@@ -107,7 +107,7 @@ there_on : (E : ℕ → Type 0) (s t : Heap) → ((x : ℕ) → there_by (t.mems
 there_on E s t e h x i = some_there (s.mems x) (t.mems x) (e x) (h x i)
 
 pub making_grows : (r : Registers) (ks : List ℕ) (E : ℕ → Type 0) (a m c : ℕ) (body : List BodyItem) → Goes r ks E body → (s t : Heap) → ((x : ℕ) → E x → IsSome (s.mems x))
-    → Commits r (making a m c body) s t → GrownBy r ks a m c body s t
+    → DoesAll r (making a m c body) s t → GrownBy r ks a m c body s t
 making_grows r ks E a m c [] w s t h run = subst (λ z. Grown ks s z [] [] [] (λ x. []) (λ x. []) (λ x. [])) (sym run) (grown_none ks s)
 making_grows r ks E a m c (Atom functor links inside ∷ xs) w s t h run =
     let y = r.head.images.membrane inside in

@@ -3,18 +3,17 @@ use Rattle.std.proofs.Common.{ℕ, zero, suc, ◌+◌, ◌<◌, ◌≤◌, ◌�
 use Rattle.std.specs.Option.{option_map, option_and_then}
 use Rattle.std.specs.Prelude as prelude
 use Rattle.lmn_base.specs.declared.guard.Cond.{Cond}
-use Rattle.lmn_heap.specs.Heap.{Heap, HeapAtom, HeapMem, top, within, waiting, gone, home_by, links_of, functor_of, arity_of, link_of, place_of, mem_place_of, home_of, atoms_in, mems_in, rules_in, atoms_by, mems_by, rules_by, IsMem, IsInPlace, IsMemInPlace, In, Distinct, finished}
+use Rattle.lmn_heap.specs.Heap.{Heap, HeapAtom, HeapMem, top, within, waiting, gone, home_by, partners_of, functor_of, arity_of, link_of, place_of, mem_place_of, home_of, atoms_in, mems_in, rules_in, atoms_by, mems_by, rules_by, IsMem, IsInPlace, IsMemInPlace, In, Distinct, finished, taken_all}
 use Rattle.lmn_heap.specs.Heap as heap
 use Rattle.lmn_heap.specs.Sound.{Paired, Valid, Sound}
 use Rattle.lmn_heap.specs.Conditions.{Ready}
 use Rattle.lmn_heap.proofs.ListLemmas.{in_left, in_right}
 use Rattle.lmn_heap.proofs.Trees.{in_either, nil_right}
-use Rattle.lmn_heap.proofs.Listing.{same_paired}
+use Rattle.lmn_heap.proofs.Listing.{same_paired, listed_mem as listed_some}
 use Rattle.lmn_heap.proofs.Replacing.{no_waiting, no_waiting_mems}
 use Rattle.lmn_solid.specs.declared.items.HeadItem.{HeadItem}
 use Rattle.lmn_solid.specs.Heads.{HeadMembrane, atoms_of, membranes_of}
 use Rattle.lmn_solid.specs.Embeddings.{Embeds, HasMembrane}
-use Rattle.lmn_splice.specs.Ports.{Port}
 use Rattle.lmn_splice.specs.Classes.{body_ties}
 use Rattle.lmn_splice.specs.Splice.{raw_link, of_solid, Splice, Fusion}
 use Rattle.lmn_splice.specs.Splice as splice
@@ -24,26 +23,29 @@ use Rattle.lmn_parts.proofs.AnswerLaws.{answer_in}
 use Rattle.lmn_body.specs.declared.items.BodyItem.{BodyItem}
 use Rattle.lmn_body.specs.Tied.{partners, all_tied}
 use Rattle.lmn_body.specs.Items.{new_ports, old_ports, connectors}
-use Rattle.lmn_body.specs.Running.{Registers, old_port, new_port, withouts, all_taken, Commits}
+use Rattle.lmn_body.specs.Running.{Registers, old_port, new_port, DoesAll}
 use Rattle.lmn_body.specs.Names.{StandsPort, Names}
 use Rattle.lmn_body.specs.Added.{added_atoms, added_mems, added_rules, moved_mems, made_mems}
 use Rattle.lmn_body.specs.Fired.{images_of}
 use Rattle.lmn_body.specs.Within.{membrane_images, IsCopyIn, FiresWithin}
 use Rattle.lmn_body.proofs.HeapTies.{SameItems, heap_fusion}
-use Rattle.lmn_body.proofs.Phases.{atoms_of_pairs, listed_some, place_home}
+use Rattle.lmn_body.proofs.Phases.{atoms_of_pairs}
 use Rattle.lmn_body.proofs.Coding.{at_heap}
 use Rattle.lmn_body.specs.Made.{places_of, new_atoms, copies_of}
 use Rattle.lmn_body.proofs.BodyPorts.{heap_in, written_new, copied_new}
 use Rattle.lmn_body.proofs.Finishing.{within_of, in_place_within, in_place_listed, ready, names_left, stands_on}
 use Rattle.lmn_body.proofs.Committing.{in_withouts_of, in_withouts, EndsLive}
 use Rattle.lmn_body.specs.Rules.{AtomRule, Goes, Exists, PartAtoms}
-use Rattle.lmn_body.proofs.Firing.{distinct_images, decide_in, in_place_old, is_taken, part_taken, ns_once, home_s, old_atom, is_atom, taken_in_place, splice_at, links_below, new_link, kept_link, inner_link, kept_functor, new_functor, stands_again, es_are}
+use Rattle.lmn_body.proofs.Firing.{distinct_images, in_place_old, is_taken, part_taken, ns_once, home_s, old_atom, is_atom, taken_in_place, splice_at, links_below, new_link, kept_link, inner_link, kept_functor, new_functor, in_place_new, es_numbers}
 use Rattle.lmn_body.proofs.Below.{removed_is as image_of_head, is_removed as head_is_image}
 use Rattle.lmn_body.proofs.Growing.{some_there}
 use Rattle.lmn_body.proofs.MakingParts.{GrownBy, making_grows, same_atoms_added, same_mems_added, same_rules_added}
 use Rattle.lmn_body.proofs.Removing.{Shrunk, InOneList, MemInOneList, all_taken_mems, shrunk_atoms, shrunk_mems, shrunk_after, taken_places, place_parent}
 use Rattle.lmn_body.proofs.Preparing.{Brought, AllPrepared}
 use Rattle.lmn_body.proofs.AddedLemmas.{comes_from, new_arrives, moved_arrives}
+use Rattle.lmn_base.specs.Graphs.{Port}
+use Rattle.lmn_heap.specs.Lists.{without_all}
+use Rattle.lmn_heap.proofs.Common.{decide_in, place_home}
 use Rattle.lmn_body.specs.Code.{making}
 
 module _ (h : Heap) (valid : Valid h) (head : List HeadItem) (guard : List Cond) (body : List BodyItem) (n m : ℕ) (r : Registers) (rule : AtomRule head body n)
@@ -144,7 +146,7 @@ module _ (h : Heap) (valid : Valid h) (head : List HeadItem) (guard : List Cond)
 
       within_one : (v w a : ℕ) → place_of h a ≡ Some (within v) → home_of s a ≡ Some w → v ≡ w
       within_one v w a e f =
-          let old = stands_again h valid head guard body n m r rule em stand c names free ps parts a (in_place_within h a v e) in
+          let old = in_place_new h valid head guard body n m r rule em stand c names free ps parts a (in_place_within h a v e) in
           one_some v w (sym (place_home h a v e) ∙ sym (same_home_h a (in_place_within h a v e)) ∙ f)
         where
           same_home_h : (a : ℕ) → IsInPlace h a → home_of s a ≡ home_of h a
@@ -152,7 +154,7 @@ module _ (h : Heap) (valid : Valid h) (head : List HeadItem) (guard : List Cond)
               (old_atom h valid head guard body n m r rule em stand c names free ps parts a (is_atom h valid head guard body n m r rule em stand c names free ps parts a i))
 
   abbrev pub t1 : Heap
-  t1 = all_taken s ns
+  t1 = taken_all s ns
 
   sh1 : Shrunk s t1 ns []
   sh1 = shrunk_atoms ns s (ns_once h valid head guard body n m r rule em stand c names free ps parts) once_s
@@ -189,16 +191,16 @@ module _ (h : Heap) (valid : Valid h) (head : List HeadItem) (guard : List Cond)
 
   -- what is left of a membrane
   abbrev pub left_atoms : ℕ → List ℕ
-  left_atoms x = withouts ns (atoms_in h x)
+  left_atoms x = without_all ns (atoms_in h x)
 
   abbrev pub left_mems : ℕ → List ℕ
-  left_mems x = withouts ks (mems_in h x)
+  left_mems x = without_all ks (mems_in h x)
 
   atoms_t2 : (x : ℕ) → atoms_in t2 x ≡ left_atoms x
-  atoms_t2 x = sh.atoms x ∙ ap (withouts ns) (lists_s x).0
+  atoms_t2 x = sh.atoms x ∙ ap (without_all ns) (lists_s x).0
 
   pub mems_t2 : (x : ℕ) → mems_in t2 x ≡ left_mems x
-  mems_t2 x = sh.mems x ∙ ap (withouts ks) (lists_s x).1
+  mems_t2 x = sh.mems x ∙ ap (without_all ks) (lists_s x).1
 
   pub rules_t2 : (x : ℕ) → rules_in t2 x ≡ rules_in h x
   rules_t2 x = sh.rules x ∙ (lists_s x).2
@@ -231,7 +233,7 @@ module _ (h : Heap) (valid : Valid h) (head : List HeadItem) (guard : List Cond)
       no_context true d = absurd (d refl)
       no_context false d = refl
 
-  module _ (t3 : Heap) (run : Commits r (making N (1 + K) 0 body) t2 t3) where
+  module _ (t3 : Heap) (run : DoesAll r (making N (1 + K) 0 body) t2 t3) where
     pub gr : GrownBy r ks N (1 + K) 0 body t2 t3
     gr = making_grows r ks (Exists h r head body) N (1 + K) 0 body goes t2 t3 there_t2 run
 
@@ -251,14 +253,14 @@ module _ (h : Heap) (valid : Valid h) (head : List HeadItem) (guard : List Cond)
     functors_t3 a = gr.same.functors a ∙ sh.same.functors a
 
     pub sp_s : Splice F c (partners s) news olds wires
-    sp_s = subst (λ (f : ℕ → Option HeapAtom). Splice (λ p. (p.1 < length (links_of (f p.0))) × ((IsSome (option_and_then (λ x. home_by x.place) (f p.0)) × (In p.0 ns → ⊥)) ⊎ In p.0 (atoms_of_pairs es)))
-        c (λ p. prelude.slice_index_or (links_of (f p.0)) p.1 None) news olds wires) (sym same_atom) (splice_at h valid head guard body n m r rule em stand c names free ps parts)
+    sp_s = subst (λ (f : ℕ → Option HeapAtom). Splice (λ p. (p.1 < length (partners_of (f p.0))) × ((IsSome (option_and_then (λ x. home_by x.place) (f p.0)) × (In p.0 ns → ⊥)) ⊎ In p.0 (atoms_of_pairs es)))
+        c (λ p. prelude.slice_index_or (partners_of (f p.0)) p.1 None) news olds wires) (sym same_atom) (splice_at h valid head guard body n m r rule em stand c names free ps parts)
 
     pub same_partners : partners t3 ≡ partners s
     same_partners = λ i p. links_t3 p.0 p.1 i
 
     pub paired_s : Paired s
-    paired_s = same_paired s0 s (λ x i. ap (λ (f : ℕ → Option HeapAtom). prelude.slice_index_or (links_of (f x)) i None) same_atom) free.sound.paired
+    paired_s = same_paired s0 s (λ x i. ap (λ (f : ℕ → Option HeapAtom). prelude.slice_index_or (partners_of (f x)) i None) same_atom) free.sound.paired
 
     fu : Fusion F c (partners v) news olds wires × Paired v × SameItems t3 v
     fu = heap_fusion F c news olds wires n t3 (same_paired s t3 links_t3 paired_s) (λ p f. subst (λ k. p.1 < k) (sym (arities_t3 p.0)) f.0)
@@ -296,7 +298,7 @@ module _ (h : Heap) (valid : Valid h) (head : List HeadItem) (guard : List Cond)
 
     module _ (sound : Sound v) where
       old_s : (a : ℕ) → IsInPlace h a → IsInPlace s a
-      old_s a i = subst (λ (f : ℕ → Option HeapAtom). IsSome (option_and_then (λ x. home_by x.place) (f a))) (sym same_atom) (stands_again h valid head guard body n m r rule em stand c names free ps parts a i)
+      old_s a i = subst (λ (f : ℕ → Option HeapAtom). IsSome (option_and_then (λ x. home_by x.place) (f a))) (sym same_atom) (in_place_new h valid head guard body n m r rule em stand c names free ps parts a i)
 
       pub s_old : (a : ℕ) → IsInPlace s a → IsInPlace h a
       s_old a i = in_place_old h valid head guard body n m r rule em stand c names free ps parts a (subst (λ (f : ℕ → Option HeapAtom). IsSome (option_and_then (λ x. home_by x.place) (f a))) same_atom i)
@@ -305,7 +307,7 @@ module _ (h : Heap) (valid : Valid h) (head : List HeadItem) (guard : List Cond)
       left_stands x a i = let w = in_withouts_of ns (atoms_in h x) a (valid.sound.listed.atoms_once x) i in (old_s a (in_place_listed h x a valid.sound.listed w.0), w.1)
 
       numbers_pairs : (a : ℕ) → In a new → In a (atoms_of_pairs es)
-      numbers_pairs a i = subst (In a) (sym (es_are h valid head guard body n m r rule em stand c names free ps parts)) i
+      numbers_pairs a i = subst (In a) (sym (es_numbers h valid head guard body n m r rule em stand c names free ps parts)) i
 
       pub stands_v : (a : ℕ) → IsInPlace v a → (IsInPlace s a × (In a ns → ⊥)) ⊎ In a (atoms_of_pairs es)
       stands_v a i =
@@ -334,7 +336,7 @@ module _ (h : Heap) (valid : Valid h) (head : List HeadItem) (guard : List Cond)
             ]
           ]
       stands_then a (inr i) =
-          let y = new_arrives r left_atoms ks (Exists h r head body) N 0 body goes a (subst (In a) (es_are h valid head guard body n m r rule em stand c names free ps parts) i) in arrives y.0 a y.1 y.2
+          let y = new_arrives r left_atoms ks (Exists h r head body) N 0 body goes a (subst (In a) (es_numbers h valid head guard body n m r rule em stand c names free ps parts) i) in arrives y.0 a y.1 y.2
 
       arities_v : (a : ℕ) → arity_of v a ≡ arity_of s a
       arities_v a = same.arities a ∙ arities_t3 a
@@ -399,7 +401,7 @@ module _ (h : Heap) (valid : Valid h) (head : List HeadItem) (guard : List Cond)
       kept_s a i = ap (λ (f : ℕ → Option HeapAtom). option_map (λ x. x.functor) (f a)) same_atom ∙ kept_functor h valid head guard body n m r rule em stand c names free ps parts a i
 
       -- an atom of a copy stands
-      copied_pairs : (e : ℕ × ℕ) → splice.In e (copies_of 0 body) → (y : ℕ) → In y (r.copied e.0) → In y (atoms_of_pairs es)
+      copied_pairs : (e : ℕ × ℕ) → splice.IsOneOf e (copies_of 0 body) → (y : ℕ) → In y (r.copied e.0) → In y (atoms_of_pairs es)
       copied_pairs e i y j = numbers_pairs y (copied_new r N 0 body e y i j)
 
       named_v : Names (finished v) number
@@ -424,11 +426,11 @@ module _ (h : Heap) (valid : Valid h) (head : List HeadItem) (guard : List Cond)
           stands_port x z k f =
               let at = stands_on v x.0 (stands_then x.0 (inr (numbers_pairs x.0 k))) in (
                 subst (λ (o : Option HeapAtom). IsSome (option_and_then (λ y. home_by y.place) o)) (sym at) (stands_then x.0 (inr (numbers_pairs x.0 k))),
-                subst (λ (o : Option HeapAtom). x.1 < length (links_of o)) (sym at) (subst (λ k. x.1 < k) (sym (arities_v x.0 ∙ ap (λ (g : ℕ → Option HeapAtom). length (links_of (g x.0))) same_atom))
+                subst (λ (o : Option HeapAtom). x.1 < length (partners_of o)) (sym at) (subst (λ k. x.1 < k) (sym (arities_v x.0 ∙ ap (λ (g : ℕ → Option HeapAtom). length (partners_of (g x.0))) same_atom))
                     (port_within s0 x.0 x.1 z f)),
               )
 
-      copies_then : (e : ℕ × ℕ) → splice.In e (copies_of 0 body) → IsCopyIn h (finished v) (r.head.images.part e.1) (r.copy e.0) (r.copied e.0)
+      copies_then : (e : ℕ × ℕ) → splice.IsOneOf e (copies_of 0 body) → IsCopyIn h (finished v) (r.head.images.part e.1) (r.copy e.0) (r.copied e.0)
       copies_then e i =
           let k = free.copies e i in
           let at : (a : ℕ) → In a k.is.atoms → In (answer k.is.atoms (r.copied e.0) a) (r.copied e.0) = λ a j. answer_in k.is.atoms (r.copied e.0) a (long_enough k.is.long) j in

@@ -11,17 +11,17 @@ use Rattle.lmn_base.specs.declared.level.CtxUse.{CtxUse}
 use Rattle.lmn_guards.specs.declared.plan.TypeKind.{TypeKind}
 use Rattle.lmn_solid.specs.declared.items.HeadItem.{HeadItem}
 use Rattle.lmn_solid.specs.Heads.{membranes_of}
-use Rattle.lmn_solid.specs.Flattening.{Unnumbered, leaf_items, membrane_items, flatten_step, unnumbered, items_of}
-use Rattle.lmn_splice.specs.Splice.{In}
+use Rattle.lmn_solid.specs.Flattening.{Unnumbered, leaf_items, head_membrane_items, flatten_step, unnumbered, items_of_head}
+use Rattle.lmn_splice.specs.Splice.{IsOneOf}
 use Rattle.lmn_body.specs.Rules.{IsHeadMembrane}
-use Rattle.lmn_body.specs.Flattening.{Numbered, names_inside, names_below, numbering, membrane_named}
+use Rattle.lmn_body.specs.Flattening.{NumberedContexts, names_inside, names_below, numbering, membrane_named}
 use Rattle.lmn_body.specs.Laws.{ContextsOfHeads}
-use Rattle.lmn_body.proofs.HeadPorts.{in_append}
+use Rattle.lmn_splice.proofs.Common.{in_append}
 
 -- How many membranes a flattened head has
 
 module _ (kind : ℕ → TypeKind) where
-  leaves_none : (inside : ℕ) (ls : List Leaf) (rest : List HeadItem) → membranes_of (leaf_items kind inside ls ++ rest) ≡ membranes_of rest
+  pub leaves_none : (inside : ℕ) (ls : List Leaf) (rest : List HeadItem) → membranes_of (leaf_items kind inside ls ++ rest) ≡ membranes_of rest
   leaves_none inside [] rest = refl
   leaves_none inside (leaf.Atom f os p ∷ ls) rest = leaves_none inside ls rest
   leaves_none inside (leaf.Typed m o p ∷ ls) rest = leaves_none inside ls rest
@@ -31,7 +31,7 @@ module _ (kind : ℕ → TypeKind) where
 
   abbrev InnerCounts : List Level → Type 0
   InnerCounts ls = (inside next : ℕ) (rest : List HeadItem) →
-      length (membranes_of (membrane_items inside next (map (unnumbered kind) ls) ++ rest)) ≡ sum (map (λ m. 1 + m.size) (map (unnumbered kind) ls)) + length (membranes_of rest)
+      length (membranes_of (head_membrane_items inside next (map (unnumbered kind) ls) ++ rest)) ≡ sum (map (λ m. 1 + m.size) (map (unnumbered kind) ls)) + length (membranes_of rest)
 
   inner_counts : (ls : List ((l : Level) × Counts l)) → InnerCounts (map (λ e. e.0) ls)
   inner_counts [] inside next rest = zero_left (length (membranes_of rest))
@@ -41,7 +41,7 @@ module _ (kind : ℕ → TypeKind) where
   inner_counts (e ∷ ls) inside next rest =
       let size = (unnumbered kind e.0).size in
       let others = map (unnumbered kind) (map (λ (e : (l : Level) × Counts l). e.0) ls) in
-      let tail = membrane_items inside (next + 1 + size) others in
+      let tail = head_membrane_items inside (next + 1 + size) others in
       ap (λ is. suc (length (membranes_of is))) (append_assoc ((unnumbered kind e.0).items next (next + 1)) tail rest)
       ∙ add size (length (membranes_of (tail ++ rest))) (sum (map (λ m. 1 + m.size) others)) (length (membranes_of rest)) (e.1 next (next + 1) (tail ++ rest)) (inner_counts ls inside (next + 1 + size) rest)
       (sum_by-cons (λ (x : ℕ). x) (1 + size) (map (λ m. 1 + m.size) others))
@@ -53,11 +53,11 @@ module _ (kind : ℕ → TypeKind) where
   level_counts = ind-Level Counts (λ y z is.
       let inner : InnerCounts y.membranes = subst (λ l. InnerCounts l.membranes) is (inner_counts z.membranes) in
       rw (fold-roll-Level Unnumbered (flatten_step kind) y) (λ inside next rest.
-      ap (λ is. length (membranes_of is)) (append_assoc (leaf_items kind inside y.leaves) (membrane_items inside next (map (unnumbered kind) y.membranes)) rest)
+      ap (λ is. length (membranes_of is)) (append_assoc (leaf_items kind inside y.leaves) (head_membrane_items inside next (map (unnumbered kind) y.membranes)) rest)
       ∙ ap length (leaves_none inside y.leaves _) ∙ inner inside next rest))
 
-  pub head_size : (l : Level) → length (membranes_of (items_of kind l)) ≡ (unnumbered kind l).size
-  head_size l = ap (λ is. length (membranes_of is)) (sym (no_more (items_of kind l))) ∙ level_counts l 0 1 [] ∙ plus (unnumbered kind l).size
+  pub head_size : (l : Level) → length (membranes_of (items_of_head kind l)) ≡ (unnumbered kind l).size
+  head_size l = ap (λ is. length (membranes_of is)) (sym (no_more (items_of_head kind l))) ∙ level_counts l 0 1 [] ∙ plus (unnumbered kind l).size
     where
       no_more : (xs : List HeadItem) → xs ++ [] ≡ xs
       no_more [] = refl
@@ -68,7 +68,7 @@ module _ (kind : ℕ → TypeKind) where
 
 -- The numbers that contexts get
 
-module _ (uses : Level-F Numbered → List CtxUse) (kind : ℕ → TypeKind) where
+module _ (uses : Level-F NumberedContexts → List CtxUse) (kind : ℕ → TypeKind) where
   abbrev sizes : List Level → ℕ
   sizes ls = sum (map (λ m. 1 + m.size) (map (unnumbered kind) ls))
 
@@ -88,12 +88,12 @@ module _ (uses : Level-F Numbered → List CtxUse) (kind : ℕ → TypeKind) whe
   same_size = ind-Level SameSize (λ y z is.
       let inner : sum (map (λ m. 1 + m.size) (map (numbering uses) y.membranes)) ≡ sizes y.membranes =
       subst (λ l. sum (map (λ m. 1 + m.size) (map (numbering uses) l.membranes)) ≡ sizes l.membranes) is (inner_size z.membranes) in
-      ap (λ (n : Numbered). n.size) (fold-roll-Level Numbered (λ l. record {
+      ap (λ (n : NumberedContexts). n.size) (fold-roll-Level NumberedContexts (λ l. record {
         names = λ inside next. names_inside inside (uses l) ++ names_below next l.membranes;
         size = sum (map (λ m. 1 + m.size) l.membranes);
       }) y) ∙ inner ∙ ap (λ (u : Unnumbered). u.size) (sym (fold-roll-Level Unnumbered (flatten_step kind) y)))
 
-  own_number : (inside : ℕ) (us : List CtxUse) (e : ℕ × ℕ) → In e (names_inside inside us) → e.1 ≡ inside
+  own_number : (inside : ℕ) (us : List CtxUse) (e : ℕ × ℕ) → IsOneOf e (names_inside inside us) → e.1 ≡ inside
   own_number inside [] e i = absurd i
   own_number inside (u ∷ us) e (inl q) = sym (ap (λ (p : ℕ × ℕ). p.1) q)
   own_number inside (u ∷ us) e (inr i) = own_number inside us e i
@@ -102,10 +102,10 @@ module _ (uses : Level-F Numbered → List CtxUse) (kind : ℕ → TypeKind) whe
   Within next size n = (next ≤ n) × (n < next + size)
 
   abbrev InRange : Level → Type 0
-  InRange l = (inside next : ℕ) (e : ℕ × ℕ) → In e ((numbering uses l).names inside next) → (e.1 ≡ inside) ⊎ Within next (numbering uses l).size e.1
+  InRange l = (inside next : ℕ) (e : ℕ × ℕ) → IsOneOf e ((numbering uses l).names inside next) → (e.1 ≡ inside) ⊎ Within next (numbering uses l).size e.1
 
   abbrev InnerRange : List Level → Type 0
-  InnerRange ls = (next : ℕ) (e : ℕ × ℕ) → In e (names_below next (map (numbering uses) ls)) → Within next (sum (map (λ m. 1 + m.size) (map (numbering uses) ls))) e.1
+  InnerRange ls = (next : ℕ) (e : ℕ × ℕ) → IsOneOf e (names_below next (map (numbering uses) ls)) → Within next (sum (map (λ m. 1 + m.size) (map (numbering uses) ls))) e.1
 
   inner_range : (ls : List ((l : Level) × InRange l)) → InnerRange (map (λ e. e.0) ls)
   inner_range [] next e i = absurd i
@@ -133,7 +133,7 @@ module _ (uses : Level-F Numbered → List CtxUse) (kind : ℕ → TypeKind) whe
   level_range : (l : Level) → InRange l
   level_range = ind-Level InRange (λ y z is.
       let inner : InnerRange y.membranes = subst (λ l. InnerRange l.membranes) is (inner_range z.membranes) in
-      rw (fold-roll-Level Numbered (λ l. record {
+      rw (fold-roll-Level NumberedContexts (λ l. record {
         names = λ inside next. names_inside inside (uses l) ++ names_below next l.membranes;
         size = sum (map (λ m. 1 + m.size) l.membranes);
       }) y) (λ inside next e i. elim (in_append e (names_inside inside _) (names_below next (map (numbering uses) y.membranes)) i) [
@@ -141,7 +141,7 @@ module _ (uses : Level-F Numbered → List CtxUse) (kind : ℕ → TypeKind) whe
         | inr j ↦ inr (inner next e j)
       ]))
 
-  named_in : (es : List (ℕ × ℕ)) (k x : ℕ) → ((e : ℕ × ℕ) → In e es → (e.1 ≡ 0) ⊎ IsHeadMembrane k e.1) → (membrane_named es x ≡ 0) ⊎ IsHeadMembrane k (membrane_named es x)
+  named_in : (es : List (ℕ × ℕ)) (k x : ℕ) → ((e : ℕ × ℕ) → IsOneOf e es → (e.1 ≡ 0) ⊎ IsHeadMembrane k e.1) → (membrane_named es x ≡ 0) ⊎ IsHeadMembrane k (membrane_named es x)
   named_in [] k x all = inl refl
   named_in (e ∷ es) k x all = by (e.0 == x) (membrane_named es x) (all e (inl refl)) (named_in es k x (λ f i. all f (inr i)))
     where
@@ -150,10 +150,10 @@ module _ (uses : Level-F Numbered → List CtxUse) (kind : ℕ → TypeKind) whe
       by false n p q = q
 
   pub in_head : (l : Level) (x : ℕ) →
-      let n = membrane_named ((numbering uses l).names 0 1) x in (n ≡ 0) ⊎ IsHeadMembrane (length (membranes_of (items_of kind l))) n
-  in_head l x = named_in ((numbering uses l).names 0 1) (length (membranes_of (items_of kind l))) x (λ e i. elim (level_range l 0 1 e i) [
+      let n = membrane_named ((numbering uses l).names 0 1) x in (n ≡ 0) ⊎ IsHeadMembrane (length (membranes_of (items_of_head kind l))) n
+  in_head l x = named_in ((numbering uses l).names 0 1) (length (membranes_of (items_of_head kind l))) x (λ e i. elim (level_range l 0 1 e i) [
     | inl q ↦ inl q
-    | inr w ↦ inr (one_less e.1 (numbering uses l).size (length (membranes_of (items_of kind l))) w (head_size kind l ∙ sym (same_size l)))
+    | inr w ↦ inr (one_less e.1 (numbering uses l).size (length (membranes_of (items_of_head kind l))) w (head_size kind l ∙ sym (same_size l)))
   ])
     where
       one_less : (n s k : ℕ) → Within 1 s n → k ≡ s → IsHeadMembrane k n

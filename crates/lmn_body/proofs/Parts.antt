@@ -2,12 +2,12 @@
 use Rattle.std.proofs.Common.{ℕ, ◌<◌, ◌≡◌, ◌≢◌, ◌↔◌, List, [], ◌∷◌, ◌++◌, map, length, Option, Some, None, IsSome, refl, sym, ap, subst, ◌∙◌, inl, inr, arith}
 use Rattle.std.specs.Prelude.{slice_get}
 use Rattle.lmn_base.specs.declared.guard.Cond.{Cond}
-use Rattle.lmn_base.specs.Graphs.{Reached, at_root, across}
-use Rattle.lmn_heap.specs.Heap.{Heap, HeapAtom, links_of, functor_of, arity_of, link_of, IsAtom, In, Distinct, taken}
+use Rattle.lmn_base.specs.Graphs.{Reached, at_root, across, Port}
+use Rattle.lmn_heap.specs.Heap.{Heap, HeapAtom, partners_of, functor_of, arity_of, link_of, IsAtom, In, Distinct, taken, taken_all}
 use Rattle.lmn_base.specs.declared.functor.Functor.{Functor}
 use Rattle.std.specs.Option.{option_map}
 use Rattle.lmn_heap.proofs.Replacing.{port_within}
-use Rattle.lmn_body.proofs.Brought.{Whole, is_atom_at, reached_into, reached_from}
+use Rattle.lmn_body.proofs.Brought.{Whole, reached_into, reached_from}
 use Rattle.lmn_heap.specs.Graphs.{atom_map}
 use Rattle.lmn_heap.specs.Sound.{Valid}
 use Rattle.lmn_heap.proofs.ListLemmas.{in_left, in_right}
@@ -15,31 +15,33 @@ use Rattle.lmn_heap.proofs.Trees.{in_either}
 use Rattle.lmn_solid.specs.declared.items.HeadItem.{HeadItem}
 use Rattle.lmn_solid.specs.Heads.{HeadAtom, HeadTyped, atoms_of}
 use Rattle.lmn_solid.specs.Embeddings.{Embeds, HasTyped, HasLink}
-use Rattle.lmn_splice.specs.Ports.{Port}
 use Rattle.lmn_splice.specs.Splice as splice
-use Rattle.lmn_splice.proofs.Joining.{port_cases, same_some}
+use Rattle.lmn_splice.proofs.Joining.{same_some}
 use Rattle.lmn_instr.specs.declared.instr.Instr.TheVariants.{RemovePart}
 use Rattle.lmn_body.specs.declared.items.BodyItem.{BodyItem}
 use Rattle.lmn_body.specs.Tied.{partners}
 use Rattle.lmn_body.specs.Rules.{AtomRule}
 use Rattle.lmn_body.specs.CopiedSolid.{Hangs}
-use Rattle.lmn_body.specs.Running.{Registers, all_taken, Commits, Prepares}
+use Rattle.lmn_body.specs.Running.{Registers, DoesAll, Prepares}
 use Rattle.lmn_body.proofs.Phases.{taken_stays}
 use Rattle.lmn_heap.proofs.Depths.{both_distinct}
-use Rattle.lmn_body.proofs.HeadPorts.{get_below}
+use Rattle.lmn_base.proofs.Common.{port_cases}
+use Rattle.lmn_base.proofs.Lists.{get_below}
+use Rattle.lmn_heap.proofs.Common.{is_atom_at}
 
-pub taken_links : (ns : List ℕ) (s : Heap) (a i : ℕ) → link_of (all_taken s ns) a i ≡ link_of s a i
+pub taken_links : (ns : List ℕ) (s : Heap) (a i : ℕ) → link_of (taken_all s ns) a i ≡ link_of s a i
 taken_links [] s a i = refl
 taken_links (n ∷ ns) s a i = taken_links ns (taken s n) a i ∙ (taken_stays s n).links a i
 
-pub taken_append : (s : Heap) (xs ys : List ℕ) → all_taken s (xs ++ ys) ≡ all_taken (all_taken s xs) ys
+pub taken_append : (s : Heap) (xs ys : List ℕ) → taken_all s (xs ++ ys) ≡ taken_all (taken_all s xs) ys
 taken_append s [] ys = refl
 taken_append s (x ∷ xs) ys = taken_append (taken s x) xs ys
 
-module _ (h : Heap) (valid : Valid h) (head : List HeadItem) (guard : List Cond) (body : List BodyItem) (n m : ℕ) (r : Registers) (rule : AtomRule head body n) (em : Embeds h head guard m r.head.images) where
-  abbrev Part : ℕ → ℕ → Type 0
-  Part g a = Reached (atom_map h) (r.head.images.part g) a
+-- the atoms of the part of a typed context
+abbrev pub PartOf : Heap → Registers → ℕ → ℕ → Type 0
+PartOf h r g a = Reached (atom_map h) (r.head.images.part g) a
 
+module _ (h : Heap) (valid : Valid h) (head : List HeadItem) (guard : List Cond) (body : List BodyItem) (n m : ℕ) (r : Registers) (rule : AtomRule head body n) (em : Embeds h head guard m r.head.images) where
   -- the head port that holds a part
   holds : (g : ℕ) (t : HeadTyped) → HasTyped head g t → (p : Port) × HasLink head t.link p × (partners h (r.head.images.part g) ≡ Some (r.head.images.atom p.0, p.1))
   holds g t w =
@@ -50,7 +52,7 @@ module _ (h : Heap) (valid : Valid h) (head : List HeadItem) (guard : List Cond)
   is_image g t w a e = let p = holds g t w in (p.0.0, get_below (atoms_of head) p.0.0 p.1.0 p.1.1, sym e)
 
   -- from an atom of two parts back to the root of one of them, within the other
-  back_to : (g k : ℕ) (t u : HeadTyped) → HasTyped head g t → HasTyped head k u → (a : ℕ) → Part g a → Part k a → Part k (r.head.images.part g).0
+  back_to : (g k : ℕ) (t u : HeadTyped) → HasTyped head g t → HasTyped head k u → (a : ℕ) → PartOf h r g a → PartOf h r k a → PartOf h r k (r.head.images.part g).0
   back_to g k t u w x a at_root q = q
   back_to g k t u w x a (across {a = b} {b = a'} {i = i} {j = j} p d e) q =
       let back : partners h (a', j) ≡ Some (b, i) = valid.sound.paired.back b i a' j e in
@@ -62,7 +64,7 @@ module _ (h : Heap) (valid : Valid h) (head : List HeadItem) (guard : List Cond)
       ])
 
   -- parts of different contexts have no atom in common
-  pub parts_apart : (g k : ℕ) (t u : HeadTyped) → HasTyped head g t → HasTyped head k u → g ≢ k → (a : ℕ) → Part g a → Part k a → ⊥
+  pub parts_apart : (g k : ℕ) (t u : HeadTyped) → HasTyped head g t → HasTyped head k u → g ≢ k → (a : ℕ) → PartOf h r g a → PartOf h r k a → ⊥
   parts_apart g k t u w x d a p q =
       let root = back_to g k t u w x a p q in
       let hg = holds g t w in
@@ -106,27 +108,27 @@ module _ (h : Heap) (valid : Valid h) (head : List HeadItem) (guard : List Cond)
         full = λ a i q l d. by a i q d (functor_of h a) refl l;
       }
     where
-      none_ports : (o : Option HeapAtom) (i : ℕ) → option_map (λ x. x.functor) o ≡ None → i < length (links_of o) → ⊥
+      none_ports : (o : Option HeapAtom) (i : ℕ) → option_map (λ x. x.functor) o ≡ None → i < length (partners_of o) → ⊥
       none_ports None i e l = omega arith
       none_ports (Some x) i e l = absurd (cc)
 
-      by : (a i : ℕ) → Part g a → ◌≢◌ {A = Port} (a, i) (r.head.images.part g) → (o : Option Functor) → functor_of h a ≡ o → i < arity_of h a → IsSome (link_of h a i)
+      by : (a i : ℕ) → PartOf h r g a → ◌≢◌ {A = Port} (a, i) (r.head.images.part g) → (o : Option Functor) → functor_of h a ≡ o → i < arity_of h a → IsSome (link_of h a i)
       by a i q d None e l = absurd (none_ports (h.atoms a) i e l)
       by a i q d (Some f) e l = (em.parts g t w).whole.no_other_end a i f q e (subst (λ k. i < k) (valid.sound.shaped.ports a f e) l) d
 
   -- What REMOVEPART takes, of contexts with these numbers.
   pub record PartsTaken (gs : List ℕ) (s t : Heap) (ps : List ℕ) : Type 0 where
-    pub is : t ≡ all_taken s ps
+    pub is : t ≡ taken_all s ps
     pub once : Distinct ps
-    pub are : (a : ℕ) → In a ps → (g : ℕ) × splice.In g gs × Part g a
-    pub all : (g a : ℕ) → splice.In g gs → Part g a → In a ps
+    pub are : (a : ℕ) → In a ps → (g : ℕ) × splice.IsOneOf g gs × PartOf h r g a
+    pub all : (g a : ℕ) → splice.IsOneOf g gs → PartOf h r g a → In a ps
 
-  pub parts_commit : (gs : List ℕ) → splice.Distinct gs → ((g : ℕ) → splice.In g gs → (t : HeadTyped) × HasTyped head g t) → (s t : Heap) → ((p : Port) → IsAtom h p.0 → partners s p ≡ partners h p)
-      → Commits r (map RemovePart gs) s t → (ps : List ℕ) × PartsTaken gs s t ps
+  pub parts_commit : (gs : List ℕ) → splice.NoneTwice gs → ((g : ℕ) → splice.IsOneOf g gs → (t : HeadTyped) × HasTyped head g t) → (s t : Heap) → ((p : Port) → IsAtom h p.0 → partners s p ≡ partners h p)
+      → DoesAll r (map RemovePart gs) s t → (ps : List ℕ) × PartsTaken gs s t ps
   parts_commit [] d typed s t e w = ([], record { is = w; once = tt; are = λ a i. absurd i; all = λ g a i. absurd i })
   parts_commit (g ∷ gs) d typed s t e w =
       let qs = w.1.0 in
-      let here : (b : ℕ) → In b qs ↔ Part g b = λ b.
+      let here : (b : ℕ) → In b qs ↔ PartOf h r g b = λ b.
       let x = typed g (inl refl) in (
         (λ i. (reached_into h s (r.head.images.part g) valid.sound.paired (part_there g x.0 x.1) e b ((w.1.2 b).0 i)).1),
         (λ i. (w.1.2 b).1 (reached_from h s (r.head.images.part g) valid.sound.paired (part_there g x.0 x.1) e b i).1),
@@ -134,13 +136,13 @@ module _ (h : Heap) (valid : Valid h) (head : List HeadItem) (guard : List Cond)
       let on = parts_commit gs d.1 (λ k i. typed k (inr i)) w.0 t (λ p is. ap (λ z. partners z p) w.1.3 ∙ taken_links qs s p.0 p.1 ∙ e p is) w.2 in (
         qs ++ on.0,
         record {
-          is = on.1.is ∙ ap (λ z. all_taken z on.0) w.1.3 ∙ sym (taken_append s qs on.0);
+          is = on.1.is ∙ ap (λ z. taken_all z on.0) w.1.3 ∙ sym (taken_append s qs on.0);
           once = both_distinct qs on.0 w.1.1 on.1.once (λ a i j.
               let u = on.1.are a j in let x = typed g (inl refl) in let y = typed u.0 (inr u.1) in
-              parts_apart g u.0 x.0 y.0 x.1 y.1 (λ q. d.0 (subst (λ z. splice.In z gs) (sym q) u.1)) a ((here a).0 i) u.2);
+              parts_apart g u.0 x.0 y.0 x.1 y.1 (λ q. d.0 (subst (λ z. splice.IsOneOf z gs) (sym q) u.1)) a ((here a).0 i) u.2);
           are = λ a i. elim (in_either a qs on.0 i) [ inl j ↦ (g, inl refl, (here a).0 j) | inr j ↦ (let u = on.1.are a j in (u.0, inr u.1, u.2)) ];
           all = λ k a i p. elim i [
-            | inl q ↦ in_left a qs on.0 ((here a).1 (subst (λ z. Part z a) (sym q) p))
+            | inl q ↦ in_left a qs on.0 ((here a).1 (subst (λ z. PartOf h r z a) (sym q) p))
             | inr j ↦ in_right a qs on.0 (on.1.all k a j p)
           ];
         },

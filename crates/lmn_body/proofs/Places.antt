@@ -11,7 +11,7 @@ use Rattle.lmn_heap.proofs.ListLemmas.{in_left, in_right}
 use Rattle.lmn_solid.specs.declared.items.HeadItem.{HeadItem}
 use Rattle.lmn_solid.specs.Heads.{membranes_of}
 use Rattle.lmn_solid.specs.Embeddings.{Embeds}
-use Rattle.lmn_splice.specs.Splice.{In}
+use Rattle.lmn_splice.specs.Splice.{IsOneOf}
 use Rattle.lmn_body.specs.declared.items.BodyItem.{BodyItem}
 use Rattle.lmn_body.specs.declared.items.BodyItem.TheVariants.{Atom, Connector, Copy, Bound, Membrane, Rest, Rule, Rules}
 use Rattle.lmn_body.specs.Running.{Registers}
@@ -20,7 +20,7 @@ use Rattle.lmn_body.specs.Rules.{Target, Goes, Exists, Into, Nests, HeadNests, S
 use Rattle.lmn_body.specs.Within.{membrane_images}
 use Rattle.lmn_body.proofs.Below.{preorder, below_home, removed_is, is_removed}
 
-pub moved_are : (r : Registers) (body : List BodyItem) (k : ℕ) → In k (rests body) → heap.In (r.head.images.membrane k) (moved_mems r body)
+pub moved_are : (r : Registers) (body : List BodyItem) (k : ℕ) → IsOneOf k (rests body) → heap.In (r.head.images.membrane k) (moved_mems r body)
 moved_are r [] k i = absurd i
 moved_are r (Atom functor links inside ∷ xs) k i = moved_are r xs k i
 moved_are r (Connector left right ∷ xs) k i = moved_are r xs k i
@@ -49,7 +49,7 @@ module _ (h : Heap) (valid : Valid h) (head : List HeadItem) (guard : List Cond)
   pub home_is_mem : IsMem h m
   home_is_mem = by (h.mems m) stand
     where
-      by : (o : Option HeapMem) → heap.StandsAt (option_map (λ x. x.place) o) → IsSome o
+      by : (o : Option HeapMem) → heap.IsTopOrWithin (option_map (λ x. x.place) o) → IsSome o
       by None i = absurd i
       by (Some x) i = refl
 
@@ -98,7 +98,7 @@ module _ (h : Heap) (valid : Valid h) (head : List HeadItem) (guard : List Cond)
   head_image of w = subst (λ z. heap.In (r.head.images.membrane z) ks) (sym w.1) (is_removed head r w.0 w.2)
 
   -- a head membrane whose number isn't there doesn't move
-  not_moved : (next : ℕ) (xs : List BodyItem) → WellPlaced K next xs → (of : ℕ) → IsHeadMembrane K of → (In of (rests xs) → ⊥) → heap.In (r.head.images.membrane of) (moved_mems r xs) → ⊥
+  not_moved : (next : ℕ) (xs : List BodyItem) → WellPlaced K next xs → (of : ℕ) → IsHeadMembrane K of → (IsOneOf of (rests xs) → ⊥) → heap.In (r.head.images.membrane of) (moved_mems r xs) → ⊥
   not_moved next [] w of k o i = i
   not_moved next (Atom functor links inside ∷ xs) w of k o i = not_moved next xs w.1 of k o i
   not_moved next (Connector left right ∷ xs) w of k o i = not_moved next xs w of k o i

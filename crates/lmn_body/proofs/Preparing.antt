@@ -20,11 +20,11 @@ use Rattle.lmn_body.specs.Names.{StandsPort}
 use Rattle.lmn_body.proofs.BodyPorts.{Written, AreCopied}
 use Rattle.lmn_body.proofs.Brought.{Brings, brought_old, brings_none, brings_after, brings_atom, brings_on, Whole, HasCopy, Old, old_on, brings_copied, has_copied, has_copy_on}
 use Rattle.lmn_heap.specs.Sound.{Paired, Shaped, Sound}
-use Rattle.lmn_splice.specs.Ports.{Port}
 use Rattle.lmn_splice.specs.Splice as splice
 use Rattle.lmn_body.proofs.ListOps.{change_keeps, place_by, there_by}
 use Rattle.lmn_body.proofs.Growing.{some_there}
 use Rattle.lmn_heap.proofs.Depths.{both_distinct}
+use Rattle.lmn_base.specs.Graphs.{Port}
 
 -- From s to t membranes nm are made, and wait.
 pub record MemsMade (s t : Heap) (nm : List ℕ) : Type 0 where
@@ -215,7 +215,7 @@ same_prepares r a m k xs h s u t e f b = brings_after s u t [] (new_atoms r a k 
 same_old : (h s u : Heap) → u.atoms ≡ s.atoms → u.new_atoms ≡ s.new_atoms → Old h s → Paired s → Shaped s → Old h u × Paired u × Shaped u
 same_old h s u e f old p q = let b = brings_on s s u [] e f (brings_none s) in (old_on h old b, b.paired p, b.shaped q)
 
-pub making_prepares : (r : Registers) (a m k : ℕ) (body : List BodyItem) (h : Heap) → Paired h → Shaped h → ((e : ℕ × ℕ) → splice.In e (copies_of k body) → Whole h (r.head.images.part e.1)) → (s t : Heap) → Old h s → Paired s → Shaped s
+pub making_prepares : (r : Registers) (a m k : ℕ) (body : List BodyItem) (h : Heap) → Paired h → Shaped h → ((e : ℕ × ℕ) → splice.IsOneOf e (copies_of k body) → Whole h (r.head.images.part e.1)) → (s t : Heap) → Old h s → Paired s → Shaped s
     → Prepares r (making a m k body) s t → MakesAll h s t r a m k body
 making_prepares r a m k [] h hp hs whole s t old p q w = record {
   brings = subst (λ z. Brings s z []) (sym w) (brings_none s);

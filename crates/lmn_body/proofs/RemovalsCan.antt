@@ -1,24 +1,24 @@
 -- Code in two parts can run; and the removals of a body can.
 use Rattle.std.proofs.Common.{ℕ, ◌≡◌, ◌≢◌, List, [], ◌∷◌, ◌++◌, map, Option, Some, IsSome, refl, sym, ap, subst, ◌∙◌, inl, inr}
-use Rattle.lmn_base.specs.Graphs.{Reached}
-use Rattle.lmn_heap.specs.Heap.{Heap, parent_of, IsAtom, IsInPlace, In, Distinct, taken, taken_mem}
+use Rattle.lmn_base.specs.Graphs.{Reached, Port}
+use Rattle.lmn_heap.specs.Heap.{Heap, parent_of, IsAtom, IsInPlace, In, Distinct, taken, taken_mem, taken_all}
 use Rattle.lmn_heap.specs.Graphs.{atom_map}
 use Rattle.lmn_heap.proofs.ListLemmas.{each_in}
-use Rattle.lmn_splice.specs.Ports.{Port}
 use Rattle.lmn_instr.specs.declared.instr.Instr.{Instr}
 use Rattle.lmn_instr.specs.declared.instr.Instr.TheVariants.{RemoveAtom, RemovePart, RemoveMem}
 use Rattle.lmn_body.specs.Tied.{partners}
-use Rattle.lmn_body.specs.Running.{Registers, all_taken, Commits}
+use Rattle.lmn_body.specs.Running.{Registers, DoesAll}
 use Rattle.lmn_body.specs.Conditions.{CanRun}
 use Rattle.lmn_body.proofs.Phases.{taken_place_away}
 use Rattle.lmn_body.proofs.Finishing.{within_of, in_place_within}
-use Rattle.lmn_body.proofs.Removing.{parent_place, place_parent}
+use Rattle.lmn_body.proofs.Removing.{place_parent}
 use Rattle.lmn_body.proofs.ListOps.{out_place}
 use Rattle.lmn_body.proofs.Brought.{reached_into}
 use Rattle.lmn_heap.specs.Sound.{Paired}
 use Rattle.lmn_body.proofs.Parts.{taken_links}
+use Rattle.lmn_heap.proofs.Heights.{parent_place}
 
-pub can_append : (r : Registers) (xs ys : List Instr) (s : Heap) → CanRun r xs s → ((t : Heap) → Commits r xs s t → CanRun r ys t) → CanRun r (xs ++ ys) s
+pub can_append : (r : Registers) (xs ys : List Instr) (s : Heap) → CanRun r xs s → ((t : Heap) → DoesAll r xs s t → CanRun r ys t) → CanRun r (xs ++ ys) s
 can_append r [] ys s c next = next s refl
 can_append r (x ∷ xs) ys s c next = (c.0, λ t d. can_append r xs ys t (c.1 t d) (λ u w. next u (t, d, w)))
 
@@ -26,7 +26,7 @@ can_append r (x ∷ xs) ys s c next = (c.0, λ t d. can_append r xs ys t (c.1 t 
 pub stays_in_place : (s : Heap) (a b : ℕ) → b ≢ a → IsInPlace s b → IsInPlace (taken s a) b
 stays_in_place s a b d i = let w = within_of s b i in in_place_within (taken s a) b w.0 (taken_place_away s a b d ∙ w.1)
 
-pub all_stay_in_place : (ns : List ℕ) (s : Heap) (b : ℕ) → (In b ns → ⊥) → IsInPlace s b → IsInPlace (all_taken s ns) b
+pub all_stay_in_place : (ns : List ℕ) (s : Heap) (b : ℕ) → (In b ns → ⊥) → IsInPlace s b → IsInPlace (taken_all s ns) b
 all_stay_in_place [] s b o i = i
 all_stay_in_place (n ∷ ns) s b o i = all_stay_in_place ns (taken s n) b (λ j. o (inr j)) (stays_in_place s n b (λ e. o (inl (sym e))) i)
 
@@ -50,7 +50,7 @@ pub parts_can : (r : Registers) (h : Heap) (gs : List ℕ) → Distinct gs → (
 parts_can r h [] d s p at e apart i = tt
 parts_can r h (g ∷ gs) d s pr at e apart i = (
   (λ b w. i g b (inl refl) (reached_into h s (r.head.images.part g) pr (at g (inl refl)) e b w).1),
-  λ t w. subst (CanRun r (map RemovePart gs)) (sym w.3) (parts_can r h gs d.1 (all_taken s w.0) pr (λ k j. at k (inr j)) (λ p is. taken_links w.0 s p.0 p.1 ∙ e p is) (λ j k a x y. apart j k a (inr x) (inr y))
+  λ t w. subst (CanRun r (map RemovePart gs)) (sym w.3) (parts_can r h gs d.1 (taken_all s w.0) pr (λ k j. at k (inr j)) (λ p is. taken_links w.0 s p.0 p.1 ∙ e p is) (λ j k a x y. apart j k a (inr x) (inr y))
       (λ k a x y. all_stay_in_place w.0 s a
       (λ z. apart g k a (inl refl) (inr x) (λ q. each_in (λ u. g ≢ u) gs k d.0 x q) (reached_into h s (r.head.images.part g) pr (at g (inl refl)) e a ((w.2 a).0 z)).1 y) (i k a (inr x) y))),
 )

@@ -1,22 +1,25 @@
 -- What is removed leaves its lists: atoms, then membranes.
-use Rattle.std.proofs.Common.{ℕ, ◌≡◌, ◌≢◌, ◌⊎◌, ◌==◌, Bool, true, false, cond, List, [], ◌∷◌, map, Option, Some, None, IsSome, refl, sym, ap, subst, ◌∙◌, inl, inr}
+use Rattle.std.proofs.Common.{ℕ, ◌≡◌, ◌≢◌, ◌⊎◌, List, [], ◌∷◌, map, Option, Some, None, IsSome, refl, sym, ap, subst, ◌∙◌, inl, inr}
 use Rattle.std.proofs.lemmas.Bool.{cases_eq}
 use Rattle.std.specs.Option.{option_map, option_and_then}
-use Rattle.lmn_heap.specs.Heap.{Heap, HeapMem, Place, top, within, waiting, gone, alter, home_by, mem_with_atoms, atom_out, mem_place_of, home_of, parent_of, atoms_in, mems_in, rules_in, atoms_by, In, Distinct, without, taken, taken_mem}
+use Rattle.lmn_heap.specs.Heap.{Heap, HeapMem, within, gone, alter, home_by, mem_with_atoms, atom_out, mem_place_of, home_of, parent_of, atoms_in, mems_in, rules_in, atoms_by, In, Distinct, without, taken, taken_mem, taken_all}
 use Rattle.lmn_heap.proofs.ListLemmas.{each_in}
 use Rattle.lmn_heap.proofs.Listing.{atoms_at, atoms_away, place_away, home_is}
 use Rattle.lmn_heap.proofs.Groves.{without_absent}
 use Rattle.lmn_instr.specs.declared.instr.Instr.TheVariants.{RemoveMem}
-use Rattle.lmn_body.specs.Running.{Registers, withouts, all_taken, Commits, Prepares}
-use Rattle.lmn_body.proofs.Phases.{taken_stays, place_home}
+use Rattle.lmn_body.specs.Running.{Registers, DoesAll, Prepares}
+use Rattle.lmn_body.proofs.Phases.{taken_stays}
 use Rattle.lmn_body.proofs.ListOps.{change_keeps, there_by, out_mem, out_atoms, out_rules, out_there, out_place}
 use Rattle.lmn_body.proofs.Growing.{SameAtoms, same_atoms, same_atoms_after, some_there}
+use Rattle.lmn_heap.specs.Lists.{without_all}
+use Rattle.lmn_heap.proofs.Common.{place_home, in_of_without}
+use Rattle.lmn_heap.proofs.Heights.{parent_place}
 
 abbrev pub all_taken_mems : Heap → List ℕ → Heap
 all_taken_mems s [] = s
 all_taken_mems s (k ∷ ks) = all_taken_mems (taken_mem s k) ks
 
-pub commits_taken_mems : (r : Registers) (ns : List ℕ) (s t : Heap) → Commits r (map RemoveMem ns) s t → t ≡ all_taken_mems s (map r.head.images.membrane ns)
+pub commits_taken_mems : (r : Registers) (ns : List ℕ) (s t : Heap) → DoesAll r (map RemoveMem ns) s t → t ≡ all_taken_mems s (map r.head.images.membrane ns)
 commits_taken_mems r [] s t w = w
 commits_taken_mems r (n ∷ ns) s t w = commits_taken_mems r ns w.0 t w.2 ∙ ap (λ z. all_taken_mems z (map r.head.images.membrane ns)) w.1
 
@@ -27,8 +30,8 @@ prepares_taken_mems r (n ∷ ns) s t w = prepares_taken_mems r ns w.0 t w.2 ∙ 
 -- From s to t these atoms and these membranes leave their lists.
 pub record Shrunk (s t : Heap) (ns ks : List ℕ) : Type 0 where
   pub same : SameAtoms s t
-  pub atoms : (x : ℕ) → atoms_in t x ≡ withouts ns (atoms_in s x)
-  pub mems : (x : ℕ) → mems_in t x ≡ withouts ks (mems_in s x)
+  pub atoms : (x : ℕ) → atoms_in t x ≡ without_all ns (atoms_in s x)
+  pub mems : (x : ℕ) → mems_in t x ≡ without_all ks (mems_in s x)
   pub rules : (x : ℕ) → rules_in t x ≡ rules_in s x
   pub there : (x : ℕ) → there_by (t.mems x) ≡ there_by (s.mems x)
   pub gone_before : (x : ℕ) → mem_place_of t x ≡ Some gone → In x ks ⊎ (mem_place_of s x ≡ Some gone)
@@ -56,16 +59,7 @@ taken_one s a m home once is x = ap (λ (o : Option ℕ). atoms_by (atom_out s.m
   | inr d ↦ atoms_away s.mems m (without a) x d ∙ sym (without_absent a (atoms_in s x) (λ i. d (once x i)))
 ]
 
-pub in_less : (a x : ℕ) (xs : List ℕ) → In x (without a xs) → In x xs
-in_less a x [] i = absurd i
-in_less a x (y ∷ ys) i = by (y == a) i (in_less a x ys)
-  where
-    by : (t : Bool) → In x (cond t ys (y ∷ without a ys)) → (In x (without a ys) → In x ys) → In x (y ∷ ys)
-    by true i r = inr i
-    by false (inl e) r = inl e
-    by false (inr i) r = inr (r i)
-
-pub shrunk_atoms : (ns : List ℕ) (s : Heap) → Distinct ns → InOneList s ns → Shrunk s (all_taken s ns) ns []
+pub shrunk_atoms : (ns : List ℕ) (s : Heap) → Distinct ns → InOneList s ns → Shrunk s (taken_all s ns) ns []
 shrunk_atoms [] s d w = record { same = same_atoms s; atoms = λ x. refl; mems = λ x. refl; rules = λ x. refl; there = λ x. refl; gone_before = λ x e. inr e; line = refl; mem_line = refl }
 shrunk_atoms (a ∷ ns) s d w =
     let v = w a (inl refl) in
@@ -76,12 +70,12 @@ shrunk_atoms (a ∷ ns) s d w =
     let apart : b ≢ a = λ e. each_in (λ z. a ≢ z) ns b d.0 i (sym e) in (
       u.0,
       place_home t b u.0 (place_away s.atoms a gone b apart ∙ home_is s b u.0 u.1),
-      (λ y j. u.2 y (in_less a b (atoms_in s y) (subst (In b) (taken_one s a v.0 v.1 v.2 v.3 y) j))),
+      (λ y j. u.2 y (in_of_without a b (atoms_in s y) (subst (In b) (taken_one s a v.0 v.1 v.2 v.3 y) j))),
       some_there (s.mems u.0) (t.mems u.0) (taken_there s a u.0) u.3,
     )) in
     record {
-      same = same_atoms_after s t (all_taken t ns) (record { functors = st.functors; arities = st.arities; marks = st.marks; links = st.links; root = refl }) on.same;
-      atoms = λ x. on.atoms x ∙ ap (withouts ns) (taken_one s a v.0 v.1 v.2 v.3 x);
+      same = same_atoms_after s t (taken_all t ns) (record { functors = st.functors; arities = st.arities; marks = st.marks; links = st.links; root = refl }) on.same;
+      atoms = λ x. on.atoms x ∙ ap (without_all ns) (taken_one s a v.0 v.1 v.2 v.3 x);
       mems = λ x. on.mems x ∙ st.inner x;
       rules = λ x. on.rules x ∙ st.rules x;
       there = λ x. on.there x ∙ taken_there s a x;
@@ -89,19 +83,6 @@ shrunk_atoms (a ∷ ns) s d w =
       line = on.line;
       mem_line = on.mem_line;
     }
-
-pub parent_place : (s : Heap) (k p : ℕ) → parent_of s k ≡ Some p → mem_place_of s k ≡ Some (within p)
-parent_place s k p e = by (s.mems k) e
-  where
-    place : (x : HeapMem) (q : Place) → x.place ≡ q → home_by q ≡ Some p → Some x.place ≡ Some (within p)
-    place x top e f = absurd (cc)
-    place x (within m) e f = let g : m ≡ p = (cc) in ap (λ z. Some z) e ∙ ap (λ z. Some (within z)) g
-    place x waiting e f = absurd (cc)
-    place x gone e f = absurd (cc)
-
-    by : (o : Option HeapMem) → option_and_then (λ x. home_by x.place) o ≡ Some p → option_map (λ x. x.place) o ≡ Some (within p)
-    by None e = absurd (cc)
-    by (Some x) e = place x x.place refl e
 
 pub place_parent : (s : Heap) (k p : ℕ) → mem_place_of s k ≡ Some (within p) → parent_of s k ≡ Some p
 place_parent s k p e = by (s.mems k) e
@@ -121,13 +102,13 @@ shrunk_mems (k ∷ ks) s d w =
     let apart : b ≢ k = λ e. each_in (λ z. k ≢ z) ks b d.0 i (sym e) in (
       u.0,
       place_parent t b u.0 (out_place s k b apart ∙ parent_place s b u.0 u.1),
-      (λ y j. u.2 y (in_less k b (mems_in s y) (subst (In b) (lists y) j))),
+      (λ y j. u.2 y (in_of_without k b (mems_in s y) (subst (In b) (lists y) j))),
       some_there (s.mems u.0) (t.mems u.0) (out_there s k u.0) u.3,
     )) in
     record {
       same = same_atoms_after s t (all_taken_mems t ks) (record { functors = λ a. refl; arities = λ a. refl; marks = λ a. refl; links = λ a i. refl; root = refl }) on.same;
       atoms = λ x. on.atoms x ∙ out_atoms s k x;
-      mems = λ x. on.mems x ∙ ap (withouts ks) (lists x);
+      mems = λ x. on.mems x ∙ ap (without_all ks) (lists x);
       rules = λ x. on.rules x ∙ out_rules s k x;
       there = λ x. on.there x ∙ out_there s k x;
       gone_before = λ x e. elim (on.gone_before x e) [
@@ -143,7 +124,7 @@ pub shrunk_after : (s t u : Heap) (ns ks : List ℕ) → Shrunk s t ns [] → Sh
 shrunk_after s t u ns ks g h = record {
   same = same_atoms_after s t u g.same h.same;
   atoms = λ x. h.atoms x ∙ g.atoms x;
-  mems = λ x. h.mems x ∙ ap (withouts ks) (g.mems x);
+  mems = λ x. h.mems x ∙ ap (without_all ks) (g.mems x);
   rules = λ x. h.rules x ∙ g.rules x;
   there = λ x. h.there x ∙ g.there x;
   gone_before = λ x e. elim (h.gone_before x e) [ inl i ↦ inl i | inr f ↦ elim (g.gone_before x f) [ inl i ↦ absurd i | inr q ↦ inr q ] ];
@@ -151,6 +132,6 @@ shrunk_after s t u ns ks g h = record {
   mem_line = h.mem_line ∙ g.mem_line;
 }
 
-pub taken_places : (ns : List ℕ) (s : Heap) (x : ℕ) → mem_place_of (all_taken s ns) x ≡ mem_place_of s x
+pub taken_places : (ns : List ℕ) (s : Heap) (x : ℕ) → mem_place_of (taken_all s ns) x ≡ mem_place_of s x
 taken_places [] s x = refl
 taken_places (a ∷ ns) s x = taken_places ns (taken s a) x ∙ (taken_stays s a).mem_places x

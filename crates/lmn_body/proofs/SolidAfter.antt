@@ -8,36 +8,37 @@ use Rattle.lmn_base.specs.declared.solid.Region.TheViews.{roll-Region}
 use Rattle.lmn_heap.specs.Heap.{Heap, HeapAtom, functor_of, atoms_in, rules_in}
 use Rattle.lmn_heap.specs.Heap as heap
 use Rattle.lmn_heap.specs.Sound.{Forest, bare, mem, flat}
-use Rattle.lmn_heap.specs.Solid.{numbered, atom_of, atoms_of, regions_of}
+use Rattle.lmn_heap.specs.Solid.{links_from, solid_atom_at, solid_atoms_at, regions_of}
 use Rattle.lmn_heap.proofs.ListLemmas.{in_left, in_right}
-use Rattle.lmn_splice.specs.Ports.{Port}
-use Rattle.lmn_splice.specs.Splice.{In, of_rule, of_solid}
+use Rattle.lmn_splice.specs.Splice.{IsOneOf, of_rule, of_solid}
 use Rattle.lmn_body.specs.declared.items.BodyItem.{BodyItem}
 use Rattle.lmn_body.specs.declared.items.BodyItem.TheVariants.{Atom, Connector, Copy, Bound, Membrane, Rest, Rule, Rules}
 use Rattle.lmn_solid.specs.declared.items.HeadItem.{HeadItem}
-use Rattle.lmn_body.specs.Items.{ports_from, new_ports, AllMade, Simple}
-use Rattle.lmn_body.specs.Running.{Registers, new_port, integer_functor, withouts}
+use Rattle.lmn_body.specs.Items.{new_ports_from, new_ports, AllMade, Simple}
+use Rattle.lmn_body.specs.Running.{Registers, new_port, integer_functor}
 use Rattle.lmn_body.specs.Fired.{linked_by, made_atoms, images_of, fired_regions}
 use Rattle.lmn_body.proofs.Phases.{placed_in}
 use Rattle.lmn_body.proofs.Coding.{at_heap}
 use Rattle.lmn_body.specs.Made.{made_of, places_of}
-use Rattle.lmn_body.proofs.HeadPorts.{in_front, in_back}
 use Rattle.lmn_body.proofs.BodyPorts.{heap_append, numbers}
+use Rattle.lmn_base.specs.Graphs.{Port}
+use Rattle.lmn_heap.specs.Lists.{without_all}
+use Rattle.lmn_splice.proofs.Common.{in_back, in_front}
 
 -- Atoms that stay
 
-numbered_map : (u v : ℕ → ℕ → ℕ) (g : ℕ → ℕ) (a i n : ℕ) → ((j : ℕ) → v a j ≡ g (u a j)) → numbered v a i n ≡ map g (numbered u a i n)
+numbered_map : (u v : ℕ → ℕ → ℕ) (g : ℕ → ℕ) (a i n : ℕ) → ((j : ℕ) → v a j ≡ g (u a j)) → links_from v a i n ≡ map g (links_from u a i n)
 numbered_map u v g a i zero e = refl
 numbered_map u v g a i (suc n) e = let x = e i in let xs = numbered_map u v g a (i + 1) n e in λ t. x t ∷ xs t
 
 same_atom : (u v : ℕ → ℕ → ℕ) (g : ℕ → ℕ) (a : ℕ) (o q : Option HeapAtom) → option_map (λ x. x.functor) q ≡ option_map (λ x. x.functor) o → ((j : ℕ) → v a j ≡ g (u a j))
-    → atom_of v a q ≡ map (linked_by g) (atom_of u a o)
+    → solid_atom_at v a q ≡ map (linked_by g) (solid_atom_at u a o)
 same_atom u v g a None None e w = refl
 same_atom u v g a None (Some x) e w = absurd (cc)
 same_atom u v g a (Some x) None e w = absurd (cc)
 same_atom u v g a (Some x) (Some y) e w =
     let f : y.functor ≡ x.functor = (cc) in
-    let ls : numbered v a 0 y.functor.arity ≡ map g (numbered u a 0 x.functor.arity) = ap (λ (k : Functor). numbered v a 0 k.arity) f ∙ numbered_map u v g a 0 x.functor.arity w in
+    let ls : links_from v a 0 y.functor.arity ≡ map g (links_from u a 0 x.functor.arity) = ap (λ (k : Functor). links_from v a 0 k.arity) f ∙ numbered_map u v g a 0 x.functor.arity w in
     λ t. (record { functor = f t; links = ls t }) ∷ []
 
 map_append_atoms : (g : SolidAtom → SolidAtom) (xs ys : List SolidAtom) → map g (xs ++ ys) ≡ map g xs ++ map g ys
@@ -46,45 +47,45 @@ map_append_atoms g (x ∷ xs) ys = ap (λ zs. g x ∷ zs) (map_append_atoms g xs
 
 -- atoms with the same functors, each link at its image
 pub kept_atoms : (h h' : Heap) (u v : ℕ → ℕ → ℕ) (g : ℕ → ℕ) (xs : List ℕ) → ((a : ℕ) → heap.In a xs → (functor_of h' a ≡ functor_of h a) × ((j : ℕ) → v a j ≡ g (u a j)))
-    → atoms_of h' v xs ≡ map (linked_by g) (atoms_of h u xs)
+    → solid_atoms_at h' v xs ≡ map (linked_by g) (solid_atoms_at h u xs)
 kept_atoms h h' u v g [] e = refl
 kept_atoms h h' u v g (a ∷ xs) e =
     let w = e a (inl refl) in
     let here = same_atom u v g a (h.atoms a) (h'.atoms a) w.0 w.1 in
     let rest = kept_atoms h h' u v g xs (λ b i. e b (inr i)) in
-    (λ t. here t ++ rest t) ∙ sym (map_append_atoms (linked_by g) (atom_of u a (h.atoms a)) (atoms_of h u xs))
+    (λ t. here t ++ rest t) ∙ sym (map_append_atoms (linked_by g) (solid_atom_at u a (h.atoms a)) (solid_atoms_at h u xs))
 
 -- Atoms that are made
 
 pub numbered_links : (r : Registers) (v : ℕ → ℕ → ℕ) (g : ℕ → ℕ) (a i : ℕ) (xs : List ℕ)
-    → ((e : Port × ℕ) → In e (at_heap (new_port r) (ports_from a i xs)) → v e.0.0 e.0.1 ≡ g e.1) → numbered v (r.head.images.atom a) i (length xs) ≡ map g xs
+    → ((e : Port × ℕ) → IsOneOf e (at_heap (new_port r) (new_ports_from a i xs)) → v e.0.0 e.0.1 ≡ g e.1) → links_from v (r.head.images.atom a) i (length xs) ≡ map g xs
 numbered_links r v g a i [] e = refl
 numbered_links r v g a i (x ∷ xs) e =
     let here = e ((r.head.images.atom a, i), x) (inl refl) in
     let rest = numbered_links r v g a (i + 1) xs (λ f w. e f (inr w)) in
     λ t. here t ∷ rest t
 
-pub one_made : (v : ℕ → ℕ → ℕ) (a : ℕ) (f : Functor) (o : Option HeapAtom) (ls : List ℕ) → option_map (λ x. x.functor) o ≡ Some f → numbered v a 0 f.arity ≡ ls → atom_of v a o ≡ (record { functor = f; links = ls }) ∷ []
+pub one_made : (v : ℕ → ℕ → ℕ) (a : ℕ) (f : Functor) (o : Option HeapAtom) (ls : List ℕ) → option_map (λ x. x.functor) o ≡ Some f → links_from v a 0 f.arity ≡ ls → solid_atom_at v a o ≡ (record { functor = f; links = ls }) ∷ []
 one_made v a f None ls e w = absurd (cc)
 one_made v a f (Some x) ls e w =
     let q : x.functor ≡ f = (cc) in
-    let links : numbered v a 0 x.functor.arity ≡ ls = ap (λ (k : Functor). numbered v a 0 k.arity) q ∙ w in
+    let links : links_from v a 0 x.functor.arity ≡ ls = ap (λ (k : Functor). links_from v a 0 k.arity) q ∙ w in
     λ t. (record { functor = q t; links = links t }) ∷ []
 
 pub new_atoms_are : (h' : Heap) (r : Registers) (v : ℕ → ℕ → ℕ) (g : ℕ → ℕ) (a c : ℕ) (body : List BodyItem) → AllMade body → Simple body
-    → ((e : ℕ × Functor) → In e (made_of r a body) → functor_of h' e.0 ≡ Some e.1)
-    → ((e : Port × ℕ) → In e (at_heap (new_port r) (new_ports a c body)) → v e.0.0 e.0.1 ≡ g e.1)
-    → atoms_of h' v (numbers (made_of r a body)) ≡ made_atoms r g body
+    → ((e : ℕ × Functor) → IsOneOf e (made_of r a body) → functor_of h' e.0 ≡ Some e.1)
+    → ((e : Port × ℕ) → IsOneOf e (at_heap (new_port r) (new_ports a c body)) → v e.0.0 e.0.1 ≡ g e.1)
+    → solid_atoms_at h' v (numbers (made_of r a body)) ≡ made_atoms r g body
 new_atoms_are h' r v g a c [] m s f e = refl
 new_atoms_are h' r v g a c (Atom functor ls inside ∷ xs) m s f e =
-    let at : (w : Port × ℕ) → In w (at_heap (new_port r) (ports_from a 0 ls)) ⊎ In w (at_heap (new_port r) (new_ports (a + 1) c xs)) → v w.0.0 w.0.1 ≡ g w.1 = λ w i. e w
-    (subst (In w) (sym (heap_append (new_port r) (ports_from a 0 ls) (new_ports (a + 1) c xs)))
+    let at : (w : Port × ℕ) → IsOneOf w (at_heap (new_port r) (new_ports_from a 0 ls)) ⊎ IsOneOf w (at_heap (new_port r) (new_ports (a + 1) c xs)) → v w.0.0 w.0.1 ≡ g w.1 = λ w i. e w
+    (subst (IsOneOf w) (sym (heap_append (new_port r) (new_ports_from a 0 ls) (new_ports (a + 1) c xs)))
     (elim i [
-      | inl j ↦ in_front w (at_heap (new_port r) (ports_from a 0 ls)) (at_heap (new_port r) (new_ports (a + 1) c xs)) j
-      | inr j ↦ in_back w (at_heap (new_port r) (ports_from a 0 ls)) (at_heap (new_port r) (new_ports (a + 1) c xs)) j
+      | inl j ↦ in_front w (at_heap (new_port r) (new_ports_from a 0 ls)) (at_heap (new_port r) (new_ports (a + 1) c xs)) j
+      | inr j ↦ in_back w (at_heap (new_port r) (new_ports_from a 0 ls)) (at_heap (new_port r) (new_ports (a + 1) c xs)) j
     ])) in
     let here = one_made v (r.head.images.atom a) functor (h'.atoms (r.head.images.atom a)) (map g ls) (f (r.head.images.atom a, functor) (inl refl))
-    (ap (numbered v (r.head.images.atom a) 0) (sym m.0.0) ∙ numbered_links r v g a 0 ls (λ w i. at w (inl i))) in
+    (ap (links_from v (r.head.images.atom a) 0) (sym m.0.0) ∙ numbered_links r v g a 0 ls (λ w i. at w (inl i))) in
     let rest = new_atoms_are h' r v g (a + 1) c xs m.1 s.1 (λ w i. f w (inr i)) (λ w i. at w (inr i)) in
     λ t. here t ++ rest t
 new_atoms_are h' r v g a c (Bound integer link inside ∷ xs) m s f e =
@@ -138,7 +139,7 @@ placed_here r a c k m body s e = by (k == m) refl
 
 -- the regions of a forest, from the atoms and rules of each membrane
 pub fired_are : (h h' : Heap) (c : Port → ℕ) (r : Registers) (head : List HeadItem) (body : List BodyItem) (m : ℕ) (to : ℕ → ℕ) (v : ℕ → ℕ → ℕ) (f : Forest)
-    → ((k : ℕ) → heap.In k (flat f) → (atoms_of h' v (atoms_in h' k) ≡ map (linked_by (λ x. to (of_solid x))) (atoms_of h (λ a i. c (a, i)) (withouts (images_of r head) (atoms_in h k)))
+    → ((k : ℕ) → heap.In k (flat f) → (solid_atoms_at h' v (atoms_in h' k) ≡ map (linked_by (λ x. to (of_solid x))) (solid_atoms_at h (λ a i. c (a, i)) (without_all (images_of r head) (atoms_in h k)))
     ++ cond (k == m) (made_atoms r (λ x. to (of_rule x)) body) []) × (rules_in h' k ≡ rules_in h k))
     → regions_of h' v f ≡ fired_regions h c r head body m to f
 fired_are h h' c r head body m to v bare e = refl

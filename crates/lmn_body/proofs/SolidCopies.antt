@@ -4,24 +4,25 @@ use Rattle.std.proofs.lemmas.Bool.{eq-eqb, eqb-true}
 use Rattle.std.specs.Option.{option_map}
 use Rattle.lmn_base.specs.declared.functor.Functor.{Functor}
 use Rattle.lmn_base.specs.declared.solid.SolidAtom.{SolidAtom}
-use Rattle.lmn_base.specs.Graphs.{Reached, at_root}
+use Rattle.lmn_base.specs.Graphs.{Reached, at_root, Port}
 use Rattle.lmn_heap.specs.Heap.{Heap, HeapAtom, functor_of, arity_of, IsAtom, IsInPlace, In}
 use Rattle.lmn_heap.specs.Sound.{Valid}
 use Rattle.lmn_heap.specs.Graphs.{atom_map}
-use Rattle.lmn_heap.specs.Solid.{numbered, atom_of, atoms_of}
+use Rattle.lmn_heap.specs.Solid.{links_from, solid_atom_at, solid_atoms_at}
 use Rattle.lmn_heap.proofs.Replacing.{port_within}
-use Rattle.lmn_parts.specs.Walks.{HasPort, ports, net, next}
+use Rattle.lmn_parts.specs.Walks.{HasPort, port_range, net, neighbour}
 use Rattle.lmn_parts.specs.Copies.{answer, moved, ports_of}
 use Rattle.lmn_parts.proofs.WalkLaws.{once, holds_left, holds_right, holds_port}
 use Rattle.lmn_parts.proofs.AnswerLaws.{answer_in, map_answer}
-use Rattle.lmn_splice.specs.Ports.{Port}
-use Rattle.lmn_splice.proofs.Joining.{port_cases, same_some}
+use Rattle.lmn_splice.proofs.Joining.{same_some}
 use Rattle.lmn_body.specs.Tied.{partners}
 use Rattle.lmn_body.specs.Fired.{linked_by}
 use Rattle.lmn_body.specs.Names.{StandsPort, Names}
 use Rattle.lmn_body.specs.Within.{IsCopyIn}
 use Rattle.lmn_body.specs.CopiedSolid.{Hangs, IsSolidCopy}
-use Rattle.lmn_body.proofs.Brought.{in_part, part_all, is_atom_at, reached_into}
+use Rattle.lmn_body.proofs.Brought.{in_part, part_all, reached_into}
+use Rattle.lmn_base.proofs.Common.{port_cases}
+use Rattle.lmn_heap.proofs.Common.{is_atom_at}
 
 -- a port of one of these atoms
 abbrev PortOf : Heap → List ℕ → Port → Type 0
@@ -31,14 +32,14 @@ PortOf h xs p = In p.0 xs × (p.1 < arity_of h p.0)
 port_there : (h : Heap) (xs : List ℕ) (p : Port) → In p.0 xs → p.1 < arity_of h p.0 → HasPort p (ports_of h xs)
 port_there h [] p i l = absurd i
 port_there h (x ∷ xs) p (inl e) l =
-    holds_left p (ports x 0 (arity_of h x)) (ports_of h xs)
-    (subst (λ (z : ℕ). HasPort (z, p.1) (ports x 0 (arity_of h x))) e (holds_port x 0 (arity_of h x) p.1 (omega arith) (below p.1 (arity_of h x) (subst (λ (z : ℕ). p.1 < arity_of h z) (sym e) l))))
+    holds_left p (port_range x 0 (arity_of h x)) (ports_of h xs)
+    (subst (λ (z : ℕ). HasPort (z, p.1) (port_range x 0 (arity_of h x))) e (holds_port x 0 (arity_of h x) p.1 (omega arith) (below p.1 (arity_of h x) (subst (λ (z : ℕ). p.1 < arity_of h z) (sym e) l))))
   where
     below : (k n : ℕ) → k < n → k < 0 + n
     below k n l = omega arith
-port_there h (x ∷ xs) p (inr i) l = holds_right p (ports x 0 (arity_of h x)) (ports_of h xs) (port_there h xs p i l)
+port_there h (x ∷ xs) p (inr i) l = holds_right p (port_range x 0 (arity_of h x)) (ports_of h xs) (port_there h xs p i l)
 
-of_ports : (h : Heap) (all : List ℕ) (a i n : ℕ) (ps : List Port) → In a all → i + n ≤ arity_of h a → ((p : Port) → HasPort p ps → PortOf h all p) → (p : Port) → HasPort p (ports a i n ++ ps) → PortOf h all p
+of_ports : (h : Heap) (all : List ℕ) (a i n : ℕ) (ps : List Port) → In a all → i + n ≤ arity_of h a → ((p : Port) → HasPort p ps → PortOf h all p) → (p : Port) → HasPort p (port_range a i n ++ ps) → PortOf h all p
 of_ports h all a i zero ps k l r p j = r p j
 of_ports h all a i (suc n) ps k l r p (inl e) = subst (PortOf h all) e (k, here i n (arity_of h a) l)
   where
@@ -69,7 +70,7 @@ image_at c number f (q ∷ ps) p (inr k) e = by (c q == c p) refl (image_at c nu
     by false t r = r
 
 -- an atom with its links at their images
-numbered_moved : (u v : ℕ → ℕ → ℕ) (g f : ℕ → ℕ) (a i n : ℕ) → ((j : ℕ) → i ≤ j → j < i + n → v (f a) j ≡ g (u a j)) → numbered v (f a) i n ≡ map g (numbered u a i n)
+numbered_moved : (u v : ℕ → ℕ → ℕ) (g f : ℕ → ℕ) (a i n : ℕ) → ((j : ℕ) → i ≤ j → j < i + n → v (f a) j ≡ g (u a j)) → links_from v (f a) i n ≡ map g (links_from u a i n)
 numbered_moved u v g f a i zero e = refl
 numbered_moved u v g f a i (suc n) e =
     let x = e i (omega arith) (omega arith) in
@@ -83,13 +84,13 @@ numbered_moved u v g f a i (suc n) e =
     high {j = j} l = omega arith
 
 atom_moved : (u v : ℕ → ℕ → ℕ) (g f : ℕ → ℕ) (a : ℕ) (o q : Option HeapAtom) → option_map (λ x. x.functor) q ≡ option_map (λ x. x.functor) o → ((x : HeapAtom) → o ≡ Some x → (j : ℕ) → j < x.functor.arity → v (f a) j ≡ g (u a j))
-    → atom_of v (f a) q ≡ map (linked_by g) (atom_of u a o)
+    → solid_atom_at v (f a) q ≡ map (linked_by g) (solid_atom_at u a o)
 atom_moved u v g f a None None e w = refl
 atom_moved u v g f a None (Some x) e w = absurd (cc)
 atom_moved u v g f a (Some x) None e w = absurd (cc)
 atom_moved u v g f a (Some x) (Some y) e w =
     let s : y.functor ≡ x.functor = (cc) in
-    let ls : numbered v (f a) 0 y.functor.arity ≡ map g (numbered u a 0 x.functor.arity) = ap (λ (k : Functor). numbered v (f a) 0 k.arity) s
+    let ls : links_from v (f a) 0 y.functor.arity ≡ map g (links_from u a 0 x.functor.arity) = ap (λ (k : Functor). links_from v (f a) 0 k.arity) s
     ∙ numbered_moved u v g f a 0 x.functor.arity (λ j l k. w x refl j (plain j x.functor.arity k)) in
     λ t. (record { functor = s t; links = ls t }) ∷ []
   where
@@ -101,12 +102,12 @@ map_both g [] ys = refl
 map_both g (x ∷ xs) ys = ap (λ zs. g x ∷ zs) (map_both g xs ys)
 
 atoms_moved : (h h' : Heap) (u v : ℕ → ℕ → ℕ) (g f : ℕ → ℕ) (xs : List ℕ) → ((a : ℕ) → In a xs → functor_of h' (f a) ≡ functor_of h a)
-    → ((a : ℕ) → In a xs → (x : HeapAtom) → h.atoms a ≡ Some x → (j : ℕ) → j < x.functor.arity → v (f a) j ≡ g (u a j)) → atoms_of h' v (map f xs) ≡ map (linked_by g) (atoms_of h u xs)
+    → ((a : ℕ) → In a xs → (x : HeapAtom) → h.atoms a ≡ Some x → (j : ℕ) → j < x.functor.arity → v (f a) j ≡ g (u a j)) → solid_atoms_at h' v (map f xs) ≡ map (linked_by g) (solid_atoms_at h u xs)
 atoms_moved h h' u v g f [] e w = refl
 atoms_moved h h' u v g f (a ∷ xs) e w =
     let here = atom_moved u v g f a (h.atoms a) (h'.atoms (f a)) (e a (inl refl)) (w a (inl refl)) in
     let rest = atoms_moved h h' u v g f xs (λ b i. e b (inr i)) (λ b i. w b (inr i)) in
-    (λ t. here t ++ rest t) ∙ sym (map_both (linked_by g) (atom_of u a (h.atoms a)) (atoms_of h u xs))
+    (λ t. here t ++ rest t) ∙ sym (map_both (linked_by g) (solid_atom_at u a (h.atoms a)) (solid_atoms_at h u xs))
 
 module _ (h : Heap) (valid : Valid h) (c : Port → ℕ) (names : Names h c) (h' : Heap) (valid' : Valid h') (number : Port → ℕ) (named : Names h' number) (root copy : Port) (ys : List ℕ)
     (k : IsCopyIn h h' root copy ys) (placed : (y : ℕ) → In y ys → IsInPlace h' y) (hangs : Hangs h root) where
@@ -173,12 +174,12 @@ module _ (h : Heap) (valid : Valid h) (c : Port → ℕ) (names : Names h c) (h'
   to_is : (p : Port) → In p.0 xs → p.1 < arity_of h p.0 → to (c p) ≡ number (moved f p)
   to_is p i l = image_at c number f (ports_of h xs) p (port_there h xs p i l) (λ q m e. let w = all_ports h xs xs (λ a i. i) q m in one_image p q i l w.0 w.1 e)
 
-  pub solid_copy : IsSolidCopy h c h' number root copy ys (atoms_of h' (λ a i. number (a, i)) ys)
+  pub solid_copy : IsSolidCopy h c h' number root copy ys (solid_atoms_at h' (λ a i. number (a, i)) ys)
   solid_copy = record {
     atoms = xs;
     part = k.part;
     to = to;
-    are = ap (atoms_of h' (λ a i. number (a, i))) (sym (map_answer xs ys (once (net h).arity (next (net h) root (λ _. true)) k.part (tt, tt)) k.long))
+    are = ap (solid_atoms_at h' (λ a i. number (a, i))) (sym (map_answer xs ys (once (net h).arity (neighbour (net h) root (λ _. true)) k.part (tt, tt)) k.long))
         ∙ atoms_moved h h' (λ a i. c (a, i)) (λ a i. number (a, i)) to f xs k.functors
         (λ a i x e j l. sym (to_is (a, j) i (subst (λ n. j < n) (sym (valid.sound.shaped.ports a x.functor (ap (option_map (λ (z : HeapAtom). z.functor)) e))) l)));
     entered = to_is root root_in root_port ∙ ap number (sym k.entered);

@@ -3,15 +3,14 @@ use Rattle.std.proofs.Common.{ℕ, ◌+◌, ◌≡◌, ◌⊎◌, ◌==◌, Bool
 use Rattle.lmn_base.specs.declared.functor.Functor.{Functor}
 use Rattle.lmn_base.specs.declared.solid.SolidAtom.{SolidAtom}
 use Rattle.lmn_heap.specs.Heap.{Heap, functor_of, atoms_in}
-use Rattle.lmn_heap.specs.Solid.{numbered, atoms_of}
+use Rattle.lmn_heap.specs.Solid.{links_from, solid_atoms_at}
 use Rattle.lmn_heap.proofs.SolidLemmas.{atoms_append}
 use Rattle.lmn_solid.specs.Heads as heads
-use Rattle.lmn_splice.specs.Ports.{Port}
-use Rattle.lmn_splice.specs.Splice.{In, of_rule, of_solid}
+use Rattle.lmn_splice.specs.Splice.{IsOneOf, of_rule, of_solid}
 use Rattle.lmn_body.specs.declared.items.BodyItem.{BodyItem}
 use Rattle.lmn_body.specs.declared.items.BodyItem.TheVariants.{Atom, Connector, Copy, Bound, Membrane, Rest, Rule, Rules}
-use Rattle.lmn_body.specs.Items.{ports_from, new_ports, AllMade, NoCopies}
-use Rattle.lmn_body.specs.Running.{Registers, new_port, integer_functor, withouts}
+use Rattle.lmn_body.specs.Items.{new_ports_from, new_ports, AllMade, NoCopies}
+use Rattle.lmn_body.specs.Running.{Registers, new_port, integer_functor}
 use Rattle.lmn_body.specs.Added.{if_inside, added_atoms}
 use Rattle.lmn_body.specs.Made.{made_of}
 use Rattle.lmn_body.specs.Within.{added_with_copies, added_solid, left_solid}
@@ -20,34 +19,36 @@ use Rattle.lmn_body.proofs.SolidCopies.{solid_copy}
 use Rattle.lmn_body.proofs.Committing.{in_withouts_of}
 use Rattle.lmn_body.proofs.Finishing.{in_place_listed}
 use Rattle.lmn_body.proofs.Coding.{at_heap}
-use Rattle.lmn_body.proofs.HeadPorts.{in_front, in_back}
 use Rattle.lmn_body.proofs.BodyPorts.{heap_append, of_heap, copied_new}
 use Rattle.lmn_body.proofs.SolidAfter.{kept_atoms, numbered_links, one_made}
+use Rattle.lmn_base.specs.Graphs.{Port}
+use Rattle.lmn_heap.specs.Lists.{without_all}
+use Rattle.lmn_splice.proofs.Common.{in_back, in_front}
 
-if_atoms : (h' : Heap) (v : ℕ → ℕ → ℕ) (r : Registers) (x inside : ℕ) (ns : List ℕ) (as' : List SolidAtom) → atoms_of h' v ns ≡ as' → atoms_of h' v (if_inside r x inside ns) ≡ cond (r.head.images.membrane inside == x) as' []
+if_atoms : (h' : Heap) (v : ℕ → ℕ → ℕ) (r : Registers) (x inside : ℕ) (ns : List ℕ) (as' : List SolidAtom) → solid_atoms_at h' v ns ≡ as' → solid_atoms_at h' v (if_inside r x inside ns) ≡ cond (r.head.images.membrane inside == x) as' []
 if_atoms h' v r x inside ns as' e = by (r.head.images.membrane inside == x)
   where
-    by : (t : Bool) → atoms_of h' v (cond t ns []) ≡ cond t as' []
+    by : (t : Bool) → solid_atoms_at h' v (cond t ns []) ≡ cond t as' []
     by true = e
     by false = refl
 
-one_more : (h' : Heap) (v : ℕ → ℕ → ℕ) (xs ys : List ℕ) (as' bs : List SolidAtom) → atoms_of h' v xs ≡ as' → atoms_of h' v ys ≡ bs → atoms_of h' v (xs ++ ys) ≡ as' ++ bs
+one_more : (h' : Heap) (v : ℕ → ℕ → ℕ) (xs ys : List ℕ) (as' bs : List SolidAtom) → solid_atoms_at h' v xs ≡ as' → solid_atoms_at h' v ys ≡ bs → solid_atoms_at h' v (xs ++ ys) ≡ as' ++ bs
 one_more h' v xs ys as' bs e f = atoms_append h' v xs ys ∙ (λ t. e t ++ f t)
 
-added_are : (h' : Heap) (r : Registers) (v : ℕ → ℕ → ℕ) (g : ℕ → ℕ) (left : ℕ → List ℕ) (solid : ℕ → List SolidAtom) → ((k : ℕ) → atoms_of h' v (left k) ≡ solid k) → (a c : ℕ) (body : List BodyItem) → AllMade body
-    → ((e : ℕ × Functor) → In e (made_of r a body) → functor_of h' e.0 ≡ Some e.1)
-    → ((e : Port × ℕ) → In e (at_heap (new_port r) (new_ports a c body)) → v e.0.0 e.0.1 ≡ g e.1)
-    → (x : ℕ) → atoms_of h' v (added_atoms r left a c body x) ≡ added_with_copies r solid (λ k. atoms_of h' v (r.copied k)) g c body x
+added_are : (h' : Heap) (r : Registers) (v : ℕ → ℕ → ℕ) (g : ℕ → ℕ) (left : ℕ → List ℕ) (solid : ℕ → List SolidAtom) → ((k : ℕ) → solid_atoms_at h' v (left k) ≡ solid k) → (a c : ℕ) (body : List BodyItem) → AllMade body
+    → ((e : ℕ × Functor) → IsOneOf e (made_of r a body) → functor_of h' e.0 ≡ Some e.1)
+    → ((e : Port × ℕ) → IsOneOf e (at_heap (new_port r) (new_ports a c body)) → v e.0.0 e.0.1 ≡ g e.1)
+    → (x : ℕ) → solid_atoms_at h' v (added_atoms r left a c body x) ≡ added_with_copies r solid (λ k. solid_atoms_at h' v (r.copied k)) g c body x
 added_are h' r v g left solid l a c [] m f e x = refl
 added_are h' r v g left solid l a c (Atom functor ls inside ∷ xs) m f e x =
-    let at : (w : Port × ℕ) → In w (at_heap (new_port r) (ports_from a 0 ls)) ⊎ In w (at_heap (new_port r) (new_ports (a + 1) c xs)) → v w.0.0 w.0.1 ≡ g w.1 = λ w i. e w
-    (subst (In w) (sym (heap_append (new_port r) (ports_from a 0 ls) (new_ports (a + 1) c xs)))
+    let at : (w : Port × ℕ) → IsOneOf w (at_heap (new_port r) (new_ports_from a 0 ls)) ⊎ IsOneOf w (at_heap (new_port r) (new_ports (a + 1) c xs)) → v w.0.0 w.0.1 ≡ g w.1 = λ w i. e w
+    (subst (IsOneOf w) (sym (heap_append (new_port r) (new_ports_from a 0 ls) (new_ports (a + 1) c xs)))
     (elim i [
-      | inl j ↦ in_front w (at_heap (new_port r) (ports_from a 0 ls)) (at_heap (new_port r) (new_ports (a + 1) c xs)) j
-      | inr j ↦ in_back w (at_heap (new_port r) (ports_from a 0 ls)) (at_heap (new_port r) (new_ports (a + 1) c xs)) j
+      | inl j ↦ in_front w (at_heap (new_port r) (new_ports_from a 0 ls)) (at_heap (new_port r) (new_ports (a + 1) c xs)) j
+      | inr j ↦ in_back w (at_heap (new_port r) (new_ports_from a 0 ls)) (at_heap (new_port r) (new_ports (a + 1) c xs)) j
     ])) in
     let here = one_made v (r.head.images.atom a) functor (h'.atoms (r.head.images.atom a)) (map g ls) (f (r.head.images.atom a, functor) (inl refl))
-    (ap (numbered v (r.head.images.atom a) 0) (sym m.0.0) ∙ numbered_links r v g a 0 ls (λ w i. at w (inl i))) in
+    (ap (links_from v (r.head.images.atom a) 0) (sym m.0.0) ∙ numbered_links r v g a 0 ls (λ w i. at w (inl i))) in
     one_more h' v (if_inside r x inside (r.head.images.atom a ∷ [])) (added_atoms r left (a + 1) c xs x) _ _
     (if_atoms h' v r x inside (r.head.images.atom a ∷ []) ((record { functor = functor; links = map g ls }) ∷ []) (λ t. here t ++ []))
     (added_are h' r v g left solid l (a + 1) c xs m.1 (λ w i. f w (inr i)) (λ w i. at w (inr i)) x)
@@ -60,7 +61,7 @@ added_are h' r v g left solid l a c (Bound integer link inside ∷ xs) m f e x =
 added_are h' r v g left solid l a c (Connector p q ∷ xs) m f e x = added_are h' r v g left solid l a c xs m.1 f e x
 added_are h' r v g left solid l a c (Copy part link inside ∷ xs) m f e x =
     one_more h' v (if_inside r x inside (r.copied c)) (added_atoms r left a (c + 1) xs x) _ _
-    (if_atoms h' v r x inside (r.copied c) (atoms_of h' v (r.copied c)) refl)
+    (if_atoms h' v r x inside (r.copied c) (solid_atoms_at h' v (r.copied c)) refl)
     (added_are h' r v g left solid l a (c + 1) xs m.1 f (λ w i. e w (inr i)) x)
 added_are h' r v g left solid l a c (Membrane inside ∷ xs) m f e x = added_are h' r v g left solid l a c xs m.1 f e x
 added_are h' r v g left solid l a c (Rest of inside ∷ xs) m f e x =
@@ -74,13 +75,13 @@ pub firing_leaves_solid : FiringLeavesSolid
 firing_leaves_solid h valid c r head body made taken h' f x o =
     let v : ℕ → ℕ → ℕ = λ a i. f.number (a, i) in
     let N = length (heads.atoms_of head) in
-    let kept : (k : ℕ) → atoms_of h' v (withouts taken (atoms_in h k)) ≡ left_solid h c taken (λ z. f.to (of_solid z)) k = λ k.
-    kept_atoms h h' (λ a i. c (a, i)) v (λ z. f.to (of_solid z)) (withouts taken (atoms_in h k)) (λ a i.
+    let kept : (k : ℕ) → solid_atoms_at h' v (without_all taken (atoms_in h k)) ≡ left_solid h c taken (λ z. f.to (of_solid z)) k = λ k.
+    kept_atoms h h' (λ a i. c (a, i)) v (λ z. f.to (of_solid z)) (without_all taken (atoms_in h k)) (λ a i.
     let w = in_withouts_of taken (atoms_in h k) a (valid.sound.listed.atoms_once k) i in
     let p = in_place_listed h k a valid.sound.listed w.0 in
     (f.kept_functors a p w.1, λ j. f.kept_links (a, j) p)) in
-    ap (atoms_of h' v) (f.atoms x o) ∙ one_more h' v (withouts taken (atoms_in h x)) (added_atoms r (λ k. withouts taken (atoms_in h k)) N 0 body x) _ _ (kept x)
-    (added_are h' r v (λ z. f.to (of_rule z)) (λ k. withouts taken (atoms_in h k)) (left_solid h c taken (λ z. f.to (of_solid z))) kept N 0 body made f.made_functors
+    ap (solid_atoms_at h' v) (f.atoms x o) ∙ one_more h' v (without_all taken (atoms_in h x)) (added_atoms r (λ k. without_all taken (atoms_in h k)) N 0 body x) _ _ (kept x)
+    (added_are h' r v (λ z. f.to (of_rule z)) (λ k. without_all taken (atoms_in h k)) (left_solid h c taken (λ z. f.to (of_solid z))) kept N 0 body made f.made_functors
     (λ e i. let w = of_heap (new_port r) e (new_ports N 0 body) i in
     subst (λ (z : Port × ℕ). v z.0.0 z.0.1 ≡ f.to (of_rule z.1)) w.2 (f.made_links w.0 w.1)) x)
 
@@ -103,7 +104,7 @@ pub firing_leaves_atoms : FiringLeavesAtoms
 firing_leaves_atoms h valid c r head body made plain taken h' f x o =
     let left = left_solid h c taken (λ z. f.to (of_solid z)) in
     firing_leaves_solid h valid c r head body made taken h' f x o
-    ∙ ap (λ zs. left x ++ zs) (plain_solid r left (λ k. atoms_of h' (λ a i. f.number (a, i)) (r.copied k)) (λ z. f.to (of_rule z)) 0 body plain x)
+    ∙ ap (λ zs. left x ++ zs) (plain_solid r left (λ k. solid_atoms_at h' (λ a i. f.number (a, i)) (r.copied k)) (λ z. f.to (of_rule z)) 0 body plain x)
 
 pub copies_in_solid : CopiesInSolid
 copies_in_solid h valid c names r head body taken h' valid' f e i hangs =

@@ -12,11 +12,10 @@ use Rattle.lmn_heap.proofs.Listing.{alter_at, made_listed, placed_listed, same_l
 use Rattle.lmn_solid.specs.declared.items.HeadItem.{HeadItem}
 use Rattle.lmn_solid.specs.Heads.{HeadMembrane, atoms_of, membranes_of}
 use Rattle.lmn_solid.specs.Embeddings.{Embeds, HasMembrane}
-use Rattle.lmn_splice.specs.Ports.{Port}
 use Rattle.lmn_body.specs.declared.items.BodyItem.{BodyItem}
 use Rattle.lmn_body.specs.declared.items.BodyItem.TheVariants.{Atom, Connector, Copy, Bound, Membrane, Rest, Rule, Rules}
 use Rattle.lmn_body.specs.Code.{making}
-use Rattle.lmn_body.specs.Running.{Registers, integer_functor, Prepares, Commits}
+use Rattle.lmn_body.specs.Running.{Registers, integer_functor, Prepares, DoesAll}
 use Rattle.lmn_body.specs.Names.{Names}
 use Rattle.lmn_body.specs.Added.{moved_mems, made_mems}
 use Rattle.lmn_body.specs.Rules.{AtomRule, Goes, Exists, Into, Nests, PartAtoms}
@@ -29,12 +28,14 @@ use Rattle.lmn_body.proofs.MakingParts.{GrownBy}
 use Rattle.lmn_body.proofs.Firing.{ns_once}
 use Rattle.lmn_body.proofs.ListOps.{change_keeps, place_by, there_by, out_place}
 use Rattle.lmn_body.proofs.Growing.{grown_placed, grown_all_placed, grown_placed_mem, grown_moved, some_there}
-use Rattle.lmn_body.proofs.Removing.{Shrunk, taken_places, all_taken_mems, parent_place, place_parent}
+use Rattle.lmn_body.proofs.Removing.{Shrunk, taken_places, all_taken_mems, place_parent}
 use Rattle.lmn_body.proofs.Preparing.{AllPrepared, made_one_mem}
 use Rattle.lmn_body.proofs.MemListing.{same_lists_listed, place_after, waits_before}
 use Rattle.lmn_heap.proofs.MemListing.{made_mem_listed, taken_mem_listed, placed_mem_listed}
 use Rattle.lmn_heap.proofs.MoveListing.{moved_all_listed}
 use Rattle.lmn_body.proofs.Nesting as nesting
+use Rattle.lmn_base.specs.Graphs.{Port}
+use Rattle.lmn_heap.proofs.Heights.{parent_place}
 
 -- What prepares keeps lists and places together.
 pub prepares_listed : (r : Registers) (a m c : ℕ) (body : List BodyItem) → (s t : Heap) → Listed s → Prepares r (making a m c body) s t → Listed t
@@ -91,7 +92,7 @@ copies_listed home done ks y (a ∷ xs) s rest e o is wait rd h =
 
 -- The making part of a commit keeps lists and places together.
 pub making_listed : (r : Registers) (home : ℕ) (ks : List ℕ) (E : ℕ → Type 0) (done : List ℕ) (a m c : ℕ) (body : List BodyItem) → Goes r ks E body → Nests r home done m body → (s t : Heap)
-    → Ready home done ks s → ((x : ℕ) → In x (made_mems r m body) → IsSome (s.mems x)) → Listed s → Commits r (making a m c body) s t → Listed t
+    → Ready home done ks s → ((x : ℕ) → In x (made_mems r m body) → IsSome (s.mems x)) → Listed s → DoesAll r (making a m c body) s t → Listed t
 making_listed r home ks E done a m c [] g n s t rd mk h w = subst Listed (sym w) h
 making_listed r home ks E done a m c (Connector left right ∷ xs) g n s t rd mk h w = making_listed r home ks E done a m c xs g n s t rd mk h w
 making_listed r home ks E done a m c (Copy part link inside ∷ xs) g n s t rd mk h w =
@@ -234,7 +235,7 @@ module _ (h : Heap) (valid : Valid h) (head : List HeadItem) (guard : List Cond)
   ready_t2 x (inr (inl i)) = absurd i
   ready_t2 x (inr (inr i)) = old_ready x (removed_mem x i)
 
-  module _ (t3 : Heap) (run : Commits r (making (length (atoms_of head)) (1 + length (membranes_of head)) 0 body) (nesting.t2 h valid head guard body n m r rule em stand c names goes contexts ps parts s pr) t3) where
+  module _ (t3 : Heap) (run : DoesAll r (making (length (atoms_of head)) (1 + length (membranes_of head)) 0 body) (nesting.t2 h valid head guard body n m r rule em stand c names goes contexts ps parts s pr) t3) where
     abbrev v : Heap
     v = nesting.v h valid head guard body n m r rule em stand c names goes contexts ps parts s pr t3 run
 

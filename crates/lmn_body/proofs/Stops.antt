@@ -1,16 +1,17 @@
 -- A prepare that is given up: what was made waits alone, and is discarded.
-use Rattle.std.proofs.Common.{ℕ, zero, suc, ◌≡◌, ◌⊎◌, List, [], ◌∷◌, replicate, Option, Some, None, IsSome, refl, sym, ap, subst, ◌∙◌, inl, inr}
+use Rattle.std.proofs.Common.{ℕ, ◌≡◌, ◌⊎◌, List, [], ◌∷◌, Option, Some, None, IsSome, refl, sym, ap, subst, ◌∙◌, inl, inr}
 use Rattle.std.proofs.lemmas.Bool.{cases_eq}
 use Rattle.std.specs.Option.{option_map, option_and_then}
 use Rattle.std.specs.Prelude.{slice_index_or}
 use Rattle.lmn_base.specs.declared.functor.Functor.{Functor}
-use Rattle.lmn_heap.specs.Heap.{Heap, HeapAtom, HeapMem, Place, top, within, waiting, gone, home_by, links_of, new_atom, new_mem, mem_with_spare, unless_waiting, mem_unless_waiting, made_atom, made_mem, reserved}
+use Rattle.lmn_heap.specs.Heap.{Heap, HeapAtom, HeapMem, Place, top, within, waiting, gone, home_by, partners_of, new_atom, new_mem, mem_with_spare, unless_waiting, mem_unless_waiting, made_atom, made_mem, reserved}
 use Rattle.lmn_heap.proofs.Listing.{alter_at, alter_away}
 use Rattle.lmn_instr.specs.declared.instr.Instr.{Instr}
 use Rattle.lmn_instr.specs.declared.instr.Instr.TheVariants.{RemoveAtom, RemovePart, RemoveMem, NewAtom, NewInt, NewMem, CopyGround, MoveCells, LoadRule, CopyRules, NewLink, Relink, Unify, Proceed}
 use Rattle.lmn_body.specs.Running.{Registers, integer_functor, Prepares}
 use Rattle.lmn_body.specs.Stopping.{NoCopying}
 use Rattle.lmn_body.specs.Laws.{PrepareStops}
+use Rattle.lmn_heap.proofs.Common.{no_links}
 
 abbrev spared : ℕ → HeapMem
 spared k = mem_with_spare k new_mem
@@ -95,14 +96,6 @@ all_wait r (Unify x y ∷ is) c h s t w p = all_wait r is c.1 h p.0 t (subst (Wa
 all_wait r (Proceed ∷ is) c h s t w p = all_wait r is c.1 h p.0 t (subst (Waits h) (sym p.1) w) p.2
 all_wait r (_ ∷ is) c h s t w p = absurd p.1
 
-abbrev no_port : Option (ℕ × ℕ)
-no_port = None
-
-no_links : (n i : ℕ) → slice_index_or (replicate n no_port) i None ≡ None
-no_links zero i = refl
-no_links (suc n) zero = refl
-no_links (suc n) (suc i) = no_links n i
-
 -- what stood before doesn't wait
 atom_stays : (o : Option HeapAtom) → (IsSome o → IsSome (option_and_then (λ x. home_by x.place) o)) → option_and_then unless_waiting o ≡ o
 atom_stays None h = refl
@@ -130,7 +123,7 @@ prepare_stops r code c h valid s p =
     let w = all_wait r code c h h s (record { atoms = λ a. inl refl; mems = λ m. inl (same_spare (h.mems m)); root = refl }) p in (
       (λ a i b j e f. elim (w.atoms a) [
         | inl q ↦ off (h.atoms a) (valid.settled.atoms a) (sym (ap (λ (o : Option HeapAtom). option_map (λ x. x.place) o) q) ∙ e)
-        | inr q ↦ absurd (let z : ◌≡◌ {A = Option (ℕ × ℕ)} None (Some (b, j)) = sym (ap (λ (o : Option HeapAtom). slice_index_or (links_of o) i None) q.1.1 ∙ no_links q.1.0.arity i) ∙ f in cc)
+        | inr q ↦ absurd (let z : ◌≡◌ {A = Option (ℕ × ℕ)} None (Some (b, j)) = sym (ap (λ (o : Option HeapAtom). slice_index_or (partners_of o) i None) q.1.1 ∙ no_links q.1.0.arity i) ∙ f in cc)
       ]),
       record {
         root = w.root;

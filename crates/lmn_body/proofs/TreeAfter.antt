@@ -15,23 +15,25 @@ use Rattle.lmn_heap.proofs.Finish.{finish_valid}
 use Rattle.lmn_solid.specs.declared.items.HeadItem.{HeadItem}
 use Rattle.lmn_solid.specs.Heads.{HeadMembrane, atoms_of, membranes_of}
 use Rattle.lmn_solid.specs.Embeddings.{Embeds, HasMembrane, index_of}
-use Rattle.lmn_splice.specs.Ports.{Port}
 use Rattle.lmn_body.specs.declared.items.BodyItem.{BodyItem}
 use Rattle.lmn_body.specs.declared.items.BodyItem.TheVariants.{Atom, Connector, Copy, Bound, Membrane, Rest, Rule, Rules}
-use Rattle.lmn_body.specs.Running.{Registers, withouts, Commits}
+use Rattle.lmn_body.specs.Running.{Registers, DoesAll}
 use Rattle.lmn_body.specs.Names.{Names}
 use Rattle.lmn_body.specs.Added.{if_inside, added_mems, moved_mems, made_mems}
 use Rattle.lmn_body.specs.Rules.{AtomRule, Goes, Exists, Nests, HeadNests, PartAtoms}
 use Rattle.lmn_body.specs.Within.{membrane_images}
 use Rattle.lmn_body.proofs.Committing.{in_withouts_of}
 use Rattle.lmn_body.proofs.Below.{index_most, index_in, index_split, index_front, preorder, later, below_home}
-use Rattle.lmn_body.proofs.Firing.{decide_in, new_plain}
+use Rattle.lmn_body.proofs.Firing.{new_plain}
 use Rattle.lmn_body.proofs.Growing.{some_there}
 use Rattle.lmn_body.proofs.MakingParts.{moved_within}
 use Rattle.lmn_body.proofs.Preparing.{AllPrepared}
 use Rattle.lmn_heap.proofs.Heights.{mem_of_list}
 use Rattle.lmn_heap.proofs.Ranks.{tree, tree_forms, tree_once, tree_all}
 use Rattle.lmn_body.proofs.Nesting as nesting
+use Rattle.lmn_base.specs.Graphs.{Port}
+use Rattle.lmn_heap.specs.Lists.{without_all}
+use Rattle.lmn_heap.proofs.Common.{decide_in}
 use Rattle.lmn_body.specs.Code.{making}
 
 -- Membranes that are added
@@ -174,7 +176,7 @@ module _ (h : Heap) (valid : Valid h) (head : List HeadItem) (guard : List Cond)
   home_is_mem : IsMem h m
   home_is_mem = by (h.mems m) stand
     where
-      by : (o : Option HeapMem) → heap.StandsAt (option_map (λ x. x.place) o) → IsSome o
+      by : (o : Option HeapMem) → heap.IsTopOrWithin (option_map (λ x. x.place) o) → IsSome o
       by None i = absurd i
       by (Some x) i = refl
 
@@ -193,7 +195,7 @@ module _ (h : Heap) (valid : Valid h) (head : List HeadItem) (guard : List Cond)
       by (inr q) (inl l) a b e = omega arith
       by (inr q) (inr g) a b e = omega arith
 
-  module _ (t3 : Heap) (run : Commits r (making (length (atoms_of head)) (1 + length (membranes_of head)) 0 body)
+  module _ (t3 : Heap) (run : DoesAll r (making (length (atoms_of head)) (1 + length (membranes_of head)) 0 body)
       (nesting.t2 h valid head guard body n m r rule em stand c names goes contexts ps parts s pr) t3) where
     abbrev v : Heap
     v = nesting.v h valid head guard body n m r rule em stand c names goes contexts ps parts s pr t3 run
@@ -201,7 +203,7 @@ module _ (h : Heap) (valid : Valid h) (head : List HeadItem) (guard : List Cond)
     abbrev ks : List ℕ
     ks = membrane_images r head
 
-    pub left_old : (p x : ℕ) → In x (withouts ks (mems_in h p)) → In x (mems_in h p)
+    pub left_old : (p x : ℕ) → In x (without_all ks (mems_in h p)) → In x (mems_in h p)
     left_old p x i = (in_withouts_of ks (mems_in h p) x (valid.sound.listed.mems_once p) i).0
 
     pub child_old : (p x : ℕ) → In x (mems_in h p) → In x nm → ⊥
@@ -215,10 +217,10 @@ module _ (h : Heap) (valid : Valid h) (head : List HeadItem) (guard : List Cond)
     up : (p x : ℕ) → In x (mems_in v p) → rank p < rank x
     up p x i = elim (decide_in p ks) [
       | inl k ↦ absurd (subst (In x) (nesting.removed_empty h valid head guard body n m r rule em stand c names goes contexts ps parts s pr t3 run p k).1 i)
-      | inr o ↦ elim (in_either x (withouts ks (mems_in h p)) (added_mems r (λ q. withouts ks (mems_in h q)) (1 + K) body p)
+      | inr o ↦ elim (in_either x (without_all ks (mems_in h p)) (added_mems r (λ q. without_all ks (mems_in h q)) (1 + K) body p)
           (subst (In x) (nesting.mems_v h valid head guard body n m r rule em stand c names goes contexts ps parts s pr t3 run p o) i)) [
             | inl j ↦ (let child = left_old p x j in old_up p x (λ q. old p q (mem_of_list h p x child)) (child_old p x child) (child_later p x child))
-            | inr j ↦ elim (came_from r (λ q. withouts ks (mems_in h q)) m nm pr.mems.once [] (1 + K) body refl nests p x j) [
+            | inr j ↦ elim (came_from r (λ q. without_all ks (mems_in h q)) m nm pr.mems.once [] (1 + K) body refl nests p x j) [
               | inl w ↦ (let a = made_rank x w.0 in elim w.1 [
                 | inl e ↦ (let b : rank p ≡ idx m = ap rank e ∙ home_rank in omega arith)
                 | inr u ↦ (let b = made_rank p u.0 in let l = u.1 in omega arith)

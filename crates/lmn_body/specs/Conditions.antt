@@ -1,14 +1,14 @@
 -- When the instructions of a body can run: each meets the conditions of the calls that it makes.
-use Rattle.std.specs.Prelude.{ℕ, ◌≡◌, ◌≢◌, ◌≤◌, ◌<◌, List, [], ◌∷◌, ◌++◌, Some, length}
-use Rattle.lmn_base.specs.Graphs.{Reached}
+use Rattle.std.specs.Prelude.{ℕ, ◌≡◌, ◌≢◌, ◌≤◌, ◌<◌, List, [], ◌∷◌, Some, length}
+use Rattle.lmn_base.specs.Graphs.{Reached, Port}
 use Rattle.lmn_heap.specs.Heap.{Heap, IsAtom, IsMem, IsInPlace, IsPlacedMem, IsMemInPlace, mem_place_of, gone, rules_in, spare_of, arity_of}
 use Rattle.lmn_heap.specs.Conditions.{IsOutside, Ready}
 use Rattle.lmn_heap.specs.Graphs.{atom_map}
-use Rattle.lmn_splice.specs.Ports.{Port}
 use Rattle.lmn_instr.specs.declared.instr.Instr.{Instr}
 use Rattle.lmn_instr.specs.declared.instr.Instr.TheVariants.{RemoveAtom, RemovePart, RemoveMem, NewAtom, NewInt, NewMem, CopyGround, MoveCells, LoadRule, CopyRules, NewLink, Relink, Unify, Proceed}
 use Rattle.lmn_body.specs.Tied.{partners}
 use Rattle.lmn_body.specs.Running.{Registers, old_port, new_port, Does}
+use Rattle.lmn_base.specs.Lists.{Begins}
 
 abbrev pub StandsAsPort : Heap → Port → Type 0
 StandsAsPort s p = IsAtom s p.0 × (p.1 < arity_of s p.0)
@@ -17,10 +17,6 @@ StandsAsPort s p = IsAtom s p.0 × (p.1 < arity_of s p.0)
 abbrev pub IsFirstOf : ℕ → List ℕ → Type 0
 IsFirstOf a xs = (rest : List ℕ) × (xs ≡ a ∷ rest)
 
--- a list begins with another
-abbrev pub BeginsWith : List ℕ → List ℕ → Type 0
-BeginsWith xs ys = (rest : List ℕ) × (ys ≡ xs ++ rest)
-
 abbrev pub Can : Registers → Instr → Heap → Type 0
 Can r (RemoveAtom a) s = IsInPlace s (r.head.images.atom a)
 Can r (RemovePart g) s = (b : ℕ) → Reached (atom_map s) (r.head.images.part g) b → IsInPlace s b
@@ -28,7 +24,7 @@ Can r (RemoveMem m) s = IsPlacedMem s (r.head.images.membrane m)
 Can r (NewAtom a m f) s = IsMemInPlace s (r.head.images.membrane m) × IsFirstOf (r.head.images.atom a) s.new_atoms
 Can r (NewInt a m v) s = IsMemInPlace s (r.head.images.membrane m) × IsFirstOf (r.head.images.atom a) s.new_atoms
 Can r (NewMem m n) s = IsMemInPlace s (r.head.images.membrane n) × IsFirstOf (r.head.images.membrane m) s.new_mems
-Can r (CopyGround c m g) s = IsMemInPlace s (r.head.images.membrane m) × BeginsWith (r.copied c) s.new_atoms
+Can r (CopyGround c m g) s = IsMemInPlace s (r.head.images.membrane m) × Begins (r.copied c) s.new_atoms
 Can r (MoveCells m n) s = (mem_place_of s (r.head.images.membrane m) ≡ Some gone) × IsMemInPlace s (r.head.images.membrane n) × IsOutside s (r.head.images.membrane n) (r.head.images.membrane m)
 Can r (LoadRule m k) s = IsMem s (r.head.images.membrane m) × (1 ≤ spare_of s (r.head.images.membrane m))
 Can r (CopyRules m n) s =

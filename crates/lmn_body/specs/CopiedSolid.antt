@@ -1,12 +1,11 @@
 -- The solid's atoms of a copy.
 use Rattle.std.specs.Prelude.{ℕ, ◌≡◌, ◌≢◌, ◌<◌, List, map, Some}
-use Rattle.lmn_base.specs.Graphs.{Reached}
+use Rattle.lmn_base.specs.Graphs.{Reached, Port}
 use Rattle.lmn_base.specs.declared.solid.SolidAtom.{SolidAtom}
 use Rattle.lmn_heap.specs.Heap.{Heap, In, arity_of, link_of}
 use Rattle.lmn_heap.specs.Graphs.{atom_map}
-use Rattle.lmn_heap.specs.Solid.{atoms_of}
-use Rattle.lmn_parts.specs.Walks.{IsPart}
-use Rattle.lmn_splice.specs.Ports.{Port}
+use Rattle.lmn_heap.specs.Solid.{solid_atoms_at}
+use Rattle.lmn_parts.specs.Walks.{IsPartInDepth}
 use Rattle.lmn_body.specs.Fired.{linked_by}
 use Rattle.lmn_body.specs.Names.{StandsPort}
 
@@ -20,8 +19,8 @@ Hangs h root = (q : Port) × (link_of h root.0 root.1 ≡ Some q) × (Reached (a
 --   copied, as     the copy's atoms in the heap, and in the solid
 pub record IsSolidCopy (h : Heap) (c : Port → ℕ) (h' : Heap) (number : Port → ℕ) (root copy : Port) (copied : List ℕ) (as' : List SolidAtom) : Type 0 where
   pub atoms : List ℕ
-  pub part : IsPart h root atoms
+  pub part : IsPartInDepth h root atoms
   pub to : ℕ → ℕ
-  pub are : as' ≡ map (linked_by to) (atoms_of h (λ a i. c (a, i)) atoms)
+  pub are : as' ≡ map (linked_by to) (solid_atoms_at h (λ a i. c (a, i)) atoms)
   pub entered : to (c root) ≡ number copy
   pub apart : (p q : Port) → In p.0 atoms → p.1 < arity_of h p.0 → p ≢ root → StandsPort h' q → number q ≡ to (c p) → In q.0 copied

@@ -5,18 +5,19 @@ use Rattle.lmn_base.specs.declared.solid.Region.{Region}
 use Rattle.lmn_base.specs.declared.solid.Region.TheViews.{roll-Region}
 use Rattle.lmn_heap.specs.Heap.{Heap, atoms_in, rules_in}
 use Rattle.lmn_heap.specs.Sound.{Forest, bare, mem, Valid, IsTree}
-use Rattle.lmn_heap.specs.Solid.{atoms_of, regions_of}
+use Rattle.lmn_heap.specs.Solid.{solid_atoms_at, regions_of}
 use Rattle.lmn_solid.specs.declared.items.HeadItem.{HeadItem}
 use Rattle.lmn_solid.specs.Heads as heads
-use Rattle.lmn_splice.specs.Ports.{Port}
 use Rattle.lmn_splice.specs.Classes.{rising}
-use Rattle.lmn_splice.specs.Splice.{In, of_rule, of_solid}
+use Rattle.lmn_splice.specs.Splice.{IsOneOf, of_rule, of_solid}
 use Rattle.lmn_instr.specs.declared.instr.AtomPort.{AtomPort}
 use Rattle.lmn_body.specs.declared.items.BodyItem.{BodyItem}
 use Rattle.lmn_body.specs.declared.items.BodyItem.TheVariants.{Atom, Connector, Copy, Bound, Membrane, Rest, Rule, Rules}
 use Rattle.lmn_body.specs.Items.{old_ports, connectors}
-use Rattle.lmn_body.specs.Running.{Registers, old_port, integer_functor, withouts}
+use Rattle.lmn_body.specs.Running.{Registers, old_port, integer_functor}
 use Rattle.lmn_body.specs.Names.{Names}
+use Rattle.lmn_base.specs.Graphs.{Port}
+use Rattle.lmn_heap.specs.Lists.{without_all}
 
 -- an atom with each link at its image
 abbrev pub linked_by : (ℕ → ℕ) → SolidAtom → SolidAtom
@@ -44,7 +45,7 @@ abbrev pub fired_regions : Heap → (Port → ℕ) → Registers → List HeadIt
 fired_regions h c r head body m to bare = []
 fired_regions h c r head body m to (mem k inner rest) =
     roll-Region (record {
-      atoms = map (linked_by (λ x. to (of_solid x))) (atoms_of h (λ a i. c (a, i)) (withouts (images_of r head) (atoms_in h k)))
+      atoms = map (linked_by (λ x. to (of_solid x))) (solid_atoms_at h (λ a i. c (a, i)) (without_all (images_of r head) (atoms_in h k)))
           ++ (if k == m then made_atoms r (λ x. to (of_rule x)) body else []);
       membranes = fired_regions h c r head body m to inner;
       rules = rules_in h k;
@@ -56,12 +57,12 @@ fired_regions h c r head body m to (mem k inner rest) =
 --   to           the fusion of the raw links: the two links of each connector have one image, and a link of the rule that
 --                stands at one port of the head has the image of the link of the solid at this port
 --   solid        the solid is the raw region, each link at its image; the tree of membranes is the same
-pub record Fires (h : Heap) (c : Port → ℕ) (f : Forest) (r : Registers) (head : List HeadItem) (body : List BodyItem) (m : ℕ) (h' : Heap) : Type 0 where
+pub record FiresOnHeap (h : Heap) (c : Port → ℕ) (f : Forest) (r : Registers) (head : List HeadItem) (body : List BodyItem) (m : ℕ) (h' : Heap) : Type 0 where
   pub valid : Valid h'
   pub tree : IsTree h' f
   pub to : ℕ → ℕ
-  pub connectors_fused : (e : ℕ × ℕ) → In e (connectors body) → to (of_rule e.0) ≡ to (of_rule e.1)
-  pub heads_fused : (e : AtomPort × ℕ) → In e (old_ports head) → to (of_rule e.1) ≡ to (of_solid (c (old_port r e.0)))
+  pub connectors_fused : (e : ℕ × ℕ) → IsOneOf e (connectors body) → to (of_rule e.0) ≡ to (of_rule e.1)
+  pub heads_fused : (e : AtomPort × ℕ) → IsOneOf e (old_ports head) → to (of_rule e.1) ≡ to (of_solid (c (old_port r e.0)))
   pub number : Port → ℕ
   pub named : Names h' number
   pub solid : regions_of h' (λ a i. number (a, i)) f ≡ fired_regions h c r head body m to f

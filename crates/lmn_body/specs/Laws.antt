@@ -5,7 +5,6 @@ use Rattle.lmn_heap.specs.Heap.{Heap, discarded, IsMemInPlace, rules_in, spare_o
 use Rattle.lmn_heap.specs.Sound.{Valid}
 use Rattle.lmn_solid.specs.declared.items.HeadItem.{HeadItem}
 use Rattle.lmn_solid.specs.Embeddings.{Embeds, HasAtom, HasTyped, HasMembrane, HasLink}
-use Rattle.lmn_splice.specs.Ports.{Port}
 use Rattle.lmn_body.specs.declared.items.BodyItem.{BodyItem}
 use Rattle.lmn_body.specs.Code.{body_code}
 use Rattle.lmn_body.specs.Running.{Registers, Prepares, RunsBody}
@@ -18,28 +17,28 @@ use Rattle.lmn_base.specs.Levels.{leaves_of, contexts_of, rule_contexts_of, link
 use Rattle.lmn_base.specs.WellMade.{FitsArity}
 use Rattle.lmn_base.specs.Links.{EachTwice}
 use Rattle.lmn_guards.specs.declared.plan.TypeKind.{TypeKind}
-use Rattle.lmn_solid.specs.Flattening.{items_of}
+use Rattle.lmn_solid.specs.Flattening.{items_of_head}
 use Rattle.lmn_solid.specs.Heads.{HeadAtom, HeadTyped, HeadMembrane, membranes_of}
-use Rattle.lmn_solid.specs.Heads as heads
-use Rattle.lmn_splice.specs.Splice.{In, Distinct}
+use Rattle.lmn_splice.specs.Splice.{IsOneOf, NoneTwice}
 use Rattle.lmn_heap.specs.Conditions.{Alone}
 use Rattle.lmn_body.specs.Stopping.{NoCopying, SameButSpares}
 use Rattle.lmn_body.specs.Flattening.{BodyNames, body_items, context_membrane, rule_context_membrane}
 use Rattle.lmn_body.specs.Names.{Names}
 use Rattle.lmn_body.specs.Rules.{PlainRule, NestedRule, PartAtoms, HeadNests, IsHeadMembrane, WellPlaced}
-use Rattle.lmn_body.specs.Fired.{images_of, Fires}
+use Rattle.lmn_body.specs.Fired.{images_of, FiresOnHeap}
 use Rattle.lmn_body.specs.Made.{copies_of}
 use Rattle.lmn_body.specs.CopiedSolid.{Hangs, IsSolidCopy}
-use Rattle.lmn_heap.specs.Solid.{atoms_of}
+use Rattle.lmn_heap.specs.Solid.{solid_atoms_at}
 use Rattle.lmn_body.specs.Within.{FiresWithin, FiredAtoms, FiredSolid}
 use Rattle.lmn_body.specs.Items.{body_links, LinkedItems, AllMade, NoCopies}
+use Rattle.lmn_base.specs.Graphs.{Port}
 
 -- The code of a body of atoms, connectors and integers, run at an embedding of a head of atoms, fires the rule: the
 -- heap is valid again, and its solid is the raw region with its links fused.
 abbrev pub BodyFires : Type 0
 BodyFires = (head : List HeadItem) (body : List BodyItem) (n : ℕ) → PlainRule head body n → (r : Registers) (h : Heap) (valid : Valid h)
     (guard : List Cond) (m : ℕ) → Embeds h head guard m r.head.images → IsMemInPlace h m → (c : Port → ℕ) → Names h c →
-    (h' : Heap) → RunsBody r (body_code head body n) h h' → Fires h c valid.tree.0 r head body m h'
+    (h' : Heap) → RunsBody r (body_code head body n) h h' → FiresOnHeap h c valid.tree.0 r head body m h'
 
 -- The code of a body with membranes, contexts, rules and copies, run at an embedding of a head, fires the rule: the heap is valid
 -- again, and the links and the lists of each membrane are those of the firing. The head takes the images of its atoms
@@ -70,8 +69,8 @@ FiringLeavesAtoms = (h : Heap) → Valid h → (c : Port → ℕ) (r : Registers
 -- After a firing the atoms of a copy in the solid are those of its part.
 abbrev pub CopiesInSolid : Type 0
 CopiesInSolid = (h : Heap) → Valid h → (c : Port → ℕ) → Names h c → (r : Registers) (head : List HeadItem) (body : List BodyItem) (taken : List ℕ) (h' : Heap) → Valid h' →
-    (f : FiresWithin h c r head body taken h') → (e : ℕ × ℕ) → In e (copies_of 0 body) → Hangs h (r.head.images.part e.1) →
-    IsSolidCopy h c h' f.number (r.head.images.part e.1) (r.copy e.0) (r.copied e.0) (atoms_of h' (λ a i. f.number (a, i)) (r.copied e.0))
+    (f : FiresWithin h c r head body taken h') → (e : ℕ × ℕ) → IsOneOf e (copies_of 0 body) → Hangs h (r.head.images.part e.1) →
+    IsSolidCopy h c h' f.number (r.head.images.part e.1) (r.copy e.0) (r.copied e.0) (solid_atoms_at h' (λ a i. f.number (a, i)) (r.copied e.0))
 
 -- A prepare may be given up after any of its instructions: what was made waits alone, and without it the heap is as it
 -- was, but for spares.
@@ -82,8 +81,8 @@ PrepareStops = (r : Registers) (code : List Instr) → NoCopying code → (h : H
 -- The items of a flattened body are well placed, where the names of its contexts are those of contexts of the head, and
 -- each untyped one stands once.
 abbrev pub FlattenedArePlaced : Type 0
-FlattenedArePlaced = (s : BodyNames) (k : ℕ) (l : Level) → ((u : CtxUse) → In u (contexts_of l) → IsHeadMembrane k (s.context u.name)) →
-    ((u : CtxUse) → In u (rule_contexts_of l) → IsHeadMembrane k (s.rule_context u.name)) → Distinct (map (λ u. s.context u.name) (contexts_of l)) →
+FlattenedArePlaced = (s : BodyNames) (k : ℕ) (l : Level) → ((u : CtxUse) → IsOneOf u (contexts_of l) → IsHeadMembrane k (s.context u.name)) →
+    ((u : CtxUse) → IsOneOf u (rule_contexts_of l) → IsHeadMembrane k (s.rule_context u.name)) → NoneTwice (map (λ u. s.context u.name) (contexts_of l)) →
     WellPlaced k (1 + k) (body_items s k l)
 
 -- A flattened body has the links of its levels, in their order.
@@ -97,27 +96,27 @@ FlattenedAreMade = (s : BodyNames) (k : ℕ) (l : Level) → All FitsArity (leav
 -- The membranes of a flattened head are numbered after those round them, and its atoms have as many links as their arities.
 abbrev pub FlattenedHeads : Type 0
 FlattenedHeads = (kind : ℕ → TypeKind) (l : Level) → All FitsArity (leaves_of l) →
-    HeadNests (items_of kind l) × ((k : ℕ) (a : HeadAtom) → HasAtom (items_of kind l) k a → length a.links ≡ a.functor.arity)
+    HeadNests (items_of_head kind l) × ((k : ℕ) (a : HeadAtom) → HasAtom (items_of_head kind l) k a → length a.links ≡ a.functor.arity)
 
 -- Where each link stands twice in a rule, so it does in the flattened one.
 abbrev pub FlattenedAreLinked : Type 0
-FlattenedAreLinked = (kind : ℕ → TypeKind) (s : BodyNames) (k : ℕ) (head body : Level) → EachTwice (links_of head ++ links_of body) → LinkedItems (items_of kind head) (body_items s k body)
+FlattenedAreLinked = (kind : ℕ → TypeKind) (s : BodyNames) (k : ℕ) (head body : Level) → EachTwice (links_of head ++ links_of body) → LinkedItems (items_of_head kind head) (body_items s k body)
 
 -- A rule whose links stand twice and have numbers below n, whose atoms fit their arities, and whose contexts and typed
 -- contexts stand where they should, is a nested one when it is flattened.
 abbrev pub FlattenedRules : Type 0
 FlattenedRules = (kind : ℕ → TypeKind) (s : BodyNames) (head body : Level) (n : ℕ) → EachTwice (links_of head ++ links_of body) →
-    ((x : ℕ) → In x (links_of head ++ links_of body) → x < n) → All FitsArity (leaves_of head) → All FitsArity (leaves_of body) →
-    let items = items_of kind head in let k = length (membranes_of items) in
-    ((x g : ℕ) → s.part x ≡ Some g → (t : HeadTyped) × HasTyped items g t) → ((g : ℕ) (t : HeadTyped) → HasTyped items g t → (p : heads.Port) × HasLink items t.link p) →
-    ((u : CtxUse) → In u (contexts_of body) → IsHeadMembrane k (s.context u.name)) → ((u : CtxUse) → In u (rule_contexts_of body) → IsHeadMembrane k (s.rule_context u.name)) →
-    Distinct (map (λ u. s.context u.name) (contexts_of body)) →
-    ((i : ℕ) (b : HeadMembrane) → HasMembrane items i b → b.has_context ≡ true → In i (map (λ u. s.context u.name) (contexts_of body))) →
+    ((x : ℕ) → IsOneOf x (links_of head ++ links_of body) → x < n) → All FitsArity (leaves_of head) → All FitsArity (leaves_of body) →
+    let items = items_of_head kind head in let k = length (membranes_of items) in
+    ((x g : ℕ) → s.part x ≡ Some g → (t : HeadTyped) × HasTyped items g t) → ((g : ℕ) (t : HeadTyped) → HasTyped items g t → (p : Port) × HasLink items t.link p) →
+    ((u : CtxUse) → IsOneOf u (contexts_of body) → IsHeadMembrane k (s.context u.name)) → ((u : CtxUse) → IsOneOf u (rule_contexts_of body) → IsHeadMembrane k (s.rule_context u.name)) →
+    NoneTwice (map (λ u. s.context u.name) (contexts_of body)) →
+    ((i : ℕ) (b : HeadMembrane) → HasMembrane items i b → b.has_context ≡ true → IsOneOf i (map (λ u. s.context u.name) (contexts_of body))) →
     NestedRule items (body_items s k body) n
 
 -- The membrane of a context of a head is one of the head, or that of the rule.
 abbrev pub ContextsOfHeads : Type 0
-ContextsOfHeads = (kind : ℕ → TypeKind) (head : Level) (x : ℕ) → let k = length (membranes_of (items_of kind head)) in
+ContextsOfHeads = (kind : ℕ → TypeKind) (head : Level) (x : ℕ) → let k = length (membranes_of (items_of_head kind head)) in
     ((context_membrane head x ≡ 0) ⊎ IsHeadMembrane k (context_membrane head x)) × ((rule_context_membrane head x ≡ 0) ⊎ IsHeadMembrane k (rule_context_membrane head x))
 
 -- The links of every valid heap can be numbered.

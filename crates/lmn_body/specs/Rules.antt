@@ -1,6 +1,6 @@
 -- What is asked of a rule and of the places of its items.
 use Rattle.std.specs.Prelude.{ℕ, suc, true, ◌+◌, ◌≡◌, ◌≢◌, ◌<◌, ◌⊎◌, List, [], ◌∷◌, ◌++◌, length}
-use Rattle.lmn_base.specs.Graphs.{Reached}
+use Rattle.lmn_base.specs.Graphs.{Reached, Port}
 use Rattle.lmn_heap.specs.Heap as heap
 use Rattle.lmn_heap.specs.Graphs.{atom_map}
 use Rattle.lmn_heap.specs.Heap.{Heap, IsMem}
@@ -8,7 +8,7 @@ use Rattle.lmn_solid.specs.declared.items.HeadItem.{HeadItem}
 use Rattle.lmn_solid.specs.Heads.{HeadAtom, typed_contexts_of, membranes_of}
 use Rattle.lmn_solid.specs.Heads as heads
 use Rattle.lmn_solid.specs.Embeddings.{Images, HasAtom, HasTyped, HasMembrane, HasLink}
-use Rattle.lmn_splice.specs.Splice.{In}
+use Rattle.lmn_splice.specs.Splice.{IsOneOf}
 use Rattle.lmn_body.specs.declared.items.BodyItem.{BodyItem}
 use Rattle.lmn_body.specs.declared.items.BodyItem.TheVariants.{Atom, Connector, Copy, Bound, Membrane, Rest, Rule, Rules}
 use Rattle.lmn_body.specs.Items.{body_links, LinkedItems, AllMade, Simple}
@@ -24,13 +24,13 @@ use Rattle.lmn_body.specs.Made.{copies_of}
 --   linked                   each link of the rule stands twice
 --   below                    there are n links
 pub record AtomRule (head : List HeadItem) (body : List BodyItem) (n : ℕ) : Type 0 where
-  pub held : (g : ℕ) (t : heads.HeadTyped) → HasTyped head g t → (p : heads.Port) × HasLink head t.link p
+  pub held : (g : ℕ) (t : heads.HeadTyped) → HasTyped head g t → (p : Port) × HasLink head t.link p
   pub typed_once : (g k : ℕ) (t u : heads.HeadTyped) → HasTyped head g t → HasTyped head k u → g ≢ k → t.link ≢ u.link
-  pub copied : (e : ℕ × ℕ) → In e (copies_of 0 body) → (t : heads.HeadTyped) × HasTyped head e.1 t
+  pub copied : (e : ℕ × ℕ) → IsOneOf e (copies_of 0 body) → (t : heads.HeadTyped) × HasTyped head e.1 t
   pub head_made : (k : ℕ) (a : HeadAtom) → HasAtom head k a → length a.links ≡ a.functor.arity
   pub made : AllMade body
   pub linked : LinkedItems head body
-  pub below : (x : ℕ) → In x (heads.links_of head) ⊎ In x (body_links body) → x < n
+  pub below : (x : ℕ) → IsOneOf x (heads.links_of_head head) ⊎ IsOneOf x (body_links body) → x < n
 
 -- a rule without membranes, contexts of its head and inner rules
 pub record PlainRule (head : List HeadItem) (body : List BodyItem) (n : ℕ) : Type 0 where
@@ -119,7 +119,7 @@ WellPlaced k m (Connector left right ∷ xs) = WellPlaced k m xs
 WellPlaced k m (Copy part link inside ∷ xs) = StandsIn k m inside × WellPlaced k m xs
 WellPlaced k m (Bound integer link inside ∷ xs) = StandsIn k m inside × WellPlaced k m xs
 WellPlaced k m (Membrane inside ∷ xs) = StandsIn k m inside × WellPlaced k (m + 1) xs
-WellPlaced k m (Rest of inside ∷ xs) = IsHeadMembrane k of × (In of (rests xs) → ⊥) × StandsIn k m inside × WellPlaced k m xs
+WellPlaced k m (Rest of inside ∷ xs) = IsHeadMembrane k of × (IsOneOf of (rests xs) → ⊥) × StandsIn k m inside × WellPlaced k m xs
 WellPlaced k m (Rule rule inside ∷ xs) = StandsIn k m inside × WellPlaced k m xs
 WellPlaced k m (Rules of inside ∷ xs) = IsHeadMembrane k of × StandsIn k m inside × WellPlaced k m xs
 
@@ -131,7 +131,7 @@ pub record NestedRule (head : List HeadItem) (body : List BodyItem) (n : ℕ) : 
   pub atoms : AtomRule head body n
   pub placed : WellPlaced (length (membranes_of head)) (1 + length (membranes_of head)) body
   pub head_nests : HeadNests head
-  pub contexts : (k : ℕ) (b : heads.HeadMembrane) → HasMembrane head k b → b.has_context ≡ true → In k (rests body)
+  pub contexts : (k : ℕ) (b : heads.HeadMembrane) → HasMembrane head k b → b.has_context ≡ true → IsOneOf k (rests body)
 
 -- each item stands in the membrane of the rule or in one that is made before it
 abbrev pub AllStandIn : ℕ → ℕ → List BodyItem → Type 0

@@ -6,17 +6,16 @@
 use Rattle.std.specs.Prelude.{ℕ, ℤ, ◌≡◌, ◌↔◌, List, [], ◌∷◌, ◌++◌, map, None, Some}
 use Rattle.lmn_base.specs.declared.functor.Functor.{Functor}
 use Rattle.lmn_base.specs.declared.functor.Label.TheVariants.{Int}
-use Rattle.lmn_base.specs.Graphs.{Reached}
-use Rattle.lmn_heap.specs.Heap.{Heap, In, Distinct, without, from, made_atom, made_mem, reserved, taken, taken_mem, placed, placed_mem, moved_all, rule_added, rules_copied, finished}
+use Rattle.lmn_base.specs.Graphs.{Reached, Port}
+use Rattle.lmn_heap.specs.Heap.{Heap, In, Distinct, from, made_atom, made_mem, reserved, taken, taken_mem, placed, placed_mem, moved_all, rule_added, rules_copied, finished, taken_all}
 use Rattle.lmn_heap.specs.Graphs.{atom_map}
 use Rattle.lmn_parts.specs.Copies.{Copied}
-use Rattle.lmn_splice.specs.Ports.{Port}
 use Rattle.lmn_splice.specs.Ties.{newlink, relink, unify}
 use Rattle.lmn_instr.specs.declared.instr.AtomPort.{AtomPort}
 use Rattle.lmn_instr.specs.declared.instr.NewPort.{NewPort}
 use Rattle.lmn_instr.specs.declared.instr.NewPort.TheVariants as new
 use Rattle.lmn_instr.specs.declared.instr.Instr.{Instr}
-use Rattle.lmn_instr.specs.Running.{Registers as HeadRegisters, port_of}
+use Rattle.lmn_instr.specs.Running.{HeadRegisters, port_of}
 use Rattle.lmn_instr.specs.declared.instr.Instr.TheVariants.{RemoveAtom, RemovePart, RemoveMem, NewAtom, NewInt, NewMem, CopyGround, MoveCells, LoadRule, CopyRules, NewLink, Relink, Unify, Proceed}
 use Rattle.lmn_body.specs.Tied.{tied}
 
@@ -40,15 +39,6 @@ new_port r (new.Copy c) = r.copy c
 -- the functor of an integer atom
 abbrev pub integer_functor : ℤ → Functor
 integer_functor z = record { label = Int z; arity = 1 }
-
--- without these numbers, the first of each
-abbrev pub withouts : List ℕ → List ℕ → List ℕ
-withouts [] xs = xs
-withouts (a ∷ ns) xs = withouts ns (without a xs)
-
-abbrev pub all_taken : Heap → List ℕ → Heap
-all_taken s [] = s
-all_taken s (a ∷ ns) = all_taken (taken s a) ns
 
 -- atoms of the line go to membranes: each pair is a membrane and an atom
 abbrev pub all_placed : Heap → List (ℕ × ℕ) → Heap
@@ -82,7 +72,7 @@ Makes r _ s t = ⊥
 abbrev pub Does : Registers → Instr → Heap → Heap → Type 0
 Does r (RemoveAtom a) s t = t ≡ taken s (r.head.images.atom a)
 Does r (RemovePart g) s t =
-    (ns : List ℕ) × Distinct ns × ((b : ℕ) → In b ns ↔ Reached (atom_map s) (r.head.images.part g) b) × (t ≡ all_taken s ns)
+    (ns : List ℕ) × Distinct ns × ((b : ℕ) → In b ns ↔ Reached (atom_map s) (r.head.images.part g) b) × (t ≡ taken_all s ns)
 Does r (RemoveMem m) s t = t ≡ taken_mem s (r.head.images.membrane m)
 Does r (NewAtom a m f) s t = (from (Some (r.head.images.atom a)) s.new_atoms ≡ s.new_atoms) × (t ≡ placed s (r.head.images.membrane m) (r.head.images.atom a))
 Does r (NewInt a m v) s t = (from (Some (r.head.images.atom a)) s.new_atoms ≡ s.new_atoms) × (t ≡ placed s (r.head.images.membrane m) (r.head.images.atom a))
@@ -98,15 +88,16 @@ Does r (Unify g h) s t = t ≡ tied s (unify (old_port r g) (old_port r h))
 Does r Proceed s t = t ≡ finished s
 Does r _ s t = ⊥
 
--- the instructions of code, one after the other
+-- what the instructions of code make, one after the other
 abbrev pub Prepares : Registers → List Instr → Heap → Heap → Type 0
 Prepares r [] s t = t ≡ s
 Prepares r (i ∷ is) s u = (t : Heap) × Makes r i s t × Prepares r is t u
 
-abbrev pub Commits : Registers → List Instr → Heap → Heap → Type 0
-Commits r [] s t = t ≡ s
-Commits r (i ∷ is) s u = (t : Heap) × Does r i s t × Commits r is t u
+-- what the instructions of code do, one after the other
+abbrev pub DoesAll : Registers → List Instr → Heap → Heap → Type 0
+DoesAll r [] s t = t ≡ s
+DoesAll r (i ∷ is) s u = (t : Heap) × Does r i s t × DoesAll r is t u
 
 -- the code of a body run with these registers
 abbrev pub RunsBody : Registers → List Instr → Heap → Heap → Type 0
-RunsBody r code s u = (t : Heap) × Prepares r code s t × Commits r code t u
+RunsBody r code s u = (t : Heap) × Prepares r code s t × DoesAll r code t u

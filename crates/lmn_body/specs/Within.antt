@@ -5,7 +5,6 @@ use Rattle.lmn_heap.specs.Heap.{Heap, In, IsInPlace, functor_of, link_of, atoms_
 use Rattle.lmn_base.specs.declared.functor.Functor.{Functor}
 use Rattle.lmn_solid.specs.declared.items.HeadItem.{HeadItem}
 use Rattle.lmn_solid.specs.Heads as heads
-use Rattle.lmn_splice.specs.Ports.{Port}
 use Rattle.lmn_splice.specs.Classes.{rising}
 use Rattle.lmn_splice.specs.Splice as splice
 use Rattle.lmn_splice.specs.Splice.{of_rule, of_solid}
@@ -14,14 +13,16 @@ use Rattle.lmn_instr.specs.declared.instr.NewPort.{NewPort}
 use Rattle.lmn_body.specs.declared.items.BodyItem.{BodyItem}
 use Rattle.lmn_body.specs.declared.items.BodyItem.TheVariants.{Atom, Connector, Copy, Bound, Membrane, Rest, Rule, Rules}
 use Rattle.lmn_body.specs.Items.{new_ports, old_ports, connectors}
-use Rattle.lmn_body.specs.Running.{Registers, old_port, new_port, integer_functor, withouts}
+use Rattle.lmn_body.specs.Running.{Registers, old_port, new_port, integer_functor}
 use Rattle.lmn_body.specs.Names.{Names}
 use Rattle.lmn_body.specs.Made.{made_of, new_atoms, copies_of}
-use Rattle.lmn_parts.specs.Walks.{IsPart}
+use Rattle.lmn_parts.specs.Walks.{IsPartInDepth}
 use Rattle.lmn_parts.specs.Copies.{answer, moved}
 use Rattle.lmn_body.specs.Added.{added_atoms, added_mems, added_rules}
 use Rattle.lmn_body.specs.Fired.{linked_by}
-use Rattle.lmn_heap.specs.Solid.{atoms_of}
+use Rattle.lmn_heap.specs.Solid.{solid_atoms_at}
+use Rattle.lmn_base.specs.Graphs.{Port}
+use Rattle.lmn_heap.specs.Lists.{without_all}
 
 -- the images of the membranes of a head
 abbrev pub membrane_images : Registers → List HeadItem → List ℕ
@@ -31,7 +32,7 @@ membrane_images r head = map r.head.images.membrane (rising 1 (length (heads.mem
 -- its functor, and the root port and the links inside are those of the part.
 pub record IsCopyIn (h h' : Heap) (root copy : Port) (copied : List ℕ) : Type 0 where
   pub atoms : List ℕ
-  pub part : IsPart h root atoms
+  pub part : IsPartInDepth h root atoms
   pub long : length copied ≡ length atoms
   pub entered : copy ≡ moved (answer atoms copied) root
   pub functors : (a : ℕ) → In a atoms → functor_of h' (answer atoms copied a) ≡ functor_of h a
@@ -50,20 +51,20 @@ pub record IsCopyIn (h h' : Heap) (root copy : Port) (copied : List ℕ) : Type 
 --                                       what the body adds, in its order
 pub record FiresWithin (h : Heap) (c : Port → ℕ) (r : Registers) (head : List HeadItem) (body : List BodyItem) (taken : List ℕ) (h' : Heap) : Type 0 where
   pub to : ℕ → ℕ
-  pub connectors_fused : (e : ℕ × ℕ) → splice.In e (connectors body) → to (of_rule e.0) ≡ to (of_rule e.1)
-  pub heads_fused : (e : AtomPort × ℕ) → splice.In e (old_ports head) → to (of_rule e.1) ≡ to (of_solid (c (old_port r e.0)))
+  pub connectors_fused : (e : ℕ × ℕ) → splice.IsOneOf e (connectors body) → to (of_rule e.0) ≡ to (of_rule e.1)
+  pub heads_fused : (e : AtomPort × ℕ) → splice.IsOneOf e (old_ports head) → to (of_rule e.1) ≡ to (of_solid (c (old_port r e.0)))
   pub number : Port → ℕ
   pub named : Names h' number
   pub kept_links : (p : Port) → IsInPlace h p.0 → number p ≡ to (of_solid (c p))
-  pub made_links : (e : NewPort × ℕ) → splice.In e (new_ports (length (heads.atoms_of head)) 0 body) → number (new_port r e.0) ≡ to (of_rule e.1)
+  pub made_links : (e : NewPort × ℕ) → splice.IsOneOf e (new_ports (length (heads.atoms_of head)) 0 body) → number (new_port r e.0) ≡ to (of_rule e.1)
   pub kept_functors : (a : ℕ) → IsInPlace h a → (In a (taken) → ⊥) → functor_of h' a ≡ functor_of h a
-  pub made_functors : (e : ℕ × Functor) → splice.In e (made_of r (length (heads.atoms_of head)) body) → functor_of h' e.0 ≡ Some e.1
+  pub made_functors : (e : ℕ × Functor) → splice.IsOneOf e (made_of r (length (heads.atoms_of head)) body) → functor_of h' e.0 ≡ Some e.1
   pub new_placed : (y : ℕ) → In y (new_atoms r (length (heads.atoms_of head)) 0 body) → IsInPlace h' y
-  pub copies : (e : ℕ × ℕ) → splice.In e (copies_of 0 body) → IsCopyIn h h' (r.head.images.part e.1) (r.copy e.0) (r.copied e.0)
+  pub copies : (e : ℕ × ℕ) → splice.IsOneOf e (copies_of 0 body) → IsCopyIn h h' (r.head.images.part e.1) (r.copy e.0) (r.copied e.0)
   pub atoms : (x : ℕ) → (In x (membrane_images r head) → ⊥) → atoms_in h' x ≡
-      withouts taken (atoms_in h x) ++ added_atoms r (λ k. withouts taken (atoms_in h k)) (length (heads.atoms_of head)) 0 body x
+      without_all taken (atoms_in h x) ++ added_atoms r (λ k. without_all taken (atoms_in h k)) (length (heads.atoms_of head)) 0 body x
   pub mems : (x : ℕ) → (In x (membrane_images r head) → ⊥) → mems_in h' x ≡
-      withouts (membrane_images r head) (mems_in h x) ++ added_mems r (λ k. withouts (membrane_images r head) (mems_in h k)) (1 + length (heads.membranes_of head)) body x
+      without_all (membrane_images r head) (mems_in h x) ++ added_mems r (λ k. without_all (membrane_images r head) (mems_in h k)) (1 + length (heads.membranes_of head)) body x
   pub rules : (x : ℕ) → (In x (membrane_images r head) → ⊥) → rules_in h' x ≡ rules_in h x ++ added_rules r (rules_in h) body x
 
 -- The atoms of a solid that a body adds to membrane x: those that it makes, with their links of the rule, those of its copies, of
@@ -95,18 +96,18 @@ added_solid r left g (Rules of inside ∷ xs) x = added_solid r left g xs x
 
 -- the atoms that are left of a membrane, each link at its image
 abbrev pub left_solid : Heap → (Port → ℕ) → List ℕ → (ℕ → ℕ) → ℕ → List SolidAtom
-left_solid h c taken g k = map (linked_by g) (atoms_of h (λ a i. c (a, i)) (withouts taken (atoms_in h k)))
+left_solid h c taken g k = map (linked_by g) (solid_atoms_at h (λ a i. c (a, i)) (without_all taken (atoms_in h k)))
 
 -- The atoms of each membrane of the solid after a firing: what is left, then what is added, raw links at their images.
 abbrev pub FiredSolid : (h : Heap) (c : Port → ℕ) (r : Registers) (head : List HeadItem) (body : List BodyItem) (taken : List ℕ) (h' : Heap) → FiresWithin h c r head body taken h' → Type 0
 FiredSolid h c r head body taken h' f =
     let left = left_solid h c taken (λ z. f.to (of_solid z)) in
     (x : ℕ) → (In x (membrane_images r head) → ⊥) →
-    atoms_of h' (λ a i. f.number (a, i)) (atoms_in h' x) ≡ left x ++ added_with_copies r left (λ k. atoms_of h' (λ a i. f.number (a, i)) (r.copied k)) (λ z. f.to (of_rule z)) 0 body x
+    solid_atoms_at h' (λ a i. f.number (a, i)) (atoms_in h' x) ≡ left x ++ added_with_copies r left (λ k. solid_atoms_at h' (λ a i. f.number (a, i)) (r.copied k)) (λ z. f.to (of_rule z)) 0 body x
 
 -- The same after a firing of a body without copies.
 abbrev pub FiredAtoms : (h : Heap) (c : Port → ℕ) (r : Registers) (head : List HeadItem) (body : List BodyItem) (taken : List ℕ) (h' : Heap) → FiresWithin h c r head body taken h' → Type 0
 FiredAtoms h c r head body taken h' f =
     let left = left_solid h c taken (λ z. f.to (of_solid z)) in
     (x : ℕ) → (In x (membrane_images r head) → ⊥) →
-    atoms_of h' (λ a i. f.number (a, i)) (atoms_in h' x) ≡ left x ++ added_solid r left (λ z. f.to (of_rule z)) body x
+    solid_atoms_at h' (λ a i. f.number (a, i)) (atoms_in h' x) ≡ left x ++ added_solid r left (λ z. f.to (of_rule z)) body x

@@ -10,129 +10,120 @@ use Rattle.lmn_instr.specs.Listings.{line}
 use Rattle.lmn_body.specs.declared.items.BodyItem.{BodyItem}
 use Rattle.lmn_body.specs.declared.items.BodyItem.TheVariants as body
 use Rattle.lmn_body.specs.Code.{body_code}
+use Rattle.lmn_base.specs.SmallTexts.{name_a, name_b}
+use Rattle.lmn_instr.specs.Worked.{name_append, name_dot}
 
--- the names of the examples by their numbers, behind the four fixed ones
-abbrev pub a : ℕ
-a = 4
+-- the names behind `a` and `b`, by their numbers
+abbrev pub name_c : ℕ
+name_c = 6
 
-abbrev pub b : ℕ
-b = 5
+abbrev pub body_p : ℕ
+body_p = 7
 
-abbrev pub c : ℕ
-c = 6
-
-abbrev pub p : ℕ
-p = 7
-
-abbrev pub append : ℕ
-append = 8
-
-abbrev pub dot : ℕ
-dot = 9
-
-abbrev pub names : List (List ℕ)
-names =
+-- the names of the examples, each at its number
+abbrev pub worked_body_names : List (List ℕ)
+worked_body_names =
     codes "=" ∷ codes "int" ∷ codes "unary" ∷ codes "ground" ∷ codes "a" ∷ codes "b" ∷ codes "c" ∷ codes "p" ∷ codes "append" ∷ codes "." ∷ []
 
 -- the functor with this name and this arity
-abbrev pub named : ℕ → ℕ → Functor
-named n k = record { label = Name n; arity = k }
+abbrev pub functor_named : ℕ → ℕ → Functor
+functor_named n k = record { label = Name n; arity = k }
 
 -- the lines of the code of a body beside a head, in a rule with this number of links
-abbrev pub lines : List HeadItem → List BodyItem → ℕ → List ℕ
-lines items made n = flat_map (line names) (body_code items made n)
+abbrev pub body_lines : List HeadItem → List BodyItem → ℕ → List ℕ
+body_lines items made n = flat_map (line worked_body_names) (body_code items made n)
 
 -- The code of each of these bodies has these lines.
 pub record WorkedBodies : Type 0 where
   -- `a, a :- b.`
   pub two_make_one :
-      lines (head.Atom (named a 0) ([]) 0 ∷ head.Atom (named a 0) ([]) 0 ∷ []) (body.Atom (named b 0) ([]) 0 ∷ []) 0 ≡
+      body_lines (head.Atom (functor_named name_a 0) ([]) 0 ∷ head.Atom (functor_named name_a 0) ([]) 0 ∷ []) (body.Atom (functor_named name_b 0) ([]) 0 ∷ []) 0 ≡
       codes "  REMOVEATOM A0\n  REMOVEATOM A1\n  NEWATOM A2 M0 b/0\n  PROCEED\n"
   -- `{a(X), b(Y)} :- c(X, Y).`
   pub membrane_opens :
-      lines (head.Membrane 0 false false ∷ head.Atom (named a 1) (0 ∷ []) 1 ∷ head.Atom (named b 1) (1 ∷ []) 1 ∷ []) (body.Atom (named c 2) (0 ∷ 1 ∷ []) 0 ∷ []) 2 ≡
+      body_lines (head.Membrane 0 false false ∷ head.Atom (functor_named name_a 1) (0 ∷ []) 1 ∷ head.Atom (functor_named name_b 1) (1 ∷ []) 1 ∷ []) (body.Atom (functor_named name_c 2) (0 ∷ 1 ∷ []) 0 ∷ []) 2 ≡
       codes "  REMOVEATOM A0\n  REMOVEATOM A1\n  REMOVEMEM M1\n  NEWATOM A2 M0 c/2\n  RELINK A2.0 A0.0\n  RELINK A2.1 A1.0\n  PROCEED\n"
   -- `p($x), p($y) :- $z = $x + $y | p($z).`
   pub sum_is_made :
-      lines (head.Atom (named p 1) (0 ∷ []) 0 ∷ head.Typed 20 kind.Int 0 0 ∷ head.Atom (named p 1) (1 ∷ []) 0 ∷ head.Typed 21 kind.Int 1 0 ∷ []) (body.Atom (named p 1) (2 ∷ []) 0 ∷ body.Bound 2 2 0 ∷ []) 3 ≡
+      body_lines (head.Atom (functor_named body_p 1) (0 ∷ []) 0 ∷ head.Typed 20 kind.Int 0 0 ∷ head.Atom (functor_named body_p 1) (1 ∷ []) 0 ∷ head.Typed 21 kind.Int 1 0 ∷ []) (body.Atom (functor_named body_p 1) (2 ∷ []) 0 ∷ body.Bound 2 2 0 ∷ []) 3 ≡
       codes "  REMOVEATOM A0\n  REMOVEATOM A1\n  REMOVEPART G0\n  REMOVEPART G1\n  NEWATOM A2 M0 p/1\n  NEWINT A3 M0 V2\n  NEWLINK A2.0 A3.0\n  PROCEED\n"
   -- `append(X, Y, Z), '.'(A, W, X) :- '.'(A, V, Z), append(W, Y, V).`
   pub lists_append :
-      lines (head.Atom (named append 3) (0 ∷ 1 ∷ 2 ∷ []) 0 ∷ head.Atom (named dot 3) (3 ∷ 4 ∷ 0 ∷ []) 0 ∷ []) (body.Atom (named dot 3) (3 ∷ 5 ∷ 2 ∷ []) 0 ∷ body.Atom (named append 3) (4 ∷ 1 ∷ 5 ∷ []) 0 ∷ []) 6 ≡
+      body_lines (head.Atom (functor_named name_append 3) (0 ∷ 1 ∷ 2 ∷ []) 0 ∷ head.Atom (functor_named name_dot 3) (3 ∷ 4 ∷ 0 ∷ []) 0 ∷ []) (body.Atom (functor_named name_dot 3) (3 ∷ 5 ∷ 2 ∷ []) 0 ∷ body.Atom (functor_named name_append 3) (4 ∷ 1 ∷ 5 ∷ []) 0 ∷ []) 6 ≡
       codes "  REMOVEATOM A0\n  REMOVEATOM A1\n  NEWATOM A2 M0 '.'/3\n  NEWATOM A3 M0 append/3\n  RELINK A3.1 A0.1\n  RELINK A2.2 A0.2\n  RELINK A2.0 A1.0\n  RELINK A3.0 A1.1\n  NEWLINK A2.1 A3.2\n  PROCEED\n"
   -- `a :- .`
   pub nothing :
-      lines (head.Atom (named a 0) ([]) 0 ∷ []) ([]) 0 ≡
+      body_lines (head.Atom (functor_named name_a 0) ([]) 0 ∷ []) ([]) 0 ≡
       codes "  REMOVEATOM A0\n  PROCEED\n"
   -- `a(X, Y) :- X = Y.`
   pub joined :
-      lines (head.Atom (named a 2) (0 ∷ 1 ∷ []) 0 ∷ []) (body.Connector 0 1 ∷ []) 2 ≡
+      body_lines (head.Atom (functor_named name_a 2) (0 ∷ 1 ∷ []) 0 ∷ []) (body.Connector 0 1 ∷ []) 2 ≡
       codes "  REMOVEATOM A0\n  UNIFY A0.0 A0.1\n  PROCEED\n"
   -- `a(X, Y) :- Y = X.`: the lower link first
   pub joined_backwards :
-      lines (head.Atom (named a 2) (0 ∷ 1 ∷ []) 0 ∷ []) (body.Connector 1 0 ∷ []) 2 ≡
+      body_lines (head.Atom (functor_named name_a 2) (0 ∷ 1 ∷ []) 0 ∷ []) (body.Connector 1 0 ∷ []) 2 ≡
       codes "  REMOVEATOM A0\n  UNIFY A0.0 A0.1\n  PROCEED\n"
   -- `a(X, X) :- .`: a link that occurs twice in the head has no instruction
   pub loop :
-      lines (head.Atom (named a 2) (0 ∷ 0 ∷ []) 0 ∷ []) ([]) 1 ≡
+      body_lines (head.Atom (functor_named name_a 2) (0 ∷ 0 ∷ []) 0 ∷ []) ([]) 1 ≡
       codes "  REMOVEATOM A0\n  PROCEED\n"
   -- `a :- X = Y, Y = X.`: a class without ends has none
   pub circle :
-      lines (head.Atom (named a 0) ([]) 0 ∷ []) (body.Connector 0 1 ∷ body.Connector 1 0 ∷ []) 2 ≡
+      body_lines (head.Atom (functor_named name_a 0) ([]) 0 ∷ []) (body.Connector 0 1 ∷ body.Connector 1 0 ∷ []) 2 ≡
       codes "  REMOVEATOM A0\n  PROCEED\n"
   -- `a(X, Y), b(Z) :- X = W, W = Y, b(Z).`
   pub chain :
-      lines (head.Atom (named a 2) (0 ∷ 1 ∷ []) 0 ∷ head.Atom (named b 1) (2 ∷ []) 0 ∷ []) (body.Connector 0 3 ∷ body.Connector 3 1 ∷ body.Atom (named b 1) (2 ∷ []) 0 ∷ []) 4 ≡
+      body_lines (head.Atom (functor_named name_a 2) (0 ∷ 1 ∷ []) 0 ∷ head.Atom (functor_named name_b 1) (2 ∷ []) 0 ∷ []) (body.Connector 0 3 ∷ body.Connector 3 1 ∷ body.Atom (functor_named name_b 1) (2 ∷ []) 0 ∷ []) 4 ≡
       codes "  REMOVEATOM A0\n  REMOVEATOM A1\n  NEWATOM A2 M0 b/1\n  UNIFY A0.0 A0.1\n  RELINK A2.0 A1.0\n  PROCEED\n"
   -- `a(X) :- X = Y, Y = Z, b(Z).`
   pub chain_to_new :
-      lines (head.Atom (named a 1) (0 ∷ []) 0 ∷ []) (body.Connector 0 1 ∷ body.Connector 1 2 ∷ body.Atom (named b 1) (2 ∷ []) 0 ∷ []) 3 ≡
+      body_lines (head.Atom (functor_named name_a 1) (0 ∷ []) 0 ∷ []) (body.Connector 0 1 ∷ body.Connector 1 2 ∷ body.Atom (functor_named name_b 1) (2 ∷ []) 0 ∷ []) 3 ≡
       codes "  REMOVEATOM A0\n  NEWATOM A1 M0 b/1\n  RELINK A1.0 A0.0\n  PROCEED\n"
   -- `a :- b(X), X = Y, Y = Z, c(Z).`: the earlier occurrence first
   pub chain_of_new :
-      lines (head.Atom (named a 0) ([]) 0 ∷ []) (body.Atom (named b 1) (0 ∷ []) 0 ∷ body.Connector 0 1 ∷ body.Connector 1 2 ∷ body.Atom (named c 1) (2 ∷ []) 0 ∷ []) 3 ≡
+      body_lines (head.Atom (functor_named name_a 0) ([]) 0 ∷ []) (body.Atom (functor_named name_b 1) (0 ∷ []) 0 ∷ body.Connector 0 1 ∷ body.Connector 1 2 ∷ body.Atom (functor_named name_c 1) (2 ∷ []) 0 ∷ []) 3 ≡
       codes "  REMOVEATOM A0\n  NEWATOM A1 M0 b/1\n  NEWATOM A2 M0 c/1\n  NEWLINK A1.0 A2.0\n  PROCEED\n"
   -- `a(X, Y) :- b(Z, Z), c(Y, X).`: classes by their least links
   pub rising_classes :
-      lines (head.Atom (named a 2) (0 ∷ 1 ∷ []) 0 ∷ []) (body.Atom (named b 2) (2 ∷ 2 ∷ []) 0 ∷ body.Atom (named c 2) (1 ∷ 0 ∷ []) 0 ∷ []) 3 ≡
+      body_lines (head.Atom (functor_named name_a 2) (0 ∷ 1 ∷ []) 0 ∷ []) (body.Atom (functor_named name_b 2) (2 ∷ 2 ∷ []) 0 ∷ body.Atom (functor_named name_c 2) (1 ∷ 0 ∷ []) 0 ∷ []) 3 ≡
       codes "  REMOVEATOM A0\n  NEWATOM A1 M0 b/2\n  NEWATOM A2 M0 c/2\n  RELINK A2.1 A0.0\n  RELINK A2.0 A0.1\n  NEWLINK A1.0 A1.1\n  PROCEED\n"
   -- `a(X, Y, Z) :- Z = W, b(W, Y), X = V, c(V).`
   pub least_link_decides :
-      lines (head.Atom (named a 3) (0 ∷ 1 ∷ 2 ∷ []) 0 ∷ []) (body.Connector 2 3 ∷ body.Atom (named b 2) (3 ∷ 1 ∷ []) 0 ∷ body.Connector 0 4 ∷ body.Atom (named c 1) (4 ∷ []) 0 ∷ []) 5 ≡
+      body_lines (head.Atom (functor_named name_a 3) (0 ∷ 1 ∷ 2 ∷ []) 0 ∷ []) (body.Connector 2 3 ∷ body.Atom (functor_named name_b 2) (3 ∷ 1 ∷ []) 0 ∷ body.Connector 0 4 ∷ body.Atom (functor_named name_c 1) (4 ∷ []) 0 ∷ []) 5 ≡
       codes "  REMOVEATOM A0\n  NEWATOM A1 M0 b/2\n  NEWATOM A2 M0 c/1\n  RELINK A2.0 A0.0\n  RELINK A1.1 A0.1\n  RELINK A1.0 A0.2\n  PROCEED\n"
   -- `{a(X), $p} :- {b(X), $p}.`: made, moved, relinked
   pub across_membranes :
-      lines (head.Membrane 0 true false ∷ head.Atom (named a 1) (0 ∷ []) 1 ∷ []) (body.Membrane 0 ∷ body.Atom (named b 1) (0 ∷ []) 2 ∷ body.Rest 1 2 ∷ []) 1 ≡
+      body_lines (head.Membrane 0 true false ∷ head.Atom (functor_named name_a 1) (0 ∷ []) 1 ∷ []) (body.Membrane 0 ∷ body.Atom (functor_named name_b 1) (0 ∷ []) 2 ∷ body.Rest 1 2 ∷ []) 1 ≡
       codes "  REMOVEATOM A0\n  REMOVEMEM M1\n  NEWMEM M2 M0\n  NEWATOM A1 M2 b/1\n  MOVECELLS M1 M2\n  RELINK A1.0 A0.0\n  PROCEED\n"
   -- `{$p}, {$q} :- {$q, $p}.`: in the order of the body
   pub two_contexts :
-      lines (head.Membrane 0 true false ∷ head.Membrane 0 true false ∷ []) (body.Membrane 0 ∷ body.Rest 2 3 ∷ body.Rest 1 3 ∷ []) 0 ≡
+      body_lines (head.Membrane 0 true false ∷ head.Membrane 0 true false ∷ []) (body.Membrane 0 ∷ body.Rest 2 3 ∷ body.Rest 1 3 ∷ []) 0 ≡
       codes "  REMOVEMEM M1\n  REMOVEMEM M2\n  NEWMEM M3 M0\n  MOVECELLS M2 M3\n  MOVECELLS M1 M3\n  PROCEED\n"
   -- `a :- {b, {c}}, {}, a.`: leaves before membranes, each followed by its level
   pub nested_membranes :
-      lines (head.Atom (named a 0) ([]) 0 ∷ []) (body.Atom (named a 0) ([]) 0 ∷ body.Membrane 0 ∷ body.Atom (named b 0) ([]) 1 ∷ body.Membrane 1 ∷ body.Atom (named c 0) ([]) 2 ∷ body.Membrane 0 ∷ []) 0 ≡
+      body_lines (head.Atom (functor_named name_a 0) ([]) 0 ∷ []) (body.Atom (functor_named name_a 0) ([]) 0 ∷ body.Membrane 0 ∷ body.Atom (functor_named name_b 0) ([]) 1 ∷ body.Membrane 1 ∷ body.Atom (functor_named name_c 0) ([]) 2 ∷ body.Membrane 0 ∷ []) 0 ≡
       codes "  REMOVEATOM A0\n  NEWATOM A1 M0 a/0\n  NEWMEM M1 M0\n  NEWATOM A2 M1 b/0\n  NEWMEM M2 M1\n  NEWATOM A3 M2 c/0\n  NEWMEM M3 M0\n  PROCEED\n"
   -- `{$p, @r} :- {$p, (a :- b), @r}, @r.`: LOADRULE before COPYRULES
   pub rules_in_order :
-      lines (head.Membrane 0 true true ∷ []) (body.Membrane 0 ∷ body.Rest 1 2 ∷ body.Rule 1 2 ∷ body.Rules 1 2 ∷ body.Rules 1 0 ∷ []) 0 ≡
+      body_lines (head.Membrane 0 true true ∷ []) (body.Membrane 0 ∷ body.Rest 1 2 ∷ body.Rule 1 2 ∷ body.Rules 1 2 ∷ body.Rules 1 0 ∷ []) 0 ≡
       codes "  REMOVEMEM M1\n  NEWMEM M2 M0\n  MOVECELLS M1 M2\n  LOADRULE M2 1\n  COPYRULES M1 M2\n  COPYRULES M1 M0\n  PROCEED\n"
   -- `a($x) :- ground($x) | b($x), c($x).`: copies where they are written
   pub copied_twice :
-      lines (head.Atom (named a 1) (0 ∷ []) 0 ∷ head.Typed 20 kind.Ground 0 0 ∷ []) (body.Atom (named b 1) (1 ∷ []) 0 ∷ body.Copy 0 1 0 ∷ body.Atom (named c 1) (2 ∷ []) 0 ∷ body.Copy 0 2 0 ∷ []) 3 ≡
+      body_lines (head.Atom (functor_named name_a 1) (0 ∷ []) 0 ∷ head.Typed 20 kind.Ground 0 0 ∷ []) (body.Atom (functor_named name_b 1) (1 ∷ []) 0 ∷ body.Copy 0 1 0 ∷ body.Atom (functor_named name_c 1) (2 ∷ []) 0 ∷ body.Copy 0 2 0 ∷ []) 3 ≡
       codes "  REMOVEATOM A0\n  REMOVEPART G0\n  NEWATOM A1 M0 b/1\n  COPYGROUND C0 M0 G0\n  NEWATOM A2 M0 c/1\n  COPYGROUND C1 M0 G0\n  NEWLINK A1.0 C0\n  NEWLINK A2.0 C1\n  PROCEED\n"
   -- `a($x, Y) :- unary($x) | Y = $x.`: a copy at a link of the head
   pub copy_to_head :
-      lines (head.Atom (named a 2) (0 ∷ 1 ∷ []) 0 ∷ head.Typed 20 kind.Unary 0 0 ∷ []) (body.Connector 1 2 ∷ body.Copy 0 2 0 ∷ []) 3 ≡
+      body_lines (head.Atom (functor_named name_a 2) (0 ∷ 1 ∷ []) 0 ∷ head.Typed 20 kind.Unary 0 0 ∷ []) (body.Connector 1 2 ∷ body.Copy 0 2 0 ∷ []) 3 ≡
       codes "  REMOVEATOM A0\n  REMOVEPART G0\n  COPYGROUND C0 M0 G0\n  RELINK C0 A0.1\n  PROCEED\n"
   -- `p($x), {$p} :- ground($x) | {p($x), $p}.`
   pub copy_in_membrane :
-      lines (head.Atom (named p 1) (0 ∷ []) 0 ∷ head.Typed 20 kind.Ground 0 0 ∷ head.Membrane 0 true false ∷ []) (body.Membrane 0 ∷ body.Atom (named p 1) (1 ∷ []) 2 ∷ body.Copy 0 1 2 ∷ body.Rest 1 2 ∷ []) 2 ≡
+      body_lines (head.Atom (functor_named body_p 1) (0 ∷ []) 0 ∷ head.Typed 20 kind.Ground 0 0 ∷ head.Membrane 0 true false ∷ []) (body.Membrane 0 ∷ body.Atom (functor_named body_p 1) (1 ∷ []) 2 ∷ body.Copy 0 1 2 ∷ body.Rest 1 2 ∷ []) 2 ≡
       codes "  REMOVEATOM A0\n  REMOVEPART G0\n  REMOVEMEM M1\n  NEWMEM M2 M0\n  NEWATOM A1 M2 p/1\n  COPYGROUND C0 M2 G0\n  MOVECELLS M1 M2\n  NEWLINK A1.0 C0\n  PROCEED\n"
   -- `p(X) :- 3(X).`: an integer is an atom
   pub integer_made :
-      lines (head.Atom (named p 1) (0 ∷ []) 0 ∷ []) (body.Atom (record { label = Int (pos 3); arity = 1 }) (0 ∷ []) 0 ∷ []) 1 ≡
+      body_lines (head.Atom (functor_named body_p 1) (0 ∷ []) 0 ∷ []) (body.Atom (record { label = Int (pos 3); arity = 1 }) (0 ∷ []) 0 ∷ []) 1 ≡
       codes "  REMOVEATOM A0\n  NEWATOM A1 M0 3/1\n  RELINK A1.0 A0.0\n  PROCEED\n"
   -- `a(X), b(Y), c(Z, W) :- W = X, Y = Z.`: each UNIFY begins with the lower link
   pub two_heads_joined :
-      lines (head.Atom (named a 1) (0 ∷ []) 0 ∷ head.Atom (named b 1) (1 ∷ []) 0 ∷ head.Atom (named c 2) (2 ∷ 3 ∷ []) 0 ∷ []) (body.Connector 3 0 ∷ body.Connector 1 2 ∷ []) 4 ≡
+      body_lines (head.Atom (functor_named name_a 1) (0 ∷ []) 0 ∷ head.Atom (functor_named name_b 1) (1 ∷ []) 0 ∷ head.Atom (functor_named name_c 2) (2 ∷ 3 ∷ []) 0 ∷ []) (body.Connector 3 0 ∷ body.Connector 1 2 ∷ []) 4 ≡
       codes "  REMOVEATOM A0\n  REMOVEATOM A1\n  REMOVEATOM A2\n  UNIFY A0.0 A2.1\n  UNIFY A1.0 A2.0\n  PROCEED\n"

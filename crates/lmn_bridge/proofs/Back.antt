@@ -7,13 +7,13 @@ use Rattle.lmn_base.specs.declared.level.Leaf.{Leaf}
 use Rattle.lmn_base.specs.declared.level.Leaf.TheVariants as leaf
 use Rattle.lmn_guards.specs.declared.plan.TypeKind.{TypeKind}
 use Rattle.lmn_heap.specs.Heap.{Heap, atoms_in, mems_in, rules_in, link_of}
-use Rattle.lmn_heap.specs.Lists.{Each, In, Distinct}
+use Rattle.lmn_heap.specs.Lists.{Each, In, Distinct, without_all}
 use Rattle.lmn_heap.specs.Sound.{Forest, bare, mem, Valid}
 use Rattle.lmn_heap.proofs.ListLemmas.{in_left, in_right}
 use Rattle.lmn_solid.specs.declared.items.HeadItem.{HeadItem}
 use Rattle.lmn_solid.specs.Flattening.{leaf_items}
-use Rattle.lmn_solid.specs.Heads.{HeadAtom, HeadTyped, HeadMembrane, Port, membranes_of, inside_of, outermost}
-use Rattle.lmn_solid.specs.Embeddings.{Images, IsWithin}
+use Rattle.lmn_solid.specs.Heads.{HeadAtom, HeadTyped, HeadMembrane, membranes_of, inside_of, outermost}
+use Rattle.lmn_solid.specs.Embeddings.{Images, StandsWithin}
 use Rattle.lmn_congruence.specs.Links.{one_if_same, places}
 use Rattle.lmn_congruence.specs.LinkedRules.{leaf_occurrences, leaves_occurrences, level_occurrences, levels_occurrences}
 use Rattle.lmn_congruence.specs.Regions.{SolidAtom, no_region}
@@ -21,13 +21,12 @@ use Rattle.lmn_congruence.specs.Rules as tree
 use Rattle.lmn_reduction.specs.Assignments.{Assignment}
 use Rattle.lmn_reduction.specs.Parts.{Rooted}
 use Rattle.lmn_congruence.specs.Translation.{label_of, leaf_of}
-use Rattle.lmn_adequacy.specs.Accepted.{NoConnectorLeaf, EachLevel, EachOf, leaves_of, own_contexts, own_rule_contexts, own_rules}
+use Rattle.lmn_adequacy.specs.Accepted.{NoConnectorLeaf, EachLevel, EachOf, own_leaves, own_contexts, own_rule_contexts, own_rules}
 use Rattle.lmn_adequacy.specs.Embedding.{KeepsLinks, Plain, IsPart}
 use Rattle.lmn_heap.specs.Solid.{IsNaming}
-use Rattle.lmn_bridge.specs.HeapRegions.{Reading, region_at, regions_at}
+use Rattle.lmn_bridge.specs.HeapRegions.{HeapReading, region_at, regions_at}
 use Rattle.lmn_bridge.proofs.Pieces.{atom_at}
-use Rattle.lmn_bridge.specs.Numbers.{without_all}
-use Rattle.lmn_bridge.proofs.Counting.{weigh, weigh_same, times_at, tree_atoms, ends_among, in_region}
+use Rattle.lmn_bridge.proofs.Counting.{weigh_same, times_at, tree_atoms, ends_among, in_region}
 use Rattle.lmn_solid.proofs.HeadTrees.{Head, Heads, head, no_head, head_and, size, flat_items, flat_membranes, has_context, has_rule_context}
 use Rattle.lmn_bridge.proofs.HeadTrees.{tree_of, trees_of}
 use Rattle.lmn_bridge.proofs.Lying.{FitLeaves, fit_none, fit_atom, fit_typed, Lies, lies, LiesIn, lies_none, lies_and, Kept}
@@ -40,6 +39,8 @@ use Rattle.lmn_bridge.proofs.Ports.{port_named, get_map, Outer, outer_top, outer
 use Rattle.lmn_bridge.proofs.Laying.{only_atom, AtomLies, MembraneLies, TypedLies, Below, all_atoms, all_parts, all_membranes, total}
 use Rattle.lmn_bridge.proofs.Contexts.{NoRules}
 use Rattle.lmn_bridge.proofs.Empty.{nothing_left, no_rule_left}
+use Rattle.lmn_base.specs.Graphs.{Port}
+use Rattle.lmn_base.proofs.Lists.{weigh}
 
 -- ---- lists of images
 
@@ -61,7 +62,7 @@ left_in : (b : ℕ) (bs xs : List ℕ) → Distinct bs → Each (λ b. In b xs) 
 left_in b bs xs d e i = find_in b xs (omega (arith, weigh_left (one_if_same b) bs xs d e, weigh_same b bs, weigh_same b xs, weigh_same b (without_all bs xs), some_of b (without_all bs xs) i))
 
 -- where nothing is left, each atom is an image or a part, and each membrane is an image
-pub all_taken : {h : Heap} {r : Reading} {link_of' : ℕ → ℕ} {typed_of : tree.Name → Rooted} {Q : tree.Level → ℕ → List ℕ → Forest → Forest → Type 0} {l : tree.Level} {bs ms ns xs rest : List ℕ} {ps : List (List ℕ)} {f f' : Forest}
+pub all_taken : {h : Heap} {r : HeapReading} {link_of' : ℕ → ℕ} {typed_of : tree.Name → Rooted} {Q : tree.Level → ℕ → List ℕ → Forest → Forest → Type 0} {l : tree.Level} {bs ms ns xs rest : List ℕ} {ps : List (List ℕ)} {f f' : Forest}
     → Lies h r link_of' typed_of Q l bs ps ms ns xs rest f f' → rest ≡ [] → (b : ℕ) → In b xs → In b bs ⊎ In b (flattened ps)
 all_taken (lies {bs = bs} {as' = as'} {xs = xs} {rest = rest} {parts = parts} {ps = ps} fit d e out k) n b p =
     let u = weigh_out (one_if_same b) bs xs d e out in
@@ -71,7 +72,7 @@ all_taken (lies {bs = bs} {as' = as'} {xs = xs} {rest = rest} {parts = parts} {p
       | inr z ↦ inl (in_left b bs as' (find_in b bs (omega (arith, z))))
     ]
 
-tops_taken : {h : Heap} {r : Reading} {link_of' : ℕ → ℕ} {typed_of : tree.Name → Rooted} {Q : tree.Level → ℕ → List ℕ → Forest → Forest → Type 0} {ls : tree.Levels} {bs ms ns : List ℕ} {ps : List (List ℕ)} {f f' : Forest}
+pub tops_taken : {h : Heap} {r : HeapReading} {link_of' : ℕ → ℕ} {typed_of : tree.Name → Rooted} {Q : tree.Level → ℕ → List ℕ → Forest → Forest → Type 0} {ls : tree.Levels} {bs ms ns : List ℕ} {ps : List (List ℕ)} {f f' : Forest}
     → LiesIn h r link_of' typed_of Q ls bs ps ms ns f f' → (b : ℕ) → In b (tops f) → In b ms ⊎ In b (tops f')
 tops_taken lies_none b p = inr p
 tops_taken (lies_and {m = m} {ms = ms} {ks = ks} k d q more) b p = elim (cases_eq m b) [
@@ -80,7 +81,7 @@ tops_taken (lies_and {m = m} {ms = ms} {ks = ks} k d q more) b p = elim (cases_e
 ]
 
 -- where no membrane is left, each is an image
-pub all_tops_taken : {h : Heap} {r : Reading} {link_of' : ℕ → ℕ} {typed_of : tree.Name → Rooted} {Q : tree.Level → ℕ → List ℕ → Forest → Forest → Type 0} {l : tree.Level} {bs ms ns xs rest : List ℕ} {ps : List (List ℕ)} {f f' : Forest}
+pub all_tops_taken : {h : Heap} {r : HeapReading} {link_of' : ℕ → ℕ} {typed_of : tree.Name → Rooted} {Q : tree.Level → ℕ → List ℕ → Forest → Forest → Type 0} {l : tree.Level} {bs ms ns xs rest : List ℕ} {ps : List (List ℕ)} {f f' : Forest}
     → Lies h r link_of' typed_of Q l bs ps ms ns xs rest f f' → f' ≡ bare → (b : ℕ) → In b (tops f) → In b ms
 all_tops_taken (lies fit d e out k) n b p = elim (tops_taken k b p) [ inl w ↦ w | inr w ↦ absurd (subst (λ z. In b (tops z)) n w) ]
 
@@ -100,14 +101,14 @@ none_by_map : {A B : Type 0} (g : A → B) (xs : List A) → map g xs ≡ [] →
 none_by_map g [] e = refl
 none_by_map g (x ∷ xs) e = absurd (cc)
 
-bare_by : (h : Heap) (r : Reading) (f : Forest) → regions_at h r f ≡ no_region → f ≡ bare
+bare_by : (h : Heap) (r : HeapReading) (f : Forest) → regions_at h r f ≡ no_region → f ≡ bare
 bare_by h r bare e = refl
 bare_by h r (mem m i f) e = absurd (cc)
 
 abbrev EachRules : tree.Level → Type 0
 EachRules = EachLevel NoRules
 
-module _ (h : Heap) (v : Valid h) (r : Reading) (naming : IsNaming h r.name) (f : Images) (part_at : ℕ → List ℕ) (t : Assignment) (plain : Plain t) (items : List HeadItem) (kind : ℕ → TypeKind) where
+module _ (h : Heap) (v : Valid h) (r : HeapReading) (naming : IsNaming h r.name) (f : Images) (part_at : ℕ → List ℕ) (t : Assignment) (plain : Plain t) (items : List HeadItem) (kind : ℕ → TypeKind) where
   abbrev Items : ℕ → ℕ → ℕ → List HeadItem → Type 0
   Items = Walk (AtomLies h r f part_at t.link_of t.typed_of items) (TypedLies h r f part_at t.link_of t.typed_of items) (MembraneLies h r f part_at t.link_of t.typed_of items)
 
@@ -147,7 +148,7 @@ module _ (h : Heap) (v : Valid h) (r : Reading) (naming : IsNaming h r.name) (f 
   less cur occ occ' l (inr p) = inr (p.0, p.1, λ x. let u = p.2 x in let w = l x in omega (arith, u, w))
 
   away : (cur n i x : ℕ) (p : Port) (top : ℕ) (w : Watched cur top) (a : tree.Label) (ys : List ℕ) → atom_at h r (f.atom n) ≡ record { label = a; links = map t.link_of ys } → In (f.atom n) (atoms_in h (f.membrane cur)) →
-      slice_get ys i ≡ Some x → total h r f part_at t.link_of t.typed_of items x ≡ 1 → level_occurrences x w.level ≢ 0 → link_of h (f.atom n) i ≡ Some p → IsWithin h p.0 (f.membrane (outermost (membranes_of items) cur)) → ⊥
+      slice_get ys i ≡ Some x → total h r f part_at t.link_of t.typed_of items x ≡ 1 → level_occurrences x w.level ≢ 0 → link_of h (f.atom n) i ≡ Some p → StandsWithin h p.0 (f.membrane (outermost (membranes_of items) cur)) → ⊥
   away cur n i x p top w a ys is j s one some l y =
       let b = f.atom n in
       let M = f.membrane top in
@@ -156,7 +157,7 @@ module _ (h : Heap) (v : Valid h) (r : Reading) (naming : IsNaming h r.name) (f 
       let high = w.below.counted in
       let o : outermost (membranes_of items) cur ≡ top = outermost_is (membranes_of items) w.below.chain (omega (arith, low, high)) in
       let here : In b X = within_tree h v M w.inner w.grown.0 w.grown.1 b (f.membrane cur, w.below.height, home_in h v (f.membrane cur) b j, w.below.above) in
-      let there : In p.0 X = within_tree h v M w.inner w.grown.0 w.grown.1 p.0 (subst (λ z. IsWithin h p.0 (f.membrane z)) o y) in
+      let there : In p.0 X = within_tree h v M w.inner w.grown.0 w.grown.1 p.0 (subst (λ z. StandsWithin h p.0 (f.membrane z)) o y) in
       let q = port_named h v r b i (t.link_of x) (subst (λ z. slice_get z.links i ≡ Some (t.link_of x)) (sym is) (get_map t.link_of ys i x s)) in
       let e = ends_among h r v naming b i p.0 p.1 q.1 l X (each_tree h v M w.inner) in
       let e' : weigh (times_at h r (t.link_of x)) X ≡ places b X + places p.0 X = subst (λ z. weigh (times_at h r z) X ≡ places b X + places p.0 X) q.0 e in
@@ -283,7 +284,7 @@ module _ (h : Heap) (v : Valid h) (r : Reading) (naming : IsNaming h r.name) (f 
 
   mutual
     -- what lies in the lists of a membrane holds item by item
-    pub walk_level : (cur next n t' : ℕ) (hd : Head) (M : ℕ) {as' ms ns rest : List ℕ} {ps : List (List ℕ)} {F F' : Forest} → f.membrane cur ≡ M → cur < next → EachLevel (λ l. NoConnectorLeaf (leaves_of l)) (Tree hd) → EachRules (Tree hd) →
+    pub walk_level : (cur next n t' : ℕ) (hd : Head) (M : ℕ) {as' ms ns rest : List ℕ} {ps : List (List ℕ)} {F F' : Forest} → f.membrane cur ≡ M → cur < next → EachLevel (λ l. NoConnectorLeaf (own_leaves l)) (Tree hd) → EachRules (Tree hd) →
         Known n t' next (flat_items kind cur next hd) → Lies h r t.link_of t.typed_of (Kept h r t) (Tree hd) as' ps ms ns (atoms_in h M) rest F F' → Reads f.atom n as' → Reads part_at t' ps → Reads f.membrane next ms → tops F ≡ mems_in h M → Grown h F →
         Place cur (λ x. level_occurrences x (Tree hd)) → ((x : ℕ) → level_occurrences x (Tree hd) ≤ total h r f part_at t.link_of t.typed_of items x) →
         ((b : ℕ) → In b as' → In b (all_atoms h r f part_at t.link_of t.typed_of items)) → ((b : ℕ) → In b (flattened ps) → In b (all_parts h r f part_at t.link_of t.typed_of items)) → ((b : ℕ) → In b ms → In b (all_membranes h r f part_at t.link_of t.typed_of items)) → Stood n t' next (flat_items kind cur next hd) as' ps ms
@@ -311,7 +312,7 @@ module _ (h : Heap) (v : Valid h) (r : Reading) (naming : IsNaming h r.name) (f 
           membranes = let s2 = b.membranes in omega (arith, membranes_both first behind, z, s2);
         }
 
-    walk_membranes : (cur next n t' : ℕ) (hs : Heads) (M : ℕ) {as' ms ns : List ℕ} {ps : List (List ℕ)} {F F' : Forest} → f.membrane cur ≡ M → cur < next → EachOf (λ l. NoConnectorLeaf (leaves_of l)) (Trees hs) → EachOf NoRules (Trees hs) →
+    walk_membranes : (cur next n t' : ℕ) (hs : Heads) (M : ℕ) {as' ms ns : List ℕ} {ps : List (List ℕ)} {F F' : Forest} → f.membrane cur ≡ M → cur < next → EachOf (λ l. NoConnectorLeaf (own_leaves l)) (Trees hs) → EachOf NoRules (Trees hs) →
         Known n t' next (flat_membranes kind cur next hs) → LiesIn h r t.link_of t.typed_of (Kept h r t) (Trees hs) as' ps ms ns F F' → Reads f.atom n as' → Reads part_at t' ps → Reads f.membrane next ms → ((b : ℕ) → In b (tops F) → In b (mems_in h M)) → Grown h F →
         Place cur (λ x. levels_occurrences x (Trees hs)) → ((x : ℕ) → levels_occurrences x (Trees hs) ≤ total h r f part_at t.link_of t.typed_of items x) →
         ((b : ℕ) → In b as' → In b (all_atoms h r f part_at t.link_of t.typed_of items)) → ((b : ℕ) → In b (flattened ps) → In b (all_parts h r f part_at t.link_of t.typed_of items)) → ((b : ℕ) → In b ms → In b (all_membranes h r f part_at t.link_of t.typed_of items)) → Stood n t' next (flat_membranes kind cur next hs) as' ps ms

@@ -4,17 +4,18 @@ use Rattle.std.proofs.lemmas.Bool.{eq-eqb, eqb-true}
 use Rattle.std.proofs.lemmas.List.{append_assoc, map-append}
 use Rattle.lmn_heap.specs.Heap.{Heap, rules_in}
 use Rattle.lmn_heap.specs.Sound.{Forest}
-use Rattle.lmn_congruence.specs.Orders.{Among, at_head, further}
+use Rattle.lmn_congruence.specs.Orders.{Among, at_head, further, EachOnce}
 use Rattle.lmn_congruence.specs.Process.{Process}
 use Rattle.lmn_congruence.specs.Regions.{SolidAtom, Regions, region, region_process}
 use Rattle.lmn_congruence.specs.Rules.{Level, Levels, Name, Rule, no_rule, level}
 use Rattle.lmn_reduction.specs.Assignments.{Assignment}
 use Rattle.lmn_reduction.specs.Parts.{Rooted}
-use Rattle.lmn_adequacy.specs.Accepted.{AtMostOne, EachLevel, EachOf, EachOnce, all_contexts, contexts_in, all_rule_contexts, rule_contexts_in, own_contexts, own_rule_contexts, own_rules, membranes_of}
-use Rattle.lmn_bridge.specs.HeapRegions.{Reading, regions_at}
+use Rattle.lmn_adequacy.specs.Accepted.{AtMostOne, EachLevel, EachOf, all_contexts, contexts_in, all_rule_contexts, rule_contexts_in, own_contexts, own_rule_contexts, own_rules, own_membranes}
+use Rattle.lmn_bridge.specs.HeapRegions.{HeapReading, regions_at}
 use Rattle.lmn_bridge.proofs.Pieces.{atom_at}
 use Rattle.lmn_bridge.proofs.Lying.{Lies, lies, LiesIn, lies_none, lies_and}
 use Rattle.lmn_bridge.proofs.Keeping.{Agrees, ContextIs, RulesAre}
+use Rattle.lmn_congruence.proofs.Common.{among_left, among_right}
 
 -- ---- looking up a name
 
@@ -67,14 +68,6 @@ entry_names : {A : Type 0} (ps : List Name) (a : A) → map (λ e. e.0) (entries
 entry_names [] a = refl
 entry_names (p ∷ ps) a = ap (λ qs. p ∷ qs) (entry_names ps a)
 
-among_left : {A : Type 0} {x : A} {xs : List A} (ys : List A) → Among x xs → Among x (xs ++ ys)
-among_left ys at_head = at_head
-among_left ys (further k) = further (among_left ys k)
-
-among_right : {A : Type 0} {x : A} (xs : List A) {ys : List A} → Among x ys → Among x (xs ++ ys)
-among_right [] k = k
-among_right (y ∷ xs) k = further (among_right xs k)
-
 -- ---- what the contexts stand for
 
 -- what is left of a membrane: atoms and membranes
@@ -93,13 +86,13 @@ Few l = AtMostOne (own_contexts l) × AtMostOne (own_rule_contexts l)
 abbrev pub NoRules : Level → Type 0
 NoRules l = own_rules l ≡ no_rule
 
-module _ (h : Heap) (r : Reading) (link_of' : ℕ → ℕ) (typed_of : Name → Rooted) (Q : Level → ℕ → List ℕ → Forest → Forest → Type 0) where
+module _ (h : Heap) (r : HeapReading) (link_of' : ℕ → ℕ) (typed_of : Name → Rooted) (Q : Level → ℕ → List ℕ → Forest → Forest → Type 0) where
   -- what the contexts in a level stand for, by their names
   pub record LevelContents (l : Level) (bs : List ℕ) (ps : List (List ℕ)) (ms ns xs rest : List ℕ) (f f' : Forest) : Type 0 where
     pub held : List (Name × (List SolidAtom × Regions))
     pub rules_held : List (Name × List Rule)
-    pub names : map (λ e. e.0) held ≡ contexts_in (membranes_of l)
-    pub rule_names : map (λ e. e.0) rules_held ≡ rule_contexts_in (membranes_of l)
+    pub names : map (λ e. e.0) held ≡ contexts_in (own_membranes l)
+    pub rule_names : map (λ e. e.0) rules_held ≡ rule_contexts_in (own_membranes l)
     pub agree : (t : Assignment) → ((p : Name) (a : List SolidAtom × Regions) → Among (p, a) held → t.context_of p ≡ region_process (region a.0 a.1 []))
         → ((p : Name) (rs : List Rule) → Among (p, rs) rules_held → t.rules_of p ≡ rs)
         → Lies h r link_of' typed_of (λ l m xs i i'. Q l m xs i i' × Agrees h r t l m xs i i') l bs ps ms ns xs rest f f'
@@ -130,13 +123,13 @@ module _ (h : Heap) (r : Reading) (link_of' : ℕ → ℕ) (typed_of : Name → 
       map-append (λ e. e.0) (entries own a) (xs ++ ys) ∙ (λ j. entry_names own a j ++ map-append (λ e. e.0) xs ys j)
       ∙ (λ j. own ++ (e j ++ f j)) ∙ sym (append_assoc own us vs)
 
-  all_are : (l : Level) → all_contexts l ≡ own_contexts l ++ contexts_in (membranes_of l)
+  all_are : (l : Level) → all_contexts l ≡ own_contexts l ++ contexts_in (own_membranes l)
   all_are (level leaves membranes contexts rule_contexts rules) = refl
 
-  all_rules_are : (l : Level) → all_rule_contexts l ≡ own_rule_contexts l ++ rule_contexts_in (membranes_of l)
+  all_rules_are : (l : Level) → all_rule_contexts l ≡ own_rule_contexts l ++ rule_contexts_in (own_membranes l)
   all_rules_are (level leaves membranes contexts rule_contexts rules) = refl
 
-  few_inside : (l : Level) → EachLevel Few l → EachOf Few (membranes_of l)
+  few_inside : (l : Level) → EachLevel Few l → EachOf Few (own_membranes l)
   few_inside (level leaves membranes contexts rule_contexts rules) e = e.1
 
   few_here : (l : Level) → EachLevel Few l → Few l
@@ -145,12 +138,12 @@ module _ (h : Heap) (r : Reading) (link_of' : ℕ → ℕ) (typed_of : Name → 
   none_here : (l : Level) → EachLevel NoRules l → NoRules l
   none_here (level leaves membranes contexts rule_contexts rules) e = e.0
 
-  none_inside : (l : Level) → EachLevel NoRules l → EachOf NoRules (membranes_of l)
+  none_inside : (l : Level) → EachLevel NoRules l → EachOf NoRules (own_membranes l)
   none_inside (level leaves membranes contexts rule_contexts rules) e = e.1
 
   mutual
     -- the contexts in a level stand for what is left of their membranes
-    pub level_contents : {l : Level} {bs ms ns xs rest : List ℕ} {ps : List (List ℕ)} {f f' : Forest} → EachOf Few (membranes_of l) → EachOf NoRules (membranes_of l) → Lies h r link_of' typed_of Q l bs ps ms ns xs rest f f' → LevelContents l bs ps ms ns xs rest f f'
+    pub level_contents : {l : Level} {bs ms ns xs rest : List ℕ} {ps : List (List ℕ)} {f f' : Forest} → EachOf Few (own_membranes l) → EachOf NoRules (own_membranes l) → Lies h r link_of' typed_of Q l bs ps ms ns xs rest f f' → LevelContents l bs ps ms ns xs rest f f'
     level_contents few none' (lies fit d e out k) =
         let u = membrane_contents few none' k in
         record { held = u.held; rules_held = u.rules_held; names = u.names; rule_names = u.rule_names; agree = λ t c s. lies fit d e out (u.agree t c s) }
@@ -167,8 +160,8 @@ module _ (h : Heap) (r : Reading) (link_of' : ℕ → ℕ) (typed_of : Name → 
         record {
           held = es ++ (u.held ++ w.held);
           rules_held = ss ++ (u.rules_held ++ w.rules_held);
-          names = names_three l a u.held w.held (own_contexts l) (contexts_in (membranes_of l)) (contexts_in ls) u.names w.names ∙ ap (λ z. z ++ contexts_in ls) (sym (all_are l));
-          rule_names = names_three l rs u.rules_held w.rules_held (own_rule_contexts l) (rule_contexts_in (membranes_of l)) (rule_contexts_in ls) u.rule_names w.rule_names ∙ ap (λ z. z ++ rule_contexts_in ls) (sym (all_rules_are l));
+          names = names_three l a u.held w.held (own_contexts l) (contexts_in (own_membranes l)) (contexts_in ls) u.names w.names ∙ ap (λ z. z ++ contexts_in ls) (sym (all_are l));
+          rule_names = names_three l rs u.rules_held w.rules_held (own_rule_contexts l) (rule_contexts_in (own_membranes l)) (rule_contexts_in ls) u.rule_names w.rule_names ∙ ap (λ z. z ++ rule_contexts_in ls) (sym (all_rules_are l));
           agree = λ t c s. lies_and k
               (u.agree t (λ p b z. c p b (among_right es (among_left w.held z))) (λ p b z. s p b (among_right ss (among_left w.rules_held z)))) (
                 q,

@@ -1,27 +1,23 @@
 -- How often a link stands in the region of a membrane, by the atoms at its two ends.
-use Rattle.std.proofs.Common.{ℕ, zero, suc, ◌≡◌, ◌≢◌, ◌+◌, ◌<◌, ◌≤◌, ◌⊎◌, ◌==◌, cond, List, [], ◌∷◌, ◌++◌, map, Option, Some, None, IsSome, refl, sym, ap, ◌∙◌, inl, inr, arith}
+use Rattle.std.proofs.Common.{ℕ, zero, suc, ◌≡◌, ◌+◌, ◌<◌, ◌≤◌, ◌⊎◌, ◌==◌, cond, List, [], ◌∷◌, ◌++◌, map, Option, Some, None, IsSome, refl, sym, ◌∙◌, inl, inr, arith}
 use Rattle.std.proofs.lemmas.Bool.{cases_eq, eq-eqb}
-use Rattle.std.specs.Prelude.{slice_index_or, length}
 use Rattle.std.specs.Option.{option_map}
-use Rattle.lmn_heap.specs.Heap.{Heap, HeapAtom, IsAtom, In, arity_of, functor_of, links_of, link_of, atoms_in, rules_in, within}
+use Rattle.lmn_heap.specs.Heap.{Heap, HeapAtom, IsAtom, In, arity_of, functor_of, link_of, atoms_in, rules_in, within}
 use Rattle.lmn_heap.specs.Lists.{Each}
 use Rattle.lmn_heap.specs.Sound.{Forest, bare, mem, Valid}
-use Rattle.lmn_heap.specs.Solid.{IsNaming, numbered}
-use Rattle.lmn_heap.proofs.ListLemmas.{apart_test, each_of}
+use Rattle.lmn_heap.specs.Solid.{IsNaming, links_from}
+use Rattle.lmn_heap.proofs.ListLemmas.{each_of}
 use Rattle.lmn_congruence.specs.Links.{one_if_same, places}
 use Rattle.lmn_congruence.specs.Process.{occurrences, together, rule}
 use Rattle.lmn_congruence.specs.Regions.{atom_process, region_process, regions_processes}
-use Rattle.lmn_congruence.specs.Rules.{Rule}
-use Rattle.lmn_bridge.specs.HeapRegions.{Reading, atoms_at, regions_at, region_at}
+use Rattle.lmn_bridge.specs.HeapRegions.{HeapReading, atoms_at, regions_at, region_at}
 use Rattle.lmn_bridge.proofs.Pieces.{atom_at, atom_by, atoms_each}
-
--- a number is itself once
-pub same_one : (x y : ℕ) → x ≡ y → one_if_same x y ≡ 1
-same_one x y e = rw (eq-eqb x y e) refl
-
--- a number isn't another one
-pub apart_none : (x y : ℕ) → x ≢ y → one_if_same x y ≡ 0
-apart_none x y d = rw (apart_test x y d) refl
+use Rattle.lmn_base.proofs.Lists.{weigh, weigh_append}
+use Rattle.lmn_base.proofs.Numbers.{not_equal as apart_test}
+use Rattle.lmn_congruence.proofs.Counts.{none_if_apart as apart_none, one_if_equal as same_one}
+use Rattle.lmn_congruence.proofs.TranslatedLinks.{no_link_in_rules}
+use Rattle.lmn_heap.proofs.Replacing.{port_within}
+use Rattle.lmn_heap.proofs.Common.{same_port}
 
 -- 1 at one port, and else 0
 abbrev at_port : ℕ → ℕ → ℕ → ℕ → ℕ
@@ -73,7 +69,7 @@ over_in a i c k (suc n) l h = elim (cases_eq i k) [
 ]
 
 places_over : (name : ℕ → ℕ → ℕ) (v a i b j c k n : ℕ) → ((t : ℕ) → k ≤ t → t < k + n → one_if_same v (name c t) ≡ at_port a i c t + at_port b j c t)
-    → places v (numbered name c k n) ≡ over a i c k n + over b j c k n
+    → places v (links_from name c k n) ≡ over a i c k n + over b j c k n
 places_over name v a i b j c k zero h = omega arith
 places_over name v a i b j c k (suc n) h =
     let r = places_over name v a i b j c (k + 1) n (λ t l u. h t (omega (arith, l)) (omega (arith, u))) in
@@ -88,33 +84,14 @@ forest_atoms h (mem m inner rest) = (atoms_in h m ++ forest_atoms h inner) ++ fo
 abbrev pub tree_atoms : Heap → ℕ → Forest → List ℕ
 tree_atoms h m inner = atoms_in h m ++ forest_atoms h inner
 
--- places in two lists in a row
-pub places_both : (x : ℕ) (xs ys : List ℕ) → places x (xs ++ ys) ≡ places x xs + places x ys
-places_both x [] ys = omega arith
-places_both x (z ∷ xs) ys = omega (arith, places_both x xs ys)
-
--- what some numbers weigh together
-abbrev pub weigh : (ℕ → ℕ) → List ℕ → ℕ
-weigh w [] = 0
-weigh w (x ∷ xs) = w x + weigh w xs
-
--- the weight of two lists in a row
-pub weigh_both : (w : ℕ → ℕ) (xs ys : List ℕ) → weigh w (xs ++ ys) ≡ weigh w xs + weigh w ys
-weigh_both w [] ys = omega arith
-weigh_both w (x ∷ xs) ys = omega (arith, weigh_both w xs ys)
-
 -- weighed by one number, a list weighs its places
 pub weigh_same : (x : ℕ) (xs : List ℕ) → weigh (one_if_same x) xs ≡ places x xs
 weigh_same x [] = refl
 weigh_same x (y ∷ xs) = omega (arith, weigh_same x xs)
 
 -- how often a link stands at an atom
-abbrev pub times_at : Heap → Reading → ℕ → ℕ → ℕ
+abbrev pub times_at : Heap → HeapReading → ℕ → ℕ → ℕ
 times_at h r x a = places x (atom_at h r a).links
-
-no_link_in_rules : (x : ℕ) (rs : List Rule) → occurrences x (together (map rule rs)) ≡ 0
-no_link_in_rules x [] = refl
-no_link_in_rules x (r ∷ rs) = omega (arith, no_link_in_rules x rs)
 
 is_atom : (h : Heap) (v : Valid h) (m a : ℕ) → In a (atoms_in h m) → IsAtom h a
 is_atom h v m a p = by (h.atoms a) ((v.sound.listed.atoms m a).0 p)
@@ -127,29 +104,8 @@ is_atom h v m a p = by (h.atoms a) ((v.sound.listed.atoms m a).0 p)
 pub list_atoms : (h : Heap) (v : Valid h) (m : ℕ) → Each (IsAtom h) (atoms_in h m)
 list_atoms h v m = each_of (IsAtom h) (atoms_in h m) (is_atom h v m)
 
--- a port that has a partner is one of the atom's
-pub within_arity : (h : Heap) (a i : ℕ) {p : ℕ × ℕ} → link_of h a i ≡ Some p → i < arity_of h a
-within_arity h a i e = by (links_of (h.atoms a)) i e
-  where
-    by : (os : List (Option (ℕ × ℕ))) (i : ℕ) {p : ℕ × ℕ} → slice_index_or os i None ≡ Some p → i < length os
-    by [] i e = absurd (cc)
-    by (o ∷ os) zero e = omega arith
-    by (o ∷ os) (suc i) e = let r = by os i e in omega (arith, r)
-
-abbrev atom_or : Option (ℕ × ℕ) → ℕ
-atom_or None = 0
-atom_or (Some p) = p.0
-
-abbrev index_or : Option (ℕ × ℕ) → ℕ
-index_or None = 0
-index_or (Some p) = p.1
-
--- two ports that a link leads to are one
-pub same_port : {c t b j : ℕ} → ◌≡◌ {A = Option (ℕ × ℕ)} (Some (c, t)) (Some (b, j)) → (c ≡ b) × (t ≡ j)
-same_port e = (ap atom_or e, ap index_or e)
-
 -- a link with its two ports
-module _ (h : Heap) (r : Reading) (v : Valid h) (naming : IsNaming h r.name) (a i b j : ℕ) (port : i < arity_of h a) (link : link_of h a i ≡ Some (b, j)) where
+module _ (h : Heap) (r : HeapReading) (v : Valid h) (naming : IsNaming h r.name) (a i b j : ℕ) (port : i < arity_of h a) (link : link_of h a i ≡ Some (b, j)) where
   differ : a ≡ b → i ≡ j → ⊥
   differ e f = v.sound.paired.apart a i (rw (e, f) (rw (e, f) at link))
 
@@ -173,7 +129,7 @@ module _ (h : Heap) (r : Reading) (v : Valid h) (naming : IsNaming h r.name) (a 
           let n : arity_of h c ≡ y.functor.arity = v.sound.shaped.ports c y.functor f in
           let u = places_over r.name (r.name a i) a i b j c 0 y.functor.arity (λ t l k. at_each c t (omega (arith, n, k))) in
           let w = over_in a i c 0 y.functor.arity (omega arith) (λ e. let p : i < arity_of h c = rw e port in omega (arith, p, n)) in
-          let z = over_in b j c 0 y.functor.arity (omega arith) (λ e. let p : j < arity_of h c = rw e (within_arity h b j (v.sound.paired.back a i b j link)) in omega (arith, p, n)) in
+          let z = over_in b j c 0 y.functor.arity (omega arith) (λ e. let p : j < arity_of h c = rw e (port_within h b j _ (v.sound.paired.back a i b j link)) in omega (arith, p, n)) in
           omega (arith, u, w, z)
 
   -- a link stands in atoms once for each of its two ends among them
@@ -183,7 +139,7 @@ module _ (h : Heap) (r : Reading) (v : Valid h) (naming : IsNaming h r.name) (a 
 
 -- ---- in a region
 
-module _ (h : Heap) (r : Reading) (v : Valid h) (x : ℕ) where
+module _ (h : Heap) (r : HeapReading) (v : Valid h) (x : ℕ) where
   in_atoms : (xs : List ℕ) → occurrences x (together (map atom_process (map (atom_at h r) xs))) ≡ weigh (times_at h r x) xs
   in_atoms [] = refl
   in_atoms (c ∷ xs) = omega (arith, in_atoms xs)
@@ -200,8 +156,8 @@ module _ (h : Heap) (r : Reading) (v : Valid h) (x : ℕ) where
     in_regions inner,
     in_regions rest,
     no_link_in_rules x (map r.rule (rules_in h m)),
-    weigh_both (times_at h r x) (atoms_in h m ++ forest_atoms h inner) (forest_atoms h rest),
-    weigh_both (times_at h r x) (atoms_in h m) (forest_atoms h inner),
+    weigh_append (times_at h r x) (atoms_in h m ++ forest_atoms h inner) (forest_atoms h rest),
+    weigh_append (times_at h r x) (atoms_in h m) (forest_atoms h inner),
   )
 
   -- a link occurs in a membrane as often as in the atoms of its tree
@@ -211,5 +167,5 @@ module _ (h : Heap) (r : Reading) (v : Valid h) (x : ℕ) where
     in_list m,
     in_regions inner,
     no_link_in_rules x (map r.rule (rules_in h m)),
-    weigh_both (times_at h r x) (atoms_in h m) (forest_atoms h inner),
+    weigh_append (times_at h r x) (atoms_in h m) (forest_atoms h inner),
   )

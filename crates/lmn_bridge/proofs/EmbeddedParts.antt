@@ -3,10 +3,10 @@ use Rattle.std.proofs.Common.{ℕ, Option, Some, refl, sym, ap, ◌∙◌, ◌�
 use Rattle.lmn_heap.specs.Heap.{link_of}
 use Rattle.lmn_solid.specs.Heads.{atoms_of}
 use Rattle.lmn_bridge.specs.Parts.{EmbeddedPartsAreApart, EmbeddedPartsAreGround}
-use Rattle.lmn_bridge.proofs.Counting.{same_port}
 use Rattle.lmn_bridge.proofs.PartsApart.{parts_are_apart}
-use Rattle.lmn_bridge.proofs.Runs.{get_below}
 use Rattle.lmn_bridge.proofs.PartLaws.{whole_parts_are_ground}
+use Rattle.lmn_base.proofs.Lists.{get_below}
+use Rattle.lmn_heap.proofs.Common.{same_port}
 
 -- the part of an embedded typed context is ground
 pub embedded_parts_are_ground : EmbeddedPartsAreGround

@@ -2,7 +2,7 @@
 use Rattle.std.proofs.Common.{ℕ, zero, suc, ◌≡◌, ◌≢◌, ◌+◌, ◌≤◌, List, [], ◌∷◌, ◌++◌, Option, Some, None, refl, sym, ap, subst, ◌∙◌, inl, inr, arith}
 use Rattle.std.proofs.lemmas.Bool.{cases_eq}
 use Rattle.std.specs.Option.{option_map, option_and_then}
-use Rattle.lmn_heap.specs.Heap.{Heap, HeapAtom, HeapMem, IsAtom, Place, top, within, waiting, gone, home_by, atoms_in, mems_in, home_of, parent_of, place_of, mem_place_of}
+use Rattle.lmn_heap.specs.Heap.{Heap, HeapAtom, HeapMem, IsAtom, Place, top, within, waiting, gone, home_by, atoms_in, mems_in, home_of, parent_of, mem_place_of}
 use Rattle.lmn_heap.specs.Lists.{Each, In, Distinct}
 use Rattle.lmn_heap.specs.Conditions.{Above}
 use Rattle.lmn_heap.specs.Sound.{Forest, bare, mem, flat, Forms, Valid}
@@ -10,9 +10,12 @@ use Rattle.lmn_heap.proofs.ListLemmas.{each_in, each_of, in_left, in_right}
 use Rattle.lmn_heap.proofs.Heights.{parent_is, above_more}
 use Rattle.lmn_heap.proofs.Trees.{in_either, nil_right}
 use Rattle.lmn_congruence.specs.Links.{places}
-use Rattle.lmn_solid.specs.Embeddings.{IsWithin}
-use Rattle.lmn_bridge.proofs.Counting.{forest_atoms, tree_atoms, list_atoms, places_both, same_one, apart_none}
+use Rattle.lmn_solid.specs.Embeddings.{StandsWithin}
+use Rattle.lmn_bridge.proofs.Counting.{forest_atoms, tree_atoms, list_atoms}
 use Rattle.lmn_bridge.proofs.Lying.{TakenTree, tree_first, tree_later}
+use Rattle.lmn_congruence.proofs.Counts.{none_if_apart as apart_none, one_if_equal as same_one}
+use Rattle.lmn_congruence.proofs.TranslatedLinks.{places_append as places_both}
+use Rattle.lmn_heap.proofs.Common.{place_home as home_at}
 
 -- the membranes that stand first in a forest
 abbrev pub tops : Forest → List ℕ
@@ -131,13 +134,6 @@ taken_distinct {m = m} {i = i} {f = f} {f' = f'} t d =
 
 -- ---- homes
 
-home_at : (h : Heap) (a : ℕ) (m : ℕ) → place_of h a ≡ Some (within m) → home_of h a ≡ Some m
-home_at h a m e = by (h.atoms a) e
-  where
-    by : (o : Option HeapAtom) → option_map (λ x. x.place) o ≡ Some (within m) → option_and_then (λ x. home_by x.place) o ≡ Some m
-    by None e = absurd (cc)
-    by (Some x) e = let q : x.place ≡ within m = cc in ap home_by q
-
 module _ (h : Heap) (v : Valid h) where
   -- an atom of a membrane's list is at home there
   pub home_in : (m a : ℕ) → In a (atoms_in h m) → home_of h a ≡ Some m
@@ -179,7 +175,7 @@ module _ (h : Heap) (v : Valid h) where
   ]
 
   -- what stands in the forest of a membrane is within it
-  forest_within : (m : ℕ) (f : Forest) → ((b : ℕ) → In b (tops f) → In b (mems_in h m)) → Grown h f → (a : ℕ) → In a (forest_atoms h f) → IsWithin h a m
+  forest_within : (m : ℕ) (f : Forest) → ((b : ℕ) → In b (tops f) → In b (mems_in h m)) → Grown h f → (a : ℕ) → In a (forest_atoms h f) → StandsWithin h a m
   forest_within m bare t g a p = absurd p
   forest_within m (mem c i f) t g a p = elim (in_either a (atoms_in h c ++ forest_atoms h i) (forest_atoms h f) p) [
     | inl s ↦ elim (in_either a (atoms_in h c) (forest_atoms h i) s) [
@@ -190,7 +186,7 @@ module _ (h : Heap) (v : Valid h) where
   ]
 
   -- an atom of a tree is within its membrane
-  pub tree_within : (m : ℕ) (i : Forest) → tops i ≡ mems_in h m → Grown h i → (a : ℕ) → In a (tree_atoms h m i) → IsWithin h a m
+  pub tree_within : (m : ℕ) (i : Forest) → tops i ≡ mems_in h m → Grown h i → (a : ℕ) → In a (tree_atoms h m i) → StandsWithin h a m
   tree_within m i e g a p = elim (in_either a (atoms_in h m) (forest_atoms h i) p) [
     | inl k ↦ (m, 0, home_in m a k, refl)
     | inr k ↦ forest_within m i (λ b q. subst (In b) e q) g a k
@@ -253,7 +249,7 @@ module _ (h : Heap) (v : Valid h) where
   below_in f m g p (suc k) n a = forest_child f g a.0 n (below_in f m g p k a.0 a.2) (child_in n a.0 a.1)
 
   -- what is within a membrane is an atom of its tree
-  pub within_tree : (m : ℕ) (i : Forest) → tops i ≡ mems_in h m → Grown h i → (a : ℕ) → IsWithin h a m → In a (tree_atoms h m i)
+  pub within_tree : (m : ℕ) (i : Forest) → tops i ≡ mems_in h m → Grown h i → (a : ℕ) → StandsWithin h a m → In a (tree_atoms h m i)
   within_tree m i e g a w =
       let q = below_in (mem m i bare) m ((e, g), tt) (inl refl) w.1 w.0 w.3 in
       elim (in_either a (atoms_in h m ++ forest_atoms h i) [] (forest_atom (mem m i bare) w.0 a q (in_place a w.0 w.2))) [ inl k ↦ k | inr k ↦ absurd k ]

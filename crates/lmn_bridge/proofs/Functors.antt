@@ -1,17 +1,17 @@
 -- The functor of an atom is known from what the atom is read as.
-use Rattle.std.proofs.Common.{ℕ, zero, suc, ◌≡◌, ◌+◌, List, ◌++◌, length, Option, Some, None, refl, sym, ap, ◌∙◌, arith}
+use Rattle.std.proofs.Common.{ℕ, zero, suc, ◌≡◌, List, ◌++◌, length, Option, Some, None, refl, sym, ap, ◌∙◌, arith}
 use Rattle.std.specs.Prelude.{IsSome}
 use Rattle.lmn_base.specs.declared.functor.Functor.{Functor}
 use Rattle.lmn_base.specs.declared.functor.Label.{Label}
 use Rattle.lmn_base.specs.declared.functor.Label.TheVariants.{Name as ByName, Int as ByInt}
 use Rattle.lmn_base.specs.Names.{IsNames, HasNames, label_names}
 use Rattle.lmn_heap.specs.Heap.{Heap, HeapAtom, IsAtom, functor_of}
-use Rattle.lmn_heap.specs.Solid.{numbered}
 use Rattle.lmn_congruence.specs.Rules as tree
 use Rattle.lmn_congruence.specs.Translation.{label_of}
 use Rattle.lmn_congruence.proofs.TranslatedNames.{labels_apart}
-use Rattle.lmn_bridge.specs.HeapRegions.{Reading}
+use Rattle.lmn_bridge.specs.HeapRegions.{HeapReading}
 use Rattle.lmn_bridge.proofs.Pieces.{atom_at, atom_by}
+use Rattle.lmn_heap.proofs.Common.{length_numbered as numbered_length}
 
 -- the names of two labels stand in the list
 pub both_names : (names : List tree.Name) (k l : Label) → HasNames names (label_names k) → HasNames names (label_names l) → HasNames names (label_names k ++ label_names l)
@@ -19,12 +19,8 @@ both_names names (ByName m) l a b zero d j = a zero d (omega arith)
 both_names names (ByName m) l a b (suc i) d j = b i d (omega (arith, j))
 both_names names (ByInt z) l a b i d j = b i d j
 
-numbered_length : (name : ℕ → ℕ → ℕ) (a k n : ℕ) → length (numbered name a k n) ≡ n
-numbered_length name a k zero = refl
-numbered_length name a k (suc n) = omega (arith, numbered_length name a (k + 1) n)
-
 -- an atom that is read as a functor's has that functor
-pub functor_read : (h : Heap) (r : Reading) (b : ℕ) (fu : Functor) (ys zs : List ℕ) → IsAtom h b → IsNames r.names → ((g : Functor) → functor_of h b ≡ Some g → HasNames r.names (label_names g.label)) → HasNames r.names (label_names fu.label) →
+pub functor_read : (h : Heap) (r : HeapReading) (b : ℕ) (fu : Functor) (ys zs : List ℕ) → IsAtom h b → IsNames r.names → ((g : Functor) → functor_of h b ≡ Some g → HasNames r.names (label_names g.label)) → HasNames r.names (label_names fu.label) →
     atom_at h r b ≡ record { label = label_of r.names fu.label; links = zs } → length zs ≡ fu.arity → functor_of h b ≡ Some fu
 functor_read h r b fu ys zs s i a k e n = by (h.atoms b) refl s
   where

@@ -6,15 +6,15 @@ use Rattle.lmn_base.specs.declared.rule.RuleTree.{RuleTree}
 use Rattle.lmn_guards.specs.declared.plan.TypeKind.{TypeKind}
 use Rattle.lmn_heap.specs.Heap.{Heap}
 use Rattle.lmn_solid.specs.Embeddings.{Images, meaning}
-use Rattle.lmn_solid.specs.Flattening.{items_of}
+use Rattle.lmn_solid.specs.Flattening.{items_of_head}
 use Rattle.lmn_solid.specs.Guards.{typed_number}
-use Rattle.lmn_solid.specs.Heads.{HeadTyped, Port, typed_contexts_of}
+use Rattle.lmn_solid.specs.Heads.{HeadTyped, typed_contexts_of}
 use Rattle.lmn_congruence.specs.Orders.{Among}
 use Rattle.lmn_congruence.specs.Rules as tree
 use Rattle.lmn_congruence.specs.Translation.{rule_tree, name_of}
 use Rattle.lmn_reduction.specs.Assignments.{Assignment}
 use Rattle.lmn_reduction.specs.Firing.{typed_contexts}
-use Rattle.lmn_bridge.specs.HeapRegions.{Reading}
+use Rattle.lmn_bridge.specs.HeapRegions.{HeapReading}
 use Rattle.lmn_bridge.specs.Premises.{IsRead, IsRule}
 use Rattle.lmn_bridge.specs.Parts.{IsGroundPart, TakesParts}
 use Rattle.lmn_bridge.specs.Laws.{GuardsAlike}
@@ -23,10 +23,11 @@ use Rattle.lmn_bridge.proofs.KindConditions.{heads_are, typed_known, guard_known
 use Rattle.lmn_bridge.proofs.WholeGuards.{Parts, guard_into, guard_back}
 use Rattle.lmn_bridge.proofs.OnePart.{unary_parts_alike, integer_parts_alike}
 use Rattle.lmn_bridge.proofs.PartLaws.{equal_parts_alike}
+use Rattle.lmn_base.specs.Graphs.{Port}
 
-module _ (h : Heap) (r : Reading) (read : IsRead h r) (kind : ℕ → TypeKind) (rule : RuleTree) (is_rule : IsRule r rule) (f : Images) (t : Assignment) (takes : TakesParts h r kind rule f t.typed_of) where
+module _ (h : Heap) (r : HeapReading) (read : IsRead h r) (kind : ℕ → TypeKind) (rule : RuleTree) (is_rule : IsRule r rule) (f : Images) (t : Assignment) (takes : TakesParts h r kind rule f t.typed_of) where
   abbrev contexts : List HeadTyped
-  contexts = typed_contexts_of (items_of kind rule.head)
+  contexts = typed_contexts_of (items_of_head kind rule.head)
 
   -- the part of a name
   record PartOf (x : ℕ) (p : Port) : Type 0 where
@@ -35,7 +36,7 @@ module _ (h : Heap) (r : Reading) (read : IsRead h r) (kind : ℕ → TypeKind) 
     ground : IsGroundPart h r home p part (t.typed_of (name_of r.names x))
     among : Among (name_of r.names x) (map (λ u. name_of r.names u.name) contexts)
 
-  part_of_name : (x : ℕ) (p : Port) → (meaning (items_of kind rule.head) f).part_of x ≡ Some p → PartOf x p
+  part_of_name : (x : ℕ) (p : Port) → (meaning (items_of_head kind rule.head) f).part_of x ≡ Some p → PartOf x p
   part_of_name x p q = by (typed_number contexts 0 x) refl q
     where
       by : (o : Option ℕ) → typed_number contexts 0 x ≡ o → option_map f.part o ≡ Some p → PartOf x p
@@ -53,7 +54,7 @@ module _ (h : Heap) (r : Reading) (read : IsRead h r) (kind : ℕ → TypeKind) 
             among = subst (λ y. Among (name_of r.names y) (map (λ u. name_of r.names u.name) contexts)) w.3 (among_of r.names contexts w.0 w.1 w.2);
           }
 
-  pub ground_parts : Parts h read.valid r.names read.names read.known (typed_contexts (tree.head_of (rule_tree r.names r.rule rule))) t (meaning (items_of kind rule.head) f).part_of
+  pub ground_parts : Parts h read.valid r.names read.names read.known (typed_contexts (tree.head_of (rule_tree r.names r.rule rule))) t (meaning (items_of_head kind rule.head) f).part_of
   ground_parts = record {
     stands = λ x p q. let w = part_of_name x p q in record {
       integer = λ z. integer_parts_alike h r w.home p w.part (t.typed_of (name_of r.names x)) z read w.ground;
@@ -74,7 +75,7 @@ module _ (h : Heap) (r : Reading) (read : IsRead h r) (kind : ℕ → TypeKind) 
 pub guards_alike : GuardsAlike
 guards_alike h r kind rule f t read is_rule takes =
     let heads = typed_contexts (tree.head_of (rule_tree r.names r.rule rule)) in
-    let s = meaning (items_of kind rule.head) f in
+    let s = meaning (items_of_head kind rule.head) f in
     let parts = ground_parts h r read kind rule is_rule f t takes in
     let known = guard_known r kind rule is_rule in (
       (λ w b. guard_into h read.valid r.names read.names read.known heads t rule.guard s parts (λ x n q. absurd (cc)) known b w),

@@ -1,6 +1,6 @@
 -- A part that stands whole in a membrane is ground in the calculus.
-use Rattle.std.proofs.Common.{ℕ, zero, suc, ◌≡◌, ◌<◌, ◌≤◌, List, [], ◌∷◌, map, Option, Some, None, refl, sym, ap, subst, ◌∙◌, inl, inr, arith, ◌≢◌}
-use Rattle.std.specs.Prelude.{IsSome, slice_get}
+use Rattle.std.proofs.Common.{ℕ, zero, suc, ◌≡◌, ◌<◌, ◌≤◌, List, [], ◌∷◌, map, Some, refl, sym, ap, subst, ◌∙◌, inl, inr, arith, ◌≢◌}
+use Rattle.std.specs.Prelude.{slice_get}
 use Rattle.std.proofs.lemmas.Bool.{cases_eq}
 use Rattle.std.proofs.lemmas.Option.{same_Some}
 use Rattle.lmn_base.specs.Graphs.{Reached as ReachedOnHeap, at_root, across as across_port}
@@ -13,13 +13,16 @@ use Rattle.lmn_congruence.specs.Orders.{Among, at_head, further}
 use Rattle.lmn_congruence.specs.Process.{Process, pair, occurrences}
 use Rattle.lmn_congruence.specs.Regions.{SolidAtom, atom_process}
 use Rattle.lmn_congruence.specs.Rules.{Label}
-use Rattle.lmn_reduction.specs.Parts.{Rooted, OnlyAtoms, IsGround, Reached, the_root, across, atoms_of}
-use Rattle.lmn_bridge.specs.HeapRegions.{Reading}
+use Rattle.lmn_reduction.specs.Parts.{Rooted, OnlyAtoms, IsGround, ReachesLink, the_root, across, atoms_at_top}
+use Rattle.lmn_bridge.specs.HeapRegions.{HeapReading}
 use Rattle.lmn_bridge.proofs.Pieces.{atom_at}
-use Rattle.lmn_bridge.proofs.Counting.{weigh, times_at, ends_among, within_arity, apart_none}
+use Rattle.lmn_bridge.proofs.Counting.{times_at, ends_among}
 use Rattle.lmn_bridge.proofs.Forests.{none_of, some_of, once_of}
 use Rattle.lmn_bridge.proofs.Ports.{port_named, named_port}
 use Rattle.lmn_bridge.proofs.PartLists.{is_port, all_of_part, PartList}
+use Rattle.lmn_base.proofs.Lists.{weigh, some_is}
+use Rattle.lmn_congruence.proofs.Counts.{none_if_apart as apart_none}
+use Rattle.lmn_heap.proofs.Replacing.{port_within}
 use Rattle.lmn_heap.specs.Solid.{IsNaming}
 
 -- atoms side by side: a first one and others
@@ -35,17 +38,13 @@ only_atoms_beside a (b ∷ bs) = (tt, only_atoms_beside b bs)
 abbrev pub labelled : SolidAtom → Label × List ℕ
 labelled a = (a.label, a.links)
 
-pub atoms_beside : (a : SolidAtom) (bs : List SolidAtom) → atoms_of (side_by_side a bs) ≡ map labelled (a ∷ bs)
+pub atoms_beside : (a : SolidAtom) (bs : List SolidAtom) → atoms_at_top (side_by_side a bs) ≡ map labelled (a ∷ bs)
 atoms_beside a [] = refl
 atoms_beside a (b ∷ bs) = ap (λ z. labelled a ∷ z) (atoms_beside b bs)
 
 -- the part of the calculus for atoms of a heap
-abbrev pub rooted_at : Heap → Reading → ℕ × ℕ → ℕ → List ℕ → Rooted
+abbrev pub rooted_at : Heap → HeapReading → ℕ × ℕ → ℕ → List ℕ → Rooted
 rooted_at h r root x xs = record { process = side_by_side (atom_at h r x) (map (atom_at h r) xs); root = r.name root.0 root.1 }
-
-pub some_is : {A : Type 0} (o : Option A) → IsSome o → (p : A) × (o ≡ Some p)
-some_is None s = absurd (cc)
-some_is (Some p) s = (p, refl)
 
 pub weighs_some : (w : ℕ → ℕ) (xs : List ℕ) → 1 ≤ weigh w xs → (c : ℕ) × In c xs × (1 ≤ w c)
 weighs_some w [] l = absurd (omega (arith, l))
@@ -81,7 +80,7 @@ in_among [] y k = elim k [ ]
 in_among (x ∷ xs) y at_head = inl refl
 in_among (x ∷ xs) y (further k) = inr (in_among xs y k)
 
-module _ (h : Heap) (r : Reading) (v : Valid h) where
+module _ (h : Heap) (r : HeapReading) (v : Valid h) where
   pub occurs_beside : (y x : ℕ) (xs : List ℕ) → occurrences y (side_by_side (atom_at h r x) (map (atom_at h r) xs)) ≡ weigh (times_at h r y) (x ∷ xs)
   occurs_beside y x [] = omega arith
   occurs_beside y x (z ∷ xs) = omega (arith, occurs_beside y z xs)
@@ -93,7 +92,7 @@ module _ (h : Heap) (r : Reading) (v : Valid h) where
   pub link_among : (c i : ℕ) → i < arity_of h c → Among (r.name c i) (atom_at h r c).links
   link_among c i l = among_at (atom_at h r c).links i (r.name c i) (named_port h v r c i l)
 
-  pub atom_among : (c x : ℕ) (xs : List ℕ) → In c (x ∷ xs) → Among (labelled (atom_at h r c)) (atoms_of (side_by_side (atom_at h r x) (map (atom_at h r) xs)))
+  pub atom_among : (c x : ℕ) (xs : List ℕ) → In c (x ∷ xs) → Among (labelled (atom_at h r c)) (atoms_at_top (side_by_side (atom_at h r x) (map (atom_at h r) xs)))
   atom_among c x xs k = subst (Among (labelled (atom_at h r c))) (sym (atoms_beside (atom_at h r x) (map (atom_at h r) xs))) (twice (x ∷ xs) c k)
     where
       twice : (ys : List ℕ) (c : ℕ) → In c ys → Among (labelled (atom_at h r c)) (map labelled (map (atom_at h r) ys))
@@ -101,7 +100,7 @@ module _ (h : Heap) (r : Reading) (v : Valid h) where
       twice (y ∷ ys) c (inl e) = subst (λ z. Among (labelled (atom_at h r z)) (labelled (atom_at h r y) ∷ map labelled (map (atom_at h r) ys))) e at_head
       twice (y ∷ ys) c (inr k) = further (twice ys c k)
 
-  pub among_atom : (x : ℕ) (xs : List ℕ) (p : Label × List ℕ) → Among p (atoms_of (side_by_side (atom_at h r x) (map (atom_at h r) xs))) → (c : ℕ) × In c (x ∷ xs) × (labelled (atom_at h r c) ≡ p)
+  pub among_atom : (x : ℕ) (xs : List ℕ) (p : Label × List ℕ) → Among p (atoms_at_top (side_by_side (atom_at h r x) (map (atom_at h r) xs))) → (c : ℕ) × In c (x ∷ xs) × (labelled (atom_at h r c) ≡ p)
   among_atom x xs p k =
       let u = among_mapped labelled (map (atom_at h r) (x ∷ xs)) (subst (Among p) (atoms_beside (atom_at h r x) (map (atom_at h r) xs)) k) in
       let w = among_mapped (atom_at h r) (x ∷ xs) u.1 in
@@ -110,7 +109,7 @@ module _ (h : Heap) (r : Reading) (v : Valid h) where
   module _ (naming : IsNaming h r.name) (root q : ℕ × ℕ) (link : link_of h root.0 root.1 ≡ Some q) (l : PartList h root) (atoms : Each (IsAtom h) (l.first ∷ l.others)) (away : In q.0 (l.first ∷ l.others) → ⊥) where
     root_once : weigh (times_at h r (r.name root.0 root.1)) (l.first ∷ l.others) ≡ 1
     root_once =
-        let e = ends_among h r v naming root.0 root.1 q.0 q.1 (within_arity h root.0 root.1 link) link (l.first ∷ l.others) atoms in
+        let e = ends_among h r v naming root.0 root.1 q.0 q.1 (port_within h root.0 root.1 _ link) link (l.first ∷ l.others) atoms in
         omega (arith, e, once_of root.0 (l.first ∷ l.others) l.once, some_of root.0 (l.first ∷ l.others) l.start, none_of q.0 (l.first ∷ l.others) away)
 
     -- each other link of the part joins two of its ports
@@ -136,14 +135,14 @@ module _ (h : Heap) (r : Reading) (v : Valid h) where
     pub in_part : (a : ℕ) → ReachedOnHeap (atom_map h) root a → In a (l.first ∷ l.others)
     in_part = all_of_part h root (l.first ∷ l.others) l.start l.shut
 
-    a_link_reached : (c : ℕ) → ReachedOnHeap (atom_map h) root c → (y : ℕ) × Among y (atom_at h r c).links × Reached whole y
-    a_link_reached c at_root = (r.name root.0 root.1, link_among root.0 root.1 (within_arity h root.0 root.1 link), the_root)
+    a_link_reached : (c : ℕ) → ReachedOnHeap (atom_map h) root c → (y : ℕ) × Among y (atom_at h r c).links × ReachesLink whole y
+    a_link_reached c at_root = (r.name root.0 root.1, link_among root.0 root.1 (port_within h root.0 root.1 _ link), the_root)
     a_link_reached c (across_port {a = a} {i = i} {j = j} w d e) =
         let u = a_link_reached a w in
-        let x : Reached whole (r.name a i) = across (atom_among a l.first l.others (in_part a w)) u.1 (link_among a i (within_arity h a i e)) u.2 in
-        (r.name c j, link_among c j (within_arity h c j (v.sound.paired.back a i c j e)), subst (Reached whole) (naming.joined a i c j e) x)
+        let x : ReachesLink whole (r.name a i) = across (atom_among a l.first l.others (in_part a w)) u.1 (link_among a i (port_within h a i _ e)) u.2 in
+        (r.name c j, link_among c j (port_within h c j _ (v.sound.paired.back a i c j e)), subst (ReachesLink whole) (naming.joined a i c j e) x)
 
-    connected : {a : Label} {ys : List ℕ} → Among (a, ys) (atoms_of whole.process) → (y : ℕ) × (Among y ys) × Reached whole y
+    connected : {a : Label} {ys : List ℕ} → Among (a, ys) (atoms_at_top whole.process) → (y : ℕ) × (Among y ys) × ReachesLink whole y
     connected {a} {ys} k =
         let c = among_atom l.first l.others (a, ys) k in
         let u = a_link_reached c.0 (l.reached c.0 c.1) in

@@ -1,7 +1,6 @@
 -- What holds of each leaf of a head holds of each atom of its items.
-use Rattle.std.proofs.Common.{ℕ, zero, suc, ◌≡◌, ◌+◌, List, [], ◌∷◌, map, Some, All, refl, subst, arith}
+use Rattle.std.proofs.Common.{ℕ, zero, ◌≡◌, ◌+◌, List, [], ◌∷◌, map, Some, All, refl, subst, arith}
 use Rattle.std.specs.Prelude.{slice_get}
-use Rattle.std.specs.List.{flat_map}
 use Rattle.lmn_base.specs.declared.level.Leaf.{Leaf}
 use Rattle.lmn_base.specs.declared.level.Leaf.TheVariants as leaf
 use Rattle.lmn_base.specs.declared.level.Level.{Level}
@@ -67,9 +66,3 @@ module _ (P : Leaf → Type 0) (kind : ℕ → TypeKind) where
   -- and of each typed context of the items
   pub typed_holds : (l : Level) → All P (leaves_of l) → (n : ℕ) (a : HeadTyped) → slice_get (typed_contexts_of (flat_items kind 0 1 (head_at l))) n ≡ Some a → IsTypedWith P a
   typed_holds l h n a e = walk_typed (λ n a. IsLeafWith P a) (λ n a. IsTypedWith P a) (λ n a. Unit {0}) (flat_items kind 0 1 (head_at l)) 0 0 1 (level_walk P kind 0 1 0 0 1 (head_at l) (subst (All P) (same_leaves l) h)) n a e
-
--- what holds of all lists together holds of each
-pub each_part : {A B : Type 0} (P : B → Type 0) (f : A → List B) (xs : List A) → All P (flat_map f xs) → All (λ x. All P (f x)) xs
-each_part P f [] h k d l = absurd (omega (arith, l))
-each_part P f (x ∷ xs) h zero d l = all_left P (f x) (flat_map f xs) h
-each_part P f (x ∷ xs) h (suc k) d l = each_part P f xs (all_right P (f x) (flat_map f xs) h) k d (omega (arith, l))

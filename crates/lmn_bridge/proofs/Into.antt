@@ -7,10 +7,10 @@ use Rattle.lmn_guards.specs.declared.plan.TypeKind.{TypeKind}
 use Rattle.lmn_heap.specs.Heap.{Heap, HeapAtom, IsAtom, atoms_in, mems_in, rules_in, arity_of, link_of}
 use Rattle.lmn_heap.specs.Lists.{Each, In, Distinct}
 use Rattle.lmn_heap.specs.Sound.{Forest, bare, mem, flat, Valid, Forms}
-use Rattle.lmn_heap.specs.Solid.{IsNaming, numbered}
+use Rattle.lmn_heap.specs.Solid.{IsNaming, links_from}
 use Rattle.lmn_heap.proofs.Trees.{nil_right}
 use Rattle.lmn_solid.specs.declared.items.HeadItem.{HeadItem}
-use Rattle.lmn_solid.specs.Heads.{HeadAtom, HeadTyped, HeadMembrane, Port, atoms_of, typed_contexts_of, membranes_of, at_atoms}
+use Rattle.lmn_solid.specs.Heads.{HeadAtom, HeadTyped, HeadMembrane, atoms_of, typed_contexts_of, membranes_of, at_atoms}
 use Rattle.lmn_solid.specs.Embeddings.{Images, HasLink, HasAtom, HasTyped, HasMembrane, Embeds}
 use Rattle.lmn_congruence.specs.Links.{one_if_same, places}
 use Rattle.lmn_congruence.specs.LinkedRules.{level_occurrences}
@@ -19,13 +19,13 @@ use Rattle.lmn_congruence.specs.Regions.{Region, region, no_region, region_proce
 use Rattle.lmn_congruence.specs.Rules as tree
 use Rattle.lmn_congruence.specs.Translation.{label_of, name_of}
 use Rattle.lmn_reduction.specs.Assignments.{Assignment}
-use Rattle.lmn_adequacy.specs.Accepted.{EachOf, EachOnce, membranes_of as inner_levels, contexts_in, rule_contexts_in, EachLevel, NoConnectorLeaf, leaves_of}
+use Rattle.lmn_adequacy.specs.Accepted.{EachOf, own_membranes as inner_levels, contexts_in, rule_contexts_in, EachLevel, NoConnectorLeaf, own_leaves}
 use Rattle.lmn_adequacy.specs.Embedding.{Plain, LevelImages, IsPart}
 use Rattle.lmn_adequacy.specs.Next.{Contents, assignment_of}
 use Rattle.lmn_adequacy.proofs.InOrder.{contents_plain}
-use Rattle.lmn_bridge.specs.HeapRegions.{Reading, regions_at, region_at}
+use Rattle.lmn_bridge.specs.HeapRegions.{HeapReading, regions_at, region_at}
 use Rattle.lmn_bridge.proofs.Pieces.{atom_at, atom_by, atoms_each}
-use Rattle.lmn_bridge.proofs.Counting.{weigh, weigh_both, weigh_same, times_at, tree_atoms, forest_atoms, list_atoms, ends_among}
+use Rattle.lmn_bridge.proofs.Counting.{weigh_same, times_at, tree_atoms, forest_atoms, list_atoms, ends_among}
 use Rattle.lmn_solid.proofs.HeadTrees.{Head, flat_items}
 use Rattle.lmn_bridge.proofs.HeadTrees.{tree_of}
 use Rattle.lmn_bridge.proofs.Lying.{level_images_of}
@@ -38,13 +38,16 @@ use Rattle.lmn_bridge.proofs.PartLists.{is_port}
 use Rattle.lmn_bridge.proofs.PartLaws.{ground_parts_stand_whole}
 use Rattle.lmn_bridge.proofs.PartsOut.{flattened}
 use Rattle.lmn_bridge.proofs.PartsLaid.{as_read}
-use Rattle.lmn_bridge.proofs.Runs.{run_in, in_run, run_distinct, get_below, get_inside, get_some, parts_in, in_parts, parts_once}
+use Rattle.lmn_bridge.proofs.Runs.{run_in, in_run, run_distinct, get_inside, parts_in, in_parts, parts_once}
 use Rattle.lmn_bridge.proofs.Laying.{AtomLies, MembraneLies, TypedLies, Known, LaidLevel, lay_level, all_atoms, all_parts, all_membranes, total}
 use Rattle.lmn_bridge.proofs.Keeping.{keep_level}
 use Rattle.lmn_bridge.proofs.Contexts.{Few, NoRules, level_contents, look, looked}
 use Rattle.lmn_bridge.specs.Numbers.{numbers_left}
 use Rattle.lmn_bridge.proofs.Numbering.{level_numbers, run_reads}
 use Rattle.lmn_bridge.proofs.Occurrences.{first_name, first_found, times_are, times_parts, port_counts, typed_counts, two_typed}
+use Rattle.lmn_base.specs.Graphs.{Port}
+use Rattle.lmn_congruence.specs.Orders.{EachOnce}
+use Rattle.lmn_base.proofs.Lists.{weigh, get_below, get_there as get_some, weigh_append}
 use Rattle.lmn_base.specs.declared.guard.Cond.{Cond}
 use Rattle.lmn_bridge.specs.Premises.{IsRead}
 use Rattle.lmn_reduction.specs.Parts.{Rooted}
@@ -52,7 +55,7 @@ use Rattle.lmn_reduction.specs.Parts.{Rooted}
 -- ---- links of an atom
 
 -- the links of an atom are the images of a head atom's links
-pub numbered_are : (name : ℕ → ℕ → ℕ) (g : ℕ → ℕ) (b k n : ℕ) (ys : List ℕ) → length ys ≡ n → ((j x : ℕ) → slice_get ys j ≡ Some x → name b (k + j) ≡ g x) → numbered name b k n ≡ map g ys
+pub numbered_are : (name : ℕ → ℕ → ℕ) (g : ℕ → ℕ) (b k n : ℕ) (ys : List ℕ) → length ys ≡ n → ((j x : ℕ) → slice_get ys j ≡ Some x → name b (k + j) ≡ g x) → links_from name b k n ≡ map g ys
 numbered_are name g b k zero [] e h = refl
 numbered_are name g b k zero (y ∷ ys) e h = absurd (omega (arith, e))
 numbered_are name g b k (suc n) [] e h = absurd (omega (arith, e))
@@ -65,7 +68,7 @@ numbered_are name g b k (suc n) (y ∷ ys) e h =
 -- ---- the ends of links
 
 -- at most two ports have one number
-pub two_ends : (h : Heap) (v : Valid h) (r : Reading) → IsNaming h r.name → (x : ℕ) (xs : List ℕ) → Each (IsAtom h) xs → ((z : ℕ) → places z xs ≤ 1) → weigh (times_at h r x) xs ≤ 2
+pub two_ends : (h : Heap) (v : Valid h) (r : HeapReading) → IsNaming h r.name → (x : ℕ) (xs : List ℕ) → Each (IsAtom h) xs → ((z : ℕ) → places z xs ≤ 1) → weigh (times_at h r x) xs ≤ 2
 two_ends h v r naming x xs e once = elim (cases_eq (weigh (times_at h r x) xs) 0) [
   | inl z ↦ omega (arith, z)
   | inr z ↦ some z
@@ -91,7 +94,7 @@ two_ends h v r naming x xs e once = elim (cases_eq (weigh (times_at h r x) xs) 0
 
 -- ---- an embedding
 
-module _ (h : Heap) (v : Valid h) (r : Reading) (naming : IsNaming h r.name) (kind : ℕ → TypeKind) (hd : Head) (f : Images) where
+module _ (h : Heap) (v : Valid h) (r : HeapReading) (naming : IsNaming h r.name) (kind : ℕ → TypeKind) (hd : Head) (f : Images) where
   abbrev items : List HeadItem
   items = flat_items kind 0 1 hd
 
@@ -129,7 +132,7 @@ module _ (h : Heap) (v : Valid h) (r : Reading) (naming : IsNaming h r.name) (ki
             let ls = numbered_are r.name link_name (f.atom n) 0 y.functor.arity a.links len (λ j x g. let z : 0 + j ≡ j = omega arith in rw z (named x (n, j) (a, k, g))) in
             λ i. record { label = label_of r.names (s i).label; links = ls i }
 
-    module _ (none : EachLevel (λ l. NoConnectorLeaf (leaves_of l)) (tree_of r.names r.rule hd)) (typed_of : tree.Name → Rooted)
+    module _ (none : EachLevel (λ l. NoConnectorLeaf (own_leaves l)) (tree_of r.names r.rule hd)) (typed_of : tree.Name → Rooted)
         (holds : (n : ℕ) (t : HeadTyped) → HasTyped (flat_items kind 0 1 hd) n t → (p : Port) × HasLink (flat_items kind 0 1 hd) t.link p)
         (read : IsRead h r) (part_at : ℕ → List ℕ)
         (grounds : (n : ℕ) (t : HeadTyped) → HasTyped (flat_items kind 0 1 hd) n t → IsGroundPart h r (f.membrane t.inside) (f.part n) (part_at n) (typed_of (name_of r.names t.name)))
@@ -288,10 +291,10 @@ module _ (h : Heap) (v : Valid h) (r : Reading) (naming : IsNaming h r.name) (ki
             let kept = keep_level h v r f part_at t items (λ x. let u = sum x in let w = linked x in omega (arith, u, w)) (λ x. 0) (λ b. 0) (λ b. 0) told (record {
               link_room = λ x.
                   let u = two_ends h v r naming (link_name x) (tree_atoms h M inner) (each_tree h v M inner) (tree_once h v M inner whole) in
-                  omega (arith, u, weigh_both (times_at h r (link_name x)) (atoms_in h M) (forest_atoms h inner));
+                  omega (arith, u, weigh_append (times_at h r (link_name x)) (atoms_in h M) (forest_atoms h inner));
               atom_room = λ b.
                   let u = tree_once h v M inner whole b in
-                  omega (arith, u, weigh_both (one_if_same b) (atoms_in h M) (forest_atoms h inner), weigh_same b (tree_atoms h M inner));
+                  omega (arith, u, weigh_append (one_if_same b) (atoms_in h M) (forest_atoms h inner), weigh_same b (tree_atoms h M inner));
               membrane_room = λ b. omega (arith, once_of b (flat inner) once.1, weigh_same b (flat inner));
               all_atoms_are = λ b. let u = L.same (one_if_same b) in omega (arith, u);
               all_membranes_are = λ b. omega arith;
@@ -305,7 +308,7 @@ module _ (h : Heap) (v : Valid h) (r : Reading) (naming : IsNaming h r.name) (ki
                   (forms_tops h inner (mems_in h m) forms ∙ here_root) (forms_grown h inner (mems_in h m) forms)
                   (λ b.
                   let u = tree_once h v M inner whole b in
-                  omega (arith, u, weigh_both (one_if_same b) (atoms_in h M) (forest_atoms h inner), weigh_same b (tree_atoms h M inner)))
+                  omega (arith, u, weigh_append (one_if_same b) (atoms_in h M) (forest_atoms h inner), weigh_same b (tree_atoms h M inner)))
                   (λ b. omega (arith, once_of b (flat inner) once.1, weigh_same b (flat inner)));
               plain = λ free. contents_plain c free;
               typed = refl;

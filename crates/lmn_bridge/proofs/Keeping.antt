@@ -17,15 +17,18 @@ use Rattle.lmn_reduction.specs.Instances.{rules_of_contexts}
 use Rattle.lmn_congruence.proofs.Reordered.{r_right}
 use Rattle.lmn_adequacy.specs.Accepted.{own_contexts, own_rule_contexts, own_rules}
 use Rattle.lmn_adequacy.specs.Embedding.{KeepsLinks, filling}
-use Rattle.lmn_adequacy.proofs.Orders.{r_both, r_alone}
-use Rattle.lmn_bridge.specs.HeapRegions.{Reading, regions_at, region_at}
+use Rattle.lmn_adequacy.proofs.Orders.{r_both}
+use Rattle.lmn_bridge.specs.HeapRegions.{HeapReading, regions_at, region_at}
 use Rattle.lmn_bridge.proofs.Pieces.{atom_at}
-use Rattle.lmn_bridge.proofs.Counting.{weigh, weigh_both, weigh_same, times_at, tree_atoms, forest_atoms, in_region}
+use Rattle.lmn_bridge.proofs.Counting.{weigh_same, times_at, tree_atoms, forest_atoms, in_region}
 use Rattle.lmn_bridge.proofs.Lying.{Lies, lies, LiesIn, lies_none, lies_and, Kept, rest_at, fills}
 use Rattle.lmn_bridge.proofs.Weighing.{heavy_taken, level_weighs, membranes_weigh, level_links, membranes_links, leaves_links, weigh_out, weigh_nothing, rest_weighs, rest_tops}
 use Rattle.lmn_bridge.proofs.PartsOut.{flattened, parts_both}
 use Rattle.lmn_bridge.proofs.Forests.{tops, tops_flat, find_in, some_of}
 use Rattle.lmn_bridge.proofs.Laying.{Known, all_atoms, all_parts, all_membranes, total}
+use Rattle.lmn_base.proofs.Lists.{weigh, weigh_append}
+use Rattle.lmn_heap.proofs.Common.{nothing_in}
+use Rattle.lmn_reduction.proofs.Derivations.{alone as r_alone}
 
 -- ---- contexts
 
@@ -42,7 +45,7 @@ RulesAre t (p ∷ []) rs = t.rules_of p ≡ rs
 RulesAre t (p ∷ (q ∷ ps)) rs = ⊥
 
 -- the contexts of a level stand for what is left in the image of its membrane
-pub record Agrees (h : Heap) (r : Reading) (t : Assignment) (l : Level) (m : ℕ) (xs : List ℕ) (i i' : Forest) : Type 0 where
+pub record Agrees (h : Heap) (r : HeapReading) (t : Assignment) (l : Level) (m : ℕ) (xs : List ℕ) (i i' : Forest) : Type 0 where
   pub contexts : ContextIs t (own_contexts l) (region_process (region (map (atom_at h r) xs) (regions_at h r i') []))
   pub rule_contexts : RulesAre t (own_rule_contexts l) (map r.rule (rules_in h m))
   pub no_rules : own_rules l ≡ no_rule
@@ -72,15 +75,11 @@ filled t cs rcs rs X M R none empty bare_rules c u = r_chain (r_right (r_right (
 
 -- ---- the elements of a list that weigh nothing
 
-nothing_in : (xs : List ℕ) → ((b : ℕ) → In b xs → ⊥) → xs ≡ []
-nothing_in [] h = refl
-nothing_in (x ∷ xs) h = absurd (h x (inl refl))
-
 no_tops : (f : Forest) → ((b : ℕ) → In b (tops f) → ⊥) → f ≡ bare
 no_tops bare h = refl
 no_tops (mem m i f) h = absurd (h m (inl refl))
 
-module _ (h : Heap) (v : Valid h) (r : Reading) (f : Images) (part_at : ℕ → List ℕ) (t : Assignment) (items : List HeadItem) (few : (x : ℕ) → total h r f part_at t.link_of t.typed_of items x ≤ 2) where
+module _ (h : Heap) (v : Valid h) (r : HeapReading) (f : Images) (part_at : ℕ → List ℕ) (t : Assignment) (items : List HeadItem) (few : (x : ℕ) → total h r f part_at t.link_of t.typed_of items x ≤ 2) where
   abbrev Told : Level → ℕ → List ℕ → Forest → Forest → Type 0
   Told l m xs i i' = Known h r f part_at t.link_of t.typed_of items l m xs i i' × Agrees h r t l m xs i i'
 
@@ -113,7 +112,7 @@ module _ (h : Heap) (v : Valid h) (r : Reading) (f : Images) (part_at : ℕ → 
       where
         often : (x : ℕ) → level_occurrences x l ≢ 0 → weigh (times_at h r (t.link_of x)) (tree_atoms h m i) ≡ level_occurrences x l
         often x some =
-            let w = weigh_both (times_at h r (t.link_of x)) (atoms_in h m) (forest_atoms h i) in
+            let w = weigh_append (times_at h r (t.link_of x)) (atoms_in h m) (forest_atoms h i) in
             let below = level_links h r x d in
             let heavy = level_weighs h (times_at h r (t.link_of x)) (λ b. 0) d in
             let z1 = weigh_nothing ms in
@@ -169,7 +168,7 @@ module _ (h : Heap) (v : Valid h) (r : Reading) (f : Images) (part_at : ℕ → 
           link_room = λ x. let u = room.link_room x in omega (arith, u, leaves_links h r x fit out, weigh_out (times_at h r (t.link_of x)) bs xs d e out);
           atom_room = λ b. let u = room.atom_room b in omega (arith, u, weigh_out (one_if_same b) bs xs d e out);
           membrane_room = room.membrane_room;
-          all_atoms_are = λ b. let u = room.all_atoms_are b in omega (arith, u, weigh_both (one_if_same b) bs as', parts_both (one_if_same b) parts ps);
+          all_atoms_are = λ b. let u = room.all_atoms_are b in omega (arith, u, weigh_append (one_if_same b) bs as', parts_both (one_if_same b) parts ps);
           all_membranes_are = room.all_membranes_are;
         }) (λ x. let u = sum x in omega (arith, u)))
 
@@ -193,8 +192,8 @@ module _ (h : Heap) (v : Valid h) (r : Reading) (f : Images) (part_at : ℕ → 
               let w = heavy_taken h (λ b. 0) (one_if_same b) k in
               let y = membranes_weigh h (λ b. 0) (one_if_same b) more in
               omega (arith, u, w, y, weigh_nothing bs, weigh_nothing (flattened qs), weigh_nothing (forest_atoms h F), weigh_nothing (forest_atoms h F'), weigh_nothing (forest_atoms h F''), weigh_nothing (forest_atoms h i), weigh_nothing (atoms_in h m));
-          all_atoms_are = λ b. let u = room.all_atoms_are b in omega (arith, u, weigh_both (one_if_same b) as' bs, parts_both (one_if_same b) ps qs);
-          all_membranes_are = λ b. let u = room.all_membranes_are b in omega (arith, u, weigh_both (one_if_same b) ms ks);
+          all_atoms_are = λ b. let u = room.all_atoms_are b in omega (arith, u, weigh_append (one_if_same b) as' bs, parts_both (one_if_same b) ps qs);
+          all_membranes_are = λ b. let u = room.all_membranes_are b in omega (arith, u, weigh_append (one_if_same b) ms ks);
         } in
         let there : Elsewhere (λ x. el x + level_occurrences x l) (λ b. ea b + (weigh (one_if_same b) as' + weigh (one_if_same b) (flattened ps))) (λ b. (em b + one_if_same b m) + weigh (one_if_same b) ms) [] F' bs qs ks = record {
           link_room = λ x.
@@ -212,8 +211,8 @@ module _ (h : Heap) (v : Valid h) (r : Reading) (f : Images) (part_at : ℕ → 
               let w = heavy_taken h (λ b. 0) (one_if_same b) k in
               let y = level_weighs h (λ b. 0) (one_if_same b) d in
               omega (arith, u, w, y, weigh_nothing as', weigh_nothing (flattened ps), weigh_nothing xs, weigh_nothing (forest_atoms h F), weigh_nothing (forest_atoms h F'), weigh_nothing (forest_atoms h i), weigh_nothing (forest_atoms h i'), weigh_nothing (atoms_in h m));
-          all_atoms_are = λ b. let u = room.all_atoms_are b in omega (arith, u, weigh_both (one_if_same b) as' bs, parts_both (one_if_same b) ps qs);
-          all_membranes_are = λ b. let u = room.all_membranes_are b in omega (arith, u, weigh_both (one_if_same b) ms ks);
+          all_atoms_are = λ b. let u = room.all_atoms_are b in omega (arith, u, weigh_append (one_if_same b) as' bs, parts_both (one_if_same b) ps qs);
+          all_membranes_are = λ b. let u = room.all_membranes_are b in omega (arith, u, weigh_append (one_if_same b) ms ks);
         } in
         lies_and k
         (keep_level (λ x. el x + levels_occurrences x ls) (λ b. ea b + (weigh (one_if_same b) bs + weigh (one_if_same b) (flattened qs))) (λ b. (em b + one_if_same b m) + weigh (one_if_same b) ks) d here (λ x. let u = sum x in omega (arith, u)))

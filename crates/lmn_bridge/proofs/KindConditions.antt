@@ -15,10 +15,10 @@ use Rattle.lmn_guards.specs.declared.plan.TypeKind.{TypeKind}
 use Rattle.lmn_guards.specs.declared.plan.TypeKind.TheVariants.{Int, Unary, Ground}
 use Rattle.lmn_heap.specs.Heap.{Heap}
 use Rattle.lmn_solid.specs.Embeddings.{Images, Embeds, meaning}
-use Rattle.lmn_solid.specs.Flattening.{items_of}
-use Rattle.lmn_solid.specs.Guards.{GuardHolds as HoldsOnHeap, Meaning, TypeHolds, KindHolds, with_part, integer_at, IsUnary as UnaryOnHeap}
+use Rattle.lmn_solid.specs.Flattening.{items_of_head}
+use Rattle.lmn_solid.specs.Guards.{HoldsOnHeap, Meaning, TypeHolds, KindHolds, with_part, integer_at, IsUnaryPart as UnaryOnHeap}
 use Rattle.lmn_solid.specs.declared.items.HeadItem.{HeadItem}
-use Rattle.lmn_solid.specs.Heads.{HeadTyped, Port, typed_contexts_of}
+use Rattle.lmn_solid.specs.Heads.{HeadTyped, typed_contexts_of}
 use Rattle.lmn_congruence.specs.Orders.{Among}
 use Rattle.lmn_congruence.specs.Process.{atom, Free}
 use Rattle.lmn_congruence.specs.Rules as tree
@@ -30,16 +30,17 @@ use Rattle.lmn_reduction.specs.Guards.{GuardHolds, Holds, of_kind, in_order, con
 use Rattle.lmn_reduction.specs.Parts.{Rooted, IsInteger, IsUnary, IsGround}
 use Rattle.lmn_reduction.specs.Values.{Value}
 use Rattle.lmn_congruence.proofs.Appended.{all_left, all_right}
-use Rattle.lmn_congruence.proofs.TranslatedNames.{labels_apart}
-use Rattle.lmn_adequacy.specs.Accepted.{EachLevel, NoConnectorLeaf, leaves_of, InTurn, kind_in_turn, comparison_in_turn, UsedIn}
-use Rattle.lmn_bridge.specs.HeapRegions.{Reading}
+use Rattle.lmn_congruence.proofs.TranslatedNames.{labels_apart, each_part}
+use Rattle.lmn_adequacy.specs.Accepted.{EachLevel, NoConnectorLeaf, own_leaves, InTurn, kind_in_turn, comparison_in_turn, UsedIn}
+use Rattle.lmn_bridge.specs.HeapRegions.{HeapReading}
 use Rattle.lmn_bridge.specs.Premises.{IsRule}
 use Rattle.lmn_solid.proofs.HeadTrees.{head_at, items_flat}
 use Rattle.lmn_bridge.proofs.HeadTrees.{tree_of}
-use Rattle.lmn_bridge.proofs.HeadFacts.{each_part, typed_holds}
+use Rattle.lmn_bridge.proofs.HeadFacts.{typed_holds}
 use Rattle.lmn_bridge.proofs.Contexts.{look, same_name}
 use Rattle.lmn_bridge.proofs.TypeConditions.{level_named, named_parts}
 use Rattle.lmn_bridge.proofs.Results.{is_tree}
+use Rattle.lmn_base.specs.Graphs.{Port}
 
 -- ---- conditions on types
 
@@ -176,18 +177,18 @@ same_number names m n i a b e = let q : ByName m ≡ ByName n = labels_apart nam
     both zero d l = a zero d (omega arith)
     both (suc k) d l = b k d (omega (arith, l))
 
-module _ (r : Reading) (kind : ℕ → TypeKind) (rule : RuleTree) (k : IsRule r rule) where
-  pub no_connector : EachLevel (λ l. NoConnectorLeaf (leaves_of l)) (tree_of r.names r.rule (head_at rule.head))
-  no_connector = subst (EachLevel (λ l. NoConnectorLeaf (leaves_of l))) (is_tree r rule kind k) k.accepted.no_connectors
+module _ (r : HeapReading) (kind : ℕ → TypeKind) (rule : RuleTree) (k : IsRule r rule) where
+  pub no_connector : EachLevel (λ l. NoConnectorLeaf (own_leaves l)) (tree_of r.names r.rule (head_at rule.head))
+  no_connector = subst (EachLevel (λ l. NoConnectorLeaf (own_leaves l))) (is_tree r rule kind k) k.accepted.no_connectors
 
-  pub heads_are : map (λ u. name_of r.names u.name) (typed_contexts_of (items_of kind rule.head)) ≡ typed_contexts (tree.head_of (rule_tree r.names r.rule rule))
+  pub heads_are : map (λ u. name_of r.names u.name) (typed_contexts_of (items_of_head kind rule.head)) ≡ typed_contexts (tree.head_of (rule_tree r.names r.rule rule))
   heads_are = ap (λ xs. map (λ u. name_of r.names u.name) (typed_contexts_of xs)) (items_flat kind rule.head) ∙ level_named r.names r.rule kind 0 1 (head_at rule.head) no_connector ∙ ap typed_contexts (sym (is_tree r rule kind k))
 
   abbrev Below : ℕ → Type 0
   Below i = i < length r.names
 
   -- the name of a typed context stands in the list
-  pub typed_known : (i : ℕ) (u : HeadTyped) → slice_get (typed_contexts_of (items_of kind rule.head)) i ≡ Some u → HasNames r.names (u.name ∷ [])
+  pub typed_known : (i : ℕ) (u : HeadTyped) → slice_get (typed_contexts_of (items_of_head kind rule.head)) i ≡ Some u → HasNames r.names (u.name ∷ [])
   typed_known i u e =
       let both = all_left Below (level_names rule.head ++ flat_map condition_names rule.guard) (level_names rule.body) k.known in
       let here = all_left Below (level_names rule.head) (flat_map condition_names rule.guard) both in

@@ -1,15 +1,12 @@
 -- What satisfies a guard is of the kinds that the guard gives its contexts.
-use Rattle.std.proofs.Common.{Box, Global, ℕ, zero, suc, ◌≡◌, ◌<◌, ◌⊎◌, ◌&&◌, ◌||◌, ◌==◌, not, Bool, true, false, List, [], ◌∷◌, ◌++◌, map, length, Some, None, All, refl, sym, ap, subst, ◌∙◌, inl, inr, arith}
+use Rattle.std.proofs.Common.{ℕ, zero, suc, ◌≡◌, ◌<◌, ◌⊎◌, ◌==◌, not, Bool, true, false, List, [], ◌∷◌, ◌++◌, map, length, Some, None, All, refl, sym, ap, subst, ◌∙◌, inl, inr, arith}
 use Rattle.std.specs.Prelude.{ℤ, slice_get, if◌then◌else◌}
 use Rattle.std.specs.List.{flat_map, list_any}
 use Rattle.std.proofs.lemmas.Bool.{cases_eq, eq-eqb, eqb-true}
-use Rattle.lmn_base.specs.declared.guard.Arith.{Arith}
 use Rattle.lmn_base.specs.declared.guard.Cond.{Cond}
 use Rattle.lmn_base.specs.declared.guard.Cond.TheVariants.{Kind, Compare, Equal, Differ}
 use Rattle.lmn_base.specs.declared.guard.Expr.{Expr}
-use Rattle.lmn_base.specs.declared.guard.Expr.TheOpen as open'
 use Rattle.lmn_base.specs.declared.guard.Expr.TheVariants as variant
-use Rattle.lmn_base.specs.declared.guard.Expr.TheFolds.{fold-roll-Expr}
 use Rattle.lmn_base.specs.declared.item.Form.TheVariants as form
 use Rattle.lmn_base.specs.declared.item.Item.{Item}
 use Rattle.lmn_base.specs.declared.item.Item.TheVariants as item
@@ -20,7 +17,7 @@ use Rattle.lmn_base.specs.declared.level.Level.{Level}
 use Rattle.lmn_base.specs.declared.refusal.Pos.{Pos}
 use Rattle.lmn_base.specs.declared.rule.RuleTree.{RuleTree}
 use Rattle.lmn_base.specs.Items as base
-use Rattle.lmn_base.specs.Items.{used, leaf_item, expression_step, expression_items}
+use Rattle.lmn_base.specs.Items.{used, leaf_item, expression_items}
 use Rattle.lmn_base.specs.Levels.{leaves_of}
 use Rattle.std.proofs.lemmas.Option.{same_Some}
 use Rattle.lmn_base.specs.Names.{IsNames, HasNames, condition_names, expression_names}
@@ -29,7 +26,7 @@ use Rattle.lmn_guards.specs.declared.plan.TypeKind.{TypeKind}
 use Rattle.lmn_guards.specs.declared.plan.TypeKind.TheVariants.{Int, Unary, Ground}
 use Rattle.lmn_guards.specs.GuardCodes.{in_head, asks, type_name}
 use Rattle.lmn_guards.specs.Values.{of_context, of_operation}
-use Rattle.lmn_solid.specs.Flattening.{items_of}
+use Rattle.lmn_solid.specs.Flattening.{items_of_head}
 use Rattle.lmn_solid.specs.Heads.{HeadTyped, typed_contexts_of}
 use Rattle.lmn_solid.proofs.HeadTrees.{Head, Heads, head, no_head, head_and, head_at, head_leaves, heads_leaves, same_leaves, head_uses, heads_uses, same_uses, items_flat}
 use Rattle.lmn_congruence.specs.Orders.{Among, at_head, further}
@@ -39,26 +36,23 @@ use Rattle.lmn_congruence.specs.Translation.{name_of, rule_tree, condition_of, k
 use Rattle.lmn_reduction.specs.Assignments.{Assignment}
 use Rattle.lmn_reduction.specs.Firing.{typed_contexts}
 use Rattle.lmn_reduction.specs.Guards.{GuardHolds, Holds, of_kind, in_order, binds, alike, unlike, condition_and}
-use Rattle.lmn_reduction.specs.Parts.{Rooted, IsInteger, an_integer, IsGround, Reached, the_root}
+use Rattle.lmn_reduction.specs.Parts.{IsInteger, IsGround, ReachesLink, the_root}
 use Rattle.lmn_reduction.specs.Values.{Value}
 use Rattle.lmn_congruence.proofs.Appended.{all_left, all_right}
-use Rattle.lmn_bridge.specs.HeapRegions.{Reading}
-use Rattle.lmn_bridge.specs.Premises.{IsRule, IsOf, HasKinds, HasTypes}
-use Rattle.lmn_bridge.proofs.Counting.{same_one, apart_none}
+use Rattle.lmn_bridge.specs.HeapRegions.{HeapReading}
+use Rattle.lmn_bridge.specs.Premises.{IsRule, IsOfTypeKind, HasKinds, HasTypes}
 use Rattle.lmn_bridge.proofs.Expressions.{context_tree, operation_tree}
 use Rattle.lmn_bridge.proofs.HeadFacts.{typed_holds}
 use Rattle.lmn_bridge.proofs.KindConditions.{heads_are, typed_known, guard_known, same_number}
 use Rattle.lmn_bridge.proofs.TypeConditions.{among_named, among_of}
+use Rattle.lmn_base.proofs.Common.{operation_items}
+use Rattle.lmn_base.proofs.Lists.{all_both}
+use Rattle.lmn_base.proofs.Truth.{and_true as and_both, either_true as or_either}
+use Rattle.lmn_congruence.proofs.Counts.{none_if_apart as apart_none, one_if_equal as same_one}
+use Rattle.lmn_guards.proofs.WorkedGuards.{of_context as context_items, of_integer as number_items}
+use Rattle.lmn_adequacy.proofs.Accepting.{integer_ground}
 
 -- ---- tests
-
-and_both : (a b : Bool) → (a && b) ≡ true → (a ≡ true) × (b ≡ true)
-and_both true b e = (refl, e)
-and_both false b e = absurd (cc)
-
-or_either : (a b : Bool) → (a || b) ≡ true → (a ≡ true) ⊎ (b ≡ true)
-or_either true b e = inl refl
-or_either false b e = inr e
 
 never_both : (a : Bool) → a ≡ true → not a ≡ true → ⊥
 never_both true e f = cc
@@ -97,18 +91,6 @@ used_one n u e = by (u.name == n) refl e
     by true q e = eqb-true u.name n q
     by false q e = absurd (cc)
 
-context_items : (u : CtxUse) → expression_items (variant.Ctx u) ≡ used form.Typed u ∷ []
-context_items u = ap expression_items (sym (variant.rolls-Ctx u)) ∙ fold-roll-Expr (List Item) expression_step (open'.Ctx u)
-
-number_items : (z : ℤ) → expression_items (variant.Int z) ≡ []
-number_items z = ap expression_items (sym (variant.rolls-Int z)) ∙ fold-roll-Expr (List Item) expression_step (open'.Int z)
-
-operation_items : (op : Arith) (p : Box (Unit {0}) Global) (left : Expr) (q : Box (Unit {0}) Global) (right : Expr) → expression_items (variant.Op' op p left q right) ≡ expression_items left ++ expression_items right
-operation_items op p left q right =
-    let l : Box Expr Global = record { value = left; ptr = p.ptr; alloc = p.alloc } in
-    let k : Box Expr Global = record { value = right; ptr = q.ptr; alloc = q.alloc } in
-    ap expression_items (sym (variant.rolls-Op op l k)) ∙ fold-roll-Expr (List Item) expression_step (open'.Op op l k)
-
 -- ---- a typed context of a head is used in it
 
 abbrev Used : List Item → Leaf → Type 0
@@ -124,11 +106,6 @@ own_used [] k d l = absurd (omega (arith, l))
 own_used (leaf.Atom f os p ∷ ls) zero d l = tt
 own_used (leaf.Typed n o p ∷ ls) zero d l = rw (eq-eqb n n refl) refl
 own_used (x ∷ ls) (suc k) d l = wider (map leaf_item ls) (leaf_item x ∷ map leaf_item ls) _ (λ n e. used_right n (leaf_item x ∷ []) (map leaf_item ls) e) (own_used ls k d (omega (arith, l)))
-
-all_both : {A : Type 0} (P : A → Type 0) (xs ys : List A) → All P xs → All P ys → All P (xs ++ ys)
-all_both P [] ys a b i d l = b i d l
-all_both P (x ∷ xs) ys a b zero d l = a zero d (omega arith)
-all_both P (x ∷ xs) ys a b (suc i) d l = all_both P xs ys (all_right P (x ∷ []) xs a) b i d (omega (arith, l))
 
 mutual
   head_used : (hd : Head) → All (Used (head_uses hd)) (head_leaves hd)
@@ -149,25 +126,8 @@ mutual
 level_used : (l : Level) → All (Used (base.items_of l)) (leaves_of l)
 level_used l = subst (λ is. All (Used is) (leaves_of l)) (sym (same_uses l)) (subst (All (Used (head_uses (head_at l)))) (sym (same_leaves l)) (head_used (head_at l)))
 
-typed_in_head : (kind : ℕ → TypeKind) (l : Level) (i : ℕ) (u : HeadTyped) → slice_get (typed_contexts_of (items_of kind l)) i ≡ Some u → in_head l u.name ≡ true
+typed_in_head : (kind : ℕ → TypeKind) (l : Level) (i : ℕ) (u : HeadTyped) → slice_get (typed_contexts_of (items_of_head kind l)) i ≡ Some u → in_head l u.name ≡ true
 typed_in_head kind l i u k = (typed_holds (Used (base.items_of l)) kind l (level_used l) i u (subst (λ xs. slice_get (typed_contexts_of xs) i ≡ Some u) (items_flat kind l) k)).holds
-
--- ---- integers are ground
-
-one_ground : (a : tree.Label) (z : ℕ) → IsGround (record { process = atom a (z ∷ []); root = z })
-one_ground a z = record {
-  only_atoms = tt;
-  root_is_free = (let u = same_one z z refl in omega (arith, u));
-  nothing_else_free = λ x f. elim (cases_eq x z) [ inl e ↦ e | inr n ↦ (let u = apart_none x z n in absurd (omega (arith, f, u))) ];
-  connected = λ k. reach k;
-}
-  where
-    reach : {b : tree.Label} {ys : List ℕ} → Among {A = tree.Label × List ℕ} (b, ys) ((a, z ∷ []) ∷ []) → (x : ℕ) × (Among x ys) × Reached (record { process = atom a (z ∷ []); root = z }) x
-    reach at_head = (z, at_head, the_root)
-    reach (further k) = elim k [ ]
-
-integer_ground : {n : ℤ} {g : Rooted} → IsInteger n g → IsGround g
-integer_ground (an_integer {n = n} {x = x}) = one_ground (tree.integer n) x
 
 -- ---- conditions
 
@@ -192,7 +152,7 @@ module _ (names : List tree.Name) (heads : List tree.Name) (t : Assignment) (top
         | inr a ↦ used_value r w.1 w.3 a
       ]
 
-  holds_kind : (k : TypeKind) (u : CtxUse) → Holds heads t (kind_of names (type_name k) (u ∷ [])) → IsOf k (t.typed_of (name_of names u.name))
+  holds_kind : (k : TypeKind) (u : CtxUse) → Holds heads t (kind_of names (type_name k) (u ∷ [])) → IsOfTypeKind k (t.typed_of (name_of names u.name))
   holds_kind Int u (of_kind k) = k
   holds_kind Unary u (of_kind k) = k
   holds_kind Ground u (of_kind k) = k
@@ -200,10 +160,10 @@ module _ (names : List tree.Name) (heads : List tree.Name) (t : Assignment) (top
   not_unknown : {n : tree.Name} {ps : List tree.Name} → Holds heads t (tree.unknown n ps) → ⊥
   not_unknown h = elim h [ ]
 
-  kind_asked : (k : TypeKind) (n : ℕ) (us : List CtxUse) → Holds heads t (kind_of names n us) → n ≡ type_name k → has_use x (map (used form.Typed) us) ≡ true → IsOf k (t.typed_of (name_of names x))
+  kind_asked : (k : TypeKind) (n : ℕ) (us : List CtxUse) → Holds heads t (kind_of names n us) → n ≡ type_name k → has_use x (map (used form.Typed) us) ≡ true → IsOfTypeKind k (t.typed_of (name_of names x))
   kind_asked k n [] h e u = absurd (cc)
   kind_asked k n (c ∷ (d ∷ us)) h e u = absurd (not_unknown h)
-  kind_asked k n (c ∷ []) h e u = subst (λ y. IsOf k (t.typed_of (name_of names y))) (used_one x c u) (holds_kind k c (subst (λ m. Holds heads t (kind_of names m (c ∷ []))) e h))
+  kind_asked k n (c ∷ []) h e u = subst (λ y. IsOfTypeKind k (t.typed_of (name_of names y))) (used_one x c u) (holds_kind k c (subst (λ m. Holds heads t (kind_of names m (c ∷ []))) e h))
 
   -- `$x = E` binds a context that isn't in the head, or compares two of the head
   data EquatesHolds (p : tree.Name) (E : tree.Expression) : Type 0 where
@@ -234,7 +194,7 @@ module _ (names : List tree.Name) (heads : List tree.Name) (t : Assignment) (top
   alone_used (variant.Op' o p l i r) q w u = absurd (let y = sym (operation_tree names o p l i r) ∙ w in cc)
 
   -- what a condition that holds asks of a context of the head
-  asked_one : (k : TypeKind) (c : Cond) → Holds heads t (condition_of names c) → All (λ i. i < length names) (condition_names c) → asks top k x c ≡ true → IsOf k (t.typed_of (name_of names x))
+  asked_one : (k : TypeKind) (c : Cond) → Holds heads t (condition_of names c) → All (λ i. i < length names) (condition_names c) → asks top k x c ≡ true → IsOfTypeKind k (t.typed_of (name_of names x))
   asked_one k (Kind n us q) h known e = let w = and_both (n == type_name k) (has_use x (map (used form.Typed) us)) e in kind_asked k n us h (eqb-true n (type_name k) w.0) w.1
   asked_one Int (Compare op l r q) h known e =
       let w = holds_compares h in
@@ -254,7 +214,7 @@ module _ (names : List tree.Name) (heads : List tree.Name) (t : Assignment) (top
     where
       by : (has_use x (used form.Typed l ∷ []) ≡ true) ⊎ (has_use x (expression_items r) ≡ true) → EquatesHolds (name_of names l.name) (expression_of names r) → IsGround (t.typed_of (name_of names x))
       by (inl u) (holds_bound a n v) = absurd (a (subst (λ y. Among (name_of names y) heads) (sym (used_one x l u)) here))
-      by (inr u) (holds_bound a n v) = integer_ground (used_value r n v u).1
+      by (inr u) (holds_bound a n v) = integer_ground _ _ (used_value r n v u).1
       by (inl u) (holds_same p s a g k) = subst (λ y. IsGround (t.typed_of (name_of names y))) (used_one x l u) g
       by (inr u) (holds_same p s a g k) = subst (λ y. IsGround (t.typed_of y)) (alone_used r p s u) k
   asked_one Int (Differ l r q) h known e = absurd (cc)
@@ -266,7 +226,7 @@ module _ (names : List tree.Name) (heads : List tree.Name) (t : Assignment) (top
         | inr u ↦ subst (λ y. IsGround (t.typed_of (name_of names y))) (used_one x r u) w.1
       ]
 
-  asked_some : (k : TypeKind) (cs : List Cond) → GuardHolds heads t (map (condition_of names) cs) → All (λ c. All (λ i. i < length names) (condition_names c)) cs → list_any (asks top k x) cs ≡ true → IsOf k (t.typed_of (name_of names x))
+  asked_some : (k : TypeKind) (cs : List Cond) → GuardHolds heads t (map (condition_of names) cs) → All (λ c. All (λ i. i < length names) (condition_names c)) cs → list_any (asks top k x) cs ≡ true → IsOfTypeKind k (t.typed_of (name_of names x))
   asked_some k [] h known e = absurd (cc)
   asked_some k (c ∷ cs) h known e =
       let w = holds_both h in
@@ -286,11 +246,11 @@ type_asked f k e = by (f Int) (f Unary) (f Ground) refl refl refl e
     by false false false p q r e = absurd (cc)
 
 -- where the guard holds, each typed context is of the kind that the guard gives it
-pub kinds_are_asked : (r : Reading) (kind : ℕ → TypeKind) (rule : RuleTree) → IsRule r rule → IsNames r.names → HasTypes kind rule → (t : Assignment) →
+pub kinds_are_asked : (r : HeapReading) (kind : ℕ → TypeKind) (rule : RuleTree) → IsRule r rule → IsNames r.names → HasTypes kind rule → (t : Assignment) →
     GuardHolds (typed_contexts (tree.head_of (rule_tree r.names r.rule rule))) t (tree.guard_of (rule_tree r.names r.rule rule)) → HasKinds r kind rule t.typed_of
 kinds_are_asked r kind rule is_rule names types t holds n u k =
     let heads = typed_contexts (tree.head_of (rule_tree r.names r.rule rule)) in
-    let ts = typed_contexts_of (items_of kind rule.head) in
+    let ts = typed_contexts_of (items_of_head kind rule.head) in
     let same = heads_are r kind rule is_rule in
     asked_some r.names heads t rule.head u.name (subst (Among (name_of r.names u.name)) same (among_of r.names ts n u k))
     (λ y ky a.

@@ -8,25 +8,24 @@ use Rattle.lmn_base.specs.declared.functor.Label.{Label}
 use Rattle.lmn_base.specs.declared.functor.Label.TheVariants.{Name as ByName, Int as ByInt}
 use Rattle.lmn_guards.specs.declared.plan.TypeKind.{TypeKind}
 use Rattle.lmn_heap.specs.Heap.{Heap, atoms_in, mems_in, rules_in, arity_of, link_of}
-use Rattle.lmn_heap.specs.Lists.{Each, In, Distinct}
+use Rattle.lmn_heap.specs.Lists.{Each, In, Distinct, without_all}
 use Rattle.lmn_heap.specs.Conditions.{Above}
 use Rattle.lmn_heap.specs.Sound.{Forest, bare, mem, flat, Valid}
 use Rattle.lmn_heap.proofs.ListLemmas.{each_in, each_of, in_right, distinct_left, distinct_right}
 use Rattle.lmn_solid.specs.declared.items.HeadItem.{HeadItem}
 use Rattle.lmn_solid.specs.Flattening.{leaf_items}
-use Rattle.lmn_solid.specs.Heads.{HeadAtom, HeadTyped, HeadMembrane, Port, membranes_of, inside_of, outermost, links_of, times}
-use Rattle.lmn_solid.specs.Embeddings.{Images, IsWithin, partner}
+use Rattle.lmn_solid.specs.Heads.{HeadAtom, HeadTyped, HeadMembrane, membranes_of, inside_of, outermost, links_of_head, times}
+use Rattle.lmn_solid.specs.Embeddings.{Images, StandsWithin, partner}
 use Rattle.lmn_congruence.specs.Links.{places}
 use Rattle.lmn_congruence.specs.LinkedRules.{leaf_occurrences, leaves_occurrences, level_occurrences, levels_occurrences}
 use Rattle.lmn_congruence.specs.Rules as tree
 use Rattle.lmn_reduction.specs.Parts.{Rooted, IsGround}
-use Rattle.lmn_congruence.specs.Translation.{name_of, label_of, leaf_of, atom_of, names_of, rules}
-use Rattle.lmn_adequacy.specs.Accepted.{EachLevel, EachOf, NoConnectorLeaf, leaves_of, own_contexts, own_rule_contexts}
+use Rattle.lmn_congruence.specs.Translation.{name_of, label_of, leaf_of, atom_or_connector, names_of, rules}
+use Rattle.lmn_adequacy.specs.Accepted.{EachLevel, EachOf, NoConnectorLeaf, own_leaves, own_contexts, own_rule_contexts}
 use Rattle.lmn_heap.specs.Solid.{IsNaming}
-use Rattle.lmn_bridge.specs.HeapRegions.{Reading}
+use Rattle.lmn_bridge.specs.HeapRegions.{HeapReading}
 use Rattle.lmn_bridge.proofs.Pieces.{atom_at, numbers}
-use Rattle.lmn_bridge.specs.Numbers.{without_all}
-use Rattle.lmn_bridge.proofs.Counting.{weigh, weigh_same, places_both, apart_none, times_at, tree_atoms, ends_among}
+use Rattle.lmn_bridge.proofs.Counting.{weigh_same, times_at, tree_atoms, ends_among}
 use Rattle.lmn_solid.proofs.HeadTrees.{Head, Heads, head, no_head, head_and, size, flat_items, flat_membranes, has_context, has_rule_context}
 use Rattle.lmn_bridge.proofs.HeadTrees.{tree_of, trees_of}
 use Rattle.lmn_bridge.proofs.Lying.{FitLeaves, fit_none, fit_atom, fit_typed, TakenTree, Lies, lies, LiesIn, lies_none, lies_and}
@@ -34,17 +33,22 @@ use Rattle.lmn_bridge.proofs.Walking.{Walk, walk_split, run, run_both, atoms_in_
 use Rattle.lmn_bridge.proofs.Forests.{tops, Grown, pick, taken_grown, taken_distinct, taken_others, find_in, some_of, tree_within, distinct_of, tree_once, each_tree}
 use Rattle.lmn_heap.proofs.Heights.{parent_is, climbs_both}
 use Rattle.lmn_bridge.proofs.PartsOut.{flattened, parts_both, places_parts}
-use Rattle.lmn_bridge.proofs.PartsLaid.{GivenParts, given_none, given_atom, given_typed, lay_parts, in_either}
-use Rattle.lmn_bridge.proofs.Read.{distinct_left_over}
+use Rattle.lmn_bridge.proofs.PartsLaid.{GivenParts, given_none, given_atom, given_typed, lay_parts}
 use Rattle.lmn_bridge.proofs.Weighing.{weigh_left}
 use Rattle.lmn_congruence.specs.Links.{one_if_same}
 use Rattle.lmn_adequacy.specs.Embedding.{IsPart}
 use Rattle.lmn_bridge.proofs.Ports.{find_place, get_map, port_named, Outer, outer_top, outer_in, outermost_is}
+use Rattle.lmn_base.specs.Graphs.{Port}
+use Rattle.lmn_base.proofs.Lists.{weigh}
+use Rattle.lmn_congruence.proofs.Counts.{none_if_apart as apart_none}
+use Rattle.lmn_congruence.proofs.TranslatedLinks.{places_append as places_both}
+use Rattle.lmn_heap.proofs.Trees.{in_either}
+use Rattle.lmn_heap.proofs.Listing.{distinct_without_all}
 
 -- ---- leaves as trees
 
 -- an atom of a head is read as an atom or as a connector
-pub atom_cases : (names : List tree.Name) (l : Label) (ys : List ℕ) → (atom_of names l ys ≡ tree.atom_leaf (label_of names l) ys) ⊎ ((x : ℕ) × (y : ℕ) × (atom_of names l ys ≡ tree.connector_leaf x y))
+pub atom_cases : (names : List tree.Name) (l : Label) (ys : List ℕ) → (atom_or_connector names l ys ≡ tree.atom_leaf (label_of names l) ys) ⊎ ((x : ℕ) × (y : ℕ) × (atom_or_connector names l ys ≡ tree.connector_leaf x y))
 atom_cases names (ByName zero) [] = inl refl
 atom_cases names (ByName zero) (a ∷ []) = inl refl
 atom_cases names (ByName zero) (a ∷ (b ∷ [])) = inr (a, b, refl)
@@ -53,7 +57,7 @@ atom_cases names (ByName (suc n)) ys = inl refl
 atom_cases names (ByInt z) ys = inl refl
 
 -- in a head without connectors it is an atom
-pub only_atom : (names : List tree.Name) (l : Label) (ys : List ℕ) (ls : List tree.Leaf) → NoConnectorLeaf (atom_of names l ys ∷ ls) → (atom_of names l ys ≡ tree.atom_leaf (label_of names l) ys) × NoConnectorLeaf ls
+pub only_atom : (names : List tree.Name) (l : Label) (ys : List ℕ) (ls : List tree.Leaf) → NoConnectorLeaf (atom_or_connector names l ys ∷ ls) → (atom_or_connector names l ys ≡ tree.atom_leaf (label_of names l) ys) × NoConnectorLeaf ls
 only_atom names l ys ls o = elim (atom_cases names l ys) [
   | inl e ↦ (e, subst (λ z. NoConnectorLeaf (z ∷ ls)) e o)
   | inr e ↦ absurd (subst (λ z. NoConnectorLeaf (z ∷ ls)) e.2 o)
@@ -61,7 +65,7 @@ only_atom names l ys ls o = elim (atom_cases names l ys) [
 
 -- ---- what holds of each item
 
-module _ (h : Heap) (r : Reading) (f : Images) (part_at : ℕ → List ℕ) (link_of' : ℕ → ℕ) (typed_of : tree.Name → Rooted) (items : List HeadItem) where
+module _ (h : Heap) (r : HeapReading) (f : Images) (part_at : ℕ → List ℕ) (link_of' : ℕ → ℕ) (typed_of : tree.Name → Rooted) (items : List HeadItem) where
   -- the images of all atoms
   abbrev pub all_atoms : List ℕ
   all_atoms = run f.atom 0 (atoms_in_items items)
@@ -76,14 +80,14 @@ module _ (h : Heap) (r : Reading) (f : Images) (part_at : ℕ → List ℕ) (lin
 
   -- how often a link stands in the head
   abbrev pub total : ℕ → ℕ
-  total x = times x (links_of items)
+  total x = times x (links_of_head items)
 
   -- the image of an atom of the head
   pub record AtomLies (n : ℕ) (a : HeadAtom) : Type 0 where
     pub is : atom_at h r (f.atom n) ≡ record { label = label_of r.names a.functor.label; links = map link_of' a.links }
     pub placed : In (f.atom n) (atoms_in h (f.membrane a.inside))
     pub outside : (i x : ℕ) (p : Port) → slice_get a.links i ≡ Some x → total x ≡ 1 → a.inside ≢ 0 → partner h (f.atom n, i) ≡ Some p →
-        IsWithin h p.0 (f.membrane (outermost (membranes_of items) a.inside)) → ⊥
+        StandsWithin h p.0 (f.membrane (outermost (membranes_of items) a.inside)) → ⊥
 
   -- the image of a membrane of the head
   pub record MembraneLies (k : ℕ) (n : HeadMembrane) : Type 0 where
@@ -130,7 +134,7 @@ module _ (h : Heap) (r : Reading) (f : Images) (part_at : ℕ → List ℕ) (lin
     pub inside : atom.inside ≢ 0
     pub outer : outermost (membranes_of items) atom.inside ≡ top
 
-module _ (h : Heap) (v : Valid h) (r : Reading) (naming : IsNaming h r.name) (f : Images) (part_at : ℕ → List ℕ) (link_of' : ℕ → ℕ) (typed_of : tree.Name → Rooted) (items : List HeadItem) (kind : ℕ → TypeKind) where
+module _ (h : Heap) (v : Valid h) (r : HeapReading) (naming : IsNaming h r.name) (f : Images) (part_at : ℕ → List ℕ) (link_of' : ℕ → ℕ) (typed_of : tree.Name → Rooted) (items : List HeadItem) (kind : ℕ → TypeKind) where
   abbrev Items : ℕ → ℕ → ℕ → List HeadItem → Type 0
   Items = Stands h r f part_at link_of' typed_of items
 
@@ -173,7 +177,7 @@ module _ (h : Heap) (v : Valid h) (r : Reading) (naming : IsNaming h r.name) (f 
   leaf_holds x cur n t k top b (leaf.Atom fu os p ∷ ls) o w d one =
       let ys = map (λ o. o.link) os in
       let e = only_atom r.names fu.label ys (map (leaf_of r.names) ls) o in
-      let q : leaf_occurrences x (atom_of r.names fu.label ys) ≡ places x ys = ap (leaf_occurrences x) e.0 in
+      let q : leaf_occurrences x (atom_or_connector r.names fu.label ys) ≡ places x ys = ap (leaf_occurrences x) e.0 in
       elim (cases_eq (places x ys) 0) [
         | inl z ↦ leaf_holds x cur (n + 1) t k top b ls e.1 w.1 (λ s. d (omega (arith, q, z, s))) one
         | inr z ↦ (let u = find_place x ys z in
@@ -190,7 +194,7 @@ module _ (h : Heap) (v : Valid h) (r : Reading) (naming : IsNaming h r.name) (f 
       ]
 
   mutual
-    level_holds : (x cur next n t : ℕ) (top : ℕ) → Below h r f part_at link_of' typed_of items cur top → cur < next → (hd : Head) → EachLevel (λ l. NoConnectorLeaf (leaves_of l)) (Tree hd) → Items n t next (flat_items kind cur next hd) →
+    level_holds : (x cur next n t : ℕ) (top : ℕ) → Below h r f part_at link_of' typed_of items cur top → cur < next → (hd : Head) → EachLevel (λ l. NoConnectorLeaf (own_leaves l)) (Tree hd) → Items n t next (flat_items kind cur next hd) →
         level_occurrences x (Tree hd) ≢ 0 → total h r f part_at link_of' typed_of items x ≡ 1 → Holding h r f part_at link_of' typed_of items x top
     level_holds x cur next n t top b l (head leaves hs cs rcs rs) o w d one =
         let z = walk_split (AtomLies h r f part_at link_of' typed_of items) (TypedLies h r f part_at link_of' typed_of items) (MembraneLies h r f part_at link_of' typed_of items) (leaf_items kind cur leaves) (flat_membranes kind cur next hs) n t next w in
@@ -201,7 +205,7 @@ module _ (h : Heap) (v : Valid h) (r : Reading) (naming : IsNaming h r.name) (f 
           | inr e ↦ leaf_holds x cur n t next top b leaves o.0 z.0 e one
         ]
 
-    membranes_hold : (x cur next n t : ℕ) (top : ℕ) → Below h r f part_at link_of' typed_of items cur top → cur < next → (hs : Heads) → EachOf (λ l. NoConnectorLeaf (leaves_of l)) (Trees hs) → Items n t next (flat_membranes kind cur next hs) →
+    membranes_hold : (x cur next n t : ℕ) (top : ℕ) → Below h r f part_at link_of' typed_of items cur top → cur < next → (hs : Heads) → EachOf (λ l. NoConnectorLeaf (own_leaves l)) (Trees hs) → Items n t next (flat_membranes kind cur next hs) →
         levels_occurrences x (Trees hs) ≢ 0 → total h r f part_at link_of' typed_of items x ≡ 1 → Holding h r f part_at link_of' typed_of items x top
     membranes_hold x cur next n t top b l no_head o w d one = absurd (d refl)
     membranes_hold x cur next n t top b l (head_and hd hs) o w d one =
@@ -246,7 +250,7 @@ module _ (h : Heap) (v : Valid h) (r : Reading) (naming : IsNaming h r.name) (f 
           let X = tree_atoms h M i in
           let w = ends_among h r v naming a k.index c.0 c.1 p.1 q X (each_tree h v M i) in
           let once : (z : ℕ) → places z X ≤ 1 = λ z. tree_once h v M i d z in
-          let out : In c.0 X → ⊥ = λ j. k.lies.outside k.index x c k.has one k.inside q (subst (λ z. IsWithin h c.0 (f.membrane z)) (sym k.outer)
+          let out : In c.0 X → ⊥ = λ j. k.lies.outside k.index x c k.has one k.inside q (subst (λ z. StandsWithin h c.0 (f.membrane z)) (sym k.outer)
           (let y = tree_within h v M i e g c.0 j in (y.0, y.1 + b.height, y.2, climbs_both h y.1 b.height (f.membrane top) M y.0 y.3 b.above))) in
           rw (← p.0) (elim (cases_eq (places c.0 X) 0) [
             | inl z ↦ omega (arith, w, z, once a)
@@ -358,7 +362,7 @@ module _ (h : Heap) (v : Valid h) (r : Reading) (naming : IsNaming h r.name) (f 
 
   mutual
     -- items that stand in a heap lie in its lists
-    pub lay_level : (cur next n t : ℕ) (hd : Head) (F : Forest) → Within cur → cur < next → EachLevel (λ l. NoConnectorLeaf (leaves_of l)) (Tree hd) → Items n t next (flat_items kind cur next hd) →
+    pub lay_level : (cur next n t : ℕ) (hd : Head) (F : Forest) → Within cur → cur < next → EachLevel (λ l. NoConnectorLeaf (own_leaves l)) (Tree hd) → Items n t next (flat_items kind cur next hd) →
         Once (run f.atom n (atoms_in_items (flat_items kind cur next hd))) (run part_at t (typed_in_items (flat_items kind cur next hd))) → Distinct (run f.membrane next (membranes_in_items (flat_items kind cur next hd))) →
         tops F ≡ mems_in h (f.membrane cur) → Grown h F → Distinct (flat F) → LaidLevel cur next n t hd F
     lay_level cur next n t (head leaves hs cs rcs rs) F b l o w da dm e g df =
@@ -382,7 +386,7 @@ module _ (h : Heap) (v : Valid h) (r : Reading) (naming : IsNaming h r.name) (f 
         (tops_in cur next (n + atoms_in_items first) (t + typed_in_items first) hs F w' e) g df in
         let X = atoms_in h (f.membrane cur) in
         let once : Distinct as1 = distinct_of as1 (λ b. let s = d2.0 b in omega (arith, s)) in
-        let P = lay_parts (atom_at h r) link_of' typed_of (without_all as1 X) fit.2 (distinct_left_over as1 X (v.sound.listed.atoms_once (f.membrane cur)))
+        let P = lay_parts (atom_at h r) link_of' typed_of (without_all as1 X) fit.2 (distinct_without_all as1 X (v.sound.listed.atoms_once (f.membrane cur)))
         (distinct_of (flattened ps1) (λ b. let s = d2.0 b in omega (arith, s)))
         (λ b i. in_left_over b as1 X once fit.1 (let s = d2.0 b in omega (arith, s, some_of b (flattened ps1) i)) (fit.3 b i)) in
         let it = lies {contexts = names_of r.names cs} {rule_contexts = names_of r.names rcs} {rules = rules (map r.rule rs)} fit.0 once fit.1 P.out more.lying in
@@ -401,7 +405,7 @@ module _ (h : Heap) (v : Valid h) (r : Reading) (naming : IsNaming h r.name) (f 
         }
 
     -- and so do membranes
-    pub lay_membranes : (cur next n t : ℕ) (hs : Heads) (F : Forest) → Within cur → cur < next → EachOf (λ l. NoConnectorLeaf (leaves_of l)) (Trees hs) → Items n t next (flat_membranes kind cur next hs) →
+    pub lay_membranes : (cur next n t : ℕ) (hs : Heads) (F : Forest) → Within cur → cur < next → EachOf (λ l. NoConnectorLeaf (own_leaves l)) (Trees hs) → Items n t next (flat_membranes kind cur next hs) →
         Once (run f.atom n (atoms_in_items (flat_membranes kind cur next hs))) (run part_at t (typed_in_items (flat_membranes kind cur next hs))) → Distinct (run f.membrane next (membranes_in_items (flat_membranes kind cur next hs))) →
         TopsIn next hs F → Grown h F → Distinct (flat F) → LaidMembranes cur next n t hs F
     lay_membranes cur next n t no_head F b l o w da dm tp g df = record { places = []; left_forest = F; parts = []; same = λ w. refl; lying = lies_none }

@@ -10,8 +10,8 @@ use Rattle.lmn_solid.specs.Flattening.{leaf_items}
 use Rattle.lmn_congruence.specs.Rules as tree
 use Rattle.lmn_congruence.specs.Translation.{leaf_of}
 use Rattle.lmn_reduction.specs.Parts.{Rooted}
-use Rattle.lmn_adequacy.specs.Accepted.{NoConnectorLeaf, EachLevel, EachOf, leaves_of}
-use Rattle.lmn_bridge.specs.HeapRegions.{Reading}
+use Rattle.lmn_adequacy.specs.Accepted.{NoConnectorLeaf, EachLevel, EachOf, own_leaves}
+use Rattle.lmn_bridge.specs.HeapRegions.{HeapReading}
 use Rattle.lmn_bridge.proofs.Pieces.{atom_at}
 use Rattle.lmn_solid.proofs.HeadTrees.{Head, Heads, head, no_head, head_and, size, flat_items, flat_membranes}
 use Rattle.lmn_bridge.proofs.HeadTrees.{tree_of, trees_of}
@@ -21,7 +21,7 @@ use Rattle.lmn_bridge.proofs.Laying.{only_atom}
 use Rattle.lmn_bridge.proofs.Back.{fit_one}
 use Rattle.lmn_bridge.proofs.PartsOut.{PartsOut, parts_none, parts_typed, out_rest}
 
-module _ (h : Heap) (r : Reading) (link_of' : ℕ → ℕ) (typed_of : tree.Name → Rooted) (Q : tree.Level → ℕ → List ℕ → Forest → Forest → Type 0) (kind : ℕ → TypeKind) where
+module _ (h : Heap) (r : HeapReading) (link_of' : ℕ → ℕ) (typed_of : tree.Name → Rooted) (Q : tree.Level → ℕ → List ℕ → Forest → Forest → Type 0) (kind : ℕ → TypeKind) where
   -- each atom has one image
   pub leaf_length : (cur : ℕ) (ls : List Leaf) (bs : List ℕ) → NoConnectorLeaf (map (leaf_of r.names) ls) → FitLeaves (atom_at h r) link_of' (map (leaf_of r.names) ls) bs → length bs ≡ atoms_in_items (leaf_items kind cur ls)
   leaf_length cur [] bs o fit_none = refl
@@ -41,7 +41,7 @@ module _ (h : Heap) (r : Reading) (link_of' : ℕ → ℕ) (typed_of : tree.Name
 
   mutual
     -- a level has as many images and parts as items
-    pub level_length : (cur next : ℕ) (hd : Head) {bs ms ns xs rest : List ℕ} {ps : List (List ℕ)} {F F' : Forest} → EachLevel (λ l. NoConnectorLeaf (leaves_of l)) (tree_of r.names r.rule hd) → Lies h r link_of' typed_of Q (tree_of r.names r.rule hd) bs ps ms ns xs rest F F' →
+    pub level_length : (cur next : ℕ) (hd : Head) {bs ms ns xs rest : List ℕ} {ps : List (List ℕ)} {F F' : Forest} → EachLevel (λ l. NoConnectorLeaf (own_leaves l)) (tree_of r.names r.rule hd) → Lies h r link_of' typed_of Q (tree_of r.names r.rule hd) bs ps ms ns xs rest F F' →
         (length bs ≡ atoms_in_items (flat_items kind cur next hd)) × (length ms ≡ membranes_in_items (flat_items kind cur next hd)) × (length ps ≡ typed_in_items (flat_items kind cur next hd))
     level_length cur next (head leaves hs cs rcs rs) o (lies {bs = bs} {as' = as'} {parts = parts} {ps = ps} fit d e out k) =
         let u = membranes_length cur next hs o.1 k in
@@ -52,7 +52,7 @@ module _ (h : Heap) (r : Reading) (link_of' : ℕ → ℕ) (typed_of : tree.Name
         (omega (arith, u.0, w, length-append bs as', atoms_both first behind), omega (arith, u.1, membranes_both first behind, no_leaf_membrane kind cur leaves), omega (arith, u.2, y, length-append parts ps, typed_both first behind))
 
     -- and so have membranes
-    pub membranes_length : (cur next : ℕ) (hs : Heads) {bs ms ns : List ℕ} {ps : List (List ℕ)} {F F' : Forest} → EachOf (λ l. NoConnectorLeaf (leaves_of l)) (trees_of r.names r.rule hs) → LiesIn h r link_of' typed_of Q (trees_of r.names r.rule hs) bs ps ms ns F F' →
+    pub membranes_length : (cur next : ℕ) (hs : Heads) {bs ms ns : List ℕ} {ps : List (List ℕ)} {F F' : Forest} → EachOf (λ l. NoConnectorLeaf (own_leaves l)) (trees_of r.names r.rule hs) → LiesIn h r link_of' typed_of Q (trees_of r.names r.rule hs) bs ps ms ns F F' →
         (length bs ≡ atoms_in_items (flat_membranes kind cur next hs)) × (length ms ≡ membranes_in_items (flat_membranes kind cur next hs)) × (length ps ≡ typed_in_items (flat_membranes kind cur next hs))
     membranes_length cur next no_head o lies_none = (refl, refl, refl)
     membranes_length cur next (head_and hd hs) o (lies_and {as' = as'} {ps = ps} {ms = ms} {bs = bs} {qs = qs} {ks = ks} k d q more) =

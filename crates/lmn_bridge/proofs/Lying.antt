@@ -1,7 +1,7 @@
 -- A level of a head lies in lists of atoms and in a forest of a heap, by their numbers.
 use Rattle.std.proofs.Common.{ℕ, suc, ◌≡◌, ◌≢◌, List, [], ◌∷◌, ◌++◌, map, sym, subst}
 use Rattle.lmn_heap.specs.Heap.{Heap, atoms_in, rules_in}
-use Rattle.lmn_heap.specs.Lists.{Each, In, Distinct, without}
+use Rattle.lmn_heap.specs.Lists.{Each, In, Distinct, without, without_all}
 use Rattle.lmn_heap.specs.Sound.{Forest, mem, Valid}
 use Rattle.lmn_congruence.specs.Process.{Process}
 use Rattle.lmn_congruence.specs.Regions.{SolidAtom, Region, region, region_process}
@@ -12,9 +12,8 @@ use Rattle.lmn_reduction.specs.Parts.{Rooted}
 use Rattle.lmn_heap.proofs.ListLemmas.{in_without}
 use Rattle.lmn_solid.specs.Embeddings.{index_of}
 use Rattle.lmn_adequacy.specs.Embedding.{Taken, AtomImages, no_image, image_and, typed_later, LevelImages, level_images, MembraneImages, no_membrane_image, membrane_image_and, TakenRegion, region_first, region_later, KeepsLinks, filling}
-use Rattle.lmn_bridge.specs.HeapRegions.{Reading, regions_at, region_at}
+use Rattle.lmn_bridge.specs.HeapRegions.{HeapReading, regions_at, region_at}
 use Rattle.lmn_bridge.proofs.Pieces.{atom_at, atoms_each, numbers, taken_in}
-use Rattle.lmn_bridge.specs.Numbers.{without_all}
 use Rattle.lmn_bridge.proofs.Counting.{list_atoms}
 use Rattle.lmn_bridge.proofs.PartsOut.{PartsOut, parts_of_leaves}
 
@@ -34,14 +33,14 @@ pub data TakenTree : ℕ → ℕ → Forest → Forest → Forest → Type 0 whe
 -- the numbers of their places, and what is left of list and forest. Q is what else holds of each membrane: of its level, its
 -- number, the atoms that are left, and the forest in it before and after.
 mutual
-  pub data Lies (h : Heap) (r : Reading) (link_of : ℕ → ℕ) (typed_of : Name → Rooted) (Q : Level → ℕ → List ℕ → Forest → Forest → Type 0) : Level → List ℕ → List (List ℕ) → List ℕ → List ℕ → List ℕ → List ℕ → Forest → Forest → Type 0 where
+  pub data Lies (h : Heap) (r : HeapReading) (link_of : ℕ → ℕ) (typed_of : Name → Rooted) (Q : Level → ℕ → List ℕ → Forest → Forest → Type 0) : Level → List ℕ → List (List ℕ) → List ℕ → List ℕ → List ℕ → List ℕ → Forest → Forest → Type 0 where
     lies : {leaves : List Leaf} {membranes : Levels} {contexts rule_contexts : List Name} {rules : Rules}
         {bs as' ms ns xs rest : List ℕ} {parts ps : List (List ℕ)} {f f' : Forest} →
         FitLeaves (atom_at h r) link_of leaves bs → Distinct bs → Each (λ b. In b xs) bs → PartsOut (atom_at h r) link_of typed_of leaves parts (without_all bs xs) rest →
         LiesIn h r link_of typed_of Q membranes as' ps ms ns f f' →
         Lies h r link_of typed_of Q (level leaves membranes contexts rule_contexts rules) (bs ++ as') (parts ++ ps) ms (numbers bs xs ++ ns) xs rest f f'
 
-  pub data LiesIn (h : Heap) (r : Reading) (link_of : ℕ → ℕ) (typed_of : Name → Rooted) (Q : Level → ℕ → List ℕ → Forest → Forest → Type 0) : Levels → List ℕ → List (List ℕ) → List ℕ → List ℕ → Forest → Forest → Type 0 where
+  pub data LiesIn (h : Heap) (r : HeapReading) (link_of : ℕ → ℕ) (typed_of : Name → Rooted) (Q : Level → ℕ → List ℕ → Forest → Forest → Type 0) : Levels → List ℕ → List (List ℕ) → List ℕ → List ℕ → Forest → Forest → Type 0 where
     lies_none : {f : Forest} → LiesIn h r link_of typed_of Q no_level [] [] [] [] f f
     lies_and : {l : Level} {ls : Levels} {n m : ℕ}
         {as' : List ℕ} {ps : List (List ℕ)} {ms ns bs : List ℕ} {qs : List (List ℕ)} {ks ns' xs : List ℕ} {f f' f'' i i' : Forest} →
@@ -51,7 +50,7 @@ mutual
         LiesIn h r link_of typed_of Q (level_and l ls) (as' ++ bs) (ps ++ qs) (m ∷ (ms ++ ks)) (n ∷ (ns ++ ns')) f f''
 
 -- what is left in the image of a membrane
-abbrev pub rest_at : Heap → Reading → ℕ → List ℕ → Forest → Region
+abbrev pub rest_at : Heap → HeapReading → ℕ → List ℕ → Forest → Region
 rest_at h r m xs i = region (map (atom_at h r) xs) (regions_at h r i) (map r.rule (rules_in h m))
 
 -- what the contexts and rules of a level stand for
@@ -59,7 +58,7 @@ abbrev pub fills : Assignment → Level → Process
 fills t (level leaves membranes contexts rule_contexts rules) = filling t contexts rule_contexts rules
 
 -- what the calculus asks of a membrane
-abbrev pub Kept : Heap → Reading → Assignment → Level → ℕ → List ℕ → Forest → Forest → Type 0
+abbrev pub Kept : Heap → HeapReading → Assignment → Level → ℕ → List ℕ → Forest → Forest → Type 0
 Kept h r t l m xs i i' = KeepsLinks t l (region_at h r m i) × Reordered (fills t l) (region_process (rest_at h r m xs i'))
 
 -- ---- so it lies in the region
@@ -82,11 +81,11 @@ each_without b xs [] u w = tt
 each_without b xs (c ∷ cs) u w = (in_without b c xs w.0 (λ q. u.0 (sym q)), each_without b xs cs u.1 w.1)
 
 -- a tree of a forest is a membrane of its region
-pub taken_region : (h : Heap) (r : Reading) {n m : ℕ} {i f f' : Forest} → TakenTree n m i f f' → TakenRegion n (region_at h r m i) (regions_at h r f) (regions_at h r f')
+pub taken_region : (h : Heap) (r : HeapReading) {n m : ℕ} {i f f' : Forest} → TakenTree n m i f f' → TakenRegion n (region_at h r m i) (regions_at h r f) (regions_at h r f')
 taken_region h r tree_first = region_first
 taken_region h r (tree_later k) = region_later (taken_region h r k)
 
-module _ (h : Heap) (v : Valid h) (r : Reading) (t : Assignment) where
+module _ (h : Heap) (v : Valid h) (r : HeapReading) (t : Assignment) where
   mutual
     -- what lies in the lists of a heap lies in its region
     pub level_images_of : {l : Level} {as' ms ns xs rest : List ℕ} {ps : List (List ℕ)} {f f' : Forest} → Lies h r t.link_of t.typed_of (Kept h r t) l as' ps ms ns xs rest f f' → (rs : List Rule) →

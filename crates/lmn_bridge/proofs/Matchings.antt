@@ -2,10 +2,11 @@
 use Rattle.std.proofs.Common.{ℕ, ◌≡◌, ◌≢◌, ◌⊎◌, ◌==◌, cond, List, [], ◌∷◌, map, refl, sym, ap, subst, ◌∙◌, inl, inr}
 use Rattle.std.proofs.lemmas.Bool.{cases_eq, eq-eqb}
 use Rattle.lmn_heap.specs.Lists.{Each, In, Distinct, without}
-use Rattle.lmn_heap.proofs.ListLemmas.{apart_test, each_in, in_without}
+use Rattle.lmn_heap.proofs.ListLemmas.{each_in, in_without}
 use Rattle.lmn_heap.proofs.Listing.{in_without_of, distinct_without}
 use Rattle.lmn_congruence.specs.Orders.{Put, here, there, Shuffle, none, more}
 use Rattle.lmn_congruence.proofs.Solids.{put_map}
+use Rattle.lmn_base.proofs.Numbers.{not_equal as apart_test}
 
 put_without : (b : ℕ) (ys : List ℕ) → In b ys → Put b (without b ys) ys
 put_without b [] k = absurd k

@@ -1,67 +1,20 @@
 -- The number of a link may be the lesser of the numbers of its two ports.
-use Rattle.std.proofs.Common.{ℕ, zero, suc, ◌+◌, ◌<◌, ◌≤◌, ◌≡◌, ◌≢◌, ◌⊎◌, Option, Some, None, IsSome, refl, sym, ap, subst, ◌∙◌, inl, inr, arith}
+use Rattle.std.proofs.Common.{ℕ, ◌<◌, ◌≡◌, ◌⊎◌, Option, Some, None, IsSome, refl, sym, ap, ◌∙◌, inl, inr}
 use Rattle.std.specs.Prelude.{min}
-use Rattle.std.proofs.lemmas.Bool.{cases_eq, cases_lt}
 use Rattle.std.proofs.lemmas.Option.{same_Some}
-use Rattle.std.proofs.Math.Nat.{min-eq_left, min_comm}
+use Rattle.std.proofs.Math.Nat.{min_comm}
 use Rattle.lmn_heap.specs.Heap.{Heap, arity_of, link_of}
-use Rattle.lmn_solid.specs.Heads.{Port}
 use Rattle.lmn_bridge.specs.Laws.{HeapsAreNamed}
+use Rattle.lmn_base.specs.Graphs.{Port}
+use Rattle.lmn_base.proofs.Numbers.{min_is_one as one_of}
+use Rattle.lmn_base.proofs.Common.{port_number, port_of_number, lesser}
 
 -- ---- ports as numbers
 
-abbrev triangle : ℕ → ℕ
-triangle zero = 0
-triangle (suc n) = triangle n + suc n
-
-abbrev port_number : Port → ℕ
-port_number p = triangle (p.0 + p.1) + p.0
-
-triangle_less : (s t : ℕ) → s < t → triangle s + s < triangle t
-triangle_less s zero l = absurd (omega (arith, l))
-triangle_less s (suc t) l = elim (cases_eq s t) [
-  | inl e ↦ subst (λ z. triangle z + z < triangle t + suc t) (sym e) (omega arith)
-  | inr d ↦ (let i = triangle_less s t (less s t l d) in omega (arith, i))
-]
-  where
-    less : (s t : ℕ) → s < suc t → s ≢ t → s < t
-    less s t l d = omega (arith, l, d)
-
--- different ports have different numbers
-port_of_number : (p q : Port) → port_number p ≡ port_number q → p ≡ q
-port_of_number p q e = elim (cases_eq (p.0 + p.1) (q.0 + q.1)) [
-  | inl s ↦ (let first : p.0 ≡ q.0 = cancel p.0 q.0 (triangle (p.0 + p.1)) (triangle (q.0 + q.1)) (ap triangle s) e in
-      let second : p.1 ≡ q.1 = omega (arith, first, s) in
-      λ i. (first i, second i))
-  | inr d ↦ elim (cases_lt (p.0 + p.1) (q.0 + q.1)) [
-    | inl l ↦ (let t = triangle_less (p.0 + p.1) (q.0 + q.1) l in absurd (omega (arith, e, t)))
-    | inr g ↦ (let t = triangle_less (q.0 + q.1) (p.0 + p.1) (strict (p.0 + p.1) (q.0 + q.1) d g) in absurd (omega (arith, e, t)))
-  ]
-]
-  where
-    cancel : (a b s t : ℕ) → s ≡ t → s + a ≡ t + b → a ≡ b
-    cancel a b s t f e = omega (arith, f, e)
-
-    strict : (s t : ℕ) → s ≢ t → t ≤ s → t < s
-    strict s t d g = omega (arith, d, g)
-
 -- ---- links
-
-abbrev lesser : Port → Option Port → ℕ
-lesser p None = port_number p
-lesser p (Some q) = min (port_number p) (port_number q)
 
 abbrev link_number : Heap → ℕ → ℕ → ℕ
 link_number h a i = lesser (a, i) (link_of h a i)
-
-one_of : (a b : ℕ) → (min a b ≡ a) ⊎ (min a b ≡ b)
-one_of a b = elim (cases_lt a b) [
-  | inl l ↦ inl (min-eq_left (weak a b l))
-  | inr g ↦ inr (min_comm a b ∙ min-eq_left g)
-]
-  where
-    weak : (a b : ℕ) → a < b → a ≤ b
-    weak a b l = omega (arith, l)
 
 pub heaps_are_named : HeapsAreNamed
 heaps_are_named h v = (link_number h, record { joined = joined; apart = apart })

@@ -6,9 +6,9 @@ use Rattle.lmn_base.specs.declared.level.Leaf.{Leaf}
 use Rattle.lmn_base.specs.declared.level.Leaf.TheVariants as leaf
 use Rattle.lmn_guards.specs.declared.plan.TypeKind.{TypeKind}
 use Rattle.lmn_heap.specs.Heap.{Heap, atoms_in, mems_in}
-use Rattle.lmn_heap.specs.Lists.{In, Distinct, without}
+use Rattle.lmn_heap.specs.Lists.{In, Distinct, without, without_all}
 use Rattle.lmn_heap.specs.Sound.{Forest, bare, mem, flat, Valid}
-use Rattle.lmn_heap.proofs.ListLemmas.{apart_test, each_in}
+use Rattle.lmn_heap.proofs.ListLemmas.{each_in}
 use Rattle.lmn_heap.proofs.Groves.{without_absent}
 use Rattle.lmn_solid.specs.declared.items.HeadItem.{HeadItem}
 use Rattle.lmn_solid.specs.declared.items.HeadItem.TheVariants.{Atom, Typed, Membrane}
@@ -18,11 +18,11 @@ use Rattle.lmn_congruence.specs.Links.{one_if_same}
 use Rattle.lmn_congruence.specs.Rules as tree
 use Rattle.lmn_reduction.specs.Parts.{Rooted}
 use Rattle.lmn_congruence.specs.Translation.{leaf_of}
-use Rattle.lmn_adequacy.specs.Accepted.{NoConnectorLeaf, EachLevel, EachOf, leaves_of}
-use Rattle.lmn_bridge.specs.HeapRegions.{Reading}
-use Rattle.lmn_bridge.specs.Numbers.{without_all, numbers_left}
+use Rattle.lmn_adequacy.specs.Accepted.{NoConnectorLeaf, EachLevel, EachOf, own_leaves}
+use Rattle.lmn_bridge.specs.HeapRegions.{HeapReading}
+use Rattle.lmn_bridge.specs.Numbers.{numbers_left}
 use Rattle.lmn_bridge.proofs.Pieces.{atom_at, numbers}
-use Rattle.lmn_bridge.proofs.Counting.{weigh, weigh_both, weigh_same, forest_atoms}
+use Rattle.lmn_bridge.proofs.Counting.{weigh_same, forest_atoms}
 use Rattle.lmn_solid.proofs.HeadTrees.{Head, Heads, head, no_head, head_and, size, flat_items, flat_membranes}
 use Rattle.lmn_bridge.proofs.HeadTrees.{tree_of, trees_of}
 use Rattle.lmn_bridge.proofs.Lying.{FitLeaves, fit_none, fit_typed, TakenTree, tree_first, tree_later, Lies, lies, LiesIn, lies_none, lies_and}
@@ -33,6 +33,8 @@ use Rattle.lmn_bridge.proofs.Laying.{only_atom}
 use Rattle.lmn_bridge.proofs.PartsOut.{flattened}
 use Rattle.lmn_bridge.proofs.Back.{Reads, reads_split, fit_one}
 use Rattle.lmn_bridge.proofs.Lengths.{level_length, leaf_length}
+use Rattle.lmn_base.proofs.Lists.{weigh, weigh_append}
+use Rattle.lmn_base.proofs.Numbers.{not_equal as apart_test}
 
 -- ---- lists
 
@@ -85,7 +87,7 @@ pub run_reads : (g : ℕ → ℕ) (n k : ℕ) → Reads g n (run g n k)
 run_reads g n zero = tt
 run_reads g n (suc k) = (refl, run_reads g (n + 1) k)
 
-module _ (h : Heap) (v : Valid h) (r : Reading) (link_of' : ℕ → ℕ) (typed_of : tree.Name → Rooted) (Q : tree.Level → ℕ → List ℕ → Forest → Forest → Type 0) (f : Images) (kind : ℕ → TypeKind) where
+module _ (h : Heap) (v : Valid h) (r : HeapReading) (link_of' : ℕ → ℕ) (typed_of : tree.Name → Rooted) (Q : tree.Level → ℕ → List ℕ → Forest → Forest → Type 0) (f : Images) (kind : ℕ → TypeKind) where
   abbrev Tree : Head → tree.Level
   Tree = tree_of r.names r.rule
 
@@ -110,14 +112,14 @@ module _ (h : Heap) (v : Valid h) (r : Reading) (link_of' : ℕ → ℕ) (typed_
 
   some_tops : (b : ℕ) (F : Forest) → weigh (one_if_same b) (tops F) ≤ weigh (one_if_same b) (flat F)
   some_tops b bare = omega arith
-  some_tops b (mem m i F) = omega (arith, some_tops b F, weigh_both (one_if_same b) (flat i) (flat F))
+  some_tops b (mem m i F) = omega (arith, some_tops b F, weigh_append (one_if_same b) (flat i) (flat F))
 
   tops_distinct : (F : Forest) → ((b : ℕ) → weigh (one_if_same b) (flat F) ≤ 1) → Distinct (tops F)
   tops_distinct F d = distinct_of (tops F) (λ b. let u = d b in omega (arith, u, some_tops b F, weigh_same b (tops F)))
 
   mutual
     -- the numbers of a level are those of its images among what is left
-    pub level_numbers : (cur next n : ℕ) (hd : Head) (M : ℕ) (gone out : List ℕ) {bs ms ns rest : List ℕ} {ps : List (List ℕ)} {F F' : Forest} → f.membrane cur ≡ M → EachLevel (λ l. NoConnectorLeaf (leaves_of l)) (Tree hd) →
+    pub level_numbers : (cur next n : ℕ) (hd : Head) (M : ℕ) (gone out : List ℕ) {bs ms ns rest : List ℕ} {ps : List (List ℕ)} {F F' : Forest} → f.membrane cur ≡ M → EachLevel (λ l. NoConnectorLeaf (own_leaves l)) (Tree hd) →
         Lies h r link_of' typed_of Q (Tree hd) bs ps ms ns (atoms_in h M) rest F F' → Reads f.atom n bs → Reads f.membrane next ms → tops F ≡ mems_in h M → Grown h F →
         ((b : ℕ) → (weigh (one_if_same b) gone + weigh (one_if_same b) (atoms_in h M)) + weigh (one_if_same b) (forest_atoms h F) ≤ 1) → ((b : ℕ) → weigh (one_if_same b) out + weigh (one_if_same b) (flat F) ≤ 1) →
         numbers_left h f n next gone out (flat_items kind cur next hd) ≡ ns
@@ -135,12 +137,12 @@ module _ (h : Heap) (v : Valid h) (r : Reading) (link_of' : ℕ → ℕ) (typed_
         let outs : out ++ run f.membrane next (membranes_in_items first) ≡ out = ap (λ y. out ++ run f.membrane next y) z ∙ append-nil out in
         let b = membranes_numbers cur next (n + atoms_in_items first) hs M (gone ++ bs) out e o.1 k (subst (λ y. Reads f.atom y as') (ap (λ y. n + y) len) here.1) gm
         (ap (λ y. without_all out (mems_in h y)) e ∙ ap (without_all out) (sym tp) ∙ all_absent out (tops F) (foreign out (tops F) (λ b. let u = rm b in omega (arith, u, some_tops b F)))) g
-        (λ b. let u = ra b in omega (arith, u, weigh_both (one_if_same b) gone bs, weigh_out (one_if_same b) bs X d among taken)) rm in
+        (λ b. let u = ra b in omega (arith, u, weigh_append (one_if_same b) gone bs, weigh_out (one_if_same b) bs X d among taken)) rm in
         numbers_both h f n next gone out first behind
         ∙ (λ j. a j ++ numbers_left h f (n + atoms_in_items first) (q j) (gone ++ ran j) (outs j) behind)
         ∙ ap (λ y. numbers bs X ++ y) b
 
-    membranes_numbers : (cur next n : ℕ) (hs : Heads) (M : ℕ) (gone out : List ℕ) {bs ms ns : List ℕ} {ps : List (List ℕ)} {F F' : Forest} → f.membrane cur ≡ M → EachOf (λ l. NoConnectorLeaf (leaves_of l)) (Trees hs) →
+    membranes_numbers : (cur next n : ℕ) (hs : Heads) (M : ℕ) (gone out : List ℕ) {bs ms ns : List ℕ} {ps : List (List ℕ)} {F F' : Forest} → f.membrane cur ≡ M → EachOf (λ l. NoConnectorLeaf (own_leaves l)) (Trees hs) →
         LiesIn h r link_of' typed_of Q (Trees hs) bs ps ms ns F F' → Reads f.atom n bs → Reads f.membrane next ms → without_all out (mems_in h (f.membrane cur)) ≡ tops F → Grown h F →
         ((b : ℕ) → weigh (one_if_same b) gone + weigh (one_if_same b) (forest_atoms h F) ≤ 1) → ((b : ℕ) → weigh (one_if_same b) out + weigh (one_if_same b) (flat F) ≤ 1) →
         numbers_left h f n next gone out (flat_membranes kind cur next hs) ≡ ns
@@ -159,7 +161,7 @@ module _ (h : Heap) (v : Valid h) (r : Reading) (link_of' : ℕ → ℕ) (typed_
         let u = rm b in
         let w = heavy_taken h (λ a. 0) (one_if_same b) k in
         let s : one_if_same b (f.membrane next) ≡ one_if_same b m = ap (one_if_same b) gm.0 in
-        omega (arith, u, w, s, weigh_both (one_if_same b) out (f.membrane next ∷ []), weigh_nothing (forest_atoms h F), weigh_nothing (forest_atoms h F'), weigh_nothing (forest_atoms h i), weigh_nothing (atoms_in h m)) in
+        omega (arith, u, w, s, weigh_append (one_if_same b) out (f.membrane next ∷ []), weigh_nothing (forest_atoms h F), weigh_nothing (forest_atoms h F'), weigh_nothing (forest_atoms h i), weigh_nothing (atoms_in h m)) in
         let atoms_room : (b : ℕ) → weigh (one_if_same b) gone + ((weigh (one_if_same b) (atoms_in h m) + weigh (one_if_same b) (forest_atoms h i)) + weigh (one_if_same b) (forest_atoms h F')) ≤ 1 = λ b.
         let u = ra b in
         let w = heavy_taken h (one_if_same b) (λ a. 0) k in
@@ -179,7 +181,7 @@ module _ (h : Heap) (v : Valid h) (r : Reading) (link_of' : ℕ → ℕ) (typed_
         ∙ ap (without_all ms) (all_more out (f.membrane next ∷ []) (mems_in h (f.membrane cur)) ∙ (λ j. without (gm.0 j) (tp j)) ∙ sym place.1)
         ∙ all_absent ms (tops F') (foreign ms (tops F') (λ b. let u = room_in b in let w = fewer b in omega (arith, u, w, some_tops b F'))) in
         let b = membranes_numbers cur (next + 1 + size hd) (n + atoms_in_items first) hs M (gone ++ as') (out1 ++ ms) e o.1 more (subst (λ y. Reads f.atom y bs) (ap (λ y. n + y) len.0) here.1) (subst (λ y. Reads f.membrane y ks) y' under.1)
-        tops' grown.1 (λ b. let u = atoms_room b in let w = fewer_atoms b in omega (arith, u, w, weigh_both (one_if_same b) gone as')) (λ b. let u = room_in b in let w = fewer b in omega (arith, u, w, weigh_both (one_if_same b) out1 ms)) in
+        tops' grown.1 (λ b. let u = atoms_room b in let w = fewer_atoms b in omega (arith, u, w, weigh_append (one_if_same b) gone as')) (λ b. let u = room_in b in let w = fewer b in omega (arith, u, w, weigh_append (one_if_same b) out1 ms)) in
         (λ j. index_of (gm.0 j) (tp j) ∷ numbers_left h f n (next + 1) gone out1 (first ++ behind))
         ∙ ap (λ y. index_of m (tops F) ∷ y) (numbers_both h f n (next + 1) gone out1 first behind ∙ (λ j. a j ++ numbers_left h f (n + atoms_in_items first) (z j) (gone ++ ran j) (out1 ++ ran' j) behind) ∙ ap (λ y. ns ++ y) b)
         ∙ (λ j. sym place.0 j ∷ (ns ++ ns'))

@@ -8,27 +8,23 @@ use Rattle.lmn_base.specs.declared.level.Leaf.TheVariants as leaf
 use Rattle.lmn_base.specs.declared.functor.Label.{Label}
 use Rattle.lmn_base.specs.declared.functor.Label.TheVariants.{Name as ByName, Int as ByInt}
 use Rattle.lmn_guards.specs.declared.plan.TypeKind.{TypeKind}
-use Rattle.lmn_heap.proofs.ListLemmas.{apart_test}
 use Rattle.lmn_solid.specs.declared.items.HeadItem.{HeadItem}
 use Rattle.lmn_solid.specs.declared.items.HeadItem.TheVariants.{Atom, Typed, Membrane}
 use Rattle.lmn_solid.specs.Flattening.{leaf_items}
-use Rattle.lmn_solid.specs.Heads.{HeadAtom, HeadTyped, Port, Occurrence, at_ports, at_atoms, atoms_of, typed_contexts_of, links_of, times}
+use Rattle.lmn_solid.specs.Heads.{HeadAtom, HeadTyped, Occurrence, at_ports, at_atoms, atoms_of, typed_contexts_of, links_of_head, times}
 use Rattle.lmn_congruence.specs.Links.{one_if_same, places}
 use Rattle.lmn_congruence.specs.LinkedRules.{leaf_occurrences, leaves_occurrences, level_occurrences, levels_occurrences}
 use Rattle.lmn_congruence.specs.Rules as tree
-use Rattle.lmn_congruence.specs.Translation.{leaf_of, atom_of}
-use Rattle.lmn_bridge.proofs.Counting.{places_both, same_one, apart_none}
+use Rattle.lmn_congruence.specs.Translation.{leaf_of, atom_or_connector}
 use Rattle.lmn_solid.proofs.HeadTrees.{Head, Heads, head, no_head, head_and, size, flat_items, flat_membranes}
 use Rattle.lmn_bridge.proofs.HeadTrees.{tree_of, trees_of}
+use Rattle.lmn_base.specs.Graphs.{Port}
+use Rattle.lmn_base.proofs.Numbers.{not_equal as apart_test}
+use Rattle.lmn_congruence.proofs.Counts.{one_if_equal as same_one}
+use Rattle.lmn_congruence.proofs.TranslatedLinks.{places_append as places_both}
+use Rattle.lmn_solid.proofs.Common.{times_places}
 
 -- ---- how often
-
-times_places : (x : ℕ) (ys : List ℕ) → times x ys ≡ places x ys
-times_places x [] = refl
-times_places x (y ∷ ys) = elim (cases_eq x y) [
-  | inl e ↦ rw (eq-eqb y x (sym e)) (omega (arith, same_one x y e, times_places x ys))
-  | inr d ↦ rw (apart_test y x (λ q. d (sym q))) (omega (arith, apart_none x y d, times_places x ys))
-]
 
 abbrev item_times : ℕ → List HeadItem → ℕ
 item_times x [] = 0
@@ -57,7 +53,7 @@ some_place x [] j e = absurd (cc)
 some_place x (y ∷ ys) zero e = omega (arith, same_one x y (sym (same_Some y x e)))
 some_place x (y ∷ ys) (suc j) e = omega (arith, some_place x ys j e)
 
-atom_times : (names : List tree.Name) (x : ℕ) (l : Label) (ys : List ℕ) → leaf_occurrences x (atom_of names l ys) ≡ places x ys
+atom_times : (names : List tree.Name) (x : ℕ) (l : Label) (ys : List ℕ) → leaf_occurrences x (atom_or_connector names l ys) ≡ places x ys
 atom_times names x (ByName zero) [] = refl
 atom_times names x (ByName zero) (a ∷ []) = refl
 atom_times names x (ByName zero) (a ∷ (b ∷ [])) = omega arith
@@ -84,17 +80,17 @@ module _ (names : List tree.Name) (rule : ℕ → tree.Rule) (kind : ℕ → Typ
       item_both x (flat_items kind next (next + 1) hd) (flat_membranes kind cur (next + 1 + size hd) hs),
     )
 
-  pub times_are : (cur next : ℕ) (hd : Head) → times x (links_of (flat_items kind cur next hd)) ≡ level_occurrences x (tree_of names rule hd)
+  pub times_are : (cur next : ℕ) (hd : Head) → times x (links_of_head (flat_items kind cur next hd)) ≡ level_occurrences x (tree_of names rule hd)
   times_are cur next hd =
       let items = flat_items kind cur next hd in
-      times_places x (links_of items)
+      times_places x (links_of_head items)
       ∙ omega (arith, places_both x (map (λ o. o.link) (at_atoms 0 (atoms_of items))) (map (λ t. t.link) (typed_contexts_of items)), atom_links x 0 items, head_times cur next hd)
 
 -- ---- ports and typed contexts
 
 -- all links of items, those at ports and those of typed contexts
-pub times_parts : (x : ℕ) (items : List HeadItem) → times x (links_of items) ≡ places x (map (λ o. o.link) (at_atoms 0 (atoms_of items))) + places x (map (λ t. t.link) (typed_contexts_of items))
-times_parts x items = times_places x (links_of items) ∙ places_both x (map (λ o. o.link) (at_atoms 0 (atoms_of items))) (map (λ t. t.link) (typed_contexts_of items))
+pub times_parts : (x : ℕ) (items : List HeadItem) → times x (links_of_head items) ≡ places x (map (λ o. o.link) (at_atoms 0 (atoms_of items))) + places x (map (λ t. t.link) (typed_contexts_of items))
+times_parts x items = times_places x (links_of_head items) ∙ places_both x (map (λ o. o.link) (at_atoms 0 (atoms_of items))) (map (λ t. t.link) (typed_contexts_of items))
 
 pub port_counts : (x : ℕ) (xs : List HeadAtom) (n i j : ℕ) (a : HeadAtom) → slice_get xs i ≡ Some a → slice_get a.links j ≡ Some x → 1 ≤ places x (map (λ o. o.link) (at_atoms n xs))
 port_counts x [] n i j a e g = absurd (cc)

@@ -7,26 +7,27 @@ use Rattle.std.proofs.lemmas.Option.{same_Some}
 use Rattle.lmn_base.specs.declared.functor.Functor.{Functor}
 use Rattle.lmn_base.specs.declared.functor.Label.{Label as HeapLabel}
 use Rattle.lmn_base.specs.declared.functor.Label.TheVariants.{Name as ByName, Int as ByInt}
-use Rattle.lmn_base.specs.Graphs.{Reached, at_root}
+use Rattle.lmn_base.specs.Graphs.{Reached, at_root, Port}
 use Rattle.lmn_heap.specs.Heap.{Heap, arity_of, functor_of}
 use Rattle.lmn_heap.specs.Graphs.{atom_map}
 use Rattle.lmn_heap.specs.Lists.{In, Distinct}
 use Rattle.lmn_heap.proofs.ListLemmas.{each_in}
-use Rattle.lmn_solid.specs.Heads.{Port}
-use Rattle.lmn_solid.specs.Guards.{integer_by, integer_of}
+use Rattle.lmn_solid.specs.Guards.{integer_by, integer_of_functor}
 use Rattle.lmn_congruence.specs.Links.{one_if_same}
 use Rattle.lmn_congruence.specs.Orders.{Put, here, there, Shuffle, none, more}
 use Rattle.lmn_congruence.specs.Process.{Process, nothing, connector, atom, pair, membrane, rule, occurrences}
 use Rattle.lmn_congruence.specs.Rules.{Label, Name, integer}
 use Rattle.lmn_congruence.specs.Translation.{label_of}
-use Rattle.lmn_reduction.specs.Parts.{Rooted, OnlyAtoms, atoms_of, IsUnary, one_atom, IsInteger, an_integer}
-use Rattle.lmn_bridge.specs.HeapRegions.{Reading}
+use Rattle.lmn_reduction.specs.Parts.{Rooted, OnlyAtoms, atoms_at_top, IsUnary, one_atom, IsInteger, an_integer}
+use Rattle.lmn_bridge.specs.HeapRegions.{HeapReading}
 use Rattle.lmn_bridge.specs.Premises.{IsRead}
 use Rattle.lmn_bridge.specs.Parts.{IsGroundPart, IntegerPartsAlike, UnaryPartsAlike}
-use Rattle.lmn_bridge.proofs.Counting.{within_arity, apart_none}
 use Rattle.lmn_bridge.proofs.PartLists.{reached_one}
 use Rattle.lmn_bridge.proofs.PartLaws.{graph_of_part, reached_there, each_atom, some_atom, none_left}
-use Rattle.lmn_bridge.proofs.SameWholes.{atom_is, links_length, length_mapped, pieces_are, piece}
+use Rattle.lmn_bridge.proofs.SameWholes.{atom_is, links_length, pieces_are, piece}
+use Rattle.lmn_base.proofs.Lists.{length_mapped}
+use Rattle.lmn_congruence.proofs.Counts.{none_if_apart as apart_none}
+use Rattle.lmn_heap.proofs.Replacing.{port_within}
 
 one_left : {A B : Type 0} {R : A → B → Type 0} {as' : List A} {bs : List B} (b : B) → Shuffle R as' bs → bs ≡ b ∷ [] → (a : A) × (as' ≡ a ∷ []) × R a b
 one_left b none e = absurd (cc)
@@ -57,21 +58,21 @@ one_right {R = R} a (more {x = x} {y = y} {xs = as'} {ys = ys} w s p) e =
     put_none (here {y = y}) e = ap (λ z. y ∷ z) e
     put_none (there p) e = absurd (cc)
 
-some_of_process : (P : Process) → OnlyAtoms P → 1 ≤ length (atoms_of P)
+some_of_process : (P : Process) → OnlyAtoms P → 1 ≤ length (atoms_at_top P)
 some_of_process nothing o = absurd o
 some_of_process (connector x y) o = absurd o
 some_of_process (atom a ys) o = omega arith
-some_of_process (pair P Q) o = omega (arith, some_of_process P o.0, length-append (atoms_of P) (atoms_of Q))
+some_of_process (pair P Q) o = omega (arith, some_of_process P o.0, length-append (atoms_at_top P) (atoms_at_top Q))
 some_of_process (membrane P) o = absurd o
 some_of_process (rule r) o = absurd o
 
-one_process : (P : Process) (a : Label × List ℕ) → OnlyAtoms P → atoms_of P ≡ a ∷ [] → P ≡ atom a.0 a.1
+one_process : (P : Process) (a : Label × List ℕ) → OnlyAtoms P → atoms_at_top P ≡ a ∷ [] → P ≡ atom a.0 a.1
 one_process nothing a o e = absurd o
 one_process (connector x y) a o e = absurd o
 one_process (atom l ys) a o e = let q : ◌≡◌ {A = Label × List ℕ} (l, ys) a = cc in ap (λ z. atom z.0 z.1) q
 one_process (pair P Q) a o e =
-    let n : length (atoms_of P ++ atoms_of Q) ≡ 1 = ap length e in
-    absurd (omega (arith, some_of_process P o.0, some_of_process Q o.1, length-append (atoms_of P) (atoms_of Q), n))
+    let n : length (atoms_at_top P ++ atoms_at_top Q) ≡ 1 = ap length e in
+    absurd (omega (arith, some_of_process P o.0, some_of_process Q o.1, length-append (atoms_at_top P) (atoms_at_top Q), n))
 one_process (membrane P) a o e = absurd o
 one_process (rule r) a o e = absurd o
 
@@ -80,13 +81,13 @@ only_link [] e = absurd (omega (arith, e))
 only_link (y ∷ []) e = (y, refl)
 only_link (y ∷ (z ∷ ys)) e = absurd (omega (arith, e))
 
-module _ (h : Heap) (r : Reading) (read : IsRead h r) (m : ℕ) (root : Port) where
+module _ (h : Heap) (r : HeapReading) (read : IsRead h r) (m : ℕ) (root : Port) where
   -- from the heap: the part is this atom
   pub one_into : (part : List ℕ) (g : Rooted) → IsGroundPart h r m root part g → (f : Functor) → functor_of h root.0 ≡ Some f → f.arity ≡ 1 → g ≡ record { process = atom (label_of r.names f.label) (g.root ∷ []); root = g.root }
   one_into [] g p f e one = absurd (some_atom h r read m root g p)
   one_into (x ∷ xs) g p f e one =
       let n : arity_of h root.0 ≡ 1 = read.valid.sound.shaped.ports root.0 f e ∙ one in
-      let zero_port : root.1 ≡ 0 = (let l = within_arity h root.0 root.1 p.link in omega (arith, l, n)) in
+      let zero_port : root.1 ≡ 0 = (let l = port_within h root.0 root.1 _ p.link in omega (arith, l, n)) in
       let alone : (b : ℕ) → In b (x ∷ xs) → b ≡ root.0 = λ b k. reached_one h read.valid root.0 n b (subst (λ z. Reached (atom_map h) (root.0, z) b) zero_port ((reached_there h r read m root x xs g p b).0 k)) in
       let s = graph_of_part h r read m root x xs g p in
       let u = by xs p.once alone in
@@ -111,7 +112,7 @@ module _ (h : Heap) (r : Reading) (read : IsRead h r) (m : ℕ) (root : Port) wh
   one_back [] g p a y e = absurd (some_atom h r read m root g p)
   one_back (x ∷ xs) g p a y e =
       let s = graph_of_part h r read m root x xs g p in
-      let w = one_right (a, y ∷ []) s.atoms (ap atoms_of e) in
+      let w = one_right (a, y ∷ []) s.atoms (ap atoms_at_top e) in
       let pieces : map (piece h r read.valid) (x ∷ xs) ≡ w.0 ∷ [] = sym (pieces_are h r read.valid x xs) ∙ w.1 in
       let first : piece h r read.valid x ≡ w.0 = cc in
       let k = (reached_there h r read m root x xs g p root.0).1 at_root in
@@ -135,7 +136,7 @@ unary_parts_alike h r m root part g read p = (
     unary_is : {g : Rooted} → IsUnary g → (a : Label) × (y : ℕ) × (g.process ≡ atom a (y ∷ []))
     unary_is (one_atom {a = a} {x = x}) = (a, x, refl)
 
-integer_functor : (o : Option Functor) (z : ℤ) → integer_of o ≡ Some z → (f : Functor) × (o ≡ Some f) × (f.arity ≡ 1) × (f.label ≡ ByInt z)
+integer_functor : (o : Option Functor) (z : ℤ) → integer_of_functor o ≡ Some z → (f : Functor) × (o ≡ Some f) × (f.arity ≡ 1) × (f.label ≡ ByInt z)
 integer_functor None z e = absurd (cc)
 integer_functor (Some f) z e = let u = by f.label f.arity e in (f, refl, u.0, u.1)
   where
@@ -151,8 +152,8 @@ integer_label : (names : List Name) (l : HeapLabel) (z : ℤ) → label_of names
 integer_label names (ByName k) z e = absurd (cc)
 integer_label names (ByInt w) z e = let q : w ≡ z = cc in ap ByInt q
 
-functor_integer : (o : Option Functor) (f : Functor) (z : ℤ) → o ≡ Some f → f.arity ≡ 1 → f.label ≡ ByInt z → integer_of o ≡ Some z
-functor_integer o f z e n l = ap integer_of e ∙ (λ i. integer_by (l i) (n i))
+functor_integer : (o : Option Functor) (f : Functor) (z : ℤ) → o ≡ Some f → f.arity ≡ 1 → f.label ≡ ByInt z → integer_of_functor o ≡ Some z
+functor_integer o f z e n l = ap integer_of_functor e ∙ (λ i. integer_by (l i) (n i))
 
 -- and so for an integer
 pub integer_parts_alike : IntegerPartsAlike

@@ -6,19 +6,21 @@ use Rattle.lmn_base.specs.declared.level.Leaf.{Leaf}
 use Rattle.lmn_base.specs.declared.level.Leaf.TheVariants as leaf
 use Rattle.lmn_guards.specs.declared.plan.TypeKind.{TypeKind}
 use Rattle.lmn_heap.specs.Heap.{Heap, atoms_in, mems_in}
-use Rattle.lmn_heap.specs.Lists.{In, without}
-use Rattle.lmn_heap.proofs.ListLemmas.{apart_test, in_without}
+use Rattle.lmn_heap.specs.Lists.{In, without, without_all}
+use Rattle.lmn_heap.proofs.ListLemmas.{in_without}
 use Rattle.lmn_solid.specs.declared.items.HeadItem.{HeadItem}
 use Rattle.lmn_solid.specs.declared.items.HeadItem.TheVariants.{Atom, Typed, Membrane}
 use Rattle.lmn_solid.specs.Flattening.{leaf_items}
 use Rattle.lmn_solid.specs.Heads.{HeadAtom, HeadTyped, HeadMembrane, atoms_of, membranes_of}
-use Rattle.lmn_solid.specs.Embeddings.{Images, Embeds, index_of, positions, NotAfter}
+use Rattle.lmn_solid.specs.Embeddings.{Images, Embeds, index_of, positions, ListNotAfter}
 use Rattle.lmn_adequacy.specs.Choice.{Before, less_here, less_behind}
-use Rattle.lmn_bridge.specs.Numbers.{without_all, numbers_left}
-use Rattle.lmn_bridge.specs.Laws.{NumbersInOrder}
+use Rattle.lmn_bridge.specs.Numbers.{numbers_left}
+use Rattle.lmn_bridge.specs.Laws.{NumbersLeftInOrder}
 use Rattle.lmn_solid.proofs.HeadTrees.{Head, Heads, head, no_head, head_and, size, flat_items, flat_membranes, head_at, items_flat}
 use Rattle.lmn_bridge.proofs.Walking.{Walk, walk_from, run, run_both, membranes_in_items, flat_size, no_leaf_membrane}
-use Rattle.lmn_bridge.proofs.Runs.{in_run, get_below}
+use Rattle.lmn_bridge.proofs.Runs.{in_run}
+use Rattle.lmn_base.proofs.Lists.{get_below}
+use Rattle.lmn_base.proofs.Numbers.{not_equal as apart_test}
 
 -- ---- places in a list
 
@@ -176,7 +178,7 @@ module _ (h : Heap) (f : Images) where
 module _ (h : Heap) (f g : Images) where
   ordered : (xs : List HeadItem) (n t k j : ℕ) (gone out : List ℕ) → k ≡ 1 + j → Fresh k xs → Walk (NewAtom h f) (Any h f) (NewMembrane h f) n t k xs → Walk (NewAtom h g) (Any h g) (NewMembrane h g) n t k xs →
       gone ≡ run f.atom 0 n → gone ≡ run g.atom 0 n → out ≡ run f.membrane 1 j → out ≡ run g.membrane 1 j → ((i : ℕ) → i < k → f.membrane i ≡ g.membrane i) →
-      NotAfter (positions h f n k xs) (positions h g n k xs) ↔ NotAfter (numbers_left h f n k gone out xs) (numbers_left h g n k gone out xs)
+      ListNotAfter (positions h f n k xs) (positions h g n k xs) ↔ ListNotAfter (numbers_left h f n k gone out xs) (numbers_left h g n k gone out xs)
   ordered [] n t k j gone out ek fr u w ga gb oa ob same = ((λ x. x), (λ x. x))
   ordered (Typed x kd l i ∷ xs) n t k j gone out ek fr u w ga gb oa ob same = ordered xs n (t + 1) k j gone out ek fr u.1 w.1 ga gb oa ob same
   ordered (Atom fu ls i ∷ xs) n t k j gone out ek fr u w ga gb oa ob same =
@@ -188,7 +190,7 @@ module _ (h : Heap) (f g : Images) where
       let na : In a gone → ⊥ = λ p. u.0.1 (subst (In a) ga p) in
       let nb : In b gone → ⊥ = λ p. w.0.1 (subst (In b) gb p) in
       let z : 0 + n ≡ n = omega arith in
-      let more : (ab : a ≡ b) → NotAfter (positions h f (n + 1) k xs) (positions h g (n + 1) k xs) ↔ NotAfter (numbers_left h f (n + 1) k (gone ++ a ∷ []) out xs) (numbers_left h g (n + 1) k (gone ++ a ∷ []) out xs) = λ ab.
+      let more : (ab : a ≡ b) → ListNotAfter (positions h f (n + 1) k xs) (positions h g (n + 1) k xs) ↔ ListNotAfter (numbers_left h f (n + 1) k (gone ++ a ∷ []) out xs) (numbers_left h g (n + 1) k (gone ++ a ∷ []) out xs) = λ ab.
       ordered xs (n + 1) t k j (gone ++ a ∷ []) out ek fr.1 u.1 w.1
       ((λ q. ga q ++ f.atom (sym z q) ∷ []) ∙ sym (run_more f.atom 0 n)) ((λ q. gb q ++ ab q ∷ []) ∙ (λ q. run g.atom 0 n ++ g.atom (sym z q) ∷ []) ∙ sym (run_more g.atom 0 n)) oa ob same in
       let tail = numbers_left h g (n + 1) k in (
@@ -196,13 +198,13 @@ module _ (h : Heap) (f g : Images) where
           | inl l ↦ inl (let y : index_of a L < index_of b L = subst (λ M. index_of a L < index_of b M) (sym e) l in subst (λ M. index_of a (without_all gone L) < index_of b (without_all gone M)) e (kept_order gone a b L na nb u.0.0 pb y))
           | inr q ↦ (let y : index_of a L ≡ index_of b L = q.0 ∙ ap (index_of b) (sym e) in
               let ab = same_place a b L u.0.0 pb y in
-              inr ((λ r. index_of (ab r) (without_all gone (e r))), subst (λ c. NotAfter (numbers_left h f (n + 1) k (gone ++ a ∷ []) out xs) (tail (gone ++ c ∷ []) out xs)) ab ((more ab).0 q.1)))
+              inr ((λ r. index_of (ab r) (without_all gone (e r))), subst (λ c. ListNotAfter (numbers_left h f (n + 1) k (gone ++ a ∷ []) out xs) (tail (gone ++ c ∷ []) out xs)) ab ((more ab).0 q.1)))
         ]),
         (λ s. elim s [
           | inl l ↦ inl (let y = subst (λ M. index_of a (without_all gone L) < index_of b (without_all gone M)) (sym e) l in subst (λ M. index_of a L < index_of b M) e (order_back gone a b L na nb u.0.0 pb y))
           | inr q ↦ (let y : index_of a (without_all gone L) ≡ index_of b (without_all gone L) = q.0 ∙ ap (λ M. index_of b (without_all gone M)) (sym e) in
               let ab = same_left gone a b L na nb u.0.0 pb y in
-              inr ((λ r. index_of (ab r) (e r)), (more ab).1 (subst (λ c. NotAfter (numbers_left h f (n + 1) k (gone ++ a ∷ []) out xs) (tail (gone ++ c ∷ []) out xs)) (sym ab) q.1)))
+              inr ((λ r. index_of (ab r) (e r)), (more ab).1 (subst (λ c. ListNotAfter (numbers_left h f (n + 1) k (gone ++ a ∷ []) out xs) (tail (gone ++ c ∷ []) out xs)) (sym ab) q.1)))
         ]),
       )
   ordered (Membrane i c rc ∷ xs) n t k j gone out ek fr u w ga gb oa ob same =
@@ -214,7 +216,7 @@ module _ (h : Heap) (f g : Images) where
       let na : In a out → ⊥ = λ p. u.0.1 j ek (subst (In a) oa p) in
       let nb : In b out → ⊥ = λ p. w.0.1 j ek (subst (In b) ob p) in
       let agree : a ≡ b → (i : ℕ) → i < k + 1 → f.membrane i ≡ g.membrane i = λ ab i l. elim (cases_eq i k) [ inl q ↦ ap f.membrane q ∙ ab ∙ ap g.membrane (sym q) | inr d ↦ same i (omega (arith, l, d)) ] in
-      let more : (ab : a ≡ b) → NotAfter (positions h f n (k + 1) xs) (positions h g n (k + 1) xs) ↔ NotAfter (numbers_left h f n (k + 1) gone (out ++ a ∷ []) xs) (numbers_left h g n (k + 1) gone (out ++ a ∷ []) xs) = λ ab.
+      let more : (ab : a ≡ b) → ListNotAfter (positions h f n (k + 1) xs) (positions h g n (k + 1) xs) ↔ ListNotAfter (numbers_left h f n (k + 1) gone (out ++ a ∷ []) xs) (numbers_left h g n (k + 1) gone (out ++ a ∷ []) xs) = λ ab.
       ordered xs n t (k + 1) (j + 1) gone (out ++ a ∷ []) (omega (arith, ek)) fr.1 u.1 w.1 ga gb
       ((λ q. oa q ++ f.membrane (ek q) ∷ []) ∙ sym (run_more f.membrane 1 j)) ((λ q. ob q ++ ab q ∷ []) ∙ (λ q. run g.membrane 1 j ++ g.membrane (ek q) ∷ []) ∙ sym (run_more g.membrane 1 j)) (agree ab) in
       let tail = numbers_left h g n (k + 1) in (
@@ -222,30 +224,30 @@ module _ (h : Heap) (f g : Images) where
           | inl l ↦ inl (let y : index_of a L < index_of b L = subst (λ M. index_of a L < index_of b M) (sym e) l in subst (λ M. index_of a (without_all out L) < index_of b (without_all out M)) e (kept_order out a b L na nb u.0.0 pb y))
           | inr q ↦ (let y : index_of a L ≡ index_of b L = q.0 ∙ ap (index_of b) (sym e) in
               let ab = same_place a b L u.0.0 pb y in
-              inr ((λ r. index_of (ab r) (without_all out (e r))), subst (λ c. NotAfter (numbers_left h f n (k + 1) gone (out ++ a ∷ []) xs) (tail gone (out ++ c ∷ []) xs)) ab ((more ab).0 q.1)))
+              inr ((λ r. index_of (ab r) (without_all out (e r))), subst (λ c. ListNotAfter (numbers_left h f n (k + 1) gone (out ++ a ∷ []) xs) (tail gone (out ++ c ∷ []) xs)) ab ((more ab).0 q.1)))
         ]),
         (λ s. elim s [
           | inl l ↦ inl (let y = subst (λ M. index_of a (without_all out L) < index_of b (without_all out M)) (sym e) l in subst (λ M. index_of a L < index_of b M) e (order_back out a b L na nb u.0.0 pb y))
           | inr q ↦ (let y : index_of a (without_all out L) ≡ index_of b (without_all out L) = q.0 ∙ ap (λ M. index_of b (without_all out M)) (sym e) in
               let ab = same_left out a b L na nb u.0.0 pb y in
-              inr ((λ r. index_of (ab r) (e r)), (more ab).1 (subst (λ c. NotAfter (numbers_left h f n (k + 1) gone (out ++ a ∷ []) xs) (tail gone (out ++ c ∷ []) xs)) (sym ab) q.1)))
+              inr ((λ r. index_of (ab r) (e r)), (more ab).1 (subst (λ c. ListNotAfter (numbers_left h f n (k + 1) gone (out ++ a ∷ []) xs) (tail gone (out ++ c ∷ []) xs)) (sym ab) q.1)))
         ]),
       )
 
 -- positions and numbers of two embeddings stand in the same order
-pub numbers_ordered : NumbersInOrder
+pub numbers_ordered : NumbersLeftInOrder
 numbers_ordered h kind l guard m f g ef eg =
     let e = items_flat kind l in
     let items = flat_items kind 0 1 (head_at l) in
     let zero_same : (i : ℕ) → i < 1 → f.membrane i ≡ g.membrane i = λ i k. let z : i ≡ 0 = omega (arith, k) in ap f.membrane z ∙ ef.here ∙ sym eg.here ∙ ap g.membrane (sym z) in
-    subst (λ xs. NotAfter (positions h f 0 1 xs) (positions h g 0 1 xs) ↔ NotAfter (numbers_left h f 0 1 [] [] xs) (numbers_left h g 0 1 [] [] xs)) (sym e)
+    subst (λ xs. ListNotAfter (positions h f 0 1 xs) (positions h g 0 1 xs) ↔ ListNotAfter (numbers_left h f 0 1 [] [] xs) (numbers_left h g 0 1 [] [] xs)) (sym e)
     (ordered h f g items 0 0 1 0 [] [] (omega arith) (fresh_level kind 0 1 (head_at l) (omega arith))
     (all_new h f items guard m (subst (λ xs. Embeds h xs guard m f) e ef)) (all_new h g items guard m (subst (λ xs. Embeds h xs guard m g) e eg)) refl refl refl refl zero_same)
 
 -- ---- the order of lists of one length
 
 -- of two lists of one length, one that isn't after the other is it or before it
-pub not_after_is : (xs ys : List ℕ) → length xs ≡ length ys → NotAfter xs ys → (xs ≡ ys) ⊎ Before xs ys
+pub not_after_is : (xs ys : List ℕ) → length xs ≡ length ys → ListNotAfter xs ys → (xs ≡ ys) ⊎ Before xs ys
 not_after_is [] [] e n = inl refl
 not_after_is [] (y ∷ ys) e n = absurd (omega (arith, e))
 not_after_is (x ∷ xs) [] e n = absurd n
@@ -255,17 +257,17 @@ not_after_is (x ∷ xs) (y ∷ ys) e (inr r) = elim (not_after_is xs ys (omega (
   | inr b ↦ inr (subst (λ z. Before (x ∷ xs) (z ∷ ys)) r.0 (less_behind b))
 ]
 
-same_not_after : (xs : List ℕ) → NotAfter xs xs
+same_not_after : (xs : List ℕ) → ListNotAfter xs xs
 same_not_after [] = tt
 same_not_after (x ∷ xs) = inr (refl, same_not_after xs)
 
-before_not_after : {xs ys : List ℕ} → Before xs ys → NotAfter xs ys
+before_not_after : {xs ys : List ℕ} → Before xs ys → ListNotAfter xs ys
 before_not_after (less_here l) = inl l
 before_not_after (less_behind b) = inr (refl, before_not_after b)
 
 -- and back
-pub is_not_after : (xs ys : List ℕ) → (xs ≡ ys) ⊎ Before xs ys → NotAfter xs ys
-is_not_after xs ys (inl e) = subst (NotAfter xs) e (same_not_after xs)
+pub is_not_after : (xs ys : List ℕ) → (xs ≡ ys) ⊎ Before xs ys → ListNotAfter xs ys
+is_not_after xs ys (inl e) = subst (ListNotAfter xs) e (same_not_after xs)
 is_not_after xs ys (inr b) = before_not_after b
 
 -- a head has as many numbers in each embedding

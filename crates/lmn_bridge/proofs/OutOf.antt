@@ -8,24 +8,24 @@ use Rattle.lmn_heap.specs.Heap.{Heap, IsAtom, atoms_in, mems_in, rules_in, arity
 use Rattle.lmn_heap.specs.Lists.{In, Distinct}
 use Rattle.lmn_heap.specs.Sound.{Forest, flat, Forms, Valid}
 use Rattle.lmn_heap.proofs.ListLemmas.{each_in, in_left, in_right}
-use Rattle.lmn_heap.proofs.Trees.{nil_right}
+use Rattle.lmn_heap.proofs.Trees.{nil_right, in_either}
 use Rattle.lmn_solid.specs.declared.items.HeadItem.{HeadItem}
-use Rattle.lmn_solid.specs.Guards.{GuardHolds, IsOfKind}
-use Rattle.lmn_base.specs.Graphs.{at_root, StandsWhole}
+use Rattle.lmn_solid.specs.Guards.{HoldsOnHeap, IsOfKindAt}
+use Rattle.lmn_base.specs.Graphs.{at_root, StandsWhole, Port}
 use Rattle.std.proofs.lemmas.Option.{same_Some}
 use Rattle.lmn_heap.specs.Graphs.{atom_map}
-use Rattle.lmn_solid.specs.Heads.{HeadAtom, HeadTyped, HeadMembrane, Port, atoms_of, typed_contexts_of, membranes_of, inside_of}
+use Rattle.lmn_solid.specs.Heads.{HeadAtom, HeadTyped, HeadMembrane, atoms_of, typed_contexts_of, membranes_of, inside_of}
 use Rattle.lmn_solid.specs.Embeddings.{Images, Embeds, HasLink, HasAtom, HasTyped, HasMembrane, meaning}
 use Rattle.lmn_congruence.specs.Links.{one_if_same, places}
 use Rattle.lmn_congruence.specs.Regions.{Region, region}
 use Rattle.lmn_congruence.specs.Translation.{name_of}
 use Rattle.lmn_reduction.specs.Assignments.{Assignment}
-use Rattle.lmn_adequacy.specs.Accepted.{NoConnectorLeaf, EachLevel, leaves_of}
+use Rattle.lmn_adequacy.specs.Accepted.{NoConnectorLeaf, EachLevel, own_leaves}
 use Rattle.lmn_adequacy.specs.Embedding.{Plain, LevelImages, IsPart}
 use Rattle.lmn_heap.specs.Solid.{IsNaming}
-use Rattle.lmn_bridge.specs.HeapRegions.{Reading, regions_at, region_at}
+use Rattle.lmn_bridge.specs.HeapRegions.{HeapReading, regions_at, region_at}
 use Rattle.lmn_bridge.proofs.Pieces.{atom_at, atoms_each}
-use Rattle.lmn_bridge.proofs.Counting.{places_both, same_port, weigh_both, weigh_same, list_atoms, tree_atoms, forest_atoms}
+use Rattle.lmn_bridge.proofs.Counting.{weigh_same, list_atoms, tree_atoms, forest_atoms}
 use Rattle.lmn_solid.proofs.HeadTrees.{Head, size, flat_items}
 use Rattle.lmn_bridge.proofs.HeadTrees.{tree_of}
 use Rattle.lmn_bridge.proofs.Lying.{Kept}
@@ -37,23 +37,26 @@ use Rattle.lmn_bridge.proofs.Ports.{port_named, get_map}
 use Rattle.lmn_bridge.proofs.Laying.{AtomLies, MembraneLies, TypedLies, all_atoms, all_parts, all_membranes, total}
 use Rattle.lmn_bridge.proofs.Contexts.{NoRules}
 use Rattle.lmn_bridge.proofs.Occurrences.{times_are, times_parts, port_counts, typed_counts}
-use Rattle.lmn_bridge.proofs.Runs.{run_in, in_run, get_below, get_inside, get_some, parts_in, in_parts}
+use Rattle.lmn_bridge.proofs.Runs.{run_in, in_run, get_inside, parts_in, in_parts}
 use Rattle.lmn_bridge.proofs.Functors.{functor_read}
 use Rattle.lmn_bridge.proofs.PartsOut.{flattened}
-use Rattle.lmn_bridge.proofs.PartsLaid.{held_part, in_either}
+use Rattle.lmn_bridge.proofs.PartsLaid.{held_part}
 use Rattle.lmn_bridge.proofs.PartLaws.{ground_parts_stand_whole}
 use Rattle.lmn_bridge.specs.Parts.{IsGroundPart, HasPart}
 use Rattle.lmn_bridge.proofs.Back.{Reads, walk_level, Stood}
 use Rattle.lmn_bridge.proofs.Lengths.{level_length}
 use Rattle.lmn_bridge.proofs.Numbering.{level_numbers}
 use Rattle.lmn_bridge.specs.Numbers.{numbers_left}
+use Rattle.lmn_base.proofs.Lists.{get_below, get_there as get_some, weigh_append}
+use Rattle.lmn_congruence.proofs.TranslatedLinks.{places_append as places_both}
+use Rattle.lmn_heap.proofs.Common.{same_port}
 use Rattle.lmn_base.specs.declared.functor.Functor.{Functor}
 use Rattle.lmn_base.specs.Names.{HasNames, IsNames, label_names}
 use Rattle.lmn_bridge.specs.Premises.{IsRead}
 
 -- ---- lists by their indices
 
-reads_index : {A : Type 0} (none : A) (xs : List A) (g : ℕ → A) (n : ℕ) → ((i : ℕ) → i < length xs → g (n + i) ≡ slice_index_or xs i none) → Reads g n xs
+pub reads_index : {A : Type 0} (none : A) (xs : List A) (g : ℕ → A) (n : ℕ) → ((i : ℕ) → i < length xs → g (n + i) ≡ slice_index_or xs i none) → Reads g n xs
 reads_index none [] g n h = tt
 reads_index none (x ∷ xs) g n h =
     let z : n + 0 ≡ n = omega arith in
@@ -68,12 +71,12 @@ in_flattened (p ∷ ps) b k = elim (in_either b p (flattened ps) k) [
   | inr j ↦ (let u = in_flattened ps b j in (suc u.0, omega (arith, u.1), u.2))
 ]
 
-flattened_in : (ps : List (List ℕ)) (b n : ℕ) → In b (slice_index_or ps n []) → In b (flattened ps)
+pub flattened_in : (ps : List (List ℕ)) (b n : ℕ) → In b (slice_index_or ps n []) → In b (flattened ps)
 flattened_in [] b n k = absurd k
 flattened_in (p ∷ ps) b zero k = in_left b p (flattened ps) k
 flattened_in (p ∷ ps) b (suc n) k = in_right b p (flattened ps) (flattened_in ps b n k)
 
-places_part : (ps : List (List ℕ)) (b n : ℕ) → places b (slice_index_or ps n []) ≤ places b (flattened ps)
+pub places_part : (ps : List (List ℕ)) (b n : ℕ) → places b (slice_index_or ps n []) ≤ places b (flattened ps)
 places_part [] b n = omega arith
 places_part (p ∷ ps) b zero = omega (arith, places_both b p (flattened ps))
 places_part (p ∷ ps) b (suc n) = omega (arith, places_part ps b n, places_both b p (flattened ps))
@@ -85,7 +88,7 @@ in_index [] b p = absurd p
 in_index (x ∷ xs) b (inl e) = (0, omega arith, e)
 in_index (x ∷ xs) b (inr p) = let u = in_index xs b p in (suc u.0, omega (arith, u.1), u.2)
 
-index_in : (xs : List ℕ) (i : ℕ) → i < length xs → In (slice_index_or xs i 0) xs
+pub index_in : (xs : List ℕ) (i : ℕ) → i < length xs → In (slice_index_or xs i 0) xs
 index_in [] i l = absurd (omega (arith, l))
 index_in (x ∷ xs) zero l = inl refl
 index_in (x ∷ xs) (suc i) l = inr (index_in xs i (omega (arith, l)))
@@ -97,9 +100,9 @@ index_once (x ∷ xs) d zero (suc j) l k e = absurd (each_in (λ y. x ≢ y) xs 
 index_once (x ∷ xs) d (suc i) zero l k e = absurd (each_in (λ y. x ≢ y) xs (slice_index_or xs i 0) d.0 (index_in xs i (omega (arith, l))) (sym e))
 index_once (x ∷ xs) d (suc i) (suc j) l k e = let u = index_once xs d.1 i j (omega (arith, l)) (omega (arith, k)) e in omega (arith, u)
 
-module _ (h : Heap) (v : Valid h) (r : Reading) (naming : IsNaming h r.name) (kind : ℕ → TypeKind) (hd : Head) (m : ℕ) (inner : Forest) (forms : Forms h inner (mems_in h m)) (once : Distinct (m ∷ flat inner))
+module _ (h : Heap) (v : Valid h) (r : HeapReading) (naming : IsNaming h r.name) (kind : ℕ → TypeKind) (hd : Head) (m : ℕ) (inner : Forest) (forms : Forms h inner (mems_in h m)) (once : Distinct (m ∷ flat inner))
     (t : Assignment) (plain : Plain t) (ns : List ℕ) (rest : Region) (images : LevelImages t (tree_of r.names r.rule hd) ns (region_at h r m inner) rest)
-    (o : EachLevel (λ l. NoConnectorLeaf (leaves_of l)) (tree_of r.names r.rule hd)) (none : EachLevel NoRules (tree_of r.names r.rule hd))
+    (o : EachLevel (λ l. NoConnectorLeaf (own_leaves l)) (tree_of r.names r.rule hd)) (none : EachLevel NoRules (tree_of r.names r.rule hd))
     (holds_typed : (n : ℕ) (u : HeadTyped) → HasTyped (flat_items kind 0 1 hd) n u → (p : Port) × HasLink (flat_items kind 0 1 hd) u.link p) where
   abbrev items : List HeadItem
   items = flat_items kind 0 1 hd
@@ -180,7 +183,7 @@ module _ (h : Heap) (v : Valid h) (r : Reading) (naming : IsNaming h r.name) (ki
       (λ b.
       let whole = subst (λ z. Distinct (m ∷ z)) (sym (nil_right (flat inner))) once in
       let u = tree_once h v m inner whole b in
-      omega (arith, u, weigh_both (one_if_same b) (atoms_in h m) (forest_atoms h inner), weigh_same b (tree_atoms h m inner)))
+      omega (arith, u, weigh_append (one_if_same b) (atoms_in h m) (forest_atoms h inner), weigh_same b (tree_atoms h m inner)))
       (λ b. omega (arith, once_of b (flat inner) once.1, weigh_same b (flat inner)))
 
   stood : Stood h v r naming images_at part_at t plain items kind 0 0 1 items found.atoms found.parts found.membranes
@@ -196,7 +199,7 @@ module _ (h : Heap) (v : Valid h) (r : Reading) (naming : IsNaming h r.name) (ki
       let heavy = level_weighs h (one_if_same b) (λ a. 0) found.lying in
       let whole = subst (λ z. Distinct (m ∷ z)) (sym (nil_right (flat inner))) once in
       let u = tree_once h v m inner whole b in
-      omega (arith, heavy, u, weigh_nothing found.membranes, weigh_nothing (flat inner), weigh_nothing (flat found.left_forest), weigh_same b found.atoms, weigh_same b (flattened found.parts), weigh_same b (tree_atoms h m inner), weigh_both (one_if_same b) (atoms_in h m) (forest_atoms h inner))
+      omega (arith, heavy, u, weigh_nothing found.membranes, weigh_nothing (flat inner), weigh_nothing (flat found.left_forest), weigh_same b found.atoms, weigh_same b (flattened found.parts), weigh_same b (tree_atoms h m inner), weigh_append (one_if_same b) (atoms_in h m) (forest_atoms h inner))
 
   membranes_few : (b : ℕ) → places b found.membranes ≤ 1
   membranes_few b =
@@ -295,7 +298,7 @@ module _ (h : Heap) (v : Valid h) (r : Reading) (naming : IsNaming h r.name) (ki
     differ n k l j e = let q = lengths.0 in index_once found.atoms (distinct_of found.atoms (λ b. let w = places_few b in omega (arith, w))) n k (omega (arith, l, q)) (omega (arith, j, q)) e
 
     -- an embedding in the region is one on the heap
-    pub embeds : (guard : List Cond) → ((n : ℕ) (u : HeadTyped) → HasTyped items n u → IsOfKind h u.kind (images_at.part n)) → GuardHolds h (meaning items images_at) guard → Embeds h items guard m images_at
+    pub embeds : (guard : List Cond) → ((n : ℕ) (u : HeadTyped) → HasTyped items n u → IsOfKindAt h u.kind (images_at.part n)) → HoldsOnHeap h (meaning items images_at) guard → Embeds h items guard m images_at
     embeds guard kinds holds = record {
       here = refl;
       atoms_differ = differ;

@@ -1,29 +1,30 @@
 -- Parts of a heap and ground parts of the calculus.
 use Rattle.std.proofs.Common.{ℕ, ◌≡◌, ◌≢◌, List, [], ◌∷◌, map, refl, sym, ap, subst, inl, inr, arith}
-use Rattle.lmn_base.specs.Graphs.{Reached, at_root, across, StandsWhole}
+use Rattle.lmn_base.specs.Graphs.{Reached, at_root, across, StandsWhole, Port}
 use Rattle.lmn_heap.specs.Heap.{Heap, IsAtom, atoms_in}
 use Rattle.lmn_heap.specs.Graphs.{atom_map}
 use Rattle.lmn_heap.specs.Lists.{Each, In, Distinct}
 use Rattle.lmn_heap.proofs.ListLemmas.{each_in, each_of}
 use Rattle.lmn_heap.proofs.Listing.{home_is}
-use Rattle.lmn_solid.specs.Heads.{Port}
 use Rattle.lmn_congruence.specs.Orders.{Put, Shuffle, none, more, here, there}
 use Rattle.lmn_congruence.specs.Regions.{SolidAtom}
 use Rattle.lmn_congruence.specs.Rules.{Label}
-use Rattle.lmn_reduction.specs.Parts.{Rooted, IsGround, SameGraph, atoms_of}
+use Rattle.lmn_reduction.specs.Parts.{Rooted, IsGround, EqualParts, atoms_at_top}
 use Rattle.lmn_congruence.proofs.Solids.{put_map}
 use Rattle.lmn_adequacy.specs.Embedding.{Merged, merged_none, from_first, from_second}
-use Rattle.lmn_bridge.specs.HeapRegions.{Reading, atoms_at}
+use Rattle.lmn_bridge.specs.HeapRegions.{HeapReading, atoms_at}
 use Rattle.lmn_bridge.specs.Premises.{IsRead}
 use Rattle.lmn_bridge.specs.Parts.{IsGroundPart, HasPart, WholePartsAreGround, GroundPartsStandWhole, EqualPartsAlike}
 use Rattle.lmn_bridge.proofs.Pieces.{atom_at, atoms_each}
 use Rattle.lmn_bridge.proofs.Counting.{list_atoms}
 use Rattle.lmn_bridge.proofs.Forests.{home_in}
-use Rattle.lmn_bridge.proofs.PartLists.{PartList, part_list, in_or_not, all_of_part}
+use Rattle.lmn_bridge.proofs.PartLists.{PartList, part_list, all_of_part}
 use Rattle.lmn_bridge.proofs.GroundParts.{labelled, atoms_beside, only_atoms_beside, rooted_at, part_is_ground}
 use Rattle.lmn_bridge.proofs.PartsBack.{root_inside, is_shut, each_reached, all_inside, stands_whole}
 use Rattle.lmn_bridge.proofs.SameParts.{Renames, counted, count, same_flipped, same_chained, same_ground}
 use Rattle.lmn_bridge.proofs.SameWholes.{WholePart, same_into, same_back}
+use Rattle.lmn_base.proofs.Lists.{map_itself as same_links}
+use Rattle.lmn_heap.proofs.Common.{decide_in}
 
 -- ---- atoms taken out of a list, in its order
 
@@ -39,7 +40,7 @@ pub picked : (ss us : List ℕ) → Distinct us → Picked ss us
 picked ss [] d = record { part = []; rest = []; merged = merged_none; once = tt; from = λ a k. absurd k; to = λ a k m. m }
 picked ss (u ∷ us) d =
     let w = picked ss us d.1 in
-    elim (in_or_not u ss) [
+    elim (decide_in u ss) [
       | inl k ↦ record {
         part = u ∷ w.part;
         rest = w.rest;
@@ -58,15 +59,11 @@ picked ss (u ∷ us) d =
       }
     ]
 
-same_links : (xs : List ℕ) → map (λ x. x) xs ≡ xs
-same_links [] = refl
-same_links (x ∷ xs) = ap (λ ys. x ∷ ys) (same_links xs)
-
 as_they_are : (bs : List SolidAtom) → Shuffle (λ (a : Label × List ℕ) (b : SolidAtom). record { label = a.0; links = map (λ x. x) a.1 } ≡ b) (map labelled bs) bs
 as_they_are [] = none
 as_they_are (b ∷ bs) = more (λ i. record { label = b.label; links = same_links b.links i }) (as_they_are bs) here
 
-shuffle_right : {A B C : Type 0} {R : A → B → Type 0} {S : A → C → Type 0} (f : B → C) {as' : List A} {bs : List B} → Shuffle R as' bs → ((a : A) (b : B) → R a b → S a (f b)) → Shuffle S as' (map f bs)
+pub shuffle_right : {A B C : Type 0} {R : A → B → Type 0} {S : A → C → Type 0} (f : B → C) {as' : List A} {bs : List B} → Shuffle R as' bs → ((a : A) (b : B) → R a b → S a (f b)) → Shuffle S as' (map f bs)
 shuffle_right f none h = none
 shuffle_right f (more {x = x} {y = y} e s p) h = more (h x y e) (shuffle_right f s h) (put_map f p)
 
@@ -79,7 +76,7 @@ none_left (more w s p) e = absurd (not_put p e)
     not_put here e = cc
     not_put (there p) e = cc
 
-module _ (h : Heap) (r : Reading) (read : IsRead h r) where
+module _ (h : Heap) (r : HeapReading) (read : IsRead h r) where
   atoms_are : (part : List ℕ) → ((a : ℕ) → In a part → IsAtom h a) → Each (IsAtom h) part
   atoms_are part k = each_of (IsAtom h) part k
 
@@ -94,19 +91,19 @@ module _ (h : Heap) (r : Reading) (read : IsRead h r) where
     each_atom = atoms_are (x ∷ xs) (λ a k. listed_atom m a (p.inside a k))
 
     -- a part as atoms side by side
-    pub graph_of_part : SameGraph g (rooted_at h r root x xs)
+    pub graph_of_part : EqualParts g (rooted_at h r root x xs)
     graph_of_part = record {
       to = p.is.to;
       one_to_one = p.is.one_to_one;
       roots = p.is.root;
-      atoms = subst (Shuffle (Renames p.is.to) (atoms_of g.process)) (sym (atoms_beside (atom_at h r x) (map (atom_at h r) xs)))
-          (shuffle_right {S = Renames p.is.to} labelled (subst (Shuffle (λ a b. record { label = a.0; links = map p.is.to a.1 } ≡ b) (atoms_of g.process)) (atoms_each h r (x ∷ xs) each_atom) p.is.atoms) (λ a b e. ap labelled e));
+      atoms = subst (Shuffle (Renames p.is.to) (atoms_at_top g.process)) (sym (atoms_beside (atom_at h r x) (map (atom_at h r) xs)))
+          (shuffle_right {S = Renames p.is.to} labelled (subst (Shuffle (λ a b. record { label = a.0; links = map p.is.to a.1 } ≡ b) (atoms_at_top g.process)) (atoms_each h r (x ∷ xs) each_atom) p.is.atoms) (λ a b e. ap labelled e));
     }
 
     ground_there : IsGround (rooted_at h r root x xs)
     ground_there = same_ground g (rooted_at h r root x xs) p.ground.only_atoms graph_of_part (only_atoms_beside (atom_at h r x) (map (atom_at h r) xs)) p.ground
 
-    graph_back : SameGraph (rooted_at h r root x xs) g
+    graph_back : EqualParts (rooted_at h r root x xs) g
     graph_back = same_flipped g (rooted_at h r root x xs) p.ground.only_atoms graph_of_part (only_atoms_beside (atom_at h r x) (map (atom_at h r) xs)) p.ground.root_is_free
 
     -- a ground part is what is reached through its root
@@ -140,7 +137,7 @@ module _ (h : Heap) (r : Reading) (read : IsRead h r) where
   some_atom m root g p =
       let e = none_left p.is.atoms refl in
       let c = counted g.root g.process p.ground.only_atoms in
-      let z : count g.root (atoms_of g.process) ≡ 0 = ap (count g.root) e in
+      let z : count g.root (atoms_at_top g.process) ≡ 0 = ap (count g.root) e in
       omega (arith, c, z, p.ground.root_is_free)
 
 -- a ground part stands whole

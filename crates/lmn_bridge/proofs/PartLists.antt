@@ -8,19 +8,10 @@ use Rattle.lmn_heap.specs.Lists.{Each, In, Distinct, without}
 use Rattle.lmn_heap.specs.Sound.{Valid}
 use Rattle.lmn_heap.proofs.ListLemmas.{each_in, each_of, in_without}
 use Rattle.lmn_heap.proofs.Listing.{home_is}
-use Rattle.lmn_bridge.proofs.Counting.{within_arity, weigh}
 use Rattle.lmn_bridge.proofs.Weighing.{weigh_without}
-
--- a number is in a list or not
-pub in_or_not : (a : ℕ) (xs : List ℕ) → In a xs ⊎ (In a xs → ⊥)
-in_or_not a [] = inr (λ i. i)
-in_or_not a (x ∷ xs) = elim (cases_eq x a) [
-  | inl e ↦ inl (inl e)
-  | inr d ↦ elim (in_or_not a xs) [
-    | inl i ↦ inl (inr i)
-    | inr n ↦ inr (λ i. elim i [ inl e ↦ d e | inr j ↦ n j ])
-  ]
-]
+use Rattle.lmn_base.proofs.Lists.{weigh}
+use Rattle.lmn_heap.proofs.Replacing.{port_within}
+use Rattle.lmn_heap.proofs.Common.{decide_in}
 
 -- a list without one of its numbers is one shorter
 pub length_without : (a : ℕ) (xs : List ℕ) → In a xs → suc (length (without a xs)) ≡ length xs
@@ -67,7 +58,7 @@ module _ (h : Heap) (root : ℕ × ℕ) where
     where
       by : (o : Option (ℕ × ℕ)) → link_of h a i ≡ o → ◌≢◌ {A = ℕ × ℕ} (a, i) root → Door xs ⊎ ShutAt xs a i
       by None q d = inr (λ b j e l. absurd (let z : ◌≡◌ {A = Option (ℕ × ℕ)} None (Some (b, j)) = sym q ∙ l in cc))
-      by (Some p) q d = elim (in_or_not p.0 xs) [
+      by (Some p) q d = elim (decide_in p.0 xs) [
         | inl m ↦ inr (λ b j e l. let z : ◌≡◌ {A = Option (ℕ × ℕ)} (Some p) (Some (b, j)) = sym q ∙ l in subst (λ c. In c xs) (ap (λ o. first o p.0) z) m)
         | inr n ↦ inl (record { atom = a; index = i; beyond = p.0; at = p.1; among = k; other = d; link = q; new = n })
       ]
@@ -96,7 +87,7 @@ module _ (h : Heap) (root : ℕ × ℕ) where
     | inr s ↦ elim (door_of xs ys e.1) [
       | inl d ↦ inl d
       | inr t ↦ inr (λ a i k. elim k [
-        | inl same ↦ subst (λ c. ShutAt xs c i) same (λ b j d l. s i (within_arity h y i l) b j d l)
+        | inl same ↦ subst (λ c. ShutAt xs c i) same (λ b j d l. s i (port_within h y i _ l) b j d l)
         | inr m ↦ t a i m
       ])
     ]
@@ -164,7 +155,7 @@ pub reached_one : (h : Heap) (v : Valid h) (c : ℕ) → arity_of h c ≡ 1 → 
 reached_one h v c one b at_root = refl
 reached_one h v c one b (across {a = a} {i = i} w d e) =
     let s = reached_one h v c one a w in
-    let l : i < arity_of h a = within_arity h a i e in
+    let l : i < arity_of h a = port_within h a i _ e in
     let n : arity_of h a ≡ 1 = ap (arity_of h) s ∙ one in
     let z : i ≡ 0 = omega (arith, l, n) in
     absurd (d (λ j. (s j, z j)))

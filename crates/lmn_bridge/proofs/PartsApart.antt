@@ -1,13 +1,12 @@
 -- Two parts of a heap have no atom in common.
 use Rattle.std.proofs.Common.{ℕ, ◌≡◌, Option, Some, sym, subst, ◌∙◌, inl, inr}
-use Rattle.lmn_base.specs.Graphs.{Reached, at_root, across}
+use Rattle.lmn_base.specs.Graphs.{Reached, at_root, across, Port}
 use Rattle.lmn_heap.specs.Heap.{Heap, link_of}
 use Rattle.lmn_heap.specs.Graphs.{atom_map}
 use Rattle.lmn_heap.specs.Sound.{Valid}
-use Rattle.lmn_solid.specs.Heads.{Port}
 use Rattle.lmn_bridge.specs.Parts.{PartsAreApart}
-use Rattle.lmn_bridge.proofs.Counting.{same_port}
 use Rattle.lmn_bridge.proofs.PartLists.{is_port}
+use Rattle.lmn_heap.proofs.Common.{same_port}
 
 -- from an atom of both the other part is walked back to where the first is entered
 walked_back : (h : Heap) (v : Valid h) (p q other : Port) → link_of h q.0 q.1 ≡ Some other → (Reached (atom_map h) p other.0 → ⊥) →

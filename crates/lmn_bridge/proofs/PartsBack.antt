@@ -6,22 +6,25 @@ use Rattle.lmn_heap.specs.Graphs.{atom_map}
 use Rattle.lmn_heap.specs.Lists.{Each, In, Distinct}
 use Rattle.lmn_heap.specs.Sound.{Valid}
 use Rattle.lmn_congruence.specs.Orders.{Among}
-use Rattle.lmn_reduction.specs.Parts.{IsGround, Reached, the_root, across}
+use Rattle.lmn_reduction.specs.Parts.{IsGround, ReachesLink, the_root, across}
 use Rattle.lmn_heap.specs.Solid.{IsNaming}
-use Rattle.lmn_bridge.specs.HeapRegions.{Reading}
+use Rattle.lmn_bridge.specs.HeapRegions.{HeapReading}
 use Rattle.lmn_bridge.proofs.Pieces.{atom_at}
-use Rattle.lmn_bridge.proofs.Counting.{weigh, times_at, ends_among, within_arity, same_port}
+use Rattle.lmn_bridge.proofs.Counting.{times_at, ends_among}
 use Rattle.lmn_bridge.proofs.Forests.{none_of, some_of, once_of, find_in}
 use Rattle.lmn_bridge.proofs.Ports.{port_named}
-use Rattle.lmn_bridge.proofs.PartLists.{IsShut, is_port, in_or_not, all_of_part}
+use Rattle.lmn_bridge.proofs.PartLists.{IsShut, is_port, all_of_part}
 use Rattle.lmn_bridge.proofs.GroundParts.{rooted_at, at_among, among_atom, atom_among, occurs_beside}
+use Rattle.lmn_base.proofs.Lists.{weigh}
+use Rattle.lmn_heap.proofs.Common.{same_port, decide_in}
+use Rattle.lmn_heap.proofs.Replacing.{port_within}
 
-module _ (h : Heap) (r : Reading) (v : Valid h) (naming : IsNaming h r.name) (root q : ℕ × ℕ) (link : link_of h root.0 root.1 ≡ Some q)
+module _ (h : Heap) (r : HeapReading) (v : Valid h) (naming : IsNaming h r.name) (root q : ℕ × ℕ) (link : link_of h root.0 root.1 ≡ Some q)
     (x : ℕ) (xs : List ℕ) (once : Distinct (x ∷ xs)) (atoms : Each (IsAtom h) (x ∷ xs)) (away : In q.0 (x ∷ xs) → ⊥) (ground : IsGround (rooted_at h r root x xs)) where
   -- the atom of the root is among them
   pub root_inside : In root.0 (x ∷ xs)
   root_inside =
-      let e = ends_among h r v naming root.0 root.1 q.0 q.1 (within_arity h root.0 root.1 link) link (x ∷ xs) atoms in
+      let e = ends_among h r v naming root.0 root.1 q.0 q.1 (port_within h root.0 root.1 _ link) link (x ∷ xs) atoms in
       let f : weigh (times_at h r (r.name root.0 root.1)) (x ∷ xs) ≡ 1 = sym (occurs_beside h r v (r.name root.0 root.1) x xs) ∙ ground.root_is_free in
       find_in root.0 (x ∷ xs) (omega (arith, e, f, none_of q.0 (x ∷ xs) away))
 
@@ -31,21 +34,21 @@ module _ (h : Heap) (r : Reading) (v : Valid h) (naming : IsNaming h r.name) (ro
       away (subst (λ c. In c (x ∷ xs)) (same_port w).0 k)
 
   pub is_shut : IsShut h root (x ∷ xs)
-  is_shut a i b j k d e = elim (in_or_not b (x ∷ xs)) [
+  is_shut a i b j k d e = elim (decide_in b (x ∷ xs)) [
     | inl m ↦ m
     | inr n ↦
-        let port = within_arity h a i e in
+        let port = port_within h a i _ e in
         let w = ends_among h r v naming a i b j port e (x ∷ xs) atoms in
         let f : weigh (times_at h r (r.name a i)) (x ∷ xs) ≡ 1 = omega (arith, w, once_of a (x ∷ xs) once, some_of a (x ∷ xs) k, none_of b (x ∷ xs) n) in
-        elim (naming.apart a i root.0 root.1 port (within_arity h root.0 root.1 link) (ground.nothing_else_free (r.name a i) (occurs_beside h r v (r.name a i) x xs ∙ f))) [
+        elim (naming.apart a i root.0 root.1 port (port_within h root.0 root.1 _ link) (ground.nothing_else_free (r.name a i) (occurs_beside h r v (r.name a i) x xs ∙ f))) [
           | inl s ↦ absurd (d (λ t. (s.0 t, s.1 t)))
           | inr s ↦ absurd (n (subst (λ c. In c (x ∷ xs)) (sym (same_port (sym e ∙ s)).0) root_inside))
         ]
   ]
 
   -- a port whose link is reached in the calculus is one of an atom that is reached on the heap
-  link_reached : {y : ℕ} → Reached (rooted_at h r root x xs) y → (c k : ℕ) → In c (x ∷ xs) → k < arity_of h c → r.name c k ≡ y → ReachedOnHeap (atom_map h) root c
-  link_reached the_root c k m port e = elim (naming.apart c k root.0 root.1 port (within_arity h root.0 root.1 link) e) [
+  link_reached : {y : ℕ} → ReachesLink (rooted_at h r root x xs) y → (c k : ℕ) → In c (x ∷ xs) → k < arity_of h c → r.name c k ≡ y → ReachedOnHeap (atom_map h) root c
+  link_reached the_root c k m port e = elim (naming.apart c k root.0 root.1 port (port_within h root.0 root.1 _ link) e) [
     | inl s ↦ subst (ReachedOnHeap (atom_map h) root) (sym s.0) at_root
     | inr s ↦ absurd (not_the_root root.0 root.1 c k m (v.sound.paired.back c k root.0 root.1 s) (refl, refl))
   ]

@@ -1,9 +1,8 @@
 -- The parts of typed contexts, given as lists of atoms, are taken out of a list that has their atoms.
-use Rattle.std.proofs.Common.{ℕ, ◌≡◌, ◌+◌, ◌⊎◌, List, [], ◌∷◌, ◌++◌, map, Some, refl, sym, ap, subst, ◌∙◌, inl, inr, arith}
+use Rattle.std.proofs.Common.{ℕ, ◌≡◌, ◌+◌, List, [], ◌∷◌, map, Some, refl, sym, ap, subst, ◌∙◌, inl, inr, arith}
 use Rattle.lmn_heap.specs.Heap.{Heap, IsAtom, atoms_in, link_of}
 use Rattle.lmn_heap.specs.Lists.{In, Distinct}
 use Rattle.lmn_heap.proofs.ListLemmas.{each_in, each_of, in_left, in_right, apart, distinct_left, distinct_right}
-use Rattle.lmn_solid.specs.Heads.{Port}
 use Rattle.lmn_congruence.specs.Links.{one_if_same}
 use Rattle.lmn_congruence.specs.Orders.{Put, there, Shuffle, none, more, here}
 use Rattle.lmn_congruence.specs.Regions.{SolidAtom}
@@ -11,15 +10,17 @@ use Rattle.lmn_congruence.specs.Rules.{Label, Leaf, Name, atom_leaf, typed_leaf}
 use Rattle.lmn_congruence.proofs.Shuffles.{shuffle_chain}
 use Rattle.lmn_reduction.specs.Parts.{IsGround, Rooted}
 use Rattle.lmn_adequacy.specs.Embedding.{IsPart, Merged}
-use Rattle.lmn_bridge.specs.HeapRegions.{Reading, atoms_at}
+use Rattle.lmn_bridge.specs.HeapRegions.{HeapReading, atoms_at}
 use Rattle.lmn_bridge.specs.Premises.{IsRead}
 use Rattle.lmn_bridge.specs.Parts.{IsGroundPart}
 use Rattle.lmn_bridge.proofs.Pieces.{atom_at, atoms_each}
-use Rattle.lmn_bridge.proofs.Counting.{weigh, weigh_both, weigh_same, list_atoms}
+use Rattle.lmn_bridge.proofs.Counting.{weigh_same, list_atoms}
 use Rattle.lmn_bridge.proofs.Forests.{find_in, some_of}
 use Rattle.lmn_bridge.proofs.Matchings.{matching, shuffle_mapped}
 use Rattle.lmn_bridge.proofs.PartLaws.{picked}
 use Rattle.lmn_bridge.proofs.PartsOut.{PartsOut, parts_none, parts_atom, parts_typed, flattened, merged_either, merged_once}
+use Rattle.lmn_base.specs.Graphs.{Port}
+use Rattle.lmn_base.proofs.Lists.{weigh, weigh_append}
 
 -- ---- the same atoms in another order
 
@@ -34,12 +35,6 @@ weigh_shuffled w (more e s p) = omega (arith, ap w e, weigh_shuffled w s, weigh_
 
 shuffled_in : {xs ys : List ℕ} → Shuffle (λ (a b : ℕ). a ≡ b) xs ys → (a : ℕ) → In a ys → In a xs
 shuffled_in {xs} {ys} s a k = find_in a xs (omega (arith, weigh_shuffled (one_if_same a) s, weigh_same a xs, weigh_same a ys, some_of a ys k))
-
--- what is in two lists in a row is in one of them
-pub in_either : (b : ℕ) (xs ys : List ℕ) → In b (xs ++ ys) → In b xs ⊎ In b ys
-in_either b [] ys k = inr k
-in_either b (x ∷ xs) ys (inl e) = inl (inl e)
-in_either b (x ∷ xs) ys (inr k) = elim (in_either b xs ys k) [ inl j ↦ inl (inr j) | inr j ↦ inr j ]
 
 -- the atoms of a part in the order of a list that has them
 part_taken_out : (g : ℕ → SolidAtom) (part xs : List ℕ) (G : Rooted) (x : ℕ) → IsPart G x (map g part) → Distinct part → Distinct xs → ((a : ℕ) → In a part → In a xs) →
@@ -91,12 +86,12 @@ lay_parts g link_of' typed_of xs (given_typed {p = p} {x = x} {part = part} {par
       parts = w.0 ∷ u.parts;
       rest = u.rest;
       out = parts_typed ground w.4 w.2 u.out;
-      same = λ f. let s = u.same f in omega (arith, s, weigh_shuffled f w.3, weigh_both f w.0 (flattened u.parts), weigh_both f part (flattened parts));
+      same = λ f. let s = u.same f in omega (arith, s, weigh_shuffled f w.3, weigh_append f w.0 (flattened u.parts), weigh_append f part (flattened parts));
     }
 
 -- ---- the parts of a heap
 
-module _ (h : Heap) (r : Reading) (read : IsRead h r) where
+module _ (h : Heap) (r : HeapReading) (read : IsRead h r) where
   -- a ground part, by the numbers of its atoms
   pub as_read : (m : ℕ) (root : Port) (part : List ℕ) (g : Rooted) → IsGroundPart h r m root part g → IsPart g (r.name root.0 root.1) (map (atom_at h r) part)
   as_read m root part g p =

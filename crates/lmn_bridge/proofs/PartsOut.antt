@@ -9,7 +9,8 @@ use Rattle.lmn_congruence.specs.Rules.{Label, Leaf, Name, atom_leaf, typed_leaf}
 use Rattle.lmn_reduction.specs.Assignments.{Assignment}
 use Rattle.lmn_reduction.specs.Parts.{IsGround, Rooted}
 use Rattle.lmn_adequacy.specs.Embedding.{TypedParts, no_part, no_part_of_atom, part_and, IsPart, Merged, merged_none, from_first, from_second}
-use Rattle.lmn_bridge.proofs.Counting.{weigh, weigh_both, places_both}
+use Rattle.lmn_base.proofs.Lists.{weigh, weigh_append}
+use Rattle.lmn_congruence.proofs.TranslatedLinks.{places_append as places_both}
 
 -- each typed context of the leaves has its part, one list each
 pub data PartsOut (g : ℕ → SolidAtom) (link_of : ℕ → ℕ) (typed_of : Name → Rooted) : List Leaf → List (List ℕ) → List ℕ → List ℕ → Type 0 where
@@ -92,7 +93,7 @@ pub parts_weigh : (w : ℕ → ℕ) {g : ℕ → SolidAtom} {link_of : ℕ → �
     weigh w (flattened parts) + weigh w rest ≡ weigh w xs
 parts_weigh w parts_none = omega arith
 parts_weigh w (parts_atom p) = parts_weigh w p
-parts_weigh w (parts_typed {parts = parts} {part = part} ground is m p) = omega (arith, parts_weigh w p, weigh_merged w m, weigh_both w part (flattened parts))
+parts_weigh w (parts_typed {parts = parts} {part = part} ground is m p) = omega (arith, parts_weigh w p, weigh_merged w m, weigh_append w part (flattened parts))
 
 -- ---- what is merged
 
@@ -141,7 +142,7 @@ flattened_right b ps qs k = subst (In b) (sym (flattened_both ps qs)) (in_right 
 
 -- the weight of two lists of parts in a row
 pub parts_both : (w : ℕ → ℕ) (ps qs : List (List ℕ)) → weigh w (flattened (ps ++ qs)) ≡ weigh w (flattened ps) + weigh w (flattened qs)
-parts_both w ps qs = ap (weigh w) (flattened_both ps qs) ∙ weigh_both w (flattened ps) (flattened qs)
+parts_both w ps qs = ap (weigh w) (flattened_both ps qs) ∙ weigh_append w (flattened ps) (flattened qs)
 
 -- places in two lists of parts in a row
 pub places_parts : (b : ℕ) (ps qs : List (List ℕ)) → places b (flattened (ps ++ qs)) ≡ places b (flattened ps) + places b (flattened qs)

@@ -3,26 +3,27 @@ use Rattle.std.proofs.Common.{ℕ, suc, ◌≡◌, ◌≢◌, ◌==◌, Bool, tr
 use Rattle.std.proofs.lemmas.Bool.{eq-eqb, eqb-true}
 use Rattle.lmn_heap.specs.Heap.{Heap, HeapAtom, IsAtom}
 use Rattle.lmn_heap.specs.Lists.{Each, In, Distinct, without}
-use Rattle.lmn_heap.specs.Solid.{numbered}
-use Rattle.lmn_heap.proofs.ListLemmas.{apart_test, each_in}
+use Rattle.lmn_heap.specs.Solid.{links_from}
+use Rattle.lmn_heap.proofs.ListLemmas.{each_in}
 use Rattle.lmn_solid.specs.Embeddings.{index_of}
 use Rattle.lmn_congruence.specs.Rules.{named}
 use Rattle.lmn_congruence.specs.Regions.{SolidAtom}
 use Rattle.lmn_congruence.specs.Translation.{label_of}
 use Rattle.lmn_adequacy.specs.Embedding.{Taken, taken_first, taken_later}
-use Rattle.lmn_bridge.specs.HeapRegions.{Reading, atoms_at}
+use Rattle.lmn_bridge.specs.HeapRegions.{HeapReading, atoms_at}
+use Rattle.lmn_base.proofs.Numbers.{not_equal as apart_test}
 
 -- an atom of the solid, by its number
-abbrev pub atom_by : Reading → ℕ → Option HeapAtom → SolidAtom
+abbrev pub atom_by : HeapReading → ℕ → Option HeapAtom → SolidAtom
 atom_by r a None = record { label = named []; links = [] }
-atom_by r a (Some x) = record { label = label_of r.names x.functor.label; links = numbered r.name a 0 x.functor.arity }
+atom_by r a (Some x) = record { label = label_of r.names x.functor.label; links = links_from r.name a 0 x.functor.arity }
 
 -- the atom with a number, as it stands in a region
-abbrev pub atom_at : Heap → Reading → ℕ → SolidAtom
+abbrev pub atom_at : Heap → HeapReading → ℕ → SolidAtom
 atom_at h r a = atom_by r a (h.atoms a)
 
 -- the atoms of a list stand one by one
-pub atoms_each : (h : Heap) (r : Reading) (xs : List ℕ) → Each (IsAtom h) xs → atoms_at h r xs ≡ map (atom_at h r) xs
+pub atoms_each : (h : Heap) (r : HeapReading) (xs : List ℕ) → Each (IsAtom h) xs → atoms_at h r xs ≡ map (atom_at h r) xs
 atoms_each h r [] e = refl
 atoms_each h r (a ∷ xs) e = by (h.atoms a) refl e.0 (atoms_each h r xs e.1)
   where

@@ -5,13 +5,14 @@ use Rattle.std.proofs.lemmas.Bool.{cases_eq, eq-eqb}
 use Rattle.std.proofs.lemmas.Option.{same_Some}
 use Rattle.lmn_heap.specs.Heap.{Heap, HeapAtom, functor_of, arity_of}
 use Rattle.lmn_heap.specs.Sound.{Valid}
-use Rattle.lmn_heap.specs.Solid.{numbered}
-use Rattle.lmn_heap.proofs.ListLemmas.{apart_test}
+use Rattle.lmn_heap.specs.Solid.{links_from}
 use Rattle.lmn_solid.specs.Heads.{HeadMembrane, inside_of, outermost, outermost_by}
 use Rattle.lmn_congruence.specs.Links.{places}
-use Rattle.lmn_bridge.specs.HeapRegions.{Reading}
+use Rattle.lmn_bridge.specs.HeapRegions.{HeapReading}
 use Rattle.lmn_bridge.proofs.Pieces.{atom_at, atom_by}
-use Rattle.lmn_bridge.proofs.Counting.{apart_none}
+use Rattle.lmn_base.proofs.Numbers.{not_equal as apart_test}
+use Rattle.lmn_congruence.proofs.Counts.{none_if_apart as apart_none}
+use Rattle.lmn_heap.proofs.Common.{numbered_get}
 
 -- a link with a place stands at an index
 pub find_place : (x : ℕ) (ys : List ℕ) → places x ys ≢ 0 → (i : ℕ) × (slice_get ys i ≡ Some x)
@@ -28,7 +29,7 @@ get_map f (y ∷ ys) zero x e = ap Some (ap f (same_Some y x e))
 get_map f (y ∷ ys) (suc i) x e = get_map f ys i x e
 
 -- a link of an atom has the number of its port
-pub get_numbered : (name : ℕ → ℕ → ℕ) (a k n i x : ℕ) → slice_get (numbered name a k n) i ≡ Some x → (name a (k + i) ≡ x) × (i < n)
+pub get_numbered : (name : ℕ → ℕ → ℕ) (a k n i x : ℕ) → slice_get (links_from name a k n) i ≡ Some x → (name a (k + i) ≡ x) × (i < n)
 get_numbered name a k zero i x e = absurd (cc)
 get_numbered name a k (suc n) zero x e = let z : k + 0 ≡ k = omega arith in (rw z (same_Some (name a k) x e), omega arith)
 get_numbered name a k (suc n) (suc i) x e =
@@ -36,14 +37,8 @@ get_numbered name a k (suc n) (suc i) x e =
     let z : k + suc i ≡ (k + 1) + i = omega arith in
     (rw z u.0, omega (arith, u.1))
 
--- and a port of an atom has its link there
-pub numbered_get : (name : ℕ → ℕ → ℕ) (a k n i : ℕ) → i < n → slice_get (numbered name a k n) i ≡ Some (name a (k + i))
-numbered_get name a k zero i l = absurd (omega (arith, l))
-numbered_get name a k (suc n) zero l = let z : k + 0 ≡ k = omega arith in rw z refl
-numbered_get name a k (suc n) (suc i) l = let z : k + suc i ≡ (k + 1) + i = omega arith in rw z (numbered_get name a (k + 1) n i (omega (arith, l)))
-
 -- a port of an atom, by its links in the solid
-pub port_named : (h : Heap) (v : Valid h) (r : Reading) (b : ℕ) (i x : ℕ) → slice_get (atom_at h r b).links i ≡ Some x → (r.name b i ≡ x) × (i < arity_of h b)
+pub port_named : (h : Heap) (v : Valid h) (r : HeapReading) (b : ℕ) (i x : ℕ) → slice_get (atom_at h r b).links i ≡ Some x → (r.name b i ≡ x) × (i < arity_of h b)
 port_named h v r b i x e = by (h.atoms b) refl e
   where
     by : (o : Option HeapAtom) → h.atoms b ≡ o → slice_get (atom_by r b o).links i ≡ Some x → (r.name b i ≡ x) × (i < arity_of h b)
@@ -56,7 +51,7 @@ port_named h v r b i x e = by (h.atoms b) refl e
         (rw z at u.0, omega (arith, u.1, n))
 
 -- a port of an atom has its link in the region
-pub named_port : (h : Heap) (v : Valid h) (r : Reading) (b i : ℕ) → i < arity_of h b → slice_get (atom_at h r b).links i ≡ Some (r.name b i)
+pub named_port : (h : Heap) (v : Valid h) (r : HeapReading) (b i : ℕ) → i < arity_of h b → slice_get (atom_at h r b).links i ≡ Some (r.name b i)
 named_port h v r b i l = by (h.atoms b) refl
   where
     by : (o : Option HeapAtom) → h.atoms b ≡ o → slice_get (atom_by r b o).links i ≡ Some (r.name b i)

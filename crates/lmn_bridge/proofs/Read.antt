@@ -1,20 +1,20 @@
 -- What lies in the region of a heap lies in the heap.
 use Rattle.std.proofs.Common.{ℕ, ◌≡◌, ◌≢◌, List, [], ◌∷◌, ◌++◌, map, refl, sym, ap, subst, ◌∙◌}
 use Rattle.lmn_heap.specs.Heap.{Heap, atoms_in, rules_in}
-use Rattle.lmn_heap.specs.Lists.{Each, In, Distinct, without}
+use Rattle.lmn_heap.specs.Lists.{Each, In, Distinct, without, without_all}
 use Rattle.lmn_heap.specs.Sound.{Forest, bare, mem, Valid}
 use Rattle.lmn_heap.proofs.Listing.{in_without_of, distinct_without}
-use Rattle.lmn_congruence.specs.Regions.{SolidAtom, Region, Regions, region, no_region, region_and, region_process}
+use Rattle.lmn_congruence.specs.Regions.{SolidAtom, Region, Regions, region, region_and, region_process}
 use Rattle.lmn_congruence.specs.Rules.{Leaf, Level, Levels, Rule, level}
 use Rattle.lmn_reduction.specs.Assignments.{Assignment}
 use Rattle.lmn_adequacy.specs.Embedding.{AtomImages, no_image, image_and, typed_later, LevelImages, level_images, MembraneImages, no_membrane_image, membrane_image_and, TakenRegion, region_first, region_later, KeepsLinks, filling}
 use Rattle.lmn_congruence.specs.UpToOrder.{Reordered}
-use Rattle.lmn_bridge.specs.HeapRegions.{Reading, regions_at, region_at}
+use Rattle.lmn_bridge.specs.HeapRegions.{HeapReading, regions_at, region_at}
 use Rattle.lmn_bridge.proofs.Pieces.{atom_at, atoms_each, numbers, taken_out}
-use Rattle.lmn_bridge.specs.Numbers.{without_all}
 use Rattle.lmn_bridge.proofs.Counting.{list_atoms}
 use Rattle.lmn_bridge.proofs.PartsOut.{find_parts}
 use Rattle.lmn_bridge.proofs.Lying.{FitLeaves, fit_none, fit_atom, fit_typed, TakenTree, tree_first, tree_later, Kept, Lies, lies, LiesIn, lies_none, lies_and}
+use Rattle.lmn_adequacy.proofs.PlainSolids.{first_or as first_region, others as later_regions}
 
 -- the numbers of the images of leaves
 pub record FoundLeaves (g : ℕ → SolidAtom) (t : Assignment) (ls : List Leaf) (xs ns : List ℕ) (rest : List SolidAtom) : Type 0 where
@@ -51,13 +51,8 @@ find_leaves g t xs d (typed_later i) e =
     let w = find_leaves g t xs d i e in
     record { images = w.images; fit = fit_typed w.fit; distinct = w.distinct; among = w.among; places = w.places; others = w.others }
 
--- what images leave of a list
-pub distinct_left_over : (bs xs : List ℕ) → Distinct xs → Distinct (without_all bs xs)
-distinct_left_over [] xs d = d
-distinct_left_over (b ∷ bs) xs d = distinct_left_over bs (without b xs) (distinct_without b xs d)
-
 -- a membrane of a region, by its number
-pub record FoundTree (h : Heap) (r : Reading) (f : Forest) (n : ℕ) (m : Region) (rest : Regions) : Type 0 where
+pub record FoundTree (h : Heap) (r : HeapReading) (f : Forest) (n : ℕ) (m : Region) (rest : Regions) : Type 0 where
   pub number : ℕ
   pub inner : Forest
   pub others : Forest
@@ -65,16 +60,8 @@ pub record FoundTree (h : Heap) (r : Reading) (f : Forest) (n : ℕ) (m : Region
   pub is : m ≡ region_at h r number inner
   pub is_rest : rest ≡ regions_at h r others
 
-abbrev first_region : Region → Regions → Region
-first_region d no_region = d
-first_region d (region_and m ms) = m
-
-abbrev later_regions : Regions → Regions
-later_regions no_region = no_region
-later_regions (region_and m ms) = ms
-
 -- a membrane of a region is a tree of the forest
-pub find_tree : (h : Heap) (r : Reading) (f : Forest) {n : ℕ} {m : Region} {ms rest : Regions} → TakenRegion n m ms rest → ms ≡ regions_at h r f → FoundTree h r f n m rest
+pub find_tree : (h : Heap) (r : HeapReading) (f : Forest) {n : ℕ} {m : Region} {ms rest : Regions} → TakenRegion n m ms rest → ms ≡ regions_at h r f → FoundTree h r f n m rest
 find_tree h r bare region_first e = absurd (cc)
 find_tree h r bare (region_later k) e = absurd (cc)
 find_tree h r (mem m i f) (region_first {m = M} {ms = ms}) e =
@@ -84,7 +71,7 @@ find_tree h r (mem m i f) (region_later {k = K} k) e =
     let u = find_tree h r f k (ap later_regions e) in
     record { number = u.number; inner = u.inner; others = mem m i u.others; taken = tree_later u.taken; is = u.is; is_rest = λ j. region_and (p j) (u.is_rest j) }
 
-module _ (h : Heap) (v : Valid h) (r : Reading) (t : Assignment) where
+module _ (h : Heap) (v : Valid h) (r : HeapReading) (t : Assignment) where
   abbrev g : ℕ → SolidAtom
   g = atom_at h r
 

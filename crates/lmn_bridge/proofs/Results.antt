@@ -16,27 +16,27 @@ use Rattle.lmn_heap.specs.Lists.{In, Distinct}
 use Rattle.lmn_heap.proofs.Trees.{nil_right}
 use Rattle.lmn_heap.specs.Sound.{Forest, bare, mem, flat, IsTree}
 use Rattle.lmn_solid.specs.Embeddings.{Images, Embeds, HasAtom, HasTyped}
-use Rattle.lmn_solid.specs.Flattening.{items_of}
-use Rattle.lmn_solid.specs.Guards.{IsOfKind}
-use Rattle.lmn_solid.specs.Heads.{HeadAtom, HeadTyped, Port, typed_contexts_of}
+use Rattle.lmn_solid.specs.Flattening.{items_of_head}
+use Rattle.lmn_solid.specs.Guards.{IsOfKindAt}
+use Rattle.lmn_solid.specs.Heads.{HeadAtom, HeadTyped, typed_contexts_of}
 use Rattle.lmn_congruence.specs.LinkedRules.{level_occurrences}
 use Rattle.lmn_congruence.specs.Rules as tree
 use Rattle.lmn_congruence.specs.Translation.{name_of, rule_tree}
-use Rattle.lmn_congruence.specs.Orders.{Among}
+use Rattle.lmn_congruence.specs.Orders.{Among, EachOnce}
 use Rattle.lmn_reduction.specs.Parts.{Rooted}
 use Rattle.lmn_congruence.specs.Process.{Process}
 use Rattle.lmn_reduction.specs.Commits.{Irreducible}
 use Rattle.lmn_reduction.specs.Steps.{Step}
 use Rattle.lmn_congruence.proofs.Appended.{all_left}
-use Rattle.lmn_adequacy.specs.Accepted.{typed_links, port_links, EachLevel, EachOf, EachOnce, NoConnectorLeaf, leaves_of as tree_leaves, membranes_of, own_contexts, own_rule_contexts, all_contexts, all_rule_contexts, contexts_in, rule_contexts_in}
-use Rattle.lmn_adequacy.specs.Embedding.{EmbedsAt, LevelImages, Embeds as EmbedsInRegion}
+use Rattle.lmn_adequacy.specs.Accepted.{typed_links, port_links, EachLevel, EachOf, NoConnectorLeaf, own_leaves as tree_leaves, own_membranes, own_contexts, own_rule_contexts, all_contexts, all_rule_contexts, contexts_in, rule_contexts_in}
+use Rattle.lmn_adequacy.specs.Embedding.{EmbedsAt, LevelImages, HasEmbedding as EmbedsInRegion}
 use Rattle.lmn_adequacy.proofs.Results.{steps_exactly, irreducible_exactly}
-use Rattle.lmn_bridge.specs.HeapRegions.{Reading, region_at}
+use Rattle.lmn_bridge.specs.HeapRegions.{HeapReading, region_at}
 use Rattle.lmn_bridge.specs.Laws.{HeadsAlike, SomeRuleEmbeds, heap_process}
-use Rattle.lmn_bridge.specs.Premises.{IsRead, HasForest, HasRules, IsRule, HasKinds, IsOf}
+use Rattle.lmn_bridge.specs.Premises.{IsRead, HasForest, HasRules, IsRule, HasKinds, IsOfTypeKind}
 use Rattle.lmn_solid.proofs.HeadTrees.{Head, head_at, items_flat, flat_items}
 use Rattle.lmn_bridge.proofs.HeadTrees.{tree_of, level_tree}
-use Rattle.lmn_bridge.proofs.HeadFacts.{leaf_holds, each_part}
+use Rattle.lmn_bridge.proofs.HeadFacts.{leaf_holds}
 use Rattle.lmn_bridge.proofs.Contexts.{Few, NoRules}
 use Rattle.lmn_bridge.proofs.Into.{result}
 use Rattle.lmn_bridge.proofs.Wholes.{closed_heap, all_accepted, embeds_from, find_embeds}
@@ -45,9 +45,11 @@ use Rattle.lmn_bridge.proofs.OnePart.{unary_parts_alike, integer_parts_alike}
 use Rattle.lmn_bridge.specs.Parts.{IsGroundPart, TakesParts}
 use Rattle.lmn_solid.specs.declared.items.HeadItem.{HeadItem}
 use Rattle.lmn_bridge.specs.Numbers.{numbers_left}
+use Rattle.lmn_base.specs.Graphs.{Port}
+use Rattle.lmn_congruence.proofs.TranslatedNames.{each_part}
 
 -- what an accepted rule's head is like
-module _ (r : Reading) (rule : RuleTree) (kind : ℕ → TypeKind) (k : IsRule r rule) where
+module _ (r : HeapReading) (rule : RuleTree) (kind : ℕ → TypeKind) (k : IsRule r rule) where
   abbrev hd : Head
   hd = head_at rule.head
 
@@ -61,29 +63,29 @@ module _ (r : Reading) (rule : RuleTree) (kind : ℕ → TypeKind) (k : IsRule r
   pub linked : (x : ℕ) → level_occurrences x (tree_of r.names r.rule (head_at rule.head)) ≤ 2
   linked x = subst (λ l. level_occurrences x l ≤ 2) is_tree (elim (k.accepted.linked x) [ inl e ↦ omega (arith, e) | inr e ↦ omega (arith, e) ])
 
-  pub few : EachOf Few (membranes_of (tree_of r.names r.rule (head_at rule.head)))
-  few = subst (λ l. EachOf Few (membranes_of l)) is_tree k.accepted.few
+  pub few : EachOf Few (own_membranes (tree_of r.names r.rule (head_at rule.head)))
+  few = subst (λ l. EachOf Few (own_membranes l)) is_tree k.accepted.few
 
   pub no_rules : EachLevel NoRules (tree_of r.names r.rule (head_at rule.head))
   no_rules = subst (EachLevel NoRules) is_tree k.accepted.no_rules
 
-  inner_rules : (l : tree.Level) → EachLevel NoRules l → EachOf NoRules (membranes_of l)
+  inner_rules : (l : tree.Level) → EachLevel NoRules l → EachOf NoRules (own_membranes l)
   inner_rules (tree.level leaves membranes contexts rule_contexts rules) e = e.1
 
-  pub no_rules_inside : EachOf NoRules (membranes_of (tree_of r.names r.rule (head_at rule.head)))
+  pub no_rules_inside : EachOf NoRules (own_membranes (tree_of r.names r.rule (head_at rule.head)))
   no_rules_inside = inner_rules (tree_of r.names r.rule (head_at rule.head)) no_rules
 
-  inner_contexts : (l : tree.Level) → own_contexts l ≡ [] → all_contexts l ≡ contexts_in (membranes_of l)
+  inner_contexts : (l : tree.Level) → own_contexts l ≡ [] → all_contexts l ≡ contexts_in (own_membranes l)
   inner_contexts (tree.level leaves membranes contexts rule_contexts rules) e = ap (λ z. z ++ contexts_in membranes) e
 
-  inner_rule_contexts : (l : tree.Level) → own_rule_contexts l ≡ [] → all_rule_contexts l ≡ rule_contexts_in (membranes_of l)
+  inner_rule_contexts : (l : tree.Level) → own_rule_contexts l ≡ [] → all_rule_contexts l ≡ rule_contexts_in (own_membranes l)
   inner_rule_contexts (tree.level leaves membranes contexts rule_contexts rules) e = ap (λ z. z ++ rule_contexts_in membranes) e
 
-  pub once_contexts : EachOnce (contexts_in (membranes_of (tree_of r.names r.rule (head_at rule.head))))
-  once_contexts = subst (λ l. EachOnce (contexts_in (membranes_of l))) is_tree (subst EachOnce (inner_contexts (tree.head_of T) k.accepted.top_contexts) k.accepted.once.0)
+  pub once_contexts : EachOnce (contexts_in (own_membranes (tree_of r.names r.rule (head_at rule.head))))
+  once_contexts = subst (λ l. EachOnce (contexts_in (own_membranes l))) is_tree (subst EachOnce (inner_contexts (tree.head_of T) k.accepted.top_contexts) k.accepted.once.0)
 
-  pub once_rule_contexts : EachOnce (rule_contexts_in (membranes_of (tree_of r.names r.rule (head_at rule.head))))
-  once_rule_contexts = subst (λ l. EachOnce (rule_contexts_in (membranes_of l))) is_tree (subst EachOnce (inner_rule_contexts (tree.head_of T) k.accepted.top_rule_contexts) k.accepted.once.1)
+  pub once_rule_contexts : EachOnce (rule_contexts_in (own_membranes (tree_of r.names r.rule (head_at rule.head))))
+  once_rule_contexts = subst (λ l. EachOnce (rule_contexts_in (own_membranes l))) is_tree (subst EachOnce (inner_rule_contexts (tree.head_of T) k.accepted.top_rule_contexts) k.accepted.once.1)
 
   -- a head atom has as many links as its arity
   pub arity_fits : (n : ℕ) (a : HeadAtom) → HasAtom (flat_items kind 0 1 (head_at rule.head)) n a → length a.links ≡ a.functor.arity
@@ -102,7 +104,7 @@ module _ (r : Reading) (rule : RuleTree) (kind : ℕ → TypeKind) (k : IsRule r
       (leaf_holds (λ l. All P (leaf_names l)) kind rule.head (each_part P leaf_names (leaves_of rule.head) leaves) n a e).holds
 
 -- the kind of a part on the heap and in the calculus
-pub kind_alike : (h : Heap) (r : Reading) (m : ℕ) (root : Port) (part : List ℕ) (g : Rooted) (kind : TypeKind) → IsRead h r → IsGroundPart h r m root part g → IsOfKind h kind root ↔ IsOf kind g
+pub kind_alike : (h : Heap) (r : HeapReading) (m : ℕ) (root : Port) (part : List ℕ) (g : Rooted) (kind : TypeKind) → IsRead h r → IsGroundPart h r m root part g → IsOfKindAt h kind root ↔ IsOfTypeKind kind g
 kind_alike h r m root part g Int read p = (
   (λ k. (k.0, (integer_parts_alike h r m root part g k.0 read p).0 k.1)),
   (λ k. (k.0, (integer_parts_alike h r m root part g k.0 read p).1 k.1)),
@@ -111,7 +113,7 @@ kind_alike h r m root part g Unary read p = unary_parts_alike h r m root part g 
 kind_alike h r m root part g Ground read p = ((λ k. p.ground), (λ k. tt))
 
 -- the atoms of all parts, as a map
-module _ (h : Heap) (r : Reading) (f : Images) (typed_of : tree.Name → Rooted) (items : List HeadItem)
+module _ (h : Heap) (r : HeapReading) (f : Images) (typed_of : tree.Name → Rooted) (items : List HeadItem)
     (takes : (n : ℕ) (u : HeadTyped) → HasTyped items n u → (part : List ℕ) × IsGroundPart h r (f.membrane u.inside) (f.part n) part (typed_of (name_of r.names u.name))) where
   abbrev part_by : (n : ℕ) (o : Option HeadTyped) → slice_get (typed_contexts_of items) n ≡ o → List ℕ
   part_by n None q = []
@@ -159,7 +161,7 @@ heads_alike h r m inner kind rule read forest is_rule ns typed_of free =
           let L = p.1.2 in
           let kinds = subst (λ g. HasKinds r kind rule g) (sym p.1.1) p.0 in
           let images = subst (λ l. LevelImages t l ns (region_at h r m inner) L.rest) e L.images in
-          let kinds' = subst (λ z. (n : ℕ) (u : HeadTyped) → HasTyped z n u → IsOf u.kind (t.typed_of (name_of r.names u.name))) items kinds in
+          let kinds' = subst (λ z. (n : ℕ) (u : HeadTyped) → HasTyped z n u → IsOfTypeKind u.kind (t.typed_of (name_of r.names u.name))) items kinds in
           let f = images_at h read.valid r read.naming kind hd m inner forest.forms forest.once t L.plain ns L.rest images only (no_rules r rule kind is_rule) holds in
           let atoms = part_at h read.valid r read.naming kind hd m inner forest.forms forest.once t L.plain ns L.rest images only (no_rules r rule kind is_rule) holds in
           let ground = ground_part h read.valid r read.naming kind hd m inner forest.forms forest.once t L.plain ns L.rest images only (no_rules r rule kind is_rule) holds read read.names read.known (names_known r rule kind is_rule) (arity_fits r rule kind is_rule) in (
@@ -178,9 +180,9 @@ heads_alike h r m inner kind rule read forest is_rule ns typed_of free =
 pub root_forest : (h : Heap) (inner : Forest) → IsTree h (mem h.root inner bare) → HasForest h h.root inner
 root_forest h inner tr = record { forms = tr.forms.2; once = subst (λ z. Distinct (h.root ∷ z)) (nil_right (flat inner)) tr.once }
 
-module _ (h : Heap) (r : Reading) (table : List RuleTree) (kinds : ℕ → ℕ → TypeKind) (inner : Forest) (read : IsRead h r) (tr : IsTree h (mem h.root inner bare)) (has : HasRules h r table)
+module _ (h : Heap) (r : HeapReading) (table : List RuleTree) (kinds : ℕ → ℕ → TypeKind) (inner : Forest) (read : IsRead h r) (tr : IsTree h (mem h.root inner bare)) (has : HasRules h r table)
     (alike : (m : ℕ) (i : Forest) (k : ℕ) (rule : RuleTree) → HasForest h m i → slice_get table k ≡ Some rule → IsRule r rule →
-    ((f : Images) × Embeds h (items_of (kinds k) rule.head) rule.guard m f) ↔ ((ns : List ℕ) × EmbedsAt (rule_tree r.names r.rule rule) ns (region_at h r m i))) where
+    ((f : Images) × Embeds h (items_of_head (kinds k) rule.head) rule.guard m f) ↔ ((ns : List ℕ) × EmbedsAt (rule_tree r.names r.rule rule) ns (region_at h r m i))) where
   into_region : SomeRuleEmbeds h table kinds → EmbedsInRegion (region_at h r h.root inner)
   into_region s =
       let p = subst (In s.membrane) (ap (λ z. h.root ∷ z) (nil_right (flat inner))) (tr.all s.membrane s.in_place) in

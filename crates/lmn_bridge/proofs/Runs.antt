@@ -1,5 +1,5 @@
 -- Lists by their indices, and the values of a map in a row.
-use Rattle.std.proofs.Common.{ℕ, zero, suc, ◌≡◌, ◌≢◌, ◌+◌, ◌<◌, ◌≤◌, List, [], ◌∷◌, map, length, Some, refl, sym, ap, subst, ◌∙◌, inl, inr, arith}
+use Rattle.std.proofs.Common.{ℕ, zero, suc, ◌≡◌, ◌≢◌, ◌+◌, ◌<◌, ◌≤◌, List, [], ◌∷◌, map, Some, refl, sym, ap, subst, ◌∙◌, inl, inr, arith}
 use Rattle.std.specs.Prelude.{slice_get, slice_index_or}
 use Rattle.std.proofs.lemmas.Bool.{cases_eq}
 use Rattle.std.proofs.lemmas.Option.{same_Some}
@@ -7,11 +7,11 @@ use Rattle.lmn_heap.specs.Lists.{Each, In, Distinct}
 use Rattle.lmn_heap.proofs.ListLemmas.{in_left, in_right}
 use Rattle.lmn_solid.specs.Heads.{HeadMembrane}
 use Rattle.lmn_congruence.specs.Links.{places}
-use Rattle.lmn_bridge.proofs.Counting.{places_both}
 use Rattle.lmn_bridge.proofs.Forests.{find_in}
 use Rattle.lmn_bridge.proofs.PartsOut.{flattened}
-use Rattle.lmn_bridge.proofs.PartsLaid.{in_either}
 use Rattle.lmn_bridge.proofs.Walking.{run}
+use Rattle.lmn_congruence.proofs.TranslatedLinks.{places_append as places_both}
+use Rattle.lmn_heap.proofs.Trees.{in_either}
 
 -- a value of a row is in it
 pub run_in : (f : ℕ → ℕ) (n k i : ℕ) → i < k → In (f (n + i)) (run f n k)
@@ -52,23 +52,11 @@ run_distinct f n (suc k) h = (
       away xs (λ b p. g b (inr p)),
     )
 
--- what is found stands below the length
-pub get_below : {A : Type 0} (xs : List A) (i : ℕ) (a : A) → slice_get xs i ≡ Some a → i < length xs
-get_below [] i a e = absurd (cc)
-get_below (x ∷ xs) zero a e = omega arith
-get_below (x ∷ xs) (suc i) a e = omega (arith, get_below xs i a e)
-
 -- the membrane around one is found with it
 pub get_inside : (ms : List HeadMembrane) (i : ℕ) (n : HeadMembrane) → slice_get ms i ≡ Some n → slice_index_or (map (λ m. m.inside) ms) i 0 ≡ n.inside
 get_inside [] i n e = absurd (cc)
 get_inside (m ∷ ms) zero n e = let z : m ≡ n = same_Some m n e in ap (λ k. k.inside) z
 get_inside (m ∷ ms) (suc i) n e = get_inside ms i n e
-
--- below the length something is found
-pub get_some : {A : Type 0} (xs : List A) (i : ℕ) → i < length xs → (a : A) × (slice_get xs i ≡ Some a)
-get_some [] i l = absurd (omega (arith, l))
-get_some (x ∷ xs) zero l = (x, refl)
-get_some (x ∷ xs) (suc i) l = get_some xs i (omega (arith, l))
 
 -- ---- lists in a row
 

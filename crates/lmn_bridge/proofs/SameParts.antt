@@ -1,14 +1,15 @@
 -- Equality of rooted parts in the calculus: it goes back and on, and keeps what is ground.
 use Rattle.std.proofs.Common.{ℕ, ◌≡◌, ◌≢◌, ◌≤◌, ◌+◌, ◌⊎◌, ◌==◌, cond, List, [], ◌∷◌, ◌++◌, map, refl, sym, ap, subst, ◌∙◌, inl, inr, arith}
 use Rattle.std.proofs.lemmas.Bool.{cases_eq, eq-eqb}
-use Rattle.lmn_heap.proofs.ListLemmas.{apart_test}
 use Rattle.lmn_congruence.specs.Links.{places}
 use Rattle.lmn_congruence.specs.Orders.{Among, at_head, further, Put, here, there, Shuffle, none, more}
 use Rattle.lmn_congruence.specs.Process.{Process, nothing, connector, atom, pair, membrane, rule, occurrences, Free}
 use Rattle.lmn_congruence.specs.Rules.{Label}
-use Rattle.lmn_reduction.specs.Parts.{Rooted, OnlyAtoms, IsGround, Reached, the_root, across, atoms_of, SameGraph}
+use Rattle.lmn_reduction.specs.Parts.{Rooted, OnlyAtoms, IsGround, ReachesLink, the_root, across, atoms_at_top, EqualParts}
 use Rattle.lmn_congruence.proofs.Shuffles.{shuffle_flip, shuffle_chain}
-use Rattle.lmn_bridge.proofs.Counting.{same_one, apart_none}
+use Rattle.lmn_base.proofs.Numbers.{not_equal as apart_test}
+use Rattle.lmn_congruence.proofs.Counts.{none_if_apart as apart_none, one_if_equal as same_one}
+use Rattle.lmn_congruence.proofs.TranslatedLinks.{places_append as places_apart}
 
 abbrev Piece : Type 0
 Piece = Label × List ℕ
@@ -27,11 +28,11 @@ count_both y [] bs = omega arith
 count_both y (a ∷ as') bs = omega (arith, count_both y as' bs)
 
 -- a link occurs in a part as often as in its atoms
-pub counted : (y : ℕ) (P : Process) → OnlyAtoms P → occurrences y P ≡ count y (atoms_of P)
+pub counted : (y : ℕ) (P : Process) → OnlyAtoms P → occurrences y P ≡ count y (atoms_at_top P)
 counted y nothing o = absurd o
 counted y (connector a b) o = absurd o
 counted y (atom a ys) o = omega arith
-counted y (pair P Q) o = omega (arith, counted y P o.0, counted y Q o.1, count_both y (atoms_of P) (atoms_of Q))
+counted y (pair P Q) o = omega (arith, counted y P o.0, counted y Q o.1, count_both y (atoms_at_top P) (atoms_at_top Q))
 counted y (membrane P) o = absurd o
 counted y (rule r) o = absurd o
 
@@ -100,10 +101,6 @@ abbrev all_links : List (Label × List ℕ) → List ℕ
 all_links [] = []
 all_links (a ∷ as') = a.1 ++ all_links as'
 
-places_apart : (x : ℕ) (xs ys : List ℕ) → places x (xs ++ ys) ≡ places x xs + places x ys
-places_apart x [] ys = omega arith
-places_apart x (y ∷ xs) ys = omega (arith, places_apart x xs ys)
-
 count_links : (x : ℕ) (as' : List Piece) → places x (all_links as') ≡ count x as'
 count_links x [] = refl
 count_links x (a ∷ as') = omega (arith, places_apart x a.1 (all_links as'), count_links x as')
@@ -133,41 +130,41 @@ mapped_twice : (f g : ℕ → ℕ) (xs : List ℕ) → map g (map f xs) ≡ map 
 mapped_twice f g [] = refl
 mapped_twice f g (x ∷ xs) = ap (λ ys. g (f x) ∷ ys) (mapped_twice f g xs)
 
-module _ (g k : Rooted) (o : OnlyAtoms g.process) (s : SameGraph g k) where
-  one_on : (x y : ℕ) → 1 ≤ count x (atoms_of g.process) → 1 ≤ count y (atoms_of g.process) → s.to x ≡ s.to y → x ≡ y
+module _ (g k : Rooted) (o : OnlyAtoms g.process) (s : EqualParts g k) where
+  one_on : (x y : ℕ) → 1 ≤ count x (atoms_at_top g.process) → 1 ≤ count y (atoms_at_top g.process) → s.to x ≡ s.to y → x ≡ y
   one_on x y l m e = s.one_to_one x y (λ z. let w = counted x g.process o in omega (arith, w, z, l)) (λ z. let w = counted y g.process o in omega (arith, w, z, m)) e
 
-  pub same_count : (y : ℕ) → 1 ≤ count y (atoms_of g.process) → count (s.to y) (atoms_of k.process) ≡ count y (atoms_of g.process)
+  pub same_count : (y : ℕ) → 1 ≤ count y (atoms_at_top g.process) → count (s.to y) (atoms_at_top k.process) ≡ count y (atoms_at_top g.process)
   same_count y l = count_renamed s.to y s.atoms (λ x m e. one_on x y m l e)
 
   abbrev inverse : ℕ → ℕ
-  inverse = back s.to (all_links (atoms_of g.process))
+  inverse = back s.to (all_links (atoms_at_top g.process))
 
-  inverse_is : (x : ℕ) → 1 ≤ count x (atoms_of g.process) → inverse (s.to x) ≡ x
+  inverse_is : (x : ℕ) → 1 ≤ count x (atoms_at_top g.process) → inverse (s.to x) ≡ x
   inverse_is x l =
-      back_is s.to (all_links (atoms_of g.process)) x (omega (arith, l, count_links x (atoms_of g.process)))
-      (λ a b m n e. one_on a b (omega (arith, m, count_links a (atoms_of g.process))) (omega (arith, n, count_links b (atoms_of g.process))) e)
+      back_is s.to (all_links (atoms_at_top g.process)) x (omega (arith, l, count_links x (atoms_at_top g.process)))
+      (λ a b m n e. one_on a b (omega (arith, m, count_links a (atoms_at_top g.process))) (omega (arith, n, count_links b (atoms_at_top g.process))) e)
 
   -- equality goes back
-  pub same_flipped : OnlyAtoms k.process → Free g.root g.process → SameGraph k g
+  pub same_flipped : OnlyAtoms k.process → Free g.root g.process → EqualParts k g
   same_flipped o' free = record {
     to = inverse;
     one_to_one = λ x y m n e.
-        let a = count_from s.to x s.atoms (let w = counted x k.process o' in elim (cases_eq (count x (atoms_of k.process)) 0) [ inl z ↦ absurd (m (omega (arith, w, z))) | inr d ↦ omega (arith, d) ]) in
-        let b = count_from s.to y s.atoms (let w = counted y k.process o' in elim (cases_eq (count y (atoms_of k.process)) 0) [ inl z ↦ absurd (n (omega (arith, w, z))) | inr d ↦ omega (arith, d) ]) in
+        let a = count_from s.to x s.atoms (let w = counted x k.process o' in elim (cases_eq (count x (atoms_at_top k.process)) 0) [ inl z ↦ absurd (m (omega (arith, w, z))) | inr d ↦ omega (arith, d) ]) in
+        let b = count_from s.to y s.atoms (let w = counted y k.process o' in elim (cases_eq (count y (atoms_at_top k.process)) 0) [ inl z ↦ absurd (n (omega (arith, w, z))) | inr d ↦ omega (arith, d) ]) in
         let p : inverse x ≡ a.0 = ap inverse (sym a.2) ∙ inverse_is a.0 a.1 in
         let q : inverse y ≡ b.0 = ap inverse (sym b.2) ∙ inverse_is b.0 b.1 in
         sym a.2 ∙ ap s.to (sym p ∙ e ∙ q) ∙ b.2;
     roots = ap inverse (sym s.roots) ∙ inverse_is g.root (omega (arith, counted g.root g.process o, free));
     atoms = shuffle_flip (shuffle_within s.atoms (λ a b m e.
         let is : b.1 ≡ map s.to a.1 = ap (λ q. q.1) (sym e) in
-        let links : map inverse b.1 ≡ a.1 = ap (map inverse) is ∙ mapped_back s.to inverse a.1 (λ x l. inverse_is x (omega (arith, l, places_there x (atoms_of g.process) a m))) in
+        let links : map inverse b.1 ≡ a.1 = ap (map inverse) is ∙ mapped_back s.to inverse a.1 (λ x l. inverse_is x (omega (arith, l, places_there x (atoms_at_top g.process) a m))) in
         (λ i. ((sym e i).0, links i))));
   }
 
   -- a link that is reached is taken to one that is
-  reached_to : {y : ℕ} → Reached g y → Reached k (s.to y)
-  reached_to the_root = subst (Reached k) (sym s.roots) the_root
+  reached_to : {y : ℕ} → ReachesLink g y → ReachesLink k (s.to y)
+  reached_to the_root = subst (ReachesLink k) (sym s.roots) the_root
   reached_to (across {a = a} {xs = xs} {x = x} {y = y} among first second w) =
       let u = among_shuffled (shuffle_flip s.atoms) among in
       let is : map s.to xs ≡ u.0.1 = ap (λ q. q.1) u.2 in
@@ -175,37 +172,37 @@ module _ (g k : Rooted) (o : OnlyAtoms g.process) (s : SameGraph g k) where
 
   pub same_ground : OnlyAtoms k.process → IsGround g → IsGround k
   same_ground o' ground =
-      let root_there : count g.root (atoms_of g.process) ≡ 1 = sym (counted g.root g.process o) ∙ ground.root_is_free in
+      let root_there : count g.root (atoms_at_top g.process) ≡ 1 = sym (counted g.root g.process o) ∙ ground.root_is_free in
       record {
         only_atoms = o';
-        root_is_free = counted k.root k.process o' ∙ ap (λ z. count z (atoms_of k.process)) (sym s.roots) ∙ same_count g.root (omega (arith, root_there)) ∙ root_there;
+        root_is_free = counted k.root k.process o' ∙ ap (λ z. count z (atoms_at_top k.process)) (sym s.roots) ∙ same_count g.root (omega (arith, root_there)) ∙ root_there;
         nothing_else_free = λ y e.
-            let c : count y (atoms_of k.process) ≡ 1 = sym (counted y k.process o') ∙ e in
+            let c : count y (atoms_at_top k.process) ≡ 1 = sym (counted y k.process o') ∙ e in
             let a = count_from s.to y s.atoms (omega (arith, c)) in
-            let f : count a.0 (atoms_of g.process) ≡ 1 = sym (same_count a.0 a.1) ∙ ap (λ z. count z (atoms_of k.process)) a.2 ∙ c in
+            let f : count a.0 (atoms_at_top g.process) ≡ 1 = sym (same_count a.0 a.1) ∙ ap (λ z. count z (atoms_at_top k.process)) a.2 ∙ c in
             sym a.2 ∙ ap s.to (ground.nothing_else_free a.0 (counted a.0 g.process o ∙ f)) ∙ s.roots;
         connected = connected ground;
       }
     where
-      connected : IsGround g → {a : Label} {xs : List ℕ} → Among (a, xs) (atoms_of k.process) → (x : ℕ) × (Among x xs) × Reached k x
+      connected : IsGround g → {a : Label} {xs : List ℕ} → Among (a, xs) (atoms_at_top k.process) → (x : ℕ) × (Among x xs) × ReachesLink k x
       connected ground {a} {xs} m =
           let u = among_shuffled s.atoms m in
           let w = ground.connected {a = u.0.0} {xs = u.0.1} u.1 in
           (s.to w.0, subst (Among (s.to w.0)) (ap (λ q. q.1) u.2) (among_links s.to w.0 u.0.1 w.1), reached_to w.2)
 
 -- equality goes on
-pub same_chained : (g k l : Rooted) → OnlyAtoms g.process → OnlyAtoms k.process → SameGraph g k → SameGraph k l → SameGraph g l
+pub same_chained : (g k l : Rooted) → OnlyAtoms g.process → OnlyAtoms k.process → EqualParts g k → EqualParts k l → EqualParts g l
 same_chained g k l o o' s t = record {
   to = λ x. t.to (s.to x);
   one_to_one = λ x y m n e. s.one_to_one x y m n (t.one_to_one (s.to x) (s.to y) (there_too x m) (there_too y n) e);
   roots = ap t.to s.roots ∙ t.roots;
-  atoms = shuffle_chain (λ a b c e f. (λ i. (a.0, sym (mapped_twice s.to t.to a.1) i)) ∙ ap (λ q. (q.0, map t.to q.1)) e ∙ f) s.atoms (atoms_of l.process) t.atoms;
+  atoms = shuffle_chain (λ a b c e f. (λ i. (a.0, sym (mapped_twice s.to t.to a.1) i)) ∙ ap (λ q. (q.0, map t.to q.1)) e ∙ f) s.atoms (atoms_at_top l.process) t.atoms;
 }
   where
     there_too : (x : ℕ) → occurrences x g.process ≢ 0 → occurrences (s.to x) k.process ≢ 0
     there_too x m z =
         let c = counted x g.process o in
-        elim (cases_eq (count x (atoms_of g.process)) 0) [
+        elim (cases_eq (count x (atoms_at_top g.process)) 0) [
           | inl q ↦ m (omega (arith, c, q))
           | inr d ↦ let w = same_count g k o s x (omega (arith, d)) in let u = counted (s.to x) k.process o' in omega (arith, w, u, z, d)
         ]

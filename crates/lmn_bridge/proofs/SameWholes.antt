@@ -10,26 +10,31 @@ use Rattle.lmn_base.specs.Names.{IsNames, HasNames, label_names}
 use Rattle.lmn_heap.specs.Heap.{Heap, IsAtom, arity_of, link_of, functor_of}
 use Rattle.lmn_heap.specs.Graphs.{atom_map}
 use Rattle.lmn_heap.specs.Lists.{Each, In}
-use Rattle.lmn_heap.specs.Solid.{numbered, IsNaming}
+use Rattle.lmn_heap.specs.Solid.{links_from, IsNaming}
 use Rattle.lmn_heap.specs.Sound.{Valid}
-use Rattle.lmn_heap.proofs.ListLemmas.{apart_test, each_in}
+use Rattle.lmn_heap.proofs.ListLemmas.{each_in}
 use Rattle.lmn_solid.specs.Embeddings.{index_of}
 use Rattle.lmn_congruence.specs.Links.{places}
 use Rattle.lmn_congruence.specs.Orders.{Shuffle}
 use Rattle.lmn_congruence.specs.Process.{occurrences}
 use Rattle.lmn_congruence.specs.Rules.{Label}
 use Rattle.lmn_congruence.specs.Translation.{label_of}
-use Rattle.lmn_reduction.specs.Parts.{Rooted, atoms_of, SameGraph}
+use Rattle.lmn_reduction.specs.Parts.{Rooted, atoms_at_top, EqualParts}
 use Rattle.lmn_congruence.proofs.TranslatedNames.{labels_apart}
-use Rattle.lmn_bridge.specs.HeapRegions.{Reading}
+use Rattle.lmn_bridge.specs.HeapRegions.{HeapReading}
 use Rattle.lmn_bridge.proofs.Pieces.{atom_at, atom_by}
-use Rattle.lmn_bridge.proofs.Counting.{weigh, times_at, within_arity, same_port, apart_none, same_one}
+use Rattle.lmn_bridge.proofs.Counting.{times_at}
 use Rattle.lmn_bridge.proofs.Functors.{both_names}
-use Rattle.lmn_bridge.proofs.Ports.{port_named, named_port}
+use Rattle.lmn_bridge.proofs.Ports.{port_named, named_port, get_map as get_mapped}
 use Rattle.lmn_bridge.proofs.PartLists.{PartList, all_of_part}
-use Rattle.lmn_bridge.proofs.GroundParts.{labelled, atoms_beside, rooted_at, occurs_beside, some_is}
+use Rattle.lmn_bridge.proofs.GroundParts.{labelled, atoms_beside, rooted_at, occurs_beside}
 use Rattle.lmn_bridge.proofs.SameParts.{Renames}
 use Rattle.lmn_bridge.proofs.Matchings.{matching, shuffle_mapped, shuffle_unmapped, matched, matched_related, matched_in, matched_onto, matched_one}
+use Rattle.lmn_base.proofs.Lists.{weigh, length_mapped, some_is}
+use Rattle.lmn_base.proofs.Numbers.{not_equal as apart_test}
+use Rattle.lmn_congruence.proofs.Counts.{none_if_apart as apart_none, one_if_equal as same_one}
+use Rattle.lmn_heap.proofs.Common.{length_numbered, same_port}
+use Rattle.lmn_heap.proofs.Replacing.{port_within}
 
 -- A part of a heap, with the port to which its root is joined. This one isn't of the part.
 pub record WholePart (h : Heap) (root : ℕ × ℕ) : Type 0 where
@@ -42,25 +47,12 @@ pub record WholePart (h : Heap) (root : ℕ × ℕ) : Type 0 where
 abbrev pub atoms_of_part : {h : Heap} {root : ℕ × ℕ} → WholePart h root → List ℕ
 atoms_of_part p = p.list.first ∷ p.list.others
 
-abbrev pub part_at : {h : Heap} {root : ℕ × ℕ} → Reading → WholePart h root → Rooted
+abbrev pub part_at : {h : Heap} {root : ℕ × ℕ} → HeapReading → WholePart h root → Rooted
 part_at {h} {root} r p = rooted_at h r root p.list.first p.list.others
 
 mapped_twice : {A B C : Type 0} (f : A → B) (g : B → C) (xs : List A) → map g (map f xs) ≡ map (λ x. g (f x)) xs
 mapped_twice f g [] = refl
 mapped_twice f g (x ∷ xs) = ap (λ ys. g (f x) ∷ ys) (mapped_twice f g xs)
-
-get_mapped : (f : ℕ → ℕ) (ys : List ℕ) (i y : ℕ) → slice_get ys i ≡ Some y → slice_get (map f ys) i ≡ Some (f y)
-get_mapped f [] i y e = absurd (cc)
-get_mapped f (z ∷ ys) zero y e = ap (λ w. Some (f w)) (same_Some z y e)
-get_mapped f (z ∷ ys) (suc i) y e = get_mapped f ys i y e
-
-pub length_mapped : (f : ℕ → ℕ) (ys : List ℕ) → length (map f ys) ≡ length ys
-length_mapped f [] = refl
-length_mapped f (y ∷ ys) = ap suc (length_mapped f ys)
-
-length_numbered : (name : ℕ → ℕ → ℕ) (a k n : ℕ) → length (numbered name a k n) ≡ n
-length_numbered name a k zero = refl
-length_numbered name a k (suc n) = ap suc (length_numbered name a (k + 1) n)
 
 index_there : (ys : List ℕ) (y : ℕ) → 1 ≤ places y ys → slice_get ys (index_of y ys) ≡ Some y
 index_there [] y l = absurd (omega (arith, l))
@@ -69,22 +61,22 @@ index_there (z ∷ ys) y l = elim (cases_eq z y) [
   | inr d ↦ rw (apart_test z y d) (index_there ys y (omega (arith, l, apart_none y z (λ q. d (sym q)))))
 ]
 
-mapped_numbered : (f : ℕ → ℕ) (name : ℕ → ℕ → ℕ) (a b k n : ℕ) → ((i : ℕ) → k ≤ i → i < k + n → f (name a i) ≡ name b i) → map f (numbered name a k n) ≡ numbered name b k n
+mapped_numbered : (f : ℕ → ℕ) (name : ℕ → ℕ → ℕ) (a b k n : ℕ) → ((i : ℕ) → k ≤ i → i < k + n → f (name a i) ≡ name b i) → map f (links_from name a k n) ≡ links_from name b k n
 mapped_numbered f name a b k zero e = refl
 mapped_numbered f name a b k (suc n) e = λ i. e k (omega arith) (omega arith) i ∷ mapped_numbered f name a b (k + 1) n (λ j l m. e j (omega (arith, l)) (omega (arith, m))) i
 
-module _ (h : Heap) (r : Reading) (v : Valid h) where
+module _ (h : Heap) (r : HeapReading) (v : Valid h) where
   abbrev pub piece : ℕ → Label × List ℕ
   piece a = labelled (atom_at h r a)
 
-  pub pieces_are : (x : ℕ) (xs : List ℕ) → atoms_of (rooted_at h r (0, 0) x xs).process ≡ map piece (x ∷ xs)
+  pub pieces_are : (x : ℕ) (xs : List ℕ) → atoms_at_top (rooted_at h r (0, 0) x xs).process ≡ map piece (x ∷ xs)
   pieces_are x xs = atoms_beside (atom_at h r x) (map (atom_at h r) xs) ∙ mapped_twice (atom_at h r) labelled (x ∷ xs)
 
   pub record AtomIs (a : ℕ) : Type 0 where
     pub functor : Functor
     pub is : functor_of h a ≡ Some functor
     pub ports : arity_of h a ≡ functor.arity
-    pub read : atom_at h r a ≡ record { label = label_of r.names functor.label; links = numbered r.name a 0 functor.arity }
+    pub read : atom_at h r a ≡ record { label = label_of r.names functor.label; links = links_from r.name a 0 functor.arity }
 
   pub atom_is : (a : ℕ) → IsAtom h a → AtomIs a
   atom_is a s =
@@ -105,8 +97,8 @@ module _ (h : Heap) (r : Reading) (v : Valid h) where
       let u = atom_is a s in
       let w = atom_is b t in
       let g : u.functor ≡ w.functor = same_Some u.functor w.functor (sym u.is ∙ sym e ∙ w.is) in
-      let links : map f (numbered r.name a 0 u.functor.arity) ≡ numbered r.name b 0 w.functor.arity =
-      mapped_numbered f r.name a b 0 u.functor.arity (λ i l m. k i (omega (arith, m, u.ports))) ∙ ap (λ z. numbered r.name b 0 z.arity) g in
+      let links : map f (links_from r.name a 0 u.functor.arity) ≡ links_from r.name b 0 w.functor.arity =
+      mapped_numbered f r.name a b 0 u.functor.arity (λ i l m. k i (omega (arith, m, u.ports))) ∙ ap (λ z. links_from r.name b 0 z.arity) g in
       ap (λ z. (z.label, map f z.links)) u.read ∙ (λ i. (label_of r.names (g i).label, links i)) ∙ sym (ap labelled w.read)
 
   -- the links of atoms that match
@@ -201,12 +193,12 @@ module _ (h : Heap) (r : Reading) (v : Valid h) where
       occurs_some : (y : ℕ) → occurrences y (part_at r P).process ≢ 0 → 1 ≤ weigh (times_at h r y) S
       occurs_some y d = let w = occurs_beside h r v y P.list.first P.list.others in elim (cases_eq (weigh (times_at h r y) S) 0) [ inl e ↦ absurd (d (w ∙ e)) | inr n ↦ omega (arith, n) ]
 
-      pub same_into : SameGraph (part_at r P) (part_at r Q)
+      pub same_into : EqualParts (part_at r P) (part_at r Q)
       same_into = record {
         to = carried S;
         one_to_one = λ y z l m e. carried_one y z (occurs_some y l) (occurs_some z m) e;
-        roots = carried_port p.0 p.1 P.list.start (within_arity h p.0 p.1 P.link) ∙ ap (λ z. r.name z.0 z.1) s.root;
-        atoms = subst (λ z. Shuffle (Renames (carried S)) z (atoms_of (part_at r Q).process)) (sym (pieces_are P.list.first P.list.others))
+        roots = carried_port p.0 p.1 P.list.start (port_within h p.0 p.1 _ P.link) ∙ ap (λ z. r.name z.0 z.1) s.root;
+        atoms = subst (λ z. Shuffle (Renames (carried S)) z (atoms_at_top (part_at r Q).process)) (sym (pieces_are P.list.first P.list.others))
             (subst (Shuffle (Renames (carried S)) (map piece S)) (sym (pieces_are Q.list.first Q.list.others))
             (shuffle_mapped piece
             (matching s.to S T P.list.once Q.list.once to_q
@@ -218,7 +210,7 @@ module _ (h : Heap) (r : Reading) (v : Valid h) where
 
     -- ---- from the calculus
 
-    module _ (is_names : IsNames r.names) (known : (a : ℕ) (g : Functor) → functor_of h a ≡ Some g → HasNames r.names (label_names g.label)) (t : SameGraph (part_at r P) (part_at r Q)) where
+    module _ (is_names : IsNames r.names) (known : (a : ℕ) (g : Functor) → functor_of h a ≡ Some g → HasNames r.names (label_names g.label)) (t : EqualParts (part_at r P) (part_at r Q)) where
       pairs : Shuffle (λ a b. Renames t.to (piece a) (piece b)) S T
       pairs = shuffle_unmapped piece S T t.atoms (pieces_are P.list.first P.list.others) (pieces_are Q.list.first Q.list.others)
 
@@ -253,8 +245,8 @@ module _ (h : Heap) (r : Reading) (v : Valid h) where
 
       joined_to : (a b i j : ℕ) → In a S → In b S → link_of h a i ≡ Some (b, j) → link_of h (to_atom a) i ≡ Some (to_atom b, j)
       joined_to a b i j k m e =
-          let pa = port_to a i k (within_arity h a i e) in
-          let pb = port_to b j m (within_arity h b j (v.sound.paired.back a i b j e)) in
+          let pa = port_to a i k (port_within h a i _ e) in
+          let pb = port_to b j m (port_within h b j _ (v.sound.paired.back a i b j e)) in
           elim (naming.apart (to_atom a) i (to_atom b) j pa.1 pb.1 (pa.0 ∙ ap t.to (naming.joined a i b j e) ∙ sym pb.0)) [
             | inl s ↦ absurd (v.sound.paired.apart a i (e ∙ (λ x. Some (sym (atoms_apart a b k m s.0) x, sym s.1 x))))
             | inr s ↦ s
@@ -264,8 +256,8 @@ module _ (h : Heap) (r : Reading) (v : Valid h) where
       joined_from a b i j k m e =
           let na = arity_same a (to_atom a) (atom_p a k) (functor_to a k) in
           let nb = arity_same b (to_atom b) (atom_p b m) (functor_to b m) in
-          let la : i < arity_of h a = let l = within_arity h (to_atom a) i e in omega (arith, l, na) in
-          let lb : j < arity_of h b = let l = within_arity h (to_atom b) j (v.sound.paired.back (to_atom a) i (to_atom b) j e) in omega (arith, l, nb) in
+          let la : i < arity_of h a = let l = port_within h (to_atom a) i _ e in omega (arith, l, na) in
+          let lb : j < arity_of h b = let l = port_within h (to_atom b) j _ (v.sound.paired.back (to_atom a) i (to_atom b) j e) in omega (arith, l, nb) in
           let pa = port_to a i k la in
           let pb = port_to b j m lb in
           let same : r.name a i ≡ r.name b j = t.one_to_one (r.name a i) (r.name b j) (occurs_at a i k la) (occurs_at b j m lb) (sym pa.0 ∙ naming.joined (to_atom a) i (to_atom b) j e ∙ pb.0) in
@@ -276,8 +268,8 @@ module _ (h : Heap) (r : Reading) (v : Valid h) where
 
       root_to : ◌≡◌ {A = ℕ × ℕ} (to_atom p.0, p.1) q
       root_to =
-          let w = port_to p.0 p.1 P.list.start (within_arity h p.0 p.1 P.link) in
-          elim (naming.apart (to_atom p.0) p.1 q.0 q.1 w.1 (within_arity h q.0 q.1 Q.link) (w.0 ∙ t.roots)) [
+          let w = port_to p.0 p.1 P.list.start (port_within h p.0 p.1 _ P.link) in
+          elim (naming.apart (to_atom p.0) p.1 q.0 q.1 w.1 (port_within h q.0 q.1 _ Q.link) (w.0 ∙ t.roots)) [
             | inl s ↦ (λ x. (s.0 x, s.1 x))
             | inr s ↦ absurd (
                 let e : ◌≡◌ {A = Option (ℕ × ℕ)} (Some (to_atom p.0, p.1)) (Some (Q.holder.0, Q.holder.1)) = sym (v.sound.paired.back (to_atom p.0) p.1 q.0 q.1 s) ∙ Q.link in

@@ -6,7 +6,6 @@ use Rattle.std.proofs.lemmas.Option.{same_Some}
 use Rattle.lmn_base.specs.declared.level.Leaf.{Leaf}
 use Rattle.lmn_base.specs.declared.level.Leaf.TheVariants as leaf
 use Rattle.lmn_guards.specs.declared.plan.TypeKind.{TypeKind}
-use Rattle.lmn_heap.proofs.ListLemmas.{apart_test}
 use Rattle.lmn_solid.specs.declared.items.HeadItem.{HeadItem}
 use Rattle.lmn_solid.specs.declared.items.HeadItem.TheVariants.{Atom, Typed, Membrane}
 use Rattle.lmn_solid.specs.Flattening.{leaf_items}
@@ -15,16 +14,17 @@ use Rattle.lmn_solid.specs.Heads.{HeadTyped, typed_contexts_of}
 use Rattle.lmn_congruence.specs.Orders.{Among, at_head, further}
 use Rattle.lmn_congruence.specs.Rules as tree
 use Rattle.lmn_congruence.specs.Translation.{leaf_of, name_of}
-use Rattle.lmn_reduction.specs.Firing.{typed_contexts, typed_leaves, typed_contexts_of as typed_in_levels}
+use Rattle.lmn_reduction.specs.Firing.{typed_contexts, typed_leaves, typed_contexts_in as typed_in_levels}
 use Rattle.lmn_reduction.specs.Parts.{Rooted}
-use Rattle.lmn_adequacy.specs.Accepted.{EachLevel, EachOf, NoConnectorLeaf, leaves_of}
+use Rattle.lmn_adequacy.specs.Accepted.{EachLevel, EachOf, NoConnectorLeaf, own_leaves}
 use Rattle.lmn_solid.proofs.HeadTrees.{Head, Heads, head, no_head, head_and, size, flat_items, flat_membranes}
 use Rattle.lmn_bridge.proofs.HeadTrees.{tree_of, trees_of}
 use Rattle.lmn_bridge.proofs.Laying.{only_atom}
+use Rattle.lmn_base.proofs.Numbers.{not_equal as apart_test}
 
 -- ---- the typed contexts of the tree, by name and in their order
 
-typed_more : (xs ys : List HeadItem) → typed_contexts_of (xs ++ ys) ≡ typed_contexts_of xs ++ typed_contexts_of ys
+pub typed_more : (xs ys : List HeadItem) → typed_contexts_of (xs ++ ys) ≡ typed_contexts_of xs ++ typed_contexts_of ys
 typed_more [] ys = refl
 typed_more (Atom f ls i ∷ xs) ys = typed_more xs ys
 typed_more (Typed n k l i ∷ xs) ys = ap (λ z. (record { name = n; kind = k; link = l; inside = i }) ∷ z) (typed_more xs ys)
@@ -50,11 +50,11 @@ module _ (names : List tree.Name) (rule : ℕ → tree.Rule) (kind : ℕ → Typ
 
   mutual
     -- the typed contexts of a head are those of its tree, in order
-    pub level_named : (cur next : ℕ) (hd : Head) → EachLevel (λ l. NoConnectorLeaf (leaves_of l)) (tree_of names rule hd) → map (λ u. name_of names u.name) (typed_contexts_of (flat_items kind cur next hd)) ≡ typed_contexts (tree_of names rule hd)
+    pub level_named : (cur next : ℕ) (hd : Head) → EachLevel (λ l. NoConnectorLeaf (own_leaves l)) (tree_of names rule hd) → map (λ u. name_of names u.name) (typed_contexts_of (flat_items kind cur next hd)) ≡ typed_contexts (tree_of names rule hd)
     level_named cur next (head leaves hs cs rcs rs) o =
         both_named (leaf_items kind cur leaves) (flat_membranes kind cur next hs) ∙ (λ j. leaf_named cur leaves o.0 j ++ levels_named cur next hs o.1 j)
 
-    levels_named : (cur next : ℕ) (hs : Heads) → EachOf (λ l. NoConnectorLeaf (leaves_of l)) (trees_of names rule hs) → map (λ u. name_of names u.name) (typed_contexts_of (flat_membranes kind cur next hs)) ≡ typed_in_levels (trees_of names rule hs)
+    levels_named : (cur next : ℕ) (hs : Heads) → EachOf (λ l. NoConnectorLeaf (own_leaves l)) (trees_of names rule hs) → map (λ u. name_of names u.name) (typed_contexts_of (flat_membranes kind cur next hs)) ≡ typed_in_levels (trees_of names rule hs)
     levels_named cur next no_head o = refl
     levels_named cur next (head_and hd hs) o =
         both_named (flat_items kind next (next + 1) hd) (flat_membranes kind cur (next + 1 + size hd) hs) ∙ (λ j. level_named next (next + 1) hd o.0 j ++ levels_named cur (next + 1 + size hd) hs o.1 j)

@@ -8,29 +8,18 @@ use Rattle.lmn_heap.specs.Lists.{In}
 use Rattle.lmn_solid.specs.declared.items.HeadItem.{HeadItem}
 use Rattle.lmn_solid.specs.declared.items.HeadItem.TheVariants.{Atom, Typed, Membrane}
 use Rattle.lmn_solid.specs.Flattening.{leaf_items}
-use Rattle.lmn_solid.specs.Heads.{HeadAtom, HeadTyped, HeadMembrane, Port}
+use Rattle.lmn_solid.specs.Heads.{HeadAtom, HeadTyped, HeadMembrane}
 use Rattle.lmn_solid.specs.Embeddings.{HasLink, HasTyped}
 use Rattle.lmn_congruence.specs.Orders.{Among, at_head, further}
 use Rattle.lmn_congruence.specs.Rules as tree
 use Rattle.lmn_congruence.specs.Translation.{leaf_of}
-use Rattle.lmn_adequacy.specs.Accepted.{EachLevel, EachOf, NoConnectorLeaf, leaves_of, typed_links_of, typed_links, typed_links_in, port_links_of, port_links, port_links_in}
+use Rattle.lmn_adequacy.specs.Accepted.{EachLevel, EachOf, NoConnectorLeaf, own_leaves, typed_links_of, typed_links, typed_links_in, port_links_of, port_links, port_links_in}
 use Rattle.lmn_solid.proofs.HeadTrees.{Head, Heads, head, no_head, head_and, size, flat_items, flat_membranes}
 use Rattle.lmn_bridge.proofs.HeadTrees.{tree_of, trees_of}
 use Rattle.lmn_bridge.proofs.Laying.{only_atom}
 use Rattle.lmn_bridge.proofs.Walking.{Walk, walk_join, walk_typed, atoms_in_items, typed_in_items, membranes_in_items}
-
-among_left : {x : ℕ} {xs : List ℕ} (ys : List ℕ) → Among x xs → Among x (xs ++ ys)
-among_left ys at_head = at_head
-among_left ys (further k) = further (among_left ys k)
-
-among_right : {x : ℕ} (xs : List ℕ) {ys : List ℕ} → Among x ys → Among x (xs ++ ys)
-among_right [] k = k
-among_right (y ∷ xs) k = further (among_right xs k)
-
-among_either : {x : ℕ} (xs ys : List ℕ) → Among x (xs ++ ys) → Among x xs ⊎ Among x ys
-among_either [] ys k = inr k
-among_either (y ∷ xs) ys at_head = inl at_head
-among_either (y ∷ xs) ys (further k) = elim (among_either xs ys k) [ inl j ↦ inl (further j) | inr j ↦ inr j ]
+use Rattle.lmn_base.specs.Graphs.{Port}
+use Rattle.lmn_congruence.proofs.Common.{among_left, among_right, among_apart}
 
 among_in : {x : ℕ} (xs : List ℕ) → Among x xs → In x xs
 among_in [] k = elim k [ ]
@@ -58,14 +47,14 @@ module _ (names : List tree.Name) (rule : ℕ → tree.Rule) (kind : ℕ → Typ
   leaf_links cur n t k (leaf.Typed m l q ∷ ls) o p = (p l.link at_head, leaf_links cur n (t + 1) k ls o (λ x j. p x (further j)))
 
   mutual
-    level_links : (cur next n t k : ℕ) (hd : Head) → EachLevel (λ l. NoConnectorLeaf (leaves_of l)) (tree_of names rule hd) → ((x : ℕ) → Among x (typed_links (tree_of names rule hd)) → P x) → Walk AnyAtom LinkIn AnyMembrane n t k (flat_items kind cur next hd)
+    level_links : (cur next n t k : ℕ) (hd : Head) → EachLevel (λ l. NoConnectorLeaf (own_leaves l)) (tree_of names rule hd) → ((x : ℕ) → Among x (typed_links (tree_of names rule hd)) → P x) → Walk AnyAtom LinkIn AnyMembrane n t k (flat_items kind cur next hd)
     level_links cur next n t k (head leaves hs cs rcs rs) o p =
         let first = leaf_items kind cur leaves in
         let ys = typed_links_of (map (leaf_of names) leaves) in
         walk_join AnyAtom LinkIn AnyMembrane first (flat_membranes kind cur next hs) n t k (leaf_links cur n t k leaves o.0 (λ x j. p x (among_left (typed_links_in (trees_of names rule hs)) j)))
         (levels_links cur next (n + atoms_in_items first) (t + typed_in_items first) (k + membranes_in_items first) hs o.1 (λ x j. p x (among_right ys j)))
 
-    levels_links : (cur next n t k : ℕ) (hs : Heads) → EachOf (λ l. NoConnectorLeaf (leaves_of l)) (trees_of names rule hs) → ((x : ℕ) → Among x (typed_links_in (trees_of names rule hs)) → P x) → Walk AnyAtom LinkIn AnyMembrane n t k (flat_membranes kind cur next hs)
+    levels_links : (cur next n t k : ℕ) (hs : Heads) → EachOf (λ l. NoConnectorLeaf (own_leaves l)) (trees_of names rule hs) → ((x : ℕ) → Among x (typed_links_in (trees_of names rule hs)) → P x) → Walk AnyAtom LinkIn AnyMembrane n t k (flat_membranes kind cur next hs)
     levels_links cur next n t k no_head o p = tt
     levels_links cur next n t k (head_and hd hs) o p =
         let first = flat_items kind next (next + 1) hd in (
@@ -114,28 +103,28 @@ module _ (names : List tree.Name) (rule : ℕ → tree.Rule) (kind : ℕ → Typ
   leaf_holds cur (leaf.Atom f os q ∷ ls) o p =
       let ys = map (λ o. o.link) os in
       let c = only_atom names f.label ys (map (leaf_of names) ls) o in
-      elim (among_either ys (port_links_of (map (leaf_of names) ls)) (subst (λ l. Among x (port_links_of (l ∷ map (leaf_of names) ls))) c.0 p)) [
+      elim (among_apart ys (port_links_of (map (leaf_of names) ls)) (subst (λ l. Among x (port_links_of (l ∷ map (leaf_of names) ls))) c.0 p)) [
         | inl j ↦ inl (among_in ys j)
         | inr j ↦ inr (leaf_holds cur ls c.1 j)
       ]
   leaf_holds cur (leaf.Typed m l q ∷ ls) o p = leaf_holds cur ls o p
 
   mutual
-    level_holds : (cur next : ℕ) (hd : Head) → EachLevel (λ l. NoConnectorLeaf (leaves_of l)) (tree_of names rule hd) → Among x (port_links (tree_of names rule hd)) → Holds x (flat_items kind cur next hd)
-    level_holds cur next (head leaves hs cs rcs rs) o p = elim (among_either (port_links_of (map (leaf_of names) leaves)) (port_links_in (trees_of names rule hs)) p) [
+    level_holds : (cur next : ℕ) (hd : Head) → EachLevel (λ l. NoConnectorLeaf (own_leaves l)) (tree_of names rule hd) → Among x (port_links (tree_of names rule hd)) → Holds x (flat_items kind cur next hd)
+    level_holds cur next (head leaves hs cs rcs rs) o p = elim (among_apart (port_links_of (map (leaf_of names) leaves)) (port_links_in (trees_of names rule hs)) p) [
       | inl j ↦ holds_left x (leaf_items kind cur leaves) (flat_membranes kind cur next hs) (leaf_holds cur leaves o.0 j)
       | inr j ↦ holds_right x (leaf_items kind cur leaves) (flat_membranes kind cur next hs) (levels_hold cur next hs o.1 j)
     ]
 
-    levels_hold : (cur next : ℕ) (hs : Heads) → EachOf (λ l. NoConnectorLeaf (leaves_of l)) (trees_of names rule hs) → Among x (port_links_in (trees_of names rule hs)) → Holds x (flat_membranes kind cur next hs)
+    levels_hold : (cur next : ℕ) (hs : Heads) → EachOf (λ l. NoConnectorLeaf (own_leaves l)) (trees_of names rule hs) → Among x (port_links_in (trees_of names rule hs)) → Holds x (flat_membranes kind cur next hs)
     levels_hold cur next no_head o p = elim p [ ]
-    levels_hold cur next (head_and hd hs) o p = elim (among_either (port_links (tree_of names rule hd)) (port_links_in (trees_of names rule hs)) p) [
+    levels_hold cur next (head_and hd hs) o p = elim (among_apart (port_links (tree_of names rule hd)) (port_links_in (trees_of names rule hs)) p) [
       | inl j ↦ holds_left x (flat_items kind next (next + 1) hd) (flat_membranes kind cur (next + 1 + size hd) hs) (level_holds next (next + 1) hd o.0 j)
       | inr j ↦ holds_right x (flat_items kind next (next + 1) hd) (flat_membranes kind cur (next + 1 + size hd) hs) (levels_hold cur (next + 1 + size hd) hs o.1 j)
     ]
 
 -- the link of each typed context stands at a port
-pub typed_held : (names : List tree.Name) (rule : ℕ → tree.Rule) (kind : ℕ → TypeKind) (hd : Head) → EachLevel (λ l. NoConnectorLeaf (leaves_of l)) (tree_of names rule hd) →
+pub typed_held : (names : List tree.Name) (rule : ℕ → tree.Rule) (kind : ℕ → TypeKind) (hd : Head) → EachLevel (λ l. NoConnectorLeaf (own_leaves l)) (tree_of names rule hd) →
     ((x : ℕ) → Among x (typed_links (tree_of names rule hd)) → Among x (port_links (tree_of names rule hd))) → (n : ℕ) (u : HeadTyped) → HasTyped (flat_items kind 0 1 hd) n u → (p : Port) × HasLink (flat_items kind 0 1 hd) u.link p
 typed_held names rule kind hd o held n u k =
     let P : ℕ → Type 0 = λ x. (p : Port) × HasLink (flat_items kind 0 1 hd) x p in

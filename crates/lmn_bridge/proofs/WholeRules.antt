@@ -11,11 +11,11 @@ use Rattle.lmn_guards.specs.declared.plan.TypeKind.{TypeKind}
 use Rattle.lmn_guards.specs.Values.{value}
 use Rattle.lmn_heap.specs.Heap.{Heap, atoms_in}
 use Rattle.lmn_heap.specs.Sound.{Forest}
-use Rattle.lmn_solid.specs.Embeddings.{Images, Embeds, HasTyped, HasLink, NotAfter, meaning}
-use Rattle.lmn_solid.specs.Flattening.{items_of}
+use Rattle.lmn_solid.specs.Embeddings.{Images, Embeds, HasTyped, HasLink, ListNotAfter, meaning}
+use Rattle.lmn_solid.specs.Flattening.{items_of_head}
 use Rattle.lmn_solid.specs.Guards.{Meaning, bind, integer_named}
-use Rattle.lmn_solid.specs.Heads.{HeadTyped, Port, typed_contexts_of}
-use Rattle.lmn_congruence.specs.Orders.{Among, at_head, further}
+use Rattle.lmn_solid.specs.Heads.{HeadTyped, typed_contexts_of}
+use Rattle.lmn_congruence.specs.Orders.{Among, at_head, further, EachOnce}
 use Rattle.lmn_congruence.specs.Process.{nothing}
 use Rattle.lmn_congruence.specs.Rules as tree
 use Rattle.lmn_congruence.specs.Translation.{name_of, rule_tree, condition_of}
@@ -23,11 +23,11 @@ use Rattle.lmn_reduction.specs.Assignments.{Assignment}
 use Rattle.lmn_reduction.specs.Firing.{typed_contexts}
 use Rattle.lmn_reduction.specs.Parts.{Rooted, IsInteger, an_integer}
 use Rattle.lmn_congruence.proofs.Appended.{all_left, all_right}
-use Rattle.lmn_adequacy.specs.Accepted.{EachOnce, InTurn, kind_in_turn, comparison_in_turn, binding_in_turn, equality_in_turn, difference_in_turn, typed_links, port_links}
+use Rattle.lmn_adequacy.specs.Accepted.{InTurn, kind_in_turn, comparison_in_turn, binding_in_turn, equality_in_turn, difference_in_turn, typed_links, port_links}
 use Rattle.lmn_adequacy.specs.Embedding.{EmbedsAt}
 use Rattle.lmn_bridge.specs.Bindings.{Binds, BindsAt}
-use Rattle.lmn_bridge.specs.HeapRegions.{Reading, region_at}
-use Rattle.lmn_bridge.specs.Laws.{EmbedsAlike, LeastAlike, StepsExactly, IrreducibleExactly}
+use Rattle.lmn_bridge.specs.HeapRegions.{HeapReading, region_at}
+use Rattle.lmn_bridge.specs.Laws.{EmbedsAlike, LeastAlike, HeapStepsExactly, HeapIrreducibleExactly}
 use Rattle.lmn_bridge.proofs.Order.{numbers_ordered, not_after_is, is_not_after, numbers_length}
 use Rattle.lmn_bridge.specs.Numbers.{numbers_left}
 use Rattle.lmn_bridge.specs.Premises.{IsRead, HasForest, IsRule, HasTypes}
@@ -44,6 +44,9 @@ use Rattle.lmn_bridge.proofs.EmbeddedParts.{embedded_parts_are_ground}
 use Rattle.lmn_bridge.proofs.Forests.{in_place}
 use Rattle.lmn_adequacy.specs.Embedding.{Merged}
 use Rattle.lmn_solid.specs.declared.items.HeadItem.{HeadItem}
+use Rattle.lmn_base.specs.Graphs.{Port}
+use Rattle.lmn_base.proofs.Lists.{all_both}
+use Rattle.lmn_congruence.proofs.Common.{among_left, among_right}
 
 -- ---- what a guard binds
 
@@ -162,23 +165,10 @@ each_once_both (x ∷ xs) ys a b d = ((λ k. elim (either xs k) [ inl j ↦ a.0 
     either (z ∷ zs) at_head = inl at_head
     either (z ∷ zs) (further k) = elim (either zs k) [ inl j ↦ inl (further j) | inr j ↦ inr j ]
 
-all_both : {A : Type 0} (P : A → Type 0) (xs ys : List A) → All P xs → All P ys → All P (xs ++ ys)
-all_both P [] ys a b i d l = b i d l
-all_both P (x ∷ xs) ys a b zero d l = a zero d (omega arith)
-all_both P (x ∷ xs) ys a b (suc i) d l = all_both P xs ys (all_right P (x ∷ []) xs a) b i d (omega (arith, l))
-
-among_left : {A : Type 0} {x : A} {xs : List A} (ys : List A) → Among x xs → Among x (xs ++ ys)
-among_left ys at_head = at_head
-among_left ys (further k) = further (among_left ys k)
-
-among_right : {A : Type 0} {x : A} (xs : List A) {ys : List A} → Among x ys → Among x (xs ++ ys)
-among_right [] k = k
-among_right (y ∷ xs) k = further (among_right xs k)
-
 -- ---- the law
 
 -- the parts of an embedding's typed contexts, as graphs
-module _ (h : Heap) (r : Reading) (read : IsRead h r) (items : List HeadItem) (guard : List Cond) (m : ℕ) (f : Images) (e : Embeds h items guard m f)
+module _ (h : Heap) (r : HeapReading) (read : IsRead h r) (items : List HeadItem) (guard : List Cond) (m : ℕ) (f : Images) (e : Embeds h items guard m f)
     (holds : (n : ℕ) (u : HeadTyped) → HasTyped items n u → (p : Port) × HasLink items u.link p) where
   part_of : (n : ℕ) (u : HeadTyped) → HasTyped items n u → (part : List ℕ) × (rest : List ℕ) × (g : Rooted) × Merged part rest (atoms_in h (f.membrane u.inside)) × HasPart h (f.part n) part × IsGroundPart h r (f.membrane u.inside) (f.part n) part g
   part_of n u k =
@@ -211,7 +201,7 @@ module _ (h : Heap) (r : Reading) (read : IsRead h r) (items : List HeadItem) (g
           (g.0, subst (λ z. IsGroundPart h r (f.membrane z.inside) (f.part n) g.0 g.2) same g.5)
 
 -- the link of each typed context of a rule stands at a port
-held_links : (r : Reading) (kind : ℕ → TypeKind) (rule : RuleTree) → IsRule r rule → (n : ℕ) (u : HeadTyped) → HasTyped (items_of kind rule.head) n u → (p : Port) × HasLink (items_of kind rule.head) u.link p
+held_links : (r : HeapReading) (kind : ℕ → TypeKind) (rule : RuleTree) → IsRule r rule → (n : ℕ) (u : HeadTyped) → HasTyped (items_of_head kind rule.head) n u → (p : Port) × HasLink (items_of_head kind rule.head) u.link p
 held_links r kind rule is_rule =
     let is = is_tree r rule kind is_rule in
     let only = no_connector r kind rule is_rule in
@@ -224,7 +214,7 @@ held_links r kind rule is_rule =
 pub embeds_alike : EmbedsAlike
 embeds_alike h r m inner kind rule read forest is_rule types ns =
     let T = rule_tree r.names r.rule rule in
-    let items = items_of kind rule.head in
+    let items = items_of_head kind rule.head in
     let same = heads_are r kind rule is_rule in
     let known = guard_known r kind rule is_rule in (
       (λ p.
@@ -278,40 +268,40 @@ pub least_alike : LeastAlike
 least_alike h r m inner kind rule read F is types ns = (
   (λ p.
       let f = p.0 in
-      let at : (g : Images) → List ℕ = λ g. numbers_left h g 0 1 [] [] (items_of kind rule.head) in
+      let at : (g : Images) → List ℕ = λ g. numbers_left h g 0 1 [] [] (items_of_head kind rule.head) in
       let e = (embeds_alike h r m inner kind rule read F is types ns).0 (f, p.1.embeds, p.2) in (
         e,
         (λ ks k.
             let g = (embeds_alike h r m inner kind rule read F is types ks).1 k in
             let order = (numbers_ordered h kind rule.head rule.guard m f g.0 p.1.embeds g.1).0 (p.1.least g.0 g.1) in
-            not_after_is ns ks (ap length (sym p.2) ∙ numbers_length h f g.0 0 1 [] [] [] [] (items_of kind rule.head) ∙ ap length g.2)
-            (subst (NotAfter ns) g.2 (subst (λ xs. NotAfter xs (at g.0)) p.2 order))),
+            not_after_is ns ks (ap length (sym p.2) ∙ numbers_length h f g.0 0 1 [] [] [] [] (items_of_head kind rule.head) ∙ ap length g.2)
+            (subst (ListNotAfter ns) g.2 (subst (λ xs. ListNotAfter xs (at g.0)) p.2 order))),
       )),
   (λ p.
       let f = (embeds_alike h r m inner kind rule read F is types ns).1 p.0 in
-      let at : (g : Images) → List ℕ = λ g. numbers_left h g 0 1 [] [] (items_of kind rule.head) in (
+      let at : (g : Images) → List ℕ = λ g. numbers_left h g 0 1 [] [] (items_of_head kind rule.head) in (
         f.0,
         record {
           embeds = f.1;
           least = λ g e.
               let k = (embeds_alike h r m inner kind rule read F is types (at g)).0 (g, e, refl) in
-              (numbers_ordered h kind rule.head rule.guard m f.0 g f.1 e).1 (subst (λ xs. NotAfter xs (at g)) (sym f.2) (is_not_after ns (at g) (p.1 (at g) k)));
+              (numbers_ordered h kind rule.head rule.guard m f.0 g f.1 e).1 (subst (λ xs. ListNotAfter xs (at g)) (sym f.2) (is_not_after ns (at g) (p.1 (at g) k)));
         },
         f.2,
       )),
 )
 
-somewhere : (h : Heap) (r : Reading) (m : ℕ) (inner : Forest) (kind : ℕ → TypeKind) (rule : RuleTree) → IsRead h r → HasForest h m inner → IsRule r rule → HasTypes kind rule →
-    ((f : Images) × Embeds h (items_of kind rule.head) rule.guard m f) ↔ ((ns : List ℕ) × EmbedsAt (rule_tree r.names r.rule rule) ns (region_at h r m inner))
+somewhere : (h : Heap) (r : HeapReading) (m : ℕ) (inner : Forest) (kind : ℕ → TypeKind) (rule : RuleTree) → IsRead h r → HasForest h m inner → IsRule r rule → HasTypes kind rule →
+    ((f : Images) × Embeds h (items_of_head kind rule.head) rule.guard m f) ↔ ((ns : List ℕ) × EmbedsAt (rule_tree r.names r.rule rule) ns (region_at h r m inner))
 somewhere h r m inner kind rule read F is types = (
-  (λ p. let ns = numbers_left h p.0 0 1 [] [] (items_of kind rule.head) in (ns, (embeds_alike h r m inner kind rule read F is types ns).0 (p.0, p.1, refl))),
+  (λ p. let ns = numbers_left h p.0 0 1 [] [] (items_of_head kind rule.head) in (ns, (embeds_alike h r m inner kind rule read F is types ns).0 (p.0, p.1, refl))),
   (λ p. let u = (embeds_alike h r m inner kind rule read F is types p.0).1 p.1 in (u.0, u.1)),
 )
 
 -- a step is possible exactly where a rule embeds on the heap
-pub steps_exactly : StepsExactly
+pub steps_exactly : HeapStepsExactly
 steps_exactly h r table kinds inner read tr has types = heap_steps h r table kinds inner read tr has (λ m i k rule F e is. somewhere h r m i (kinds k) rule read F is (types k rule e))
 
 -- and none where none does
-pub irreducible_exactly : IrreducibleExactly
+pub irreducible_exactly : HeapIrreducibleExactly
 irreducible_exactly h r table kinds inner read tr has types = heap_irreducible h r table kinds inner read tr has (λ m i k rule F e is. somewhere h r m i (kinds k) rule read F is (types k rule e))

@@ -1,38 +1,41 @@
 -- Rules of all membranes of a heap, and steps of its process.
 use Rattle.std.proofs.Common.{ℕ, suc, ◌≡◌, ◌≢◌, ◌+◌, ◌≤◌, ◌<◌, ◌⊎◌, ◌↔◌, List, [], ◌∷◌, ◌++◌, map, Option, Some, None, refl, sym, ap, subst, ◌∙◌, inl, inr, arith}
-use Rattle.std.specs.Prelude.{slice_get, slice_index_or, IsSome}
+use Rattle.std.specs.Prelude.{slice_get, IsSome}
 use Rattle.std.proofs.lemmas.Bool.{cases_eq}
 use Rattle.lmn_base.specs.declared.rule.RuleTree.{RuleTree}
 use Rattle.lmn_guards.specs.declared.plan.TypeKind.{TypeKind}
-use Rattle.lmn_heap.specs.Heap.{Heap, HeapAtom, HeapMem, IsAtom, IsMem, atoms_by, atoms_in, mems_in, rules_in, arity_of, link_of, links_of, home_of}
+use Rattle.lmn_heap.specs.Heap.{Heap, HeapMem, IsAtom, IsMem, atoms_by, atoms_in, mems_in, rules_in, arity_of, link_of, home_of}
 use Rattle.lmn_heap.specs.Lists.{Each, In, Distinct}
 use Rattle.lmn_heap.specs.Sound.{Forest, bare, mem, flat, Forms, IsTree, Valid}
 use Rattle.lmn_heap.proofs.ListLemmas.{distinct_left, distinct_right, in_left, in_right}
 use Rattle.lmn_heap.proofs.Trees.{in_either}
 use Rattle.lmn_solid.specs.Embeddings.{Images, Embeds as OnHeap}
-use Rattle.lmn_solid.specs.Flattening.{items_of}
+use Rattle.lmn_solid.specs.Flattening.{items_of_head}
 use Rattle.lmn_congruence.specs.Links.{places}
 use Rattle.lmn_congruence.specs.Orders.{Put, here, there}
 use Rattle.lmn_congruence.specs.Process.{Closed, occurrences}
-use Rattle.lmn_congruence.specs.Regions.{Region, Regions, SolidAtom, region, region_and}
+use Rattle.lmn_congruence.specs.Regions.{Region, Regions, region, region_and}
 use Rattle.lmn_congruence.specs.Rules.{Rule}
 use Rattle.lmn_congruence.specs.Translation.{rule_tree}
 use Rattle.lmn_adequacy.specs.Accepted.{Accepted}
-use Rattle.lmn_adequacy.specs.Embedding.{AllRules, AllRulesIn, EachRule, Embeds, EmbedsIn, EmbedsAt, embeds_here, embeds_below, TakenRegion, region_first, region_later}
+use Rattle.lmn_adequacy.specs.Embedding.{AllRules, AllRulesIn, EachRule, HasEmbedding, EmbedsIn, EmbedsAt, embeds_here, embeds_below, TakenRegion, region_first, region_later}
 use Rattle.lmn_adequacy.proofs.Orders.{put_taken, taken_put}
-use Rattle.lmn_bridge.specs.HeapRegions.{Reading, regions_at, region_at}
+use Rattle.lmn_bridge.specs.HeapRegions.{HeapReading, regions_at, region_at}
 use Rattle.lmn_bridge.specs.Laws.{heap_process}
 use Rattle.lmn_bridge.specs.Premises.{IsRead, HasForest, HasRules, IsRule}
 use Rattle.lmn_bridge.proofs.Pieces.{atom_at}
-use Rattle.lmn_bridge.proofs.Counting.{tree_atoms, times_at, weigh, in_region, ends_among}
+use Rattle.lmn_bridge.proofs.Counting.{tree_atoms, times_at, in_region, ends_among}
 use Rattle.lmn_bridge.proofs.Forests.{tree_once, each_tree, some_of, forest_atom, in_place}
 use Rattle.lmn_bridge.proofs.Ports.{find_place, port_named}
 use Rattle.lmn_bridge.proofs.Read.{find_tree}
 use Rattle.lmn_bridge.proofs.Lying.{TakenTree, tree_first, tree_later}
+use Rattle.lmn_base.proofs.Lists.{weigh}
+use Rattle.lmn_adequacy.proofs.Embedding.{in_a_membrane as below}
+use Rattle.lmn_heap.proofs.Common.{linked_atom}
 
 -- ---- the process of a heap is closed
 
-heavy_one : (h : Heap) (r : Reading) (x : ℕ) (ys : List ℕ) → weigh (times_at h r x) ys ≢ 0 → (c : ℕ) × (In c ys) × (times_at h r x c ≢ 0)
+heavy_one : (h : Heap) (r : HeapReading) (x : ℕ) (ys : List ℕ) → weigh (times_at h r x) ys ≢ 0 → (c : ℕ) × (In c ys) × (times_at h r x c ≢ 0)
 heavy_one h r x [] z = absurd (z refl)
 heavy_one h r x (y ∷ ys) z = elim (cases_eq (times_at h r x y) 0) [
   | inl w ↦ (let u = heavy_one h r x ys (λ q. z (omega (arith, w, q))) in (u.0, inr u.1, u.2))
@@ -53,13 +56,6 @@ mem_is h m a p = by (h.mems m) refl p
     by None e p = absurd p
     by (Some x) e p = refl
 
-linked_atom : (h : Heap) (a i : ℕ) {p : ℕ × ℕ} → link_of h a i ≡ Some p → IsAtom h a
-linked_atom h a i e = by (h.atoms a) e
-  where
-    by : (o : Option HeapAtom) {p : ℕ × ℕ} → slice_index_or (links_of o) i None ≡ Some p → IsSome o
-    by None e = absurd (cc)
-    by (Some x) e = refl
-
 -- every atom stands in the tree
 atom_there : (h : Heap) (v : Valid h) (inner : Forest) → IsTree h (mem h.root inner bare) → (a : ℕ) → IsAtom h a → In a (tree_atoms h h.root inner)
 atom_there h v inner tr a s =
@@ -69,7 +65,7 @@ atom_there h v inner tr a s =
     elim (in_either a (tree_atoms h h.root inner) [] (forest_atom h v (mem h.root inner bare) m.0 a q p)) [ inl k ↦ k | inr k ↦ absurd k ]
 
 -- the process of a heap is closed
-pub closed_heap : (h : Heap) (r : Reading) (inner : Forest) → IsRead h r → IsTree h (mem h.root inner bare) → Closed (heap_process h r inner)
+pub closed_heap : (h : Heap) (r : HeapReading) (inner : Forest) → IsRead h r → IsTree h (mem h.root inner bare) → Closed (heap_process h r inner)
 closed_heap h r inner read tr x = elim (cases_eq (weigh (times_at h r x) (tree_atoms h h.root inner)) 0) [
   | inl z ↦ inl (in_region h r read.valid x h.root inner ∙ z)
   | inr z ↦ (let u = heavy_one h r x (tree_atoms h h.root inner) z in
@@ -90,7 +86,7 @@ closed_heap h r inner read tr x = elim (cases_eq (weigh (times_at h r x) (tree_a
 
 -- ---- the rules of all membranes
 
-module _ (h : Heap) (r : Reading) (table : List RuleTree) (has : HasRules h r table) where
+module _ (h : Heap) (r : HeapReading) (table : List RuleTree) (has : HasRules h r table) where
   -- a rule of a membrane is one of the table
   pub rule_tree_is : (m k : ℕ) → In k (rules_in h m) → (rule : RuleTree) × (slice_get table k ≡ Some rule) × IsRule r rule × (r.rule k ≡ rule_tree r.names r.rule rule)
   rule_tree_is m k p = let u = has.known m k p in (u.0, u.1, u.2, has.read k u.0 u.1)
@@ -127,12 +123,9 @@ taken_forest h ms (tree_first {m = m} {i = i} {f = f}) F d = record { forms = F.
     each_left (x ∷ xs) e = (e.0, each_left xs e.1)
 taken_forest h ms (tree_later {j = j} {f = f} t) F d = taken_forest h F.0 t F.3 (distinct_right (flat j) (flat f) d.1)
 
-below : {n : ℕ} {m : Region} {xs : List SolidAtom} {ms ms' : Regions} {rs : List Rule} → TakenRegion n m ms ms' → Embeds m → Embeds (region xs ms rs)
-below {n} t e = record { path = n ∷ e.path; number = e.number; positions = e.positions; embeds = embeds_below t e.embeds }
-
-module _ (h : Heap) (r : Reading) (table : List RuleTree) (kinds : ℕ → ℕ → TypeKind) (has : HasRules h r table)
+module _ (h : Heap) (r : HeapReading) (table : List RuleTree) (kinds : ℕ → ℕ → TypeKind) (has : HasRules h r table)
     (alike : (m : ℕ) (i : Forest) (k : ℕ) (rule : RuleTree) → HasForest h m i → slice_get table k ≡ Some rule → IsRule r rule →
-    ((f : Images) × OnHeap h (items_of (kinds k) rule.head) rule.guard m f) ↔ ((ns : List ℕ) × EmbedsAt (rule_tree r.names r.rule rule) ns (region_at h r m i))) where
+    ((f : Images) × OnHeap h (items_of_head (kinds k) rule.head) rule.guard m f) ↔ ((ns : List ℕ) × EmbedsAt (rule_tree r.names r.rule rule) ns (region_at h r m i))) where
   -- a rule of one of these membranes embeds
   pub record Found (ms : List ℕ) : Type 0 where
     pub membrane : ℕ
@@ -142,18 +135,18 @@ module _ (h : Heap) (r : Reading) (table : List RuleTree) (kinds : ℕ → ℕ �
     pub rule : RuleTree
     pub is : slice_get table number ≡ Some rule
     pub images : Images
-    pub embeds : OnHeap h (items_of (kinds number) rule.head) rule.guard membrane images
+    pub embeds : OnHeap h (items_of_head (kinds number) rule.head) rule.guard membrane images
 
   wider : (ms ks : List ℕ) → ((m : ℕ) → In m ms → In m ks) → Found ms → Found ks
   wider ms ks s f = record { membrane = f.membrane; among = s f.membrane f.among; number = f.number; stands = f.stands; rule = f.rule; is = f.is; images = f.images; embeds = f.embeds }
 
-  embeds_there : (m : ℕ) (i : Forest) → HasForest h m i → (w : Found (m ∷ [])) → Embeds (region_at h r m i)
+  embeds_there : (m : ℕ) (i : Forest) → HasForest h m i → (w : Found (m ∷ [])) → HasEmbedding (region_at h r m i)
   embeds_there m i F w =
       let e : w.membrane ≡ m = only w.among in
       let p = subst (λ z. In w.number (rules_in h z)) e w.stands in
       let u = has.known m w.number p in
       let same : u.0 ≡ w.rule = let q : Some u.0 ≡ Some w.rule = sym u.1 ∙ w.is in cc in
-      let on = subst (λ z. OnHeap h (items_of (kinds w.number) w.rule.head) w.rule.guard z w.images) e w.embeds in
+      let on = subst (λ z. OnHeap h (items_of_head (kinds w.number) w.rule.head) w.rule.guard z w.images) e w.embeds in
       let into = (alike m i w.number w.rule F w.is (subst (IsRule r) same u.2)).0 (w.images, on) in
       let put = put_in r.rule w.number (rules_in h m) p in
       let taken = put_taken put.1 in
@@ -169,7 +162,7 @@ module _ (h : Heap) (r : Reading) (table : List RuleTree) (kinds : ℕ → ℕ �
     pub region : Region
     pub others : Regions
     pub taken : TakenRegion place region (regions_at h r f) others
-    pub embeds : Embeds region
+    pub embeds : HasEmbedding region
 
   embeds_below_from : (f : Forest) (ms : List ℕ) → Forms h f ms → Distinct (flat f) → (w : Found (flat f)) → In w.membrane (flat f) → Below f
   embeds_below_from bare ms F d w p = absurd p
@@ -184,7 +177,7 @@ module _ (h : Heap) (r : Reading) (table : List RuleTree) (kinds : ℕ → ℕ �
   ]
 
   -- an embedding in some membrane is one in the region
-  pub embeds_from : (m : ℕ) (i : Forest) → HasForest h m i → (w : Found (m ∷ flat i)) → In w.membrane (m ∷ flat i) → Embeds (region_at h r m i)
+  pub embeds_from : (m : ℕ) (i : Forest) → HasForest h m i → (w : Found (m ∷ flat i)) → In w.membrane (m ∷ flat i) → HasEmbedding (region_at h r m i)
   embeds_from m i F w (inl e) = embeds_there m i F (record { membrane = w.membrane; among = inl e; number = w.number; stands = w.stands; rule = w.rule; is = w.is; images = w.images; embeds = w.embeds })
   embeds_from m i F w (inr p) =
       let b = embeds_below_from i (mems_in h m) F.forms F.once.1 (record { membrane = w.membrane; among = p; number = w.number; stands = w.stands; rule = w.rule; is = w.is; images = w.images; embeds = w.embeds }) p in
@@ -214,5 +207,5 @@ module _ (h : Heap) (r : Reading) (table : List RuleTree) (kinds : ℕ → ℕ �
       let w = find_in d u.number u.inner (taken_forest h (mems_in h m) u.taken F.forms F.once.1) u.is in
       wider (u.number ∷ flat u.inner) (m ∷ flat i) (λ b p. inr (tree_flat u.taken b p)) w
 
-  pub find_embeds : {S : Region} → Embeds S → (m : ℕ) (i : Forest) → HasForest h m i → S ≡ region_at h r m i → Found (m ∷ flat i)
+  pub find_embeds : {S : Region} → HasEmbedding S → (m : ℕ) (i : Forest) → HasForest h m i → S ≡ region_at h r m i → Found (m ∷ flat i)
   find_embeds e = find_in e.embeds

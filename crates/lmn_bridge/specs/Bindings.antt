@@ -5,10 +5,10 @@ use Rattle.lmn_base.specs.declared.guard.Cond.TheVariants.{Kind, Compare, Equal,
 use Rattle.lmn_guards.specs.Values.{value}
 use Rattle.lmn_heap.specs.Heap.{Heap}
 use Rattle.lmn_solid.specs.Guards.{Meaning, bind, integer_named}
-use Rattle.lmn_solid.specs.Heads.{Port}
 use Rattle.lmn_congruence.specs.Rules.{Name}
 use Rattle.lmn_congruence.specs.Translation.{name_of}
 use Rattle.lmn_reduction.specs.Parts.{Rooted, IsInteger}
+use Rattle.lmn_base.specs.Graphs.{Port}
 
 -- what a left side of `=` binds: nothing where it is a part of the head, and else its integer
 abbrev pub BindsAt : List Name → (Name → Rooted) → Meaning → Option Port → ℕ → Option ℤ → (Meaning → Type 0) → Type 0

@@ -6,7 +6,7 @@
 
 ghost use Rattle.lmn_bridge.specs.Examples.{AcrossHasItsForest, AcrossIsRead};
 ghost use Rattle.lmn_bridge.specs.Parts.{EmbeddedPartsAreApart, EmbeddedPartsAreGround, EqualPartsAlike, GroundPartsStandWhole, IntegerPartsAlike, PartsAreApart, UnaryPartsAlike, WholePartsAreGround};
-ghost use Rattle.lmn_bridge.specs.Laws.{EmbedsAlike, GuardsAlike, HeadsAlike, HeapsAreNamed, IrreducibleExactly, LeastAlike, NumbersInOrder, SolidsAreRegions, StepsExactly};
+ghost use Rattle.lmn_bridge.specs.Laws.{EmbedsAlike, GuardsAlike, HeadsAlike, HeapsAreNamed, HeapIrreducibleExactly, LeastAlike, NumbersLeftInOrder, SolidsAreRegions, HeapStepsExactly};
 
 /// The head of a rule embeds on a heap, its guard aside, exactly where it lies in the region that stands for the membrane:
 /// at the same numbers and with the same parts.
@@ -22,7 +22,7 @@ pub fn guards_hold_alike()
 
 /// Of two embeddings of a head on a heap, the positions and the numbers that the calculus counts are in the same order.
 pub fn numbers_are_in_order()
-    ensures { NumbersInOrder }
+    ensures { NumbersLeftInOrder }
 {}
 
 /// A rule embeds on a heap, at a membrane, exactly where its tree embeds in the region that stands there, and at the same
@@ -39,8 +39,8 @@ pub fn least_embeddings_are_alike()
 /// A step is possible from the process of a heap exactly where a rule of some membrane embeds on the heap, and the process
 /// is irreducible exactly where none does.
 pub fn steps_are_exact()
-    ensures steps { StepsExactly }
-    ensures irreducible { IrreducibleExactly }
+    ensures steps { HeapStepsExactly }
+    ensures irreducible { HeapIrreducibleExactly }
 {}
 
 /// The region of a heap is that of its solid.

@@ -10,15 +10,15 @@ use Rattle.lmn_heap.specs.Sound.{Forest}
 use Rattle.lmn_heap.proofs.Groves.{forms_one}
 use Rattle.lmn_heap.proofs.Trees.{in_here, is_mem}
 use Rattle.lmn_instr.specs.declared.instr.Code.{Code}
-use Rattle.lmn_instr.specs.Running.{IsFirst}
+use Rattle.lmn_instr.specs.Running.{IsFirstSuccess}
 use Rattle.lmn_compile_head.specs.Accepted.{AcceptedHeads, AcceptedLeast, head_items, rule_head_code}
 use Rattle.lmn_compile_head.specs.Heads.{kind_in}
 use Rattle.lmn_compile_head.specs.Laws.{CodeOfEmbeddings}
 use Rattle.lmn_body.specs.Running.{Registers, RunsBody}
-use Rattle.lmn_adequacy.specs.Choice.{ChosenFrom, asked}
+use Rattle.lmn_adequacy.specs.Choice.{ChosenFrom, asked_paths}
 use Rattle.lmn_adequacy.specs.Embedding.{EmbedsAt, EmbedsIn}
 use Rattle.lmn_adequacy.specs.Laws.{EmbeddingsFire, FiringsCommit, NumberingExists, RenamedNext}
-use Rattle.lmn_bridge.specs.HeapRegions.{Reading, region_at}
+use Rattle.lmn_bridge.specs.HeapRegions.{HeapReading, region_at}
 use Rattle.lmn_bridge.specs.Laws.{EmbedsAlike, EmbedsFirstAt, LeastAlike}
 use Rattle.lmn_bridge.specs.Premises.{HasForest}
 use Rattle.lmn_bridge.specs.Numbers.{numbers_left}
@@ -26,17 +26,18 @@ use Rattle.lmn_bridge.proofs.Results.{root_forest}
 use Rattle.lmn_bridge.proofs.Wholes.{closed_heap, all_accepted}
 use Rattle.lmn_strategy.specs.Choosing.{CodeSucceeds}
 use Rattle.lmn_turn.specs.Commits.{IsTable, Turned, TurnsCommit}
-use Rattle.lmn_turn.specs.Turning.{Leads, renumbered}
+use Rattle.lmn_turn.specs.Turning.{Leads, renumbered_reading}
 use Rattle.lmn_choice.specs.Laws.{ChoicesAgree, ChoicesAlike, HeapsAreNumbered}
-use Rattle.lmn_choice.specs.Turns.{tree_of, membranes_of, heap_region, HaveCodes, IsReadWith, IsChosen, IsChoice, IsNextHeap}
+use Rattle.lmn_choice.specs.Turns.{tree_over, membranes_in_preorder, heap_region, HaveCodes, IsReadWith, IsChosen, IsChoice, IsNextHeap}
 use Rattle.lmn_choice.proofs.Codes.{Coded, coded, embedded_succeeds, plan_types}
-use Rattle.lmn_choice.proofs.Lists.{got_in, got_front, in_turned, cut_at, each_among}
+use Rattle.lmn_choice.proofs.Lists.{got_front, in_turned, cut_at, each_among}
 use Rattle.lmn_choice.proofs.Numbers.{numbered_alike}
 use Rattle.lmn_choice.proofs.Paths.{forest_there, leads_to_one}
 use Rattle.lmn_choice.proofs.Placed.{AtEnd, at_end, at_path}
 use Rattle.lmn_choice.proofs.Renumbering.{table_as}
+use Rattle.lmn_heap.proofs.Common.{in_at as got_in}
 
-module _ (table : List RuleTree) (plans : List GuardPlan) (codes : List Code) (c : HaveCodes table plans codes) (h : Heap) (r : Reading) (inner : Forest) (w : IsReadWith h r inner table)
+module _ (table : List RuleTree) (plans : List GuardPlan) (codes : List Code) (c : HaveCodes table plans codes) (h : Heap) (r : HeapReading) (inner : Forest) (w : IsReadWith h r inner table)
     (from : ℕ) (code : Code) (s : Registers) (ch : IsChosen from codes h inner code s) where
   abbrev m : ℕ
   m = ch.membrane
@@ -48,15 +49,15 @@ module _ (table : List RuleTree) (plans : List GuardPlan) (codes : List Code) (c
   pub code_of : code ≡ rule_of.code
   code_of = same_Some code rule_of.code (sym ch.is ∙ rule_of.code_is)
 
-  pub first_of : IsFirst h (rule_head_code rule_of.rule rule_of.plan) m s.head
-  first_of = subst (λ z. IsFirst h z m s.head) (ap (λ z. z.head) code_of ∙ rule_of.head) ch.first
+  pub first_of : IsFirstSuccess h (rule_head_code rule_of.rule rule_of.plan) m s.head
+  first_of = subst (λ z. IsFirstSuccess h z m s.head) (ap (λ z. z.head) code_of ∙ rule_of.head) ch.first
 
   -- its membrane
-  pub inside : In m (membranes_of h inner)
-  inside = in_turned from (membranes_of h inner) m (subst (In m) (sym ch.chosen.order) (in_here m ch.chosen.earlier ch.chosen.later))
+  pub inside : In m (membranes_in_preorder h inner)
+  inside = in_turned from (membranes_in_preorder h inner) m (subst (In m) (sym ch.chosen.order) (in_here m ch.chosen.earlier ch.chosen.later))
 
   pub forest_of : (mi : Forest) × HasForest h m mi
-  forest_of = forest_there h (tree_of h inner) (h.root ∷ []) w.tree.forms w.tree.once m inside
+  forest_of = forest_there h (tree_over h inner) (h.root ∷ []) w.tree.forms w.tree.once m inside
 
   -- the numbers of its images
   abbrev numbers_of : List ℕ
@@ -92,7 +93,7 @@ module _ (table : List RuleTree) (plans : List GuardPlan) (codes : List Code) (c
           embeds = at_path h r ch.place ch.number numbers_of l inner forest_of.0 (root_forest h inner w.tree) forest_of.1 ch.chosen.rule.stands first.0;
           earlier = cut.earlier;
           later = cut.later;
-          order = subst (λ p. asked from S ≡ cut.earlier ++ (p ∷ cut.later)) same cut.order;
+          order = subst (λ p. asked_paths from S ≡ cut.earlier ++ (p ∷ cut.later)) same cut.order;
           first_membrane = λ p a j g e.
               let x = each_among R cut.each p a in
               let z = found_at e in
@@ -134,9 +135,9 @@ module _ (table : List RuleTree) (plans : List GuardPlan) (codes : List Code) (c
     next_heap : HeapsAreNumbered → RenamedNext → FiringsCommit → IsTable r table → (h' : Heap) → Turned table h r inner rule_of.rule m ch.place numbers_of h' → IsNextHeap from h r inner table h'
     next_heap numbering renaming commits tab h' t =
         let S = heap_region h r inner in
-        let r' = renumbered r t.next.again.number in
+        let r' = renumbered_reading r t.next.again.number in
         let z = numbering h' r' t.next.again.forest table (record { read = t.next.again.read; tree = t.next.again.tree; rules = t.rules tab }) in
-        let S' = heap_region h' (renumbered r z.number) t.next.again.forest in
+        let S' = heap_region h' (renumbered_reading r z.number) t.next.again.forest in
         let next = renaming t.next.path numbers_of ch.place S (heap_region h' r' t.next.again.forest) S' t.next.next z.renamed in
         record {
           number = z.number;
@@ -152,7 +153,7 @@ module _ (table : List RuleTree) (plans : List GuardPlan) (codes : List Code) (c
     run_is_next numbering renaming commits turns tab h' runs =
         let u = rule_of in
         next_heap numbering renaming commits tab h' (turns table u.rule u.plan u.whole h r inner w.read w.tree w.rules m forest_of.0
-        (is_mem h w.read.valid.sound (tree_of h inner) w.tree m inside) forest_of.1 ch.place ch.number ch.chosen.rule.stands u.is s first_of h'
+        (is_mem h w.read.valid.sound (tree_over h inner) w.tree m inside) forest_of.1 ch.place ch.number ch.chosen.rule.stands u.is s first_of h'
         (subst (λ z. RunsBody s z h h') (ap (λ z. z.body) code_of ∙ u.body) runs))
 
 pub choices_alike : AcceptedHeads → CodeOfEmbeddings → EmbedsAlike → AcceptedLeast → LeastAlike → EmbeddingsFire → NumberingExists → RenamedNext → ChoicesAlike

@@ -1,9 +1,8 @@
 -- The rules of a membrane, with their plans and their codes: a code succeeds where its rule embeds.
-use Rattle.std.proofs.Common.{ℕ, ◌≡◌, List, Some, refl, sym, ap, subst, ◌∙◌, arith}
-use Rattle.std.specs.Prelude.{Option, None, IsSome, slice_get}
+use Rattle.std.proofs.Common.{ℕ, ◌≡◌, List, Some, sym, ap, subst, ◌∙◌, arith}
+use Rattle.std.specs.Prelude.{slice_get}
 use Rattle.lmn_base.specs.declared.rule.RuleTree.{RuleTree}
 use Rattle.lmn_guards.specs.declared.plan.GuardPlan.{GuardPlan}
-use Rattle.lmn_guards.specs.declared.plan.TypeKind.{TypeKind}
 use Rattle.lmn_guards.specs.GuardCodes.{type_of}
 use Rattle.lmn_guards.proofs.AcceptedLemmas.{in_order}
 use Rattle.lmn_heap.specs.Heap.{Heap, rules_in}
@@ -16,32 +15,33 @@ use Rattle.lmn_compile_head.specs.Heads.{kind_in}
 use Rattle.lmn_compile_head.specs.Laws.{CodeOfEmbeddings}
 use Rattle.lmn_compile_head.proofs.HeadLeaves.{typed_leaf}
 use Rattle.lmn_compile_head.proofs.PlanKinds.{kind_of_leaf}
-use Rattle.lmn_compile_body.specs.Accepted.{IsWhole, rule_body_code}
+use Rattle.lmn_compile_body.specs.Accepted.{IsCompilable, rule_body_code}
 use Rattle.lmn_congruence.specs.Translation.{rule_tree}
 use Rattle.lmn_adequacy.specs.Embedding.{EmbedsAt}
-use Rattle.lmn_bridge.specs.HeapRegions.{Reading, region_at}
+use Rattle.lmn_bridge.specs.HeapRegions.{HeapReading, region_at}
 use Rattle.lmn_bridge.specs.Laws.{EmbedsAlike}
 use Rattle.lmn_bridge.specs.Premises.{IsRead, IsRule, HasForest, HasRules, HasTypes}
-use Rattle.lmn_bridge.proofs.Runs.{get_below, get_some}
 use Rattle.lmn_strategy.specs.Choosing.{CodeSucceeds}
 use Rattle.lmn_choice.specs.Turns.{HaveCodes}
+use Rattle.lmn_base.proofs.Lists.{get_below, get_there as get_some}
+use Rattle.lmn_turn.proofs.PlanTypes.{is_of}
 
 -- A rule of a membrane, by its number: its tree, its plan and its code.
-pub record Coded (r : Reading) (table : List RuleTree) (plans : List GuardPlan) (codes : List Code) (k : ℕ) : Type 0 where
+pub record Coded (r : HeapReading) (table : List RuleTree) (plans : List GuardPlan) (codes : List Code) (k : ℕ) : Type 0 where
   pub rule : RuleTree
   pub is : slice_get table k ≡ Some rule
   pub allowed : IsRule r rule
   pub read : r.rule k ≡ rule_tree r.names r.rule rule
   pub plan : GuardPlan
   pub plan_is : slice_get plans k ≡ Some plan
-  pub whole : IsWhole table rule plan
+  pub whole : IsCompilable table rule plan
   pub code : Code
   pub code_is : slice_get codes k ≡ Some code
   pub head : code.head ≡ rule_head_code rule plan
   pub body : code.body ≡ rule_body_code rule plan
 
 -- each rule of a membrane has them
-pub coded : (h : Heap) (r : Reading) (table : List RuleTree) (plans : List GuardPlan) (codes : List Code) → HaveCodes table plans codes → HasRules h r table →
+pub coded : (h : Heap) (r : HeapReading) (table : List RuleTree) (plans : List GuardPlan) (codes : List Code) → HaveCodes table plans codes → HasRules h r table →
     (m k : ℕ) → In k (rules_in h m) → Coded r table plans codes k
 coded h r table plans codes c has m k p =
     let u = has.known m k p in
@@ -63,10 +63,6 @@ coded h r table plans codes c has m k p =
       body = is.body;
     }
 
-is_of : (o : Option TypeKind) → IsSome o → (k : TypeKind) × (o ≡ Some k)
-is_of (Some k) s = (k, refl)
-is_of None s = absurd (cc)
-
 -- the kinds of a plan are those that the guard gives
 pub plan_types : (table : List RuleTree) (rule : RuleTree) (plan : GuardPlan) → IsReady table rule plan → HasTypes (kind_in plan.kinds) rule
 plan_types table rule plan ready n u k =
@@ -76,7 +72,7 @@ plan_types table rule plan ready n u k =
     t.1 ∙ ap (λ z. Some z) (sym (l.4 ∙ same))
 
 -- where the tree of a rule embeds, its code succeeds
-pub embedded_succeeds : AcceptedHeads → CodeOfEmbeddings → EmbedsAlike → (h : Heap) (r : Reading) (table : List RuleTree) (plans : List GuardPlan) (codes : List Code) → HaveCodes table plans codes → IsRead h r → HasRules h r table →
+pub embedded_succeeds : AcceptedHeads → CodeOfEmbeddings → EmbedsAlike → (h : Heap) (r : HeapReading) (table : List RuleTree) (plans : List GuardPlan) (codes : List Code) → HaveCodes table plans codes → IsRead h r → HasRules h r table →
     (m : ℕ) (mi : Forest) → HasForest h m mi → (k : ℕ) → In k (rules_in h m) → (g : List ℕ) → EmbedsAt (r.rule k) g (region_at h r m mi) → CodeSucceeds h codes m k
 embedded_succeeds heads embeddings alike h r table plans codes c read has m mi F k p g e =
     let u = coded h r table plans codes c has m k p in

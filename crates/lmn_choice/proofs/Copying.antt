@@ -2,7 +2,7 @@
 use Rattle.std.proofs.Common.{ℕ, zero, suc, ◌≡◌, ◌+◌, ◌≤◌, List, [], ◌∷◌, ◌++◌, length, Option, Some, None, refl, sym, subst, ◌∙◌, inl, inr, arith, length-append, ◌<◌, ap}
 use Rattle.std.specs.Prelude.{Bool, true, false, cond}
 use Rattle.std.specs.Option.{option_and_then}
-use Rattle.lmn_base.specs.Graphs.{Reached, at_root, across}
+use Rattle.lmn_base.specs.Graphs.{Reached, at_root, across, Port}
 use Rattle.lmn_heap.specs.Graphs.{atom_map}
 use Rattle.lmn_heap.specs.Heap.{Heap, Distinct, In, IsAtom, arity_of, link_of}
 use Rattle.lmn_heap.specs.Sound.{Sound}
@@ -10,18 +10,17 @@ use Rattle.lmn_heap.proofs.Depths.{both_distinct}
 use Rattle.lmn_heap.proofs.Pigeonholes.{not_longer}
 use Rattle.lmn_heap.proofs.Trees.{in_either}
 use Rattle.lmn_parts.specs.Copies.{AreNew, Copied, answer, copied}
-use Rattle.lmn_parts.specs.Walks.{Walk, ends, finds, is_port, kept, net, next, passes, ports, IsPart}
+use Rattle.lmn_parts.specs.Walks.{Walk, ends, finds, is_port, kept, net, neighbour, passes, port_range, IsPartInDepth}
 use Rattle.lmn_ground.proofs.CopiedLaws.{answers_are, copied_beside, copied_free, copied_part, copied_same}
 use Rattle.lmn_ground.proofs.GroundLaws.{part_atoms}
-use Rattle.lmn_splice.specs.Ports.{Port}
-use Rattle.lmn_body.proofs.Brought.{brings_copied, brings_listed, is_atom_at}
-use Rattle.lmn_body.proofs.Firing.{decide_in}
-use Rattle.lmn_bridge.proofs.Counting.{within_arity}
+use Rattle.lmn_body.proofs.Brought.{brings_copied, brings_listed}
 use Rattle.lmn_bridge.proofs.Runs.{in_run, run_distinct}
 use Rattle.lmn_bridge.proofs.Walking.{run}
 use Rattle.lmn_commit.specs.Preparing.{CanBeCopied, OnlyMakes}
 use Rattle.lmn_commit.proofs.Waiting.{makes_copy}
 use Rattle.lmn_choice.proofs.Runs.{Bounded}
+use Rattle.lmn_heap.proofs.Common.{decide_in, is_atom_at}
+use Rattle.lmn_heap.proofs.Replacing.{port_within}
 
 -- ---- a walk
 
@@ -41,7 +40,7 @@ module _ (arity : ℕ → ℕ) (to : ℕ × ℕ → Option ℕ) (all : List ℕ)
       by None e w = (w.0, passes (λ b q. absurd (let n : ◌≡◌ {A = Option ℕ} None (Some b) = sym e ∙ q in cc)) w.1)
       by (Some b) e w = elim (decide_in b seen) [
         | inl i ↦ (w.0, passes (λ c q. subst (λ z. In z seen) (same_atom b c (sym e ∙ q)) i) w.1)
-        | inr o ↦ (let u = rec b (inside p b e) o (ports b 0 (arity b) ++ ps) in (u.0, finds e o u.1))
+        | inr o ↦ (let u = rec b (inside p b e) o (port_range b 0 (arity b) ++ ps) in (u.0, finds e o u.1))
       ]
 
   one_more : (seen : List ℕ) (b : ℕ) → Distinct seen → (In b seen → ⊥) → Distinct (seen ++ b ∷ [])
@@ -60,14 +59,14 @@ module _ (arity : ℕ → ℕ) (to : ℕ × ℕ → Option ℕ) (all : List ℕ)
 
 -- the other end of a link is an atom
 end_atom : (s : Heap) → Sound s → (a i b j : ℕ) → link_of s a i ≡ Some (b, j) → IsAtom s b
-end_atom s sound a i b j e = is_atom_at s b j (within_arity s b j (sound.paired.back a i b j e))
+end_atom s sound a i b j e = is_atom_at s b j (port_within s b j _ (sound.paired.back a i b j e))
 
 reached_atom : (s : Heap) → Sound s → (root : ℕ × ℕ) → IsAtom s root.0 → {x : ℕ} → Reached (atom_map s) root x → IsAtom s x
 reached_atom s sound root h at_root = h
 reached_atom s sound root h (across {a = a} {b = b} {i = i} {j = j} r d e) = end_atom s sound a i b j e
 
 -- what a port leads to is an atom
-leads_to_atom : (s : Heap) → Sound s → (root p : ℕ × ℕ) (b : ℕ) → next (net s) root (λ _. true) p ≡ Some b → IsAtom s b
+leads_to_atom : (s : Heap) → Sound s → (root p : ℕ × ℕ) (b : ℕ) → neighbour (net s) root (λ _. true) p ≡ Some b → IsAtom s b
 leads_to_atom s sound root p b e = by (is_port p root) e
   where
     other : (o : Option (ℕ × ℕ)) → link_of s p.0 p.1 ≡ o → option_and_then (kept (λ _. true)) o ≡ Some b → IsAtom s b
@@ -94,10 +93,10 @@ pub record HasCopy (s : Heap) (root : ℕ × ℕ) (number : ℕ → ℕ) (q : �
 
 pub copy_exists : (s : Heap) → Sound s → (all : List ℕ) → Bounded s all → (root : ℕ × ℕ) → CanBeCopied s root → (number : ℕ → ℕ) (q : ℕ) → ((i j : ℕ) → number i ≡ number j → i ≡ j) → ((j : ℕ) → q ≤ j → s.atoms (number j) ≡ None) → HasCopy s root number q
 copy_exists s sound all bounded root can number q apart fresh =
-    let w = walk_exists (arity_of s) (next (net s) root (λ _. true)) all (λ p b e. bounded b (leads_to_atom s sound root p b e)) (length all) (root.0 ∷ []) (tt, tt)
-    (λ x i. elim i [ inl e ↦ bounded x (subst (IsAtom s) e can.atom) | inr n ↦ absurd n ]) (omega arith) (ports root.0 0 (arity_of s root.0)) in
+    let w = walk_exists (arity_of s) (neighbour (net s) root (λ _. true)) all (λ p b e. bounded b (leads_to_atom s sound root p b e)) (length all) (root.0 ∷ []) (tt, tt)
+    (λ x i. elim i [ inl e ↦ bounded x (subst (IsAtom s) e can.atom) | inr n ↦ absurd n ]) (omega arith) (port_range root.0 0 (arity_of s root.0)) in
     let xs = w.0 in
-    let part : IsPart s root xs = w.1 in
+    let part : IsPartInDepth s root xs = w.1 in
     let ys = run number q (length xs) in
     let long : length ys ≡ length xs = length_run number q (length xs) in
     let there : (x : ℕ) → In x xs → IsAtom s x = λ x i. reached_atom s sound root can.atom (((part_atoms s root xs part).1 x).0 i) in

@@ -3,13 +3,13 @@ use Rattle.std.proofs.Common.{ℕ, ◌≡◌, ◌+◌, ◌<◌, List, [], ◌∷
 use Rattle.lmn_heap.specs.Heap.{Heap, rules_in}
 use Rattle.lmn_solid.specs.declared.items.HeadItem.{HeadItem}
 use Rattle.lmn_solid.specs.Heads.{atoms_of, membranes_of, typed_contexts_of}
-use Rattle.lmn_splice.specs.Classes.{class_of, ends, rising}
+use Rattle.lmn_splice.specs.Classes.{class_of, ends_of_class, rising}
 use Rattle.lmn_splice.specs.Splice as splice
 use Rattle.lmn_instr.specs.declared.instr.AtomPort.{AtomPort}
 use Rattle.lmn_instr.specs.declared.instr.NewPort.{NewPort}
 use Rattle.lmn_instr.specs.declared.instr.Instr.{Instr}
 use Rattle.lmn_instr.specs.declared.instr.Instr.TheVariants.{RemoveAtom, RemovePart, RemoveMem, CopyGround, CopyRules, Proceed}
-use Rattle.lmn_instr.specs.Running.{Registers}
+use Rattle.lmn_instr.specs.Running.{HeadRegisters}
 use Rattle.lmn_body.specs.declared.items.BodyItem.{BodyItem}
 use Rattle.lmn_body.specs.declared.items.BodyItem.TheVariants.{Atom, Connector, Copy, Bound, Membrane, Rest, Rule, Rules}
 use Rattle.lmn_body.specs.Code.{body_code, link_code, links_code, making, removals}
@@ -17,7 +17,7 @@ use Rattle.lmn_body.specs.Items.{connectors, new_ports, old_ports}
 use Rattle.lmn_body.specs.Rules.{WellPlaced}
 use Rattle.lmn_body.specs.Running.{Registers as BodyRegisters, Prepares}
 use Rattle.lmn_body.proofs.Firing.{rising_below}
-use Rattle.lmn_machine.specs.Costs.{Adds, InAll, IsSize, Leaves, Takes}
+use Rattle.lmn_machine.specs.Costs.{AddsItems, InAll, IsSize, Leaves, TakesItems}
 
 -- ---- instructions that make nothing
 
@@ -59,7 +59,7 @@ quiet_link r s (p ∷ (q ∷ (z ∷ ps))) hs = refl
 pub quiet_links : (r : BodyRegisters) (s : Heap) (m : ℕ → ℕ) (news : List (NewPort × ℕ)) (olds : List (AtomPort × ℕ)) (zs : List ℕ) → Prepares r (links_code m news olds zs) s s
 quiet_links r s m news olds [] = refl
 quiet_links r s m news olds (z ∷ zs) =
-    prepares_join r (link_code (ends m z news) (ends m z olds)) (links_code m news olds zs) s s s (quiet_link r s (ends m z news) (ends m z olds)) (quiet_links r s m news olds zs)
+    prepares_join r (link_code (ends_of_class m z news) (ends_of_class m z olds)) (links_code m news olds zs) s s s (quiet_link r s (ends_of_class m z news) (ends_of_class m z olds)) (quiet_links r s m news olds zs)
 
 -- ---- what is read to tell a cost
 
@@ -85,7 +85,7 @@ read_parts : (m : ℕ) (xs : List ℕ) → AllRead m (map RemovePart xs)
 read_parts m [] = tt
 read_parts m (x ∷ xs) = (tt, read_parts m xs)
 
-read_mems : (m : ℕ) (xs : List ℕ) → ((x : ℕ) → splice.In x xs → x < m) → AllRead m (map RemoveMem xs)
+read_mems : (m : ℕ) (xs : List ℕ) → ((x : ℕ) → splice.IsOneOf x xs → x < m) → AllRead m (map RemoveMem xs)
 read_mems m [] l = tt
 read_mems m (x ∷ xs) l = (l x (inl refl), read_mems m xs (λ y i. l y (inr i)))
 
@@ -114,7 +114,7 @@ read_link m (p ∷ (q ∷ (z ∷ ps))) hs = tt
 
 read_links : (k : ℕ) (m : ℕ → ℕ) (news : List (NewPort × ℕ)) (olds : List (AtomPort × ℕ)) (zs : List ℕ) → AllRead k (links_code m news olds zs)
 read_links k m news olds [] = tt
-read_links k m news olds (z ∷ zs) = read_both k (link_code (ends m z news) (ends m z olds)) (links_code m news olds zs) (read_link k (ends m z news) (ends m z olds)) (read_links k m news olds zs)
+read_links k m news olds (z ∷ zs) = read_both k (link_code (ends_of_class m z news) (ends_of_class m z olds)) (links_code m news olds zs) (read_link k (ends_of_class m z news) (ends_of_class m z olds)) (read_links k m news olds zs)
 
 -- the code of a body reads membranes of the head alone
 pub body_reads : (head : List HeadItem) (body : List BodyItem) (n : ℕ) → WellPlaced (length (membranes_of head)) (1 + length (membranes_of head)) body → AllRead (1 + length (membranes_of head)) (body_code head body n)
@@ -133,13 +133,13 @@ body_reads head body n p =
 
 -- ---- registers that agree there
 
-module _ (h : Heap) (s t : Registers) (m : ℕ) (same_part : (g : ℕ) → t.images.part g ≡ s.images.part g) (same_mem : (k : ℕ) → k < m → t.images.membrane k ≡ s.images.membrane k) where
-  adds_so : (i : Instr) (n : ℕ) → Reads m i → Adds h s i n → Adds h t i n
+module _ (h : Heap) (s t : HeadRegisters) (m : ℕ) (same_part : (g : ℕ) → t.images.part g ≡ s.images.part g) (same_mem : (k : ℕ) → k < m → t.images.membrane k ≡ s.images.membrane k) where
+  adds_so : (i : Instr) (n : ℕ) → Reads m i → AddsItems h s i n → AddsItems h t i n
   adds_so (CopyGround c k g) n l a = subst (λ z. IsSize h z n) (sym (same_part g)) a
   adds_so (CopyRules k y) n l a = subst (λ z. n ≡ length (rules_in h z)) (sym (same_mem k l)) a
   adds_so i n l a = a
 
-  takes_so : (i : Instr) (n : ℕ) → Reads m i → Takes h s i n → Takes h t i n
+  takes_so : (i : Instr) (n : ℕ) → Reads m i → TakesItems h s i n → TakesItems h t i n
   takes_so (RemovePart g) n l a = subst (λ z. IsSize h z n) (sym (same_part g)) a
   takes_so (RemoveMem k) n l a = subst (λ z. n ≡ 1 + length (rules_in h z)) (sym (same_mem k l)) a
   takes_so i n l a = a
@@ -152,7 +152,7 @@ module _ (h : Heap) (s t : Registers) (m : ℕ) (same_part : (g : ℕ) → t.ima
   leaves_so is n l a = record {
     added = a.added;
     taken = a.taken;
-    adds = in_all_so (Adds h s) (Adds h t) adds_so is a.added l a.adds;
-    takes = in_all_so (Takes h s) (Takes h t) takes_so is a.taken l a.takes;
+    adds = in_all_so (AddsItems h s) (AddsItems h t) adds_so is a.added l a.adds;
+    takes = in_all_so (TakesItems h s) (TakesItems h t) takes_so is a.taken l a.takes;
     count = a.count;
   }

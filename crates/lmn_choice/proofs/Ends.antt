@@ -12,14 +12,14 @@ use Rattle.lmn_instr.specs.declared.instr.Code.{Code}
 use Rattle.lmn_instr.specs.Running.{Succeeds}
 use Rattle.lmn_compile_head.specs.Accepted.{IsReady, rule_head_code}
 use Rattle.lmn_adequacy.specs.Laws.{StepsExactly}
-use Rattle.lmn_bridge.specs.HeapRegions.{Reading}
-use Rattle.lmn_bridge.proofs.Runs.{get_below, get_some}
+use Rattle.lmn_bridge.specs.HeapRegions.{HeapReading}
 use Rattle.lmn_bridge.proofs.Wholes.{closed_heap, all_accepted}
 use Rattle.lmn_strategy.specs.Choosing.{CodeSucceeds, NoneIn}
 use Rattle.lmn_turn.specs.Ends.{AllPlanned, SomeCodeSucceeds, StepsByCode, IrreducibleByCode}
 use Rattle.lmn_choice.specs.Laws.{EndsByCode, NothingEmbeds}
-use Rattle.lmn_choice.specs.Turns.{membranes_of, tree_of, heap_region, HaveCodes, IsReadWith}
+use Rattle.lmn_choice.specs.Turns.{membranes_in_preorder, tree_over, heap_region, HaveCodes, IsReadWith}
 use Rattle.lmn_choice.proofs.Codes.{coded}
+use Rattle.lmn_base.proofs.Lists.{get_below, get_there as get_some}
 
 -- the plan with a number
 abbrev plan_at : List GuardPlan → ℕ → GuardPlan
@@ -30,21 +30,21 @@ plan_is [] k plan e = absurd (cc)
 plan_is (p ∷ plans) zero plan e = same_Some p plan e
 plan_is (p ∷ plans) (suc k) plan e = plan_is plans k plan e
 
-module _ (table : List RuleTree) (plans : List GuardPlan) (codes : List Code) (c : HaveCodes table plans codes) (h : Heap) (r : Reading) (inner : Forest) (w : IsReadWith h r inner table) where
+module _ (table : List RuleTree) (plans : List GuardPlan) (codes : List Code) (c : HaveCodes table plans codes) (h : Heap) (r : HeapReading) (inner : Forest) (w : IsReadWith h r inner table) where
   all_planned : AllPlanned table (plan_at plans)
   all_planned k rule is =
       let p = get_some plans k (omega (arith, get_below table k rule is, c.whole.many)) in
       subst (IsReady table rule) (sym (plan_is plans k p.0 p.1)) (c.whole.whole k rule p.0 is p.1).ready
 
   -- a code that succeeds in a membrane
-  some_of : (m n : ℕ) → In m (membranes_of h inner) → In n (rules_in h m) → CodeSucceeds h codes m n → SomeCodeSucceeds h table (plan_at plans)
+  some_of : (m n : ℕ) → In m (membranes_in_preorder h inner) → In n (rules_in h m) → CodeSucceeds h codes m n → SomeCodeSucceeds h table (plan_at plans)
   some_of m n p i s =
       let u = coded h r table plans codes c w.rules m n i in
       let same : s.code ≡ u.code = same_Some s.code u.code (sym s.is ∙ u.code_is) in
       let path : s.code.head ≡ rule_head_code u.rule (plan_at plans n) = ap (λ z. z.head) same ∙ u.head ∙ ap (rule_head_code u.rule) (sym (plan_is plans n u.plan u.plan_is)) in
       record {
         membrane = m;
-        in_place = is_mem h w.read.valid.sound (tree_of h inner) w.tree m p;
+        in_place = is_mem h w.read.valid.sound (tree_over h inner) w.tree m p;
         number = n;
         stands = i;
         rule = u.rule;
@@ -54,7 +54,7 @@ module _ (table : List RuleTree) (plans : List GuardPlan) (codes : List Code) (c
       }
 
   -- where none succeeds
-  none_some : NoneIn h codes (membranes_of h inner) → SomeCodeSucceeds h table (plan_at plans) → ⊥
+  none_some : NoneIn h codes (membranes_in_preorder h inner) → SomeCodeSucceeds h table (plan_at plans) → ⊥
   none_some none s =
       let u = coded h r table plans codes c w.rules s.membrane s.number s.stands in
       let same : s.rule ≡ u.rule = same_Some s.rule u.rule (sym s.is ∙ u.is) in

@@ -1,26 +1,18 @@
 -- The small heap of the examples.
-use Rattle.std.proofs.Common.{ℕ, ◌≡◌, ◌⊎◌, [], Option, Some, None, IsSome, refl, sym, subst, inl, inr, arith}
-use Rattle.std.proofs.lemmas.Bool.{cases_eq}
+use Rattle.std.proofs.Common.{ℕ, ◌≡◌, [], Option, Some, None, IsSome, refl, sym, subst, inl, inr, arith}
 use Rattle.lmn_heap.specs.Examples.{across}
 use Rattle.lmn_heap.specs.Heap.{HeapMem, rules_by, rules_in}
 use Rattle.lmn_heap.specs.Lists.{In}
 use Rattle.lmn_heap.specs.Sound.{IsTree}
-use Rattle.lmn_heap.proofs.ListLemmas.{apart_test}
 use Rattle.lmn_choice.specs.Examples.{inner, AcrossIsReadWith, AcrossHasTwoPaths}
-use Rattle.lmn_choice.specs.Turns.{tree_of}
-
--- a membrane of it is one of two
-mem_cases : (m : ℕ) → (m ≡ 0) ⊎ ((m ≡ 1) ⊎ (across.mems m ≡ None))
-mem_cases m = elim (cases_eq m 0) [
-  | inl e ↦ inl e
-  | inr d ↦ elim (cases_eq m 1) [ inl e ↦ inr (inl e) | inr f ↦ inr (inr (rw (apart_test m 0 d, apart_test m 1 f) refl)) ]
-]
+use Rattle.lmn_choice.specs.Turns.{tree_over}
+use Rattle.lmn_heap.proofs.ExampleProofs.{mem_cases}
 
 no_mem : (o : Option HeapMem) → o ≡ None → IsSome o → ⊥
 no_mem None e i = absurd (cc)
 no_mem (Some x) e i = absurd (cc)
 
-across_tree : IsTree across (tree_of across inner)
+across_tree : IsTree across (tree_over across inner)
 across_tree = record {
   forms = ([], refl, ([], refl, refl, refl), refl);
   once = (((λ e. absurd (omega (arith, e))), tt), (tt, tt));

@@ -1,18 +1,18 @@
 -- Registers that hold an embedding, with new numbers beyond those of the head.
-use Rattle.std.proofs.Common.{ℕ, zero, suc, ◌≡◌, ◌+◌, ◌<◌, ◌≤◌, ◌==◌, Bool, true, false, List, [], ◌∷◌, map, length, Some, refl, sym, ap, subst, ◌∙◌, inl, inr, arith}
-use Rattle.std.specs.Prelude.{slice_get, slice_index_or, if◌then◌else◌}
-use Rattle.std.proofs.lemmas.Option.{same_Some}
+use Rattle.std.proofs.Common.{ℕ, zero, suc, ◌≡◌, ◌+◌, ◌<◌, ◌≤◌, List, [], ◌∷◌, length, Some, refl, sym, ap, subst, ◌∙◌, inl, inr, arith}
+use Rattle.std.specs.Prelude.{slice_get}
 use Rattle.lmn_base.specs.declared.guard.Cond.{Cond}
 use Rattle.lmn_base.specs.Graphs.{StandsWhole}
 use Rattle.lmn_heap.specs.Graphs.{atom_map}
 use Rattle.lmn_heap.specs.Heap.{Heap, In, atoms_in, functor_of, mems_in, rules_in}
 use Rattle.lmn_solid.specs.declared.items.HeadItem.{HeadItem}
 use Rattle.lmn_solid.specs.declared.items.HeadItem.TheVariants.{Atom, Typed, Membrane}
-use Rattle.lmn_solid.specs.Heads.{HeadAtom, HeadMembrane, HeadTyped, atoms_of, inside_of, membranes_of, outermost, outermost_by, typed_contexts_of}
-use Rattle.lmn_solid.specs.Embeddings.{Embeds, HasAtom, HasMembrane, Images, IsLeast, IsWithin, NotAfter, index_of, partner, positions}
+use Rattle.lmn_solid.specs.Heads.{HeadAtom, HeadMembrane, atoms_of, membranes_of, outermost}
+use Rattle.lmn_solid.specs.Embeddings.{Embeds, HasAtom, HasMembrane, Images, IsLeast, StandsWithin, ListNotAfter, index_of, partner, positions}
 use Rattle.lmn_compile_head.specs.Heads.{EachInside, IsHead}
 use Rattle.lmn_compile_head.proofs.Nesting.{atoms_nested, membranes_nested}
-use Rattle.lmn_bridge.proofs.Runs.{get_below}
+use Rattle.lmn_base.proofs.Lists.{get_below}
+use Rattle.lmn_matching.proofs.Order.{outer_less, typed_nested}
 
 -- ---- numbers
 
@@ -33,34 +33,6 @@ raised_above (suc k) b f zero l = absurd (omega (arith, l))
 raised_above (suc k) b f (suc n) l = let u = raised_above k (b + 2) (λ i. f (suc i)) n (omega (arith, l)) in omega (arith, u)
 
 -- ---- where items of a head stand
-
-inside_less : (ms : List HeadMembrane) (i k : ℕ) → ((j : ℕ) (b : HeadMembrane) → slice_get ms j ≡ Some b → b.inside ≤ i + j) → slice_index_or (map (λ b. b.inside) ms) k 0 ≤ i + k
-inside_less [] i k n = omega arith
-inside_less (b ∷ ms) i zero n = n zero b refl
-inside_less (b ∷ ms) i (suc k) n = let u = inside_less ms (i + 1) k (λ j c e. let l = n (suc j) c e in omega (arith, l)) in omega (arith, u)
-
-round_less : (ms : List HeadMembrane) (k : ℕ) → ((j : ℕ) (b : HeadMembrane) → slice_get ms j ≡ Some b → b.inside ≤ j) → inside_of ms k ≤ k
-round_less ms zero n = omega arith
-round_less ms (suc k) n = let u = inside_less ms 0 k (λ j b e. let l = n j b e in omega (arith, l)) in omega (arith, u)
-
-test_less : (k o : ℕ) (b : Bool) → o ≤ k → (if b then k else o) ≤ k
-test_less k o true l = omega arith
-test_less k o false l = l
-
-outer_less : (fuel : ℕ) (ms : List HeadMembrane) (k : ℕ) → ((j : ℕ) (b : HeadMembrane) → slice_get ms j ≡ Some b → b.inside ≤ j) → outermost_by fuel ms k ≤ k
-outer_less zero ms k n = omega arith
-outer_less (suc fuel) ms k n =
-    test_less k (outermost_by fuel ms (inside_of ms k)) (inside_of ms k == 0) (let a = outer_less fuel ms (inside_of ms k) n in let b = round_less ms k n in omega (arith, a, b))
-
-typed_nested : (i : ℕ) (xs : List HeadItem) → EachInside i xs → (j : ℕ) (t : HeadTyped) → slice_get (typed_contexts_of xs) j ≡ Some t → t.inside ≤ i + length (membranes_of xs)
-typed_nested i [] n j t e = absurd (cc)
-typed_nested i (Atom f ls m ∷ xs) n j t e = typed_nested i xs n.1 j t e
-typed_nested i (Typed p k l m ∷ xs) n zero t e =
-    let here : m ≤ i = n.0 in
-    let u : m ≤ i + length (membranes_of xs) = omega (arith, here) in
-    subst (λ (z : HeadTyped). z.inside ≤ i + length (membranes_of xs)) (same_Some _ t e) u
-typed_nested i (Typed p k l m ∷ xs) n (suc j) t e = typed_nested i xs n.1 j t e
-typed_nested i (Membrane m c rc ∷ xs) n j t e = let u = typed_nested (i + 1) xs n.1 j t e in omega (arith, u)
 
 -- ---- the same embedding
 
@@ -98,7 +70,7 @@ module _ (h : Heap) (items : List HeadItem) (head : IsHead items) (f : Images) (
     outside = λ n i x a p w l t o q g.
         let r = outer_less (length (membranes_of items)) (membranes_of items) a.inside nested in let r' = atoms_nested items head.inside n a w in
         e.outside n i x a p w l t o (ap (λ z. partner h (z, i)) (sym (at_atom n a w)) ∙ q)
-        (subst (λ z. IsWithin h p.0 z) (in_mem (outermost (membranes_of items) a.inside) (omega (arith, r, r'))) g);
+        (subst (λ z. StandsWithin h p.0 z) (in_mem (outermost (membranes_of items) a.inside) (omega (arith, r, r'))) g);
     no_other_atom = λ k b x w c i. elim (e.no_other_atom k b x w c (subst (λ z. In x (atoms_in h z)) (at_mem k b w) i)) [
       | inl z ↦ inl (z.0, z.1, same_atom z.0 z.1 ∙ z.2)
       | inr z ↦ inr z
@@ -138,4 +110,4 @@ module _ (h : Heap) (items : List HeadItem) (head : IsHead items) (f : Images) (
   pub least_so : (guard : List Cond) (m : ℕ) → IsLeast h items guard m f → IsLeast h items guard m other
   least_so guard m e =
       let p : positions h other 0 1 items ≡ positions h f 0 1 items = positions_so 0 0 items head.inside (omega arith) (omega arith) in
-      record { embeds = embeds_so guard m e.embeds; least = λ g k. subst (λ z. NotAfter z (positions h g 0 1 items)) (sym p) (e.least g k) }
+      record { embeds = embeds_so guard m e.embeds; least = λ g k. subst (λ z. ListNotAfter z (positions h g 0 1 items)) (sym p) (e.least g k) }

@@ -12,13 +12,11 @@ use Rattle.lmn_solid.specs.Embeddings.{HasTyped, Images, IsLeast}
 use Rattle.lmn_splice.specs.Classes.{class_of, rising}
 use Rattle.lmn_instr.specs.declared.instr.Code.{Code}
 use Rattle.lmn_instr.specs.declared.instr.Instr.TheVariants.{Proceed}
-use Rattle.lmn_instr.specs.Running.{Registers as HeadRegisters, IsFirst}
+use Rattle.lmn_instr.specs.Running.{HeadRegisters, IsFirstSuccess}
 use Rattle.lmn_compile_head.specs.Accepted.{AcceptedHeads, AcceptedLeast, head_items, rule_head_code}
 use Rattle.lmn_compile_body.specs.Accepted.{AcceptedNested, rule_body_code, rule_body_items}
-use Rattle.lmn_splice.specs.Ports.{Port}
 use Rattle.lmn_body.specs.declared.items.BodyItem.{BodyItem}
 use Rattle.lmn_body.specs.declared.items.BodyItem.TheVariants.{Atom, Connector, Copy, Bound, Membrane, Rest, Rule, Rules}
-use Rattle.lmn_body.proofs.Brought.{is_atom_at}
 use Rattle.lmn_commit.specs.Preparing.{CanBeCopied}
 use Rattle.lmn_commit.proofs.Waiting.{makes_nothing}
 use Rattle.lmn_body.specs.Added.{added_rules, if_inside}
@@ -27,22 +25,23 @@ use Rattle.lmn_body.specs.Items.{connectors, new_ports, old_ports}
 use Rattle.lmn_body.specs.Laws.{BodyCanRun, LinksHaveNumbers}
 use Rattle.lmn_body.specs.Running.{Registers, Prepares, RunsBody}
 use Rattle.lmn_machine.specs.Costs.{Leaves}
-use Rattle.lmn_cost.proofs.Totals.{total}
-use Rattle.lmn_bridge.specs.HeapRegions.{Reading}
-use Rattle.lmn_bridge.proofs.Counting.{same_port, tree_atoms, within_arity}
-use Rattle.lmn_bridge.proofs.Runs.{get_below, get_some}
-use Rattle.lmn_turn.specs.Turning.{renumbered}
+use Rattle.lmn_bridge.specs.HeapRegions.{HeapReading}
+use Rattle.lmn_bridge.proofs.Counting.{tree_atoms}
+use Rattle.lmn_turn.specs.Turning.{renumbered_reading}
 use Rattle.lmn_choice.specs.Laws.{ChoicesAgree, CostsAreItems, CostsAreTold}
-use Rattle.lmn_choice.specs.Turns.{HaveCodes, IsChosen, IsReadWith, heap_region, membranes_of, tree_of}
+use Rattle.lmn_choice.specs.Turns.{HaveCodes, IsChosen, IsReadWith, heap_region, membranes_in_preorder, tree_over}
 use Rattle.lmn_choice.proofs.Choices.{code_of, first_of, inside, rule_of}
 use Rattle.lmn_choice.proofs.Codes.{Coded}
 use Rattle.lmn_choice.proofs.Costs.{body_reads, leaves_so, prepares_join, quiet_links, quiet_removals}
 use Rattle.lmn_choice.proofs.Fresh.{least_so, raised, raised_above, raised_below}
-use Rattle.lmn_choice.proofs.Items.{mem_in_place}
 use Rattle.lmn_choice.proofs.Makings.{AreMade, all_made}
 use Rattle.lmn_choice.proofs.Copying.{copied_in, copy_in, these_are}
 use Rattle.lmn_choice.proofs.Renumbering.{atom_there}
 use Rattle.lmn_choice.proofs.Runs.{commits_exist}
+use Rattle.lmn_base.specs.Graphs.{Port}
+use Rattle.lmn_base.proofs.Lists.{weigh as total, get_below, get_there as get_some}
+use Rattle.lmn_heap.proofs.Common.{is_atom_at, mem_stands as mem_in_place, same_port}
+use Rattle.lmn_heap.proofs.Replacing.{port_within}
 
 -- an element of a list is at most the sum of all
 in_total : (xs : List ℕ) (x : ℕ) → In x xs → x ≤ total (λ z. z) xs
@@ -61,7 +60,7 @@ mem_there h v m n i = by (h.mems n) ((v.sound.listed.mems m n).0 i)
     by None e = absurd (cc)
     by (Some x) e = refl
 
-module _ (table : List RuleTree) (plans : List GuardPlan) (codes : List Code) (c : HaveCodes table plans codes) (h : Heap) (r : Reading) (inner : Forest) (w : IsReadWith h r inner table)
+module _ (table : List RuleTree) (plans : List GuardPlan) (codes : List Code) (c : HaveCodes table plans codes) (h : Heap) (r : HeapReading) (inner : Forest) (w : IsReadWith h r inner table)
     (from : ℕ) (code : Code) (s : Registers) (ch : IsChosen from codes h inner code s) (heads : AcceptedHeads) (least_law : AcceptedLeast) (nested_law : AcceptedNested) where
   abbrev u : Coded r table plans codes ch.number
   u = rule_of table plans codes c h r inner w from code s ch
@@ -70,17 +69,17 @@ module _ (table : List RuleTree) (plans : List GuardPlan) (codes : List Code) (c
   m = ch.membrane
 
   there : IsMem h m
-  there = is_mem h w.read.valid.sound (tree_of h inner) w.tree m (inside table plans codes c h r inner w from code s ch)
+  there = is_mem h w.read.valid.sound (tree_over h inner) w.tree m (inside table plans codes c h r inner w from code s ch)
 
   -- a number above all that name an atom or a membrane
   abbrev B : ℕ
-  B = suc (total (λ z. z) (tree_atoms h h.root inner) + total (λ z. z) (membranes_of h inner))
+  B = suc (total (λ z. z) (tree_atoms h h.root inner) + total (λ z. z) (membranes_in_preorder h inner))
 
   new_atom : (j : ℕ) → h.atoms (B + j) ≡ None
   new_atom j = none_there (h.atoms (B + j)) (λ i. let l = in_total (tree_atoms h h.root inner) (B + j) (atom_there h w.read.valid r inner w.tree (B + j) i) in omega (arith, l))
 
   new_mem : (j : ℕ) → h.mems (B + j) ≡ None
-  new_mem j = none_there (h.mems (B + j)) (λ i. let l = in_total (membranes_of h inner) (B + j) (w.tree.all (B + j) i) in omega (arith, l))
+  new_mem j = none_there (h.mems (B + j)) (λ i. let l = in_total (membranes_in_preorder h inner) (B + j) (w.tree.all (B + j) i) in omega (arith, l))
 
   -- the numbers of atoms of copies; those of other new atoms are even beyond the bound
   abbrev number : ℕ → ℕ
@@ -100,7 +99,7 @@ module _ (table : List RuleTree) (plans : List GuardPlan) (codes : List Code) (c
       (λ n l. raised_below N B s.head.images.atom n l) (λ k l. raised_below (1 + K) B s.head.images.membrane k l) u.rule.guard m
       (least_law.least table u.rule u.plan h m s.head u.whole.ready w.read.valid (first_of table plans codes c h r inner w from code s ch))
 
-  pub found : (t : HeadRegisters) × (t.images ≡ images) × IsFirst h (rule_head_code u.rule u.plan) m t
+  pub found : (t : HeadRegisters) × (t.images ≡ images) × IsFirstSuccess h (rule_head_code u.rule u.plan) m t
   found = least_law.first table u.rule u.plan h m images u.whole.ready w.read.valid least
 
   -- registers with the same success, and new numbers for what the body makes
@@ -111,8 +110,8 @@ module _ (table : List RuleTree) (plans : List GuardPlan) (codes : List Code) (c
   abbrev pub with_copies : (ℕ → Port) → (ℕ → List ℕ) → Registers
   with_copies copy copied = record { head = head_registers; copy = copy; copied = copied }
 
-  pub first : IsFirst h (rule_head_code u.rule u.plan) m head_registers
-  first = let p = found.1 in subst (λ (z : Images). IsFirst h (rule_head_code u.rule u.plan) m (record { images = z; integer = found.0.integer })) p found.2
+  pub first : IsFirstSuccess h (rule_head_code u.rule u.plan) m head_registers
+  first = let p = found.1 in subst (λ (z : Images). IsFirstSuccess h (rule_head_code u.rule u.plan) m (record { images = z; integer = found.0.integer })) p found.2
 
   abbrev pub chosen_too : (copy : ℕ → Port) (copied : ℕ → List ℕ) → IsChosen from codes h inner code (with_copies copy copied)
   chosen_too copy copied = record {
@@ -121,7 +120,7 @@ module _ (table : List RuleTree) (plans : List GuardPlan) (codes : List Code) (c
     number = ch.number;
     chosen = ch.chosen;
     is = ch.is;
-    first = subst (λ z. IsFirst h z m head_registers) (sym (ap (λ z. z.head) (code_of table plans codes c h r inner w from code s ch) ∙ u.head)) first;
+    first = subst (λ z. IsFirstSuccess h z m head_registers) (sym (ap (λ z. z.head) (code_of table plans codes c h r inner w from code s ch) ∙ u.head)) first;
   }
 
   head_there : (j : ℕ) → j < 1 + K → IsMem h (images.membrane j)
@@ -165,7 +164,7 @@ module _ (table : List RuleTree) (plans : List GuardPlan) (codes : List Code) (c
       let p = (heads.head table u.rule u.plan u.whole.ready).held g t i in
       let root = images.part g in
       let back : link_of h root.0 root.1 ≡ Some (images.atom p.0.0, p.0.1) = v.sound.paired.back (images.atom p.0.0) p.0.1 root.0 root.1 (part.held p.0 p.1) in
-      let port = within_arity h root.0 root.1 back in
+      let port = port_within h root.0 root.1 _ back in
       record {
         atom = is_atom_at h root.0 root.1 port;
         port = port;
@@ -247,8 +246,8 @@ costs_are_told heads least_law nested_law can_run numbers agree items table plan
     let run = run_exists table plans codes c h r inner w from code s ch heads least_law nested_law can_run numbers in
     let next = agree table plans codes c h r inner w tab from code run_registers too run.0 run.1 in
     let cost = same_cost table plans codes c h r inner w from code s ch heads least_law nested_law k leaves in (
-      heap_region run.0 (renumbered r next.number) next.forest,
+      heap_region run.0 (renumbered_reading r next.number) next.forest,
       next.next,
       next.numbered,
-      (items table plans codes c h r inner w from code run_registers too run.0 run.1 (renumbered r next.number) next.forest next.again.read next.again.tree k).0 cost,
+      (items table plans codes c h r inner w from code run_registers too run.0 run.1 (renumbered_reading r next.number) next.forest next.again.read next.again.tree k).0 cost,
     )

@@ -7,12 +7,6 @@ use Rattle.lmn_heap.proofs.Trees.{in_either}
 use Rattle.lmn_congruence.specs.Orders.{Among, at_head, further}
 use Rattle.lmn_choice.specs.Laws.{EachWith, each_none, each_and}
 
--- what has a number in a list is in it
-pub got_in : (xs : List ℕ) (i k : ℕ) → slice_get xs i ≡ Some k → In k xs
-got_in [] i k e = absurd (cc)
-got_in (x ∷ xs) zero k e = inl (same_Some x k e)
-got_in (x ∷ xs) (suc i) k e = inr (got_in xs i k e)
-
 -- what has a smaller number is in the front
 pub got_front : (xs : List ℕ) (n i k : ℕ) → i < n → slice_get xs i ≡ Some k → In k (take n xs)
 got_front [] n i k l e = absurd (cc)

@@ -1,7 +1,7 @@
 -- What a body makes can be made, with room for its rules.
 use Rattle.std.proofs.Common.{ℕ, ◌≡◌, ◌≢◌, ◌⊎◌, ◌+◌, ◌<◌, ◌≤◌, ◌==◌, Bool, true, false, cond, List, [], ◌∷◌, ◌++◌, length, Option, Some, None, IsSome, refl, sym, ap, subst, ◌∙◌, inl, inr, arith}
 use Rattle.std.specs.Option.{option_map}
-use Rattle.std.proofs.lemmas.Bool.{cases_eq, eq-eqb, eqb-true}
+use Rattle.std.proofs.lemmas.Bool.{cases_eq, eqb-true}
 use Rattle.lmn_base.specs.declared.functor.Functor.{Functor}
 use Rattle.lmn_heap.specs.Heap.{Heap, HeapMem, In, IsMem, alter, made_atom, made_mem, mem_with_spare, new_atom, new_mem, reserved, spare_by, spare_of}
 use Rattle.lmn_body.specs.declared.items.BodyItem.{BodyItem}
@@ -11,9 +11,7 @@ use Rattle.lmn_body.specs.Code.{making}
 use Rattle.lmn_body.specs.Made.{copies_of}
 use Rattle.lmn_body.specs.Rules.{StandsIn, WellPlaced}
 use Rattle.lmn_body.specs.Running.{Registers, IsCopied, Prepares, integer_functor}
-use Rattle.lmn_body.proofs.Firing.{decide_in}
-use Rattle.lmn_instr.specs.Running.{Registers as HeadRegisters}
-use Rattle.lmn_splice.specs.Ports.{Port}
+use Rattle.lmn_instr.specs.Running.{HeadRegisters}
 use Rattle.lmn_splice.specs.Splice as splice
 use Rattle.lmn_heap.specs.Sound.{Sound}
 use Rattle.lmn_heap.proofs.Calls.{keeps_sound}
@@ -23,21 +21,9 @@ use Rattle.lmn_commit.specs.Preparing.{CanBeCopied, OnlyMakes}
 use Rattle.lmn_commit.proofs.Waiting.{makes_atom, makes_mem, makes_on, makes_room, still_copied}
 use Rattle.lmn_choice.proofs.Copying.{AreThese, HasCopy, copy_exists}
 use Rattle.lmn_choice.proofs.Runs.{Bounded}
-
--- what an altered map has
-altered_away : {X : Type 0} (f : ℕ → X) (k : ℕ) (g : X → X) (j : ℕ) → j ≢ k → alter f k g j ≡ f j
-altered_away f k g j d = by (j == k) refl
-  where
-    by : (t : Bool) → (j == k) ≡ t → cond t (g (f j)) (f j) ≡ f j
-    by true e = absurd (d (eqb-true j k e))
-    by false e = refl
-
-altered_at : {X : Type 0} (f : ℕ → X) (k : ℕ) (g : X → X) → alter f k g k ≡ g (f k)
-altered_at f k g = by (k == k) (eq-eqb k k refl)
-  where
-    by : (t : Bool) → t ≡ true → cond t (g (f k)) (f k) ≡ g (f k)
-    by true e = refl
-    by false e = absurd (cc)
+use Rattle.lmn_base.specs.Graphs.{Port}
+use Rattle.lmn_heap.proofs.Common.{decide_in}
+use Rattle.lmn_heap.proofs.Listing.{alter_at as altered_at, alter_away as altered_away}
 
 some_kept : (o : Option HeapMem) (n : ℕ) → IsSome o → IsSome (option_map (mem_with_spare n) o)
 some_kept None n i = absurd (cc)
@@ -199,7 +185,7 @@ module _ (registers : HeadRegisters) (copy0 : ℕ → Port) (copied0 : ℕ → L
     ]
   ]
 
-  pub all_made : (rules : ℕ → List ℕ) (body : List BodyItem) (a m c q : ℕ) → ((e : ℕ × ℕ) → splice.In e (copies_of c body) → CanBeCopied h (registers.images.part e.1)) → WellPlaced K m body → N ≤ a → K < m → (s : Heap) → Ready a m q s → AreMade rules a m c body s
+  pub all_made : (rules : ℕ → List ℕ) (body : List BodyItem) (a m c q : ℕ) → ((e : ℕ × ℕ) → splice.IsOneOf e (copies_of c body) → CanBeCopied h (registers.images.part e.1)) → WellPlaced K m body → N ≤ a → K < m → (s : Heap) → Ready a m q s → AreMade rules a m c body s
   all_made rules [] a m c q n p la lm s w = record { heap = s; made = []; prepares = λ copy copied t. refl; all = w.all; bounded = w.bounded; keeps = λ x. inr refl; enough = λ x o. absurd (o refl) }
   all_made rules (Atom functor links inside ∷ xs) a m c q n p la lm s w =
       let t = made_atom s (atom a) functor in

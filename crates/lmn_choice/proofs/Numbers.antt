@@ -5,14 +5,14 @@ use Rattle.lmn_heap.specs.Heap.{Heap, mems_in}
 use Rattle.lmn_heap.specs.Sound.{Forest, bare, mem, flat, Forms}
 use Rattle.lmn_heap.proofs.Trees.{nil_right}
 use Rattle.lmn_adequacy.specs.Choice.{paths_from}
-use Rattle.lmn_bridge.specs.HeapRegions.{Reading, regions_at}
+use Rattle.lmn_bridge.specs.HeapRegions.{HeapReading, regions_at}
 use Rattle.lmn_bridge.proofs.Results.{root_forest}
 use Rattle.lmn_turn.specs.Turning.{Leads, stays, enters}
 use Rattle.lmn_choice.specs.Laws.{EachWith, each_none, each_and, MembranesAreNumberedAlike}
 use Rattle.lmn_choice.proofs.Lists.{each_many, each_both, each_drop, each_take, each_changed}
 use Rattle.lmn_choice.proofs.Paths.{one_path}
 
-module _ (h : Heap) (r : Reading) where
+module _ (h : Heap) (r : HeapReading) where
   -- the membranes of a list that begins at number n of those of x
   numbers_from : (x : ℕ) (f : Forest) (ms : List ℕ) (n : ℕ) → Forms h f ms → ((i y : ℕ) → slice_get ms i ≡ Some y → slice_get (mems_in h x) (n + i) ≡ Some y) →
       EachWith (λ path m. Leads h m path x) (paths_from n (regions_at h r f)) (flat f)

@@ -1,29 +1,24 @@
 -- Embeddings at the end of a path are embeddings in the membrane to which it leads.
-use Rattle.std.proofs.Common.{ℕ, zero, suc, ◌≡◌, List, [], ◌∷◌, map, Some, refl, sym, ap, subst}
+use Rattle.std.proofs.Common.{ℕ, suc, ◌≡◌, List, [], ◌∷◌, map, Some, refl, sym, ap, subst}
 use Rattle.std.specs.Prelude.{slice_get}
-use Rattle.std.proofs.lemmas.Option.{same_Some}
 use Rattle.lmn_heap.specs.Heap.{Heap, mems_in, rules_in}
 use Rattle.lmn_heap.specs.Sound.{Forest, Forms}
 use Rattle.lmn_heap.proofs.Groves.{forms_one}
-use Rattle.lmn_congruence.specs.Regions.{Region, Regions, region}
+use Rattle.lmn_congruence.specs.Regions.{Region}
 use Rattle.lmn_congruence.specs.Rules.{Rule}
 use Rattle.lmn_adequacy.specs.Embedding.{EmbedsAt, EmbedsIn, embeds_here, embeds_below, Taken, taken_first, taken_later}
-use Rattle.lmn_bridge.specs.HeapRegions.{Reading, region_at}
+use Rattle.lmn_bridge.specs.HeapRegions.{HeapReading, region_at}
 use Rattle.lmn_bridge.specs.Premises.{HasForest}
 use Rattle.lmn_bridge.proofs.Lying.{TakenTree, tree_first, tree_later, taken_region}
 use Rattle.lmn_bridge.proofs.Read.{find_tree}
 use Rattle.lmn_bridge.proofs.Wholes.{taken_forest}
 use Rattle.lmn_turn.specs.Turning.{Leads, enters, stays}
 use Rattle.lmn_choice.proofs.Paths.{child}
-
--- a rule of a list has its place
-rule_at : (g : ℕ → Rule) (ks : List ℕ) (i k : ℕ) → slice_get ks i ≡ Some k → (others : List Rule) × Taken i (g k) (map g ks) others
-rule_at g [] i k e = absurd (cc)
-rule_at g (j ∷ ks) zero k e = subst (λ z. (others : List Rule) × Taken 0 (g z) (map g (j ∷ ks)) others) (same_Some j k e) (map g ks, taken_first)
-rule_at g (j ∷ ks) (suc i) k e = let u = rule_at g ks i k e in (g j ∷ u.0, taken_later u.1)
+use Rattle.lmn_adequacy.proofs.OneEmbedding.{membranes_in as membranes_part, rules_in as rules_part}
+use Rattle.lmn_turn.proofs.Leading.{taken_at as rule_at}
 
 -- what embeds in a membrane embeds at the end of the path to it
-pub at_path : (h : Heap) (r : Reading) (place k : ℕ) (g : List ℕ) {m x : ℕ} {path : List ℕ} → Leads h m path x → (i mi : Forest) → HasForest h x i → HasForest h m mi → slice_get (rules_in h m) place ≡ Some k → EmbedsAt (r.rule k) g (region_at h r m mi) →
+pub at_path : (h : Heap) (r : HeapReading) (place k : ℕ) (g : List ℕ) {m x : ℕ} {path : List ℕ} → Leads h m path x → (i mi : Forest) → HasForest h x i → HasForest h m mi → slice_get (rules_in h m) place ≡ Some k → EmbedsAt (r.rule k) g (region_at h r m mi) →
     EmbedsIn path place g (region_at h r x i)
 at_path h r place k g {m} stays i mi H F q e =
     let same = forms_one h mi i (mems_in h m) F.forms H.forms in
@@ -45,7 +40,7 @@ taken_rule g (k ∷ ks) (taken_first {y = y}) e = let q : y ≡ g k = cc in (k, 
 taken_rule g (k ∷ ks) (taken_later {zs = zs} t) e = let q : zs ≡ map g ks = cc in let u = taken_rule g ks t q in (u.0, u.1, u.2)
 
 -- A rule of the membrane to which a path leads embeds there.
-pub record AtEnd (h : Heap) (r : Reading) (path : List ℕ) (j : ℕ) (g : List ℕ) (x : ℕ) : Type 0 where
+pub record AtEnd (h : Heap) (r : HeapReading) (path : List ℕ) (j : ℕ) (g : List ℕ) (x : ℕ) : Type 0 where
   pub membrane : ℕ
   pub leads : Leads h membrane path x
   pub forest : Forest
@@ -54,14 +49,8 @@ pub record AtEnd (h : Heap) (r : Reading) (path : List ℕ) (j : ℕ) (g : List 
   pub stands : slice_get (rules_in h membrane) j ≡ Some number
   pub embeds : EmbedsAt (r.rule number) g (region_at h r membrane forest)
 
-abbrev rules_part : Region → List Rule
-rules_part (region xs ms rs) = rs
-
-abbrev membranes_part : Region → Regions
-membranes_part (region xs ms rs) = ms
-
 -- what embeds at the end of a path embeds in the membrane to which it leads
-pub at_end : (h : Heap) (r : Reading) {path : List ℕ} {j : ℕ} {g : List ℕ} {S : Region} → EmbedsIn path j g S → (x : ℕ) (i : Forest) → HasForest h x i → S ≡ region_at h r x i → AtEnd h r path j g x
+pub at_end : (h : Heap) (r : HeapReading) {path : List ℕ} {j : ℕ} {g : List ℕ} {S : Region} → EmbedsIn path j g S → (x : ℕ) (i : Forest) → HasForest h x i → S ≡ region_at h r x i → AtEnd h r path j g x
 at_end h r (embeds_here {r = rule} {f = f} t e) x i H q =
     let u = taken_rule r.rule (rules_in h x) t (ap rules_part q) in
     record { membrane = x; leads = stays; forest = i; has = H; number = u.0; stands = u.1; embeds = subst (λ z. EmbedsAt z f (region_at h r x i)) (sym u.2) (subst (EmbedsAt rule f) q e) }

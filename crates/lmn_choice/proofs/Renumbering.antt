@@ -1,14 +1,13 @@
 -- The links of a heap can be given the numbers of printed order.
-use Rattle.std.proofs.Common.{ℕ, zero, suc, ◌≡◌, ◌≢◌, ◌+◌, ◌<◌, ◌≤◌, List, [], ◌∷◌, ◌++◌, map, length, Option, Some, None, IsSome, refl, sym, ap, subst, ◌∙◌, inl, inr, arith}
+use Rattle.std.proofs.Common.{ℕ, zero, suc, ◌≡◌, ◌≢◌, ◌+◌, ◌<◌, ◌≤◌, List, [], ◌∷◌, ◌++◌, map, Option, Some, None, refl, sym, ap, subst, ◌∙◌, inl, inr, arith}
 use Rattle.std.proofs.lemmas.List.{map-append}
 use Rattle.std.specs.Prelude.{slice_get}
 use Rattle.lmn_base.specs.declared.rule.RuleTree.{RuleTree}
-use Rattle.lmn_heap.specs.Heap.{Heap, HeapAtom, HeapMem, IsAtom, arity_of, atoms_by, atoms_in, home_of, links_of, rules_in}
+use Rattle.lmn_heap.specs.Heap.{Heap, HeapAtom, IsAtom, arity_of, atoms_in, home_of, rules_in}
 use Rattle.lmn_heap.specs.Lists.{In}
-use Rattle.lmn_heap.specs.Solid.{atom_of, atoms_of, numbered, IsNaming}
+use Rattle.lmn_heap.specs.Solid.{solid_atom_at, solid_atoms_at, links_from, IsNaming}
 use Rattle.lmn_heap.specs.Sound.{Forest, bare, mem, IsTree, Valid}
 use Rattle.lmn_heap.proofs.Trees.{in_either}
-use Rattle.lmn_solid.specs.Heads.{Port}
 use Rattle.lmn_congruence.specs.Process.{occurrences}
 use Rattle.lmn_congruence.specs.Regions.{region, region_and}
 use Rattle.lmn_congruence.specs.Same.{IsRenamed, renamed_atom, renamed_region, renamed_regions}
@@ -16,31 +15,34 @@ use Rattle.lmn_congruence.specs.Translation.{solid_atom_of}
 use Rattle.lmn_congruence.specs.Links.{places}
 use Rattle.lmn_adequacy.specs.Laws.{NumberingExists}
 use Rattle.lmn_adequacy.specs.Numbered.{IsNumbered}
-use Rattle.lmn_bridge.specs.HeapRegions.{Reading, atoms_at, regions_at, region_at}
+use Rattle.lmn_bridge.specs.HeapRegions.{HeapReading, atoms_at, regions_at, region_at}
 use Rattle.lmn_bridge.specs.Laws.{heap_process}
-use Rattle.lmn_bridge.specs.Premises.{IsRule, HasRules}
-use Rattle.lmn_bridge.proofs.Counting.{in_region, tree_atoms, times_at, weigh}
+use Rattle.lmn_bridge.specs.Premises.{HasRules}
+use Rattle.lmn_bridge.proofs.Counting.{in_region, tree_atoms, times_at}
 use Rattle.lmn_bridge.proofs.Forests.{forest_atom, in_place, some_of}
 use Rattle.lmn_bridge.proofs.Pieces.{atom_at}
 use Rattle.lmn_bridge.proofs.Ports.{named_port}
 use Rattle.lmn_turn.specs.Commits.{IsTable}
-use Rattle.lmn_turn.specs.Turning.{renumbered}
-use Rattle.lmn_choice.specs.Turns.{tree_of, heap_region}
+use Rattle.lmn_turn.specs.Turning.{renumbered_reading}
+use Rattle.lmn_choice.specs.Turns.{tree_over, heap_region}
 use Rattle.lmn_choice.specs.Laws.{HeapsAreNumbered}
-use Rattle.lmn_choice.proofs.Lists.{got_in}
+use Rattle.lmn_base.specs.Graphs.{Port}
+use Rattle.lmn_base.proofs.Lists.{weigh, some_is as home_is}
+use Rattle.lmn_heap.proofs.Common.{atom_with_links as ported, holds_mem, in_at as got_in}
+use Rattle.lmn_turn.proofs.Turned.{read_as as rule_as}
 
 -- ---- the region with other numbers
 
-module _ (r : Reading) (to : ℕ → ℕ) where
+module _ (r : HeapReading) (to : ℕ → ℕ) where
   -- the reading with the numbers that a map gives to links
-  abbrev pub changed : Reading
-  changed = renumbered r (λ p. to (r.name p.0 p.1))
+  abbrev pub changed : HeapReading
+  changed = renumbered_reading r (λ p. to (r.name p.0 p.1))
 
-  links_changed : (a i n : ℕ) → numbered changed.name a i n ≡ map to (numbered r.name a i n)
+  links_changed : (a i n : ℕ) → links_from changed.name a i n ≡ map to (links_from r.name a i n)
   links_changed a i zero = refl
   links_changed a i (suc n) = let u = links_changed a (i + 1) n in λ j. to (r.name a i) ∷ u j
 
-  atom_changed : (a : ℕ) (o : Option HeapAtom) → map (solid_atom_of r.names) (atom_of changed.name a o) ≡ map (renamed_atom to) (map (solid_atom_of r.names) (atom_of r.name a o))
+  atom_changed : (a : ℕ) (o : Option HeapAtom) → map (solid_atom_of r.names) (solid_atom_at changed.name a o) ≡ map (renamed_atom to) (map (solid_atom_of r.names) (solid_atom_at r.name a o))
   atom_changed a None = refl
   atom_changed a (Some x) = let u = links_changed a 0 x.functor.arity in λ j. solid_atom_of r.names (record { functor = x.functor; links = u j }) ∷ []
 
@@ -51,9 +53,9 @@ module _ (r : Reading) (to : ℕ → ℕ) where
         let S = solid_atom_of r.names in
         let a = atom_changed x (h.atoms x) in
         let b = atoms_changed xs in
-        map-append S (atom_of changed.name x (h.atoms x)) (atoms_of h changed.name xs) ∙ (λ j. a j ++ b j)
-        ∙ sym (map-append (renamed_atom to) (map S (atom_of r.name x (h.atoms x))) (map S (atoms_of h r.name xs)))
-        ∙ ap (map (renamed_atom to)) (sym (map-append S (atom_of r.name x (h.atoms x)) (atoms_of h r.name xs)))
+        map-append S (solid_atom_at changed.name x (h.atoms x)) (solid_atoms_at h changed.name xs) ∙ (λ j. a j ++ b j)
+        ∙ sym (map-append (renamed_atom to) (map S (solid_atom_at r.name x (h.atoms x))) (map S (solid_atoms_at h r.name xs)))
+        ∙ ap (map (renamed_atom to)) (sym (map-append S (solid_atom_at r.name x (h.atoms x)) (solid_atoms_at h r.name xs)))
 
     regions_changed : (f : Forest) → regions_at h changed f ≡ renamed_regions to (regions_at h r f)
     regions_changed bare = refl
@@ -68,18 +70,6 @@ module _ (r : Reading) (to : ℕ → ℕ) where
 
 -- ---- the links of all atoms occur
 
-home_is : (o : Option ℕ) → IsSome o → (m : ℕ) × (o ≡ Some m)
-home_is None s = absurd (cc)
-home_is (Some m) s = (m, refl)
-
-ported : (o : Option HeapAtom) (i : ℕ) → i < length (links_of o) → IsSome o
-ported None i l = absurd (omega (arith, l))
-ported (Some x) i l = refl
-
-holds_mem : (o : Option HeapMem) (a : ℕ) → In a (atoms_by o) → IsSome o
-holds_mem None a p = absurd p
-holds_mem (Some x) a p = refl
-
 weighs : (w : ℕ → ℕ) (xs : List ℕ) (a : ℕ) → In a xs → w a ≤ weigh w xs
 weighs w [] a p = absurd p
 weighs w (x ∷ xs) a (inl e) = subst (λ z. w z ≤ w x + weigh w xs) e (omega arith)
@@ -88,13 +78,13 @@ weighs w (x ∷ xs) a (inr p) = let u = weighs w xs a p in omega (arith, u)
 got_place : (xs : List ℕ) (i x : ℕ) → slice_get xs i ≡ Some x → 1 ≤ places x xs
 got_place xs i x e = some_of x xs (got_in xs i x e)
 
-module _ (h : Heap) (v : Valid h) (r : Reading) (inner : Forest) (tr : IsTree h (tree_of h inner)) where
+module _ (h : Heap) (v : Valid h) (r : HeapReading) (inner : Forest) (tr : IsTree h (tree_over h inner)) where
   -- each atom stands in the tree
   pub atom_there : (a : ℕ) → IsAtom h a → In a (tree_atoms h h.root inner)
   atom_there a s =
       let m = home_is (home_of h a) (v.settled.atoms a s) in
       let p = in_place h v a m.0 m.1 in
-      elim (in_either a (tree_atoms h h.root inner) [] (forest_atom h v (tree_of h inner) m.0 a (tr.all m.0 (holds_mem (h.mems m.0) a p)) p)) [ inl k ↦ k | inr k ↦ absurd k ]
+      elim (in_either a (tree_atoms h h.root inner) [] (forest_atom h v (tree_over h inner) m.0 a (tr.all m.0 (holds_mem (h.mems m.0) a p)) p)) [ inl k ↦ k | inr k ↦ absurd k ]
 
   -- so each link occurs
   occurs : (a i : ℕ) → i < arity_of h a → occurrences (r.name a i) (heap_process h r inner) ≢ 0
@@ -113,14 +103,10 @@ module _ (h : Heap) (v : Valid h) (r : Reading) (inner : Forest) (tr : IsTree h 
     apart = λ a i b j p q e. n.apart a i b j p q (one (r.name a i) (r.name b j) (occurs a i p) (occurs b j q) e);
   }
 
--- a rule, the rules of a heap and a table are as they were where links have other numbers
-pub rule_as : (r : Reading) (number : Port → ℕ) (rule : RuleTree) → IsRule r rule → IsRule (renumbered r number) rule
-rule_as r number rule k = record { well_made = k.well_made; known = k.known; accepted = k.accepted }
-
-pub rules_as : (h : Heap) (r : Reading) (number : Port → ℕ) (table : List RuleTree) → HasRules h r table → HasRules h (renumbered r number) table
+pub rules_as : (h : Heap) (r : HeapReading) (number : Port → ℕ) (table : List RuleTree) → HasRules h r table → HasRules h (renumbered_reading r number) table
 rules_as h r number table has = record { known = λ m k i. let u = has.known m k i in (u.0, u.1, rule_as r number u.0 u.2); read = has.read }
 
-pub table_as : (r : Reading) (number : Port → ℕ) (table : List RuleTree) → IsTable r table → IsTable (renumbered r number) table
+pub table_as : (r : HeapReading) (number : Port → ℕ) (table : List RuleTree) → IsTable r table → IsTable (renumbered_reading r number) table
 table_as r number table t = record { rules = λ k z e. rule_as r number z (t.rules k z e); inner = t.inner }
 
 pub heaps_are_numbered : NumberingExists → HeapsAreNumbered
@@ -128,7 +114,7 @@ heaps_are_numbered exists h r inner table w =
     let u = exists (heap_region h r inner) in
     let to = u.1.to in
     let number : Port → ℕ = λ p. to (r.name p.0 p.1) in
-    let is : u.0 ≡ heap_region h (renumbered r number) inner = u.1.is ∙ sym (region_changed r to h h.root inner) in
+    let is : u.0 ≡ heap_region h (renumbered_reading r number) inner = u.1.is ∙ sym (region_changed r to h h.root inner) in
     record {
       number = number;
       again = record {

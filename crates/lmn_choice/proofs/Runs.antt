@@ -3,16 +3,17 @@ use Rattle.std.proofs.Common.{ℕ, ◌≡◌, ◌==◌, Bool, true, false, cond,
 use Rattle.std.specs.Prelude.{◌&&◌}
 use Rattle.std.specs.Option.{option_map, option_and_then}
 use Rattle.std.proofs.lemmas.Bool.{eq-eqb}
-use Rattle.lmn_heap.specs.Heap.{Heap, HeapAtom, IsAtom, IsInPlace, In, alter, after, atom_sent, cleared, finished, from, gone, home_by, joined, link_of, linked, moved_all, placed, placed_mem, rule_added, rules_copied, taken, taken_mem, unless_gone, with_link, with_place, within}
+use Rattle.lmn_heap.specs.Heap.{Heap, HeapAtom, IsAtom, In, alter, after, atom_sent, cleared, finished, from, gone, joined, link_of, linked, moved_all, placed, placed_mem, rule_added, rules_copied, taken, taken_mem, unless_gone, with_link, with_place, within, taken_all}
 use Rattle.lmn_heap.specs.Splice.{joined_both, joined_to}
-use Rattle.lmn_splice.specs.Ports.{Port}
 use Rattle.lmn_splice.specs.Ties.{Tie, newlink, relink, unify}
 use Rattle.lmn_instr.specs.declared.instr.Instr.{Instr}
 use Rattle.lmn_instr.specs.declared.instr.Instr.TheVariants.{RemoveAtom, RemovePart, RemoveMem, NewAtom, NewInt, NewMem, CopyGround, MoveCells, LoadRule, CopyRules, NewLink, Relink, Unify, Proceed}
 use Rattle.lmn_body.specs.Conditions.{Can, CanRun, IsFirstOf}
-use Rattle.lmn_body.specs.Running.{Registers, Does, Commits, all_placed, all_taken, new_port, old_port}
+use Rattle.lmn_body.specs.Running.{Registers, Does, DoesAll, all_placed, new_port, old_port}
 use Rattle.lmn_body.specs.Tied.{tied}
 use Rattle.lmn_cost.proofs.Finite.{part_listed}
+use Rattle.lmn_base.specs.Graphs.{Port}
+use Rattle.lmn_heap.proofs.Common.{in_place_atom}
 
 -- ---- no atom comes in
 
@@ -64,7 +65,7 @@ tied_fewer s (newlink p q) = joined_fewer s p.0 p.1 q.0 q.1
 tied_fewer s (relink p o) = to_fewer s p.0 p.1 (link_of s o.0 o.1)
 tied_fewer s (unify g o) = both_fewer s o.0 o.1 (link_of s g.0 g.1) (link_of s o.0 o.1)
 
-all_taken_fewer : (ns : List ℕ) (s : Heap) → Fewer (all_taken s ns).atoms s.atoms
+all_taken_fewer : (ns : List ℕ) (s : Heap) → Fewer (taken_all s ns).atoms s.atoms
 all_taken_fewer [] s a i = i
 all_taken_fewer (n ∷ ns) s a i = altered s.atoms n (with_place gone) a (all_taken_fewer ns (taken s n) a i)
 
@@ -77,13 +78,6 @@ all_placed_fewer (e ∷ es) s a i = altered s.atoms e.1 (with_place (within e.0)
 -- the atoms of a heap stand in a list
 abbrev pub Bounded : Heap → List ℕ → Type 0
 Bounded s xs = (a : ℕ) → IsAtom s a → In a xs
-
-in_place_atom : (s : Heap) (a : ℕ) → IsInPlace s a → IsAtom s a
-in_place_atom s a i = by (s.atoms a) i
-  where
-    by : (o : Option HeapAtom) → IsSome (option_and_then (λ x. home_by x.place) o) → IsSome o
-    by None i = absurd (cc)
-    by (Some x) i = refl
 
 -- the first of a line is where the line begins
 begins_with : (a : ℕ) (xs : List ℕ) → IsFirstOf a xs → from (Some a) xs ≡ xs
@@ -103,7 +97,7 @@ can_do : (r : Registers) (i : Instr) (s : Heap) (xs : List ℕ) → Bounded s xs
 can_do r (RemoveAtom a) s xs b c = let n = r.head.images.atom a in record { heap = taken s n; does = refl; fewer = altered s.atoms n (with_place gone) }
 can_do r (RemovePart g) s xs b c =
     let p = part_listed s (r.head.images.part g) xs (λ a q. b a (in_place_atom s a (c a q))) in
-    record { heap = all_taken s p.0; does = (p.0, p.1.0, p.1.1, refl); fewer = all_taken_fewer p.0 s }
+    record { heap = taken_all s p.0; does = (p.0, p.1.0, p.1.1, refl); fewer = all_taken_fewer p.0 s }
 can_do r (RemoveMem m) s xs b c = record { heap = taken_mem s (r.head.images.membrane m); does = refl; fewer = λ a i. i }
 can_do r (NewAtom a m f) s xs b c =
     let n = r.head.images.atom a in let k = r.head.images.membrane m in
@@ -127,7 +121,7 @@ can_do r i s xs b c = absurd c
 -- ---- all of them
 
 -- code that can run has a run
-pub commits_exist : (r : Registers) (is : List Instr) (s : Heap) (xs : List ℕ) → Bounded s xs → CanRun r is s → (t : Heap) × Commits r is s t
+pub commits_exist : (r : Registers) (is : List Instr) (s : Heap) (xs : List ℕ) → Bounded s xs → CanRun r is s → (t : Heap) × DoesAll r is s t
 commits_exist r [] s xs b c = (s, refl)
 commits_exist r (i ∷ is) s xs b c =
     let u = can_do r i s xs b c.0 in

@@ -2,17 +2,17 @@
 use Rattle.std.proofs.Common.{ℕ, ◌≡◌, ◌<◌, List, [], ◌∷◌, ◌++◌, map, Option, Some, None, IsSome, refl, sym, ap, subst, ◌∙◌, inl, inr}
 use Rattle.std.specs.Prelude.{slice_index_or, length}
 use Rattle.std.specs.Option.{option_map}
-use Rattle.lmn_heap.specs.Heap.{Heap, HeapMem, atoms_by, mems_by, rules_by, atoms_in, links_of, mem_with_spare, mems_in, rules_in}
+use Rattle.lmn_heap.specs.Heap.{Heap, HeapMem, atoms_by, mems_by, rules_by, atoms_in, partners_of, mem_with_spare, mems_in, rules_in}
 use Rattle.lmn_heap.specs.Lists.{In, Distinct}
-use Rattle.lmn_heap.specs.Solid.{atom_of, atoms_of, IsNaming}
+use Rattle.lmn_heap.specs.Solid.{solid_atom_at, solid_atoms_at, IsNaming}
 use Rattle.lmn_heap.specs.Sound.{Forest, bare, mem, flat, Forms, IsTree}
 use Rattle.lmn_heap.proofs.Groves.{forms_frame}
 use Rattle.lmn_body.specs.Stopping.{SameButSpares}
 use Rattle.lmn_congruence.specs.Regions.{region, region_and}
 use Rattle.lmn_congruence.specs.Translation.{solid_atom_of}
-use Rattle.lmn_bridge.specs.HeapRegions.{Reading, atoms_at, regions_at}
+use Rattle.lmn_bridge.specs.HeapRegions.{HeapReading, atoms_at, regions_at}
 use Rattle.lmn_choice.specs.Laws.{SparesAreNotRead}
-use Rattle.lmn_choice.specs.Turns.{tree_of, heap_region}
+use Rattle.lmn_choice.specs.Turns.{tree_over, heap_region}
 
 -- a membrane with other room has the same lists
 same_lists : (o : Option HeapMem) (k : ℕ) → (atoms_by (option_map (mem_with_spare k) o) ≡ atoms_by o) × (mems_by (option_map (mem_with_spare k) o) ≡ mems_by o) × (rules_by (option_map (mem_with_spare k) o) ≡ rules_by o)
@@ -33,14 +33,14 @@ module _ (h t : Heap) (same : SameButSpares h t) where
   rules_same : (m : ℕ) → rules_in t m ≡ rules_in h m
   rules_same m = let u = same.mems m in ap rules_by u.1 ∙ (same_lists (h.mems m) u.0).2
 
-  atoms_of_same : (name : ℕ → ℕ → ℕ) (xs : List ℕ) → atoms_of t name xs ≡ atoms_of h name xs
+  atoms_of_same : (name : ℕ → ℕ → ℕ) (xs : List ℕ) → solid_atoms_at t name xs ≡ solid_atoms_at h name xs
   atoms_of_same name [] = refl
-  atoms_of_same name (x ∷ xs) = let a : atom_of name x (t.atoms x) ≡ atom_of name x (h.atoms x) = ap (atom_of name x) (same.atoms x) in let b = atoms_of_same name xs in λ i. a i ++ b i
+  atoms_of_same name (x ∷ xs) = let a : solid_atom_at name x (t.atoms x) ≡ solid_atom_at name x (h.atoms x) = ap (solid_atom_at name x) (same.atoms x) in let b = atoms_of_same name xs in λ i. a i ++ b i
 
-  atoms_at_same : (r : Reading) (m : ℕ) → atoms_at t r (atoms_in t m) ≡ atoms_at h r (atoms_in h m)
+  atoms_at_same : (r : HeapReading) (m : ℕ) → atoms_at t r (atoms_in t m) ≡ atoms_at h r (atoms_in h m)
   atoms_at_same r m = ap (λ xs. atoms_at t r xs) (atoms_same m) ∙ ap (map (solid_atom_of r.names)) (atoms_of_same r.name (atoms_in h m))
 
-  regions_same : (r : Reading) (f : Forest) → regions_at t r f ≡ regions_at h r f
+  regions_same : (r : HeapReading) (f : Forest) → regions_at t r f ≡ regions_at h r f
   regions_same r bare = refl
   regions_same r (mem m i f) =
       let a = atoms_at_same r m in
@@ -49,31 +49,31 @@ module _ (h t : Heap) (same : SameButSpares h t) where
       let d = regions_same r f in
       λ j. region_and (region (a j) (b j) (c j)) (d j)
 
-  region_same : (r : Reading) (inner : Forest) → heap_region t r inner ≡ heap_region h r inner
+  region_same : (r : HeapReading) (inner : Forest) → heap_region t r inner ≡ heap_region h r inner
   region_same r inner =
       let a : atoms_at t r (atoms_in t t.root) ≡ atoms_at h r (atoms_in h h.root) = atoms_at_same r t.root ∙ ap (λ m. atoms_at h r (atoms_in h m)) same.root in
       let b = regions_same r inner in
       let c : map r.rule (rules_in t t.root) ≡ map r.rule (rules_in h h.root) = ap (map r.rule) (rules_same t.root ∙ ap (rules_in h) same.root) in
       λ j. region (a j) (b j) (c j)
 
-  links_before : (a i : ℕ) (b j : ℕ) → slice_index_or (links_of (t.atoms a)) i None ≡ Some (b, j) → slice_index_or (links_of (h.atoms a)) i None ≡ Some (b, j)
-  links_before a i b j e = subst (λ x. slice_index_or (links_of x) i None ≡ Some (b, j)) (same.atoms a) e
+  links_before : (a i : ℕ) (b j : ℕ) → slice_index_or (partners_of (t.atoms a)) i None ≡ Some (b, j) → slice_index_or (partners_of (h.atoms a)) i None ≡ Some (b, j)
+  links_before a i b j e = subst (λ x. slice_index_or (partners_of x) i None ≡ Some (b, j)) (same.atoms a) e
 
-  links_after : (a i : ℕ) (b j : ℕ) → slice_index_or (links_of (h.atoms a)) i None ≡ Some (b, j) → slice_index_or (links_of (t.atoms a)) i None ≡ Some (b, j)
-  links_after a i b j e = subst (λ x. slice_index_or (links_of x) i None ≡ Some (b, j)) (sym (same.atoms a)) e
+  links_after : (a i : ℕ) (b j : ℕ) → slice_index_or (partners_of (h.atoms a)) i None ≡ Some (b, j) → slice_index_or (partners_of (t.atoms a)) i None ≡ Some (b, j)
+  links_after a i b j e = subst (λ x. slice_index_or (partners_of x) i None ≡ Some (b, j)) (sym (same.atoms a)) e
 
   naming_same : (name : ℕ → ℕ → ℕ) → IsNaming h name → IsNaming t name
   naming_same name n = record {
     joined = λ a i b j e. n.joined a i b j (links_before a i b j e);
-    apart = λ a i b j p q e. elim (n.apart a i b j (subst (λ x. i < length (links_of x)) (same.atoms a) p) (subst (λ x. j < length (links_of x)) (same.atoms b) q) e) [
+    apart = λ a i b j p q e. elim (n.apart a i b j (subst (λ x. i < length (partners_of x)) (same.atoms a) p) (subst (λ x. j < length (partners_of x)) (same.atoms b) q) e) [
       | inl w ↦ inl w
       | inr w ↦ inr (links_after a i b j w)
     ];
   }
 
-  tree_same : (inner : Forest) → IsTree h (tree_of h inner) → IsTree t (tree_of t inner)
+  tree_same : (inner : Forest) → IsTree h (tree_over h inner) → IsTree t (tree_over t inner)
   tree_same inner tr = record {
-    forms = subst (λ z. Forms t (mem z inner bare) (z ∷ [])) (sym same.root) (forms_frame h t (tree_of h inner) (h.root ∷ []) (λ m p. mems_same m) tr.forms);
+    forms = subst (λ z. Forms t (mem z inner bare) (z ∷ [])) (sym same.root) (forms_frame h t (tree_over h inner) (h.root ∷ []) (λ m p. mems_same m) tr.forms);
     once = subst (λ z. Distinct (flat (mem z inner bare))) (sym same.root) tr.once;
     all = λ m i. subst (λ z. In m (flat (mem z inner bare))) (sym same.root) (tr.all m (let u = same.mems m in there_before (h.mems m) u.0 (subst (λ o. IsSome o) u.1 i)));
   }

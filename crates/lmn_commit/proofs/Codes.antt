@@ -1,12 +1,12 @@
 -- Code, instruction by instruction: which registers it uses, and how many rules it needs room for.
-use Rattle.std.proofs.Common.{ℕ, zero, suc, ◌≡◌, ◌<◌, ◌≤◌, ◌+◌, List, [], ◌∷◌, ◌++◌, ◌⊎◌, inl, inr, Some, refl, arith, ap, sym, subst, length, take, drop, get_or, ◌∙◌}
+use Rattle.std.proofs.Common.{ℕ, zero, suc, ◌≡◌, ◌<◌, ◌≤◌, ◌+◌, List, [], ◌∷◌, ◌++◌, ◌⊎◌, inl, inr, Some, arith, ap, sym, subst, length, take, get_or, ◌∙◌}
 use Rattle.std.specs.Prelude.{slice_get}
 use Rattle.lmn_instr.specs.declared.instr.NewPort.{NewPort}
 use Rattle.lmn_instr.specs.declared.instr.NewPort.TheVariants as new
 use Rattle.lmn_instr.specs.declared.instr.Instr.{Instr}
 use Rattle.lmn_instr.specs.declared.instr.Instr.TheVariants.{RemoveAtom, RemovePart, RemoveMem, NewAtom, NewInt, NewMem, CopyGround, MoveCells, LoadRule, CopyRules, NewLink, Relink, Unify, Proceed}
 use Rattle.lmn_body.specs.Running.{Registers}
-use Rattle.lmn_commit.specs.Preparing.{Uses, UsesPort, AllUse, Reads, needed, needed_by, atoms_made, membranes_made, copies_made}
+use Rattle.lmn_commit.specs.Preparing.{Uses, UsesPort, AllUse, UsesInOrder, needed, needed_by, atoms_made, membranes_made, copies_made}
 
 -- Lists
 
@@ -14,16 +14,6 @@ pub read_at : {A : Type 0} (xs : List A) (i : ℕ) (x : A) → i < length xs →
 read_at [] i x l e = absurd (omega arith)
 read_at (z ∷ xs) zero x l e = ap (λ w. Some w) (sym e)
 read_at (z ∷ xs) (suc i) x l e = read_at xs i x (omega arith) e
-
-pub get_below : {A : Type 0} (xs : List A) (k : ℕ) (x : A) → slice_get xs k ≡ Some x → k < length xs
-get_below [] k x e = absurd (cc)
-get_below (y ∷ xs) zero x e = omega arith
-get_below (y ∷ xs) (suc k) x e = let l = get_below xs k x e in omega (arith, l)
-
-pub drop_get : {A : Type 0} (k : ℕ) (xs : List A) (x : A) → slice_get xs k ≡ Some x → drop k xs ≡ x ∷ drop (k + 1) xs
-drop_get k [] x e = absurd (cc)
-drop_get zero (y ∷ xs) x e = let t : y ≡ x = cc in ap (λ w. w ∷ xs) t
-drop_get (suc k) (y ∷ xs) x e = let t : suc (k + 1) ≡ suc k + 1 = omega arith in drop_get k xs x e ∙ ap (λ n. x ∷ drop n (y ∷ xs)) t
 
 take_suc : {A : Type 0} (k : ℕ) (xs : List A) (x : A) → slice_get xs k ≡ Some x → take (suc k) xs ≡ take k xs ++ x ∷ []
 take_suc k [] x e = absurd (cc)
@@ -33,24 +23,11 @@ take_suc (suc k) (y ∷ xs) x e = ap (λ ys. y ∷ ys) (take_suc k xs x e)
 pub take_get : {A : Type 0} (k : ℕ) (xs : List A) (x : A) → slice_get xs k ≡ Some x → take (k + 1) xs ≡ take k xs ++ x ∷ []
 take_get k xs x e = let t : k + 1 ≡ suc k = omega arith in ap (λ n. take n xs) t ∙ take_suc k xs x e
 
-pub get_last : {A : Type 0} (xs : List A) (y : A) → slice_get (xs ++ y ∷ []) (length xs) ≡ Some y
-get_last [] y = refl
-get_last (x ∷ xs) y = get_last xs y
-
-pub get_front : {A : Type 0} (xs ys : List A) (k : ℕ) (x : A) → slice_get xs k ≡ Some x → slice_get (xs ++ ys) k ≡ Some x
-get_front [] ys k x e = absurd (cc)
-get_front (z ∷ xs) ys zero x e = e
-get_front (z ∷ xs) ys (suc k) x e = get_front xs ys k x e
-
 pub get_either : {A : Type 0} (xs : List A) (y : A) (k : ℕ) (x : A) → slice_get (xs ++ y ∷ []) k ≡ Some x → (slice_get xs k ≡ Some x) ⊎ (y ≡ x)
 get_either [] y zero x e = inr (cc)
 get_either [] y (suc k) x e = absurd (cc)
 get_either (z ∷ xs) y zero x e = inl e
 get_either (z ∷ xs) y (suc k) x e = get_either xs y k x e
-
-pub length_one : {A : Type 0} (xs : List A) (x : A) → length (xs ++ x ∷ []) ≡ length xs + 1
-length_one [] x = refl
-length_one (y ∷ xs) x = let k = length_one xs x in omega (arith, k)
 
 -- Registers that code uses
 
@@ -84,7 +61,7 @@ use_one_more a m g c [] i u v = (v, tt)
 use_one_more a m g c (j ∷ is) i u v = (u.0, use_one_more a m g c is i u.1 v)
 
 -- what an instruction reads and sets it uses, when it has set it
-pub reads_uses : (a m g v c : ℕ) (i : Instr) → Reads a m g v c i → Uses (a + atoms_made i) (m + membranes_made i) g (c + copies_made i) i
+pub reads_uses : (a m g v c : ℕ) (i : Instr) → UsesInOrder a m g v c i → Uses (a + atoms_made i) (m + membranes_made i) g (c + copies_made i) i
 reads_uses a m g v c (NewAtom x y f) u = let e = u.0.0 in let w = u.1 in (omega (arith, e), omega (arith, w))
 reads_uses a m g v c (NewInt x y z) u = let e = u.0.0 in let w = u.1 in (omega (arith, e), omega (arith, w))
 reads_uses a m g v c (NewMem x y) u = let e = u.0.0 in let w = u.1 in (omega (arith, e), omega (arith, w))

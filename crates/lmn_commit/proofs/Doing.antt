@@ -4,44 +4,43 @@ use Rattle.std.specs.Prelude.{slice_get}
 use Rattle.std.specs.Prelude.{◌↔◌}
 use Rattle.lmn_base.specs.Graphs.{Reached}
 use Rattle.lmn_heap.specs.Graphs.{atom_map}
-use Rattle.lmn_heap.specs.Heap.{Heap, In, Distinct, IsMemInPlace, port_id}
-use Rattle.lmn_ground.specs.Walks.{IsPart}
-use Rattle.lmn_ground.specs.Spread.{taken_all}
+use Rattle.lmn_heap.specs.Heap.{Heap, In, Distinct, IsMemInPlace, port_id, taken_all}
 use Rattle.lmn_ground.proofs.GroundLaws.{part_atoms}
 use Rattle.lmn_instr.specs.declared.instr.Instr.{Instr}
 use Rattle.lmn_instr.specs.declared.instr.Instr.TheVariants.{RemovePart, CopyGround}
-use Rattle.lmn_body.specs.Running.{Registers, Does, Commits, all_taken, all_placed}
+use Rattle.lmn_body.specs.Running.{Registers, Does, DoesAll, all_placed}
 use Rattle.lmn_body.specs.Conditions.{Can}
 use Rattle.lmn_registers.specs.declared.registers.PartCopy.{PartCopy}
 use Rattle.lmn_registers.specs.declared.registers.SetRegisters.{SetRegisters}
-use Rattle.lmn_commit.specs.Registers.{Agrees}
+use Rattle.lmn_commit.specs.Registers.{AgreesWithCopies}
 use Rattle.lmn_commit.specs.Committing.{Runs, Stands}
+use Rattle.lmn_parts.specs.Walks.{IsPartInDepth}
 
-same_taken : (ns : List ℕ) (s : Heap) → taken_all s ns ≡ all_taken s ns
+same_taken : (ns : List ℕ) (s : Heap) → taken_all s ns ≡ taken_all s ns
 same_taken [] s = refl
 same_taken (n ∷ ns) s = same_taken ns _
 
 module _ {A M : Type 0} (atom : A → ℕ) (membrane : M → ℕ) (g : SetRegisters A M) where
-  pub part_taken : (r : Registers) (i : Instr) (x : ℕ) (p : A × ℕ) (s t : Heap) (all : List ℕ) → Agrees atom membrane g r → i ≡ RemovePart x → slice_get g.parts x ≡ Some p →
-      IsPart s (atom p.0, p.1) all → t ≡ taken_all s all → Does r i s t
+  pub part_taken : (r : Registers) (i : Instr) (x : ℕ) (p : A × ℕ) (s t : Heap) (all : List ℕ) → AgreesWithCopies atom membrane g r → i ≡ RemovePart x → slice_get g.parts x ≡ Some p →
+      IsPartInDepth s (atom p.0, p.1) all → t ≡ taken_all s all → Does r i s t
   part_taken r i x p s t all u e at part is =
       let root : r.head.images.part x ≡ port_id atom p = u.parts x p at in
       let found = part_atoms s (atom p.0, p.1) all part in
       subst (λ j. Does r j s t) (sym e)
-      (subst (λ q. (ns : List ℕ) × Distinct ns × ((b : ℕ) → In b ns ↔ Reached (atom_map s) q b) × (t ≡ all_taken s ns)) (sym root) (all, found.0, found.1, is ∙ same_taken all s))
+      (subst (λ q. (ns : List ℕ) × Distinct ns × ((b : ℕ) → In b ns ↔ Reached (atom_map s) q b) × (t ≡ taken_all s ns)) (sym root) (all, found.0, found.1, is ∙ same_taken all s))
 
   -- the atoms of a copy that is to be placed wait
-  pub copy_waits : (r : Registers) (i : Instr) (x y z : ℕ) (p : PartCopy A) (s : Heap) → Agrees atom membrane g r → i ≡ CopyGround x y z → slice_get g.copies x ≡ Some p → Can r i s →
+  pub copy_waits : (r : Registers) (i : Instr) (x y z : ℕ) (p : PartCopy A) (s : Heap) → AgreesWithCopies atom membrane g r → i ≡ CopyGround x y z → slice_get g.copies x ≡ Some p → Can r i s →
       (atoms rest : List ℕ) × (length atoms ≡ p.atoms) × (s.new_atoms ≡ atoms ++ rest)
   copy_waits r i x y z p s u e at can =
       let w : Can r (CopyGround x y z) s = subst (λ j. Can r j s) e can in
       (r.copied x, w.1.0, (u.copies x p at).1, w.1.1)
 
   -- and they go to a membrane that is in place
-  pub copy_goes : (r : Registers) (i : Instr) (x y z : ℕ) (m : M) (s : Heap) → Agrees atom membrane g r → i ≡ CopyGround x y z → slice_get g.membranes y ≡ Some m → Can r i s → IsMemInPlace s (membrane m)
+  pub copy_goes : (r : Registers) (i : Instr) (x y z : ℕ) (m : M) (s : Heap) → AgreesWithCopies atom membrane g r → i ≡ CopyGround x y z → slice_get g.membranes y ≡ Some m → Can r i s → IsMemInPlace s (membrane m)
   copy_goes r i x y z m s u e at can = let w : Can r (CopyGround x y z) s = subst (λ j. Can r j s) e can in subst (IsMemInPlace s) (u.membranes y m at) w.0
 
-  pub copy_placed : (r : Registers) (i : Instr) (x y z : ℕ) (p : PartCopy A) (m : M) (s t : Heap) → Agrees atom membrane g r → i ≡ CopyGround x y z → slice_get g.copies x ≡ Some p → slice_get g.membranes y ≡ Some m →
+  pub copy_placed : (r : Registers) (i : Instr) (x y z : ℕ) (p : PartCopy A) (m : M) (s t : Heap) → AgreesWithCopies atom membrane g r → i ≡ CopyGround x y z → slice_get g.copies x ≡ Some p → slice_get g.membranes y ≡ Some m →
       Can r i s → ((atoms rest : List ℕ) → length atoms ≡ p.atoms → s.new_atoms ≡ atoms ++ rest → t ≡ all_placed s (map (λ a. (membrane m, a)) atoms)) → Does r i s t
   copy_placed r i x y z p m s t u e copy inside can placed =
       let w : Can r (CopyGround x y z) s = subst (λ j. Can r j s) e can in
@@ -50,17 +49,17 @@ module _ {A M : Type 0} (atom : A → ℕ) (membrane : M → ℕ) (g : SetRegist
 
   -- what is done of code, from the heap s0 to the heap s: the rest can be run, and makes of s what the whole makes of s0
   abbrev pub Done : List Instr → List Instr → Heap → Heap → Type 0
-  Done whole rest s0 s = (r : Registers) → Agrees atom membrane g r → Runs r whole s0 → Runs r rest s × ((t : Heap) → Commits r rest s t → Commits r whole s0 t)
+  Done whole rest s0 s = (r : Registers) → AgreesWithCopies atom membrane g r → Runs r whole s0 → Runs r rest s × ((t : Heap) → DoesAll r rest s t → DoesAll r whole s0 t)
 
-  pub done_more : (whole rest is : List Instr) (i : Instr) (s0 s t : Heap) → rest ≡ i ∷ is → Done whole rest s0 s → ((r : Registers) → Agrees atom membrane g r → Can r i s → Does r i s t) → Done whole is s0 t
+  pub done_more : (whole rest is : List Instr) (i : Instr) (s0 s t : Heap) → rest ≡ i ∷ is → Done whole rest s0 s → ((r : Registers) → AgreesWithCopies atom membrane g r → Can r i s → Does r i s t) → Done whole is s0 t
   done_more whole rest is i s0 s t e d does r u w =
       let q = d r u w in
       let runs : Runs r (i ∷ is) s = subst (λ js. Runs r js s) e q.0 in
       let step = does r u runs.0 in
-      (runs.2 t step, λ v c. q.1 v (subst (λ js. Commits r js s v) (sym e) (t, step, c)))
+      (runs.2 t step, λ v c. q.1 v (subst (λ js. DoesAll r js s v) (sym e) (t, step, c)))
 
-  pub can_now : (whole rest is : List Instr) (i : Instr) (s0 s : Heap) → rest ≡ i ∷ is → Done whole rest s0 s → (w : (r : Registers) × Agrees atom membrane g r × Runs r whole s0) →
-      (r : Registers) × Agrees atom membrane g r × Can r i s × Stands r i s
+  pub can_now : (whole rest is : List Instr) (i : Instr) (s0 s : Heap) → rest ≡ i ∷ is → Done whole rest s0 s → (w : (r : Registers) × AgreesWithCopies atom membrane g r × Runs r whole s0) →
+      (r : Registers) × AgreesWithCopies atom membrane g r × Can r i s × Stands r i s
   can_now whole rest is i s0 s e d w =
       let q : Runs w.0 (i ∷ is) s = subst (λ js. Runs w.0 js s) e (d w.0 w.1 w.2).0 in
       (w.0, w.1, q.0, q.1)

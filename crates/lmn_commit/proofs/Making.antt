@@ -12,10 +12,11 @@ use Rattle.lmn_instr.specs.declared.instr.Instr.TheVariants.{RemoveAtom, RemoveP
 use Rattle.lmn_body.specs.Running.{Registers, IsCopied, Makes, Prepares, integer_functor}
 use Rattle.lmn_registers.specs.declared.registers.PartCopy.{PartCopy}
 use Rattle.lmn_registers.specs.declared.registers.SetRegisters.{SetRegisters}
-use Rattle.lmn_commit.specs.Registers.{Agrees, AreHeld, AreSized, Grows, HasCopies}
-use Rattle.lmn_commit.specs.Preparing.{Uses, AllUse, Reads, InOrder, needed, needed_by, atoms_made, membranes_made, copies_made, CopyIsMade, OnlyMakes, RoomIsMade, IsMade, Prepared, CanCopy, AtomIsMade, MembraneIsMade}
-use Rattle.lmn_commit.proofs.Codes.{get_last, get_front, get_either, length_one, all_use_more, use_one_more, reads_uses, needed_more}
-use Rattle.lmn_commit.proofs.Waiting.{makes_nothing, makes_on, still_copied}
+use Rattle.lmn_commit.specs.Registers.{AgreesWithCopies, AreHeld, AreSized, Grows, HasCopies}
+use Rattle.lmn_commit.specs.Preparing.{Uses, AllUse, UsesInOrder, BodyInOrder, needed, needed_by, atoms_made, membranes_made, copies_made, CopyIsMade, OnlyMakes, RoomIsMade, IsMade, Prepared, CanCopy, AtomIsMade, MembraneIsMade}
+use Rattle.lmn_commit.proofs.Codes.{get_either, all_use_more, use_one_more, reads_uses, needed_more}
+use Rattle.lmn_commit.proofs.Waiting.{makes_nothing, makes_on, still_copied, none_there}
+use Rattle.lmn_base.proofs.Lists.{get_front, get_last, length_one, plus_nothing as nothing_more}
 
 some_altered : {X : Type 0} (f : ℕ → Option X) (n m : ℕ) (v : X) → IsSome (f m) → IsSome (alter f n (λ _. Some v) m)
 some_altered {X} f n m v e = by (m == n)
@@ -35,19 +36,12 @@ some_changed {X} f n m g e = by (m == n)
     by true = on (f m) e
     by false = e
 
-none_there : (o : Option HeapAtom) → IsSome o → o ≡ None → ⊥
-none_there o i e = let z : IsSome {T = HeapAtom} None = subst (λ (p : Option HeapAtom). IsSome p) e i in cc
-
 -- what has an index in one list has it in another one of the same length
 get_too : {X Y : Type 0} (xs : List X) (ys : List Y) → length xs ≡ length ys → (k : ℕ) (x : X) → slice_get xs k ≡ Some x → (y : Y) × (slice_get ys k ≡ Some y)
 get_too [] ys l k x e = absurd (cc)
 get_too (z ∷ xs) [] l k x e = absurd (omega (arith, l))
 get_too (z ∷ xs) (y ∷ ys) l zero x e = (y, refl)
 get_too (z ∷ xs) (y ∷ ys) l (suc k) x e = get_too xs ys (omega (arith, l)) k x e
-
-nothing_more : {X : Type 0} (xs : List X) → xs ++ [] ≡ xs
-nothing_more [] = refl
-nothing_more (x ∷ xs) = ap (λ ys. x ∷ ys) (nothing_more xs)
 
 none_sized : {A : Type 0} (ps qs : List (PartCopy A)) → qs ≡ ps → (earlier : List (List ℕ)) → AreSized ps earlier → AreSized qs (earlier ++ [])
 none_sized ps qs e es w = subst (λ xss. AreSized qs xss) (sym (nothing_more es)) (subst (λ rs. AreSized rs es) (sym e) w)
@@ -75,7 +69,7 @@ module _ {A M : Type 0} (atom : A → ℕ) (membrane : M → ℕ) where
   grows_on g k l u v = record { atoms = λ i a e. v.atoms i a (u.atoms i a e); membranes = λ i m e. v.membranes i m (u.membranes i m e); parts = v.parts ∙ u.parts; integers = v.integers ∙ u.integers; copies = λ i p e. v.copies i p (u.copies i p e) }
 
   -- registers that agree with those that are set later agree with those that were set before
-  pub agrees_before : (g k : SetRegisters A M) (r : Registers) → Grows g k → Agrees atom membrane k r → Agrees atom membrane g r
+  pub agrees_before : (g k : SetRegisters A M) (r : Registers) → Grows g k → AgreesWithCopies atom membrane k r → AgreesWithCopies atom membrane g r
   agrees_before g k r u a = record {
     atoms = λ i x e. a.atoms i x (u.atoms i x e);
     membranes = λ i x e. a.membranes i x (u.membranes i x e);
@@ -85,7 +79,7 @@ module _ {A M : Type 0} (atom : A → ℕ) (membrane : M → ℕ) where
   }
 
   -- there are such registers, whose copies have given atoms
-  pub some_registers : (g : SetRegisters A M) (copied : List (List ℕ)) → AreSized g.copies copied → (r : Registers) × Agrees atom membrane g r × HasCopies r copied
+  pub some_registers : (g : SetRegisters A M) (copied : List (List ℕ)) → AreSized g.copies copied → (r : Registers) × AgreesWithCopies atom membrane g r × HasCopies r copied
   some_registers g copied sized = (
     record {
       head = record {
@@ -151,7 +145,7 @@ module _ {A M : Type 0} (atom : A → ℕ) (membrane : M → ℕ) where
     in_next = subst (λ (l : SetRegisters A M). slice_get l.atoms (length g.atoms) ≡ Some new_one) (sym made.3) (get_last g.atoms new_one)
 
     atom_made : atoms_made i ≡ 1 → membranes_made i ≡ 0 → copies_made i ≡ 0 → ((r : Registers) (rules : ℕ → List ℕ) (x : ℕ) → needed_by r rules i x ≡ 0) →
-        ((r : Registers) → Agrees atom membrane k r → r.head.images.atom (length g.atoms) ≡ atom new_one → Makes r i s t) → IsMade atom membrane s t g k before i
+        ((r : Registers) → AgreesWithCopies atom membrane k r → r.head.images.atom (length g.atoms) ≡ atom new_one → Makes r i s t) → IsMade atom membrane s t g k before i
     atom_made one none no_copy free makes = record {
       grows = grown;
       held = held_now;
@@ -165,17 +159,17 @@ module _ {A M : Type 0} (atom : A → ℕ) (membrane : M → ℕ) where
       spares = λ r u e x. (let v = e x in let w = free r (rules_in s) x in let z : spare_of t x ≡ spare_of s x = ap (λ (q : Heap). spare_of q x) made.2 in omega (arith, v, w, z));
     }
 
-    pub new_atom_made : (x y : ℕ) → i ≡ NewAtom x y f → (v c : ℕ) → Reads (length g.atoms) (length g.membranes) (length g.parts) v c i → IsMade atom membrane s t g k before i
+    pub new_atom_made : (x y : ℕ) → i ≡ NewAtom x y f → (v c : ℕ) → UsesInOrder (length g.atoms) (length g.membranes) (length g.parts) v c i → IsMade atom membrane s t g k before i
     new_atom_made x y e v c reads =
-        let u : Reads (length g.atoms) (length g.membranes) (length g.parts) v c (NewAtom x y f) = subst (λ j. Reads (length g.atoms) (length g.membranes) (length g.parts) v c j) e reads in
+        let u : UsesInOrder (length g.atoms) (length g.membranes) (length g.parts) v c (NewAtom x y f) = subst (λ j. UsesInOrder (length g.atoms) (length g.membranes) (length g.parts) v c j) e reads in
         atom_made (ap atoms_made e) (ap membranes_made e) (ap copies_made e) (λ r rules z. ap (λ j. needed_by r rules j z) e)
         (λ r w q. subst (λ j. Makes r j s t) (sym e)
         (let n : r.head.images.atom x ≡ atom new_one = ap r.head.images.atom u.0.0 ∙ q in
         (ap s.atoms n ∙ made.1, made.2 ∙ ap (λ m. made_atom s m f) (sym n))))
 
-    pub new_int_made : (x y z : ℕ) (value : ℤ) → i ≡ NewInt x y z → f ≡ integer_functor value → slice_get g.integers z ≡ Some value → (v c : ℕ) → Reads (length g.atoms) (length g.membranes) (length g.parts) v c i → IsMade atom membrane s t g k before i
+    pub new_int_made : (x y z : ℕ) (value : ℤ) → i ≡ NewInt x y z → f ≡ integer_functor value → slice_get g.integers z ≡ Some value → (v c : ℕ) → UsesInOrder (length g.atoms) (length g.membranes) (length g.parts) v c i → IsMade atom membrane s t g k before i
     new_int_made x y z value e is at v c reads =
-        let u : Reads (length g.atoms) (length g.membranes) (length g.parts) v c (NewInt x y z) = subst (λ j. Reads (length g.atoms) (length g.membranes) (length g.parts) v c j) e reads in
+        let u : UsesInOrder (length g.atoms) (length g.membranes) (length g.parts) v c (NewInt x y z) = subst (λ j. UsesInOrder (length g.atoms) (length g.membranes) (length g.parts) v c j) e reads in
         atom_made (ap atoms_made e) (ap membranes_made e) (ap copies_made e) (λ r rules n. ap (λ j. needed_by r rules j n) e)
         (λ r w q. subst (λ j. Makes r j s t) (sym e)
         (let n : r.head.images.atom x ≡ atom new_one = ap r.head.images.atom u.0.0 ∙ q in
@@ -212,9 +206,9 @@ module _ {A M : Type 0} (atom : A → ℕ) (membrane : M → ℕ) where
       | inr d ↦ (let z : spare_of (made_mem s (membrane new_handle)) x ≡ spare_of s x = ap spare_by (alter_away s.mems (membrane new_handle) (λ _. Some new_mem) x d) in omega (arith, z, l))
     ]
 
-    pub new_mem_made : (x y : ℕ) → i ≡ NewMem x y → (v c : ℕ) → Reads (length g.atoms) (length g.membranes) (length g.parts) v c i → IsMade atom membrane s t g k before i
+    pub new_mem_made : (x y : ℕ) → i ≡ NewMem x y → (v c : ℕ) → UsesInOrder (length g.atoms) (length g.membranes) (length g.parts) v c i → IsMade atom membrane s t g k before i
     new_mem_made x y e v c reads =
-        let u : Reads (length g.atoms) (length g.membranes) (length g.parts) v c (NewMem x y) = subst (λ j. Reads (length g.atoms) (length g.membranes) (length g.parts) v c j) e reads in
+        let u : UsesInOrder (length g.atoms) (length g.membranes) (length g.parts) v c (NewMem x y) = subst (λ j. UsesInOrder (length g.atoms) (length g.membranes) (length g.parts) v c j) e reads in
         record {
           grows = more;
           held = held_too;
@@ -246,8 +240,8 @@ module _ {A M : Type 0} (atom : A → ℕ) (membrane : M → ℕ) where
         on None = refl
         on (Some z) = refl
 
-    pub room_made : atoms_made i ≡ 0 → membranes_made i ≡ 0 → copies_made i ≡ 0 → ((r : Registers) → Agrees atom membrane g r → Makes r i s t) →
-        ((r : Registers) → Agrees atom membrane g r → (x : ℕ) → x ≢ y → needed_by r (rules_in s) i x ≡ 0) → IsMade atom membrane s t g g before i
+    pub room_made : atoms_made i ≡ 0 → membranes_made i ≡ 0 → copies_made i ≡ 0 → ((r : Registers) → AgreesWithCopies atom membrane g r → Makes r i s t) →
+        ((r : Registers) → AgreesWithCopies atom membrane g r → (x : ℕ) → x ≢ y → needed_by r (rules_in s) i x ≡ 0) → IsMade atom membrane s t g g before i
     room_made none none_too no_copy makes away = record {
       grows = grows_none g;
       held = subst (λ u. AreHeld atom membrane u g) (sym made.0) (record { atoms = held.atoms; membranes = λ k m e. some_changed s.mems y (membrane m) (mem_with_spare room_now) (held.membranes k m e); parts = held.parts });
@@ -288,9 +282,9 @@ module _ {A M : Type 0} (atom : A → ℕ) (membrane : M → ℕ) where
 
   -- A copy is made.
   pub copy_made : (s t : Heap) (g k : SetRegisters A M) (before : List Instr) (i : Instr) (x y z : ℕ) (p : A × ℕ) → AreHeld atom membrane s g → i ≡ CopyGround x y z → slice_get g.parts z ≡ Some p →
-      CopyIsMade {A = A} {M = M} atom s t g k (port_id atom p) → (v c : ℕ) → c ≡ length g.copies → Reads (length g.atoms) (length g.membranes) (length g.parts) v c i → IsMade atom membrane s t g k before i
+      CopyIsMade {A = A} {M = M} atom s t g k (port_id atom p) → (v c : ℕ) → c ≡ length g.copies → UsesInOrder (length g.atoms) (length g.membranes) (length g.parts) v c i → IsMade atom membrane s t g k before i
   copy_made s t g k before i x y z p held e at made v c is_c reads =
-      let u : Reads (length g.atoms) (length g.membranes) (length g.parts) v c (CopyGround x y z) = subst (λ j. Reads (length g.atoms) (length g.membranes) (length g.parts) v c j) e reads in
+      let u : UsesInOrder (length g.atoms) (length g.membranes) (length g.parts) v c (CopyGround x y z) = subst (λ j. UsesInOrder (length g.atoms) (length g.membranes) (length g.parts) v c j) e reads in
       let next : x ≡ length g.copies = u.0.0 ∙ is_c in
       let beside = made.1.beside in
       let kept : (a : ℕ) → IsAtom s a → IsAtom t a = λ a w. subst (λ (o : Option HeapAtom). IsSome o) (sym (beside.kept a (λ n. none_there (s.atoms a) w (beside.fresh.1 a n)))) w in
@@ -331,7 +325,7 @@ module _ {A M : Type 0} (atom : A → ℕ) (membrane : M → ℕ) where
     pub no_rule : (x y : ℕ) → i ≡ LoadRule x y → ⊥
     pub no_rules : (x y : ℕ) → i ≡ CopyRules x y → ⊥
 
-  makes_none : (a m g v c : ℕ) (i : Instr) → Reads a m g v c i → IsOther i → MakesNone i
+  makes_none : (a m g v c : ℕ) (i : Instr) → UsesInOrder a m g v c i → IsOther i → MakesNone i
   makes_none a m g v c (NewAtom x y f) u o = absurd (o.no_atom x y f refl)
   makes_none a m g v c (NewInt x y z) u o = absurd (o.no_integer x y z refl)
   makes_none a m g v c (NewMem x y) u o = absurd (o.no_mem x y refl)
@@ -348,7 +342,7 @@ module _ {A M : Type 0} (atom : A → ℕ) (membrane : M → ℕ) where
   makes_none a m g v c Proceed u o = (refl, refl, refl, λ r s. refl, λ r rules x. refl)
   makes_none a m g v c _ u o = absurd u
 
-  pub nothing_made : (s : Heap) (g : SetRegisters A M) (before : List Instr) (i : Instr) → AreHeld atom membrane s g → (v c : ℕ) → Reads (length g.atoms) (length g.membranes) (length g.parts) v c i → IsOther i → IsMade atom membrane s s g g before i
+  pub nothing_made : (s : Heap) (g : SetRegisters A M) (before : List Instr) (i : Instr) → AreHeld atom membrane s g → (v c : ℕ) → UsesInOrder (length g.atoms) (length g.membranes) (length g.parts) v c i → IsOther i → IsMade atom membrane s s g g before i
   nothing_made s g before i held v c reads o =
       let none = makes_none (length g.atoms) (length g.membranes) (length g.parts) v c i reads o in
       let first = none.0 in let second = none.1 in let third = none.2 in
@@ -392,7 +386,7 @@ module _ {A M : Type 0} (atom : A → ℕ) (membrane : M → ℕ) where
   same_needed r f g is x e = let q : f ≡ g = λ i y. e y i in ap (λ h. needed r h is x) q
 
   pub prepared_more : (h s t : Heap) (g k l : SetRegisters A M) (is : List Instr) (i : Instr) (v : ℕ) → Prepared atom membrane h s g k is → IsMade atom membrane s t k l is i → OnlyMakes s t →
-      Reads (length k.atoms) (length k.membranes) (length k.parts) v (length k.copies) i → Prepared atom membrane h t g l (is ++ i ∷ [])
+      UsesInOrder (length k.atoms) (length k.membranes) (length k.parts) v (length k.copies) i → Prepared atom membrane h t g l (is ++ i ∷ [])
   prepared_more h s t g k l is i v p m makes reads =
       let more = m.atoms in
       let more_mems = m.membranes in
@@ -422,11 +416,11 @@ module _ {A M : Type 0} (atom : A → ℕ) (membrane : M → ℕ) where
 
   -- the registers of the code ahead
   pub in_order_next : (k l : SetRegisters A M) (i : Instr) (is : List Instr) → length l.atoms ≡ length k.atoms + atoms_made i → length l.membranes ≡ length k.membranes + membranes_made i → l.parts ≡ k.parts → l.integers ≡ k.integers →
-      length l.copies ≡ length k.copies + copies_made i → InOrder (length k.atoms) (length k.membranes) (length k.parts) (length k.integers) (length k.copies) (i ∷ is) →
-      InOrder (length l.atoms) (length l.membranes) (length l.parts) (length l.integers) (length l.copies) is
+      length l.copies ≡ length k.copies + copies_made i → BodyInOrder (length k.atoms) (length k.membranes) (length k.parts) (length k.integers) (length k.copies) (i ∷ is) →
+      BodyInOrder (length l.atoms) (length l.membranes) (length l.parts) (length l.integers) (length l.copies) is
   in_order_next k l i is e f p q w o =
-      subst (λ n. InOrder n (length l.membranes) (length l.parts) (length l.integers) (length l.copies) is) (sym e)
-      (subst (λ n. InOrder (length k.atoms + atoms_made i) n (length l.parts) (length l.integers) (length l.copies) is) (sym f)
-      (subst (λ ps. InOrder (length k.atoms + atoms_made i) (length k.membranes + membranes_made i) (length ps) (length l.integers) (length l.copies) is) (sym p)
-      (subst (λ zs. InOrder (length k.atoms + atoms_made i) (length k.membranes + membranes_made i) (length k.parts) (length zs) (length l.copies) is) (sym q)
-      (subst (λ n. InOrder (length k.atoms + atoms_made i) (length k.membranes + membranes_made i) (length k.parts) (length k.integers) n is) (sym w) o.1))))
+      subst (λ n. BodyInOrder n (length l.membranes) (length l.parts) (length l.integers) (length l.copies) is) (sym e)
+      (subst (λ n. BodyInOrder (length k.atoms + atoms_made i) n (length l.parts) (length l.integers) (length l.copies) is) (sym f)
+      (subst (λ ps. BodyInOrder (length k.atoms + atoms_made i) (length k.membranes + membranes_made i) (length ps) (length l.integers) (length l.copies) is) (sym p)
+      (subst (λ zs. BodyInOrder (length k.atoms + atoms_made i) (length k.membranes + membranes_made i) (length k.parts) (length zs) (length l.copies) is) (sym q)
+      (subst (λ n. BodyInOrder (length k.atoms + atoms_made i) (length k.membranes + membranes_made i) (length k.parts) (length k.integers) n is) (sym w) o.1))))

@@ -2,24 +2,20 @@
 use Rattle.std.proofs.Common.{ℕ, zero, suc, ◌≡◌, ◌==◌, ◌&&◌, Bool, true, false, cond, List, [], ◌∷◌, map, Option, Some, None, refl, sym, ap, subst, ◌∙◌}
 use Rattle.std.specs.Option.{option_map, option_and_then}
 use Rattle.std.specs.Prelude.{slice_index_or}
-use Rattle.lmn_heap.specs.Heap.{Heap, HeapAtom, lone_root, Place, top, within, waiting, gone, marks_of, link_of, with_place, with_link, atom_sent, unless_gone, linked, cleared, taken, placed, joined, moved_all, finished, taken_mem, placed_mem, rule_added, rules_copied}
+use Rattle.lmn_heap.specs.Heap.{Heap, HeapAtom, lone_root, Place, top, within, waiting, gone, marks_of, link_of, with_place, atom_sent, unless_gone, linked, cleared, taken, placed, joined, moved_all, finished, taken_mem, placed_mem, rule_added, rules_copied, taken_all, Unmarked}
 use Rattle.lmn_heap.specs.Splice.{joined_to, joined_both}
 use Rattle.lmn_heap.proofs.Listing.{alter_keeps}
-use Rattle.lmn_splice.specs.Ports.{Port}
 use Rattle.lmn_splice.specs.Ties.{Tie, newlink, relink, unify}
 use Rattle.lmn_instr.specs.declared.instr.Instr.{Instr}
 use Rattle.lmn_instr.specs.declared.instr.Instr.TheVariants.{RemoveAtom, RemovePart, RemoveMem, NewAtom, NewInt, NewMem, CopyGround, MoveCells, LoadRule, CopyRules, NewLink, Relink, Unify, Proceed}
 use Rattle.lmn_body.specs.Tied.{tied}
-use Rattle.lmn_body.specs.Running.{Registers, Does, all_taken, all_placed, old_port, new_port}
-use Rattle.lmn_commit.specs.Committing.{Unmarked}
+use Rattle.lmn_body.specs.Running.{Registers, Does, all_placed, old_port, new_port}
+use Rattle.lmn_base.specs.Graphs.{Port}
+use Rattle.lmn_heap.proofs.Common.{linked_marks, cleared_marks}
 
 on_place : (p : Place) (o : Option HeapAtom) → marks_of (option_map (with_place p) o) ≡ marks_of o
 on_place p None = refl
 on_place p (Some x) = refl
-
-on_link : (i : ℕ) (p : Option (ℕ × ℕ)) (o : Option HeapAtom) → marks_of (option_map (with_link i p) o) ≡ marks_of o
-on_link i p None = refl
-on_link i p (Some x) = refl
 
 on_sent : (m n : ℕ) (o : Option HeapAtom) → marks_of (option_map (atom_sent m n) o) ≡ marks_of o
 on_sent m n None = refl
@@ -38,18 +34,11 @@ taken_same s a x = alter_keeps s.atoms a (option_map (with_place gone)) marks_of
 placed_same : (s : Heap) (m a : ℕ) → Same s (placed s m a)
 placed_same s m a x = alter_keeps s.atoms a (option_map (with_place (within m))) marks_of (on_place (within m)) x
 
-linked_same : (f : ℕ → Option HeapAtom) (a i : ℕ) (p : Option (ℕ × ℕ)) (x : ℕ) → marks_of (linked f a i p x) ≡ marks_of (f x)
-linked_same f a i p x = alter_keeps f a (option_map (with_link i p)) marks_of (on_link i p) x
-
-cleared_same : (f : ℕ → Option HeapAtom) (p : Option (ℕ × ℕ)) (x : ℕ) → marks_of (cleared f p x) ≡ marks_of (f x)
-cleared_same f None x = refl
-cleared_same f (Some p) x = linked_same f p.0 p.1 None x
-
 joined_same : (s : Heap) (a i b j : ℕ) → Same s (joined s a i b j)
 joined_same s a i b j x =
-    linked_same (linked (cleared (cleared s.atoms (link_of s a i)) (link_of s b j)) a i (Some (b, j))) b j (Some (a, i)) x
-    ∙ (linked_same (cleared (cleared s.atoms (link_of s a i)) (link_of s b j)) a i (Some (b, j)) x
-    ∙ (cleared_same (cleared s.atoms (link_of s a i)) (link_of s b j) x ∙ cleared_same s.atoms (link_of s a i) x))
+    linked_marks (linked (cleared (cleared s.atoms (link_of s a i)) (link_of s b j)) a i (Some (b, j))) b j (Some (a, i)) x
+    ∙ (linked_marks (cleared (cleared s.atoms (link_of s a i)) (link_of s b j)) a i (Some (b, j)) x
+    ∙ (cleared_marks (cleared s.atoms (link_of s a i)) (link_of s b j) x ∙ cleared_marks s.atoms (link_of s a i) x))
 
 joined_to_same : (s : Heap) (a i : ℕ) (o : Option (ℕ × ℕ)) → Same s (joined_to s a i o)
 joined_to_same s a i None x = refl
@@ -69,7 +58,7 @@ tied_same s (newlink p q) x = joined_same s p.0 p.1 q.0 q.1 x
 tied_same s (relink p o) x = joined_to_same s p.0 p.1 (link_of s o.0 o.1) x
 tied_same s (unify p o) x = joined_both_same s o.0 o.1 (link_of s p.0 p.1) (link_of s o.0 o.1) x
 
-all_taken_same : (ns : List ℕ) (s : Heap) → Same s (all_taken s ns)
+all_taken_same : (ns : List ℕ) (s : Heap) → Same s (taken_all s ns)
 all_taken_same [] s x = refl
 all_taken_same (n ∷ ns) s x = all_taken_same ns (taken s n) x ∙ taken_same s n x
 
@@ -99,7 +88,7 @@ on s t u e h m = subst Unmarked (sym e) (still s u h m)
 
 pub does_unmarked : (r : Registers) (i : Instr) (s t : Heap) → Does r i s t → Unmarked s → Unmarked t
 does_unmarked r (RemoveAtom a) s t d u = on s t (taken s (r.head.images.atom a)) d (taken_same s (r.head.images.atom a)) u
-does_unmarked r (RemovePart g) s t d u = on s t (all_taken s d.0) d.3 (all_taken_same d.0 s) u
+does_unmarked r (RemovePart g) s t d u = on s t (taken_all s d.0) d.3 (all_taken_same d.0 s) u
 does_unmarked r (RemoveMem m) s t d u = on s t (taken_mem s (r.head.images.membrane m)) d (λ x. refl) u
 does_unmarked r (NewAtom a m f) s t d u = on s t (placed s (r.head.images.membrane m) (r.head.images.atom a)) d.1 (placed_same s (r.head.images.membrane m) (r.head.images.atom a)) u
 does_unmarked r (NewInt a m v) s t d u = on s t (placed s (r.head.images.membrane m) (r.head.images.atom a)) d.1 (placed_same s (r.head.images.membrane m) (r.head.images.atom a)) u

@@ -2,8 +2,8 @@
 use Rattle.std.proofs.Common.{ℕ, ◌≡◌, ◌<◌, ◌≤◌, ◌+◌, ◌==◌, inl, inr, Bool, true, false, cond, List, [], ◌∷◌, ◌++◌, map, refl, arith, ap, sym, subst, length, ◌∙◌}
 use Rattle.std.proofs.lemmas.List.{append_assoc}
 use Rattle.lmn_heap.specs.Heap.{In}
-use Rattle.lmn_solid.specs.Heads.{Occurrence, HeadAtom, at_ports, at_atoms, atoms_of, typed_contexts_of, membranes_of, links_of, times}
-use Rattle.lmn_splice.specs.Classes.{class_of, ends, rising}
+use Rattle.lmn_solid.specs.Heads.{Occurrence, HeadAtom, at_ports, at_atoms, atoms_of, typed_contexts_of, membranes_of, links_of_head, times}
+use Rattle.lmn_splice.specs.Classes.{class_of, ends_of_class, rising}
 use Rattle.lmn_instr.specs.declared.instr.AtomPort.{AtomPort}
 use Rattle.lmn_instr.specs.declared.instr.NewPort.{NewPort}
 use Rattle.lmn_instr.specs.declared.instr.Instr.{Instr}
@@ -11,15 +11,15 @@ use Rattle.lmn_instr.specs.declared.instr.Instr.TheVariants.{RemoveAtom, RemoveP
 use Rattle.lmn_body.specs.declared.items.BodyItem.{BodyItem}
 use Rattle.lmn_body.specs.declared.items.BodyItem.TheVariants.{Atom, Connector, Copy, Bound, Membrane, Rest, Rule, Rules}
 use Rattle.lmn_body.specs.Code.{making, link_code, links_code}
-use Rattle.lmn_body.specs.Items.{new_ports, old_ports, connectors, ports_from, once_in}
+use Rattle.lmn_body.specs.Items.{new_ports, old_ports, connectors, new_ports_from, once_in}
 use Rattle.lmn_splice.specs.Splice as splice
 use Rattle.lmn_body.specs.Made.{copies_of}
 use Rattle.lmn_body.specs.Rules.{StandsIn, IsHeadMembrane, WellPlaced}
 use Rattle.lmn_body.proofs.Firing.{rising_below}
 use Rattle.lmn_registers.specs.declared.stack.TheConstants.{ROOM}
-use Rattle.lmn_commit.proofs.Codes.{get_below}
-use Rattle.lmn_commit.specs.Preparing.{UsesPort, InOrder}
+use Rattle.lmn_commit.specs.Preparing.{UsesPort, BodyInOrder}
 use Rattle.lmn_commit.specs.Orders.{atoms_in_body, membranes_in_body, copies_in_body, BoundBelow, BodiesAreInOrder}
+use Rattle.lmn_base.proofs.Lists.{get_below}
 
 -- it copies only the first g typed contexts
 abbrev CopiedBelow : ℕ → List BodyItem → Type 0
@@ -33,7 +33,7 @@ CopiedBelow g (Rest of inside ∷ xs) = CopiedBelow g xs
 CopiedBelow g (Rule rule inside ∷ xs) = CopiedBelow g xs
 CopiedBelow g (Rules of inside ∷ xs) = CopiedBelow g xs
 
-copied_below : (g c : ℕ) (body : List BodyItem) → ((e : ℕ × ℕ) → splice.In e (copies_of c body) → e.1 < g) → CopiedBelow g body
+copied_below : (g c : ℕ) (body : List BodyItem) → ((e : ℕ × ℕ) → splice.IsOneOf e (copies_of c body) → e.1 < g) → CopiedBelow g body
 copied_below g c [] h = tt
 copied_below g c (Atom functor links inside ∷ xs) h = copied_below g c xs h
 copied_below g c (Connector left right ∷ xs) h = copied_below g c xs h
@@ -44,22 +44,22 @@ copied_below g c (Rest of inside ∷ xs) h = copied_below g c xs h
 copied_below g c (Rule rule inside ∷ xs) h = copied_below g c xs h
 copied_below g c (Rules of inside ∷ xs) h = copied_below g c xs h
 
-order_same : (a b m n g v c d : ℕ) (is : List Instr) → a ≡ b → m ≡ n → c ≡ d → InOrder a m g v c is → InOrder b n g v d is
-order_same a b m n g v c d is e f h o = subst (λ x. InOrder x n g v d is) e (subst (λ y. InOrder a y g v d is) f (subst (λ z. InOrder a m g v z is) h o))
+order_same : (a b m n g v c d : ℕ) (is : List Instr) → a ≡ b → m ≡ n → c ≡ d → BodyInOrder a m g v c is → BodyInOrder b n g v d is
+order_same a b m n g v c d is e f h o = subst (λ x. BodyInOrder x n g v d is) e (subst (λ y. BodyInOrder a y g v d is) f (subst (λ z. BodyInOrder a m g v z is) h o))
 
 -- an instruction that makes nothing
-still : (a m g v c : ℕ) (is : List Instr) → InOrder a m g v c is → InOrder (a + 0) (m + 0) g v (c + 0) is
+still : (a m g v c : ℕ) (is : List Instr) → BodyInOrder a m g v c is → BodyInOrder (a + 0) (m + 0) g v (c + 0) is
 still a m g v c is o = order_same a (a + 0) m (m + 0) g v c (c + 0) is (omega arith) (omega arith) (omega arith) o
 
-atoms_in_order : (a m g v c : ℕ) (ns : List ℕ) (rest : List Instr) → ((n : ℕ) → In n ns → n < a) → InOrder a m g v c rest → InOrder a m g v c (map RemoveAtom ns ++ rest)
+atoms_in_order : (a m g v c : ℕ) (ns : List ℕ) (rest : List Instr) → ((n : ℕ) → In n ns → n < a) → BodyInOrder a m g v c rest → BodyInOrder a m g v c (map RemoveAtom ns ++ rest)
 atoms_in_order a m g v c [] rest b o = o
 atoms_in_order a m g v c (n ∷ ns) rest b o = (b n (inl refl), still a m g v c (map RemoveAtom ns ++ rest) (atoms_in_order a m g v c ns rest (λ k i. b k (inr i)) o))
 
-parts_in_order : (a m g v c : ℕ) (ns : List ℕ) (rest : List Instr) → ((n : ℕ) → In n ns → n < g) → InOrder a m g v c rest → InOrder a m g v c (map RemovePart ns ++ rest)
+parts_in_order : (a m g v c : ℕ) (ns : List ℕ) (rest : List Instr) → ((n : ℕ) → In n ns → n < g) → BodyInOrder a m g v c rest → BodyInOrder a m g v c (map RemovePart ns ++ rest)
 parts_in_order a m g v c [] rest b o = o
 parts_in_order a m g v c (n ∷ ns) rest b o = (b n (inl refl), still a m g v c (map RemovePart ns ++ rest) (parts_in_order a m g v c ns rest (λ k i. b k (inr i)) o))
 
-mems_in_order : (a m g v c : ℕ) (ns : List ℕ) (rest : List Instr) → ((n : ℕ) → In n ns → n < m) → InOrder a m g v c rest → InOrder a m g v c (map RemoveMem ns ++ rest)
+mems_in_order : (a m g v c : ℕ) (ns : List ℕ) (rest : List Instr) → ((n : ℕ) → In n ns → n < m) → BodyInOrder a m g v c rest → BodyInOrder a m g v c (map RemoveMem ns ++ rest)
 mems_in_order a m g v c [] rest b o = o
 mems_in_order a m g v c (n ∷ ns) rest b o = (b n (inl refl), still a m g v c (map RemoveMem ns ++ rest) (mems_in_order a m g v c ns rest (λ k i. b k (inr i)) o))
 
@@ -72,7 +72,7 @@ head_below k m of l w = let e = w.1 in let b = w.2 in omega (arith, l, e, b)
 
 making_in_order : (k a m g v c : ℕ) (body : List BodyItem) (rest : List Instr) → 1 + k ≤ m → WellPlaced k m body → BoundBelow v body → CopiedBelow g body →
     a + atoms_in_body body ≤ ROOM → m + membranes_in_body body ≤ ROOM → c + copies_in_body body ≤ ROOM →
-    InOrder (a + atoms_in_body body) (m + membranes_in_body body) g v (c + copies_in_body body) rest → InOrder a m g v c (making a m c body ++ rest)
+    BodyInOrder (a + atoms_in_body body) (m + membranes_in_body body) g v (c + copies_in_body body) rest → BodyInOrder a m g v c (making a m c body ++ rest)
 making_in_order k a m g v c [] rest l w b h r q p o = order_same (a + 0) a (m + 0) m g v (c + 0) c rest (omega arith) (omega arith) (omega arith) o
 making_in_order k a m g v c (Atom functor links inside ∷ xs) rest l w b h r q p o = (
   ((refl, omega (arith, r)), inside_below k m inside l w.0),
@@ -124,19 +124,19 @@ abbrev Olds : ℕ → List (AtomPort × ℕ) → Type 0
 Olds a [] = Unit {0}
 Olds a (e ∷ es) = (e.0.atom < a) × Olds a es
 
-ends_new : (a c : ℕ) (m : ℕ → ℕ) (z : ℕ) (es : List (NewPort × ℕ)) → News a c es → EachNew a c (ends m z es)
+ends_new : (a c : ℕ) (m : ℕ → ℕ) (z : ℕ) (es : List (NewPort × ℕ)) → News a c es → EachNew a c (ends_of_class m z es)
 ends_new a c m z [] w = tt
 ends_new a c m z (e ∷ es) w = by (m e.1 == z) (ends_new a c m z es w.1)
   where
-    by : (t : Bool) → EachNew a c (ends m z es) → EachNew a c (cond t (e.0 ∷ ends m z es) (ends m z es))
+    by : (t : Bool) → EachNew a c (ends_of_class m z es) → EachNew a c (cond t (e.0 ∷ ends_of_class m z es) (ends_of_class m z es))
     by true q = (w.0, q)
     by false q = q
 
-ends_old : (a : ℕ) (m : ℕ → ℕ) (z : ℕ) (es : List (AtomPort × ℕ)) → Olds a es → EachOld a (ends m z es)
+ends_old : (a : ℕ) (m : ℕ → ℕ) (z : ℕ) (es : List (AtomPort × ℕ)) → Olds a es → EachOld a (ends_of_class m z es)
 ends_old a m z [] w = tt
 ends_old a m z (e ∷ es) w = by (m e.1 == z) (ends_old a m z es w.1)
   where
-    by : (t : Bool) → EachOld a (ends m z es) → EachOld a (cond t (e.0 ∷ ends m z es) (ends m z es))
+    by : (t : Bool) → EachOld a (ends_of_class m z es) → EachOld a (cond t (e.0 ∷ ends_of_class m z es) (ends_of_class m z es))
     by true q = (w.0, q)
     by false q = q
 
@@ -144,13 +144,13 @@ news_append : (a c : ℕ) (xs ys : List (NewPort × ℕ)) → News a c xs → Ne
 news_append a c [] ys p q = q
 news_append a c (x ∷ xs) ys p q = (p.0, news_append a c xs ys p.1 q)
 
-news_of : (b d a i : ℕ) (xs : List ℕ) → a < b → News b d (ports_from a i xs)
+news_of : (b d a i : ℕ) (xs : List ℕ) → a < b → News b d (new_ports_from a i xs)
 news_of b d a i [] l = tt
 news_of b d a i (x ∷ xs) l = (l, news_of b d a (i + 1) xs l)
 
 news_below : (b d a c : ℕ) (body : List BodyItem) → a + atoms_in_body body ≤ b → c + copies_in_body body ≤ d → News b d (new_ports a c body)
 news_below b d a c [] l k = tt
-news_below b d a c (Atom functor links inside ∷ xs) l k = news_append b d (ports_from a 0 links) (new_ports (a + 1) c xs) (news_of b d a 0 links (omega (arith, l))) (news_below b d (a + 1) c xs (omega (arith, l)) k)
+news_below b d a c (Atom functor links inside ∷ xs) l k = news_append b d (new_ports_from a 0 links) (new_ports (a + 1) c xs) (news_of b d a 0 links (omega (arith, l))) (news_below b d (a + 1) c xs (omega (arith, l)) k)
 news_below b d a c (Connector left right ∷ xs) l k = news_below b d a c xs l k
 news_below b d a c (Copy part link inside ∷ xs) l k = (let q : c < d = omega (arith, k) in q, news_below b d a (c + 1) xs l (omega (arith, k)))
 news_below b d a c (Bound integer link inside ∷ xs) l k = (let q : a < b = omega (arith, l) in q, news_below b d (a + 1) c xs (omega (arith, l)) k)
@@ -183,7 +183,7 @@ olds_once b xs (o ∷ os) w = by (times o.link xs == 1) (olds_once b xs os w.1)
     by true q = (w.0, q)
     by false q = q
 
-link_in_order : (a m g v c : ℕ) (ps : List NewPort) (hs : List AtomPort) (rest : List Instr) → EachNew a c ps → EachOld a hs → InOrder a m g v c rest → InOrder a m g v c (link_code ps hs ++ rest)
+link_in_order : (a m g v c : ℕ) (ps : List NewPort) (hs : List AtomPort) (rest : List Instr) → EachNew a c ps → EachOld a hs → BodyInOrder a m g v c rest → BodyInOrder a m g v c (link_code ps hs ++ rest)
 link_in_order a m g v c [] [] rest p h o = o
 link_in_order a m g v c [] (x ∷ []) rest p h o = o
 link_in_order a m g v c [] (x ∷ y ∷ []) rest p h o = ((h.0, h.1.0), still a m g v c rest o)
@@ -195,11 +195,11 @@ link_in_order a m g v c (q ∷ w ∷ []) [] rest p h o = ((p.0, p.1.0), still a 
 link_in_order a m g v c (q ∷ w ∷ []) (x ∷ hs) rest p h o = o
 link_in_order a m g v c (q ∷ w ∷ u ∷ ps) hs rest p h o = o
 
-links_in_order : (a m g v c : ℕ) (f : ℕ → ℕ) (news : List (NewPort × ℕ)) (olds : List (AtomPort × ℕ)) (zs : List ℕ) (rest : List Instr) → News a c news → Olds a olds → InOrder a m g v c rest → InOrder a m g v c (links_code f news olds zs ++ rest)
+links_in_order : (a m g v c : ℕ) (f : ℕ → ℕ) (news : List (NewPort × ℕ)) (olds : List (AtomPort × ℕ)) (zs : List ℕ) (rest : List Instr) → News a c news → Olds a olds → BodyInOrder a m g v c rest → BodyInOrder a m g v c (links_code f news olds zs ++ rest)
 links_in_order a m g v c f news olds [] rest p h o = o
 links_in_order a m g v c f news olds (z ∷ zs) rest p h o =
-    subst (InOrder a m g v c) (sym (append_assoc (link_code (ends f z news) (ends f z olds)) (links_code f news olds zs) rest))
-    (link_in_order a m g v c (ends f z news) (ends f z olds) (links_code f news olds zs ++ rest) (ends_new a c f z news p) (ends_old a f z olds h) (links_in_order a m g v c f news olds zs rest p h o))
+    subst (BodyInOrder a m g v c) (sym (append_assoc (link_code (ends_of_class f z news) (ends_of_class f z olds)) (links_code f news olds zs) rest))
+    (link_in_order a m g v c (ends_of_class f z news) (ends_of_class f z olds) (links_code f news olds zs ++ rest) (ends_new a c f z news p) (ends_old a f z olds h) (links_in_order a m g v c f news olds zs rest p h o))
 
 olds_more : (a b : ℕ) → a ≤ b → (es : List (AtomPort × ℕ)) → Olds a es → Olds b es
 olds_more a b l [] w = tt
@@ -214,16 +214,16 @@ bodies_are_in_order head body n v rule below room room_mems room_copies =
     let e = copies_in_body body in
     let made = making a (1 + k) 0 body in
     let news = news_below (a + atoms_in_body body) (0 + e) a 0 body (omega arith) (omega arith) in
-    let olds = olds_more a (a + atoms_in_body body) (omega arith) (old_ports head) (olds_once a (links_of head) (at_atoms 0 (atoms_of head)) (stand_atoms a 0 (atoms_of head) (omega arith))) in
+    let olds = olds_more a (a + atoms_in_body body) (omega arith) (old_ports head) (olds_once a (links_of_head head) (at_atoms 0 (atoms_of head)) (stand_atoms a 0 (atoms_of head) (omega arith))) in
     let ls = links_code (class_of (connectors body)) (new_ports a 0 body) (old_ports head) (rising 0 n) in
     let os = map RemoveAtom (rising 0 a) in
     let gs = map RemovePart (rising 0 g) in
     let ms = map RemoveMem (rising 1 k) in
     let tail = made ++ (ls ++ (Proceed ∷ [])) in
-    let end : InOrder (a + atoms_in_body body) (1 + k + membranes_in_body body) g v (0 + e) (Proceed ∷ []) = (tt, tt) in
+    let end : BodyInOrder (a + atoms_in_body body) (1 + k + membranes_in_body body) g v (0 + e) (Proceed ∷ []) = (tt, tt) in
     let links = links_in_order (a + atoms_in_body body) (1 + k + membranes_in_body body) g v (0 + e) (class_of (connectors body)) (new_ports a 0 body) (old_ports head) (rising 0 n) (Proceed ∷ []) news olds end in
     let making_part = making_in_order k a (1 + k) g v 0 body (ls ++ (Proceed ∷ [])) (omega arith) rule.placed below copied room room_mems (omega (arith, room_copies)) links in
     let mems_part = mems_in_order a (1 + k) g v 0 (rising 1 k) tail (λ x i. (let b = (rising_below k 1 x i).1 in b)) making_part in
     let parts_part = parts_in_order a (1 + k) g v 0 (rising 0 g) (ms ++ tail) (λ x i. (let b = (rising_below g 0 x i).1 in omega (arith, b))) mems_part in
     let atoms_part = atoms_in_order a (1 + k) g v 0 (rising 0 a) (gs ++ (ms ++ tail)) (λ x i. (let b = (rising_below a 0 x i).1 in omega (arith, b))) parts_part in
-    subst (InOrder a (1 + k) g v 0) (sym (append_assoc os (gs ++ ms) tail ∙ ap (λ is. os ++ is) (append_assoc gs ms tail))) atoms_part
+    subst (BodyInOrder a (1 + k) g v 0) (sym (append_assoc os (gs ++ ms) tail ∙ ap (λ is. os ++ is) (append_assoc gs ms tail))) atoms_part

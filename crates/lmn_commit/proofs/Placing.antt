@@ -2,9 +2,10 @@
 use Rattle.std.proofs.Common.{ℕ, zero, suc, ◌≡◌, ◌<◌, ◌+◌, List, [], ◌∷◌, ◌++◌, map, Option, Some, None, refl, arith, ap, sym, subst, length, drop, ◌∙◌}
 use Rattle.std.proofs.lemmas.Bool.{eq-eqb}
 use Rattle.std.specs.Option.{option_map}
-use Rattle.lmn_heap.specs.Heap.{Heap, HeapMem, StandsAt, IsMemInPlace, from, after, placed, mem_with_atoms}
+use Rattle.lmn_heap.specs.Heap.{Heap, HeapMem, IsTopOrWithin, IsMemInPlace, from, after, placed, mem_with_atoms}
 use Rattle.lmn_heap.proofs.Listing.{alter_keeps}
 use Rattle.lmn_body.specs.Running.{all_placed}
+use Rattle.lmn_base.proofs.Lists.{head_is}
 
 after_first : (a : ℕ) (xs ys : List ℕ) → xs ≡ a ∷ ys → after a xs ≡ ys
 after_first a xs ys e = ap (after a) e ∙ rw (eq-eqb a a refl) refl
@@ -20,9 +21,6 @@ ahead_of (x ∷ xs) (suc i) l =
     let t : suc (i + 1) ≡ suc i + 1 = omega arith in
     (w.0, w.1 ∙ ap (λ n. w.0 ∷ drop n (x ∷ xs)) t)
 
-head_is : (a x : ℕ) (xs ys : List ℕ) → a ∷ xs ≡ x ∷ ys → a ≡ x
-head_is a x xs ys e = cc
-
 cons_is_some : (x : ℕ) (xs ys : List ℕ) → ys ≡ x ∷ xs → ys ≡ [] → ⊥
 cons_is_some x xs ys e f = let z : x ∷ xs ≡ [] = sym e ∙ f in absurd (cc)
 
@@ -37,14 +35,14 @@ pub place_step : (m a : ℕ) (h s t : Heap) (i : ℕ) (atoms rest : List ℕ) �
 place_step m a h s t i atoms rest l e first is done =
     let w = ahead_of atoms i l in
     let left : s.new_atoms ≡ w.0 ∷ (drop (i + 1) atoms ++ rest) = e ∙ ap (λ xs. xs ++ rest) w.1 in
-    let same : a ≡ w.0 = head_is a w.0 (after a s.new_atoms) (drop (i + 1) atoms ++ rest) (first ∙ left) in
+    let same : a ≡ w.0 = head_is (first ∙ left) in
     let now : t ≡ placed s m w.0 = is ∙ ap (placed s m) same in (
       ap (λ (u : Heap). u.new_atoms) now ∙ after_first w.0 s.new_atoms (drop (i + 1) atoms ++ rest) left,
       ap (λ u. all_placed u (pairs m (drop (i + 1) atoms))) now ∙ (sym (ap (λ xs. all_placed s (pairs m xs)) w.1) ∙ done),
     )
 
 pub still_in_place : (s t : Heap) (m a n : ℕ) → t ≡ placed s m a → IsMemInPlace s n → IsMemInPlace t n
-still_in_place s t m a n e w = subst (λ u. IsMemInPlace u n) (sym e) (subst StandsAt (sym (alter_keeps s.mems m (option_map (mem_with_atoms (λ xs. xs ++ a ∷ []))) (λ (o : Option HeapMem). option_map (λ x. x.place) o) on n)) w)
+still_in_place s t m a n e w = subst (λ u. IsMemInPlace u n) (sym e) (subst IsTopOrWithin (sym (alter_keeps s.mems m (option_map (mem_with_atoms (λ xs. xs ++ a ∷ []))) (λ (o : Option HeapMem). option_map (λ x. x.place) o) on n)) w)
   where
     on : (o : Option HeapMem) → option_map (λ x. x.place) (option_map (mem_with_atoms (λ xs. xs ++ a ∷ [])) o) ≡ option_map (λ x. x.place) o
     on None = refl

@@ -2,7 +2,7 @@
 use Rattle.std.proofs.Common.{ℕ, zero, suc, ◌≡◌, ◌≢◌, ◌<◌, ◌≤◌, ◌+◌, ◌==◌, ◌⊎◌, inl, inr, Bool, true, false, cond, List, [], ◌∷◌, ◌++◌, map, Option, Some, None, IsSome, refl, arith, ap, sym, subst, length, ◌∙◌}
 use Rattle.std.specs.Option.{option_map, option_and_then}
 use Rattle.std.specs.Prelude.{slice_get, slice_index_or, pos}
-use Rattle.lmn_heap.specs.Heap.{Heap, HeapAtom, Place, top, within, waiting, gone, In, IsInPlace, home_by, links_of, marks_of, arity_of, link_of, rules_in, spare_of, unless_waiting, discarded, taken, with_place}
+use Rattle.lmn_heap.specs.Heap.{Heap, HeapAtom, Place, top, within, waiting, gone, In, IsInPlace, home_by, partners_of, marks_of, arity_of, link_of, rules_in, spare_of, unless_waiting, discarded, taken, with_place, taken_all, Unmarked}
 use Rattle.lmn_heap.specs.Sound.{Sound, Valid, Forest, bare, mem, Forms}
 use Rattle.lmn_heap.specs.Heap.{HeapMem, mems_in, mems_by, mem_with_spare}
 use Rattle.lmn_base.specs.Solids.{connector}
@@ -11,7 +11,7 @@ use Rattle.lmn_heap.specs.Conditions.{Alone}
 use Rattle.lmn_solid.specs.declared.items.HeadItem.{HeadItem}
 use Rattle.lmn_solid.specs.Heads.{HeadTyped, typed_contexts_of, atoms_of, membranes_of}
 use Rattle.lmn_solid.specs.Embeddings.{Embeds}
-use Rattle.lmn_splice.specs.Classes.{class_of, ends, rising}
+use Rattle.lmn_splice.specs.Classes.{class_of, ends_of_class, rising}
 use Rattle.lmn_instr.specs.declared.instr.AtomPort.{AtomPort}
 use Rattle.lmn_instr.specs.declared.instr.NewPort.{NewPort}
 use Rattle.lmn_instr.specs.declared.instr.Instr.{Instr}
@@ -21,16 +21,16 @@ use Rattle.lmn_body.specs.declared.items.BodyItem.TheVariants.{Atom, Connector, 
 use Rattle.lmn_body.specs.Added.{added_rules, if_inside}
 use Rattle.lmn_body.specs.Code.{body_code, removals, making, link_code, links_code}
 use Rattle.lmn_body.specs.Items.{new_ports, old_ports, connectors}
-use Rattle.lmn_body.specs.Running.{Registers, Prepares, Commits, RunsBody, all_taken}
+use Rattle.lmn_body.specs.Running.{Registers, Prepares, DoesAll, RunsBody}
 use Rattle.lmn_body.specs.Conditions.{Can, CanRun}
 use Rattle.lmn_body.specs.Stopping.{SameButSpares}
 use Rattle.lmn_body.proofs.Stops.{prepare_stops}
 use Rattle.lmn_body.proofs.Parts.{taken_links}
 use Rattle.lmn_body.proofs.Firing.{rising_below}
 use Rattle.lmn_registers.specs.declared.registers.SetRegisters.{SetRegisters}
-use Rattle.lmn_commit.specs.Registers.{Agrees, HasCopies}
+use Rattle.lmn_commit.specs.Registers.{AgreesWithCopies, HasCopies}
 use Rattle.lmn_commit.specs.Preparing.{needed, needed_by}
-use Rattle.lmn_commit.specs.Committing.{Runs, Stands, Unmarked}
+use Rattle.lmn_commit.specs.Committing.{Runs, Stands}
 use Rattle.lmn_commit.specs.Matched.{IsPrepared}
 use Rattle.lmn_body.proofs.Numbering.{links_have_numbers}
 use Rattle.lmn_body.proofs.Laws.{body_can_run, body_fires_within}
@@ -108,7 +108,7 @@ link_plain (p ∷ q ∷ o ∷ ps) hs = tt
 
 links_plain : (m : ℕ → ℕ) (news : List (NewPort × ℕ)) (olds : List (AtomPort × ℕ)) (zs : List ℕ) → AllAre IsPlain (links_code m news olds zs)
 links_plain m news olds [] = tt
-links_plain m news olds (z ∷ zs) = all_append IsPlain (link_code (ends m z news) (ends m z olds)) (links_code m news olds zs) (link_plain (ends m z news) (ends m z olds)) (links_plain m news olds zs)
+links_plain m news olds (z ∷ zs) = all_append IsPlain (link_code (ends_of_class m z news) (ends_of_class m z olds)) (links_code m news olds zs) (link_plain (ends_of_class m z news) (ends_of_class m z olds)) (links_plain m news olds zs)
 
 -- Room for rules
 
@@ -193,7 +193,7 @@ joined_on r gs s t links arities places j = record {
 taken_arity : (s : Heap) (n a : ℕ) → arity_of (taken s n) a ≡ arity_of s a
 taken_arity s n a = ap length (by (a == n) (s.atoms a))
   where
-    by : (t : Bool) (o : Option HeapAtom) → links_of (cond t (option_map (with_place gone) o) o) ≡ links_of o
+    by : (t : Bool) (o : Option HeapAtom) → partners_of (cond t (option_map (with_place gone) o) o) ≡ partners_of o
     by false o = refl
     by true None = refl
     by true (Some x) = refl
@@ -206,16 +206,16 @@ taken_in s n a = by (a == n) (s.atoms a)
     by true None e = e
     by true (Some x) e = absurd (let z : IsSome (home_by gone) = e in cc)
 
-all_taken_arity : (ns : List ℕ) (s : Heap) (a : ℕ) → arity_of (all_taken s ns) a ≡ arity_of s a
+all_taken_arity : (ns : List ℕ) (s : Heap) (a : ℕ) → arity_of (taken_all s ns) a ≡ arity_of s a
 all_taken_arity [] s a = refl
 all_taken_arity (n ∷ ns) s a = all_taken_arity ns (taken s n) a ∙ taken_arity s n a
 
-all_taken_in : (ns : List ℕ) (s : Heap) (a : ℕ) → IsInPlace (all_taken s ns) a → IsInPlace s a
+all_taken_in : (ns : List ℕ) (s : Heap) (a : ℕ) → IsInPlace (taken_all s ns) a → IsInPlace s a
 all_taken_in [] s a p = p
 all_taken_in (n ∷ ns) s a p = taken_in s n a (all_taken_in ns (taken s n) a p)
 
-joined_taken : (r : Registers) (gs ns : List ℕ) (s : Heap) → Joined r gs s → Joined r gs (all_taken s ns)
-joined_taken r gs ns s j = joined_on r gs s (all_taken s ns) (λ a i. taken_links ns s a i) (λ a. all_taken_arity ns s a) (λ a p. all_taken_in ns s a p) j
+joined_taken : (r : Registers) (gs ns : List ℕ) (s : Heap) → Joined r gs s → Joined r gs (taken_all s ns)
+joined_taken r gs ns s j = joined_on r gs s (taken_all s ns) (λ a i. taken_links ns s a i) (λ a. all_taken_arity ns s a) (λ a p. all_taken_in ns s a p) j
 
 part_stands : (r : Registers) (g : ℕ) (s : Heap) → Joined r (g ∷ []) s → Can r (RemovePart g) s → Stands r (RemovePart g) s
 part_stands r g s j can = (
@@ -223,10 +223,10 @@ part_stands r g s j can = (
   record { atoms = λ a q. tt; ends = λ a i q l d. j.full a i (can a q) l },
 )
   where
-    is_atom : (o : Option HeapAtom) → IsSome (slice_index_or (links_of o) (r.head.images.part g).1 None) → IsSome o
+    is_atom : (o : Option HeapAtom) → IsSome (slice_index_or (partners_of o) (r.head.images.part g).1 None) → IsSome o
     is_atom None e = absurd (none (r.head.images.part g).1 e)
       where
-        none : (k : ℕ) → IsSome (slice_index_or (links_of None) k None) → ⊥
+        none : (k : ℕ) → IsSome (slice_index_or (partners_of None) k None) → ⊥
         none zero q = cc
         none (suc k) q = cc
     is_atom (Some x) e = refl
@@ -296,11 +296,11 @@ stays_there h s e a p = by (s.atoms a) (e.atoms a)
 atom_of_link : (h : Heap) (a i : ℕ) → IsSome (link_of h a i) → IsSome (h.atoms a)
 atom_of_link h a i e = by (h.atoms a) e
   where
-    none : (k : ℕ) → IsSome (slice_index_or (links_of None) k None) → ⊥
+    none : (k : ℕ) → IsSome (slice_index_or (partners_of None) k None) → ⊥
     none zero q = cc
     none (suc k) q = cc
 
-    by : (o : Option HeapAtom) → IsSome (slice_index_or (links_of o) i None) → IsSome o
+    by : (o : Option HeapAtom) → IsSome (slice_index_or (partners_of o) i None) → IsSome o
     by None q = absurd (none i q)
     by (Some x) q = refl
 
@@ -309,11 +309,11 @@ get_typed [] k l = absurd (omega arith)
 get_typed (x ∷ xs) zero l = (x, refl)
 get_typed (x ∷ xs) (suc k) l = get_typed xs k (omega arith)
 
-module _ {A M : Type 0} (atom : A → ℕ) (membrane : M → ℕ) (s : Heap) (k : SetRegisters A M) (code : List Instr) (p : IsPrepared atom membrane s k code) (r : Registers) (u : Agrees atom membrane k r) (has : HasCopies r p.prepared.copied) where
+module _ {A M : Type 0} (atom : A → ℕ) (membrane : M → ℕ) (s : Heap) (k : SetRegisters A M) (code : List Instr) (p : IsPrepared atom membrane s k code) (r : Registers) (u : AgreesWithCopies atom membrane k r) (has : HasCopies r p.prepared.copied) where
   abbrev h : Heap
   h = p.before
 
-  abbrev agreed : Agrees atom membrane p.matched_by r
+  abbrev agreed : AgreesWithCopies atom membrane p.matched_by r
   agreed = agrees_before atom membrane p.matched_by k r p.prepared.grows u
 
   abbrev em : Embeds h p.matched.head p.matched.guard p.matched.place r.head.images
@@ -335,13 +335,13 @@ module _ {A M : Type 0} (atom : A → ℕ) (membrane : M → ℕ) (s : Heap) (k 
   joined_now : Joined r (rising 0 (length (typed_contexts_of p.matched.head))) s
   joined_now = record {
     full = λ a i q l. (let e = stood h s before_it a q in
-        let links : link_of h a i ≡ link_of s a i = ap (λ (o : Option HeapAtom). slice_index_or (links_of o) i None) (sym e) in
-        let arity : arity_of s a ≡ arity_of h a = ap (λ (o : Option HeapAtom). length (links_of o)) e in
+        let links : link_of h a i ≡ link_of s a i = ap (λ (o : Option HeapAtom). slice_index_or (partners_of o) i None) (sym e) in
+        let arity : arity_of s a ≡ arity_of h a = ap (λ (o : Option HeapAtom). length (partners_of o)) e in
         subst (λ (o : Option (ℕ × ℕ)). IsSome o) links (p.matched.valid.full a i (omega (arith, arity, l))));
     roots = λ g i. (let b = (rising_below (length (typed_contexts_of p.matched.head)) 0 g i).1 in
         let w = root_joined g (omega (arith, b)) in
         let e = stays_there h s before_it (r.head.images.part g).0 (atom_of_link h (r.head.images.part g).0 (r.head.images.part g).1 w) in
-        let links : link_of h (r.head.images.part g).0 (r.head.images.part g).1 ≡ link_of s (r.head.images.part g).0 (r.head.images.part g).1 = ap (λ (o : Option HeapAtom). slice_index_or (links_of o) (r.head.images.part g).1 None) (sym e) in
+        let links : link_of h (r.head.images.part g).0 (r.head.images.part g).1 ≡ link_of s (r.head.images.part g).0 (r.head.images.part g).1 = ap (λ (o : Option HeapAtom). slice_index_or (partners_of o) (r.head.images.part g).1 None) (sym e) in
         subst (λ (o : Option (ℕ × ℕ)). IsSome o) links w);
   }
 
@@ -369,7 +369,7 @@ module _ {A M : Type 0} (atom : A → ℕ) (membrane : M → ℕ) (s : Heap) (k 
       subst (λ is. Runs r is s) (sym (p.matched.is_code ∙ same))
       (atoms_run r (rising 0 (length (atoms_of p.matched.head))) (rising 0 (length (typed_contexts_of p.matched.head))) rest s joined_now none (subst (λ is. CanRun r is s) same can_run))
 
-  pub fires_valid : (t : Heap) → Commits r code s t → Valid t
+  pub fires_valid : (t : Heap) → DoesAll r code s t → Valid t
   fires_valid t w =
       let c = links_have_numbers h p.matched.valid in
       (body_fires_within p.matched.head p.matched.body p.matched.links p.matched.rule r h p.matched.valid p.matched.guard p.matched.place em p.matched.in_place c.0 c.1 t
@@ -393,7 +393,7 @@ valid_but_spares h t e v sound = record {
         subst (λ (o : Option HeapMem). (option_map (λ x. x.place) o ≡ Some top) ⊎ IsSome (option_and_then (λ x. home_by x.place) o)) (sym q.1)
         (placed_with q.0 (h.mems m) (v.settled.mems m (some_before q.0 (h.mems m) (subst (λ (o : Option HeapMem). IsSome o) q.1 i)))));
   };
-  full = λ a i. subst (λ (o : Option HeapAtom). i < length (links_of o) → IsSome (slice_index_or (links_of o) i None)) (sym (e.atoms a)) (v.full a i);
+  full = λ a i. subst (λ (o : Option HeapAtom). i < length (partners_of o) → IsSome (slice_index_or (partners_of o) i None)) (sym (e.atoms a)) (v.full a i);
   no_connector = λ a. subst (λ (o : Option HeapAtom). IsSome (option_and_then (λ x. home_by x.place) o) → option_map (λ x. x.functor) o ≢ Some connector) (sym (e.atoms a)) (v.no_connector a);
   tree = (
     v.tree.0,

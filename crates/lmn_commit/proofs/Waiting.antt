@@ -1,20 +1,21 @@
 -- What is made waits, and can be given up.
-use Rattle.std.proofs.Common.{ℕ, zero, suc, ◌≡◌, ◌+◌, ◌<◌, ◌≢◌, inl, inr, List, replicate, Option, Some, None, IsSome, Result, Ok, Err, refl, ap, sym, subst, length, ◌∙◌}
+use Rattle.std.proofs.Common.{ℕ, zero, suc, ◌≡◌, ◌+◌, ◌<◌, ◌≢◌, inl, inr, List, Option, Some, None, IsSome, Result, Ok, Err, refl, ap, sym, subst, length, ◌∙◌}
 use Rattle.std.proofs.lemmas.Bool.{cases_eq}
 use Rattle.std.specs.Option.{option_map, option_and_then}
 use Rattle.std.specs.Prelude.{slice_index_or, OnOk, OnErr}
 use Rattle.lmn_base.specs.declared.functor.Functor.{Functor}
 use Rattle.lmn_base.specs.Graphs.{Reached, at_root, across}
-use Rattle.lmn_heap.specs.Heap.{Heap, HeapAtom, HeapMem, Place, top, within, waiting, gone, IsAtom, new_atom, new_mem, mem_with_spare, unless_waiting, mem_unless_waiting, links_of, marks_of, arity_of, link_of, place_of, made_atom, made_mem, reserved}
+use Rattle.lmn_heap.specs.Heap.{Heap, HeapAtom, HeapMem, Place, top, within, waiting, gone, IsAtom, new_atom, new_mem, mem_with_spare, unless_waiting, mem_unless_waiting, partners_of, marks_of, arity_of, link_of, place_of, made_atom, made_mem, reserved}
 use Rattle.lmn_heap.specs.Sound.{Paired}
 use Rattle.lmn_heap.specs.Graphs.{atom_map}
 use Rattle.lmn_heap.proofs.Listing.{alter_at, alter_away}
 use Rattle.lmn_ground.specs.Copies.{Beside, Copied, Remains}
-use Rattle.lmn_ground.proofs.PaintLaws.{in_or_not}
 use Rattle.lmn_commit.specs.Preparing.{CanBeCopied, OnlyMakes}
+use Rattle.lmn_base.proofs.Numbers.{zeros_at as no_marks}
+use Rattle.lmn_heap.proofs.Common.{decide_in as in_or_not, no_links}
 
-none_is : (o : Option HeapAtom) → IsSome o → o ≡ None → ⊥
-none_is o i e = let z : IsSome {T = HeapAtom} None = subst (λ (p : Option HeapAtom). IsSome p) e i in cc
+pub none_there : (o : Option HeapAtom) → IsSome o → o ≡ None → ⊥
+none_there o i e = let z : IsSome {T = HeapAtom} None = subst (λ (p : Option HeapAtom). IsSome p) e i in cc
 
 pub makes_nothing : (s : Heap) → OnlyMakes s s
 makes_nothing s = record { kept = λ a i. refl; alone = λ l. l; rest = λ h r. r; unmarked = λ u. u }
@@ -32,26 +33,12 @@ makes_on h s t u v = record {
 
 -- An atom
 
-abbrev no_port : Option (ℕ × ℕ)
-no_port = None
-
-no_links : (n i : ℕ) → slice_index_or (replicate n no_port) i None ≡ None
-no_links zero i = refl
-no_links (suc n) zero = refl
-no_links (suc n) (suc i) = no_links n i
-
-no_marks : (n i : ℕ) → ◌≡◌ {A = ℕ} (slice_index_or (replicate n 0) i 0) 0
-no_marks zero zero = refl
-no_marks zero (suc i) = refl
-no_marks (suc n) zero = refl
-no_marks (suc n) (suc i) = no_marks n i
-
 pub makes_atom : (s t : Heap) (a : ℕ) (f : Functor) → s.atoms a ≡ None → t ≡ made_atom s a f → OnlyMakes s t
 makes_atom s t a f free e = subst (OnlyMakes s) (sym e) (record {
-  kept = λ b i. away b (λ d. none_is (s.atoms b) i (ap s.atoms d ∙ free));
+  kept = λ b i. away b (λ d. none_there (s.atoms b) i (ap s.atoms d ∙ free));
   alone = λ l b i c j w q. elim (cases_eq b a) [
-    | inl d ↦ absurd (let z : ◌≡◌ {A = Option (ℕ × ℕ)} None (Some (c, j)) = sym (ap (λ (o : Option HeapAtom). slice_index_or (links_of o) i None) (at b d) ∙ no_links f.arity i) ∙ q in cc)
-    | inr d ↦ waits c (l b i c j (sym (ap (λ (o : Option HeapAtom). option_map (λ x. x.place) o) (away b d)) ∙ w) (sym (ap (λ (o : Option HeapAtom). slice_index_or (links_of o) i None) (away b d)) ∙ q))
+    | inl d ↦ absurd (let z : ◌≡◌ {A = Option (ℕ × ℕ)} None (Some (c, j)) = sym (ap (λ (o : Option HeapAtom). slice_index_or (partners_of o) i None) (at b d) ∙ no_links f.arity i) ∙ q in cc)
+    | inr d ↦ waits c (l b i c j (sym (ap (λ (o : Option HeapAtom). option_map (λ x. x.place) o) (away b d)) ∙ w) (sym (ap (λ (o : Option HeapAtom). slice_index_or (partners_of o) i None) (away b d)) ∙ q))
   ];
   rest = λ h r. record {
     root = r.root;
@@ -151,10 +138,10 @@ makes_room_or_not (Err e) s t m n p q = makes_same s t q
 
 beside_makes : (s t : Heap) (ys : List ℕ) → Beside s t ys → OnlyMakes s t
 beside_makes s t ys b = record {
-  kept = λ a i. b.kept a (λ n. none_is (s.atoms a) i (b.fresh.1 a n));
+  kept = λ a i. b.kept a (λ n. none_there (s.atoms a) i (b.fresh.1 a n));
   alone = λ l a i c j w q. elim (in_or_not a ys) [
     | inl n ↦ b.places c (b.alone a i c j n q)
-    | inr n ↦ (let z : place_of s c ≡ Some waiting = l a i c j (sym (ap (λ (o : Option HeapAtom). option_map (λ x. x.place) o) (b.kept a n)) ∙ w) (sym (ap (λ (o : Option HeapAtom). slice_index_or (links_of o) i None) (b.kept a n)) ∙ q) in
+    | inr n ↦ (let z : place_of s c ≡ Some waiting = l a i c j (sym (ap (λ (o : Option HeapAtom). option_map (λ x. x.place) o) (b.kept a n)) ∙ w) (sym (ap (λ (o : Option HeapAtom). slice_index_or (partners_of o) i None) (b.kept a n)) ∙ q) in
         elim (in_or_not c ys) [
           | inl k ↦ b.places c k
           | inr k ↦ ap (λ (o : Option HeapAtom). option_map (λ x. x.place) o) (b.kept c k) ∙ z
@@ -193,19 +180,19 @@ module _ (s t : Heap) (paired : Paired s) (m : OnlyMakes s t) (root : ℕ × ℕ
   atom_of_link : (a i : ℕ) → IsSome (link_of s a i) → IsAtom s a
   atom_of_link a i e = by (s.atoms a) e
     where
-      none : (k : ℕ) → IsSome (slice_index_or (links_of None) k None) → ⊥
+      none : (k : ℕ) → IsSome (slice_index_or (partners_of None) k None) → ⊥
       none zero q = cc
       none (suc k) q = cc
 
-      by : (o : Option HeapAtom) → IsSome (slice_index_or (links_of o) i None) → IsSome o
+      by : (o : Option HeapAtom) → IsSome (slice_index_or (partners_of o) i None) → IsSome o
       by None q = absurd (none i q)
       by (Some x) q = refl
 
   same_link : (a i : ℕ) → IsAtom s a → link_of t a i ≡ link_of s a i
-  same_link a i w = ap (λ (o : Option HeapAtom). slice_index_or (links_of o) i None) (m.kept a w)
+  same_link a i w = ap (λ (o : Option HeapAtom). slice_index_or (partners_of o) i None) (m.kept a w)
 
   same_arity : (a : ℕ) → IsAtom s a → arity_of t a ≡ arity_of s a
-  same_arity a w = ap (λ (o : Option HeapAtom). length (links_of o)) (m.kept a w)
+  same_arity a w = ap (λ (o : Option HeapAtom). length (partners_of o)) (m.kept a w)
 
   reached : (a : ℕ) → Reached (atom_map t) root a → Reached (atom_map s) root a × IsAtom s a
   reached a at_root = (at_root, can.atom)

@@ -1,15 +1,11 @@
 -- When the code of a body can be committed.
-use Rattle.std.specs.Prelude.{ℕ, ◌≡◌, List, [], ◌∷◌, None}
-use Rattle.lmn_heap.specs.Heap.{Heap, mark_of}
+use Rattle.std.specs.Prelude.{List, [], ◌∷◌, None}
+use Rattle.lmn_heap.specs.Heap.{Heap}
 use Rattle.lmn_ground.specs.Spread.{IsWhole}
 use Rattle.lmn_instr.specs.declared.instr.Instr.{Instr}
 use Rattle.lmn_instr.specs.declared.instr.Instr.TheVariants.{RemovePart}
 use Rattle.lmn_body.specs.Running.{Registers, Does}
 use Rattle.lmn_body.specs.Conditions.{Can, StandsAsPort}
-
--- every mark of an atom is 0
-abbrev pub Unmarked : Heap → Type 0
-Unmarked s = (a i : ℕ) → mark_of s a i ≡ 0
 
 -- a part that is taken is there, and each of its ports but the root is joined
 abbrev pub Stands : Registers → Instr → Heap → Type 0

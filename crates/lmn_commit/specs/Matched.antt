@@ -1,7 +1,7 @@
 -- When the code of a body fires a rule.
 use Rattle.std.specs.Prelude.{ℕ, ◌≡◌, List}
 use Rattle.lmn_base.specs.declared.guard.Cond.{Cond}
-use Rattle.lmn_heap.specs.Heap.{Heap, IsMemInPlace}
+use Rattle.lmn_heap.specs.Heap.{Heap, IsMemInPlace, Unmarked}
 use Rattle.lmn_heap.specs.Sound.{Valid}
 use Rattle.lmn_solid.specs.declared.items.HeadItem.{HeadItem}
 use Rattle.lmn_solid.specs.Embeddings.{Embeds}
@@ -11,9 +11,8 @@ use Rattle.lmn_body.specs.Code.{body_code}
 use Rattle.lmn_body.specs.Rules.{NestedRule}
 use Rattle.lmn_body.specs.Running.{Registers}
 use Rattle.lmn_registers.specs.declared.registers.SetRegisters.{SetRegisters}
-use Rattle.lmn_commit.specs.Registers.{Agrees}
+use Rattle.lmn_commit.specs.Registers.{AgreesWithCopies}
 use Rattle.lmn_commit.specs.Preparing.{Prepared}
-use Rattle.lmn_commit.specs.Committing.{Unmarked}
 
 -- The code is that of the body of a rule, and the registers hold an embedding of its head in a valid heap without marks.
 pub record IsMatched {A M : Type 0} (atom : A → ℕ) (membrane : M → ℕ) (h : Heap) (g : SetRegisters A M) (code : List Instr) : Type 0 where
@@ -27,7 +26,7 @@ pub record IsMatched {A M : Type 0} (atom : A → ℕ) (membrane : M → ℕ) (h
   pub guard : List Cond
   pub place : ℕ
   pub in_place : IsMemInPlace h place
-  pub embeds : (r : Registers) → Agrees atom membrane g r → Embeds h head guard place r.head.images
+  pub embeds : (r : Registers) → AgreesWithCopies atom membrane g r → Embeds h head guard place r.head.images
 
 -- The code of a body is prepared, after its head was matched.
 pub record IsPrepared {A M : Type 0} (atom : A → ℕ) (membrane : M → ℕ) (s : Heap) (k : SetRegisters A M) (code : List Instr) : Type 0 where

@@ -7,7 +7,7 @@ use Rattle.lmn_body.specs.declared.items.BodyItem.TheVariants.{Atom, Connector, 
 use Rattle.lmn_body.specs.Code.{body_code}
 use Rattle.lmn_body.specs.Rules.{NestedRule}
 use Rattle.lmn_registers.specs.declared.stack.TheConstants.{ROOM}
-use Rattle.lmn_commit.specs.Preparing.{InOrder}
+use Rattle.lmn_commit.specs.Preparing.{BodyInOrder}
 
 -- how many atoms a body makes
 abbrev pub atoms_in_body : List BodyItem → ℕ
@@ -62,4 +62,4 @@ BoundBelow v (Rules of inside ∷ xs) = BoundBelow v xs
 abbrev pub BodiesAreInOrder : Type 0
 BodiesAreInOrder = (head : List HeadItem) (body : List BodyItem) (n v : ℕ) → NestedRule head body n → BoundBelow v body →
     length (atoms_of head) + atoms_in_body body ≤ ROOM → 1 + length (membranes_of head) + membranes_in_body body ≤ ROOM → copies_in_body body ≤ ROOM →
-    InOrder (length (atoms_of head)) (1 + length (membranes_of head)) (length (typed_contexts_of head)) v 0 (body_code head body n)
+    BodyInOrder (length (atoms_of head)) (1 + length (membranes_of head)) (length (typed_contexts_of head)) v 0 (body_code head body n)

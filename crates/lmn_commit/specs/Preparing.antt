@@ -1,7 +1,7 @@
 -- What it means that the code of a body is prepared.
 use Rattle.std.specs.Prelude.{ℕ, ◌≡◌, ◌<◌, ◌≤◌, ◌+◌, ◌==◌, if◌then◌else◌, List, [], ◌∷◌, ◌++◌, None, Some, IsSome, length, slice_get}
 use Rattle.lmn_base.specs.declared.functor.Functor.{Functor}
-use Rattle.lmn_heap.specs.Heap.{Heap, IsAtom, arity_of, made_atom, made_mem, reserved, discarded, rules_in, spare_of, port_id}
+use Rattle.lmn_heap.specs.Heap.{Heap, IsAtom, arity_of, made_atom, made_mem, reserved, discarded, rules_in, spare_of, port_id, Unmarked}
 use Rattle.lmn_heap.specs.Conditions.{Alone}
 use Rattle.lmn_ground.specs.Spread.{IsWhole}
 use Rattle.lmn_ground.specs.Copies.{Copied, LeadsOut}
@@ -14,8 +14,7 @@ use Rattle.lmn_body.specs.Stopping.{SameButSpares}
 use Rattle.lmn_registers.specs.declared.registers.PartCopy.{PartCopy}
 use Rattle.lmn_registers.specs.declared.registers.SetRegisters.{SetRegisters}
 use Rattle.lmn_registers.specs.declared.stack.TheConstants.{ROOM}
-use Rattle.lmn_commit.specs.Registers.{Agrees, AreHeld, AreSized, Grows, HasCopies}
-use Rattle.lmn_commit.specs.Committing.{Unmarked}
+use Rattle.lmn_commit.specs.Registers.{AgreesWithCopies, AreHeld, AreSized, Grows, HasCopies}
 
 -- the register of a made port is set: a of atoms are, c of copies
 abbrev pub UsesPort : ℕ → ℕ → NewPort → Type 0
@@ -51,12 +50,12 @@ IsNext x v = (x ≡ v) × (v < ROOM)
 
 -- An instruction sets the next register or none, and reads only those that are set: a of atoms, m of membranes, g of
 -- typed contexts, v of integers, c of copies.
-abbrev pub Reads : ℕ → ℕ → ℕ → ℕ → ℕ → Instr → Type 0
-Reads a m g v c (NewAtom x y f) = IsNext x a × (y < m)
-Reads a m g v c (NewInt x y z) = IsNext x a × (y < m) × (z < v)
-Reads a m g v c (NewMem x y) = IsNext x m × (y < m)
-Reads a m g v c (CopyGround x y z) = IsNext x c × (y < m) × (z < g)
-Reads a m g v c i = Uses a m g c i
+abbrev pub UsesInOrder : ℕ → ℕ → ℕ → ℕ → ℕ → Instr → Type 0
+UsesInOrder a m g v c (NewAtom x y f) = IsNext x a × (y < m)
+UsesInOrder a m g v c (NewInt x y z) = IsNext x a × (y < m) × (z < v)
+UsesInOrder a m g v c (NewMem x y) = IsNext x m × (y < m)
+UsesInOrder a m g v c (CopyGround x y z) = IsNext x c × (y < m) × (z < g)
+UsesInOrder a m g v c i = Uses a m g c i
 
 -- how many atoms an instruction makes by themselves
 abbrev pub atoms_made : Instr → ℕ
@@ -76,9 +75,9 @@ copies_made _ = 0
 
 -- Body code that sets registers in the order of their numbers, reads none that isn't set, and has no more than there is
 -- room for. So far a of atoms, m of membranes, g of typed contexts, v of integers and c of copies are set.
-abbrev pub InOrder : ℕ → ℕ → ℕ → ℕ → ℕ → List Instr → Type 0
-InOrder a m g v c [] = Unit {0}
-InOrder a m g v c (i ∷ is) = Reads a m g v c i × InOrder (a + atoms_made i) (m + membranes_made i) g v (c + copies_made i) is
+abbrev pub BodyInOrder : ℕ → ℕ → ℕ → ℕ → ℕ → List Instr → Type 0
+BodyInOrder a m g v c [] = Unit {0}
+BodyInOrder a m g v c (i ∷ is) = UsesInOrder a m g v c i × BodyInOrder (a + atoms_made i) (m + membranes_made i) g v (c + copies_made i) is
 
 -- how many rules an instruction adds to the membrane x, where `rules` are those of each membrane
 abbrev pub needed_by : Registers → (ℕ → List ℕ) → Instr → ℕ → ℕ
@@ -128,7 +127,7 @@ CopyIsMade {A} atom s t g k root =
 -- there is room in the membrane x for all rules that code adds to it
 abbrev pub RoomIsMade : {A M : Type 0} → (A → ℕ) → (M → ℕ) → Heap → Heap → SetRegisters A M → List Instr → ℕ → Type 0
 RoomIsMade atom membrane s t g code x =
-    (t ≡ reserved s x (spare_of t x)) × ((r : Registers) → Agrees atom membrane g r → needed r (rules_in s) code x ≤ spare_of t x)
+    (t ≡ reserved s x (spare_of t x)) × ((r : Registers) → AgreesWithCopies atom membrane g r → needed r (rules_in s) code x ≤ spare_of t x)
 
 -- What an instruction makes is made, after the code before it. `copied` has the atoms of the copy that it makes.
 pub record IsMade {A M : Type 0} (atom : A → ℕ) (membrane : M → ℕ) (s t : Heap) (g k : SetRegisters A M) (before : List Instr) (i : Instr) : Type 0 where
@@ -139,9 +138,9 @@ pub record IsMade {A M : Type 0} (atom : A → ℕ) (membrane : M → ℕ) (s t 
   pub copies : length k.copies ≡ length g.copies + copies_made i
   pub copied : List (List ℕ)
   pub sizes : (earlier : List (List ℕ)) → AreSized g.copies earlier → AreSized k.copies (earlier ++ copied)
-  pub makes : (r : Registers) (earlier : List (List ℕ)) → Agrees atom membrane k r → AreSized g.copies earlier → HasCopies r (earlier ++ copied) → Makes r i s t
+  pub makes : (r : Registers) (earlier : List (List ℕ)) → AgreesWithCopies atom membrane k r → AreSized g.copies earlier → HasCopies r (earlier ++ copied) → Makes r i s t
   pub rules : (x : ℕ) → rules_in t x ≡ rules_in s x
-  pub spares : (r : Registers) → Agrees atom membrane k r → ((x : ℕ) → needed r (rules_in s) before x ≤ spare_of s x) →
+  pub spares : (r : Registers) → AgreesWithCopies atom membrane k r → ((x : ℕ) → needed r (rules_in s) before x ≤ spare_of s x) →
       (x : ℕ) → needed r (rules_in s) before x + needed_by r (rules_in s) i x ≤ spare_of t x
 
 -- Code is prepared: all that it makes is made, from the heap h to the heap s, and is in the registers; and each membrane
@@ -152,7 +151,7 @@ pub record Prepared {A M : Type 0} (atom : A → ℕ) (membrane : M → ℕ) (h 
   pub uses : AllUse (length k.atoms) (length k.membranes) (length k.parts) (length k.copies) code
   pub copied : List (List ℕ)
   pub sizes : AreSized k.copies copied
-  pub prepares : (r : Registers) → Agrees atom membrane k r → HasCopies r copied → Prepares r code h s
+  pub prepares : (r : Registers) → AgreesWithCopies atom membrane k r → HasCopies r copied → Prepares r code h s
   pub makes : OnlyMakes h s
   pub rules : (x : ℕ) → rules_in s x ≡ rules_in h x
-  pub spares : (r : Registers) → Agrees atom membrane k r → (x : ℕ) → needed r (rules_in h) code x ≤ spare_of s x
+  pub spares : (r : Registers) → AgreesWithCopies atom membrane k r → (x : ℕ) → needed r (rules_in h) code x ≤ spare_of s x

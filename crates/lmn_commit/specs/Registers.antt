@@ -5,8 +5,9 @@ use Rattle.lmn_body.specs.Running.{Registers}
 use Rattle.lmn_registers.specs.declared.registers.PartCopy.{PartCopy}
 use Rattle.lmn_registers.specs.declared.registers.SetRegisters.{SetRegisters}
 
--- Registers that have the values of those that are set, where `atom` and `membrane` number the handles of a store.
-pub record Agrees {A M : Type 0} (atom : A → ℕ) (membrane : M → ℕ) (g : SetRegisters A M) (r : Registers) : Type 0 where
+-- Registers of a body that have the values of those that are set, copies too, where `atom` and `membrane` number the
+-- handles of a store.
+pub record AgreesWithCopies {A M : Type 0} (atom : A → ℕ) (membrane : M → ℕ) (g : SetRegisters A M) (r : Registers) : Type 0 where
   pub atoms : (k : ℕ) (a : A) → slice_get g.atoms k ≡ Some a → r.head.images.atom k ≡ atom a
   pub membranes : (k : ℕ) (m : M) → slice_get g.membranes k ≡ Some m → r.head.images.membrane k ≡ membrane m
   pub parts : (k : ℕ) (p : A × ℕ) → slice_get g.parts k ≡ Some p → r.head.images.part k ≡ port_id atom p

@@ -1,11 +1,11 @@
 //! Does what the code of a body does, when all that it makes is made.
 ghost use Rattle.std.specs.Prelude.{◌≡◌, ◌<◌, ◌++◌, ℕ, List, length, map};
-ghost use Rattle.lmn_body.specs.Running.{Registers, Commits, Does, RunsBody, all_placed, old_port, new_port};
-ghost use Rattle.lmn_heap.specs.Heap.{IsMemInPlace, port_id};
+ghost use Rattle.lmn_body.specs.Running.{Registers, DoesAll, Does, RunsBody, all_placed, old_port, new_port};
+ghost use Rattle.lmn_heap.specs.Heap.{IsMemInPlace, port_id, Unmarked};
 ghost use Rattle.lmn_body.specs.Conditions.{Can};
-ghost use Rattle.lmn_commit.specs.Registers.{Agrees, HasCopies};
+ghost use Rattle.lmn_commit.specs.Registers.{AgreesWithCopies, HasCopies};
 ghost use Rattle.lmn_commit.specs.Preparing.{AllUse, Uses, UsesPort};
-ghost use Rattle.lmn_commit.specs.Committing.{Runs, Stands, Unmarked};
+ghost use Rattle.lmn_commit.specs.Committing.{Runs, Stands};
 ghost use Rattle.lmn_commit.specs.Matched.{IsPrepared};
 ghost use Rattle.lmn_heap.specs.Sound.{Valid};
 
@@ -18,7 +18,7 @@ use lmn_store::LinkStore;
 /// A port of the atom in a register.
 fn port_of<A: Copy, M: Copy>(set: &SetRegisters<A, M>, port: AtomPort) -> (A, u8)
     requires { port.atom < length set.now.atoms }
-    ensures { (id : A → ℕ) (membrane : M → ℕ) (r : Registers) → Agrees id membrane set.now r → old_port r port ≡ port_id id result }
+    ensures { (id : A → ℕ) (membrane : M → ℕ) (r : Registers) → AgreesWithCopies id membrane set.now r → old_port r port ≡ port_id id result }
 {
     (set.atoms.at(port.atom as usize), port.port)
 }
@@ -26,7 +26,7 @@ fn port_of<A: Copy, M: Copy>(set: &SetRegisters<A, M>, port: AtomPort) -> (A, u8
 /// A port of a made atom.
 fn made_port<A: Copy, M: Copy>(set: &SetRegisters<A, M>, port: NewPort) -> (A, u8)
     requires { UsesPort (length set.now.atoms) (length set.now.copies) port }
-    ensures { (id : A → ℕ) (membrane : M → ℕ) (r : Registers) → Agrees id membrane set.now r → new_port r port ≡ port_id id result }
+    ensures { (id : A → ℕ) (membrane : M → ℕ) (r : Registers) → AgreesWithCopies id membrane set.now r → new_port r port ≡ port_id id result }
 {
     match port {
         NewPort::Atom(p) => port_of(set, p),
@@ -50,8 +50,8 @@ fn place_atoms<S: LinkStore>(store: &mut S, count: u64, m: S::Mem)
 fn run<S: LinkStore>(store: &mut S, instr: &Instr, set: &SetRegisters<S::Atom, S::Mem>)
     requires unmarked { Unmarked (S.heap store.old) }
     requires uses { Uses (length set.now.atoms) (length set.now.membranes) (length set.now.parts) (length set.now.copies) instr.now }
-    requires can { (r : Registers) × Agrees S.atom_id S.mem_id set.now r × Can r instr.now (S.heap store.old) × Stands r instr.now (S.heap store.old) }
-    ensures { (r : Registers) → Agrees S.atom_id S.mem_id set.now r → Can r instr.now (S.heap store.old) → Does r instr.now (S.heap store.old) (S.heap store.new) }
+    requires can { (r : Registers) × AgreesWithCopies S.atom_id S.mem_id set.now r × Can r instr.now (S.heap store.old) × Stands r instr.now (S.heap store.old) }
+    ensures { (r : Registers) → AgreesWithCopies S.atom_id S.mem_id set.now r → Can r instr.now (S.heap store.old) → Does r instr.now (S.heap store.old) (S.heap store.new) }
 {
     let _root = store.root();
     match instr {
@@ -110,8 +110,8 @@ fn run<S: LinkStore>(store: &mut S, instr: &Instr, set: &SetRegisters<S::Atom, S
 fn run_all<S: LinkStore>(store: &mut S, code: &[Instr], set: &SetRegisters<S::Atom, S::Mem>)
     requires unmarked { Unmarked (S.heap store.old) }
     requires uses { AllUse (length set.now.atoms) (length set.now.membranes) (length set.now.parts) (length set.now.copies) code.now }
-    requires runs { (r : Registers) × Agrees S.atom_id S.mem_id set.now r × Runs r code.now (S.heap store.old) }
-    ensures commits { (r : Registers) → Agrees S.atom_id S.mem_id set.now r → Runs r code.now (S.heap store.old) → Commits r code.now (S.heap store.old) (S.heap store.new) }
+    requires runs { (r : Registers) × AgreesWithCopies S.atom_id S.mem_id set.now r × Runs r code.now (S.heap store.old) }
+    ensures commits { (r : Registers) → AgreesWithCopies S.atom_id S.mem_id set.now r → Runs r code.now (S.heap store.old) → DoesAll r code.now (S.heap store.old) (S.heap store.new) }
     ensures unmarked { Unmarked (S.heap store.new) }
 {
     for i in 0..code.len() {
@@ -123,7 +123,7 @@ fn run_all<S: LinkStore>(store: &mut S, code: &[Instr], set: &SetRegisters<S::At
 /// memory and can't fail, and leaves a valid store without marks.
 pub fn commit<S: LinkStore>(store: &mut S, code: &[Instr], set: &SetRegisters<S::Atom, S::Mem>)
     requires { IsPrepared S.atom_id S.mem_id (S.heap store.old) set.now code.now }
-    ensures fires { (p : IsPrepared S.atom_id S.mem_id (S.heap store.old) set.now code.now) (r : Registers) → Agrees S.atom_id S.mem_id set.now r → HasCopies r p.prepared.copied →
+    ensures fires { (p : IsPrepared S.atom_id S.mem_id (S.heap store.old) set.now code.now) (r : Registers) → AgreesWithCopies S.atom_id S.mem_id set.now r → HasCopies r p.prepared.copied →
         RunsBody r code.now p.before (S.heap store.new) }
     ensures valid { Valid (S.heap store.new) }
     ensures unmarked { Unmarked (S.heap store.new) }

@@ -1,12 +1,11 @@
 //! Makes all that the code of a body makes.
 ghost use Rattle.std.specs.Prelude.{◌≡◌, ◌<◌, ◌≤◌, ◌+◌, ℕ, [], length, take, slice_get, Some, OnOk, OnErr};
-ghost use Rattle.lmn_heap.specs.Heap.{IsMem, rules_in};
+ghost use Rattle.lmn_heap.specs.Heap.{IsMem, rules_in, Unmarked};
 ghost use Rattle.lmn_heap.specs.Sound.{Valid};
 ghost use Rattle.lmn_body.specs.Running.{Registers};
 ghost use Rattle.lmn_body.specs.Stopping.{SameButSpares};
-ghost use Rattle.lmn_commit.specs.Registers.{Agrees, AreHeld};
-ghost use Rattle.lmn_commit.specs.Preparing.{AllUse, AtomIsMade, CanBeCopied, CanCopy, CopyIsMade, MembraneIsMade, OnlyMakes, RoomIsMade, InOrder, IsMade, Prepared, Reads, Uses, needed, needed_by};
-ghost use Rattle.lmn_commit.specs.Committing.{Unmarked};
+ghost use Rattle.lmn_commit.specs.Registers.{AgreesWithCopies, AreHeld};
+ghost use Rattle.lmn_commit.specs.Preparing.{AllUse, AtomIsMade, CanBeCopied, CanCopy, CopyIsMade, MembraneIsMade, OnlyMakes, RoomIsMade, BodyInOrder, IsMade, Prepared, UsesInOrder, Uses, needed, needed_by};
 ghost use Rattle.lmn_registers.specs.declared.stack.TheConstants.{ROOM};
 
 use lmn_base::{Functor, Label, NoMemory};
@@ -76,7 +75,7 @@ fn rules_added<S: LinkStore>(
     requires held { AreHeld S.atom_id S.mem_id (S.heap store.now) set.now }
     requires uses { Uses (length set.now.atoms) (length set.now.membranes) (length set.now.parts) (length set.now.copies) instr.now }
     requires membrane { IsMem (S.heap store.now) (S.mem_id membrane) }
-    ensures { (r : Registers) → Agrees S.atom_id S.mem_id set.now r → result ≡ needed_by r (rules_in (S.heap store.now)) instr.now (S.mem_id membrane) }
+    ensures { (r : Registers) → AgreesWithCopies S.atom_id S.mem_id set.now r → result ≡ needed_by r (rules_in (S.heap store.now)) instr.now (S.mem_id membrane) }
 {
     match instr {
         Instr::LoadRule { membrane: to, .. } => {
@@ -109,7 +108,7 @@ fn rules_needed<S: LinkStore>(
     requires upto { upto ≤ length code.now }
     requires uses { AllUse (length set.now.atoms) (length set.now.membranes) (length set.now.parts) (length set.now.copies) (take upto code.now) }
     requires membrane { IsMem (S.heap store.now) (S.mem_id membrane) }
-    ensures { (r : Registers) (n : ℕ) → Agrees S.atom_id S.mem_id set.now r → result ≡ Some n → n ≡ needed r (rules_in (S.heap store.now)) (take upto code.now) (S.mem_id membrane) }
+    ensures { (r : Registers) (n : ℕ) → AgreesWithCopies S.atom_id S.mem_id set.now r → result ≡ Some n → n ≡ needed r (rules_in (S.heap store.now)) (take upto code.now) (S.mem_id membrane) }
 {
     let mut count: u64 = 0;
     for i in 0..upto {
@@ -152,7 +151,7 @@ fn make<S: LinkStore>(
     requires at { slice_get code.now at ≡ Some instr.now }
     requires held { AreHeld S.atom_id S.mem_id (S.heap store.old) set.old }
     requires uses { AllUse (length set.old.atoms) (length set.old.membranes) (length set.old.parts) (length set.old.copies) (take at code.now) }
-    requires reads { Reads (length set.old.atoms) (length set.old.membranes) (length set.old.parts) (length set.old.integers) (length set.old.copies) instr.now }
+    requires reads { UsesInOrder (length set.old.atoms) (length set.old.membranes) (length set.old.parts) (length set.old.integers) (length set.old.copies) instr.now }
     requires unmarked { Unmarked (S.heap store.old) }
     requires parts { CanCopy S.atom_id (S.heap store.old) set.old }
     ensures ok { OnOk result (IsMade S.atom_id S.mem_id (S.heap store.old) (S.heap store.new) set.old set.new (take at code.now) instr.now) }
@@ -195,7 +194,7 @@ fn make_all<S: LinkStore>(
     requires held { AreHeld S.atom_id S.mem_id (S.heap store.old) set.old }
     requires parts { CanCopy S.atom_id (S.heap store.old) set.old }
     requires copies { set.old.copies ≡ [] }
-    requires order { InOrder (length set.old.atoms) (length set.old.membranes) (length set.old.parts) (length set.old.integers) 0 code.now }
+    requires order { BodyInOrder (length set.old.atoms) (length set.old.membranes) (length set.old.parts) (length set.old.integers) 0 code.now }
     ensures ok { OnOk result (Prepared S.atom_id S.mem_id (S.heap store.old) (S.heap store.new) set.old set.new code.now) }
     ensures makes { OnlyMakes (S.heap store.old) (S.heap store.new) }
 {
@@ -219,7 +218,7 @@ pub fn prepare<S: LinkStore>(
     requires held { AreHeld S.atom_id S.mem_id (S.heap store.old) set.old }
     requires parts { CanCopy S.atom_id (S.heap store.old) set.old }
     requires copies { set.old.copies ≡ [] }
-    requires order { InOrder (length set.old.atoms) (length set.old.membranes) (length set.old.parts) (length set.old.integers) 0 code.now }
+    requires order { BodyInOrder (length set.old.atoms) (length set.old.membranes) (length set.old.parts) (length set.old.integers) 0 code.now }
     ensures ok { OnOk result (Prepared S.atom_id S.mem_id (S.heap store.old) (S.heap store.new) set.old set.new code.now) }
     ensures err { OnErr result (SameButSpares (S.heap store.old) (S.heap store.new)) }
     ensures valid { OnErr result (Valid (S.heap store.new)) }

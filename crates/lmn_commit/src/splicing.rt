@@ -1,5 +1,5 @@
 //! Ports that are joined by their partners as they stand.
-ghost use Rattle.std.specs.Prelude.{◌≡◌, ℕ, Some, ◌≢◌};
+ghost use Rattle.std.specs.Prelude.{◌≢◌, ◌≡◌, ℕ, Some};
 ghost use Rattle.lmn_heap.specs.Heap.{link_of};
 ghost use Rattle.lmn_heap.specs.Splice.{IsPort, relinked, unified};
 

@@ -1,7 +1,6 @@
 -- There is room for the code of the bodies of accepted rules.
-use Rattle.std.proofs.Common.{ℕ, ◌≡◌, ◌≤◌, List, length, refl, arith}
-use Rattle.std.specs.Prelude.{Bool, true, false, ◌||◌, nat_lt}
-use Rattle.std.proofs.lemmas.Bool.Decides.{nat_tests}
+use Rattle.std.proofs.Common.{◌≤◌, List, length, arith}
+use Rattle.std.specs.Prelude.{nat_lt}
 use Rattle.lmn_base.specs.declared.rule.RuleTree.{RuleTree}
 use Rattle.lmn_base.specs.Items.{number_of_items}
 use Rattle.lmn_base.specs.RuleCodes.{too_large, is_too_large}
@@ -11,19 +10,14 @@ use Rattle.lmn_solid.specs.Heads.{membranes_of}
 use Rattle.lmn_compile_head.specs.Accepted.{head_items, AcceptedHeads}
 use Rattle.lmn_compile_head.specs.Heads.{kind_in}
 use Rattle.lmn_body.proofs.Numbered.{same_size, head_size}
-use Rattle.lmn_compile_body.specs.Accepted.{rule_names, IsWhole, AcceptedBodies}
-use Rattle.lmn_compile_body.proofs.BodyTrees as tree
-use Rattle.lmn_compile_body.proofs.BodyTrees.{items_few, head_items_few, size_few, links_fit, links_many, links_counted}
-
-or_none : (a b : Bool) → (a || b) ≡ false → (a ≡ false) × (b ≡ false)
-or_none true b e = absurd (cc)
-or_none false b e = (refl, e)
-
-not_less : (m n : ℕ) → nat_lt m n ≡ false → n ≤ m
-not_less m n e = grind (arith, nat_tests)
+use Rattle.lmn_compile_body.specs.Accepted.{rule_body_names, IsCompilable, AcceptedBodies}
+use Rattle.lmn_compile_head.proofs.HeadLeaves as leaves
+use Rattle.lmn_compile_body.proofs.BodyTrees.{items_few, size_few, links_fit, links_many, links_counted}
+use Rattle.lmn_base.proofs.Numbers.{at_most_by_test as not_less}
+use Rattle.lmn_base.proofs.Truth.{neither_true as or_none}
 
 -- the limits of head and body
-limits : (table : List RuleTree) (r : RuleTree) (plan : GuardPlan) → IsWhole table r plan → (number_of_items r.head ≤ 128) × (number_of_items r.body ≤ 1024)
+pub limits : (table : List RuleTree) (r : RuleTree) (plan : GuardPlan) → IsCompilable table r plan → (number_of_items r.head ≤ 128) × (number_of_items r.body ≤ 1024)
 limits table r plan whole =
     let large = not_then (is_too_large r) r.pos (whole.ready.accepted.contexts 0 (too_large r) (omega arith)) in
     let a = or_none (nat_lt 128 (number_of_items r.head)) _ large in
@@ -34,7 +28,7 @@ pub accepted_bodies : AcceptedHeads → AcceptedBodies
 accepted_bodies heads table r plan whole =
     let room = heads.room table r plan whole.ready in
     let kind = kind_in plan.kinds in
-    let s = rule_names r plan in
+    let s = rule_body_names r plan in
     let k = length (membranes_of (head_items r plan)) in
     let l = limits table r plan whole in
     let head_few = l.0 in
@@ -48,10 +42,10 @@ accepted_bodies heads table r plan whole =
     let counted = links_counted r.head r.body (length r.links) numbers in
     let head_links = links_many r.head whole.ready.few_links in
     let body_links = links_many r.body whole.few_links in
-    let head_many = tree.head_size kind r.head in
+    let head_many = leaves.size_few kind r.head in
     let items = items_few s k r.body in
     let head_items = room.items in
-    let few_head = head_items_few kind r.head in
+    let few_head = leaves.items_few kind r.head in
     record {
       head = room;
       contexts = omega (arith, contexts, fits);

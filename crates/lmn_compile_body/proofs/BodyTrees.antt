@@ -11,40 +11,39 @@ use Rattle.lmn_base.specs.declared.level.Level.{Level}
 use Rattle.lmn_base.specs.declared.level.Level.TheFolds.{fold-roll-Level, ind-Level}
 use Rattle.lmn_base.specs.declared.level.Occ.{Occ}
 use Rattle.lmn_base.specs.Items.{number_of_items}
-use Rattle.lmn_base.specs.Levels.{leaves_of, leaf_occurrences, links_of}
+use Rattle.lmn_base.specs.Levels.{leaves_of, occurrences_of_leaf, links_of}
 use Rattle.lmn_base.specs.Links.{Numbers, no_more, known, new, NumbersLinks}
 use Rattle.lmn_base.specs.Solids.{connector}
 use Rattle.lmn_heap.specs.Functors.{same_functor}
-use Rattle.lmn_guards.specs.declared.plan.TypeKind.{TypeKind}
-use Rattle.lmn_solid.specs.Flattening as solid
-use Rattle.lmn_solid.proofs.HeadTrees as trees
-use Rattle.lmn_solid.proofs.HeadTrees.{flat_items, flat_membranes, Head, Heads, head, no_head, head_and, heads, head_at, head_step, size, sizes, head_leaves, heads_leaves, same_leaves, head_number, heads_number, heads_length, same_number}
+use Rattle.lmn_solid.proofs.HeadTrees.{Head, Heads, head, no_head, head_and, heads, head_at, head_step, size, sizes, head_leaves, heads_leaves, same_leaves, head_number, heads_number, heads_length, same_number}
 use Rattle.lmn_compile_head.specs.Tables.{AllBelow, HasFewLinks}
 use Rattle.lmn_body.specs.declared.items.BodyItem.{BodyItem}
 use Rattle.lmn_body.specs.declared.items.BodyItem.TheVariants.{Atom, Connector, Copy, Bound, Membrane, Rest, Rule, Rules}
 use Rattle.lmn_body.specs.Items.{body_links}
-use Rattle.lmn_body.specs.Flattening.{BodyNames, Unnumbered, atom_item, typed_item, leaf_items, membrane_items, context_items, rule_items, rule_context_items, flatten_step, body_items}
+use Rattle.lmn_body.specs.Flattening.{BodyNames, UnnumberedBody, atom_item, typed_item, body_leaf_items, body_membrane_items, context_items, body_rule_items, rule_context_items, flatten_body_step, body_items}
 use Rattle.lmn_body.proofs.BodyLinks.{links_kept}
-use Rattle.lmn_compile_body.specs.Naming.{unnumbered}
+use Rattle.lmn_compile_body.specs.Naming.{unnumbered_body}
 use Rattle.lmn_compile_body.specs.Tables.{BodyFits, AllFew}
+use Rattle.lmn_base.proofs.Lists.{all_left as all_front, all_right as all_back}
+use Rattle.lmn_compile_head.proofs.HeadLeaves.{below_back, below_front}
 
 abbrev mutual
   pub flat_body : BodyNames → ℕ → ℕ → Head → List BodyItem
   flat_body s inside next (head leaves hs cs rcs rs) =
-      leaf_items s inside leaves ++ (flat_bodies s inside next hs ++ (context_items s inside cs ++ (rule_items inside rs ++ rule_context_items s inside rcs)))
+      body_leaf_items s inside leaves ++ (flat_bodies s inside next hs ++ (context_items s inside cs ++ (body_rule_items inside rs ++ rule_context_items s inside rcs)))
 
   pub flat_bodies : BodyNames → ℕ → ℕ → Heads → List BodyItem
   flat_bodies s inside next no_head = []
   flat_bodies s inside next (head_and h hs) = Membrane inside ∷ flat_body s next (next + 1) h ++ flat_bodies s inside (next + 1 + size h) hs
 
-abbrev flattened : BodyNames → Head → Unnumbered
+abbrev flattened : BodyNames → Head → UnnumberedBody
 flattened s h = record { items = λ inside next. flat_body s inside next h; size = size h }
 
 module _ (s : BodyNames) where
   abbrev AsFlat : Level → Type 0
-  AsFlat l = unnumbered s l ≡ flattened s (head_at l)
+  AsFlat l = unnumbered_body s l ≡ flattened s (head_at l)
 
-  flat_all : (ls : List ((l : Level) × AsFlat l)) → map (unnumbered s) (map (λ e. e.0) ls) ≡ map (flattened s) (map head_at (map (λ e. e.0) ls))
+  flat_all : (ls : List ((l : Level) × AsFlat l)) → map (unnumbered_body s) (map (λ e. e.0) ls) ≡ map (flattened s) (map head_at (map (λ e. e.0) ls))
   flat_all [] = refl
   flat_all (e ∷ ls) = λ i. e.1 i ∷ flat_all ls i
 
@@ -52,16 +51,16 @@ module _ (s : BodyNames) where
   sized [] = refl
   sized (h ∷ hs) = sum_by-cons (λ n. n) (1 + size h) (map (λ m. 1 + m.size) (map (flattened s) hs)) ∙ ap (λ n. (1 + size h) + n) (sized hs)
 
-  flat_in : (inside next : ℕ) (hs : List Head) → membrane_items inside next (map (flattened s) hs) ≡ flat_bodies s inside next (heads hs)
+  flat_in : (inside next : ℕ) (hs : List Head) → body_membrane_items inside next (map (flattened s) hs) ≡ flat_bodies s inside next (heads hs)
   flat_in inside next [] = refl
   flat_in inside next (h ∷ hs) = ap (λ ys. Membrane inside ∷ flat_body s next (next + 1) h ++ ys) (flat_in inside (next + 1 + size h) hs)
 
   level_flat : (l : Level) → AsFlat l
   level_flat = ind-Level AsFlat (λ y z is.
-      let inside = subst (λ l. map (unnumbered s) l.membranes ≡ map (flattened s) (map head_at l.membranes)) is (flat_all z.membranes) in
-      rw (fold-roll-Level Unnumbered (flatten_step s) y, fold-roll-Level Head head_step y, inside)
+      let inside = subst (λ l. map (unnumbered_body s) l.membranes ≡ map (flattened s) (map head_at l.membranes)) is (flat_all z.membranes) in
+      rw (fold-roll-Level UnnumberedBody (flatten_body_step s) y, fold-roll-Level Head head_step y, inside)
       (λ i. record {
-        items = λ n k. leaf_items s n y.leaves ++ (flat_in n k (map head_at y.membranes) i ++ (context_items s n y.contexts ++ (rule_items n y.rules ++ rule_context_items s n y.rule_contexts)));
+        items = λ n k. body_leaf_items s n y.leaves ++ (flat_in n k (map head_at y.membranes) i ++ (context_items s n y.contexts ++ (body_rule_items n y.rules ++ rule_context_items s n y.rule_contexts)));
         size = sized (map head_at y.membranes) i;
       }))
 
@@ -70,12 +69,12 @@ module _ (s : BodyNames) where
   items_flat k l = ap (λ u. u.items 0 (1 + k)) (level_flat l)
 
   -- and so many membranes stand in both
-  pub same_size : (l : Level) → (unnumbered s l).size ≡ size (head_at l)
+  pub same_size : (l : Level) → (unnumbered_body s l).size ≡ size (head_at l)
   same_size l = ap (λ u. u.size) (level_flat l)
 
   -- ---- how many there are
 
-  many_leaves : (inside : ℕ) (ls : List Leaf) → length (leaf_items s inside ls) ≡ length ls
+  many_leaves : (inside : ℕ) (ls : List Leaf) → length (body_leaf_items s inside ls) ≡ length ls
   many_leaves inside [] = refl
   many_leaves inside (l ∷ ls) = let e = many_leaves inside ls in omega (arith, e)
 
@@ -83,7 +82,7 @@ module _ (s : BodyNames) where
   many_contexts inside [] = refl
   many_contexts inside (u ∷ us) = let e = many_contexts inside us in omega (arith, e)
 
-  many_rules : (inside : ℕ) (ks : List ℕ) → length (rule_items inside ks) ≡ length ks
+  many_rules : (inside : ℕ) (ks : List ℕ) → length (body_rule_items inside ks) ≡ length ks
   many_rules inside [] = refl
   many_rules inside (k ∷ ks) = let e = many_rules inside ks in omega (arith, e)
 
@@ -95,12 +94,12 @@ module _ (s : BodyNames) where
     many_items : (inside next : ℕ) (h : Head) → length (flat_body s inside next h) ≤ head_number h
     many_items inside next (head leaves hs cs rcs rs) =
         let r = rule_context_items s inside rcs in
-        let q = rule_items inside rs ++ r in
+        let q = body_rule_items inside rs ++ r in
         let p = context_items s inside cs ++ q in
-        let a = length-append (leaf_items s inside leaves) (flat_bodies s inside next hs ++ p) in
+        let a = length-append (body_leaf_items s inside leaves) (flat_bodies s inside next hs ++ p) in
         let b = length-append (flat_bodies s inside next hs) p in
         let c = length-append (context_items s inside cs) q in
-        let d = length-append (rule_items inside rs) r in
+        let d = length-append (body_rule_items inside rs) r in
         let e = many_leaves inside leaves in
         let f = many_contexts inside cs in
         let g = many_rules inside rs in
@@ -133,21 +132,21 @@ module _ (s : BodyNames) where
   typed_few inside None v x rest r = r
   typed_few inside (Some g) v x rest r = r
 
-  leaves_few : (inside : ℕ) (ls : List Leaf) (rest : List BodyItem) → AllByRecursion HasFewLinks ls → AllFew rest → AllFew (leaf_items s inside ls ++ rest)
+  leaves_few : (inside : ℕ) (ls : List Leaf) (rest : List BodyItem) → AllByRecursion HasFewLinks ls → AllFew rest → AllFew (body_leaf_items s inside ls ++ rest)
   leaves_few inside [] rest few r = r
   leaves_few inside (leaf.Atom f os p ∷ ls) rest few r =
-      atom_few inside (same_functor f connector) f (map (λ o. o.link) os) (leaf_items s inside ls ++ rest) (let e = as_many os in let k = few.0 in omega (arith, e, k)) (leaves_few inside ls rest few.1 r)
+      atom_few inside (same_functor f connector) f (map (λ o. o.link) os) (body_leaf_items s inside ls ++ rest) (let e = as_many os in let k = few.0 in omega (arith, e, k)) (leaves_few inside ls rest few.1 r)
     where
       as_many : (os : List Occ) → length (map (λ o. o.link) os) ≡ length os
       as_many [] = refl
       as_many (o ∷ os) = let e = as_many os in omega (arith, e)
-  leaves_few inside (leaf.Typed n o p ∷ ls) rest few r = typed_few inside (s.part n) (s.integer n) o.link (leaf_items s inside ls ++ rest) (leaves_few inside ls rest few.1 r)
+  leaves_few inside (leaf.Typed n o p ∷ ls) rest few r = typed_few inside (s.part n) (s.integer n) o.link (body_leaf_items s inside ls ++ rest) (leaves_few inside ls rest few.1 r)
 
   contexts_few : (inside : ℕ) (us : List CtxUse) (rest : List BodyItem) → AllFew rest → AllFew (context_items s inside us ++ rest)
   contexts_few inside [] rest r = r
   contexts_few inside (u ∷ us) rest r = contexts_few inside us rest r
 
-  rules_few : (inside : ℕ) (ks : List ℕ) (rest : List BodyItem) → AllFew rest → AllFew (rule_items inside ks ++ rest)
+  rules_few : (inside : ℕ) (ks : List ℕ) (rest : List BodyItem) → AllFew rest → AllFew (body_rule_items inside ks ++ rest)
   rules_few inside [] rest r = r
   rules_few inside (k ∷ ks) rest r = rules_few inside ks rest r
 
@@ -165,14 +164,6 @@ few_append (Membrane inside ∷ xs) ys h g = few_append xs ys h g
 few_append (Rest of inside ∷ xs) ys h g = few_append xs ys h g
 few_append (Rule rule inside ∷ xs) ys h g = few_append xs ys h g
 few_append (Rules of inside ∷ xs) ys h g = few_append xs ys h g
-
-all_front : {X : Type 0} (P : X → Type 0) (xs ys : List X) → AllByRecursion P (xs ++ ys) → AllByRecursion P xs
-all_front P [] ys h = tt
-all_front P (x ∷ xs) ys h = (h.0, all_front P xs ys h.1)
-
-all_back : {X : Type 0} (P : X → Type 0) (xs ys : List X) → AllByRecursion P (xs ++ ys) → AllByRecursion P ys
-all_back P [] ys h = h
-all_back P (x ∷ xs) ys h = all_back P xs ys h.1
 
 module _ (s : BodyNames) where
   mutual
@@ -193,14 +184,6 @@ module _ (s : BodyNames) where
   all_few k l few = subst AllFew (sym (items_flat s k l)) (body_few 0 (1 + k) (head_at l) (subst (AllByRecursion HasFewLinks) (same_leaves l) few))
 
 -- ---- links have numbers
-
-pub below_front : (n : ℕ) (xs ys : List ℕ) → AllBelow n (xs ++ ys) → AllBelow n xs
-below_front n [] ys h = tt
-below_front n (x ∷ xs) ys h = (h.0, below_front n xs ys h.1)
-
-pub below_back : (n : ℕ) (xs ys : List ℕ) → AllBelow n (xs ++ ys) → AllBelow n ys
-below_back n [] ys h = h
-below_back n (x ∷ xs) ys h = below_back n xs ys h.1
 
 -- items whose atoms have few links, and whose links are below a number
 body_fits : (n : ℕ) (xs : List BodyItem) → AllFew xs → AllBelow n (body_links xs) → BodyFits n xs
@@ -226,11 +209,11 @@ links_fit s k top body n few numbers =
     body_fits n (body_items s k body) (all_few s k body few)
     (subst (AllBelow n) (sym (links_kept s k body)) (below_front n (links_of body) [] (below_back n (links_of top) (links_of body ++ []) (numbers_below 0 n _ numbers).2)))
 
-occurrences_few : (ls : List Leaf) → AllByRecursion HasFewLinks ls → length (map (λ o. o.link) (flat_map leaf_occurrences ls)) ≤ 256 * length ls
+occurrences_few : (ls : List Leaf) → AllByRecursion HasFewLinks ls → length (map (λ o. o.link) (flat_map occurrences_of_leaf ls)) ≤ 256 * length ls
 occurrences_few [] few = omega arith
 occurrences_few (leaf.Atom f os p ∷ ls) few =
-    let a = ap length (map-append (λ (o : Occ). o.link) os (flat_map leaf_occurrences ls)) in
-    let b = length-append (map (λ (o : Occ). o.link) os) (map (λ (o : Occ). o.link) (flat_map leaf_occurrences ls)) in
+    let a = ap length (map-append (λ (o : Occ). o.link) os (flat_map occurrences_of_leaf ls)) in
+    let b = length-append (map (λ (o : Occ). o.link) os) (map (λ (o : Occ). o.link) (flat_map occurrences_of_leaf ls)) in
     let c = as_many os in
     let d = few.0 in
     let e = occurrences_few ls few.1 in
@@ -267,36 +250,8 @@ mutual
   sizes_many (head_and h hs) = let a = size_many h in let b = sizes_many hs in omega (arith, a, b)
 
 -- a level has no more membranes than items
-pub size_few : (s : BodyNames) (l : Level) → (unnumbered s l).size ≤ number_of_items l
+pub size_few : (s : BodyNames) (l : Level) → (unnumbered_body s l).size ≤ number_of_items l
 size_few s l = let a = same_size s l in let b = size_many (head_at l) in let c = same_number l in omega (arith, a, b, c)
-
--- and so has a flat head
-module _ (kind : ℕ → TypeKind) where
-  pub head_size : (l : Level) → (solid.unnumbered kind l).size ≤ number_of_items l
-  head_size l = let a = trees.same_size kind l in let b = size_many (head_at l) in let c = same_number l in omega (arith, a, b, c)
-
-  head_leaves_many : (inside : ℕ) (ls : List Leaf) → length (solid.leaf_items kind inside ls) ≡ length ls
-  head_leaves_many inside [] = refl
-  head_leaves_many inside (l ∷ ls) = let e = head_leaves_many inside ls in omega (arith, e)
-
-  mutual
-    head_many : (inside next : ℕ) (h : Head) → length (flat_items kind inside next h) ≤ head_number h
-    head_many inside next (head leaves hs cs rcs rs) =
-        let a = length-append (solid.leaf_items kind inside leaves) (flat_membranes kind inside next hs) in
-        let b = head_leaves_many inside leaves in
-        let c = heads_many inside next hs in
-        omega (arith, a, b, c)
-
-    heads_many : (inside next : ℕ) (hs : Heads) → length (flat_membranes kind inside next hs) ≤ heads_length hs + heads_number hs
-    heads_many inside next no_head = omega arith
-    heads_many inside next (head_and h hs) =
-        let a = length-append (flat_items kind next (next + 1) h) (flat_membranes kind inside (next + 1 + size h) hs) in
-        let b = head_many next (next + 1) h in
-        let c = heads_many inside (next + 1 + size h) hs in
-        omega (arith, a, b, c)
-
-  pub head_items_few : (l : Level) → length (solid.items_of kind l) ≤ number_of_items l
-  head_items_few l = let a = ap length (trees.items_flat kind l) in let b = head_many 0 1 (head_at l) in let c = same_number l in omega (arith, a, b, c)
 
 -- a rule has no more links than occurrences of links
 pub links_counted : (top body : Level) (n : ℕ) → NumbersLinks (flat_map links_of (top ∷ (body ∷ []))) n → n ≤ length (links_of top) + length (links_of body)

@@ -3,11 +3,11 @@ use Rattle.std.proofs.Common.{ℕ, ◌+◌, ◌<◌, ◌==◌, Bool, true, false
 use Rattle.std.specs.Prelude.{if◌then◌else◌}
 use Rattle.lmn_solid.specs.declared.items.HeadItem.{HeadItem}
 use Rattle.lmn_solid.specs.declared.items.HeadItem.TheVariants as head
-use Rattle.lmn_solid.specs.Heads.{Occurrence, atoms_of, at_ports, at_atoms, links_of, times}
+use Rattle.lmn_solid.specs.Heads.{Occurrence, atoms_of, at_ports, at_atoms, links_of_head, times}
 use Rattle.lmn_body.specs.declared.items.BodyItem.{BodyItem}
 use Rattle.lmn_body.specs.declared.items.BodyItem.TheVariants.{Atom, Connector, Copy, Bound, Membrane, Rest, Rule, Rules}
-use Rattle.lmn_body.specs.Items.{port_at, ports_from, new_ports, once_in, old_ports, connectors}
-use Rattle.lmn_compile_head.specs.Tables.{AllBelow, Fits}
+use Rattle.lmn_body.specs.Items.{port_at, new_ports_from, new_ports, once_in, old_ports, connectors}
+use Rattle.lmn_compile_head.specs.Tables.{AllBelow, HeadFits}
 use Rattle.lmn_classes.specs.Tables.{PairsBelow, LinksBelow}
 use Rattle.lmn_compile_body.specs.Tables.{BodyFits, AllFew}
 
@@ -37,13 +37,13 @@ below_append : {P : Type 0} (n : ℕ) (xs ys : List (P × ℕ)) → LinksBelow n
 below_append n [] ys h g = g
 below_append n (x ∷ xs) ys h g = (h.0, below_append n xs ys h.1 g)
 
-ports_below : (n a i : ℕ) (xs : List ℕ) → AllBelow n xs → LinksBelow n (ports_from a i xs)
+ports_below : (n a i : ℕ) (xs : List ℕ) → AllBelow n xs → LinksBelow n (new_ports_from a i xs)
 ports_below n a i [] h = h
 ports_below n a i (x ∷ xs) h = (h.0, ports_below n a (i + 1) xs h.1)
 
 pub new_below : (n a c : ℕ) (xs : List BodyItem) → BodyFits n xs → LinksBelow n (new_ports a c xs)
 new_below n a c [] h = h
-new_below n a c (Atom functor links inside ∷ xs) h = below_append n (ports_from a 0 links) (new_ports (a + 1) c xs) (ports_below n a 0 links h.1) (new_below n (a + 1) c xs h.2)
+new_below n a c (Atom functor links inside ∷ xs) h = below_append n (new_ports_from a 0 links) (new_ports (a + 1) c xs) (ports_below n a 0 links h.1) (new_below n (a + 1) c xs h.2)
 new_below n a c (Connector left right ∷ xs) h = new_below n a c xs h.2
 new_below n a c (Copy part link inside ∷ xs) h = (h.0, new_below n a (c + 1) xs h.1)
 new_below n a c (Bound integer link inside ∷ xs) h = (h.0, new_below n (a + 1) c xs h.1)
@@ -65,7 +65,7 @@ at_ports_below : (n a i : ℕ) (xs : List ℕ) → AllBelow n xs → PlacesBelow
 at_ports_below n a i [] h = h
 at_ports_below n a i (x ∷ xs) h = (h.0, at_ports_below n a (i + 1) xs h.1)
 
-at_atoms_below : (n a : ℕ) (xs : List HeadItem) → Fits n xs → PlacesBelow n (at_atoms a (atoms_of xs))
+at_atoms_below : (n a : ℕ) (xs : List HeadItem) → HeadFits n xs → PlacesBelow n (at_atoms a (atoms_of xs))
 at_atoms_below n a [] h = h
 at_atoms_below n a (head.Atom functor links inside ∷ xs) h = places_append n (at_ports a 0 links) (at_atoms (a + 1) (atoms_of xs)) (at_ports_below n a 0 links h.1) (at_atoms_below n (a + 1) xs h.2)
 at_atoms_below n a (head.Typed name kind link inside ∷ xs) h = at_atoms_below n a xs h.1
@@ -79,5 +79,5 @@ once_below n xs (o ∷ os) h = by (times o.link xs == 1) (once_below n xs os h.1
     by true g = (h.0, g)
     by false g = g
 
-pub old_below : (n : ℕ) (xs : List HeadItem) → Fits n xs → LinksBelow n (old_ports xs)
-old_below n xs h = once_below n (links_of xs) (at_atoms 0 (atoms_of xs)) (at_atoms_below n 0 xs h)
+pub old_below : (n : ℕ) (xs : List HeadItem) → HeadFits n xs → LinksBelow n (old_ports xs)
+old_below n xs h = once_below n (links_of_head xs) (at_atoms 0 (atoms_of xs)) (at_atoms_below n 0 xs h)

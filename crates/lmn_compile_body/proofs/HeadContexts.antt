@@ -24,34 +24,34 @@ use Rattle.lmn_solid.specs.Heads.{HeadMembrane, membrane_of, membranes_of}
 use Rattle.lmn_solid.specs.Flattening.{leaf_items, has_some}
 use Rattle.lmn_solid.specs.declared.items.HeadItem.{HeadItem}
 use Rattle.lmn_solid.proofs.HeadTrees.{Head, Heads, head, no_head, head_and, heads, head_at, head_step, size, sizes, flat_membranes, head_uses, heads_uses}
-use Rattle.lmn_splice.specs.Splice as splice
-use Rattle.lmn_splice.specs.Splice.{In, Distinct, often}
-use Rattle.lmn_splice.proofs.ClassLemmas.{often_append, one_same}
+use Rattle.lmn_splice.specs.Splice.{IsOneOf, NoneTwice}
 use Rattle.lmn_body.proofs.Firing.{in_often}
-use Rattle.lmn_body.proofs.HeadPorts.{in_append, in_front, in_back, in_map}
-use Rattle.lmn_body.specs.Flattening.{Numbered, names_inside, names_below, numbering, membrane_named}
+use Rattle.lmn_body.proofs.HeadPorts.{in_map, of_map as from_map}
+use Rattle.lmn_body.specs.Flattening.{NumberedContexts, names_inside, names_below, numbering, membrane_named}
+use Rattle.lmn_congruence.specs.Links.{places, one_if_same}
+use Rattle.lmn_congruence.proofs.Counts.{one_if_equal as one_same}
+use Rattle.lmn_congruence.proofs.TranslatedLinks.{places_append as often_append}
+use Rattle.lmn_splice.proofs.Common.{in_append, in_back, in_front}
+use Rattle.lmn_body.proofs.Numbered.{leaves_none}
+use Rattle.lmn_compile_head.proofs.HeadLeaves.{all_membranes}
+use Rattle.lmn_base.specs.Names.{context_names}
 
 -- ---- lists
 
-pub contained : {X : Type 0} (x : X) (xs : List X) → In x xs → Contains xs x
+pub contained : {X : Type 0} (x : X) (xs : List X) → IsOneOf x xs → Contains xs x
 contained x [] i = absurd i
 contained x (y ∷ xs) (inl e) = (0, omega arith, e)
 contained x (y ∷ xs) (inr i) = let r = contained x xs i in let w = r.1 in (suc r.0, omega (arith, w), r.2)
 
-pub is_in : {X : Type 0} (x : X) (xs : List X) → Contains xs x → In x xs
+pub is_in : {X : Type 0} (x : X) (xs : List X) → Contains xs x → IsOneOf x xs
 is_in x [] (k, within, e) = absurd (omega (arith, within))
 is_in x (y ∷ xs) (zero, within, e) = inl e
 is_in x (y ∷ xs) (suc k, within, e) = inr (is_in x xs (k, omega (arith, within), e))
 
-pub from_map : {X Y : Type 0} (f : X → Y) (y : Y) (xs : List X) → In y (map f xs) → (x : X) × In x xs × (f x ≡ y)
-from_map f y [] i = absurd i
-from_map f y (x ∷ xs) (inl e) = (x, inl refl, e)
-from_map f y (x ∷ xs) (inr i) = let r = from_map f y xs i in (r.0, inr r.1, r.2)
-
-pub distinct_map : (f : ℕ → ℕ) (xs : List ℕ) → Distinct xs → ((x y : ℕ) → In x xs → In y xs → f x ≡ f y → x ≡ y) → Distinct (map f xs)
+pub distinct_map : (f : ℕ → ℕ) (xs : List ℕ) → NoneTwice xs → ((x y : ℕ) → IsOneOf x xs → IsOneOf y xs → f x ≡ f y → x ≡ y) → NoneTwice (map f xs)
 distinct_map f [] d one = tt
 distinct_map f (x ∷ xs) d one = (
-  λ i. (let r = from_map f (f x) xs i in d.0 (subst (λ z. In z xs) (one r.0 x (inr r.1) (inl refl) r.2) r.1)),
+  λ i. (let r = from_map f (f x) xs i in d.0 (subst (λ z. IsOneOf z xs) (one r.0 x (inr r.1) (inl refl) r.2) r.1)),
   distinct_map f xs d.1 (λ y z i j. one y z (inr i) (inr j)),
 )
 
@@ -66,10 +66,10 @@ module _ (pick : List CtxUse → List CtxUse → List CtxUse) where
     heads_names next no_head = []
     heads_names next (head_and h hs) = head_names next (next + 1) h ++ heads_names (next + 1 + size h) hs
 
-  abbrev named : Level → Numbered
+  abbrev named : Level → NumberedContexts
   named = numbering (λ l. pick l.contexts l.rule_contexts)
 
-  abbrev by_tree : Head → Numbered
+  abbrev by_tree : Head → NumberedContexts
   by_tree h = record { names = λ inside next. head_names inside next h; size = size h }
 
   abbrev AsNamed : Level → Type 0
@@ -91,7 +91,7 @@ module _ (pick : List CtxUse → List CtxUse → List CtxUse) where
   as_named = ind-Level AsNamed (λ y z is.
       let inside = subst (λ l. map named l.membranes ≡ map by_tree (map head_at l.membranes)) is (named_all z.membranes) in
       rw (
-        fold-roll-Level Numbered (λ l. record {
+        fold-roll-Level NumberedContexts (λ l. record {
           names = λ inside next. names_inside inside (pick l.contexts l.rule_contexts) ++ names_below next l.membranes;
           size = sum (map (λ m. 1 + m.size) l.membranes);
         }) y,
@@ -105,15 +105,15 @@ module _ (pick : List CtxUse → List CtxUse → List CtxUse) where
 
   -- the names with their membranes are those of the tree
   pub names_are : (l : Level) → (named l).names 0 1 ≡ head_names 0 1 (head_at l)
-  names_are l = ap (λ (n : Numbered). n.names 0 1) (as_named l)
+  names_are l = ap (λ (n : NumberedContexts). n.names 0 1) (as_named l)
 
-  own_number : (inside : ℕ) (us : List CtxUse) (e : ℕ × ℕ) → In e (names_inside inside us) → e.1 ≡ inside
+  own_number : (inside : ℕ) (us : List CtxUse) (e : ℕ × ℕ) → IsOneOf e (names_inside inside us) → e.1 ≡ inside
   own_number inside [] e i = absurd i
   own_number inside (u ∷ us) e (inl q) = sym (ap (λ (p : ℕ × ℕ). p.1) q)
   own_number inside (u ∷ us) e (inr i) = own_number inside us e i
 
   -- the numbers of the membranes in a level
-  pub in_range : (next : ℕ) (hs : Heads) (e : ℕ × ℕ) → In e (heads_names next hs) → (next ≤ e.1) × (e.1 < next + sizes hs)
+  pub in_range : (next : ℕ) (hs : Heads) (e : ℕ × ℕ) → IsOneOf e (heads_names next hs) → (next ≤ e.1) × (e.1 < next + sizes hs)
   in_range next no_head e i = absurd i
   in_range next (head_and (head leaves hs cs rcs rs) more) e i = elim (in_append e (names_inside next (pick cs rcs) ++ heads_names (next + 1) hs) (heads_names (next + 1 + sizes hs) more) i) [
     | inl j ↦ elim (in_append e (names_inside next (pick cs rcs)) (heads_names (next + 1) hs) j) [
@@ -128,7 +128,7 @@ module _ (pick : List CtxUse → List CtxUse → List CtxUse) where
   AtMostOne no_head = Unit {0}
   AtMostOne (head_and (head leaves hs cs rcs rs) more) = (length (pick cs rcs) ≤ 1) × AtMostOne hs × AtMostOne more
 
-  one_own : (inside : ℕ) (us : List CtxUse) (e f : ℕ × ℕ) → length us ≤ 1 → In e (names_inside inside us) → In f (names_inside inside us) → e ≡ f
+  one_own : (inside : ℕ) (us : List CtxUse) (e f : ℕ × ℕ) → length us ≤ 1 → IsOneOf e (names_inside inside us) → IsOneOf f (names_inside inside us) → e ≡ f
   one_own inside [] e f few i j = absurd i
   one_own inside (u ∷ []) e f few (inl p) (inl q) = sym p ∙ q
   one_own inside (u ∷ []) e f few (inl p) (inr j) = absurd j
@@ -136,22 +136,22 @@ module _ (pick : List CtxUse → List CtxUse → List CtxUse) where
   one_own inside (u ∷ (v ∷ us)) e f few i j = absurd (omega (arith, few))
 
   abbrev Place : ℕ → List CtxUse → Heads → Heads → ℕ × ℕ → Type 0
-  Place next us hs more g = In g (names_inside next us) ⊎ (In g (heads_names (next + 1) hs) ⊎ In g (heads_names (next + 1 + sizes hs) more))
+  Place next us hs more g = IsOneOf g (names_inside next us) ⊎ (IsOneOf g (heads_names (next + 1) hs) ⊎ IsOneOf g (heads_names (next + 1 + sizes hs) more))
 
   -- so one membrane has one name
-  pub one_each : (next : ℕ) (hs : Heads) (e f : ℕ × ℕ) → AtMostOne hs → In e (heads_names next hs) → In f (heads_names next hs) → e.1 ≡ f.1 → e ≡ f
+  pub one_each : (next : ℕ) (hs : Heads) (e f : ℕ × ℕ) → AtMostOne hs → IsOneOf e (heads_names next hs) → IsOneOf f (heads_names next hs) → e.1 ≡ f.1 → e ≡ f
   one_each next no_head e f few i j q = absurd i
   one_each next (head_and (head leaves hs cs rcs rs) more) e f few i j q =
       by (one_each (next + 1) hs e f few.1) (one_each (next + 1 + sizes hs) more e f few.2) (place e i) (place f j)
     where
-      place : (g : ℕ × ℕ) → In g ((names_inside next (pick cs rcs) ++ heads_names (next + 1) hs) ++ heads_names (next + 1 + sizes hs) more) → Place next (pick cs rcs) hs more g
+      place : (g : ℕ × ℕ) → IsOneOf g ((names_inside next (pick cs rcs) ++ heads_names (next + 1) hs) ++ heads_names (next + 1 + sizes hs) more) → Place next (pick cs rcs) hs more g
       place g i = elim (in_append g (names_inside next (pick cs rcs) ++ heads_names (next + 1) hs) (heads_names (next + 1 + sizes hs) more) i) [
         | inl j ↦ elim (in_append g (names_inside next (pick cs rcs)) (heads_names (next + 1) hs) j) [ inl k ↦ inl k | inr k ↦ inr (inl k) ]
         | inr j ↦ inr (inr j)
       ]
 
-      by : (In e (heads_names (next + 1) hs) → In f (heads_names (next + 1) hs) → e.1 ≡ f.1 → e ≡ f) →
-          (In e (heads_names (next + 1 + sizes hs) more) → In f (heads_names (next + 1 + sizes hs) more) → e.1 ≡ f.1 → e ≡ f) → Place next (pick cs rcs) hs more e → Place next (pick cs rcs) hs more f → e ≡ f
+      by : (IsOneOf e (heads_names (next + 1) hs) → IsOneOf f (heads_names (next + 1) hs) → e.1 ≡ f.1 → e ≡ f) →
+          (IsOneOf e (heads_names (next + 1 + sizes hs) more) → IsOneOf f (heads_names (next + 1 + sizes hs) more) → e.1 ≡ f.1 → e ≡ f) → Place next (pick cs rcs) hs more e → Place next (pick cs rcs) hs more f → e ≡ f
       by inside behind (inl a) (inl b) = one_own next (pick cs rcs) e f few.0 a b
       by inside behind (inl a) (inr (inl b)) = let x = own_number next (pick cs rcs) e a in let y = (in_range (next + 1) hs f b).0 in absurd (omega (arith, x, y, q))
       by inside behind (inl a) (inr (inr b)) = let x = own_number next (pick cs rcs) e a in let y = (in_range (next + 1 + sizes hs) more f b).0 in absurd (omega (arith, x, y, q))
@@ -163,11 +163,11 @@ module _ (pick : List CtxUse → List CtxUse → List CtxUse) where
       by inside behind (inr (inr a)) (inr (inr b)) = behind a b q
 
 -- a name of a list is found in it
-pub named_there : (es : List (ℕ × ℕ)) (x : ℕ) → In x (map (λ e. e.0) es) → In (x, membrane_named es x) es
+pub named_there : (es : List (ℕ × ℕ)) (x : ℕ) → IsOneOf x (map (λ e. e.0) es) → IsOneOf (x, membrane_named es x) es
 named_there [] x i = absurd i
 named_there (e ∷ es) x i = elim (cases_eq e.0 x) [
   | inl q ↦ inl ((λ i. (q i, e.1)) ∙ ap (λ b. (x, if b then e.1 else membrane_named es x)) (sym ((Decides-eqb e.0 x).1 q)))
-  | inr d ↦ inr (subst (λ b. In (x, if b then e.1 else membrane_named es x) es) (sym (off e.0 x d)) (named_there es x (elim i [ inl q ↦ absurd (d q) | inr j ↦ j ])))
+  | inr d ↦ inr (subst (λ b. IsOneOf (x, if b then e.1 else membrane_named es x) es) (sym (off e.0 x d)) (named_there es x (elim i [ inl q ↦ absurd (d q) | inr j ↦ j ])))
 ]
   where
     off : (a b : ℕ) → a ≢ b → (a == b) ≡ false
@@ -178,7 +178,7 @@ named_there (e ∷ es) x i = elim (cases_eq e.0 x) [
         by false e = e
 
 -- a name that stands once has one entry
-pub one_entry : (es : List (ℕ × ℕ)) (x m n : ℕ) → often x (map (λ e. e.0) es) ≤ 1 → In (x, m) es → In (x, n) es → m ≡ n
+pub one_entry : (es : List (ℕ × ℕ)) (x m n : ℕ) → places x (map (λ e. e.0) es) ≤ 1 → IsOneOf (x, m) es → IsOneOf (x, n) es → m ≡ n
 one_entry [] x m n few i j = absurd i
 one_entry (e ∷ es) x m n few (inl p) (inl q) = ap (λ (k : ℕ × ℕ). k.1) (sym p ∙ q)
 one_entry (e ∷ es) x m n few (inl p) (inr j) =
@@ -202,9 +202,6 @@ of_rules cs rcs = rcs
 abbrev pub firsts : List (ℕ × ℕ) → List ℕ
 firsts es = map (λ e. e.0) es
 
-abbrev pub names : List CtxUse → List ℕ
-names us = map (λ u. u.name) us
-
 abbrev own_uses : List Leaf → List CtxUse → List CtxUse → List ℕ → List Item
 own_uses leaves cs rcs rs = map leaf_item leaves ++ (map (used Bare) cs ++ (map item.RuleContext rcs ++ map item.Rule rs))
 
@@ -219,11 +216,11 @@ leaf_rule (leaf.Typed x o p) u e = absurd (cc)
 pub not_both : Typed ≡ Bare → ⊥
 not_both e = absurd (cc)
 
-own_bare : (leaves : List Leaf) (cs rcs : List CtxUse) (rs : List ℕ) (u : FormedUse) → In (item.Context u) (own_uses leaves cs rcs rs) → u.form ≡ Bare → In u.name (names cs)
+own_bare : (leaves : List Leaf) (cs rcs : List CtxUse) (rs : List ℕ) (u : FormedUse) → IsOneOf (item.Context u) (own_uses leaves cs rcs rs) → u.form ≡ Bare → IsOneOf u.name (context_names cs)
 own_bare leaves cs rcs rs u i bare = elim (in_append (item.Context u) (map leaf_item leaves) (map (used Bare) cs ++ (map item.RuleContext rcs ++ map item.Rule rs)) i) [
   | inl j ↦ (let r = from_map leaf_item (item.Context u) leaves j in absurd (not_both (sym (leaf_typed r.0 u r.2) ∙ bare)))
   | inr j ↦ elim (in_append (item.Context u) (map (used Bare) cs) (map item.RuleContext rcs ++ map item.Rule rs) j) [
-    | inl k ↦ (let r = from_map (used Bare) (item.Context u) cs k in subst (λ x. In x (names cs)) (named r.0 r.2) (in_map (λ (c : CtxUse). c.name) r.0 cs r.1))
+    | inl k ↦ (let r = from_map (used Bare) (item.Context u) cs k in subst (λ x. IsOneOf x (context_names cs)) (named r.0 r.2) (in_map (λ (c : CtxUse). c.name) r.0 cs r.1))
     | inr k ↦ elim (in_append (item.Context u) (map item.RuleContext rcs) (map item.Rule rs) k) [
       | inl l ↦ (let r = from_map item.RuleContext (item.Context u) rcs l in absurd (rule_context r.0 r.2))
       | inr l ↦ (let r = from_map item.Rule (item.Context u) rs l in absurd (rule r.0 r.2))
@@ -240,13 +237,13 @@ own_bare leaves cs rcs rs u i bare = elim (in_append (item.Context u) (map leaf_
     rule : (k : ℕ) → item.Rule k ≡ item.Context u → ⊥
     rule k e = absurd (cc)
 
-own_of_rules : (leaves : List Leaf) (cs rcs : List CtxUse) (rs : List ℕ) (u : CtxUse) → In (item.RuleContext u) (own_uses leaves cs rcs rs) → In u.name (names rcs)
+own_of_rules : (leaves : List Leaf) (cs rcs : List CtxUse) (rs : List ℕ) (u : CtxUse) → IsOneOf (item.RuleContext u) (own_uses leaves cs rcs rs) → IsOneOf u.name (context_names rcs)
 own_of_rules leaves cs rcs rs u i = elim (in_append (item.RuleContext u) (map leaf_item leaves) (map (used Bare) cs ++ (map item.RuleContext rcs ++ map item.Rule rs)) i) [
   | inl j ↦ (let r = from_map leaf_item (item.RuleContext u) leaves j in absurd (leaf_rule r.0 u r.2))
   | inr j ↦ elim (in_append (item.RuleContext u) (map (used Bare) cs) (map item.RuleContext rcs ++ map item.Rule rs) j) [
     | inl k ↦ (let r = from_map (used Bare) (item.RuleContext u) cs k in absurd (context r.0 r.2))
     | inr k ↦ elim (in_append (item.RuleContext u) (map item.RuleContext rcs) (map item.Rule rs) k) [
-      | inl l ↦ (let r = from_map item.RuleContext (item.RuleContext u) rcs l in subst (λ x. In x (names rcs)) (named r.0 r.2) (in_map (λ (c : CtxUse). c.name) r.0 rcs r.1))
+      | inl l ↦ (let r = from_map item.RuleContext (item.RuleContext u) rcs l in subst (λ x. IsOneOf x (context_names rcs)) (named r.0 r.2) (in_map (λ (c : CtxUse). c.name) r.0 rcs r.1))
       | inr l ↦ (let r = from_map item.Rule (item.RuleContext u) rs l in absurd (rule r.0 r.2))
     ]
   ]
@@ -262,21 +259,21 @@ own_of_rules leaves cs rcs rs u i = elim (in_append (item.RuleContext u) (map le
     rule k e = absurd (cc)
 
 -- a name that stands in a part of a list of entries stands in the list
-front_name : (x : ℕ) (es fs : List (ℕ × ℕ)) → In x (firsts es) → In x (firsts (es ++ fs))
-front_name x es fs i = subst (In x) (sym (map-append (λ (e : ℕ × ℕ). e.0) es fs)) (in_front x (firsts es) (firsts fs) i)
+front_name : (x : ℕ) (es fs : List (ℕ × ℕ)) → IsOneOf x (firsts es) → IsOneOf x (firsts (es ++ fs))
+front_name x es fs i = subst (IsOneOf x) (sym (map-append (λ (e : ℕ × ℕ). e.0) es fs)) (in_front x (firsts es) (firsts fs) i)
 
-back_name : (x : ℕ) (es fs : List (ℕ × ℕ)) → In x (firsts fs) → In x (firsts (es ++ fs))
-back_name x es fs i = subst (In x) (sym (map-append (λ (e : ℕ × ℕ). e.0) es fs)) (in_back x (firsts es) (firsts fs) i)
+back_name : (x : ℕ) (es fs : List (ℕ × ℕ)) → IsOneOf x (firsts fs) → IsOneOf x (firsts (es ++ fs))
+back_name x es fs i = subst (IsOneOf x) (sym (map-append (λ (e : ℕ × ℕ). e.0) es fs)) (in_back x (firsts es) (firsts fs) i)
 
 mutual
   -- an untyped context that is used in a head has a membrane there
-  pub has_name : (inside next : ℕ) (h : Head) (u : FormedUse) → In (item.Context u) (head_uses h) → u.form ≡ Bare → In u.name (firsts (head_names untyped inside next h))
+  pub has_name : (inside next : ℕ) (h : Head) (u : FormedUse) → IsOneOf (item.Context u) (head_uses h) → u.form ≡ Bare → IsOneOf u.name (firsts (head_names untyped inside next h))
   has_name inside next (head leaves hs cs rcs rs) u i bare = elim (in_append (item.Context u) (own_uses leaves cs rcs rs) (heads_uses hs) i) [
-    | inl j ↦ front_name u.name (names_inside inside cs) (heads_names untyped next hs) (subst (In u.name) (sym (own_names inside cs)) (own_bare leaves cs rcs rs u j bare))
+    | inl j ↦ front_name u.name (names_inside inside cs) (heads_names untyped next hs) (subst (IsOneOf u.name) (sym (own_names inside cs)) (own_bare leaves cs rcs rs u j bare))
     | inr j ↦ back_name u.name (names_inside inside cs) (heads_names untyped next hs) (have_name next hs u j bare)
   ]
 
-  have_name : (next : ℕ) (hs : Heads) (u : FormedUse) → In (item.Context u) (heads_uses hs) → u.form ≡ Bare → In u.name (firsts (heads_names untyped next hs))
+  have_name : (next : ℕ) (hs : Heads) (u : FormedUse) → IsOneOf (item.Context u) (heads_uses hs) → u.form ≡ Bare → IsOneOf u.name (firsts (heads_names untyped next hs))
   have_name next no_head u i bare = absurd i
   have_name next (head_and h hs) u i bare = elim (in_append (item.Context u) (head_uses h) (heads_uses hs) i) [
     | inl j ↦ front_name u.name (head_names untyped next (next + 1) h) (heads_names untyped (next + 1 + size h) hs) (has_name next (next + 1) h u j bare)
@@ -285,13 +282,13 @@ mutual
 
 mutual
   -- and so has a rule context
-  pub has_rule_name : (inside next : ℕ) (h : Head) (u : CtxUse) → In (item.RuleContext u) (head_uses h) → In u.name (firsts (head_names of_rules inside next h))
+  pub has_rule_name : (inside next : ℕ) (h : Head) (u : CtxUse) → IsOneOf (item.RuleContext u) (head_uses h) → IsOneOf u.name (firsts (head_names of_rules inside next h))
   has_rule_name inside next (head leaves hs cs rcs rs) u i = elim (in_append (item.RuleContext u) (own_uses leaves cs rcs rs) (heads_uses hs) i) [
-    | inl j ↦ front_name u.name (names_inside inside rcs) (heads_names of_rules next hs) (subst (In u.name) (sym (own_names inside rcs)) (own_of_rules leaves cs rcs rs u j))
+    | inl j ↦ front_name u.name (names_inside inside rcs) (heads_names of_rules next hs) (subst (IsOneOf u.name) (sym (own_names inside rcs)) (own_of_rules leaves cs rcs rs u j))
     | inr j ↦ back_name u.name (names_inside inside rcs) (heads_names of_rules next hs) (have_rule_name next hs u j)
   ]
 
-  have_rule_name : (next : ℕ) (hs : Heads) (u : CtxUse) → In (item.RuleContext u) (heads_uses hs) → In u.name (firsts (heads_names of_rules next hs))
+  have_rule_name : (next : ℕ) (hs : Heads) (u : CtxUse) → IsOneOf (item.RuleContext u) (heads_uses hs) → IsOneOf u.name (firsts (heads_names of_rules next hs))
   have_rule_name next no_head u i = absurd i
   have_rule_name next (head_and h hs) u i = elim (in_append (item.RuleContext u) (head_uses h) (heads_uses hs) i) [
     | inl j ↦ front_name u.name (head_names of_rules next (next + 1) h) (heads_names of_rules (next + 1 + size h) hs) (has_rule_name next (next + 1) h u j)
@@ -325,27 +322,27 @@ module _ (pick : List CtxUse → List CtxUse → List CtxUse) where
       rw (fold-roll-Level (List CtxUse) (λ l. pick l.contexts l.rule_contexts ++ flat_map (λ inner. inner) l.membranes) y, fold-roll-Level Head head_step y, inside) refl)
 
   -- each is used there, by its item
-  module _ (as_item : CtxUse → Item) (own : (leaves : List Leaf) (cs rcs : List CtxUse) (rs : List ℕ) (u : CtxUse) → In u (pick cs rcs) → In (as_item u) (own_uses leaves cs rcs rs)) where
+  module _ (as_item : CtxUse → Item) (own : (leaves : List Leaf) (cs rcs : List CtxUse) (rs : List ℕ) (u : CtxUse) → IsOneOf u (pick cs rcs) → IsOneOf (as_item u) (own_uses leaves cs rcs rs)) where
     mutual
-      pub is_used : (h : Head) (u : CtxUse) → In u (head_contexts h) → In (as_item u) (head_uses h)
+      pub is_used : (h : Head) (u : CtxUse) → IsOneOf u (head_contexts h) → IsOneOf (as_item u) (head_uses h)
       is_used (head leaves hs cs rcs rs) u i = elim (in_append u (pick cs rcs) (heads_contexts hs) i) [
         | inl j ↦ in_front (as_item u) (own_uses leaves cs rcs rs) (heads_uses hs) (own leaves cs rcs rs u j)
         | inr j ↦ in_back (as_item u) (own_uses leaves cs rcs rs) (heads_uses hs) (are_used hs u j)
       ]
 
-      are_used : (hs : Heads) (u : CtxUse) → In u (heads_contexts hs) → In (as_item u) (heads_uses hs)
+      are_used : (hs : Heads) (u : CtxUse) → IsOneOf u (heads_contexts hs) → IsOneOf (as_item u) (heads_uses hs)
       are_used no_head u i = absurd i
       are_used (head_and h hs) u i = elim (in_append u (head_contexts h) (heads_contexts hs) i) [
         | inl j ↦ in_front (as_item u) (head_uses h) (heads_uses hs) (is_used h u j)
         | inr j ↦ in_back (as_item u) (head_uses h) (heads_uses hs) (are_used hs u j)
       ]
 
-pub context_used : (h : Head) (u : CtxUse) → In u (head_contexts untyped h) → In (used Bare u) (head_uses h)
+pub context_used : (h : Head) (u : CtxUse) → IsOneOf u (head_contexts untyped h) → IsOneOf (used Bare u) (head_uses h)
 context_used = is_used untyped (used Bare) (λ leaves cs rcs rs u i.
     in_back (used Bare u) (map leaf_item leaves) (map (used Bare) cs ++ (map item.RuleContext rcs ++ map item.Rule rs))
     (in_front (used Bare u) (map (used Bare) cs) (map item.RuleContext rcs ++ map item.Rule rs) (in_map (used Bare) u cs i)))
 
-pub rule_context_used : (h : Head) (u : CtxUse) → In u (head_contexts of_rules h) → In (item.RuleContext u) (head_uses h)
+pub rule_context_used : (h : Head) (u : CtxUse) → IsOneOf u (head_contexts of_rules h) → IsOneOf (item.RuleContext u) (head_uses h)
 rule_context_used = is_used of_rules item.RuleContext (λ leaves cs rcs rs u i.
     in_back (item.RuleContext u) (map leaf_item leaves) (map (used Bare) cs ++ (map item.RuleContext rcs ++ map item.Rule rs))
     (in_back (item.RuleContext u) (map (used Bare) cs) (map item.RuleContext rcs ++ map item.Rule rs)
@@ -372,7 +369,7 @@ mapped : {X Y : Type 0} (f : X → Y) (g : Y → List Pos) (xs : List X) → fla
 mapped f g [] = refl
 mapped f g (x ∷ xs) = ap (λ ps. g (f x) ++ ps) (mapped f g xs)
 
-one_place : (x y : ℕ) (p : Pos) → length (if y == x then p ∷ [] else []) ≡ splice.one_if_same x y
+one_place : (x y : ℕ) (p : Pos) → length (if y == x then p ∷ [] else []) ≡ one_if_same x y
 one_place x y p = by (x == y) (y == x) refl refl
   where
     by : (a b : Bool) → (x == y) ≡ a → (y == x) ≡ b → length (if b then p ∷ [] else []) ≡ (if a then 1 else 0)
@@ -388,7 +385,7 @@ one_place x y p = by (x == y) (y == x) refl refl
         off e = absurd (cc)
 
 module _ (x : ℕ) where
-  names_used : (cs : List CtxUse) → length (flat_map (use_of x) (map (used Bare) cs)) ≡ often x (names cs)
+  names_used : (cs : List CtxUse) → length (flat_map (use_of x) (map (used Bare) cs)) ≡ places x (context_names cs)
   names_used [] = refl
   names_used (c ∷ cs) =
       let a = length-append (use_of x (used Bare c)) (flat_map (use_of x) (map (used Bare) cs)) in
@@ -396,7 +393,7 @@ module _ (x : ℕ) where
       let d = names_used cs in
       omega (arith, a, b, d)
 
-  own_used : (leaves : List Leaf) (cs rcs : List CtxUse) (rs : List ℕ) → often x (names cs) ≤ length (flat_map (use_of x) (own_uses leaves cs rcs rs))
+  own_used : (leaves : List Leaf) (cs rcs : List CtxUse) (rs : List ℕ) → places x (context_names cs) ≤ length (flat_map (use_of x) (own_uses leaves cs rcs rs))
   own_used leaves cs rcs rs =
       let a = many_append (use_of x) (map leaf_item leaves) (map (used Bare) cs ++ (map item.RuleContext rcs ++ map item.Rule rs)) in
       let b = many_append (use_of x) (map (used Bare) cs) (map item.RuleContext rcs ++ map item.Rule rs) in
@@ -405,20 +402,20 @@ module _ (x : ℕ) where
 
   mutual
     -- a name has no more membranes than uses
-    pub names_few : (inside next : ℕ) (h : Head) → often x (firsts (head_names untyped inside next h)) ≤ length (flat_map (use_of x) (head_uses h))
+    pub names_few : (inside next : ℕ) (h : Head) → places x (firsts (head_names untyped inside next h)) ≤ length (flat_map (use_of x) (head_uses h))
     names_few inside next (head leaves hs cs rcs rs) =
-        let a = ap (often x) (map-append (λ (e : ℕ × ℕ). e.0) (names_inside inside cs) (heads_names untyped next hs)) in
+        let a = ap (places x) (map-append (λ (e : ℕ × ℕ). e.0) (names_inside inside cs) (heads_names untyped next hs)) in
         let b = often_append x (firsts (names_inside inside cs)) (firsts (heads_names untyped next hs)) in
-        let c = ap (often x) (own_names inside cs) in
+        let c = ap (places x) (own_names inside cs) in
         let d = own_used leaves cs rcs rs in
         let e = many_append (use_of x) (own_uses leaves cs rcs rs) (heads_uses hs) in
         let f = all_names_few next hs in
         omega (arith, a, b, c, d, e, f)
 
-    all_names_few : (next : ℕ) (hs : Heads) → often x (firsts (heads_names untyped next hs)) ≤ length (flat_map (use_of x) (heads_uses hs))
+    all_names_few : (next : ℕ) (hs : Heads) → places x (firsts (heads_names untyped next hs)) ≤ length (flat_map (use_of x) (heads_uses hs))
     all_names_few next no_head = omega arith
     all_names_few next (head_and h hs) =
-        let a = ap (often x) (map-append (λ (e : ℕ × ℕ). e.0) (head_names untyped next (next + 1) h) (heads_names untyped (next + 1 + size h) hs)) in
+        let a = ap (places x) (map-append (λ (e : ℕ × ℕ). e.0) (head_names untyped next (next + 1) h) (heads_names untyped (next + 1 + size h) hs)) in
         let b = often_append x (firsts (head_names untyped next (next + 1) h)) (firsts (heads_names untyped (next + 1 + size h) hs)) in
         let c = names_few next (next + 1) h in
         let d = all_names_few (next + 1 + size h) hs in
@@ -433,7 +430,7 @@ module _ (x : ℕ) where
       by true = refl
       by false = refl
 
-  bare_names : (cs : List CtxUse) → length (flat_map (bare_use x) (map (used Bare) cs)) ≡ often x (names cs)
+  bare_names : (cs : List CtxUse) → length (flat_map (bare_use x) (map (used Bare) cs)) ≡ places x (context_names cs)
   bare_names [] = refl
   bare_names (c ∷ cs) =
       let a = length-append (bare_use x (used Bare c)) (flat_map (bare_use x) (map (used Bare) cs)) in
@@ -445,7 +442,7 @@ module _ (x : ℕ) where
       same true = refl
       same false = refl
 
-  own_bares : (leaves : List Leaf) (cs rcs : List CtxUse) (rs : List ℕ) → length (flat_map (bare_use x) (own_uses leaves cs rcs rs)) ≡ often x (names cs)
+  own_bares : (leaves : List Leaf) (cs rcs : List CtxUse) (rs : List ℕ) → length (flat_map (bare_use x) (own_uses leaves cs rcs rs)) ≡ places x (context_names cs)
   own_bares leaves cs rcs rs =
       let a = many_append (bare_use x) (map leaf_item leaves) (map (used Bare) cs ++ (map item.RuleContext rcs ++ map item.Rule rs)) in
       let b = many_append (bare_use x) (map (used Bare) cs) (map item.RuleContext rcs ++ map item.Rule rs) in
@@ -458,20 +455,20 @@ module _ (x : ℕ) where
 
   mutual
     -- a name stands as often among the untyped contexts of a level as it is used bare
-    pub bare_often : (h : Head) → often x (names (head_contexts untyped h)) ≡ length (flat_map (bare_use x) (head_uses h))
+    pub bare_often : (h : Head) → places x (context_names (head_contexts untyped h)) ≡ length (flat_map (bare_use x) (head_uses h))
     bare_often (head leaves hs cs rcs rs) =
-        let a = ap (often x) (map-append (λ (u : CtxUse). u.name) cs (heads_contexts untyped hs)) in
-        let b = often_append x (names cs) (names (heads_contexts untyped hs)) in
+        let a = ap (places x) (map-append (λ (u : CtxUse). u.name) cs (heads_contexts untyped hs)) in
+        let b = often_append x (context_names cs) (context_names (heads_contexts untyped hs)) in
         let c = own_bares leaves cs rcs rs in
         let d = many_append (bare_use x) (own_uses leaves cs rcs rs) (heads_uses hs) in
         let e = all_bare_often hs in
         omega (arith, a, b, c, d, e)
 
-    all_bare_often : (hs : Heads) → often x (names (heads_contexts untyped hs)) ≡ length (flat_map (bare_use x) (heads_uses hs))
+    all_bare_often : (hs : Heads) → places x (context_names (heads_contexts untyped hs)) ≡ length (flat_map (bare_use x) (heads_uses hs))
     all_bare_often no_head = refl
     all_bare_often (head_and h hs) =
-        let a = ap (often x) (map-append (λ (u : CtxUse). u.name) (head_contexts untyped h) (heads_contexts untyped hs)) in
-        let b = often_append x (names (head_contexts untyped h)) (names (heads_contexts untyped hs)) in
+        let a = ap (places x) (map-append (λ (u : CtxUse). u.name) (head_contexts untyped h) (heads_contexts untyped hs)) in
+        let b = often_append x (context_names (head_contexts untyped h)) (context_names (heads_contexts untyped hs)) in
         let c = bare_often h in
         let d = many_append (bare_use x) (head_uses h) (heads_uses hs) in
         let e = all_bare_often hs in
@@ -508,7 +505,7 @@ few_seconds [] qs e = omega arith
 few_seconds (c ∷ []) qs e = omega arith
 few_seconds (c ∷ (d ∷ cs)) qs e = absurd (cc)
 
-at_most_one : (hs : Heads) → ((ps : List Pos) → In ps (heads_seconds hs) → ps ≡ []) → AtMostOne untyped hs
+at_most_one : (hs : Heads) → ((ps : List Pos) → IsOneOf ps (heads_seconds hs) → ps ≡ []) → AtMostOne untyped hs
 at_most_one no_head none = tt
 at_most_one (head_and (head leaves hs cs rcs rs) more) none = (
   few_seconds cs (behind_the_first rcs) (none (behind_the_first cs ++ behind_the_first rcs) (inl refl)),
@@ -525,7 +522,7 @@ head_out l = fold_out-Level Head head_step l
 
 -- each membrane of a head has at most one untyped context
 pub one_context : (l : Level) → ((ps : List Pos) → Contains (flat_map seconds_by_membrane (out-Level l).membranes) ps → ps ≡ []) → AtMostOne untyped (inner_of l)
-one_context l none = at_most_one (inner_of l) (λ ps i. none ps (contained ps (flat_map seconds_by_membrane (out-Level l).membranes) (subst (In ps) (sym (seconds_within (out-Level l).membranes)) i)))
+one_context l none = at_most_one (inner_of l) (λ ps i. none ps (contained ps (flat_map seconds_by_membrane (out-Level l).membranes) (subst (IsOneOf ps) (sym (seconds_within (out-Level l).membranes)) i)))
 
 -- where none stands at the top, those of a head are those of its membranes
 pub names_inner : (pick : List CtxUse → List CtxUse → List CtxUse) (l : Level) → pick (out-Level l).contexts (out-Level l).rule_contexts ≡ [] → head_names pick 0 1 (head_at l) ≡ heads_names pick 1 (inner_of l)
@@ -536,11 +533,6 @@ names_inner pick l none = ap (head_names pick 0 1) (head_out l) ∙ ap (λ us. n
 membranes_append : (is ks : List HeadItem) → membranes_of (is ++ ks) ≡ membranes_of is ++ membranes_of ks
 membranes_append [] ks = refl
 membranes_append (i ∷ is) ks = ap (λ ms. membrane_of i ++ ms) (membranes_append is ks) ∙ sym (append_assoc (membrane_of i) (membranes_of is) (membranes_of ks))
-
-pub leaves_none : (kind : ℕ → TypeKind) (inside : ℕ) (ls : List Leaf) (rest : List HeadItem) → membranes_of (leaf_items kind inside ls ++ rest) ≡ membranes_of rest
-leaves_none kind inside [] rest = refl
-leaves_none kind inside (leaf.Atom f os p ∷ ls) rest = leaves_none kind inside ls rest
-leaves_none kind inside (leaf.Typed n o p ∷ ls) rest = leaves_none kind inside ls rest
 
 get_front : (xs ys : List HeadMembrane) (j : ℕ) (b : HeadMembrane) → j < length xs → slice_get (xs ++ ys) j ≡ Some b → slice_get xs j ≡ Some b
 get_front [] ys j b l e = absurd (omega (arith, l))
@@ -553,25 +545,13 @@ get_back (x ∷ xs) ys zero k b q e = absurd (omega (arith, q))
 get_back (x ∷ xs) ys (suc j) k b q e = get_back xs ys j k b (omega (arith, q)) e
 
 module _ (kind : ℕ → TypeKind) where
-  count_membranes : (inside next : ℕ) (hs : Heads) → length (membranes_of (flat_membranes kind inside next hs)) ≡ sizes hs
-  count_membranes inside next no_head = refl
-  count_membranes inside next (head_and (head leaves hs cs rcs rs) more) =
-      let first = leaf_items kind next leaves ++ flat_membranes kind next (next + 1) hs in
-      let rest = flat_membranes kind inside (next + 1 + sizes hs) more in
-      let a = ap length (membranes_append first rest) in
-      let b = length-append (membranes_of first) (membranes_of rest) in
-      let c = ap length (leaves_none kind next leaves (flat_membranes kind next (next + 1) hs)) in
-      let d = count_membranes next (next + 1) hs in
-      let e = count_membranes inside (next + 1 + sizes hs) more in
-      omega (arith, a, b, c, d, e)
-
-  own_context : (next : ℕ) (cs : List CtxUse) → has_some cs ≡ true → (x : ℕ) × In (x, next) (names_inside next cs)
+  own_context : (next : ℕ) (cs : List CtxUse) → has_some cs ≡ true → (x : ℕ) × IsOneOf (x, next) (names_inside next cs)
   own_context next [] e = absurd (cc)
   own_context next (c ∷ cs) e = (c.name, inl refl)
 
   -- a membrane of a head that has an untyped context is that of a name
   pub held_at : (inside next : ℕ) (hs : Heads) (j : ℕ) (b : HeadMembrane) → slice_get (membranes_of (flat_membranes kind inside next hs)) j ≡ Some b → b.has_context ≡ true
-      → (x : ℕ) × In (x, next + j) (heads_names untyped next hs)
+      → (x : ℕ) × IsOneOf (x, next + j) (heads_names untyped next hs)
   held_at inside next no_head j b e c = absurd (cc)
   held_at inside next (head_and (head leaves hs cs rcs rs) more) zero b e c =
       let same : (record { inside = inside; has_context = has_some cs; has_rule_context = has_some rcs }) ≡ b = cc in
@@ -579,13 +559,13 @@ module _ (kind : ℕ → TypeKind) where
       let plus : next ≡ next + 0 = omega arith in (
         r.0,
         in_front _ (names_inside next cs ++ heads_names untyped (next + 1) hs) (heads_names untyped (next + 1 + sizes hs) more)
-            (in_front _ (names_inside next cs) (heads_names untyped (next + 1) hs) (subst (λ n. In (r.0, n) (names_inside next cs)) plus r.1)),
+            (in_front _ (names_inside next cs) (heads_names untyped (next + 1) hs) (subst (λ n. IsOneOf (r.0, n) (names_inside next cs)) plus r.1)),
       )
   held_at inside next (head_and (head leaves hs cs rcs rs) more) (suc j) b e c =
       let first = leaf_items kind next leaves ++ flat_membranes kind next (next + 1) hs in
       let rest = flat_membranes kind inside (next + 1 + sizes hs) more in
       let here = ap (λ ms. slice_get ms j) (sym (membranes_append first rest)) ∙ e in
-      let many : length (membranes_of first) ≡ sizes hs = ap length (leaves_none kind next leaves (flat_membranes kind next (next + 1) hs)) ∙ count_membranes next (next + 1) hs in
+      let many : length (membranes_of first) ≡ sizes hs = ap length (leaves_none kind next leaves (flat_membranes kind next (next + 1) hs)) ∙ all_membranes kind next (next + 1) hs in
       by (at j (sizes hs)) here many (λ e'. held_at next (next + 1) hs j b e' c) (λ k e'. held_at inside (next + 1 + sizes hs) more k b e' c)
     where
       at : (a n : ℕ) → (a < n) ⊎ ((k : ℕ) × (a ≡ n + k))
@@ -596,16 +576,16 @@ module _ (kind : ℕ → TypeKind) where
       by : (j < sizes hs) ⊎ ((k : ℕ) × (j ≡ sizes hs + k)) →
           slice_get (membranes_of (leaf_items kind next leaves ++ flat_membranes kind next (next + 1) hs) ++ membranes_of (flat_membranes kind inside (next + 1 + sizes hs) more)) j ≡ Some b →
           length (membranes_of (leaf_items kind next leaves ++ flat_membranes kind next (next + 1) hs)) ≡ sizes hs →
-          (slice_get (membranes_of (flat_membranes kind next (next + 1) hs)) j ≡ Some b → (x : ℕ) × In (x, next + 1 + j) (heads_names untyped (next + 1) hs)) →
-          ((k : ℕ) → slice_get (membranes_of (flat_membranes kind inside (next + 1 + sizes hs) more)) k ≡ Some b → (x : ℕ) × In (x, next + 1 + sizes hs + k) (heads_names untyped (next + 1 + sizes hs) more)) →
-          (x : ℕ) × In (x, next + suc j) ((names_inside next cs ++ heads_names untyped (next + 1) hs) ++ heads_names untyped (next + 1 + sizes hs) more)
+          (slice_get (membranes_of (flat_membranes kind next (next + 1) hs)) j ≡ Some b → (x : ℕ) × IsOneOf (x, next + 1 + j) (heads_names untyped (next + 1) hs)) →
+          ((k : ℕ) → slice_get (membranes_of (flat_membranes kind inside (next + 1 + sizes hs) more)) k ≡ Some b → (x : ℕ) × IsOneOf (x, next + 1 + sizes hs + k) (heads_names untyped (next + 1 + sizes hs) more)) →
+          (x : ℕ) × IsOneOf (x, next + suc j) ((names_inside next cs ++ heads_names untyped (next + 1) hs) ++ heads_names untyped (next + 1 + sizes hs) more)
       by (inl l) e many inner later =
           let f = get_front (membranes_of (leaf_items kind next leaves ++ flat_membranes kind next (next + 1) hs)) (membranes_of (flat_membranes kind inside (next + 1 + sizes hs) more)) j b (omega (arith, l, many)) e in
           let r = inner (ap (λ ms. slice_get ms j) (sym (leaves_none kind next leaves (flat_membranes kind next (next + 1) hs))) ∙ f) in
           let q : next + 1 + j ≡ next + suc j = omega arith in (
             r.0,
             in_front _ (names_inside next cs ++ heads_names untyped (next + 1) hs) (heads_names untyped (next + 1 + sizes hs) more)
-                (in_back _ (names_inside next cs) (heads_names untyped (next + 1) hs) (subst (λ n. In (r.0, n) (heads_names untyped (next + 1) hs)) q r.1)),
+                (in_back _ (names_inside next cs) (heads_names untyped (next + 1) hs) (subst (λ n. IsOneOf (r.0, n) (heads_names untyped (next + 1) hs)) q r.1)),
           )
       by (inr (k, w)) e many inner later =
           let f = get_back (membranes_of (leaf_items kind next leaves ++ flat_membranes kind next (next + 1) hs)) (membranes_of (flat_membranes kind inside (next + 1 + sizes hs) more)) j k b (omega (arith, w, many)) e in
@@ -613,22 +593,22 @@ module _ (kind : ℕ → TypeKind) where
           let q : next + 1 + sizes hs + k ≡ next + suc j = omega (arith, w) in (
             r.0,
             in_back _ (names_inside next cs ++ heads_names untyped (next + 1) hs) (heads_names untyped (next + 1 + sizes hs) more)
-                (subst (λ n. In (r.0, n) (heads_names untyped (next + 1 + sizes hs) more)) q r.1),
+                (subst (λ n. IsOneOf (r.0, n) (heads_names untyped (next + 1 + sizes hs) more)) q r.1),
           )
 
 -- a name with a membrane in a head is used there, bare
 mutual
-  pub name_used : (inside next : ℕ) (h : Head) (x : ℕ) → In x (firsts (head_names untyped inside next h)) → (u : CtxUse) × In u (head_contexts untyped h) × (u.name ≡ x)
+  pub name_used : (inside next : ℕ) (h : Head) (x : ℕ) → IsOneOf x (firsts (head_names untyped inside next h)) → (u : CtxUse) × IsOneOf u (head_contexts untyped h) × (u.name ≡ x)
   name_used inside next (head leaves hs cs rcs rs) x i =
-      elim (in_append x (firsts (names_inside inside cs)) (firsts (heads_names untyped next hs)) (subst (In x) (map-append (λ (e : ℕ × ℕ). e.0) (names_inside inside cs) (heads_names untyped next hs)) i)) [
-        | inl j ↦ (let r = from_map (λ (u : CtxUse). u.name) x cs (subst (In x) (own_names inside cs) j) in (r.0, in_front r.0 cs (heads_contexts untyped hs) r.1, r.2))
+      elim (in_append x (firsts (names_inside inside cs)) (firsts (heads_names untyped next hs)) (subst (IsOneOf x) (map-append (λ (e : ℕ × ℕ). e.0) (names_inside inside cs) (heads_names untyped next hs)) i)) [
+        | inl j ↦ (let r = from_map (λ (u : CtxUse). u.name) x cs (subst (IsOneOf x) (own_names inside cs) j) in (r.0, in_front r.0 cs (heads_contexts untyped hs) r.1, r.2))
         | inr j ↦ (let r = names_used_in next hs x j in (r.0, in_back r.0 cs (heads_contexts untyped hs) r.1, r.2))
       ]
 
-  names_used_in : (next : ℕ) (hs : Heads) (x : ℕ) → In x (firsts (heads_names untyped next hs)) → (u : CtxUse) × In u (heads_contexts untyped hs) × (u.name ≡ x)
+  names_used_in : (next : ℕ) (hs : Heads) (x : ℕ) → IsOneOf x (firsts (heads_names untyped next hs)) → (u : CtxUse) × IsOneOf u (heads_contexts untyped hs) × (u.name ≡ x)
   names_used_in next no_head x i = absurd i
   names_used_in next (head_and h hs) x i =
-      elim (in_append x (firsts (head_names untyped next (next + 1) h)) (firsts (heads_names untyped (next + 1 + size h) hs)) (subst (In x) (map-append (λ (e : ℕ × ℕ). e.0) (head_names untyped next (next + 1) h) (heads_names untyped (next + 1 + size h) hs)) i)) [
+      elim (in_append x (firsts (head_names untyped next (next + 1) h)) (firsts (heads_names untyped (next + 1 + size h) hs)) (subst (IsOneOf x) (map-append (λ (e : ℕ × ℕ). e.0) (head_names untyped next (next + 1) h) (heads_names untyped (next + 1 + size h) hs)) i)) [
         | inl j ↦ (let r = name_used next (next + 1) h x j in (r.0, in_front r.0 (head_contexts untyped h) (heads_contexts untyped hs) r.1, r.2))
         | inr j ↦ (let r = names_used_in (next + 1 + size h) hs x j in (r.0, in_back r.0 (head_contexts untyped h) (heads_contexts untyped hs) r.1, r.2))
       ]

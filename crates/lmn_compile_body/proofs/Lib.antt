@@ -2,6 +2,6 @@ pub mod Steps
 pub mod Bounds
 mod Registers
 pub mod BodyTrees
-mod Accepted
+pub mod Accepted
 pub mod HeadContexts
 mod Nested

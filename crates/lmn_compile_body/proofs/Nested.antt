@@ -26,78 +26,82 @@ use Rattle.lmn_solid.specs.Guards.{typed_number}
 use Rattle.lmn_solid.specs.Heads.{HeadTyped, HeadMembrane, typed_contexts_of, membranes_of}
 use Rattle.lmn_solid.specs.Embeddings.{HasTyped, HasMembrane}
 use Rattle.lmn_solid.proofs.HeadTrees.{head_at, same_uses, flat_items, flat_membranes}
-use Rattle.lmn_solid.proofs.HeadTrees as trees
-use Rattle.lmn_splice.specs.Splice.{In, Distinct, often}
-use Rattle.lmn_splice.proofs.ClassLemmas.{one_same}
+use Rattle.lmn_splice.specs.Splice.{IsOneOf, NoneTwice}
 use Rattle.lmn_compile_head.specs.Accepted.{head_items, AcceptedHeads}
 use Rattle.lmn_compile_head.specs.Heads.{kind_in}
 use Rattle.lmn_compile_head.specs.Tables.{AllBelow}
 use Rattle.lmn_body.specs.Flattening.{membrane_named}
 use Rattle.lmn_body.specs.Rules.{NestedRule, IsHeadMembrane}
 use Rattle.lmn_body.proofs.Firing.{in_often, often_in}
-use Rattle.lmn_body.proofs.HeadPorts.{in_append, in_front, in_back, in_map}
+use Rattle.lmn_body.proofs.HeadPorts.{in_map, of_map as from_map}
 use Rattle.lmn_body.proofs.FlatRules.{flattened_rules}
-use Rattle.lmn_body.proofs.Numbered.{contexts_of_heads}
-use Rattle.lmn_compile_body.specs.Naming.{contexts_in, rule_contexts_in}
-use Rattle.lmn_compile_body.specs.Accepted.{rule_names, rule_body_items, IsWhole, AcceptedNested}
-use Rattle.lmn_compile_body.proofs.BodyTrees.{numbers_below, below_front, below_back}
-use Rattle.lmn_compile_body.proofs.HeadContexts.{contained, distinct_map, names_are, head_names, heads_names, in_range, one_each, named_there, one_entry, untyped, of_rules, firsts, names, not_both, has_name, has_rule_name, same_contexts, context_used, rule_context_used, names_few, bare_often, inner_of, head_out, one_context, names_inner, leaves_none, held_at, name_used, from_map}
+use Rattle.lmn_body.proofs.Numbered.{contexts_of_heads, leaves_none}
+use Rattle.lmn_compile_body.specs.Naming.{numbered_contexts, numbered_rule_contexts}
+use Rattle.lmn_compile_body.specs.Accepted.{rule_body_names, rule_body_items, IsCompilable, AcceptedNested}
+use Rattle.lmn_compile_body.proofs.BodyTrees.{numbers_below}
+use Rattle.lmn_compile_body.proofs.HeadContexts.{contained, distinct_map, names_are, head_names, heads_names, in_range, one_each, named_there, one_entry, untyped, of_rules, firsts, not_both, has_name, has_rule_name, same_contexts, context_used, rule_context_used, names_few, bare_often, inner_of, head_out, one_context, names_inner, held_at, name_used}
+use Rattle.lmn_congruence.specs.Links.{places}
+use Rattle.lmn_compile_head.proofs.HeadLeaves.{below_back, below_front}
+use Rattle.lmn_congruence.proofs.Counts.{one_if_equal as one_same}
+use Rattle.lmn_splice.proofs.Common.{in_append, in_back, in_front}
+use Rattle.lmn_base.specs.Names.{context_names}
+use Rattle.lmn_solid.proofs.HeadTrees as trees
 
 -- ---- what is found in a list
 
 -- a use of a context, by its name
-use_found : (x : ℕ) (is : List Item) → has_use x is ≡ true → (v : FormedUse) × In (Context v) is × (v.name ≡ x)
+use_found : (x : ℕ) (is : List Item) → has_use x is ≡ true → (v : FormedUse) × IsOneOf (Context v) is × (v.name ≡ x)
 use_found x [] e = absurd (cc)
 use_found x (Atom f p ∷ is) e = let r = use_found x is e in (r.0, inr r.1, r.2)
 use_found x (RuleContext u ∷ is) e = let r = use_found x is e in (r.0, inr r.1, r.2)
 use_found x (Rule k ∷ is) e = let r = use_found x is e in (r.0, inr r.1, r.2)
 use_found x (Context u ∷ is) e = by (u.name == x) refl (use_found x is)
   where
-    by : (b : Bool) → (u.name == x) ≡ b → (has_use x is ≡ true → (v : FormedUse) × In (Context v) is × (v.name ≡ x)) → (v : FormedUse) × In (Context v) (Context u ∷ is) × (v.name ≡ x)
+    by : (b : Bool) → (u.name == x) ≡ b → (has_use x is ≡ true → (v : FormedUse) × IsOneOf (Context v) is × (v.name ≡ x)) → (v : FormedUse) × IsOneOf (Context v) (Context u ∷ is) × (v.name ≡ x)
     by true f later = (u, inl refl, (Decides-eqb u.name x).0 f)
     by false f later = let r = later (ap (λ b. is_some_place ((if b then u.pos ∷ [] else []) ++ flat_map (use_of x) is)) (sym f) ∙ e) in (r.0, inr r.1, r.2)
 
-rule_use_found : (x : ℕ) (is : List Item) → is_some_place (flat_map (rule_use x) is) ≡ true → (v : CtxUse) × In (RuleContext v) is × (v.name ≡ x)
+rule_use_found : (x : ℕ) (is : List Item) → is_some_place (flat_map (rule_use x) is) ≡ true → (v : CtxUse) × IsOneOf (RuleContext v) is × (v.name ≡ x)
 rule_use_found x [] e = absurd (cc)
 rule_use_found x (Atom f p ∷ is) e = let r = rule_use_found x is e in (r.0, inr r.1, r.2)
 rule_use_found x (Context u ∷ is) e = let r = rule_use_found x is e in (r.0, inr r.1, r.2)
 rule_use_found x (Rule k ∷ is) e = let r = rule_use_found x is e in (r.0, inr r.1, r.2)
 rule_use_found x (RuleContext u ∷ is) e = by (u.name == x) refl (rule_use_found x is)
   where
-    by : (b : Bool) → (u.name == x) ≡ b → (is_some_place (flat_map (rule_use x) is) ≡ true → (v : CtxUse) × In (RuleContext v) is × (v.name ≡ x)) → (v : CtxUse) × In (RuleContext v) (RuleContext u ∷ is) × (v.name ≡ x)
+    by : (b : Bool) → (u.name == x) ≡ b → (is_some_place (flat_map (rule_use x) is) ≡ true → (v : CtxUse) × IsOneOf (RuleContext v) is × (v.name ≡ x)) → (v : CtxUse) × IsOneOf (RuleContext v) (RuleContext u ∷ is) × (v.name ≡ x)
     by true f later = (u, inl refl, (Decides-eqb u.name x).0 f)
     by false f later = let r = later (ap (λ b. is_some_place ((if b then u.pos ∷ [] else []) ++ flat_map (rule_use x) is)) (sym f) ∙ e) in (r.0, inr r.1, r.2)
 
 -- the left side of an equation of a guard
-left_found : (x : ℕ) (cs : List Cond) → list_any (is_left_of x) cs ≡ true → (u : CtxUse) × In (used Typed u) (guard_items cs) × (u.name ≡ x)
+left_found : (x : ℕ) (cs : List Cond) → list_any (is_left_of x) cs ≡ true → (u : CtxUse) × IsOneOf (used Typed u) (guard_items cs) × (u.name ≡ x)
 left_found x [] e = absurd (cc)
 left_found x (Kind n args p ∷ cs) e = let r = left_found x cs e in (r.0, in_back (used Typed r.0) (condition_items (Kind n args p)) (guard_items cs) r.1, r.2)
 left_found x (Compare o a b p ∷ cs) e = let r = left_found x cs e in (r.0, in_back (used Typed r.0) (condition_items (Compare o a b p)) (guard_items cs) r.1, r.2)
 left_found x (Differ a b p ∷ cs) e = let r = left_found x cs e in (r.0, in_back (used Typed r.0) (condition_items (Differ a b p)) (guard_items cs) r.1, r.2)
 left_found x (Equal a b p ∷ cs) e = by (a.name == x) refl (left_found x cs)
   where
-    by : (t : Bool) → (a.name == x) ≡ t → (list_any (is_left_of x) cs ≡ true → (u : CtxUse) × In (used Typed u) (guard_items cs) × (u.name ≡ x))
-        → (u : CtxUse) × In (used Typed u) (guard_items (Equal a b p ∷ cs)) × (u.name ≡ x)
+    by : (t : Bool) → (a.name == x) ≡ t → (list_any (is_left_of x) cs ≡ true → (u : CtxUse) × IsOneOf (used Typed u) (guard_items cs) × (u.name ≡ x))
+        → (u : CtxUse) × IsOneOf (used Typed u) (guard_items (Equal a b p ∷ cs)) × (u.name ≡ x)
     by true f later = (a, inl refl, (Decides-eqb a.name x).0 f)
     by false f later = let r = later (ap (λ t. t || list_any (is_left_of x) cs) (sym f) ∙ e) in (r.0, in_back (used Typed r.0) (condition_items (Equal a b p)) (guard_items cs) r.1, r.2)
 
-each_once : (xs : List ℕ) → ((z : ℕ) → In z xs → often z xs ≤ 1) → Distinct xs
+each_once : (xs : List ℕ) → ((z : ℕ) → IsOneOf z xs → places z xs ≤ 1) → NoneTwice xs
 each_once [] f = tt
 each_once (x ∷ xs) f = (
   λ i. (let l = in_often x xs i in let o = one_same x x refl in let m = f x (inl refl) in absurd (omega (arith, l, o, m))),
   each_once xs (λ z i. let m = f z (inr i) in omega (arith, m)),
 )
 
-map_names : (f : ℕ → ℕ) (us : List CtxUse) → map (λ u. f u.name) us ≡ map f (names us)
+map_names : (f : ℕ → ℕ) (us : List CtxUse) → map (λ u. f u.name) us ≡ map f (context_names us)
 map_names f [] = refl
 map_names f (u ∷ us) = ap (λ xs. f u.name ∷ xs) (map_names f us)
 
-all_below : (n : ℕ) (xs : List ℕ) (x : ℕ) → AllBelow n xs → In x xs → x < n
+all_below : (n : ℕ) (xs : List ℕ) (x : ℕ) → AllBelow n xs → IsOneOf x xs → x < n
 all_below n [] x h i = absurd i
 all_below n (y ∷ xs) x h (inl e) = subst (λ z. z < n) e h.0
 all_below n (y ∷ xs) x h (inr i) = all_below n xs x h.1 i
 
-no_contexts : (us : List CtxUse) → ((u : CtxUse) → In u us → ⊥) → us ≡ []
+no_contexts : (us : List CtxUse) → ((u : CtxUse) → IsOneOf u us → ⊥) → us ≡ []
 no_contexts [] none = refl
 no_contexts (u ∷ us) none = absurd (none u (inl refl))
 
@@ -129,12 +133,12 @@ typed_there (t ∷ ts) n x g e = by (t.name == x) e (typed_there ts (n + 1) x g)
     by true e later = let s : n ≡ g = (cc) in (0, t, omega (arith, s), refl)
     by false e later = let w = later e in (suc w.0, w.1, (let k = w.2 in omega (arith, k)), w.3)
 
-module _ (heads : AcceptedHeads) (table : List RuleTree) (r : RuleTree) (plan : GuardPlan) (whole : IsWhole table r plan) where
+module _ (heads : AcceptedHeads) (table : List RuleTree) (r : RuleTree) (plan : GuardPlan) (whole : IsCompilable table r plan) where
   abbrev entries : List (ℕ × ℕ)
-  entries = (contexts_in r.head).names 0 1
+  entries = (numbered_contexts r.head).names 0 1
 
   abbrev rule_entries : List (ℕ × ℕ)
-  rule_entries = (rule_contexts_in r.head).names 0 1
+  rule_entries = (numbered_rule_contexts r.head).names 0 1
 
   order : IsInOrder table r
   order = in_order table r whole.ready.accepted
@@ -158,11 +162,11 @@ module _ (heads : AcceptedHeads) (table : List RuleTree) (r : RuleTree) (plan : 
   rule_entries_are = names_are of_rules r.head ∙ names_inner of_rules r.head rule_top
 
   -- an untyped context of the body is one of the head
-  of_head : (u : CtxUse) → In u (contexts_of r.body) → (v : FormedUse) × In (Context v) (items_of r.head) × (v.name ≡ u.name) × (v.form ≡ Bare)
+  of_head : (u : CtxUse) → IsOneOf u (contexts_of r.body) → (v : FormedUse) × IsOneOf (Context v) (items_of r.head) × (v.name ≡ u.name) × (v.form ≡ Bare)
   of_head u i = by (has_use u.name (items_of r.head)) refl
     where
-      in_body : In (used Bare u) (items_of r.body)
-      in_body = subst (In (used Bare u)) (sym (same_uses r.body)) (context_used (head_at r.body) u (subst (In u) (same_contexts untyped r.body) i))
+      in_body : IsOneOf (used Bare u) (items_of r.body)
+      in_body = subst (IsOneOf (used Bare u)) (sym (same_uses r.body)) (context_used (head_at r.body) u (subst (IsOneOf u) (same_contexts untyped r.body) i))
 
       asked : (has_use u.name (items_of r.head) || list_any (is_left_of u.name) r.guard) ≡ true
       asked = order.of_the_head (record { name = u.name; form = Bare; pos = u.pos }) (contained (used Bare u) (items_of r.body) in_body)
@@ -170,7 +174,7 @@ module _ (heads : AcceptedHeads) (table : List RuleTree) (r : RuleTree) (plan : 
       body_in_rule : Contains (rule_items r) (used Bare u)
       body_in_rule = contained (used Bare u) (rule_items r) (in_back (used Bare u) (items_of r.head) (guard_items r.guard ++ items_of r.body) (in_back (used Bare u) (guard_items r.guard) (items_of r.body) in_body))
 
-      by : (b : Bool) → has_use u.name (items_of r.head) ≡ b → (v : FormedUse) × In (Context v) (items_of r.head) × (v.name ≡ u.name) × (v.form ≡ Bare)
+      by : (b : Bool) → has_use u.name (items_of r.head) ≡ b → (v : FormedUse) × IsOneOf (Context v) (items_of r.head) × (v.name ≡ u.name) × (v.form ≡ Bare)
       by true e =
           let f = use_found u.name (items_of r.head) e in
           (f.0, f.1, f.2, order.one_form f.0 (record { name = u.name; form = Bare; pos = u.pos }) (contained (Context f.0) (rule_items r) (in_front (Context f.0) (items_of r.head) (guard_items r.guard ++ items_of r.body) f.1)) body_in_rule f.2)
@@ -180,74 +184,74 @@ module _ (heads : AcceptedHeads) (table : List RuleTree) (r : RuleTree) (plan : 
           (contained (used Typed f.0) (rule_items r) (in_back (used Typed f.0) (items_of r.head) (guard_items r.guard ++ items_of r.body) (in_front (used Typed f.0) (guard_items r.guard) (items_of r.body) f.1))) body_in_rule f.2))
 
   -- so it has a membrane there
-  entry : (x : ℕ) → In x (names (contexts_of r.body)) → In (x, membrane_named entries x) entries
+  entry : (x : ℕ) → IsOneOf x (context_names (contexts_of r.body)) → IsOneOf (x, membrane_named entries x) entries
   entry x i =
       let u = from_map (λ (u : CtxUse). u.name) x (contexts_of r.body) i in
       let v = of_head u.0 u.1 in
-      let there = has_name 0 1 (head_at r.head) v.0 (subst (In (Context v.0)) (same_uses r.head) v.1) v.3 in
-      named_there entries x (subst (λ es. In x (firsts es)) (sym (names_are untyped r.head)) (subst (λ y. In y (firsts (head_names untyped 0 1 (head_at r.head)))) (v.2 ∙ u.2) there))
+      let there = has_name 0 1 (head_at r.head) v.0 (subst (IsOneOf (Context v.0)) (same_uses r.head) v.1) v.3 in
+      named_there entries x (subst (λ es. IsOneOf x (firsts es)) (sym (names_are untyped r.head)) (subst (λ y. IsOneOf y (firsts (head_names untyped 0 1 (head_at r.head)))) (v.2 ∙ u.2) there))
 
   -- which isn't that of the rule
-  owned : (u : CtxUse) → In u (contexts_of r.body) → IsHeadMembrane (length (membranes_of (head_items r plan))) (membrane_named entries u.name)
+  owned : (u : CtxUse) → IsOneOf u (contexts_of r.body) → IsHeadMembrane (length (membranes_of (head_items r plan))) (membrane_named entries u.name)
   owned u i =
       let e = entry u.name (in_map (λ (u : CtxUse). u.name) u (contexts_of r.body) i) in
-      not_zero (length (membranes_of (head_items r plan))) (membrane_named entries u.name) (in_range untyped 1 (inner_of r.head) (u.name, membrane_named entries u.name) (subst (In (u.name, membrane_named entries u.name)) entries_are e)).0
+      not_zero (length (membranes_of (head_items r plan))) (membrane_named entries u.name) (in_range untyped 1 (inner_of r.head) (u.name, membrane_named entries u.name) (subst (IsOneOf (u.name, membrane_named entries u.name)) entries_are e)).0
       (contexts_of_heads (kind_in plan.kinds) r.head u.name).0
 
   -- each stands once in the body
-  body_often : (x : ℕ) → often x (names (contexts_of r.body)) ≡ length (flat_map (bare_use x) (items_of r.body))
-  body_often x = ap (λ us. often x (names us)) (same_contexts untyped r.body) ∙ (bare_often x (head_at r.body) ∙ ap (λ is. length (flat_map (bare_use x) is)) (sym (same_uses r.body)))
+  body_often : (x : ℕ) → places x (context_names (contexts_of r.body)) ≡ length (flat_map (bare_use x) (items_of r.body))
+  body_often x = ap (λ us. places x (context_names us)) (same_contexts untyped r.body) ∙ (bare_often x (head_at r.body) ∙ ap (λ is. length (flat_map (bare_use x) is)) (sym (same_uses r.body)))
 
-  once : Distinct (names (contexts_of r.body))
-  once = each_once (names (contexts_of r.body)) (λ x i.
+  once : NoneTwice (context_names (contexts_of r.body))
+  once = each_once (context_names (contexts_of r.body)) (λ x i.
       let u = from_map (λ (u : CtxUse). u.name) x (contexts_of r.body) i in
       let v = of_head u.0 u.1 in
       let one = order.once_in_body v.0 (contained (Context v.0) (items_of r.head) v.1) v.3 in
       let many = body_often v.0.name in
-      subst (λ y. often y (names (contexts_of r.body)) ≤ 1) (v.2 ∙ u.2) (omega (arith, one, many)))
+      subst (λ y. places y (context_names (contexts_of r.body)) ≤ 1) (v.2 ∙ u.2) (omega (arith, one, many)))
 
-  apart : Distinct (map (λ u. membrane_named entries u.name) (contexts_of r.body))
-  apart = subst Distinct (sym (map_names (membrane_named entries) (contexts_of r.body))) (distinct_map (membrane_named entries) (names (contexts_of r.body)) once (λ x y i j q.
+  apart : NoneTwice (map (λ u. membrane_named entries u.name) (contexts_of r.body))
+  apart = subst NoneTwice (sym (map_names (membrane_named entries) (contexts_of r.body))) (distinct_map (membrane_named entries) (context_names (contexts_of r.body)) once (λ x y i j q.
       ap (λ (e : ℕ × ℕ). e.0) (one_each untyped 1 (inner_of r.head) (x, membrane_named entries x) (y, membrane_named entries y) (one_context r.head order.one_in_membrane)
-      (subst (In (x, membrane_named entries x)) entries_are (entry x i)) (subst (In (y, membrane_named entries y)) entries_are (entry y j)) q)))
+      (subst (IsOneOf (x, membrane_named entries x)) entries_are (entry x i)) (subst (IsOneOf (y, membrane_named entries y)) entries_are (entry y j)) q)))
 
   -- each untyped context of the head stands in the body
-  stands : (i : ℕ) (b : HeadMembrane) → HasMembrane (head_items r plan) i b → b.has_context ≡ true → In i (map (λ u. membrane_named entries u.name) (contexts_of r.body))
+  stands : (i : ℕ) (b : HeadMembrane) → HasMembrane (head_items r plan) i b → b.has_context ≡ true → IsOneOf i (map (λ u. membrane_named entries u.name) (contexts_of r.body))
   stands i b h c =
       let kind = kind_in plan.kinds in
       let flat = trees.items_flat kind r.head ∙ ap (flat_items kind 0 1) (head_out r.head) in
       let got = ap (λ ms. slice_get ms h.0) (sym (leaves_none kind 0 (out-Level r.head).leaves (flat_membranes kind 0 1 (inner_of r.head)))) ∙ (ap (λ is. slice_get (membranes_of is) h.0) (sym flat) ∙ h.2) in
       let n = held_at kind 0 1 (inner_of r.head) h.0 b got c in
-      let there = subst (In (n.0, 1 + h.0)) (sym entries_are) n.1 in
+      let there = subst (IsOneOf (n.0, 1 + h.0)) (sym entries_are) n.1 in
       let first = in_map (λ (e : ℕ × ℕ). e.0) (n.0, 1 + h.0) entries there in
-      let u = name_used 0 1 (head_at r.head) n.0 (subst (λ es. In n.0 (firsts es)) (names_are untyped r.head) first) in
-      let in_head = subst (In (used Bare u.0)) (sym (same_uses r.head)) (context_used (head_at r.head) u.0 u.1) in
+      let u = name_used 0 1 (head_at r.head) n.0 (subst (λ es. IsOneOf n.0 (firsts es)) (names_are untyped r.head) first) in
+      let in_head = subst (IsOneOf (used Bare u.0)) (sym (same_uses r.head)) (context_used (head_at r.head) u.0 u.1) in
       let one = order.once_in_body (record { name = u.0.name; form = Bare; pos = u.0.pos }) (contained (used Bare u.0) (items_of r.head) in_head) refl in
       let many = body_often u.0.name in
-      let in_body = subst (λ x. In x (names (contexts_of r.body))) u.2 (often_in u.0.name (names (contexts_of r.body)) (omega (arith, one, many))) in
+      let in_body = subst (λ x. IsOneOf x (context_names (contexts_of r.body))) u.2 (often_in u.0.name (context_names (contexts_of r.body)) (omega (arith, one, many))) in
       let few_names = names_few n.0 0 1 (head_at r.head) in
       let few_uses = order.once_in_head n.0 in
       let same_items = ap (λ is. length (flat_map (use_of n.0) is)) (same_uses r.head) in
-      let same_names = ap (λ es. often n.0 (firsts es)) (names_are untyped r.head) in
-      let few : often n.0 (firsts entries) ≤ 1 = omega (arith, few_names, few_uses, same_items, same_names) in
+      let same_names = ap (λ es. places n.0 (firsts es)) (names_are untyped r.head) in
+      let few : places n.0 (firsts entries) ≤ 1 = omega (arith, few_names, few_uses, same_items, same_names) in
       let same : membrane_named entries n.0 ≡ 1 + h.0 = one_entry entries n.0 (membrane_named entries n.0) (1 + h.0) few (named_there entries n.0 first) there in
       let number = h.1 in
       let i_is : 1 + h.0 ≡ i = omega (arith, number) in
-      subst (In i) (sym (map_names (membrane_named entries) (contexts_of r.body)))
-      (subst (λ k. In k (map (membrane_named entries) (names (contexts_of r.body)))) (same ∙ i_is) (in_map (membrane_named entries) n.0 (names (contexts_of r.body)) in_body))
+      subst (IsOneOf i) (sym (map_names (membrane_named entries) (contexts_of r.body)))
+      (subst (λ k. IsOneOf k (map (membrane_named entries) (context_names (contexts_of r.body)))) (same ∙ i_is) (in_map (membrane_named entries) n.0 (context_names (contexts_of r.body)) in_body))
 
   -- a rule context of the body has a membrane in the head
-  rules_owned : (u : CtxUse) → In u (rule_contexts_of r.body) → IsHeadMembrane (length (membranes_of (head_items r plan))) (membrane_named rule_entries u.name)
+  rules_owned : (u : CtxUse) → IsOneOf u (rule_contexts_of r.body) → IsHeadMembrane (length (membranes_of (head_items r plan))) (membrane_named rule_entries u.name)
   rules_owned u i =
-      let in_body = subst (In (RuleContext u)) (sym (same_uses r.body)) (rule_context_used (head_at r.body) u (subst (In u) (same_contexts of_rules r.body) i)) in
+      let in_body = subst (IsOneOf (RuleContext u)) (sym (same_uses r.body)) (rule_context_used (head_at r.body) u (subst (IsOneOf u) (same_contexts of_rules r.body) i)) in
       let v = rule_use_found u.name (items_of r.head) (order.rule_context_of_the_head u (contained (RuleContext u) (items_of r.body) in_body)) in
-      let there = has_rule_name 0 1 (head_at r.head) v.0 (subst (In (RuleContext v.0)) (same_uses r.head) v.1) in
-      let e = named_there rule_entries u.name (subst (λ es. In u.name (firsts es)) (sym (names_are of_rules r.head)) (subst (λ y. In y (firsts (head_names of_rules 0 1 (head_at r.head)))) v.2 there)) in
+      let there = has_rule_name 0 1 (head_at r.head) v.0 (subst (IsOneOf (RuleContext v.0)) (same_uses r.head) v.1) in
+      let e = named_there rule_entries u.name (subst (λ es. IsOneOf u.name (firsts es)) (sym (names_are of_rules r.head)) (subst (λ y. IsOneOf y (firsts (head_names of_rules 0 1 (head_at r.head)))) v.2 there)) in
       not_zero (length (membranes_of (head_items r plan))) (membrane_named rule_entries u.name)
-      (in_range of_rules 1 (inner_of r.head) (u.name, membrane_named rule_entries u.name) (subst (In (u.name, membrane_named rule_entries u.name)) rule_entries_are e)).0
+      (in_range of_rules 1 (inner_of r.head) (u.name, membrane_named rule_entries u.name) (subst (IsOneOf (u.name, membrane_named rule_entries u.name)) rule_entries_are e)).0
       (contexts_of_heads (kind_in plan.kinds) r.head u.name).1
 
-  low : (x : ℕ) → In x (links_of r.head ++ links_of r.body) → x < length r.links
+  low : (x : ℕ) → IsOneOf x (links_of r.head ++ links_of r.body) → x < length r.links
   low x i =
       let below = (numbers_below 0 (length r.links) _ whole.ready.made.table.numbered).2 in
       elim (in_append x (links_of r.head) (links_of r.body) i) [
@@ -256,7 +260,7 @@ module _ (heads : AcceptedHeads) (table : List RuleTree) (r : RuleTree) (plan : 
       ]
 
   -- a name of a part is one of the typed contexts of the head
-  named : (x g : ℕ) → (rule_names r plan).part x ≡ Some g → (t : HeadTyped) × HasTyped (head_items r plan) g t
+  named : (x g : ℕ) → (rule_body_names r plan).part x ≡ Some g → (t : HeadTyped) × HasTyped (head_items r plan) g t
   named x g e =
       let w = typed_there (typed_contexts_of (head_items r plan)) 0 x g e in
       (w.1, subst (λ k. slice_get (typed_contexts_of (head_items r plan)) k ≡ Some w.1) (sym (w.2 ∙ zero_plus w.0)) w.3)
@@ -266,7 +270,7 @@ module _ (heads : AcceptedHeads) (table : List RuleTree) (r : RuleTree) (plan : 
 
   nested : NestedRule (head_items r plan) (rule_body_items r plan) (length r.links)
   nested =
-      flattened_rules (kind_in plan.kinds) (rule_names r plan) r.head r.body (length r.links) whole.ready.accepted.linked low
+      flattened_rules (kind_in plan.kinds) (rule_body_names r plan) r.head r.body (length r.links) whole.ready.accepted.linked low
       (all_front FitsArity (leaves_of r.head) (leaves_of r.body) whole.ready.made.arities) (all_back FitsArity (leaves_of r.head) (leaves_of r.body) whole.ready.made.arities)
       named (heads.head table r plan whole.ready).held owned rules_owned apart stands
 

@@ -1,8 +1,6 @@
 -- The registers of names, with one binding more, and behind a condition.
-use Rattle.std.proofs.Common.{ℕ, zero, suc, ◌≡◌, ◌+◌, ◌<◌, List, [], ◌∷◌, ◌++◌, Option, None, length, drop, get_or, refl, sym, ap, ◌∙◌, arith}
-use Rattle.std.specs.Prelude.{◌==◌, if◌then◌else◌, sum_by}
-use Rattle.std.proofs.lemmas.List.Sums.{sum_by-cons}
-use Rattle.lmn_base.specs.RuleCodes.{condition_tokens}
+use Rattle.std.proofs.Common.{ℕ, ◌≡◌, List, [], ◌∷◌, ◌++◌, Option, None, refl, sym, ap, ◌∙◌}
+use Rattle.std.specs.Prelude.{◌==◌, if◌then◌else◌}
 use Rattle.lmn_base.specs.declared.level.CtxUse.{CtxUse}
 use Rattle.lmn_base.specs.declared.refusal.Pos.{Pos}
 use Rattle.lmn_base.specs.declared.guard.Cmp.{Cmp}
@@ -38,12 +36,3 @@ bound part v left right pos cs es es1 es2 at next none e1 a n made =
     let registers : registers_by es2 ≡ bind_register (registers_by es) left.name c.at = ap registers_by made ∙ (registers_more es (left.name, at) ∙ ap (λ k. bind_register (registers_by es) left.name k) same_at) in
     (λ i. guard_registers part (registers i) (same_next i) cs)
     ∙ ap (λ p. equal_registers p (guard_registers part (bind_register (registers_by es) left.name c.at) c.next cs) (guard_registers part (registers_by es) v cs)) (sym none)
-
--- the integers and contexts of one condition, and of the conditions behind it
-pub tokens_next : (guard : List Cond) (i : ℕ) (c : Cond) → i < length guard → c ≡ get_or guard i c
-    → sum_by condition_tokens (drop i guard) ≡ condition_tokens c + sum_by condition_tokens (drop (i + 1) guard)
-tokens_next [] i c within e = absurd (omega (arith, within))
-tokens_next (d ∷ guard) zero c within e = sum_by-cons condition_tokens d guard ∙ ap (λ x. condition_tokens x + sum_by condition_tokens guard) (sym e)
-tokens_next (d ∷ guard) (suc i) c within e =
-    let t : suc i + 1 ≡ suc (i + 1) = omega arith in
-    tokens_next guard i c (omega (arith, within)) e ∙ ap (λ k. condition_tokens c + sum_by condition_tokens (drop k (d ∷ guard))) (sym t)

@@ -6,10 +6,9 @@ use Rattle.lmn_base.specs.declared.level.Level.{Level}
 use Rattle.lmn_base.specs.declared.level.Level.TheFolds.{fold-Level}
 use Rattle.lmn_instr.specs.HeadCode.{value_code, bind_register}
 use Rattle.lmn_solid.specs.declared.items.HeadItem.{HeadItem}
-use Rattle.lmn_solid.specs.Guards.{typed_number}
-use Rattle.lmn_solid.specs.Heads.{typed_contexts_of}
 use Rattle.lmn_body.specs.declared.items.BodyItem.{BodyItem}
-use Rattle.lmn_body.specs.Flattening.{BodyNames, Unnumbered, Numbered, numbering, flatten_step, context_items, rule_items, rule_context_items, membrane_named, context_membrane, rule_context_membrane}
+use Rattle.lmn_body.specs.Flattening.{BodyNames, UnnumberedBody, NumberedContexts, numbering, flatten_body_step, context_items, body_rule_items, rule_context_items, membrane_named, context_membrane, rule_context_membrane}
+use Rattle.lmn_compile_head.specs.Bindings.{part_numbers}
 
 -- the register of a name: that of its last binding in a list of names with their registers, or else `before`
 abbrev pub last_register : List (ℕ × ℕ) → ℕ → ℕ → ℕ
@@ -36,39 +35,36 @@ guard_registers part bound v (Equal left right pos ∷ cs) =
     equal_registers (part left.name) (guard_registers part (bind_register bound left.name c.at) c.next cs) (guard_registers part bound v cs)
 guard_registers part bound v (Differ left right pos ∷ cs) = guard_registers part bound v cs
 
--- the numbers of the typed contexts of a head, by their names
-abbrev pub parts_by : List HeadItem → ℕ → Option ℕ
-parts_by head = typed_number (typed_contexts_of head) 0
-
 -- the names by lists of them with their numbers
 abbrev pub names_by : List HeadItem → List (ℕ × ℕ) → List (ℕ × ℕ) → List (ℕ × ℕ) → BodyNames
 names_by head integers contexts rule_contexts = record {
-  part = parts_by head;
+  part = part_numbers head;
   integer = registers_by integers;
   context = membrane_named contexts;
   rule_context = membrane_named rule_contexts;
 }
 
 -- a level whose membranes aren't numbered yet
-abbrev pub unnumbered : BodyNames → Level → Unnumbered
-unnumbered s = fold-Level Unnumbered (flatten_step s)
+abbrev pub unnumbered_body : BodyNames → Level → UnnumberedBody
+unnumbered_body s = fold-Level UnnumberedBody (flatten_body_step s)
 
 -- the names of a body beside a head that has these items and is this level, and beside this guard
-abbrev pub names_of : List HeadItem → List Cond → Level → BodyNames
-names_of head guard level = record {
-  part = parts_by head;
-  integer = guard_registers (parts_by head) (λ x. 0) 0 guard;
+abbrev pub body_names : List HeadItem → List Cond → Level → BodyNames
+body_names head guard level = record {
+  part = part_numbers head;
+  integer = guard_registers (part_numbers head) (λ x. 0) 0 guard;
   context = context_membrane level;
   rule_context = rule_context_membrane level;
 }
 
 -- the contexts of a level with the numbers of their membranes
-abbrev pub contexts_in : Level → Numbered
-contexts_in = numbering (λ l. l.contexts)
+abbrev pub numbered_contexts : Level → NumberedContexts
+numbered_contexts = numbering (λ l. l.contexts)
 
-abbrev pub rule_contexts_in : Level → Numbered
-rule_contexts_in = numbering (λ l. l.rule_contexts)
+-- and its rule contexts
+abbrev pub numbered_rule_contexts : Level → NumberedContexts
+numbered_rule_contexts = numbering (λ l. l.rule_contexts)
 
 -- what comes behind the membranes of a level
 abbrev pub tail_items : BodyNames → ℕ → Level → List BodyItem
-tail_items s inside = fold-Level (List BodyItem) (λ l. context_items s inside l.contexts ++ (rule_items inside l.rules ++ rule_context_items s inside l.rule_contexts))
+tail_items s inside = fold-Level (List BodyItem) (λ l. context_items s inside l.contexts ++ (body_rule_items inside l.rules ++ rule_context_items s inside l.rule_contexts))

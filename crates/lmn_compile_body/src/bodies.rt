@@ -3,9 +3,10 @@ ghost use Rattle.lmn_solid.specs.Heads.{membranes_of};
 ghost use Rattle.lmn_body.specs.Code.{body_code};
 ghost use Rattle.lmn_body.specs.Flattening.{body_items};
 ghost use Rattle.lmn_compile_body.specs.Accepted.{HasBodyRoom, rule_body_code};
-ghost use Rattle.lmn_compile_body.specs.Naming.{names_of, parts_by, registers_by, guard_registers, unnumbered, contexts_in, rule_contexts_in};
-ghost use Rattle.lmn_compile_head.specs.Tables.{Fits};
+ghost use Rattle.lmn_compile_body.specs.Naming.{body_names, registers_by, guard_registers, unnumbered_body, numbered_contexts, numbered_rule_contexts};
+ghost use Rattle.lmn_compile_head.specs.Tables.{HeadFits};
 ghost use Rattle.lmn_compile_body.specs.Tables.{BodyFits};
+ghost use Rattle.lmn_compile_head.specs.Bindings.{part_numbers};
 
 use crate::ends::add_links;
 use crate::integers::integers_of;
@@ -28,7 +29,7 @@ pub fn code_of_body(
     body: &[BodyItem],
     links: u32,
 ) -> Result<Rows<Instr>, NoMemory>
-    requires head { Fits links head.now }
+    requires head { HeadFits links head.now }
     requires body { BodyFits links body.now }
     requires few { 1 + length head.now + length body.now < 2 ^ 15 }
     ensures { IfOk result (λ code. code ≡ body_code head.now body.now links) }
@@ -79,12 +80,12 @@ fn body_items_of(
     head: &[HeadItem],
     integers: &[(u32, u16)],
 ) -> Result<Rows<BodyItem>, NoMemory>
-    requires contexts { 1 + (contexts_in rule.now.head).size < 2 ^ 16 }
-    requires rule_contexts { 1 + (rule_contexts_in rule.now.head).size < 2 ^ 16 }
-    requires integers { registers_by integers.now ≡ guard_registers (parts_by head.now) (λ x. 0) 0 rule.now.guard }
-    requires membranes { 1 + length (membranes_of head.now) + (unnumbered (names_of head.now rule.now.guard rule.now.head) rule.now.body).size < 2 ^ 16 }
+    requires contexts { 1 + (numbered_contexts rule.now.head).size < 2 ^ 16 }
+    requires rule_contexts { 1 + (numbered_rule_contexts rule.now.head).size < 2 ^ 16 }
+    requires integers { registers_by integers.now ≡ guard_registers (part_numbers head.now) (λ x. 0) 0 rule.now.guard }
+    requires membranes { 1 + length (membranes_of head.now) + (unnumbered_body (body_names head.now rule.now.guard rule.now.head) rule.now.body).size < 2 ^ 16 }
     requires few { length head.now < 2 ^ 15 }
-    ensures { IfOk result (λ items. items ≡ body_items (names_of head.now rule.now.guard rule.now.head) (length (membranes_of head.now)) rule.now.body) }
+    ensures { IfOk result (λ items. items ≡ body_items (body_names head.now rule.now.guard rule.now.head) (length (membranes_of head.now)) rule.now.body) }
 {
     let mut contexts = Rows::new(alloc);
     add_contexts(&mut contexts, &rule.head, 0, 1)?;

@@ -2,7 +2,8 @@ ghost use Rattle.std.specs.Prelude.{◌≡◌, ◌+◌, ◌*◌, ◌<◌, ◌≤
 ghost use Rattle.lmn_base.specs.declared.guard.Cond.{Cond};
 ghost use Rattle.lmn_base.specs.RuleCodes.{condition_tokens, expression_tokens};
 ghost use Rattle.lmn_instr.specs.HeadCode.{value_code};
-ghost use Rattle.lmn_compile_body.specs.Naming.{parts_by, registers_by, guard_registers};
+ghost use Rattle.lmn_compile_body.specs.Naming.{registers_by, guard_registers};
+ghost use Rattle.lmn_compile_head.specs.Bindings.{part_numbers};
 
 use crate::names::part_of;
 use lmn_base::{Cond, Expr, NoMemory, Rows};
@@ -36,8 +37,8 @@ pub struct Place {
 fn value_of(items: &[HeadItem], integers: &[(u32, u16)], expr: &Expr, next: u16) -> Place
     requires few { length items.now < 2 ^ 15 }
     requires room { next + 2 * expression_tokens expr.now < 2 ^ 16 }
-    ensures at { result.at ≡ (value_code (parts_by items.now) (registers_by integers.now) expr.now next).at }
-    ensures next { result.next ≡ (value_code (parts_by items.now) (registers_by integers.now) expr.now next).next }
+    ensures at { result.at ≡ (value_code (part_numbers items.now) (registers_by integers.now) expr.now next).at }
+    ensures next { result.next ≡ (value_code (part_numbers items.now) (registers_by integers.now) expr.now next).next }
     ensures room { result.next < next + 2 * expression_tokens expr.now }
 {
     match expr {
@@ -76,7 +77,7 @@ fn note_condition(
     requires few { length items.now < 2 ^ 15 }
     requires room { next + 2 * condition_tokens condition.now < 2 ^ 16 }
     ensures same { IfOk result (λ behind. (cs : List Cond) →
-        guard_registers (parts_by items.now) (registers_by integers.new) behind cs ≡ guard_registers (parts_by items.now) (registers_by integers.old) next (condition.now ∷ cs)) }
+        guard_registers (part_numbers items.now) (registers_by integers.new) behind cs ≡ guard_registers (part_numbers items.now) (registers_by integers.old) next (condition.now ∷ cs)) }
     ensures room { IfOk result (λ behind. behind ≤ next + 2 * condition_tokens condition.now) }
 {
     match condition {
@@ -106,7 +107,7 @@ pub fn integers_of(
 ) -> Result<Rows<(u32, u16)>, NoMemory>
     requires few { length items.now < 2 ^ 15 }
     requires room { sum_by condition_tokens guard.now ≤ 256 }
-    ensures { IfOk result (λ integers. registers_by integers ≡ guard_registers (parts_by items.now) (λ x. 0) 0 guard.now) }
+    ensures { IfOk result (λ integers. registers_by integers ≡ guard_registers (part_numbers items.now) (λ x. 0) 0 guard.now) }
 {
     let mut integers = Rows::new(alloc);
     let mut next = 0;

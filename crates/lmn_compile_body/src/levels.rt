@@ -1,10 +1,10 @@
 ghost use Rattle.std.specs.Prelude.{◌≡◌, ◌+◌, ◌<◌, ◌++◌, ◌^◌, ℕ, List, length, IfOk, OnOk};
 ghost use Rattle.lmn_base.specs.Solids.{connector};
 ghost use Rattle.lmn_heap.specs.Functors.{same_functor};
-ghost use Rattle.lmn_body.specs.Flattening.{leaf_items, context_items, rule_items, rule_context_items};
+ghost use Rattle.lmn_body.specs.Flattening.{body_leaf_items, context_items, body_rule_items, rule_context_items};
 ghost use Rattle.lmn_body.specs.Flattening as flattening;
 ghost use Rattle.lmn_solid.specs.declared.items.HeadItem.{HeadItem};
-ghost use Rattle.lmn_compile_body.specs.Naming.{names_by, unnumbered, tail_items};
+ghost use Rattle.lmn_compile_body.specs.Naming.{names_by, unnumbered_body, tail_items};
 
 use crate::integers::register_of;
 use crate::names::{number_of, part_of};
@@ -66,7 +66,7 @@ fn add_leaves(
     items: &mut Rows<BodyItem>,
 ) -> Result<(), NoMemory>
     requires { length head.now < 2 ^ 15 }
-    ensures { (contexts rule_contexts : List (ℕ × ℕ)) → OnOk result (items.new ≡ items.old ++ leaf_items (names_by head.now integers.now contexts rule_contexts) inside leaves.now) }
+    ensures { (contexts rule_contexts : List (ℕ × ℕ)) → OnOk result (items.new ≡ items.old ++ body_leaf_items (names_by head.now integers.now contexts rule_contexts) inside leaves.now) }
 {
     for leaf in leaves {
         match leaf {
@@ -104,7 +104,7 @@ fn add_rests(
 
 /// Adds the rules of a level.
 fn add_rules(rules: &[u32], inside: u16, items: &mut Rows<BodyItem>) -> Result<(), NoMemory>
-    ensures { OnOk result (items.new ≡ items.old ++ rule_items inside rules.now) }
+    ensures { OnOk result (items.new ≡ items.old ++ body_rule_items inside rules.now) }
 {
     for rule in rules {
         items.push(BodyItem::Rule {
@@ -162,9 +162,9 @@ fn add_level(
     items: &mut Rows<BodyItem>,
 ) -> Result<u16, NoMemory>
     requires few { length head.now < 2 ^ 15 }
-    requires size { next + (unnumbered (names_by head.now integers.now contexts.now rule_contexts.now) level.now).size < 2 ^ 16 }
-    ensures { IfOk result (λ behind. (items.new ≡ items.old ++ (unnumbered (names_by head.now integers.now contexts.now rule_contexts.now) level.now).items inside next)
-        × (behind ≡ next + (unnumbered (names_by head.now integers.now contexts.now rule_contexts.now) level.now).size)) }
+    requires size { next + (unnumbered_body (names_by head.now integers.now contexts.now rule_contexts.now) level.now).size < 2 ^ 16 }
+    ensures { IfOk result (λ behind. (items.new ≡ items.old ++ (unnumbered_body (names_by head.now integers.now contexts.now rule_contexts.now) level.now).items inside next)
+        × (behind ≡ next + (unnumbered_body (names_by head.now integers.now contexts.now rule_contexts.now) level.now).size)) }
 {
     add_leaves(
         alloc,
@@ -204,7 +204,7 @@ pub fn flatten_body(
     rule_contexts: &[(u32, u16)],
 ) -> Result<Rows<BodyItem>, NoMemory>
     requires few { length head.now < 2 ^ 15 }
-    requires size { 1 + membranes + (unnumbered (names_by head.now integers.now contexts.now rule_contexts.now) body.now).size < 2 ^ 16 }
+    requires size { 1 + membranes + (unnumbered_body (names_by head.now integers.now contexts.now rule_contexts.now) body.now).size < 2 ^ 16 }
     ensures { IfOk result (λ items. items ≡ flattening.body_items (names_by head.now integers.now contexts.now rule_contexts.now) membranes body.now) }
 {
     let mut items = Rows::new(alloc);

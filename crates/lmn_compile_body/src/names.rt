@@ -1,6 +1,7 @@
 ghost use Rattle.std.specs.Prelude.{◌≡◌, ◌+◌, ◌<◌, ◌++◌, ◌^◌, length, IfOk, OnOk};
 ghost use Rattle.lmn_body.specs.Flattening.{names_inside, membrane_named};
-ghost use Rattle.lmn_compile_body.specs.Naming.{parts_by, contexts_in, rule_contexts_in};
+ghost use Rattle.lmn_compile_body.specs.Naming.{numbered_contexts, numbered_rule_contexts};
+ghost use Rattle.lmn_compile_head.specs.Bindings.{part_numbers};
 
 use lmn_base::{CtxUse, Level, NoMemory, Rows};
 use lmn_solid::HeadItem;
@@ -21,7 +22,7 @@ pub fn number_of(names: &[(u32, u16)], name: u32) -> u16
 /// The number of the typed context of a head with this name.
 pub fn part_of(items: &[HeadItem], name: u32) -> Option<u16>
     requires { length items.now < 2 ^ 15 }
-    ensures { result ≡ parts_by items.now name }
+    ensures { result ≡ part_numbers items.now name }
 {
     let mut part = 0;
     for item in items {
@@ -57,8 +58,8 @@ pub fn add_contexts(
     inside: u16,
     next: u16,
 ) -> Result<u16, NoMemory>
-    requires { next + (contexts_in level.now).size < 2 ^ 16 }
-    ensures { IfOk result (λ behind. (names.new ≡ names.old ++ (contexts_in level.now).names inside next) × (behind ≡ next + (contexts_in level.now).size)) }
+    requires { next + (numbered_contexts level.now).size < 2 ^ 16 }
+    ensures { IfOk result (λ behind. (names.new ≡ names.old ++ (numbered_contexts level.now).names inside next) × (behind ≡ next + (numbered_contexts level.now).size)) }
 {
     add_names(names, level.contexts.as_slice(), inside)?;
     let mut behind = next;
@@ -75,8 +76,8 @@ pub fn add_rule_contexts(
     inside: u16,
     next: u16,
 ) -> Result<u16, NoMemory>
-    requires { next + (rule_contexts_in level.now).size < 2 ^ 16 }
-    ensures { IfOk result (λ behind. (names.new ≡ names.old ++ (rule_contexts_in level.now).names inside next) × (behind ≡ next + (rule_contexts_in level.now).size)) }
+    requires { next + (numbered_rule_contexts level.now).size < 2 ^ 16 }
+    ensures { IfOk result (λ behind. (names.new ≡ names.old ++ (numbered_rule_contexts level.now).names inside next) × (behind ≡ next + (numbered_rule_contexts level.now).size)) }
 {
     add_names(names, level.rule_contexts.as_slice(), inside)?;
     let mut behind = next;

@@ -1,7 +1,7 @@
 ghost use Rattle.std.specs.Prelude.{◌≡◌, ◌+◌, ◌<◌, ◌++◌, ◌^◌, List, [], ◌∷◌, length, IfOk, OnOk};
-ghost use Rattle.lmn_solid.specs.Heads.{at_ports, links_of};
-ghost use Rattle.lmn_body.specs.Items.{ports_from, new_ports, old_ports, once_in, connectors};
-ghost use Rattle.lmn_compile_head.specs.Tables.{AllBelow, Counts, Fits};
+ghost use Rattle.lmn_solid.specs.Heads.{at_ports, links_of_head};
+ghost use Rattle.lmn_body.specs.Items.{new_ports_from, new_ports, old_ports, once_in, connectors};
+ghost use Rattle.lmn_compile_head.specs.Tables.{AllBelow, Counts, HeadFits};
 ghost use Rattle.lmn_compile_body.specs.Tables.{AllFew};
 
 use lmn_base::{NoMemory, Rows};
@@ -34,7 +34,7 @@ pub fn connectors_of(alloc: Global, items: &[BodyItem]) -> Result<Rows<(u32, u32
 /// Adds the ports of a made atom, with their links.
 fn add_new(ports: &mut Rows<(NewPort, u32)>, atom: u16, links: &[u32]) -> Result<(), NoMemory>
     requires { length links.now < 256 }
-    ensures { OnOk result (ports.new ≡ ports.old ++ ports_from atom 0 links.now) }
+    ensures { OnOk result (ports.new ≡ ports.old ++ new_ports_from atom 0 links.now) }
 {
     for (i, link) in links.iter().enumerate() {
         let port = AtomPort {
@@ -92,7 +92,7 @@ fn add_if_once(
 ) -> Result<(), NoMemory>
     requires { link < length times.now }
     ensures { (items : List HeadItem) → Counts times.now items →
-        OnOk result (ports.new ≡ ports.old ++ once_in (links_of items) ((record { link = link; port = (port.atom, port.port) }) ∷ [])) }
+        OnOk result (ports.new ≡ ports.old ++ once_in (links_of_head items) ((record { link = link; port = (port.atom, port.port) }) ∷ [])) }
 {
     if times[link as usize] == 1 {
         ports.push((port, link))
@@ -110,7 +110,7 @@ fn add_old(
 ) -> Result<(), NoMemory>
     requires below { AllBelow (length times.now) links.now }
     requires few { length links.now < 256 }
-    ensures { (items : List HeadItem) → Counts times.now items → OnOk result (ports.new ≡ ports.old ++ once_in (links_of items) (at_ports atom 0 links.now)) }
+    ensures { (items : List HeadItem) → Counts times.now items → OnOk result (ports.new ≡ ports.old ++ once_in (links_of_head items) (at_ports atom 0 links.now)) }
 {
     for (i, link) in links.iter().enumerate() {
         let port = AtomPort {
@@ -128,7 +128,7 @@ fn add_all_old(
     times: &[u8],
     items: &[HeadItem],
 ) -> Result<(), NoMemory>
-    requires fits { Fits (length times.now) items.now }
+    requires fits { HeadFits (length times.now) items.now }
     requires few { length items.now < 2 ^ 15 }
     ensures { Counts times.now items.now → OnOk result (ports.new ≡ ports.old ++ old_ports items.now) }
 {
@@ -152,7 +152,7 @@ pub fn old_ports_of(
     items: &[HeadItem],
     links: u32,
 ) -> Result<Rows<(AtomPort, u32)>, NoMemory>
-    requires fits { Fits links items.now }
+    requires fits { HeadFits links items.now }
     requires few { length items.now < 2 ^ 15 }
     ensures { IfOk result (λ ports. ports ≡ old_ports items.now) }
 {

@@ -3,7 +3,7 @@ ghost use Rattle.lmn_base.specs.declared.functor.Label.TheVariants.{Name};
 ghost use Rattle.lmn_guards.specs.declared.plan.TypeKind.TheVariants as kind;
 ghost use Rattle.lmn_solid.specs.declared.items.HeadItem.TheVariants as head;
 ghost use Rattle.lmn_body.specs.declared.items.BodyItem.TheVariants as body;
-ghost use Rattle.lmn_compile_head.specs.Tables.{Fits};
+ghost use Rattle.lmn_compile_head.specs.Tables.{HeadFits};
 ghost use Rattle.lmn_compile_body.specs.Tables.{BodyFits};
 
 use crate::code_of_body;
@@ -75,7 +75,7 @@ fn has_code(
     links: u32,
     wanted: usize,
 ) -> Result<bool, NoMemory>
-    requires head { Fits links head.now }
+    requires head { HeadFits links head.now }
     requires body { BodyFits links body.now }
     requires few { 1 + length head.now + length body.now < 2 ^ 15 }
 {

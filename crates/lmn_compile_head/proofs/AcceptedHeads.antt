@@ -1,7 +1,6 @@
 -- The laws of head code hold of accepted rules.
-use Rattle.std.proofs.Common.{ℕ, ◌≡◌, ◌≤◌, List, [], ◌++◌, length, refl, sym, subst, arith}
-use Rattle.std.specs.Prelude.{Bool, true, false, ◌||◌, sum_by, nat_lt}
-use Rattle.std.proofs.lemmas.Bool.Decides.{nat_tests}
+use Rattle.std.proofs.Common.{ℕ, ◌≡◌, ◌≤◌, List, [], ◌++◌, length, sym, subst, arith}
+use Rattle.std.specs.Prelude.{sum_by, nat_lt}
 use Rattle.std.proofs.lemmas.List.{get_or_append_left, length-append}
 use Rattle.lmn_base.specs.declared.rule.RuleTree.{RuleTree}
 use Rattle.lmn_base.specs.Firsts.{Row, NoneApplies}
@@ -17,21 +16,17 @@ use Rattle.lmn_solid.specs.Heads.{HeadTyped}
 use Rattle.lmn_solid.specs.Embeddings.{HasTyped, HasLink}
 use Rattle.lmn_solid.specs.Heads as heads
 use Rattle.lmn_compile_head.specs.Heads.{kind_in, IsHead, IsGuard}
-use Rattle.lmn_compile_head.specs.Laws.{Meets}
+use Rattle.lmn_compile_head.specs.Laws.{HeadMeetsHeap}
 use Rattle.lmn_compile_head.specs.Accepted.{head_items, HasRoom, IsReady, AcceptedHeads, AcceptedLeast}
 use Rattle.lmn_compile_head.proofs.HeadLeaves.{items_inside, at_most_twice, typed_leaf, port_of_leaf, head_fits, items_few, size_few}
 use Rattle.lmn_compile_head.proofs.GuardUses.{accepted_guard}
 use Rattle.lmn_compile_head.proofs.Laws.{code_of_least}
+use Rattle.lmn_base.specs.Graphs.{Port}
+use Rattle.lmn_base.proofs.Numbers.{at_most_by_test as not_less}
+use Rattle.lmn_base.proofs.Truth.{neither_true as or_none}
 
 front_none : (rows more : List Row) → NoneApplies (rows ++ more) → NoneApplies rows
 front_none rows more h = λ k d l. subst (λ (row : Row). row.places ≡ []) (get_or_append_left rows more d k l) (h k d (let e = length-append rows more in omega (arith, l, e)))
-
-or_none : (a b : Bool) → (a || b) ≡ false → (a ≡ false) × (b ≡ false)
-or_none true b e = absurd (cc)
-or_none false b e = (refl, e)
-
-not_less : (m n : ℕ) → nat_lt m n ≡ false → n ≤ m
-not_less m n e = grind (arith, nat_tests)
 
 module _ (table : List RuleTree) (r : RuleTree) (plan : GuardPlan) (ready : IsReady table r plan) where
   -- the limits of a rule
@@ -47,7 +42,7 @@ module _ (table : List RuleTree) (r : RuleTree) (plan : GuardPlan) (ready : IsRe
   is_head =
       let kind = kind_in plan.kinds in
       let order = in_order table r ready.accepted in
-      let held : (n : ℕ) (t : HeadTyped) → HasTyped (head_items r plan) n t → (p : heads.Port) × HasLink (head_items r plan) t.link p = λ n t e.
+      let held : (n : ℕ) (t : HeadTyped) → HasTyped (head_items r plan) n t → (p : Port) × HasLink (head_items r plan) t.link p = λ n t e.
       (let l = typed_leaf kind r.head n t e in
       let p = port_of_leaf kind r.head l.0.link (order.is_held t.name l.0 l.1 l.2) in
       (p.0, subst (λ x. HasLink (head_items r plan) x p.0) (sym l.3) p.1)) in
@@ -73,7 +68,7 @@ module _ (table : List RuleTree) (r : RuleTree) (plan : GuardPlan) (ready : IsRe
         integers = small.1;
       }
 
-  meets : (h : Heap) → Valid h → Meets h (head_items r plan) r.guard
+  meets : (h : Heap) → Valid h → HeadMeetsHeap h (head_items r plan) r.guard
   meets h valid = record { valid = valid; head = is_head; allowed = is_guard }
 
 pub accepted_heads : AcceptedHeads

@@ -1,18 +1,15 @@
 -- The guard of an accepted rule meets what the laws of head code ask.
-use Rattle.std.proofs.Common.{Box, Global, ℕ, suc, ◌≡◌, ◌⊎◌, inl, inr, List, [], ◌∷◌, ◌++◌, length, refl, sym, ap, subst, ◌∙◌, arith, append_assoc}
+use Rattle.std.proofs.Common.{ℕ, suc, ◌≡◌, ◌⊎◌, inl, inr, List, [], ◌∷◌, ◌++◌, length, refl, sym, ap, subst, ◌∙◌, arith, append_assoc}
 use Rattle.std.specs.Prelude.{Option, Some, None, IsSome, Bool, true, false, not, ◌==◌, ◌||◌, ◌&&◌, if◌then◌else◌, Contains, slice_get, is_some}
 use Rattle.std.specs.List.{flat_map, list_any}
 use Rattle.std.proofs.lemmas.Bool.Decides.{Decides-eqb}
 use Rattle.std.proofs.lemmas.List.Concat.{flat_map-append}
 use Rattle.std.proofs.lemmas.List.Elements.{Contains-append_left, Contains-append_right}
 use Rattle.lmn_base.specs.declared.functor.TheConstants.{INT_NAME, UNARY_NAME, GROUND_NAME}
-use Rattle.lmn_base.specs.declared.guard.Arith.{Arith}
 use Rattle.lmn_base.specs.declared.guard.Cond.{Cond}
 use Rattle.lmn_base.specs.declared.guard.Cond.TheVariants.{Kind, Compare, Equal, Differ}
 use Rattle.lmn_base.specs.declared.guard.Expr.{Expr}
 use Rattle.lmn_base.specs.declared.guard.Expr.TheVariants as expr
-use Rattle.lmn_base.specs.declared.guard.Expr.TheOpen as step
-use Rattle.lmn_base.specs.declared.guard.Expr.TheFolds.{fold-roll-Expr}
 use Rattle.lmn_base.specs.declared.item.Form.TheVariants as form
 use Rattle.lmn_base.specs.declared.item.Item.{Item}
 use Rattle.lmn_base.specs.declared.item.Item.TheVariants as item
@@ -23,7 +20,7 @@ use Rattle.lmn_base.specs.declared.refusal.Pos.{Pos}
 use Rattle.lmn_base.specs.declared.rule.RuleTree.{RuleTree}
 use Rattle.lmn_base.specs.Firsts.{NoneApplies}
 use Rattle.lmn_base.specs.Items as base
-use Rattle.lmn_base.specs.Items.{used, rule_items, guard_items, condition_items, expression_step, expression_items}
+use Rattle.lmn_base.specs.Items.{used, rule_items, guard_items, condition_items, expression_items}
 use Rattle.lmn_base.specs.Levels.{leaves_of}
 use Rattle.lmn_base.specs.RuleCodes.{is_left_of}
 use Rattle.lmn_base.specs.Uses.{is_some_place, use_of}
@@ -31,39 +28,24 @@ use Rattle.lmn_guards.specs.declared.plan.GuardPlan.{GuardPlan}
 use Rattle.lmn_guards.specs.declared.plan.TypeKind.{TypeKind}
 use Rattle.lmn_guards.specs.declared.plan.TypeKind.TheVariants as kind
 use Rattle.lmn_guards.specs.Accepted.{IsInOrder}
-use Rattle.lmn_guards.specs.GuardCodes.{in_head, is_bound, is_type, unknown, use_of_none, unbound, is_of_head, has_wrong_operands, place_of, asks, type_of, rows_of_conditions}
+use Rattle.lmn_guards.specs.GuardCodes.{in_head, is_bound, is_type, unknown, use_of_none, unbound, is_of_head, has_wrong_operands, condition_place, asks, type_of, rows_of_conditions}
 use Rattle.lmn_guards.specs.Plans.{IsPlan}
 use Rattle.lmn_guards.proofs.OrderLemmas.{no_places, not_then, so_else}
 use Rattle.lmn_heap.specs.Heap.{In}
-use Rattle.lmn_solid.specs.Flattening.{items_of}
+use Rattle.lmn_solid.specs.Flattening.{items_of_head}
 use Rattle.lmn_solid.specs.Guards.{typed_number, context_alone, kind_named}
 use Rattle.lmn_solid.specs.Heads.{HeadTyped, typed_contexts_of}
 use Rattle.lmn_instr.specs.HeadCode.{part_named}
-use Rattle.lmn_compile_head.specs.Heads.{kind_in, Uses, IsNarrower, IsAsked, EqualAllowed, IsGuard}
+use Rattle.lmn_compile_head.specs.Heads.{kind_in, UsesKnown, IsNarrower, IsAsked, EqualAllowed, IsGuard}
 use Rattle.lmn_compile_head.proofs.HeadLeaves.{typed_leaf, number_at, number_of_leaf}
-use Rattle.lmn_compile_head.proofs.HeadUses.{here, behind, contained, leaf_is_used, use_is_leaf}
+use Rattle.lmn_compile_head.proofs.HeadUses.{contained, leaf_is_used, use_is_leaf}
 use Rattle.lmn_compile_head.proofs.PlanKinds.{kind_of_leaf, narrower}
+use Rattle.lmn_base.proofs.Common.{operation_items as op_items}
+use Rattle.lmn_base.proofs.Lists.{contains_behind as behind, contains_first as here}
+use Rattle.lmn_base.proofs.Truth.{and_true as and_both, either_true as or_either, never_both, not_false, not_true}
+use Rattle.lmn_guards.proofs.WorkedGuards.{of_context as ctx_items}
 
 -- ---- tests
-
-and_both : (a b : Bool) → (a && b) ≡ true → (a ≡ true) × (b ≡ true)
-and_both true b e = (refl, e)
-and_both false b e = absurd (cc)
-
-or_either : (a b : Bool) → (a || b) ≡ true → (a ≡ true) ⊎ (b ≡ true)
-or_either true b e = inl refl
-or_either false b e = inr e
-
-not_true : (a : Bool) → not a ≡ true → a ≡ false
-not_true true e = absurd (cc)
-not_true false e = refl
-
-not_false : (a : Bool) → not a ≡ false → a ≡ true
-not_false true e = refl
-not_false false e = absurd (cc)
-
-never_both : (a : Bool) → a ≡ true → a ≡ false → ⊥
-never_both a e f = let clash : true ≡ false = sym e ∙ f in cc
 
 any_more : {X : Type 0} (f : X → Bool) (xs : List X) (x : X) → list_any f (xs ++ x ∷ []) ≡ true → (list_any f xs ≡ true) ⊎ (f x ≡ true)
 any_more f [] x e = elim (or_either (f x) false e) [ inl a ↦ inr a | inr b ↦ absurd (cc) ]
@@ -87,15 +69,6 @@ some_is None e = absurd (cc)
 
 -- ---- contexts of expressions
 
-ctx_items : (u : CtxUse) → expression_items (expr.Ctx u) ≡ used form.Typed u ∷ []
-ctx_items u = ap expression_items (sym (expr.rolls-Ctx u)) ∙ fold-roll-Expr (List Item) expression_step (step.Ctx u)
-
-op_items : (op : Arith) (p : Box (Unit {0}) Global) (left : Expr) (q : Box (Unit {0}) Global) (right : Expr) → expression_items (expr.Op' op p left q right) ≡ expression_items left ++ expression_items right
-op_items op p left q right =
-    let l : Box Expr Global = record { value = left; ptr = p.ptr; alloc = p.alloc } in
-    let k : Box Expr Global = record { value = right; ptr = q.ptr; alloc = q.alloc } in
-    ap expression_items (sym (expr.rolls-Op op l k)) ∙ fold-roll-Expr (List Item) expression_step (step.Op op l k)
-
 -- ---- the names of conditions on a type
 
 type_case : (n : ℕ) → is_type n ≡ true → ((kind_named n ≡ Some kind.Int) × ((n == INT_NAME) ≡ true)) ⊎ (((kind_named n ≡ Some kind.Unary) × ((n == UNARY_NAME) ≡ true)) ⊎ ((kind_named n ≡ Some kind.Ground) × ((n == GROUND_NAME) ≡ true)))
@@ -115,7 +88,7 @@ module _ (table : List RuleTree) (r : RuleTree) (plan : GuardPlan) (order : IsIn
   of_plan = kind_in plan.kinds
 
   abbrev typed : List HeadTyped
-  typed = typed_contexts_of (items_of of_plan r.head)
+  typed = typed_contexts_of (items_of_head of_plan r.head)
 
   abbrev part : ℕ → Option ℕ
   part = typed_number typed 0
@@ -162,7 +135,7 @@ module _ (table : List RuleTree) (r : RuleTree) (plan : GuardPlan) (order : IsIn
       | inr b ↦ inr (knows u.name b)
     ]
 
-    expr_uses : (e : Expr) → ((u : CtxUse) → Contains (expression_items e) (used form.Typed u) → Used u) → flat_map (use_of_none r.head before) (expression_items e) ≡ [] → Uses part known e
+    expr_uses : (e : Expr) → ((u : CtxUse) → Contains (expression_items e) (used form.Typed u) → Used u) → flat_map (use_of_none r.head before) (expression_items e) ≡ [] → UsesKnown part known e
     expr_uses (expr.Int z) c e = tt
     expr_uses (expr.Ctx u) c e =
         let f = ap (flat_map (use_of_none r.head before)) (sym (ctx_items u)) ∙ e in
@@ -263,14 +236,14 @@ module _ (table : List RuleTree) (r : RuleTree) (plan : GuardPlan) (order : IsIn
   compared (Some g) (Some k) Known Bound Compared a b c = c
 
   equal_is : (left : CtxUse) (right : Expr) (known : List ℕ) (cs : List Cond) (b : Bool) → in_head r.head left.name ≡ b → (in_head r.head left.name && not (is_of_head r.head right)) ≡ false
-      → ((u : CtxUse) → Contains (expression_items right) (used form.Typed u) → Used u) → Used left → Uses part known right
+      → ((u : CtxUse) → Contains (expression_items right) (used form.Typed u) → Used u) → Used left → UsesKnown part known right
       → (in_head r.head left.name ≡ true → IsGuard typed known cs) → IsGuard typed (left.name ∷ known) cs
-      → EqualAllowed (part left.name) (part_named part (context_alone right)) (Uses part known right) (IsGuard typed (left.name ∷ known) cs) (IsGuard typed known cs)
+      → EqualAllowed (part left.name) (part_named part (context_alone right)) (UsesKnown part known right) (IsGuard typed (left.name ∷ known) cs) (IsGuard typed known cs)
   equal_is left right known cs true e wrong uses use_left known_right rest bound =
-      compared (part left.name) (part_named part (context_alone right)) (Uses part known right) (IsGuard typed (left.name ∷ known) cs) (IsGuard typed known cs)
+      compared (part left.name) (part_named part (context_alone right)) (UsesKnown part known right) (IsGuard typed (left.name ∷ known) cs) (IsGuard typed known cs)
       (has_number left use_left e) (alone_in_head right uses (and_not (in_head r.head left.name) (is_of_head r.head right) wrong e)) (rest e)
   equal_is left right known cs false e wrong uses use_left known_right rest bound =
-      subst (λ o. EqualAllowed o (part_named part (context_alone right)) (Uses part known right) (IsGuard typed (left.name ∷ known) cs) (IsGuard typed known cs)) (sym (no_number left.name e)) (known_right, bound)
+      subst (λ o. EqualAllowed o (part_named part (context_alone right)) (UsesKnown part known right) (IsGuard typed (left.name ∷ known) cs) (IsGuard typed known cs)) (sym (no_number left.name e)) (known_right, bound)
 
   -- ---- all of it
 
@@ -288,7 +261,7 @@ module _ (table : List RuleTree) (r : RuleTree) (plan : GuardPlan) (order : IsIn
     none_unbound = h 1 (record { code = 0; places = [] }) (omega arith)
 
     none_wrong : has_wrong_operands r.head before c ≡ false
-    none_wrong = not_then (has_wrong_operands r.head before c) (place_of c) (h 2 (record { code = 0; places = [] }) (omega arith))
+    none_wrong = not_then (has_wrong_operands r.head before c) (condition_place c) (h 2 (record { code = 0; places = [] }) (omega arith))
 
   guard_is : (before cs : List Cond) (known : List ℕ) → r.guard ≡ before ++ cs → None' before cs → Knows before known → IsGuard typed known cs
   guard_is before [] known eq h knows = tt

@@ -15,20 +15,22 @@ use Rattle.lmn_base.specs.Items.{number_of_items}
 use Rattle.lmn_base.specs.declared.level.Leaf.{Leaf}
 use Rattle.lmn_base.specs.declared.level.Leaf.TheVariants as leaf
 use Rattle.lmn_base.specs.declared.level.Level.{Level}
-use Rattle.lmn_base.specs.Levels.{leaves_of, leaf_occurrences, links_of}
+use Rattle.lmn_base.specs.Levels.{leaves_of, occurrences_of_leaf, links_of}
 use Rattle.lmn_guards.specs.declared.plan.TypeKind.{TypeKind}
 use Rattle.lmn_solid.specs.declared.items.HeadItem.{HeadItem}
 use Rattle.lmn_solid.specs.declared.items.HeadItem.TheVariants.{Atom, Typed, Membrane}
-use Rattle.lmn_solid.specs.Heads.{HeadAtom, HeadTyped, Port, typed_contexts_of, membranes_of, times}
+use Rattle.lmn_solid.specs.Heads.{HeadAtom, HeadTyped, typed_contexts_of, membranes_of, times}
 use Rattle.lmn_solid.specs.Heads as heads
 use Rattle.lmn_solid.specs.Guards.{typed_number}
-use Rattle.lmn_solid.specs.Flattening.{leaf_items, items_of, unnumbered}
+use Rattle.lmn_solid.specs.Flattening.{leaf_items, items_of_head, unnumbered}
 use Rattle.lmn_solid.specs.Embeddings.{HasAtom, HasTyped, HasLink}
 use Rattle.lmn_solid.proofs.HeadTrees.{Head, Heads, head, no_head, head_and, size, sizes, flat_items, flat_membranes, items_flat, head_at, head_leaves, heads_leaves, same_leaves, head_number, heads_number, heads_length, same_number, same_size}
 use Rattle.lmn_compile_head.specs.Heads.{EachInside}
-use Rattle.lmn_compile_head.specs.Tables.{AllBelow, Fits, HasFewLinks}
+use Rattle.lmn_compile_head.specs.Tables.{AllBelow, HeadFits, HasFewLinks}
 use Rattle.lmn_compile_head.proofs.Noting.{atom_times, typed_times}
-use Rattle.lmn_compile_head.proofs.Places.{times_append}
+use Rattle.lmn_base.specs.Graphs.{Port}
+use Rattle.lmn_base.proofs.Lists.{contains_behind as behind}
+use Rattle.lmn_solid.proofs.Common.{times_append}
 
 -- the atoms and typed contexts of a list of items, as if all stood at the top
 abbrev pub bare : List HeadItem → List HeadItem
@@ -69,28 +71,28 @@ module _ (kind : ℕ → TypeKind) where
         ∙ sym (leaves_append kind (head_leaves h) (heads_leaves hs))
 
   -- the leaves of a head's items are the leaves of the head
-  pub bare_items : (l : Level) → bare (items_of kind l) ≡ leaf_items kind 0 (leaves_of l)
+  pub bare_items : (l : Level) → bare (items_of_head kind l) ≡ leaf_items kind 0 (leaves_of l)
   bare_items l = ap bare (items_flat kind l) ∙ bare_head 0 1 (head_at l) ∙ ap (leaf_items kind 0) (sym (same_leaves l))
 
 -- ---- links
 
-bare_times : (x : ℕ) (is : List HeadItem) → times x (heads.links_of is) ≡ times x (heads.links_of (bare is))
+bare_times : (x : ℕ) (is : List HeadItem) → times x (heads.links_of_head is) ≡ times x (heads.links_of_head (bare is))
 bare_times x [] = refl
 bare_times x (Atom f xs m ∷ is) = atom_times x f xs m is ∙ (ap (λ k. times x xs + k) (bare_times x is) ∙ sym (atom_times x f xs 0 (bare is)))
 bare_times x (Typed n k y m ∷ is) = let a = typed_times x n k y m is in let b = typed_times x n k y 0 (bare is) in let c = bare_times x is in omega (arith, a, b, c)
 bare_times x (Membrane m c r ∷ is) = bare_times x is
 
-leaves_times : (kind : ℕ → TypeKind) (x : ℕ) (ls : List Leaf) → times x (heads.links_of (leaf_items kind 0 ls)) ≡ times x (map (λ o. o.link) (flat_map leaf_occurrences ls))
+leaves_times : (kind : ℕ → TypeKind) (x : ℕ) (ls : List Leaf) → times x (heads.links_of_head (leaf_items kind 0 ls)) ≡ times x (map (λ o. o.link) (flat_map occurrences_of_leaf ls))
 leaves_times kind x [] = refl
 leaves_times kind x (leaf.Atom f os p ∷ ls) =
     atom_times x f (map (λ o. o.link) os) 0 (leaf_items kind 0 ls) ∙ (ap (λ k. times x (map (λ o. o.link) os) + k) (leaves_times kind x ls)
-    ∙ (sym (times_append x (map (λ o. o.link) os) (map (λ o. o.link) (flat_map leaf_occurrences ls))) ∙ ap (times x) (sym (map-append (λ o. o.link) os (flat_map leaf_occurrences ls)))))
+    ∙ (sym (times_append x (map (λ o. o.link) os) (map (λ o. o.link) (flat_map occurrences_of_leaf ls))) ∙ ap (times x) (sym (map-append (λ o. o.link) os (flat_map occurrences_of_leaf ls)))))
 leaves_times kind x (leaf.Typed n o p ∷ ls) =
     let a = typed_times x n (kind n) o.link 0 (leaf_items kind 0 ls) in let b = leaves_times kind x ls in omega (arith, a, b)
 
 -- a link occurs as often in the items of a head as in the head
-pub head_links : (kind : ℕ → TypeKind) (l : Level) (x : ℕ) → times x (heads.links_of (items_of kind l)) ≡ times x (links_of l)
-head_links kind l x = bare_times x (items_of kind l) ∙ (ap (λ is. times x (heads.links_of is)) (bare_items kind l) ∙ leaves_times kind x (leaves_of l))
+pub head_links : (kind : ℕ → TypeKind) (l : Level) (x : ℕ) → times x (heads.links_of_head (items_of_head kind l)) ≡ times x (links_of l)
+head_links kind l x = bare_times x (items_of_head kind l) ∙ (ap (λ is. times x (heads.links_of_head is)) (bare_items kind l) ∙ leaves_times kind x (leaves_of l))
 
 -- ---- where items stand
 
@@ -127,7 +129,7 @@ module _ (kind : ℕ → TypeKind) where
         let c = all_membranes inside next hs in
         omega (arith, a, b, c)
 
-    all_membranes : (inside next : ℕ) (hs : Heads) → length (membranes_of (flat_membranes kind inside next hs)) ≡ sizes hs
+    pub all_membranes : (inside next : ℕ) (hs : Heads) → length (membranes_of (flat_membranes kind inside next hs)) ≡ sizes hs
     all_membranes inside next no_head = refl
     all_membranes inside next (head_and h hs) =
         let a = membranes_append (flat_items kind next (next + 1) h) (flat_membranes kind inside (next + 1 + size h) hs) in
@@ -156,7 +158,7 @@ module _ (kind : ℕ → TypeKind) where
         )
 
   -- each item of a head stands in an earlier membrane, or at the top
-  pub items_inside : (l : Level) → EachInside 0 (items_of kind l)
+  pub items_inside : (l : Level) → EachInside 0 (items_of_head kind l)
   items_inside l = subst (EachInside 0) (sym (items_flat kind l)) (each_inside 0 0 (head_at l) (omega arith))
 
   -- ---- how many there are
@@ -183,12 +185,12 @@ module _ (kind : ℕ → TypeKind) where
         omega (arith, a, b, c)
 
   -- a head has at most as many flat items as items, and fewer membranes
-  pub items_few : (l : Level) → length (items_of kind l) ≤ number_of_items l
+  pub items_few : (l : Level) → length (items_of_head kind l) ≤ number_of_items l
   items_few l = let a = few_items 0 1 (head_at l) in let b = ap length (items_flat kind l) in let c = same_number l in omega (arith, a, b, c)
 
   pub size_few : (l : Level) → (unnumbered kind l).size ≤ number_of_items l
   size_few l =
-      let a = membranes_few (items_of kind l) in
+      let a = membranes_few (items_of_head kind l) in
       let b = many_membranes 0 1 (head_at l) in
       let c = ap (λ is. length (membranes_of is)) (items_flat kind l) in
       let d = same_size kind l in
@@ -202,9 +204,6 @@ module _ (kind : ℕ → TypeKind) where
       membranes_few (Membrane m c r ∷ is) = let e = membranes_few is in omega (arith, e)
 
 -- ---- atoms and typed contexts
-
-behind : {X : Type 0} (x : X) (xs : List X) (y : X) → Contains xs y → Contains (x ∷ xs) y
-behind x xs y (k, within, e) = (suc k, omega (arith, within), e)
 
 -- a typed context of a list of items is one of its leaves, wherever it stands
 typed_bare : (is : List HeadItem) (n : ℕ) (t : HeadTyped) → HasTyped is n t → (u : HeadTyped) × HasTyped (bare is) n u × (u.name ≡ t.name) × (u.kind ≡ t.kind) × (u.link ≡ t.link)
@@ -236,10 +235,10 @@ module _ (kind : ℕ → TypeKind) where
   leaf_typed (leaf.Typed x o p ∷ ls) (suc n) t e = let r = leaf_typed ls n t e in (r.0, r.1, behind (leaf.Typed x o p) ls (leaf.Typed t.name r.0 r.1) r.2, r.3, r.4)
 
   -- a typed context of a head is a leaf of it
-  pub typed_leaf : (l : Level) (n : ℕ) (t : HeadTyped) → HasTyped (items_of kind l) n t
+  pub typed_leaf : (l : Level) (n : ℕ) (t : HeadTyped) → HasTyped (items_of_head kind l) n t
       → (o : Occ) × (p : Pos) × Contains (leaves_of l) (leaf.Typed t.name o p) × (t.link ≡ o.link) × (t.kind ≡ kind t.name)
   typed_leaf l n t e =
-      let b = typed_bare (items_of kind l) n t e in
+      let b = typed_bare (items_of_head kind l) n t e in
       let c = subst (λ is. HasTyped is n b.0) (bare_items kind l) b.1 in
       let d = leaf_typed (leaves_of l) n b.0 c in
       (d.0, d.1, subst (λ x. Contains (leaves_of l) (leaf.Typed x d.0 d.1)) b.2 d.2, sym b.4 ∙ d.3, sym b.3 ∙ (d.4 ∙ ap kind b.2))
@@ -266,11 +265,11 @@ module _ (kind : ℕ → TypeKind) where
           ((suc r.0.0, r.0.1), r.1)
 
   -- a link that stands at an atom's leaf stands at an atom of the items
-  pub port_of_leaf : (l : Level) (x : ℕ) → is_some_place (flat_map (holds x) (leaves_of l)) ≡ true → (p : Port) × HasLink (items_of kind l) x p
+  pub port_of_leaf : (l : Level) (x : ℕ) → is_some_place (flat_map (holds x) (leaves_of l)) ≡ true → (p : Port) × HasLink (items_of_head kind l) x p
   port_of_leaf l x e =
       let r = leaf_port x (leaves_of l) e in
       let a = subst (λ is. HasAtom is r.0.0 r.1.0) (sym (bare_items kind l)) r.1.1 in
-      let b = bare_atom (items_of kind l) r.0.0 r.1.0 a in
+      let b = bare_atom (items_of_head kind l) r.0.0 r.1.0 a in
       (r.0, (b.0, b.1, ap (λ xs. slice_get xs r.0.1) b.2 ∙ r.1.2))
 
 -- ---- names of typed contexts
@@ -310,23 +309,23 @@ module _ (kind : ℕ → TypeKind) where
       by false later = later
 
   -- a leaf's name has a number
-  pub number_of_leaf : (l : Level) (x : ℕ) (o : Occ) (p : Pos) → Contains (leaves_of l) (leaf.Typed x o p) → IsSome (typed_number (typed_contexts_of (items_of kind l)) 0 x)
+  pub number_of_leaf : (l : Level) (x : ℕ) (o : Occ) (p : Pos) → Contains (leaves_of l) (leaf.Typed x o p) → IsSome (typed_number (typed_contexts_of (items_of_head kind l)) 0 x)
   number_of_leaf l x o p c =
-      subst (λ r. IsSome r) (sym (number_bare (items_of kind l) 0 x ∙ ap (λ is. typed_number (typed_contexts_of is) 0 x) (bare_items kind l))) (leaf_number (leaves_of l) 0 x o p c)
+      subst (λ r. IsSome r) (sym (number_bare (items_of_head kind l) 0 x ∙ ap (λ is. typed_number (typed_contexts_of is) 0 x) (bare_items kind l))) (leaf_number (leaves_of l) 0 x o p c)
 
 -- ---- the room of tables
 
-fits_bare : (n : ℕ) (is : List HeadItem) → Fits n (bare is) → Fits n is
+fits_bare : (n : ℕ) (is : List HeadItem) → HeadFits n (bare is) → HeadFits n is
 fits_bare n [] h = tt
 fits_bare n (Atom f xs m ∷ is) h = (h.0, h.1, fits_bare n is h.2)
 fits_bare n (Typed x k y m ∷ is) h = (h.0, fits_bare n is h.1)
 fits_bare n (Membrane m c r ∷ is) h = fits_bare n is h
 
-below_front : (n : ℕ) (xs ys : List ℕ) → AllBelow n (xs ++ ys) → AllBelow n xs
+pub below_front : (n : ℕ) (xs ys : List ℕ) → AllBelow n (xs ++ ys) → AllBelow n xs
 below_front n [] ys h = tt
 below_front n (x ∷ xs) ys h = (h.0, below_front n xs ys h.1)
 
-below_back : (n : ℕ) (xs ys : List ℕ) → AllBelow n (xs ++ ys) → AllBelow n ys
+pub below_back : (n : ℕ) (xs ys : List ℕ) → AllBelow n (xs ++ ys) → AllBelow n ys
 below_back n [] ys h = h
 below_back n (x ∷ xs) ys h = below_back n xs ys h.1
 
@@ -334,13 +333,13 @@ as_many_links : (os : List Occ) → length (map (λ o. o.link) os) ≡ length os
 as_many_links [] = refl
 as_many_links (o ∷ os) = let e = as_many_links os in omega (arith, e)
 
-leaves_fit : (kind : ℕ → TypeKind) (n : ℕ) (ls : List Leaf) → AllByRecursion HasFewLinks ls → AllBelow n (map (λ o. o.link) (flat_map leaf_occurrences ls)) → Fits n (leaf_items kind 0 ls)
+leaves_fit : (kind : ℕ → TypeKind) (n : ℕ) (ls : List Leaf) → AllByRecursion HasFewLinks ls → AllBelow n (map (λ o. o.link) (flat_map occurrences_of_leaf ls)) → HeadFits n (leaf_items kind 0 ls)
 leaves_fit kind n [] few low = tt
 leaves_fit kind n (leaf.Atom f os p ∷ ls) few low =
-    let low' = subst (AllBelow n) (map-append (λ o. o.link) os (flat_map leaf_occurrences ls)) low in
+    let low' = subst (AllBelow n) (map-append (λ o. o.link) os (flat_map occurrences_of_leaf ls)) low in
     let many = as_many_links os in
     let few' = few.0 in
-    (omega (arith, many, few'), below_front n (map (λ o. o.link) os) (map (λ o. o.link) (flat_map leaf_occurrences ls)) low', leaves_fit kind n ls few.1 (below_back n (map (λ o. o.link) os) (map (λ o. o.link) (flat_map leaf_occurrences ls)) low'))
+    (omega (arith, many, few'), below_front n (map (λ o. o.link) os) (map (λ o. o.link) (flat_map occurrences_of_leaf ls)) low', leaves_fit kind n ls few.1 (below_back n (map (λ o. o.link) os) (map (λ o. o.link) (flat_map occurrences_of_leaf ls)) low'))
 leaves_fit kind n (leaf.Typed x o p ∷ ls) few low = (low.0, leaves_fit kind n ls few.1 low.1)
 
 numbers_below : (n m : ℕ) (xs : List ℕ) → Numbers n xs m → (n ≤ m) × AllBelow m xs
@@ -349,9 +348,9 @@ numbers_below n m xs (known l rest) = let r = numbers_below _ _ _ rest in let a 
 numbers_below n m xs (new rest) = let r = numbers_below _ _ _ rest in let a = r.0 in (omega (arith, a), (omega (arith, a), r.1))
 
 -- the links of a head are below the length of its rule's table
-pub head_fits : (kind : ℕ → TypeKind) (top body : Level) (n : ℕ) → AllByRecursion HasFewLinks (leaves_of top) → NumbersLinks (flat_map links_of (top ∷ (body ∷ []))) n → Fits n (items_of kind top)
+pub head_fits : (kind : ℕ → TypeKind) (top body : Level) (n : ℕ) → AllByRecursion HasFewLinks (leaves_of top) → NumbersLinks (flat_map links_of (top ∷ (body ∷ []))) n → HeadFits n (items_of_head kind top)
 head_fits kind top body n few numbers =
-    fits_bare n (items_of kind top) (subst (Fits n) (sym (bare_items kind top)) (leaves_fit kind n (leaves_of top) few (below_front n (links_of top) (links_of body ++ []) (numbers_below 0 n _ numbers).1)))
+    fits_bare n (items_of_head kind top) (subst (HeadFits n) (sym (bare_items kind top)) (leaves_fit kind n (leaves_of top) few (below_front n (links_of top) (links_of body ++ []) (numbers_below 0 n _ numbers).1)))
 
 -- ---- a link occurs at most twice
 
@@ -362,7 +361,7 @@ count_times x (y ∷ xs) = sum_by-cons (λ y. if x == y then 1 else 0) y xs ∙ 
     turned : (a b : ℕ) → (a == b) ≡ (b == a)
     turned a b = grind (arith, nat_tests)
 
-pub at_most_twice : (kind : ℕ → TypeKind) (top body : Level) (x : ℕ) → EachTwice (links_of top ++ links_of body) → times x (heads.links_of (items_of kind top)) ≤ 2
+pub at_most_twice : (kind : ℕ → TypeKind) (top body : Level) (x : ℕ) → EachTwice (links_of top ++ links_of body) → times x (heads.links_of_head (items_of_head kind top)) ≤ 2
 at_most_twice kind top body x twice =
     let a = head_links kind top x in
     let b = times_append x (links_of top) (links_of body) in

@@ -18,14 +18,9 @@ use Rattle.lmn_base.specs.Items.{used, leaf_item, items_of}
 use Rattle.lmn_base.specs.Levels.{leaves_of}
 use Rattle.lmn_base.specs.Uses.{is_some_place, use_of, has_use}
 use Rattle.lmn_solid.proofs.HeadTrees.{Head, Heads, head, no_head, head_and, head_at, head_leaves, heads_leaves, same_leaves, head_uses, heads_uses, same_uses}
+use Rattle.lmn_base.proofs.Lists.{contains_behind as behind, contains_first as here}
 
 -- ---- what is found in a list
-
-pub here : {X : Type 0} (x : X) (xs : List X) → Contains (x ∷ xs) x
-here x xs = (0, omega arith, refl)
-
-pub behind : {X : Type 0} (x : X) (xs : List X) (y : X) → Contains xs y → Contains (x ∷ xs) y
-behind x xs y (k, within, e) = (suc k, omega (arith, within), e)
 
 some_left : (ps qs : List Pos) → is_some_place ps ≡ true → is_some_place (ps ++ qs) ≡ true
 some_left [] qs e = absurd (cc)
@@ -59,16 +54,16 @@ contained f (z ∷ zs) x y (suc k, within, is) c = Contains-append_right (f z) (
 
 -- ---- uses and leaves
 
-abbrev typed_use : ℕ → Pos → FormedUse
+abbrev pub typed_use : ℕ → Pos → FormedUse
 typed_use n p = record { name = n; form = form.Typed; pos = p }
 
-leaves_use : (ls : List Leaf) (n : ℕ) (o : Occ) (p : Pos) → Contains ls (leaf.Typed n o p) → Contains (map leaf_item ls) (item.Context (typed_use n p))
+pub leaves_use : (ls : List Leaf) (n : ℕ) (o : Occ) (p : Pos) → Contains ls (leaf.Typed n o p) → Contains (map leaf_item ls) (item.Context (typed_use n p))
 leaves_use [] n o p (k, within, e) = absurd (omega (arith, within))
 leaves_use (l ∷ ls) n o p (zero, within, e) = subst (λ i. Contains (i ∷ map leaf_item ls) (item.Context (typed_use n p))) (ap leaf_item (sym e)) (here _ _)
 leaves_use (l ∷ ls) n o p (suc k, within, e) = behind (leaf_item l) (map leaf_item ls) _ (leaves_use ls n o p (k, omega (arith, within), e))
 
 mutual
-  leaf_use : (h : Head) (n : ℕ) (o : Occ) (p : Pos) → Contains (head_leaves h) (leaf.Typed n o p) → Contains (head_uses h) (item.Context (typed_use n p))
+  pub leaf_use : (h : Head) (n : ℕ) (o : Occ) (p : Pos) → Contains (head_leaves h) (leaf.Typed n o p) → Contains (head_uses h) (item.Context (typed_use n p))
   leaf_use (head leaves hs cs rcs rs) n o p c =
       let own = map leaf_item leaves in
       let rest = map (used form.Bare) cs ++ (map item.RuleContext rcs ++ map item.Rule rs) in

@@ -14,8 +14,8 @@ pub mod Places
 pub mod Holding
 pub mod Bounds
 pub mod HeadLeaves
-mod HeadUses
+pub mod HeadUses
 pub mod PlanKinds
 mod GuardUses
 mod AcceptedHeads
-mod GuardRoom
+pub mod GuardRoom

@@ -8,21 +8,21 @@ use Rattle.lmn_base.specs.WellMade.{IsWellMadeRule}
 use Rattle.lmn_heap.specs.Heap.{Heap}
 use Rattle.lmn_heap.specs.Sound.{Valid}
 use Rattle.lmn_guards.specs.declared.plan.GuardPlan.{GuardPlan}
-use Rattle.lmn_guards.specs.Accepted.{IsAccepted}
+use Rattle.lmn_guards.specs.Accepted.{IsAcceptedRule}
 use Rattle.lmn_guards.specs.Plans.{IsPlan}
 use Rattle.lmn_solid.specs.declared.items.HeadItem.{HeadItem}
 use Rattle.lmn_solid.specs.Embeddings.{Images, Embeds, IsLeast}
-use Rattle.lmn_solid.specs.Flattening.{unnumbered, items_of}
+use Rattle.lmn_solid.specs.Flattening.{unnumbered, items_of_head}
 use Rattle.lmn_solid.specs.Heads.{typed_contexts_of}
 use Rattle.lmn_instr.specs.declared.instr.Instr.{Instr}
-use Rattle.lmn_instr.specs.Running.{Registers, Succeeds, IsFirst}
+use Rattle.lmn_instr.specs.Running.{HeadRegisters, Succeeds, IsFirstSuccess}
 use Rattle.lmn_instr.specs.HeadCode.{head_code}
 use Rattle.lmn_compile_head.specs.Heads.{kind_in, IsHead, IsGuard}
-use Rattle.lmn_compile_head.specs.Tables.{Fits, HasFewLinks}
+use Rattle.lmn_compile_head.specs.Tables.{HeadFits, HasFewLinks}
 
 -- the items of the head of a rule with a plan
 abbrev pub head_items : RuleTree → GuardPlan → List HeadItem
-head_items r plan = items_of (kind_in plan.kinds) r.head
+head_items r plan = items_of_head (kind_in plan.kinds) r.head
 
 -- the code of the head of a rule with a plan
 abbrev pub rule_head_code : RuleTree → GuardPlan → List Instr
@@ -32,14 +32,14 @@ rule_head_code r plan = head_code (head_items r plan) r.guard
 -- guard computes.
 pub record HasRoom (r : RuleTree) (plan : GuardPlan) : Type 0 where
   pub membranes : 1 + (unnumbered (kind_in plan.kinds) r.head).size < 2 ^ 16
-  pub links : Fits (length r.links) (head_items r plan)
+  pub links : HeadFits (length r.links) (head_items r plan)
   pub items : length (head_items r plan) < 2 ^ 15
   pub integers : sum_by condition_tokens r.guard ≤ 256
 
 -- A rule is accepted and well made, and the plan is its plan. An arity is a number of 8 bits, so each atom has at most
 -- 255 links.
 pub record IsReady (table : List RuleTree) (r : RuleTree) (plan : GuardPlan) : Type 0 where
-  pub accepted : IsAccepted table r
+  pub accepted : IsAcceptedRule table r
   pub made : IsWellMadeRule r
   pub few_links : AllByRecursion HasFewLinks (leaves_of r.head)
   pub planned : IsPlan r plan
@@ -53,9 +53,9 @@ pub record AcceptedHeads : Type 0 where
 -- In a valid heap the first success of the code of an accepted head is the least embedding of the head, its registers hold
 -- the images, and the code fails exactly where the head doesn't embed.
 pub record AcceptedLeast : Type 0 where
-  pub least : (table : List RuleTree) (r : RuleTree) (plan : GuardPlan) (h : Heap) (m : ℕ) (s : Registers) → IsReady table r plan → Valid h →
-      IsFirst h (rule_head_code r plan) m s → IsLeast h (head_items r plan) r.guard m s.images
+  pub least : (table : List RuleTree) (r : RuleTree) (plan : GuardPlan) (h : Heap) (m : ℕ) (s : HeadRegisters) → IsReady table r plan → Valid h →
+      IsFirstSuccess h (rule_head_code r plan) m s → IsLeast h (head_items r plan) r.guard m s.images
   pub first : (table : List RuleTree) (r : RuleTree) (plan : GuardPlan) (h : Heap) (m : ℕ) (f : Images) → IsReady table r plan → Valid h →
-      IsLeast h (head_items r plan) r.guard m f → (s : Registers) × (s.images ≡ f) × IsFirst h (rule_head_code r plan) m s
+      IsLeast h (head_items r plan) r.guard m f → (s : HeadRegisters) × (s.images ≡ f) × IsFirstSuccess h (rule_head_code r plan) m s
   pub fails : (table : List RuleTree) (r : RuleTree) (plan : GuardPlan) (h : Heap) (m : ℕ) → IsReady table r plan → Valid h →
-      ((s : Registers) → Succeeds h (rule_head_code r plan) m s → ⊥) ↔ ((f : Images) → Embeds h (head_items r plan) r.guard m f → ⊥)
+      ((s : HeadRegisters) → Succeeds h (rule_head_code r plan) m s → ⊥) ↔ ((f : Images) → Embeds h (head_items r plan) r.guard m f → ⊥)

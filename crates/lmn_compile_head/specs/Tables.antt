@@ -6,7 +6,7 @@ use Rattle.lmn_solid.specs.declared.items.HeadItem.TheVariants.{Atom, Typed, Mem
 use Rattle.lmn_base.specs.declared.functor.Functor.{Functor}
 use Rattle.lmn_base.specs.declared.level.Leaf.{Leaf}
 use Rattle.lmn_base.specs.declared.level.Leaf.TheVariants as leaf
-use Rattle.lmn_solid.specs.Heads.{HeadAtom, Occurrence, links_of, times}
+use Rattle.lmn_solid.specs.Heads.{HeadAtom, Occurrence, links_of_head, times}
 use Rattle.lmn_instr.specs.declared.instr.AtomPort.{AtomPort}
 use Rattle.lmn_instr.specs.HeadCode.{find_port, operand}
 
@@ -16,15 +16,15 @@ AllBelow n [] = Unit {0}
 AllBelow n (x ∷ xs) = (x < n) × AllBelow n xs
 
 -- items whose links are below a number, and whose atoms have at most 255
-abbrev pub Fits : ℕ → List HeadItem → Type 0
-Fits n [] = Unit {0}
-Fits n (Atom functor links inside ∷ xs) = (length links < 256) × AllBelow n links × Fits n xs
-Fits n (Typed name kind link inside ∷ xs) = (link < n) × Fits n xs
-Fits n (Membrane inside has_context has_rule_context ∷ xs) = Fits n xs
+abbrev pub HeadFits : ℕ → List HeadItem → Type 0
+HeadFits n [] = Unit {0}
+HeadFits n (Atom functor links inside ∷ xs) = (length links < 256) × AllBelow n links × HeadFits n xs
+HeadFits n (Typed name kind link inside ∷ xs) = (link < n) × HeadFits n xs
+HeadFits n (Membrane inside has_context has_rule_context ∷ xs) = HeadFits n xs
 
 -- a table of how often links occur, where what is more than twice counts as twice
 abbrev pub Counts : List ℕ → List HeadItem → Type 0
-Counts table items = (x : ℕ) → x < length table → min 2 (slice_index_or table x 0) ≡ min 2 (times x (links_of items))
+Counts table items = (x : ℕ) → x < length table → min 2 (slice_index_or table x 0) ≡ min 2 (times x (links_of_head items))
 
 -- a table of the ports at which links stand first
 pub record FirstPorts (table : List (Option AtomPort)) (os : List Occurrence) : Type 0 where

@@ -55,7 +55,7 @@ fn part_named(items: &[HeadItem], name: u32) -> Option<u16>
 
 /// The instruction of an operator.
 fn operation(operator: Arith, integer: u16, left: u16, right: u16) -> Instr
-    ensures { result ≡ code_of.operation operator integer left right }
+    ensures { result ≡ code_of.operator_instruction operator integer left right }
 {
     match operator {
         Arith::Add => Instr::Add {

@@ -2,7 +2,7 @@ ghost use Rattle.std.specs.Prelude.{◌≡◌, ◌<◌, ◌≤◌, ◌^◌, leng
 ghost use Rattle.lmn_instr.specs.HeadCode.{head_code};
 ghost use Rattle.lmn_base.specs.RuleCodes.{condition_tokens};
 ghost use Rattle.lmn_compile_head.specs.Accepted.{HasRoom, rule_head_code};
-ghost use Rattle.lmn_compile_head.specs.Tables.{Fits};
+ghost use Rattle.lmn_compile_head.specs.Tables.{HeadFits};
 
 use crate::codes::{add_items, insides_of};
 use crate::conditions::add_guard;
@@ -22,7 +22,7 @@ pub fn code_of_items(
     guard: &[Cond],
     links: usize,
 ) -> Result<Rows<Instr>, NoMemory>
-    requires fits { Fits links items.now }
+    requires fits { HeadFits links items.now }
     requires few { length items.now < 2 ^ 15 }
     requires integers { sum_by condition_tokens guard.now ≤ 256 }
     ensures { IfOk result (λ code. code ≡ head_code items.now guard.now) }

@@ -7,7 +7,7 @@ ghost use Rattle.lmn_guards.specs.declared.plan.TypeKind.TheVariants as kind;
 ghost use Rattle.lmn_solid.specs.declared.items.HeadItem.TheVariants as item;
 ghost use Rattle.lmn_instr.specs.HeadCode.{head_code};
 ghost use Rattle.lmn_instr.specs.Listings.{HasCode};
-ghost use Rattle.lmn_compile_head.specs.Tables.{Fits};
+ghost use Rattle.lmn_compile_head.specs.Tables.{HeadFits};
 
 use crate::{code_of_items, head};
 use lmn_base::{
@@ -67,7 +67,7 @@ fn listed(
     guard: &Rows<Cond>,
     links: usize,
 ) -> Result<MemSink, NoMemory>
-    requires fits { Fits links items.now }
+    requires fits { HeadFits links items.now }
     requires few { length items.now < 2 ^ 15 }
     requires integers { sum_by condition_tokens guard.now ≤ 256 }
     requires named { HasCode names.now (record { head = head_code items.now guard.now; body = [] }) }

@@ -4,8 +4,9 @@ use Rattle.lmn_congruence.specs.Process.{Process, nothing, connector, atom, pair
 use Rattle.lmn_congruence.specs.Congruence.{Congruent, unit, swap, regroup, rename, beside, inside, loop, turn, absorb, pass, same, back, chain}
 use Rattle.lmn_congruence.specs.Fused.{Joins, fused}
 use Rattle.lmn_congruence.specs.UpToOrder.{Reordered, r_unit, r_swap, r_regroup, r_beside, r_inside, r_same, r_back, r_chain}
-use Rattle.lmn_congruence.proofs.Counts.{same_or_not, Alike, flip_alike, same_free, fresh_differs, apart, occurrences_old, in_left, in_right, first_in, second_in, occurs_once, map_agree, map_after, replaced_here, replaced_other}
+use Rattle.lmn_congruence.proofs.Counts.{Alike, flip_alike, same_free, fresh_differs, apart, occurrences_old, in_left, in_right, first_in, second_in, occurs_once, map_agree, map_after, replaced_here, replaced_other}
 use Rattle.lmn_congruence.proofs.Reordered.{nothing_out}
+use Rattle.lmn_base.proofs.Numbers.{same_or_not}
 
 -- maps that agree on the links of a process
 pub joins_agree : (u v : ℕ → ℕ) (P : Process) → ((z : ℕ) → occurrences z P ≢ 0 → u z ≡ v z) → Joins v P → Joins u P

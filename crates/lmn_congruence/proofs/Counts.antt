@@ -3,6 +3,7 @@ use Rattle.std.proofs.Common.{ℕ, suc, ◌≡◌, ◌≢◌, ◌+◌, ◌≤◌
 use Rattle.lmn_congruence.specs.Links.{one_if_same, places}
 use Rattle.lmn_congruence.specs.Process.{Process, nothing, connector, atom, pair, membrane, rule, occurrences, replace, Free, Local, Fresh, Linked, substitute}
 use Rattle.lmn_congruence.specs.Congruence.{Congruent, unit, swap, regroup, rename, beside, inside, loop, turn, absorb, pass, same, back, chain}
+use Rattle.lmn_base.proofs.Numbers.{same_or_not}
 
 pub one_if_equal : (x y : ℕ) → x ≡ y → one_if_same x y ≡ 1
 one_if_equal x y e = grind arith
@@ -66,10 +67,6 @@ occurrences_new new old (atom a ys) n = places_new new old ys n
 occurrences_new new old (pair P Q) n = omega (arith, occurrences_new new old P n, occurrences_new new old Q n)
 occurrences_new new old (membrane P) n = occurrences_new new old P n
 occurrences_new new old (rule r) n = refl
-
--- x is y or not
-pub same_or_not : (x y : ℕ) → (x ≡ y) ⊎ (x ≢ y)
-same_or_not x y = grind arith
 
 -- x is below n, or n, or above n
 pub three_ways : (x n : ℕ) → (x < n) ⊎ ((x ≡ n) ⊎ (n < x))

@@ -2,9 +2,9 @@
 use Rattle.std.proofs.Common.{ℕ, suc, ◌≡◌, ◌≢◌, ◌+◌, ◌≤◌, ◌<◌, ◌⊎◌, List, [], ◌∷◌, refl, sym, ◌∙◌, ap, inl, inr, zero-add, arith}
 use Rattle.lmn_congruence.specs.Links.{one_if_same, places}
 use Rattle.lmn_congruence.specs.Process.{Process, nothing, connector, atom, pair, membrane, rule, occurrences, Fresh, Linked, substitute}
-use Rattle.lmn_congruence.specs.Congruence.{Congruent, unit, swap, regroup, rename, beside, inside, loop, turn, absorb, pass, same, back, chain, IsAtom, a_connector, an_atom, ExactlyOneFree}
+use Rattle.lmn_congruence.specs.Congruence.{Congruent, unit, swap, regroup, rename, beside, inside, loop, turn, absorb, pass, same, back, chain, IsAtomProcess, a_connector, an_atom, ExactlyOneFree}
 use Rattle.lmn_congruence.specs.FreeNumber.{free_number}
-use Rattle.lmn_congruence.specs.FreeLinks.{total, above_all, link_bound, one_if_once, one_if_free}
+use Rattle.lmn_congruence.specs.FreeLinks.{sum_below, above_all, link_bound, one_if_once, one_if_free}
 use Rattle.lmn_congruence.proofs.Counts.{below_or_from, Occurs, count_first, count_second, Alike, same_free, fresh_differs, occurrences_old, occurrences_new, occurrences_other}
 use Rattle.lmn_congruence.proofs.Totals.{total_same, total_two, total_past}
 use Rattle.lmn_congruence.proofs.FreeNumbers.{free_total}
@@ -28,7 +28,7 @@ occurs_below P x o = go (below_or_from x (link_bound P))
     go (inl c) = c
     go (inr c) = absurd (o (occurrences_above x P c))
 
-pub free_number_below : (n : ℕ) (P : Process) → link_bound P ≤ n → total n (one_if_free P) ≡ free_number P
+pub free_number_below : (n : ℕ) (P : Process) → link_bound P ≤ n → sum_below n (one_if_free P) ≡ free_number P
 free_number_below n P b = total_past (link_bound P) n (one_if_free P) b (λ z c. ap one_if_once (occurrences_above z P c)) ∙ free_total P
 
 pub one_if_free_alike : (m n : ℕ) → Alike m n → one_if_once m ≡ one_if_once n
@@ -74,11 +74,11 @@ crossings_renamed x y (pair P Q) d n = omega (arith, crossings_renamed x y P d (
 crossings_renamed x y (membrane P) d n = rw (free_number_renamed x y P d n, crossings_renamed x y P d n) refl
 crossings_renamed x y (rule r) d n = refl
 
-pub crossings_atom : (P : Process) → IsAtom P → crossings P ≡ 0
+pub crossings_atom : (P : Process) → IsAtomProcess P → crossings P ≡ 0
 crossings_atom P a_connector = refl
 crossings_atom P an_atom = refl
 
-pub atom_replaced : (x y : ℕ) (P : Process) → IsAtom P → IsAtom (substitute y x P)
+pub atom_replaced : (x y : ℕ) (P : Process) → IsAtomProcess P → IsAtomProcess (substitute y x P)
 atom_replaced x y P a_connector = a_connector
 atom_replaced x y P an_atom = an_atom
 

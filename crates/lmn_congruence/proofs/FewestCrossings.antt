@@ -4,11 +4,12 @@ use Rattle.lmn_congruence.specs.Links.{one_if_same, places}
 use Rattle.lmn_congruence.specs.Process.{Process, nothing, connector, atom, pair, membrane, rule, occurrences, Linked, renamed}
 use Rattle.lmn_congruence.specs.Fused.{Joins, fused}
 use Rattle.lmn_congruence.specs.LinkMaps.{SameCrossings}
-use Rattle.lmn_congruence.specs.FreeNumber.{free_number}
-use Rattle.lmn_congruence.specs.FreeLinks.{total, above_all, link_bound, one_if_once, one_if_free}
-use Rattle.lmn_congruence.proofs.Counts.{same_or_not, linked_left, linked_right, linked_inside}
+use Rattle.lmn_congruence.specs.FreeLinks.{sum_below, above_all, link_bound, one_if_once, one_if_free}
+use Rattle.lmn_congruence.proofs.Counts.{linked_left, linked_right, linked_inside}
 use Rattle.lmn_congruence.proofs.Totals.{total_same, total_single, total_sum, total_zero, total_at_most, highest}
 use Rattle.lmn_congruence.proofs.Crossings.{free_number_below, crossings}
+use Rattle.lmn_base.proofs.Numbers.{same_or_not}
+use Rattle.lmn_congruence.specs.FreeNumber.{free_number}
 use Rattle.lmn_congruence.proofs.FreeNumbers.{free_total}
 
 -- ---- the links that go to one link
@@ -20,14 +21,14 @@ with_image v z f y = cond (eqb (v y) z) (f y) 0
 image_sum : (v : ℕ → ℕ) (z : ℕ) (f g : ℕ → ℕ) (y : ℕ) → with_image v z (λ y. f y + g y) y ≡ with_image v z f y + with_image v z g y
 image_sum v z f g y = grind arith
 
-pub total_image_sum : (n : ℕ) (v : ℕ → ℕ) (z : ℕ) (f g : ℕ → ℕ) → total n (with_image v z (λ y. f y + g y)) ≡ total n (with_image v z f) + total n (with_image v z g)
+pub total_image_sum : (n : ℕ) (v : ℕ → ℕ) (z : ℕ) (f g : ℕ → ℕ) → sum_below n (with_image v z (λ y. f y + g y)) ≡ sum_below n (with_image v z f) + sum_below n (with_image v z g)
 total_image_sum n v z f g = total_same n _ _ (λ y b. image_sum v z f g y) ∙ total_sum n (with_image v z f) (with_image v z g)
 
 image_zero : (v : ℕ → ℕ) (z y : ℕ) → with_image v z (λ y. 0) y ≡ 0
 image_zero v z y = grind arith
 
 -- one link has one image
-image_one : (n : ℕ) (v : ℕ → ℕ) (z x : ℕ) → x < n → total n (with_image v z (λ y. one_if_same y x)) ≡ one_if_same z (v x)
+image_one : (n : ℕ) (v : ℕ → ℕ) (z x : ℕ) → x < n → sum_below n (with_image v z (λ y. one_if_same y x)) ≡ one_if_same z (v x)
 image_one n v z x b = total_single n x (with_image v z (λ y. one_if_same y x)) b (λ y d. elsewhere (v y) y d) ∙ there (v x)
   where
     elsewhere : (k y : ℕ) → y ≢ x → cond (eqb k z) (one_if_same y x) 0 ≡ 0
@@ -37,11 +38,11 @@ image_one n v z x b = total_single n x (with_image v z (λ y. one_if_same y x)) 
     there k = grind arith
 
 -- how often links that go to z stand in a list, and in a process
-image_places : (n : ℕ) (v : ℕ → ℕ) (z : ℕ) (xs : List ℕ) → above_all xs ≤ n → total n (with_image v z (λ y. places y xs)) ≡ places z (map v xs)
+image_places : (n : ℕ) (v : ℕ → ℕ) (z : ℕ) (xs : List ℕ) → above_all xs ≤ n → sum_below n (with_image v z (λ y. places y xs)) ≡ places z (map v xs)
 image_places n v z [] b = total_zero n _ (λ y. image_zero v z y)
 image_places n v z (x ∷ xs) b = omega (arith, total_image_sum n v z (λ y. one_if_same y x) (λ y. places y xs), image_one n v z x (omega arith), image_places n v z xs (omega arith))
 
-pub image_count : (n : ℕ) (v : ℕ → ℕ) (z : ℕ) (P : Process) → link_bound P ≤ n → total n (with_image v z (λ y. occurrences y P)) ≡ occurrences z (renamed v P)
+pub image_count : (n : ℕ) (v : ℕ → ℕ) (z : ℕ) (P : Process) → link_bound P ≤ n → sum_below n (with_image v z (λ y. occurrences y P)) ≡ occurrences z (renamed v P)
 image_count n v z nothing b = total_zero n _ (λ y. image_zero v z y)
 image_count n v z (connector x x') b = omega (arith, total_image_sum n v z (λ y. one_if_same y x) (λ y. one_if_same y x'), image_one n v z x (omega arith), image_one n v z x' (omega arith))
 image_count n v z (atom a xs) b = image_places n v z xs b
@@ -73,17 +74,17 @@ odd_one a f t k e = go (same_or_not a 1)
     go (inr p) = grind arith
 
 -- an image that is free in the fused process has a free link
-pub free_image : (v : ℕ → ℕ) (z : ℕ) (P : Process) → Joins v P → Linked P → one_if_once (occurrences z (fused v P)) ≤ total (link_bound P) (with_image v z (one_if_free P))
+pub free_image : (v : ℕ → ℕ) (z : ℕ) (P : Process) → Joins v P → Linked P → one_if_once (occurrences z (fused v P)) ≤ sum_below (link_bound P) (with_image v z (one_if_free P))
 free_image v z P h l =
     let n = link_bound P in
     let twos : ℕ → ℕ = λ y. two_if (occurrences y P) in
-    let split : total n (with_image v z (λ y. occurrences y P)) ≡ total n (with_image v z (λ y. one_if_free P y + (twos y + twos y))) = total_same n _ _ (λ y b. ap (λ k. cond (eqb (v y) z) k 0) (split_count (occurrences y P) (l.at_most_twice y))) in
+    let split : sum_below n (with_image v z (λ y. occurrences y P)) ≡ sum_below n (with_image v z (λ y. one_if_free P y + (twos y + twos y))) = total_same n _ _ (λ y b. ap (λ k. cond (eqb (v y) z) k 0) (split_count (occurrences y P) (l.at_most_twice y))) in
     let even = image_even v z P h in
-    odd_one (occurrences z (fused v P)) (total n (with_image v z (one_if_free P))) (total n (with_image v z twos)) even.0
-    (sym (total_image_sum n v z (one_if_free P) (λ y. twos y + twos y) ∙ ap (λ k. total n (with_image v z (one_if_free P)) + k) (total_image_sum n v z twos twos)) ∙ sym split ∙ image_count n v z P (omega arith) ∙ even.1)
+    odd_one (occurrences z (fused v P)) (sum_below n (with_image v z (one_if_free P))) (sum_below n (with_image v z twos)) even.0
+    (sym (total_image_sum n v z (one_if_free P) (λ y. twos y + twos y) ∙ ap (λ k. sum_below n (with_image v z (one_if_free P)) + k) (total_image_sum n v z twos twos)) ∙ sym split ∙ image_count n v z P (omega arith) ∙ even.1)
 
 -- the sum over all images is the whole sum
-pub image_pick : (n x k : ℕ) → x < n → total n (λ z. cond (eqb x z) k 0) ≡ k
+pub image_pick : (n x k : ℕ) → x < n → sum_below n (λ z. cond (eqb x z) k 0) ≡ k
 image_pick n x k b = total_single n x (λ z. cond (eqb x z) k 0) b (λ z d. elsewhere z d) ∙ there
   where
     elsewhere : (z : ℕ) → z ≢ x → cond (eqb x z) k 0 ≡ 0
@@ -92,19 +93,19 @@ image_pick n x k b = total_single n x (λ z. cond (eqb x z) k 0) b (λ z d. else
     there : cond (eqb x x) k 0 ≡ k
     there = grind arith
 
-pub all_images : (N n : ℕ) (v f : ℕ → ℕ) → ((y : ℕ) → y < n → v y < N) → total N (λ z. total n (with_image v z f)) ≡ total n f
+pub all_images : (N n : ℕ) (v f : ℕ → ℕ) → ((y : ℕ) → y < n → v y < N) → sum_below N (λ z. sum_below n (with_image v z f)) ≡ sum_below n f
 all_images N zero v f h = total_zero N _ (λ z. refl)
-all_images N (suc n) v f h = omega (arith, total_sum N (λ z. with_image v z f n) (λ z. total n (with_image v z f)), image_pick N (v n) (f n) (h n (omega arith)), all_images N n v f (λ y b. h y (omega arith)))
+all_images N (suc n) v f h = omega (arith, total_sum N (λ z. with_image v z f n) (λ z. sum_below n (with_image v z f)), image_pick N (v n) (f n) (h n (omega arith)), all_images N n v f (λ y b. h y (omega arith)))
 
 pub free_number_fused : (v : ℕ → ℕ) (P : Process) → Joins v P → Linked P → free_number (fused v P) ≤ free_number P
 free_number_fused v P h l =
     let n = link_bound P in
-    let N = link_bound (fused v P) + total n (λ y. suc (v y)) in
-    let a = total_at_most N (one_if_free (fused v P)) (λ z. total n (with_image v z (one_if_free P))) (λ z. free_image v z P h l) in
+    let N = link_bound (fused v P) + sum_below n (λ y. suc (v y)) in
+    let a = total_at_most N (one_if_free (fused v P)) (λ z. sum_below n (with_image v z (one_if_free P))) (λ z. free_image v z P h l) in
     let b = all_images N n v (one_if_free P) (λ y q. at y q) in
     omega (arith, a, b, free_number_below N (fused v P) (omega arith), free_total P)
   where
-    at : (y : ℕ) → y < link_bound P → v y < link_bound (fused v P) + total (link_bound P) (λ y. suc (v y))
+    at : (y : ℕ) → y < link_bound P → v y < link_bound (fused v P) + sum_below (link_bound P) (λ y. suc (v y))
     at y q = omega (arith, highest (link_bound P) v y q)
 
 -- No process has fewer crossings than it has when its connectors are fused.

@@ -6,13 +6,10 @@ use Rattle.std.proofs.lemmas.List.Recursion.{is_count_by}
 use Rattle.lmn_congruence.specs.Links.{one_if_same, places}
 use Rattle.lmn_congruence.specs.Process.{Process, nothing, connector, atom, pair, membrane, rule, occurrences}
 use Rattle.lmn_congruence.specs.FreeNumber.{process_links, free_number}
-use Rattle.lmn_congruence.specs.FreeLinks.{total, above_all, link_bound, one_if_once, one_if_free}
+use Rattle.lmn_congruence.specs.FreeLinks.{sum_below, above_all, link_bound, one_if_once, one_if_free}
 use Rattle.lmn_congruence.proofs.Counts.{one_if_equal, none_if_apart}
+use Rattle.lmn_congruence.proofs.TranslatedLinks.{places_append}
 use Rattle.lmn_congruence.proofs.Totals.{total_same, total_sum, total_zero, total_single}
-
-appended : (x : ℕ) (xs ys : List ℕ) → places x (xs ++ ys) ≡ places x xs + places x ys
-appended x [] ys = omega arith
-appended x (y ∷ xs) ys = omega (arith, appended x xs ys)
 
 above_appended : (xs ys : List ℕ) → above_all (xs ++ ys) ≡ above_all xs + above_all ys
 above_appended [] ys = omega arith
@@ -22,7 +19,7 @@ placed : (x : ℕ) (P : Process) → occurrences x P ≡ places x (process_links
 placed x nothing = refl
 placed x (connector y z) = omega arith
 placed x (atom a xs) = refl
-placed x (pair P Q) = omega (arith, placed x P, placed x Q, appended x (process_links P) (process_links Q))
+placed x (pair P Q) = omega (arith, placed x P, placed x Q, places_append x (process_links P) (process_links Q))
 placed x (membrane P) = placed x P
 placed x (rule r) = refl
 
@@ -47,7 +44,7 @@ times_one a b e = rw e (grind arith)
 split : (a b c : ℕ) → (a + b) * c ≡ a * c + b * c
 split a b c = grind arith
 
-by_element : (m : ℕ) (g : ℕ → ℕ) (xs : List ℕ) → above_all xs ≤ m → total m (λ n. places n xs * g n) ≡ sum_of g xs
+by_element : (m : ℕ) (g : ℕ → ℕ) (xs : List ℕ) → above_all xs ≤ m → sum_below m (λ n. places n xs * g n) ≡ sum_of g xs
 by_element m g [] h = total_zero m (λ n. 0 * g n) (λ n. times_zero 0 (g n) refl)
 by_element m g (x ∷ xs) h =
     total_same m (λ n. (one_if_same n x + places n xs) * g n) (λ n. one_if_same n x * g n + places n xs * g n) (λ n l. split (one_if_same n x) (places n xs) (g n))
@@ -70,15 +67,15 @@ counted zs o e xs = is_count_by (sum_of (λ n. one_if_once (places n zs))) (λ x
     cond_plus true n = refl
     cond_plus false n = omega arith
 
-of_list : (zs : List ℕ) → total (above_all zs) (λ n. one_if_once (places n zs)) ≡ sum_of (λ n. one_if_once (places n zs)) zs
+of_list : (zs : List ℕ) → sum_below (above_all zs) (λ n. one_if_once (places n zs)) ≡ sum_of (λ n. one_if_once (places n zs)) zs
 of_list zs =
     total_same (above_all zs) (λ n. one_if_once (places n zs)) (λ n. places n zs * one_if_once (places n zs)) (λ n l. once (places n zs))
     ∙ by_element (above_all zs) (λ n. one_if_once (places n zs)) zs (omega arith)
 
 -- the sum below a bound is the number of free links
-pub free_total : (P : Process) → total (link_bound P) (one_if_free P) ≡ free_number P
+pub free_total : (P : Process) → sum_below (link_bound P) (one_if_free P) ≡ free_number P
 free_total P =
     total_same (link_bound P) (one_if_free P) (λ n. one_if_once (places n (process_links P))) (λ n l. ap one_if_once (placed n P))
-    ∙ ap (λ m. total m (λ n. one_if_once (places n (process_links P)))) (bounded P)
+    ∙ ap (λ m. sum_below m (λ n. one_if_once (places n (process_links P)))) (bounded P)
     ∙ of_list (process_links P)
     ∙ counted (process_links P) (λ x. occurrences x P) (λ x. placed x P) (process_links P)

@@ -3,9 +3,9 @@ use Rattle.std.proofs.Common.{ℕ, ◌≡◌, refl, sym, ◌∙◌, arith}
 use Rattle.lmn_congruence.specs.Process.{Process, nothing, connector, atom, pair, membrane, rule, substitute}
 use Rattle.lmn_congruence.specs.Congruence.{Congruent, unit, swap, regroup, rename, beside, inside, loop, turn, absorb, pass, same, back, chain}
 use Rattle.lmn_congruence.specs.Rules.{Label}
-use Rattle.lmn_congruence.specs.Weights.{weight, SameWeight}
+use Rattle.lmn_congruence.specs.Weights.{process_weight, SameWeight}
 
-substituted_weight : (f : Label → ℕ) (m new old : ℕ) (P : Process) → weight f m (substitute new old P) ≡ weight f m P
+substituted_weight : (f : Label → ℕ) (m new old : ℕ) (P : Process) → process_weight f m (substitute new old P) ≡ process_weight f m P
 substituted_weight f m new old nothing = refl
 substituted_weight f m new old (connector x y) = refl
 substituted_weight f m new old (atom a xs) = refl
@@ -13,7 +13,7 @@ substituted_weight f m new old (pair P Q) = omega (arith, substituted_weight f m
 substituted_weight f m new old (membrane P) = refl
 substituted_weight f m new old (rule r) = refl
 
-pub kept_weight : (f : Label → ℕ) (m : ℕ) {P Q : Process} → Congruent P Q → weight f m P ≡ weight f m Q
+pub kept_weight : (f : Label → ℕ) (m : ℕ) {P Q : Process} → Congruent P Q → process_weight f m P ≡ process_weight f m Q
 kept_weight f m (unit l) = omega arith
 kept_weight f m (swap l) = omega arith
 kept_weight f m (regroup l) = omega arith

@@ -18,3 +18,4 @@ pub mod FewestCrossings
 pub mod LinkMaps
 pub mod Solids
 pub mod KeptRules
+pub mod Common

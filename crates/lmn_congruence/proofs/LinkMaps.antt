@@ -5,14 +5,15 @@ use Rattle.lmn_congruence.specs.Process.{Process, nothing, connector, atom, pair
 use Rattle.lmn_congruence.specs.Congruence.{Congruent}
 use Rattle.lmn_congruence.specs.Fused.{NoConnector, Joins, fused}
 use Rattle.lmn_congruence.specs.UpToOrder.{Reordered, r_same, r_back, r_chain}
-use Rattle.lmn_congruence.specs.LinkMaps.{ReadsAs}
+use Rattle.lmn_congruence.specs.LinkMaps.{ReadsByMap}
 use Rattle.lmn_congruence.specs.Laws.{BothSidesLinked, SameFreeLinks}
-use Rattle.lmn_congruence.proofs.Counts.{one_if_equal, none_if_apart, same_or_not, same_free, linked_both, Occurs}
+use Rattle.lmn_congruence.proofs.Counts.{one_if_equal, none_if_apart, same_free, linked_both, Occurs}
 use Rattle.lmn_congruence.proofs.Crossings.{same_crossings}
 use Rattle.lmn_congruence.proofs.Reordered.{reordered_crossings}
 use Rattle.lmn_congruence.proofs.Carried.{congruence_carries}
 use Rattle.lmn_congruence.proofs.Renaming.{rename_all, renamed_id}
 use Rattle.lmn_congruence.proofs.FewestCrossings.{same_crossings_each}
+use Rattle.lmn_base.proofs.Numbers.{same_or_not}
 
 -- ---- processes without connectors
 
@@ -44,7 +45,7 @@ fused_plain v (membrane P) = fused_plain v P
 fused_plain v (rule r) = tt
 
 -- a process that is congruent to one without connectors is read as this
-pub congruent_reads : (P N : Process) → NoConnector N → Congruent P N → ReadsAs P N
+pub congruent_reads : (P N : Process) → NoConnector N → Congruent P N → ReadsByMap P N
 congruent_reads P N n c =
     let i = (congruence_carries c).1 (λ x. x) (joins_plain (λ x. x) N n) in
     let o : Reordered (fused i.to P) N = r_chain (r_back i.order) (r_same (fused_id N n)) in

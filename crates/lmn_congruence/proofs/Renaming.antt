@@ -4,10 +4,11 @@ use Rattle.std.proofs.lemmas.List.{map-id}
 use Rattle.lmn_congruence.specs.Links.{one_if_same, places}
 use Rattle.lmn_congruence.specs.Process.{Process, nothing, connector, atom, pair, membrane, rule, occurrences, replace, Free, Local, Linked, substitute, renamed, OneToOneOn}
 use Rattle.lmn_congruence.specs.Congruence.{Congruent, rename, same, chain}
-use Rattle.lmn_congruence.proofs.Counts.{one_if_equal, none_if_apart, below_or_from, less_apart, same_or_not, three_ways, linked_both, Occurs, in_head, in_tail, first_in, second_in, in_left, in_right, occurs_once, occurs_twice, map_after, map_agree, replaced_here, replaced_other}
-use Rattle.lmn_congruence.specs.FreeLinks.{total, link_bound}
+use Rattle.lmn_congruence.proofs.Counts.{one_if_equal, none_if_apart, below_or_from, less_apart, three_ways, linked_both, Occurs, in_head, in_tail, first_in, second_in, in_left, in_right, occurs_once, occurs_twice, map_after, map_agree, replaced_here, replaced_other}
+use Rattle.lmn_congruence.specs.FreeLinks.{sum_below, link_bound}
 use Rattle.lmn_congruence.proofs.Totals.{highest}
 use Rattle.lmn_congruence.proofs.Crossings.{occurs_below}
+use Rattle.lmn_base.proofs.Numbers.{same_or_not}
 
 -- two renamings one after the other, where they agree with a third on the links of the process
 pub substitute_renamed : (new old : ℕ) (g h : ℕ → ℕ) (P : Process) → ((x : ℕ) → Occurs x P → replace new old (g x) ≡ h x) → substitute new old (renamed g P) ≡ renamed h P
@@ -243,5 +244,5 @@ module _ (K : ℕ) (P : Process) (l : Linked P) (above : (x : ℕ) → Occurs x 
 -- Local links may be renamed all at once.
 pub rename_all : (f : ℕ → ℕ) (P : Process) → Linked P → OneToOneOn f P → ((x : ℕ) → Free x P → f x ≡ x) → Congruent P (renamed f P)
 rename_all f P l one stay =
-    rename_below (link_bound P + total (link_bound P) (λ y. suc (f y))) P l (λ x o. omega (arith, occurs_below P x o)) f one stay
+    rename_below (link_bound P + sum_below (link_bound P) (λ y. suc (f y))) P l (λ x o. omega (arith, occurs_below P x o)) f one stay
     (λ x o. omega (arith, highest (link_bound P) f x (occurs_below P x o)))

@@ -19,11 +19,13 @@ use Rattle.lmn_congruence.specs.Regions as solid
 use Rattle.lmn_congruence.specs.Process.{together, rule}
 use Rattle.lmn_congruence.specs.Fused.{Joins}
 use Rattle.lmn_congruence.specs.Plains.{leaf_process, level_process, levels_processes, fused_leaves, fused_level, fused_levels}
-use Rattle.lmn_congruence.specs.Translation.{label_of, leaf_of, level_of, level_step, levels, rules, solid_atom_of, regions, region_step, numbered_rule}
+use Rattle.lmn_congruence.specs.Translation.{label_of, leaf_of, level_of, level_step, levels, rules, solid_atom_of, regions, region_step, numbered_rule, numbered_region}
 use Rattle.lmn_congruence.specs.SolidsOfPlains.{fused_leaf, fused_step, fused_region, JoinsLeaf}
 use Rattle.lmn_congruence.specs.TranslationLaws.{SolidsOfPlains}
 use Rattle.lmn_congruence.proofs.Appended.{all_left, all_right}
 use Rattle.lmn_congruence.proofs.TranslatedLinks.{plains_closed, solids_closed}
+use Rattle.lmn_base.proofs.Lists.{map_append}
+use Rattle.lmn_base.proofs.Common.{inner_leaves}
 
 -- ---- one leaf
 
@@ -47,10 +49,6 @@ leaf_fused : (names : List tree.Name) (v : ℕ → ℕ) (l : Leaf) → FitsArity
 leaf_fused names v (Typed n o p) h = refl
 leaf_fused names v (Atom f os p) h = leaf_cases names v f.label f.arity os p h
 
-map_append : {A B : Type 0} (f : A → B) (xs ys : List A) → map f (xs ++ ys) ≡ map f xs ++ map f ys
-map_append f [] ys = refl
-map_append f (x ∷ xs) ys = ap (λ zs. f x ∷ zs) (map_append f xs ys)
-
 fused_both : (v : ℕ → ℕ) (l : tree.Leaf) (ls : List tree.Leaf) → fused_leaves v (l ∷ ls) ≡ fused_leaves v (l ∷ []) ++ fused_leaves v ls
 fused_both v (tree.atom_leaf a xs) ls = refl
 fused_both v (tree.connector_leaf x y) ls = refl
@@ -73,17 +71,11 @@ rules_back f (k ∷ ks) = ap (λ rs. f k ∷ rs) (rules_back f ks)
 -- ---- levels
 
 module _ (names : List tree.Name) (number : ℕ → tree.Rule) (v : ℕ → ℕ) where
-  abbrev inner_leaves : List Level → List Leaf
-  inner_leaves ls = flat_map (λ inner. inner) (map leaves_of ls)
-
-  abbrev region : Region → solid.Region
-  region = fold-Region solid.Region (region_step names number)
-
   abbrev Fused : Level → Type 0
-  Fused l = All FitsArity (leaves_of l) → region (fused_region v l) ≡ fused_level v (level_of names number l)
+  Fused l = All FitsArity (leaves_of l) → numbered_region names number (fused_region v l) ≡ fused_level v (level_of names number l)
 
   inner_fused : (ls : List ((l : Level) × Fused l)) → All FitsArity (inner_leaves (map (λ e. e.0) ls)) →
-      regions (map region (map (fused_region v) (map (λ e. e.0) ls))) ≡ fused_levels v (levels (map (level_of names number) (map (λ e. e.0) ls)))
+      regions (map (numbered_region names number) (map (fused_region v) (map (λ e. e.0) ls))) ≡ fused_levels v (levels (map (level_of names number) (map (λ e. e.0) ls)))
   inner_fused [] h = refl
   inner_fused (e ∷ ls) h =
       let behind = inner_leaves (map (λ e. e.0) ls) in
@@ -93,7 +85,7 @@ module _ (names : List tree.Name) (number : ℕ → tree.Rule) (v : ℕ → ℕ)
   fused = ind-Level Fused (λ y z is h.
       let split = fold-roll-Level (List Leaf) (λ l. l.leaves ++ flat_map (λ inner. inner) l.membranes) y in
       let here = subst (All FitsArity) split h in
-      let inside = subst (λ l. All FitsArity (inner_leaves l.membranes) → regions (map region (map (fused_region v) l.membranes)) ≡ fused_levels v (levels (map (level_of names number) l.membranes))) is (inner_fused z.membranes) in
+      let inside = subst (λ l. All FitsArity (inner_leaves l.membranes) → regions (map (numbered_region names number) (map (fused_region v) l.membranes)) ≡ fused_levels v (levels (map (level_of names number) l.membranes))) is (inner_fused z.membranes) in
       rw (
         fold-roll-Level Region (fused_step v) y,
         fold-roll-Region solid.Region (region_step names number) _,

@@ -1,5 +1,5 @@
 -- The links of what the program keeps, and those of its translation.
-use Rattle.std.proofs.Common.{ℕ, ◌≡◌, ◌+◌, ◌==◌, zero, suc, List, [], ◌∷◌, ◌++◌, map, All, count_by, Bool, true, false, cond, refl, sym, ◌∙◌, subst, arith}
+use Rattle.std.proofs.Common.{ℕ, ◌≡◌, ◌+◌, ◌==◌, zero, suc, List, [], ◌∷◌, ◌++◌, map, All, count_by, refl, sym, ◌∙◌, subst, arith}
 use Rattle.std.specs.List.{flat_map}
 use Rattle.std.proofs.lemmas.List.{append-nil, map-append}
 use Rattle.std.proofs.lemmas.List.Recursion.{is_count_by}
@@ -10,12 +10,12 @@ use Rattle.lmn_base.specs.declared.level.Leaf.{Leaf}
 use Rattle.lmn_base.specs.declared.level.Leaf.TheVariants.{Atom, Typed}
 use Rattle.lmn_base.specs.declared.level.Level.{Level}
 use Rattle.lmn_base.specs.declared.level.Level.TheFolds.{fold-roll-Level, ind-Level}
-use Rattle.lmn_base.specs.Levels.{leaves_of, leaf_occurrences as base_occurrences, links_of}
-use Rattle.lmn_base.specs.WellMade.{IsAtom}
+use Rattle.lmn_base.specs.Levels.{leaves_of, occurrences_of_leaf as base_occurrences, links_of, links_of_leaves}
+use Rattle.lmn_base.specs.WellMade.{IsAtomLeaf}
 use Rattle.lmn_base.specs.declared.solid.SolidAtom.{SolidAtom}
 use Rattle.lmn_base.specs.declared.solid.Region.{Region}
 use Rattle.lmn_base.specs.declared.solid.Region.TheFolds.{fold-Region, fold-roll-Region, ind-Region}
-use Rattle.lmn_base.specs.Solids.{atoms_of, atoms_step, links_of as solid_links}
+use Rattle.lmn_base.specs.Solids.{atoms_of_region, atoms_step, links_of_region as solid_links}
 use Rattle.lmn_congruence.specs.Links.{places}
 use Rattle.lmn_congruence.specs.Process.{Process, occurrences, together, rule}
 use Rattle.lmn_congruence.specs.Plains.{leaf_process, level_process, levels_processes}
@@ -23,22 +23,20 @@ use Rattle.lmn_congruence.specs.Regions as solid
 use Rattle.lmn_congruence.proofs.Appended.{all_left, all_right}
 use Rattle.lmn_congruence.specs.Rules as tree
 use Rattle.lmn_congruence.specs.LinkedRules.{leaf_occurrences, leaves_occurrences, level_occurrences, levels_occurrences}
-use Rattle.lmn_congruence.specs.Translation.{atom_of, leaf_of, level_of, level_step, levels, rules, solid_atom_of, regions, region_step, numbered_rule}
+use Rattle.lmn_congruence.specs.Translation.{atom_or_connector, leaf_of, level_of, level_step, levels, rules, solid_atom_of, regions, region_step, numbered_rule}
 use Rattle.lmn_congruence.specs.TranslationLaws.{LevelLinksKept, TopLinksKept, SolidLinksKept, LinkedRulesKept, SolidsClosed, PlainsClosed}
+use Rattle.lmn_base.proofs.Truth.{cond_plus}
+use Rattle.lmn_base.proofs.Common.{inner_leaves}
 
-places_append : (x : ℕ) (xs ys : List ℕ) → places x (xs ++ ys) ≡ places x xs + places x ys
+pub places_append : (x : ℕ) (xs ys : List ℕ) → places x (xs ++ ys) ≡ places x xs + places x ys
 places_append x [] ys = omega arith
 places_append x (z ∷ xs) ys = omega (arith, places_append x xs ys)
 
--- the links of leaves
-abbrev links_in : List Leaf → List ℕ
-links_in ls = map (λ o. o.link) (flat_map base_occurrences ls)
-
-places_both : (x : ℕ) (ks ls : List Leaf) → places x (links_in (ks ++ ls)) ≡ places x (links_in ks) + places x (links_in ls)
-places_both x ks ls = rw (flat_map-append base_occurrences ks ls, map-append (λ o. o.link) (flat_map base_occurrences ks) (flat_map base_occurrences ls)) (places_append x (links_in ks) (links_in ls))
+places_both : (x : ℕ) (ks ls : List Leaf) → places x (links_of_leaves (ks ++ ls)) ≡ places x (links_of_leaves ks) + places x (links_of_leaves ls)
+places_both x ks ls = rw (flat_map-append base_occurrences ks ls, map-append (λ o. o.link) (flat_map base_occurrences ks) (flat_map base_occurrences ls)) (places_append x (links_of_leaves ks) (links_of_leaves ls))
 
 -- of an atom's tree, and of its process
-atom_places : (names : List tree.Name) (x : ℕ) (l : Label) (ys : List ℕ) → (leaf_occurrences x (atom_of names l ys) ≡ places x ys) × (occurrences x (leaf_process (atom_of names l ys)) ≡ places x ys)
+atom_places : (names : List tree.Name) (x : ℕ) (l : Label) (ys : List ℕ) → (leaf_occurrences x (atom_or_connector names l ys) ≡ places x ys) × (occurrences x (leaf_process (atom_or_connector names l ys)) ≡ places x ys)
 atom_places names x (Name zero) [] = (refl, refl)
 atom_places names x (Name zero) (a ∷ []) = (refl, refl)
 atom_places names x (Name zero) (a ∷ (b ∷ [])) = (omega arith, omega arith)
@@ -46,70 +44,67 @@ atom_places names x (Name zero) (a ∷ (b ∷ (c ∷ ys))) = (refl, refl)
 atom_places names x (Name (suc n)) ys = (refl, refl)
 atom_places names x (Int z) ys = (refl, refl)
 
-leaf_places : (names : List tree.Name) (x : ℕ) (l : Leaf) → leaf_occurrences x (leaf_of names l) ≡ places x (links_in (l ∷ []))
+leaf_places : (names : List tree.Name) (x : ℕ) (l : Leaf) → leaf_occurrences x (leaf_of names l) ≡ places x (links_of_leaves (l ∷ []))
 leaf_places names x (Atom f os p) = rw (append-nil os) (atom_places names x f.label (map (λ o. o.link) os)).0
 leaf_places names x (Typed n o p) = omega arith
 
-leaves_places : (names : List tree.Name) (x : ℕ) (ls : List Leaf) → leaves_occurrences x (map (leaf_of names) ls) ≡ places x (links_in ls)
+leaves_places : (names : List tree.Name) (x : ℕ) (ls : List Leaf) → leaves_occurrences x (map (leaf_of names) ls) ≡ places x (links_of_leaves ls)
 leaves_places names x [] = refl
 leaves_places names x (l ∷ ls) = omega (arith, leaf_places names x l, leaves_places names x ls, places_both x (l ∷ []) ls)
 
 module _ (names : List tree.Name) (rule : ℕ → tree.Rule) (x : ℕ) where
   abbrev Counted : Level → Type 0
-  Counted l = level_occurrences x (level_of names rule l) ≡ places x (links_in (leaves_of l))
+  Counted l = level_occurrences x (level_of names rule l) ≡ places x (links_of_leaves (leaves_of l))
 
   inner_places : (ls : List ((l : Level) × Counted l)) →
-      levels_occurrences x (levels (map (level_of names rule) (map (λ e. e.0) ls))) ≡ places x (links_in (flat_map (λ inner. inner) (map leaves_of (map (λ e. e.0) ls))))
+      levels_occurrences x (levels (map (level_of names rule) (map (λ e. e.0) ls))) ≡ places x (links_of_leaves (flat_map (λ inner. inner) (map leaves_of (map (λ e. e.0) ls))))
   inner_places [] = refl
   inner_places (e ∷ ls) = omega (arith, e.1, inner_places ls, places_both x (leaves_of e.0) (flat_map (λ inner. inner) (map leaves_of (map (λ e. e.0) ls))))
 
   pub level_places : (l : Level) → Counted l
   level_places = ind-Level Counted (λ y z is.
-      let inside = subst (λ l. levels_occurrences x (levels (map (level_of names rule) l.membranes)) ≡ places x (links_in (flat_map (λ inner. inner) (map leaves_of l.membranes)))) is (inner_places z.membranes) in
+      let inside = subst (λ l. levels_occurrences x (levels (map (level_of names rule) l.membranes)) ≡ places x (links_of_leaves (flat_map (λ inner. inner) (map leaves_of l.membranes)))) is (inner_places z.membranes) in
       rw (fold-roll-Level tree.Level (level_step names rule) y, fold-roll-Level (List Leaf) (λ l. l.leaves ++ flat_map (λ inner. inner) l.membranes) y)
       (omega (arith, leaves_places names x y.leaves, inside, places_both x y.leaves (flat_map (λ inner. inner) (map leaves_of y.membranes)))))
 
 -- ---- the process of a top without contexts
 
-leaf_alone : (names : List tree.Name) (x : ℕ) (l : Leaf) → IsAtom l → occurrences x (leaf_process (leaf_of names l)) ≡ places x (links_in (l ∷ []))
+leaf_alone : (names : List tree.Name) (x : ℕ) (l : Leaf) → IsAtomLeaf l → occurrences x (leaf_process (leaf_of names l)) ≡ places x (links_of_leaves (l ∷ []))
 leaf_alone names x (Atom f os p) h = rw (append-nil os) (atom_places names x f.label (map (λ o. o.link) os)).1
 leaf_alone names x (Typed n o p) h = absurd h
 
-leaves_alone : (names : List tree.Name) (x : ℕ) (ls : List Leaf) → All IsAtom ls → occurrences x (together (map leaf_process (map (leaf_of names) ls))) ≡ places x (links_in ls)
+leaves_alone : (names : List tree.Name) (x : ℕ) (ls : List Leaf) → All IsAtomLeaf ls → occurrences x (together (map leaf_process (map (leaf_of names) ls))) ≡ places x (links_of_leaves ls)
 leaves_alone names x [] h = refl
-leaves_alone names x (l ∷ ls) h = omega (arith, leaf_alone names x l (h zero l (omega arith)), leaves_alone names x ls (all_right IsAtom (l ∷ []) ls h), places_both x (l ∷ []) ls)
+leaves_alone names x (l ∷ ls) h = omega (arith, leaf_alone names x l (h zero l (omega arith)), leaves_alone names x ls (all_right IsAtomLeaf (l ∷ []) ls h), places_both x (l ∷ []) ls)
 
-no_link_in_rules : (x : ℕ) (rs : List tree.Rule) → occurrences x (together (map rule rs)) ≡ 0
+pub no_link_in_rules : (x : ℕ) (rs : List tree.Rule) → occurrences x (together (map rule rs)) ≡ 0
 no_link_in_rules x [] = refl
 no_link_in_rules x (r ∷ rs) = omega (arith, no_link_in_rules x rs)
 
 module _ (names : List tree.Name) (number : ℕ → tree.Rule) (x : ℕ) where
-  abbrev inner_leaves : List Level → List Leaf
-  inner_leaves ls = flat_map (λ inner. inner) (map leaves_of ls)
-
   abbrev inner_process : List Level → Process
   inner_process ls = together (levels_processes (levels (map (level_of names number) ls)))
 
   abbrev Shown : Level → Type 0
-  Shown l = All IsAtom (leaves_of l) → occurrences x (level_process (level_of names number l)) ≡ places x (links_in (leaves_of l))
+  Shown l = All IsAtomLeaf (leaves_of l) → occurrences x (level_process (level_of names number l)) ≡ places x (links_of_leaves (leaves_of l))
 
-  inner_shown : (ls : List ((l : Level) × Shown l)) → All IsAtom (inner_leaves (map (λ e. e.0) ls)) →
-      occurrences x (inner_process (map (λ e. e.0) ls)) ≡ places x (links_in (inner_leaves (map (λ e. e.0) ls)))
+  inner_shown : (ls : List ((l : Level) × Shown l)) → All IsAtomLeaf (inner_leaves (map (λ e. e.0) ls)) →
+      occurrences x (inner_process (map (λ e. e.0) ls)) ≡ places x (links_of_leaves (inner_leaves (map (λ e. e.0) ls)))
   inner_shown [] h = refl
   inner_shown (e ∷ ls) h =
       let behind = inner_leaves (map (λ e. e.0) ls) in
-      omega (arith, e.1 (all_left IsAtom (leaves_of e.0) behind h), inner_shown ls (all_right IsAtom (leaves_of e.0) behind h), places_both x (leaves_of e.0) behind)
+      omega (arith, e.1 (all_left IsAtomLeaf (leaves_of e.0) behind h), inner_shown ls (all_right IsAtomLeaf (leaves_of e.0) behind h), places_both x (leaves_of e.0) behind)
 
   pub top_places : (l : Level) → Shown l
   top_places = ind-Level Shown (λ y z is h.
       let split = fold-roll-Level (List Leaf) (λ l. l.leaves ++ flat_map (λ inner. inner) l.membranes) y in
-      let here = subst (All IsAtom) split h in
-      let inside = subst (λ l. All IsAtom (inner_leaves l.membranes) → occurrences x (inner_process l.membranes) ≡ places x (links_in (inner_leaves l.membranes))) is (inner_shown z.membranes) in
+      let here = subst (All IsAtomLeaf) split h in
+      let inside = subst (λ l. All IsAtomLeaf (inner_leaves l.membranes) → occurrences x (inner_process l.membranes) ≡ places x (links_of_leaves (inner_leaves l.membranes))) is (inner_shown z.membranes) in
       rw (fold-roll-Level tree.Level (level_step names number) y, split)
       (omega (
         arith,
-        leaves_alone names x y.leaves (all_left IsAtom y.leaves (inner_leaves y.membranes) here),
-        inside (all_right IsAtom y.leaves (inner_leaves y.membranes) here),
+        leaves_alone names x y.leaves (all_left IsAtomLeaf y.leaves (inner_leaves y.membranes) here),
+        inside (all_right IsAtomLeaf y.leaves (inner_leaves y.membranes) here),
         no_link_in_rules x (tree.rules_list (rules (map number y.rules))),
         places_both x y.leaves (inner_leaves y.membranes),
       )))
@@ -128,17 +123,17 @@ module _ (names : List tree.Name) (number : ℕ → tree.Rule) (x : ℕ) where
   region = fold-Region solid.Region (region_step names number)
 
   abbrev inner_atoms : List Region → List SolidAtom
-  inner_atoms rs = flat_map (λ inner. inner) (map atoms_of rs)
+  inner_atoms rs = flat_map (λ inner. inner) (map atoms_of_region rs)
 
   abbrev inner_regions : List Region → Process
   inner_regions rs = together (solid.regions_processes (regions (map region rs)))
 
   abbrev Solidly : Region → Type 0
-  Solidly r = occurrences x (solid.region_process (region r)) ≡ places x (flat_map (λ a. a.links) (atoms_of r))
+  Solidly r = occurrences x (solid.region_process (region r)) ≡ places x (flat_map (λ a. a.links) (atoms_of_region r))
 
   inner_solidly : (rs : List ((r : Region) × Solidly r)) → occurrences x (inner_regions (map (λ e. e.0) rs)) ≡ places x (flat_map (λ a. a.links) (inner_atoms (map (λ e. e.0) rs)))
   inner_solidly [] = refl
-  inner_solidly (e ∷ rs) = omega (arith, e.1, inner_solidly rs, both_atoms x (atoms_of e.0) (inner_atoms (map (λ e. e.0) rs)))
+  inner_solidly (e ∷ rs) = omega (arith, e.1, inner_solidly rs, both_atoms x (atoms_of_region e.0) (inner_atoms (map (λ e. e.0) rs)))
 
   pub region_places : (r : Region) → Solidly r
   region_places = ind-Region Solidly (λ y z is.
@@ -148,11 +143,7 @@ module _ (names : List tree.Name) (number : ℕ → tree.Rule) (x : ℕ) where
 
 -- ---- how often a link occurs
 
-cond_plus : (b : Bool) (n : ℕ) → cond b 1 0 + n ≡ cond b (1 + n) n
-cond_plus true n = refl
-cond_plus false n = omega arith
-
-counted : (x : ℕ) (xs : List ℕ) → count_by (λ y. x == y) xs ≡ places x xs
+pub counted : (x : ℕ) (xs : List ℕ) → count_by (λ y. x == y) xs ≡ places x xs
 counted x xs = sym (is_count_by (places x) (λ y. x == y) refl (λ y ys. cond_plus (x == y) (places x ys)) xs)
 
 pub level_links : LevelLinksKept

@@ -4,7 +4,7 @@ use Rattle.std.specs.Prelude.{flat_map, codes, AllPairs}
 use Rattle.lmn_base.specs.declared.functor.Label.{Label}
 use Rattle.lmn_base.specs.declared.functor.Label.TheVariants.{Name, Int}
 use Rattle.lmn_base.specs.declared.functor.Functor.{Functor}
-use Rattle.lmn_base.specs.Solids.{atoms_of, connector}
+use Rattle.lmn_base.specs.Solids.{atoms_of_region, connector}
 use Rattle.lmn_base.specs.Names.{IsNames, HasNames, label_names}
 use Rattle.lmn_congruence.specs.Rules as tree
 use Rattle.lmn_congruence.specs.Translation.{name_of}
@@ -29,7 +29,7 @@ labels_apart names (Name m) (Int z) i h e = absurd (cc e)
 labels_apart names (Int y) (Name n) i h e = absurd (cc e)
 labels_apart names (Int y) (Int z) i h e = cc e
 
-each_part : {A B : Type 0} (P : B → Type 0) (f : A → List B) (xs : List A) → All P (flat_map f xs) → All (λ x. All P (f x)) xs
+pub each_part : {A B : Type 0} (P : B → Type 0) (f : A → List B) (xs : List A) → All P (flat_map f xs) → All (λ x. All P (f x)) xs
 each_part P f [] h k d l = absurd (omega (arith, l))
 each_part P f (x ∷ xs) h zero d l = all_left P (f x) (flat_map f xs) h
 each_part P f (x ∷ xs) h (suc k) d l = each_part P f xs (all_right P (f x) (flat_map f xs) h) k d (omega (arith, l))
@@ -49,8 +49,8 @@ is_connector f e e' = parts f.label f.arity e e'
 
 pub no_solid_connector : NoSolidConnector
 no_solid_connector names table s n k j d l p =
-    let a = slice_index_or (atoms_of s.root) j d in
+    let a = slice_index_or (atoms_of_region s.root) j d in
     let f = first_name names n.0 in
-    let here : HasNames names (label_names a.functor.label) = each_part (λ m. m < length names) (λ a. label_names a.functor.label) (atoms_of s.root) n.2 j d l in
+    let here : HasNames names (label_names a.functor.label) = each_part (λ m. m < length names) (λ a. label_names a.functor.label) (atoms_of_region s.root) n.2 j d l in
     let e : Name 0 ≡ a.functor.label = labels_apart names (Name 0) a.functor.label n.0 (first_and (λ m. m < length names) 0 (label_names a.functor.label) f.1 here) (ap tree.named f.0 ∙ sym p.0) in
     k.no_connector j d l (is_connector a.functor (sym e) (sym (k.arities j d l) ∙ p.1))

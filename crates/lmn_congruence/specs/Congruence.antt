@@ -8,9 +8,9 @@ abbrev pub ExactlyOneFree : ℕ → ℕ → Process → Type 0
 ExactlyOneFree x y P = (Free x P × ¬ (Free y P)) ⊎ (Free y P × ¬ (Free x P))
 
 -- an atom in the sense of rule E9: connectors are atoms too
-pub data IsAtom : Process → Type 0 where
-  a_connector : {x y : ℕ} → IsAtom (connector x y)
-  an_atom : {a : Label} {xs : List ℕ} → IsAtom (atom a xs)
+pub data IsAtomProcess : Process → Type 0 where
+  a_connector : {x y : ℕ} → IsAtomProcess (connector x y)
+  an_atom : {a : Label} {xs : List ℕ} → IsAtomProcess (atom a xs)
 
 -- Structural congruence: the derivations by Ueda's rules E1 to E10, reflexivity, symmetry and transitivity.
 -- By our profile both sides of each conclusion are linked. This is written where it doesn't follow, and the
@@ -28,7 +28,7 @@ pub data Congruent : Process → Process → Type 0 where
   inside : {P P' : Process} → Congruent P P' → Congruent (membrane P) (membrane P')
   loop : {x : ℕ} → Congruent (connector x x) nothing
   turn : {x y : ℕ} → Congruent (connector x y) (connector y x)
-  absorb : {P : Process} (x y : ℕ) → IsAtom P → Free x P → Linked (pair (connector x y) P) →
+  absorb : {P : Process} (x y : ℕ) → IsAtomProcess P → Free x P → Linked (pair (connector x y) P) →
       Congruent (pair (connector x y) P) (substitute y x P)
   pass : {P : Process} (x y : ℕ) → ExactlyOneFree x y P → Linked (pair (connector x y) P) →
       Congruent (membrane (pair (connector x y) P)) (pair (connector x y) (membrane P))

@@ -4,15 +4,12 @@ use Rattle.lmn_base.specs.declared.functor.Label.TheVariants.{Name}
 use Rattle.lmn_base.specs.declared.level.Leaf.TheVariants.{Atom}
 use Rattle.lmn_base.specs.declared.level.Level.{Level}
 use Rattle.lmn_base.specs.declared.level.Level.TheViews.{roll-Level}
-use Rattle.lmn_base.specs.declared.refusal.Pos.{Pos}
 use Rattle.lmn_base.specs.declared.rule.Plain.{Plain}
 use Rattle.lmn_base.specs.declared.rule.RuleTree.{RuleTree}
 use Rattle.lmn_base.specs.declared.solid.Region.TheViews.{roll-Region}
 use Rattle.lmn_base.specs.declared.solid.Solid.{Solid}
 use Rattle.lmn_congruence.specs.SolidsOfPlains.{IsSolidOf}
-
-abbrev pub somewhere : Pos
-somewhere = record { line = 1; column = 1 }
+use Rattle.lmn_base.specs.SmallTexts.{somewhere}
 
 -- a level of one atom without links, by the number of its name
 abbrev pub one_atom : ℕ → Level
@@ -31,9 +28,9 @@ two_rules = record {
 }
 
 -- a solid with these rules alone
-abbrev pub with_rules : List ℕ → Solid
-with_rules rules = record { root = roll-Region (record { atoms = []; membranes = []; rules = rules }) }
+abbrev pub solid_with_rules : List ℕ → Solid
+solid_with_rules rules = record { root = roll-Region (record { atoms = []; membranes = []; rules = rules }) }
 
 -- Its solid has the rules 0 and 1. One with the rule 1 twice is another, though both rules are the same tree.
 abbrev pub RulesKeepTheirNumbers : Type 0
-RulesKeepTheirNumbers = IsSolidOf two_rules (with_rules (0 ∷ 1 ∷ [])) × (¬ (IsSolidOf two_rules (with_rules (1 ∷ 1 ∷ []))))
+RulesKeepTheirNumbers = IsSolidOf two_rules (solid_with_rules (0 ∷ 1 ∷ [])) × (¬ (IsSolidOf two_rules (solid_with_rules (1 ∷ 1 ∷ []))))

@@ -20,7 +20,7 @@ SameCrossings v (rule r) = Unit {0}
 --   joins      the two links of each connector have one image
 --   order      P with each link at its image and without its connectors is N, up to order and grouping
 --   crossings  the links across each membrane are as many as in N
-pub record ReadsAs (P N : Process) : Type 0 where
+pub record ReadsByMap (P N : Process) : Type 0 where
   pub to : ℕ → ℕ
   pub leaves : (x : ℕ) → Free x P → to x ≡ x
   pub joins : Joins to P

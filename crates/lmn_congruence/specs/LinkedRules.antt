@@ -9,6 +9,7 @@ leaf_occurrences x (atom_leaf a ys) = places x ys
 leaf_occurrences x (connector_leaf y z) = one_if_same x y + one_if_same x z
 leaf_occurrences x (typed_leaf p y) = one_if_same x y
 
+-- how often a link occurs in leaves
 abbrev pub leaves_occurrences : ℕ → List Leaf → ℕ
 leaves_occurrences x [] = 0
 leaves_occurrences x (l ∷ ls) = leaf_occurrences x l + leaves_occurrences x ls

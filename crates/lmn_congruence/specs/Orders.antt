@@ -16,3 +16,8 @@ pub data Shuffle {A B : Type 0} (R : A → B → Type 0) : List A → List B →
   none : Shuffle R [] []
   more : {x : A} {y : B} {xs : List A} {ys zs : List B} →
       R x y → Shuffle R xs ys → Put y ys zs → Shuffle R (x ∷ xs) zs
+
+-- no element stands twice in a list
+abbrev pub EachOnce : {A : Type 0} → List A → Type 0
+EachOnce [] = Unit {0}
+EachOnce (x ∷ xs) = (¬ (Among x xs)) × EachOnce xs

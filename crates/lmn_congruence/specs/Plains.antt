@@ -6,6 +6,7 @@ use Rattle.lmn_congruence.specs.Rules.{Leaf, atom_leaf, connector_leaf, typed_le
 use Rattle.lmn_congruence.specs.Fused.{Joins}
 use Rattle.lmn_congruence.specs.Regions.{SolidAtom, Region, region, Regions, no_region, region_and, region_process}
 
+-- the process of a leaf; a typed context stands for nothing at the top
 abbrev pub leaf_process : Leaf → Process
 leaf_process (atom_leaf a xs) = atom a xs
 leaf_process (connector_leaf x y) = connector x y

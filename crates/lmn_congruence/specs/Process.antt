@@ -48,6 +48,7 @@ Closed P = (x : ℕ) → Fresh x P ⊎ Local x P
 abbrev pub replace : ℕ → ℕ → ℕ → ℕ
 replace new old x = cond (x == old) new x
 
+-- a process with one link in the place of another
 abbrev pub substitute : ℕ → ℕ → Process → Process
 substitute new old nothing = nothing
 substitute new old (connector y z) = connector (replace new old y) (replace new old z)

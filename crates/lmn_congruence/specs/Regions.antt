@@ -18,6 +18,7 @@ mutual
     no_region : Regions
     region_and : Region → Regions → Regions
 
+-- an atom of a region as a process
 abbrev pub atom_process : SolidAtom → Process
 atom_process a = atom a.label a.links
 
@@ -35,9 +36,15 @@ abbrev mutual
 -- The items of a region: its atoms, membranes and rules, at every depth. At the root, which isn't counted
 -- itself, these are the items of the whole solid.
 abbrev mutual
-  pub items : Region → ℕ
-  items (region atoms membranes rules) = length atoms + items_of_all membranes + length rules
+  -- How many items a region has: its atoms, membranes and rules, at every depth. Of the root, which isn't counted
+  -- itself, these are the items of the whole solid. # it stands above the mutual block
+  pub item_count_of_region : Region → ℕ
+  item_count_of_region (region atoms membranes rules) = length atoms + item_count_of_regions membranes + length rules
 
-  pub items_of_all : Regions → ℕ
-  items_of_all no_region = 0
-  items_of_all (region_and r rs) = 1 + items r + items_of_all rs
+  pub item_count_of_regions : Regions → ℕ
+  item_count_of_regions no_region = 0
+  item_count_of_regions (region_and r rs) = 1 + item_count_of_region r + item_count_of_regions rs
+
+-- an atom with this label and these links
+abbrev pub solid_atom_with : Label → List ℕ → SolidAtom
+solid_atom_with l xs = record { label = l; links = xs }

@@ -32,6 +32,7 @@ pub data Arithmetic : Type 0 where
 pub data Comparison : Type 0 where
   less at_most greater at_least equal unequal : Comparison
 
+-- an expression of a guard
 pub data Expression : Type 0 where
   number : ℤ → Expression
   value_of : Name → Expression
@@ -67,6 +68,7 @@ mutual
     no_rule : Rules
     rule_and : Rule → Rules → Rules
 
+-- the parts of a rule
 abbrev pub head_of : Rule → Level
 head_of (rule_of head guard body) = head
 
@@ -76,6 +78,11 @@ guard_of (rule_of head guard body) = guard
 abbrev pub body_of : Rule → Level
 body_of (rule_of head guard body) = body
 
+-- rules as a list
 abbrev pub rules_list : Rules → List Rule
 rules_list no_rule = []
 rules_list (rule_and r rs) = r ∷ rules_list rs
+
+-- a level of atoms, connectors and typed contexts alone
+abbrev pub only_leaves : List Leaf → Level
+only_leaves ls = level ls no_level [] [] no_rule

@@ -32,6 +32,7 @@ abbrev pub fused_leaf : (ℕ → ℕ) → Leaf → List SolidAtom
 fused_leaf v (Atom functor links pos) = if is_connector functor then [] else record { functor = functor; links = map (λ o. v o.link) links } ∷ []
 fused_leaf v (Typed name link pos) = []
 
+-- a level whose membranes are fused already
 abbrev pub fused_step : (ℕ → ℕ) → Level-F Region → Region
 fused_step v l = roll-Region (record { atoms = flat_map (fused_leaf v) l.leaves; membranes = l.membranes; rules = l.rules })
 

@@ -1,6 +1,6 @@
 -- The values that the program keeps, as trees, regions and processes. `names` has the bytes of each name by
 -- its number, and `table` the rules by theirs. Both are meant of lists that hold every number in use: of names
--- `NamesPlain` and `NamesSolid` of `lmn_base` say so, of rules `IsWellMade` and `HasRules`. Places in the text
+-- `NamesPlain` and `NamesSolid` of `lmn_base` say so, of rules `IsWellMade` and `HasEachRule`. Places in the text
 -- are left out.
 use Rattle.std.specs.Prelude.{ℕ, zero, ◌+◌, ◌-◌, ◌==◌, if◌then◌else◌, List, [], ◌∷◌, map, slice_index_or}
 use Rattle.lmn_base.specs.declared.functor.TheConstants.{INT_NAME, UNARY_NAME, GROUND_NAME}
@@ -31,28 +31,32 @@ use Rattle.lmn_congruence.specs.Process.{Process}
 use Rattle.lmn_congruence.specs.Rules as tree
 use Rattle.lmn_congruence.specs.Regions as solid
 use Rattle.lmn_congruence.specs.Plains.{level_process}
-use Rattle.lmn_congruence.specs.Same.{Same}
+use Rattle.lmn_base.specs.declared.solid.Region.{Region}
 
 -- the name with a number; the numbers in use are those of the list
 abbrev pub name_of : List tree.Name → ℕ → tree.Name
 name_of names n = slice_index_or names n []
 
+-- a label, its name by its bytes
 abbrev pub label_of : List tree.Name → Label → tree.Label
 label_of names (Name n) = tree.named (name_of names n)
 label_of names (Int z) = tree.integer z
 
 -- the name with the number 0 and two links make a connector
-abbrev pub atom_of : List tree.Name → Label → List ℕ → tree.Leaf
-atom_of names (Name zero) (x ∷ (y ∷ [])) = tree.connector_leaf x y
-atom_of names l xs = tree.atom_leaf (label_of names l) xs
+abbrev pub atom_or_connector : List tree.Name → Label → List ℕ → tree.Leaf
+atom_or_connector names (Name zero) (x ∷ (y ∷ [])) = tree.connector_leaf x y
+atom_or_connector names l xs = tree.atom_leaf (label_of names l) xs
 
+-- a leaf with the numbers of its links
 abbrev pub leaf_of : List tree.Name → Leaf → tree.Leaf
-leaf_of names (Atom functor links pos) = atom_of names functor.label (map (λ o. o.link) links)
+leaf_of names (Atom functor links pos) = atom_or_connector names functor.label (map (λ o. o.link) links)
 leaf_of names (Typed n o pos) = tree.typed_leaf (name_of names n) o.link
 
+-- the names of contexts
 abbrev pub names_of : List tree.Name → List CtxUse → List tree.Name
 names_of names us = map (λ u. name_of names u.name) us
 
+-- lists of levels and of rules as those of a tree
 abbrev pub levels : List tree.Level → tree.Levels
 levels [] = tree.no_level
 levels (l ∷ ls) = tree.level_and l (levels ls)
@@ -70,6 +74,7 @@ level_step names rule l =
 abbrev pub level_of : List tree.Name → (ℕ → tree.Rule) → Level → tree.Level
 level_of names rule = fold-Level tree.Level (level_step names rule)
 
+-- operators, expressions, comparisons and conditions as those of a tree
 abbrev pub operator_of : Arith → tree.Arithmetic
 operator_of Add = tree.plus
 operator_of Sub = tree.minus
@@ -109,6 +114,7 @@ condition_of names (Compare op left right pos) =
 condition_of names (Equal left right pos) = tree.equates (name_of names left.name) (expression_of names right)
 condition_of names (Differ left right pos) = tree.differs (name_of names left.name) (name_of names right.name)
 
+-- a rule as a tree, where `rule` gives the rule with a number
 abbrev pub rule_tree : List tree.Name → (ℕ → tree.Rule) → RuleTree → tree.Rule
 rule_tree names rule r =
     tree.rule_of (level_of names rule r.head) (map (condition_of names) r.guard) (level_of names rule r.body)
@@ -136,9 +142,11 @@ numbered_rule names table n = slice_index_or (rules_from names 0 table) n no_suc
 abbrev pub top_of : List tree.Name → Plain → tree.Level
 top_of names p = level_of names (numbered_rule names p.rules) p.top
 
+-- the process of a plain
 abbrev pub plain_process : List tree.Name → Plain → Process
 plain_process names p = level_process (top_of names p)
 
+-- atoms and lists of regions as those of the calculus
 abbrev pub solid_atom_of : List tree.Name → SolidAtom → solid.SolidAtom
 solid_atom_of names a = record { label = label_of names a.functor.label; links = a.links }
 
@@ -149,14 +157,13 @@ regions (r ∷ rs) = solid.region_and r (regions rs)
 abbrev pub region_step : List tree.Name → (ℕ → tree.Rule) → Region-F solid.Region → solid.Region
 region_step names rule r = solid.region (map (solid_atom_of names) r.atoms) (regions r.membranes) (map rule r.rules)
 
+abbrev pub numbered_region : List tree.Name → (ℕ → tree.Rule) → Region → solid.Region
+numbered_region names rule = fold-Region solid.Region (region_step names rule)
+
 -- the region of a solid, and its process
 abbrev pub region_of : List tree.Name → List RuleTree → Solid → solid.Region
-region_of names table s = fold-Region solid.Region (region_step names (numbered_rule names table)) s.root
+region_of names table s = numbered_region names (numbered_rule names table) s.root
 
+-- the process of a solid
 abbrev pub solid_process : List tree.Name → List RuleTree → Solid → Process
 solid_process names table s = solid.region_process (region_of names table s)
-
--- equal up to the order of lists and the numbers of links, names and rules: each solid has its own names and table
-abbrev pub SameSolid :
-    List tree.Name → List RuleTree → Solid → List tree.Name → List RuleTree → Solid → Type 0
-SameSolid names table s names' table' s' = Same (region_of names table s) (region_of names' table' s')

@@ -6,14 +6,14 @@ use Rattle.lmn_base.specs.declared.rule.RuleTree.{RuleTree}
 use Rattle.lmn_base.specs.declared.rule.Plain.{Plain}
 use Rattle.lmn_base.specs.declared.solid.Solid.{Solid}
 use Rattle.lmn_base.specs.Levels.{links_of}
-use Rattle.lmn_base.specs.Solids.{atoms_of, items_of, links_of as solid_links, IsSolid}
+use Rattle.lmn_base.specs.Solids.{atoms_of_region, item_count, links_of_region as solid_links, IsSolid}
 use Rattle.lmn_base.specs.Names.{IsNames, HasNames, label_names, NamesSolid}
 use Rattle.lmn_base.specs.Links.{EachTwice}
 use Rattle.lmn_base.specs.WellMade.{IsWellMade, IsLinkedRule}
 use Rattle.lmn_congruence.specs.Process.{occurrences, Closed}
 use Rattle.lmn_congruence.specs.Rules.{Name, named, Rule}
 use Rattle.lmn_congruence.specs.LinkedRules.{level_occurrences, LinkedRule}
-use Rattle.lmn_congruence.specs.Regions.{items}
+use Rattle.lmn_congruence.specs.Regions.{item_count_of_region}
 use Rattle.lmn_congruence.specs.Plains.{SolidOf}
 use Rattle.lmn_congruence.specs.SolidsOfPlains.{IsSolidOf}
 use Rattle.lmn_congruence.specs.Translation.{label_of, level_of, rule_tree, numbered_rule, plain_process, region_of, solid_process, top_of}
@@ -42,7 +42,7 @@ SolidLinksKept = (names : List Name) (table : List RuleTree) (s : Solid) (x : �
 -- a solid has as many items as its region
 abbrev pub ItemsKept : Type 0
 ItemsKept = (names : List Name) (table : List RuleTree) (s : Solid) →
-    items (region_of names table s) ≡ items_of s
+    item_count_of_region (region_of names table s) ≡ item_count s
 
 -- a rule is linked exactly where its tree is
 abbrev pub LinkedRulesKept : Type 0
@@ -67,7 +67,7 @@ LabelsApart = (names : List Name) (k l : Label) → IsNames names → HasNames n
 -- no atom in the region of a solid is named `=` and has two links
 abbrev pub NoSolidConnector : Type 0
 NoSolidConnector = (names : List Name) (table : List RuleTree) (s : Solid) → NamesSolid names table s → IsSolid s →
-    All (λ a. ¬ ((label_of names a.functor.label ≡ named (codes "=")) × (length a.links ≡ 2))) (atoms_of s.root)
+    All (λ a. ¬ ((label_of names a.functor.label ≡ named (codes "=")) × (length a.links ≡ 2))) (atoms_of_region s.root)
 
 -- the solid of a plain has the region of the plain's top, by whatever names
 abbrev pub SolidsOfPlains : Type 0

@@ -16,22 +16,19 @@ use Rattle.lmn_base.specs.declared.level.Level.TheFolds.{fold-roll-Level}
 use Rattle.lmn_base.specs.declared.functor.Label.TheVariants.{Name}
 use Rattle.lmn_base.specs.declared.refusal.Pos.{Pos}
 use Rattle.lmn_base.specs.declared.rule.RuleTree.{RuleTree}
-use Rattle.lmn_base.specs.Firsts.{Row}
 use Rattle.lmn_base.specs.Items.{items_of, own_items, leaf_item, guard_items, number_of_items, number_step}
 use Rattle.lmn_base.specs.RuleCodes.{rule_rows, bare_place, rule_context_place, connector_place, inner_rule, seconds, seconds_by_membrane, first_with_some, used_again, in_other_form, missing, bare_again, from_nowhere}
-use Rattle.lmn_base.proofs.ItemLemmas.{items_apart}
-use Rattle.lmn_contexts.specs.Examples.{at, a, b, p, r, x, alone, use_at, holding, empty, one_membrane, without_guard, EmptyHead, RuleInHead, ConnectorInHead, ContextAtTop, RuleContextAtTop, TwoInMembrane, OuterPairFirst, TwiceInHead, TwiceInTwoForms, NotInBody, TwiceInBody, NotInHead, RuleContextNotInHead, InTwoForms, LargestHead, LargestBody, NothingOffends, many}
-
--- the items of a level, by its lists
-listed : (l : Level-F Level) → items_of (roll-Level l) ≡ own_items l ++ flat_map items_of l.membranes
-listed l = items_apart (roll-Level l) ∙ ap (λ o. own_items o ++ flat_map items_of o.membranes) (out-roll-Level l)
+use Rattle.lmn_base.proofs.ItemLemmas.{listed_items as listed}
+use Rattle.lmn_contexts.specs.Examples.{name_r, context_x, alone, holding, empty, membrane_with_contexts, without_guard, EmptyHead, RuleInHead, ConnectorInHead, ContextAtTop, RuleContextAtTop, TwoInMembrane, OuterPairFirst, TwiceInHead, TwiceInTwoForms, NotInBody, TwiceInBody, NotInHead, RuleContextNotInHead, InTwoForms, LargestHead, LargestBody, NothingOffends, many}
+use Rattle.lmn_base.specs.SmallTexts.{at_column, name_a, name_b, name_p, use_at}
+use Rattle.lmn_base.proofs.RowLemmas.{Nowhere}
 
 -- how many there are
 counted : (l : Level-F Level) → number_of_items (roll-Level l) ≡ number_step (map-Level Level ℕ number_of_items l)
 counted l = fold-roll-Level ℕ number_step l
 
 pub empty_head : EmptyHead
-empty_head = ap (λ n. if n == 0 then at 1 ∷ [] else []) (counted _)
+empty_head = ap (λ n. if n == 0 then at_column 1 ∷ [] else []) (counted _)
 
 pub connector_in_head : ConnectorInHead
 connector_in_head = ap (flat_map connector_place) (listed _)
@@ -58,7 +55,7 @@ outer = record { leaves = []; membranes = []; contexts = []; rule_contexts = [];
 
 pub rule_in_head : RuleInHead
 rule_in_head =
-    let inner : RuleTree = record { head = holding (alone a 2 ∷ []) [] [] []; guard = []; body = holding (alone b 7 ∷ []) [] [] []; links = []; pos = at 2 } in
+    let inner : RuleTree = record { head = holding (alone name_a 2 ∷ []) [] [] []; guard = []; body = holding (alone name_b 7 ∷ []) [] [] []; links = []; pos = at_column 2 } in
     ap (flat_map (inner_rule (without_guard (roll-Level outer) empty ∷ inner ∷ []))) (listed outer)
 
 -- ---- two contexts in one membrane
@@ -75,15 +72,15 @@ two_in_membrane =
 
 pub outer_pair_first : OuterPairFirst
 outer_pair_first =
-    ap first_with_some (membranes_of_rolled _ ∙ ap (λ ps. ps ++ []) (seconds_listed _ ∙ ap (λ ps. (at 16 ∷ []) ∷ (ps ++ [])) (seconds_listed _)))
+    ap first_with_some (membranes_of_rolled _ ∙ ap (λ ps. ps ++ []) (seconds_listed _ ∙ ap (λ ps. (at_column 16 ∷ []) ∷ (ps ++ [])) (seconds_listed _)))
 
 -- ---- uses in the head
 
 pub twice_in_head : TwiceInHead
 twice_in_head =
-    let first : items_of (holding [] [] (use_at p 2 ∷ []) []) ≡ _ = listed _ in
-    let second : items_of (holding [] [] (use_at p 8 ∷ []) []) ≡ _ = listed _ in
-    let head : items_of (holding [] (holding [] [] (use_at p 2 ∷ []) [] ∷ holding [] [] (use_at p 8 ∷ []) [] ∷ []) [] []) ≡ _ = listed _ ∙ (λ i. first i ++ (second i ++ [])) in
+    let first : items_of (holding [] [] (use_at name_p 2 ∷ []) []) ≡ _ = listed _ in
+    let second : items_of (holding [] [] (use_at name_p 8 ∷ []) []) ≡ _ = listed _ in
+    let head : items_of (holding [] (holding [] [] (use_at name_p 2 ∷ []) [] ∷ holding [] [] (use_at name_p 8 ∷ []) [] ∷ []) [] []) ≡ _ = listed _ ∙ (λ i. first i ++ (second i ++ [])) in
     λ i. flat_map (used_again (head i)) (head i)
 
 abbrev two_forms : List Item → List Pos
@@ -91,16 +88,16 @@ two_forms items = flat_map (in_other_form items) items
 
 pub twice_in_two_forms : TwiceInTwoForms
 twice_in_two_forms =
-    let atom = Atom (record { label = Name p; arity = 1 }) (record { link = 0; pos = at 7 } ∷ []) (at 7) in
-    let typed = Typed x (record { link = 0; pos = at 7 }) (at 9) in
-    let head : items_of (holding (atom ∷ typed ∷ []) (holding [] [] (use_at x 2 ∷ []) [] ∷ []) [] []) ≡ _ = in_one _ _ [] _ (listed _) in
+    let atom = Atom (record { label = Name name_p; arity = 1 }) (record { link = 0; pos = at_column 7 } ∷ []) (at_column 7) in
+    let typed = Typed context_x (record { link = 0; pos = at_column 7 }) (at_column 9) in
+    let head : items_of (holding (atom ∷ typed ∷ []) (holding [] [] (use_at context_x 2 ∷ []) [] ∷ []) [] []) ≡ _ = in_one _ _ [] _ (listed _) in
     ((λ i. flat_map (used_again (head i)) (head i)), (λ i. two_forms (head i ++ none i)))
 
 pub in_two_forms : InTwoForms
 in_two_forms =
-    let head : items_of (holding [] (holding (alone a 2 ∷ []) [] (use_at p 5 ∷ []) [] ∷ []) [] []) ≡ _ = in_one [] _ [] _ (listed _) in
-    let body : items_of (holding [] [] (use_at p 22 ∷ []) []) ≡ _ = listed _ in
-    λ i. two_forms (head i ++ (guard_items (Kind 1 (use_at p 16 ∷ []) (at 12) ∷ []) ++ body i))
+    let head : items_of (holding [] (holding (alone name_a 2 ∷ []) [] (use_at name_p 5 ∷ []) [] ∷ []) [] []) ≡ _ = in_one [] _ [] _ (listed _) in
+    let body : items_of (holding [] [] (use_at name_p 22 ∷ []) []) ≡ _ = listed _ in
+    λ i. two_forms (head i ++ (guard_items (Kind 1 (use_at name_p 16 ∷ []) (at_column 12) ∷ []) ++ body i))
 
 -- ---- uses in the body
 
@@ -109,26 +106,26 @@ once head body = flat_map (missing body) head ++ flat_map (bare_again head body)
 
 pub not_in_body : NotInBody
 not_in_body =
-    let head : items_of (one_membrane (use_at p 2 ∷ [])) ≡ _ = in_one [] _ [] _ (listed _) in
+    let head : items_of (membrane_with_contexts (use_at name_p 2 ∷ [])) ≡ _ = in_one [] _ [] _ (listed _) in
     λ i. once (head i) (none i)
 
 pub twice_in_body : TwiceInBody
 twice_in_body =
-    let head : items_of (holding (alone b 8 ∷ []) (holding [] [] (use_at p 2 ∷ []) [] ∷ []) [] []) ≡ _ = in_one _ _ [] _ (listed _) in
-    let body : items_of (holding [] (holding [] [] (use_at p 2 ∷ []) [] ∷ []) (use_at p 13 ∷ []) []) ≡ _ = in_one _ _ _ _ (listed _) in
+    let head : items_of (holding (alone name_b 8 ∷ []) (holding [] [] (use_at name_p 2 ∷ []) [] ∷ []) [] []) ≡ _ = in_one _ _ [] _ (listed _) in
+    let body : items_of (holding [] (holding [] [] (use_at name_p 2 ∷ []) [] ∷ []) (use_at name_p 13 ∷ []) []) ≡ _ = in_one _ _ _ _ (listed _) in
     λ i. once (head i) (body i)
 
-b_alone : items_of (holding (alone b 1 ∷ []) [] [] []) ≡ leaf_item (alone b 1) ∷ []
+b_alone : items_of (holding (alone name_b 1 ∷ []) [] [] []) ≡ leaf_item (alone name_b 1) ∷ []
 b_alone = listed _
 
 pub not_in_head : NotInHead
 not_in_head =
-    let body : items_of (holding [] [] (use_at p 6 ∷ []) []) ≡ _ = listed _ in
+    let body : items_of (holding [] [] (use_at name_p 6 ∷ []) []) ≡ _ = listed _ in
     λ i. flat_map (from_nowhere (b_alone i) []) (body i)
 
 pub rule_context_not_in_head : RuleContextNotInHead
 rule_context_not_in_head =
-    let body : items_of (holding [] [] [] (use_at r 6 ∷ [])) ≡ _ = listed _ in
+    let body : items_of (holding [] [] [] (use_at name_r 6 ∷ [])) ≡ _ = listed _ in
     λ i. flat_map (from_nowhere (b_alone i) []) (body i)
 
 -- ---- limits
@@ -137,7 +134,7 @@ size_of_empty : number_of_items empty ≡ 0
 size_of_empty = counted _
 
 abbrev too_many : ℕ → ℕ → List Pos
-too_many head body = if nat_lt 128 head || (nat_lt 1024 body || (nat_lt 64 0 || nat_lt 256 0)) then at 1 ∷ [] else []
+too_many head body = if nat_lt 128 head || (nat_lt 1024 body || (nat_lt 64 0 || nat_lt 256 0)) then at_column 1 ∷ [] else []
 
 -- the size of leaves and one membrane
 sized : (leaves : List Leaf) (inner : Level) (n : ℕ) → number_of_items inner ≡ n →
@@ -146,26 +143,23 @@ sized leaves inner n e = counted _ ∙ ap (λ k. number_step (record { leaves = 
 
 pub largest_head : LargestHead
 largest_head =
-    let within : number_of_items (holding (many 127 (alone a 1)) (holding [] [] [] [] ∷ []) [] []) ≡ 128 = sized _ _ 0 (counted _) in
-    let beyond : number_of_items (holding (many 127 (alone a 1)) (holding [] [] (use_at p 9 ∷ []) [] ∷ []) [] []) ≡ 129 = sized _ _ 1 (counted _) in
+    let within : number_of_items (holding (many 127 (alone name_a 1)) (holding [] [] [] [] ∷ []) [] []) ≡ 128 = sized _ _ 0 (counted _) in
+    let beyond : number_of_items (holding (many 127 (alone name_a 1)) (holding [] [] (use_at name_p 9 ∷ []) [] ∷ []) [] []) ≡ 129 = sized _ _ 1 (counted _) in
     ((λ i. too_many (within i) (size_of_empty i)), (λ i. too_many (beyond i) (size_of_empty i)))
 
 pub largest_body : LargestBody
 largest_body =
-    let within : number_of_items (holding (many 1024 (alone a 1)) [] [] []) ≡ 1024 = counted _ in
-    let beyond : number_of_items (holding (many 1025 (alone a 1)) [] [] []) ≡ 1025 = counted _ in
+    let within : number_of_items (holding (many 1024 (alone name_a 1)) [] [] []) ≡ 1024 = counted _ in
+    let beyond : number_of_items (holding (many 1025 (alone name_a 1)) [] [] []) ≡ 1025 = counted _ in
     ((λ i. too_many (size_of_empty i) (within i)), (λ i. too_many (size_of_empty i) (beyond i)))
 
 -- ---- a rule that may stand
 
-abbrev Nowhere : Row → Type 0
-Nowhere row = row.places ≡ []
-
 pub nothing_offends : NothingOffends
 nothing_offends =
-    let inner : Level = holding (alone a 2 ∷ []) [] (use_at p 5 ∷ []) (use_at r 9 ∷ []) in
+    let inner : Level = holding (alone name_a 2 ∷ []) [] (use_at name_p 5 ∷ []) (use_at name_r 9 ∷ []) in
     let rolled : Level-F Level = record { leaves = []; membranes = inner ∷ []; contexts = []; rule_contexts = []; rules = [] } in
-    let made : Level = holding [] [] (use_at p 17 ∷ []) (use_at r 21 ∷ use_at r 25 ∷ []) in
+    let made : Level = holding [] [] (use_at name_p 17 ∷ []) (use_at name_r 21 ∷ use_at name_r 25 ∷ []) in
     let head : items_of (holding [] (inner ∷ []) [] []) ≡ _ = in_one [] inner [] _ (listed _) in
     let body : items_of (holding [] (made ∷ []) [] []) ≡ _ = in_one [] made [] _ (listed _) in
     let few : number_of_items inner ≡ 3 = counted _ in
@@ -176,7 +170,7 @@ nothing_offends =
     All-from_recursion Nowhere (rule_rows [] (without_guard (holding [] (inner ∷ []) [] []) (holding [] (made ∷ []) [] []))) (
       (λ i. too_many (head_size i) (body_size i)),
       (
-        (λ i. if head_size i == 0 then at 1 ∷ [] else []),
+        (λ i. if head_size i == 0 then at_column 1 ∷ [] else []),
         (
           ap (flat_map (inner_rule [])) head,
           (

@@ -12,17 +12,18 @@ use Rattle.lmn_body.specs.Code.{removals, making, links_code, body_code}
 use Rattle.lmn_body.specs.Running.{Registers}
 use Rattle.lmn_body.specs.Fired.{images_of}
 use Rattle.lmn_body.specs.Within.{membrane_images}
-use Rattle.lmn_machine.specs.Costs.{Adds, Takes, InAll}
-use Rattle.lmn_cost.proofs.Totals.{total, total_mapped}
+use Rattle.lmn_machine.specs.Costs.{AddsItems, TakesItems, InAll}
+use Rattle.lmn_cost.proofs.Totals.{total_mapped}
 use Rattle.lmn_cost.proofs.Sums.{both_sums, atoms_taken, mems_taken, atoms_add, parts_add, mems_add, ties_add, ties_take, making_takes}
+use Rattle.lmn_base.proofs.Lists.{weigh as total}
 
 -- what it adds is what its making part adds
-pub code_adds : (h : Heap) (r : Registers) (head : List HeadItem) (body : List BodyItem) (n k : ℕ) → InAll (Adds h r.head) (making (length (atoms_of head)) (1 + length (membranes_of head)) 0 body) k
-    → InAll (Adds h r.head) (body_code head body n) k
+pub code_adds : (h : Heap) (r : Registers) (head : List HeadItem) (body : List BodyItem) (n k : ℕ) → InAll (AddsItems h r.head) (making (length (atoms_of head)) (1 + length (membranes_of head)) 0 body) k
+    → InAll (AddsItems h r.head) (body_code head body n) k
 code_adds h r head body n k w =
     let N = length (atoms_of head) in
     let K = length (membranes_of head) in
-    let P = Adds h r.head in
+    let P = AddsItems h r.head in
     let ra = rising 0 N in
     let rp = rising 0 (length (typed_contexts_of head)) in
     let rm = rising 1 K in
@@ -37,12 +38,12 @@ code_adds h r head body n k w =
     subst (λ z. InAll P (body_code head body n) z) same all
 
 -- what it takes is what its removals take
-pub code_takes : (h : Heap) (r : Registers) (head : List HeadItem) (body : List BodyItem) (n : ℕ) (ps : List ℕ) → InAll (Takes h r.head) (map RemovePart (rising 0 (length (typed_contexts_of head)))) (length ps)
-    → InAll (Takes h r.head) (body_code head body n) (length (images_of r head ++ ps) + total (λ k. 1 + length (rules_in h k)) (membrane_images r head))
+pub code_takes : (h : Heap) (r : Registers) (head : List HeadItem) (body : List BodyItem) (n : ℕ) (ps : List ℕ) → InAll (TakesItems h r.head) (map RemovePart (rising 0 (length (typed_contexts_of head)))) (length ps)
+    → InAll (TakesItems h r.head) (body_code head body n) (length (images_of r head ++ ps) + total (λ k. 1 + length (rules_in h k)) (membrane_images r head))
 code_takes h r head body n ps w =
     let N = length (atoms_of head) in
     let K = length (membranes_of head) in
-    let P = Takes h r.head in
+    let P = TakesItems h r.head in
     let ra = rising 0 N in
     let rp = rising 0 (length (typed_contexts_of head)) in
     let rm = rising 1 K in

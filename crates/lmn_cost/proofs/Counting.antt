@@ -4,7 +4,7 @@ use Rattle.std.specs.Option.{option_map, option_and_then}
 use Rattle.lmn_base.specs.declared.guard.Cond.{Cond}
 use Rattle.lmn_heap.specs.Heap as heap
 use Rattle.lmn_heap.specs.Heap.{Heap, HeapMem, top, within, waiting, gone, mem_place_of, atoms_in, atoms_by, mems_in, mems_by, rules_in, rules_by, IsMem, IsMemInPlace, In, Distinct, finished, mem_unless_gone}
-use Rattle.lmn_heap.specs.Sound.{Sound, flat, Valid, items_in, Forest, IsTree}
+use Rattle.lmn_heap.specs.Sound.{Sound, flat, Valid, item_count_in, Forest, IsTree}
 use Rattle.lmn_heap.proofs.Depths.{both_distinct}
 use Rattle.lmn_heap.proofs.ListLemmas.{in_left, in_right}
 use Rattle.lmn_heap.proofs.Trees.{in_either}
@@ -12,12 +12,11 @@ use Rattle.lmn_heap.proofs.Trees as trees
 use Rattle.lmn_solid.specs.declared.items.HeadItem.{HeadItem}
 use Rattle.lmn_solid.specs.Heads.{HeadMembrane, atoms_of, membranes_of}
 use Rattle.lmn_solid.specs.Embeddings.{Embeds, HasMembrane}
-use Rattle.lmn_splice.specs.Ports.{Port}
 use Rattle.lmn_splice.specs.Splice as splice
 use Rattle.lmn_body.specs.declared.items.BodyItem.{BodyItem}
 use Rattle.lmn_body.specs.declared.items.BodyItem.TheVariants.{Atom, Connector, Copy, Bound, Membrane, Rest, Rule, Rules}
 use Rattle.lmn_body.specs.Code.{making}
-use Rattle.lmn_body.specs.Running.{Registers, withouts, Commits}
+use Rattle.lmn_body.specs.Running.{Registers, DoesAll}
 use Rattle.lmn_body.specs.Names.{Names}
 use Rattle.lmn_body.specs.Made.{copies_of}
 use Rattle.lmn_body.specs.Added.{if_inside, added_atoms, added_mems, added_rules, moved_mems, made_mems}
@@ -27,16 +26,20 @@ use Rattle.lmn_body.specs.Within.{membrane_images, FiresWithin}
 use Rattle.lmn_body.proofs.Below.{removed_is}
 use Rattle.lmn_body.proofs.Committing.{in_withouts_of, in_withouts}
 use Rattle.lmn_body.proofs.Finishing.{within_of}
-use Rattle.lmn_body.proofs.Firing.{decide_in, ns_once, taken_in_place}
+use Rattle.lmn_body.proofs.Firing.{ns_once, taken_in_place}
 use Rattle.lmn_body.proofs.Growing.{some_there}
 use Rattle.lmn_body.proofs.MakingParts.{moved_within}
-use Rattle.lmn_body.proofs.Phases.{listed_some}
 use Rattle.lmn_body.proofs.Preparing.{AllPrepared}
 use Rattle.lmn_body.proofs.Nesting as nesting
 use Rattle.lmn_ground.proofs.GroundLaws.{part_atoms}
-use Rattle.lmn_machine.specs.Costs.{IsSize, Adds, InAll}
-use Rattle.lmn_cost.proofs.Totals.{total, total_is_sum, total_append, total_same, total_none, total_ones, total_plus, total_part, total_three, total_five, total_withouts, distinct_withouts, all_out}
+use Rattle.lmn_machine.specs.Costs.{IsSize, AddsItems, InAll}
+use Rattle.lmn_cost.proofs.Totals.{total_is_sum, total_same, total_none, total_ones, total_plus, total_part, total_three, total_five, total_withouts, all_out}
 use Rattle.lmn_cost.proofs.Sums.{making_adds, moved_once}
+use Rattle.lmn_base.specs.Graphs.{Port}
+use Rattle.lmn_heap.specs.Lists.{without_all}
+use Rattle.lmn_base.proofs.Lists.{weigh as total, weigh_append}
+use Rattle.lmn_heap.proofs.Common.{decide_in}
+use Rattle.lmn_heap.proofs.Listing.{listed_mem as listed_some, distinct_without_all}
 
 -- what `finish` leaves of a membrane
 
@@ -92,7 +95,7 @@ mems_come r left m (Rest of inside ∷ xs) x b i = elim (in_either b (if_inside 
 mems_come r left m (Rule rule inside ∷ xs) x b i = mems_come r left m xs x b i
 mems_come r left m (Rules of inside ∷ xs) x b i = mems_come r left m xs x b i
 
-withouts_none : (ns : List ℕ) → withouts ns [] ≡ []
+withouts_none : (ns : List ℕ) → without_all ns [] ≡ []
 withouts_none [] = refl
 withouts_none (a ∷ ns) = withouts_none ns
 
@@ -103,7 +106,7 @@ module _ (h : Heap) (valid : Valid h) (head : List HeadItem) (guard : List Cond)
     (ps : List ℕ) (parts : PartAtoms h head r.head.images ps)
     (s : Heap) (pr : AllPrepared c h s r (length (atoms_of head)) (1 + length (membranes_of head)) body)
     (removed : (x : ℕ) → In x (membrane_images r head) → IsMem h x)
-    (t3 : Heap) (run : Commits r (making (length (atoms_of head)) (1 + length (membranes_of head)) 0 body) (nesting.t2 h valid head guard body n m r rule em stand c names goes contexts ps parts s pr) t3)
+    (t3 : Heap) (run : DoesAll r (making (length (atoms_of head)) (1 + length (membranes_of head)) 0 body) (nesting.t2 h valid head guard body n m r rule em stand c names goes contexts ps parts s pr) t3)
     (sound : Sound (nesting.v h valid head guard body n m r rule em stand c names goes contexts ps parts s pr t3 run))
     (after : Valid (finished (nesting.v h valid head guard body n m r rule em stand c names goes contexts ps parts s pr t3 run))) where
   abbrev N : ℕ
@@ -125,10 +128,10 @@ module _ (h : Heap) (valid : Valid h) (head : List HeadItem) (guard : List Cond)
   ns = images_of r head ++ ps
 
   abbrev left : ℕ → List ℕ
-  left x = withouts ns (atoms_in h x)
+  left x = without_all ns (atoms_in h x)
 
   abbrev left_mems : ℕ → List ℕ
-  left_mems x = withouts ks (mems_in h x)
+  left_mems x = without_all ks (mems_in h x)
 
   fires : FiresWithin h c r head body ns (finished v)
   fires = nesting.fires_within h valid head guard body n m r rule em stand c names goes contexts ps parts s pr t3 run sound
@@ -210,10 +213,10 @@ module _ (h : Heap) (valid : Valid h) (head : List HeadItem) (guard : List Cond)
     target x w = tree'.all x (kept_there x (elim w.1 [ inl i ↦ pr.mems.there x i | inr i ↦ pr.mems.made x i ]) w.0)
 
     -- what the body adds
-    sizes : (e : ℕ × ℕ) → splice.In e (copies_of 0 body) → IsSize h (r.head.images.part e.1) (length (r.copied e.0))
+    sizes : (e : ℕ × ℕ) → splice.IsOneOf e (copies_of 0 body) → IsSize h (r.head.images.part e.1) (length (r.copied e.0))
     sizes e i = let k = fires.copies e i in (k.atoms, part_atoms h (r.head.images.part e.1) k.atoms k.part, k.long)
 
-    pub adds : (k : ℕ) × InAll (Adds h r.head) (making N (1 + K) 0 body) k
+    pub adds : (k : ℕ) × InAll (AddsItems h r.head) (making N (1 + K) 0 body) k
         × (total (λ x. length (added_atoms r left N 0 body x)) at + length nm + total (λ x. length (added_rules r (rules_in h) body x)) at
         ≡ k + total (λ x. length (left x)) (moved_mems r body))
     adds = making_adds h r left ks (Exists h r head body) at tree'.once target N (1 + K) 0 body goes sizes
@@ -221,7 +224,7 @@ module _ (h : Heap) (valid : Valid h) (head : List HeadItem) (guard : List Cond)
     -- nothing is left of a membrane that is removed and doesn't move
     left_empty : (x : ℕ) → In x ks → (In x (moved_mems r body) → ⊥) → left x ≡ []
     left_empty x i o =
-        sym (ap (λ f. atoms_by (f x)) (nesting.same h valid head guard body n m r rule em stand c names goes contexts ps parts s pr t3 run).mems ∙ (nesting.gr h valid head guard body n m r rule em stand c names goes contexts ps parts s pr t3 run).head_atoms x i o ∙ (nesting.sh h valid head guard body n m r rule em stand c names goes contexts ps parts s pr).atoms x ∙ ap (withouts ns) (pr.mems.atoms x))
+        sym (ap (λ f. atoms_by (f x)) (nesting.same h valid head guard body n m r rule em stand c names goes contexts ps parts s pr t3 run).mems ∙ (nesting.gr h valid head guard body n m r rule em stand c names goes contexts ps parts s pr t3 run).head_atoms x i o ∙ (nesting.sh h valid head guard body n m r rule em stand c names goes contexts ps parts s pr).atoms x ∙ ap (without_all ns) (pr.mems.atoms x))
         ∙ (nesting.removed_empty h valid head guard body n m r rule em stand c names goes contexts ps parts s pr t3 run x i).0
 
     module _ (f : Forest) (tree : IsTree h f) where
@@ -229,18 +232,18 @@ module _ (h : Heap) (valid : Valid h) (head : List HeadItem) (guard : List Cond)
       old = flat f
 
       abbrev kept : List ℕ
-      kept = withouts ks (flat f)
+      kept = without_all ks (flat f)
 
       old_there : (x : ℕ) → In x old → IsMem h x
       old_there x i = trees.is_mem h valid.sound f tree x i
 
       new_list : Distinct (kept ++ nm)
-      new_list = both_distinct kept nm (distinct_withouts ks old tree.once) pr.mems.once
+      new_list = both_distinct kept nm (distinct_without_all ks old tree.once) pr.mems.once
           (λ x i j. made_apart x j (old_there x (in_withouts_of ks old x tree.once i).0))
 
       -- the membranes after it are those that stay and those that are made
       after_sum : (w : ℕ → ℕ) → total w at ≡ total w kept + total w nm
-      after_sum w = total_part w at (kept ++ nm) tree'.once new_list (λ x i. new_or_kept x i) (λ x i o. absurd (o (back x i))) ∙ total_append w kept nm
+      after_sum w = total_part w at (kept ++ nm) tree'.once new_list (λ x i. new_or_kept x i) (λ x i o. absurd (o (back x i))) ∙ weigh_append w kept nm
         where
           new_or_kept : (x : ℕ) → In x at → In x (kept ++ nm)
           new_or_kept x i = elim (pr.mems.only x (was_there x (was_some (v.mems x) (here x i)))) [
@@ -259,7 +262,7 @@ module _ (h : Heap) (valid : Valid h) (head : List HeadItem) (guard : List Cond)
 
       -- a membrane that is made was empty
       fresh_left : (x : ℕ) → In x nm → length (left x) ≡ 0
-      fresh_left x i = ap (λ o. length (withouts ns (atoms_by o))) (pr.mems.fresh x i) ∙ ap (λ zs. length zs) (withouts_none ns)
+      fresh_left x i = ap (λ o. length (without_all ns (atoms_by o))) (pr.mems.fresh x i) ∙ ap (λ zs. length zs) (withouts_none ns)
 
       fresh_rules : (x : ℕ) → In x nm → length (rules_in h x) ≡ 0
       fresh_rules x i = ap (λ o. length (rules_by o)) (pr.mems.fresh x i)
@@ -281,7 +284,7 @@ module _ (h : Heap) (valid : Valid h) (head : List HeadItem) (guard : List Cond)
       moved_left = total_part (λ x. length (left x)) (moved_mems r body) ks (moved_once r ks (Exists h r head body) body goes) (nesting.ks_once h valid head guard body n m r rule em stand c names goes contexts ps parts s pr)
           (moved_within r ks (Exists h r head body) body goes) (λ y i o. ap (λ zs. length zs) (left_empty y i o))
 
-      items_after : items_in (finished v) at ≡ total (λ x. 1) at + total (λ x. length (left x)) at + total (λ x. length (added_atoms r left N 0 body x)) at
+      items_after : item_count_in (finished v) at ≡ total (λ x. 1) at + total (λ x. length (left x)) at + total (λ x. length (added_atoms r left N 0 body x)) at
           + total (λ x. length (rules_in h x)) at + total (λ x. length (added_rules r (rules_in h) body x)) at
       items_after =
           total_is_sum (λ x. 1 + length (atoms_in (finished v) x) + length (rules_in (finished v) x)) at
@@ -292,12 +295,12 @@ module _ (h : Heap) (valid : Valid h) (head : List HeadItem) (guard : List Cond)
           λ t. 1 + a t + b t)
           ∙ total_five (λ x. 1) (λ x. length (left x)) (λ x. length (added_atoms r left N 0 body x)) (λ x. length (rules_in h x)) (λ x. length (added_rules r (rules_in h) body x)) at
 
-      items_before : items_in h old ≡ total (λ x. 1) old + total (λ x. length (atoms_in h x)) old + total (λ x. length (rules_in h x)) old
+      items_before : item_count_in h old ≡ total (λ x. 1) old + total (λ x. length (atoms_in h x)) old + total (λ x. length (rules_in h x)) old
       items_before = total_is_sum (λ x. 1 + length (atoms_in h x) + length (rules_in h x)) old ∙ total_three (λ x. 1) (λ x. length (atoms_in h x)) (λ x. length (rules_in h x)) old
 
       -- The items before and after.
-      pub items_are : items_in (finished v) at + (length ns + total (λ k. 1 + length (rules_in h k)) ks) ≡ items_in h old + adds.0
-      items_are = sums (items_in (finished v) at) (items_in h old) (length ns) (total (λ k. 1 + length (rules_in h k)) ks) adds.0
+      pub items_are : item_count_in (finished v) at + (length ns + total (λ k. 1 + length (rules_in h k)) ks) ≡ item_count_in h old + adds.0
+      items_are = sums (item_count_in (finished v) at) (item_count_in h old) (length ns) (total (λ k. 1 + length (rules_in h k)) ks) adds.0
           (total (λ x. 1) at) (total (λ x. 1) old) (total (λ x. 1) kept) (total (λ x. 1) ks) (total (λ x. 1) nm)
           (total (λ x. length (left x)) at) (total (λ x. length (left x)) old) (total (λ x. length (left x)) kept) (total (λ x. length (left x)) ks) (total (λ x. length (left x)) nm)
           (total (λ x. length (rules_in h x)) at) (total (λ x. length (rules_in h x)) old) (total (λ x. length (rules_in h x)) kept) (total (λ x. length (rules_in h x)) ks) (total (λ x. length (rules_in h x)) nm)

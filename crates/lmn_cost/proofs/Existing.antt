@@ -2,10 +2,8 @@
 use Rattle.std.proofs.Common.{ℕ, zero, suc, ◌+◌, ◌<◌, ◌≤◌, ◌≡◌, List, [], ◌∷◌, ◌++◌, map, length, Option, Some, None, IsSome, refl, sym, ap, subst, ◌∙◌, inl, inr, arith, length-append}
 use Rattle.std.specs.Option.{option_map}
 use Rattle.lmn_base.specs.declared.guard.Cond.{Cond}
-use Rattle.lmn_base.specs.Graphs.{Reached}
 use Rattle.lmn_heap.specs.Heap.{Heap, HeapMem, top, within, place_of, mem_place_of, mems_in, atoms_in, rules_in, IsInPlace, In, Distinct, Place, home_of, without}
-use Rattle.lmn_heap.specs.Graphs.{atom_map}
-use Rattle.lmn_heap.specs.Sound.{Forest, flat, IsTree, Valid, items_in}
+use Rattle.lmn_heap.specs.Sound.{Forest, flat, IsTree, Valid, item_count_in}
 use Rattle.lmn_heap.proofs.Depths.{both_distinct}
 use Rattle.lmn_heap.proofs.ListLemmas.{in_left, in_right}
 use Rattle.lmn_heap.proofs.Pigeonholes.{not_longer}
@@ -23,26 +21,27 @@ use Rattle.lmn_body.specs.Code.{making, body_code}
 use Rattle.lmn_body.specs.Fired.{images_of}
 use Rattle.lmn_body.specs.Made.{copies_of}
 use Rattle.lmn_body.specs.Rules.{AtomRule}
-use Rattle.lmn_body.specs.Running.{Registers, withouts}
+use Rattle.lmn_body.specs.Running.{Registers}
 use Rattle.lmn_body.specs.Within.{membrane_images}
 use Rattle.lmn_body.proofs.Below.{removed_is}
 use Rattle.lmn_body.proofs.Committing.{in_withouts}
 use Rattle.lmn_body.proofs.Finishing.{within_of, in_place_listed}
 use Rattle.lmn_body.proofs.Firing.{distinct_images, heap_in_of, rising_below}
-use Rattle.lmn_body.proofs.HeadPorts.{of_map, get_some}
-use Rattle.lmn_body.proofs.Parts.{parts_apart}
-use Rattle.lmn_body.proofs.Phases.{listed_some, place_home}
+use Rattle.lmn_body.proofs.HeadPorts.{of_map}
+use Rattle.lmn_body.proofs.Parts.{parts_apart, PartOf}
 use Rattle.lmn_ground.specs.Spread.{AreAtoms}
-use Rattle.lmn_machine.specs.Costs.{Adds, Takes, InAll, Leaves}
-use Rattle.lmn_cost.proofs.Totals.{total, total_is_sum, total_part, total_three, total_plus, total_without, total_withouts, all_out}
+use Rattle.lmn_machine.specs.Costs.{AddsItems, TakesItems, InAll, Leaves}
+use Rattle.lmn_cost.proofs.Totals.{total_is_sum, total_part, total_three, total_plus, total_without, total_withouts, all_out}
 use Rattle.lmn_cost.proofs.Codes.{code_adds, code_takes}
 use Rattle.lmn_cost.proofs.Finite.{part_listed}
-
-below_plain : (g k : ℕ) → g < 0 + k → g < k
-below_plain g k h = omega arith
+use Rattle.lmn_heap.specs.Lists.{without_all}
+use Rattle.lmn_base.proofs.Lists.{weigh as total, get_there as get_some}
+use Rattle.lmn_base.proofs.Numbers.{below_zero_plus as below_plain}
+use Rattle.lmn_heap.proofs.Common.{place_home}
+use Rattle.lmn_heap.proofs.Listing.{listed_mem as listed_some}
 
 -- two trees of a heap have the same items
-same_items : (h : Heap) → Valid h → (f g : Forest) → IsTree h f → IsTree h g → items_in h (flat f) ≡ items_in h (flat g)
+same_items : (h : Heap) → Valid h → (f g : Forest) → IsTree h f → IsTree h g → item_count_in h (flat f) ≡ item_count_in h (flat g)
 same_items h valid f g t u =
     let w : ℕ → ℕ = λ m. 1 + length (atoms_in h m) + length (rules_in h m) in
     total_is_sum w (flat f)
@@ -50,9 +49,6 @@ same_items h valid f g t u =
     ∙ sym (total_is_sum w (flat g))
 
 module _ (h : Heap) (valid : Valid h) (head : List HeadItem) (guard : List Cond) (body : List BodyItem) (n m : ℕ) (r : Registers) (rule : AtomRule head body n) (em : Embeds h head guard m r.head.images) where
-  abbrev Part : ℕ → ℕ → Type 0
-  Part g a = Reached (atom_map h) (r.head.images.part g) a
-
   -- the atoms of a part, which all stand in one membrane
   one_part : (g : ℕ) (t : HeadTyped) → HasTyped head g t → (xs : List ℕ) × AreAtoms h (r.head.images.part g) xs
   one_part g t w =
@@ -72,11 +68,11 @@ module _ (h : Heap) (valid : Valid h) (head : List HeadItem) (guard : List Cond)
   -- the atoms of the parts of contexts with these numbers
   record Listed (gs ps : List ℕ) : Type 0 where
     pub once : Distinct ps
-    pub are : (a : ℕ) → In a ps → (g : ℕ) × splice.In g gs × Part g a
-    pub all : (g a : ℕ) → splice.In g gs → Part g a → In a ps
-    pub sum : InAll (Takes h r.head) (map RemovePart gs) (length ps)
+    pub are : (a : ℕ) → In a ps → (g : ℕ) × splice.IsOneOf g gs × PartOf h r g a
+    pub all : (g a : ℕ) → splice.IsOneOf g gs → PartOf h r g a → In a ps
+    pub sum : InAll (TakesItems h r.head) (map RemovePart gs) (length ps)
 
-  all_parts : (gs : List ℕ) → splice.Distinct gs → ((g : ℕ) → splice.In g gs → (t : HeadTyped) × HasTyped head g t) → (ps : List ℕ) × Listed gs ps
+  all_parts : (gs : List ℕ) → splice.NoneTwice gs → ((g : ℕ) → splice.IsOneOf g gs → (t : HeadTyped) × HasTyped head g t) → (ps : List ℕ) × Listed gs ps
   all_parts [] d typed = ([], record { once = tt; are = λ a i. absurd i; all = λ g a i. absurd i; sum = refl })
   all_parts (g ∷ gs) d typed =
       let x = typed g (inl refl) in
@@ -86,10 +82,10 @@ module _ (h : Heap) (valid : Valid h) (head : List HeadItem) (guard : List Cond)
         record {
           once = both_distinct first.0 on.0 first.1.0 on.1.once (λ a i j.
               let u = on.1.are a j in let y = typed u.0 (inr u.1) in
-              parts_apart h valid head guard body n m r rule em g u.0 x.0 y.0 x.1 y.1 (λ q. d.0 (subst (λ z. splice.In z gs) (sym q) u.1)) a ((first.1.1 a).0 i) u.2);
+              parts_apart h valid head guard body n m r rule em g u.0 x.0 y.0 x.1 y.1 (λ q. d.0 (subst (λ z. splice.IsOneOf z gs) (sym q) u.1)) a ((first.1.1 a).0 i) u.2);
           are = λ a i. elim (in_either a first.0 on.0 i) [ inl j ↦ (g, inl refl, (first.1.1 a).0 j) | inr j ↦ (let u = on.1.are a j in (u.0, inr u.1, u.2)) ];
           all = λ k a i p. elim i [
-            | inl q ↦ in_left a first.0 on.0 ((first.1.1 a).1 (subst (λ z. Part z a) (sym q) p))
+            | inl q ↦ in_left a first.0 on.0 ((first.1.1 a).1 (subst (λ z. PartOf h r z a) (sym q) p))
             | inr j ↦ in_right a first.0 on.0 (on.1.all k a j p)
           ];
           sum = (length first.0, length on.0, ((first.0, first.1, refl), on.1.sum, length-append first.0 on.0));
@@ -105,16 +101,16 @@ module _ (h : Heap) (valid : Valid h) (head : List HeadItem) (guard : List Cond)
   abbrev K : ℕ
   K = length (membranes_of head)
 
-  typed_at : (g : ℕ) → splice.In g (rising 0 T) → (t : HeadTyped) × HasTyped head g t
+  typed_at : (g : ℕ) → splice.IsOneOf g (rising 0 T) → (t : HeadTyped) × HasTyped head g t
   typed_at g i = get_some (typed_contexts_of head) g (below_plain g T (rising_below T 0 g i).1)
 
   abbrev parts : (ps : List ℕ) × Listed (rising 0 T) ps
   parts = all_parts (rising 0 T) (rising_distinct T 0) typed_at
 
   -- what REMOVEPART takes, for any list of these atoms
-  pub parts_sum : (ps : List ℕ) → Distinct ps → ((a : ℕ) → In a ps → (g : ℕ) × splice.In g (rising 0 T) × Part g a) → ((g a : ℕ) → splice.In g (rising 0 T) → Part g a → In a ps)
-      → InAll (Takes h r.head) (map RemovePart (rising 0 T)) (length ps)
-  parts_sum ps once are all = subst (λ k. InAll (Takes h r.head) (map RemovePart (rising 0 T)) k) same parts.1.sum
+  pub parts_sum : (ps : List ℕ) → Distinct ps → ((a : ℕ) → In a ps → (g : ℕ) × splice.IsOneOf g (rising 0 T) × PartOf h r g a) → ((g a : ℕ) → splice.IsOneOf g (rising 0 T) → PartOf h r g a → In a ps)
+      → InAll (TakesItems h r.head) (map RemovePart (rising 0 T)) (length ps)
+  parts_sum ps once are all = subst (λ k. InAll (TakesItems h r.head) (map RemovePart (rising 0 T)) k) same parts.1.sum
     where
       same : length parts.0 ≡ length ps
       same =
@@ -186,13 +182,13 @@ module _ (h : Heap) (valid : Valid h) (head : List HeadItem) (guard : List Cond)
       by None e = absurd (cc)
       by (Some y) e = refl
 
-  root_stays : In h.root (withouts ks old)
+  root_stays : In h.root (without_all ks old)
   root_stays = in_withouts ks old h.root (root_first h valid.tree.0 valid.tree.1).0 (λ i.
       let p = removed_placed h.root i in
       let z : Some (within p.0) ≡ Some top = sym p.1 ∙ (valid.sound.listed.root h.root).1 refl in absurd (cc))
 
   -- each instruction of a body adds a number
-  some_making : (a b c : ℕ) (xs : List BodyItem) → ((e : ℕ × ℕ) → splice.In e (copies_of c xs) → (t : HeadTyped) × HasTyped head e.1 t) → (k : ℕ) × InAll (Adds h r.head) (making a b c xs) k
+  some_making : (a b c : ℕ) (xs : List BodyItem) → ((e : ℕ × ℕ) → splice.IsOneOf e (copies_of c xs) → (t : HeadTyped) × HasTyped head e.1 t) → (k : ℕ) × InAll (AddsItems h r.head) (making a b c xs) k
   some_making a b c [] copied = (0, refl)
   some_making a b c (Atom functor links inside ∷ xs) copied = let on = some_making (a + 1) b c xs copied in (1 + on.0, (1, on.0, (refl, on.1, refl)))
   some_making a b c (Connector left right ∷ xs) copied = some_making a b c xs copied
@@ -215,8 +211,8 @@ module _ (h : Heap) (valid : Valid h) (head : List HeadItem) (guard : List Cond)
       let made = some_making N (1 + K) 0 body rule.copied in
       let ones : ℕ → ℕ = λ x. 1 in
       let rules : ℕ → ℕ = λ x. length (rules_in h x) in
-      let left : ℕ → ℕ = λ x. length (withouts ns (atoms_in h x)) in
-      let kept = withouts ks old in
+      let left : ℕ → ℕ = λ x. length (without_all ns (atoms_in h x)) in
+      let kept = without_all ks old in
       let taken = length ns + total (λ k. 1 + length (rules_in h k)) ks in
       let rest = total ones (without h.root kept) + total left old + total rules kept in
       let e1 = total_withouts ones ks old removed_once removed_old in
@@ -231,7 +227,7 @@ module _ (h : Heap) (valid : Valid h) (head : List HeadItem) (guard : List Cond)
           taken = taken;
           adds = code_adds h r head body n made.0 made.1;
           takes = code_takes h r head body n parts.0 parts.1.sum;
-          count = λ f t. sums (items_in h old) (items_in h (flat f)) (length ns) (total (λ k. 1 + length (rules_in h k)) ks) made.0
+          count = λ f t. sums (item_count_in h old) (item_count_in h (flat f)) (length ns) (total (λ k. 1 + length (rules_in h k)) ks) made.0
               (total ones old) (total ones ks) (total ones kept) (total ones (without h.root kept)) (total rules old) (total rules ks) (total rules kept) (total (λ x. length (atoms_in h x)) old) (total left old)
               e1 e2 e3 e4 e5 e6 (same_items h valid f valid.tree.0 t valid.tree.1);
         },

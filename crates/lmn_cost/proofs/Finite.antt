@@ -1,16 +1,16 @@
 -- The atoms of a part that lies in a list can be listed.
 use Rattle.std.proofs.Common.{ℕ, zero, suc, ◌+◌, ◌<◌, ◌≤◌, ◌≡◌, ◌≢◌, ◌⊎◌, List, [], ◌∷◌, length, Option, Some, None, refl, sym, subst, ◌∙◌, inl, inr, arith}
 use Rattle.std.proofs.lemmas.Bool.{cases_eq}
-use Rattle.lmn_base.specs.Graphs.{Reached, at_root, across}
+use Rattle.lmn_base.specs.Graphs.{Reached, at_root, across, Port}
 use Rattle.lmn_heap.specs.Heap.{Heap, In, Distinct, arity_of, link_of}
 use Rattle.lmn_heap.specs.Graphs.{atom_map}
 use Rattle.lmn_heap.proofs.ListLemmas.{each_of}
 use Rattle.lmn_heap.proofs.Pigeonholes.{has_all}
 use Rattle.lmn_heap.proofs.Replacing.{port_within}
-use Rattle.lmn_splice.specs.Ports.{Port}
-use Rattle.lmn_splice.proofs.Joining.{port_cases, same_some}
-use Rattle.lmn_body.proofs.Firing.{decide_in}
+use Rattle.lmn_splice.proofs.Joining.{same_some}
 use Rattle.lmn_ground.specs.Spread.{AreAtoms}
+use Rattle.lmn_base.proofs.Common.{port_cases}
+use Rattle.lmn_heap.proofs.Common.{decide_in}
 
 module _ (h : Heap) (root : Port) (all : List ℕ) (inside : (a : ℕ) → Reached (atom_map h) root a → In a all) where
   abbrev Part : ℕ → Type 0

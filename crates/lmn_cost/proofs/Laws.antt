@@ -1,18 +1,17 @@
 -- The cost of a commit, from the laws of head code and of body code.
-use Rattle.std.proofs.Common.{ℕ, ◌+◌, ◌<◌, ◌≤◌, ◌≡◌, ◌↔◌, true, List, [], ◌∷◌, ◌++◌, map, length, sym, ap, subst, ◌∙◌, arith}
+use Rattle.std.proofs.Common.{ℕ, ◌+◌, ◌≡◌, ◌↔◌, true, List, [], ◌∷◌, ◌++◌, map, length, sym, ap, subst, ◌∙◌, arith}
 use Rattle.lmn_base.specs.declared.guard.Cond.{Cond}
 use Rattle.lmn_base.specs.declared.rule.RuleTree.{RuleTree}
 use Rattle.lmn_guards.specs.declared.plan.GuardPlan.{GuardPlan}
 use Rattle.lmn_heap.specs.Heap as heap
-use Rattle.lmn_heap.specs.Heap.{Heap, atoms_in, rules_in, IsMemInPlace, finished}
-use Rattle.lmn_heap.specs.Sound.{Forest, flat, IsTree, Valid, items_in}
+use Rattle.lmn_heap.specs.Heap.{Heap, atoms_in, rules_in, IsMemInPlace, finished, taken_all}
+use Rattle.lmn_heap.specs.Sound.{Forest, flat, IsTree, Valid, item_count_in}
 use Rattle.lmn_heap.proofs.Trees.{root_first}
 use Rattle.lmn_solid.specs.declared.items.HeadItem.{HeadItem}
 use Rattle.lmn_solid.specs.Heads.{HeadMembrane, HeadTyped, atoms_of, typed_contexts_of, membranes_of}
 use Rattle.lmn_solid.specs.Embeddings.{Embeds, HasMembrane, HasTyped}
-use Rattle.lmn_splice.specs.Ports.{Port}
 use Rattle.lmn_splice.specs.Classes.{class_of, rising, body_ties}
-use Rattle.lmn_splice.specs.Splice.{In}
+use Rattle.lmn_splice.specs.Splice.{IsOneOf}
 use Rattle.lmn_splice.proofs.EndLemmas.{in_rising, rising_distinct}
 use Rattle.lmn_instr.specs.declared.instr.Instr.{Instr}
 use Rattle.lmn_instr.specs.declared.instr.Instr.TheVariants.{RemoveAtom, RemovePart, RemoveMem, Proceed}
@@ -22,7 +21,7 @@ use Rattle.lmn_body.specs.declared.items.BodyItem.{BodyItem}
 use Rattle.lmn_body.specs.Tied.{partners, all_tied}
 use Rattle.lmn_body.specs.Items.{new_ports, old_ports, connectors}
 use Rattle.lmn_body.specs.Code.{removals, making, links_code, body_code}
-use Rattle.lmn_body.specs.Running.{Registers, old_port, new_port, all_taken, Commits, RunsBody}
+use Rattle.lmn_body.specs.Running.{Registers, old_port, new_port, DoesAll, RunsBody}
 use Rattle.lmn_body.specs.Names.{Names}
 use Rattle.lmn_body.specs.Added.{moved_mems}
 use Rattle.lmn_body.specs.Fired.{images_of}
@@ -30,42 +29,35 @@ use Rattle.lmn_body.specs.Rules.{NestedRule, PartAtoms}
 use Rattle.lmn_body.specs.Within.{membrane_images}
 use Rattle.lmn_body.proofs.Coding.{at_heap, commits_append, commits_taken, commits_tied}
 use Rattle.lmn_body.proofs.Firing.{rising_below}
-use Rattle.lmn_body.proofs.HeadPorts.{get_some, get_below}
 use Rattle.lmn_body.proofs.Numbering.{links_have_numbers}
 use Rattle.lmn_body.proofs.Parts.{taken_append, taken_links, parts_commit}
 use Rattle.lmn_body.proofs.Places.{goes_body, nests_body, moved_are, removed_mem, home_is_mem}
 use Rattle.lmn_body.proofs.Removing.{all_taken_mems, commits_taken_mems}
 use Rattle.lmn_body.proofs.Soundness.{sound_before}
 use Rattle.lmn_body.proofs.TreeAfter.{valid_after}
-use Rattle.lmn_machine.specs.Costs.{Adds, Takes, InAll, Leaves}
+use Rattle.lmn_machine.specs.Costs.{AddsItems, TakesItems, InAll, Leaves}
 use Rattle.lmn_machine.proofs.Costing.{left_over}
-use Rattle.lmn_cost.specs.Laws.{IsFound, CostIsTold}
-use Rattle.lmn_cost.proofs.Totals.{total, total_is_sum}
+use Rattle.lmn_cost.specs.Laws.{HeadIsFound, CostIsTold}
+use Rattle.lmn_cost.proofs.Totals.{total_is_sum}
 use Rattle.lmn_cost.proofs.Prepared.{prepared_all, prepared_links}
 use Rattle.lmn_cost.proofs.Codes.{code_adds, code_takes}
 use Rattle.lmn_cost.proofs.Existing.{parts_sum, some_left}
 use Rattle.lmn_cost.proofs.Counting.{adds, items_are}
-
-below_plain : (g k : ℕ) → g < 0 + k → g < k
-below_plain g k h = omega arith
-
-plain_below : (g k : ℕ) → g < k → g < 0 + k
-plain_below g k h = omega arith
-
-nothing_less : (g : ℕ) → 0 ≤ g
-nothing_less g = omega arith
+use Rattle.lmn_base.specs.Graphs.{Port}
+use Rattle.lmn_base.proofs.Lists.{weigh as total, get_below, get_there as get_some}
+use Rattle.lmn_base.proofs.Numbers.{below_zero_plus as below_plain, zero_least as nothing_less, zero_plus_below as plain_below}
 
 -- What the instructions of a body add and take, and the items before and after them.
 pub record Counted (h : Heap) (r : Registers) (code : List Instr) (items : ℕ) : Type 0 where
   pub added : ℕ
   pub taken : ℕ
-  pub adds : InAll (Adds h r.head) code added
-  pub takes : InAll (Takes h r.head) code taken
-  pub count : (f : Forest) → IsTree h f → items + taken ≡ items_in h (flat f) + added
+  pub adds : InAll (AddsItems h r.head) code added
+  pub takes : InAll (TakesItems h r.head) code taken
+  pub count : (f : Forest) → IsTree h f → items + taken ≡ item_count_in h (flat f) + added
 
 -- The items that the code of a body leaves.
 body_counts : (head : List HeadItem) (body : List BodyItem) (n : ℕ) → NestedRule head body n → (r : Registers) (h : Heap) → Valid h → (guard : List Cond) (m : ℕ) → Embeds h head guard m r.head.images → IsMemInPlace h m →
-    (c : Port → ℕ) → Names h c → (h' : Heap) → RunsBody r (body_code head body n) h h' → (f' : Forest) → IsTree h' f' → Counted h r (body_code head body n) (items_in h' (flat f'))
+    (c : Port → ℕ) → Names h c → (h' : Heap) → RunsBody r (body_code head body n) h h' → (f' : Forest) → IsTree h' f' → Counted h r (body_code head body n) (item_count_in h' (flat f'))
 body_counts head body n nested r h valid guard m em stand c names h' (s, prepares, commits) =
     let rule = nested.atoms in
     let head_nests = nested.head_nests in
@@ -87,8 +79,8 @@ body_counts head body n nested r h valid guard m em stand c names h' (s, prepare
     let cd = commits_append r part_code mems cb.0 ca.0 cb.2 in
     let ce = commits_append r make (links_part ++ (Proceed ∷ [])) ca.0 h' ca.2 in
     let cf = commits_append r links_part (Proceed ∷ []) ce.0 h' ce.2 in
-    let images : cb.0 ≡ all_taken s (images_of r head) = commits_taken r (rising 0 N) s cb.0 cb.1 in
-    let typed : (g : ℕ) → In g (rising 0 T) → (t : HeadTyped) × HasTyped head g t = λ g i. get_some (typed_contexts_of head) g (below_plain g T (rising_below T 0 g i).1) in
+    let images : cb.0 ≡ taken_all s (images_of r head) = commits_taken r (rising 0 N) s cb.0 cb.1 in
+    let typed : (g : ℕ) → IsOneOf g (rising 0 T) → (t : HeadTyped) × HasTyped head g t = λ g i. get_some (typed_contexts_of head) g (below_plain g T (rising_below T 0 g i).1) in
     let taken_parts = parts_commit h valid head guard body n m r rule em (rising 0 T) (rising_distinct T 0) typed cb.0 cd.0
     (λ p is. ap (λ z. partners z p) images ∙ taken_links (images_of r head) s p.0 p.1 ∙ prepared_links d h s r N (1 + K) body pr p is) cd.1 in
     let ps = taken_parts.0 in
@@ -97,10 +89,10 @@ body_counts head body n nested r h valid guard m em stand c names h' (s, prepare
       are = λ a i. let u = taken_parts.1.are a i in let t = typed u.0 u.1 in (u.0, t.0, t.1, u.2);
       all = λ g t a w i. taken_parts.1.all g a (in_rising T 0 g (nothing_less g) (plain_below g T (get_below (typed_contexts_of head) g t w))) i;
     } in
-    let out : cd.0 ≡ all_taken s (images_of r head ++ ps) = taken_parts.1.is ∙ ap (λ z. all_taken z ps) images ∙ sym (taken_append s (images_of r head) ps) in
-    let removed : ca.0 ≡ all_taken_mems (all_taken s (images_of r head ++ ps)) (membrane_images r head) =
+    let out : cd.0 ≡ taken_all s (images_of r head ++ ps) = taken_parts.1.is ∙ ap (λ z. taken_all z ps) images ∙ sym (taken_append s (images_of r head) ps) in
+    let removed : ca.0 ≡ all_taken_mems (taken_all s (images_of r head ++ ps)) (membrane_images r head) =
     commits_taken_mems r (rising 1 K) cd.0 ca.0 cd.2 ∙ ap (λ z. all_taken_mems z (membrane_images r head)) out in
-    let run : Commits r make (all_taken_mems (all_taken s (images_of r head ++ ps)) (membrane_images r head)) ce.0 = subst (λ z. Commits r make z ce.0) removed ce.1 in
+    let run : DoesAll r make (all_taken_mems (taken_all s (images_of r head ++ ps)) (membrane_images r head)) ce.0 = subst (λ z. DoesAll r make z ce.0) removed ce.1 in
     let ties : cf.0 ≡ all_tied ce.0 (body_ties (at_heap (new_port r) (new_ports N 0 body)) (at_heap (old_port r) (old_ports head)) (connectors body) n) =
     commits_tied r (class_of (connectors body)) (new_ports N 0 body) (old_ports head) (rising 0 n) ce.0 cf.0 cf.1 in
     let v = all_tied ce.0 (body_ties (at_heap (new_port r) (new_ports N 0 body)) (at_heap (old_port r) (old_ports head)) (connectors body) n) in
@@ -109,7 +101,7 @@ body_counts head body n nested r h valid guard m em stand c names h' (s, prepare
     let sound = sound_before h valid head guard body n m r rule em stand d all.names goes contexts ps parts_are s pr nests all.listed
     is_mem (home_is_mem h valid head guard m r em stand head_nests body pr.mems.fresh) ce.0 run in
     let after : Valid (finished v) = valid_after h valid head guard body n m r rule em stand d all.names goes contexts ps parts_are s pr nests head_nests ce.0 run sound in
-    subst (λ z. (f' : Forest) → IsTree z f' → Counted h r (body_code head body n) (items_in z (flat f'))) (sym done) (λ f' tree'.
+    subst (λ z. (f' : Forest) → IsTree z f' → Counted h r (body_code head body n) (item_count_in z (flat f'))) (sym done) (λ f' tree'.
     let more = adds h valid head guard body n m r rule em stand d all.names goes contexts ps parts_are s pr is_mem ce.0 run sound after f' tree' in
     record {
       added = more.0;
@@ -120,7 +112,7 @@ body_counts head body n nested r h valid guard m em stand c names h' (s, prepare
     })
 
 -- there is the root at least
-some_items : (s : Heap) (xs : List ℕ) (x : ℕ) → heap.In x xs → (k : ℕ) × (k + 1 ≡ items_in s xs)
+some_items : (s : Heap) (xs : List ℕ) (x : ℕ) → heap.In x xs → (k : ℕ) × (k + 1 ≡ item_count_in s xs)
 some_items s [] x i = absurd i
 some_items s (y ∷ ys) x i =
     let w : ℕ → ℕ = λ m. 1 + length (atoms_in s m) + length (rules_in s m) in
@@ -149,8 +141,8 @@ one_told h valid r code n k l u =
     let q = b.1 in omega arith
 
 module _ (heads : AcceptedLeast) (bodies : AcceptedNested) where
-  counts : (table : List RuleTree) (r : RuleTree) (plan : GuardPlan) (h : Heap) (m : ℕ) (s : Registers) → IsFound table r plan h m s → (h' : Heap) → RunsBody s (rule_body_code r plan) h h' →
-      (f' : Forest) → IsTree h' f' → Counted h s (rule_body_code r plan) (items_in h' (flat f'))
+  counts : (table : List RuleTree) (r : RuleTree) (plan : GuardPlan) (h : Heap) (m : ℕ) (s : Registers) → HeadIsFound table r plan h m s → (h' : Heap) → RunsBody s (rule_body_code r plan) h h' →
+      (f' : Forest) → IsTree h' f' → Counted h s (rule_body_code r plan) (item_count_in h' (flat f'))
   counts table r plan h m s w h' runs =
       let least = heads.least table r plan h m s.head w.whole.ready w.valid w.first in
       let c = links_have_numbers h w.valid in
@@ -158,7 +150,7 @@ module _ (heads : AcceptedLeast) (bodies : AcceptedNested) where
 
   pub cost_is_told : CostIsTold
   cost_is_told = record {
-    told = λ table r plan h m s w h' runs f tree n. told_is_left h w.valid s (rule_body_code r plan) (items_in h' (flat f)) n (counts table r plan h m s w h' runs f tree);
+    told = λ table r plan h m s w h' runs f tree n. told_is_left h w.valid s (rule_body_code r plan) (item_count_in h' (flat f)) n (counts table r plan h m s w h' runs f tree);
     some = λ table r plan h m s w.
         let least = heads.least table r plan h m s.head w.whole.ready w.valid w.first in
         some_left h w.valid (head_items r plan) r.guard (rule_body_items r plan) (length r.links) m s (bodies table r plan w.whole).atoms least.embeds;

@@ -2,14 +2,13 @@
 use Rattle.std.proofs.Common.{ℕ, ◌+◌, ◌≡◌, List, [], ◌∷◌, ◌++◌, map, length, Option, None, refl, sym, ap, subst, ◌∙◌}
 use Rattle.std.specs.Prelude as prelude
 use Rattle.lmn_base.specs.declared.guard.Cond.{Cond}
-use Rattle.lmn_heap.specs.Heap.{Heap, HeapAtom, IsAtom, links_of}
+use Rattle.lmn_heap.specs.Heap.{Heap, HeapAtom, IsAtom, partners_of}
 use Rattle.lmn_heap.specs.Sound.{Listed, Valid}
 use Rattle.lmn_solid.specs.declared.items.HeadItem.{HeadItem}
 use Rattle.lmn_solid.specs.Heads.{atoms_of, typed_contexts_of, membranes_of}
 use Rattle.lmn_solid.specs.Embeddings.{Embeds}
-use Rattle.lmn_splice.specs.Ports.{Port}
 use Rattle.lmn_splice.specs.Classes.{class_of, rising}
-use Rattle.lmn_splice.specs.Splice.{In}
+use Rattle.lmn_splice.specs.Splice.{IsOneOf}
 use Rattle.lmn_instr.specs.declared.instr.Instr.TheVariants.{RemoveAtom, RemovePart, RemoveMem, Proceed}
 use Rattle.lmn_body.specs.declared.items.BodyItem.{BodyItem}
 use Rattle.lmn_body.specs.Tied.{partners}
@@ -26,11 +25,12 @@ use Rattle.lmn_body.proofs.Parts.{part_whole, no_part_prepares}
 use Rattle.lmn_body.proofs.Preparing.{MakesAll, AllPrepared, making_prepares}
 use Rattle.lmn_body.proofs.Removing.{prepares_taken_mems}
 use Rattle.lmn_body.proofs.Soundness.{prepares_listed}
+use Rattle.lmn_base.specs.Graphs.{Port}
 
 -- what stood before has the same partner
 pub prepared_links : (d : Port → ℕ) (h : Heap) (s : Heap) (r : Registers) (a m : ℕ) (body : List BodyItem) → AllPrepared d h s r a m body → (p : Port) → IsAtom h p.0 → partners s p ≡ partners h p
 prepared_links d h s r a m body pr p is =
-    ap (λ (f : ℕ → Option HeapAtom). prelude.slice_index_or (links_of (f p.0)) p.1 None) pr.atoms.atoms ∙ ap (λ (o : Option HeapAtom). prelude.slice_index_or (links_of o) p.1 None) (brought_old pr.free.brings p.0 is).1
+    ap (λ (f : ℕ → Option HeapAtom). prelude.slice_index_or (partners_of (f p.0)) p.1 None) pr.atoms.atoms ∙ ap (λ (o : Option HeapAtom). prelude.slice_index_or (partners_of o) p.1 None) (brought_old pr.free.brings p.0 is).1
 
 -- What has been made when a body is prepared, with colours of the links of h and of its copies.
 pub record Prepared (h s : Heap) (r : Registers) (a m : ℕ) (body : List BodyItem) : Type 0 where
@@ -56,7 +56,7 @@ prepared_all head body n rule r h valid guard m em c names s prepares =
     let first : pa.0 ≡ h = prepares_taken_mems r (rising 1 K) pc.0 pa.0 pc.2 ∙ no_part_prepares r (rising 0 (length (typed_contexts_of head))) pb.0 pc.0 pc.1 ∙ prepares_taken r (rising 0 N) h pb.0 pb.1 in
     let last : s ≡ pd.0 = pe.2.2 ∙ pe.2.1 ∙ prepares_tied r (class_of (connectors body)) (new_ports N 0 body) (old_ports head) (rising 0 n) pd.0 pe.0 pe.1 in
     let from_h : Prepares r make h s = subst (λ z. Prepares r make h z) (sym last) (subst (λ z. Prepares r make z pd.0) first pd.1) in
-    let whole : (e : ℕ × ℕ) → In e (copies_of 0 body) → Whole h (r.head.images.part e.1) = λ e i. let t = rule.copied e i in part_whole h valid head guard body n m r rule em e.1 t.0 t.1 in
+    let whole : (e : ℕ × ℕ) → IsOneOf e (copies_of 0 body) → Whole h (r.head.images.part e.1) = λ e i. let t = rule.copied e i in part_whole h valid head guard body n m r rule em e.1 t.0 t.1 in
     with_colours c h s r N (1 + K) body valid names
     (making_prepares r N (1 + K) 0 body h valid.sound.paired valid.sound.shaped whole h s (λ a i. refl) valid.sound.paired valid.sound.shaped from_h)
     (prepares_listed r N (1 + K) 0 body h s valid.sound.listed from_h)

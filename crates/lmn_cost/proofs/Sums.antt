@@ -2,12 +2,12 @@
 use Rattle.std.proofs.Common.{ℕ, ◌+◌, ◌≡◌, List, [], ◌∷◌, ◌++◌, map, length, refl, sym, ap, subst, ◌∙◌, inl, inr, arith, length-append}
 use Rattle.lmn_heap.specs.Heap.{Heap, rules_in}
 use Rattle.lmn_splice.specs.Splice as splice
-use Rattle.lmn_splice.specs.Classes.{ends}
+use Rattle.lmn_splice.specs.Classes.{ends_of_class}
 use Rattle.lmn_instr.specs.declared.instr.AtomPort.{AtomPort}
 use Rattle.lmn_instr.specs.declared.instr.NewPort.{NewPort}
 use Rattle.lmn_instr.specs.declared.instr.Instr.{Instr}
 use Rattle.lmn_instr.specs.declared.instr.Instr.TheVariants.{RemoveAtom, RemovePart, RemoveMem}
-use Rattle.lmn_instr.specs.Running.{Registers as HeadRegisters}
+use Rattle.lmn_instr.specs.Running.{HeadRegisters}
 use Rattle.lmn_body.specs.declared.items.BodyItem.{BodyItem}
 use Rattle.lmn_body.specs.declared.items.BodyItem.TheVariants.{Atom, Connector, Copy, Bound, Membrane, Rest, Rule, Rules}
 use Rattle.lmn_body.specs.Code.{making, link_code, links_code}
@@ -15,11 +15,13 @@ use Rattle.lmn_body.specs.Made.{copies_of}
 use Rattle.lmn_body.specs.Running.{Registers}
 use Rattle.lmn_body.specs.Added.{if_inside, added_atoms, added_rules, moved_mems, made_mems}
 use Rattle.lmn_body.specs.Rules.{Goes}
-use Rattle.lmn_machine.specs.Costs.{IsSize, Adds, Takes, InAll}
-use Rattle.lmn_cost.proofs.Totals.{total, total_same, total_plus, total_none}
+use Rattle.lmn_machine.specs.Costs.{IsSize, AddsItems, TakesItems, InAll}
+use Rattle.lmn_cost.proofs.Totals.{total_same, total_plus, total_none}
 use Rattle.lmn_heap.specs.Lists.{In, Distinct}
-use Rattle.lmn_heap.proofs.ListLemmas.{each_in, each_of, apart_test}
+use Rattle.lmn_heap.proofs.ListLemmas.{each_in, each_of}
 use Rattle.std.proofs.lemmas.Bool.{eq-eqb}
+use Rattle.lmn_base.proofs.Lists.{weigh as total}
+use Rattle.lmn_base.proofs.Numbers.{not_equal as apart_test}
 
 -- one part and then another
 pub both_sums : (P : Instr → ℕ → Type 0) (xs ys : List Instr) (m n : ℕ) → InAll P xs m → InAll P ys n → InAll P (xs ++ ys) (m + n)
@@ -35,29 +37,29 @@ none_more P x xs n p s = (0, n, (p, s, omega arith))
 module _ (h : Heap) (r : HeadRegisters) where
   -- removals
 
-  pub atoms_taken : (ns : List ℕ) → InAll (Takes h r) (map RemoveAtom ns) (length ns)
+  pub atoms_taken : (ns : List ℕ) → InAll (TakesItems h r) (map RemoveAtom ns) (length ns)
   atoms_taken [] = refl
   atoms_taken (n ∷ ns) = (1, length ns, (refl, atoms_taken ns, omega arith))
 
-  pub mems_taken : (ks : List ℕ) → InAll (Takes h r) (map RemoveMem ks) (total (λ k. 1 + length (rules_in h (r.images.membrane k))) ks)
+  pub mems_taken : (ks : List ℕ) → InAll (TakesItems h r) (map RemoveMem ks) (total (λ k. 1 + length (rules_in h (r.images.membrane k))) ks)
   mems_taken [] = refl
-  mems_taken (k ∷ ks) = one_more (Takes h r) (RemoveMem k) (map RemoveMem ks) (1 + length (rules_in h (r.images.membrane k))) (total (λ k. 1 + length (rules_in h (r.images.membrane k))) ks) refl (mems_taken ks)
+  mems_taken (k ∷ ks) = one_more (TakesItems h r) (RemoveMem k) (map RemoveMem ks) (1 + length (rules_in h (r.images.membrane k))) (total (λ k. 1 + length (rules_in h (r.images.membrane k))) ks) refl (mems_taken ks)
 
-  pub atoms_add : (ns : List ℕ) → InAll (Adds h r) (map RemoveAtom ns) 0
+  pub atoms_add : (ns : List ℕ) → InAll (AddsItems h r) (map RemoveAtom ns) 0
   atoms_add [] = refl
-  atoms_add (n ∷ ns) = none_more (Adds h r) (RemoveAtom n) (map RemoveAtom ns) 0 refl (atoms_add ns)
+  atoms_add (n ∷ ns) = none_more (AddsItems h r) (RemoveAtom n) (map RemoveAtom ns) 0 refl (atoms_add ns)
 
-  pub parts_add : (ns : List ℕ) → InAll (Adds h r) (map RemovePart ns) 0
+  pub parts_add : (ns : List ℕ) → InAll (AddsItems h r) (map RemovePart ns) 0
   parts_add [] = refl
-  parts_add (n ∷ ns) = none_more (Adds h r) (RemovePart n) (map RemovePart ns) 0 refl (parts_add ns)
+  parts_add (n ∷ ns) = none_more (AddsItems h r) (RemovePart n) (map RemovePart ns) 0 refl (parts_add ns)
 
-  pub mems_add : (ns : List ℕ) → InAll (Adds h r) (map RemoveMem ns) 0
+  pub mems_add : (ns : List ℕ) → InAll (AddsItems h r) (map RemoveMem ns) 0
   mems_add [] = refl
-  mems_add (n ∷ ns) = none_more (Adds h r) (RemoveMem n) (map RemoveMem ns) 0 refl (mems_add ns)
+  mems_add (n ∷ ns) = none_more (AddsItems h r) (RemoveMem n) (map RemoveMem ns) 0 refl (mems_add ns)
 
   -- ties
 
-  tie_adds : (ps : List NewPort) (hs : List AtomPort) → InAll (Adds h r) (link_code ps hs) 0
+  tie_adds : (ps : List NewPort) (hs : List AtomPort) → InAll (AddsItems h r) (link_code ps hs) 0
   tie_adds [] [] = refl
   tie_adds [] (a ∷ []) = refl
   tie_adds [] (a ∷ b ∷ []) = (0, 0, (refl, refl, refl))
@@ -69,7 +71,7 @@ module _ (h : Heap) (r : HeadRegisters) where
   tie_adds (p ∷ q ∷ []) (a ∷ hs) = refl
   tie_adds (p ∷ q ∷ s ∷ ps) hs = refl
 
-  tie_takes : (ps : List NewPort) (hs : List AtomPort) → InAll (Takes h r) (link_code ps hs) 0
+  tie_takes : (ps : List NewPort) (hs : List AtomPort) → InAll (TakesItems h r) (link_code ps hs) 0
   tie_takes [] [] = refl
   tie_takes [] (a ∷ []) = refl
   tie_takes [] (a ∷ b ∷ []) = (0, 0, (refl, refl, refl))
@@ -81,15 +83,15 @@ module _ (h : Heap) (r : HeadRegisters) where
   tie_takes (p ∷ q ∷ []) (a ∷ hs) = refl
   tie_takes (p ∷ q ∷ s ∷ ps) hs = refl
 
-  pub ties_add : (m : ℕ → ℕ) (news : List (NewPort × ℕ)) (olds : List (AtomPort × ℕ)) (zs : List ℕ) → InAll (Adds h r) (links_code m news olds zs) 0
+  pub ties_add : (m : ℕ → ℕ) (news : List (NewPort × ℕ)) (olds : List (AtomPort × ℕ)) (zs : List ℕ) → InAll (AddsItems h r) (links_code m news olds zs) 0
   ties_add m news olds [] = refl
-  ties_add m news olds (z ∷ zs) = both_sums (Adds h r) (link_code (ends m z news) (ends m z olds)) (links_code m news olds zs) 0 0 (tie_adds (ends m z news) (ends m z olds)) (ties_add m news olds zs)
+  ties_add m news olds (z ∷ zs) = both_sums (AddsItems h r) (link_code (ends_of_class m z news) (ends_of_class m z olds)) (links_code m news olds zs) 0 0 (tie_adds (ends_of_class m z news) (ends_of_class m z olds)) (ties_add m news olds zs)
 
-  pub ties_take : (m : ℕ → ℕ) (news : List (NewPort × ℕ)) (olds : List (AtomPort × ℕ)) (zs : List ℕ) → InAll (Takes h r) (links_code m news olds zs) 0
+  pub ties_take : (m : ℕ → ℕ) (news : List (NewPort × ℕ)) (olds : List (AtomPort × ℕ)) (zs : List ℕ) → InAll (TakesItems h r) (links_code m news olds zs) 0
   ties_take m news olds [] = refl
-  ties_take m news olds (z ∷ zs) = both_sums (Takes h r) (link_code (ends m z news) (ends m z olds)) (links_code m news olds zs) 0 0 (tie_takes (ends m z news) (ends m z olds)) (ties_take m news olds zs)
+  ties_take m news olds (z ∷ zs) = both_sums (TakesItems h r) (link_code (ends_of_class m z news) (ends_of_class m z olds)) (links_code m news olds zs) 0 0 (tie_takes (ends_of_class m z news) (ends_of_class m z olds)) (ties_take m news olds zs)
 
-  pub making_takes : (a m c : ℕ) (body : List BodyItem) → InAll (Takes h r) (making a m c body) 0
+  pub making_takes : (a m c : ℕ) (body : List BodyItem) → InAll (TakesItems h r) (making a m c body) 0
   making_takes a m c [] = refl
   making_takes a m c (Atom functor links inside ∷ xs) = (0, 0, (refl, making_takes (a + 1) m c xs, refl))
   making_takes a m c (Connector left right ∷ xs) = making_takes a m c xs
@@ -117,7 +119,7 @@ inside_once r inside ns (x ∷ xs) d (inr i) =
 module _ (h : Heap) (r : Registers) (left : ℕ → List ℕ) (ks : List ℕ) (E : ℕ → Type 0) (at : List ℕ) (once : Distinct at)
     (inside : (x : ℕ) → (In x ks → ⊥) × E x → In x at) where
   abbrev Sum : ℕ → ℕ → ℕ → List BodyItem → Type 0
-  Sum a m c body = (n : ℕ) × InAll (Adds h r.head) (making a m c body) n
+  Sum a m c body = (n : ℕ) × InAll (AddsItems h r.head) (making a m c body) n
       × (total (λ x. length (added_atoms r left a c body x)) at + length (made_mems r m body) + total (λ x. length (added_rules r (rules_in h) body x)) at
       ≡ n + total (λ x. length (left x)) (moved_mems r body))
 
@@ -129,7 +131,7 @@ module _ (h : Heap) (r : Registers) (left : ℕ → List ℕ) (ks : List ℕ) (E
       ∙ total_plus (λ x. length (if_inside r x inner ns)) (λ x. length (rest x)) at
       ∙ ap (λ k. k + total (λ x. length (rest x)) at) (inside_once r inner ns at once (inside (r.head.images.membrane inner) w))
 
-  pub making_adds : (a m c : ℕ) (body : List BodyItem) → Goes r ks E body → ((e : ℕ × ℕ) → splice.In e (copies_of c body) → IsSize h (r.head.images.part e.1) (length (r.copied e.0))) → Sum a m c body
+  pub making_adds : (a m c : ℕ) (body : List BodyItem) → Goes r ks E body → ((e : ℕ × ℕ) → splice.IsOneOf e (copies_of c body) → IsSize h (r.head.images.part e.1) (length (r.copied e.0))) → Sum a m c body
   making_adds a m c [] g sizes = (
     0,
     refl,

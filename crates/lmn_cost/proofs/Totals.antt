@@ -1,29 +1,19 @@
 -- Sums of a weight over lists of numbers.
-use Rattle.std.proofs.Common.{ℕ, ◌+◌, ◌≡◌, ◌≢◌, ◌==◌, Bool, true, false, cond, List, [], ◌∷◌, ◌++◌, length, map, refl, sym, ap, subst, ◌∙◌, inl, inr, arith}
+use Rattle.std.proofs.Common.{ℕ, ◌+◌, ◌≡◌, ◌≢◌, ◌==◌, Bool, true, false, cond, List, [], ◌∷◌, length, map, refl, sym, ap, subst, ◌∙◌, inl, inr, arith}
 use Rattle.std.specs.Prelude.{sum}
 use Rattle.std.proofs.lemmas.Bool.{eqb-true, eq-eqb}
 use Rattle.std.proofs.lemmas.List.Sums.{sum-map, sum_by-cons}
-use Rattle.lmn_heap.specs.Lists.{In, Distinct, without}
+use Rattle.lmn_heap.specs.Lists.{In, Distinct, without, without_all}
 use Rattle.lmn_heap.proofs.ListLemmas.{each_in, in_without}
 use Rattle.lmn_heap.proofs.Listing.{in_without_of, distinct_without}
 use Rattle.lmn_heap.proofs.Pigeonholes.{length_without}
 use Rattle.lmn_heap.proofs.Groves.{without_absent}
-use Rattle.lmn_body.specs.Running.{withouts}
-
-abbrev pub total : (ℕ → ℕ) → List ℕ → ℕ
-total w [] = 0
-total w (x ∷ xs) = w x + total w xs
+use Rattle.lmn_base.proofs.Lists.{weigh as total}
+use Rattle.lmn_heap.proofs.Common.{in_of_without}
 
 pub total_is_sum : (w : ℕ → ℕ) (xs : List ℕ) → sum (map w xs) ≡ total w xs
 total_is_sum w [] = refl
 total_is_sum w (x ∷ xs) = sum-map w (x ∷ xs) ∙ sum_by-cons w x xs ∙ ap (λ n. w x + n) (sym (sum-map w xs) ∙ total_is_sum w xs)
-
-pub total_append : (w : ℕ → ℕ) (xs ys : List ℕ) → total w (xs ++ ys) ≡ total w xs + total w ys
-total_append w [] ys = nothing (total w ys)
-  where
-    nothing : (n : ℕ) → n ≡ 0 + n
-    nothing n = omega arith
-total_append w (x ∷ xs) ys = let r = total_append w xs ys in omega arith
 
 -- weights that are the same on a list
 pub total_same : (w u : ℕ → ℕ) (xs : List ℕ) → ((x : ℕ) → In x xs → w x ≡ u x) → total w xs ≡ total u xs
@@ -70,15 +60,6 @@ total_part w (x ∷ xs) ys dx dy sub rest =
 
 -- Taking out of lists
 
-in_of_without : (a x : ℕ) (xs : List ℕ) → In x (without a xs) → In x xs
-in_of_without a x [] i = i
-in_of_without a x (y ∷ ys) i = by (y == a) i (in_of_without a x ys)
-  where
-    by : (t : Bool) → In x (cond t ys (y ∷ without a ys)) → (In x (without a ys) → In x ys) → In x (y ∷ ys)
-    by true j r = inr j
-    by false (inl e) r = inl e
-    by false (inr j) r = inr (r j)
-
 -- a number that stands in one of the lists is taken out
 one_out : (a y : ℕ) (lists : ℕ → List ℕ) (at : List ℕ) → Distinct at → In y at → In a (lists y) → ((z : ℕ) → In a (lists z) → z ≡ y)
     → total (λ x. length (lists x)) at ≡ 1 + total (λ x. length (without a (lists x))) at
@@ -95,7 +76,7 @@ one_out a y lists (x ∷ xs) d (inr i) j once =
 
 -- Each of these numbers stands in one list, and all are taken out.
 pub all_out : (ns : List ℕ) (lists : ℕ → List ℕ) (at : List ℕ) → Distinct ns → Distinct at → ((a : ℕ) → In a ns → (y : ℕ) × In y at × In a (lists y) × ((z : ℕ) → In a (lists z) → z ≡ y))
-    → total (λ x. length (lists x)) at ≡ length ns + total (λ x. length (withouts ns (lists x))) at
+    → total (λ x. length (lists x)) at ≡ length ns + total (λ x. length (without_all ns (lists x))) at
 all_out [] lists at dn d h = nothing (total (λ x. length (lists x)) at)
   where
     nothing : (n : ℕ) → n ≡ 0 + n
@@ -121,7 +102,7 @@ total_five a b c d e [] = refl
 total_five a b c d e (x ∷ xs) = let r = total_five a b c d e xs in omega arith
 
 -- Numbers of a list are taken out of it.
-pub total_withouts : (w : ℕ → ℕ) (ns xs : List ℕ) → Distinct ns → ((a : ℕ) → In a ns → In a xs) → total w xs ≡ total w ns + total w (withouts ns xs)
+pub total_withouts : (w : ℕ → ℕ) (ns xs : List ℕ) → Distinct ns → ((a : ℕ) → In a ns → In a xs) → total w xs ≡ total w ns + total w (without_all ns xs)
 total_withouts w [] xs d sub = nothing (total w xs)
   where
     nothing : (n : ℕ) → n ≡ 0 + n
@@ -130,7 +111,3 @@ total_withouts w (a ∷ ns) xs d sub =
     let first = total_without w a xs (sub a (inl refl)) in
     let rest = total_withouts w ns (without a xs) d.1 (λ b i. in_without a b xs (sub b (inr i)) (λ e. each_in (λ z. a ≢ z) ns b d.0 i (sym e))) in
     omega arith
-
-pub distinct_withouts : (ns xs : List ℕ) → Distinct xs → Distinct (withouts ns xs)
-distinct_withouts [] xs d = d
-distinct_withouts (a ∷ ns) xs d = distinct_withouts ns (without a xs) (distinct_without a xs d)

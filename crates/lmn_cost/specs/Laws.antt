@@ -3,28 +3,28 @@ use Rattle.std.specs.Prelude.{ℕ, ◌≡◌, ◌+◌, ◌↔◌, List}
 use Rattle.lmn_base.specs.declared.rule.RuleTree.{RuleTree}
 use Rattle.lmn_guards.specs.declared.plan.GuardPlan.{GuardPlan}
 use Rattle.lmn_heap.specs.Heap.{Heap, IsMemInPlace}
-use Rattle.lmn_heap.specs.Sound.{Forest, IsTree, Valid, flat, items_in}
-use Rattle.lmn_instr.specs.Running.{IsFirst}
+use Rattle.lmn_heap.specs.Sound.{Forest, IsTree, Valid, flat, item_count_in}
+use Rattle.lmn_instr.specs.Running.{IsFirstSuccess}
 use Rattle.lmn_compile_head.specs.Accepted.{rule_head_code}
-use Rattle.lmn_compile_body.specs.Accepted.{IsWhole, rule_body_code}
+use Rattle.lmn_compile_body.specs.Accepted.{IsCompilable, rule_body_code}
 use Rattle.lmn_body.specs.Running.{Registers, RunsBody}
 use Rattle.lmn_machine.specs.Costs.{Leaves}
 
 -- The head code of an accepted rule first succeeds in the membrane m of a valid heap, with these registers.
-pub record IsFound (table : List RuleTree) (r : RuleTree) (plan : GuardPlan) (h : Heap) (m : ℕ) (s : Registers) : Type 0 where
-  pub whole : IsWhole table r plan
+pub record HeadIsFound (table : List RuleTree) (r : RuleTree) (plan : GuardPlan) (h : Heap) (m : ℕ) (s : Registers) : Type 0 where
+  pub whole : IsCompilable table r plan
   pub valid : Valid h
   pub placed : IsMemInPlace h m
-  pub first : IsFirst h (rule_head_code r plan) m s.head
+  pub first : IsFirstSuccess h (rule_head_code r plan) m s.head
 
 -- The sum over the instructions of a body tells what a commit leaves.
 --   told   where the body code runs, the sum is the number of items of the heap after it, without the root
 --   some   there is such a sum, before anything runs
 --   one    and no other
 pub record CostIsTold : Type 0 where
-  pub told : (table : List RuleTree) (r : RuleTree) (plan : GuardPlan) (h : Heap) (m : ℕ) (s : Registers) → IsFound table r plan h m s →
-      (h' : Heap) → RunsBody s (rule_body_code r plan) h h' → (f : Forest) → IsTree h' f → (n : ℕ) → Leaves h s.head (rule_body_code r plan) n ↔ (n + 1 ≡ items_in h' (flat f))
-  pub some : (table : List RuleTree) (r : RuleTree) (plan : GuardPlan) (h : Heap) (m : ℕ) (s : Registers) → IsFound table r plan h m s →
+  pub told : (table : List RuleTree) (r : RuleTree) (plan : GuardPlan) (h : Heap) (m : ℕ) (s : Registers) → HeadIsFound table r plan h m s →
+      (h' : Heap) → RunsBody s (rule_body_code r plan) h h' → (f : Forest) → IsTree h' f → (n : ℕ) → Leaves h s.head (rule_body_code r plan) n ↔ (n + 1 ≡ item_count_in h' (flat f))
+  pub some : (table : List RuleTree) (r : RuleTree) (plan : GuardPlan) (h : Heap) (m : ℕ) (s : Registers) → HeadIsFound table r plan h m s →
       (n : ℕ) × Leaves h s.head (rule_body_code r plan) n
-  pub one : (table : List RuleTree) (r : RuleTree) (plan : GuardPlan) (h : Heap) (m : ℕ) (s : Registers) → IsFound table r plan h m s →
+  pub one : (table : List RuleTree) (r : RuleTree) (plan : GuardPlan) (h : Heap) (m : ℕ) (s : Registers) → HeadIsFound table r plan h m s →
       (n k : ℕ) → Leaves h s.head (rule_body_code r plan) n → Leaves h s.head (rule_body_code r plan) k → n ≡ k

@@ -4,11 +4,11 @@ use Rattle.lmn_heap.specs.Heap.{Heap}
 use Rattle.lmn_adequacy.specs.Runs.{End, irreducible, budget_done, full}
 use Rattle.lmn_drive.specs.declared.driving.RunEnd.{RunEnd}
 use Rattle.lmn_drive.specs.declared.driving.RunEnd.TheVariants.{Irreducible, Budget, Full, NoMemory, Failed}
-use Rattle.lmn_drive.specs.Driving.{Given, Ran, EndsSo, GoesOn, Ended}
+use Rattle.lmn_drive.specs.Driving.{RunInput, Ran, EndsSo, GoesOn, RunEnded}
 use Rattle.lmn_drive.specs.Laws.{AnswersAreExact, answer_of}
 use Rattle.lmn_drive.proofs.Goings.{ends_once}
 
-module _ (g : Given) (n : ℕ) (h : Heap) (r : Ran g n h) where
+module _ (g : RunInput) (n : ℕ) (h : Heap) (r : Ran g n h) where
   abbrev Exact : RunEnd → Type 0
   Exact answer = ((e : End) → EndsSo r e → answer ≡ answer_of e) × (GoesOn r → answer ≡ NoMemory)
 
@@ -16,7 +16,7 @@ module _ (g : Given) (n : ℕ) (h : Heap) (r : Ran g n h) where
   named : (e : End) → EndsSo r e → Exact (answer_of e)
   named e ends = ((λ d other. ap answer_of (ends_once g n h r e d ends other)), (λ on. absurd (on e ends)))
 
-  exact : (answer : RunEnd) (old new : Option (List ℕ)) → Ended r answer old new → ¬ (answer ≡ Failed) → Exact answer
+  exact : (answer : RunEnd) (old new : Option (List ℕ)) → RunEnded r answer old new → ¬ (answer ≡ Failed) → Exact answer
   exact Irreducible old new ended fine = named irreducible ended.0
   exact Budget old new ended fine = named budget_done ended.0
   exact Full old new ended fine = named full ended.0

@@ -3,27 +3,24 @@ use Rattle.std.proofs.Common.{ℕ, ◌≡◌, ◌<◌, ◌≤◌, List, length, 
 use Rattle.lmn_base.specs.declared.rule.RuleTree.{RuleTree}
 use Rattle.lmn_heap.specs.Heap.{Heap}
 use Rattle.lmn_congruence.specs.Process.{Closed}
-use Rattle.lmn_congruence.specs.Regions.{Region, items, region_process}
+use Rattle.lmn_congruence.specs.Regions.{Region, item_count_of_region, region_process}
 use Rattle.lmn_congruence.specs.Rules.{Name}
 use Rattle.lmn_adequacy.specs.Accepted.{Accepted}
-use Rattle.lmn_adequacy.specs.Choice.{NextFrom, paths}
-use Rattle.lmn_adequacy.specs.Embedding.{AllRules, Embeds}
+use Rattle.lmn_adequacy.specs.Choice.{paths}
+use Rattle.lmn_adequacy.specs.Embedding.{AllRules}
 use Rattle.lmn_adequacy.specs.Runs.{Chooser, Turn, End, Ends, nothing_embeds, none_allowed, too_many}
 use Rattle.lmn_adequacy.proofs.Numbering.{numbered_one}
 use Rattle.lmn_adequacy.proofs.OneChoice.{next_from_one}
 use Rattle.lmn_bridge.proofs.Wholes.{all_accepted, closed_heap}
-use Rattle.lmn_schedule.specs.Held.{Holds, reading_by}
+use Rattle.lmn_schedule.specs.Held.{HoldsRegion, reading_by}
+use Rattle.lmn_adequacy.proofs.Runs.{embeds_in}
 
 -- the process of a solid that a heap holds is closed, and its rules are accepted
-pub closed_held : {names : List Name} {table : List RuleTree} {h : Heap} {S : Region} → Holds names table h S → Closed (region_process S)
+pub closed_held : {names : List Name} {table : List RuleTree} {h : Heap} {S : Region} → HoldsRegion names table h S → Closed (region_process S)
 closed_held {names} {table} {h} {S} held = subst (λ R. Closed (region_process R)) (sym held.is) (closed_heap h (reading_by names table held.number) held.inner held.read held.tree)
 
-pub accepted_held : {names : List Name} {table : List RuleTree} {h : Heap} {S : Region} → Holds names table h S → AllRules Accepted S
+pub accepted_held : {names : List Name} {table : List RuleTree} {h : Heap} {S : Region} → HoldsRegion names table h S → AllRules Accepted S
 accepted_held {names} {table} {h} {S} held = subst (AllRules Accepted) (sym held.is) (all_accepted h (reading_by names table held.number) table held.rules h.root held.inner)
-
--- what has a next solid has an embedding
-embeds_in : {from : ℕ} {S S' : Region} → NextFrom from S S' → Embeds S
-embeds_in n = record { path = n.path; number = n.number; positions = n.positions; embeds = n.chosen.embeds }
 
 module _ (chooser : Chooser) (budget size n : ℕ) (S : Region) where
   -- the next solid is one
@@ -47,8 +44,8 @@ module _ (chooser : Chooser) (budget size n : ℕ) (S : Region) where
   one_end e d (too_many l t m) (too_many l' t' m') = refl
 
   -- below the budget, where the next solid is small enough, there is no end
-  pub no_end : Closed (region_process S) → AllRules Accepted S → n < budget → (S' : Region) → Turn chooser n S S' → items S' ≤ size → (e : End) → ¬ (EndsHere e)
+  pub no_end : Closed (region_process S) → AllRules Accepted S → n < budget → (S' : Region) → Turn chooser n S S' → item_count_of_region S' ≤ size → (e : End) → ¬ (EndsHere e)
   no_end closed accepted below S' t few e (nothing_embeds h) = h (embeds_in t.next)
   no_end closed accepted below S' t few e (none_allowed h a) = omega (arith, a, below)
   no_end closed accepted below S' t few e (too_many {S' = S''} l u m) =
-      let small : items S'' ≤ size = subst (λ R. items R ≤ size) (next_one closed accepted S' S'' t u) few in omega (arith, small, m)
+      let small : item_count_of_region S'' ≤ size = subst (λ R. item_count_of_region R ≤ size) (next_one closed accepted S' S'' t u) few in omega (arith, small, m)

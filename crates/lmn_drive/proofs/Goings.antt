@@ -4,25 +4,26 @@ use Rattle.std.proofs.lemmas.List.{length-append}
 use Rattle.lmn_heap.specs.Heap.{Heap}
 use Rattle.lmn_io.specs.Taking.{Takes, TakesPrefix}
 use Rattle.lmn_congruence.specs.Regions.{Region}
-use Rattle.lmn_adequacy.specs.Embedding.{Embeds}
+use Rattle.lmn_adequacy.specs.Embedding.{HasEmbedding}
 use Rattle.lmn_adequacy.specs.Runs.{Turn as Chooses, loaded, turned, End, irreducible, budget_done, full, nothing_embeds, none_allowed, too_many}
 use Rattle.lmn_strategy.specs.declared.turning.Turn.{Turn}
 use Rattle.lmn_strategy.specs.declared.turning.Turn.TheVariants as answer
 use Rattle.lmn_folded.specs.Lines.{IsLine}
 use Rattle.lmn_runs.proofs.TraceLines.{lines_count, lines_with, some_line}
-use Rattle.lmn_schedule.specs.Held.{Holds}
+use Rattle.lmn_schedule.specs.Held.{HoldsRegion}
 use Rattle.lmn_schedule.specs.Turning.{IsDone, IsTurned}
 use Rattle.lmn_drive.specs.declared.driving.RunEnd.TheVariants.{Failed}
 use Rattle.lmn_drive.specs.declared.driving.Stop.{Stop}
 use Rattle.lmn_drive.specs.declared.driving.Stop.TheVariants as stop
 use Rattle.lmn_drive.specs.Written.{traced}
-use Rattle.lmn_drive.specs.Driving.{Given, Ran, EndsSo, GoesOn, text, word_of, no_memory, Ended, Drove, Going, IsRestOf, IsTracedLineOf, StopsSo, Stopped, Broke, stop_word, stop_end, rest_of}
+use Rattle.lmn_drive.specs.Driving.{RunInput, Ran, EndsSo, GoesOn, text, no_memory, RunEnded, Drove, Going, IsRestOf, IsTracedLineOf, StopsBecause, Stopped, Broke, stop_word, stop_end, rest_of}
 use Rattle.lmn_drive.proofs.Ends.{accepted_held, closed_held, no_end, one_end}
 use Rattle.lmn_drive.proofs.Writings.{rest_held, traced_held}
 use Rattle.lmn_drive.proofs.Texts.{all_taken, front_taken, line_begun, line_taken, part_taken}
+use Rattle.lmn_runs.specs.Runs.{end_word}
 
 -- what a turn answers at the last solid of a run
-abbrev pub Answers : {g : Given} {n : ℕ} {h : Heap} → Ran g n h → Turn → Heap → Type 0
+abbrev pub Answers : {g : RunInput} {n : ℕ} {h : Heap} → Ran g n h → Turn → Heap → Type 0
 Answers {g} {n} r a h' = IsTurned g.names g.table g.chooser g.size n r.last a h'
 
 -- what holds of so many commits and of a heap holds of equal ones
@@ -32,9 +33,9 @@ moved P {n} {n'} {h} {h'} e d p = subst (λ k. P n' k) (sym d) (subst (λ k. P k
 pub none_more : (n : ℕ) → n + 0 ≡ n
 none_more n = omega arith
 
-module _ (g : Given) (n : ℕ) (h : Heap) where
+module _ (g : RunInput) (n : ℕ) (h : Heap) where
   -- the same run, where the heap holds its last solid too
-  abbrev held_by : (r : Ran g n h) (h' : Heap) → Holds g.names g.table h' r.last → Ran g n h'
+  abbrev held_by : (r : Ran g n h) (h' : Heap) → HoldsRegion g.names g.table h' r.last → Ran g n h'
   held_by r h' held = record { before = r.before; last = r.last; trace = r.trace; count = r.count; holds = held; lines = r.lines }
 
   -- two ends of a run are the same
@@ -49,21 +50,21 @@ module _ (g : Given) (n : ℕ) (h : Heap) where
   broke_so : (r : Ran g n h) (old new : Option (List ℕ)) → TakesPrefix (traced g.trace (r.lines.first_lines ++ r.lines.last_line ∷ [])) old new → Broke g n h old new
   broke_so r old new part =
       let any : (word : List ℕ) → TakesPrefix (text r word) old new = λ word. front_taken g.trace r.lines.first_lines r.lines.last_line word n (counted r) old new part in
-      record { ran = r; took = record { at_end = λ e ends. any (word_of e); elsewhere = λ on. any no_memory } }
+      record { ran = r; took = record { at_end = λ e ends. any (end_word e); elsewhere = λ on. any no_memory } }
 
 -- a call that is to write the line of a heap, with a trace alone, has written it, or a prefix of it
-abbrev TakesLine : Given → Heap → Option (List ℕ) → Option (List ℕ) → Type 0
+abbrev TakesLine : RunInput → Heap → Option (List ℕ) → Option (List ℕ) → Type 0
 TakesLine g h old new = (bytes : List ℕ) → IsTracedLineOf g.trace g.folded g.names g.table h bytes → Takes bytes old new
 
-abbrev TakesPartOfLine : Given → Heap → Option (List ℕ) → Option (List ℕ) → Type 0
+abbrev TakesPartOfLine : RunInput → Heap → Option (List ℕ) → Option (List ℕ) → Type 0
 TakesPartOfLine g h old new = (bytes : List ℕ) → IsTracedLineOf g.trace g.folded g.names g.table h bytes → TakesPrefix bytes old new
 
 -- a solid that a heap holds has a line
-line_of_held : (g : Given) {h : Heap} {S : Region} → Holds g.names g.table h S → (line : List ℕ) × IsLine g.folded S line
+line_of_held : (g : RunInput) {h : Heap} {S : Region} → HoldsRegion g.names g.table h S → (line : List ℕ) × IsLine g.folded S line
 line_of_held g {h} {S} held = some_line g.folded S (closed_held held)
 
 -- before the first turn: the heap holds the first solid
-module _ (g : Given) (n : ℕ) (h : Heap) (old new : Option (List ℕ)) (none : n ≡ 0) (held : Holds g.names g.table h g.first) where
+module _ (g : RunInput) (n : ℕ) (h : Heap) (old new : Option (List ℕ)) (none : n ≡ 0) (held : HoldsRegion g.names g.table h g.first) where
   abbrev first_line : (line : List ℕ) × IsLine g.folded g.first line
   first_line = line_of_held g held
 
@@ -86,7 +87,7 @@ module _ (g : Given) (n : ℕ) (h : Heap) (old new : Option (List ℕ)) (none : 
   pub broke_first : TakesPartOfLine g h old new → Broke g n h old new
   broke_first part = broke_so g n h first_ran old new (part (traced g.trace (first_line.0 ∷ [])) first_bytes)
 
-module _ (g : Given) (n : ℕ) (h h' : Heap) (told old : Option (List ℕ)) (s : Going g n h told old) where
+module _ (g : RunInput) (n : ℕ) (h h' : Heap) (told old : Option (List ℕ)) (s : Going g n h told old) where
   -- one commit more
   module _ (below : n < g.budget) (t : Answers s.ran answer.Committed h') (new : Option (List ℕ)) where
     abbrev next_line : (line : List ℕ) × IsLine g.folded t.0 line
@@ -124,7 +125,7 @@ module _ (g : Given) (n : ℕ) (h h' : Heap) (told old : Option (List ℕ)) (s :
         (line_begun g.trace (s.ran.lines.first_lines ++ s.ran.lines.last_line ∷ []) next_line.0 told old new s.took (part (traced g.trace (next_line.0 ∷ [])) next_bytes))
 
   -- the run stops, since it ends there or since memory is wanting
-  stops_so : (why : Stop) → (held : Holds g.names g.table h' s.ran.last) → StopsSo (held_by g n h s.ran h' held) why → Stopped g n h' why told old
+  stops_so : (why : Stop) → (held : HoldsRegion g.names g.table h' s.ran.last) → StopsBecause (held_by g n h s.ran h' held) why → Stopped g n h' why told old
   stops_so why held stops = record { going = record { ran = held_by g n h s.ran h' held; took = s.took }; stops = stops }
 
   pub stops_irreducible : Answers s.ran answer.Irreducible h' → Stopped g n h' stop.Irreducible told old
@@ -138,14 +139,14 @@ module _ (g : Given) (n : ℕ) (h h' : Heap) (told old : Option (List ℕ)) (s :
       stops_so stop.NoMemory t.1 (no_end g.chooser g.budget g.size n s.ran.last (closed_held s.ran.holds) (accepted_held s.ran.holds) below t.0.0 t.0.1 t.0.2)
 
   -- as many commits as are allowed are done
-  pub stops_budget : h' ≡ h → n ≡ g.budget → Embeds s.ran.last → Stopped g n h' stop.Budget told old
-  stops_budget same done some = stops_so stop.Budget (subst (λ k. Holds g.names g.table k s.ran.last) (sym same) s.ran.holds) (none_allowed some done)
+  pub stops_budget : h' ≡ h → n ≡ g.budget → HasEmbedding s.ran.last → Stopped g n h' stop.Budget told old
+  stops_budget same done some = stops_so stop.Budget (subst (λ k. HoldsRegion g.names g.table k s.ran.last) (sym same) s.ran.holds) (none_allowed some done)
 
   pub stops_done : h' ≡ h → IsDone s.ran.last → Stopped g n h' stop.Irreducible told old
-  stops_done same done = stops_so stop.Irreducible (subst (λ k. Holds g.names g.table k s.ran.last) (sym same) s.ran.holds) (nothing_embeds done.nothing_embeds)
+  stops_done same done = stops_so stop.Irreducible (subst (λ k. HoldsRegion g.names g.table k s.ran.last) (sym same) s.ran.holds) (nothing_embeds done.nothing_embeds)
 
 -- the rest of a run that stopped is written,
-module _ (g : Given) (n : ℕ) (h : Heap) (why : Stop) (old mid new : Option (List ℕ)) (s : Stopped g n h why old mid) where
+module _ (g : RunInput) (n : ℕ) (h : Heap) (why : Stop) (old mid new : Option (List ℕ)) (s : Stopped g n h why old mid) where
   abbrev stopped : Ran g n h
   stopped = s.going.ran
 
@@ -161,7 +162,7 @@ module _ (g : Given) (n : ℕ) (h : Heap) (why : Stop) (old mid new : Option (Li
       all : Takes (text stopped (stop_word why)) old new
       all = all_taken g.trace stopped.lines.first_lines stopped.lines.last_line (stop_word why) n (counted g n h stopped) old mid new s.going.took (took rest rest_bytes)
 
-      by : (why : Stop) → StopsSo stopped why → Takes (text stopped (stop_word why)) old new → Ended stopped (stop_end why) old new
+      by : (why : Stop) → StopsBecause stopped why → Takes (text stopped (stop_word why)) old new → RunEnded stopped (stop_end why) old new
       by stop.Irreducible stops took = (stops, took)
       by stop.Budget stops took = (stops, took)
       by stop.Full stops took = (stops, took)
@@ -174,18 +175,18 @@ module _ (g : Given) (n : ℕ) (h : Heap) (why : Stop) (old mid new : Option (Li
       part : TakesPrefix (text stopped (stop_word why)) old new
       part = part_taken g.trace stopped.lines.first_lines stopped.lines.last_line (stop_word why) n (counted g n h stopped) old mid new s.going.took (took rest rest_bytes)
 
-      at_end : (why : Stop) → StopsSo stopped why → (e : End) → EndsSo stopped e → stop_word why ≡ word_of e
-      at_end stop.Irreducible stops e ends = ap word_of (ends_once g n h stopped irreducible e stops ends)
-      at_end stop.Budget stops e ends = ap word_of (ends_once g n h stopped budget_done e stops ends)
-      at_end stop.Full stops e ends = ap word_of (ends_once g n h stopped full e stops ends)
+      at_end : (why : Stop) → StopsBecause stopped why → (e : End) → EndsSo stopped e → stop_word why ≡ end_word e
+      at_end stop.Irreducible stops e ends = ap end_word (ends_once g n h stopped irreducible e stops ends)
+      at_end stop.Budget stops e ends = ap end_word (ends_once g n h stopped budget_done e stops ends)
+      at_end stop.Full stops e ends = ap end_word (ends_once g n h stopped full e stops ends)
       at_end stop.NoMemory stops e ends = absurd (stops e ends)
 
-      elsewhere : (why : Stop) → StopsSo stopped why → GoesOn stopped → stop_word why ≡ no_memory
+      elsewhere : (why : Stop) → StopsBecause stopped why → GoesOn stopped → stop_word why ≡ no_memory
       elsewhere stop.Irreducible stops on = absurd (on irreducible stops)
       elsewhere stop.Budget stops on = absurd (on budget_done stops)
       elsewhere stop.Full stops on = absurd (on full stops)
       elsewhere stop.NoMemory stops on = refl
 
 -- a run that failed while it went on
-pub drove_broke : (g : Given) (n : ℕ) (h : Heap) (old new : Option (List ℕ)) → Broke g n h old new → Drove g n h Failed old new
+pub drove_broke : (g : RunInput) (n : ℕ) (h : Heap) (old new : Option (List ℕ)) → Broke g n h old new → Drove g n h Failed old new
 drove_broke g n h old new b = record { ran = b.ran; ended = b.took }

@@ -1,42 +1,38 @@
 -- The line that is written of a heap is that of the solid that it holds.
 use Rattle.std.proofs.Common.{ℕ, ◌≡◌, Bool, List, refl, sym, ap, subst, ◌∙◌}
 use Rattle.lmn_base.specs.Links.{NumbersLinks}
-use Rattle.lmn_base.specs.Solids.{links_of}
+use Rattle.lmn_base.specs.Solids.{links_of_region}
 use Rattle.lmn_base.specs.declared.rule.RuleTree.{RuleTree}
 use Rattle.lmn_base.specs.declared.solid.Region.{Region}
 use Rattle.lmn_base.specs.declared.solid.Region.TheViews.{roll-Region}
 use Rattle.lmn_base.specs.declared.solid.Solid.{Solid}
-use Rattle.lmn_heap.specs.Heap.{Heap, atoms_in, rules_in}
-use Rattle.lmn_heap.specs.Solid.{SolidOf, atoms_of, regions_of}
+use Rattle.lmn_heap.specs.Heap.{Heap, atoms_in, rules_in, Unmarked}
+use Rattle.lmn_heap.specs.Solid.{HasSolid, solid_atoms_at, regions_of}
 use Rattle.lmn_heap.specs.Sound.{Forest, Valid, bare, mem}
-use Rattle.lmn_congruence.specs.Regions as solid
 use Rattle.lmn_congruence.specs.Rules.{Name}
 use Rattle.lmn_congruence.specs.Translation.{numbered_rule, region_of}
 use Rattle.lmn_adequacy.specs.Numbered.{printed_links}
 use Rattle.lmn_bridge.proofs.SolidRegions.{solids_are_regions}
 use Rattle.lmn_folded.specs.Lines.{IsLine}
-use Rattle.lmn_items.specs.Chosen.{AllUnmarked}
 use Rattle.lmn_folded_printer.specs.Lines.{IsHeapLine}
 use Rattle.lmn_instr.specs.declared.instr.Code.{Code}
-use Rattle.lmn_schedule.specs.Held.{CanRun, Holds, reading_by}
-use Rattle.lmn_schedule.proofs.Printed.{printed}
+use Rattle.lmn_schedule.specs.Held.{EngineCanTurn, HoldsRegion, reading_by}
+use Rattle.lmn_schedule.proofs.Loaded.{first_of}
+use Rattle.lmn_adequacy.proofs.PlainSolids.{printed}
+use Rattle.lmn_congruence.specs.Regions as solid
 
 -- the membranes of a heap and what is in them, by the numbers of its links
 abbrev root_of : Heap → (ℕ → ℕ → ℕ) → Forest → Region
-root_of h number inner = roll-Region (record { atoms = atoms_of h number (atoms_in h h.root); membranes = regions_of h number inner; rules = rules_in h h.root })
-
-abbrev first_of : solid.Regions → solid.Region → solid.Region
-first_of solid.no_region d = d
-first_of (solid.region_and m ms) d = m
+root_of h number inner = roll-Region (record { atoms = solid_atoms_at h number (atoms_in h h.root); membranes = regions_of h number inner; rules = rules_in h h.root })
 
 -- a heap that holds a solid has its line
-pub line_held : (folded : Bool) (names : List Name) (table : List RuleTree) (h : Heap) (S : solid.Region) (line : List ℕ) → Holds names table h S → IsLine folded S line → IsHeapLine folded names table h line
+pub line_held : (folded : Bool) (names : List Name) (table : List RuleTree) (h : Heap) (S : solid.Region) (line : List ℕ) → HoldsRegion names table h S → IsLine folded S line → IsHeapLine folded names table h line
 line_held folded names table h S line held is_line =
     let x : Solid = record { root = root_of h held.number held.inner } in
     let same : region_of names table x ≡ S =
     ap (λ rs. first_of rs S) (solids_are_regions h (reading_by names table held.number) (mem h.root held.inner bare)) ∙ sym held.is in
-    let links : printed_links S ≡ links_of x.root = ap printed_links (sym same) ∙ printed names (numbered_rule names table) x.root in
-    let of : SolidOf h x = record {
+    let links : printed_links S ≡ links_of_region x.root = ap printed_links (sym same) ∙ printed names (numbered_rule names table) x.root in
+    let of : HasSolid h x = record {
       forest = mem h.root held.inner bare;
       tree = held.tree;
       name = held.number;
@@ -48,5 +44,5 @@ line_held folded names table h S line held is_line =
     (x, of, subst (λ R. IsLine folded R line) (sym same) is_line)
 
 -- a heap on which a turn can be made can be printed
-pub can_print : {h : Heap} {table : List RuleTree} {codes : List Code} {size : ℕ} → CanRun h table codes size → Valid h × AllUnmarked h
+pub can_print : {h : Heap} {table : List RuleTree} {codes : List Code} {size : ℕ} → EngineCanTurn h table codes size → Valid h × Unmarked h
 can_print run = (run.turn.valid, run.turn.unmarked)

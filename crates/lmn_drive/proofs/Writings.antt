@@ -9,7 +9,7 @@ use Rattle.lmn_io.specs.Writing.{Writes, WritesText}
 use Rattle.lmn_io.proofs.WritingLemmas.{writes_as, writes_both, writes_front, writes_nothing}
 use Rattle.lmn_folded.specs.Lines.{IsLine}
 use Rattle.lmn_folded_printer.specs.Lines.{IsHeapLine}
-use Rattle.lmn_schedule.specs.Held.{Holds}
+use Rattle.lmn_schedule.specs.Held.{HoldsRegion}
 use Rattle.lmn_drive.specs.Driving.{IsRestOf, IsTracedLineOf, rest_of}
 use Rattle.lmn_drive.specs.Written.{end_line, traced}
 use Rattle.lmn_drive.proofs.Lines.{line_held}
@@ -21,12 +21,12 @@ at_err R (Err e) P Q f q = q
 
 module _ (folded : Bool) (names : List Name) (table : List RuleTree) (h : Heap) where
   -- the text of a line that is written with a trace alone
-  pub traced_held : (trace : Bool) (S : Region) (line : List ℕ) → Holds names table h S → IsLine folded S line → IsTracedLineOf trace folded names table h (traced trace (line ∷ []))
+  pub traced_held : (trace : Bool) (S : Region) (line : List ℕ) → HoldsRegion names table h S → IsLine folded S line → IsTracedLineOf trace folded names table h (traced trace (line ∷ []))
   traced_held true S line held is_line = subst (IsHeapLine folded names table h) (sym (append-nil line)) (line_held folded names table h S line held is_line)
   traced_held false S line held is_line = refl
 
   -- the text of the rest of a run
-  pub rest_held : (trace : Bool) (S : Region) (line : List ℕ) → Holds names table h S → IsLine folded S line → (word : List ℕ) (n : ℕ) → IsRestOf trace folded names table h word n (rest_of trace line word n)
+  pub rest_held : (trace : Bool) (S : Region) (line : List ℕ) → HoldsRegion names table h S → IsLine folded S line → (word : List ℕ) (n : ℕ) → IsRestOf trace folded names table h word n (rest_of trace line word n)
   rest_held trace S line held is_line word n = record { last = traced (not trace) (line ∷ []); is_line = traced_held (not trace) S line held is_line; is = refl }
 
   -- with a trace the line is written,

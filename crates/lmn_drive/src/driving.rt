@@ -4,11 +4,11 @@ ghost use Rattle.lmn_io.specs.Counts.{Rose};
 ghost use Rattle.lmn_io.specs.Writing.{Writes, WritesText};
 ghost use Rattle.lmn_adequacy.specs.Runs.{Chooser};
 ghost use Rattle.lmn_order.specs.Answers.{AnswersBelow};
-ghost use Rattle.lmn_schedule.specs.Held.{CanRun, Holds};
+ghost use Rattle.lmn_schedule.specs.Held.{EngineCanTurn, HoldsRegion};
 ghost use Rattle.lmn_schedule.specs.Turning.{Gives};
 ghost use Rattle.lmn_folded_printer.specs.Lines.{IsHeapLine};
 ghost use Rattle.lmn_drive.specs.Written.{end_line};
-ghost use Rattle.lmn_drive.specs.Driving.{Broke, Counts, Drove, Going, IsRestOf, IsTracedLineOf, StepsOn, Stopped, given, stop_end, stop_word};
+ghost use Rattle.lmn_drive.specs.Driving.{Broke, CountsCommit, Drove, Going, IsRestOf, IsTracedLineOf, StepsOn, Stopped, given_by_engine, stop_end, stop_word};
 
 use itoa::Buffer;
 use lmn_base::{Names, Plain};
@@ -69,14 +69,14 @@ pub fn drive<S: LinkStore, F: Fn(u64, u64) -> u64, O: Sink, L: Ledger>(
     out: &mut O,
     steps: &mut Steps<L>,
 ) -> RunEnd
-    requires run { CanRun (S.heap engine.old.machine.store) plain.now.rules engine.old.codes engine.old.size }
+    requires run { EngineCanTurn (S.heap engine.old.machine.store) plain.now.rules engine.old.codes engine.old.size }
     requires plain { engine.old.plain.now ≡ plain.now }
     requires chooser { AnswersBelow F.pre F.post engine.old.chooser.f }
     requires commits { engine.old.commits ≡ 0 }
     requires budget { options.now.budget ≤ 2 ^ 63 - 1 }
-    ensures drove { (c : Chooser) → Gives F.post engine.old.chooser.f c → (solid : Region) → Holds names.now plain.now.rules (S.heap engine.old.machine.store) solid →
-        Drove (given names.now plain.now.rules engine.old.size options.now c solid) engine.new.commits (S.heap engine.new.machine.store) result (O.told out.old) (O.told out.new) }
-    ensures again { CanRun (S.heap engine.new.machine.store) plain.now.rules engine.old.codes engine.old.size }
+    ensures drove { (c : Chooser) → Gives F.post engine.old.chooser.f c → (solid : Region) → HoldsRegion names.now plain.now.rules (S.heap engine.old.machine.store) solid →
+        Drove (given_by_engine names.now plain.now.rules engine.old.size options.now c solid) engine.new.commits (S.heap engine.new.machine.store) result (O.told out.old) (O.told out.new) }
+    ensures again { EngineCanTurn (S.heap engine.new.machine.store) plain.now.rules engine.old.codes engine.old.size }
     ensures keeps { engine.new ≡ record engine.old { machine = engine.new.machine; commits = engine.new.commits } }
     ensures same { ¬ (result ≡ RunEnd.Failed) → O.faults out.new ≡ O.faults out.old }
     ensures rose { result ≡ RunEnd.Failed → Rose (O.faults out.old) (O.faults out.new) }
@@ -97,16 +97,16 @@ fn run<S: LinkStore, F: Fn(u64, u64) -> u64, O: Sink, L: Ledger>(
     out: &mut O,
     steps: &mut Steps<L>,
 ) -> Result<Stop, Failed>
-    requires run { CanRun (S.heap engine.old.machine.store) plain.now.rules engine.old.codes engine.old.size }
+    requires run { EngineCanTurn (S.heap engine.old.machine.store) plain.now.rules engine.old.codes engine.old.size }
     requires plain { engine.old.plain.now ≡ plain.now }
     requires chooser { AnswersBelow F.pre F.post engine.old.chooser.f }
     requires commits { engine.old.commits ≡ 0 }
     requires budget { options.now.budget ≤ 2 ^ 63 - 1 }
-    ensures stops { (c : Chooser) → Gives F.post engine.old.chooser.f c → (solid : Region) → Holds names.now plain.now.rules (S.heap engine.old.machine.store) solid →
-        let g = given names.now plain.now.rules engine.old.size options.now c solid in MatchResult result
+    ensures stops { (c : Chooser) → Gives F.post engine.old.chooser.f c → (solid : Region) → HoldsRegion names.now plain.now.rules (S.heap engine.old.machine.store) solid →
+        let g = given_by_engine names.now plain.now.rules engine.old.size options.now c solid in MatchResult result
         (λ stop. Stopped g engine.new.commits (S.heap engine.new.machine.store) stop (O.told out.old) (O.told out.new))
         (λ failed. Broke g engine.new.commits (S.heap engine.new.machine.store) (O.told out.old) (O.told out.new)) }
-    ensures again { CanRun (S.heap engine.new.machine.store) plain.now.rules engine.old.codes engine.old.size }
+    ensures again { EngineCanTurn (S.heap engine.new.machine.store) plain.now.rules engine.old.codes engine.old.size }
     ensures keeps { engine.new ≡ record engine.old { machine = engine.new.machine; commits = engine.new.commits } }
     ensures same { OnOk result (O.faults out.new ≡ O.faults out.old) }
     ensures rose { OnErr result (Rose (O.faults out.old) (O.faults out.new)) }
@@ -134,18 +134,18 @@ fn step<S: LinkStore, F: Fn(u64, u64) -> u64, O: Sink, L: Ledger>(
     out: &mut O,
     steps: &mut Steps<L>,
 ) -> Result<Option<Stop>, Failed>
-    requires run { CanRun (S.heap engine.old.machine.store) plain.now.rules engine.old.codes engine.old.size }
+    requires run { EngineCanTurn (S.heap engine.old.machine.store) plain.now.rules engine.old.codes engine.old.size }
     requires plain { engine.old.plain.now ≡ plain.now }
     requires chooser { AnswersBelow F.pre F.post engine.old.chooser.f }
     requires commits { engine.old.commits < 2 ^ 63 }
     ensures goes { (c : Chooser) → Gives F.post engine.old.chooser.f c → (solid : Region) (told : Option (List ℕ)) → engine.old.commits < options.now.budget →
-        let g = given names.now plain.now.rules engine.old.size options.now c solid in
+        let g = given_by_engine names.now plain.now.rules engine.old.size options.now c solid in
         Going g engine.old.commits (S.heap engine.old.machine.store) told (O.told out.old) → MatchResult result
         (StepsOn g engine.new.commits (S.heap engine.new.machine.store) told (O.told out.new))
         (λ failed. Broke g engine.new.commits (S.heap engine.new.machine.store) told (O.told out.new)) }
-    ensures again { CanRun (S.heap engine.new.machine.store) plain.now.rules engine.old.codes engine.old.size }
+    ensures again { EngineCanTurn (S.heap engine.new.machine.store) plain.now.rules engine.old.codes engine.old.size }
     ensures keeps { engine.new ≡ record engine.old { machine = engine.new.machine; commits = engine.new.commits } }
-    ensures counts { IfOk result (λ stop. Counts stop engine.old.commits engine.new.commits) }
+    ensures counts { IfOk result (λ stop. CountsCommit stop engine.old.commits engine.new.commits) }
     ensures same { OnOk result (O.faults out.new ≡ O.faults out.old) }
     ensures rose { OnErr result (Rose (O.faults out.old) (O.faults out.new)) }
 {
@@ -169,7 +169,7 @@ fn write_traced<S: LinkStore, F: Fn(u64, u64) -> u64, O: Sink>(
     folded: bool,
     out: &mut O,
 ) -> Result<(), Failed>
-    requires run { CanRun (S.heap engine.old.machine.store) plain.now.rules engine.old.codes engine.old.size }
+    requires run { EngineCanTurn (S.heap engine.old.machine.store) plain.now.rules engine.old.codes engine.old.size }
     ensures writes { Writes (IsTracedLineOf trace folded names.now plain.now.rules (S.heap engine.old.machine.store)) result (O.told out.old) (O.faults out.old) (O.told out.new) (O.faults out.new) }
     ensures kept { S.heap engine.new.machine.store ≡ S.heap engine.old.machine.store }
     ensures keeps { engine.new ≡ record engine.old { machine = engine.new.machine } }
@@ -189,7 +189,7 @@ fn write_process<S: LinkStore, F: Fn(u64, u64) -> u64, O: Sink>(
     folded: bool,
     out: &mut O,
 ) -> Result<(), Failed>
-    requires run { CanRun (S.heap engine.old.machine.store) plain.now.rules engine.old.codes engine.old.size }
+    requires run { EngineCanTurn (S.heap engine.old.machine.store) plain.now.rules engine.old.codes engine.old.size }
     ensures writes { Writes (IsHeapLine folded names.now plain.now.rules (S.heap engine.old.machine.store)) result (O.told out.old) (O.faults out.old) (O.told out.new) (O.faults out.new) }
     ensures kept { S.heap engine.new.machine.store ≡ S.heap engine.old.machine.store }
     ensures keeps { engine.new ≡ record engine.old { machine = engine.new.machine } }
@@ -206,9 +206,9 @@ fn conclude<S: LinkStore, F: Fn(u64, u64) -> u64, O: Sink>(
     stop: Stop,
     out: &mut O,
 ) -> RunEnd
-    requires run { CanRun (S.heap engine.old.machine.store) plain.now.rules engine.old.codes engine.old.size }
+    requires run { EngineCanTurn (S.heap engine.old.machine.store) plain.now.rules engine.old.codes engine.old.size }
     ensures drove { (c : Chooser) (solid : Region) (told : Option (List ℕ)) →
-        let g = given names.now plain.now.rules engine.old.size options.now c solid in
+        let g = given_by_engine names.now plain.now.rules engine.old.size options.now c solid in
         Stopped g engine.old.commits (S.heap engine.old.machine.store) stop told (O.told out.old) →
         Drove g engine.old.commits (S.heap engine.new.machine.store) result told (O.told out.new) }
     ensures kept { S.heap engine.new.machine.store ≡ S.heap engine.old.machine.store }
@@ -231,7 +231,7 @@ fn write_rest<S: LinkStore, F: Fn(u64, u64) -> u64, O: Sink>(
     stop: Stop,
     out: &mut O,
 ) -> Result<(), Failed>
-    requires run { CanRun (S.heap engine.old.machine.store) plain.now.rules engine.old.codes engine.old.size }
+    requires run { EngineCanTurn (S.heap engine.old.machine.store) plain.now.rules engine.old.codes engine.old.size }
     ensures writes { Writes (IsRestOf options.now.trace options.now.folded names.now plain.now.rules (S.heap engine.old.machine.store) (stop_word stop) engine.old.commits) result (O.told out.old) (O.faults out.old) (O.told out.new) (O.faults out.new) }
     ensures kept { S.heap engine.new.machine.store ≡ S.heap engine.old.machine.store }
     ensures keeps { engine.new ≡ record engine.old { machine = engine.new.machine } }

@@ -12,18 +12,18 @@ use Rattle.lmn_base.specs.declared.level.Level as base_level
 use Rattle.lmn_base.specs.declared.level.Level.{out-Level}
 use Rattle.lmn_base.specs.declared.memory.NoMemory.{NoMemory}
 use Rattle.lmn_base.specs.declared.level.Occ.{Occ}
-use Rattle.lmn_base.specs.Levels.{leaf_occurrences, leaves_of, links_of}
+use Rattle.lmn_base.specs.Levels.{occurrences_of_leaf, leaves_of, links_of, links_of_leaves}
 use Rattle.lmn_base.proofs.ItemLemmas.{leaves_apart}
 use Rattle.lmn_congruence.specs.Rules.{Name}
 use Rattle.lmn_numbering.specs.Renumbered.{renumbered, renumbered_leaf}
 use Rattle.lmn_plain.specs.Expanded as expanded
-use Rattle.lmn_plain.specs.Expanded.{levels, renamed, renamed_leaf}
-use Rattle.lmn_plain.specs.Parts.{Parts, level_of}
-use Rattle.lmn_plain.specs.Keys.{In, index_of, IsKey}
-use Rattle.lmn_plain.specs.Links.{Link, same_link, times, written, fresh, freshened}
+use Rattle.lmn_plain.specs.Expanded.{expanded_levels, renamed_level, renamed_leaf}
+use Rattle.lmn_plain.specs.Parts.{Parts, level_from_parts}
+use Rattle.lmn_plain.specs.Keys.{IsLinkIn, link_index, IsKey}
+use Rattle.lmn_plain.specs.Links.{Link, same_link, times_among, written, fresh, freshened}
 use Rattle.lmn_plain.proofs.SomeNumbers.{index_below, index_one, link_same, link_itself}
-use Rattle.lmn_plain.specs.Plains.{Each}
-use Rattle.lmn_expand.specs.Built.{IsLeaf, IsLevel, IsPart}
+use Rattle.lmn_plain.specs.Plains.{EachPair}
+use Rattle.lmn_expand.specs.Built.{IsLeaf, IsLevel, IsPartOfLevel}
 use Rattle.lmn_expand.specs.Glossaries.{Reading}
 use Rattle.lmn_expand.specs.Scopes.{IsScope}
 use Rattle.lmn_expand.specs.declared.part.Part.{Part}
@@ -32,7 +32,7 @@ use Rattle.lmn_expand.proofs.BuiltLemmas.{leaves_links_by, links_in_by, levels_e
 use Rattle.lmn_expand.proofs.EachLemmas.{each_append, each_map}
 use Rattle.lmn_expand.proofs.GrowingLemmas.{in_either, key_more}
 use Rattle.lmn_expand.proofs.ScopeLemmas.{key_new, scope_new}
-use Rattle.lmn_expand.specs.Copies.{Copies, Counts, Freshens, IsFreshOrSame, NoneFresh, leaf_links, leaves_links, levels_links, new_link, often}
+use Rattle.lmn_expand.specs.Copies.{Copies, CountsPlaces, Freshens, IsFreshOrSame, NoneFresh, links_of_leaf, links_of_levels, new_link, often}
 
 min_is : (a b : ℕ) → ((min a b ≡ a) × (a ≤ b)) ⊎ ((min a b ≡ b) × (b ≤ a))
 min_is a b = elim (cases_lt a b) [
@@ -80,7 +80,7 @@ count_append x (y ∷ xs) ys = by (x == y) (count_append x xs ys)
 often_append : (x : ℕ) (xs ys : List ℕ) → often x (xs ++ ys) ≡ often x xs + often x ys
 often_append x xs ys = omega (arith, count_append x xs ys, often_is x (xs ++ ys), often_is x xs, often_is x ys)
 
-pub counts_none : (a : List ℕ) → Counts [] a a
+pub counts_none : (a : List ℕ) → CountsPlaces [] a a
 counts_none a = record {
   size = refl;
   counted = λ x n h l. h ∙ ap Some (none x n l);
@@ -92,7 +92,7 @@ counts_none a = record {
       | inr y ↦ omega (arith, y.0, y.1, l, often_is x [])
     ]
 
-pub counts_both : (xs ys a b c : List ℕ) → Counts xs a b → Counts ys b c → Counts (xs ++ ys) a c
+pub counts_both : (xs ys a b c : List ℕ) → CountsPlaces xs a b → CountsPlaces ys b c → CountsPlaces (xs ++ ys) a c
 counts_both xs ys a b c h k = record {
   size = k.size ∙ h.size;
   counted = λ x n e l. k.counted x (min 3 (n + often x xs)) (h.counted x n e l) (min_small (n + often x xs)) ∙ ap Some (again x n);
@@ -103,35 +103,35 @@ counts_both xs ys a b c h k = record {
         let e : (n + often x xs) + often x ys ≡ n + often x (xs ++ ys) = omega (arith, often_append x xs ys) in
         min_again (n + often x xs) (often x ys) ∙ ap (min 3) e
 
-counts_as : (xs ys a b : List ℕ) → xs ≡ ys → Counts xs a b → Counts ys a b
-counts_as xs ys a b e h = let P : List ℕ → Type 0 = λ zs. Counts zs a b in subst P e h
+counts_as : (xs ys a b : List ℕ) → xs ≡ ys → CountsPlaces xs a b → CountsPlaces ys a b
+counts_as xs ys a b e h = let P : List ℕ → Type 0 = λ zs. CountsPlaces zs a b in subst P e h
 
 flat_map_last : {A B : Type 0} (f : A → List B) (xs : List A) (x : A) → flat_map f (xs ++ x ∷ []) ≡ flat_map f xs ++ f x
 flat_map_last f [] x = append-nil (f x)
 flat_map_last f (y ∷ xs) x = ap (λ z. f y ++ z) (flat_map_last f xs x) ∙ sym (append_assoc (f y) (flat_map f xs) (f x))
 
-taken : {A : Type 0} (xs : List A) (i : ℕ) (d x : A) → i < length xs → x ≡ get_or xs i d → take (i + 1) xs ≡ take i xs ++ x ∷ []
+pub taken : {A : Type 0} (xs : List A) (i : ℕ) (d x : A) → i < length xs → x ≡ get_or xs i d → take (i + 1) xs ≡ take i xs ++ x ∷ []
 taken xs i d x l e = take_more xs i d l ∙ ap (λ y. take i xs ++ y ∷ []) (sym e)
 
-pub counts_link : (os : List Occ) (i : ℕ) (d x : Occ) (a b c : List ℕ) → i < length os → x ≡ get_or os i d → Counts (map (λ (o : Occ). o.link) (take i os)) a b
-    → Counts (x.link ∷ []) b c → Counts (map (λ (o : Occ). o.link) (take (i + 1) os)) a c
+pub counts_link : (os : List Occ) (i : ℕ) (d x : Occ) (a b c : List ℕ) → i < length os → x ≡ get_or os i d → CountsPlaces (map (λ (o : Occ). o.link) (take i os)) a b
+    → CountsPlaces (x.link ∷ []) b c → CountsPlaces (map (λ (o : Occ). o.link) (take (i + 1) os)) a c
 counts_link os i d x a b c l e h k =
     counts_as _ _ a c (sym (map-append (λ (o : Occ). o.link) (take i os) (x ∷ [])) ∙ ap (map (λ (o : Occ). o.link)) (sym (taken os i d x l e)))
     (counts_both (map (λ (o : Occ). o.link) (take i os)) (x.link ∷ []) a b c h k)
 
-pub counts_leaf : (ls : List base.Leaf) (i : ℕ) (d x : base.Leaf) (a b c : List ℕ) → i < length ls → x ≡ get_or ls i d → Counts (leaves_links (take i ls)) a b
-    → Counts (leaf_links x) b c → Counts (leaves_links (take (i + 1) ls)) a c
+pub counts_leaf : (ls : List base.Leaf) (i : ℕ) (d x : base.Leaf) (a b c : List ℕ) → i < length ls → x ≡ get_or ls i d → CountsPlaces (links_of_leaves (take i ls)) a b
+    → CountsPlaces (links_of_leaf x) b c → CountsPlaces (links_of_leaves (take (i + 1) ls)) a c
 counts_leaf ls i d x a b c l e h k =
-    let f : base.Leaf → List Occ = leaf_occurrences in
+    let f : base.Leaf → List Occ = occurrences_of_leaf in
     counts_as _ _ a c (sym (map-append (λ (o : Occ). o.link) (flat_map f (take i ls)) (f x)) ∙ ap (map (λ (o : Occ). o.link)) (sym (flat_map_last f (take i ls) x))
-    ∙ ap leaves_links (sym (taken ls i d x l e)))
-    (counts_both (leaves_links (take i ls)) (leaf_links x) a b c h k)
+    ∙ ap links_of_leaves (sym (taken ls i d x l e)))
+    (counts_both (links_of_leaves (take i ls)) (links_of_leaf x) a b c h k)
 
-pub counts_level : (ls : List base_level.Level) (i : ℕ) (d x : base_level.Level) (a b c : List ℕ) → i < length ls → x ≡ get_or ls i d → Counts (levels_links (take i ls)) a b
-    → Counts (links_of x) b c → Counts (levels_links (take (i + 1) ls)) a c
+pub counts_level : (ls : List base_level.Level) (i : ℕ) (d x : base_level.Level) (a b c : List ℕ) → i < length ls → x ≡ get_or ls i d → CountsPlaces (links_of_levels (take i ls)) a b
+    → CountsPlaces (links_of x) b c → CountsPlaces (links_of_levels (take (i + 1) ls)) a c
 counts_level ls i d x a b c l e h k =
-    counts_as _ _ a c (sym (flat_map_last links_of (take i ls) x) ∙ ap levels_links (sym (taken ls i d x l e)))
-    (counts_both (levels_links (take i ls)) (links_of x) a b c h k)
+    counts_as _ _ a c (sym (flat_map_last links_of (take i ls) x) ∙ ap links_of_levels (sym (taken ls i d x l e)))
+    (counts_both (links_of_levels (take i ls)) (links_of x) a b c h k)
 
 -- ---- how often a link and its key stand
 
@@ -139,7 +139,7 @@ abbrev occurs : Link → List Link → ℕ
 occurs a [] = 0
 occurs a (b ∷ bs) = if same_link a b then 1 + occurs a bs else occurs a bs
 
-times_is : (a : Link) (bs : List Link) → occurs a bs ≡ times a bs
+times_is : (a : Link) (bs : List Link) → occurs a bs ≡ times_among a bs
 times_is a bs = is_count_by (occurs a) (same_link a) refl (λ b bs. refl) bs
 
 same_test : (s t : Bool) → (s ≡ true → t ≡ true) → (t ≡ true → s ≡ true) → s ≡ t
@@ -150,10 +150,10 @@ same_test false false f g = refl
 
 test_is : (keys : List Link) (a b : Link) (x y : ℕ) → IsKey keys a x → IsKey keys b y → same_link a b ≡ (x == y)
 test_is keys a b x y h k = same_test (same_link a b) (x == y)
-    (λ e. eq-eqb x y (sym h.1 ∙ ap (λ c. index_of c keys) (link_same a b e) ∙ k.1))
+    (λ e. eq-eqb x y (sym h.1 ∙ ap (λ c. link_index c keys) (link_same a b e) ∙ k.1))
     (λ e. ap (same_link a) (sym (index_one a b keys h.0 k.0 (h.1 ∙ eqb-true x y e ∙ sym k.1))) ∙ link_itself a)
 
-counts_agree : (keys : List Link) (a : Link) (x : ℕ) → IsKey keys a x → (bs : List Link) (ys : List ℕ) → Each (IsKey keys) bs ys → occurs a bs ≡ count x ys
+counts_agree : (keys : List Link) (a : Link) (x : ℕ) → IsKey keys a x → (bs : List Link) (ys : List ℕ) → EachPair (IsKey keys) bs ys → occurs a bs ≡ count x ys
 counts_agree keys a x h [] [] e = refl
 counts_agree keys a x h [] (y ∷ ys) e = absurd e
 counts_agree keys a x h (b ∷ bs) [] e = absurd e
@@ -161,7 +161,7 @@ counts_agree keys a x h (b ∷ bs) (y ∷ ys) e =
     ap (λ t. if t then 1 + occurs a bs else occurs a bs) (test_is keys a b x y h e.0)
     ∙ ap (λ n. if x == y then 1 + n else n) (counts_agree keys a x h bs ys e.1)
 
-pub times_often : (keys : List Link) (a : Link) (x : ℕ) (bs : List Link) (ys : List ℕ) → IsKey keys a x → Each (IsKey keys) bs ys → times a bs ≡ often x ys
+pub times_often : (keys : List Link) (a : Link) (x : ℕ) (bs : List Link) (ys : List ℕ) → IsKey keys a x → EachPair (IsKey keys) bs ys → times_among a bs ≡ often x ys
 times_often keys a x bs ys h e = sym (times_is a bs) ∙ counts_agree keys a x h bs ys e ∙ often_is x ys
 
 -- two of a count that stops at 3
@@ -178,34 +178,34 @@ two_of m = same_test (min 3 (0 + m) == 2) (m == 2)
 
 -- ---- counts of whole lists
 
-pub counts_all : (os : List Occ) (i : ℕ) (a b : List ℕ) → length os ≤ i → Counts (map (λ (o : Occ). o.link) (take i os)) a b → Counts (map (λ (o : Occ). o.link) os) a b
+pub counts_all : (os : List Occ) (i : ℕ) (a b : List ℕ) → length os ≤ i → CountsPlaces (map (λ (o : Occ). o.link) (take i os)) a b → CountsPlaces (map (λ (o : Occ). o.link) os) a b
 counts_all os i a b l h = counts_as _ _ a b (ap (map (λ (o : Occ). o.link)) (take_all i os l)) h
 
-links_append : (xs ys : List base.Leaf) → leaves_links (xs ++ ys) ≡ leaves_links xs ++ leaves_links ys
+links_append : (xs ys : List base.Leaf) → links_of_leaves (xs ++ ys) ≡ links_of_leaves xs ++ links_of_leaves ys
 links_append [] ys = refl
 links_append (x ∷ xs) ys =
-    map-append (λ (o : Occ). o.link) (leaf_occurrences x) (flat_map leaf_occurrences (xs ++ ys))
-    ∙ ap (λ zs. leaf_links x ++ zs) (links_append xs ys)
-    ∙ sym (append_assoc (leaf_links x) (leaves_links xs) (leaves_links ys))
-    ∙ ap (λ zs. zs ++ leaves_links ys) (sym (map-append (λ (o : Occ). o.link) (leaf_occurrences x) (flat_map leaf_occurrences xs)))
+    map-append (λ (o : Occ). o.link) (occurrences_of_leaf x) (flat_map occurrences_of_leaf (xs ++ ys))
+    ∙ ap (λ zs. links_of_leaf x ++ zs) (links_append xs ys)
+    ∙ sym (append_assoc (links_of_leaf x) (links_of_leaves xs) (links_of_leaves ys))
+    ∙ ap (λ zs. zs ++ links_of_leaves ys) (sym (map-append (λ (o : Occ). o.link) (occurrences_of_leaf x) (flat_map occurrences_of_leaf xs)))
 
-links_inside : (ls : List base_level.Level) → leaves_links (flat_map leaves_of ls) ≡ levels_links ls
+links_inside : (ls : List base_level.Level) → links_of_leaves (flat_map leaves_of ls) ≡ links_of_levels ls
 links_inside [] = refl
 links_inside (l ∷ ls) = links_append (leaves_of l) (flat_map leaves_of ls) ∙ ap (λ ys. links_of l ++ ys) (links_inside ls)
 
-links_out : (l : base_level.Level) → links_of l ≡ leaves_links (out-Level l).leaves ++ levels_links (out-Level l).membranes
+links_out : (l : base_level.Level) → links_of l ≡ links_of_leaves (out-Level l).leaves ++ links_of_levels (out-Level l).membranes
 links_out l =
-    ap (λ xs. leaves_links xs) (leaves_apart l) ∙ links_append (out-Level l).leaves (flat_map leaves_of (out-Level l).membranes)
-    ∙ ap (λ ys. leaves_links (out-Level l).leaves ++ ys) (links_inside (out-Level l).membranes)
+    ap (λ xs. links_of_leaves xs) (leaves_apart l) ∙ links_append (out-Level l).leaves (flat_map leaves_of (out-Level l).membranes)
+    ∙ ap (λ ys. links_of_leaves (out-Level l).leaves ++ ys) (links_inside (out-Level l).membranes)
 
 pub counts_out : (ls : List base_level.Level) (i : ℕ) (d x : base_level.Level) (leaves : List base.Leaf) (inside : List base_level.Level) (a b c e : List ℕ) → i < length ls
-    → x ≡ get_or ls i d → leaves ≡ (out-Level x).leaves → inside ≡ (out-Level x).membranes → Counts (levels_links (take i ls)) a b → Counts (leaves_links leaves) b c
-    → Counts (levels_links inside) c e → Counts (levels_links (take (i + 1) ls)) a e
+    → x ≡ get_or ls i d → leaves ≡ (out-Level x).leaves → inside ≡ (out-Level x).membranes → CountsPlaces (links_of_levels (take i ls)) a b → CountsPlaces (links_of_leaves leaves) b c
+    → CountsPlaces (links_of_levels inside) c e → CountsPlaces (links_of_levels (take (i + 1) ls)) a e
 counts_out ls i d x leaves inside a b c e l at f g h k m =
-    let P : List base.Leaf → Type 0 = λ z. Counts (leaves_links z) b c in
-    let Q : List base_level.Level → Type 0 = λ z. Counts (levels_links z) c e in
+    let P : List base.Leaf → Type 0 = λ z. CountsPlaces (links_of_leaves z) b c in
+    let Q : List base_level.Level → Type 0 = λ z. CountsPlaces (links_of_levels z) c e in
     counts_level ls i d x a b e l at h
-    (counts_as _ _ b e (sym (links_out x)) (counts_both (leaves_links (out-Level x).leaves) (levels_links (out-Level x).membranes) b c e (subst P f k) (subst Q g m)))
+    (counts_as _ _ b e (sym (links_out x)) (counts_both (links_of_leaves (out-Level x).leaves) (links_of_levels (out-Level x).membranes) b c e (subst P f k) (subst Q g m)))
 
 -- ---- fresh links
 
@@ -216,7 +216,7 @@ ok_both (Err e) P Q R f p q = tt
 not_fresh : (a : Link) (n : Name) → fresh a ≡ written n → ⊥
 not_fresh a n e = absurd (cc)
 
-pub fresh_one : (r : Reading) (keys : List Link) (a : Link) (n new : ℕ) (s t : Scope) → n ≡ 2 → IsScope r keys s → (In (fresh a) keys → ⊥)
+pub fresh_one : (r : Reading) (keys : List Link) (a : Link) (n new : ℕ) (s t : Scope) → n ≡ 2 → IsScope r keys s → (IsLinkIn (fresh a) keys → ⊥)
     → new ≡ s.count → t.count ≡ s.count + 1 → t.written ≡ s.written → IsFreshOrSame r keys a n new t
 fresh_one r keys a n new s t two h absent number count same = record {
   more = fresh a ∷ [];
@@ -227,7 +227,7 @@ fresh_one r keys a n new s t two h absent number count same = record {
       subst P (sym (eq-eqb n 2 two)) (subst Q (sym (number ∙ h.count)) (key_new keys (fresh a) absent)));
 }
   where
-    is_fresh : (b : Link) → In b (fresh a ∷ []) → b ≡ fresh a
+    is_fresh : (b : Link) → IsLinkIn b (fresh a ∷ []) → b ≡ fresh a
     is_fresh b (inl e) = e
     is_fresh b (inr e) = absurd e
 
@@ -235,7 +235,7 @@ fresh_one r keys a n new s t two h absent number count same = record {
 pub record FreshSoFar (r : Reading) (keys : List Link) (counts : List ℕ) (i : ℕ) (new : List ℕ) (s : Scope) : Type 0 where
   pub more : List Link
   pub scope : IsScope r (keys ++ more) s
-  pub only : (a : Link) → In a more → (b : Link) × (x : ℕ) × (a ≡ fresh b) × IsKey keys b x × (x < i)
+  pub only : (a : Link) → IsLinkIn a more → (b : Link) × (x : ℕ) × (a ≡ fresh b) × IsKey keys b x × (x < i)
   pub size : length new ≡ i
   pub links : (x n : ℕ) (a : Link) → x < i → slice_get counts x ≡ Some n → IsKey keys a x → IsKey (keys ++ more) (if n == 2 then fresh a else a) (new_link new x)
 
@@ -269,7 +269,7 @@ link_there (k ∷ keys) (suc i) l = link_there keys i (omega (arith, l))
 pub fresh_next : (r : Reading) (keys : List Link) (counts new new' : List ℕ) (i number n link : ℕ) (s t : Scope) → IsScope r keys s → NoneFresh keys
     → length counts ≡ length keys → i < length counts → slice_get counts i ≡ Some n → number ≡ i → new' ≡ new ++ link ∷ [] → (s' : Scope)
     → (f : FreshSoFar r keys counts i new s')
-    → ((ks : List Link) (a : Link) → IsScope r ks s' → IsKey ks a number → (In (fresh a) ks → ⊥) → IsFreshOrSame r ks a n link t)
+    → ((ks : List Link) (a : Link) → IsScope r ks s' → IsKey ks a number → (IsLinkIn (fresh a) ks → ⊥) → IsFreshOrSame r ks a n link t)
     → FreshSoFar r keys counts (i + 1) new' t
 fresh_next r keys counts new new' i number n link s t h none size l at same pushed s' f step =
     let here = link_there keys i (omega (arith, l, size)) in
@@ -288,11 +288,11 @@ fresh_next r keys counts new new' i number n link s t h none size l at same push
       links = λ x m b below g k. by a key done x m b g k (cases_lt x i) below;
     }
   where
-    absent : (a : Link) → IsKey keys a i → In (fresh a) keys ⊎ In (fresh a) f.more → ⊥
+    absent : (a : Link) → IsKey keys a i → IsLinkIn (fresh a) keys ⊎ IsLinkIn (fresh a) f.more → ⊥
     absent a key (inl j) = none a j
     absent a key (inr j) = let o = f.only (fresh a) j in
         let same_link : a ≡ o.0 = same_fresh a o.0 o.2 in
-        let at_x : index_of a keys ≡ o.1 = ap (λ c. index_of c keys) same_link ∙ o.3.1 in
+        let at_x : link_index a keys ≡ o.1 = ap (λ c. link_index c keys) same_link ∙ o.3.1 in
         omega (arith, at_x, key.1, o.4)
 
     by : (a : Link) → IsKey keys a i → (done : IsFreshOrSame r (keys ++ f.more) a n link t) → (x m : ℕ) (b : Link) → slice_get counts x ≡ Some m → IsKey keys b x
@@ -328,22 +328,22 @@ zero_there [] x h l = absurd (omega (arith, l))
 zero_there (y ∷ xs) zero h l = ap Some (h 0 0 (omega arith))
 zero_there (y ∷ xs) (suc x) h l = zero_there xs x (λ k d m. h (suc k) d (omega (arith, m))) (omega (arith, l))
 
-pub is_copied : (r : Reading) (keys : List Link) (p : Parts) (kept copy : Part) (zeros counts mid links : List ℕ) (s t : Scope) → IsScope r keys s → IsPart r.names (IsKey keys) p kept
-    → length zeros ≡ s.count → All (λ n. n ≡ 0) zeros → Counts (leaves_links kept.leaves) zeros mid → Counts (levels_links kept.membranes) mid counts
+pub is_copied : (r : Reading) (keys : List Link) (p : Parts) (kept copy : Part) (zeros counts mid links : List ℕ) (s t : Scope) → IsScope r keys s → IsPartOfLevel r.names (IsKey keys) p kept
+    → length zeros ≡ s.count → All (λ n. n ≡ 0) zeros → CountsPlaces (links_of_leaves kept.leaves) zeros mid → CountsPlaces (links_of_levels kept.membranes) mid counts
     → Freshens r keys counts links t
     → copy.leaves ≡ map (renumbered_leaf (new_link links)) kept.leaves → copy.membranes ≡ map (renumbered (new_link links)) kept.membranes
     → copy.contexts ≡ kept.contexts → copy.rule_contexts ≡ kept.rule_contexts → copy.rules ≡ kept.rules
     → Copies r keys p copy t
 is_copied r keys p kept copy zeros counts mid links s t scope h size none one two f a b c d e =
-    let ks = expanded.links_of (level_of p) in
-    let all = leaves_links kept.leaves ++ levels_links kept.membranes in
-    let each : Each (IsKey keys) ks all = each_append (IsKey keys) (expanded.leaves_links p.leaves) (expanded.links_in (levels p.membranes)) (leaves_links kept.leaves)
-    (levels_links kept.membranes) (leaves_links_by r.names (IsKey keys) p.leaves kept.leaves h.leaves)
-    (links_in_by r.names (IsKey keys) (levels p.membranes) kept.membranes (levels_each r.names (IsKey keys) p.membranes kept.membranes h.membranes)) in
-    let counted = counts_both (leaves_links kept.leaves) (levels_links kept.membranes) zeros mid counts one two in
+    let ks = expanded.expanded_links (level_from_parts p) in
+    let all = links_of_leaves kept.leaves ++ links_of_levels kept.membranes in
+    let each : EachPair (IsKey keys) ks all = each_append (IsKey keys) (expanded.expanded_leaves_links p.leaves) (expanded.expanded_links_in (expanded_levels p.membranes)) (links_of_leaves kept.leaves)
+    (links_of_levels kept.membranes) (leaves_links_by r.names (IsKey keys) p.leaves kept.leaves h.leaves)
+    (links_in_by r.names (IsKey keys) (expanded_levels p.membranes) kept.membranes (levels_each r.names (IsKey keys) p.membranes kept.membranes h.membranes)) in
+    let counted = counts_both (links_of_leaves kept.leaves) (links_of_levels kept.membranes) zeros mid counts one two in
     let step : (a : Link) (x : ℕ) → IsKey keys a x → IsKey (keys ++ f.more) (freshened ks a) (new_link links x) = λ a x k. stepped all counted each a x k in
-    let P : List base.Leaf → Type 0 = λ z. Each (IsLeaf r.names (IsKey (keys ++ f.more))) (map (renamed_leaf (freshened ks)) p.leaves) z in
-    let Q : List base_level.Level → Type 0 = λ z. Each (IsLevel r.names (IsKey (keys ++ f.more))) (map (renamed (freshened ks)) p.membranes) z in
+    let P : List base.Leaf → Type 0 = λ z. EachPair (IsLeaf r.names (IsKey (keys ++ f.more))) (map (renamed_leaf (freshened ks)) p.leaves) z in
+    let Q : List base_level.Level → Type 0 = λ z. EachPair (IsLevel r.names (IsKey (keys ++ f.more))) (map (renamed_level (freshened ks)) p.membranes) z in
     let T : Link → ℕ → Type 0 = λ a x. IsKey (keys ++ f.more) (freshened ks a) x in
     record {
       more = f.more;
@@ -352,7 +352,7 @@ is_copied r keys p kept copy zeros counts mid links s t scope h size none one tw
       is_copy = record {
         leaves = subst P (sym a) (renamed_leaves_by r.names T (IsKey (keys ++ f.more)) (freshened ks) (λ a x k. k) p.leaves _
             (renumbered_leaves_by r.names (IsKey keys) T (new_link links) step p.leaves kept.leaves h.leaves));
-        membranes = subst Q (sym b) (each_map (IsLevel r.names (IsKey keys)) (IsLevel r.names (IsKey (keys ++ f.more))) (renamed (freshened ks)) (renumbered (new_link links))
+        membranes = subst Q (sym b) (each_map (IsLevel r.names (IsKey keys)) (IsLevel r.names (IsKey (keys ++ f.more))) (renamed_level (freshened ks)) (renumbered (new_link links))
             (λ l x g. renamed_by r.names T (IsKey (keys ++ f.more)) (freshened ks) (λ a x k. k) l _ (renumbered_by r.names (IsKey keys) T (new_link links) step l x g))
             p.membranes kept.membranes h.membranes);
         contexts = c ∙ h.contexts;
@@ -361,19 +361,19 @@ is_copied r keys p kept copy zeros counts mid links s t scope h size none one tw
       };
     }
   where
-    stepped : (all : List ℕ) → Counts all zeros counts → (let ks = expanded.links_of (level_of p) in Each (IsKey keys) ks all)
-        → (a : Link) (x : ℕ) → IsKey keys a x → (let ks = expanded.links_of (level_of p) in IsKey (keys ++ f.more) (freshened ks a) (new_link links x))
+    stepped : (all : List ℕ) → CountsPlaces all zeros counts → (let ks = expanded.expanded_links (level_from_parts p) in EachPair (IsKey keys) ks all)
+        → (a : Link) (x : ℕ) → IsKey keys a x → (let ks = expanded.expanded_links (level_from_parts p) in IsKey (keys ++ f.more) (freshened ks a) (new_link links x))
     stepped all counted each a x k =
-        let ks = expanded.links_of (level_of p) in
+        let ks = expanded.expanded_links (level_from_parts p) in
         let l : x < length zeros = omega (arith, size, scope.count, index_below a keys k.0, k.1) in
         let n = counted.counted x 0 (zero_there zeros x none l) (omega arith) in
-        let same : (min 3 (0 + often x all) == 2) ≡ (times a ks == 2) = two_of (often x all) ∙ ap (λ m. m == 2) (sym (times_often keys a x ks all k each)) in
+        let same : (min 3 (0 + often x all) == 2) ≡ (times_among a ks == 2) = two_of (often x all) ∙ ap (λ m. m == 2) (sym (times_often keys a x ks all k each)) in
         let P : Bool → Type 0 = λ z. IsKey (keys ++ f.more) (if z then fresh a else a) (new_link links x) in
         subst P same (f.links x (min 3 (0 + often x all)) a n k)
 
 pub copied_by : (r : Reading) (keys : List Link) (p : Parts) (kept copy : Part) (zeros mid counts seen links links1 links2 : List ℕ) (s t : Scope) → IsScope r keys s → NoneFresh keys
-    → IsPart r.names (IsKey keys) p kept → length zeros ≡ s.count → All (λ n. n ≡ 0) zeros → Counts (leaves_links kept.leaves) zeros mid
-    → Counts (levels_links kept.membranes) mid counts → seen ≡ counts
+    → IsPartOfLevel r.names (IsKey keys) p kept → length zeros ≡ s.count → All (λ n. n ≡ 0) zeros → CountsPlaces (links_of_leaves kept.leaves) zeros mid
+    → CountsPlaces (links_of_levels kept.membranes) mid counts → seen ≡ counts
     → ((r : Reading) (keys : List Link) → IsScope r keys s → NoneFresh keys → length seen ≡ length keys → Freshens r keys seen links t)
     → links1 ≡ links → links2 ≡ links
     → copy.leaves ≡ map (renumbered_leaf (new_link links1)) kept.leaves → copy.membranes ≡ map (renumbered (new_link links2)) kept.membranes

@@ -18,15 +18,15 @@ use Rattle.lmn_lexer.specs.declared.token.Kind.{Kind}
 use Rattle.lmn_lexer.specs.declared.token.Kind.TheVariants.{Name, Quoted, Mod, Link, Int, Context, RuleCtx, End}
 use Rattle.lmn_lexer.specs.declared.token.Token.{Token}
 use Rattle.lmn_lexer.specs.Cutting.{Cuts, token_at}
-use Rattle.lmn_lexer.specs.Laying.{Word, word_of, words_of, end_word}
+use Rattle.lmn_lexer.specs.Laying.{Word, word_of, words_of, last_word}
 use Rattle.lmn_lexer.specs.Faults.{TokenFault, integer_out_of_range, long_name, floating_point, NothingWrong}
 use Rattle.lmn_lexer.specs.Spelling.{Spells, IsQuoted}
 use Rattle.lmn_lexer.specs.Values.{bytes_of, IsSound}
 use Rattle.lmn_lexer.proofs.SoundTokens.{tokens_are_sound}
 use Rattle.lmn_plain.specs.Meanings.{label_spelled, word_at, label_at, nowhere}
-use Rattle.lmn_plain.specs.Plains.{Each, number_of, numbered_label}
+use Rattle.lmn_plain.specs.Plains.{EachPair, number_of, numbered_label}
 use Rattle.lmn_plain.proofs.LabelWords.{quoted_name}
-use Rattle.lmn_plain.proofs.Ranges.{at_most, in_range}
+use Rattle.lmn_plain.proofs.Ranges.{in_range}
 use Rattle.lmn_base.specs.declared.memory.NoMemory.{NoMemory}
 use Rattle.lmn_expand.specs.Glossaries.{Reading, IsLabel, IsMeaning, IsGlossary, AreEntries, HasEntries, IsRightWord, IsRightToken, GrowsBy, reading_of}
 use Rattle.lmn_expand.specs.NameLists.{names_read, with_name, with_word, with_words}
@@ -36,6 +36,8 @@ use Rattle.lmn_expand.specs.declared.glossary.Meaning.{Meaning}
 use Rattle.lmn_expand.specs.declared.glossary.Meaning.TheVariants as meaning
 use Rattle.lmn_expand.proofs.EachLemmas.{each_append, each_at, each_by, each_length}
 use Rattle.lmn_expand.proofs.ScopeLemmas.{one_place}
+use Rattle.lmn_base.proofs.Lists.{get_there as some_at}
+use Rattle.lmn_base.proofs.Numbers.{at_most_by_not as at_most}
 
 -- ---- numbers of names
 
@@ -203,7 +205,7 @@ pub record SoFar (text : List ℕ) (names0 names links0 links : List tree.Name) 
   pub names_grown : GrowsBy i names0 names
   pub names_are : names ≡ with_words names0 (words_of text done)
   pub links_grown : GrowsBy i links0 links
-  pub entries : Each (IsEntry text names links) done es
+  pub entries : EachPair (IsEntry text names links) done es
 
 pub meaning_grown : {m n : ℕ} (names names' links links' : List tree.Name) (w : Word) (x : Meaning) → GrowsBy m names names' → GrowsBy n links links'
     → IsMeaning names links w x → IsMeaning names' links' w x
@@ -220,9 +222,9 @@ pub so_far_next : (text : List ℕ) (names0 names names' links0 links links' : L
     → names' ≡ with_word names (word_of text t) → IsMeaning names' links' (word_of text t) m → e ≡ record { meaning = m; pos = t.pos } → es' ≡ es ++ e ∷ []
     → SoFar text names0 names' links0 links' (i + 1) (take (i + 1) tokens) es'
 so_far_next text names0 names names' links0 links links' i tokens d t es es' m e l at h g k put is same pushed =
-    let P : Token → Type 0 = λ z. Each (IsEntry text names' links') (take i tokens ++ z ∷ []) (es ++ e ∷ []) in
-    let Q : List Token → Type 0 = λ z. Each (IsEntry text names' links') z (es ++ e ∷ []) in
-    let R : List Entry → Type 0 = λ z. Each (IsEntry text names' links') (take (i + 1) tokens) z in
+    let P : Token → Type 0 = λ z. EachPair (IsEntry text names' links') (take i tokens ++ z ∷ []) (es ++ e ∷ []) in
+    let Q : List Token → Type 0 = λ z. EachPair (IsEntry text names' links') z (es ++ e ∷ []) in
+    let R : List Entry → Type 0 = λ z. EachPair (IsEntry text names' links') (take (i + 1) tokens) z in
     let S : Entry → Type 0 = IsEntry text names' links' t in
     record {
       names_grown = grows_more names0 names names' h.names_grown g;
@@ -239,13 +241,7 @@ map_at f [] p x d h = absurd (let l = slice_get_within [] p x h in omega arith)
 map_at f (y ∷ xs) zero x d h = ap f (same_Some y x h)
 map_at f (y ∷ xs) (suc p) x d h = map_at f xs p x d h
 
--- what stands at a place of a list
-pub some_at : {A : Type 0} (xs : List A) (p : ℕ) → p < length xs → (x : A) × (slice_get xs p ≡ Some x)
-some_at [] p l = absurd (omega (arith, l))
-some_at (x ∷ xs) zero l = (x, refl)
-some_at (x ∷ xs) (suc p) l = some_at xs p (omega (arith, l))
-
-pub are_entries : (text : List ℕ) (tokens : List Token) (names links : List tree.Name) (es : List Entry) → Each (IsEntry text names links) tokens es
+pub are_entries : (text : List ℕ) (tokens : List Token) (names links : List tree.Name) (es : List Entry) → EachPair (IsEntry text names links) tokens es
     → AreEntries (reading_of text tokens names links) es
 are_entries text tokens names links es h p e at =
     let there = some_at tokens p (omega (arith, slice_get_within es p e at, each_length (IsEntry text names links) tokens es h)) in
@@ -253,13 +249,13 @@ are_entries text tokens names links es h p e at =
     let is = each_at (IsEntry text names links) tokens es p t e h there.1 at in
     let P : Word → Type 0 = λ w. IsMeaning names links w e.meaning in (
       is.0 ∙ sym (map_at (λ (t : Token). t.pos) tokens p t nowhere there.1),
-      subst P (sym (map_at (word_of text) tokens p t end_word there.1)) is.1,
+      subst P (sym (map_at (word_of text) tokens p t last_word there.1)) is.1,
     )
 
 pub has_entries : (text : List ℕ) (tokens : List Token) (names0 names links0 links : List tree.Name) (i : ℕ) (es : List Entry) → length tokens ≤ i
     → IsNames names → IsNames links → SoFar text names0 names links0 links i (take i tokens) es → HasEntries text tokens names es
 has_entries text tokens names0 names links0 links i es l n k h =
-    let P : List Token → Type 0 = λ z. Each (IsEntry text names links) z es in
+    let P : List Token → Type 0 = λ z. EachPair (IsEntry text names links) z es in
     (links, n, k, are_entries text tokens names links es (subst P (take_all i tokens l) h.entries))
 
 pub names_done : (text : List ℕ) (tokens : List Token) (names0 names links0 links : List tree.Name) (i : ℕ) (es : List Entry) → length tokens ≤ i
@@ -268,7 +264,7 @@ names_done text tokens names0 names links0 links i es l h = h.names_are ∙ ap (
 
 pub nothing_so_far : (text : List ℕ) (names links : List tree.Name) (tokens : List Token) (es : List Entry) → es ≡ [] → SoFar text names names links links 0 (take 0 tokens) es
 nothing_so_far text names links tokens es e =
-    let P : List Entry → Type 0 = λ z. Each (IsEntry text names links) [] z in
+    let P : List Entry → Type 0 = λ z. EachPair (IsEntry text names links) [] z in
     record { names_grown = grows_not names; names_are = refl; links_grown = grows_not links; entries = subst P (sym e) tt }
 
 pub put_grows : (old new : List tree.Name) (name : tree.Name) (r : Result ℕ NoMemory) → OnOk r (Contains old name → new ≡ old)

@@ -6,27 +6,28 @@ use Rattle.lmn_base.specs.declared.level.Leaf as base
 use Rattle.lmn_base.specs.declared.level.Level as base_level
 use Rattle.lmn_base.specs.declared.rule.RuleTree.{RuleTree}
 use Rattle.lmn_congruence.specs.Rules as tree
-use Rattle.lmn_plain.specs.Keys.{In, IsKey}
+use Rattle.lmn_plain.specs.Keys.{IsLinkIn, IsKey}
 use Rattle.lmn_plain.specs.Links.{Link, written, made, fresh}
-use Rattle.lmn_plain.specs.Expanded.{Leaf, Rule}
-use Rattle.lmn_plain.specs.Parts.{Parts, Numbered, joined, ◌⊕◌, one_leaf}
-use Rattle.lmn_plain.specs.Plains.{Each, IsRuleOf, numbered_context}
+use Rattle.lmn_plain.specs.Expanded.{ExpandedLeaf, ExpandedRule}
+use Rattle.lmn_plain.specs.Parts.{Parts, NumberedParts, joined_parts, ◌⊕◌, one_leaf}
+use Rattle.lmn_plain.specs.Plains.{EachPair, IsRuleOf, numbered_context}
 use Rattle.lmn_plain.proofs.SomeNumbers.{in_front, index_front}
-use Rattle.lmn_expand.specs.Built.{IsLeaf, IsLevel, IsPart, AddsLeaf, no_items, with_items}
+use Rattle.lmn_expand.specs.Built.{IsLeaf, IsLevel, IsPartOfLevel, AddsLeaf, no_items, with_items}
 use Rattle.lmn_expand.specs.Glossaries.{Reading}
-use Rattle.lmn_expand.specs.Growing.{Grows}
-use Rattle.lmn_expand.specs.Scopes.{IsScope, IsOf, Clear, Meets}
+use Rattle.lmn_expand.specs.Growing.{GrowsPart}
+use Rattle.lmn_expand.specs.Scopes.{IsScope, IsWrittenOrMade, Clear, Meets}
 use Rattle.lmn_expand.specs.declared.part.Part.{Part}
 use Rattle.lmn_expand.specs.declared.scope.Scope.{Scope}
 use Rattle.lmn_expand.proofs.EachLemmas.{each_append, each_by, each_length}
 use Rattle.lmn_expand.proofs.BuiltLemmas.{leaves_by, level_by}
+use Rattle.lmn_base.proofs.Lists.{joined_alike}
 
 -- ---- keys
 
 pub key_more : (keys more : List Link) (a : Link) (x : ℕ) → IsKey keys a x → IsKey (keys ++ more) a x
 key_more keys more a x h = (in_front a keys more h.0, index_front a keys more h.0 ∙ h.1)
 
-pub in_either : (a : Link) (xs ys : List Link) → In a (xs ++ ys) → In a xs ⊎ In a ys
+pub in_either : (a : Link) (xs ys : List Link) → IsLinkIn a (xs ++ ys) → IsLinkIn a xs ⊎ IsLinkIn a ys
 in_either a [] ys h = inr h
 in_either a (x ∷ xs) ys (inl e) = inl (inl e)
 in_either a (x ∷ xs) ys (inr h) = elim (in_either a xs ys h) [
@@ -34,7 +35,7 @@ in_either a (x ∷ xs) ys (inr h) = elim (in_either a xs ys h) [
   | inr i ↦ inr i
 ]
 
-pub of_more : (Z Y : List ℕ → Type 0) → ((v : List ℕ) → Z v → Y v) → (a : Link) → IsOf Z a → IsOf Y a
+pub of_more : (Z Y : List ℕ → Type 0) → ((v : List ℕ) → Z v → Y v) → (a : Link) → IsWrittenOrMade Z a → IsWrittenOrMade Y a
 of_more Z Y f (written n) h = tt
 of_more Z Y f (made v) h = f v h
 of_more Z Y f (fresh a) h = h
@@ -75,7 +76,7 @@ clear_after r Z Y X keys s f apart c m v i x = elim (in_either (made v) keys m.m
 -- ---- items
 
 pub part_by : (names : List tree.Name) (R S : Link → ℕ → Type 0) → ((a : Link) (x : ℕ) → R a x → S a x) → (p : Parts) (x : Part)
-    → IsPart names R p x → IsPart names S p x
+    → IsPartOfLevel names R p x → IsPartOfLevel names S p x
 part_by names R S more p x h = record {
   leaves = leaves_by names R S more p.leaves x.leaves h.leaves;
   membranes = each_by (IsLevel names R) (IsLevel names S) (level_by names R S more) p.membranes x.membranes h.membranes;
@@ -84,17 +85,14 @@ part_by names R S more p x h = record {
   rules = h.rules;
 }
 
-two : {A : Type 0} (vs bs cs ds : List A) → vs ≡ bs → cs ≡ ds → vs ++ cs ≡ bs ++ ds
-two vs bs cs ds a b = ap (λ x. x ++ cs) a ∙ ap (λ x. bs ++ x) b
-
-pub part_joined : (names : List tree.Name) (R : Link → ℕ → Type 0) (p q : Parts) (x y : Part) → IsPart names R p x → IsPart names R q y
-    → IsPart names R (joined p q) (with_items x y)
+pub part_joined : (names : List tree.Name) (R : Link → ℕ → Type 0) (p q : Parts) (x y : Part) → IsPartOfLevel names R p x → IsPartOfLevel names R q y
+    → IsPartOfLevel names R (joined_parts p q) (with_items x y)
 part_joined names R p q x y h g = record {
   leaves = each_append (IsLeaf names R) p.leaves q.leaves x.leaves y.leaves h.leaves g.leaves;
   membranes = each_append (IsLevel names R) p.membranes q.membranes x.membranes y.membranes h.membranes g.membranes;
-  contexts = two x.contexts _ y.contexts _ h.contexts g.contexts ∙ sym (map-append (numbered_context names (λ a. 0)) p.contexts q.contexts);
-  rule_contexts = two x.rule_contexts _ y.rule_contexts _ h.rule_contexts g.rule_contexts ∙ sym (map-append (numbered_context names (λ a. 0)) p.rule_contexts q.rule_contexts);
-  rules = two x.rules _ y.rules _ h.rules g.rules;
+  contexts = joined_alike h.contexts g.contexts ∙ sym (map-append (numbered_context names (λ a. 0)) p.contexts q.contexts);
+  rule_contexts = joined_alike h.rule_contexts g.rule_contexts ∙ sym (map-append (numbered_context names (λ a. 0)) p.rule_contexts q.rule_contexts);
+  rules = joined_alike h.rules g.rules;
 }
 
 abbrev items_as : List base.Leaf → List base_level.Level → List CtxUse → List CtxUse → List ℕ → Part
@@ -119,8 +117,8 @@ no_more_items x = part_is _ _ (sym (append-nil x.leaves)) (sym (append-nil x.mem
 -- ---- growing
 
 module _ (r : Reading) where
-  abbrev pub grows_more : (Z Y : List ℕ → Type 0) (keys : List Link) (f : Numbered) (part : Part) (table : List RuleTree) (part1 : Part) (table1 : List RuleTree) (s : Scope)
-      → ((v : List ℕ) → Z v → Y v) → Grows r Z keys f part table part1 table1 s → Grows r Y keys f part table part1 table1 s
+  abbrev pub grows_more : (Z Y : List ℕ → Type 0) (keys : List Link) (f : NumberedParts) (part : Part) (table : List RuleTree) (part1 : Part) (table1 : List RuleTree) (s : Scope)
+      → ((v : List ℕ) → Z v → Y v) → GrowsPart r Z keys f part table part1 table1 s → GrowsPart r Y keys f part table part1 table1 s
   grows_more Z Y keys f part table part1 table1 s h g = record {
     meets = meets_more r Z Y keys s h g.meets;
     items = g.items;
@@ -132,40 +130,40 @@ module _ (r : Reading) where
   }
 
   -- another form of the parts
-  abbrev pub grows_as : (Z : List ℕ → Type 0) (keys : List Link) (f g : Numbered) (part : Part) (table : List RuleTree) (part1 : Part) (table1 : List RuleTree) (s : Scope)
-      → f (length table) ≡ g (length table) → Grows r Z keys f part table part1 table1 s → Grows r Z keys g part table part1 table1 s
+  abbrev pub grows_as : (Z : List ℕ → Type 0) (keys : List Link) (f g : NumberedParts) (part : Part) (table : List RuleTree) (part1 : Part) (table1 : List RuleTree) (s : Scope)
+      → f (length table) ≡ g (length table) → GrowsPart r Z keys f part table part1 table1 s → GrowsPart r Z keys g part table part1 table1 s
   grows_as Z keys f g part table part1 table1 s e h = record {
     meets = h.meets;
     items = h.items;
     rules = h.rules;
-    are_items = let P : Parts → Type 0 = λ p. IsPart r.names (IsKey (keys ++ h.meets.more)) p h.items in subst P e h.are_items;
-    are_rules = let P : Parts → Type 0 = λ p. Each (IsRuleOf r.words r.places r.names) p.table h.rules in subst P e h.are_rules;
+    are_items = let P : Parts → Type 0 = λ p. IsPartOfLevel r.names (IsKey (keys ++ h.meets.more)) p h.items in subst P e h.are_items;
+    are_rules = let P : Parts → Type 0 = λ p. EachPair (IsRuleOf r.words r.places r.names) p.table h.rules in subst P e h.are_rules;
     part_grown = h.part_grown;
     table_grown = h.table_grown;
   }
 
   -- items alone, whose links are known
-  pub grows_items : (Z : List ℕ → Type 0) (keys : List Link) (f : Numbered) (part : Part) (table : List RuleTree) (part1 : Part) (s : Scope) (items : Part)
-      → IsScope r keys s → IsPart r.names (IsKey keys) (f (length table)) items → (let p = f (length table) in p.table ≡ []) → part1 ≡ with_items part items
-      → Grows r Z keys f part table part1 table s
+  pub grows_items : (Z : List ℕ → Type 0) (keys : List Link) (f : NumberedParts) (part : Part) (table : List RuleTree) (part1 : Part) (s : Scope) (items : Part)
+      → IsScope r keys s → IsPartOfLevel r.names (IsKey keys) (f (length table)) items → (let p = f (length table) in p.table ≡ []) → part1 ≡ with_items part items
+      → GrowsPart r Z keys f part table part1 table s
   grows_items Z keys f part table part1 s items scope are none grown = record {
     meets = meets_nothing r Z keys s scope;
     items = items;
     rules = [];
-    are_items = let P : List Link → Type 0 = λ ks. IsPart r.names (IsKey ks) (f (length table)) items in subst P (sym (append-nil keys)) are;
-    are_rules = let P : List Rule → Type 0 = λ t. Each (IsRuleOf r.words r.places r.names) t [] in subst P (sym none) tt;
+    are_items = let P : List Link → Type 0 = λ ks. IsPartOfLevel r.names (IsKey ks) (f (length table)) items in subst P (sym (append-nil keys)) are;
+    are_rules = let P : List ExpandedRule → Type 0 = λ t. EachPair (IsRuleOf r.words r.places r.names) t [] in subst P (sym none) tt;
     part_grown = grown;
     table_grown = sym (append-nil table);
   }
 
   pub grows_nothing : (Z : List ℕ → Type 0) (keys : List Link) (part : Part) (table : List RuleTree) (s : Scope) → IsScope r keys s
-      → Grows r Z keys (λ k. record { leaves = []; membranes = []; contexts = []; rule_contexts = []; rules = []; table = [] }) part table part table s
+      → GrowsPart r Z keys (λ k. record { leaves = []; membranes = []; contexts = []; rule_contexts = []; rules = []; table = [] }) part table part table s
   grows_nothing Z keys part table s scope =
       grows_items Z keys _ part table part s no_items scope (record { leaves = tt; membranes = tt; contexts = refl; rule_contexts = refl; rules = refl }) refl
       (no_more_items part)
 
-  pub grows_leaf : (Z : List ℕ → Type 0) (keys : List Link) (l : Leaf) (part : Part) (table : List RuleTree) (part1 : Part) (s : Scope)
-      → IsScope r keys s → AddsLeaf r.names (IsKey keys) l part part1 → Grows r Z keys (one_leaf l) part table part1 table s
+  pub grows_leaf : (Z : List ℕ → Type 0) (keys : List Link) (l : ExpandedLeaf) (part : Part) (table : List RuleTree) (part1 : Part) (s : Scope)
+      → IsScope r keys s → AddsLeaf r.names (IsKey keys) l part part1 → GrowsPart r Z keys (one_leaf l) part table part1 table s
   grows_leaf Z keys l part table part1 s scope h =
       grows_items Z keys (one_leaf l) part table part1 s (record { leaves = h.leaf ∷ []; membranes = []; contexts = []; rule_contexts = []; rules = [] }) scope
       (record { leaves = (h.is_leaf, tt); membranes = tt; contexts = refl; rule_contexts = refl; rules = refl }) refl
@@ -173,26 +171,26 @@ module _ (r : Reading) where
       (h.rule_contexts ∙ sym (append-nil part.rule_contexts)) (h.rules ∙ sym (append-nil part.rules)))
 
   -- the part of the table that is added has as many rules as the tree has there
-  pub table_length : (Z : List ℕ → Type 0) (keys : List Link) (f : Numbered) (part : Part) (table : List RuleTree) (part1 : Part) (table1 : List RuleTree) (s : Scope)
-      → Grows r Z keys f part table part1 table1 s → (let p = f (length table) in length table1 ≡ length table + length p.table)
+  pub table_length : (Z : List ℕ → Type 0) (keys : List Link) (f : NumberedParts) (part : Part) (table : List RuleTree) (part1 : Part) (table1 : List RuleTree) (s : Scope)
+      → GrowsPart r Z keys f part table part1 table1 s → (let p = f (length table) in length table1 ≡ length table + length p.table)
   table_length Z keys f part table part1 table1 s h =
       let p = f (length table) in
       ap length h.table_grown ∙ length-append table h.rules ∙ ap (λ n. length table + n) (each_length (IsRuleOf r.words r.places r.names) p.table h.rules h.are_rules)
 
   -- one part and then another
-  abbrev pub grows_both : (Z Y X : List ℕ → Type 0) (keys : List Link) (f g : Numbered) (part : Part) (table : List RuleTree) (part1 : Part) (table1 : List RuleTree) (s : Scope)
+  abbrev pub grows_both : (Z Y X : List ℕ → Type 0) (keys : List Link) (f g : NumberedParts) (part : Part) (table : List RuleTree) (part1 : Part) (table1 : List RuleTree) (s : Scope)
       (part2 : Part) (table2 : List RuleTree) (t : Scope) → ((v : List ℕ) → Z v → X v) → ((v : List ℕ) → Y v → X v)
-      → (h : Grows r Z keys f part table part1 table1 s) → (let m = h.meets in Grows r Y (keys ++ m.more) g part1 table1 part2 table2 t)
-      → Grows r X keys (f ⊕ g) part table part2 table2 t
+      → (h : GrowsPart r Z keys f part table part1 table1 s) → (let m = h.meets in GrowsPart r Y (keys ++ m.more) g part1 table1 part2 table2 t)
+      → GrowsPart r X keys (f ⊕ g) part table part2 table2 t
   grows_both Z Y X keys f g part table part1 table1 s part2 table2 t zs ys h k =
       let m = h.meets in
       let n = k.meets in
       let p = f (length table) in
       let more : (a : Link) (x : ℕ) → IsKey (keys ++ m.more) a x → IsKey ((keys ++ m.more) ++ n.more) a x = λ a x i. key_more (keys ++ m.more) n.more a x i in
       let e = table_length Z keys f part table part1 table1 s h in
-      let P : ℕ → Type 0 = λ i. IsPart r.names (IsKey ((keys ++ m.more) ++ n.more)) (g i) k.items in
-      let Q : List Link → Type 0 = λ ks. IsPart r.names (IsKey ks) (joined p (g (length table + length p.table))) (with_items h.items k.items) in
-      let T : ℕ → Type 0 = λ i. let q = g i in Each (IsRuleOf r.words r.places r.names) q.table k.rules in
+      let P : ℕ → Type 0 = λ i. IsPartOfLevel r.names (IsKey ((keys ++ m.more) ++ n.more)) (g i) k.items in
+      let Q : List Link → Type 0 = λ ks. IsPartOfLevel r.names (IsKey ks) (joined_parts p (g (length table + length p.table))) (with_items h.items k.items) in
+      let T : ℕ → Type 0 = λ i. let q = g i in EachPair (IsRuleOf r.words r.places r.names) q.table k.rules in
       let q = g (length table + length p.table) in
       record {
         meets = meets_both r Z Y X keys s t zs ys m n;
@@ -207,13 +205,13 @@ module _ (r : Reading) where
       }
 
   -- what is added once more links are met
-  pub grows_after : (Z Y X : List ℕ → Type 0) (keys : List Link) (f : Numbered) (part : Part) (table : List RuleTree) (s : Scope)
+  pub grows_after : (Z Y X : List ℕ → Type 0) (keys : List Link) (f : NumberedParts) (part : Part) (table : List RuleTree) (s : Scope)
       (part2 : Part) (table2 : List RuleTree) (t : Scope) → ((v : List ℕ) → Z v → X v) → ((v : List ℕ) → Y v → X v)
-      → (m : Meets r Z keys s) → Grows r Y (keys ++ m.more) f part table part2 table2 t
-      → Grows r X keys f part table part2 table2 t
+      → (m : Meets r Z keys s) → GrowsPart r Y (keys ++ m.more) f part table part2 table2 t
+      → GrowsPart r X keys f part table part2 table2 t
   grows_after Z Y X keys f part table s part2 table2 t zs ys m k =
       let n = k.meets in
-      let Q : List Link → Type 0 = λ ks. IsPart r.names (IsKey ks) (f (length table)) k.items in
+      let Q : List Link → Type 0 = λ ks. IsPartOfLevel r.names (IsKey ks) (f (length table)) k.items in
       record {
         meets = meets_both r Z Y X keys s t zs ys m n;
         items = k.items;

@@ -10,11 +10,11 @@ use Rattle.std.proofs.lemmas.Map.Lookups.{exact_unsigned}
 use Rattle.std.proofs.lemmas.Option.{same_Some, slice_get_within, get_or_from_slice_get}
 use Rattle.lmn_base.specs.Names.{IsNames}
 use Rattle.lmn_congruence.specs.Rules.{Name}
-use Rattle.lmn_plain.specs.Keys.{In, IsKey}
+use Rattle.lmn_plain.specs.Keys.{IsLinkIn, IsKey}
 use Rattle.lmn_plain.specs.Links.{Link, written, made}
 use Rattle.lmn_plain.proofs.SomeNumbers.{in_last, index_last}
 use Rattle.lmn_expand.specs.Glossaries.{Reading}
-use Rattle.lmn_expand.specs.Scopes.{IsScope, IsOf, Meets, NoWay}
+use Rattle.lmn_expand.specs.Scopes.{IsScope, IsWrittenOrMade, Meets, NoWay}
 use Rattle.lmn_expand.specs.declared.scope.Scope.{Scope}
 use Rattle.lmn_expand.proofs.GrowingLemmas.{key_more, in_either, meets_nothing}
 use Rattle.lmn_plain.proofs.ReadBack.{written_same}
@@ -29,11 +29,11 @@ at_end (k ∷ keys) a b (suc x) h = elim (at_end keys a b x h) [
   | inr g ↦ inr (ap suc g.0, g.1)
 ]
 
-pub key_new : (keys : List Link) (a : Link) → (In a keys → ⊥) → IsKey (keys ++ a ∷ []) a (length keys)
+pub key_new : (keys : List Link) (a : Link) → (IsLinkIn a keys → ⊥) → IsKey (keys ++ a ∷ []) a (length keys)
 key_new keys a h = (in_last a keys [], index_last a keys [] h)
 
 -- one more link, which isn't written
-pub scope_new : (r : Reading) (keys : List Link) (s t : Scope) (a : Link) → IsScope r keys s → (In a keys → ⊥) → ((n : Name) → a ≡ written n → ⊥)
+pub scope_new : (r : Reading) (keys : List Link) (s t : Scope) (a : Link) → IsScope r keys s → (IsLinkIn a keys → ⊥) → ((n : Name) → a ≡ written n → ⊥)
     → t.count ≡ s.count + 1 → t.written ≡ s.written → IsScope r (keys ++ a ∷ []) t
 scope_new r keys s t a h absent other count same = record {
   count = omega (arith, count, h.count, length-append keys (a ∷ []));
@@ -52,7 +52,7 @@ scope_new r keys s t a h absent other count same = record {
 }
 
 -- the next number is that of a link which is made at a way
-pub next_made : (r : Reading) (keys : List Link) (s t : Scope) (way : List ℕ) (x : ℕ) → IsScope r keys s → (In (made way) keys → ⊥)
+pub next_made : (r : Reading) (keys : List Link) (s t : Scope) (way : List ℕ) (x : ℕ) → IsScope r keys s → (IsLinkIn (made way) keys → ⊥)
     → x ≡ s.count → t.count ≡ s.count + 1 → t.written ≡ s.written
     → (m : Meets r (λ v. v ≡ way) keys t) × IsKey (keys ++ m.more) (made way) x
 next_made r keys s t way x h absent number count same = (
@@ -67,8 +67,8 @@ next_made r keys s t way x h absent number count same = (
     not_written : (v : List ℕ) (n : Name) → made v ≡ written n → ⊥
     not_written v n e = absurd (cc)
 
-    is_made : (a : Link) → In a (made way ∷ []) → IsOf (λ v. v ≡ way) a
-    is_made a (inl e) = let P : Link → Type 0 = IsOf (λ v. v ≡ way) in subst P (sym e) refl
+    is_made : (a : Link) → IsLinkIn a (made way ∷ []) → IsWrittenOrMade (λ v. v ≡ way) a
+    is_made a (inl e) = let P : Link → Type 0 = IsWrittenOrMade (λ v. v ≡ way) in subst P (sym e) refl
     is_made a (inr e) = absurd e
 
 -- a link that was met before
@@ -131,7 +131,7 @@ met_first r keys s t u k x n names h g none number count same same_count up =
       new,
     )
   where
-    key_here : (In (written n) keys → ⊥) → IsKey (keys ++ written n ∷ []) (written n) x
+    key_here : (IsLinkIn (written n) keys → ⊥) → IsKey (keys ++ written n ∷ []) (written n) x
     key_here absent = let Q : ℕ → Type 0 = λ y. IsKey (keys ++ written n ∷ []) (written n) y in
         subst Q (sym (number ∙ h.count)) (key_new keys (written n) absent)
 
@@ -149,7 +149,7 @@ met_first r keys s t u k x n names h g none number count same same_count up =
       | inr f ↦ key_more keys (written n ∷ []) (written o) y (h.found j y o (before j (Some y) f.1 e) i)
     ]
 
-    none_there : (j : ℕ) (o : Name) → get nat_cmp u.written j ≡ None → slice_get r.links j ≡ Some o → In (written o) (keys ++ written n ∷ []) → ⊥
+    none_there : (j : ℕ) (o : Name) → get nat_cmp u.written j ≡ None → slice_get r.links j ≡ Some o → IsLinkIn (written o) (keys ++ written n ∷ []) → ⊥
     none_there j o e i l = elim (updated t.written u.written k x j up) [
       | inl f ↦ some_none (sym f.1 ∙ e)
       | inr f ↦ elim (in_either (written o) keys (written n ∷ []) l) [
@@ -164,6 +164,6 @@ met_first r keys s t u k x n names h g none number count same same_count up =
         some_none : Some x ≡ None → ⊥
         some_none z = absurd (cc)
 
-    is_written : (a : Link) → In a (written n ∷ []) → IsOf NoWay a
-    is_written a (inl e) = let P : Link → Type 0 = IsOf NoWay in subst P (sym e) tt
+    is_written : (a : Link) → IsLinkIn a (written n ∷ []) → IsWrittenOrMade NoWay a
+    is_written a (inl e) = let P : Link → Type 0 = IsWrittenOrMade NoWay in subst P (sym e) tt
     is_written a (inr e) = absurd e

@@ -14,11 +14,11 @@ use Rattle.lmn_parser.specs.declared.tree.Term.TheVariants as term_variant
 use Rattle.lmn_parser.specs.Syntax.{Terms, no_term, term_and, term_of}
 use Rattle.lmn_parser.proofs.Nodes.{term_link, term_atom, term_list, term_list_onto, term_context, term_membrane}
 use Rattle.lmn_plain.specs.Expanded.{atom_leaf, typed_leaf}
-use Rattle.lmn_plain.specs.Expansion.{argument, link_at, rest}
+use Rattle.lmn_plain.specs.Expansion.{argument, written_link, rest}
 use Rattle.lmn_plain.specs.Keys.{IsKey}
 use Rattle.lmn_plain.specs.Links.{Link, Use, made}
 use Rattle.lmn_plain.specs.Meanings.{name_at, place_at}
-use Rattle.lmn_plain.specs.Plains.{Each, number_of, numbered_label}
+use Rattle.lmn_plain.specs.Plains.{EachPair, number_of, numbered_label}
 use Rattle.lmn_expand.specs.Built.{IsUse, AddsLeaf}
 use Rattle.lmn_expand.specs.Glossaries.{Reading}
 use Rattle.lmn_expand.specs.Growing.{some_term}
@@ -29,7 +29,7 @@ use Rattle.lmn_expand.proofs.EachLemmas.{each_length}
 use Rattle.lmn_expand.proofs.GrowingLemmas.{meets_more, meets_nothing, key_more}
 
 pub adds_atom : (names : List tree.Name) (R : Link → ℕ → Type 0) (l : tree.Label) (us : List Use) (pos : Pos) (label : Label) (arity : ℕ) (links : List Occ)
-    (part : Part) (leaves : List base.Leaf) → label ≡ numbered_label names (λ a. 0) l → arity ≡ length links → Each (IsUse names R) us links
+    (part : Part) (leaves : List base.Leaf) → label ≡ numbered_label names (λ a. 0) l → arity ≡ length links → EachPair (IsUse names R) us links
     → leaves ≡ part.leaves ++ Atom (record { label = label; arity = arity }) links pos ∷ []
     → AddsLeaf names R (atom_leaf l us pos) part
     (record { leaves = leaves; membranes = part.membranes; contexts = part.contexts; rule_contexts = part.rule_contexts; rules = part.rules })
@@ -63,18 +63,18 @@ adds_typed r R u p name pos link part leaves n e is_use grown = record {
 }
 
 module _ (names : List tree.Name) (R : Link → ℕ → Type 0) where
-  uses_as : (us : List Use) (os links : List Occ) → links ≡ os → Each (IsUse names R) us os → Each (IsUse names R) us links
-  uses_as us os links e h = let P : List Occ → Type 0 = Each (IsUse names R) us in subst P (sym e) h
+  uses_as : (us : List Use) (os links : List Occ) → links ≡ os → EachPair (IsUse names R) us os → EachPair (IsUse names R) us links
+  uses_as us os links e h = let P : List Occ → Type 0 = EachPair (IsUse names R) us in subst P (sym e) h
 
-  pub one_use : (u : Use) (o : Occ) (a b : List Occ) → a ≡ [] → b ≡ a ++ o ∷ [] → IsUse names R u o → Each (IsUse names R) (u ∷ []) b
+  pub one_use : (u : Use) (o : Occ) (a b : List Occ) → a ≡ [] → b ≡ a ++ o ∷ [] → IsUse names R u o → EachPair (IsUse names R) (u ∷ []) b
   one_use u o a b e f h = uses_as (u ∷ []) (o ∷ []) b (f ∙ ap (λ x. x ++ o ∷ []) e) (h, tt)
 
   pub two_uses : (u v : Use) (o p : Occ) (a b c : List Occ) → a ≡ [] → b ≡ a ++ o ∷ [] → c ≡ b ++ p ∷ [] → IsUse names R u o → IsUse names R v p
-      → Each (IsUse names R) (u ∷ v ∷ []) c
+      → EachPair (IsUse names R) (u ∷ v ∷ []) c
   two_uses u v o p a b c e f g h k = uses_as (u ∷ v ∷ []) (o ∷ p ∷ []) c (g ∙ ap (λ x. x ++ p ∷ []) (f ∙ ap (λ x. x ++ o ∷ []) e)) (h, (k, tt))
 
   pub three_uses : (u v w : Use) (o p q : Occ) (a b c d : List Occ) → a ≡ [] → b ≡ a ++ o ∷ [] → c ≡ b ++ p ∷ [] → d ≡ c ++ q ∷ []
-      → IsUse names R u o → IsUse names R v p → IsUse names R w q → Each (IsUse names R) (u ∷ v ∷ w ∷ []) d
+      → IsUse names R u o → IsUse names R v p → IsUse names R w q → EachPair (IsUse names R) (u ∷ v ∷ w ∷ []) d
   three_uses u v w o p q a b c d e f g i h k l = uses_as (u ∷ v ∷ w ∷ []) (o ∷ p ∷ q ∷ []) d
       (i ∙ ap (λ x. x ++ q ∷ []) (g ∙ ap (λ x. x ++ p ∷ []) (f ∙ ap (λ x. x ++ o ∷ []) e))) (h, (k, (l, tt)))
 
@@ -90,7 +90,7 @@ pub argument_made : (r : Reading) (keys : List Link) (way : List ℕ) (pos : Pos
 argument_made r keys way pos t o s e h = let P : Use → Type 0 = λ u. Made r way keys s u o in subst P (sym e) h
 
 pub argument_link : (r : Reading) (keys : List Link) (way : List ℕ) (pos : Pos) (t : TermNode) (p : ℕ) (o : Occ) (s : Scope) → t ≡ term_variant.Link p
-    → (m : Meets r NoWay keys s) × IsUse r.names (IsKey (keys ++ m.more)) (link_at r.words r.places p) o
+    → (m : Meets r NoWay keys s) × IsUse r.names (IsKey (keys ++ m.more)) (written_link r.words r.places p) o
     → Made r way keys s (argument r.words r.places pos way (term_of t)) o
 argument_link r keys way pos t p o s e h =
     let P : Use → Type 0 = λ u. Made r way keys s u o in

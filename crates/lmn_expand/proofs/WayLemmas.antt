@@ -1,19 +1,12 @@
 -- Ways that lead apart.
 use Rattle.std.proofs.Common.{◌≡◌, ◌≢◌, ℕ, ◌<◌, List, [], ◌∷◌, ◌++◌, length, refl, sym, ap, ◌∙◌, arith}
 use Rattle.std.proofs.lemmas.List.{append_assoc, length-append}
-use Rattle.lmn_lexer.proofs.Found.{head_is, tail_is}
 use Rattle.lmn_expand.specs.Growing.{Within, within_first, within_later, Argument, first_argument, later_argument}
 use Rattle.lmn_expand.specs.Scopes.{Below, Under}
-
--- what leads on from a way by one step doesn't lead on by another
-one_step : (u w : List ℕ) (j k : ℕ) (way : List ℕ) → u ++ j ∷ way ≡ w ++ k ∷ way → j ≡ k
-one_step [] [] j k way e = head_is e
-one_step [] (x ∷ w) j k way e = absurd (let l = ap length (tail_is e) in omega (arith, l, length-append w (k ∷ way)))
-one_step (x ∷ u) [] j k way e = absurd (let l = ap length (tail_is e) in omega (arith, l, length-append u (j ∷ way)))
-one_step (x ∷ u) (y ∷ w) j k way e = one_step u w j k way (tail_is e)
+use Rattle.lmn_base.proofs.Lists.{same_step}
 
 pub below_apart : (way v : List ℕ) (j k : ℕ) → j ≢ k → Below (j ∷ way) v → Below (k ∷ way) v → ⊥
-below_apart way v j k d a b = d (one_step a.0 b.0 j k way (sym a.1 ∙ b.1))
+below_apart way v j k d a b = d (same_step a.0 b.0 j k way (sym a.1 ∙ b.1))
 
 pub below_step : (way v : List ℕ) (k : ℕ) → Below (k ∷ way) v → Below way v
 below_step way v k b = (b.0 ++ k ∷ [], b.1 ∙ sym (append_assoc b.0 (k ∷ []) way))

@@ -2,30 +2,27 @@
 use Rattle.std.specs.Prelude.{ℕ, ◌≡◌, ◌+◌, ◌==◌, ◌≤◌, min, if◌then◌else◌, List, ◌++◌, map, flat_map, length, count_by, slice_get, slice_index_or, Some}
 use Rattle.lmn_base.specs.declared.level.Leaf.{Leaf}
 use Rattle.lmn_base.specs.declared.level.Level.{Level}
-use Rattle.lmn_base.specs.Levels.{leaf_occurrences, links_of}
-use Rattle.lmn_plain.specs.Keys.{In, IsKey}
+use Rattle.lmn_base.specs.Levels.{occurrences_of_leaf, links_of}
+use Rattle.lmn_plain.specs.Keys.{IsLinkIn, IsKey}
 use Rattle.lmn_plain.specs.Links.{Link, fresh}
-use Rattle.lmn_plain.specs.Parts.{Parts, copied}
-use Rattle.lmn_expand.specs.Built.{IsPart}
+use Rattle.lmn_plain.specs.Parts.{Parts, fresh_copy}
+use Rattle.lmn_expand.specs.Built.{IsPartOfLevel}
 use Rattle.lmn_expand.specs.Glossaries.{Reading}
 use Rattle.lmn_expand.specs.Scopes.{IsScope}
 use Rattle.lmn_expand.specs.declared.part.Part.{Part}
 use Rattle.lmn_expand.specs.declared.scope.Scope.{Scope}
 
-abbrev pub leaf_links : Leaf → List ℕ
-leaf_links l = map (λ o. o.link) (leaf_occurrences l)
+abbrev pub links_of_leaf : Leaf → List ℕ
+links_of_leaf l = map (λ o. o.link) (occurrences_of_leaf l)
 
-abbrev pub leaves_links : List Leaf → List ℕ
-leaves_links ls = map (λ o. o.link) (flat_map leaf_occurrences ls)
-
-abbrev pub levels_links : List Level → List ℕ
-levels_links ls = flat_map links_of ls
+abbrev pub links_of_levels : List Level → List ℕ
+links_of_levels ls = flat_map links_of ls
 
 abbrev pub often : ℕ → List ℕ → ℕ
 often x xs = count_by (λ y. x == y) xs
 
 -- These links were counted: each has its number of places more than before, and none more than 3.
-pub record Counts (xs : List ℕ) (old new : List ℕ) : Type 0 where
+pub record CountsPlaces (xs : List ℕ) (old new : List ℕ) : Type 0 where
   pub size : length new ≡ length old
   pub counted : (x n : ℕ) → slice_get old x ≡ Some n → n ≤ 3 → slice_get new x ≡ Some (min 3 (n + often x xs))
 
@@ -37,23 +34,23 @@ new_link links x = slice_index_or links x x
 pub record Freshens (r : Reading) (keys : List Link) (counts new : List ℕ) (s : Scope) : Type 0 where
   pub more : List Link
   pub scope : IsScope r (keys ++ more) s
-  pub only : (a : Link) → In a more → (b : Link) × (a ≡ fresh b)
+  pub only : (a : Link) → IsLinkIn a more → (b : Link) × (a ≡ fresh b)
   pub links : (x n : ℕ) (a : Link) → slice_get counts x ≡ Some n → IsKey keys a x → IsKey (keys ++ more) (if n == 2 then fresh a else a) (new_link new x)
 
 -- A link that was counted twice has a fresh one, and another link itself.
 pub record IsFreshOrSame (r : Reading) (keys : List Link) (a : Link) (n new : ℕ) (s : Scope) : Type 0 where
   pub more : List Link
   pub scope : IsScope r (keys ++ more) s
-  pub only : (b : Link) → In b more → b ≡ fresh a
+  pub only : (b : Link) → IsLinkIn b more → b ≡ fresh a
   pub key : IsKey (keys ++ more) (if n == 2 then fresh a else a) new
 
 -- no link of the list is fresh
 abbrev pub NoneFresh : List Link → Type 0
-NoneFresh keys = (a : Link) → In (fresh a) keys → ⊥
+NoneFresh keys = (a : Link) → IsLinkIn (fresh a) keys → ⊥
 
 -- A part is copied with fresh links for those that stand twice in it.
 pub record Copies (r : Reading) (keys : List Link) (p : Parts) (copy : Part) (s : Scope) : Type 0 where
   pub more : List Link
   pub scope : IsScope r (keys ++ more) s
-  pub only : (a : Link) → In a more → (b : Link) × (a ≡ fresh b)
-  pub is_copy : IsPart r.names (IsKey (keys ++ more)) (copied p) copy
+  pub only : (a : Link) → IsLinkIn a more → (b : Link) × (a ≡ fresh b)
+  pub is_copy : IsPartOfLevel r.names (IsKey (keys ++ more)) (fresh_copy p) copy

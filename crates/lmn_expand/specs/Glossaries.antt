@@ -8,7 +8,7 @@ use Rattle.lmn_congruence.specs.Rules as tree
 use Rattle.lmn_lexer.specs.declared.token.Kind.{Kind}
 use Rattle.lmn_lexer.specs.declared.token.Kind.TheVariants as kind
 use Rattle.lmn_lexer.specs.declared.token.Token.{Token}
-use Rattle.lmn_lexer.specs.Faults.{InRange}
+use Rattle.lmn_lexer.specs.Faults.{SpelledInRange}
 use Rattle.lmn_lexer.specs.Laying.{Word, words_of}
 use Rattle.lmn_lexer.specs.Spelling.{IsQuoted}
 use Rattle.lmn_lexer.specs.Values.{bytes_of}
@@ -68,7 +68,7 @@ IsRightWord kind.Link bytes = length bytes ≤ 255
 IsRightWord kind.Quoted bytes = (name : List ℕ) × IsQuoted bytes name × (length name ≤ 255)
 IsRightWord kind.Context bytes = (1 ≤ length bytes) × (length bytes ≤ 256)
 IsRightWord kind.RuleCtx bytes = (1 ≤ length bytes) × (length bytes ≤ 256)
-IsRightWord kind.Int bytes = InRange bytes
+IsRightWord kind.Int bytes = SpelledInRange bytes
 IsRightWord _ bytes = Unit {0}
 
 -- a token that stands in the text and is such a word there

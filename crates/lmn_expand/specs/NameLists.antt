@@ -20,6 +20,7 @@ has_name Context = true
 has_name RuleCtx = true
 has_name _ = false
 
+-- the list with the name of a word, and of some words
 abbrev pub with_word : List tree.Name → Word → List tree.Name
 with_word names w = if has_name w.kind then with_name names (name_spelled w.kind w.bytes) else names
 

@@ -1,6 +1,6 @@
 ghost use Rattle.std.specs.Prelude.{◌≡◌, map, IfOk};
-ghost use Rattle.lmn_parser.specs.Syntax.{condition_of, conditions_of, expr_of};
-ghost use Rattle.lmn_plain.specs.Plains.{Each, IsCond, IsExpr, context_use};
+ghost use Rattle.lmn_parser.specs.Syntax.{condition_of_node, conditions_of, expr_of};
+ghost use Rattle.lmn_plain.specs.Plains.{EachPair, IsCond, IsExpr, context_use};
 ghost use Rattle.lmn_expand.specs.Glossaries.{Reading, IsGlossary};
 
 use crate::glossary::Glossary;
@@ -9,7 +9,7 @@ use lmn_parser::{CondNode, ExprNode};
 
 /// The conditions of a guard.
 pub(crate) fn conditions(glossary: &Glossary, nodes: &[CondNode]) -> Result<Rows<Cond>, NoMemory>
-    ensures { IfOk result (λ made. (r : Reading) → IsGlossary r glossary.now → Each (IsCond r.words r.places r.names) (conditions_of nodes.now) made) }
+    ensures { IfOk result (λ made. (r : Reading) → IsGlossary r glossary.now → EachPair (IsCond r.words r.places r.names) (conditions_of nodes.now) made) }
 {
     let mut conditions = Rows::new(glossary.alloc);
     for node in nodes {
@@ -21,7 +21,7 @@ pub(crate) fn conditions(glossary: &Glossary, nodes: &[CondNode]) -> Result<Rows
 
 /// A condition.
 fn condition(glossary: &Glossary, node: &CondNode) -> Result<Cond, NoMemory>
-    ensures { IfOk result (λ made. (r : Reading) → IsGlossary r glossary.now → IsCond r.words r.places r.names (condition_of node.now) made) }
+    ensures { IfOk result (λ made. (r : Reading) → IsGlossary r glossary.now → IsCond r.words r.places r.names (condition_of_node node.now) made) }
 {
     match node {
         CondNode::Kind { name, args } => {

@@ -1,10 +1,11 @@
 ghost use Rattle.std.specs.Prelude.{◌≡◌, List, [], ◌∷◌, map, length, All, IfOk};
 ghost use Rattle.lmn_numbering.specs.Renumbered.{renumbered, renumbered_leaf, renumbered_occurrence};
-ghost use Rattle.lmn_plain.specs.Keys.{In, IsKey};
+ghost use Rattle.lmn_plain.specs.Keys.{IsLinkIn, IsKey};
 ghost use Rattle.lmn_plain.specs.Links.{Link, fresh};
 ghost use Rattle.lmn_plain.specs.Parts.{Parts};
-ghost use Rattle.lmn_expand.specs.Built.{IsPart};
-ghost use Rattle.lmn_expand.specs.Copies.{Copies, Counts, Freshens, IsFreshOrSame, NoneFresh, leaf_links, leaves_links, levels_links, new_link};
+ghost use Rattle.lmn_expand.specs.Built.{IsPartOfLevel};
+ghost use Rattle.lmn_expand.specs.Copies.{Copies, CountsPlaces, Freshens, IsFreshOrSame, NoneFresh, links_of_leaf, links_of_levels, new_link};
+ghost use Rattle.lmn_base.specs.Levels.{links_of_leaves};
 ghost use Rattle.lmn_expand.specs.Glossaries.{Reading};
 ghost use Rattle.lmn_expand.specs.Scopes.{IsScope};
 
@@ -17,7 +18,7 @@ use std::alloc::Global;
 /// A copy of the part of a head that is kept, in which each link that stands twice in the part is new.
 pub(crate) fn copied(alloc: Global, scope: &mut Scope, kept: &Part) -> Result<Part, NoMemory>
     ensures { IfOk result (λ copy. (r : Reading) (keys : List Link) (p : Parts) → IsScope r keys scope.old → NoneFresh keys
-        → IsPart r.names (IsKey keys) p kept.now → Copies r keys p copy scope.new) }
+        → IsPartOfLevel r.names (IsKey keys) p kept.now → Copies r keys p copy scope.new) }
 {
     let mut counts = zeros(alloc, scope.count)?;
     count_leaves(&mut counts, kept.leaves.as_slice());
@@ -44,7 +45,7 @@ fn zeros(alloc: Global, count: u32) -> Result<Rows<u8>, NoMemory>
 }
 
 fn count_links(counts: &mut Rows<u8>, links: &[Occ])
-    ensures { Counts (map (λ o. o.link) links.now) counts.old counts.new }
+    ensures { CountsPlaces (map (λ o. o.link) links.now) counts.old counts.new }
 {
     for occ in links {
         count_link(counts, occ.link);
@@ -53,7 +54,7 @@ fn count_links(counts: &mut Rows<u8>, links: &[Occ])
 
 /// Counts a link once more, up to 3.
 fn count_link(counts: &mut Rows<u8>, link: u32)
-    ensures { Counts (link ∷ []) counts.old counts.new }
+    ensures { CountsPlaces (link ∷ []) counts.old counts.new }
 {
     let place = link as usize;
     if place < counts.len() {
@@ -65,7 +66,7 @@ fn count_link(counts: &mut Rows<u8>, link: u32)
 }
 
 fn count_leaves(counts: &mut Rows<u8>, leaves: &[Leaf])
-    ensures { Counts (leaves_links leaves.now) counts.old counts.new }
+    ensures { CountsPlaces (links_of_leaves leaves.now) counts.old counts.new }
 {
     for leaf in leaves {
         count_leaf(counts, leaf);
@@ -73,7 +74,7 @@ fn count_leaves(counts: &mut Rows<u8>, leaves: &[Leaf])
 }
 
 fn count_leaf(counts: &mut Rows<u8>, leaf: &Leaf)
-    ensures { Counts (leaf_links leaf.now) counts.old counts.new }
+    ensures { CountsPlaces (links_of_leaf leaf.now) counts.old counts.new }
 {
     match leaf {
         Leaf::Atom { links, .. } => count_links(counts, links.as_slice()),
@@ -82,7 +83,7 @@ fn count_leaf(counts: &mut Rows<u8>, leaf: &Leaf)
 }
 
 fn count_levels(counts: &mut Rows<u8>, levels: &[Level])
-    ensures { Counts (levels_links levels.now) counts.old counts.new }
+    ensures { CountsPlaces (links_of_levels levels.now) counts.old counts.new }
 {
     for level in levels {
         count_leaves(counts, level.leaves.as_slice());
@@ -105,7 +106,7 @@ fn freshened(alloc: Global, scope: &mut Scope, counts: &[u8]) -> Result<Rows<u32
 
 /// A new link for one that was counted twice, and else itself.
 fn fresh_or_same(scope: &mut Scope, link: u32, count: u8) -> Result<u32, NoMemory>
-    ensures { IfOk result (λ new. (r : Reading) (keys : List Link) (a : Link) → IsScope r keys scope.old → IsKey keys a link → (In (fresh a) keys → ⊥)
+    ensures { IfOk result (λ new. (r : Reading) (keys : List Link) (a : Link) → IsScope r keys scope.old → IsKey keys a link → (IsLinkIn (fresh a) keys → ⊥)
         → IsFreshOrSame r keys a count new scope.new) }
 {
     if count == 2 { scope.next() } else { Ok(link) }

@@ -24,7 +24,7 @@ ghost use Rattle.lmn_base.specs.Refusals.{IfRefused};
 ghost use Rattle.lmn_lexer.specs.Faults.{NothingWrong};
 ghost use Rattle.lmn_lexer.specs.Laying.{words_of};
 ghost use Rattle.lmn_parser.specs.Readings.{Reads};
-ghost use Rattle.lmn_parser.specs.Syntax.{tree_of};
+ghost use Rattle.lmn_parser.specs.Syntax.{clauses_of_tree};
 ghost use Rattle.lmn_plain.specs.Laws.{IsPlain};
 ghost use Rattle.lmn_expand.specs.Glossaries.{GrowsBy};
 ghost use Rattle.lmn_expand.specs.NameLists.{names_read};
@@ -47,14 +47,14 @@ pub fn flatten(
     names: &mut Names,
 ) -> Result<Plain, TextFault>
     requires right { NothingWrong text.now }
-    requires reads { Reads text.now tokens.now (tree_of tree.now) }
+    requires reads { Reads text.now tokens.now (clauses_of_tree tree.now) }
     requires room { length names.old + (length tokens.now + 3) ≤ 2 ^ 32 }
     ensures grows { GrowsBy (length tokens.now + 3) names.old names.new }
     ensures names { MatchResult result (λ plain. names.new ≡ names_read names.old (words_of text.now tokens.now))
         (λ fault. IfRefused fault (λ refusal. names.new ≡ names_read names.old (words_of text.now tokens.now))) }
     ensures plain { MatchResult result
-        (λ plain. IsPlain text.now tokens.now (tree_of tree.now) names.new plain × NoneApplies (outside_rules plain.top ∷ []))
-        (λ fault. IfRefused fault (λ refusal. (plain : Plain) × IsPlain text.now tokens.now (tree_of tree.now) names.new plain
+        (λ plain. IsPlain text.now tokens.now (clauses_of_tree tree.now) names.new plain × NoneApplies (outside_rules plain.top ∷ []))
+        (λ fault. IfRefused fault (λ refusal. (plain : Plain) × IsPlain text.now tokens.now (clauses_of_tree tree.now) names.new plain
         × RefusedBy (outside_rules plain.top ∷ []) refusal)) }
 {
     let glossary = Glossary::read(alloc, text, tokens, names)?;

@@ -4,9 +4,9 @@ ghost use Rattle.lmn_congruence.specs.Rules as tree;
 ghost use Rattle.lmn_plain.specs.Expanded.{atom_leaf};
 ghost use Rattle.lmn_plain.specs.Keys.{IsKey};
 ghost use Rattle.lmn_plain.specs.Links.{Link, Use};
-ghost use Rattle.lmn_plain.specs.Parts.{Parts, level_of};
-ghost use Rattle.lmn_plain.specs.Plains.{Each, numbered_label};
-ghost use Rattle.lmn_expand.specs.Built.{IsPart, IsLevel, IsUse, AddsLeaf, no_items};
+ghost use Rattle.lmn_plain.specs.Parts.{Parts, level_from_parts};
+ghost use Rattle.lmn_plain.specs.Plains.{EachPair, numbered_label};
+ghost use Rattle.lmn_expand.specs.Built.{IsPartOfLevel, IsLevel, IsUse, AddsLeaf, no_items};
 
 use crate::number::narrow_arity;
 use lmn_base::{CtxUse, Functor, Label, Leaf, Level, NoMemory, Occ, Pos, Rows};
@@ -43,7 +43,7 @@ impl Part {
 
     /// The level that holds this and nothing else.
     pub(crate) fn into_level(self) -> Level
-        ensures { (names : List Name) (keys : List Link) (p : Parts) → IsPart names (IsKey keys) p self → IsLevel names (IsKey keys) (level_of p) result }
+        ensures { (names : List Name) (keys : List Link) (p : Parts) → IsPartOfLevel names (IsKey keys) p self → IsLevel names (IsKey keys) (level_from_parts p) result }
     {
         Level {
             leaves: self.leaves,
@@ -62,7 +62,7 @@ impl Part {
         pos: Pos,
     ) -> Result<(), NoMemory>
         ensures { OnOk result ((names : List Name) (keys : List Link) (l : tree.Label) (us : List Use) → label ≡ numbered_label names (λ a. 0) l
-            → Each (IsUse names (IsKey keys)) us links → AddsLeaf names (IsKey keys) (atom_leaf l us pos) self.old self.new) }
+            → EachPair (IsUse names (IsKey keys)) us links → AddsLeaf names (IsKey keys) (atom_leaf l us pos) self.old self.new) }
     {
         let arity = narrow_arity(links.len())?;
         self.leaves.push(Leaf::Atom {

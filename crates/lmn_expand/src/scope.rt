@@ -4,8 +4,8 @@ ghost use Rattle.std.specs.Ordering.{nat_cmp};
 ghost use Rattle.lmn_base.specs.Names.{IsNames};
 ghost use Rattle.lmn_congruence.specs.Rules.{Name};
 ghost use Rattle.lmn_parser.specs.Syntax.{term_of};
-ghost use Rattle.lmn_plain.specs.Expansion.{argument, link_at};
-ghost use Rattle.lmn_plain.specs.Keys.{In, IsKey};
+ghost use Rattle.lmn_plain.specs.Expansion.{argument, written_link};
+ghost use Rattle.lmn_plain.specs.Keys.{IsLinkIn, IsKey};
 ghost use Rattle.lmn_plain.specs.Links.{Link, written, made};
 ghost use Rattle.lmn_expand.specs.Built.{IsUse};
 ghost use Rattle.lmn_expand.specs.Glossaries.{Reading, IsGlossary};
@@ -79,7 +79,7 @@ impl Scope {
     /// The occurrence of a link that is written in the text.
     pub(crate) fn written(&mut self, glossary: &Glossary, token: usize) -> Result<Occ, NoMemory>
         ensures { IfOk result (λ occ. (r : Reading) (keys : List Link) → IsGlossary r glossary.now → IsScope r keys self.old
-            → (m : Meets r NoWay keys self.new) × IsUse r.names (IsKey (keys ++ m.more)) (link_at r.words r.places token) occ) }
+            → (m : Meets r NoWay keys self.new) × IsUse r.names (IsKey (keys ++ m.more)) (written_link r.words r.places token) occ) }
     {
         let name = glossary.link(token)?;
         let pos = glossary.place(token)?;
@@ -95,7 +95,7 @@ impl Scope {
         term: &Term,
     ) -> Result<Occ, NoMemory>
         ensures { IfOk result (λ occ. (r : Reading) (keys : List Link) (way : List ℕ) → IsGlossary r glossary.now → IsScope r keys self.old
-            → (In (made way) keys → ⊥)
+            → (IsLinkIn (made way) keys → ⊥)
             → (m : Meets r (λ v. v ≡ way) keys self.new) × IsUse r.names (IsKey (keys ++ m.more)) (argument r.words r.places pos way (term_of term.now)) occ) }
     {
         match term {
@@ -109,7 +109,7 @@ impl Scope {
 
     /// The occurrence of a new link that isn't written in the text.
     pub(crate) fn unwritten(&mut self, pos: Pos) -> Result<Occ, NoMemory>
-        ensures { IfOk result (λ occ. (r : Reading) (keys : List Link) (way : List ℕ) → IsScope r keys self.old → (In (made way) keys → ⊥)
+        ensures { IfOk result (λ occ. (r : Reading) (keys : List Link) (way : List ℕ) → IsScope r keys self.old → (IsLinkIn (made way) keys → ⊥)
             → (m : Meets r (λ v. v ≡ way) keys self.new) × IsUse r.names (IsKey (keys ++ m.more)) (record { link = made way; pos = pos }) occ) }
     {
         let link = self.next()?;

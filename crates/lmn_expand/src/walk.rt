@@ -1,17 +1,17 @@
 ghost use Rattle.std.specs.Prelude.{◌≡◌, ◌+◌, ◌<◌, ◌++◌, List, [], ◌∷◌, ℕ, codes, drop, length, option_to_list, slice_get, Some, IfOk, OnOk};
 ghost use Rattle.lmn_base.specs.declared.level.Occ.{Occ};
 ghost use Rattle.lmn_congruence.specs.Rules.{Name, named};
-ghost use Rattle.lmn_parser.specs.Syntax.{list, clause_of, clauses_of, conditions_of, item_of, items_of, rule_of, term_of, terms_of, tree_of};
+ghost use Rattle.lmn_parser.specs.Syntax.{list, clause_of, clauses_of, conditions_of, item_of, items_of_nodes, clause_of_rule, term_of, terms_of, clauses_of_tree};
 ghost use Rattle.lmn_plain.specs.Expanded.{atom_leaf, typed_leaf};
 ghost use Rattle.lmn_plain.specs.Expansion as expansion;
-ghost use Rattle.lmn_plain.specs.Keys.{In, IsKey};
+ghost use Rattle.lmn_plain.specs.Keys.{IsLinkIn, IsKey};
 ghost use Rattle.lmn_plain.specs.Links.{Link, Use, made};
 ghost use Rattle.lmn_plain.specs.Meanings.{name_at, place_at};
-ghost use Rattle.lmn_plain.specs.Parts.{Numbered, ◌⊕◌, one_membrane};
-ghost use Rattle.lmn_plain.specs.Plains.{Each, IsPlainOf};
-ghost use Rattle.lmn_expand.specs.Built.{AddsLeaf, IsPart, IsUse};
+ghost use Rattle.lmn_plain.specs.Parts.{NumberedParts, ◌⊕◌, one_membrane};
+ghost use Rattle.lmn_plain.specs.Plains.{EachPair, IsPlainOf};
+ghost use Rattle.lmn_expand.specs.Built.{AddsLeaf, IsPartOfLevel, IsUse};
 ghost use Rattle.lmn_expand.specs.Glossaries.{Reading, IsGlossary, IsKnown};
-ghost use Rattle.lmn_expand.specs.Growing.{Argument, Grows, HasNoRules, Ready, ReadsRule, Within, atom_with};
+ghost use Rattle.lmn_expand.specs.Growing.{Argument, GrowsPart, HasNoRules, MayGrow, ReadsRule, Within, atom_with};
 ghost use Rattle.lmn_expand.specs.Scopes.{IsScope, Meets, Under};
 
 use crate::glossary::Glossary;
@@ -29,7 +29,7 @@ use std::mem::drop;
 /// The plain of a tree. The glossary is let go before the links of the process get their numbers.
 pub(crate) fn expanded(glossary: Glossary, tree: &Tree) -> Result<Plain, NoMemory>
     requires known { IsKnown glossary }
-    ensures { IfOk result (λ plain. (r : Reading) → IsGlossary r glossary → IsPlainOf r.words r.places r.names (tree_of tree.now) plain) }
+    ensures { IfOk result (λ plain. (r : Reading) → IsGlossary r glossary → IsPlainOf r.words r.places r.names (clauses_of_tree tree.now) plain) }
 {
     let alloc = glossary.alloc;
     let mut part = Part::new(alloc);
@@ -59,8 +59,8 @@ fn add_clauses(
     clauses: &[Clause],
 ) -> Result<(), NoMemory>
     requires known { IsKnown glossary.now }
-    ensures { OnOk result ((r : Reading) (way : List ℕ) (keys : List Link) → Ready r (Under way) keys glossary.now scope.old
-        → Grows r (Under way) keys (expansion.clauses r.words r.places way (clauses_of clauses.now)) part.old table.old part.new table.new scope.new) }
+    ensures { OnOk result ((r : Reading) (way : List ℕ) (keys : List Link) → MayGrow r (Under way) keys glossary.now scope.old
+        → GrowsPart r (Under way) keys (expansion.expanded_clauses r.words r.places way (clauses_of clauses.now)) part.old table.old part.new table.new scope.new) }
 {
     for clause in clauses {
         add_clause(glossary, part, scope, table, clause)?;
@@ -77,8 +77,8 @@ fn add_clause(
     clause: &Clause,
 ) -> Result<(), NoMemory>
     requires known { IsKnown glossary.now }
-    ensures { OnOk result ((r : Reading) (way : List ℕ) (keys : List Link) → Ready r (Under way) keys glossary.now scope.old
-        → Grows r (Under way) keys (expansion.clause r.words r.places way (clause_of clause.now)) part.old table.old part.new table.new scope.new) }
+    ensures { OnOk result ((r : Reading) (way : List ℕ) (keys : List Link) → MayGrow r (Under way) keys glossary.now scope.old
+        → GrowsPart r (Under way) keys (expansion.expanded_clause r.words r.places way (clause_of clause.now)) part.old table.old part.new table.new scope.new) }
 {
     match clause {
         Clause::Process(items) => add_items(glossary, part, scope, table, items.as_slice()),
@@ -95,8 +95,8 @@ fn add_items(
     items: &[Item],
 ) -> Result<(), NoMemory>
     requires known { IsKnown glossary.now }
-    ensures { OnOk result ((r : Reading) (way : List ℕ) (keys : List Link) → Ready r (Under way) keys glossary.now scope.old
-        → Grows r (Under way) keys (expansion.items r.words r.places way (items_of items.now)) part.old table.old part.new table.new scope.new) }
+    ensures { OnOk result ((r : Reading) (way : List ℕ) (keys : List Link) → MayGrow r (Under way) keys glossary.now scope.old
+        → GrowsPart r (Under way) keys (expansion.expanded_items r.words r.places way (items_of_nodes items.now)) part.old table.old part.new table.new scope.new) }
 {
     for item in items {
         add_item(glossary, part, scope, table, item)?;
@@ -113,8 +113,8 @@ fn add_item(
     item: &Item,
 ) -> Result<(), NoMemory>
     requires known { IsKnown glossary.now }
-    ensures { OnOk result ((r : Reading) (way : List ℕ) (keys : List Link) → Ready r (Under way) keys glossary.now scope.old
-        → Grows r (Under way) keys (expansion.item r.words r.places way (item_of item.now)) part.old table.old part.new table.new scope.new) }
+    ensures { OnOk result ((r : Reading) (way : List ℕ) (keys : List Link) → MayGrow r (Under way) keys glossary.now scope.old
+        → GrowsPart r (Under way) keys (expansion.expanded_item r.words r.places way (item_of item.now)) part.old table.old part.new table.new scope.new) }
 {
     match item {
         Item::Atom(node) => add_atom(glossary, part, scope, table, node, None),
@@ -162,8 +162,8 @@ fn add_atom(
     own: Option<Occ>,
 ) -> Result<(), NoMemory>
     requires known { IsKnown glossary.now }
-    ensures { OnOk result ((r : Reading) (way : List ℕ) (keys : List Link) (own_uses : List Use) → Ready r (Under way) keys glossary.now scope.old → Each (IsUse r.names (IsKey keys)) own_uses (option_to_list own)
-        → Grows r (Under way) keys (atom_with r.words r.places way node.now.token (terms_of node.now.args) own_uses) part.old table.old part.new table.new scope.new) }
+    ensures { OnOk result ((r : Reading) (way : List ℕ) (keys : List Link) (own_uses : List Use) → MayGrow r (Under way) keys glossary.now scope.old → EachPair (IsUse r.names (IsKey keys)) own_uses (option_to_list own)
+        → GrowsPart r (Under way) keys (atom_with r.words r.places way node.now.token (terms_of node.now.args) own_uses) part.old table.old part.new table.new scope.new) }
 {
     let label = glossary.label(node.token)?;
     let pos = glossary.place(node.token)?;
@@ -189,8 +189,8 @@ fn arguments(
     terms: &[Term],
 ) -> Result<Rows<Occ>, NoMemory>
     ensures length { IfOk result (λ links. length links ≡ length terms.now) }
-    ensures links { IfOk result (λ links. (r : Reading) (way : List ℕ) (keys : List Link) → Ready r (Argument way) keys glossary.now scope.old
-        → (m : Meets r (Argument way) keys scope.new) × Each (IsUse r.names (IsKey (keys ++ m.more))) (expansion.arguments r.words r.places pos way (terms_of terms.now)) links) }
+    ensures links { IfOk result (λ links. (r : Reading) (way : List ℕ) (keys : List Link) → MayGrow r (Argument way) keys glossary.now scope.old
+        → (m : Meets r (Argument way) keys scope.new) × EachPair (IsUse r.names (IsKey (keys ++ m.more))) (expansion.expanded_arguments r.words r.places pos way (terms_of terms.now)) links) }
 {
     let mut links = Rows::new(glossary.alloc);
     for term in terms {
@@ -229,8 +229,8 @@ fn add_terms(
     terms: &[Term],
 ) -> Result<(), NoMemory>
     requires known { IsKnown glossary.now }
-    ensures { OnOk result ((r : Reading) (way : List ℕ) (keys : List Link) → Ready r (Within way) keys glossary.now scope.old → Each (IsUse r.names (IsKey keys)) (expansion.arguments r.words r.places pos way (terms_of terms.now)) links.now
-        → Grows r (Within way) keys (expansion.terms r.words r.places pos way (terms_of terms.now)) part.old table.old part.new table.new scope.new) }
+    ensures { OnOk result ((r : Reading) (way : List ℕ) (keys : List Link) → MayGrow r (Within way) keys glossary.now scope.old → EachPair (IsUse r.names (IsKey keys)) (expansion.expanded_arguments r.words r.places pos way (terms_of terms.now)) links.now
+        → GrowsPart r (Within way) keys (expansion.expanded_terms r.words r.places pos way (terms_of terms.now)) part.old table.old part.new table.new scope.new) }
 {
     for i in 0..terms.len() {
         let own = own_link(links, i)?;
@@ -262,8 +262,8 @@ fn add_term(
     term: &Term,
 ) -> Result<(), NoMemory>
     requires known { IsKnown glossary.now }
-    ensures { OnOk result ((r : Reading) (way : List ℕ) (keys : List Link) (x : Link) → Ready r (Under way) keys glossary.now scope.old → IsKey keys x own
-        → Grows r (Under way) keys (expansion.term r.words r.places pos way x (term_of term.now)) part.old table.old part.new table.new scope.new) }
+    ensures { OnOk result ((r : Reading) (way : List ℕ) (keys : List Link) (x : Link) → MayGrow r (Under way) keys glossary.now scope.old → IsKey keys x own
+        → GrowsPart r (Under way) keys (expansion.expanded_term r.words r.places pos way x (term_of term.now)) part.old table.old part.new table.new scope.new) }
 {
     match term {
         Term::Link(_) => Ok(()),
@@ -319,8 +319,8 @@ fn add_list(
     elements: &[Term],
 ) -> Result<(), NoMemory>
     requires known { IsKnown glossary.now }
-    ensures { OnOk result ((r : Reading) (way : List ℕ) (keys : List Link) (x : Link) → Ready r (Under way) keys glossary.now scope.old → IsKey keys x own
-        → Grows r (Under way) keys (expansion.term r.words r.places pos way x (list (terms_of elements.now))) part.old table.old part.new table.new scope.new) }
+    ensures { OnOk result ((r : Reading) (way : List ℕ) (keys : List Link) (x : Link) → MayGrow r (Under way) keys glossary.now scope.old → IsKey keys x own
+        → GrowsPart r (Under way) keys (expansion.expanded_term r.words r.places pos way x (list (terms_of elements.now))) part.old table.old part.new table.new scope.new) }
 {
     if elements.len() == 0 {
         return add_unary(glossary, part, glossary.empty, Occ { link: own, pos }, pos);
@@ -343,8 +343,8 @@ fn add_cells(
     elements: &[Term],
 ) -> Result<(), NoMemory>
     requires known { IsKnown glossary.now }
-    ensures { OnOk result ((r : Reading) (way : List ℕ) (keys : List Link) (x : Link) (last : Use) → Ready r (Under way) keys glossary.now scope.old → IsKey keys x own → IsUse r.names (IsKey keys) last end
-        → Grows r (Under way) keys (expansion.cells r.words r.places pos way last x (terms_of elements.now)) part.old table.old part.new table.new scope.new) }
+    ensures { OnOk result ((r : Reading) (way : List ℕ) (keys : List Link) (x : Link) (last : Use) → MayGrow r (Under way) keys glossary.now scope.old → IsKey keys x own → IsUse r.names (IsKey keys) last end
+        → GrowsPart r (Under way) keys (expansion.cells r.words r.places pos way last x (terms_of elements.now)) part.old table.old part.new table.new scope.new) }
 {
     let mut own = own;
     for i in 0..elements.len() {
@@ -369,7 +369,7 @@ fn add_cells(
 fn rest(scope: &mut Scope, pos: Pos, end: Occ, elements: &[Term], i: usize) -> Result<Occ, NoMemory>
     requires { i < length elements.now }
     ensures { IfOk result (λ occ. (r : Reading) (keys : List Link) (way : List ℕ) (last : Use) → IsScope r keys scope.old
-        → (In (made way) keys → ⊥) → IsUse r.names (IsKey keys) last end
+        → (IsLinkIn (made way) keys → ⊥) → IsUse r.names (IsKey keys) last end
         → (m : Meets r (λ v. v ≡ way) keys scope.new)
         × IsUse r.names (IsKey (keys ++ m.more)) (expansion.rest r.words r.places pos way last (terms_of (drop (i + 1) elements.now))) occ) }
 {
@@ -444,9 +444,9 @@ fn add_membrane(
     clauses: &[Clause],
 ) -> Result<(), NoMemory>
     requires known { IsKnown glossary.now }
-    ensures { OnOk result ((r : Reading) (way : List ℕ) (keys : List Link) (f : Numbered) → Ready r (Under way) keys glossary.now scope.old
-        → IsPart r.names (IsKey keys) (f (length table.old)) inside → HasNoRules f
-        → Grows r (Under way) keys (one_membrane (f ⊕ expansion.clauses r.words r.places way (clauses_of clauses.now))) part.old table.old part.new table.new scope.new) }
+    ensures { OnOk result ((r : Reading) (way : List ℕ) (keys : List Link) (f : NumberedParts) → MayGrow r (Under way) keys glossary.now scope.old
+        → IsPartOfLevel r.names (IsKey keys) (f (length table.old)) inside → HasNoRules f
+        → GrowsPart r (Under way) keys (one_membrane (f ⊕ expansion.expanded_clauses r.words r.places way (clauses_of clauses.now))) part.old table.old part.new table.new scope.new) }
 {
     let mut inside = inside;
     add_clauses(glossary, &mut inside, scope, table, clauses)?;
@@ -479,8 +479,8 @@ fn add_rule(
     node: &RuleNode,
 ) -> Result<(), NoMemory>
     requires known { IsKnown glossary.now }
-    ensures { OnOk result ((r : Reading) (way : List ℕ) (keys : List Link) (scope : Scope) → Ready r (Under way) keys glossary.now scope
-        → Grows r (Under way) keys (expansion.clause r.words r.places way (rule_of node.now)) part.old table.old part.new table.new scope) }
+    ensures { OnOk result ((r : Reading) (way : List ℕ) (keys : List Link) (scope : Scope) → MayGrow r (Under way) keys glossary.now scope
+        → GrowsPart r (Under way) keys (expansion.expanded_clause r.words r.places way (clause_of_rule node.now)) part.old table.old part.new table.new scope) }
 {
     let place = table.len();
     let number = narrow(place)?;
@@ -506,7 +506,7 @@ fn rule(
 ) -> Result<RuleTree, NoMemory>
     requires known { IsKnown glossary.now }
     ensures { IfOk result (λ rule. (r : Reading) (way : List ℕ) → IsGlossary r glossary.now
-        → ReadsRule r way (items_of node.now.kept) (items_of node.now.taken) (conditions_of node.now.guard) (items_of node.now.body) node.now.pos
+        → ReadsRule r way (items_of_nodes node.now.kept) (items_of_nodes node.now.taken) (conditions_of node.now.guard) (items_of_nodes node.now.body) node.now.pos
         table.old rule table.new) }
 {
     let alloc = glossary.alloc;

@@ -3,17 +3,17 @@ use Rattle.std.proofs.Common.{ℕ, List, ◌++◌, length}
 use Rattle.lmn_base.specs.declared.rule.RuleTree.{RuleTree}
 use Rattle.lmn_guards.specs.declared.plan.GuardPlan.{GuardPlan}
 use Rattle.lmn_heap.specs.Heap.{Heap}
-use Rattle.lmn_splice.specs.Ports.{Port}
 use Rattle.lmn_compile_head.specs.Accepted.{head_items, AcceptedLeast}
-use Rattle.lmn_compile_body.specs.Accepted.{IsWhole, rule_body_items, rule_body_code, AcceptedNested}
+use Rattle.lmn_compile_body.specs.Accepted.{IsCompilable, rule_body_items, rule_body_code, AcceptedNested}
 use Rattle.lmn_body.specs.Fired.{images_of}
 use Rattle.lmn_body.specs.Running.{Registers, RunsBody}
 use Rattle.lmn_body.proofs.Laws.{body_fires_within, body_can_run}
 use Rattle.lmn_body.proofs.SolidWithin.{firing_leaves_solid, firing_leaves_atoms, copies_in_solid}
 use Rattle.lmn_body.proofs.Parts.{part_hangs}
 use Rattle.lmn_firing.specs.Accepted.{Finds, Fired, AcceptedFires}
+use Rattle.lmn_base.specs.Graphs.{Port}
 
-fired : AcceptedLeast → AcceptedNested → (table : List RuleTree) (r : RuleTree) (plan : GuardPlan) → IsWhole table r plan →
+fired : AcceptedLeast → AcceptedNested → (table : List RuleTree) (r : RuleTree) (plan : GuardPlan) → IsCompilable table r plan →
     (h : Heap) (m : ℕ) (s : Registers) (c : Port → ℕ) → Finds r plan h m s c → (h' : Heap) → RunsBody s (rule_body_code r plan) h h' → Fired r plan h m s c h'
 fired heads bodies table r plan whole h m s c finds h' runs =
     let head = head_items r plan in

@@ -12,16 +12,16 @@ use Rattle.lmn_solid.specs.Guards.{Meaning, bind, integer_named, context_alone, 
 use Rattle.lmn_solid.specs.Heads.{HeadTyped, typed_contexts_of, membranes_of}
 use Rattle.lmn_instr.specs.declared.instr.Instr.{Instr}
 use Rattle.lmn_instr.specs.declared.instr.Instr.TheVariants.{Commit}
-use Rattle.lmn_instr.specs.Running.{Registers, AllHold, Succeeds, atoms_set}
+use Rattle.lmn_instr.specs.Running.{HeadRegisters, AllHold, Succeeds, atoms_set}
 use Rattle.lmn_instr.specs.HeadCode.{Computed, value_code, comparison, part_named, equal_code, differ_parts_code, bind_register, guard_code, head_code, items_code, parts_code, all_filled_code}
 use Rattle.lmn_compile_head.specs.Accepted.{head_items, rule_head_code, AcceptedHeads}
-use Rattle.lmn_compile_head.specs.Heads.{Uses, EqualAllowed, IsGuard}
+use Rattle.lmn_compile_head.specs.Heads.{UsesKnown, EqualAllowed, IsGuard}
 use Rattle.lmn_compile_head.proofs.Holding.{hold_front, hold_back}
 use Rattle.lmn_compile_head.proofs.Values.{meant, value_is}
 use Rattle.lmn_compile_body.specs.Naming.{equal_registers, guard_registers}
 use Rattle.lmn_firing.specs.Bound.{bound_by, bound_all, BoundNames}
 
-module _ (h : Heap) (c : ℕ) (r : Registers) (ts : List HeadTyped) where
+module _ (h : Heap) (c : ℕ) (r : HeadRegisters) (ts : List HeadTyped) where
   -- what names are bound to stands in their registers
   abbrev Holds : Meaning → (ℕ → ℕ) → Type 0
   Holds s registers = (x : ℕ) (z : ℤ) → s.bound_to x ≡ Some z → r.integer (registers x) ≡ z
@@ -65,7 +65,7 @@ module _ (h : Heap) (c : ℕ) (r : Registers) (ts : List HeadTyped) where
       let s = meant r.images part bound_to in
       equal_holds s (part left.name) (part_named part (context_alone right)) cv (guard_code part (bind_register bound left.name cv.at) cv.next cs) (guard_code part bound v cs) left.name
       (value (integer_named h s) right) (λ t registers. Holds (bound_all h t cs) registers) (guard_registers part (bind_register bound left.name cv.at) cv.next cs) (guard_registers part bound v cs)
-      (Uses part known right) (IsGuard ts (left.name ∷ known) cs) (IsGuard ts known cs) a i
+      (UsesKnown part known right) (IsGuard ts (left.name ∷ known) cs) (IsGuard ts known cs) a i
       (λ u b. value_is h c r part bound bound_to known f right v b u)
       (λ b u. registers_hold cs cv.next (left.name ∷ known) (bind_register bound left.name cv.at) (λ y. if y == left.name then Some (r.integer cv.at) else bound_to y)
       (λ y w. known_if bound bound_to known left.name cv.at f y (y == left.name) refl w)
@@ -76,7 +76,7 @@ module _ (h : Heap) (c : ℕ) (r : Registers) (ts : List HeadTyped) where
       registers_hold cs v known bound bound_to f g (hold_back h c r (differ_parts_code (part left.name) (part right.name)) (guard_code part bound v cs) a) i.1
 
 -- the code of a guard holds where that of its head does
-guard_held : (h : Heap) (items : List HeadItem) (guard : List Cond) (m : ℕ) (r : Registers) → Succeeds h (head_code items guard) m r →
+guard_held : (h : Heap) (items : List HeadItem) (guard : List Cond) (m : ℕ) (r : HeadRegisters) → Succeeds h (head_code items guard) m r →
     AllHold h (atoms_set (head_code items guard)) r (guard_code (typed_number (typed_contexts_of items) 0) (λ x. 0) 0 guard)
 guard_held h items guard m r s =
     let c = atoms_set (head_code items guard) in

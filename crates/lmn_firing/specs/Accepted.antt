@@ -5,29 +5,29 @@ use Rattle.lmn_heap.specs.Heap.{Heap, IsMemInPlace, rules_in, spare_of}
 use Rattle.lmn_heap.specs.Sound.{Valid}
 use Rattle.lmn_guards.specs.declared.plan.GuardPlan.{GuardPlan}
 use Rattle.lmn_solid.specs.Embeddings.{IsLeast}
-use Rattle.lmn_splice.specs.Ports.{Port}
-use Rattle.lmn_instr.specs.Running.{IsFirst}
+use Rattle.lmn_instr.specs.Running.{IsFirstSuccess}
 use Rattle.lmn_compile_head.specs.Accepted.{head_items, rule_head_code}
-use Rattle.lmn_compile_body.specs.Accepted.{IsWhole, rule_body_items, rule_body_code}
+use Rattle.lmn_compile_body.specs.Accepted.{IsCompilable, rule_body_items, rule_body_code}
 use Rattle.lmn_body.specs.Added.{added_rules}
 use Rattle.lmn_body.specs.Conditions.{CanRun}
 use Rattle.lmn_body.specs.Fired.{images_of}
 use Rattle.lmn_body.specs.CopiedSolid.{IsSolidCopy}
 use Rattle.lmn_body.specs.Made.{copies_of}
-use Rattle.lmn_heap.specs.Solid.{atoms_of}
-use Rattle.lmn_splice.specs.Splice.{In}
+use Rattle.lmn_heap.specs.Solid.{solid_atoms_at}
+use Rattle.lmn_splice.specs.Splice.{IsOneOf}
 use Rattle.lmn_body.specs.Names.{Names}
 use Rattle.lmn_body.specs.Rules.{PartAtoms}
 use Rattle.lmn_body.specs.Running.{Registers, Prepares, RunsBody}
 use Rattle.lmn_body.specs.Within.{FiresWithin, FiredSolid, FiredAtoms}
 use Rattle.lmn_body.specs.Items.{NoCopies}
+use Rattle.lmn_base.specs.Graphs.{Port}
 
 -- The code of a rule that has its plan, with these registers, from a heap whose links have these numbers: its head code
 -- succeeds first with these registers in the membrane m.
 pub record Finds (r : RuleTree) (plan : GuardPlan) (h : Heap) (m : ℕ) (s : Registers) (c : Port → ℕ) : Type 0 where
   pub valid : Valid h
   pub placed : IsMemInPlace h m
-  pub first : IsFirst h (rule_head_code r plan) m s.head
+  pub first : IsFirstSuccess h (rule_head_code r plan) m s.head
   pub named : Names h c
 
 -- A rule has fired in membrane m, from the heap h to h'.
@@ -45,17 +45,17 @@ pub record Fired (r : RuleTree) (plan : GuardPlan) (h : Heap) (m : ℕ) (s : Reg
   pub fires : FiresWithin h c s (head_items r plan) (rule_body_items r plan) (images_of s (head_items r plan) ++ parts) h'
   pub solid : FiredSolid h c s (head_items r plan) (rule_body_items r plan) (images_of s (head_items r plan) ++ parts) h' fires
   pub atoms : NoCopies (rule_body_items r plan) → FiredAtoms h c s (head_items r plan) (rule_body_items r plan) (images_of s (head_items r plan) ++ parts) h' fires
-  pub copies : (e : ℕ × ℕ) → In e (copies_of 0 (rule_body_items r plan)) →
-      IsSolidCopy h c h' fires.number (s.head.images.part e.1) (s.copy e.0) (s.copied e.0) (atoms_of h' (λ a i. fires.number (a, i)) (s.copied e.0))
+  pub copies : (e : ℕ × ℕ) → IsOneOf e (copies_of 0 (rule_body_items r plan)) →
+      IsSolidCopy h c h' fires.number (s.head.images.part e.1) (s.copy e.0) (s.copied e.0) (solid_atoms_at h' (λ a i. fires.number (a, i)) (s.copied e.0))
 
 -- Where the head code of an accepted rule first succeeds, its body code, run with the same registers, fires
 -- the rule; and when the body is prepared, with enough spares for the rules that it adds, each instruction can run in its
 -- turn.
 pub record AcceptedFires : Type 0 where
-  pub fires : (table : List RuleTree) (r : RuleTree) (plan : GuardPlan) → IsWhole table r plan →
+  pub fires : (table : List RuleTree) (r : RuleTree) (plan : GuardPlan) → IsCompilable table r plan →
       (h : Heap) (m : ℕ) (s : Registers) (c : Port → ℕ) → Finds r plan h m s c →
       (h' : Heap) → RunsBody s (rule_body_code r plan) h h' → Fired r plan h m s c h'
-  pub can_run : (table : List RuleTree) (r : RuleTree) (plan : GuardPlan) → IsWhole table r plan →
+  pub can_run : (table : List RuleTree) (r : RuleTree) (plan : GuardPlan) → IsCompilable table r plan →
       (h : Heap) (m : ℕ) (s : Registers) (c : Port → ℕ) → Finds r plan h m s c →
       (t : Heap) → Prepares s (rule_body_code r plan) h t →
       ((x : ℕ) → length (added_rules s (rules_in h) (rule_body_items r plan) x) ≤ spare_of t x) → CanRun s (rule_body_code r plan) t

@@ -8,10 +8,10 @@ use Rattle.lmn_guards.specs.declared.plan.GuardPlan.{GuardPlan}
 use Rattle.lmn_guards.specs.Values.{value}
 use Rattle.lmn_solid.specs.Embeddings.{meaning}
 use Rattle.lmn_solid.specs.Guards.{Meaning, bind, integer_named}
-use Rattle.lmn_solid.specs.Heads.{Port}
-use Rattle.lmn_instr.specs.Running.{Registers, Succeeds}
+use Rattle.lmn_instr.specs.Running.{HeadRegisters, Succeeds}
 use Rattle.lmn_compile_head.specs.Accepted.{head_items, rule_head_code, IsReady}
-use Rattle.lmn_compile_body.specs.Accepted.{rule_names}
+use Rattle.lmn_compile_body.specs.Accepted.{rule_body_names}
+use Rattle.lmn_base.specs.Graphs.{Port}
 
 -- `$x = E` binds $x, where it is no context of the head, to the value of E
 abbrev pub bound_by : Option Port → Meaning → ℕ → Option ℤ → Meaning
@@ -30,5 +30,5 @@ bound_all h s (Differ left right pos ∷ cs) = bound_all h s cs
 -- Where the head code of an accepted rule succeeds, each name that its guard binds has its value, over the embedding, in
 -- the register that the body reads.
 abbrev pub BoundNames : Type 0
-BoundNames = (table : List RuleTree) (r : RuleTree) (plan : GuardPlan) → IsReady table r plan → (h : Heap) (m : ℕ) (s : Registers) → Succeeds h (rule_head_code r plan) m s →
-    (x : ℕ) (z : ℤ) → (bound_all h (meaning (head_items r plan) s.images) r.guard).bound_to x ≡ Some z → s.integer ((rule_names r plan).integer x) ≡ z
+BoundNames = (table : List RuleTree) (r : RuleTree) (plan : GuardPlan) → IsReady table r plan → (h : Heap) (m : ℕ) (s : HeadRegisters) → Succeeds h (rule_head_code r plan) m s →
+    (x : ℕ) (z : ℤ) → (bound_all h (meaning (head_items r plan) s.images) r.guard).bound_to x ≡ Some z → s.integer ((rule_body_names r plan).integer x) ≡ z

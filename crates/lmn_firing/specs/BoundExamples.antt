@@ -6,8 +6,8 @@ use Rattle.lmn_base.specs.declared.level.CtxUse.{CtxUse}
 use Rattle.lmn_base.specs.declared.refusal.Pos.{Pos}
 use Rattle.lmn_heap.specs.Heap.{Heap}
 use Rattle.lmn_solid.specs.Guards.{Meaning}
-use Rattle.lmn_solid.specs.Heads.{Port}
 use Rattle.lmn_firing.specs.Bound.{bound_all}
+use Rattle.lmn_base.specs.Graphs.{Port}
 
 -- the context with a number
 abbrev pub context : ℕ → Pos → CtxUse

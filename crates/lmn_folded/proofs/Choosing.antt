@@ -7,10 +7,9 @@ use Rattle.lmn_congruence.specs.Regions.{SolidAtom}
 use Rattle.lmn_folded.specs.Folding as folding
 use Rattle.lmn_folded.specs.Folding.{IsChild, Descends, itself}
 use Rattle.lmn_folded.proofs.Places.{AtMostTwice, one_parent, ends_in_one_way, not_nil}
-use Rattle.lmn_congruence.proofs.Counts.{below_or_from as below_or_not, same_or_not as same_or_apart}
-
-abbrev pub Decided : Type 0 → Type 0
-Decided P = P ⊎ (¬ P)
+use Rattle.lmn_base.proofs.Lists.{get_below as within}
+use Rattle.lmn_base.proofs.Numbers.{below_next, same_or_not as same_or_apart, less_decided}
+use Rattle.lmn_base.proofs.Truth.{Decided}
 
 both : {A B : Type 0} → Decided A → Decided B → Decided (A × B)
 both (inl a) (inl b) = inl (a, b)
@@ -40,16 +39,6 @@ apart m n = go (same_or_apart m n)
     go (inl e) = inr (λ d. d e)
     go (inr d) = inl d
 
-below : (m n : ℕ) → Decided (m < n)
-below m n = go (below_or_not m n)
-  where
-    go : (m < n) ⊎ (n ≤ m) → Decided (m < n)
-    go (inl l) = inl l
-    go (inr h) = inr (λ l. omega (arith, l, h))
-
-below_next : (i n : ℕ) → i < suc n → (i < n) ⊎ (i ≡ n)
-below_next i n h = grind arith
-
 -- some number below a bound, where none else is asked for
 bounded : (n : ℕ) (P : ℕ → Type 0) → ((i : ℕ) → Decided (P i)) → ((i : ℕ) × P i) ⊎ ((i : ℕ) → i < n → ¬ (P i))
 bounded zero P d = inr (λ i l h. absurd (omega (arith, l)))
@@ -74,21 +63,10 @@ some_number n P d within = go (bounded n P d)
 none_some : {A : Type 0} (a : A) → None ≡ Some a → ⊥
 none_some a e = cc
 
-pub within : {A : Type 0} (xs : List A) (i : ℕ) (x : A) → slice_get xs i ≡ Some x → i < length xs
-within [] i x e = absurd (none_some x e)
-within (y ∷ ys) zero x e = omega arith
-within (y ∷ ys) (suc i) x e = let l = within ys i x e in omega (arith, l)
-
 get : {A : Type 0} (xs : List A) (i : ℕ) → ((x : A) × (slice_get xs i ≡ Some x)) ⊎ (slice_get xs i ≡ None)
 get [] i = inr refl
 get (x ∷ xs) zero = inl (x, refl)
 get (x ∷ xs) (suc i) = get xs i
-
--- the element at a place of a list
-pub element : {A : Type 0} (xs : List A) (i : ℕ) → i < length xs → (x : A) × (slice_get xs i ≡ Some x)
-element [] i l = absurd (omega (arith, l))
-element (x ∷ xs) zero l = (x, refl)
-element (x ∷ xs) (suc i) l = element xs i (omega (arith, l))
 
 pub among : (x : ℕ) (xs : List ℕ) → Decided (Among x xs)
 among x [] = inr no
@@ -147,7 +125,7 @@ module _ (atoms : List SolidAtom) where
           let ending = ends_in_one_way c.first_links ys c.last_link y (sym c.links ∙ ap (λ (d : SolidAtom). d.links) same_child ∙ h) in
           let P : SolidAtom → Type 0 = λ d. (suc k ≢ length d.links) ⊎ (p < q) in
           (ap (λ (d : SolidAtom). slice_get d.links k) (sym same_parent) ∙ c.joined ∙ ap Some ending.1, (c.other, subst P same_parent c.before)))
-          (both (port_has b k y) (both (apart q p) (either (apart (suc k) (length b.links)) (below p q))))
+          (both (port_has b k y) (both (apart q p) (either (apart (suc k) (length b.links)) (less_decided p q))))
 
       ended : (a b : SolidAtom) → slice_get atoms q ≡ Some a → slice_get atoms p ≡ Some b → ((ys : List ℕ) × (y : ℕ) × (a.links ≡ ys ++ y ∷ [])) ⊎ (a.links ≡ []) → Decided (IsChild atoms q p k)
       ended a b e f (inl h) = joined a b h.0 h.1 e f h.2
@@ -281,5 +259,5 @@ module _ (atoms : List SolidAtom) (items : List ℕ) (few : AtMostTwice atoms) w
   -- whether an atom descends from an item
   pub from_item : (q : ℕ) → q < length atoms → Decided (FromItem q)
   from_item q l =
-      climb (length (folding.positions atoms)) (folding.positions atoms) [] q refl
+      climb (length (folding.atom_positions atoms)) (folding.atom_positions atoms) [] q refl
       (λ v h. inr (positions_all 0 (length atoms) v (omega arith) (omega (arith, h)))) l (λ v h. none_seen v h)

@@ -5,9 +5,9 @@ use Rattle.lmn_congruence.specs.Orders.{Among, at_head, further}
 use Rattle.lmn_congruence.specs.Process.{together}
 use Rattle.lmn_congruence.specs.Regions.{SolidAtom, Region, region, Regions, no_region, region_and, region_process, regions_processes}
 use Rattle.lmn_congruence.specs.Rules.{Label, Rule}
-use Rattle.lmn_folded.specs.Terms.{Term, link, labelled, Terms, no_term, term_and, Item, Folded, folded, FoldedMembranes, no_membrane, membrane_and}
+use Rattle.lmn_folded.specs.Terms.{FoldedTerm, link, labelled, FoldedTerms, no_term, term_and, FoldedItem, Folded, folded, FoldedMembranes, no_membrane, membrane_and}
 use Rattle.lmn_folded.specs.Folding as folding
-use Rattle.lmn_folded.specs.Folding.{IsChild, Descends, itself, NoChildren, Further, AreItems, positions, Shows, as_link, as_term, ShowsAll, ShowsItems, Folds, folds, FoldsAll}
+use Rattle.lmn_folded.specs.Folding.{IsChild, itself, NoChildren, Further, AreItems, atom_positions, Shows, as_link, as_term, ShowsAll, ShowsItems, Folds, folds, FoldsAll}
 use Rattle.lmn_folded.proofs.Places.{AtMostTwice, one_child, one_parent}
 use Rattle.lmn_folded.proofs.OneFolded.{FewIn}
 use Rattle.lmn_folded.proofs.Choosing.{FromItem, Closed, seen_again, no_parent, by_parent}
@@ -36,41 +36,38 @@ but_last (y ∷ z ∷ zs) x = ap (λ ws. y ∷ ws) (but_last (z ∷ zs) x)
 module _ (atoms : List SolidAtom) (items : List ℕ) where
   -- Terms.
 
-  abbrev labelled_by : Option Terms → Label → Option Term
+  abbrev labelled_by : Option FoldedTerms → Label → Option FoldedTerm
   labelled_by None l = None
   labelled_by (Some ts) l = Some (labelled l ts)
 
-  abbrev term_of : (ℕ → List ℕ → Option Terms) → ℕ → ℕ → Option Term
+  abbrev term_of : (ℕ → List ℕ → Option FoldedTerms) → ℕ → ℕ → Option FoldedTerm
   term_of inside q x = if one_of q items then Some (link x) else bind (slice_get atoms q) (λ a. labelled_by (inside q (all_but_last a.links)) a.label)
 
-  abbrev term_at : (ℕ → List ℕ → Option Terms) → Option ℕ → ℕ → Option Term
+  abbrev term_at : (ℕ → List ℕ → Option FoldedTerms) → Option ℕ → ℕ → Option FoldedTerm
   term_at inside None x = Some (link x)
   term_at inside (Some q) x = term_of inside q x
 
-  abbrev and_terms : Option Term → Option Terms → Option Terms
+  abbrev and_terms : Option FoldedTerm → Option FoldedTerms → Option FoldedTerms
   and_terms None us = None
   and_terms (Some t) None = None
   and_terms (Some t) (Some ts) = Some (term_and t ts)
 
-  abbrev ports : (ℕ → List ℕ → Option Terms) → ℕ → ℕ → List ℕ → Option Terms
+  abbrev ports : (ℕ → List ℕ → Option FoldedTerms) → ℕ → ℕ → List ℕ → Option FoldedTerms
   ports inside p k [] = Some no_term
   ports inside p k (x ∷ xs) = and_terms (term_at inside (child_of atoms p k) x) (ports inside p (suc k) xs)
 
-  abbrev arguments : ℕ → ℕ → List ℕ → Option Terms
+  abbrev arguments : ℕ → ℕ → List ℕ → Option FoldedTerms
   arguments zero p xs = None
   arguments (suc n) p xs = ports (arguments n) p 0 xs
 
-  IsRight : (ℕ → List ℕ → Option Terms) → Type 0
-  IsRight inside = (q : ℕ) (xs : List ℕ) (ts : Terms) → inside q xs ≡ Some ts → ShowsAll atoms items q 0 xs ts
-
-  module _ (few : AtMostTwice atoms) (inside : ℕ → List ℕ → Option Terms) (right : (q : ℕ) (xs : List ℕ) (ts : Terms) → inside q xs ≡ Some ts → ShowsAll atoms items q 0 xs ts) where
-    labelled_some : (o : Option Terms) (l : Label) (t : Term) → labelled_by o l ≡ Some t → (ts : Terms) × (o ≡ Some ts) × (labelled l ts ≡ t)
+  module _ (few : AtMostTwice atoms) (inside : ℕ → List ℕ → Option FoldedTerms) (right : (q : ℕ) (xs : List ℕ) (ts : FoldedTerms) → inside q xs ≡ Some ts → ShowsAll atoms items q 0 xs ts) where
+    labelled_some : (o : Option FoldedTerms) (l : Label) (t : FoldedTerm) → labelled_by o l ≡ Some t → (ts : FoldedTerms) × (o ≡ Some ts) × (labelled l ts ≡ t)
     labelled_some None l t e = absurd (cc)
     labelled_some (Some ts) l t e = (ts, refl, same_Some _ _ e)
 
-    shown_at : (p k x : ℕ) (o : Option ℕ) (t : Term) → child_of atoms p k ≡ o → term_at inside o x ≡ Some t → Shows atoms items p k x t
+    shown_at : (p k x : ℕ) (o : Option ℕ) (t : FoldedTerm) → child_of atoms p k ≡ o → term_at inside o x ≡ Some t → Shows atoms items p k x t
     shown_at p k x None t e f =
-        let P : Term → Type 0 = λ t. Shows atoms items p k x t in
+        let P : FoldedTerm → Type 0 = λ t. Shows atoms items p k x t in
         subst P (same_Some _ _ f) (as_link (λ q c. absurd (child_none atoms p k e q c)))
     shown_at p k x (Some q) t e f = go (one_of q items) refl f
       where
@@ -79,7 +76,7 @@ module _ (atoms : List SolidAtom) (items : List ℕ) where
 
         go : (b : Bool) → one_of q items ≡ b → (if b then Some (link x) else bind (slice_get atoms q) (λ a. labelled_by (inside q (all_but_last a.links)) a.label)) ≡ Some t → Shows atoms items p k x t
         go true g f =
-            let P : Term → Type 0 = λ t. Shows atoms items p k x t in
+            let P : FoldedTerm → Type 0 = λ t. Shows atoms items p k x t in
             let Q : ℕ → Type 0 = λ z. Among z items in
             subst P (same_Some _ _ f) (as_link (λ r d. subst Q (one_child atoms q r p k few c d) (one_true q items g)))
         go false g f =
@@ -88,59 +85,59 @@ module _ (atoms : List SolidAtom) (items : List ℕ) where
             let same = same_Some c.child a (sym c.child_at ∙ h.1) in
             let l = labelled_some (inside q (all_but_last a.links)) a.label t h.2 in
             let links : all_but_last a.links ≡ c.first_links = ap (λ (b : SolidAtom). all_but_last b.links) (sym same) ∙ ap all_but_last c.links ∙ but_last c.first_links c.last_link in
-            let P : Term → Type 0 = λ t. Shows atoms items p k x t in
+            let P : FoldedTerm → Type 0 = λ t. Shows atoms items p k x t in
             subst P (ap (λ (b : SolidAtom). labelled b.label l.0) same ∙ l.2)
             (as_term c (true_one q items g) (right q c.first_links l.0 (ap (inside q) (sym links) ∙ l.1)))
 
-    and_some : (o : Option Term) (u : Option Terms) (ts : Terms) → and_terms o u ≡ Some ts → (t : Term) × (us : Terms) × (o ≡ Some t) × (u ≡ Some us) × (term_and t us ≡ ts)
+    and_some : (o : Option FoldedTerm) (u : Option FoldedTerms) (ts : FoldedTerms) → and_terms o u ≡ Some ts → (t : FoldedTerm) × (us : FoldedTerms) × (o ≡ Some t) × (u ≡ Some us) × (term_and t us ≡ ts)
     and_some None u ts e = absurd (cc)
     and_some (Some t) None ts e = absurd (cc)
     and_some (Some t) (Some us) ts e = (t, us, refl, refl, same_Some _ _ e)
 
-    ports_right : (p k : ℕ) (xs : List ℕ) (ts : Terms) → ports inside p k xs ≡ Some ts → ShowsAll atoms items p k xs ts
-    ports_right p k [] ts e = let P : Terms → Type 0 = λ ts. ShowsAll atoms items p k [] ts in subst P (same_Some _ _ e) folding.none
+    ports_right : (p k : ℕ) (xs : List ℕ) (ts : FoldedTerms) → ports inside p k xs ≡ Some ts → ShowsAll atoms items p k xs ts
+    ports_right p k [] ts e = let P : FoldedTerms → Type 0 = λ ts. ShowsAll atoms items p k [] ts in subst P (same_Some _ _ e) folding.none
     ports_right p k (x ∷ xs) ts e =
         let h = and_some (term_at inside (child_of atoms p k) x) (ports inside p (suc k) xs) ts e in
-        let P : Terms → Type 0 = λ ts. ShowsAll atoms items p k (x ∷ xs) ts in
+        let P : FoldedTerms → Type 0 = λ ts. ShowsAll atoms items p k (x ∷ xs) ts in
         subst P h.4 (folding.more (shown_at p k x (child_of atoms p k) h.0 refl h.2) (ports_right p (suc k) xs h.1 h.3))
 
-  arguments_right : AtMostTwice atoms → (n : ℕ) (q : ℕ) (xs : List ℕ) (ts : Terms) → arguments n q xs ≡ Some ts → ShowsAll atoms items q 0 xs ts
+  arguments_right : AtMostTwice atoms → (n : ℕ) (q : ℕ) (xs : List ℕ) (ts : FoldedTerms) → arguments n q xs ≡ Some ts → ShowsAll atoms items q 0 xs ts
   arguments_right few zero q xs ts e = absurd (cc)
   arguments_right few (suc n) q xs ts e = ports_right few (arguments n) (λ r ys us f. arguments_right few n r ys us f) q 0 xs ts e
 
-  abbrev and_items : Option Item → Option (List Item) → Option (List Item)
+  abbrev and_items : Option FoldedItem → Option (List FoldedItem) → Option (List FoldedItem)
   and_items None us = None
   and_items (Some i) None = None
   and_items (Some i) (Some is) = Some (i ∷ is)
 
-  abbrev item_of : Option Terms → Label → Option Item
+  abbrev item_of : Option FoldedTerms → Label → Option FoldedItem
   item_of None l = None
   item_of (Some ts) l = Some (record { label = l; arguments = ts })
 
-  abbrev items_of : List ℕ → Option (List Item)
+  abbrev items_of : List ℕ → Option (List FoldedItem)
   items_of [] = Some []
   items_of (p ∷ ps) = and_items (bind (slice_get atoms p) (λ a. item_of (arguments (suc (length atoms)) p a.links) a.label)) (items_of ps)
 
-  and_items_some : (o : Option Item) (u : Option (List Item)) (is : List Item) → and_items o u ≡ Some is → (i : Item) × (js : List Item) × (o ≡ Some i) × (u ≡ Some js) × (i ∷ js ≡ is)
+  and_items_some : (o : Option FoldedItem) (u : Option (List FoldedItem)) (is : List FoldedItem) → and_items o u ≡ Some is → (i : FoldedItem) × (js : List FoldedItem) × (o ≡ Some i) × (u ≡ Some js) × (i ∷ js ≡ is)
   and_items_some None u is e = absurd (cc)
   and_items_some (Some i) None is e = absurd (cc)
   and_items_some (Some i) (Some js) is e = (i, js, refl, refl, same_Some _ _ e)
 
-  item_some : (o : Option Terms) (l : Label) (i : Item) → item_of o l ≡ Some i → (ts : Terms) × (o ≡ Some ts) × (record { label = l; arguments = ts } ≡ i)
+  item_some : (o : Option FoldedTerms) (l : Label) (i : FoldedItem) → item_of o l ≡ Some i → (ts : FoldedTerms) × (o ≡ Some ts) × (record { label = l; arguments = ts } ≡ i)
   item_some None l i e = absurd (cc)
   item_some (Some ts) l i e = (ts, refl, same_Some _ _ e)
 
-  same_list : (i j : Item) (is js : List Item) → i ≡ j → j ∷ is ≡ js → i ∷ is ≡ js
+  same_list : (i j : FoldedItem) (is js : List FoldedItem) → i ≡ j → j ∷ is ≡ js → i ∷ is ≡ js
   same_list i j is js e f = cc
 
-  items_right : AtMostTwice atoms → (ps : List ℕ) (is : List Item) → items_of ps ≡ Some is → ShowsItems atoms items ps is
-  items_right few [] is e = let P : List Item → Type 0 = λ is. ShowsItems atoms items [] is in subst P (same_Some _ _ e) folding.none
+  items_right : AtMostTwice atoms → (ps : List ℕ) (is : List FoldedItem) → items_of ps ≡ Some is → ShowsItems atoms items ps is
+  items_right few [] is e = let P : List FoldedItem → Type 0 = λ is. ShowsItems atoms items [] is in subst P (same_Some _ _ e) folding.none
   items_right few (p ∷ ps) is e =
       let f = λ (a : SolidAtom). item_of (arguments (suc (length atoms)) p a.links) a.label in
       let h = and_items_some (bind (slice_get atoms p) f) (items_of ps) is e in
       let a = bind_some (slice_get atoms p) f h.0 h.2 in
       let l = item_some (arguments (suc (length atoms)) p a.0.links) a.0.label h.0 a.2 in
-      let P : List Item → Type 0 = λ is. ShowsItems atoms items (p ∷ ps) is in
+      let P : List FoldedItem → Type 0 = λ is. ShowsItems atoms items (p ∷ ps) is in
       subst P (same_list (record { label = a.0.label; arguments = l.0 }) h.0 h.1 is l.2 h.4)
       (folding.more a.0 a.1 (arguments_right few (suc (length atoms)) p a.0.links l.0 l.1) (items_right few ps h.1 h.3))
 
@@ -240,7 +237,7 @@ module _ (atoms : List SolidAtom) where
 
 -- Regions.
 
-abbrev in_folded : Option (List Item) → Option FoldedMembranes → List Rule → Option Folded
+abbrev in_folded : Option (List FoldedItem) → Option FoldedMembranes → List Rule → Option Folded
 in_folded None fs rs = None
 in_folded (Some is) None rs = None
 in_folded (Some is) (Some fs) rs = Some (folded is fs rs)
@@ -253,14 +250,14 @@ and_membrane (Some f) (Some fs) = Some (membrane_and f fs)
 abbrev mutual
   pub folded_of : Region → Option Folded
   folded_of (region atoms ms rs) =
-      bind (furthers atoms (firsts atoms (positions atoms)) (positions atoms)) (λ items. in_folded (items_of atoms items items) (all_folded ms) rs)
+      bind (furthers atoms (firsts atoms (atom_positions atoms)) (atom_positions atoms)) (λ items. in_folded (items_of atoms items items) (all_folded ms) rs)
 
   pub all_folded : Regions → Option FoldedMembranes
   all_folded no_region = Some no_membrane
   all_folded (region_and r rs) = and_membrane (folded_of r) (all_folded rs)
 
-in_some : (o : Option (List Item)) (u : Option FoldedMembranes) (rs : List Rule) (f : Folded) → in_folded o u rs ≡ Some f
-    → (is : List Item) × (fs : FoldedMembranes) × (o ≡ Some is) × (u ≡ Some fs) × (folded is fs rs ≡ f)
+in_some : (o : Option (List FoldedItem)) (u : Option FoldedMembranes) (rs : List Rule) (f : Folded) → in_folded o u rs ≡ Some f
+    → (is : List FoldedItem) × (fs : FoldedMembranes) × (o ≡ Some is) × (u ≡ Some fs) × (folded is fs rs ≡ f)
 in_some None u rs f e = absurd (cc)
 in_some (Some is) None rs f e = absurd (cc)
 in_some (Some is) (Some fs) rs f e = (is, fs, refl, refl, same_Some _ _ e)
@@ -276,13 +273,13 @@ mutual
   computed (region atoms ms rs) f few e =
       let few_here : AtMostTwice atoms = λ x. let n = few x in omega (arith, n) in
       let few_inside : FewIn (together (regions_processes ms)) = λ x. let n = few x in omega (arith, n) in
-      let found = furthers atoms (firsts atoms (positions atoms)) (positions atoms) in
+      let found = furthers atoms (firsts atoms (atom_positions atoms)) (atom_positions atoms) in
       let h = bind_some found (λ items. in_folded (items_of atoms items items) (all_folded ms) rs) f e in
       let i = in_some (items_of atoms h.0 h.0) (all_folded ms) rs f h.2 in
       let items : AreItems atoms h.0 = record {
-        firsts = firsts atoms (positions atoms);
-        no_children = firsts_right atoms (positions atoms);
-        further = furthers_right atoms few_here (firsts atoms (positions atoms)) (positions atoms) h.0 h.1;
+        firsts = firsts atoms (atom_positions atoms);
+        no_children = firsts_right atoms (atom_positions atoms);
+        further = furthers_right atoms few_here (firsts atoms (atom_positions atoms)) (atom_positions atoms) h.0 h.1;
       } in
       let P : Folded → Type 0 = λ f. Folds (region atoms ms rs) f in
       subst P i.4 (folds h.0 items (items_right atoms h.0 few_here h.0 i.0 i.2) (all_computed ms i.1 few_inside i.3))

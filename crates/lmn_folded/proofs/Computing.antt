@@ -4,7 +4,9 @@ use Rattle.std.proofs.lemmas.Option.{same_Some}
 use Rattle.lmn_congruence.specs.Orders.{Among, at_head, further}
 use Rattle.lmn_congruence.specs.Regions.{SolidAtom}
 use Rattle.lmn_folded.specs.Folding.{IsChild}
-use Rattle.lmn_folded.proofs.Choosing.{within}
+use Rattle.lmn_base.proofs.Lists.{get_below as within}
+use Rattle.lmn_base.proofs.Numbers.{below_next}
+use Rattle.lmn_base.proofs.Truth.{first_true as and_first, never_both as true_false}
 
 -- The tests.
 
@@ -38,10 +40,6 @@ true_ends : (zs : List ℕ) (x : ℕ) → ends (zs ++ x ∷ []) x ≡ true
 true_ends [] x = grind arith
 true_ends (z ∷ []) x = grind arith
 true_ends (z ∷ w ∷ ws) x = true_ends (w ∷ ws) x
-
-and_first : (s t : Bool) → s && t ≡ true → s ≡ true
-and_first true t e = refl
-and_first false t e = e
 
 and_second : (s t : Bool) → s && t ≡ true → t ≡ true
 and_second true t e = e
@@ -114,9 +112,6 @@ find_some (suc n) t i e = go (if_some (t n) n i (find_below n t) e) (find_some n
     go (inl h) more = ap t (sym h.1) ∙ h.0
     go (inr h) more = more h
 
-below_next : (i n : ℕ) → i < suc n → (i < n) ⊎ (i ≡ n)
-below_next i n h = grind arith
-
 find_none : (n : ℕ) (t : ℕ → Bool) (i : ℕ) → find_below n t ≡ None → i < n → t i ≡ false
 find_none zero t i e l = absurd (omega (arith, l))
 find_none (suc n) t i e l = let h = if_none (t n) n (find_below n t) e in go h.0 (find_none n t i h.1) (below_next i n l)
@@ -124,9 +119,6 @@ find_none (suc n) t i e l = let h = if_none (t n) n (find_below n t) e in go h.0
     go : t n ≡ false → (i < n → t i ≡ false) → (i < n) ⊎ (i ≡ n) → t i ≡ false
     go h more (inl l) = more l
     go h more (inr e) = ap t e ∙ h
-
-true_false : (t : Bool) → t ≡ true → t ≡ false → ⊥
-true_false t e f = cc
 
 abbrev ports_of : Option SolidAtom → ℕ
 ports_of None = 0

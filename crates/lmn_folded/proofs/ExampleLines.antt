@@ -7,7 +7,7 @@ use Rattle.lmn_congruence.specs.Links.{one_if_same, places}
 use Rattle.lmn_congruence.specs.Orders.{Among, at_head, further}
 use Rattle.lmn_congruence.specs.Process.{Process, nothing, connector, atom, pair, membrane, rule, occurrences, Closed, Fresh, Local}
 use Rattle.lmn_congruence.specs.Regions.{Region, region_process}
-use Rattle.lmn_congruence.proofs.Counts.{none_if_apart, one_if_equal, below_or_from, same_or_not as same_or_apart}
+use Rattle.lmn_congruence.proofs.Counts.{none_if_apart, one_if_equal, below_or_from}
 use Rattle.lmn_folded.specs.Terms.{Folded, folded_links, renamed_folded}
 use Rattle.lmn_folded.specs.Lines.{IsFoldedLine}
 use Rattle.lmn_folded.specs.Words.{line_of_folded}
@@ -15,6 +15,8 @@ use Rattle.lmn_folded.specs.Examples as example
 use Rattle.lmn_folded.proofs.OneFolded.{FewIn}
 use Rattle.lmn_folded.proofs.Computed.{folded_of, computed}
 use Rattle.lmn_folded.proofs.FoldedLines.{one_folded_line}
+use Rattle.lmn_base.proofs.Lists.{head_is as first_byte}
+use Rattle.lmn_base.proofs.Numbers.{below_next, same_or_not as same_or_apart}
 
 -- Each link is below a number, and each number below it stands at most twice.
 
@@ -64,9 +66,6 @@ none_above n (rule r) x e l = refl
 
 at_most : (m : ℕ) → nat_le m 2 ≡ true → m ≤ 2
 at_most m e = grind arith
-
-below_next : (x n : ℕ) → x < suc n → (x < n) ⊎ (x ≡ n)
-below_next x n l = grind arith
 
 few_there : (n : ℕ) (P : Process) (x : ℕ) → few_below n P ≡ true → x < n → occurrences x P ≤ 2
 few_there zero P x e l = absurd (omega (arith, l))
@@ -131,20 +130,17 @@ seven x (further (further h)) = elim h [ ]
 
 pub across : example.Across
 across =
-    line_by example.across _ 8 1 (λ x. 0) _ refl refl refl (λ x y a b e. seven x a ∙ sym (seven y b)) (new (known (omega arith) no_more))
+    line_by example.across_membrane _ 8 1 (λ x. 0) _ refl refl refl (λ x y a b e. seven x a ∙ sym (seven y b)) (new (known (omega arith) no_more))
     (rw (decimal_digit 0 (omega arith)) refl)
 
-last_ports_closed : Closed (region_process example.last_ports)
+pub last_ports_closed : Closed (region_process example.last_ports)
 last_ports_closed x = go (same_or_apart x 0)
   where
     go : (x ≡ 0) ⊎ (x ≢ 0) → Fresh x (region_process example.last_ports) ⊎ Local x (region_process example.last_ports)
     go (inl e) = let h = one_if_equal x 0 e in inr (omega (arith, h))
     go (inr d) = let h = none_if_apart x 0 d in inl (omega (arith, h))
 
-first_byte : (b c : ℕ) (bs cs : List ℕ) → b ∷ bs ≡ c ∷ cs → b ≡ c
-first_byte b c bs cs e = cc
-
 pub not_the_first : example.NotTheFirst
 not_the_first h =
-    let e = first_byte _ _ _ _ (one_folded_line example.last_ports (codes "a(b).\n") (codes "b(a).\n") last_ports_closed last_ports h) in
+    let e = first_byte (one_folded_line example.last_ports (codes "a(b).\n") (codes "b(a).\n") last_ports_closed last_ports h) in
     omega (arith, e)

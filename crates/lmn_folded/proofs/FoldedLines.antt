@@ -3,7 +3,7 @@ use Rattle.std.proofs.Common.{◌≤◌, ◌⊎◌, inl, inr, refl, sym, ap, ◌
 use Rattle.lmn_congruence.specs.Process.{Process, Closed, Fresh, Local, occurrences}
 use Rattle.lmn_congruence.specs.Regions.{region_process}
 use Rattle.lmn_folded.specs.Terms.{Folded}
-use Rattle.lmn_folded.specs.Lines.{IsNumbered}
+use Rattle.lmn_folded.specs.Lines.{IsNumberedForm}
 use Rattle.lmn_folded.specs.Words.{line_of_folded}
 use Rattle.lmn_folded.specs.Laws.{SomeFoldedLine, OneFoldedLine}
 use Rattle.lmn_folded.proofs.OneFolded.{FewIn, one_folded}
@@ -26,5 +26,5 @@ some_folded_line S closed =
 pub one_folded_line : OneFoldedLine
 one_folded_line S line other closed h k =
     let same = one_folded (few_in (region_process S) closed) h.folds k.folds in
-    let P : Folded → Type 0 = λ f. IsNumbered f h.numbered in
+    let P : Folded → Type 0 = λ f. IsNumberedForm f h.numbered in
     h.is ∙ ap line_of_folded (one_numbered k.given h.numbered k.numbered (subst P same h.numbers) k.numbers) ∙ sym k.is

@@ -2,42 +2,40 @@
 use Rattle.std.proofs.Common.{ℕ, zero, suc, ◌≡◌, ◌<◌, List, [], ◌∷◌, ◌++◌, map, length, slice_index_or, refl, sym, ap, ◌∙◌, subst, arith}
 use Rattle.std.specs.Prelude.{Contains}
 use Rattle.std.specs.List.{AllByRecursion}
-use Rattle.std.proofs.lemmas.List.{map-append}
 use Rattle.std.proofs.lemmas.List.Elements.{Contains-append_right}
 use Rattle.lmn_base.specs.Links.{NumbersLinks}
 use Rattle.lmn_congruence.specs.Orders.{Among, at_head, further}
 use Rattle.lmn_plain.specs.Links.{Link, made}
 use Rattle.lmn_plain.proofs.SomeNumbers.{some_numbers}
-use Rattle.lmn_plain.proofs.SameNumbers.{contains_here, numbers_agree}
-use Rattle.lmn_folded.specs.Terms.{Term, link, labelled, Terms, no_term, term_and, Item, Folded, folded, FoldedMembranes, no_membrane, membrane_and, term_links, terms_links, items_links, folded_links, membranes_links, renamed_term, renamed_terms, renamed_item, renamed_folded, renamed_membranes}
-use Rattle.lmn_folded.specs.Lines.{IsNumbered}
+use Rattle.lmn_plain.proofs.SameNumbers.{numbers_agree}
+use Rattle.lmn_folded.specs.Terms.{FoldedTerm, link, labelled, FoldedTerms, no_term, term_and, FoldedItem, Folded, folded, FoldedMembranes, no_membrane, membrane_and, term_links, terms_links, items_links, folded_links, membranes_links, renamed_term, renamed_terms, renamed_item, renamed_folded, renamed_membranes}
+use Rattle.lmn_folded.specs.Lines.{IsNumberedForm}
+use Rattle.lmn_base.proofs.Lists.{contains_first as contains_here, join_maps}
+use Rattle.lmn_folded.proofs.OneFolded.{same_terms, same_membranes}
 
 -- Links renamed are the links of what is renamed.
 
-appended : (f : ℕ → ℕ) (xs ys vs ws : List ℕ) → vs ≡ map f xs → ws ≡ map f ys → vs ++ ws ≡ map f (xs ++ ys)
-appended f xs ys vs ws d e = ap (λ zs. zs ++ ws) d ∙ ap (λ zs. map f xs ++ zs) e ∙ sym (map-append f xs ys)
-
 module _ (f : ℕ → ℕ) where
   mutual
-    pub renamed_term_links : (t : Term) → term_links (renamed_term f t) ≡ map f (term_links t)
+    pub renamed_term_links : (t : FoldedTerm) → term_links (renamed_term f t) ≡ map f (term_links t)
     renamed_term_links (link x) = refl
     renamed_term_links (labelled l ts) = renamed_terms_links ts
 
-    pub renamed_terms_links : (ts : Terms) → terms_links (renamed_terms f ts) ≡ map f (terms_links ts)
+    pub renamed_terms_links : (ts : FoldedTerms) → terms_links (renamed_terms f ts) ≡ map f (terms_links ts)
     renamed_terms_links no_term = refl
-    renamed_terms_links (term_and t ts) = appended f (term_links t) (terms_links ts) _ _ (renamed_term_links t) (renamed_terms_links ts)
+    renamed_terms_links (term_and t ts) = join_maps f (term_links t) (terms_links ts) (renamed_term_links t) (renamed_terms_links ts)
 
-  pub renamed_items_links : (is : List Item) → items_links (map (renamed_item f) is) ≡ map f (items_links is)
+  pub renamed_items_links : (is : List FoldedItem) → items_links (map (renamed_item f) is) ≡ map f (items_links is)
   renamed_items_links [] = refl
-  renamed_items_links (i ∷ is) = appended f (terms_links i.arguments) (items_links is) _ _ (renamed_terms_links i.arguments) (renamed_items_links is)
+  renamed_items_links (i ∷ is) = join_maps f (terms_links i.arguments) (items_links is) (renamed_terms_links i.arguments) (renamed_items_links is)
 
   mutual
     pub renamed_links : (t : Folded) → folded_links (renamed_folded f t) ≡ map f (folded_links t)
-    renamed_links (folded is fs rs) = appended f (items_links is) (membranes_links fs) _ _ (renamed_items_links is) (renamed_membranes_links fs)
+    renamed_links (folded is fs rs) = join_maps f (items_links is) (membranes_links fs) (renamed_items_links is) (renamed_membranes_links fs)
 
     renamed_membranes_links : (ts : FoldedMembranes) → membranes_links (renamed_membranes f ts) ≡ map f (membranes_links ts)
     renamed_membranes_links no_membrane = refl
-    renamed_membranes_links (membrane_and t ts) = appended f (folded_links t) (membranes_links ts) _ _ (renamed_links t) (renamed_membranes_links ts)
+    renamed_membranes_links (membrane_and t ts) = join_maps f (folded_links t) (membranes_links ts) (renamed_links t) (renamed_membranes_links ts)
 
 -- Existence.
 
@@ -56,7 +54,7 @@ contains_mark x [] a = elim a [ ]
 mark_same : (x y : ℕ) → mark x ≡ mark y → x ≡ y
 mark_same x y e = cc
 
-pub some_numbered : (given : Folded) → (numbered : Folded) × IsNumbered given numbered
+pub some_numbered : (given : Folded) → (numbered : Folded) × IsNumberedForm given numbered
 some_numbered given =
     let xs = folded_links given in
     let n = some_numbers (map mark xs) in
@@ -87,30 +85,24 @@ all_back : (P : ℕ → Type 0) (xs ys : List ℕ) → AllByRecursion P (xs ++ y
 all_back P [] ys h = h
 all_back P (x ∷ xs) ys h = all_back P xs ys h.1
 
-two_terms : {a b : Term} {c d : Terms} → a ≡ b → c ≡ d → term_and a c ≡ term_and b d
-two_terms e f = cc
-
-two_items : {a b : Item} {c d : List Item} → a ≡ b → c ≡ d → a ∷ c ≡ b ∷ d
+two_items : {a b : FoldedItem} {c d : List FoldedItem} → a ≡ b → c ≡ d → a ∷ c ≡ b ∷ d
 two_items e f = cc
-
-two_membranes : {a b : Folded} {c d : FoldedMembranes} → a ≡ b → c ≡ d → membrane_and a c ≡ membrane_and b d
-two_membranes e f = cc
 
 module _ (f g : ℕ → ℕ) where
   abbrev Agree : List ℕ → Type 0
   Agree xs = AllByRecursion (λ x. f x ≡ g x) xs
 
   mutual
-    term_agrees : (t : Term) → Agree (term_links t) → renamed_term f t ≡ renamed_term g t
+    term_agrees : (t : FoldedTerm) → Agree (term_links t) → renamed_term f t ≡ renamed_term g t
     term_agrees (link x) h = ap link h.0
     term_agrees (labelled l ts) h = ap (labelled l) (terms_agree ts h)
 
-    terms_agree : (ts : Terms) → Agree (terms_links ts) → renamed_terms f ts ≡ renamed_terms g ts
+    terms_agree : (ts : FoldedTerms) → Agree (terms_links ts) → renamed_terms f ts ≡ renamed_terms g ts
     terms_agree no_term h = refl
     terms_agree (term_and t ts) h =
-        two_terms (term_agrees t (all_front (λ x. f x ≡ g x) (term_links t) (terms_links ts) h)) (terms_agree ts (all_back (λ x. f x ≡ g x) (term_links t) (terms_links ts) h))
+        same_terms (term_agrees t (all_front (λ x. f x ≡ g x) (term_links t) (terms_links ts) h)) (terms_agree ts (all_back (λ x. f x ≡ g x) (term_links t) (terms_links ts) h))
 
-  items_agree : (is : List Item) → Agree (items_links is) → map (renamed_item f) is ≡ map (renamed_item g) is
+  items_agree : (is : List FoldedItem) → Agree (items_links is) → map (renamed_item f) is ≡ map (renamed_item g) is
   items_agree [] h = refl
   items_agree (i ∷ is) h =
       two_items (ap (λ ts. record { label = i.label; arguments = ts }) (terms_agree i.arguments (all_front (λ x. f x ≡ g x) (terms_links i.arguments) (items_links is) h)))
@@ -125,10 +117,10 @@ module _ (f g : ℕ → ℕ) where
     membranes_agree : (ts : FoldedMembranes) → Agree (membranes_links ts) → renamed_membranes f ts ≡ renamed_membranes g ts
     membranes_agree no_membrane h = refl
     membranes_agree (membrane_and t ts) h =
-        two_membranes (folded_agrees t (all_front (λ x. f x ≡ g x) (folded_links t) (membranes_links ts) h))
+        same_membranes (folded_agrees t (all_front (λ x. f x ≡ g x) (folded_links t) (membranes_links ts) h))
         (membranes_agree ts (all_back (λ x. f x ≡ g x) (folded_links t) (membranes_links ts) h))
 
-pub one_numbered : (given a b : Folded) → IsNumbered given a → IsNumbered given b → a ≡ b
+pub one_numbered : (given a b : Folded) → IsNumberedForm given a → IsNumberedForm given b → a ≡ b
 one_numbered given a b h k =
     let xs = folded_links given in
     let P : ℕ → List ℕ → Type 0 = λ n ys. NumbersLinks ys n in

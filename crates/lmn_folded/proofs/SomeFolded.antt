@@ -4,13 +4,15 @@ use Rattle.std.specs.List.{range_with_len}
 use Rattle.lmn_congruence.specs.Orders.{Among, at_head, further}
 use Rattle.lmn_congruence.specs.Process.{together}
 use Rattle.lmn_congruence.specs.Regions.{SolidAtom, Region, region, Regions, no_region, region_and, region_process, regions_processes}
-use Rattle.lmn_folded.specs.Terms.{Term, link, labelled, Terms, no_term, term_and, Item, Folded, folded, FoldedMembranes, no_membrane, membrane_and}
+use Rattle.lmn_folded.specs.Terms.{FoldedTerm, link, labelled, FoldedTerms, no_term, term_and, FoldedItem, Folded, folded, FoldedMembranes, no_membrane, membrane_and}
 use Rattle.lmn_folded.specs.Folding as folding
-use Rattle.lmn_folded.specs.Folding.{IsChild, Descends, NoChildren, Further, AreItems, positions, Shows, as_link, as_term, ShowsAll, ShowsItems, Folds, folds, FoldsAll}
+use Rattle.lmn_folded.specs.Folding.{IsChild, NoChildren, Further, AreItems, atom_positions, Shows, as_link, as_term, ShowsAll, ShowsItems, Folds, folds, FoldsAll}
 use Rattle.lmn_folded.proofs.Places.{AtMostTwice, one_child, one_parent}
 use Rattle.lmn_folded.proofs.OneFolded.{FewIn}
-use Rattle.lmn_folded.proofs.Choosing.{Decided, within, element, among, child_at, parent, taken_out, Seen, FromItem, from_item, positions_all, suc_less}
-use Rattle.lmn_congruence.proofs.Counts.{same_or_not as same_or_apart}
+use Rattle.lmn_folded.proofs.Choosing.{among, child_at, parent, taken_out, Seen, FromItem, from_item, positions_all, suc_less}
+use Rattle.lmn_base.proofs.Lists.{get_below as within, get_there as element}
+use Rattle.lmn_base.proofs.Numbers.{same_or_not as same_or_apart}
+use Rattle.lmn_base.proofs.Truth.{Decided}
 
 -- The way down to an atom that is printed as a term: an item, then children that are no items.
 pub data Path (atoms : List SolidAtom) (items : List ℕ) : ℕ → List ℕ → Type 0 where
@@ -36,7 +38,7 @@ module _ (atoms : List SolidAtom) (few : AtMostTwice atoms) where
   module _ (items : List ℕ) where
     abbrev Goes : ℕ → Type 0
     Goes n = (unseen above : List ℕ) (p : ℕ) (xs : List ℕ) → length unseen ≡ n → Seen atoms items few unseen (p ∷ above) → Path atoms items p above
-        → (ts : Terms) × ShowsAll atoms items p 0 xs ts
+        → (ts : FoldedTerms) × ShowsAll atoms items p 0 xs ts
 
     module _ (n : ℕ) (again : (m : ℕ) → suc m ≡ n → Goes m) (unseen above : List ℕ) (p : ℕ) (size : length unseen ≡ n) (all : Seen atoms items few unseen (p ∷ above)) (path : Path atoms items p above) where
       split : (q : ℕ) (rest : List ℕ) → ((v : ℕ) → v ≢ q → Among v unseen → Among v rest) → (v : ℕ) → Among v (p ∷ above) ⊎ Among v unseen → (v ≡ q) ⊎ (v ≢ q)
@@ -45,10 +47,10 @@ module _ (atoms : List SolidAtom) (few : AtMostTwice atoms) where
       split q rest f v (inl a) (inr d) = inl (further a)
       split q rest f v (inr a) (inr d) = inr (f v d a)
 
-      one_port : (k x : ℕ) → (t : Term) × Shows atoms items p k x t
+      one_port : (k x : ℕ) → (t : FoldedTerm) × Shows atoms items p k x t
       one_port k x = go (child_at atoms p k)
         where
-          as_one : (q : ℕ) (c : IsChild atoms q p k) → ¬ (Among q items) → Among q (p ∷ above) ⊎ Among q unseen → (t : Term) × Shows atoms items p k x t
+          as_one : (q : ℕ) (c : IsChild atoms q p k) → ¬ (Among q items) → Among q (p ∷ above) ⊎ Among q unseen → (t : FoldedTerm) × Shows atoms items p k x t
           as_one q c m (inl a) = absurd (new_one path c m a)
           as_one q c m (inr a) =
               let left = taken_out q unseen a in
@@ -56,15 +58,15 @@ module _ (atoms : List SolidAtom) (few : AtMostTwice atoms) where
               (λ v l. split q left.0 left.2 v (all v l) (same_or_apart v q)) (below path c m (λ b. new_one path c m b)) in
               (labelled c.child.label inside.0, as_term c m inside.1)
 
-          by_item : (q : ℕ) (c : IsChild atoms q p k) → Decided (Among q items) → (t : Term) × Shows atoms items p k x t
+          by_item : (q : ℕ) (c : IsChild atoms q p k) → Decided (Among q items) → (t : FoldedTerm) × Shows atoms items p k x t
           by_item q c (inl a) = let P : ℕ → Type 0 = λ z. Among z items in (link x, as_link (λ r d. subst P (one_child atoms q r p k few c d) a))
           by_item q c (inr m) = as_one q c m (all q (within atoms q c.child c.child_at))
 
-          go : Decided ((q : ℕ) × IsChild atoms q p k) → (t : Term) × Shows atoms items p k x t
+          go : Decided ((q : ℕ) × IsChild atoms q p k) → (t : FoldedTerm) × Shows atoms items p k x t
           go (inl h) = by_item h.0 h.1 (among h.0 items)
           go (inr m) = (link x, as_link (λ q c. absurd (m (q, c))))
 
-      ports : (k : ℕ) (xs : List ℕ) → (ts : Terms) × ShowsAll atoms items p k xs ts
+      ports : (k : ℕ) (xs : List ℕ) → (ts : FoldedTerms) × ShowsAll atoms items p k xs ts
       ports k [] = (no_term, folding.none)
       ports k (x ∷ xs) =
           let first = one_port k x in
@@ -76,15 +78,15 @@ module _ (atoms : List SolidAtom) (few : AtMostTwice atoms) where
     goes (suc n) unseen above p xs size all path =
         ports (suc n) (λ m e. let P : ℕ → Type 0 = Goes in subst P (suc_less atoms items few n m (sym e)) (goes n)) unseen above p size all path 0 xs
 
-    item_shown : (p : ℕ) (xs : List ℕ) → Among p items → (ts : Terms) × ShowsAll atoms items p 0 xs ts
+    item_shown : (p : ℕ) (xs : List ℕ) → Among p items → (ts : FoldedTerms) × ShowsAll atoms items p 0 xs ts
     item_shown p xs a =
-        goes (length (positions atoms)) (positions atoms) [] p xs refl
+        goes (length (atom_positions atoms)) (atom_positions atoms) [] p xs refl
         (λ v h. inr (positions_all atoms items few 0 (length atoms) v (omega arith) (omega (arith, h)))) (start a)
 
     abbrev Below : List ℕ → Type 0
     Below qs = (v : ℕ) → Among v qs → v < length atoms
 
-    items_shown : (ps : List ℕ) → ((v : ℕ) → Among v ps → Among v items) → Below ps → (is : List Item) × ShowsItems atoms items ps is
+    items_shown : (ps : List ℕ) → ((v : ℕ) → Among v ps → Among v items) → Below ps → (is : List FoldedItem) × ShowsItems atoms items ps is
     items_shown [] f l = ([], folding.none)
     items_shown (p ∷ ps) f l =
         let a = element atoms p (l p at_head) in
@@ -115,8 +117,8 @@ module _ (atoms : List SolidAtom) (few : AtMostTwice atoms) where
 
   some_items : (items : List ℕ) × AreItems atoms items
   some_items =
-      let firsts = no_children (positions atoms) in
-      let all = further_items firsts.0 (positions atoms) (λ v a. let l = range_below 0 (length atoms) v a in omega (arith, l)) in
+      let firsts = no_children (atom_positions atoms) in
+      let all = further_items firsts.0 (atom_positions atoms) (λ v a. let l = range_below 0 (length atoms) v a in omega (arith, l)) in
       (all.0, record { firsts = firsts.0; no_children = firsts.1; further = all.1 })
 
 -- Items are positions of atoms.
@@ -142,7 +144,7 @@ all_below P (folding.item {q = q} {items = items} n k) h g v b = all_below P k (
 pub items_below : (atoms : List SolidAtom) (few : AtMostTwice atoms) (items : List ℕ) → AreItems atoms items → (v : ℕ) → Among v items → v < length atoms
 items_below atoms few items h =
     let P : ℕ → Type 0 = λ v. v < length atoms in
-    let here : (v : ℕ) → Among v (positions atoms) → v < length atoms = λ v a. let l = range_below atoms few 0 (length atoms) v a in omega (arith, l) in
+    let here : (v : ℕ) → Among v (atom_positions atoms) → v < length atoms = λ v a. let l = range_below atoms few 0 (length atoms) v a in omega (arith, l) in
     all_below P h.further (kept_below P h.no_children here) here
 
 mutual

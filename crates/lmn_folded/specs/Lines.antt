@@ -11,18 +11,19 @@ use Rattle.lmn_folded.specs.Words.{line_of_folded}
 
 -- The folded form with a number for each link that is printed, different ones for different links, by first occurrence over
 -- the whole line.
-pub record IsNumbered (given numbered : Folded) : Type 0 where
+pub record IsNumberedForm (given numbered : Folded) : Type 0 where
   pub to : ℕ → ℕ
   pub one_to_one : (x y : ℕ) → Among x (folded_links given) → Among y (folded_links given) → to x ≡ to y → x ≡ y
   pub is : numbered ≡ renamed_folded to given
   pub count : ℕ
   pub by_first_occurrence : NumbersLinks (folded_links numbered) count
 
+-- The line of a region in the folded form: the folded form, its printed links numbered, and its words.
 pub record IsFoldedLine (S : Region) (line : List ℕ) : Type 0 where
   pub given : Folded
   pub folds : Folds S given
   pub numbered : Folded
-  pub numbers : IsNumbered given numbered
+  pub numbers : IsNumberedForm given numbered
   pub is : line ≡ line_of_folded numbered
 
 -- the line of a region, in the folded form where that is asked, and else in the plain one

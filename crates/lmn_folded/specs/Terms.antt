@@ -4,23 +4,23 @@ use Rattle.lmn_congruence.specs.Rules.{Label, Rule}
 
 -- A term is a link, or a label with terms. This one stands for an atom that has one link more: its last, which isn't printed.
 mutual
-  pub data Term : Type 0 where
-    link : ℕ → Term
-    labelled : Label → Terms → Term
+  pub data FoldedTerm : Type 0 where
+    link : ℕ → FoldedTerm
+    labelled : Label → FoldedTerms → FoldedTerm
 
-  pub data Terms : Type 0 where
-    no_term : Terms
-    term_and : Term → Terms → Terms
+  pub data FoldedTerms : Type 0 where
+    no_term : FoldedTerms
+    term_and : FoldedTerm → FoldedTerms → FoldedTerms
 
 -- an atom that is printed as an item, with all its arguments
-pub record Item : Type 0 where
+pub record FoldedItem : Type 0 where
   pub label : Label
-  pub arguments : Terms
+  pub arguments : FoldedTerms
 
 -- The content of a membrane, or of the root: items, membranes and rules, in order.
 mutual
   pub data Folded : Type 0 where
-    folded : List Item → FoldedMembranes → List Rule → Folded
+    folded : List FoldedItem → FoldedMembranes → List Rule → Folded
 
   pub data FoldedMembranes : Type 0 where
     no_membrane : FoldedMembranes
@@ -28,15 +28,16 @@ mutual
 
 -- The links that are printed, in printed order.
 abbrev mutual
-  pub term_links : Term → List ℕ
+  pub term_links : FoldedTerm → List ℕ
   term_links (link x) = x ∷ []
   term_links (labelled l ts) = terms_links ts
 
-  pub terms_links : Terms → List ℕ
+  pub terms_links : FoldedTerms → List ℕ
   terms_links no_term = []
   terms_links (term_and t ts) = term_links t ++ terms_links ts
 
-abbrev pub items_links : List Item → List ℕ
+-- the links that items print
+abbrev pub items_links : List FoldedItem → List ℕ
 items_links [] = []
 items_links (i ∷ is) = terms_links i.arguments ++ items_links is
 
@@ -50,15 +51,16 @@ abbrev mutual
 
 -- All links renamed.
 abbrev mutual
-  pub renamed_term : (ℕ → ℕ) → Term → Term
+  pub renamed_term : (ℕ → ℕ) → FoldedTerm → FoldedTerm
   renamed_term f (link x) = link (f x)
   renamed_term f (labelled l ts) = labelled l (renamed_terms f ts)
 
-  pub renamed_terms : (ℕ → ℕ) → Terms → Terms
+  pub renamed_terms : (ℕ → ℕ) → FoldedTerms → FoldedTerms
   renamed_terms f no_term = no_term
   renamed_terms f (term_and t ts) = term_and (renamed_term f t) (renamed_terms f ts)
 
-abbrev pub renamed_item : (ℕ → ℕ) → Item → Item
+-- an item with other links
+abbrev pub renamed_item : (ℕ → ℕ) → FoldedItem → FoldedItem
 renamed_item f i = record { label = i.label; arguments = renamed_terms f i.arguments }
 
 abbrev mutual

@@ -19,7 +19,7 @@ use Rattle.lmn_folded.specs.Terms.{Folded, folded, FoldedMembranes, no_membrane,
 use Rattle.lmn_folded.specs.Words.{line_of_folded}
 use Rattle.lmn_folded.proofs.FoldedLines.{one_folded_line}
 use Rattle.lmn_heap.specs.Heap.{Heap, IsMem, In, atoms_in, rules_in}
-use Rattle.lmn_heap.specs.Solid.{IsNaming, SolidOf, atoms_of, regions_of}
+use Rattle.lmn_heap.specs.Solid.{IsNaming, HasSolid, solid_atoms_at, regions_of}
 use Rattle.lmn_heap.specs.Sound.{Forest, bare, mem, flat, Valid}
 use Rattle.lmn_heap.proofs.ListLemmas.{in_left, in_right}
 use Rattle.lmn_heap.proofs.Trees.{is_mem}
@@ -39,7 +39,7 @@ module _ (names : List Name) (table : List RuleTree) (s : Heap) (chosen : AreCho
       let here = chosen names name naming m (there m (inl refl)) in
       let inside = given_of inner (λ k i. there k (inr (in_left k (flat inner) (flat rest) i))) in
       let others = given_of rest (λ k i. there k (inr (in_right k (flat inner) (flat rest) i))) in
-      let z : Region-F Region = record { atoms = atoms_of s name (atoms_in s m); membranes = regions_of s name inner; rules = rules_in s m } in
+      let z : Region-F Region = record { atoms = solid_atoms_at s name (atoms_in s m); membranes = regions_of s name inner; rules = rules_in s m } in
       let shown : Folded = folded here.shown inside.0 (map (numbered_rule names table) (rules_in s m)) in
       let folds_here : Folds (region_step names (numbered_rule names table) (record { atoms = z.atoms; membranes = map reg z.membranes; rules = z.rules })) shown = folds here.items here.are here.shows inside.2 in (
         membrane_and shown others.0,
@@ -78,7 +78,7 @@ numbered_line names table t f S given root form e by =
       },
     )
 
-pub chosen_line : (names : List Name) (table : List RuleTree) (s t : Heap) (x : Solid) (of : SolidOf s x) → Valid s → AreChosen s
+pub chosen_line : (names : List Name) (table : List RuleTree) (s t : Heap) (x : Solid) (of : HasSolid s x) → Valid s → AreChosen s
     → ((given : FoldedMembranes) → PrintsForest names table s of.name of.forest given → IsNumberedBy names table t of.forest given)
     → (shown : Folded) × PrintsForest names table t (number_by_mark t) of.forest (membrane_and shown no_membrane) × IsFoldedLine (region_of names table x) (line_of_folded shown)
 chosen_line names table s t x of valid chosen numbered =
@@ -89,5 +89,5 @@ chosen_line names table s t x of valid chosen numbered =
     numbered_line names table t of.forest (region_of names table x) given.0 form.0 form.1 form.2 (numbered given.0 given.1)
 
 -- A line of the solid is that one.
-pub line_is : (names : List Name) (table : List RuleTree) (s : Heap) (x : Solid) → SolidOf s x → Valid s → (text line : List ℕ) → IsFoldedLine (region_of names table x) text → IsFoldedLine (region_of names table x) line → text ≡ line
+pub line_is : (names : List Name) (table : List RuleTree) (s : Heap) (x : Solid) → HasSolid s x → Valid s → (text line : List ℕ) → IsFoldedLine (region_of names table x) text → IsFoldedLine (region_of names table x) line → text ≡ line
 line_is names table s x of valid text line p q = one_folded_line (region_of names table x) text line (solids_closed names table x (heap_solids_are_solids s x valid of)) p q

@@ -3,19 +3,19 @@ use Rattle.std.proofs.Common.{◌≡◌, ℕ, zero, suc, ◌+◌, ◌^◌, ◌<�
 use Rattle.std.proofs.lemmas.Bool.{cases_eq}
 use Rattle.std.specs.Option.{option_map}
 use Rattle.std.specs.Prelude.{slice_index_or}
-use Rattle.lmn_heap.specs.Heap.{Heap, HeapAtom, IsAtom, IsInPlace, alter, with_mark, home_of, atoms_in, links_of, mark_of, marked, marks_of, arity_of}
+use Rattle.lmn_heap.specs.Heap.{Heap, HeapAtom, IsAtom, IsInPlace, alter, with_mark, home_of, atoms_in, partners_of, mark_of, marked, marks_of, arity_of, Unmarked}
 use Rattle.lmn_heap.specs.Lists.{In, from, after}
 use Rattle.lmn_heap.specs.Sound.{Forest, flat, IsTree, Valid, Sound, AtMost}
 use Rattle.lmn_heap.specs.Trees.{tree_of}
 use Rattle.lmn_heap.proofs.Groves.{forms_frame}
 use Rattle.lmn_heap.proofs.Listing.{alter_at, alter_away}
 use Rattle.lmn_heap.proofs.Ports.{same_port}
-use Rattle.lmn_items.specs.Chosen.{AllUnmarked}
 use Rattle.lmn_printer.specs.Numbers.{printed_atoms, remarked, with_marks}
-use Rattle.lmn_printer.proofs.MarkLemmas.{same_atoms, remarked_same, remarked_twice, mark_zero, mark_off, marks_length}
+use Rattle.lmn_printer.proofs.MarkLemmas.{remarked_same, remarked_twice, mark_zero, mark_off, marks_length}
 use Rattle.lmn_printer.proofs.OrderLemmas.{printed_all, tree_there}
 use Rattle.lmn_printer.proofs.StoredLemmas.{atoms_fewer}
 use Rattle.lmn_congruence.proofs.Counts.{below_or_from as below_or}
+use Rattle.lmn_heap.proofs.Common.{same_atoms}
 
 -- t is s with other marks
 abbrev pub OtherMarks : Heap → Heap → Type 0
@@ -46,7 +46,7 @@ marked_others s a i v = (
     own (Some x) = refl
 
 -- what doesn't look at marks is as before
-view_same : {X : Type 0} (view : Option HeapAtom → X) → ((x : HeapAtom) (ms : List ℕ) → view (Some (with_marks ms x)) ≡ view (Some x)) → (s t : Heap) → OtherMarks s t → (a : ℕ) → view (t.atoms a) ≡ view (s.atoms a)
+pub view_same : {X : Type 0} (view : Option HeapAtom → X) → ((x : HeapAtom) (ms : List ℕ) → view (Some (with_marks ms x)) ≡ view (Some x)) → (s t : Heap) → OtherMarks s t → (a : ℕ) → view (t.atoms a) ≡ view (s.atoms a)
 view_same view h s t r a = ap (λ (k : Heap). view (k.atoms a)) r.1 ∙ by (s.atoms a)
   where
     by : (o : Option HeapAtom) → view (option_map (with_marks (r.0 a)) o) ≡ view o
@@ -55,7 +55,7 @@ view_same view h s t r a = ap (λ (k : Heap). view (k.atoms a)) r.1 ∙ by (s.at
 
 module _ (s t : Heap) (r : OtherMarks s t) where
   pub arity_same : (a : ℕ) → arity_of t a ≡ arity_of s a
-  arity_same a = view_same (λ o. length (links_of o)) (λ x ms. refl) s t r a
+  arity_same a = view_same (λ o. length (partners_of o)) (λ x ms. refl) s t r a
 
   home_same : (a : ℕ) → home_of t a ≡ home_of s a
   home_same a = view_same (λ o. home_of (record s { atoms = λ b. o }) a) (λ x ms. refl) s t r a
@@ -149,7 +149,7 @@ clearing_next id s t u f tree a now next is c r done others h =
     by b i behind (inr (inr j)) = inr (subst (In b) (sym behind) j)
 
 -- no atom is left
-pub clearing_last : {A : Type 0} (id : A → ℕ) (s t : Heap) (f : Forest) (now : Option A) → ((a : A) → now ≡ Some a → ⊥) → Clearing s t f (option_map id now) → AllUnmarked t
+pub clearing_last : {A : Type 0} (id : A → ℕ) (s t : Heap) (f : Forest) (now : Option A) → ((a : A) → now ≡ Some a → ⊥) → Clearing s t f (option_map id now) → Unmarked t
 clearing_last id s t f None none c a i = elim (c.left a i) [ inl z ↦ z | inr j ↦ absurd j ]
 clearing_last id s t f (Some b) none c a i = absurd (none b refl)
 

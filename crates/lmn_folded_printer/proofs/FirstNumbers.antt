@@ -1,6 +1,5 @@
 -- The links of a heap have numbers of which those that are printed are the first ones, by first occurrence.
 use Rattle.std.proofs.Common.{◌≡◌, ℕ, ◌+◌, ◌<◌, ◌⊎◌, inl, inr, List, [], ◌∷◌, map, refl, sym, ap, ◌∙◌, subst, arith}
-use Rattle.std.proofs.lemmas.Bool.{cases_eq}
 use Rattle.lmn_base.specs.Links.{NumbersLinks}
 use Rattle.lmn_congruence.specs.Orders.{Among, at_head, further}
 use Rattle.lmn_folded.specs.Terms.{Folded, folded, FoldedMembranes, folded_links, membranes_links, renamed_membranes}
@@ -9,23 +8,12 @@ use Rattle.lmn_heap.specs.Heap.{Heap}
 use Rattle.lmn_heap.specs.Lists.{In}
 use Rattle.lmn_heap.specs.Solid.{IsNaming}
 use Rattle.lmn_printer.proofs.SolidLinks.{numbers_below}
-
-in_or_not : (x : ℕ) (xs : List ℕ) → In x xs ⊎ (In x xs → ⊥)
-in_or_not x [] = inr (λ i. i)
-in_or_not x (y ∷ ys) = elim (cases_eq y x) [
-  | inl e ↦ inl (inl e)
-  | inr d ↦ elim (in_or_not x ys) [ inl i ↦ inl (inr i) | inr n ↦ inr (λ i. elim i [ inl e ↦ d e | inr j ↦ n j ]) ]
-]
+use Rattle.lmn_heap.proofs.Common.{decide_in, in_map}
 
 in_among : (x : ℕ) (xs : List ℕ) → In x xs → Among x xs
 in_among x [] i = absurd i
 in_among x (y ∷ ys) (inl e) = subst (λ z. Among z (y ∷ ys)) e at_head
 in_among x (y ∷ ys) (inr i) = further (in_among x ys i)
-
-in_map : (f : ℕ → ℕ) (x : ℕ) (xs : List ℕ) → In x xs → In (f x) (map f xs)
-in_map f x [] i = absurd i
-in_map f x (y ∷ ys) (inl e) = inl (ap f e)
-in_map f x (y ∷ ys) (inr i) = inr (in_map f x ys i)
 
 map_agrees : (f g : ℕ → ℕ) (xs : List ℕ) → ((x : ℕ) → In x xs → f x ≡ g x) → map f xs ≡ map g xs
 map_agrees f g [] h = refl
@@ -73,8 +61,8 @@ first_numbers given = by (first given)
   where
     by : First given → FirstNumbers given
     by f =
-        let to : ℕ → ℕ = λ x. pick (in_or_not x (membranes_links given)) (f.to x) (f.count + x) in
-        let cases : (x : ℕ) → (In x (membranes_links given) × (to x ≡ f.to x)) ⊎ ((In x (membranes_links given) → ⊥) × (to x ≡ f.count + x)) = λ x. picked (in_or_not x (membranes_links given)) (f.to x) (f.count + x) in
+        let to : ℕ → ℕ = λ x. pick (decide_in x (membranes_links given)) (f.to x) (f.count + x) in
+        let cases : (x : ℕ) → (In x (membranes_links given) × (to x ≡ f.to x)) ⊎ ((In x (membranes_links given) → ⊥) × (to x ≡ f.count + x)) = λ x. picked (decide_in x (membranes_links given)) (f.to x) (f.count + x) in
         let same : map f.to (membranes_links given) ≡ map to (membranes_links given) = map_agrees f.to to (membranes_links given) (λ x i. elim (cases x) [ inl h ↦ sym h.1 | inr h ↦ absurd (h.0 i) ]) in
         record {
           to = to;

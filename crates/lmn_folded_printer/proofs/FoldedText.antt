@@ -1,23 +1,21 @@
 -- The text that the walk writes is the line of what is printed.
 use Rattle.std.proofs.Common.{◌≡◌, ℕ, ◌⊎◌, false, List, [], ◌∷◌, ◌++◌, map, inl, inr, refl, sym, ap, ◌∙◌, subst}
 use Rattle.std.specs.Prelude.{codes}
-use Rattle.std.proofs.lemmas.Bool.{cases_eq}
 use Rattle.std.proofs.lemmas.List.{map-append, append_assoc}
 use Rattle.lmn_base.specs.declared.rule.RuleTree.{RuleTree}
 use Rattle.lmn_congruence.specs.Rules.{Name}
-use Rattle.lmn_congruence.specs.Translation.{numbered_rule}
-use Rattle.lmn_folded.specs.Terms.{Item, Folded, folded, FoldedMembranes, no_membrane, membrane_and}
+use Rattle.lmn_congruence.specs.Translation.{numbered_rule, rules}
+use Rattle.lmn_folded.specs.Terms.{FoldedItem, Folded, folded, FoldedMembranes, no_membrane, membrane_and}
 use Rattle.lmn_folded.specs.Words.{item_pieces, folded_pieces, membranes_pieces, line_of_folded}
 use Rattle.lmn_heap.specs.Heap.{Heap, IsMem, In, mems_in, rules_in}
 use Rattle.lmn_heap.specs.Sound.{Forest, mem, flat, Forms, IsTree, Valid}
 use Rattle.lmn_heap.proofs.ListLemmas.{in_left, in_right}
 use Rattle.lmn_heap.proofs.Trees.{in_either, is_mem}
 use Rattle.lmn_items.specs.Chosen.{PrintsItems, items_in}
-use Rattle.lmn_plain.specs.SolidLines.{rules}
 use Rattle.lmn_plain.specs.Words.{text_of, with_commas, rule_pieces, rules_pieces}
 use Rattle.lmn_printer.specs.Rows.{in_row, any_behind, between_if}
 use Rattle.lmn_printer.specs.Stored.{number_by_mark}
-use Rattle.lmn_printer.specs.Walks.{Texts, AreTexts, texts_with, items, members, tree_text}
+use Rattle.lmn_printer.specs.Walks.{Texts, AreTexts, texts_with, items_text, members, tree_text}
 use Rattle.lmn_printer.specs.Writing.{IsLineWith, has_items, line_with}
 use Rattle.lmn_printer.proofs.LineLemmas.{stops_row, rules_texts, row_is}
 use Rattle.lmn_printer.proofs.RowLemmas.{any_map, comma_row}
@@ -26,24 +24,14 @@ use Rattle.lmn_folded_printer.specs.Printed.{PrintsForest, none, more}
 use Rattle.lmn_folded_printer.specs.Texts.{AreItemTexts, IsLineByMarks, item_text}
 use Rattle.lmn_folded_printer.proofs.OneText.{one_row}
 use Rattle.lmn_plain.proofs.LaidLines.{text_append}
-
--- a number stands in a list or not
-in_or_not : (a : ℕ) (xs : List ℕ) → In a xs ⊎ (In a xs → ⊥)
-in_or_not a [] = inr (λ i. i)
-in_or_not a (x ∷ xs) = elim (cases_eq a x) [
-  | inl e ↦ inl (inl (sym e))
-  | inr d ↦ elim (in_or_not a xs) [
-    | inl i ↦ inl (inr i)
-    | inr n ↦ inr (λ i. elim i [ inl e ↦ d (sym e) | inr j ↦ n j ])
-  ]
-]
+use Rattle.lmn_heap.proofs.Common.{decide_in as in_or_not}
 
 module _ (names : List Name) (table : List RuleTree) (s : Heap) where
   abbrev pub Shown : Forest → FoldedMembranes → Type 0
   Shown = PrintsForest names table s (number_by_mark s)
 
   -- something is printed of each membrane of the forest
-  found : (k : ℕ) (f : Forest) (ms : FoldedMembranes) → Shown f ms → In k (flat f) → (shown : List Item) × PrintsItems names s (number_by_mark s) (items_in s k) shown
+  found : (k : ℕ) (f : Forest) (ms : FoldedMembranes) → Shown f ms → In k (flat f) → (shown : List FoldedItem) × PrintsItems names s (number_by_mark s) (items_in s k) shown
   found k _ _ none i = absurd i
   found k _ _ (more {m = m} {inner = inner} {rest = rest} {items = is} {inside = inside} {others = others} ps p q) (inl e) =
       (is, subst (λ z. PrintsItems names s (number_by_mark s) (items_in s z) is) e ps)
@@ -64,18 +52,18 @@ module _ (names : List Name) (table : List RuleTree) (s : Heap) where
     abbrev t : Texts
     t = texts_with atoms names table s
 
-    items_texts : (is : List Item) → map text_of (map item_pieces is) ≡ map item_text is
+    items_texts : (is : List FoldedItem) → map text_of (map item_pieces is) ≡ map item_text is
     items_texts [] = refl
     items_texts (i ∷ is) = ap (λ z. item_text i ∷ z) (items_texts is)
 
     -- the texts of a membrane are those of what is printed there
-    texts_here : (m : ℕ) (is : List Item) → IsMem s m → PrintsItems names s (number_by_mark s) (items_in s m) is → map text_of (map item_pieces is) ≡ atoms m
+    texts_here : (m : ℕ) (is : List FoldedItem) → IsMem s m → PrintsItems names s (number_by_mark s) (items_in s m) is → map text_of (map item_pieces is) ≡ atoms m
     texts_here m is there p =
         let here = are m there in
         items_texts is ∙ ap (map item_text) (one_row names s (number_by_mark s) p here.2) ∙ sym here.3
 
     -- what stands in a membrane, list by list
-    level_texts : (m : ℕ) (is : List Item) (inside : FoldedMembranes) (ms : List (List ℕ)) → IsMem s m → PrintsItems names s (number_by_mark s) (items_in s m) is → map text_of (membranes_pieces inside) ≡ ms
+    level_texts : (m : ℕ) (is : List FoldedItem) (inside : FoldedMembranes) (ms : List (List ℕ)) → IsMem s m → PrintsItems names s (number_by_mark s) (items_in s m) is → map text_of (membranes_pieces inside) ≡ ms
         → map text_of (folded_pieces (folded is inside (map (numbered_rule names table) (rules_in s m)))) ≡ atoms m ++ (ms ++ t.rules m)
     level_texts m is inside ms there p e =
         let xs = map item_pieces is in
@@ -92,10 +80,10 @@ module _ (names : List Name) (table : List RuleTree) (s : Heap) where
         let here = folded is inside (map (numbered_rule names table) (rules_in s m)) in
         let xs = folded_pieces here in
         let is_inside = forest_texts inner inside p (λ k i. there k (inr (in_left k (flat inner) (flat rest) i))) in
-        let one : text_of (with_commas xs) ≡ items t (codes ", ") m (members t inner) =
+        let one : text_of (with_commas xs) ≡ items_text t (codes ", ") m (members t inner) =
         comma_row xs ∙ ap (in_row (codes ", ") false) (level_texts m is inside (members t inner) (there m (inl refl)) ps is_inside) ∙ row_is t (codes ", ") m (members t inner) in
         ap (λ z. (123 ∷ z) ∷ map text_of (membranes_pieces others)) (text_append (with_commas xs) _ ∙ ap (λ z. z ++ (125 ∷ [])) one)
-        ∙ ap (λ z. (codes "{" ++ (items t (codes ", ") m (members t inner) ++ codes "}")) ∷ z) (forest_texts rest others q (λ k i. there k (inr (in_right k (flat inner) (flat rest) i))))
+        ∙ ap (λ z. (codes "{" ++ (items_text t (codes ", ") m (members t inner) ++ codes "}")) ∷ z) (forest_texts rest others q (λ k i. there k (inr (in_right k (flat inner) (flat rest) i))))
 
     -- the line of the root, where its tree is known
     root_text : (f : Forest) (ms : FoldedMembranes) (root : Folded) → Shown f ms → ms ≡ membrane_and root no_membrane → Forms s f (s.root ∷ []) → ((k : ℕ) → In k (flat f) → IsMem s k)
@@ -119,7 +107,7 @@ module _ (names : List Name) (table : List RuleTree) (s : Heap) where
         ∙ ap (λ z. in_row (codes ". ") false (map text_of xs) ++ between_if (codes ".") z) (sym (any_map text_of false xs))
         ∙ ap (λ us. in_row (codes ". ") false us ++ between_if (codes ".") (any_behind false us)) ts
         ∙ ap (λ z. z ++ between_if (codes ".") (any_behind false (atoms m ++ (members t inner ++ t.rules m)))) (row_is t (codes ". ") m (members t inner)))
-        ∙ append_assoc (items t (codes ". ") m (members t inner)) (between_if (codes ".") (any_behind false (atoms m ++ (members t inner ++ t.rules m)))) (codes "\n") in
+        ∙ append_assoc (items_text t (codes ". ") m (members t inner)) (between_if (codes ".") (any_behind false (atoms m ++ (members t inner ++ t.rules m)))) (codes "\n") in
         ap line_of_folded (sym of_root) ∙ line
         ∙ ap (λ z. tree_text t (mem m inner rest) ++ (between_if (codes ".") z ++ codes "\n")) (any ∙ ap (λ k. has_items (atoms k) (record s { root = k })) same)
 

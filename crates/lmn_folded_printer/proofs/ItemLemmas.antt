@@ -1,13 +1,14 @@
 -- The items of a membrane in printed order.
-use Rattle.std.proofs.Common.{◌≡◌, ℕ, ◌==◌, ◌||◌, inl, inr, ◌⊎◌, Bool, true, false, cond, List, [], ◌∷◌, ◌++◌, Option, Some, None, IfSome, refl, sym, ap, ◌∙◌, subst, arith}
+use Rattle.std.proofs.Common.{◌≡◌, ℕ, ◌==◌, inl, inr, ◌⊎◌, Bool, true, false, cond, List, [], ◌∷◌, ◌++◌, Option, Some, None, IfSome, refl, sym, ap, ◌∙◌, subst, arith}
 use Rattle.std.specs.Prelude.{filter}
 use Rattle.std.specs.Option.{option_map}
 use Rattle.std.proofs.lemmas.Bool.{eq-eqb, eqb-true}
-use Rattle.lmn_heap.specs.Heap.{Heap, atoms_in}
+use Rattle.lmn_heap.specs.Heap.{Heap, atoms_in, own_mark}
 use Rattle.lmn_heap.specs.Lists.{In, after, from}
 use Rattle.lmn_heap.proofs.Trees.{in_either, next_in}
-use Rattle.lmn_folding.specs.Marks.{own_mark, is_item}
+use Rattle.lmn_folding.specs.Marks.{is_item}
 use Rattle.lmn_items.specs.Chosen.{marked_in, items_in}
+use Rattle.lmn_items.proofs.Told.{item_mark as item_by, mark_item as item_cases}
 
 -- Lists that are filtered.
 module _ (p : ℕ → Bool) where
@@ -68,19 +69,6 @@ after_right a (x ∷ xs) ys d = by (x == a) refl (after_right a xs ys (λ i. d (
 first_of_right : (o : Option ℕ) (xs ys : List ℕ) → IfSome o (λ a. In a xs → ⊥) → from o ys ≡ ys → from o (xs ++ ys) ≡ ys
 first_of_right None xs ys d e = e
 first_of_right (Some a) xs ys d e = ap (λ zs. a ∷ zs) (after_right a xs ys d) ∙ e
-
--- the mark of an item is 1 or 2
-pub item_cases : (s : Heap) (a : ℕ) → is_item s a ≡ true → (own_mark s a ≡ 1) ⊎ (own_mark s a ≡ 2)
-item_cases s a e = by (own_mark s a == 1) refl (own_mark s a == 2) refl e
-  where
-    by : (b : Bool) → (own_mark s a == 1) ≡ b → (c : Bool) → (own_mark s a == 2) ≡ c → (b || c) ≡ true → (own_mark s a ≡ 1) ⊎ (own_mark s a ≡ 2)
-    by true eb c ec h = inl (eqb-true (own_mark s a) 1 eb)
-    by false eb true ec h = inr (eqb-true (own_mark s a) 2 ec)
-    by false eb false ec h = absurd (cc)
-
-pub item_by : (s : Heap) (a : ℕ) → (own_mark s a ≡ 1) ⊎ (own_mark s a ≡ 2) → is_item s a ≡ true
-item_by s a (inl e) = ap (λ k. (k == 1) || (k == 2)) e
-item_by s a (inr e) = ap (λ k. (k == 1) || (k == 2)) e
 
 -- what holds of the number of what an option has
 pub each_mapped : {A : Type 0} (id : A → ℕ) (P : ℕ → Type 0) (o : Option A) → IfSome o (λ a. P (id a)) → IfSome (option_map id o) P

@@ -6,15 +6,15 @@ use Rattle.lmn_base.specs.Links.{Numbers}
 use Rattle.lmn_base.specs.declared.rule.RuleTree.{RuleTree}
 use Rattle.lmn_congruence.specs.Rules.{Name}
 use Rattle.lmn_folded.specs.Terms.{FoldedMembranes, membranes_links, renamed_membranes}
-use Rattle.lmn_heap.specs.Heap.{Heap, IsMem}
+use Rattle.lmn_heap.specs.Heap.{Heap, IsMem, PortsUnmarked}
 use Rattle.lmn_heap.specs.Lists.{from, after}
 use Rattle.lmn_heap.specs.Solid.{IsNaming}
 use Rattle.lmn_heap.specs.Sound.{Forest, flat, IsTree, Valid, AtMost}
 use Rattle.lmn_heap.proofs.Trees.{root_first}
-use Rattle.lmn_folding.specs.Marks.{Event, meets_link, meets_term, leaves, Walk, link, term, end_of_term, end_of_item, links_met, turns}
+use Rattle.lmn_folding.specs.Marks.{Event, meets_link, meets_term, leaves, WalkMeets, link, term, end_of_term, end_of_item, links_met, turns}
 use Rattle.lmn_folding.proofs.NumberedWalks.{item_same, arguments_same, term_same}
 use Rattle.lmn_items.specs.Chosen.{items_in}
-use Rattle.lmn_printer.specs.Numbers.{Remarks, GoOn, Unmarked}
+use Rattle.lmn_printer.specs.Numbers.{Remarks, GoOn}
 use Rattle.lmn_printer.proofs.HeapSolids.{heaps_have_solids}
 use Rattle.lmn_printer.proofs.MarkLemmas.{arity_same, link_same}
 use Rattle.lmn_printer.proofs.NumberLemmas.{mark_high, go_none, go_more, go_as}
@@ -35,7 +35,7 @@ turns_append (leaves a ∷ es) fs = let e = turns_append es fs in omega (arith, 
 
 -- other marks of ports don't change the walks
 module _ (s t : Heap) (r : Remarks s t) where
-  pub walk_same : (a i : ℕ) (es : List Event) → Walk s a i es → Walk t a i es
+  pub walk_same : (a i : ℕ) (es : List Event) → WalkMeets s a i es → WalkMeets t a i es
   walk_same a i _ (link {es = es} l n w) = link (subst (λ k. i < k) (sym (arguments_same s t r a)) l) (term_same s t r a i ∙ n) (walk_same a (i + 1) es w)
   walk_same a i _ (term {es = es} c l e w) = term c (subst (λ k. i < k) (sym (arguments_same s t r a)) l) (term_same s t r a i ∙ e) (walk_same c 0 es w)
   walk_same a i _ (end_of_term {es = es} p j e x ports l w) =
@@ -73,13 +73,13 @@ parts s (x ∷ xs) ys (a ∷ zs) _ e (more {fs = fs} es w h) =
       rest_walked = p.rest_walked;
     }
 
-one_item : (s : Heap) (a : ℕ) (xs : List ℕ) (es : List Event) → xs ≡ a ∷ [] → ItemsWalked s xs es → (ws : List Event) × Walk s a 0 ws × (es ≡ ws ++ [])
+one_item : (s : Heap) (a : ℕ) (xs : List ℕ) (es : List Event) → xs ≡ a ∷ [] → ItemsWalked s xs es → (ws : List Event) × WalkMeets s a 0 ws × (es ≡ ws ++ [])
 one_item s a [] es e w = absurd (cc e)
 one_item s a (b ∷ xs) _ e (more {fs = fs} es w h) =
     let same : b ≡ a = cc e in
     let behind : xs ≡ [] = cc e in
     let nothing : fs ≡ [] = walked_none s fs (subst (λ ys. ItemsWalked s ys fs) behind h) in
-    (es ++ leaves b ∷ [], subst (λ c. Walk s c 0 (es ++ leaves b ∷ [])) same w, ap (λ gs. (es ++ leaves b ∷ []) ++ gs) nothing)
+    (es ++ leaves b ∷ [], subst (λ c. WalkMeets s c 0 (es ++ leaves b ∷ [])) same w, ap (λ gs. (es ++ leaves b ∷ []) ++ gs) nothing)
 
 -- Of some items those of a last part are left: n links have their numbers, those of the items before among them.
 module _ (s : Heap) (count : ℕ) (all : List ℕ) where
@@ -131,7 +131,7 @@ module _ (s : Heap) (count : ℕ) (all : List ℕ) where
 
 -- the walk over the next item
 pub next_walk : (s t : Heap) (count : ℕ) (all left rest : List ℕ) (a n : ℕ) (es : List Event) → Remarks s t → ItemsLeft s count all t left n → left ≡ a ∷ rest → ItemsWalked s all es → count + 255 * turns es < 2 ^ 64
-    → (ws : List Event) × Walk t a 0 ws × (n + 255 * turns ws < 2 ^ 64)
+    → (ws : List Event) × WalkMeets t a 0 ws × (n + 255 * turns ws < 2 ^ 64)
 next_walk s t count all left rest a n es r h e w low =
     let room = left_room s count all t (a ∷ []) rest left n es h e w low in
     let one = one_item s a (a ∷ []) room.0 refl room.1 in
@@ -140,7 +140,7 @@ next_walk s t count all left rest a n es r h e w low =
     (one.0, walk_same s t r a 0 one.0 one.1, omega (arith, few, turned))
 
 pub next_done : (s t u : Heap) (count : ℕ) (all left rest : List ℕ) (a n m : ℕ) → Remarks s t → ItemsLeft s count all t left n → left ≡ a ∷ rest
-    → ((ws : List Event) → Walk t a 0 ws → GoOn t u n m (links_met ws)) → ((ws : List Event) → Walk t a 0 ws → m ≤ n + 255 * turns ws) → ItemsLeft s count all u rest m
+    → ((ws : List Event) → WalkMeets t a 0 ws → GoOn t u n m (links_met ws)) → ((ws : List Event) → WalkMeets t a 0 ws → m ≤ n + 255 * turns ws) → ItemsLeft s count all u rest m
 next_done s t u count all left rest a n m r h e go few =
     left_more s count all t u (a ∷ []) rest left n m r h e (λ ws w.
     let one = one_item s a (a ∷ []) ws refl w in
@@ -172,7 +172,7 @@ room s valid most printed f tree =
     }
 
 -- the items of all membranes are done: the marks tell numbers of the links that are printed
-pub all_numbered : (s t : Heap) → Valid s → Unmarked s → Remarks s t → (n : ℕ) (names : List Name) (table : List RuleTree) (name : ℕ → ℕ → ℕ) → IsNaming s name → (f : Forest)
+pub all_numbered : (s t : Heap) → Valid s → PortsUnmarked s → Remarks s t → (n : ℕ) (names : List Name) (table : List RuleTree) (name : ℕ → ℕ → ℕ) → IsNaming s name → (f : Forest)
     → ((es : List Event) → ItemsWalked s (printed_items s (flat f)) es → GoOn s t 0 n (links_met es)) → (given : FoldedMembranes) → PrintsForest names table s name f given → IsNumberedBy names table t f given
 all_numbered s t valid unmarked r n names table name naming f go given printed =
     let first = first_numbers given in

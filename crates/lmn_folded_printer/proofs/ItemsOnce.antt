@@ -2,13 +2,12 @@
 use Rattle.std.proofs.Common.{◌≡◌, ◌≢◌, ℕ, ◌==◌, inl, inr, ◌⊎◌, Bool, true, false, cond, List, [], ◌∷◌, Option, Some, None, IsSome, filter, refl, arith}
 use Rattle.std.specs.Option.{option_map}
 use Rattle.std.proofs.lemmas.Bool.{eqb-true}
-use Rattle.lmn_heap.specs.Heap.{Heap, HeapAtom, IsAtom, atoms_in, within}
+use Rattle.lmn_heap.specs.Heap.{Heap, HeapAtom, IsAtom, atoms_in, within, own_mark}
 use Rattle.lmn_heap.specs.Lists.{In, Distinct}
 use Rattle.lmn_heap.specs.Sound.{Sound}
 use Rattle.lmn_heap.proofs.Depths.{both_distinct}
 use Rattle.lmn_heap.proofs.ListLemmas.{each_in, each_of}
 use Rattle.lmn_heap.proofs.Trees.{in_either}
-use Rattle.lmn_folding.specs.Marks.{own_mark}
 use Rattle.lmn_items.specs.Chosen.{marked_in, items_in}
 use Rattle.lmn_folded_printer.specs.Walked.{printed_items}
 use Rattle.lmn_folded_printer.proofs.ItemLemmas.{filter_in}

@@ -4,20 +4,20 @@ use Rattle.lmn_base.specs.declared.rule.RuleTree.{RuleTree}
 use Rattle.lmn_congruence.specs.Rules.{Name}
 use Rattle.lmn_folded.specs.Terms.{FoldedMembranes}
 use Rattle.lmn_folded.specs.Words.{line_of_folded}
-use Rattle.lmn_heap.specs.Heap.{Heap}
+use Rattle.lmn_heap.specs.Heap.{Heap, Unmarked, PortsUnmarked}
 use Rattle.lmn_heap.specs.Solid.{IsNaming}
 use Rattle.lmn_heap.specs.Sound.{Forest, IsTree, Sound, Valid}
 use Rattle.lmn_heap.proofs.Trees.{is_mem}
-use Rattle.lmn_items.specs.Chosen.{AllUnmarked, AreChosen, ChangesOwnMarks}
-use Rattle.lmn_printer.specs.Numbers.{Remarks, Unmarked}
+use Rattle.lmn_items.specs.Chosen.{AreChosen, ChangesOwnMarks}
+use Rattle.lmn_printer.specs.Numbers.{Remarks}
 use Rattle.lmn_printer.proofs.HeapSolids.{heaps_have_solids}
 use Rattle.lmn_printer.proofs.MarkLemmas.{tree_same}
 use Rattle.lmn_folded_printer.specs.Lines.{IsHeapLine}
 use Rattle.lmn_folded_printer.specs.Printed.{PrintsForest, IsNumberedBy}
 use Rattle.lmn_folded_printer.specs.Texts.{IsLineByMarks}
 use Rattle.lmn_folded_printer.proofs.ChosenForms.{chosen_line, given_of, line_is}
-use Rattle.lmn_folded_printer.proofs.ClearedMarks.{OtherMarks, others_more}
-use Rattle.lmn_folded_printer.proofs.MarkedSolids.{arity_same, heap_same, solid_same}
+use Rattle.lmn_folded_printer.proofs.ClearedMarks.{OtherMarks, others_more, arity_same}
+use Rattle.lmn_folded_printer.proofs.MarkedSolids.{heap_same, solid_same}
 
 -- something is printed of each tree
 pub some_given : (s : Heap) → Valid s → AreChosen s → (names : List Name) (table : List RuleTree) (name : ℕ → ℕ → ℕ) → IsNaming s name → (f : Forest) → IsTree s f
@@ -28,7 +28,7 @@ pub other_own_marks : (s t : Heap) → ChangesOwnMarks s t → OtherMarks s t
 other_own_marks s t r = (r.marks, r.is)
 
 -- other own marks leave ports unmarked
-pub ports_unmarked : (s t : Heap) → ChangesOwnMarks s t → AllUnmarked s → Unmarked t
+pub ports_unmarked : (s t : Heap) → ChangesOwnMarks s t → Unmarked s → PortsUnmarked t
 ports_unmarked s t r none a i l = r.ports a i (subst (λ n. i < n) (arity_same s t (other_own_marks s t r) a) l) ∙ none a i
 
 module _ (names : List Name) (table : List RuleTree) (s t u : Heap) (valid : Valid s) (valid' : Valid t) (others : OtherMarks s t) (chosen : AreChosen t) (r : Remarks t u)
@@ -49,6 +49,6 @@ module _ (names : List Name) (table : List RuleTree) (s t u : Heap) (valid : Val
       (line_of_folded line.0, (of.forest, tree_same t u r of.forest of.tree, line.0, line.1, refl))
 
 -- where all marks are 0 again it is the heap of the beginning
-pub back_again : (s t u v : Heap) → Valid s → Sound v → AllUnmarked s → AllUnmarked v → ChangesOwnMarks s t → Remarks t u → OtherMarks u v → v ≡ s
+pub back_again : (s t u v : Heap) → Valid s → Sound v → Unmarked s → Unmarked v → ChangesOwnMarks s t → Remarks t u → OtherMarks u v → v ≡ s
 back_again s t u v valid sound before behind p q r =
     heap_same s v (others_more s u v (others_more s t u (other_own_marks s t p) (q.marks, q.is)) r) valid.sound.shaped sound.shaped before behind

@@ -3,14 +3,13 @@ use Rattle.std.proofs.Common.{◌≡◌, ℕ, ◌+◌, ◌-◌, ◌<◌, ◌≤�
 use Rattle.lmn_base.specs.declared.rule.RuleTree.{RuleTree}
 use Rattle.lmn_congruence.specs.Rules.{Name, Rule}
 use Rattle.lmn_congruence.specs.Translation.{numbered_rule}
-use Rattle.lmn_folded.specs.Terms.{Term, link, Terms, Item, FoldedMembranes, membrane_and, folded, term_links, terms_links, items_links, membranes_links, renamed_term, renamed_terms, renamed_item, renamed_membranes}
-use Rattle.lmn_heap.specs.Heap.{Heap, arity_of, atoms_in, rules_in}
+use Rattle.lmn_folded.specs.Terms.{FoldedTerm, link, FoldedTerms, FoldedItem, FoldedMembranes, membrane_and, folded, term_links, terms_links, items_links, membranes_links, renamed_term, renamed_terms, renamed_item, renamed_membranes}
+use Rattle.lmn_heap.specs.Heap.{Heap, arity_of, atoms_in, rules_in, own_mark}
 use Rattle.lmn_heap.specs.Lists.{In}
 use Rattle.lmn_heap.specs.Sound.{Forest, mem}
 use Rattle.lmn_heap.proofs.ListLemmas.{in_left, in_right}
-use Rattle.lmn_folding.specs.Marks.{own_mark}
 use Rattle.lmn_folding.specs.Printed as printed
-use Rattle.lmn_folding.specs.Printed.{Prints, as_link, as_term, PrintsAll, PrintsItem}
+use Rattle.lmn_folding.specs.Printed.{PrintsArgument, as_link, as_term, PrintsAll}
 use Rattle.lmn_folding.proofs.NumberedWalks.{own_same, term_same}
 use Rattle.lmn_items.specs.Chosen as chosen
 use Rattle.lmn_items.specs.Chosen.{PrintsItems, marked_in, items_in}
@@ -26,15 +25,15 @@ module _ (names : List Name) (s : Heap) (name : ℕ → ℕ → ℕ) (to : ℕ �
   renaming a i = to (name a i)
 
   mutual
-    one_renamed : {a i : ℕ} {t : Term} → Prints names s name a i t → Prints names s renaming a i (renamed_term to t)
+    one_renamed : {a i : ℕ} {t : FoldedTerm} → PrintsArgument names s name a i t → PrintsArgument names s renaming a i (renamed_term to t)
     one_renamed (as_link e) = as_link e
     one_renamed (as_term c f e g all) = as_term c f e g (all_renamed all)
 
-    all_renamed : {a i n : ℕ} {ts : Terms} → PrintsAll names s name a i n ts → PrintsAll names s renaming a i n (renamed_terms to ts)
+    all_renamed : {a i n : ℕ} {ts : FoldedTerms} → PrintsAll names s name a i n ts → PrintsAll names s renaming a i n (renamed_terms to ts)
     all_renamed printed.none = printed.none
     all_renamed (printed.more p all) = printed.more (one_renamed p) (all_renamed all)
 
-  items_renamed : {xs : List ℕ} {is : List Item} → PrintsItems names s name xs is → PrintsItems names s renaming xs (map (renamed_item to) is)
+  items_renamed : {xs : List ℕ} {is : List FoldedItem} → PrintsItems names s name xs is → PrintsItems names s renaming xs (map (renamed_item to) is)
   items_renamed chosen.none = chosen.none
   items_renamed (chosen.more p ps) = chosen.more (record { functor = p.functor; is = p.is; label = p.label; arguments = all_renamed p.arguments }) (items_renamed ps)
 
@@ -68,18 +67,18 @@ module _ (names : List Name) (s t : Heap) (r : Remarks s t) (name : ℕ → ℕ 
       ap (λ k. k - 1) mark ∙ omega arith
 
   mutual
-    one_told : {a i : ℕ} {u : Term} → Prints names s name a i u → i < arity_of s a → Below n (term_links u) → Prints names t (number_by_mark t) a i u
-    one_told {a} {i} (as_link e) low h = subst (λ x. Prints names t (number_by_mark t) a i (link x)) (number_is a i low (h (name a i) (inl refl))) (as_link (term_same s t r a i ∙ e))
+    one_told : {a i : ℕ} {u : FoldedTerm} → PrintsArgument names s name a i u → i < arity_of s a → Below n (term_links u) → PrintsArgument names t (number_by_mark t) a i u
+    one_told {a} {i} (as_link e) low h = subst (λ x. PrintsArgument names t (number_by_mark t) a i (link x)) (number_is a i low (h (name a i) (inl refl))) (as_link (term_same s t r a i ∙ e))
     one_told {a} {i} (as_term {ts = ts} c f e g all) low h =
         as_term c f (term_same s t r a i ∙ e) (functor_same s t r c ∙ g)
         (subst (λ k. PrintsAll names t (number_by_mark t) c 0 (k - 1) ts) (sym (arity_same s t r c)) (all_told all (omega arith) h))
 
-    all_told : {a i k : ℕ} {us : Terms} → PrintsAll names s name a i k us → i + k ≤ arity_of s a → Below n (terms_links us) → PrintsAll names t (number_by_mark t) a i k us
+    all_told : {a i k : ℕ} {us : FoldedTerms} → PrintsAll names s name a i k us → i + k ≤ arity_of s a → Below n (terms_links us) → PrintsAll names t (number_by_mark t) a i k us
     all_told printed.none low h = printed.none
     all_told (printed.more {t = u} {ts = us} p all) low h =
         printed.more (one_told p (omega (arith, low)) (below_left n (term_links u) (terms_links us) h)) (all_told all (omega (arith, low)) (below_right n (term_links u) (terms_links us) h))
 
-  items_told : {xs : List ℕ} {is : List Item} → PrintsItems names s name xs is → Below n (items_links is) → PrintsItems names t (number_by_mark t) xs is
+  items_told : {xs : List ℕ} {is : List FoldedItem} → PrintsItems names s name xs is → Below n (items_links is) → PrintsItems names t (number_by_mark t) xs is
   items_told chosen.none h = chosen.none
   items_told (chosen.more {a = a} {i = i} {is = is} p ps) h =
       chosen.more

@@ -3,13 +3,13 @@ use Rattle.std.proofs.Common.{◌≡◌, ℕ, ◌+◌, ◌-◌, true, if◌then�
 use Rattle.std.proofs.lemmas.List.{append-nil, append_assoc}
 use Rattle.lmn_base.specs.declared.rule.RuleTree.{RuleTree}
 use Rattle.lmn_congruence.specs.Rules.{Name}
-use Rattle.lmn_folded.specs.Terms.{Term, Terms, Item, FoldedMembranes, term_links, terms_links, items_links, membranes_links}
+use Rattle.lmn_folded.specs.Terms.{FoldedTerm, FoldedTerms, FoldedItem, FoldedMembranes, term_links, terms_links, items_links, membranes_links}
 use Rattle.lmn_heap.specs.Heap.{Heap, arity_of}
 use Rattle.lmn_heap.specs.Lists.{In}
 use Rattle.lmn_heap.specs.Sound.{Forest, flat, Paired}
-use Rattle.lmn_folding.specs.Marks.{is_item, arguments, Event, meets_link, meets_term, leaves, Walk, end_of_item, links_met}
+use Rattle.lmn_folding.specs.Marks.{is_item, argument_count, Event, meets_link, meets_term, leaves, WalkMeets, end_of_item, links_met}
 use Rattle.lmn_folding.specs.Printed as printed
-use Rattle.lmn_folding.specs.Printed.{Prints, as_link, as_term, PrintsAll, PrintsItem}
+use Rattle.lmn_folding.specs.Printed.{PrintsArgument, as_link, as_term, PrintsAll, PrintsItem}
 use Rattle.lmn_folding.proofs.PrintedWalks.{events, events_all, walk_all}
 use Rattle.lmn_items.specs.Chosen as chosen
 use Rattle.lmn_items.specs.Chosen.{PrintsItems, items_in}
@@ -30,29 +30,29 @@ both_links es fs name xs ys d e = met_append es fs name ∙ ap (λ zs. zs ++ lin
 
 module _ (names : List Name) (s : Heap) (name : ℕ → ℕ → ℕ) where
   mutual
-    met_one : {a i : ℕ} {t : Term} (p : Prints names s name a i t) → links_met (events names s name p) name ≡ term_links t
+    met_one : {a i : ℕ} {t : FoldedTerm} (p : PrintsArgument names s name a i t) → links_met (events names s name p) name ≡ term_links t
     met_one (as_link e) = refl
     met_one (as_term {ts = ts} c f e g all) = both_links (events_all names s name all) (leaves c ∷ []) name (terms_links ts) [] (met_all all) refl ∙ append-nil (terms_links ts)
 
-    met_all : {a i n : ℕ} {ts : Terms} (p : PrintsAll names s name a i n ts) → links_met (events_all names s name p) name ≡ terms_links ts
+    met_all : {a i n : ℕ} {ts : FoldedTerms} (p : PrintsAll names s name a i n ts) → links_met (events_all names s name p) name ≡ terms_links ts
     met_all printed.none = refl
     met_all (printed.more {t = t} {ts = ts} p all) = both_links (events names s name p) (events_all names s name all) name (term_links t) (terms_links ts) (met_one p) (met_all all)
 
   module _ (paired : Paired s) where
     -- the walk over an item
-    item_walked : (a : ℕ) (i : Item) → is_item s a ≡ true → PrintsItem names s name a i → (es : List Event) × Walk s a 0 (es ++ leaves a ∷ []) × (links_met (es ++ leaves a ∷ []) name ≡ terms_links i.arguments)
+    item_walked : (a : ℕ) (i : FoldedItem) → is_item s a ≡ true → PrintsItem names s name a i → (es : List Event) × WalkMeets s a 0 (es ++ leaves a ∷ []) × (links_met (es ++ leaves a ∷ []) name ≡ terms_links i.arguments)
     item_walked a i is p =
         let inside = events_all names s name p.arguments in
-        let whole : arguments s a ≡ arity_of s a = ap (λ z. if z then arity_of s a else arity_of s a - 1) is in
+        let whole : argument_count s a ≡ arity_of s a = ap (λ z. if z then arity_of s a else arity_of s a - 1) is in
         let count : 0 + arity_of s a ≡ arity_of s a = omega arith in
-        let end : Walk s a (0 + arity_of s a) (leaves a ∷ []) = end_of_item (count ∙ sym whole) is in (
+        let end : WalkMeets s a (0 + arity_of s a) (leaves a ∷ []) = end_of_item (count ∙ sym whole) is in (
           inside,
           walk_all names s name paired p.arguments (leaves a ∷ []) (count ∙ sym whole) end,
           both_links inside (leaves a ∷ []) name (terms_links i.arguments) [] (met_all p.arguments) refl ∙ append-nil (terms_links i.arguments),
         )
 
     -- those over items
-    items_walked : (xs : List ℕ) (is : List Item) → ((a : ℕ) → In a xs → is_item s a ≡ true) → PrintsItems names s name xs is → (es : List Event) × ItemsWalked s xs es × (links_met es name ≡ items_links is)
+    items_walked : (xs : List ℕ) (is : List FoldedItem) → ((a : ℕ) → In a xs → is_item s a ≡ true) → PrintsItems names s name xs is → (es : List Event) × ItemsWalked s xs es × (links_met es name ≡ items_links is)
     items_walked _ _ are chosen.none = ([], none, refl)
     items_walked _ _ are (chosen.more {a = a} {others = xs} {i = i} {is = is} p ps) =
         let first = item_walked a i (are a (inl refl)) p in

@@ -6,8 +6,8 @@ use Rattle.lmn_congruence.specs.Rules.{Name}
 use Rattle.lmn_congruence.specs.Translation.{region_of}
 use Rattle.lmn_folded.specs.Lines.{IsLine}
 use Rattle.lmn_heap.specs.Heap.{Heap}
-use Rattle.lmn_heap.specs.Solid.{SolidOf}
+use Rattle.lmn_heap.specs.Solid.{HasSolid}
 
 -- the line of a solid of the heap
 abbrev pub IsHeapLine : Bool → List Name → List RuleTree → Heap → List ℕ → Type 0
-IsHeapLine folded names table s text = (x : Solid) × SolidOf s x × IsLine folded (region_of names table x) text
+IsHeapLine folded names table s text = (x : Solid) × HasSolid s x × IsLine folded (region_of names table x) text

@@ -5,7 +5,7 @@ use Rattle.lmn_base.specs.Links.{NumbersLinks}
 use Rattle.lmn_congruence.specs.Orders.{Among}
 use Rattle.lmn_congruence.specs.Rules.{Name}
 use Rattle.lmn_congruence.specs.Translation.{numbered_rule}
-use Rattle.lmn_folded.specs.Terms.{Item, folded, FoldedMembranes, no_membrane, membrane_and, membranes_links, renamed_membranes}
+use Rattle.lmn_folded.specs.Terms.{FoldedItem, folded, FoldedMembranes, no_membrane, membrane_and, membranes_links, renamed_membranes}
 use Rattle.lmn_heap.specs.Heap.{Heap, rules_in}
 use Rattle.lmn_heap.specs.Sound.{Forest, bare, mem}
 use Rattle.lmn_items.specs.Chosen.{PrintsItems, items_in}
@@ -14,7 +14,7 @@ use Rattle.lmn_printer.specs.Stored.{number_by_mark}
 -- The membranes of a forest: the items of each, the membranes in it, and its rules.
 pub data PrintsForest (names : List Name) (table : List RuleTree) (s : Heap) (name : ℕ → ℕ → ℕ) : Forest → FoldedMembranes → Type 0 where
   none : PrintsForest names table s name bare no_membrane
-  more : {m : ℕ} {inner rest : Forest} {items : List Item} {inside others : FoldedMembranes} → PrintsItems names s name (items_in s m) items →
+  more : {m : ℕ} {inner rest : Forest} {items : List FoldedItem} {inside others : FoldedMembranes} → PrintsItems names s name (items_in s m) items →
       PrintsForest names table s name inner inside → PrintsForest names table s name rest others →
       PrintsForest names table s name (mem m inner rest) (membrane_and (folded items inside (map (numbered_rule names table) (rules_in s m))) others)
 

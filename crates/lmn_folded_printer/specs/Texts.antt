@@ -2,7 +2,7 @@
 use Rattle.std.specs.Prelude.{ℕ, ◌≡◌, List, map}
 use Rattle.lmn_base.specs.declared.rule.RuleTree.{RuleTree}
 use Rattle.lmn_congruence.specs.Rules.{Name}
-use Rattle.lmn_folded.specs.Terms.{Item, Folded, no_membrane, membrane_and}
+use Rattle.lmn_folded.specs.Terms.{FoldedItem, Folded, no_membrane, membrane_and}
 use Rattle.lmn_folded.specs.Words.{item_pieces, line_of_folded}
 use Rattle.lmn_heap.specs.Heap.{Heap}
 use Rattle.lmn_heap.specs.Sound.{Forest, IsTree, Valid}
@@ -11,13 +11,13 @@ use Rattle.lmn_plain.specs.Words.{text_of}
 use Rattle.lmn_printer.specs.Stored.{number_by_mark}
 use Rattle.lmn_folded_printer.specs.Printed.{PrintsForest}
 
-abbrev pub item_text : Item → List ℕ
+abbrev pub item_text : FoldedItem → List ℕ
 item_text i = text_of (item_pieces i)
 
 -- the texts of the items of a membrane, links by the marks of ports
 abbrev pub AreItemTexts : List Name → Heap → ℕ → List (List ℕ) → Type 0
 AreItemTexts names s m texts =
-    Valid s × (shown : List Item) × PrintsItems names s (number_by_mark s) (items_in s m) shown × (texts ≡ map item_text shown)
+    Valid s × (shown : List FoldedItem) × PrintsItems names s (number_by_mark s) (items_in s m) shown × (texts ≡ map item_text shown)
 
 -- the line of what is printed of the tree of a heap by its marks
 abbrev pub IsLineByMarks : List Name → List RuleTree → Heap → List ℕ → Type 0

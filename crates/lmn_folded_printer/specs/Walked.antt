@@ -3,7 +3,7 @@ use Rattle.std.specs.Prelude.{ℕ, List, [], ◌∷◌, ◌++◌}
 use Rattle.lmn_base.specs.declared.rule.RuleTree.{RuleTree}
 use Rattle.lmn_congruence.specs.Rules.{Name}
 use Rattle.lmn_folded.specs.Terms.{FoldedMembranes}
-use Rattle.lmn_folding.specs.Marks.{Event, leaves, Walk}
+use Rattle.lmn_folding.specs.Marks.{Event, leaves, WalkMeets}
 use Rattle.lmn_heap.specs.Heap.{Heap}
 use Rattle.lmn_heap.specs.Solid.{IsNaming}
 use Rattle.lmn_heap.specs.Sound.{Forest, IsTree}
@@ -18,7 +18,7 @@ printed_items s (m ∷ ms) = items_in s m ++ printed_items s ms
 -- What the walks over these items meet, one walk after the other. Each ends where it leaves its item.
 pub data ItemsWalked (s : Heap) : List ℕ → List Event → Type 0 where
   none : ItemsWalked s [] []
-  more : {a : ℕ} {others : List ℕ} {fs : List Event} (es : List Event) → Walk s a 0 (es ++ leaves a ∷ []) → ItemsWalked s others fs →
+  more : {a : ℕ} {others : List ℕ} {fs : List Event} (es : List Event) → WalkMeets s a 0 (es ++ leaves a ∷ []) → ItemsWalked s others fs →
       ItemsWalked s (a ∷ others) ((es ++ leaves a ∷ []) ++ fs)
 
 -- Something is printed of the tree of the heap, whatever names there are, and whatever numbers for links.

@@ -1,8 +1,7 @@
 //! All marks of all atoms are set to 0.
 ghost use Rattle.std.specs.Prelude.{◌≡◌, ℕ, List};
-ghost use Rattle.lmn_heap.specs.Heap.{IsAtom, mark_of};
+ghost use Rattle.lmn_heap.specs.Heap.{IsAtom, mark_of, Unmarked};
 ghost use Rattle.lmn_heap.specs.Sound.{Valid};
-ghost use Rattle.lmn_items.specs.Chosen.{AllUnmarked};
 ghost use Rattle.lmn_printer.specs.Numbers.{remarked};
 
 use lmn_printer::{first_printed, next_printed};
@@ -12,7 +11,7 @@ use lmn_store::LinkStore;
 pub(crate) fn clear_all<S: LinkStore>(store: &mut S)
     requires { Valid (S.heap store.old) }
     ensures marks { (marks : ℕ → List ℕ) × (S.heap store.new ≡ remarked (S.heap store.old) marks) }
-    ensures none { AllUnmarked (S.heap store.new) }
+    ensures none { Unmarked (S.heap store.new) }
 {
     let _root = store.root();
     let mut next = first_printed(store);

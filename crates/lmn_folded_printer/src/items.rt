@@ -1,8 +1,8 @@
 //! The items of a membrane in printed order: those with the own mark 1, and then those with the own mark 2.
-ghost use Rattle.std.specs.Prelude.{◌≡◌, true, ℕ, Some, IfSome, filter, ◌==◌};
+ghost use Rattle.std.specs.Prelude.{◌≡◌, true, Some, IfSome, filter, ◌==◌};
 ghost use Rattle.std.specs.Option.{option_map};
-ghost use Rattle.lmn_folding.specs.Marks.{is_item, own_mark};
-ghost use Rattle.lmn_heap.specs.Heap.{IsAtom, IsMem, atoms_in, home_of};
+ghost use Rattle.lmn_folding.specs.Marks.{is_item};
+ghost use Rattle.lmn_heap.specs.Heap.{IsAtom, IsMem, atoms_in, home_of, own_mark};
 ghost use Rattle.lmn_heap.specs.Lists.{after, from};
 ghost use Rattle.lmn_heap.specs.Sound.{Sound};
 ghost use Rattle.lmn_items.specs.Chosen.{items_in, marked_in};

@@ -1,14 +1,14 @@
 //! The numbers of the links that are printed, in the marks of their ports: each mark is greater by one.
-ghost use Rattle.std.specs.Prelude.{◌≡◌, ◌<◌, ◌≤◌, ◌+◌, ◌*◌, ◌^◌, ℕ, List};
+ghost use Rattle.std.specs.Prelude.{◌<◌, ◌≤◌, ◌+◌, ◌*◌, ◌^◌, ℕ, List};
 ghost use Rattle.lmn_base.specs.declared.rule.RuleTree.{RuleTree};
 ghost use Rattle.lmn_congruence.specs.Rules.{Name};
 ghost use Rattle.lmn_folded.specs.Terms.{FoldedMembranes};
 ghost use Rattle.lmn_folding.specs.Marks.{Event, links_met, turns};
-ghost use Rattle.lmn_heap.specs.Heap.{IsMem};
+ghost use Rattle.lmn_heap.specs.Heap.{IsMem, PortsUnmarked};
 ghost use Rattle.lmn_heap.specs.Solid.{IsNaming};
 ghost use Rattle.lmn_heap.specs.Sound.{Forest, IsTree, Valid};
 ghost use Rattle.lmn_items.specs.Chosen.{items_in};
-ghost use Rattle.lmn_printer.specs.Numbers.{GoOn, Remarks, Unmarked};
+ghost use Rattle.lmn_printer.specs.Numbers.{GoOn, Remarks};
 ghost use Rattle.lmn_folded_printer.specs.Printed.{IsNumberedBy, PrintsForest};
 ghost use Rattle.lmn_folded_printer.specs.Walked.{IsPrinted, ItemsWalked};
 
@@ -20,7 +20,7 @@ use lmn_store::LinkStore;
 /// Gives each link that is printed its number, in printed order, in the marks of its two ports.
 pub(crate) fn number_printed<S: LinkStore>(store: &mut S)
     requires valid { Valid (S.heap store.old) }
-    requires unmarked { Unmarked (S.heap store.old) }
+    requires unmarked { PortsUnmarked (S.heap store.old) }
     requires printed { IsPrinted (S.heap store.old) }
     ensures marks { Remarks (S.heap store.old) (S.heap store.new) }
     ensures numbers { (names : List Name) (table : List RuleTree) (name : ℕ → ℕ → ℕ) → IsNaming (S.heap store.old) name → (f : Forest) → IsTree (S.heap store.old) f

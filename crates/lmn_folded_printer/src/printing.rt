@@ -2,8 +2,8 @@
 ghost use Rattle.std.specs.Prelude.{◌≡◌, true};
 ghost use Rattle.lmn_heap.specs.Sound.{Valid};
 ghost use Rattle.lmn_io.specs.Writing.{Writes};
-ghost use Rattle.lmn_items.specs.Chosen.{AllUnmarked};
 ghost use Rattle.lmn_folded_printer.specs.Lines.{IsHeapLine};
+ghost use Rattle.lmn_heap.specs.Heap.{Unmarked};
 
 use crate::clearing::clear_all;
 use crate::line::write_folded;
@@ -28,7 +28,7 @@ pub fn print<S: LinkStore, O: Sink>(
     sink: &mut O,
 ) -> Result<(), Failed>
     requires valid { Valid (S.heap store.old) }
-    requires unmarked { AllUnmarked (S.heap store.old) }
+    requires unmarked { Unmarked (S.heap store.old) }
     ensures writes { Writes (IsHeapLine folded names.now plain.now.rules (S.heap store.old)) result (O.told sink.old) (O.faults sink.old) (O.told sink.new) (O.faults sink.new) }
     ensures kept { S.heap store.new ≡ S.heap store.old }
 {
@@ -48,7 +48,7 @@ fn print_folded<S: LinkStore, O: Sink>(
     sink: &mut O,
 ) -> Result<(), Failed>
     requires valid { Valid (S.heap store.old) }
-    requires unmarked { AllUnmarked (S.heap store.old) }
+    requires unmarked { Unmarked (S.heap store.old) }
     ensures writes { Writes (IsHeapLine true names.now plain.now.rules (S.heap store.old)) result (O.told sink.old) (O.faults sink.old) (O.told sink.new) (O.faults sink.new) }
     ensures kept { S.heap store.new ≡ S.heap store.old }
 {

@@ -1,5 +1,5 @@
 -- A folded line is laid out as its words, and these are right.
-use Rattle.std.proofs.Common.{◌≡◌, ℕ, ◌==◌, ◌&&◌, Bool, true, false, if◌then◌else◌, List, [], ◌∷◌, ◌++◌, map, inl, inr, refl, sym, subst, arith}
+use Rattle.std.proofs.Common.{◌≡◌, ℕ, ◌==◌, Bool, true, false, if◌then◌else◌, List, [], ◌∷◌, ◌++◌, map, inl, inr, refl, sym, subst, arith}
 use Rattle.std.specs.Prelude.{codes}
 use Rattle.std.specs.Char.{is_ascii_digit, is_ascii_lowercase}
 use Rattle.std.specs.Fmt.{signed_decimal}
@@ -8,24 +8,25 @@ use Rattle.std.proofs.lemmas.Bool.Decides.{nat_tests}
 use Rattle.std.proofs.lemmas.List.{append-nil}
 use Rattle.lmn_congruence.specs.Rules.{Label, named, integer, Name}
 use Rattle.lmn_lexer.specs.declared.token.Kind.TheVariants as kind
-use Rattle.lmn_lexer.specs.Laying.{Word, Laid, Stops, IsRight, word as one_word}
-use Rattle.lmn_lexer.specs.Spelling.{IsInteger}
-use Rattle.lmn_plain.specs.Labels.{is_bare, quoted}
+use Rattle.lmn_lexer.specs.Laying.{Word, Laid, NoneStandsFirst, IsRight, word as one_word}
+use Rattle.lmn_lexer.specs.Spelling.{IsIntegerSpelling, is_bare_name}
 use Rattle.lmn_plain.proofs.Decimals.{integer_spelled}
-use Rattle.lmn_plain.specs.SolidLines.{rules}
 use Rattle.lmn_plain.specs.Words.{Piece, word, text_of, words_in, with_commas, with_full_stops, spaced, name_kind, piece_text, label_piece, link_piece, rules_pieces}
 use Rattle.lmn_plain.proofs.LaidLines.{Goes, CanLay, text_behind, laid_as, comma_goes, bracket_goes, spaced_goes, word_then, arguments_goes, link_can, name_laid, integer_laid, both_can, braces_can, rules_can, top_laid}
 use Rattle.lmn_plain.proofs.ReadGuards.{words_behind}
 use Rattle.lmn_plain.proofs.RightLines.{Right, both_right, commas_right, stops_right, link_right, name_right, integer_right, in_parentheses as args_right, rules_right}
 use Rattle.lmn_plain.specs.Spelled.{LabelSpelled}
-use Rattle.lmn_folded.specs.Terms.{Term, link, labelled, Terms, no_term, term_and, Item, Folded, folded, FoldedMembranes, no_membrane, membrane_and}
+use Rattle.lmn_folded.specs.Terms.{FoldedTerm, link, labelled, FoldedTerms, no_term, term_and, FoldedItem, Folded, folded, FoldedMembranes, no_membrane, membrane_and}
 use Rattle.lmn_folded.specs.Words.{in_parentheses, is_cell, is_empty_list, term_pieces, cell_pieces, rest_pieces, terms_pieces, item_pieces, folded_pieces, membranes_pieces, line_of_folded}
 use Rattle.lmn_folded_read.specs.Spelled.{TermSpelled, TermsSpelled, ItemSpelled, FoldedSpelled, MembranesSpelled}
+use Rattle.lmn_congruence.specs.Translation.{rules}
+use Rattle.lmn_lexer.specs.NameText.{quoted}
+use Rattle.lmn_base.proofs.Truth.{first_true as and_first}
 
 -- No word of a term begins with a colon, which may not stand behind `[`.
 
 abbrev NoColon : List ℕ → Type 0
-NoColon text = Stops (λ b. b == 58) text
+NoColon text = NoneStandsFirst (λ b. b == 58) text
 
 small_letter : (b : ℕ) → is_ascii_lowercase b ≡ true → (b == 58) ≡ false
 small_letter b h = grind (arith, nat_tests)
@@ -36,19 +37,15 @@ digit b h = grind (arith, nat_tests)
 minus_sign : (b : ℕ) → b ≡ 45 → (b == 58) ≡ false
 minus_sign b h = grind (arith, nat_tests)
 
-and_first : (s t : Bool) → s && t ≡ true → s ≡ true
-and_first true t e = refl
-and_first false t e = e
-
-name_begins : (name : Name) (rest : List ℕ) → NoColon ((if is_bare name then name else quoted name) ++ rest)
-name_begins name rest = go name (is_bare name) refl
+name_begins : (name : Name) (rest : List ℕ) → NoColon ((if is_bare_name name then name else quoted name) ++ rest)
+name_begins name rest = go name (is_bare_name name) refl
   where
-    go : (name : Name) (bare : Bool) → is_bare name ≡ bare → NoColon ((if bare then name else quoted name) ++ rest)
+    go : (name : Name) (bare : Bool) → is_bare_name name ≡ bare → NoColon ((if bare then name else quoted name) ++ rest)
     go name false e = refl
     go [] true e = absurd (cc)
     go (b ∷ bs) true e = small_letter b (and_first _ _ e)
 
-digits_begin : (bytes rest : List ℕ) → IsInteger true bytes → NoColon (bytes ++ rest)
+digits_begin : (bytes rest : List ℕ) → IsIntegerSpelling true bytes → NoColon (bytes ++ rest)
 digits_begin [] rest h = absurd h
 digits_begin (b ∷ bs) rest (inl h) = digit b h.0
 digits_begin (b ∷ bs) rest (inr h) = minus_sign b h.1
@@ -62,7 +59,7 @@ label_begins (integer z) h rest = let s = integer_spelled z h in digits_begin (s
 label_then : (l : Label) → LabelSpelled l → (ps : List Piece) (rest : List ℕ) (ws : List Word) → Goes (text_of ps ++ rest) (words_in ps ++ ws)
     → Laid true (text_of (label_piece l ∷ ps) ++ rest) (words_in (label_piece l ∷ ps) ++ ws)
 label_then (named name) h ps rest ws g =
-    let w = name_laid name h in word_then (name_kind name) (if is_bare name then name else quoted name) ps rest ws w.spells w.follows g
+    let w = name_laid name h in word_then (name_kind name) (if is_bare_name name then name else quoted name) ps rest ws w.spells w.follows g
 label_then (integer z) h ps rest ws g = let w = integer_laid z h in word_then kind.Int (signed_decimal z) ps rest ws w.spells w.follows g
 
 arguments_go : (pss : List (List Piece)) → AllByRecursion CanLay pss → (rest : List ℕ) (ws : List Word) → Goes rest ws
@@ -118,13 +115,13 @@ bar_goes : (ps : List Piece) → CanLay ps → RestGoes (spaced kind.Bar (codes 
 bar_goes ps h rest ws g = spaced_goes kind.Bar (codes "|") (λ minus. refl) tt refl (h rest ws g)
 
 mutual
-  term_can : (t : Term) → TermSpelled t → Begins (term_pieces t)
+  term_can : (t : FoldedTerm) → TermSpelled t → Begins (term_pieces t)
   term_can (link x) h = (link_can x h, λ rest. refl)
   term_can (labelled l ts) h =
       three_cases Begins (is_cell l ts) (is_empty_list l ts) _ _ _ (list_begins (cell_pieces ts) (cell_can ts h.1)) empty_begins
       (named_begins l (terms_pieces ts) h.0 (terms_can ts h.1))
 
-  cell_can : (ts : Terms) → TermsSpelled ts → MayBegin (cell_pieces ts)
+  cell_can : (ts : FoldedTerms) → TermsSpelled ts → MayBegin (cell_pieces ts)
   cell_can no_term h = (λ rest ws g. g.laid true, λ rest n. n)
   cell_can (term_and t no_term) h = (λ rest ws g. g.laid true, λ rest n. n)
   cell_can (term_and t (term_and r ts)) h =
@@ -135,18 +132,18 @@ mutual
         λ rest n. subst P (sym (text_behind (term_pieces t) (rest_pieces r) rest)) (first.1 (text_of (rest_pieces r) ++ rest)),
       )
 
-  rest_goes : (r : Term) → TermSpelled r → RestGoes (rest_pieces r)
+  rest_goes : (r : FoldedTerm) → TermSpelled r → RestGoes (rest_pieces r)
   rest_goes (link x) h = bar_goes (link_piece x ∷ []) (link_can x h)
   rest_goes (labelled l ts) h =
       let inside = cell_can ts h.1 in
       three_cases RestGoes (is_cell l ts) (is_empty_list l ts) _ _ _ (λ rest ws g. comma_goes (inside.0 rest ws g)) (λ rest ws g. g)
       (bar_goes (label_piece l ∷ in_parentheses (terms_pieces ts)) (by_name l (terms_pieces ts) h.0 (terms_can ts h.1)))
 
-  terms_can : (ts : Terms) → TermsSpelled ts → AllByRecursion CanLay (terms_pieces ts)
+  terms_can : (ts : FoldedTerms) → TermsSpelled ts → AllByRecursion CanLay (terms_pieces ts)
   terms_can no_term h = tt
   terms_can (term_and t ts) h = let first = term_can t h.0 in (first.0, terms_can ts h.1)
 
-items_can : (is : List Item) → AllByRecursion ItemSpelled is → AllByRecursion CanLay (map item_pieces is)
+items_can : (is : List FoldedItem) → AllByRecursion ItemSpelled is → AllByRecursion CanLay (map item_pieces is)
 items_can [] h = tt
 items_can (i ∷ is) h = (by_name i.label (terms_pieces i.arguments) h.0.0 (terms_can i.arguments h.0.1), items_can is h.1)
 
@@ -180,7 +177,7 @@ all_both [] qss h k = k
 all_both (ps ∷ pss) qss h k = (h.0, all_both pss qss h.1 k)
 
 mutual
-  term_right : (t : Term) → TermSpelled t → Right (term_pieces t)
+  term_right : (t : FoldedTerm) → TermSpelled t → Right (term_pieces t)
   term_right (link x) h = (link_right x h, tt)
   term_right (labelled l ts) h =
       three_cases Right (is_cell l ts) (is_empty_list l ts) _ _ _
@@ -188,22 +185,22 @@ mutual
       (((λ i. absurd (cc)), (λ x. x)), (((λ i. absurd (cc)), (λ x. x)), tt))
       (named_right l (terms_pieces ts) h.0 (terms_right ts h.1))
 
-  cell_right : (ts : Terms) → TermsSpelled ts → Right (cell_pieces ts)
+  cell_right : (ts : FoldedTerms) → TermsSpelled ts → Right (cell_pieces ts)
   cell_right no_term h = tt
   cell_right (term_and t no_term) h = tt
   cell_right (term_and t (term_and r ts)) h = both_right (term_pieces t) (rest_pieces r) (term_right t h.0) (rest_right r h.1.0)
 
-  rest_right : (r : Term) → TermSpelled r → Right (rest_pieces r)
+  rest_right : (r : FoldedTerm) → TermSpelled r → Right (rest_pieces r)
   rest_right (link x) h = (((λ i. absurd (cc)), (λ x. x)), (link_right x h, tt))
   rest_right (labelled l ts) h =
       three_cases Right (is_cell l ts) (is_empty_list l ts) _ _ _ (((λ i. absurd (cc)), (λ x. x)), cell_right ts h.1) tt
       (((λ i. absurd (cc)), (λ x. x)), named_right l (terms_pieces ts) h.0 (terms_right ts h.1))
 
-  terms_right : (ts : Terms) → TermsSpelled ts → AllByRecursion Right (terms_pieces ts)
+  terms_right : (ts : FoldedTerms) → TermsSpelled ts → AllByRecursion Right (terms_pieces ts)
   terms_right no_term h = tt
   terms_right (term_and t ts) h = (term_right t h.0, terms_right ts h.1)
 
-items_right : (is : List Item) → AllByRecursion ItemSpelled is → AllByRecursion Right (map item_pieces is)
+items_right : (is : List FoldedItem) → AllByRecursion ItemSpelled is → AllByRecursion Right (map item_pieces is)
 items_right [] h = tt
 items_right (i ∷ is) h = (named_right i.label (terms_pieces i.arguments) h.0.0 (terms_right i.arguments h.0.1), items_right is h.1)
 

@@ -1,10 +1,11 @@
 -- Links that are made for the parts of a tree are different, since the ways to the parts are.
 use Rattle.std.proofs.Common.{◌≡◌, ℕ, ◌⊎◌, inl, inr, List, [], ◌∷◌, ◌++◌, refl, sym, ap, ◌∙◌, arith}
 use Rattle.std.proofs.lemmas.List.{append_assoc}
-use Rattle.lmn_congruence.specs.Orders.{Among, at_head, further}
+use Rattle.lmn_congruence.specs.Orders.{Among, at_head, further, EachOnce}
 use Rattle.lmn_plain.specs.Links.{Link, made}
-use Rattle.lmn_folded_read.specs.Apart.{AllDifferent}
-use Rattle.lmn_folded_read.proofs.Lists.{all_different, among_apart, longer, same_step}
+use Rattle.lmn_folded_read.proofs.Lists.{all_different, longer}
+use Rattle.lmn_congruence.proofs.Common.{among_apart}
+use Rattle.lmn_base.proofs.Lists.{same_step}
 
 abbrev pub Under : List ℕ → Link → Type 0
 Under way a = (v : List ℕ) × (a ≡ made (v ++ way))
@@ -15,12 +16,12 @@ Inside way a = (v : List ℕ) × (c : ℕ) × (a ≡ made (v ++ c ∷ way))
 -- links made for a part at a way or for parts of it
 pub record Names (way : List ℕ) (ms : List Link) : Type 0 where
   pub under : (a : Link) → Among a ms → Under way a
-  pub different : AllDifferent ms
+  pub different : EachOnce ms
 
 -- links made for parts of it alone
 pub record Inner (way : List ℕ) (ms : List Link) : Type 0 where
   pub inside : (a : Link) → Among a ms → Inside way a
-  pub different : AllDifferent ms
+  pub different : EachOnce ms
 
 made_same : (v w : List ℕ) → made v ≡ made w → v ≡ w
 made_same v w e = cc

@@ -1,20 +1,20 @@
 -- Folded processes that a text can spell.
 use Rattle.std.specs.Prelude.{⊤}
 use Rattle.std.specs.List.{AllByRecursion}
-use Rattle.lmn_plain.specs.SolidLines.{rules}
 use Rattle.lmn_plain.specs.Spelled.{LabelSpelled, IsLinkNumber, RulesSpelled}
-use Rattle.lmn_folded.specs.Terms.{Term, link, labelled, Terms, no_term, term_and, Item, Folded, folded, FoldedMembranes, no_membrane, membrane_and}
+use Rattle.lmn_folded.specs.Terms.{FoldedTerm, link, labelled, FoldedTerms, no_term, term_and, FoldedItem, Folded, folded, FoldedMembranes, no_membrane, membrane_and}
+use Rattle.lmn_congruence.specs.Translation.{rules}
 
 abbrev mutual
-  pub TermSpelled : Term → Type 0
+  pub TermSpelled : FoldedTerm → Type 0
   TermSpelled (link x) = IsLinkNumber x
   TermSpelled (labelled l ts) = LabelSpelled l × TermsSpelled ts
 
-  pub TermsSpelled : Terms → Type 0
+  pub TermsSpelled : FoldedTerms → Type 0
   TermsSpelled no_term = ⊤
   TermsSpelled (term_and t ts) = TermSpelled t × TermsSpelled ts
 
-abbrev pub ItemSpelled : Item → Type 0
+abbrev pub ItemSpelled : FoldedItem → Type 0
 ItemSpelled i = LabelSpelled i.label × TermsSpelled i.arguments
 
 abbrev mutual

@@ -1,9 +1,7 @@
 -- The folded line of a small process.
-use Rattle.std.proofs.Common.{◌≡◌, ◌≢◌, ◌⊎◌, inl, inr, refl, sym, subst, arith}
+use Rattle.std.proofs.Common.{refl, sym, subst, arith}
 use Rattle.std.specs.Prelude.{codes}
-use Rattle.lmn_congruence.specs.Process.{Closed, Fresh, Local}
-use Rattle.lmn_congruence.specs.Regions.{Region, region_process}
-use Rattle.lmn_congruence.proofs.Counts.{one_if_equal, none_if_apart, same_or_not as same_or_apart}
+use Rattle.lmn_congruence.specs.Regions.{Region}
 use Rattle.lmn_lexer.specs.Spelling.{byte, nothing}
 use Rattle.lmn_folded.specs.Examples.{last_ports}
 use Rattle.lmn_folded.specs.Lines.{IsFoldedLine}
@@ -11,13 +9,7 @@ use Rattle.lmn_folded.proofs.ExampleLines as folded
 use Rattle.lmn_folded_same.specs.Examples.{ItsLine, NotItsLine}
 use Rattle.lmn_folded_same.proofs.OneRegion.{one_region}
 use Rattle.lmn_folded_same.proofs.ReadBack.{folded_lines_read_back}
-
-last_ports_closed : Closed (region_process last_ports)
-last_ports_closed x = go (same_or_apart x 0)
-  where
-    go : (x ≡ 0) ⊎ (x ≢ 0) → Fresh x (region_process last_ports) ⊎ Local x (region_process last_ports)
-    go (inl e) = let h = one_if_equal x 0 e in inr (omega (arith, h))
-    go (inr d) = let h = none_if_apart x 0 d in inl (omega (arith, h))
+use Rattle.lmn_folded.proofs.ExampleLines.{last_ports_closed}
 
 pub its_line : ItsLine
 its_line alloc names is a b =

@@ -7,7 +7,6 @@ pub mod SameLines
 pub mod Kept
 pub mod SpelledForms
 pub mod TopsBack
-pub mod OwnSolids
 pub mod ReadBack
 pub mod OneRegion
 pub mod ExampleLines

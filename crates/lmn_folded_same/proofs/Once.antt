@@ -3,10 +3,9 @@ use Rattle.std.proofs.Common.{◌≡◌, ◌≢◌, ℕ, suc, zero, ◌+◌, ◌
 use Rattle.std.specs.List.{range_with_len}
 use Rattle.std.proofs.lemmas.List.{length-append, map-id}
 use Rattle.std.proofs.lemmas.Option.{same_Some}
-use Rattle.lmn_congruence.specs.Orders.{Among, at_head, further, Put, here, there, Shuffle, none, more}
+use Rattle.lmn_congruence.specs.Orders.{Among, at_head, further, Put, here, there, Shuffle, none, more, EachOnce}
 use Rattle.lmn_congruence.specs.Regions.{SolidAtom}
 use Rattle.lmn_congruence.specs.Same.{renamed_atom}
-use Rattle.lmn_folded_read.specs.Apart.{AllDifferent}
 
 -- a list is another one with one element put in
 put_in : (x : ℕ) (ys : List ℕ) → Among x ys → (zs : List ℕ) × Put x zs ys
@@ -29,7 +28,7 @@ it_stands : {x : ℕ} {zs ys : List ℕ} → Put x zs ys → Among x ys
 it_stands here = at_head
 it_stands (there p) = further (it_stands p)
 
-put_once : {x : ℕ} {zs ys : List ℕ} → Put x zs ys → AllDifferent ys → (¬ (Among x zs)) × AllDifferent zs
+put_once : {x : ℕ} {zs ys : List ℕ} → Put x zs ys → EachOnce ys → (¬ (Among x zs)) × EachOnce zs
 put_once here h = (h.0, h.1)
 put_once {x} (there {z = z} {ys = zs} p) h =
     let more = put_once p h.1 in
@@ -40,7 +39,7 @@ put_once {x} (there {z = z} {ys = zs} p) h =
     go x n p m (further i) = n i
 
 -- Two lists with the same elements, each once, are one up to their order.
-pub same_elements : (xs ys : List ℕ) → AllDifferent xs → AllDifferent ys → ((v : ℕ) → Among v xs → Among v ys) → ((v : ℕ) → Among v ys → Among v xs) → Shuffle (λ a b. a ≡ b) xs ys
+pub same_elements : (xs ys : List ℕ) → EachOnce xs → EachOnce ys → ((v : ℕ) → Among v xs → Among v ys) → ((v : ℕ) → Among v ys → Among v xs) → Shuffle (λ a b. a ≡ b) xs ys
 same_elements [] [] h k f g = none
 same_elements [] (y ∷ ys) h k f g = elim (g y at_head) [ ]
 same_elements (x ∷ xs) ys h k f g =
@@ -66,7 +65,7 @@ range_from k zero v h = elim h [ ]
 range_from k (suc n) v at_head = omega arith
 range_from k (suc n) v (further h) = let l = range_from (k + 1) n v h in omega (arith, l)
 
-pub range_once : (k n : ℕ) → AllDifferent (range_with_len k n)
+pub range_once : (k n : ℕ) → EachOnce (range_with_len k n)
 range_once k zero = tt
 range_once k (suc n) = (λ h. let l = range_from (k + 1) n k h in omega (arith, l), range_once (k + 1) n)
 

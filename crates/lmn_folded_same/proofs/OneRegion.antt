@@ -6,6 +6,7 @@ use Rattle.lmn_congruence.specs.Rules.{Label, Rule}
 use Rattle.lmn_folded.specs.Lines.{IsFoldedLine}
 use Rattle.lmn_folded.proofs.FoldedLines.{one_folded_line}
 use Rattle.lmn_folded_same.specs.ReadBack.{OneFoldedLineOf}
+use Rattle.lmn_plain.proofs.SolidLines.{region_with, regions_with}
 
 first_of : (P Q R S : Process) → pair P Q ≡ pair R S → P ≡ R
 first_of P Q R S e = cc
@@ -35,12 +36,6 @@ atoms_with l m vs ws xs ys d e f = cc
 rules_with : (r s : Rule) (rs ss : List Rule) → r ≡ s → rs ≡ ss → r ∷ rs ≡ s ∷ ss
 rules_with r s rs ss d e = cc
 
-region_with : (xs ys : List SolidAtom) (ms ns : Regions) (rs ss : List Rule) → xs ≡ ys → ms ≡ ns → rs ≡ ss → region xs ms rs ≡ region ys ns ss
-region_with xs ys ms ns rs ss d e f = cc
-
-regions_with : (r s : Region) (rs ss : Regions) → r ≡ s → rs ≡ ss → region_and r rs ≡ region_and s ss
-regions_with r s rs ss d e = cc
-
 atoms_same : (xs ys : List SolidAtom) → together (map atom_process xs) ≡ together (map atom_process ys) → xs ≡ ys
 atoms_same [] [] e = refl
 atoms_same [] (y ∷ ys) e = absurd (no_pair _ _ e)
@@ -59,14 +54,14 @@ mutual
   pub one_region : (S T : Region) → region_process S ≡ region_process T → S ≡ T
   one_region (region xs ms rs) (region ys ns ss) e =
       let inside = second_of _ _ _ _ e in
-      region_with xs ys ms ns rs ss (atoms_same xs ys (first_of _ _ _ _ e)) (regions_same ms ns (first_of _ _ _ _ inside)) (rules_same rs ss (second_of _ _ _ _ inside))
+      region_with (atoms_same xs ys (first_of _ _ _ _ e)) (regions_same ms ns (first_of _ _ _ _ inside)) (rules_same rs ss (second_of _ _ _ _ inside))
 
   regions_same : (ms ns : Regions) → together (regions_processes ms) ≡ together (regions_processes ns) → ms ≡ ns
   regions_same no_region no_region e = refl
   regions_same no_region (region_and n ns) e = absurd (no_pair _ _ e)
   regions_same (region_and m ms) no_region e = absurd (no_pair _ _ (sym e))
   regions_same (region_and m ms) (region_and n ns) e =
-      regions_with m n ms ns (one_region m n (inside_of _ _ (first_of _ _ _ _ e))) (regions_same ms ns (second_of _ _ _ _ e))
+      regions_with (one_region m n (inside_of _ _ (first_of _ _ _ _ e))) (regions_same ms ns (second_of _ _ _ _ e))
 
 pub one_folded_line_of : OneFoldedLineOf
 one_folded_line_of names others P line other h k =

@@ -1,6 +1,5 @@
 -- Folded lines read back as processes.
-use Rattle.std.proofs.Common.{◌≡◌, ℕ, List, [], ◌∷◌, ◌++◌, map, refl, sym, ap, ◌∙◌, subst}
-use Rattle.std.specs.List.{AllByRecursion}
+use Rattle.std.proofs.Common.{◌≡◌, ℕ, List, map, refl, sym, ap, ◌∙◌, subst}
 use Rattle.lmn_base.specs.declared.rule.Plain.{Plain}
 use Rattle.lmn_base.specs.Names.{IsNames}
 use Rattle.lmn_congruence.specs.Congruence.{Congruent, back}
@@ -12,10 +11,9 @@ use Rattle.lmn_congruence.specs.Same.{Same}
 use Rattle.lmn_congruence.specs.Translation.{region_of, top_of}
 use Rattle.lmn_congruence.proofs.Solids.{congruent_exactly_same}
 use Rattle.lmn_congruence.proofs.TranslatedLinks.{solids_closed}
-use Rattle.lmn_lexer.specs.declared.token.Kind.TheVariants.{Int}
 use Rattle.lmn_lexer.specs.declared.token.Token.{Token}
-use Rattle.lmn_lexer.specs.Faults.{InRange, NothingWrong}
-use Rattle.lmn_lexer.specs.Laying.{Word, IsRight, words_of, end_word}
+use Rattle.lmn_lexer.specs.Faults.{NothingWrong}
+use Rattle.lmn_lexer.specs.Laying.{Word, words_of}
 use Rattle.lmn_lexer.proofs.LaidTexts.{laid_texts_are_cut}
 use Rattle.lmn_lexer.proofs.OneCut.{one_cut}
 use Rattle.lmn_parser.specs.Readings.{Reads}
@@ -27,8 +25,7 @@ use Rattle.lmn_plain.specs.SolidLines.{as_level}
 use Rattle.lmn_plain.specs.Spelled.{LevelSpelled}
 use Rattle.lmn_plain.specs.Texts.{IntegersInRange}
 use Rattle.lmn_plain.specs.Words.{words_in, with_full_stops}
-use Rattle.lmn_plain.proofs.AllLemmas.{all_append}
-use Rattle.lmn_plain.proofs.SolidLines.{same_process}
+use Rattle.lmn_plain.proofs.SolidLines.{same_process, own_solid}
 use Rattle.lmn_plain.proofs.SolidNames.{solid_held}
 use Rattle.lmn_plain.proofs.SolidNumbers.{solid_rules_numbered}
 use Rattle.lmn_plain.proofs.SomePlain.{some_plain}
@@ -39,10 +36,10 @@ use Rattle.lmn_folded_read.specs.Spelled.{FoldedSpelled}
 use Rattle.lmn_folded_read.proofs.FoldedLaid.{folded_laid, line_right}
 use Rattle.lmn_folded_same.specs.ReadBack.{FoldedSolidLinesAreRead, FoldedLinesReadBack}
 use Rattle.lmn_folded_same.proofs.Kept.{kept}
-use Rattle.lmn_folded_same.proofs.OwnSolids.{own_solid}
 use Rattle.lmn_folded_same.proofs.SameLines.{folded_lines_are_same}
 use Rattle.lmn_folded_same.proofs.SpelledForms.{numbered_form_spelled}
 use Rattle.lmn_folded_same.proofs.TopsBack.{AtomFine, RuleFine, region_fine, still_fine, top_back}
+use Rattle.lmn_plain.proofs.TextPlains.{all_ranges}
 
 -- The line of a region reads as a tree; the top of each plain of this tree is the level of a region that is the same.
 abbrev TopIs : List tree.Name → Region → Plain → Type 0
@@ -81,13 +78,6 @@ folded_solid_lines_are_read names given s line well solid has named spelled h =
     )
 
 -- Its integers are in range.
-
-ranges : (ws : List Word) → AllByRecursion IsRight ws → IntegersInRange ws
-ranges [] h = tt
-ranges (w ∷ ws) h = let r = h.0 in (r.0, ranges ws h.1)
-
-all_ranges : (ws : List Word) → AllByRecursion IsRight ws → IntegersInRange (ws ++ end_word ∷ [])
-all_ranges ws h = all_append (λ w. w.kind ≡ Int → InRange w.bytes) ws (end_word ∷ []) (ranges ws h) (λ e. absurd (cc), tt)
 
 form_ranges : (f : Folded) → FoldedSpelled f → (tokens : List Token) {t : Clauses} → Reads (line_of_folded f) tokens t → IntegersInRange (words_of (line_of_folded f) tokens)
 form_ranges f s tokens r =

@@ -8,15 +8,15 @@ use Rattle.lmn_lexer.specs.Laying.{words_of}
 use Rattle.lmn_parser.specs.Readings.{Reads}
 use Rattle.lmn_parser.specs.Syntax.{Clauses}
 use Rattle.lmn_plain.specs.Expansion.{parts_of}
-use Rattle.lmn_plain.specs.Parts.{level_of}
+use Rattle.lmn_plain.specs.Parts.{level_from_parts}
 use Rattle.lmn_plain.specs.Spelled.{IsLinkNumber}
-use Rattle.lmn_folded.specs.Terms.{Term, link, labelled, Terms, no_term, term_and, Item, Folded, folded, FoldedMembranes, no_membrane, membrane_and, term_links, terms_links, items_links, folded_links, membranes_links}
+use Rattle.lmn_folded.specs.Terms.{FoldedTerm, link, labelled, FoldedTerms, no_term, term_and, FoldedItem, Folded, folded, FoldedMembranes, no_membrane, membrane_and, term_links, terms_links, items_links, folded_links, membranes_links}
 use Rattle.lmn_folded_read.specs.Laws.{IsTreeOf}
 use Rattle.lmn_folded_read.specs.Spelled.{TermSpelled, TermsSpelled, ItemSpelled, FoldedSpelled, MembranesSpelled}
-use Rattle.lmn_folded_read.proofs.Lists.{among_apart}
 use Rattle.lmn_folded_read.proofs.FoldedLines.{folded_lines_are_read}
 use Rattle.lmn_folded_same.specs.Lines.{FoldedLinesAreSame}
 use Rattle.lmn_folded_same.proofs.SameTexts.{folded_texts_are_same}
+use Rattle.lmn_congruence.proofs.Common.{among_apart}
 
 -- The printed links of what can be spelled.
 
@@ -41,15 +41,15 @@ one_small y h x i = go x i h
     go x (further j) h = elim j [ ]
 
 mutual
-  term_small : (t : Term) → TermSpelled t → Small (term_links t)
+  term_small : (t : FoldedTerm) → TermSpelled t → Small (term_links t)
   term_small (link x) h = one_small x h
   term_small (labelled l ts) h = terms_small ts h.1
 
-  terms_small : (ts : Terms) → TermsSpelled ts → Small (terms_links ts)
+  terms_small : (ts : FoldedTerms) → TermsSpelled ts → Small (terms_links ts)
   terms_small no_term h = none_small
   terms_small (term_and t ts) h = both_small (term_links t) (terms_links ts) (term_small t h.0) (terms_small ts h.1)
 
-items_small : (is : List Item) → AllByRecursion ItemSpelled is → Small (items_links is)
+items_small : (is : List FoldedItem) → AllByRecursion ItemSpelled is → Small (items_links is)
 items_small [] h = none_small
 items_small (i ∷ is) h = both_small (terms_links i.arguments) (items_links is) (terms_small i.arguments h.0.1) (items_small is h.1)
 
@@ -76,6 +76,6 @@ folded_lines_are_same S line h closed spelled =
       read.2,
       read.3,
       λ names p plain.
-          folded_texts_are_same words places parts.table plain.number S h.given h.numbered (level_of parts) it.own_links closed h.folds h.numbers (folded_small h.numbered spelled) it.apart it.different
+          folded_texts_are_same words places parts.table plain.number S h.given h.numbered (level_from_parts parts) it.own_links closed h.folds h.numbers (folded_small h.numbered spelled) it.apart it.different
           it.none_written plain.apart,
     )

@@ -10,21 +10,23 @@ use Rattle.lmn_congruence.specs.Process.{Process, nothing, connector, atom, pair
 use Rattle.lmn_congruence.specs.Regions.{SolidAtom, Region, region, Regions, no_region, region_and, atom_process, region_process, regions_processes}
 use Rattle.lmn_congruence.specs.Rules.{Rule as RuleTree}
 use Rattle.lmn_congruence.specs.Same.{renamed_atom, renamed_region, renamed_regions, PutRegion, first, later, SameRegion, same_region, SameRegions, none_left, one_more}
-use Rattle.lmn_congruence.proofs.Counts.{one_if_equal, none_if_apart, same_or_not as same_or_apart}
+use Rattle.lmn_congruence.proofs.Counts.{one_if_equal, none_if_apart}
 use Rattle.lmn_congruence.proofs.Renaming.{renamed_id, occurrences_image}
 use Rattle.lmn_lexer.specs.Laying.{Word}
 use Rattle.lmn_plain.specs.Links.{Link}
-use Rattle.lmn_plain.specs.Expanded.{Leaf, atom_leaf, typed_leaf, Level, level, Levels, no_level, level_and, Rule, use_links, leaves_links, links_of, links_in}
-use Rattle.lmn_plain.specs.Plains.{Each}
-use Rattle.lmn_plain.proofs.SameNumbers.{contains_here}
+use Rattle.lmn_plain.specs.Expanded.{ExpandedLeaf, atom_leaf, typed_leaf, ExpandedLevel, level, ExpandedLevels, no_level, level_and, ExpandedRule, use_links, expanded_leaves_links, expanded_links, expanded_links_in}
+use Rattle.lmn_plain.specs.Plains.{EachPair}
 use Rattle.lmn_folded.specs.Terms.{Folded, FoldedMembranes, renamed_folded, renamed_membranes}
 use Rattle.lmn_folded.proofs.Places.{count}
 use Rattle.lmn_folded_read.specs.Apart.{FoldedApart, MembranesApart}
 use Rattle.lmn_folded_same.specs.Whole.{FoldedWhole, folded_whole, MembranesWhole, no_membranes, membranes_whole}
 use Rattle.lmn_folded_same.proofs.WholeForms.{folded_forms_are_whole}
 use Rattle.lmn_folded_same.specs.Named.{AtomNamed, RegionNamed, RegionsNamed}
-use Rattle.lmn_folded_same.proofs.Naming.{folded_links_are_named, no_rule_links}
+use Rattle.lmn_folded_same.proofs.Naming.{folded_links_are_named}
 use Rattle.lmn_folded_same.specs.Numbered.{AtomNumbered, RegionNumbered, RegionsNumbered, FoldedTextsAreSame}
+use Rattle.lmn_base.proofs.Lists.{contains_first as contains_here}
+use Rattle.lmn_base.proofs.Numbers.{one_not_zero as one_or_other, same_or_not as same_or_apart}
+use Rattle.lmn_congruence.proofs.TranslatedLinks.{no_link_in_rules as no_rule_links}
 
 -- Two regions that are the same have the same links, renamed.
 
@@ -97,9 +99,6 @@ module _ (f : ℕ → ℕ) where
 
 -- A link that occurs in the region has its name among those of the level.
 
-one_or_other : (m n : ℕ) → m + n ≢ 0 → (m ≢ 0) ⊎ (n ≢ 0)
-one_or_other m n h = grind arith
-
 module _ (name : ℕ → Link) where
   name_in_links : (x : ℕ) (xs : List ℕ) → places x xs ≢ 0 → Contains (map name xs) (name x)
   name_in_links x [] n = absurd (n refl)
@@ -109,37 +108,37 @@ module _ (name : ℕ → Link) where
       go (inl e) others = let P : ℕ → Type 0 = λ z. Contains (name z ∷ map name xs) (name x) in subst P e (contains_here (name x) (map name xs))
       go (inr d) others = let h = none_if_apart x y d in Contains-append_right (name y ∷ []) (map name xs) (name x) (others (λ z. n (omega (arith, h, z))))
 
-  name_in_atoms : (x : ℕ) (xs : List SolidAtom) (ls : List Leaf) → Each (AtomNamed name) xs ls → count x xs ≢ 0 → Contains (leaves_links ls) (name x)
+  name_in_atoms : (x : ℕ) (xs : List SolidAtom) (ls : List ExpandedLeaf) → EachPair (AtomNamed name) xs ls → count x xs ≢ 0 → Contains (expanded_leaves_links ls) (name x)
   name_in_atoms x [] ls h n = absurd (n refl)
   name_in_atoms x (a ∷ xs) [] h n = absurd h
   name_in_atoms x (a ∷ xs) (typed_leaf m u pos ∷ ls) h n = absurd h.0
   name_in_atoms x (a ∷ xs) (atom_leaf l us pos ∷ ls) h n = go (one_or_other (places x a.links) (count x xs) n) (name_in_atoms x xs ls h.1)
     where
-      go : (places x a.links ≢ 0) ⊎ (count x xs ≢ 0) → (count x xs ≢ 0 → Contains (leaves_links ls) (name x)) → Contains (use_links us ++ leaves_links ls) (name x)
-      go (inl m) others = let P : List Link → Type 0 = λ zs. Contains zs (name x) in Contains-append_left (use_links us) (leaves_links ls) (name x) (subst P (sym h.0.1) (name_in_links x a.links m))
-      go (inr m) others = Contains-append_right (use_links us) (leaves_links ls) (name x) (others m)
+      go : (places x a.links ≢ 0) ⊎ (count x xs ≢ 0) → (count x xs ≢ 0 → Contains (expanded_leaves_links ls) (name x)) → Contains (use_links us ++ expanded_leaves_links ls) (name x)
+      go (inl m) others = let P : List Link → Type 0 = λ zs. Contains zs (name x) in Contains-append_left (use_links us) (expanded_leaves_links ls) (name x) (subst P (sym h.0.1) (name_in_links x a.links m))
+      go (inr m) others = Contains-append_right (use_links us) (expanded_leaves_links ls) (name x) (others m)
 
-  in_level : (x : ℕ) (xs : List SolidAtom) (ms : Regions) (rs : List RuleTree) (ls : List Leaf) (ns : Levels) → Each (AtomNamed name) xs ls
-      → (occurrences x (together (regions_processes ms)) ≢ 0 → Contains (links_in ns) (name x)) → occurrences x (region_process (region xs ms rs)) ≢ 0 → Contains (leaves_links ls ++ links_in ns) (name x)
+  in_level : (x : ℕ) (xs : List SolidAtom) (ms : Regions) (rs : List RuleTree) (ls : List ExpandedLeaf) (ns : ExpandedLevels) → EachPair (AtomNamed name) xs ls
+      → (occurrences x (together (regions_processes ms)) ≢ 0 → Contains (expanded_links_in ns) (name x)) → occurrences x (region_process (region xs ms rs)) ≢ 0 → Contains (expanded_leaves_links ls ++ expanded_links_in ns) (name x)
   in_level x xs ms rs ls ns h inside n = go (one_or_other (count x xs) (occurrences x (together (regions_processes ms))) (λ e. let r = no_rule_links x rs in n (omega (arith, e, r))))
     where
-      go : (count x xs ≢ 0) ⊎ (occurrences x (together (regions_processes ms)) ≢ 0) → Contains (leaves_links ls ++ links_in ns) (name x)
-      go (inl m) = Contains-append_left (leaves_links ls) (links_in ns) (name x) (name_in_atoms x xs ls h m)
-      go (inr m) = Contains-append_right (leaves_links ls) (links_in ns) (name x) (inside m)
+      go : (count x xs ≢ 0) ⊎ (occurrences x (together (regions_processes ms)) ≢ 0) → Contains (expanded_leaves_links ls ++ expanded_links_in ns) (name x)
+      go (inl m) = Contains-append_left (expanded_leaves_links ls) (expanded_links_in ns) (name x) (name_in_atoms x xs ls h m)
+      go (inr m) = Contains-append_right (expanded_leaves_links ls) (expanded_links_in ns) (name x) (inside m)
 
-  in_levels : (x : ℕ) (r : Region) (rs : Regions) (l : Level) (ls : Levels) → (occurrences x (region_process r) ≢ 0 → Contains (links_of l) (name x))
-      → (occurrences x (together (regions_processes rs)) ≢ 0 → Contains (links_in ls) (name x)) → occurrences x (together (regions_processes (region_and r rs))) ≢ 0 → Contains (links_of l ++ links_in ls) (name x)
+  in_levels : (x : ℕ) (r : Region) (rs : Regions) (l : ExpandedLevel) (ls : ExpandedLevels) → (occurrences x (region_process r) ≢ 0 → Contains (expanded_links l) (name x))
+      → (occurrences x (together (regions_processes rs)) ≢ 0 → Contains (expanded_links_in ls) (name x)) → occurrences x (together (regions_processes (region_and r rs))) ≢ 0 → Contains (expanded_links l ++ expanded_links_in ls) (name x)
   in_levels x r rs l ls one others n = go (one_or_other (occurrences x (region_process r)) (occurrences x (together (regions_processes rs))) n)
     where
-      go : (occurrences x (region_process r) ≢ 0) ⊎ (occurrences x (together (regions_processes rs)) ≢ 0) → Contains (links_of l ++ links_in ls) (name x)
-      go (inl m) = Contains-append_left (links_of l) (links_in ls) (name x) (one m)
-      go (inr m) = Contains-append_right (links_of l) (links_in ls) (name x) (others m)
+      go : (occurrences x (region_process r) ≢ 0) ⊎ (occurrences x (together (regions_processes rs)) ≢ 0) → Contains (expanded_links l ++ expanded_links_in ls) (name x)
+      go (inl m) = Contains-append_left (expanded_links l) (expanded_links_in ls) (name x) (one m)
+      go (inr m) = Contains-append_right (expanded_links l) (expanded_links_in ls) (name x) (others m)
 
   mutual
-    name_in_region : (x : ℕ) (T : Region) (l : Level) → RegionNamed name T l → occurrences x (region_process T) ≢ 0 → Contains (links_of l) (name x)
+    name_in_region : (x : ℕ) (T : Region) (l : ExpandedLevel) → RegionNamed name T l → occurrences x (region_process T) ≢ 0 → Contains (expanded_links l) (name x)
     name_in_region x (region xs ms rs) (level ls ns cs os ks) h n = in_level x xs ms rs ls ns h.0 (λ m. name_in_regions x ms ns h.1 m) n
 
-    name_in_regions : (x : ℕ) (Ts : Regions) (ls : Levels) → RegionsNamed name Ts ls → occurrences x (together (regions_processes Ts)) ≢ 0 → Contains (links_in ls) (name x)
+    name_in_regions : (x : ℕ) (Ts : Regions) (ls : ExpandedLevels) → RegionsNamed name Ts ls → occurrences x (together (regions_processes Ts)) ≢ 0 → Contains (expanded_links_in ls) (name x)
     name_in_regions x no_region ls h n = absurd (n refl)
     name_in_regions x (region_and r rs) no_level h n = absurd h
     name_in_regions x (region_and r rs) (level_and l ls) h n = in_levels x r rs l ls (λ m. name_in_region x r l h.0 m) (λ m. name_in_regions x rs ls h.1 m) n
@@ -150,11 +149,11 @@ map_twice : (number : Link → ℕ) (name : ℕ → Link) (xs : List ℕ) → ma
 map_twice number name [] = refl
 map_twice number name (x ∷ xs) = ap (λ ys. number (name x) ∷ ys) (map_twice number name xs)
 
-module _ (words : List Word) (places_of : List Pos) (table : List Rule) (number : Link → ℕ) (name : ℕ → Link) (to : ℕ → ℕ) where
+module _ (words : List Word) (places_of : List Pos) (table : List ExpandedRule) (number : Link → ℕ) (name : ℕ → Link) (to : ℕ → ℕ) where
   abbrev new : ℕ → ℕ
   new x = number (name x)
 
-  atoms_numbered : (xs : List SolidAtom) (ls : List Leaf) → Each (AtomNamed name) xs ls → Each (AtomNumbered words places_of table number) (map (renamed_atom new) xs) ls
+  atoms_numbered : (xs : List SolidAtom) (ls : List ExpandedLeaf) → EachPair (AtomNamed name) xs ls → EachPair (AtomNumbered words places_of table number) (map (renamed_atom new) xs) ls
   atoms_numbered [] [] h = tt
   atoms_numbered [] (l ∷ ls) h = absurd h
   atoms_numbered (a ∷ xs) [] h = absurd h
@@ -162,12 +161,12 @@ module _ (words : List Word) (places_of : List Pos) (table : List Rule) (number 
   atoms_numbered (a ∷ xs) (atom_leaf l us pos ∷ ls) h = ((h.0.0, ap (map number) h.0.1 ∙ map_twice number name a.links), atoms_numbered xs ls h.1)
 
   mutual
-    region_numbered : {f : Folded} {T : Region} (l : Level) (own : List Link) → FoldedWhole f T → FoldedApart words places_of table (renamed_folded to f) l own → RegionNamed name T l
+    region_numbered : {f : Folded} {T : Region} (l : ExpandedLevel) (own : List Link) → FoldedWhole f T → FoldedApart words places_of table (renamed_folded to f) l own → RegionNamed name T l
         → RegionNumbered words places_of table number (renamed_region new T) l
     region_numbered (level ls ns cs os ks) own (folded_whole {atoms = xs} w ws) h named =
         (atoms_numbered xs ls named.0, regions_numbered ns h.1 ws h.4 named.1, h.5, h.6, h.7)
 
-    regions_numbered : {fs : FoldedMembranes} {Ts : Regions} (ls : Levels) (own : List Link) → MembranesWhole fs Ts → MembranesApart words places_of table (renamed_membranes to fs) ls own → RegionsNamed name Ts ls
+    regions_numbered : {fs : FoldedMembranes} {Ts : Regions} (ls : ExpandedLevels) (own : List Link) → MembranesWhole fs Ts → MembranesApart words places_of table (renamed_membranes to fs) ls own → RegionsNamed name Ts ls
         → RegionsNumbered words places_of table number (renamed_regions new Ts) ls
     regions_numbered no_level own no_membranes h named = tt
     regions_numbered (level_and l ls) own no_membranes h named = absurd h

@@ -1,7 +1,6 @@
 -- The folded form of a region that a text can spell, with numbers for its links, can be spelled.
-use Rattle.std.proofs.Common.{ℕ, zero, suc, ◌≡◌, ◌≢◌, ◌==◌, ◌<◌, ◌≤◌, ◌^◌, ◌⊎◌, inl, inr, true, false, if◌then◌else◌, List, [], ◌∷◌, ◌++◌, map, sym, ap, ◌∙◌, subst, arith}
+use Rattle.std.proofs.Common.{ℕ, zero, suc, ◌≡◌, ◌≢◌, ◌==◌, ◌<◌, ◌≤◌, ◌^◌, ◌⊎◌, inl, inr, if◌then◌else◌, List, [], ◌∷◌, ◌++◌, map, sym, ap, ◌∙◌, subst, arith}
 use Rattle.std.specs.List.{AllByRecursion}
-use Rattle.std.proofs.lemmas.Bool.Decides.{nat_tests}
 use Rattle.std.proofs.lemmas.List.{map-id}
 use Rattle.lmn_base.specs.Links.{Numbers, known, new, no_more}
 use Rattle.lmn_congruence.specs.Orders.{Among, at_head, further}
@@ -9,19 +8,23 @@ use Rattle.lmn_congruence.specs.Process.{Closed}
 use Rattle.lmn_congruence.specs.Regions.{SolidAtom, Region, region, Regions, no_region, region_and, region_process}
 use Rattle.lmn_congruence.specs.Rules as tree
 use Rattle.lmn_congruence.specs.Same.{renamed_atom}
-use Rattle.lmn_plain.proofs.AllLemmas.{all_front, all_back}
-use Rattle.lmn_plain.specs.SolidLines.{atom_as_leaf, rules, as_level, as_levels}
+use Rattle.lmn_plain.specs.SolidLines.{atom_as_leaf, as_level, as_levels}
 use Rattle.lmn_plain.specs.Spelled.{LabelSpelled, IsLinkNumber, LeafSpelled, LevelSpelled, LevelsSpelled, RuleSpelled, RulesSpelled}
-use Rattle.lmn_folded.specs.Terms.{Term, link, labelled, Terms, no_term, term_and, Item, Folded, folded, FoldedMembranes, no_membrane, membrane_and, term_links, terms_links, items_links, folded_links, membranes_links, renamed_term, renamed_terms, renamed_item, renamed_folded, renamed_membranes}
-use Rattle.lmn_folded.specs.Lines.{IsNumbered, IsFoldedLine}
+use Rattle.lmn_folded.specs.Terms.{FoldedTerm, link, labelled, FoldedTerms, no_term, term_and, FoldedItem, Folded, folded, FoldedMembranes, no_membrane, membrane_and, term_links, terms_links, items_links, folded_links, membranes_links, renamed_term, renamed_terms, renamed_item, renamed_folded, renamed_membranes}
+use Rattle.lmn_folded.specs.Lines.{IsNumberedForm, IsFoldedLine}
 use Rattle.lmn_folded.proofs.Numbering.{renamed_links}
 use Rattle.lmn_folded_read.specs.Spelled.{TermSpelled, TermsSpelled, ItemSpelled, FoldedSpelled, MembranesSpelled}
 use Rattle.lmn_folded_same.specs.Whole.{TermWhole, link_whole, atom_whole, TermsWhole, none_whole, more_whole, ItemsWhole, no_items, items_whole, FoldedWhole, folded_whole, MembranesWhole, no_membranes, membranes_whole}
 use Rattle.lmn_folded_same.proofs.WholeForms.{folded_forms_are_whole}
-use Rattle.lmn_folded_read.proofs.Lists.{among_image, among_left, among_mapped, among_right}
+use Rattle.lmn_folded_read.proofs.Lists.{among_image}
 use Rattle.lmn_folded_same.proofs.Kept.{Everywhere, EverywhereIn, kept}
 use Rattle.lmn_folded_same.proofs.SameLines.{Small, folded_small}
-use Rattle.lmn_congruence.proofs.Counts.{same_or_not as same_or_apart}
+use Rattle.lmn_congruence.specs.Translation.{rules}
+use Rattle.lmn_base.proofs.Common.{numbers_grow}
+use Rattle.lmn_base.proofs.Lists.{all_left as all_front, all_right as all_back}
+use Rattle.lmn_base.proofs.Numbers.{not_equal as test_apart, same_or_not as same_or_apart}
+use Rattle.lmn_folded_same.proofs.Naming.{equal_true as test_same}
+use Rattle.lmn_congruence.proofs.Common.{among_left, among_right, among_map}
 
 -- The atoms and rules of such a region.
 
@@ -52,18 +55,18 @@ in_order a b e h =
 -- Its folded form, with the region's links.
 
 mutual
-  term_spelled : {t : Term} {x : ℕ} {xs : List SolidAtom} → TermWhole t x xs → IsLinkNumber x → AllByRecursion AtomSpelled xs → TermSpelled t
+  term_spelled : {t : FoldedTerm} {x : ℕ} {xs : List SolidAtom} → TermWhole t x xs → IsLinkNumber x → AllByRecursion AtomSpelled xs → TermSpelled t
   term_spelled link_whole l h = l
   term_spelled (atom_whole {x = x} {links = links} w) l h =
       (h.0.0, terms_spelled w (all_front IsLinkNumber links (x ∷ []) h.0.1) h.1)
 
-  terms_spelled : {ts : Terms} {links : List ℕ} {xs : List SolidAtom} → TermsWhole ts links xs → AllByRecursion IsLinkNumber links → AllByRecursion AtomSpelled xs
+  terms_spelled : {ts : FoldedTerms} {links : List ℕ} {xs : List SolidAtom} → TermsWhole ts links xs → AllByRecursion IsLinkNumber links → AllByRecursion AtomSpelled xs
       → TermsSpelled ts
   terms_spelled none_whole l h = tt
   terms_spelled (more_whole {atoms = xs} {others = ys} w ws) l h =
       (term_spelled w l.0 (all_front AtomSpelled xs ys h), terms_spelled ws l.1 (all_back AtomSpelled xs ys h))
 
-items_spelled : {is : List Item} {xs : List SolidAtom} → ItemsWhole is xs → AllByRecursion AtomSpelled xs → AllByRecursion ItemSpelled is
+items_spelled : {is : List FoldedItem} {xs : List SolidAtom} → ItemsWhole is xs → AllByRecursion AtomSpelled xs → AllByRecursion ItemSpelled is
 items_spelled no_items h = tt
 items_spelled (items_whole {atoms = xs} {others = ys} w ws) h =
     ((h.0.0, terms_spelled w h.0.1 (all_front AtomSpelled xs ys h.1)), items_spelled ws (all_back AtomSpelled xs ys h.1))
@@ -87,22 +90,22 @@ module _ (to : ℕ → ℕ) where
   AllSmall xs = (x : ℕ) → Among x xs → IsLinkNumber (to x)
 
   small_first : (xs ys : List ℕ) → AllSmall (xs ++ ys) → AllSmall xs
-  small_first xs ys h x i = h x (among_left xs ys i)
+  small_first xs ys h x i = h x (among_left ys i)
 
   small_second : (xs ys : List ℕ) → AllSmall (xs ++ ys) → AllSmall ys
-  small_second xs ys h x i = h x (among_right xs ys i)
+  small_second xs ys h x i = h x (among_right xs i)
 
   mutual
-    term_renamed : (t : Term) → TermSpelled t → AllSmall (term_links t) → TermSpelled (renamed_term to t)
+    term_renamed : (t : FoldedTerm) → TermSpelled t → AllSmall (term_links t) → TermSpelled (renamed_term to t)
     term_renamed (link x) h small = small x at_head
     term_renamed (labelled l ts) h small = (h.0, terms_renamed ts h.1 small)
 
-    terms_renamed : (ts : Terms) → TermsSpelled ts → AllSmall (terms_links ts) → TermsSpelled (renamed_terms to ts)
+    terms_renamed : (ts : FoldedTerms) → TermsSpelled ts → AllSmall (terms_links ts) → TermsSpelled (renamed_terms to ts)
     terms_renamed no_term h small = tt
     terms_renamed (term_and t ts) h small =
         (term_renamed t h.0 (small_first (term_links t) (terms_links ts) small), terms_renamed ts h.1 (small_second (term_links t) (terms_links ts) small))
 
-  items_renamed : (is : List Item) → AllByRecursion ItemSpelled is → AllSmall (items_links is) → AllByRecursion ItemSpelled (map (renamed_item to) is)
+  items_renamed : (is : List FoldedItem) → AllByRecursion ItemSpelled is → AllSmall (items_links is) → AllByRecursion ItemSpelled (map (renamed_item to) is)
   items_renamed [] h small = tt
   items_renamed (i ∷ is) h small =
       ((h.0.0, terms_renamed i.arguments h.0.1 (small_first (terms_links i.arguments) (items_links is) small)), items_renamed is h.1 (small_second (terms_links i.arguments) (items_links is) small))
@@ -119,12 +122,7 @@ module _ (to : ℕ → ℕ) where
 
 -- Numbers by first occurrence are below their count, and each number below it stands in the list.
 
-numbers_grow : {n m : ℕ} {xs : List ℕ} → Numbers n xs m → n ≤ m
-numbers_grow no_more = omega arith
-numbers_grow (known l h) = numbers_grow h
-numbers_grow (new h) = let g = numbers_grow h in omega (arith, g)
-
-numbers_below : {n m : ℕ} {xs : List ℕ} → Numbers n xs m → (x : ℕ) → Among x xs → x < m
+pub numbers_below : {n m : ℕ} {xs : List ℕ} → Numbers n xs m → (x : ℕ) → Among x xs → x < m
 numbers_below no_more x i = elim i [ ]
 numbers_below (known l h) x at_head = let g = numbers_grow h in omega (arith, l, g)
 numbers_below (known l h) x (further i) = numbers_below h x i
@@ -146,12 +144,6 @@ Onto f n k = (y : ℕ) → y < k → (x : ℕ) × (x < n) × (f x ≡ y)
 
 abbrev instead : (ℕ → ℕ) → ℕ → ℕ → ℕ → ℕ
 instead f k v x = if f x == k then v else f x
-
-test_same : (m k : ℕ) → m ≡ k → (m == k) ≡ true
-test_same m k e = grind (arith, nat_tests)
-
-test_apart : (m k : ℕ) → m ≢ k → (m == k) ≡ false
-test_apart m k d = grind (arith, nat_tests)
 
 few_images : (n k : ℕ) (f : ℕ → ℕ) → Onto f n k → k ≤ n
 few_images zero zero f h = omega arith
@@ -179,14 +171,14 @@ few_images (suc n) (suc k) f h = let others = few_images n k (instead f k (f n))
             (it.0, omega (arith, it.1, d), rw (test_apart (f it.0) k (λ e. omega (arith, e, here, l))) here)
 
 -- So the numbers of printed links are no greater than their numbers in the region.
-numbers_small : (given numbered : Folded) (n : IsNumbered given numbered) → Small (folded_links given) → AllSmall n.to (folded_links given)
+numbers_small : (given numbered : Folded) (n : IsNumberedForm given numbered) → Small (folded_links given) → AllSmall n.to (folded_links given)
 numbers_small given numbered n small x i = omega (arith, below x i, few)
   where
     same : folded_links numbered ≡ map n.to (folded_links given)
     same = ap folded_links n.is ∙ renamed_links n.to given
 
     below : (x : ℕ) → Among x (folded_links given) → n.to x < n.count
-    below x i = let P : List ℕ → Type 0 = Among (n.to x) in numbers_below n.by_first_occurrence (n.to x) (subst P (sym same) (among_mapped n.to (folded_links given) i))
+    below x i = let P : List ℕ → Type 0 = Among (n.to x) in numbers_below n.by_first_occurrence (n.to x) (subst P (sym same) (among_map n.to i))
 
     few : n.count ≤ 2 ^ 64
     few =

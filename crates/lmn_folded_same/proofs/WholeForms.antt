@@ -3,18 +3,18 @@ use Rattle.std.proofs.Common.{◌≡◌, ℕ, suc, zero, ◌+◌, List, [], ◌�
 use Rattle.std.proofs.lemmas.Option.{same_Some}
 use Rattle.lmn_congruence.specs.Orders.{Among, Shuffle, none, more, here}
 use Rattle.lmn_congruence.specs.Process.{together}
-use Rattle.lmn_congruence.specs.Regions.{SolidAtom, Region, region, Regions, no_region, region_and, region_process, regions_processes}
+use Rattle.lmn_congruence.specs.Regions.{SolidAtom, Region, region, Regions, no_region, region_and, region_process, regions_processes, solid_atom_with}
 use Rattle.lmn_congruence.specs.Rules.{Rule}
 use Rattle.lmn_congruence.specs.Same.{renamed_atom, SameRegion, same_region, SameRegions, none_left, one_more, first}
-use Rattle.lmn_folded.specs.Terms.{Term, Terms, Item, Folded, FoldedMembranes}
+use Rattle.lmn_folded.specs.Terms.{FoldedTerm, FoldedTerms, FoldedItem, Folded, FoldedMembranes}
 use Rattle.lmn_folded.specs.Folding as folding
-use Rattle.lmn_folded.specs.Folding.{IsChild, AreItems, positions, Shows, as_link, as_term, ShowsAll, ShowsItems, Folds, folds, FoldsAll}
+use Rattle.lmn_folded.specs.Folding.{IsChild, AreItems, atom_positions, Shows, as_link, as_term, ShowsAll, ShowsItems, Folds, folds, FoldsAll}
 use Rattle.lmn_folded.proofs.Places.{AtMostTwice}
 use Rattle.lmn_folded.proofs.OneFolded.{FewIn}
 use Rattle.lmn_folded.proofs.FoldedLines.{few_in}
 use Rattle.lmn_folded.proofs.SomeFolded.{items_below}
 use Rattle.lmn_folded.proofs.Choosing.{positions_all}
-use Rattle.lmn_folded_same.specs.Whole.{atom, TermWhole, link_whole, atom_whole, TermsWhole, none_whole, more_whole, ItemsWhole, no_items, items_whole, FoldedWhole, folded_whole, MembranesWhole, no_membranes, membranes_whole, FoldedFormsAreWhole}
+use Rattle.lmn_folded_same.specs.Whole.{TermWhole, link_whole, atom_whole, TermsWhole, none_whole, more_whole, ItemsWhole, no_items, items_whole, FoldedWhole, folded_whole, MembranesWhole, no_membranes, membranes_whole, FoldedFormsAreWhole}
 use Rattle.lmn_folded_same.proofs.Once.{AtomsAt, atoms_append, positions_at, same_atoms, same_elements, range_once}
 use Rattle.lmn_folded_same.proofs.Printing.{shown_order, all_order, items_order, once_items, all_printed, printed_below, items_once, each_from_item}
 
@@ -23,12 +23,12 @@ module _ (atoms : List SolidAtom) (few : AtMostTwice atoms) (items : List ℕ) w
   abbrev PortsAre : ℕ → ℕ → List ℕ → Type 0
   PortsAre p k xs = (a : SolidAtom) → slice_get atoms p ≡ Some a → (j x : ℕ) → slice_get xs j ≡ Some x → slice_get a.links (k + j) ≡ Some x
 
-  record TermFound (t : Term) (x : ℕ) (order : List ℕ) : Type 0 where
+  record TermFound (t : FoldedTerm) (x : ℕ) (order : List ℕ) : Type 0 where
     found : List SolidAtom
     whole : TermWhole t x found
     at_order : AtomsAt atoms order found
 
-  record TermsFound (ts : Terms) (xs : List ℕ) (order : List ℕ) : Type 0 where
+  record TermsFound (ts : FoldedTerms) (xs : List ℕ) (order : List ℕ) : Type 0 where
     found : List SolidAtom
     whole : TermsWhole ts xs found
     at_order : AtomsAt atoms order found
@@ -45,16 +45,16 @@ module _ (atoms : List SolidAtom) (few : AtMostTwice atoms) (items : List ℕ) w
       ap (slice_get a.links) e ∙ ap (λ (b : SolidAtom). slice_get b.links j) (sym same) ∙ ap (λ ls. slice_get ls j) c.links ∙ in_front c.first_links c.last_link j x f
 
   mutual
-    found_one : {p k x : ℕ} {t : Term} (s : Shows atoms items p k x t) → ((a : SolidAtom) → slice_get atoms p ≡ Some a → slice_get a.links k ≡ Some x) → TermFound t x (shown_order atoms few items s)
+    found_one : {p k x : ℕ} {t : FoldedTerm} (s : Shows atoms items p k x t) → ((a : SolidAtom) → slice_get atoms p ≡ Some a → slice_get a.links k ≡ Some x) → TermFound t x (shown_order atoms few items s)
     found_one (as_link h) port = record { found = []; whole = link_whole; at_order = tt }
     found_one {p} {k} {x} (as_term {q = q} {ts = ts} c n s) port =
         let inside = found_all s (first_ports c) in
         let own : c.last_link ≡ x = same_Some _ _ (sym c.joined ∙ port c.parent c.parent_at) in
-        let it = atom c.child.label (c.first_links ++ x ∷ []) in
-        let same : c.child ≡ it = ap (λ ls. atom c.child.label ls) (c.links ∙ ap (λ y. c.first_links ++ y ∷ []) own) in
+        let it = solid_atom_with c.child.label (c.first_links ++ x ∷ []) in
+        let same : c.child ≡ it = ap (λ ls. solid_atom_with c.child.label ls) (c.links ∙ ap (λ y. c.first_links ++ y ∷ []) own) in
         record { found = it ∷ inside.found; whole = atom_whole inside.whole; at_order = (c.child_at ∙ ap Some same, inside.at_order) }
 
-    found_all : {p k : ℕ} {xs : List ℕ} {ts : Terms} (s : ShowsAll atoms items p k xs ts) → PortsAre p k xs → TermsFound ts xs (all_order atoms few items s)
+    found_all : {p k : ℕ} {xs : List ℕ} {ts : FoldedTerms} (s : ShowsAll atoms items p k xs ts) → PortsAre p k xs → TermsFound ts xs (all_order atoms few items s)
     found_all folding.none ports = record { found = []; whole = none_whole; at_order = tt }
     found_all {p} {k} (folding.more {x = x} {xs = xs} h hs) ports =
         let one = found_one h here_port in
@@ -71,12 +71,12 @@ module _ (atoms : List SolidAtom) (few : AtMostTwice atoms) (items : List ℕ) w
         later_ports : PortsAre p (suc k) xs
         later_ports a e j y f = let P : ℕ → Type 0 = λ z. slice_get a.links z ≡ Some y in subst P (omega arith) (ports a e (suc j) y f)
 
-  record ItemsFound (is : List Item) (order : List ℕ) : Type 0 where
+  record ItemsFound (is : List FoldedItem) (order : List ℕ) : Type 0 where
     found : List SolidAtom
     whole : ItemsWhole is found
     at_order : AtomsAt atoms order found
 
-  found_items : {ps : List ℕ} {is : List Item} (s : ShowsItems atoms items ps is) → ItemsFound is (items_order atoms few items s)
+  found_items : {ps : List ℕ} {is : List FoldedItem} (s : ShowsItems atoms items ps is) → ItemsFound is (items_order atoms few items s)
   found_items folding.none = record { found = []; whole = no_items; at_order = tt }
   found_items (folding.more {p = p} a e s rest) =
       let inside = found_all s ports in
@@ -92,16 +92,16 @@ module _ (atoms : List SolidAtom) (few : AtMostTwice atoms) (items : List ℕ) w
           let z : 0 + j ≡ j = omega arith in ap (slice_get b.links) z ∙ ap (λ (c : SolidAtom). slice_get c.links j) (same_Some b a (sym f ∙ e)) ∙ g
 
 -- the atoms of one membrane
-one_membrane : (atoms : List SolidAtom) (items : List ℕ) {shown : List Item} → AtMostTwice atoms → AreItems atoms items → (s : ShowsItems atoms items items shown)
+one_membrane : (atoms : List SolidAtom) (items : List ℕ) {shown : List FoldedItem} → AtMostTwice atoms → AreItems atoms items → (s : ShowsItems atoms items items shown)
     → (found : List SolidAtom) × ItemsWhole shown found × Shuffle (λ a b. renamed_atom (λ x. x) a ≡ b) atoms found
 one_membrane atoms items few are s =
     let it = found_items atoms few items s in
     let order = items_order atoms few items s in
     let once = once_items atoms few items s (items_once atoms items are) (λ v a. a) in
-    let into : (v : ℕ) → Among v (positions atoms) → Among v order = λ v a. let h = each_from_item atoms items are v a in all_printed atoms few items s h.1.0 h.1.1 in
-    let back : (v : ℕ) → Among v order → Among v (positions atoms) =
+    let into : (v : ℕ) → Among v (atom_positions atoms) → Among v order = λ v a. let h = each_from_item atoms items are v a in all_printed atoms few items s h.1.0 h.1.1 in
+    let back : (v : ℕ) → Among v order → Among v (atom_positions atoms) =
     λ v a. let l = printed_below atoms few items s (λ w b. b) (items_below atoms few items are) v a in positions_all atoms items few 0 (length atoms) v (omega arith) (omega (arith, l)) in
-    (it.found, it.whole, same_atoms atoms atoms it.found (same_elements (positions atoms) order (range_once 0 (length atoms)) once into back) (positions_at atoms) it.at_order)
+    (it.found, it.whole, same_atoms atoms atoms it.found (same_elements (atom_positions atoms) order (range_once 0 (length atoms)) once into back) (positions_at atoms) it.at_order)
 
 same_rules : (rs : List Rule) → Shuffle (λ r s. r ≡ s) rs rs
 same_rules [] = none

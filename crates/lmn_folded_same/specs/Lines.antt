@@ -12,7 +12,7 @@ use Rattle.lmn_parser.specs.Readings.{Reads}
 use Rattle.lmn_parser.specs.Syntax.{Clauses}
 use Rattle.lmn_plain.specs.Expansion.{parts_of}
 use Rattle.lmn_plain.specs.Laws.{IsPlain}
-use Rattle.lmn_plain.specs.Parts.{level_of}
+use Rattle.lmn_plain.specs.Parts.{level_from_parts}
 use Rattle.lmn_folded.specs.Lines.{IsFoldedLine}
 use Rattle.lmn_folded_read.specs.Spelled.{FoldedSpelled}
 use Rattle.lmn_folded_same.specs.Numbered.{RegionNumbered}
@@ -27,4 +27,4 @@ FoldedLinesAreSame = (S : Region) (line : List ℕ) (h : IsFoldedLine S line) �
     → (T : Region) × Same S T × Closed (region_process T)
     × (let words = words_of line tokens in
     let places = map (λ t. t.pos) tokens in
-    let parts = parts_of words places tree in RegionNumbered words places parts.table plain.number T (level_of parts)))
+    let parts = parts_of words places tree in RegionNumbered words places parts.table plain.number T (level_from_parts parts)))

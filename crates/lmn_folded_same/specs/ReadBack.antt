@@ -4,7 +4,7 @@ use Rattle.std.specs.declared.alloc.Global.{Global}
 use Rattle.lmn_base.specs.declared.rule.Plain.{Plain}
 use Rattle.lmn_base.specs.declared.solid.Solid.{Solid}
 use Rattle.lmn_base.specs.Names.{IsNames, NamesSolid}
-use Rattle.lmn_base.specs.Solids.{IsSolid, HasRules}
+use Rattle.lmn_base.specs.Solids.{IsSolid, HasEachRule}
 use Rattle.lmn_base.specs.WellMade.{IsWellMade}
 use Rattle.lmn_congruence.specs.Congruence.{Congruent}
 use Rattle.lmn_congruence.specs.Plains.{SolidOf}
@@ -30,7 +30,7 @@ use Rattle.lmn_folded.specs.Lines.{IsFoldedLine}
 -- tree has a solid that is this one up to the order of lists and the numbers of links, rules being compared as trees.
 abbrev pub FoldedSolidLinesAreRead : Type 0
 FoldedSolidLinesAreRead = (names : List Name) (given : Plain) (s : Solid) (line : List ℕ) → let table = given.rules in
-    IsWellMade given → IsSolid s → HasRules table s → NamesSolid names table s → LevelSpelled (level_of_solid names table s)
+    IsWellMade given → IsSolid s → HasEachRule table s → NamesSolid names table s → LevelSpelled (level_of_solid names table s)
     → IsFoldedLine (region_of names table s) line
     → (tokens : List Token) × (tree : Clauses) × Reads line tokens tree × NothingWrong line
     × ((p : Plain) → IsPlain line tokens tree names p → (T : Region) × SolidOf (top_of names p) T × Same (region_of names table s) T)

@@ -1,37 +1,34 @@
 -- A folded form taken apart: each term is an atom of its own again, and a link of the region stands for it.
 use Rattle.std.specs.Prelude.{ℕ, List, [], ◌∷◌, ◌++◌}
 use Rattle.lmn_congruence.specs.Process.{Closed}
-use Rattle.lmn_congruence.specs.Regions.{SolidAtom, Region, region, Regions, no_region, region_and, region_process}
+use Rattle.lmn_congruence.specs.Regions.{SolidAtom, Region, region, Regions, no_region, region_and, region_process, solid_atom_with}
 use Rattle.lmn_congruence.specs.Rules.{Label, Rule}
 use Rattle.lmn_congruence.specs.Same.{SameRegion}
-use Rattle.lmn_folded.specs.Terms.{Term, link, labelled, Terms, no_term, term_and, Item, Folded, folded, FoldedMembranes, no_membrane, membrane_and}
+use Rattle.lmn_folded.specs.Terms.{FoldedTerm, link, labelled, FoldedTerms, no_term, term_and, FoldedItem, Folded, folded, FoldedMembranes, no_membrane, membrane_and}
 use Rattle.lmn_folded.specs.Folding.{Folds}
-
-abbrev pub atom : Label → List ℕ → SolidAtom
-atom l links = record { label = l; links = links }
 
 mutual
   -- TermWhole t x atoms: the link x stands for the term t, which is these atoms: its own, whose last link x is, and then those
   -- of its terms.
-  pub data TermWhole : Term → ℕ → List SolidAtom → Type 0 where
+  pub data TermWhole : FoldedTerm → ℕ → List SolidAtom → Type 0 where
     link_whole : {x : ℕ} → TermWhole (link x) x []
-    atom_whole : {l : Label} {ts : Terms} {x : ℕ} {links : List ℕ} {atoms : List SolidAtom} →
-        TermsWhole ts links atoms → TermWhole (labelled l ts) x (atom l (links ++ x ∷ []) ∷ atoms)
+    atom_whole : {l : Label} {ts : FoldedTerms} {x : ℕ} {links : List ℕ} {atoms : List SolidAtom} →
+        TermsWhole ts links atoms → TermWhole (labelled l ts) x (solid_atom_with l (links ++ x ∷ []) ∷ atoms)
 
-  pub data TermsWhole : Terms → List ℕ → List SolidAtom → Type 0 where
+  pub data TermsWhole : FoldedTerms → List ℕ → List SolidAtom → Type 0 where
     none_whole : TermsWhole no_term [] []
-    more_whole : {t : Term} {ts : Terms} {x : ℕ} {xs : List ℕ} {atoms others : List SolidAtom} →
+    more_whole : {t : FoldedTerm} {ts : FoldedTerms} {x : ℕ} {xs : List ℕ} {atoms others : List SolidAtom} →
         TermWhole t x atoms → TermsWhole ts xs others → TermsWhole (term_and t ts) (x ∷ xs) (atoms ++ others)
 
 -- items, each an atom with all its links, and the atoms of its terms behind it
-pub data ItemsWhole : List Item → List SolidAtom → Type 0 where
+pub data ItemsWhole : List FoldedItem → List SolidAtom → Type 0 where
   no_items : ItemsWhole [] []
-  items_whole : {i : Item} {is : List Item} {links : List ℕ} {atoms others : List SolidAtom} →
-      TermsWhole i.arguments links atoms → ItemsWhole is others → ItemsWhole (i ∷ is) (atom i.label links ∷ (atoms ++ others))
+  items_whole : {i : FoldedItem} {is : List FoldedItem} {links : List ℕ} {atoms others : List SolidAtom} →
+      TermsWhole i.arguments links atoms → ItemsWhole is others → ItemsWhole (i ∷ is) (solid_atom_with i.label links ∷ (atoms ++ others))
 
 mutual
   pub data FoldedWhole : Folded → Region → Type 0 where
-    folded_whole : {items : List Item} {fs : FoldedMembranes} {rs : List Rule} {atoms : List SolidAtom} {ms : Regions} →
+    folded_whole : {items : List FoldedItem} {fs : FoldedMembranes} {rs : List Rule} {atoms : List SolidAtom} {ms : Regions} →
         ItemsWhole items atoms → MembranesWhole fs ms → FoldedWhole (folded items fs rs) (region atoms ms rs)
 
   pub data MembranesWhole : FoldedMembranes → Regions → Type 0 where

@@ -1,10 +1,6 @@
 -- How atoms are printed stands in their own marks: 1 and 2 for items, and another number for a term.
 use Rattle.std.specs.Prelude.{ℕ, suc, ◌≡◌, ◌<◌, ◌+◌, ◌-◌, ◌==◌, ◌&&◌, ◌||◌, not, Bool, true, false, if◌then◌else◌, List, [], ◌∷◌, Option, Some, None}
-use Rattle.lmn_heap.specs.Heap.{Heap, arity_of, link_of, mark_of}
-
--- the own mark of an atom
-abbrev pub own_mark : Heap → ℕ → ℕ
-own_mark s a = mark_of s a (arity_of s a)
+use Rattle.lmn_heap.specs.Heap.{Heap, arity_of, link_of, own_mark}
 
 -- whether an atom is printed as an item
 abbrev pub is_item : Heap → ℕ → Bool
@@ -23,8 +19,8 @@ abbrev pub term_at : Heap → ℕ → ℕ → Option ℕ
 term_at s a i = term_by s (link_of s a i)
 
 -- how many arguments of an atom are printed: a term doesn't print its last
-abbrev pub arguments : Heap → ℕ → ℕ
-arguments s a = if is_item s a then arity_of s a else arity_of s a - 1
+abbrev pub argument_count : Heap → ℕ → ℕ
+argument_count s a = if is_item s a then arity_of s a else arity_of s a - 1
 
 -- What a walk over the arguments of an item and of the terms in it meets, in printed order: a port that is printed as a link,
 -- a port that is printed as a term, and the end of an atom's arguments.
@@ -34,12 +30,12 @@ pub data Event : Type 0 where
   leaves : ℕ → Event
 
 -- From port i of the atom a on the walk meets these.
-pub data Walk (s : Heap) : ℕ → ℕ → List Event → Type 0 where
-  link : {a i : ℕ} {es : List Event} → i < arguments s a → term_at s a i ≡ None → Walk s a (i + 1) es → Walk s a i (meets_link a i ∷ es)
-  term : {a i : ℕ} {es : List Event} (c : ℕ) → i < arguments s a → term_at s a i ≡ Some c → Walk s c 0 es → Walk s a i (meets_term a i c ∷ es)
-  end_of_term : {a i : ℕ} {es : List Event} (p j : ℕ) → i ≡ arguments s a → is_item s a ≡ false → 0 < arity_of s a → link_of s a i ≡ Some (p, j)
-      → Walk s p (j + 1) es → Walk s a i (leaves a ∷ es)
-  end_of_item : {a i : ℕ} → i ≡ arguments s a → is_item s a ≡ true → Walk s a i (leaves a ∷ [])
+pub data WalkMeets (s : Heap) : ℕ → ℕ → List Event → Type 0 where
+  link : {a i : ℕ} {es : List Event} → i < argument_count s a → term_at s a i ≡ None → WalkMeets s a (i + 1) es → WalkMeets s a i (meets_link a i ∷ es)
+  term : {a i : ℕ} {es : List Event} (c : ℕ) → i < argument_count s a → term_at s a i ≡ Some c → WalkMeets s c 0 es → WalkMeets s a i (meets_term a i c ∷ es)
+  end_of_term : {a i : ℕ} {es : List Event} (p j : ℕ) → i ≡ argument_count s a → is_item s a ≡ false → 0 < arity_of s a → link_of s a i ≡ Some (p, j)
+      → WalkMeets s p (j + 1) es → WalkMeets s a i (leaves a ∷ es)
+  end_of_item : {a i : ℕ} → i ≡ argument_count s a → is_item s a ≡ true → WalkMeets s a i (leaves a ∷ [])
 
 -- how often a walk turns into a term, or leaves an atom
 abbrev pub turns : List Event → ℕ

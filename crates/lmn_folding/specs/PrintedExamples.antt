@@ -3,7 +3,7 @@ use Rattle.std.specs.Prelude.{ℕ, List}
 use Rattle.lmn_base.specs.declared.functor.Label.TheVariants.{Name}
 use Rattle.lmn_congruence.specs.Rules as tree
 use Rattle.lmn_congruence.specs.Translation.{label_of}
-use Rattle.lmn_folded.specs.Terms.{Term, link, labelled, Terms, no_term, term_and, Item}
+use Rattle.lmn_folded.specs.Terms.{FoldedTerm, link, labelled, FoldedTerms, no_term, term_and, FoldedItem}
 use Rattle.lmn_heap.specs.Examples.{across}
 use Rattle.lmn_heap.specs.Heap.{Heap, marked}
 use Rattle.lmn_folding.specs.Printed.{PrintsItem}
@@ -17,7 +17,7 @@ abbrev pub two_items : Heap
 two_items = marked one_item 1 1 2
 
 -- the item of this label with the one argument
-abbrev pub item_with : List tree.Name → Term → Item
+abbrev pub item_with : List tree.Name → FoldedTerm → FoldedItem
 item_with names t = record { label = label_of names (Name 8); arguments = term_and t no_term }
 
 -- Where `a` alone is an item, `b` is the term in it: `a(b)`.
@@ -30,4 +30,4 @@ LinkIsPrinted = (names : List tree.Name) (name : ℕ → ℕ → ℕ) → Prints
 
 -- and no term.
 abbrev pub NoTermIsPrinted : Type 0
-NoTermIsPrinted = (names : List tree.Name) (name : ℕ → ℕ → ℕ) (l : tree.Label) (ts : Terms) → PrintsItem names two_items name 0 (item_with names (labelled l ts)) → ⊥
+NoTermIsPrinted = (names : List tree.Name) (name : ℕ → ℕ → ℕ) (l : tree.Label) (ts : FoldedTerms) → PrintsItem names two_items name 0 (item_with names (labelled l ts)) → ⊥

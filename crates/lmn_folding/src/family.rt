@@ -1,9 +1,9 @@
 //! Items and terms: how an atom is printed stands in its own mark.
 ghost use Rattle.std.specs.Prelude.{◌≡◌, ◌<◌, IfSome};
 ghost use Rattle.std.specs.Option.{option_map};
-ghost use Rattle.lmn_heap.specs.Heap.{IsAtom, arity_of};
+ghost use Rattle.lmn_heap.specs.Heap.{IsAtom, arity_of, own_mark};
 ghost use Rattle.lmn_heap.specs.Sound.{Sound};
-ghost use Rattle.lmn_folding.specs.Marks.{arguments, is_end_of_term, is_item, own_mark, term_at};
+ghost use Rattle.lmn_folding.specs.Marks.{argument_count, is_end_of_term, is_item, term_at};
 
 use lmn_store::LinkStore;
 
@@ -37,7 +37,7 @@ pub fn is_item<S: LinkStore>(store: &S, atom: S::Atom) -> bool
 /// How many arguments of an atom are printed: a term doesn't print its last.
 pub fn arguments<S: LinkStore>(store: &S, atom: S::Atom) -> u8
     requires { IsAtom (S.heap store.now) (S.atom_id atom) }
-    ensures { result ≡ arguments (S.heap store.now) (S.atom_id atom) }
+    ensures { result ≡ argument_count (S.heap store.now) (S.atom_id atom) }
 {
     let ports = arity(store, atom);
     if is_item(store, atom) {

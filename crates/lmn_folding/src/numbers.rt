@@ -1,9 +1,9 @@
 //! The numbers of printed links, in the marks of their ports: each mark is greater by one.
-ghost use Rattle.std.specs.Prelude.{◌<◌, ◌≤◌, ◌+◌, ◌*◌, ◌^◌, ℕ, List};
+ghost use Rattle.std.specs.Prelude.{◌<◌, ◌≤◌, ◌+◌, ◌*◌, ◌^◌, List};
 ghost use Rattle.lmn_heap.specs.Heap.{IsAtom};
 ghost use Rattle.lmn_heap.specs.Sound.{Valid};
 ghost use Rattle.lmn_printer.specs.Numbers.{GoOn, Remarks};
-ghost use Rattle.lmn_folding.specs.Marks.{Event, Walk, links_met, turns};
+ghost use Rattle.lmn_folding.specs.Marks.{Event, WalkMeets, links_met, turns};
 
 use crate::family::{arguments, is_item, term_at};
 use crate::walk::{Stand, behind_term};
@@ -15,10 +15,10 @@ use lmn_store::LinkStore;
 pub fn number_item<S: LinkStore>(store: &mut S, item: S::Atom, count: u64) -> u64
     requires valid { Valid (S.heap store.old) }
     requires atom { IsAtom (S.heap store.old) (S.atom_id item) }
-    requires walk { (es : List Event) × Walk (S.heap store.old) (S.atom_id item) 0 es × (count + 255 * turns es < 2 ^ 64) }
+    requires walk { (es : List Event) × WalkMeets (S.heap store.old) (S.atom_id item) 0 es × (count + 255 * turns es < 2 ^ 64) }
     ensures marks { Remarks (S.heap store.old) (S.heap store.new) }
-    ensures numbers { (es : List Event) → Walk (S.heap store.old) (S.atom_id item) 0 es → GoOn (S.heap store.old) (S.heap store.new) count result (links_met es) }
-    ensures few { (es : List Event) → Walk (S.heap store.old) (S.atom_id item) 0 es → result ≤ count + 255 * turns es }
+    ensures numbers { (es : List Event) → WalkMeets (S.heap store.old) (S.atom_id item) 0 es → GoOn (S.heap store.old) (S.heap store.new) count result (links_met es) }
+    ensures few { (es : List Event) → WalkMeets (S.heap store.old) (S.atom_id item) 0 es → result ≤ count + 255 * turns es }
 {
     let _root = store.root();
     let mut numbered = count;

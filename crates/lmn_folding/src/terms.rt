@@ -1,15 +1,15 @@
 //! An item is written, with the terms in it.
 ghost use Rattle.std.specs.Prelude.{◌≡◌, ◌<◌, true, codes, if◌then◌else◌, ◌==◌};
 ghost use Rattle.lmn_congruence.specs.Translation.{label_of};
-ghost use Rattle.lmn_folded.specs.Terms.{Item};
+ghost use Rattle.lmn_folded.specs.Terms.{FoldedItem};
 ghost use Rattle.lmn_folded.specs.Words.{is_named, item_pieces};
 ghost use Rattle.lmn_plain.specs.Words.{text_of};
 ghost use Rattle.lmn_heap.specs.Heap.{IsAtom, arity_of};
 ghost use Rattle.lmn_heap.specs.Sound.{Valid};
 ghost use Rattle.lmn_io.specs.Gathering.{Adds, output};
 ghost use Rattle.lmn_printer.specs.Stored.{number_by_mark};
-ghost use Rattle.lmn_folding.specs.Events.{before, closing, is_cell, is_listed, is_nil, is_rest, opening};
-ghost use Rattle.lmn_folding.specs.Marks.{arguments, is_item, term_at};
+ghost use Rattle.lmn_folding.specs.Events.{before_argument, behind_arguments, prints_as_cell, is_listed, is_nil, is_rest, opening};
+ghost use Rattle.lmn_folding.specs.Marks.{is_item, term_at};
 ghost use Rattle.lmn_folding.specs.Printed.{PrintsItem};
 
 use crate::family::{arguments, arity, is_item, term_at};
@@ -30,8 +30,8 @@ pub fn add_item<S: LinkStore, O: Sink>(
     requires valid { Valid (S.heap store.now) }
     requires atom { IsAtom (S.heap store.now) (S.atom_id item) }
     requires item { is_item (S.heap store.now) (S.atom_id item) ≡ true }
-    requires printed { (i : Item) × PrintsItem names.now (S.heap store.now) (number_by_mark (S.heap store.now)) (S.atom_id item) i }
-    ensures { (i : Item) → PrintsItem names.now (S.heap store.now) (number_by_mark (S.heap store.now)) (S.atom_id item) i →
+    requires printed { (i : FoldedItem) × PrintsItem names.now (S.heap store.now) (number_by_mark (S.heap store.now)) (S.atom_id item) i }
+    ensures { (i : FoldedItem) → PrintsItem names.now (S.heap store.now) (number_by_mark (S.heap store.now)) (S.atom_id item) i →
         Adds (text_of (item_pieces i)) (output buffer.old (O.told out.old) (O.faults out.old)) (output buffer.new (O.told out.new) (O.faults out.new)) }
 {
     let _root = store.root();
@@ -103,7 +103,7 @@ fn add_before<S: LinkStore, O: Sink>(
 )
     requires atom { IsAtom (S.heap store.now) (S.atom_id at.atom) }
     requires port { at.port < arity_of (S.heap store.now) (S.atom_id at.atom) }
-    ensures { Adds (before names.now (S.heap store.now) (S.atom_id at.atom) at.port) (output buffer.old (O.told out.old) (O.faults out.old)) (output buffer.new (O.told out.new) (O.faults out.new)) }
+    ensures { Adds (before_argument names.now (S.heap store.now) (S.atom_id at.atom) at.port) (output buffer.old (O.told out.old) (O.faults out.old)) (output buffer.new (O.told out.new) (O.faults out.new)) }
 {
     if !is_cell(store, names, at.atom) {
         buffer.add(out, between_arguments(at.port));
@@ -137,7 +137,7 @@ fn add_closing<S: LinkStore, O: Sink>(
     atom: S::Atom,
 )
     requires { IsAtom (S.heap store.now) (S.atom_id atom) }
-    ensures { Adds (closing names.now (S.heap store.now) (S.atom_id atom)) (output buffer.old (O.told out.old) (O.faults out.old)) (output buffer.new (O.told out.new) (O.faults out.new)) }
+    ensures { Adds (behind_arguments names.now (S.heap store.now) (S.atom_id atom)) (output buffer.old (O.told out.old) (O.faults out.old)) (output buffer.new (O.told out.new) (O.faults out.new)) }
 {
     if is_cell(store, names, atom) {
         if !is_rest(store, names, atom) {
@@ -161,7 +161,7 @@ fn is_named(names: &Names, label: Label, name: &[u8]) -> bool
 /// Whether an atom is printed as a term and is a cell of a list.
 fn is_cell<S: LinkStore>(store: &S, names: &Names, atom: S::Atom) -> bool
     requires { IsAtom (S.heap store.now) (S.atom_id atom) }
-    ensures { result ≡ is_cell names.now (S.heap store.now) (S.atom_id atom) }
+    ensures { result ≡ prints_as_cell names.now (S.heap store.now) (S.atom_id atom) }
 {
     !is_item(store, atom)
         && arity(store, atom) == 3

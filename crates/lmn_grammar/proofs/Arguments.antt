@@ -1,7 +1,7 @@
 -- What a derived word is to the counts, and how many brackets, operators and arguments there may be.
 use Rattle.std.proofs.Common.{◌≡◌, ℕ, zero, suc, ◌+◌, ◌≤◌, ◌<◌, Bool, true, false, ◌&&◌, ◌||◌, List, [], ◌∷◌, ◌++◌, refl, sym, ◌∙◌, ap, arith, subst, inl, inr, append_assoc}
 use Rattle.std.proofs.lemmas.Bool.{cases_lt}
-use Rattle.lmn_grammar.specs.Grammar.{Exp, Tok, Seq, Alt, Opt, Many, Within, Ref, Bracket, Round, Square, Curly, opener, closer, Part, TermPart, SumPart, ClausePart, ClausesPart, meaning, Derives, here, both, left, right, without, with, no_more, one_more, inside, by}
+use Rattle.lmn_grammar.specs.Grammar.{Exp, Tok, Seq, Alt, Opt, Many, Within, Ref, Bracket, Round, Square, Curly, opener, closer, Part, TermPart, SumPart, ClausePart, ClausesPart, part_expression, Derives, here, both, left, right, without, with, no_more, one_more, inside, by}
 use Rattle.lmn_grammar.specs.Limits.{is_opener, is_closer, is_comma, Balanced, empty, comma, other, closed, Open, Side, operand, operator, begun, of_any, of_term}
 use Rattle.lmn_grammar.specs.Limits as limits
 use Rattle.lmn_grammar.specs.Refusing.{IsWithin}
@@ -9,9 +9,9 @@ use Rattle.lmn_grammar.specs.Laws.{BracketsWithin, OperatorsWithin, TermsWithCom
 use Rattle.lmn_lexer.specs.declared.token.Kind.{Kind}
 use Rattle.lmn_lexer.specs.declared.token.Kind.TheVariants.{LParen, Comma}
 use Rattle.lmn_grammar.proofs.Counts.{balanced_both}
-use Rattle.lmn_grammar.proofs.Items.{clash}
 use Rattle.lmn_grammar.proofs.Scans.{within_front}
-use Rattle.lmn_grammar.proofs.Theory.{and_true, empty_right}
+use Rattle.lmn_grammar.proofs.Theory.{empty_right}
+use Rattle.lmn_base.proofs.Truth.{and_true, false_not_true as clash}
 
 -- no bracket stands alone in a word
 abbrev paired : Exp → Bool
@@ -36,13 +36,13 @@ no_comma (Ref SumPart) = true
 no_comma (Ref ClausePart) = false
 no_comma (Ref ClausesPart) = false
 
-meaning_paired : (m : Part) → paired (meaning m) ≡ true
+meaning_paired : (m : Part) → paired (part_expression m) ≡ true
 meaning_paired TermPart = refl
 meaning_paired SumPart = refl
 meaning_paired ClausePart = refl
 meaning_paired ClausesPart = refl
 
-meaning_no_comma : (m : Part) → no_comma (Ref m) ≡ true → no_comma (meaning m) ≡ true
+meaning_no_comma : (m : Part) → no_comma (Ref m) ≡ true → no_comma (part_expression m) ≡ true
 meaning_no_comma TermPart h = refl
 meaning_no_comma SumPart h = refl
 meaning_no_comma ClausePart h = absurd (clash h)
@@ -64,7 +64,7 @@ closes Curly = refl
 enclosed : {n : ℕ} (b : Bracket) {u : List Kind} → Balanced n u → Balanced 0 (opener b ∷ (u ++ closer b ∷ []))
 enclosed b h = closed (opener b) (closer b) (opens b) (closes b) h empty
 
-flipped : (b : Bool) → elim b [ true ↦ false | false ↦ true ] ≡ true → b ≡ false
+pub flipped : (b : Bool) → elim b [ true ↦ false | false ↦ true ] ≡ true → b ≡ false
 flipped true h = absurd (clash h)
 flipped false h = refl
 
@@ -96,7 +96,7 @@ paired_balanced _ _ (no_more a) h = (0, empty)
 paired_balanced _ _ (one_more a u v w e da dm) h =
     let x = paired_balanced a u da h in let y = paired_balanced (Many a) v dm h in (x.0 + y.0, balanced_along w (u ++ v) e (balanced_both x.1 y.1))
 paired_balanced _ _ (inside b a u w e d) h = (0, balanced_along w _ e (enclosed b (paired_balanced a u d h).1))
-paired_balanced _ _ (by m w d) h = paired_balanced (meaning m) w d (meaning_paired m)
+paired_balanced _ _ (by m w d) h = paired_balanced (part_expression m) w d (meaning_paired m)
 
 -- A word with no comma outside brackets.
 pub balanced_word : (e : Exp) (u : List Kind) → Derives e u → no_comma e ≡ true → Balanced 0 u
@@ -110,7 +110,7 @@ balanced_word _ _ (with a w d) h = balanced_word a w d h
 balanced_word _ _ (no_more a) h = empty
 balanced_word _ _ (one_more a u v w e da dm) h = balanced_along w (u ++ v) e (balanced_both (balanced_word a u da h) (balanced_word (Many a) v dm h))
 balanced_word _ _ (inside b a u w e d) h = balanced_along w _ e (enclosed b (paired_balanced a u d h).1)
-balanced_word _ _ (by m w d) h = balanced_word (meaning m) w d (meaning_no_comma m h)
+balanced_word _ _ (by m w d) h = balanced_word (part_expression m) w d (meaning_no_comma m h)
 
 -- Brackets and operators.
 open_within : {n : ℕ} {u : List Kind} → Open n u → IsWithin u → n ≡ 201 → ⊥

@@ -1,12 +1,11 @@
 -- Behind ':-' a guard and a list are both possible for a while.
-use Rattle.std.proofs.Common.{◌≡◌, ℕ, ◌+◌, ◌<◌, ◌≤◌, max, Bool, true, false, List, [], ◌∷◌, ◌++◌, length, drop, slice_get, Some, None, refl, sym, ◌∙◌, ap, arith, subst, inl, inr, append_assoc, length-append, if◌then◌else◌}
+use Rattle.std.proofs.Common.{◌≡◌, ℕ, ◌+◌, ◌<◌, ◌≤◌, max, Bool, true, false, List, [], ◌∷◌, ◌++◌, length, drop, slice_get, Some, None, refl, sym, ◌∙◌, ap, arith, subst, append_assoc, length-append, if◌then◌else◌}
 use Rattle.lmn_grammar.specs.Grammar.{Tok, Opt, ◌·◌, Derives, list, guard, body}
 use Rattle.lmn_grammar.proofs.Theory.{DerivesAll}
 use Rattle.lmn_grammar.specs.Factored.{guard_bar}
-use Rattle.lmn_grammar.specs.Reading.{Owed, is_kind, next, stop_at, begins, ReadsTo, StopsAt, OnlyClosers, EndsOptList, is_closer}
+use Rattle.lmn_grammar.specs.Reading.{Owed, is_kind, next, stop_at, begins, ReadsTo, StopsAt, OnlyClosers, EndsOptList, may_follow_clause}
 use Rattle.lmn_lexer.specs.declared.token.Kind.{Kind}
 use Rattle.lmn_lexer.specs.declared.token.Kind.TheVariants.{Bar, RParen, RBrace, Dot, End}
-use Rattle.std.proofs.lemmas.Bool.{cases_lt}
 use Rattle.lmn_grammar.proofs.Theory.{complete_next, of_tok, same_kind}
 use Rattle.lmn_grammar.proofs.Stops.{same_some, dead_owed, dead_here, stop_at_from, stop_upto, stop_nothing, tok_taken, tok_dead}
 use Rattle.lmn_grammar.proofs.SameLanguage.{seq, opt, seq_parts}
@@ -14,8 +13,9 @@ use Rattle.lmn_grammar.proofs.Choices.{not_begun, opt_none}
 use Rattle.lmn_grammar.proofs.Tells.{nothing_found, Tells, tells, one_alive, found_one, longer_front}
 use Rattle.lmn_grammar.proofs.Spans.{read_derives, front_get}
 use Rattle.lmn_grammar.proofs.Loose.{first_loose, calm_keeps}
-use Rattle.lmn_grammar.proofs.Items.{clash}
 use Rattle.lmn_grammar.proofs.Clauses.{closers_opt_list}
+use Rattle.lmn_base.proofs.Numbers.{at_most_by_not as not_above}
+use Rattle.lmn_base.proofs.Truth.{false_not_true as clash}
 
 -- what a reader knows of its attempt at a guard, and of a list
 abbrev pub GuardRead : List Kind → ℕ → ℕ → Type 0
@@ -30,8 +30,8 @@ ListRead ts p q = (κ : Owed) → EndsOptList κ → ReadsTo ts p (Opt list) q �
 abbrev pub ListStops : List Kind → ℕ → ℕ → Type 0
 ListStops ts p l = (κ : Owed) → EndsOptList κ → StopsAt ts p (Opt list) κ l
 
-bar_clash : (t : Kind) → is_closer t ≡ true → Some t ≡ Some Bar → ⊥
-bar_clash t h e = clash (sym (ap is_closer (same_some t Bar e)) ∙ h)
+bar_clash : (t : Kind) → may_follow_clause t ≡ true → Some t ≡ Some Bar → ⊥
+bar_clash t h e = clash (sym (ap may_follow_clause (same_some t Bar e)) ∙ h)
 
 -- the first loose token of a guard with its bar is the bar
 guard_loose : (u v : List Kind) → Derives guard_bar u → first_loose 0 (u ++ v) ≡ Some Bar
@@ -39,7 +39,7 @@ guard_loose u v d = let s = seq_parts guard (Tok Bar) u d in
     ap (λ z. first_loose 0 (z ++ v)) (s.2 ∙ ap (λ z. s.0 ++ z) (of_tok Bar s.1 s.4)) ∙ ap (first_loose 0) (append_assoc s.0 (Bar ∷ []) v) ∙ calm_keeps 0 guard s.0 s.3 refl (Bar ∷ v)
 
 -- what ends a clause is loose
-loose : (t : Kind) (y : List Kind) → is_closer t ≡ true → first_loose 0 (t ∷ y) ≡ Some t
+loose : (t : Kind) (y : List Kind) → may_follow_clause t ≡ true → first_loose 0 (t ∷ y) ≡ Some t
 loose RParen y c = refl
 loose RBrace y c = refl
 loose Dot y c = refl
@@ -52,18 +52,15 @@ closer_first κ [] n d h = none h
   where
     none : None ≡ Some Bar → ⊥
     none x = cc
-closer_first κ (t ∷ y) n d h = go (is_closer t) refl
+closer_first κ (t ∷ y) n d h = go (may_follow_clause t) refl
   where
-    go : (b : Bool) → is_closer t ≡ b → ⊥
+    go : (b : Bool) → may_follow_clause t ≡ b → ⊥
     go true c = bar_clash t c (sym (loose t y c) ∙ h)
     go false c = nothing_found (next κ t) y (n t c) (complete_next κ t y d)
 
 -- A list holds no bar outside brackets, so with what follows a clause it doesn't begin with a guard and its bar.
 not_both : (κ : Owed) (u rest : List Kind) → OnlyClosers κ → Derives guard_bar u → DerivesAll (Opt list ∷ κ) (u ++ rest) → ⊥
 not_both κ u rest n g (x, y, e, d, dk) = closer_first κ y n dk (sym (calm_keeps 0 (Opt list) x d refl y) ∙ ap (first_loose 0) (sym e) ∙ guard_loose u rest g)
-
-not_above : (n q : ℕ) → (q < n → ⊥) → n ≤ q
-not_above n q h = elim (cases_lt q n) [ inl x ↦ absurd (h x) | inr y ↦ y ]
 
 -- where a guard is read to q, no list goes beyond q
 pub list_stops_first : (ts : List Kind) (p q : ℕ) (κ : Owed) → OnlyClosers κ → GuardRead ts p q → stop_at ts p ((Opt list ∷ κ) ∷ []) ≤ q
@@ -92,18 +89,18 @@ list_stops_first ts p q κ n g =
 pub closers_take_nothing : (ts : List Kind) (p q g : ℕ) (κ : Owed) → OnlyClosers κ → GuardStops ts p g → ListRead ts p q → q < g → stop_at ts q (κ ∷ []) ≡ q
 closers_take_nothing ts p q g κ n stops read far = dead_owed ts q κ go
   where
-    closer_owed : (t : Kind) → is_closer t ≡ true → OnlyClosers (Tok t ∷ [])
+    closer_owed : (t : Kind) → may_follow_clause t ≡ true → OnlyClosers (Tok t ∷ [])
     closer_owed t c x h = other (is_kind t x) refl
       where
         other : (b : Bool) → is_kind t x ≡ b → next (Tok t ∷ []) x ≡ []
-        other true e = absurd (clash (sym h ∙ ap is_closer (sym (same_kind t x e)) ∙ c))
+        other true e = absurd (clash (sym h ∙ ap may_follow_clause (sym (same_kind t x e)) ∙ c))
         other false e = ap (λ z. (if z then [] ∷ [] else []) ++ []) e
 
-    a_guard : (u rest : List Kind) (t : Kind) → is_closer t ≡ true → Derives (Opt list) u → DerivesAll (guard_bar ∷ []) (u ++ t ∷ rest) → ⊥
+    a_guard : (u rest : List Kind) (t : Kind) → may_follow_clause t ≡ true → Derives (Opt list) u → DerivesAll (guard_bar ∷ []) (u ++ t ∷ rest) → ⊥
     a_guard u rest t c l (x, y, e, d, dk) =
         bar_clash t c (sym (calm_keeps 0 (Opt list) u l refl (t ∷ rest) ∙ loose t rest c) ∙ ap (first_loose 0) e ∙ guard_loose x y d)
 
-    beyond : (t : Kind) (u v : List Kind) → is_closer t ≡ true → drop p ts ≡ u ++ t ∷ v → q ≡ p + length u → Derives (Opt list) u → Tells ((guard_bar ∷ []) ∷ []) p (drop p ts) g → ⊥
+    beyond : (t : Kind) (u v : List Kind) → may_follow_clause t ≡ true → drop p ts ≡ u ++ t ∷ v → q ≡ p + length u → Derives (Opt list) u → Tells ((guard_bar ∷ []) ∷ []) p (drop p ts) g → ⊥
     beyond t u v c e count d b =
         let sizes : length (u ++ t ∷ []) ≡ length u + 1 = length-append u (t ∷ []) in
         let lens : length (u ++ t ∷ []) ≤ length b.taken = omega (arith, sizes, count, b.count, far) in
@@ -111,7 +108,7 @@ closers_take_nothing ts p q g κ n stops read far = dead_owed ts q κ go
         let D : List Kind → Type 0 = DerivesAll (guard_bar ∷ []) in
         a_guard u (x.0 ++ b.rest) t c d (subst D (ap (λ z. z ++ b.rest) x.1 ∙ append_assoc (u ++ t ∷ []) x.0 b.rest ∙ append_assoc u (t ∷ []) (x.0 ++ b.rest)) (found_one (guard_bar ∷ []) _ b.goes_on))
 
-    closer : (t : Kind) → slice_get ts q ≡ Some t → is_closer t ≡ true → ⊥
+    closer : (t : Kind) → slice_get ts q ≡ Some t → may_follow_clause t ≡ true → ⊥
     closer t h c =
         let owed : OnlyClosers (Tok t ∷ []) = closer_owed t c in
         let empty : OnlyClosers [] = λ x e. refl in
@@ -121,9 +118,9 @@ closers_take_nothing ts p q g κ n stops read far = dead_owed ts q κ go
         beyond t d.0 d.1 c d.2 d.3 d.4 (subst P (stops []) (tells (drop p ts) p ((guard_bar ∷ []) ∷ []) (one_alive (guard_bar ∷ []))))
 
     go : (t : Kind) → slice_get ts q ≡ Some t → next κ t ≡ []
-    go t h = either (is_closer t) refl
+    go t h = either (may_follow_clause t) refl
       where
-        either : (b : Bool) → is_closer t ≡ b → next κ t ≡ []
+        either : (b : Bool) → may_follow_clause t ≡ b → next κ t ≡ []
         either true c = absurd (closer t h c)
         either false c = n t c
 

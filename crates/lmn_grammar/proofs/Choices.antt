@@ -1,7 +1,7 @@
 -- Choices at a token: one of two things, a thing or nothing, one more or no more.
 use Rattle.std.proofs.Common.{◌≡◌, ℕ, zero, suc, ◌+◌, ◌≤◌, max, Bool, true, false, List, [], ◌∷◌, ◌++◌, slice_get, Option, Some, None, refl, sym, ◌∙◌, ap, arith, if◌then◌else◌}
-use Rattle.lmn_grammar.specs.Grammar.{Exp, Tok, Seq, Alt, Opt, Many, Within, Ref, Bracket, meaning, opener, closer, more_of}
-use Rattle.lmn_grammar.specs.Reading.{Owed, is_kind, after, next, may_be_empty, stop_at, begins, has_some}
+use Rattle.lmn_grammar.specs.Grammar.{Exp, Tok, Seq, Alt, Opt, Many, Within, Ref, Bracket, part_expression, opener, closer, more_of}
+use Rattle.lmn_grammar.specs.Reading.{Owed, is_kind, owed_after, next, may_be_empty, stop_at, begins, some_owed}
 use Rattle.lmn_lexer.specs.declared.token.Kind.{Kind}
 use Rattle.lmn_lexer.specs.declared.token.Kind.TheVariants.{Comma}
 use Rattle.lmn_grammar.proofs.Stops.{alike, dead_at, dead_here, stop_at_from, other_there, tok_dead, tok_taken}
@@ -30,30 +30,30 @@ optional_nothing : (b : Bool) (x y : List Owed) → (x ≡ [] → y ≡ []) → 
 optional_nothing true x y f h = f h
 optional_nothing false x y f h = refl
 
-pub still_nothing : (f : ℕ) (e : Exp) (κ κ' : Owed) (t : Kind) → after f e κ t ≡ [] → after f e κ' t ≡ []
+pub still_nothing : (f : ℕ) (e : Exp) (κ κ' : Owed) (t : Kind) → owed_after f e κ t ≡ [] → owed_after f e κ' t ≡ []
 still_nothing f (Tok k) κ κ' t h = if_nothing (is_kind k t) κ κ' h
-still_nothing f (Seq a b) κ κ' t h = both_nothing (after f a (b ∷ κ') t) _ (still_nothing f a (b ∷ κ) (b ∷ κ') t (left_nothing (after f a (b ∷ κ) t) _ h))
-    (optional_nothing (may_be_empty a) (after f b κ t) (after f b κ' t) (still_nothing f b κ κ' t) (right_nothing (after f a (b ∷ κ) t) _ h))
-still_nothing f (Alt a b) κ κ' t h = both_nothing (after f a κ' t) (after f b κ' t) (still_nothing f a κ κ' t (left_nothing (after f a κ t) (after f b κ t) h)) (still_nothing f b κ κ' t (right_nothing (after f a κ t) (after f b κ t) h))
+still_nothing f (Seq a b) κ κ' t h = both_nothing (owed_after f a (b ∷ κ') t) _ (still_nothing f a (b ∷ κ) (b ∷ κ') t (left_nothing (owed_after f a (b ∷ κ) t) _ h))
+    (optional_nothing (may_be_empty a) (owed_after f b κ t) (owed_after f b κ' t) (still_nothing f b κ κ' t) (right_nothing (owed_after f a (b ∷ κ) t) _ h))
+still_nothing f (Alt a b) κ κ' t h = both_nothing (owed_after f a κ' t) (owed_after f b κ' t) (still_nothing f a κ κ' t (left_nothing (owed_after f a κ t) (owed_after f b κ t) h)) (still_nothing f b κ κ' t (right_nothing (owed_after f a κ t) (owed_after f b κ t) h))
 still_nothing f (Opt a) κ κ' t h = still_nothing f a κ κ' t h
 still_nothing f (Many a) κ κ' t h = still_nothing f a (Many a ∷ κ) (Many a ∷ κ') t h
 still_nothing f (Within b a) κ κ' t h = if_nothing (is_kind (opener b) t) (a ∷ Tok (closer b) ∷ κ) (a ∷ Tok (closer b) ∷ κ') h
 still_nothing zero (Ref n) κ κ' t h = refl
-still_nothing (suc f) (Ref n) κ κ' t h = still_nothing f (meaning n) κ κ' t h
+still_nothing (suc f) (Ref n) κ κ' t h = still_nothing f (part_expression n) κ κ' t h
 
-has_none : (s : List Owed) → has_some s ≡ false → s ≡ []
+has_none : (s : List Owed) → some_owed s ≡ false → s ≡ []
 has_none [] h = refl
 has_none (x ∷ s) h = cc
 
-nothing_after : (ts : List Kind) (p : ℕ) (e : Exp) (κ : Owed) (t : Kind) → begins e (slice_get ts p) ≡ false → slice_get ts p ≡ Some t → after 3 e κ t ≡ []
-nothing_after ts p e κ t b h = still_nothing 3 e [] κ t (has_none (after 3 e [] t) (sym (ap (begins e) h) ∙ b))
+nothing_after : (ts : List Kind) (p : ℕ) (e : Exp) (κ : Owed) (t : Kind) → begins e (slice_get ts p) ≡ false → slice_get ts p ≡ Some t → owed_after 3 e κ t ≡ []
+nothing_after ts p e κ t b h = still_nothing 3 e [] κ t (has_none (owed_after 3 e [] t) (sym (ap (begins e) h) ∙ b))
 
 -- a sequence begins as its first part, where that can't be empty
 pub begins_first : (a b : Exp) (o : Option Kind) → may_be_empty a ≡ false → begins a o ≡ false → begins (Seq a b) o ≡ false
 begins_first a b None m h = refl
 begins_first a b (Some t) m h =
-    ap (λ x. has_some (x ++ optional (may_be_empty a) (after 3 b [] t))) (still_nothing 3 a [] (b ∷ []) t (has_none (after 3 a [] t) h))
-    ∙ ap (λ x. has_some (optional x (after 3 b [] t))) m
+    ap (λ x. some_owed (x ++ optional (may_be_empty a) (owed_after 3 b [] t))) (still_nothing 3 a [] (b ∷ []) t (has_none (owed_after 3 a [] t) h))
+    ∙ ap (λ x. some_owed (optional x (owed_after 3 b [] t))) m
 
 -- An expression that doesn't begin here takes nothing, or what is owed behind it takes the token.
 pub not_begun : (ts : List Kind) (p : ℕ) (e : Exp) (κ : Owed) → begins e (slice_get ts p) ≡ false → may_be_empty e ≡ false → stop_at ts p ((e ∷ κ) ∷ []) ≡ p
@@ -107,14 +107,14 @@ not_there ts p k other = go (slice_get ts p) refl
   where
     go : (o : Option Kind) → slice_get ts p ≡ o → begins (Tok k) (slice_get ts p) ≡ false
     go None h = ap (begins (Tok k)) h
-    go (Some t) h = ap (begins (Tok k)) h ∙ ap (λ b. has_some (if b then [] ∷ [] else [])) (other_there ts p k t other h)
+    go (Some t) h = ap (begins (Tok k)) h ∙ ap (λ b. some_owed (if b then [] ∷ [] else [])) (other_there ts p k t other h)
 
 pub not_opened : (ts : List Kind) (p : ℕ) (b : Bracket) (e : Exp) → (slice_get ts p ≡ Some (opener b) → ⊥) → begins (Within b e) (slice_get ts p) ≡ false
 not_opened ts p b e other = go (slice_get ts p) refl
   where
     go : (o : Option Kind) → slice_get ts p ≡ o → begins (Within b e) (slice_get ts p) ≡ false
     go None h = ap (begins (Within b e)) h
-    go (Some t) h = ap (begins (Within b e)) h ∙ ap (λ x. has_some (if x then (e ∷ Tok (closer b) ∷ []) ∷ [] else [])) (other_there ts p (opener b) t other h)
+    go (Some t) h = ap (begins (Within b e)) h ∙ ap (λ x. some_owed (if x then (e ∷ Tok (closer b) ∷ []) ∷ [] else [])) (other_there ts p (opener b) t other h)
 
 -- a sign and what follows it
 pub sign_taken : (ts : List Kind) (p : ℕ) (k : Kind) (e : Exp) (κ : Owed) → slice_get ts p ≡ Some k → stop_at ts p ((Seq (Tok k) e ∷ κ) ∷ []) ≡ stop_at ts (p + 1) ((e ∷ κ) ∷ [])

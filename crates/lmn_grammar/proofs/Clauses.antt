@@ -2,13 +2,15 @@
 use Rattle.std.proofs.Common.{◌≡◌, ℕ, ◌+◌, ◌≤◌, max, Bool, true, false, List, [], ◌∷◌, ◌++◌, slice_get, Option, Some, refl, sym, ◌∙◌, ap, arith, inl, inr, append_assoc}
 use Rattle.lmn_grammar.specs.Grammar.{Exp, Tok, Opt, Many, Ref, TermPart, ClausePart, ClausesPart, Derives, both, without, with, no_more, one_more, by, ◌·◌, more_of, name, arguments, item, list, heads, rule, program}
 use Rattle.lmn_grammar.specs.Factored.{atom_name, right_side, arrow, rule_tail, more_clauses}
-use Rattle.lmn_grammar.specs.Reading.{is_end, NoMore, EndsOptList, Owed, next, stop_at, begins, NoArgs, EndsItem, EndsList, OnlyClosers, OnlyEnds, is_closer}
+use Rattle.lmn_grammar.specs.Reading.{is_end, NoMore, EndsOptList, Owed, next, stop_at, begins, NoArgs, EndsItem, EndsList, OnlyClosers, OnlyEnds, may_follow_clause}
 use Rattle.lmn_lexer.specs.declared.token.Kind.{Kind}
 use Rattle.lmn_lexer.specs.declared.token.Kind.TheVariants.{Name, Quoted, Mod, End, LParen, RParen, LBracket, RBrace, Comma, Dot, Arrow, AtAt, Backslash, Equal}
-use Rattle.lmn_grammar.proofs.Stops.{dead_owed, dead_here, plus_nothing, stop_at_from, tok_taken, tok_dead}
+use Rattle.lmn_grammar.proofs.Stops.{dead_owed, dead_here, stop_at_from, tok_taken, tok_dead}
 use Rattle.lmn_grammar.proofs.SameLanguage.{owed_alike, same_behind, same_first, seq_split, seq, alt, opt, opt_behind, ref, seq_parts, opt_parts, many_parts, ref_parts}
 use Rattle.lmn_grammar.proofs.Choices.{begins_first, not_begun, opt_none, opt_some, many_none, opt_sign_taken, opt_sign_none}
-use Rattle.lmn_grammar.proofs.Items.{clash, Apart, derives_along, nothing_behind, name_taken, atom_taken, item_atom}
+use Rattle.lmn_grammar.proofs.Items.{Apart, derives_along, nothing_behind, name_taken, atom_taken, item_atom}
+use Rattle.lmn_base.proofs.Lists.{plus_nothing}
+use Rattle.lmn_base.proofs.Truth.{false_not_true as clash}
 
 -- What ends a clause ends its parts.
 pub closers_list : (κ : Owed) → OnlyClosers κ → EndsList κ
@@ -52,7 +54,7 @@ closers_more κ n End h = absurd (clash (sym h))
 closers_more κ n t h = n t refl
 
 -- What begins an item ends no clause.
-no_closer : (t : Kind) → begins list (Some t) ≡ true → is_closer t ≡ false
+no_closer : (t : Kind) → begins list (Some t) ≡ true → may_follow_clause t ≡ false
 no_closer RParen h = absurd (clash h)
 no_closer RBrace h = absurd (clash h)
 no_closer Dot h = absurd (clash h)
@@ -202,7 +204,7 @@ pub list_or_rule : (ts : List Kind) (p : ℕ) (κ : Owed) → OnlyClosers κ →
     stop_at ts p ((Opt rule_tail ∷ κ) ∷ []) ≡ stop_at ts p ((rule_tail ∷ κ) ∷ [])
 list_or_rule ts p κ n b = opt_some ts p rule_tail κ (dead_owed ts p κ (λ t h. n t (go t (sym (ap (begins rule_tail) h) ∙ b))))
   where
-    go : (t : Kind) → begins rule_tail (Some t) ≡ true → is_closer t ≡ false
+    go : (t : Kind) → begins rule_tail (Some t) ≡ true → may_follow_clause t ≡ false
     go Backslash h = refl
     go Arrow h = refl
     go _ h = absurd (clash h)

@@ -1,20 +1,20 @@
 -- What passes a limit by counts is what the scan finds, both ways.
 use Rattle.std.proofs.Common.{◌≡◌, ℕ, zero, suc, ◌+◌, ◌≤◌, ◌<◌, Bool, true, false, ◌&&◌, ◌||◌, if◌then◌else◌, nat_le, nat_lt, List, [], ◌∷◌, ◌++◌, length, Option, Some, None, refl, sym, ◌∙◌, ap, arith, subst, ◌⊎◌, inl, inr, append_assoc}
-use Rattle.lmn_grammar.specs.Limits.{is_opener, is_closer, is_comma, may_be_operator, may_be_atom_name, ends_operand, goes_on, EndsWith, IsOperator, IsAtomName, Balanced, empty, comma, other, closed, Open, none, one_more, Side, begins, operand, operator, TooDeep, InArguments, begun, TermNext, behind_equal, in_arguments, in_list, TooManyArguments, of_any, of_term, left_of_equal, Passes, PassesNone}
-use Rattle.lmn_grammar.specs.Scan.{Opened, Arguments, Terms, Group, Last, Equals, Word, Digits, Closed, Operand, Other, Scan, at_start, is_operand, is_operator, limit_in, limit_behind, limit_here, round_behind, one_more_begun, without_first, opened_after, closed_by_round, last_after, scan_after, scan_from, scan, is_too_deep, has_too_many, is_full, is_equal, passes}
+use Rattle.lmn_grammar.specs.Limits.{is_opener, is_closer, is_comma, may_be_operator, may_be_atom_name, ends_operand, continues_side, EndsWith, IsOperator, IsAtomName, Balanced, empty, comma, other, closed, Open, none, one_more, Side, begins, operand, operator, TooDeep, InArguments, begun, TermNext, behind_equal, in_arguments, in_list, TooManyArguments, of_any, of_term, left_of_equal, Passes, PassesNone}
+use Rattle.lmn_grammar.specs.Scan.{Opened, Arguments, Terms, Group, Last, Equals, Word, Digits, Closed, Operand, Other, Scan, scan_at_start, was_operand, is_operator, limit_in, limit_behind, limit_here, round_behind, one_more_begun, without_first, opened_after, closed_by_round, last_after, scan_after, scan_from, scan, is_too_deep, has_too_many, is_full, is_equal, passes, is_equals_last}
 use Rattle.lmn_lexer.specs.declared.token.Kind.{Kind}
 use Rattle.lmn_lexer.specs.declared.token.Kind.TheVariants.{Name, Quoted, Mod, Int, LParen, RParen, LBracket, RBracket, LBrace, RBrace, Comma, Equal}
-use Rattle.lmn_grammar.proofs.Items.{clash}
-use Rattle.lmn_grammar.proofs.Stops.{plus_nothing}
-use Rattle.lmn_grammar.proofs.Tells.{cons_same}
-use Rattle.lmn_grammar.proofs.Theory.{and_true, or_true}
+use Rattle.lmn_base.proofs.Lists.{plus_nothing}
+use Rattle.lmn_base.proofs.Numbers.{test_at_most as at_most}
+use Rattle.lmn_base.proofs.Truth.{and_true, and_true2 as both_true, either_true as or_true, false_not_true as clash, or_true as or_right}
+use Rattle.lmn_grammar.proofs.Theory.{cons_same}
 
 pub scan_append : (s : Scan) (u v : List Kind) → scan_from s (u ++ v) ≡ scan_from (scan_from s u) v
 scan_append s [] v = refl
 scan_append s (k ∷ u) v = scan_append (scan_after s k) u v
 
 pub scan_more : (u : List Kind) (k : Kind) → scan (u ++ k ∷ []) ≡ scan_after (scan u) k
-scan_more u k = scan_append at_start u (k ∷ [])
+scan_more u k = scan_append scan_at_start u (k ∷ [])
 
 -- By the last token.
 from_left : (P : List Kind → Type 0) → P [] → ((u : List Kind) (k : Kind) → P u → P (u ++ k ∷ [])) → (u : List Kind) → P u
@@ -41,40 +41,36 @@ ends : (test : Kind → Bool) (u : List Kind) (k : Kind) → test k ≡ true →
 ends test u k h = record { front = u; last = k; split = refl; is_one = h }
 
 -- Operands and operators.
-closed_operand : (o : List Opened) → is_operand (closed_by_round o) ≡ true
+closed_operand : (o : List Opened) → was_operand (closed_by_round o) ≡ true
 closed_operand [] = refl
 closed_operand (Arguments l n ∷ o) = refl
 closed_operand (Terms ∷ o) = refl
 closed_operand (Group ∷ o) = refl
 
-mod_operand : (b : Bool) (l : ℕ) → is_operand (if b then Other else Word l) ≡ false
+mod_operand : (b : Bool) (l : ℕ) → was_operand (if b then Other else Word l) ≡ false
 mod_operand true l = refl
 mod_operand false l = refl
 
-same_operand : (s : Scan) (k : Kind) → is_operand (last_after s k) ≡ ends_operand k
+same_operand : (s : Scan) (k : Kind) → was_operand (last_after s k) ≡ ends_operand k
 same_operand s RParen = closed_operand s.opened
-same_operand s Mod = mod_operand (is_operand s.last) (limit_here s)
+same_operand s Mod = mod_operand (was_operand s.last) (limit_here s)
 same_operand s _ = refl
 
-operand_last : (u : List Kind) (k : Kind) → is_operand (scan (u ++ k ∷ [])).last ≡ ends_operand k
-operand_last u k = ap (λ s. is_operand s.last) (scan_more u k) ∙ same_operand (scan u) k
+operand_last : (u : List Kind) (k : Kind) → was_operand (scan (u ++ k ∷ [])).last ≡ ends_operand k
+operand_last u k = ap (λ s. was_operand s.last) (scan_more u k) ∙ same_operand (scan u) k
 
-scan_operand : (u : List Kind) → is_operand (scan u).last ≡ true → EndsWith ends_operand u
-scan_operand u = from_left (λ u. is_operand (scan u).last ≡ true → EndsWith ends_operand u)
+scan_operand : (u : List Kind) → was_operand (scan u).last ≡ true → EndsWith ends_operand u
+scan_operand u = from_left (λ u. was_operand (scan u).last ≡ true → EndsWith ends_operand u)
     (λ h. absurd (clash h)) (λ u k i h. ends ends_operand u k (sym (operand_last u k) ∙ h)) u
 
-operand_scan : (u : List Kind) → EndsWith ends_operand u → is_operand (scan u).last ≡ true
-operand_scan u e = ap (λ z. is_operand (scan z).last) e.split ∙ operand_last e.front e.last ∙ e.is_one
-
-both_true : (a b : Bool) → a ≡ true → b ≡ true → (a && b) ≡ true
-both_true true b h g = g
-both_true false b h g = h
+operand_scan : (u : List Kind) → EndsWith ends_operand u → was_operand (scan u).last ≡ true
+operand_scan u e = ap (λ z. was_operand (scan z).last) e.split ∙ operand_last e.front e.last ∙ e.is_one
 
 pub scan_operator : (u : List Kind) (k : Kind) → is_operator (scan u) k ≡ true → IsOperator u k
-scan_operator u k h = let p = and_true (may_be_operator k) (is_operand (scan u).last) h in (p.0, scan_operand u p.1)
+scan_operator u k h = let p = and_true (may_be_operator k) (was_operand (scan u).last) h in (p.0, scan_operand u p.1)
 
 pub operator_scan : (u : List Kind) (k : Kind) → IsOperator u k → is_operator (scan u) k ≡ true
-operator_scan u k h = both_true (may_be_operator k) (is_operand (scan u).last) h.0 (operand_scan u h.1)
+operator_scan u k h = both_true (may_be_operator k) (was_operand (scan u).last) h.0 (operand_scan u h.1)
 
 -- Sides.
 side_step : (n m : ℕ) (is_one goes : Bool) → n ≤ m → goes ≡ true → n ≤ (if is_one then m + 1 else if goes then m else 0)
@@ -90,12 +86,12 @@ pub side_scan : {n : ℕ} {u : List Kind} → Side n u → n ≤ (scan u).operat
 side_scan begins = omega arith
 side_scan (operand k {n = n} {before = u} d h) =
     let P : Scan → Type 0 = λ s. n ≤ s.operators in
-    subst P (sym (scan_more u k)) (side_step n (scan u).operators (is_operator (scan u) k) (goes_on k) (side_scan d) h)
+    subst P (sym (scan_more u k)) (side_step n (scan u).operators (is_operator (scan u) k) (continues_side k) (side_scan d) h)
 side_scan (operator k {n = n} {before = u} d h) =
     let P : Scan → Type 0 = λ s. suc n ≤ s.operators in
     subst P (sym (scan_more u k)) (side_more n (scan u).operators (is_operator (scan u) k) _ (side_scan d) (operator_scan u k h))
 
-side_after : (u : List Kind) (k : Kind) (n : ℕ) → Side n u → (is_one goes : Bool) → is_operator (scan u) k ≡ is_one → goes_on k ≡ goes
+side_after : (u : List Kind) (k : Kind) (n : ℕ) → Side n u → (is_one goes : Bool) → is_operator (scan u) k ≡ is_one → continues_side k ≡ goes
     → Side (if is_one then n + 1 else if goes then n else 0) (u ++ k ∷ [])
 side_after u k n d true goes e g = let P : ℕ → Type 0 = λ m. Side m (u ++ k ∷ []) in subst P (omega arith) (operator k d (scan_operator u k e))
 side_after u k n d false true e g = operand k d g
@@ -104,7 +100,7 @@ side_after u k n d false false e g = begins
 pub scan_side : (u : List Kind) → Side (scan u).operators u
 scan_side u = from_left (λ u. Side (scan u).operators u) begins
     (λ u k d. let P : Scan → Type 0 = λ s. Side s.operators (u ++ k ∷ []) in
-    subst P (sym (scan_more u k)) (side_after u k (scan u).operators d (is_operator (scan u) k) (goes_on k) refl refl)) u
+    subst P (sym (scan_more u k)) (side_after u k (scan u).operators d (is_operator (scan u) k) (continues_side k) refl refl)) u
 
 pub side_less : {n : ℕ} {u : List Kind} → Side n u → (m : ℕ) → m ≤ n → Side m u
 side_less {u = u} begins m h = let P : ℕ → Type 0 = λ z. Side z u in subst P (omega (arith, h)) begins
@@ -188,7 +184,7 @@ open_scan none = omega arith
 open_scan (one_more f {m = m} {n = n} {before = u} {inside = w} d h b) =
     let x = opens_one (scan u) f h in
     let e : length (scan (u ++ f ∷ w)).opened ≡ suc (length (scan u).opened) =
-    ap (λ z. length z.opened) (scan_append at_start u (f ∷ w)) ∙ ap length (balanced_scan b (scan_after (scan u) f)) ∙ length_added m _ ∙ ap length x.1 in
+    ap (λ z. length z.opened) (scan_append scan_at_start u (f ∷ w)) ∙ ap length (balanced_scan b (scan_after (scan u) f)) ∙ length_added m _ ∙ ap length x.1 in
     omega (arith, e, open_scan d)
 
 pub balanced_both : {m n : ℕ} {u v : List Kind} → Balanced m u → Balanced n v → Balanced (m + n) (u ++ v)
@@ -308,7 +304,7 @@ closed_limit (Arguments a b ∷ o) l h = none_some l h
 closed_limit (Terms ∷ o) l h = none_some l h
 closed_limit (Group ∷ o) l h = none_some l h
 
-mod_named : (u : List Kind) (l : ℕ) (b : Bool) → is_operand (scan u).last ≡ b → limit_of (if b then Other else Word (limit_here (scan u))) ≡ Some l → Named l (u ++ Mod ∷ [])
+mod_named : (u : List Kind) (l : ℕ) (b : Bool) → was_operand (scan u).last ≡ b → limit_of (if b then Other else Word (limit_here (scan u))) ≡ Some l → Named l (u ++ Mod ∷ [])
 mod_named u l true e h = absurd (none_some l h)
 mod_named u l false e h = record {
   front = u;
@@ -322,7 +318,7 @@ named_more : (u : List Kind) (k : Kind) (l : ℕ) → limit_of (last_after (scan
 named_more u Name l h = is_named u Name l (refl, not_operator u Name refl) refl h
 named_more u Quoted l h = is_named u Quoted l (refl, not_operator u Quoted refl) refl h
 named_more u Int l h = is_named u Int l (refl, not_operator u Int refl) refl h
-named_more u Mod l h = mod_named u l (is_operand (scan u).last) refl h
+named_more u Mod l h = mod_named u l (was_operand (scan u).last) refl h
 named_more u RParen l h = absurd (closed_limit (scan u).opened l h)
 named_more u _ l h = absurd (none_some l h)
 
@@ -330,7 +326,7 @@ named : (u : List Kind) (l : ℕ) → limit_of (scan u).last ≡ Some l → Name
 named u l = from_left (λ u. limit_of (scan u).last ≡ Some l → Named l u) (λ h. absurd (none_some l h))
     (λ u k i h. named_more u k l (ap (λ s. limit_of s.last) (sym (scan_more u k)) ∙ h)) u
 
-mod_limit : (u : List Kind) (b : Bool) → is_operand (scan u).last ≡ b → ¬ (IsOperator u Mod) → limit_of (if b then Other else Word (limit_here (scan u))) ≡ Some (limit_here (scan u))
+mod_limit : (u : List Kind) (b : Bool) → was_operand (scan u).last ≡ b → ¬ (IsOperator u Mod) → limit_of (if b then Other else Word (limit_here (scan u))) ≡ Some (limit_here (scan u))
 mod_limit u true e h = absurd (h (refl, scan_operand u e))
 mod_limit u false e h = refl
 
@@ -338,7 +334,7 @@ word_limit : (u : List Kind) (k : Kind) → IsAtomName u k → limit_of (last_af
 word_limit u Name h = refl
 word_limit u Quoted h = refl
 word_limit u Int h = refl
-word_limit u Mod h = mod_limit u (is_operand (scan u).last) refl h.1
+word_limit u Mod h = mod_limit u (was_operand (scan u).last) refl h.1
 word_limit u _ h = absurd (clash h.0)
 
 -- Arguments.
@@ -362,7 +358,7 @@ arguments_scan {front = f} (begun k {commas = n} {inside = w} h b) =
     let behind = scan_after (scan f) k in
     let opened : (scan_after behind LParen).opened ≡ Arguments (limit_here (scan f)) 1 ∷ (scan f).opened =
     ap (λ z. z ∷ opened_after (scan f) k) (round_of (last_after (scan f) k) _ (word_limit f k h)) ∙ ap (λ z. Arguments (limit_here (scan f)) 1 ∷ z) (word_plain (scan f) k h.0) in
-    ap (λ z. z.opened) (scan_append at_start f (k ∷ LParen ∷ w)) ∙ balanced_scan b (scan_after behind LParen) ∙ ap (added n) opened
+    ap (λ z. z.opened) (scan_append scan_at_start f (k ∷ LParen ∷ w)) ∙ balanced_scan b (scan_after behind LParen) ∙ ap (added n) opened
     ∙ ap (λ z. Arguments (limit_here (scan f)) z ∷ (scan f).opened) (omega arith)
 
 -- what the scan says of an innermost list of arguments
@@ -446,30 +442,26 @@ inner_term (Terms ∷ o) u e =
     inr (refl, terms_open i.commas o u i.front i.inside i.first i.split i.opens i.balanced i.state)
 inner_term (Group ∷ o) u e = inl refl
 
-abbrev is_equals : Last → Bool
-is_equals Equals = true
-is_equals _ = false
-
-mod_equals : (b : Bool) (l : ℕ) → is_equals (if b then Other else Word l) ≡ false
+mod_equals : (b : Bool) (l : ℕ) → is_equals_last (if b then Other else Word l) ≡ false
 mod_equals true l = refl
 mod_equals false l = refl
 
-closed_equals : (o : List Opened) → is_equals (closed_by_round o) ≡ false
+closed_equals : (o : List Opened) → is_equals_last (closed_by_round o) ≡ false
 closed_equals [] = refl
 closed_equals (Arguments l n ∷ o) = refl
 closed_equals (Terms ∷ o) = refl
 closed_equals (Group ∷ o) = refl
 
-equals_only : (s : Scan) (k : Kind) → is_equals (last_after s k) ≡ true → k ≡ Equal
+equals_only : (s : Scan) (k : Kind) → is_equals_last (last_after s k) ≡ true → k ≡ Equal
 equals_only s Equal h = refl
-equals_only s Mod h = absurd (clash (sym (mod_equals (is_operand s.last) (limit_here s)) ∙ h))
+equals_only s Mod h = absurd (clash (sym (mod_equals (was_operand s.last) (limit_here s)) ∙ h))
 equals_only s RParen h = absurd (clash (sym (closed_equals s.opened) ∙ h))
 equals_only s _ h = absurd (clash h)
 
-behind_equals : (u : List Kind) → is_equals (scan u).last ≡ true → TermNext u
-behind_equals u = from_left (λ u. is_equals (scan u).last ≡ true → TermNext u) (λ h. absurd (clash h))
+behind_equals : (u : List Kind) → is_equals_last (scan u).last ≡ true → TermNext u
+behind_equals u = from_left (λ u. is_equals_last (scan u).last ≡ true → TermNext u) (λ h. absurd (clash h))
     (λ u k i h. let P : Kind → Type 0 = λ z. TermNext (u ++ z ∷ []) in
-    subst P (sym (equals_only (scan u) k (ap (λ s. is_equals s.last) (sym (scan_more u k)) ∙ h))) (behind_equal u)) u
+    subst P (sym (equals_only (scan u) k (ap (λ s. is_equals_last s.last) (sym (scan_more u k)) ∙ h))) (behind_equal u)) u
 
 -- an atom that begins here is a term exactly where its limit is 254
 pub term_limit : (u : List Kind) → (limit_here (scan u) ≡ 255) ⊎ ((limit_here (scan u) ≡ 254) × TermNext u)
@@ -480,7 +472,7 @@ term_limit u = by_last (scan u).last refl
         elim (inner_term (scan u).opened u refl) [ inl h ↦ inl (same ∙ h) | inr h ↦ inr (same ∙ h.0, h.1) ]
 
     by_last : (last : Last) → (scan u).last ≡ last → (limit_here (scan u) ≡ 255) ⊎ ((limit_here (scan u) ≡ 254) × TermNext u)
-    by_last Equals e = inr (ap (λ l. limit_behind l (scan u).opened) e, behind_equals u (ap is_equals e))
+    by_last Equals e = inr (ap (λ l. limit_behind l (scan u).opened) e, behind_equals u (ap is_equals_last e))
     by_last (Word l) e = inner (Word l) e refl
     by_last (Digits l) e = inner (Digits l) e refl
     by_last (Closed n) e = inner (Closed n) e refl
@@ -499,7 +491,7 @@ pub term_scan : {u : List Kind} → TermNext u → limit_here (scan u) ≡ 254
 term_scan (behind_equal u) = ap limit_here (scan_more u Equal)
 term_scan {u} (in_arguments d) = inside_term (scan u).last (scan u).opened (ap limit_in (arguments_scan d))
 term_scan {u} (in_list f {n = n} {inside = w} b) =
-    inside_term (scan u).last (scan u).opened (ap (λ s. limit_in s.opened) (scan_append at_start f (LBracket ∷ w)) ∙ ap limit_in (balanced_scan b (scan_after (scan f) LBracket)))
+    inside_term (scan u).last (scan u).opened (ap (λ s. limit_in s.opened) (scan_append scan_at_start f (LBracket ∷ w)) ∙ ap limit_in (balanced_scan b (scan_after (scan f) LBracket)))
 
 -- Too many arguments.
 lower : (n m : ℕ) → n < m → nat_lt n m ≡ true
@@ -508,19 +500,12 @@ lower n m h = grind arith
 is_lower : (n m : ℕ) → nat_lt n m ≡ true → n < m
 is_lower n m h = grind arith
 
-at_most : (n m : ℕ) → n ≤ m → nat_le n m ≡ true
-at_most n m h = grind arith
-
 is_at_most : (n m : ℕ) → nat_le n m ≡ true → n ≤ m
 is_at_most n m h = grind arith
 
 or_left : (a b : Bool) → a ≡ true → (a || b) ≡ true
 or_left true b h = refl
 or_left false b h = absurd (clash h)
-
-or_right : (a b : Bool) → b ≡ true → (a || b) ≡ true
-or_right true b h = refl
-or_right false b h = h
 
 abbrev many : List Kind → Kind → Bool
 many u k = has_too_many (scan u).opened || (is_equal k && is_full (scan u).last)
@@ -561,7 +546,7 @@ full_round u (Group ∷ o) e h = absurd (clash h)
 
 full_more : (u : List Kind) (k : Kind) → is_full (last_after (scan u) k) ≡ true → TooManyArguments (u ++ k ∷ []) Equal
 full_more u RParen h = full_round u (scan u).opened refl h
-full_more u Mod h = absurd (clash (sym (mod_full (is_operand (scan u).last) (limit_here (scan u))) ∙ h))
+full_more u Mod h = absurd (clash (sym (mod_full (was_operand (scan u).last) (limit_here (scan u))) ∙ h))
 full_more u _ h = absurd (clash h)
 
 full : (u : List Kind) → is_full (scan u).last ≡ true → TooManyArguments u Equal

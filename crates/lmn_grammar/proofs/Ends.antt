@@ -1,19 +1,20 @@
 -- A list that ends with 'End' derives a program within the limits, or is refused.
 use Rattle.std.proofs.Common.{◌≡◌, ℕ, suc, ◌+◌, ◌<◌, ◌≤◌, Bool, true, false, ◌&&◌, List, [], ◌∷◌, ◌++◌, length, refl, sym, ◌∙◌, ap, arith, subst, ◌⊎◌, inl, inr, append_assoc, length-append}
 use Rattle.std.proofs.lemmas.Bool.{cases_lt}
-use Rattle.lmn_grammar.specs.Grammar.{Exp, Tok, Seq, Alt, Opt, Many, Within, Ref, Bracket, Round, Square, Curly, opener, closer, Part, TermPart, SumPart, ClausePart, ClausesPart, meaning, Derives, here, both, left, right, without, with, no_more, one_more, inside, by, program}
+use Rattle.lmn_grammar.specs.Grammar.{Exp, Tok, Seq, Alt, Opt, Many, Within, Ref, Bracket, Round, Square, Curly, opener, closer, Part, TermPart, SumPart, ClausePart, ClausesPart, part_expression, Derives, here, both, left, right, without, with, no_more, one_more, inside, by, program}
 use Rattle.lmn_grammar.specs.Reading.{is_kind}
-use Rattle.lmn_grammar.specs.Refusing.{Begins, IsWithin, IsRefused}
+use Rattle.lmn_grammar.specs.Refusing.{BeginsProgram, IsWithin, IsRefused}
 use Rattle.lmn_grammar.specs.Laws.{DerivedOrRefused}
 use Rattle.lmn_lexer.specs.declared.token.Kind.{Kind}
 use Rattle.lmn_lexer.specs.declared.token.Kind.TheVariants.{End}
-use Rattle.lmn_grammar.proofs.Theory.{and_true, of_tok}
-use Rattle.lmn_grammar.proofs.Stops.{plus_nothing}
+use Rattle.lmn_grammar.proofs.Theory.{of_tok}
 use Rattle.lmn_grammar.proofs.SameLanguage.{seq_parts}
 use Rattle.lmn_grammar.proofs.Tells.{Tells, tells, one_alive, longer_front, last_split}
 use Rattle.lmn_grammar.proofs.Scans.{within_front, first_passing, FirstPassing}
-use Rattle.lmn_grammar.proofs.Items.{clash}
 use Rattle.lmn_grammar.proofs.Refusals.{start, begins_front, begins_same, taken_begins, no_more_begins}
+use Rattle.lmn_base.proofs.Lists.{plus_nothing}
+use Rattle.lmn_base.proofs.Truth.{and_true, false_not_true as clash}
+use Rattle.lmn_grammar.proofs.Arguments.{flipped as not_end}
 
 -- 'End' stands nowhere in the words of clauses.
 abbrev lacks_end : Exp → Bool
@@ -25,7 +26,7 @@ lacks_end (Many a) = lacks_end a
 lacks_end (Within b a) = lacks_end a
 lacks_end (Ref m) = true
 
-meaning_lacks : (m : Part) → lacks_end (meaning m) ≡ true
+meaning_lacks : (m : Part) → lacks_end (part_expression m) ≡ true
 meaning_lacks TermPart = refl
 meaning_lacks SumPart = refl
 meaning_lacks ClausePart = refl
@@ -42,10 +43,6 @@ no_end_both (t ∷ u) v a b = (a.0, no_end_both u v a.1 b)
 no_end_along : (u v : List Kind) → u ≡ v → NoEnd v → NoEnd u
 no_end_along u v e h = let N : List Kind → Type 0 = NoEnd in subst N (sym e) h
 
-not_end : (b : Bool) → elim b [ true ↦ false | false ↦ true ] ≡ true → b ≡ false
-not_end true h = absurd (clash h)
-not_end false h = refl
-
 in_brackets : (b : Bracket) (u : List Kind) → NoEnd u → NoEnd (opener b ∷ (u ++ closer b ∷ []))
 in_brackets Round u h = (refl, no_end_both u _ h (refl, tt))
 in_brackets Square u h = (refl, no_end_both u _ h (refl, tt))
@@ -61,14 +58,14 @@ no_end _ _ (with a w d) h = no_end a w d h
 no_end _ _ (no_more a) h = tt
 no_end _ _ (one_more a x y w e da dm) h = no_end_along w (x ++ y) e (no_end_both x y (no_end a x da h) (no_end (Many a) y dm h))
 no_end _ _ (inside b a x w e d) h = no_end_along w _ e (in_brackets b x (no_end a x d h))
-no_end _ _ (by m w d) h = no_end (meaning m) w d (meaning_lacks m)
+no_end _ _ (by m w d) h = no_end (part_expression m) w d (meaning_lacks m)
 
 end_inside : (u y : List Kind) → NoEnd (u ++ End ∷ y) → ⊥
 end_inside [] y h = clash (sym h.0)
 end_inside (t ∷ u) y h = end_inside u y h.1
 
 -- what begins a program and ends with 'End' is one
-pub begun_to_end : (u : List Kind) → Begins (Derives program) (u ++ End ∷ []) → Derives program (u ++ End ∷ [])
+pub begun_to_end : (u : List Kind) → BeginsProgram (Derives program) (u ++ End ∷ []) → Derives program (u ++ End ∷ [])
 begun_to_end u (rest, d) =
     let s = seq_parts (Ref ClausesPart) (Tok End) ((u ++ End ∷ []) ++ rest) d in
     let e : s.0 ++ End ∷ [] ≡ u ++ End ∷ rest = ap (λ z. s.0 ++ z) (sym (of_tok End s.1 s.4)) ∙ sym s.2 ∙ append_assoc u (End ∷ []) rest in
@@ -115,7 +112,7 @@ beyond_limits u r t (before, token, rest, code, e, w, c) = elim (cases_lt (lengt
     taken far =
         let size : length (before ++ token ∷ []) ≡ length before + 1 = length-append before (token ∷ []) in
         let x = longer_front (before ++ token ∷ []) rest t.taken t.left (append_assoc before (token ∷ []) rest ∙ sym e ∙ t.split) (omega (arith, size, far)) in
-        let all : Begins (Derives program) (before ++ token ∷ []) = begins_front (Derives program) (before ++ token ∷ []) x.0 (begins_same (Derives program) t.taken _ x.1 (taken_begins u r t)) in
+        let all : BeginsProgram (Derives program) (before ++ token ∷ []) = begins_front (Derives program) (before ++ token ∷ []) x.0 (begins_same (Derives program) t.taken _ x.1 (taken_begins u r t)) in
         record { before = before; token = token; rest = rest; split = e; is_there = refl; begins = begins_front (Derives program) before (token ∷ []) all; within = w; refuses = inr (all, c) }
 
     not_taken : length t.taken ≤ length before → (p : ℕ) × (d : ℕ) × IsRefused (Derives program) u p d

@@ -5,8 +5,10 @@ use Rattle.lmn_grammar.specs.Factored.{atom_name, right_side, context_tail}
 use Rattle.lmn_grammar.specs.Reading.{Owed, nexts, stop_at, begins}
 use Rattle.lmn_lexer.specs.declared.token.Kind.{Kind}
 use Rattle.lmn_lexer.specs.declared.token.Kind.TheVariants.{Name, Quoted, Mod, Link, Int, Context, RuleCtx, LParen, RParen, LBracket, LBrace, Plus}
-use Rattle.lmn_grammar.proofs.Stops.{advance, alike, plus_nothing, swap}
+use Rattle.lmn_grammar.proofs.Stops.{advance, alike, swap}
 use Rattle.lmn_grammar.proofs.SameLanguage.{exp_alike, seq, seq_parts, alt_parts, opt_parts, ref_parts}
+use Rattle.lmn_base.proofs.Lists.{plus_nothing}
+use Rattle.lmn_base.proofs.Truth.{false_not_true as clash}
 
 -- Items.
 abbrev item_read : Exp
@@ -66,9 +68,6 @@ item_of_read w (right _ _ _ (right _ _ _ (right _ _ _ (right _ _ _ (right _ _ _ 
 
 pub item_alike : (ts : List Kind) (p : ℕ) (κ : Owed) → stop_at ts p ((item ∷ κ) ∷ []) ≡ stop_at ts p ((item_read ∷ κ) ∷ [])
 item_alike ts p κ = exp_alike ts p item item_read κ (λ w. (read_of_item w, item_of_read w))
-
-pub clash : false ≡ true → ⊥
-clash h = cc
 
 -- what begins with the one doesn't begin with the other
 abbrev pub Apart : Exp → Exp → Type 0

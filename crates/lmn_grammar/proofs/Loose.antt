@@ -1,10 +1,9 @@
 -- The first token outside brackets that ends a guard or a clause, and what a derived word does to it.
 use Rattle.std.proofs.Common.{◌≡◌, ℕ, zero, suc, Bool, true, false, ◌&&◌, List, [], ◌∷◌, ◌++◌, Option, Some, None, refl, ◌∙◌, ap, append_assoc}
-use Rattle.lmn_grammar.specs.Grammar.{Exp, Tok, Seq, Alt, Opt, Many, Within, Ref, Bracket, Round, Square, Curly, opener, closer, Part, TermPart, SumPart, ClausePart, ClausesPart, meaning, Derives, here, both, left, right, without, with, no_more, one_more, inside, by}
+use Rattle.lmn_grammar.specs.Grammar.{Exp, Tok, Seq, Alt, Opt, Many, Within, Ref, Bracket, Round, Square, Curly, opener, closer, Part, TermPart, SumPart, ClausePart, ClausesPart, part_expression, Derives, here, both, left, right, without, with, no_more, one_more, inside, by}
 use Rattle.lmn_lexer.specs.declared.token.Kind.{Kind}
 use Rattle.lmn_lexer.specs.declared.token.Kind.TheVariants.{End, LParen, RParen, LBracket, RBracket, LBrace, RBrace, Dot, Bar}
-use Rattle.lmn_grammar.proofs.Theory.{and_true}
-use Rattle.lmn_grammar.proofs.Items.{clash}
+use Rattle.lmn_base.proofs.Truth.{and_true, false_not_true as clash}
 
 -- what a token does to the number of open brackets, and whether it ends something outside of them
 pub data Role : Type 0 where
@@ -62,7 +61,7 @@ calm n (Many a) = calm n a
 calm n (Within b a) = calm (suc n) a
 calm n (Ref m) = calm_part n m
 
-meaning_calm : (n : ℕ) (m : Part) → calm_part n m ≡ true → calm n (meaning m) ≡ true
+meaning_calm : (n : ℕ) (m : Part) → calm_part n m ≡ true → calm n (part_expression m) ≡ true
 meaning_calm zero TermPart h = refl
 meaning_calm zero SumPart h = refl
 meaning_calm zero ClausePart h = absurd (clash h)
@@ -104,4 +103,4 @@ calm_keeps n _ _ (one_more a x y w e da dm) h v =
 calm_keeps n _ _ (inside b a x w e d) h v =
     ap (λ z. first_loose n (z ++ v)) e ∙ opened b n ((x ++ closer b ∷ []) ++ v) ∙ ap (first_loose (suc n)) (append_assoc x (closer b ∷ []) v)
     ∙ calm_keeps (suc n) a x d h (closer b ∷ v) ∙ closed b n v
-calm_keeps n _ _ (by m w d) h v = calm_keeps n (meaning m) w d (meaning_calm n m h) v
+calm_keeps n _ _ (by m w d) h v = calm_keeps n (part_expression m) w d (meaning_calm n m h) v

@@ -4,14 +4,14 @@ use Rattle.std.proofs.lemmas.Bool.{cases_lt}
 use Rattle.lmn_grammar.specs.Grammar.{program, Derives}
 use Rattle.lmn_grammar.specs.Reading.{Owed, stop, stop_at}
 use Rattle.lmn_grammar.specs.Limits.{Passes, PassesNone}
-use Rattle.lmn_grammar.specs.Refusing.{Begins, IsWithin, Refuses, IsRefused}
-use Rattle.lmn_grammar.specs.Laws.{OneRefusal, RefusedDeriveNothing}
+use Rattle.lmn_grammar.specs.Refusing.{BeginsProgram, IsWithin, Refuses, IsRefused}
+use Rattle.lmn_grammar.specs.Laws.{OneRefusedPlace, RefusedDeriveNothing}
 use Rattle.lmn_lexer.specs.declared.token.Kind.{Kind}
-use Rattle.lmn_grammar.proofs.Stops.{plus_nothing}
-use Rattle.lmn_grammar.proofs.Theory.{Found}
-use Rattle.lmn_grammar.proofs.Tells.{cons_same, Tells, tells, one_alive, found_one, one_found, longer_front}
+use Rattle.lmn_grammar.proofs.Theory.{Found, cons_same}
+use Rattle.lmn_grammar.proofs.Tells.{Tells, tells, one_alive, found_one, one_found, longer_front}
 use Rattle.lmn_grammar.proofs.Scans.{within_front, take_more, cut_at, length_take}
 use Rattle.lmn_grammar.proofs.Spans.{append_same}
+use Rattle.lmn_base.proofs.Lists.{plus_nothing}
 
 abbrev pub start : List Owed
 start = (program ∷ []) ∷ []
@@ -28,17 +28,17 @@ started w d = one_found (program ∷ []) w (w, [], sym (plus_nothing w), d, refl
 -- of any language
 
 -- A front of what begins a program begins one.
-pub begins_front : (P : List Kind → Type 0) (u v : List Kind) → Begins P (u ++ v) → Begins P u
+pub begins_front : (P : List Kind → Type 0) (u v : List Kind) → BeginsProgram P (u ++ v) → BeginsProgram P u
 begins_front P u v (rest, d) = (v ++ rest, subst P (append_assoc u v rest) d)
 
-pub begins_same : (P : List Kind → Type 0) (u v : List Kind) → u ≡ v → Begins P u → Begins P v
-begins_same P u v e b = let B : List Kind → Type 0 = Begins P in subst B e b
+pub begins_same : (P : List Kind → Type 0) (u v : List Kind) → u ≡ v → BeginsProgram P u → BeginsProgram P v
+begins_same P u v e b = let B : List Kind → Type 0 = BeginsProgram P in subst B e b
 
 -- What reading takes begins a program, and with one more token it doesn't.
-pub taken_begins : (w : List Kind) (r : ℕ) (t : Tells start 0 w r) → Begins (Derives program) t.taken
+pub taken_begins : (w : List Kind) (r : ℕ) (t : Tells start 0 w r) → BeginsProgram (Derives program) t.taken
 taken_begins w r t = (t.rest, derived (t.taken ++ t.rest) t.goes_on)
 
-pub no_more_begins : (w : List Kind) (r : ℕ) (t : Tells start 0 w r) (x : Kind) (v : List Kind) → t.left ≡ x ∷ v → Begins (Derives program) (t.taken ++ x ∷ []) → ⊥
+pub no_more_begins : (w : List Kind) (r : ℕ) (t : Tells start 0 w r) (x : Kind) (v : List Kind) → t.left ≡ x ∷ v → BeginsProgram (Derives program) (t.taken ++ x ∷ []) → ⊥
 no_more_begins w r t x v e (rest, d) =
     let D : List Kind → Type 0 = Derives program in
     t.no_farther x v e rest (started (t.taken ++ x ∷ rest) (subst D (append_assoc t.taken (x ∷ []) rest) d))
@@ -56,7 +56,7 @@ same_front u v u' v' e l =
     empty (a ∷ x) h = cc
 
 -- what reading takes to the end begins a program
-pub all_begins : (u : List Kind) → stop 0 start u ≡ length u → Begins (Derives program) u
+pub all_begins : (u : List Kind) → stop 0 start u ≡ length u → BeginsProgram (Derives program) u
 all_begins u s =
     let P : ℕ → Type 0 = Tells start 0 u in
     let t = subst P s (tells u 0 start (one_alive (program ∷ []))) in
@@ -64,7 +64,7 @@ all_begins u s =
     begins_same (Derives program) t.taken u same (taken_begins u (length u) t)
 
 -- a refusal comes at no token that is followed by more within the limits
-stays : (P : List Kind → Type 0) (before : List Kind) (token : Kind) (c : ℕ) → Refuses P c before token → Begins P (before ++ token ∷ []) → PassesNone before token → ⊥
+stays : (P : List Kind → Type 0) (before : List Kind) (token : Kind) (c : ℕ) → Refuses P c before token → BeginsProgram P (before ++ token ∷ []) → PassesNone before token → ⊥
 stays P before token c (inl r) b n = r.1 b
 stays P before token c (inr (b0, inl d)) b n = n.0 d.1
 stays P before token c (inr (b0, inr m)) b n = n.1 m.2
@@ -137,7 +137,7 @@ refused_alike P Q to from kinds p c r = record {
 
 -- of the grammar
 
-pub one_refusal : OneRefusal
+pub one_refusal : OneRefusedPlace
 one_refusal = refused_once (Derives program)
 
 pub refused_derive_nothing : RefusedDeriveNothing
@@ -200,7 +200,7 @@ refused_by_limit kinds m code token h w c s =
     let before = take m kinds in
     let len : length before ≡ m = length_take kinds m token h in
     let size : length (before ++ token ∷ []) ≡ length before + 1 = length-append before (token ∷ []) in
-    let all : Begins (Derives program) (before ++ token ∷ []) = all_begins (before ++ token ∷ []) (ap (stop 0 start) (sym (take_more kinds m token h)) ∙ s ∙ omega (arith, size, len)) in
+    let all : BeginsProgram (Derives program) (before ++ token ∷ []) = all_begins (before ++ token ∷ []) (ap (stop 0 start) (sym (take_more kinds m token h)) ∙ s ∙ omega (arith, size, len)) in
     record {
       before = before;
       token = token;

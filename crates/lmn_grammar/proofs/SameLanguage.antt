@@ -1,7 +1,7 @@
 -- What has the same words stops at the same token.
 use Rattle.std.proofs.Common.{◌≡◌, ℕ, suc, max, List, [], ◌∷◌, ◌++◌, refl, sym, ◌∙◌, ap, subst, ◌⊎◌, inl, inr, append_assoc, drop}
-use Rattle.lmn_grammar.specs.Grammar.{Exp, Seq, Alt, Opt, Many, Ref, Part, meaning, Derives, both, left, right, without, with, no_more, one_more, by}
-use Rattle.lmn_grammar.proofs.Theory.{DerivesAll}
+use Rattle.lmn_grammar.specs.Grammar.{Exp, Seq, Alt, Opt, Many, Ref, Part, part_expression, Derives, both, left, right, without, with, no_more, one_more, by}
+use Rattle.lmn_grammar.proofs.Theory.{DerivesAll, derives_along}
 use Rattle.lmn_grammar.specs.Reading.{Owed, nexts, stop, stop_at, unless_dead}
 use Rattle.lmn_lexer.specs.declared.token.Kind.{Kind}
 use Rattle.lmn_grammar.proofs.Theory.{Found, complete_nexts, sound_nexts, all_completed}
@@ -63,7 +63,7 @@ pub many_parts : (a : Exp) (w : List Kind) → Derives (Many a) w → (w ≡ [])
 many_parts _ _ (no_more a) = inl refl
 many_parts _ _ (one_more a u v w e da dm) = inr (u, v, e, da, dm)
 
-pub ref_parts : (n : Part) (w : List Kind) → Derives (Ref n) w → Derives (meaning n) w
+pub ref_parts : (n : Part) (w : List Kind) → Derives (Ref n) w → Derives (part_expression n) w
 ref_parts _ _ (by n w d) = d
 
 -- A sequence is owed part by part.
@@ -82,8 +82,8 @@ seq ts p a b κ = owed_alike ts p (Seq a b ∷ κ) (a ∷ b ∷ κ) (seq_split a
 pub seq3 : (ts : List Kind) (p : ℕ) (a b c : Exp) (κ : Owed) → stop_at ts p ((Seq a (Seq b c) ∷ κ) ∷ []) ≡ stop_at ts p ((a ∷ b ∷ c ∷ κ) ∷ [])
 seq3 ts p a b c κ = seq ts p a (Seq b c) κ ∙ owed_alike ts p (a ∷ Seq b c ∷ κ) (a ∷ b ∷ c ∷ κ) (same_behind a (Seq b c ∷ κ) (b ∷ c ∷ κ) (seq_split b c κ))
 
-pub ref : (ts : List Kind) (p : ℕ) (n : Part) (κ : Owed) → stop_at ts p ((Ref n ∷ κ) ∷ []) ≡ stop_at ts p ((meaning n ∷ κ) ∷ [])
-ref ts p n κ = exp_alike ts p (Ref n) (meaning n) κ (λ w. (ref_parts n w, by n w))
+pub ref : (ts : List Kind) (p : ℕ) (n : Part) (κ : Owed) → stop_at ts p ((Ref n ∷ κ) ∷ []) ≡ stop_at ts p ((part_expression n ∷ κ) ∷ [])
+ref ts p n κ = exp_alike ts p (Ref n) (part_expression n) κ (λ w. (ref_parts n w, by n w))
 
 -- A choice is two readings.
 two_found : (κ κ1 κ2 : Owed) (w : List Kind) → (DerivesAll κ w → DerivesAll κ1 w ⊎ DerivesAll κ2 w) → Found (κ ∷ []) w → Found (κ1 ∷ κ2 ∷ []) w
@@ -110,21 +110,18 @@ alt ts p a b κ = two_ways ts p (Alt a b ∷ κ) (a ∷ κ) (b ∷ κ) to (λ w 
     to : (w : List Kind) → DerivesAll (Alt a b ∷ κ) w → DerivesAll (a ∷ κ) w ⊎ DerivesAll (b ∷ κ) w
     to w (u, v, e, d, dk) = elim (alt_parts a b u d) [ inl x ↦ inl (u, v, e, x, dk) | inr y ↦ inr (u, v, e, y, dk) ]
 
-along : (κ : Owed) (a b : List Kind) → a ≡ b → DerivesAll κ a → DerivesAll κ b
-along κ a b e h = let P : List Kind → Type 0 = λ x. DerivesAll κ x in subst P e h
-
 pub opt : (ts : List Kind) (p : ℕ) (a : Exp) (κ : Owed) → stop_at ts p ((Opt a ∷ κ) ∷ []) ≡ max (stop_at ts p ((a ∷ κ) ∷ [])) (stop_at ts p (κ ∷ []))
 opt ts p a κ = two_ways ts p (Opt a ∷ κ) (a ∷ κ) κ to (λ w d. (d.0, d.1, d.2, with a d.0 d.3, d.4)) (λ w d. ([], w, refl, without a, d))
   where
     to : (w : List Kind) → DerivesAll (Opt a ∷ κ) w → DerivesAll (a ∷ κ) w ⊎ DerivesAll κ w
-    to w (u, v, e, d, dk) = elim (opt_parts a u d) [ inl x ↦ inr (along κ v w (sym (e ∙ ap (λ z. z ++ v) x)) dk) | inr y ↦ inl (u, v, e, y, dk) ]
+    to w (u, v, e, d, dk) = elim (opt_parts a u d) [ inl x ↦ inr (derives_along κ v w (sym (e ∙ ap (λ z. z ++ v) x)) dk) | inr y ↦ inl (u, v, e, y, dk) ]
 
 pub many : (ts : List Kind) (p : ℕ) (a : Exp) (κ : Owed) → stop_at ts p ((Many a ∷ κ) ∷ []) ≡ max (stop_at ts p ((a ∷ Many a ∷ κ) ∷ [])) (stop_at ts p (κ ∷ []))
 many ts p a κ = two_ways ts p (Many a ∷ κ) (a ∷ Many a ∷ κ) κ to more (λ w d. ([], w, refl, no_more a, d))
   where
     to : (w : List Kind) → DerivesAll (Many a ∷ κ) w → DerivesAll (a ∷ Many a ∷ κ) w ⊎ DerivesAll κ w
     to w (u, v, e, d, dk) = elim (many_parts a u d) [
-      | inl x ↦ inr (along κ v w (sym (e ∙ ap (λ z. z ++ v) x)) dk)
+      | inl x ↦ inr (derives_along κ v w (sym (e ∙ ap (λ z. z ++ v) x)) dk)
       | inr y ↦ inl (y.0, y.1 ++ v, e ∙ ap (λ z. z ++ v) y.2 ∙ append_assoc y.0 y.1 v, y.3, (y.1, v, refl, y.4, dk))
     ]
 
@@ -138,4 +135,4 @@ opt_behind ts p a b κ = two_ways ts p (a ∷ Opt b ∷ κ) (a ∷ b ∷ κ) (a 
   where
     to : (w : List Kind) → DerivesAll (a ∷ Opt b ∷ κ) w → DerivesAll (a ∷ b ∷ κ) w ⊎ DerivesAll (a ∷ κ) w
     to w (u, v, e, da, (x, y, e', d, dk)) = elim (opt_parts b x d)
-        [ inl n ↦ inr (u, v, e, da, along κ y v (sym (e' ∙ ap (λ z. z ++ y) n)) dk) | inr d' ↦ inl (u, v, e, da, (x, y, e', d', dk)) ]
+        [ inl n ↦ inr (u, v, e, da, derives_along κ y v (sym (e' ∙ ap (λ z. z ++ y) n)) dk) | inr d' ↦ inl (u, v, e, da, (x, y, e', d', dk)) ]

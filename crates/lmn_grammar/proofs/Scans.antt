@@ -5,9 +5,10 @@ use Rattle.lmn_grammar.specs.Scan.{Scan, scan, scan_after, passes}
 use Rattle.lmn_grammar.specs.Refusing.{IsWithin}
 use Rattle.lmn_lexer.specs.declared.token.Kind.{Kind}
 use Rattle.lmn_grammar.proofs.Counts.{scan_more, scan_none, scan_passes}
-use Rattle.lmn_grammar.proofs.Items.{clash}
-use Rattle.lmn_grammar.proofs.Stops.{plus_nothing, same_some}
+use Rattle.lmn_grammar.proofs.Stops.{same_some}
 use Rattle.lmn_grammar.proofs.Tells.{last_split}
+use Rattle.lmn_base.proofs.Lists.{plus_nothing}
+use Rattle.lmn_base.proofs.Truth.{false_not_true as clash}
 
 never : (before rest : List Kind) (token : Kind) → [] ≡ before ++ token ∷ rest → ⊥
 never [] rest token h = cc

@@ -1,12 +1,13 @@
 -- A part that is read from one place to another derives the tokens between them.
 use Rattle.std.proofs.Common.{◌≡◌, ℕ, zero, suc, ◌+◌, ◌≤◌, List, [], ◌∷◌, ◌++◌, length, drop, slice_get, Some, refl, sym, ◌∙◌, ap, arith, subst, inl, inr, append_assoc, length-append}
 use Rattle.lmn_grammar.specs.Grammar.{Exp, Tok, Derives}
-use Rattle.lmn_grammar.proofs.Theory.{DerivesAll}
+use Rattle.lmn_grammar.proofs.Theory.{DerivesAll, cons_same}
 use Rattle.lmn_grammar.specs.Reading.{stop_at}
 use Rattle.lmn_lexer.specs.declared.token.Kind.{Kind}
-use Rattle.lmn_grammar.proofs.Stops.{drop_here, plus_nothing}
+use Rattle.lmn_grammar.proofs.Stops.{drop_here}
 use Rattle.lmn_grammar.proofs.Theory.{Found, of_tok}
-use Rattle.lmn_grammar.proofs.Tells.{cons_same, Tells, tells, one_alive, found_one, one_found, longer_front, last_split}
+use Rattle.lmn_grammar.proofs.Tells.{Tells, tells, one_alive, found_one, one_found, longer_front, last_split}
+use Rattle.lmn_base.proofs.Lists.{plus_nothing}
 
 drop_next : (ts : List Kind) (p : ℕ) (a : Kind) (w : List Kind) → drop p ts ≡ a ∷ w → drop (suc p) ts ≡ w
 drop_next [] zero a w h = cc

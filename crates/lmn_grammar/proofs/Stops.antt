@@ -80,10 +80,6 @@ dead_at ts p s e = go (slice_get ts p) refl
     go None h = past ts p s h
     go (Some t) h = dead ts p s t h (e t h)
 
-pub plus_nothing : {X : Type 0} → (xs : List X) → xs ++ [] ≡ xs
-plus_nothing [] = refl
-plus_nothing (x ∷ xs) = ap (λ l. x ∷ l) (plus_nothing xs)
-
 -- nothing is owed, so nothing is taken
 pub stop_nothing : (ts : List Kind) (p : ℕ) → stop_at ts p ([] ∷ []) ≡ p
 stop_nothing ts p = dead_at ts p ([] ∷ []) (λ t h. refl)

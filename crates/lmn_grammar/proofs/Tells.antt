@@ -1,6 +1,6 @@
 -- What the token at which reading stops says about the grammar.
 use Rattle.std.proofs.Common.{◌≡◌, ℕ, suc, ◌+◌, ◌≤◌, List, [], ◌∷◌, ◌++◌, length, refl, sym, ◌∙◌, ap, arith, subst, ◌⊎◌, inl, inr}
-use Rattle.lmn_grammar.proofs.Theory.{DerivesAll}
+use Rattle.lmn_grammar.proofs.Theory.{DerivesAll, cons_same}
 use Rattle.lmn_grammar.specs.Reading.{Owed, nexts, stop, unless_dead}
 use Rattle.lmn_lexer.specs.declared.token.Kind.{Kind}
 use Rattle.lmn_grammar.proofs.Stops.{stop_cons, stop_none}
@@ -19,9 +19,6 @@ pub record Tells (s : List Owed) (p : ℕ) (w : List Kind) (r : ℕ) : Type 0 wh
 
 abbrev pub Alive : List Owed → Type 0
 Alive s = (w : List Kind) × Found s w
-
-pub cons_same : (a b : Kind) (x y : List Kind) → a ∷ x ≡ b ∷ y → (a ≡ b) × (x ≡ y)
-cons_same a b x y h = (cc, cc)
 
 pub nothing_found : (s : List Owed) (w : List Kind) → s ≡ [] → Found s w → ⊥
 nothing_found s w e f = let P : List Owed → Type 0 = λ x. Found x w in (subst P e f).1

@@ -1,7 +1,7 @@
 -- Terms, sums and conditions as a reader comes to them.
 use Rattle.std.proofs.Common.{◌≡◌, ℕ, ◌+◌, ◌≤◌, max, true, false, List, [], ◌∷◌, slice_get, Option, Some, None, refl, sym, ◌∙◌, ap, arith}
 use Rattle.lmn_grammar.specs.Grammar.{Exp, Tok, Opt, Many, Within, Ref, Round, Square, TermPart, SumPart, ◌·◌, ◌∣◌, more_of, some_of, name, arguments, atom, membrane, tlist, fact, product, cmp, cond, guard}
-use Rattle.lmn_grammar.specs.Factored.{atom_name, right_side, context_tail, contexts, times, plus, guard_bar}
+use Rattle.lmn_grammar.specs.Factored.{atom_name, right_side, context_tail, contexts, product_sign, plus, guard_bar}
 use Rattle.lmn_grammar.specs.Reading.{nexts, is_kind, Owed, next, stop_at, begins, NoArgs, EndsItem, EndsProduct, EndsSum, EndsCond}
 use Rattle.lmn_lexer.specs.declared.token.Kind.{Kind}
 use Rattle.lmn_lexer.specs.declared.token.Kind.TheVariants.{Name, Quoted, Mod, Link, Int, Context, LParen, RParen, LBracket, RBracket, LBrace, Bar, Equal, Less, LessEq, Greater, GreaterEq, NumEq, NumNe, Differ, Plus, Minus, Star, Slash}
@@ -9,7 +9,8 @@ use Rattle.lmn_grammar.proofs.Theory.{is_itself}
 use Rattle.lmn_grammar.proofs.Stops.{swap, same_some, stop_nothing, advance, dead_here, stop_at_from, tok_taken, tok_dead, within_taken}
 use Rattle.lmn_grammar.proofs.SameLanguage.{seq, seq3, alt, ref}
 use Rattle.lmn_grammar.proofs.Choices.{begins_first, not_begun, alt_left, alt_right, opt_none, opt_some, many_none, many_some, not_opened, sign_taken, sign_dead, opt_before}
-use Rattle.lmn_grammar.proofs.Items.{clash, Apart, TakesOne, one_taken, alike_at, name_taken}
+use Rattle.lmn_grammar.proofs.Items.{Apart, TakesOne, one_taken, alike_at, name_taken}
+use Rattle.lmn_base.proofs.Truth.{false_not_true as clash}
 
 -- A term.
 pub term_link : (ts : List Kind) (p : ℕ) (κ : Owed) → slice_get ts p ≡ Some Link → stop_at ts p ((Ref TermPart ∷ κ) ∷ []) ≡ stop_at ts (p + 1) (κ ∷ [])
@@ -75,7 +76,7 @@ fact_int ts p κ h = advance ts p ((fact ∷ κ) ∷ []) Int κ [] h refl
 pub fact_context : (ts : List Kind) (p : ℕ) (κ : Owed) → slice_get ts p ≡ Some Context → stop_at ts p ((fact ∷ κ) ∷ []) ≡ stop_at ts (p + 1) (κ ∷ [])
 fact_context ts p κ h = advance ts p ((fact ∷ κ) ∷ []) Context κ [] h refl
 
-times_one : TakesOne times
+times_one : TakesOne product_sign
 times_one Star κ h = refl
 times_one Slash κ h = refl
 times_one Mod κ h = refl
@@ -86,14 +87,14 @@ plus_one Plus κ h = refl
 plus_one Minus κ h = refl
 plus_one _ κ h = absurd (clash h)
 
-ends_times : (ts : List Kind) (p : ℕ) (κ : Owed) → EndsProduct κ → begins times (slice_get ts p) ≡ true → stop_at ts p (κ ∷ []) ≡ p
+ends_times : (ts : List Kind) (p : ℕ) (κ : Owed) → EndsProduct κ → begins product_sign (slice_get ts p) ≡ true → stop_at ts p (κ ∷ []) ≡ p
 ends_times ts p κ n b = go (slice_get ts p) refl
   where
     go : (o : Option Kind) → slice_get ts p ≡ o → stop_at ts p (κ ∷ []) ≡ p
     go (Some Star) h = dead_here ts p κ Star h n.0
     go (Some Slash) h = dead_here ts p κ Slash h n.1
     go (Some Mod) h = dead_here ts p κ Mod h n.2
-    go _ h = absurd (clash (sym (ap (begins times) h) ∙ b))
+    go _ h = absurd (clash (sym (ap (begins product_sign) h) ∙ b))
 
 ends_plus : (ts : List Kind) (p : ℕ) (κ : Owed) → EndsSum κ → begins plus (slice_get ts p) ≡ true → stop_at ts p (κ ∷ []) ≡ p
 ends_plus ts p κ n b = go (slice_get ts p) refl
@@ -103,12 +104,12 @@ ends_plus ts p κ n b = go (slice_get ts p) refl
     go (Some Minus) h = dead_here ts p κ Minus h n.4
     go _ h = absurd (clash (sym (ap (begins plus) h) ∙ b))
 
-pub times_more : (ts : List Kind) (p : ℕ) (κ : Owed) → EndsProduct κ → begins times (slice_get ts p) ≡ true →
-    stop_at ts p ((Many (times · fact) ∷ κ) ∷ []) ≡ stop_at ts (p + 1) ((fact ∷ Many (times · fact) ∷ κ) ∷ [])
-times_more ts p κ n h = many_some ts p (times · fact) κ (ends_times ts p κ n h) ∙ seq ts p times fact (Many (times · fact) ∷ κ) ∙ one_taken ts p times (fact ∷ Many (times · fact) ∷ κ) times_one h
+pub times_more : (ts : List Kind) (p : ℕ) (κ : Owed) → EndsProduct κ → begins product_sign (slice_get ts p) ≡ true →
+    stop_at ts p ((Many (product_sign · fact) ∷ κ) ∷ []) ≡ stop_at ts (p + 1) ((fact ∷ Many (product_sign · fact) ∷ κ) ∷ [])
+times_more ts p κ n h = many_some ts p (product_sign · fact) κ (ends_times ts p κ n h) ∙ seq ts p product_sign fact (Many (product_sign · fact) ∷ κ) ∙ one_taken ts p product_sign (fact ∷ Many (product_sign · fact) ∷ κ) times_one h
 
-pub times_done : (ts : List Kind) (p : ℕ) (κ : Owed) → begins times (slice_get ts p) ≡ false → stop_at ts p ((Many (times · fact) ∷ κ) ∷ []) ≡ stop_at ts p (κ ∷ [])
-times_done ts p κ h = many_none ts p (times · fact) κ (begins_first times fact (slice_get ts p) refl h) refl
+pub times_done : (ts : List Kind) (p : ℕ) (κ : Owed) → begins product_sign (slice_get ts p) ≡ false → stop_at ts p ((Many (product_sign · fact) ∷ κ) ∷ []) ≡ stop_at ts p (κ ∷ [])
+times_done ts p κ h = many_none ts p (product_sign · fact) κ (begins_first product_sign fact (slice_get ts p) refl h) refl
 
 pub plus_more : (ts : List Kind) (p : ℕ) (κ : Owed) → EndsSum κ → begins plus (slice_get ts p) ≡ true →
     stop_at ts p ((Many (plus · product) ∷ κ) ∷ []) ≡ stop_at ts (p + 1) ((product ∷ Many (plus · product) ∷ κ) ∷ [])
@@ -120,8 +121,8 @@ plus_done ts p κ h = many_none ts p (plus · product) κ (begins_first plus pro
 pub sum_ref : (ts : List Kind) (p : ℕ) (κ : Owed) → stop_at ts p ((Ref SumPart ∷ κ) ∷ []) ≡ stop_at ts p ((product ∷ Many (plus · product) ∷ κ) ∷ [])
 sum_ref ts p κ = ref ts p SumPart κ ∙ seq ts p product (Many (plus · product)) κ
 
-pub product_parts : (ts : List Kind) (p : ℕ) (κ : Owed) → stop_at ts p ((product ∷ κ) ∷ []) ≡ stop_at ts p ((fact ∷ Many (times · fact) ∷ κ) ∷ [])
-product_parts ts p κ = seq ts p fact (Many (times · fact)) κ
+pub product_parts : (ts : List Kind) (p : ℕ) (κ : Owed) → stop_at ts p ((product ∷ κ) ∷ []) ≡ stop_at ts p ((fact ∷ Many (product_sign · fact) ∷ κ) ∷ [])
+product_parts ts p κ = seq ts p fact (Many (product_sign · fact)) κ
 
 -- behind a product that isn't the last
 pub ends_product : (κ : Owed) → EndsSum κ → EndsProduct (Many (plus · product) ∷ κ)
@@ -189,12 +190,12 @@ third_of_three n a b c q e i j k = omega arith
 
 -- a context with a sign behind it that no sum goes on with
 comparison_stops : (ts : List Kind) (p : ℕ) (κ : Owed) (t : Kind) → slice_get ts p ≡ Some Context → slice_get ts (p + 1) ≡ Some t →
-    begins times (Some t) ≡ false → begins plus (Some t) ≡ false → begins cmp (Some t) ≡ false → stop_at ts p ((comparison ∷ κ) ∷ []) ≡ p + 1
+    begins product_sign (Some t) ≡ false → begins plus (Some t) ≡ false → begins cmp (Some t) ≡ false → stop_at ts p ((comparison ∷ κ) ∷ []) ≡ p + 1
 comparison_stops ts p κ t h h' m a c =
     let κ1 : Owed = (cmp · Ref SumPart) ∷ κ in
     let κ2 : Owed = Many (plus · product) ∷ κ1 in
-    seq ts p (Ref SumPart) (cmp · Ref SumPart) κ ∙ sum_ref ts p κ1 ∙ product_parts ts p κ2 ∙ fact_context ts p (Many (times · fact) ∷ κ2) h
-    ∙ times_done ts (p + 1) κ2 (ap (begins times) h' ∙ m) ∙ plus_done ts (p + 1) κ1 (ap (begins plus) h' ∙ a)
+    seq ts p (Ref SumPart) (cmp · Ref SumPart) κ ∙ sum_ref ts p κ1 ∙ product_parts ts p κ2 ∙ fact_context ts p (Many (product_sign · fact) ∷ κ2) h
+    ∙ times_done ts (p + 1) κ2 (ap (begins product_sign) h' ∙ m) ∙ plus_done ts (p + 1) κ1 (ap (begins plus) h' ∙ a)
     ∙ seq ts (p + 1) cmp (Ref SumPart) κ ∙ cmp_none ts (p + 1) (Ref SumPart ∷ κ) (ap (begins cmp) h' ∙ c)
 
 signed_taken : (ts : List Kind) (p : ℕ) (k : Kind) (e : Exp) (κ : Owed) → slice_get ts p ≡ Some Context → slice_get ts (p + 1) ≡ Some k →
@@ -225,14 +226,14 @@ comparison_from ts p κ = go (slice_get ts p) refl
     κ2 : Owed
     κ2 = Many (plus · product) ∷ κ1
 
-    here_too : slice_get ts p ≡ Some Context → stop_at ts p ((comparison ∷ κ) ∷ []) ≡ stop_at ts (p + 1) ((Many (times · fact) ∷ κ2) ∷ [])
-    here_too h = seq ts p (Ref SumPart) (cmp · Ref SumPart) κ ∙ sum_ref ts p κ1 ∙ product_parts ts p κ2 ∙ fact_context ts p (Many (times · fact) ∷ κ2) h
+    here_too : slice_get ts p ≡ Some Context → stop_at ts p ((comparison ∷ κ) ∷ []) ≡ stop_at ts (p + 1) ((Many (product_sign · fact) ∷ κ2) ∷ [])
+    here_too h = seq ts p (Ref SumPart) (cmp · Ref SumPart) κ ∙ sum_ref ts p κ1 ∙ product_parts ts p κ2 ∙ fact_context ts p (Many (product_sign · fact) ∷ κ2) h
 
     not_here : (slice_get ts p ≡ Some Context → ⊥) → stop_at ts p ((Tok Context ∷ []) ∷ []) ≤ stop_at ts p ((comparison ∷ κ) ∷ [])
     not_here n = omega (arith, tok_dead ts p Context [] n, stop_at_from ts p ((comparison ∷ κ) ∷ []))
 
     go : (o : Option Kind) → slice_get ts p ≡ o → stop_at ts p ((Tok Context ∷ []) ∷ []) ≤ stop_at ts p ((comparison ∷ κ) ∷ [])
-    go (Some Context) h = omega (arith, tok_taken ts p Context [] h, stop_nothing ts (p + 1), here_too h, stop_at_from ts (p + 1) ((Many (times · fact) ∷ κ2) ∷ []))
+    go (Some Context) h = omega (arith, tok_taken ts p Context [] h, stop_nothing ts (p + 1), here_too h, stop_at_from ts (p + 1) ((Many (product_sign · fact) ∷ κ2) ∷ []))
     go None h = not_here (λ c. let n : None ≡ Some Context = sym h ∙ c in cc)
     go (Some t) h = not_here (λ c. let n : Some t ≡ Some Context = sym h ∙ c in cc)
 

@@ -1,28 +1,32 @@
 -- What reading owes after a token is what completes the tokens read.
 use Rattle.std.proofs.Common.{◌≡◌, ℕ, zero, suc, Bool, true, false, List, [], ◌∷◌, ◌++◌, refl, sym, ◌∙◌, ap, subst, ◌⊎◌, inl, inr, append_assoc, ◌&&◌, ◌||◌, if◌then◌else◌, get_or}
 use Rattle.std.proofs.lemmas.Bool.{eqb-true, eq-eqb}
-use Rattle.lmn_grammar.specs.Grammar.{Exp, Tok, Seq, Alt, Opt, Many, Within, Ref, Bracket, opener, closer, Part, TermPart, SumPart, ClausePart, ClausesPart, meaning, Derives, here, both, left, right, without, with, no_more, one_more, inside, by}
-use Rattle.lmn_grammar.specs.Reading.{Owed, number, is_kind, after, next, nexts, may_be_empty, empty_part}
+use Rattle.lmn_grammar.specs.Grammar.{Exp, Tok, Seq, Alt, Opt, Many, Within, Ref, Bracket, opener, closer, Part, TermPart, SumPart, ClausePart, ClausesPart, part_expression, Derives, here, both, left, right, without, with, no_more, one_more, inside, by}
+use Rattle.lmn_grammar.specs.Reading.{Owed, kind_number, is_kind, owed_after, next, nexts, may_be_empty, empty_part}
 use Rattle.lmn_lexer.specs.declared.token.Kind.{Kind}
 use Rattle.lmn_lexer.specs.declared.token.Kind.TheVariants.{Name, Quoted, Mod, Link, Int, Context, RuleCtx, End, LParen, RParen, LBracket, RBracket, LBrace, RBrace, Comma, Dot, Arrow, AtAt, Bar, Backslash, Equal, Less, LessEq, Greater, GreaterEq, NumEq, NumNe, Differ, Plus, Minus, Star, Slash}
+use Rattle.lmn_base.proofs.Truth.{and_true, and_true2 as true_and, either_true as or_true, or_true as true_or}
+
+pub cons_same : (a b : Kind) (x y : List Kind) → a ∷ x ≡ b ∷ y → (a ≡ b) × (x ≡ y)
+cons_same a b x y h = (cc, cc)
 
 -- Kinds with one number are one kind.
 abbrev all_kinds : List Kind
 all_kinds = Name ∷ Quoted ∷ Mod ∷ Link ∷ Int ∷ Context ∷ RuleCtx ∷ End ∷ LParen ∷ RParen ∷ LBracket ∷ RBracket ∷ LBrace ∷ RBrace
     ∷ Comma ∷ Dot ∷ Arrow ∷ AtAt ∷ Bar ∷ Backslash ∷ Equal ∷ Less ∷ LessEq ∷ Greater ∷ GreaterEq ∷ NumEq ∷ NumNe ∷ Differ ∷ Plus ∷ Minus ∷ Star ∷ Slash ∷ []
 
-numbered : (t : Kind) → get_or all_kinds (number t) End ≡ t
+numbered : (t : Kind) → get_or all_kinds (kind_number t) End ≡ t
 numbered Name = refl
 numbered _ = refl
 
-pub same_number : (k t : Kind) → number k ≡ number t → k ≡ t
+pub same_number : (k t : Kind) → kind_number k ≡ kind_number t → k ≡ t
 same_number k t h = sym (numbered k) ∙ ap (λ n. get_or all_kinds n End) h ∙ numbered t
 
 pub same_kind : (k t : Kind) → is_kind k t ≡ true → k ≡ t
-same_kind k t h = same_number k t (eqb-true (number k) (number t) h)
+same_kind k t h = same_number k t (eqb-true (kind_number k) (kind_number t) h)
 
 pub is_itself : (k t : Kind) → k ≡ t → is_kind k t ≡ true
-is_itself k t h = eq-eqb (number k) (number t) (ap number h)
+is_itself k t h = eq-eqb (kind_number k) (kind_number t) (ap kind_number h)
 
 abbrev pub IsIn : Owed → List Owed → Type 0
 IsIn κ [] = ⊥
@@ -42,15 +46,6 @@ in_either κ [] s' h = inr h
 in_either κ (x ∷ s) s' (inl h) = inl (inl h)
 in_either κ (x ∷ s) s' (inr h) = elim (in_either κ s s' h) [ inl a ↦ inl (inr a) | inr b ↦ inr b ]
 
--- by nothing
-pub and_true : (a b : Bool) → (a && b) ≡ true → (a ≡ true) × (b ≡ true)
-and_true true b h = (refl, h)
-and_true false b h = cc
-
-pub or_true : (a b : Bool) → (a || b) ≡ true → (a ≡ true) ⊎ (b ≡ true)
-or_true true b h = inl refl
-or_true false b h = inr h
-
 empty_left : (e : Exp) → may_be_empty e ≡ true → Derives e []
 empty_left (Tok k) h = cc
 empty_left (Seq a b) h = let p = and_true (may_be_empty a) (may_be_empty b) h in both a b [] [] [] refl (empty_left a p.0) (empty_left b p.1)
@@ -67,6 +62,9 @@ empty_left (Ref ClausesPart) h = by ClausesPart [] (without _)
 abbrev pub DerivesAll : List Exp → List Kind → Type 0
 DerivesAll [] w = w ≡ []
 DerivesAll (e ∷ κ) w = (u : List Kind) × (v : List Kind) × (w ≡ u ++ v) × Derives e u × DerivesAll κ v
+
+pub derives_along : (κ : Owed) (a b : List Kind) → a ≡ b → DerivesAll κ a → DerivesAll κ b
+derives_along κ a b e h = let P : List Kind → Type 0 = λ x. DerivesAll κ x in subst P e h
 
 abbrev pub Found : List Owed → List Kind → Type 0
 Found s w = (κ : Owed) × IsIn κ s × DerivesAll κ w
@@ -115,13 +113,13 @@ optional_in : (κ : Owed) (b : Bool) (s : List Owed) → b ≡ true → IsIn κ 
 optional_in κ true s e h = h
 optional_in κ false s e h = cc
 
-pub sound : (f : ℕ) (e : Exp) (κ : Owed) (t : Kind) (w : List Kind) (κ' : Owed) → IsIn κ' (after f e κ t) → DerivesAll κ' w → DerivesAll (e ∷ κ) (t ∷ w)
+pub sound : (f : ℕ) (e : Exp) (κ : Owed) (t : Kind) (w : List Kind) (κ' : Owed) → IsIn κ' (owed_after f e κ t) → DerivesAll κ' w → DerivesAll (e ∷ κ) (t ∷ w)
 sound f (Tok k) κ t w κ' i d = tok_case k t κ w κ' (is_kind k t) refl i d
-sound f (Seq a b) κ t w κ' i d = elim (in_either κ' (after f a (b ∷ κ) t) _ i) [
+sound f (Seq a b) κ t w κ' i d = elim (in_either κ' (owed_after f a (b ∷ κ) t) _ i) [
   | inl h ↦ two a b κ (t ∷ w) (sound f a (b ∷ κ) t w κ' h d)
-  | inr h ↦ let o = in_optional κ' (may_be_empty a) (after f b κ t) h in two a b κ (t ∷ w) ([], t ∷ w, refl, empty_left a o.0, sound f b κ t w κ' o.1 d)
+  | inr h ↦ let o = in_optional κ' (may_be_empty a) (owed_after f b κ t) h in two a b κ (t ∷ w) ([], t ∷ w, refl, empty_left a o.0, sound f b κ t w κ' o.1 d)
 ]
-sound f (Alt a b) κ t w κ' i d = elim (in_either κ' (after f a κ t) (after f b κ t) i) [
+sound f (Alt a b) κ t w κ' i d = elim (in_either κ' (owed_after f a κ t) (owed_after f b κ t) i) [
   | inl h ↦ let r = sound f a κ t w κ' h d in (r.0, r.1, r.2, left a b r.0 r.3, r.4)
   | inr h ↦ let r = sound f b κ t w κ' h d in (r.0, r.1, r.2, right a b r.0 r.3, r.4)
 ]
@@ -129,11 +127,11 @@ sound f (Opt a) κ t w κ' i d = let r = sound f a κ t w κ' i d in (r.0, r.1, 
 sound f (Many a) κ t w κ' i d = two_many a κ (t ∷ w) (sound f a (Many a ∷ κ) t w κ' i d)
 sound f (Within b a) κ t w κ' i d = within_case b a t κ w κ' (is_kind (opener b) t) refl i d
 sound zero (Ref n) κ t w κ' i d = absurd i
-sound (suc f) (Ref n) κ t w κ' i d = let r = sound f (meaning n) κ t w κ' i d in (r.0, r.1, r.2, by n r.0 r.3, r.4)
+sound (suc f) (Ref n) κ t w κ' i d = let r = sound f (part_expression n) κ t w κ' i d in (r.0, r.1, r.2, by n r.0 r.3, r.4)
 
 pub sound_next : (κ : Owed) (t : Kind) (w : List Kind) (κ' : Owed) → IsIn κ' (next κ t) → DerivesAll κ' w → DerivesAll κ (t ∷ w)
 sound_next [] t w κ' i d = absurd i
-sound_next (e ∷ κ) t w κ' i d = elim (in_either κ' (after 3 e κ t) _ i) [
+sound_next (e ∷ κ) t w κ' i d = elim (in_either κ' (owed_after 3 e κ t) _ i) [
   | inl h ↦ sound 3 e κ t w κ' h d
   | inr h ↦ let o = in_optional κ' (may_be_empty e) (next κ t) h in ([], t ∷ w, refl, empty_left e o.0, sound_next κ t w κ' o.1 d)
 ]
@@ -148,11 +146,7 @@ fits f (Opt a) = fits f a
 fits f (Many a) = fits f a
 fits f (Within b a) = true
 fits zero (Ref n) = false
-fits (suc f) (Ref n) = fits f (meaning n)
-
-true_and : (a b : Bool) → a ≡ true → b ≡ true → (a && b) ≡ true
-true_and true b h g = g
-true_and false b h g = cc
+fits (suc f) (Ref n) = fits f (part_expression n)
 
 true_optional : (a b : Bool) → b ≡ true → elim a [ true ↦ b | false ↦ true ] ≡ true
 true_optional true b h = h
@@ -182,11 +176,7 @@ append_nil_right : (u v : List Kind) → u ++ v ≡ [] → v ≡ []
 append_nil_right [] v h = h
 append_nil_right (x ∷ u) v h = cc
 
-true_or : (a b : Bool) → b ≡ true → (a || b) ≡ true
-true_or true b h = refl
-true_or false b h = h
-
-part_empty : (n : Part) → may_be_empty (meaning n) ≡ empty_part n
+part_empty : (n : Part) → may_be_empty (part_expression n) ≡ empty_part n
 part_empty TermPart = refl
 part_empty SumPart = refl
 part_empty ClausePart = refl
@@ -202,7 +192,7 @@ empty_right _ _ (with a w d) h = refl
 empty_right _ _ (no_more a) h = refl
 empty_right _ _ (one_more a u v w e da dm) h = refl
 empty_right _ _ (inside b a u w e d) h = cc
-empty_right _ _ (by n w d) h = sym (part_empty n) ∙ empty_right (meaning n) w d h
+empty_right _ _ (by n w d) h = sym (part_empty n) ∙ empty_right (part_expression n) w d h
 
 found_left : (s s' : List Owed) (w : List Kind) → Found s w → Found (s ++ s') w
 found_left s s' w (κ, i, d) = (κ, in_left κ s s' i, d)
@@ -227,26 +217,23 @@ head_of k t u h = cc
 tail_of : (k t : Kind) (u : List Kind) → k ∷ [] ≡ t ∷ u → [] ≡ u
 tail_of k t u h = cc
 
-cons_parts : (k t : Kind) (u v : List Kind) → k ∷ u ≡ t ∷ v → (k ≡ t) × (u ≡ v)
-cons_parts k t u v h = (cc, cc)
-
 tok_found : (b : Bool) (κ : Owed) (w : List Kind) → b ≡ true → DerivesAll κ w → Found (if b then κ ∷ [] else []) w
 tok_found true κ w e d = (κ, inl refl, d)
 tok_found false κ w e d = cc
 
 pub complete : (f : ℕ) (e : Exp) (u : List Kind) → Derives e u → fits f e ≡ true → (t : Kind) (u' : List Kind) → u ≡ t ∷ u' →
-    (κ : Owed) (v : List Kind) → DerivesAll κ v → Found (after f e κ t) (u' ++ v)
+    (κ : Owed) (v : List Kind) → DerivesAll κ v → Found (owed_after f e κ t) (u' ++ v)
 complete f _ _ (here k) ok t u' h κ v d = along _ _ _ (ap (λ z. z ++ v) (tail_of k t u' h)) (tok_found (is_kind k t) κ v (is_itself k t (head_of k t u' h)) d)
 complete f _ _ (both a b u1 u2 w e da db) ok t u' h κ v d =
     let p = and_true (fits f a) _ ok in
     elim (split t u' u1 u2 (sym e ∙ h)) [
-      | inl x ↦ found_right (after f a (b ∷ κ) t) _ (u' ++ v) (found_optional (may_be_empty a) (after f b κ t) (u' ++ v) (empty_right a u1 da x.0)
+      | inl x ↦ found_right (owed_after f a (b ∷ κ) t) _ (u' ++ v) (found_optional (may_be_empty a) (owed_after f b κ t) (u' ++ v) (empty_right a u1 da x.0)
           (complete f b u2 db (optional_true (may_be_empty a) (fits f b) p.1 (empty_right a u1 da x.0)) t u' x.1 κ v d))
-      | inr x ↦ found_left (after f a (b ∷ κ) t) _ (u' ++ v) (along _ _ _ (sym (append_assoc x.0 u2 v) ∙ ap (λ z. z ++ v) (sym x.2))
+      | inr x ↦ found_left (owed_after f a (b ∷ κ) t) _ (u' ++ v) (along _ _ _ (sym (append_assoc x.0 u2 v) ∙ ap (λ z. z ++ v) (sym x.2))
           (complete f a u1 da p.0 t x.0 x.1 (b ∷ κ) (u2 ++ v) (u2, v, refl, db, d)))
     ]
-complete f _ _ (left a b w da) ok t u' h κ v d = found_left (after f a κ t) (after f b κ t) (u' ++ v) (complete f a w da (and_true (fits f a) (fits f b) ok).0 t u' h κ v d)
-complete f _ _ (right a b w db) ok t u' h κ v d = found_right (after f a κ t) (after f b κ t) (u' ++ v) (complete f b w db (and_true (fits f a) (fits f b) ok).1 t u' h κ v d)
+complete f _ _ (left a b w da) ok t u' h κ v d = found_left (owed_after f a κ t) (owed_after f b κ t) (u' ++ v) (complete f a w da (and_true (fits f a) (fits f b) ok).0 t u' h κ v d)
+complete f _ _ (right a b w db) ok t u' h κ v d = found_right (owed_after f a κ t) (owed_after f b κ t) (u' ++ v) (complete f b w db (and_true (fits f a) (fits f b) ok).1 t u' h κ v d)
 complete f _ _ (without a) ok t u' h κ v d = cc
 complete f _ _ (with a w da) ok t u' h κ v d = complete f a w da ok t u' h κ v d
 complete f _ _ (no_more a) ok t u' h κ v d = cc
@@ -257,20 +244,17 @@ complete f _ _ (one_more a u1 u2 w e da dm) ok t u' h κ v d =
           (complete f a u1 da ok t x.0 x.1 (Many a ∷ κ) (u2 ++ v) (u2, v, refl, dm, d))
     ]
 complete f _ _ (inside b a x w e da) ok t u' h κ v d =
-    let p = cons_parts (opener b) t (x ++ closer b ∷ []) u' (sym e ∙ h) in
+    let p = cons_same (opener b) t (x ++ closer b ∷ []) u' (sym e ∙ h) in
     along _ _ _ (sym (append_assoc x (closer b ∷ []) v) ∙ ap (λ z. z ++ v) p.1)
     (tok_found (is_kind (opener b) t) (a ∷ Tok (closer b) ∷ κ) (x ++ closer b ∷ v) (is_itself (opener b) t p.0) (x, closer b ∷ v, refl, da, (closer b ∷ [], v, refl, here (closer b), d)))
 complete zero _ _ (by n w da) ok t u' h κ v d = cc
-complete (suc f) _ _ (by n w da) ok t u' h κ v d = complete f (meaning n) w da ok t u' h κ v d
-
-derives_along : (κ : Owed) (a b : List Kind) → a ≡ b → DerivesAll κ a → DerivesAll κ b
-derives_along κ a b e h = let P : List Kind → Type 0 = λ x. DerivesAll κ x in subst P e h
+complete (suc f) _ _ (by n w da) ok t u' h κ v d = complete f (part_expression n) w da ok t u' h κ v d
 
 pub complete_next : (κ : Owed) (t : Kind) (w : List Kind) → DerivesAll κ (t ∷ w) → Found (next κ t) w
 complete_next [] t w d = cc
 complete_next (e ∷ κ) t w (u, v, q, de, dk) = elim (split t w u v (sym q)) [
-  | inl x ↦ found_right (after 3 e κ t) _ w (found_optional (may_be_empty e) (next κ t) w (empty_right e u de x.0) (complete_next κ t w (derives_along κ v (t ∷ w) x.1 dk)))
-  | inr x ↦ found_left (after 3 e κ t) _ w (along _ _ _ (sym x.2) (complete 3 e u de (all_fit e) t x.0 x.1 κ v dk))
+  | inl x ↦ found_right (owed_after 3 e κ t) _ w (found_optional (may_be_empty e) (next κ t) w (empty_right e u de x.0) (complete_next κ t w (derives_along κ v (t ∷ w) x.1 dk)))
+  | inr x ↦ found_left (owed_after 3 e κ t) _ w (along _ _ _ (sym x.2) (complete 3 e u de (all_fit e) t x.0 x.1 κ v dk))
 ]
 
 pub complete_nexts : (s : List Owed) (t : Kind) (w : List Kind) → Found s (t ∷ w) → Found (nexts s t) w

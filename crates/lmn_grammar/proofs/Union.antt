@@ -2,7 +2,8 @@
 use Rattle.std.proofs.Common.{◌≡◌, ℕ, suc, ◌≤◌, max, List, [], ◌∷◌, ◌++◌, refl, sym, ◌∙◌, ap, arith, append_assoc, drop}
 use Rattle.lmn_grammar.specs.Reading.{Owed, next, nexts, stop, stop_at, unless_dead}
 use Rattle.lmn_lexer.specs.declared.token.Kind.{Kind}
-use Rattle.lmn_grammar.proofs.Stops.{stop_cons, stop_none, stop_from, plus_nothing}
+use Rattle.lmn_grammar.proofs.Stops.{stop_cons, stop_none, stop_from}
+use Rattle.lmn_base.proofs.Lists.{plus_nothing}
 
 nexts_append : (s s' : List Owed) (t : Kind) → nexts (s ++ s') t ≡ nexts s t ++ nexts s' t
 nexts_append [] s' t = refl

@@ -18,8 +18,8 @@ context_tail = Opt (Within Square (Tok Link) ∣ right_side)
 abbrev pub contexts : Exp
 contexts = Within Round (some_of (Tok Context))
 
-abbrev pub times : Exp
-times = Tok Star ∣ Tok Slash ∣ Tok Mod
+abbrev pub product_sign : Exp
+product_sign = Tok Star ∣ Tok Slash ∣ Tok Mod
 
 abbrev pub plus : Exp
 plus = Tok Plus ∣ Tok Minus

@@ -9,6 +9,7 @@ pub data Bracket : Type 0 where
   Square : Bracket
   Curly : Bracket
 
+-- the tokens that open and close a bracket
 abbrev pub opener : Bracket → Kind
 opener Round = LParen
 opener Square = LBracket
@@ -46,6 +47,7 @@ infixr 40 ◌∣◌
 abbrev pub ◌∣◌ : Exp → Exp → Exp
 a ∣ b = Alt a b
 
+-- more of a thing, each after a comma
 abbrev pub more_of : Exp → Exp
 more_of e = Many (Tok Comma · e)
 
@@ -119,11 +121,12 @@ clauses = Opt (Ref ClausePart · Many (Tok Dot · Ref ClausePart) · Opt (Tok Do
 abbrev pub program : Exp
 program = Ref ClausesPart · Tok End
 
-abbrev pub meaning : Part → Exp
-meaning TermPart = term
-meaning SumPart = sum
-meaning ClausePart = clause
-meaning ClausesPart = clauses
+-- the expression for which the name of a part stands
+abbrev pub part_expression : Part → Exp
+part_expression TermPart = term
+part_expression SumPart = sum
+part_expression ClausePart = clause
+part_expression ClausesPart = clauses
 
 -- the kinds are spelled by the expression
 pub data Derives : Exp → List Kind → Type 0 where
@@ -136,4 +139,4 @@ pub data Derives : Exp → List Kind → Type 0 where
   no_more : (a : Exp) → Derives (Many a) []
   one_more : (a : Exp) (u v w : List Kind) → w ≡ u ++ v → Derives a u → Derives (Many a) v → Derives (Many a) w
   inside : (b : Bracket) (a : Exp) (u w : List Kind) → w ≡ opener b ∷ (u ++ closer b ∷ []) → Derives a u → Derives (Within b a) w
-  by : (n : Part) (w : List Kind) → Derives (meaning n) w → Derives (Ref n) w
+  by : (n : Part) (w : List Kind) → Derives (part_expression n) w → Derives (Ref n) w

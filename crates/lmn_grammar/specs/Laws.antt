@@ -7,8 +7,8 @@ use Rattle.lmn_lexer.specs.declared.token.Kind.{Kind}
 use Rattle.lmn_lexer.specs.declared.token.Kind.TheVariants.{End, LParen, Comma}
 
 -- a list of kinds is refused at one place and by one code at most
-abbrev pub OneRefusal : Type 0
-OneRefusal = (kinds : List Kind) (p q c d : ℕ) → IsRefused (Derives program) kinds p c → IsRefused (Derives program) kinds q d → (p ≡ q) × (c ≡ d)
+abbrev pub OneRefusedPlace : Type 0
+OneRefusedPlace = (kinds : List Kind) (p q c d : ℕ) → IsRefused (Derives program) kinds p c → IsRefused (Derives program) kinds q d → (p ≡ q) × (c ≡ d)
 
 -- what is refused derives no program within the limits
 abbrev pub RefusedDeriveNothing : Type 0

@@ -3,6 +3,7 @@ use Rattle.std.specs.Prelude.{◌≡◌, ℕ, suc, ◌<◌, ◌⊎◌, Bool, tru
 use Rattle.lmn_lexer.specs.declared.token.Kind.{Kind}
 use Rattle.lmn_lexer.specs.declared.token.Kind.TheVariants.{Name, Quoted, Mod, Int, Context, LParen, RParen, LBracket, RBracket, LBrace, RBrace, Comma, Equal, Plus, Minus, Star, Slash}
 
+-- tokens that open a bracket, and that close one
 abbrev pub is_opener : Kind → Bool
 is_opener LParen = true
 is_opener LBracket = true
@@ -42,12 +43,12 @@ ends_operand RParen = true
 ends_operand _ = false
 
 -- a token of a side, and no operator
-abbrev pub goes_on : Kind → Bool
-goes_on Int = true
-goes_on Context = true
-goes_on LParen = true
-goes_on RParen = true
-goes_on _ = false
+abbrev pub continues_side : Kind → Bool
+continues_side Int = true
+continues_side Context = true
+continues_side LParen = true
+continues_side RParen = true
+continues_side _ = false
 
 -- The last of the tokens is one of these.
 pub record EndsWith (test : Kind → Bool) (tokens : List Kind) : Type 0 where
@@ -83,7 +84,7 @@ pub data Open : ℕ → List Kind → Type 0 where
 -- The tokens end with a stretch of one side, a sum, in which this number of operators stands.
 pub data Side : ℕ → List Kind → Type 0 where
   begins : {tokens : List Kind} → Side 0 tokens
-  operand : (token : Kind) {n : ℕ} {before : List Kind} → Side n before → goes_on token ≡ true → Side n (before ++ token ∷ [])
+  operand : (token : Kind) {n : ℕ} {before : List Kind} → Side n before → continues_side token ≡ true → Side n (before ++ token ∷ [])
   operator : (token : Kind) {n : ℕ} {before : List Kind} → Side n before → IsOperator before token → Side (suc n) (before ++ token ∷ [])
 
 -- The token opens a bracket inside 200 open ones, or is the 256th operator of a side.

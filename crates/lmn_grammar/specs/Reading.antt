@@ -1,6 +1,6 @@
 -- No public contract cites these words: reading tokens from the left, what is owed after each, in every way in which the tokens so far can be read.
 use Rattle.std.specs.Prelude.{◌≡◌, ℕ, zero, suc, Bool, true, false, List, [], ◌∷◌, ◌++◌, nat_eq, ◌&&◌, ◌||◌, Option, Some, None, if◌then◌else◌, drop}
-use Rattle.lmn_grammar.specs.Grammar.{Exp, Tok, Seq, Alt, Opt, Many, Within, Ref, Part, TermPart, SumPart, ClausePart, ClausesPart, meaning, list, opener, closer}
+use Rattle.lmn_grammar.specs.Grammar.{Exp, Tok, Seq, Alt, Opt, Many, Within, Ref, Part, TermPart, SumPart, ClausePart, ClausesPart, part_expression, list, opener, closer}
 use Rattle.lmn_lexer.specs.declared.token.Kind.{Kind}
 use Rattle.lmn_lexer.specs.declared.token.Kind.TheVariants.{Name, Quoted, Mod, Link, Int, Context, RuleCtx, End, LParen, RParen, LBracket, RBracket, LBrace, RBrace, Comma, Dot, Arrow, AtAt, Bar, Backslash, Equal, Less, LessEq, Greater, GreaterEq, NumEq, NumNe, Differ, Plus, Minus, Star, Slash}
 
@@ -9,42 +9,42 @@ abbrev pub Owed : Type 0
 Owed = List Exp
 
 -- the number of a kind
-abbrev pub number : Kind → ℕ
-number Name = 0
-number Quoted = 1
-number Mod = 2
-number Link = 3
-number Int = 4
-number Context = 5
-number RuleCtx = 6
-number End = 7
-number LParen = 8
-number RParen = 9
-number LBracket = 10
-number RBracket = 11
-number LBrace = 12
-number RBrace = 13
-number Comma = 14
-number Dot = 15
-number Arrow = 16
-number AtAt = 17
-number Bar = 18
-number Backslash = 19
-number Equal = 20
-number Less = 21
-number LessEq = 22
-number Greater = 23
-number GreaterEq = 24
-number NumEq = 25
-number NumNe = 26
-number Differ = 27
-number Plus = 28
-number Minus = 29
-number Star = 30
-number Slash = 31
+abbrev pub kind_number : Kind → ℕ
+kind_number Name = 0
+kind_number Quoted = 1
+kind_number Mod = 2
+kind_number Link = 3
+kind_number Int = 4
+kind_number Context = 5
+kind_number RuleCtx = 6
+kind_number End = 7
+kind_number LParen = 8
+kind_number RParen = 9
+kind_number LBracket = 10
+kind_number RBracket = 11
+kind_number LBrace = 12
+kind_number RBrace = 13
+kind_number Comma = 14
+kind_number Dot = 15
+kind_number Arrow = 16
+kind_number AtAt = 17
+kind_number Bar = 18
+kind_number Backslash = 19
+kind_number Equal = 20
+kind_number Less = 21
+kind_number LessEq = 22
+kind_number Greater = 23
+kind_number GreaterEq = 24
+kind_number NumEq = 25
+kind_number NumNe = 26
+kind_number Differ = 27
+kind_number Plus = 28
+kind_number Minus = 29
+kind_number Star = 30
+kind_number Slash = 31
 
 abbrev pub is_kind : Kind → Kind → Bool
-is_kind k t = nat_eq (number k) (number t)
+is_kind k t = nat_eq (kind_number k) (kind_number t)
 
 abbrev pub empty_part : Part → Bool
 empty_part TermPart = false
@@ -64,20 +64,20 @@ may_be_empty (Ref n) = empty_part n
 
 -- What may be owed after the token t, taken inside the expression behind which κ is owed.
 -- The number bounds how many parts are looked up by name.
-abbrev pub after : ℕ → Exp → Owed → Kind → List Owed
-after f (Tok k) κ t = if is_kind k t then κ ∷ [] else []
-after f (Seq a b) κ t = after f a (b ∷ κ) t ++ elim (may_be_empty a) [ true ↦ after f b κ t | false ↦ [] ]
-after f (Alt a b) κ t = after f a κ t ++ after f b κ t
-after f (Opt a) κ t = after f a κ t
-after f (Many a) κ t = after f a (Many a ∷ κ) t
-after f (Within b a) κ t = if is_kind (opener b) t then (a ∷ Tok (closer b) ∷ κ) ∷ [] else []
-after zero (Ref n) κ t = []
-after (suc f) (Ref n) κ t = after f (meaning n) κ t
+abbrev pub owed_after : ℕ → Exp → Owed → Kind → List Owed
+owed_after f (Tok k) κ t = if is_kind k t then κ ∷ [] else []
+owed_after f (Seq a b) κ t = owed_after f a (b ∷ κ) t ++ elim (may_be_empty a) [ true ↦ owed_after f b κ t | false ↦ [] ]
+owed_after f (Alt a b) κ t = owed_after f a κ t ++ owed_after f b κ t
+owed_after f (Opt a) κ t = owed_after f a κ t
+owed_after f (Many a) κ t = owed_after f a (Many a ∷ κ) t
+owed_after f (Within b a) κ t = if is_kind (opener b) t then (a ∷ Tok (closer b) ∷ κ) ∷ [] else []
+owed_after zero (Ref n) κ t = []
+owed_after (suc f) (Ref n) κ t = owed_after f (part_expression n) κ t
 
 -- three look-ups are enough: of clauses, of a clause, of a term
 abbrev pub next : Owed → Kind → List Owed
 next [] t = []
-next (e ∷ κ) t = after 3 e κ t ++ elim (may_be_empty e) [ true ↦ next κ t | false ↦ [] ]
+next (e ∷ κ) t = owed_after 3 e κ t ++ elim (may_be_empty e) [ true ↦ next κ t | false ↦ [] ]
 
 abbrev pub nexts : List Owed → Kind → List Owed
 nexts [] t = []
@@ -106,14 +106,14 @@ ReadsTo ts p e q κ = stop_at ts p ((e ∷ κ) ∷ []) ≡ stop_at ts q (κ ∷ 
 abbrev pub StopsAt : List Kind → ℕ → Exp → Owed → ℕ → Type 0
 StopsAt ts p e κ r = stop_at ts p ((e ∷ κ) ∷ []) ≡ r
 
-abbrev pub has_some : List Owed → Bool
-has_some [] = false
-has_some (κ ∷ s) = true
+abbrev pub some_owed : List Owed → Bool
+some_owed [] = false
+some_owed (κ ∷ s) = true
 
 -- the expression may begin with the token that stands there
 abbrev pub begins : Exp → Option Kind → Bool
 begins e None = false
-begins e (Some t) = has_some (after 3 e [] t)
+begins e (Some t) = some_owed (owed_after 3 e [] t)
 
 -- What may not follow a part, since the part would take it: an atom or a term.
 abbrev pub NoArgs : Owed → Type 0
@@ -147,12 +147,13 @@ EndsSum κ = (next κ Star ≡ []) × (next κ Slash ≡ []) × (next κ Mod ≡
 abbrev pub EndsCond : Owed → Type 0
 EndsCond κ = (next κ LParen ≡ []) × EndsSum κ
 
-abbrev pub is_closer : Kind → Bool
-is_closer RParen = true
-is_closer RBrace = true
-is_closer Dot = true
-is_closer End = true
-is_closer _ = false
+-- a token that may stand directly behind a clause
+abbrev pub may_follow_clause : Kind → Bool
+may_follow_clause RParen = true
+may_follow_clause RBrace = true
+may_follow_clause Dot = true
+may_follow_clause End = true
+may_follow_clause _ = false
 
 abbrev pub is_end : Kind → Bool
 is_end RBrace = true
@@ -161,7 +162,7 @@ is_end _ = false
 
 -- what follows takes only what ends a clause
 abbrev pub OnlyClosers : Owed → Type 0
-OnlyClosers κ = (t : Kind) → is_closer t ≡ false → next κ t ≡ []
+OnlyClosers κ = (t : Kind) → may_follow_clause t ≡ false → next κ t ≡ []
 
 -- what follows takes only what ends a membrane or the text
 abbrev pub OnlyEnds : Owed → Type 0

@@ -1,6 +1,6 @@
 -- No public contract cites these words: the tokens scanned from the left, for the next one that passes a limit.
 use Rattle.std.specs.Prelude.{ℕ, ◌+◌, Bool, true, false, List, [], ◌∷◌, length, nat_le, nat_lt, ◌&&◌, ◌||◌, Option, Some, None, if◌then◌else◌}
-use Rattle.lmn_grammar.specs.Limits.{is_opener, may_be_operator, goes_on}
+use Rattle.lmn_grammar.specs.Limits.{is_opener, may_be_operator, continues_side}
 use Rattle.lmn_lexer.specs.declared.token.Kind.{Kind}
 use Rattle.lmn_lexer.specs.declared.token.Kind.TheVariants.{Name, Quoted, Mod, Int, Context, LParen, RParen, LBracket, RBracket, LBrace, RBrace, Comma, Equal}
 
@@ -22,24 +22,30 @@ pub data Last : Type 0 where
   Operand : Last
   Other : Last
 
+-- the last token is '='
+abbrev pub is_equals_last : Last → Bool
+is_equals_last Equals = true
+is_equals_last _ = false
+
 -- what is open, the innermost first; the number of operators of this side so far; the last token
 pub record Scan : Type 0 where
   pub opened : List Opened
   pub operators : ℕ
   pub last : Last
 
-abbrev pub at_start : Scan
-at_start = record { opened = []; operators = 0; last = Other }
+abbrev pub scan_at_start : Scan
+scan_at_start = record { opened = []; operators = 0; last = Other }
 
-abbrev pub is_operand : Last → Bool
-is_operand (Digits l) = true
-is_operand (Closed n) = true
-is_operand Operand = true
-is_operand _ = false
+-- whether the last token ends an operand
+abbrev pub was_operand : Last → Bool
+was_operand (Digits l) = true
+was_operand (Closed n) = true
+was_operand Operand = true
+was_operand _ = false
 
 -- an operator stands directly behind an operand
 abbrev pub is_operator : Scan → Kind → Bool
-is_operator s k = may_be_operator k && is_operand s.last
+is_operator s k = may_be_operator k && was_operand s.last
 
 -- An atom that stands directly in an argument list or a '[' list, or directly behind '=', is a term: its own link
 -- is one more argument.
@@ -83,7 +89,7 @@ opened_after s Comma = one_more_begun s.opened
 opened_after s _ = s.opened
 
 abbrev pub operators_after : Scan → Kind → ℕ
-operators_after s k = if is_operator s k then s.operators + 1 else if goes_on k then s.operators else 0
+operators_after s k = if is_operator s k then s.operators + 1 else if continues_side k then s.operators else 0
 
 abbrev pub closed_by_round : List Opened → Last
 closed_by_round [] = Operand
@@ -95,7 +101,7 @@ abbrev pub last_after : Scan → Kind → Last
 last_after s Equal = Equals
 last_after s Name = Word (limit_here s)
 last_after s Quoted = Word (limit_here s)
-last_after s Mod = if is_operand s.last then Other else Word (limit_here s)
+last_after s Mod = if was_operand s.last then Other else Word (limit_here s)
 last_after s Int = Digits (limit_here s)
 last_after s Context = Operand
 last_after s RParen = closed_by_round s.opened
@@ -110,7 +116,7 @@ scan_from s (k ∷ u) = scan_from (scan_after s k) u
 
 -- what is known behind the tokens
 abbrev pub scan : List Kind → Scan
-scan u = scan_from at_start u
+scan u = scan_from scan_at_start u
 
 -- a bracket inside 200 open ones, or the 256th operator of a side
 abbrev pub is_too_deep : Scan → Kind → Bool

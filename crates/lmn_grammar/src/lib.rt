@@ -17,14 +17,7 @@ ghost use Rattle.lmn_grammar.specs.Examples.{
   LeftSide,
   BothLimits,
 };
-ghost use Rattle.lmn_grammar.specs.Laws.{
-  ArgumentsWithin,
-  BracketsWithin,
-  DerivedOrRefused,
-  OneRefusal,
-  OperatorsWithin,
-  RefusedDeriveNothing,
-};
+ghost use Rattle.lmn_grammar.specs.Laws.{ArgumentsWithin, BracketsWithin, DerivedOrRefused, OneRefusedPlace, OperatorsWithin, RefusedDeriveNothing};
 
 /// What ends with `End` derives a program within the limits, or is refused.
 pub fn derived_or_refused()
@@ -39,7 +32,7 @@ pub fn refused_derive_nothing()
 
 /// A list of kinds is refused at one token and by one code at most.
 pub fn refusals_are_one()
-    ensures { OneRefusal }
+    ensures { OneRefusedPlace }
 {}
 
 /// Within the limits no more than 200 brackets are open, no side has more than 255 operators, and no atom has more

@@ -1,11 +1,11 @@
 -- Two parts with no common atom, of which one is marked.
-use Rattle.std.proofs.Common.{◌≡◌, ◌≢◌, ℕ, suc, ◌<◌, Bool, true, List, [], ◌∷◌, length, map, None, IsSome, refl, sym, ap, subst, ◌∙◌}
+use Rattle.std.proofs.Common.{◌≡◌, ◌≢◌, ℕ, ◌<◌, Bool, true, List, length, None, IsSome, refl, sym, ap, subst, ◌∙◌}
 use Rattle.std.specs.Prelude.{slice_index_or, ◌↔◌}
 use Rattle.lmn_base.specs.Graphs.{AtomMap, Reached, at_root, SameGraph}
 use Rattle.lmn_heap.specs.Heap.{Heap, link_of, functor_of, marks_of}
 use Rattle.lmn_heap.specs.Sound.{Sound}
 use Rattle.lmn_heap.specs.Graphs.{atom_map}
-use Rattle.lmn_ground.specs.Walks.{Net, net, FoundInside, IsPart}
+use Rattle.lmn_ground.specs.Walks.{Net, net, FoundInside}
 use Rattle.lmn_ground.specs.Marks.{paint, painted, first_marks}
 use Rattle.lmn_ground.specs.Spread.{IsWhole, Spread, CleanPart}
 use Rattle.lmn_ground.specs.Follow.{Two}
@@ -13,6 +13,8 @@ use Rattle.lmn_ground.proofs.PaintLaws.{net_painted}
 use Rattle.lmn_ground.proofs.SpreadLaws.{fits_home}
 use Rattle.lmn_ground.proofs.GroundLaws.{part_atoms}
 use Rattle.lmn_ground.proofs.FollowLaws.{functor_painted, carried}
+use Rattle.lmn_parts.specs.Walks.{IsPartInDepth}
+use Rattle.lmn_base.proofs.Lists.{length_mapped as length_map}
 
 -- a part is equal to itself
 pub same_self : (m : AtomMap) (x y : ℕ × ℕ) → x.0 ≡ y.0 → x.1 ≡ y.1 → SameGraph m x m y
@@ -29,12 +31,8 @@ same_self m x y e f = subst (λ (p : ℕ × ℕ). SameGraph m x m p) (λ i. (e i
 pub same_root_functor : (s : Heap) (x y : ℕ × ℕ) → SameGraph (atom_map s) x (atom_map s) y → functor_of s y.0 ≡ functor_of s x.0
 same_root_functor s x y g = sym (ap (λ (p : ℕ × ℕ). functor_of s p.0) g.root) ∙ g.functors x.0 at_root
 
-length_map : (f : ℕ → ℕ) (xs : List ℕ) → length (map f xs) ≡ length xs
-length_map f [] = refl
-length_map f (x ∷ xs) = ap suc (length_map f xs)
-
 -- equal parts have as many atoms
-pub same_size : (s : Heap) (x y : ℕ × ℕ) (xs ys : List ℕ) → Sound s → IsWhole s x None → IsPart s x xs → IsPart s y ys → SameGraph (atom_map s) x (atom_map s) y → length xs ≡ length ys
+pub same_size : (s : Heap) (x y : ℕ × ℕ) (xs ys : List ℕ) → Sound s → IsWhole s x None → IsPartInDepth s x xs → IsPartInDepth s y ys → SameGraph (atom_map s) x (atom_map s) y → length xs ≡ length ys
 same_size s x y xs ys sound full part part' g = sym (length_map g.to xs) ∙ ap length (carried s x y xs ys sound full part part' g)
 
 unpainted : (s : Heap) (v : ℕ → ℕ) (a : ℕ) → v a ≡ 0 → first_marks (painted s v) a ≡ first_marks s a
@@ -65,7 +63,7 @@ module _ (s now : Heap) (x y : ℕ × ℕ) (m : ℕ) (all : Bool) (t : Spread s 
       let r : Reached (atom_map s) x a = subst (λ (n : AtomMap). Reached n x a) map_is given in
       ap (λ (h : Heap). first_marks h a) t.is ∙ unpainted s t.marks a (t.outside a (λ k. apart a r (t.reached a k))) ∙ clean a r
 
-  pub two_now : (xs : List ℕ) → all ≡ true → Sound now → IsWhole s x None → IsPart s x xs → ((a : ℕ) → Reached (atom_map s) x a → Reached (atom_map s) y a → ⊥) → x.1 ≡ y.1 → length xs ≡ m
+  pub two_now : (xs : List ℕ) → all ≡ true → Sound now → IsWhole s x None → IsPartInDepth s x xs → ((a : ℕ) → Reached (atom_map s) x a → Reached (atom_map s) y a → ⊥) → x.1 ≡ y.1 → length xs ≡ m
       → Two now x y xs t.seen
   two_now xs whole sound full part apart ports long = record {
     sound = sound;
@@ -80,5 +78,5 @@ module _ (s now : Heap) (x y : ℕ × ℕ) (m : ℕ) (all : Bool) (t : Spread s 
     long = long ∙ sym t.counted;
   }
 
-  pub size_now : (xs : List ℕ) → all ≡ true → Sound s → IsWhole s x None → IsPart s x xs → length xs ≢ m → SameGraph (atom_map s) x (atom_map s) y → ⊥
+  pub size_now : (xs : List ℕ) → all ≡ true → Sound s → IsWhole s x None → IsPartInDepth s x xs → length xs ≢ m → SameGraph (atom_map s) x (atom_map s) y → ⊥
   size_now xs whole sound full part d g = d (same_size s x y xs t.seen sound full part (t.whole whole) g ∙ t.counted)

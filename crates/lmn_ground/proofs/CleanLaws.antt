@@ -7,24 +7,24 @@ use Rattle.std.specs.Result.{IfOk, OnErr}
 use Rattle.std.specs.Prelude.{slice_index_or}
 use Rattle.lmn_base.specs.declared.functor.Functor.{Functor}
 use Rattle.lmn_base.specs.Graphs.{Reached}
-use Rattle.lmn_heap.specs.Heap.{Heap, HeapAtom, within, gone, IsInPlace, alter, with_mark, with_place, new_atom, links_of, marks_of, arity_of, mark_of, home_of, made_atom, made_mem, marked, placed, placed_mem, joined, taken, lone_root}
+use Rattle.lmn_heap.specs.Heap.{Heap, HeapAtom, within, gone, IsInPlace, alter, with_mark, with_place, new_atom, partners_of, marks_of, arity_of, mark_of, home_of, made_atom, made_mem, marked, placed, placed_mem, joined, taken, lone_root, PortsUnmarked, taken_all}
 use Rattle.lmn_heap.specs.Sound.{Sound}
 use Rattle.lmn_heap.specs.Graphs.{atom_map}
 use Rattle.lmn_heap.proofs.Listing.{alter_at, alter_away}
-use Rattle.lmn_ground.specs.Spread.{Clean, IsWhole, IsGround, taken_all}
+use Rattle.lmn_ground.specs.Spread.{IsWhole, IsGroundIn}
 use Rattle.lmn_ground.specs.Copies.{Copied, Remains, Beside}
-use Rattle.lmn_ground.proofs.PaintLaws.{in_or_not}
 use Rattle.lmn_ground.proofs.GroundLaws.{fits_ground}
 use Rattle.lmn_ground.proofs.JoinLaws.{joined_view, marks_linked, arity_linked}
 use Rattle.lmn_ground.proofs.CopiedLaws.{no_marks}
+use Rattle.lmn_heap.proofs.Common.{decide_in as in_or_not}
 
-clean_by : (s t : Heap) → ((a : ℕ) → arity_of t a ≡ arity_of s a) → ((a i : ℕ) → mark_of t a i ≡ mark_of s a i) → Clean s → Clean t
+clean_by : (s t : Heap) → ((a : ℕ) → arity_of t a ≡ arity_of s a) → ((a i : ℕ) → mark_of t a i ≡ mark_of s a i) → PortsUnmarked s → PortsUnmarked t
 clean_by s t e f c a i l = f a i ∙ c a i (let h = e a in omega (arith, h, l))
 
-pub clean_same : (s t : Heap) → t ≡ s → Clean s → Clean t
-clean_same s t e c = subst Clean (sym e) c
+pub clean_same : (s t : Heap) → t ≡ s → PortsUnmarked s → PortsUnmarked t
+clean_same s t e c = subst PortsUnmarked (sym e) c
 
-pub clean_lone : (s : Heap) → s ≡ lone_root → Clean s
+pub clean_lone : (s : Heap) → s ≡ lone_root → PortsUnmarked s
 clean_lone s e = clean_same lone_root s e (λ a i l. absurd (omega (arith, l)))
 
 -- a change of atoms one by one, which leaves their ports and marks
@@ -34,12 +34,12 @@ views f b h view k a = elim (cases_eq a b) [
   | inr d ↦ ap view (alter_away f b (option_map h) a d)
 ]
 
-pub clean_placed : (s t : Heap) (m b : ℕ) → t ≡ placed s m b → Clean s → Clean t
+pub clean_placed : (s t : Heap) (m b : ℕ) → t ≡ placed s m b → PortsUnmarked s → PortsUnmarked t
 clean_placed s t m b e c = clean_same (placed s m b) t e (clean_by s (placed s m b)
-    (λ a. views s.atoms b (with_place (within m)) (λ (o : Option HeapAtom). length (links_of o)) links a)
+    (λ a. views s.atoms b (with_place (within m)) (λ (o : Option HeapAtom). length (partners_of o)) links a)
     (λ a i. ap (λ (xs : List ℕ). slice_index_or xs i 0) (views s.atoms b (with_place (within m)) marks_of marks a)) c)
   where
-    links : (o : Option HeapAtom) → length (links_of (option_map (with_place (within m)) o)) ≡ length (links_of o)
+    links : (o : Option HeapAtom) → length (partners_of (option_map (with_place (within m)) o)) ≡ length (partners_of o)
     links None = refl
     links (Some x) = refl
 
@@ -47,12 +47,12 @@ clean_placed s t m b e c = clean_same (placed s m b) t e (clean_by s (placed s m
     marks None = refl
     marks (Some x) = refl
 
-clean_taken : (s : Heap) (b : ℕ) → Clean s → Clean (taken s b)
+clean_taken : (s : Heap) (b : ℕ) → PortsUnmarked s → PortsUnmarked (taken s b)
 clean_taken s b c = clean_by s (taken s b)
-    (λ a. views s.atoms b (with_place gone) (λ (o : Option HeapAtom). length (links_of o)) links a)
+    (λ a. views s.atoms b (with_place gone) (λ (o : Option HeapAtom). length (partners_of o)) links a)
     (λ a i. ap (λ (xs : List ℕ). slice_index_or xs i 0) (views s.atoms b (with_place gone) marks_of marks a)) c
   where
-    links : (o : Option HeapAtom) → length (links_of (option_map (with_place gone) o)) ≡ length (links_of o)
+    links : (o : Option HeapAtom) → length (partners_of (option_map (with_place gone) o)) ≡ length (partners_of o)
     links None = refl
     links (Some x) = refl
 
@@ -60,44 +60,44 @@ clean_taken s b c = clean_by s (taken s b)
     marks None = refl
     marks (Some x) = refl
 
-all_clean : (s : Heap) (xs : List ℕ) → Clean s → Clean (taken_all s xs)
+all_clean : (s : Heap) (xs : List ℕ) → PortsUnmarked s → PortsUnmarked (taken_all s xs)
 all_clean s [] c = c
 all_clean s (x ∷ xs) c = all_clean (taken s x) xs (clean_taken s x c)
 
-pub clean_all_taken : (s t : Heap) (xs : List ℕ) → t ≡ taken_all s xs → Clean s → Clean t
+pub clean_all_taken : (s t : Heap) (xs : List ℕ) → t ≡ taken_all s xs → PortsUnmarked s → PortsUnmarked t
 clean_all_taken s t xs e c = clean_same (taken_all s xs) t e (all_clean s xs c)
 
-pub clean_joined : (s t : Heap) (a i b j : ℕ) → t ≡ joined s a i b j → Clean s → Clean t
+pub clean_joined : (s t : Heap) (a i b j : ℕ) → t ≡ joined s a i b j → PortsUnmarked s → PortsUnmarked t
 clean_joined s t a i b j e c = clean_same (joined s a i b j) t e (clean_by s (joined s a i b j)
-    (λ x. joined_view (λ (o : Option HeapAtom). length (links_of o)) arity_linked s a i b j x)
+    (λ x. joined_view (λ (o : Option HeapAtom). length (partners_of o)) arity_linked s a i b j x)
     (λ x k. ap (λ (xs : List ℕ). slice_index_or xs k 0) (joined_view marks_of marks_linked s a i b j x)) c)
 
-pub clean_made : (s t : Heap) (b : ℕ) (f : Functor) → t ≡ made_atom s b f → Clean s → Clean t
+pub clean_made : (s t : Heap) (b : ℕ) (f : Functor) → t ≡ made_atom s b f → PortsUnmarked s → PortsUnmarked t
 clean_made s t b f e c = clean_same (made_atom s b f) t e (λ a i l. elim (cases_eq a b) [
   | inl h ↦ subst (λ (z : ℕ). mark_of (made_atom s b f) z i ≡ 0) (sym h) (ap (λ (o : Option HeapAtom). slice_index_or (marks_of o) i 0) (alter_at s.atoms b (λ _. Some (new_atom f))) ∙ no_marks (f.arity + 1) i)
   | inr d ↦ ap (λ (o : Option HeapAtom). slice_index_or (marks_of o) i 0) (alter_away s.atoms b (λ _. Some (new_atom f)) a d)
-      ∙ c a i (let h = ap (λ (o : Option HeapAtom). length (links_of o)) (alter_away s.atoms b (λ _. Some (new_atom f)) a d) in omega (arith, h, l))
+      ∙ c a i (let h = ap (λ (o : Option HeapAtom). length (partners_of o)) (alter_away s.atoms b (λ _. Some (new_atom f)) a d) in omega (arith, h, l))
 ])
 
-pub clean_made_mem : (s t : Heap) (m : ℕ) → t ≡ made_mem s m → Clean s → Clean t
+pub clean_made_mem : (s t : Heap) (m : ℕ) → t ≡ made_mem s m → PortsUnmarked s → PortsUnmarked t
 clean_made_mem s t m e c = clean_same (made_mem s m) t e c
 
-pub clean_placed_mem : (s t : Heap) (m n : ℕ) → t ≡ placed_mem s m n → Clean s → Clean t
+pub clean_placed_mem : (s t : Heap) (m n : ℕ) → t ≡ placed_mem s m n → PortsUnmarked s → PortsUnmarked t
 clean_placed_mem s t m n e c = clean_same (placed_mem s m n) t e c
 
 -- the own mark is no port's
-pub clean_own : (s t : Heap) (b k v : ℕ) → t ≡ marked s b k v → k ≡ arity_of s b → Clean s → Clean t
+pub clean_own : (s t : Heap) (b k v : ℕ) → t ≡ marked s b k v → k ≡ arity_of s b → PortsUnmarked s → PortsUnmarked t
 clean_own s t b k v e own c = clean_same (marked s b k v) t e (λ a i l. elim (cases_eq a b) [
   | inl h ↦ subst (λ (z : ℕ). mark_of (marked s b k v) z i ≡ 0) (sym h) (
       let m : i < arity_of (marked s b k v) b = subst (λ (z : ℕ). i < arity_of (marked s b k v) z) h l in
-      let n = views s.atoms b (with_mark k v) (λ (o : Option HeapAtom). length (links_of o)) links b in
+      let n = views s.atoms b (with_mark k v) (λ (o : Option HeapAtom). length (partners_of o)) links b in
       let low : i < arity_of s b = omega (arith, m, n) in
       ap (λ (o : Option HeapAtom). slice_index_or (marks_of o) i 0) (alter_at s.atoms b (option_map (with_mark k v))) ∙ other i (s.atoms b) (λ (q : i ≡ k). absurd (omega (arith, q, own, low))) ∙ c b i low)
   | inr d ↦ ap (λ (o : Option HeapAtom). slice_index_or (marks_of o) i 0) (alter_away s.atoms b (option_map (with_mark k v)) a d)
-      ∙ c a i (let h = ap (λ (o : Option HeapAtom). length (links_of o)) (alter_away s.atoms b (option_map (with_mark k v)) a d) in omega (arith, h, l))
+      ∙ c a i (let h = ap (λ (o : Option HeapAtom). length (partners_of o)) (alter_away s.atoms b (option_map (with_mark k v)) a d) in omega (arith, h, l))
 ])
   where
-    links : (o : Option HeapAtom) → length (links_of (option_map (with_mark k v) o)) ≡ length (links_of o)
+    links : (o : Option HeapAtom) → length (partners_of (option_map (with_mark k v) o)) ≡ length (partners_of o)
     links None = refl
     links (Some x) = refl
 
@@ -105,41 +105,41 @@ clean_own s t b k v e own c = clean_same (marked s b k v) t e (λ a i l. elim (c
     other i None d = refl
     other i (Some x) d = get_or-set_other x.marks k i v 0 d
 
-clean_beside : (s t : Heap) (ys : List ℕ) → Beside s t ys → Clean s → Clean t
+clean_beside : (s t : Heap) (ys : List ℕ) → Beside s t ys → PortsUnmarked s → PortsUnmarked t
 clean_beside s t ys b c a i l = elim (in_or_not a ys) [
   | inl k ↦ b.marks a i k
   | inr d ↦
-      let h = ap (λ (o : Option HeapAtom). length (links_of o)) (b.kept a d) in
+      let h = ap (λ (o : Option HeapAtom). length (partners_of o)) (b.kept a d) in
       ap (λ (o : Option HeapAtom). slice_index_or (marks_of o) i 0) (b.kept a d) ∙ c a i (omega (arith, h, l))
 ]
 
-pub clean_copied : (s t : Heap) (x y : ℕ × ℕ) → Copied s t x y → Clean s → Clean t
+pub clean_copied : (s t : Heap) (x y : ℕ × ℕ) → Copied s t x y → PortsUnmarked s → PortsUnmarked t
 clean_copied s t x y h c = clean_beside s t h.copies h.beside c
 
-pub clean_remains : (s t : Heap) → Remains s t → Clean s → Clean t
+pub clean_remains : (s t : Heap) → Remains s t → PortsUnmarked s → PortsUnmarked t
 clean_remains s t h c = clean_beside s t h.copies h.beside c
 
 -- what is ground in a membrane
 
-pub ground_full : (s t : Heap) (root : ℕ × ℕ) (home : ℕ) → Sound s → IsGround s root home → t ≡ s → IsWhole t root None
+pub ground_full : (s t : Heap) (root : ℕ × ℕ) (home : ℕ) → Sound s → IsGroundIn s root home → t ≡ s → IsWhole t root None
 ground_full s t root home sound g e =
     let f = (fits_ground s root home sound).1 g in
     subst (λ (h : Heap). IsWhole h root None) (sym e) (record { atoms = λ a r. tt; ends = f.ends })
 
-pub ground_placed : (s t : Heap) (root : ℕ × ℕ) (home : ℕ) → IsGround s root home → t ≡ s → (a : ℕ) → Reached (atom_map t) root a → IsInPlace t a
+pub ground_placed : (s t : Heap) (root : ℕ × ℕ) (home : ℕ) → IsGroundIn s root home → t ≡ s → (a : ℕ) → Reached (atom_map t) root a → IsInPlace t a
 ground_placed s t root home g e = subst (λ (h : Heap). (a : ℕ) → Reached (atom_map h) root a → IsInPlace h a) (sym e) (λ a r. by (home_of s a) (g.whole.at_home a r))
   where
     by : (o : Option ℕ) → o ≡ Some home → IsSome o
     by None q = absurd (cc)
     by (Some m) q = refl
 
-pub ground_apart : (s t : Heap) (x y : ℕ × ℕ) (m n : ℕ) → IsGround s x m → IsGround s y n → m ≢ n → t ≡ s → (a : ℕ) → Reached (atom_map t) x a → Reached (atom_map t) y a → ⊥
+pub ground_apart : (s t : Heap) (x y : ℕ × ℕ) (m n : ℕ) → IsGroundIn s x m → IsGroundIn s y n → m ≢ n → t ≡ s → (a : ℕ) → Reached (atom_map t) x a → Reached (atom_map t) y a → ⊥
 ground_apart s t x y m n g h d e = subst (λ (k : Heap). (a : ℕ) → Reached (atom_map k) x a → Reached (atom_map k) y a → ⊥) (sym e) (λ a p q.
     let f : ◌≡◌ {A = Option ℕ} (Some m) (Some n) = sym (g.whole.at_home a p) ∙ h.whole.at_home a q in
     let f' : m ≡ n = (cc) in
     d f')
 
-pub clean_answer : {A E : Type 0} (s t : Heap) (r : Result A E) (x : ℕ × ℕ) (y : A → ℕ × ℕ) → IfOk r (λ c. Copied s t x (y c)) → OnErr r (Remains s t) → Clean s → Clean t
+pub clean_answer : {A E : Type 0} (s t : Heap) (r : Result A E) (x : ℕ × ℕ) (y : A → ℕ × ℕ) → IfOk r (λ c. Copied s t x (y c)) → OnErr r (Remains s t) → PortsUnmarked s → PortsUnmarked t
 clean_answer s t (Ok c) x y h e k = clean_copied s t x (y c) h k
 clean_answer s t (Err n) x y h e k = clean_remains s t e k
 

@@ -5,7 +5,7 @@ use Rattle.lmn_heap.specs.Heap.{Heap, In, IsAtom, marked, arity_of, link_of}
 use Rattle.lmn_heap.specs.Sound.{Sound}
 use Rattle.lmn_heap.specs.Graphs.{atom_map}
 use Rattle.lmn_ground.specs.Walks.{Net, net, ports_from, is_port}
-use Rattle.lmn_ground.specs.Marks.{first_marks, entry, or_zero, back, way, behind}
+use Rattle.lmn_ground.specs.Marks.{first_marks, entry_port, or_zero, back, way, ports_behind}
 use Rattle.lmn_ground.specs.Spread.{Spread, Spreading}
 use Rattle.lmn_ground.specs.Follow.{Two, Following}
 use Rattle.lmn_ground.proofs.SoughtLaws.{weight, weight_back, length-ports, root_port, other_port}
@@ -38,9 +38,9 @@ enter_lighter s now to x home seen depth a i b j count m made t sound low link p
         let here : w b ≡ 512 + 256 * count + j = ap (λ (h : Heap). first_marks h b) made ∙ mark_here now b (512 + 256 * count + j) (marks_there now b sound (omega (arith, port))) in
         let same : (z : ℕ) → In z (way n v depth a) → w z ≡ v z = λ z k. ap (λ (h : Heap). first_marks h z) made
         ∙ mark_away now b (512 + 256 * count + j) z (λ f. new (subst (λ (y : ℕ). In y seen) f (t.way_seen z (subst (λ (y : Net). In z (way y v depth a)) e k)))) in
-        let mark : entry (w b) ≡ j = ap entry here ∙ entry_is count j small in
+        let mark : entry_port (w b) ≡ j = ap entry_port here ∙ entry_is count j small in
         let l = ap length (behind_enter n v w depth a i b j same mark link) in
-        let p = length-append (ports_from n a (i + 1)) (behind n v depth a) in
+        let p = length-append (ports_from n a (i + 1)) (ports_behind n v depth a) in
         let k = length-ports a (i + 1) (n.arity a - (i + 1)) in
         omega (arith, l, p, k, low, few_ports, few)
 

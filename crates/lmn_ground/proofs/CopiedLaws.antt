@@ -6,18 +6,18 @@ use Rattle.std.specs.Result.{IfOk, OnErr}
 use Rattle.std.specs.Prelude.{slice_get, slice_index_or, replicate}
 use Rattle.lmn_base.specs.declared.functor.Functor.{Functor}
 use Rattle.lmn_base.specs.Graphs.{Reached, at_root, across, SameGraph}
-use Rattle.lmn_heap.specs.Heap.{Heap, HeapAtom, In, waiting, IsAtom, with_link, new_atom, links_of, marks_of, functor_of, link_of, arity_of, place_of, joined}
+use Rattle.lmn_heap.specs.Heap.{Heap, HeapAtom, In, waiting, IsAtom, with_link, new_atom, partners_of, marks_of, functor_of, link_of, arity_of, place_of, joined}
 use Rattle.lmn_heap.specs.Conditions.{Alone}
 use Rattle.lmn_heap.specs.Sound.{Paired, Sound}
 use Rattle.lmn_heap.specs.Graphs.{atom_map}
-use Rattle.lmn_ground.specs.Walks.{HasPort, Net, net, ports, IsPart}
+use Rattle.lmn_ground.specs.Walks.{HasPort, Net, net}
 use Rattle.lmn_ground.specs.Marks.{paint, painted, first_marks}
 use Rattle.lmn_ground.specs.Spread.{IsWhole, Numbered}
 use Rattle.lmn_ground.specs.Follow.{answer}
-use Rattle.lmn_ground.specs.Copies.{made_as, made_like, moved, joined_like, all_joined, ports_of, copied, unmarked_all, AreNew, AllAtoms, LeadsOut, Beside, Copied, Remains, Numbers, Made, Copying, Gathered}
+use Rattle.lmn_ground.specs.Copies.{made_as, made_like, moved, joined_like, all_joined, ports_of, copied, unmarked_all, AreNew, AllAtoms, LeadsOut, Beside, Copied, Remains, NumbersAtoms, Made, Copying, Gathered}
 use Rattle.lmn_ground.proofs.WalkLaws.{holds_left, holds_right, holds_port}
-use Rattle.lmn_ground.proofs.PaintLaws.{net_painted, is_painted, in_or_not}
-use Rattle.lmn_ground.proofs.SpreadLaws.{link_inside, part_reached}
+use Rattle.lmn_ground.proofs.PaintLaws.{net_painted, is_painted}
+use Rattle.lmn_ground.proofs.SpreadLaws.{part_reached}
 use Rattle.lmn_ground.proofs.GroundLaws.{part_atoms}
 use Rattle.lmn_ground.proofs.EqualLaws.{answer_here, answer_in, answer_one, answer_onto, same_pair}
 use Rattle.lmn_parts.proofs.AnswerLaws.{map_answer}
@@ -26,14 +26,9 @@ use Rattle.lmn_ground.proofs.FollowLaws.{walked}
 use Rattle.lmn_ground.proofs.JoinLaws.{like_by, all_view, all_marks, all_copying, all_away, all_joins}
 use Rattle.lmn_ground.proofs.CopyLaws.{length_map, made_away, made_new, made_at, is_not, has_functor, as_there, as_new}
 use Rattle.lmn_ground.proofs.PaintedLaws.{all_painted, ports_painted, made_painted, unmarked_painted}
-
-abbrev no_port : Option (ℕ × ℕ)
-no_port = None
-
-no_links : (n i : ℕ) → slice_index_or (replicate n no_port) i None ≡ None
-no_links zero i = refl
-no_links (suc n) zero = refl
-no_links (suc n) (suc i) = no_links n i
+use Rattle.lmn_parts.specs.Walks.{port_range, IsPartInDepth}
+use Rattle.lmn_heap.proofs.Common.{decide_in as in_or_not, no_links, no_port}
+use Rattle.lmn_heap.proofs.Replacing.{port_within as link_inside}
 
 abbrev no_mark : ℕ
 no_mark = 0
@@ -44,7 +39,7 @@ no_marks (suc n) zero = refl
 no_marks (suc n) (suc i) = no_marks n i
 
 link_at : (s : Heap) (y i : ℕ) (f : Functor) → s.atoms y ≡ Some (new_atom f) → link_of s y i ≡ None
-link_at s y i f e = ap (λ (o : Option HeapAtom). slice_index_or (links_of o) i None) e ∙ no_links f.arity i
+link_at s y i f e = ap (λ (o : Option HeapAtom). slice_index_or (partners_of o) i None) e ∙ no_links f.arity i
 
 -- making changes no other part of the heap
 made_rest : {X : Type 0} (view : Heap → X) → ((s : Heap) (y : ℕ) (o : Option Functor) → view (made_as s y o) ≡ view s) → (s : Heap) (xs ys : List ℕ) → view (made_like s xs ys) ≡ view s
@@ -115,7 +110,7 @@ functor_linked i p None = refl
 functor_linked i p (Some x) = refl
 
 -- A heap s, in which a part is to be copied; u is the heap in which the copies are made: s, perhaps with other marks.
-module _ (s u : Heap) (root : ℕ × ℕ) (xs ys : List ℕ) (sound : Sound s) (sound' : Sound u) (nets : net u ≡ net s) (part : IsPart s root xs) (there : AllAtoms u xs) (fresh : AreNew u ys)
+module _ (s u : Heap) (root : ℕ × ℕ) (xs ys : List ℕ) (sound : Sound s) (sound' : Sound u) (nets : net u ≡ net s) (part : IsPartInDepth s root xs) (there : AllAtoms u xs) (fresh : AreNew u ys)
     (long : length ys ≡ length xs) (outside : LeadsOut s root) where
   abbrev made : Heap
   made = made_like u xs ys
@@ -127,7 +122,7 @@ module _ (s u : Heap) (root : ℕ × ℕ) (xs ys : List ℕ) (sound : Sound s) (
   made_kept c d = made_away u xs ys c d
 
   link_made : (c k : ℕ) → (In c ys → ⊥) → link_of made c k ≡ link_of s c k
-  link_made c k d = ap (λ (o : Option HeapAtom). slice_index_or (links_of o) k None) (made_kept c d) ∙ ap (λ (n : Net). n.link c k) nets
+  link_made c k d = ap (λ (o : Option HeapAtom). slice_index_or (partners_of o) k None) (made_kept c d) ∙ ap (λ (n : Net). n.link c k) nets
 
   link_new : (y k : ℕ) → In y ys → link_of made y k ≡ None
   link_new y k i = let m = made_new u xs ys y there fresh (omega (arith, long)) i in link_at made y k m.0 m.1
@@ -139,7 +134,7 @@ module _ (s u : Heap) (root : ℕ × ℕ) (xs ys : List ℕ) (sound : Sound s) (
   partner_old : (b j a i : ℕ) → link_of s b j ≡ Some (a, i) → (In b ys → ⊥)
   partner_old b j a i e k =
       let f : link_of u b j ≡ Some (a, i) = subst (λ (n : Net). n.link b j ≡ Some (a, i)) (sym nets) e in
-      let g : ◌≡◌ {A = Option (ℕ × ℕ)} None (Some (a, i)) = sym (ap (λ (o : Option HeapAtom). slice_index_or (links_of o) j None) (fresh.1 b k)) ∙ f in absurd (cc)
+      let g : ◌≡◌ {A = Option (ℕ × ℕ)} None (Some (a, i)) = sym (ap (λ (o : Option HeapAtom). slice_index_or (partners_of o) j None) (fresh.1 b k)) ∙ f in absurd (cc)
 
   made_paired : Paired made
   made_paired = record {
@@ -159,9 +154,9 @@ module _ (s u : Heap) (root : ℕ × ℕ) (xs ys : List ℕ) (sound : Sound s) (
   arity_new : (a : ℕ) → In a xs → arity_of made (answer xs ys a) ≡ arity_of made a
   arity_new a i =
       let f = has_functor u a (there a i) in
-      ap (λ (o : Option HeapAtom). length (links_of o)) (made_at u xs ys a there fresh (part_atoms s root xs part).0 long i ∙ ap (option_map new_atom) f.1)
+      ap (λ (o : Option HeapAtom). length (partners_of o)) (made_at u xs ys a there fresh (part_atoms s root xs part).0 long i ∙ ap (option_map new_atom) f.1)
       ∙ length-replicate f.0.arity no_port
-      ∙ sym (ap (λ (o : Option HeapAtom). length (links_of o)) (made_kept a (not_new a i)) ∙ sound'.shaped.ports a f.0 f.1)
+      ∙ sym (ap (λ (o : Option HeapAtom). length (partners_of o)) (made_kept a (not_new a i)) ∙ sound'.shaped.ports a f.0 f.1)
 
   pub copying_made : Copying made root xs ys
   copying_made = record {
@@ -184,11 +179,11 @@ module _ (s u : Heap) (root : ℕ × ℕ) (xs ys : List ℕ) (sound : Sound s) (
 -- all ports of these atoms
 port_in : (s : Heap) (xs : List ℕ) (a i : ℕ) → In a xs → i < arity_of s a → HasPort (a, i) (ports_of s xs)
 port_in s [] a i k l = absurd k
-port_in s (x ∷ xs) a i (inl e) l = holds_left (a, i) (ports x 0 (arity_of s x)) (ports_of s xs)
-    (subst (λ (z : ℕ). HasPort (z, i) (ports x 0 (arity_of s x))) e (holds_port x 0 (arity_of s x) i (omega arith) (let m : i < arity_of s x = subst (λ (z : ℕ). i < arity_of s z) (sym e) l in omega (arith, m))))
-port_in s (x ∷ xs) a i (inr k) l = holds_right (a, i) (ports x 0 (arity_of s x)) (ports_of s xs) (port_in s xs a i k l)
+port_in s (x ∷ xs) a i (inl e) l = holds_left (a, i) (port_range x 0 (arity_of s x)) (ports_of s xs)
+    (subst (λ (z : ℕ). HasPort (z, i) (port_range x 0 (arity_of s x))) e (holds_port x 0 (arity_of s x) i (omega arith) (let m : i < arity_of s x = subst (λ (z : ℕ). i < arity_of s z) (sym e) l in omega (arith, m))))
+port_in s (x ∷ xs) a i (inr k) l = holds_right (a, i) (port_range x 0 (arity_of s x)) (ports_of s xs) (port_in s xs a i k l)
 
-ports_within : (all : List ℕ) (x i n : ℕ) (ps : List (ℕ × ℕ)) (p : ℕ × ℕ) → In x all → (HasPort p ps → In p.0 all) → HasPort p (ports x i n ++ ps) → In p.0 all
+ports_within : (all : List ℕ) (x i n : ℕ) (ps : List (ℕ × ℕ)) (p : ℕ × ℕ) → In x all → (HasPort p ps → In p.0 all) → HasPort p (port_range x i n ++ ps) → In p.0 all
 ports_within all x i zero ps p x_in h k = h k
 ports_within all x i (suc n) ps p x_in h (inl e) = subst (λ (q : ℕ × ℕ). In q.0 all) e x_in
 ports_within all x i (suc n) ps p x_in h (inr k) = ports_within all x (i + 1) n ps p x_in h k
@@ -197,7 +192,7 @@ ports_of_in : (s : Heap) (xs all : List ℕ) → ((x : ℕ) → In x xs → In x
 ports_of_in s [] all h p k = absurd k
 ports_of_in s (x ∷ xs) all h p k = ports_within all x 0 (arity_of s x) (ports_of s xs) p (h x (inl refl)) (λ m. ports_of_in s xs all (λ z i. h z (inr i)) p m) k
 
-module _ (s : Heap) (root : ℕ × ℕ) (xs ys : List ℕ) (sound : Sound s) (full : IsWhole s root None) (part : IsPart s root xs) (there : AllAtoms s xs) (fresh : AreNew s ys)
+module _ (s : Heap) (root : ℕ × ℕ) (xs ys : List ℕ) (sound : Sound s) (full : IsWhole s root None) (part : IsPartInDepth s root xs) (there : AllAtoms s xs) (fresh : AreNew s ys)
     (long : length ys ≡ length xs) (outside : LeadsOut s root) where
   abbrev start : Heap
   start = made_like s xs ys
@@ -227,15 +222,15 @@ module _ (s : Heap) (root : ℕ × ℕ) (xs ys : List ℕ) (sound : Sound s) (fu
   old_atom c d = all_away root xs ys start (ports_of start xs) start_copying held c d ∙ made_away s xs ys c d
 
   link_t : (a i : ℕ) → In a xs → link_of t a i ≡ link_of s a i
-  link_t a i k = ap (λ (o : Option HeapAtom). slice_index_or (links_of o) i None) (old_atom a (start_copying.apart a k))
+  link_t a i k = ap (λ (o : Option HeapAtom). slice_index_or (partners_of o) i None) (old_atom a (start_copying.apart a k))
 
   arity_t : (a : ℕ) → In a xs → arity_of t (answer xs ys a) ≡ arity_of s a
-  arity_t a k = end_copying.arities a k ∙ ap (λ (o : Option HeapAtom). length (links_of o)) (old_atom a (start_copying.apart a k))
+  arity_t a k = end_copying.arities a k ∙ ap (λ (o : Option HeapAtom). length (partners_of o)) (old_atom a (start_copying.apart a k))
 
   -- where the copy of a port leads
   forth : (a b i j : ℕ) → In a xs → In b xs → link_of s a i ≡ Some (b, j) → link_of t (answer xs ys a) i ≡ Some (answer xs ys b, j)
   forth a b i j k l e =
-      let start_link : link_of start a i ≡ Some (b, j) = ap (λ (o : Option HeapAtom). slice_index_or (links_of o) i None) (made_away s xs ys a (start_copying.apart a k)) ∙ e in
+      let start_link : link_of start a i ≡ Some (b, j) = ap (λ (o : Option HeapAtom). slice_index_or (partners_of o) i None) (made_away s xs ys a (start_copying.apart a k)) ∙ e in
       let r = all_joins root xs ys start (ports_of start xs) start_copying held a i (port_in start xs a i k (link_inside start a i (b, j) start_link))
       (λ same. outside b j (reached b l) (ap (λ (p : ℕ × ℕ). link_of s p.0 p.1) (sym same) ∙ e)) (subst (λ (o : Option (ℕ × ℕ)). IsSome o) (sym start_link) refl) in
       r.2 ∙ ap (option_map (moved (answer xs ys))) (link_t a i k ∙ e)
@@ -304,9 +299,9 @@ module _ (s : Heap) (root : ℕ × ℕ) (xs ys : List ℕ) (sound : Sound s) (fu
   unfolding copied_same
   answers_are a = refl
 
-  pub copied_part : IsPart t new_root ys
+  pub copied_part : IsPartInDepth t new_root ys
   unfolding copied_same
-  copied_part = subst (IsPart t new_root) (map_answer xs ys (part_atoms s root xs part).0 long)
+  copied_part = subst (IsPartInDepth t new_root) (map_answer xs ys (part_atoms s root xs part).0 long)
       (walked s t root new_root xs copied_same (λ a r. arity_t a (in_xs a r)) full part)
 
   pub copied_free : link_of t new_root.0 new_root.1 ≡ None
@@ -331,7 +326,7 @@ module _ (s : Heap) (root : ℕ × ℕ) (xs ys : List ℕ) (sound : Sound s) (fu
       }
 
 -- the copy of the root's atom is the first
-pub first_answer : {A : Type 0} (id : A → ℕ) (s : Heap) (root : ℕ × ℕ) (xs : List ℕ) (ys : List A) (c : A) → IsPart s root xs → slice_get ys 0 ≡ Some c → id c ≡ answer xs (map id ys) root.0
+pub first_answer : {A : Type 0} (id : A → ℕ) (s : Heap) (root : ℕ × ℕ) (xs : List ℕ) (ys : List A) (c : A) → IsPartInDepth s root xs → slice_get ys 0 ≡ Some c → id c ≡ answer xs (map id ys) root.0
 first_answer id s root xs [] c part e = absurd (cc)
 first_answer id s root xs (y ∷ ys) c part e =
     let g : y ≡ c = (cc) in
@@ -339,7 +334,7 @@ first_answer id s root xs (y ∷ ys) c part e =
     subst (λ (zs : List ℕ). id c ≡ answer zs (id y ∷ map id ys) root.0) (sym r.1)
     (ap id (sym g) ∙ sym (answer_here root.0 (id y) r.0 (map id ys) root.0 refl))
 
-pub some_first : {A : Type 0} (id : A → ℕ) (s : Heap) (root : ℕ × ℕ) (xs ys : List A) → IsPart s root (map id xs) → length ys ≡ length xs → 0 < length ys
+pub some_first : {A : Type 0} (id : A → ℕ) (s : Heap) (root : ℕ × ℕ) (xs ys : List A) → IsPartInDepth s root (map id xs) → length ys ≡ length xs → 0 < length ys
 some_first id s root xs ys part e =
     let r = begins (net s).arity _ part in
     let l = ap (λ (zs : List ℕ). length zs) r.1 in
@@ -347,7 +342,7 @@ some_first id s root xs ys part e =
     omega (arith, l, m, e)
 
 -- What a walk leaves: numbers in the marks of some atoms.
-module _ (s now : Heap) (xs : List ℕ) (marks : Numbers s now xs) where
+module _ (s now : Heap) (xs : List ℕ) (marks : NumbersAtoms s now xs) where
   pub numbers_there : AllAtoms now xs
   numbers_there x k = subst (λ (h : Heap). IsAtom h x) (sym marks.is) (is_painted s marks.marks x (marks.there x k))
 
@@ -441,21 +436,16 @@ module _ (s now : Heap) (xs : List ℕ) (marks : Numbers s now xs) where
             same = same.0;
             long = long;
             answers = same.1;
-            in_order = subst (λ (h : Heap). IsPart h (answer xs ys root.0, root.1) ys) (sym f) (copied_part s root xs ys sound full found.part marks.there fresh long outside);
+            in_order = subst (λ (h : Heap). IsPartInDepth h (answer xs ys root.0, root.1) ys) (sym f) (copied_part s root xs ys sound full found.part marks.there fresh long outside);
             free = subst (λ (h : Heap). link_of h (answer xs ys root.0) root.1 ≡ None) (sym f) (copied_free s root xs ys sound full found.part marks.there fresh long outside);
           }
-
--- what holds at want of memory, where it holds in any case
-pub on_err : {T E : Type 0} (r : Result T E) (Q : Type 0) → Q → OnErr r Q
-on_err (Ok x) Q q = tt
-on_err (Err e) Q q = q
 
 -- Detached atoms are joined to detached atoms alone, if they were before.
 beside_alone : (s t : Heap) (ys : List ℕ) → Beside s t ys → Alone s → Alone t
 beside_alone s t ys d h a i b j place link = elim (in_or_not a ys) [
   | inl k ↦ d.places b (d.alone a i b j k link)
   | inr n ↦
-      let was : place_of s b ≡ Some waiting = h a i b j (sym (ap (option_map (λ (x : HeapAtom). x.place)) (d.kept a n)) ∙ place) (sym (ap (λ (o : Option HeapAtom). slice_index_or (links_of o) i None) (d.kept a n)) ∙ link) in
+      let was : place_of s b ≡ Some waiting = h a i b j (sym (ap (option_map (λ (x : HeapAtom). x.place)) (d.kept a n)) ∙ place) (sym (ap (λ (o : Option HeapAtom). slice_index_or (partners_of o) i None) (d.kept a n)) ∙ link) in
       ap (option_map (λ (x : HeapAtom). x.place)) (d.kept b (λ k. gone_by (s.atoms b) (d.fresh.1 b k) was)) ∙ was
 ]
   where

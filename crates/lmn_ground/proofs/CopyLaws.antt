@@ -8,23 +8,20 @@ use Rattle.lmn_base.specs.declared.functor.Functor.{Functor}
 use Rattle.lmn_heap.specs.Heap.{Heap, HeapAtom, In, Distinct, IsAtom, alter, with_mark, new_atom, functor_of, link_of, arity_of, joined, made_atom, marked}
 use Rattle.lmn_heap.proofs.ListLemmas.{each_in}
 use Rattle.lmn_heap.proofs.Listing.{alter_at, alter_away, distinct_snoc}
-use Rattle.lmn_ground.specs.Walks.{ports, is_port}
+use Rattle.lmn_ground.specs.Walks.{is_port}
 use Rattle.lmn_ground.specs.Marks.{first_marks}
 use Rattle.lmn_ground.specs.Spread.{Numbered}
 use Rattle.lmn_ground.specs.Follow.{answer}
 use Rattle.lmn_ground.specs.Copies.{made_as, made_like, joined_like, all_joined, ports_of, unmarked_all, AreNew, AllAtoms, Made, Copying}
 use Rattle.lmn_ground.proofs.EqualLaws.{answer_here, answer_on}
-use Rattle.lmn_ground.proofs.NumberLaws.{numbered_low}
+use Rattle.lmn_ground.proofs.NumberLaws.{numbered_low, rest_in}
 use Rattle.lmn_ground.proofs.WalkLaws.{in_snoc}
 use Rattle.lmn_ground.proofs.JoinLaws.{like_some, like_copying, like_numbers, like_arity, all_append, all_copying, all_numbers, all_arity, ports_in, copies_differ}
 use Rattle.lmn_ground.proofs.SoughtLaws.{same_port}
+use Rattle.lmn_parts.specs.Walks.{port_range}
+use Rattle.lmn_heap.proofs.Common.{in_at}
 
 -- lists
-
-get_in : (xs : List ℕ) (k x : ℕ) → slice_get xs k ≡ Some x → In x xs
-get_in [] k x e = absurd (cc)
-get_in (y ∷ xs) zero x e = let h : y ≡ x = (cc) in inl h
-get_in (y ∷ xs) (suc k) x e = inr (get_in xs k x e)
 
 drop_get : (xs : List ℕ) (k x : ℕ) → slice_get xs k ≡ Some x → drop k xs ≡ x ∷ drop (suc k) xs
 drop_get [] k x e = absurd (cc)
@@ -35,7 +32,7 @@ get_map : {A : Type 0} (id : A → ℕ) (xs : List A) (k : ℕ) (a : A) → slic
 get_map id xs k a e = slice_get-map id xs k ∙ ap (option_map id) e
 
 pub member : {A : Type 0} (id : A → ℕ) (xs : List A) (k : ℕ) (a : A) → slice_get xs k ≡ Some a → In (id a) (map id xs)
-member id xs k a e = get_in (map id xs) k (id a) (get_map id xs k a e)
+member id xs k a e = in_at (map id xs) k (id a) (get_map id xs k a e)
 
 pub drop_map : {A : Type 0} (id : A → ℕ) (xs : List A) (k : ℕ) (a : A) → slice_get xs k ≡ Some a → drop k (map id xs) ≡ id a ∷ drop (k + 1) (map id xs)
 drop_map id xs k a e = drop_get (map id xs) k (id a) (get_map id xs k a e) ∙ ap (λ (n : ℕ). id a ∷ drop n (map id xs)) (sym (add-one k))
@@ -58,10 +55,6 @@ pub one_longer : {A : Type 0} (xs : List A) (a : A) (ys : List A) (k : ℕ) → 
 one_longer xs a ys k h e = let l = length-append xs (a ∷ []) in let g = ap (λ zs. length zs) e in omega (arith, h, l, g)
 
 -- the copy with the number of an atom
-
-rest_in : (s p : ℕ) (ss : List ℕ) → In p (s ∷ ss) → (s ≡ p → ⊥) → In p ss
-rest_in s p ss (inl e) d = absurd (d e)
-rest_in s p ss (inr k) d = k
 
 pub answer_at : {A : Type 0} (id : A → ℕ) (v : ℕ → ℕ) (k : ℕ) (xs : List ℕ) (ys : List A) (b : ℕ) (y : A) → Numbered v k xs → In b xs
     → slice_get ys (v b / 256 - k) ≡ Some y → id y ≡ answer xs (map id ys) b
@@ -235,15 +228,15 @@ pub port_is_joined : (s to : Heap) (root : ℕ × ℕ) (f : ℕ → ℕ) (a i b 
 port_is_joined s to root f a i b j c d made other link e g =
     made ∙ ap (λ (x : ℕ). joined s x i d j) e ∙ ap (λ (x : ℕ). joined s (f a) i x j) g ∙ sym (like_some f root s a i b j other link)
 
-pub ports_first : (a i n : ℕ) → i < n → ports a i (n - i) ≡ (a, i) ∷ ports a (i + 1) (n - (i + 1))
-ports_first a i n l = ap (ports a i) (let e : n - i ≡ suc (n - (i + 1)) = omega (arith, l) in e)
+pub ports_first : (a i n : ℕ) → i < n → port_range a i (n - i) ≡ (a, i) ∷ port_range a (i + 1) (n - (i + 1))
+ports_first a i n l = ap (port_range a i) (let e : n - i ≡ suc (n - (i + 1)) = omega (arith, l) in e)
 
 module _ (root : ℕ × ℕ) (xs ys : List ℕ) (s to : Heap) (a : ℕ) (t : Copying s root xs ys) (a_in : In a xs) where
   pub port_copying : (i : ℕ) → to ≡ joined_like (answer xs ys) root s (a, i) → Copying to root xs ys
   port_copying i e = subst (λ (h : Heap). Copying h root xs ys) (sym e) (like_copying s root xs ys t a i a_in)
 
-  pub ports_copying : (n : ℕ) → to ≡ all_joined (answer xs ys) root s (ports a 0 n) → Copying to root xs ys
-  ports_copying n e = subst (λ (h : Heap). Copying h root xs ys) (sym e) (all_copying root xs ys s (ports a 0 n) t (ports_in xs a 0 n a_in))
+  pub ports_copying : (n : ℕ) → to ≡ all_joined (answer xs ys) root s (port_range a 0 n) → Copying to root xs ys
+  ports_copying n e = subst (λ (h : Heap). Copying h root xs ys) (sym e) (all_copying root xs ys s (port_range a 0 n) t (ports_in xs a 0 n a_in))
 
 module _ (root : ℕ × ℕ) (f : ℕ → ℕ) (s to : Heap) where
   pub port_numbers : (p : ℕ × ℕ) (xs : List ℕ) → to ≡ joined_like f root s p → Numbered (first_marks s) 2 xs → Numbered (first_marks to) 2 xs
@@ -258,15 +251,15 @@ module _ (root : ℕ × ℕ) (f : ℕ → ℕ) (s to : Heap) where
   pub ports_arity : (ps : List (ℕ × ℕ)) (c : ℕ) → to ≡ all_joined f root s ps → arity_of to c ≡ arity_of s c
   ports_arity ps c e = ap (λ (h : Heap). arity_of h c) e ∙ all_arity f root s ps c
 
-  pub port_done : (goal : Heap) (a i n : ℕ) → i < n → to ≡ joined_like f root s (a, i) → all_joined f root s (ports a i (n - i)) ≡ goal → all_joined f root to (ports a (i + 1) (n - (i + 1))) ≡ goal
-  port_done goal a i n l e h = ap (λ (t : Heap). all_joined f root t (ports a (i + 1) (n - (i + 1)))) e ∙ sym (ap (all_joined f root s) (ports_first a i n l)) ∙ h
+  pub port_done : (goal : Heap) (a i n : ℕ) → i < n → to ≡ joined_like f root s (a, i) → all_joined f root s (port_range a i (n - i)) ≡ goal → all_joined f root to (port_range a (i + 1) (n - (i + 1))) ≡ goal
+  port_done goal a i n l e h = ap (λ (t : Heap). all_joined f root t (port_range a (i + 1) (n - (i + 1)))) e ∙ sym (ap (all_joined f root s) (ports_first a i n l)) ∙ h
 
   pub ports_done : {A : Type 0} (id : A → ℕ) (start goal : Heap) (xs : List A) (k : ℕ) (a : A) → slice_get xs k ≡ Some a
-      → to ≡ all_joined f root s (ports (id a) 0 (arity_of s (id a))) → arity_of s (id a) ≡ arity_of start (id a)
+      → to ≡ all_joined f root s (port_range (id a) 0 (arity_of s (id a))) → arity_of s (id a) ≡ arity_of start (id a)
       → all_joined f root s (ports_of start (drop k (map id xs))) ≡ goal → all_joined f root to (ports_of start (drop (k + 1) (map id xs))) ≡ goal
   ports_done id start goal xs k a get e g h =
-      ap (λ (t : Heap). all_joined f root t (ports_of start (drop (k + 1) (map id xs)))) (e ∙ ap (λ (n : ℕ). all_joined f root s (ports (id a) 0 n)) g)
-      ∙ sym (all_append f root s (ports (id a) 0 (arity_of start (id a))) (ports_of start (drop (k + 1) (map id xs))))
+      ap (λ (t : Heap). all_joined f root t (ports_of start (drop (k + 1) (map id xs)))) (e ∙ ap (λ (n : ℕ). all_joined f root s (port_range (id a) 0 n)) g)
+      ∙ sym (all_append f root s (port_range (id a) 0 (arity_of start (id a))) (ports_of start (drop (k + 1) (map id xs))))
       ∙ sym (ap (λ (zs : List ℕ). all_joined f root s (ports_of start zs)) (drop_map id xs k a get)) ∙ h
 
 pub clear_done : {A : Type 0} (id : A → ℕ) (s to goal : Heap) (xs : List A) (k : ℕ) (a : A) → slice_get xs k ≡ Some a → to ≡ marked s (id a) 0 0

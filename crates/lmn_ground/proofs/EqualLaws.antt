@@ -5,12 +5,13 @@ use Rattle.lmn_base.specs.Graphs.{across, SameGraph}
 use Rattle.lmn_heap.specs.Heap.{Heap, In, arity_of, link_of, functor_of}
 use Rattle.lmn_heap.specs.Sound.{Sound}
 use Rattle.lmn_heap.specs.Graphs.{atom_map}
-use Rattle.lmn_ground.specs.Walks.{ports, Walk, ends, passes, finds, HasPort}
+use Rattle.lmn_ground.specs.Walks.{Walk, ends, passes, finds, HasPort}
 use Rattle.lmn_ground.specs.Follow.{answer}
 use Rattle.lmn_ground.specs.Copies.{moved}
 use Rattle.lmn_ground.specs.Spread.{AreAtoms, IsWhole}
 use Rattle.lmn_ground.proofs.WalkLaws.{in_snoc}
 pub use Rattle.lmn_parts.proofs.AnswerLaws.{answer_here, answer_on, answer_in, answer_one, answer_onto}
+use Rattle.lmn_parts.specs.Walks.{port_range}
 
 -- A map that is one to one on what is reached, and keeps ports and ends, carries one walk to another.
 module _ (arity arity' : ℕ → ℕ) (to to' : ℕ × ℕ → Option ℕ) (f : ℕ → ℕ) (R : ℕ → Type 0)
@@ -33,11 +34,11 @@ module _ (arity arity' : ℕ → ℕ) (to to' : ℕ × ℕ → Option ℕ) (f : 
   map_snoc [] b = refl
   map_snoc (x ∷ xs) b = ap (λ ys. f x ∷ ys) (map_snoc xs b)
 
-  moved_ports : (b i n : ℕ) (ps : List (ℕ × ℕ)) → map (moved f) (ports b i n ++ ps) ≡ ports (f b) i n ++ map (moved f) ps
+  moved_ports : (b i n : ℕ) (ps : List (ℕ × ℕ)) → map (moved f) (port_range b i n ++ ps) ≡ port_range (f b) i n ++ map (moved f) ps
   moved_ports b i zero ps = refl
   moved_ports b i (suc n) ps = ap (λ qs. (f b, i) ∷ qs) (moved_ports b (i + 1) n ps)
 
-  port_in : (q : ℕ × ℕ) (b i n : ℕ) (ps : List (ℕ × ℕ)) → R b → ((p : ℕ × ℕ) → HasPort p ps → R p.0) → HasPort q (ports b i n ++ ps) → R q.0
+  port_in : (q : ℕ × ℕ) (b i n : ℕ) (ps : List (ℕ × ℕ)) → R b → ((p : ℕ × ℕ) → HasPort p ps → R p.0) → HasPort q (port_range b i n ++ ps) → R q.0
   port_in q b i zero ps r h k = h q k
   port_in q b i (suc n) ps r h (inl e) = subst (λ (p : ℕ × ℕ). R p.0) e r
   port_in q b i (suc n) ps r h (inr k) = port_in q b (i + 1) n ps r h k
@@ -59,9 +60,9 @@ module _ (arity arity' : ℕ → ℕ) (to to' : ℕ × ℕ → Option ℕ) (f : 
       let v = walk_moved w (λ x k. elim (in_snoc x b seen k) [ inl old ↦ s x old | inr same ↦ subst R (sym same) rb ])
       (λ q k. port_in q b 0 (arity b) ps rb (λ p' m. r p' (inr m)) k) in
       finds (end_kept p.0 p.1 b (r p (inl refl)) e) (λ k. n (map_in b seen rb s k))
-      (subst (λ (m : ℕ). Walk arity' to' (map f seen ++ f b ∷ []) (ports (f b) 0 m ++ map (moved f) ps) (map f all)) (sym (ports_kept b rb))
+      (subst (λ (m : ℕ). Walk arity' to' (map f seen ++ f b ∷ []) (port_range (f b) 0 m ++ map (moved f) ps) (map f all)) (sym (ports_kept b rb))
       (subst (λ (qs : List (ℕ × ℕ)). Walk arity' to' (map f seen ++ f b ∷ []) qs (map f all)) (moved_ports b 0 (arity b) ps)
-      (subst (λ (xs : List ℕ). Walk arity' to' xs (map (moved f) (ports b 0 (arity b) ++ ps)) (map f all)) (map_snoc seen b) v)))
+      (subst (λ (xs : List ℕ). Walk arity' to' xs (map (moved f) (port_range b 0 (arity b) ++ ps)) (map f all)) (map_snoc seen b) v)))
 
 pub same_or_not : (p q : ℕ × ℕ) → (p ≡ q) ⊎ (p ≡ q → ⊥)
 same_or_not p q = elim (cases_eq p.0 q.0) [

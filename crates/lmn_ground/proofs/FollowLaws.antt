@@ -4,22 +4,25 @@ use Rattle.std.specs.Option.{option_map}
 use Rattle.std.specs.Prelude.{slice_index_or}
 use Rattle.lmn_base.specs.declared.functor.Functor.{Functor}
 use Rattle.lmn_base.specs.Graphs.{Reached, at_root, across, SameGraph}
-use Rattle.lmn_heap.specs.Heap.{Heap, HeapAtom, In, marked, arity_of, link_of, functor_of, links_of}
+use Rattle.lmn_heap.specs.Heap.{Heap, HeapAtom, In, marked, arity_of, link_of, functor_of, partners_of}
 use Rattle.lmn_heap.specs.Sound.{Sound}
 use Rattle.lmn_heap.specs.Graphs.{atom_map}
 use Rattle.lmn_heap.proofs.ListLemmas.{in_left}
-use Rattle.lmn_ground.specs.Walks.{HasPort, Net, net, ports, ports_from, next, is_port, Walk, ends, IsPart}
-use Rattle.lmn_ground.specs.Marks.{paint, painted, entry, or_zero, back, first_marks, way, behind, ahead, OnWay, Sought}
+use Rattle.lmn_ground.specs.Walks.{HasPort, Net, net, ports_from, is_port, Walk, ends}
+use Rattle.lmn_ground.specs.Marks.{paint, painted, entry_port, or_zero, back, first_marks, way, ports_behind, ports_ahead, OnWay, Sought}
 use Rattle.lmn_ground.specs.Spread.{IsWhole, Numbered, Spreading, CleanPart, AreAtoms}
 use Rattle.lmn_ground.specs.Follow.{answer, SameEnd, Two, Following}
 use Rattle.lmn_ground.specs.Copies.{moved}
 use Rattle.lmn_ground.proofs.WalkLaws.{determined, kept_seen, longer, past, found, in_last, in_snoc, holds_left, holds_right, holds_port}
 use Rattle.lmn_ground.proofs.SoughtLaws.{top_in, port_left, next_root, next_none, next_link, not_root_next, same_port, sought_none, sought_root, sought_marked, sought_back, no_port_left}
-use Rattle.lmn_ground.proofs.PaintLaws.{net_painted, mark_away, mark_here, in_or_not}
-use Rattle.lmn_ground.proofs.SpreadLaws.{spreading_first, next_to, not_root, part_reached, link_inside, way_now, spreading_on, entered, marks_there, entry_is, ahead_enter, ahead_here, nothing_ahead}
+use Rattle.lmn_ground.proofs.PaintLaws.{net_painted, mark_away, mark_here}
+use Rattle.lmn_ground.proofs.SpreadLaws.{spreading_first, next_to, not_root, part_reached, way_now, spreading_on, entered, marks_there, entry_is, ahead_enter, ahead_here, nothing_ahead}
 use Rattle.lmn_ground.proofs.GroundLaws.{part_atoms}
 use Rattle.lmn_ground.proofs.EqualLaws.{answer_here, walk_moved, answer_in, answer_one, same_or_not, same_pair, agree_same}
 use Rattle.lmn_ground.proofs.NumberLaws.{begins, numbered_same, answer_grow, answer_new, answer_same, number_of_answer, answer_map, number_next}
+use Rattle.lmn_parts.specs.Walks.{port_range, neighbour, IsPartInDepth}
+use Rattle.lmn_heap.proofs.Common.{decide_in as in_or_not}
+use Rattle.lmn_heap.proofs.Replacing.{port_within as link_inside}
 
 pub functor_painted : (s : Heap) (v : ℕ → ℕ) (z : ℕ) → functor_of (painted s v) z ≡ functor_of s z
 functor_painted s v z = by (v z) (s.atoms z)
@@ -29,7 +32,7 @@ functor_painted s v z = by (v z) (s.atoms z)
     by (suc m) None = refl
     by (suc m) (Some h) = refl
 
-to_none : (ps : List (ℕ × ℕ)) → ps ++ [] ≡ ps
+pub to_none : (ps : List (ℕ × ℕ)) → ps ++ [] ≡ ps
 to_none [] = refl
 to_none (p ∷ ps) = ap (λ qs. p ∷ qs) (to_none ps)
 
@@ -37,7 +40,7 @@ arity_by : (s : Heap) (a b : ℕ) → Sound s → functor_of s a ≡ functor_of 
 arity_by s a b h e = by (s.atoms a) refl (s.atoms b) refl
   where
     by : (o : Option HeapAtom) → s.atoms a ≡ o → (q : Option HeapAtom) → s.atoms b ≡ q → arity_of s a ≡ arity_of s b
-    by None f None g = ap (λ (o : Option HeapAtom). length (links_of o)) (f ∙ sym g)
+    by None f None g = ap (λ (o : Option HeapAtom). length (partners_of o)) (f ∙ sym g)
     by None f (Some z) g =
         let k : ◌≡◌ {A = Option Functor} None (Some z.functor) = sym (ap (option_map (λ (t : HeapAtom). t.functor)) f) ∙ e ∙ ap (option_map (λ (t : HeapAtom). t.functor)) g in absurd (cc)
     by (Some z) f q g =
@@ -45,7 +48,7 @@ arity_by s a b h e = by (s.atoms a) refl (s.atoms b) refl
         h.shaped.ports a z.functor k ∙ sym (h.shaped.ports b z.functor (sym e ∙ k))
 
 link_beyond : (s : Heap) (a i : ℕ) → arity_of s a ≤ i → link_of s a i ≡ None
-link_beyond s a i h = by (links_of (s.atoms a)) i h
+link_beyond s a i h = by (partners_of (s.atoms a)) i h
   where
     by : (xs : List (Option (ℕ × ℕ))) (i : ℕ) → length xs ≤ i → slice_index_or xs i None ≡ None
     by [] i h = refl
@@ -66,39 +69,39 @@ no_port a i root d = by (is_port (a, i) root) refl
     by true f = absurd (d (same_port a i root f))
     by false f = f
 
-moved_all_ports : (f : ℕ → ℕ) (a i n : ℕ) → map (moved f) (ports a i n) ≡ ports (f a) i n
+moved_all_ports : (f : ℕ → ℕ) (a i n : ℕ) → map (moved f) (port_range a i n) ≡ port_range (f a) i n
 moved_all_ports f a i zero = refl
 moved_all_ports f a i (suc n) = ap (λ ps. (f a, i) ∷ ps) (moved_all_ports f a (i + 1) n)
 
 -- Equal parts, of one heap or of two, are walked alike.
 pub walked : (s t : Heap) (x y : ℕ × ℕ) (xs : List ℕ) (g : SameGraph (atom_map s) x (atom_map t) y) → ((a : ℕ) → Reached (atom_map s) x a → arity_of t (g.to a) ≡ arity_of s a)
-    → IsWhole s x None → IsPart s x xs → IsPart t y (map g.to xs)
+    → IsWhole s x None → IsPartInDepth s x xs → IsPartInDepth t y (map g.to xs)
 walked s t x y xs g arities full part =
     let root_is : g.to x.0 ≡ y.0 = ap (λ (p : ℕ × ℕ). p.0) g.root in
-    let w = walk_moved (net s).arity (net t).arity (next (net s) x (λ _. true)) (next (net t) y (λ _. true)) g.to (Reached (atom_map s) x) arities
+    let w = walk_moved (net s).arity (net t).arity (neighbour (net s) x (λ _. true)) (neighbour (net t) y (λ _. true)) g.to (Reached (atom_map s) x) arities
     (λ a i b r e. end_kept a i b r e (not_root_next (net s) x (λ _. true) (a, i) b e) (link_of s a i) refl)
     (λ a i r e. none_kept a i r e (same_or_not (a, i) x) (link_of s a i) refl)
     (λ a i b r e. reach a i b r e (not_root_next (net s) x (λ _. true) (a, i) b e) (link_of s a i) refl)
     (λ a b r q e. g.one_to_one a b r q e)
     part (λ a k. at_start a k) (λ p k. from_root p (arity_of s x.0) 0 k) in
-    subst (λ (a : ℕ). Walk (net t).arity (next (net t) y (λ _. true)) (a ∷ []) (ports a 0 (arity_of t a)) (map g.to xs)) root_is
-    (subst (λ (n : ℕ). Walk (net t).arity (next (net t) y (λ _. true)) (g.to x.0 ∷ []) (ports (g.to x.0) 0 n) (map g.to xs)) (sym (arities x.0 at_root))
-    (subst (λ (ps : List (ℕ × ℕ)). Walk (net t).arity (next (net t) y (λ _. true)) (g.to x.0 ∷ []) ps (map g.to xs)) (moved_all_ports g.to x.0 0 (arity_of s x.0)) w))
+    subst (λ (a : ℕ). Walk (net t).arity (neighbour (net t) y (λ _. true)) (a ∷ []) (port_range a 0 (arity_of t a)) (map g.to xs)) root_is
+    (subst (λ (n : ℕ). Walk (net t).arity (neighbour (net t) y (λ _. true)) (g.to x.0 ∷ []) (port_range (g.to x.0) 0 n) (map g.to xs)) (sym (arities x.0 at_root))
+    (subst (λ (ps : List (ℕ × ℕ)). Walk (net t).arity (neighbour (net t) y (λ _. true)) (g.to x.0 ∷ []) ps (map g.to xs)) (moved_all_ports g.to x.0 0 (arity_of s x.0)) w))
   where
     at_start : (a : ℕ) → In a (x.0 ∷ []) → Reached (atom_map s) x a
     at_start a (inl e) = subst (Reached (atom_map s) x) e at_root
     at_start a (inr k) = absurd k
 
-    from_root : (p : ℕ × ℕ) (n i : ℕ) → HasPort p (ports x.0 i n) → Reached (atom_map s) x p.0
+    from_root : (p : ℕ × ℕ) (n i : ℕ) → HasPort p (port_range x.0 i n) → Reached (atom_map s) x p.0
     from_root p zero i h = absurd h
     from_root p (suc n) i (inl e) = subst (λ (q : ℕ × ℕ). Reached (atom_map s) x q.0) e at_root
     from_root p (suc n) i (inr h) = from_root p n (i + 1) h
 
-    reach : (a i b : ℕ) → Reached (atom_map s) x a → next (net s) x (λ _. true) (a, i) ≡ Some b → is_port (a, i) x ≡ false → (o : Option (ℕ × ℕ)) → link_of s a i ≡ o → Reached (atom_map s) x b
+    reach : (a i b : ℕ) → Reached (atom_map s) x a → neighbour (net s) x (λ _. true) (a, i) ≡ Some b → is_port (a, i) x ≡ false → (o : Option (ℕ × ℕ)) → link_of s a i ≡ o → Reached (atom_map s) x b
     reach a i b r e f None l = let z = next_none (net s) x (λ _. true) a i l in absurd (cc)
     reach a i b r e f (Some q) l = subst (Reached (atom_map s) x) (next_link (net s) x (λ _. true) a i q.0 b q.1 l e) (across r (not_root a i x f) l)
 
-    end_kept : (a i b : ℕ) → Reached (atom_map s) x a → next (net s) x (λ _. true) (a, i) ≡ Some b → is_port (a, i) x ≡ false → (o : Option (ℕ × ℕ)) → link_of s a i ≡ o → next (net t) y (λ _. true) (g.to a, i) ≡ Some (g.to b)
+    end_kept : (a i b : ℕ) → Reached (atom_map s) x a → neighbour (net s) x (λ _. true) (a, i) ≡ Some b → is_port (a, i) x ≡ false → (o : Option (ℕ × ℕ)) → link_of s a i ≡ o → neighbour (net t) y (λ _. true) (g.to a, i) ≡ Some (g.to b)
     end_kept a i b r e f None l = let z = next_none (net s) x (λ _. true) a i l in absurd (cc)
     end_kept a i b r e f (Some q) l =
         let same : q.0 ≡ b = next_link (net s) x (λ _. true) a i q.0 b q.1 l e in
@@ -111,7 +114,7 @@ walked s t x y xs g arities full part =
         not_root a i x f (λ m. (a_is m, i_is m))) in
         next_to (net t) y (λ _. true) (g.to a) i (g.to q.0) q.1 there away refl ∙ ap (λ (z : ℕ). Some (g.to z)) same
 
-    none_kept : (a i : ℕ) → Reached (atom_map s) x a → next (net s) x (λ _. true) (a, i) ≡ None → ((a, i) ≡ x) ⊎ ((a, i) ≡ x → ⊥) → (o : Option (ℕ × ℕ)) → link_of s a i ≡ o → next (net t) y (λ _. true) (g.to a, i) ≡ None
+    none_kept : (a i : ℕ) → Reached (atom_map s) x a → neighbour (net s) x (λ _. true) (a, i) ≡ None → ((a, i) ≡ x) ⊎ ((a, i) ≡ x → ⊥) → (o : Option (ℕ × ℕ)) → link_of s a i ≡ o → neighbour (net t) y (λ _. true) (g.to a, i) ≡ None
     none_kept a i r e (inl h) o l =
         let u : g.to a ≡ y.0 = ap g.to (ap (λ (p : ℕ × ℕ). p.0) h) ∙ ap (λ (p : ℕ × ℕ). p.0) g.root in
         let v : i ≡ y.1 = ap (λ (p : ℕ × ℕ). p.1) h ∙ ap (λ (p : ℕ × ℕ). p.1) g.root in
@@ -129,10 +132,10 @@ walked s t x y xs g arities full part =
         beyond (inl h) = let is = subst (λ (o : Option (ℕ × ℕ)). IsSome o) l (full.ends a i r h d) in absurd (cc)
         beyond (inr h) = h
 
-module _ (s : Heap) (x y : ℕ × ℕ) (xs ys : List ℕ) (sound : Sound s) (full : IsWhole s x None) (part : IsPart s x xs) (part' : IsPart s y ys) where
+module _ (s : Heap) (x y : ℕ × ℕ) (xs ys : List ℕ) (sound : Sound s) (full : IsWhole s x None) (part : IsPartInDepth s x xs) (part' : IsPartInDepth s y ys) where
   -- one map of the atoms carries one list to the other
   pub carried : (g : SameGraph (atom_map s) x (atom_map s) y) → map g.to xs ≡ ys
-  carried g = determined (net s).arity (next (net s) y (λ _. true))
+  carried g = determined (net s).arity (neighbour (net s) y (λ _. true))
       (walked s s x y xs g (λ a r. arity_by s (g.to a) a sound (g.functors a r)) full part) part'
 
 module _ (s : Heap) (x y : ℕ × ℕ) (xs ys : List ℕ) (two : Two s x y xs ys) where
@@ -147,7 +150,7 @@ module _ (s : Heap) (x y : ℕ × ℕ) (xs ys : List ℕ) (two : Two s x y xs ys
     a_seen = w.walk.way_seen a (top_in (net s) (first_marks now) depth a)
 
     short : length seen ≤ length ys
-    short = let h = longer (net s).arity (next (net s) x (λ _. true)) w.rest in let l = two.long in omega (arith, h, l)
+    short = let h = longer (net s).arity (neighbour (net s) x (λ _. true)) w.rest in let l = two.long in omega (arith, h, l)
 
     -- the answer of a port but the root isn't the root
     other_side : (k : ℕ) → ◌≢◌ {A = ℕ × ℕ} (a, k) x → ◌≢◌ {A = ℕ × ℕ} (c, k) y
@@ -175,12 +178,12 @@ module _ (s : Heap) (x y : ℕ × ℕ) (xs ys : List ℕ) (two : Two s x y xs ys
         let rb : Reached (atom_map s) x b = across (w.walk.reached a a_seen) (not_root a i x other) link in
         let b_seen : In b seen = seen_of b (w.walk.off b rb) marked_b in
         let b_is : answer seen ys b ≡ d = answer_same (first_marks now) 2 b d seen ys w.walk.numbers w.numbers b_seen d_in same in
-        let split : ahead (net s) (first_marks now) depth a i ≡ (a, i) ∷ ahead (net s) (first_marks now) depth a (i + 1) = ap (λ ps. ps ++ behind (net s) (first_marks now) depth a) (port_left (net s) a i i_low) in
+        let split : ports_ahead (net s) (first_marks now) depth a i ≡ (a, i) ∷ ports_ahead (net s) (first_marks now) depth a (i + 1) = ap (λ ps. ps ++ ports_behind (net s) (first_marks now) depth a) (port_left (net s) a i i_low) in
         record {
           walk = spreading_on s x None now seen depth a i depth a (i + 1) count w.walk
               (sought_marked (net now) (first_marks now) x depth a i depth a i b j (sought_none (net now) (first_marks now) x depth a i (way_now s now x None seen depth a i count w.walk)) low given_link port marked_b) (omega (arith, low));
           numbers = w.numbers;
-          rest = past (net s).arity (next (net s) x (λ _. true)) (subst (λ (ps : List (ℕ × ℕ)). Walk (net s).arity (next (net s) x (λ _. true)) seen ps xs) split w.rest)
+          rest = past (net s).arity (neighbour (net s) x (λ _. true)) (subst (λ (ps : List (ℕ × ℕ)). Walk (net s).arity (neighbour (net s) x (λ _. true)) seen ps xs) split w.rest)
               (λ z e. subst (λ (t : ℕ). In t seen) (next_link (net s) x (λ _. true) a i b z j link e) b_seen);
           answers = w.answers;
           root = w.root;
@@ -203,7 +206,7 @@ module _ (s : Heap) (x y : ℕ × ℕ) (xs ys : List ℕ) (two : Two s x y xs ys
     -- what an equality of the parts says of the ends of a port and of its answer
     pub must : (g : SameGraph (atom_map s) x (atom_map s) y) (p : ℕ) → In p seen → g.to p ≡ answer seen ys p
     must g p k =
-        let r = begins (net s).arity (next (net s) x (λ _. true)) w.rest in
+        let r = begins (net s).arity (neighbour (net s) x (λ _. true)) w.rest in
         sym (answer_map g.to seen r.0 p k) ∙ ap (λ (zs : List ℕ). answer seen zs p) (ap (map g.to) (sym r.1) ∙ same_list g)
 
     pub must_end : (g : SameGraph (atom_map s) x (atom_map s) y) (k b j : ℕ) → ◌≢◌ {A = ℕ × ℕ} (a, k) x → link_of now a k ≡ Some (b, j) → link_of now c k ≡ Some (g.to b, j)
@@ -222,9 +225,9 @@ module _ (s : Heap) (x y : ℕ × ℕ) (xs ys : List ℕ) (two : Two s x y xs ys
         let link : link_of s a i ≡ Some (b, j) = subst (λ (n : Net). n.link a i ≡ Some (b, j)) nets given in
         let i_low : i < (net s).arity a = subst (λ (n : Net). i < n.arity a) nets low in
         let new : In b seen → ⊥ = λ k. let h = w.walk.on b k in absurd (omega (arith, h, fresh)) in
-        let split : ahead (net s) (first_marks now) depth a i ≡ (a, i) ∷ ahead (net s) (first_marks now) depth a (i + 1) = ap (λ ps. ps ++ behind (net s) (first_marks now) depth a) (port_left (net s) a i i_low) in
-        let f = found (net s).arity (next (net s) x (λ _. true)) (subst (λ (ps : List (ℕ × ℕ)). Walk (net s).arity (next (net s) x (λ _. true)) seen ps xs) split w.rest) b (next_to (net s) x (λ _. true) a i b j link other refl) new in
-        let r = begins (net s).arity (next (net s) x (λ _. true)) f in
+        let split : ports_ahead (net s) (first_marks now) depth a i ≡ (a, i) ∷ ports_ahead (net s) (first_marks now) depth a (i + 1) = ap (λ ps. ps ++ ports_behind (net s) (first_marks now) depth a) (port_left (net s) a i i_low) in
+        let f = found (net s).arity (neighbour (net s) x (λ _. true)) (subst (λ (ps : List (ℕ × ℕ)). Walk (net s).arity (neighbour (net s) x (λ _. true)) seen ps xs) split w.rest) b (next_to (net s) x (λ _. true) a i b j link other refl) new in
+        let r = begins (net s).arity (neighbour (net s) x (λ _. true)) f in
         let n = number_next (first_marks now) 2 b g.to seen r.0 (subst (Numbered (first_marks now) 2) (sym (same_list g) ∙ ap (map g.to) (r.1 ∙ append_assoc seen (b ∷ []) r.0)) w.numbers) in
         n ∙ ap (λ (m : ℕ). 2 + m) w.walk.counted
 
@@ -232,12 +235,12 @@ module _ (s : Heap) (x y : ℕ × ℕ) (xs ys : List ℕ) (two : Two s x y xs ys
     pub follow_root : i < arity_of now a → is_port (a, i) x ≡ true → Following s now x y xs ys seen depth a c (i + 1) count
     follow_root low is =
         let i_low : i < (net s).arity a = subst (λ (n : Net). i < n.arity a) nets low in
-        let split : ahead (net s) (first_marks now) depth a i ≡ (a, i) ∷ ahead (net s) (first_marks now) depth a (i + 1) = ap (λ ps. ps ++ behind (net s) (first_marks now) depth a) (port_left (net s) a i i_low) in
+        let split : ports_ahead (net s) (first_marks now) depth a i ≡ (a, i) ∷ ports_ahead (net s) (first_marks now) depth a (i + 1) = ap (λ ps. ps ++ ports_behind (net s) (first_marks now) depth a) (port_left (net s) a i i_low) in
         record {
           walk = spreading_on s x None now seen depth a i depth a (i + 1) count w.walk
               (sought_root (net now) (first_marks now) x depth a i depth a i (sought_none (net now) (first_marks now) x depth a i (way_now s now x None seen depth a i count w.walk)) low is) (omega (arith, low));
           numbers = w.numbers;
-          rest = past (net s).arity (next (net s) x (λ _. true)) (subst (λ (ps : List (ℕ × ℕ)). Walk (net s).arity (next (net s) x (λ _. true)) seen ps xs) split w.rest)
+          rest = past (net s).arity (neighbour (net s) x (λ _. true)) (subst (λ (ps : List (ℕ × ℕ)). Walk (net s).arity (neighbour (net s) x (λ _. true)) seen ps xs) split w.rest)
               (λ z e. let f = next_root (net s) x (λ _. true) (a, i) is in absurd (cc));
           answers = w.answers;
           root = w.root;
@@ -252,28 +255,28 @@ module _ (s : Heap) (x y : ℕ × ℕ) (xs ys : List ℕ) (two : Two s x y xs ys
         }
 
     -- back on both sides
-    pub follow_back : (d p k q : ℕ) → depth ≡ d + 1 → i ≡ arity_of now a → link_of now a (entry (first_marks now a)) ≡ Some (p, k) → link_of now c (entry (first_marks now a)) ≡ Some (q, k)
+    pub follow_back : (d p k q : ℕ) → depth ≡ d + 1 → i ≡ arity_of now a → link_of now a (entry_port (first_marks now a)) ≡ Some (p, k) → link_of now c (entry_port (first_marks now a)) ≡ Some (q, k)
         → k < arity_of now p → first_marks now p / 256 ≡ first_marks now q / 256 → Following s now x y xs ys seen d p q (k + 1) count
     follow_back d p k q deep full given_link given_end low same = by (subst (λ (z : ℕ). Following s now x y xs ys seen z a c i count) (deep ∙ add-one d) w) (subst (λ (n : Net). i ≡ n.arity a) nets full)
-        (subst (λ (n : Net). n.link a (entry (first_marks now a)) ≡ Some (p, k)) nets given_link)
+        (subst (λ (n : Net). n.link a (entry_port (first_marks now a)) ≡ Some (p, k)) nets given_link)
       where
-        by : Following s now x y xs ys seen (suc d) a c i count → i ≡ (net s).arity a → (net s).link a (entry (first_marks now a)) ≡ Some (p, k) → Following s now x y xs ys seen d p q (k + 1) count
+        by : Following s now x y xs ys seen (suc d) a c i count → i ≡ (net s).arity a → (net s).link a (entry_port (first_marks now a)) ≡ Some (p, k) → Following s now x y xs ys seen d p q (k + 1) count
         by u end link =
             let back_is : ◌≡◌ {A = ℕ × ℕ} (back (net s) (first_marks now) a) (p, k) = ap or_zero link in
             let now_is : ◌≡◌ {A = ℕ × ℕ} (back (net now) (first_marks now) a) (p, k) = ap or_zero given_link in
-            let apart : ◌≢◌ {A = ℕ × ℕ} (a, entry (first_marks now a)) x = λ h. u.walk.on_way.3 (ap (λ (r : ℕ × ℕ). r.0) h) in
-            let moved_on : ahead (net s) (first_marks now) (suc d) a i ≡ ahead (net s) (first_marks now) d p (k + 1) =
-            ap (λ ps. ps ++ behind (net s) (first_marks now) (suc d) a) (no_port_left (net s) a i end)
-            ∙ ap (λ (r : ℕ × ℕ). ports_from (net s) r.0 (r.1 + 1) ++ behind (net s) (first_marks now) d r.0) back_is in
+            let apart : ◌≢◌ {A = ℕ × ℕ} (a, entry_port (first_marks now a)) x = λ h. u.walk.on_way.3 (ap (λ (r : ℕ × ℕ). r.0) h) in
+            let moved_on : ports_ahead (net s) (first_marks now) (suc d) a i ≡ ports_ahead (net s) (first_marks now) d p (k + 1) =
+            ap (λ ps. ps ++ ports_behind (net s) (first_marks now) (suc d) a) (no_port_left (net s) a i end)
+            ∙ ap (λ (r : ℕ × ℕ). ports_from (net s) r.0 (r.1 + 1) ++ ports_behind (net s) (first_marks now) d r.0) back_is in
             let p_seen : In p seen = u.walk.way_seen p (inr (subst (λ (r : ℕ × ℕ). In p (way (net s) (first_marks now) d r.0)) (sym back_is) (top_in (net s) (first_marks now) d p))) in
-            let q_in : In q ys = end_in (entry (first_marks now a)) q k apart given_end in
+            let q_in : In q ys = end_in (entry_port (first_marks now a)) q k apart given_end in
             let s0 = sought_none (net now) (first_marks now) x (suc d) a i (way_now s now x None seen (suc d) a i count u.walk) in
             let s1 = sought_back (net now) (first_marks now) x (suc d) a i (suc d) d a i refl s0 full in
             record {
               walk = spreading_on s x None now seen (suc d) a i d p (k + 1) count u.walk
                   (subst (λ (r : ℕ × ℕ). Sought (net now) (first_marks now) x (suc d) a i d r.0 (r.1 + 1)) now_is s1) (omega (arith, low));
               numbers = u.numbers;
-              rest = subst (λ (ps : List (ℕ × ℕ)). Walk (net s).arity (next (net s) x (λ _. true)) seen ps xs) moved_on u.rest;
+              rest = subst (λ (ps : List (ℕ × ℕ)). Walk (net s).arity (neighbour (net s) x (λ _. true)) seen ps xs) moved_on u.rest;
               answers = sym (answer_same (first_marks now) 2 p q seen ys u.walk.numbers u.numbers p_seen q_in same);
               root = u.root;
               agreed = λ p' k' m l. elim (u.agreed p' k' m l) [ inl h ↦ inl (subst (HasPort (p', k')) moved_on h) | inr h ↦ inr h ];
@@ -297,22 +300,22 @@ module _ (s : Heap) (x y : ℕ × ℕ) (xs ys : List ℕ) (two : Two s x y xs ys
         let away : (z : ℕ) → z ≢ b → u z ≡ v z = λ z e. ap (λ (h : Heap). first_marks h z) made ∙ mark_away now b (512 + 256 * count + j) z e in
         let here : u b ≡ 512 + 256 * count + j = ap (λ (h : Heap). first_marks h b) made ∙ mark_here now b (512 + 256 * count + j) (marks_there now b sound (omega (arith, given_port))) in
         let same : (z : ℕ) → In z (way n v depth a) → u z ≡ v z = λ z k. away z (λ e. new (subst (λ (t : ℕ). In t seen) e (w.walk.way_seen z k))) in
-        let mark : entry (u b) ≡ j = ap entry here ∙ entry_is count j small in
+        let mark : entry_port (u b) ≡ j = ap entry_port here ∙ entry_is count j small in
         let next_ahead = ahead_enter n v u depth a i b j same mark back_link in
         let here_ahead = ahead_here n v u depth a i b j same mark back_link i_low in
-        let f = found n.arity (next n x (λ _. true)) (subst (λ (ps : List (ℕ × ℕ)). Walk n.arity (next n x (λ _. true)) seen ps xs) here_ahead w.rest) b (next_to n x (λ _. true) a i b j link other refl) new in
-        let b_in : In b xs = kept_seen n.arity (next n x (λ _. true)) f b (in_last b seen) in
+        let f = found n.arity (neighbour n x (λ _. true)) (subst (λ (ps : List (ℕ × ℕ)). Walk n.arity (neighbour n x (λ _. true)) seen ps xs) here_ahead w.rest) b (next_to n x (λ _. true) a i b j link other refl) new in
+        let b_in : In b xs = kept_seen n.arity (neighbour n x (λ _. true)) f b (in_last b seen) in
         let d_in : In d ys = end_in i d j (not_root a i x other) given_end in
         let d_is : answer (seen ++ b ∷ []) ys b ≡ d = answer_new v 2 b d seen ys w.numbers d_in (number ∙ ap (λ (m : ℕ). 2 + m) (sym w.walk.counted)) new in
         let functor_is : functor_of s d ≡ functor_of s b = sym (functor_now d) ∙ given_functor ∙ functor_now b in
         let step : SameEnd s (seen ++ b ∷ []) ys a i = λ b' j' e. agrees b b' j j' d (same_pair b b' j j' (sym link ∙ e)) (in_last b seen) d_is
         (ap (λ (z : ℕ). link_of s z i) (answer_grow seen ys b a a_seen ∙ sym w.answers) ∙ end) in
-        let ahead_to : ahead n u (suc depth) b 0 ≡ ports b 0 (n.arity b) ++ (ports_from n a (i + 1) ++ behind n v depth a) = next_ahead in
+        let ahead_to : ports_ahead n u (suc depth) b 0 ≡ port_range b 0 (n.arity b) ++ (ports_from n a (i + 1) ++ ports_behind n v depth a) = next_ahead in
         subst (λ (k : ℕ). Following s to x y xs ys (seen ++ b ∷ []) k b d 0 (count + 1)) (sym (add-one depth)) (record {
           walk = subst (λ (k : ℕ). Spreading s to x None (seen ++ b ∷ []) k b 0 (count + 1)) (add-one depth)
               (entered s now to x None seen depth a i b j count made w.walk sound clean low given_link given_back given_port small other fresh tt);
           numbers = numbered_same v u 2 ys w.numbers (λ z k. away z (λ e. two.apart b b_in (subst (λ (t : ℕ). In t ys) e k)));
-          rest = subst (λ (ps : List (ℕ × ℕ)). Walk n.arity (next n x (λ _. true)) (seen ++ b ∷ []) ps xs) (sym ahead_to) f;
+          rest = subst (λ (ps : List (ℕ × ℕ)). Walk n.arity (neighbour n x (λ _. true)) (seen ++ b ∷ []) ps xs) (sym ahead_to) f;
           answers = sym d_is;
           root = answer_grow seen ys b x.0 w.walk.first ∙ w.root;
           agreed = λ p k q l. subst (λ (ps : List (ℕ × ℕ)). HasPort (p, k) ps ⊎ ((◌≡◌ {A = ℕ × ℕ} (p, k) x) ⊎ SameEnd s (seen ++ b ∷ []) ys p k)) (sym ahead_to)
@@ -320,13 +323,13 @@ module _ (s : Heap) (x y : ℕ × ℕ) (xs ys : List ℕ) (two : Two s x y xs ys
                 | inl old ↦ elim (w.agreed p k old l) [
                   | inl m ↦ elim (subst (HasPort (p, k)) here_ahead m) [
                     | inl h ↦ inr (inr (subst (λ (t : ℕ × ℕ). SameEnd s (seen ++ b ∷ []) ys t.0 t.1) h step))
-                    | inr h ↦ inl (holds_right (p, k) (ports b 0 (n.arity b)) (ports_from n a (i + 1) ++ behind n v depth a) h)
+                    | inr h ↦ inl (holds_right (p, k) (port_range b 0 (n.arity b)) (ports_from n a (i + 1) ++ ports_behind n v depth a) h)
                   ]
                   | inr (inl h) ↦ inr (inl h)
                   | inr (inr h) ↦ inr (inr (λ b' j' e. grows b p b' j' k old (h b' j' e)))
                 ]
-                | inr e ↦ inl (holds_left (p, k) (ports b 0 (n.arity b)) (ports_from n a (i + 1) ++ behind n v depth a)
-                    (subst (λ (z : ℕ). HasPort (z, k) (ports b 0 (n.arity b))) (sym e) (holds_port b 0 (n.arity b) k (omega arith) (let m : k < n.arity b = subst (λ (z : ℕ). k < n.arity z) e l in omega (arith, m)))))
+                | inr e ↦ inl (holds_left (p, k) (port_range b 0 (n.arity b)) (ports_from n a (i + 1) ++ ports_behind n v depth a)
+                    (subst (λ (z : ℕ). HasPort (z, k) (port_range b 0 (n.arity b))) (sym e) (holds_port b 0 (n.arity b) k (omega arith) (let m : k < n.arity b = subst (λ (z : ℕ). k < n.arity z) e l in omega (arith, m)))))
               ]);
           functors = λ p q. elim (in_snoc p b seen q) [
             | inl old ↦ ap (functor_of s) (answer_grow seen ys b p old) ∙ w.functors p old
@@ -349,15 +352,15 @@ module _ (s : Heap) (x y : ℕ × ℕ) (xs ys : List ℕ) (two : Two s x y xs ys
     follow_done zero_deep full =
         let end : i ≡ (net s).arity a = subst (λ (n : Net). i ≡ n.arity a) nets full in
         let none = nothing_ahead s x None (net s) (first_marks now) depth a i zero_deep end in
-        let all : seen ≡ xs = determined (net s).arity (next (net s) x (λ _. true)) ends (subst (λ (ps : List (ℕ × ℕ)). Walk (net s).arity (next (net s) x (λ _. true)) seen ps xs) none w.rest) in
+        let all : seen ≡ xs = determined (net s).arity (neighbour (net s) x (λ _. true)) ends (subst (λ (ps : List (ℕ × ℕ)). Walk (net s).arity (neighbour (net s) x (λ _. true)) seen ps xs) none w.rest) in
         let long : length seen ≡ length ys = ap length all ∙ two.long in
         agree_same s x y seen ys two.sound two.full (subst (AreAtoms s x) (sym all) (part_atoms s x xs two.part)) (part_atoms s y ys two.part') long w.root two.ports w.functors
         (λ p k. arity_by s (answer seen ys p) p two.sound (w.functors p k))
         (λ p k b j q d e. (agreed_end none p k b j q d e (w.agreed p k q (link_inside s p k (b, j) e))).1)
         (λ p k b j e. link_inside s p k (b, j) e)
       where
-        agreed_end : ahead (net s) (first_marks now) depth a i ≡ [] → (p k b j : ℕ) → In p seen → ◌≢◌ {A = ℕ × ℕ} (p, k) x → link_of s p k ≡ Some (b, j)
-            → HasPort (p, k) (ahead (net s) (first_marks now) depth a i) ⊎ ((◌≡◌ {A = ℕ × ℕ} (p, k) x) ⊎ SameEnd s seen ys p k) → In b seen × (link_of s (answer seen ys p) k ≡ Some (answer seen ys b, j))
+        agreed_end : ports_ahead (net s) (first_marks now) depth a i ≡ [] → (p k b j : ℕ) → In p seen → ◌≢◌ {A = ℕ × ℕ} (p, k) x → link_of s p k ≡ Some (b, j)
+            → HasPort (p, k) (ports_ahead (net s) (first_marks now) depth a i) ⊎ ((◌≡◌ {A = ℕ × ℕ} (p, k) x) ⊎ SameEnd s seen ys p k) → In b seen × (link_of s (answer seen ys p) k ≡ Some (answer seen ys b, j))
         agreed_end none p k b j q d e (inl m) = absurd (subst (HasPort (p, k)) none m)
         agreed_end none p k b j q d e (inr (inl h)) = absurd (d h)
         agreed_end none p k b j q d e (inr (inr h)) = h b j e
@@ -367,22 +370,22 @@ module _ (s : Heap) (x y : ℕ × ℕ) (xs ys : List ℕ) (two : Two s x y xs ys
       → functor_of s y.0 ≡ functor_of s x.0 → Following s now x y xs ys (x.0 ∷ []) 0 x.0 y.0 0 1
   follow_first now numbers made clean port small functor =
       let away : (z : ℕ) → z ≢ x.0 → first_marks now z ≡ first_marks s z = λ z e. ap (λ (h : Heap). first_marks h z) made ∙ mark_away s x.0 (512 + x.1) z e in
-      let x_in : In x.0 xs = kept_seen (net s).arity (next (net s) x (λ _. true)) two.part x.0 (inl refl) in
-      let r = begins (net s).arity (next (net s) y (λ _. true)) two.part' in
+      let x_in : In x.0 xs = kept_seen (net s).arity (neighbour (net s) x (λ _. true)) two.part x.0 (inl refl) in
+      let r = begins (net s).arity (neighbour (net s) y (λ _. true)) two.part' in
       let root_is : answer (x.0 ∷ []) ys x.0 ≡ y.0 = ap (λ (zs : List ℕ). answer (x.0 ∷ []) zs x.0) r.1 ∙ answer_here x.0 y.0 [] r.0 x.0 refl in
-      let start : ports_from (net s) x.0 0 ++ [] ≡ ports x.0 0 (arity_of s x.0) = to_none (ports_from (net s) x.0 0) ∙ ap (λ (k : ℕ). ports x.0 0 k) (let z : arity_of s x.0 - 0 ≡ arity_of s x.0 = omega arith in z) in
+      let start : ports_from (net s) x.0 0 ++ [] ≡ port_range x.0 0 (arity_of s x.0) = to_none (ports_from (net s) x.0 0) ∙ ap (λ (k : ℕ). port_range x.0 0 k) (let z : arity_of s x.0 - 0 ≡ arity_of s x.0 = omega arith in z) in
       record {
         walk = subst (λ (h : Heap). Spreading s h x None (x.0 ∷ []) 0 x.0 0 1) (sym made) (spreading_first s x None (512 + x.1) two.sound clean port tt (omega arith) (omega (arith, small)));
         numbers = numbered_same (first_marks s) (first_marks now) 2 ys numbers (λ z k. away z (λ e. two.apart x.0 x_in (subst (λ (t : ℕ). In t ys) e k)));
-        rest = subst (λ (ps : List (ℕ × ℕ)). Walk (net s).arity (next (net s) x (λ _. true)) (x.0 ∷ []) ps xs) (sym start) two.part;
+        rest = subst (λ (ps : List (ℕ × ℕ)). Walk (net s).arity (neighbour (net s) x (λ _. true)) (x.0 ∷ []) ps xs) (sym start) two.part;
         answers = sym root_is;
         root = root_is;
         agreed = λ p k q l. inl (subst (HasPort (p, k)) (sym start) (at_first p k q l));
         functors = λ p q. first_only p q root_is;
       }
     where
-      at_first : (p k : ℕ) → In p (x.0 ∷ []) → k < arity_of s p → HasPort (p, k) (ports x.0 0 (arity_of s x.0))
-      at_first p k (inl e) l = subst (λ (z : ℕ). HasPort (z, k) (ports x.0 0 (arity_of s x.0))) e (holds_port x.0 0 (arity_of s x.0) k (omega arith) (let m : k < arity_of s x.0 = subst (λ (z : ℕ). k < arity_of s z) (sym e) l in omega (arith, m)))
+      at_first : (p k : ℕ) → In p (x.0 ∷ []) → k < arity_of s p → HasPort (p, k) (port_range x.0 0 (arity_of s x.0))
+      at_first p k (inl e) l = subst (λ (z : ℕ). HasPort (z, k) (port_range x.0 0 (arity_of s x.0))) e (holds_port x.0 0 (arity_of s x.0) k (omega arith) (let m : k < arity_of s x.0 = subst (λ (z : ℕ). k < arity_of s z) (sym e) l in omega (arith, m)))
       at_first p k (inr i) l = absurd i
 
       first_only : (p : ℕ) → In p (x.0 ∷ []) → answer (x.0 ∷ []) ys x.0 ≡ y.0 → functor_of s (answer (x.0 ∷ []) ys p) ≡ functor_of s p
@@ -390,29 +393,23 @@ module _ (s : Heap) (x y : ℕ × ℕ) (xs ys : List ℕ) (two : Two s x y xs ys
       first_only p (inr i) f = absurd i
 
   module _ (now : Heap) (seen : List ℕ) (depth a c i count : ℕ) (w : Following s now x y xs ys seen depth a c i count) where
-    now_is : net now ≡ net s
-    now_is = ap net w.walk.is ∙ net_painted s w.walk.marks
-
-    pub here_in : In a seen
-    here_in = w.walk.way_seen a (top_in (net s) (first_marks now) depth a)
-
     pub follow_way : OnWay (net now) (first_marks now) x depth a
     follow_way = way_now s now x None seen depth a i count w.walk
 
     pub follow_here : i ≤ arity_of now a
-    follow_here = subst (λ (n : Net). i ≤ n.arity a) (sym now_is) w.walk.here
+    follow_here = subst (λ (n : Net). i ≤ n.arity a) (sym (nets now seen depth a c i count w)) w.walk.here
 
     pub follow_arity : arity_of now c ≡ arity_of now a
-    follow_arity = ap (λ (n : Net). n.arity c) now_is ∙ ap (arity_of s) w.answers ∙ arity_by s (answer seen ys a) a two.sound (w.functors a here_in) ∙ sym (ap (λ (n : Net). n.arity a) now_is)
+    follow_arity = ap (λ (n : Net). n.arity c) (nets now seen depth a c i count w) ∙ ap (arity_of s) w.answers ∙ arity_by s (answer seen ys a) a two.sound (w.functors a (a_seen now seen depth a c i count w)) ∙ sym (ap (λ (n : Net). n.arity a) (nets now seen depth a c i count w))
 
-    pub entry_low : 0 < depth → entry (first_marks now a) < arity_of now a
+    pub entry_low : 0 < depth → entry_port (first_marks now a) < arity_of now a
     entry_low l = by depth follow_way l
       where
-        by : (d : ℕ) → OnWay (net now) (first_marks now) x d a → 0 < d → entry (first_marks now a) < arity_of now a
+        by : (d : ℕ) → OnWay (net now) (first_marks now) x d a → 0 < d → entry_port (first_marks now a) < arity_of now a
         by zero o l = absurd (omega (arith, l))
         by (suc d) o l = o.1
 
-    pub entry_apart : 0 < depth → ◌≢◌ {A = ℕ × ℕ} (a, entry (first_marks now a)) x
+    pub entry_apart : 0 < depth → ◌≢◌ {A = ℕ × ℕ} (a, entry_port (first_marks now a)) x
     entry_apart l h = by depth follow_way l
       where
         by : (d : ℕ) → OnWay (net now) (first_marks now) x d a → 0 < d → ⊥
@@ -421,12 +418,12 @@ module _ (s : Heap) (x y : ℕ × ℕ) (xs ys : List ℕ) (two : Two s x y xs ys
 
     pub both_none : (k : ℕ) → k < arity_of now a → ◌≢◌ {A = ℕ × ℕ} (a, k) x → ((b j d : ℕ) → link_of now a k ≡ Some (b, j) → link_of now c k ≡ Some (d, j) → ⊥)
         → SameGraph (atom_map s) x (atom_map s) y → ⊥
-    both_none k l apart h g = by (link_of s a k) refl (two.full.ends a k (w.walk.reached a here_in) (subst (λ (n : Net). k < n.arity a) now_is l) apart)
+    both_none k l apart h g = by (link_of s a k) refl (two.full.ends a k (w.walk.reached a (a_seen now seen depth a c i count w)) (subst (λ (n : Net). k < n.arity a) (nets now seen depth a c i count w) l) apart)
       where
         by : (o : Option (ℕ × ℕ)) → link_of s a k ≡ o → IsSome (link_of s a k) → ⊥
         by None e is = let is' = subst (λ (o : Option (ℕ × ℕ)). IsSome o) e is in absurd (cc)
         by (Some q) e is =
-            let f : link_of now a k ≡ Some q = subst (λ (n : Net). n.link a k ≡ Some q) (sym now_is) e in
+            let f : link_of now a k ≡ Some q = subst (λ (n : Net). n.link a k ≡ Some q) (sym (nets now seen depth a c i count w)) e in
             h q.0 q.1 (g.to q.0) f (must_end now seen depth a c i count w g k q.0 q.1 apart f)
 
     image : (g : SameGraph (atom_map s) x (atom_map s) y) (k b j d : ℕ) → ◌≢◌ {A = ℕ × ℕ} (a, k) x → link_of now a k ≡ Some (b, j) → link_of now c k ≡ Some (d, j) → g.to b ≡ d
@@ -444,19 +441,19 @@ module _ (s : Heap) (x y : ℕ × ℕ) (xs ys : List ℕ) (two : Two s x y xs ys
     pub functor_differs : (b j d : ℕ) → is_port (a, i) x ≡ false → link_of now a i ≡ Some (b, j) → link_of now c i ≡ Some (d, j)
         → (functor_of now d ≡ functor_of now b → ⊥) → SameGraph (atom_map s) x (atom_map s) y → ⊥
     functor_differs b j d other link end h g =
-        let link' : link_of s a i ≡ Some (b, j) = subst (λ (n : Net). n.link a i ≡ Some (b, j)) now_is link in
-        let rb : Reached (atom_map s) x b = across (w.walk.reached a here_in) (not_root a i x other) link' in
+        let link' : link_of s a i ≡ Some (b, j) = subst (λ (n : Net). n.link a i ≡ Some (b, j)) (nets now seen depth a c i count w) link in
+        let rb : Reached (atom_map s) x b = across (w.walk.reached a (a_seen now seen depth a c i count w)) (not_root a i x other) link' in
         let same : (z : ℕ) → functor_of now z ≡ functor_of s z = λ z. ap (λ (t : Heap). functor_of t z) w.walk.is ∙ functor_painted s w.walk.marks z in
         h (ap (functor_of now) (sym (image g i b j d (not_root a i x other) link end)) ∙ same (g.to b) ∙ g.functors b rb ∙ sym (same b))
 
     pub marked_seen : (b j : ℕ) → is_port (a, i) x ≡ false → link_of now a i ≡ Some (b, j) → first_marks now b ≢ 0 → In b seen
     marked_seen b j other link v =
-        let link' : link_of s a i ≡ Some (b, j) = subst (λ (n : Net). n.link a i ≡ Some (b, j)) now_is link in
-        elim (in_or_not b seen) [ inl k ↦ k | inr d ↦ absurd (v (w.walk.off b (across (w.walk.reached a here_in) (not_root a i x other) link') d)) ]
+        let link' : link_of s a i ≡ Some (b, j) = subst (λ (n : Net). n.link a i ≡ Some (b, j)) (nets now seen depth a c i count w) link in
+        elim (in_or_not b seen) [ inl k ↦ k | inr d ↦ absurd (v (w.walk.off b (across (w.walk.reached a (a_seen now seen depth a c i count w)) (not_root a i x other) link') d)) ]
 
-    pub back_seen : (p k : ℕ) → 0 < depth → link_of now a (entry (first_marks now a)) ≡ Some (p, k) → In p seen
-    back_seen p k l link = by depth w.walk.way_seen l (subst (λ (n : Net). n.link a (entry (first_marks now a)) ≡ Some (p, k)) now_is link)
+    pub back_seen : (p k : ℕ) → 0 < depth → link_of now a (entry_port (first_marks now a)) ≡ Some (p, k) → In p seen
+    back_seen p k l link = by depth w.walk.way_seen l (subst (λ (n : Net). n.link a (entry_port (first_marks now a)) ≡ Some (p, k)) (nets now seen depth a c i count w) link)
       where
-        by : (d : ℕ) → ((z : ℕ) → In z (way (net s) (first_marks now) d a) → In z seen) → 0 < d → (net s).link a (entry (first_marks now a)) ≡ Some (p, k) → In p seen
+        by : (d : ℕ) → ((z : ℕ) → In z (way (net s) (first_marks now) d a) → In z seen) → 0 < d → (net s).link a (entry_port (first_marks now a)) ≡ Some (p, k) → In p seen
         by zero h l e = absurd (omega (arith, l))
         by (suc d) h l e = h p (inr (subst (λ (r : ℕ × ℕ). In p (way (net s) (first_marks now) d r.0)) (sym (ap or_zero e)) (top_in (net s) (first_marks now) d p)))

@@ -5,13 +5,13 @@ use Rattle.lmn_heap.specs.Sound.{Sound}
 use Rattle.lmn_ground.specs.Walks.{is_port}
 use Rattle.lmn_ground.specs.Marks.{first_marks}
 use Rattle.lmn_ground.specs.Spread.{CleanPart, IsWhole, Spreading}
-use Rattle.lmn_ground.specs.Copies.{Numbers, Gathered}
+use Rattle.lmn_ground.specs.Copies.{NumbersAtoms, Gathered}
 use Rattle.lmn_ground.proofs.PaintLaws.{painted_none, with_port}
 use Rattle.lmn_ground.proofs.SpreadLaws.{spreading_first, entered, whole_part, unjoined}
 use Rattle.lmn_ground.proofs.CopyLaws.{map_snoc}
 
-pub gather_none : {A : Type 0} (id : A → ℕ) (s : Heap) (xs : List A) → xs ≡ [] → (ys : List A) → ys ≡ xs → Numbers s s (map id ys)
-gather_none {A = A} id s xs e ys h = subst (λ (zs : List A). Numbers s s (map id zs)) (sym (h ∙ e)) (record {
+pub gather_none : {A : Type 0} (id : A → ℕ) (s : Heap) (xs : List A) → xs ≡ [] → (ys : List A) → ys ≡ xs → NumbersAtoms s s (map id ys)
+gather_none {A = A} id s xs e ys h = subst (λ (zs : List A). NumbersAtoms s s (map id zs)) (sym (h ∙ e)) (record {
   marks = λ _. 0;
   is = sym (painted_none s (λ _. 0) (λ a. refl));
   outside = λ x d. refl;
@@ -37,7 +37,7 @@ gather_next id s now to root xs ys depth a i b j count h made t sound clean low 
     subst (λ (zs : List ℕ). Spreading s to root None zs (depth + 1) (id b) 0 (count + 1)) (sym (ap (map id) h ∙ map_snoc id xs b))
     (entered s now to root None (map id xs) depth a i (id b) j count made t sound clean low link back port small other fresh tt)
 
-pub gather_some : (s now : Heap) (root : ℕ × ℕ) (seen : List ℕ) (depth a i count : ℕ) → Spreading s now root None seen depth a i count → Numbers s now seen
+pub gather_some : (s now : Heap) (root : ℕ × ℕ) (seen : List ℕ) (depth a i count : ℕ) → Spreading s now root None seen depth a i count → NumbersAtoms s now seen
 gather_some s now root seen depth a i count t = record {
   marks = t.marks;
   is = t.is;

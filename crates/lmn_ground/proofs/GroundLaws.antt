@@ -6,13 +6,14 @@ use Rattle.lmn_base.specs.Graphs.{Reached, at_root, across}
 use Rattle.lmn_heap.specs.Heap.{Heap, HeapAtom, In, IsAtom, arity_of, link_of, functor_of}
 use Rattle.lmn_heap.specs.Sound.{Sound}
 use Rattle.lmn_heap.specs.Graphs.{atom_map}
-use Rattle.lmn_ground.specs.Walks.{HasPort, Net, net, ports, next, is_port, IsPart}
-use Rattle.lmn_ground.specs.Spread.{IsWhole, IsGround, Spread, AreAtoms}
+use Rattle.lmn_ground.specs.Walks.{HasPort, Net, net, is_port}
+use Rattle.lmn_ground.specs.Spread.{IsWhole, IsGroundIn, Spread, AreAtoms}
 use Rattle.lmn_ground.proofs.WalkLaws.{once, only}
 use Rattle.lmn_ground.proofs.SoughtLaws.{next_root, next_link, next_none}
 use Rattle.lmn_ground.proofs.PaintLaws.{net_painted, is_painted, with_port}
 use Rattle.lmn_heap.proofs.Pigeonholes.{not_longer}
 use Rattle.lmn_ground.proofs.SpreadLaws.{not_root, part_reached}
+use Rattle.lmn_parts.specs.Walks.{port_range, neighbour, IsPartInDepth}
 
 -- the root in the marked heap
 pub root_there : (before now : Heap) (root : ℕ × ℕ) (count : ℕ) (all : Bool) → Spread before now root count all → IsAtom before root.0 → IsAtom now root.0
@@ -22,7 +23,7 @@ pub root_port_there : (before now : Heap) (root : ℕ × ℕ) (count : ℕ) (all
 root_port_there before now root count all t l = subst (λ (n : Net). root.1 < n.arity root.0) (sym (ap net t.is ∙ net_painted before t.marks)) l
 
 -- fitting in a membrane is being ground in it
-pub fits_ground : (s : Heap) (root : ℕ × ℕ) (home : ℕ) → Sound s → IsWhole s root (Some home) ↔ IsGround s root home
+pub fits_ground : (s : Heap) (root : ℕ × ℕ) (home : ℕ) → Sound s → IsWhole s root (Some home) ↔ IsGroundIn s root home
 fits_ground s root home sound = (
   λ f. record {
     whole = record {
@@ -45,11 +46,11 @@ fits_ground s root home sound = (
         h x.functor f (omega (arith, l, p))
 
 -- the walk finds what is reached, and that once
-pub part_atoms : (s : Heap) (root : ℕ × ℕ) (all : List ℕ) → IsPart s root all → AreAtoms s root all
+pub part_atoms : (s : Heap) (root : ℕ × ℕ) (all : List ℕ) → IsPartInDepth s root all → AreAtoms s root all
 part_atoms s root all w = (
-  once (net s).arity (next (net s) root (λ _. true)) w (tt, tt),
+  once (net s).arity (neighbour (net s) root (λ _. true)) w (tt, tt),
   λ a. (
-    λ k. only (net s).arity (next (net s) root (λ _. true)) (Reached (atom_map s) root) step w (λ x i. at_start x i) (λ p h. from_root p (arity_of s root.0) 0 h) a k,
+    λ k. only (net s).arity (neighbour (net s) root (λ _. true)) (Reached (atom_map s) root) step w (λ x i. at_start x i) (λ p h. from_root p (arity_of s root.0) 0 h) a k,
     λ r. part_reached s root all w a r,
   ),
 )
@@ -58,12 +59,12 @@ part_atoms s root all w = (
     at_start x (inl e) = subst (Reached (atom_map s) root) e at_root
     at_start x (inr k) = absurd k
 
-    from_root : (p : ℕ × ℕ) (n i : ℕ) → HasPort p (ports root.0 i n) → Reached (atom_map s) root p.0
+    from_root : (p : ℕ × ℕ) (n i : ℕ) → HasPort p (port_range root.0 i n) → Reached (atom_map s) root p.0
     from_root p zero i h = absurd h
     from_root p (suc n) i (inl e) = subst (λ (q : ℕ × ℕ). Reached (atom_map s) root q.0) e at_root
     from_root p (suc n) i (inr h) = from_root p n (i + 1) h
 
-    step : (a i b : ℕ) → Reached (atom_map s) root a → next (net s) root (λ _. true) (a, i) ≡ Some b → Reached (atom_map s) root b
+    step : (a i b : ℕ) → Reached (atom_map s) root a → neighbour (net s) root (λ _. true) (a, i) ≡ Some b → Reached (atom_map s) root b
     step a i b r e = at (is_port (a, i) root) refl (link_of s a i) refl
       where
         at : (t : Bool) → is_port (a, i) root ≡ t → (o : Option (ℕ × ℕ)) → link_of s a i ≡ o → Reached (atom_map s) root b
@@ -72,7 +73,7 @@ part_atoms s root all w = (
         at false f (Some q) g = subst (Reached (atom_map s) root) (next_link (net s) root (λ _. true) a i q.0 b q.1 g e) (across r (not_root a i root f) g)
 
 -- there is one number of atoms
-pub one_size : (s : Heap) (root : ℕ × ℕ) (all xs : List ℕ) → IsPart s root all → AreAtoms s root xs → length all ≡ length xs
+pub one_size : (s : Heap) (root : ℕ × ℕ) (all xs : List ℕ) → IsPartInDepth s root all → AreAtoms s root xs → length all ≡ length xs
 one_size s root all xs w are =
     let p = part_atoms s root all w in
     let h = not_longer all xs p.0 (λ x k. (are.1 x).1 ((p.1 x).0 k)) in
@@ -82,5 +83,5 @@ one_size s root all xs w are =
 pub size_is : (before now : Heap) (root : ℕ × ℕ) (count : ℕ) (all : Bool) → Spread before now root count all → all ≡ true → (xs : List ℕ) → AreAtoms before root xs → count ≡ length xs
 size_is before now root count all t e xs are = sym t.counted ∙ one_size before root t.seen xs (t.whole e) are
 
-pub some_part : (before now : Heap) (root : ℕ × ℕ) (count : ℕ) (all : Bool) → Spread before now root count all → all ≡ true → (xs : List ℕ) × IsPart before root xs × (length xs ≡ count)
+pub some_part : (before now : Heap) (root : ℕ × ℕ) (count : ℕ) (all : Bool) → Spread before now root count all → all ≡ true → (xs : List ℕ) × IsPartInDepth before root xs × (length xs ≡ count)
 some_part before now root count all t e = (t.seen, t.whole e, t.counted)

@@ -4,19 +4,21 @@ use Rattle.std.proofs.lemmas.Bool.{cases_eq}
 use Rattle.std.proofs.lemmas.List.{length-set}
 use Rattle.std.specs.Option.{option_map}
 use Rattle.std.specs.Prelude.{slice_index_or}
-use Rattle.lmn_heap.specs.Heap.{Heap, HeapAtom, In, with_link, links_of, marks_of, mark_of, link_of, arity_of, linked, cleared, joined}
+use Rattle.lmn_heap.specs.Heap.{Heap, HeapAtom, In, with_link, partners_of, marks_of, mark_of, link_of, arity_of, linked, cleared, joined}
 use Rattle.lmn_heap.specs.Splice.{joined_to}
 use Rattle.lmn_heap.proofs.Listing.{alter_at, alter_away}
 use Rattle.lmn_heap.proofs.Ports.{SamePort, same_port, linked_away, joined_arity, joined_a, joined_b, joined_other, joined_paired}
-use Rattle.lmn_ground.specs.Walks.{HasPort, ports, is_port}
+use Rattle.lmn_ground.specs.Walks.{HasPort, is_port}
 use Rattle.lmn_ground.specs.Marks.{first_marks}
 use Rattle.lmn_ground.specs.Spread.{Numbered}
 use Rattle.lmn_ground.specs.Follow.{answer}
-use Rattle.lmn_ground.specs.Copies.{moved, joined_like, all_joined, IsJoined, Copying}
+use Rattle.lmn_ground.specs.Copies.{moved, joined_like, all_joined, CopyIsJoined, Copying}
 use Rattle.lmn_ground.proofs.EqualLaws.{answer_in, answer_one, same_pair}
 use Rattle.lmn_ground.proofs.SoughtLaws.{same_port as is_root_port}
-use Rattle.lmn_ground.proofs.SpreadLaws.{not_root, link_inside}
+use Rattle.lmn_ground.proofs.SpreadLaws.{not_root}
 use Rattle.lmn_ground.proofs.NumberLaws.{numbered_same}
+use Rattle.lmn_parts.specs.Walks.{port_range}
+use Rattle.lmn_heap.proofs.Replacing.{port_within as link_inside}
 
 -- what joining leaves as it is
 module _ {X : Type 0} (view : Option HeapAtom → X) (h : (i : ℕ) (p : Option (ℕ × ℕ)) (o : Option HeapAtom) → view (option_map (with_link i p) o) ≡ view o) where
@@ -119,31 +121,31 @@ module _ (s : Heap) (root : ℕ × ℕ) (xs ys : List ℕ) (t : Copying s root x
         (λ p g e. n (subst (λ (z : ℕ). In z ys) (sym (e ∙ (points b j a i b_in (t.paired.back a i b j link) p.0 p.1 g).0)) (copy_in a a_in)))
 
     link_kept : (x k : ℕ) → In x xs → link_of next x k ≡ link_of s x k
-    link_kept x k x_in = ap (λ (o : Option HeapAtom). slice_index_or (links_of o) k None) (away x (t.apart x x_in))
+    link_kept x k x_in = ap (λ (o : Option HeapAtom). slice_index_or (partners_of o) k None) (away x (t.apart x x_in))
 
-    this : (x k : ℕ) → In x xs → SamePort (answer xs ys x) k (answer xs ys a) i → IsJoined next root (answer xs ys) x k
+    this : (x k : ℕ) → In x xs → SamePort (answer xs ys x) k (answer xs ys a) i → CopyIsJoined next root (answer xs ys) x k
     this x k x_in e =
         let g : x ≡ a = copy_one x a x_in a_in e.0 in
         let h : k ≡ i = e.1 in
-        subst (λ (p : ℕ × ℕ). IsJoined next root (answer xs ys) p.0 p.1) (λ m. let r : ℕ × ℕ = ((sym g) m, (sym h) m) in r) (
+        subst (λ (p : ℕ × ℕ). CopyIsJoined next root (answer xs ys) p.0 p.1) (λ m. let r : ℕ × ℕ = ((sym g) m, (sym h) m) in r) (
           not_root a i root other,
           subst (λ (o : Option (ℕ × ℕ)). IsSome o) (sym (link_kept a i a_in ∙ link)) refl,
           joined_a s (answer xs ys a) i (answer xs ys b) j i_low j_low differ ∙ sym (ap (option_map (moved (answer xs ys))) (link_kept a i a_in ∙ link)),
         )
 
-    that : (x k : ℕ) → In x xs → SamePort (answer xs ys x) k (answer xs ys b) j → IsJoined next root (answer xs ys) x k
+    that : (x k : ℕ) → In x xs → SamePort (answer xs ys x) k (answer xs ys b) j → CopyIsJoined next root (answer xs ys) x k
     that x k x_in e =
         let g : x ≡ b = copy_one x b x_in b_in e.0 in
         let h : k ≡ j = e.1 in
         let back_link = t.paired.back a i b j link in
-        subst (λ (p : ℕ × ℕ). IsJoined next root (answer xs ys) p.0 p.1) (λ m. let r : ℕ × ℕ = ((sym g) m, (sym h) m) in r) (
+        subst (λ (p : ℕ × ℕ). CopyIsJoined next root (answer xs ys) p.0 p.1) (λ m. let r : ℕ × ℕ = ((sym g) m, (sym h) m) in r) (
           (t.closed a i b j a_in (not_root a i root other) link).1,
           subst (λ (o : Option (ℕ × ℕ)). IsSome o) (sym (link_kept b j b_in ∙ back_link)) refl,
           joined_b s (answer xs ys a) i (answer xs ys b) j i_low j_low differ ∙ sym (ap (option_map (moved (answer xs ys))) (link_kept b j b_in ∙ back_link)),
         )
 
     -- a joined port stays joined
-    stays : (x k : ℕ) → In x xs → IsJoined s root (answer xs ys) x k → IsJoined next root (answer xs ys) x k
+    stays : (x k : ℕ) → In x xs → CopyIsJoined s root (answer xs ys) x k → CopyIsJoined next root (answer xs ys) x k
     stays x k x_in r = elim (same_port (answer xs ys x) k (answer xs ys a) i) [
       | inl e ↦ this x k x_in e
       | inr na ↦ elim (same_port (answer xs ys x) k (answer xs ys b) j) [
@@ -156,7 +158,7 @@ module _ (s : Heap) (root : ℕ × ℕ) (xs ys : List ℕ) (t : Copying s root x
       ]
     ]
 
-    port_joined : (x k : ℕ) → In x xs → (link_of next (answer xs ys x) k ≡ None) ⊎ IsJoined next root (answer xs ys) x k
+    port_joined : (x k : ℕ) → In x xs → (link_of next (answer xs ys x) k ≡ None) ⊎ CopyIsJoined next root (answer xs ys) x k
     port_joined x k x_in = elim (same_port (answer xs ys x) k (answer xs ys a) i) [
       | inl e ↦ inr (this x k x_in e)
       | inr na ↦ elim (same_port (answer xs ys x) k (answer xs ys b) j) [
@@ -190,11 +192,11 @@ module _ (s : Heap) (root : ℕ × ℕ) (xs ys : List ℕ) (t : Copying s root x
     pub like_away : (c : ℕ) → (In c ys → ⊥) → (joined_like (answer xs ys) root s (a, i)).atoms c ≡ s.atoms c
     like_away c n = like_by (answer xs ys) root s (a, i) (λ h. h.atoms c ≡ s.atoms c) (λ _. refl) (λ b j e g. away a i a_in b j e g c n)
 
-    like_stays : (x k : ℕ) → In x xs → IsJoined s root (answer xs ys) x k → IsJoined (joined_like (answer xs ys) root s (a, i)) root (answer xs ys) x k
-    like_stays x k x_in r = like_by (answer xs ys) root s (a, i) (λ h. IsJoined h root (answer xs ys) x k) (λ _. r) (λ b j e g. stays a i a_in b j e g x k x_in r)
+    like_stays : (x k : ℕ) → In x xs → CopyIsJoined s root (answer xs ys) x k → CopyIsJoined (joined_like (answer xs ys) root s (a, i)) root (answer xs ys) x k
+    like_stays x k x_in r = like_by (answer xs ys) root s (a, i) (λ h. CopyIsJoined h root (answer xs ys) x k) (λ _. r) (λ b j e g. stays a i a_in b j e g x k x_in r)
 
-    like_joins : ◌≢◌ {A = ℕ × ℕ} (a, i) root → IsSome (link_of s a i) → IsJoined (joined_like (answer xs ys) root s (a, i)) root (answer xs ys) a i
-    like_joins d is = like_by (answer xs ys) root s (a, i) (λ h. IsJoined h root (answer xs ys) a i) (λ w. absurd (none w)) (λ b j e g. this a i a_in b j e g a i a_in (refl, refl))
+    like_joins : ◌≢◌ {A = ℕ × ℕ} (a, i) root → IsSome (link_of s a i) → CopyIsJoined (joined_like (answer xs ys) root s (a, i)) root (answer xs ys) a i
+    like_joins d is = like_by (answer xs ys) root s (a, i) (λ h. CopyIsJoined h root (answer xs ys) a i) (λ w. absurd (none w)) (λ b j e g. this a i a_in b j e g a i a_in (refl, refl))
       where
         none : (is_port (a, i) root ≡ true) ⊎ (link_of s a i ≡ None) → ⊥
         none (inl e) = d (is_root_port a i root e)
@@ -214,12 +216,12 @@ marks_linked i p (Some x) = refl
 pub all_marks : (f : ℕ → ℕ) (root : ℕ × ℕ) (s : Heap) (ps : List (ℕ × ℕ)) (c k : ℕ) → mark_of (all_joined f root s ps) c k ≡ mark_of s c k
 all_marks f root s ps c k = ap (λ (xs : List ℕ). slice_index_or xs k 0) (all_view marks_of marks_linked f root s ps c)
 
-pub arity_linked : (i : ℕ) (p : Option (ℕ × ℕ)) (o : Option HeapAtom) → length (links_of (option_map (with_link i p) o)) ≡ length (links_of o)
+pub arity_linked : (i : ℕ) (p : Option (ℕ × ℕ)) (o : Option HeapAtom) → length (partners_of (option_map (with_link i p) o)) ≡ length (partners_of o)
 arity_linked i p None = refl
 arity_linked i p (Some x) = length-set x.links i p
 
 pub all_arity : (f : ℕ → ℕ) (root : ℕ × ℕ) (s : Heap) (ps : List (ℕ × ℕ)) (c : ℕ) → arity_of (all_joined f root s ps) c ≡ arity_of s c
-all_arity f root s ps c = all_view (λ (o : Option HeapAtom). length (links_of o)) arity_linked f root s ps c
+all_arity f root s ps c = all_view (λ (o : Option HeapAtom). length (partners_of o)) arity_linked f root s ps c
 
 pub like_arity : (f : ℕ → ℕ) (root : ℕ × ℕ) (s : Heap) (p : ℕ × ℕ) (c : ℕ) → arity_of (joined_like f root s p) c ≡ arity_of s c
 like_arity f root s p c = all_arity f root s (p ∷ []) c
@@ -243,8 +245,8 @@ module _ (root : ℕ × ℕ) (xs ys : List ℕ) where
       all_away (joined_like (answer xs ys) root s p) ps (like_copying s root xs ys t p.0 p.1 (h p (inl refl))) (λ q k. h q (inr k)) c n
       ∙ like_away s root xs ys t p.0 p.1 (h p (inl refl)) c n
 
-  all_stays : (s : Heap) (ps : List (ℕ × ℕ)) → Copying s root xs ys → ((p : ℕ × ℕ) → HasPort p ps → In p.0 xs) → (x k : ℕ) → In x xs → IsJoined s root (answer xs ys) x k
-      → IsJoined (all_joined (answer xs ys) root s ps) root (answer xs ys) x k
+  all_stays : (s : Heap) (ps : List (ℕ × ℕ)) → Copying s root xs ys → ((p : ℕ × ℕ) → HasPort p ps → In p.0 xs) → (x k : ℕ) → In x xs → CopyIsJoined s root (answer xs ys) x k
+      → CopyIsJoined (all_joined (answer xs ys) root s ps) root (answer xs ys) x k
   all_stays s [] t h x k i r = r
   all_stays s (p ∷ ps) t h x k i r =
       all_stays (joined_like (answer xs ys) root s p) ps (like_copying s root xs ys t p.0 p.1 (h p (inl refl))) (λ q m. h q (inr m)) x k i
@@ -252,17 +254,17 @@ module _ (root : ℕ × ℕ) (xs ys : List ℕ) where
 
   -- each of these ports but the root has its copy joined
   pub all_joins : (s : Heap) (ps : List (ℕ × ℕ)) → Copying s root xs ys → ((p : ℕ × ℕ) → HasPort p ps → In p.0 xs) → (a i : ℕ) → HasPort (a, i) ps
-      → ◌≢◌ {A = ℕ × ℕ} (a, i) root → IsSome (link_of s a i) → IsJoined (all_joined (answer xs ys) root s ps) root (answer xs ys) a i
+      → ◌≢◌ {A = ℕ × ℕ} (a, i) root → IsSome (link_of s a i) → CopyIsJoined (all_joined (answer xs ys) root s ps) root (answer xs ys) a i
   all_joins s [] t h a i k d is = absurd k
   all_joins s (p ∷ ps) t h a i (inl e) d is =
       let a_in : In a xs = h (a, i) (inl e) in
       all_stays (joined_like (answer xs ys) root s p) ps (like_copying s root xs ys t p.0 p.1 (h p (inl refl))) (λ q m. h q (inr m)) a i a_in
-      (subst (λ (q : ℕ × ℕ). IsJoined (joined_like (answer xs ys) root s q) root (answer xs ys) a i) (sym e) (like_joins s root xs ys t a i a_in d is))
+      (subst (λ (q : ℕ × ℕ). CopyIsJoined (joined_like (answer xs ys) root s q) root (answer xs ys) a i) (sym e) (like_joins s root xs ys t a i a_in d is))
   all_joins s (p ∷ ps) t h a i (inr k) d is =
       all_joins (joined_like (answer xs ys) root s p) ps (like_copying s root xs ys t p.0 p.1 (h p (inl refl))) (λ q m. h q (inr m)) a i k d
-      (subst (λ (o : Option (ℕ × ℕ)). IsSome o) (sym (ap (λ (o : Option HeapAtom). slice_index_or (links_of o) i None) (like_away s root xs ys t p.0 p.1 (h p (inl refl)) a (t.apart a (h (a, i) (inr k)))))) is)
+      (subst (λ (o : Option (ℕ × ℕ)). IsSome o) (sym (ap (λ (o : Option HeapAtom). slice_index_or (partners_of o) i None) (like_away s root xs ys t p.0 p.1 (h p (inl refl)) a (t.apart a (h (a, i) (inr k)))))) is)
 
-pub ports_in : (xs : List ℕ) (a i n : ℕ) → In a xs → (p : ℕ × ℕ) → HasPort p (ports a i n) → In p.0 xs
+pub ports_in : (xs : List ℕ) (a i n : ℕ) → In a xs → (p : ℕ × ℕ) → HasPort p (port_range a i n) → In p.0 xs
 ports_in xs a i zero a_in p k = absurd k
 ports_in xs a i (suc n) a_in p (inl e) = subst (λ (q : ℕ × ℕ). In q.0 xs) e a_in
 ports_in xs a i (suc n) a_in p (inr k) = ports_in xs a (i + 1) n a_in p k

@@ -1,15 +1,16 @@
 -- What marks change of a heap, and that they change no walk.
-use Rattle.std.proofs.Common.{◌≡◌, ◌≢◌, ◌⊎◌, ℕ, zero, suc, ◌+◌, ◌<◌, ◌==◌, Bool, true, false, cond, List, [], ◌∷◌, ◌++◌, length, Option, Some, None, IsSome, refl, sym, ap, subst, ◌∙◌, inl, inr, arith}
+use Rattle.std.proofs.Common.{◌≡◌, ◌≢◌, ℕ, zero, suc, ◌+◌, ◌<◌, ◌==◌, Bool, true, false, cond, List, [], ◌∷◌, ◌++◌, length, Option, Some, None, IsSome, refl, sym, ap, subst, ◌∙◌, inl, inr, arith}
 use Rattle.std.proofs.lemmas.Bool.{cases_eq, eq-eqb, eqb-true}
 use Rattle.std.proofs.lemmas.List.{get_or-set_same}
 use Rattle.std.specs.Option.{option_map}
 use Rattle.std.specs.Prelude.{slice_set, slice_index_or}
-use Rattle.lmn_heap.specs.Heap.{Heap, HeapAtom, In, IsAtom, alter, with_mark, marked, links_of, marks_of, arity_of}
+use Rattle.lmn_heap.specs.Heap.{Heap, HeapAtom, In, IsAtom, alter, with_mark, marked, partners_of, marks_of, arity_of}
 use Rattle.lmn_heap.proofs.Listing.{alter_at, alter_away}
 use Rattle.lmn_ground.specs.Walks.{Net, net, ports_from, is_in}
-use Rattle.lmn_ground.specs.Marks.{paint, painted, first_marks, entry, or_zero, back, way, behind, OnWay}
+use Rattle.lmn_ground.specs.Marks.{paint, painted, first_marks, entry_port, or_zero, back, way, ports_behind, OnWay}
+use Rattle.lmn_heap.proofs.Common.{same_atoms as same_painted}
 
-paint_links : (v : ℕ) (o : Option HeapAtom) → links_of (paint v o) ≡ links_of o
+paint_links : (v : ℕ) (o : Option HeapAtom) → partners_of (paint v o) ≡ partners_of o
 paint_links zero o = refl
 paint_links (suc v) None = refl
 paint_links (suc v) (Some x) = refl
@@ -44,9 +45,6 @@ set_same : (xs : List ℕ) → slice_index_or xs 0 0 ≡ 0 → slice_set xs 0 0 
 set_same [] e = refl
 set_same (x ∷ xs) e = ap (λ y. y ∷ xs) (sym e)
 
-same_painted : (s : Heap) (f g : ℕ → Option HeapAtom) → ((a : ℕ) → f a ≡ g a) → record s { atoms = f } ≡ record s { atoms = g }
-same_painted s f g h = ap (λ (k : ℕ → Option HeapAtom). let t : Heap = record s { atoms = k } in t) (λ i a. h a i)
-
 pub painted_marked : (s : Heap) (v : ℕ → ℕ) (b m : ℕ) → 0 < m → marked (painted s v) b 0 m ≡ painted s (alter v b (λ _. m))
 painted_marked s v b zero l = absurd (omega arith)
 painted_marked s v b (suc m) l = same_painted s _ _ (λ a. elim (cases_eq a b) [
@@ -79,16 +77,16 @@ painted_none s v h = same_painted s _ _ (λ a. ap (λ (w : ℕ). paint w (s.atom
 -- other marks elsewhere change no way back
 module _ (n : Net) (v w : ℕ → ℕ) where
   back_same : (a : ℕ) → w a ≡ v a → back n w a ≡ back n v a
-  back_same a e = ap (λ (m : ℕ). or_zero (n.link a (entry m))) e
+  back_same a e = ap (λ (m : ℕ). or_zero (n.link a (entry_port m))) e
 
   pub way_same : (d a : ℕ) → ((x : ℕ) → In x (way n v d a) → w x ≡ v x) → way n w d a ≡ way n v d a
   way_same zero a h = refl
   way_same (suc d) a h = ap (λ xs. a ∷ xs) (ap (λ (p : ℕ × ℕ). way n w d p.0) (back_same a (h a (inl refl))) ∙ way_same d (back n v a).0 (λ x i. h x (inr i)))
 
-  pub behind_same : (d a : ℕ) → ((x : ℕ) → In x (way n v d a) → w x ≡ v x) → behind n w d a ≡ behind n v d a
+  pub behind_same : (d a : ℕ) → ((x : ℕ) → In x (way n v d a) → w x ≡ v x) → ports_behind n w d a ≡ ports_behind n v d a
   behind_same zero a h = refl
   behind_same (suc d) a h =
-      ap (λ (p : ℕ × ℕ). ports_from n p.0 (p.1 + 1) ++ behind n w d p.0) (back_same a (h a (inl refl)))
+      ap (λ (p : ℕ × ℕ). ports_from n p.0 (p.1 + 1) ++ ports_behind n w d p.0) (back_same a (h a (inl refl)))
       ∙ ap (λ (ps : List (ℕ × ℕ)). ports_from n (back n v a).0 ((back n v a).1 + 1) ++ ps) (behind_same d (back n v a).0 (λ x i. h x (inr i)))
 
   pub on_way_same : (root : ℕ × ℕ) (d a : ℕ) → ((x : ℕ) → In x (way n v d a) → w x ≡ v x) → OnWay n v root d a → OnWay n w root d a
@@ -96,21 +94,9 @@ module _ (n : Net) (v w : ℕ → ℕ) where
   on_way_same root (suc d) a h o =
       let e : w a ≡ v a = h a (inl refl) in
       let r = on_way_same root d (back n v a).0 (λ x i. h x (inr i)) o.4 in
-      subst (λ (m : ℕ). let p : ℕ × ℕ = or_zero (n.link a (entry m)) in
-      (n.link a (entry m) ≡ Some p) × (entry m < n.arity a) × (p.1 < n.arity p.0) × (a ≡ root.0 → ⊥) × OnWay n w root d p.0) (sym e)
+      subst (λ (m : ℕ). let p : ℕ × ℕ = or_zero (n.link a (entry_port m)) in
+      (n.link a (entry_port m) ≡ Some p) × (entry_port m < n.arity a) × (p.1 < n.arity p.0) × (a ≡ root.0 → ⊥) × OnWay n w root d p.0) (sym e)
       (o.0, o.1, o.2, o.3, r)
-
--- lists
-pub in_or_not : (a : ℕ) (xs : List ℕ) → In a xs ⊎ (In a xs → ⊥)
-in_or_not a [] = inr (λ i. i)
-in_or_not a (x ∷ xs) = elim (cases_eq x a) [
-  | inl e ↦ inl (inl e)
-  | inr d ↦ elim (in_or_not a xs) [ inl i ↦ inl (inr i) | inr n ↦ inr (λ j. by j d n) ]
-]
-  where
-    by : In a (x ∷ xs) → (x ≡ a → ⊥) → (In a xs → ⊥) → ⊥
-    by (inl e) d n = d e
-    by (inr i) d n = n i
 
 pub is_in_true : (a : ℕ) (xs : List ℕ) → In a xs → is_in xs a ≡ true
 is_in_true a [] i = absurd i
@@ -146,21 +132,21 @@ net_marked s b k m = λ i. record {
   link = λ a j. (ap (λ xs. slice_index_or xs j None) (links a)) i;
 }
   where
-    by : (o : Option HeapAtom) → links_of (option_map (with_mark k m) o) ≡ links_of o
+    by : (o : Option HeapAtom) → partners_of (option_map (with_mark k m) o) ≡ partners_of o
     by None = refl
     by (Some x) = refl
 
-    links : (a : ℕ) → links_of ((marked s b k m).atoms a) ≡ links_of (s.atoms a)
+    links : (a : ℕ) → partners_of ((marked s b k m).atoms a) ≡ partners_of (s.atoms a)
     links a = elim (cases_eq a b) [
-      | inl e ↦ subst (λ (z : ℕ). links_of (alter s.atoms b (option_map (with_mark k m)) z) ≡ links_of (s.atoms z)) (sym e)
-          (ap links_of (alter_at s.atoms b (option_map (with_mark k m))) ∙ by (s.atoms b))
-      | inr d ↦ ap links_of (alter_away s.atoms b (option_map (with_mark k m)) a d)
+      | inl e ↦ subst (λ (z : ℕ). partners_of (alter s.atoms b (option_map (with_mark k m)) z) ≡ partners_of (s.atoms z)) (sym e)
+          (ap partners_of (alter_at s.atoms b (option_map (with_mark k m))) ∙ by (s.atoms b))
+      | inr d ↦ ap partners_of (alter_away s.atoms b (option_map (with_mark k m)) a d)
     ]
 
 -- an atom with a port is there
 pub with_port : (s : Heap) (a : ℕ) → 0 < arity_of s a → IsAtom s a
 with_port s a l = by (s.atoms a) l
   where
-    by : (o : Option HeapAtom) → 0 < length (links_of o) → IsSome o
+    by : (o : Option HeapAtom) → 0 < length (partners_of o) → IsSome o
     by None l = absurd (omega arith)
     by (Some x) l = refl

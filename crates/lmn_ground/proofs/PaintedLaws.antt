@@ -6,11 +6,12 @@ use Rattle.lmn_base.specs.declared.functor.Functor.{Functor}
 use Rattle.lmn_heap.specs.Heap.{Heap, HeapAtom, In, alter, with_link, new_atom, functor_of, link_of, arity_of, linked, cleared, joined, made_atom}
 use Rattle.lmn_heap.specs.Splice.{joined_to}
 use Rattle.lmn_heap.proofs.Listing.{alter_at, alter_away}
-use Rattle.lmn_ground.specs.Walks.{Net, ports, is_port}
+use Rattle.lmn_ground.specs.Walks.{Net, is_port}
 use Rattle.lmn_ground.specs.Marks.{paint, painted, first_marks}
 use Rattle.lmn_ground.specs.Copies.{made_as, made_like, moved, joined_like, all_joined, ports_of, unmarked_all}
 use Rattle.lmn_ground.proofs.PaintLaws.{net_painted, painted_cleared, painted_none}
 use Rattle.lmn_ground.proofs.FollowLaws.{functor_painted}
+use Rattle.lmn_parts.specs.Walks.{port_range}
 
 -- atoms with first marks
 abbrev over : (ℕ → ℕ) → (ℕ → Option HeapAtom) → ℕ → Option HeapAtom
@@ -68,7 +69,7 @@ all_painted f root s v (p ∷ ps) = ap (λ (t : Heap). all_joined f root t ps) (
 
 pub ports_painted : (s : Heap) (v : ℕ → ℕ) (xs : List ℕ) → ports_of (painted s v) xs ≡ ports_of s xs
 ports_painted s v [] = refl
-ports_painted s v (a ∷ xs) = ap (λ (n : Net). ports a 0 (n.arity a) ++ ports_of (painted s v) xs) (net_painted s v) ∙ ap (λ (ps : List (ℕ × ℕ)). ports a 0 (arity_of s a) ++ ps) (ports_painted s v xs)
+ports_painted s v (a ∷ xs) = ap (λ (n : Net). port_range a 0 (n.arity a) ++ ports_of (painted s v) xs) (net_painted s v) ∙ ap (λ (ps : List (ℕ × ℕ)). port_range a 0 (arity_of s a) ++ ps) (ports_painted s v xs)
 
 as_painted : (s : Heap) (v : ℕ → ℕ) (y : ℕ) (o : Option Functor) → v y ≡ 0 → made_as (painted s v) y o ≡ painted (made_as s y o) v
 as_painted s v y None z = refl

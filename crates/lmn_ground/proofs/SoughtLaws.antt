@@ -3,21 +3,22 @@ use Rattle.std.proofs.Common.{◌≡◌, ◌≢◌, ◌⊎◌, ℕ, zero, suc, �
 use Rattle.std.proofs.lemmas.Bool.{eq-eqb, eqb-true}
 use Rattle.std.specs.Option.{option_and_then}
 use Rattle.lmn_heap.specs.Heap.{In}
-use Rattle.lmn_heap.proofs.ListLemmas.{apart_test}
-use Rattle.lmn_ground.specs.Walks.{HasPort, Net, ports, ports_from, next, kept, is_port, Walk, passes}
-use Rattle.lmn_ground.specs.Marks.{way, back, behind, OnWay, Sought}
+use Rattle.lmn_ground.specs.Walks.{HasPort, Net, ports_from, kept, is_port, Walk, passes}
+use Rattle.lmn_ground.specs.Marks.{way, back, ports_behind, OnWay, Sought}
+use Rattle.lmn_parts.specs.Walks.{port_range, neighbour}
+use Rattle.lmn_base.proofs.Numbers.{not_equal as apart_test}
 
 pub port_left : (n : Net) (a i : ℕ) → i < n.arity a → ports_from n a i ≡ (a, i) ∷ ports_from n a (i + 1)
 port_left n a i l = by (n.arity a - i) refl
   where
-    by : (m : ℕ) → n.arity a - i ≡ m → ports a i (n.arity a - i) ≡ (a, i) ∷ ports a (i + 1) (n.arity a - (i + 1))
+    by : (m : ℕ) → n.arity a - i ≡ m → port_range a i (n.arity a - i) ≡ (a, i) ∷ port_range a (i + 1) (n.arity a - (i + 1))
     by zero e = absurd (omega arith)
     by (suc m) e = let f : n.arity a - (i + 1) ≡ m = omega arith in rw (e, f) refl
 
 pub no_port_left : (n : Net) (a i : ℕ) → i ≡ n.arity a → ports_from n a i ≡ []
-no_port_left n a i e = ap (λ (m : ℕ). ports a i m) (let z : n.arity a - i ≡ 0 = omega arith in z)
+no_port_left n a i e = ap (λ (m : ℕ). port_range a i m) (let z : n.arity a - i ≡ 0 = omega arith in z)
 
-pub length-ports : (a i m : ℕ) → length (ports a i m) ≡ m
+pub length-ports : (a i m : ℕ) → length (port_range a i m) ≡ m
 length-ports a i zero = refl
 length-ports a i (suc m) = let h = length-ports a (i + 1) m in omega (arith, h)
 
@@ -29,10 +30,10 @@ same_port b j root e = by (b == root.0) (j == root.1) refl refl e
     by true false e f h = absurd (cc)
     by false t e f h = absurd (cc)
 
-pub next_root : (n : Net) (root : ℕ × ℕ) (inside : ℕ → Bool) (p : ℕ × ℕ) → is_port p root ≡ true → next n root inside p ≡ None
+pub next_root : (n : Net) (root : ℕ × ℕ) (inside : ℕ → Bool) (p : ℕ × ℕ) → is_port p root ≡ true → neighbour n root inside p ≡ None
 next_root n root inside p e = rw e refl
 
-pub not_root_next : (n : Net) (root : ℕ × ℕ) (inside : ℕ → Bool) (p : ℕ × ℕ) (x : ℕ) → next n root inside p ≡ Some x → is_port p root ≡ false
+pub not_root_next : (n : Net) (root : ℕ × ℕ) (inside : ℕ → Bool) (p : ℕ × ℕ) (x : ℕ) → neighbour n root inside p ≡ Some x → is_port p root ≡ false
 not_root_next n root inside p x h = by (is_port p root) h
   where
     by : (t : Bool) → cond t None (option_and_then (kept inside) (n.link p.0 p.1)) ≡ Some x → t ≡ false
@@ -43,14 +44,14 @@ pub top_in : (n : Net) (v : ℕ → ℕ) (d a : ℕ) → In a (way n v d a)
 top_in n v zero a = inl refl
 top_in n v (suc d) a = inl refl
 
-pub next_none : (n : Net) (root : ℕ × ℕ) (inside : ℕ → Bool) (a i : ℕ) → n.link a i ≡ None → next n root inside (a, i) ≡ None
+pub next_none : (n : Net) (root : ℕ × ℕ) (inside : ℕ → Bool) (a i : ℕ) → n.link a i ≡ None → neighbour n root inside (a, i) ≡ None
 next_none n root inside a i e = by (is_port (a, i) root)
   where
     by : (t : Bool) → cond t None (option_and_then (kept inside) (n.link a i)) ≡ None
     by true = refl
     by false = ap (option_and_then (kept inside)) e
 
-pub next_link : (n : Net) (root : ℕ × ℕ) (inside : ℕ → Bool) (a i b c j : ℕ) → n.link a i ≡ Some (b, j) → next n root inside (a, i) ≡ Some c → b ≡ c
+pub next_link : (n : Net) (root : ℕ × ℕ) (inside : ℕ → Bool) (a i b c j : ℕ) → n.link a i ≡ Some (b, j) → neighbour n root inside (a, i) ≡ Some c → b ≡ c
 next_link n root inside a i b c j e h = by (is_port (a, i) root) h
   where
     of : (t : Bool) → cond t (Some b) None ≡ Some c → b ≡ c
@@ -69,7 +70,7 @@ module _ (n : Net) (marks : ℕ → ℕ) (root : ℕ × ℕ) (depth a i : ℕ) w
   pub sought_past : (deep b j : ℕ) → Sought n marks root depth a i deep b j → j < n.arity b
       → (◌≡◌ {A = ℕ × ℕ} (b, j) root) ⊎ IsSome (n.link b j)
       → ((inside : ℕ → Bool) (seen : List ℕ) → ((x : ℕ) → In x (way n marks depth a) → In x seen)
-      → ((c k x l : ℕ) → In c seen → is_port (c, k) root ≡ false → n.link c k ≡ Some (x, l) → marks x ≢ 0 → In x seen) → (x : ℕ) → next n root inside (b, j) ≡ Some x → In x seen)
+      → ((c k x l : ℕ) → In c seen → is_port (c, k) root ≡ false → n.link c k ≡ Some (x, l) → marks x ≢ 0 → In x seen) → (x : ℕ) → neighbour n root inside (b, j) ≡ Some x → In x seen)
       → Sought n marks root depth a i deep b (j + 1)
   sought_past deep b j s l o h = record {
     on_way = s.on_way;
@@ -77,14 +78,14 @@ module _ (n : Net) (marks : ℕ → ℕ) (root : ℕ × ℕ) (depth a i : ℕ) w
     within = s.within;
     once = s.once;
     passed = λ p k. elim (s.passed p k) [
-      | inl m ↦ elim (subst (λ (ps : List (ℕ × ℕ)). HasPort p (ps ++ behind n marks deep b)) (port_left n b j l) m) [
+      | inl m ↦ elim (subst (λ (ps : List (ℕ × ℕ)). HasPort p (ps ++ ports_behind n marks deep b)) (port_left n b j l) m) [
         | inl e ↦ inr (subst (λ (q : ℕ × ℕ). (q ≡ root) ⊎ IsSome (n.link q.0 q.1)) e o)
         | inr m' ↦ inl m'
       ]
       | inr m ↦ inr m
     ];
     walks = λ inside seen all u m w. s.walks inside seen all u m
-        (subst (λ (ps : List (ℕ × ℕ)). Walk n.arity (next n root inside) seen (ps ++ behind n marks deep b) all) (sym (port_left n b j l)) (passes (h inside seen u m) w));
+        (subst (λ (ps : List (ℕ × ℕ)). Walk n.arity (neighbour n root inside) seen (ps ++ ports_behind n marks deep b) all) (sym (port_left n b j l)) (passes (h inside seen u m) w));
   }
 
   pub sought_root : (deep b j : ℕ) → Sought n marks root depth a i deep b j → j < n.arity b → is_port (b, j) root ≡ true → Sought n marks root depth a i deep b (j + 1)
@@ -110,11 +111,11 @@ module _ (n : Net) (marks : ℕ → ℕ) (root : ℕ × ℕ) (depth a i : ℕ) w
         within = λ x k. t.within x (inr k);
         once = λ o. (t.once o).1;
         passed = λ p k. elim (t.passed p k) [
-          | inl m ↦ inl (subst (λ (ps : List (ℕ × ℕ)). HasPort p (ps ++ behind n marks (suc d) b)) (no_port_left n b j l) m)
+          | inl m ↦ inl (subst (λ (ps : List (ℕ × ℕ)). HasPort p (ps ++ ports_behind n marks (suc d) b)) (no_port_left n b j l) m)
           | inr m ↦ inr m
         ];
         walks = λ inside seen all u m w. t.walks inside seen all u m
-            (subst (λ (ps : List (ℕ × ℕ)). Walk n.arity (next n root inside) seen (ps ++ behind n marks (suc d) b) all) (sym (no_port_left n b j l)) w);
+            (subst (λ (ps : List (ℕ × ℕ)). Walk n.arity (neighbour n root inside) seen (ps ++ ports_behind n marks (suc d) b) all) (sym (no_port_left n b j l)) w);
       }
 
   pub backs : (d : ℕ) → depth ≡ suc d → OnWay n marks root depth a → (back n marks a).1 < n.arity (back n marks a).0
@@ -122,18 +123,18 @@ module _ (n : Net) (marks : ℕ → ℕ) (root : ℕ × ℕ) (depth a i : ℕ) w
 
 -- what is still to be gone through, in numbers
 abbrev pub weight : Net → (ℕ → ℕ) → ℕ → ℕ → ℕ → ℕ
-weight n marks depth a i = length (behind n marks depth a) + depth + (n.arity a - i)
+weight n marks depth a i = length (ports_behind n marks depth a) + depth + (n.arity a - i)
 
 pub weight_past : (n : Net) (marks : ℕ → ℕ) (depth a i : ℕ) → i < n.arity a → weight n marks depth a (i + 1) < weight n marks depth a i
 weight_past n marks depth a i l = omega arith
 
 pub weight_back : (n : Net) (marks : ℕ → ℕ) (depth d a i : ℕ) → depth ≡ suc d → weight n marks d (back n marks a).0 ((back n marks a).1 + 1) < weight n marks depth a i
-weight_back n marks depth d a i e = rw e (by (length-append (ports_from n (back n marks a).0 ((back n marks a).1 + 1)) (behind n marks d (back n marks a).0)))
+weight_back n marks depth d a i e = rw e (by (length-append (ports_from n (back n marks a).0 ((back n marks a).1 + 1)) (ports_behind n marks d (back n marks a).0)))
   where
     x : ℕ × ℕ
     x = back n marks a
 
-    by : length (ports_from n (back n marks a).0 ((back n marks a).1 + 1) ++ behind n marks d (back n marks a).0) ≡ length (ports_from n (back n marks a).0 ((back n marks a).1 + 1)) + length (behind n marks d (back n marks a).0)
+    by : length (ports_from n (back n marks a).0 ((back n marks a).1 + 1) ++ ports_behind n marks d (back n marks a).0) ≡ length (ports_from n (back n marks a).0 ((back n marks a).1 + 1)) + length (ports_behind n marks d (back n marks a).0)
         → weight n marks d (back n marks a).0 ((back n marks a).1 + 1) < weight n marks (suc d) a i
     by h = let m = length-ports (back n marks a).0 ((back n marks a).1 + 1) (n.arity (back n marks a).0 - ((back n marks a).1 + 1)) in omega (arith, h, m)
 

@@ -5,20 +5,23 @@ use Rattle.std.proofs.lemmas.List.{get_or-set_other}
 use Rattle.std.specs.Option.{option_and_then}
 use Rattle.std.specs.Prelude.{slice_index_or}
 use Rattle.lmn_base.specs.Graphs.{Reached, at_root, across}
-use Rattle.lmn_heap.specs.Heap.{Heap, HeapAtom, In, alter, home_by, IsAtom, marked, arity_of, link_of, marks_of, links_of, mark_of}
+use Rattle.lmn_heap.specs.Heap.{Heap, HeapAtom, In, alter, home_by, IsAtom, marked, arity_of, link_of, marks_of, mark_of, own_mark, PortsUnmarked}
 use Rattle.lmn_heap.specs.Sound.{Sound, AtMost}
 use Rattle.lmn_heap.specs.Graphs.{atom_map}
 use Rattle.lmn_heap.proofs.ListLemmas.{in_left}
 use Rattle.lmn_heap.proofs.Listing.{alter_away, distinct_snoc}
 use Rattle.lmn_heap.proofs.Pigeonholes.{not_longer}
-use Rattle.lmn_ground.specs.Walks.{HasPort, Net, net, ports, ports_from, next, kept, is_port, is_in, Walk, ends, finds, IsPart}
-use Rattle.lmn_ground.specs.Marks.{paint, painted, first_marks, entry, or_zero, back, way, behind, ahead, OnWay, Sought}
-use Rattle.lmn_ground.specs.Spread.{Numbered, own_mark, Clean, CleanPart, AtomFits, IsWhole, Spread, Spreading}
+use Rattle.lmn_ground.specs.Walks.{HasPort, Net, net, ports_from, kept, is_port, is_in, Walk, ends, finds}
+use Rattle.lmn_ground.specs.Marks.{paint, painted, first_marks, entry_port, or_zero, back, way, ports_behind, ports_ahead, OnWay, Sought}
+use Rattle.lmn_ground.specs.Spread.{Numbered, CleanPart, AtomFits, IsWhole, Spread, Spreading}
 use Rattle.lmn_ground.proofs.WalkLaws.{holds_left, holds_right, holds_port, in_last, in_snoc, all_seen, closed, start_covers, kept_seen}
 use Rattle.lmn_ground.proofs.SoughtLaws.{top_in, port_left, no_port_left}
-use Rattle.lmn_ground.proofs.PaintLaws.{net_painted, painted_marked, painted_none, way_same, behind_same, on_way_same, in_or_not, is_in_true, in_is, mark_here, mark_away, net_marked, with_port, is_painted}
+use Rattle.lmn_ground.proofs.PaintLaws.{net_painted, painted_marked, painted_none, way_same, behind_same, on_way_same, is_in_true, in_is, mark_here, mark_away, net_marked, with_port, is_painted}
+use Rattle.lmn_parts.specs.Walks.{port_range, neighbour, IsPartInDepth}
+use Rattle.lmn_heap.proofs.Common.{decide_in as in_or_not}
+use Rattle.lmn_heap.proofs.Replacing.{port_within as link_inside}
 
-pub next_in : (n : Net) (root : ℕ × ℕ) (seen : List ℕ) (p : ℕ × ℕ) (b : ℕ) → next n root (is_in seen) p ≡ Some b → In b seen
+pub next_in : (n : Net) (root : ℕ × ℕ) (seen : List ℕ) (p : ℕ × ℕ) (b : ℕ) → neighbour n root (is_in seen) p ≡ Some b → In b seen
 next_in n root seen p b e = by (is_port p root) e
   where
     kept_in : (t : Bool) (c : ℕ) → is_in seen c ≡ t → cond t (Some c) None ≡ Some b → In b seen
@@ -34,7 +37,7 @@ next_in n root seen p b e = by (is_port p root) e
     by false e = to (n.link p.0 p.1) e
 
 pub next_to : (n : Net) (root : ℕ × ℕ) (inside : ℕ → Bool) (a i b j : ℕ) → n.link a i ≡ Some (b, j) → is_port (a, i) root ≡ false → inside b ≡ true
-    → next n root inside (a, i) ≡ Some b
+    → neighbour n root inside (a, i) ≡ Some b
 next_to n root inside a i b j e f g = rw (f, e, g) refl
 
 pub not_root : (a i : ℕ) (root : ℕ × ℕ) → is_port (a, i) root ≡ false → ◌≢◌ {A = ℕ × ℕ} (a, i) root
@@ -74,23 +77,23 @@ pub alter_zero : (v : ℕ → ℕ) (b m x : ℕ) → x ≢ b → v x ≡ 0 → a
 alter_zero v b m x d e = alter_away v b (λ _. m) x d ∙ e
 
 -- The ways on the two sides of entering an atom.
-module _ (n : Net) (v w : ℕ → ℕ) (depth a i b j : ℕ) (same : (x : ℕ) → In x (way n v depth a) → w x ≡ v x) (mark : entry (w b) ≡ j) (link : n.link b j ≡ Some (a, i)) where
+module _ (n : Net) (v w : ℕ → ℕ) (depth a i b j : ℕ) (same : (x : ℕ) → In x (way n v depth a) → w x ≡ v x) (mark : entry_port (w b) ≡ j) (link : n.link b j ≡ Some (a, i)) where
   pub back_is : back n w b ≡ (a, i)
   back_is = ap (λ (k : ℕ). or_zero (n.link b k)) mark ∙ ap or_zero link
 
   pub way_enter : way n w (suc depth) b ≡ b ∷ way n v depth a
   way_enter = ap (λ (p : ℕ × ℕ). b ∷ way n w depth p.0) back_is ∙ ap (λ xs. b ∷ xs) (way_same n v w depth a same)
 
-  pub behind_enter : behind n w (suc depth) b ≡ ports_from n a (i + 1) ++ behind n v depth a
-  behind_enter = ap (λ (p : ℕ × ℕ). ports_from n p.0 (p.1 + 1) ++ behind n w depth p.0) back_is
+  pub behind_enter : ports_behind n w (suc depth) b ≡ ports_from n a (i + 1) ++ ports_behind n v depth a
+  behind_enter = ap (λ (p : ℕ × ℕ). ports_from n p.0 (p.1 + 1) ++ ports_behind n w depth p.0) back_is
       ∙ ap (λ ps. ports_from n a (i + 1) ++ ps) (behind_same n v w depth a same)
 
-  pub ahead_enter : ahead n w (suc depth) b 0 ≡ ports b 0 (n.arity b) ++ (ports_from n a (i + 1) ++ behind n v depth a)
-  ahead_enter = ap (λ (k : ℕ). ports b 0 k ++ behind n w (suc depth) b) (let z : n.arity b - 0 ≡ n.arity b = omega arith in z)
-      ∙ ap (λ ps. ports b 0 (n.arity b) ++ ps) behind_enter
+  pub ahead_enter : ports_ahead n w (suc depth) b 0 ≡ port_range b 0 (n.arity b) ++ (ports_from n a (i + 1) ++ ports_behind n v depth a)
+  ahead_enter = ap (λ (k : ℕ). port_range b 0 k ++ ports_behind n w (suc depth) b) (let z : n.arity b - 0 ≡ n.arity b = omega arith in z)
+      ∙ ap (λ ps. port_range b 0 (n.arity b) ++ ps) behind_enter
 
-  pub ahead_here : i < n.arity a → ahead n v depth a i ≡ (a, i) ∷ (ports_from n a (i + 1) ++ behind n v depth a)
-  ahead_here l = ap (λ ps. ps ++ behind n v depth a) (port_left n a i l)
+  pub ahead_here : i < n.arity a → ports_ahead n v depth a i ≡ (a, i) ∷ (ports_from n a (i + 1) ++ ports_behind n v depth a)
+  ahead_here l = ap (λ ps. ps ++ ports_behind n v depth a) (port_left n a i l)
 
   pub on_way_enter : (root : ℕ × ℕ) → i < n.arity a → j < n.arity b → (b ≡ root.0 → ⊥) → OnWay n v root depth a → OnWay n w root (suc depth) b
   on_way_enter root l m d o =
@@ -100,7 +103,7 @@ module _ (n : Net) (v w : ℕ → ℕ) (depth a i b j : ℕ) (same : (x : ℕ) �
       (q ≡ Some p) × (j < n.arity b) × (p.1 < n.arity p.0) × (b ≡ root.0 → ⊥) × OnWay n w root depth p.0) (sym link)
       (refl, m, l, d, on_way_same n v w root depth a same o))
 
-pub entry_is : (k j : ℕ) → j < 256 → entry (512 + 256 * k + j) ≡ j
+pub entry_is : (k j : ℕ) → j < 256 → entry_port (512 + 256 * k + j) ≡ j
 entry_is k j l = omega arith
 
 number_is : (k j : ℕ) → j < 256 → (512 + 256 * k + j) / 256 ≡ 2 + k
@@ -136,7 +139,7 @@ module _ (before : Heap) (root : ℕ × ℕ) (home : Option ℕ) where
         deep = omega arith;
         joined = λ x k s l. inl (holds_left (x, k) (ports_from (net before) root.0 0) [] (subst (λ (z : ℕ). HasPort (z, k) (ports_from (net before) root.0 0)) (only x s)
             (holds_port root.0 0 (arity_of before root.0 - 0) k (omega arith) (let q : k < arity_of before root.0 = subst (λ (z : ℕ). k < arity_of before z) (sym (only x s)) l in omega (arith, q)))));
-        walks = λ inside all h w. subst (λ (ps : List (ℕ × ℕ)). Walk (net before).arity (next (net before) root inside) (root.0 ∷ []) ps all) start w;
+        walks = λ inside all h w. subst (λ (ps : List (ℕ × ℕ)). Walk (net before).arity (neighbour (net before) root inside) (root.0 ∷ []) ps all) start w;
       }
     where
       only : (x : ℕ) → In x (root.0 ∷ []) → root.0 ≡ x
@@ -147,8 +150,8 @@ module _ (before : Heap) (root : ℕ × ℕ) (home : Option ℕ) where
       no_more [] = refl
       no_more (p ∷ ps) = ap (λ qs. p ∷ qs) (no_more ps)
 
-      start : ports_from (net before) root.0 0 ++ [] ≡ ports root.0 0 (arity_of before root.0)
-      start = no_more (ports_from (net before) root.0 0) ∙ ap (λ (k : ℕ). ports root.0 0 k) (let z : arity_of before root.0 - 0 ≡ arity_of before root.0 = omega arith in z)
+      start : ports_from (net before) root.0 0 ++ [] ≡ port_range root.0 0 (arity_of before root.0)
+      start = no_more (ports_from (net before) root.0 0) ∙ ap (λ (k : ℕ). port_range root.0 0 k) (let z : arity_of before root.0 - 0 ≡ arity_of before root.0 = omega arith in z)
 
   -- the walk goes on to the next port that has to be looked at
   pub spreading_on : (now : Heap) (seen : List ℕ) (depth a i deep b j count : ℕ) → Spreading before now root home seen depth a i count
@@ -199,7 +202,7 @@ module _ (before : Heap) (root : ℕ × ℕ) (home : Option ℕ) where
       let here : w b ≡ 512 + 256 * count + j = mark_here now b (512 + 256 * count + j) (marks_there now b sound (omega arith)) in
       let away : (x : ℕ) → In x seen → w x ≡ v x = λ x k. mark_away now b (512 + 256 * count + j) x (λ same. new (subst (λ (z : ℕ). In z seen) same k)) in
       let same : (x : ℕ) → In x (way n v depth a) → w x ≡ v x = λ x k. away x (t.way_seen x k) in
-      let mark : entry (w b) ≡ j = ap entry here ∙ entry_is count j small in
+      let mark : entry_port (w b) ≡ j = ap entry_port here ∙ entry_is count j small in
       let from_seen : In a seen = t.way_seen a (top_in n v depth a) in
       let next_ahead = ahead_enter n v w depth a i b j same mark back_link in
       let here_ahead = ahead_here n v w depth a i b j same mark back_link i_low in
@@ -232,17 +235,17 @@ module _ (before : Heap) (root : ℕ × ℕ) (home : Option ℕ) where
               | inl old ↦ elim (t.joined x k old l) [
                 | inl m ↦ elim (subst (HasPort (x, k)) here_ahead m) [
                   | inl p ↦ inr (inr (subst (λ (q : ℕ × ℕ). IsSome (link_of before q.0 q.1)) p (is_some (link_of before a i) (b, j) link)))
-                  | inr q ↦ inl (holds_right (x, k) (ports b 0 (n.arity b)) (ports_from n a (i + 1) ++ behind n v depth a) q)
+                  | inr q ↦ inl (holds_right (x, k) (port_range b 0 (n.arity b)) (ports_from n a (i + 1) ++ ports_behind n v depth a) q)
                 ]
                 | inr m ↦ inr m
               ]
-              | inr p ↦ inl (holds_left (x, k) (ports b 0 (n.arity b)) (ports_from n a (i + 1) ++ behind n v depth a)
-                  (subst (λ (z : ℕ). HasPort (z, k) (ports b 0 (n.arity b))) (sym p) (holds_port b 0 (n.arity b) k (omega arith) (let q : k < n.arity b = subst (λ (z : ℕ). k < n.arity z) p l in omega (arith, q)))))
+              | inr p ↦ inl (holds_left (x, k) (port_range b 0 (n.arity b)) (ports_from n a (i + 1) ++ ports_behind n v depth a)
+                  (subst (λ (z : ℕ). HasPort (z, k) (port_range b 0 (n.arity b))) (sym p) (holds_port b 0 (n.arity b) k (omega arith) (let q : k < n.arity b = subst (λ (z : ℕ). k < n.arity z) p l in omega (arith, q)))))
             ]);
         walks = λ inside all h walk. t.walks inside all (λ x k. h x (in_left x seen (b ∷ []) k))
-            (subst (λ (ps : List (ℕ × ℕ)). Walk n.arity (next n root inside) seen ps all) (sym here_ahead)
+            (subst (λ (ps : List (ℕ × ℕ)). Walk n.arity (neighbour n root inside) seen ps all) (sym here_ahead)
             (finds (next_to n root inside a i b j link other (h b (in_last b seen))) new
-            (subst (λ (ps : List (ℕ × ℕ)). Walk n.arity (next n root inside) (seen ++ b ∷ []) ps all) next_ahead walk)));
+            (subst (λ (ps : List (ℕ × ℕ)). Walk n.arity (neighbour n root inside) (seen ++ b ∷ []) ps all) next_ahead walk)));
       })
     where
       by_way : (n : Net) (seen : List ℕ) (b x : ℕ) (xs : List ℕ) → ((z : ℕ) → In z xs → In z seen) → In x (b ∷ xs) → In x (seen ++ b ∷ [])
@@ -268,21 +271,21 @@ module _ (before : Heap) (root : ℕ × ℕ) (home : Option ℕ) where
     numbers = t.numbers;
     reached = t.reached;
     walked = t.walks (is_in seen) seen (λ x k. is_in_true x seen k)
-        (all_seen _ _ seen (ahead (net before) (first_marks now) depth a i) (λ p b h e. next_in (net before) root seen p b e));
+        (all_seen _ _ seen (ports_ahead (net before) (first_marks now) depth a i) (λ p b h e. next_in (net before) root seen p b e));
     whole = λ e. absurd (cc);
   }
 
   -- at the end it is the whole part
-  pub nothing_ahead : (n : Net) (v : ℕ → ℕ) (depth a i : ℕ) → depth ≡ 0 → i ≡ n.arity a → ahead n v depth a i ≡ []
+  pub nothing_ahead : (n : Net) (v : ℕ → ℕ) (depth a i : ℕ) → depth ≡ 0 → i ≡ n.arity a → ports_ahead n v depth a i ≡ []
   nothing_ahead n v zero a i d e = ap (λ ps. ps ++ []) (no_port_left n a i e)
   nothing_ahead n v (suc depth) a i d e = absurd (omega arith)
 
-  pub whole_part : (now : Heap) (seen : List ℕ) (depth a i count : ℕ) → (t : Spreading before now root home seen depth a i count) → depth ≡ 0 → i ≡ arity_of now a → IsPart before root seen
+  pub whole_part : (now : Heap) (seen : List ℕ) (depth a i count : ℕ) → (t : Spreading before now root home seen depth a i count) → depth ≡ 0 → i ≡ arity_of now a → IsPartInDepth before root seen
   whole_part now seen depth a i count t d given =
       let e : net now ≡ net before = ap net t.is ∙ net_painted before t.marks in
       let f : i ≡ (net before).arity a = subst (λ (n : Net). i ≡ n.arity a) e given in
       t.walks (λ _. true) seen (λ x k. refl)
-      (subst (λ (ps : List (ℕ × ℕ)). Walk (net before).arity (next (net before) root (λ _. true)) seen ps seen) (sym (nothing_ahead (net before) (first_marks now) depth a i d f)) ends)
+      (subst (λ (ps : List (ℕ × ℕ)). Walk (net before).arity (neighbour (net before) root (λ _. true)) seen ps seen) (sym (nothing_ahead (net before) (first_marks now) depth a i d f)) ends)
 
   pub spread_all : (now : Heap) (seen : List ℕ) (depth a i count : ℕ) → Spreading before now root home seen depth a i count → depth ≡ 0 → i ≡ arity_of now a → Spread before now root count true
   unfolding spread_some
@@ -304,20 +307,12 @@ module _ (before : Heap) (root : ℕ × ℕ) (home : Option ℕ) where
         whole = λ _. whole_part now seen depth a i count t d f;
       }
 
-pub link_inside : (s : Heap) (a i : ℕ) (p : ℕ × ℕ) → link_of s a i ≡ Some p → i < arity_of s a
-link_inside s a i p e = by (links_of (s.atoms a)) i e
-  where
-    by : (xs : List (Option (ℕ × ℕ))) (i : ℕ) → slice_index_or xs i None ≡ Some p → i < length xs
-    by [] i e = absurd (cc)
-    by (x ∷ xs) zero e = omega arith
-    by (x ∷ xs) (suc i) e = let r = by xs i e in omega (arith, r)
-
 -- the whole part is exactly what is reached
-pub part_reached : (s : Heap) (root : ℕ × ℕ) (all : List ℕ) → IsPart s root all → (a : ℕ) → Reached (atom_map s) root a → In a all
+pub part_reached : (s : Heap) (root : ℕ × ℕ) (all : List ℕ) → IsPartInDepth s root all → (a : ℕ) → Reached (atom_map s) root a → In a all
 part_reached s root all w a at_root = kept_seen _ _ w root.0 (inl refl)
 part_reached s root all w b (across {a = a} {i = i} {j = j} r d e) =
     let l = link_inside s a i (b, j) e in
-    by (closed (net s).arity (next (net s) root (λ _. true)) w (start_covers (net s).arity (next (net s) root (λ _. true)) root.0) a i b (part_reached s root all w a r) l (next_to (net s) root (λ _. true) a i b j e (is_other a i root d) refl))
+    by (closed (net s).arity (neighbour (net s) root (λ _. true)) w (start_covers (net s).arity (neighbour (net s) root (λ _. true)) root.0) a i b (part_reached s root all w a r) l (next_to (net s) root (λ _. true) a i b j e (is_other a i root d) refl))
   where
     by : In b all ⊎ HasPort (a, i) [] → In b all
     by (inl k) = k
@@ -424,5 +419,5 @@ pub reached_port : (s : Heap) (root : ℕ × ℕ) → Sound s → root.1 < arity
 reached_port s root h l a at_root = omega arith
 reached_port s root h l b (across {a = a} {i = i} {j = j} r d e) = let k = link_inside s b j (a, i) (h.paired.back a i b j e) in omega (arith, k)
 
-pub clean_part : (s : Heap) (root : ℕ × ℕ) → Sound s → root.1 < arity_of s root.0 → Clean s → CleanPart s root
+pub clean_part : (s : Heap) (root : ℕ × ℕ) → Sound s → root.1 < arity_of s root.0 → PortsUnmarked s → CleanPart s root
 clean_part s root h l c a r = c a 0 (reached_port s root h l a r)

@@ -6,15 +6,17 @@ use Rattle.std.specs.Prelude.{slice_index_or}
 use Rattle.lmn_base.specs.Graphs.{AtomMap, Reached, at_root, across}
 use Rattle.lmn_heap.specs.Graphs.{atom_map}
 use Rattle.lmn_ground.proofs.WipeLaws.{b_reached}
-use Rattle.lmn_heap.specs.Heap.{link_of, Heap, HeapAtom, In, Distinct, IsAtom, IsInPlace, alter, gone, home_by, with_place, with_mark, links_of, marks_of, marked, taken, atom_out, arity_of, home_of}
+use Rattle.lmn_heap.specs.Heap.{link_of, Heap, HeapAtom, In, Distinct, IsAtom, IsInPlace, alter, gone, home_by, with_place, with_mark, partners_of, marks_of, marked, taken, atom_out, arity_of, home_of, taken_all}
 use Rattle.lmn_heap.proofs.Listing.{alter_at, alter_away}
-use Rattle.lmn_ground.specs.Walks.{is_port, Net, net, next, is_in, Walk, ends}
-use Rattle.lmn_ground.specs.Marks.{paint, painted, first_marks, way, ahead, OnWay}
-use Rattle.lmn_ground.specs.Spread.{Spread, Wiping, taken_all}
+use Rattle.lmn_ground.specs.Walks.{is_port, Net, net, is_in, Walk, ends}
+use Rattle.lmn_ground.specs.Marks.{paint, painted, first_marks, way, ports_ahead, OnWay}
+use Rattle.lmn_ground.specs.Spread.{Spread, Wiping}
 use Rattle.lmn_ground.proofs.WalkLaws.{determined, kept_seen}
 use Rattle.lmn_ground.proofs.SoughtLaws.{no_port_left, weight}
-use Rattle.lmn_ground.proofs.PaintLaws.{net_painted, in_or_not}
+use Rattle.lmn_ground.proofs.PaintLaws.{net_painted}
 use Rattle.lmn_ground.proofs.SpreadLaws.{fits_home}
+use Rattle.lmn_parts.specs.Walks.{neighbour}
+use Rattle.lmn_heap.proofs.Common.{decide_in as in_or_not}
 
 -- what taking leaves as it is
 kept_by : {X : Type 0} (view : Option HeapAtom → X) → ((o : Option HeapAtom) → view (option_map (with_place gone) o) ≡ view o) → (s : Heap) (b a : ℕ) → view ((taken s b).atoms a) ≡ view (s.atoms a)
@@ -24,7 +26,7 @@ kept_by view h s b a = elim (cases_eq a b) [
   | inr d ↦ ap view (alter_away s.atoms b (option_map (with_place gone)) a d)
 ]
 
-links_taken : (o : Option HeapAtom) → links_of (option_map (with_place gone) o) ≡ links_of o
+links_taken : (o : Option HeapAtom) → partners_of (option_map (with_place gone) o) ≡ partners_of o
 links_taken None = refl
 links_taken (Some x) = refl
 
@@ -34,8 +36,8 @@ marks_taken (Some x) = refl
 
 pub net_taken : (s : Heap) (b : ℕ) → net (taken s b) ≡ net s
 net_taken s b = λ i. record {
-  arity = λ a. (ap length (kept_by links_of links_taken s b a)) i;
-  link = λ a k. (ap (λ xs. slice_index_or xs k None) (kept_by links_of links_taken s b a)) i;
+  arity = λ a. (ap length (kept_by partners_of links_taken s b a)) i;
+  link = λ a k. (ap (λ xs. slice_index_or xs k None) (kept_by partners_of links_taken s b a)) i;
 }
 
 pub firsts_taken : (s : Heap) (b : ℕ) → first_marks (taken s b) ≡ first_marks s
@@ -108,8 +110,8 @@ wiping_taken before now root seen met depth a i left b t =
       once = subst (λ (n : Net). Distinct (way n (first_marks (taken now b)) depth a)) e (subst (λ (v : ℕ → ℕ). Distinct (way (net before) v depth a)) f t.once);
       way_met = λ x k. t.way_met x (subst (λ (v : ℕ → ℕ). In x (way (net before) v depth a)) (sym f) (subst (λ (n : Net). In x (way n (first_marks (taken now b)) depth a)) (sym e) k));
       first = t.first;
-      rest = subst (λ (n : Net). Walk n.arity (next n root (is_in seen)) met (ahead n (first_marks (taken now b)) depth a i) seen) e
-          (subst (λ (v : ℕ → ℕ). Walk (net before).arity (next (net before) root (is_in seen)) met (ahead (net before) v depth a i) seen) f t.rest);
+      rest = subst (λ (n : Net). Walk n.arity (neighbour n root (is_in seen)) met (ports_ahead n (first_marks (taken now b)) depth a i) seen) e
+          (subst (λ (v : ℕ → ℕ). Walk (net before).arity (neighbour (net before) root (is_in seen)) met (ports_ahead (net before) v depth a i) seen) f t.rest);
       few = t.few;
       deep = t.deep;
     }
@@ -132,8 +134,8 @@ module _ (before0 : Heap) (root : ℕ × ℕ) (seen met : List ℕ) (now : Heap)
       e ∙ ap (taken_all before0) (by (subst (λ (z : ℕ). Wiping (taken_all before0 met) now root seen met z a i left) zero_deep t) (subst (λ (n : Net). i ≡ n.arity a) f full))
     where
       by : Wiping (taken_all before0 met) now root seen met 0 a i left → i ≡ (net (taken_all before0 met)).arity a → met ≡ seen
-      by u end = determined (net (taken_all before0 met)).arity (next (net (taken_all before0 met)) root (is_in seen)) ends
-          (subst (λ (ps : List (ℕ × ℕ)). Walk (net (taken_all before0 met)).arity (next (net (taken_all before0 met)) root (is_in seen)) met (ps ++ []) seen) (no_port_left (net (taken_all before0 met)) a i end) u.rest)
+      by u end = determined (net (taken_all before0 met)).arity (neighbour (net (taken_all before0 met)) root (is_in seen)) ends
+          (subst (λ (ps : List (ℕ × ℕ)). Walk (net (taken_all before0 met)).arity (neighbour (net (taken_all before0 met)) root (is_in seen)) met (ps ++ []) seen) (no_port_left (net (taken_all before0 met)) a i end) u.rest)
 
 pub weight_taken : (mid to : Heap) (b d c k : ℕ) → to ≡ taken mid b → weight (net to) (first_marks to) d c k ≡ weight (net mid) (first_marks mid) d c k
 weight_taken mid to b d c k e =

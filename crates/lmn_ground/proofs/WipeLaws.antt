@@ -7,20 +7,19 @@ use Rattle.lmn_heap.specs.Heap.{Heap, In, Distinct, alter, marked, arity_of, lin
 use Rattle.lmn_heap.specs.Sound.{Sound}
 use Rattle.lmn_heap.proofs.ListLemmas.{in_left, each_in, each_of}
 use Rattle.lmn_heap.proofs.Listing.{alter_at}
-use Rattle.lmn_ground.specs.Walks.{Net, net, ports, ports_from, next, is_port, is_in, Walk, ends}
-use Rattle.lmn_ground.specs.Marks.{first_marks, entry, back, way, behind, ahead, OnWay}
+use Rattle.lmn_ground.specs.Walks.{Net, net, ports_from, is_port, is_in, Walk, ends}
+use Rattle.lmn_ground.specs.Marks.{first_marks, entry_port, back, way, ports_behind, ports_ahead, OnWay}
 use Rattle.lmn_ground.specs.Spread.{Spread, Wiping}
 use Rattle.lmn_ground.proofs.WalkLaws.{in_last, in_snoc, determined, kept_seen, longer, past, found}
 use Rattle.lmn_ground.proofs.SoughtLaws.{top_in, port_left, no_port_left, next_root, next_none, next_link, weight, weight_back, length-ports}
-use Rattle.lmn_ground.proofs.PaintLaws.{net_painted, painted_marked, painted_cleared, painted_none, way_same, behind_same, on_way_same, in_or_not, is_in_true, mark_here, mark_away, net_marked}
+use Rattle.lmn_ground.proofs.PaintLaws.{net_painted, painted_marked, painted_cleared, painted_none, way_same, behind_same, on_way_same, is_in_true, mark_here, mark_away, net_marked}
 use Rattle.lmn_ground.proofs.SpreadLaws.{not_root, next_in, next_to, marks_there, alter_zero, way_enter, ahead_enter, ahead_here, on_way_enter, behind_enter}
+use Rattle.lmn_parts.specs.Walks.{port_range, neighbour}
+use Rattle.lmn_ground.proofs.FollowLaws.{to_none}
+use Rattle.lmn_heap.proofs.Common.{decide_in as in_or_not}
 
-pub entry_wiped : (j : ℕ) → j < 256 → entry (256 + j) ≡ j
+pub entry_wiped : (j : ℕ) → j < 256 → entry_port (256 + j) ≡ j
 entry_wiped j l = omega arith
-
-to_none : (ps : List (ℕ × ℕ)) → ps ++ [] ≡ ps
-to_none [] = refl
-to_none (p ∷ ps) = ap (λ qs. p ∷ qs) (to_none ps)
 
 module _ (before : Heap) (root : ℕ × ℕ) where
   pub wiping_first : (start now : Heap) (count : ℕ) (all : Bool) → (t : Spread before start root count all) → Sound start → root.1 < arity_of start root.0 → root.1 < 256
@@ -47,7 +46,7 @@ module _ (before : Heap) (root : ℕ × ℕ) where
         once = (tt, tt);
         way_met = λ x k. k;
         first = inl refl;
-        rest = subst (λ (ps : List (ℕ × ℕ)). Walk (net before).arity (next (net before) root (is_in t.seen)) (root.0 ∷ []) ps t.seen) (sym begin) t.walked;
+        rest = subst (λ (ps : List (ℕ × ℕ)). Walk (net before).arity (neighbour (net before) root (is_in t.seen)) (root.0 ∷ []) ps t.seen) (sym begin) t.walked;
         few = (let h = longer _ _ t.walked in let c = t.counted in omega (arith, h, c));
         deep = omega arith;
       }
@@ -56,13 +55,13 @@ module _ (before : Heap) (root : ℕ × ℕ) where
       by x (inl s) h = subst (λ (z : ℕ). first_marks now z < 512) s (omega (arith, h, small))
       by x (inr k) h = absurd k
 
-      begin : ports_from (net before) root.0 0 ++ [] ≡ ports root.0 0 (arity_of before root.0)
-      begin = to_none (ports_from (net before) root.0 0) ∙ ap (λ (k : ℕ). ports root.0 0 k) (let z : arity_of before root.0 - 0 ≡ arity_of before root.0 = omega arith in z)
+      begin : ports_from (net before) root.0 0 ++ [] ≡ port_range root.0 0 (arity_of before root.0)
+      begin = to_none (ports_from (net before) root.0 0) ∙ ap (λ (k : ℕ). port_range root.0 0 k) (let z : arity_of before root.0 - 0 ≡ arity_of before root.0 = omega arith in z)
 
   module _ (now : Heap) (seen met : List ℕ) (depth a i left : ℕ) (t : Wiping before now root seen met depth a i left) where
     -- what a port of the walk leads to is reached
     pub b_reached : {b j : ℕ} → (net before).link a i ≡ Some (b, j) → is_port (a, i) root ≡ false → Reached (atom_map before) root b
-    b_reached link other = across (t.reached a (kept_seen (net before).arity (next (net before) root (is_in seen)) t.rest a (t.way_met a (top_in (net before) (first_marks now) depth a)))) (not_root a i root other) link
+    b_reached link other = across (t.reached a (kept_seen (net before).arity (neighbour (net before) root (is_in seen)) t.rest a (t.way_met a (top_in (net before) (first_marks now) depth a)))) (not_root a i root other) link
 
     -- past a port behind which nothing is to be wiped
     pub wiping_past : i < arity_of now a → ((b j : ℕ) → link_of now a i ≡ Some (b, j) → is_port (a, i) root ≡ false → first_marks now b < 512) → Wiping before now root seen met depth a (i + 1) left
@@ -87,8 +86,8 @@ module _ (before : Heap) (root : ℕ × ℕ) where
           once = t.once;
           way_met = t.way_met;
           first = t.first;
-          rest = past _ _ (subst (λ (ps : List (ℕ × ℕ)). Walk (net before).arity (next (net before) root (is_in seen)) met ps seen)
-              (ap (λ ps. ps ++ behind (net before) (first_marks now) depth a) (port_split l)) t.rest)
+          rest = past _ _ (subst (λ (ps : List (ℕ × ℕ)). Walk (net before).arity (neighbour (net before) root (is_in seen)) met ps seen)
+              (ap (λ ps. ps ++ ports_behind (net before) (first_marks now) depth a) (port_split l)) t.rest)
               (λ b k. met_or (is_port (a, i) root) refl (net_link a i) refl b k h);
           few = t.few;
           deep = t.deep;
@@ -100,7 +99,7 @@ module _ (before : Heap) (root : ℕ × ℕ) where
         port_split : i < (net before).arity a → ports_from (net before) a i ≡ (a, i) ∷ ports_from (net before) a (i + 1)
         port_split l = port_left (net before) a i l
 
-        met_or : (r : Bool) → is_port (a, i) root ≡ r → (o : Option (ℕ × ℕ)) → (net before).link a i ≡ o → (b : ℕ) → next (net before) root (is_in seen) (a, i) ≡ Some b
+        met_or : (r : Bool) → is_port (a, i) root ≡ r → (o : Option (ℕ × ℕ)) → (net before).link a i ≡ o → (b : ℕ) → neighbour (net before) root (is_in seen) (a, i) ≡ Some b
             → ((b j : ℕ) → (net before).link a i ≡ Some (b, j) → is_port (a, i) root ≡ false → first_marks now b < 512) → In b met
         met_or true r o f b k h = let z = next_root (net before) root (is_in seen) (a, i) r in absurd (cc)
         met_or false r None f b k h = let z = next_none (net before) root (is_in seen) a i f in absurd (cc)
@@ -132,14 +131,14 @@ module _ (before : Heap) (root : ℕ × ℕ) where
         let away : (x : ℕ) → x ≢ b → w x ≡ v x = λ x d. ap (λ (s : Heap). first_marks s x) made ∙ mark_away now b (256 + j) x d in
         let old_away : (x : ℕ) → In x met → x ≢ b = λ x k s. new (subst (λ (z : ℕ). In z met) s k) in
         let same : (x : ℕ) → In x (way n v depth a) → w x ≡ v x = λ x k. away x (old_away x (t.way_met x k)) in
-        let mark : entry (w b) ≡ j = ap entry here ∙ entry_wiped j small in
+        let mark : entry_port (w b) ≡ j = ap entry_port here ∙ entry_wiped j small in
         let the_way = way_enter n v w depth a i b j same mark back_link in
         let next_ahead = ahead_enter n v w depth a i b j same mark back_link in
         let here_ahead = ahead_here n v w depth a i b j same mark back_link i_low in
-        let walked = found n.arity (next n root (is_in seen)) (subst (λ (ps : List (ℕ × ℕ)). Walk n.arity (next n root (is_in seen)) met ps seen) here_ahead t.rest) b
+        let walked = found n.arity (neighbour n root (is_in seen)) (subst (λ (ps : List (ℕ × ℕ)). Walk n.arity (neighbour n root (is_in seen)) met ps seen) here_ahead t.rest) b
         (next_to n root (is_in seen) a i b j link other (is_in_true b seen b_seen)) new in
         let grown = length-append met (b ∷ []) in
-        let most = longer n.arity (next n root (is_in seen)) walked in
+        let most = longer n.arity (neighbour n root (is_in seen)) walked in
         subst (λ (d : ℕ). Wiping before to root seen (met ++ b ∷ []) d b 0 (left - 1)) (sym (add-one depth)) (record {
           marks = alter t.marks b (λ _. 256 + j);
           is = made ∙ ap (λ (s : Heap). marked s b 0 (256 + j)) t.is ∙ painted_marked before t.marks b (256 + j) (omega arith);
@@ -162,7 +161,7 @@ module _ (before : Heap) (root : ℕ × ℕ) where
           once = subst Distinct (sym the_way) (each_of (λ (x : ℕ). b ≢ x) (way n v depth a) (λ x k s. old_away x (t.way_met x k) (sym s)), t.once);
           way_met = λ x k. way_met_after b x (way n v depth a) (λ z m. t.way_met z m) (subst (In x) the_way k);
           first = in_left root.0 met (b ∷ []) t.first;
-          rest = subst (λ (ps : List (ℕ × ℕ)). Walk n.arity (next n root (is_in seen)) (met ++ b ∷ []) ps seen) (sym next_ahead) walked;
+          rest = subst (λ (ps : List (ℕ × ℕ)). Walk n.arity (neighbour n root (is_in seen)) (met ++ b ∷ []) ps seen) (sym next_ahead) walked;
           few = (let f = t.few in omega (arith, grown, most, f));
           deep = (let f = t.deep in omega (arith, grown, f));
         })
@@ -181,11 +180,11 @@ module _ (before : Heap) (root : ℕ × ℕ) where
         let j_low : j < n.arity b = subst (λ (x : Net). j < x.arity b) e given_port in
         let new : In b met → ⊥ = λ k. let h = t.low b k in absurd (omega (arith, h, marked_high)) in
         let b_seen : In b seen = elim (in_or_not b seen) [ inl k ↦ k | inr d ↦ (let h = t.off b (b_reached link other) d in absurd (omega (arith, h, marked_high))) ] in
-        let here_ahead : ahead n (first_marks now) depth a i ≡ (a, i) ∷ (ports_from n a (i + 1) ++ behind n (first_marks now) depth a) = ap (λ ps. ps ++ behind n (first_marks now) depth a) (port_left n a i i_low) in
-        let walked = found n.arity (next n root (is_in seen)) (subst (λ (ps : List (ℕ × ℕ)). Walk n.arity (next n root (is_in seen)) met ps seen) here_ahead t.rest) b
+        let here_ahead : ports_ahead n (first_marks now) depth a i ≡ (a, i) ∷ (ports_from n a (i + 1) ++ ports_behind n (first_marks now) depth a) = ap (λ ps. ps ++ ports_behind n (first_marks now) depth a) (port_left n a i i_low) in
+        let walked = found n.arity (neighbour n root (is_in seen)) (subst (λ (ps : List (ℕ × ℕ)). Walk n.arity (neighbour n root (is_in seen)) met ps seen) here_ahead t.rest) b
         (next_to n root (is_in seen) a i b j link other (is_in_true b seen b_seen)) new in
         let grown = length-append met (b ∷ []) in
-        let most = longer n.arity (next n root (is_in seen)) walked in
+        let most = longer n.arity (neighbour n root (is_in seen)) walked in
         let f = t.few in
         omega (arith, grown, most, f)
 
@@ -207,7 +206,7 @@ module _ (before : Heap) (root : ℕ × ℕ) where
             let w : ℕ → ℕ = first_marks to in
             let p : ℕ × ℕ = back (net before) v a in
             let a_met : In a met = u.way_met a (inl refl) in
-            let a_seen : In a seen = kept_seen (net before).arity (next (net before) root (is_in seen)) u.rest a a_met in
+            let a_seen : In a seen = kept_seen (net before).arity (neighbour (net before) root (is_in seen)) u.rest a a_met in
             let some : 0 < arity_of now a = subst (λ (x : Net). 0 < x.arity a) (sym (ap net u.is ∙ net_painted before u.marks)) (u.ports a a_seen) in
             let here : w a ≡ 0 = ap (λ (s : Heap). first_marks s a) made ∙ mark_here now a 0 (marks_there now a sound some) in
             let away : (x : ℕ) → x ≢ a → w x ≡ v x = λ x d. ap (λ (s : Heap). first_marks s x) made ∙ mark_away now a 0 x d in
@@ -237,8 +236,8 @@ module _ (before : Heap) (root : ℕ × ℕ) where
               once = subst Distinct (sym the_way) u.once.1;
               way_met = λ x k. u.way_met x (inr (subst (In x) the_way k));
               first = u.first;
-              rest = subst (λ (ps : List (ℕ × ℕ)). Walk (net before).arity (next (net before) root (is_in seen)) met (ports_from (net before) p.0 (p.1 + 1) ++ ps) seen) (sym (behind_same (net before) v w d p.0 same))
-                  (subst (λ (ps : List (ℕ × ℕ)). Walk (net before).arity (next (net before) root (is_in seen)) met (ps ++ behind (net before) v (suc d) a) seen) (no_port_left (net before) a i end) u.rest);
+              rest = subst (λ (ps : List (ℕ × ℕ)). Walk (net before).arity (neighbour (net before) root (is_in seen)) met (ports_from (net before) p.0 (p.1 + 1) ++ ps) seen) (sym (behind_same (net before) v w d p.0 same))
+                  (subst (λ (ps : List (ℕ × ℕ)). Walk (net before).arity (neighbour (net before) root (is_in seen)) met (ps ++ ports_behind (net before) v (suc d) a) seen) (no_port_left (net before) a i end) u.rest);
               few = u.few;
               deep = omega (arith, less);
             }
@@ -255,8 +254,8 @@ module _ (before : Heap) (root : ℕ × ℕ) where
       where
         by : Wiping before now root seen met 0 a i left → i ≡ (net before).arity a → to ≡ before
         by u end =
-            let all_met : met ≡ seen = determined (net before).arity (next (net before) root (is_in seen)) ends
-            (subst (λ (ps : List (ℕ × ℕ)). Walk (net before).arity (next (net before) root (is_in seen)) met (ps ++ []) seen) (no_port_left (net before) a i end) u.rest) in
+            let all_met : met ≡ seen = determined (net before).arity (neighbour (net before) root (is_in seen)) ends
+            (subst (λ (ps : List (ℕ × ℕ)). Walk (net before).arity (neighbour (net before) root (is_in seen)) met (ps ++ []) seen) (no_port_left (net before) a i end) u.rest) in
             let a_seen : In a seen = subst (In a) all_met (u.way_met a (inl refl)) in
             made ∙ ap (λ (s : Heap). marked s a 0 0) u.is ∙ painted_cleared before u.marks a (u.clean a a_seen)
             ∙ painted_none before (alter u.marks a (λ _. 0)) (λ x. elim (cases_eq x a) [
@@ -315,9 +314,9 @@ module _ (before : Heap) (root : ℕ × ℕ) where
             let here : w b ≡ 256 + j = ap (λ (s : Heap). first_marks s b) made ∙ mark_here now b (256 + j) (marks_there now b sound (omega (arith, port))) in
             let same : (x : ℕ) → In x (way n v depth a) → w x ≡ v x = λ x k. ap (λ (s : Heap). first_marks s x) made
             ∙ mark_away now b (256 + j) x (λ s. new (subst (λ (z : ℕ). In z met) s (t.way_met x (subst (λ (y : Net). In x (way y v depth a)) e k)))) in
-            let mark : entry (w b) ≡ j = ap entry here ∙ entry_wiped j small in
+            let mark : entry_port (w b) ≡ j = ap entry_port here ∙ entry_wiped j small in
             let l = ap length (behind_enter n v w depth a i b j same mark link) in
-            let m = length-append (ports_from n a (i + 1)) (behind n v depth a) in
+            let m = length-append (ports_from n a (i + 1)) (ports_behind n v depth a) in
             let k = length-ports a (i + 1) (n.arity a - (i + 1)) in
             omega (arith, l, m, k, low, few_ports, some)
 

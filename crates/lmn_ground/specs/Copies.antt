@@ -4,10 +4,10 @@ use Rattle.std.specs.Option.{option_map}
 use Rattle.lmn_heap.specs.Heap.{Heap, In, Distinct, arity_of, link_of, marked}
 use Rattle.lmn_heap.specs.Sound.{Paired}
 pub use Rattle.lmn_parts.specs.Copies.{made_as, made_like, moved, joined_like, all_joined, ports_of, copied, AreNew, LeadsOut, AllAtoms, Beside, Copied}
-use Rattle.lmn_ground.specs.Walks.{IsPart}
 use Rattle.lmn_ground.specs.Marks.{painted, first_marks}
 use Rattle.lmn_ground.specs.Spread.{Numbered}
 use Rattle.lmn_ground.specs.Follow.{answer}
+use Rattle.lmn_parts.specs.Walks.{IsPartInDepth}
 
 -- Some atoms were made as copies of these, and not joined.
 pub record Remains (before after : Heap) : Type 0 where
@@ -23,7 +23,7 @@ unmarked_all s [] = s
 unmarked_all s (x ∷ xs) = unmarked_all (marked s x 0 0) xs
 
 -- Some atoms have first marks, which they had not before.
-pub record Numbers (before now : Heap) (xs : List ℕ) : Type 0 where
+pub record NumbersAtoms (before now : Heap) (xs : List ℕ) : Type 0 where
   pub marks : ℕ → ℕ
   pub is : now ≡ painted before marks
   pub outside : (x : ℕ) → (In x xs → ⊥) → marks x ≡ 0
@@ -32,7 +32,7 @@ pub record Numbers (before now : Heap) (xs : List ℕ) : Type 0 where
 
 -- the atoms of a part, in order, with their numbers in their marks
 pub record Gathered (before now : Heap) (root : ℕ × ℕ) (xs : List ℕ) : Type 0 where
-  pub part : IsPart before root xs
+  pub part : IsPartInDepth before root xs
   pub numbers : Numbered (first_marks now) 2 xs
 
 -- New atoms were made for the first of these.
@@ -42,8 +42,8 @@ pub record Made (before after : Heap) (xs ys : List ℕ) : Type 0 where
   pub short : length ys ≤ length xs
 
 -- A port but the root has a partner, and the copy of the port the copy of this partner.
-abbrev pub IsJoined : Heap → ℕ × ℕ → (ℕ → ℕ) → ℕ → ℕ → Type 0
-IsJoined s root f a i = (◌≢◌ {A = ℕ × ℕ} (a, i) root) × IsSome (link_of s a i) × (link_of s (f a) i ≡ option_map (moved f) (link_of s a i))
+abbrev pub CopyIsJoined : Heap → ℕ × ℕ → (ℕ → ℕ) → ℕ → ℕ → Type 0
+CopyIsJoined s root f a i = (◌≢◌ {A = ℕ × ℕ} (a, i) root) × IsSome (link_of s a i) × (link_of s (f a) i ≡ option_map (moved f) (link_of s a i))
 
 -- The atoms ys are copies of the atoms xs, of which some ports are joined as these.
 pub record Copying (s : Heap) (root : ℕ × ℕ) (xs ys : List ℕ) : Type 0 where
@@ -56,4 +56,4 @@ pub record Copying (s : Heap) (root : ℕ × ℕ) (xs ys : List ℕ) : Type 0 wh
   pub apart : (x : ℕ) → In x xs → In x ys → ⊥
   pub arities : (a : ℕ) → In a xs → arity_of s (answer xs ys a) ≡ arity_of s a
   pub closed : (a i b j : ℕ) → In a xs → ◌≢◌ {A = ℕ × ℕ} (a, i) root → link_of s a i ≡ Some (b, j) → In b xs × (◌≢◌ {A = ℕ × ℕ} (b, j) root)
-  pub joined : (a i : ℕ) → In a xs → (link_of s (answer xs ys a) i ≡ None) ⊎ IsJoined s root (answer xs ys) a i
+  pub joined : (a i : ℕ) → In a xs → (link_of s (answer xs ys a) i ≡ None) ⊎ CopyIsJoined s root (answer xs ys) a i

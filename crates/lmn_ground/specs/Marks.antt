@@ -2,7 +2,8 @@
 use Rattle.std.specs.Prelude.{ℕ, zero, suc, ◌≡◌, ◌≢◌, ◌⊎◌, ◌<◌, ◌≤◌, ◌+◌, ◌%◌, Bool, false, List, [], ◌∷◌, ◌++◌, Option, Some, None, IsSome}
 use Rattle.std.specs.Option.{option_map}
 use Rattle.lmn_heap.specs.Heap.{Heap, HeapAtom, with_mark, mark_of, In, Distinct}
-use Rattle.lmn_ground.specs.Walks.{HasPort, Net, ports_from, is_port, next, Walk}
+use Rattle.lmn_ground.specs.Walks.{HasPort, Net, ports_from, is_port, Walk}
+use Rattle.lmn_parts.specs.Walks.{neighbour}
 
 -- the atom with another first mark; 0 stands for the one that it has
 abbrev pub paint : ℕ → Option HeapAtom → Option HeapAtom
@@ -16,8 +17,8 @@ abbrev pub first_marks : Heap → ℕ → ℕ
 first_marks s a = mark_of s a 0
 
 -- A mark holds the port by which an atom was entered; and 256 more or at least 512 more, which tells two walks apart.
-abbrev pub entry : ℕ → ℕ
-entry v = v % 256
+abbrev pub entry_port : ℕ → ℕ
+entry_port v = v % 256
 
 abbrev pub or_zero : Option (ℕ × ℕ) → ℕ × ℕ
 or_zero None = (0, 0)
@@ -25,7 +26,7 @@ or_zero (Some p) = p
 
 -- the port from which an atom was entered
 abbrev pub back : Net → (ℕ → ℕ) → ℕ → ℕ × ℕ
-back n marks a = or_zero (n.link a (entry (marks a)))
+back n marks a = or_zero (n.link a (entry_port (marks a)))
 
 -- the atoms on the way back to the root, this one first
 abbrev pub way : Net → (ℕ → ℕ) → ℕ → ℕ → List ℕ
@@ -33,23 +34,23 @@ way n marks zero a = a ∷ []
 way n marks (suc depth) a = a ∷ way n marks depth (back n marks a).0
 
 -- the ports on the way back that are still to be gone through
-abbrev pub behind : Net → (ℕ → ℕ) → ℕ → ℕ → List (ℕ × ℕ)
-behind n marks zero a = []
-behind n marks (suc depth) a = ports_from n (back n marks a).0 ((back n marks a).1 + 1) ++ behind n marks depth (back n marks a).0
+abbrev pub ports_behind : Net → (ℕ → ℕ) → ℕ → ℕ → List (ℕ × ℕ)
+ports_behind n marks zero a = []
+ports_behind n marks (suc depth) a = ports_from n (back n marks a).0 ((back n marks a).1 + 1) ++ ports_behind n marks depth (back n marks a).0
 
 -- the way back from this atom leads to the root
 abbrev pub OnWay : Net → (ℕ → ℕ) → ℕ × ℕ → ℕ → ℕ → Type 0
 OnWay n marks root zero a = a ≡ root.0
 OnWay n marks root (suc depth) a =
-    (n.link a (entry (marks a)) ≡ Some (back n marks a))
-    × (entry (marks a) < n.arity a)
+    (n.link a (entry_port (marks a)) ≡ Some (back n marks a))
+    × (entry_port (marks a) < n.arity a)
     × ((back n marks a).1 < n.arity (back n marks a).0)
     × (a ≡ root.0 → ⊥)
     × OnWay n marks root depth (back n marks a).0
 
 -- the ports that are still to be gone through, from port i of the atom a on
-abbrev pub ahead : Net → (ℕ → ℕ) → ℕ → ℕ → ℕ → List (ℕ × ℕ)
-ahead n marks depth a i = ports_from n a i ++ behind n marks depth a
+abbrev pub ports_ahead : Net → (ℕ → ℕ) → ℕ → ℕ → ℕ → List (ℕ × ℕ)
+ports_ahead n marks depth a i = ports_from n a i ++ ports_behind n marks depth a
 
 -- From port i of the atom a a walk has gone on to port j of the atom b, and met no atom that isn't marked.
 pub record Sought (n : Net) (marks : ℕ → ℕ) (root : ℕ × ℕ) (depth a i deep b j : ℕ) : Type 0 where
@@ -57,10 +58,10 @@ pub record Sought (n : Net) (marks : ℕ → ℕ) (root : ℕ × ℕ) (depth a i
   pub higher : deep ≤ depth
   pub within : (x : ℕ) → In x (way n marks deep b) → In x (way n marks depth a)
   pub once : Distinct (way n marks depth a) → Distinct (way n marks deep b)
-  pub passed : (p : ℕ × ℕ) → HasPort p (ahead n marks depth a i) → HasPort p (ahead n marks deep b j) ⊎ ((p ≡ root) ⊎ IsSome (n.link p.0 p.1))
+  pub passed : (p : ℕ × ℕ) → HasPort p (ports_ahead n marks depth a i) → HasPort p (ports_ahead n marks deep b j) ⊎ ((p ≡ root) ⊎ IsSome (n.link p.0 p.1))
   pub walks : (inside : ℕ → Bool) (seen all : List ℕ) → ((x : ℕ) → In x (way n marks depth a) → In x seen)
       → ((c k x l : ℕ) → In c seen → is_port (c, k) root ≡ false → n.link c k ≡ Some (x, l) → marks x ≢ 0 → In x seen)
-      → Walk n.arity (next n root inside) seen (ahead n marks deep b j) all → Walk n.arity (next n root inside) seen (ahead n marks depth a i) all
+      → Walk n.arity (neighbour n root inside) seen (ports_ahead n marks deep b j) all → Walk n.arity (neighbour n root inside) seen (ports_ahead n marks depth a i) all
 
 -- A walk stands where it has to be looked at: at its end, or at a port that isn't the root and leads to no marked atom.
 pub record Halts (n : Net) (marks : ℕ → ℕ) (root : ℕ × ℕ) (depth a i : ℕ) : Type 0 where

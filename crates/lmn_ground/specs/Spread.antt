@@ -1,17 +1,11 @@
 -- What a walk by marks has found, and what it has done to the heap.
 use Rattle.std.specs.Prelude.{suc, ◌/◌, ℕ, ◌≡◌, ◌≢◌, ◌⊎◌, ◌↔◌, ◌<◌, ◌≤◌, ◌+◌, Bool, true, List, [], ◌∷◌, Option, Some, None, IsSome, length}
 use Rattle.lmn_base.specs.Graphs.{Reached, StandsWhole}
-use Rattle.lmn_heap.specs.Heap.{Heap, In, Distinct, arity_of, link_of, home_of, mark_of, taken}
+use Rattle.lmn_heap.specs.Heap.{Heap, In, Distinct, arity_of, link_of, home_of, own_mark}
 use Rattle.lmn_heap.specs.Graphs.{atom_map}
-use Rattle.lmn_ground.specs.Walks.{HasPort, net, Walk, next, FoundInside, IsPart, is_in}
-use Rattle.lmn_ground.specs.Marks.{painted, first_marks, way, ahead, OnWay}
-
-abbrev pub own_mark : Heap → ℕ → ℕ
-own_mark s a = mark_of s a (arity_of s a)
-
--- every mark of a port is 0
-abbrev pub Clean : Heap → Type 0
-Clean s = (a i : ℕ) → i < arity_of s a → mark_of s a i ≡ 0
+use Rattle.lmn_ground.specs.Walks.{HasPort, net, Walk, FoundInside, is_in}
+use Rattle.lmn_ground.specs.Marks.{painted, first_marks, way, ports_ahead, OnWay}
+use Rattle.lmn_parts.specs.Walks.{neighbour, IsPartInDepth}
 
 -- the first mark of each atom of the part is 0
 abbrev pub CleanPart : Heap → ℕ × ℕ → Type 0
@@ -28,7 +22,7 @@ pub record IsWhole (s : Heap) (root : ℕ × ℕ) (home : Option ℕ) : Type 0 w
   pub ends : (a i : ℕ) → Reached (atom_map s) root a → i < arity_of s a → (a, i) ≢ root → IsSome (link_of s a i)
 
 -- the part stands whole in the membrane, and none of its atoms is matched
-pub record IsGround (s : Heap) (root : ℕ × ℕ) (home : ℕ) : Type 0 where
+pub record IsGroundIn (s : Heap) (root : ℕ × ℕ) (home : ℕ) : Type 0 where
   pub whole : StandsWhole (atom_map s) root home
   pub unmatched : (a : ℕ) → Reached (atom_map s) root a → own_mark s a ≢ 1
 
@@ -51,7 +45,7 @@ pub record Spread (before now : Heap) (root : ℕ × ℕ) (count : ℕ) (all : B
   pub numbers : Numbered (first_marks now) 2 seen
   pub reached : (x : ℕ) → In x seen → Reached (atom_map before) root x
   pub walked : FoundInside (net before) root (is_in seen) seen
-  pub whole : all ≡ true → IsPart before root seen
+  pub whole : all ≡ true → IsPartInDepth before root seen
 
 -- A walk from the root stands at port i of the atom a.
 pub record Spreading (before now : Heap) (root : ℕ × ℕ) (home : Option ℕ) (seen : List ℕ) (depth a i count : ℕ) : Type 0 where
@@ -73,9 +67,9 @@ pub record Spreading (before now : Heap) (root : ℕ × ℕ) (home : Option ℕ)
   pub way_seen : (x : ℕ) → In x (way (net before) (first_marks now) depth a) → In x seen
   pub deep : depth < count
   pub joined : (x k : ℕ) → In x seen → k < arity_of before x
-      → HasPort (x, k) (ahead (net before) (first_marks now) depth a i) ⊎ ((◌≡◌ {A = ℕ × ℕ} (x, k) root) ⊎ IsSome (link_of before x k))
+      → HasPort (x, k) (ports_ahead (net before) (first_marks now) depth a i) ⊎ ((◌≡◌ {A = ℕ × ℕ} (x, k) root) ⊎ IsSome (link_of before x k))
   pub walks : (inside : ℕ → Bool) (all : List ℕ) → ((x : ℕ) → In x seen → inside x ≡ true)
-      → Walk (net before).arity (next (net before) root inside) seen (ahead (net before) (first_marks now) depth a i) all → FoundInside (net before) root inside all
+      → Walk (net before).arity (neighbour (net before) root inside) seen (ports_ahead (net before) (first_marks now) depth a i) all → FoundInside (net before) root inside all
 
 -- The marks of the atoms `seen` are taken back by a second walk, which has met some of them and stands at port i of the atom a.
 pub record Wiping (before now : Heap) (root : ℕ × ℕ) (seen met : List ℕ) (depth a i left : ℕ) : Type 0 where
@@ -94,15 +88,10 @@ pub record Wiping (before now : Heap) (root : ℕ × ℕ) (seen met : List ℕ) 
   pub once : Distinct (way (net before) (first_marks now) depth a)
   pub way_met : (x : ℕ) → In x (way (net before) (first_marks now) depth a) → In x met
   pub first : In root.0 met
-  pub rest : Walk (net before).arity (next (net before) root (is_in seen)) met (ahead (net before) (first_marks now) depth a i) seen
+  pub rest : Walk (net before).arity (neighbour (net before) root (is_in seen)) met (ports_ahead (net before) (first_marks now) depth a i) seen
   pub few : left + length met ≡ length seen
   pub deep : depth < length met
 
 -- the atoms of a part, each once
 abbrev pub AreAtoms : Heap → ℕ × ℕ → List ℕ → Type 0
 AreAtoms s root xs = Distinct xs × ((a : ℕ) → In a xs ↔ Reached (atom_map s) root a)
-
--- these atoms are taken, one after the other
-abbrev pub taken_all : Heap → List ℕ → Heap
-taken_all s [] = s
-taken_all s (a ∷ xs) = taken_all (taken s a) xs

@@ -1,5 +1,5 @@
 //! Two parts are compared, walked in step.
-ghost use Rattle.std.specs.Prelude.{◌≡◌, ◌<◌, ◌/◌, ◌↔◌, ℕ, List, Some, None, false, IsTrue, IfSome, ◌+◌};
+ghost use Rattle.std.specs.Prelude.{◌≡◌, ◌<◌, ◌/◌, ◌↔◌, ℕ, List, Some, None, false, IsTrue, IfSome};
 ghost use Rattle.lmn_base.specs.Graphs.{SameGraph};
 ghost use Rattle.lmn_heap.specs.Graphs.{atom_map};
 ghost use Rattle.lmn_heap.specs.Heap.{IsAtom, arity_of, functor_of, link_of};

@@ -1,12 +1,12 @@
 //! A part is copied.
-ghost use Rattle.std.specs.Prelude.{◌≡◌, ◌<◌, ℕ, List, [], None, IfOk, OnErr, OnOk, length, map, Some};
+ghost use Rattle.std.specs.Prelude.{◌≡◌, ◌<◌, ℕ, List, [], None, IfOk, OnErr, OnOk, length, map};
 ghost use Rattle.lmn_heap.specs.Conditions.{Alone};
-ghost use Rattle.lmn_heap.specs.Heap.{In, IsAtom, arity_of};
+ghost use Rattle.lmn_heap.specs.Heap.{In, IsAtom, arity_of, PortsUnmarked};
 ghost use Rattle.lmn_ground.specs.Marks.{first_marks};
-ghost use Rattle.lmn_ground.specs.Walks.{ports};
-ghost use Rattle.lmn_ground.specs.Spread.{Clean, CleanPart, IsWhole, Numbered};
+ghost use Rattle.lmn_ground.specs.Spread.{CleanPart, IsWhole, Numbered};
 ghost use Rattle.lmn_ground.specs.Follow.{answer};
 ghost use Rattle.lmn_ground.specs.Copies.{AllAtoms, Copied, Copying, LeadsOut, Made, Remains, all_joined, joined_like, ports_of, unmarked_all};
+ghost use Rattle.lmn_parts.specs.Walks.{port_range};
 
 use crate::equality::is_same_port;
 use crate::gather::{clear, gather};
@@ -89,7 +89,7 @@ fn join_ports<S: LinkStore>(
     requires copying { Copying (S.heap store.old) (S.atom_id root.0, root.1) (map S.atom_id atoms.now) (map S.atom_id copies.now) }
     requires numbers { Numbered (first_marks (S.heap store.old)) 2 (map S.atom_id atoms.now) }
     requires among { In (S.atom_id a) (map S.atom_id atoms.now) }
-    ensures { S.heap store.new ≡ all_joined (answer (map S.atom_id atoms.now) (map S.atom_id copies.now)) (S.atom_id root.0, root.1) (S.heap store.old) (ports (S.atom_id a) 0 (arity_of (S.heap store.old) (S.atom_id a))) }
+    ensures { S.heap store.new ≡ all_joined (answer (map S.atom_id atoms.now) (map S.atom_id copies.now)) (S.atom_id root.0, root.1) (S.heap store.old) (port_range (S.atom_id a) 0 (arity_of (S.heap store.old) (S.atom_id a))) }
 {
     for i in 0..arity(store, a) {
         join_port(store, root, atoms, copies, a, i);
@@ -148,7 +148,7 @@ pub fn copy<S: LinkStore>(
 ) -> Result<(S::Atom, u8), NoMemory>
     requires atom { IsAtom (S.heap store.old) (S.atom_id root.0) }
     requires port { root.1 < arity_of (S.heap store.old) (S.atom_id root.0) }
-    requires clean { Clean (S.heap store.old) }
+    requires clean { PortsUnmarked (S.heap store.old) }
     requires ground { IsWhole (S.heap store.old) (S.atom_id root.0, root.1) None }
     requires outside { LeadsOut (S.heap store.old) (S.atom_id root.0, root.1) }
     ensures ok { IfOk result (λ c. Copied (S.heap store.old) (S.heap store.new) (S.atom_id root.0, root.1) (S.atom_id c.0, c.1)) }

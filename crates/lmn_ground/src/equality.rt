@@ -2,11 +2,11 @@
 ghost use Rattle.std.specs.Prelude.{◌≡◌, ◌⊎◌, ◌<◌, ◌↔◌, ℕ, List, None, IsTrue, length};
 ghost use Rattle.lmn_base.specs.Graphs.{Reached, SameGraph};
 ghost use Rattle.lmn_heap.specs.Graphs.{atom_map};
-ghost use Rattle.lmn_heap.specs.Heap.{IsAtom, arity_of, functor_of};
-ghost use Rattle.lmn_ground.specs.Walks.{IsPart};
+ghost use Rattle.lmn_heap.specs.Heap.{IsAtom, arity_of, functor_of, PortsUnmarked};
 ghost use Rattle.lmn_ground.specs.Marks.{first_marks};
-ghost use Rattle.lmn_ground.specs.Spread.{Clean, CleanPart, IsWhole, Numbered};
+ghost use Rattle.lmn_ground.specs.Spread.{CleanPart, IsWhole, Numbered};
 ghost use Rattle.lmn_ground.specs.Follow.{Two};
+ghost use Rattle.lmn_parts.specs.Walks.{IsPartInDepth};
 
 use crate::compare::{are_alike, compare};
 use crate::parts::size_of;
@@ -46,13 +46,13 @@ fn equals_apart<S: LinkStore>(store: &mut S, x: (S::Atom, u8), y: (S::Atom, u8),
     requires y { IsAtom (S.heap store.old) (S.atom_id y.0) }
     requires port { x.1 < arity_of (S.heap store.old) (S.atom_id x.0) }
     requires end { y.1 < arity_of (S.heap store.old) (S.atom_id y.0) }
-    requires clean { Clean (S.heap store.old) }
+    requires clean { PortsUnmarked (S.heap store.old) }
     requires ground { IsWhole (S.heap store.old) (S.atom_id x.0, x.1) None }
     requires other { IsWhole (S.heap store.old) (S.atom_id y.0, y.1) None }
     requires alike { functor_of (S.heap store.old) (S.atom_id y.0) ≡ functor_of (S.heap store.old) (S.atom_id x.0) }
     requires ports { x.1 ≡ y.1 }
     requires apart { (a : ℕ) → Reached (atom_map (S.heap store.old)) (S.atom_id x.0, x.1) a → Reached (atom_map (S.heap store.old)) (S.atom_id y.0, y.1) a → ⊥ }
-    requires size { (xs : List ℕ) × IsPart (S.heap store.old) (S.atom_id x.0, x.1) xs × (length xs ≡ size) }
+    requires size { (xs : List ℕ) × IsPartInDepth (S.heap store.old) (S.atom_id x.0, x.1) xs × (length xs ≡ size) }
     ensures equal { IsTrue result ↔ SameGraph (atom_map (S.heap store.old)) (S.atom_id x.0, x.1) (atom_map (S.heap store.old)) (S.atom_id y.0, y.1) }
     ensures same { S.heap store.new ≡ S.heap store.old }
 {
@@ -74,7 +74,7 @@ pub fn equal<S: LinkStore>(store: &mut S, x: (S::Atom, u8), y: (S::Atom, u8)) ->
     requires y { IsAtom (S.heap store.old) (S.atom_id y.0) }
     requires port { x.1 < arity_of (S.heap store.old) (S.atom_id x.0) }
     requires end { y.1 < arity_of (S.heap store.old) (S.atom_id y.0) }
-    requires clean { Clean (S.heap store.old) }
+    requires clean { PortsUnmarked (S.heap store.old) }
     requires ground { IsWhole (S.heap store.old) (S.atom_id x.0, x.1) None }
     requires other { IsWhole (S.heap store.old) (S.atom_id y.0, y.1) None }
     requires apart { ((S.atom_id x.0 ≡ S.atom_id y.0) × (x.1 ≡ y.1))

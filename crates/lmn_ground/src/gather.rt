@@ -2,7 +2,7 @@
 ghost use Rattle.std.specs.Prelude.{◌≡◌, ◌<◌, [], map, None, OnOk};
 ghost use Rattle.lmn_heap.specs.Heap.{IsAtom, arity_of};
 ghost use Rattle.lmn_ground.specs.Spread.{CleanPart, IsWhole};
-ghost use Rattle.lmn_ground.specs.Copies.{AllAtoms, Numbers, Gathered, unmarked_all};
+ghost use Rattle.lmn_ground.specs.Copies.{AllAtoms, NumbersAtoms, Gathered, unmarked_all};
 
 use crate::seek::{Stand, arity, seek};
 use crate::spread::mark_entry;
@@ -20,7 +20,7 @@ pub fn gather<S: LinkStore>(
     requires clean { CleanPart (S.heap store.old) (S.atom_id root.0, root.1) }
     requires ground { IsWhole (S.heap store.old) (S.atom_id root.0, root.1) None }
     requires empty { atoms.old ≡ [] }
-    ensures marked { Numbers (S.heap store.old) (S.heap store.new) (map S.atom_id atoms.new) }
+    ensures marked { NumbersAtoms (S.heap store.old) (S.heap store.new) (map S.atom_id atoms.new) }
     ensures ok { OnOk result (Gathered (S.heap store.old) (S.heap store.new) (S.atom_id root.0, root.1) (map S.atom_id atoms.new)) }
 {
     let _arity = arity(store, root.0);

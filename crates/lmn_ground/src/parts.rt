@@ -1,10 +1,10 @@
 //! What can be asked of a part.
-ghost use Rattle.std.specs.Prelude.{◌≡◌, ◌<◌, ◌↔◌, ℕ, List, None, IsTrue, length, Some};
+ghost use Rattle.std.specs.Prelude.{◌≡◌, ◌<◌, ◌↔◌, ℕ, List, None, IsTrue, length};
 ghost use Rattle.lmn_base.specs.Graphs.{Reached};
 ghost use Rattle.lmn_heap.specs.Graphs.{atom_map};
-ghost use Rattle.lmn_heap.specs.Heap.{IsAtom, IsInPlace, IsMem, arity_of};
-ghost use Rattle.lmn_ground.specs.Walks.{IsPart};
-ghost use Rattle.lmn_ground.specs.Spread.{AreAtoms, Clean, IsWhole, IsGround, taken_all};
+ghost use Rattle.lmn_heap.specs.Heap.{IsAtom, IsInPlace, IsMem, arity_of, PortsUnmarked, taken_all};
+ghost use Rattle.lmn_ground.specs.Spread.{AreAtoms, IsWhole, IsGroundIn};
+ghost use Rattle.lmn_parts.specs.Walks.{IsPartInDepth};
 
 use crate::seek::arity;
 use crate::spread::{fits, spread};
@@ -17,8 +17,8 @@ pub fn is_ground<S: LinkStore>(store: &mut S, root: (S::Atom, u8), mem: S::Mem) 
     requires atom { IsAtom (S.heap store.old) (S.atom_id root.0) }
     requires port { root.1 < arity_of (S.heap store.old) (S.atom_id root.0) }
     requires mem { IsMem (S.heap store.old) (S.mem_id mem) }
-    requires clean { Clean (S.heap store.old) }
-    ensures ground { IsTrue result ↔ IsGround (S.heap store.old) (S.atom_id root.0, root.1) (S.mem_id mem) }
+    requires clean { PortsUnmarked (S.heap store.old) }
+    ensures ground { IsTrue result ↔ IsGroundIn (S.heap store.old) (S.atom_id root.0, root.1) (S.mem_id mem) }
     ensures same { S.heap store.new ≡ S.heap store.old }
 {
     let _arity = arity(store, root.0);
@@ -34,10 +34,10 @@ pub fn is_ground<S: LinkStore>(store: &mut S, root: (S::Atom, u8), mem: S::Mem) 
 pub fn size_of<S: LinkStore>(store: &mut S, root: (S::Atom, u8)) -> u64
     requires atom { IsAtom (S.heap store.old) (S.atom_id root.0) }
     requires port { root.1 < arity_of (S.heap store.old) (S.atom_id root.0) }
-    requires clean { Clean (S.heap store.old) }
+    requires clean { PortsUnmarked (S.heap store.old) }
     requires ground { IsWhole (S.heap store.old) (S.atom_id root.0, root.1) None }
     ensures size { (xs : List ℕ) → AreAtoms (S.heap store.old) (S.atom_id root.0, root.1) xs → result ≡ length xs }
-    ensures part { (all : List ℕ) × IsPart (S.heap store.old) (S.atom_id root.0, root.1) all × (length all ≡ result) }
+    ensures part { (all : List ℕ) × IsPartInDepth (S.heap store.old) (S.atom_id root.0, root.1) all × (length all ≡ result) }
     ensures same { S.heap store.new ≡ S.heap store.old }
 {
     let _arity = arity(store, root.0);
@@ -50,10 +50,10 @@ pub fn size_of<S: LinkStore>(store: &mut S, root: (S::Atom, u8)) -> u64
 pub fn take_part<S: LinkStore>(store: &mut S, root: (S::Atom, u8))
     requires atom { IsAtom (S.heap store.old) (S.atom_id root.0) }
     requires port { root.1 < arity_of (S.heap store.old) (S.atom_id root.0) }
-    requires clean { Clean (S.heap store.old) }
+    requires clean { PortsUnmarked (S.heap store.old) }
     requires ground { IsWhole (S.heap store.old) (S.atom_id root.0, root.1) None }
     requires placed { (a : ℕ) → Reached (atom_map (S.heap store.old)) (S.atom_id root.0, root.1) a → IsInPlace (S.heap store.old) a }
-    ensures { (all : List ℕ) × IsPart (S.heap store.old) (S.atom_id root.0, root.1) all × (S.heap store.new ≡ taken_all (S.heap store.old) all) }
+    ensures { (all : List ℕ) × IsPartInDepth (S.heap store.old) (S.atom_id root.0, root.1) all × (S.heap store.new ≡ taken_all (S.heap store.old) all) }
 {
     let _arity = arity(store, root.0);
     let found = spread(store, root, None);

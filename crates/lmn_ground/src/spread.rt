@@ -1,8 +1,8 @@
 //! The walk that marks the atoms of a part.
 ghost use Rattle.std.specs.Prelude.{◌≡◌, ◌≢◌, ◌<◌, ◌≤◌, ◌+◌, ◌*◌, ◌^◌, ◌↔◌, IsTrue, IfSome, Some};
 ghost use Rattle.std.specs.Option.{option_map};
-ghost use Rattle.lmn_heap.specs.Heap.{IsAtom, IsMem, arity_of, home_of, marked};
-ghost use Rattle.lmn_ground.specs.Spread.{AtomFits, CleanPart, IsWhole, Spread, own_mark};
+ghost use Rattle.lmn_heap.specs.Heap.{IsAtom, IsMem, arity_of, home_of, marked, own_mark};
+ghost use Rattle.lmn_ground.specs.Spread.{AtomFits, CleanPart, IsWhole, Spread};
 
 use crate::seek::{Stand, arity, seek};
 use lmn_store::LinkStore;

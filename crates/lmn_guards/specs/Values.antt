@@ -50,6 +50,7 @@ Ordered unequal m n = m ≢ n
 
 -- ---- the same of the program's expressions, as functions
 
+-- -2^63 to 2^63 - 1, as a test
 abbrev pub in_range : ℤ → Bool
 in_range z = int_le (negsuc (2 ^ 63 - 1)) z && int_lt z (pos (2 ^ 63))
 
@@ -57,9 +58,11 @@ in_range z = int_le (negsuc (2 ^ 63 - 1)) z && int_lt z (pos (2 ^ 63))
 abbrev pub ranged : ℤ → Option ℤ
 ranged z = if in_range z then Some z else None
 
+-- the integer is zero
 abbrev pub is_zero : ℤ → Bool
 is_zero z = int_le z (pos 0) && int_le (pos 0) z
 
+-- the operation has a divisor
 abbrev pub divides : Arith → Bool
 divides Add = false
 divides Sub = false
@@ -71,6 +74,7 @@ divides Mod = true
 abbrev pub result_of : Arith → ℤ → ℤ → Option ℤ
 result_of op m n = if divides op && is_zero n then None else ranged (computed (operator_of op) m n)
 
+-- an operation on two values, where both are there
 abbrev pub both : (ℤ → ℤ → Option ℤ) → Option ℤ → Option ℤ → Option ℤ
 both f None y = None
 both f (Some m) None = None

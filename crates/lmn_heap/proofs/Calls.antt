@@ -2,7 +2,7 @@
 use Rattle.std.proofs.Common.{◌≡◌, ℕ, [], ◌∷◌, Option, Some, None, IsSome, refl, sym, ap}
 use Rattle.std.specs.Option.{option_map, option_and_then}
 use Rattle.std.specs.Prelude.{slice_index_or}
-use Rattle.lmn_heap.specs.Heap.{Heap, HeapAtom, HeapMem, Place, top, within, waiting, gone, alter, links_of, atoms_by, mems_by, home_of, parent_of, mem_place_of, with_mark, mem_with_mark, mem_with_spare, mem_with_rules, with_place, atom_sent, unless_waiting, StandsAt, IsMemInPlace, made_atom, made_mem, discarded, placed, placed_mem, taken, taken_mem, moved_all, rules_in, joined}
+use Rattle.lmn_heap.specs.Heap.{Heap, HeapAtom, HeapMem, Place, top, within, waiting, gone, alter, partners_of, atoms_by, mems_by, home_of, parent_of, mem_place_of, with_mark, mem_with_mark, mem_with_spare, mem_with_rules, with_place, atom_sent, unless_waiting, IsTopOrWithin, IsMemInPlace, made_atom, made_mem, discarded, placed, placed_mem, taken, taken_mem, moved_all, rules_in, joined}
 use Rattle.lmn_heap.specs.Sound.{Sound}
 use Rattle.lmn_heap.specs.Conditions.{IsOutside}
 use Rattle.lmn_heap.specs.Laws.{KeepsSound, CallsKeepSound, FinishedIsValid, OneTree}
@@ -15,23 +15,19 @@ use Rattle.lmn_heap.proofs.Finish.{finished_sound, finish_valid}
 use Rattle.lmn_heap.proofs.Shapes.{WellShaped, KeepsShape, shaped_of, shaped_at, shape_alter, place_shape, mark_shape, made_shape, joined_shape, made_paired}
 use Rattle.lmn_heap.proofs.Groves.{forms_one}
 use Rattle.lmn_heap.proofs.Depths.{tree_once}
+use Rattle.lmn_base.proofs.Lists.{some_is}
 
 -- the membrane in which something is placed is there, and doesn't wait
-stands_some : (o : Option HeapMem) → StandsAt (option_map (λ x. x.place) o) → IsSome o
+pub stands_some : (o : Option HeapMem) → IsTopOrWithin (option_map (λ x. x.place) o) → IsSome o
 stands_some None s = absurd s
 stands_some (Some x) s = refl
 
-stands_still : (o : Option Place) → StandsAt o → o ≡ Some waiting → ⊥
+stands_still : (o : Option Place) → IsTopOrWithin o → o ≡ Some waiting → ⊥
 stands_still None s e = absurd s
 stands_still (Some top) s e = absurd (cc)
 stands_still (Some (within m)) s e = absurd (cc)
 stands_still (Some waiting) s e = absurd s
 stands_still (Some gone) s e = absurd s
-
--- a home that is some is one
-some_is : (o : Option ℕ) → IsSome o → (m : ℕ) × (o ≡ Some m)
-some_is None i = absurd (cc)
-some_is (Some m) i = (m, refl)
 
 module _ (s : Heap) (sound : Sound s) where
   atoms_shaped : (a : ℕ) → WellShaped (s.atoms a)
@@ -43,7 +39,7 @@ module _ (s : Heap) (sound : Sound s) where
   atom_kept a g place links shape =
       let t : Heap = record s { atoms = alter s.atoms a (option_map g) } in
       record {
-        paired = same_paired s t (λ x i. ap (λ ls. slice_index_or ls i None) (alter_keeps s.atoms a (option_map g) links_of by_links x)) sound.paired;
+        paired = same_paired s t (λ x i. ap (λ ls. slice_index_or ls i None) (alter_keeps s.atoms a (option_map g) partners_of by_links x)) sound.paired;
         listed = same_listed s t sound.listed (alter_keeps s.atoms a (option_map g) (λ (o : Option HeapAtom). option_map (λ x. x.place) o) by_place) (λ m. refl) (λ m. refl) (λ m. refl) refl refl refl;
         shaped = shaped_of t (shape_alter s.atoms a g shape atoms_shaped);
       }
@@ -52,7 +48,7 @@ module _ (s : Heap) (sound : Sound s) where
       by_place None = refl
       by_place (Some x) = ap (λ z. Some z) (place x)
 
-      by_links : (o : Option HeapAtom) → links_of (option_map g o) ≡ links_of o
+      by_links : (o : Option HeapAtom) → partners_of (option_map g o) ≡ partners_of o
       by_links None = refl
       by_links (Some x) = links x
 
@@ -98,7 +94,7 @@ module _ (s : Heap) (sound : Sound s) where
     shaped = shaped_of (moved_all s m n) (λ a. by_shape (s.atoms a) (atoms_shaped a));
   }
     where
-      by_links : (o : Option HeapAtom) → links_of (option_map (atom_sent m n) o) ≡ links_of o
+      by_links : (o : Option HeapAtom) → partners_of (option_map (atom_sent m n) o) ≡ partners_of o
       by_links None = refl
       by_links (Some x) = refl
 

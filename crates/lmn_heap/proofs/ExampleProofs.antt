@@ -10,23 +10,23 @@ use Rattle.lmn_base.specs.declared.solid.Region.TheOpen.{Region-F}
 use Rattle.lmn_base.specs.declared.solid.Region.TheViews.{roll-Region}
 use Rattle.lmn_base.specs.declared.solid.Region.TheFolds.{fold-roll-Region}
 use Rattle.lmn_base.specs.Links.{Numbers, no_more, known, new}
-use Rattle.lmn_base.specs.Solids.{connector, atoms_step, links_of}
-use Rattle.lmn_heap.specs.Heap.{HeapAtom, HeapMem, Place, top, within, waiting, gone, home_by, lone_root, made_atom, made_mem, placed, placed_mem, IsInPlace, arity_of, link_of, links_of as atom_links}
+use Rattle.lmn_base.specs.Solids.{connector, atoms_step, links_of_region}
+use Rattle.lmn_heap.specs.Heap.{HeapAtom, HeapMem, Place, top, within, waiting, gone, home_by, lone_root, made_atom, made_mem, placed, placed_mem, IsInPlace, arity_of, link_of, partners_of as atom_links}
 use Rattle.lmn_heap.specs.Lists.{In}
-use Rattle.lmn_heap.specs.Sound.{Sound, Settled, IsTree, bare, mem}
+use Rattle.lmn_heap.specs.Sound.{Sound, AllInPlace, IsTree, bare, mem}
 use Rattle.lmn_heap.specs.Conditions.{Above}
 use Rattle.lmn_heap.specs.Solid.{IsNaming}
-use Rattle.lmn_heap.specs.Examples.{a, b, made, loose, across, AcrossIsValid, AcrossHasItsSolid, LooseIsNotValid, MadeIsAlone, JoinedIsNotAlone, PartnerIsNotReady, RootIsOutside}
-use Rattle.lmn_heap.proofs.ListLemmas.{apart_test}
+use Rattle.lmn_heap.specs.Examples.{functor_a, functor_b, made, loose, across, AcrossIsValid, AcrossHasItsSolid, LooseIsNotValid, MadeIsAlone, JoinedIsNotAlone, PartnerIsNotReady, RootIsOutside}
 use Rattle.lmn_heap.proofs.Lone.{lone_valid}
 use Rattle.lmn_heap.proofs.Calls.{keeps_sound}
+use Rattle.lmn_base.proofs.Numbers.{not_equal as apart_test}
 
 -- the calls, one after the other
 made_sound : Sound made
 made_sound =
     let one = (keeps_sound lone_root lone_valid.sound).make_mem 1 refl in
-    let two = (keeps_sound (made_mem lone_root 1) one).make_atom 0 a refl in
-    (keeps_sound (made_atom (made_mem lone_root 1) 0 a) two).make_atom 1 b refl
+    let two = (keeps_sound (made_mem lone_root 1) one).make_atom 0 functor_a refl in
+    (keeps_sound (made_atom (made_mem lone_root 1) 0 functor_a) two).make_atom 1 functor_b refl
 
 loose_sound : Sound loose
 loose_sound =
@@ -47,7 +47,7 @@ atom_cases x = elim (cases_eq x 0) [
   | inr d ↦ elim (cases_eq x 1) [ inl e ↦ inr (inl e) | inr f ↦ inr (inr (rw (apart_test x 0 d, apart_test x 1 f) refl)) ]
 ]
 
-mem_cases : (m : ℕ) → (m ≡ 0) ⊎ ((m ≡ 1) ⊎ (across.mems m ≡ None))
+pub mem_cases : (m : ℕ) → (m ≡ 0) ⊎ ((m ≡ 1) ⊎ (across.mems m ≡ None))
 mem_cases m = elim (cases_eq m 0) [
   | inl e ↦ inl e
   | inr d ↦ elim (cases_eq m 1) [ inl e ↦ inr (inl e) | inr f ↦ inr (inr (rw (apart_test m 0 d, apart_test m 1 f) refl)) ]
@@ -93,7 +93,7 @@ across_full : (x i : ℕ) → i < arity_of across x → IsSome (link_of across x
 across_full = each_atom (λ o. (i : ℕ) → i < length (atom_links o) → IsSome (slice_index_or (atom_links o) i None))
     (first_port _ (1, 0) refl) (first_port _ (0, 0) refl) (λ i h. absurd (let l : i < 0 = h in omega arith))
 
-across_settled : Settled across
+across_settled : AllInPlace across
 across_settled = record {
   atoms = each_atom (λ o. IsSome o → IsSome (option_and_then (λ x. home_by x.place) o)) (λ i. refl) (λ i. refl) (λ i. absurd (cc));
   mems = each_mem (λ m o. IsSome o → (option_map (λ x. x.place) o ≡ Some top) ⊎ IsSome (option_and_then (λ x. home_by x.place) o)) (λ i. inl refl) (λ i. inr refl) (λ m i. absurd (cc));
@@ -104,7 +104,7 @@ across_is_valid = record {
   sound = across_sound;
   settled = across_settled;
   full = across_full;
-  no_connector = λ x i e. each_atom (λ o. option_map (λ y. y.functor) o ≡ Some connector → ⊥) (no_connector a refl) (no_connector b refl) (λ e. absurd (cc)) x e;
+  no_connector = λ x i e. each_atom (λ o. option_map (λ y. y.functor) o ≡ Some connector → ⊥) (no_connector functor_a refl) (no_connector functor_b refl) (λ e. absurd (cc)) x e;
   tree = (mem 0 (mem 1 bare bare) bare, across_tree);
 }
 
@@ -179,12 +179,12 @@ across_naming = record {
 }
 
 abbrev a_inside : Region-F Region
-a_inside = record { atoms = record { functor = a; links = 0 ∷ [] } ∷ []; membranes = []; rules = [] }
+a_inside = record { atoms = record { functor = functor_a; links = 0 ∷ [] } ∷ []; membranes = []; rules = [] }
 
 abbrev b_outside : Region-F Region
-b_outside = record { atoms = record { functor = b; links = 0 ∷ [] } ∷ []; membranes = roll-Region a_inside ∷ []; rules = [] }
+b_outside = record { atoms = record { functor = functor_b; links = 0 ∷ [] } ∷ []; membranes = roll-Region a_inside ∷ []; rules = [] }
 
-across_links : links_of (roll-Region b_outside) ≡ 0 ∷ 0 ∷ []
+across_links : links_of_region (roll-Region b_outside) ≡ 0 ∷ 0 ∷ []
 across_links =
     let inner = fold-roll-Region (List SolidAtom) atoms_step a_inside in
     ap (λ xs. flat_map (λ x. x.links) xs) (fold-roll-Region (List SolidAtom) atoms_step b_outside)

@@ -11,7 +11,7 @@ use Rattle.lmn_heap.proofs.Trees.{in_either, parent_by}
 pub parent_is : (h : Heap) (listed : Listed h) (n m : ℕ) → In n (mems_in h m) → parent_of h n ≡ Some m
 parent_is h listed n m s = parent_by h n (within m) ((listed.mems m n).0 s)
 
-place_by_parent : (o : Option HeapMem) (m : ℕ) → option_and_then (λ x. home_by x.place) o ≡ Some m → option_map (λ x. x.place) o ≡ Some (within m)
+pub place_by_parent : (o : Option HeapMem) (m : ℕ) → option_and_then (λ x. home_by x.place) o ≡ Some m → option_map (λ x. x.place) o ≡ Some (within m)
 place_by_parent None m e = absurd (cc)
 place_by_parent (Some x) m e = by x.place e
   where

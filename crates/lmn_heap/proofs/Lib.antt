@@ -19,3 +19,4 @@ pub mod Ranks
 pub mod Calls
 pub mod Items
 pub mod ExampleProofs
+pub mod Common

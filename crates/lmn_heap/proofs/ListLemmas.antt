@@ -5,6 +5,7 @@ use Rattle.std.proofs.lemmas.Map.Steps.{length-le_from_distinct_below}
 use Rattle.std.specs.Prelude.{nat_eq}
 use Rattle.std.specs.List.{IsDistinct, AllByRecursion, list_any}
 use Rattle.lmn_heap.specs.Lists.{Each, In, Distinct, without}
+use Rattle.lmn_base.proofs.Numbers.{not_equal as apart_test}
 
 -- what holds of each element holds of one
 pub each_in : (P : ℕ → Type 0) (xs : List ℕ) (a : ℕ) → Each P xs → In a xs → P a
@@ -41,14 +42,6 @@ distinct_left (x ∷ xs) ys d = (each_of _ xs (λ a i. each_in (λ z. x ≢ z) (
 pub distinct_right : (xs ys : List ℕ) → Distinct (xs ++ ys) → Distinct ys
 distinct_right [] ys d = d
 distinct_right (x ∷ xs) ys d = distinct_right xs ys d.1
-
--- the test of two different numbers
-pub apart_test : (x y : ℕ) → x ≢ y → (x == y) ≡ false
-apart_test x y d = by (x == y) refl
-  where
-    by : (b : Bool) → (x == y) ≡ b → b ≡ false
-    by true e = absurd (d (eqb-true x y e))
-    by false e = refl
 
 all_apart : (x : ℕ) (xs : List ℕ) → Each (λ y. x ≢ y) xs → AllByRecursion (λ y. (x == y) ≡ false) xs
 all_apart x [] e = tt

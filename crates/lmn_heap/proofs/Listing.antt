@@ -3,12 +3,14 @@ use Rattle.std.proofs.Common.{◌≡◌, ◌≢◌, ◌⊎◌, ℕ, ◌==◌, �
 use Rattle.std.proofs.lemmas.Bool.{cases_eq, eq-eqb, eqb-true}
 use Rattle.std.specs.Option.{option_map, option_and_then}
 use Rattle.lmn_heap.proofs.ListLemmas.{each_in, each_of, in_left}
-use Rattle.lmn_heap.proofs.ListLemmas.{apart_test, in_without}
+use Rattle.lmn_heap.proofs.ListLemmas.{in_without}
 use Rattle.lmn_base.specs.declared.functor.Functor.{Functor}
 use Rattle.std.specs.Prelude.{slice_index_or}
-use Rattle.lmn_heap.specs.Heap.{made_atom, new_atom, links_of, Heap, HeapAtom, HeapMem, Place, top, within, waiting, gone, alter, with_place, mem_with_atoms, place_of, mem_place_of, home_of, home_by, atoms_in, mems_in, atoms_by, mems_by, atom_out, linked, cleared, with_link, placed, taken, joined, link_of, In, Distinct, from, after, without}
+use Rattle.lmn_heap.specs.Heap.{made_atom, new_atom, partners_of, Heap, HeapAtom, HeapMem, Place, top, within, waiting, gone, alter, with_place, mem_with_atoms, place_of, mem_place_of, home_of, home_by, atoms_in, mems_in, atoms_by, mems_by, atom_out, linked, cleared, with_link, placed, taken, joined, link_of, In, Distinct, from, after, without}
 use Rattle.lmn_heap.specs.Sound.{Paired, Listed}
 use Rattle.lmn_heap.proofs.Trees.{in_either, in_here}
+use Rattle.lmn_base.proofs.Numbers.{not_equal as apart_test}
+use Rattle.lmn_heap.specs.Lists.{without_all}
 
 -- Reading an alter
 
@@ -226,13 +228,13 @@ without_first a xs e = subst (λ ys. without a ys ≡ after a xs) e (rw (eq-eqb 
 not_within : (s : Heap) (h : Listed s) (a : ℕ) (P : Place) → place_of s a ≡ Some P → (m : ℕ) → (P ≡ within m → ⊥) → In a (atoms_in s m) → ⊥
 not_within s h a P e m d i = d (let w : Some P ≡ Some (within m) = sym e ∙ (h.atoms m a).0 i in cc)
 
-within_same : (j k : ℕ) → within j ≡ within k → j ≡ k
+pub within_same : (j k : ℕ) → within j ≡ within k → j ≡ k
 within_same j k e = (cc)
 
-waiting_apart : (m : ℕ) → waiting ≡ within m → ⊥
+pub waiting_apart : (m : ℕ) → waiting ≡ within m → ⊥
 waiting_apart m e = absurd (cc)
 
-gone_apart : (m : ℕ) → gone ≡ within m → ⊥
+pub gone_apart : (m : ℕ) → gone ≡ within m → ⊥
 gone_apart m e = absurd (cc)
 
 -- `place_atom`
@@ -277,7 +279,7 @@ home_place (Some x) m e = by x.place e
 pub home_is : (s : Heap) (a m : ℕ) → home_of s a ≡ Some m → place_of s a ≡ Some (within m)
 home_is s a m e = home_place (s.atoms a) m e
 
-listed_mem : (s : Heap) (m a : ℕ) → In a (atoms_in s m) → IsSome (s.mems m)
+pub listed_mem : (s : Heap) (m a : ℕ) → In a (atoms_in s m) → IsSome (s.mems m)
 listed_mem s m a i = by (s.mems m) i
   where
     by : (x : Option HeapMem) → In a (atoms_by x) → IsSome x
@@ -348,10 +350,10 @@ same_paired s t same p = record {
   apart = λ a i e. p.apart a i (sym (same a i) ∙ e);
 }
 
-place_keeps : (f : ℕ → Option HeapAtom) (a : ℕ) (h : Place) (x : ℕ) → links_of (alter f a (option_map (with_place h)) x) ≡ links_of (f x)
-place_keeps f a h x = alter_keeps f a (option_map (with_place h)) links_of by x
+pub place_keeps : (f : ℕ → Option HeapAtom) (a : ℕ) (h : Place) (x : ℕ) → partners_of (alter f a (option_map (with_place h)) x) ≡ partners_of (f x)
+place_keeps f a h x = alter_keeps f a (option_map (with_place h)) partners_of by x
   where
-    by : (o : Option HeapAtom) → links_of (option_map (with_place h) o) ≡ links_of o
+    by : (o : Option HeapAtom) → partners_of (option_map (with_place h) o) ≡ partners_of o
     by None = refl
     by (Some x) = refl
 
@@ -361,3 +363,8 @@ placed_paired s m a = same_paired s (placed s m a) (λ x i. ap (λ xs. slice_ind
 
 pub taken_paired : (s : Heap) (a : ℕ) → Paired s → Paired (taken s a)
 taken_paired s a = same_paired s (taken s a) (λ x i. ap (λ xs. slice_index_or xs i None) (place_keeps s.atoms a gone x))
+
+-- what images leave of a list
+pub distinct_without_all : (bs xs : List ℕ) → Distinct xs → Distinct (without_all bs xs)
+distinct_without_all [] xs d = d
+distinct_without_all (b ∷ bs) xs d = distinct_without_all bs (without b xs) (distinct_without b xs d)

@@ -10,7 +10,7 @@ use Rattle.lmn_heap.proofs.Shapes.{shaped_of}
 abbrev nothing : ℕ → Option HeapMem
 nothing m = None
 
-abbrev the_root : HeapMem
+abbrev pub the_root : HeapMem
 the_root = mem_with_place top new_mem
 
 cases : (m : ℕ) → ((m ≡ 0) × (lone_root.mems m ≡ Some the_root)) ⊎ ((m ≢ 0) × (lone_root.mems m ≡ None))
@@ -59,7 +59,7 @@ lone_sound = record {
   shaped = shaped_of lone_root (λ a. tt);
 }
 
-is_root : (m : ℕ) → IsMem lone_root m → m ≡ 0
+pub is_root : (m : ℕ) → IsMem lone_root m → m ≡ 0
 is_root m i = elim (cases m) [
   | inl w ↦ w.0
   | inr w ↦ absurd (let u : IsSome {T = HeapMem} None = subst (λ (o : Option HeapMem). IsSome o) w.1 i in cc)

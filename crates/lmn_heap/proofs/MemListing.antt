@@ -6,7 +6,7 @@ use Rattle.lmn_heap.specs.Lists.{In, Distinct, from, without}
 use Rattle.lmn_heap.specs.Heap.{Heap, HeapMem, Place, top, within, waiting, gone, alter, place_of, mem_place_of, parent_of, atoms_in, mems_in, atoms_by, mems_by, mem_with_place, mem_with_mems, mem_out, new_mem, made_mem, placed_mem, taken_mem}
 use Rattle.lmn_heap.specs.Sound.{Listed}
 use Rattle.lmn_heap.proofs.Heights.{parent_place, mem_of_list}
-use Rattle.lmn_heap.proofs.Listing.{alter_at, alter_away, alter_keeps, Turns, gains, loses, keeps, turned, distinct_without, distinct_snoc, without_first}
+use Rattle.lmn_heap.proofs.Listing.{alter_at, alter_away, alter_keeps, Turns, gains, loses, keeps, turned, distinct_without, distinct_snoc, without_first, gone_apart, waiting_apart, within_same}
 
 -- a membrane goes to another place
 pub record OneMemMoves (s t : Heap) (n : ℕ) (Q : Place) : Type 0 where
@@ -104,15 +104,6 @@ module _ (f : ℕ → Option HeapMem) (m : ℕ) (g : List ℕ → List ℕ) wher
 
 not_within : (s : Heap) (h : Listed s) (n : ℕ) (P : Place) → mem_place_of s n ≡ Some P → (m : ℕ) → (P ≡ within m → ⊥) → In n (mems_in s m) → ⊥
 not_within s h n P e m d i = d (let w : Some P ≡ Some (within m) = sym e ∙ (h.mems m n).0 i in cc)
-
-within_same : (j k : ℕ) → within j ≡ within k → j ≡ k
-within_same j k e = (cc)
-
-waiting_apart : (m : ℕ) → waiting ≡ within m → ⊥
-waiting_apart m e = absurd (cc)
-
-gone_apart : (m : ℕ) → gone ≡ within m → ⊥
-gone_apart m e = absurd (cc)
 
 root_apart : (s : Heap) → Listed s → (n : ℕ) (P : Place) → mem_place_of s n ≡ Some P → (P ≡ top → ⊥) → n ≢ s.root
 root_apart s h n P e d z = d (let w : Some P ≡ Some top = sym e ∙ (h.root n).1 z in cc)

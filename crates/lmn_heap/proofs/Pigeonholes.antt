@@ -1,17 +1,10 @@
 -- Lists without repeats: one that lies in another isn't longer, and one that isn't shorter has all of it.
-use Rattle.std.proofs.Common.{ℕ, suc, ◌≡◌, ◌≢◌, ◌≤◌, ◌⊎◌, inl, inr, List, [], ◌∷◌, refl, arith, ap, sym, length}
+use Rattle.std.proofs.Common.{ℕ, suc, ◌≡◌, ◌≢◌, ◌≤◌, inl, inr, List, [], ◌∷◌, refl, arith, ap, sym, length}
 use Rattle.std.specs.Prelude.{Bool, true, false, ◌==◌, if◌then◌else◌}
 use Rattle.std.proofs.lemmas.Bool.Decides.{Decides-eqb}
 use Rattle.lmn_heap.specs.Lists.{In, Distinct, without}
 use Rattle.lmn_heap.proofs.ListLemmas.{each_in, in_without}
-
--- two numbers are equal or not
-pub number_cases : (m n : ℕ) → (m ≡ n) ⊎ (m ≢ n)
-number_cases m n = by_test (m == n) refl
-  where
-    by_test : (b : Bool) → (m == n) ≡ b → (m ≡ n) ⊎ (m ≢ n)
-    by_test true t = inl ((Decides-eqb m n).0 t)
-    by_test false t = inr (λ e. let u = (Decides-eqb m n).1 e in cc)
+use Rattle.lmn_base.proofs.Numbers.{same_or_not as number_cases}
 
 length_by : (x y : ℕ) (ys : List ℕ) (b : Bool) → (y == x) ≡ b → (In x ys → length ys ≡ suc (length (without x ys))) → In x (y ∷ ys) →
     suc (length ys) ≡ suc (length (if b then ys else y ∷ without x ys))

@@ -4,9 +4,9 @@ use Rattle.std.proofs.lemmas.Bool.{cases_eq, eq-eqb}
 use Rattle.std.proofs.lemmas.List.{get_or-set_same, get_or-set_other, length-set}
 use Rattle.std.specs.Option.{option_map}
 use Rattle.std.specs.Prelude.{slice_set, slice_index_or}
-use Rattle.lmn_heap.proofs.ListLemmas.{apart_test}
-use Rattle.lmn_heap.specs.Heap.{Heap, HeapAtom, links_of, link_of, arity_of, with_link, linked, cleared, joined}
+use Rattle.lmn_heap.specs.Heap.{Heap, HeapAtom, partners_of, link_of, arity_of, with_link, linked, cleared, joined}
 use Rattle.lmn_heap.specs.Sound.{Paired}
+use Rattle.lmn_base.proofs.Numbers.{not_equal as apart_test}
 
 -- two ports with one partner are one port
 pub unify_differ : (s : Heap) (a i b j c k d l : ℕ) → link_of s c k ≡ Some (a, i) → link_of s d l ≡ Some (b, j) → ◌≢◌ {A = ℕ × ℕ} (a, i) (b, j) → ◌≢◌ {A = ℕ × ℕ} (c, k) (d, l)
@@ -17,11 +17,11 @@ unify_differ s a i b j c k d l e f apart same =
 
 -- the partner of a port
 abbrev pub lk : (ℕ → Option HeapAtom) → ℕ → ℕ → Option (ℕ × ℕ)
-lk f c k = slice_index_or (links_of (f c)) k None
+lk f c k = slice_index_or (partners_of (f c)) k None
 
 -- the number of an atom's ports
 abbrev pub ar : (ℕ → Option HeapAtom) → ℕ → ℕ
-ar f c = length (links_of (f c))
+ar f c = length (partners_of (f c))
 
 -- the same atom and the same index
 abbrev pub SamePort : ℕ → ℕ → ℕ → ℕ → Type 0
@@ -34,12 +34,12 @@ same_port c k a i = elim (cases_eq c a) [
   | inr d ↦ inr (λ p. d p.0)
 ]
 
-links_map : (i : ℕ) (p : Option (ℕ × ℕ)) (o : Option HeapAtom) → links_of (option_map (with_link i p) o) ≡ slice_set (links_of o) i p
+links_map : (i : ℕ) (p : Option (ℕ × ℕ)) (o : Option HeapAtom) → partners_of (option_map (with_link i p) o) ≡ slice_set (partners_of o) i p
 links_map i p None = refl
 links_map i p (Some x) = refl
 
 -- a port gets a partner: its atom
-pub linked_at : (f : ℕ → Option HeapAtom) (a i : ℕ) (p : Option (ℕ × ℕ)) → links_of (linked f a i p a) ≡ slice_set (links_of (f a)) i p
+pub linked_at : (f : ℕ → Option HeapAtom) (a i : ℕ) (p : Option (ℕ × ℕ)) → partners_of (linked f a i p a) ≡ slice_set (partners_of (f a)) i p
 linked_at f a i p = rw (eq-eqb a a refl) (links_map i p (f a))
 
 -- the other atoms
@@ -48,11 +48,11 @@ linked_away f a i p c d = rw (apart_test c a d) refl
 
 -- the port itself
 pub linked_same : (f : ℕ → Option HeapAtom) (a i : ℕ) (p : Option (ℕ × ℕ)) → i < ar f a → lk (linked f a i p) a i ≡ p
-linked_same f a i p h = ap (λ xs. slice_index_or xs i None) (linked_at f a i p) ∙ get_or-set_same (links_of (f a)) i p None h
+linked_same f a i p h = ap (λ xs. slice_index_or xs i None) (linked_at f a i p) ∙ get_or-set_same (partners_of (f a)) i p None h
 
 -- a cleared port has no partner, whether or not there is such a port
 pub linked_none : (f : ℕ → Option HeapAtom) (a i : ℕ) → lk (linked f a i None) a i ≡ None
-linked_none f a i = ap (λ xs. slice_index_or xs i None) (linked_at f a i None) ∙ by (links_of (f a)) i
+linked_none f a i = ap (λ xs. slice_index_or xs i None) (linked_at f a i None) ∙ by (partners_of (f a)) i
   where
     by : (xs : List (Option (ℕ × ℕ))) (i : ℕ) → slice_index_or (slice_set xs i None) i None ≡ None
     by [] i = refl
@@ -64,16 +64,16 @@ pub linked_other : (f : ℕ → Option HeapAtom) (a i : ℕ) (p : Option (ℕ ×
 linked_other f a i p c k d =
     elim (cases_eq c a) [
       | inl e ↦ subst (λ z. lk (linked f a i p) z k ≡ lk f z k) (sym e)
-          (ap (λ xs. slice_index_or xs k None) (linked_at f a i p) ∙ get_or-set_other (links_of (f a)) i k p None (λ h. d (e, h)))
-      | inr w ↦ ap (λ (o : Option HeapAtom). slice_index_or (links_of o) k None) (linked_away f a i p c w)
+          (ap (λ xs. slice_index_or xs k None) (linked_at f a i p) ∙ get_or-set_other (partners_of (f a)) i k p None (λ h. d (e, h)))
+      | inr w ↦ ap (λ (o : Option HeapAtom). slice_index_or (partners_of o) k None) (linked_away f a i p c w)
     ]
 
 -- no port comes or goes
 pub linked_arity : (f : ℕ → Option HeapAtom) (a i : ℕ) (p : Option (ℕ × ℕ)) (c : ℕ) → ar (linked f a i p) c ≡ ar f c
 linked_arity f a i p c =
     elim (cases_eq c a) [
-      | inl e ↦ subst (λ z. ar (linked f a i p) z ≡ ar f z) (sym e) (ap (λ (xs : List (Option (ℕ × ℕ))). length xs) (linked_at f a i p) ∙ length-set (links_of (f a)) i p)
-      | inr w ↦ ap (λ (o : Option HeapAtom). length (links_of o)) (linked_away f a i p c w)
+      | inl e ↦ subst (λ z. ar (linked f a i p) z ≡ ar f z) (sym e) (ap (λ (xs : List (Option (ℕ × ℕ))). length xs) (linked_at f a i p) ∙ length-set (partners_of (f a)) i p)
+      | inr w ↦ ap (λ (o : Option HeapAtom). length (partners_of o)) (linked_away f a i p c w)
     ]
 
 pub cleared_arity : (f : ℕ → Option HeapAtom) (q : Option (ℕ × ℕ)) (c : ℕ) → ar (cleared f q) c ≡ ar f c

@@ -9,6 +9,7 @@ use Rattle.lmn_heap.proofs.Trees.{in_either}
 use Rattle.lmn_heap.proofs.Groves.{child_inside}
 use Rattle.lmn_heap.proofs.Heights.{parent_is, parent_place, mem_of_list, mem_of_place, above_more}
 use Rattle.lmn_heap.proofs.Depths.{both_distinct}
+use Rattle.lmn_heap.proofs.Common.{nothing_in}
 
 -- a forest of a list, from a forest for what is in each
 abbrev pub build_list : (ℕ → Forest) → List ℕ → Forest
@@ -19,10 +20,6 @@ build_list g (m ∷ ms) = mem m (g m) (build_list g ms)
 abbrev pub build : Heap → ℕ → List ℕ → Forest
 build v zero ms = bare
 build v (suc k) ms = build_list (λ m. build v k (mems_in v m)) ms
-
-nil_of : (ms : List ℕ) → ((m : ℕ) → In m ms → ⊥) → ms ≡ []
-nil_of [] d = refl
-nil_of (m ∷ ms) d = absurd (d m (inl refl))
 
 -- of two membranes above one, one is above the other
 above_order : (v : Heap) (i j a b x : ℕ) → Above v i a x → Above v j b x → ((k : ℕ) × Above v k b a) ⊎ ((k : ℕ) × Above v k a b)
@@ -73,7 +70,7 @@ module _ (v : Heap) (listed : Listed v) (rank : ℕ → ℕ) (most : ℕ) (bound
 
   -- a depth beyond all ranks is deep enough
   pub forms_build : (k : ℕ) (ms : List ℕ) → Shallow k ms → Forms v (build v k ms) ms
-  forms_build zero ms s = nil_of ms (λ m i. let w = s m i in let b = bound m w.0 in off m b w.1)
+  forms_build zero ms s = nothing_in ms (λ m i. let w = s m i in let b = bound m w.0 in off m b w.1)
     where
       off : (m : ℕ) → rank m ≤ most → most < rank m + 0 → ⊥
       off m b h = omega arith

@@ -2,13 +2,13 @@
 use Rattle.std.proofs.Common.{◌≡◌, ◌⊎◌, ℕ, zero, suc, ◌<◌, List, [], ◌∷◌, length, Option, Some, None, IsSome, refl, sym, subst, ◌∙◌, inl, inr, arith}
 use Rattle.std.specs.Option.{option_map, option_and_then}
 use Rattle.std.specs.Prelude.{slice_index_or}
-use Rattle.lmn_heap.specs.Heap.{Heap, HeapAtom, HeapMem, Place, top, waiting, home_by, place_of, mem_place_of, links_of, link_of, arity_of, functor_of, with_link, linked, cleared, joined, In}
-use Rattle.lmn_heap.specs.Sound.{Listed, Settled}
+use Rattle.lmn_heap.specs.Heap.{Heap, HeapAtom, HeapMem, Place, top, waiting, home_by, place_of, mem_place_of, partners_of, link_of, arity_of, functor_of, with_link, linked, cleared, joined, In}
+use Rattle.lmn_heap.specs.Sound.{Listed, AllInPlace}
 use Rattle.lmn_heap.proofs.Listing.{alter_keeps}
 
 -- a port that has a partner is one
 pub port_within : (s : Heap) (x i : ℕ) (p : ℕ × ℕ) → link_of s x i ≡ Some p → i < arity_of s x
-port_within s x i p e = by (links_of (s.atoms x)) i e
+port_within s x i p e = by (partners_of (s.atoms x)) i e
   where
     by : (xs : List (Option (ℕ × ℕ))) (i : ℕ) → slice_index_or xs i None ≡ Some p → i < length xs
     by [] i e = absurd (cc)
@@ -16,7 +16,7 @@ port_within s x i p e = by (links_of (s.atoms x)) i e
     by (y ∷ ys) (suc i) e = let r = by ys i e in omega arith
 
 -- in a settled heap nothing waits
-pub no_waiting : (s : Heap) → Listed s → Settled s → s.new_atoms ≡ []
+pub no_waiting : (s : Heap) → Listed s → AllInPlace s → s.new_atoms ≡ []
 no_waiting s h q = by s.new_atoms (λ a i. (h.new_atoms a).0 i)
   where
     never : (o : Option HeapAtom) → option_map (λ x. x.place) o ≡ Some waiting → (IsSome o → IsSome (option_and_then (λ x. home_by x.place) o)) → ⊥
@@ -36,7 +36,7 @@ mem_standing (Some x) P e n d g = let w : x.place ≡ P = (cc) in
       | inr t ↦ (let u : IsSome (home_by P) = subst (λ p. IsSome (home_by p)) w t in let z : IsSome {T = ℕ} None = subst (λ (o : Option ℕ). IsSome o) n u in absurd (cc))
     ]
 
-pub no_waiting_mems : (s : Heap) → Listed s → Settled s → s.new_mems ≡ []
+pub no_waiting_mems : (s : Heap) → Listed s → AllInPlace s → s.new_mems ≡ []
 no_waiting_mems s h q = by s.new_mems (λ a i. (h.new_mems a).0 i)
   where
     by : (xs : List ℕ) → ((a : ℕ) → In a xs → mem_place_of s a ≡ Some waiting) → xs ≡ []

@@ -5,7 +5,7 @@ use Rattle.std.proofs.lemmas.List.{length-set, length-replicate}
 use Rattle.std.specs.Option.{option_map}
 use Rattle.std.specs.Prelude.{slice_index_or, replicate}
 use Rattle.lmn_base.specs.declared.functor.Functor.{Functor}
-use Rattle.lmn_heap.specs.Heap.{Heap, HeapAtom, Place, alter, links_of, marks_of, link_of, with_place, with_link, with_mark, new_atom, made_atom, linked, cleared, joined}
+use Rattle.lmn_heap.specs.Heap.{Heap, HeapAtom, Place, alter, partners_of, marks_of, link_of, with_place, with_link, with_mark, new_atom, made_atom, linked, cleared, joined}
 use Rattle.lmn_heap.specs.Sound.{Paired, Shaped}
 use Rattle.lmn_heap.proofs.Listing.{alter_at, alter_away, same_paired}
 
@@ -18,18 +18,18 @@ WellShaped (Some x) = (length x.links ≡ x.functor.arity) × (length x.marks �
 pub shaped_of : (s : Heap) → ((a : ℕ) → WellShaped (s.atoms a)) → Shaped s
 shaped_of s h = record { ports = λ a f e. ports (s.atoms a) f (h a) e; marks = λ a is. marks (s.atoms a) (h a) is }
   where
-    ports : (o : Option HeapAtom) (f : Functor) → WellShaped o → option_map (λ x. x.functor) o ≡ Some f → length (links_of o) ≡ f.arity
+    ports : (o : Option HeapAtom) (f : Functor) → WellShaped o → option_map (λ x. x.functor) o ≡ Some f → length (partners_of o) ≡ f.arity
     ports None f w e = absurd (cc)
     ports (Some x) f w e = let g : x.functor ≡ f = (cc) in w.0 ∙ ap (λ (z : Functor). z.arity) g
 
-    marks : (o : Option HeapAtom) → WellShaped o → IsSome o → length (marks_of o) ≡ length (links_of o) + 1
+    marks : (o : Option HeapAtom) → WellShaped o → IsSome o → length (marks_of o) ≡ length (partners_of o) + 1
     marks None w is = absurd (cc)
     marks (Some x) w is = w.1
 
 pub shaped_at : (s : Heap) → Shaped s → (a : ℕ) → WellShaped (s.atoms a)
 shaped_at s h a = by (s.atoms a) (λ f e. h.ports a f e) (λ is. h.marks a is)
   where
-    by : (o : Option HeapAtom) → ((f : Functor) → option_map (λ x. x.functor) o ≡ Some f → length (links_of o) ≡ f.arity) → (IsSome o → length (marks_of o) ≡ length (links_of o) + 1) → WellShaped o
+    by : (o : Option HeapAtom) → ((f : Functor) → option_map (λ x. x.functor) o ≡ Some f → length (partners_of o) ≡ f.arity) → (IsSome o → length (marks_of o) ≡ length (partners_of o) + 1) → WellShaped o
     by None p m = tt
     by (Some x) p m = (p x.functor refl, m refl)
 
@@ -87,9 +87,9 @@ made_shape f a g w b = elim (cases_eq b a) [
 pub made_paired : (s : Heap) (a : ℕ) (f : Functor) → s.atoms a ≡ None → Paired s → Paired (made_atom s a f)
 made_paired s a f fresh = same_paired s (made_atom s a f) (λ x i. elim (cases_eq x a) [
   | inl e ↦ subst (λ z. link_of (made_atom s a f) z i ≡ link_of s z i) (sym e)
-      (ap (λ (o : Option HeapAtom). slice_index_or (links_of o) i None) (alter_at s.atoms a (λ _. Some (new_atom f))) ∙ none f.arity i
-      ∙ sym (ap (λ (o : Option HeapAtom). slice_index_or (links_of o) i None) fresh))
-  | inr d ↦ ap (λ (o : Option HeapAtom). slice_index_or (links_of o) i None) (alter_away s.atoms a (λ _. Some (new_atom f)) x d)
+      (ap (λ (o : Option HeapAtom). slice_index_or (partners_of o) i None) (alter_at s.atoms a (λ _. Some (new_atom f))) ∙ none f.arity i
+      ∙ sym (ap (λ (o : Option HeapAtom). slice_index_or (partners_of o) i None) fresh))
+  | inr d ↦ ap (λ (o : Option HeapAtom). slice_index_or (partners_of o) i None) (alter_away s.atoms a (λ _. Some (new_atom f)) x d)
 ])
   where
     no_port : Option (ℕ × ℕ)

@@ -6,7 +6,7 @@ use Rattle.std.specs.Option.{option_map, option_and_then}
 use Rattle.lmn_heap.specs.Heap.{Heap, HeapMem, Place, top, within, home_by, parent_of, mem_place_of, mems_in, IsMem, In, Distinct, from, after}
 use Rattle.lmn_heap.specs.Sound.{Forest, bare, mem, flat, Forms, IsTree, Sound}
 use Rattle.lmn_heap.proofs.ListLemmas.{apart}
-use Rattle.lmn_heap.proofs.ListLemmas.{apart_test}
+use Rattle.lmn_base.proofs.Numbers.{not_equal as apart_test}
 
 -- nothing behind a list
 pub nil_right : (xs : List ℕ) → xs ++ [] ≡ xs
@@ -170,7 +170,7 @@ parent_by s m P e = by (s.mems m) e
     by None e = absurd (cc)
     by (Some y) e = let h : y.place ≡ P = (cc) in ap home_by h
 
-mem_by : (s : Heap) (m : ℕ) (P : Place) → mem_place_of s m ≡ Some P → IsSome (s.mems m)
+pub mem_by : (s : Heap) (m : ℕ) (P : Place) → mem_place_of s m ≡ Some P → IsSome (s.mems m)
 mem_by s m P e = by (s.mems m) e
   where
     by : (x : Option HeapMem) → option_map (λ y. y.place) x ≡ Some P → IsSome x

@@ -1,5 +1,5 @@
 -- The atoms of a list that have one functor.
-use Rattle.std.proofs.Common.{◌≡◌, ◌≢◌, ℕ, ◌==◌, ◌&&◌, Bool, true, false, cond, List, [], ◌∷◌, Option, Some, None, refl, sym, ap, ◌∙◌}
+use Rattle.std.proofs.Common.{◌≡◌, ◌≢◌, ℕ, ◌==◌, Bool, true, false, cond, List, [], ◌∷◌, Option, Some, None, refl, sym, ap, ◌∙◌}
 use Rattle.std.proofs.lemmas.Bool.{eq-eqb, eqb-true}
 use Rattle.std.proofs.lemmas.Bool.Decides.{Decides-int_eq}
 use Rattle.lmn_base.specs.declared.functor.Functor.{Functor}
@@ -8,6 +8,7 @@ use Rattle.lmn_base.specs.declared.functor.Label.TheVariants.{Name, Int}
 use Rattle.lmn_heap.specs.Lists.{from, after}
 use Rattle.lmn_heap.specs.Heap.{Heap, functor_of}
 use Rattle.lmn_heap.specs.Functors.{same_label, same_functor, is_of, with_functor}
+use Rattle.lmn_base.proofs.Truth.{and_true as both_true}
 
 label_is : (k l : Label) → same_label k l ≡ true → k ≡ l
 label_is (Name m) (Name n) e = ap Name (eqb-true m n e)
@@ -15,13 +16,9 @@ label_is (Name n) (Int z) e = absurd (cc)
 label_is (Int z) (Name n) e = absurd (cc)
 label_is (Int y) (Int z) e = ap Int ((Decides-int_eq y z).0 e)
 
-label_same : (k : Label) → same_label k k ≡ true
+pub label_same : (k : Label) → same_label k k ≡ true
 label_same (Name m) = eq-eqb m m refl
 label_same (Int y) = (Decides-int_eq y y).1 refl
-
-both_true : (a b : Bool) → (a && b) ≡ true → (a ≡ true) × (b ≡ true)
-both_true true b e = (refl, e)
-both_true false b e = absurd (cc)
 
 -- the test of functors tells them
 pub functor_is : (f g : Functor) → same_functor f g ≡ true → f ≡ g

@@ -7,20 +7,20 @@ use Rattle.lmn_base.specs.declared.solid.Region.TheViews.{roll-Region}
 use Rattle.lmn_base.specs.declared.solid.Solid.{Solid}
 use Rattle.lmn_base.specs.declared.solid.SolidAtom.{SolidAtom}
 use Rattle.lmn_heap.specs.Heap.{Heap, lone_root, made_atom, made_mem, placed, placed_mem, taken, joined}
-use Rattle.lmn_heap.specs.Sound.{Valid, Settled}
+use Rattle.lmn_heap.specs.Sound.{Valid, AllInPlace}
 use Rattle.lmn_heap.specs.Conditions.{IsOutside, Alone, Ready}
-use Rattle.lmn_heap.specs.Solid.{SolidOf}
+use Rattle.lmn_heap.specs.Solid.{HasSolid}
 
 -- two names with one link
-abbrev pub a : Functor
-a = record { label = Name 8; arity = 1 }
+abbrev pub functor_a : Functor
+functor_a = record { label = Name 8; arity = 1 }
 
-abbrev pub b : Functor
-b = record { label = Name 9; arity = 1 }
+abbrev pub functor_b : Functor
+functor_b = record { label = Name 9; arity = 1 }
 
 -- the root and, detached, the membrane 1, the atom 0 with the functor a and the atom 1 with b
 abbrev pub made : Heap
-made = made_atom (made_atom (made_mem lone_root 1) 0 a) 1 b
+made = made_atom (made_atom (made_mem lone_root 1) 0 functor_a) 1 functor_b
 
 -- the atom 0 in the membrane 1, which is in the root as the atom 1 is, with no link
 abbrev pub loose : Heap
@@ -36,14 +36,14 @@ region atoms membranes = roll-Region (record { atoms = atoms; membranes = membra
 -- the solid of `{a(X)}, b(X)`
 abbrev pub across_solid : Solid
 across_solid = record {
-  root = region (record { functor = b; links = 0 ∷ [] } ∷ []) (region (record { functor = a; links = 0 ∷ [] } ∷ []) [] ∷ []);
+  root = region (record { functor = functor_b; links = 0 ∷ [] } ∷ []) (region (record { functor = functor_a; links = 0 ∷ [] } ∷ []) [] ∷ []);
 }
 
 abbrev pub AcrossIsValid : Type 0
 AcrossIsValid = Valid across
 
 abbrev pub AcrossHasItsSolid : Type 0
-AcrossHasItsSolid = SolidOf across across_solid
+AcrossHasItsSolid = HasSolid across across_solid
 
 -- Ports without a partner are a fault between commits.
 abbrev pub LooseIsNotValid : Type 0
@@ -51,7 +51,7 @@ LooseIsNotValid = Valid loose → ⊥
 
 -- What is detached may be freed as long as nothing else is joined to it, and isn't settled.
 abbrev pub MadeIsAlone : Type 0
-MadeIsAlone = Alone made × (Settled made → ⊥)
+MadeIsAlone = Alone made × (AllInPlace made → ⊥)
 
 abbrev pub JoinedIsNotAlone : Type 0
 JoinedIsNotAlone = Alone (joined (placed made 0 0) 0 0 1 0) → ⊥

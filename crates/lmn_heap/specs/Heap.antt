@@ -1,5 +1,5 @@
 -- What a store of atoms in membranes holds, by numbers of atoms and membranes, and what each call does to it.
-use Rattle.std.specs.Prelude.{ℕ, ◌==◌, ◌+◌, ◌-◌, List, [], ◌∷◌, ◌++◌, Option, Some, None, IsSome, if◌then◌else◌, length, slice_set, slice_index_or, replicate}
+use Rattle.std.specs.Prelude.{ℕ, ◌==◌, ◌+◌, ◌-◌, List, [], ◌∷◌, ◌++◌, Option, Some, None, IsSome, if◌then◌else◌, length, slice_set, slice_index_or, replicate, ◌<◌, ◌≡◌}
 use Rattle.std.specs.Option.{option_map, option_and_then}
 use Rattle.lmn_base.specs.declared.functor.Functor.{Functor}
 pub use Rattle.lmn_heap.specs.Lists.{from, after, without, In, Distinct}
@@ -54,9 +54,9 @@ abbrev pub functor_of : Heap → ℕ → Option Functor
 functor_of s a = option_map (λ x. x.functor) (s.atoms a)
 
 -- the partners of an atom's ports, by index
-abbrev pub links_of : Option HeapAtom → List (Option (ℕ × ℕ))
-links_of None = []
-links_of (Some x) = x.links
+abbrev pub partners_of : Option HeapAtom → List (Option (ℕ × ℕ))
+partners_of None = []
+partners_of (Some x) = x.links
 
 -- the marks of an atom: of its ports, then its own
 abbrev pub marks_of : Option HeapAtom → List ℕ
@@ -65,11 +65,11 @@ marks_of (Some x) = x.marks
 
 -- how many ports an atom has
 abbrev pub arity_of : Heap → ℕ → ℕ
-arity_of s a = length (links_of (s.atoms a))
+arity_of s a = length (partners_of (s.atoms a))
 
 -- the port to which a port is joined
 abbrev pub link_of : Heap → ℕ → ℕ → Option (ℕ × ℕ)
-link_of s a i = slice_index_or (links_of (s.atoms a)) i None
+link_of s a i = slice_index_or (partners_of (s.atoms a)) i None
 
 -- one mark of an atom
 abbrev pub mark_of : Heap → ℕ → ℕ → ℕ
@@ -106,16 +106,17 @@ IsInPlace s a = IsSome (home_of s a)
 abbrev pub IsPlacedMem : Heap → ℕ → Type 0
 IsPlacedMem s m = IsSome (parent_of s m)
 
-abbrev pub StandsAt : Option Place → Type 0
-StandsAt None = ⊥
-StandsAt (Some top) = Unit {0}
-StandsAt (Some (within m)) = Unit {0}
-StandsAt (Some waiting) = ⊥
-StandsAt (Some gone) = ⊥
+-- the place is that of the root or in a membrane's list
+abbrev pub IsTopOrWithin : Option Place → Type 0
+IsTopOrWithin None = ⊥
+IsTopOrWithin (Some top) = Unit {0}
+IsTopOrWithin (Some (within m)) = Unit {0}
+IsTopOrWithin (Some waiting) = ⊥
+IsTopOrWithin (Some gone) = ⊥
 
 -- the root, or in a membrane's list
 abbrev pub IsMemInPlace : Heap → ℕ → Type 0
-IsMemInPlace s m = StandsAt (mem_place_of s m)
+IsMemInPlace s m = IsTopOrWithin (mem_place_of s m)
 
 -- the atoms in a membrane, if there is one
 abbrev pub atoms_by : Option HeapMem → List ℕ
@@ -369,3 +370,20 @@ lone_root = record {
   new_atoms = [];
   new_mems = [];
 }
+
+-- every mark of a port is 0
+abbrev pub PortsUnmarked : Heap → Type 0
+PortsUnmarked s = (a i : ℕ) → i < arity_of s a → mark_of s a i ≡ 0
+
+-- every mark of an atom is 0
+abbrev pub Unmarked : Heap → Type 0
+Unmarked s = (a i : ℕ) → mark_of s a i ≡ 0
+
+-- the own mark of an atom
+abbrev pub own_mark : Heap → ℕ → ℕ
+own_mark s a = mark_of s a (arity_of s a)
+
+-- these atoms are taken, one after the other
+abbrev pub taken_all : Heap → List ℕ → Heap
+taken_all s [] = s
+taken_all s (a ∷ xs) = taken_all (taken s a) xs

@@ -2,12 +2,12 @@
 use Rattle.std.specs.Prelude.{◌≡◌, ◌≢◌, ◌<◌, ℕ, suc, [], ◌∷◌, Some, None}
 use Rattle.lmn_base.specs.declared.functor.Functor.{Functor}
 use Rattle.lmn_base.specs.declared.solid.Solid.{Solid}
-use Rattle.lmn_base.specs.Solids.{connector, items_of}
+use Rattle.lmn_base.specs.Solids.{connector, item_count}
 use Rattle.lmn_heap.specs.Lists.{In, from}
 use Rattle.lmn_heap.specs.Heap.{Heap, gone, IsMem, IsInPlace, IsPlacedMem, IsMemInPlace, functor_of, arity_of, mem_place_of, marked, mem_marked, made_atom, made_mem, reserved, discarded, finished, placed, placed_mem, taken, taken_mem, moved_all, rule_added, rules_copied, joined}
-use Rattle.lmn_heap.specs.Sound.{Sound, Valid, Forest, flat, Forms, IsTree, items_in}
+use Rattle.lmn_heap.specs.Sound.{Sound, Valid, Forest, flat, Forms, IsTree, item_count_in}
 use Rattle.lmn_heap.specs.Conditions.{Above, IsOutside, Alone, Ready}
-use Rattle.lmn_heap.specs.Solid.{SolidOf}
+use Rattle.lmn_heap.specs.Solid.{HasSolid}
 
 -- What each call makes of this heap is sound.
 pub record KeepsSound (s : Heap) : Type 0 where
@@ -49,4 +49,4 @@ NoneInsideItself = (s : Heap) → Valid s → (m k : ℕ) → Above s (suc k) m 
 
 -- The items of the tree's membranes, with the root, are one more than those of the solid.
 abbrev pub ItemsOfSolid : Type 0
-ItemsOfSolid = (s : Heap) (x : Solid) → Valid s → (of : SolidOf s x) → items_in s (flat of.forest) ≡ suc (items_of x)
+ItemsOfSolid = (s : Heap) (x : Solid) → Valid s → (of : HasSolid s x) → item_count_in s (flat of.forest) ≡ suc (item_count x)

@@ -30,3 +30,8 @@ after a (x ∷ xs) = if x == a then xs else after a xs
 abbrev pub from : Option ℕ → List ℕ → List ℕ
 from None xs = []
 from (Some a) xs = a ∷ after a xs
+
+-- a list without some numbers
+abbrev pub without_all : List ℕ → List ℕ → List ℕ
+without_all [] xs = xs
+without_all (b ∷ bs) xs = without_all bs (without b xs)

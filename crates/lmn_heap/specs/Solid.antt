@@ -5,7 +5,7 @@ use Rattle.lmn_base.specs.declared.solid.Region.{Region}
 use Rattle.lmn_base.specs.declared.solid.Region.TheViews.{roll-Region}
 use Rattle.lmn_base.specs.declared.solid.Solid.{Solid}
 use Rattle.lmn_base.specs.Links.{NumbersLinks}
-use Rattle.lmn_base.specs.Solids.{links_of}
+use Rattle.lmn_base.specs.Solids.{links_of_region}
 use Rattle.lmn_heap.specs.Heap.{Heap, HeapAtom, arity_of, link_of, atoms_in, rules_in}
 use Rattle.lmn_heap.specs.Sound.{Forest, bare, mem, IsTree}
 
@@ -17,32 +17,32 @@ pub record IsNaming (s : Heap) (name : ℕ → ℕ → ℕ) : Type 0 where
       ((a ≡ b) × (i ≡ j)) ⊎ (link_of s a i ≡ Some (b, j))
 
 -- the links of an atom's ports from one on, so many
-abbrev pub numbered : (ℕ → ℕ → ℕ) → ℕ → ℕ → ℕ → List ℕ
-numbered name a i zero = []
-numbered name a i (suc n) = name a i ∷ numbered name a (i + 1) n
+abbrev pub links_from : (ℕ → ℕ → ℕ) → ℕ → ℕ → ℕ → List ℕ
+links_from name a i zero = []
+links_from name a i (suc n) = name a i ∷ links_from name a (i + 1) n
 
--- the atom of a number, if there is one
-abbrev pub atom_of : (ℕ → ℕ → ℕ) → ℕ → Option HeapAtom → List SolidAtom
-atom_of name a None = []
-atom_of name a (Some x) = (record { functor = x.functor; links = numbered name a 0 x.functor.arity }) ∷ []
+-- the solid's atom that stands at a number, if there is one
+abbrev pub solid_atom_at : (ℕ → ℕ → ℕ) → ℕ → Option HeapAtom → List SolidAtom
+solid_atom_at name a None = []
+solid_atom_at name a (Some x) = (record { functor = x.functor; links = links_from name a 0 x.functor.arity }) ∷ []
 
--- the atoms of a list
-abbrev pub atoms_of : Heap → (ℕ → ℕ → ℕ) → List ℕ → List SolidAtom
-atoms_of s name [] = []
-atoms_of s name (a ∷ xs) = atom_of name a (s.atoms a) ++ atoms_of s name xs
+-- those at the numbers of a list
+abbrev pub solid_atoms_at : Heap → (ℕ → ℕ → ℕ) → List ℕ → List SolidAtom
+solid_atoms_at s name [] = []
+solid_atoms_at s name (a ∷ xs) = solid_atom_at name a (s.atoms a) ++ solid_atoms_at s name xs
 
 -- what stands in the membranes of a forest, lists in order
 abbrev pub regions_of : Heap → (ℕ → ℕ → ℕ) → Forest → List Region
 regions_of s name bare = []
 regions_of s name (mem m inner rest) =
-    roll-Region (record { atoms = atoms_of s name (atoms_in s m); membranes = regions_of s name inner; rules = rules_in s m }) ∷ regions_of s name rest
+    roll-Region (record { atoms = solid_atoms_at s name (atoms_in s m); membranes = regions_of s name inner; rules = rules_in s m }) ∷ regions_of s name rest
 
--- x is the solid of the heap: what stands at its root, with links numbered by first occurrence
-pub record SolidOf (s : Heap) (x : Solid) : Type 0 where
+-- the heap has the solid x: what stands at its root, with links numbered by first occurrence
+pub record HasSolid (s : Heap) (x : Solid) : Type 0 where
   pub forest : Forest
   pub tree : IsTree s forest
   pub name : ℕ → ℕ → ℕ
   pub naming : IsNaming s name
   pub root : regions_of s name forest ≡ x.root ∷ []
   pub count : ℕ
-  pub numbers : NumbersLinks (links_of x.root) count
+  pub numbers : NumbersLinks (links_of_region x.root) count

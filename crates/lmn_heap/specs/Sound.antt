@@ -49,12 +49,12 @@ abbrev pub Forms : Heap → Forest → List ℕ → Type 0
 Forms s bare ms = ms ≡ []
 Forms s (mem m inner rest) ms = (others : List ℕ) × (ms ≡ m ∷ others) × Forms s inner (mems_in s m) × Forms s rest others
 
--- the items of these membranes, with themselves, what is in membranes inside them apart
-abbrev pub items_in : Heap → List ℕ → ℕ
-items_in s ms = sum (map (λ m. 1 + length (atoms_in s m) + length (rules_in s m)) ms)
+-- how many items these membranes are and hold, without what is in membranes inside them
+abbrev pub item_count_in : Heap → List ℕ → ℕ
+item_count_in s ms = sum (map (λ m. 1 + length (atoms_in s m) + length (rules_in s m)) ms)
 
 -- nothing is detached or taken
-pub record Settled (s : Heap) : Type 0 where
+pub record AllInPlace (s : Heap) : Type 0 where
   pub atoms : (a : ℕ) → IsAtom s a → IsInPlace s a
   pub mems : (m : ℕ) → IsMem s m → (mem_place_of s m ≡ Some top) ⊎ IsSome (parent_of s m)
 
@@ -68,7 +68,7 @@ pub record IsTree (s : Heap) (f : Forest) : Type 0 where
 -- connector, and the membranes are a tree with the root at its top.
 pub record Valid (s : Heap) : Type 0 where
   pub sound : Sound s
-  pub settled : Settled s
+  pub settled : AllInPlace s
   pub full : (a i : ℕ) → i < arity_of s a → IsSome (link_of s a i)
   pub no_connector : (a : ℕ) → IsInPlace s a → functor_of s a ≢ Some connector
   pub tree : (f : Forest) × IsTree s f

@@ -15,11 +15,12 @@ use Rattle.lmn_guards.specs.declared.plan.TypeKind.{TypeKind}
 use Rattle.lmn_guards.specs.declared.plan.TypeKind.TheVariants as kind
 use Rattle.lmn_solid.specs.declared.items.HeadItem.{HeadItem}
 use Rattle.lmn_solid.specs.declared.items.HeadItem.TheVariants.{Atom, Typed, Membrane}
-use Rattle.lmn_solid.specs.Heads.{HeadAtom, HeadTyped, HeadMembrane, Port, Occurrence, atoms_of, typed_contexts_of, membranes_of, at_ports, at_atoms, links_of, times, outermost}
+use Rattle.lmn_solid.specs.Heads.{HeadAtom, HeadTyped, HeadMembrane, Occurrence, atoms_of, typed_contexts_of, membranes_of, at_ports, at_atoms, links_of_head, times, outermost}
 use Rattle.lmn_solid.specs.Guards.{typed_number, context_alone}
 use Rattle.lmn_instr.specs.declared.instr.AtomPort.{AtomPort}
 use Rattle.lmn_instr.specs.declared.instr.Instr.{Instr}
 use Rattle.lmn_instr.specs.declared.instr.Instr.TheVariants.{FindAtom, Deref, Func, InMem, NeqAtom, Joined, NotIn, AnyMem, NeqMem, IsInt, IsUnary, IsGround, NAtoms, NMems, NoRules, EqGround, NeqGround, GetInt, Const, Add, Sub, Mul, Div, Mod, Lt, Le, Gt, Ge, Eq, Ne, Commit}
+use Rattle.lmn_base.specs.Graphs.{Port}
 
 -- a port of the head, as an operand
 abbrev pub operand : Port → AtomPort
@@ -31,8 +32,8 @@ find_port x [] = None
 find_port x (o ∷ os) = if o.link == x then Some o.port else find_port x os
 
 -- what stands before port i of an atom with number n: the ports of the earlier atoms, and its own earlier ports
-abbrev pub before : List HeadItem → ℕ → HeadAtom → ℕ → List Occurrence
-before items n a i = at_atoms 0 (take n (atoms_of items)) ++ at_ports n 0 (take i a.links)
+abbrev pub occurrences_before : List HeadItem → ℕ → HeadAtom → ℕ → List Occurrence
+occurrences_before items n a i = at_atoms 0 (take n (atoms_of items)) ++ at_ports n 0 (take i a.links)
 
 -- a port of an atom, and the port of an earlier atom to which its link leads
 abbrev pub Entry : Type 0
@@ -74,7 +75,7 @@ is_entry i (Some e) = e.0 == i
 abbrev pub open_code : List HeadItem → ℕ → HeadAtom → ℕ → ℕ → List Instr
 open_code items n a i x =
     if a.inside == 0 then []
-    else if times x (links_of items) == 1 then NotIn (operand (n, i)) (outermost (membranes_of items) a.inside) ∷ []
+    else if times x (links_of_head items) == 1 then NotIn (operand (n, i)) (outermost (membranes_of items) a.inside) ∷ []
     else []
 
 -- a port by which its atom isn't found: its link is joined to its earlier place, if it has one
@@ -85,7 +86,7 @@ joined_code items n a i x (Some p) = Joined (operand (n, i)) (operand p) ∷ []
 -- the code of a port, at most one instruction; the port by which its atom is found has none
 abbrev pub port_code : List HeadItem → ℕ → HeadAtom → ℕ → ℕ → List Instr
 port_code items n a i x =
-    if is_entry i (entry items n a) then [] else joined_code items n a i x (find_port x (before items n a i))
+    if is_entry i (entry items n a) then [] else joined_code items n a i x (find_port x (occurrences_before items n a i))
 
 -- of the ports from i on, by rising index
 abbrev pub ports_code : List HeadItem → ℕ → HeadAtom → ℕ → List ℕ → List Instr
@@ -163,12 +164,12 @@ pub record Computed : Type 0 where
   pub next : ℕ
 
 -- the instruction of an operator, with its register and those of its operands
-abbrev pub operation : Arith → ℕ → ℕ → ℕ → Instr
-operation arith.Add v w x = Add v w x
-operation arith.Sub v w x = Sub v w x
-operation arith.Mul v w x = Mul v w x
-operation arith.Div v w x = Div v w x
-operation arith.Mod v w x = Mod v w x
+abbrev pub operator_instruction : Arith → ℕ → ℕ → ℕ → Instr
+operator_instruction arith.Add v w x = Add v w x
+operator_instruction arith.Sub v w x = Sub v w x
+operator_instruction arith.Mul v w x = Mul v w x
+operator_instruction arith.Div v w x = Div v w x
+operator_instruction arith.Mod v w x = Mod v w x
 
 -- an integer of the head by its part, or one that is bound
 abbrev pub named_code : Option ℕ → ℕ → ℕ → Computed
@@ -179,7 +180,7 @@ named_code (Some g) bound v = record { code = GetInt v g ∷ []; at = v; next = 
 abbrev pub operation_code : Arith → Computed → (ℕ → Computed) → Computed
 operation_code o a right =
     let b = right a.next in
-    record { code = a.code ++ (b.code ++ (operation o b.next a.at b.at ∷ [])); at = b.next; next = b.next + 1 }
+    record { code = a.code ++ (b.code ++ (operator_instruction o b.next a.at b.at ∷ [])); at = b.next; next = b.next + 1 }
 
 -- The code of an expression from register v on. `part` gives the number of a typed context by its name, `bound` the register
 -- of a name that is bound. Each constant is loaded by CONST, each occurrence of a context of the head by GETINT, and a bound

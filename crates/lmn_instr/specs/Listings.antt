@@ -8,7 +8,7 @@ use Rattle.lmn_instr.specs.declared.instr.Code.{Code}
 use Rattle.lmn_instr.specs.declared.instr.Instr.{Instr}
 use Rattle.lmn_instr.specs.declared.words.Operand.{Operand}
 use Rattle.lmn_instr.specs.declared.words.Operand.TheVariants.{Atom, Membrane, Part, Integer, Copy, Port, Functor as Of, Number, Constant}
-use Rattle.lmn_instr.specs.Labels.{label_text, HasLabel}
+use Rattle.lmn_instr.specs.Labels.{listed_label_text, HasLabel}
 use Rattle.lmn_instr.specs.Words.{mnemonic, operands}
 
 -- as `A1.2`: port 2 of the atom in A1
@@ -17,7 +17,7 @@ port_text p = codes "A" ++ (decimal p.atom ++ (codes "." ++ decimal p.port))
 
 -- as `append/3`
 abbrev pub functor_text : List (List ℕ) → Functor → List ℕ
-functor_text names f = label_text names f.label ++ (codes "/" ++ decimal f.arity)
+functor_text names f = listed_label_text names f.label ++ (codes "/" ++ decimal f.arity)
 
 -- a register by its letter and its number, and a number in decimal
 abbrev pub operand_text : List (List ℕ) → Operand → List ℕ

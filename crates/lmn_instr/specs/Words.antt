@@ -8,6 +8,7 @@ use Rattle.lmn_instr.specs.declared.words.Operand.{Operand}
 use Rattle.lmn_instr.specs.declared.words.Operand.TheVariants.{Atom, Membrane, Part, Integer, Copy, Port, Functor as Of, Number, Constant}
 use Rattle.lmn_instr.specs.declared.words.Operands.{Operands}
 
+-- the name of an instruction
 abbrev pub mnemonic : Instr → List ℕ
 mnemonic (FindAtom _ _ _) = codes "FINDATOM"
 mnemonic (Deref _ _ _) = codes "DEREF"
@@ -56,10 +57,11 @@ mnemonic (Unify _ _) = codes "UNIFY"
 mnemonic Proceed = codes "PROCEED"
 
 -- a port that a body makes: that of an atom, or the root port of a copy
-abbrev pub new_port : NewPort → Operand
-new_port (new.Atom p) = Port p
-new_port (new.Copy c) = Copy c
+abbrev pub port_operand : NewPort → Operand
+port_operand (new.Atom p) = Port p
+port_operand (new.Copy c) = Copy c
 
+-- its operands, in order
 abbrev pub operands : Instr → List Operand
 operands (FindAtom a m f) = Atom a ∷ (Membrane m ∷ (Of f ∷ []))
 operands (Deref a p k) = Atom a ∷ (Port p ∷ (Number k ∷ []))
@@ -102,8 +104,8 @@ operands (CopyGround c m g) = Copy c ∷ (Membrane m ∷ (Part g ∷ []))
 operands (MoveCells m n) = Membrane m ∷ (Membrane n ∷ [])
 operands (LoadRule m k) = Membrane m ∷ (Number k ∷ [])
 operands (CopyRules m n) = Membrane m ∷ (Membrane n ∷ [])
-operands (NewLink p q) = new_port p ∷ (new_port q ∷ [])
-operands (Relink p q) = new_port p ∷ (Port q ∷ [])
+operands (NewLink p q) = port_operand p ∷ (port_operand q ∷ [])
+operands (Relink p q) = port_operand p ∷ (Port q ∷ [])
 operands (Unify p q) = Port p ∷ (Port q ∷ [])
 operands Proceed = []
 

@@ -1,7 +1,9 @@
 ghost use Rattle.std.specs.Prelude.{◌≡◌};
 ghost use Rattle.std.specs.List.{list_all};
 ghost use Rattle.lmn_io.specs.Gathering.{Adds, output};
-ghost use Rattle.lmn_instr.specs.Labels.{HasLabel, is_bare, is_name_byte, label_text, name_text, quoted, quoted_byte};
+ghost use Rattle.lmn_instr.specs.Labels.{HasLabel, listed_label_text};
+ghost use Rattle.lmn_lexer.specs.NameText.{name_text, quoted, quoted_byte};
+ghost use Rattle.lmn_lexer.specs.Spelling.{is_bare_name, goes_on};
 
 use itoa::Buffer;
 use lmn_base::{Label, Names};
@@ -11,7 +13,7 @@ use std::slice;
 /// Adds a label: a name, or an integer in decimal.
 pub(crate) fn add_label<O: Sink>(buffer: &mut LineBuffer, out: &mut O, names: &Names, label: Label)
     requires { HasLabel names.now label }
-    ensures { Adds (label_text names.now label) (output buffer.old (O.told out.old) (O.faults out.old)) (output buffer.new (O.told out.new) (O.faults out.new)) }
+    ensures { Adds (listed_label_text names.now label) (output buffer.old (O.told out.old) (O.faults out.old)) (output buffer.new (O.told out.new) (O.faults out.new)) }
 {
     match label {
         Label::Name(number) => add_name(buffer, out, names.text(number)),
@@ -54,7 +56,7 @@ fn quoted_byte(byte: &u8) -> &[u8]
 
 /// Whether a name is written without quotes.
 fn is_bare(name: &[u8]) -> bool
-    ensures { result ≡ is_bare name.now }
+    ensures { result ≡ is_bare_name name.now }
 {
     match name {
         [] => false,
@@ -64,14 +66,14 @@ fn is_bare(name: &[u8]) -> bool
 
 /// Whether each byte is a letter, a digit or `_`.
 fn are_name_bytes(bytes: &[u8]) -> bool
-    ensures { result ≡ list_all is_name_byte bytes.now }
+    ensures { result ≡ list_all goes_on bytes.now }
 {
     bytes.iter().all(|byte| is_name_byte(*byte))
 }
 
 /// Whether a byte is a letter, a digit or `_`.
 fn is_name_byte(byte: u8) -> bool
-    ensures { result ≡ is_name_byte byte }
+    ensures { result ≡ goes_on byte }
 {
     byte.is_ascii_alphanumeric() || byte == b'_'
 }

@@ -1,5 +1,5 @@
-ghost use Rattle.std.specs.Prelude.{◌++◌, codes, map, option_to_list};
-ghost use Rattle.std.specs.Fmt.{decimal, signed_decimal};
+ghost use Rattle.std.specs.Prelude.{◌++◌, map, option_to_list};
+ghost use Rattle.std.specs.Fmt.{decimal};
 ghost use Rattle.std.specs.List.{flat_map, AllByRecursion};
 ghost use Rattle.lmn_io.specs.Gathering.{Adds, output};
 ghost use Rattle.lmn_io.specs.Writing.{WritesText};

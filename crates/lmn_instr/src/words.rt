@@ -1,5 +1,5 @@
 ghost use Rattle.std.specs.Prelude.{◌≡◌, [], ◌∷◌};
-ghost use Rattle.lmn_instr.specs.Words.{mnemonic, new_port, operands, all_operands};
+ghost use Rattle.lmn_instr.specs.Words.{mnemonic, port_operand, operands, all_operands};
 
 use crate::instr::{AtomPort, Instr, NewPort};
 use lmn_base::Functor;
@@ -86,7 +86,7 @@ fn three<'a>(first: Operand, second: Operand, third: Operand) -> Operands<'a>
 
 /// The operand of a port that a body makes.
 fn new_port(port: NewPort) -> Operand
-    ensures { result ≡ new_port port }
+    ensures { result ≡ port_operand port }
 {
     match port {
         NewPort::Atom(port) => Operand::Port(port),

@@ -6,17 +6,12 @@ use Rattle.std.proofs.lemmas.List.{take_all, take_more}
 use Rattle.std.proofs.lemmas.List.Concat.{flat_map-append}
 use Rattle.lmn_io.specs.Counts.{Rose}
 use Rattle.lmn_io.specs.Taking.{Takes, TakesPrefix, Gathers}
-use Rattle.lmn_io.specs.Gathering.{Output, AddsWhere, Adds}
+use Rattle.lmn_io.specs.Gathering.{SinkState, AddsWhere, Adds}
 
 -- a prefix of a piece is one of a longer piece
 pub prefix_more : (a b : List ℕ) (old new : Option (List ℕ)) → TakesPrefix a old new → TakesPrefix (a ++ b) old new
 prefix_more a b None new taken = taken
 prefix_more a b (Some old) new taken = (taken.0, taken.1 ++ b, ap (λ x. x ++ b) taken.2 ∙ append_assoc taken.0 taken.1 b, taken.3)
-
--- a whole piece is a prefix of itself
-pub takes_prefix : (a : List ℕ) (old new : Option (List ℕ)) → Takes a old new → TakesPrefix a old new
-takes_prefix a None new taken = taken
-takes_prefix a (Some old) new taken = (a, [], sym (append-nil a), taken)
 
 -- nothing is taken, and all is kept back
 pub nothing_taken : (a : List ℕ) (old : Option (List ℕ)) → Gathers a old a old
@@ -92,15 +87,15 @@ takes_nothing (Some old) = rw append-nil refl
 
 pub ruleset taking = (prefix_more, nothing_taken, takes_nothing, takes_more, prefix_after, gathers_more, gathers_takes, gathers_prefix, gathers_part)
 
-unchanged : (failed : Bool) (o : Output) → AddsWhere failed failed [] o o
+unchanged : (failed : Bool) (o : SinkState) → AddsWhere failed failed [] o o
 unchanged true o = refl
 unchanged false o = (rw append-nil (nothing_taken o.pending.kept o.told), refl)
 
 -- nothing was added
-pub adds_nothing : (o : Output) → Adds [] o o
+pub adds_nothing : (o : SinkState) → Adds [] o o
 adds_nothing o = record { added = unchanged o.pending.failed o; later = omega arith }
 
-more : (a b : List ℕ) (before mid after : Output) (f f' f'' : Bool) → before.pending.failed ≡ f → mid.pending.failed ≡ f' → after.pending.failed ≡ f''
+more : (a b : List ℕ) (before mid after : SinkState) (f f' f'' : Bool) → before.pending.failed ≡ f → mid.pending.failed ≡ f' → after.pending.failed ≡ f''
     → AddsWhere f f' a before mid → AddsWhere f' f'' b mid after → AddsWhere f f'' (a ++ b) before after
 more a b before mid after true true f'' e e' e'' p q = q ∙ p
 more a b before mid after true false f'' e e' e'' p q = let h : true ≡ false = sym e ∙ ap (λ o. o.pending.failed) (sym p) ∙ e' in cc
@@ -123,12 +118,12 @@ more a b before mid after false false false e e' e'' p q = (
 )
 
 -- a piece was added, and then another
-pub adds_more : (a b : List ℕ) (before mid after : Output) → Adds a before mid → Adds b mid after → Adds (a ++ b) before after
+pub adds_more : (a b : List ℕ) (before mid after : SinkState) → Adds a before mid → Adds b mid after → Adds (a ++ b) before after
 adds_more a b before mid after first later =
     record { added = more a b before mid after before.pending.failed mid.pending.failed after.pending.failed refl refl refl first.added later.added; later = omega arith }
 
 -- of a list of pieces one more was added
-pub adds_next : {X : Type 0} (f : X → List ℕ) (xs : List X) (i : ℕ) (d : X) (before mid after : Output) → i < length xs
+pub adds_next : {X : Type 0} (f : X → List ℕ) (xs : List X) (i : ℕ) (d : X) (before mid after : SinkState) → i < length xs
     → Adds (flat_map f (take i xs)) before mid → Adds (f (get_or xs i d)) mid after → Adds (flat_map f (take (i + 1) xs)) before after
 adds_next f xs i d before mid after within first later =
     let whole : flat_map f (take (i + 1) xs) ≡ flat_map f (take i xs) ++ f (get_or xs i d) =
@@ -136,11 +131,11 @@ adds_next f xs i d before mid after within first later =
     in subst (λ bytes. Adds bytes before after) (sym whole) (adds_more (flat_map f (take i xs)) (f (get_or xs i d)) before mid after first later)
 
 -- a piece that is the same was added
-pub adds_as : {text same : List ℕ} {before after : Output} → text ≡ same → Adds text before after → Adds same before after
+pub adds_as : {text same : List ℕ} {before after : SinkState} → text ≡ same → Adds text before after → Adds same before after
 adds_as {before = before} {after = after} e added = subst (λ bytes. Adds bytes before after) e added
 
 -- all pieces of a list were added
-pub adds_all : {X : Type 0} (f : X → List ℕ) (xs : List X) (i : ℕ) {before after : Output} → length xs ≤ i
+pub adds_all : {X : Type 0} (f : X → List ℕ) (xs : List X) (i : ℕ) {before after : SinkState} → length xs ≤ i
     → Adds (flat_map f (take i xs)) before after → Adds (flat_map f xs) before after
 adds_all f xs i end added = adds_as (ap (flat_map f) (take_all i xs end)) added
 

@@ -14,22 +14,22 @@ abbrev pub nothing_pending : Pending
 nothing_pending = record { kept = []; failed = false }
 
 -- what is pending, and what the sink tells and counts
-pub record Output : Type 0 where
+pub record SinkState : Type 0 where
   pub pending : Pending
   pub told : Option (List ℕ)
   pub faults : ℕ
 
-abbrev pub output : Pending → Option (List ℕ) → ℕ → Output
+abbrev pub output : Pending → Option (List ℕ) → ℕ → SinkState
 output pending told faults = record { pending = pending; told = told; faults = faults }
 
 -- A piece was added. Once a put has failed nothing changes any more; where one fails now, a prefix of what was due
 -- is taken and the count rose. Where none fails the count stays.
-abbrev pub AddsWhere : Bool → Bool → List ℕ → Output → Output → Type 0
+abbrev pub AddsWhere : Bool → Bool → List ℕ → SinkState → SinkState → Type 0
 AddsWhere true failed piece before after = after ≡ before
 AddsWhere false true piece before after = TakesPrefix (before.pending.kept ++ piece) before.told after.told × Rose before.faults after.faults
 AddsWhere false false piece before after = Gathers (before.pending.kept ++ piece) before.told after.pending.kept after.told × (after.faults ≡ before.faults)
 
-pub record Adds (piece : List ℕ) (before after : Output) : Type 0 where
+pub record Adds (piece : List ℕ) (before after : SinkState) : Type 0 where
   pub added : AddsWhere before.pending.failed after.pending.failed piece before after
   pub later : before.faults ≤ after.faults
 

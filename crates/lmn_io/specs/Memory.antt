@@ -1,10 +1,10 @@
 -- What is seen of a shelf and of a sink in memory.
 use Rattle.std.specs.Prelude.{◌≡◌, ℕ, ◌+◌, ◌<◌, ◌⊎◌, List, length, Option, None, is_some, if◌then◌else◌, Contains}
-use Rattle.lmn_io.specs.Texts.{Asked, text_of}
+use Rattle.lmn_io.specs.Texts.{ShelfAsked, text_named}
 
 -- The texts beside their names; the numbers of the calls that fail, how many calls were made, the most bytes that one
 -- would take, how many failed by their number, and how many failed at all.
-pub record Texts : Type 0 where
+pub record MemoryShelf : Type 0 where
   pub names : List (List ℕ)
   pub texts : List (List ℕ)
   pub failing : List ℕ
@@ -14,24 +14,24 @@ pub record Texts : Type 0 where
   pub all : ℕ
 
 -- what was asked for
-abbrev pub asked_of : Texts → Asked
+abbrev pub asked_of : MemoryShelf → ShelfAsked
 asked_of t = record { fetches = t.calls; most = t.most }
 
 -- the text under a name
-abbrev pub text_in : Texts → List ℕ → Option (List ℕ)
-text_in t name = text_of t.names t.texts name
+abbrev pub text_in : MemoryShelf → List ℕ → Option (List ℕ)
+text_in t name = text_named t.names t.texts name
 
 -- the count of faults of a name
-abbrev pub faults_in : Texts → List ℕ → ℕ
+abbrev pub faults_in : MemoryShelf → List ℕ → ℕ
 faults_in t name = if is_some (text_in t name) then t.listed else t.all
 
 -- the next fetch of this name fails
-abbrev pub FetchFails : Texts → List ℕ → Type 0
+abbrev pub FetchFails : MemoryShelf → List ℕ → Type 0
 FetchFails t name = Contains t.failing t.calls ⊎ (text_in t name ≡ None)
 
 -- The bytes that were taken, of which there may be so many; the numbers of the puts that fail,
 -- how many puts were made, and how many failed.
-pub record Taken : Type 0 where
+pub record MemorySink : Type 0 where
   pub room : ℕ
   pub bytes : List ℕ
   pub failing : List ℕ
@@ -39,5 +39,5 @@ pub record Taken : Type 0 where
   pub failures : ℕ
 
 -- the next put of this piece fails
-abbrev pub PutFails : Taken → List ℕ → Type 0
+abbrev pub PutFails : MemorySink → List ℕ → Type 0
 PutFails t piece = Contains t.failing t.calls ⊎ (t.room < length t.bytes + length piece)

@@ -11,16 +11,16 @@ IsFetched told name most (Whole bytes) = (length bytes ≤ most) × IfSome told 
 IsFetched told name most TooLong = IfSome told (λ text. IsSomeAnd (text name) (λ bytes. most < length bytes))
 
 -- what a shelf was asked for: how many fetches, and the most bytes that one of them would take
-pub record Asked : Type 0 where
+pub record ShelfAsked : Type 0 where
   pub fetches : ℕ
   pub most : ℕ
 
 -- and with one fetch more, which would take so many bytes at most
-abbrev pub asked_once_more : ℕ → Asked → Asked
+abbrev pub asked_once_more : ℕ → ShelfAsked → ShelfAsked
 asked_once_more most asked = record { fetches = one_more asked.fetches; most = max asked.most most }
 
 -- the text beside the first place where the name stands
-abbrev pub text_of : List (List ℕ) → List (List ℕ) → List ℕ → Option (List ℕ)
-text_of [] texts name = None
-text_of (n ∷ names) [] name = None
-text_of (n ∷ names) (t ∷ texts) name = if bytes_eq n name then Some t else text_of names texts name
+abbrev pub text_named : List (List ℕ) → List (List ℕ) → List ℕ → Option (List ℕ)
+text_named [] texts name = None
+text_named (n ∷ names) [] name = None
+text_named (n ∷ names) (t ∷ texts) name = if bytes_eq n name then Some t else text_named names texts name

@@ -1,8 +1,8 @@
 ghost use Rattle.std.specs.Prelude.{◌≡◌, ◌≤◌, ◌↔◌, ℕ, max, List, Some, None, option_map, Contains, length, IfOk, IsErrOf};
 ghost use Rattle.std.specs.Option.{option_copied};
 ghost use Rattle.lmn_io.specs.Counts.{Rose, one_more};
-ghost use Rattle.lmn_io.specs.Texts.{text_of, IsFetched, asked_once_more};
-ghost use Rattle.lmn_io.specs.Memory.{Texts, asked_of, text_in, faults_in, FetchFails};
+ghost use Rattle.lmn_io.specs.Texts.{text_named, IsFetched, asked_once_more};
+ghost use Rattle.lmn_io.specs.Memory.{MemoryShelf, asked_of, text_in, faults_in, FetchFails};
 
 use crate::shelf::{FetchFault, Fetched, Shelf};
 use lmn_base::Rows;
@@ -23,7 +23,7 @@ pub struct MemShelf {
 }
 
 impl Model for MemShelf {
-    ghost Value = { Texts };
+    ghost Value = { MemoryShelf };
 
     ghost view = { λ s. record { names = s.names; texts = s.texts; failing = s.failing; calls = s.calls; most = s.most; listed = s.listed; all = s.all } };
 
@@ -33,7 +33,7 @@ impl Model for MemShelf {
 /// The text beside the first place of a name.
 fn text_at<'a>(names: &[Rows<u8>], texts: &'a [Rows<u8>], name: &[u8]) -> Option<&'a Rows<u8>>
     requires { length names.now ≡ length texts.now }
-    ensures { option_copied result ≡ text_of names.now texts.now name.now }
+    ensures { option_copied result ≡ text_named names.now texts.now name.now }
 {
     for (i, n) in names.iter().enumerate() {
         if n.as_slice() == name {

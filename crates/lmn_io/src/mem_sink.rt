@@ -1,6 +1,6 @@
 ghost use Rattle.std.specs.Prelude.{◌≡◌, ◌≤◌, ◌↔◌, ◌++◌, List, [], Some, length, IfOk, IsErr, OnErr, OnOk};
 ghost use Rattle.lmn_io.specs.Counts.{one_more};
-ghost use Rattle.lmn_io.specs.Memory.{Taken, PutFails};
+ghost use Rattle.lmn_io.specs.Memory.{MemorySink, PutFails};
 ghost use Rattle.lmn_io.specs.Writing.{WritesText};
 
 use crate::sink::{Failed, Sink};
@@ -21,9 +21,9 @@ pub struct MemSink {
 
 impl Model for MemSink {
     ghost use Rattle.std.specs.Prelude.{vec_len, vec_capacity, ◌≤◌};
-    ghost use Rattle.lmn_io.specs.Memory.{Taken};
+    ghost use Rattle.lmn_io.specs.Memory.{MemorySink};
 
-    ghost Value = { Taken };
+    ghost Value = { MemorySink };
 
     ghost view = { λ s. record { room = s.room; bytes = s.bytes.items; failing = s.failing; calls = s.calls; failures = s.failures } };
 

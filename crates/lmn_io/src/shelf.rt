@@ -26,14 +26,14 @@ pub enum FetchFault {
 pub trait Shelf {
     ghost use Rattle.std.specs.Prelude.{◌≡◌, ◌≤◌, ℕ, List, Option, option_map, IfOk, IsErrOf};
     ghost use Rattle.lmn_io.specs.Counts.{Rose};
-    ghost use Rattle.lmn_io.specs.Texts.{Asked, IsFetched, asked_once_more};
+    ghost use Rattle.lmn_io.specs.Texts.{ShelfAsked, IsFetched, asked_once_more};
 
     /// The bytes under each name, where the shelf tells them.
     ghost told: { Self → Option (List ℕ → Option (List ℕ)) };
     /// The count of faults of each name.
     ghost faults: { Self → List ℕ → ℕ };
     /// What the shelf was asked for, where it tells it.
-    ghost asked: { Self → Option Asked };
+    ghost asked: { Self → Option ShelfAsked };
 
     /// The text under a name, if it has at most `most` bytes.
     ///

@@ -7,12 +7,13 @@ use Rattle.lmn_base.specs.declared.solid.SolidAtom.{SolidAtom as Written}
 use Rattle.lmn_congruence.specs.Regions.{SolidAtom}
 use Rattle.lmn_congruence.specs.Rules.{Label, Name, named}
 use Rattle.lmn_congruence.specs.Translation.{label_of, solid_atom_of}
-use Rattle.lmn_heap.specs.Heap.{Heap, HeapAtom, Place, within, IsAtom, links_of, arity_of, atoms_in, functor_of}
+use Rattle.lmn_heap.specs.Heap.{Heap, HeapAtom, IsAtom, partners_of, arity_of, functor_of}
 use Rattle.lmn_heap.specs.Lists.{In, Distinct}
-use Rattle.lmn_heap.specs.Solid.{IsNaming, numbered, atom_of, atoms_of}
+use Rattle.lmn_heap.specs.Solid.{IsNaming, links_from, solid_atom_at, solid_atoms_at}
 use Rattle.lmn_heap.specs.Sound.{Sound}
 use Rattle.lmn_folded.proofs.Places.{count, AtMostTwice, ends_in_one_way, not_nil}
 use Rattle.lmn_items.proofs.TwoPlaces.{times, at_most_twice}
+use Rattle.lmn_heap.proofs.Common.{numbered_get as number_from}
 
 abbrev label_by : List Name → Option HeapAtom → Label
 label_by names None = named []
@@ -20,15 +21,7 @@ label_by names (Some x) = label_of names x.functor.label
 
 -- an atom with numbers for its links
 abbrev pub atom_with : List Name → Heap → (ℕ → ℕ → ℕ) → ℕ → SolidAtom
-atom_with names s name a = record { label = label_by names (s.atoms a); links = numbered name a 0 (arity_of s a) }
-
--- what is listed in a membrane is an atom
-pub listed_is : (s : Heap) → Sound s → (m a : ℕ) → In a (atoms_in s m) → IsAtom s a
-listed_is s sound m a i = by (s.atoms a) (within m) ((sound.listed.atoms m a).0 i)
-  where
-    by : (o : Option HeapAtom) (p : Place) → option_map (λ x. x.place) o ≡ Some p → IsSome o
-    by None p e = absurd (none-some p e)
-    by (Some x) p e = refl
+atom_with names s name a = record { label = label_by names (s.atoms a); links = links_from name a 0 (arity_of s a) }
 
 -- its functor, by which it has its label
 pub functor_is : (names : List Name) (s : Heap) (name : ℕ → ℕ → ℕ) (a : ℕ) → IsAtom s a
@@ -40,17 +33,17 @@ functor_is names s name a i = by (s.atoms a) i
     by (Some x) i = (x.functor, refl, refl)
 
 module _ (names : List Name) (s : Heap) (sound : Sound s) (name : ℕ → ℕ → ℕ) where
-  one_atom : (a : ℕ) (o : Option HeapAtom) (rest : List Written) → IsSome o → ((f : Functor) → option_map (λ (x : HeapAtom). x.functor) o ≡ Some f → length (links_of o) ≡ f.arity)
-      → map (solid_atom_of names) (atom_of name a o ++ rest) ≡ record { label = label_by names o; links = numbered name a 0 (length (links_of o)) } ∷ map (solid_atom_of names) rest
+  one_atom : (a : ℕ) (o : Option HeapAtom) (rest : List Written) → IsSome o → ((f : Functor) → option_map (λ (x : HeapAtom). x.functor) o ≡ Some f → length (partners_of o) ≡ f.arity)
+      → map (solid_atom_of names) (solid_atom_at name a o ++ rest) ≡ record { label = label_by names o; links = links_from name a 0 (length (partners_of o)) } ∷ map (solid_atom_of names) rest
   one_atom a None rest i h = absurd (cc i)
   one_atom a (Some x) rest i h =
-      let first : ℕ → SolidAtom = λ n. record { label = label_of names x.functor.label; links = numbered name a 0 n } in
+      let first : ℕ → SolidAtom = λ n. record { label = label_of names x.functor.label; links = links_from name a 0 n } in
       ap (λ n. first n ∷ map (solid_atom_of names) rest) (sym (h x.functor refl))
 
-  pub atoms_are : (xs : List ℕ) → ((a : ℕ) → In a xs → IsAtom s a) → map (solid_atom_of names) (atoms_of s name xs) ≡ map (atom_with names s name) xs
+  pub atoms_are : (xs : List ℕ) → ((a : ℕ) → In a xs → IsAtom s a) → map (solid_atom_of names) (solid_atoms_at s name xs) ≡ map (atom_with names s name) xs
   atoms_are [] h = refl
   atoms_are (a ∷ xs) h =
-      one_atom a (s.atoms a) (atoms_of s name xs) (h a (inl refl)) (sound.shaped.ports a) ∙ ap (λ ys. atom_with names s name a ∷ ys) (atoms_are xs (λ b i. h b (inr i)))
+      one_atom a (s.atoms a) (solid_atoms_at s name xs) (h a (inl refl)) (sound.shaped.ports a) ∙ ap (λ ys. atom_with names s name a ∷ ys) (atoms_are xs (λ b i. h b (inr i)))
 
 -- the atom at a position
 pub atom_at : (names : List Name) (s : Heap) (name : ℕ → ℕ → ℕ) (xs : List ℕ) (q a : ℕ) → slice_get xs q ≡ Some a
@@ -79,46 +72,37 @@ few_places names s name naming xs distinct x =
 
 -- The numbers of an atom's links.
 
-pub length_numbered : (name : ℕ → ℕ → ℕ) (a i n : ℕ) → length (numbered name a i n) ≡ n
-length_numbered name a i zero = refl
-length_numbered name a i (suc n) = ap suc (length_numbered name a (i + 1) n)
-
 at_next : (name : ℕ → ℕ → ℕ) (a i k : ℕ) → name a ((i + 1) + k) ≡ name a (i + suc k)
 at_next name a i k = ap (name a) (omega arith)
 
-number_from : (name : ℕ → ℕ → ℕ) (a i n k : ℕ) → k < n → slice_get (numbered name a i n) k ≡ Some (name a (i + k))
-number_from name a i zero k l = absurd (omega (arith, l))
-number_from name a i (suc n) zero l = ap (λ j. Some (name a j)) (let e : i ≡ i + 0 = omega arith in e)
-number_from name a i (suc n) (suc k) l = number_from name a (i + 1) n k (omega (arith, l)) ∙ ap Some (at_next name a i k)
-
-pub number_at : (name : ℕ → ℕ → ℕ) (a n k : ℕ) → k < n → slice_get (numbered name a 0 n) k ≡ Some (name a k)
+pub number_at : (name : ℕ → ℕ → ℕ) (a n k : ℕ) → k < n → slice_get (links_from name a 0 n) k ≡ Some (name a k)
 number_at name a n k l = number_from name a 0 n k l ∙ ap (λ j. Some (name a j)) (let e : 0 + k ≡ k = omega arith in e)
 
-number_within : (name : ℕ → ℕ → ℕ) (a i n k x : ℕ) → slice_get (numbered name a i n) k ≡ Some x → k < n
+number_within : (name : ℕ → ℕ → ℕ) (a i n k x : ℕ) → slice_get (links_from name a i n) k ≡ Some x → k < n
 number_within name a i zero k x e = absurd (none-some x e)
 number_within name a i (suc n) zero x e = omega arith
 number_within name a i (suc n) (suc k) x e = let l = number_within name a (i + 1) n k x e in omega (arith, l)
 
-pub number_is : (name : ℕ → ℕ → ℕ) (a n k x : ℕ) → slice_get (numbered name a 0 n) k ≡ Some x → (k < n) × (name a k ≡ x)
+pub number_is : (name : ℕ → ℕ → ℕ) (a n k x : ℕ) → slice_get (links_from name a 0 n) k ≡ Some x → (k < n) × (name a k ≡ x)
 number_is name a n k x e =
     let l = number_within name a 0 n k x e in
     (l, same_Some (name a k) x (sym (number_at name a n k l) ∙ e))
 
-one_more : (name : ℕ → ℕ → ℕ) (a i n : ℕ) → numbered name a i (suc n) ≡ numbered name a i n ++ name a (i + n) ∷ []
+one_more : (name : ℕ → ℕ → ℕ) (a i n : ℕ) → links_from name a i (suc n) ≡ links_from name a i n ++ name a (i + n) ∷ []
 one_more name a i zero = ap (λ j. name a j ∷ []) (let e : i ≡ i + 0 = omega arith in e)
 one_more name a i (suc n) =
-    ap (λ xs. name a i ∷ xs) (one_more name a (i + 1) n) ∙ ap (λ x. name a i ∷ (numbered name a (i + 1) n ++ x ∷ [])) (at_next name a i n)
+    ap (λ xs. name a i ∷ xs) (one_more name a (i + 1) n) ∙ ap (λ x. name a i ∷ (links_from name a (i + 1) n ++ x ∷ [])) (at_next name a i n)
 
 -- the last one stands apart
-pub last_number : (name : ℕ → ℕ → ℕ) (a n : ℕ) → 0 < n → numbered name a 0 n ≡ numbered name a 0 (n - 1) ++ name a (n - 1) ∷ []
+pub last_number : (name : ℕ → ℕ → ℕ) (a n : ℕ) → 0 < n → links_from name a 0 n ≡ links_from name a 0 (n - 1) ++ name a (n - 1) ∷ []
 last_number name a n l =
     let up : n ≡ suc (n - 1) = omega (arith, l) in
     let down : 0 + (n - 1) ≡ n - 1 = omega arith in
-    ap (numbered name a 0) up ∙ one_more name a 0 (n - 1) ∙ ap (λ j. numbered name a 0 (n - 1) ++ name a j ∷ []) down
+    ap (links_from name a 0) up ∙ one_more name a 0 (n - 1) ∙ ap (λ j. links_from name a 0 (n - 1) ++ name a j ∷ []) down
 
-pub numbers_end : (name : ℕ → ℕ → ℕ) (a n : ℕ) (xs : List ℕ) (x : ℕ) → numbered name a 0 n ≡ xs ++ x ∷ [] → (0 < n) × (xs ≡ numbered name a 0 (n - 1)) × (x ≡ name a (n - 1))
+pub numbers_end : (name : ℕ → ℕ → ℕ) (a n : ℕ) (xs : List ℕ) (x : ℕ) → links_from name a 0 n ≡ xs ++ x ∷ [] → (0 < n) × (xs ≡ links_from name a 0 (n - 1)) × (x ≡ name a (n - 1))
 numbers_end name a zero xs x e = absurd (not_nil xs x e)
 numbers_end name a (suc n) xs x e =
     let l : 0 < suc n = omega arith in
-    let same = ends_in_one_way xs (numbered name a 0 (suc n - 1)) x (name a (suc n - 1)) (sym e ∙ last_number name a (suc n) l) in
+    let same = ends_in_one_way xs (links_from name a 0 (suc n - 1)) x (name a (suc n - 1)) (sym e ∙ last_number name a (suc n) l) in
     (l, same.0, same.1)

@@ -1,21 +1,21 @@
 -- The terms in an item are marked while it is walked.
 use Rattle.std.proofs.Common.{◌≡◌, ◌≢◌, ℕ, suc, ◌+◌, ◌-◌, ◌<◌, ◌≤◌, ◌==◌, ◌&&◌, ◌||◌, ◌⊎◌, inl, inr, not, true, false, if◌then◌else◌, List, [], ◌∷◌, Option, Some, None, refl, sym, ap, ◌∙◌, subst, arith}
-use Rattle.lmn_heap.specs.Heap.{Heap, arity_of, link_of}
+use Rattle.lmn_heap.specs.Heap.{Heap, arity_of, link_of, own_mark}
 use Rattle.lmn_heap.specs.Lists.{In}
 use Rattle.lmn_heap.specs.Sound.{Paired}
-use Rattle.lmn_heap.proofs.Pigeonholes.{number_cases}
-use Rattle.lmn_folding.specs.Marks.{own_mark, is_item, is_end_of_term, term_by, term_at, arguments, Event, leaves, Walk}
+use Rattle.lmn_folding.specs.Marks.{is_item, is_end_of_term, term_by, term_at, argument_count, Event, leaves, WalkMeets}
 use Rattle.lmn_folding.proofs.FewTurns.{entered, turns}
 use Rattle.lmn_folding.proofs.WalkLemmas.{at_link, at_term, at_end_of_term, at_end_of_item, arguments_of_term}
 use Rattle.lmn_items.specs.Chosen.{ChangesOwnMarks}
 use Rattle.lmn_items.specs.Marking.{MarksTerms, SetsOwnMark}
 use Rattle.lmn_items.proofs.ItemWalks.{Down, terms_entered, entered_terms}
 use Rattle.lmn_items.proofs.OwnMarks.{arity_same, link_same}
-use Rattle.lmn_printer.proofs.NumberLemmas.{same_ports as same_port}
+use Rattle.lmn_base.proofs.Numbers.{same_or_not as number_cases}
+use Rattle.lmn_heap.proofs.Common.{same_port}
 
 -- other marks of terms change nothing of what is printed as a term
 module _ (s t : Heap) (r : ChangesOwnMarks s t) (same : (a : ℕ) → is_item t a ≡ is_item s a) where
-  pub arguments_same : (a : ℕ) → arguments t a ≡ arguments s a
+  pub arguments_same : (a : ℕ) → argument_count t a ≡ argument_count s a
   arguments_same a = ap (λ b. if b then arity_of t a else arity_of t a - 1) (same a) ∙ ap (λ k. if is_item s a then k else k - 1) (arity_same s t r a)
 
   end_same : (p : ℕ × ℕ) → is_end_of_term t p ≡ is_end_of_term s p
@@ -45,16 +45,16 @@ items_same s t u c set plain same a = elim (number_cases a c) [
 -- Where the walk over an item stands at port i of the atom a, the terms that were entered are marked, and n turns were taken.
 pub record Marking (s t : Heap) (a i n : ℕ) (es : List Event) : Type 0 where
   pub left : List Event
-  pub walk : Walk s a i left
+  pub walk : WalkMeets s a i left
   pub done : (x : ℕ) → In x (entered es) → (own_mark t x ≡ 3) ⊎ In x (entered left)
   pub others : (x : ℕ) → (own_mark t x ≡ own_mark s x) ⊎ In x (entered es)
   pub ahead : (x : ℕ) → In x (entered left) → In x (entered es)
   pub few : n + turns left ≤ turns es
 
-pub marking_first : (s : Heap) (a : ℕ) (es : List Event) → Walk s a 0 es → Marking s s a 0 0 es
+pub marking_first : (s : Heap) (a : ℕ) (es : List Event) → WalkMeets s a 0 es → Marking s s a 0 0 es
 marking_first s a es w = record { left = es; walk = w; done = λ x h. inr h; others = λ x. inl refl; ahead = λ x h. h; few = omega arith }
 
-pub marking_link : (s t : Heap) (a i n : ℕ) (es : List Event) → Marking s t a i n es → i < arguments s a → term_at s a i ≡ None → Marking s t a (i + 1) n es
+pub marking_link : (s t : Heap) (a i n : ℕ) (es : List Event) → Marking s t a i n es → i < argument_count s a → term_at s a i ≡ None → Marking s t a (i + 1) n es
 marking_link s t a i n es m low none =
     let met = at_link s a i m.left m.walk low none in
     let same : entered m.left ≡ entered met.0 = ap entered met.1 in
@@ -69,7 +69,7 @@ marking_link s t a i n es m low none =
       few = omega (arith, few, turned);
     }
 
-pub marking_term : (s t u : Heap) (a i c n : ℕ) (es : List Event) → Marking s t a i n es → i < arguments s a → term_at s a i ≡ Some c → SetsOwnMark t u c 3 → Marking s u c 0 (n + 1) es
+pub marking_term : (s t u : Heap) (a i c n : ℕ) (es : List Event) → Marking s t a i n es → i < argument_count s a → term_at s a i ≡ Some c → SetsOwnMark t u c 3 → Marking s u c 0 (n + 1) es
 marking_term s t u a i c n es m low is set =
     let met = at_term s a i c m.left m.walk low is in
     let same : entered m.left ≡ c ∷ entered met.0 = ap entered met.1 in
@@ -92,17 +92,17 @@ marking_term s t u a i c n es m low is set =
     by x (inr d) (inl e) same = inl (set.others x d ∙ e)
     by x (inr d) (inr j) same = elim (subst (In x) same j) [ inl e ↦ absurd (d (sym e)) | inr k ↦ inr k ]
 
-pub marking_end : (s t : Heap) (a i p j port n : ℕ) (es : List Event) → Marking s t a i n es → arguments s a ≤ i → is_item s a ≡ false → port ≡ j + 1
+pub marking_end : (s t : Heap) (a i p j port n : ℕ) (es : List Event) → Marking s t a i n es → argument_count s a ≤ i → is_item s a ≡ false → port ≡ j + 1
     → link_of s a (arity_of s a - 1) ≡ Some (p, j) → Marking s t p port (n + 1) es
 marking_end s t a i p j port n es m high plain behind link =
     let met = at_end_of_term s a i m.left m.walk high plain in
     let left : entered m.left ≡ entered met.0 = ap entered met.3 in
     let turned : turns m.left ≡ suc (turns met.0) = ap turns met.3 in
     let few = m.few in
-    let same = same_port met.1 met.2 p j (sym met.6 ∙ ap (link_of s a) (met.4 ∙ arguments_of_term s a plain) ∙ link) in
+    let same = same_port (sym met.6 ∙ ap (link_of s a) (met.4 ∙ arguments_of_term s a plain) ∙ link) in
     record {
       left = met.0;
-      walk = subst (λ q. Walk s p q met.0) (sym behind) (subst (λ q. Walk s p (q + 1) met.0) same.1 (subst (λ q. Walk s q (met.2 + 1) met.0) same.0 met.7));
+      walk = subst (λ q. WalkMeets s p q met.0) (sym behind) (subst (λ q. WalkMeets s p (q + 1) met.0) same.1 (subst (λ q. WalkMeets s q (met.2 + 1) met.0) same.0 met.7));
       done = λ x h. elim (m.done x h) [ inl e ↦ inl e | inr k ↦ inr (subst (In x) left k) ];
       others = m.others;
       ahead = λ x h. m.ahead x (subst (In x) (sym left) h);
@@ -110,7 +110,7 @@ marking_end s t a i p j port n es m high plain behind link =
     }
 
 -- all of them are marked
-pub marking_all : (s t : Heap) → Paired s → (item a i n : ℕ) → is_item s item ≡ true → (d : Down s item 0 (leaves item ∷ [])) → ChangesOwnMarks s t → Marking s t a i n d.walk → arguments s a ≤ i → is_item s a ≡ true
+pub marking_all : (s t : Heap) → Paired s → (item a i n : ℕ) → is_item s item ≡ true → (d : Down s item 0 (leaves item ∷ [])) → ChangesOwnMarks s t → Marking s t a i n d.walk → argument_count s a ≤ i → is_item s a ≡ true
     → MarksTerms s t item
 marking_all s t paired item a i n is d r m high end = record {
   marks = r;

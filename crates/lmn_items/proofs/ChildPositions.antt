@@ -7,13 +7,14 @@ use Rattle.lmn_folded.specs.Folding.{IsChild, Descends}
 use Rattle.lmn_folded.specs.Folding as folding
 use Rattle.lmn_heap.specs.Heap.{Heap, arity_of, atoms_in}
 use Rattle.lmn_heap.specs.Lists.{Distinct}
-use Rattle.lmn_heap.specs.Solid.{IsNaming, numbered}
+use Rattle.lmn_heap.specs.Solid.{IsNaming, links_from}
 use Rattle.lmn_heap.specs.Sound.{Valid}
 use Rattle.lmn_heap.proofs.Replacing.{port_within}
 use Rattle.lmn_items.specs.Children.{IsChildAt, DescendsAt}
 use Rattle.lmn_items.specs.Children as marked
-use Rattle.lmn_items.proofs.Positions.{in_at, position, one_position, behind, further_back}
-use Rattle.lmn_items.proofs.AtomsOfPositions.{atom_with, atom_at, atom_behind, length_numbered, number_at, number_is, last_number, numbers_end}
+use Rattle.lmn_items.proofs.Positions.{position, one_position, behind, further_back}
+use Rattle.lmn_items.proofs.AtomsOfPositions.{atom_with, atom_at, atom_behind, number_at, number_is, last_number, numbers_end}
+use Rattle.lmn_heap.proofs.Common.{in_at, length_numbered}
 
 module _ (names : List Name) (s : Heap) (valid : Valid s) (name : ℕ → ℕ → ℕ) (naming : IsNaming s name) (m : ℕ) where
   abbrev atoms : List SolidAtom
@@ -27,7 +28,7 @@ module _ (names : List Name) (s : Heap) (valid : Valid s) (name : ℕ → ℕ �
 
   -- the child is the atom at its position, without its last link
   pub child_is : (q p k a : ℕ) → slice_get (atoms_in s m) q ≡ Some a → (c : IsChild atoms q p k)
-      → (c.child ≡ atom_with names s name a) × (0 < arity_of s a) × (c.first_links ≡ numbered name a 0 (arity_of s a - 1)) × (c.last_link ≡ name a (arity_of s a - 1))
+      → (c.child ≡ atom_with names s name a) × (0 < arity_of s a) × (c.first_links ≡ links_from name a 0 (arity_of s a - 1)) × (c.last_link ≡ name a (arity_of s a - 1))
   child_is q p k a e c =
       let same : c.child ≡ atom_with names s name a = same_Some c.child (atom_with names s name a) (sym c.child_at ∙ atom_at names s name (atoms_in s m) q a e) in
       let end = numbers_end name a (arity_of s a) c.first_links c.last_link (sym (ap (λ (x : SolidAtom). x.links) same) ∙ c.links) in
@@ -37,7 +38,7 @@ module _ (names : List Name) (s : Heap) (valid : Valid s) (name : ℕ → ℕ �
   to_heap q p k a b e f c =
       let child = child_is q p k a e c in
       let parent : c.parent ≡ atom_with names s name b = same_Some c.parent (atom_with names s name b) (sym c.parent_at ∙ atom_at names s name (atoms_in s m) p b f) in
-      let links : c.parent.links ≡ numbered name b 0 (arity_of s b) = ap (λ (x : SolidAtom). x.links) parent in
+      let links : c.parent.links ≡ links_from name b 0 (arity_of s b) = ap (λ (x : SolidAtom). x.links) parent in
       let port = number_is name b (arity_of s b) k c.last_link (ap (λ ls. slice_get ls k) (sym links) ∙ c.joined) in
       let some = child.1 in
       let other : a ≢ b = λ g. c.other (one_place q p b (e ∙ ap Some g) f) in
@@ -59,7 +60,7 @@ module _ (names : List Name) (s : Heap) (valid : Valid s) (name : ℕ → ℕ �
       record {
         child = atom_with names s name a;
         parent = atom_with names s name b;
-        first_links = numbered name a 0 (arity_of s a - 1);
+        first_links = links_from name a 0 (arity_of s a - 1);
         last_link = name a (arity_of s a - 1);
         child_at = atom_at names s name (atoms_in s m) q a e;
         parent_at = atom_at names s name (atoms_in s m) p b f;

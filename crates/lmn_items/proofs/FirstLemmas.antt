@@ -1,26 +1,25 @@
 -- The atoms that are no child are marked, one after the other.
-use Rattle.std.proofs.Common.{◌≡◌, ◌≢◌, ℕ, zero, suc, ◌+◌, ◌-◌, ◌<◌, ◌⊎◌, inl, inr, List, [], ◌∷◌, length, Option, Some, None, sym, ap, ◌∙◌, subst, arith}
-use Rattle.std.specs.Prelude.{slice_index_or}
-use Rattle.lmn_heap.specs.Heap.{Heap, IsAtom, arity_of, atoms_in, link_of, links_of}
+use Rattle.std.proofs.Common.{◌≡◌, ◌≢◌, ℕ, ◌+◌, ◌-◌, ◌⊎◌, inl, inr, List, ◌∷◌, Option, Some, None, sym, ap, ◌∙◌, subst, arith}
+use Rattle.lmn_heap.specs.Heap.{Heap, IsAtom, arity_of, atoms_in, link_of, own_mark, Unmarked}
 use Rattle.lmn_heap.specs.Lists.{In, from, after}
 use Rattle.lmn_heap.specs.Sound.{Valid}
-use Rattle.lmn_heap.proofs.Pigeonholes.{number_cases}
-use Rattle.lmn_folding.specs.Marks.{own_mark}
-use Rattle.lmn_items.specs.Chosen.{AllUnmarked, ChangesOwnMarks}
+use Rattle.lmn_items.specs.Chosen.{ChangesOwnMarks}
 use Rattle.lmn_items.specs.Children.{IsChildAt}
-use Rattle.lmn_items.specs.Marking.{AreFirsts, IsNoChild, IsSomeChild, MarksFirst, TellsBefore}
-use Rattle.lmn_items.proofs.Orders.{IsOrder, one_behind, not_behind, not_both, one_home, atom_in}
+use Rattle.lmn_items.specs.Marking.{AreFirsts, IsChildNowhere, IsChildSomewhere, MarksFirst, TellsBefore}
+use Rattle.lmn_items.proofs.Orders.{IsOrder, one_behind, not_behind, not_both, one_home}
 use Rattle.lmn_items.proofs.OwnMarks.{arity_same, last_same, list_same, atom_before, changes_none, changes_more, changes_back, no_child_same, some_child_same}
 use Rattle.lmn_heap.proofs.Replacing.{port_within as link_low}
-use Rattle.lmn_printer.proofs.NumberLemmas.{same_ports as same_port}
+use Rattle.lmn_base.proofs.Numbers.{same_or_not as number_cases}
+use Rattle.lmn_heap.proofs.Common.{same_port}
+use Rattle.lmn_printer.proofs.ToldLemmas.{all_atoms}
 
 -- Each atom before the next one has the mark 1 where it is no child, and those that are to come have 0.
 pub record FirstsLeft (s t : Heap) (xs : List ℕ) (next : Option ℕ) : Type 0 where
   pub marks : ChangesOwnMarks s t
   pub left : (a : ℕ) → In a (from next xs) → own_mark t a ≡ 0
-  pub done : (a : ℕ) → IsAtom s a → In a (from next xs) ⊎ ((own_mark t a ≡ 1) × IsNoChild s a) ⊎ ((own_mark t a ≡ 0) × IsSomeChild s a)
+  pub done : (a : ℕ) → IsAtom s a → In a (from next xs) ⊎ ((own_mark t a ≡ 1) × IsChildNowhere s a) ⊎ ((own_mark t a ≡ 0) × IsChildSomewhere s a)
 
-pub firsts_first : (s : Heap) → AllUnmarked s → (xs : List ℕ) → IsOrder s xs → (next : Option ℕ) → from next xs ≡ xs → FirstsLeft s s xs next
+pub firsts_first : (s : Heap) → Unmarked s → (xs : List ℕ) → IsOrder s xs → (next : Option ℕ) → from next xs ≡ xs → FirstsLeft s s xs next
 firsts_first s unmarked xs order next e = record {
   marks = changes_none s;
   left = λ a i. unmarked a (arity_of s a);
@@ -51,7 +50,7 @@ module _ (s t : Heap) (valid : Valid s) (xs : List ℕ) (order : IsOrder s xs) (
       before o =
           elim (number_cases p b) [
             | inl e ↦ absurd (let z = f.left p (inl (sym e)) in cc)
-            | inr d ↦ elim (one_behind p b xs (order.all p (atom_in s valid.sound m p j')) (order.all b there) d) [
+            | inr d ↦ elim (one_behind p b xs (order.all p (all_atoms s valid.sound m p j')) (order.all b there) d) [
               | inl h ↦ here (order.into m p b j' i' h)
               | inr h ↦ absurd (let z = f.left p (inr h) in cc)
             ]
@@ -62,7 +61,7 @@ module _ (s t : Heap) (valid : Valid s) (xs : List ℕ) (order : IsOrder s xs) (
 
       child : (n r l : ℕ) → IsChildAt s n p r l → In b (after p (atoms_in s m)) → ⊥
       child n r l c h =
-          let same = same_port r l b (arity_of s b - 1) (sym c.joined ∙ back) in
+          let same = same_port (sym c.joined ∙ back) in
           let some = link_low s b (arity_of s b - 1) (p, k) joined in
           let full : l + 1 ≡ arity_of s r = (let q = same.1 in let w : arity_of s r ≡ arity_of s b = ap (arity_of s) same.0 in omega (arith, q, some, w)) in
           elim c.before [
@@ -75,7 +74,7 @@ module _ (s t : Heap) (valid : Valid s) (xs : List ℕ) (order : IsOrder s xs) (
       behind g =
           let h : In b (after p (atoms_in s m)) = subst (λ ys. In b (after p ys)) (list_same s t f.marks m) g in
           let out = order.out m p b j' h in
-          elim (f.done p (atom_in s valid.sound m p j')) [
+          elim (f.done p (all_atoms s valid.sound m p j')) [
             | inl q ↦ elim q [
               | inl e ↦ absurd (not_behind b xs order.once (subst (λ z. In b (after z xs)) (sym e) out))
               | inr q ↦ absurd (not_both p b xs order.once out q)
@@ -99,15 +98,15 @@ module _ (s t : Heap) (valid : Valid s) (xs : List ℕ) (order : IsOrder s xs) (
       back : ChangesOwnMarks t s
       back = changes_back s t f.marks
 
-      here : In b (from next xs) ⊎ ((own_mark u b ≡ 1) × IsNoChild s b) ⊎ ((own_mark u b ≡ 0) × IsSomeChild s b)
+      here : In b (from next xs) ⊎ ((own_mark u b ≡ 1) × IsChildNowhere s b) ⊎ ((own_mark u b ≡ 0) × IsChildSomewhere s b)
       here = elim m.here [
         | inl h ↦ inr (inl (h.0, no_child_same t s f.marks b h.1))
         | inr h ↦ inr (inr (h.0, some_child_same t s back b h.1))
       ]
 
-      by : (a : ℕ) → (a ≡ b) ⊎ (a ≢ b) → In a (b ∷ after b xs) ⊎ ((own_mark t a ≡ 1) × IsNoChild s a) ⊎ ((own_mark t a ≡ 0) × IsSomeChild s a)
-          → In a (from next xs) ⊎ ((own_mark u a ≡ 1) × IsNoChild s a) ⊎ ((own_mark u a ≡ 0) × IsSomeChild s a)
-      by a (inl same) h = subst (λ z. In z (from next xs) ⊎ ((own_mark u z ≡ 1) × IsNoChild s z) ⊎ ((own_mark u z ≡ 0) × IsSomeChild s z)) (sym same) here
+      by : (a : ℕ) → (a ≡ b) ⊎ (a ≢ b) → In a (b ∷ after b xs) ⊎ ((own_mark t a ≡ 1) × IsChildNowhere s a) ⊎ ((own_mark t a ≡ 0) × IsChildSomewhere s a)
+          → In a (from next xs) ⊎ ((own_mark u a ≡ 1) × IsChildNowhere s a) ⊎ ((own_mark u a ≡ 0) × IsChildSomewhere s a)
+      by a (inl same) h = subst (λ z. In z (from next xs) ⊎ ((own_mark u z ≡ 1) × IsChildNowhere s z) ⊎ ((own_mark u z ≡ 0) × IsChildSomewhere s z)) (sym same) here
       by a (inr d) (inl (inl same)) = absurd (d (sym same))
       by a (inr d) (inl (inr j)) = inl (subst (In a) (sym e) j)
       by a (inr d) (inr (inl h)) = inr (inl (m.others a d ∙ h.0, h.1))

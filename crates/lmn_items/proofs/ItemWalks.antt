@@ -1,15 +1,16 @@
 -- From each item on there is a walk, and what it enters are the terms in it.
-use Rattle.std.proofs.Common.{◌≡◌, ◌≢◌, ℕ, zero, suc, ◌+◌, ◌-◌, ◌<◌, ◌≤◌, ◌^◌, ◌⊎◌, inl, inr, true, false, if◌then◌else◌, List, [], ◌∷◌, length, Option, Some, None, refl, sym, ap, ◌∙◌, subst, arith}
+use Rattle.std.proofs.Common.{◌≡◌, ◌≢◌, ℕ, zero, suc, ◌+◌, ◌-◌, ◌<◌, ◌≤◌, ◌⊎◌, inl, inr, true, false, if◌then◌else◌, List, [], ◌∷◌, length, Option, Some, None, refl, sym, ap, ◌∙◌, subst, arith, ◌^◌}
 use Rattle.lmn_heap.specs.Heap.{Heap, IsAtom, arity_of, link_of}
 use Rattle.lmn_heap.specs.Lists.{In, Distinct}
-use Rattle.lmn_heap.specs.Sound.{AtMost, Paired}
+use Rattle.lmn_heap.specs.Sound.{Paired, AtMost}
 use Rattle.lmn_heap.proofs.ListLemmas.{each_of}
-use Rattle.lmn_heap.proofs.Pigeonholes.{not_longer, number_cases}
-use Rattle.lmn_folding.specs.Marks.{is_item, term_at, arguments, Event, meets_link, meets_term, leaves, Walk, link, term, end_of_term, end_of_item}
+use Rattle.lmn_heap.proofs.Pigeonholes.{not_longer}
+use Rattle.lmn_folding.specs.Marks.{is_item, term_at, argument_count, Event, meets_link, meets_term, leaves, WalkMeets, link, term, end_of_term, end_of_item}
 use Rattle.lmn_folding.proofs.FewTurns.{entered, end_there}
 use Rattle.lmn_folding.proofs.PrintedWalks.{term_is}
 use Rattle.lmn_items.specs.Marking.{IsTermAt, IsTermIn, outer, inner}
-use Rattle.lmn_printer.proofs.NumberLemmas.{same_ports as same_port}
+use Rattle.lmn_base.proofs.Numbers.{same_or_not as number_cases}
+use Rattle.lmn_heap.proofs.Common.{same_port}
 
 -- The way down to an atom: an item, and then terms, each in the one before it.
 data Path (s : Heap) : ℕ → List ℕ → Type 0 where
@@ -19,7 +20,7 @@ data Path (s : Heap) : ℕ → List ℕ → Type 0 where
 -- a walk that goes on behind the arguments of p with es
 pub record Down (s : Heap) (p i : ℕ) (es : List Event) : Type 0 where
   pub walk : List Event
-  pub is : Walk s p i walk
+  pub is : WalkMeets s p i walk
   pub more : (x : ℕ) → In x (entered es) → In x (entered walk)
   pub ports : (k c : ℕ) → i ≤ k → IsTermAt s p k c → In c (entered walk)
   pub inside : (x : ℕ) → In x (entered walk) → In x (entered es) ⊎ ((k c : ℕ) → IsTermAt s x k c → In c (entered walk))
@@ -38,7 +39,7 @@ module _ (s : Heap) (paired : Paired s) where
   parent_above (start there is) v u j (inr h) plain l = absurd h
   parent_above (below {p = p} {c = c} k h t n) v u j (inl e) plain l =
       let back = (term_back p k c t).0 in
-      inl (same_port p k u j (sym back ∙ subst (λ z. link_of s z (arity_of s z - 1) ≡ Some (u, j)) (sym e) l)).0
+      inl (same_port (sym back ∙ subst (λ z. link_of s z (arity_of s z - 1) ≡ Some (u, j)) (sym e) l)).0
   parent_above (below k h t n) v u j (inr i) plain l = inr (parent_above h v u j i plain l)
 
   not_twice : {p : ℕ} {above : List ℕ} → Path s p above → In p above → ⊥
@@ -60,10 +61,10 @@ module _ (s : Heap) (paired : Paired s) where
 
   module _ (most : AtMost (2 ^ 48) s) where
     abbrev Goes : ℕ → Type 0
-    Goes n = (p : ℕ) (above : List ℕ) → Path s p above → length most.atoms ≤ n + length above + 1 → (es : List Event) → Walk s p (arguments s p) es → Down s p 0 es
+    Goes n = (p : ℕ) (above : List ℕ) → Path s p above → length most.atoms ≤ n + length above + 1 → (es : List Event) → WalkMeets s p (argument_count s p) es → Down s p 0 es
 
-    module _ (n : ℕ) (again : (m : ℕ) → suc m ≡ n → Goes m) (p : ℕ) (above : List ℕ) (path : Path s p above) (room : length most.atoms ≤ n + length above + 1) (es : List Event) (w : Walk s p (arguments s p) es) where
-      as_link : (i : ℕ) → i < arguments s p → Down s p (i + 1) es → term_at s p i ≡ None → Down s p i es
+    module _ (n : ℕ) (again : (m : ℕ) → suc m ≡ n → Goes m) (p : ℕ) (above : List ℕ) (path : Path s p above) (room : length most.atoms ≤ n + length above + 1) (es : List Event) (w : WalkMeets s p (argument_count s p) es) where
+      as_link : (i : ℕ) → i < argument_count s p → Down s p (i + 1) es → term_at s p i ≡ None → Down s p i es
       as_link i low d e = record {
         walk = meets_link p i ∷ d.walk;
         is = link low e d.is;
@@ -75,7 +76,7 @@ module _ (s : Heap) (paired : Paired s) where
         inside = d.inside;
       }
 
-      as_term : (i c : ℕ) → i < arguments s p → Down s p (i + 1) es → term_at s p i ≡ Some c → Down s p i es
+      as_term : (i c : ℕ) → i < argument_count s p → Down s p (i + 1) es → term_at s p i ≡ Some c → Down s p i es
       as_term i c low d e = record {
         walk = meets_term p i c ∷ deeper.walk;
         is = term c low e deeper.is;
@@ -96,7 +97,7 @@ module _ (s : Heap) (paired : Paired s) where
           long : length above + 2 ≤ length most.atoms
           long = let l = not_longer (c ∷ p ∷ above) most.atoms (once way) (λ b h. most.all_atoms b (on_way way b h)) in omega (arith, l)
 
-          end : Walk s c (arguments s c) (leaves c ∷ d.walk)
+          end : WalkMeets s c (argument_count s c) (leaves c ∷ d.walk)
           end = end_of_term p i refl back.2 back.1 (ap (λ b. link_of s c (if b then arity_of s c else arity_of s c - 1)) back.2 ∙ back.0) d.is
 
           deeper : Down s c 0 (leaves c ∷ d.walk)
@@ -114,17 +115,17 @@ module _ (s : Heap) (paired : Paired s) where
           inside x (inl f) = inr (λ k y t. inr (deeper.ports k y (omega arith) (subst (λ z. IsTermAt s z k y) (sym f) t)))
           inside x (inr h) = further x (deeper.inside x h)
 
-      one_port : (i : ℕ) → i < arguments s p → Down s p (i + 1) es → Down s p i es
+      one_port : (i : ℕ) → i < argument_count s p → Down s p (i + 1) es → Down s p i es
       one_port i low d = by (term_at s p i) refl
         where
           by : (o : Option ℕ) → term_at s p i ≡ o → Down s p i es
           by None e = as_link i low d e
           by (Some c) e = as_term i c low d e
 
-      all_ports : (j i : ℕ) → i + j ≡ arguments s p → Down s p i es
+      all_ports : (j i : ℕ) → i + j ≡ argument_count s p → Down s p i es
       all_ports zero i e = record {
         walk = es;
-        is = subst (λ k. Walk s p k es) (let f : arguments s p ≡ i = omega (arith, e) in f) w;
+        is = subst (λ k. WalkMeets s p k es) (let f : argument_count s p ≡ i = omega (arith, e) in f) w;
         more = λ x h. h;
         ports = λ k c l t. absurd (let low = t.low in omega (arith, e, l, low));
         inside = λ x h. inl h;
@@ -132,9 +133,9 @@ module _ (s : Heap) (paired : Paired s) where
       all_ports (suc j) i e = one_port i (omega (arith, e)) (all_ports j (i + 1) (omega (arith, e)))
 
     goes : (n : ℕ) → Goes n
-    goes zero p above path room es w = all_ports zero (λ m e. absurd (omega (arith, e))) p above path room es w (arguments s p) 0 (omega arith)
+    goes zero p above path room es w = all_ports zero (λ m e. absurd (omega (arith, e))) p above path room es w (argument_count s p) 0 (omega arith)
     goes (suc n) p above path room es w =
-        all_ports (suc n) (λ m e. let P : ℕ → Type 0 = Goes in subst P (let f : n ≡ m = omega (arith, e) in f) (goes n)) p above path room es w (arguments s p) 0 (omega arith)
+        all_ports (suc n) (λ m e. let P : ℕ → Type 0 = Goes in subst P (let f : n ≡ m = omega (arith, e) in f) (goes n)) p above path room es w (argument_count s p) 0 (omega arith)
 
     -- from an item on
     pub item_walk : (a : ℕ) → IsAtom s a → is_item s a ≡ true → Down s a 0 (leaves a ∷ [])
@@ -158,15 +159,15 @@ module _ (s : Heap) (paired : Paired s) where
 
   -- the atom to which the last port of a term in an item is joined is that item, or a term in it
   pub holder : (a x p j : ℕ) → IsTermIn s a x → link_of s x (arity_of s x - 1) ≡ Some (p, j) → Holds a p
-  holder a x p j (outer {k = k} t) l = inl (same_port p j a k (sym l ∙ (term_back a k x t.term).0)).0
-  holder a x p j (inner {p = q} {k = k} h t) l = inr (subst (IsTermIn s a) (same_port q k p j (sym (term_back q k x t.term).0 ∙ l)).0 h)
+  holder a x p j (outer {k = k} t) l = inl (same_port (sym l ∙ (term_back a k x t.term).0)).0
+  holder a x p j (inner {p = q} {k = k} h t) l = inr (subst (IsTermIn s a) (same_port (sym (term_back q k x t.term).0 ∙ l)).0 h)
 
   pub term_no_item : (a x : ℕ) → IsTermIn s a x → is_item s x ≡ false
   term_no_item a x (outer {k = k} t) = (term_back a k x t.term).2
   term_no_item a x (inner {p = q} {k = k} h t) = (term_back q k x t.term).2
 
   -- what is entered is a term in the item
-  pub entered_terms : (a : ℕ) → is_item s a ≡ true → (x i : ℕ) (es : List Event) → Holds a x → Walk s x i es → (c : ℕ) → In c (entered es) → IsTermIn s a c
+  pub entered_terms : (a : ℕ) → is_item s a ≡ true → (x i : ℕ) (es : List Event) → Holds a x → WalkMeets s x i es → (c : ℕ) → In c (entered es) → IsTermIn s a c
   entered_terms a is x i _ h (link l n w) c j = entered_terms a is x (i + 1) _ h w c j
   entered_terms a is x i _ h (term {es = es} d l t w) c (inl e) = subst (IsTermIn s a) e (held a x i d h (record { low = l; term = t }))
   entered_terms a is x i _ h (term {es = es} d l t w) c (inr j) = entered_terms a is d 0 es (inr (held a x i d h (record { low = l; term = t }))) w c j

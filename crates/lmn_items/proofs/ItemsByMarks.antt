@@ -7,19 +7,20 @@ use Rattle.std.proofs.lemmas.Option.{none-some, same_Some}
 use Rattle.lmn_congruence.specs.Orders.{Among, at_head, further}
 use Rattle.lmn_congruence.specs.Regions.{SolidAtom}
 use Rattle.lmn_congruence.specs.Rules.{Name}
-use Rattle.lmn_folded.specs.Folding.{IsChild, Descends, itself, NoChildren, Further, AreItems}
+use Rattle.lmn_folded.specs.Folding.{Descends, itself, NoChildren, Further, AreItems}
 use Rattle.lmn_folded.specs.Folding as folding
-use Rattle.lmn_folding.specs.Marks.{own_mark}
-use Rattle.lmn_heap.specs.Heap.{Heap, atoms_in}
+use Rattle.lmn_heap.specs.Heap.{Heap, atoms_in, own_mark}
 use Rattle.lmn_heap.specs.Lists.{In, after}
 use Rattle.lmn_heap.specs.Solid.{IsNaming}
 use Rattle.lmn_heap.specs.Sound.{Valid}
-use Rattle.lmn_heap.proofs.ListLemmas.{apart_test}
 use Rattle.lmn_items.specs.Children.{IsChildAt, DescendsAt, IsMarkedIn}
 use Rattle.lmn_items.specs.Children as marked
-use Rattle.lmn_items.proofs.Positions.{in_at, position, behind, further_back}
+use Rattle.lmn_items.proofs.Positions.{position, behind, further_back}
 use Rattle.lmn_items.proofs.AtomsOfPositions.{atom_with, atom_behind}
 use Rattle.lmn_items.proofs.ChildPositions.{to_heap, from_heap, down, up}
+use Rattle.lmn_base.proofs.Numbers.{below_next2 as below_next, not_equal as apart_test}
+use Rattle.lmn_heap.proofs.Common.{in_at}
+use Rattle.lmn_congruence.proofs.Common.{among_left, among_right, among_apart}
 
 -- The list `ys` is what stands in `xs` from j on.
 abbrev From : List ℕ → ℕ → List ℕ → Type 0
@@ -91,22 +92,6 @@ marked_among s v j (y ∷ ys) (suc k) a e f =
     by : (t : Bool) (ps : List ℕ) → Among (j + suc k) ps → Among (j + suc k) (if t then j ∷ ps else ps)
     by true ps i = further i
     by false ps i = i
-
-among_left : (p : ℕ) (ps qs : List ℕ) → Among p ps → Among p (ps ++ qs)
-among_left p _ qs (at_head) = at_head
-among_left p _ qs (further {ys = ps} i) = further (among_left p ps qs i)
-
-among_right : (p : ℕ) (ps qs : List ℕ) → Among p qs → Among p (ps ++ qs)
-among_right p [] qs i = i
-among_right p (x ∷ ps) qs i = further (among_right p ps qs i)
-
-among_either : (p : ℕ) (ps qs : List ℕ) → Among p (ps ++ qs) → Among p ps ⊎ Among p qs
-among_either p [] qs i = inr i
-among_either p (x ∷ ps) qs at_head = inl at_head
-among_either p (x ∷ ps) qs (further i) = elim (among_either p ps qs i) [ inl h ↦ inl (further h) | inr h ↦ inr h ]
-
-below_next : (p j : ℕ) → p < j + 1 → (p < j) ⊎ (p ≡ j)
-below_next p j l = grind arith
 
 module _ (names : List Name) (s : Heap) (valid : Valid s) (name : ℕ → ℕ → ℕ) (naming : IsNaming s name) (m : ℕ) (marks : IsMarkedIn s m) where
   abbrev atoms : List SolidAtom
@@ -186,18 +171,18 @@ module _ (names : List Name) (s : Heap) (valid : Valid s) (name : ℕ → ℕ �
 
   -- one more
   chosen : (j y : ℕ) (items : List ℕ) → slice_get (atoms_in s m) j ≡ Some y → own_mark s y ≡ 2 → Chosen j items → Chosen (j + 1) (items ++ j ∷ [])
-  chosen j y items at mark c = record { has = has; is = λ p i. is p (among_either p items (j ∷ []) i) }
+  chosen j y items at mark c = record { has = has; is = λ p i. is p (among_apart items (j ∷ []) i) }
     where
       one_of : (p : ℕ) → Among p (j ∷ []) → p ≡ j
       one_of p i = elim (among_cons p j [] i) [ inl e ↦ e | inr k ↦ elim k [ ] ]
 
       last : (p : ℕ) → p ≡ j → Among p (items ++ j ∷ [])
-      last p e = subst (λ q. Among q (items ++ j ∷ [])) (sym e) (among_right j items (j ∷ []) at_head)
+      last p e = subst (λ q. Among q (items ++ j ∷ [])) (sym e) (among_right items at_head)
 
       has : (p a : ℕ) → slice_get (atoms_in s m) p ≡ Some a → IsBefore (j + 1) p a → Among p (items ++ j ∷ [])
-      has p a e (inl f) = among_left p items (j ∷ []) (c.has p a e (inl f))
+      has p a e (inl f) = among_left (j ∷ []) (c.has p a e (inl f))
       has p a e (inr w) = elim (below_next p j w.1) [
-        | inl l ↦ among_left p items (j ∷ []) (c.has p a e (inr (w.0, l)))
+        | inl l ↦ among_left (j ∷ []) (c.has p a e (inr (w.0, l)))
         | inr f ↦ last p f
       ]
 
@@ -286,11 +271,11 @@ module _ (names : List Name) (s : Heap) (valid : Valid s) (name : ℕ → ℕ �
   item_has p a e w = subst (λ q. Among q items) (let g : 0 + p ≡ p = omega arith in g) (by w)
     where
       by : (own_mark s a ≡ 1) ⊎ (own_mark s a ≡ 2) → Among (0 + p) items
-      by (inl f) = among_left (0 + p) (marked_from s 1 0 (atoms_in s m)) (marked_from s 2 0 (atoms_in s m)) (marked_among s 1 0 (atoms_in s m) p a e f)
-      by (inr f) = among_right (0 + p) (marked_from s 1 0 (atoms_in s m)) (marked_from s 2 0 (atoms_in s m)) (marked_among s 2 0 (atoms_in s m) p a e f)
+      by (inl f) = among_left (marked_from s 2 0 (atoms_in s m)) (marked_among s 1 0 (atoms_in s m) p a e f)
+      by (inr f) = among_right (marked_from s 1 0 (atoms_in s m)) (marked_among s 2 0 (atoms_in s m) p a e f)
 
   pub item_is : (p a : ℕ) → slice_get (atoms_in s m) p ≡ Some a → Among p items → (own_mark s a ≡ 1) ⊎ (own_mark s a ≡ 2)
-  item_is p a e i = elim (among_either p (marked_from s 1 0 (atoms_in s m)) (marked_from s 2 0 (atoms_in s m)) i) [
+  item_is p a e i = elim (among_apart (marked_from s 1 0 (atoms_in s m)) (marked_from s 2 0 (atoms_in s m)) i) [
     | inl h ↦ inl (mark 1 (among_marked s 1 (atoms_in s m) 0 (atoms_in s m) p (from_start (atoms_in s m)) h))
     | inr h ↦ inr (mark 2 (among_marked s 2 (atoms_in s m) 0 (atoms_in s m) p (from_start (atoms_in s m)) h))
   ]

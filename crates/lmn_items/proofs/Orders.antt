@@ -5,26 +5,18 @@ use Rattle.std.specs.Option.{option_map, option_and_then}
 use Rattle.lmn_heap.specs.Heap.{Heap, HeapAtom, IsAtom, within, atoms_in, home_of, home_by}
 use Rattle.lmn_heap.specs.Lists.{In, Distinct, after}
 use Rattle.lmn_heap.specs.Sound.{Forest, flat, IsTree, Sound, Valid}
-use Rattle.lmn_heap.proofs.ListLemmas.{each_in, apart_test, in_left}
-use Rattle.lmn_heap.proofs.Pigeonholes.{number_cases}
+use Rattle.lmn_heap.proofs.ListLemmas.{each_in, in_left}
 use Rattle.lmn_heap.proofs.Trees.{in_either}
 use Rattle.lmn_printer.specs.Numbers.{printed_atoms}
-use Rattle.lmn_printer.proofs.OrderLemmas.{behind_atom, printed_all, printed_once}
-use Rattle.lmn_printer.proofs.StoredLemmas.{atom_at_home}
+use Rattle.lmn_printer.proofs.OrderLemmas.{behind_atom, printed_all, printed_once, printed_in}
+use Rattle.lmn_base.proofs.Numbers.{not_equal as apart_test, same_or_not as number_cases}
+use Rattle.lmn_lists.proofs.TableLemmas.{in_after as after_in}
 
-after_here : (x a : ℕ) (xs : List ℕ) → x ≡ a → after a (x ∷ xs) ≡ xs
+pub after_here : (x a : ℕ) (xs : List ℕ) → x ≡ a → after a (x ∷ xs) ≡ xs
 after_here x a xs e = rw (eq-eqb x a e) refl
 
-after_there : (x a : ℕ) (xs : List ℕ) → x ≢ a → after a (x ∷ xs) ≡ after a xs
+pub after_there : (x a : ℕ) (xs : List ℕ) → x ≢ a → after a (x ∷ xs) ≡ after a xs
 after_there x a xs d = rw (apart_test x a d) refl
-
--- what stands behind an element is in the list
-pub after_in : (a b : ℕ) (xs : List ℕ) → In b (after a xs) → In b xs
-after_in a b [] i = absurd i
-after_in a b (x ∷ xs) i = elim (number_cases x a) [
-  | inl e ↦ inr (subst (In b) (after_here x a xs e) i)
-  | inr d ↦ inr (after_in a b xs (subst (In b) (after_there x a xs d) i))
-]
 
 -- of two elements one stands behind the other,
 pub one_behind : (a b : ℕ) (xs : List ℕ) → In a xs → In b xs → a ≢ b → In b (after a xs) ⊎ In a (after b xs)
@@ -75,13 +67,6 @@ home_in s sound m a i = by (s.atoms a) ((sound.listed.atoms m a).0 i)
     by None e = absurd (cc e)
     by (Some x) e = let h : x.place ≡ within m = cc e in ap home_by h
 
-printed_in : (s : Heap) (ms : List ℕ) (a : ℕ) → In a (printed_atoms s ms) → (m : ℕ) × In m ms × In a (atoms_in s m)
-printed_in s [] a i = absurd i
-printed_in s (m ∷ ms) a i = elim (in_either a (atoms_in s m) (printed_atoms s ms) i) [
-  | inl j ↦ (m, inl refl, j)
-  | inr j ↦ (let r = printed_in s ms a j in (r.0, inr r.1, r.2))
-]
-
 -- atoms have one home
 pub one_home : (s : Heap) → Sound s → (m n a : ℕ) → In a (atoms_in s m) → In a (atoms_in s n) → m ≡ n
 one_home s sound m n a i j = let e = home_in s sound m a i in let f = home_in s sound n a j in cc
@@ -114,7 +99,3 @@ is_order s valid f t = record {
   into = order_in s valid.sound f t;
   out = order_out s valid.sound f t;
 }
-
--- an atom in a list is one
-pub atom_in : (s : Heap) → Sound s → (m a : ℕ) → In a (atoms_in s m) → IsAtom s a
-atom_in s sound m a i = atom_at_home s a m (home_in s sound m a i)

@@ -1,36 +1,26 @@
 -- What other own marks change of a heap, and what they don't.
 use Rattle.std.proofs.Common.{◌≡◌, ℕ, ◌-◌, ◌<◌, ◌⊎◌, inl, inr, ◌++◌, List, [], ◌∷◌, length, Option, Some, None, IsSome, refl, sym, ap, ◌∙◌, subst, arith}
-use Rattle.std.proofs.lemmas.Bool.{cases_eq}
 use Rattle.std.specs.Option.{option_map, option_and_then}
 use Rattle.std.specs.Prelude.{slice_index_or}
-use Rattle.lmn_heap.specs.Heap.{Heap, HeapAtom, IsAtom, IsMem, top, alter, with_mark, marked, links_of, marks_of, arity_of, link_of, mark_of, functor_of, home_of, home_by, parent_of, mem_place_of, atoms_in}
+use Rattle.lmn_heap.specs.Heap.{Heap, HeapAtom, IsAtom, IsMem, top, marked, partners_of, marks_of, arity_of, link_of, mark_of, functor_of, home_of, home_by, parent_of, mem_place_of, atoms_in}
 use Rattle.lmn_heap.specs.Lists.{In, after}
 use Rattle.lmn_heap.specs.Sound.{Forest, IsTree, Paired, Sound, Valid}
 use Rattle.lmn_heap.proofs.Groves.{forms_frame}
-use Rattle.lmn_heap.proofs.Listing.{alter_at, alter_away}
 use Rattle.lmn_printer.specs.Numbers.{printed_atoms, with_marks, remarked}
-use Rattle.lmn_printer.proofs.MarkLemmas.{mark_at, mark_off, same_atoms, remarked_same, remarked_twice}
+use Rattle.lmn_printer.proofs.MarkLemmas.{mark_at, mark_off, remarked_same, remarked_twice, marked_is, view_is}
 use Rattle.lmn_items.specs.Chosen.{ChangesOwnMarks}
 use Rattle.lmn_items.specs.Children.{IsChildAt, DescendsAt, itself, child}
-use Rattle.lmn_items.specs.Marking.{IsNoChild, IsSomeChild, SetsOwnMark}
-
--- what doesn't look at marks is as before
-view_is : {X : Type 0} (view : Option HeapAtom → X) → ((x : HeapAtom) (ms : List ℕ) → view (Some (with_marks ms x)) ≡ view (Some x)) → (s : Heap) (v : ℕ → List ℕ) (a : ℕ) → view ((remarked s v).atoms a) ≡ view (s.atoms a)
-view_is view h s v a = by (s.atoms a)
-  where
-    by : (o : Option HeapAtom) → view (option_map (with_marks (v a)) o) ≡ view o
-    by None = refl
-    by (Some x) = h x (v a)
+use Rattle.lmn_items.specs.Marking.{IsChildNowhere, IsChildSomewhere, SetsOwnMark}
 
 view_same : {X : Type 0} (view : Option HeapAtom → X) → ((x : HeapAtom) (ms : List ℕ) → view (Some (with_marks ms x)) ≡ view (Some x)) → (s t : Heap) → ChangesOwnMarks s t → (a : ℕ) → view (t.atoms a) ≡ view (s.atoms a)
 view_same view h s t r a = ap (λ (k : Heap). view (k.atoms a)) r.is ∙ view_is view h s r.marks a
 
 module _ (s t : Heap) (r : ChangesOwnMarks s t) where
   pub arity_same : (a : ℕ) → arity_of t a ≡ arity_of s a
-  arity_same a = view_same (λ o. length (links_of o)) (λ x ms. refl) s t r a
+  arity_same a = view_same (λ o. length (partners_of o)) (λ x ms. refl) s t r a
 
   pub link_same : (a i : ℕ) → link_of t a i ≡ link_of s a i
-  link_same a i = view_same (λ o. slice_index_or (links_of o) i None) (λ x ms. refl) s t r a
+  link_same a i = view_same (λ o. slice_index_or (partners_of o) i None) (λ x ms. refl) s t r a
 
   -- the last port of an atom stays joined
   pub last_same : (a : ℕ) (p : ℕ × ℕ) → link_of t a (arity_of t a - 1) ≡ Some p → link_of s a (arity_of s a - 1) ≡ Some p
@@ -104,10 +94,10 @@ module _ (s t : Heap) (r : ChangesOwnMarks s t) where
   descends_same itself = itself
   descends_same (child d c) = child (descends_same d) (child_same c)
 
-pub no_child_same : (s t : Heap) → ChangesOwnMarks t s → (a : ℕ) → IsNoChild s a → IsNoChild t a
+pub no_child_same : (s t : Heap) → ChangesOwnMarks t s → (a : ℕ) → IsChildNowhere s a → IsChildNowhere t a
 no_child_same s t r a h m p k c = h m p k (child_same t s r c)
 
-pub some_child_same : (s t : Heap) → ChangesOwnMarks s t → (a : ℕ) → IsSomeChild s a → IsSomeChild t a
+pub some_child_same : (s t : Heap) → ChangesOwnMarks s t → (a : ℕ) → IsChildSomewhere s a → IsChildSomewhere t a
 some_child_same s t r a h = (h.0, h.1, h.2, child_same s t r h.3)
 
 -- nothing is changed, more is changed, and it is changed back
@@ -127,21 +117,6 @@ changes_back s t p = record {
   is = sym (ap (λ (h : Heap). remarked h (λ a. marks_of (s.atoms a))) p.is ∙ remarked_twice s p.marks (λ a. marks_of (s.atoms a)) ∙ remarked_same s);
   ports = λ a i l. sym (p.ports a i (subst (λ n. i < n) (arity_same s t p a) l));
 }
-
-own_marks : (o : Option HeapAtom) → option_map (with_marks (marks_of o)) o ≡ o
-own_marks None = refl
-own_marks (Some x) = refl
-
-marked_is : (s : Heap) (a i v : ℕ) → marked s a i v ≡ remarked s (λ b. marks_of ((marked s a i v).atoms b))
-marked_is s a i v = same_atoms s _ _ (λ c. elim (cases_eq c a) [
-  | inl e ↦ subst (λ z. alter s.atoms a (option_map (with_mark i v)) z ≡ option_map (with_marks (marks_of (alter s.atoms a (option_map (with_mark i v)) z))) (s.atoms z)) (sym e)
-      (subst (λ w. w ≡ option_map (with_marks (marks_of w)) (s.atoms a)) (sym (alter_at s.atoms a (option_map (with_mark i v)))) (by (s.atoms a)))
-  | inr n ↦ subst (λ w. w ≡ option_map (with_marks (marks_of w)) (s.atoms c)) (sym (alter_away s.atoms a (option_map (with_mark i v)) c n)) (sym (own_marks (s.atoms c)))
-])
-  where
-    by : (o : Option HeapAtom) → option_map (with_mark i v) o ≡ option_map (with_marks (marks_of (option_map (with_mark i v) o))) o
-    by None = refl
-    by (Some x) = refl
 
 -- an own mark is set
 pub own_set : (s t : Heap) → Sound s → (a slot v : ℕ) → IsAtom s a → slot ≡ arity_of s a → t ≡ marked s a slot v → SetsOwnMark s t a v

@@ -1,21 +1,21 @@
 -- What the marks tell before and behind each pass, and between two atoms.
 use Rattle.std.proofs.Common.{◌≡◌, ◌≢◌, ℕ, ◌^◌, inl, inr, List, [], Option, Some, None, IfSome, refl, sym, ap, ◌∙◌, subst}
 use Rattle.std.specs.Option.{option_map}
-use Rattle.lmn_heap.specs.Heap.{Heap, IsAtom, IsInPlace, atoms_in, home_of}
+use Rattle.lmn_heap.specs.Heap.{Heap, IsAtom, IsInPlace, atoms_in, home_of, own_mark}
 use Rattle.lmn_heap.specs.Lists.{In, from, after}
 use Rattle.lmn_heap.specs.Sound.{Forest, flat, IsTree, AtMost, Valid}
 use Rattle.lmn_heap.specs.Trees.{tree_of}
-use Rattle.lmn_folding.specs.Marks.{own_mark}
 use Rattle.lmn_printer.specs.Numbers.{printed_atoms}
-use Rattle.lmn_printer.proofs.OrderLemmas.{at_home, some_of, tree_there}
-use Rattle.lmn_printer.proofs.StoredLemmas.{atom_at_home}
+use Rattle.lmn_printer.proofs.OrderLemmas.{at_home, tree_there}
 use Rattle.lmn_items.specs.Chosen.{ChangesOwnMarks}
 use Rattle.lmn_items.specs.Children.{IsChildAt, DescendsAt, itself, child, IsItemBefore, IsMarkedIn}
 use Rattle.lmn_items.specs.Marking.{AreFirsts, AreShown, MarksLater, MarksTermsIfFirst}
-use Rattle.lmn_items.proofs.Orders.{IsOrder, is_order, atom_in, not_behind, one_home}
+use Rattle.lmn_items.proofs.Orders.{IsOrder, is_order, not_behind, one_home}
 use Rattle.lmn_items.proofs.OwnMarks.{atom_before, child_same, descends_same, list_same, no_child_same, some_child_same, paired_same, printed_same, tree_same, changes_none, changes_more, changes_back}
 use Rattle.lmn_items.proofs.PassLemmas.{IsBefore, Marked, open_more, rest_less, terms_marked, item_marked_later, item_by, item_stays}
-use Rattle.lmn_printer.proofs.NumberingLemmas.{place_atom}
+use Rattle.lmn_base.proofs.Lists.{some_is as some_of}
+use Rattle.lmn_heap.proofs.Common.{in_place_atom as place_atom}
+use Rattle.lmn_printer.proofs.ToldLemmas.{all_atoms as atom_in}
 
 -- all atoms, in printed order
 abbrev pub all_atoms : Heap → List ℕ

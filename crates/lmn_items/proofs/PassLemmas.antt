@@ -1,23 +1,23 @@
 -- Items and terms are marked, one item after the other.
 use Rattle.std.proofs.Common.{◌≡◌, ◌≢◌, ℕ, ◌+◌, ◌-◌, ◌<◌, ◌==◌, ◌&&◌, ◌||◌, ◌⊎◌, inl, inr, Bool, not, true, false, if◌then◌else◌, List, Some, None, refl, sym, ap, ◌∙◌, subst, arith}
 use Rattle.std.proofs.lemmas.Bool.{eq-eqb}
-use Rattle.lmn_heap.specs.Heap.{Heap, IsAtom, arity_of, atoms_in, link_of}
+use Rattle.lmn_heap.specs.Heap.{Heap, IsAtom, arity_of, atoms_in, link_of, own_mark}
 use Rattle.lmn_heap.specs.Lists.{In, after}
 use Rattle.lmn_heap.specs.Sound.{Paired, Sound}
-use Rattle.lmn_heap.proofs.Pigeonholes.{number_cases}
-use Rattle.lmn_folding.specs.Marks.{own_mark, is_item, term_by, term_at, arguments}
+use Rattle.lmn_folding.specs.Marks.{is_item, term_by, term_at, argument_count}
 use Rattle.lmn_folding.proofs.FewTurns.{end_there}
 use Rattle.lmn_folding.proofs.PrintedWalks.{term_is}
 use Rattle.lmn_folding.proofs.WalkLemmas.{arguments_of_term}
 use Rattle.lmn_items.specs.Chosen.{ChangesOwnMarks}
 use Rattle.lmn_items.specs.Children.{IsChildAt, DescendsAt, itself, child}
-use Rattle.lmn_items.specs.Marking.{IsNoChild, IsSomeChild, IsTermAt, IsTermIn, outer, inner, MarksTerms, SetsOwnMark}
+use Rattle.lmn_items.specs.Marking.{IsChildNowhere, IsChildSomewhere, IsTermAt, IsTermIn, outer, inner, MarksTerms, SetsOwnMark}
 use Rattle.lmn_items.proofs.BelowLemmas.{marked_term}
 use Rattle.lmn_items.proofs.ItemWalks.{Holds, term_back, held, holder, term_no_item}
 use Rattle.lmn_items.proofs.Orders.{one_home}
 use Rattle.lmn_items.proofs.OwnMarks.{arity_same, link_same, last_same, atom_before, changes_more}
 use Rattle.lmn_heap.proofs.Replacing.{port_within as link_low}
-use Rattle.lmn_printer.proofs.NumberLemmas.{same_ports as same_port}
+use Rattle.lmn_base.proofs.Numbers.{same_or_not as number_cases}
+use Rattle.lmn_heap.proofs.Common.{same_port}
 
 -- an item that is chosen before a is asked, where the atoms stand in this order
 abbrev pub IsBefore : Heap → List ℕ → ℕ → ℕ → Type 0
@@ -28,8 +28,8 @@ IsBefore t xs a i = (own_mark t i ≡ 1) ⊎ ((own_mark t i ≡ 2) × In a (afte
 pub record Marked (s t : Heap) (xs : List ℕ) (R O : ℕ → Type 0) : Type 0 where
   pub marks : ChangesOwnMarks s t
   pub each : (a : ℕ) → IsAtom s a → (own_mark t a ≡ 0) ⊎ (own_mark t a ≡ 1) ⊎ (own_mark t a ≡ 2) ⊎ (own_mark t a ≡ 3)
-  pub first : (a : ℕ) → IsAtom s a → own_mark t a ≡ 1 → IsNoChild s a
-  pub others : (a : ℕ) → IsAtom s a → own_mark t a ≢ 1 → IsSomeChild s a
+  pub first : (a : ℕ) → IsAtom s a → own_mark t a ≡ 1 → IsChildNowhere s a
+  pub others : (a : ℕ) → IsAtom s a → own_mark t a ≢ 1 → IsChildSomewhere s a
   pub rest : (a : ℕ) → IsAtom s a → own_mark t a ≡ 0 → R a
   pub past : (a : ℕ) → IsAtom s a → own_mark t a ≡ 2 → ¬ (R a)
   pub later : (a m i : ℕ) → IsAtom s a → own_mark t a ≡ 2 → IsBefore t xs a i → ¬ (DescendsAt s m i a)
@@ -110,7 +110,7 @@ module _ (s t u : Heap) (sound : Sound s) (paired : Paired t) (xs : List ℕ) (R
       let back = term_back t paired p k c h.term in
       let there : IsAtom s c = atom_before s t mk.marks c (end_there t paired p k c l.0 l.1) in
       let some = mk.others c there (λ o. both_ways (is_item t c) (item_by t c 1 o refl) back.2) in
-      let same = same_port some.1 some.2 p k (sym some.3.joined ∙ last_same s t mk.marks c (p, k) back.0) in
+      let same = same_port (sym some.3.joined ∙ last_same s t mk.marks c (p, k) back.0) in
       (some.0, subst (λ z. IsChildAt s some.0 c z k) same.0 (subst (λ z. IsChildAt s some.0 c some.1 z) same.1 some.3))
 
   -- so each term in the item descends from it
@@ -161,7 +161,7 @@ module _ (s t u : Heap) (sound : Sound s) (paired : Paired t) (xs : List ℕ) (R
       ended : arity_of t c - 1 + 1 ≡ arity_of t c
       ended = let some = h.ports in let same = arity_same s t mk.marks c in omega (arith, some, same)
 
-      argument : is_item t c ≡ false → Holds t paired b p → k < arguments t p → own_mark u c ≢ 0
+      argument : is_item t c ≡ false → Holds t paired b p → k < argument_count t p → own_mark u c ≢ 0
       argument plain g l = term_marked c (held t paired b p k c g (record { low = l; term = term_made t p k c (arity_of t c - 1) back ended plain }))
 
       above : Holds t paired b c → own_mark u c ≢ 0
@@ -171,7 +171,7 @@ module _ (s t u : Heap) (sound : Sound s) (paired : Paired t) (xs : List ℕ) (R
       by : (v : Bool) → is_item t c ≡ v → (k + 1 ≡ arity_of t p) ⊎ (k + 1 ≢ arity_of t p) → Holds t paired b p → own_mark u c ≢ 0
       by true e d g = item_marked c e
       by false e d (inl g) =
-          argument e (inl g) (let whole : arguments t p ≡ arity_of t p = ap (λ v. if v then arity_of t p else arity_of t p - 1) (subst (λ z. is_item t z ≡ true) (sym g) is) in omega (arith, whole, low))
+          argument e (inl g) (let whole : argument_count t p ≡ arity_of t p = ap (λ v. if v then arity_of t p else arity_of t p - 1) (subst (λ z. is_item t z ≡ true) (sym g) is) in omega (arith, whole, low))
       by false e (inr n) (inr g) = argument e (inr g) (let few = arguments_of_term t p (term_no_item t paired b p g) in omega (arith, few, low, n))
       by false e (inl f) (inr g) = above (holder t paired b p c (arity_of t c - 1) g (ap (link_of t p) (let h : arity_of t p - 1 ≡ k = omega (arith, f) in h) ∙ back))
 

@@ -1,14 +1,11 @@
 -- Where a number stands in a list without repeats.
-use Rattle.std.proofs.Common.{◌≡◌, ◌≢◌, ℕ, zero, suc, ◌<◌, cond, List, [], ◌∷◌, Some, slice_get, refl, sym, ap, subst, inl, inr, arith}
-use Rattle.std.proofs.lemmas.Bool.{cases_eq, eq-eqb}
+use Rattle.std.proofs.Common.{◌≡◌, ◌≢◌, ℕ, zero, suc, ◌<◌, List, [], ◌∷◌, Some, slice_get, refl, sym, ap, subst, inl, inr, arith}
+use Rattle.std.proofs.lemmas.Bool.{cases_eq}
 use Rattle.std.proofs.lemmas.Option.{none-some, same_Some}
 use Rattle.lmn_heap.specs.Lists.{In, Distinct, after}
-use Rattle.lmn_heap.proofs.ListLemmas.{each_in, apart_test}
-
-pub in_at : (xs : List ℕ) (q a : ℕ) → slice_get xs q ≡ Some a → In a xs
-in_at [] q a e = absurd (none-some a e)
-in_at (x ∷ xs) zero a e = inl (same_Some x a e)
-in_at (x ∷ xs) (suc q) a e = inr (in_at xs q a e)
+use Rattle.lmn_heap.proofs.ListLemmas.{each_in}
+use Rattle.lmn_heap.proofs.Common.{in_at}
+use Rattle.lmn_items.proofs.Orders.{after_here, after_there}
 
 pub position : (xs : List ℕ) (a : ℕ) → In a xs → (q : ℕ) × (slice_get xs q ≡ Some a)
 position [] a h = absurd h
@@ -21,12 +18,6 @@ one_position (x ∷ xs) zero zero a d e f = refl
 one_position (x ∷ xs) zero (suc q) a d e f = absurd (each_in (λ y. x ≢ y) xs a d.0 (in_at xs q a f) (same_Some x a e))
 one_position (x ∷ xs) (suc p) zero a d e f = absurd (each_in (λ y. x ≢ y) xs a d.0 (in_at xs p a e) (same_Some x a f))
 one_position (x ∷ xs) (suc p) (suc q) a d e f = ap suc (one_position xs p q a d.1 e f)
-
-after_here : (x a : ℕ) (xs : List ℕ) → x ≡ a → after a (x ∷ xs) ≡ xs
-after_here x a xs e = ap (λ t. cond t xs (after a xs)) (eq-eqb x a e)
-
-after_there : (x a : ℕ) (xs : List ℕ) → x ≢ a → after a (x ∷ xs) ≡ after a xs
-after_there x a xs d = ap (λ t. cond t xs (after a xs)) (apart_test x a d)
 
 in_after : (xs : List ℕ) (a b : ℕ) → In b (after a xs) → In b xs
 in_after [] a b h = h

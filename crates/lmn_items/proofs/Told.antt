@@ -7,41 +7,42 @@ use Rattle.lmn_congruence.specs.Regions.{SolidAtom, Region, region, no_region, r
 use Rattle.lmn_congruence.specs.Rules.{Name}
 use Rattle.lmn_folded.specs.Folding.{IsChild, AreItems, Shows, as_link, as_term, ShowsAll, ShowsItems, Folds, folds}
 use Rattle.lmn_folded.specs.Folding as folding
-use Rattle.lmn_folded.specs.Terms.{Term, link, labelled, Terms, Item, Folded}
+use Rattle.lmn_folded.specs.Terms.{FoldedTerm, link, labelled, FoldedTerms, FoldedItem, Folded}
 use Rattle.lmn_folded.proofs.Places.{AtMostTwice}
 use Rattle.lmn_folded.proofs.OneFolded.{FewIn, items_same}
 use Rattle.lmn_folded.proofs.SomeFolded.{some_folded}
-use Rattle.lmn_folding.specs.Marks.{own_mark, is_item, is_end_of_term, term_by, term_at}
-use Rattle.lmn_folding.specs.Printed.{Prints, PrintsAll, PrintsItem}
+use Rattle.lmn_folding.specs.Marks.{is_item, is_end_of_term, term_by, term_at}
+use Rattle.lmn_folding.specs.Printed.{PrintsArgument, PrintsAll}
 use Rattle.lmn_folding.specs.Printed as printed
-use Rattle.lmn_folding.proofs.PrintedWalks.{not_true}
-use Rattle.lmn_heap.specs.Heap.{Heap, Place, top, within, waiting, gone, IsMem, arity_of, atoms_in, home_of, link_of}
+use Rattle.lmn_heap.specs.Heap.{Heap, Place, top, within, waiting, gone, IsMem, arity_of, atoms_in, home_of, link_of, own_mark}
 use Rattle.lmn_heap.specs.Lists.{In}
-use Rattle.lmn_heap.specs.Solid.{IsNaming, numbered}
+use Rattle.lmn_heap.specs.Solid.{IsNaming, links_from}
 use Rattle.lmn_heap.specs.Sound.{Valid}
 use Rattle.lmn_heap.proofs.Replacing.{port_within}
-use Rattle.lmn_printer.proofs.NumberLemmas.{same_ports}
-use Rattle.lmn_printer.proofs.NumberingLemmas.{port_there}
-use Rattle.lmn_printer.proofs.OrderLemmas.{at_home, some_of}
+use Rattle.lmn_printer.proofs.OrderLemmas.{at_home}
 use Rattle.lmn_items.specs.Chosen.{PrintsItems, TellsItems, atoms_with, items_in}
 use Rattle.lmn_items.specs.Chosen as chosen
 use Rattle.lmn_items.specs.Children.{IsChildAt, IsMarkedIn, MarkedAreTold}
-use Rattle.lmn_items.proofs.Positions.{in_at, position}
-use Rattle.lmn_items.proofs.AtomsOfPositions.{atom_with, listed_is, functor_is, atoms_are, atom_at, atom_behind, few_places}
+use Rattle.lmn_items.proofs.Positions.{position}
+use Rattle.lmn_items.proofs.AtomsOfPositions.{atom_with, functor_is, atoms_are, atom_at, atom_behind, few_places}
 use Rattle.lmn_items.proofs.ChildPositions.{child_is, to_heap, from_heap}
 use Rattle.lmn_items.proofs.ItemsByMarks.{StandAt, has_parent, items, are_items, item_has, item_is, items_stand}
 use Rattle.lmn_items.proofs.ItemsByMarks as by_marks
-use Rattle.lmn_lexer.proofs.Runs.{both_true as and_both, equal_when as equal_numbers}
+use Rattle.lmn_base.proofs.Lists.{some_is as some_of}
+use Rattle.lmn_base.proofs.Numbers.{equal_when as equal_numbers}
+use Rattle.lmn_base.proofs.Truth.{and_true as and_both, not_true}
+use Rattle.lmn_heap.proofs.Common.{in_at, is_atom_at as port_there, same_port}
+use Rattle.lmn_printer.proofs.ToldLemmas.{all_atoms}
 
 -- A region of atoms alone is folded to items.
 
 abbrev FoldedAtoms : Region → Type 0
-FoldedAtoms (region atoms ms rs) = (ps : List ℕ) × (shown : List Item) × AreItems atoms ps × ShowsItems atoms ps ps shown
+FoldedAtoms (region atoms ms rs) = (ps : List ℕ) × (shown : List FoldedItem) × AreItems atoms ps × ShowsItems atoms ps ps shown
 
 folded_atoms : (S : Region) (f : Folded) → Folds S f → FoldedAtoms S
 folded_atoms _ _ (folds {shown = shown} ps are shows inside) = (ps, shown, are, shows)
 
-some_shown : (atoms : List SolidAtom) (ps : List ℕ) → AtMostTwice atoms → AreItems atoms ps → (shown : List Item) × ShowsItems atoms ps ps shown
+some_shown : (atoms : List SolidAtom) (ps : List ℕ) → AtMostTwice atoms → AreItems atoms ps → (shown : List FoldedItem) × ShowsItems atoms ps ps shown
 some_shown atoms ps few are =
     let S : Region = region atoms no_region [] in
     let few_in : FewIn (region_process S) = λ x. let n = few x in omega (arith, n) in
@@ -51,7 +52,7 @@ some_shown atoms ps few are =
 
 -- marks of items
 
-item_mark : (s : Heap) (a : ℕ) → (own_mark s a ≡ 1) ⊎ (own_mark s a ≡ 2) → is_item s a ≡ true
+pub item_mark : (s : Heap) (a : ℕ) → (own_mark s a ≡ 1) ⊎ (own_mark s a ≡ 2) → is_item s a ≡ true
 item_mark s a (inl e) = ap (λ t. t || (own_mark s a == 2)) (eq-eqb (own_mark s a) 1 e)
 item_mark s a (inr e) = by (own_mark s a == 1) (own_mark s a == 2) (eq-eqb (own_mark s a) 2 e)
   where
@@ -59,7 +60,7 @@ item_mark s a (inr e) = by (own_mark s a == 1) (own_mark s a == 2) (eq-eqb (own_
     by true u e = refl
     by false u e = e
 
-mark_item : (s : Heap) (a : ℕ) → is_item s a ≡ true → (own_mark s a ≡ 1) ⊎ (own_mark s a ≡ 2)
+pub mark_item : (s : Heap) (a : ℕ) → is_item s a ≡ true → (own_mark s a ≡ 1) ⊎ (own_mark s a ≡ 2)
 mark_item s a e = by (own_mark s a == 1) refl (own_mark s a == 2) refl e
   where
     by : (t : Bool) → (own_mark s a == 1) ≡ t → (u : Bool) → (own_mark s a == 2) ≡ u → (t || u) ≡ true → (own_mark s a ≡ 1) ⊎ (own_mark s a ≡ 2)
@@ -108,7 +109,7 @@ module _ (names : List Name) (s : Heap) (valid : Valid s) (name : ℕ → ℕ �
       there : (n p k : ℕ) → IsChildAt s n c p k → IsChildAt s m c a i
       there n p k h =
           let port : arity_of s c - 1 ≡ j = omega (arith, last) in
-          let same = same_ports p k a i (sym h.joined ∙ ap (link_of s c) port ∙ l) in
+          let same = same_port (sym h.joined ∙ ap (link_of s c) port ∙ l) in
           let home : n ≡ m = one_home n (subst (λ q. In q (atoms_in s n)) same.0 h.parent) in
           subst (λ o. IsChildAt s o c a i) home (subst (λ q. IsChildAt s n c q i) same.0 (subst (λ o. IsChildAt s n c p o) same.1 h))
 
@@ -147,31 +148,31 @@ module _ (names : List Name) (s : Heap) (valid : Valid s) (name : ℕ → ℕ �
       no_item true f = absurd (out (item_has names s valid name naming m marks q c e (mark_item s c f)))
 
   mutual
-    one_printed : (p k x : ℕ) (t : Term) → Shows atoms here p k x t → (a : ℕ) → slice_get (atoms_in s m) p ≡ Some a → x ≡ name a k → Prints names s name a k t
-    one_printed p k x _ (as_link h) a at e = subst (λ y. Prints names s name a k (link y)) (sym e) (printed.as_link (no_term p k a at h))
+    one_printed : (p k x : ℕ) (t : FoldedTerm) → Shows atoms here p k x t → (a : ℕ) → slice_get (atoms_in s m) p ≡ Some a → x ≡ name a k → PrintsArgument names s name a k t
+    one_printed p k x _ (as_link h) a at e = subst (λ y. PrintsArgument names s name a k (link y)) (sym e) (printed.as_link (no_term p k a at h))
     one_printed p k x _ (as_term {q = q} {ts = ts} c out inside) a at e =
         let b = atom_behind names s name (atoms_in s m) q c.child c.child_at in
-        let f = functor_is names s name b.0 (listed_is s valid.sound m b.0 (in_at (atoms_in s m) q b.0 b.1)) in
+        let f = functor_is names s name b.0 (all_atoms s valid.sound m b.0 (in_at (atoms_in s m) q b.0 b.1)) in
         let label = ap (λ (y : SolidAtom). y.label) b.2 ∙ f.2 in
         let links = (child_is names s valid name naming m q p k b.0 b.1 c).2 in
-        subst (λ l. Prints names s name a k (labelled l ts)) (sym label)
+        subst (λ l. PrintsArgument names s name a k (labelled l ts)) (sym label)
         (printed.as_term b.0 f.0 (is_term q p k b.0 a b.1 at c out) f.1 (all_printed q 0 c.first_links ts inside b.0 b.1 (arity_of s b.0 - 1) links))
 
-    all_printed : (p k : ℕ) (ls : List ℕ) (ts : Terms) → ShowsAll atoms here p k ls ts → (a : ℕ) → slice_get (atoms_in s m) p ≡ Some a → (n : ℕ) → ls ≡ numbered name a k n
+    all_printed : (p k : ℕ) (ls : List ℕ) (ts : FoldedTerms) → ShowsAll atoms here p k ls ts → (a : ℕ) → slice_get (atoms_in s m) p ≡ Some a → (n : ℕ) → ls ≡ links_from name a k n
         → PrintsAll names s name a k n ts
     all_printed p k _ _ folding.none a at zero e = printed.none
     all_printed p k _ _ folding.none a at (suc n) e = absurd (cc e)
     all_printed p k _ _ (folding.more h hs) a at zero e = absurd (cc e)
     all_printed p k _ _ (folding.more {x = x} {xs = xs} {t = t} {ts = ts} h hs) a at (suc n) e =
         let next : suc k ≡ k + 1 = omega arith in
-        let others = all_printed p (suc k) xs ts hs a at n (rest_is x xs (name a k) (numbered name a (k + 1) n) e ∙ ap (λ i. numbered name a i n) (sym next)) in
-        printed.more (one_printed p k x t h a at (first_is x xs (name a k) (numbered name a (k + 1) n) e)) (subst (λ i. PrintsAll names s name a i n ts) next others)
+        let others = all_printed p (suc k) xs ts hs a at n (rest_is x xs (name a k) (links_from name a (k + 1) n) e ∙ ap (λ i. links_from name a i n) (sym next)) in
+        printed.more (one_printed p k x t h a at (first_is x xs (name a k) (links_from name a (k + 1) n) e)) (subst (λ i. PrintsAll names s name a i n ts) next others)
 
-  items_printed : (ps zs : List ℕ) (shown : List Item) → StandAt (atoms_in s m) ps zs → ShowsItems atoms here ps shown → PrintsItems names s name zs shown
+  items_printed : (ps zs : List ℕ) (shown : List FoldedItem) → StandAt (atoms_in s m) ps zs → ShowsItems atoms here ps shown → PrintsItems names s name zs shown
   items_printed _ _ _ by_marks.none folding.none = chosen.none
   items_printed _ _ _ (by_marks.more {p = p} {a = a} {ps = ps} {ys = zs} at st) (folding.more {ts = ts} {is = is} x e h hs) =
       let same : x ≡ atom_with names s name a = same_Some x (atom_with names s name a) (sym e ∙ atom_at names s name (atoms_in s m) p a at) in
-      let f = functor_is names s name a (listed_is s valid.sound m a (in_at (atoms_in s m) p a at)) in
+      let f = functor_is names s name a (all_atoms s valid.sound m a (in_at (atoms_in s m) p a at)) in
       chosen.more (record {
         functor = f.0;
         is = f.1;
@@ -184,7 +185,7 @@ module _ (names : List Name) (s : Heap) (valid : Valid s) (name : ℕ → ℕ �
       let few = few_places names s name naming (atoms_in s m) (valid.sound.listed.atoms_once m) in
       let are = are_items names s valid name naming m marks in
       let some = some_shown atoms here few are in
-      let same : atoms ≡ atoms_with names s name m = sym (atoms_are names s valid.sound name (atoms_in s m) (listed_is s valid.sound m)) in
+      let same : atoms ≡ atoms_with names s name m = sym (atoms_are names s valid.sound name (atoms_in s m) (all_atoms s valid.sound m)) in
       record {
         shown = some.0;
         prints = items_printed here (items_in s m) some.0 (items_stand names s valid name naming m marks) some.1;

@@ -1,12 +1,13 @@
 -- Each link stands at most twice among different atoms of a heap.
 use Rattle.std.proofs.Common.{◌≡◌, ◌≢◌, ℕ, zero, suc, ◌+◌, ◌<◌, ◌≤◌, ◌⊎◌, List, [], ◌∷◌, Some, refl, sym, ◌∙◌, subst, inl, inr, arith}
 use Rattle.lmn_congruence.specs.Links.{one_if_same, places}
-use Rattle.lmn_congruence.proofs.Counts.{one_if_equal, none_if_apart, same_or_not}
+use Rattle.lmn_congruence.proofs.Counts.{one_if_equal, none_if_apart}
 use Rattle.lmn_heap.specs.Heap.{Heap, arity_of, link_of}
 use Rattle.lmn_heap.specs.Lists.{In, Each, Distinct}
-use Rattle.lmn_heap.specs.Solid.{IsNaming, numbered}
+use Rattle.lmn_heap.specs.Solid.{IsNaming, links_from}
 use Rattle.lmn_heap.proofs.ListLemmas.{each_in}
-use Rattle.lmn_printer.proofs.NumberLemmas.{same_ports}
+use Rattle.lmn_base.proofs.Numbers.{same_or_not}
+use Rattle.lmn_heap.proofs.Common.{same_port}
 
 -- a port of the atom c from k on, or of an atom of the list
 abbrev Among : ℕ → ℕ → List ℕ → ℕ → ℕ → Type 0
@@ -27,7 +28,7 @@ data Ports (s : Heap) (name : ℕ → ℕ → ℕ) (x c k : ℕ) (xs : List ℕ)
 -- how often a link stands at the ports of these atoms
 abbrev pub times : Heap → (ℕ → ℕ → ℕ) → ℕ → List ℕ → ℕ
 times s name x [] = 0
-times s name x (c ∷ xs) = places x (numbered name c 0 (arity_of s c)) + times s name x xs
+times s name x (c ∷ xs) = places x (links_from name c 0 (arity_of s c)) + times s name x xs
 
 module _ (s : Heap) (name : ℕ → ℕ → ℕ) (naming : IsNaming s name) (x : ℕ) where
   moved_one : (c k e i : ℕ) (xs ys : List ℕ) → ((b j : ℕ) → Among c k xs b j → Among e i ys b j) → (b j : ℕ) → Stands s name x c k xs b j → Stands s name x e i ys b j
@@ -60,7 +61,7 @@ module _ (s : Heap) (name : ℕ → ℕ → ℕ) (naming : IsNaming s name) (x :
     one_more e _ none = one c k (here e)
     one_more e _ (one b j h) = two c k b j (here e) (moved_one c (k + 1) c k xs xs wider b j h) (fresh b j h.among)
     one_more e _ (two b j d l h g u) =
-        let same = same_ports b j d l (sym (joined e b j h) ∙ joined e d l g) in
+        let same = same_port (sym (joined e b j h) ∙ joined e d l g) in
         absurd (u same.0 same.1)
 
     next : (n : ℕ) → Ports s name x c (k + 1) xs n → Ports s name x c k xs (one_if_same x (name c k) + n)
@@ -70,7 +71,7 @@ module _ (s : Heap) (name : ℕ → ℕ → ℕ) (naming : IsNaming s name) (x :
     ]
 
   from_port : (c : ℕ) (xs : List ℕ) → Each (λ y. c ≢ y) xs → (k n m : ℕ) → k + n ≤ arity_of s c → Ports s name x c (k + n) xs m
-      → Ports s name x c k xs (places x (numbered name c k n) + m)
+      → Ports s name x c k xs (places x (links_from name c k n) + m)
   from_port c xs apart k zero m l h =
       let at : k + 0 ≡ k = omega arith in
       let count : m ≡ 0 + m = omega arith in
@@ -78,8 +79,8 @@ module _ (s : Heap) (name : ℕ → ℕ → ℕ) (naming : IsNaming s name) (x :
   from_port c xs apart k (suc n) m l h =
       let at : k + suc n ≡ (k + 1) + n = omega arith in
       let others = from_port c xs apart (k + 1) n m (omega (arith, l)) (subst (λ i. Ports s name x c i xs m) at h) in
-      let count : one_if_same x (name c k) + (places x (numbered name c (k + 1) n) + m) ≡ (one_if_same x (name c k) + places x (numbered name c (k + 1) n)) + m = omega arith in
-      subst (Ports s name x c k xs) count (next c k xs apart (omega (arith, l)) (places x (numbered name c (k + 1) n) + m) others)
+      let count : one_if_same x (name c k) + (places x (links_from name c (k + 1) n) + m) ≡ (one_if_same x (name c k) + places x (links_from name c (k + 1) n)) + m = omega arith in
+      subst (Ports s name x c k xs) count (next c k xs apart (omega (arith, l)) (places x (links_from name c (k + 1) n) + m) others)
 
   all_ports : (xs : List ℕ) → Distinct xs → (d : ℕ) → Ports s name x d (arity_of s d) xs (times s name x xs)
   all_ports [] distinct d = none

@@ -1,7 +1,6 @@
 -- Children of atoms in a heap, and own marks that tell which atoms of a membrane are items.
 use Rattle.std.specs.Prelude.{ℕ, ◌≡◌, ◌≢◌, ◌<◌, ◌+◌, ◌-◌, ◌⊎◌, Some}
-use Rattle.lmn_folding.specs.Marks.{own_mark}
-use Rattle.lmn_heap.specs.Heap.{Heap, IsMem, arity_of, atoms_in, link_of}
+use Rattle.lmn_heap.specs.Heap.{Heap, IsMem, arity_of, atoms_in, link_of, own_mark}
 use Rattle.lmn_heap.specs.Lists.{In, after}
 use Rattle.lmn_heap.specs.Sound.{Valid}
 use Rattle.lmn_items.specs.Chosen.{AreChosen}

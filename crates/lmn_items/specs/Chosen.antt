@@ -4,16 +4,11 @@ use Rattle.lmn_congruence.specs.Regions.{SolidAtom}
 use Rattle.lmn_congruence.specs.Rules.{Name}
 use Rattle.lmn_congruence.specs.Translation.{solid_atom_of}
 use Rattle.lmn_folded.specs.Folding.{AreItems, ShowsItems}
-use Rattle.lmn_folded.specs.Terms.{Item}
-use Rattle.lmn_folding.specs.Marks.{own_mark}
+use Rattle.lmn_folded.specs.Terms.{FoldedItem}
 use Rattle.lmn_folding.specs.Printed.{PrintsItem}
-use Rattle.lmn_heap.specs.Heap.{Heap, IsMem, arity_of, atoms_in, mark_of}
-use Rattle.lmn_heap.specs.Solid.{IsNaming, atoms_of}
+use Rattle.lmn_heap.specs.Heap.{Heap, IsMem, arity_of, atoms_in, mark_of, own_mark}
+use Rattle.lmn_heap.specs.Solid.{IsNaming, solid_atoms_at}
 use Rattle.lmn_printer.specs.Numbers.{remarked}
-
--- every mark of every atom is 0
-abbrev pub AllUnmarked : Heap → Type 0
-AllUnmarked s = (a i : ℕ) → mark_of s a i ≡ 0
 
 -- t is s with other own marks
 pub record ChangesOwnMarks (s t : Heap) : Type 0 where
@@ -31,17 +26,17 @@ items_in s m = marked_in s 1 m ++ marked_in s 2 m
 
 -- the atoms of a membrane, with numbers for their links
 abbrev pub atoms_with : List Name → Heap → (ℕ → ℕ → ℕ) → ℕ → List SolidAtom
-atoms_with names s name m = map (solid_atom_of names) (atoms_of s name (atoms_in s m))
+atoms_with names s name m = map (solid_atom_of names) (solid_atoms_at s name (atoms_in s m))
 
 -- what is printed of each of these atoms
-pub data PrintsItems (names : List Name) (s : Heap) (name : ℕ → ℕ → ℕ) : List ℕ → List Item → Type 0 where
+pub data PrintsItems (names : List Name) (s : Heap) (name : ℕ → ℕ → ℕ) : List ℕ → List FoldedItem → Type 0 where
   none : PrintsItems names s name [] []
-  more : {a : ℕ} {others : List ℕ} {i : Item} {is : List Item} → PrintsItem names s name a i → PrintsItems names s name others is →
+  more : {a : ℕ} {others : List ℕ} {i : FoldedItem} {is : List FoldedItem} → PrintsItem names s name a i → PrintsItems names s name others is →
       PrintsItems names s name (a ∷ others) (i ∷ is)
 
 -- What is printed of the items of a membrane is the folded form of its atoms.
 pub record TellsItems (names : List Name) (s : Heap) (name : ℕ → ℕ → ℕ) (m : ℕ) : Type 0 where
-  pub shown : List Item
+  pub shown : List FoldedItem
   pub prints : PrintsItems names s name (items_in s m) shown
   pub items : List ℕ
   pub are : AreItems (atoms_with names s name m) items

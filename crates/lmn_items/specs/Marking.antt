@@ -1,16 +1,18 @@
 -- How own marks are set (own contracts alone): those of atoms that are no child, then those of the terms in them, then the others.
 use Rattle.std.specs.Prelude.{ℕ, ◌≡◌, ◌≢◌, ◌<◌, ◌+◌, ◌-◌, ◌⊎◌, ◌↔◌, Some}
-use Rattle.lmn_folding.specs.Marks.{own_mark, arguments, term_at}
-use Rattle.lmn_heap.specs.Heap.{Heap, IsAtom, arity_of, atoms_in, home_of, link_of}
+use Rattle.lmn_folding.specs.Marks.{argument_count, term_at}
+use Rattle.lmn_heap.specs.Heap.{Heap, IsAtom, arity_of, atoms_in, home_of, link_of, own_mark}
 use Rattle.lmn_heap.specs.Lists.{In, after}
 use Rattle.lmn_items.specs.Chosen.{ChangesOwnMarks}
 use Rattle.lmn_items.specs.Children.{IsChildAt, DescendsAt}
 
-abbrev pub IsNoChild : Heap → ℕ → Type 0
-IsNoChild s a = (m p k : ℕ) → ¬ (IsChildAt s m a p k)
+-- the atom is a child in no membrane
+abbrev pub IsChildNowhere : Heap → ℕ → Type 0
+IsChildNowhere s a = (m p k : ℕ) → ¬ (IsChildAt s m a p k)
 
-abbrev pub IsSomeChild : Heap → ℕ → Type 0
-IsSomeChild s a = (m : ℕ) × (p : ℕ) × (k : ℕ) × IsChildAt s m a p k
+-- and in some membrane it is one
+abbrev pub IsChildSomewhere : Heap → ℕ → Type 0
+IsChildSomewhere s a = (m : ℕ) × (p : ℕ) × (k : ℕ) × IsChildAt s m a p k
 
 -- two atoms stand in one membrane
 abbrev pub AreBeside : Heap → ℕ → ℕ → Type 0
@@ -30,17 +32,17 @@ TellsBefore s q =
 
 -- Exactly the atoms that are no child have the mark 1, and all others 0.
 abbrev pub AreFirsts : Heap → Type 0
-AreFirsts s = (a : ℕ) → IsAtom s a → ((own_mark s a ≡ 1) × IsNoChild s a) ⊎ ((own_mark s a ≡ 0) × IsSomeChild s a)
+AreFirsts s = (a : ℕ) → IsAtom s a → ((own_mark s a ≡ 1) × IsChildNowhere s a) ⊎ ((own_mark s a ≡ 0) × IsChildSomewhere s a)
 
 -- t is s with the mark 1 for an atom that had 0, where it is no child
 pub record MarksFirst (s t : Heap) (a : ℕ) : Type 0 where
   pub marks : ChangesOwnMarks s t
-  pub here : ((own_mark t a ≡ 1) × IsNoChild s a) ⊎ ((own_mark t a ≡ 0) × IsSomeChild s a)
+  pub here : ((own_mark t a ≡ 1) × IsChildNowhere s a) ⊎ ((own_mark t a ≡ 0) × IsChildSomewhere s a)
   pub others : (b : ℕ) → b ≢ a → own_mark t b ≡ own_mark s b
 
 -- at the port k of the atom p the atom c is printed as a term
 pub record IsTermAt (s : Heap) (p k c : ℕ) : Type 0 where
-  pub low : k < arguments s p
+  pub low : k < argument_count s p
   pub term : term_at s p k ≡ Some c
 
 -- the terms in an item, the terms in those, and so on
@@ -65,7 +67,7 @@ MarksLater s t a = ((own_mark s a ≡ 0) × (u : Heap) × SetsOwnMark s u a 2 ×
 -- What descends from an atom that is no child is marked. The mark 3 says that an atom does.
 pub record AreShown (s : Heap) : Type 0 where
   pub each : (a : ℕ) → IsAtom s a → (own_mark s a ≡ 0) ⊎ (own_mark s a ≡ 1) ⊎ (own_mark s a ≡ 3)
-  pub first : (a : ℕ) → IsAtom s a → own_mark s a ≡ 1 → IsNoChild s a
-  pub others : (a : ℕ) → IsAtom s a → own_mark s a ≢ 1 → IsSomeChild s a
+  pub first : (a : ℕ) → IsAtom s a → own_mark s a ≡ 1 → IsChildNowhere s a
+  pub others : (a : ℕ) → IsAtom s a → own_mark s a ≢ 1 → IsChildSomewhere s a
   pub term : (a : ℕ) → IsAtom s a → own_mark s a ≡ 3 → (m : ℕ) × (i : ℕ) × In i (atoms_in s m) × (own_mark s i ≡ 1) × DescendsAt s m i a
   pub below : (m p c k : ℕ) → IsChildAt s m c p k → own_mark s p ≢ 0 → own_mark s c ≢ 0

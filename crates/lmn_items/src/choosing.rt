@@ -1,9 +1,8 @@
 //! Which atoms are items: those that are no child, and then, in list order, each above which there is no item so far.
 ghost use Rattle.std.specs.Prelude.{◌≡◌, ℕ};
-ghost use Rattle.lmn_folding.specs.Marks.{own_mark};
-ghost use Rattle.lmn_heap.specs.Heap.{IsAtom, IsMem};
+ghost use Rattle.lmn_heap.specs.Heap.{IsAtom, IsMem, own_mark, Unmarked};
 ghost use Rattle.lmn_heap.specs.Sound.{Valid};
-ghost use Rattle.lmn_items.specs.Chosen.{AllUnmarked, AreChosen, ChangesOwnMarks};
+ghost use Rattle.lmn_items.specs.Chosen.{AreChosen, ChangesOwnMarks};
 ghost use Rattle.lmn_items.specs.Children.{IsMarkedIn};
 ghost use Rattle.lmn_items.specs.Marking.{AreFirsts, AreShown, MarksFirst, MarksLater, MarksTermsIfFirst, TellsBefore};
 
@@ -17,7 +16,7 @@ use lmn_store::LinkStore;
 /// 3 where it is a term in one. It takes no memory and changes nothing else.
 pub fn choose_items<S: LinkStore>(store: &mut S)
     requires valid { Valid (S.heap store.old) }
-    requires unmarked { AllUnmarked (S.heap store.old) }
+    requires unmarked { Unmarked (S.heap store.old) }
     ensures marks { ChangesOwnMarks (S.heap store.old) (S.heap store.new) }
     ensures marked { (m : ℕ) → IsMem (S.heap store.new) m → IsMarkedIn (S.heap store.new) m }
     ensures chosen { AreChosen (S.heap store.new) }
@@ -30,7 +29,7 @@ pub fn choose_items<S: LinkStore>(store: &mut S)
 /// Marks each atom that is no child.
 fn mark_firsts<S: LinkStore>(store: &mut S)
     requires valid { Valid (S.heap store.old) }
-    requires unmarked { AllUnmarked (S.heap store.old) }
+    requires unmarked { Unmarked (S.heap store.old) }
     ensures valid { Valid (S.heap store.new) }
     ensures marks { ChangesOwnMarks (S.heap store.old) (S.heap store.new) }
     ensures firsts { AreFirsts (S.heap store.new) }

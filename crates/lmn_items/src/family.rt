@@ -1,9 +1,8 @@
 //! Atoms that are children of others, and own marks that are set.
 ghost use Rattle.std.specs.Prelude.{◌≡◌, ◌+◌, ◌-◌, ◌<◌, ◌↔◌, ◌⊎◌, IsTrue, true, false, Some};
-ghost use Rattle.lmn_folding.specs.Marks.{own_mark};
-ghost use Rattle.lmn_heap.specs.Heap.{IsAtom, arity_of, link_of};
+ghost use Rattle.lmn_heap.specs.Heap.{IsAtom, arity_of, link_of, own_mark};
 ghost use Rattle.lmn_heap.specs.Sound.{Valid};
-ghost use Rattle.lmn_items.specs.Marking.{AreBeside, IsNoChild, IsSomeChild, SetsOwnMark, TellsBefore};
+ghost use Rattle.lmn_items.specs.Marking.{AreBeside, IsChildNowhere, IsChildSomewhere, SetsOwnMark, TellsBefore};
 
 use lmn_folding::{arity, own_mark};
 use lmn_store::LinkStore;
@@ -52,8 +51,8 @@ pub(crate) fn is_child<S: LinkStore>(store: &S, atom: S::Atom) -> bool
     requires valid { Valid (S.heap store.now) }
     requires atom { IsAtom (S.heap store.now) (S.atom_id atom) }
     requires before { TellsBefore (S.heap store.now) (S.atom_id atom) }
-    ensures child { result ≡ true → IsSomeChild (S.heap store.now) (S.atom_id atom) }
-    ensures none { result ≡ false → IsNoChild (S.heap store.now) (S.atom_id atom) }
+    ensures child { result ≡ true → IsChildSomewhere (S.heap store.now) (S.atom_id atom) }
+    ensures none { result ≡ false → IsChildNowhere (S.heap store.now) (S.atom_id atom) }
 {
     let ports = arity(store, atom);
     if ports == 0 {
@@ -74,8 +73,8 @@ fn is_child_at<S: LinkStore>(store: &S, atom: S::Atom, parent: S::Atom, port: u8
     requires parent { IsAtom (S.heap store.now) (S.atom_id parent) }
     requires port { port < arity_of (S.heap store.now) (S.atom_id parent) }
     requires before { TellsBefore (S.heap store.now) (S.atom_id atom) }
-    ensures child { result ≡ true → IsSomeChild (S.heap store.now) (S.atom_id atom) }
-    ensures none { result ≡ false → IsNoChild (S.heap store.now) (S.atom_id atom) }
+    ensures child { result ≡ true → IsChildSomewhere (S.heap store.now) (S.atom_id atom) }
+    ensures none { result ≡ false → IsChildNowhere (S.heap store.now) (S.atom_id atom) }
 {
     if store.same_atom(atom, parent) {
         return false;

@@ -9,15 +9,16 @@ use Rattle.lmn_lexer.specs.declared.token.Kind.{Kind}
 use Rattle.lmn_lexer.specs.declared.token.Kind.TheVariants.{Name, Quoted, Mod, Link, Int, Context, RuleCtx, LParen, RParen, LBracket, RBracket, LBrace, RBrace, Comma, Dot, Arrow, AtAt, Bar, Equal, Less, LessEq, Greater, GreaterEq, NumEq, NumNe, Differ, Plus, Minus, Star, Slash}
 use Rattle.lmn_lexer.specs.declared.token.Token.{Token}
 use Rattle.lmn_lexer.specs.declared.piece.Piece.TheVariants as piece
-use Rattle.lmn_lexer.specs.Spelling.{goes_on, begins_link, begins_context, IsWord, IsWordBehind, IsDigits, IsInteger, IsQuoted, Spells}
+use Rattle.lmn_lexer.specs.Spelling.{goes_on, begins_link, begins_context, IsWord, IsWordBehind, IsDigits, IsIntegerSpelling, IsQuoted, Spells}
 use Rattle.lmn_lexer.specs.Gaps.{separator}
 use Rattle.lmn_lexer.specs.Cutting.{BeginsToken, gap, token, Reaches, onward, minus_behind, token_at}
 use Rattle.lmn_lexer.specs.Scanning.{digit_bytes, word_kind, quoted_behind, piece_of}
 use Rattle.lmn_lexer.proofs.Runs.{run_exact}
-use Rattle.lmn_lexer.specs.Laying.{Stops, Separated, MayFollow}
-use Rattle.lmn_lexer.proofs.Exact.{lower_piece, link_piece, digit_piece, context_goes_on, context_not_at}
+use Rattle.lmn_lexer.specs.Laying.{NoneStandsFirst, Separated, MayFollow}
+use Rattle.lmn_lexer.proofs.Exact.{lower_piece, link_piece, digit_piece, context_not_at}
 use Rattle.lmn_lexer.proofs.OnePiece.{not_mod, quoted_past, gap_piece}
 use Rattle.lmn_lexer.proofs.Determined.{token_stands, token_found, same_front}
+use Rattle.lmn_lexer.proofs.Found.{context_goes_on}
 
 -- steps
 
@@ -54,7 +55,7 @@ pub blank_first : (minus : Bool) (b : ℕ) (after : List ℕ) → is_ascii_white
 blank_first minus b after s = gap_piece minus (separator b after s)
 
 -- a name that isn't quoted
-name_first : (minus : Bool) (bytes after : List ℕ) → IsWord is_ascii_lowercase bytes → Stops goes_on after → IsFirst minus (word_kind bytes) bytes after
+name_first : (minus : Bool) (bytes after : List ℕ) → IsWord is_ascii_lowercase bytes → NoneStandsFirst goes_on after → IsFirst minus (word_kind bytes) bytes after
 name_first minus [] after h s = absurd h
 name_first minus (b ∷ bs) after h s =
     let run = run_exact goes_on bs after h.1 s in
@@ -64,36 +65,36 @@ name_first minus (b ∷ bs) after h s =
     ∙ ap (λ x. piece.Token (word_kind x) (length (b ∷ bs))) (take_at (b ∷ bs) after (length (b ∷ bs)) refl)
 
 -- the same, or `mod`
-word_text : (minus : Bool) (kind : Kind) (bytes after : List ℕ) → IsWord is_ascii_lowercase bytes → word_kind bytes ≡ kind → Stops goes_on after
+word_text : (minus : Bool) (kind : Kind) (bytes after : List ℕ) → IsWord is_ascii_lowercase bytes → word_kind bytes ≡ kind → NoneStandsFirst goes_on after
     → IsFirst minus kind bytes after
 word_text minus kind bytes after h k s = name_first minus bytes after h s ∙ ap (λ x. piece.Token x (length bytes)) k
 
 -- digits
-digits_first : (minus : Bool) (bytes after : List ℕ) → IsDigits bytes → Stops is_ascii_digit after → IsFirst minus Int bytes after
+digits_first : (minus : Bool) (bytes after : List ℕ) → IsDigits bytes → NoneStandsFirst is_ascii_digit after → IsFirst minus Int bytes after
 digits_first minus [] after h s = absurd h
 digits_first minus (b ∷ bs) after h s =
     let run = run_exact is_ascii_digit bs after h.1 s in
     digit_piece minus b (bs ++ after) h.0 ∙ ap (λ m. piece.Token Int m) (omega arith)
 
 -- a `-` and digits, where it may begin an integer
-negative_first : (bytes after : List ℕ) → IsDigits bytes → Stops is_ascii_digit after → IsFirst true Int (45 ∷ bytes) after
+negative_first : (bytes after : List ℕ) → IsDigits bytes → NoneStandsFirst is_ascii_digit after → IsFirst true Int (45 ∷ bytes) after
 negative_first [] after h s = absurd h
 negative_first (b ∷ bs) after h s =
     let run = run_exact is_ascii_digit (b ∷ bs) after (h.0, h.1) s in
     ap (λ t. if t then piece.Token Int (1 + digit_bytes (b ∷ (bs ++ after))) else piece.Token Minus 1) h.0 ∙ ap (λ m. piece.Token Int m) (omega arith)
 
-integer_first : (minus : Bool) (bytes after : List ℕ) → IsInteger minus bytes → Stops is_ascii_digit after → IsFirst minus Int bytes after
+integer_first : (minus : Bool) (bytes after : List ℕ) → IsIntegerSpelling minus bytes → NoneStandsFirst is_ascii_digit after → IsFirst minus Int bytes after
 integer_first minus [] after h s = absurd h
 integer_first minus (b ∷ bs) after (inl h) s = digits_first minus (b ∷ bs) after h s
 integer_first minus (b ∷ bs) after (inr (m, e, h)) s =
     ap (λ x. piece_of minus (x ∷ (bs ++ after))) e ∙ ap (λ x. piece_of x (45 ∷ (bs ++ after))) m ∙ negative_first bs after h s
 
-closed_here : (n : ℕ) (after : List ℕ) → Stops (λ b. b == 39) after → quoted_behind n (39 ∷ after) ≡ piece.Token Quoted (n + 1)
+closed_here : (n : ℕ) (after : List ℕ) → NoneStandsFirst (λ b. b == 39) after → quoted_behind n (39 ∷ after) ≡ piece.Token Quoted (n + 1)
 closed_here n [] h = refl
 closed_here n (c ∷ cs) h = ap (λ t. if t then quoted_behind (n + 2) cs else piece.Token Quoted (n + 1)) h
 
 -- a name in quotes
-quoted_first : (minus : Bool) (bytes name after : List ℕ) → IsQuoted bytes name → Stops (λ b. b == 39) after → IsFirst minus Quoted bytes after
+quoted_first : (minus : Bool) (bytes name after : List ℕ) → IsQuoted bytes name → NoneStandsFirst (λ b. b == 39) after → IsFirst minus Quoted bytes after
 quoted_first minus bytes name after q h =
     let size = length-append q.inside (39 ∷ []) in
     let long : 1 + length q.inside + 1 ≡ length bytes = let l = ap length q.stands in omega arith in
@@ -105,18 +106,18 @@ sign_first : (minus : Bool) (kind : Kind) (bytes sign after : List ℕ) → byte
 sign_first minus kind bytes sign after e h = let P : List ℕ → Type 0 = λ x. IsFirst minus kind x after in subst P (sym e) h
 
 -- a link
-link_first : (minus : Bool) (bytes after : List ℕ) → IsWord begins_link bytes → Stops goes_on after → IsFirst minus Link bytes after
+link_first : (minus : Bool) (bytes after : List ℕ) → IsWord begins_link bytes → NoneStandsFirst goes_on after → IsFirst minus Link bytes after
 link_first minus [] after h s = absurd h
 link_first minus (b ∷ bs) after h s =
     let run = run_exact goes_on bs after h.1 s in
     link_piece minus b (bs ++ after) h.0 ∙ ap (λ m. piece.Token Link m) (omega arith)
 
 -- the bytes of a context behind its sign
-context_run : (b : ℕ) (bs after : List ℕ) → IsWord begins_context (b ∷ bs) → Stops goes_on after
+context_run : (b : ℕ) (bs after : List ℕ) → IsWord begins_context (b ∷ bs) → NoneStandsFirst goes_on after
     → 1 + prefix_len goes_on (b ∷ (bs ++ after)) ≡ 1 + length (b ∷ bs)
 context_run b bs after h s = ap (λ m. 1 + m) (run_exact goes_on (b ∷ bs) after (context_goes_on b h.0, h.1) s)
 
-context_first : (minus : Bool) (bytes after : List ℕ) → IsWordBehind 36 begins_context bytes → Stops goes_on after → IsFirst minus Context bytes after
+context_first : (minus : Bool) (bytes after : List ℕ) → IsWordBehind 36 begins_context bytes → NoneStandsFirst goes_on after → IsFirst minus Context bytes after
 context_first minus [] after h s = absurd h
 context_first minus (c ∷ []) after h s = absurd h.1
 context_first minus (c ∷ b ∷ bs) after h s =
@@ -124,7 +125,7 @@ context_first minus (c ∷ b ∷ bs) after h s =
     ∙ ap (λ t. if t then piece.Token Context (1 + prefix_len goes_on (b ∷ (bs ++ after))) else piece.Wrong 2 0) h.1.0
     ∙ ap (λ m. piece.Token Context m) (let run = context_run b bs after h.1 s in omega arith)
 
-rule_context_first : (minus : Bool) (bytes after : List ℕ) → IsWordBehind 64 begins_context bytes → Stops goes_on after → IsFirst minus RuleCtx bytes after
+rule_context_first : (minus : Bool) (bytes after : List ℕ) → IsWordBehind 64 begins_context bytes → NoneStandsFirst goes_on after → IsFirst minus RuleCtx bytes after
 rule_context_first minus [] after h s = absurd h
 rule_context_first minus (c ∷ []) after h s = absurd h.1
 rule_context_first minus (c ∷ b ∷ bs) after h s =
@@ -159,7 +160,7 @@ minus_first false [] h = refl
 minus_first true (c ∷ cs) h = rw (separator_no_digit c h) refl
 minus_first false (c ∷ cs) h = refl
 
-bracket_first : (minus : Bool) (after : List ℕ) → Stops (λ b. b == 58) after → IsFirst minus LBracket (codes "[") after
+bracket_first : (minus : Bool) (after : List ℕ) → NoneStandsFirst (λ b. b == 58) after → IsFirst minus LBracket (codes "[") after
 bracket_first minus [] h = refl
 bracket_first minus (c ∷ cs) h = rw h refl
 

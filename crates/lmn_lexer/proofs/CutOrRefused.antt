@@ -10,27 +10,23 @@ use Rattle.lmn_lexer.specs.declared.piece.Piece.{Piece}
 use Rattle.lmn_lexer.specs.declared.piece.Piece.TheVariants as piece
 use Rattle.lmn_lexer.specs.Spelling.{IsQuoted}
 use Rattle.lmn_lexer.specs.Cutting.{Cuts, minus_behind}
-use Rattle.lmn_lexer.specs.Faults.{IsRefusal, NothingWrong, TokenFault, TooLong, InRange, BeginsFraction, value_behind, integer_out_of_range, long_name, floating_point}
+use Rattle.lmn_lexer.specs.Faults.{IsLexicalFault, NothingWrong, TokenFault, TooLong, SpelledInRange, BeginsFraction, value_behind, integer_out_of_range, long_name, floating_point}
 use Rattle.lmn_lexer.specs.Scanning.{piece_of}
 use Rattle.lmn_lexer.specs.Scanners.{IsCut}
 use Rattle.lmn_lexer.specs.Laws.{CutOrRefused}
-use Rattle.lmn_lexer.proofs.FaultLemmas.{quoted_size}
+use Rattle.lmn_lexer.proofs.FaultLemmas.{quoted_size, token_right}
 use Rattle.lmn_lexer.proofs.ScannedText.{cut_nothing, gap_bytes, token_bytes, quoted_bytes, gap_cut, token_cut, wrong_cut, fault_cut, whole_cut}
-
-abbrev Decided : Type 0 → Type 0
-Decided P = P ⊎ (P → ⊥)
-
-less_decided : (m n : ℕ) → Decided (m < n)
-less_decided m n = elim (leb_tells n m) [ inl h ↦ inr (λ l. let le = h.1 in omega (arith, l)) | inr h ↦ inl (h.1) ]
+use Rattle.lmn_base.proofs.Numbers.{less_decided}
+use Rattle.lmn_base.proofs.Truth.{Decided}
 
 most_decided : (m n : ℕ) → Decided (m ≤ n)
 most_decided m n = elim (leb_tells m n) [ inl h ↦ inl (h.1) | inr h ↦ inr (λ l. let less = h.1 in omega (arith, l)) ]
 
-range_decided : (bytes : List ℕ) → Decided (InRange bytes)
+range_decided : (bytes : List ℕ) → Decided (SpelledInRange bytes)
 range_decided [] = inr (λ h. h)
 range_decided (b ∷ bs) = by (eqb_tells b 45) (most_decided (value_behind 0 bs) (2 ^ 63)) (most_decided (value_behind 0 (b ∷ bs)) (2 ^ 63 - 1))
   where
-    by : {P Q : Type 0} → (P × (b ≡ 45)) ⊎ (Q × (b ≢ 45)) → Decided (value_behind 0 bs ≤ 2 ^ 63) → Decided (value_behind 0 (b ∷ bs) ≤ 2 ^ 63 - 1) → Decided (InRange (b ∷ bs))
+    by : {P Q : Type 0} → (P × (b ≡ 45)) ⊎ (Q × (b ≢ 45)) → Decided (value_behind 0 bs ≤ 2 ^ 63) → Decided (value_behind 0 (b ∷ bs) ≤ 2 ^ 63 - 1) → Decided (SpelledInRange (b ∷ bs))
     by (inl e) (inl h) k = inl (inl (e.1, h))
     by (inl e) (inr n) k = inr (λ r. ⊎_elim (λ x. n x.1) (λ x. x.0 e.1) r)
     by (inr e) h (inl k) = inl (inr (e.1, k))
@@ -46,11 +42,6 @@ fraction_decided (b ∷ d ∷ more) = by (eqb_tells b 46) (is_ascii_digit d) ref
     by (inl e) false h = inr (λ f. absurd (let same = f.2 in let digit = f.3 in cc))
     by (inr e) t h = inr (λ f. e.1 (let same = f.2 in cc))
 
-token_right : (kind : Kind) (bytes after : List ℕ) → ¬ (kind ≡ Int) → ¬ (TooLong kind bytes) → (code : ℕ) → TokenFault kind bytes after code → ⊥
-token_right kind bytes after k l _ (integer_out_of_range e g n) = k e
-token_right kind bytes after k l _ (long_name m) = l m
-token_right kind bytes after k l _ (floating_point e g) = k e
-
 abbrev FaultDecided : Kind → List ℕ → List ℕ → Type 0
 FaultDecided kind bytes after = ((code : ℕ) × TokenFault kind bytes after code) ⊎ ((code : ℕ) → TokenFault kind bytes after code → ⊥)
 
@@ -58,7 +49,7 @@ by_length : (kind : Kind) (bytes after : List ℕ) → ¬ (kind ≡ Int) → Dec
 by_length kind bytes after k (inl l) = inl (5, long_name l)
 by_length kind bytes after k (inr n) = inr (token_right kind bytes after k n)
 
-integer_decided : (bytes after : List ℕ) → Decided (BeginsFraction after) → Decided (InRange bytes) → FaultDecided Int bytes after
+integer_decided : (bytes after : List ℕ) → Decided (BeginsFraction after) → Decided (SpelledInRange bytes) → FaultDecided Int bytes after
 integer_decided bytes after (inl f) r = inl (6, floating_point refl f)
 integer_decided bytes after (inr n) (inr m) = inl (4, integer_out_of_range refl n m)
 integer_decided bytes after (inr n) (inl r) = inr right
@@ -109,7 +100,7 @@ fault_decided Star bytes after q = by_length Star bytes after (λ e. absurd (cc)
 fault_decided Slash bytes after q = by_length Slash bytes after (λ e. absurd (cc)) (inr (λ l. l))
 
 abbrev Answer : List ℕ → Type 0
-Answer text = ((tokens : List Token) × Cuts text tokens × NothingWrong text) ⊎ ((refusal : Refusal) × IsRefusal text refusal)
+Answer text = ((tokens : List Token) × Cuts text tokens × NothingWrong text) ⊎ ((refusal : Refusal) × IsLexicalFault text refusal)
 
 -- a text that is cut up to a place, with so many bytes left at most
 from_place : (n : ℕ) (text : List ℕ) (at : ℕ) (tokens : List Token) → IsCut text at tokens → length text ≤ at + n → Answer text

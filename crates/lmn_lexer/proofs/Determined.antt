@@ -11,9 +11,10 @@ use Rattle.lmn_lexer.specs.Gaps.{Gap, separator, percent, slashes, block}
 use Rattle.lmn_lexer.specs.Cutting.{BeginsToken}
 use Rattle.lmn_lexer.specs.Faults.{Wrong, bad_byte, bad_quoted_byte, open_quote, open_comment, wrong_token, string, inline_code, hyperlink, BeginsNoToken, TooLong, TokenFault, integer_out_of_range, long_name, floating_point, has_its_own}
 use Rattle.lmn_lexer.specs.Scanning.{piece_of}
-use Rattle.lmn_lexer.proofs.Found.{Stands, IsGap, IsPiece, found, head_is}
+use Rattle.lmn_lexer.proofs.Found.{Stands, IsGap, IsPiece, found}
 use Rattle.lmn_lexer.proofs.Exact.{IsFree, Covers, covered}
 use Rattle.lmn_lexer.proofs.OnePiece.{token_piece, gap_piece, bad_quoted_piece, open_quote_piece, open_comment_piece}
+use Rattle.lmn_base.proofs.Lists.{head_is}
 
 -- a byte without a row of its own
 

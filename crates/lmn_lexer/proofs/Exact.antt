@@ -9,30 +9,31 @@ use Rattle.lmn_lexer.specs.declared.token.Kind.{Kind}
 use Rattle.lmn_lexer.specs.declared.token.Kind.TheVariants.{Name, Quoted, Mod, Link, Int, Context, RuleCtx, End, LParen, RParen, LBracket, RBracket, LBrace, RBrace, Comma, Dot, Arrow, AtAt, Bar, Backslash, Equal, Less, LessEq, Greater, GreaterEq, NumEq, NumNe, Differ, Plus, Minus, Star, Slash}
 use Rattle.lmn_lexer.specs.declared.piece.Piece.{Piece}
 use Rattle.lmn_lexer.specs.declared.piece.Piece.TheVariants as piece
-use Rattle.lmn_lexer.specs.Spelling.{goes_on, begins_link, begins_context, is_quotable, AllPass, IsRun, IsWord, IsDigits, Quotes, nothing, quote, byte, Spells}
-use Rattle.lmn_lexer.specs.Gaps.{Begins}
-use Rattle.lmn_lexer.specs.Scanning.{follows, first_passes, word_bytes, digit_bytes, close_at, word_kind, word_at, slash_at, quoted_behind, equal_at, bracket_at, sign_piece, piece_of}
-use Rattle.lmn_lexer.proofs.Runs.{if_case, equal_when, run_at_least}
+use Rattle.lmn_lexer.specs.Spelling.{goes_on, begins_link, begins_context, is_quotable, AllPass, IsSpelledWith, IsWord, IsDigits, Quotes, nothing, quote, byte, Spells}
+use Rattle.lmn_lexer.specs.Scanning.{follows, first_passes, word_bytes, digit_bytes, close_at, word_kind, lowercase_at, slash_at, quoted_behind, equal_at, bracket_at, sign_piece, piece_of}
+use Rattle.lmn_lexer.proofs.Runs.{if_case, run_at_least}
 use Rattle.lmn_lexer.proofs.ScanLemmas.{quoted_steps, quoted_byte_next}
-use Rattle.lmn_lexer.proofs.Found.{found}
+use Rattle.lmn_lexer.proofs.Found.{found, context_goes_on}
+use Rattle.lmn_base.specs.Lists.{Begins}
+use Rattle.lmn_base.proofs.Numbers.{equal_when}
 
 -- words and numbers by their first byte
 
-pub lower_piece : (minus : Bool) (b : ℕ) (bs : List ℕ) → is_ascii_lowercase b ≡ true → piece_of minus (b ∷ bs) ≡ word_at (b ∷ bs)
+pub lower_piece : (minus : Bool) (b : ℕ) (bs : List ℕ) → is_ascii_lowercase b ≡ true → piece_of minus (b ∷ bs) ≡ lowercase_at (b ∷ bs)
 lower_piece minus b bs h =
     let space : is_ascii_whitespace b ≡ false = grind (arith, nat_tests) in
-    ap (λ t. if t then piece.Gap 1 else (if is_ascii_lowercase b then word_at (b ∷ bs)
+    ap (λ t. if t then piece.Gap 1 else (if is_ascii_lowercase b then lowercase_at (b ∷ bs)
     else (if begins_link b then piece.Token Link (1 + word_bytes bs) else (if is_ascii_digit b then piece.Token Int (1 + digit_bytes bs) else sign_piece minus b bs)))) space
-    ∙ ap (λ t. if t then word_at (b ∷ bs)
+    ∙ ap (λ t. if t then lowercase_at (b ∷ bs)
     else (if begins_link b then piece.Token Link (1 + word_bytes bs) else (if is_ascii_digit b then piece.Token Int (1 + digit_bytes bs) else sign_piece minus b bs))) h
 
 pub link_piece : (minus : Bool) (b : ℕ) (bs : List ℕ) → begins_link b ≡ true → piece_of minus (b ∷ bs) ≡ piece.Token Link (1 + word_bytes bs)
 link_piece minus b bs h =
     let space : is_ascii_whitespace b ≡ false = grind (arith, nat_tests) in
     let low : is_ascii_lowercase b ≡ false = grind (arith, nat_tests) in
-    ap (λ t. if t then piece.Gap 1 else (if is_ascii_lowercase b then word_at (b ∷ bs)
+    ap (λ t. if t then piece.Gap 1 else (if is_ascii_lowercase b then lowercase_at (b ∷ bs)
     else (if begins_link b then piece.Token Link (1 + word_bytes bs) else (if is_ascii_digit b then piece.Token Int (1 + digit_bytes bs) else sign_piece minus b bs)))) space
-    ∙ ap (λ t. if t then word_at (b ∷ bs)
+    ∙ ap (λ t. if t then lowercase_at (b ∷ bs)
     else (if begins_link b then piece.Token Link (1 + word_bytes bs) else (if is_ascii_digit b then piece.Token Int (1 + digit_bytes bs) else sign_piece minus b bs))) low
     ∙ ap (λ t. if t then piece.Token Link (1 + word_bytes bs) else (if is_ascii_digit b then piece.Token Int (1 + digit_bytes bs) else sign_piece minus b bs)) h
 
@@ -41,9 +42,9 @@ digit_piece minus b bs h =
     let space : is_ascii_whitespace b ≡ false = grind (arith, nat_tests) in
     let low : is_ascii_lowercase b ≡ false = grind (arith, nat_tests) in
     let link : begins_link b ≡ false = grind (arith, nat_tests) in
-    ap (λ t. if t then piece.Gap 1 else (if is_ascii_lowercase b then word_at (b ∷ bs)
+    ap (λ t. if t then piece.Gap 1 else (if is_ascii_lowercase b then lowercase_at (b ∷ bs)
     else (if begins_link b then piece.Token Link (1 + word_bytes bs) else (if is_ascii_digit b then piece.Token Int (1 + digit_bytes bs) else sign_piece minus b bs)))) space
-    ∙ ap (λ t. if t then word_at (b ∷ bs)
+    ∙ ap (λ t. if t then lowercase_at (b ∷ bs)
     else (if begins_link b then piece.Token Link (1 + word_bytes bs) else (if is_ascii_digit b then piece.Token Int (1 + digit_bytes bs) else sign_piece minus b bs))) low
     ∙ ap (λ t. if t then piece.Token Link (1 + word_bytes bs) else (if is_ascii_digit b then piece.Token Int (1 + digit_bytes bs) else sign_piece minus b bs)) link
     ∙ ap (λ t. if t then piece.Token Int (1 + digit_bytes bs) else sign_piece minus b bs) h
@@ -172,16 +173,13 @@ quoted_covered minus inside name after q =
 
 -- a word behind a sign
 sign_covered : (minus : Bool) (kind : Kind) (sign : ℕ) (first more : ℕ → Bool) (bs after : List ℕ) (found : Kind) (wrong : Piece) → ((b : ℕ) → first b ≡ true → more b ≡ true)
-    → IsRun first more bs → piece_of minus (sign ∷ (bs ++ after)) ≡ (if first_passes first (bs ++ after) then piece.Token found (1 + prefix_len more (bs ++ after)) else wrong)
+    → IsSpelledWith first more bs → piece_of minus (sign ∷ (bs ++ after)) ≡ (if first_passes first (bs ++ after) then piece.Token found (1 + prefix_len more (bs ++ after)) else wrong)
     → Covered minus kind (sign ∷ bs) after
 sign_covered minus kind sign first more [] after found wrong sub h e = absurd h
 sign_covered minus kind sign first more (b ∷ bs) after found wrong sub h e =
     let P : Piece → Type 0 = Covers (length (sign ∷ b ∷ bs)) (IsFree kind after (sign ∷ b ∷ (bs ++ after))) in
     let long = run_at_least more (b ∷ bs) after (sub b h.0, h.1) in
     subst P (sym (e ∙ ap (λ t. if t then piece.Token found (1 + prefix_len more (b ∷ (bs ++ after))) else wrong) h.0)) (omega arith)
-
-pub context_goes_on : (b : ℕ) → begins_context b ≡ true → goes_on b ≡ true
-context_goes_on b h = grind (arith, nat_tests)
 
 pub context_not_at : (b : ℕ) → begins_context b ≡ true → (b == 64) ≡ false
 context_not_at b h = grind (arith, nat_tests)

@@ -6,9 +6,14 @@ use Rattle.std.proofs.lemmas.List.{at_drop_more, at_drop_all, length-append}
 use Rattle.lmn_lexer.specs.Spelling.{Quotes, nothing, quote, byte, IsQuoted}
 use Rattle.lmn_lexer.specs.declared.token.Kind.{Kind}
 use Rattle.lmn_lexer.specs.declared.token.Kind.TheVariants.{Int}
-use Rattle.lmn_lexer.specs.Faults.{value_behind, TooLong, TokenFault, integer_out_of_range, long_name, floating_point}
+use Rattle.lmn_lexer.specs.Faults.{value_behind, TooLong, TokenFault, long_name, integer_out_of_range, floating_point}
 use Rattle.lmn_lexer.proofs.Runs.{count-cons, count-append}
 use Rattle.lmn_lexer.proofs.Exact.{quote_not_line}
+
+pub token_right : (kind : Kind) (bytes after : List ℕ) → ¬ (kind ≡ Int) → ¬ (TooLong kind bytes) → (code : ℕ) → TokenFault kind bytes after code → ⊥
+token_right kind bytes after k l _ (integer_out_of_range e g n) = k e
+token_right kind bytes after k l _ (long_name m) = l m
+token_right kind bytes after k l _ (floating_point e g) = k e
 
 pub value_grows : (n : ℕ) (ds : List ℕ) → n ≤ value_behind n ds
 value_grows n [] = omega arith
@@ -51,12 +56,7 @@ quoted_size bytes name q =
 
 -- faults of a token by its kind
 
-other_right : (kind : Kind) (bytes after : List ℕ) → ¬ (kind ≡ Int) → ¬ (TooLong kind bytes) → (code : ℕ) → TokenFault kind bytes after code → ⊥
-other_right kind bytes after k l _ (integer_out_of_range e g n) = k e
-other_right kind bytes after k l _ (long_name m) = l m
-other_right kind bytes after k l _ (floating_point e g) = k e
-
 pub long_or_right : (kind : Kind) (bytes after : List ℕ) (long : Bool) → ¬ (kind ≡ Int) → (IsTrue long ↔ TooLong kind bytes)
     → MatchOption (then_some long 5) ((code : ℕ) → TokenFault kind bytes after code → ⊥) (λ code. TokenFault kind bytes after code)
 long_or_right kind bytes after true k h = long_name (h.0 refl)
-long_or_right kind bytes after false k h = other_right kind bytes after k (λ l. absurd (let e = h.1 l in cc))
+long_or_right kind bytes after false k h = token_right kind bytes after k (λ l. absurd (let e = h.1 l in cc))

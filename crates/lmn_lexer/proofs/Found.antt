@@ -11,12 +11,19 @@ use Rattle.lmn_lexer.specs.declared.token.Kind.{Kind}
 use Rattle.lmn_lexer.specs.declared.token.Kind.TheVariants.{Name, Quoted, Mod, Link, Int, Context, RuleCtx, LParen, RParen, RBracket, LBrace, RBrace, Comma, Dot, Arrow, AtAt, Bar, Backslash, Equal, Less, LessEq, Greater, GreaterEq, NumEq, NumNe, Differ, Plus, Minus, Star}
 use Rattle.lmn_lexer.specs.declared.piece.Piece.{Piece}
 use Rattle.lmn_lexer.specs.declared.piece.Piece.TheVariants as piece
-use Rattle.lmn_lexer.specs.Spelling.{goes_on, begins_link, begins_context, is_quotable, IsRun, Quotes, nothing, quote, byte, Spells}
-use Rattle.lmn_lexer.specs.Gaps.{Gap, separator, percent, slashes, block, Holds, Begins, EndsLine, NoLineFeed}
+use Rattle.lmn_lexer.specs.Spelling.{goes_on, begins_link, begins_context, is_quotable, IsSpelledWith, Quotes, nothing, quote, byte, Spells}
+use Rattle.lmn_lexer.specs.Gaps.{Gap, separator, percent, slashes, block, OccursIn, EndsLine, NoLineFeed}
 use Rattle.lmn_lexer.specs.Faults.{Wrong, bad_quoted_byte, open_quote, open_comment, string, inline_code, hyperlink}
-use Rattle.lmn_lexer.specs.Scanning.{follows, first_passes, word_bytes, digit_bytes, line_bytes, later, close_at, word_at, context_at, at_sign_at, minus_at, block_at, slash_at, quoted_behind, equal_at, colon_at, bracket_at, greater_at, backslash_at, sign_at, sign_piece, piece_of}
-use Rattle.lmn_lexer.proofs.Runs.{if_case, both_true, equal_when, unequal_when, run_is}
-use Rattle.lmn_lexer.specs.Laying.{Stops}
+use Rattle.lmn_lexer.specs.Scanning.{follows, first_passes, word_bytes, digit_bytes, line_bytes, later, close_at, lowercase_at, context_at, at_sign_at, minus_at, block_at, slash_at, quoted_behind, equal_at, colon_at, bracket_at, greater_at, backslash_at, sign_at, sign_piece, piece_of}
+use Rattle.lmn_lexer.proofs.Runs.{if_case, unequal_when, run_is}
+use Rattle.lmn_lexer.specs.Laying.{NoneStandsFirst}
+use Rattle.lmn_base.specs.Lists.{Begins}
+use Rattle.lmn_base.proofs.Numbers.{equal_when}
+use Rattle.lmn_base.proofs.Truth.{and_true as both_true}
+use Rattle.lmn_base.proofs.Lists.{head_is, tail_is}
+
+pub context_goes_on : (b : ℕ) → begins_context b ≡ true → goes_on b ≡ true
+context_goes_on b h = grind (arith, nat_tests)
 
 -- a token of n bytes stands at the front
 pub record Stands (minus : Bool) (kind : Kind) (text : List ℕ) (n : ℕ) : Type 0 where
@@ -51,12 +58,6 @@ abbrev pub IsPiece : Bool → List ℕ → Piece → Type 0
 IsPiece minus text (piece.Gap n) = IsGap text n
 IsPiece minus text (piece.Token kind n) = Stands minus kind text n
 IsPiece minus text (piece.Wrong code n) = IsWrong minus text code n
-
-pub head_is : {a b : ℕ} {xs ys : List ℕ} → a ∷ xs ≡ b ∷ ys → a ≡ b
-head_is h = cc
-
-pub tail_is : {a b : ℕ} {xs ys : List ℕ} → a ∷ xs ≡ b ∷ ys → xs ≡ ys
-tail_is h = cc
 
 -- a token that isn't a name in quotes, and doesn't begin with `/` or `[`
 plain : (minus : Bool) (kind : Kind) (b : ℕ) (bs : List ℕ) (n : ℕ) → 0 < n → n ≤ length (b ∷ bs) → Spells minus kind (take n (b ∷ bs))
@@ -163,19 +164,16 @@ behind_first minus kind b bs n within spells q s c =
     let more : suc n ≡ 1 + n = omega arith in
     subst P more (plain minus kind b bs (suc n) (omega arith) (omega arith) spells q s c)
 
-run_front : (first more : ℕ → Bool) → ((b : ℕ) → first b ≡ true → more b ≡ true) → (bs : List ℕ) → first_passes first bs ≡ true → IsRun first more (take (prefix_len more bs) bs)
+run_front : (first more : ℕ → Bool) → ((b : ℕ) → first b ≡ true → more b ≡ true) → (bs : List ℕ) → first_passes first bs ≡ true → IsSpelledWith first more (take (prefix_len more bs) bs)
 run_front first more sub [] e = absurd (let h = e in cc)
 run_front first more sub (b ∷ bs) e =
-    let P : Bool → Type 0 = λ t. IsRun first more (take (cond t (1 + prefix_len more bs) 0) (b ∷ bs)) in
-    let Q : ℕ → Type 0 = λ n. IsRun first more (take n (b ∷ bs)) in
+    let P : Bool → Type 0 = λ t. IsSpelledWith first more (take (cond t (1 + prefix_len more bs) 0) (b ∷ bs)) in
+    let Q : ℕ → Type 0 = λ n. IsSpelledWith first more (take n (b ∷ bs)) in
     let one : suc (prefix_len more bs) ≡ 1 + prefix_len more bs = omega arith in
-    let whole : IsRun first more (b ∷ take (prefix_len more bs) bs) = (e, (run_is more bs).passes) in
+    let whole : IsSpelledWith first more (b ∷ take (prefix_len more bs) bs) = (e, (run_is more bs).passes) in
     subst P (sym (sub b e)) (subst Q one whole)
 
-context_goes_on : (b : ℕ) → begins_context b ≡ true → goes_on b ≡ true
-context_goes_on b h = grind (arith, nat_tests)
-
-word_found : (minus : Bool) (b : ℕ) (bs : List ℕ) → is_ascii_lowercase b ≡ true → IsPiece minus (b ∷ bs) (word_at (b ∷ bs))
+word_found : (minus : Bool) (b : ℕ) (bs : List ℕ) → is_ascii_lowercase b ≡ true → IsPiece minus (b ∷ bs) (lowercase_at (b ∷ bs))
 word_found minus b bs low =
     let n = word_bytes bs in
     let within : n ≤ length bs = prefix_len-le-length goes_on bs in
@@ -249,7 +247,7 @@ bracket_found minus bs =
 not_line_feed : (b : ℕ) → not (b == 10) ≡ false → b ≡ 10
 not_line_feed b h = grind (arith, nat_tests)
 
-ends_line : (after : List ℕ) → Stops (λ b. not (b == 10)) after → EndsLine after
+ends_line : (after : List ℕ) → NoneStandsFirst (λ b. not (b == 10)) after → EndsLine after
 ends_line [] h = tt
 ends_line (b ∷ bs) h = not_line_feed b h
 
@@ -274,15 +272,15 @@ line_found minus sign bs make some =
     (length-append sign (take n bs) ∙ ap (λ m. length sign + m) (length-take-le n bs within)) (omega arith)
     (make (take n bs) (drop n bs) run.passes (ends_line (drop n bs) run.stops))
 
-and_false : (b : Bool) → (b && false) ≡ false
+pub and_false : (b : Bool) → (b && false) ≡ false
 and_false true = refl
 and_false false = refl
 
-nothing_holds : ¬ (Holds (codes "*/") [])
+nothing_holds : ¬ (OccursIn (codes "*/") [])
 nothing_holds ([], after, h) = absurd (cc)
 nothing_holds (b ∷ before, after, h) = absurd (cc)
 
-one_byte : ¬ (Holds (codes "*/") (codes "*"))
+one_byte : ¬ (OccursIn (codes "*/") (codes "*"))
 one_byte ([], after, h) = absurd (let t = tail_is h in cc)
 one_byte (b ∷ [], after, h) = absurd (let t = tail_is h in cc)
 one_byte (b ∷ c ∷ before, after, h) = absurd (let t = tail_is h in cc)
@@ -293,13 +291,13 @@ pub record Closes (text : List ℕ) (n : ℕ) : Type 0 where
   pub after : List ℕ
   pub stands : text ≡ inside ++ (codes "*/" ++ after)
   pub place : length inside ≡ n
-  pub first : ¬ (Holds (codes "*/") (inside ++ codes "*"))
+  pub first : ¬ (OccursIn (codes "*/") (inside ++ codes "*"))
 
 abbrev pub IsClose : List ℕ → Option ℕ → Type 0
-IsClose text None = ¬ (Holds (codes "*/") text)
+IsClose text None = ¬ (OccursIn (codes "*/") text)
 IsClose text (Some n) = Closes text n
 
-holds_not : (b : ℕ) (bs : List ℕ) → ((b == 42) && follows 47 bs) ≡ false → ¬ (Holds (codes "*/") bs) → ¬ (Holds (codes "*/") (b ∷ bs))
+holds_not : (b : ℕ) (bs : List ℕ) → ((b == 42) && follows 47 bs) ≡ false → ¬ (OccursIn (codes "*/") bs) → ¬ (OccursIn (codes "*/") (b ∷ bs))
 holds_not b bs e none ([], after, h) = absurd (close_clash b bs after e h)
   where
     close_clash : (b : ℕ) (bs after : List ℕ) → ((b == 42) && follows 47 bs) ≡ false → b ∷ bs ≡ 42 ∷ 47 ∷ after → ⊥

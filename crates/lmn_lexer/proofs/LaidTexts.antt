@@ -9,7 +9,7 @@ use Rattle.lmn_lexer.specs.declared.piece.Piece.TheVariants as piece
 use Rattle.lmn_lexer.specs.Cutting.{Cutting, Reaches, start, minus_behind, token_at}
 use Rattle.lmn_lexer.specs.Faults.{TokenFault, integer_out_of_range, long_name, floating_point, NothingWrong}
 use Rattle.lmn_lexer.specs.Laws.{LaidTextsAreCut}
-use Rattle.lmn_lexer.specs.Laying.{Word, word_of, words_of, end_word, MayFollow, Laid, all_laid, separator, word, IsRight}
+use Rattle.lmn_lexer.specs.Laying.{Word, word_of, words_of, last_word, MayFollow, Laid, all_laid, separator, word, IsRight}
 use Rattle.lmn_lexer.specs.Scanning.{piece_of}
 use Rattle.lmn_lexer.specs.Scanners.{IsCut}
 use Rattle.lmn_lexer.proofs.Building.{blank_first, word_first, blank_off, token_off}
@@ -102,7 +102,7 @@ pub laid_texts_are_cut : LaidTextsAreCut
 laid_texts_are_cut text words h =
     let c = cut_on text h [] [] refl start in
     let last = token_at End text [] in
-    let end : words_of text (last ∷ []) ≡ end_word ∷ [] =
+    let end : words_of text (last ∷ []) ≡ last_word ∷ [] =
     ap (λ b. record { kind = End; bytes = b } ∷ []) (bytes_here text text [] [] End (sym (append-nil text))) in (
       c.more ++ last ∷ [],
       record { but_end = c.more; cut = c.cut; with_end = refl },

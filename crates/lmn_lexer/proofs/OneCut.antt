@@ -7,7 +7,7 @@ use Rattle.lmn_lexer.specs.declared.token.Token.{Token}
 use Rattle.lmn_lexer.specs.Gaps.{Gap, separator, percent, slashes, block}
 use Rattle.lmn_lexer.specs.Cutting.{Cutting, BeginsToken, CutsOff, gap, token, Reaches, start, onward, minus_behind, token_at, place}
 use Rattle.lmn_lexer.specs.Faults.{WrongAt}
-use Rattle.lmn_lexer.specs.Laws.{OneCut, OneRefusal, RefusedIsWrong}
+use Rattle.lmn_lexer.specs.Laws.{OneCut, OneFirstFault, RefusedIsWrong}
 use Rattle.lmn_lexer.proofs.OnePiece.{token_some}
 use Rattle.lmn_lexer.proofs.Determined.{one_gap, one_token, gap_or_token, one_fault}
 
@@ -158,7 +158,7 @@ one_cut text tokens others a b = go (comparable (steps_of a.cut) (steps_of b.cut
     go (inl h) = whole _ _ (ended h refl) tokens others a.with_end b.with_end
     go (inr h) = whole _ _ (sym (ended h refl)) tokens others a.with_end b.with_end
 
-pub one_refusal : OneRefusal
+pub one_refusal : OneFirstFault
 one_refusal text r q a b = go (same_or_earlier a.reached b.reached)
   where
     same : a.cutting ≡ b.cutting → r ≡ q

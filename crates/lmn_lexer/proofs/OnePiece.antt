@@ -9,15 +9,17 @@ use Rattle.lmn_lexer.specs.declared.token.Kind.{Kind}
 use Rattle.lmn_lexer.specs.declared.token.Kind.TheVariants.{Name, Quoted, Mod, Link, Int, Context, RuleCtx, End, LParen, RParen, LBracket, RBracket, LBrace, RBrace, Comma, Dot, Arrow, AtAt, Bar, Backslash, Equal, Less, LessEq, Greater, GreaterEq, NumEq, NumNe, Differ, Plus, Minus, Star, Slash}
 use Rattle.lmn_lexer.specs.declared.piece.Piece.{Piece}
 use Rattle.lmn_lexer.specs.declared.piece.Piece.TheVariants as piece
-use Rattle.lmn_lexer.specs.Spelling.{goes_on, begins_link, begins_context, is_quotable, AllPass, IsRun, IsWord, IsDigits, Quotes, nothing, quote, byte, IsQuoted, Spells}
-use Rattle.lmn_lexer.specs.Gaps.{Gap, separator, percent, slashes, block, Holds, EndsLine, NoLineFeed}
+use Rattle.lmn_lexer.specs.Spelling.{goes_on, begins_link, begins_context, is_quotable, AllPass, IsSpelledWith, IsWord, IsDigits, Quotes, nothing, quote, byte, IsQuoted, Spells}
+use Rattle.lmn_lexer.specs.Gaps.{Gap, separator, percent, slashes, block, OccursIn, EndsLine, NoLineFeed}
 use Rattle.lmn_lexer.specs.Cutting.{BeginsToken}
-use Rattle.lmn_lexer.specs.Scanning.{follows, first_passes, word_bytes, digit_bytes, line_bytes, later, close_at, word_kind, word_at, minus_at, quoted_behind, sign_piece, piece_of}
-use Rattle.lmn_lexer.proofs.Runs.{if_case, both_true, equal_when, unequal, run_exact}
-use Rattle.lmn_lexer.specs.Laying.{Stops}
+use Rattle.lmn_lexer.specs.Scanning.{follows, first_passes, word_bytes, digit_bytes, line_bytes, later, close_at, word_kind, lowercase_at, minus_at, quoted_behind, sign_piece, piece_of}
+use Rattle.lmn_lexer.proofs.Runs.{if_case, run_exact}
+use Rattle.lmn_lexer.specs.Laying.{NoneStandsFirst}
 use Rattle.lmn_lexer.proofs.ScanLemmas.{quoted_steps, quoted_byte_next}
-use Rattle.lmn_lexer.proofs.Found.{Stands, IsPiece, found, IsClose, close_found}
-use Rattle.lmn_lexer.proofs.Exact.{IsFree, Covers, covered, lower_piece, link_piece, digit_piece, context_goes_on, context_not_at, quote_not_line}
+use Rattle.lmn_lexer.proofs.Found.{Stands, IsPiece, found, IsClose, close_found, context_goes_on}
+use Rattle.lmn_lexer.proofs.Exact.{IsFree, Covers, covered, lower_piece, link_piece, digit_piece, context_not_at, quote_not_line}
+use Rattle.lmn_base.proofs.Numbers.{equal_when, unequal}
+use Rattle.lmn_base.proofs.Truth.{and_true as both_true}
 
 -- bytes that spell a kind are found as that kind
 
@@ -38,7 +40,7 @@ pub not_mod : (bytes : List ℕ) → bytes ≢ codes "mod" → word_kind bytes �
 not_mod bytes h = if_case (λ kind. kind ≡ Name) (bytes_eq bytes (codes "mod")) Mod Name (λ e. absurd (h ((bytes_eq-Decides bytes (codes "mod")).0 e))) (λ e. refl)
 
 -- a word behind a sign
-alone_behind : (kind : Kind) (first more : ℕ → Bool) (bs : List ℕ) (wrong : Piece) → ((b : ℕ) → first b ≡ true → more b ≡ true) → IsRun first more bs
+alone_behind : (kind : Kind) (first more : ℕ → Bool) (bs : List ℕ) (wrong : Piece) → ((b : ℕ) → first b ≡ true → more b ≡ true) → IsSpelledWith first more bs
     → (if first_passes first bs then piece.Token kind (1 + prefix_len more bs) else wrong) ≡ piece.Token kind (suc (length bs))
 alone_behind kind first more [] wrong sub h = absurd h
 alone_behind kind first more (b ∷ bs) wrong sub h =
@@ -166,21 +168,21 @@ token_piece {minus = minus} {kind = kind} {bytes = bytes} {after = after} {text 
 
 -- gaps
 
-stops_line : (after : List ℕ) → EndsLine after → Stops (λ b. not (b == 10)) after
+stops_line : (after : List ℕ) → EndsLine after → NoneStandsFirst (λ b. not (b == 10)) after
 stops_line [] h = tt
 stops_line (b ∷ bs) h = ap (λ x. not (x == 10)) h
 
-holds_on : (b : ℕ) (bs : List ℕ) → Holds (codes "*/") bs → Holds (codes "*/") (b ∷ bs)
+holds_on : (b : ℕ) (bs : List ℕ) → OccursIn (codes "*/") bs → OccursIn (codes "*/") (b ∷ bs)
 holds_on b bs (before, after, e) = (b ∷ before, after, ap (λ x. b ∷ x) e)
 
-close_of : (inside after : List ℕ) → ¬ (Holds (codes "*/") (inside ++ codes "*")) → close_at ((inside ++ codes "*/") ++ after) ≡ Some (length inside)
+close_of : (inside after : List ℕ) → ¬ (OccursIn (codes "*/") (inside ++ codes "*")) → close_at ((inside ++ codes "*/") ++ after) ≡ Some (length inside)
 close_of [] after h = refl
 close_of (b ∷ bs) after h =
     ap (λ t. if t then Some 0 else later 1 (close_at ((bs ++ codes "*/") ++ after))) (not_here ((b == 42) && follows 47 ((bs ++ codes "*/") ++ after)) refl)
     ∙ ap (later 1) (close_of bs after (λ k. h (holds_on b (bs ++ codes "*") k)))
     ∙ ap Some (omega arith)
   where
-    clash : (bs : List ℕ) → ¬ (Holds (codes "*/") (b ∷ (bs ++ codes "*"))) → b ≡ 42 → follows 47 ((bs ++ codes "*/") ++ after) ≡ true → ⊥
+    clash : (bs : List ℕ) → ¬ (OccursIn (codes "*/") (b ∷ (bs ++ codes "*"))) → b ≡ 42 → follows 47 ((bs ++ codes "*/") ++ after) ≡ true → ⊥
     clash [] h e f = absurd (cc)
     clash (c ∷ cs) h e f = h ([], cs ++ codes "*", ap (λ x. x ∷ c ∷ (cs ++ codes "*")) e ∙ ap (λ x. 42 ∷ x ∷ (cs ++ codes "*")) (equal_when c 47 f))
 
@@ -193,7 +195,7 @@ line_length line after h e = run_exact (λ b. not (b == 10)) line after h (stops
 
 pub gap_piece : {bytes after : List ℕ} (minus : Bool) → Gap bytes after → piece_of minus (bytes ++ after) ≡ piece.Gap (length bytes)
 gap_piece minus (separator b after h) =
-    ap (λ t. if t then piece.Gap 1 else (if is_ascii_lowercase b then word_at (b ∷ after)
+    ap (λ t. if t then piece.Gap 1 else (if is_ascii_lowercase b then lowercase_at (b ∷ after)
     else (if begins_link b then piece.Token Link (1 + word_bytes after) else (if is_ascii_digit b then piece.Token Int (1 + digit_bytes after) else sign_piece minus b after)))) h
 gap_piece minus (percent line after h e) = let l = line_length line after h e in ap piece.Gap (omega arith)
 gap_piece minus (slashes line after h e) = let l = line_length line after h e in ap piece.Gap (omega arith)
@@ -221,7 +223,7 @@ open_rest n (b ∷ bs) h = ap (λ x. quoted_behind n (x ∷ bs)) h ∙ quoted_st
 pub open_quote_piece : {inside name : List ℕ} (minus : Bool) (after : List ℕ) → Quotes inside name → EndsLine after → piece_of minus (39 ∷ (inside ++ after)) ≡ piece.Wrong 3 0
 open_quote_piece {inside = inside} minus after q e = quoted_past q 1 after ∙ open_rest (1 + length inside) after e
 
-pub open_comment_piece : (minus : Bool) (inside : List ℕ) → ¬ (Holds (codes "*/") inside) → piece_of minus (codes "/*" ++ inside) ≡ piece.Wrong 3 0
+pub open_comment_piece : (minus : Bool) (inside : List ℕ) → ¬ (OccursIn (codes "*/") inside) → piece_of minus (codes "/*" ++ inside) ≡ piece.Wrong 3 0
 open_comment_piece minus inside h = ap (λ o. elim o [ None ↦ piece.Wrong 3 0 | Some n ↦ piece.Gap (n + 4) ]) (go (close_at inside) refl (close_found inside))
   where
     go : (o : Option ℕ) → close_at inside ≡ o → IsClose inside o → close_at inside ≡ None

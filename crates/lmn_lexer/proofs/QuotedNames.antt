@@ -4,7 +4,8 @@ use Rattle.std.specs.Prelude.{⊤}
 use Rattle.std.proofs.Math.Seq.{take-add, drop-cons}
 use Rattle.std.proofs.lemmas.List.{take-append-drop, length-drop, take_more}
 use Rattle.lmn_lexer.specs.Spelling.{Quotes, nothing, quote, byte, is_quotable}
-use Rattle.lmn_lexer.proofs.Found.{quotes_append, tail_is}
+use Rattle.lmn_lexer.proofs.Found.{quotes_append}
+use Rattle.lmn_base.proofs.Lists.{tail_is}
 
 abbrev Inside : List ℕ → Type 0
 Inside bs = (name : List ℕ) × Quotes bs name

@@ -1,31 +1,21 @@
 -- Runs of bytes that pass a test, and tests by cases.
-use Rattle.std.proofs.Common.{◌≡◌, ℕ, ◌+◌, ◌≤◌, ◌==◌, Bool, true, false, cond, ◌&&◌, if◌then◌else◌, List, [], ◌∷◌, ◌++◌, length, take, drop, suc, refl, sym, ap, ◌∙◌, subst, arith}
+use Rattle.std.proofs.Common.{◌≡◌, ℕ, ◌+◌, ◌≤◌, ◌==◌, Bool, true, false, cond, if◌then◌else◌, List, [], ◌∷◌, ◌++◌, length, take, drop, suc, refl, sym, ap, ◌∙◌, subst, arith}
 use Rattle.std.specs.List.{prefix_len, count_by}
 use Rattle.std.proofs.lemmas.List.Sums.{sum_by-cons, sum_by-append}
 use Rattle.std.proofs.lemmas.Bool.Decides.{nat_tests}
 use Rattle.lmn_lexer.specs.Spelling.{AllPass}
-use Rattle.lmn_lexer.specs.Laying.{Stops}
+use Rattle.lmn_lexer.specs.Laying.{NoneStandsFirst}
 
 pub if_case : {A : Type 0} (P : A → Type 0) (t : Bool) (x y : A) → (t ≡ true → P x) → (t ≡ false → P y) → P (if t then x else y)
 if_case P true x y h k = h refl
 if_case P false x y h k = k refl
 
-pub both_true : (a b : Bool) → (a && b) ≡ true → (a ≡ true) × (b ≡ true)
-both_true true b h = (refl, h)
-both_true false b h = absurd (cc)
-
-pub equal_when : (a b : ℕ) → (a == b) ≡ true → a ≡ b
-equal_when a b h = grind (arith, nat_tests)
-
 pub unequal_when : (a b : ℕ) → (a == b) ≡ false → a ≡ b → ⊥
 unequal_when a b h e = grind (arith, nat_tests)
 
-pub unequal : (a b : ℕ) → (a ≡ b → ⊥) → (a == b) ≡ false
-unequal a b h = grind (arith, nat_tests)
-
 -- where a run ends
 
-pub run_exact : (test : ℕ → Bool) (bs after : List ℕ) → AllPass test bs → Stops test after → prefix_len test (bs ++ after) ≡ length bs
+pub run_exact : (test : ℕ → Bool) (bs after : List ℕ) → AllPass test bs → NoneStandsFirst test after → prefix_len test (bs ++ after) ≡ length bs
 run_exact test [] [] h s = refl
 run_exact test [] (c ∷ cs) h s = ap (λ t. cond t (1 + prefix_len test cs) 0) s
 run_exact test (b ∷ bs) after h s = ap (λ t. cond t (1 + prefix_len test (bs ++ after)) 0) h.0 ∙ ap (λ n. 1 + n) (run_exact test bs after h.1 s) ∙ omega arith
@@ -40,7 +30,7 @@ run_at_least test (b ∷ bs) after h =
 -- the run itself passes, and what is behind it stops
 pub record RunOf (test : ℕ → Bool) (text : List ℕ) (n : ℕ) : Type 0 where
   pub passes : AllPass test (take n text)
-  pub stops : Stops test (drop n text)
+  pub stops : NoneStandsFirst test (drop n text)
 
 run_of : (test : ℕ → Bool) (b : ℕ) (bs : List ℕ) (t : Bool) → test b ≡ t → RunOf test bs (prefix_len test bs) → RunOf test (b ∷ bs) (cond t (1 + prefix_len test bs) 0)
 run_of test b bs false e h = record { passes = tt; stops = e }

@@ -1,12 +1,13 @@
 -- Steps of the loops that look for the end of a comment and of a name in quotes.
-use Rattle.std.proofs.Common.{◌≡◌, ℕ, ◌+◌, ◌<◌, ◌≤◌, ◌==◌, Bool, true, false, ◌&&◌, if◌then◌else◌, List, [], ◌∷◌, length, get_or, drop, Option, Some, None, refl, ap, ◌∙◌, arith}
+use Rattle.std.proofs.Common.{◌≡◌, ℕ, ◌+◌, ◌<◌, ◌≤◌, ◌==◌, true, false, ◌&&◌, if◌then◌else◌, List, [], ◌∷◌, length, get_or, drop, Option, Some, None, refl, ap, ◌∙◌, arith}
 use Rattle.std.proofs.lemmas.List.{at_drop_more, at_drop_all, drop-drop}
 use Rattle.lmn_lexer.specs.declared.token.Kind.TheVariants.{Quoted}
 use Rattle.lmn_lexer.specs.declared.piece.Piece.{Piece}
 use Rattle.lmn_lexer.specs.declared.piece.Piece.TheVariants as piece
 use Rattle.lmn_lexer.specs.Spelling.{is_quotable}
-use Rattle.lmn_lexer.proofs.Runs.{unequal}
 use Rattle.lmn_lexer.specs.Scanning.{follows, later, close_at, quoted_behind}
+use Rattle.lmn_base.proofs.Numbers.{unequal}
+use Rattle.lmn_lexer.proofs.Found.{and_false as false_behind}
 
 later_more : (i : ℕ) (o : Option ℕ) → later i (later 1 o) ≡ later (i + 1) o
 later_more i None = refl
@@ -32,10 +33,6 @@ close_not_here text i h e =
     at_drop_more (λ bs. later i (close_at bs)) text i 0 h
     ∙ ap (λ b. later i (if b then Some 0 else later 1 (close_at (drop (i + 1) text)))) e
     ∙ later_more i (close_at (drop (i + 1) text))
-
-false_behind : (b : Bool) → (b && false) ≡ false
-false_behind true = refl
-false_behind false = refl
 
 pub close_elsewhere : (text : List ℕ) (i : ℕ) → i < length text → (get_or text i 0 ≡ 42 → ⊥)
     → later i (close_at (drop i text)) ≡ later (i + 1) (close_at (drop (i + 1) text))

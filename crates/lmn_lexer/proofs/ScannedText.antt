@@ -8,12 +8,13 @@ use Rattle.lmn_lexer.specs.declared.token.Token.{Token}
 use Rattle.lmn_lexer.specs.declared.piece.Piece.TheVariants as piece
 use Rattle.lmn_lexer.specs.Spelling.{Spells, IsQuoted}
 use Rattle.lmn_lexer.specs.Cutting.{Cutting, BeginsToken, CutsOff, gap, token, Reaches, start, onward, Cuts, minus_behind, token_at, place}
-use Rattle.lmn_lexer.specs.Faults.{Wrong, wrong_token, WrongAt, TokenFault, IsRefusal, NothingWrong}
+use Rattle.lmn_lexer.specs.Faults.{Wrong, wrong_token, WrongAt, TokenFault, IsLexicalFault, NothingWrong}
 use Rattle.lmn_lexer.specs.Scanning.{piece_of}
 use Rattle.lmn_lexer.specs.Scanners.{cut_at, IsCut}
 use Rattle.lmn_lexer.proofs.Found.{IsGap, Stands}
 use Rattle.lmn_lexer.proofs.Determined.{gap_found, token_stands, token_found, wrong_found, gap_not_wrong, token_not_wrong, nothing_wrong}
 use Rattle.lmn_lexer.proofs.OneCut.{before_step, same_or_earlier, reached_within}
+use Rattle.lmn_base.proofs.Lists.{length_taken as cut_length}
 
 pub cut_nothing : (text : List ℕ) → IsCut text 0 []
 cut_nothing text = record { within = omega arith; reached = start; right = λ c code skipped h l. absurd (omega arith) }
@@ -71,9 +72,6 @@ quoted_bytes minus text at n kind h e q =
 
 -- a step
 
-cut_length : (text : List ℕ) (at : ℕ) → at ≤ length text → length (take at text) ≡ at
-cut_length text at h = length-take-le at text h
-
 -- Where nothing is wrong at a cutting, nothing is before the end of its next step.
 right_on : (text : List ℕ) (at n : ℕ) (tokens more : List Token) → IsCut text at tokens → at + n ≤ length text → CutsOff (cut_at text at tokens) (cut_at text (at + n) more)
     → ((code : ℕ) (skipped : List ℕ) → WrongAt (cut_at text at tokens) code skipped → ⊥) → IsCut text (at + n) more
@@ -123,7 +121,7 @@ token_made text at n kind h =
 -- a refusal
 
 refused_at : (text : List ℕ) (at : ℕ) (tokens : List Token) (code : ℕ) (skipped : List ℕ) → IsCut text at tokens → WrongAt (cut_at text at tokens) code skipped
-    → IsRefusal text (record { code = code; pos = place (take at text ++ skipped) })
+    → IsLexicalFault text (record { code = code; pos = place (take at text ++ skipped) })
 refused_at text at tokens code skipped c w = record {
   cutting = cut_at text at tokens;
   skipped = skipped;
@@ -134,14 +132,14 @@ refused_at text at tokens code skipped c w = record {
 }
 
 pub wrong_cut : (text : List ℕ) (at n : ℕ) (tokens : List Token) (code : ℕ) → IsCut text at tokens → at < length text → piece_of (minus_behind tokens) (drop at text) ≡ piece.Wrong code n
-    → IsRefusal text (record { code = code; pos = place (take at text ++ take n (drop at text)) })
+    → IsLexicalFault text (record { code = code; pos = place (take at text ++ take n (drop at text)) })
 wrong_cut text at n tokens code c h e = refused_at text at tokens code (take n (drop at text)) c (wrong_in (minus_behind tokens) (drop at text) code n (rest_some text at h) e).1
 
 pub fault_cut : (text : List ℕ) (at n : ℕ) (tokens : List Token) (kind : Kind) (code : ℕ) → IsCut text at tokens → at < length text → piece_of (minus_behind tokens) (drop at text) ≡ piece.Token kind n
-    → TokenFault kind (take n (drop at text)) (drop n (drop at text)) code → IsRefusal text (record { code = code; pos = place (take at text) })
+    → TokenFault kind (take n (drop at text)) (drop n (drop at text)) code → IsLexicalFault text (record { code = code; pos = place (take at text) })
 fault_cut text at n tokens kind code c h e f =
     let t = token_in (minus_behind tokens) kind (drop at text) n (rest_some text at h) e in
-    let P : List ℕ → Type 0 = λ before. IsRefusal text (record { code = code; pos = place before }) in
+    let P : List ℕ → Type 0 = λ before. IsLexicalFault text (record { code = code; pos = place before }) in
     subst P (append-nil (take at text)) (refused_at text at tokens code [] c (wrong_token kind (take n (drop at text)) (drop n (drop at text)) code t f))
 
 -- the whole text

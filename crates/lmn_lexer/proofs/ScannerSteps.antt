@@ -12,7 +12,7 @@ use Rattle.lmn_lexer.specs.declared.piece.Piece.{Piece}
 use Rattle.lmn_lexer.specs.declared.piece.Piece.TheVariants as piece
 use Rattle.lmn_lexer.specs.Spelling.{IsQuoted}
 use Rattle.lmn_lexer.specs.Cutting.{minus_behind, is_operand, token_at, place, column_behind}
-use Rattle.lmn_lexer.specs.Faults.{TokenFault, IsRefusal, NothingWrong}
+use Rattle.lmn_lexer.specs.Faults.{TokenFault, IsLexicalFault, NothingWrong}
 use Rattle.lmn_lexer.specs.Scanning.{piece_of}
 use Rattle.lmn_lexer.specs.Scanners.{IsCut, IsScanned}
 use Rattle.lmn_lexer.proofs.Places.{place-append, place_within}
@@ -120,15 +120,15 @@ token_scanned text s t rest n kind h l e f none p tokens minus =
     )
 
 pub wrong_refused : (text : List ℕ) (s : Scanner) (rest : List ℕ) (n code : ℕ) (q : Pos) → IsScanned text s → s.at < length text → rest ≡ drop s.at text → piece.Wrong code n ≡ piece_of s.minus rest
-    → q.line ≡ s.pos.line + count_by (λ b. b == 10) (take n rest) → q.column ≡ column_behind s.pos.column (take n rest) → IsRefusal text (record { code = code; pos = q })
+    → q.line ≡ s.pos.line + count_by (λ b. b == 10) (take n rest) → q.column ≡ column_behind s.pos.column (take n rest) → IsLexicalFault text (record { code = code; pos = q })
 wrong_refused text s rest n code q h l e f line column =
-    let P : Pos → Type 0 = λ z. IsRefusal text (record { code = code; pos = z }) in
+    let P : Pos → Type 0 = λ z. IsLexicalFault text (record { code = code; pos = z }) in
     subst P (sym (place_on text s.at n s.pos q rest h.placed e line column)) (wrong_cut text s.at n s.tokens code h.cut l (found_at text s rest (piece.Wrong code n) h e f))
 
 pub fault_refused : (text : List ℕ) (s : Scanner) (rest : List ℕ) (n code : ℕ) (kind : Kind) → IsScanned text s → s.at < length text → rest ≡ drop s.at text → piece.Token kind n ≡ piece_of s.minus rest
-    → TokenFault kind (take n rest) (drop n rest) code → IsRefusal text (record { code = code; pos = s.pos })
+    → TokenFault kind (take n rest) (drop n rest) code → IsLexicalFault text (record { code = code; pos = s.pos })
 fault_refused text s rest n code kind h l e f fault =
-    let P : Pos → Type 0 = λ z. IsRefusal text (record { code = code; pos = z }) in
+    let P : Pos → Type 0 = λ z. IsLexicalFault text (record { code = code; pos = z }) in
     let F : List ℕ → Type 0 = λ x. TokenFault kind (take n x) (drop n x) code in
     subst P (sym h.placed) (fault_cut text s.at n s.tokens kind code h.cut l (found_at text s rest (piece.Token kind n) h e f) (subst F e fault))
 

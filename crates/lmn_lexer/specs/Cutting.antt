@@ -5,7 +5,8 @@ use Rattle.lmn_lexer.specs.declared.token.Kind.{Kind}
 use Rattle.lmn_lexer.specs.declared.token.Kind.TheVariants.{Name, Quoted, Link, Int, Context, RParen, RBracket, End}
 use Rattle.lmn_lexer.specs.declared.token.Token.{Token}
 use Rattle.lmn_lexer.specs.Spelling.{Spells}
-use Rattle.lmn_lexer.specs.Gaps.{Gap, Begins}
+use Rattle.lmn_lexer.specs.Gaps.{Gap}
+use Rattle.lmn_base.specs.Lists.{Begins}
 
 -- the column behind bytes, where the column before them is given
 abbrev pub column_behind : ℕ → List ℕ → ℕ

@@ -5,7 +5,7 @@ use Rattle.lmn_base.specs.declared.refusal.Refusal.{Refusal}
 use Rattle.lmn_lexer.specs.declared.token.Kind.{Kind}
 use Rattle.lmn_lexer.specs.declared.token.Kind.TheVariants.{Name, Quoted, Link, Int, Context, RuleCtx}
 use Rattle.lmn_lexer.specs.Spelling.{Spells, IsQuoted, Quotes, is_quotable}
-use Rattle.lmn_lexer.specs.Gaps.{Holds, EndsLine}
+use Rattle.lmn_lexer.specs.Gaps.{OccursIn, EndsLine}
 use Rattle.lmn_lexer.specs.Cutting.{Cutting, BeginsToken, Reaches, minus_behind, place}
 
 -- the number that digits write, behind a number that digits before them write
@@ -20,10 +20,10 @@ quote = 39
 abbrev pub minus_sign : ℕ
 minus_sign = 45
 
--- the integer is -2^63 to 2^63 - 1
-abbrev pub InRange : List ℕ → Type 0
-InRange [] = ⊥
-InRange (b ∷ bs) = ((b ≡ minus_sign) × (value_behind 0 bs ≤ 2 ^ 63)) ⊎ ((b ≢ minus_sign) × (value_behind 0 (b ∷ bs) ≤ 2 ^ 63 - 1))
+-- the integer that is spelled is -2^63 to 2^63 - 1
+abbrev pub SpelledInRange : List ℕ → Type 0
+SpelledInRange [] = ⊥
+SpelledInRange (b ∷ bs) = ((b ≡ minus_sign) × (value_behind 0 bs ≤ 2 ^ 63)) ⊎ ((b ≢ minus_sign) × (value_behind 0 (b ∷ bs) ≤ 2 ^ 63 - 1))
 
 -- a `.` and a digit stand first
 abbrev pub BeginsFraction : List ℕ → Type 0
@@ -41,7 +41,7 @@ TooLong _ bytes = ⊥
 
 -- What is wrong with a token that has these bytes and this text behind it: the number of the code.
 pub data TokenFault (kind : Kind) (bytes after : List ℕ) : ℕ → Type 0 where
-  integer_out_of_range : kind ≡ Int → ¬ (BeginsFraction after) → ¬ (InRange bytes) → TokenFault kind bytes after 4
+  integer_out_of_range : kind ≡ Int → ¬ (BeginsFraction after) → ¬ (SpelledInRange bytes) → TokenFault kind bytes after 4
   long_name : TooLong kind bytes → TokenFault kind bytes after 5
   floating_point : kind ≡ Int → BeginsFraction after → TokenFault kind bytes after 6
 
@@ -70,7 +70,7 @@ pub data Wrong (minus : Bool) (text : List ℕ) : ℕ → List ℕ → Type 0 wh
   -- a name in quotes meets a line feed or the end
   open_quote : (inside name after : List ℕ) → text ≡ codes "'" ++ (inside ++ after) → Quotes inside name → EndsLine after → Wrong minus text 3 []
   -- a comment meets the end
-  open_comment : (inside : List ℕ) → text ≡ codes "/*" ++ inside → ¬ (Holds (codes "*/") inside) → Wrong minus text 3 []
+  open_comment : (inside : List ℕ) → text ≡ codes "/*" ++ inside → ¬ (OccursIn (codes "*/") inside) → Wrong minus text 3 []
   -- a token that is wrong
   wrong_token : (kind : Kind) (bytes after : List ℕ) (code : ℕ) → BeginsToken minus kind bytes after text → TokenFault kind bytes after code
       → Wrong minus text code []
@@ -88,7 +88,7 @@ abbrev pub NothingWrongBefore : List ℕ → ℕ → Type 0
 NothingWrongBefore text n = (c : Cutting) (code : ℕ) (skipped : List ℕ) → Reaches text c → length c.before < n → WrongAt c code skipped → ⊥
 
 -- the first that is wrong in a text, and its place
-pub record IsRefusal (text : List ℕ) (refusal : Refusal) : Type 0 where
+pub record IsLexicalFault (text : List ℕ) (refusal : Refusal) : Type 0 where
   pub cutting : Cutting
   pub skipped : List ℕ
   pub reached : Reaches text cutting

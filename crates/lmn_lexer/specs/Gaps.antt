@@ -4,18 +4,15 @@ use Rattle.std.specs.Char.{is_ascii_whitespace}
 use Rattle.lmn_lexer.specs.Spelling.{AllPass}
 
 -- the part stands somewhere in the text
-abbrev pub Holds : List ℕ → List ℕ → Type 0
-Holds part text = (before : List ℕ) × (after : List ℕ) × (text ≡ before ++ (part ++ after))
-
--- the text begins with the part
-abbrev pub Begins : List ℕ → List ℕ → Type 0
-Begins part text = (after : List ℕ) × (text ≡ part ++ after)
+abbrev pub OccursIn : List ℕ → List ℕ → Type 0
+OccursIn part text = (before : List ℕ) × (after : List ℕ) × (text ≡ before ++ (part ++ after))
 
 -- the text is at its end, or a line feed stands first
 abbrev pub EndsLine : List ℕ → Type 0
 EndsLine [] = ⊤
 EndsLine (b ∷ bs) = b ≡ 10
 
+-- no line feed is among the bytes
 abbrev pub NoLineFeed : List ℕ → Type 0
 NoLineFeed bs = AllPass (λ b. not (b == 10)) bs
 
@@ -25,4 +22,4 @@ pub data Gap : List ℕ → List ℕ → Type 0 where
   separator : (b : ℕ) (after : List ℕ) → is_ascii_whitespace b ≡ true → Gap (b ∷ []) after
   percent : (line after : List ℕ) → NoLineFeed line → EndsLine after → Gap (codes "%" ++ line) after
   slashes : (line after : List ℕ) → NoLineFeed line → EndsLine after → Gap (codes "//" ++ line) after
-  block : (inside after : List ℕ) → ¬ (Holds (codes "*/") (inside ++ codes "*")) → Gap (codes "/*" ++ (inside ++ codes "*/")) after
+  block : (inside after : List ℕ) → ¬ (OccursIn (codes "*/") (inside ++ codes "*")) → Gap (codes "/*" ++ (inside ++ codes "*/")) after

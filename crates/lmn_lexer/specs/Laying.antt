@@ -6,7 +6,7 @@ use Rattle.lmn_lexer.specs.declared.token.Kind.TheVariants.{Name, Quoted, Mod, L
 use Rattle.lmn_lexer.specs.declared.token.Token.{Token}
 use Rattle.lmn_lexer.specs.Spelling.{Spells, goes_on}
 use Rattle.lmn_lexer.specs.Cutting.{is_operand}
-use Rattle.lmn_lexer.specs.Faults.{BeginsFraction, InRange, TooLong}
+use Rattle.lmn_lexer.specs.Faults.{BeginsFraction, SpelledInRange, TooLong}
 use Rattle.lmn_lexer.specs.Values.{bytes_of}
 
 -- a token without its place: its kind and its bytes
@@ -22,34 +22,34 @@ abbrev pub words_of : List ℕ → List Token → List Word
 words_of text ts = map (word_of text) ts
 
 -- the last word of each text
-abbrev pub end_word : Word
-end_word = record { kind = End; bytes = [] }
+abbrev pub last_word : Word
+last_word = record { kind = End; bytes = [] }
 
 -- no byte that passes the test stands first
-abbrev pub Stops : (ℕ → Bool) → List ℕ → Type 0
-Stops test [] = ⊤
-Stops test (b ∷ bs) = test b ≡ false
+abbrev pub NoneStandsFirst : (ℕ → Bool) → List ℕ → Type 0
+NoneStandsFirst test [] = ⊤
+NoneStandsFirst test (b ∷ bs) = test b ≡ false
 
 -- nothing, or a separator first
 abbrev pub Separated : List ℕ → Type 0
-Separated after = Stops (λ b. not (is_ascii_whitespace b)) after
+Separated after = NoneStandsFirst (λ b. not (is_ascii_whitespace b)) after
 
 -- What may stand directly behind a word of this kind. Behind operators a separator stands. Words of other kinds aren't
 -- laid out.
 abbrev pub MayFollow : Kind → List ℕ → Type 0
-MayFollow Name after = Stops goes_on after
-MayFollow Mod after = Stops goes_on after
-MayFollow Quoted after = Stops (λ b. b == 39) after
-MayFollow Int after = Stops is_ascii_digit after × ¬ (BeginsFraction after)
+MayFollow Name after = NoneStandsFirst goes_on after
+MayFollow Mod after = NoneStandsFirst goes_on after
+MayFollow Quoted after = NoneStandsFirst (λ b. b == 39) after
+MayFollow Int after = NoneStandsFirst is_ascii_digit after × ¬ (BeginsFraction after)
 MayFollow LParen after = ⊤
 MayFollow RParen after = ⊤
 MayFollow Comma after = ⊤
 MayFollow Dot after = ⊤
 MayFollow Arrow after = ⊤
-MayFollow Link after = Stops goes_on after
-MayFollow Context after = Stops goes_on after
-MayFollow RuleCtx after = Stops goes_on after
-MayFollow LBracket after = Stops (λ b. b == 58) after
+MayFollow Link after = NoneStandsFirst goes_on after
+MayFollow Context after = NoneStandsFirst goes_on after
+MayFollow RuleCtx after = NoneStandsFirst goes_on after
+MayFollow LBracket after = NoneStandsFirst (λ b. b == 58) after
 MayFollow RBracket after = ⊤
 MayFollow LBrace after = ⊤
 MayFollow RBrace after = ⊤
@@ -78,4 +78,4 @@ pub data Laid : Bool → List ℕ → List Word → Type 0 where
 
 -- an integer is in range, and a name isn't too long
 abbrev pub IsRight : Word → Type 0
-IsRight w = (w.kind ≡ Int → InRange w.bytes) × ¬ (TooLong w.kind w.bytes)
+IsRight w = (w.kind ≡ Int → SpelledInRange w.bytes) × ¬ (TooLong w.kind w.bytes)

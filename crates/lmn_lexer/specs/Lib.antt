@@ -7,3 +7,4 @@ pub mod Scanners
 pub mod Values
 pub mod Laying
 pub mod Laws
+pub mod NameText

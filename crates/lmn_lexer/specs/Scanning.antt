@@ -40,8 +40,9 @@ close_at (b ∷ bs) = if (b == 42) && follows 47 bs then Some 0 else later 1 (cl
 abbrev pub word_kind : List ℕ → Kind
 word_kind bytes = if bytes_eq bytes (codes "mod") then Mod else Name
 
-abbrev pub word_at : List ℕ → Piece
-word_at text = piece.Token (word_kind (take (1 + word_bytes (drop 1 text)) text)) (1 + word_bytes (drop 1 text))
+-- what a small letter begins
+abbrev pub lowercase_at : List ℕ → Piece
+lowercase_at text = piece.Token (word_kind (take (1 + word_bytes (drop 1 text)) text)) (1 + word_bytes (drop 1 text))
 
 abbrev pub context_at : List ℕ → Piece
 context_at bs = if first_passes begins_context bs then piece.Token Context (1 + word_bytes bs) else piece.Wrong 2 0
@@ -106,6 +107,6 @@ sign_piece minus b bs =
 abbrev pub piece_of : Bool → List ℕ → Piece
 piece_of minus [] = piece.Gap 0
 piece_of minus (b ∷ bs) =
-    if is_ascii_whitespace b then piece.Gap 1 else (if is_ascii_lowercase b then word_at (b ∷ bs)
+    if is_ascii_whitespace b then piece.Gap 1 else (if is_ascii_lowercase b then lowercase_at (b ∷ bs)
     else (if begins_link b then piece.Token Link (1 + word_bytes bs) else (if is_ascii_digit b then piece.Token Int (1 + digit_bytes bs)
     else sign_piece minus b bs)))

@@ -1,6 +1,6 @@
 -- How each kind of token is spelled.
-use Rattle.std.specs.Prelude.{◌≡◌, ◌≢◌, ℕ, ◌==◌, Bool, true, not, ◌&&◌, ◌||◌, ◌⊎◌, List, [], ◌∷◌, ◌++◌, codes}
-use Rattle.std.specs.List.{AllByRecursion}
+use Rattle.std.specs.Prelude.{◌≡◌, ◌≢◌, ℕ, ◌==◌, Bool, true, not, ◌&&◌, ◌||◌, ◌⊎◌, List, [], ◌∷◌, ◌++◌, codes, false}
+use Rattle.std.specs.List.{AllByRecursion, list_all}
 use Rattle.std.specs.Char.{is_ascii_lowercase, is_ascii_uppercase, is_ascii_alphabetic, is_ascii_alphanumeric, is_ascii_digit}
 use Rattle.std.specs.Int.{is_in_range}
 use Rattle.lmn_lexer.specs.declared.token.Kind.{Kind}
@@ -18,17 +18,18 @@ begins_link b = is_ascii_uppercase b || (b == 95)
 abbrev pub begins_context : ℕ → Bool
 begins_context b = is_ascii_alphabetic b || (b == 95)
 
+-- each byte passes the test
 abbrev pub AllPass : (ℕ → Bool) → List ℕ → Type 0
 AllPass test bs = AllByRecursion (λ b. test b ≡ true) bs
 
 -- a first byte that passes one test, and bytes behind it that pass another
-abbrev pub IsRun : (ℕ → Bool) → (ℕ → Bool) → List ℕ → Type 0
-IsRun first more [] = ⊥
-IsRun first more (b ∷ bs) = (first b ≡ true) × AllPass more bs
+abbrev pub IsSpelledWith : (ℕ → Bool) → (ℕ → Bool) → List ℕ → Type 0
+IsSpelledWith first more [] = ⊥
+IsSpelledWith first more (b ∷ bs) = (first b ≡ true) × AllPass more bs
 
 -- a first byte that passes the test, and letters, digits and `_` behind it
 abbrev pub IsWord : (ℕ → Bool) → List ℕ → Type 0
-IsWord first bytes = IsRun first goes_on bytes
+IsWord first bytes = IsSpelledWith first goes_on bytes
 
 -- this byte, and then such a word
 abbrev pub IsWordBehind : ℕ → (ℕ → Bool) → List ℕ → Type 0
@@ -37,12 +38,12 @@ IsWordBehind sign first (b ∷ bs) = (b ≡ sign) × IsWord first bs
 
 -- one digit or more
 abbrev pub IsDigits : List ℕ → Type 0
-IsDigits bytes = IsRun is_ascii_digit is_ascii_digit bytes
+IsDigits bytes = IsSpelledWith is_ascii_digit is_ascii_digit bytes
 
 -- digits, and behind a `-` where one may begin an integer
-abbrev pub IsInteger : Bool → List ℕ → Type 0
-IsInteger minus [] = ⊥
-IsInteger minus (b ∷ bs) = IsDigits (b ∷ bs) ⊎ ((minus ≡ true) × (b ≡ 45) × IsDigits bs)
+abbrev pub IsIntegerSpelling : Bool → List ℕ → Type 0
+IsIntegerSpelling minus [] = ⊥
+IsIntegerSpelling minus (b ∷ bs) = IsDigits (b ∷ bs) ⊎ ((minus ≡ true) × (b ≡ 45) × IsDigits bs)
 
 -- a byte that stands for itself between quotes: 0x20 to 0x7E and 0x80 to 0xFF without the quote
 abbrev pub is_quotable : ℕ → Bool
@@ -66,7 +67,7 @@ Spells minus Name bytes = IsWord is_ascii_lowercase bytes × (bytes ≢ codes "m
 Spells minus Quoted bytes = (name : List ℕ) × IsQuoted bytes name
 Spells minus Mod bytes = bytes ≡ codes "mod"
 Spells minus Link bytes = IsWord begins_link bytes
-Spells minus Int bytes = IsInteger minus bytes
+Spells minus Int bytes = IsIntegerSpelling minus bytes
 Spells minus Context bytes = IsWordBehind 36 begins_context bytes
 Spells minus RuleCtx bytes = IsWordBehind 64 begins_context bytes
 Spells minus End bytes = ⊥
@@ -94,3 +95,8 @@ Spells minus Plus bytes = bytes ≡ codes "+"
 Spells minus Minus bytes = bytes ≡ codes "-"
 Spells minus Star bytes = bytes ≡ codes "*"
 Spells minus Slash bytes = bytes ≡ codes "/"
+
+-- a name that is written without quotes: a small letter, and letters, digits and `_` after it
+abbrev pub is_bare_name : List ℕ → Bool
+is_bare_name [] = false
+is_bare_name (b ∷ bs) = is_ascii_lowercase b && list_all goes_on bs

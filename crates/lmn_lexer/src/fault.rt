@@ -1,7 +1,7 @@
 ghost use Rattle.std.specs.Prelude.{◌≡◌, ◌↔◌, ◌≤◌, ◌^◌, ◌==◌, ℕ, List, length, count_by, IsTrue, MatchOption};
 ghost use Rattle.lmn_lexer.specs.declared.token.Kind.TheVariants.{Int, Quoted};
 ghost use Rattle.lmn_lexer.specs.Spelling.{IsQuoted};
-ghost use Rattle.lmn_lexer.specs.Faults.{InRange, BeginsFraction, TooLong, TokenFault, value_behind};
+ghost use Rattle.lmn_lexer.specs.Faults.{SpelledInRange, BeginsFraction, TooLong, TokenFault, value_behind};
 
 use crate::token::Kind;
 
@@ -57,7 +57,7 @@ fn begins_fraction(text: &[u8]) -> bool
 
 /// Whether an integer is -2^63 to 2^63 - 1.
 fn is_in_range(integer: &[u8]) -> bool
-    ensures { IsTrue result ↔ InRange integer.now }
+    ensures { IsTrue result ↔ SpelledInRange integer.now }
 {
     match integer.split_first() {
         Some((first, digits)) => {

@@ -1,15 +1,6 @@
 //! Laws of cutting a text into tokens.
 
-ghost use Rattle.lmn_lexer.specs.Laws.{
-  CutOrRefused,
-  FewTokens,
-  LaidTextsAreCut,
-  OneCut,
-  OneRefusal,
-  RefusedIsWrong,
-  SpansInOrder,
-  TokensAreSound,
-};
+ghost use Rattle.lmn_lexer.specs.Laws.{CutOrRefused, FewTokens, LaidTextsAreCut, OneCut, OneFirstFault, RefusedIsWrong, SpansInOrder, TokensAreSound};
 
 /// A text is cut in at most one way.
 pub fn texts_are_cut_once()
@@ -18,7 +9,7 @@ pub fn texts_are_cut_once()
 
 /// A text has at most one refusal. Where it has one, something is wrong in it.
 pub fn refusals_are_one()
-    ensures one { OneRefusal }
+    ensures one { OneFirstFault }
     ensures wrong { RefusedIsWrong }
 {}
 

@@ -1,7 +1,7 @@
 ghost use Rattle.std.specs.Prelude.{◌≡◌, ◌≤◌, ◌<◌, ◌+◌, length, true, IfSome};
 ghost use Rattle.std.specs.Char.{is_ascii_digit};
 ghost use Rattle.lmn_lexer.specs.Spelling.{begins_link, begins_context, is_quotable};
-ghost use Rattle.lmn_lexer.specs.Scanning.{follows, first_passes, word_bytes, digit_bytes, line_bytes, close_at, word_at, context_at, at_sign_at, minus_at, block_at, slash_at, quoted_behind, equal_at, colon_at, bracket_at, greater_at, backslash_at, sign_at, sign_piece, piece_of};
+ghost use Rattle.lmn_lexer.specs.Scanning.{follows, first_passes, word_bytes, digit_bytes, line_bytes, close_at, lowercase_at, context_at, at_sign_at, minus_at, block_at, slash_at, quoted_behind, equal_at, colon_at, bracket_at, greater_at, backslash_at, sign_at, sign_piece, piece_of};
 
 use crate::token::Kind;
 
@@ -56,7 +56,7 @@ pub(crate) fn first_piece(text: &[u8], minus: bool) -> Piece
 /// A name that isn't quoted, or `mod`.
 fn word(text: &[u8]) -> Piece
     requires { 0 < length text.now }
-    ensures { result ≡ word_at text.now }
+    ensures { result ≡ lowercase_at text.now }
 {
     let bytes = 1 + word_bytes(&text[1..]);
     let kind = if &text[..bytes] == b"mod".as_slice() {

@@ -2,7 +2,7 @@ ghost use Rattle.std.specs.Prelude.{◌≡◌, ◌+◌, ◌<◌, ◌≤◌, ◌^
 ghost use Rattle.lmn_base.specs.Refusals.{IfRefused};
 ghost use Rattle.lmn_lexer.specs.declared.piece.Piece.TheVariants as piece;
 ghost use Rattle.lmn_lexer.specs.Cutting.{Cuts, column_behind, is_operand};
-ghost use Rattle.lmn_lexer.specs.Faults.{IsRefusal, NothingWrong};
+ghost use Rattle.lmn_lexer.specs.Faults.{IsLexicalFault, NothingWrong};
 ghost use Rattle.lmn_lexer.specs.Scanning.{piece_of};
 ghost use Rattle.lmn_lexer.specs.Scanners.{IsScanned};
 
@@ -46,7 +46,7 @@ impl Scanner {
         requires more { self.old.at < length text.now }
         ensures scanned { OnOk result (IsScanned text.now self.new) }
         ensures forth { OnOk result (self.old.at < self.new.at) }
-        ensures refused { IfErr result (λ fault. IfRefused fault (λ refusal. IsRefusal text.now refusal)) }
+        ensures refused { IfErr result (λ fault. IfRefused fault (λ refusal. IsLexicalFault text.now refusal)) }
     {
         let rest = rest_of(text, self.at);
         match first_piece(rest, self.minus) {
@@ -76,7 +76,7 @@ impl Scanner {
         requires first { piece.Token kind bytes ≡ piece_of self.old.minus rest.now }
         ensures scanned { OnOk result (IsScanned text.now self.new) }
         ensures forth { OnOk result (self.old.at < self.new.at) }
-        ensures refused { IfErr result (λ fault. IfRefused fault (λ refusal. IsRefusal text.now refusal)) }
+        ensures refused { IfErr result (λ fault. IfRefused fault (λ refusal. IsLexicalFault text.now refusal)) }
     {
         let (token, after) = rest.split_at(bytes);
         let pos = self.pos;
@@ -169,7 +169,7 @@ fn is_operand(kind: Kind) -> bool
 pub fn lex(alloc: Global, text: &[u8]) -> Result<Tokens, TextFault>
     ensures cut { IfOk result (λ tokens. Cuts text.now tokens) }
     ensures right { OnOk result (NothingWrong text.now) }
-    ensures refused { IfErr result (λ fault. IfRefused fault (λ refusal. IsRefusal text.now refusal)) }
+    ensures refused { IfErr result (λ fault. IfRefused fault (λ refusal. IsLexicalFault text.now refusal)) }
 {
     let mut scanner = Scanner::new(alloc);
     'cut: while scanner.at < text.len() {

@@ -1,6 +1,6 @@
 ghost use Rattle.std.specs.Prelude.{◌≡◌, ◌≤◌, ◌^◌, List, ℕ, IfOk};
 ghost use Rattle.lmn_lexer.specs.Spelling.{IsQuoted, Quotes};
-ghost use Rattle.lmn_lexer.specs.Faults.{InRange, value_behind};
+ghost use Rattle.lmn_lexer.specs.Faults.{SpelledInRange, value_behind};
 ghost use Rattle.lmn_lexer.specs.Values.{integer_of, minus_of};
 
 use lmn_base::{NoMemory, Rows};
@@ -8,7 +8,7 @@ use std::alloc::Global;
 
 /// The integer that the bytes of a token spell, which are in the range of 64 bits.
 pub fn integer(bytes: &[u8]) -> i64
-    requires { InRange bytes.now }
+    requires { SpelledInRange bytes.now }
     ensures { result ≡ integer_of bytes.now }
 {
     match bytes.split_first() {

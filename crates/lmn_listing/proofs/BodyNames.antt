@@ -3,7 +3,7 @@ use Rattle.std.proofs.Common.{ℕ, ◌+◌, List, [], ◌∷◌, ◌++◌, map, 
 use Rattle.std.specs.List.{AllByRecursion}
 use Rattle.lmn_solid.specs.declared.items.HeadItem.{HeadItem}
 use Rattle.lmn_solid.specs.Heads.{atoms_of, typed_contexts_of, membranes_of}
-use Rattle.lmn_splice.specs.Classes.{class_of, ends, rising}
+use Rattle.lmn_splice.specs.Classes.{class_of, ends_of_class, rising}
 use Rattle.lmn_instr.specs.declared.instr.AtomPort.{AtomPort}
 use Rattle.lmn_instr.specs.declared.instr.NewPort.{NewPort}
 use Rattle.lmn_instr.specs.declared.instr.NewPort.TheVariants as new
@@ -77,7 +77,7 @@ module _ (names : List (List ℕ)) where
   ties_have : (m : ℕ → ℕ) (news : List (NewPort × ℕ)) (olds : List (AtomPort × ℕ)) (zs : List ℕ) → HasInstrs names (links_code m news olds zs)
   ties_have m news olds [] = tt
   ties_have m news olds (z ∷ zs) =
-      both names (link_code (ends m z news) (ends m z olds)) (links_code m news olds zs) (tie_has (ends m z news) (ends m z olds)) (ties_have m news olds zs)
+      both names (link_code (ends_of_class m z news) (ends_of_class m z olds)) (links_code m news olds zs) (tie_has (ends_of_class m z news) (ends_of_class m z olds)) (ties_have m news olds zs)
 
   -- a list that has the names of the atoms has those of the code
   pub body_has : (head : List HeadItem) (body : List BodyItem) (n : ℕ) → AllByRecursion HasItem body → HasInstrs names (body_code head body n)

@@ -13,17 +13,15 @@ use Rattle.lmn_base.specs.Levels.{leaves_of, contexts_of, rule_contexts_of}
 use Rattle.lmn_base.specs.Names.{label_names, leaf_names, context_names, condition_names, level_names, rule_names as names_in_rule}
 use Rattle.lmn_base.specs.Solids.{connector}
 use Rattle.lmn_heap.specs.Functors.{same_functor}
-use Rattle.lmn_guards.specs.declared.plan.TypeKind.{TypeKind}
 use Rattle.lmn_solid.specs.Flattening as heads
 use Rattle.lmn_solid.proofs.HeadTrees as trees
 use Rattle.lmn_solid.proofs.HeadTrees.{Head, Heads, head, no_head, head_and, head_at, head_leaves, heads_leaves, same_leaves, flat_items, flat_membranes, size}
 use Rattle.lmn_instr.specs.Labels.{HasLabel}
-use Rattle.lmn_instr.proofs.ListingLemmas.{all_front, all_back}
 use Rattle.lmn_body.specs.declared.items.BodyItem.{BodyItem}
-use Rattle.lmn_body.specs.Flattening.{BodyNames, atom_item, typed_item, leaf_items, context_items, rule_items, rule_context_items, body_items}
+use Rattle.lmn_body.specs.Flattening.{atom_item, typed_item, body_leaf_items, context_items, body_rule_items, rule_context_items, body_items, BodyNames}
 use Rattle.lmn_compile_head.specs.Accepted.{head_items}
 use Rattle.lmn_compile_head.specs.Heads.{kind_in}
-use Rattle.lmn_compile_body.specs.Accepted.{rule_names, rule_body_items}
+use Rattle.lmn_compile_body.specs.Accepted.{rule_body_names, rule_body_items}
 use Rattle.lmn_compile_body.proofs.BodyTrees as bodies
 use Rattle.lmn_compile_body.proofs.BodyTrees.{flat_body, flat_bodies}
 use Rattle.lmn_listing.specs.Listings.{CodesHaveNames}
@@ -31,11 +29,8 @@ use Rattle.lmn_listing.proofs.HeadNames as in_head
 use Rattle.lmn_listing.proofs.BodyNames as in_body
 use Rattle.lmn_listing.proofs.HeadNames.{head_has}
 use Rattle.lmn_listing.proofs.BodyNames.{body_has}
-
--- what holds of two lists holds of both in one
-all_both : {X : Type 0} (P : X → Type 0) (xs ys : List X) → AllByRecursion P xs → AllByRecursion P ys → AllByRecursion P (xs ++ ys)
-all_both P [] ys p q = q
-all_both P (x ∷ xs) ys p q = (p.0, all_both P xs ys p.1 q)
+use Rattle.lmn_base.proofs.Lists.{all_append as all_both, all_left as all_front, all_right as all_back}
+use Rattle.lmn_guards.specs.declared.plan.TypeKind.{TypeKind}
 
 module _ (names : List (List ℕ)) where
   abbrev IsHeld : ℕ → Type 0
@@ -90,7 +85,7 @@ module _ (names : List (List ℕ)) where
             (head_levels inside (next + 1 + size hd) hs (all_back HasLeaf (head_leaves hd) (heads_leaves hs) h)),
       )
 
-    head_items_have : (l : Level) → AllByRecursion HasLeaf (leaves_of l) → AllByRecursion (in_head.HasItem names) (heads.items_of kind l)
+    head_items_have : (l : Level) → AllByRecursion HasLeaf (leaves_of l) → AllByRecursion (in_head.HasItem names) (heads.items_of_head kind l)
     head_items_have l h =
         subst (AllByRecursion (in_head.HasItem names)) (sym (trees.items_flat kind l)) (head_level 0 1 (head_at l) (subst (AllByRecursion HasLeaf) (same_leaves l) h))
 
@@ -111,7 +106,7 @@ module _ (names : List (List ℕ)) where
     of_typed (Some g) i x inside = tt
     of_typed None i x inside = tt
 
-    of_leaves : (inside : ℕ) (ls : List Leaf) → AllByRecursion HasLeaf ls → HasItems (leaf_items bn inside ls)
+    of_leaves : (inside : ℕ) (ls : List Leaf) → AllByRecursion HasLeaf ls → HasItems (body_leaf_items bn inside ls)
     of_leaves inside [] h = tt
     of_leaves inside (leaf.Atom f os p ∷ ls) h = (of_atom (same_functor f connector) f (map (λ o. o.link) os) inside h.0, of_leaves inside ls h.1)
     of_leaves inside (leaf.Typed m u p ∷ ls) h = (of_typed (bn.part m) (bn.integer m) u.link inside, of_leaves inside ls h.1)
@@ -120,7 +115,7 @@ module _ (names : List (List ℕ)) where
     of_contexts inside [] = tt
     of_contexts inside (u ∷ us) = (tt, of_contexts inside us)
 
-    of_rules : (inside : ℕ) (ks : List ℕ) → HasItems (rule_items inside ks)
+    of_rules : (inside : ℕ) (ks : List ℕ) → HasItems (body_rule_items inside ks)
     of_rules inside [] = tt
     of_rules inside (k ∷ ks) = (tt, of_rules inside ks)
 
@@ -131,10 +126,10 @@ module _ (names : List (List ℕ)) where
     mutual
       body_level : (inside next : ℕ) (hd : Head) → AllByRecursion HasLeaf (head_leaves hd) → HasItems (flat_body bn inside next hd)
       body_level inside next (head leaves hs cs rcs rs) h =
-          let ks = rule_items inside rs in
+          let ks = body_rule_items inside rs in
           let us = rule_context_items bn inside rcs in
           let vs = context_items bn inside cs in
-          all_both (in_body.HasItem names) (leaf_items bn inside leaves) (flat_bodies bn inside next hs ++ (vs ++ (ks ++ us))) (of_leaves inside leaves (all_front HasLeaf leaves (heads_leaves hs) h))
+          all_both (in_body.HasItem names) (body_leaf_items bn inside leaves) (flat_bodies bn inside next hs ++ (vs ++ (ks ++ us))) (of_leaves inside leaves (all_front HasLeaf leaves (heads_leaves hs) h))
           (all_both (in_body.HasItem names) (flat_bodies bn inside next hs) (vs ++ (ks ++ us)) (body_levels inside next hs (all_back HasLeaf leaves (heads_leaves hs) h))
           (all_both (in_body.HasItem names) vs (ks ++ us) (of_contexts inside cs) (all_both (in_body.HasItem names) ks us (of_rules inside rs) (of_rule_contexts inside rcs))))
 
@@ -161,5 +156,5 @@ codes_have_names names r plan known =
     let below = all_back P (level_names r.head ++ guard) (level_names r.body) all in (
       head_has names (head_items r plan) r.guard (head_items_have names (kind_in plan.kinds) r.head (level_held names r.head above)),
       body_has names (head_items r plan) (rule_body_items r plan) (length r.links)
-          (body_items_have names (rule_names r plan) _ r.body (level_held names r.body below)),
+          (body_items_have names (rule_body_names r plan) _ r.body (level_held names r.body below)),
     )

@@ -15,14 +15,15 @@ use Rattle.lmn_guards.specs.declared.plan.TypeKind.{TypeKind}
 use Rattle.lmn_guards.specs.declared.plan.TypeKind.TheVariants as kind
 use Rattle.lmn_solid.specs.declared.items.HeadItem.{HeadItem}
 use Rattle.lmn_solid.specs.declared.items.HeadItem.TheVariants.{Atom, Typed, Membrane}
-use Rattle.lmn_solid.specs.Heads.{HeadAtom, HeadTyped, HeadMembrane, Port, atoms_of, typed_contexts_of, membranes_of, at_atoms, links_of, times, outermost}
+use Rattle.lmn_solid.specs.Heads.{HeadAtom, HeadTyped, HeadMembrane, atoms_of, typed_contexts_of, membranes_of, at_atoms, links_of_head, times, outermost}
 use Rattle.lmn_solid.specs.Guards.{typed_number, context_alone}
 use Rattle.lmn_instr.specs.declared.instr.AtomPort.{AtomPort}
 use Rattle.lmn_instr.specs.declared.instr.Instr.{Instr}
 use Rattle.lmn_instr.specs.declared.instr.Instr.TheVariants.{NeqAtom, NotIn, NeqMem, NAtoms, NMems, NoRules, Commit}
 use Rattle.lmn_instr.specs.Labels.{HasLabel}
 use Rattle.lmn_instr.specs.Listings.{HasInstr}
-use Rattle.lmn_instr.specs.HeadCode.{items_code, atom_code, found_code, Entry, entry, differ_code, ports_code, port_code, joined_code, open_code, find_port, before, is_entry, membrane_code, differ_membrane_code, parts_code, part_code, test_of, filled_code, all_filled_code, number_inside, parts_inside, head_code, operand, operation, comparison, named_code, value_code, equal_code, part_named, differ_parts_code, bind_register, guard_code}
+use Rattle.lmn_instr.specs.HeadCode.{items_code, atom_code, found_code, Entry, entry, differ_code, ports_code, port_code, joined_code, open_code, find_port, occurrences_before, is_entry, membrane_code, differ_membrane_code, parts_code, part_code, test_of, filled_code, all_filled_code, number_inside, parts_inside, head_code, operand, operator_instruction, comparison, named_code, value_code, equal_code, part_named, differ_parts_code, bind_register, guard_code}
+use Rattle.lmn_base.specs.Graphs.{Port}
 
 module _ (names : List (List ℕ)) where
   -- the list has the names of these instructions
@@ -57,7 +58,7 @@ module _ (names : List (List ℕ)) where
   open_has : (items : List HeadItem) (n : ℕ) (a : HeadAtom) (i x : ℕ) → HasInstrs (open_code items n a i x)
   open_has items n a i x =
       let is = NotIn (operand (n, i)) (outermost (membranes_of items) a.inside) ∷ [] in
-      unless_has (a.inside == 0) (if times x (links_of items) == 1 then is else []) (if_has (times x (links_of items) == 1) is ((tt, (tt, tt)), tt))
+      unless_has (a.inside == 0) (if times x (links_of_head items) == 1 then is else []) (if_has (times x (links_of_head items) == 1) is ((tt, (tt, tt)), tt))
 
   joined_has : (items : List HeadItem) (n : ℕ) (a : HeadAtom) (i x : ℕ) (p : Option Port) → HasInstrs (joined_code items n a i x p)
   joined_has items n a i x None = open_has items n a i x
@@ -66,7 +67,7 @@ module _ (names : List (List ℕ)) where
   ports_has : (items : List HeadItem) (n : ℕ) (a : HeadAtom) (i : ℕ) (xs : List ℕ) → HasInstrs (ports_code items n a i xs)
   ports_has items n a i [] = tt
   ports_has items n a i (x ∷ xs) =
-      let p = find_port x (before items n a i) in
+      let p = find_port x (occurrences_before items n a i) in
       both (port_code items n a i x) (ports_code items n a (i + 1) xs)
       (unless_has (is_entry i (entry items n a)) (joined_code items n a i x p) (joined_has items n a i x p)) (ports_has items n a (i + 1) xs)
 
@@ -119,7 +120,7 @@ module _ (names : List (List ℕ)) where
 
   -- ---- the guard
 
-  operation_has : (o : Arith) (v w x : ℕ) → HasInstr names (operation o v w x)
+  operation_has : (o : Arith) (v w x : ℕ) → HasInstr names (operator_instruction o v w x)
   operation_has op.Add v w x = (tt, (tt, (tt, tt)))
   operation_has op.Sub v w x = (tt, (tt, (tt, tt)))
   operation_has op.Mul v w x = (tt, (tt, (tt, tt)))
@@ -144,8 +145,8 @@ module _ (names : List (List ℕ)) where
   value_has part bound (expr.Op' o p left q right) v =
       let a = value_code part bound left v in
       let b = value_code part bound right a.next in
-      both a.code (b.code ++ (operation o b.next a.at b.at ∷ [])) (value_has part bound left v)
-      (both b.code (operation o b.next a.at b.at ∷ []) (value_has part bound right a.next) (operation_has o b.next a.at b.at, tt))
+      both a.code (b.code ++ (operator_instruction o b.next a.at b.at ∷ [])) (value_has part bound left v)
+      (both b.code (operator_instruction o b.next a.at b.at ∷ []) (value_has part bound right a.next) (operation_has o b.next a.at b.at, tt))
 
   equal_has : (left right : Option ℕ) (part : ℕ → Option ℕ) (bound : ℕ → ℕ) (e : Expr) (v : ℕ) (bs cs : List Instr) → HasInstrs bs → HasInstrs cs →
       HasInstrs (equal_code left right (value_code part bound e v) bs cs)

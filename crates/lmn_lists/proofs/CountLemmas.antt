@@ -10,7 +10,7 @@ use Rattle.lmn_heap.proofs.Pigeonholes.{length_without}
 use Rattle.lmn_heap.proofs.Listing.{alter_at, alter_away}
 use Rattle.lmn_lists.specs.declared.node.Node.{Node}
 use Rattle.lmn_lists.specs.declared.node.Ends.{Ends}
-use Rattle.lmn_lists.specs.Lines.{Held, list_at, lengths, Sound, view_of}
+use Rattle.lmn_lists.specs.Lines.{HeldLists, list_at, lengths, WellLinked, view_of}
 use Rattle.lmn_lists.proofs.Growth.{read_more}
 use Rattle.lmn_lists.proofs.SoundLemmas.{within}
 use Rattle.lmn_lists.proofs.TableLemmas.{list_is, list_within, not_there}
@@ -33,23 +33,23 @@ pub lengths-more : (ls : List (List ℕ)) → lengths (ls ++ [] ∷ []) ≡ leng
 lengths-more [] = refl
 lengths-more (ys ∷ ls) = ap (λ ns. length ys ∷ ns) (lengths-more ls)
 
-pub list_more : (t h new : Held) → t ≡ h → new ≡ record t { lists = t.lists ++ [] ∷ [] } → list_at new ≡ list_at h
-list_more t h new v e = λ j i. (ap (λ (u : Held). list_at u i) e ∙ read_more t.lists [] i ∙ ap (λ (u : Held). list_at u i) v) j
+pub list_more : (t h new : HeldLists) → t ≡ h → new ≡ record t { lists = t.lists ++ [] ∷ [] } → list_at new ≡ list_at h
+list_more t h new v e = λ j i. (ap (λ (u : HeldLists). list_at u i) e ∙ read_more t.lists [] i ∙ ap (λ (u : HeldLists). list_at u i) v) j
 
-pub list_short : (ns : List Node) (es : List Ends) (h : Held) → view_of ns es ≡ h → Sound ns es → (l : ℕ) → l < length h.lists → length (list_at h l) ≤ length ns
+pub list_short : (ns : List Node) (es : List Ends) (h : HeldLists) → view_of ns es ≡ h → WellLinked ns es → (l : ℕ) → l < length h.lists → length (list_at h l) ≤ length ns
 list_short ns es h v s l there =
     let lt = list_within ns es h v l there in
     let line = s.line l lt in
     rw (list_is ns es h v l there) (short (length ns) _ line.distinct (within ns l _ line.each))
 
-pub put_short : (ns : List Node) (es : List Ends) (h new : Held) (l : ℕ) (ys : List ℕ) → view_of ns es ≡ new → Sound ns es → new ≡ record h { lists = slice_set h.lists l ys }
+pub put_short : (ns : List Node) (es : List Ends) (h new : HeldLists) (l : ℕ) (ys : List ℕ) → view_of ns es ≡ new → WellLinked ns es → new ≡ record h { lists = slice_set h.lists l ys }
     → l < length h.lists → length (list_at new l) ≤ length ns
-put_short ns es h new l ys v s e there = list_short ns es new v s l (subst (λ n. l < n) (sym (ap (λ (u : Held). length u.lists) e ∙ length-set h.lists l ys)) there)
+put_short ns es h new l ys v s e there = list_short ns es new v s l (subst (λ n. l < n) (sym (ap (λ (u : HeldLists). length u.lists) e ∙ length-set h.lists l ys)) there)
 
 -- The counts of a table's lists, over plain values.
-module _ (t h : Held) (cs : List ℕ) (v : t ≡ h) (i : cs ≡ lengths t.lists) (l : ℕ) (there : l < length h.lists) where
+module _ (t h : HeldLists) (cs : List ℕ) (v : t ≡ h) (i : cs ≡ lengths t.lists) (l : ℕ) (there : l < length h.lists) where
   is_lengths : cs ≡ lengths h.lists
-  is_lengths = i ∙ ap (λ (u : Held). lengths u.lists) v
+  is_lengths = i ∙ ap (λ (u : HeldLists). lengths u.lists) v
 
   pub count_within : l < length cs
   count_within = rw (is_lengths, length-lengths h.lists) there
@@ -58,12 +58,12 @@ module _ (t h : Held) (cs : List ℕ) (v : t ≡ h) (i : cs ≡ lengths t.lists)
     count_is : n ≡ length (list_at h l)
     count_is = r ∙ ap (λ ns. get_or ns l n) is_lengths ∙ lengths-at h.lists l n there
 
-    module _ (new : Held) (x : ℕ) (et : new ≡ record t { lists = slice_set t.lists l (list_at t l ++ x ∷ []) }) where
+    module _ (new : HeldLists) (x : ℕ) (et : new ≡ record t { lists = slice_set t.lists l (list_at t l ++ x ∷ []) }) where
       e : new ≡ record h { lists = slice_set h.lists l (list_at h l ++ x ∷ []) }
-      e = et ∙ ap (λ (u : Held). record u { lists = slice_set u.lists l (list_at u l ++ x ∷ []) }) v
+      e = et ∙ ap (λ (u : HeldLists). record u { lists = slice_set u.lists l (list_at u l ++ x ∷ []) }) v
 
       new_list : length (list_at new l) ≡ n + 1
-      new_list = ap (λ (u : Held). length (list_at u l)) e ∙ ap length (get_or-set_same h.lists l (list_at h l ++ x ∷ []) [] there) ∙ length-append (list_at h l) (x ∷ []) ∙ ap (λ k. k + 1) (sym count_is)
+      new_list = ap (λ (u : HeldLists). length (list_at u l)) e ∙ ap length (get_or-set_same h.lists l (list_at h l ++ x ∷ []) [] there) ∙ length-append (list_at h l) (x ∷ []) ∙ ap (λ k. k + 1) (sym count_is)
 
       pub push_small : length (list_at new l) < 2 ^ 64 → n + 1 < 2 ^ 64
       push_small f = subst (λ k. k < 2 ^ 64) new_list f
@@ -72,23 +72,23 @@ module _ (t h : Held) (cs : List ℕ) (v : t ≡ h) (i : cs ≡ lengths t.lists)
       push_counts =
           ap (λ ns. slice_set ns l (n + 1)) is_lengths
           ∙ ap (slice_set (lengths h.lists) l) (ap (λ k. k + 1) count_is ∙ sym (length-append (list_at h l) (x ∷ [])))
-          ∙ sym (lengths-set h.lists l (list_at h l ++ x ∷ [])) ∙ ap (λ (u : Held). lengths u.lists) (sym e)
+          ∙ sym (lengths-set h.lists l (list_at h l ++ x ∷ [])) ∙ ap (λ (u : HeldLists). lengths u.lists) (sym e)
 
     module _ (x : ℕ) (inside : In x (list_at h l)) where
       pub unlink_one : 1 ≤ n
       unlink_one = let k = length_without x (list_at h l) inside in let m = count_is in omega arith
 
-      pub unlink_counts : (new : Held) → new ≡ record t { lists = slice_set t.lists l (without x (list_at t l)) } → slice_set cs l (n - 1) ≡ lengths new.lists
+      pub unlink_counts : (new : HeldLists) → new ≡ record t { lists = slice_set t.lists l (without x (list_at t l)) } → slice_set cs l (n - 1) ≡ lengths new.lists
       unlink_counts new et =
-          let e : new ≡ record h { lists = slice_set h.lists l (without x (list_at h l)) } = et ∙ ap (λ (u : Held). record u { lists = slice_set u.lists l (without x (list_at u l)) }) v in
+          let e : new ≡ record h { lists = slice_set h.lists l (without x (list_at h l)) } = et ∙ ap (λ (u : HeldLists). record u { lists = slice_set u.lists l (without x (list_at u l)) }) v in
           let k = length_without x (list_at h l) inside in
           let m = count_is in
           let less : n - 1 ≡ length (without x (list_at h l)) = omega arith in
           ap (λ ns. slice_set ns l (n - 1)) is_lengths ∙ ap (slice_set (lengths h.lists) l) less
-          ∙ sym (lengths-set h.lists l (without x (list_at h l))) ∙ ap (λ (u : Held). lengths u.lists) (sym e)
+          ∙ sym (lengths-set h.lists l (without x (list_at h l))) ∙ ap (λ (u : HeldLists). lengths u.lists) (sym e)
 
-pub more_counts : (t : Held) (cs : List ℕ) → cs ≡ lengths t.lists → (new : Held) → new ≡ record t { lists = t.lists ++ [] ∷ [] } → cs ++ 0 ∷ [] ≡ lengths new.lists
-more_counts t cs i new e = ap (λ ns. ns ++ 0 ∷ []) i ∙ sym (lengths-more t.lists) ∙ ap (λ (u : Held). lengths u.lists) (sym e)
+pub more_counts : (t : HeldLists) (cs : List ℕ) → cs ≡ lengths t.lists → (new : HeldLists) → new ≡ record t { lists = t.lists ++ [] ∷ [] } → cs ++ 0 ∷ [] ≡ lengths new.lists
+more_counts t cs i new e = ap (λ ns. ns ++ 0 ∷ []) i ∙ sym (lengths-more t.lists) ∙ ap (λ (u : HeldLists). lengths u.lists) (sym e)
 
 -- a number that was once in one list alone is in none when it has left
 pub left_free : (before now : ℕ → List ℕ) (from x : ℕ) → now ≡ alter before from (without x) → Distinct (before from) → ((l : ℕ) → In x (before l) → l ≡ from)

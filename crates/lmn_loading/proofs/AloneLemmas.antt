@@ -13,35 +13,32 @@ use Rattle.lmn_base.specs.declared.rule.RuleTree.{RuleTree}
 use Rattle.lmn_base.specs.declared.level.Occ.{Occ}
 use Rattle.lmn_base.specs.declared.rule.LinkUse.{LinkUse}
 use Rattle.lmn_base.specs.declared.rule.Plain.{Plain}
-use Rattle.lmn_base.specs.Levels.{leaves_of, leaf_occurrences, links_of, contexts_of, rule_contexts_of, rules_of}
+use Rattle.lmn_base.specs.Levels.{leaves_of, occurrences_of_leaf, links_of, contexts_of, rule_contexts_of, rules_of}
 use Rattle.lmn_base.specs.Links.{EachTwice, no_more, NumbersLinks}
-use Rattle.lmn_base.specs.WellMade.{IsWellMade, IsWellMadeRule, FitsArity, IsAtom}
+use Rattle.lmn_base.specs.WellMade.{IsWellMade, IsWellMadeRule, FitsArity, IsAtomLeaf}
 use Rattle.lmn_congruence.proofs.Appended.{all_right}
 use Rattle.lmn_loading.specs.Alone.{IsAlone}
-use Rattle.lmn_loading.proofs.Composing.{both}
+use Rattle.lmn_base.proofs.Lists.{all_none, joined_alike as both}
 
 fits : (l : Leaf) → IsAlone l → FitsArity l
 fits (Atom f os p) h = ap (λ (xs : List Occ). length xs) h.0 ∙ sym h.1
 fits (Typed n o p) h = tt
 
-is_atom : (l : Leaf) → IsAlone l → IsAtom l
+is_atom : (l : Leaf) → IsAlone l → IsAtomLeaf l
 is_atom (Atom f os p) h = tt
 is_atom (Typed n o p) h = absurd h
 
-no_links : (l : Leaf) → IsAlone l → leaf_occurrences l ≡ []
+no_links : (l : Leaf) → IsAlone l → occurrences_of_leaf l ≡ []
 no_links (Atom f os p) h = h.0
 no_links (Typed n o p) h = absurd h
 
-no_occurrences : (ls : List Leaf) → All IsAlone ls → flat_map leaf_occurrences ls ≡ []
+no_occurrences : (ls : List Leaf) → All IsAlone ls → flat_map occurrences_of_leaf ls ≡ []
 no_occurrences [] h = refl
 no_occurrences (l ∷ ls) h = both (no_links l (h zero l (omega arith))) (no_occurrences ls (all_right IsAlone (l ∷ []) ls h))
 
-nil : (ls : List Leaf) → ls ++ [] ≡ ls
+pub nil : (ls : List Leaf) → ls ++ [] ≡ ls
 nil [] = refl
 nil (l ∷ ls) = ap (λ ks. l ∷ ks) (nil ls)
-
-all_none : {A : Type 0} (P : A → Type 0) → All P []
-all_none P k d l = absurd (omega (arith, l))
 
 -- the lists of a level that has leaves alone
 module _ (l : Level) (ls : List Leaf) (a : (out-Level l).leaves ≡ ls) (b : (out-Level l).membranes ≡ []) (c : (out-Level l).contexts ≡ []) (d : (out-Level l).rule_contexts ≡ []) (e : (out-Level l).rules ≡ []) (h : All IsAlone ls) where
@@ -58,7 +55,7 @@ module _ (l : Level) (ls : List Leaf) (a : (out-Level l).leaves ≡ ls) (b : (ou
   rules_are = fold_out-Level (List ℕ) (λ l. l.rules ++ flat_map (λ inner. inner) l.membranes) l ∙ both e (ap (λ ms. flat_map (λ inner. inner) (map rules_of ms)) b)
 
   links_are : links_of l ≡ []
-  links_are = ap (λ xs. map (λ (o : Occ). o.link) (flat_map leaf_occurrences xs)) leaves_are ∙ ap (map (λ (o : Occ). o.link)) (no_occurrences ls h)
+  links_are = ap (λ xs. map (λ (o : Occ). o.link) (flat_map occurrences_of_leaf xs)) leaves_are ∙ ap (map (λ (o : Occ). o.link)) (no_occurrences ls h)
 
   each_twice : EachTwice (links_of l)
   each_twice = subst EachTwice (sym links_are) (λ x. inl refl)
@@ -81,7 +78,7 @@ alone_well p ls a b c d e f g h =
         each_rule = subst (All IsWellMadeRule) (sym g) (all_none IsWellMadeRule);
         rules_at_top = subst (All (λ k. k < length p.rules)) (sym (rules_are p.top ls a b c d e h)) (all_none (λ k. k < length p.rules));
         rules_in_rules = λ n r i. absurd (no_rule n r (subst (λ rs. slice_get rs n ≡ Some r) g i));
-        only_atoms = subst (All IsAtom) (sym leaves) (λ k x l. is_atom _ (h k x l));
+        only_atoms = subst (All IsAtomLeaf) (sym leaves) (λ k x l. is_atom _ (h k x l));
         no_context = contexts_are p.top ls a b c d e h;
         no_rule_context = rule_contexts_are p.top ls a b c d e h;
       },

@@ -1,6 +1,6 @@
 -- One atom more, and rules more.
-use Rattle.std.proofs.Common.{ℕ, zero, suc, ◌≡◌, ◌≢◌, ◌+◌, ◌-◌, ◌<◌, ◌≤◌, true, false, List, [], ◌∷◌, ◌++◌, map, length, Option, Some, None, IsSome, refl, sym, ap, subst, ◌∙◌, inl, inr, arith}
-use Rattle.std.specs.Prelude.{replicate, slice_index_or, cond}
+use Rattle.std.proofs.Common.{ℕ, suc, ◌≡◌, ◌≢◌, ◌+◌, ◌-◌, ◌<◌, ◌≤◌, true, false, List, [], ◌∷◌, ◌++◌, map, length, Option, Some, None, IsSome, refl, sym, ap, subst, ◌∙◌, inl, inr, arith}
+use Rattle.std.specs.Prelude.{replicate, cond}
 use Rattle.std.specs.Option.{option_map}
 use Rattle.std.proofs.lemmas.Bool.{cases_eq, eq-eqb}
 use Rattle.std.proofs.lemmas.List.{length-replicate}
@@ -11,18 +11,21 @@ use Rattle.lmn_base.specs.declared.level.Occ.{Occ}
 use Rattle.lmn_base.specs.declared.refusal.Pos.{Pos}
 use Rattle.lmn_base.specs.Solids.{connector}
 use Rattle.lmn_congruence.specs.SolidsOfPlains.{is_connector, fused_leaf}
-use Rattle.lmn_heap.specs.Heap.{Heap, HeapAtom, HeapMem, within, alter, with_place, mem_with_atoms, mem_with_rules, mem_with_spare, new_atom, IsMem, StandsAt, atoms_in, mems_in, rules_in, spare_of, atoms_by, mems_by, rules_by, spare_by, mem_place_of, made_atom, reserved, rule_added, after, from}
-use Rattle.lmn_heap.specs.Solid.{numbered, atom_of}
+use Rattle.lmn_heap.specs.Heap.{Heap, HeapAtom, HeapMem, within, alter, with_place, mem_with_atoms, mem_with_rules, mem_with_spare, new_atom, IsMem, IsTopOrWithin, atoms_in, mems_in, rules_in, spare_of, atoms_by, mems_by, rules_by, spare_by, mem_place_of, made_atom, reserved, rule_added, after, from}
+use Rattle.lmn_heap.specs.Solid.{links_from, solid_atom_at}
 use Rattle.lmn_heap.specs.Sound.{Sound, bare}
-use Rattle.lmn_heap.proofs.Calls.{calls_keep_sound}
+use Rattle.lmn_heap.proofs.Calls.{calls_keep_sound, stands_some as standing_is_mem}
 use Rattle.lmn_heap.proofs.Listing.{alter_at, alter_away, alter_keeps, same_mem_place, same_mems, atoms_at}
-use Rattle.lmn_splice.specs.Ports.{Port}
-use Rattle.lmn_splice.specs.Splice.{In, Distinct, ports, links}
-use Rattle.lmn_loading.specs.Adding.{IsReady, Named, atom_links, leaf_links, ports_from, IsMadeAtom, IsFreePort, Adds, with_atom}
-use Rattle.lmn_loading.proofs.Composing.{standing_is_mem, none_is_not, none_more}
+use Rattle.lmn_splice.specs.Splice.{IsOneOf, NoneTwice, ports, links}
+use Rattle.lmn_loading.specs.Adding.{CanBeFilled, Named, atom_links, atom_leaf_links, ports_with_links, IsMadeAtom, IsFreePort, AddsToMembrane, with_atom}
+use Rattle.lmn_loading.proofs.Composing.{none_is_not}
+use Rattle.lmn_base.specs.Graphs.{Port}
+use Rattle.lmn_base.proofs.Lists.{nothing_added as none_more}
+use Rattle.lmn_base.proofs.Numbers.{zeros_at as no_marks}
+use Rattle.lmn_heap.proofs.Common.{list_rules, no_links, no_port}
 
 -- A leaf that leaves nothing
-pub no_leaf : (s : Heap) (m : ℕ) (l : Leaf) → ((v : ℕ → ℕ) → fused_leaf v l ≡ []) → leaf_links l ≡ [] → IsReady s m → Adds s s m (l ∷ []) [] [] []
+pub no_leaf : (s : Heap) (m : ℕ) (l : Leaf) → ((v : ℕ → ℕ) → fused_leaf v l ≡ []) → atom_leaf_links l ≡ [] → CanBeFilled s m → AddsToMembrane s s m (l ∷ []) [] [] []
 no_leaf s m l e d h = record {
   ready = h;
   root = refl;
@@ -48,7 +51,7 @@ no_leaf s m l e d h = record {
 
 -- Ports of one atom
 
-ports_are : (a b i j : ℕ) (os : List Occ) → In {A = Port} (b, j) (ports (ports_from a i os)) → (b ≡ a) × (i ≤ j) × (j < i + length os)
+ports_are : (a b i j : ℕ) (os : List Occ) → IsOneOf {A = Port} (b, j) (ports (ports_with_links a i os)) → (b ≡ a) × (i ≤ j) × (j < i + length os)
 ports_are a b i j [] k = absurd k
 ports_are a b i j (o ∷ os) (inl e) = (sym (ap (λ (p : Port). p.0) e), low (ap (λ (p : Port). p.1) e), high (ap (λ (p : Port). p.1) e))
   where
@@ -59,14 +62,14 @@ ports_are a b i j (o ∷ os) (inl e) = (sym (ap (λ (p : Port). p.0) e), low (ap
     high e = omega (arith, e)
 ports_are a b i j (o ∷ os) (inr k) = let w = ports_are a b (i + 1) j os k in (w.0, omega (arith, w.1), omega (arith, w.2))
 
-ports_once : (a i : ℕ) (os : List Occ) → Distinct (ports (ports_from a i os))
+ports_once : (a i : ℕ) (os : List Occ) → NoneTwice (ports (ports_with_links a i os))
 ports_once a i [] = tt
 ports_once a i (o ∷ os) = (λ k. (let w = ports_are a a (i + 1) i os k in absurd (off i w.1)), ports_once a (i + 1) os)
   where
     off : (i : ℕ) → i + 1 ≤ i → ⊥
     off i l = absurd (omega (arith, l))
 
-port_there : (a i j : ℕ) (os : List Occ) → i ≤ j → j < i + length os → In {A = Port} (a, j) (ports (ports_from a i os))
+port_there : (a i j : ℕ) (os : List Occ) → i ≤ j → j < i + length os → IsOneOf {A = Port} (a, j) (ports (ports_with_links a i os))
 port_there a i j [] l h = absurd (off l h)
   where
     off : i ≤ j → j < i + 0 → ⊥
@@ -82,36 +85,16 @@ port_there a i j (o ∷ os) l h = elim (cases_eq i j) [
     less : j < i + suc (length os) → j < i + 1 + length os
     less h = omega (arith, h)
 
-links_are : (a i : ℕ) (os : List Occ) → links (ports_from a i os) ≡ map (λ o. o.link) os
+links_are : (a i : ℕ) (os : List Occ) → links (ports_with_links a i os) ≡ map (λ o. o.link) os
 links_are a i [] = refl
 links_are a i (o ∷ os) = ap (λ xs. o.link ∷ xs) (links_are a (i + 1) os)
 
-numbers_named : (name : ℕ → ℕ → ℕ) (v : ℕ → ℕ) (a i : ℕ) (os : List Occ) → Named name v (ports_from a i os) → numbered name a i (length os) ≡ map (λ o. v o.link) os
+numbers_named : (name : ℕ → ℕ → ℕ) (v : ℕ → ℕ) (a i : ℕ) (os : List Occ) → Named name v (ports_with_links a i os) → links_from name a i (length os) ≡ map (λ o. v o.link) os
 numbers_named name v a i [] n = refl
 numbers_named name v a i (o ∷ os) n = rw (n.0, numbers_named name v a (i + 1) os n.1) refl
 
-abbrev no_port : Option Port
-no_port = None
-
-none_links : (n i : ℕ) → slice_index_or (replicate n no_port) i None ≡ None
-none_links zero i = refl
-none_links (suc n) zero = refl
-none_links (suc n) (suc i) = none_links n i
-
-no_marks : (n i : ℕ) → ◌≡◌ {A = ℕ} (slice_index_or (replicate n 0) i 0) 0
-no_marks zero i = refl
-no_marks (suc n) zero = refl
-no_marks (suc n) (suc i) = no_marks n i
-
 not_connector : (f : Functor) → is_connector f ≡ false → Some f ≢ Some connector
 not_connector f e d = let g : f ≡ connector = (cc) in let w : false ≡ true = sym e ∙ ap is_connector g in absurd (cc)
-
-list_rules : (f : ℕ → Option HeapMem) (m : ℕ) (g : List ℕ → List ℕ) (k : ℕ) → rules_by (alter f m (option_map (mem_with_atoms g)) k) ≡ rules_by (f k)
-list_rules f m g k = alter_keeps f m (option_map (mem_with_atoms g)) rules_by by k
-  where
-    by : (o : Option HeapMem) → rules_by (option_map (mem_with_atoms g) o) ≡ rules_by o
-    by None = refl
-    by (Some y) = refl
 
 mapped_is : (g : HeapMem → HeapMem) (o : Option HeapMem) → IsSome (option_map g o) → IsSome o
 mapped_is g None i = absurd (let u : IsSome {T = HeapMem} None = i in cc)
@@ -131,12 +114,12 @@ line_first xs a e = rw e (rw (eq-eqb a a refl) refl)
 pub line_rest : (xs : List ℕ) (a : ℕ) → xs ≡ [] → after a (xs ++ a ∷ []) ≡ []
 line_rest xs a e = rw e (rw (eq-eqb a a refl) refl)
 
-module _ (s : Heap) (m a : ℕ) (f : Functor) (os : List Occ) (pos : Pos) (h : IsReady s m) (fresh : s.atoms a ≡ None) (plain : is_connector f ≡ false) (fits : length os ≡ f.arity) where
+module _ (s : Heap) (m a : ℕ) (f : Functor) (os : List Occ) (pos : Pos) (h : CanBeFilled s m) (fresh : s.atoms a ≡ None) (plain : is_connector f ≡ false) (fits : length os ≡ f.arity) where
   abbrev t : Heap
   t = with_atom s m a f
 
   abbrev ps : List (Port × ℕ)
-  ps = ports_from a 0 os
+  ps = ports_with_links a 0 os
 
   abbrev made : HeapAtom
   made = with_place (within m) (new_atom f)
@@ -150,8 +133,8 @@ module _ (s : Heap) (m a : ℕ) (f : Functor) (os : List Occ) (pos : Pos) (h : I
   is_mem : IsMem s m
   is_mem = standing_is_mem (s.mems m) h.there
 
-  there : StandsAt (mem_place_of t m)
-  there = subst StandsAt (sym (same_mem_place s.mems m (λ xs. xs ++ a ∷ []) m)) h.there
+  there : IsTopOrWithin (mem_place_of t m)
+  there = subst IsTopOrWithin (sym (same_mem_place s.mems m (λ xs. xs ++ a ∷ []) m)) h.there
 
   sound : Sound t
   sound = (calls_keep_sound (made_atom s a f) ((calls_keep_sound s h.sound).make_atom a f fresh)).place_atom m a h.there (line_first s.new_atoms a h.no_atoms)
@@ -168,17 +151,17 @@ module _ (s : Heap) (m a : ℕ) (f : Functor) (os : List Occ) (pos : Pos) (h : I
       short i l = let n = length-replicate f.arity no_port in omega (arith, l, n, fits)
 
   free_port : (j : ℕ) → j < 0 + length os → IsFreePort (t.atoms a) j
-  free_port j l = subst (λ o. IsFreePort o j) (sym atom_at) (refl, short, none_links f.arity j)
+  free_port j l = subst (λ o. IsFreePort o j) (sym atom_at) (refl, short, no_links f.arity j)
     where
       short : j < length (replicate f.arity no_port)
       short = let n = length-replicate f.arity no_port in omega (arith, l, n, fits)
 
-  here_named : (v : ℕ → ℕ) (name : ℕ → ℕ → ℕ) → Named name v ps → atom_of name a (t.atoms a) ++ [] ≡ cond (is_connector f) [] (record { functor = f; links = map (λ o. v o.link) os } ∷ []) ++ []
-  here_named v name n = ap (λ o. atom_of name a o ++ []) atom_at
-      ∙ ap (λ ls. record { functor = f; links = ls } ∷ []) (ap (numbered name a 0) (sym fits) ∙ numbers_named name v a 0 os n)
+  here_named : (v : ℕ → ℕ) (name : ℕ → ℕ → ℕ) → Named name v ps → solid_atom_at name a (t.atoms a) ++ [] ≡ cond (is_connector f) [] (record { functor = f; links = map (λ o. v o.link) os } ∷ []) ++ []
+  here_named v name n = ap (λ o. solid_atom_at name a o ++ []) atom_at
+      ∙ ap (λ ls. record { functor = f; links = ls } ∷ []) (ap (links_from name a 0) (sym fits) ∙ numbers_named name v a 0 os n)
       ∙ sym (ap (λ b. cond b [] (record { functor = f; links = map (λ o. v o.link) os } ∷ []) ++ []) plain)
 
-  pub atom_added : Adds s t m (Atom f os pos ∷ []) [] [] ps
+  pub atom_added : AddsToMembrane s t m (Atom f os pos ∷ []) [] [] ps
   atom_added = record {
     ready = record { sound = sound; no_atoms = line_rest s.new_atoms a h.no_atoms; no_mems = h.no_mems; there = there };
     root = refl;
@@ -209,7 +192,7 @@ module _ (s : Heap) (m a : ℕ) (f : Functor) (os : List Occ) (pos : Pos) (h : I
 -- Rules
 
 -- a membrane of which nothing but rules and spare changes
-module _ (s : Heap) (m : ℕ) (g : HeapMem → HeapMem) (ks : List ℕ) (h : IsReady s m)
+module _ (s : Heap) (m : ℕ) (g : HeapMem → HeapMem) (ks : List ℕ) (h : CanBeFilled s m)
     (same : (x : HeapMem) → ((g x).atoms ≡ x.atoms) × ((g x).mems ≡ x.mems) × ((g x).place ≡ x.place) × ((g x).rules ≡ x.rules ++ ks)) where
   abbrev changed : Heap
   changed = record s { mems = alter s.mems m (option_map g) }
@@ -236,9 +219,9 @@ module _ (s : Heap) (m : ℕ) (g : HeapMem → HeapMem) (ks : List ℕ) (h : IsR
       mems None = refl
       mems (Some x) = (same x).1
 
-  pub rules_changed : Sound changed → Adds s changed m [] [] ks []
+  pub rules_changed : Sound changed → AddsToMembrane s changed m [] [] ks []
   rules_changed sound = record {
-    ready = record { sound = sound; no_atoms = h.no_atoms; no_mems = h.no_mems; there = subst StandsAt (sym (places m)) h.there };
+    ready = record { sound = sound; no_atoms = h.no_atoms; no_mems = h.no_mems; there = subst IsTopOrWithin (sym (places m)) h.there };
     root = refl;
     place = places m;
     atoms = [];
@@ -261,11 +244,11 @@ module _ (s : Heap) (m : ℕ) (g : HeapMem → HeapMem) (ks : List ℕ) (h : IsR
   }
 
 -- room for rules changes no list
-pub room_added : (s : Heap) (m n : ℕ) → IsReady s m → Adds s (reserved s m n) m [] [] [] []
+pub room_added : (s : Heap) (m n : ℕ) → CanBeFilled s m → AddsToMembrane s (reserved s m n) m [] [] [] []
 room_added s m n h = rules_changed s m (mem_with_spare n) [] h (λ x. (refl, refl, refl, none_more x.rules)) ((calls_keep_sound s h.sound).reserve_rules m n)
 
 -- a rule more
-pub one_rule : (s : Heap) (m k : ℕ) → IsReady s m → Adds s (rule_added s m k) m [] [] (k ∷ []) []
+pub one_rule : (s : Heap) (m k : ℕ) → CanBeFilled s m → AddsToMembrane s (rule_added s m k) m [] [] (k ∷ []) []
 one_rule s m k h = rules_changed s m (mem_with_rules (k ∷ [])) (k ∷ []) h (λ x. (refl, refl, refl, refl)) ((calls_keep_sound s h.sound).add_rule m k)
 
 -- which takes of the room

@@ -1,57 +1,32 @@
 -- What is added to a membrane, one part after another.
 use Rattle.std.proofs.Common.{ℕ, ◌≡◌, ◌≢◌, ◌⊎◌, ◌+◌, List, [], ◌∷◌, ◌++◌, map, Option, Some, None, IsSome, refl, sym, ap, subst, ◌∙◌, inl, inr, arith, append_assoc}
 use Rattle.std.specs.List.{flat_map}
-use Rattle.std.specs.Option.{option_map, option_and_then}
+use Rattle.std.specs.Option.{option_and_then}
 use Rattle.std.proofs.lemmas.Grind.{flat_map-append}
 use Rattle.std.proofs.lemmas.List.{map-append}
 use Rattle.lmn_base.specs.declared.level.Leaf.{Leaf}
 use Rattle.lmn_base.specs.declared.level.Level.{Level}
 use Rattle.lmn_base.specs.Levels.{leaves_of}
 use Rattle.lmn_congruence.specs.SolidsOfPlains.{fused_leaf, fused_region}
-use Rattle.lmn_heap.specs.Heap.{Heap, HeapAtom, HeapMem, Place, within, home_by, IsAtom, IsMem, IsPlacedMem, StandsAt, atoms_in, mems_in, rules_in, mems_by, atoms_by, rules_by}
-use Rattle.lmn_heap.specs.Lists as lists
-use Rattle.lmn_heap.specs.Solid.{atoms_of, atom_of, regions_of}
+use Rattle.lmn_heap.specs.Heap.{Heap, HeapAtom, HeapMem, within, home_by, IsAtom, IsMem, IsPlacedMem, atoms_in, mems_in, rules_in, mems_by, atoms_by, rules_by}
+use Rattle.lmn_heap.specs.Solid.{solid_atoms_at, solid_atom_at, regions_of}
 use Rattle.lmn_heap.specs.Sound.{Listed, Forest, bare, mem, flat}
-use Rattle.lmn_heap.proofs.ListLemmas as lemmas
 use Rattle.lmn_heap.proofs.Trees.{in_either}
 use Rattle.lmn_heap.proofs.Groves.{beside, forms_frame, forms_beside}
 use Rattle.lmn_heap.proofs.SolidLemmas.{atoms_append, regions_beside, regions_frame}
-use Rattle.lmn_splice.specs.Ports.{Port}
-use Rattle.lmn_splice.specs.Splice.{In, Distinct, often, ports, links}
-use Rattle.lmn_splice.proofs.ClassLemmas.{often_append}
-use Rattle.lmn_loading.specs.Adding.{IsReady, Named, atom_links, leaf_links, IsMadeAtom, IsFreePort, Adds}
+use Rattle.lmn_splice.specs.Splice.{IsOneOf, NoneTwice, ports, links}
+use Rattle.lmn_loading.specs.Adding.{CanBeFilled, Named, atom_links, atom_leaf_links, IsMadeAtom, IsFreePort, AddsToMembrane}
+use Rattle.lmn_base.specs.Graphs.{Port}
+use Rattle.lmn_congruence.specs.Links.{places}
+use Rattle.lmn_base.proofs.Lists.{nothing_added as none_more, joined_alike as both}
+use Rattle.lmn_congruence.proofs.TranslatedLinks.{places_append as often_append}
+use Rattle.lmn_heap.proofs.Calls.{stands_some as standing_is_mem}
+use Rattle.lmn_heap.proofs.Items.{place_some as placed_is_atom}
+use Rattle.lmn_splice.proofs.Common.{in_append as either_in, in_back as right_in, in_front as left_in, links_append, ports_append, distinct_append}
+use Rattle.lmn_heap.specs.Lists as lists
+use Rattle.lmn_heap.proofs.ListLemmas as lemmas
 
 -- Lists
-
-pub both : {A : Type 0} {xs xs' ys ys' : List A} → xs ≡ xs' → ys ≡ ys' → xs ++ ys ≡ xs' ++ ys'
-both e d = rw (e, d) refl
-
-pub left_in : {A : Type 0} (x : A) (xs ys : List A) → In x xs → In x (xs ++ ys)
-left_in {A} x [] ys i = absurd i
-left_in {A} x (y ∷ xs) ys (inl e) = inl e
-left_in {A} x (y ∷ xs) ys (inr i) = inr (left_in x xs ys i)
-
-pub right_in : {A : Type 0} (x : A) (xs ys : List A) → In x ys → In x (xs ++ ys)
-right_in {A} x [] ys i = i
-right_in {A} x (y ∷ xs) ys i = inr (right_in x xs ys i)
-
-pub either_in : {A : Type 0} (x : A) (xs ys : List A) → In x (xs ++ ys) → In x xs ⊎ In x ys
-either_in {A} x [] ys i = inr i
-either_in {A} x (y ∷ xs) ys (inl e) = inl (inl e)
-either_in {A} x (y ∷ xs) ys (inr i) = elim (either_in x xs ys i) [ inl j ↦ inl (inr j) | inr j ↦ inr j ]
-
-pub apart_lists : {A : Type 0} (xs ys : List A) → Distinct xs → Distinct ys → ((x : A) → In x xs → In x ys → ⊥) → Distinct (xs ++ ys)
-apart_lists {A} [] ys d e f = e
-apart_lists {A} (x ∷ xs) ys d e f = (
-  λ i. elim (either_in x xs ys i) [ inl j ↦ d.0 j | inr j ↦ f x (inl refl) j ],
-  apart_lists xs ys d.1 e (λ z i j. f z (inr i) j),
-)
-
-pub ports_append : (ps qs : List (Port × ℕ)) → ports (ps ++ qs) ≡ ports ps ++ ports qs
-ports_append ps qs = map-append (λ (e : Port × ℕ). e.0) ps qs
-
-pub links_append : (ps qs : List (Port × ℕ)) → links (ps ++ qs) ≡ links ps ++ links qs
-links_append ps qs = map-append (λ (e : Port × ℕ). e.1) ps qs
 
 pub named_first : (name : ℕ → ℕ → ℕ) (v : ℕ → ℕ) (ps qs : List (Port × ℕ)) → Named name v (ps ++ qs) → Named name v ps
 named_first name v [] qs n = tt
@@ -89,52 +64,44 @@ pub placed_is_mem : (o : Option HeapMem) → IsSome (option_and_then (λ x. home
 placed_is_mem None i = absurd (let u : IsSome {T = ℕ} None = i in cc)
 placed_is_mem (Some x) i = refl
 
-pub standing_is_mem : (o : Option HeapMem) → StandsAt (option_map (λ x. x.place) o) → IsSome o
-standing_is_mem None i = absurd i
-standing_is_mem (Some x) i = refl
-
-pub placed_is_atom : (o : Option HeapAtom) (P : Place) → option_map (λ x. x.place) o ≡ Some P → IsSome o
-placed_is_atom None P e = absurd (cc)
-placed_is_atom (Some x) P e = refl
-
 pub none_is_not : {A : Type 0} (o : Option A) → o ≡ None → IsSome o → ⊥
 none_is_not o e i = absurd (cc (e, i))
 
 -- the atoms of a list, in two heaps
-pub atoms_frame : (s t : Heap) (name : ℕ → ℕ → ℕ) (xs : List ℕ) → ((a : ℕ) → lists.In a xs → t.atoms a ≡ s.atoms a) → atoms_of t name xs ≡ atoms_of s name xs
+pub atoms_frame : (s t : Heap) (name : ℕ → ℕ → ℕ) (xs : List ℕ) → ((a : ℕ) → lists.In a xs → t.atoms a ≡ s.atoms a) → solid_atoms_at t name xs ≡ solid_atoms_at s name xs
 atoms_frame s t name [] h = refl
-atoms_frame s t name (a ∷ xs) h = both (ap (atom_of name a) (h a (inl refl))) (atoms_frame s t name xs (λ b i. h b (inr i)))
+atoms_frame s t name (a ∷ xs) h = both (ap (solid_atom_at name a) (h a (inl refl))) (atoms_frame s t name xs (λ b i. h b (inr i)))
 
 -- an atom in the list of a membrane
 pub listed_is_atom : (s : Heap) → Listed s → (k a : ℕ) → lists.In a (atoms_in s k) → IsAtom s a
 listed_is_atom s h k a i = placed_is_atom (s.atoms a) (within k) ((h.atoms k a).0 i)
 
-made_more : (o : Option HeapAtom) (a : ℕ) (ps qs : List (Port × ℕ)) → ((p : Port) → In p (ports ps) → In p (ports qs)) → IsMadeAtom o a ps → IsMadeAtom o a qs
+made_more : (o : Option HeapAtom) (a : ℕ) (ps qs : List (Port × ℕ)) → ((p : Port) → IsOneOf p (ports ps) → IsOneOf p (ports qs)) → IsMadeAtom o a ps → IsMadeAtom o a qs
 made_more o a ps qs f h = record { in_place = h.in_place; no_connector = h.no_connector; ports = λ i l. f (a, i) (h.ports i l); unmarked = h.unmarked }
 
-pub in_first : (ps qs : List (Port × ℕ)) (p : Port) → In p (ports ps) → In p (ports (ps ++ qs))
-in_first ps qs p i = subst (In p) (sym (ports_append ps qs)) (left_in p (ports ps) (ports qs) i)
+pub in_first : (ps qs : List (Port × ℕ)) (p : Port) → IsOneOf p (ports ps) → IsOneOf p (ports (ps ++ qs))
+in_first ps qs p i = subst (IsOneOf p) (sym (ports_append ps qs)) (left_in p (ports ps) (ports qs) i)
 
-pub in_second : (ps qs : List (Port × ℕ)) (p : Port) → In p (ports qs) → In p (ports (ps ++ qs))
-in_second ps qs p i = subst (In p) (sym (ports_append ps qs)) (right_in p (ports ps) (ports qs) i)
+pub in_second : (ps qs : List (Port × ℕ)) (p : Port) → IsOneOf p (ports qs) → IsOneOf p (ports (ps ++ qs))
+in_second ps qs p i = subst (IsOneOf p) (sym (ports_append ps qs)) (right_in p (ports ps) (ports qs) i)
 
 -- how often a link is among those of two lists
-pub often_both : (v : ℕ → ℕ) (z : ℕ) (xs ys : List ℕ) → often z (map v (xs ++ ys)) ≡ often z (map v xs) + often z (map v ys)
-often_both v z xs ys = ap (often z) (map-append v xs ys) ∙ often_append z (map v xs) (map v ys)
+pub often_both : (v : ℕ → ℕ) (z : ℕ) (xs ys : List ℕ) → places z (map v (xs ++ ys)) ≡ places z (map v xs) + places z (map v ys)
+often_both v z xs ys = ap (places z) (map-append v xs ys) ∙ often_append z (map v xs) (map v ys)
 
-pub links_both : (v : ℕ → ℕ) (z : ℕ) (ps qs : List (Port × ℕ)) → often z (map v (links (ps ++ qs))) ≡ often z (map v (links ps)) + often z (map v (links qs))
-links_both v z ps qs = ap (λ xs. often z (map v xs)) (links_append ps qs) ∙ often_both v z (links ps) (links qs)
+pub links_both : (v : ℕ → ℕ) (z : ℕ) (ps qs : List (Port × ℕ)) → places z (map v (links (ps ++ qs))) ≡ places z (map v (links ps)) + places z (map v (links qs))
+links_both v z ps qs = ap (λ xs. places z (map v xs)) (links_append ps qs) ∙ often_both v z (links ps) (links qs)
 
-pub leaves_both : (v : ℕ → ℕ) (z : ℕ) (ls ks : List Leaf) → often z (map v (atom_links (ls ++ ks))) ≡ often z (map v (atom_links ls)) + often z (map v (atom_links ks))
-leaves_both v z ls ks = ap (λ xs. often z (map v xs)) (flat_map-append leaf_links ls ks) ∙ often_both v z (atom_links ls) (atom_links ks)
+pub leaves_both : (v : ℕ → ℕ) (z : ℕ) (ls ks : List Leaf) → places z (map v (atom_links (ls ++ ks))) ≡ places z (map v (atom_links ls)) + places z (map v (atom_links ks))
+leaves_both v z ls ks = ap (λ xs. places z (map v xs)) (flat_map-append atom_leaf_links ls ks) ∙ often_both v z (atom_links ls) (atom_links ks)
 
 pub inner_both : (v : ℕ → ℕ) (z : ℕ) (ls ks : List Level) →
-    often z (map v (atom_links (flat_map leaves_of (ls ++ ks)))) ≡ often z (map v (atom_links (flat_map leaves_of ls))) + often z (map v (atom_links (flat_map leaves_of ks)))
-inner_both v z ls ks = ap (λ xs. often z (map v (atom_links xs))) (flat_map-append leaves_of ls ks) ∙ leaves_both v z (flat_map leaves_of ls) (flat_map leaves_of ks)
+    places z (map v (atom_links (flat_map leaves_of (ls ++ ks)))) ≡ places z (map v (atom_links (flat_map leaves_of ls))) + places z (map v (atom_links (flat_map leaves_of ks)))
+inner_both v z ls ks = ap (λ xs. places z (map v (atom_links xs))) (flat_map-append leaves_of ls ks) ∙ leaves_both v z (flat_map leaves_of ls) (flat_map leaves_of ks)
 
 -- One part and then another
-module _ (s t u : Heap) (m : ℕ) (ls ls' : List Leaf) (is is' : List Level) (rs rs' : List ℕ) (ps ps' : List (Port × ℕ)) (here : IsReady s m)
-    (a : Adds s t m ls is rs ps) (b : Adds t u m ls' is' rs' ps') where
+module _ (s t u : Heap) (m : ℕ) (ls ls' : List Leaf) (is is' : List Level) (rs rs' : List ℕ) (ps ps' : List (Port × ℕ)) (here : CanBeFilled s m)
+    (a : AddsToMembrane s t m ls is rs ps) (b : AddsToMembrane t u m ls' is' rs' ps') where
   is_mem : IsMem s m
   is_mem = standing_is_mem (s.mems m) here.there
 
@@ -152,14 +119,14 @@ module _ (s t u : Heap) (m : ℕ) (ls ls' : List Leaf) (is is' : List Level) (rs
 
   region_stays : (name : ℕ → ℕ → ℕ) → regions_of u name a.forest ≡ regions_of t name a.forest
   region_stays name = regions_frame u t name name a.forest (λ k i. (
-    ap (λ (o : Option HeapMem). atoms_of u name (atoms_by o)) (mem_stays k i) ∙ atoms_frame t u name (atoms_in t k) (atom_stays k),
+    ap (λ (o : Option HeapMem). solid_atoms_at u name (atoms_by o)) (mem_stays k i) ∙ atoms_frame t u name (atoms_in t k) (atom_stays k),
     ap rules_by (mem_stays k i),
   ))
 
-  port_stays : (p : Port) → In p (ports ps) → u.atoms p.0 ≡ t.atoms p.0
+  port_stays : (p : Port) → IsOneOf p (ports ps) → u.atoms p.0 ≡ t.atoms p.0
   port_stays p i = b.atoms_kept p.0 (a.made p i).1.0
 
-  apart_ports : (p : Port) → In p (ports ps) → In p (ports ps') → ⊥
+  apart_ports : (p : Port) → IsOneOf p (ports ps) → IsOneOf p (ports ps') → ⊥
   apart_ports p i j = none_is_not (t.atoms p.0) (b.made p j).0 (a.made p i).1.0
 
   keeps_atom : (x : ℕ) → IsAtom s x → IsAtom t x
@@ -172,7 +139,7 @@ module _ (s t u : Heap) (m : ℕ) (ls ls' : List Leaf) (is is' : List Level) (rs
       by None f = f
       by (Some y) f = absurd (none_is_not (t.atoms x) e (keeps_atom x (subst (λ (o : Option HeapAtom). IsSome o) (sym f) refl)))
 
-  made_ports : (p : Port) → In p (ports ps) ⊎ In p (ports ps') → (s.atoms p.0 ≡ None) × IsFreePort (u.atoms p.0) p.1
+  made_ports : (p : Port) → IsOneOf p (ports ps) ⊎ IsOneOf p (ports ps') → (s.atoms p.0 ≡ None) × IsFreePort (u.atoms p.0) p.1
   made_ports p (inl i) = ((a.made p i).0, subst (λ o. IsFreePort o p.1) (sym (port_stays p i)) (a.made p i).1)
   made_ports p (inr i) = (fresh_before p.0 (b.made p i).0, (b.made p i).1)
 
@@ -204,10 +171,10 @@ module _ (s t u : Heap) (m : ℕ) (ls ls' : List Leaf) (is is' : List Level) (rs
   kept_mem : (k : ℕ) → IsMem s k → k ≢ m → u.mems k ≡ s.mems k
   kept_mem k i d = b.mems_kept k (subst (λ (o : Option HeapMem). IsSome o) (sym (a.mems_kept k i d)) i) d ∙ a.mems_kept k i d
 
-  all_links : (v : ℕ → ℕ) (z : ℕ) → often z (map v (links (ps ++ ps'))) ≡ often z (map v (atom_links (ls ++ ls'))) + often z (map v (atom_links (flat_map leaves_of (is ++ is'))))
+  all_links : (v : ℕ → ℕ) (z : ℕ) → places z (map v (links (ps ++ ps'))) ≡ places z (map v (atom_links (ls ++ ls'))) + places z (map v (atom_links (flat_map leaves_of (is ++ is'))))
   all_links v z = omega (arith, links_both v z ps ps', leaves_both v z ls ls', inner_both v z is is', a.links v z, b.links v z)
 
-  pub composed : Adds s u m (ls ++ ls') (is ++ is') (rs ++ rs') (ps ++ ps')
+  pub composed : AddsToMembrane s u m (ls ++ ls') (is ++ is') (rs ++ rs') (ps ++ ps')
   composed = record {
     ready = b.ready;
     root = b.root ∙ a.root;
@@ -226,8 +193,8 @@ module _ (s t u : Heap) (m : ℕ) (ls ls' : List Leaf) (is is' : List Level) (rs
         ∙ both (region_stays name ∙ a.below v name (named_first name v ps ps' n)) (b.below v name (named_second name v ps ps' n))
         ∙ sym (map-append (fused_region v) is is');
     links = all_links;
-    once = subst Distinct (sym (ports_append ps ps')) (apart_lists (ports ps) (ports ps') a.once b.once apart_ports);
-    made = λ p i. made_ports p (either_in p (ports ps) (ports ps') (subst (In p) (ports_append ps ps') i));
+    once = subst NoneTwice (sym (ports_append ps ps')) (distinct_append (ports ps) (ports ps') a.once b.once apart_ports);
+    made = λ p i. made_ports p (either_in p (ports ps) (ports ps') (subst (IsOneOf p) (ports_append ps ps') i));
     atoms_kept = λ x i. b.atoms_kept x (keeps_atom x i) ∙ a.atoms_kept x i;
     mems_kept = kept_mem;
     new_atoms = λ x i. all_atoms x (b.new_atoms x i);
@@ -235,12 +202,8 @@ module _ (s t u : Heap) (m : ℕ) (ls ls' : List Leaf) (is is' : List Level) (rs
     new = λ k i. new_ones k (in_beside a.forest b.forest k i);
   }
 
-pub none_more : (xs : List ℕ) → xs ≡ xs ++ []
-none_more [] = refl
-none_more (x ∷ xs) = ap (λ ys. x ∷ ys) (none_more xs)
-
 -- Nothing is added
-pub nothing_added : (s : Heap) (m : ℕ) → IsReady s m → Adds s s m [] [] [] []
+pub nothing_added : (s : Heap) (m : ℕ) → CanBeFilled s m → AddsToMembrane s s m [] [] [] []
 nothing_added s m h = record {
   ready = h;
   root = refl;

@@ -1,8 +1,7 @@
 -- How many items the solid of a plain has, and laws of loading.
-use Rattle.std.proofs.Common.{ℕ, Option, Some, None, ◌≡◌, ◌+◌, ◌-◌, ◌^◌, ◌<◌, ◌≤◌, Bool, true, false, cond, not, List, [], ◌∷◌, map, length, min, refl, sym, ap, subst, ◌∙◌, inl, inr, arith}
+use Rattle.std.proofs.Common.{ℕ, ◌≡◌, ◌+◌, ◌-◌, ◌^◌, ◌<◌, ◌≤◌, Bool, true, false, cond, not, List, [], ◌∷◌, map, length, min, refl, sym, ap, subst, ◌∙◌, arith}
 use Rattle.std.specs.List.{flat_map}
 use Rattle.std.specs.Prelude.{sum}
-use Rattle.std.proofs.lemmas.Bool.{cases_eq}
 use Rattle.std.proofs.lemmas.List.{length-append}
 use Rattle.std.proofs.lemmas.List.Sums.{sum_by-cons}
 use Rattle.lmn_base.specs.declared.level.Leaf.{Leaf}
@@ -14,17 +13,17 @@ use Rattle.lmn_base.specs.declared.solid.Region.{Region}
 use Rattle.lmn_base.specs.declared.solid.Region.TheFolds.{fold-Region, fold-roll-Region}
 use Rattle.lmn_base.specs.declared.solid.Solid.{Solid}
 use Rattle.lmn_base.specs.declared.solid.SolidAtom.{SolidAtom}
-use Rattle.lmn_base.specs.Solids.{items_of, items_step}
+use Rattle.lmn_base.specs.Solids.{item_count, items_step}
 use Rattle.lmn_congruence.specs.SolidsOfPlains.{is_connector, fused_leaf, fused_step, fused_region, IsSolidOf}
 use Rattle.lmn_congruence.specs.Translation.{top_of, region_of}
 use Rattle.lmn_congruence.proofs.SolidsOfPlains.{solids_of_plains}
 use Rattle.lmn_reduction.proofs.Plains.{plain_settles}
-use Rattle.lmn_heap.specs.Heap.{HeapMem, top, new_mem, mem_with_place, lone_root, IsMem}
-use Rattle.lmn_heap.proofs.Listing.{alter_away}
+use Rattle.lmn_heap.specs.Heap.{top}
 use Rattle.lmn_heap.specs.Examples.{across}
 use Rattle.lmn_loading.specs.Loaded.{IsEmpty, stands, one_if_atom, atoms_among, loaded_step, loaded_items}
 use Rattle.lmn_loading.specs.Laws.{LoadingSettles, EmptyStores}
 use Rattle.lmn_loading.proofs.Composing.{none_is_not}
+use Rattle.lmn_heap.proofs.Lone.{is_root as only_root}
 
 module _ (v : ℕ → ℕ) where
   one_leaf : (l : Leaf) → length (fused_leaf v l) ≡ cond (stands l) 1 0
@@ -59,19 +58,19 @@ module _ (v : ℕ → ℕ) where
       sums a b c d = omega arith
 
 -- the solid of a plain has as many items as the plain says
-pub solid_items : (p : Plain) (s : Solid) → IsSolidOf p s → items_of s ≡ loaded_items p.top
+pub solid_items : (p : Plain) (s : Solid) → IsSolidOf p s → item_count s ≡ loaded_items p.top
 solid_items p s h = ap (λ r. fold-Region ℕ items_step r) h.is ∙ items_fused h.to p.top
 
 small : (n k size : ℕ) → size < 2 ^ 64 - 1 → k ≡ min n (2 ^ 64 - 1) → k ≤ size → n ≤ size
 small n k size a b c = grind arith
 
-pub fits_in : (p : Plain) (k size : ℕ) → size < 2 ^ 64 - 1 → k ≡ min (loaded_items p.top) (2 ^ 64 - 1) → k ≤ size → (s : Solid) → IsSolidOf p s → items_of s ≤ size
+pub fits_in : (p : Plain) (k size : ℕ) → size < 2 ^ 64 - 1 → k ≡ min (loaded_items p.top) (2 ^ 64 - 1) → k ≤ size → (s : Solid) → IsSolidOf p s → item_count s ≤ size
 fits_in p k size a b c s h = subst (λ n. n ≤ size) (sym (solid_items p s h)) (small (loaded_items p.top) k size a b c)
 
 great : (n k size : ℕ) → k ≡ min n (2 ^ 64 - 1) → size < k → size < n
 great n k size a b = grind arith
 
-pub too_large : (p : Plain) (k size : ℕ) → k ≡ min (loaded_items p.top) (2 ^ 64 - 1) → size < k → (s : Solid) → IsSolidOf p s → (size < items_of s) × (k ≡ min (items_of s) (2 ^ 64 - 1))
+pub too_large : (p : Plain) (k size : ℕ) → k ≡ min (loaded_items p.top) (2 ^ 64 - 1) → size < k → (s : Solid) → IsSolidOf p s → (size < item_count s) × (k ≡ min (item_count s) (2 ^ 64 - 1))
 too_large p k size b c s h = (
   subst (λ n. size < n) (sym (solid_items p s h)) (great (loaded_items p.top) k size b c),
   b ∙ ap (λ n. min n (2 ^ 64 - 1)) (sym (solid_items p s h)),
@@ -81,15 +80,6 @@ too_large p k size b c s h = (
 
 pub loading_settles : LoadingSettles
 loading_settles names p s well l = plain_settles (top_of names p) (region_of names p.rules l.solid) (solids_of_plains names p l.solid well l.of_plain)
-
-abbrev nothing : ℕ → Option HeapMem
-nothing m = None
-
-only_root : (m : ℕ) → IsMem lone_root m → m ≡ 0
-only_root m i = elim (cases_eq m 0) [
-  | inl e ↦ e
-  | inr d ↦ absurd (none_is_not (lone_root.mems m) (alter_away nothing 0 (λ _. Some (mem_with_place top new_mem)) m d) i)
-]
 
 has_an_atom : IsEmpty across → ⊥
 has_an_atom e = none_is_not (across.atoms 0) (e.no_atom 0) refl

@@ -5,15 +5,15 @@ use Rattle.std.specs.Prelude.{slice_index_or}
 use Rattle.std.proofs.lemmas.Bool.{cases_lt}
 use Rattle.std.proofs.lemmas.List.{map-append, map-id, take_more, take_all}
 use Rattle.lmn_heap.specs.Heap.{Heap, port_id}
-use Rattle.lmn_splice.specs.Ports.{Port}
-use Rattle.lmn_splice.specs.Splice.{EachTwice, both_links, links}
+use Rattle.lmn_splice.specs.Splice.{TwiceOrNever, both_links, links}
 use Rattle.lmn_splice.specs.Classes.{class_of}
 use Rattle.lmn_splice.proofs.ClassLemmas.{classes_twice}
 use Rattle.lmn_loading.specs.Adding.{by_id}
 use Rattle.lmn_classes.specs.Tables.{LinksBelow}
 use Rattle.lmn_loading.specs.Joining.{held_at, held_after, met, MayMeet, AreFree, AreJoined}
-use Rattle.lmn_loading.proofs.Whole.{past_end}
 use Rattle.lmn_loading.proofs.Meeting.{Meets, none_met, one_more, may_meet, all_met}
+use Rattle.lmn_base.specs.Graphs.{Port}
+use Rattle.lmn_base.proofs.Lists.{past_end}
 
 module _ {A : Type 0} (id : A → ℕ) where
   none_held : (table : List (Option (A × ℕ))) → ((z : ℕ) → z < length table → slice_index_or table z None ≡ None) → (z : ℕ) → held_at id table z ≡ None
@@ -61,9 +61,9 @@ module _ {A : Type 0} (id : A → ℕ) where
     meets_next h' held' f after = subst (λ k. Meets m k left s h' held') taken
         (one_more m (by_id id (take i es)) left p x.1 s h held held' begun (λ z. after z ∙ ap (λ k. held_after held k p z) class) h' (f ∙ ap (λ k. met h (held k) p) class))
 
-  pub meets_all : (es : List ((A × ℕ) × ℕ)) (pairs : List (ℕ × ℕ)) (i : ℕ) (s h : Heap) (held : ℕ → Option Port) → length es ≤ i → EachTwice (both_links pairs ++ links (by_id id es))
+  pub meets_all : (es : List ((A × ℕ) × ℕ)) (pairs : List (ℕ × ℕ)) (i : ℕ) (s h : Heap) (held : ℕ → Option Port) → length es ≤ i → TwiceOrNever (both_links pairs ++ links (by_id id es))
       → Meets (class_of pairs) (by_id id (take i es)) (by_id id (drop i es)) s h held → AreJoined (class_of pairs) (by_id id es) s h
   meets_all es pairs i s h held l twice w =
       all_met (class_of pairs) (by_id id es) (by_id id (drop i es)) s h held
-      (classes_twice (λ z. z) pairs (links (by_id id es)) (subst EachTwice (sym (map-id (both_links pairs ++ links (by_id id es)))) twice))
+      (classes_twice (λ z. z) pairs (links (by_id id es)) (subst TwiceOrNever (sym (map-id (both_links pairs ++ links (by_id id es)))) twice))
       (subst (λ k. Meets (class_of pairs) (by_id id k) (by_id id (drop i es)) s h held) (take_all i es l) w)

@@ -3,7 +3,6 @@ use Rattle.std.proofs.Common.{ℕ, ◌≡◌, ◌≢◌, ◌⊎◌, ◌+◌, Lis
 use Rattle.std.specs.List.{flat_map}
 use Rattle.std.specs.Option.{option_map, option_and_then}
 use Rattle.std.proofs.lemmas.Bool.{cases_eq}
-use Rattle.lmn_base.specs.declared.level.Leaf.{Leaf}
 use Rattle.lmn_base.specs.declared.level.Level.{Level, out-Level}
 use Rattle.lmn_base.specs.declared.level.Level.TheFolds.{fold_out-Level}
 use Rattle.lmn_base.specs.declared.solid.Region.{Region}
@@ -12,19 +11,21 @@ use Rattle.lmn_base.specs.declared.solid.SolidAtom.{SolidAtom}
 use Rattle.lmn_base.specs.Levels.{leaves_of}
 use Rattle.lmn_base.proofs.ItemLemmas.{leaves_apart}
 use Rattle.lmn_congruence.specs.SolidsOfPlains.{fused_leaf, fused_step, fused_region}
-use Rattle.lmn_heap.specs.Heap.{Heap, HeapMem, within, alter, new_mem, mem_with_place, mem_with_mems, home_by, IsMem, IsPlacedMem, StandsAt, atoms_in, mems_in, rules_in, atoms_by, mems_by, rules_by, mem_place_of, made_mem}
+use Rattle.lmn_heap.specs.Heap.{Heap, HeapMem, within, alter, new_mem, mem_with_place, mem_with_mems, home_by, IsMem, IsPlacedMem, IsTopOrWithin, atoms_in, mems_in, rules_in, atoms_by, mems_by, rules_by, mem_place_of, made_mem}
 use Rattle.lmn_heap.specs.Lists as lists
-use Rattle.lmn_heap.specs.Solid.{atoms_of, regions_of}
+use Rattle.lmn_heap.specs.Solid.{solid_atoms_at, regions_of}
 use Rattle.lmn_heap.specs.Sound.{Sound, bare, mem, flat, Forms}
-use Rattle.lmn_heap.proofs.Calls.{calls_keep_sound}
+use Rattle.lmn_heap.proofs.Calls.{calls_keep_sound, stands_some as standing_is_mem}
 use Rattle.lmn_heap.proofs.ListLemmas as lemmas
 use Rattle.lmn_heap.proofs.Trees.{nil_right}
 use Rattle.lmn_heap.proofs.Listing.{alter_at, alter_away}
-use Rattle.lmn_splice.specs.Splice.{often, links}
-use Rattle.lmn_loading.specs.Adding.{IsReady, Named, atom_links, Adds, with_mem}
-use Rattle.lmn_loading.proofs.Composing.{standing_is_mem, none_is_not, leaves_both}
+use Rattle.lmn_splice.specs.Splice.{links}
+use Rattle.lmn_loading.specs.Adding.{CanBeFilled, Named, atom_links, AddsToMembrane, with_mem}
+use Rattle.lmn_loading.proofs.Composing.{none_is_not, leaves_both}
 use Rattle.lmn_loading.proofs.Atoms.{line_first, line_rest}
-use Rattle.lmn_splice.specs.Ports.{Port}
+use Rattle.lmn_congruence.specs.Links.{places}
+use Rattle.lmn_loading.proofs.AloneLemmas.{nil as nil_leaves}
+use Rattle.lmn_base.specs.Graphs.{Port}
 
 -- a level without its connectors, by its lists
 pub fused_apart : (v : ℕ → ℕ) (l : Level) → fused_region v l ≡ roll-Region (record { atoms = flat_map (fused_leaf v) (out-Level l).leaves; membranes = map (fused_region v) (out-Level l).membranes; rules = (out-Level l).rules })
@@ -33,14 +34,10 @@ fused_apart v l = fold_out-Level Region (fused_step v) l
 zero_plus : (n : ℕ) → n ≡ 0 + n
 zero_plus n = omega arith
 
-nil_leaves : (ls : List Leaf) → ls ++ [] ≡ ls
-nil_leaves [] = refl
-nil_leaves (l ∷ ls) = ap (λ ks. l ∷ ks) (nil_leaves ls)
-
 abbrev region : List SolidAtom → List Region → List ℕ → Region
 region xs rs ks = roll-Region (record { atoms = xs; membranes = rs; rules = ks })
 
-module _ (s : Heap) (m n : ℕ) (h : IsReady s m) (fresh : s.mems n ≡ None) where
+module _ (s : Heap) (m n : ℕ) (h : CanBeFilled s m) (fresh : s.mems n ≡ None) where
   abbrev s1 : Heap
   s1 = with_mem s m n
 
@@ -72,15 +69,15 @@ module _ (s : Heap) (m n : ℕ) (h : IsReady s m) (fresh : s.mems n ≡ None) wh
   elsewhere k d e = alter_away f2 m put k d ∙ away k e
 
   sound : Sound s1
-  sound = (calls_keep_sound (made_mem s n) ((calls_keep_sound s h.sound).make_mem n fresh)).place_mem m n (subst (λ (o : Option HeapMem). StandsAt (option_map (λ x. x.place) o)) (sym (alter_away s.mems n (λ _. Some new_mem) m (λ e. apart (sym e)))) h.there) (line_first s.new_mems n h.no_mems)
+  sound = (calls_keep_sound (made_mem s n) ((calls_keep_sound s h.sound).make_mem n fresh)).place_mem m n (subst (λ (o : Option HeapMem). IsTopOrWithin (option_map (λ x. x.place) o)) (sym (alter_away s.mems n (λ _. Some new_mem) m (λ e. apart (sym e)))) h.there) (line_first s.new_mems n h.no_mems)
 
   -- something may be placed in the new membrane, which is empty
-  pub new_ready : IsReady s1 n
+  pub new_ready : CanBeFilled s1 n
   new_ready = record {
     sound = sound;
     no_atoms = h.no_atoms;
     no_mems = line_rest s.new_mems n h.no_mems;
-    there = subst (λ (o : Option HeapMem). StandsAt (option_map (λ x. x.place) o)) (sym at_new) tt;
+    there = subst (λ (o : Option HeapMem). IsTopOrWithin (option_map (λ x. x.place) o)) (sym at_new) tt;
   }
 
   kept_home : (o : Option HeapMem) → (atoms_by (put o) ≡ atoms_by o) × (rules_by (put o) ≡ rules_by o) × (option_map (λ x. x.place) (put o) ≡ option_map (λ x. x.place) o)
@@ -95,7 +92,7 @@ module _ (s : Heap) (m n : ℕ) (h : IsReady s m) (fresh : s.mems n ≡ None) wh
   put_is None i = absurd (cc)
   put_is (Some x) i = refl
 
-  module _ (t : Heap) (l : Level) (ps : List (Port × ℕ)) (b : Adds s1 t n (out-Level l).leaves (out-Level l).membranes (out-Level l).rules ps) where
+  module _ (t : Heap) (l : Level) (ps : List (Port × ℕ)) (b : AddsToMembrane s1 t n (out-Level l).leaves (out-Level l).membranes (out-Level l).rules ps) where
     home_is : IsMem s1 m
     home_is = subst (λ (o : Option HeapMem). IsSome o) (sym at_home) (put_is (s.mems m) was_mem)
 
@@ -123,14 +120,14 @@ module _ (s : Heap) (m n : ℕ) (h : IsReady s m) (fresh : s.mems n ≡ None) wh
 
     regions : (v : ℕ → ℕ) (name : ℕ → ℕ → ℕ) → Named name v ps → regions_of t name (mem n b.forest bare) ≡ fused_region v l ∷ []
     regions v name k =
-        let xs : atoms_of t name (atoms_in t n) ≡ flat_map (fused_leaf v) (out-Level l).leaves = ap (atoms_of t name) atoms_new ∙ b.here v name k in
+        let xs : solid_atoms_at t name (atoms_in t n) ≡ flat_map (fused_leaf v) (out-Level l).leaves = ap (solid_atoms_at t name) atoms_new ∙ b.here v name k in
         let rs : regions_of t name b.forest ≡ map (fused_region v) (out-Level l).membranes = b.below v name k in
         (λ z. region (xs z) (rs z) (rules_new z) ∷ []) ∙ ap (λ r. r ∷ []) (sym (fused_apart v l))
 
-    all_links : (v : ℕ → ℕ) (z : ℕ) → often z (map v (links ps)) ≡ 0 + often z (map v (atom_links (leaves_of l ++ [])))
+    all_links : (v : ℕ → ℕ) (z : ℕ) → places z (map v (links ps)) ≡ 0 + places z (map v (atom_links (leaves_of l ++ [])))
     all_links v z =
         let w : leaves_of l ++ [] ≡ (out-Level l).leaves ++ flat_map leaves_of (out-Level l).membranes = nil_leaves (leaves_of l) ∙ leaves_apart l in
-        b.links v z ∙ sym (leaves_both v z (out-Level l).leaves (flat_map leaves_of (out-Level l).membranes)) ∙ ap (λ ls. often z (map v (atom_links ls))) (sym w) ∙ zero_plus (often z (map v (atom_links (leaves_of l ++ []))))
+        b.links v z ∙ sym (leaves_both v z (out-Level l).leaves (flat_map leaves_of (out-Level l).membranes)) ∙ ap (λ ls. places z (map v (atom_links ls))) (sym w) ∙ zero_plus (places z (map v (atom_links (leaves_of l ++ []))))
 
     fresh_before : (k : ℕ) → s1.mems k ≡ None → s.mems k ≡ None
     fresh_before k e = elim (cases_eq k n) [
@@ -163,9 +160,9 @@ module _ (s : Heap) (m n : ℕ) (h : IsReady s m) (fresh : s.mems n ≡ None) wh
         let e : k ≢ n = λ c. none_is_not (s.mems k) (ap s.mems c ∙ fresh) i in
         b.mems_kept k (subst (λ (o : Option HeapMem). IsSome o) (sym (elsewhere k d e)) i) e ∙ elsewhere k d e
 
-    pub membrane_added : Adds s t m [] (l ∷ []) [] ps
+    pub membrane_added : AddsToMembrane s t m [] (l ∷ []) [] ps
     membrane_added = record {
-      ready = record { sound = b.ready.sound; no_atoms = b.ready.no_atoms; no_mems = b.ready.no_mems; there = subst StandsAt (sym place_home) h.there };
+      ready = record { sound = b.ready.sound; no_atoms = b.ready.no_atoms; no_mems = b.ready.no_mems; there = subst IsTopOrWithin (sym place_home) h.there };
       root = b.root;
       place = place_home;
       atoms = [];

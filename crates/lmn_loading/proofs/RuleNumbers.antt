@@ -1,40 +1,18 @@
 -- The rules of a store that is loaded are those of the plain's table.
-use Rattle.std.proofs.Common.{ℕ, zero, ◌≡◌, ◌<◌, List, [], ◌∷◌, ◌++◌, map, length, All, Option, Some, None, IsSome, refl, sym, ap, subst, ◌∙◌, inl, inr, arith}
-use Rattle.std.specs.List.{flat_map}
-use Rattle.lmn_base.specs.declared.level.Level.{Level}
-use Rattle.lmn_base.specs.declared.level.Level.TheFolds.{fold-roll-Level, ind-Level}
+use Rattle.std.proofs.Common.{ℕ, zero, ◌≡◌, ◌<◌, List, [], ◌∷◌, ◌++◌, length, All, Option, Some, None, IsSome, refl, sym, ap, subst, ◌∙◌, inl, inr, arith}
 use Rattle.lmn_base.specs.declared.solid.Region.{Region}
 use Rattle.lmn_base.specs.declared.solid.Region.TheViews.{roll-Region}
-use Rattle.lmn_base.specs.declared.solid.Region.TheFolds.{fold-Region, fold-roll-Region}
-use Rattle.lmn_base.specs.Levels.{rules_of}
+use Rattle.lmn_base.specs.declared.solid.Region.TheFolds.{fold-roll-Region}
 use Rattle.lmn_base.specs.Solids.{rules_step}
-use Rattle.lmn_congruence.specs.SolidsOfPlains.{fused_step, fused_region}
 use Rattle.lmn_congruence.proofs.Appended.{all_left, all_right}
 use Rattle.lmn_heap.specs.Heap.{Heap, HeapMem, atoms_in, rules_in, rules_by}
 use Rattle.lmn_heap.specs.Lists as lists
-use Rattle.lmn_heap.specs.Solid.{atoms_of, regions_of}
+use Rattle.lmn_heap.specs.Solid.{solid_atoms_at, regions_of}
 use Rattle.lmn_heap.specs.Sound.{Forest, bare, mem, flat}
 use Rattle.lmn_heap.proofs.Trees.{in_either}
 use Rattle.lmn_loading.specs.Laws.{LoadedRules}
-
-abbrev rules : Region → List ℕ
-rules = fold-Region (List ℕ) rules_step
-
-abbrev all_rules : List Region → List ℕ
-all_rules rs = flat_map (λ inner. inner) (map rules rs)
-
-abbrev Kept : (ℕ → ℕ) → Level → Type 0
-Kept v l = rules (fused_region v l) ≡ rules_of l
-
-inner_kept : (v : ℕ → ℕ) (ls : List ((l : Level) × Kept v l)) → all_rules (map (fused_region v) (map (λ e. e.0) ls)) ≡ flat_map (λ inner. inner) (map rules_of (map (λ e. e.0) ls))
-inner_kept v [] = refl
-inner_kept v (e ∷ ls) = rw (e.1, inner_kept v ls) refl
-
--- a level without its connectors has the level's rules
-rules_kept : (v : ℕ → ℕ) (l : Level) → Kept v l
-rules_kept v = ind-Level (Kept v) (λ y z is.
-    let inside = subst (λ l. all_rules (map (fused_region v) l.membranes) ≡ flat_map (λ inner. inner) (map rules_of l.membranes)) is (inner_kept v z.membranes) in
-    rw (fold-roll-Level Region (fused_step v) y, fold-roll-Region (List ℕ) rules_step _, fold-roll-Level (List ℕ) (λ l. l.rules ++ flat_map (λ inner. inner) l.membranes) y, inside) refl)
+use Rattle.lmn_base.proofs.Common.{rules}
+use Rattle.lmn_congruence.proofs.Common.{rules_kept, all_rules}
 
 all_in : (P : ℕ → Type 0) (xs : List ℕ) → All P xs → (k : ℕ) → lists.In k xs → P k
 all_in P [] h k i = absurd i
@@ -43,7 +21,7 @@ all_in P (x ∷ xs) h k (inr i) = all_in P xs (all_right P (x ∷ []) xs h) k i
 
 -- the region of a membrane with this forest inside it
 abbrev regions_first : Heap → (ℕ → ℕ → ℕ) → ℕ → Forest → Region
-regions_first s name n x = roll-Region (record { atoms = atoms_of s name (atoms_in s n); membranes = regions_of s name x; rules = rules_in s n })
+regions_first s name n x = roll-Region (record { atoms = solid_atoms_at s name (atoms_in s n); membranes = regions_of s name x; rules = rules_in s n })
 
 -- what holds of each rule of the regions of a forest holds of each rule of its membranes
 in_forest : (P : ℕ → Type 0) (s : Heap) (name : ℕ → ℕ → ℕ) (f : Forest) → All P (all_rules (regions_of s name f)) → (m : ℕ) → lists.In m (flat f) → All P (rules_in s m)

@@ -1,5 +1,5 @@
 -- What is loaded is valid, and its solid is that of the plain.
-use Rattle.std.proofs.Common.{ℕ, zero, suc, ◌≡◌, ◌≢◌, ◌⊎◌, ◌<◌, ◌≤◌, List, [], ◌∷◌, ◌++◌, map, length, Option, Some, None, IsSome, refl, sym, ap, subst, ◌∙◌, inl, inr, arith}
+use Rattle.std.proofs.Common.{ℕ, suc, ◌≡◌, ◌≢◌, ◌⊎◌, ◌<◌, List, [], ◌∷◌, ◌++◌, map, length, Option, Some, None, IsSome, refl, sym, ap, subst, ◌∙◌, inl, inr, arith}
 use Rattle.std.specs.List.{flat_map}
 use Rattle.std.specs.Option.{option_map, option_and_then}
 use Rattle.std.specs.Prelude.{slice_index_or}
@@ -13,39 +13,40 @@ use Rattle.lmn_base.specs.declared.solid.Region.TheViews.{roll-Region}
 use Rattle.lmn_base.specs.declared.solid.Solid.{Solid}
 use Rattle.lmn_base.specs.declared.solid.SolidAtom.{SolidAtom}
 use Rattle.lmn_base.specs.Levels.{leaves_of}
-use Rattle.lmn_base.specs.Levels as levels
-use Rattle.lmn_base.specs.Links as base
-use Rattle.lmn_base.specs.Solids as solids
 use Rattle.lmn_base.specs.WellMade.{IsWellMade}
 use Rattle.lmn_base.proofs.ItemLemmas.{leaves_apart}
 use Rattle.lmn_congruence.specs.SolidsOfPlains.{fused_leaf, fused_region, IsSolidOf}
 use Rattle.lmn_adequacy.proofs.PlainSolids.{solids_of_plains_exist}
-use Rattle.lmn_heap.specs.Heap.{Heap, HeapAtom, HeapMem, Place, top, home_by, links_of, marks_of, IsAtom, IsMem, StandsAt, functor_of, arity_of, link_of, mark_of, mem_place_of, atoms_in, mems_in, rules_in, mems_by, atoms_by, rules_by}
-use Rattle.lmn_heap.specs.Lists as lists
-use Rattle.lmn_heap.specs.Solid.{IsNaming, numbered, atom_of, atoms_of, regions_of}
+use Rattle.lmn_heap.specs.Heap.{Heap, HeapAtom, HeapMem, Place, top, home_by, partners_of, marks_of, IsAtom, IsMem, IsTopOrWithin, functor_of, arity_of, link_of, mark_of, mem_place_of, atoms_in, mems_in, rules_in, mems_by, atoms_by, rules_by}
+use Rattle.lmn_heap.specs.Solid.{IsNaming, links_from, solid_atom_at, solid_atoms_at, regions_of}
 use Rattle.lmn_heap.specs.Sound.{Sound, Valid, Forest, bare, mem, flat, Forms, IsTree}
 use Rattle.lmn_heap.proofs.Depths.{tree_once}
 use Rattle.lmn_heap.proofs.Groves.{forms_frame}
-use Rattle.lmn_heap.proofs.ListLemmas as lemmas
 use Rattle.lmn_heap.proofs.SolidLemmas.{regions_frame}
-use Rattle.lmn_splice.specs.Ports.{Port}
-use Rattle.lmn_splice.specs.Splice.{In, often, EachTwice, both_links, ports, links, link_at}
-use Rattle.lmn_splice.specs.Classes.{class_of, ends}
-use Rattle.lmn_splice.proofs.ClassLemmas.{often_append, ends_length}
+use Rattle.lmn_splice.specs.Splice.{IsOneOf, TwiceOrNever, both_links, ports, links, link_at}
+use Rattle.lmn_splice.specs.Classes.{class_of, ends_of_class}
+use Rattle.lmn_splice.proofs.ClassLemmas.{ends_length}
 use Rattle.lmn_splice.proofs.EndLemmas.{in_ports, ports_in, link_found, in_ends}
-use Rattle.lmn_loading.specs.Adding.{IsReady, Named, atom_links, IsMadeAtom, Adds, Fills, by_id}
-use Rattle.lmn_classes.specs.Tables.{PairsBelow, LinksBelow}
-use Rattle.lmn_loading.specs.Joining.{connectors, AreFree, AreJoined}
+use Rattle.lmn_loading.specs.Adding.{CanBeFilled, Named, atom_links, IsMadeAtom, AddsToMembrane, Fills, by_id}
+use Rattle.lmn_loading.specs.Joining.{connectors_of_leaves, AreFree, AreJoined}
 use Rattle.lmn_loading.specs.Loaded.{IsEmpty, IsLoaded}
-use Rattle.lmn_loading.proofs.Composing.{both, left_in, right_in, none_is_not, leaves_both}
+use Rattle.lmn_loading.proofs.Composing.{none_is_not, leaves_both}
 use Rattle.lmn_loading.proofs.Membranes.{fused_apart}
-use Rattle.lmn_loading.proofs.PlainLinks.{counted, in_often, often_in, numbers_below, all_links, of_class, connectors_joined, region_links}
+use Rattle.lmn_loading.proofs.PlainLinks.{in_often, often_in, numbers_below, all_links, of_class, connectors_joined, region_links}
+use Rattle.lmn_base.specs.Graphs.{Port}
+use Rattle.lmn_congruence.specs.Links.{places}
+use Rattle.lmn_congruence.proofs.TranslatedLinks.{counted, places_append as often_append}
+use Rattle.lmn_heap.proofs.Common.{atom_with_links as has_links, nothing_in as no_some}
+use Rattle.lmn_splice.proofs.Common.{in_back as right_in, in_front as left_in}
+use Rattle.lmn_base.proofs.Lists.{past_end, joined_alike as both}
+use Rattle.lmn_classes.specs.Tables.{PairsBelow, LinksBelow}
+use Rattle.lmn_base.specs.Levels as levels
+use Rattle.lmn_base.specs.Links as base
+use Rattle.lmn_base.specs.Solids as solids
+use Rattle.lmn_heap.specs.Lists as lists
+use Rattle.lmn_heap.proofs.ListLemmas as lemmas
 
 -- An empty heap is ready
-
-no_some : (xs : List ℕ) → ((a : ℕ) → lists.In a xs → ⊥) → xs ≡ []
-no_some [] h = refl
-no_some (x ∷ xs) h = absurd (h x (inl refl))
 
 place_none : (o : Option HeapAtom) (P : Place) → o ≡ None → option_map (λ x. x.place) o ≡ Some P → ⊥
 place_none o P e f = absurd (cc (e, f))
@@ -61,12 +62,12 @@ module _ (s : Heap) (sound : Sound s) (empty : IsEmpty s) where
   only_top : (m : ℕ) (P : Place) → mem_place_of s m ≡ Some P → Some P ≡ Some top
   only_top m P e = sym e ∙ ap (mem_place_of s) (empty.only_root m (place_mem (s.mems m) P e)) ∙ root_place
 
-  pub empty_ready : IsReady s s.root
+  pub empty_ready : CanBeFilled s s.root
   empty_ready = record {
     sound = sound;
     no_atoms = no_some s.new_atoms (λ a i. place_none (s.atoms a) _ (empty.no_atom a) ((sound.listed.new_atoms a).0 i));
     no_mems = no_some s.new_mems (λ m i. absurd (let w = only_top m _ ((sound.listed.new_mems m).0 i) in cc));
-    there = subst StandsAt (sym root_place) tt;
+    there = subst IsTopOrWithin (sym root_place) tt;
   }
 
   pub no_atoms_in : atoms_in s s.root ≡ []
@@ -76,15 +77,6 @@ module _ (s : Heap) (sound : Sound s) (empty : IsEmpty s) where
   no_mems_in = no_some (mems_in s s.root) (λ m i. absurd (let w = only_top m _ ((sound.listed.mems s.root m).0 i) in cc))
 
 -- Small facts
-
-pub past_end : {A : Type 0} (xs : List A) (i : ℕ) (d : A) → length xs ≤ i → slice_index_or xs i d ≡ d
-past_end {A} [] i d l = refl
-past_end {A} (x ∷ xs) zero d l = absurd (omega (arith, l))
-past_end {A} (x ∷ xs) (suc i) d l = past_end xs i d (omega (arith, l))
-
-has_links : (o : Option HeapAtom) (i : ℕ) → i < length (links_of o) → IsSome o
-has_links None i l = absurd (omega (arith, l))
-has_links (Some x) i l = refl
 
 home_kept : (o u : Option HeapAtom) → option_map (λ x. x.place) u ≡ option_map (λ x. x.place) o → IsSome (option_and_then (λ x. home_by x.place) o) → IsSome (option_and_then (λ x. home_by x.place) u)
 home_kept None u e i = absurd (let w : IsSome {T = ℕ} None = i in cc)
@@ -97,26 +89,26 @@ kept_some None (Some y) e i = absurd (cc)
 kept_some (Some x) u e i = refl
 
 -- atoms with the same functors read alike
-same_atom : (name : ℕ → ℕ → ℕ) (a : ℕ) (o u : Option HeapAtom) → option_map (λ x. x.functor) u ≡ option_map (λ x. x.functor) o → atom_of name a u ≡ atom_of name a o
+same_atom : (name : ℕ → ℕ → ℕ) (a : ℕ) (o u : Option HeapAtom) → option_map (λ x. x.functor) u ≡ option_map (λ x. x.functor) o → solid_atom_at name a u ≡ solid_atom_at name a o
 same_atom name a None None e = refl
 same_atom name a None (Some y) e = absurd (cc)
 same_atom name a (Some x) None e = absurd (cc)
-same_atom name a (Some x) (Some y) e = let w : y.functor ≡ x.functor = (cc) in ap (λ f. record { functor = f; links = numbered name a 0 f.arity } ∷ []) w
+same_atom name a (Some x) (Some y) e = let w : y.functor ≡ x.functor = (cc) in ap (λ f. record { functor = f; links = links_from name a 0 f.arity } ∷ []) w
 
-same_atoms : (s t : Heap) (name : ℕ → ℕ → ℕ) (xs : List ℕ) → ((a : ℕ) → functor_of t a ≡ functor_of s a) → atoms_of t name xs ≡ atoms_of s name xs
+same_atoms : (s t : Heap) (name : ℕ → ℕ → ℕ) (xs : List ℕ) → ((a : ℕ) → functor_of t a ≡ functor_of s a) → solid_atoms_at t name xs ≡ solid_atoms_at s name xs
 same_atoms s t name [] h = refl
 same_atoms s t name (a ∷ xs) h = both (same_atom name a (s.atoms a) (t.atoms a) (h a)) (same_atoms s t name xs h)
 
-all_pairs : (n : ℕ) (es : List (ℕ × ℕ)) → ((z : ℕ) → In z (both_links es) → z < n) → PairsBelow n es
+all_pairs : (n : ℕ) (es : List (ℕ × ℕ)) → ((z : ℕ) → IsOneOf z (both_links es) → z < n) → PairsBelow n es
 all_pairs n [] h = tt
 all_pairs n (e ∷ es) h = (h e.0 (inl refl), h e.1 (inr (inl refl)), all_pairs n es (λ z i. h z (inr (inr i))))
 
-pub all_ports : {P : Type 0} (n : ℕ) (ps : List (P × ℕ)) → ((z : ℕ) → In z (map (λ e. e.1) ps) → z < n) → LinksBelow n ps
+pub all_ports : {P : Type 0} (n : ℕ) (ps : List (P × ℕ)) → ((z : ℕ) → IsOneOf z (map (λ e. e.1) ps) → z < n) → LinksBelow n ps
 all_ports {P} n [] h = tt
 all_ports {P} n (e ∷ ps) h = (h e.1 (inl refl), all_ports n ps (λ z i. h z (inr i)))
 
 -- of three ends of a link two are one
-of_two : (L : List Port) (p q r : Port) → (length L ≡ 0) ⊎ (length L ≡ 2) → In p L → In q L → In r L → p ≢ r → (p ≡ q) ⊎ (r ≡ q)
+of_two : (L : List Port) (p q r : Port) → (length L ≡ 0) ⊎ (length L ≡ 2) → IsOneOf p L → IsOneOf q L → IsOneOf r L → p ≢ r → (p ≡ q) ⊎ (r ≡ q)
 of_two [] p q r h i j k d = absurd i
 of_two (a ∷ []) p q r h i j k d = absurd (elim h [ inl e ↦ (let w : 1 ≡ 0 = e in absurd (cc)) | inr e ↦ (let w : 1 ≡ 2 = e in absurd (omega (arith, w))) ])
 of_two (a ∷ b ∷ []) p q r h (inl e) (inl f) k d = inl (sym e ∙ f)
@@ -134,39 +126,39 @@ abbrev by_link : (ℕ → ℕ) → Option ℕ → ℕ
 by_link v None = 0
 by_link v (Some x) = v x
 
-named_all : (name : ℕ → ℕ → ℕ) (v : ℕ → ℕ) (qs : List (Port × ℕ)) → ((e : Port × ℕ) → In e qs → name e.0.0 e.0.1 ≡ v e.1) → Named name v qs
+named_all : (name : ℕ → ℕ → ℕ) (v : ℕ → ℕ) (qs : List (Port × ℕ)) → ((e : Port × ℕ) → IsOneOf e qs → name e.0.0 e.0.1 ≡ v e.1) → Named name v qs
 named_all name v [] h = tt
 named_all name v (e ∷ qs) h = (h e (inl refl), named_all name v qs (λ f i. h f (inr i)))
 
 -- A plain, an empty heap, and the heap in which its top was put without joining ports
 module _ (p : Plain) (s t : Heap) (ps : List (Port × ℕ)) (sound : Sound s) (empty : IsEmpty s) (well : IsWellMade p) (closed : base.EachTwice (levels.links_of p.top))
-    (a : Adds s t s.root (out-Level p.top).leaves (out-Level p.top).membranes (out-Level p.top).rules ps) where
+    (a : AddsToMembrane s t s.root (out-Level p.top).leaves (out-Level p.top).membranes (out-Level p.top).rules ps) where
   abbrev ls : List Leaf
   ls = leaves_of p.top
 
   abbrev es : List (ℕ × ℕ)
-  es = connectors ls
+  es = connectors_of_leaves ls
 
   made_atom : (x : ℕ) → IsAtom t x → IsMadeAtom (t.atoms x) x ps
   made_atom x i = elim (a.new_atoms x i) [ inl j ↦ absurd (none_is_not (s.atoms x) (empty.no_atom x) j) | inr h ↦ h ]
 
   no_partner : (x i : ℕ) → link_of t x i ≡ None
-  no_partner x i = elim (cases_lt i (length (links_of (t.atoms x)))) [
+  no_partner x i = elim (cases_lt i (length (partners_of (t.atoms x)))) [
     | inl l ↦ (a.made (x, i) ((made_atom x (has_links (t.atoms x) i l)).ports i l)).1.2
-    | inr l ↦ past_end (links_of (t.atoms x)) i None l
+    | inr l ↦ past_end (partners_of (t.atoms x)) i None l
   ]
 
   pub free : AreFree t ps
   free = record { once = a.once; there = λ q i. (let w = (a.made q i).1 in (w.0, w.1)); no_partner = no_partner }
 
   -- the links at ports are those of the atoms
-  at_ports : (v : ℕ → ℕ) (z : ℕ) → often z (map v (links ps)) ≡ often z (map v (atom_links ls))
-  at_ports v z = a.links v z ∙ sym (leaves_both v z (out-Level p.top).leaves (flat_map leaves_of (out-Level p.top).membranes)) ∙ ap (λ xs. often z (map v (atom_links xs))) (sym (leaves_apart p.top))
+  at_ports : (v : ℕ → ℕ) (z : ℕ) → places z (map v (links ps)) ≡ places z (map v (atom_links ls))
+  at_ports v z = a.links v z ∙ sym (leaves_both v z (out-Level p.top).leaves (flat_map leaves_of (out-Level p.top).membranes)) ∙ ap (λ xs. places z (map v (atom_links xs))) (sym (leaves_apart p.top))
 
-  unmapped : (z : ℕ) (xs : List ℕ) → often z (map (λ x. x) xs) ≡ often z xs
-  unmapped z xs = ap (often z) (map-id xs)
+  unmapped : (z : ℕ) (xs : List ℕ) → places z (map (λ x. x) xs) ≡ places z xs
+  unmapped z xs = ap (places z) (map-id xs)
 
-  each : (z : ℕ) → often z (both_links es ++ links ps) ≡ often z (levels.links_of p.top)
+  each : (z : ℕ) → places z (both_links es ++ links ps) ≡ places z (levels.links_of p.top)
   each z =
       let w = all_links z ls well.arities well.only_atoms in
       let k = at_ports (λ x. x) z in
@@ -175,19 +167,19 @@ module _ (p : Plain) (s t : Heap) (ps : List (Port × ℕ)) (sound : Sound s) (e
       let e = often_append z (both_links es) (links ps) in
       omega (arith, w, k, c, d, e)
 
-  pub twice : EachTwice (both_links es ++ links ps)
+  pub twice : TwiceOrNever (both_links es ++ links ps)
   twice z = subst (λ n. (n ≡ 0) ⊎ (n ≡ 2)) (counted z (levels.links_of p.top) ∙ sym (each z)) (closed z)
 
-  numbered_top : (z : ℕ) → In z (levels.links_of p.top) → z < length p.links
+  numbered_top : (z : ℕ) → IsOneOf z (levels.links_of p.top) → z < length p.links
   numbered_top z i = (numbers_below well.table.numbered).1 z (left_in z (levels.links_of p.top) [] i)
 
-  below : (z : ℕ) → In z (both_links es ++ links ps) → z < length p.links
+  below : (z : ℕ) → IsOneOf z (both_links es ++ links ps) → z < length p.links
   below z i = numbered_top z (often_in z (levels.links_of p.top) (λ e. in_often z (both_links es ++ links ps) i (each z ∙ e)))
 
   pub pairs_below : PairsBelow (length p.links) es
   pairs_below = all_pairs (length p.links) es (λ z i. below z (left_in z (both_links es) (links ps) i))
 
-  pub ports_below : (z : ℕ) → In z (links ps) → z < length p.links
+  pub ports_below : (z : ℕ) → IsOneOf z (links ps) → z < length p.links
   ports_below z i = below z (right_in z (both_links es) (links ps) i)
 
   -- Then the ports of each class are joined
@@ -216,13 +208,13 @@ module _ (p : Plain) (s t : Heap) (ps : List (Port × ℕ)) (sound : Sound s) (e
     one_image : (y z : ℕ) → m y ≡ m z → v y ≡ v z
     one_image y z e = sym (by_class y) ∙ ap v e ∙ by_class z
 
-    images_twice : EachTwice (map v (links ps))
-    images_twice z = subst (λ n. (n ≡ 0) ⊎ (n ≡ 2)) (counted z (solids.links_of x.root) ∙ ap (λ r. often z (solids.links_of r)) of_plain.is ∙ ap (often z) (region_links v p.top) ∙ sym (at_ports v z)) (of_plain.is_solid.closed z)
+    images_twice : TwiceOrNever (map v (links ps))
+    images_twice z = subst (λ n. (n ≡ 0) ⊎ (n ≡ 2)) (counted z (solids.links_of_region x.root) ∙ ap (λ r. places z (solids.links_of_region r)) of_plain.is ∙ ap (places z) (region_links v p.top) ∙ sym (at_ports v z)) (of_plain.is_solid.closed z)
 
     atom_before : (y : ℕ) → IsAtom u y → IsAtom t y
     atom_before y i = kept_some (t.atoms y) (u.atoms y) (j.items.functors y) i
 
-    port_of : (y i : ℕ) → i < arity_of u y → In {A = Port} (y, i) (ports ps)
+    port_of : (y i : ℕ) → i < arity_of u y → IsOneOf {A = Port} (y, i) (ports ps)
     port_of y i l = let k : i < arity_of t y = subst (λ n. i < n) (j.items.arities y) l in (made_atom y (has_links (t.atoms y) i k)).ports i k
 
     -- the tree
@@ -281,7 +273,7 @@ module _ (p : Plain) (s t : Heap) (ps : List (Port × ℕ)) (sound : Sound s) (e
     abbrev name : ℕ → ℕ → ℕ
     name y i = by_link v (link_at ps (y, i))
 
-    name_at : (q : Port) (y : ℕ) → In {A = Port × ℕ} (q, y) ps → name q.0 q.1 ≡ v y
+    name_at : (q : Port) (y : ℕ) → IsOneOf {A = Port × ℕ} (q, y) ps → name q.0 q.1 ≡ v y
     name_at q y i = ap (by_link v) (link_found ps a.once q y i)
 
     named : Named name v ps
@@ -290,13 +282,13 @@ module _ (p : Plain) (s t : Heap) (ps : List (Port × ℕ)) (sound : Sound s) (e
     joined_names : (q r : Port) → link_of u q.0 q.1 ≡ Some r → name q.0 q.1 ≡ name r.0 r.1
     joined_names q r e = let w = j.one_class q r e in name_at q w.first w.at_first ∙ one_image w.first w.second w.same ∙ sym (name_at r w.second w.at_second)
 
-    the_ends : (z : ℕ) → (length (ends v z ps) ≡ 0) ⊎ (length (ends v z ps) ≡ 2)
+    the_ends : (z : ℕ) → (length (ends_of_class v z ps) ≡ 0) ⊎ (length (ends_of_class v z ps) ≡ 2)
     the_ends z = elim (images_twice z) [ inl e ↦ inl (ends_length v z ps ∙ e) | inr e ↦ inr (ends_length v z ps ∙ e) ]
 
-    end_of : (q : Port) (z : ℕ) → In q (ports ps) → name q.0 q.1 ≡ z → In q (ends v z ps)
+    end_of : (q : Port) (z : ℕ) → IsOneOf q (ports ps) → name q.0 q.1 ≡ z → IsOneOf q (ends_of_class v z ps)
     end_of q z i e = let w = ports_in ps q i in in_ends v z ps q w.0 w.1 (sym (name_at q w.0 w.1) ∙ e)
 
-    apart_names : (q r : Port) → In q (ports ps) → In r (ports ps) → name q.0 q.1 ≡ name r.0 r.1 → (q ≡ r) ⊎ (link_of u q.0 q.1 ≡ Some r)
+    apart_names : (q r : Port) → IsOneOf q (ports ps) → IsOneOf r (ports ps) → name q.0 q.1 ≡ name r.0 r.1 → (q ≡ r) ⊎ (link_of u q.0 q.1 ≡ Some r)
     apart_names q r i k e = by (link_of u q.0 q.1) refl (j.all q i)
       where
         by : (o : Option Port) → link_of u q.0 q.1 ≡ o → IsSome o → (q ≡ r) ⊎ (link_of u q.0 q.1 ≡ Some r)
@@ -305,7 +297,7 @@ module _ (p : Plain) (s t : Heap) (ps : List (Port × ℕ)) (sound : Sound s) (e
             let w = j.one_class q b c in
             let z : ℕ = name q.0 q.1 in
             let d : q ≢ b = λ g. now.paired.apart q.0 q.1 (c ∙ ap Some (sym g)) in
-            elim (of_two (ends v z ps) q r b (the_ends z) (end_of q z i refl) (end_of r z k (sym e)) (end_of b z (in_ports ps b w.second w.at_second) (sym (joined_names q b c))) d) [
+            elim (of_two (ends_of_class v z ps) q r b (the_ends z) (end_of q z i refl) (end_of r z k (sym e)) (end_of b z (in_ports ps b w.second w.at_second) (sym (joined_names q b c))) d) [
               | inl g ↦ inl g
               | inr g ↦ inr (c ∙ ap Some g)
             ]
@@ -319,13 +311,13 @@ module _ (p : Plain) (s t : Heap) (ps : List (Port × ℕ)) (sound : Sound s) (e
       ];
     }
 
-    root_atoms : atoms_of u name (atoms_in u s.root) ≡ flat_map (fused_leaf v) (out-Level p.top).leaves
-    root_atoms = same_atoms t u name (atoms_in u s.root) j.items.functors ∙ ap (λ (o : Option HeapMem). atoms_of t name (atoms_by o)) (mems_same s.root)
-        ∙ ap (atoms_of t name) (a.atoms_are ∙ ap (λ xs. xs ++ a.atoms) (no_atoms_in s sound empty)) ∙ a.here v name named
+    root_atoms : solid_atoms_at u name (atoms_in u s.root) ≡ flat_map (fused_leaf v) (out-Level p.top).leaves
+    root_atoms = same_atoms t u name (atoms_in u s.root) j.items.functors ∙ ap (λ (o : Option HeapMem). solid_atoms_at t name (atoms_by o)) (mems_same s.root)
+        ∙ ap (solid_atoms_at t name) (a.atoms_are ∙ ap (λ xs. xs ++ a.atoms) (no_atoms_in s sound empty)) ∙ a.here v name named
 
     inner_regions : regions_of u name a.forest ≡ map (fused_region v) (out-Level p.top).membranes
     inner_regions = regions_frame u t name name a.forest (λ k i. (
-      same_atoms t u name (atoms_in u k) j.items.functors ∙ ap (λ (o : Option HeapMem). atoms_of t name (atoms_by o)) (mems_same k),
+      same_atoms t u name (atoms_in u k) j.items.functors ∙ ap (λ (o : Option HeapMem). solid_atoms_at t name (atoms_by o)) (mems_same k),
       ap rules_by (mems_same k),
     )) ∙ a.below v name named
 
@@ -349,13 +341,13 @@ module _ (p : Plain) (s t : Heap) (ps : List (Port × ℕ)) (sound : Sound s) (e
 
 -- The same by the handles of a store
 module _ {A : Type 0} (id : A → ℕ) (p : Plain) (s t : Heap) (r n : ℕ) (none filled slice : List ((A × ℕ) × ℕ)) (pairs : List (ℕ × ℕ)) (sound : Sound s) (empty : IsEmpty s) (well : IsWellMade p) (closed : base.EachTwice (levels.links_of p.top))
-    (root : r ≡ s.root) (size : n ≡ length p.links) (start : none ≡ []) (f : Fills id s t r (out-Level p.top).leaves (out-Level p.top).membranes (out-Level p.top).rules none filled) (e : slice ≡ filled) (d : pairs ≡ connectors (leaves_of p.top)) where
+    (root : r ≡ s.root) (size : n ≡ length p.links) (start : none ≡ []) (f : Fills id s t r (out-Level p.top).leaves (out-Level p.top).membranes (out-Level p.top).rules none filled) (e : slice ≡ filled) (d : pairs ≡ connectors_of_leaves (leaves_of p.top)) where
   whole : slice ≡ f.more
   whole = e ∙ f.are ∙ ap (λ ps. ps ++ f.more) start
 
-  adds : Adds s t s.root (out-Level p.top).leaves (out-Level p.top).membranes (out-Level p.top).rules (by_id id slice)
-  adds = subst (λ k. Adds s t k (out-Level p.top).leaves (out-Level p.top).membranes (out-Level p.top).rules (by_id id slice)) root
-      (subst (λ ps. Adds s t r (out-Level p.top).leaves (out-Level p.top).membranes (out-Level p.top).rules (by_id id ps)) (sym whole) f.adds)
+  adds : AddsToMembrane s t s.root (out-Level p.top).leaves (out-Level p.top).membranes (out-Level p.top).rules (by_id id slice)
+  adds = subst (λ k. AddsToMembrane s t k (out-Level p.top).leaves (out-Level p.top).membranes (out-Level p.top).rules (by_id id slice)) root
+      (subst (λ ps. AddsToMembrane s t r (out-Level p.top).leaves (out-Level p.top).membranes (out-Level p.top).rules (by_id id ps)) (sym whole) f.adds)
 
   links_kept : (ps : List ((A × ℕ) × ℕ)) → links (by_id id ps) ≡ map (λ e. e.1) ps
   links_kept [] = refl
@@ -365,13 +357,13 @@ module _ {A : Type 0} (id : A → ℕ) (p : Plain) (s t : Heap) (r n : ℕ) (non
   connectors_fit = subst (λ k. PairsBelow k pairs) (sym size) (subst (PairsBelow (length p.links)) (sym d) (pairs_below p s t (by_id id slice) sound empty well closed adds))
 
   pub ports_fit : LinksBelow n slice
-  ports_fit = subst (λ k. LinksBelow k slice) (sym size) (all_ports (length p.links) slice (λ z i. ports_below p s t (by_id id slice) sound empty well closed adds z (subst (In z) (sym (links_kept slice)) i)))
+  ports_fit = subst (λ k. LinksBelow k slice) (sym size) (all_ports (length p.links) slice (λ z i. ports_below p s t (by_id id slice) sound empty well closed adds z (subst (IsOneOf z) (sym (links_kept slice)) i)))
 
   pub are_free : AreFree t (by_id id slice)
   are_free = free p s t (by_id id slice) sound empty well closed adds
 
-  pub are_twice : EachTwice (both_links pairs ++ links (by_id id slice))
-  are_twice = subst (λ es. EachTwice (both_links es ++ links (by_id id slice))) (sym d) (twice p s t (by_id id slice) sound empty well closed adds)
+  pub are_twice : TwiceOrNever (both_links pairs ++ links (by_id id slice))
+  are_twice = subst (λ es. TwiceOrNever (both_links es ++ links (by_id id slice))) (sym d) (twice p s t (by_id id slice) sound empty well closed adds)
 
   pub is_loaded : (u : Heap) → Sound u → AreJoined (class_of pairs) (by_id id slice) t u → IsLoaded p u
   is_loaded u now j = loaded p s t (by_id id slice) sound empty well closed adds u now (subst (λ es. AreJoined (class_of es) (by_id id slice) t u) d j)

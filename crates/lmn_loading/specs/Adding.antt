@@ -9,15 +9,16 @@ use Rattle.lmn_base.specs.declared.functor.Functor.{Functor}
 use Rattle.lmn_base.specs.Levels.{leaves_of}
 use Rattle.lmn_base.specs.Solids.{connector}
 use Rattle.lmn_congruence.specs.SolidsOfPlains.{is_connector, fused_leaf, fused_region}
-use Rattle.lmn_heap.specs.Heap.{Heap, HeapAtom, IsAtom, IsMem, IsPlacedMem, IsMemInPlace, mem_place_of, atoms_in, mems_in, rules_in, home_by, links_of, marks_of, made_atom, made_mem, placed, placed_mem}
+use Rattle.lmn_heap.specs.Heap.{Heap, HeapAtom, IsAtom, IsMem, IsPlacedMem, IsMemInPlace, mem_place_of, atoms_in, mems_in, rules_in, home_by, partners_of, marks_of, made_atom, made_mem, placed, placed_mem}
 use Rattle.lmn_heap.specs.Lists as lists
-use Rattle.lmn_heap.specs.Solid.{atoms_of, regions_of}
+use Rattle.lmn_heap.specs.Solid.{solid_atoms_at, regions_of}
 use Rattle.lmn_heap.specs.Sound.{Sound, Forest, flat, Forms}
-use Rattle.lmn_splice.specs.Ports.{Port}
-use Rattle.lmn_splice.specs.Splice.{In, Distinct, often, ports, links}
+use Rattle.lmn_splice.specs.Splice.{IsOneOf, NoneTwice, ports, links}
+use Rattle.lmn_base.specs.Graphs.{Port}
+use Rattle.lmn_congruence.specs.Links.{places}
 
 -- something may be placed in the membrane m, and nothing waits
-pub record IsReady (s : Heap) (m : ℕ) : Type 0 where
+pub record CanBeFilled (s : Heap) (m : ℕ) : Type 0 where
   pub sound : Sound s
   pub no_atoms : s.new_atoms ≡ []
   pub no_mems : s.new_mems ≡ []
@@ -31,21 +32,21 @@ abbrev pub with_mem : Heap → ℕ → ℕ → Heap
 with_mem s m n = placed_mem (made_mem s n) m n
 
 -- the ports of an atom from one on, each with its link
-abbrev pub ports_from : {A : Type 0} → A → ℕ → List Occ → List ((A × ℕ) × ℕ)
-ports_from a i [] = []
-ports_from a i (o ∷ os) = ((a, i), o.link) ∷ ports_from a (i + 1) os
+abbrev pub ports_with_links : {A : Type 0} → A → ℕ → List Occ → List ((A × ℕ) × ℕ)
+ports_with_links a i [] = []
+ports_with_links a i (o ∷ os) = ((a, i), o.link) ∷ ports_with_links a (i + 1) os
 
 -- ports whose atoms are named by their numbers
 abbrev pub by_id : {A : Type 0} → (A → ℕ) → List ((A × ℕ) × ℕ) → List (Port × ℕ)
 by_id id es = map (λ e. ((id e.0.0, e.0.1), e.1)) es
 
 -- the links of leaves that are no connectors
-abbrev pub leaf_links : Leaf → List ℕ
-leaf_links (Atom functor os pos) = if is_connector functor then [] else map (λ o. o.link) os
-leaf_links (Typed name o pos) = []
+abbrev pub atom_leaf_links : Leaf → List ℕ
+atom_leaf_links (Atom functor os pos) = if is_connector functor then [] else map (λ o. o.link) os
+atom_leaf_links (Typed name o pos) = []
 
 abbrev pub atom_links : List Leaf → List ℕ
-atom_links ls = flat_map leaf_links ls
+atom_links ls = flat_map atom_leaf_links ls
 
 -- each port is named by the image of its link
 abbrev pub Named : (ℕ → ℕ → ℕ) → (ℕ → ℕ) → List (Port × ℕ) → Type 0
@@ -56,17 +57,17 @@ Named name v (e ∷ es) = (name e.0.0 e.0.1 ≡ v e.1) × Named name v es
 pub record IsMadeAtom (o : Option HeapAtom) (a : ℕ) (ps : List (Port × ℕ)) : Type 0 where
   pub in_place : IsSome (option_and_then (λ x. home_by x.place) o)
   pub no_connector : option_map (λ x. x.functor) o ≢ Some connector
-  pub ports : (i : ℕ) → i < length (links_of o) → In {A = Port} (a, i) (ports ps)
+  pub ports : (i : ℕ) → i < length (partners_of o) → IsOneOf {A = Port} (a, i) (ports ps)
   pub unmarked : (i : ℕ) → slice_index_or (marks_of o) i 0 ≡ 0
 
 -- an atom has a port, which has no partner
 abbrev pub IsFreePort : Option HeapAtom → ℕ → Type 0
-IsFreePort o i = IsSome o × (i < length (links_of o)) × (slice_index_or (links_of o) i None ≡ None)
+IsFreePort o i = IsSome o × (i < length (partners_of o)) × (slice_index_or (partners_of o) i None ≡ None)
 
 -- In t the membrane m of s has the atoms of these leaves, these membranes and these rules at the ends of its lists. All
 -- else is as in s. The new ports are these, each with its link, and none has a partner.
-pub record Adds (s t : Heap) (m : ℕ) (leaves : List Leaf) (inner : List Level) (rules : List ℕ) (ps : List (Port × ℕ)) : Type 0 where
-  pub ready : IsReady t m
+pub record AddsToMembrane (s t : Heap) (m : ℕ) (leaves : List Leaf) (inner : List Level) (rules : List ℕ) (ps : List (Port × ℕ)) : Type 0 where
+  pub ready : CanBeFilled t m
   pub root : t.root ≡ s.root
   pub place : mem_place_of t m ≡ mem_place_of s m
   pub atoms : List ℕ
@@ -76,11 +77,11 @@ pub record Adds (s t : Heap) (m : ℕ) (leaves : List Leaf) (inner : List Level)
   pub mems_are : mems_in t m ≡ mems_in s m ++ mems
   pub rules_are : rules_in t m ≡ rules_in s m ++ rules
   pub forms : Forms t forest mems
-  pub here : (v : ℕ → ℕ) (name : ℕ → ℕ → ℕ) → Named name v ps → atoms_of t name atoms ≡ flat_map (fused_leaf v) leaves
+  pub here : (v : ℕ → ℕ) (name : ℕ → ℕ → ℕ) → Named name v ps → solid_atoms_at t name atoms ≡ flat_map (fused_leaf v) leaves
   pub below : (v : ℕ → ℕ) (name : ℕ → ℕ → ℕ) → Named name v ps → regions_of t name forest ≡ map (fused_region v) inner
-  pub links : (v : ℕ → ℕ) (z : ℕ) → often z (map v (links ps)) ≡ often z (map v (atom_links leaves)) + often z (map v (atom_links (flat_map leaves_of inner)))
-  pub once : Distinct (ports ps)
-  pub made : (p : Port) → In p (ports ps) → (s.atoms p.0 ≡ None) × IsFreePort (t.atoms p.0) p.1
+  pub links : (v : ℕ → ℕ) (z : ℕ) → places z (map v (links ps)) ≡ places z (map v (atom_links leaves)) + places z (map v (atom_links (flat_map leaves_of inner)))
+  pub once : NoneTwice (ports ps)
+  pub made : (p : Port) → IsOneOf p (ports ps) → (s.atoms p.0 ≡ None) × IsFreePort (t.atoms p.0) p.1
   pub atoms_kept : (a : ℕ) → IsAtom s a → t.atoms a ≡ s.atoms a
   pub mems_kept : (k : ℕ) → IsMem s k → k ≢ m → t.mems k ≡ s.mems k
   pub new_atoms : (a : ℕ) → IsAtom t a → IsAtom s a ⊎ IsMadeAtom (t.atoms a) a ps
@@ -91,11 +92,11 @@ pub record Adds (s t : Heap) (m : ℕ) (leaves : List Leaf) (inner : List Level)
 pub record Fills {A : Type 0} (id : A → ℕ) (s t : Heap) (m : ℕ) (leaves : List Leaf) (inner : List Level) (rules : List ℕ) (old new : List ((A × ℕ) × ℕ)) : Type 0 where
   pub more : List ((A × ℕ) × ℕ)
   pub are : new ≡ old ++ more
-  pub adds : Adds s t m leaves inner rules (by_id id more)
+  pub adds : AddsToMembrane s t m leaves inner rules (by_id id more)
 
 -- an atom with this functor and these links is added to the membrane m, its ports at the end of a list
 pub record AtomIsAdded {A : Type 0} (id : A → ℕ) (s t : Heap) (m : ℕ) (f : Functor) (os : List Occ) (old new : List ((A × ℕ) × ℕ)) : Type 0 where
   pub atom : A
   pub fresh : s.atoms (id atom) ≡ None
   pub heap : t ≡ with_atom s m (id atom) f
-  pub ports : new ≡ old ++ ports_from atom 0 os
+  pub ports : new ≡ old ++ ports_with_links atom 0 os

@@ -3,12 +3,12 @@ use Rattle.std.specs.Prelude.{ℕ, ◌≡◌, ◌≢◌, ◌==◌, List, [], ◌
 use Rattle.std.specs.Option.{option_map}
 use Rattle.lmn_heap.specs.Heap.{Heap, functor_of, arity_of, place_of, mark_of, link_of, joined, port_id}
 use Rattle.lmn_heap.specs.Splice.{IsPort}
-use Rattle.lmn_splice.specs.Ports.{Port}
-use Rattle.lmn_splice.specs.Splice.{In, Distinct, ports}
+use Rattle.lmn_splice.specs.Splice.{IsOneOf, NoneTwice, ports}
 use Rattle.lmn_base.specs.declared.level.Leaf.{Leaf}
 use Rattle.lmn_base.specs.declared.level.Leaf.TheVariants.{Atom, Typed}
 use Rattle.lmn_congruence.specs.SolidsOfPlains.{is_connector}
 use Rattle.lmn_base.specs.declared.level.Occ.{Occ}
+use Rattle.lmn_base.specs.Graphs.{Port}
 
 -- the two links of a connector
 abbrev pub pair_of : List Occ → List (ℕ × ℕ)
@@ -21,8 +21,8 @@ leaf_pairs (Atom functor os pos) = if is_connector functor then pair_of os else 
 leaf_pairs (Typed name o pos) = []
 
 -- the connectors of leaves, each by its two links
-abbrev pub connectors : List Leaf → List (ℕ × ℕ)
-connectors ls = flat_map leaf_pairs ls
+abbrev pub connectors_of_leaves : List Leaf → List (ℕ × ℕ)
+connectors_of_leaves ls = flat_map leaf_pairs ls
 
 -- the port that a table holds for a class
 abbrev pub held_at : {A : Type 0} → (A → ℕ) → List (Option (A × ℕ)) → ℕ → Option Port
@@ -46,8 +46,8 @@ MayMeet s (Some q) p = IsPort s q.0 q.1 × IsPort s p.0 p.1 × (q ≢ p)
 
 -- no port has a partner; these ports are there, and each is named once
 pub record AreFree (s : Heap) (ps : List (Port × ℕ)) : Type 0 where
-  pub once : Distinct (ports ps)
-  pub there : (p : Port) → In p (ports ps) → IsPort s p.0 p.1
+  pub once : NoneTwice (ports ps)
+  pub there : (p : Port) → IsOneOf p (ports ps) → IsPort s p.0 p.1
   pub no_partner : (a i : ℕ) → link_of s a i ≡ None
 
 -- all is as it was, but for partners
@@ -63,12 +63,12 @@ pub record SameButPartners (s t : Heap) : Type 0 where
 pub record OneClass (m : ℕ → ℕ) (ps : List (Port × ℕ)) (p q : Port) : Type 0 where
   pub first : ℕ
   pub second : ℕ
-  pub at_first : In {A = Port × ℕ} (p, first) ps
-  pub at_second : In {A = Port × ℕ} (q, second) ps
+  pub at_first : IsOneOf {A = Port × ℕ} (p, first) ps
+  pub at_second : IsOneOf {A = Port × ℕ} (q, second) ps
   pub same : m first ≡ m second
 
 -- each of the ports has a partner, and partners are of one class
 pub record AreJoined (m : ℕ → ℕ) (ps : List (Port × ℕ)) (s t : Heap) : Type 0 where
   pub items : SameButPartners s t
-  pub all : (p : Port) → In p (ports ps) → IsSome (link_of t p.0 p.1)
+  pub all : (p : Port) → IsOneOf p (ports ps) → IsSome (link_of t p.0 p.1)
   pub one_class : (p q : Port) → link_of t p.0 p.1 ≡ Some q → OneClass m ps p q

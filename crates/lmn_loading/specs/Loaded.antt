@@ -7,11 +7,11 @@ use Rattle.lmn_base.specs.declared.level.Level.TheOpen.{Level-F}
 use Rattle.lmn_base.specs.declared.level.Level.TheFolds.{fold-Level}
 use Rattle.lmn_base.specs.declared.rule.Plain.{Plain}
 use Rattle.lmn_base.specs.declared.solid.Solid.{Solid}
-use Rattle.lmn_base.specs.Solids.{items_of}
+use Rattle.lmn_base.specs.Solids.{item_count}
 use Rattle.lmn_congruence.specs.SolidsOfPlains.{is_connector, IsSolidOf}
 use Rattle.lmn_heap.specs.Heap.{Heap, IsMem, mark_of, rules_in}
 use Rattle.lmn_heap.specs.Sound.{Valid}
-use Rattle.lmn_heap.specs.Solid.{SolidOf}
+use Rattle.lmn_heap.specs.Solid.{HasSolid}
 use Rattle.lmn_loading.specs.declared.loading.LoadFault.{LoadFault}
 use Rattle.lmn_loading.specs.declared.loading.LoadFault.TheVariants.{Size, NoMemory}
 
@@ -27,7 +27,7 @@ pub record IsLoaded (p : Plain) (s : Heap) : Type 0 where
   pub valid : Valid s
   pub unmarked : (a i : ℕ) → mark_of s a i ≡ 0
   pub solid : Solid
-  pub of_heap : SolidOf s solid
+  pub of_heap : HasSolid s solid
   pub of_plain : IsSolidOf p solid
 
 -- an atom that is no connector
@@ -49,6 +49,6 @@ abbrev pub loaded_items : Level → ℕ
 loaded_items = fold-Level ℕ loaded_step
 
 -- When each fault may come, by the items of the plain's solid.
-abbrev pub Causes : Plain → ℕ → LoadFault → Type 0
-Causes p size (Size k) = (s : Solid) → IsSolidOf p s → (size < items_of s) × (k ≡ min (items_of s) (2 ^ 64 - 1))
-Causes p size NoMemory = (s : Solid) → IsSolidOf p s → items_of s ≤ size
+abbrev pub LoadCauses : Plain → ℕ → LoadFault → Type 0
+LoadCauses p size (Size k) = (s : Solid) → IsSolidOf p s → (size < item_count s) × (k ≡ min (item_count s) (2 ^ 64 - 1))
+LoadCauses p size NoMemory = (s : Solid) → IsSolidOf p s → item_count s ≤ size

@@ -3,7 +3,7 @@ ghost use Rattle.std.specs.Prelude.{◌≡◌, ◌<◌, ◌++◌, [], ◌∷◌,
 ghost use Rattle.lmn_base.specs.declared.level.Level.{out-Level};
 ghost use Rattle.lmn_base.specs.Levels.{leaves_of};
 ghost use Rattle.lmn_base.specs.WellMade.{FitsArity};
-ghost use Rattle.lmn_loading.specs.Adding.{IsReady, Adds, Fills, AtomIsAdded, with_atom, with_mem, ports_from};
+ghost use Rattle.lmn_loading.specs.Adding.{CanBeFilled, AddsToMembrane, Fills, AtomIsAdded, with_atom, with_mem, ports_with_links};
 
 use crate::leaves::is_connector;
 use lmn_base::{Functor, Leaf, Level, NoMemory, Occ, Rows};
@@ -17,7 +17,7 @@ fn add_atom<S: LinkStore>(
     m: S::Mem,
     functor: Functor,
 ) -> Result<S::Atom, NoMemory>
-    requires { IsReady (S.heap store.old) (S.mem_id m) }
+    requires { CanBeFilled (S.heap store.old) (S.mem_id m) }
     ensures fresh { IfOk result (λ a. (S.heap store.old).atoms (S.atom_id a) ≡ None) }
     ensures ok { IfOk result (λ a. S.heap store.new ≡ with_atom (S.heap store.old) (S.mem_id m) (S.atom_id a) functor) }
 {
@@ -28,7 +28,7 @@ fn add_atom<S: LinkStore>(
 
 /// An empty membrane at the end of a membrane's membranes.
 fn add_membrane<S: LinkStore>(alloc: Global, store: &mut S, m: S::Mem) -> Result<S::Mem, NoMemory>
-    requires { IsReady (S.heap store.old) (S.mem_id m) }
+    requires { CanBeFilled (S.heap store.old) (S.mem_id m) }
     ensures fresh { IfOk result (λ n. (S.heap store.old).mems (S.mem_id n) ≡ None) }
     ensures ok { IfOk result (λ n. S.heap store.new ≡ with_mem (S.heap store.old) (S.mem_id m) (S.mem_id n)) }
 {
@@ -44,7 +44,7 @@ fn add_ports<A: Copy>(
     links: &[Occ],
 ) -> Result<(), NoMemory>
     requires { length links.now < 256 }
-    ensures { OnOk result (ports.new ≡ ports.old ++ ports_from atom 0 links.now) }
+    ensures { OnOk result (ports.new ≡ ports.old ++ ports_with_links atom 0 links.now) }
 {
     for (i, occurrence) in links.iter().enumerate() {
         ports.push(((atom, i as u8), occurrence.link))?;
@@ -61,7 +61,7 @@ fn add_linked_atom<S: LinkStore>(
     links: &[Occ],
     ports: &mut Rows<((S::Atom, u8), u32)>,
 ) -> Result<(), NoMemory>
-    requires ready { IsReady (S.heap store.old) (S.mem_id m) }
+    requires ready { CanBeFilled (S.heap store.old) (S.mem_id m) }
     requires arity { length links.now ≡ functor.arity }
     ensures fills { OnOk result (AtomIsAdded S.atom_id (S.heap store.old) (S.heap store.new) (S.mem_id m) functor links.now ports.old ports.new) }
 {
@@ -77,7 +77,7 @@ fn add_leaf<S: LinkStore>(
     leaf: &Leaf,
     ports: &mut Rows<((S::Atom, u8), u32)>,
 ) -> Result<(), NoMemory>
-    requires ready { IsReady (S.heap store.old) (S.mem_id m) }
+    requires ready { CanBeFilled (S.heap store.old) (S.mem_id m) }
     requires arity { FitsArity leaf.now }
     ensures { OnOk result (Fills S.atom_id (S.heap store.old) (S.heap store.new) (S.mem_id m) (leaf.now ∷ []) [] [] ports.old ports.new) }
 {
@@ -101,7 +101,7 @@ fn add_leaves<S: LinkStore>(
     leaves: &[Leaf],
     ports: &mut Rows<((S::Atom, u8), u32)>,
 ) -> Result<(), NoMemory>
-    requires ready { IsReady (S.heap store.old) (S.mem_id m) }
+    requires ready { CanBeFilled (S.heap store.old) (S.mem_id m) }
     requires arities { All FitsArity leaves.now }
     ensures { OnOk result (Fills S.atom_id (S.heap store.old) (S.heap store.new) (S.mem_id m) leaves.now [] [] ports.old ports.new) }
 {
@@ -118,8 +118,8 @@ fn add_rules<S: LinkStore>(
     m: S::Mem,
     rules: &[u32],
 ) -> Result<(), NoMemory>
-    requires { IsReady (S.heap store.old) (S.mem_id m) }
-    ensures { OnOk result (Adds (S.heap store.old) (S.heap store.new) (S.mem_id m) [] [] rules.now []) }
+    requires { CanBeFilled (S.heap store.old) (S.mem_id m) }
+    ensures { OnOk result (AddsToMembrane (S.heap store.old) (S.heap store.new) (S.mem_id m) [] [] rules.now []) }
 {
     store.reserve_rules(alloc, m, rules.len() as u64)?;
     for rule in rules {
@@ -136,7 +136,7 @@ pub fn fill<S: LinkStore>(
     level: &Level,
     ports: &mut Rows<((S::Atom, u8), u32)>,
 ) -> Result<(), NoMemory>
-    requires ready { IsReady (S.heap store.old) (S.mem_id m) }
+    requires ready { CanBeFilled (S.heap store.old) (S.mem_id m) }
     requires arities { All FitsArity (leaves_of level.now) }
     ensures { OnOk result (Fills S.atom_id (S.heap store.old) (S.heap store.new) (S.mem_id m) (out-Level level.now).leaves (out-Level level.now).membranes (out-Level level.now).rules ports.old ports.new) }
 {

@@ -1,7 +1,7 @@
 //! Joins the ports of each class of links.
 ghost use Rattle.std.specs.Prelude.{◌≡◌, ◌<◌, ◌++◌, ℕ, length, slice_index_or, None, OnOk, IfOk};
 ghost use Rattle.lmn_heap.specs.Heap.{port_id};
-ghost use Rattle.lmn_splice.specs.Splice.{EachTwice, both_links, links};
+ghost use Rattle.lmn_splice.specs.Splice.{TwiceOrNever, both_links, links};
 ghost use Rattle.lmn_splice.specs.Classes.{class_of};
 ghost use Rattle.lmn_classes.specs.Tables.{PairsBelow, LinksBelow};
 ghost use Rattle.lmn_loading.specs.Adding.{by_id};
@@ -57,7 +57,7 @@ pub fn join_all<S: LinkStore>(
     requires connectors { PairsBelow size connectors.now }
     requires ports { LinksBelow size ports.now }
     requires free { AreFree (S.heap store.old) (by_id S.atom_id ports.now) }
-    requires twice { EachTwice (both_links connectors.now ++ links (by_id S.atom_id ports.now)) }
+    requires twice { TwiceOrNever (both_links connectors.now ++ links (by_id S.atom_id ports.now)) }
     ensures { OnOk result (AreJoined (class_of connectors.now) (by_id S.atom_id ports.now) (S.heap store.old) (S.heap store.new)) }
 {
     let mut classes = classes_of(alloc, connectors, size)?;

@@ -2,7 +2,7 @@
 ghost use Rattle.std.specs.Prelude.{◌≡◌, ◌-◌, ◌++◌, ◌^◌, min, OnOk};
 ghost use Rattle.lmn_congruence.specs.SolidsOfPlains as solids;
 ghost use Rattle.lmn_base.specs.Levels.{leaves_of};
-ghost use Rattle.lmn_loading.specs.Joining.{pair_of, leaf_pairs, connectors};
+ghost use Rattle.lmn_loading.specs.Joining.{pair_of, leaf_pairs, connectors_of_leaves};
 ghost use Rattle.lmn_loading.specs.Loaded.{atoms_among, loaded_items, one_if_atom};
 
 use lmn_base::{CONNECTOR_NAME, Functor, Label, Leaf, Level, NoMemory, Occ, Rows};
@@ -79,7 +79,7 @@ fn add_connector(pairs: &mut Rows<(u32, u32)>, leaf: &Leaf) -> Result<(), NoMemo
 
 /// Adds the connectors of a level, and then those in each of its membranes.
 pub fn add_connectors(pairs: &mut Rows<(u32, u32)>, level: &Level) -> Result<(), NoMemory>
-    ensures { OnOk result (pairs.new ≡ pairs.old ++ connectors (leaves_of level.now)) }
+    ensures { OnOk result (pairs.new ≡ pairs.old ++ connectors_of_leaves (leaves_of level.now)) }
 {
     for leaf in level.leaves.as_slice() {
         add_connector(pairs, leaf)?;

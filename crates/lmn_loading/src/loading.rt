@@ -3,10 +3,10 @@ ghost use Rattle.std.specs.Prelude.{◌≡◌, ◌<◌, ◌≤◌, ◌-◌, ◌^
 ghost use Rattle.lmn_base.specs.declared.solid.Solid.{Solid};
 ghost use Rattle.lmn_base.specs.Levels.{links_of};
 ghost use Rattle.lmn_base.specs.Links.{EachTwice};
-ghost use Rattle.lmn_base.specs.Solids.{items_of};
+ghost use Rattle.lmn_base.specs.Solids.{item_count};
 ghost use Rattle.lmn_base.specs.WellMade.{IsWellMade};
 ghost use Rattle.lmn_congruence.specs.SolidsOfPlains.{IsSolidOf};
-ghost use Rattle.lmn_loading.specs.Loaded.{IsEmpty, IsLoaded, Causes};
+ghost use Rattle.lmn_loading.specs.Loaded.{IsEmpty, IsLoaded, LoadCauses};
 
 use crate::filling::fill;
 use crate::joining::join_all;
@@ -64,8 +64,8 @@ pub fn load<S: LinkStore>(
     requires store { IsEmpty (S.heap store.old) }
     requires size { size < 2 ^ 64 - 1 }
     ensures loaded { OnOk result (IsLoaded plain.now (S.heap store.new)) }
-    ensures fits { OnOk result ((s : Solid) → IsSolidOf plain.now s → items_of s ≤ size) }
-    ensures fault { IfErr result (λ fault. Causes plain.now size fault) }
+    ensures fits { OnOk result ((s : Solid) → IsSolidOf plain.now s → item_count s ≤ size) }
+    ensures fault { IfErr result (λ fault. LoadCauses plain.now size fault) }
     ensures same { IfErr result (λ fault. (k : ℕ) → fault ≡ LoadFault.Size k → S.heap store.new ≡ S.heap store.old) }
 {
     let items = number_of_items(&plain.top);

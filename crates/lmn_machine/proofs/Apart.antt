@@ -1,13 +1,13 @@
 -- Two parts that were found are one or have no atom in common.
 use Rattle.std.proofs.Common.{◌≡◌, ◌≢◌, ◌⊎◌, ℕ, List, Option, Some, None, refl, arith, ap, sym, subst, ◌∙◌, inl, inr}
 use Rattle.lmn_base.specs.Graphs.{Reached, at_root, across}
-use Rattle.lmn_heap.specs.Heap.{Heap, arity_of, link_of, port_id}
+use Rattle.lmn_heap.specs.Heap.{Heap, arity_of, link_of, port_id, Unmarked}
 use Rattle.lmn_heap.specs.Graphs.{atom_map}
 use Rattle.lmn_heap.specs.Sound.{Sound}
-use Rattle.lmn_heap.proofs.Pigeonholes.{number_cases}
 use Rattle.lmn_ground.specs.Spread.{IsWhole}
 use Rattle.lmn_ground.proofs.CleanLaws.{ground_full}
-use Rattle.lmn_machine.specs.Searching.{IsHeldPart, Unmarked}
+use Rattle.lmn_machine.specs.Searching.{IsHeldPart}
+use Rattle.lmn_base.proofs.Numbers.{same_or_not as number_cases}
 
 port_cases : (p q : ℕ × ℕ) → (p ≡ q) ⊎ (p ≢ q)
 port_cases p q = elim (number_cases p.0 q.0) [

@@ -1,22 +1,24 @@
 -- Atoms of a membrane besides those of typed contexts.
-use Rattle.std.proofs.Common.{ℕ, zero, suc, ◌≡◌, ◌≢◌, ◌<◌, ◌≤◌, ◌+◌, ◌-◌, ◌⊎◌, inl, inr, List, [], ◌∷◌, Option, Some, None, pos, refl, arith, ap, sym, subst, length, take, get_or, ◌∙◌}
+use Rattle.std.proofs.Common.{ℕ, zero, suc, ◌≡◌, ◌≢◌, ◌<◌, ◌≤◌, ◌+◌, ◌-◌, ◌⊎◌, inl, inr, List, [], ◌∷◌, Some, pos, refl, arith, ap, sym, subst, length, take, get_or, ◌∙◌}
 use Rattle.std.specs.Prelude.{slice_get}
 use Rattle.std.specs.List.{AllByRecursion}
-use Rattle.std.specs.Option.{option_map, option_and_then}
 use Rattle.lmn_base.specs.Graphs.{Reached, at_root}
-use Rattle.lmn_heap.specs.Heap.{Heap, HeapAtom, In, Distinct, atoms_in, home_of, home_by, within, port_id}
+use Rattle.lmn_heap.specs.Heap.{Heap, In, Distinct, atoms_in, home_of, within, port_id}
 use Rattle.lmn_heap.specs.Lists.{without}
 use Rattle.lmn_heap.specs.Graphs.{atom_map}
 use Rattle.lmn_heap.specs.Sound.{Sound}
 use Rattle.lmn_heap.proofs.ListLemmas.{each_in, in_without}
 use Rattle.lmn_heap.proofs.Listing.{in_without_of, distinct_without, home_is}
-use Rattle.lmn_heap.proofs.Pigeonholes.{number_cases, length_without, not_longer}
+use Rattle.lmn_heap.proofs.Pigeonholes.{length_without, not_longer}
 use Rattle.lmn_ground.specs.Spread.{AreAtoms}
-use Rattle.lmn_instr.specs.Running.{Registers, HasOthers, IsInSome}
+use Rattle.lmn_instr.specs.Running.{HeadRegisters, HasOthers, IsInSome}
 use Rattle.lmn_registers.specs.declared.registers.SetRegisters.{SetRegisters}
 use Rattle.lmn_registers.specs.Agreeing.{Agrees}
-use Rattle.lmn_machine.specs.Searching.{AreHeld}
+use Rattle.lmn_machine.specs.Searching.{AreHeldWhole}
 use Rattle.lmn_machine.proofs.Apart.{one_or_apart}
+use Rattle.lmn_base.proofs.Lists.{value_or, get_there}
+use Rattle.lmn_base.proofs.Numbers.{same_or_not as number_cases}
+use Rattle.lmn_heap.proofs.Common.{home_placed}
 
 -- What is left of a list without the elements of another.
 record TakenOut (ys xs : List ℕ) : Type 0 where
@@ -88,12 +90,7 @@ listed_below n [] i g a e = absurd (cc)
 listed_below n (k ∷ gs) zero g a e = let t : k ≡ g = cc in subst (λ x. x < n) t a.0
 listed_below n (k ∷ gs) (suc i) g a e = listed_below n gs i g a.1 e
 
-get_there : {A : Type 0} (xs : List A) (j : ℕ) → j < length xs → (b : A) × (slice_get xs j ≡ Some b)
-get_there [] j l = absurd (omega (arith, l))
-get_there (x ∷ xs) zero l = (x, refl)
-get_there (x ∷ xs) (suc j) l = get_there xs j (omega (arith, l))
-
-module _ (h : Heap) (s : Registers) where
+module _ (h : Heap) (s : HeadRegisters) where
   -- the parts of one register more
   some_more : (gs : List ℕ) (i g b : ℕ) → slice_get gs i ≡ Some g → IsInSome h s (take (suc i) gs) b → IsInSome h s (take i gs) b ⊎ Reached (atom_map h) (s.images.part g) b
   some_more [] i g b e t = absurd (cc)
@@ -136,11 +133,7 @@ module _ (h : Heap) (s : Registers) where
             (others_more gs i g n xs e (others_as (IsInSome h s (take i gs)) _ n xs (λ b w u. inl u) (λ b w u. elim u [ inl v ↦ v | inr r ↦ f b w r ]) o)),
       )
 
-home_placed : (o : Option HeapAtom) (m : ℕ) → option_map (λ x. x.place) o ≡ Some (within m) → option_and_then (λ x. home_by x.place) o ≡ Some m
-home_placed None m e = absurd (cc)
-home_placed (Some x) m e = let t : x.place ≡ within m = cc in ap home_by t
-
-module _ {A M : Type 0} (atom : A → ℕ) (membrane : M → ℕ) (h : Heap) (sound : Sound h) (set : SetRegisters A M) (held : AreHeld atom membrane h set) (listed : List ℕ) (i g m : ℕ) (p : A × ℕ)
+module _ {A M : Type 0} (atom : A → ℕ) (membrane : M → ℕ) (h : Heap) (sound : Sound h) (set : SetRegisters A M) (held : AreHeldWhole atom membrane h set) (listed : List ℕ) (i g m : ℕ) (p : A × ℕ)
     (here : slice_get listed i ≡ Some g) (is : slice_get set.parts g ≡ Some p) where
   -- the atoms of a part stand where its root does
   part_home : (b : ℕ) → Reached (atom_map h) (port_id atom p) b → home_of h b ≡ home_of h (atom p.0)
@@ -153,20 +146,20 @@ module _ {A M : Type 0} (atom : A → ℕ) (membrane : M → ℕ) (h : Heap) (so
   home_in b e = (sound.listed.atoms m b).1 (home_is h b m e)
 
   -- a part in another membrane leaves nothing out
-  pub elsewhere : (In (atom p.0) (atoms_in h m) → ⊥) → (s : Registers) (n : ℕ) → Agrees atom membrane set s → HasOthers (IsInSome h s (take i listed)) n (atoms_in h m) →
+  pub elsewhere : (In (atom p.0) (atoms_in h m) → ⊥) → (s : HeadRegisters) (n : ℕ) → Agrees atom membrane set s → HasOthers (IsInSome h s (take i listed)) n (atoms_in h m) →
       (0 ≤ n) × HasOthers (IsInSome h s (take (i + 1) listed)) (n - 0) (atoms_in h m)
   elsewhere out s n a o = others_same h s listed i g n (atoms_in h m) here
       (λ b w r. absurd (out (home_in (atom p.0) (sym (part_home b (subst (λ q. Reached (atom_map h) q b) (a.parts g p is) r)) ∙ in_home b w)))) o
 
   -- nor does one that was there before
-  pub again : (j k : ℕ) × ((q : A × ℕ) × (j < i) × (slice_get listed j ≡ Some k) × (slice_get set.parts k ≡ Some q) × (port_id atom q ≡ port_id atom p)) → (s : Registers) (n : ℕ) → Agrees atom membrane set s →
+  pub again : (j k : ℕ) × ((q : A × ℕ) × (j < i) × (slice_get listed j ≡ Some k) × (slice_get set.parts k ≡ Some q) × (port_id atom q ≡ port_id atom p)) → (s : HeadRegisters) (n : ℕ) → Agrees atom membrane set s →
       HasOthers (IsInSome h s (take i listed)) n (atoms_in h m) → (0 ≤ n) × HasOthers (IsInSome h s (take (i + 1) listed)) (n - 0) (atoms_in h m)
   again (j, k, (q, l, e, at, same)) s n a o = others_same h s listed i g n (atoms_in h m) here
       (λ b w r. at_some h s listed i j k b l e (subst (λ x. Reached (atom_map h) x b) (a.parts g p is ∙ (sym same ∙ sym (a.parts k q at))) r)) o
 
   -- any other part has no atom in common with those before
   pub leaves_out : (In (atom p.0) (atoms_in h m)) → AllByRecursion (λ k. k < length set.parts) listed → ((j k : ℕ) (q : A × ℕ) → j < i → slice_get listed j ≡ Some k → slice_get set.parts k ≡ Some q → port_id atom q ≢ port_id atom p) →
-      (size : ℕ) (ys : List ℕ) → AreAtoms h (port_id atom p) ys → length ys ≡ size → (s : Registers) (n : ℕ) → Agrees atom membrane set s →
+      (size : ℕ) (ys : List ℕ) → AreAtoms h (port_id atom p) ys → length ys ≡ size → (s : HeadRegisters) (n : ℕ) → Agrees atom membrane set s →
       HasOthers (IsInSome h s (take i listed)) n (atoms_in h m) → (size ≤ n) × HasOthers (IsInSome h s (take (i + 1) listed)) (n - size) (atoms_in h m)
   leaves_out inside below new size ys are long s n a o =
       let part = a.parts g p is in
@@ -185,12 +178,7 @@ module _ {A M : Type 0} (atom : A → ℕ) (membrane : M → ℕ) (h : Heap) (so
             | inr d ↦ d b r v
           ]
 
--- Some registers that agree with those that are set.
-abbrev value_or : {A B : Type 0} → (A → B) → B → Option A → B
-value_or f other None = other
-value_or f other (Some a) = f a
-
-abbrev pub known : {A M : Type 0} → (A → ℕ) → (M → ℕ) → SetRegisters A M → Registers
+abbrev pub known : {A M : Type 0} → (A → ℕ) → (M → ℕ) → SetRegisters A M → HeadRegisters
 known atom membrane g = record {
   images = record {
     atom = λ k. value_or atom 0 (slice_get g.atoms k);
@@ -210,7 +198,7 @@ known_agrees atom membrane g = record {
 
 -- What is left of a number of others, in a heap, where one part more is left out.
 abbrev pub Fewer : {A M : Type 0} → (A → ℕ) → (M → ℕ) → SetRegisters A M → List ℕ → ℕ → ℕ → ℕ → Heap → Type 0
-Fewer atom membrane set listed i m result h = (s : Registers) (n : ℕ) → Agrees atom membrane set s → HasOthers (IsInSome h s (take i listed)) n (atoms_in h m) →
+Fewer atom membrane set listed i m result h = (s : HeadRegisters) (n : ℕ) → Agrees atom membrane set s → HasOthers (IsInSome h s (take i listed)) n (atoms_in h m) →
     (result ≤ n) × HasOthers (IsInSome h s (take (i + 1) listed)) (n - result) (atoms_in h m)
 
 -- what stands at a place of a list

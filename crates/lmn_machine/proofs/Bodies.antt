@@ -2,14 +2,14 @@
 use Rattle.std.proofs.Common.{ℕ, ◌≡◌, ◌<◌, Option, Some, None, IsSome, refl, arith, ap, sym, subst, length, ◌∙◌}
 use Rattle.std.specs.Option.{option_map}
 use Rattle.lmn_base.specs.declared.functor.Functor.{Functor}
-use Rattle.lmn_heap.specs.Heap.{Heap, HeapAtom, IsAtom, links_of, arity_of, port_id}
+use Rattle.lmn_heap.specs.Heap.{Heap, HeapAtom, IsAtom, partners_of, arity_of, port_id}
 use Rattle.lmn_heap.specs.Sound.{Sound}
 use Rattle.lmn_registers.specs.declared.registers.SetRegisters.{SetRegisters}
 use Rattle.lmn_commit.specs.Registers as body
 use Rattle.lmn_commit.specs.Preparing.{CanBeCopied, CanCopy}
-use Rattle.lmn_machine.specs.Searching.{AreHeld, IsHeldPart}
+use Rattle.lmn_machine.specs.Searching.{AreHeldWhole, IsHeldPart}
 
-module _ {A M : Type 0} (atom : A → ℕ) (membrane : M → ℕ) (h : Heap) (g : SetRegisters A M) (held : AreHeld atom membrane h g) where
+module _ {A M : Type 0} (atom : A → ℕ) (membrane : M → ℕ) (h : Heap) (g : SetRegisters A M) (held : AreHeldWhole atom membrane h g) where
   -- the handles are held
   pub held_for_body : body.AreHeld atom membrane h g
   held_for_body = record { atoms = held.atoms; membranes = held.membranes; parts = held.parts }
@@ -37,7 +37,7 @@ module _ {A M : Type 0} (atom : A → ℕ) (membrane : M → ℕ) (h : Heap) (g 
       is_atom : (a i : ℕ) → i < arity_of h a → IsAtom h a
       is_atom a i l = by (h.atoms a) l
         where
-          by : (o : Option HeapAtom) → i < length (links_of o) → IsSome o
+          by : (o : Option HeapAtom) → i < length (partners_of o) → IsSome o
           by None l = absurd (omega arith)
           by (Some x) l = refl
 

@@ -4,7 +4,7 @@ use Rattle.std.specs.Prelude.{slice_get, IfSome}
 use Rattle.lmn_base.specs.declared.functor.Functor.{Functor}
 use Rattle.lmn_instr.specs.declared.instr.Instr.{Instr}
 use Rattle.lmn_instr.specs.declared.instr.Instr.TheVariants.{FindAtom, AnyMem}
-use Rattle.lmn_machine.specs.Searching.{InOrder, ChoosesNone, Extends}
+use Rattle.lmn_machine.specs.Searching.{HeadInOrder, ChoosesNone, Extends}
 use Rattle.std.specs.Option.{option_map}
 use Rattle.lmn_heap.specs.Lists.{from, after}
 use Rattle.lmn_heap.specs.Functors.{with_functor}
@@ -12,7 +12,8 @@ use Rattle.lmn_heap.specs.Heap.{Heap, atoms_in, mems_in, functor_of, home_of, pa
 use Rattle.lmn_registers.specs.declared.registers.PartCopy.{PartCopy}
 use Rattle.lmn_registers.specs.declared.registers.SetRegisters.{SetRegisters}
 use Rattle.lmn_registers.specs.declared.stack.TheConstants.{ROOM}
-use Rattle.lmn_machine.proofs.Choosing.{drop_get, with_atom, with_membrane}
+use Rattle.lmn_machine.proofs.Choosing.{with_atom, with_membrane}
+use Rattle.lmn_base.proofs.Lists.{drop_get}
 
 pub read_at : {A : Type 0} (xs : List A) (i : ℕ) (x y : A) → i < length xs → x ≡ get_or xs i x → x ≡ y → slice_get xs i ≡ Some y
 read_at [] i x y l e s = absurd (omega arith)
@@ -28,16 +29,12 @@ drop_none [] (suc i) l = refl
 drop_none (x ∷ xs) zero l = absurd (omega arith)
 drop_none (x ∷ xs) (suc i) l = drop_none xs i (omega arith)
 
-pub length_one : {A : Type 0} (xs : List A) (x : A) → length (xs ++ x ∷ []) ≡ length xs + 1
-length_one [] x = refl
-length_one (y ∷ xs) x = let k = length_one xs x in omega (arith, k)
-
 -- what the order of the registers says of the instruction ahead
-pub atom_ahead : (a m g v x y : ℕ) (f : Functor) (left is : List Instr) → left ≡ FindAtom x y f ∷ is → InOrder a m g v left → ((x ≡ a) × (y < m) × (a < ROOM) × (g ≡ 0)) × InOrder (a + 1) m g v is
-atom_ahead a m g v x y f left is e o = subst (λ k. InOrder a m g v k) e o
+pub atom_ahead : (a m g v x y : ℕ) (f : Functor) (left is : List Instr) → left ≡ FindAtom x y f ∷ is → HeadInOrder a m g v left → ((x ≡ a) × (y < m) × (a < ROOM) × (g ≡ 0)) × HeadInOrder (a + 1) m g v is
+atom_ahead a m g v x y f left is e o = subst (λ k. HeadInOrder a m g v k) e o
 
-pub membrane_ahead : (a m g v x y : ℕ) (left is : List Instr) → left ≡ AnyMem x y ∷ is → InOrder a m g v left → ((x ≡ m) × (y < m) × (m < ROOM)) × InOrder a (m + 1) g v is
-membrane_ahead a m g v x y left is e o = subst (λ k. InOrder a m g v k) e o
+pub membrane_ahead : (a m g v x y : ℕ) (left is : List Instr) → left ≡ AnyMem x y ∷ is → HeadInOrder a m g v left → ((x ≡ m) × (y < m) × (m < ROOM)) × HeadInOrder a (m + 1) g v is
+membrane_ahead a m g v x y left is e o = subst (λ k. HeadInOrder a m g v k) e o
 
 pub no_choice : (i : Instr) → ((x y : ℕ) (f : Functor) → i ≡ FindAtom x y f → ⊥) → ((x y : ℕ) → i ≡ AnyMem x y → ⊥) → ChoosesNone i
 no_choice (FindAtom x y f) d e = d x y f refl

@@ -1,26 +1,24 @@
 -- Trying the candidates of a choice in order.
-use Rattle.std.proofs.Common.{ℕ, zero, suc, ◌≡◌, ◌+◌, ◌⊎◌, inl, inr, List, [], ◌∷◌, ◌++◌, Option, Some, None, refl, arith, ap, sym, subst, length, take, drop, ◌∙◌}
+use Rattle.std.proofs.Common.{ℕ, zero, suc, ◌≡◌, ◌+◌, ◌⊎◌, inl, inr, List, [], ◌∷◌, ◌++◌, Option, Some, None, refl, arith, ap, sym, subst, length, take, ◌∙◌}
 use Rattle.std.specs.Prelude.{true, false, slice_get, IsSome}
-use Rattle.std.specs.Option.{option_map, option_and_then}
+use Rattle.std.specs.Option.{option_map}
 use Rattle.lmn_base.specs.declared.functor.Functor.{Functor}
 use Rattle.lmn_heap.specs.Lists.{In, after, from}
-use Rattle.lmn_heap.specs.Heap.{Heap, HeapAtom, HeapMem, Place, top, within, waiting, gone, IsAtom, IsMem, functor_of, home_of, parent_of, home_by, atoms_in, mems_in}
+use Rattle.lmn_heap.specs.Heap.{Heap, HeapAtom, IsAtom, IsMem, functor_of, home_of, parent_of, atoms_in, mems_in}
 use Rattle.lmn_heap.specs.Sound.{Listed}
 use Rattle.lmn_heap.specs.Functors.{with_functor}
-use Rattle.lmn_solid.specs.Embeddings.{NotAfter, index_of}
+use Rattle.lmn_solid.specs.Embeddings.{ListNotAfter, index_of}
 use Rattle.lmn_instr.specs.declared.instr.Instr.{Instr}
 use Rattle.lmn_instr.specs.declared.instr.Instr.TheVariants.{FindAtom, AnyMem}
-use Rattle.lmn_instr.specs.Running.{Registers, AllHold, atoms_set, choices}
+use Rattle.lmn_instr.specs.Running.{HeadRegisters, AllHold, atoms_set, choices}
 use Rattle.lmn_registers.specs.declared.registers.SetRegisters.{SetRegisters}
 use Rattle.lmn_registers.specs.Agreeing.{Agrees}
-use Rattle.lmn_machine.specs.Searching.{AreHeld, Extends, SetsAll, Searched, Sets}
+use Rattle.lmn_machine.specs.Searching.{AreHeldWhole, Extends, SetsAll, Searched, SetsMore}
 use Rattle.lmn_machine.proofs.Stepping.{extends_itself, agrees_before, extends_on}
 use Rattle.lmn_machine.proofs.Candidates.{index_after, index_behind, with_functor_in}
-
-pub drop_get : {A : Type 0} (k : ℕ) (xs : List A) (x : A) → slice_get xs k ≡ Some x → drop k xs ≡ x ∷ drop (k + 1) xs
-drop_get k [] x e = absurd (cc)
-drop_get zero (y ∷ xs) x e = let t : y ≡ x = cc in ap (λ w. w ∷ xs) t
-drop_get (suc k) (y ∷ xs) x e = let t : suc (k + 1) ≡ suc k + 1 = omega arith in drop_get k xs x e ∙ ap (λ n. x ∷ drop n (y ∷ xs)) t
+use Rattle.lmn_base.proofs.Lists.{get_front, get_last, length_one as longer, take_whole}
+use Rattle.lmn_heap.proofs.Heights.{has_parent as mem_there, place_by_parent}
+use Rattle.lmn_heap.proofs.Listing.{home_place as place_by_home}
 
 pub get_either : {A : Type 0} (xs : List A) (y : A) (k : ℕ) (x : A) → slice_get (xs ++ y ∷ []) k ≡ Some x → (slice_get xs k ≡ Some x) ⊎ ((k ≡ length xs) × (y ≡ x))
 get_either [] y zero x e = inr (refl, cc)
@@ -28,54 +26,13 @@ get_either [] y (suc k) x e = absurd (cc)
 get_either (z ∷ xs) y zero x e = inl e
 get_either (z ∷ xs) y (suc k) x e = elim (get_either xs y k x e) [ inl s ↦ inl s | inr s ↦ inr (ap suc s.0, s.1) ]
 
-pub get_last : {A : Type 0} (xs : List A) (y : A) → slice_get (xs ++ y ∷ []) (length xs) ≡ Some y
-get_last [] y = refl
-get_last (x ∷ xs) y = get_last xs y
-
-get_front : {A : Type 0} (xs ys : List A) (k : ℕ) (x : A) → slice_get xs k ≡ Some x → slice_get (xs ++ ys) k ≡ Some x
-get_front [] ys k x e = absurd (cc)
-get_front (z ∷ xs) ys zero x e = e
-get_front (z ∷ xs) ys (suc k) x e = get_front xs ys k x e
-
 pub take_front : {A : Type 0} (xs ys : List A) → take (length xs) (xs ++ ys) ≡ xs
 take_front [] ys = refl
 take_front (x ∷ xs) ys = ap (λ k. x ∷ k) (take_front xs ys)
 
-longer : {A : Type 0} (xs : List A) (x : A) → length (xs ++ x ∷ []) ≡ length xs + 1
-longer [] x = refl
-longer (y ∷ xs) x = let k = longer xs x in omega (arith, k)
-
-pub take_whole : {A : Type 0} (xs : List A) → take (length xs) xs ≡ xs
-take_whole [] = refl
-take_whole (x ∷ xs) = ap (λ k. x ∷ k) (take_whole xs)
-
-pub place_by_home : (o : Option HeapAtom) (m : ℕ) → option_and_then (λ x. home_by x.place) o ≡ Some m → option_map (λ x. x.place) o ≡ Some (within m)
-place_by_home None m e = absurd (cc)
-place_by_home (Some x) m e = ap (λ p. Some p) (at_place x.place e)
-  where
-    at_place : (p : Place) → home_by p ≡ Some m → p ≡ within m
-    at_place top t = absurd (cc)
-    at_place (within n) t = let u : n ≡ m = cc in ap within u
-    at_place waiting t = absurd (cc)
-    at_place gone t = absurd (cc)
-
-pub place_by_parent : (o : Option HeapMem) (m : ℕ) → option_and_then (λ x. home_by x.place) o ≡ Some m → option_map (λ x. x.place) o ≡ Some (within m)
-place_by_parent None m e = absurd (cc)
-place_by_parent (Some x) m e = ap (λ p. Some p) (at_place x.place e)
-  where
-    at_place : (p : Place) → home_by p ≡ Some m → p ≡ within m
-    at_place top t = absurd (cc)
-    at_place (within n) t = let u : n ≡ m = cc in ap within u
-    at_place waiting t = absurd (cc)
-    at_place gone t = absurd (cc)
-
 atom_there : (o : Option HeapAtom) (f : Functor) → option_map (λ x. x.functor) o ≡ Some f → IsSome o
 atom_there None f e = absurd (cc)
 atom_there (Some x) f e = refl
-
-mem_there : (o : Option HeapMem) (m : ℕ) → option_and_then (λ x. home_by x.place) o ≡ Some m → IsSome o
-mem_there None m e = absurd (cc)
-mem_there (Some x) m e = refl
 
 abbrev pub with_atom : {A M : Type 0} → SetRegisters A M → A → SetRegisters A M
 with_atom g a = record g { atoms = g.atoms ++ a ∷ [] }
@@ -96,7 +53,7 @@ module _ {A M : Type 0} (atom : A → ℕ) (membrane : M → ℕ) (h : Heap) whe
   pub extends_membrane : (g : SetRegisters A M) (m : M) → Extends g (with_membrane g m)
   extends_membrane g m = record { atoms = take_whole g.atoms; membranes = take_front g.membranes (m ∷ []); parts = take_whole g.parts; integers = take_whole g.integers; copies = refl }
 
-  pub agrees_atom : (g : SetRegisters A M) (a : A) (s : Registers) → Agrees atom membrane g s → s.images.atom (length g.atoms) ≡ atom a → Agrees atom membrane (with_atom g a) s
+  pub agrees_atom : (g : SetRegisters A M) (a : A) (s : HeadRegisters) → Agrees atom membrane g s → s.images.atom (length g.atoms) ≡ atom a → Agrees atom membrane (with_atom g a) s
   agrees_atom g a s t e = record {
     atoms = λ k x u. elim (get_either g.atoms a k x u) [ inl v ↦ t.atoms k x v | inr v ↦ ap s.images.atom v.0 ∙ (e ∙ ap atom v.1) ];
     membranes = t.membranes;
@@ -104,7 +61,7 @@ module _ {A M : Type 0} (atom : A → ℕ) (membrane : M → ℕ) (h : Heap) whe
     integers = t.integers;
   }
 
-  pub agrees_membrane : (g : SetRegisters A M) (m : M) (s : Registers) → Agrees atom membrane g s → s.images.membrane (length g.membranes) ≡ membrane m → Agrees atom membrane (with_membrane g m) s
+  pub agrees_membrane : (g : SetRegisters A M) (m : M) (s : HeadRegisters) → Agrees atom membrane g s → s.images.membrane (length g.membranes) ≡ membrane m → Agrees atom membrane (with_membrane g m) s
   agrees_membrane g m s t e = record {
     atoms = t.atoms;
     membranes = λ k x u. elim (get_either g.membranes m k x u) [ inl v ↦ t.membranes k x v | inr v ↦ ap s.images.membrane v.0 ∙ (e ∙ ap membrane v.1) ];
@@ -112,7 +69,7 @@ module _ {A M : Type 0} (atom : A → ℕ) (membrane : M → ℕ) (h : Heap) whe
     integers = t.integers;
   }
 
-  pub held_atom : (g : SetRegisters A M) (a : A) (f : Functor) → length g.parts ≡ 0 → AreHeld atom membrane h g → functor_of h (atom a) ≡ Some f → AreHeld atom membrane h (with_atom g a)
+  pub held_atom : (g : SetRegisters A M) (a : A) (f : Functor) → length g.parts ≡ 0 → AreHeldWhole atom membrane h g → functor_of h (atom a) ≡ Some f → AreHeldWhole atom membrane h (with_atom g a)
   held_atom g a f z t e = record {
     atoms = λ k x u. elim (get_either g.atoms a k x u) [ inl v ↦ t.atoms k x v | inr v ↦ subst (λ y. IsAtom h (atom y)) v.1 (atom_there (h.atoms (atom a)) f e) ];
     membranes = t.membranes;
@@ -120,7 +77,7 @@ module _ {A M : Type 0} (atom : A → ℕ) (membrane : M → ℕ) (h : Heap) whe
     whole = λ k x u. absurd (no_part g.parts z k x u);
   }
 
-  pub held_membrane : (g : SetRegisters A M) (m : M) (n : ℕ) → AreHeld atom membrane h g → parent_of h (membrane m) ≡ Some n → AreHeld atom membrane h (with_membrane g m)
+  pub held_membrane : (g : SetRegisters A M) (m : M) (n : ℕ) → AreHeldWhole atom membrane h g → parent_of h (membrane m) ≡ Some n → AreHeldWhole atom membrane h (with_membrane g m)
   held_membrane g m n t e = record {
     atoms = t.atoms;
     membranes = λ k x u. elim (get_either g.membranes m k x u) [ inl v ↦ t.membranes k x v | inr v ↦ subst (λ y. IsMem h (membrane y)) v.1 (mem_there (h.mems (membrane m)) n e) ];
@@ -140,7 +97,7 @@ module _ {A M : Type 0} (atom : A → ℕ) (membrane : M → ℕ) (h : Heap) whe
 
   -- Atoms. Registers that agree and with which the code holds have one of the candidates that are left.
   pub record AtomsLeft (g : SetRegisters A M) (code : List Instr) (f : Functor) (m : M) (candidate : Option A) : Type 0 where
-    pub left : (c : ℕ) (s : Registers) → SetsAll c g code → Agrees atom membrane g s → AllHold h c s code →
+    pub left : (c : ℕ) (s : HeadRegisters) → SetsAll c g code → Agrees atom membrane g s → AllHold h c s code →
         In (s.images.atom (length g.atoms)) (from (option_map atom candidate) (with_functor h f (atoms_in h (membrane m))))
 
   pub atoms_first : (g : SetRegisters A M) (code is : List Instr) (f : Functor) (y : ℕ) (m : M) (r : Option A) → code ≡ FindAtom (length g.atoms) y f ∷ is → slice_get g.membranes y ≡ Some m →
@@ -166,7 +123,7 @@ module _ {A M : Type 0} (atom : A → ℕ) (membrane : M → ℕ) (h : Heap) whe
         ]);
   }
 
-  pub atoms_none : (g : SetRegisters A M) (code : List Instr) (f : Functor) (m : M) → AreHeld atom membrane h g → AtomsLeft g code f m None → Searched atom membrane h g g false code
+  pub atoms_none : (g : SetRegisters A M) (code : List Instr) (f : Functor) (m : M) → AreHeldWhole atom membrane h g → AtomsLeft g code f m None → Searched atom membrane h g g false code
   atoms_none g code f m held left = record {
     held = held;
     extends = extends_itself atom membrane h g;
@@ -180,7 +137,7 @@ module _ {A M : Type 0} (atom : A → ℕ) (membrane : M → ℕ) (h : Heap) whe
   atoms_found g k code is f y m a e at listed home functor left t = record {
     held = t.held;
     extends = extends_on atom membrane h g (with_atom g a) k (extends_atom g a) t.extends;
-    sets = λ u. subst (λ c. Sets g k c) (sym e) (record {
+    sets = λ u. subst (λ c. SetsMore g k c) (sym e) (record {
       atoms = (let n = (t.sets refl).atoms in let l = longer g.atoms a in omega (arith, n, l));
       membranes = (t.sets refl).membranes;
       parts = (t.sets refl).parts;
@@ -204,12 +161,12 @@ module _ {A M : Type 0} (atom : A → ℕ) (membrane : M → ℕ) (h : Heap) whe
           ap (λ p. index_of p (atoms_in h (s.images.membrane y))) n ∙ ap (λ p. index_of (atom a) (atoms_in h p)) place in
           let index' : index_of (v.images.atom (length g.atoms)) (atoms_in h (v.images.membrane y)) ≡ index_of (v.images.atom (length g.atoms)) (atoms_in h (membrane m)) =
           ap (λ p. index_of (v.images.atom (length g.atoms)) (atoms_in h p)) place' in
-          let order : NotAfter (choices h s (FindAtom (length g.atoms) y f ∷ is)) (choices h v (FindAtom (length g.atoms) y f ∷ is)) =
+          let order : ListNotAfter (choices h s (FindAtom (length g.atoms) y f ∷ is)) (choices h v (FindAtom (length g.atoms) y f ∷ is)) =
           elim (left.left c v l d w) [
             | inl q ↦ inr (index ∙ (ap (λ p. index_of p (atoms_in h (membrane m))) q ∙ sym index'), (t.found refl).first c s v (atom_more g a code is f y c e l) b (agrees_atom g a v d (sym q)) z.1)
             | inr q ↦ inl (let n = index_behind h f (atom a) (v.images.atom (length g.atoms)) (atoms_in h (membrane m)) (listed.atoms_once (membrane m)) q in omega (arith, n, index, index'))
           ] in
-          subst (λ k'. NotAfter (choices h s k') (choices h v k')) (sym e) order);
+          subst (λ k'. ListNotAfter (choices h s k') (choices h v k')) (sym e) order);
     };
     none = λ u. absurd (cc);
   }
@@ -219,7 +176,7 @@ module _ {A M : Type 0} (atom : A → ℕ) (membrane : M → ℕ) (h : Heap) whe
 
   -- Membranes, likewise.
   pub record MembranesLeft (g : SetRegisters A M) (code : List Instr) (m : M) (candidate : Option M) : Type 0 where
-    pub left : (c : ℕ) (s : Registers) → SetsAll c g code → Agrees atom membrane g s → AllHold h c s code →
+    pub left : (c : ℕ) (s : HeadRegisters) → SetsAll c g code → Agrees atom membrane g s → AllHold h c s code →
         In (s.images.membrane (length g.membranes)) (from (option_map membrane candidate) (mems_in h (membrane m)))
 
   pub membranes_first : (g : SetRegisters A M) (code is : List Instr) (y : ℕ) (m : M) (r : Option M) → code ≡ AnyMem (length g.membranes) y ∷ is → slice_get g.membranes y ≡ Some m →
@@ -243,7 +200,7 @@ module _ {A M : Type 0} (atom : A → ℕ) (membrane : M → ℕ) (h : Heap) whe
         ]);
   }
 
-  pub membranes_none : (g : SetRegisters A M) (code : List Instr) (m : M) → AreHeld atom membrane h g → MembranesLeft g code m None → Searched atom membrane h g g false code
+  pub membranes_none : (g : SetRegisters A M) (code : List Instr) (m : M) → AreHeldWhole atom membrane h g → MembranesLeft g code m None → Searched atom membrane h g g false code
   membranes_none g code m held left = record {
     held = held;
     extends = extends_itself atom membrane h g;
@@ -257,7 +214,7 @@ module _ {A M : Type 0} (atom : A → ℕ) (membrane : M → ℕ) (h : Heap) whe
   membranes_found g k code is y m a e at listed parent left t = record {
     held = t.held;
     extends = extends_on atom membrane h g (with_membrane g a) k (extends_membrane g a) t.extends;
-    sets = λ u. subst (λ c. Sets g k c) (sym e) (record {
+    sets = λ u. subst (λ c. SetsMore g k c) (sym e) (record {
       atoms = (t.sets refl).atoms;
       membranes = (let n = (t.sets refl).membranes in let l = longer g.membranes a in omega (arith, n, l));
       parts = (t.sets refl).parts;
@@ -281,12 +238,12 @@ module _ {A M : Type 0} (atom : A → ℕ) (membrane : M → ℕ) (h : Heap) whe
           ap (λ p. index_of p (mems_in h (s.images.membrane y))) n ∙ ap (λ p. index_of (membrane a) (mems_in h p)) place in
           let index' : index_of (v.images.membrane (length g.membranes)) (mems_in h (v.images.membrane y)) ≡ index_of (v.images.membrane (length g.membranes)) (mems_in h (membrane m)) =
           ap (λ p. index_of (v.images.membrane (length g.membranes)) (mems_in h p)) place' in
-          let order : NotAfter (choices h s (AnyMem (length g.membranes) y ∷ is)) (choices h v (AnyMem (length g.membranes) y ∷ is)) =
+          let order : ListNotAfter (choices h s (AnyMem (length g.membranes) y ∷ is)) (choices h v (AnyMem (length g.membranes) y ∷ is)) =
           elim (left.left c v l d w) [
             | inl q ↦ inr (index ∙ (ap (λ p. index_of p (mems_in h (membrane m))) q ∙ sym index'), (t.found refl).first c s v (membrane_more g a code is y c e l) b (agrees_membrane g a v d (sym q)) z.1)
             | inr q ↦ inl (let n = index_after (membrane a) (v.images.membrane (length g.membranes)) (mems_in h (membrane m)) (listed.mems_once (membrane m)) q in omega (arith, n, index, index'))
           ] in
-          subst (λ k'. NotAfter (choices h s k') (choices h v k')) (sym e) order);
+          subst (λ k'. ListNotAfter (choices h s k') (choices h v k')) (sym e) order);
     };
     none = λ u. absurd (cc);
   }

@@ -10,23 +10,23 @@ use Rattle.lmn_guards.specs.declared.plan.TypeKind.TheVariants as kind
 use Rattle.lmn_instr.specs.declared.instr.AtomPort.{AtomPort}
 use Rattle.lmn_instr.specs.declared.instr.Instr.{Instr}
 use Rattle.lmn_instr.specs.declared.instr.Instr.TheVariants.{IsGround, NAtoms, EqGround, NeqGround}
-use Rattle.lmn_instr.specs.Running.{Registers, Holds, IsContext, HasOthers, IsInSome}
+use Rattle.lmn_instr.specs.Running.{HeadRegisters, InstructionHolds, IsContext, HasOthers, IsInSome}
 use Rattle.lmn_registers.specs.declared.registers.SetRegisters.{SetRegisters}
 use Rattle.lmn_registers.specs.Agreeing.{Agrees}
-use Rattle.lmn_machine.specs.Searching.{AreHeld, Stepped, InOrder, HasGivenPart, IsWholeApart}
+use Rattle.lmn_machine.specs.Searching.{AreHeldWhole, Stepped, HeadInOrder, HasGivenPart, IsWholeApart}
 use Rattle.lmn_heap.specs.Sound.{Sound}
 use Rattle.lmn_machine.proofs.Stepping.{SetsSo, extends_itself, nothing_more}
 use Rattle.lmn_machine.proofs.Lone.{GivesPart, part_stepped}
 
 module _ {A M : Type 0} (atom : A → ℕ) (membrane : M → ℕ) (h : Heap) where
-  from_context : (g : SetRegisters A M) (c x y : ℕ) (s : Registers) (p : AtomPort) (m : M) → c ≡ length g.atoms → Agrees atom membrane g s → slice_get g.membranes y ≡ Some m →
+  from_context : (g : SetRegisters A M) (c x y : ℕ) (s : HeadRegisters) (p : AtomPort) (m : M) → c ≡ length g.atoms → Agrees atom membrane g s → slice_get g.membranes y ≡ Some m →
       IsContext h c s kind.Ground x p y → IsWholeApart atom h g.atoms (membrane m) (s.images.part x)
   from_context g c x y s p m n t place k = record {
     whole = subst (λ j. StandsWhole (atom_map h) (s.images.part x) j) (t.membranes y m place) k.whole;
     apart = λ b r. record { differ = λ j a e d. k.apart b j r (let w = slice_get_within g.atoms j a e in omega (arith, w, n)) (t.atoms j a e ∙ d) };
   }
 
-  to_context : (g : SetRegisters A M) (c x y : ℕ) (s : Registers) (p : AtomPort) (m : M) → c ≡ length g.atoms → Agrees atom membrane g s → slice_get g.membranes y ≡ Some m →
+  to_context : (g : SetRegisters A M) (c x y : ℕ) (s : HeadRegisters) (p : AtomPort) (m : M) → c ≡ length g.atoms → Agrees atom membrane g s → slice_get g.membranes y ≡ Some m →
       link_of h (s.images.atom p.atom) p.port ≡ Some (s.images.part x) → IsWholeApart atom h g.atoms (membrane m) (s.images.part x) → IsContext h c s kind.Ground x p y
   to_context g c x y s p m n t place e k = record {
     held = e;
@@ -56,17 +56,17 @@ module _ {A M : Type 0} (atom : A → ℕ) (membrane : M → ℕ) (h : Heap) whe
         (subst (λ j. link_of h j p.port ≡ Some (s.images.part (length g.parts))) (sym (r.atoms p.atom a from)) (t.ends (s.images.part (length g.parts)) e)) (t.whole (s.images.part (length g.parts)) e),
   )
 
-  pub ground_stepped : Sound h → (g k : SetRegisters A M) (result : Bool) (i : Instr) (x : ℕ) (p : AtomPort) (y : ℕ) (a : A) (m : M) (o : Option (A × ℕ)) → i ≡ IsGround x p y → InOrder (length g.atoms) (length g.membranes) (length g.parts) (length g.integers) (i ∷ []) → AreHeld atom membrane h g →
+  pub ground_stepped : Sound h → (g k : SetRegisters A M) (result : Bool) (i : Instr) (x : ℕ) (p : AtomPort) (y : ℕ) (a : A) (m : M) (o : Option (A × ℕ)) → i ≡ IsGround x p y → HeadInOrder (length g.atoms) (length g.membranes) (length g.parts) (length g.integers) (i ∷ []) → AreHeldWhole atom membrane h g →
       slice_get g.atoms p.atom ≡ Some a → slice_get g.membranes y ≡ Some m → IfSome o (λ p. IsAtom h (atom p.0)) → WholeEnd g a p.port m o → HasGivenPart g k result o → Stepped atom membrane h g k result i
   ground_stepped sound g k result i x p y a m o e order held from place there t given =
-      let u : InOrder (length g.atoms) (length g.membranes) (length g.parts) (length g.integers) (IsGround x p y ∷ []) = subst (λ j. InOrder (length g.atoms) (length g.membranes) (length g.parts) (length g.integers) (j ∷ [])) e order in
+      let u : HeadInOrder (length g.atoms) (length g.membranes) (length g.parts) (length g.integers) (IsGround x p y ∷ []) = subst (λ j. HeadInOrder (length g.atoms) (length g.membranes) (length g.parts) (length g.integers) (j ∷ [])) e order in
       subst (λ j. Stepped atom membrane h g k result j) (sym (e ∙ ap (λ j. IsGround j p y) u.0.0.0.0))
       (part_stepped atom membrane h sound g k result (IsGround (length g.parts) p y) p.atom a p.port (membrane m) o from (λ q u. (t.ends q u, t.whole q u)) held there (λ is w. w.1) (λ c w. w) (refl, refl, refl, refl) (ground_gives g p y a m o from place t) given)
 
   -- A test of two parts that are set: what it answers is whether their graphs are the same, or not.
-  parts_stepped : (g : SetRegisters A M) (result : Bool) (i : Instr) (P : ℕ × ℕ → ℕ × ℕ → Type 0) (x y : ℕ) (p q : A × ℕ) → AreHeld atom membrane h g → slice_get g.parts x ≡ Some p → slice_get g.parts y ≡ Some q → SetsSo i 0 0 0 0 →
-      ((is : List Instr) → InOrder (length g.atoms) (length g.membranes) (length g.parts) (length g.integers) (i ∷ is) → InOrder (length g.atoms) (length g.membranes) (length g.parts) (length g.integers) is) →
-      ((c : ℕ) (s : Registers) → (Holds h c s i → P (s.images.part x) (s.images.part y)) × (P (s.images.part x) (s.images.part y) → Holds h c s i)) →
+  parts_stepped : (g : SetRegisters A M) (result : Bool) (i : Instr) (P : ℕ × ℕ → ℕ × ℕ → Type 0) (x y : ℕ) (p q : A × ℕ) → AreHeldWhole atom membrane h g → slice_get g.parts x ≡ Some p → slice_get g.parts y ≡ Some q → SetsSo i 0 0 0 0 →
+      ((is : List Instr) → HeadInOrder (length g.atoms) (length g.membranes) (length g.parts) (length g.integers) (i ∷ is) → HeadInOrder (length g.atoms) (length g.membranes) (length g.parts) (length g.integers) is) →
+      ((c : ℕ) (s : HeadRegisters) → (InstructionHolds h c s i → P (s.images.part x) (s.images.part y)) × (P (s.images.part x) (s.images.part y) → InstructionHolds h c s i)) →
       ((result ≡ true → P (port_id atom p) (port_id atom q)) × (P (port_id atom p) (port_id atom q) → result ≡ true)) → Stepped atom membrane h g g result i
   parts_stepped g result i P x y p q held at_x at_y none next means given = record {
     held = held;
@@ -77,18 +77,18 @@ module _ {A M : Type 0} (atom : A → ℕ) (membrane : M → ℕ) (h : Heap) whe
     order = λ t is o. next is o;
   }
 
-  pub equal_stepped : (g : SetRegisters A M) (result : Bool) (i : Instr) (x y : ℕ) (p q : A × ℕ) → i ≡ EqGround x y → AreHeld atom membrane h g → slice_get g.parts x ≡ Some p → slice_get g.parts y ≡ Some q →
+  pub equal_stepped : (g : SetRegisters A M) (result : Bool) (i : Instr) (x y : ℕ) (p q : A × ℕ) → i ≡ EqGround x y → AreHeldWhole atom membrane h g → slice_get g.parts x ≡ Some p → slice_get g.parts y ≡ Some q →
       ((result ≡ true → SameGraph (atom_map h) (port_id atom p) (atom_map h) (port_id atom q)) × (SameGraph (atom_map h) (port_id atom p) (atom_map h) (port_id atom q) → result ≡ true)) → Stepped atom membrane h g g result i
   equal_stepped g result i x y p q e held at_x at_y given = subst (λ j. Stepped atom membrane h g g result j) (sym e)
       (parts_stepped g result (EqGround x y) (λ u w. SameGraph (atom_map h) u (atom_map h) w) x y p q held at_x at_y (refl, refl, refl, refl) (λ is o. o.1) (λ c s. (λ t. t, λ t. t)) given)
 
-  pub differ_stepped : (g : SetRegisters A M) (result : Bool) (i : Instr) (x y : ℕ) (p q : A × ℕ) → i ≡ NeqGround x y → AreHeld atom membrane h g → slice_get g.parts x ≡ Some p → slice_get g.parts y ≡ Some q →
+  pub differ_stepped : (g : SetRegisters A M) (result : Bool) (i : Instr) (x y : ℕ) (p q : A × ℕ) → i ≡ NeqGround x y → AreHeldWhole atom membrane h g → slice_get g.parts x ≡ Some p → slice_get g.parts y ≡ Some q →
       ((result ≡ true → SameGraph (atom_map h) (port_id atom p) (atom_map h) (port_id atom q) → ⊥) × ((SameGraph (atom_map h) (port_id atom p) (atom_map h) (port_id atom q) → ⊥) → result ≡ true)) → Stepped atom membrane h g g result i
   differ_stepped g result i x y p q e held at_x at_y given = subst (λ j. Stepped atom membrane h g g result j) (sym e)
       (parts_stepped g result (NeqGround x y) (λ u w. SameGraph (atom_map h) u (atom_map h) w → ⊥) x y p q held at_x at_y (refl, refl, refl, refl) (λ is o. o.1) (λ c s. (λ t. t, λ t. t)) given)
 
-  pub others_stepped : (g : SetRegisters A M) (result : Bool) (i : Instr) (x n : ℕ) (gs xs : List ℕ) (m : M) → i ≡ NAtoms x n gs → xs ≡ gs → AreHeld atom membrane h g → slice_get g.membranes x ≡ Some m →
-      ((s : Registers) → Agrees atom membrane g s → (result ≡ true → HasOthers (IsInSome h s xs) n (atoms_in h (membrane m))) × (HasOthers (IsInSome h s xs) n (atoms_in h (membrane m)) → result ≡ true)) → Stepped atom membrane h g g result i
+  pub others_stepped : (g : SetRegisters A M) (result : Bool) (i : Instr) (x n : ℕ) (gs xs : List ℕ) (m : M) → i ≡ NAtoms x n gs → xs ≡ gs → AreHeldWhole atom membrane h g → slice_get g.membranes x ≡ Some m →
+      ((s : HeadRegisters) → Agrees atom membrane g s → (result ≡ true → HasOthers (IsInSome h s xs) n (atoms_in h (membrane m))) × (HasOthers (IsInSome h s xs) n (atoms_in h (membrane m)) → result ≡ true)) → Stepped atom membrane h g g result i
   others_stepped g result i x n gs xs m e same held at given = subst (λ j. Stepped atom membrane h g g result j) (sym e) (record {
     held = held;
     extends = extends_itself atom membrane h g;

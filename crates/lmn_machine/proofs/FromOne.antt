@@ -3,7 +3,7 @@ use Rattle.std.proofs.Common.{ℕ, zero, suc, ◌≡◌, List, [], ◌∷◌, So
 use Rattle.std.specs.Prelude.{Bool, true, false, slice_get}
 use Rattle.lmn_heap.specs.Heap.{Heap}
 use Rattle.lmn_instr.specs.declared.instr.Instr.{Instr}
-use Rattle.lmn_instr.specs.Running.{Registers, Succeeds, IsFirst, atoms_set}
+use Rattle.lmn_instr.specs.Running.{HeadRegisters, Succeeds, IsFirstSuccess, atoms_set}
 use Rattle.lmn_registers.specs.declared.registers.SetRegisters.{SetRegisters}
 use Rattle.lmn_registers.specs.Agreeing.{Agrees}
 use Rattle.lmn_machine.specs.Searching.{Searched, AreAllSet}
@@ -14,15 +14,15 @@ abbrev pub only_membrane : {A M : Type 0} → M → SetRegisters A M
 only_membrane m = record { atoms = []; membranes = m ∷ []; parts = []; integers = []; copies = [] }
 
 module _ {A M : Type 0} (atom : A → ℕ) (membrane : M → ℕ) (h : Heap) where
-  one_agrees : (m : M) (s : Registers) → s.images.membrane 0 ≡ membrane m → Agrees atom membrane (only_membrane m) s
+  one_agrees : (m : M) (s : HeadRegisters) → s.images.membrane 0 ≡ membrane m → Agrees atom membrane (only_membrane m) s
   one_agrees m s e = record { atoms = λ k a u. absurd (cc); membranes = λ k n u. at k n u; parts = λ k a u. absurd (cc); integers = λ k a u. absurd (cc) }
     where
       at : (k : ℕ) (n : M) → slice_get (m ∷ []) k ≡ Some n → s.images.membrane k ≡ membrane n
       at zero n u = let t : m ≡ n = cc in e ∙ ap membrane t
       at (suc k) n u = absurd (cc)
 
-  pub first_found : (m : M) (k : SetRegisters A M) (result : Bool) (code : List Instr) → Searched atom membrane h (only_membrane m) k result code → result ≡ true → (r : Registers) → Agrees atom membrane k r →
-      IsFirst h code (membrane m) r
+  pub first_found : (m : M) (k : SetRegisters A M) (result : Bool) (code : List Instr) → Searched atom membrane h (only_membrane m) k result code → result ≡ true → (r : HeadRegisters) → Agrees atom membrane k r →
+      IsFirstSuccess h code (membrane m) r
   first_found m k result code t e r a =
       let f = t.found e in
       let b = agrees_before atom membrane h (only_membrane m) k r t.extends a in
@@ -31,7 +31,7 @@ module _ {A M : Type 0} (atom : A → ℕ) (membrane : M → ℕ) (h : Heap) whe
         first = λ s u. f.first (atoms_set code) r s (omega arith) a (one_agrees m s u.here) u.all;
       }
 
-  pub none_found : (m : M) (k : SetRegisters A M) (result : Bool) (code : List Instr) → Searched atom membrane h (only_membrane m) k result code → result ≡ false → (r : Registers) → Succeeds h code (membrane m) r → ⊥
+  pub none_found : (m : M) (k : SetRegisters A M) (result : Bool) (code : List Instr) → Searched atom membrane h (only_membrane m) k result code → result ≡ false → (r : HeadRegisters) → Succeeds h code (membrane m) r → ⊥
   none_found m k result code t e r s = t.none e (atoms_set code) r (omega arith) (one_agrees m r s.here) s.all
 
   pub all_set : (m : M) (k : SetRegisters A M) (result : Bool) (code : List Instr) → Searched atom membrane h (only_membrane m) k result code → result ≡ true → AreAllSet k code

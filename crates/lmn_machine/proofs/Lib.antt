@@ -1,4 +1,3 @@
-pub mod Lemmas
 pub mod Stepping
 pub mod Candidates
 pub mod Choosing

@@ -8,21 +8,22 @@ use Rattle.std.proofs.lemmas.Bool.Decides.{Decides-eqb}
 use Rattle.lmn_base.specs.declared.functor.Label.{Label}
 use Rattle.lmn_base.specs.declared.functor.Label.TheVariants.{Name, Int as Integer}
 use Rattle.lmn_base.specs.Graphs.{Reached, at_root, across, StandsWhole}
-use Rattle.lmn_heap.specs.Heap.{Heap, IsAtom, functor_of, link_of, links_of, home_of, port_id}
+use Rattle.lmn_heap.specs.Heap.{Heap, IsAtom, functor_of, link_of, partners_of, home_of, port_id}
 use Rattle.lmn_heap.specs.Sound.{Sound}
 use Rattle.lmn_heap.specs.Graphs.{atom_map}
 use Rattle.lmn_guards.specs.declared.plan.TypeKind.TheVariants as kind
-use Rattle.lmn_solid.specs.Guards.{integer_at, integer_by, integer_of, IsUnary as IsUnaryPart}
+use Rattle.lmn_solid.specs.Guards.{integer_at, integer_by, integer_of_functor, IsUnaryPart}
 use Rattle.lmn_instr.specs.declared.instr.AtomPort.{AtomPort}
 use Rattle.lmn_instr.specs.declared.instr.Instr.{Instr}
 use Rattle.lmn_instr.specs.declared.instr.Instr.TheVariants.{IsInt, IsUnary}
-use Rattle.lmn_instr.specs.Running.{Registers, Holds, IsContext, port_of}
+use Rattle.lmn_instr.specs.Running.{HeadRegisters, InstructionHolds, IsContext, port_of}
 use Rattle.lmn_registers.specs.declared.registers.SetRegisters.{SetRegisters}
 use Rattle.lmn_registers.specs.Agreeing.{Agrees}
-use Rattle.lmn_machine.specs.Searching.{AreHeld, Extends, AllSet, Stepped, InOrder, HasGivenPart, AreApart, IsLone, IsWholeApart, IsHeldPart}
+use Rattle.lmn_machine.specs.Searching.{AreHeldWhole, Extends, AllSet, Stepped, HeadInOrder, HasGivenPart, AreApart, IsLone, IsWholeApart, IsHeldPart}
 use Rattle.lmn_machine.proofs.Stepping.{SetsSo, extends_itself, agrees_before}
-use Rattle.lmn_machine.proofs.Choosing.{get_either, get_last, take_front, take_whole}
-use Rattle.lmn_machine.proofs.Calling.{length_one}
+use Rattle.lmn_machine.proofs.Choosing.{get_either, take_front}
+use Rattle.lmn_base.proofs.Lists.{get_last, length_one, take_whole}
+use Rattle.lmn_base.proofs.Numbers.{below_next2 as less_or_same}
 
 -- none of the first i handles is of an atom
 pub record ApartUpTo {A : Type 0} (atom : A → ℕ) (handles : List A) (n i : ℕ) : Type 0 where
@@ -30,12 +31,6 @@ pub record ApartUpTo {A : Type 0} (atom : A → ℕ) (handles : List A) (n i : �
 
 pub apart_first : {A : Type 0} (atom : A → ℕ) (handles : List A) (n : ℕ) → ApartUpTo atom handles n 0
 apart_first atom handles n = record { differ = λ k b l. absurd (omega (arith, l)) }
-
-less_or_same : (k i : ℕ) → k < i + 1 → (k < i) ⊎ (k ≡ i)
-less_or_same zero zero l = inr refl
-less_or_same zero (suc i) l = inl (omega arith)
-less_or_same (suc k) zero l = absurd (omega (arith, l))
-less_or_same (suc k) (suc i) l = elim (less_or_same k i (omega (arith, l))) [ inl t ↦ inl (omega (arith, t)) | inr t ↦ inr (ap suc t) ]
 
 pub apart_next : {A : Type 0} (atom : A → ℕ) (handles : List A) (n i : ℕ) (x : A) → ApartUpTo atom handles n i → slice_get handles i ≡ Some x → (atom x ≡ n → ⊥) → ApartUpTo atom handles n (i + 1)
 apart_next {A} atom handles n i x t here d = record { differ = λ k b l e. at k b e (less_or_same k i l) }
@@ -61,7 +56,7 @@ module _ (h : Heap) (sound : Sound h) where
   -- the ports with links of an atom of arity 1
   only_port : (n i : ℕ) (q : ℕ × ℕ) → IsUnaryPart h (n, 0) → link_of h n i ≡ Some q → i ≡ 0
   only_port n i q u e =
-      let l = link_within (links_of (h.atoms n)) i q e in
+      let l = link_within (partners_of (h.atoms n)) i q e in
       let a = sound.shaped.ports n u.0 u.1 in
       let one = u.2 in omega (arith, l, a, one)
 
@@ -98,7 +93,7 @@ module _ (h : Heap) (sound : Sound h) where
 
 module _ {A M : Type 0} (atom : A → ℕ) (membrane : M → ℕ) (h : Heap) where
   -- a typed context of arity 1, by the handles in the registers
-  from_context : (g : SetRegisters A M) (c x y : ℕ) (s : Registers) (p : AtomPort) (m : M) → c ≡ length g.atoms → Agrees atom membrane g s → slice_get g.membranes y ≡ Some m →
+  from_context : (g : SetRegisters A M) (c x y : ℕ) (s : HeadRegisters) (p : AtomPort) (m : M) → c ≡ length g.atoms → Agrees atom membrane g s → slice_get g.membranes y ≡ Some m →
       IsContext h c s kind.Unary x p y → IsLone atom h g.atoms (membrane m) (s.images.part x).0
   from_context g c x y s p m n t place k = record {
     unary = k.of_kind;
@@ -106,7 +101,7 @@ module _ {A M : Type 0} (atom : A → ℕ) (membrane : M → ℕ) (h : Heap) whe
     apart = record { differ = λ j b e d. k.apart (s.images.part x).0 j at_root (let w = slice_get_within g.atoms j b e in omega (arith, w, n)) (t.atoms j b e ∙ d) };
   }
 
-  to_context : Sound h → (g : SetRegisters A M) (c x y : ℕ) (s : Registers) (p : AtomPort) (m : M) → c ≡ length g.atoms → Agrees atom membrane g s → slice_get g.membranes y ≡ Some m →
+  to_context : Sound h → (g : SetRegisters A M) (c x y : ℕ) (s : HeadRegisters) (p : AtomPort) (m : M) → c ≡ length g.atoms → Agrees atom membrane g s → slice_get g.membranes y ≡ Some m →
       link_of h (s.images.atom p.atom) p.port ≡ Some (s.images.part x) → IsLone atom h g.atoms (membrane m) (s.images.part x).0 → IsContext h c s kind.Unary x p y
   to_context sound g c x y s p m n t place e k = record {
     held = e;
@@ -131,14 +126,14 @@ module _ {A M : Type 0} (atom : A → ℕ) (membrane : M → ℕ) (h : Heap) whe
       with_arity (Name k) n z e = absurd (cc)
       with_arity (Integer y) n z e = one (n == 1) y z n refl e
 
-      by_functor : (o : Option Functor) (z : ℤ) → integer_of o ≡ Some z → (f : Functor) × (o ≡ Some f) × (f.arity ≡ 1)
+      by_functor : (o : Option Functor) (z : ℤ) → integer_of_functor o ≡ Some z → (f : Functor) × (o ≡ Some f) × (f.arity ≡ 1)
       by_functor None z e = absurd (cc)
       by_functor (Some f) z e = (f, refl, with_arity f.label f.arity z e)
 
-  unary_to_int : (c x y : ℕ) (s : Registers) (p : AtomPort) (z : ℤ) → IsContext h c s kind.Unary x p y → integer_at h (s.images.part x) ≡ Some z → IsContext h c s kind.Int x p y
+  unary_to_int : (c x y : ℕ) (s : HeadRegisters) (p : AtomPort) (z : ℤ) → IsContext h c s kind.Unary x p y → integer_at h (s.images.part x) ≡ Some z → IsContext h c s kind.Int x p y
   unary_to_int c x y s p z k e = record { held = k.held; of_kind = (z, e); whole = k.whole; apart = k.apart }
 
-  int_to_unary : (c x y : ℕ) (s : Registers) (p : AtomPort) → IsContext h c s kind.Int x p y → IsContext h c s kind.Unary x p y
+  int_to_unary : (c x y : ℕ) (s : HeadRegisters) (p : AtomPort) → IsContext h c s kind.Int x p y → IsContext h c s kind.Unary x p y
   int_to_unary c x y s p k = record { held = k.held; of_kind = integer_unary (s.images.part x) k.of_kind.0 k.of_kind.1; whole = k.whole; apart = k.apart }
 
 abbrev pub with_part : {A M : Type 0} → SetRegisters A M → A × ℕ → SetRegisters A M
@@ -148,7 +143,7 @@ module _ {A M : Type 0} (atom : A → ℕ) (membrane : M → ℕ) (h : Heap) whe
   extends_part : (g : SetRegisters A M) (p : A × ℕ) → Extends g (with_part g p)
   extends_part g p = record { atoms = take_whole g.atoms; membranes = take_whole g.membranes; parts = take_front g.parts (p ∷ []); integers = take_whole g.integers; copies = refl }
 
-  agrees_part : (g : SetRegisters A M) (p : A × ℕ) (s : Registers) → Agrees atom membrane g s → s.images.part (length g.parts) ≡ port_id atom p → Agrees atom membrane (with_part g p) s
+  agrees_part : (g : SetRegisters A M) (p : A × ℕ) (s : HeadRegisters) → Agrees atom membrane g s → s.images.part (length g.parts) ≡ port_id atom p → Agrees atom membrane (with_part g p) s
   agrees_part g p s t e = record {
     atoms = t.atoms;
     membranes = t.membranes;
@@ -158,8 +153,8 @@ module _ {A M : Type 0} (atom : A → ℕ) (membrane : M → ℕ) (h : Heap) whe
 
   -- What an instruction gives is the root of the next part exactly where it holds.
   abbrev pub GivesPart : SetRegisters A M → Instr → Option (A × ℕ) → Type 0
-  GivesPart g i o = (c : ℕ) (s : Registers) → c ≡ length g.atoms → Agrees atom membrane g s →
-      (Holds h c s i → option_map (port_id atom) o ≡ Some (s.images.part (length g.parts))) × (option_map (port_id atom) o ≡ Some (s.images.part (length g.parts)) → Holds h c s i)
+  GivesPart g i o = (c : ℕ) (s : HeadRegisters) → c ≡ length g.atoms → Agrees atom membrane g s →
+      (InstructionHolds h c s i → option_map (port_id atom) o ≡ Some (s.images.part (length g.parts))) × (option_map (port_id atom) o ≡ Some (s.images.part (length g.parts)) → InstructionHolds h c s i)
 
   -- what is known of a part that was found from the port of an atom in registers
   abbrev pub FoundFrom : SetRegisters A M → A → ℕ → ℕ → Option (A × ℕ) → Type 0
@@ -168,17 +163,17 @@ module _ {A M : Type 0} (atom : A → ℕ) (membrane : M → ℕ) (h : Heap) whe
   held_part : Sound h → (g : SetRegisters A M) (j : ℕ) (a : A) (port m : ℕ) (p : A × ℕ) → slice_get g.atoms j ≡ Some a → FoundFrom g a port m (Some p) → IsHeldPart atom h g.atoms p
   held_part sound g j a port m p e f =
       let q = f (port_id atom p) refl in record {
-        port = link_within (links_of (h.atoms (atom p.0))) p.1 (atom a, port) (sound.paired.back (atom a) port (atom p.0) p.1 q.0);
+        port = link_within (partners_of (h.atoms (atom p.0))) p.1 (atom a, port) (sound.paired.back (atom a) port (atom p.0) p.1 q.0);
         holder = (j, port, (a, e, q.0));
         whole = (m, q.1.whole);
         apart = q.1.apart;
       }
 
-  pub part_stepped : Sound h → (g k : SetRegisters A M) (result : Bool) (i : Instr) (j : ℕ) (a : A) (port m : ℕ) (o : Option (A × ℕ)) → slice_get g.atoms j ≡ Some a → FoundFrom g a port m o → AreHeld atom membrane h g → IfSome o (λ p. IsAtom h (atom p.0)) →
-      ((is : List Instr) → InOrder (length g.atoms) (length g.membranes) (length g.parts) (length g.integers) (i ∷ is) → InOrder (length g.atoms) (length g.membranes) (length g.parts + 1) (length g.integers) is) →
+  pub part_stepped : Sound h → (g k : SetRegisters A M) (result : Bool) (i : Instr) (j : ℕ) (a : A) (port m : ℕ) (o : Option (A × ℕ)) → slice_get g.atoms j ≡ Some a → FoundFrom g a port m o → AreHeldWhole atom membrane h g → IfSome o (λ p. IsAtom h (atom p.0)) →
+      ((is : List Instr) → HeadInOrder (length g.atoms) (length g.membranes) (length g.parts) (length g.integers) (i ∷ is) → HeadInOrder (length g.atoms) (length g.membranes) (length g.parts + 1) (length g.integers) is) →
       ((c : ℕ) → AllSet c (length g.atoms) i → c ≡ length g.atoms) → SetsSo i 0 0 1 0 → GivesPart g i o → HasGivenPart g k result o → Stepped atom membrane h g k result i
   part_stepped sound g k result i j a port m None from known held there next all count means given = record {
-    held = subst (λ l. AreHeld atom membrane h l) (sym given.1) held;
+    held = subst (λ l. AreHeldWhole atom membrane h l) (sym given.1) held;
     extends = subst (λ l. Extends g l) (sym given.1) (extends_itself atom membrane h g);
     holds = λ t. (let f = given.0 in absurd (cc));
     only = λ c s n a u. (let e = (means c s (all c n) a).0 u in absurd (cc));
@@ -205,7 +200,7 @@ module _ {A M : Type 0} (atom : A → ℕ) (membrane : M → ℕ) (h : Heap) whe
           parts = (let n = count.2 in let l = length_one g.parts p in omega (arith, n, l));
           integers = (let n = count.3 in omega (arith, n));
         };
-        order = λ t is u. subst (λ n. InOrder (length g.atoms) (length g.membranes) n (length g.integers) is) (sym (length_one g.parts p)) (next is u);
+        order = λ t is u. subst (λ n. HeadInOrder (length g.atoms) (length g.membranes) n (length g.integers) is) (sym (length_one g.parts p)) (next is u);
       }
 
   -- what the search for a part of one atom answers, from the port of a handle in a membrane
@@ -247,16 +242,16 @@ module _ {A M : Type 0} (atom : A → ℕ) (membrane : M → ℕ) (h : Heap) whe
         unary_to_int atom membrane h c (length g.parts) y s p z.0 ((unary_gives sound g p y a m end from place t c s n r).1 (i.is_end (s.images.part (length g.parts)) e)) z.1),
   )
 
-  pub unary_stepped : Sound h → (g k : SetRegisters A M) (result : Bool) (i : Instr) (x : ℕ) (p : AtomPort) (y : ℕ) (a : A) (m : M) (o : Option (A × ℕ)) → i ≡ IsUnary x p y → InOrder (length g.atoms) (length g.membranes) (length g.parts) (length g.integers) (i ∷ []) → AreHeld atom membrane h g →
+  pub unary_stepped : Sound h → (g k : SetRegisters A M) (result : Bool) (i : Instr) (x : ℕ) (p : AtomPort) (y : ℕ) (a : A) (m : M) (o : Option (A × ℕ)) → i ≡ IsUnary x p y → HeadInOrder (length g.atoms) (length g.membranes) (length g.parts) (length g.integers) (i ∷ []) → AreHeldWhole atom membrane h g →
       slice_get g.atoms p.atom ≡ Some a → slice_get g.membranes y ≡ Some m → IfSome o (λ p. IsAtom h (atom p.0)) → LoneEnd g a p.port m o → HasGivenPart g k result o → Stepped atom membrane h g k result i
   unary_stepped sound g k result i x p y a m o e order held from place there t given =
-      let u : InOrder (length g.atoms) (length g.membranes) (length g.parts) (length g.integers) (IsUnary x p y ∷ []) = subst (λ j. InOrder (length g.atoms) (length g.membranes) (length g.parts) (length g.integers) (j ∷ [])) e order in
+      let u : HeadInOrder (length g.atoms) (length g.membranes) (length g.parts) (length g.integers) (IsUnary x p y ∷ []) = subst (λ j. HeadInOrder (length g.atoms) (length g.membranes) (length g.parts) (length g.integers) (j ∷ [])) e order in
       subst (λ j. Stepped atom membrane h g k result j) (sym (e ∙ ap (λ j. IsUnary j p y) u.0.0.0.0))
       (part_stepped sound g k result (IsUnary (length g.parts) p y) p.atom a p.port (membrane m) o from (lone_known sound g a p.port m o t) held there (λ is w. w.1) (λ c w. w) (refl, refl, refl, refl) (unary_gives sound g p y a m o from place t) given)
 
-  pub int_stepped : Sound h → (g k : SetRegisters A M) (result : Bool) (i : Instr) (x : ℕ) (p : AtomPort) (y : ℕ) (a : A) (m : M) (end o : Option (A × ℕ)) → i ≡ IsInt x p y → InOrder (length g.atoms) (length g.membranes) (length g.parts) (length g.integers) (i ∷ []) → AreHeld atom membrane h g →
+  pub int_stepped : Sound h → (g k : SetRegisters A M) (result : Bool) (i : Instr) (x : ℕ) (p : AtomPort) (y : ℕ) (a : A) (m : M) (end o : Option (A × ℕ)) → i ≡ IsInt x p y → HeadInOrder (length g.atoms) (length g.membranes) (length g.parts) (length g.integers) (i ∷ []) → AreHeldWhole atom membrane h g →
       slice_get g.atoms p.atom ≡ Some a → slice_get g.membranes y ≡ Some m → IfSome o (λ p. IsAtom h (atom p.0)) → LoneEnd g a p.port m end → IntegerRoot end o → HasGivenPart g k result o → Stepped atom membrane h g k result i
   int_stepped sound g k result i x p y a m end o e order held from place there t root given =
-      let u : InOrder (length g.atoms) (length g.membranes) (length g.parts) (length g.integers) (IsInt x p y ∷ []) = subst (λ j. InOrder (length g.atoms) (length g.membranes) (length g.parts) (length g.integers) (j ∷ [])) e order in
+      let u : HeadInOrder (length g.atoms) (length g.membranes) (length g.parts) (length g.integers) (IsInt x p y ∷ []) = subst (λ j. HeadInOrder (length g.atoms) (length g.membranes) (length g.parts) (length g.integers) (j ∷ [])) e order in
       subst (λ j. Stepped atom membrane h g k result j) (sym (e ∙ ap (λ j. IsInt j p y) u.0.0.0.0))
       (part_stepped sound g k result (IsInt (length g.parts) p y) p.atom a p.port (membrane m) o from (λ q u. lone_known sound g a p.port m end t q (root.is_end q u)) held there (λ is w. w.1) (λ c w. w) (refl, refl, refl, refl) (int_gives sound g p y a m end o from place t root) given)

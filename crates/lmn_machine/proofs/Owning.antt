@@ -5,13 +5,14 @@ use Rattle.std.proofs.lemmas.List.{get_or-set_same, get_or-set_other}
 use Rattle.std.specs.Option.{option_map, option_and_then}
 use Rattle.std.specs.Prelude.{slice_get, slice_set, slice_index_or}
 use Rattle.lmn_base.specs.Graphs.{AtomMap, Reached, StandsWhole}
-use Rattle.lmn_heap.specs.Heap.{Heap, HeapAtom, In, IsAtom, IsMem, alter, with_mark, marked, mark_of, links_of, marks_of, arity_of, home_by}
+use Rattle.lmn_heap.specs.Heap.{Heap, HeapAtom, In, IsAtom, IsMem, alter, with_mark, marked, mark_of, partners_of, marks_of, arity_of, home_by, PortsUnmarked, own_mark, Unmarked}
 use Rattle.lmn_heap.specs.Sound.{Sound}
 use Rattle.lmn_heap.specs.Graphs.{atom_map}
 use Rattle.lmn_heap.proofs.Listing.{alter_at, alter_away}
-use Rattle.lmn_ground.specs.Spread.{Clean, IsGround, own_mark}
-use Rattle.lmn_ground.proofs.PaintLaws.{in_or_not}
-use Rattle.lmn_machine.specs.Searching.{IsWholeApart, Unmarked, own_marked}
+use Rattle.lmn_ground.specs.Spread.{IsGroundIn}
+use Rattle.lmn_machine.specs.Searching.{IsWholeApart, own_marked}
+use Rattle.lmn_ground.proofs.CopyLaws.{member as in_handles}
+use Rattle.lmn_heap.proofs.Common.{decide_in as in_or_not, same_atoms as same_painted}
 
 -- the atom with another own mark; 0 stands for the one that it has
 abbrev paint : ℕ → Option HeapAtom → Option HeapAtom
@@ -21,7 +22,7 @@ paint (suc v) x = option_map (λ y. with_mark (length y.links) (suc v) y) x
 abbrev painted : Heap → (ℕ → ℕ) → Heap
 painted h v = record h { atoms = λ a. paint (v a) (h.atoms a) }
 
-paint_links : (v : ℕ) (o : Option HeapAtom) → links_of (paint v o) ≡ links_of o
+paint_links : (v : ℕ) (o : Option HeapAtom) → partners_of (paint v o) ≡ partners_of o
 paint_links zero o = refl
 paint_links (suc v) None = refl
 paint_links (suc v) (Some x) = refl
@@ -61,9 +62,6 @@ set_same [] k e = refl
 set_same (x ∷ xs) zero e = ap (λ y. y ∷ xs) (sym e)
 set_same (x ∷ xs) (suc k) e = ap (λ ys. x ∷ ys) (set_same xs k e)
 
-same_painted : (s : Heap) (f g : ℕ → Option HeapAtom) → ((a : ℕ) → f a ≡ g a) → record s { atoms = f } ≡ record s { atoms = g }
-same_painted s f g h = ap (λ (k : ℕ → Option HeapAtom). let t : Heap = record s { atoms = k } in t) (λ i a. h a i)
-
 -- one own mark more
 painted_set : (h : Heap) (v : ℕ → ℕ) (b m : ℕ) → Unmarked h → marked (painted h v) b (arity_of h b) m ≡ painted h (alter v b (λ _. m))
 painted_set h v b m z = same_painted h _ _ (λ a. elim (cases_eq a b) [
@@ -72,7 +70,7 @@ painted_set h v b m z = same_painted h _ _ (λ a. elim (cases_eq a b) [
   | inr d ↦ alter_away (painted h v).atoms b (option_map (with_mark (arity_of h b) m)) a d ∙ ap (λ (w : ℕ). paint w (h.atoms a)) (sym (alter_away v b (λ _. m) a d))
 ])
   where
-    by : (m w : ℕ) (o : Option HeapAtom) → slice_index_or (marks_of o) (length (links_of o)) 0 ≡ 0 → option_map (with_mark (length (links_of o)) m) (paint w o) ≡ paint m o
+    by : (m w : ℕ) (o : Option HeapAtom) → slice_index_or (marks_of o) (length (partners_of o)) 0 ≡ 0 → option_map (with_mark (length (partners_of o)) m) (paint w o) ≡ paint m o
     by zero zero None z = refl
     by zero (suc w) None z = refl
     by (suc m) zero None z = refl
@@ -135,20 +133,14 @@ mem_own h k xs m n z e i = subst (λ (s : Heap). IsMem s n) (sym (e ∙ marked_i
 pub port_own : (h k : Heap) (xs : List ℕ) (m a i : ℕ) → Unmarked h → k ≡ own_marked m xs h → i < arity_of h a → i < arity_of k a
 port_own h k xs m a i z e l = subst (λ (n : ℕ). i < n) (sym (ap (λ (s : Heap). arity_of s a) (e ∙ marked_is h xs m z) ∙ arity_painted h (all_at xs m none) a)) l
 
-pub clean_own_all : (h k : Heap) (xs : List ℕ) (m : ℕ) → Unmarked h → k ≡ own_marked m xs h → Clean k
-clean_own_all h k xs m z e = subst (λ (s : Heap). Clean s) (sym (e ∙ marked_is h xs m z)) (λ a i l.
+pub clean_own_all : (h k : Heap) (xs : List ℕ) (m : ℕ) → Unmarked h → k ≡ own_marked m xs h → PortsUnmarked k
+clean_own_all h k xs m z e = subst (λ (s : Heap). PortsUnmarked s) (sym (e ∙ marked_is h xs m z)) (λ a i l.
     by (all_at xs m none a) (h.atoms a) i (subst (λ (n : ℕ). i < n) (arity_painted h (all_at xs m none) a) l) (z a i))
   where
-    by : (w : ℕ) (o : Option HeapAtom) (i : ℕ) → i < length (links_of o) → slice_index_or (marks_of o) i 0 ≡ 0 → slice_index_or (marks_of (paint w o)) i 0 ≡ 0
+    by : (w : ℕ) (o : Option HeapAtom) (i : ℕ) → i < length (partners_of o) → slice_index_or (marks_of o) i 0 ≡ 0 → slice_index_or (marks_of (paint w o)) i 0 ≡ 0
     by zero o i l e = e
     by (suc w) None i l e = e
     by (suc w) (Some x) i l e = get_or-set_other x.marks (length x.links) i (suc w) 0 (λ (q : i ≡ length x.links). absurd (omega (arith, q, l))) ∙ e
-
--- an atom of a list of handles
-in_handles : {A : Type 0} (atom : A → ℕ) (xs : List A) (k : ℕ) (b : A) → slice_get xs k ≡ Some b → In (atom b) (map atom xs)
-in_handles atom [] k b e = absurd (cc)
-in_handles atom (x ∷ xs) zero b e = let s : x ≡ b = cc in inl (ap atom s)
-in_handles atom (x ∷ xs) (suc k) b e = inr (in_handles atom xs k b e)
 
 of_handles : {A : Type 0} (atom : A → ℕ) (xs : List A) (n : ℕ) → In n (map atom xs) → (k : ℕ) × ((b : A) × (slice_get xs k ≡ Some b) × (atom b ≡ n))
 of_handles atom [] n i = absurd i
@@ -172,7 +164,7 @@ module _ {A : Type 0} (atom : A → ℕ) (h k : Heap) (handles : List A) (z : Un
       ∙ ap (λ (w : ℕ). slice_index_or (marks_of (paint w (h.atoms a))) (arity_of h a) 0) m
       ∙ by (h.atoms a) there (sound.shaped.marks a there)
     where
-      by : (o : Option HeapAtom) → IsSome o → length (marks_of o) ≡ length (links_of o) + 1 → slice_index_or (marks_of (paint 1 o)) (length (links_of o)) 0 ≡ 1
+      by : (o : Option HeapAtom) → IsSome o → length (marks_of o) ≡ length (partners_of o) + 1 → slice_index_or (marks_of (paint 1 o)) (length (partners_of o)) 0 ≡ 1
       by None s l = absurd (cc)
       by (Some x) s l = get_or-set_same x.marks (length x.links) 1 0 (omega (arith, l))
 
@@ -181,7 +173,7 @@ module _ {A : Type 0} (atom : A → ℕ) (h k : Heap) (handles : List A) (z : Un
       ap (λ (s : Heap). own_mark s a) is ∙ ap (λ (j : ℕ). mark_of (painted h marks) a j) (arity_painted h marks a)
       ∙ ap (λ (w : ℕ). slice_index_or (marks_of (paint w (h.atoms a))) (arity_of h a) 0) (off_all (map atom handles) 1 none a n) ∙ z a (arity_of h a)
 
-  pub ground_whole : Sound h → ((j : ℕ) (b : A) → slice_get handles j ≡ Some b → IsAtom h (atom b)) → (root : ℕ × ℕ) (m : ℕ) → IsGround k root m → IsWholeApart atom h handles m root
+  pub ground_whole : Sound h → ((j : ℕ) (b : A) → slice_get handles j ≡ Some b → IsAtom h (atom b)) → (root : ℕ × ℕ) (m : ℕ) → IsGroundIn k root m → IsWholeApart atom h handles m root
   ground_whole sound held root m g = record {
     whole = subst (λ (n : AtomMap). StandsWhole n root m) same_map g.whole;
     apart = λ b r. record {
@@ -190,7 +182,7 @@ module _ {A : Type 0} (atom : A → ℕ) (h k : Heap) (handles : List A) (z : Un
     };
   }
 
-  pub whole_ground : (root : ℕ × ℕ) (m : ℕ) → IsWholeApart atom h handles m root → IsGround k root m
+  pub whole_ground : (root : ℕ × ℕ) (m : ℕ) → IsWholeApart atom h handles m root → IsGroundIn k root m
   whole_ground root m w = record {
     whole = subst (λ (n : AtomMap). StandsWhole n root m) (sym same_map) w.whole;
     unmatched = λ a r t. (

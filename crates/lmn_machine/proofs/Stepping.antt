@@ -3,22 +3,19 @@ use Rattle.std.proofs.Common.{ℕ, ℤ, zero, suc, ◌≡◌, ◌≤◌, ◌+◌
 use Rattle.std.specs.Prelude.{Bool, true, false, slice_get}
 use Rattle.lmn_base.specs.declared.functor.Functor.{Functor}
 use Rattle.lmn_heap.specs.Heap.{Heap}
-use Rattle.lmn_solid.specs.Embeddings.{NotAfter}
+use Rattle.lmn_solid.specs.Embeddings.{ListNotAfter}
 use Rattle.lmn_instr.specs.declared.instr.AtomPort.{AtomPort}
 use Rattle.lmn_instr.specs.declared.instr.Instr.{Instr}
 use Rattle.lmn_instr.specs.declared.instr.Instr.TheVariants.{FindAtom, Deref, Func, InMem, NeqAtom, Joined, NotIn, AnyMem, NeqMem, IsInt, IsUnary, IsGround, NAtoms, NMems, NoRules, EqGround, NeqGround, GetInt, Const, Add, Sub, Mul, Div, Mod}
-use Rattle.lmn_instr.specs.Running.{Registers, Holds, AllHold, atoms_set, choices}
+use Rattle.lmn_instr.specs.Running.{HeadRegisters, InstructionHolds, AllHold, atoms_set, choices}
 use Rattle.lmn_registers.specs.declared.registers.SetRegisters.{SetRegisters}
 use Rattle.lmn_registers.specs.Agreeing.{Agrees}
-use Rattle.lmn_machine.specs.Searching.{AreHeld, AsksNoPart, Compares, Extends, SetsAll, AllSet, Reads, Searched, Stepped, ChoosesNone, InOrder, Sets, membranes_set, parts_set, integers_set}
-
-take_all : {A : Type 0} (xs : List A) → take (length xs) xs ≡ xs
-take_all [] = refl
-take_all (x ∷ xs) = ap (λ k. x ∷ k) (take_all xs)
+use Rattle.lmn_machine.specs.Searching.{AreHeldWhole, AsksNoPart, Compares, Extends, SetsAll, AllSet, TestsSetRegisters, Searched, Stepped, ChoosesNone, HeadInOrder, SetsMore, membranes_set, parts_set, integers_set}
+use Rattle.lmn_base.proofs.Lists.{take_whole as take_all}
 
 -- tests set no register
 
-check_order : (i : Instr) (a m g v : ℕ) (is : List Instr) → Reads a m v i → InOrder a m g v (i ∷ is) → InOrder a m g v is
+check_order : (i : Instr) (a m g v : ℕ) (is : List Instr) → TestsSetRegisters a m v i → HeadInOrder a m g v (i ∷ is) → HeadInOrder a m g v is
 check_order (FindAtom x y f) a m g v is r o = absurd r
 check_order (AnyMem x y) a m g v is r o = absurd r
 check_order (Deref x p e) a m g v is r o = absurd r
@@ -53,7 +50,7 @@ asks_no_part _ c d k l b eq ne n = tt
 
 -- where it doesn't set an integer either, it is a test of registers that are set
 pub test_reads : (i : Instr) (a m g v : ℕ) → AsksNoPart i → ((x y : ℕ) → i ≡ GetInt x y → ⊥) → ((x : ℕ) (z : ℤ) → i ≡ Const x z → ⊥) → ((x y z : ℕ) → i ≡ Add x y z → ⊥) → ((x y z : ℕ) → i ≡ Sub x y z → ⊥) →
-    ((x y z : ℕ) → i ≡ Mul x y z → ⊥) → ((x y z : ℕ) → i ≡ Div x y z → ⊥) → ((x y z : ℕ) → i ≡ Mod x y z → ⊥) → InOrder a m g v (i ∷ []) → Reads a m v i
+    ((x y z : ℕ) → i ≡ Mul x y z → ⊥) → ((x y z : ℕ) → i ≡ Div x y z → ⊥) → ((x y z : ℕ) → i ≡ Mod x y z → ⊥) → HeadInOrder a m g v (i ∷ []) → TestsSetRegisters a m v i
 test_reads (FindAtom x y f) a m g v c w n p q r s t o = absurd c
 test_reads (AnyMem x y) a m g v c w n p q r s t o = absurd c
 test_reads (Deref x y e) a m g v c w n p q r s t o = absurd c
@@ -73,7 +70,7 @@ test_reads (Mod x y z) a m g v c w n p q r s t o = absurd (t x y z refl)
 test_reads _ a m g v c w n p q r s t o = o.0
 
 -- where it doesn't look at atoms or membranes either, it compares integers
-pub test_compares : (i : Instr) (a m v : ℕ) → Reads a m v i → ((x : ℕ) (f : Functor) → i ≡ Func x f → ⊥) → ((x y : ℕ) → i ≡ InMem x y → ⊥) → ((x y : ℕ) → i ≡ NeqAtom x y → ⊥) → ((p q : AtomPort) → i ≡ Joined p q → ⊥) →
+pub test_compares : (i : Instr) (a m v : ℕ) → TestsSetRegisters a m v i → ((x : ℕ) (f : Functor) → i ≡ Func x f → ⊥) → ((x y : ℕ) → i ≡ InMem x y → ⊥) → ((x y : ℕ) → i ≡ NeqAtom x y → ⊥) → ((p q : AtomPort) → i ≡ Joined p q → ⊥) →
     ((x y : ℕ) → i ≡ NeqMem x y → ⊥) → ((x n : ℕ) → i ≡ NMems x n → ⊥) → ((x : ℕ) → i ≡ NoRules x → ⊥) → ((p : AtomPort) (x : ℕ) → i ≡ NotIn p x → ⊥) → Compares v i
 test_compares (Func x f) a m v r b c d e g k l n = absurd (b x f refl)
 test_compares (InMem x y) a m v r b c d e g k l n = absurd (c x y refl)
@@ -89,7 +86,7 @@ test_compares _ a m v r b c d e g k l n = r
 abbrev pub AllAtEnd : ℕ → ℕ → List Instr → Type 0
 AllAtEnd c a code = c ≡ a + atoms_set code
 
-all_set : (c a m g v : ℕ) (i : Instr) (is : List Instr) → AllAtEnd c a (i ∷ is) → InOrder a m g v (i ∷ is) → AllSet c a i
+all_set : (c a m g v : ℕ) (i : Instr) (is : List Instr) → AllAtEnd c a (i ∷ is) → HeadInOrder a m g v (i ∷ is) → AllSet c a i
 all_set c a m g v (IsInt x p y) is e o = let n = o.0.1 in omega (arith, e, n)
 all_set c a m g v (IsUnary x p y) is e o = let n = o.0.1 in omega (arith, e, n)
 all_set c a m g v (IsGround x p y) is e o = let n = o.0.1 in omega (arith, e, n)
@@ -110,7 +107,7 @@ parts_more (IsUnary x p y) is = omega arith
 parts_more (IsGround x p y) is = omega arith
 parts_more _ is = omega arith
 
-integers_more : (i : Instr) (is : List Instr) → integers_set (i ∷ is) ≡ integers_set (i ∷ []) + integers_set is
+pub integers_more : (i : Instr) (is : List Instr) → integers_set (i ∷ is) ≡ integers_set (i ∷ []) + integers_set is
 integers_more (GetInt x y) is = omega arith
 integers_more (Const x z) is = omega arith
 integers_more (Add x y z) is = omega arith
@@ -124,7 +121,7 @@ integers_more _ is = omega arith
 abbrev pub SetsSo : Instr → ℕ → ℕ → ℕ → ℕ → Type 0
 SetsSo i a m g v = (atoms_set (i ∷ []) ≡ a) × (membranes_set (i ∷ []) ≡ m) × (parts_set (i ∷ []) ≡ g) × (integers_set (i ∷ []) ≡ v)
 
-test_sets_none : (a m v : ℕ) (i : Instr) → Reads a m v i → SetsSo i 0 0 0 0
+test_sets_none : (a m v : ℕ) (i : Instr) → TestsSetRegisters a m v i → SetsSo i 0 0 0 0
 test_sets_none a m v (FindAtom x y f) r = absurd r
 test_sets_none a m v (Deref x p k) r = absurd r
 test_sets_none a m v (AnyMem x y) r = absurd r
@@ -140,7 +137,7 @@ test_sets_none a m v (Div x y z) r = absurd r
 test_sets_none a m v (Mod x y z) r = absurd r
 test_sets_none a m v _ r = (refl, refl, refl, refl)
 
-choice_none : (h : Heap) (s : Registers) (i : Instr) (is : List Instr) → ChoosesNone i → choices h s (i ∷ is) ≡ choices h s is
+choice_none : (h : Heap) (s : HeadRegisters) (i : Instr) (is : List Instr) → ChoosesNone i → choices h s (i ∷ is) ≡ choices h s is
 choice_none h s (FindAtom x y f) is n = absurd n
 choice_none h s (AnyMem x y) is n = absurd n
 choice_none h s _ is n = refl
@@ -150,11 +147,11 @@ module _ {A M : Type 0} (atom : A → ℕ) (membrane : M → ℕ) (h : Heap) whe
   extends_itself g = record { atoms = take_all g.atoms; membranes = take_all g.membranes; parts = take_all g.parts; integers = take_all g.integers; copies = refl }
 
   -- an instruction that sets nothing
-  pub nothing_more : (g : SetRegisters A M) (i : Instr) → SetsSo i 0 0 0 0 → Sets g g (i ∷ [])
+  pub nothing_more : (g : SetRegisters A M) (i : Instr) → SetsSo i 0 0 0 0 → SetsMore g g (i ∷ [])
   nothing_more g i n = let a = n.0 in let m = n.1 in let p = n.2 in let v = n.3 in record { atoms = omega (arith, a); membranes = omega (arith, m); parts = omega (arith, p); integers = omega (arith, v) }
 
   -- an instruction, and the code behind it
-  sets_then : (g k l : SetRegisters A M) (i : Instr) (is : List Instr) → Sets g k (i ∷ []) → Sets k l is → Sets g l (i ∷ is)
+  sets_then : (g k l : SetRegisters A M) (i : Instr) (is : List Instr) → SetsMore g k (i ∷ []) → SetsMore k l is → SetsMore g l (i ∷ is)
   sets_then g k l i is s t = record {
     atoms = (let a = s.atoms in let b = t.atoms in let c = sets_more i is in omega (arith, a, b, c));
     membranes = (let a = s.membranes in let b = t.membranes in let c = membranes_more i is in omega (arith, a, b, c));
@@ -162,8 +159,8 @@ module _ {A M : Type 0} (atom : A → ℕ) (membrane : M → ℕ) (h : Heap) whe
     integers = (let a = s.integers in let b = t.integers in let c = integers_more i is in omega (arith, a, b, c));
   }
 
-  pub check_stepped : (g : SetRegisters A M) (result : Bool) (i : Instr) → AreHeld atom membrane h g → Reads (length g.atoms) (length g.membranes) (length g.integers) i →
-      ((c : ℕ) (s : Registers) → Agrees atom membrane g s → (result ≡ true → Holds h c s i) × (Holds h c s i → result ≡ true)) → Stepped atom membrane h g g result i
+  pub check_stepped : (g : SetRegisters A M) (result : Bool) (i : Instr) → AreHeldWhole atom membrane h g → TestsSetRegisters (length g.atoms) (length g.membranes) (length g.integers) i →
+      ((c : ℕ) (s : HeadRegisters) → Agrees atom membrane g s → (result ≡ true → InstructionHolds h c s i) × (InstructionHolds h c s i → result ≡ true)) → Stepped atom membrane h g g result i
   check_stepped g result i held r f = record {
     held = held;
     extends = extends_itself g;
@@ -173,43 +170,43 @@ module _ {A M : Type 0} (atom : A → ℕ) (membrane : M → ℕ) (h : Heap) whe
     order = λ t is o. check_order i (length g.atoms) (length g.membranes) (length g.parts) (length g.integers) is r o;
   }
 
-  deref_is : (i : Instr) (x : ℕ) (p : AtomPort) (e a m n v : ℕ) → i ≡ Deref x p e → InOrder a m n v (i ∷ []) → i ≡ Deref a p e
-  deref_is i x p e a m n v t o = let u : InOrder a m n v (Deref x p e ∷ []) = subst (λ j. InOrder a m n v (j ∷ [])) t o in t ∙ ap (λ y. Deref y p e) u.0.0
+  deref_is : (i : Instr) (x : ℕ) (p : AtomPort) (e a m n v : ℕ) → i ≡ Deref x p e → HeadInOrder a m n v (i ∷ []) → i ≡ Deref a p e
+  deref_is i x p e a m n v t o = let u : HeadInOrder a m n v (Deref x p e ∷ []) = subst (λ j. HeadInOrder a m n v (j ∷ [])) t o in t ∙ ap (λ y. Deref y p e) u.0.0
 
-  pub deref_stepped : (g k : SetRegisters A M) (result : Bool) (i : Instr) (x : ℕ) (p : AtomPort) (e : ℕ) → i ≡ Deref x p e → InOrder (length g.atoms) (length g.membranes) (length g.parts) (length g.integers) (i ∷ []) →
-      AreHeld atom membrane h k → Extends g k → (result ≡ true → length k.atoms ≡ length g.atoms + 1) → k.membranes ≡ g.membranes → k.parts ≡ g.parts → k.integers ≡ g.integers →
-      (result ≡ true → (c : ℕ) (s : Registers) → Agrees atom membrane k s → Holds h c s (Deref (length g.atoms) p e)) →
-      ((c : ℕ) (s : Registers) → Agrees atom membrane g s → Holds h c s (Deref (length g.atoms) p e) → (result ≡ true) × Agrees atom membrane k s) → Stepped atom membrane h g k result i
+  pub deref_stepped : (g k : SetRegisters A M) (result : Bool) (i : Instr) (x : ℕ) (p : AtomPort) (e : ℕ) → i ≡ Deref x p e → HeadInOrder (length g.atoms) (length g.membranes) (length g.parts) (length g.integers) (i ∷ []) →
+      AreHeldWhole atom membrane h k → Extends g k → (result ≡ true → length k.atoms ≡ length g.atoms + 1) → k.membranes ≡ g.membranes → k.parts ≡ g.parts → k.integers ≡ g.integers →
+      (result ≡ true → (c : ℕ) (s : HeadRegisters) → Agrees atom membrane k s → InstructionHolds h c s (Deref (length g.atoms) p e)) →
+      ((c : ℕ) (s : HeadRegisters) → Agrees atom membrane g s → InstructionHolds h c s (Deref (length g.atoms) p e) → (result ≡ true) × Agrees atom membrane k s) → Stepped atom membrane h g k result i
   deref_stepped g k result i x p e t o held extends more same same_parts same_integers holds only =
       let is_deref = deref_is i x p e (length g.atoms) (length g.membranes) (length g.parts) (length g.integers) t o in
       record {
         held = held;
         extends = extends;
-        holds = λ u c s n a. subst (λ j. Holds h c s j) (sym is_deref) (holds u c s a);
-        only = λ c s n a u. only c s a (subst (λ j. Holds h c s j) is_deref u);
-        sets = λ u. subst (λ j. Sets g k (j ∷ [])) (sym is_deref) (record {
+        holds = λ u c s n a. subst (λ j. InstructionHolds h c s j) (sym is_deref) (holds u c s a);
+        only = λ c s n a u. only c s a (subst (λ j. InstructionHolds h c s j) is_deref u);
+        sets = λ u. subst (λ j. SetsMore g k (j ∷ [])) (sym is_deref) (record {
           atoms = more u;
           membranes = (let e = ap length same in omega (arith, e));
           parts = (let e = ap length same_parts in omega (arith, e));
           integers = (let e = ap length same_integers in omega (arith, e));
         });
-        order = λ u is v. (let w : InOrder (length g.atoms) (length g.membranes) (length g.parts) (length g.integers) (Deref (length g.atoms) p e ∷ is) = subst (λ j. InOrder (length g.atoms) (length g.membranes) (length g.parts) (length g.integers) (j ∷ is)) is_deref v in
-            subst (λ n. InOrder n (length k.membranes) (length k.parts) (length k.integers) is) (sym (more u))
-            (subst (λ ms. InOrder (length g.atoms + 1) (length ms) (length k.parts) (length k.integers) is) (sym same)
-            (subst (λ ps. InOrder (length g.atoms + 1) (length g.membranes) (length ps) (length k.integers) is) (sym same_parts)
-            (subst (λ zs. InOrder (length g.atoms + 1) (length g.membranes) (length g.parts) (length zs) is) (sym same_integers) w.1))));
+        order = λ u is v. (let w : HeadInOrder (length g.atoms) (length g.membranes) (length g.parts) (length g.integers) (Deref (length g.atoms) p e ∷ is) = subst (λ j. HeadInOrder (length g.atoms) (length g.membranes) (length g.parts) (length g.integers) (j ∷ is)) is_deref v in
+            subst (λ n. HeadInOrder n (length k.membranes) (length k.parts) (length k.integers) is) (sym (more u))
+            (subst (λ ms. HeadInOrder (length g.atoms + 1) (length ms) (length k.parts) (length k.integers) is) (sym same)
+            (subst (λ ps. HeadInOrder (length g.atoms + 1) (length g.membranes) (length ps) (length k.integers) is) (sym same_parts)
+            (subst (λ zs. HeadInOrder (length g.atoms + 1) (length g.membranes) (length g.parts) (length zs) is) (sym same_integers) w.1))));
       }
 
   -- What is passed of code, with the registers g0 at first and g now: the rest decides.
   pub record Passed (g0 g : SetRegisters A M) (code0 code : List Instr) : Type 0 where
-    pub held : AreHeld atom membrane h g
+    pub held : AreHeldWhole atom membrane h g
     pub extends : Extends g0 g
-    pub order : InOrder (length g.atoms) (length g.membranes) (length g.parts) (length g.integers) code
-    pub back : (c : ℕ) (s : Registers) → SetsAll c g0 code0 → Agrees atom membrane g s → AllHold h c s code → AllHold h c s code0
-    pub on : (c : ℕ) (s : Registers) → SetsAll c g0 code0 → Agrees atom membrane g0 s → AllHold h c s code0 → Agrees atom membrane g s × AllHold h c s code
+    pub order : HeadInOrder (length g.atoms) (length g.membranes) (length g.parts) (length g.integers) code
+    pub back : (c : ℕ) (s : HeadRegisters) → SetsAll c g0 code0 → Agrees atom membrane g s → AllHold h c s code → AllHold h c s code0
+    pub on : (c : ℕ) (s : HeadRegisters) → SetsAll c g0 code0 → Agrees atom membrane g0 s → AllHold h c s code0 → Agrees atom membrane g s × AllHold h c s code
     pub count : length g0.atoms + atoms_set code0 ≡ length g.atoms + atoms_set code
-    pub same : (s : Registers) → choices h s code0 ≡ choices h s code
-    pub sets : (k : SetRegisters A M) → Sets g k code → Sets g0 k code0
+    pub same : (s : HeadRegisters) → choices h s code0 ≡ choices h s code
+    pub sets : (k : SetRegisters A M) → SetsMore g k code → SetsMore g0 k code0
 
   get_take : {X : Type 0} (n k : ℕ) (x : X) (xs : List X) → slice_get (take n xs) k ≡ Some x → slice_get xs k ≡ Some x
   get_take zero k x xs e = absurd (cc)
@@ -217,7 +214,7 @@ module _ {A M : Type 0} (atom : A → ℕ) (membrane : M → ℕ) (h : Heap) whe
   get_take (suc n) zero x (y ∷ xs) e = e
   get_take (suc n) (suc k) x (y ∷ xs) e = get_take n k x xs e
 
-  pub agrees_before : (g k : SetRegisters A M) (s : Registers) → Extends g k → Agrees atom membrane k s → Agrees atom membrane g s
+  pub agrees_before : (g k : SetRegisters A M) (s : HeadRegisters) → Extends g k → Agrees atom membrane k s → Agrees atom membrane g s
   agrees_before g k s e a = record {
     atoms = λ i x t. a.atoms i x (get_take (length g.atoms) i x k.atoms (subst (λ xs. slice_get xs i ≡ Some x) (sym e.atoms) t));
     membranes = λ i x t. a.membranes i x (get_take (length g.membranes) i x k.membranes (subst (λ xs. slice_get xs i ≡ Some x) (sym e.membranes) t));
@@ -284,7 +281,7 @@ module _ {A M : Type 0} (atom : A → ℕ) (membrane : M → ℕ) (h : Heap) whe
     sets = λ u. p.sets g (record { atoms = omega arith; membranes = omega arith; parts = omega arith; integers = omega arith });
     found = λ u. record {
       holds = λ c s m a. p.back c s m a tt;
-      first = λ c s t m a b v. subst (λ cs. NotAfter cs (choices h t code0)) (sym (p.same s)) tt;
+      first = λ c s t m a b v. subst (λ cs. ListNotAfter cs (choices h t code0)) (sym (p.same s)) tt;
     };
     none = λ u. absurd (cc);
   }
@@ -297,7 +294,7 @@ module _ {A M : Type 0} (atom : A → ℕ) (membrane : M → ℕ) (h : Heap) whe
     found = λ u. record {
       holds = λ c s m a. p.back c s m (agrees_before g k s t.extends a) ((t.found u).holds c s (m ∙ p.count) a);
       first = λ c s v m a b w. (let z = p.on c v m b w in
-          subst (λ cs. NotAfter cs (choices h v code0)) (sym (p.same s)) (subst (λ cs. NotAfter (choices h s code) cs) (sym (p.same v)) ((t.found u).first c s v (m ∙ p.count) a z.0 z.1)));
+          subst (λ cs. ListNotAfter cs (choices h v code0)) (sym (p.same s)) (subst (λ cs. ListNotAfter (choices h s code) cs) (sym (p.same v)) ((t.found u).first c s v (m ∙ p.count) a z.0 z.1)));
     };
     none = λ u c s m a v. (let w = p.on c s m a v in t.none u c s (m ∙ p.count) w.0 w.1);
   }

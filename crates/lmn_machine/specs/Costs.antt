@@ -1,33 +1,33 @@
 -- How many items the commit with the code of a body leaves.
 use Rattle.std.specs.Prelude.{ℕ, ◌≡◌, ◌<◌, ◌+◌, List, [], ◌∷◌, length}
 use Rattle.lmn_heap.specs.Heap.{Heap, rules_in}
-use Rattle.lmn_heap.specs.Sound.{Forest, IsTree, flat, items_in}
+use Rattle.lmn_heap.specs.Sound.{Forest, IsTree, flat, item_count_in}
 use Rattle.lmn_ground.specs.Spread.{AreAtoms}
 use Rattle.lmn_instr.specs.declared.instr.Instr.{Instr}
 use Rattle.lmn_instr.specs.declared.instr.Instr.TheVariants.{RemoveAtom, RemovePart, RemoveMem, NewAtom, NewInt, NewMem, CopyGround, LoadRule, CopyRules}
-use Rattle.lmn_instr.specs.Running.{Registers}
+use Rattle.lmn_instr.specs.Running.{HeadRegisters}
 
 -- the number of atoms of the part that is entered at a port
 abbrev pub IsSize : Heap → ℕ × ℕ → ℕ → Type 0
 IsSize h root n = (xs : List ℕ) × AreAtoms h root xs × (n ≡ length xs)
 
 -- How many items an instruction of a body adds to those of a heap: atoms, membranes, and rules in membranes.
-abbrev pub Adds : Heap → Registers → Instr → ℕ → Type 0
-Adds h r (NewAtom a m f) n = n ≡ 1
-Adds h r (NewInt a m v) n = n ≡ 1
-Adds h r (NewMem m k) n = n ≡ 1
-Adds h r (CopyGround c m g) n = IsSize h (r.images.part g) n
-Adds h r (LoadRule m k) n = n ≡ 1
-Adds h r (CopyRules m k) n = n ≡ length (rules_in h (r.images.membrane m))
-Adds h r _ n = n ≡ 0
+abbrev pub AddsItems : Heap → HeadRegisters → Instr → ℕ → Type 0
+AddsItems h r (NewAtom a m f) n = n ≡ 1
+AddsItems h r (NewInt a m v) n = n ≡ 1
+AddsItems h r (NewMem m k) n = n ≡ 1
+AddsItems h r (CopyGround c m g) n = IsSize h (r.images.part g) n
+AddsItems h r (LoadRule m k) n = n ≡ 1
+AddsItems h r (CopyRules m k) n = n ≡ length (rules_in h (r.images.membrane m))
+AddsItems h r _ n = n ≡ 0
 
 -- How many it takes from them. A membrane goes with its rules; its atoms and membranes are moved or are taken by
 -- instructions of their own.
-abbrev pub Takes : Heap → Registers → Instr → ℕ → Type 0
-Takes h r (RemoveAtom a) n = n ≡ 1
-Takes h r (RemovePart g) n = IsSize h (r.images.part g) n
-Takes h r (RemoveMem m) n = n ≡ 1 + length (rules_in h (r.images.membrane m))
-Takes h r _ n = n ≡ 0
+abbrev pub TakesItems : Heap → HeadRegisters → Instr → ℕ → Type 0
+TakesItems h r (RemoveAtom a) n = n ≡ 1
+TakesItems h r (RemovePart g) n = IsSize h (r.images.part g) n
+TakesItems h r (RemoveMem m) n = n ≡ 1 + length (rules_in h (r.images.membrane m))
+TakesItems h r _ n = n ≡ 0
 
 -- the sum over all instructions of some code
 abbrev pub InAll : (Instr → ℕ → Type 0) → List Instr → ℕ → Type 0
@@ -35,12 +35,12 @@ InAll P [] n = n ≡ 0
 InAll P (i ∷ is) n = (a b : ℕ) × (P i a × InAll P is b × (n ≡ a + b))
 
 -- A commit with the code of a body leaves n items, the root not counted.
-pub record Leaves (h : Heap) (r : Registers) (body : List Instr) (n : ℕ) : Type 0 where
+pub record Leaves (h : Heap) (r : HeadRegisters) (body : List Instr) (n : ℕ) : Type 0 where
   pub added : ℕ
   pub taken : ℕ
-  pub adds : InAll (Adds h r) body added
-  pub takes : InAll (Takes h r) body taken
-  pub count : (f : Forest) → IsTree h f → n + taken + 1 ≡ items_in h (flat f) + added
+  pub adds : InAll (AddsItems h r) body added
+  pub takes : InAll (TakesItems h r) body taken
+  pub count : (f : Forest) → IsTree h f → n + taken + 1 ≡ item_count_in h (flat f) + added
 
 -- What is read to tell this is set: m registers of membranes and g of typed contexts are.
 abbrev pub IsTold : ℕ → ℕ → Instr → Type 0

@@ -2,16 +2,17 @@
 use Rattle.std.specs.Prelude.{ℕ, ℤ, Bool, true, false, ◌≡◌, ◌<◌, ◌+◌, List, [], ◌∷◌, ◌++◌, Option, Some, None, length, slice_get, take}
 use Rattle.std.specs.List.{AllByRecursion}
 use Rattle.lmn_base.specs.Graphs.{Reached, StandsWhole}
-use Rattle.lmn_heap.specs.Heap.{Heap, IsAtom, IsMem, port_id, home_of, link_of, mark_of, arity_of, marked}
+use Rattle.lmn_heap.specs.Heap.{Heap, IsAtom, IsMem, port_id, home_of, link_of, arity_of, marked}
 use Rattle.lmn_heap.specs.Graphs.{atom_map}
 use Rattle.lmn_instr.specs.declared.instr.Instr.{Instr}
 use Rattle.lmn_instr.specs.declared.instr.Instr.TheVariants.{FindAtom, Deref, Func, InMem, NeqAtom, Joined, AnyMem, NeqMem, NMems, NoRules, NotIn, IsInt, IsUnary, IsGround, NAtoms, EqGround, NeqGround, GetInt, Const, Add, Sub, Mul, Div, Mod, Lt, Le, Gt, Ge, Eq, Ne, Commit}
-use Rattle.lmn_instr.specs.Running.{Registers, Holds, AllHold, atoms_set, choices}
-use Rattle.lmn_solid.specs.Embeddings.{NotAfter}
-use Rattle.lmn_solid.specs.Guards.{IsUnary as IsUnaryPart}
+use Rattle.lmn_instr.specs.Running.{HeadRegisters, InstructionHolds, AllHold, atoms_set, choices}
+use Rattle.lmn_solid.specs.Embeddings.{ListNotAfter}
+use Rattle.lmn_solid.specs.Guards.{IsUnaryPart}
 use Rattle.lmn_registers.specs.Agreeing.{Agrees}
 use Rattle.lmn_registers.specs.declared.registers.SetRegisters.{SetRegisters}
 use Rattle.lmn_registers.specs.declared.stack.TheConstants.{ROOM}
+use Rattle.lmn_commit.specs.Preparing.{IsNext}
 
 -- none of these handles is of an atom
 pub record AreApart {A : Type 0} (atom : A → ℕ) (handles : List A) (n : ℕ) : Type 0 where
@@ -24,8 +25,8 @@ pub record IsHeldPart {A : Type 0} (atom : A → ℕ) (h : Heap) (handles : List
   pub whole : (m : ℕ) × StandsWhole (atom_map h) (port_id atom p) m
   pub apart : (b : ℕ) → Reached (atom_map h) (port_id atom p) b → AreApart atom handles b
 
--- the handles in the registers are of atoms, of membranes and of the roots of parts
-pub record AreHeld {A M : Type 0} (atom : A → ℕ) (membrane : M → ℕ) (h : Heap) (g : SetRegisters A M) : Type 0 where
+-- the handles in the registers are of atoms, of membranes and of the roots of parts that stand whole
+pub record AreHeldWhole {A M : Type 0} (atom : A → ℕ) (membrane : M → ℕ) (h : Heap) (g : SetRegisters A M) : Type 0 where
   pub atoms : (k : ℕ) (a : A) → slice_get g.atoms k ≡ Some a → IsAtom h (atom a)
   pub membranes : (k : ℕ) (m : M) → slice_get g.membranes k ≡ Some m → IsMem h (membrane m)
   pub parts : (k : ℕ) (p : A × ℕ) → slice_get g.parts k ≡ Some p → IsAtom h (atom p.0)
@@ -66,7 +67,7 @@ integers_set (Mod v w x ∷ is) = 1 + integers_set is
 integers_set (_ ∷ is) = integers_set is
 
 -- As many more registers are set as code sets.
-pub record Sets {A M : Type 0} (g k : SetRegisters A M) (code : List Instr) : Type 0 where
+pub record SetsMore {A M : Type 0} (g k : SetRegisters A M) (code : List Instr) : Type 0 where
   pub atoms : length k.atoms ≡ length g.atoms + atoms_set code
   pub membranes : length k.membranes ≡ length g.membranes + membranes_set code
   pub parts : length k.parts ≡ length g.parts + parts_set code
@@ -86,17 +87,17 @@ SetsAll c g code = c ≡ length g.atoms + atoms_set code
 -- Code succeeds with the registers that are set at last, and with any that agree with them; and whatever else agrees with
 -- those that were set at first chooses no earlier candidates.
 pub record Found {A M : Type 0} (atom : A → ℕ) (membrane : M → ℕ) (h : Heap) (g k : SetRegisters A M) (code : List Instr) : Type 0 where
-  pub holds : (c : ℕ) (s : Registers) → SetsAll c g code → Agrees atom membrane k s → AllHold h c s code
-  pub first : (c : ℕ) (s t : Registers) → SetsAll c g code → Agrees atom membrane k s → Agrees atom membrane g t → AllHold h c t code → NotAfter (choices h s code) (choices h t code)
+  pub holds : (c : ℕ) (s : HeadRegisters) → SetsAll c g code → Agrees atom membrane k s → AllHold h c s code
+  pub first : (c : ℕ) (s t : HeadRegisters) → SetsAll c g code → Agrees atom membrane k s → Agrees atom membrane g t → AllHold h c t code → ListNotAfter (choices h s code) (choices h t code)
 
 -- What a search answers, that began with the registers g and ends with k. Where it is false, the code succeeds with no
 -- registers that agree with g.
 pub record Searched {A M : Type 0} (atom : A → ℕ) (membrane : M → ℕ) (h : Heap) (g k : SetRegisters A M) (result : Bool) (code : List Instr) : Type 0 where
-  pub held : AreHeld atom membrane h k
+  pub held : AreHeldWhole atom membrane h k
   pub extends : Extends g k
-  pub sets : result ≡ true → Sets g k code
+  pub sets : result ≡ true → SetsMore g k code
   pub found : result ≡ true → Found atom membrane h g k code
-  pub none : result ≡ false → (c : ℕ) (s : Registers) → SetsAll c g code → Agrees atom membrane g s → AllHold h c s code → ⊥
+  pub none : result ≡ false → (c : ℕ) (s : HeadRegisters) → SetsAll c g code → Agrees atom membrane g s → AllHold h c s code → ⊥
 
 -- two integers that are set are compared, or the match is found
 abbrev pub Compares : ℕ → Instr → Type 0
@@ -110,43 +111,39 @@ Compares v Commit = Unit {0}
 Compares v _ = ⊥
 
 -- Tests of registers that are set, where a atoms, m membranes and v integers are, but for those that look at typed contexts.
-abbrev pub Reads : ℕ → ℕ → ℕ → Instr → Type 0
-Reads a m v (Func x f) = x < a
-Reads a m v (InMem x y) = (x < a) × (y < m)
-Reads a m v (NeqAtom x y) = (x < a) × (y < a)
-Reads a m v (Joined p q) = (p.atom < a) × (q.atom < a)
-Reads a m v (NeqMem x y) = (x < m) × (y < m)
-Reads a m v (NMems x n) = x < m
-Reads a m v (NoRules x) = x < m
-Reads a m v (NotIn p x) = (p.atom < a) × (x < m)
-Reads a m v i = Compares v i
-
--- x is the number of the next register, and there is room for it
-abbrev pub IsNext : ℕ → ℕ → Type 0
-IsNext x v = (x ≡ v) × (v < ROOM)
+abbrev pub TestsSetRegisters : ℕ → ℕ → ℕ → Instr → Type 0
+TestsSetRegisters a m v (Func x f) = x < a
+TestsSetRegisters a m v (InMem x y) = (x < a) × (y < m)
+TestsSetRegisters a m v (NeqAtom x y) = (x < a) × (y < a)
+TestsSetRegisters a m v (Joined p q) = (p.atom < a) × (q.atom < a)
+TestsSetRegisters a m v (NeqMem x y) = (x < m) × (y < m)
+TestsSetRegisters a m v (NMems x n) = x < m
+TestsSetRegisters a m v (NoRules x) = x < m
+TestsSetRegisters a m v (NotIn p x) = (p.atom < a) × (x < m)
+TestsSetRegisters a m v i = Compares v i
 
 -- Head code that sets registers in the order of their numbers, reads none that isn't set, and has no more than there is
 -- room for. So far a atoms, m membranes, g typed contexts and v integers are set. Where a typed context is looked for, all
 -- atoms are set.
-abbrev pub InOrder : ℕ → ℕ → ℕ → ℕ → List Instr → Type 0
-InOrder a m g v [] = Unit {0}
-InOrder a m g v (FindAtom x y f ∷ is) = ((x ≡ a) × (y < m) × (a < ROOM) × (g ≡ 0)) × InOrder (a + 1) m g v is
-InOrder a m g v (Deref x p k ∷ is) = ((x ≡ a) × (p.atom < a) × (a < ROOM) × (g ≡ 0)) × InOrder (a + 1) m g v is
-InOrder a m g v (AnyMem x y ∷ is) = ((x ≡ m) × (y < m) × (m < ROOM)) × InOrder a (m + 1) g v is
-InOrder a m g v (IsInt x p y ∷ is) = ((IsNext x g × (p.atom < a) × (y < m)) × (atoms_set is ≡ 0)) × InOrder a m (g + 1) v is
-InOrder a m g v (IsUnary x p y ∷ is) = ((IsNext x g × (p.atom < a) × (y < m)) × (atoms_set is ≡ 0)) × InOrder a m (g + 1) v is
-InOrder a m g v (IsGround x p y ∷ is) = ((IsNext x g × (p.atom < a) × (y < m)) × (atoms_set is ≡ 0)) × InOrder a m (g + 1) v is
-InOrder a m g v (NAtoms x n gs ∷ is) = ((x < m) × AllByRecursion (λ k. k < g) gs) × InOrder a m g v is
-InOrder a m g v (EqGround x y ∷ is) = ((x < g) × (y < g)) × InOrder a m g v is
-InOrder a m g v (NeqGround x y ∷ is) = ((x < g) × (y < g)) × InOrder a m g v is
-InOrder a m g v (GetInt x y ∷ is) = (IsNext x v × (y < g)) × InOrder a m g (v + 1) is
-InOrder a m g v (Const x z ∷ is) = IsNext x v × InOrder a m g (v + 1) is
-InOrder a m g v (Add x y z ∷ is) = (IsNext x v × (y < v) × (z < v)) × InOrder a m g (v + 1) is
-InOrder a m g v (Sub x y z ∷ is) = (IsNext x v × (y < v) × (z < v)) × InOrder a m g (v + 1) is
-InOrder a m g v (Mul x y z ∷ is) = (IsNext x v × (y < v) × (z < v)) × InOrder a m g (v + 1) is
-InOrder a m g v (Div x y z ∷ is) = (IsNext x v × (y < v) × (z < v)) × InOrder a m g (v + 1) is
-InOrder a m g v (Mod x y z ∷ is) = (IsNext x v × (y < v) × (z < v)) × InOrder a m g (v + 1) is
-InOrder a m g v (i ∷ is) = Reads a m v i × InOrder a m g v is
+abbrev pub HeadInOrder : ℕ → ℕ → ℕ → ℕ → List Instr → Type 0
+HeadInOrder a m g v [] = Unit {0}
+HeadInOrder a m g v (FindAtom x y f ∷ is) = ((x ≡ a) × (y < m) × (a < ROOM) × (g ≡ 0)) × HeadInOrder (a + 1) m g v is
+HeadInOrder a m g v (Deref x p k ∷ is) = ((x ≡ a) × (p.atom < a) × (a < ROOM) × (g ≡ 0)) × HeadInOrder (a + 1) m g v is
+HeadInOrder a m g v (AnyMem x y ∷ is) = ((x ≡ m) × (y < m) × (m < ROOM)) × HeadInOrder a (m + 1) g v is
+HeadInOrder a m g v (IsInt x p y ∷ is) = ((IsNext x g × (p.atom < a) × (y < m)) × (atoms_set is ≡ 0)) × HeadInOrder a m (g + 1) v is
+HeadInOrder a m g v (IsUnary x p y ∷ is) = ((IsNext x g × (p.atom < a) × (y < m)) × (atoms_set is ≡ 0)) × HeadInOrder a m (g + 1) v is
+HeadInOrder a m g v (IsGround x p y ∷ is) = ((IsNext x g × (p.atom < a) × (y < m)) × (atoms_set is ≡ 0)) × HeadInOrder a m (g + 1) v is
+HeadInOrder a m g v (NAtoms x n gs ∷ is) = ((x < m) × AllByRecursion (λ k. k < g) gs) × HeadInOrder a m g v is
+HeadInOrder a m g v (EqGround x y ∷ is) = ((x < g) × (y < g)) × HeadInOrder a m g v is
+HeadInOrder a m g v (NeqGround x y ∷ is) = ((x < g) × (y < g)) × HeadInOrder a m g v is
+HeadInOrder a m g v (GetInt x y ∷ is) = (IsNext x v × (y < g)) × HeadInOrder a m g (v + 1) is
+HeadInOrder a m g v (Const x z ∷ is) = IsNext x v × HeadInOrder a m g (v + 1) is
+HeadInOrder a m g v (Add x y z ∷ is) = (IsNext x v × (y < v) × (z < v)) × HeadInOrder a m g (v + 1) is
+HeadInOrder a m g v (Sub x y z ∷ is) = (IsNext x v × (y < v) × (z < v)) × HeadInOrder a m g (v + 1) is
+HeadInOrder a m g v (Mul x y z ∷ is) = (IsNext x v × (y < v) × (z < v)) × HeadInOrder a m g (v + 1) is
+HeadInOrder a m g v (Div x y z ∷ is) = (IsNext x v × (y < v) × (z < v)) × HeadInOrder a m g (v + 1) is
+HeadInOrder a m g v (Mod x y z ∷ is) = (IsNext x v × (y < v) × (z < v)) × HeadInOrder a m g (v + 1) is
+HeadInOrder a m g v (i ∷ is) = TestsSetRegisters a m v i × HeadInOrder a m g v is
 
 -- neither FINDATOM nor ANYMEM
 abbrev pub ChoosesNone : Instr → Type 0
@@ -190,10 +187,6 @@ pub record IsLone {A : Type 0} (atom : A → ℕ) (h : Heap) (handles : List A) 
   pub home : home_of h n ≡ Some m
   pub apart : AreApart atom handles n
 
--- every mark of every atom is 0
-abbrev pub Unmarked : Heap → Type 0
-Unmarked h = (a i : ℕ) → mark_of h a i ≡ 0
-
 -- the own marks of these atoms are set, one after the other
 abbrev pub own_marked : ℕ → List ℕ → Heap → Heap
 own_marked v [] h = h
@@ -207,10 +200,10 @@ pub record IsWholeApart {A : Type 0} (atom : A → ℕ) (h : Heap) (handles : Li
 -- What one instruction without a choice does: it is true exactly where the instruction holds of registers that agree, and
 -- then they agree with those that it has set.
 pub record Stepped {A M : Type 0} (atom : A → ℕ) (membrane : M → ℕ) (h : Heap) (g k : SetRegisters A M) (result : Bool) (i : Instr) : Type 0 where
-  pub held : AreHeld atom membrane h k
+  pub held : AreHeldWhole atom membrane h k
   pub extends : Extends g k
-  pub holds : result ≡ true → (c : ℕ) (s : Registers) → AllSet c (length g.atoms) i → Agrees atom membrane k s → Holds h c s i
-  pub only : (c : ℕ) (s : Registers) → AllSet c (length g.atoms) i → Agrees atom membrane g s → Holds h c s i → (result ≡ true) × Agrees atom membrane k s
-  pub sets : result ≡ true → Sets g k (i ∷ [])
-  pub order : result ≡ true → (is : List Instr) → InOrder (length g.atoms) (length g.membranes) (length g.parts) (length g.integers) (i ∷ is) →
-      InOrder (length k.atoms) (length k.membranes) (length k.parts) (length k.integers) is
+  pub holds : result ≡ true → (c : ℕ) (s : HeadRegisters) → AllSet c (length g.atoms) i → Agrees atom membrane k s → InstructionHolds h c s i
+  pub only : (c : ℕ) (s : HeadRegisters) → AllSet c (length g.atoms) i → Agrees atom membrane g s → InstructionHolds h c s i → (result ≡ true) × Agrees atom membrane k s
+  pub sets : result ≡ true → SetsMore g k (i ∷ [])
+  pub order : result ≡ true → (is : List Instr) → HeadInOrder (length g.atoms) (length g.membranes) (length g.parts) (length g.integers) (i ∷ is) →
+      HeadInOrder (length k.atoms) (length k.membranes) (length k.parts) (length k.integers) is

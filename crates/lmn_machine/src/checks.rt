@@ -2,7 +2,7 @@ ghost use Rattle.std.specs.Prelude.{◌≡◌, ◌≢◌, ◌<◌, ◌↔◌, �
 ghost use Rattle.std.specs.Option.{option_map};
 ghost use Rattle.lmn_heap.specs.Heap.{In, IsAtom, IsMem, functor_of, link_of, arity_of, port_id, atoms_in, mems_in, rules_in};
 ghost use Rattle.lmn_heap.specs.Sound.{Valid};
-ghost use Rattle.lmn_solid.specs.Embeddings.{IsWithin};
+ghost use Rattle.lmn_solid.specs.Embeddings.{StandsWithin};
 
 use lmn_base::Functor;
 use lmn_store::LinkStore;
@@ -101,7 +101,7 @@ pub fn is_within<S: LinkStore>(store: &S, a: S::Atom, m: S::Mem) -> bool
     requires valid { Valid (S.heap store.now) }
     requires atom { IsAtom (S.heap store.now) (S.atom_id a) }
     requires membrane { IsMem (S.heap store.now) (S.mem_id m) }
-    ensures { IsTrue result ↔ IsWithin (S.heap store.now) (S.atom_id a) (S.mem_id m) }
+    ensures { IsTrue result ↔ StandsWithin (S.heap store.now) (S.atom_id a) (S.mem_id m) }
 {
     // Fewer membranes than that are round an atom, so the loop ends at a return.
     let _root = store.root();
@@ -125,7 +125,7 @@ pub fn is_outside<S: LinkStore>(store: &S, a: S::Atom, port: u8, m: S::Mem) -> b
     requires valid { Valid (S.heap store.now) }
     requires atom { IsAtom (S.heap store.now) (S.atom_id a) }
     requires membrane { IsMem (S.heap store.now) (S.mem_id m) }
-    ensures { IsTrue result ↔ ((q : ℕ × ℕ) → link_of (S.heap store.now) (S.atom_id a) port ≡ Some q → IsWithin (S.heap store.now) q.0 (S.mem_id m) → ⊥) }
+    ensures { IsTrue result ↔ ((q : ℕ × ℕ) → link_of (S.heap store.now) (S.atom_id a) port ≡ Some q → StandsWithin (S.heap store.now) q.0 (S.mem_id m) → ⊥) }
 {
     match end(store, a, port) {
         Some((b, _)) => !is_within(store, b, m),

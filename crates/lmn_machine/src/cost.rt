@@ -1,12 +1,12 @@
 //! How many items a commit leaves.
 ghost use Rattle.std.specs.Prelude.{◌≡◌, ◌<◌, ◌≤◌, ◌+◌, ◌-◌, ◌^◌, ℕ, length, min};
 ghost use Rattle.std.specs.List.{AllByRecursion};
-ghost use Rattle.lmn_heap.specs.Heap.{rules_in};
+ghost use Rattle.lmn_heap.specs.Heap.{rules_in, Unmarked};
 ghost use Rattle.lmn_heap.specs.Sound.{Valid};
-ghost use Rattle.lmn_instr.specs.Running.{Registers};
+ghost use Rattle.lmn_instr.specs.Running.{HeadRegisters};
 ghost use Rattle.lmn_registers.specs.Agreeing.{Agrees};
-ghost use Rattle.lmn_machine.specs.Searching.{AreHeld, Unmarked};
-ghost use Rattle.lmn_machine.specs.Costs.{Adds, IsSize, IsTold, Leaves, Takes};
+ghost use Rattle.lmn_machine.specs.Searching.{AreHeldWhole};
+ghost use Rattle.lmn_machine.specs.Costs.{AddsItems, IsSize, IsTold, Leaves, TakesItems};
 
 use crate::machine::Machine;
 use lmn_ground::size_of;
@@ -17,10 +17,10 @@ use lmn_store::LinkStore;
 /// The number of atoms of a typed context that was found.
 fn part_size<S: LinkStore>(store: &mut S, set: &SetRegisters<S::Atom, S::Mem>, part: u16) -> u64
     requires unmarked { Unmarked (S.heap store.old) }
-    requires held { AreHeld S.atom_id S.mem_id (S.heap store.old) set.now }
+    requires held { AreHeldWhole S.atom_id S.mem_id (S.heap store.old) set.now }
     requires part { part < length set.now.parts }
     ensures same { S.heap store.new ≡ S.heap store.old }
-    ensures size { (s : Registers) → Agrees S.atom_id S.mem_id set.now s → IsSize (S.heap store.old) (s.images.part part) result }
+    ensures size { (s : HeadRegisters) → Agrees S.atom_id S.mem_id set.now s → IsSize (S.heap store.old) (s.images.part part) result }
 {
     let _root = store.root();
     let root = set.parts.at(part as usize);
@@ -29,9 +29,9 @@ fn part_size<S: LinkStore>(store: &mut S, set: &SetRegisters<S::Atom, S::Mem>, p
 
 /// The number of rules of a membrane that was found.
 fn rules_of<S: LinkStore>(store: &S, set: &SetRegisters<S::Atom, S::Mem>, membrane: u16) -> u64
-    requires held { AreHeld S.atom_id S.mem_id (S.heap store.now) set.now }
+    requires held { AreHeldWhole S.atom_id S.mem_id (S.heap store.now) set.now }
     requires membrane { membrane < length set.now.membranes }
-    ensures { (s : Registers) → Agrees S.atom_id S.mem_id set.now s → result ≡ length (rules_in (S.heap store.now) (s.images.membrane membrane)) }
+    ensures { (s : HeadRegisters) → Agrees S.atom_id S.mem_id set.now s → result ≡ length (rules_in (S.heap store.now) (s.images.membrane membrane)) }
 {
     let _root = store.root();
     store.rules(set.membranes.at(membrane as usize))
@@ -40,10 +40,10 @@ fn rules_of<S: LinkStore>(store: &S, set: &SetRegisters<S::Atom, S::Mem>, membra
 /// How many items an instruction of a body adds.
 fn added<S: LinkStore>(store: &mut S, set: &SetRegisters<S::Atom, S::Mem>, instr: &Instr) -> u64
     requires unmarked { Unmarked (S.heap store.old) }
-    requires held { AreHeld S.atom_id S.mem_id (S.heap store.old) set.now }
+    requires held { AreHeldWhole S.atom_id S.mem_id (S.heap store.old) set.now }
     requires told { IsTold (length set.now.membranes) (length set.now.parts) instr.now }
     ensures same { S.heap store.new ≡ S.heap store.old }
-    ensures adds { (s : Registers) → Agrees S.atom_id S.mem_id set.now s → Adds (S.heap store.old) s instr.now result }
+    ensures adds { (s : HeadRegisters) → Agrees S.atom_id S.mem_id set.now s → AddsItems (S.heap store.old) s instr.now result }
 {
     match instr {
         Instr::NewAtom { .. } => 1,
@@ -59,11 +59,11 @@ fn added<S: LinkStore>(store: &mut S, set: &SetRegisters<S::Atom, S::Mem>, instr
 /// How many items an instruction of a body takes.
 fn taken<S: LinkStore>(store: &mut S, set: &SetRegisters<S::Atom, S::Mem>, instr: &Instr) -> u128
     requires unmarked { Unmarked (S.heap store.old) }
-    requires held { AreHeld S.atom_id S.mem_id (S.heap store.old) set.now }
+    requires held { AreHeldWhole S.atom_id S.mem_id (S.heap store.old) set.now }
     requires told { IsTold (length set.now.membranes) (length set.now.parts) instr.now }
     ensures same { S.heap store.new ≡ S.heap store.old }
     ensures few { result ≤ 2 ^ 64 }
-    ensures takes { (s : Registers) → Agrees S.atom_id S.mem_id set.now s → Takes (S.heap store.old) s instr.now result }
+    ensures takes { (s : HeadRegisters) → Agrees S.atom_id S.mem_id set.now s → TakesItems (S.heap store.old) s instr.now result }
 {
     match instr {
         Instr::RemoveAtom { .. } => 1,
@@ -81,10 +81,10 @@ fn items_left<S: LinkStore>(
 ) -> u64
     requires valid { Valid (S.heap store.old) }
     requires unmarked { Unmarked (S.heap store.old) }
-    requires held { AreHeld S.atom_id S.mem_id (S.heap store.old) set.now }
+    requires held { AreHeldWhole S.atom_id S.mem_id (S.heap store.old) set.now }
     requires told { AllByRecursion (IsTold (length set.now.membranes) (length set.now.parts)) body.now }
     ensures same { S.heap store.new ≡ S.heap store.old }
-    ensures left { (s : Registers) (n : ℕ) → Agrees S.atom_id S.mem_id set.now s → Leaves (S.heap store.old) s body.now n → result ≡ min n (2 ^ 64 - 1) }
+    ensures left { (s : HeadRegisters) (n : ℕ) → Agrees S.atom_id S.mem_id set.now s → Leaves (S.heap store.old) s body.now n → result ≡ min n (2 ^ 64 - 1) }
 {
     let mut all_added: u128 = 0;
     let mut all_taken: u128 = 0;
@@ -114,11 +114,11 @@ impl<S: LinkStore> Machine<S> {
     pub fn cost(&mut self, code: &Code) -> u64
         requires valid { Valid (S.heap self.old.store) }
         requires unmarked { Unmarked (S.heap self.old.store) }
-        requires held { AreHeld S.atom_id S.mem_id (S.heap self.old.store) self.old.set }
+        requires held { AreHeldWhole S.atom_id S.mem_id (S.heap self.old.store) self.old.set }
         requires told { AllByRecursion (IsTold (length self.old.set.membranes) (length self.old.set.parts)) code.now.body }
         ensures same { S.heap self.new.store ≡ S.heap self.old.store }
         ensures registers { self.new.set ≡ self.old.set }
-        ensures left { (s : Registers) (n : ℕ) → Agrees S.atom_id S.mem_id self.old.set s → Leaves (S.heap self.old.store) s code.now.body n → result ≡ min n (2 ^ 64 - 1) }
+        ensures left { (s : HeadRegisters) (n : ℕ) → Agrees S.atom_id S.mem_id self.old.set s → Leaves (S.heap self.old.store) s code.now.body n → result ≡ min n (2 ^ 64 - 1) }
     {
         items_left(&mut self.store, &self.set, code.body.as_slice())
     }

@@ -1,9 +1,9 @@
 ghost use Rattle.std.specs.Prelude.{◌≡◌, [], IsTrue, IsFalse};
-ghost use Rattle.lmn_heap.specs.Heap.{IsMem};
+ghost use Rattle.lmn_heap.specs.Heap.{IsMem, Unmarked};
 ghost use Rattle.lmn_heap.specs.Sound.{Valid};
-ghost use Rattle.lmn_instr.specs.Running.{Registers, Succeeds, IsFirst};
+ghost use Rattle.lmn_instr.specs.Running.{HeadRegisters, Succeeds, IsFirstSuccess};
 ghost use Rattle.lmn_registers.specs.Agreeing.{Agrees};
-ghost use Rattle.lmn_machine.specs.Searching.{AreAllSet, AreHeld, InOrder, Unmarked};
+ghost use Rattle.lmn_machine.specs.Searching.{AreAllSet, AreHeldWhole, HeadInOrder};
 
 use crate::search;
 use lmn_instr::Instr;
@@ -20,13 +20,13 @@ pub fn find<S: LinkStore>(
     requires valid { Valid (S.heap store.old) }
     requires unmarked { Unmarked (S.heap store.old) }
     requires membrane { IsMem (S.heap store.old) (S.mem_id membrane) }
-    requires order { InOrder 0 1 0 0 code.now }
+    requires order { HeadInOrder 0 1 0 0 code.now }
     ensures same { S.heap store.new ≡ S.heap store.old }
-    ensures held { AreHeld S.atom_id S.mem_id (S.heap store.old) set.new }
+    ensures held { AreHeldWhole S.atom_id S.mem_id (S.heap store.old) set.new }
     ensures set { IsTrue result → AreAllSet set.new code.now }
     ensures copies { set.new.copies ≡ [] }
-    ensures found { IsTrue result → (r : Registers) → Agrees S.atom_id S.mem_id set.new r → IsFirst (S.heap store.old) code.now (S.mem_id membrane) r }
-    ensures none { IsFalse result → (r : Registers) → Succeeds (S.heap store.old) code.now (S.mem_id membrane) r → ⊥ }
+    ensures found { IsTrue result → (r : HeadRegisters) → Agrees S.atom_id S.mem_id set.new r → IsFirstSuccess (S.heap store.old) code.now (S.mem_id membrane) r }
+    ensures none { IsFalse result → (r : HeadRegisters) → Succeeds (S.heap store.old) code.now (S.mem_id membrane) r → ⊥ }
 {
     set.clear();
     set.membranes.push(membrane);

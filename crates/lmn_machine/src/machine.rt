@@ -1,14 +1,14 @@
 ghost use Rattle.std.specs.Prelude.{◌≡◌, ◌+◌, [], length, IfOk, OnErr, OnOk, IsTrue, IsFalse};
-ghost use Rattle.lmn_heap.specs.Heap.{IsMem};
+ghost use Rattle.lmn_heap.specs.Heap.{IsMem, Unmarked};
 ghost use Rattle.lmn_heap.specs.Sound.{Valid};
-ghost use Rattle.lmn_instr.specs.Running.{Registers, Succeeds, IsFirst};
+ghost use Rattle.lmn_instr.specs.Running.{HeadRegisters, Succeeds, IsFirstSuccess};
 ghost use Rattle.lmn_body.specs.Running.{Registers as BodyRegisters, RunsBody};
 ghost use Rattle.lmn_body.specs.Stopping.{SameButSpares};
-ghost use Rattle.lmn_commit.specs.Registers.{Agrees as BodyAgrees, HasCopies};
-ghost use Rattle.lmn_commit.specs.Preparing.{InOrder as BodyInOrder, Prepared};
+ghost use Rattle.lmn_commit.specs.Registers.{AgreesWithCopies as BodyAgrees, HasCopies};
+ghost use Rattle.lmn_commit.specs.Preparing.{BodyInOrder, Prepared};
 ghost use Rattle.lmn_commit.specs.Matched.{IsPrepared};
 ghost use Rattle.lmn_registers.specs.Agreeing.{Agrees};
-ghost use Rattle.lmn_machine.specs.Searching.{AreAllSet, AreHeld, InOrder, Unmarked};
+ghost use Rattle.lmn_machine.specs.Searching.{AreAllSet, AreHeldWhole, HeadInOrder};
 ghost use Rattle.std.specs.Borrow.{sem};
 ghost use Rattle.lmn_machine.specs.Lending.{lends_store};
 
@@ -68,14 +68,14 @@ impl<S: LinkStore> Machine<S> {
         requires valid { Valid (S.heap self.old.store) }
         requires unmarked { Unmarked (S.heap self.old.store) }
         requires membrane { IsMem (S.heap self.old.store) (S.mem_id membrane) }
-        requires order { InOrder 0 1 0 0 code.now.head }
+        requires order { HeadInOrder 0 1 0 0 code.now.head }
         ensures steps { steps.new ≡ steps.old + 1 }
         ensures same { S.heap self.new.store ≡ S.heap self.old.store }
-        ensures held { AreHeld S.atom_id S.mem_id (S.heap self.old.store) self.new.set }
+        ensures held { AreHeldWhole S.atom_id S.mem_id (S.heap self.old.store) self.new.set }
         ensures set { IsTrue result → AreAllSet self.new.set code.now.head }
         ensures copies { self.new.set.copies ≡ [] }
-        ensures found { IsTrue result → (r : Registers) → Agrees S.atom_id S.mem_id self.new.set r → IsFirst (S.heap self.old.store) code.now.head (S.mem_id membrane) r }
-        ensures none { IsFalse result → (r : Registers) → Succeeds (S.heap self.old.store) code.now.head (S.mem_id membrane) r → ⊥ }
+        ensures found { IsTrue result → (r : HeadRegisters) → Agrees S.atom_id S.mem_id self.new.set r → IsFirstSuccess (S.heap self.old.store) code.now.head (S.mem_id membrane) r }
+        ensures none { IsFalse result → (r : HeadRegisters) → Succeeds (S.heap self.old.store) code.now.head (S.mem_id membrane) r → ⊥ }
     {
         steps.tick();
         finding::find(
@@ -91,7 +91,7 @@ impl<S: LinkStore> Machine<S> {
     pub fn prepare(&mut self, alloc: Global, code: &Code) -> Result<(), NoMemory>
         requires valid { Valid (S.heap self.old.store) }
         requires unmarked { Unmarked (S.heap self.old.store) }
-        requires held { AreHeld S.atom_id S.mem_id (S.heap self.old.store) self.old.set }
+        requires held { AreHeldWhole S.atom_id S.mem_id (S.heap self.old.store) self.old.set }
         requires copies { self.old.set.copies ≡ [] }
         requires order { BodyInOrder (length self.old.set.atoms) (length self.old.set.membranes) (length self.old.set.parts) (length self.old.set.integers) 0 code.now.body }
         ensures ok { OnOk result (Prepared S.atom_id S.mem_id (S.heap self.old.store) (S.heap self.new.store) self.old.set self.new.set code.now.body) }

@@ -1,10 +1,10 @@
 //! How many atoms a membrane holds besides those of typed contexts.
 ghost use Rattle.std.specs.Prelude.{◌≡◌, ◌≢◌, ◌<◌, ◌≤◌, ◌+◌, ◌-◌, ◌↔◌, ℕ, Some, IsTrue, IsFalse, length, slice_get, take};
 ghost use Rattle.std.specs.List.{AllByRecursion};
-ghost use Rattle.lmn_heap.specs.Heap.{IsAtom, IsMem, atoms_in, port_id};
-ghost use Rattle.lmn_instr.specs.Running.{Registers, HasOthers, IsInSome};
+ghost use Rattle.lmn_heap.specs.Heap.{IsAtom, IsMem, atoms_in, port_id, Unmarked};
+ghost use Rattle.lmn_instr.specs.Running.{HeadRegisters, HasOthers, IsInSome};
 ghost use Rattle.lmn_registers.specs.Agreeing.{Agrees};
-ghost use Rattle.lmn_machine.specs.Searching.{AreHeld, Unmarked};
+ghost use Rattle.lmn_machine.specs.Searching.{AreHeldWhole};
 
 use crate::checks;
 use lmn_ground::size_of;
@@ -53,11 +53,11 @@ fn atoms_more<S: LinkStore>(
 ) -> u64
     requires unmarked { Unmarked (S.heap store.old) }
     requires membrane { IsMem (S.heap store.old) (S.mem_id m) }
-    requires held { AreHeld S.atom_id S.mem_id (S.heap store.old) set.now }
+    requires held { AreHeldWhole S.atom_id S.mem_id (S.heap store.old) set.now }
     requires listed { AllByRecursion (λ k. k < length set.now.parts) listed.now }
     requires i { i < length listed.now }
     ensures same { S.heap store.new ≡ S.heap store.old }
-    ensures fewer { (s : Registers) (n : ℕ) → Agrees S.atom_id S.mem_id set.now s → HasOthers (IsInSome (S.heap store.old) s (take i listed.now)) n (atoms_in (S.heap store.old) (S.mem_id m)) →
+    ensures fewer { (s : HeadRegisters) (n : ℕ) → Agrees S.atom_id S.mem_id set.now s → HasOthers (IsInSome (S.heap store.old) s (take i listed.now)) n (atoms_in (S.heap store.old) (S.mem_id m)) →
         (result ≤ n) × HasOthers (IsInSome (S.heap store.old) s (take (i + 1) listed.now)) (n - result) (atoms_in (S.heap store.old) (S.mem_id m)) }
 {
     let _root = store.root();
@@ -80,10 +80,10 @@ fn atoms_besides<S: LinkStore>(
 ) -> u64
     requires unmarked { Unmarked (S.heap store.old) }
     requires membrane { IsMem (S.heap store.old) (S.mem_id m) }
-    requires held { AreHeld S.atom_id S.mem_id (S.heap store.old) set.now }
+    requires held { AreHeldWhole S.atom_id S.mem_id (S.heap store.old) set.now }
     requires listed { AllByRecursion (λ k. k < length set.now.parts) listed.now }
     ensures same { S.heap store.new ≡ S.heap store.old }
-    ensures others { (s : Registers) → Agrees S.atom_id S.mem_id set.now s → HasOthers (IsInSome (S.heap store.old) s listed.now) result (atoms_in (S.heap store.old) (S.mem_id m)) }
+    ensures others { (s : HeadRegisters) → Agrees S.atom_id S.mem_id set.now s → HasOthers (IsInSome (S.heap store.old) s listed.now) result (atoms_in (S.heap store.old) (S.mem_id m)) }
 {
     let _root = store.root();
     let mut left = store.atoms(m);
@@ -103,10 +103,10 @@ pub fn has_others<S: LinkStore>(
 ) -> bool
     requires unmarked { Unmarked (S.heap store.old) }
     requires membrane { IsMem (S.heap store.old) (S.mem_id m) }
-    requires held { AreHeld S.atom_id S.mem_id (S.heap store.old) set.now }
+    requires held { AreHeldWhole S.atom_id S.mem_id (S.heap store.old) set.now }
     requires listed { AllByRecursion (λ k. k < length set.now.parts) listed.now }
     ensures same { S.heap store.new ≡ S.heap store.old }
-    ensures others { (s : Registers) → Agrees S.atom_id S.mem_id set.now s → (IsTrue result ↔ HasOthers (IsInSome (S.heap store.old) s listed.now) count (atoms_in (S.heap store.old) (S.mem_id m))) }
+    ensures others { (s : HeadRegisters) → Agrees S.atom_id S.mem_id set.now s → (IsTrue result ↔ HasOthers (IsInSome (S.heap store.old) s listed.now) count (atoms_in (S.heap store.old) (S.mem_id m))) }
 {
     atoms_besides(store, set, m, listed) == count
 }

@@ -1,7 +1,8 @@
 ghost use Rattle.std.specs.Prelude.{◌≡◌, ◌≤◌, ℕ, length, drop, slice_get, Some};
 ghost use Rattle.lmn_heap.specs.Sound.{Valid};
 ghost use Rattle.lmn_instr.specs.declared.instr.Instr.TheVariants.{FindAtom, AnyMem};
-ghost use Rattle.lmn_machine.specs.Searching.{AreHeld, InOrder, Searched, Unmarked};
+ghost use Rattle.lmn_machine.specs.Searching.{AreHeldWhole, HeadInOrder, Searched};
+ghost use Rattle.lmn_heap.specs.Heap.{Unmarked};
 
 use crate::steps;
 use lmn_base::Functor;
@@ -19,9 +20,9 @@ pub fn search<S: LinkStore>(
 ) -> bool
     requires valid { Valid (S.heap store.old) }
     requires unmarked { Unmarked (S.heap store.old) }
-    requires held { AreHeld S.atom_id S.mem_id (S.heap store.old) set.old }
+    requires held { AreHeldWhole S.atom_id S.mem_id (S.heap store.old) set.old }
     requires at { at ≤ length code.now }
-    requires order { InOrder (length set.old.atoms) (length set.old.membranes) (length set.old.parts) (length set.old.integers) (drop at code.now) }
+    requires order { HeadInOrder (length set.old.atoms) (length set.old.membranes) (length set.old.parts) (length set.old.integers) (drop at code.now) }
     ensures same { S.heap store.new ≡ S.heap store.old }
     ensures searched { Searched S.atom_id S.mem_id (S.heap store.old) set.old set.new result (drop at code.now) }
 {
@@ -61,9 +62,9 @@ fn search_atom<S: LinkStore>(
 ) -> bool
     requires valid { Valid (S.heap store.old) }
     requires unmarked { Unmarked (S.heap store.old) }
-    requires held { AreHeld S.atom_id S.mem_id (S.heap store.old) set.old }
+    requires held { AreHeldWhole S.atom_id S.mem_id (S.heap store.old) set.old }
     requires at { (y : ℕ) × (slice_get code.now at ≡ Some (FindAtom (length set.old.atoms) y functor)) × (slice_get set.old.membranes y ≡ Some place) }
-    requires order { InOrder (length set.old.atoms) (length set.old.membranes) (length set.old.parts) (length set.old.integers) (drop at code.now) }
+    requires order { HeadInOrder (length set.old.atoms) (length set.old.membranes) (length set.old.parts) (length set.old.integers) (drop at code.now) }
     ensures same { S.heap store.new ≡ S.heap store.old }
     ensures searched { Searched S.atom_id S.mem_id (S.heap store.old) set.old set.new result (drop at code.now) }
 {
@@ -94,9 +95,9 @@ fn search_membrane<S: LinkStore>(
 ) -> bool
     requires valid { Valid (S.heap store.old) }
     requires unmarked { Unmarked (S.heap store.old) }
-    requires held { AreHeld S.atom_id S.mem_id (S.heap store.old) set.old }
+    requires held { AreHeldWhole S.atom_id S.mem_id (S.heap store.old) set.old }
     requires at { (y : ℕ) × (slice_get code.now at ≡ Some (AnyMem (length set.old.membranes) y)) × (slice_get set.old.membranes y ≡ Some place) }
-    requires order { InOrder (length set.old.atoms) (length set.old.membranes) (length set.old.parts) (length set.old.integers) (drop at code.now) }
+    requires order { HeadInOrder (length set.old.atoms) (length set.old.membranes) (length set.old.parts) (length set.old.integers) (drop at code.now) }
     ensures same { S.heap store.new ≡ S.heap store.old }
     ensures searched { Searched S.atom_id S.mem_id (S.heap store.old) set.old set.new result (drop at code.now) }
 {

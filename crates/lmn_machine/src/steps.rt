@@ -1,9 +1,9 @@
 ghost use Rattle.std.specs.Prelude.{◌≡◌, ◌<◌, ◌↔◌, ◌+◌, ℕ, [], ◌∷◌, length, IsTrue};
 ghost use Rattle.lmn_heap.specs.Sound.{Valid};
-ghost use Rattle.lmn_instr.specs.Running.{Registers, Holds};
-ghost use Rattle.lmn_heap.specs.Heap.{Heap};
+ghost use Rattle.lmn_instr.specs.Running.{HeadRegisters, InstructionHolds};
+ghost use Rattle.lmn_heap.specs.Heap.{Heap, Unmarked};
 ghost use Rattle.lmn_registers.specs.Agreeing.{Agrees};
-ghost use Rattle.lmn_machine.specs.Searching.{AreHeld, AsksNoPart, Compares, Extends, Reads, InOrder, ChoosesNone, HasGiven, HasGivenPart, Stepped, Unmarked};
+ghost use Rattle.lmn_machine.specs.Searching.{AreHeldWhole, AsksNoPart, Compares, Extends, TestsSetRegisters, HeadInOrder, ChoosesNone, HasGiven, HasGivenPart, Stepped};
 ghost use Rattle.lmn_instr.specs.declared.instr.Instr.TheVariants.{Deref};
 
 use crate::{checks, integers, others, parts, whole};
@@ -14,7 +14,7 @@ use lmn_store::LinkStore;
 /// Whether a comparison holds of the integers that are set; COMMIT holds.
 fn compare<A: Copy, M: Copy>(set: &SetRegisters<A, M>, instr: &Instr) -> bool
     requires { Compares (length set.now.integers) instr.now }
-    ensures { (atom : A → ℕ) (membrane : M → ℕ) (h : Heap) (c : ℕ) (s : Registers) → Agrees atom membrane set.now s → (IsTrue result ↔ Holds h c s instr.now) }
+    ensures { (atom : A → ℕ) (membrane : M → ℕ) (h : Heap) (c : ℕ) (s : HeadRegisters) → Agrees atom membrane set.now s → (IsTrue result ↔ InstructionHolds h c s instr.now) }
 {
     match instr {
         Instr::Lt { left, right } => integers::is_less(
@@ -49,9 +49,9 @@ fn compare<A: Copy, M: Copy>(set: &SetRegisters<A, M>, instr: &Instr) -> bool
 /// Whether a test holds of the registers that are set.
 fn check<S: LinkStore>(store: &S, set: &SetRegisters<S::Atom, S::Mem>, instr: &Instr) -> bool
     requires valid { Valid (S.heap store.now) }
-    requires held { AreHeld S.atom_id S.mem_id (S.heap store.now) set.now }
-    requires reads { Reads (length set.now.atoms) (length set.now.membranes) (length set.now.integers) instr.now }
-    ensures { (c : ℕ) (s : Registers) → Agrees S.atom_id S.mem_id set.now s → (IsTrue result ↔ Holds (S.heap store.now) c s instr.now) }
+    requires held { AreHeldWhole S.atom_id S.mem_id (S.heap store.now) set.now }
+    requires reads { TestsSetRegisters (length set.now.atoms) (length set.now.membranes) (length set.now.integers) instr.now }
+    ensures { (c : ℕ) (s : HeadRegisters) → Agrees S.atom_id S.mem_id set.now s → (IsTrue result ↔ InstructionHolds (S.heap store.now) c s instr.now) }
 {
     match instr {
         Instr::Func { atom, functor } => checks::has_functor(
@@ -111,18 +111,18 @@ pub fn follow<S: LinkStore>(
     from: AtomPort,
     port: u8,
 ) -> bool
-    requires held { AreHeld S.atom_id S.mem_id (S.heap store.now) set.old }
+    requires held { AreHeldWhole S.atom_id S.mem_id (S.heap store.now) set.old }
     requires from { from.atom < length set.old.atoms }
     requires room { length set.old.atoms < ROOM }
     requires no_part { length set.old.parts ≡ 0 }
-    ensures held { AreHeld S.atom_id S.mem_id (S.heap store.now) set.new }
+    ensures held { AreHeldWhole S.atom_id S.mem_id (S.heap store.now) set.new }
     ensures extends { Extends set.old set.new }
     ensures atoms { IsTrue result → length set.new.atoms ≡ length set.old.atoms + 1 }
     ensures membranes { set.new.membranes ≡ set.old.membranes }
     ensures parts { set.new.parts ≡ set.old.parts }
     ensures integers { set.new.integers ≡ set.old.integers }
-    ensures holds { IsTrue result → (c : ℕ) (s : Registers) → Agrees S.atom_id S.mem_id set.new s → Holds (S.heap store.now) c s (Deref (length set.old.atoms) from port) }
-    ensures only { (c : ℕ) (s : Registers) → Agrees S.atom_id S.mem_id set.old s → Holds (S.heap store.now) c s (Deref (length set.old.atoms) from port) →
+    ensures holds { IsTrue result → (c : ℕ) (s : HeadRegisters) → Agrees S.atom_id S.mem_id set.new s → InstructionHolds (S.heap store.now) c s (Deref (length set.old.atoms) from port) }
+    ensures only { (c : ℕ) (s : HeadRegisters) → Agrees S.atom_id S.mem_id set.old s → InstructionHolds (S.heap store.now) c s (Deref (length set.old.atoms) from port) →
         IsTrue result × Agrees S.atom_id S.mem_id set.new s }
 {
     match checks::end(store, set.atoms.at(from.atom as usize), from.port) {
@@ -169,8 +169,8 @@ pub fn set_part<A: Copy, M: Copy>(set: &mut SetRegisters<A, M>, root: Option<(A,
 /// Runs an instruction that sets an integer, or a test.
 fn compute<S: LinkStore>(store: &S, set: &mut SetRegisters<S::Atom, S::Mem>, instr: &Instr) -> bool
     requires valid { Valid (S.heap store.now) }
-    requires held { AreHeld S.atom_id S.mem_id (S.heap store.now) set.old }
-    requires order { InOrder (length set.old.atoms) (length set.old.membranes) (length set.old.parts) (length set.old.integers) (instr.now ∷ []) }
+    requires held { AreHeldWhole S.atom_id S.mem_id (S.heap store.now) set.old }
+    requires order { HeadInOrder (length set.old.atoms) (length set.old.membranes) (length set.old.parts) (length set.old.integers) (instr.now ∷ []) }
     requires no_part { AsksNoPart instr.now }
     ensures { Stepped S.atom_id S.mem_id (S.heap store.now) set.old set.new result instr.now }
 {
@@ -231,8 +231,8 @@ pub fn step<S: LinkStore>(
 ) -> bool
     requires valid { Valid (S.heap store.old) }
     requires unmarked { Unmarked (S.heap store.old) }
-    requires held { AreHeld S.atom_id S.mem_id (S.heap store.old) set.old }
-    requires order { InOrder (length set.old.atoms) (length set.old.membranes) (length set.old.parts) (length set.old.integers) (instr.now ∷ []) }
+    requires held { AreHeldWhole S.atom_id S.mem_id (S.heap store.old) set.old }
+    requires order { HeadInOrder (length set.old.atoms) (length set.old.membranes) (length set.old.parts) (length set.old.integers) (instr.now ∷ []) }
     requires no_choice { ChoosesNone instr.now }
     ensures same { S.heap store.new ≡ S.heap store.old }
     ensures stepped { Stepped S.atom_id S.mem_id (S.heap store.old) set.old set.new result instr.now }

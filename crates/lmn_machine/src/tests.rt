@@ -1,5 +1,5 @@
 ghost use Rattle.std.specs.Prelude.{◌≡◌, ◌<◌, IfOk};
-ghost use Rattle.lmn_machine.specs.Searching.{InOrder};
+ghost use Rattle.lmn_machine.specs.Searching.{HeadInOrder};
 
 use crate::{Machine, Steps};
 use lmn_base::{NoMemory, Rows};
@@ -11,7 +11,7 @@ use std::sync::ledger::{Blank, Ledger};
 
 /// The code of an empty head.
 fn empty_head(alloc: Global) -> Result<Code, NoMemory>
-    ensures { IfOk result (λ c. InOrder 0 1 0 0 c.head) }
+    ensures { IfOk result (λ c. HeadInOrder 0 1 0 0 c.head) }
 {
     let mut head = Rows::new(alloc);
     head.push(Instr::Commit)?;

@@ -1,10 +1,10 @@
 //! Parts of any number of atoms.
 ghost use Rattle.std.specs.Prelude.{◌≡◌, ◌<◌, ◌↔◌, ℕ, List, Some, IfSome, IsTrue, map, slice_get};
 ghost use Rattle.std.specs.Option.{option_map};
-ghost use Rattle.lmn_heap.specs.Heap.{IsAtom, IsMem, arity_of, link_of, port_id, marked};
+ghost use Rattle.lmn_heap.specs.Heap.{IsAtom, IsMem, arity_of, link_of, port_id, marked, Unmarked};
 ghost use Rattle.lmn_base.specs.Graphs.{SameGraph};
 ghost use Rattle.lmn_heap.specs.Graphs.{atom_map};
-ghost use Rattle.lmn_machine.specs.Searching.{IsHeldPart, IsWholeApart, Unmarked, own_marked};
+ghost use Rattle.lmn_machine.specs.Searching.{IsHeldPart, IsWholeApart, own_marked};
 
 use crate::checks;
 use lmn_ground::{equal, is_ground};

@@ -12,17 +12,18 @@ use Rattle.lmn_guards.specs.declared.plan.TypeKind.{TypeKind}
 use Rattle.lmn_guards.specs.declared.plan.TypeKind.TheVariants as kind
 use Rattle.lmn_solid.specs.declared.items.HeadItem.{HeadItem}
 use Rattle.lmn_solid.specs.declared.items.HeadItem.TheVariants.{Atom, Typed, Membrane}
-use Rattle.lmn_solid.specs.Heads.{HeadAtom, HeadTyped, HeadMembrane, Port, atoms_of, typed_contexts_of, membranes_of, at_atoms}
+use Rattle.lmn_solid.specs.Heads.{HeadAtom, HeadTyped, HeadMembrane, atoms_of, typed_contexts_of, membranes_of, at_atoms}
 use Rattle.lmn_solid.specs.Guards.{typed_number, context_alone}
 use Rattle.lmn_solid.specs.Embeddings.{HasLink}
 use Rattle.lmn_instr.specs.declared.instr.AtomPort.{AtomPort}
 use Rattle.lmn_instr.specs.declared.instr.Instr.{Instr}
 use Rattle.lmn_instr.specs.declared.instr.Instr.TheVariants.{AnyMem, IsInt, IsUnary, IsGround, Commit}
-use Rattle.lmn_instr.specs.HeadCode.{Entry, Computed, items_code, atom_code, found_code, entry, differ_code, ports_code, differ_membrane_code, all_filled_code, find_port, operand, test_of, part_code, parts_code, operation, named_code, value_code, comparison, part_named, equal_code, differ_parts_code, bind_register, guard_code, head_code}
+use Rattle.lmn_instr.specs.HeadCode.{Entry, Computed, items_code, atom_code, found_code, entry, differ_code, ports_code, differ_membrane_code, all_filled_code, find_port, operand, test_of, part_code, parts_code, operator_instruction, named_code, value_code, comparison, part_named, equal_code, differ_parts_code, bind_register, guard_code, head_code}
 use Rattle.lmn_compile_head.specs.Heads.{IsHead}
 use Rattle.lmn_compile_head.proofs.Places.{find_missed, stands_at}
 use Rattle.lmn_machine.specs.Searching.{membranes_set, parts_set}
 use Rattle.lmn_matching.proofs.Order.{PlainReads, ReadAll, take_short, differ_reads, ports_read, differ_membranes_read, all_filled_reads, AreSet, all_set}
+use Rattle.lmn_base.specs.Graphs.{Port}
 
 -- code that sets neither a membrane nor a typed context
 record Quiet (xs : List Instr) : Type 0 where
@@ -49,7 +50,7 @@ quiet_found : (n : ℕ) (a : HeadAtom) (e : Option Entry) → Quiet (found_code 
 quiet_found n a None = record { none = λ ys. (refl, refl) }
 quiet_found n a (Some e) = record { none = λ ys. (refl, refl) }
 
-quiet_operation : (o : Arith) (v w x : ℕ) → Quiet (operation o v w x ∷ [])
+quiet_operation : (o : Arith) (v w x : ℕ) → Quiet (operator_instruction o v w x ∷ [])
 quiet_operation op.Add v w x = record { none = λ ys. (refl, refl) }
 quiet_operation op.Sub v w x = record { none = λ ys. (refl, refl) }
 quiet_operation op.Mul v w x = record { none = λ ys. (refl, refl) }
@@ -74,8 +75,8 @@ quiet_value part bound (expr.Ctx u) v = quiet_named (part u.name) (bound u.name)
 quiet_value part bound (expr.Op' o p left q right) v =
     let a = value_code part bound left v in
     let b = value_code part bound right a.next in
-    quiet_both a.code (b.code ++ (operation o b.next a.at b.at ∷ [])) (quiet_value part bound left v)
-    (quiet_both b.code (operation o b.next a.at b.at ∷ []) (quiet_value part bound right a.next) (quiet_operation o b.next a.at b.at))
+    quiet_both a.code (b.code ++ (operator_instruction o b.next a.at b.at ∷ [])) (quiet_value part bound left v)
+    (quiet_both b.code (operator_instruction o b.next a.at b.at ∷ []) (quiet_value part bound right a.next) (quiet_operation o b.next a.at b.at))
 
 quiet_equal : (g k : Option ℕ) (c : Computed) (bound compared : List Instr) → Quiet c.code → Quiet bound → Quiet compared → Quiet (equal_code g k c bound compared)
 quiet_equal None k c bound compared s t u = quiet_both c.code bound s t

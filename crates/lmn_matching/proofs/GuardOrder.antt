@@ -16,10 +16,10 @@ use Rattle.lmn_heap.specs.Heap.{In}
 use Rattle.lmn_solid.specs.Heads.{HeadTyped}
 use Rattle.lmn_solid.specs.Guards.{typed_number, context_alone}
 use Rattle.lmn_instr.specs.declared.instr.Instr.{Instr}
-use Rattle.lmn_instr.specs.HeadCode.{Computed, operation, named_code, value_code, comparison, part_named, equal_code, differ_parts_code, bind_register, guard_code}
-use Rattle.lmn_compile_head.specs.Heads.{Uses, EqualAllowed, IsGuard}
+use Rattle.lmn_instr.specs.HeadCode.{Computed, operator_instruction, named_code, value_code, comparison, part_named, equal_code, differ_parts_code, bind_register, guard_code}
+use Rattle.lmn_compile_head.specs.Heads.{UsesKnown, EqualAllowed, IsGuard}
 use Rattle.lmn_registers.specs.declared.stack.TheConstants.{ROOM}
-use Rattle.lmn_machine.specs.Searching.{InOrder}
+use Rattle.lmn_machine.specs.Searching.{HeadInOrder}
 
 -- what is known of the registers of an expression: the value is in one before the next, and two for each integer or context
 -- are enough
@@ -34,7 +34,7 @@ module _ (part : ℕ → Option ℕ) (bound : ℕ → ℕ) (known : List ℕ) wh
   named_few x None v (inr u) below = record { more = omega arith; at = below x u; few = omega arith }
   named_few x (Some g) v u below = record { more = omega arith; at = omega arith; few = omega arith }
 
-  value_few : (e : Expr) (v : ℕ) → Uses part known e → ((y : ℕ) → In y known → bound y < v) → Few v (expression_tokens e) (value_code part bound e v)
+  value_few : (e : Expr) (v : ℕ) → UsesKnown part known e → ((y : ℕ) → In y known → bound y < v) → Few v (expression_tokens e) (value_code part bound e v)
   value_few (expr.Int z) v u below = record { more = omega arith; at = omega arith; few = omega arith }
   value_few (expr.Ctx x) v u below = named_few x.name (part x.name) v u below
   value_few (expr.Op' o p left q right) v u below =
@@ -47,14 +47,14 @@ module _ (part : ℕ → Option ℕ) (bound : ℕ → ℕ) (known : List ℕ) wh
       record { more = omega (arith, am, bm); at = omega arith; few = omega (arith, af, bf) }
 
 module _ (a m g : ℕ) where
-  operation_order : (o : Arith) (v w x : ℕ) (ys : List Instr) → v < ROOM → w < v → x < v → InOrder a m g (v + 1) ys → InOrder a m g v (operation o v w x ∷ ys)
+  operation_order : (o : Arith) (v w x : ℕ) (ys : List Instr) → v < ROOM → w < v → x < v → HeadInOrder a m g (v + 1) ys → HeadInOrder a m g v (operator_instruction o v w x ∷ ys)
   operation_order op.Add v w x ys r l k o = (((refl, r), l, k), o)
   operation_order op.Sub v w x ys r l k o = (((refl, r), l, k), o)
   operation_order op.Mul v w x ys r l k o = (((refl, r), l, k), o)
   operation_order op.Div v w x ys r l k o = (((refl, r), l, k), o)
   operation_order op.Mod v w x ys r l k o = (((refl, r), l, k), o)
 
-  comparison_order : (c : Cmp) (v w n : ℕ) (ys : List Instr) → v < n → w < n → InOrder a m g n ys → InOrder a m g n (comparison c v w ∷ ys)
+  comparison_order : (c : Cmp) (v w n : ℕ) (ys : List Instr) → v < n → w < n → HeadInOrder a m g n ys → HeadInOrder a m g n (comparison c v w ∷ ys)
   comparison_order cmp.Lt v w n ys l k o = ((l, k), o)
   comparison_order cmp.Le v w n ys l k o = ((l, k), o)
   comparison_order cmp.Gt v w n ys l k o = ((l, k), o)
@@ -63,12 +63,12 @@ module _ (a m g : ℕ) where
   comparison_order cmp.Ne v w n ys l k o = ((l, k), o)
 
   module _ (part : ℕ → Option ℕ) (parts : (x k : ℕ) → part x ≡ Some k → k < g) where
-    named_order : (x : ℕ) (p : Option ℕ) (b v : ℕ) (ys : List Instr) → part x ≡ p → (named_code p b v).next ≤ ROOM → InOrder a m g (named_code p b v).next ys → InOrder a m g v ((named_code p b v).code ++ ys)
+    named_order : (x : ℕ) (p : Option ℕ) (b v : ℕ) (ys : List Instr) → part x ≡ p → (named_code p b v).next ≤ ROOM → HeadInOrder a m g (named_code p b v).next ys → HeadInOrder a m g v ((named_code p b v).code ++ ys)
     named_order x None b v ys e r o = o
     named_order x (Some k) b v ys e r o = (((refl, omega (arith, r)), parts x k e), o)
 
-    value_order : (bound : ℕ → ℕ) (known : List ℕ) (e : Expr) (v : ℕ) (ys : List Instr) → Uses part known e → ((y : ℕ) → In y known → bound y < v) → (value_code part bound e v).next ≤ ROOM →
-        InOrder a m g (value_code part bound e v).next ys → InOrder a m g v ((value_code part bound e v).code ++ ys)
+    value_order : (bound : ℕ → ℕ) (known : List ℕ) (e : Expr) (v : ℕ) (ys : List Instr) → UsesKnown part known e → ((y : ℕ) → In y known → bound y < v) → (value_code part bound e v).next ≤ ROOM →
+        HeadInOrder a m g (value_code part bound e v).next ys → HeadInOrder a m g v ((value_code part bound e v).code ++ ys)
     value_order bound known (expr.Int z) v ys u below r o = ((refl, omega (arith, r)), o)
     value_order bound known (expr.Ctx x) v ys u below r o = named_order x.name (part x.name) (bound x.name) v ys refl r o
     value_order bound known (expr.Op' o p left q right) v ys u below r n =
@@ -82,21 +82,21 @@ module _ (a m g : ℕ) where
         let aa = fa.at in
         let ba = fb.at in
         let last = operation_order o cb.next ca.at cb.at ys (omega (arith, r)) (omega (arith, aa, bm)) ba n in
-        let second = value_order bound known right ca.next (operation o cb.next ca.at cb.at ∷ ys) u.1 more (omega (arith, r)) last in
-        rw (append_assoc ca.code (cb.code ++ (operation o cb.next ca.at cb.at ∷ [])) ys) (rw (append_assoc cb.code (operation o cb.next ca.at cb.at ∷ []) ys)
-        (value_order bound known left v (cb.code ++ (operation o cb.next ca.at cb.at ∷ ys)) u.0 below (omega (arith, r, bm)) second))
+        let second = value_order bound known right ca.next (operator_instruction o cb.next ca.at cb.at ∷ ys) u.1 more (omega (arith, r)) last in
+        rw (append_assoc ca.code (cb.code ++ (operator_instruction o cb.next ca.at cb.at ∷ [])) ys) (rw (append_assoc cb.code (operator_instruction o cb.next ca.at cb.at ∷ []) ys)
+        (value_order bound known left v (cb.code ++ (operator_instruction o cb.next ca.at cb.at ∷ ys)) u.0 below (omega (arith, r, bm)) second))
 
     named_part : (o : Option ℕ) (k : ℕ) → part_named part o ≡ Some k → k < g
     named_part None k e = absurd (cc)
     named_part (Some x) k e = parts x k e
 
     equal_order : (pl pr : Option ℕ) (c : Computed) (v : ℕ) (next same ys : List Instr) (Known Bound Compared : Type 0) → ((k : ℕ) → pl ≡ Some k → k < g) → ((k : ℕ) → pr ≡ Some k → k < g) → EqualAllowed pl pr Known Bound Compared →
-        (Known → Bound → InOrder a m g v (c.code ++ (next ++ ys))) → (Compared → InOrder a m g v (same ++ ys)) → InOrder a m g v (equal_code pl pr c next same ++ ys)
+        (Known → Bound → HeadInOrder a m g v (c.code ++ (next ++ ys))) → (Compared → HeadInOrder a m g v (same ++ ys)) → HeadInOrder a m g v (equal_code pl pr c next same ++ ys)
     equal_order None pr c v next same ys Known Bound Compared l r u n s = rw append_assoc (n u.0 u.1)
     equal_order (Some k) None c v next same ys Known Bound Compared l r u n s = absurd u
     equal_order (Some k) (Some j) c v next same ys Known Bound Compared l r u n s = ((l k refl, r j refl), s u)
 
-    differ_order : (pl pr : Option ℕ) (v : ℕ) (ys : List Instr) → ((k : ℕ) → pl ≡ Some k → k < g) → ((k : ℕ) → pr ≡ Some k → k < g) → InOrder a m g v ys → InOrder a m g v (differ_parts_code pl pr ++ ys)
+    differ_order : (pl pr : Option ℕ) (v : ℕ) (ys : List Instr) → ((k : ℕ) → pl ≡ Some k → k < g) → ((k : ℕ) → pr ≡ Some k → k < g) → HeadInOrder a m g v ys → HeadInOrder a m g v (differ_parts_code pl pr ++ ys)
     differ_order None pr v ys l r o = o
     differ_order (Some k) None v ys l r o = o
     differ_order (Some k) (Some j) v ys l r o = ((l k refl, r j refl), o)
@@ -120,7 +120,7 @@ module _ (a m g : ℕ) where
     parts_below x k e = let l = number_below ts 0 x k e in omega (arith, l, few)
 
     pub guard_order : (cs : List Cond) (v : ℕ) (known : List ℕ) (bound : ℕ → ℕ) (ys : List Instr) → IsGuard ts known cs → ((x : ℕ) → In x known → bound x < v) → v + (sum_by condition_tokens cs + sum_by condition_tokens cs) ≤ ROOM →
-        ((w : ℕ) → InOrder a m g w ys) → InOrder a m g v (guard_code (typed_number ts 0) bound v cs ++ ys)
+        ((w : ℕ) → HeadInOrder a m g w ys) → HeadInOrder a m g v (guard_code (typed_number ts 0) bound v cs ++ ys)
     guard_order [] v known bound ys u below r o = o v
     guard_order (Kind n args pos ∷ cs) v known bound ys u below r o =
         let sum = sum_by-cons condition_tokens (Kind n args pos) cs in
@@ -149,7 +149,7 @@ module _ (a m g : ℕ) where
         let sum = sum_by-cons condition_tokens (Equal left right pos) cs in
         let c = value_code part bound right v in
         equal_order part parts_below (part left.name) (part_named part (context_alone right)) c v (guard_code part (bind_register bound left.name c.at) c.next cs) (guard_code part bound v cs) ys
-        (Uses part known right) (IsGuard ts (left.name ∷ known) cs) (IsGuard ts known cs) (λ k e. parts_below left.name k e) (λ k e. named_part part parts_below (context_alone right) k e) u
+        (UsesKnown part known right) (IsGuard ts (left.name ∷ known) cs) (IsGuard ts known cs) (λ k e. parts_below left.name k e) (λ k e. named_part part parts_below (context_alone right) k e) u
         (λ uses later. (let f = value_few part bound known right v uses below in
         let fm = f.more in
         let ff = f.few in

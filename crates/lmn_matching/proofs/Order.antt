@@ -17,32 +17,34 @@ use Rattle.lmn_compile_head.proofs.Counting.{parts_none, all_filled_none, guard_
 use Rattle.lmn_matching.proofs.GuardOrder.{guard_order}
 use Rattle.lmn_solid.specs.declared.items.HeadItem.{HeadItem}
 use Rattle.lmn_solid.specs.declared.items.HeadItem.TheVariants.{Atom, Typed, Membrane}
-use Rattle.lmn_solid.specs.Heads.{HeadAtom, HeadTyped, HeadMembrane, Port, atoms_of, typed_contexts_of, membranes_of, at_atoms, at_ports, links_of, times, inside_of, outermost_by, outermost}
+use Rattle.lmn_solid.specs.Heads.{HeadAtom, HeadTyped, HeadMembrane, atoms_of, typed_contexts_of, membranes_of, at_atoms, at_ports, links_of_head, times, inside_of, outermost_by, outermost}
 use Rattle.lmn_instr.specs.declared.instr.Instr.{Instr}
 use Rattle.lmn_instr.specs.declared.instr.Instr.TheVariants.{FindAtom, Deref, AnyMem, NeqAtom, NeqMem, NotIn, IsInt, IsUnary, IsGround, NAtoms, NMems, NoRules, EqGround, NeqGround, GetInt, Const, Add, Sub, Mul, Div, Mod, Commit}
-use Rattle.lmn_instr.specs.HeadCode.{items_code, atom_code, found_code, differ_code, differ_membrane_code, ports_code, port_code, joined_code, find_port, before, Entry, entry, is_entry, operand, filled_code, all_filled_code, parts_inside, number_inside, head_code, parts_code, part_code, test_of, guard_code}
+use Rattle.lmn_instr.specs.HeadCode.{items_code, atom_code, found_code, differ_code, differ_membrane_code, ports_code, port_code, joined_code, find_port, occurrences_before, Entry, entry, is_entry, operand, filled_code, all_filled_code, parts_inside, number_inside, head_code, parts_code, part_code, test_of, guard_code}
 use Rattle.lmn_compile_head.specs.Heads.{IsHead, IsGuard, EachInside}
 use Rattle.lmn_compile_head.proofs.Places.{occurs, has_either, atoms_have, ports_have, find_found, find_missed, stands_at, entry_stands, slice_take}
 use Rattle.lmn_compile_head.proofs.Nesting.{membranes_nested}
 use Rattle.lmn_registers.specs.declared.stack.TheConstants.{ROOM}
-use Rattle.lmn_machine.specs.Searching.{Reads, InOrder}
+use Rattle.lmn_machine.specs.Searching.{TestsSetRegisters, HeadInOrder}
+use Rattle.lmn_base.specs.Graphs.{Port}
+use Rattle.lmn_base.proofs.Truth.{if_at_most as outer_if}
 
 -- Code before any typed context is set.
 
 abbrev pub PlainOrder : ℕ → ℕ → List Instr → Type 0
-PlainOrder a m is = InOrder a m 0 0 is
+PlainOrder a m is = HeadInOrder a m 0 0 is
 
 -- tests, with g typed contexts and no integer set
 
 abbrev pub PlainReads : ℕ → ℕ → ℕ → Instr → Type 0
 PlainReads a m g (NAtoms x n gs) = (x < m) × AllByRecursion (λ k. k < g) gs
-PlainReads a m g i = Reads a m 0 i
+PlainReads a m g i = TestsSetRegisters a m 0 i
 
 abbrev pub ReadAll : ℕ → ℕ → ℕ → List Instr → Type 0
 ReadAll a m g [] = Unit {0}
 ReadAll a m g (i ∷ is) = PlainReads a m g i × ReadAll a m g is
 
-one_read : (a m g : ℕ) (i : Instr) (is : List Instr) → PlainReads a m g i → InOrder a m g 0 is → InOrder a m g 0 (i ∷ is)
+one_read : (a m g : ℕ) (i : Instr) (is : List Instr) → PlainReads a m g i → HeadInOrder a m g 0 is → HeadInOrder a m g 0 (i ∷ is)
 one_read a m g (FindAtom x y f) is r o = absurd r
 one_read a m g (Deref x p k) is r o = absurd r
 one_read a m g (AnyMem x y) is r o = absurd r
@@ -60,7 +62,7 @@ one_read a m g (Div x y z) is r o = absurd r
 one_read a m g (Mod x y z) is r o = absurd r
 one_read a m g _ is r o = (r, o)
 
-pub read_then : (a m g : ℕ) (xs ys : List Instr) → ReadAll a m g xs → InOrder a m g 0 ys → InOrder a m g 0 (xs ++ ys)
+pub read_then : (a m g : ℕ) (xs ys : List Instr) → ReadAll a m g xs → HeadInOrder a m g 0 ys → HeadInOrder a m g 0 (xs ++ ys)
 read_then a m g [] ys r o = o
 read_then a m g (x ∷ xs) ys r o = one_read a m g x (xs ++ ys) r.0 (read_then a m g xs ys r.1 o)
 
@@ -78,21 +80,17 @@ reads_unless a m g false xs r = r
 
 -- the membranes round a membrane have lesser numbers
 
-inside_less : (ms : List HeadMembrane) (i k : ℕ) → ((j : ℕ) (b : HeadMembrane) → slice_get ms j ≡ Some b → b.inside ≤ i + j) → slice_index_or (map (λ b. b.inside) ms) k 0 ≤ i + k
+pub inside_less : (ms : List HeadMembrane) (i k : ℕ) → ((j : ℕ) (b : HeadMembrane) → slice_get ms j ≡ Some b → b.inside ≤ i + j) → slice_index_or (map (λ b. b.inside) ms) k 0 ≤ i + k
 inside_less [] i k n = omega arith
 inside_less (b ∷ ms) i zero n = n 0 b refl
 inside_less (b ∷ ms) i (suc k) n =
     let r = inside_less ms (i + 1) k (λ j c e. let l = n (suc j) c e in omega (arith, l)) in omega (arith, r)
 
-above_less : (ms : List HeadMembrane) (k : ℕ) → ((j : ℕ) (b : HeadMembrane) → slice_get ms j ≡ Some b → b.inside ≤ j) → inside_of ms k ≤ k
+pub above_less : (ms : List HeadMembrane) (k : ℕ) → ((j : ℕ) (b : HeadMembrane) → slice_get ms j ≡ Some b → b.inside ≤ j) → inside_of ms k ≤ k
 above_less ms zero n = omega arith
 above_less ms (suc k) n = let r = inside_less ms 0 k (λ j b e. let l = n j b e in omega (arith, l)) in omega (arith, r)
 
-outer_if : (k o : ℕ) (b : Bool) → o ≤ k → (if b then k else o) ≤ k
-outer_if k o true l = omega arith
-outer_if k o false l = l
-
-outer_less : (fuel : ℕ) (ms : List HeadMembrane) (k : ℕ) → ((j : ℕ) (b : HeadMembrane) → slice_get ms j ≡ Some b → b.inside ≤ j) → outermost_by fuel ms k ≤ k
+pub outer_less : (fuel : ℕ) (ms : List HeadMembrane) (k : ℕ) → ((j : ℕ) (b : HeadMembrane) → slice_get ms j ≡ Some b → b.inside ≤ j) → outermost_by fuel ms k ≤ k
 outer_less zero ms k n = omega arith
 outer_less (suc fuel) ms k n = outer_if k (outermost_by fuel ms (inside_of ms k)) (inside_of ms k == 0) (let a = outer_less fuel ms (inside_of ms k) n in let b = above_less ms k n in omega (arith, a, b))
 
@@ -101,7 +99,7 @@ typed_inside_or None = 0
 typed_inside_or (Some t) = t.inside
 
 -- a typed context stands in an earlier membrane
-typed_nested : (i : ℕ) (xs : List HeadItem) → EachInside i xs → (j : ℕ) (t : HeadTyped) → slice_get (typed_contexts_of xs) j ≡ Some t → t.inside ≤ i + length (membranes_of xs)
+pub typed_nested : (i : ℕ) (xs : List HeadItem) → EachInside i xs → (j : ℕ) (t : HeadTyped) → slice_get (typed_contexts_of xs) j ≡ Some t → t.inside ≤ i + length (membranes_of xs)
 typed_nested i [] n j t e = absurd (cc)
 typed_nested i (Atom f ls m ∷ xs) n j t e = typed_nested i xs n.1 j t e
 typed_nested i (Typed p k l m ∷ xs) n zero t e =
@@ -123,9 +121,9 @@ inside_below k g n (t ∷ ts) l = inside_if (t.inside == k) n g (parts_inside k 
 
 module _ (items : List HeadItem) (head : IsHead items) where
   -- a port that is found is one of this atom or of an earlier one
-  port_found : (n i x : ℕ) (a : HeadAtom) (q : Port) → find_port x (before items n a i) ≡ Some q → q.0 ≤ n
+  port_found : (n i x : ℕ) (a : HeadAtom) (q : Port) → find_port x (occurrences_before items n a i) ≡ Some q → q.0 ≤ n
   port_found n i x a q e =
-      elim (has_either (occurs x q) (at_atoms 0 (take n (atoms_of items))) (at_ports n 0 (take i a.links)) (find_found x (before items n a i) q e)) [
+      elim (has_either (occurs x q) (at_atoms 0 (take n (atoms_of items))) (at_ports n 0 (take i a.links)) (find_found x (occurrences_before items n a i) q e)) [
         | inl t ↦ (let r = atoms_have 0 (take n (atoms_of items)) (occurs x q) t in let l = (slice_take n (atoms_of items) r.0 r.2 r.3).0 in
             let s : q.0 ≡ 0 + r.0 = ap (λ w. w.0) r.5 in omega arith)
         | inr t ↦ (let r = ports_have n 0 (take i a.links) (occurs x q) t in let s : q.0 ≡ n = ap (λ w. w.0) r.2 in omega arith)
@@ -148,9 +146,9 @@ module _ (items : List HeadItem) (head : IsHead items) where
       reads_append (n + 1) m 0 _ (differ_code n a (k + 1) bs)
       (reads_if (n + 1) m 0 ((b.inside == a.inside) && same_functor b.functor a.functor) (NeqAtom n k ∷ []) ((omega arith, omega arith), tt)) (differ_reads n m a (k + 1) bs (omega arith))
 
-  joined_reads : (n m i x : ℕ) (a : HeadAtom) (p : Option Port) → find_port x (before items n a i) ≡ p → a.inside < m → ReadAll (n + 1) m 0 (joined_code items n a i x p)
+  joined_reads : (n m i x : ℕ) (a : HeadAtom) (p : Option Port) → find_port x (occurrences_before items n a i) ≡ p → a.inside < m → ReadAll (n + 1) m 0 (joined_code items n a i x p)
   joined_reads n m i x a None e l =
-      reads_unless (n + 1) m 0 (a.inside == 0) _ (reads_if (n + 1) m 0 (times x (links_of items) == 1) (NotIn (operand (n, i)) (outermost (membranes_of items) a.inside) ∷ [])
+      reads_unless (n + 1) m 0 (a.inside == 0) _ (reads_if (n + 1) m 0 (times x (links_of_head items) == 1) (NotIn (operand (n, i)) (outermost (membranes_of items) a.inside) ∷ [])
       ((omega arith, (let o = outer_less (length (membranes_of items)) (membranes_of items) a.inside (membranes_nested items head.inside) in omega (arith, o))), tt))
   joined_reads n m i x a (Some q) e l = ((omega arith, (let k = port_found n i x a q e in omega arith)), tt)
 
@@ -158,7 +156,7 @@ module _ (items : List HeadItem) (head : IsHead items) where
   ports_read n m a i [] l = tt
   ports_read n m a i (x ∷ xs) l =
       reads_append (n + 1) m 0 (port_code items n a i x) (ports_code items n a (i + 1) xs)
-      (reads_unless (n + 1) m 0 (is_entry i (entry items n a)) (joined_code items n a i x (find_port x (before items n a i))) (joined_reads n m i x a (find_port x (before items n a i)) refl l))
+      (reads_unless (n + 1) m 0 (is_entry i (entry items n a)) (joined_code items n a i x (find_port x (occurrences_before items n a i))) (joined_reads n m i x a (find_port x (occurrences_before items n a i)) refl l))
       (ports_read n m a (i + 1) xs l)
 
   pub take_short : {A : Type 0} (n : ℕ) (xs : List A) → length (take n xs) ≤ n
@@ -215,13 +213,13 @@ module _ (items : List HeadItem) (head : IsHead items) where
   abbrev pub AreSet : ℕ → List HeadTyped → Type 0
   AreSet m ts = (n : ℕ) (t : HeadTyped) → slice_get ts n ≡ Some t → (t.inside < m) × ((p : Port) × HasLink items t.link p)
 
-  test_order : (a m g : ℕ) (k : TypeKind) (p : AtomPort) (y : ℕ) (ys : List Instr) → p.atom < a → y < m → g < ROOM → atoms_set ys ≡ 0 → InOrder a m (g + 1) 0 ys → InOrder a m g 0 (test_of k g p y ∷ ys)
+  test_order : (a m g : ℕ) (k : TypeKind) (p : AtomPort) (y : ℕ) (ys : List Instr) → p.atom < a → y < m → g < ROOM → atoms_set ys ≡ 0 → HeadInOrder a m (g + 1) 0 ys → HeadInOrder a m g 0 (test_of k g p y ∷ ys)
   test_order a m g kind.Int p y ys l r s none o = ((((refl, s), l, r), none), o)
   test_order a m g kind.Unary p y ys l r s none o = ((((refl, s), l, r), none), o)
   test_order a m g kind.Ground p y ys l r s none o = ((((refl, s), l, r), none), o)
 
   part_order : (a m g : ℕ) (t : HeadTyped) (p : Port) (ys : List Instr) (fp : Option Port) → find_port t.link (at_atoms 0 (atoms_of items)) ≡ fp → length (atoms_of items) ≤ a → t.inside < m → HasLink items t.link p → g < ROOM →
-      atoms_set ys ≡ 0 → InOrder a m (g + 1) 0 ys → InOrder a m g 0 (part_code g t fp ++ ys)
+      atoms_set ys ≡ 0 → HeadInOrder a m (g + 1) 0 ys → HeadInOrder a m g 0 (part_code g t fp ++ ys)
   part_order a m g t p ys None e long l has room none o = absurd (find_missed t.link (at_atoms 0 (atoms_of items)) p e (stands_at items t.link p has))
   part_order a m g t p ys (Some q) e long l has room none o =
       let r = atoms_have 0 (atoms_of items) (occurs t.link q) (find_found t.link (at_atoms 0 (atoms_of items)) q e) in
@@ -229,12 +227,12 @@ module _ (items : List HeadItem) (head : IsHead items) where
       let s : q.0 ≡ 0 + r.0 = ap (λ v. v.0) r.5 in
       test_order a m g t.kind (operand q) t.inside ys (omega (arith, w, s, long)) l room none o
 
-  parts_order : (a m g : ℕ) (ts : List HeadTyped) (ys : List Instr) → length (atoms_of items) ≤ a → AreSet m ts → g + length ts ≤ ROOM → atoms_set ys ≡ 0 → InOrder a m (g + length ts) 0 ys → InOrder a m g 0 (parts_code items g ts ++ ys)
-  parts_order a m g [] ys long set room none o = let z : g + 0 ≡ g = omega arith in subst (λ k. InOrder a m k 0 ys) z o
+  parts_order : (a m g : ℕ) (ts : List HeadTyped) (ys : List Instr) → length (atoms_of items) ≤ a → AreSet m ts → g + length ts ≤ ROOM → atoms_set ys ≡ 0 → HeadInOrder a m (g + length ts) 0 ys → HeadInOrder a m g 0 (parts_code items g ts ++ ys)
+  parts_order a m g [] ys long set room none o = let z : g + 0 ≡ g = omega arith in subst (λ k. HeadInOrder a m k 0 ys) z o
   parts_order a m g (t ∷ ts) ys long set room none o =
       let here = set 0 t refl in
       let z : g + suc (length ts) ≡ (g + 1) + length ts = omega arith in
-      let later = parts_order a m (g + 1) ts ys long (λ n u e. set (suc n) u e) (omega (arith, room)) none (subst (λ k. InOrder a m k 0 ys) z o) in
+      let later = parts_order a m (g + 1) ts ys long (λ n u e. set (suc n) u e) (omega (arith, room)) none (subst (λ k. HeadInOrder a m k 0 ys) z o) in
       rw append_assoc (part_order a m g t here.1.0 (parts_code items (g + 1) ts ++ ys) (find_port t.link (at_atoms 0 (atoms_of items))) refl long here.0 here.1.1 (omega (arith, room))
       ((parts_none items (g + 1) ts).none ys ∙ none) later)
 
@@ -250,7 +248,7 @@ module _ (items : List HeadItem) (head : IsHead items) where
       let ts = typed_contexts_of items in
       let fs = all_filled_code items 1 (membranes_of items) in
       let gs = guard_code (typed_number ts 0) (λ x. 0) 0 guard in
-      let rest : InOrder a m (0 + length ts) 0 (fs ++ (gs ++ (Commit ∷ []))) = read_then a m (0 + length ts) fs (gs ++ (Commit ∷ [])) (all_filled_reads a m (0 + length ts) 1 (membranes_of items) (omega arith) (omega arith))
+      let rest : HeadInOrder a m (0 + length ts) 0 (fs ++ (gs ++ (Commit ∷ []))) = read_then a m (0 + length ts) fs (gs ++ (Commit ∷ [])) (all_filled_reads a m (0 + length ts) 1 (membranes_of items) (omega arith) (omega arith))
       (guard_order a m (0 + length ts) ts (omega arith) guard 0 [] (λ x. 0) (Commit ∷ []) allowed (λ x s. absurd s) (omega (arith, short)) (λ w. (tt, tt))) in
       let none : atoms_set (fs ++ (gs ++ (Commit ∷ []))) ≡ 0 = (all_filled_none items 1 (membranes_of items)).none (gs ++ (Commit ∷ [])) ∙ (guard_none (typed_number ts 0) (λ x. 0) 0 guard).none (Commit ∷ []) in
       items_order 0 0 items (parts_code items 0 ts ++ (fs ++ (gs ++ (Commit ∷ [])))) head.inside (omega arith) k

@@ -7,7 +7,7 @@ use Rattle.lmn_compile_head.specs.Accepted.{IsReady, head_items, rule_head_code}
 use Rattle.lmn_solid.specs.declared.items.HeadItem.{HeadItem}
 use Rattle.lmn_solid.specs.Heads.{atoms_of, typed_contexts_of, membranes_of}
 use Rattle.lmn_instr.specs.Running.{atoms_set}
-use Rattle.lmn_machine.specs.Searching.{InOrder, membranes_set, parts_set}
+use Rattle.lmn_machine.specs.Searching.{HeadInOrder, membranes_set, parts_set}
 
 -- Code of the head of an accepted and well made rule, by its plan.
 pub record IsCodeOf (code : List Instr) (table : List RuleTree) (r : RuleTree) (plan : GuardPlan) : Type 0 where
@@ -16,7 +16,7 @@ pub record IsCodeOf (code : List Instr) (table : List RuleTree) (r : RuleTree) (
 
 -- Such code sets its registers in the order of their numbers, reads none that isn't set, and has no more than there are.
 abbrev pub AcceptedInOrder : Type 0
-AcceptedInOrder = (code : List Instr) (table : List RuleTree) (r : RuleTree) (plan : GuardPlan) → IsCodeOf code table r plan → InOrder 0 1 0 0 code
+AcceptedInOrder = (code : List Instr) (table : List RuleTree) (r : RuleTree) (plan : GuardPlan) → IsCodeOf code table r plan → HeadInOrder 0 1 0 0 code
 
 -- Such code sets a register for each atom, membrane and typed context of the head.
 pub record SetsItems (code : List Instr) (items : List HeadItem) : Type 0 where

@@ -4,13 +4,12 @@
 ghost use Rattle.std.specs.Prelude.{◌≡◌, List, IsTrue, IsFalse};
 ghost use Rattle.lmn_base.specs.declared.rule.RuleTree.{RuleTree};
 ghost use Rattle.lmn_guards.specs.declared.plan.GuardPlan.{GuardPlan};
-ghost use Rattle.lmn_heap.specs.Heap.{IsMem};
+ghost use Rattle.lmn_heap.specs.Heap.{IsMem, Unmarked};
 ghost use Rattle.lmn_heap.specs.Sound.{Valid};
 ghost use Rattle.lmn_solid.specs.Embeddings.{Images, Embeds, IsLeast};
-ghost use Rattle.lmn_instr.specs.Running.{Registers};
+ghost use Rattle.lmn_instr.specs.Running.{HeadRegisters};
 ghost use Rattle.lmn_compile_head.specs.Accepted.{head_items};
 ghost use Rattle.lmn_registers.specs.Agreeing.{Agrees};
-ghost use Rattle.lmn_machine.specs.Searching.{Unmarked};
 ghost use Rattle.lmn_matching.specs.AcceptedCode.{IsCodeOf, AcceptedInOrder, AcceptedSetsItems};
 
 use lmn_compile_head::{accepted_heads, accepted_least};
@@ -46,7 +45,7 @@ pub fn find_match<S: LinkStore>(
     requires membrane { IsMem (S.heap store.old) (S.mem_id membrane) }
     requires code { (table : List RuleTree) × (r : RuleTree) × (plan : GuardPlan) × IsCodeOf code.now table r plan }
     ensures same { S.heap store.new ≡ S.heap store.old }
-    ensures least { IsTrue result → (table : List RuleTree) (r : RuleTree) (plan : GuardPlan) → IsCodeOf code.now table r plan → (s : Registers) → Agrees S.atom_id S.mem_id set.new s →
+    ensures least { IsTrue result → (table : List RuleTree) (r : RuleTree) (plan : GuardPlan) → IsCodeOf code.now table r plan → (s : HeadRegisters) → Agrees S.atom_id S.mem_id set.new s →
         IsLeast (S.heap store.old) (head_items r plan) r.guard (S.mem_id membrane) s.images }
     ensures none { IsFalse result → (table : List RuleTree) (r : RuleTree) (plan : GuardPlan) → IsCodeOf code.now table r plan → (f : Images) →
         Embeds (S.heap store.old) (head_items r plan) r.guard (S.mem_id membrane) f → ⊥ }

@@ -1,15 +1,16 @@
 -- Places by rising place, with one place more.
-use Rattle.std.proofs.Common.{◌≡◌, ℕ, zero, suc, ◌<◌, ◌≤◌, ◌⊎◌, inl, inr, ◌==◌, ◌&&◌, ◌||◌, Bool, true, false, if◌then◌else◌, List, [], ◌∷◌, ◌++◌, slice_get, Option, Some, None, All, AllPairs, refl, sym, ap, ◌∙◌, subst, arith}
+use Rattle.std.proofs.Common.{◌≡◌, ℕ, ◌<◌, ◌≤◌, ◌⊎◌, ◌==◌, ◌&&◌, ◌||◌, Bool, true, false, if◌then◌else◌, List, [], ◌∷◌, ◌++◌, slice_get, Option, Some, None, AllPairs, refl, sym, ap, ◌∙◌, subst, arith}
 use Rattle.std.specs.List.Sorted.{IsPermutation}
 use Rattle.std.specs.Prelude.{nat_lt, nat_le}
 use Rattle.std.proofs.lemmas.Bool.Decides.{nat_tests}
 use Rattle.std.proofs.lemmas.List.Kept.{AllPairs-cons}
-use Rattle.std.proofs.lemmas.List.Sorted.{IsPermutation-refl, IsPermutation-trans, IsPermutation-cons, IsPermutation-append_left, IsPermutation-append_comm, All-permutation}
+use Rattle.std.proofs.lemmas.List.Sorted.{IsPermutation-refl, IsPermutation-trans, IsPermutation-cons, IsPermutation-append_comm, All-permutation}
 use Rattle.lmn_base.specs.declared.refusal.Pos.{Pos}
 use Rattle.lmn_base.specs.LinkUses.{NotAfter}
 use Rattle.lmn_base.specs.PlaceOrder.{not_after}
 use Rattle.lmn_numbering.specs.declared.tally.FirstPlaces.{FirstPlaces}
-use Rattle.lmn_numbering.specs.Tallies.{comes_before, Rising, FirstOf, AreFirst}
+use Rattle.lmn_numbering.specs.Tallies.{comes_before, Rising, AreFirstThree, AreFirst}
+use Rattle.lmn_base.proofs.Common.{all_cons, first_before_all as head_first, pairs_tail as tail_rises, swapped_places as swapped, all_after}
 
 -- ---- the order of places
 
@@ -25,12 +26,6 @@ is_behind p q h = of_tests p.line q.line p.column q.column h
     of_tests : (a b c d : ℕ) → (nat_lt a b || ((a == b) && nat_le c d)) ≡ false → (b < a) ⊎ ((b ≡ a) × (d ≤ c))
     of_tests a b c d h = grind (arith, nat_tests)
 
-not_after_on : (p q r : Pos) → NotAfter p q → NotAfter q r → NotAfter p r
-not_after_on p q r (inl a) (inl b) = inl (omega (arith, a, b))
-not_after_on p q r (inl a) (inr b) = inl (omega (arith, a, b.0))
-not_after_on p q r (inr a) (inl b) = inl (omega (arith, a.0, b))
-not_after_on p q r (inr a) (inr b) = inr (a.0 ∙ b.0, omega (arith, a.1, b.1))
-
 -- ---- one place is put where it belongs
 
 abbrev put : Pos → List Pos → List Pos
@@ -44,9 +39,6 @@ put_front p (q ∷ qs) h = ap (λ t. if t then p ∷ q ∷ qs else q ∷ put p q
 put_behind : (p q : Pos) (qs : List Pos) → comes_before p (slice_get (q ∷ qs) 0) ≡ false → put p (q ∷ qs) ≡ q ∷ put p qs
 put_behind p q qs h = ap (λ t. if t then p ∷ q ∷ qs else q ∷ put p qs) h
 
-swapped : (a b : Pos) (bs : List Pos) → IsPermutation (a ∷ b ∷ bs) (b ∷ a ∷ bs)
-swapped a b bs = IsPermutation-append_left bs (a ∷ b ∷ []) (b ∷ a ∷ []) (IsPermutation-append_comm (a ∷ []) (b ∷ []))
-
 same_places : (p : Pos) (ps : List Pos) → IsPermutation (p ∷ ps) (put p ps)
 same_places p [] = IsPermutation-refl (p ∷ [])
 same_places p (q ∷ qs) = go (not_after p q) refl (same_places p qs)
@@ -54,20 +46,6 @@ same_places p (q ∷ qs) = go (not_after p q) refl (same_places p qs)
     go : (t : Bool) → not_after p q ≡ t → IsPermutation (p ∷ qs) (put p qs) → IsPermutation (p ∷ q ∷ qs) (if t then p ∷ q ∷ qs else q ∷ put p qs)
     go true e more = IsPermutation-refl (p ∷ q ∷ qs)
     go false e more = IsPermutation-trans (p ∷ q ∷ qs) (q ∷ p ∷ qs) (q ∷ put p qs) (swapped p q qs) (IsPermutation-cons q (p ∷ qs) (put p qs) more)
-
-all_after : (a b : Pos) (bs : List Pos) → NotAfter a b → AllPairs NotAfter (b ∷ bs) → All (NotAfter a) (b ∷ bs)
-all_after a b bs h g zero d l = h
-all_after a b bs h g (suc k) d l = not_after_on a b _ h (g zero (suc k) d (omega arith) l)
-
-tail_rises : (b : Pos) (bs : List Pos) → AllPairs NotAfter (b ∷ bs) → AllPairs NotAfter bs
-tail_rises b bs g i j d l m = g (suc i) (suc j) d (omega (arith, l)) (omega (arith, m))
-
-head_first : (b : Pos) (bs : List Pos) → AllPairs NotAfter (b ∷ bs) → All (NotAfter b) bs
-head_first b bs g k d l = g zero (suc k) d (omega arith) (omega (arith, l))
-
-all_cons : (P : Pos → Type 0) (a : Pos) (bs : List Pos) → P a → All P bs → All P (a ∷ bs)
-all_cons P a bs h g zero d l = h
-all_cons P a bs h g (suc k) d l = g k d (omega (arith, l))
 
 still_rise : (p : Pos) (ps : List Pos) → AllPairs NotAfter ps → AllPairs NotAfter (put p ps)
 still_rise p [] h = λ i j d l m. absurd (omega (arith, l, m))
@@ -90,42 +68,42 @@ put_rising p places ps r = record {
 absurd_front : (p : Pos) (o : Option Pos) → o ≡ None → comes_before p o ≡ false → ⊥
 absurd_front p o e h = let f : comes_before p o ≡ true = ap (comes_before p) e in absurd (cc)
 
-put_first : (p : Pos) (ps : List Pos) (f : FirstPlaces) → FirstOf ps f → comes_before p f.first ≡ true → FirstOf (put p ps) (record { first = Some p; second = f.first; third = f.second })
+put_first : (p : Pos) (ps : List Pos) (f : FirstPlaces) → AreFirstThree ps f → comes_before p f.first ≡ true → AreFirstThree (put p ps) (record { first = Some p; second = f.first; third = f.second })
 put_first p ps f h a =
-    let P : List Pos → Type 0 = λ qs. FirstOf qs (record { first = Some p; second = f.first; third = f.second }) in
+    let P : List Pos → Type 0 = λ qs. AreFirstThree qs (record { first = Some p; second = f.first; third = f.second }) in
     subst P (sym (put_front p ps (ap (comes_before p) (sym h.first) ∙ a))) (record { first = refl; second = h.first; third = h.second })
 
-put_second : (p : Pos) (ps : List Pos) (f : FirstPlaces) → FirstOf ps f → comes_before p f.first ≡ false → comes_before p f.second ≡ true
-    → FirstOf (put p ps) (record { first = f.first; second = Some p; third = f.second })
+put_second : (p : Pos) (ps : List Pos) (f : FirstPlaces) → AreFirstThree ps f → comes_before p f.first ≡ false → comes_before p f.second ≡ true
+    → AreFirstThree (put p ps) (record { first = f.first; second = Some p; third = f.second })
 put_second p [] f h a b = absurd (absurd_front p f.first h.first a)
 put_second p (q ∷ qs) f h a b =
-    let P : List Pos → Type 0 = λ xs. FirstOf xs (record { first = f.first; second = Some p; third = f.second }) in
+    let P : List Pos → Type 0 = λ xs. AreFirstThree xs (record { first = f.first; second = Some p; third = f.second }) in
     let e = put_behind p q qs (ap (comes_before p) (sym h.first) ∙ a) ∙ ap (λ xs. q ∷ xs) (put_front p qs (ap (comes_before p) (sym h.second) ∙ b)) in
     subst P (sym e) (record { first = h.first; second = refl; third = h.second })
 
-put_third : (p : Pos) (ps : List Pos) (f : FirstPlaces) → FirstOf ps f → comes_before p f.first ≡ false → comes_before p f.second ≡ false → comes_before p f.third ≡ true
-    → FirstOf (put p ps) (record { first = f.first; second = f.second; third = Some p })
+put_third : (p : Pos) (ps : List Pos) (f : FirstPlaces) → AreFirstThree ps f → comes_before p f.first ≡ false → comes_before p f.second ≡ false → comes_before p f.third ≡ true
+    → AreFirstThree (put p ps) (record { first = f.first; second = f.second; third = Some p })
 put_third p [] f h a b c = absurd (absurd_front p f.first h.first a)
 put_third p (q ∷ []) f h a b c = absurd (absurd_front p f.second h.second b)
 put_third p (q ∷ r ∷ qs) f h a b c =
-    let P : List Pos → Type 0 = λ xs. FirstOf xs (record { first = f.first; second = f.second; third = Some p }) in
+    let P : List Pos → Type 0 = λ xs. AreFirstThree xs (record { first = f.first; second = f.second; third = Some p }) in
     let e = put_behind p q (r ∷ qs) (ap (comes_before p) (sym h.first) ∙ a)
     ∙ ap (λ xs. q ∷ xs) (put_behind p r qs (ap (comes_before p) (sym h.second) ∙ b) ∙ ap (λ xs. r ∷ xs) (put_front p qs (ap (comes_before p) (sym h.third) ∙ c))) in
     subst P (sym e) (record { first = h.first; second = h.second; third = refl })
 
-put_later : (p : Pos) (ps : List Pos) (f : FirstPlaces) → FirstOf ps f → comes_before p f.first ≡ false → comes_before p f.second ≡ false → comes_before p f.third ≡ false
-    → FirstOf (put p ps) f
+put_later : (p : Pos) (ps : List Pos) (f : FirstPlaces) → AreFirstThree ps f → comes_before p f.first ≡ false → comes_before p f.second ≡ false → comes_before p f.third ≡ false
+    → AreFirstThree (put p ps) f
 put_later p [] f h a b c = absurd (absurd_front p f.first h.first a)
 put_later p (q ∷ []) f h a b c = absurd (absurd_front p f.second h.second b)
 put_later p (q ∷ r ∷ []) f h a b c = absurd (absurd_front p f.third h.third c)
 put_later p (q ∷ r ∷ s ∷ qs) f h a b c =
-    let P : List Pos → Type 0 = λ xs. FirstOf xs f in
+    let P : List Pos → Type 0 = λ xs. AreFirstThree xs f in
     let e = put_behind p q (r ∷ s ∷ qs) (ap (comes_before p) (sym h.first) ∙ a)
     ∙ ap (λ xs. q ∷ xs) (put_behind p r (s ∷ qs) (ap (comes_before p) (sym h.second) ∙ b) ∙ ap (λ xs. r ∷ xs) (put_behind p s qs (ap (comes_before p) (sym h.third) ∙ c))) in
     subst P (sym e) (record { first = h.first; second = h.second; third = h.third })
 
 -- the first three with one place more, by where it belongs
-put_in : (p : Pos) (ps : List Pos) (f g : FirstPlaces) → AreFirst ps f → ((qs : List Pos) → FirstOf qs f → FirstOf (put p qs) g) → AreFirst (ps ++ p ∷ []) g
+put_in : (p : Pos) (ps : List Pos) (f g : FirstPlaces) → AreFirst ps f → ((qs : List Pos) → AreFirstThree qs f → AreFirstThree (put p qs) g) → AreFirst (ps ++ p ∷ []) g
 put_in p ps f g h k = record { rising = put p h.rising; sorted = put_rising p ps h.rising h.sorted; first = k h.rising h.first }
 
 module _ (p : Pos) (f : FirstPlaces) where

@@ -5,7 +5,7 @@ use Rattle.std.proofs.lemmas.List.Elements.{All-append, All-nil, All-cons, All-w
 use Rattle.std.proofs.lemmas.Option.{same_Some}
 use Rattle.lmn_base.specs.Links.{Numbers, no_more, known, new}
 use Rattle.lmn_numbering.specs.declared.numbering.Numbering.{Numbering}
-use Rattle.lmn_numbering.specs.Numberings.{left, HasNumber, IsNumbering, IsNew, Agrees, Gives}
+use Rattle.lmn_numbering.specs.Numberings.{left, HasNumber, IsNumbering, IsNewNumbering, FollowsNumbering, GivesNumbers}
 
 -- one list is numbered, and then another
 pub numbers_append : {n m k : ℕ} {xs ys : List ℕ} → Numbers n xs m → Numbers m ys k → Numbers n (xs ++ ys) k
@@ -48,9 +48,9 @@ no_number (suc size) zero n h = absurd (cc)
 no_number (suc size) (suc key) n h = no_number size key n h
 
 -- a table with no number
-pub new_numbering : (size : ℕ) (numbers : List (Option ℕ)) → numbers ≡ replicate size None → size < 2 ^ 32 → IsNew size (record { numbers = numbers; count = 0 })
+pub new_numbering : (size : ℕ) (numbers : List (Option ℕ)) → numbers ≡ replicate size None → size < 2 ^ 32 → IsNewNumbering size (record { numbers = numbers; count = 0 })
 new_numbering size numbers e fits =
-    let P : List (Option ℕ) → Type 0 = λ ns. IsNew size (record { numbers = ns; count = 0 }) in
+    let P : List (Option ℕ) → Type 0 = λ ns. IsNewNumbering size (record { numbers = ns; count = 0 }) in
     let nothing : Option ℕ = None in
     let size_is = length-replicate size nothing in
     let left_is = left_none size in
@@ -68,11 +68,11 @@ new_numbering size numbers e fits =
 -- ---- links get numbers
 
 -- no link occurs
-pub gives_none : (t : Numbering) → IsNumbering t → Gives [] t t
+pub gives_none : (t : Numbering) → IsNumbering t → GivesNumbers [] t t
 gives_none t v = record { valid = v; keys = refl; kept = λ key n h. h; numbered = All-nil (λ key. (n : ℕ) × HasNumber t key n); order = λ to a. no_more }
 
 -- a link that has a number
-pub gives_known : (t : Numbering) (key n : ℕ) → IsNumbering t → HasNumber t key n → Gives (key ∷ []) t t
+pub gives_known : (t : Numbering) (key n : ℕ) → IsNumbering t → HasNumber t key n → GivesNumbers (key ∷ []) t t
 gives_known t key n v h = record {
   valid = v;
   keys = refl;
@@ -82,7 +82,7 @@ gives_known t key n v h = record {
 }
 
 -- what agrees after some links agrees before them
-pub agrees_before : (links : List ℕ) (t u : Numbering) (to : ℕ → ℕ) → Gives links t u → Agrees to u → Agrees to t
+pub agrees_before : (links : List ℕ) (t u : Numbering) (to : ℕ → ℕ) → GivesNumbers links t u → FollowsNumbering to u → FollowsNumbering to t
 agrees_before links t u to g a key n h = a key n (g.kept key n h)
 
 -- a link that has none
@@ -124,7 +124,7 @@ module _ (t : Numbering) (key : ℕ) (v : IsNumbering t) (free : slice_get t.num
           let l = v.below a n (elsewhere a n e h) in absurd (omega (arith, i, l))
       go_apart a b n h g (inr e) (inr f) = v.apart a b n (elsewhere a n e h) (elsewhere b n f g)
 
-  pub gives_new : Gives (key ∷ []) t after
+  pub gives_new : GivesNumbers (key ∷ []) t after
   gives_new = record {
     valid = valid_after;
     keys = length-set t.numbers key (Some t.count);
@@ -148,11 +148,11 @@ module _ (t : Numbering) (key : ℕ) (v : IsNumbering t) (free : slice_get t.num
           subst P (sym e) (subst Q m (new no_more))
 
   -- what agrees gives this link the number
-  pub number_is : (to : ℕ → ℕ) → Agrees to after → t.count ≡ to key
+  pub number_is : (to : ℕ → ℕ) → FollowsNumbering to after → t.count ≡ to key
   number_is to a = sym (a key t.count here)
 
 -- some links, and then others
-pub gives_more : (ks js : List ℕ) (t u v : Numbering) → Gives ks t u → Gives js u v → Gives (ks ++ js) t v
+pub gives_more : (ks js : List ℕ) (t u v : Numbering) → GivesNumbers ks t u → GivesNumbers js u v → GivesNumbers (ks ++ js) t v
 gives_more ks js t u v g h = record {
   valid = h.valid;
   keys = h.keys ∙ g.keys;
@@ -166,18 +166,18 @@ gives_more ks js t u v g h = record {
 
 -- the same, as the code has it
 module _ (t : Numbering) (key : ℕ) (was : Option ℕ) (numbers : List (Option ℕ)) (v : IsNumbering t) (read : slice_get t.numbers key ≡ Some was) where
-  pub gives_old : (n : ℕ) → was ≡ Some n → Gives (key ∷ []) t t
+  pub gives_old : (n : ℕ) → was ≡ Some n → GivesNumbers (key ∷ []) t t
   gives_old n e = gives_known t key n v (read ∙ ap Some e)
 
   pub room_left : was ≡ None → t.count < length t.numbers
   room_left e = room t key v (read ∙ ap Some e)
 
-  pub gives_next : was ≡ None → numbers ≡ set t.numbers key (Some t.count) → Gives (key ∷ []) t (record { numbers = numbers; count = t.count + 1 })
+  pub gives_next : was ≡ None → numbers ≡ set t.numbers key (Some t.count) → GivesNumbers (key ∷ []) t (record { numbers = numbers; count = t.count + 1 })
   gives_next e w =
-      let P : List (Option ℕ) → Type 0 = λ ns. Gives (key ∷ []) t (record { numbers = ns; count = t.count + 1 }) in
+      let P : List (Option ℕ) → Type 0 = λ ns. GivesNumbers (key ∷ []) t (record { numbers = ns; count = t.count + 1 }) in
       subst P (sym w) (gives_new t key v (read ∙ ap Some e))
 
-  pub next_is : was ≡ None → numbers ≡ set t.numbers key (Some t.count) → (to : ℕ → ℕ) → Agrees to (record { numbers = numbers; count = t.count + 1 }) → t.count ≡ to key
+  pub next_is : was ≡ None → numbers ≡ set t.numbers key (Some t.count) → (to : ℕ → ℕ) → FollowsNumbering to (record { numbers = numbers; count = t.count + 1 }) → t.count ≡ to key
   next_is e w to a =
-      let P : List (Option ℕ) → Type 0 = λ ns. Agrees to (record { numbers = ns; count = t.count + 1 }) in
+      let P : List (Option ℕ) → Type 0 = λ ns. FollowsNumbering to (record { numbers = ns; count = t.count + 1 }) in
       number_is t key v (read ∙ ap Some e) to (subst P w a)

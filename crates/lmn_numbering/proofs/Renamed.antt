@@ -8,9 +8,8 @@ use Rattle.lmn_base.specs.declared.level.Level.{Level}
 use Rattle.lmn_base.specs.declared.level.Level.TheFolds.{fold-roll-Level, ind-Level}
 use Rattle.lmn_base.specs.declared.level.Level.TheViews.{roll-Level}
 use Rattle.lmn_base.specs.declared.level.Occ.{Occ}
-use Rattle.lmn_base.specs.Levels.{leaves_of, leaf_occurrences, links_of}
+use Rattle.lmn_base.specs.Levels.{leaves_of, occurrences_of_leaf, links_of, link_numbers}
 use Rattle.lmn_numbering.specs.Renumbered.{renumbered_occurrence, renumbered_leaf, renumbered_step, renumbered}
-use Rattle.lmn_numbering.specs.Numberings.{links_in}
 
 -- ---- the links of a renamed level
 
@@ -35,25 +34,25 @@ module _ (to : ℕ → ℕ) where
       ∙ sym (ap (map (renumbered_leaf to)) (fold-roll-Level (List Leaf) (λ l. l.leaves ++ flat_map (λ inner. inner) l.membranes) y)
       ∙ map-append (renumbered_leaf to) y.leaves (flat_map (λ inner. inner) (map leaves_of y.membranes))))
 
-  renumbered_links_in : (os : List Occ) → links_in (map (renumbered_occurrence to) os) ≡ map to (links_in os)
+  renumbered_links_in : (os : List Occ) → link_numbers (map (renumbered_occurrence to) os) ≡ map to (link_numbers os)
   renumbered_links_in [] = refl
   renumbered_links_in (o ∷ os) = ap (λ ks. to o.link ∷ ks) (renumbered_links_in os)
 
-  leaf_links : (l : Leaf) → links_in (leaf_occurrences (renumbered_leaf to l)) ≡ map to (links_in (leaf_occurrences l))
+  leaf_links : (l : Leaf) → link_numbers (occurrences_of_leaf (renumbered_leaf to l)) ≡ map to (link_numbers (occurrences_of_leaf l))
   leaf_links (Atom functor links pos) = renumbered_links_in links
   leaf_links (Typed name link pos) = refl
 
-  leaves_links : (ls : List Leaf) → links_in (flat_map leaf_occurrences (map (renumbered_leaf to) ls)) ≡ map to (links_in (flat_map leaf_occurrences ls))
+  leaves_links : (ls : List Leaf) → link_numbers (flat_map occurrences_of_leaf (map (renumbered_leaf to) ls)) ≡ map to (link_numbers (flat_map occurrences_of_leaf ls))
   leaves_links [] = refl
   leaves_links (l ∷ ls) =
-      map-append (λ (o : Occ). o.link) (leaf_occurrences (renumbered_leaf to l)) (flat_map leaf_occurrences (map (renumbered_leaf to) ls))
-      ∙ ap (λ ks. ks ++ links_in (flat_map leaf_occurrences (map (renumbered_leaf to) ls))) (leaf_links l)
-      ∙ ap (λ ks. map to (links_in (leaf_occurrences l)) ++ ks) (leaves_links ls)
-      ∙ sym (ap (map to) (map-append (λ (o : Occ). o.link) (leaf_occurrences l) (flat_map leaf_occurrences ls)) ∙ map-append to (links_in (leaf_occurrences l)) (links_in (flat_map leaf_occurrences ls)))
+      map-append (λ (o : Occ). o.link) (occurrences_of_leaf (renumbered_leaf to l)) (flat_map occurrences_of_leaf (map (renumbered_leaf to) ls))
+      ∙ ap (λ ks. ks ++ link_numbers (flat_map occurrences_of_leaf (map (renumbered_leaf to) ls))) (leaf_links l)
+      ∙ ap (λ ks. map to (link_numbers (occurrences_of_leaf l)) ++ ks) (leaves_links ls)
+      ∙ sym (ap (map to) (map-append (λ (o : Occ). o.link) (occurrences_of_leaf l) (flat_map occurrences_of_leaf ls)) ∙ map-append to (link_numbers (occurrences_of_leaf l)) (link_numbers (flat_map occurrences_of_leaf ls)))
 
   -- they are those of the level, renamed
   pub renumbered_links : (l : Level) → links_of (renumbered to l) ≡ map to (links_of l)
-  renumbered_links l = ap (λ ls. links_in (flat_map leaf_occurrences ls)) (renumbered_leaves l) ∙ leaves_links (leaves_of l)
+  renumbered_links l = ap (λ ls. link_numbers (flat_map occurrences_of_leaf ls)) (renumbered_leaves l) ∙ leaves_links (leaves_of l)
 
 -- ---- renamed twice
 

@@ -1,16 +1,16 @@
 -- What the numbers, the tallies and the table say together.
-use Rattle.std.proofs.Common.{◌≡◌, ℕ, ◌<◌, List, ◌++◌, map, length, slice_get, Option, Some, None, All, sym, ap, ◌∙◌, subst, []}
+use Rattle.std.proofs.Common.{◌≡◌, ℕ, ◌<◌, List, ◌++◌, map, length, slice_get, Option, Some, None, All, sym, ap, ◌∙◌, subst}
 use Rattle.std.proofs.lemmas.List.{map-append}
 use Rattle.std.proofs.lemmas.List.Elements.{All-contains}
 use Rattle.lmn_base.specs.declared.level.Level.{Level}
 use Rattle.lmn_base.specs.declared.rule.LinkUse.{LinkUse}
-use Rattle.lmn_base.specs.Levels.{links_of, occurrences}
+use Rattle.lmn_base.specs.Levels.{links_of, occurrences_of}
 use Rattle.lmn_base.specs.Links.{Numbers}
 use Rattle.lmn_numbering.specs.declared.numbering.Numbering.{Numbering}
-use Rattle.lmn_numbering.specs.Numberings.{HasNumber, IsNew, Agrees, Gives}
+use Rattle.lmn_numbering.specs.Numberings.{HasNumber, IsNewNumbering, FollowsNumbering, GivesNumbers}
 use Rattle.lmn_numbering.specs.Renumbered.{renumbered}
-use Rattle.lmn_numbering.specs.Scopes.{OneToOne, NumbersLevel, NumbersRule}
-use Rattle.lmn_numbering.specs.Tallies.{AreAlone, AreJoined, EachOccurs, EachOccursAlone, AreTallies}
+use Rattle.lmn_numbering.specs.Scopes.{KeepsApart, NumbersLevel, NumbersRule}
+use Rattle.lmn_numbering.specs.Tallies.{AreAlone, IsJoinedTable, EachOccurs, EachOccursAlone, AreTallies}
 use Rattle.lmn_numbering.proofs.NumberSteps.{agrees_before, gives_more}
 use Rattle.lmn_numbering.proofs.LevelSteps.{all_left, all_right}
 use Rattle.lmn_numbering.proofs.Renamed.{renumbered_links}
@@ -26,11 +26,11 @@ number_or_none (Some (Some n)) = n
 abbrev number_in : Numbering → ℕ → ℕ
 number_in t key = number_or_none (slice_get t.numbers key)
 
-agrees_itself : (t : Numbering) → Agrees (number_in t) t
+agrees_itself : (t : Numbering) → FollowsNumbering (number_in t) t
 agrees_itself t key n h = ap number_or_none h
 
 -- different links have different numbers
-apart_in : (t u : Numbering) (links : List ℕ) → Gives links t u → OneToOne (number_in u) links
+apart_in : (t u : Numbering) (links : List ℕ) → GivesNumbers links t u → KeepsApart (number_in u) links
 apart_in t u links g a b i j e =
     let x = All-contains (λ key. (n : ℕ) × HasNumber u key n) links a g.numbered i in
     let y = All-contains (λ key. (n : ℕ) × HasNumber u key n) links b g.numbered j in
@@ -40,7 +40,7 @@ apart_in t u links g a b i j e =
 
 -- ---- a level
 
-module _ (keys : ℕ) (t u : Numbering) (old new : Level) (n : IsNew keys t) (g : Gives (links_of old) t u) (r : (to : ℕ → ℕ) → Agrees to u → new ≡ renumbered to old) (count : ℕ) (c : count ≡ u.count) where
+module _ (keys : ℕ) (t u : Numbering) (old new : Level) (n : IsNewNumbering keys t) (g : GivesNumbers (links_of old) t u) (r : (to : ℕ → ℕ) → FollowsNumbering to u → new ≡ renumbered to old) (count : ℕ) (c : count ≡ u.count) where
   level_numbers : Numbers 0 (links_of new) count
   level_numbers =
       let P : ℕ → Type 0 = λ k. Numbers k (links_of new) count in
@@ -52,7 +52,7 @@ module _ (keys : ℕ) (t u : Numbering) (old new : Level) (n : IsNew keys t) (g 
   pub level_below : All (λ k. k < count) (links_of new)
   level_below = numbers_below level_numbers
 
-  module _ (tallies : List Tally) (h : (length tallies ≡ count) × AreTallies (occurrences new) tallies) where
+  module _ (tallies : List Tally) (h : (length tallies ≡ count) × AreTallies (occurrences_of new) tallies) where
     pub level_occur : EachOccursAlone tallies
     level_occur = each_occurs_alone new count tallies level_numbers h
 
@@ -66,9 +66,9 @@ module _ (keys : ℕ) (t u : Numbering) (old new : Level) (n : IsNew keys t) (g 
 
 -- ---- a rule
 
-module _ (keys : ℕ) (t u v : Numbering) (old_head old_body head body : Level) (n : IsNew keys t) (g : Gives (links_of old_head) t u) (r : (to : ℕ → ℕ) → Agrees to u → head ≡ renumbered to old_head)
-    (f : Gives (links_of old_body) u v) (s : (to : ℕ → ℕ) → Agrees to v → body ≡ renumbered to old_body) (count : ℕ) (c : count ≡ v.count) where
-  given : Gives (links_of old_head ++ links_of old_body) t v
+module _ (keys : ℕ) (t u v : Numbering) (old_head old_body head body : Level) (n : IsNewNumbering keys t) (g : GivesNumbers (links_of old_head) t u) (r : (to : ℕ → ℕ) → FollowsNumbering to u → head ≡ renumbered to old_head)
+    (f : GivesNumbers (links_of old_body) u v) (s : (to : ℕ → ℕ) → FollowsNumbering to v → body ≡ renumbered to old_body) (count : ℕ) (c : count ≡ v.count) where
+  given : GivesNumbers (links_of old_head ++ links_of old_body) t v
   given = gives_more (links_of old_head) (links_of old_body) t u v g f
 
   head_is : head ≡ renumbered (number_in v) old_head
@@ -94,11 +94,11 @@ module _ (keys : ℕ) (t u v : Numbering) (old_head old_body head body : Level) 
   pub body_below : All (λ k. k < count) (links_of body)
   body_below = all_right (λ k. k < count) (links_of head) (links_of body) (numbers_below rule_numbers)
 
-  module _ (heads bodies : List Tally) (h : (length heads ≡ count) × AreTallies (occurrences head) heads) (b : (length bodies ≡ count) × AreTallies (occurrences body) bodies) where
+  module _ (heads bodies : List Tally) (h : (length heads ≡ count) × AreTallies (occurrences_of head) heads) (b : (length bodies ≡ count) × AreTallies (occurrences_of body) bodies) where
     pub rule_occur : EachOccurs heads bodies
     rule_occur = each_occurs head body count heads bodies rule_numbers h b
 
-    pub rule_is_numbered : (table : List LinkUse) → AreJoined heads bodies table → NumbersRule old_head old_body head body table
+    pub rule_is_numbered : (table : List LinkUse) → IsJoinedTable heads bodies table → NumbersRule old_head old_body head body table
     rule_is_numbered table j = record {
       to = number_in v;
       apart = apart_in t v (links_of old_head ++ links_of old_body) given;
@@ -109,12 +109,12 @@ module _ (keys : ℕ) (t u v : Numbering) (old_head old_body head body : Level) 
 
 -- ---- the keys of a rule
 
-module _ (keys : ℕ) (t u : Numbering) (head body : Level) (n : IsNew keys t) (all : All (λ k. k < keys) (links_of head ++ links_of body)) where
+module _ (keys : ℕ) (t u : Numbering) (head body : Level) (n : IsNewNumbering keys t) (all : All (λ k. k < keys) (links_of head ++ links_of body)) where
   pub head_keys : All (λ k. k < length t.numbers) (links_of head)
   head_keys = let P : ℕ → Type 0 = λ m. All (λ k. k < m) (links_of head) in subst P (sym n.keys) (all_left (λ k. k < keys) (links_of head) (links_of body) all)
 
-  pub body_keys : Gives (links_of head) t u → All (λ k. k < length u.numbers) (links_of body)
+  pub body_keys : GivesNumbers (links_of head) t u → All (λ k. k < length u.numbers) (links_of body)
   body_keys g = let P : ℕ → Type 0 = λ m. All (λ k. k < m) (links_of body) in subst P (sym (g.keys ∙ n.keys)) (all_right (λ k. k < keys) (links_of head) (links_of body) all)
 
-pub level_keys : (keys : ℕ) (t : Numbering) (level : Level) → IsNew keys t → All (λ k. k < keys) (links_of level) → All (λ k. k < length t.numbers) (links_of level)
+pub level_keys : (keys : ℕ) (t : Numbering) (level : Level) → IsNewNumbering keys t → All (λ k. k < keys) (links_of level) → All (λ k. k < length t.numbers) (links_of level)
 level_keys keys t level n all = let P : ℕ → Type 0 = λ m. All (λ k. k < m) (links_of level) in subst P (sym n.keys) all

@@ -1,5 +1,5 @@
 -- The table of links by what was counted of them.
-use Rattle.std.proofs.Common.{◌≡◌, ℕ, zero, suc, ◌+◌, ◌<◌, ◌≤◌, ◌⊎◌, inl, inr, ◌==◌, Bool, true, false, if◌then◌else◌, List, [], ◌∷◌, ◌++◌, map, filter, length, slice_get, Option, Some, None, is_some, MatchOption, unwrap_or, All, refl, sym, ap, ◌∙◌, subst, arith}
+use Rattle.std.proofs.Common.{◌≡◌, ℕ, ◌+◌, ◌<◌, ◌≤◌, ◌⊎◌, inl, inr, ◌==◌, Bool, true, false, if◌then◌else◌, List, [], ◌∷◌, ◌++◌, map, filter, length, slice_get, Option, Some, None, is_some, MatchOption, unwrap_or, All, refl, sym, ap, ◌∙◌, subst, arith}
 use Rattle.std.specs.Option.{IsSome, option_or}
 use Rattle.std.proofs.lemmas.Bool.Decides.{nat_tests}
 use Rattle.std.proofs.lemmas.Option.{same_Some, slice_get_within}
@@ -10,21 +10,22 @@ use Rattle.lmn_base.specs.declared.level.Level.{Level}
 use Rattle.lmn_base.specs.declared.level.Occ.{Occ}
 use Rattle.lmn_base.specs.declared.refusal.Pos.{Pos}
 use Rattle.lmn_base.specs.declared.rule.LinkUse.{LinkUse}
-use Rattle.lmn_base.specs.Levels.{occurrences, links_of}
+use Rattle.lmn_base.specs.Levels.{occurrences_of, links_of, link_numbers}
 use Rattle.lmn_base.specs.Links.{Numbers, NumbersLinks, no_more, known, new}
 use Rattle.lmn_base.specs.LinkUses.{RisingPlaces, no_places, places_and, TellsOf, IsTableOf}
 use Rattle.lmn_numbering.specs.declared.tally.FirstPlaces.{FirstPlaces}
 use Rattle.lmn_numbering.specs.declared.tally.Tally.{Tally}
-use Rattle.lmn_numbering.specs.Numberings.{links_in}
-use Rattle.lmn_numbering.specs.Tallies.{Rising, FirstOf, IsTally, places_among, AreTallies, EachOccurs, EachOccursAlone, IsAlone, EachAlone, AreAlone, IsJoined, EachJoined, AreJoined}
+use Rattle.lmn_numbering.specs.Tallies.{Rising, AreFirstThree, IsTally, places_among, AreTallies, EachOccurs, EachOccursAlone, IsOwnTally, EachAlone, AreAlone, IsJoinedEntry, EachJoined, IsJoinedTable}
 use Rattle.lmn_numbering.proofs.TallySteps.{last_or_before}
+use Rattle.lmn_base.proofs.Lists.{In, get_there as read_at, in_either}
+use Rattle.lmn_base.proofs.Common.{numbers_grow, numbers_in}
 
 -- ---- one entry
 
 pub joined_tells : (head body : Tally) (places : FirstPlaces) (count : ℕ) (first third : Pos)
-    → ((ps qs : List Pos) → FirstOf ps head.places → FirstOf qs body.places → FirstOf (ps ++ qs) places)
+    → ((ps qs : List Pos) → AreFirstThree ps head.places → AreFirstThree qs body.places → AreFirstThree (ps ++ qs) places)
     → places.first ≡ Some first → third ≡ unwrap_or places.third first → count ≡ head.count + body.count
-    → IsJoined head body (record { count = count; first = first; third = third })
+    → IsJoinedEntry head body (record { count = count; first = first; third = third })
 joined_tells head body places count first third follows e f n ps qs h b =
     let fs = follows h.first.rising b.first.rising h.first.first b.first.first in (
       h.first.rising,
@@ -46,7 +47,7 @@ joined_tells head body places count first third follows e f n ps qs h b =
     of_third (Some p) g = g
 
 pub alone_tells : (t : Tally) (first third : Pos) → t.places.first ≡ Some first → third ≡ unwrap_or t.places.third first
-    → IsAlone t (record { count = t.count; first = first; third = third })
+    → IsOwnTally t (record { count = t.count; first = first; third = third })
 alone_tells t first third e f ps h = (
   h.first.rising,
   h.first.sorted,
@@ -63,51 +64,20 @@ alone_tells t first third e f ps h = (
 
 -- ---- each link occurs
 
-numbers_grow : {n m : ℕ} {xs : List ℕ} → Numbers n xs m → n ≤ m
-numbers_grow no_more = omega arith
-numbers_grow (known l h) = numbers_grow h
-numbers_grow (new h) = let g = numbers_grow h in omega (arith, g)
-
 -- every number is below their end
 pub numbers_below : {n m : ℕ} {xs : List ℕ} → Numbers n xs m → All (λ k. k < m) xs
 numbers_below {m = m} no_more = All-nil (λ k. k < m)
 numbers_below {m = m} (known {x = x} {xs = xs} l h) = let g = numbers_grow h in All-cons (λ k. k < m) x xs (omega (arith, l, g)) (numbers_below h)
 numbers_below {n = n} {m = m} (new {xs = xs} h) = let g = numbers_grow h in All-cons (λ k. k < m) n xs (omega (arith, g)) (numbers_below h)
 
-abbrev In : ℕ → List ℕ → Type 0
-In x [] = ⊥
-In x (y ∷ ys) = (x ≡ y) ⊎ In x ys
-
--- every number is one of them
-numbers_in : {n m : ℕ} {xs : List ℕ} → Numbers n xs m → (x : ℕ) → n ≤ x → x < m → In x xs
-numbers_in no_more x a b = absurd (omega (arith, a, b))
-numbers_in (known l h) x a b = inr (numbers_in h x a b)
-numbers_in {n = n} (new {xs = xs} h) x a b = go xs (first x n a) (λ c. numbers_in h x c b)
-  where
-    first : (x n : ℕ) → n ≤ x → (x ≡ n) ⊎ (suc n ≤ x)
-    first x n a = grind arith
-
-    go : (xs : List ℕ) → (x ≡ n) ⊎ (suc n ≤ x) → (suc n ≤ x → In x xs) → In x (n ∷ xs)
-    go xs (inl e) more = inl e
-    go xs (inr l) more = inr (more l)
-
-in_either : (x : ℕ) (xs ys : List ℕ) → In x (xs ++ ys) → In x xs ⊎ In x ys
-in_either x [] ys h = inr h
-in_either x (y ∷ xs) ys (inl e) = inl (inl e)
-in_either x (y ∷ xs) ys (inr h) = go (in_either x xs ys h)
-  where
-    go : In x xs ⊎ In x ys → In x (y ∷ xs) ⊎ In x ys
-    go (inl i) = inl (inr i)
-    go (inr i) = inr i
-
-some_place : (x : ℕ) (os : List Occ) → In x (links_in os) → 0 < length (places_among x os)
+some_place : (x : ℕ) (os : List Occ) → In x (link_numbers os) → 0 < length (places_among x os)
 some_place x [] h = absurd h
 some_place x (o ∷ os) h = go (o.link == x) refl h (some_place x os)
   where
     same : (a b : ℕ) → b ≡ a → (a == b) ≡ true
     same a b h = grind (arith, nat_tests)
 
-    go : (t : Bool) → (o.link == x) ≡ t → In x (links_in (o ∷ os)) → (In x (links_in os) → 0 < length (places_among x os))
+    go : (t : Bool) → (o.link == x) ≡ t → In x (link_numbers (o ∷ os)) → (In x (link_numbers os) → 0 < length (places_among x os))
         → 0 < length (map (λ (o : Occ). o.pos) (if t then o ∷ filter (λ o. o.link == x) os else filter (λ o. o.link == x) os))
     go true e h more = omega arith
     go false e (inl f) more = absurd (let g = same o.link x f in absurd_tests g e)
@@ -130,7 +100,7 @@ either_some None p (inl h) = absurd (cc)
 either_some None p (inr h) = h
 
 module _ (head body : Level) (n : ℕ) (heads bodies : List Tally) (numbered : Numbers 0 (links_of head ++ links_of body) n)
-    (h : (length heads ≡ n) × AreTallies (occurrences head) heads) (b : (length bodies ≡ n) × AreTallies (occurrences body) bodies) where
+    (h : (length heads ≡ n) × AreTallies (occurrences_of head) heads) (b : (length bodies ≡ n) × AreTallies (occurrences_of body) bodies) where
   pub each_occurs : EachOccurs heads bodies
   each_occurs x t u r s =
       let l = slice_get_within heads x t r in
@@ -138,22 +108,16 @@ module _ (head body : Level) (n : ℕ) (heads bodies : List Tally) (numbered : N
       either_some t.places.first u.places.first (go (in_either x (links_of head) (links_of body) (numbers_in numbered x (omega arith) (omega (arith, l, size)))))
     where
       go : In x (links_of head) ⊎ In x (links_of body) → IsSome t.places.first ⊎ IsSome u.places.first
-      go (inl i) = inl (has_first (places_among x (occurrences head)) t (h.1 x t r) (some_place x (occurrences head) i))
-      go (inr i) = inr (has_first (places_among x (occurrences body)) u (b.1 x u s) (some_place x (occurrences body) i))
-
--- ---- the whole table
-read_at : {A : Type 0} (xs : List A) (x : ℕ) → x < length xs → (a : A) × (slice_get xs x ≡ Some a)
-read_at [] x l = absurd (omega (arith, l))
-read_at (a ∷ xs) zero l = (a, refl)
-read_at (a ∷ xs) (suc x) l = read_at xs x (omega (arith, l))
+      go (inl i) = inl (has_first (places_among x (occurrences_of head)) t (h.1 x t r) (some_place x (occurrences_of head) i))
+      go (inr i) = inr (has_first (places_among x (occurrences_of body)) u (b.1 x u s) (some_place x (occurrences_of body) i))
 
 -- ---- one entry after another
 
-same_joined : (h g b c : Tally) (u v : LinkUse) → h ≡ g → b ≡ c → u ≡ v → IsJoined h b u → IsJoined g c v
+same_joined : (h g b c : Tally) (u v : LinkUse) → h ≡ g → b ≡ c → u ≡ v → IsJoinedEntry h b u → IsJoinedEntry g c v
 same_joined h g b c u v e f k j =
-    let P : Tally → Type 0 = λ t. IsJoined t b u in
-    let Q : Tally → Type 0 = λ t. IsJoined g t u in
-    let R : LinkUse → Type 0 = λ w. IsJoined g c w in
+    let P : Tally → Type 0 = λ t. IsJoinedEntry t b u in
+    let Q : Tally → Type 0 = λ t. IsJoinedEntry g t u in
+    let R : LinkUse → Type 0 = λ w. IsJoinedEntry g c w in
     subst R k (subst Q f (subst P e j))
 
 module _ (heads bodies : List Tally) where
@@ -164,14 +128,14 @@ module _ (heads bodies : List Tally) where
       nothing x u r = cc
 
   pub entries_next : (i : ℕ) (table longer : List LinkUse) (h b : Tally) (u : LinkUse) → (length table ≡ i) × EachJoined heads bodies table → slice_get heads i ≡ Some h → slice_get bodies i ≡ Some b
-      → IsJoined h b u → longer ≡ table ++ u ∷ [] → (length longer ≡ i + 1) × EachJoined heads bodies longer
+      → IsJoinedEntry h b u → longer ≡ table ++ u ∷ [] → (length longer ≡ i + 1) × EachJoined heads bodies longer
   entries_next i table longer h b u before r s joined e =
       let size = length-append table (u ∷ []) in
       let whole = ap length e in
       let was = before.0 in
       (omega (arith, size, whole, was), λ x g c v p q t. let P : List LinkUse → Type 0 = λ us. slice_get us x ≡ Some v in go x g c v p q (last_or_before table u v x (subst P e t)))
     where
-      go : (x : ℕ) (g c : Tally) (v : LinkUse) → slice_get heads x ≡ Some g → slice_get bodies x ≡ Some c → (slice_get table x ≡ Some v) ⊎ ((x ≡ length table) × (u ≡ v)) → IsJoined g c v
+      go : (x : ℕ) (g c : Tally) (v : LinkUse) → slice_get heads x ≡ Some g → slice_get bodies x ≡ Some c → (slice_get table x ≡ Some v) ⊎ ((x ≡ length table) × (u ≡ v)) → IsJoinedEntry g c v
       go x g c v p q (inl t) = before.1 x g c v p q t
       go x g c v p q (inr t) =
           let at : x ≡ i = t.0 ∙ before.0 in
@@ -181,13 +145,13 @@ module _ (heads bodies : List Tally) where
           let c_is : b ≡ c = same_Some b c (sym s ∙ subst S at q) in
           same_joined h g b c u v g_is c_is t.1 joined
 
-  pub entries_all : (table : List LinkUse) (i n : ℕ) → (length table ≡ i) × EachJoined heads bodies table → n ≤ i → i ≤ n → n ≡ length heads → AreJoined heads bodies table
+  pub entries_all : (table : List LinkUse) (i n : ℕ) → (length table ≡ i) × EachJoined heads bodies table → n ≤ i → i ≤ n → n ≡ length heads → IsJoinedTable heads bodies table
   entries_all table i n before l m e = let was = before.0 in record { links = omega (arith, l, m, e, was); each = before.1 }
 
-same_alone : (t r : Tally) (u v : LinkUse) → t ≡ r → u ≡ v → IsAlone t u → IsAlone r v
+same_alone : (t r : Tally) (u v : LinkUse) → t ≡ r → u ≡ v → IsOwnTally t u → IsOwnTally r v
 same_alone t r u v e k j =
-    let P : Tally → Type 0 = λ s. IsAlone s u in
-    let R : LinkUse → Type 0 = λ w. IsAlone r w in
+    let P : Tally → Type 0 = λ s. IsOwnTally s u in
+    let R : LinkUse → Type 0 = λ w. IsOwnTally r w in
     subst R k (subst P e j)
 
 module _ (tallies : List Tally) where
@@ -198,14 +162,14 @@ module _ (tallies : List Tally) where
       nothing x u r = cc
 
   pub alone_next : (i : ℕ) (table longer : List LinkUse) (t : Tally) (u : LinkUse) → (length table ≡ i) × EachAlone tallies table → slice_get tallies i ≡ Some t
-      → IsAlone t u → longer ≡ table ++ u ∷ [] → (length longer ≡ i + 1) × EachAlone tallies longer
+      → IsOwnTally t u → longer ≡ table ++ u ∷ [] → (length longer ≡ i + 1) × EachAlone tallies longer
   alone_next i table longer t u before r alone e =
       let size = length-append table (u ∷ []) in
       let whole = ap length e in
       let was = before.0 in
       (omega (arith, size, whole, was), λ x s v p q. let P : List LinkUse → Type 0 = λ us. slice_get us x ≡ Some v in go x s v p (last_or_before table u v x (subst P e q)))
     where
-      go : (x : ℕ) (s : Tally) (v : LinkUse) → slice_get tallies x ≡ Some s → (slice_get table x ≡ Some v) ⊎ ((x ≡ length table) × (u ≡ v)) → IsAlone s v
+      go : (x : ℕ) (s : Tally) (v : LinkUse) → slice_get tallies x ≡ Some s → (slice_get table x ≡ Some v) ⊎ ((x ≡ length table) × (u ≡ v)) → IsOwnTally s v
       go x s v p (inl q) = before.1 x s v p q
       go x s v p (inr q) =
           let at : x ≡ i = q.0 ∙ before.0 in
@@ -217,20 +181,20 @@ module _ (tallies : List Tally) where
 
 -- ---- the table of a rule, and of a level
 
-rule_places : (head body : Level) (x : ℕ) (u : LinkUse) (hs bs : List Pos) → Rising (places_among x (occurrences head)) hs → Rising (places_among x (occurrences body)) bs → TellsOf (hs ++ bs) u
+rule_places : (head body : Level) (x : ℕ) (u : LinkUse) (hs bs : List Pos) → Rising (places_among x (occurrences_of head)) hs → Rising (places_among x (occurrences_of body)) bs → TellsOf (hs ++ bs) u
     → (ps : List Pos) × RisingPlaces x (head ∷ body ∷ []) ps × TellsOf ps u
 rule_places head body x u hs bs h b t =
     let R : List Pos → Type 0 = λ ps. TellsOf (hs ++ ps) u in
     (hs ++ (bs ++ []), places_and h.same h.rise (places_and b.same b.rise no_places), subst R (sym (append-nil bs)) t)
 
-level_places : (level : Level) (x : ℕ) (u : LinkUse) (ps : List Pos) → Rising (places_among x (occurrences level)) ps → TellsOf ps u
+level_places : (level : Level) (x : ℕ) (u : LinkUse) (ps : List Pos) → Rising (places_among x (occurrences_of level)) ps → TellsOf ps u
     → (qs : List Pos) × RisingPlaces x (level ∷ []) qs × TellsOf qs u
 level_places level x u ps h t =
     let R : List Pos → Type 0 = λ qs. TellsOf qs u in
     (ps ++ [], places_and h.same h.rise no_places, subst R (sym (append-nil ps)) t)
 
 module _ (head body : Level) (n : ℕ) (heads bodies : List Tally) (table : List LinkUse) (numbered : Numbers 0 (links_of head ++ links_of body) n)
-    (h : (length heads ≡ n) × AreTallies (occurrences head) heads) (b : (length bodies ≡ n) × AreTallies (occurrences body) bodies) (t : AreJoined heads bodies table) where
+    (h : (length heads ≡ n) × AreTallies (occurrences_of head) heads) (b : (length bodies ≡ n) × AreTallies (occurrences_of body) bodies) (t : IsJoinedTable heads bodies table) where
   pub rule_table : IsTableOf (head ∷ body ∷ []) table
   rule_table =
       let P : ℕ → Type 0 = λ m. NumbersLinks (links_of head ++ links_of body) m in
@@ -243,11 +207,11 @@ module _ (head body : Level) (n : ℕ) (heads bodies : List Tally) (table : List
             let k = t.links in let m = h.0 in let o = b.0 in
             let hd = read_at heads x (omega (arith, l, k)) in
             let bd = read_at bodies x (omega (arith, l, k, m, o)) in
-            let j = t.each x hd.0 bd.0 u hd.1 bd.1 r (places_among x (occurrences head)) (places_among x (occurrences body)) (h.1 x hd.0 hd.1) (b.1 x bd.0 bd.1) in
+            let j = t.each x hd.0 bd.0 u hd.1 bd.1 r (places_among x (occurrences_of head)) (places_among x (occurrences_of body)) (h.1 x hd.0 hd.1) (b.1 x bd.0 bd.1) in
             rule_places head body x u j.0 j.1 j.2 j.3 j.4;
       }
 
-module _ (level : Level) (n : ℕ) (tallies : List Tally) (numbered : Numbers 0 (links_of level) n) (h : (length tallies ≡ n) × AreTallies (occurrences level) tallies) where
+module _ (level : Level) (n : ℕ) (tallies : List Tally) (numbered : Numbers 0 (links_of level) n) (h : (length tallies ≡ n) × AreTallies (occurrences_of level) tallies) where
   pub level_table : (table : List LinkUse) → AreAlone tallies table → IsTableOf (level ∷ []) table
   level_table table t =
       let P : ℕ → Type 0 = λ m. NumbersLinks (links_of level) m in
@@ -259,7 +223,7 @@ module _ (level : Level) (n : ℕ) (tallies : List Tally) (numbered : Numbers 0 
             let l = slice_get_within table x u r in
             let k = t.links in
             let s = read_at tallies x (omega (arith, l, k)) in
-            let j = t.each x s.0 u s.1 r (places_among x (occurrences level)) (h.1 x s.0 s.1) in
+            let j = t.each x s.0 u s.1 r (places_among x (occurrences_of level)) (h.1 x s.0 s.1) in
             level_places level x u j.0 j.1 j.2;
       }
 
@@ -267,4 +231,4 @@ module _ (level : Level) (n : ℕ) (tallies : List Tally) (numbered : Numbers 0 
   each_occurs_alone x t r =
       let l = slice_get_within tallies x t r in
       let size = h.0 in
-      has_first (places_among x (occurrences level)) t (h.1 x t r) (some_place x (occurrences level) (numbers_in numbered x (omega arith) (omega (arith, l, size))))
+      has_first (places_among x (occurrences_of level)) t (h.1 x t r) (some_place x (occurrences_of level) (numbers_in numbered x (omega arith) (omega (arith, l, size))))

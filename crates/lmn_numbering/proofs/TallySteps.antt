@@ -1,5 +1,5 @@
 -- Occurrences counted one after another.
-use Rattle.std.proofs.Common.{◌≡◌, ℕ, zero, suc, ◌+◌, ◌<◌, ◌≤◌, ◌⊎◌, inl, inr, ◌==◌, Bool, true, false, if◌then◌else◌, List, [], ◌∷◌, ◌++◌, map, filter, length, set, get_or, take, slice_get, Some, All, refl, sym, ap, ◌∙◌, subst, arith}
+use Rattle.std.proofs.Common.{◌≡◌, ℕ, zero, suc, ◌+◌, ◌<◌, ◌≤◌, ◌⊎◌, inl, inr, ◌==◌, Bool, false, if◌then◌else◌, List, [], ◌∷◌, ◌++◌, map, filter, length, set, get_or, take, slice_get, Some, All, refl, sym, ap, ◌∙◌, subst, arith}
 use Rattle.std.specs.List.{flat_map}
 use Rattle.std.proofs.lemmas.Bool.Decides.{nat_tests}
 use Rattle.std.proofs.lemmas.List.{take_more, take_all, map-append, append-nil, append_assoc, length-set, length-append, get_or_default}
@@ -10,21 +10,18 @@ use Rattle.lmn_base.specs.declared.level.Leaf.{Leaf}
 use Rattle.lmn_base.specs.declared.level.Level.{Level, out-Level}
 use Rattle.lmn_base.specs.declared.level.Occ.{Occ}
 use Rattle.lmn_base.specs.declared.refusal.Pos.{Pos}
-use Rattle.lmn_base.specs.Levels.{leaves_of, leaf_occurrences, occurrences, links_of}
+use Rattle.lmn_base.specs.Levels.{leaves_of, occurrences_of_leaf, occurrences_of, links_of, link_numbers}
 use Rattle.lmn_base.proofs.ItemLemmas.{leaves_apart, flat_map-flat_map}
 use Rattle.lmn_numbering.specs.declared.tally.Tally.{Tally}
-use Rattle.lmn_numbering.specs.Numberings.{links_in}
-use Rattle.lmn_numbering.specs.Tallies.{IsTally, places_among, AreTallies, Counts}
+use Rattle.lmn_numbering.specs.Tallies.{IsTally, places_among, AreTallies, CountsOccurrences}
 use Rattle.lmn_numbering.proofs.LevelSteps.{all_left, all_right}
 use Rattle.lmn_numbering.proofs.NumberSteps.{same_or_other, read_same, read_other}
+use Rattle.lmn_base.proofs.Numbers.{equal_itself as is_itself}
 
 -- ---- where a link stands among more occurrences
 
 among_more : (x : ℕ) (os ps : List Occ) → places_among x (os ++ ps) ≡ places_among x os ++ places_among x ps
 among_more x os ps = ap (map (λ (o : Occ). o.pos)) (filter-append (λ (o : Occ). o.link == x) os ps) ∙ map-append (λ (o : Occ). o.pos) (filter (λ o. o.link == x) os) (filter (λ o. o.link == x) ps)
-
-is_itself : (x : ℕ) → (x == x) ≡ true
-is_itself x = grind (arith, nat_tests)
 
 is_other : (x y : ℕ) → (x ≡ y → ⊥) → (y == x) ≡ false
 is_other x y h = grind (arith, nat_tests)
@@ -40,22 +37,22 @@ elsewhere x o h = ap (kept o) (is_other x o.link h)
 
 -- ---- counting
 
-pub counts_none : (t : List Tally) → Counts [] t t
+pub counts_none : (t : List Tally) → CountsOccurrences [] t t
 counts_none t = record {
   keys = refl;
   more = λ before h. let P : List Occ → Type 0 = λ os. AreTallies os t in subst P (sym (append-nil before)) h;
 }
 
-pub counts_more : (os ps : List Occ) (t u v : List Tally) → Counts os t u → Counts ps u v → Counts (os ++ ps) t v
+pub counts_more : (os ps : List Occ) (t u v : List Tally) → CountsOccurrences os t u → CountsOccurrences ps u v → CountsOccurrences (os ++ ps) t v
 counts_more os ps t u v g h = record {
   keys = h.keys ∙ g.keys;
   more = λ before i. let P : List Occ → Type 0 = λ os. AreTallies os v in subst P (append_assoc before os ps) (h.more (before ++ os) (g.more before i));
 }
 
 pub counts_one : (o : Occ) (old new : List Tally) (t u : Tally) → slice_get old o.link ≡ Some t → ((ps : List Pos) → IsTally ps t → IsTally (ps ++ o.pos ∷ []) u)
-    → new ≡ set old o.link u → Counts (o ∷ []) old new
+    → new ≡ set old o.link u → CountsOccurrences (o ∷ []) old new
 counts_one o old new t u read step e =
-    let P : List Tally → Type 0 = λ ts. Counts (o ∷ []) old ts in
+    let P : List Tally → Type 0 = λ ts. CountsOccurrences (o ∷ []) old ts in
     subst P (sym e) (record { keys = length-set old o.link u; more = λ before h x v r. go before h x v r (same_or_other x o.link) })
   where
     go : (before : List Occ) → AreTallies before old → (x : ℕ) (v : Tally) → slice_get (set old o.link u) x ≡ Some v → (x ≡ o.link) ⊎ (x ≡ o.link → ⊥) → IsTally (places_among x (before ++ o ∷ [])) v
@@ -74,61 +71,61 @@ counts_one o old new t u read step e =
 -- ---- loops over parts, each with its occurrences
 
 module _ {A : Type 0} (g : A → List Occ) where
-  pub parts_more : (t u v : List Tally) (i : ℕ) (xs : List A) (x : A) → i < length xs → x ≡ get_or xs i x → Counts (flat_map g (take i xs)) t u → Counts (g x) u v → Counts (flat_map g (take (i + 1) xs)) t v
+  pub parts_more : (t u v : List Tally) (i : ℕ) (xs : List A) (x : A) → i < length xs → x ≡ get_or xs i x → CountsOccurrences (flat_map g (take i xs)) t u → CountsOccurrences (g x) u v → CountsOccurrences (flat_map g (take (i + 1) xs)) t v
   parts_more t u v i xs x l read h k =
-      let P : List Occ → Type 0 = λ os. Counts os t v in
+      let P : List Occ → Type 0 = λ os. CountsOccurrences os t v in
       let next : flat_map g (take (i + 1) xs) ≡ flat_map g (take i xs) ++ g x =
       ap (flat_map g) (take_more xs i x l) ∙ flat_map-append g (take i xs) (get_or xs i x ∷ []) ∙ ap (λ os. flat_map g (take i xs) ++ os) (append-nil (g (get_or xs i x)) ∙ ap g (sym read)) in
       subst P (sym next) (counts_more (flat_map g (take i xs)) (g x) t u v h k)
 
-  pub parts_all : (t u : List Tally) (i : ℕ) (xs : List A) → length xs ≤ i → Counts (flat_map g (take i xs)) t u → Counts (flat_map g xs) t u
-  parts_all t u i xs l h = let P : List A → Type 0 = λ ys. Counts (flat_map g ys) t u in subst P (take_all i xs l) h
+  pub parts_all : (t u : List Tally) (i : ℕ) (xs : List A) → length xs ≤ i → CountsOccurrences (flat_map g (take i xs)) t u → CountsOccurrences (flat_map g xs) t u
+  parts_all t u i xs l h = let P : List A → Type 0 = λ ys. CountsOccurrences (flat_map g ys) t u in subst P (take_all i xs l) h
 
-  pub parts_within : (t u : List Tally) (i : ℕ) (xs : List A) (x : A) → i < length xs → x ≡ get_or xs i x → Counts (flat_map g (take i xs)) t u
-      → All (λ k. k < length t) (links_in (flat_map g xs)) → All (λ k. k < length u) (links_in (g x))
+  pub parts_within : (t u : List Tally) (i : ℕ) (xs : List A) (x : A) → i < length xs → x ≡ get_or xs i x → CountsOccurrences (flat_map g (take i xs)) t u
+      → All (λ k. k < length t) (link_numbers (flat_map g xs)) → All (λ k. k < length u) (link_numbers (g x))
   parts_within t u i xs x l read h all =
-      let P : ℕ → Type 0 = λ n. All (λ k. k < n) (links_in (g x)) in
-      let Q : A → Type 0 = λ y. All (λ k. k < length t) (links_in (g y)) in
+      let P : ℕ → Type 0 = λ n. All (λ k. k < n) (link_numbers (g x)) in
+      let Q : A → Type 0 = λ y. All (λ k. k < length t) (link_numbers (g y)) in
       let keys = h.keys in
       subst P (sym keys) (subst Q (sym read) (part (λ k. k < length t) i xs x l all))
     where
-      links_append : (os ps : List Occ) → links_in (os ++ ps) ≡ links_in os ++ links_in ps
+      links_append : (os ps : List Occ) → link_numbers (os ++ ps) ≡ link_numbers os ++ link_numbers ps
       links_append os ps = map-append (λ (o : Occ). o.link) os ps
 
-      part : (S : ℕ → Type 0) (i : ℕ) (xs : List A) (d : A) → i < length xs → All S (links_in (flat_map g xs)) → All S (links_in (g (get_or xs i d)))
+      part : (S : ℕ → Type 0) (i : ℕ) (xs : List A) (d : A) → i < length xs → All S (link_numbers (flat_map g xs)) → All S (link_numbers (g (get_or xs i d)))
       part S i [] d l h = absurd (omega (arith, l))
-      part S zero (x ∷ xs) d l h = let P : List ℕ → Type 0 = All S in all_left S (links_in (g x)) (links_in (flat_map g xs)) (subst P (links_append (g x) (flat_map g xs)) h)
+      part S zero (x ∷ xs) d l h = let P : List ℕ → Type 0 = All S in all_left S (link_numbers (g x)) (link_numbers (flat_map g xs)) (subst P (links_append (g x) (flat_map g xs)) h)
       part S (suc i) (x ∷ xs) d l h =
-          let P : List ℕ → Type 0 = All S in part S i xs d (omega (arith, l)) (all_right S (links_in (g x)) (links_in (flat_map g xs)) (subst P (links_append (g x) (flat_map g xs)) h))
+          let P : List ℕ → Type 0 = All S in part S i xs d (omega (arith, l)) (all_right S (link_numbers (g x)) (link_numbers (flat_map g xs)) (subst P (links_append (g x) (flat_map g xs)) h))
 
 -- ---- a level
 
-pub occurrences_apart : (l : Level) → occurrences l ≡ flat_map leaf_occurrences (out-Level l).leaves ++ flat_map occurrences (out-Level l).membranes
+pub occurrences_apart : (l : Level) → occurrences_of l ≡ flat_map occurrences_of_leaf (out-Level l).leaves ++ flat_map occurrences_of (out-Level l).membranes
 occurrences_apart l =
-    ap (flat_map leaf_occurrences) (leaves_apart l) ∙ flat_map-append leaf_occurrences (out-Level l).leaves (flat_map leaves_of (out-Level l).membranes)
-    ∙ ap (λ os. flat_map leaf_occurrences (out-Level l).leaves ++ os) (flat_map-flat_map leaf_occurrences leaves_of (out-Level l).membranes)
+    ap (flat_map occurrences_of_leaf) (leaves_apart l) ∙ flat_map-append occurrences_of_leaf (out-Level l).leaves (flat_map leaves_of (out-Level l).membranes)
+    ∙ ap (λ os. flat_map occurrences_of_leaf (out-Level l).leaves ++ os) (flat_map-flat_map occurrences_of_leaf leaves_of (out-Level l).membranes)
 
 module _ (t u v : List Tally) (l : Level) (leaves : List Leaf) (membranes : List Level) (e : leaves ≡ (out-Level l).leaves) (f : membranes ≡ (out-Level l).membranes) where
-  whole : occurrences l ≡ flat_map leaf_occurrences leaves ++ flat_map occurrences membranes
-  whole = occurrences_apart l ∙ ap (λ ls. flat_map leaf_occurrences ls ++ flat_map occurrences (out-Level l).membranes) (sym e) ∙ ap (λ ls. flat_map leaf_occurrences leaves ++ flat_map occurrences ls) (sym f)
+  whole : occurrences_of l ≡ flat_map occurrences_of_leaf leaves ++ flat_map occurrences_of membranes
+  whole = occurrences_apart l ∙ ap (λ ls. flat_map occurrences_of_leaf ls ++ flat_map occurrences_of (out-Level l).membranes) (sym e) ∙ ap (λ ls. flat_map occurrences_of_leaf leaves ++ flat_map occurrences_of ls) (sym f)
 
-  links_whole : links_of l ≡ links_in (flat_map leaf_occurrences leaves) ++ links_in (flat_map occurrences membranes)
-  links_whole = ap links_in whole ∙ map-append (λ (o : Occ). o.link) (flat_map leaf_occurrences leaves) (flat_map occurrences membranes)
+  links_whole : links_of l ≡ link_numbers (flat_map occurrences_of_leaf leaves) ++ link_numbers (flat_map occurrences_of membranes)
+  links_whole = ap link_numbers whole ∙ map-append (λ (o : Occ). o.link) (flat_map occurrences_of_leaf leaves) (flat_map occurrences_of membranes)
 
-  pub level_counted : Counts (flat_map leaf_occurrences leaves) t u → Counts (flat_map occurrences membranes) u v → Counts (occurrences l) t v
+  pub level_counted : CountsOccurrences (flat_map occurrences_of_leaf leaves) t u → CountsOccurrences (flat_map occurrences_of membranes) u v → CountsOccurrences (occurrences_of l) t v
   level_counted g h =
-      let P : List Occ → Type 0 = λ os. Counts os t v in
-      subst P (sym whole) (counts_more (flat_map leaf_occurrences leaves) (flat_map occurrences membranes) t u v g h)
+      let P : List Occ → Type 0 = λ os. CountsOccurrences os t v in
+      subst P (sym whole) (counts_more (flat_map occurrences_of_leaf leaves) (flat_map occurrences_of membranes) t u v g h)
 
-  pub leaves_counted_within : All (λ k. k < length t) (links_of l) → All (λ k. k < length t) (links_in (flat_map leaf_occurrences leaves))
-  leaves_counted_within all = let P : List ℕ → Type 0 = All (λ k. k < length t) in all_left (λ k. k < length t) (links_in (flat_map leaf_occurrences leaves)) (links_in (flat_map occurrences membranes)) (subst P links_whole all)
+  pub leaves_counted_within : All (λ k. k < length t) (links_of l) → All (λ k. k < length t) (link_numbers (flat_map occurrences_of_leaf leaves))
+  leaves_counted_within all = let P : List ℕ → Type 0 = All (λ k. k < length t) in all_left (λ k. k < length t) (link_numbers (flat_map occurrences_of_leaf leaves)) (link_numbers (flat_map occurrences_of membranes)) (subst P links_whole all)
 
-  pub membranes_counted_within : Counts (flat_map leaf_occurrences leaves) t u → All (λ k. k < length t) (links_of l) → All (λ k. k < length u) (links_in (flat_map occurrences membranes))
+  pub membranes_counted_within : CountsOccurrences (flat_map occurrences_of_leaf leaves) t u → All (λ k. k < length t) (links_of l) → All (λ k. k < length u) (link_numbers (flat_map occurrences_of membranes))
   membranes_counted_within g all =
       let P : List ℕ → Type 0 = All (λ k. k < length t) in
-      let Q : ℕ → Type 0 = λ n. All (λ k. k < n) (links_in (flat_map occurrences membranes)) in
+      let Q : ℕ → Type 0 = λ n. All (λ k. k < n) (link_numbers (flat_map occurrences_of membranes)) in
       let keys = g.keys in
-      subst Q (sym keys) (all_right (λ k. k < length t) (links_in (flat_map leaf_occurrences leaves)) (links_in (flat_map occurrences membranes)) (subst P links_whole all))
+      subst Q (sym keys) (all_right (λ k. k < length t) (link_numbers (flat_map occurrences_of_leaf leaves)) (link_numbers (flat_map occurrences_of membranes)) (subst P links_whole all))
 
 -- ---- no occurrences
 
@@ -162,7 +159,7 @@ next_tally n old new t h e k =
     go x u (inr f) = let P : Tally → Type 0 = IsTally [] in subst P f.1 h
 
 -- the tallies of a level
-pub level_tallies : (n : ℕ) (old new : List Tally) (os : List Occ) → (length old ≡ n) × AreTallies [] old → Counts os old new → (length new ≡ n) × AreTallies os new
+pub level_tallies : (n : ℕ) (old new : List Tally) (os : List Occ) → (length old ≡ n) × AreTallies [] old → CountsOccurrences os old new → (length new ≡ n) × AreTallies os new
 level_tallies n old new os h c = (c.keys ∙ h.0, c.more [] h.1)
 
 -- ---- the loop over the occurrences of an atom
@@ -172,13 +169,13 @@ ones [] = refl
 ones (o ∷ os) = ap (λ ps. o ∷ ps) (ones os)
 
 module _ (t u : List Tally) (i : ℕ) (os : List Occ) where
-  pub link_counted_within : (d : Occ) → i < length os → Counts (flat_map (λ o. o ∷ []) (take i os)) t u → All (λ k. k < length t) (links_in os) → (get_or os i d).link < length u
+  pub link_counted_within : (d : Occ) → i < length os → CountsOccurrences (flat_map (λ o. o ∷ []) (take i os)) t u → All (λ k. k < length t) (link_numbers os) → (get_or os i d).link < length u
   link_counted_within d l h all =
-      let P : List Occ → Type 0 = λ ps. All (λ k. k < length t) (links_in ps) in
+      let P : List Occ → Type 0 = λ ps. All (λ k. k < length t) (link_numbers ps) in
       All-head (λ k. k < length u) (get_or os i d).link [] (parts_within (λ o. o ∷ []) t u i os (get_or os i d) l (get_or_default os i d (get_or os i d) l) h (subst P (sym (ones os)) all))
 
-  pub link_counted : (v : List Tally) (d : Occ) → i < length os → Counts (flat_map (λ o. o ∷ []) (take i os)) t u → Counts (get_or os i d ∷ []) u v → Counts (flat_map (λ o. o ∷ []) (take (i + 1) os)) t v
+  pub link_counted : (v : List Tally) (d : Occ) → i < length os → CountsOccurrences (flat_map (λ o. o ∷ []) (take i os)) t u → CountsOccurrences (get_or os i d ∷ []) u v → CountsOccurrences (flat_map (λ o. o ∷ []) (take (i + 1) os)) t v
   link_counted v d l h k = parts_more (λ o. o ∷ []) t u v i os (get_or os i d) l (get_or_default os i d (get_or os i d) l) h k
 
-  pub links_counted : length os ≤ i → Counts (flat_map (λ o. o ∷ []) (take i os)) t u → Counts os t u
-  links_counted l h = let P : List Occ → Type 0 = λ ps. Counts ps t u in subst P (ones os) (parts_all (λ o. o ∷ []) t u i os l h)
+  pub links_counted : length os ≤ i → CountsOccurrences (flat_map (λ o. o ∷ []) (take i os)) t u → CountsOccurrences os t u
+  links_counted l h = let P : List Occ → Type 0 = λ ps. CountsOccurrences ps t u in subst P (ones os) (parts_all (λ o. o ∷ []) t u i os l h)

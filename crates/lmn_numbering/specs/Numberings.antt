@@ -1,11 +1,7 @@
 -- The numbers that links have got so far.
 use Rattle.std.specs.Prelude.{ℕ, suc, ◌≡◌, ◌+◌, ◌^◌, ◌<◌, List, [], ◌∷◌, map, length, slice_get, Option, Some, None, All}
-use Rattle.lmn_base.specs.declared.level.Occ.{Occ}
 use Rattle.lmn_base.specs.Links.{Numbers}
 use Rattle.lmn_numbering.specs.declared.numbering.Numbering.{Numbering}
-
-abbrev pub links_in : List Occ → List ℕ
-links_in os = map (λ o. o.link) os
 
 -- how many keys have no number
 abbrev pub left : List (Option ℕ) → ℕ
@@ -25,19 +21,19 @@ pub record IsNumbering (t : Numbering) : Type 0 where
   pub fits : length t.numbers < 2 ^ 32
 
 -- no link has a number yet
-pub record IsNew (size : ℕ) (t : Numbering) : Type 0 where
+pub record IsNewNumbering (size : ℕ) (t : Numbering) : Type 0 where
   pub valid : IsNumbering t
   pub keys : length t.numbers ≡ size
   pub none : t.count ≡ 0
 
 -- `to` is a link's number, where it has one
-abbrev pub Agrees : (ℕ → ℕ) → Numbering → Type 0
-Agrees to t = (key n : ℕ) → HasNumber t key n → to key ≡ n
+abbrev pub FollowsNumbering : (ℕ → ℕ) → Numbering → Type 0
+FollowsNumbering to t = (key n : ℕ) → HasNumber t key n → to key ≡ n
 
 -- Links occur, in this order: those that have no number get the next ones.
-pub record Gives (links : List ℕ) (old new : Numbering) : Type 0 where
+pub record GivesNumbers (links : List ℕ) (old new : Numbering) : Type 0 where
   pub valid : IsNumbering new
   pub keys : length new.numbers ≡ length old.numbers
   pub kept : (key n : ℕ) → HasNumber old key n → HasNumber new key n
   pub numbered : All (λ key. (n : ℕ) × HasNumber new key n) links
-  pub order : (to : ℕ → ℕ) → Agrees to new → Numbers old.count (map to links) new.count
+  pub order : (to : ℕ → ℕ) → FollowsNumbering to new → Numbers old.count (map to links) new.count

@@ -20,7 +20,7 @@ pub record Rising (places ps : List Pos) : Type 0 where
   pub rise : AllPairs NotAfter ps
 
 -- the first three of a list of places
-pub record FirstOf (ps : List Pos) (f : FirstPlaces) : Type 0 where
+pub record AreFirstThree (ps : List Pos) (f : FirstPlaces) : Type 0 where
   pub first : f.first ≡ slice_get ps 0
   pub second : f.second ≡ slice_get ps 1
   pub third : f.third ≡ slice_get ps 2
@@ -29,7 +29,7 @@ pub record FirstOf (ps : List Pos) (f : FirstPlaces) : Type 0 where
 pub record AreFirst (places : List Pos) (f : FirstPlaces) : Type 0 where
   pub rising : List Pos
   pub sorted : Rising places rising
-  pub first : FirstOf rising f
+  pub first : AreFirstThree rising f
 
 -- what is counted of a link that occurs at these places
 pub record IsTally (places : List Pos) (t : Tally) : Type 0 where
@@ -45,7 +45,7 @@ abbrev pub AreTallies : List Occ → List Tally → Type 0
 AreTallies os tallies = (x : ℕ) (t : Tally) → slice_get tallies x ≡ Some t → IsTally (places_among x os) t
 
 -- these occurrences are counted behind what was counted before
-pub record Counts (os : List Occ) (old new : List Tally) : Type 0 where
+pub record CountsOccurrences (os : List Occ) (old new : List Tally) : Type 0 where
   pub keys : length new ≡ length old
   pub more : (before : List Occ) → AreTallies before old → AreTallies (before ++ os) new
 
@@ -55,8 +55,8 @@ Occurs head body = IsSome (option_or head.places.first body.places.first)
 
 -- What an entry says of a link by what was counted of it in two levels: the places in the first come first, and in
 -- each they come by rising place.
-abbrev pub IsJoined : Tally → Tally → LinkUse → Type 0
-IsJoined head body u = (in_head in_body : List Pos) → IsTally in_head head → IsTally in_body body →
+abbrev pub IsJoinedEntry : Tally → Tally → LinkUse → Type 0
+IsJoinedEntry head body u = (in_head in_body : List Pos) → IsTally in_head head → IsTally in_body body →
     (hs : List Pos) × (bs : List Pos) × Rising in_head hs × Rising in_body bs × TellsOf (hs ++ bs) u
 
 -- the same of every link
@@ -65,9 +65,10 @@ EachOccurs heads bodies = (x : ℕ) (head body : Tally) → slice_get heads x �
 
 abbrev pub EachJoined : List Tally → List Tally → List LinkUse → Type 0
 EachJoined heads bodies table = (x : ℕ) (head body : Tally) (u : LinkUse) →
-    slice_get heads x ≡ Some head → slice_get bodies x ≡ Some body → slice_get table x ≡ Some u → IsJoined head body u
+    slice_get heads x ≡ Some head → slice_get bodies x ≡ Some body → slice_get table x ≡ Some u → IsJoinedEntry head body u
 
-pub record AreJoined (heads bodies : List Tally) (table : List LinkUse) : Type 0 where
+-- the table of links that two levels have together, an entry for each link
+pub record IsJoinedTable (heads bodies : List Tally) (table : List LinkUse) : Type 0 where
   pub links : length table ≡ length heads
   pub each : EachJoined heads bodies table
 
@@ -76,12 +77,12 @@ abbrev pub EachOccursAlone : List Tally → Type 0
 EachOccursAlone tallies = (x : ℕ) (t : Tally) → slice_get tallies x ≡ Some t → IsSome t.places.first
 
 -- What an entry says of a link by what was counted of it in one level: its places come by rising place.
-abbrev pub IsAlone : Tally → LinkUse → Type 0
-IsAlone t u = (places : List Pos) → IsTally places t → (ps : List Pos) × Rising places ps × TellsOf ps u
+abbrev pub IsOwnTally : Tally → LinkUse → Type 0
+IsOwnTally t u = (places : List Pos) → IsTally places t → (ps : List Pos) × Rising places ps × TellsOf ps u
 
 -- the same of every link
 abbrev pub EachAlone : List Tally → List LinkUse → Type 0
-EachAlone tallies table = (x : ℕ) (t : Tally) (u : LinkUse) → slice_get tallies x ≡ Some t → slice_get table x ≡ Some u → IsAlone t u
+EachAlone tallies table = (x : ℕ) (t : Tally) (u : LinkUse) → slice_get tallies x ≡ Some t → slice_get table x ≡ Some u → IsOwnTally t u
 
 pub record AreAlone (tallies : List Tally) (table : List LinkUse) : Type 0 where
   pub links : length table ≡ length tallies

@@ -1,7 +1,7 @@
-ghost use Rattle.std.specs.Prelude.{ℕ, ◌≡◌, ◌<◌, ◌∷◌, [], length, map, flat_map, All, IfOk, Some};
-ghost use Rattle.lmn_base.specs.Levels.{leaf_occurrences, links_of};
+ghost use Rattle.std.specs.Prelude.{ℕ, ◌≡◌, ◌<◌, ◌∷◌, [], length, map, flat_map, All, IfOk};
+ghost use Rattle.lmn_base.specs.Levels.{occurrences_of_leaf, links_of, link_numbers};
 ghost use Rattle.lmn_numbering.specs.Renumbered.{renumbered_occurrence, renumbered_leaf, renumbered};
-ghost use Rattle.lmn_numbering.specs.Numberings.{IsNew, IsNumbering, Agrees, Gives, links_in};
+ghost use Rattle.lmn_numbering.specs.Numberings.{IsNewNumbering, IsNumbering, FollowsNumbering, GivesNumbers};
 
 use lmn_base::{Leaf, Level, NoMemory, Occ, Rows};
 use std::alloc::Global;
@@ -19,7 +19,7 @@ pub(crate) struct Numbering {
 impl Numbering {
     /// No link with a key below `keys` has a number yet.
     pub(crate) fn new(alloc: Global, keys: u32) -> Result<Numbering, NoMemory>
-        ensures { IfOk result (IsNew keys) }
+        ensures { IfOk result (IsNewNumbering keys) }
     {
         let mut numbers = Rows::new(alloc);
         for _ in 0..keys {
@@ -39,8 +39,8 @@ impl Numbering {
     pub(crate) fn number_level(&mut self, alloc: Global, level: &mut Level)
         requires valid { IsNumbering self.old }
         requires within { All (λ k. k < length self.old.numbers) (links_of level.old) }
-        ensures gives { Gives (links_of level.old) self.old self.new }
-        ensures level { (to : ℕ → ℕ) → Agrees to self.new → level.new ≡ renumbered to level.old }
+        ensures gives { GivesNumbers (links_of level.old) self.old self.new }
+        ensures level { (to : ℕ → ℕ) → FollowsNumbering to self.new → level.new ≡ renumbered to level.old }
     {
         let Level {
             leaves,
@@ -59,9 +59,9 @@ impl Numbering {
 
     fn number_leaves(&mut self, leaves: &mut [Leaf])
         requires valid { IsNumbering self.old }
-        requires within { All (λ k. k < length self.old.numbers) (links_in (flat_map leaf_occurrences leaves.old)) }
-        ensures gives { Gives (links_in (flat_map leaf_occurrences leaves.old)) self.old self.new }
-        ensures leaves { (to : ℕ → ℕ) → Agrees to self.new → leaves.new ≡ map (renumbered_leaf to) leaves.old }
+        requires within { All (λ k. k < length self.old.numbers) (link_numbers (flat_map occurrences_of_leaf leaves.old)) }
+        ensures gives { GivesNumbers (link_numbers (flat_map occurrences_of_leaf leaves.old)) self.old self.new }
+        ensures leaves { (to : ℕ → ℕ) → FollowsNumbering to self.new → leaves.new ≡ map (renumbered_leaf to) leaves.old }
     {
         for leaf in leaves.iter_mut() {
             self.number_leaf(leaf);
@@ -70,9 +70,9 @@ impl Numbering {
 
     fn number_leaf(&mut self, leaf: &mut Leaf)
         requires valid { IsNumbering self.old }
-        requires within { All (λ k. k < length self.old.numbers) (links_in (leaf_occurrences leaf.old)) }
-        ensures gives { Gives (links_in (leaf_occurrences leaf.old)) self.old self.new }
-        ensures leaf { (to : ℕ → ℕ) → Agrees to self.new → leaf.new ≡ renumbered_leaf to leaf.old }
+        requires within { All (λ k. k < length self.old.numbers) (link_numbers (occurrences_of_leaf leaf.old)) }
+        ensures gives { GivesNumbers (link_numbers (occurrences_of_leaf leaf.old)) self.old self.new }
+        ensures leaf { (to : ℕ → ℕ) → FollowsNumbering to self.new → leaf.new ≡ renumbered_leaf to leaf.old }
     {
         match leaf {
             Leaf::Atom { links, .. } => self.number_links(links),
@@ -82,9 +82,9 @@ impl Numbering {
 
     fn number_links(&mut self, links: &mut Rows<Occ>)
         requires valid { IsNumbering self.old }
-        requires within { All (λ k. k < length self.old.numbers) (links_in links.old) }
-        ensures gives { Gives (links_in links.old) self.old self.new }
-        ensures links { (to : ℕ → ℕ) → Agrees to self.new → links.new ≡ map (renumbered_occurrence to) links.old }
+        requires within { All (λ k. k < length self.old.numbers) (link_numbers links.old) }
+        ensures gives { GivesNumbers (link_numbers links.old) self.old self.new }
+        ensures links { (to : ℕ → ℕ) → FollowsNumbering to self.new → links.new ≡ map (renumbered_occurrence to) links.old }
     {
         for i in 0..links.len() {
             let Occ { link, pos } = *links.at(i);
@@ -97,8 +97,8 @@ impl Numbering {
     fn number(&mut self, key: u32) -> u32
         requires valid { IsNumbering self.old }
         requires within { key < length self.old.numbers }
-        ensures gives { Gives (key ∷ []) self.old self.new }
-        ensures number { (to : ℕ → ℕ) → Agrees to self.new → result ≡ to key }
+        ensures gives { GivesNumbers (key ∷ []) self.old self.new }
+        ensures number { (to : ℕ → ℕ) → FollowsNumbering to self.new → result ≡ to key }
     {
         match self.numbers.at(key as usize) {
             Some(number) => *number,

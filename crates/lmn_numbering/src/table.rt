@@ -1,6 +1,6 @@
 ghost use Rattle.std.specs.Prelude.{◌≡◌, length, IfOk};
 ghost use Rattle.std.specs.Option.{IsSome};
-ghost use Rattle.lmn_numbering.specs.Tallies.{Occurs, EachOccurs, EachOccursAlone, IsAlone, AreAlone, IsJoined, AreJoined};
+ghost use Rattle.lmn_numbering.specs.Tallies.{Occurs, EachOccurs, EachOccursAlone, IsOwnTally, AreAlone, IsJoinedEntry, IsJoinedTable};
 
 use crate::packed::PackedTally;
 use crate::tally::Tally;
@@ -15,7 +15,7 @@ pub(crate) fn table_of(
 ) -> Result<Rows<LinkUse>, NoMemory>
     requires lengths { length head.now ≡ length body.now }
     requires occur { EachOccurs head.now body.now }
-    ensures { IfOk result (AreJoined head.now body.now) }
+    ensures { IfOk result (IsJoinedTable head.now body.now) }
 {
     let mut table = Rows::new(alloc);
     for i in 0..head.len() {
@@ -28,7 +28,7 @@ pub(crate) fn table_of(
 /// What is said of a link that occurs in one of two levels at least.
 fn joined(head: Tally, body: Tally) -> Result<LinkUse, NoMemory>
     requires { Occurs head body }
-    ensures { IfOk result (IsJoined head body) }
+    ensures { IfOk result (IsJoinedEntry head body) }
 {
     let places = head.places.followed_by(body.places);
     let first = places.first.unwrap();
@@ -60,7 +60,7 @@ pub(crate) fn table_alone(
 /// What is said of a link that occurs in a level.
 fn alone(tally: Tally) -> LinkUse
     requires { IsSome tally.places.first }
-    ensures { IsAlone tally result }
+    ensures { IsOwnTally tally result }
 {
     let first = tally.places.first.unwrap();
     let third = tally.places.third.unwrap_or(first);

@@ -1,9 +1,8 @@
 ghost use Rattle.std.specs.Prelude.{◌≡◌, ◌<◌, ◌∷◌, ◌++◌, [], List, length, All, IfOk, OnOk};
 ghost use Rattle.std.specs.Option.{option_or};
 ghost use Rattle.lmn_base.specs.declared.refusal.Pos.{Pos};
-ghost use Rattle.lmn_base.specs.Levels.{leaf_occurrences, occurrences, links_of};
-ghost use Rattle.lmn_numbering.specs.Numberings.{links_in};
-ghost use Rattle.lmn_numbering.specs.Tallies.{FirstOf, AreFirst, IsTally, AreTallies, Counts, comes_before};
+ghost use Rattle.lmn_base.specs.Levels.{occurrences_of_leaf, occurrences_of, links_of, link_numbers};
+ghost use Rattle.lmn_numbering.specs.Tallies.{AreFirstThree, AreFirst, IsTally, AreTallies, CountsOccurrences, comes_before};
 
 use crate::packed::{PackedTally, packed};
 use lmn_base::{Leaf, Level, NoMemory, Occ, Pos, Rows};
@@ -52,7 +51,7 @@ impl FirstPlaces {
 
     /// Those of a list that goes on with another one, by those of each.
     pub(crate) fn followed_by(self, more: FirstPlaces) -> FirstPlaces
-        ensures places { (ps qs : List Pos) → FirstOf ps self → FirstOf qs more → FirstOf (ps ++ qs) result }
+        ensures places { (ps qs : List Pos) → AreFirstThree ps self → AreFirstThree qs more → AreFirstThree (ps ++ qs) result }
         ensures first { result.first ≡ option_or self.first more.first }
     {
         if self.first.is_none() {
@@ -116,7 +115,7 @@ pub(crate) fn tallies_of(
     count: u32,
 ) -> Result<Rows<PackedTally>, NoMemory>
     requires { All (λ k. k < count) (links_of level.now) }
-    ensures { IfOk result (λ tallies. (length tallies ≡ count) × AreTallies (occurrences level.now) tallies) }
+    ensures { IfOk result (λ tallies. (length tallies ≡ count) × AreTallies (occurrences_of level.now) tallies) }
 {
     let mut tallies = no_tallies(alloc, count)?;
     count_level(&mut tallies, level)?;
@@ -137,7 +136,7 @@ fn no_tallies(alloc: Global, count: u32) -> Result<Rows<PackedTally>, NoMemory>
 /// Counts what occurs in a level, at every depth.
 fn count_level(tallies: &mut Rows<PackedTally>, level: &Level) -> Result<(), NoMemory>
     requires { All (λ k. k < length tallies.old) (links_of level.now) }
-    ensures { OnOk result (Counts (occurrences level.now) tallies.old tallies.new) }
+    ensures { OnOk result (CountsOccurrences (occurrences_of level.now) tallies.old tallies.new) }
 {
     for leaf in level.leaves.as_slice() {
         count_leaf(tallies, leaf)?;
@@ -149,8 +148,8 @@ fn count_level(tallies: &mut Rows<PackedTally>, level: &Level) -> Result<(), NoM
 }
 
 fn count_leaf(tallies: &mut Rows<PackedTally>, leaf: &Leaf) -> Result<(), NoMemory>
-    requires { All (λ k. k < length tallies.old) (links_in (leaf_occurrences leaf.now)) }
-    ensures { OnOk result (Counts (leaf_occurrences leaf.now) tallies.old tallies.new) }
+    requires { All (λ k. k < length tallies.old) (link_numbers (occurrences_of_leaf leaf.now)) }
+    ensures { OnOk result (CountsOccurrences (occurrences_of_leaf leaf.now) tallies.old tallies.new) }
 {
     match leaf {
         Leaf::Atom { links, .. } => count_links(tallies, links.as_slice()),
@@ -159,8 +158,8 @@ fn count_leaf(tallies: &mut Rows<PackedTally>, leaf: &Leaf) -> Result<(), NoMemo
 }
 
 fn count_links(tallies: &mut Rows<PackedTally>, links: &[Occ]) -> Result<(), NoMemory>
-    requires { All (λ k. k < length tallies.old) (links_in links.now) }
-    ensures { OnOk result (Counts links.now tallies.old tallies.new) }
+    requires { All (λ k. k < length tallies.old) (link_numbers links.now) }
+    ensures { OnOk result (CountsOccurrences links.now tallies.old tallies.new) }
 {
     for link in links {
         count_link(tallies, *link)?;
@@ -170,7 +169,7 @@ fn count_links(tallies: &mut Rows<PackedTally>, links: &[Occ]) -> Result<(), NoM
 
 fn count_link(tallies: &mut Rows<PackedTally>, occurrence: Occ) -> Result<(), NoMemory>
     requires { occurrence.link < length tallies.old }
-    ensures { OnOk result (Counts (occurrence ∷ []) tallies.old tallies.new) }
+    ensures { OnOk result (CountsOccurrences (occurrence ∷ []) tallies.old tallies.new) }
 {
     let i = occurrence.link as usize;
     let tally = tallies.at(i).tally().with(occurrence.pos)?;

@@ -1,6 +1,5 @@
 ghost use Rattle.std.specs.Prelude.{◌≡◌, ◌<◌, All, true};
-ghost use Rattle.lmn_base.specs.Levels.{leaf_occurrences, links_of};
-ghost use Rattle.lmn_numbering.specs.Numberings.{links_in};
+ghost use Rattle.lmn_base.specs.Levels.{occurrences_of_leaf, links_of, link_numbers};
 
 use crate::{first_outside, number_level, number_rule};
 use lmn_base::{CtxUse, Functor, Label, Leaf, Level, LinkUse, NoMemory, Occ, Pos, Rows};
@@ -77,7 +76,7 @@ fn are_below(level: &Level, keys: u32) -> bool
 }
 
 fn are_below_in_leaf(leaf: &Leaf, keys: u32) -> bool
-    ensures { result ≡ true → All (λ k. k < keys) (links_in (leaf_occurrences leaf.now)) }
+    ensures { result ≡ true → All (λ k. k < keys) (link_numbers (occurrences_of_leaf leaf.now)) }
 {
     match leaf {
         Leaf::Atom { links, .. } => are_below_in_links(links.as_slice(), keys),
@@ -86,7 +85,7 @@ fn are_below_in_leaf(leaf: &Leaf, keys: u32) -> bool
 }
 
 fn are_below_in_links(links: &[Occ], keys: u32) -> bool
-    ensures { result ≡ true → All (λ k. k < keys) (links_in links.now) }
+    ensures { result ≡ true → All (λ k. k < keys) (link_numbers links.now) }
 {
     for link in links {
         if link.link >= keys {

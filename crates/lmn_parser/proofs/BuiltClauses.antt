@@ -9,8 +9,8 @@ use Rattle.lmn_parser.specs.declared.tree.Item.{Item as ItemNode}
 use Rattle.lmn_parser.specs.declared.tree.CondNode.{CondNode}
 use Rattle.lmn_parser.specs.declared.tree.RuleNode.{RuleNode}
 use Rattle.lmn_parser.specs.declared.tree.Clause.TheViews as view
-use Rattle.lmn_parser.specs.Syntax.{Items, Condition, Clause, Clauses, no_clause, clause_and, items_of, clause_of, clauses_of, conditions_of, rule_of}
-use Rattle.lmn_parser.specs.Trees.{At, StandsAt, IsGuard, IsClauses, no_clauses, last_clause, more_clauses, IsClause, is_process, IsRule, is_rule, IsHeads, all_taken, IsBody, no_guard, empty_guard, guarded, IsOptList, IsList, IsMembrane, in_braces}
+use Rattle.lmn_parser.specs.Syntax.{Items, WrittenCondition, Clause, Clauses, no_clause, clause_and, items_of_nodes, clause_of, clauses_of, conditions_of, clause_of_rule}
+use Rattle.lmn_parser.specs.Trees.{At, StandsAt, IsWrittenGuard, IsClauses, no_clauses, last_clause, more_clauses, IsClause, is_process, IsWrittenRule, is_rule, IsHeads, all_taken, IsBody, no_guard, empty_guard, guarded, IsOptList, IsList, IsMembrane, in_braces}
 use Rattle.lmn_parser.proofs.Nodes.{clause_process, clause_rule, rule_parts}
 
 -- clauses with full stops between them
@@ -66,19 +66,19 @@ membrane_closed ts cs p m q a r b = let P : ℕ → Type 0 = λ n. IsMembrane ts
 pub stands_there : (ts : List Token) (s : ℕ) (d : Token) → s < length ts → StandsAt ts s (get_or ts s d).pos
 stands_there ts s d h = ap (option_map (λ t. t.pos)) (slice_get-get_or ts s d h)
 
-pub process_read : (ts : List Token) (xs : List ItemNode) (p q : ℕ) → IsList ts (items_of xs) p q → IsClause ts (clause_of (view.Process xs)) p q
+pub process_read : (ts : List Token) (xs : List ItemNode) (p q : ℕ) → IsList ts (items_of_nodes xs) p q → IsClause ts (clause_of (view.Process xs)) p q
 process_read ts xs p q a = let P : Clause → Type 0 = λ c. IsClause ts c p q in subst P (sym (clause_process xs)) (is_process a)
 
-pub all_heads_taken : (ts : List Token) (none : List ItemNode) (xs : Items) (p q : ℕ) → none ≡ [] → IsOptList ts xs p q → IsHeads ts (items_of none) xs p q
-all_heads_taken ts none xs p q e a = let P : List ItemNode → Type 0 = λ zs. IsHeads ts (items_of zs) xs p q in subst P (sym e) (all_taken a)
+pub all_heads_taken : (ts : List Token) (none : List ItemNode) (xs : Items) (p q : ℕ) → none ≡ [] → IsOptList ts xs p q → IsHeads ts (items_of_nodes none) xs p q
+all_heads_taken ts none xs p q e a = let P : List ItemNode → Type 0 = λ zs. IsHeads ts (items_of_nodes zs) xs p q in subst P (sym e) (all_taken a)
 
-pub rule_read : (ts : List Token) (r : RuleNode) (box : Box RuleNode Global) (pos : Pos) (s p m n q : ℕ) → box.value ≡ r → StandsAt ts s pos → r.pos ≡ pos → IsHeads ts (items_of r.kept) (items_of r.taken) p m
-    → (n ≡ m + 1) × At ts m Arrow → IsBody ts (conditions_of r.guard) (items_of r.body) n q → IsRule ts s (clause_of (view.Rule box)) p q
+pub rule_read : (ts : List Token) (r : RuleNode) (box : Box RuleNode Global) (pos : Pos) (s p m n q : ℕ) → box.value ≡ r → StandsAt ts s pos → r.pos ≡ pos → IsHeads ts (items_of_nodes r.kept) (items_of_nodes r.taken) p m
+    → (n ≡ m + 1) × At ts m Arrow → IsBody ts (conditions_of r.guard) (items_of_nodes r.body) n q → IsWrittenRule ts s (clause_of (view.Rule box)) p q
 rule_read ts r box pos s p m n q e stands same heads arrow body =
-    let P : Clause → Type 0 = λ c. IsRule ts s c p q in
-    let Q : ℕ → Type 0 = λ k. IsBody ts (conditions_of r.guard) (items_of r.body) k q in
+    let P : Clause → Type 0 = λ c. IsWrittenRule ts s c p q in
+    let Q : ℕ → Type 0 = λ k. IsBody ts (conditions_of r.guard) (items_of_nodes r.body) k q in
     let R : Pos → Type 0 = StandsAt ts s in
-    subst P (sym (clause_rule box ∙ ap rule_of e ∙ rule_parts r)) (is_rule (subst R (sym same) stands) heads arrow.1 (subst Q arrow.0 body))
+    subst P (sym (clause_rule box ∙ ap clause_of_rule e ∙ rule_parts r)) (is_rule (subst R (sym same) stands) heads arrow.1 (subst Q arrow.0 body))
 
 -- a body
 
@@ -88,5 +88,5 @@ body_alone ts none xs p q e a = let P : List CondNode → Type 0 = λ zs. IsBody
 pub body_behind_bar : (ts : List Token) (none : List CondNode) (xs : Items) (p q : ℕ) → none ≡ [] → At ts p Bar → IsOptList ts xs (p + 1) q → IsBody ts (conditions_of none) xs p q
 body_behind_bar ts none xs p q e b a = let P : List CondNode → Type 0 = λ zs. IsBody ts (conditions_of zs) xs p q in subst P (sym e) (empty_guard b a)
 
-pub body_behind_guard : (ts : List Token) (cs : List Condition) (xs : Items) (p m q : ℕ) → (bar : ℕ) × IsGuard ts cs p bar × At ts bar Bar × (m ≡ bar + 1) → IsOptList ts xs m q → IsBody ts cs xs p q
+pub body_behind_guard : (ts : List Token) (cs : List WrittenCondition) (xs : Items) (p m q : ℕ) → (bar : ℕ) × IsWrittenGuard ts cs p bar × At ts bar Bar × (m ≡ bar + 1) → IsOptList ts xs m q → IsBody ts cs xs p q
 body_behind_guard ts cs xs p m q g a = let P : ℕ → Type 0 = λ n. IsOptList ts xs n q in guarded g.1 g.2 (subst P g.3 a)

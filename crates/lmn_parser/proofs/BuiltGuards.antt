@@ -3,8 +3,8 @@ use Rattle.std.proofs.Common.{◌≡◌, ℕ, ◌+◌, List, [], ◌∷◌, ◌+
 use Rattle.lmn_lexer.specs.declared.token.Kind.TheVariants.{Context, LParen, RParen, Comma, Differ}
 use Rattle.lmn_lexer.specs.declared.token.Token.{Token}
 use Rattle.lmn_parser.specs.declared.tree.CondNode.{CondNode}
-use Rattle.lmn_parser.specs.Syntax.{Condition, different, condition_of, conditions_of}
-use Rattle.lmn_parser.specs.Trees.{At, IsContexts, last_context, more_contexts, IsContextArguments, no_contexts, some_contexts, IsCondition, is_different, IsGuard, last_condition, more_conditions}
+use Rattle.lmn_parser.specs.Syntax.{WrittenCondition, different, condition_of_node, conditions_of}
+use Rattle.lmn_parser.specs.Trees.{At, IsContexts, last_context, more_contexts, IsContextArguments, no_contexts, some_contexts, IsCondition, is_different, IsWrittenGuard, last_condition, more_conditions}
 
 -- contexts with commas between them
 
@@ -41,21 +41,21 @@ condition_differ ts p q a b c =
     let e : p + 3 ≡ q = omega (arith, c.0) in
     subst P e (is_different a b c.1)
 
-guard_more : (ts : List Token) {cs : List Condition} {p m : ℕ} (c : Condition) (q : ℕ) → IsGuard ts cs p m → At ts m Comma → IsCondition ts c (m + 1) q → IsGuard ts (cs ++ c ∷ []) p q
+guard_more : (ts : List Token) {cs : List WrittenCondition} {p m : ℕ} (c : WrittenCondition) (q : ℕ) → IsWrittenGuard ts cs p m → At ts m Comma → IsCondition ts c (m + 1) q → IsWrittenGuard ts (cs ++ c ∷ []) p q
 guard_more ts c q (last_condition a) h b = more_conditions a h (last_condition b)
 guard_more ts c q (more_conditions a k r) h b = more_conditions a k (guard_more ts c q r h b)
 
-conditions_last : (cs : List CondNode) (c : CondNode) → conditions_of (cs ++ c ∷ []) ≡ conditions_of cs ++ condition_of c ∷ []
+conditions_last : (cs : List CondNode) (c : CondNode) → conditions_of (cs ++ c ∷ []) ≡ conditions_of cs ++ condition_of_node c ∷ []
 conditions_last [] c = refl
-conditions_last (d ∷ cs) c = ap (λ l. condition_of d ∷ l) (conditions_last cs c)
+conditions_last (d ∷ cs) c = ap (λ l. condition_of_node d ∷ l) (conditions_last cs c)
 
-pub guard_first : (ts : List Token) (cs ds : List CondNode) (c : CondNode) (p m : ℕ) → cs ≡ [] → ds ≡ cs ++ c ∷ [] → IsCondition ts (condition_of c) p m → IsGuard ts (conditions_of ds) p m
+pub guard_first : (ts : List Token) (cs ds : List CondNode) (c : CondNode) (p m : ℕ) → cs ≡ [] → ds ≡ cs ++ c ∷ [] → IsCondition ts (condition_of_node c) p m → IsWrittenGuard ts (conditions_of ds) p m
 guard_first ts cs ds c p m e f a =
-    let P : List CondNode → Type 0 = λ zs. IsGuard ts (conditions_of zs) p m in
+    let P : List CondNode → Type 0 = λ zs. IsWrittenGuard ts (conditions_of zs) p m in
     subst P (sym (f ∙ ap (λ zs. zs ++ c ∷ []) e)) (last_condition a)
 
-pub guard_next : (ts : List Token) (cs ds : List CondNode) (c : CondNode) (p m q : ℕ) → IsGuard ts (conditions_of cs) p m → At ts m Comma → IsCondition ts (condition_of c) (m + 1) q → ds ≡ cs ++ c ∷ [] →
-    IsGuard ts (conditions_of ds) p q
+pub guard_next : (ts : List Token) (cs ds : List CondNode) (c : CondNode) (p m q : ℕ) → IsWrittenGuard ts (conditions_of cs) p m → At ts m Comma → IsCondition ts (condition_of_node c) (m + 1) q → ds ≡ cs ++ c ∷ [] →
+    IsWrittenGuard ts (conditions_of ds) p q
 guard_next ts cs ds c p m q r h a e =
-    let P : List Condition → Type 0 = λ zs. IsGuard ts zs p q in
-    subst P (sym (ap conditions_of e ∙ conditions_last cs c)) (guard_more ts (condition_of c) q r h a)
+    let P : List WrittenCondition → Type 0 = λ zs. IsWrittenGuard ts zs p q in
+    subst P (sym (ap conditions_of e ∙ conditions_last cs c)) (guard_more ts (condition_of_node c) q r h a)

@@ -9,13 +9,13 @@ use Rattle.lmn_parser.specs.declared.tree.AtomNode.{AtomNode}
 use Rattle.lmn_parser.specs.declared.tree.Clause.TheViews as view
 use Rattle.lmn_parser.specs.declared.tree.Item.TheVariants as item_variant
 use Rattle.lmn_parser.specs.declared.tree.Term.TheVariants as term_variant
-use Rattle.lmn_parser.specs.Syntax.{Term, Terms, no_term, term_and, Item, Items, no_item, item_and, list, list_onto, bracketed, plus_link, group, equation, terms_of, items_of, clauses_of, term_of, item_of, clause_of}
-use Rattle.lmn_parser.specs.Trees.{At, NameAt, IsOptList, no_list, IsClause, IsList, last_item, more_items, IsItem, is_atom_item, is_membrane_item, is_context_item, is_bracketed, is_rule_context, is_plus_link, is_group, is_equation, IsMembrane, IsAtom, with_name, with_integer, IsArguments, no_parentheses, no_arguments, some_arguments, IsTerms, last_term, more_terms, IsTerm, is_link, is_atom, is_context, is_membrane, IsTermList, empty_list, closed_list, open_list}
+use Rattle.lmn_parser.specs.Syntax.{Term, Terms, no_term, term_and, Item, Items, no_item, item_and, list, list_onto, bracketed, plus_link, group, equation, terms_of, items_of_nodes, clauses_of, term_of, item_of, clause_of}
+use Rattle.lmn_parser.specs.Trees.{At, NameAt, IsOptList, no_list, IsClause, IsList, last_item, more_items, IsItem, is_atom_item, is_membrane_item, is_context_item, is_bracketed, is_rule_context, is_plus_link, is_group, is_equation, IsMembrane, IsWrittenAtom, with_name, with_integer, IsArguments, no_parentheses, no_arguments, some_arguments, IsTerms, last_term, more_terms, IsTerm, is_link, is_atom, is_context, is_membrane, IsTermList, empty_list, closed_list, open_list}
 use Rattle.lmn_parser.proofs.Nodes as node
 
 -- atoms and their arguments
 
-pub atom_read : (ts : List Token) (xs : Terms) (p q : ℕ) → NameAt ts p ⊎ At ts p Int → IsArguments ts xs (p + 1) q → IsAtom ts p xs p q
+pub atom_read : (ts : List Token) (xs : Terms) (p q : ℕ) → NameAt ts p ⊎ At ts p Int → IsArguments ts xs (p + 1) q → IsWrittenAtom ts p xs p q
 atom_read ts xs p q (inl h) a = with_name h a
 atom_read ts xs p q (inr h) a = with_integer h a
 
@@ -63,7 +63,7 @@ link_read ts p h = let P : Term → Type 0 = λ t. IsTerm ts t p (p + 1) in subs
 pub context_read : (ts : List Token) (p : ℕ) → At ts p Context → IsTerm ts (term_of (term_variant.Context p)) p (p + 1)
 context_read ts p h = let P : Term → Type 0 = λ t. IsTerm ts t p (p + 1) in subst P (sym (node.term_context p)) (is_context h)
 
-pub atom_term_read : (ts : List Token) (n : AtomNode) (p q : ℕ) → IsAtom ts n.token (terms_of n.args) p q → IsTerm ts (term_of (view.Term::Atom n)) p q
+pub atom_term_read : (ts : List Token) (n : AtomNode) (p q : ℕ) → IsWrittenAtom ts n.token (terms_of n.args) p q → IsTerm ts (term_of (view.Term::Atom n)) p q
 atom_term_read ts n p q a = let P : Term → Type 0 = λ t. IsTerm ts t p q in subst P (sym (node.term_atom n)) (is_atom a)
 
 pub membrane_term_read : (ts : List Token) (cs : List ClauseNode) (p q : ℕ) → IsMembrane ts (clauses_of cs) p q → IsTerm ts (term_of (view.Term::Membrane cs)) p q
@@ -121,7 +121,7 @@ bracketed_read ts p m q h k a b =
     let f : p + 4 ≡ q = omega (arith, a.0, b.0) in
     subst P (sym (node.item_bracketed p (p + 2))) (subst Q f (is_bracketed h k a.1 (subst R e b.1)))
 
-pub atom_item_read : (ts : List Token) (n : AtomNode) (p q : ℕ) → IsAtom ts n.token (terms_of n.args) p q → IsItem ts (item_of (view.Item::Atom n)) p q
+pub atom_item_read : (ts : List Token) (n : AtomNode) (p q : ℕ) → IsWrittenAtom ts n.token (terms_of n.args) p q → IsItem ts (item_of (view.Item::Atom n)) p q
 atom_item_read ts n p q a = let P : Item → Type 0 = λ x. IsItem ts x p q in subst P (sym (node.item_atom n)) (is_atom_item a)
 
 pub membrane_item_read : (ts : List Token) (cs : List ClauseNode) (p q : ℕ) → IsMembrane ts (clauses_of cs) p q → IsItem ts (item_of (view.Item::Membrane cs)) p q
@@ -145,21 +145,21 @@ unfolding then_item
 items_more ts t q (last_item a) h b = more_items a h (last_item b)
 items_more ts t q (more_items a k r) h b = more_items a k (items_more ts t q r h b)
 
-items_last : (xs : List ItemNode) (x : ItemNode) → items_of (xs ++ x ∷ []) ≡ then_item (items_of xs) (item_of x)
+items_last : (xs : List ItemNode) (x : ItemNode) → items_of_nodes (xs ++ x ∷ []) ≡ then_item (items_of_nodes xs) (item_of x)
 unfolding then_item
 items_last [] x = refl
 items_last (y ∷ xs) x = ap (item_and (item_of y)) (items_last xs x)
 
-pub items_first : (ts : List Token) (xs ys : List ItemNode) (x : ItemNode) (p m : ℕ) → xs ≡ [] → ys ≡ xs ++ x ∷ [] → IsItem ts (item_of x) p m → IsList ts (items_of ys) p m
+pub items_first : (ts : List Token) (xs ys : List ItemNode) (x : ItemNode) (p m : ℕ) → xs ≡ [] → ys ≡ xs ++ x ∷ [] → IsItem ts (item_of x) p m → IsList ts (items_of_nodes ys) p m
 items_first ts xs ys x p m e f a =
-    let P : List ItemNode → Type 0 = λ zs. IsList ts (items_of zs) p m in
+    let P : List ItemNode → Type 0 = λ zs. IsList ts (items_of_nodes zs) p m in
     subst P (sym (f ∙ ap (λ zs. zs ++ x ∷ []) e)) (last_item a)
 
-pub items_next : (ts : List Token) (xs ys : List ItemNode) (x : ItemNode) (p m q : ℕ) → IsList ts (items_of xs) p m → At ts m Comma → IsItem ts (item_of x) (m + 1) q → ys ≡ xs ++ x ∷ [] →
-    IsList ts (items_of ys) p q
+pub items_next : (ts : List Token) (xs ys : List ItemNode) (x : ItemNode) (p m q : ℕ) → IsList ts (items_of_nodes xs) p m → At ts m Comma → IsItem ts (item_of x) (m + 1) q → ys ≡ xs ++ x ∷ [] →
+    IsList ts (items_of_nodes ys) p q
 items_next ts xs ys x p m q r h a e =
     let P : Items → Type 0 = λ z. IsList ts z p q in
-    subst P (sym (ap items_of e ∙ items_last xs x)) (items_more ts (item_of x) q r h a)
+    subst P (sym (ap items_of_nodes e ∙ items_last xs x)) (items_more ts (item_of x) q r h a)
 
-pub no_item_there : (ts : List Token) (xs : List ItemNode) (p : ℕ) → xs ≡ [] → IsOptList ts (items_of xs) p p
-no_item_there ts xs p e = let P : List ItemNode → Type 0 = λ zs. IsOptList ts (items_of zs) p p in subst P (sym e) no_list
+pub no_item_there : (ts : List Token) (xs : List ItemNode) (p : ℕ) → xs ≡ [] → IsOptList ts (items_of_nodes xs) p p
+no_item_there ts xs p e = let P : List ItemNode → Type 0 = λ zs. IsOptList ts (items_of_nodes zs) p p in subst P (sym e) no_list

@@ -1,17 +1,15 @@
 -- What is read where none of several tokens stands.
-use Rattle.std.proofs.Common.{◌≡◌, ℕ, ◌+◌, true, false, List, [], ◌∷◌, slice_get, Some, refl, sym, ◌∙◌, ap, arith}
+use Rattle.std.proofs.Common.{◌≡◌, ℕ, ◌+◌, false, List, [], ◌∷◌, slice_get, Some, refl, sym, ◌∙◌, ap, arith}
 use Rattle.lmn_grammar.specs.Grammar.{Tok, Ref, SumPart, TermPart, fact, item}
 use Rattle.lmn_grammar.specs.Factored.{atom_name}
 use Rattle.lmn_grammar.specs.Reading.{Owed, nexts, stop_at, begins}
 use Rattle.lmn_lexer.specs.declared.token.Kind.{Kind}
 use Rattle.lmn_lexer.specs.declared.token.Kind.TheVariants.{Name, Quoted, Mod, Link, Int, Context, RuleCtx, LParen, RParen, LBracket, LBrace, Plus}
 use Rattle.lmn_grammar.proofs.Stops.{alike, dead_at}
+use Rattle.lmn_base.proofs.Truth.{false_not_true as clash}
 
 pub two_behind : (ts : List Kind) (p : ℕ) (s : List Owed) → stop_at ts (p + 1 + 1) s ≡ stop_at ts (p + 2) s
 two_behind ts p s = let e : p + 1 + 1 ≡ p + 2 = omega arith in ap (λ n. stop_at ts n s) e
-
-clash : false ≡ true → ⊥
-clash h = cc
 
 pub fact_round : (ts : List Kind) (p : ℕ) (κ : Owed) → (slice_get ts p ≡ Some Int → ⊥) → (slice_get ts p ≡ Some Context → ⊥) →
     stop_at ts p ((fact ∷ κ) ∷ []) ≡ stop_at ts p ((Tok LParen ∷ Ref SumPart ∷ Tok RParen ∷ κ) ∷ [])

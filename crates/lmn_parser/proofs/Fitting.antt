@@ -7,22 +7,22 @@ use Rattle.lmn_base.specs.declared.guard.Arith.{Arith}
 use Rattle.lmn_base.specs.declared.guard.Arith.TheVariants as op
 use Rattle.std.specs.List.{AllByRecursion}
 use Rattle.lmn_grammar.specs.Grammar.{Ref, TermPart, Derives, by}
-use Rattle.lmn_grammar.specs.Limits.{ends_operand, may_be_operator, may_be_atom_name, goes_on, EndsWith, IsOperator, Side, begins, operand, operator, IsAtomName, Balanced, empty, comma, other, InArguments, begun, TermNext, behind_equal, in_arguments, in_list, of_any, of_term, left_of_equal}
+use Rattle.lmn_grammar.specs.Limits.{ends_operand, may_be_operator, may_be_atom_name, continues_side, EndsWith, IsOperator, Side, begins, operand, operator, IsAtomName, Balanced, empty, comma, other, InArguments, begun, TermNext, behind_equal, in_arguments, in_list, of_any, of_term, left_of_equal}
 use Rattle.lmn_grammar.specs.Refusing.{IsWithin}
 use Rattle.lmn_grammar.proofs.Arguments.{balanced_word, not_beyond}
 use Rattle.lmn_grammar.proofs.Counts.{balanced_both, last_is, side_less}
-use Rattle.lmn_grammar.proofs.Items.{clash}
-use Rattle.lmn_grammar.proofs.Stops.{plus_nothing}
 use Rattle.lmn_grammar.proofs.Theory.{empty_right}
 use Rattle.lmn_lexer.specs.declared.token.Kind.{Kind}
 use Rattle.lmn_lexer.specs.declared.token.Kind.TheVariants.{Name, Quoted, Mod, Int, Context, LParen, RParen, LBracket, LBrace, Comma, Dot, Arrow, AtAt, Bar, Backslash, Equal, Plus, Minus, Star, Slash}
 use Rattle.lmn_lexer.specs.declared.token.Token.{Token}
-use Rattle.lmn_parser.specs.Arities.{number_of, operators_of, FitsCondition, FitsTerm, FitsTerms, FitsItem, FitsItems, FitsClause, FitsClauses}
+use Rattle.lmn_parser.specs.Arities.{number_of_terms, operators_of, FitsCondition, FitsTerm, FitsTerms, FitsItem, FitsItems, FitsClause, FitsClauses}
 use Rattle.lmn_parser.specs.Parsing.{kinds_of}
 use Rattle.lmn_parser.specs.Syntax as tree
-use Rattle.lmn_parser.specs.Trees.{At, NameAt, TimesAt, PlusAt, IsSum, one_product, plus, IsProduct, one_factor, times, IsFactor, is_integer, is_value, in_parentheses, IsContexts, last_context, more_contexts, IsContextArguments, no_contexts, some_contexts, IsCondition, is_called, is_compared, is_equal, is_different, IsGuard, last_condition, more_conditions, IsClauses, no_clauses, last_clause, more_clauses, IsClause, named_rule, unnamed_rule, is_process, IsRule, is_rule, IsHeads, all_taken, some_kept, IsBody, no_guard, empty_guard, guarded, IsOptList, no_list, some_list, IsList, last_item, more_items, IsItem, is_atom_item, is_membrane_item, is_context_item, is_bracketed, is_rule_context, is_plus_link, is_group, is_equation, IsMembrane, in_braces, IsAtom, with_name, with_integer, IsArguments, no_parentheses, no_arguments, some_arguments, IsTerms, last_term, more_terms, IsTerm, is_link, is_atom, is_context, is_membrane, is_list, IsTermList, empty_list, closed_list, open_list}
+use Rattle.lmn_parser.specs.Trees.{At, NameAt, TimesAt, PlusAt, IsSum, one_product, plus, IsProduct, one_factor, times, IsFactor, is_integer, is_value, in_parentheses, IsContexts, last_context, more_contexts, IsContextArguments, no_contexts, some_contexts, IsCondition, is_called, is_compared, is_equal, is_different, IsWrittenGuard, last_condition, more_conditions, IsClauses, no_clauses, last_clause, more_clauses, IsClause, named_rule, unnamed_rule, is_process, IsWrittenRule, is_rule, IsHeads, all_taken, some_kept, IsBody, no_guard, empty_guard, guarded, IsOptList, no_list, some_list, IsList, last_item, more_items, IsItem, is_atom_item, is_membrane_item, is_context_item, is_bracketed, is_rule_context, is_plus_link, is_group, is_equation, IsMembrane, in_braces, IsWrittenAtom, with_name, with_integer, IsArguments, no_parentheses, no_arguments, some_arguments, IsTerms, last_term, more_terms, IsTerm, is_link, is_atom, is_context, is_membrane, is_list, IsTermList, empty_list, closed_list, open_list}
 use Rattle.lmn_parser.specs.TreeLaws.{TreesFit}
 use Rattle.lmn_parser.proofs.TreeWords.{drop_token, next_to, term_words}
+use Rattle.lmn_base.proofs.Lists.{plus_nothing}
+use Rattle.lmn_base.proofs.Truth.{false_not_true as clash}
 
 -- What stands before the token with a number; it isn't an operand, so that no operator can follow.
 record Ready (ks : List Kind) (p : ℕ) : Type 0 where
@@ -180,7 +180,7 @@ side_begins ks p = record { before = take p ks; split = sym (take-append-drop p 
 pub behind_token : (ks : List Kind) (p : ℕ) (u : List Kind) (k : Kind) → ks ≡ u ++ drop p ks → slice_get ks p ≡ Some k → ks ≡ (u ++ k ∷ []) ++ drop (p + 1) ks
 behind_token ks p u k e h = e ∙ ap (λ z. u ++ z) (drop_token ks p k h) ∙ sym (append_assoc u (k ∷ []) (drop (p + 1) ks))
 
-one_operand : (ks : List Kind) (p n : ℕ) (k : Kind) → slice_get ks p ≡ Some k → goes_on k ≡ true → ends_operand k ≡ true → SideStart ks p n → Sided ks (p + 1) n
+one_operand : (ks : List Kind) (p n : ℕ) (k : Kind) → slice_get ks p ≡ Some k → continues_side k ≡ true → ends_operand k ≡ true → SideStart ks p n → Sided ks (p + 1) n
 one_operand ks p n k h g e s = record {
   before = s.before ++ k ∷ [];
   split = behind_token ks p s.before k s.split h;
@@ -285,28 +285,28 @@ name_fit ts p (inl h) = (Name, refl, h)
 name_fit ts p (inr (inl h)) = (Quoted, refl, h)
 name_fit ts p (inr (inr h)) = (Mod, refl, h)
 
-condition_fits : (ts : List Token) → IsWithin (kinds_of ts) → {x : tree.Condition} {p q : ℕ} → IsCondition ts x p q → Ready (kinds_of ts) p → FitsCondition x
+condition_fits : (ts : List Token) → IsWithin (kinds_of ts) → {x : tree.WrittenCondition} {p q : ℕ} → IsCondition ts x p q → Ready (kinds_of ts) p → FitsCondition x
 condition_fits ts w (is_called {p = p} h d) r = let k = name_fit ts p h in called_fit ts w d k.0 k.1 k.2 r
 condition_fits ts w (is_compared o a h b) r = (side_fits ts w a, side_fits ts w b)
 condition_fits ts w (is_equal h e b) r = side_fits ts w b
 condition_fits ts w (is_different h e c) r = tt
 
-guard_fits : (ts : List Token) → IsWithin (kinds_of ts) → {xs : List tree.Condition} {p q : ℕ} → IsGuard ts xs p q → Ready (kinds_of ts) p → AllByRecursion FitsCondition xs
+guard_fits : (ts : List Token) → IsWithin (kinds_of ts) → {xs : List tree.WrittenCondition} {p q : ℕ} → IsWrittenGuard ts xs p q → Ready (kinds_of ts) p → AllByRecursion FitsCondition xs
 guard_fits ts w (last_condition d) r = (condition_fits ts w d r, tt)
 guard_fits ts w (more_conditions {m = m} d h e) r = (condition_fits ts w d r, guard_fits ts w e (token_ready (kinds_of ts) m Comma h refl))
 
 -- Terms, items and clauses.
 record TermsFit (xs : tree.Terms) (start : List Kind) (n : ℕ) (ks : List Kind) (q : ℕ) : Type 0 where
   pub commas : ℕ
-  pub count : suc commas ≡ n + number_of xs
+  pub count : suc commas ≡ n + number_of_terms xs
   pub last : LastPart start commas ks
   pub ending : Ending start commas ks q
   pub fits : FitsTerms xs
 
 -- an atom's arguments, where it is an item, and where it is a term by its place or by the '=' behind it
 record AtomFits (xs : tree.Terms) (is_term : Type 0) : Type 0 where
-  pub any : number_of xs ≤ 255
-  pub term : is_term → number_of xs ≤ 254
+  pub any : number_of_terms xs ≤ 255
+  pub term : is_term → number_of_terms xs ≤ 254
   pub fits : FitsTerms xs
 
 abbrev IsTermAt : List Token → (before : List Kind) → ℕ → Type 0
@@ -347,7 +347,7 @@ mutual
   clause_fits ts w (unnamed_rule d) r = rule_fits ts w d r
   clause_fits ts w (is_process d) r = list_fits ts w d r
 
-  rule_fits : (ts : List Token) → IsWithin (kinds_of ts) → {s : ℕ} {x : tree.Clause} {p q : ℕ} → IsRule ts s x p q → Ready (kinds_of ts) p → FitsClause x
+  rule_fits : (ts : List Token) → IsWithin (kinds_of ts) → {s : ℕ} {x : tree.Clause} {p q : ℕ} → IsWrittenRule ts s x p q → Ready (kinds_of ts) p → FitsClause x
   rule_fits ts w (is_rule {m = m} s d h e) r =
       let heads = heads_fit ts w d r in let body = body_fits ts w e (token_ready (kinds_of ts) m Arrow h refl) in (heads.0, heads.1, body.0, body.1)
 
@@ -355,7 +355,7 @@ mutual
   heads_fit ts w (all_taken d) r = (tt, opt_list_fits ts w d r)
   heads_fit ts w (some_kept {m = m} d h e) r = (opt_list_fits ts w d r, opt_list_fits ts w e (token_ready (kinds_of ts) m Backslash h refl))
 
-  body_fits : (ts : List Token) → IsWithin (kinds_of ts) → {g : List tree.Condition} {x : tree.Items} {p q : ℕ} → IsBody ts g x p q → Ready (kinds_of ts) p → AllByRecursion FitsCondition g × FitsItems x
+  body_fits : (ts : List Token) → IsWithin (kinds_of ts) → {g : List tree.WrittenCondition} {x : tree.Items} {p q : ℕ} → IsBody ts g x p q → Ready (kinds_of ts) p → AllByRecursion FitsCondition g × FitsItems x
   body_fits ts w (no_guard d) r = (tt, opt_list_fits ts w d r)
   body_fits ts w (empty_guard {p = p} h d) r = (tt, opt_list_fits ts w d (token_ready (kinds_of ts) p Bar h refl))
   body_fits ts w (guarded {m = m} g h d) r = (guard_fits ts w g r, opt_list_fits ts w d (token_ready (kinds_of ts) m Bar h refl))
@@ -382,7 +382,7 @@ mutual
   membrane_fits : (ts : List Token) → IsWithin (kinds_of ts) → {x : tree.Clauses} {p q : ℕ} → IsMembrane ts x p q → FitsClauses x
   membrane_fits ts w (in_braces {p = p} o d c) = clauses_fit ts w d (token_ready (kinds_of ts) p LBrace o refl)
 
-  atom_fits : (ts : List Token) → IsWithin (kinds_of ts) → {n : ℕ} {x : tree.Terms} {p q : ℕ} → IsAtom ts n x p q → (r : Ready (kinds_of ts) p) → AtomFits x (IsTermAt ts r.before q)
+  atom_fits : (ts : List Token) → IsWithin (kinds_of ts) → {n : ℕ} {x : tree.Terms} {p q : ℕ} → IsWrittenAtom ts n x p q → (r : Ready (kinds_of ts) p) → AtomFits x (IsTermAt ts r.before q)
   atom_fits ts w (with_name {p = p} h d) r = let k = name_fit ts p h in
       arguments_fit ts w d r.before k.0 (is_word (kinds_of ts) p k.0 r k.1) (behind_word (kinds_of ts) p k.0 r k.2)
   atom_fits ts w (with_integer {p = p} h d) r = arguments_fit ts w d r.before Int (is_word (kinds_of ts) p Int r refl) (behind_word (kinds_of ts) p Int r h)
@@ -395,8 +395,8 @@ mutual
       let ks = kinds_of ts in
       let f = terms_fit ts w d (arguments front k) 0 (first_spot front k ks p e o) (λ m u b. in_arguments (begun_in front k h b)) in
       record {
-        any = fewer (number_of xs) f.commas 255 f.count (any_fit front k ks f.commas w h f.last);
-        term = λ t. fewer (number_of xs) f.commas 254 f.count (elim t [ inl n ↦ term_fit front k ks f.commas w h f.last n | inr g ↦ equal_fit front k ks f.commas q w h f.ending c g ]);
+        any = fewer (number_of_terms xs) f.commas 255 f.count (any_fit front k ks f.commas w h f.last);
+        term = λ t. fewer (number_of_terms xs) f.commas 254 f.count (elim t [ inl n ↦ term_fit front k ks f.commas w h f.last n | inr g ↦ equal_fit front k ks f.commas q w h f.ending c g ]);
         fits = f.fits;
       }
 

@@ -14,22 +14,22 @@ use Rattle.lmn_parser.specs.declared.tree.Clause.TheVariants as clause_variant
 use Rattle.lmn_parser.specs.declared.tree.Item.TheVariants as item_variant
 use Rattle.lmn_parser.specs.declared.tree.Term.TheVariants as term_variant
 use Rattle.lmn_parser.specs.declared.tree.Clause.TheFolds.{fold-AtomNode, fold-roll-Clause, fold-roll-Item, fold-roll-Term, fold-roll-AtomNode, fold-roll-RuleNode}
-use Rattle.lmn_parser.specs.Syntax.{Expr, integer, value, expr_of, expr_step, Term, Item, Clause, Terms, terms_of, items_of, clauses_of, condition_of, term_of, item_of, clause_of, rule_of, clause_step, item_step, term_step, atom_step, rule_step, process, rule, atom_item, membrane_item, context_item, bracketed, rule_context, plus_link, group, equation, link, atom, list, list_onto, context, membrane}
+use Rattle.lmn_parser.specs.Syntax.{Expr, integer, value, expr_of, expr_step, Term, Item, Clause, Terms, terms_of, items_of_nodes, clauses_of, condition_of_node, term_of, item_of, clause_of, clause_of_rule, clause_step, item_step, term_step, atom_step, rule_step, process, rule, atom_item, membrane_item, context_item, bracketed, rule_context, plus_link, group, equation, link, atom, list, list_onto, context, membrane}
 
 atom_parts : (n : AtomNode) → fold-AtomNode Clause Item Term (ℕ × Terms) Clause clause_step item_step term_step atom_step rule_step n ≡ (n.token, terms_of n.args)
 atom_parts n = fold-roll-AtomNode Clause Item Term (ℕ × Terms) Clause clause_step item_step term_step atom_step rule_step (record { token = n.token; args = n.args })
 
 -- a rule has the parts of its node
-pub rule_parts : (r : RuleNode) → rule_of r
-    ≡ rule (items_of r.kept) (items_of r.taken) (map condition_of r.guard) (items_of r.body) r.pos
+pub rule_parts : (r : RuleNode) → clause_of_rule r
+    ≡ rule (items_of_nodes r.kept) (items_of_nodes r.taken) (map condition_of_node r.guard) (items_of_nodes r.body) r.pos
 rule_parts r = fold-roll-RuleNode Clause Item Term (ℕ × Terms) Clause clause_step item_step term_step atom_step rule_step (record { kept = r.kept; taken = r.taken; guard = r.guard; body = r.body; pos = r.pos })
 
 -- clauses
 
-pub clause_process : (xs : List ItemNode) → clause_of (view.Process xs) ≡ process (items_of xs)
+pub clause_process : (xs : List ItemNode) → clause_of (view.Process xs) ≡ process (items_of_nodes xs)
 clause_process xs = ap clause_of (sym (clause_variant.rolls-Process xs)) ∙ fold-roll-Clause Clause Item Term (ℕ × Terms) Clause clause_step item_step term_step atom_step rule_step (node.Process xs)
 
-pub clause_rule : (r : Box RuleNode Global) → clause_of (view.Rule r) ≡ rule_of r.value
+pub clause_rule : (r : Box RuleNode Global) → clause_of (view.Rule r) ≡ clause_of_rule r.value
 clause_rule r = ap clause_of (sym (clause_variant.rolls-Rule r)) ∙ fold-roll-Clause Clause Item Term (ℕ × Terms) Clause clause_step item_step term_step atom_step rule_step (node.Rule r)
 
 -- items

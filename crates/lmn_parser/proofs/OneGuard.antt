@@ -4,13 +4,13 @@ use Rattle.lmn_base.specs.declared.guard.Arith.{Arith}
 use Rattle.lmn_base.specs.declared.guard.Arith.TheVariants as arith
 use Rattle.lmn_base.specs.declared.guard.Cmp.{Cmp}
 use Rattle.lmn_base.specs.declared.guard.Cmp.TheVariants as compare
-use Rattle.lmn_grammar.proofs.Items.{clash}
 use Rattle.lmn_lexer.specs.declared.token.Kind.{Kind}
 use Rattle.lmn_lexer.specs.declared.token.Kind.TheVariants.{Mod, Context, RParen, Comma, Bar, Less, LessEq, Greater, GreaterEq, NumEq, NumNe, Plus, Minus, Star, Slash}
 use Rattle.lmn_lexer.specs.declared.token.Token.{Token}
-use Rattle.lmn_parser.specs.Syntax.{Expr, operation, Condition, called, compared, equal}
-use Rattle.lmn_parser.specs.Trees.{At, NameAt, TimesAt, PlusAt, CmpAt, IsSum, one_product, plus, IsProduct, one_factor, times, IsFactor, is_integer, is_value, in_parentheses, IsContexts, last_context, more_contexts, IsContextArguments, no_contexts, some_contexts, IsCondition, is_called, is_compared, is_equal, is_different, IsGuard, last_condition, more_conditions}
+use Rattle.lmn_parser.specs.Syntax.{Expr, operation, WrittenCondition, called, compared, equal}
+use Rattle.lmn_parser.specs.Trees.{At, NameAt, TimesAt, PlusAt, CmpAt, IsSum, one_product, plus, IsProduct, one_factor, times, IsFactor, is_integer, is_value, in_parentheses, IsContexts, last_context, more_contexts, IsContextArguments, no_contexts, some_contexts, IsCondition, is_called, is_compared, is_equal, is_different, IsWrittenGuard, last_condition, more_conditions}
 use Rattle.lmn_parser.proofs.TreeTokens.{one_kind, apart, Follow, follows, no_follow, weaken, no_name}
+use Rattle.lmn_base.proofs.Truth.{false_not_true as clash}
 
 -- ---- operators
 
@@ -286,7 +286,7 @@ one_context_arguments ts no_contexts (some_contexts o s c) F G = absurd (no_foll
 one_context_arguments ts (some_contexts o s c) no_contexts F G = absurd (no_follow ts after_condition _ G o refl)
 one_context_arguments ts (some_contexts o s c) (some_contexts o' s' c') F G = let x = one_contexts ts s s' c c' in (x.0, ap (λ n. n + 1) x.1)
 
-pub one_condition : (ts : List Token) {x y : Condition} {p q r : ℕ} → IsCondition ts x p q → IsCondition ts y p r → Follow ts after_condition q → Follow ts after_condition r → (x ≡ y) × (q ≡ r)
+pub one_condition : (ts : List Token) {x y : WrittenCondition} {p q r : ℕ} → IsCondition ts x p q → IsCondition ts y p r → Follow ts after_condition q → Follow ts after_condition r → (x ≡ y) × (q ≡ r)
 one_condition ts {p = p} (is_called n a) (is_called n' b) F G = let x = one_context_arguments ts a b F G in (ap (called p) x.0, x.1)
 one_condition ts (is_called n a) (is_compared op b h c) F G = absurd (sum_no_name ts b n)
 one_condition ts (is_called n a) (is_equal h e b) F G = absurd (no_name ts _ n h refl)
@@ -312,7 +312,7 @@ one_condition ts (is_different g e c) (is_compared op a h b) F G = absurd (no_si
 one_condition ts (is_different h e a) (is_equal h' e' b) F G = absurd (apart ts _ e e' refl)
 one_condition ts (is_different h e a) (is_different h' e' b) F G = (refl, refl)
 
-pub one_guard : (ts : List Token) {xs ys : List Condition} {p q r : ℕ} → IsGuard ts xs p q → IsGuard ts ys p r → At ts q Bar → At ts r Bar → (xs ≡ ys) × (q ≡ r)
+pub one_guard : (ts : List Token) {xs ys : List WrittenCondition} {p q r : ℕ} → IsWrittenGuard ts xs p q → IsWrittenGuard ts ys p r → At ts q Bar → At ts r Bar → (xs ≡ ys) × (q ≡ r)
 one_guard ts (last_condition d) (last_condition e) h g = let x = one_condition ts d e (follows ts after_condition _ h refl) (follows ts after_condition _ g refl) in (ap (λ z. z ∷ []) x.0, x.1)
 one_guard ts (last_condition d) (more_conditions e c s) h g =
     let x = one_condition ts d e (follows ts after_condition _ h refl) (follows ts after_condition _ c refl) in absurd (apart ts _ (subst (λ n. At ts n Bar) x.1 h) c refl)
@@ -320,13 +320,13 @@ one_guard ts (more_conditions d c s) (last_condition e) h g =
     let x = one_condition ts d e (follows ts after_condition _ c refl) (follows ts after_condition _ g refl) in absurd (apart ts _ (subst (λ n. At ts n Comma) x.1 c) g refl)
 one_guard ts (more_conditions {c = a} {cs = xs} d c s) (more_conditions {c = b} {cs = ys} {q = r} e c' s') h g =
     let x = one_condition ts d e (follows ts after_condition _ c refl) (follows ts after_condition _ c' refl) in
-    let y = one_guard ts s (subst (λ n. IsGuard ts ys (n + 1) r) (sym x.1) s') h g in
+    let y = one_guard ts s (subst (λ n. IsWrittenGuard ts ys (n + 1) r) (sym x.1) s') h g in
     (same_cons a b xs ys x.0 y.0, y.1)
   where
-    same_cons : (a b : Condition) (xs ys : List Condition) → a ≡ b → xs ≡ ys → a ∷ xs ≡ b ∷ ys
+    same_cons : (a b : WrittenCondition) (xs ys : List WrittenCondition) → a ≡ b → xs ≡ ys → a ∷ xs ≡ b ∷ ys
     same_cons a b xs ys h g = cc
 
-condition_no_bar : (ts : List Token) {x : Condition} {p q : ℕ} → IsCondition ts x p q → At ts p Bar → ⊥
+condition_no_bar : (ts : List Token) {x : WrittenCondition} {p q : ℕ} → IsCondition ts x p q → At ts p Bar → ⊥
 condition_no_bar ts (is_called n a) h = no_name ts _ n h refl
 condition_no_bar ts (is_compared op a g b) h = sum_no_bar ts a h
   where
@@ -345,6 +345,6 @@ condition_no_bar ts (is_compared op a g b) h = sum_no_bar ts a h
 condition_no_bar ts (is_equal g e a) h = apart ts _ g h refl
 condition_no_bar ts (is_different g e a) h = apart ts _ g h refl
 
-pub no_bar : (ts : List Token) {xs : List Condition} {p q : ℕ} → IsGuard ts xs p q → At ts p Bar → ⊥
+pub no_bar : (ts : List Token) {xs : List WrittenCondition} {p q : ℕ} → IsWrittenGuard ts xs p q → At ts p Bar → ⊥
 no_bar ts (last_condition d) h = condition_no_bar ts d h
 no_bar ts (more_conditions d c s) h = condition_no_bar ts d h

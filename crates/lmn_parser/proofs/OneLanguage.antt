@@ -5,14 +5,14 @@ use Rattle.lmn_grammar.specs.Refusing.{IsRefused, IsWithin}
 use Rattle.lmn_grammar.proofs.Refusals.{refused_alike, refused_is_none}
 use Rattle.lmn_lexer.specs.declared.token.Kind.{Kind}
 use Rattle.lmn_lexer.specs.declared.token.Token.{Token}
-use Rattle.lmn_parser.specs.Faults.{IsProgram}
+use Rattle.lmn_parser.specs.Faults.{AreKindsOfProgram}
 use Rattle.lmn_parser.specs.Parsing.{kinds_of}
 use Rattle.lmn_parser.specs.Syntax.{Clauses}
-use Rattle.lmn_parser.specs.Trees.{IsTree}
+use Rattle.lmn_parser.specs.Trees.{IsProgram}
 use Rattle.lmn_parser.proofs.TreeWords.{trees_derive}
 use Rattle.lmn_parser.proofs.TreesExist.{trees_exist}
 
-pub program_derived : (kinds : List Kind) → IsProgram kinds → Derives program kinds
+pub program_derived : (kinds : List Kind) → AreKindsOfProgram kinds → Derives program kinds
 program_derived kinds (tokens, tree, e, h) = let D : List Kind → Type 0 = Derives program in subst D e (trees_derive tokens tree h)
 
 -- some tokens of these kinds
@@ -24,7 +24,7 @@ kinds_are : (kinds : List Kind) → kinds_of (tokens_of kinds) ≡ kinds
 kinds_are [] = refl
 kinds_are (k ∷ kinds) = ap (λ z. k ∷ z) (kinds_are kinds)
 
-pub derived_program : (kinds : List Kind) → Derives program kinds → IsProgram kinds
+pub derived_program : (kinds : List Kind) → Derives program kinds → AreKindsOfProgram kinds
 derived_program kinds d =
     let e = kinds_are kinds in
     let D : List Kind → Type 0 = Derives program in
@@ -32,9 +32,9 @@ derived_program kinds d =
     (tokens_of kinds, t.0, e, t.1)
 
 -- What the grammar refuses the trees refuse.
-pub refused_by_trees : (kinds : List Kind) (place code : ℕ) → IsRefused (Derives program) kinds place code → IsRefused IsProgram kinds place code
-refused_by_trees = refused_alike (Derives program) IsProgram derived_program program_derived
+pub refused_by_trees : (kinds : List Kind) (place code : ℕ) → IsRefused (Derives program) kinds place code → IsRefused AreKindsOfProgram kinds place code
+refused_by_trees = refused_alike (Derives program) AreKindsOfProgram derived_program program_derived
 
 -- What is refused is no tree within the limits.
-pub refused_no_tree : (tokens : List Token) (tree : Clauses) (place code : ℕ) → IsRefused IsProgram (kinds_of tokens) place code → IsTree tokens tree → IsWithin (kinds_of tokens) → ⊥
-refused_no_tree tokens tree place code r h w = refused_is_none IsProgram (kinds_of tokens) place code r (tokens, tree, refl, h) w
+pub refused_no_tree : (tokens : List Token) (tree : Clauses) (place code : ℕ) → IsRefused AreKindsOfProgram (kinds_of tokens) place code → IsProgram tokens tree → IsWithin (kinds_of tokens) → ⊥
+refused_no_tree tokens tree place code r h w = refused_is_none AreKindsOfProgram (kinds_of tokens) place code r (tokens, tree, refl, h) w

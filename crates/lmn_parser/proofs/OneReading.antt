@@ -3,7 +3,7 @@ use Rattle.std.proofs.Common.{List, sym, subst, ◌∙◌, ap}
 use Rattle.std.proofs.lemmas.List.{map-append}
 use Rattle.lmn_lexer.specs.declared.token.Token.{Token}
 use Rattle.lmn_lexer.proofs.OneCut.{one_cut}
-use Rattle.lmn_parser.specs.Trees.{IsTree}
+use Rattle.lmn_parser.specs.Trees.{IsProgram}
 use Rattle.lmn_parser.specs.Readings.{CutTextsEnd, OneReading}
 use Rattle.lmn_parser.specs.Parsing.{kinds_of}
 use Rattle.lmn_parser.proofs.OneTree.{one_tree}
@@ -11,7 +11,7 @@ use Rattle.lmn_parser.proofs.OneTree.{one_tree}
 pub one_reading : OneReading
 one_reading text tokens others tree other a b =
     let same = one_cut text tokens others a.cut b.cut in
-    let P : List Token → Type 0 = λ ts. IsTree ts other in
+    let P : List Token → Type 0 = λ ts. IsProgram ts other in
     (same, one_tree tokens tree other a.is_tree (subst P (sym same) b.is_tree))
 
 pub cut_ends : CutTextsEnd

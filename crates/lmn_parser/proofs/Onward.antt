@@ -5,7 +5,7 @@ use Rattle.lmn_grammar.specs.Factored.{guard_bar}
 use Rattle.lmn_grammar.specs.Reading.{Owed, stop_at, EndsOptList}
 use Rattle.lmn_grammar.proofs.Bodies.{GuardStops, ListStops}
 use Rattle.lmn_lexer.specs.declared.token.Kind.{Kind}
-use Rattle.lmn_parser.specs.Outcomes.{Stops, Reads, reach}
+use Rattle.lmn_parser.specs.Outcomes.{Stops, ReadsOrStops, reach}
 use Rattle.lmn_parser.specs.declared.stop.Stop.{Stop}
 use Rattle.lmn_parser.specs.declared.stop.Stop.TheVariants.{At, NoMemory}
 
@@ -14,12 +14,12 @@ stops_on ts p q s s' (At r) e h = (e ∙ h.0, h.1)
 stops_on ts p q s s' NoMemory e h = tt
 
 pub onward : {X : Type 0} → (ts : List Kind) (p q : ℕ) (e e' : Exp) (κ : Owed) (r : Result (X × ℕ) Stop) →
-    stop_at ts p ((e ∷ κ) ∷ []) ≡ stop_at ts q ((e' ∷ κ) ∷ []) → Reads ts q e' κ r → Reads ts p e κ r
+    stop_at ts p ((e ∷ κ) ∷ []) ≡ stop_at ts q ((e' ∷ κ) ∷ []) → ReadsOrStops ts q e' κ r → ReadsOrStops ts p e κ r
 onward ts p q e e' κ (Ok x) a h = a ∙ h
 onward ts p q e e' κ (Err x) a h = stops_on ts p q ((e ∷ κ) ∷ []) ((e' ∷ κ) ∷ []) x a h
 
 pub refused : {X : Type 0} → (ts : List Kind) (p q : ℕ) (e : Exp) (κ : Owed) (s : List Owed) (x : Stop) (r : Result (X × ℕ) Stop) →
-    stop_at ts p ((e ∷ κ) ∷ []) ≡ stop_at ts q s → Stops ts q s x → IsErrAnd r (λ y. y ≡ x) → Reads ts p e κ r
+    stop_at ts p ((e ∷ κ) ∷ []) ≡ stop_at ts q s → Stops ts q s x → IsErrAnd r (λ y. y ≡ x) → ReadsOrStops ts p e κ r
 refused ts p q e κ s x (Ok y) a h f = absurd f
 refused ts p q e κ s x (Err y) a h f = let P : Stop → Type 0 = Stops ts p ((e ∷ κ) ∷ []) in subst P (sym f) (stops_on ts p q ((e ∷ κ) ∷ []) s x a h)
 

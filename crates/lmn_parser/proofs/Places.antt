@@ -3,7 +3,7 @@ use Rattle.std.proofs.Common.{◌≡◌, ◌≢◌, ℕ, zero, suc, ◌<◌, ◌
 use Rattle.lmn_grammar.specs.Reading.{is_kind}
 use Rattle.lmn_lexer.specs.declared.token.Kind.{Kind}
 use Rattle.lmn_lexer.specs.declared.token.Kind.TheVariants.{Context, End}
-use Rattle.lmn_grammar.proofs.Stops.{unlike}
+use Rattle.lmn_grammar.proofs.Stops.{unlike, same_some as same}
 use Rattle.std.proofs.lemmas.Option.{slice_get-map, slice_get-get_or}
 use Rattle.lmn_lexer.specs.declared.token.Token.{Token}
 use Rattle.lmn_parser.specs.Parsing.{kinds_of}
@@ -15,9 +15,6 @@ not_end k h = unlike End k (λ e. h (sym e))
 last_counts : (b : Bool) → b ≡ false → 0 < (if b then 0 else 1)
 last_counts true h = cc
 last_counts false h = omega arith
-
-same : (a b : Kind) → Some a ≡ Some b → a ≡ b
-same a b e = cc
 
 pub token_inside : (ts : List Kind) (p : ℕ) (k : Kind) → slice_get ts p ≡ Some k → k ≢ End → p < reach ts
 token_inside [] p k h n = cc

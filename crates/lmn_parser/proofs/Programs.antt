@@ -5,25 +5,22 @@ use Rattle.std.proofs.lemmas.Option.{slice_get_within}
 use Rattle.lmn_grammar.specs.Grammar.{Derives, program}
 use Rattle.lmn_grammar.specs.Limits.{Passes}
 use Rattle.lmn_grammar.specs.Reading.{Owed, stop_at}
-use Rattle.lmn_grammar.specs.Refusing.{Begins, IsRefused, IsWithin}
+use Rattle.lmn_grammar.specs.Refusing.{BeginsProgram, IsRefused, IsWithin}
 use Rattle.lmn_lexer.specs.declared.token.Kind.{Kind}
 use Rattle.lmn_lexer.specs.declared.token.Kind.TheVariants.{End}
 use Rattle.lmn_lexer.specs.declared.token.Token.{Token}
 use Rattle.lmn_parser.specs.declared.stop.Stop.{Stop}
 use Rattle.lmn_parser.specs.declared.stop.Stop.TheVariants.{At}
 use Rattle.lmn_grammar.proofs.Ends.{begun_to_end}
-use Rattle.lmn_grammar.proofs.Refusals.{all_begins, refused_plain, refused_before_limit, refused_by_limit}
+use Rattle.lmn_grammar.proofs.Refusals.{all_begins, refused_plain, refused_before_limit, refused_by_limit, start}
 use Rattle.lmn_parser.specs.Outcomes.{Stops, ReadsWhole, reach}
 use Rattle.lmn_parser.specs.Syntax.{Clauses}
-use Rattle.lmn_parser.specs.Trees.{At as KindAt, IsClauses, IsTree}
-use Rattle.lmn_parser.specs.Faults.{IsProgram}
+use Rattle.lmn_parser.specs.Trees.{At as KindAt, IsClauses, IsProgram}
+use Rattle.lmn_parser.specs.Faults.{AreKindsOfProgram}
 use Rattle.lmn_parser.specs.Parsing.{kinds_of, EndsWithEnd}
 use Rattle.lmn_parser.proofs.OneLanguage.{refused_by_trees}
 use Rattle.lmn_parser.proofs.Onward.{stops_on}
 use Rattle.lmn_parser.proofs.Places.{reach_within, reach_of_ended}
-
-abbrev pub start : List Owed
-start = (program ∷ []) ∷ []
 
 pub whole_refused : {X : Type 0} → (ts : List Kind) (q : ℕ) (s : List Owed) (x : Stop) (r : Result X Stop) →
     stop_at ts 0 start ≡ stop_at ts q s → Stops ts q s x → IsErrAnd r (λ y. y ≡ x) → ReadsWhole ts r
@@ -46,7 +43,7 @@ has_token ts r (before, e) h =
     let n = sym (kinds_length ts) ∙ ap length e ∙ length-append before (End ∷ []) in
     omega (arith, h, l, n)
 
-pub stops_unexpected : (ts : List Token) (r : ℕ) → EndsWithEnd ts → IsWithin (kinds_of ts) → Stops (kinds_of ts) 0 start (At r) → IsRefused IsProgram (kinds_of ts) r 10
+pub stops_unexpected : (ts : List Token) (r : ℕ) → EndsWithEnd ts → IsWithin (kinds_of ts) → Stops (kinds_of ts) 0 start (At r) → IsRefused AreKindsOfProgram (kinds_of ts) r 10
 stops_unexpected ts r ends w s =
     let n = kinds_length ts in
     let lt = has_token ts r ends s.1 in
@@ -55,15 +52,15 @@ stops_unexpected ts r ends w s =
 
 pub whole_derived : (ts us : List Token) → us ≡ ts → EndsWithEnd ts → stop_at (kinds_of us) 0 start ≡ length (kinds_of us) → Derives program (kinds_of ts)
 whole_derived ts us e (before, split) s =
-    let P : List Kind → Type 0 = Begins (Derives program) in
+    let P : List Kind → Type 0 = BeginsProgram (Derives program) in
     let D : List Kind → Type 0 = Derives program in
     let b = all_begins (kinds_of us) s in
     subst D (sym split) (begun_to_end before (subst P (ap kinds_of e ∙ split) b))
 
-pub whole_tree : (ts us : List Token) (tree : Clauses) → us ≡ ts → IsTree us tree → IsTree ts tree
-whole_tree ts us tree e h = let P : List Token → Type 0 = λ z. IsTree z tree in subst P e h
+pub whole_tree : (ts us : List Token) (tree : Clauses) → us ≡ ts → IsProgram us tree → IsProgram ts tree
+whole_tree ts us tree e h = let P : List Token → Type 0 = λ z. IsProgram z tree in subst P e h
 
-pub program_read : (ts : List Token) (cs : Clauses) (m q : ℕ) → IsClauses ts cs 0 m → (q ≡ m + 1) × KindAt ts m End → length ts ≤ q → q ≤ length ts → IsTree ts cs
+pub program_read : (ts : List Token) (cs : Clauses) (m q : ℕ) → IsClauses ts cs 0 m → (q ≡ m + 1) × KindAt ts m End → length ts ≤ q → q ≤ length ts → IsProgram ts cs
 program_read ts cs m q a e low high = (m, a, e.1, omega (arith, e.0, low, high))
 
 -- The tokens are cut behind the first one that passes a limit.
@@ -74,7 +71,7 @@ cut_length : (ts : List Token) (m : ℕ) (k : Kind) → slice_get (kinds_of ts) 
 cut_length ts m k h = let lt = slice_get_within (kinds_of ts) m k h in length-take-le (m + 1) (kinds_of ts) (omega (arith, lt))
 
 pub cut_read : (ts us : List Token) (m code : ℕ) (k : Kind) → us ≡ ts → slice_get (kinds_of ts) m ≡ Some k → IsWithin (take m (kinds_of ts)) →
-    Passes code (take m (kinds_of ts)) k → stop_at (kinds_of (take (m + 1) us)) 0 start ≡ length (kinds_of (take (m + 1) us)) → IsRefused IsProgram (kinds_of ts) m code
+    Passes code (take m (kinds_of ts)) k → stop_at (kinds_of (take (m + 1) us)) 0 start ≡ length (kinds_of (take (m + 1) us)) → IsRefused AreKindsOfProgram (kinds_of ts) m code
 cut_read ts us m code k e h w p s =
     let cut = cut_kinds ts us (m + 1) e in
     refused_by_trees (kinds_of ts) m code
@@ -87,7 +84,7 @@ cut_stop ts us m r x e h s =
     subst P (cut_kinds ts us (m + 1) e) (subst Q h s)
 
 pub cut_stopped : (ts us : List Token) (m r code : ℕ) (k : Kind) (x : Stop) → us ≡ ts → x ≡ At r → slice_get (kinds_of ts) m ≡ Some k → IsWithin (take m (kinds_of ts)) →
-    Passes code (take m (kinds_of ts)) k → Stops (kinds_of (take (m + 1) us)) 0 start x → m < r → IsRefused IsProgram (kinds_of ts) m code
+    Passes code (take m (kinds_of ts)) k → Stops (kinds_of (take (m + 1) us)) 0 start x → m < r → IsRefused AreKindsOfProgram (kinds_of ts) m code
 cut_stopped ts us m r code k x e f h w p s lt =
     let t = cut_stop ts us m r x e f s in
     let l = cut_length ts m k h in
@@ -96,6 +93,6 @@ cut_stopped ts us m r code k x e f h w p s lt =
     refused_by_trees (kinds_of ts) m code (refused_by_limit (kinds_of ts) m code k h w p (t.0 ∙ there))
 
 pub cut_unexpected : (ts us : List Token) (m r : ℕ) (k : Kind) (x : Stop) → us ≡ ts → x ≡ At r → slice_get (kinds_of ts) m ≡ Some k → IsWithin (take m (kinds_of ts)) →
-    Stops (kinds_of (take (m + 1) us)) 0 start x → r ≤ m → IsRefused IsProgram (kinds_of ts) r 10
+    Stops (kinds_of (take (m + 1) us)) 0 start x → r ≤ m → IsRefused AreKindsOfProgram (kinds_of ts) r 10
 cut_unexpected ts us m r k x e f h w s le =
     refused_by_trees (kinds_of ts) r 10 (refused_before_limit (kinds_of ts) m r k h w (cut_stop ts us m r x e f s).0 le)

@@ -1,17 +1,15 @@
 -- Which token stands where a part begins, and behind it.
-use Rattle.std.proofs.Common.{◌≡◌, ℕ, ◌+◌, Bool, true, false, List, nat_eq, Some, refl, sym, ◌∙◌, ap, subst, inl, inr}
+use Rattle.std.proofs.Common.{◌≡◌, ℕ, ◌+◌, Bool, true, false, List, nat_eq, refl, sym, ◌∙◌, ap, subst, inl, inr}
 use Rattle.std.proofs.lemmas.Bool.{eq-eqb}
-use Rattle.lmn_grammar.specs.Reading.{is_kind, is_closer, is_end}
-use Rattle.lmn_grammar.proofs.Items.{clash}
+use Rattle.lmn_grammar.specs.Reading.{is_kind, may_follow_clause, is_end}
 use Rattle.lmn_grammar.proofs.Theory.{is_itself}
 use Rattle.lmn_lexer.specs.declared.token.Kind.{Kind}
 use Rattle.lmn_lexer.specs.declared.token.Kind.TheVariants.{Name, Quoted, Mod, Link, Int, Context, RuleCtx, End, LParen, RParen, LBracket, RBracket, LBrace, RBrace, Comma, Dot, Arrow, AtAt, Bar, Backslash, Equal, Plus}
 use Rattle.lmn_lexer.specs.declared.token.Token.{Token}
 use Rattle.lmn_parser.specs.Syntax.{Term, Terms, Item, Items, Clause, Clauses}
-use Rattle.lmn_parser.specs.Trees.{At, NameAt, IsClause, named_rule, unnamed_rule, is_process, IsRule, is_rule, IsHeads, all_taken, some_kept, no_list, some_list, IsList, last_item, more_items, IsItem, is_atom_item, is_membrane_item, is_context_item, is_bracketed, is_rule_context, is_plus_link, is_group, is_equation, IsMembrane, in_braces, IsAtom, with_name, with_integer, no_parentheses, no_arguments, some_arguments, IsTerms, last_term, more_terms, IsTerm, is_link, is_atom, is_context, is_membrane, is_list, IsTermList, empty_list, closed_list, open_list}
-
-some_same : (k l : Kind) → Some k ≡ Some l → k ≡ l
-some_same k l h = cc
+use Rattle.lmn_parser.specs.Trees.{At, NameAt, IsClause, named_rule, unnamed_rule, is_process, IsWrittenRule, is_rule, IsHeads, all_taken, some_kept, no_list, some_list, IsList, last_item, more_items, IsItem, is_atom_item, is_membrane_item, is_context_item, is_bracketed, is_rule_context, is_plus_link, is_group, is_equation, IsMembrane, in_braces, IsWrittenAtom, with_name, with_integer, no_parentheses, no_arguments, some_arguments, IsTerms, last_term, more_terms, IsTerm, is_link, is_atom, is_context, is_membrane, is_list, IsTermList, empty_list, closed_list, open_list}
+use Rattle.lmn_base.proofs.Truth.{false_not_true as clash}
+use Rattle.lmn_grammar.proofs.Stops.{same_some as some_same}
 
 pub one_kind : (ts : List Token) (p : ℕ) {k l : Kind} → At ts p k → At ts p l → k ≡ l
 one_kind ts p {k} {l} h g = some_same k l (sym h ∙ g)
@@ -77,14 +75,14 @@ list_item LBracket h = absurd (clash h)
 list_item Equal h = absurd (clash h)
 list_item _ h = refl
 
-pub clause_list : (k : Kind) → is_closer k ≡ true → after_list k ≡ true
+pub clause_list : (k : Kind) → may_follow_clause k ≡ true → after_list k ≡ true
 clause_list RParen h = refl
 clause_list RBrace h = refl
 clause_list Dot h = refl
 clause_list End h = refl
 clause_list _ h = absurd (clash h)
 
-pub end_clause : (k : Kind) → is_end k ≡ true → is_closer k ≡ true
+pub end_clause : (k : Kind) → is_end k ≡ true → may_follow_clause k ≡ true
 end_clause RBrace h = refl
 end_clause End h = refl
 end_clause _ h = absurd (clash h)
@@ -132,7 +130,7 @@ name_at ts p (inl h) = (Name, h, refl)
 name_at ts p (inr (inl h)) = (Quoted, h, refl)
 name_at ts p (inr (inr h)) = (Mod, h, refl)
 
-atom_at : (ts : List Token) {n : ℕ} {xs : Terms} {p q : ℕ} → IsAtom ts n xs p q → Sorted ts p 1
+atom_at : (ts : List Token) {n : ℕ} {xs : Terms} {p q : ℕ} → IsWrittenAtom ts n xs p q → Sorted ts p 1
 atom_at ts (with_name h d) = name_at ts _ h
 atom_at ts (with_integer h d) = (Int, h, refl)
 
@@ -235,7 +233,7 @@ no_heads ts (all_taken (some_list d)) h F = list_no_follow ts d (weaken ts is_en
 no_heads ts (some_kept no_list b e) h F = no_follow ts is_end _ F b refl
 no_heads ts (some_kept (some_list d) b e) h F = list_no_follow ts d (weaken ts is_end after_list _ end_list F)
 
-no_rule : (ts : List Token) {s : ℕ} {c : Clause} {p q : ℕ} → IsRule ts s c p q → Follow ts is_end p → ⊥
+no_rule : (ts : List Token) {s : ℕ} {c : Clause} {p q : ℕ} → IsWrittenRule ts s c p q → Follow ts is_end p → ⊥
 no_rule ts (is_rule s d h b) F = no_heads ts d h F
 
 no_end : (ts : List Token) (p : ℕ) → NameAt ts p → Follow ts is_end p → ⊥
@@ -251,7 +249,7 @@ no_clause ts (is_process d) F = list_no_follow ts d (weaken ts is_end after_list
 
 -- ---- the name of a rule and its '@@': a list that begins with them has the name alone
 
-atom_label : (ts : List Token) {n : ℕ} {xs : Terms} {p q : ℕ} → IsAtom ts n xs p q → At ts (p + 1) AtAt → q ≡ p + 1
+atom_label : (ts : List Token) {n : ℕ} {xs : Terms} {p q : ℕ} → IsWrittenAtom ts n xs p q → At ts (p + 1) AtAt → q ≡ p + 1
 atom_label ts (with_name n no_parentheses) h = refl
 atom_label ts (with_name n (no_arguments o c)) h = absurd (apart ts _ o h refl)
 atom_label ts (with_name n (some_arguments o d c)) h = absurd (apart ts _ o h refl)
@@ -278,5 +276,5 @@ no_label_heads ts (all_taken (some_list d)) h n a = no_label_list ts d n a h ref
 no_label_heads ts (some_kept no_list b e) h n a = no_name ts _ n b refl
 no_label_heads ts (some_kept (some_list d) b e) h n a = no_label_list ts d n a b refl
 
-pub no_label_rule : (ts : List Token) {s : ℕ} {c : Clause} {p q : ℕ} → IsRule ts s c p q → NameAt ts p → At ts (p + 1) AtAt → ⊥
+pub no_label_rule : (ts : List Token) {s : ℕ} {c : Clause} {p q : ℕ} → IsWrittenRule ts s c p q → NameAt ts p → At ts (p + 1) AtAt → ⊥
 no_label_rule ts (is_rule s d h b) n a = no_label_heads ts d h n a

@@ -5,16 +5,17 @@ use Rattle.lmn_base.specs.declared.guard.Arith.{Arith}
 use Rattle.lmn_base.specs.declared.guard.Arith.TheVariants as arith
 use Rattle.lmn_base.specs.declared.guard.Cmp.{Cmp}
 use Rattle.lmn_base.specs.declared.guard.Cmp.TheVariants as compare
-use Rattle.lmn_grammar.specs.Grammar.{Exp, Tok, Seq, Alt, Opt, Many, Within, Ref, Bracket, Round, Square, Curly, opener, closer, Part, TermPart, SumPart, ClausePart, ClausesPart, meaning, Derives, here, both, left, right, without, with, no_more, one_more, inside, by, some_of, more_of, name, arguments, atom, membrane, tlist, term, item, list, fact, product, sum, cmp, cond, guard, body, heads, rule, clause, clauses, program}
+use Rattle.lmn_grammar.specs.Grammar.{Exp, Tok, Seq, Alt, Opt, Many, Within, Ref, Bracket, Round, Square, Curly, opener, closer, Part, TermPart, SumPart, ClausePart, ClausesPart, part_expression, Derives, here, both, left, right, without, with, no_more, one_more, inside, by, some_of, more_of, name, arguments, atom, membrane, tlist, term, item, list, fact, product, sum, cmp, cond, guard, body, heads, rule, clause, clauses, program}
 use Rattle.lmn_grammar.specs.Factored.{contexts}
-use Rattle.lmn_grammar.proofs.Stops.{drop_here, plus_nothing}
+use Rattle.lmn_grammar.proofs.Stops.{drop_here}
 use Rattle.lmn_lexer.specs.declared.token.Kind.{Kind}
 use Rattle.lmn_lexer.specs.declared.token.Kind.TheVariants.{Name, Quoted, Mod, Link, Int, Context, RuleCtx, End, Comma, Dot, Arrow, AtAt, Bar, Backslash, Equal, Less, LessEq, Greater, GreaterEq, NumEq, NumNe, Differ, Plus, Minus, Star, Slash}
 use Rattle.lmn_lexer.specs.declared.token.Token.{Token}
 use Rattle.lmn_parser.specs.Parsing.{kinds_of}
 use Rattle.lmn_parser.specs.Syntax as tree
-use Rattle.lmn_parser.specs.Trees.{At, NameAt, TimesAt, PlusAt, CmpAt, IsSum, one_product, plus, IsProduct, one_factor, times, IsFactor, is_integer, is_value, in_parentheses, IsContexts, last_context, more_contexts, IsContextArguments, no_contexts, some_contexts, IsCondition, is_called, is_compared, is_equal, is_different, IsGuard, last_condition, more_conditions, IsClauses, no_clauses, last_clause, more_clauses, IsClause, named_rule, unnamed_rule, is_process, IsRule, is_rule, IsHeads, all_taken, some_kept, IsBody, no_guard, empty_guard, guarded, IsOptList, no_list, some_list, IsList, last_item, more_items, IsItem, is_atom_item, is_membrane_item, is_context_item, is_bracketed, is_rule_context, is_plus_link, is_group, is_equation, IsMembrane, in_braces, IsAtom, with_name, with_integer, IsArguments, no_parentheses, no_arguments, some_arguments, IsTerms, last_term, more_terms, IsTerm, is_link, is_atom, is_context, is_membrane, is_list, IsTermList, empty_list, closed_list, open_list}
+use Rattle.lmn_parser.specs.Trees.{At, NameAt, TimesAt, PlusAt, CmpAt, IsSum, one_product, plus, IsProduct, one_factor, times, IsFactor, is_integer, is_value, in_parentheses, IsContexts, last_context, more_contexts, IsContextArguments, no_contexts, some_contexts, IsCondition, is_called, is_compared, is_equal, is_different, IsWrittenGuard, last_condition, more_conditions, IsClauses, no_clauses, last_clause, more_clauses, IsClause, named_rule, unnamed_rule, is_process, IsWrittenRule, is_rule, IsHeads, all_taken, some_kept, IsBody, no_guard, empty_guard, guarded, IsOptList, no_list, some_list, IsList, last_item, more_items, IsItem, is_atom_item, is_membrane_item, is_context_item, is_bracketed, is_rule_context, is_plus_link, is_group, is_equation, IsMembrane, in_braces, IsWrittenAtom, with_name, with_integer, IsArguments, no_parentheses, no_arguments, some_arguments, IsTerms, last_term, more_terms, IsTerm, is_link, is_atom, is_context, is_membrane, is_list, IsTermList, empty_list, closed_list, open_list}
 use Rattle.lmn_parser.specs.TreeLaws.{TreesDerive}
+use Rattle.lmn_base.proofs.Lists.{plus_nothing}
 
 -- The kinds from p up to q are a word of the expression.
 pub record Spells (ks : List Kind) (e : Exp) (p q : ℕ) : Type 0 where
@@ -70,7 +71,7 @@ module _ (ks : List Kind) where
   opt : {a : Exp} {p q : ℕ} → Spells ks a p q → Spells ks (Opt a) p q
   opt {a} = into (λ w d. with a w d)
 
-  ref : {p q : ℕ} (n : Part) → Spells ks (meaning n) p q → Spells ks (Ref n) p q
+  ref : {p q : ℕ} (n : Part) → Spells ks (part_expression n) p q → Spells ks (Ref n) p q
   ref n = into (λ w d. by n w d)
 
 -- ---- words
@@ -162,7 +163,7 @@ contexts_words ts (more_contexts {p = p} {q = q} h c d) =
     let W : ℕ → Type 0 = λ n. Words ts (some_of (Tok Context)) n q in
     more_words ts (tok (kinds_of ts) _ Context h refl) c (subst W (next_to p) (contexts_words ts d))
 
-condition_words : (ts : List Token) {x : tree.Condition} {p q : ℕ} → IsCondition ts x p q → Words ts cond p q
+condition_words : (ts : List Token) {x : tree.WrittenCondition} {p q : ℕ} → IsCondition ts x p q → Words ts cond p q
 condition_words ts (is_called h a) = let k = kinds_of ts in this k (seq k (name_words ts _ h) (arguments_word a))
   where
     arguments_word : {xs : List ℕ} {p q : ℕ} → IsContextArguments ts xs p q → Words ts (Opt contexts) p q
@@ -174,7 +175,7 @@ condition_words ts (is_equal {p = p} h e b) =
 condition_words ts (is_different {p = p} h e c) =
     let k = kinds_of ts in that k (that k (that k (seq k (tok k _ Context h refl) (seq k (tok k (p + 2) Differ e (next_to p)) (tok k _ Context c (omega arith))))))
 
-pub guard_words : (ts : List Token) {xs : List tree.Condition} {p q : ℕ} → IsGuard ts xs p q → Words ts guard p q
+pub guard_words : (ts : List Token) {xs : List tree.WrittenCondition} {p q : ℕ} → IsWrittenGuard ts xs p q → Words ts guard p q
 guard_words ts (last_condition d) = one_words ts (condition_words ts d)
 guard_words ts (more_conditions d h e) = more_words ts (condition_words ts d) h (guard_words ts e)
 
@@ -191,14 +192,14 @@ mutual
   clause_words ts (unnamed_rule d) = let k = kinds_of ts in this k (seq k (nothing k _ (without _)) (rule_words ts d))
   clause_words ts (is_process d) = that (kinds_of ts) (list_words ts d)
 
-  rule_words : (ts : List Token) {s : ℕ} {x : tree.Clause} {p q : ℕ} → IsRule ts s x p q → Words ts rule p q
+  rule_words : (ts : List Token) {s : ℕ} {x : tree.Clause} {p q : ℕ} → IsWrittenRule ts s x p q → Words ts rule p q
   rule_words ts (is_rule s d h e) = let k = kinds_of ts in seq k (heads_words ts d) (seq k (tok k _ Arrow h refl) (body_words ts e))
 
   heads_words : (ts : List Token) {x y : tree.Items} {p q : ℕ} → IsHeads ts x y p q → Words ts heads p q
   heads_words ts (all_taken d) = let k = kinds_of ts in seq k (opt_list_words ts d) (nothing k _ (without _))
   heads_words ts (some_kept d h e) = let k = kinds_of ts in seq k (opt_list_words ts d) (opt k (seq k (tok k _ Backslash h refl) (opt_list_words ts e)))
 
-  body_words : (ts : List Token) {g : List tree.Condition} {x : tree.Items} {p q : ℕ} → IsBody ts g x p q → Words ts body p q
+  body_words : (ts : List Token) {g : List tree.WrittenCondition} {x : tree.Items} {p q : ℕ} → IsBody ts g x p q → Words ts body p q
   body_words ts (no_guard d) = let k = kinds_of ts in seq k (nothing k _ (without _)) (opt_list_words ts d)
   body_words ts (empty_guard h d) = let k = kinds_of ts in seq k (opt k (seq k (nothing k _ (without _)) (tok k _ Bar h refl))) (opt_list_words ts d)
   body_words ts (guarded g h d) = let k = kinds_of ts in seq k (opt k (seq k (opt k (guard_words ts g)) (tok k _ Bar h refl))) (opt_list_words ts d)
@@ -226,7 +227,7 @@ mutual
   membrane_words : (ts : List Token) {x : tree.Clauses} {p q : ℕ} → IsMembrane ts x p q → Words ts membrane p q
   membrane_words ts (in_braces o d c) = let k = kinds_of ts in within k _ Curly o (ref k ClausesPart (clauses_words ts d)) c refl
 
-  atom_words : (ts : List Token) {n : ℕ} {x : tree.Terms} {p q : ℕ} → IsAtom ts n x p q → Words ts atom p q
+  atom_words : (ts : List Token) {n : ℕ} {x : tree.Terms} {p q : ℕ} → IsWrittenAtom ts n x p q → Words ts atom p q
   atom_words ts (with_name h d) = let k = kinds_of ts in seq k (this k (name_words ts _ h)) (arguments_words ts d)
   atom_words ts (with_integer h d) = let k = kinds_of ts in seq k (that k (tok k _ Int h refl)) (arguments_words ts d)
 

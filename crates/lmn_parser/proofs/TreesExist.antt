@@ -7,18 +7,18 @@ use Rattle.lmn_base.specs.declared.guard.Cmp.{Cmp}
 use Rattle.lmn_base.specs.declared.guard.Cmp.TheVariants as compare
 use Rattle.lmn_base.specs.declared.refusal.Pos.{Pos}
 use Rattle.lmn_grammar.specs.Grammar as grammar
-use Rattle.lmn_grammar.specs.Grammar.{Exp, Tok, Seq, Alt, Opt, Many, Within, Ref, opener, closer, Part, TermPart, SumPart, ClausePart, ClausesPart, meaning, Derives, here, both, left, right, without, with, no_more, one_more, inside, by, some_of, name}
+use Rattle.lmn_grammar.specs.Grammar.{Exp, Tok, Seq, Alt, Opt, Many, Within, Ref, opener, closer, Part, TermPart, SumPart, ClausePart, ClausesPart, part_expression, Derives, here, both, left, right, without, with, no_more, one_more, inside, by, some_of, name}
 use Rattle.lmn_grammar.specs.Factored.{contexts}
-use Rattle.lmn_grammar.proofs.Stops.{plus_nothing}
 use Rattle.lmn_grammar.proofs.Spans.{drop_front, front_get}
 use Rattle.lmn_lexer.specs.declared.token.Kind.{Kind}
 use Rattle.lmn_lexer.specs.declared.token.Kind.TheVariants.{Mod, Link, Context, RParen, LBracket, RBracket, Comma, Dot, Arrow, AtAt, Bar, Equal, Differ, Plus, Minus, Star, Slash}
 use Rattle.lmn_lexer.specs.declared.token.Token.{Token}
 use Rattle.lmn_parser.specs.Parsing.{kinds_of}
-use Rattle.lmn_parser.specs.Syntax.{Expr, integer, value, Condition, called, compared, equal, different, Term, link, atom, list, list_onto, context, membrane, Terms, no_term, term_and, Item, atom_item, membrane_item, context_item, bracketed, rule_context, plus_link, group, equation, Items, no_item, item_and, Clause, process, rule, Clauses, no_clause, clause_and}
-use Rattle.lmn_parser.specs.Trees.{At, NameAt, StandsAt, CmpAt, IsSum, one_product, plus, IsProduct, one_factor, times, IsFactor, is_integer, is_value, in_parentheses, IsContexts, last_context, more_contexts, IsContextArguments, no_contexts, some_contexts, IsCondition, is_called, is_compared, is_equal, is_different, IsGuard, last_condition, more_conditions, IsClauses, no_clauses, last_clause, more_clauses, IsClause, named_rule, unnamed_rule, is_process, IsRule, is_rule, IsHeads, all_taken, some_kept, IsBody, no_guard, empty_guard, guarded, IsOptList, no_list, some_list, IsList, last_item, more_items, IsItem, is_atom_item, is_membrane_item, is_context_item, is_bracketed, is_rule_context, is_plus_link, is_group, is_equation, IsMembrane, in_braces, IsAtom, with_name, with_integer, IsArguments, no_parentheses, no_arguments, some_arguments, IsTerms, last_term, more_terms, IsTerm, is_link, is_atom, is_context, is_membrane, is_list, IsTermList, empty_list, closed_list, open_list, IsTree}
+use Rattle.lmn_parser.specs.Syntax.{Expr, integer, value, WrittenCondition, called, compared, equal, different, Term, link, atom, list, list_onto, context, membrane, Terms, no_term, term_and, Item, atom_item, membrane_item, context_item, bracketed, rule_context, plus_link, group, equation, Items, no_item, item_and, Clause, process, rule, Clauses, no_clause, clause_and}
+use Rattle.lmn_parser.specs.Trees.{At, NameAt, StandsAt, CmpAt, IsSum, one_product, plus, IsProduct, one_factor, times, IsFactor, is_integer, is_value, in_parentheses, IsContexts, last_context, more_contexts, IsContextArguments, no_contexts, some_contexts, IsCondition, is_called, is_compared, is_equal, is_different, IsWrittenGuard, last_condition, more_conditions, IsClauses, no_clauses, last_clause, more_clauses, IsClause, named_rule, unnamed_rule, is_process, IsWrittenRule, is_rule, IsHeads, all_taken, some_kept, IsBody, no_guard, empty_guard, guarded, IsOptList, no_list, some_list, IsList, last_item, more_items, IsItem, is_atom_item, is_membrane_item, is_context_item, is_bracketed, is_rule_context, is_plus_link, is_group, is_equation, IsMembrane, in_braces, IsWrittenAtom, with_name, with_integer, IsArguments, no_parentheses, no_arguments, some_arguments, IsTerms, last_term, more_terms, IsTerm, is_link, is_atom, is_context, is_membrane, is_list, IsTermList, empty_list, closed_list, open_list, IsProgram}
 use Rattle.lmn_parser.specs.TreeLaws.{DerivedIsTree}
 use Rattle.lmn_parser.proofs.TreeTokens.{list_token}
+use Rattle.lmn_base.proofs.Lists.{plus_nothing}
 
 -- ---- what stands between two places, by the expression
 
@@ -70,7 +70,7 @@ arguments_made ts p q (inr (m, o, inl e, c, h)) =
     let two : q ≡ p + 2 = h ∙ ap (λ n. n + 1) e ∙ omega arith in (no_term, moved (λ x n. IsArguments ts x p n) two (no_arguments o c'))
 arguments_made ts p q (inr (m, o, inr d, c, h)) = let x = some_terms_made ts (p + 1) m d in (x.0, moved (λ y n. IsArguments ts y p n) h (some_arguments o x.1 c))
 
-atom_made : (ts : List Token) (p q : ℕ) → Parsed ts grammar.atom p q → (xs : Terms) × IsAtom ts p xs p q
+atom_made : (ts : List Token) (p q : ℕ) → Parsed ts grammar.atom p q → (xs : Terms) × IsWrittenAtom ts p xs p q
 atom_made ts p q (m, inl n, d) =
     let i = name_made ts p m n in
     let x = arguments_made ts m q d in (x.0, with_name i.0 (subst (λ n. IsArguments ts x.0 n q) i.1 x.1))
@@ -138,7 +138,7 @@ cmp_made ts p q (inr (inr (inr (inl d)))) = (compare.Ge, d.0, d.1)
 cmp_made ts p q (inr (inr (inr (inr (inl d))))) = (compare.Eq, d.0, d.1)
 cmp_made ts p q (inr (inr (inr (inr (inr d))))) = (compare.Ne, d.0, d.1)
 
-condition_made : (ts : List Token) (p q : ℕ) → Parsed ts grammar.cond p q → (x : Condition) × IsCondition ts x p q
+condition_made : (ts : List Token) (p q : ℕ) → Parsed ts grammar.cond p q → (x : WrittenCondition) × IsCondition ts x p q
 condition_made ts p q (inl (m, n, d)) =
     let i = name_made ts p m n in
     let x = context_arguments_made ts m q d in (called p x.0, is_called i.0 (subst (λ i. IsContextArguments ts x.0 i q) i.1 x.1))
@@ -152,12 +152,12 @@ condition_made ts p q (inr (inr (inr (m, h, (n, e, g))))) =
     let three : q ≡ p + 3 = g.1 ∙ ap (λ i. i + 1) two ∙ omega arith in
     (different p (p + 2) (p + 1), moved (λ y i. IsCondition ts y p i) three (is_different h.0 (subst (λ i. At ts i Differ) h.1 e.0) (subst (λ i. At ts i Context) two g.0)))
 
-conditions_made : (ts : List Token) {m q p : ℕ} {c : Condition} → Chain (Parsed ts (Seq (Tok Comma) grammar.cond)) m q → IsCondition ts c p m → (cs : List Condition) × IsGuard ts cs p q
+conditions_made : (ts : List Token) {m q p : ℕ} {c : WrittenCondition} → Chain (Parsed ts (Seq (Tok Comma) grammar.cond)) m q → IsCondition ts c p m → (cs : List WrittenCondition) × IsWrittenGuard ts cs p q
 conditions_made ts {c} ended d = (c ∷ [], last_condition d)
 conditions_made ts {c} (linked {m = r} {q = q} (n, h, x) s) d =
-    let y = conditions_made ts s (condition_made ts n r x).1 in (c ∷ y.0, more_conditions d h.0 (subst (λ i. IsGuard ts y.0 i q) h.1 y.1))
+    let y = conditions_made ts s (condition_made ts n r x).1 in (c ∷ y.0, more_conditions d h.0 (subst (λ i. IsWrittenGuard ts y.0 i q) h.1 y.1))
 
-guard_made : (ts : List Token) (p q : ℕ) → Parsed ts grammar.guard p q → (cs : List Condition) × IsGuard ts cs p q
+guard_made : (ts : List Token) (p q : ℕ) → Parsed ts grammar.guard p q → (cs : List WrittenCondition) × IsWrittenGuard ts cs p q
 guard_made ts p q (m, d, s) = conditions_made ts s (condition_made ts p m d).1
 
 -- items
@@ -200,7 +200,7 @@ heads_made ts p q (m, d, inr (n, h, b)) =
     let x = opt_list_made ts p m d in
     let y = opt_list_made ts n q b in (x.0, y.0, some_kept x.1 h.0 (subst (λ i. IsOptList ts y.0 i q) h.1 y.1))
 
-body_made : (ts : List Token) (p q : ℕ) → Parsed ts grammar.body p q → (g : List Condition) × (xs : Items) × IsBody ts g xs p q
+body_made : (ts : List Token) (p q : ℕ) → Parsed ts grammar.body p q → (g : List WrittenCondition) × (xs : Items) × IsBody ts g xs p q
 body_made ts p q (m, inl e, d) = let x = opt_list_made ts m q d in ([], x.0, no_guard (subst (λ i. IsOptList ts x.0 i q) e x.1))
 body_made ts p q (m, inr (n, inl e, h), d) =
     let x = opt_list_made ts m q d in
@@ -210,7 +210,7 @@ body_made ts p q (m, inr (n, inr g, h), d) =
     let x = opt_list_made ts m q d in (c.0, x.0, guarded c.1 h.0 (subst (λ i. IsOptList ts x.0 i q) h.1 x.1))
 
 -- a token stands somewhere
-some_place : (ts : List Token) (p : ℕ) {k : Kind} → At ts p k → (x : Pos) × StandsAt ts p x
+pub some_place : (ts : List Token) (p : ℕ) {k : Kind} → At ts p k → (x : Pos) × StandsAt ts p x
 some_place ts p {k} h = go (slice_get ts p) (sym (slice_get-map (λ t. t.kind) ts p) ∙ h)
   where
     go : (o : Option Token) → option_map (λ t. t.kind) o ≡ Some k → (x : Pos) × (option_map (λ t. t.pos) o ≡ Some x)
@@ -228,12 +228,12 @@ heads_place ts {p = p} (all_taken (some_list d)) h = some_place ts p (list_token
 heads_place ts {p = p} (some_kept no_list b e) h = some_place ts p b
 heads_place ts {p = p} (some_kept (some_list d) b e) h = some_place ts p (list_token ts d).1
 
-named_made : (ts : List Token) (s p q : ℕ) → (x : Pos) × StandsAt ts s x → Parsed ts grammar.rule p q → (c : Clause) × IsRule ts s c p q
+named_made : (ts : List Token) (s p q : ℕ) → (x : Pos) × StandsAt ts s x → Parsed ts grammar.rule p q → (c : Clause) × IsWrittenRule ts s c p q
 named_made ts s p q place (m, d, (n, h, b)) =
     let x = heads_made ts p m d in
     let y = body_made ts n q b in (rule x.0 x.1 y.0 y.1 place.0, is_rule place.1 x.2 h.0 (subst (λ i. IsBody ts y.0 y.1 i q) h.1 y.2))
 
-rule_made : (ts : List Token) (p q : ℕ) → Parsed ts grammar.rule p q → (c : Clause) × IsRule ts p c p q
+rule_made : (ts : List Token) (p q : ℕ) → Parsed ts grammar.rule p q → (c : Clause) × IsWrittenRule ts p c p q
 rule_made ts p q (m, d, (n, h, b)) = named_made ts p p q (heads_place ts (heads_made ts p m d).2 h.0) (m, d, (n, h, b))
 
 clause_made : (ts : List Token) (p q : ℕ) → Parsed ts grammar.clause p q → SomePart ts ClausePart p q
@@ -254,7 +254,7 @@ clauses_made : (ts : List Token) (p q : ℕ) → Parsed ts grammar.clauses p q �
 clauses_made ts p q (inl e) = (no_clause, moved (λ y n. IsClauses ts y p n) e no_clauses)
 clauses_made ts p q (inr (m, c, (n, s, l))) = more_clauses_made ts s c.1 l
 
-part_made : (ts : List Token) (n : Part) (p q : ℕ) → Parsed ts (meaning n) p q → SomePart ts n p q
+part_made : (ts : List Token) (n : Part) (p q : ℕ) → Parsed ts (part_expression n) p q → SomePart ts n p q
 part_made ts TermPart = term_made ts
 part_made ts SumPart = sum_made ts
 part_made ts ClausePart = clause_made ts
@@ -296,5 +296,5 @@ parsed ts (by n w d) p q rest h e = part_made ts n p q (parsed ts d p q rest h e
 pub trees_exist : DerivedIsTree
 trees_exist ts d = go (parsed ts d 0 (length (kinds_of ts)) [] (sym (plus_nothing (kinds_of ts))) (omega arith))
   where
-    go : Parsed ts grammar.program 0 (length (kinds_of ts)) → (tree : Clauses) × IsTree ts tree
+    go : Parsed ts grammar.program 0 (length (kinds_of ts)) → (tree : Clauses) × IsProgram ts tree
     go (m, x, y) = (x.0, (m, x.1, y.0, sym y.1 ∙ length-map ts (λ t. t.kind)))

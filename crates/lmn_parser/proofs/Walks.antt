@@ -6,21 +6,22 @@ use Rattle.lmn_base.specs.declared.guard.Cmp.{Cmp}
 use Rattle.lmn_base.specs.declared.guard.Cmp.TheVariants as cmp
 use Rattle.lmn_grammar.specs.Limits.{may_be_operator, empty, one_more, TooDeep, TooManyArguments}
 use Rattle.lmn_grammar.specs.Refusing.{IsWithin}
-use Rattle.lmn_grammar.specs.Scan.{Opened, Arguments, Terms, Group, Last, Equals, Word, Digits, Closed, Operand, Other, Scan, is_operand, is_operator, limit_in, limit_behind, round_behind, one_more_begun, scan_after, scan, has_too_many, is_full, is_equal}
+use Rattle.lmn_grammar.specs.Scan.{Opened, Arguments, Terms, Group, Last, Equals, Word, Digits, Closed, Operand, Other, Scan, was_operand, is_operator, limit_in, limit_behind, round_behind, one_more_begun, scan_after, scan, has_too_many, is_full, is_equal}
 use Rattle.lmn_grammar.proofs.Counts.{scan_more, added, added_none, added_one, added_twice, operator_scan, side_scan, many_scan}
-use Rattle.lmn_grammar.proofs.Items.{clash}
 use Rattle.lmn_grammar.proofs.Scans.{within_none, within_more}
 use Rattle.lmn_lexer.specs.declared.token.Kind.{Kind}
 use Rattle.lmn_lexer.specs.declared.token.Kind.TheVariants.{Name, Quoted, Mod, Link, Int, Context, RuleCtx, End, LParen, RParen, LBracket, RBracket, LBrace, RBrace, Comma, Dot, Arrow, AtAt, Bar, Backslash, Equal, Less, LessEq, Greater, GreaterEq, NumEq, NumNe, Differ, Plus, Minus, Star, Slash}
 use Rattle.lmn_lexer.specs.declared.token.Token.{Token}
-use Rattle.lmn_parser.specs.Arities.{number_of, operators_of, FitsCondition, FitsTerm, FitsTerms, FitsItem, FitsItems, FitsClause, FitsClauses}
+use Rattle.lmn_parser.specs.Arities.{number_of_terms, operators_of, FitsCondition, FitsTerm, FitsTerms, FitsItem, FitsItems, FitsClause, FitsClauses}
 use Rattle.lmn_parser.specs.Parsing.{kinds_of}
 use Rattle.lmn_parser.specs.Syntax as tree
-use Rattle.lmn_parser.specs.Trees.{NameAt, CmpAt, IsSum, one_product, plus, IsProduct, one_factor, times, IsFactor, is_integer, is_value, in_parentheses, IsContexts, last_context, more_contexts, IsContextArguments, no_contexts, some_contexts, IsCondition, is_called, is_compared, is_equal as is_equal_condition, is_different, IsGuard, last_condition, more_conditions, IsClauses, no_clauses, last_clause, more_clauses, IsClause, named_rule, unnamed_rule, is_process, IsRule, is_rule, IsHeads, all_taken, some_kept, IsBody, no_guard, empty_guard, guarded, IsOptList, no_list, some_list, IsList, last_item, more_items, IsItem, is_atom_item, is_membrane_item, is_context_item, is_bracketed, is_rule_context, is_plus_link, is_group, is_equation, IsMembrane, in_braces, IsAtom, with_name, with_integer, IsArguments, no_parentheses, no_arguments, some_arguments, IsTerms, last_term, more_terms, IsTerm, is_link, is_atom, is_context, is_membrane, is_list, IsTermList, empty_list, closed_list, open_list}
+use Rattle.lmn_parser.specs.Trees.{NameAt, CmpAt, IsSum, one_product, plus, IsProduct, one_factor, times, IsFactor, is_integer, is_value, in_parentheses, IsContexts, last_context, more_contexts, IsContextArguments, no_contexts, some_contexts, IsCondition, is_called, is_compared, is_equal as is_equal_condition, is_different, IsWrittenGuard, last_condition, more_conditions, IsClauses, no_clauses, last_clause, more_clauses, IsClause, named_rule, unnamed_rule, is_process, IsWrittenRule, is_rule, IsHeads, all_taken, some_kept, IsBody, no_guard, empty_guard, guarded, IsOptList, no_list, some_list, IsList, last_item, more_items, IsItem, is_atom_item, is_membrane_item, is_context_item, is_bracketed, is_rule_context, is_plus_link, is_group, is_equation, IsMembrane, in_braces, IsWrittenAtom, with_name, with_integer, IsArguments, no_parentheses, no_arguments, some_arguments, IsTerms, last_term, more_terms, IsTerm, is_link, is_atom, is_context, is_membrane, is_list, IsTermList, empty_list, closed_list, open_list}
 use Rattle.lmn_parser.specs.TreeLaws.{FittingIsWithin, Shallow}
 use Rattle.lmn_parser.proofs.Fitting.{behind_token, times_is, plus_is, joined}
 use Rattle.lmn_parser.proofs.TreeWords.{drop_all, next_to}
-use Rattle.lmn_grammar.proofs.Stops.{plus_nothing}
+use Rattle.lmn_base.proofs.Lists.{plus_nothing}
+use Rattle.lmn_base.proofs.Numbers.{test_at_most as at_most}
+use Rattle.lmn_base.proofs.Truth.{false_not_true as clash}
 
 abbrev state : List Opened → ℕ → Last → Scan
 state o n l = record { opened = o; operators = n; last = l }
@@ -43,9 +44,6 @@ both_false false b g h e = clash g
 none_of_two : (a b : Bool) → a ≡ false → b ≡ false → (a || b) ≡ true → ⊥
 none_of_two true b g h e = clash (sym g)
 none_of_two false b g h e = clash (sym h ∙ e)
-
-at_most : (n m : ℕ) → n ≤ m → nat_le n m ≡ true
-at_most n m h = grind arith
 
 below : (n m : ℕ) → m < n → nat_le n m ≡ false
 below n m h = grind arith
@@ -103,12 +101,12 @@ and_second false b h = refl
 record SumWalked (ks : List Kind) (q : ℕ) (o : List Opened) (n : ℕ) : Type 0 where
   pub last : Last
   pub walk : Walk ks q (state o n last)
-  pub ends : is_operand last ≡ true
+  pub ends : was_operand last ≡ true
 
 sum_as : (ks : List Kind) {q n m : ℕ} {o : List Opened} → n ≡ m → SumWalked ks q o n → SumWalked ks q o m
 sum_as ks {q} {o = o} e w = let P : ℕ → Type 0 = λ z. SumWalked ks q o z in subst P e w
 
-after_operator : (k : Kind) → may_be_operator k ≡ true → (o : List Opened) (n : ℕ) (l : Last) → is_operand l ≡ true → scan_after (state o n l) k ≡ state o (n + 1) Other
+after_operator : (k : Kind) → may_be_operator k ≡ true → (o : List Opened) (n : ℕ) (l : Last) → was_operand l ≡ true → scan_after (state o n l) k ≡ state o (n + 1) Other
 after_operator Plus m o n l h = ap (λ b. state o (if b then n + 1 else 0) Other) h
 after_operator Minus m o n l h = ap (λ b. state o (if b then n + 1 else 0) Other) h
 after_operator Star m o n l h = ap (λ b. state o (if b then n + 1 else 0) Other) h
@@ -228,13 +226,13 @@ walk_contexts ts s (more_contexts {xs = xs} {p = p} h c d) o n l r w =
     record { commas = suc rest.commas; count = ap suc count; walked = walked_as (kinds_of ts) (next_added rest.commas o) rest.walked }
 
 -- Conditions.
-walk_name : (ts : List Token) → Shallow (kinds_of ts) → {p : ℕ} (o : List Opened) (n : ℕ) (l : Last) → NameAt ts p → has_too_many o ≡ false → is_operand l ≡ false → Walk (kinds_of ts) p (state o n l) →
+walk_name : (ts : List Token) → Shallow (kinds_of ts) → {p : ℕ} (o : List Opened) (n : ℕ) (l : Last) → NameAt ts p → has_too_many o ≡ false → was_operand l ≡ false → Walk (kinds_of ts) p (state o n l) →
     Walk (kinds_of ts) (p + 1) (state o 0 (Word (limit_behind l o)))
 walk_name ts s o n l (inl h) t e w = step (kinds_of ts) s Name w h (refl, t, refl)
 walk_name ts s o n l (inr (inl h)) t e w = step (kinds_of ts) s Quoted w h (refl, t, refl)
 walk_name ts s o n l (inr (inr h)) t e w =
     walk_as (kinds_of ts) (ap (λ b. state o (if b then n + 1 else 0) (if b then Other else Word (limit_behind l o))) e)
-    (step (kinds_of ts) s Mod w h (and_first (is_operand l) (nat_le 255 n) e, t, refl))
+    (step (kinds_of ts) s Mod w h (and_first (was_operand l) (nat_le 255 n) e, t, refl))
 
 walk_context_arguments : (ts : List Token) → Shallow (kinds_of ts) → {xs : List ℕ} {p q : ℕ} → IsContextArguments ts xs p q → (o : List Opened) (m : ℕ) → has_too_many o ≡ false → length xs ≤ m →
     Walk (kinds_of ts) p (state o 0 (Word m)) → Walked (kinds_of ts) q o Any
@@ -257,7 +255,7 @@ walk_comparison ts s cmp.Ge h t w = step (kinds_of ts) s GreaterEq w h (refl, t,
 walk_comparison ts s cmp.Eq h t w = step (kinds_of ts) s NumEq w h (refl, t, refl)
 walk_comparison ts s cmp.Ne h t w = step (kinds_of ts) s NumNe w h (refl, t, refl)
 
-walk_condition : (ts : List Token) → Shallow (kinds_of ts) → {x : tree.Condition} {p q : ℕ} → IsCondition ts x p q → FitsCondition x → (o : List Opened) → Outer o → Walk (kinds_of ts) p (state o 0 Other) → Walked (kinds_of ts) q o Any
+walk_condition : (ts : List Token) → Shallow (kinds_of ts) → {x : tree.WrittenCondition} {p q : ℕ} → IsCondition ts x p q → FitsCondition x → (o : List Opened) → Outer o → Walk (kinds_of ts) p (state o 0 Other) → Walked (kinds_of ts) q o Any
 walk_condition ts s (is_called h d) f o b w =
     let e = b.1 in walk_context_arguments ts s d o (limit_in o) b.0 (omega (arith, f, e)) (walk_name ts s o 0 Other h b.0 refl w)
 walk_condition ts s (is_compared c d h e) f o b w =
@@ -273,14 +271,14 @@ walk_condition ts s (is_different {p = p} h e c) f o b w =
     let last = step (kinds_of ts) s Context (walk_at (kinds_of ts) (sym (next_to p)) next) c (refl, b.0, refl) in
     record { operators = 0; last = Operand; walk = walk_at (kinds_of ts) (omega arith) last; holds = tt }
 
-walk_guard : (ts : List Token) → Shallow (kinds_of ts) → {xs : List tree.Condition} {p q : ℕ} → IsGuard ts xs p q → AllByRecursion FitsCondition xs → (o : List Opened) → Outer o → Walk (kinds_of ts) p (state o 0 Other) → Walked (kinds_of ts) q o Any
+walk_guard : (ts : List Token) → Shallow (kinds_of ts) → {xs : List tree.WrittenCondition} {p q : ℕ} → IsWrittenGuard ts xs p q → AllByRecursion FitsCondition xs → (o : List Opened) → Outer o → Walk (kinds_of ts) p (state o 0 Other) → Walked (kinds_of ts) q o Any
 walk_guard ts s (last_condition d) f o b w = walk_condition ts s d f.0 o b w
 walk_guard ts s (more_conditions d h e) f o b w = walk_guard ts s e f.1 o b (comma_step (kinds_of ts) s o b (walk_condition ts s d f.0 o b w) h)
 
 -- Terms, items and clauses.
 record TermsWalked (xs : tree.Terms) (ks : List Kind) (q : ℕ) (o : List Opened) : Type 0 where
   pub commas : ℕ
-  pub count : suc commas ≡ number_of xs
+  pub count : suc commas ≡ number_of_terms xs
   pub walked : Walked ks q (added commas o) Any
 
 abbrev FullOnly : ℕ → Last → Type 0
@@ -298,14 +296,14 @@ mutual
   walk_clause ts s (unnamed_rule d) f o b n w = walk_rule ts s d f o b n w
   walk_clause ts s (is_process d) f o b n w = walk_list ts s d f o b n w
 
-  walk_rule : (ts : List Token) → Shallow (kinds_of ts) → {t : ℕ} {x : tree.Clause} {p q : ℕ} → IsRule ts t x p q → FitsClause x → (o : List Opened) → Outer o → (n : ℕ) → Walk (kinds_of ts) p (state o n Other) → Walked (kinds_of ts) q o Any
+  walk_rule : (ts : List Token) → Shallow (kinds_of ts) → {t : ℕ} {x : tree.Clause} {p q : ℕ} → IsWrittenRule ts t x p q → FitsClause x → (o : List Opened) → Outer o → (n : ℕ) → Walk (kinds_of ts) p (state o n Other) → Walked (kinds_of ts) q o Any
   walk_rule ts s (is_rule t d h e) f o b n w = walk_body ts s e f.2 f.3 o b (step (kinds_of ts) s Arrow (walk_heads ts s d f.0 f.1 o b n w).walk h (refl, b.0, refl))
 
   walk_heads : (ts : List Token) → Shallow (kinds_of ts) → {x y : tree.Items} {p q : ℕ} → IsHeads ts x y p q → FitsItems x → FitsItems y → (o : List Opened) → Outer o → (n : ℕ) → Walk (kinds_of ts) p (state o n Other) → Walked (kinds_of ts) q o Any
   walk_heads ts s (all_taken d) f g o b n w = walk_opt_list ts s d g o b n w
   walk_heads ts s (some_kept d h e) f g o b n w = walk_opt_list ts s e g o b 0 (step (kinds_of ts) s Backslash (walk_opt_list ts s d f o b n w).walk h (refl, b.0, refl))
 
-  walk_body : (ts : List Token) → Shallow (kinds_of ts) → {g : List tree.Condition} {x : tree.Items} {p q : ℕ} → IsBody ts g x p q → AllByRecursion FitsCondition g → FitsItems x → (o : List Opened) → Outer o →
+  walk_body : (ts : List Token) → Shallow (kinds_of ts) → {g : List tree.WrittenCondition} {x : tree.Items} {p q : ℕ} → IsBody ts g x p q → AllByRecursion FitsCondition g → FitsItems x → (o : List Opened) → Outer o →
       Walk (kinds_of ts) p (state o 0 Other) → Walked (kinds_of ts) q o Any
   walk_body ts s (no_guard d) g f o b w = walk_opt_list ts s d f o b 0 w
   walk_body ts s (empty_guard h d) g f o b w = walk_opt_list ts s d f o b 0 (step (kinds_of ts) s Bar w h (refl, b.0, refl))
@@ -346,14 +344,14 @@ mutual
       let inner = walk_clauses ts s d f (Group ∷ o) (refl, refl) 0 (step (kinds_of ts) s LBrace w a (refl, t, refl)) in
       record { operators = 0; last = Other; walk = step (kinds_of ts) s RBrace inner.walk c (refl, refl, refl); holds = refl }
 
-  walk_atom : (ts : List Token) → Shallow (kinds_of ts) → {m : ℕ} {x : tree.Terms} {p q : ℕ} → IsAtom ts m x p q → FitsTerms x → (o : List Opened) (n : ℕ) (l : Last) → has_too_many o ≡ false → is_operand l ≡ false →
-      number_of x ≤ limit_behind l o → Walk (kinds_of ts) p (state o n l) → Walked (kinds_of ts) q o (FullOnly (number_of x))
+  walk_atom : (ts : List Token) → Shallow (kinds_of ts) → {m : ℕ} {x : tree.Terms} {p q : ℕ} → IsWrittenAtom ts m x p q → FitsTerms x → (o : List Opened) (n : ℕ) (l : Last) → has_too_many o ≡ false → was_operand l ≡ false →
+      number_of_terms x ≤ limit_behind l o → Walk (kinds_of ts) p (state o n l) → Walked (kinds_of ts) q o (FullOnly (number_of_terms x))
   walk_atom ts s (with_name h d) f o n l t e g w = walk_arguments ts s d f o (limit_behind l o) 0 (Word (limit_behind l o)) t refl refl g (limit_least l o) (walk_name ts s o n l h t e w)
   walk_atom ts s (with_integer h d) f o n l t e g w =
       walk_arguments ts s d f o (limit_behind l o) n (Digits (limit_behind l o)) t refl refl g (limit_least l o) (step (kinds_of ts) s Int w h (refl, t, refl))
 
   walk_arguments : (ts : List Token) → Shallow (kinds_of ts) → {x : tree.Terms} {p q : ℕ} → IsArguments ts x p q → FitsTerms x → (o : List Opened) (m n : ℕ) (l : Last) → has_too_many o ≡ false →
-      round_behind l ≡ Arguments m 1 → is_full l ≡ false → number_of x ≤ m → 254 ≤ m → Walk (kinds_of ts) p (state o n l) → Walked (kinds_of ts) q o (FullOnly (number_of x))
+      round_behind l ≡ Arguments m 1 → is_full l ≡ false → number_of_terms x ≤ m → 254 ≤ m → Walk (kinds_of ts) p (state o n l) → Walked (kinds_of ts) q o (FullOnly (number_of_terms x))
   walk_arguments ts s no_parentheses f o m n l t r e g b w = record { operators = n; last = l; walk = w; holds = λ h. e }
   walk_arguments ts s (no_arguments {p = p} a c) f o m n l t r e g b w =
       let inner : Walk (kinds_of ts) (p + 1) (state (Arguments m 1 ∷ o) n Other) = walk_as (kinds_of ts) (ap (λ x. state (x ∷ o) n Other) r) (step (kinds_of ts) s LParen w a (refl, t, refl)) in
@@ -365,7 +363,7 @@ mutual
       }
   walk_arguments ts s (some_arguments {xs = xs} {p = p} a d c) f o m n l t r e g b w =
       let opened : Walk (kinds_of ts) (p + 1) (state (Arguments m 1 ∷ o) n Other) = walk_as (kinds_of ts) (ap (λ x. state (x ∷ o) n Other) r) (step (kinds_of ts) s LParen w a (refl, t, refl)) in
-      let inner = walk_terms ts s d f (Arguments m 1 ∷ o) n (room_arguments m (number_of xs) o g) opened in
+      let inner = walk_terms ts s d f (Arguments m 1 ∷ o) n (room_arguments m (number_of_terms xs) o g) opened in
       let count = inner.count in
       record {
         operators = inner.walked.operators;
@@ -374,16 +372,16 @@ mutual
         holds = λ h. below 255 (1 + inner.commas) (omega (arith, count, h));
       }
 
-  walk_terms : (ts : List Token) → Shallow (kinds_of ts) → {x : tree.Terms} {p q : ℕ} → IsTerms ts x p q → FitsTerms x → (o : List Opened) (n : ℕ) → Room o (number_of x) → Walk (kinds_of ts) p (state o n Other) → TermsWalked x (kinds_of ts) q o
+  walk_terms : (ts : List Token) → Shallow (kinds_of ts) → {x : tree.Terms} {p q : ℕ} → IsTerms ts x p q → FitsTerms x → (o : List Opened) (n : ℕ) → Room o (number_of_terms x) → Walk (kinds_of ts) p (state o n Other) → TermsWalked x (kinds_of ts) q o
   walk_terms ts s (last_term d) f o n r w =
       record { commas = 0; count = refl; walked = walked_as (kinds_of ts) (sym (added_none o)) (any (kinds_of ts) (walk_term ts s d f.0 o n Other (room_first o 0 r) refl w)) }
   walk_terms ts s (more_terms {xs = xs} d h e) f o n r w =
-      let t = room_first o (number_of xs) r in
+      let t = room_first o (number_of_terms xs) r in
       let next = step (kinds_of ts) s Comma (walk_term ts s d f.0 o n Other t refl w).walk h (refl, t, refl) in
-      let rest = walk_terms ts s e f.1 (one_more_begun o) 0 (room_next o (number_of xs) r) next in
+      let rest = walk_terms ts s e f.1 (one_more_begun o) 0 (room_next o (number_of_terms xs) r) next in
       record { commas = suc rest.commas; count = ap suc rest.count; walked = walked_as (kinds_of ts) (next_added rest.commas o) rest.walked }
 
-  walk_term : (ts : List Token) → Shallow (kinds_of ts) → {x : tree.Term} {p q : ℕ} → IsTerm ts x p q → FitsTerm x → (o : List Opened) (n : ℕ) (l : Last) → has_too_many o ≡ false → is_operand l ≡ false →
+  walk_term : (ts : List Token) → Shallow (kinds_of ts) → {x : tree.Term} {p q : ℕ} → IsTerm ts x p q → FitsTerm x → (o : List Opened) (n : ℕ) (l : Last) → has_too_many o ≡ false → was_operand l ≡ false →
       Walk (kinds_of ts) p (state o n l) → Walked (kinds_of ts) q o NotFull
   walk_term ts s (is_link h) f o n l t e w = record { operators = 0; last = Other; walk = step (kinds_of ts) s Link w h (refl, t, refl); holds = refl }
   walk_term ts s (is_atom d) f o n l t e w =
@@ -398,10 +396,10 @@ mutual
   walk_term_list ts s (empty_list {p = p} a c) f o n l t w =
       record { operators = 0; last = Other; walk = walk_at (kinds_of ts) (sym (next_to p)) (step (kinds_of ts) s RBracket (step (kinds_of ts) s LBracket w a (refl, t, refl)) c (refl, refl, refl)); holds = refl }
   walk_term_list ts s (closed_list {xs = xs} a d c) f o n l t w =
-      let inner = walk_terms ts s d f (Terms ∷ o) 0 (room_terms (number_of xs) o) (step (kinds_of ts) s LBracket w a (refl, t, refl)) in
+      let inner = walk_terms ts s d f (Terms ∷ o) 0 (room_terms (number_of_terms xs) o) (step (kinds_of ts) s LBracket w a (refl, t, refl)) in
       record { operators = 0; last = Other; walk = step (kinds_of ts) s RBracket inner.walked.walk c (refl, refl, refl); holds = refl }
   walk_term_list ts s (open_list {xs = xs} a d h e c) f o n l t w =
-      let inner = walk_terms ts s d f.0 (Terms ∷ o) 0 (room_terms (number_of xs) o) (step (kinds_of ts) s LBracket w a (refl, t, refl)) in
+      let inner = walk_terms ts s d f.0 (Terms ∷ o) 0 (room_terms (number_of_terms xs) o) (step (kinds_of ts) s LBracket w a (refl, t, refl)) in
       let rest = walk_term ts s e f.1 (Terms ∷ o) 0 Other refl refl (step (kinds_of ts) s Bar inner.walked.walk h (refl, refl, refl)) in
       record { operators = 0; last = Other; walk = step (kinds_of ts) s RBracket rest.walk c (refl, refl, refl); holds = refl }
 

@@ -2,11 +2,11 @@
 -- condition more than 255 operators.
 use Rattle.std.specs.Prelude.{ℕ, suc, ◌+◌, ◌≤◌, length}
 use Rattle.std.specs.List.{AllByRecursion}
-use Rattle.lmn_parser.specs.Syntax.{Expr, integer, value, operation, Condition, called, compared, equal, different, Term, link, atom, list, list_onto, context, membrane, Terms, no_term, term_and, Item, atom_item, membrane_item, context_item, bracketed, rule_context, plus_link, group, equation, Items, no_item, item_and, Clause, process, rule, Clauses, no_clause, clause_and}
+use Rattle.lmn_parser.specs.Syntax.{Expr, integer, value, operation, WrittenCondition, called, compared, equal, different, Term, link, atom, list, list_onto, context, membrane, Terms, no_term, term_and, Item, atom_item, membrane_item, context_item, bracketed, rule_context, plus_link, group, equation, Items, no_item, item_and, Clause, process, rule, Clauses, no_clause, clause_and}
 
-abbrev pub number_of : Terms → ℕ
-number_of no_term = 0
-number_of (term_and t ts) = suc (number_of ts)
+abbrev pub number_of_terms : Terms → ℕ
+number_of_terms no_term = 0
+number_of_terms (term_and t ts) = suc (number_of_terms ts)
 
 -- the operators of a side
 abbrev pub operators_of : Expr → ℕ
@@ -15,7 +15,7 @@ operators_of (value p) = 0
 operators_of (operation op l r) = operators_of l + operators_of r + 1
 
 -- a condition that is called by a name has at most 255 contexts, and each side of another at most 255 operators
-abbrev pub FitsCondition : Condition → Type 0
+abbrev pub FitsCondition : WrittenCondition → Type 0
 FitsCondition (called name contexts) = length contexts ≤ 255
 FitsCondition (compared op l r sign) = (operators_of l ≤ 255) × (operators_of r ≤ 255)
 FitsCondition (equal p e sign) = operators_of e ≤ 255
@@ -25,7 +25,7 @@ FitsCondition (different p q sign) = Unit {0}
 abbrev mutual
   pub FitsTerm : Term → Type 0
   FitsTerm (link p) = Unit {0}
-  FitsTerm (atom name ts) = (number_of ts ≤ 254) × FitsTerms ts
+  FitsTerm (atom name ts) = (number_of_terms ts ≤ 254) × FitsTerms ts
   FitsTerm (list ts) = FitsTerms ts
   FitsTerm (list_onto ts t) = FitsTerms ts × FitsTerm t
   FitsTerm (context p) = Unit {0}
@@ -36,7 +36,7 @@ abbrev mutual
   FitsTerms (term_and t ts) = FitsTerm t × FitsTerms ts
 
   pub FitsItem : Item → Type 0
-  FitsItem (atom_item name ts) = (number_of ts ≤ 255) × FitsTerms ts
+  FitsItem (atom_item name ts) = (number_of_terms ts ≤ 255) × FitsTerms ts
   FitsItem (membrane_item cs) = FitsClauses cs
   FitsItem (context_item p) = Unit {0}
   FitsItem (bracketed p q) = Unit {0}

@@ -8,11 +8,11 @@ use Rattle.lmn_lexer.specs.declared.token.Kind.{Kind}
 use Rattle.lmn_lexer.specs.declared.token.Token.{Token}
 use Rattle.lmn_parser.specs.Parsing.{kinds_of}
 use Rattle.lmn_parser.specs.Syntax.{Clauses}
-use Rattle.lmn_parser.specs.Trees.{IsTree}
+use Rattle.lmn_parser.specs.Trees.{IsProgram}
 
 -- the kinds of tokens that are a tree
-abbrev pub IsProgram : List Kind → Type 0
-IsProgram kinds = (tokens : List Token) × (tree : Clauses) × (kinds_of tokens ≡ kinds) × IsTree tokens tree
+abbrev pub AreKindsOfProgram : List Kind → Type 0
+AreKindsOfProgram kinds = (tokens : List Token) × (tree : Clauses) × (kinds_of tokens ≡ kinds) × IsProgram tokens tree
 
 -- The refusal has the code by which a token refuses the tokens, and the place of that token.
 pub record IsRefusalOf (tokens : List Token) (refusal : Refusal) : Type 0 where
@@ -20,7 +20,7 @@ pub record IsRefusalOf (tokens : List Token) (refusal : Refusal) : Type 0 where
   pub token : Token
   pub is_there : slice_get tokens number ≡ Some token
   pub placed : refusal.pos ≡ token.pos
-  pub refused : IsRefused IsProgram (kinds_of tokens) number refusal.code
+  pub refused : IsRefused AreKindsOfProgram (kinds_of tokens) number refusal.code
 
 -- Tokens are refused so. Want of memory says nothing of them.
 abbrev pub IsFaultOf : List Token → TextFault → Type 0

@@ -19,14 +19,14 @@ Stops ts p s (At r) = (stop_at ts p s ≡ r) × (r ≤ reach ts)
 Stops ts p s NoMemory = Unit {0}
 
 -- The part e from p on is read up to the place that is answered, and then κ is owed, or it stops.
-abbrev pub Reads : {X : Type 0} → List Kind → ℕ → Exp → Owed → Result (X × ℕ) Stop → Type 0
-Reads ts p e κ (Ok r) = ReadsTo ts p e r.1 κ
-Reads ts p e κ (Err s) = Stops ts p ((e ∷ κ) ∷ []) s
+abbrev pub ReadsOrStops : {X : Type 0} → List Kind → ℕ → Exp → Owed → Result (X × ℕ) Stop → Type 0
+ReadsOrStops ts p e κ (Ok r) = ReadsTo ts p e r.1 κ
+ReadsOrStops ts p e κ (Err s) = Stops ts p ((e ∷ κ) ∷ []) s
 
 -- The same for a part of which only the place behind it is answered.
-abbrev pub Takes : List Kind → ℕ → Exp → Owed → Result ℕ Stop → Type 0
-Takes ts p e κ (Ok q) = ReadsTo ts p e q κ
-Takes ts p e κ (Err s) = Stops ts p ((e ∷ κ) ∷ []) s
+abbrev pub TakesOrStops : List Kind → ℕ → Exp → Owed → Result ℕ Stop → Type 0
+TakesOrStops ts p e κ (Ok q) = ReadsTo ts p e q κ
+TakesOrStops ts p e κ (Err s) = Stops ts p ((e ∷ κ) ∷ []) s
 
 -- The place behind the part that is read from p on is farther on, and no farther than the tokens reach.
 abbrev pub GoesForth : {X : Type 0} → List Kind → ℕ → Result (X × ℕ) Stop → Type 0

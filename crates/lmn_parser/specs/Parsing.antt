@@ -4,6 +4,7 @@ use Rattle.lmn_lexer.specs.declared.token.Kind.{Kind}
 use Rattle.lmn_lexer.specs.declared.token.Kind.TheVariants.{End}
 use Rattle.lmn_lexer.specs.declared.token.Token.{Token}
 
+-- the kinds of tokens
 abbrev pub kinds_of : List Token → List Kind
 kinds_of ts = map (λ t. t.kind) ts
 

@@ -1,5 +1,5 @@
 -- What the search for a token that passes a limit knows. No public contract cites these words.
-use Rattle.std.specs.Prelude.{◌≡◌, Bool, true, false, List, [], ◌∷◌, map, reverse, take, slice_get, Option, Some, None}
+use Rattle.std.specs.Prelude.{◌≡◌, List, [], ◌∷◌, map, reverse, take, slice_get, Option, Some, None}
 use Rattle.lmn_grammar.specs.Limits.{Passes}
 use Rattle.lmn_grammar.specs.Scan.{Opened, Arguments, Terms, Group, Last, Equals, Word, Digits, Closed, Operand, Other, Scan}
 use Rattle.lmn_grammar.specs.Refusing.{IsWithin}
@@ -34,10 +34,6 @@ scan_of s = record { opened = stack_of s.opened; operators = s.operators; last =
 abbrev pub innermost_of : List Opened → Opened
 innermost_of [] = Group
 innermost_of (x ∷ xs) = x
-
-abbrev pub is_equals_last : Last → Bool
-is_equals_last Equals = true
-is_equals_last _ = false
 
 -- the first token that passes a limit, or there is none
 abbrev pub IsFirstPassing : List Kind → Option Passing → Type 0

@@ -23,11 +23,11 @@ pub data Expr : Type 0 where
   operation : Arith → Expr → Expr → Expr
 
 -- a condition of a guard: what is called by a name; a comparison, an equation, a difference, each with its sign last
-pub data Condition : Type 0 where
-  called : ℕ → List ℕ → Condition
-  compared : Cmp → Expr → Expr → ℕ → Condition
-  equal : ℕ → Expr → ℕ → Condition
-  different : ℕ → ℕ → ℕ → Condition
+pub data WrittenCondition : Type 0 where
+  called : ℕ → List ℕ → WrittenCondition
+  compared : Cmp → Expr → Expr → ℕ → WrittenCondition
+  equal : ℕ → Expr → ℕ → WrittenCondition
+  different : ℕ → ℕ → ℕ → WrittenCondition
 
 mutual
   pub data Term : Type 0 where
@@ -59,7 +59,7 @@ mutual
   -- a process; a rule with what its head keeps, what its head takes, its guard, its body, and its place
   pub data Clause : Type 0 where
     process : Items → Clause
-    rule : Items → Items → List Condition → Items → Pos → Clause
+    rule : Items → Items → List WrittenCondition → Items → Pos → Clause
 
   pub data Clauses : Type 0 where
     no_clause : Clauses
@@ -75,31 +75,31 @@ expr_step (expr.Op op l r) = operation op l.value r.value
 abbrev pub expr_of : ExprNode → Expr
 expr_of = fold-ExprNode Expr expr_step
 
-abbrev pub condition_of : CondNode → Condition
-condition_of (condition.Kind name args) = called name args
-condition_of (condition.Compare op l r sign) = compared op (expr_of l) (expr_of r) sign
-condition_of (condition.Equal p e sign) = equal p (expr_of e) sign
-condition_of (condition.Differ p q sign) = different p q sign
+abbrev pub condition_of_node : CondNode → WrittenCondition
+condition_of_node (condition.Kind name args) = called name args
+condition_of_node (condition.Compare op l r sign) = compared op (expr_of l) (expr_of r) sign
+condition_of_node (condition.Equal p e sign) = equal p (expr_of e) sign
+condition_of_node (condition.Differ p q sign) = different p q sign
 
-abbrev pub terms : List Term → Terms
-terms [] = no_term
-terms (t ∷ ts) = term_and t (terms ts)
+abbrev pub as_terms : List Term → Terms
+as_terms [] = no_term
+as_terms (t ∷ ts) = term_and t (as_terms ts)
 
-abbrev pub items : List Item → Items
-items [] = no_item
-items (x ∷ xs) = item_and x (items xs)
+abbrev pub as_items : List Item → Items
+as_items [] = no_item
+as_items (x ∷ xs) = item_and x (as_items xs)
 
-abbrev pub clauses : List Clause → Clauses
-clauses [] = no_clause
-clauses (c ∷ cs) = clause_and c (clauses cs)
+abbrev pub as_clauses : List Clause → Clauses
+as_clauses [] = no_clause
+as_clauses (c ∷ cs) = clause_and c (as_clauses cs)
 
 abbrev pub clause_step : node.Clause-F Clause Item Term (ℕ × Terms) Clause → Clause
-clause_step (node.Process xs) = process (items xs)
+clause_step (node.Process xs) = process (as_items xs)
 clause_step (node.Rule r) = r.value
 
 abbrev pub item_step : node.Item-F Clause Item Term (ℕ × Terms) Clause → Item
 item_step (node.Item::Atom n) = atom_item n.0 n.1
-item_step (node.Item::Membrane cs) = membrane_item (clauses cs)
+item_step (node.Item::Membrane cs) = membrane_item (as_clauses cs)
 item_step (node.Item::Context p) = context_item p
 item_step (node.Bracketed p q) = bracketed p q
 item_step (node.RuleContext p) = rule_context p
@@ -110,16 +110,16 @@ item_step (node.Equal l p r) = equation l.value p r.value
 abbrev pub term_step : node.Term-F Clause Item Term (ℕ × Terms) Clause → Term
 term_step (node.Link p) = link p
 term_step (node.Term::Atom n) = atom n.0 n.1
-term_step (node.List ts None) = list (terms ts)
-term_step (node.List ts (Some t)) = list_onto (terms ts) t.value
+term_step (node.List ts None) = list (as_terms ts)
+term_step (node.List ts (Some t)) = list_onto (as_terms ts) t.value
 term_step (node.Term::Context p) = context p
-term_step (node.Term::Membrane cs) = membrane (clauses cs)
+term_step (node.Term::Membrane cs) = membrane (as_clauses cs)
 
 abbrev pub atom_step : node.AtomNode-F Clause Item Term (ℕ × Terms) Clause → ℕ × Terms
-atom_step n = (n.token, terms n.args)
+atom_step n = (n.token, as_terms n.args)
 
 abbrev pub rule_step : node.RuleNode-F Clause Item Term (ℕ × Terms) Clause → Clause
-rule_step r = rule (items r.kept) (items r.taken) (map condition_of r.guard) (items r.body) r.pos
+rule_step r = rule (as_items r.kept) (as_items r.taken) (map condition_of_node r.guard) (as_items r.body) r.pos
 
 abbrev pub term_of : TermNode → Term
 term_of = fold-Term Clause Item Term (ℕ × Terms) Clause clause_step item_step term_step atom_step rule_step
@@ -130,21 +130,21 @@ item_of = fold-Item Clause Item Term (ℕ × Terms) Clause clause_step item_step
 abbrev pub clause_of : ClauseNode → Clause
 clause_of = fold-Clause Clause Item Term (ℕ × Terms) Clause clause_step item_step term_step atom_step rule_step
 
-abbrev pub rule_of : RuleNode → Clause
-rule_of = fold-RuleNode Clause Item Term (ℕ × Terms) Clause clause_step item_step term_step atom_step rule_step
+abbrev pub clause_of_rule : RuleNode → Clause
+clause_of_rule = fold-RuleNode Clause Item Term (ℕ × Terms) Clause clause_step item_step term_step atom_step rule_step
 
 abbrev pub terms_of : List TermNode → Terms
-terms_of ts = terms (map term_of ts)
+terms_of ts = as_terms (map term_of ts)
 
-abbrev pub items_of : List ItemNode → Items
-items_of xs = items (map item_of xs)
+abbrev pub items_of_nodes : List ItemNode → Items
+items_of_nodes xs = as_items (map item_of xs)
 
 abbrev pub clauses_of : List ClauseNode → Clauses
-clauses_of cs = clauses (map clause_of cs)
+clauses_of cs = as_clauses (map clause_of cs)
 
-abbrev pub conditions_of : List CondNode → List Condition
-conditions_of cs = map condition_of cs
+abbrev pub conditions_of : List CondNode → List WrittenCondition
+conditions_of cs = map condition_of_node cs
 
 -- the clauses of a tree
-abbrev pub tree_of : Tree → Clauses
-tree_of tree = clauses_of tree.clauses
+abbrev pub clauses_of_tree : Tree → Clauses
+clauses_of_tree tree = clauses_of tree.clauses

@@ -6,19 +6,19 @@ use Rattle.lmn_lexer.specs.declared.token.Kind.{Kind}
 use Rattle.lmn_lexer.specs.declared.token.Kind.TheVariants.{Name, Link, Int, Context, End, LParen, RParen, LBracket, RBracket, LBrace, RBrace, Comma, Dot, Arrow, AtAt, Bar, Backslash, Equal, Plus, Minus}
 use Rattle.lmn_lexer.specs.declared.token.Token.{Token}
 use Rattle.lmn_parser.specs.Syntax.{integer, operation, equal, link, atom, list_onto, no_term, term_and, Item, atom_item, membrane_item, plus_link, group, equation, Items, no_item, item_and, process, rule, Clauses, no_clause, clause_and}
-use Rattle.lmn_parser.specs.Trees.{IsTree}
+use Rattle.lmn_parser.specs.Trees.{IsProgram}
 
 -- the place of a token that stands n places from the left
-abbrev pub place : ℕ → Pos
-place n = record { line = 1; column = n + 1 }
+abbrev pub place_of_token : ℕ → Pos
+place_of_token n = record { line = 1; column = n + 1 }
 
 -- tokens of these kinds, one a place, from the place n on
 abbrev pub tokens_from : ℕ → List Kind → List Token
 tokens_from n [] = []
-tokens_from n (k ∷ ks) = record { kind = k; start = n; end = n + 1; pos = place n } ∷ tokens_from (n + 1) ks
+tokens_from n (k ∷ ks) = record { kind = k; start = n; end = n + 1; pos = place_of_token n } ∷ tokens_from (n + 1) ks
 
 abbrev IsText : List Kind → Clauses → Type 0
-IsText ks tree = IsTree (tokens_from 0 ks) tree
+IsText ks tree = IsProgram (tokens_from 0 ks) tree
 
 abbrev plain : ℕ → Item
 plain p = atom_item p no_term
@@ -29,12 +29,12 @@ only x = item_and x no_item
 -- a \ b :- $x = 1 - 2 - 3 | c.
 abbrev pub KeptHead : Type 0
 KeptHead = IsText (Name ∷ Backslash ∷ Name ∷ Arrow ∷ Context ∷ Equal ∷ Int ∷ Minus ∷ Int ∷ Minus ∷ Int ∷ Bar ∷ Name ∷ Dot ∷ End ∷ [])
-    (clause_and (rule (only (plain 0)) (only (plain 2)) (equal 4 (operation Sub (operation Sub (integer 6) (integer 8)) (integer 10)) 5 ∷ []) (only (plain 12)) (place 0)) no_clause)
+    (clause_and (rule (only (plain 0)) (only (plain 2)) (equal 4 (operation Sub (operation Sub (integer 6) (integer 8)) (integer 10)) 5 ∷ []) (only (plain 12)) (place_of_token 0)) no_clause)
 
 -- a. n @@ :- b(), +X
 abbrev pub NamedRule : Type 0
 NamedRule = IsText (Name ∷ Dot ∷ Name ∷ AtAt ∷ Arrow ∷ Name ∷ LParen ∷ RParen ∷ Comma ∷ Plus ∷ Link ∷ End ∷ [])
-    (clause_and (process (only (plain 0))) (clause_and (rule no_item no_item [] (item_and (plain 5) (only (plus_link 9))) (place 2)) no_clause))
+    (clause_and (process (only (plain 0))) (clause_and (rule no_item no_item [] (item_and (plain 5) (only (plus_link 9))) (place_of_token 2)) no_clause))
 
 -- (a). {b.}, X = [1 | Y]
 abbrev pub NestedParts : Type 0

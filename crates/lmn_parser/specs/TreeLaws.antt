@@ -8,23 +8,23 @@ use Rattle.lmn_lexer.specs.declared.token.Token.{Token}
 use Rattle.lmn_parser.specs.Arities.{FitsClauses}
 use Rattle.lmn_parser.specs.Parsing.{kinds_of}
 use Rattle.lmn_parser.specs.Syntax.{Clauses}
-use Rattle.lmn_parser.specs.Trees.{IsTree}
+use Rattle.lmn_parser.specs.Trees.{IsProgram}
 
 -- tokens that are a tree are a program of the grammar
 abbrev pub TreesDerive : Type 0
-TreesDerive = (tokens : List Token) (tree : Clauses) → IsTree tokens tree → Derives program (kinds_of tokens)
+TreesDerive = (tokens : List Token) (tree : Clauses) → IsProgram tokens tree → Derives program (kinds_of tokens)
 
 -- tokens are one tree at most
-abbrev pub OneTree : Type 0
-OneTree = (tokens : List Token) (tree other : Clauses) → IsTree tokens tree → IsTree tokens other → tree ≡ other
+abbrev pub OneProgram : Type 0
+OneProgram = (tokens : List Token) (tree other : Clauses) → IsProgram tokens tree → IsProgram tokens other → tree ≡ other
 
 -- tokens that are a program of the grammar are a tree
 abbrev pub DerivedIsTree : Type 0
-DerivedIsTree = (tokens : List Token) → Derives program (kinds_of tokens) → (tree : Clauses) × IsTree tokens tree
+DerivedIsTree = (tokens : List Token) → Derives program (kinds_of tokens) → (tree : Clauses) × IsProgram tokens tree
 
 -- tokens within the limits are a tree of which no atom has more links than an arity holds, and no side more than 255 operators
 abbrev pub TreesFit : Type 0
-TreesFit = (tokens : List Token) (tree : Clauses) → IsTree tokens tree → IsWithin (kinds_of tokens) → FitsClauses tree
+TreesFit = (tokens : List Token) (tree : Clauses) → IsProgram tokens tree → IsWithin (kinds_of tokens) → FitsClauses tree
 
 -- nowhere more than 200 brackets are open
 abbrev pub Shallow : List Kind → Type 0
@@ -32,4 +32,4 @@ Shallow kinds = (front rest : List Kind) → kinds ≡ front ++ rest → ¬ (Ope
 
 -- and tokens that are such a tree are within the limits, where nowhere more than 200 brackets are open
 abbrev pub FittingIsWithin : Type 0
-FittingIsWithin = (tokens : List Token) (tree : Clauses) → IsTree tokens tree → FitsClauses tree → Shallow (kinds_of tokens) → IsWithin (kinds_of tokens)
+FittingIsWithin = (tokens : List Token) (tree : Clauses) → IsProgram tokens tree → FitsClauses tree → Shallow (kinds_of tokens) → IsWithin (kinds_of tokens)

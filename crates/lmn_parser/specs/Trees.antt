@@ -11,7 +11,7 @@ use Rattle.lmn_lexer.specs.declared.token.Kind.{Kind}
 use Rattle.lmn_lexer.specs.declared.token.Kind.TheVariants.{Name, Quoted, Mod, Link, Int, Context, RuleCtx, End, LParen, RParen, LBracket, RBracket, LBrace, RBrace, Comma, Dot, Arrow, AtAt, Bar, Backslash, Equal, Less, LessEq, Greater, GreaterEq, NumEq, NumNe, Differ, Plus, Minus, Star, Slash}
 use Rattle.lmn_lexer.specs.declared.token.Token.{Token}
 use Rattle.lmn_parser.specs.Parsing.{kinds_of}
-use Rattle.lmn_parser.specs.Syntax.{Expr, integer, value, operation, Condition, called, compared, equal, different, Term, link, atom, list, list_onto, context, membrane, Terms, no_term, term_and, Item, atom_item, membrane_item, context_item, bracketed, rule_context, plus_link, group, equation, Items, no_item, item_and, Clause, process, rule, Clauses, no_clause, clause_and}
+use Rattle.lmn_parser.specs.Syntax.{Expr, integer, value, operation, WrittenCondition, called, compared, equal, different, Term, link, atom, list, list_onto, context, membrane, Terms, no_term, term_and, Item, atom_item, membrane_item, context_item, bracketed, rule_context, plus_link, group, equation, Items, no_item, item_and, Clause, process, rule, Clauses, no_clause, clause_and}
 
 -- the token with this number has this kind
 abbrev pub At : List Token → ℕ → Kind → Type 0
@@ -80,16 +80,16 @@ pub data IsContextArguments (ts : List Token) : List ℕ → ℕ → ℕ → Typ
   some_contexts : {xs : List ℕ} {p q : ℕ} → At ts p LParen → IsContexts ts xs (p + 1) q → At ts q RParen → IsContextArguments ts xs p (q + 1)
 
 -- cond = NAME [ "(" CONTEXT { "," CONTEXT } ")" ] | expr cmp expr | CONTEXT "=" expr | CONTEXT "\=" CONTEXT
-pub data IsCondition (ts : List Token) : Condition → ℕ → ℕ → Type 0 where
+pub data IsCondition (ts : List Token) : WrittenCondition → ℕ → ℕ → Type 0 where
   is_called : {xs : List ℕ} {p q : ℕ} → NameAt ts p → IsContextArguments ts xs (p + 1) q → IsCondition ts (called p xs) p q
   is_compared : {l r : Expr} {p m q : ℕ} (op : Cmp) → IsSum ts l p m → CmpAt ts m op → IsSum ts r (m + 1) q → IsCondition ts (compared op l r m) p q
   is_equal : {e : Expr} {p q : ℕ} → At ts p Context → At ts (p + 1) Equal → IsSum ts e (p + 2) q → IsCondition ts (equal p e (p + 1)) p q
   is_different : {p : ℕ} → At ts p Context → At ts (p + 1) Differ → At ts (p + 2) Context → IsCondition ts (different p (p + 2) (p + 1)) p (p + 3)
 
 -- guard = cond { "," cond }
-pub data IsGuard (ts : List Token) : List Condition → ℕ → ℕ → Type 0 where
-  last_condition : {c : Condition} {p q : ℕ} → IsCondition ts c p q → IsGuard ts (c ∷ []) p q
-  more_conditions : {c : Condition} {cs : List Condition} {p m q : ℕ} → IsCondition ts c p m → At ts m Comma → IsGuard ts cs (m + 1) q → IsGuard ts (c ∷ cs) p q
+pub data IsWrittenGuard (ts : List Token) : List WrittenCondition → ℕ → ℕ → Type 0 where
+  last_condition : {c : WrittenCondition} {p q : ℕ} → IsCondition ts c p q → IsWrittenGuard ts (c ∷ []) p q
+  more_conditions : {c : WrittenCondition} {cs : List WrittenCondition} {p m q : ℕ} → IsCondition ts c p m → At ts m Comma → IsWrittenGuard ts cs (m + 1) q → IsWrittenGuard ts (c ∷ cs) p q
 
 mutual
   -- clauses = [ clause { "." clause } [ "." ] ], which is [ clause [ "." clauses ] ]
@@ -100,14 +100,14 @@ mutual
 
   -- clause = [ NAME "@@" ] rule | list
   pub data IsClause (ts : List Token) : Clause → ℕ → ℕ → Type 0 where
-    named_rule : {r : Clause} {p q : ℕ} → NameAt ts p → At ts (p + 1) AtAt → IsRule ts p r (p + 2) q → IsClause ts r p q
-    unnamed_rule : {r : Clause} {p q : ℕ} → IsRule ts p r p q → IsClause ts r p q
+    named_rule : {r : Clause} {p q : ℕ} → NameAt ts p → At ts (p + 1) AtAt → IsWrittenRule ts p r (p + 2) q → IsClause ts r p q
+    unnamed_rule : {r : Clause} {p q : ℕ} → IsWrittenRule ts p r p q → IsClause ts r p q
     is_process : {xs : Items} {p q : ℕ} → IsList ts xs p q → IsClause ts (process xs) p q
 
   -- rule = heads ":-" body; its place is that of the token with number s, with which the clause begins
-  pub data IsRule (ts : List Token) : ℕ → Clause → ℕ → ℕ → Type 0 where
-    is_rule : {kept taken body : Items} {guard : List Condition} {pos : Pos} {s p m q : ℕ} → StandsAt ts s pos →
-        IsHeads ts kept taken p m → At ts m Arrow → IsBody ts guard body (m + 1) q → IsRule ts s (rule kept taken guard body pos) p q
+  pub data IsWrittenRule (ts : List Token) : ℕ → Clause → ℕ → ℕ → Type 0 where
+    is_rule : {kept taken body : Items} {guard : List WrittenCondition} {pos : Pos} {s p m q : ℕ} → StandsAt ts s pos →
+        IsHeads ts kept taken p m → At ts m Arrow → IsBody ts guard body (m + 1) q → IsWrittenRule ts s (rule kept taken guard body pos) p q
 
   -- heads = [ list ] [ "\" [ list ] ]
   pub data IsHeads (ts : List Token) : Items → Items → ℕ → ℕ → Type 0 where
@@ -115,10 +115,10 @@ mutual
     some_kept : {xs ys : Items} {p m q : ℕ} → IsOptList ts xs p m → At ts m Backslash → IsOptList ts ys (m + 1) q → IsHeads ts xs ys p q
 
   -- body = [ [ guard ] "|" ] [ list ]
-  pub data IsBody (ts : List Token) : List Condition → Items → ℕ → ℕ → Type 0 where
+  pub data IsBody (ts : List Token) : List WrittenCondition → Items → ℕ → ℕ → Type 0 where
     no_guard : {xs : Items} {p q : ℕ} → IsOptList ts xs p q → IsBody ts [] xs p q
     empty_guard : {xs : Items} {p q : ℕ} → At ts p Bar → IsOptList ts xs (p + 1) q → IsBody ts [] xs p q
-    guarded : {cs : List Condition} {xs : Items} {p m q : ℕ} → IsGuard ts cs p m → At ts m Bar → IsOptList ts xs (m + 1) q → IsBody ts cs xs p q
+    guarded : {cs : List WrittenCondition} {xs : Items} {p m q : ℕ} → IsWrittenGuard ts cs p m → At ts m Bar → IsOptList ts xs (m + 1) q → IsBody ts cs xs p q
 
   -- [ list ]
   pub data IsOptList (ts : List Token) : Items → ℕ → ℕ → Type 0 where
@@ -132,7 +132,7 @@ mutual
 
   -- item = atom | membrane | CONTEXT | CONTEXT "[" LINK "]" | RULECTX | "+" LINK | "(" clause ")" | term "=" term
   pub data IsItem (ts : List Token) : Item → ℕ → ℕ → Type 0 where
-    is_atom_item : {xs : Terms} {n p q : ℕ} → IsAtom ts n xs p q → IsItem ts (atom_item n xs) p q
+    is_atom_item : {xs : Terms} {n p q : ℕ} → IsWrittenAtom ts n xs p q → IsItem ts (atom_item n xs) p q
     is_membrane_item : {cs : Clauses} {p q : ℕ} → IsMembrane ts cs p q → IsItem ts (membrane_item cs) p q
     is_context_item : {p : ℕ} → At ts p Context → IsItem ts (context_item p) p (p + 1)
     is_bracketed : {p : ℕ} → At ts p Context → At ts (p + 1) LBracket → At ts (p + 2) Link → At ts (p + 3) RBracket → IsItem ts (bracketed p (p + 2)) p (p + 4)
@@ -146,9 +146,9 @@ mutual
     in_braces : {cs : Clauses} {p q : ℕ} → At ts p LBrace → IsClauses ts cs (p + 1) q → At ts q RBrace → IsMembrane ts cs p (q + 1)
 
   -- atom = ( NAME | INT ) [ "(" [ term { "," term } ] ")" ]
-  pub data IsAtom (ts : List Token) : ℕ → Terms → ℕ → ℕ → Type 0 where
-    with_name : {xs : Terms} {p q : ℕ} → NameAt ts p → IsArguments ts xs (p + 1) q → IsAtom ts p xs p q
-    with_integer : {xs : Terms} {p q : ℕ} → At ts p Int → IsArguments ts xs (p + 1) q → IsAtom ts p xs p q
+  pub data IsWrittenAtom (ts : List Token) : ℕ → Terms → ℕ → ℕ → Type 0 where
+    with_name : {xs : Terms} {p q : ℕ} → NameAt ts p → IsArguments ts xs (p + 1) q → IsWrittenAtom ts p xs p q
+    with_integer : {xs : Terms} {p q : ℕ} → At ts p Int → IsArguments ts xs (p + 1) q → IsWrittenAtom ts p xs p q
 
   -- [ "(" [ term { "," term } ] ")" ]
   pub data IsArguments (ts : List Token) : Terms → ℕ → ℕ → Type 0 where
@@ -164,7 +164,7 @@ mutual
   -- term = LINK | atom | CONTEXT | membrane | tlist
   pub data IsTerm (ts : List Token) : Term → ℕ → ℕ → Type 0 where
     is_link : {p : ℕ} → At ts p Link → IsTerm ts (link p) p (p + 1)
-    is_atom : {xs : Terms} {n p q : ℕ} → IsAtom ts n xs p q → IsTerm ts (atom n xs) p q
+    is_atom : {xs : Terms} {n p q : ℕ} → IsWrittenAtom ts n xs p q → IsTerm ts (atom n xs) p q
     is_context : {p : ℕ} → At ts p Context → IsTerm ts (context p) p (p + 1)
     is_membrane : {cs : Clauses} {p q : ℕ} → IsMembrane ts cs p q → IsTerm ts (membrane cs) p q
     is_list : {t : Term} {p q : ℕ} → IsTermList ts t p q → IsTerm ts t p q
@@ -177,5 +177,5 @@ mutual
         At ts q RBracket → IsTermList ts (list_onto xs t) p (q + 1)
 
 -- program = clauses End, and no token is left
-abbrev pub IsTree : List Token → Clauses → Type 0
-IsTree ts tree = (q : ℕ) × IsClauses ts tree 0 q × At ts q End × (q + 1 ≡ length ts)
+abbrev pub IsProgram : List Token → Clauses → Type 0
+IsProgram ts tree = (q : ℕ) × IsClauses ts tree 0 q × At ts q End × (q + 1 ≡ length ts)

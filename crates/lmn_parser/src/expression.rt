@@ -1,8 +1,8 @@
-ghost use Rattle.std.specs.Prelude.{◌≡◌, ◌≤◌, IfOk, ◌+◌};
+ghost use Rattle.std.specs.Prelude.{◌≡◌, ◌≤◌, IfOk};
 ghost use Rattle.lmn_grammar.specs.Grammar.{Ref, SumPart, product, fact};
 ghost use Rattle.lmn_grammar.specs.Reading.{Owed, EndsSum, EndsProduct};
 ghost use Rattle.lmn_parser.specs.Parsing.{kinds_of};
-ghost use Rattle.lmn_parser.specs.Outcomes.{GoesForth, Reads, reach};
+ghost use Rattle.lmn_parser.specs.Outcomes.{GoesForth, ReadsOrStops, reach};
 ghost use Rattle.lmn_parser.specs.Syntax.{expr_of, operation};
 ghost use Rattle.lmn_parser.specs.Trees.{IsSum, IsProduct, IsFactor};
 
@@ -21,7 +21,7 @@ pub(crate) fn sum(
     at: usize,
 ) -> Result<(ExprNode, usize), Stop>
     requires place { at ≤ reach (kinds_of tokens.now) }
-    ensures reads { (κ : Owed) → EndsSum κ → Reads (kinds_of tokens.now) at (Ref SumPart) κ result }
+    ensures reads { (κ : Owed) → EndsSum κ → ReadsOrStops (kinds_of tokens.now) at (Ref SumPart) κ result }
     ensures forth { GoesForth (kinds_of tokens.now) at result }
     ensures tree { IfOk result (λ r. IsSum tokens.now (expr_of r.0) at r.1) }
 {
@@ -40,7 +40,7 @@ pub(crate) fn sum(
 #[cycle(expressions)]
 fn product(alloc: Global, tokens: &[PackedToken], at: usize) -> Result<(ExprNode, usize), Stop>
     requires place { at ≤ reach (kinds_of tokens.now) }
-    ensures reads { (κ : Owed) → EndsProduct κ → Reads (kinds_of tokens.now) at product κ result }
+    ensures reads { (κ : Owed) → EndsProduct κ → ReadsOrStops (kinds_of tokens.now) at product κ result }
     ensures forth { GoesForth (kinds_of tokens.now) at result }
     ensures tree { IfOk result (λ r. IsProduct tokens.now (expr_of r.0) at r.1) }
 {
@@ -59,7 +59,7 @@ fn product(alloc: Global, tokens: &[PackedToken], at: usize) -> Result<(ExprNode
 #[cycle(expressions)]
 fn factor(alloc: Global, tokens: &[PackedToken], at: usize) -> Result<(ExprNode, usize), Stop>
     requires place { at ≤ reach (kinds_of tokens.now) }
-    ensures reads { (κ : Owed) → Reads (kinds_of tokens.now) at fact κ result }
+    ensures reads { (κ : Owed) → ReadsOrStops (kinds_of tokens.now) at fact κ result }
     ensures forth { GoesForth (kinds_of tokens.now) at result }
     ensures tree { IfOk result (λ r. IsFactor tokens.now (expr_of r.0) at r.1) }
 {

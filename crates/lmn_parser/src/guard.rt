@@ -3,9 +3,9 @@ ghost use Rattle.lmn_grammar.specs.Grammar.{Opt, Seq, Ref, SumPart, cmp, cond};
 ghost use Rattle.lmn_grammar.specs.Factored.{contexts, guard_bar};
 ghost use Rattle.lmn_grammar.specs.Reading.{Owed, next, EndsCond, EndsSum};
 ghost use Rattle.lmn_parser.specs.Parsing.{kinds_of};
-ghost use Rattle.lmn_parser.specs.Outcomes.{GoesForth, Reads, StaysOrGoesForth, reach};
-ghost use Rattle.lmn_parser.specs.Syntax.{condition_of, conditions_of};
-ghost use Rattle.lmn_parser.specs.Trees.{At, IsContextArguments, IsCondition, IsGuard};
+ghost use Rattle.lmn_parser.specs.Outcomes.{GoesForth, ReadsOrStops, StaysOrGoesForth, reach};
+ghost use Rattle.lmn_parser.specs.Syntax.{condition_of_node, conditions_of};
+ghost use Rattle.lmn_parser.specs.Trees.{At, IsContextArguments, IsCondition, IsWrittenGuard};
 
 use crate::expression::sum;
 use crate::lookahead::{comparison_at, expect, is_at, is_name_at, is_pair_at};
@@ -22,9 +22,9 @@ pub(crate) fn guard(
     at: usize,
 ) -> Result<(Rows<CondNode>, usize), Stop>
     requires place { at ≤ reach (kinds_of tokens.now) }
-    ensures reads { (κ : Owed) → Reads (kinds_of tokens.now) at guard_bar κ result }
+    ensures reads { (κ : Owed) → ReadsOrStops (kinds_of tokens.now) at guard_bar κ result }
     ensures forth { GoesForth (kinds_of tokens.now) at result }
-    ensures tree { IfOk result (λ r. (bar : ℕ) × IsGuard tokens.now (conditions_of r.0) at bar × At tokens.now bar Kind.Bar × (r.1 ≡ bar + 1)) }
+    ensures tree { IfOk result (λ r. (bar : ℕ) × IsWrittenGuard tokens.now (conditions_of r.0) at bar × At tokens.now bar Kind.Bar × (r.1 ≡ bar + 1)) }
 {
     let mut conditions = Rows::new(alloc);
     let (first, after) = condition(alloc, tokens, at)?;
@@ -42,9 +42,9 @@ pub(crate) fn guard(
 /// A condition, and the place behind it.
 fn condition(alloc: Global, tokens: &[PackedToken], at: usize) -> Result<(CondNode, usize), Stop>
     requires place { at ≤ reach (kinds_of tokens.now) }
-    ensures reads { (κ : Owed) → EndsCond κ → Reads (kinds_of tokens.now) at cond κ result }
+    ensures reads { (κ : Owed) → EndsCond κ → ReadsOrStops (kinds_of tokens.now) at cond κ result }
     ensures forth { GoesForth (kinds_of tokens.now) at result }
-    ensures tree { IfOk result (λ r. IsCondition tokens.now (condition_of r.0) at r.1) }
+    ensures tree { IfOk result (λ r. IsCondition tokens.now (condition_of_node r.0) at r.1) }
 {
     if is_name_at(tokens, at) {
         let (args, end) = contexts(alloc, tokens, at + 1)?;
@@ -78,7 +78,7 @@ fn condition(alloc: Global, tokens: &[PackedToken], at: usize) -> Result<(CondNo
 /// The contexts in parentheses behind the name of a condition, if there are any, and the place behind them.
 fn contexts(alloc: Global, tokens: &[PackedToken], at: usize) -> Result<(Rows<usize>, usize), Stop>
     requires place { at ≤ reach (kinds_of tokens.now) }
-    ensures reads { (κ : Owed) → next κ Kind.LParen ≡ [] → Reads (kinds_of tokens.now) at (Opt contexts) κ result }
+    ensures reads { (κ : Owed) → next κ Kind.LParen ≡ [] → ReadsOrStops (kinds_of tokens.now) at (Opt contexts) κ result }
     ensures forth { StaysOrGoesForth (kinds_of tokens.now) at result }
     ensures tree { IfOk result (λ r. IsContextArguments tokens.now r.0 at r.1) }
 {
@@ -101,9 +101,9 @@ fn contexts(alloc: Global, tokens: &[PackedToken], at: usize) -> Result<(Rows<us
 /// Two expressions with a comparison between them, and the place behind them.
 fn comparison(alloc: Global, tokens: &[PackedToken], at: usize) -> Result<(CondNode, usize), Stop>
     requires place { at ≤ reach (kinds_of tokens.now) }
-    ensures reads { (κ : Owed) → EndsSum κ → Reads (kinds_of tokens.now) at (Seq (Ref SumPart) (Seq cmp (Ref SumPart))) κ result }
+    ensures reads { (κ : Owed) → EndsSum κ → ReadsOrStops (kinds_of tokens.now) at (Seq (Ref SumPart) (Seq cmp (Ref SumPart))) κ result }
     ensures forth { GoesForth (kinds_of tokens.now) at result }
-    ensures tree { IfOk result (λ r. IsCondition tokens.now (condition_of r.0) at r.1) }
+    ensures tree { IfOk result (λ r. IsCondition tokens.now (condition_of_node r.0) at r.1) }
 {
     let (left, sign) = sum(alloc, tokens, at)?;
     let Some(op) = comparison_at(tokens, sign) else {

@@ -2,13 +2,7 @@
 
 ghost use Rattle.lmn_parser.specs.Readings.{CutTextsEnd, OneReading};
 ghost use Rattle.lmn_parser.specs.TreeExamples.{KeptHead, NamedRule, NestedParts};
-ghost use Rattle.lmn_parser.specs.TreeLaws.{
-  DerivedIsTree,
-  FittingIsWithin,
-  OneTree,
-  TreesDerive,
-  TreesFit,
-};
+ghost use Rattle.lmn_parser.specs.TreeLaws.{DerivedIsTree, FittingIsWithin, OneProgram, TreesDerive, TreesFit};
 
 /// Tokens that are a tree are a program of the grammar, and tokens that are a program are a tree.
 pub fn trees_are_programs()
@@ -18,7 +12,7 @@ pub fn trees_are_programs()
 
 /// Tokens are one tree at most.
 pub fn trees_are_one()
-    ensures { OneTree }
+    ensures { OneProgram }
 {}
 
 /// Tokens that are a tree are within the limits exactly where no atom of it has more links than an arity holds, no

@@ -1,7 +1,8 @@
 ghost use Rattle.std.specs.Prelude.{◌≡◌, ◌∷◌, [], ◌<◌, length, slice_get, IfOk, Some, None, false};
 ghost use Rattle.lmn_grammar.specs.Limits as limits;
 ghost use Rattle.lmn_grammar.specs.Scan as scanner;
-ghost use Rattle.lmn_parser.specs.Scans.{opened_of, last_of, stack_of, scan_of, innermost_of, is_equals_last, IsFirstPassing};
+ghost use Rattle.lmn_parser.specs.Scans.{opened_of, last_of, stack_of, scan_of, innermost_of, IsFirstPassing};
+ghost use Rattle.lmn_grammar.specs.Scan.{is_equals_last};
 ghost use Rattle.lmn_parser.specs.Parsing.{kinds_of};
 
 use lmn_base::{NoMemory, Rows};
@@ -275,7 +276,7 @@ fn is_equal(kind: Kind) -> bool
 
 /// Whether a side goes on through the token.
 fn goes_on(kind: Kind) -> bool
-    ensures { result ≡ limits.goes_on kind }
+    ensures { result ≡ limits.continues_side kind }
 {
     matches!(
         kind,
@@ -285,7 +286,7 @@ fn goes_on(kind: Kind) -> bool
 
 /// Whether a token behind this one can be an operator.
 fn is_operand(last: Last) -> bool
-    ensures { result ≡ scanner.is_operand (last_of last) }
+    ensures { result ≡ scanner.was_operand (last_of last) }
 {
     matches!(last, Last::Digits(_) | Last::Closed(_) | Last::Operand)
 }

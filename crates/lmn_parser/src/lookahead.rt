@@ -1,9 +1,9 @@
 ghost use Rattle.std.specs.Prelude.{◌≡◌, ◌≢◌, ◌<◌, ◌≤◌, ◌↔◌, ◌+◌, IsTrue, IsFalse, true, slice_get, length, IfOk, IfSome, IsSome, Some, is_some};
 ghost use Rattle.lmn_grammar.specs.Grammar.{Ref, Tok, ClausePart, cmp, list, name};
-ghost use Rattle.lmn_grammar.specs.Factored.{atom_name, plus, rule_tail, times};
+ghost use Rattle.lmn_grammar.specs.Factored.{atom_name, plus, rule_tail, product_sign};
 ghost use Rattle.lmn_grammar.specs.Reading.{Owed, begins};
 ghost use Rattle.lmn_parser.specs.Parsing.{kinds_of};
-ghost use Rattle.lmn_parser.specs.Outcomes.{Takes, reach};
+ghost use Rattle.lmn_parser.specs.Outcomes.{TakesOrStops, reach};
 ghost use Rattle.lmn_parser.specs.Trees.{At, PlusAt, TimesAt, CmpAt};
 
 use crate::stop::Stop;
@@ -107,7 +107,7 @@ pub(crate) fn begins_rule_tail(tokens: &[PackedToken], at: usize) -> bool
 /// The place behind a token of this kind.
 pub(crate) fn expect(tokens: &[PackedToken], at: usize, kind: Kind) -> Result<usize, Stop>
     requires place { at ≤ reach (kinds_of tokens.now) }
-    ensures reads { (κ : Owed) → Takes (kinds_of tokens.now) at (Tok kind) κ result }
+    ensures reads { (κ : Owed) → TakesOrStops (kinds_of tokens.now) at (Tok kind) κ result }
     ensures forth { IfOk result (λ end. (at < end) × (end ≤ length tokens.now)) }
     ensures inside { kind ≢ Kind.End → IfOk result (λ end. end ≤ reach (kinds_of tokens.now)) }
     ensures found { IfOk result (λ end. (end ≡ at + 1) × At tokens.now at kind) }
@@ -136,7 +136,7 @@ pub(crate) fn sum_operator(tokens: &[PackedToken], at: usize) -> Option<Arith>
 
 /// The operator of a product at a place.
 pub(crate) fn product_operator(tokens: &[PackedToken], at: usize) -> Option<Arith>
-    ensures kind { is_some result ≡ begins times (slice_get (kinds_of tokens.now) at) }
+    ensures kind { is_some result ≡ begins product_sign (slice_get (kinds_of tokens.now) at) }
     ensures within { IfSome result (λ _. at < length tokens.now) }
     ensures inside { IfSome result (λ _. at < reach (kinds_of tokens.now)) }
     ensures operator { IfSome result (TimesAt tokens.now at) }

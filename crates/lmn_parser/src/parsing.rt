@@ -1,12 +1,12 @@
 ghost use Rattle.std.specs.Prelude.{◌<◌, length, IfErr, IfOk, OnOk, Some};
 ghost use Rattle.lmn_grammar.specs.Grammar as grammar;
 ghost use Rattle.lmn_grammar.specs.Refusing.{IsRefused, IsWithin};
-ghost use Rattle.lmn_parser.specs.Faults.{IsFaultOf, IsProgram};
+ghost use Rattle.lmn_parser.specs.Faults.{IsFaultOf, AreKindsOfProgram};
 ghost use Rattle.lmn_parser.specs.Parsing.{kinds_of, EndsWithEnd};
 ghost use Rattle.lmn_parser.specs.Outcomes.{ReadsWhole};
 ghost use Rattle.lmn_parser.specs.Scans.{IsFirstPassing};
-ghost use Rattle.lmn_parser.specs.Syntax.{clauses_of, tree_of};
-ghost use Rattle.lmn_parser.specs.Trees.{IsTree};
+ghost use Rattle.lmn_parser.specs.Syntax.{clauses_of, clauses_of_tree};
+ghost use Rattle.lmn_parser.specs.Trees.{IsProgram};
 
 use crate::limits::{Passing, first_passing};
 use crate::lookahead::expect;
@@ -27,7 +27,7 @@ pub fn parse(alloc: Global, tokens: &Tokens) -> Result<Tree, TextFault>
     ensures refused { IfErr result (IsFaultOf tokens.now) }
     ensures within { OnOk result (IsWithin (kinds_of tokens.now)) }
     ensures derived { OnOk result (grammar.Derives grammar.program (kinds_of tokens.now)) }
-    ensures tree { IfOk result (λ tree. IsTree tokens.now (tree_of tree)) }
+    ensures tree { IfOk result (λ tree. IsProgram tokens.now (clauses_of_tree tree)) }
 {
     match first_passing(alloc, tokens.as_slice()) {
         Err(_) => Err(TextFault::NoMemory),
@@ -42,7 +42,7 @@ fn tree(alloc: Global, tokens: &Tokens) -> Result<Tree, TextFault>
     requires within { IsWithin (kinds_of tokens.now) }
     ensures refused { IfErr result (IsFaultOf tokens.now) }
     ensures derived { OnOk result (grammar.Derives grammar.program (kinds_of tokens.now)) }
-    ensures tree { IfOk result (λ tree. IsTree tokens.now (tree_of tree)) }
+    ensures tree { IfOk result (λ tree. IsProgram tokens.now (clauses_of_tree tree)) }
 {
     match program(alloc, tokens.as_slice()) {
         Ok(clauses) => Ok(Tree { clauses }),
@@ -73,7 +73,7 @@ fn fault(alloc: Global, tokens: &Tokens, passing: Passing) -> TextFault
 /// The clauses of a program that all of the tokens are.
 fn program(alloc: Global, tokens: &[PackedToken]) -> Result<Rows<Clause>, Stop>
     ensures reads { ReadsWhole (kinds_of tokens.now) result }
-    ensures tree { IfOk result (λ clauses. IsTree tokens.now (clauses_of clauses)) }
+    ensures tree { IfOk result (λ clauses. IsProgram tokens.now (clauses_of clauses)) }
 {
     let (clauses, end) = clauses(alloc, tokens, 0)?;
     let after = expect(tokens, end, Kind::End)?;
@@ -86,7 +86,7 @@ fn program(alloc: Global, tokens: &[PackedToken]) -> Result<Rows<Clause>, Stop>
 /// The refusal at a token by a code.
 fn refused(tokens: &Tokens, at: usize, code: u8) -> TextFault
     requires place { at < length tokens.now }
-    requires refused { IsRefused IsProgram (kinds_of tokens.now) at code }
+    requires refused { IsRefused AreKindsOfProgram (kinds_of tokens.now) at code }
     ensures { IsFaultOf tokens.now result }
 {
     let token = tokens.at(at);

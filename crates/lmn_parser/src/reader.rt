@@ -1,11 +1,11 @@
-ghost use Rattle.std.specs.Prelude.{◌≡◌, ℕ, ◌<◌, ◌≤◌, length, IfOk, slice_get, Some, ◌+◌};
+ghost use Rattle.std.specs.Prelude.{◌≡◌, ℕ, ◌<◌, ◌≤◌, length, IfOk, slice_get, Some};
 ghost use Rattle.lmn_grammar.specs.Grammar.{Ref, Opt, some_of, TermPart, ClausePart, ClausesPart, arguments, membrane, tlist, item, list, body};
 ghost use Rattle.lmn_grammar.specs.Factored.{right_side, rule_tail};
 ghost use Rattle.lmn_grammar.specs.Reading.{Owed, NoArgs, NoMore, EndsItem, EndsList, EndsOptList, OnlyClosers, OnlyEnds};
 ghost use Rattle.lmn_parser.specs.Parsing.{kinds_of};
-ghost use Rattle.lmn_parser.specs.Outcomes.{GoesForth, Reads, StaysOrGoesForth, reach};
-ghost use Rattle.lmn_parser.specs.Syntax.{term_of, terms_of, item_of, items_of, clause_of, clauses_of, conditions_of};
-ghost use Rattle.lmn_parser.specs.Trees.{IsTerm, IsTermList, IsArguments, IsTerms, IsItem, IsList, IsOptList, IsClause, IsRule, IsBody, IsMembrane, IsClauses};
+ghost use Rattle.lmn_parser.specs.Outcomes.{GoesForth, ReadsOrStops, StaysOrGoesForth, reach};
+ghost use Rattle.lmn_parser.specs.Syntax.{term_of, terms_of, item_of, items_of_nodes, clause_of, clauses_of, conditions_of};
+ghost use Rattle.lmn_parser.specs.Trees.{IsTerm, IsTermList, IsArguments, IsTerms, IsItem, IsList, IsOptList, IsClause, IsWrittenRule, IsBody, IsMembrane, IsClauses};
 
 use crate::guard::guard;
 use crate::lookahead::{
@@ -21,7 +21,7 @@ use std::alloc::Global;
 #[cycle(reader)]
 fn term(alloc: Global, tokens: &[PackedToken], at: usize) -> Result<(Term, usize), Stop>
     requires place { at ≤ reach (kinds_of tokens.now) }
-    ensures reads { (κ : Owed) → NoArgs κ → Reads (kinds_of tokens.now) at (Ref TermPart) κ result }
+    ensures reads { (κ : Owed) → NoArgs κ → ReadsOrStops (kinds_of tokens.now) at (Ref TermPart) κ result }
     ensures forth { GoesForth (kinds_of tokens.now) at result }
     ensures tree { IfOk result (λ r. IsTerm tokens.now (term_of r.0) at r.1) }
 {
@@ -51,7 +51,7 @@ fn term_list(alloc: Global, tokens: &[PackedToken], at: usize) -> Result<(Term, 
     requires open { slice_get (kinds_of tokens.now) at ≡ Some Kind.LBracket }
     requires place { at < length tokens.now }
     requires inside { at < reach (kinds_of tokens.now) }
-    ensures reads { (κ : Owed) → Reads (kinds_of tokens.now) at tlist κ result }
+    ensures reads { (κ : Owed) → ReadsOrStops (kinds_of tokens.now) at tlist κ result }
     ensures forth { GoesForth (kinds_of tokens.now) at result }
     ensures tree { IfOk result (λ r. IsTermList tokens.now (term_of r.0) at r.1) }
 {
@@ -73,7 +73,7 @@ fn term_list(alloc: Global, tokens: &[PackedToken], at: usize) -> Result<(Term, 
 #[cycle(reader)]
 fn arguments(alloc: Global, tokens: &[PackedToken], at: usize) -> Result<(Rows<Term>, usize), Stop>
     requires place { at ≤ reach (kinds_of tokens.now) }
-    ensures reads { (κ : Owed) → NoArgs κ → Reads (kinds_of tokens.now) at (Opt arguments) κ result }
+    ensures reads { (κ : Owed) → NoArgs κ → ReadsOrStops (kinds_of tokens.now) at (Opt arguments) κ result }
     ensures forth { StaysOrGoesForth (kinds_of tokens.now) at result }
     ensures tree { IfOk result (λ r. IsArguments tokens.now (terms_of r.0) at r.1) }
 {
@@ -92,7 +92,7 @@ fn arguments(alloc: Global, tokens: &[PackedToken], at: usize) -> Result<(Rows<T
 #[cycle(reader)]
 fn terms(alloc: Global, tokens: &[PackedToken], at: usize) -> Result<(Rows<Term>, usize), Stop>
     requires place { at ≤ reach (kinds_of tokens.now) }
-    ensures reads { (κ : Owed) → NoMore κ → Reads (kinds_of tokens.now) at (some_of (Ref TermPart)) κ result }
+    ensures reads { (κ : Owed) → NoMore κ → ReadsOrStops (kinds_of tokens.now) at (some_of (Ref TermPart)) κ result }
     ensures forth { GoesForth (kinds_of tokens.now) at result }
     ensures tree { IfOk result (λ r. IsTerms tokens.now (terms_of r.0) at r.1) }
 {
@@ -112,7 +112,7 @@ fn terms(alloc: Global, tokens: &[PackedToken], at: usize) -> Result<(Rows<Term>
 #[cycle(reader)]
 fn item(alloc: Global, tokens: &[PackedToken], at: usize) -> Result<(Item, usize), Stop>
     requires place { at ≤ reach (kinds_of tokens.now) }
-    ensures reads { (κ : Owed) → EndsItem κ → Reads (kinds_of tokens.now) at item κ result }
+    ensures reads { (κ : Owed) → EndsItem κ → ReadsOrStops (kinds_of tokens.now) at item κ result }
     ensures forth { GoesForth (kinds_of tokens.now) at result }
     ensures tree { IfOk result (λ r. IsItem tokens.now (item_of r.0) at r.1) }
 {
@@ -141,7 +141,7 @@ fn context(alloc: Global, tokens: &[PackedToken], at: usize) -> Result<(Item, us
     requires context { slice_get (kinds_of tokens.now) at ≡ Some Kind.Context }
     requires place { at < length tokens.now }
     requires inside { at < reach (kinds_of tokens.now) }
-    ensures reads { (κ : Owed) → EndsItem κ → Reads (kinds_of tokens.now) at item κ result }
+    ensures reads { (κ : Owed) → EndsItem κ → ReadsOrStops (kinds_of tokens.now) at item κ result }
     ensures forth { GoesForth (kinds_of tokens.now) at result }
     ensures tree { IfOk result (λ r. IsItem tokens.now (item_of r.0) at r.1) }
 {
@@ -164,7 +164,7 @@ fn relation(alloc: Global, tokens: &[PackedToken], at: usize) -> Result<(Item, u
     requires group { slice_get (kinds_of tokens.now) at ≡ Some Kind.LParen → ⊥ }
     requires context { slice_get (kinds_of tokens.now) at ≡ Some Kind.Context → ⊥ }
     requires place { at ≤ reach (kinds_of tokens.now) }
-    ensures reads { (κ : Owed) → EndsItem κ → Reads (kinds_of tokens.now) at item κ result }
+    ensures reads { (κ : Owed) → EndsItem κ → ReadsOrStops (kinds_of tokens.now) at item κ result }
     ensures forth { GoesForth (kinds_of tokens.now) at result }
     ensures tree { IfOk result (λ r. IsItem tokens.now (item_of r.0) at r.1) }
 {
@@ -202,7 +202,7 @@ fn equation(
     sign: usize,
 ) -> Result<(Item, usize), Stop>
     requires place { sign ≤ reach (kinds_of tokens.now) }
-    ensures reads { (κ : Owed) → NoArgs κ → Reads (kinds_of tokens.now) sign right_side κ result }
+    ensures reads { (κ : Owed) → NoArgs κ → ReadsOrStops (kinds_of tokens.now) sign right_side κ result }
     ensures forth { GoesForth (kinds_of tokens.now) sign result }
     ensures tree { (start : ℕ) → IsTerm tokens.now (term_of left) start sign → IfOk result (λ r. IsItem tokens.now (item_of r.0) start r.1) }
 {
@@ -217,9 +217,9 @@ fn equation(
 #[cycle(reader)]
 fn list(alloc: Global, tokens: &[PackedToken], at: usize) -> Result<(Rows<Item>, usize), Stop>
     requires place { at ≤ reach (kinds_of tokens.now) }
-    ensures reads { (κ : Owed) → EndsList κ → Reads (kinds_of tokens.now) at list κ result }
+    ensures reads { (κ : Owed) → EndsList κ → ReadsOrStops (kinds_of tokens.now) at list κ result }
     ensures forth { GoesForth (kinds_of tokens.now) at result }
-    ensures tree { IfOk result (λ r. IsList tokens.now (items_of r.0) at r.1) }
+    ensures tree { IfOk result (λ r. IsList tokens.now (items_of_nodes r.0) at r.1) }
 {
     let mut items = Rows::new(alloc);
     let (first, after) = item(alloc, tokens, at)?;
@@ -237,9 +237,9 @@ fn list(alloc: Global, tokens: &[PackedToken], at: usize) -> Result<(Rows<Item>,
 #[cycle(reader)]
 fn items(alloc: Global, tokens: &[PackedToken], at: usize) -> Result<(Rows<Item>, usize), Stop>
     requires place { at ≤ reach (kinds_of tokens.now) }
-    ensures reads { (κ : Owed) → EndsOptList κ → Reads (kinds_of tokens.now) at (Opt list) κ result }
+    ensures reads { (κ : Owed) → EndsOptList κ → ReadsOrStops (kinds_of tokens.now) at (Opt list) κ result }
     ensures forth { StaysOrGoesForth (kinds_of tokens.now) at result }
-    ensures tree { IfOk result (λ r. IsOptList tokens.now (items_of r.0) at r.1) }
+    ensures tree { IfOk result (λ r. IsOptList tokens.now (items_of_nodes r.0) at r.1) }
 {
     if !begins_list(tokens, at) {
         return Ok((Rows::new(alloc), at));
@@ -251,7 +251,7 @@ fn items(alloc: Global, tokens: &[PackedToken], at: usize) -> Result<(Rows<Item>
 #[cycle(reader)]
 fn clause(alloc: Global, tokens: &[PackedToken], at: usize) -> Result<(Clause, usize), Stop>
     requires place { at ≤ reach (kinds_of tokens.now) }
-    ensures reads { (κ : Owed) → OnlyClosers κ → Reads (kinds_of tokens.now) at (Ref ClausePart) κ result }
+    ensures reads { (κ : Owed) → OnlyClosers κ → ReadsOrStops (kinds_of tokens.now) at (Ref ClausePart) κ result }
     ensures forth { GoesForth (kinds_of tokens.now) at result }
     ensures tree { IfOk result (λ r. IsClause tokens.now (clause_of r.0) at r.1) }
 {
@@ -280,9 +280,9 @@ fn rule(
 ) -> Result<(Clause, usize), Stop>
     requires start { start ≤ at }
     requires place { at ≤ reach (kinds_of tokens.now) }
-    ensures reads { (κ : Owed) → OnlyClosers κ → Reads (kinds_of tokens.now) at rule_tail κ result }
+    ensures reads { (κ : Owed) → OnlyClosers κ → ReadsOrStops (kinds_of tokens.now) at rule_tail κ result }
     ensures forth { GoesForth (kinds_of tokens.now) at result }
-    ensures tree { (heads : ℕ) → IsOptList tokens.now (items_of first) heads at → IfOk result (λ r. IsRule tokens.now start (clause_of r.0) heads r.1) }
+    ensures tree { (heads : ℕ) → IsOptList tokens.now (items_of_nodes first) heads at → IfOk result (λ r. IsWrittenRule tokens.now start (clause_of r.0) heads r.1) }
 {
     if is_at(tokens, at, Kind::Backslash) {
         let (taken, arrow) = items(alloc, tokens, at + 1)?;
@@ -327,9 +327,9 @@ fn guarded_body(
     at: usize,
 ) -> Result<((Rows<CondNode>, Rows<Item>), usize), Stop>
     requires place { at ≤ reach (kinds_of tokens.now) }
-    ensures reads { (κ : Owed) → OnlyClosers κ → Reads (kinds_of tokens.now) at body κ result }
+    ensures reads { (κ : Owed) → OnlyClosers κ → ReadsOrStops (kinds_of tokens.now) at body κ result }
     ensures forth { StaysOrGoesForth (kinds_of tokens.now) at result }
-    ensures tree { IfOk result (λ r. IsBody tokens.now (conditions_of r.0.0) (items_of r.0.1) at r.1) }
+    ensures tree { IfOk result (λ r. IsBody tokens.now (conditions_of r.0.0) (items_of_nodes r.0.1) at r.1) }
 {
     if is_at(tokens, at, Kind::Bar) {
         let (body, end) = items(alloc, tokens, at + 1)?;
@@ -360,7 +360,7 @@ fn membrane(alloc: Global, tokens: &[PackedToken], at: usize) -> Result<(Rows<Cl
     requires open { slice_get (kinds_of tokens.now) at ≡ Some Kind.LBrace }
     requires place { at < length tokens.now }
     requires inside { at < reach (kinds_of tokens.now) }
-    ensures reads { (κ : Owed) → Reads (kinds_of tokens.now) at membrane κ result }
+    ensures reads { (κ : Owed) → ReadsOrStops (kinds_of tokens.now) at membrane κ result }
     ensures forth { GoesForth (kinds_of tokens.now) at result }
     ensures tree { IfOk result (λ r. IsMembrane tokens.now (clauses_of r.0) at r.1) }
 {
@@ -377,7 +377,7 @@ pub(crate) fn clauses(
     at: usize,
 ) -> Result<(Rows<Clause>, usize), Stop>
     requires place { at ≤ reach (kinds_of tokens.now) }
-    ensures reads { (κ : Owed) → OnlyEnds κ → Reads (kinds_of tokens.now) at (Ref ClausesPart) κ result }
+    ensures reads { (κ : Owed) → OnlyEnds κ → ReadsOrStops (kinds_of tokens.now) at (Ref ClausesPart) κ result }
     ensures forth { StaysOrGoesForth (kinds_of tokens.now) at result }
     ensures tree { IfOk result (λ r. IsClauses tokens.now (clauses_of r.0) at r.1) }
 {

@@ -1,10 +1,11 @@
 -- Laws of walks: what is found is all that is reached, each atom once, in one order.
-use Rattle.std.proofs.Common.{◌≡◌, ◌⊎◌, ℕ, zero, suc, ◌+◌, ◌<◌, ◌≤◌, List, [], ◌∷◌, ◌++◌, length, Option, Some, refl, sym, ap, subst, ◌∙◌, inl, inr, arith, length-append}
+use Rattle.std.proofs.Common.{◌≡◌, ◌⊎◌, ℕ, zero, suc, ◌+◌, ◌<◌, ◌≤◌, List, [], ◌∷◌, ◌++◌, length, Option, Some, refl, sym, ap, subst, ◌∙◌, inl, inr, arith, length-append, map}
 use Rattle.std.proofs.lemmas.Bool.{cases_eq}
 use Rattle.lmn_heap.specs.Heap.{In, Distinct}
 use Rattle.lmn_heap.proofs.ListLemmas.{in_left, in_right}
 use Rattle.lmn_heap.proofs.Listing.{distinct_snoc}
-use Rattle.lmn_parts.specs.Walks.{HasPort, ports, Walk, ends, passes, finds}
+use Rattle.lmn_parts.specs.Walks.{HasPort, port_range, Walk, ends, passes, finds}
+use Rattle.lmn_heap.specs.Solid.{links_from}
 
 pub holds_left : (p : ℕ × ℕ) (ps qs : List (ℕ × ℕ)) → HasPort p ps → HasPort p (ps ++ qs)
 holds_left p [] qs h = absurd h
@@ -15,12 +16,20 @@ pub holds_right : (p : ℕ × ℕ) (ps qs : List (ℕ × ℕ)) → HasPort p qs 
 holds_right p [] qs h = h
 holds_right p (r ∷ ps) qs h = inr (holds_right p ps qs h)
 
-pub holds_port : (a i n k : ℕ) → i ≤ k → k < i + n → HasPort (a, k) (ports a i n)
+pub holds_port : (a i n k : ℕ) → i ≤ k → k < i + n → HasPort (a, k) (port_range a i n)
 holds_port a i zero k low high = absurd (omega arith)
 holds_port a i (suc n) k low high = elim (cases_eq i k) [
   | inl e ↦ inl (ap (λ (x : ℕ). let p : ℕ × ℕ = (a, x) in p) e)
   | inr d ↦ inr (holds_port a (i + 1) n k (omega arith) (omega arith))
 ]
+
+-- the number of the link at a port
+abbrev pub by_port : (ℕ → ℕ → ℕ) → ℕ × ℕ → ℕ
+by_port name p = name p.0 p.1
+
+pub ports_named : (name : ℕ → ℕ → ℕ) (a i n : ℕ) → map (by_port name) (port_range a i n) ≡ links_from name a i n
+ports_named name a i zero = refl
+ports_named name a i (suc n) = ap (λ ys. name a i ∷ ys) (ports_named name a (i + 1) n)
 
 pub in_last : (a : ℕ) (xs : List ℕ) → In a (xs ++ a ∷ [])
 in_last a xs = in_right a xs (a ∷ []) (inl refl)
@@ -41,7 +50,7 @@ module _ (arity : ℕ → ℕ) (to : ℕ × ℕ → Option ℕ) where
   determined {all' = all'} (finds {seen = seen} {ps = ps} {b = b} e n w) (finds {b = c} f m w') =
       let g : ◌≡◌ {A = Option ℕ} (Some c) (Some b) = sym f ∙ e in
       let s : c ≡ b = (cc) in
-      determined w (subst (λ (x : ℕ). Walk arity to (seen ++ x ∷ []) (ports x 0 (arity x) ++ ps) all') s w')
+      determined w (subst (λ (x : ℕ). Walk arity to (seen ++ x ∷ []) (port_range x 0 (arity x) ++ ps) all') s w')
 
   -- what was seen is kept
   pub kept_seen : {seen all : List ℕ} {ps : List (ℕ × ℕ)} → Walk arity to seen ps all → (a : ℕ) → In a seen → In a all
@@ -70,7 +79,7 @@ module _ (arity : ℕ → ℕ) (to : ℕ × ℕ → Option ℕ) where
       let at : R b = step p.0 p.1 b (r p (inl refl)) e in
       only R step w
       (λ x j. elim (in_snoc x b seen j) [ inl k ↦ s x k | inr same ↦ subst R (sym same) at ])
-      (λ q k. elim (holds_split q (ports b 0 (arity b)) ps k) [ inl l ↦ subst R (sym (port_of q b 0 (arity b) l)) at | inr l ↦ r q (inr l) ])
+      (λ q k. elim (holds_split q (port_range b 0 (arity b)) ps k) [ inl l ↦ subst R (sym (port_of q b 0 (arity b) l)) at | inr l ↦ r q (inr l) ])
       a i
     where
       holds_split : (q : ℕ × ℕ) (xs ys : List (ℕ × ℕ)) → HasPort q (xs ++ ys) → HasPort q xs ⊎ HasPort q ys
@@ -78,7 +87,7 @@ module _ (arity : ℕ → ℕ) (to : ℕ × ℕ → Option ℕ) where
       holds_split q (x ∷ xs) ys (inl e) = inl (inl e)
       holds_split q (x ∷ xs) ys (inr k) = elim (holds_split q xs ys k) [ inl l ↦ inl (inr l) | inr l ↦ inr l ]
 
-      port_of : (q : ℕ × ℕ) (b i n : ℕ) → HasPort q (ports b i n) → q.0 ≡ b
+      port_of : (q : ℕ × ℕ) (b i n : ℕ) → HasPort q (port_range b i n) → q.0 ≡ b
       port_of q b i zero k = absurd k
       port_of q b i (suc n) (inl e) = ap (λ (x : ℕ × ℕ). x.0) (sym e)
       port_of q b i (suc n) (inr k) = port_of q b (i + 1) n k
@@ -102,15 +111,15 @@ module _ (arity : ℕ → ℕ) (to : ℕ × ℕ → Option ℕ) where
           let g : ◌≡◌ {A = Option ℕ} (Some x) (Some b) = sym f ∙ ap to same ∙ e in
           let g' : x ≡ b = (cc) in
           inl (in_right b seen (x ∷ []) (inl g'))
-      | inr (inr j) ↦ inr (holds_right (a, i) (ports x 0 (arity x)) ps j)
+      | inr (inr j) ↦ inr (holds_right (a, i) (port_range x 0 (arity x)) ps j)
     ]
-    | inr same ↦ inr (holds_left (a, i) (ports x 0 (arity x)) ps
-        (subst (λ (z : ℕ). HasPort (z, i) (ports x 0 (arity x))) (sym same) (holds_port x 0 (arity x) i (omega arith) (let m : i < arity x = subst (λ (z : ℕ). i < arity z) same l in omega (arith, m)))))
+    | inr same ↦ inr (holds_left (a, i) (port_range x 0 (arity x)) ps
+        (subst (λ (z : ℕ). HasPort (z, i) (port_range x 0 (arity x))) (sym same) (holds_port x 0 (arity x) i (omega arith) (let m : i < arity x = subst (λ (z : ℕ). i < arity z) same l in omega (arith, m)))))
   ])
 
   -- From the atom r on: its own ports are still to be gone through.
-  pub start_covers : (r : ℕ) → Covers (r ∷ []) (ports r 0 (arity r))
-  start_covers r a i b (inl same) l e = inr (subst (λ (z : ℕ). HasPort (z, i) (ports r 0 (arity r))) same (holds_port r 0 (arity r) i (omega arith) (let m : i < arity r = subst (λ (z : ℕ). i < arity z) (sym same) l in omega (arith, m))))
+  pub start_covers : (r : ℕ) → Covers (r ∷ []) (port_range r 0 (arity r))
+  start_covers r a i b (inl same) l e = inr (subst (λ (z : ℕ). HasPort (z, i) (port_range r 0 (arity r))) same (holds_port r 0 (arity r) i (omega arith) (let m : i < arity r = subst (λ (z : ℕ). i < arity z) (sym same) l in omega (arith, m))))
   start_covers r a i b (inr j) l e = absurd j
 
   -- where every port leads to what was seen, nothing more is found
@@ -124,9 +133,9 @@ module _ (arity : ℕ → ℕ) (to : ℕ × ℕ → Option ℕ) where
   past (finds e n w) k = absurd (n (k _ e))
 
   pub found : {seen all : List ℕ} {ps : List (ℕ × ℕ)} {p : ℕ × ℕ} → Walk arity to seen (p ∷ ps) all → (b : ℕ) → to p ≡ Some b → (In b seen → ⊥)
-      → Walk arity to (seen ++ b ∷ []) (ports b 0 (arity b) ++ ps) all
+      → Walk arity to (seen ++ b ∷ []) (port_range b 0 (arity b) ++ ps) all
   found (passes h w) b e n = absurd (n (h b e))
   found {all = all} {ps = ps} (finds {seen = seen} {b = c} f m w) b e n =
       let g : ◌≡◌ {A = Option ℕ} (Some c) (Some b) = sym f ∙ e in
       let s : c ≡ b = (cc) in
-      subst (λ (x : ℕ). Walk arity to (seen ++ x ∷ []) (ports x 0 (arity x) ++ ps) all) s w
+      subst (λ (x : ℕ). Walk arity to (seen ++ x ∷ []) (port_range x 0 (arity x) ++ ps) all) s w

@@ -6,7 +6,7 @@ use Rattle.lmn_base.specs.Graphs.{Reached, SameGraph}
 use Rattle.lmn_heap.specs.Heap.{Heap, IsAtom, waiting, In, Distinct, arity_of, functor_of, link_of, mark_of, place_of, made_atom}
 use Rattle.lmn_heap.specs.Graphs.{atom_map}
 use Rattle.lmn_heap.specs.Splice.{joined_to}
-use Rattle.lmn_parts.specs.Walks.{is_port, ports, IsPart}
+use Rattle.lmn_parts.specs.Walks.{is_port, port_range, IsPartInDepth}
 
 -- an atom is made with the functor of another
 abbrev pub made_as : Heap → ℕ → Option Functor → Heap
@@ -35,7 +35,7 @@ all_joined f root s (p ∷ ps) = all_joined f root (joined_like f root s p) ps
 -- the ports of these atoms, in order
 abbrev pub ports_of : Heap → List ℕ → List (ℕ × ℕ)
 ports_of s [] = []
-ports_of s (a ∷ xs) = ports a 0 (arity_of s a) ++ ports_of s xs
+ports_of s (a ∷ xs) = port_range a 0 (arity_of s a) ++ ports_of s xs
 
 -- The atom of ys that stands where a stands in xs.
 abbrev pub answer : List ℕ → List ℕ → ℕ → ℕ
@@ -78,11 +78,11 @@ pub record Beside (before after : Heap) (ys : List ℕ) : Type 0 where
 pub record Copied (before after : Heap) (root new_root : ℕ × ℕ) : Type 0 where
   pub atoms : List ℕ
   pub copies : List ℕ
-  pub part : IsPart before root atoms
+  pub part : IsPartInDepth before root atoms
   pub is : after ≡ copied before root atoms copies
   pub beside : Beside before after copies
   pub same : SameGraph (atom_map before) root (atom_map after) new_root
   pub long : length copies ≡ length atoms
   pub answers : (a : ℕ) → same.to a ≡ answer atoms copies a
-  pub in_order : IsPart after new_root copies
+  pub in_order : IsPartInDepth after new_root copies
   pub free : link_of after new_root.0 new_root.1 ≡ None

@@ -12,13 +12,13 @@ abbrev pub net : Heap → Net
 net s = record { arity = arity_of s; link = link_of s }
 
 -- n ports of the atom a, from i on
-abbrev pub ports : ℕ → ℕ → ℕ → List (ℕ × ℕ)
-ports a i zero = []
-ports a i (suc n) = (a, i) ∷ ports a (i + 1) n
+abbrev pub port_range : ℕ → ℕ → ℕ → List (ℕ × ℕ)
+port_range a i zero = []
+port_range a i (suc n) = (a, i) ∷ port_range a (i + 1) n
 
 -- the ports of the atom a from i on
 abbrev pub ports_from : Net → ℕ → ℕ → List (ℕ × ℕ)
-ports_from n a i = ports a i (n.arity a - i)
+ports_from n a i = port_range a i (n.arity a - i)
 
 -- a port of a list
 abbrev pub HasPort : ℕ × ℕ → List (ℕ × ℕ) → Type 0
@@ -36,8 +36,8 @@ abbrev pub kept : (ℕ → Bool) → ℕ × ℕ → Option ℕ
 kept inside p = if inside p.0 then Some p.0 else None
 
 -- the atom at the other end of a port, where it is one of those inside; none at the root, by which nothing is left
-abbrev pub next : Net → ℕ × ℕ → (ℕ → Bool) → ℕ × ℕ → Option ℕ
-next n root inside p = if is_port p root then None else option_and_then (kept inside) (n.link p.0 p.1)
+abbrev pub neighbour : Net → ℕ × ℕ → (ℕ → Bool) → ℕ × ℕ → Option ℕ
+neighbour n root inside p = if is_port p root then None else option_and_then (kept inside) (n.link p.0 p.1)
 
 -- From the atoms `seen` and the ports that are still to be gone through, in this order, all these atoms are found:
 -- an atom when it is first reached, then what its ports lead to, by rising index.
@@ -46,12 +46,12 @@ pub data Walk (arity : ℕ → ℕ) (to : ℕ × ℕ → Option ℕ) : List ℕ 
   passes : {seen all : List ℕ} {ps : List (ℕ × ℕ)} {p : ℕ × ℕ} →
       ((b : ℕ) → to p ≡ Some b → In b seen) → Walk arity to seen ps all → Walk arity to seen (p ∷ ps) all
   finds : {seen all : List ℕ} {ps : List (ℕ × ℕ)} {p : ℕ × ℕ} {b : ℕ} →
-      to p ≡ Some b → (In b seen → ⊥) → Walk arity to (seen ++ b ∷ []) (ports b 0 (arity b) ++ ps) all → Walk arity to seen (p ∷ ps) all
+      to p ≡ Some b → (In b seen → ⊥) → Walk arity to (seen ++ b ∷ []) (port_range b 0 (arity b) ++ ps) all → Walk arity to seen (p ∷ ps) all
 
 -- the atoms inside that are found from the root, in depth-first order
 abbrev pub FoundInside : Net → ℕ × ℕ → (ℕ → Bool) → List ℕ → Type 0
-FoundInside n root inside all = Walk n.arity (next n root inside) (root.0 ∷ []) (ports root.0 0 (n.arity root.0)) all
+FoundInside n root inside all = Walk n.arity (neighbour n root inside) (root.0 ∷ []) (port_range root.0 0 (n.arity root.0)) all
 
 -- all atoms of the part with this root, in depth-first order
-abbrev pub IsPart : Heap → ℕ × ℕ → List ℕ → Type 0
-IsPart s root all = FoundInside (net s) root (λ _. true) all
+abbrev pub IsPartInDepth : Heap → ℕ × ℕ → List ℕ → Type 0
+IsPartInDepth s root all = FoundInside (net s) root (λ _. true) all

@@ -4,8 +4,8 @@ use Rattle.std.specs.Char.{is_ascii_digit}
 use Rattle.std.specs.Fmt.{decimal, signed_decimal}
 use Rattle.std.proofs.lemmas.Bool.Decides.{nat_tests}
 use Rattle.std.proofs.lemmas.Fmt.{decimal_by_steps}
-use Rattle.lmn_lexer.specs.Faults.{value_behind, InRange}
-use Rattle.lmn_lexer.specs.Spelling.{IsDigits, IsInteger, AllPass}
+use Rattle.lmn_lexer.specs.Faults.{value_behind, SpelledInRange}
+use Rattle.lmn_lexer.specs.Spelling.{IsDigits, IsIntegerSpelling, AllPass}
 use Rattle.lmn_lexer.specs.Values.{integer_of, minus_of}
 
 digit_passes : (n : ℕ) → n < 10 → is_ascii_digit (48 + n) ≡ true
@@ -44,8 +44,8 @@ decimal_writes n h = decimal_by_steps Writes one_digit more_digits n h
 
 -- the bytes spell the integer, and it is in range
 pub record SpellsInteger (z : ℤ) (bytes : List ℕ) : Type 0 where
-  pub spells : IsInteger true bytes
-  pub in_range : InRange bytes
+  pub spells : IsIntegerSpelling true bytes
+  pub in_range : SpelledInRange bytes
   pub value : integer_of bytes ≡ z
 
 natural_spelled : (n : ℕ) (ds : List ℕ) → n ≤ 2 ^ 63 - 1 → Writes n ds → SpellsInteger (pos n) ds

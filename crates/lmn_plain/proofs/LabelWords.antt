@@ -8,12 +8,12 @@ use Rattle.std.proofs.lemmas.List.{take_at, length-append}
 use Rattle.lmn_congruence.specs.Rules.{Name as NameOf, named}
 use Rattle.lmn_lexer.specs.declared.token.Kind.TheVariants.{Name, Quoted, Mod}
 use Rattle.lmn_lexer.specs.declared.token.Token.{Token}
-use Rattle.lmn_lexer.specs.Spelling.{AllPass, IsQuoted, IsWord, Quotes, byte, goes_on, nothing, quote}
-use Rattle.lmn_lexer.proofs.Runs.{both_true}
+use Rattle.lmn_lexer.specs.Spelling.{AllPass, IsQuoted, IsWord, Quotes, byte, goes_on, nothing, quote, is_bare_name}
 use Rattle.lmn_parser.specs.Trees.{At, NameAt}
-use Rattle.lmn_plain.specs.Labels.{is_bare, quoted, quoted_byte}
 use Rattle.lmn_plain.specs.Meanings.{undoubled, between_quotes, name_spelled, label_spelled}
 use Rattle.lmn_plain.specs.Words.{name_kind}
+use Rattle.lmn_lexer.specs.NameText.{quoted, quoted_byte}
+use Rattle.lmn_base.proofs.Truth.{and_true as both_true}
 
 -- a bare name
 
@@ -22,7 +22,7 @@ all_pass test [] h = tt
 all_pass test (b ∷ bs) h = let both = both_true (test b) (list_all test bs) h in (both.0, all_pass test bs both.1)
 
 -- is a word
-pub bare_word : (name : NameOf) → is_bare name ≡ true → IsWord is_ascii_lowercase name
+pub bare_word : (name : NameOf) → is_bare_name name ≡ true → IsWord is_ascii_lowercase name
 bare_word [] h = absurd (cc)
 bare_word (b ∷ bs) h = let both = both_true (is_ascii_lowercase b) (list_all goes_on bs) h in (both.0, all_pass goes_on bs both.1)
 
@@ -88,16 +88,16 @@ name_means_by name true m = mod_or_name name m
 name_means_by name false m = ap named (between name)
 
 -- the word of a name means the name
-pub name_means : (name : NameOf) → label_spelled (name_kind name) (if is_bare name then name else quoted name) ≡ named name
-name_means name = name_means_by name (is_bare name) (bytes_eq name (codes "mod"))
+pub name_means : (name : NameOf) → label_spelled (name_kind name) (if is_bare_name name then name else quoted name) ≡ named name
+name_means name = name_means_by name (is_bare_name name) (bytes_eq name (codes "mod"))
 
 spelled_by : (name : NameOf) (bare m : Bool) → name_spelled (if bare then (if m then Mod else Name) else Quoted) (if bare then name else quoted name) ≡ name
 spelled_by name true true = refl
 spelled_by name true false = refl
 spelled_by name false m = between name
 
-pub name_spells : (name : NameOf) → name_spelled (name_kind name) (if is_bare name then name else quoted name) ≡ name
-name_spells name = spelled_by name (is_bare name) (bytes_eq name (codes "mod"))
+pub name_spells : (name : NameOf) → name_spelled (name_kind name) (if is_bare_name name then name else quoted name) ≡ name
+name_spells name = spelled_by name (is_bare_name name) (bytes_eq name (codes "mod"))
 
 name_at_by : (ts : List Token) (p : ℕ) (bare m : Bool) → At ts p (if bare then (if m then Mod else Name) else Quoted) → NameAt ts p
 name_at_by ts p true true h = inr (inr h)
@@ -106,4 +106,4 @@ name_at_by ts p false m h = inr (inl h)
 
 -- a token of that kind is a name
 pub name_is_at : (ts : List Token) (p : ℕ) (name : NameOf) → At ts p (name_kind name) → NameAt ts p
-name_is_at ts p name h = name_at_by ts p (is_bare name) (bytes_eq name (codes "mod")) h
+name_is_at ts p name h = name_at_by ts p (is_bare_name name) (bytes_eq name (codes "mod")) h

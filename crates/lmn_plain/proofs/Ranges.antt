@@ -1,17 +1,11 @@
 -- What isn't out of range is in range.
-use Rattle.std.proofs.Common.{◌≡◌, ◌≢◌, ℕ, ◌-◌, ◌^◌, ◌<◌, ◌≤◌, ◌⊎◌, inl, inr, List, [], ◌∷◌, arith}
-use Rattle.std.proofs.lemmas.Bool.{cases_lt, cases_order}
-use Rattle.lmn_lexer.specs.Faults.{InRange, value_behind}
-
--- a number that isn't above another
-pub at_most : (a b : ℕ) → (b < a → ⊥) → a ≤ b
-at_most a b h = elim (cases_lt b a) [
-  | inl l ↦ absurd (h l)
-  | inr l ↦ l
-]
+use Rattle.std.proofs.Common.{◌≡◌, ◌≢◌, ℕ, ◌-◌, ◌^◌, ◌<◌, ◌⊎◌, inl, inr, List, [], ◌∷◌, arith}
+use Rattle.std.proofs.lemmas.Bool.{cases_order}
+use Rattle.lmn_lexer.specs.Faults.{SpelledInRange, value_behind}
+use Rattle.lmn_base.proofs.Numbers.{at_most_by_not as at_most}
 
 -- the bytes of an integer
-pub in_range : (bytes : List ℕ) → ((InRange bytes → ⊥) → ⊥) → InRange bytes
+pub in_range : (bytes : List ℕ) → ((SpelledInRange bytes → ⊥) → ⊥) → SpelledInRange bytes
 in_range [] h = absurd (h (λ r. r))
 in_range (b ∷ bs) h = elim (cases_order b 45) [
   | inl same ↦ inl (same, at_most (value_behind 0 bs) (2 ^ 63) (λ more. h (λ r. below same more r)))
@@ -22,10 +16,10 @@ in_range (b ∷ bs) h = elim (cases_order b 45) [
     unequal (inl l) e = omega arith
     unequal (inr l) e = omega arith
 
-    below : b ≡ 45 → 2 ^ 63 < value_behind 0 bs → InRange (b ∷ bs) → ⊥
+    below : b ≡ 45 → 2 ^ 63 < value_behind 0 bs → SpelledInRange (b ∷ bs) → ⊥
     below same more (inl (e, l)) = omega arith
     below same more (inr (e, l)) = e same
 
-    above : b ≢ 45 → 2 ^ 63 - 1 < value_behind 0 (b ∷ bs) → InRange (b ∷ bs) → ⊥
+    above : b ≢ 45 → 2 ^ 63 - 1 < value_behind 0 (b ∷ bs) → SpelledInRange (b ∷ bs) → ⊥
     above other more (inl (e, l)) = other e
     above other more (inr (e, l)) = omega arith

@@ -1,13 +1,14 @@
 -- All numbers are taken back, atom by atom.
 use Rattle.std.proofs.Common.{◌≡◌, ℕ, ◌<◌, ◌⊎◌, inl, inr, Option, Some, None, refl, sym, subst}
 use Rattle.std.specs.Option.{option_map}
-use Rattle.lmn_heap.specs.Heap.{Heap, arity_of, mark_of}
+use Rattle.lmn_heap.specs.Heap.{Heap, arity_of, mark_of, PortsUnmarked}
 use Rattle.lmn_heap.specs.Lists.{In, from, after}
 use Rattle.lmn_heap.specs.Sound.{Forest, flat, IsTree, Valid}
-use Rattle.lmn_printer.specs.Numbers.{printed_atoms, Remarks, Unmarked}
+use Rattle.lmn_printer.specs.Numbers.{printed_atoms, Remarks}
 use Rattle.lmn_printer.proofs.MarkLemmas.{arity_same, tree_same, remarks_none, remarks_more}
-use Rattle.lmn_printer.proofs.NumberingLemmas.{behind_before, port_there}
+use Rattle.lmn_printer.proofs.NumberingLemmas.{behind_before}
 use Rattle.lmn_printer.proofs.OrderLemmas.{printed_all}
+use Rattle.lmn_heap.proofs.Common.{is_atom_at as port_there}
 
 -- The ports of all atoms but those that are still to come are cleared.
 pub record Clearing (s t : Heap) (f : Forest) (next : Option ℕ) : Type 0 where
@@ -44,7 +45,7 @@ clearing_next id s t u f tree a now next is c r done others h =
     (let whole = remarks_more s t u c.marks r in behind_before s u whole f (id a) (option_map id next) (h f (tree_same s u whole f tree)))
 
 -- no atom is left
-pub clearing_last : {A : Type 0} (id : A → ℕ) (s t : Heap) (f : Forest) (now : Option A) → ((a : A) → now ≡ Some a → ⊥) → Clearing s t f (option_map id now) → Unmarked t
+pub clearing_last : {A : Type 0} (id : A → ℕ) (s t : Heap) (f : Forest) (now : Option A) → ((a : A) → now ≡ Some a → ⊥) → Clearing s t f (option_map id now) → PortsUnmarked t
 clearing_last id s t f None none c a i l = elim (c.left a i (subst (λ n. i < n) (arity_same s t c.marks a) l)) [
   | inl z ↦ z
   | inr j ↦ absurd j

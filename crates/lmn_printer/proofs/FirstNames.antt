@@ -5,40 +5,33 @@ use Rattle.std.proofs.lemmas.List.{map-append}
 use Rattle.lmn_base.specs.Links.{Numbers, no_more, known, new}
 use Rattle.lmn_heap.specs.Heap.{Heap, arity_of, link_of}
 use Rattle.lmn_heap.specs.Lists.{In}
-use Rattle.lmn_heap.specs.Solid.{IsNaming, numbered}
+use Rattle.lmn_heap.specs.Solid.{IsNaming}
 use Rattle.lmn_heap.specs.Sound.{Paired}
 use Rattle.lmn_heap.proofs.Ports.{SamePort, same_port}
-use Rattle.lmn_printer.specs.Numbers.{links_at, links_on}
-use Rattle.lmn_printer.proofs.NumberLemmas.{same_ports, joined_or_not}
+use Rattle.lmn_printer.specs.Numbers.{links_at_ports, links_on}
+use Rattle.lmn_printer.proofs.NumberLemmas.{joined_or_not}
+use Rattle.lmn_base.proofs.Common.{numbers_head}
+use Rattle.lmn_heap.proofs.Common.{same_port as same_ports}
+use Rattle.lmn_parts.specs.Walks.{port_range}
+use Rattle.lmn_parts.proofs.WalkLaws.{by_port, ports_named}
 
 -- Ports in a row.
-
-abbrev pub ports_from : ℕ → ℕ → ℕ → List (ℕ × ℕ)
-ports_from a i zero = []
-ports_from a i (suc n) = (a, i) ∷ ports_from a (i + 1) n
 
 -- the ports of the atoms of a list
 abbrev pub ports_on : Heap → List ℕ → List (ℕ × ℕ)
 ports_on s [] = []
-ports_on s (a ∷ xs) = ports_from a 0 (arity_of s a) ++ ports_on s xs
-
-abbrev pub by_port : (ℕ → ℕ → ℕ) → ℕ × ℕ → ℕ
-by_port name p = name p.0 p.1
+ports_on s (a ∷ xs) = port_range a 0 (arity_of s a) ++ ports_on s xs
 
 -- the port is one of them
 abbrev pub Has : ℕ → ℕ → List (ℕ × ℕ) → Type 0
 Has a i [] = ⊥
 Has a i (p ∷ ps) = SamePort p.0 p.1 a i ⊎ Has a i ps
 
-names_from : (name : ℕ → ℕ → ℕ) (a i n : ℕ) → map (by_port name) (ports_from a i n) ≡ numbered name a i n
-names_from name a i zero = refl
-names_from name a i (suc n) = ap (λ xs. name a i ∷ xs) (names_from name a (i + 1) n)
-
 pub names_on : (s : Heap) (name : ℕ → ℕ → ℕ) (xs : List ℕ) → map (by_port name) (ports_on s xs) ≡ links_on s xs name
 names_on s name [] = refl
 names_on s name (a ∷ xs) =
-    map-append (by_port name) (ports_from a 0 (arity_of s a)) (ports_on s xs)
-    ∙ ap (λ ys. ys ++ map (by_port name) (ports_on s xs)) (names_from name a 0 (arity_of s a)) ∙ ap (λ ys. links_at s a name ++ ys) (names_on s name xs)
+    map-append (by_port name) (port_range a 0 (arity_of s a)) (ports_on s xs)
+    ∙ ap (λ ys. ys ++ map (by_port name) (ports_on s xs)) (ports_named name a 0 (arity_of s a)) ∙ ap (λ ys. links_at_ports s a name ++ ys) (names_on s name xs)
 
 has_left : (a i : ℕ) (ps qs : List (ℕ × ℕ)) → Has a i ps → Has a i (ps ++ qs)
 has_left a i [] qs h = absurd h
@@ -49,17 +42,17 @@ has_right : (a i : ℕ) (ps qs : List (ℕ × ℕ)) → Has a i qs → Has a i (
 has_right a i [] qs h = h
 has_right a i (p ∷ ps) qs h = inr (has_right a i ps qs h)
 
-has_from : (a j n i : ℕ) → i < n → Has a (j + i) (ports_from a j n)
+has_from : (a j n i : ℕ) → i < n → Has a (j + i) (port_range a j n)
 has_from a j zero i l = absurd (omega (arith, l))
 has_from a j (suc n) zero l = inl (refl, let e : j ≡ j + 0 = omega arith in e)
-has_from a j (suc n) (suc i) l = inr (subst (λ k. Has a k (ports_from a (j + 1) n)) (let e : j + 1 + i ≡ j + suc i = omega arith in e) (has_from a (j + 1) n i (omega (arith, l))))
+has_from a j (suc n) (suc i) l = inr (subst (λ k. Has a k (port_range a (j + 1) n)) (let e : j + 1 + i ≡ j + suc i = omega arith in e) (has_from a (j + 1) n i (omega (arith, l))))
 
 pub has_on : (s : Heap) (xs : List ℕ) (a i : ℕ) → In a xs → i < arity_of s a → Has a i (ports_on s xs)
 has_on s [] a i h l = absurd h
 has_on s (b ∷ xs) a i (inl e) l =
-    has_left a i (ports_from b 0 (arity_of s b)) (ports_on s xs)
-    (subst (λ c. Has a i (ports_from c 0 (arity_of s c))) (sym e) (subst (λ k. Has a k (ports_from a 0 (arity_of s a))) (let z : 0 + i ≡ i = omega arith in z) (has_from a 0 (arity_of s a) i l)))
-has_on s (b ∷ xs) a i (inr h) l = has_right a i (ports_from b 0 (arity_of s b)) (ports_on s xs) (has_on s xs a i h l)
+    has_left a i (port_range b 0 (arity_of s b)) (ports_on s xs)
+    (subst (λ c. Has a i (port_range c 0 (arity_of s c))) (sym e) (subst (λ k. Has a k (port_range a 0 (arity_of s a))) (let z : 0 + i ≡ i = omega arith in z) (has_from a 0 (arity_of s a) i l)))
+has_on s (b ∷ xs) a i (inr h) l = has_right a i (port_range b 0 (arity_of s b)) (ports_on s xs) (has_on s xs a i h l)
 
 -- There is a numbering.
 
@@ -107,13 +100,13 @@ module _ (s : Heap) (paired : Paired s) (a i : ℕ) where
   -- the partner of a near port is near
   near_partner : (c k d l : ℕ) → link_of s c k ≡ Some (d, l) → Near c k → Near d l
   near_partner c k d l e (inl p) = inr (paired.back a i d l (sym (ap (λ x. link_of s x k) p.0 ∙ ap (link_of s a) p.1) ∙ e))
-  near_partner c k d l e (inr q) = let p = same_ports a i d l (sym q ∙ e) in inl (sym p.0, sym p.1)
+  near_partner c k d l e (inr q) = let p = same_ports (sym q ∙ e) in inl (sym p.0, sym p.1)
 
   near_apart : (c k d l : ℕ) → Near c k → Near d l → SamePort c k d l ⊎ (link_of s c k ≡ Some (d, l))
   near_apart c k d l (inl p) (inl q) = inl (p.0 ∙ sym q.0, p.1 ∙ sym q.1)
   near_apart c k d l (inl p) (inr q) = inr (ap (λ x. link_of s x k) p.0 ∙ ap (link_of s a) p.1 ∙ paired.back d l a i q)
   near_apart c k d l (inr p) (inl q) = inr (p ∙ (λ z. Some (sym q.0 z, sym q.1 z)))
-  near_apart c k d l (inr p) (inr q) = inl (same_ports c k d l (sym (paired.back c k a i p) ∙ paired.back d l a i q))
+  near_apart c k d l (inr p) (inr q) = inl (same_ports (sym (paired.back c k a i p) ∙ paired.back d l a i q))
 
   module _ (f : ℕ → ℕ → ℕ) (n : ℕ) (m : Marked s f n) (fresh : f a i ≡ 0) where
     -- near ports had no mark
@@ -216,10 +209,6 @@ record Alike (s : Heap) (u v : ℕ → ℕ → ℕ) (n : ℕ) : Type 0 where
   pub there : (a i : ℕ) → i < arity_of s a → u a i < n → v a i ≡ u a i
   pub back : (a i : ℕ) → i < arity_of s a → v a i < n → u a i ≡ v a i
 
-one_number : (n m x : ℕ) (xs : List ℕ) → Numbers n (x ∷ xs) m → ((x < n) × Numbers n xs m) ⊎ ((x ≡ n) × Numbers (suc n) xs m)
-one_number n m x xs (known l k) = inl (l, k)
-one_number n m x xs (new k) = inr (refl, k)
-
 -- each port of the list is one of the heap
 abbrev pub ArePorts : Heap → List (ℕ × ℕ) → Type 0
 ArePorts s [] = Unit {0}
@@ -247,12 +236,12 @@ module _ (s : Heap) (u v : ℕ → ℕ → ℕ) (nu : IsNaming s u) (nv : IsNami
 
   alike_all : (ps : List (ℕ × ℕ)) (n m k : ℕ) → ArePorts s ps → Alike s u v n → Numbers n (map (by_port u) ps) m → Numbers n (map (by_port v) ps) k → Alike s u v m
   alike_all [] n m k are h no_more q = h
-  alike_all (p ∷ ps) n m k are h x y = elim (one_number n m (u p.0 p.1) (map (by_port u) ps) x) [
-    | inl e ↦ elim (one_number n k (v p.0 p.1) (map (by_port v) ps) y) [
+  alike_all (p ∷ ps) n m k are h x y = elim (numbers_head x) [
+    | inl e ↦ elim (numbers_head y) [
       | inl g ↦ alike_all ps n m k are.1 h e.1 g.1
       | inr g ↦ (let t = h.there p.0 p.1 are.0 e.0 in let l = e.0 in let q = g.0 in absurd (omega (arith, t, l, q)))
     ]
-    | inr e ↦ elim (one_number n k (v p.0 p.1) (map (by_port v) ps) y) [
+    | inr e ↦ elim (numbers_head y) [
       | inl g ↦ (let t = h.back p.0 p.1 are.0 g.0 in let l = g.0 in let q = e.0 in absurd (omega (arith, t, l, q)))
       | inr g ↦ alike_all ps (suc n) m k are.1 (alike_more n p.0 p.1 are.0 h e.0 g.0) e.1 g.1
     ]
@@ -265,7 +254,7 @@ module _ (s : Heap) (u v : ℕ → ℕ → ℕ) (nu : IsNaming s u) (nv : IsNami
   pub names_alike : (ps : List (ℕ × ℕ)) (m k : ℕ) → ArePorts s ps → Numbers 0 (map (by_port u) ps) m → Numbers 0 (map (by_port v) ps) k → (a i : ℕ) → i < arity_of s a → u a i < m → v a i ≡ u a i
   names_alike ps m k are x y = (alike_all ps 0 m k are none_alike x y).there
 
-are_from : (s : Heap) (a i n : ℕ) → i + n ≤ arity_of s a → ArePorts s (ports_from a i n)
+are_from : (s : Heap) (a i n : ℕ) → i + n ≤ arity_of s a → ArePorts s (port_range a i n)
 are_from s a i zero l = tt
 are_from s a i (suc n) l = (omega (arith, l), are_from s a (i + 1) n (omega (arith, l)))
 
@@ -275,4 +264,4 @@ are_append s (p ∷ ps) qs h k = (h.0, are_append s ps qs h.1 k)
 
 pub are_on : (s : Heap) (xs : List ℕ) → ArePorts s (ports_on s xs)
 are_on s [] = tt
-are_on s (a ∷ xs) = are_append s (ports_from a 0 (arity_of s a)) (ports_on s xs) (are_from s a 0 (arity_of s a) (omega arith)) (are_on s xs)
+are_on s (a ∷ xs) = are_append s (port_range a 0 (arity_of s a)) (ports_on s xs) (are_from s a 0 (arity_of s a) (omega arith)) (are_on s xs)

@@ -6,17 +6,17 @@ use Rattle.lmn_base.specs.declared.solid.Region.{Region}
 use Rattle.lmn_base.specs.declared.solid.Region.TheViews.{roll-Region}
 use Rattle.lmn_base.specs.declared.solid.Solid.{Solid}
 use Rattle.lmn_heap.specs.Heap.{Heap, HeapAtom, arity_of, atoms_in, rules_in}
-use Rattle.lmn_heap.specs.Solid.{atom_of, atoms_of, regions_of}
+use Rattle.lmn_heap.specs.Solid.{solid_atom_at, solid_atoms_at, regions_of}
 use Rattle.lmn_heap.specs.Sound.{Forest, bare, mem, flat, Forms, Sound}
 use Rattle.lmn_heap.proofs.Calls.{one_tree}
 use Rattle.lmn_heap.proofs.SolidLemmas.{regions_frame}
 use Rattle.lmn_printer.specs.HeapLaws.{HeapsHaveSolids, OneSolid}
 use Rattle.lmn_printer.specs.Numbers.{printed_atoms, links_on}
 use Rattle.lmn_printer.proofs.FirstNames.{ports_on, names_on, has_on, are_on, first_naming, names_alike}
-use Rattle.lmn_printer.proofs.NumberingLemmas.{port_there}
 use Rattle.lmn_printer.proofs.OrderLemmas.{printed_all}
 use Rattle.lmn_printer.proofs.ToldLemmas.{numbered_alike, solid_atom}
 use Rattle.lmn_printer.proofs.SolidLinks.{solid_links, in_links, numbers_below}
+use Rattle.lmn_heap.proofs.Common.{is_atom_at as port_there}
 
 -- the tree of the root is one region
 one_region : (s : Heap) (name : ℕ → ℕ → ℕ) (f : Forest) → Forms s f (s.root ∷ []) → (r : Region) × (regions_of s name f ≡ r ∷ [])
@@ -24,7 +24,7 @@ one_region s name bare F = absurd (cc F)
 one_region s name (mem m i r) F =
     let w : s.root ∷ [] ≡ m ∷ F.0 = F.1 in
     let none : F.0 ≡ [] = cc w in
-    let here : Region = roll-Region (record { atoms = atoms_of s name (atoms_in s m); membranes = regions_of s name i; rules = rules_in s m }) in
+    let here : Region = roll-Region (record { atoms = solid_atoms_at s name (atoms_in s m); membranes = regions_of s name i; rules = rules_in s m }) in
     (here, ap (λ g. here ∷ regions_of s name g) (nothing r (subst (Forms s r) none F.3)))
   where
     nothing : (g : Forest) → Forms s g [] → g ≡ bare
@@ -54,15 +54,15 @@ heaps_have_solids s valid =
 -- names that say the same of each port make the same regions
 
 module _ (s : Heap) (sound : Sound s) (u v : ℕ → ℕ → ℕ) (same : (a i : ℕ) → i < arity_of s a → u a i ≡ v a i) where
-  atom_alike : (a : ℕ) (o : Option HeapAtom) → s.atoms a ≡ o → atom_of u a o ≡ atom_of v a o
+  atom_alike : (a : ℕ) (o : Option HeapAtom) → s.atoms a ≡ o → solid_atom_at u a o ≡ solid_atom_at v a o
   atom_alike a None e = refl
   atom_alike a (Some x) e =
       let arity : arity_of s a ≡ x.functor.arity = sound.shaped.ports a x.functor (ap (option_map (λ (y : HeapAtom). y.functor)) e) in
       ap (λ ls. solid_atom x.functor ls ∷ []) (numbered_alike u v a 0 x.functor.arity (λ j l. same a j (omega (arith, l, arity))))
 
-  atoms_alike : (xs : List ℕ) → atoms_of s u xs ≡ atoms_of s v xs
+  atoms_alike : (xs : List ℕ) → solid_atoms_at s u xs ≡ solid_atoms_at s v xs
   atoms_alike [] = refl
-  atoms_alike (a ∷ xs) = ap (λ ys. ys ++ atoms_of s u xs) (atom_alike a (s.atoms a) refl) ∙ ap (λ ys. atom_of v a (s.atoms a) ++ ys) (atoms_alike xs)
+  atoms_alike (a ∷ xs) = ap (λ ys. ys ++ solid_atoms_at s u xs) (atom_alike a (s.atoms a) refl) ∙ ap (λ ys. solid_atom_at v a (s.atoms a) ++ ys) (atoms_alike xs)
 
   regions_alike : (f : Forest) → regions_of s u f ≡ regions_of s v f
   regions_alike f = regions_frame s s u v f (λ m i. (atoms_alike (atoms_in s m), refl))

@@ -7,14 +7,15 @@ use Rattle.std.proofs.lemmas.Grind.{same_number_lists}
 use Rattle.lmn_base.specs.declared.rule.RuleTree.{RuleTree}
 use Rattle.lmn_base.specs.declared.solid.Solid.{Solid}
 use Rattle.lmn_congruence.specs.Rules.{Name}
-use Rattle.lmn_heap.specs.Heap.{Heap, HeapAtom, top, IsAtom, IsMem, marks_of, arity_of, mark_of, parent_of, mem_place_of, atoms_in, rules_in}
-use Rattle.lmn_heap.specs.Solid.{SolidOf, atoms_of}
+use Rattle.lmn_heap.specs.Heap.{Heap, HeapAtom, top, IsAtom, IsMem, marks_of, arity_of, mark_of, parent_of, mem_place_of, atoms_in, rules_in, PortsUnmarked}
+use Rattle.lmn_heap.specs.Solid.{HasSolid, solid_atoms_at}
 use Rattle.lmn_heap.specs.Sound.{Shaped, Sound, Valid}
 use Rattle.lmn_heap.proofs.SolidLemmas.{regions_frame}
-use Rattle.lmn_printer.specs.Numbers.{Remarks, Unmarked, with_marks}
+use Rattle.lmn_printer.specs.Numbers.{Remarks, with_marks}
 use Rattle.lmn_printer.specs.Stored.{TellsNumbers}
-use Rattle.lmn_printer.specs.Writing.{IsLineOf, IsMarkedLineOf}
-use Rattle.lmn_printer.proofs.MarkLemmas.{same_atoms, arity_same, link_same, home_same, functor_same, atom_before, naming_same, tree_same, atoms_same}
+use Rattle.lmn_printer.specs.Writing.{IsPlainHeapLine, IsMarkedLineOf}
+use Rattle.lmn_printer.proofs.MarkLemmas.{arity_same, link_same, home_same, functor_same, atom_before, naming_same, tree_same, atoms_same}
+use Rattle.lmn_heap.proofs.Common.{same_atoms}
 
 -- it is valid
 pub valid_same : (s t : Heap) → Remarks s t → Sound t → Valid s → Valid t
@@ -30,13 +31,13 @@ valid_same s t r sound valid = record {
 }
 
 -- the line of its solid is that of the heap
-pub line_same : (names : List Name) (table : List RuleTree) (s t : Heap) → Remarks s t → ((x : Solid) (of : SolidOf s x) → TellsNumbers t of.name) → (text : List ℕ)
-    → IsLineOf names table s text → IsMarkedLineOf names table t text
+pub line_same : (names : List Name) (table : List RuleTree) (s t : Heap) → Remarks s t → ((x : Solid) (of : HasSolid s x) → TellsNumbers t of.name) → (text : List ℕ)
+    → IsPlainHeapLine names table s text → IsMarkedLineOf names table t text
 line_same names table s t r told text line =
     let of = line.1 in
     let atoms : (m : ℕ) → atoms_in s m ≡ atoms_in t m = λ m. sym (ap (λ (k : Heap). atoms_in k m) r.is) in
-    let same = regions_frame s t of.name of.name of.forest (λ m i. (atoms_same s t r of.name (atoms_in s m) ∙ ap (atoms_of t of.name) (atoms m), sym (ap (λ (k : Heap). rules_in k m) r.is))) in
-    let there : SolidOf t line.0 = record {
+    let same = regions_frame s t of.name of.name of.forest (λ m i. (atoms_same s t r of.name (atoms_in s m) ∙ ap (solid_atoms_at t of.name) (atoms m), sym (ap (λ (k : Heap). rules_in k m) r.is))) in
+    let there : HasSolid t line.0 = record {
       forest = of.forest;
       tree = tree_same s t r of.forest of.tree;
       name = of.name;
@@ -48,7 +49,7 @@ line_same names table s t r told text line =
     (line.0, there, told line.0 of, line.2)
 
 -- Where the marks of all ports are 0 in both, they are the same heap.
-pub kept_heap : (s u : Heap) → Remarks s u → Shaped s → Shaped u → Unmarked s → Unmarked u → u ≡ s
+pub kept_heap : (s u : Heap) → Remarks s u → Shaped s → Shaped u → PortsUnmarked s → PortsUnmarked u → u ≡ s
 kept_heap s u r shape shape' before behind = r.is ∙ same_atoms s _ s.atoms (λ a. by a (s.atoms a) refl)
   where
     -- each mark is as before

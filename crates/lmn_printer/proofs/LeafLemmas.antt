@@ -1,7 +1,6 @@
 -- Leaves, conditions and their parts.
-use Rattle.std.proofs.Common.{◌≡◌, ℕ, zero, suc, ◌==◌, ◌&&◌, Bool, true, false, if◌then◌else◌, List, [], ◌∷◌, ◌++◌, ◌<◌, map, length, get_or, refl, sym, ap, ◌∙◌, subst, arith}
+use Rattle.std.proofs.Common.{◌≡◌, ℕ, zero, suc, ◌==◌, Bool, true, false, if◌then◌else◌, List, [], ◌∷◌, ◌++◌, ◌<◌, map, length, get_or, refl, sym, ap, ◌∙◌, subst, arith}
 use Rattle.std.specs.Prelude.{codes}
-use Rattle.std.proofs.lemmas.Bool.Decides.{nat_tests}
 use Rattle.std.proofs.lemmas.List.{append-nil, length-map}
 use Rattle.lmn_base.specs.Names.{IsNames, first_names}
 use Rattle.lmn_base.specs.declared.functor.Label.{Label}
@@ -16,14 +15,16 @@ use Rattle.lmn_base.specs.declared.refusal.Pos.{Pos}
 use Rattle.lmn_base.specs.declared.level.CtxUse.{CtxUse}
 use Rattle.lmn_base.specs.declared.level.Occ.{Occ}
 use Rattle.lmn_congruence.specs.Rules as tree
-use Rattle.lmn_congruence.specs.Translation.{name_of, names_of, atom_of, label_of, comparison_of, condition_of, expression_of, kind_of}
+use Rattle.lmn_congruence.specs.Translation.{name_of, names_of, atom_or_connector, label_of, comparison_of, condition_of, expression_of, kind_of}
 use Rattle.lmn_plain.specs.Words.{text_of, piece_text, with_commas, label_piece, name_piece, link_name, link_piece, links_pieces, context_piece, contexts_pieces, leaf_pieces, side_pieces, comparison_pieces, condition_pieces, guard_pieces}
 use Rattle.lmn_plain.specs.Labels.{label_text}
-use Rattle.lmn_printer.specs.Parts.{condition_text, context_text, is_connector, leaf_text, link_numbers}
+use Rattle.lmn_printer.specs.Parts.{condition_text, context_text, makes_connector, leaf_text}
 use Rattle.lmn_printer.specs.Rows.{in_row}
 use Rattle.lmn_printer.proofs.RowLemmas.{comma_row}
-use Rattle.lmn_lexer.proofs.Runs.{both_true, equal_when as tested}
 use Rattle.lmn_plain.proofs.LaidLines.{text_append}
+use Rattle.lmn_base.specs.Levels.{link_numbers}
+use Rattle.lmn_base.proofs.Numbers.{equal_when as tested}
+use Rattle.lmn_base.proofs.Truth.{and_true as both_true}
 
 -- the piece of a label is its text
 pub label_is : (l : tree.Label) → label_text l ≡ piece_text (label_piece l)
@@ -31,7 +32,7 @@ label_is (tree.named name) = refl
 label_is (tree.integer z) = refl
 
 -- an atom that is no connector
-pub atom_is : (names : List tree.Name) (label : Label) (xs : List ℕ) → is_connector label (length xs) ≡ false → atom_of names label xs ≡ tree.atom_leaf (label_of names label) xs
+pub atom_is : (names : List tree.Name) (label : Label) (xs : List ℕ) → makes_connector label (length xs) ≡ false → atom_or_connector names label xs ≡ tree.atom_leaf (label_of names label) xs
 atom_is names (Name zero) [] e = refl
 atom_is names (Name zero) (x ∷ []) e = refl
 atom_is names (Name zero) (x ∷ y ∷ []) e = absurd (cc e)
@@ -47,12 +48,12 @@ two (x ∷ []) e = absurd (omega (arith, e))
 two (x ∷ y ∷ []) e = (x, y, refl)
 two (x ∷ y ∷ z ∷ xs) e = absurd (omega (arith, e))
 
-pub connector_is : (names : List tree.Name) (label : Label) (xs : List ℕ) → is_connector label (length xs) ≡ true
-    → (x : ℕ) × (y : ℕ) × (xs ≡ x ∷ y ∷ []) × (atom_of names label xs ≡ tree.connector_leaf x y)
+pub connector_is : (names : List tree.Name) (label : Label) (xs : List ℕ) → makes_connector label (length xs) ≡ true
+    → (x : ℕ) × (y : ℕ) × (xs ≡ x ∷ y ∷ []) × (atom_or_connector names label xs ≡ tree.connector_leaf x y)
 connector_is names (Name n) xs e =
     let b = both_true (n == 0) (length xs == 2) e in
     let t = two xs (tested (length xs) 2 b.1) in
-    (t.0, t.1, t.2, ap (λ k. atom_of names (Name k) xs) (tested n 0 b.0) ∙ ap (atom_of names (Name 0)) t.2)
+    (t.0, t.1, t.2, ap (λ k. atom_or_connector names (Name k) xs) (tested n 0 b.0) ∙ ap (atom_or_connector names (Name 0)) t.2)
 connector_is names (Int z) xs e = absurd (cc e)
 
 -- links in parentheses
@@ -72,7 +73,7 @@ links_text o os all e =
     sym (ap (λ t. 40 ∷ t) (text_append (with_commas ps) _ ∙ ap (λ t. t ++ (41 ∷ [])) (comma_row ps ∙ ap (in_row (codes ", ") false) (links_row xs ∙ occurrences_row (o ∷ os))))))
 
 -- contexts in parentheses
-contexts_row : (names : List tree.Name) (us : List CtxUse) → map text_of (map (λ m. context_piece m ∷ []) (names_of names us)) ≡ map (context_text names (codes "$")) us
+pub contexts_row : (names : List tree.Name) (us : List CtxUse) → map text_of (map (λ m. context_piece m ∷ []) (names_of names us)) ≡ map (context_text names (codes "$")) us
 contexts_row names [] = refl
 contexts_row names (u ∷ us) = ap (λ t. t ∷ map text_of (map (λ m. context_piece m ∷ []) (names_of names us))) (append-nil (36 ∷ name_of names u.name)) ∙ ap (λ ts. context_text names (codes "$") u ∷ ts) (contexts_row names us)
 
@@ -134,11 +135,11 @@ guard_all names [] h = absurd (omega (arith, h))
 guard_all names (c ∷ cs) h = guard_text names c cs (c ∷ cs) refl
 
 -- a connector and another atom by their parts
-pub connector_text : (names : List tree.Name) (label : Label) (os : List Occ) (d e : Occ) → is_connector label (length os) ≡ true
-    → link_name (get_or os 0 d).link ++ (codes " = " ++ link_name (get_or os 1 e).link) ≡ text_of (leaf_pieces (atom_of names label (link_numbers os)))
+pub connector_text : (names : List tree.Name) (label : Label) (os : List Occ) (d e : Occ) → makes_connector label (length os) ≡ true
+    → link_name (get_or os 0 d).link ++ (codes " = " ++ link_name (get_or os 1 e).link) ≡ text_of (leaf_pieces (atom_or_connector names label (link_numbers os)))
 connector_text names label os d e t =
     let s : length (link_numbers os) ≡ length os = length-map os (λ o. o.link) in
-    let r = connector_is names label (link_numbers os) (ap (is_connector label) s ∙ t) in
+    let r = connector_is names label (link_numbers os) (ap (makes_connector label) s ∙ t) in
     let both = links_two os r.0 r.1 r.2 in
     ap (λ z. link_name (get_or os 0 d).link ++ (codes " = " ++ z)) (sym (append-nil (link_name (get_or os 1 e).link)))
     ∙ ap (λ k. link_name k ++ (codes " = " ++ (link_name (get_or os 1 e).link ++ []))) both.0
@@ -150,12 +151,12 @@ connector_text names label os d e t =
     links_two (o ∷ []) a b w = absurd (let v : o.link ∷ [] ≡ a ∷ b ∷ [] = w in cc v)
     links_two (o ∷ p ∷ os) a b w = let v : o.link ∷ p.link ∷ link_numbers os ≡ a ∷ b ∷ [] = w in (cc v, cc v)
 
-pub atom_text_is : (names : List tree.Name) (label : Label) (os : List Occ) → is_connector label (length os) ≡ false
-    → label_text (label_of names label) ++ text_of (links_pieces (link_numbers os)) ≡ text_of (leaf_pieces (atom_of names label (link_numbers os)))
+pub atom_text_is : (names : List tree.Name) (label : Label) (os : List Occ) → makes_connector label (length os) ≡ false
+    → label_text (label_of names label) ++ text_of (links_pieces (link_numbers os)) ≡ text_of (leaf_pieces (atom_or_connector names label (link_numbers os)))
 atom_text_is names label os e =
     let s : length (link_numbers os) ≡ length os = length-map os (λ o. o.link) in
     ap (λ t. t ++ text_of (links_pieces (link_numbers os))) (label_is (label_of names label))
-    ∙ ap (λ z. text_of (leaf_pieces z)) (sym (atom_is names label (link_numbers os) (ap (is_connector label) s ∙ e)))
+    ∙ ap (λ z. text_of (leaf_pieces z)) (sym (atom_is names label (link_numbers os) (ap (makes_connector label) s ∙ e)))
 
 -- a typed context
 pub typed_text : (names : List tree.Name) (leaf : Leaf) (n : ℕ) (o : Occ) (pos : Pos) → leaf ≡ Typed n o pos

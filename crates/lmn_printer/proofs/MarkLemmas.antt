@@ -4,13 +4,14 @@ use Rattle.std.proofs.lemmas.Bool.{cases_eq}
 use Rattle.std.proofs.lemmas.List.{get_or-set_same, get_or-set_other}
 use Rattle.std.specs.Option.{option_map}
 use Rattle.std.specs.Prelude.{slice_index_or, slice_set}
-use Rattle.lmn_heap.specs.Heap.{Heap, HeapAtom, IsAtom, alter, with_mark, marked, links_of, marks_of, arity_of, link_of, mark_of, home_of, functor_of, atoms_in}
-use Rattle.lmn_heap.specs.Solid.{IsNaming, atom_of, atoms_of}
+use Rattle.lmn_heap.specs.Heap.{Heap, HeapAtom, IsAtom, alter, with_mark, marked, partners_of, marks_of, arity_of, link_of, mark_of, home_of, functor_of, atoms_in}
+use Rattle.lmn_heap.specs.Solid.{IsNaming, solid_atom_at, solid_atoms_at}
 use Rattle.lmn_heap.specs.Sound.{Forest, IsTree}
 use Rattle.lmn_heap.proofs.Groves.{forms_frame}
 use Rattle.lmn_heap.proofs.Listing.{alter_at, alter_away}
 use Rattle.lmn_heap.proofs.Ports.{SamePort, same_port}
 use Rattle.lmn_printer.specs.Numbers.{printed_atoms, with_marks, remarked, Remarks}
+use Rattle.lmn_heap.proofs.Common.{same_atoms}
 
 -- the marks after one was set
 
@@ -58,10 +59,7 @@ marks_length s a i v c = elim (cases_eq c a) [
 
 -- Other marks, as a whole.
 
-pub same_atoms : (s : Heap) (f g : ℕ → Option HeapAtom) → ((a : ℕ) → f a ≡ g a) → record s { atoms = f } ≡ record s { atoms = g }
-same_atoms s f g h = ap (λ (k : ℕ → Option HeapAtom). let t : Heap = record s { atoms = k } in t) (λ i a. h a i)
-
-own_marks : (o : Option HeapAtom) → option_map (with_marks (marks_of o)) o ≡ o
+pub own_marks : (o : Option HeapAtom) → option_map (with_marks (marks_of o)) o ≡ o
 own_marks None = refl
 own_marks (Some x) = refl
 
@@ -75,7 +73,7 @@ remarked_twice s u v = same_atoms s _ _ (λ a. by (s.atoms a) (u a) (v a))
     by None xs ys = refl
     by (Some x) xs ys = refl
 
-marked_is : (s : Heap) (a i v : ℕ) → marked s a i v ≡ remarked s (λ b. marks_of ((marked s a i v).atoms b))
+pub marked_is : (s : Heap) (a i v : ℕ) → marked s a i v ≡ remarked s (λ b. marks_of ((marked s a i v).atoms b))
 marked_is s a i v = same_atoms s _ _ (λ c. elim (cases_eq c a) [
   | inl e ↦ subst (λ z. alter s.atoms a (option_map (with_mark i v)) z ≡ option_map (with_marks (marks_of (alter s.atoms a (option_map (with_mark i v)) z))) (s.atoms z)) (sym e)
       (subst (λ w. w ≡ option_map (with_marks (marks_of w)) (s.atoms a)) (sym (alter_at s.atoms a (option_map (with_mark i v)))) (by (s.atoms a)))
@@ -87,7 +85,7 @@ marked_is s a i v = same_atoms s _ _ (λ c. elim (cases_eq c a) [
     by (Some x) = refl
 
 -- what doesn't look at marks is as before
-view_is : {X : Type 0} (view : Option HeapAtom → X) → ((x : HeapAtom) (ms : List ℕ) → view (Some (with_marks ms x)) ≡ view (Some x)) → (s : Heap) (v : ℕ → List ℕ) (a : ℕ) → view ((remarked s v).atoms a) ≡ view (s.atoms a)
+pub view_is : {X : Type 0} (view : Option HeapAtom → X) → ((x : HeapAtom) (ms : List ℕ) → view (Some (with_marks ms x)) ≡ view (Some x)) → (s : Heap) (v : ℕ → List ℕ) (a : ℕ) → view ((remarked s v).atoms a) ≡ view (s.atoms a)
 view_is view h s v a = by (s.atoms a)
   where
     by : (o : Option HeapAtom) → view (option_map (with_marks (v a)) o) ≡ view o
@@ -99,10 +97,10 @@ view_same view h s t r a = ap (λ (k : Heap). view (k.atoms a)) r.is ∙ view_is
 
 module _ (s t : Heap) (r : Remarks s t) where
   pub arity_same : (a : ℕ) → arity_of t a ≡ arity_of s a
-  arity_same a = view_same (λ o. length (links_of o)) (λ x ms. refl) s t r a
+  arity_same a = view_same (λ o. length (partners_of o)) (λ x ms. refl) s t r a
 
   pub link_same : (a i : ℕ) → link_of t a i ≡ link_of s a i
-  link_same a i = view_same (λ o. slice_index_or (links_of o) i None) (λ x ms. refl) s t r a
+  link_same a i = view_same (λ o. slice_index_or (partners_of o) i None) (λ x ms. refl) s t r a
 
   pub home_same : (a : ℕ) → home_of t a ≡ home_of s a
   home_same a = view_same (λ o. home_of (record s { atoms = λ b. o }) a) (λ x ms. refl) s t r a
@@ -124,9 +122,6 @@ module _ (s t : Heap) (r : Remarks s t) where
       by None i = absurd (cc i)
       by (Some x) i = refl
 
-  mems_same : (m : ℕ) → t.mems m ≡ s.mems m
-  mems_same m = ap (λ (k : Heap). k.mems m) r.is
-
   pub naming_same : (name : ℕ → ℕ → ℕ) → IsNaming s name → IsNaming t name
   naming_same name n = record {
     joined = λ a i b j e. n.joined a i b j (sym (link_same a i) ∙ e);
@@ -144,9 +139,9 @@ module _ (s t : Heap) (r : Remarks s t) where
   printed_same [] = refl
   printed_same (m ∷ ms) = ap (λ xs. xs ++ printed_atoms t ms) (ap (λ (k : Heap). atoms_in k m) r.is) ∙ ap (λ xs. atoms_in s m ++ xs) (printed_same ms)
 
-  pub atoms_same : (name : ℕ → ℕ → ℕ) (xs : List ℕ) → atoms_of s name xs ≡ atoms_of t name xs
+  pub atoms_same : (name : ℕ → ℕ → ℕ) (xs : List ℕ) → solid_atoms_at s name xs ≡ solid_atoms_at t name xs
   atoms_same name [] = refl
-  atoms_same name (a ∷ xs) = ap (λ ys. ys ++ atoms_of s name xs) (sym (view_same (atom_of name a) (λ x ms. refl) s t r a)) ∙ ap (λ ys. atom_of name a (t.atoms a) ++ ys) (atoms_same name xs)
+  atoms_same name (a ∷ xs) = ap (λ ys. ys ++ solid_atoms_at s name xs) (sym (view_same (solid_atom_at name a) (λ x ms. refl) s t r a)) ∙ ap (λ ys. solid_atom_at name a (t.atoms a) ++ ys) (atoms_same name xs)
 
 -- nothing is changed, more is changed
 pub remarks_none : (s : Heap) → Remarks s s

@@ -2,9 +2,9 @@
 use Rattle.std.proofs.Common.{◌≡◌, ℕ, zero, suc, ◌+◌, ◌<◌, ◌⊎◌, inl, inr, [], ◌∷◌, length, Option, None, refl, sym, subst, arith}
 use Rattle.std.proofs.lemmas.Bool.{cases_eq}
 use Rattle.std.specs.Prelude.{slice_index_or}
-use Rattle.lmn_heap.specs.Heap.{HeapAtom, links_of, marks_of}
-use Rattle.lmn_heap.proofs.ListLemmas.{apart_test}
+use Rattle.lmn_heap.specs.Heap.{HeapAtom, partners_of, marks_of}
 use Rattle.lmn_printer.specs.NumberExamples.{wholly_told, BothPortsTell, OnePortTellsNothing}
+use Rattle.lmn_base.proofs.Numbers.{not_equal as apart_test}
 
 atom_cases : (x : ℕ) → (x ≡ 0) ⊎ ((x ≡ 1) ⊎ (wholly_told.atoms x ≡ None))
 atom_cases x = elim (cases_eq x 0) [
@@ -24,7 +24,7 @@ one_mark (suc i) l = absurd (omega (arith, l))
 
 pub both_ports_tell : BothPortsTell
 both_ports_tell a i l =
-    each_atom (λ o. i < length (links_of o) → slice_index_or (marks_of o) i 0 ≡ 1) (one_mark i) (one_mark i) (λ k. absurd (let z : i < 0 = k in omega (arith, z))) a l
+    each_atom (λ o. i < length (partners_of o) → slice_index_or (marks_of o) i 0 ≡ 1) (one_mark i) (one_mark i) (λ k. absurd (let z : i < 0 = k in omega (arith, z))) a l
 
 pub one_port_tells_nothing : OnePortTellsNothing
 one_port_tells_nothing name told = let e : ◌≡◌ {A = ℕ} 0 (name 1 0 + 1) = told 1 0 (omega arith) in absurd (omega (arith, e))

@@ -4,12 +4,13 @@ use Rattle.std.specs.Prelude.{nat_lt}
 use Rattle.std.proofs.lemmas.Bool.Decides.{nat_tests}
 use Rattle.std.proofs.lemmas.List.{append_assoc}
 use Rattle.lmn_base.specs.Links.{Numbers, known, new}
-use Rattle.lmn_heap.specs.Heap.{Heap, IsAtom, marked, links_of, marks_of, arity_of, link_of, mark_of}
+use Rattle.lmn_heap.specs.Heap.{Heap, IsAtom, marked, partners_of, marks_of, arity_of, link_of, mark_of}
 use Rattle.lmn_heap.specs.Solid.{IsNaming}
 use Rattle.lmn_heap.specs.Sound.{Sound}
 use Rattle.lmn_heap.proofs.Ports.{SamePort, same_port}
 use Rattle.lmn_printer.specs.Numbers.{Remarks, mark_when, TellsFirst, GoOn}
 use Rattle.lmn_printer.proofs.MarkLemmas.{arity_same, mark_at, mark_off, marks_length, naming_same, remarks_more, remarks_mark}
+use Rattle.lmn_heap.proofs.Common.{same_port as same_ports}
 
 -- the mark for a link by its number
 
@@ -57,20 +58,12 @@ go_known s a i n l p = λ name naming left all nums told. (
   told,
 )
 
--- the parts of a port
-pub same_ports : (b j c k : ℕ) → ◌≡◌ {A = Option (ℕ × ℕ)} (Some (b, j)) (Some (c, k)) → (b ≡ c) × (j ≡ k)
-same_ports b j c k e = (ap (λ o. (or_port o).0) e, ap (λ o. (or_port o).1) e)
-  where
-    or_port : Option (ℕ × ℕ) → ℕ × ℕ
-    or_port None = (0, 0)
-    or_port (Some p) = p
-
 -- a port is joined to another, or it is not
 pub joined_or_not : (o : Option (ℕ × ℕ)) (c k : ℕ) → (o ≡ Some (c, k)) ⊎ (o ≡ Some (c, k) → ⊥)
 joined_or_not None c k = inr (λ e. absurd (cc e))
 joined_or_not (Some p) c k = elim (same_port p.0 p.1 c k) [
   | inl f ↦ inl (λ z. Some (f.0 z, f.1 z))
-  | inr d ↦ inr (λ e. d (same_ports p.0 p.1 c k e))
+  | inr d ↦ inr (λ e. d (same_ports e))
 ]
 
 mark_second : (s : Heap) (a i v b j : ℕ) → j < length (marks_of (s.atoms b)) → mark_of (marked (marked s a i v) b j v) b j ≡ v
@@ -84,7 +77,7 @@ module _ (s : Heap) (sound : Sound s) (a i n : ℕ) (l : i < arity_of s a) (z : 
       there : (b j : ℕ) → j < arity_of s b → IsAtom s b
       there b j k = by (s.atoms b) k
         where
-          by : (o : Option _) → j < length (links_of o) → IsSome o
+          by : (o : Option _) → j < length (partners_of o) → IsSome o
           by None k = absurd (omega (arith, k))
           by (Some x) k = refl
 
@@ -141,6 +134,6 @@ module _ (s : Heap) (sound : Sound s) (a i n : ℕ) (l : i < arity_of s a) (z : 
         | inr d ↦ mark_off v a i (n + 1) b j d ∙ mark_at s b j (n + 1) (omega (arith, k, length_b))
       ] in
       let g = told_next w (Some (b, j)) link r here
-      (λ c m p. let q : (b ≡ c) × (j ≡ m) = same_ports b j c m p in ap (λ x. mark_of w x m) (sym q.0) ∙ ap (mark_of w b) (sym q.1) ∙ there)
+      (λ c m p. let q : (b ≡ c) × (j ≡ m) = same_ports p in ap (λ x. mark_of w x m) (sym q.0) ∙ ap (mark_of w b) (sym q.1) ∙ there)
       (λ c m d p. mark_off v a i (n + 1) c m d ∙ mark_off s b j (n + 1) c m (λ q. p (λ z. Some (sym q.0 z, sym q.1 z)))) in
       subst (λ (h : Heap). Remarks s h × GoOn s h n (n + 1) (λ name. name a i ∷ [])) (sym (f ∙ ap (λ (h : Heap). marked h a i (n + 1)) e)) (r, g)

@@ -5,18 +5,19 @@ use Rattle.std.proofs.lemmas.List.{append_assoc, append-nil}
 use Rattle.lmn_base.specs.Links.{Numbers}
 use Rattle.lmn_base.specs.Solids as solids
 use Rattle.lmn_base.specs.declared.solid.Solid.{Solid}
-use Rattle.lmn_heap.specs.Heap.{Heap, HeapAtom, IsAtom, IsInPlace, links_of, arity_of, home_of}
+use Rattle.lmn_heap.specs.Heap.{Heap, IsInPlace, arity_of, PortsUnmarked}
 use Rattle.lmn_heap.specs.Lists.{from, after}
-use Rattle.lmn_heap.specs.Solid.{SolidOf, numbered}
+use Rattle.lmn_heap.specs.Solid.{HasSolid, links_from}
 use Rattle.lmn_heap.specs.Sound.{Forest, flat, IsTree, Sound, AtMost, Valid}
 use Rattle.lmn_heap.specs.Trees.{tree_of}
-use Rattle.lmn_printer.specs.Numbers.{printed_atoms, Remarks, Unmarked, TellsFirst, GoOn, links_at, links_on}
+use Rattle.lmn_printer.specs.Numbers.{printed_atoms, Remarks, TellsFirst, GoOn, links_at_ports, links_on}
 use Rattle.lmn_printer.specs.Stored.{TellsNumbers}
 use Rattle.lmn_printer.proofs.MarkLemmas.{arity_same, home_same, printed_same, tree_same, remarks_more}
 use Rattle.lmn_printer.proofs.NumberLemmas.{mark_low, mark_high, go_none, go_more, go_as}
-use Rattle.lmn_printer.proofs.OrderLemmas.{printed_all, printed_few, some_of, tree_there}
-use Rattle.lmn_printer.proofs.StoredLemmas.{atoms_fewer, atom_at_home}
+use Rattle.lmn_printer.proofs.OrderLemmas.{printed_all, printed_few, tree_there}
+use Rattle.lmn_printer.proofs.StoredLemmas.{atoms_fewer}
 use Rattle.lmn_printer.proofs.SolidLinks.{links_append, solid_links, in_links, numbers_below, numbers_end}
+use Rattle.lmn_heap.proofs.Common.{is_atom_at as port_there}
 
 -- what comes behind an atom in printed order came there before
 pub behind_before : (s t : Heap) → Remarks s t → (f : Forest) (a : ℕ) (next : Option ℕ) → from next (printed_atoms t (flat f)) ≡ after a (printed_atoms t (flat f))
@@ -45,22 +46,22 @@ few_more : (n m k j : ℕ) → n + 255 * k ≤ 255 * 2 ^ 48 → k ≡ suc j → 
 few_more n m k j h e l = omega (arith, h, e, l)
 
 -- one atom more
-pub numbering_more : (s t u : Heap) (n m a : ℕ) (next : Option ℕ) (f : Forest) → Remarks s t → Remarks t u → Numbering s t n (Some a) f → GoOn t u n m (links_at t a) → m ≤ n + 255
+pub numbering_more : (s t u : Heap) (n m a : ℕ) (next : Option ℕ) (f : Forest) → Remarks s t → Remarks t u → Numbering s t n (Some a) f → GoOn t u n m (links_at_ports t a) → m ≤ n + 255
     → from next (printed_atoms u (flat f)) ≡ after a (printed_atoms u (flat f)) → Numbering s u m next f
 numbering_more s t u n m a next f r q b g l e = record {
   done = b.done ++ (a ∷ []);
   split = b.split ∙ sym (append_assoc b.done (a ∷ []) (after a (printed_atoms s (flat f)))) ∙ ap (λ xs. (b.done ++ (a ∷ [])) ++ xs) (sym behind);
-  numbers = go_as s u 0 m (λ name. links_on s b.done name ++ links_at t a name) (links_on s (b.done ++ (a ∷ []))) same (go_more s t u 0 n m (links_on s b.done) (links_at t a) r b.numbers g);
+  numbers = go_as s u 0 m (λ name. links_on s b.done name ++ links_at_ports t a name) (links_on s (b.done ++ (a ∷ []))) same (go_more s t u 0 n m (links_on s b.done) (links_at_ports t a) r b.numbers g);
   few = few_more n m (suc (length (after a (printed_atoms s (flat f))))) (length (from next (printed_atoms s (flat f)))) b.few (ap (λ xs. suc (length xs)) (sym behind)) l;
 }
   where
     behind : from next (printed_atoms s (flat f)) ≡ after a (printed_atoms s (flat f))
     behind = behind_before s u (remarks_more s t u r q) f a next e
 
-    here : (name : ℕ → ℕ → ℕ) → links_at t a name ≡ links_on s (a ∷ []) name
-    here name = ap (λ k. numbered name a 0 k) (arity_same s t r a) ∙ sym (append-nil (links_at s a name))
+    here : (name : ℕ → ℕ → ℕ) → links_at_ports t a name ≡ links_on s (a ∷ []) name
+    here name = ap (λ k. links_from name a 0 k) (arity_same s t r a) ∙ sym (append-nil (links_at_ports s a name))
 
-    same : (name : ℕ → ℕ → ℕ) → links_on s b.done name ++ links_at t a name ≡ links_on s (b.done ++ (a ∷ [])) name
+    same : (name : ℕ → ℕ → ℕ) → links_on s b.done name ++ links_at_ports t a name ≡ links_on s (b.done ++ (a ∷ [])) name
     same name = ap (λ xs. links_on s b.done name ++ xs) (here name) ∙ sym (links_append s name b.done (a ∷ []))
 
 -- there is room for the numbers of one atom more
@@ -70,16 +71,8 @@ numbering_room s t n a f b = room n (length (after a (printed_atoms s (flat f)))
     room : (n k : ℕ) → n + 255 * suc k ≤ 255 * 2 ^ 48 → n + 255 < 2 ^ 64
     room n k h = omega (arith, h)
 
--- a port is one of an atom
-pub port_there : (s : Heap) (a i : ℕ) → i < arity_of s a → IsAtom s a
-port_there s a i l = by (s.atoms a) l
-  where
-    by : (o : Option HeapAtom) → i < length (links_of o) → IsSome o
-    by None l = absurd (omega (arith, l))
-    by (Some x) l = refl
-
 -- all atoms are done: the marks tell the numbers of the solid's links
-pub numbering_last : (s t : Heap) → Valid s → Remarks s t → (n : ℕ) → ((f : Forest) → IsTree s f → Numbering s t n None f) → Unmarked s → (x : Solid) (of : SolidOf s x) → TellsNumbers t of.name
+pub numbering_last : (s t : Heap) → Valid s → Remarks s t → (n : ℕ) → ((f : Forest) → IsTree s f → Numbering s t n None f) → PortsUnmarked s → (x : Solid) (of : HasSolid s x) → TellsNumbers t of.name
 numbering_last s t valid r n all unmarked x of = λ a i l.
     let low : i < arity_of s a = subst (λ k. i < k) (arity_same s t r a) l in
     let whole = printed_atoms s (flat of.forest) in
@@ -87,7 +80,7 @@ numbering_last s t valid r n all unmarked x of = λ a i l.
     let below : of.name a i < of.count = numbers_below 0 of.count (links_on s whole of.name) (of.name a i) (subst (λ ls. Numbers 0 ls of.count) links of.numbers) there in
     ended.1 a i l ∙ mark_low n (of.name a i) (subst (λ k. of.name a i < k) (sym (numbers_end n of.count ended.0)) below)
   where
-    links : solids.links_of x.root ≡ links_on s (printed_atoms s (flat of.forest)) of.name
+    links : solids.links_of_region x.root ≡ links_on s (printed_atoms s (flat of.forest)) of.name
     links = solid_links s valid.sound of.name of.forest x.root of.root
 
     last : Numbering s t n None of.forest
@@ -110,10 +103,6 @@ next_place id s t r (Some a) h = subst IsSome (home_same s t r (id a)) h
 
 pub place_before : (s t : Heap) → Remarks s t → (a : ℕ) → IsInPlace s a → IsInPlace t a
 place_before s t r a h = subst IsSome (sym (home_same s t r a)) h
-
--- an atom in place is one
-pub place_atom : (s : Heap) (a : ℕ) → IsInPlace s a → IsAtom s a
-place_atom s a h = let m = some_of (home_of s a) h in atom_at_home s a m.0 m.1
 
 -- fewer atoms are to come behind one
 pub numbers_fewer : {A : Type 0} (id : A → ℕ) (s t : Heap) → Sound s → AtMost (2 ^ 48) s → Remarks s t → (f : Forest) → IsTree s f → (a : A) (now next : Option A) → now ≡ Some a

@@ -1,18 +1,19 @@
 -- The next membrane in preorder, and the next atom in printed order.
-use Rattle.std.proofs.Common.{◌≡◌, ◌≢◌, ℕ, suc, ◌-◌, ◌<◌, ◌≤◌, ◌^◌, inl, inr, List, [], ◌∷◌, ◌++◌, length, Option, Some, None, IsSome, IfSome, refl, sym, ap, ◌∙◌, subst, arith}
+use Rattle.std.proofs.Common.{◌≡◌, ◌≢◌, ℕ, suc, ◌-◌, ◌<◌, ◌≤◌, ◌^◌, inl, inr, List, [], ◌∷◌, ◌++◌, length, Option, Some, None, IsSome, refl, sym, ap, ◌∙◌, subst, arith}
 use Rattle.std.specs.Option.{option_map}
 use Rattle.std.proofs.lemmas.List.{append_assoc}
-use Rattle.lmn_heap.specs.Heap.{Heap, HeapAtom, HeapMem, within, IsAtom, IsMem, atoms_in, atoms_by, home_of, parent_of, place_of}
+use Rattle.lmn_heap.specs.Heap.{Heap, HeapAtom, within, IsAtom, IsMem, atoms_in, home_of, parent_of, place_of}
 use Rattle.lmn_heap.specs.Lists.{In, Distinct, from, after}
 use Rattle.lmn_heap.specs.Sound.{Forest, flat, IsTree, Sound, AtMost, Valid}
 use Rattle.lmn_heap.specs.Trees.{tree_of}
 use Rattle.lmn_heap.proofs.Depths.{both_distinct, tree_is}
-use Rattle.lmn_heap.proofs.Heights.{parent_place, mem_of_list, has_parent}
+use Rattle.lmn_heap.proofs.Heights.{parent_place, mem_of_list}
 use Rattle.lmn_heap.proofs.ListLemmas.{each_in, in_left, in_right, in_split}
 use Rattle.lmn_heap.proofs.Listing.{home_is}
 use Rattle.lmn_heap.proofs.Pigeonholes.{not_longer}
 use Rattle.lmn_heap.proofs.Trees.{Left, lower, root_first, after_split, from_next, in_either}
 use Rattle.lmn_printer.specs.Numbers.{printed_atoms}
+use Rattle.lmn_heap.proofs.Common.{holds_mem as mem_with_atom}
 
 -- the membrane round one is there
 pub parent_there : (s : Heap) → Sound s → (m p : ℕ) → parent_of s m ≡ Some p → IsMem s p
@@ -34,7 +35,7 @@ nearer m n xs h = let e : suc (length (after n xs)) ≡ length (after m xs) = ap
 -- The atoms in printed order.
 
 -- an atom of some membranes is in one of them
-printed_in : (s : Heap) (ms : List ℕ) (a : ℕ) → In a (printed_atoms s ms) → (m : ℕ) × In m ms × In a (atoms_in s m)
+pub printed_in : (s : Heap) (ms : List ℕ) (a : ℕ) → In a (printed_atoms s ms) → (m : ℕ) × In m ms × In a (atoms_in s m)
 printed_in s [] a i = absurd i
 printed_in s (m ∷ ms) a i = elim (in_either a (atoms_in s m) (printed_atoms s ms) i) [
   | inl j ↦ (m, inl refl, j)
@@ -61,10 +62,6 @@ printed_once s sound (m ∷ ms) d =
 pub printed_append : (s : Heap) (xs ys : List ℕ) → printed_atoms s (xs ++ ys) ≡ printed_atoms s xs ++ printed_atoms s ys
 printed_append s [] ys = refl
 printed_append s (x ∷ xs) ys = ap (λ zs. atoms_in s x ++ zs) (printed_append s xs ys) ∙ sym (append_assoc (atoms_in s x) (printed_atoms s xs) (printed_atoms s ys))
-
-mem_with_atom : (o : Option HeapMem) (a : ℕ) → In a (atoms_by o) → IsSome o
-mem_with_atom None a i = absurd i
-mem_with_atom (Some x) a i = refl
 
 -- an atom with a home stands in its list, and the home in the tree
 pub at_home : (s : Heap) → Sound s → (a m : ℕ) → home_of s a ≡ Some m → In a (atoms_in s m) × IsMem s m
@@ -137,7 +134,3 @@ pub first_all : (s : Heap) (f : Forest) → IsTree s f → (m : ℕ) (o : Option
 first_all s f t m o e h =
     let all : from (Some m) (flat f) ≡ flat f = ap (λ n. from (Some n) (flat f)) e ∙ (root_first s f t).1 in
     subst (λ ms. from o (printed_atoms s ms) ≡ printed_atoms s ms) all h
-
-pub some_of : (o : Option ℕ) → IsSome o → (m : ℕ) × (o ≡ Some m)
-some_of None e = absurd (cc e)
-some_of (Some m) e = (m, refl)

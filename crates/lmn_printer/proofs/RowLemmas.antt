@@ -2,9 +2,9 @@
 use Rattle.std.proofs.Common.{◌≡◌, ℕ, ◌+◌, ◌<◌, ◌≤◌, Bool, true, false, List, [], ◌∷◌, ◌++◌, map, take, length, get_or, refl, sym, ap, ◌∙◌}
 use Rattle.std.specs.Prelude.{codes}
 use Rattle.std.proofs.lemmas.List.{take_more, take_all, map-append, append-nil, append_assoc}
-use Rattle.lmn_io.specs.Gathering.{Output, Adds}
+use Rattle.lmn_io.specs.Gathering.{SinkState, Adds}
 use Rattle.lmn_io.proofs.TakingLemmas.{adds_as, adds_more, adds_nothing}
-use Rattle.lmn_plain.specs.Words.{Piece, word, space, text_of, with_commas}
+use Rattle.lmn_plain.specs.Words.{Piece, text_of, with_commas}
 use Rattle.lmn_printer.specs.Rows.{between_if, in_row, any_behind}
 use Rattle.lmn_plain.proofs.LaidLines.{text_append}
 
@@ -31,15 +31,15 @@ any_more any [] x = refl
 any_more any (y ∷ xs) x = refl
 
 -- The first i items of a list were added behind others, and `now` says whether an item stands.
-abbrev pub InRow : {X : Type 0} → List ℕ → Bool → (X → List ℕ) → List X → ℕ → Bool → Output → Output → Type 0
+abbrev pub InRow : {X : Type 0} → List ℕ → Bool → (X → List ℕ) → List X → ℕ → Bool → SinkState → SinkState → Type 0
 InRow s any f xs i now before after = Adds (in_row s any (map f (take i xs))) before after × (now ≡ any_behind any (take i xs))
 
 -- at first none
-pub row_first : {X : Type 0} (s : List ℕ) (any : Bool) (f : X → List ℕ) (xs : List X) (o : Output) → InRow s any f xs 0 any o o
+pub row_first : {X : Type 0} (s : List ℕ) (any : Bool) (f : X → List ℕ) (xs : List X) (o : SinkState) → InRow s any f xs 0 any o o
 row_first s any f xs o = (adds_nothing o, refl)
 
 -- then one more
-pub row_next : {X : Type 0} (s : List ℕ) (any : Bool) (f : X → List ℕ) (xs : List X) (i : ℕ) (x d : X) (now : Bool) (before mid between after : Output)
+pub row_next : {X : Type 0} (s : List ℕ) (any : Bool) (f : X → List ℕ) (xs : List X) (i : ℕ) (x d : X) (now : Bool) (before mid between after : SinkState)
     → i < length xs → x ≡ get_or xs i d → InRow s any f xs i now before mid → Adds (between_if s now) mid between → Adds (f x) between after
     → InRow s any f xs (i + 1) true before after
 row_next s any f xs i x d now before mid between after within is row first then' =
@@ -57,13 +57,13 @@ row_next s any f xs i x d now before mid between after within is row first then'
     )
 
 -- the same where the item is read from the list
-pub row_at : {X : Type 0} (s : List ℕ) (any : Bool) (f : X → List ℕ) (xs : List X) (i : ℕ) (d : X) (now : Bool) (before mid between after : Output)
+pub row_at : {X : Type 0} (s : List ℕ) (any : Bool) (f : X → List ℕ) (xs : List X) (i : ℕ) (d : X) (now : Bool) (before mid between after : SinkState)
     → i < length xs → InRow s any f xs i now before mid → Adds (between_if s now) mid between → Adds (f (get_or xs i d)) between after
     → InRow s any f xs (i + 1) true before after
 row_at s any f xs i d now before mid between after within row first then' = row_next s any f xs i (get_or xs i d) d now before mid between after within refl row first then'
 
 -- at last all
-pub row_all : {X : Type 0} (s : List ℕ) (any : Bool) (f : X → List ℕ) (xs : List X) (i : ℕ) (now : Bool) (before after : Output)
+pub row_all : {X : Type 0} (s : List ℕ) (any : Bool) (f : X → List ℕ) (xs : List X) (i : ℕ) (now : Bool) (before after : SinkState)
     → length xs ≤ i → InRow s any f xs i now before after → Adds (in_row s any (map f xs)) before after × (now ≡ any_behind any xs)
 row_all s any f xs i now before after end row =
     let whole = take_all i xs end in

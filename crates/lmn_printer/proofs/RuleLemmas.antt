@@ -1,28 +1,25 @@
 -- Levels and rules, part by part.
-use Rattle.std.proofs.Common.{◌≡◌, ℕ, zero, suc, ◌+◌, ◌-◌, ◌<◌, ◌≤◌, Bool, false, List, [], ◌∷◌, ◌++◌, map, drop, length, get_or, slice_get, Some, refl, sym, ap, ◌∙◌, subst, arith}
+use Rattle.std.proofs.Common.{◌≡◌, ℕ, zero, suc, ◌+◌, ◌-◌, ◌<◌, Bool, false, List, [], ◌∷◌, ◌++◌, map, drop, length, get_or, slice_get, Some, refl, sym, ap, ◌∙◌, subst, arith}
 use Rattle.std.specs.Prelude.{None, codes, slice_index_or}
-use Rattle.std.specs.List.{sum}
-use Rattle.std.proofs.lemmas.List.Sums.{get_or-le-sum_by}
-use Rattle.std.proofs.lemmas.List.{map-append, append-nil, get_or-map, length-map}
+use Rattle.std.proofs.lemmas.List.{map-append, append-nil}
 use Rattle.lmn_base.specs.declared.guard.Cond.{Cond}
 use Rattle.lmn_base.specs.declared.level.CtxUse.{CtxUse}
 use Rattle.lmn_base.specs.declared.level.Leaf.{Leaf}
 use Rattle.lmn_base.specs.declared.level.Level.{Level, out-Level}
-use Rattle.lmn_base.specs.declared.level.Level.TheFolds.{fold-Level, fold_out-Level}
+use Rattle.lmn_base.specs.declared.level.Level.TheFolds.{fold_out-Level}
 use Rattle.lmn_base.specs.declared.rule.RuleTree.{RuleTree}
 use Rattle.lmn_congruence.specs.Rules as tree
-use Rattle.lmn_congruence.specs.Translation.{name_of, names_of, leaf_of, levels, rules, level_of, level_step, condition_of, rules_from, rule_tree, numbered_rule, no_such_rule}
-use Rattle.lmn_io.specs.Gathering.{Output, Adds}
+use Rattle.lmn_congruence.specs.Translation.{name_of, names_of, leaf_of, levels, rules, level_of, level_step, condition_of, rules_from, rule_tree, no_such_rule}
+use Rattle.lmn_io.specs.Gathering.{SinkState, Adds}
 use Rattle.lmn_io.proofs.TakingLemmas.{adds_as, adds_more}
 use Rattle.lmn_plain.specs.Words.{Piece, text_of, with_commas, context_piece, rule_context_piece, leaf_pieces, level_pieces, levels_pieces, rule_pieces, rules_pieces, guard_pieces}
 use Rattle.lmn_printer.specs.Parts.{context_text, leaf_text, rule_from, level_in, rule_text}
 use Rattle.lmn_printer.specs.Rows.{in_row, any_behind}
 use Rattle.lmn_printer.proofs.RowLemmas.{row_append, any_map, comma_row}
 use Rattle.lmn_plain.proofs.LaidLines.{text_append}
-
-map_map : {A B C : Type 0} (g : B → C) (f : A → B) (xs : List A) → map g (map f xs) ≡ map (λ x. g (f x)) xs
-map_map g f [] = refl
-map_map g f (x ∷ xs) = ap (λ ys. g (f x) ∷ ys) (map_map g f xs)
+use Rattle.lmn_base.proofs.Common.{levels_in, membrane_smaller}
+use Rattle.lmn_base.proofs.Lists.{map_twice as map_map}
+use Rattle.lmn_printer.proofs.LeafLemmas.{contexts_row as contexts_text}
 
 -- a membrane in braces
 abbrev pub membrane_text : tree.Level → List ℕ
@@ -35,10 +32,6 @@ membranes_text (l ∷ ls) = ap (λ t. (123 ∷ t) ∷ map text_of (levels_pieces
 rules_text : (rs : List tree.Rule) → map text_of (rules_pieces (rules rs)) ≡ map (λ r. text_of (rule_pieces r)) rs
 rules_text [] = refl
 rules_text (r ∷ rs) = ap (λ ts. text_of (rule_pieces r) ∷ ts) (rules_text rs)
-
-contexts_text : (names : List tree.Name) (us : List CtxUse) → map text_of (map (λ n. context_piece n ∷ []) (names_of names us)) ≡ map (context_text names (codes "$")) us
-contexts_text names [] = refl
-contexts_text names (u ∷ us) = ap (λ t. t ∷ map text_of (map (λ n. context_piece n ∷ []) (names_of names us))) (append-nil (36 ∷ name_of names u.name)) ∙ ap (λ ts. context_text names (codes "$") u ∷ ts) (contexts_text names us)
 
 rule_contexts_text : (names : List tree.Name) (us : List CtxUse) → map text_of (map (λ n. rule_context_piece n ∷ []) (names_of names us)) ≡ map (context_text names (codes "@")) us
 rule_contexts_text names [] = refl
@@ -173,24 +166,12 @@ rule_line head guard body =
 
 -- Measures: a level is as heavy as the levels in it, and rules as the levels of their heads and bodies.
 
-abbrev pub levels_in : Level → ℕ
-levels_in = fold-Level ℕ (λ l. suc (sum l.membranes))
-
 abbrev pub levels_of_rules : List RuleTree → ℕ
 levels_of_rules [] = 0
 levels_of_rules (r ∷ rs) = suc (levels_in r.head + levels_in r.body + levels_of_rules rs)
 
 abbrev pub levels_behind : ℕ → List RuleTree → ℕ
 levels_behind first table = levels_of_rules (drop first table)
-
-membrane_smaller : (l : Level) (x : Level) (i : ℕ) → i < length (out-Level l).membranes → levels_in (get_or (out-Level l).membranes i x) < levels_in l
-membrane_smaller l x i h =
-    let ms = (out-Level l).membranes in
-    let all : levels_in l ≡ suc (sum (map levels_in ms)) = fold_out-Level ℕ (λ l. suc (sum l.membranes)) l in
-    let size = length-map ms levels_in in
-    let some : get_or (map levels_in ms) i 0 ≤ sum (map levels_in ms) = get_or-le-sum_by (λ (n : ℕ). n) (map levels_in ms) i 0 (omega (arith, h, size)) in
-    let one : get_or (map levels_in ms) i 0 ≡ levels_in (get_or ms i x) = get_or-map levels_in ms i x 0 h in
-    omega (arith, all, some, one)
 
 -- a membrane has fewer levels than the level round it
 pub membrane_below : (l : Level) (i : ℕ) (xs : List Level) (x : Level) → i < length xs → x ≡ get_or xs i x → xs ≡ (out-Level l).membranes → levels_in x < levels_in l
@@ -222,7 +203,7 @@ swap : (f : List (List ℕ) → List ℕ) (g : Bool → List (List ℕ) → List
     → f a ++ (g m b ++ (g n c ++ (g p d ++ g q e))) ≡ f a' ++ (g m' b' ++ (g n' c' ++ (g p' d' ++ g q' e')))
 swap f g x1 x2 x3 x4 x5 x6 x7 x8 x9 = (cc)
 
-pub level_written : (names : List tree.Name) (first : ℕ) (table : List RuleTree) (l : Level) (ls : List Leaf) (ms : List Level) (cs ds : List CtxUse) (rs : List ℕ) (m n p q : Bool) (o0 o1 o2 o3 o4 o5 : Output)
+pub level_written : (names : List tree.Name) (first : ℕ) (table : List RuleTree) (l : Level) (ls : List Leaf) (ms : List Level) (cs ds : List CtxUse) (rs : List ℕ) (m n p q : Bool) (o0 o1 o2 o3 o4 o5 : SinkState)
     → let s = codes ", " in let o = out-Level l in ls ≡ o.leaves → ms ≡ o.membranes → cs ≡ o.contexts → ds ≡ o.rule_contexts → rs ≡ o.rules
     → m ≡ any_behind false ls → n ≡ any_behind m ms → p ≡ any_behind n cs → q ≡ any_behind p ds
     → Adds (in_row s false (map (leaf_text names) ls)) o0 o1
@@ -248,10 +229,10 @@ level_written names first table l ls ms cs ds rs m n p q o0 o1 o2 o3 o4 o5 els e
     (adds_more _ _ o0 o1 o5 h1 (adds_more _ _ o1 o2 o5 h2 (adds_more _ _ o2 o3 o5 h3 (adds_more _ _ o3 o4 o5 h4 h5))))
 
 -- a membrane in its braces
-pub membrane_written : (l : tree.Level) (o0 o1 o2 o3 : Output) → Adds (codes "{") o0 o1 → Adds (text_of (with_commas (level_pieces l))) o1 o2 → Adds (codes "}") o2 o3 → Adds (membrane_text l) o0 o3
+pub membrane_written : (l : tree.Level) (o0 o1 o2 o3 : SinkState) → Adds (codes "{") o0 o1 → Adds (text_of (with_commas (level_pieces l))) o1 o2 → Adds (codes "}") o2 o3 → Adds (membrane_text l) o0 o3
 membrane_written l o0 o1 o2 o3 a b c = adds_more (codes "{") _ o0 o1 o3 a (adds_more (text_of (with_commas (level_pieces l))) (codes "}") o1 o2 o3 b c)
 
-pub rule_written : (names : List tree.Name) (first n at : ℕ) (table : List RuleTree) (r : RuleTree) (guard : List Cond) (o0 o1 o2 o3 o4 o5 o6 : Output) → at ≡ first + (n - first) → slice_get table at ≡ Some r → guard ≡ r.guard
+pub rule_written : (names : List tree.Name) (first n at : ℕ) (table : List RuleTree) (r : RuleTree) (guard : List Cond) (o0 o1 o2 o3 o4 o5 o6 : SinkState) → at ≡ first + (n - first) → slice_get table at ≡ Some r → guard ≡ r.guard
     → Adds (codes "(") o0 o1 → Adds (text_of (with_commas (level_pieces (level_in names (at + 1) table r.head)))) o1 o2 → Adds (codes " :- ") o2 o3
     → Adds (text_of (guard_pieces (map (condition_of names) guard))) o3 o4 → Adds (text_of (with_commas (level_pieces (level_in names (at + 1) table r.body)))) o4 o5 → Adds (codes ")") o5 o6
     → Adds (rule_text names first table n) o0 o6
@@ -261,7 +242,7 @@ rule_written names first n at table r guard o0 o1 o2 o3 o4 o5 o6 p e eg h1 h2 h3
     ∙ ap (λ x. text_of (rule_pieces x)) (sym (rule_is names first n at table r p e)))
     (adds_more (codes "(") _ o0 o1 o6 h1 (adds_more _ _ o1 o2 o6 h2 (adds_more (codes " :- ") _ o2 o3 o6 h3 (adds_more _ _ o3 o4 o6 h4 (adds_more _ (codes ")") o4 o5 o6 h5 h6)))))
 
-pub no_rule_written : (names : List tree.Name) (first n at : ℕ) (table : List RuleTree) (o0 o1 : Output) → at ≡ first + (n - first) → slice_get table at ≡ None → Adds (codes "( :- )") o0 o1 → Adds (rule_text names first table n) o0 o1
+pub no_rule_written : (names : List tree.Name) (first n at : ℕ) (table : List RuleTree) (o0 o1 : SinkState) → at ≡ first + (n - first) → slice_get table at ≡ None → Adds (codes "( :- )") o0 o1 → Adds (rule_text names first table n) o0 o1
 no_rule_written names first n at table o0 o1 p e h = adds_as (ap (λ x. text_of (rule_pieces x)) (sym (rule_is_missing names first n at table p e))) h
 
 -- The measures at the calls.

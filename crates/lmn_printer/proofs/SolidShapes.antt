@@ -7,23 +7,24 @@ use Rattle.std.proofs.lemmas.Bool.Decides.{nat_tests}
 use Rattle.std.proofs.lemmas.List.Elements.{All-append, All-cons, All-nil}
 use Rattle.std.proofs.lemmas.List.Recursion.{is_count_by}
 use Rattle.lmn_base.specs.Links.{EachTwice}
-use Rattle.lmn_base.specs.Solids.{IsSolid, connector}
-use Rattle.lmn_base.specs.Solids as solids
+use Rattle.lmn_base.specs.Solids.{connector}
 use Rattle.lmn_base.specs.declared.solid.SolidAtom.{SolidAtom}
 use Rattle.lmn_heap.specs.Heap.{Heap, HeapAtom, arity_of, link_of}
 use Rattle.lmn_heap.specs.Lists.{In, Each, Distinct}
-use Rattle.lmn_heap.specs.Solid.{IsNaming, numbered, atom_of, atoms_of}
+use Rattle.lmn_heap.specs.Solid.{IsNaming, links_from, solid_atom_at, solid_atoms_at}
 use Rattle.lmn_heap.specs.Sound.{flat, Valid}
 use Rattle.lmn_heap.proofs.ListLemmas.{each_in}
 use Rattle.lmn_heap.proofs.Ports.{SamePort, same_port}
 use Rattle.lmn_heap.proofs.Replacing.{port_within}
 use Rattle.lmn_printer.specs.HeapLaws.{HeapSolidsAreSolids}
 use Rattle.lmn_printer.specs.Numbers.{printed_atoms, links_on}
-use Rattle.lmn_printer.proofs.FirstNames.{ports_from, ports_on, by_port, names_on, are_on, ArePorts}
-use Rattle.lmn_printer.proofs.NumberLemmas.{same_ports}
-use Rattle.lmn_printer.proofs.NumberingLemmas.{port_there}
+use Rattle.lmn_printer.proofs.FirstNames.{ports_on, names_on, are_on, ArePorts}
 use Rattle.lmn_printer.proofs.OrderLemmas.{printed_all, printed_once}
 use Rattle.lmn_printer.proofs.SolidLinks.{solid_atoms, solid_links}
+use Rattle.lmn_heap.proofs.Common.{is_atom_at as port_there, length_numbered, same_port as same_ports}
+use Rattle.lmn_parts.proofs.WalkLaws.{by_port}
+use Rattle.lmn_parts.specs.Walks.{port_range}
+use Rattle.lmn_base.specs.Solids as solids
 
 -- How often a number stands in a list.
 
@@ -62,21 +63,21 @@ times_append : (a i : ℕ) (ps qs : List (ℕ × ℕ)) → times a i (ps ++ qs) 
 times_append a i [] qs = omega arith
 times_append a i (p ∷ ps) qs = let e = times_append a i ps qs in omega (arith, e)
 
-from_other : (a i c j n : ℕ) → c ≢ a → times a i (ports_from c j n) ≡ 0
+from_other : (a i c j n : ℕ) → c ≢ a → times a i (port_range c j n) ≡ 0
 from_other a i c j zero d = refl
 from_other a i c j (suc n) d =
     let e = once_not (same_port c j a i) (λ p. d p.0) in
     let f = from_other a i c (j + 1) n d in
     omega (arith, e, f)
 
-from_above : (a i j n : ℕ) → i < j → times a i (ports_from a j n) ≡ 0
+from_above : (a i j n : ℕ) → i < j → times a i (port_range a j n) ≡ 0
 from_above a i j zero l = refl
 from_above a i j (suc n) l =
     let e = once_not (same_port a j a i) (λ p. let q = p.1 in absurd (omega (arith, q, l))) in
     let f = from_above a i (j + 1) n (omega (arith, l)) in
     omega (arith, e, f)
 
-from_here : (a i j n : ℕ) → j ≤ i → i < j + n → times a i (ports_from a j n) ≡ 1
+from_here : (a i j n : ℕ) → j ≤ i → i < j + n → times a i (port_range a j n) ≡ 1
 from_here a i j zero l k = absurd (omega (arith, l, k))
 from_here a i j (suc n) l k = elim (cases_eq j i) [
   | inl q ↦ (let e = once_so (same_port a j a i) (refl, q) in
@@ -91,7 +92,7 @@ module _ (s : Heap) (a i : ℕ) (l : i < arity_of s a) where
   none_on : (xs : List ℕ) → Each (λ b. a ≢ b) xs → times a i (ports_on s xs) ≡ 0
   none_on [] e = refl
   none_on (b ∷ xs) e =
-      let t = times_append a i (ports_from b 0 (arity_of s b)) (ports_on s xs) in
+      let t = times_append a i (port_range b 0 (arity_of s b)) (ports_on s xs) in
       let f = from_other a i b 0 (arity_of s b) (λ q. e.0 (sym q)) in
       let g = none_on xs e.1 in
       omega (arith, t, f, g)
@@ -100,12 +101,12 @@ module _ (s : Heap) (a i : ℕ) (l : i < arity_of s a) where
   once_on : (xs : List ℕ) → Distinct xs → In a xs → times a i (ports_on s xs) ≡ 1
   once_on [] d h = absurd h
   once_on (b ∷ xs) d (inl e) =
-      let t = times_append a i (ports_from b 0 (arity_of s b)) (ports_on s xs) in
-      let f : times a i (ports_from b 0 (arity_of s b)) ≡ 1 = subst (λ c. times a i (ports_from c 0 (arity_of s c)) ≡ 1) (sym e) (from_here a i 0 (arity_of s a) (omega arith) (omega (arith, l))) in
+      let t = times_append a i (port_range b 0 (arity_of s b)) (ports_on s xs) in
+      let f : times a i (port_range b 0 (arity_of s b)) ≡ 1 = subst (λ c. times a i (port_range c 0 (arity_of s c)) ≡ 1) (sym e) (from_here a i 0 (arity_of s a) (omega arith) (omega (arith, l))) in
       let g = none_on xs (subst (λ c. Each (λ y. c ≢ y) xs) e d.0) in
       omega (arith, t, f, g)
   once_on (b ∷ xs) d (inr h) =
-      let t = times_append a i (ports_from b 0 (arity_of s b)) (ports_on s xs) in
+      let t = times_append a i (port_range b 0 (arity_of s b)) (ports_on s xs) in
       let f = from_other a i b 0 (arity_of s b) (each_in (λ n. b ≢ n) xs a d.0 h) in
       let g = once_on xs d.1 h in
       omega (arith, t, f, g)
@@ -128,7 +129,7 @@ module _ (s : Heap) (name : ℕ → ℕ → ℕ) (naming : IsNaming s name) (a i
           omega (arith, t, e, f, g))
       | inr c ↦ (let t = test_apart (name a i) (name p.0 p.1) (tally (name a i) (map (by_port name) ps)) (λ h. elim (naming.apart a i p.0 p.1 l are.0 h) [
         | inl q ↦ d (sym q.0, sym q.1)
-        | inr q ↦ (let r = same_ports b j p.0 p.1 (sym link ∙ q) in c (sym r.0, sym r.1))
+        | inr q ↦ (let r = same_ports (sym link ∙ q) in c (sym r.0, sym r.1))
       ]) in
           let e = once_not (same_port p.0 p.1 a i) d in
           let f = once_not (same_port p.0 p.1 b j) c in
@@ -172,23 +173,19 @@ module _ (s : Heap) (valid : Valid s) (name : ℕ → ℕ → ℕ) (naming : IsN
 
 -- Each atom of the solid.
 
-length_numbered : (name : ℕ → ℕ → ℕ) (a i n : ℕ) → length (numbered name a i n) ≡ n
-length_numbered name a i zero = refl
-length_numbered name a i (suc n) = ap suc (length_numbered name a (i + 1) n)
-
 module _ (s : Heap) (valid : Valid s) (name : ℕ → ℕ → ℕ) where
-  each_atom : (P : SolidAtom → Type 0) → ((a : ℕ) (x : HeapAtom) → s.atoms a ≡ Some x → P (record { functor = x.functor; links = numbered name a 0 x.functor.arity })) → (xs : List ℕ) → All P (atoms_of s name xs)
+  each_atom : (P : SolidAtom → Type 0) → ((a : ℕ) (x : HeapAtom) → s.atoms a ≡ Some x → P (record { functor = x.functor; links = links_from name a 0 x.functor.arity })) → (xs : List ℕ) → All P (solid_atoms_at s name xs)
   each_atom P h [] = All-nil P
-  each_atom P h (a ∷ xs) = All-append P (atom_of name a (s.atoms a)) (atoms_of s name xs) (by (s.atoms a) refl) (each_atom P h xs)
+  each_atom P h (a ∷ xs) = All-append P (solid_atom_at name a (s.atoms a)) (solid_atoms_at s name xs) (by (s.atoms a) refl) (each_atom P h xs)
     where
-      by : (o : Option HeapAtom) → s.atoms a ≡ o → All P (atom_of name a o)
+      by : (o : Option HeapAtom) → s.atoms a ≡ o → All P (solid_atom_at name a o)
       by None e = All-nil P
-      by (Some x) e = All-cons P (record { functor = x.functor; links = numbered name a 0 x.functor.arity }) [] (h a x e) (All-nil P)
+      by (Some x) e = All-cons P (record { functor = x.functor; links = links_from name a 0 x.functor.arity }) [] (h a x e) (All-nil P)
 
-  with_arities : (xs : List ℕ) → All (λ a. length a.links ≡ a.functor.arity) (atoms_of s name xs)
+  with_arities : (xs : List ℕ) → All (λ a. length a.links ≡ a.functor.arity) (solid_atoms_at s name xs)
   with_arities = each_atom (λ a. length a.links ≡ a.functor.arity) (λ a x e. length_numbered name a 0 x.functor.arity)
 
-  no_connectors : (xs : List ℕ) → All (λ a. a.functor ≢ connector) (atoms_of s name xs)
+  no_connectors : (xs : List ℕ) → All (λ a. a.functor ≢ connector) (solid_atoms_at s name xs)
   no_connectors =
       each_atom (λ a. a.functor ≢ connector)
       (λ a x e f. valid.no_connector a (valid.settled.atoms a (subst IsSome (sym e) refl)) (ap (option_map (λ (y : HeapAtom). y.functor)) e ∙ ap Some f))
@@ -196,8 +193,8 @@ module _ (s : Heap) (valid : Valid s) (name : ℕ → ℕ → ℕ) where
 pub heap_solids_are_solids : HeapSolidsAreSolids
 heap_solids_are_solids s x valid of =
     let xs = printed_atoms s (flat of.forest) in
-    let atoms : atoms_of s of.name xs ≡ solids.atoms_of x.root = sym (solid_atoms s valid.sound of.name of.forest x.root of.root) in
-    let links : links_on s xs of.name ≡ solids.links_of x.root = sym (solid_links s valid.sound of.name of.forest x.root of.root) in
+    let atoms : solid_atoms_at s of.name xs ≡ solids.atoms_of_region x.root = sym (solid_atoms s valid.sound of.name of.forest x.root of.root) in
+    let links : links_on s xs of.name ≡ solids.links_of_region x.root = sym (solid_links s valid.sound of.name of.forest x.root of.root) in
     record {
       arities = subst (All (λ (a : SolidAtom). length a.links ≡ a.functor.arity)) atoms (with_arities s valid of.name xs);
       no_connector = subst (All (λ (a : SolidAtom). a.functor ≢ connector)) atoms (no_connectors s valid of.name xs);

@@ -1,5 +1,5 @@
 -- Where marks tell the numbers of links, the walk writes the line of the solid.
-use Rattle.std.proofs.Common.{◌≡◌, ℕ, zero, suc, ◌+◌, ◌<◌, Bool, false, List, [], ◌∷◌, ◌++◌, Option, Some, None, IsSome, refl, sym, ap, ◌∙◌, subst, arith}
+use Rattle.std.proofs.Common.{◌≡◌, ℕ, zero, suc, ◌+◌, ◌<◌, Bool, false, List, [], ◌∷◌, ◌++◌, Option, Some, None, refl, sym, ap, ◌∙◌, subst, arith}
 use Rattle.std.specs.Prelude.{codes}
 use Rattle.std.specs.Option.{option_map}
 use Rattle.std.proofs.lemmas.List.{append_assoc}
@@ -8,8 +8,8 @@ use Rattle.lmn_base.specs.declared.rule.RuleTree.{RuleTree}
 use Rattle.lmn_base.specs.declared.solid.SolidAtom.{SolidAtom}
 use Rattle.lmn_base.specs.declared.solid.Solid.{Solid}
 use Rattle.lmn_congruence.specs.Rules.{Name}
-use Rattle.lmn_heap.specs.Heap.{Heap, HeapAtom, Place, within, IsAtom, In, arity_of, atoms_in, mems_in, rules_in}
-use Rattle.lmn_heap.specs.Solid.{SolidOf, atom_of, atoms_of, numbered, regions_of}
+use Rattle.lmn_heap.specs.Heap.{Heap, HeapAtom, within, IsAtom, In, arity_of, atoms_in, mems_in, rules_in}
+use Rattle.lmn_heap.specs.Solid.{HasSolid, solid_atom_at, solid_atoms_at, links_from, regions_of}
 use Rattle.lmn_heap.specs.Sound.{Forest, bare, mem, Forms, Sound}
 use Rattle.lmn_heap.proofs.SolidLemmas.{regions_frame}
 use Rattle.lmn_plain.specs.SolidLines.{solid_line}
@@ -20,11 +20,12 @@ use Rattle.lmn_congruence.specs.Translation.{numbered_rule}
 use Rattle.lmn_printer.specs.Walks.{Texts, texts_in, members, tree_text, has_any}
 use Rattle.lmn_printer.proofs.LineLemmas.{line_is, stop_if}
 use Rattle.lmn_printer.proofs.RowLemmas.{any_map}
+use Rattle.lmn_heap.proofs.Items.{place_some as atom_by_place}
 
 -- names that say the same of some ports number them alike
-pub numbered_alike : (u v : ℕ → ℕ → ℕ) (a i n : ℕ) → ((j : ℕ) → j < i + n → u a j ≡ v a j) → numbered u a i n ≡ numbered v a i n
+pub numbered_alike : (u v : ℕ → ℕ → ℕ) (a i n : ℕ) → ((j : ℕ) → j < i + n → u a j ≡ v a j) → links_from u a i n ≡ links_from v a i n
 numbered_alike u v a i zero h = refl
-numbered_alike u v a i (suc n) h = ap (λ x. x ∷ numbered u a (i + 1) n) (h i (omega arith)) ∙ ap (λ xs. v a i ∷ xs) (numbered_alike u v a (i + 1) n (λ j l. h j (omega (arith, l))))
+numbered_alike u v a i (suc n) h = ap (λ x. x ∷ links_from u a (i + 1) n) (h i (omega arith)) ∙ ap (λ xs. v a i ∷ xs) (numbered_alike u v a (i + 1) n (λ j l. h j (omega (arith, l))))
 
 abbrev pub solid_atom : Functor → List ℕ → SolidAtom
 solid_atom f ls = record { functor = f; links = ls }
@@ -33,26 +34,21 @@ module _ (h : Heap) (sound : Sound h) (name : ℕ → ℕ → ℕ) (told : Tells
   told_at : (a i : ℕ) → i < arity_of h a → name a i ≡ number_by_mark h a i
   told_at a i l = let e = told a i l in omega (arith, e)
 
-  told_atom : (a : ℕ) (o : Option HeapAtom) → h.atoms a ≡ o → atom_of name a o ≡ atom_of (number_by_mark h) a o
+  told_atom : (a : ℕ) (o : Option HeapAtom) → h.atoms a ≡ o → solid_atom_at name a o ≡ solid_atom_at (number_by_mark h) a o
   told_atom a None e = refl
   told_atom a (Some x) e =
       let arity : arity_of h a ≡ x.functor.arity = sound.shaped.ports a x.functor (ap (option_map (λ (y : HeapAtom). y.functor)) e) in
       ap (λ ls. solid_atom x.functor ls ∷ [])
       (numbered_alike name (number_by_mark h) a 0 x.functor.arity (λ j l. told_at a j (omega (arith, l, arity))))
 
-  told_atoms : (xs : List ℕ) → atoms_of h name xs ≡ atoms_of h (number_by_mark h) xs
+  told_atoms : (xs : List ℕ) → solid_atoms_at h name xs ≡ solid_atoms_at h (number_by_mark h) xs
   told_atoms [] = refl
-  told_atoms (a ∷ xs) = ap (λ ys. ys ++ atoms_of h name xs) (told_atom a (h.atoms a) refl) ∙ ap (λ ys. atom_of (number_by_mark h) a (h.atoms a) ++ ys) (told_atoms xs)
+  told_atoms (a ∷ xs) = ap (λ ys. ys ++ solid_atoms_at h name xs) (told_atom a (h.atoms a) refl) ∙ ap (λ ys. solid_atom_at (number_by_mark h) a (h.atoms a) ++ ys) (told_atoms xs)
 
   told_regions : (f : Forest) → regions_of h name f ≡ regions_of h (number_by_mark h) f
   told_regions f = regions_frame h h name (number_by_mark h) f (λ m i. (told_atoms (atoms_in h m), refl))
 
--- what stands in a list is an atom
-atom_by_place : (o : Option HeapAtom) (p : Place) → option_map (λ x. x.place) o ≡ Some p → IsSome o
-atom_by_place None p e = absurd (cc e)
-atom_by_place (Some x) p e = refl
-
-all_atoms : (h : Heap) → Sound h → (m a : ℕ) → In a (atoms_in h m) → IsAtom h a
+pub all_atoms : (h : Heap) → Sound h → (m a : ℕ) → In a (atoms_in h m) → IsAtom h a
 all_atoms h sound m a i = atom_by_place (h.atoms a) (within m) ((sound.listed.atoms m a).0 i)
 
 pub any_append : (any : Bool) (xs ys : List (List ℕ)) → any_behind any (xs ++ ys) ≡ any_behind (any_behind any xs) ys
@@ -64,7 +60,7 @@ pub any_members : (t : Texts) (h : Heap) (any : Bool) (f : Forest) (ms : List �
 any_members t h any bare ms F = ap (any_behind any) (sym F)
 any_members t h any (mem m i r) ms F = ap (any_behind any) (sym F.1)
 
-pub told_line : (names : List Name) (table : List RuleTree) (h : Heap) → Sound h → (x : Solid) (of : SolidOf h x) → TellsNumbers h of.name
+pub told_line : (names : List Name) (table : List RuleTree) (h : Heap) → Sound h → (x : Solid) (of : HasSolid h x) → TellsNumbers h of.name
     → solid_line names table x ≡ tree_text (texts_in names table h) of.forest ++ (between_if (codes ".") (has_any h h.root) ++ codes "\n")
 told_line names table h sound x of told = by of.forest of.tree.forms (sym (told_regions h sound of.name told of.forest) ∙ of.root)
   where

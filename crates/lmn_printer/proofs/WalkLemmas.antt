@@ -7,10 +7,10 @@ use Rattle.lmn_heap.specs.Sound.{Forest, bare, mem, flat, Forms, IsTree, Sound, 
 use Rattle.lmn_heap.proofs.Heights.{mem_of_place, parent_is}
 use Rattle.lmn_heap.proofs.Pigeonholes.{not_longer}
 use Rattle.lmn_heap.proofs.Trees.{after_split, in_here, is_mem, parent_by}
-use Rattle.lmn_io.specs.Gathering.{Output, Adds}
+use Rattle.lmn_io.specs.Gathering.{SinkState, Adds}
 use Rattle.lmn_io.proofs.TakingLemmas.{adds_as, adds_more}
 use Rattle.lmn_printer.specs.Rows.{between_if, in_row}
-use Rattle.lmn_printer.specs.Walks.{Texts, Way, top, inside, levels, between, Stands, size, behind, Position, Leaving, members, items, has_atoms, has_some, closing, from_atoms, from_membranes, from_rules, ahead, left_behind, GoesOn, tree_text}
+use Rattle.lmn_printer.specs.Walks.{Texts, Way, top, inside, membranes_round, between, StandsBeside, size, membranes_behind, Position, Leaving, members, items_text, has_atoms, has_atoms_or_membranes, closing, from_atoms, from_membranes, from_rules, membranes_ahead, left_behind, WalksOn, tree_text}
 use Rattle.lmn_printer.proofs.DueLemmas.{Due, due_first, due_next, due_as, due_end}
 
 -- a membrane in braces, and what follows
@@ -22,7 +22,7 @@ regroup x inner more rest =
 
 -- The beginning.
 pub starts : (s : Heap) (sound : Sound s) (f : Forest) → IsTree s f → AtMost (2 ^ 48) s → (t : Texts)
-    → (p : Position s s.root 0) × (from_atoms t p ≡ tree_text t f) × (1 + ahead p ≤ 2 ^ 48)
+    → (p : Position s s.root 0) × (from_atoms t p ≡ tree_text t f) × (1 + membranes_ahead p ≤ 2 ^ 48)
 starts s sound f tree few t = by f tree.forms bound
   where
     all : length few.atoms + length few.mems ≤ 2 ^ 48
@@ -31,7 +31,7 @@ starts s sound f tree few t = by f tree.forms bound
     bound : length (flat f) ≤ 2 ^ 48
     bound = let l = not_longer (flat f) few.mems tree.once (λ b i. few.all_mems b (is_mem s sound f tree b i)) in let h = all in omega (arith, l, h)
 
-    by : (g : Forest) → Forms s g (s.root ∷ []) → length (flat g) ≤ 2 ^ 48 → (p : Position s s.root 0) × (from_atoms t p ≡ tree_text t g) × (1 + ahead p ≤ 2 ^ 48)
+    by : (g : Forest) → Forms s g (s.root ∷ []) → length (flat g) ≤ 2 ^ 48 → (p : Position s s.root 0) × (from_atoms t p ≡ tree_text t g) × (1 + membranes_ahead p ≤ 2 ^ 48)
     by bare F b = absurd (cc F)
     by (mem k i r) F b =
         let whole : s.root ∷ [] ≡ k ∷ F.0 = F.1 in
@@ -40,7 +40,7 @@ starts s sound f tree few t = by f tree.forms bound
         let last : r ≡ bare = nothing r (subst (Forms s r) none F.3) in
         let count : size i + 1 ≤ 2 ^ 48 = let l = length-append (flat i) (flat r) in omega (arith, b, l) in
         let p : Position s s.root 0 = record { inner = i; beside = bare; way = top; forms = subst (λ m. Forms s i (mems_in s m)) same F.2; stands = (refl, refl); deep = refl; few = omega (arith, count) } in
-        (p, append-nil (items t (codes ". ") s.root (members t i)) ∙ ap (λ m. items t (codes ". ") m (members t i)) (sym same), omega (arith, count))
+        (p, append-nil (items_text t (codes ". ") s.root (members t i)) ∙ ap (λ m. items_text t (codes ". ") m (members t i)) (sym same), omega (arith, count))
       where
         nothing : (g : Forest) → Forms s g [] → g ≡ bare
         nothing bare F = refl
@@ -48,7 +48,7 @@ starts s sound f tree few t = by f tree.forms bound
 
 -- The walk stands in membranes of the store.
 
-position_by : (s : Heap) (sound : Sound s) (m : ℕ) (beside : Forest) (way : Way) → Stands s m beside way → IsMem s m
+position_by : (s : Heap) (sound : Sound s) (m : ℕ) (beside : Forest) (way : Way) → StandsBeside s m beside way → IsMem s m
 position_by s sound m beside top st = mem_of_place s m at_top ((sound.listed.root m).1 st.0)
 position_by s sound m beside (inside p b way) st =
     mem_of_place s m (within p) ((sound.listed.mems p m).0 (subst (In m) (sym st.2) (in_here m st.0 st.1)))
@@ -60,23 +60,23 @@ pub leaves_in : (s : Heap) (sound : Sound s) (m depth : ℕ) → Leaving s m dep
 leaves_in s sound m depth p = position_by s sound m p.beside p.way p.stands
 
 -- behind the atoms the membranes and the rules are left
-pub atoms_written : (t : Texts) (s : Heap) (m depth : ℕ) (p : Position s m depth) (whole : List ℕ) (before o1 o2 : Output)
+pub atoms_written : (t : Texts) (s : Heap) (m depth : ℕ) (p : Position s m depth) (whole : List ℕ) (before o1 o2 : SinkState)
     → Due whole (from_atoms t p) before o1 → Adds (in_row (between p.way) false (t.atoms m)) o1 o2 → Due whole (from_membranes t p) before o2
 atoms_written t s m depth p whole before o1 o2 d h =
     let a = in_row (between p.way) false (t.atoms m) in
     let b = in_row (between p.way) (has_atoms t m) (members t p.inner) in
-    let c = in_row (between p.way) (has_some t m (members t p.inner)) (t.rules m) in
+    let c = in_row (between p.way) (has_atoms_or_membranes t m (members t p.inner)) (t.rules m) in
     let e : from_atoms t p ≡ a ++ from_membranes t p =
     append_assoc a (b ++ c) (closing t p.way p.beside) ∙ ap (λ z. a ++ z) (append_assoc b c (closing t p.way p.beside)) in
     due_next whole (from_atoms t p) a (from_membranes t p) before o1 o2 e d h
 
 -- Into the first membrane.
 
-enters : (t : Texts) (s : Heap) (m depth n : ℕ) (i b : Forest) (way : Way) (inner : Forest) (ms : List ℕ) → Forms s inner ms → ms ≡ mems_in s m → from (Some n) ms ≡ ms → Stands s m b way
-    → depth ≡ levels way → levels way + 1 + (size inner + size b + behind way) ≤ 2 ^ 48 → (o1 o2 o3 : Output)
+enters : (t : Texts) (s : Heap) (m depth n : ℕ) (i b : Forest) (way : Way) (inner : Forest) (ms : List ℕ) → Forms s inner ms → ms ≡ mems_in s m → from (Some n) ms ≡ ms → StandsBeside s m b way
+    → depth ≡ membranes_round way → membranes_round way + 1 + (size inner + size b + membranes_behind way) ≤ 2 ^ 48 → (o1 o2 o3 : SinkState)
     → Adds (between_if (between way) (has_atoms t m)) o1 o2 → Adds (codes "{") o2 o3
-    → GoesOn t s (in_row (between way) (has_atoms t m) (members t inner) ++ (in_row (between way) (has_some t m (members t inner)) (t.rules m) ++ closing t way b))
-    (size inner + size b + behind way) n (depth + 1) o1 o3
+    → WalksOn t s (in_row (between way) (has_atoms t m) (members t inner) ++ (in_row (between way) (has_atoms_or_membranes t m (members t inner)) (t.rules m) ++ closing t way b))
+    (size inner + size b + membranes_behind way) n (depth + 1) o1 o3
 enters t s m depth n i b way bare ms F is e st d few o1 o2 o3 h k = absurd (let w : n ∷ after n ms ≡ [] = e ∙ F in cc w)
 enters t s m depth n i b way (mem k inner rest) ms F is e st d few o1 o2 o3 h l =
     let whole : n ∷ after n ms ≡ k ∷ F.0 = e ∙ F.1 in
@@ -93,19 +93,19 @@ enters t s m depth n i b way (mem k inner rest) ms F is e st d few o1 o2 o3 h l 
     } in
     let any = has_atoms t m in
     let x = between_if (between way) any in
-    let inner_text = items t (codes ", ") k (members t inner) in
+    let inner_text = items_text t (codes ", ") k (members t inner) in
     let more = in_row (between way) true (members t rest) in
     let end = in_row (between way) true (t.rules m) ++ closing t way b in
     record {
       position = p;
       written = x ++ codes "{";
       adds = adds_more x (codes "{") o1 o2 o3 h l;
-      rest = regroup x inner_text more end ∙ ap (λ y. (x ++ (123 ∷ [])) ++ (items t (codes ", ") y (members t inner) ++ (125 ∷ (more ++ end)))) same;
+      rest = regroup x inner_text more end ∙ ap (λ y. (x ++ (123 ∷ [])) ++ (items_text t (codes ", ") y (members t inner) ++ (125 ∷ (more ++ end)))) same;
       fewer = omega (arith, size_is);
     }
 
-pub goes_in : (t : Texts) (s : Heap) (m depth n : ℕ) (p : Position s m depth) → from (Some n) (mems_in s m) ≡ mems_in s m → (o1 o2 o3 : Output)
-    → Adds (between_if (between p.way) (has_atoms t m)) o1 o2 → Adds (codes "{") o2 o3 → GoesOn t s (from_membranes t p) (ahead p) n (depth + 1) o1 o3
+pub goes_in : (t : Texts) (s : Heap) (m depth n : ℕ) (p : Position s m depth) → from (Some n) (mems_in s m) ≡ mems_in s m → (o1 o2 o3 : SinkState)
+    → Adds (between_if (between p.way) (has_atoms t m)) o1 o2 → Adds (codes "{") o2 o3 → WalksOn t s (from_membranes t p) (membranes_ahead p) n (depth + 1) o1 o3
 goes_in t s m depth n p e o1 o2 o3 h k = enters t s m depth n bare p.beside p.way p.inner (mems_in s m) p.forms refl e p.stands p.deep p.few o1 o2 o3 h k
 
 -- Where there is no membrane only the rules are left.
@@ -120,7 +120,7 @@ turn s m depth p = record { beside = p.beside; way = p.way; stands = p.stands; d
 pub turned : (t : Texts) (s : Heap) (m depth : ℕ) (p : Position s m depth) → from None (mems_in s m) ≡ mems_in s m → from_rules t (has_atoms t m) (turn s m depth p) ≡ from_membranes t p
 turned t s m depth p e =
     let none : p.inner ≡ bare = no_forest s p.inner (mems_in s m) p.forms (sym e) in
-    ap (λ (g : Forest). in_row (between p.way) (has_atoms t m) (members t g) ++ (in_row (between p.way) (has_some t m (members t g)) (t.rules m) ++ closing t p.way p.beside)) (sym none)
+    ap (λ (g : Forest). in_row (between p.way) (has_atoms t m) (members t g) ++ (in_row (between p.way) (has_atoms_or_membranes t m (members t g)) (t.rules m) ++ closing t p.way p.beside)) (sym none)
 
 -- Out of a membrane.
 
@@ -128,13 +128,13 @@ root_has_none : (s : Heap) (sound : Sound s) (m : ℕ) → m ≡ s.root → pare
 root_has_none s sound m e = parent_by s m at_top ((sound.listed.root m).1 e)
 
 -- Behind the rules of the root nothing is left.
-ends_by : (t : Texts) (s : Heap) (sound : Sound s) (m : ℕ) (beside : Forest) (way : Way) → Stands s m beside way → parent_of s m ≡ None → closing t way beside ≡ []
+ends_by : (t : Texts) (s : Heap) (sound : Sound s) (m : ℕ) (beside : Forest) (way : Way) → StandsBeside s m beside way → parent_of s m ≡ None → closing t way beside ≡ []
 ends_by t s sound m beside top st e = refl
 ends_by t s sound m beside (inside p b way) st e =
     let w : parent_of s m ≡ Some p = parent_is s sound.listed m p (subst (In m) (sym st.2) (in_here m st.0 st.1)) in
     absurd (let u : None ≡ Some p = sym e ∙ w in cc u)
 
-pub ends : (t : Texts) (s : Heap) (sound : Sound s) (m depth : ℕ) (any : Bool) (p : Leaving s m depth) (whole : List ℕ) (before o1 o2 : Output) → parent_of s m ≡ None
+pub ends : (t : Texts) (s : Heap) (sound : Sound s) (m depth : ℕ) (any : Bool) (p : Leaving s m depth) (whole : List ℕ) (before o1 o2 : SinkState) → parent_of s m ≡ None
     → Due whole (from_rules t any p) before o1 → Adds (in_row (between p.way) any (t.rules m)) o1 o2 → Adds whole before o2
 ends t s sound m depth any p whole before o1 o2 e d h =
     let row = in_row (between p.way) any (t.rules m) in
@@ -147,7 +147,7 @@ pub record Round (s : Heap) (m depth q : ℕ) (p : Leaving s m depth) : Type 0 w
   pub way : Way
   pub is : p.way ≡ inside q beside way
 
-round_by : (s : Heap) (sound : Sound s) (m depth q : ℕ) (b : Forest) (way : Way) → Stands s m b way → parent_of s m ≡ Some q → (beside : Forest) × (w : Way) × (way ≡ inside q beside w)
+round_by : (s : Heap) (sound : Sound s) (m depth q : ℕ) (b : Forest) (way : Way) → StandsBeside s m b way → parent_of s m ≡ Some q → (beside : Forest) × (w : Way) × (way ≡ inside q beside w)
 round_by s sound m depth q b top st e = absurd (let u : None ≡ Some q = sym (root_has_none s sound m st.0) ∙ e in cc u)
 round_by s sound m depth q b (inside p b' way) st e =
     let w : parent_of s m ≡ Some p = parent_is s sound.listed m p (subst (In m) (sym st.2) (in_here m st.0 st.1)) in
@@ -159,12 +159,12 @@ round s sound m depth q p e = let r = round_by s sound m depth q p.beside p.way 
 
 -- it isn't at the root
 pub below : (s : Heap) (m depth q : ℕ) (p : Leaving s m depth) → Round s m depth q p → 0 < depth
-below s m depth q p r = let d : depth ≡ levels r.way + 1 = p.deep ∙ ap levels r.is in omega (arith, d)
+below s m depth q p r = let d : depth ≡ membranes_round r.way + 1 = p.deep ∙ ap membranes_round r.is in omega (arith, d)
 
 module _ (t : Texts) (s : Heap) (sound : Sound s) (m depth q : ℕ) (any : Bool) (p : Leaving s m depth) (r : Round s m depth q p) where
   -- the places of both
-  pub placed : Stands s m p.beside (inside q r.beside r.way)
-  placed = subst (Stands s m p.beside) r.is p.stands
+  pub placed : StandsBeside s m p.beside (inside q r.beside r.way)
+  placed = subst (StandsBeside s m p.beside) r.is p.stands
 
   rest_of : after m (mems_in s q) ≡ placed.1
   rest_of = ap (after m) placed.2 ∙ after_split m placed.0 placed.1 (subst Distinct placed.2 (sound.listed.mems_once q))
@@ -172,20 +172,20 @@ module _ (t : Texts) (s : Heap) (sound : Sound s) (m depth q : ℕ) (any : Bool)
   text_is : from_rules t any p ≡ in_row (codes ", ") any (t.rules m) ++ closing t (inside q r.beside r.way) p.beside
   text_is = ap (λ w. in_row (between w) any (t.rules m) ++ closing t w p.beside) r.is
 
-  left_is : left_behind p ≡ size p.beside + (size r.beside + behind r.way)
-  left_is = ap (λ w. size p.beside + behind w) r.is
+  left_is : left_behind p ≡ size p.beside + (size r.beside + membranes_behind r.way)
+  left_is = ap (λ w. size p.beside + membranes_behind w) r.is
 
-  pub few_is : levels r.way + 1 + 1 + (size p.beside + (size r.beside + behind r.way)) ≤ 2 ^ 48
-  few_is = subst (λ w. levels w + 1 + (size p.beside + behind w) ≤ 2 ^ 48) r.is p.few
+  pub few_is : membranes_round r.way + 1 + 1 + (size p.beside + (size r.beside + membranes_behind r.way)) ≤ 2 ^ 48
+  few_is = subst (λ w. membranes_round w + 1 + (size p.beside + membranes_behind w) ≤ 2 ^ 48) r.is p.few
 
-  pub deep_is : depth ≡ levels r.way + 1
-  deep_is = p.deep ∙ ap levels r.is
+  pub deep_is : depth ≡ membranes_round r.way + 1
+  deep_is = p.deep ∙ ap membranes_round r.is
 
   -- Up to the membrane round it, where none is behind it.
   abbrev pub up : Leaving s q (depth - 1)
   up = record { beside = r.beside; way = r.way; stands = placed.4; deep = let d = deep_is in omega (arith, d); few = let f = few_is in omega (arith, f) }
 
-  pub goes_up : (whole : List ℕ) (before o1 o2 o3 : Output) → from None (mems_in s q) ≡ after m (mems_in s q)
+  pub goes_up : (whole : List ℕ) (before o1 o2 o3 : SinkState) → from None (mems_in s q) ≡ after m (mems_in s q)
       → Due whole (from_rules t any p) before o1 → Adds (in_row (codes ", ") any (t.rules m)) o1 o2 → Adds (codes "}") o2 o3
       → Due whole (from_rules t true up) before o3
   goes_up whole before o1 o2 o3 e d h k =
@@ -200,11 +200,11 @@ module _ (t : Texts) (s : Heap) (sound : Sound s) (m depth q : ℕ) (any : Bool)
 
 -- Into the membrane behind it.
 
-goes_beside : (t : Texts) (s : Heap) (m depth n q : ℕ) (any : Bool) (b b' : Forest) (way : Way) (before ls : List ℕ) → mems_in s q ≡ before ++ (m ∷ ls) → Forms s b ls → Stands s q b' way
-    → ls ≡ n ∷ after n (mems_in s q) → depth ≡ levels way + 1 → levels way + 1 + 1 + (size b + (size b' + behind way)) ≤ 2 ^ 48
-    → (whole : List ℕ) (most : ℕ) (start o1 o2 o3 o4 o5 : Output) → Due whole (in_row (codes ", ") any (t.rules m) ++ closing t (inside q b' way) b) start o1 → size b + (size b' + behind way) ≤ most
+goes_beside : (t : Texts) (s : Heap) (m depth n q : ℕ) (any : Bool) (b b' : Forest) (way : Way) (before ls : List ℕ) → mems_in s q ≡ before ++ (m ∷ ls) → Forms s b ls → StandsBeside s q b' way
+    → ls ≡ n ∷ after n (mems_in s q) → depth ≡ membranes_round way + 1 → membranes_round way + 1 + 1 + (size b + (size b' + membranes_behind way)) ≤ 2 ^ 48
+    → (whole : List ℕ) (most : ℕ) (start o1 o2 o3 o4 o5 : SinkState) → Due whole (in_row (codes ", ") any (t.rules m) ++ closing t (inside q b' way) b) start o1 → size b + (size b' + membranes_behind way) ≤ most
     → Adds (in_row (codes ", ") any (t.rules m)) o1 o2 → Adds (codes "}") o2 o3 → Adds (between way) o3 o4 → Adds (codes "{") o4 o5
-    → GoesOn t s whole most n depth start o5
+    → WalksOn t s whole most n depth start o5
 goes_beside t s m depth n q any bare b' way before ls list F st e d few whole most start o1 o2 o3 o4 o5 due fits h1 h2 h3 h4 =
     absurd (let w : [] ≡ n ∷ after n (mems_in s q) = sym F ∙ e in cc w)
 goes_beside t s m depth n q any (mem k i b) b' way before ls list F st e d few whole most start o1 o2 o3 o4 o5 due fits h1 h2 h3 h4 =
@@ -221,7 +221,7 @@ goes_beside t s m depth n q any (mem k i b) b' way before ls list F st e d few w
       few = omega (arith, few, size_is);
     } in
     let row = in_row (codes ", ") any (t.rules m) in
-    let inner_text = items t (codes ", ") k (members t i) in
+    let inner_text = items_text t (codes ", ") k (members t i) in
     let more = in_row (between way) true (members t b) in
     let end = in_row (between way) true (t.rules q) ++ closing t way b' in
     let next = inner_text ++ (125 ∷ (more ++ end)) in
@@ -231,14 +231,14 @@ goes_beside t s m depth n q any (mem k i b) b' way before ls list F st e d few w
     let d2 = due_next whole (codes "}" ++ (between way ++ (codes "{" ++ next))) (codes "}") (between way ++ (codes "{" ++ next)) start o2 o3 refl d1 h2 in
     let d3 = due_next whole (between way ++ (codes "{" ++ next)) (between way) (codes "{" ++ next) start o3 o4 refl d2 h3 in
     let d4 = due_next whole (codes "{" ++ next) (codes "{") next start o4 o5 refl d3 h4 in
-    let d5 = due_as whole next (from_atoms t p) start o5 (ap (λ y. items t (codes ", ") y (members t i) ++ (125 ∷ (more ++ end))) same) d4 in
+    let d5 = due_as whole next (from_atoms t p) start o5 (ap (λ y. items_text t (codes ", ") y (members t i) ++ (125 ∷ (more ++ end))) same) d4 in
     record { position = p; written = d5.written; adds = d5.adds; rest = d5.rest; fewer = omega (arith, size_is, fits) }
 
 pub goes_on : (t : Texts) (s : Heap) (sound : Sound s) (m depth n q : ℕ) (any : Bool) (p : Leaving s m depth) (r : Round s m depth q p)
     → from (Some n) (mems_in s q) ≡ after m (mems_in s q)
-    → (whole : List ℕ) (most : ℕ) (start o1 o2 o3 o4 o5 : Output) → Due whole (from_rules t any p) start o1 → left_behind p ≤ most
+    → (whole : List ℕ) (most : ℕ) (start o1 o2 o3 o4 o5 : SinkState) → Due whole (from_rules t any p) start o1 → left_behind p ≤ most
     → Adds (in_row (codes ", ") any (t.rules m)) o1 o2 → Adds (codes "}") o2 o3 → Adds (between r.way) o3 o4 → Adds (codes "{") o4 o5
-    → GoesOn t s whole most n depth start o5
+    → WalksOn t s whole most n depth start o5
 goes_on t s sound m depth n q any p r e whole most start o1 o2 o3 o4 o5 due fits h1 h2 h3 h4 =
     let st = placed t s sound m depth q any p r in
     let row = in_row (codes ", ") any (t.rules m) in
@@ -253,23 +253,23 @@ pub weaker : {A : Type 0} (o : Option A) (B B' : Type 0) (P P' : A → Type 0) �
 weaker None B B' P P' m f k = f m
 weaker (Some x) B B' P P' m f k = k x m
 
-pub goes_same : (t : Texts) (s : Heap) (left left' : List ℕ) (more more' m depth : ℕ) (old new : Output) → left ≡ left' → more ≤ more' → GoesOn t s left more m depth old new → GoesOn t s left' more' m depth old new
+pub goes_same : (t : Texts) (s : Heap) (left left' : List ℕ) (more more' m depth : ℕ) (old new : SinkState) → left ≡ left' → more ≤ more' → WalksOn t s left more m depth old new → WalksOn t s left' more' m depth old new
 goes_same t s left left' more more' m depth old new e l h =
     let f = h.fewer in record { position = h.position; written = h.written; adds = h.adds; rest = sym e ∙ h.rest; fewer = omega (arith, f, l) }
 
 -- The same as the calls say it: what stands between two items is known for each way of the depth.
 
-pub atoms_done : (t : Texts) (s : Heap) (m depth : ℕ) (p : Position s m depth) (b : List ℕ) → ((way : Way) → depth ≡ levels way → b ≡ between way) → (whole : List ℕ) (before o1 o2 : Output)
+pub atoms_done : (t : Texts) (s : Heap) (m depth : ℕ) (p : Position s m depth) (b : List ℕ) → ((way : Way) → depth ≡ membranes_round way → b ≡ between way) → (whole : List ℕ) (before o1 o2 : SinkState)
     → Due whole (from_atoms t p) before o1 → Adds (in_row b false (t.atoms m)) o1 o2 → Due whole (from_membranes t p) before o2
 atoms_done t s m depth p b bs whole before o1 o2 d h = atoms_written t s m depth p whole before o1 o2 d (subst (λ z. Adds (in_row z false (t.atoms m)) o1 o2) (bs p.way p.deep) h)
 
-pub goes_inside : (t : Texts) (s : Heap) (m depth n : ℕ) (p : Position s m depth) (b : List ℕ) (any : Bool) → ((way : Way) → depth ≡ levels way → b ≡ between way) → any ≡ has_atoms t m → from (Some n) (mems_in s m) ≡ mems_in s m → (o1 o2 o3 : Output)
-    → Adds (between_if b any) o1 o2 → Adds (codes "{") o2 o3 → GoesOn t s (from_membranes t p) (ahead p) n (depth + 1) o1 o3
+pub goes_inside : (t : Texts) (s : Heap) (m depth n : ℕ) (p : Position s m depth) (b : List ℕ) (any : Bool) → ((way : Way) → depth ≡ membranes_round way → b ≡ between way) → any ≡ has_atoms t m → from (Some n) (mems_in s m) ≡ mems_in s m → (o1 o2 o3 : SinkState)
+    → Adds (between_if b any) o1 o2 → Adds (codes "{") o2 o3 → WalksOn t s (from_membranes t p) (membranes_ahead p) n (depth + 1) o1 o3
 goes_inside t s m depth n p b any bs is e o1 o2 o3 h k =
     goes_in t s m depth n p e o1 o2 o3 (subst (λ z. Adds (between_if (between p.way) z) o1 o2) is (subst (λ z. Adds (between_if z any) o1 o2) (bs p.way p.deep) h)) k
 
-pub leave_up : (t : Texts) (s : Heap) (sound : Sound s) (m depth q : ℕ) (any : Bool) (p : Leaving s m depth) → parent_of s m ≡ Some q → (b : List ℕ) → ((way : Way) → depth ≡ levels way → b ≡ between way)
-    → (whole : List ℕ) (most : ℕ) (start o1 o2 o3 : Output) → from None (mems_in s q) ≡ after m (mems_in s q) → Due whole (from_rules t any p) start o1 → left_behind p ≤ most
+pub leave_up : (t : Texts) (s : Heap) (sound : Sound s) (m depth q : ℕ) (any : Bool) (p : Leaving s m depth) → parent_of s m ≡ Some q → (b : List ℕ) → ((way : Way) → depth ≡ membranes_round way → b ≡ between way)
+    → (whole : List ℕ) (most : ℕ) (start o1 o2 o3 : SinkState) → from None (mems_in s q) ≡ after m (mems_in s q) → Due whole (from_rules t any p) start o1 → left_behind p ≤ most
     → Adds (in_row b any (t.rules m)) o1 o2 → Adds (codes "}") o2 o3 → (next : Leaving s q (depth - 1)) × Due whole (from_rules t true next) start o3 × (left_behind next ≤ most)
 leave_up t s sound m depth q any p e b bs whole most start o1 o2 o3 none d fits h k =
     let r = round s sound m depth q p e in
@@ -280,9 +280,9 @@ leave_up t s sound m depth q any p e b bs whole most start o1 o2 o3 none d fits 
       omega (arith, l, fits),
     )
 
-pub leave_on : (t : Texts) (s : Heap) (sound : Sound s) (m depth n q : ℕ) (any : Bool) (p : Leaving s m depth) → parent_of s m ≡ Some q → (b b' : List ℕ) → ((way : Way) → depth ≡ levels way → b ≡ between way)
-    → ((way : Way) → depth - 1 ≡ levels way → b' ≡ between way) → (whole : List ℕ) (most : ℕ) (start o1 o2 o3 o4 o5 : Output) → from (Some n) (mems_in s q) ≡ after m (mems_in s q) → Due whole (from_rules t any p) start o1 → left_behind p ≤ most
-    → Adds (in_row b any (t.rules m)) o1 o2 → Adds (codes "}") o2 o3 → Adds b' o3 o4 → Adds (codes "{") o4 o5 → GoesOn t s whole most n depth start o5
+pub leave_on : (t : Texts) (s : Heap) (sound : Sound s) (m depth n q : ℕ) (any : Bool) (p : Leaving s m depth) → parent_of s m ≡ Some q → (b b' : List ℕ) → ((way : Way) → depth ≡ membranes_round way → b ≡ between way)
+    → ((way : Way) → depth - 1 ≡ membranes_round way → b' ≡ between way) → (whole : List ℕ) (most : ℕ) (start o1 o2 o3 o4 o5 : SinkState) → from (Some n) (mems_in s q) ≡ after m (mems_in s q) → Due whole (from_rules t any p) start o1 → left_behind p ≤ most
+    → Adds (in_row b any (t.rules m)) o1 o2 → Adds (codes "}") o2 o3 → Adds b' o3 o4 → Adds (codes "{") o4 o5 → WalksOn t s whole most n depth start o5
 leave_on t s sound m depth n q any p e b b' bs bs' whole most start o1 o2 o3 o4 o5 next d fits h1 h2 h3 h4 =
     let r = round s sound m depth q p e in
     let same : b ≡ codes ", " = bs p.way p.deep ∙ ap between r.is in
@@ -290,26 +290,26 @@ leave_on t s sound m depth n q any p e b b' bs bs' whole most start o1 o2 o3 o4 
     let outer : b' ≡ between r.way = bs' r.way (omega (arith, deep)) in
     goes_on t s sound m depth n q any p r next whole most start o1 o2 o3 o4 o5 d fits (subst (λ z. Adds (in_row z any (t.rules m)) o1 o2) same h1) h2 (adds_as outer h3) h4
 
-pub leave_end : (t : Texts) (s : Heap) (sound : Sound s) (m depth : ℕ) (any : Bool) (p : Leaving s m depth) (b : List ℕ) → ((way : Way) → depth ≡ levels way → b ≡ between way) → (whole : List ℕ) (start o1 o2 : Output) → parent_of s m ≡ None
+pub leave_end : (t : Texts) (s : Heap) (sound : Sound s) (m depth : ℕ) (any : Bool) (p : Leaving s m depth) (b : List ℕ) → ((way : Way) → depth ≡ membranes_round way → b ≡ between way) → (whole : List ℕ) (start o1 o2 : SinkState) → parent_of s m ≡ None
     → Due whole (from_rules t any p) start o1 → Adds (in_row b any (t.rules m)) o1 o2 → Adds whole start o2
 leave_end t s sound m depth any p b bs whole start o1 o2 e d h = ends t s sound m depth any p whole start o1 o2 e d (subst (λ z. Adds (in_row z any (t.rules m)) o1 o2) (bs p.way p.deep) h)
 
 pub leave_deep : (s : Heap) (sound : Sound s) (m depth q : ℕ) (p : Leaving s m depth) → parent_of s m ≡ Some q → 0 < depth
 leave_deep s sound m depth q p e = below s m depth q p (round s sound m depth q p e)
 
-pub starts_at : (s : Heap) (sound : Sound s) (f : Forest) → IsTree s f → AtMost (2 ^ 48) s → (t : Texts) (m : ℕ) → m ≡ s.root → (o : Output)
-    → (p : Position s m 0) × Due (tree_text t f) (from_atoms t p) o o × (1 + ahead p ≤ 2 ^ 48)
+pub starts_at : (s : Heap) (sound : Sound s) (f : Forest) → IsTree s f → AtMost (2 ^ 48) s → (t : Texts) (m : ℕ) → m ≡ s.root → (o : SinkState)
+    → (p : Position s m 0) × Due (tree_text t f) (from_atoms t p) o o × (1 + membranes_ahead p ≤ 2 ^ 48)
 starts_at s sound f tree few t m e o =
-    subst (λ k. (p : Position s k 0) × Due (tree_text t f) (from_atoms t p) o o × (1 + ahead p ≤ 2 ^ 48)) (sym e)
+    subst (λ k. (p : Position s k 0) × Due (tree_text t f) (from_atoms t p) o o × (1 + membranes_ahead p ≤ 2 ^ 48)) (sym e)
     (let w = starts s sound f tree few t in (w.0, due_as (tree_text t f) (tree_text t f) (from_atoms t w.0) o o (sym w.1) (due_first (tree_text t f) o), w.2))
 
 -- Where there is no membrane, what leaving answers is what is left behind the atoms.
-pub turns_back : {A : Type 0} (o : Option A) (number depth_of : A → ℕ) (t : Texts) (s : Heap) (m depth : ℕ) (p : Position s m depth) (any : Bool) → any ≡ has_atoms t m → from None (mems_in s m) ≡ mems_in s m → (old new : Output)
-    → MatchOption o (Adds (from_rules t any (turn s m depth p)) old new) (λ n. GoesOn t s (from_rules t any (turn s m depth p)) (left_behind (turn s m depth p)) (number n) (depth_of n) old new)
-    → MatchOption o (Adds (from_membranes t p) old new) (λ n. GoesOn t s (from_membranes t p) (ahead p) (number n) (depth_of n) old new)
+pub turns_back : {A : Type 0} (o : Option A) (number depth_of : A → ℕ) (t : Texts) (s : Heap) (m depth : ℕ) (p : Position s m depth) (any : Bool) → any ≡ has_atoms t m → from None (mems_in s m) ≡ mems_in s m → (old new : SinkState)
+    → MatchOption o (Adds (from_rules t any (turn s m depth p)) old new) (λ n. WalksOn t s (from_rules t any (turn s m depth p)) (left_behind (turn s m depth p)) (number n) (depth_of n) old new)
+    → MatchOption o (Adds (from_membranes t p) old new) (λ n. WalksOn t s (from_membranes t p) (membranes_ahead p) (number n) (depth_of n) old new)
 turns_back o number depth_of t s m depth p any is none old new h =
     let e : from_rules t any (turn s m depth p) ≡ from_membranes t p = ap (λ z. from_rules t z (turn s m depth p)) is ∙ turned t s m depth p none in
     weaker o (Adds (from_rules t any (turn s m depth p)) old new) (Adds (from_membranes t p) old new)
-    (λ n. GoesOn t s (from_rules t any (turn s m depth p)) (left_behind (turn s m depth p)) (number n) (depth_of n) old new) (λ n. GoesOn t s (from_membranes t p) (ahead p) (number n) (depth_of n) old new)
+    (λ n. WalksOn t s (from_rules t any (turn s m depth p)) (left_behind (turn s m depth p)) (number n) (depth_of n) old new) (λ n. WalksOn t s (from_membranes t p) (membranes_ahead p) (number n) (depth_of n) old new)
     h (λ k. adds_as e k)
-    (λ n k. goes_same t s (from_rules t any (turn s m depth p)) (from_membranes t p) (left_behind (turn s m depth p)) (ahead p) (number n) (depth_of n) old new e (omega arith) k)
+    (λ n k. goes_same t s (from_rules t any (turn s m depth p)) (from_membranes t p) (left_behind (turn s m depth p)) (membranes_ahead p) (number n) (depth_of n) old new e (omega arith) k)

@@ -3,7 +3,7 @@ use Rattle.std.specs.Prelude.{ℕ, ◌≡◌, ◌<◌, ◌+◌, nat_lt, if◌the
 use Rattle.std.specs.Option.{option_map}
 use Rattle.lmn_base.specs.Links.{Numbers}
 use Rattle.lmn_heap.specs.Heap.{Heap, HeapAtom, arity_of, mark_of, atoms_in}
-use Rattle.lmn_heap.specs.Solid.{IsNaming, numbered}
+use Rattle.lmn_heap.specs.Solid.{IsNaming, links_from}
 
 -- the atoms of membranes, one membrane after the other
 abbrev pub printed_atoms : Heap → List ℕ → List ℕ
@@ -23,10 +23,6 @@ pub record Remarks (s t : Heap) : Type 0 where
   pub is : t ≡ remarked s marks
   pub own : (a : ℕ) → mark_of t a (arity_of s a) ≡ mark_of s a (arity_of s a)
 
--- every mark of a port is 0
-abbrev pub Unmarked : Heap → Type 0
-Unmarked s = (a i : ℕ) → i < arity_of s a → mark_of s a i ≡ 0
-
 -- the mark for a link, when so many links have their numbers
 abbrev pub mark_when : ℕ → ℕ → ℕ
 mark_when n link = if nat_lt link n then link + 1 else 0
@@ -43,9 +39,9 @@ GoOn s t n m links =
     → Numbers m left all × TellsFirst t name m
 
 -- the links of an atom's ports, and those of the atoms of a list
-abbrev pub links_at : Heap → ℕ → (ℕ → ℕ → ℕ) → List ℕ
-links_at s a name = numbered name a 0 (arity_of s a)
+abbrev pub links_at_ports : Heap → ℕ → (ℕ → ℕ → ℕ) → List ℕ
+links_at_ports s a name = links_from name a 0 (arity_of s a)
 
 abbrev pub links_on : Heap → List ℕ → (ℕ → ℕ → ℕ) → List ℕ
 links_on s [] name = []
-links_on s (a ∷ xs) name = links_at s a name ++ links_on s xs name
+links_on s (a ∷ xs) name = links_at_ports s a name ++ links_on s xs name

@@ -1,31 +1,20 @@
 -- The parts of a rule as they are printed. Contracts of this crate's own functions alone cite these words.
-use Rattle.std.specs.Prelude.{ℕ, ◌-◌, ◌==◌, ◌&&◌, Bool, false, List, ◌++◌, map, drop, slice_index_or}
+use Rattle.std.specs.Prelude.{ℕ, ◌-◌, ◌==◌, ◌&&◌, Bool, false, List, ◌++◌, drop, slice_index_or}
 use Rattle.lmn_base.specs.declared.functor.Label.{Label}
 use Rattle.lmn_base.specs.declared.functor.Label.TheVariants.{Name, Int}
 use Rattle.lmn_base.specs.declared.guard.Cond.{Cond}
 use Rattle.lmn_base.specs.declared.level.CtxUse.{CtxUse}
 use Rattle.lmn_base.specs.declared.level.Leaf.{Leaf}
 use Rattle.lmn_base.specs.declared.level.Level.{Level}
-use Rattle.lmn_base.specs.declared.level.Occ.{Occ}
 use Rattle.lmn_base.specs.declared.rule.RuleTree.{RuleTree}
 use Rattle.lmn_congruence.specs.Rules as tree
-use Rattle.lmn_congruence.specs.Translation.{name_of, label_of, leaf_of, level_of, condition_of, rules_from, no_such_rule}
-use Rattle.lmn_plain.specs.Words.{text_of, label_piece, leaf_pieces, link_piece, rule_pieces, condition_pieces, piece_text}
-
--- the links of occurrences
-abbrev pub link_numbers : List Occ → List ℕ
-link_numbers links = map (λ o. o.link) links
-
-abbrev pub link_text : ℕ → List ℕ
-link_text x = piece_text (link_piece x)
-
-abbrev pub label_text : List tree.Name → Label → List ℕ
-label_text names label = piece_text (label_piece (label_of names label))
+use Rattle.lmn_congruence.specs.Translation.{name_of, leaf_of, level_of, condition_of, rules_from, no_such_rule}
+use Rattle.lmn_plain.specs.Words.{text_of, leaf_pieces, rule_pieces, condition_pieces}
 
 -- whether an atom with a label and so many links is a connector
-abbrev pub is_connector : Label → ℕ → Bool
-is_connector (Name n) arity = (n == 0) && (arity == 2)
-is_connector (Int z) arity = false
+abbrev pub makes_connector : Label → ℕ → Bool
+makes_connector (Name n) arity = (n == 0) && (arity == 2)
+makes_connector (Int z) arity = false
 
 abbrev pub leaf_text : List tree.Name → Leaf → List ℕ
 leaf_text names leaf = text_of (leaf_pieces (leaf_of names leaf))

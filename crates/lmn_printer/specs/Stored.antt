@@ -5,7 +5,7 @@ use Rattle.lmn_base.specs.declared.solid.SolidAtom.{SolidAtom}
 use Rattle.lmn_congruence.specs.Rules.{Name}
 use Rattle.lmn_congruence.specs.Translation.{numbered_rule, solid_atom_of}
 use Rattle.lmn_heap.specs.Heap.{Heap, HeapAtom, arity_of, mark_of, atoms_in, rules_in}
-use Rattle.lmn_heap.specs.Solid.{numbered}
+use Rattle.lmn_heap.specs.Solid.{links_from}
 use Rattle.lmn_plain.specs.SolidLines.{atom_as_leaf}
 use Rattle.lmn_plain.specs.Words.{text_of, leaf_pieces, rule_pieces}
 
@@ -19,7 +19,7 @@ solid_atom_text names a = text_of (leaf_pieces (atom_as_leaf (solid_atom_of name
 
 abbrev pub stored_text : List Name → (ℕ → ℕ → ℕ) → ℕ → Option HeapAtom → List ℕ
 stored_text names number a None = []
-stored_text names number a (Some x) = solid_atom_text names (record { functor = x.functor; links = numbered number a 0 x.functor.arity })
+stored_text names number a (Some x) = solid_atom_text names (record { functor = x.functor; links = links_from number a 0 x.functor.arity })
 
 -- the atom of a number, its links by the marks of its ports
 abbrev pub atom_text : List Name → Heap → ℕ → List ℕ

@@ -4,7 +4,7 @@ use Rattle.lmn_base.specs.declared.rule.RuleTree.{RuleTree}
 use Rattle.lmn_congruence.specs.Rules.{Name}
 use Rattle.lmn_heap.specs.Heap.{Heap, IsMem, atoms_in, mems_in, rules_in}
 use Rattle.lmn_heap.specs.Sound.{Forest, bare, mem, flat, Forms}
-use Rattle.lmn_io.specs.Gathering.{Output, Adds}
+use Rattle.lmn_io.specs.Gathering.{SinkState, Adds}
 use Rattle.lmn_printer.specs.Rows.{in_row, any_behind}
 use Rattle.lmn_printer.specs.Stored.{atom_texts, rule_texts}
 
@@ -29,18 +29,18 @@ texts_in names table s = texts_with (atom_texts names s) names table s
 abbrev pub has_atoms : Texts → ℕ → Bool
 has_atoms t m = any_behind false (t.atoms m)
 
-abbrev pub has_some : Texts → ℕ → List (List ℕ) → Bool
-has_some t m inside = any_behind (has_atoms t m) inside
+abbrev pub has_atoms_or_membranes : Texts → ℕ → List (List ℕ) → Bool
+has_atoms_or_membranes t m inside = any_behind (has_atoms t m) inside
 
 -- the items of a membrane, by the texts of the membranes in it
-abbrev pub items : Texts → List ℕ → ℕ → List (List ℕ) → List ℕ
-items t between m inside =
-    in_row between false (t.atoms m) ++ (in_row between (has_atoms t m) inside ++ in_row between (has_some t m inside) (t.rules m))
+abbrev pub items_text : Texts → List ℕ → ℕ → List (List ℕ) → List ℕ
+items_text t between m inside =
+    in_row between false (t.atoms m) ++ (in_row between (has_atoms t m) inside ++ in_row between (has_atoms_or_membranes t m inside) (t.rules m))
 
 -- the membranes of a forest, each in braces
 abbrev pub members : Texts → Forest → List (List ℕ)
 members t bare = []
-members t (mem m inner rest) = (codes "{" ++ (items t (codes ", ") m (members t inner) ++ codes "}")) ∷ members t rest
+members t (mem m inner rest) = (codes "{" ++ (items_text t (codes ", ") m (members t inner) ++ codes "}")) ∷ members t rest
 
 -- The way from a membrane to the root: the membranes round it, each with the forest that stands behind it in its list.
 pub data Way : Type 0 where
@@ -48,9 +48,9 @@ pub data Way : Type 0 where
   inside : ℕ → Forest → Way → Way
 
 -- how many membranes are round it
-abbrev pub levels : Way → ℕ
-levels top = 0
-levels (inside p beside way) = levels way + 1
+abbrev pub membranes_round : Way → ℕ
+membranes_round top = 0
+membranes_round (inside p beside way) = membranes_round way + 1
 
 -- what stands between two items of the membrane at the end of a way
 abbrev pub between : Way → List ℕ
@@ -58,18 +58,18 @@ between top = codes ". "
 between (inside p beside way) = codes ", "
 
 -- m stands in its list before the membranes of a forest, and the membranes round it stand so too
-abbrev pub Stands : Heap → ℕ → Forest → Way → Type 0
-Stands s m beside top = (m ≡ s.root) × (beside ≡ bare)
-Stands s m beside (inside p beside' way) =
-    (before : List ℕ) × (ls : List ℕ) × (mems_in s p ≡ before ++ (m ∷ ls)) × Forms s beside ls × Stands s p beside' way
+abbrev pub StandsBeside : Heap → ℕ → Forest → Way → Type 0
+StandsBeside s m beside top = (m ≡ s.root) × (beside ≡ bare)
+StandsBeside s m beside (inside p beside' way) =
+    (before : List ℕ) × (ls : List ℕ) × (mems_in s p ≡ before ++ (m ∷ ls)) × Forms s beside ls × StandsBeside s p beside' way
 
 -- how many membranes of a forest, and of those behind a way, there are
 abbrev pub size : Forest → ℕ
 size f = length (flat f)
 
-abbrev pub behind : Way → ℕ
-behind top = 0
-behind (inside p beside way) = size beside + behind way
+abbrev pub membranes_behind : Way → ℕ
+membranes_behind top = 0
+membranes_behind (inside p beside way) = size beside + membranes_behind way
 
 -- where the walk stands, in how many membranes, with what is in this one and what is behind it
 pub record Position (s : Heap) (m depth : ℕ) : Type 0 where
@@ -77,17 +77,17 @@ pub record Position (s : Heap) (m depth : ℕ) : Type 0 where
   pub beside : Forest
   pub way : Way
   pub forms : Forms s inner (mems_in s m)
-  pub stands : Stands s m beside way
-  pub deep : depth ≡ levels way
-  pub few : levels way + 1 + (size inner + size beside + behind way) ≤ 2 ^ 48
+  pub stands : StandsBeside s m beside way
+  pub deep : depth ≡ membranes_round way
+  pub few : membranes_round way + 1 + (size inner + size beside + membranes_behind way) ≤ 2 ^ 48
 
 -- the same where what is in it was written
 pub record Leaving (s : Heap) (m depth : ℕ) : Type 0 where
   pub beside : Forest
   pub way : Way
-  pub stands : Stands s m beside way
-  pub deep : depth ≡ levels way
-  pub few : levels way + 1 + (size beside + behind way) ≤ 2 ^ 48
+  pub stands : StandsBeside s m beside way
+  pub deep : depth ≡ membranes_round way
+  pub few : membranes_round way + 1 + (size beside + membranes_behind way) ≤ 2 ^ 48
 
 -- what is to be written from the end of a membrane on
 abbrev pub closing : Texts → Way → Forest → List ℕ
@@ -98,35 +98,35 @@ closing t (inside p beside' way) beside =
 -- what is to be written from the beginning of a membrane on, from behind its atoms, and from behind its membranes, where
 -- `any` says whether an item stands before its rules
 abbrev pub from_atoms : Texts → {s : Heap} {m depth : ℕ} → Position s m depth → List ℕ
-from_atoms t {m = m} p = items t (between p.way) m (members t p.inner) ++ closing t p.way p.beside
+from_atoms t {m = m} p = items_text t (between p.way) m (members t p.inner) ++ closing t p.way p.beside
 
 abbrev pub from_membranes : Texts → {s : Heap} {m depth : ℕ} → Position s m depth → List ℕ
 from_membranes t {m = m} p =
     in_row (between p.way) (has_atoms t m) (members t p.inner)
-    ++ (in_row (between p.way) (has_some t m (members t p.inner)) (t.rules m) ++ closing t p.way p.beside)
+    ++ (in_row (between p.way) (has_atoms_or_membranes t m (members t p.inner)) (t.rules m) ++ closing t p.way p.beside)
 
 abbrev pub from_rules : Texts → {s : Heap} {m depth : ℕ} → Bool → Leaving s m depth → List ℕ
 from_rules t {m = m} any p = in_row (between p.way) any (t.rules m) ++ closing t p.way p.beside
 
 -- how many membranes the walk has still to enter
-abbrev pub ahead : {s : Heap} {m depth : ℕ} → Position s m depth → ℕ
-ahead p = size p.inner + size p.beside + behind p.way
+abbrev pub membranes_ahead : {s : Heap} {m depth : ℕ} → Position s m depth → ℕ
+membranes_ahead p = size p.inner + size p.beside + membranes_behind p.way
 
 abbrev pub left_behind : {s : Heap} {m depth : ℕ} → Leaving s m depth → ℕ
-left_behind p = size p.beside + behind p.way
+left_behind p = size p.beside + membranes_behind p.way
 
 -- The walk went on to another membrane: it wrote what was left but for what is left from there on.
-pub record GoesOn (t : Texts) (s : Heap) (left : List ℕ) (more m depth : ℕ) (old new : Output) : Type 0 where
+pub record WalksOn (t : Texts) (s : Heap) (left : List ℕ) (more m depth : ℕ) (old new : SinkState) : Type 0 where
   pub position : Position s m depth
   pub written : List ℕ
   pub adds : Adds written old new
   pub rest : left ≡ written ++ from_atoms t position
-  pub fewer : ahead position + 1 ≤ more
+  pub fewer : membranes_ahead position + 1 ≤ more
 
 -- the items of the root
 abbrev pub tree_text : Texts → Forest → List ℕ
 tree_text t bare = []
-tree_text t (mem m inner rest) = items t (codes ". ") m (members t inner)
+tree_text t (mem m inner rest) = items_text t (codes ". ") m (members t inner)
 
 -- whether anything stands in a membrane of a heap
 abbrev pub has_any : Heap → ℕ → Bool

@@ -4,20 +4,20 @@ use Rattle.lmn_base.specs.declared.rule.RuleTree.{RuleTree}
 use Rattle.lmn_base.specs.declared.solid.Solid.{Solid}
 use Rattle.lmn_congruence.specs.Rules.{Name}
 use Rattle.lmn_heap.specs.Heap.{Heap, mems_in, rules_in}
-use Rattle.lmn_heap.specs.Solid.{SolidOf}
+use Rattle.lmn_heap.specs.Solid.{HasSolid}
 use Rattle.lmn_heap.specs.Sound.{Forest, IsTree}
 use Rattle.lmn_plain.specs.SolidLines.{solid_line}
 use Rattle.lmn_printer.specs.Rows.{any_behind, between_if}
 use Rattle.lmn_printer.specs.Stored.{TellsNumbers}
 use Rattle.lmn_printer.specs.Walks.{Texts, AreTexts, texts_with, tree_text}
 
--- the line of a solid of the heap
-abbrev pub IsLineOf : List Name → List RuleTree → Heap → List ℕ → Type 0
-IsLineOf names table s text = (x : Solid) × SolidOf s x × (text ≡ solid_line names table x)
+-- the line of a solid of the heap, in the plain form
+abbrev pub IsPlainHeapLine : List Name → List RuleTree → Heap → List ℕ → Type 0
+IsPlainHeapLine names table s text = (x : Solid) × HasSolid s x × (text ≡ solid_line names table x)
 
 -- the line of a solid of the heap where the marks of ports tell the numbers of its links
 abbrev pub IsMarkedLineOf : List Name → List RuleTree → Heap → List ℕ → Type 0
-IsMarkedLineOf names table s text = (x : Solid) × (of : SolidOf s x) × TellsNumbers s of.name × (text ≡ solid_line names table x)
+IsMarkedLineOf names table s text = (x : Solid) × (of : HasSolid s x) × TellsNumbers s of.name × (text ≡ solid_line names table x)
 
 -- whether anything stands at the root of a heap, by the texts of the atoms there
 abbrev pub has_items : List (List ℕ) → Heap → Bool

@@ -1,5 +1,5 @@
 //! Guards: conditions and expressions.
-ghost use Rattle.std.specs.Prelude.{◌≡◌, ℕ, map, codes};
+ghost use Rattle.std.specs.Prelude.{◌≡◌, map};
 ghost use Rattle.lmn_io.specs.Gathering.{Adds, output};
 ghost use Rattle.lmn_congruence.specs.Translation.{comparison_of, condition_of, expression_of, kind_of, operator_of};
 ghost use Rattle.lmn_plain.specs.Words.{comparison_pieces, condition_pieces, guard_pieces, operand_pieces, operator_pieces, side_pieces, text_of};

@@ -1,14 +1,15 @@
 //! Names, integers, links and contexts.
-ghost use Rattle.std.specs.Prelude.{◌≡◌, ◌++◌, ℕ, ℤ, codes, if◌then◌else◌};
+ghost use Rattle.std.specs.Prelude.{◌≡◌, ◌++◌};
 ghost use Rattle.std.specs.Fmt.{signed_decimal};
 ghost use Rattle.std.specs.List.{list_all};
 ghost use Rattle.lmn_io.specs.Gathering.{Adds, output};
 ghost use Rattle.lmn_congruence.specs.Rules.{named};
 ghost use Rattle.lmn_congruence.specs.Translation.{label_of, name_of};
 ghost use Rattle.lmn_base.specs.Names.{IsNames};
-ghost use Rattle.lmn_lexer.specs.Spelling.{goes_on};
+ghost use Rattle.lmn_lexer.specs.Spelling.{goes_on, is_bare_name};
 ghost use Rattle.lmn_plain.specs.Words.{link_name};
-ghost use Rattle.lmn_plain.specs.Labels.{is_bare, label_text, quoted, quoted_byte};
+ghost use Rattle.lmn_plain.specs.Labels.{label_text};
+ghost use Rattle.lmn_lexer.specs.NameText.{quoted, quoted_byte};
 
 use itoa::Buffer;
 use lmn_base::{Label, Names};
@@ -101,7 +102,7 @@ fn quoted_byte(byte: &u8) -> &[u8]
 
 /// Whether a name is written without quotes.
 fn is_bare(name: &[u8]) -> bool
-    ensures { result ≡ is_bare name.now }
+    ensures { result ≡ is_bare_name name.now }
 {
     match name {
         [] => false,

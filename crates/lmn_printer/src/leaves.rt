@@ -1,10 +1,11 @@
 //! Leaves and contexts, and rows of them.
-ghost use Rattle.std.specs.Prelude.{◌≡◌, ℕ, false, map, codes, length};
+ghost use Rattle.std.specs.Prelude.{◌≡◌, false, map, codes};
 ghost use Rattle.lmn_io.specs.Gathering.{Adds, output};
-ghost use Rattle.lmn_congruence.specs.Translation.{atom_of, names_of};
-ghost use Rattle.lmn_plain.specs.Words.{contexts_pieces, leaf_pieces, link_name, links_pieces, text_of};
-ghost use Rattle.lmn_printer.specs.Parts.{context_text, is_connector, leaf_text, link_numbers};
+ghost use Rattle.lmn_congruence.specs.Translation.{atom_or_connector, names_of};
+ghost use Rattle.lmn_plain.specs.Words.{contexts_pieces, leaf_pieces, links_pieces, text_of};
+ghost use Rattle.lmn_printer.specs.Parts.{context_text, makes_connector, leaf_text};
 ghost use Rattle.lmn_printer.specs.Rows.{any_behind, between_if, in_row};
+ghost use Rattle.lmn_base.specs.Levels.{link_numbers};
 
 use crate::labels::{add_context, add_label, add_link};
 use lmn_base::{CONNECTOR_NAME, CtxUse, Label, Leaf, Names, Occ};
@@ -63,7 +64,7 @@ fn add_atom<O: Sink>(
     label: Label,
     links: &[Occ],
 )
-    ensures { Adds (text_of (leaf_pieces (atom_of names.now label (link_numbers links.now)))) (output buffer.old (O.told out.old) (O.faults out.old)) (output buffer.new (O.told out.new) (O.faults out.new)) }
+    ensures { Adds (text_of (leaf_pieces (atom_or_connector names.now label (link_numbers links.now)))) (output buffer.old (O.told out.old) (O.faults out.old)) (output buffer.new (O.told out.new) (O.faults out.new)) }
 {
     if is_connector(label, links.len()) {
         add_link(buffer, out, links[0].link as u64);
@@ -77,7 +78,7 @@ fn add_atom<O: Sink>(
 
 /// Whether an atom of this label with so many links is a connector.
 fn is_connector(label: Label, arity: usize) -> bool
-    ensures { result ≡ is_connector label arity }
+    ensures { result ≡ makes_connector label arity }
 {
     match label {
         Label::Name(name) => name == CONNECTOR_NAME && arity == 2,

@@ -1,10 +1,10 @@
 //! The numbers of links, in the marks of their ports: each mark is greater by one.
 ghost use Rattle.std.specs.Prelude.{◌≡◌, ◌<◌, ◌≤◌, ◌+◌, ◌^◌, ℕ, [], ◌∷◌};
 ghost use Rattle.lmn_base.specs.declared.solid.Solid.{Solid};
-ghost use Rattle.lmn_heap.specs.Heap.{IsAtom, arity_of, mark_of};
-ghost use Rattle.lmn_heap.specs.Solid.{SolidOf};
+ghost use Rattle.lmn_heap.specs.Heap.{IsAtom, arity_of, mark_of, PortsUnmarked};
+ghost use Rattle.lmn_heap.specs.Solid.{HasSolid};
 ghost use Rattle.lmn_heap.specs.Sound.{Valid};
-ghost use Rattle.lmn_printer.specs.Numbers.{GoOn, Remarks, Unmarked, links_at};
+ghost use Rattle.lmn_printer.specs.Numbers.{GoOn, Remarks, links_at_ports};
 ghost use Rattle.lmn_printer.specs.Stored.{TellsNumbers};
 
 use crate::order::{first_printed, next_printed};
@@ -14,7 +14,7 @@ use lmn_store::LinkStore;
 pub(crate) fn number_links<S: LinkStore>(store: &mut S)
     requires { Valid (S.heap store.old) }
     ensures marks { Remarks (S.heap store.old) (S.heap store.new) }
-    ensures numbers { Unmarked (S.heap store.old) → (x : Solid) (of : SolidOf (S.heap store.old) x) → TellsNumbers (S.heap store.new) of.name }
+    ensures numbers { PortsUnmarked (S.heap store.old) → (x : Solid) (of : HasSolid (S.heap store.old) x) → TellsNumbers (S.heap store.new) of.name }
 {
     let _root = store.root();
     let mut count: u64 = 0;
@@ -30,7 +30,7 @@ fn number_ports<S: LinkStore>(store: &mut S, atom: S::Atom, count: u64) -> u64
     requires atom { IsAtom (S.heap store.old) (S.atom_id atom) }
     requires count { count + 255 < 2 ^ 64 }
     ensures marks { Remarks (S.heap store.old) (S.heap store.new) }
-    ensures numbers { GoOn (S.heap store.old) (S.heap store.new) count result (links_at (S.heap store.old) (S.atom_id atom)) }
+    ensures numbers { GoOn (S.heap store.old) (S.heap store.new) count result (links_at_ports (S.heap store.old) (S.atom_id atom)) }
     ensures few { result ≤ count + 255 }
 {
     let _root = store.root();
@@ -67,7 +67,7 @@ pub fn number_port<S: LinkStore>(store: &mut S, atom: S::Atom, port: u8, count: 
 pub(crate) fn clear_numbers<S: LinkStore>(store: &mut S)
     requires { Valid (S.heap store.old) }
     ensures marks { Remarks (S.heap store.old) (S.heap store.new) }
-    ensures none { Unmarked (S.heap store.new) }
+    ensures none { PortsUnmarked (S.heap store.new) }
 {
     let _root = store.root();
     let mut next = first_printed(store);

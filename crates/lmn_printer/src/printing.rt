@@ -2,8 +2,8 @@
 ghost use Rattle.std.specs.Prelude.{◌≡◌};
 ghost use Rattle.lmn_heap.specs.Sound.{Valid};
 ghost use Rattle.lmn_io.specs.Writing.{Writes};
-ghost use Rattle.lmn_printer.specs.Numbers.{Unmarked};
-ghost use Rattle.lmn_printer.specs.Writing.{IsLineOf};
+ghost use Rattle.lmn_printer.specs.Writing.{IsPlainHeapLine};
+ghost use Rattle.lmn_heap.specs.Heap.{PortsUnmarked};
 
 use crate::line::write_line;
 use crate::numbers::{clear_numbers, number_links};
@@ -24,8 +24,8 @@ pub fn print<S: LinkStore, O: Sink>(
     sink: &mut O,
 ) -> Result<(), Failed>
     requires valid { Valid (S.heap store.old) }
-    requires unmarked { Unmarked (S.heap store.old) }
-    ensures writes { Writes (IsLineOf names.now plain.now.rules (S.heap store.old)) result (O.told sink.old) (O.faults sink.old) (O.told sink.new) (O.faults sink.new) }
+    requires unmarked { PortsUnmarked (S.heap store.old) }
+    ensures writes { Writes (IsPlainHeapLine names.now plain.now.rules (S.heap store.old)) result (O.told sink.old) (O.faults sink.old) (O.told sink.new) (O.faults sink.new) }
     ensures kept { S.heap store.new ≡ S.heap store.old }
 {
     number_links(store);

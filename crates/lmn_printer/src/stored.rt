@@ -1,7 +1,7 @@
 //! What stands in one membrane of a store: its atoms and its rules.
-ghost use Rattle.std.specs.Prelude.{◌≡◌, ◌<◌, ◌≤◌, ℕ, Bool, Some, false, map, codes};
-ghost use Rattle.lmn_heap.specs.Heap.{IsAtom, IsMem, arity_of, functor_of};
-ghost use Rattle.lmn_heap.specs.Solid.{numbered};
+ghost use Rattle.std.specs.Prelude.{◌≡◌, false};
+ghost use Rattle.lmn_heap.specs.Heap.{IsAtom, IsMem, arity_of};
+ghost use Rattle.lmn_heap.specs.Solid.{links_from};
 ghost use Rattle.lmn_io.specs.Gathering.{Adds, output};
 ghost use Rattle.lmn_plain.specs.Words.{links_pieces, text_of};
 ghost use Rattle.lmn_printer.specs.Rows.{in_row};
@@ -63,7 +63,7 @@ fn add_ports<S: LinkStore, O: Sink>(
 )
     requires atom { IsAtom (S.heap store.now) (S.atom_id atom) }
     requires arity { arity ≡ arity_of (S.heap store.now) (S.atom_id atom) }
-    ensures { Adds (text_of (links_pieces (numbered (number_by_mark (S.heap store.now)) (S.atom_id atom) 0 arity))) (output buffer.old (O.told out.old) (O.faults out.old)) (output buffer.new (O.told out.new) (O.faults out.new)) }
+    ensures { Adds (text_of (links_pieces (links_from (number_by_mark (S.heap store.now)) (S.atom_id atom) 0 arity))) (output buffer.old (O.told out.old) (O.faults out.old)) (output buffer.new (O.told out.new) (O.faults out.new)) }
 {
     if arity == 0 {
         return;

@@ -1,9 +1,8 @@
 //! The walk over the membranes of a store that writes them. It takes no memory, and no more stack for a deeper store.
-ghost use Rattle.std.specs.Prelude.{◌≡◌, ◌<◌, ◌≤◌, ℕ, Bool, List, MatchOption, IsTrue};
-ghost use Rattle.lmn_heap.specs.Heap.{IsMem};
+ghost use Rattle.std.specs.Prelude.{◌≡◌, ℕ, List, MatchOption};
 ghost use Rattle.lmn_heap.specs.Sound.{Forest, IsTree};
 ghost use Rattle.lmn_io.specs.Gathering.{Adds, output};
-ghost use Rattle.lmn_printer.specs.Walks.{AreTexts, GoesOn, Leaving, Position, Way, ahead, between, from_membranes, from_rules, left_behind, levels, texts_with, tree_text};
+ghost use Rattle.lmn_printer.specs.Walks.{AreTexts, WalksOn, Leaving, Position, Way, membranes_ahead, between, from_membranes, from_rules, left_behind, membranes_round, texts_with, tree_text};
 
 use crate::leaves::add_between;
 use crate::stored::add_rules;
@@ -21,7 +20,7 @@ struct Stand<M> {
 
 /// What stands between two items of a membrane that stands in so many others.
 fn between(depth: u64) -> &'static [u8]
-    ensures { (way : Way) → depth ≡ levels way → result.now ≡ between way }
+    ensures { (way : Way) → depth ≡ membranes_round way → result.now ≡ between way }
 {
     if depth == 0 { b". " } else { b", " }
 }
@@ -72,7 +71,7 @@ fn go_on<S: LinkStore, O: Sink, W: AtomWriter<S, O>>(
         let t = texts_with atoms names.now table.now (S.heap store.now) in
         (p : Position (S.heap store.now) (S.mem_id at.mem) at.depth) → MatchOption result
         (Adds (from_membranes t p) (output buffer.old (O.told out.old) (O.faults out.old)) (output buffer.new (O.told out.new) (O.faults out.new)))
-        (λ next. GoesOn t (S.heap store.now) (from_membranes t p) (ahead p) (S.mem_id next.mem) next.depth (output buffer.old (O.told out.old) (O.faults out.old)) (output buffer.new (O.told out.new) (O.faults out.new))) }
+        (λ next. WalksOn t (S.heap store.now) (from_membranes t p) (membranes_ahead p) (S.mem_id next.mem) next.depth (output buffer.old (O.told out.old) (O.faults out.old)) (output buffer.new (O.told out.new) (O.faults out.new))) }
 {
     let _root = store.root();
     let any = writer.has_atoms(store, at.mem);
@@ -103,7 +102,7 @@ fn leave<S: LinkStore, O: Sink>(
     ensures { (atoms : ℕ → List (List ℕ)) → let t = texts_with atoms names.now table.now (S.heap store.now) in
         (p : Leaving (S.heap store.now) (S.mem_id from.mem) from.depth) → MatchOption result
         (Adds (from_rules t before p) (output buffer.old (O.told out.old) (O.faults out.old)) (output buffer.new (O.told out.new) (O.faults out.new)))
-        (λ next. GoesOn t (S.heap store.now) (from_rules t before p) (left_behind p) (S.mem_id next.mem) next.depth (output buffer.old (O.told out.old) (O.faults out.old)) (output buffer.new (O.told out.new) (O.faults out.new))) }
+        (λ next. WalksOn t (S.heap store.now) (from_rules t before p) (left_behind p) (S.mem_id next.mem) next.depth (output buffer.old (O.told out.old) (O.faults out.old)) (output buffer.new (O.told out.new) (O.faults out.new))) }
 {
     let _root = store.root();
     let mut at = from;

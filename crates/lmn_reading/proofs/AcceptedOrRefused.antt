@@ -21,22 +21,22 @@ use Rattle.lmn_guards.specs.declared.plan.GuardPlan.{GuardPlan}
 use Rattle.lmn_guards.specs.Plans.{IsPlan, binding, leaves_by_membrane, numbered_uses, typed_use}
 use Rattle.lmn_lexer.proofs.CutOrRefused.{cut_or_refused}
 use Rattle.lmn_lexer.specs.Cutting.{Cuts}
-use Rattle.lmn_lexer.specs.Faults.{IsRefusal, NothingWrong}
+use Rattle.lmn_lexer.specs.Faults.{IsLexicalFault, NothingWrong}
 use Rattle.lmn_lexer.specs.Laying.{words_of}
 use Rattle.lmn_lexer.specs.declared.token.Kind.{Kind}
 use Rattle.lmn_lexer.specs.declared.token.Token.{Token}
 use Rattle.lmn_linkcheck.proofs.Firsts.{first_of_both as first_refusal_of_both, first_alone}
 use Rattle.lmn_linkcheck.proofs.LinkedLemmas.{no_fault_is_linked}
 use Rattle.lmn_linkcheck.proofs.Tables.{absent, fault_is_told, told_is_fault}
-use Rattle.lmn_linkcheck.specs.Least.{IsFirstOf, first_of}
+use Rattle.lmn_linkcheck.specs.Least.{IsFirstRefusal, earlier_refusal}
 use Rattle.lmn_parser.proofs.OneReading.{cut_ends}
 use Rattle.lmn_parser.proofs.OneLanguage.{refused_by_trees}
 use Rattle.lmn_parser.proofs.TreesExist.{trees_exist}
 use Rattle.lmn_parser.specs.Faults.{IsRefusalOf}
 use Rattle.lmn_parser.specs.Parsing.{kinds_of}
 use Rattle.lmn_plain.proofs.SomePlain.{some_plain}
-use Rattle.lmn_plain.specs.Plains.{Each}
-use Rattle.lmn_reading.specs.Laws.{IsAcceptedText, AcceptedOrRefused}
+use Rattle.lmn_plain.specs.Plains.{EachPair}
+use Rattle.lmn_reading.specs.Laws.{IsAcceptedText, ReadingAcceptsOrRefuses}
 use Rattle.lmn_reading.specs.Texts.{ReadsAs, IsRefusedAs, by_bytes, by_tokens, by_contexts, by_links, by_rules, rows_of_rules}
 use Rattle.lmn_reading.proofs.Readings.{well_made}
 use Rattle.lmn_reading.proofs.Rules.{rules_accepted}
@@ -60,16 +60,16 @@ decided (row ∷ rows) = let first = some_first row.places in by row.places refl
 
 -- ---- links
 
-some_first_of : (refusals : List Refusal) → (first : Option Refusal) × IsFirstOf refusals first
+some_first_of : (refusals : List Refusal) → (first : Option Refusal) × IsFirstRefusal refusals first
 some_first_of [] = (None, refl)
 some_first_of (a ∷ refusals) =
     let rest = some_first_of refusals in
-    (first_of (Some a) rest.0, first_refusal_of_both (a ∷ []) refusals (Some a) rest.0 (first_alone (Some a) (a ∷ []) refl) rest.1)
+    (earlier_refusal (Some a) rest.0, first_refusal_of_both (a ∷ []) refusals (Some a) rest.0 (first_alone (Some a) (a ∷ []) refl) rest.1)
 
 links_decided : (p : Plain) → IsWellMade p → ((a : Refusal) → ¬ (LinkFault p a)) ⊎ ((refusal : Refusal) × IsFirstFault p refusal)
 links_decided p is = let first = some_first_of (told_of_plain p) in by first.0 first.1
   where
-    by : (first : Option Refusal) → IsFirstOf (told_of_plain p) first → ((a : Refusal) → ¬ (LinkFault p a)) ⊎ ((refusal : Refusal) × IsFirstFault p refusal)
+    by : (first : Option Refusal) → IsFirstRefusal (told_of_plain p) first → ((a : Refusal) → ¬ (LinkFault p a)) ⊎ ((refusal : Refusal) × IsFirstFault p refusal)
     by None h = inl (λ a f. absent a (subst (λ refusals. Contains refusals a) h (fault_is_told p is a f)))
     by (Some a) h = inr (
       a,
@@ -84,7 +84,7 @@ links_decided p is = let first = some_first_of (told_of_plain p) in by first.0 f
 plan_of : (r : RuleTree) → (plan : GuardPlan) × IsPlan r plan
 plan_of r = (record { kinds = numbered_uses (typed_use r.head r.guard) 0 (leaves_by_membrane r.head); bound = flat_map (binding r.head) r.guard }, record { kinds = refl; bound = refl })
 
-plans_of : (rs : List RuleTree) → (plans : List GuardPlan) × Each IsPlan rs plans
+plans_of : (rs : List RuleTree) → (plans : List GuardPlan) × EachPair IsPlan rs plans
 plans_of [] = ([], tt)
 plans_of (r ∷ rs) = let one = plan_of r in let rest = plans_of rs in (one.0 ∷ rest.0, (one.1, rest.1))
 
@@ -134,12 +134,12 @@ module _ (alloc : Global) (text : List ℕ) (names : List Name) where
       let is_refusal : IsRefusalOf tokens refusal = record { number = p; token = there.0; is_there = at; placed = refl; refused = refused_by_trees (kinds_of tokens) p c h } in
       inr (refusal, by_tokens tokens right cut is_refusal)
 
-  by_the_bytes : ((tokens : List Token) × Cuts text tokens × NothingWrong text) ⊎ ((refusal : Refusal) × IsRefusal text refusal) → Decided
+  by_the_bytes : ((tokens : List Token) × Cuts text tokens × NothingWrong text) ⊎ ((refusal : Refusal) × IsLexicalFault text refusal) → Decided
   by_the_bytes (inr (refusal, h)) = inr (refusal, by_bytes h)
   by_the_bytes (inl (tokens, cut, right)) =
       let end = cut_ends text tokens cut in
       let P : List Kind → Type 0 = λ ks. (Derives program ks × IsWithin ks) ⊎ ((p : ℕ) × (c : ℕ) × IsRefused (Derives program) ks p c) in
       by_the_tokens tokens cut right (subst P (sym end.1) (derived_or_refused end.0))
 
-pub accepted_or_refused : AcceptedOrRefused
+pub accepted_or_refused : ReadingAcceptsOrRefuses
 accepted_or_refused alloc text names = by_the_bytes alloc text names (cut_or_refused text)

@@ -1,7 +1,6 @@
 -- The codes of the table, and that each refusal has one.
-use Rattle.std.proofs.Common.{◌≡◌, ℕ, ◌==◌, inl, inr, Bool, true, false, cond, List, [], ◌∷◌, ◌++◌, Option, Some, IsSome, refl, sym, ap, subst, ◌∙◌, arith}
+use Rattle.std.proofs.Common.{◌≡◌, ℕ, ◌==◌, inl, inr, Bool, true, false, cond, List, [], ◌∷◌, ◌++◌, Option, Some, IsSome, refl, sym, ap, subst, ◌∙◌}
 use Rattle.std.specs.List.{All, flat_map}
-use Rattle.std.proofs.lemmas.Bool.Decides.{nat_tests}
 use Rattle.std.proofs.lemmas.List.Elements.{All-append, All-from_recursion, All-head, All-nil, All-tail}
 use Rattle.std.proofs.lemmas.Option.{same_Some}
 use Rattle.lmn_base.specs.declared.guard.Cond.{Cond}
@@ -14,16 +13,16 @@ use Rattle.lmn_base.specs.LinkCodes.{LinkFault, once_in_process, too_often_in_pr
 use Rattle.lmn_base.specs.RuleCodes.{rule_rows}
 use Rattle.lmn_expand.specs.Outside.{outside_rules}
 use Rattle.lmn_grammar.specs.Refusing.{Refuses}
-use Rattle.lmn_parser.specs.Faults.{IsProgram}
 use Rattle.lmn_guards.specs.GuardCodes.{guard_rows, rows_of_condition, rows_of_conditions, rows_of_typed}
 use Rattle.lmn_lexer.specs.declared.token.Kind.{Kind}
 use Rattle.lmn_lexer.specs.Faults.{Wrong, bad_byte, bad_quoted_byte, open_quote, open_comment, wrong_token, string, inline_code, hyperlink, TokenFault, integer_out_of_range, long_name, floating_point}
 use Rattle.lmn_reading.specs.declared.code.Code.{Code}
 use Rattle.lmn_reading.specs.declared.code.Code.TheVariants.{TextTooLong, BadByte, NotClosed, IntegerOutOfRange, NameTooLong, FloatingPoint, StringLiteral, InlineCode, Hyperlink, UnexpectedToken, NestingTooDeep, TooManyArguments, LinkOnce, LinkTooOften, LinkOnceInRule, LinkTooOftenInRule, ContextOutsideHeadMembrane, TwoContextsInMembrane, ContextTwiceInHead, ContextNotOnceInBody, ContextNotInHead, RuleContextOutsideHeadMembrane, RuleInHead, ConnectorInHead, EmptyHead, ContextOutsideRule, ContextWithoutType, UnknownGuard, WrongOperands, UnboundContext, RuleTooLarge, ContextInTwoForms, TypedContextNotHeld, ProcessTooLarge}
-use Rattle.lmn_reading.specs.Codes.{number_of, code_of, CodesAreNumbered, NumbersAreOfCodes}
+use Rattle.lmn_reading.specs.Codes.{code_number, code_of, CodesAreNumbered, NumbersAreOfCodes, IsCode}
 use Rattle.lmn_reading.specs.Laws.{RefusalsHaveCodes}
 use Rattle.lmn_reading.specs.Texts.{by_bytes, by_tokens, by_contexts, by_links, by_rules, rows_of_rule, rows_of_rules}
 use Rattle.std.proofs.lemmas.Bool.{eqb-true}
+use Rattle.lmn_parser.specs.Faults.{AreKindsOfProgram}
 
 pub codes_are_numbered : CodesAreNumbered
 codes_are_numbered TextTooLong = refl
@@ -62,11 +61,11 @@ codes_are_numbered TypedContextNotHeld = refl
 codes_are_numbered ProcessTooLarge = refl
 
 -- a code that is found by a test, or by what comes later
-found : (n m : ℕ) (here code : Code) (later : Option Code) → number_of here ≡ m → (cond (n == m) (Some here) later) ≡ Some code → (later ≡ Some code → n ≡ number_of code) → n ≡ number_of code
+found : (n m : ℕ) (here code : Code) (later : Option Code) → code_number here ≡ m → (cond (n == m) (Some here) later) ≡ Some code → (later ≡ Some code → n ≡ code_number code) → n ≡ code_number code
 found n m here code later is e rest = by (n == m) refl e
   where
-    by : (b : Bool) → (n == m) ≡ b → cond b (Some here) later ≡ Some code → n ≡ number_of code
-    by true t h = eqb-true n m t ∙ sym is ∙ ap number_of (same_Some here code h)
+    by : (b : Bool) → (n == m) ≡ b → cond b (Some here) later ≡ Some code → n ≡ code_number code
+    by true t h = eqb-true n m t ∙ sym is ∙ ap code_number (same_Some here code h)
     by false t h = rest h
 
 pub numbers_are_of_codes : NumbersAreOfCodes
@@ -157,13 +156,10 @@ of_bytes minus text _ _ (string a b) = refl
 of_bytes minus text _ _ (inline_code a b) = refl
 of_bytes minus text _ _ (hyperlink a b) = refl
 
-abbrev IsOfCode : ℕ → Type 0
-IsOfCode n = IsSome (code_of n)
-
-of_tokens : (code : ℕ) (before : List Kind) (token : Kind) → Refuses IsProgram code before token → IsSome (code_of code)
-of_tokens code before token (inl (e, h)) = subst IsOfCode (sym e) refl
-of_tokens code before token (inr (b, inl h)) = let e = h.0 in subst IsOfCode (sym e) refl
-of_tokens code before token (inr (b, inr h)) = let e = h.0 in subst IsOfCode (sym e) refl
+of_tokens : (code : ℕ) (before : List Kind) (token : Kind) → Refuses AreKindsOfProgram code before token → IsSome (code_of code)
+of_tokens code before token (inl (e, h)) = subst IsCode (sym e) refl
+of_tokens code before token (inr (b, inl h)) = let e = h.0 in subst IsCode (sym e) refl
+of_tokens code before token (inr (b, inr h)) = let e = h.0 in subst IsCode (sym e) refl
 
 pub refusals_have_codes : RefusalsHaveCodes
 refusals_have_codes text names refusal (by_bytes h) = of_bytes _ _ _ _ h.wrong

@@ -1,5 +1,5 @@
 -- A text is accepted or refused in one way.
-use Rattle.std.proofs.Common.{◌≡◌, ℕ, zero, suc, Bool, true, false, not, ◌&&◌, ◌||◌, nat_le, List, [], ◌∷◌, map, Some, slice_get, IsTrue, refl, sym, ap, subst, ◌∙◌, arith}
+use Rattle.std.proofs.Common.{◌≡◌, ℕ, zero, suc, true, nat_le, List, [], ◌∷◌, map, Some, slice_get, IsTrue, refl, sym, ap, subst, ◌∙◌, arith}
 use Rattle.std.specs.List.{AllByRecursion, flat_map}
 use Rattle.std.proofs.lemmas.Bool.Decides.{nat_tests}
 use Rattle.std.proofs.lemmas.List.Elements.{All-append}
@@ -19,27 +19,28 @@ use Rattle.lmn_congruence.specs.Rules.{Name}
 use Rattle.lmn_expand.specs.Outside.{outside_rules}
 use Rattle.lmn_grammar.proofs.Refusals.{refused_once}
 use Rattle.lmn_grammar.specs.Refusing.{IsRefused}
-use Rattle.lmn_guards.specs.Accepted.{IsAccepted}
+use Rattle.lmn_guards.specs.Accepted.{IsAcceptedRule}
 use Rattle.lmn_guards.specs.GuardCodes.{guard_rows}
 use Rattle.lmn_guards.specs.declared.plan.GuardPlan.{GuardPlan}
 use Rattle.lmn_lexer.proofs.OneCut.{one_cut, refused_is_wrong}
 use Rattle.lmn_lexer.proofs.OneCut.{one_refusal as one_of_bytes}
 use Rattle.lmn_lexer.specs.Cutting.{Cuts}
-use Rattle.lmn_lexer.specs.Faults.{IsRefusal}
+use Rattle.lmn_lexer.specs.Faults.{IsLexicalFault}
 use Rattle.lmn_lexer.specs.Laying.{words_of}
 use Rattle.lmn_lexer.specs.declared.token.Token.{Token}
 use Rattle.lmn_parser.proofs.OneReading.{one_reading}
 use Rattle.lmn_parser.proofs.OneLanguage.{refused_no_tree}
-use Rattle.lmn_parser.specs.Faults.{IsFaultOf, IsProgram}
+use Rattle.lmn_parser.specs.Faults.{IsFaultOf, AreKindsOfProgram}
 use Rattle.lmn_parser.specs.Parsing.{kinds_of}
 use Rattle.lmn_parser.specs.Syntax.{Clauses}
 use Rattle.lmn_plain.proofs.OnePlain.{one_plain}
 use Rattle.lmn_plain.specs.Laws.{IsPlain}
-use Rattle.lmn_plain.specs.Plains.{Each}
+use Rattle.lmn_plain.specs.Plains.{EachPair}
 use Rattle.lmn_plain.specs.SamePlains.{SameRule, SamePlain}
-use Rattle.lmn_reading.specs.Laws.{RefusedNotAccepted, OneRefusal, OneAcceptance}
+use Rattle.lmn_reading.specs.Laws.{RefusedTextNotAccepted, ReadingRefusesOnce, OneAcceptance}
 use Rattle.lmn_reading.specs.Texts.{ReadsAs, IsAcceptedAs, IsRefusedAs, by_bytes, by_tokens, by_contexts, by_links, by_rules, rows_of_rule, rows_of_rules}
 use Rattle.lmn_reading.proofs.SameRules.{one_plans, same_plain_names, same_plain_rows, same_tops}
+use Rattle.lmn_base.proofs.Truth.{guarded_first as place_first, guarded_then as code_then}
 
 same_refusal : (a b : Refusal) → a.code ≡ b.code → a.pos ≡ b.pos → a ≡ b
 same_refusal a b c p = λ i. record { code = c i; pos = p i }
@@ -48,12 +49,12 @@ same_refusal a b c p = λ i. record { code = c i; pos = p i }
 
 one_token_fault : (ts : List Token) (a b : Refusal) → IsFaultOf ts (Refused a) → IsFaultOf ts (Refused b) → a ≡ b
 one_token_fault ts a b h k =
-    let same = refused_once IsProgram (kinds_of ts) h.number k.number a.code b.code h.refused k.refused in
+    let same = refused_once AreKindsOfProgram (kinds_of ts) h.number k.number a.code b.code h.refused k.refused in
     same_refusal a b same.1 (h.placed ∙ ap (λ z. z.pos) (same_Some h.token k.token (sym h.is_there ∙ ap (slice_get ts) same.0 ∙ k.is_there)) ∙ sym k.placed)
 
 -- ---- links
 
-same_at : (rs ss : List RuleTree) → Each SameRule rs ss → (k : ℕ) (r : RuleTree) → slice_get rs k ≡ Some r → (s : RuleTree) × (slice_get ss k ≡ Some s) × SameRule r s
+same_at : (rs ss : List RuleTree) → EachPair SameRule rs ss → (k : ℕ) (r : RuleTree) → slice_get rs k ≡ Some r → (s : RuleTree) × (slice_get ss k ≡ Some s) × SameRule r s
 same_at [] [] h zero r e = absurd (cc)
 same_at [] [] h (suc k) r e = absurd (cc)
 same_at [] (s ∷ ss) h k r e = absurd h
@@ -73,15 +74,6 @@ same_fault p q h a (too_often_in_rule {pos = pos} k r e f) =
     let same = s.2 in
     too_often_in_rule k s.0 s.1 (subst (λ l. OccursTooOften (s.0.head ∷ l ∷ []) pos) same.body (subst (λ l. OccursTooOften (l ∷ r.body ∷ []) pos) same.head f))
 
-place_first : (f b k : Bool) → (f && (not b || k)) ≡ true → f ≡ true
-place_first true b k e = refl
-place_first false b k e = absurd (cc)
-
-code_then : (f b k : Bool) → (f && (not b || k)) ≡ true → b ≡ true → k ≡ true
-code_then true true k e g = e
-code_then true false k e g = absurd (cc)
-code_then false b k e g = absurd (cc)
-
 both_ways : (m n : ℕ) → nat_le m n ≡ true → nat_le n m ≡ true → m ≡ n
 both_ways m n g h = grind (arith, nat_tests)
 
@@ -95,7 +87,7 @@ neither_behind a b h g =
 
 -- ---- rules
 
-none_of_accepted : (table rules : List RuleTree) → AllByRecursion (IsAccepted table) rules → NoneApplies (flat_map (rows_of_rule table) rules)
+none_of_accepted : (table rules : List RuleTree) → AllByRecursion (IsAcceptedRule table) rules → NoneApplies (flat_map (rows_of_rule table) rules)
 none_of_accepted table [] h = no_rows
 none_of_accepted table (r ∷ rs) h =
     let P : Row → Type 0 = λ row. row.places ≡ [] in
@@ -112,13 +104,13 @@ module _ (text : List ℕ) (names : List Name) where
       one_plain (words_of text g.tokens) (map (λ t. t.pos) g.tokens) names g.tree p q (subst Q same.1 (subst P same.0 h.is_plain)) g.is_plain
 
   -- a text that reads as a plain isn't refused by its bytes, nor by its tokens
-  not_by_bytes : (a : Refusal) (p : Plain) → IsRefusal text a → ReadsAs text names p → ⊥
+  not_by_bytes : (a : Refusal) (p : Plain) → IsLexicalFault text a → ReadsAs text names p → ⊥
   not_by_bytes a p h r = refused_is_wrong text a h r.right
 
   not_by_tokens : (a : Refusal) (p : Plain) (ts : List Token) → Cuts text ts → IsFaultOf ts (Refused a) → ReadsAs text names p → ⊥
   not_by_tokens a p ts c h r =
       let same = ap kinds_of (one_cut text ts r.tokens c r.reads.cut) in
-      let P : List _ → Type 0 = λ k. IsRefused IsProgram k h.number a.code in
+      let P : List _ → Type 0 = λ k. IsRefused AreKindsOfProgram k h.number a.code in
       refused_no_tree r.tokens r.tree h.number a.code (subst P same h.refused) r.reads.is_tree r.within
 
   -- nor by its contexts, where none stands outside every rule; and so on
@@ -175,10 +167,10 @@ module _ (text : List ℕ) (names : List Name) where
   not_both a q plans (by_links p f outside h) k = not_by_links a p q f k.reads h k.links
   not_both a q plans (by_rules p f outside links h) k = not_by_rules a p q f k.reads h (none_of_accepted q.rules q.rules k.rules)
 
-pub one_refusal : OneRefusal
+pub one_refusal : ReadingRefusesOnce
 one_refusal text names a b h k = one text names a b h k
 
-pub refused_not_accepted : RefusedNotAccepted
+pub refused_not_accepted : RefusedTextNotAccepted
 refused_not_accepted text names a h (q, plans, k) = not_both text names a q plans h k
 
 pub one_acceptance : OneAcceptance

@@ -1,5 +1,5 @@
 -- What is read of a text, layer by layer.
-use Rattle.std.proofs.Common.{◌≡◌, ℕ, ◌≤◌, List, [], ◌∷◌, map, Result, Ok, Err, MatchResult, sym, ap, ◌∙◌, subst, arith}
+use Rattle.std.proofs.Common.{◌≡◌, ℕ, List, [], ◌∷◌, map, Result, Ok, Err, MatchResult, sym, ap, ◌∙◌, subst}
 use Rattle.std.proofs.lemmas.List.Elements.{All-head}
 use Rattle.lmn_base.specs.declared.refusal.Refusal.{Refusal}
 use Rattle.lmn_base.specs.declared.refusal.TextFault.{TextFault}
@@ -10,25 +10,24 @@ use Rattle.lmn_base.specs.LinkCodes.{AnswersLinks}
 use Rattle.lmn_base.specs.Refusals.{IfRefused}
 use Rattle.lmn_base.specs.WellMade.{IsWellMade}
 use Rattle.lmn_congruence.specs.Rules.{Name}
-use Rattle.lmn_expand.specs.Glossaries.{GrowsBy}
 use Rattle.lmn_expand.specs.NameLists.{names_read}
 use Rattle.lmn_expand.specs.Outside.{outside_rules}
 use Rattle.lmn_grammar.specs.Refusing.{IsWithin, IsRefused as IsRefusedAt}
 use Rattle.lmn_guards.specs.Plans.{IsPlan}
 use Rattle.lmn_lexer.specs.Cutting.{Cuts}
-use Rattle.lmn_lexer.specs.Faults.{IsRefusal, NothingWrong}
+use Rattle.lmn_lexer.specs.Faults.{IsLexicalFault, NothingWrong}
 use Rattle.lmn_lexer.specs.Laying.{words_of}
 use Rattle.lmn_lexer.specs.declared.token.Kind.{Kind}
 use Rattle.lmn_lexer.specs.declared.token.Token.{Token}
 use Rattle.lmn_lexer.proofs.OneCut.{one_cut, refused_is_wrong}
 use Rattle.lmn_linkcheck.proofs.LinkedLemmas.{no_fault_is_linked}
 use Rattle.lmn_parser.proofs.OneLanguage.{refused_no_tree}
-use Rattle.lmn_parser.specs.Faults.{IsFaultOf, IsProgram}
+use Rattle.lmn_parser.specs.Faults.{IsFaultOf, AreKindsOfProgram}
 use Rattle.lmn_parser.specs.Parsing.{kinds_of}
 use Rattle.lmn_parser.specs.Readings.{Reads}
 use Rattle.lmn_parser.specs.Syntax.{Clauses}
 use Rattle.lmn_plain.specs.Laws.{IsPlain}
-use Rattle.lmn_plain.specs.Plains.{Each}
+use Rattle.lmn_plain.specs.Plains.{EachPair}
 use Rattle.lmn_plain.proofs.PrintedLines.{plains_are_well_made}
 use Rattle.lmn_reading.specs.declared.reading.Accepted.{Accepted}
 use Rattle.lmn_reading.specs.Texts.{IsAcceptedAs, IsRefusedAs, LeavesNames, ReadsAs, by_bytes, by_tokens, by_contexts, by_links, by_rules, rows_of_rules}
@@ -43,7 +42,7 @@ with_each P (Err NoMemory) p = tt
 
 module _ (text : List ℕ) (before after : List Name) where
   -- a text with a wrong byte reads as no tree
-  pub none_by_bytes : (fault : TextFault) → IfRefused fault (λ refusal. IsRefusal text refusal) → IfRefused fault (λ refusal. LeavesNames text before after)
+  pub none_by_bytes : (fault : TextFault) → IfRefused fault (λ refusal. IsLexicalFault text refusal) → IfRefused fault (λ refusal. LeavesNames text before after)
   none_by_bytes (Refused r) h = λ tokens tree right reads within. absurd (refused_is_wrong text r h right)
   none_by_bytes NoMemory h = tt
 
@@ -51,7 +50,7 @@ module _ (text : List ℕ) (before after : List Name) where
   pub none_by_tokens : (tokens : List Token) (fault : TextFault) → Cuts text tokens → IsFaultOf tokens fault → IfRefused fault (λ refusal. LeavesNames text before after)
   none_by_tokens ts (Refused r) cut h = λ tokens tree right reads within.
       let same = ap kinds_of (one_cut text ts tokens cut reads.cut) in
-      let P : List Kind → Type 0 = λ k. IsRefusedAt IsProgram k h.number r.code in
+      let P : List Kind → Type 0 = λ k. IsRefusedAt AreKindsOfProgram k h.number r.code in
       absurd (refused_no_tree tokens tree h.number r.code (subst P same h.refused) reads.is_tree within)
   none_by_tokens ts NoMemory cut h = tt
 
@@ -67,7 +66,7 @@ module _ (text : List ℕ) (before after : List Name) where
   names_with_each ts tree (Err NoMemory) reads h = tt
 
 module _ (text : List ℕ) (names : List Name) where
-  pub bytes_refused : (fault : TextFault) → IfRefused fault (λ refusal. IsRefusal text refusal) → IfRefused fault (IsRefusedAs text names)
+  pub bytes_refused : (fault : TextFault) → IfRefused fault (λ refusal. IsLexicalFault text refusal) → IfRefused fault (IsRefusedAs text names)
   bytes_refused (Refused refusal) h = by_bytes h
   bytes_refused NoMemory h = tt
 
@@ -98,7 +97,7 @@ module _ (text : List ℕ) (names : List Name) where
 
   pub all_read : (plain : Plain) (y : Result (Unit {0}) Refusal) (u : Unit {0}) (x : Result Accepted TextFault) → ReadsAs text names plain
       → NoneApplies (outside_rules plain.top ∷ []) → y ≡ Ok u → AnswersLinks plain y
-      → MatchResult x (λ a. (a.plain ≡ plain) × NoneApplies (rows_of_rules plain) × Each IsPlan plain.rules a.plans) (λ fault. IfRefused fault (RefusedBy (rows_of_rules plain)))
+      → MatchResult x (λ a. (a.plain ≡ plain) × NoneApplies (rows_of_rules plain) × EachPair IsPlan plain.rules a.plans) (λ fault. IfRefused fault (RefusedBy (rows_of_rules plain)))
       → MatchResult x (λ a. IsAcceptedAs text names a.plain a.plans) (λ fault. IfRefused fault (IsRefusedAs text names))
   all_read plain y u (Ok a) r none e h k =
       let P : Plain → Type 0 = λ p. IsAcceptedAs text names p a.plans in

@@ -12,17 +12,14 @@ use Rattle.lmn_base.specs.Firsts.{Row, RefusedBy, NoneApplies, AnswersBy}
 use Rattle.lmn_base.specs.Refusals.{IfRefused}
 use Rattle.lmn_base.specs.RuleCodes.{rule_rows}
 use Rattle.lmn_base.specs.WellMade.{IsLinkedRule}
-use Rattle.lmn_base.proofs.RowLemmas.{no_rows, refused_later, refused_now}
-use Rattle.lmn_guards.specs.Accepted.{IsAccepted}
+use Rattle.lmn_base.proofs.RowLemmas.{no_rows, refused_later, refused_now, Nowhere}
+use Rattle.lmn_guards.specs.Accepted.{IsAcceptedRule}
 use Rattle.lmn_guards.specs.GuardCodes.{guard_rows}
 use Rattle.lmn_guards.specs.Plans.{IsPlan}
 use Rattle.lmn_guards.specs.declared.plan.GuardPlan.{GuardPlan}
-use Rattle.lmn_plain.specs.Plains.{Each}
-use Rattle.lmn_expand.proofs.GlossaryLemmas.{some_at}
+use Rattle.lmn_plain.specs.Plains.{EachPair}
 use Rattle.lmn_reading.specs.Texts.{rows_of_rule}
-
-abbrev Nowhere : Row → Type 0
-Nowhere row = row.places ≡ []
+use Rattle.lmn_base.proofs.Lists.{get_there as some_at}
 
 none_left : (rows more : List Row) → NoneApplies (rows ++ more) → NoneApplies rows
 none_left [] more h = no_rows
@@ -34,7 +31,7 @@ none_right (row ∷ rows) more h = none_right rows more (All-tail Nowhere row (r
 
 -- rules of which nothing that is asked applies are accepted, where they are linked
 pub rules_accepted : (table rules : List RuleTree) → ((k : ℕ) (r : RuleTree) → slice_get rules k ≡ Some r → IsLinkedRule r)
-    → NoneApplies (flat_map (rows_of_rule table) rules) → AllByRecursion (IsAccepted table) rules
+    → NoneApplies (flat_map (rows_of_rule table) rules) → AllByRecursion (IsAcceptedRule table) rules
 rules_accepted table [] linked none = tt
 rules_accepted table (r ∷ rs) linked none =
     let rest = flat_map (rows_of_rule table) rs in
@@ -70,14 +67,14 @@ module _ (table : List RuleTree) (number : ℕ) (seen : RuleTree) (x : Result (U
 -- nothing that is asked of these rules applies, and these are their plans
 pub record SoFar (table done : List RuleTree) (plans : List GuardPlan) : Type 0 where
   pub none : NoneApplies (flat_map (rows_of_rule table) done)
-  pub planned : Each IsPlan done plans
+  pub planned : EachPair IsPlan done plans
 
 module _ (table : List RuleTree) where
   abbrev rows : RuleTree → List Row
   rows = rows_of_rule table
 
   pub nothing_so_far : (plans : List GuardPlan) → plans ≡ [] → SoFar table [] plans
-  nothing_so_far plans e = let P : List GuardPlan → Type 0 = Each IsPlan [] in record { none = no_rows; planned = subst P (sym e) tt }
+  nothing_so_far plans e = let P : List GuardPlan → Type 0 = EachPair IsPlan [] in record { none = no_rows; planned = subst P (sym e) tt }
 
   refused_in : (rules : List RuleTree) (i : ℕ) (refusal : Refusal) (rule : RuleTree) → NoneApplies (flat_map rows (take i rules)) → slice_get rules i ≡ Some rule
       → RefusedBy (rows rule) refusal → RefusedBy (flat_map rows rules) refusal
@@ -102,8 +99,8 @@ module _ (table : List RuleTree) where
       All-append Nowhere (rows r) (flat_map rows (take (suc i) rs)) (none_left (rows r) (flat_map rows (take i rs)) none)
       (none_more rs i (omega (arith, l)) (none_right (rows r) (flat_map rows (take i rs)) none) h)
 
-  each_more : (rules : List RuleTree) (i : ℕ) (plans : List GuardPlan) (plan : GuardPlan) → i < length rules → Each IsPlan (take i rules) plans
-      → ((rule : RuleTree) → slice_get rules i ≡ Some rule → IsPlan rule plan) → Each IsPlan (take (suc i) rules) (plans ++ plan ∷ [])
+  each_more : (rules : List RuleTree) (i : ℕ) (plans : List GuardPlan) (plan : GuardPlan) → i < length rules → EachPair IsPlan (take i rules) plans
+      → ((rule : RuleTree) → slice_get rules i ≡ Some rule → IsPlan rule plan) → EachPair IsPlan (take (suc i) rules) (plans ++ plan ∷ [])
   each_more [] i plans plan l e h = absurd (omega (arith, l))
   each_more (r ∷ rs) zero [] plan l e h = (h r refl, tt)
   each_more (r ∷ rs) zero (p ∷ ps) plan l e h = absurd e
@@ -113,7 +110,7 @@ module _ (table : List RuleTree) where
   pub plans_more : (rules : List RuleTree) (i : ℕ) (plans more : List GuardPlan) (plan : GuardPlan) → i < length rules → SoFar table (take i rules) plans
       → ((rule : RuleTree) → slice_get rules i ≡ Some rule → NoneApplies (rows rule) × IsPlan rule plan) → more ≡ plans ++ plan ∷ [] → SoFar table (take (i + 1) rules) more
   plans_more rules i plans more plan l s h e =
-      let P : List GuardPlan → Type 0 = Each IsPlan (take (suc i) rules) in
+      let P : List GuardPlan → Type 0 = EachPair IsPlan (take (suc i) rules) in
       let Q : ℕ → Type 0 = λ n. SoFar table (take n rules) more in
       let next : suc i ≡ i + 1 = omega arith in
       subst Q next (record {
@@ -122,7 +119,7 @@ module _ (table : List RuleTree) where
       })
 
   pub all_planned : (rules : List RuleTree) (i : ℕ) (plans : List GuardPlan) → length rules ≤ i → SoFar table (take i rules) plans
-      → NoneApplies (flat_map rows rules) × Each IsPlan rules plans
+      → NoneApplies (flat_map rows rules) × EachPair IsPlan rules plans
   all_planned rules i plans l s =
-      let P : List RuleTree → Type 0 = λ rs. NoneApplies (flat_map rows rs) × Each IsPlan rs plans in
+      let P : List RuleTree → Type 0 = λ rs. NoneApplies (flat_map rows rs) × EachPair IsPlan rs plans in
       subst P (take_all i rules l) (s.none, s.planned)

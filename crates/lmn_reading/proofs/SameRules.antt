@@ -16,7 +16,7 @@ use Rattle.lmn_base.specs.declared.level.Leaf.TheVariants as leaf
 use Rattle.lmn_base.specs.declared.level.Level.{Level}
 use Rattle.lmn_base.specs.declared.rule.Plain.{Plain}
 use Rattle.lmn_base.specs.declared.rule.RuleTree.{RuleTree}
-use Rattle.lmn_base.specs.Items.{used, items_of, expression_items, expression_step, condition_items, rule_items, number_of_items}
+use Rattle.lmn_base.specs.Items.{used, items_of, expression_items, expression_items_step, condition_items, rule_items, number_of_items}
 use Rattle.lmn_base.specs.Levels.{leaves_of}
 use Rattle.lmn_base.specs.Names as names
 use Rattle.lmn_base.specs.Names.{expression_names, condition_names, level_names, rule_names, plain_names}
@@ -24,13 +24,13 @@ use Rattle.lmn_base.specs.RuleCodes.{expression_tokens, condition_tokens, inner_
 use Rattle.lmn_base.specs.Uses.{has_use}
 use Rattle.lmn_congruence.specs.Rules as tree
 use Rattle.lmn_congruence.specs.Translation as translated
-use Rattle.lmn_congruence.specs.Translation.{level_of, name_of, operator_of, comparison_of, expression_of, condition_of, rules_from, numbered_rule, no_such_rule, top_of}
+use Rattle.lmn_congruence.specs.Translation.{level_of, name_of, operator_of, comparison_of, expression_of, condition_of, rules_from, no_such_rule, top_of}
 use Rattle.lmn_guards.specs.declared.plan.GuardPlan.{GuardPlan}
 use Rattle.lmn_guards.specs.declared.plan.TypeKind.{TypeKind}
 use Rattle.lmn_guards.specs.declared.plan.TypeKind.TheVariants as kind
 use Rattle.lmn_guards.specs.GuardCodes.{in_head, is_bound, unknown, use_of_none, unbound, is_of_head, wrong_operands, asks, type_of, untyped, unheld, rows_of_conditions, guard_rows}
 use Rattle.lmn_guards.specs.Plans.{IsPlan, with_type, typed_use, leaves_by_membrane, numbered_uses, binding}
-use Rattle.lmn_plain.specs.Plains.{Each}
+use Rattle.lmn_plain.specs.Plains.{EachPair}
 use Rattle.lmn_plain.specs.SamePlains.{SameExpr, same_integer, same_context, same_operation, SameCond, same_condition, same_comparison, same_equation, SameRule, SamePlain}
 use Rattle.lmn_reading.specs.Texts.{rows_of_rule, rows_of_rules}
 
@@ -47,8 +47,8 @@ same_items : {a b : Expr} → SameExpr a b → expression_items a ≡ expression
 same_items (same_integer z) = refl
 same_items (same_context u) = refl
 same_items (same_operation op a b c d h g) =
-    fold-roll-Expr (List Item) expression_step (step.Op op a b) ∙ ap (λ xs. xs ++ expression_items b.value) (same_items h)
-    ∙ ap (λ xs. expression_items c.value ++ xs) (same_items g) ∙ sym (fold-roll-Expr (List Item) expression_step (step.Op op c d))
+    fold-roll-Expr (List Item) expression_items_step (step.Op op a b) ∙ ap (λ xs. xs ++ expression_items b.value) (same_items h)
+    ∙ ap (λ xs. expression_items c.value ++ xs) (same_items g) ∙ sym (fold-roll-Expr (List Item) expression_items_step (step.Op op c d))
 
 same_of_head : (head : Level) {a b : Expr} → SameExpr a b → is_of_head head a ≡ is_of_head head b
 same_of_head head (same_integer z) = refl
@@ -68,8 +68,8 @@ same_expression_names : {a b : Expr} → SameExpr a b → expression_names a ≡
 same_expression_names (same_integer z) = refl
 same_expression_names (same_context u) = refl
 same_expression_names (same_operation op a b c d h g) =
-    fold-roll-Expr (List ℕ) names.expression_step (step.Op op a b) ∙ ap (λ xs. xs ++ expression_names b.value) (same_expression_names h)
-    ∙ ap (λ xs. expression_names c.value ++ xs) (same_expression_names g) ∙ sym (fold-roll-Expr (List ℕ) names.expression_step (step.Op op c d))
+    fold-roll-Expr (List ℕ) names.expression_names_step (step.Op op a b) ∙ ap (λ xs. xs ++ expression_names b.value) (same_expression_names h)
+    ∙ ap (λ xs. expression_names c.value ++ xs) (same_expression_names g) ∙ sym (fold-roll-Expr (List ℕ) names.expression_names_step (step.Op op c d))
 
 -- ---- conditions
 
@@ -119,37 +119,37 @@ same_asks head kind.Ground n (same_equation {u = u} h) = λ i. in_head head u.na
 
 -- ---- guards
 
-any_same : (f : Cond → Bool) → ((c d : Cond) → SameCond c d → f c ≡ f d) → (cs ds : List Cond) → Each SameCond cs ds → list_any f cs ≡ list_any f ds
+any_same : (f : Cond → Bool) → ((c d : Cond) → SameCond c d → f c ≡ f d) → (cs ds : List Cond) → EachPair SameCond cs ds → list_any f cs ≡ list_any f ds
 any_same f same [] [] h = refl
 any_same f same [] (d ∷ ds) h = absurd h
 any_same f same (c ∷ cs) [] h = absurd h
 any_same f same (c ∷ cs) (d ∷ ds) h = λ i. same c d h.0 i || any_same f same cs ds h.1 i
 
-flat_same : {A : Type 0} (f : Cond → List A) → ((c d : Cond) → SameCond c d → f c ≡ f d) → (cs ds : List Cond) → Each SameCond cs ds → flat_map f cs ≡ flat_map f ds
+flat_same : {A : Type 0} (f : Cond → List A) → ((c d : Cond) → SameCond c d → f c ≡ f d) → (cs ds : List Cond) → EachPair SameCond cs ds → flat_map f cs ≡ flat_map f ds
 flat_same f same [] [] h = refl
 flat_same f same [] (d ∷ ds) h = absurd h
 flat_same f same (c ∷ cs) [] h = absurd h
 flat_same f same (c ∷ cs) (d ∷ ds) h = λ i. same c d h.0 i ++ flat_same f same cs ds h.1 i
 
-map_same : {A : Type 0} (f : Cond → A) → ((c d : Cond) → SameCond c d → f c ≡ f d) → (cs ds : List Cond) → Each SameCond cs ds → map f cs ≡ map f ds
+map_same : {A : Type 0} (f : Cond → A) → ((c d : Cond) → SameCond c d → f c ≡ f d) → (cs ds : List Cond) → EachPair SameCond cs ds → map f cs ≡ map f ds
 map_same f same [] [] h = refl
 map_same f same [] (d ∷ ds) h = absurd h
 map_same f same (c ∷ cs) [] h = absurd h
 map_same f same (c ∷ cs) (d ∷ ds) h = λ i. same c d h.0 i ∷ map_same f same cs ds h.1 i
 
-sum_same : (f : Cond → ℕ) → ((c d : Cond) → SameCond c d → f c ≡ f d) → (cs ds : List Cond) → Each SameCond cs ds → sum_by f cs ≡ sum_by f ds
+sum_same : (f : Cond → ℕ) → ((c d : Cond) → SameCond c d → f c ≡ f d) → (cs ds : List Cond) → EachPair SameCond cs ds → sum_by f cs ≡ sum_by f ds
 sum_same f same [] [] h = refl
 sum_same f same [] (d ∷ ds) h = absurd h
 sum_same f same (c ∷ cs) [] h = absurd h
 sum_same f same (c ∷ cs) (d ∷ ds) h = sum_by-cons f c cs ∙ (λ i. same c d h.0 i + sum_same f same cs ds h.1 i) ∙ sym (sum_by-cons f d ds)
 
-length_same : (cs ds : List Cond) → Each SameCond cs ds → length cs ≡ length ds
+length_same : (cs ds : List Cond) → EachPair SameCond cs ds → length cs ≡ length ds
 length_same [] [] h = refl
 length_same [] (d ∷ ds) h = absurd h
 length_same (c ∷ cs) [] h = absurd h
 length_same (c ∷ cs) (d ∷ ds) h = ap suc (length_same cs ds h.1)
 
-one_more_same : (cs ds : List Cond) (c d : Cond) → Each SameCond cs ds → SameCond c d → Each SameCond (cs ++ c ∷ []) (ds ++ d ∷ [])
+one_more_same : (cs ds : List Cond) (c d : Cond) → EachPair SameCond cs ds → SameCond c d → EachPair SameCond (cs ++ c ∷ []) (ds ++ d ∷ [])
 one_more_same [] [] c d h s = (s, tt)
 one_more_same [] (y ∷ ds) c d h s = absurd h
 one_more_same (x ∷ cs) [] c d h s = absurd h
@@ -157,7 +157,7 @@ one_more_same (x ∷ cs) (y ∷ ds) c d h s = (h.0, one_more_same cs ds c d h.1 
 
 -- Guards of one head.
 module _ (head : Level) where
-  module _ (before others : List Cond) (h : Each SameCond before others) where
+  module _ (before others : List Cond) (h : EachPair SameCond before others) where
     same_bound : (n : ℕ) → is_bound head before n ≡ is_bound head others n
     same_bound n = λ i. not (in_head head n) && any_same (is_left_of n) (λ c d s. same_left n s) before others h i
 
@@ -188,7 +188,7 @@ module _ (head : Level) where
     same_wrong _ _ (same_comparison s t) = refl
     same_wrong _ _ (same_equation {u = u} {pos = pos} s) = λ i. if (in_head head u.name && not (same_of_head head s i)) || same_bound u.name i then pos ∷ [] else []
 
-  same_conditions : (before others cs ds : List Cond) → Each SameCond before others → Each SameCond cs ds → rows_of_conditions head before cs ≡ rows_of_conditions head others ds
+  same_conditions : (before others cs ds : List Cond) → EachPair SameCond before others → EachPair SameCond cs ds → rows_of_conditions head before cs ≡ rows_of_conditions head others ds
   same_conditions before others [] [] b h = refl
   same_conditions before others [] (d ∷ ds) b h = absurd h
   same_conditions before others (c ∷ cs) [] b h = absurd h
@@ -198,7 +198,7 @@ module _ (head : Level) where
       ∷ record { code = 42; places = same_wrong before others b c d h.0 i }
       ∷ same_conditions (before ++ c ∷ []) (others ++ d ∷ []) cs ds (one_more_same before others c d b h.0) h.1 i
 
-  module _ (cs ds : List Cond) (h : Each SameCond cs ds) where
+  module _ (cs ds : List Cond) (h : EachPair SameCond cs ds) where
     same_type : (n : ℕ) → type_of head cs n ≡ type_of head ds n
     same_type n = λ i.
         if any_same (asks head kind.Int n) (λ c d s. same_asks head kind.Int n s) cs ds h i then Some kind.Int
@@ -235,7 +235,7 @@ guarded r cs = record { head = r.head; guard = cs; body = r.body; links = r.link
 but_for_guard : (r s : RuleTree) → SameRule r s → r ≡ guarded s r.guard
 but_for_guard r s h = λ i. record { head = h.head i; guard = r.guard; body = h.body i; links = h.links i; pos = h.pos i }
 
-module _ (s : RuleTree) (cs ds : List Cond) (h : Each SameCond cs ds) where
+module _ (s : RuleTree) (cs ds : List Cond) (h : EachPair SameCond cs ds) where
   same_guard_rows : guard_rows (guarded s cs) ≡ guard_rows (guarded s ds)
   same_guard_rows = λ i. same_conditions s.head [] [] cs ds tt h i
       ++ (record { code = 40; places = all_untyped s.head cs ds h (leaves_of s.head) i } ∷ record { code = 46; places = flat_map (unheld s.head) (leaves_of s.head) } ∷ [])
@@ -289,13 +289,13 @@ module _ (table others : List RuleTree) (inner : (k : ℕ) → option_map (λ (r
   same_rows r s h = ap (rows_of_rule table) (but_for_guard r s h)
       ∙ (λ i. same_rule_rows s r.guard s.guard h.guard table others inner i ++ same_guard_rows s r.guard s.guard h.guard i)
 
-  all_rows : (rs ss : List RuleTree) → Each SameRule rs ss → flat_map (rows_of_rule table) rs ≡ flat_map (rows_of_rule others) ss
+  all_rows : (rs ss : List RuleTree) → EachPair SameRule rs ss → flat_map (rows_of_rule table) rs ≡ flat_map (rows_of_rule others) ss
   all_rows [] [] h = refl
   all_rows [] (s ∷ ss) h = absurd h
   all_rows (r ∷ rs) [] h = absurd h
   all_rows (r ∷ rs) (s ∷ ss) h = λ i. same_rows r s h.0 i ++ all_rows rs ss h.1 i
 
-places_of_rules : (rs ss : List RuleTree) → Each SameRule rs ss → (k : ℕ) → option_map (λ (r : RuleTree). r.pos) (slice_get rs k) ≡ option_map (λ (r : RuleTree). r.pos) (slice_get ss k)
+places_of_rules : (rs ss : List RuleTree) → EachPair SameRule rs ss → (k : ℕ) → option_map (λ (r : RuleTree). r.pos) (slice_get rs k) ≡ option_map (λ (r : RuleTree). r.pos) (slice_get ss k)
 places_of_rules [] [] h k = refl
 places_of_rules [] (s ∷ ss) h k = absurd h
 places_of_rules (r ∷ rs) [] h k = absurd h
@@ -317,7 +317,7 @@ one_plan r s plan other h p q = λ i. record { kinds = kinds i; bound = bound i 
     bound : plan.bound ≡ other.bound
     bound = p.bound ∙ (λ i. flat_map (binding (h.head i)) r.guard) ∙ flat_same (binding s.head) (λ c d e. same_binding s.head e) r.guard s.guard h.guard ∙ sym q.bound
 
-pub one_plans : (rs ss : List RuleTree) (plans others : List GuardPlan) → Each SameRule rs ss → Each IsPlan rs plans → Each IsPlan ss others → plans ≡ others
+pub one_plans : (rs ss : List RuleTree) (plans others : List GuardPlan) → EachPair SameRule rs ss → EachPair IsPlan rs plans → EachPair IsPlan ss others → plans ≡ others
 one_plans [] [] [] [] h p q = refl
 one_plans [] [] [] (o ∷ os) h p q = absurd q
 one_plans [] [] (x ∷ xs) os h p q = absurd p
@@ -328,7 +328,7 @@ one_plans (r ∷ rs) (s ∷ ss) (x ∷ xs) [] h p q = absurd q
 one_plans (r ∷ rs) (s ∷ ss) (x ∷ xs) (o ∷ os) h p q = λ i. one_plan r s x o h.0 p.0 q.0 i ∷ one_plans rs ss xs os h.1 p.1 q.1 i
 
 -- and they have the same names
-rule_names_same : (rs ss : List RuleTree) → Each SameRule rs ss → flat_map rule_names rs ≡ flat_map rule_names ss
+rule_names_same : (rs ss : List RuleTree) → EachPair SameRule rs ss → flat_map rule_names rs ≡ flat_map rule_names ss
 rule_names_same [] [] h = refl
 rule_names_same [] (s ∷ ss) h = absurd h
 rule_names_same (r ∷ rs) [] h = absurd h
@@ -342,7 +342,7 @@ same_plain_names p q h = λ i. level_names (h.top i) ++ rule_names_same p.rules 
 
 -- and they are the same trees
 module _ (names : List tree.Name) where
-  same_trees : (k : ℕ) (rs ss : List RuleTree) → Each SameRule rs ss → rules_from names k rs ≡ rules_from names k ss
+  same_trees : (k : ℕ) (rs ss : List RuleTree) → EachPair SameRule rs ss → rules_from names k rs ≡ rules_from names k ss
   same_trees k [] [] h = refl
   same_trees k [] (s ∷ ss) h = absurd h
   same_trees k (r ∷ rs) [] h = absurd h

@@ -1,79 +1,81 @@
 -- The table of refusals: the number and the words of each code.
-use Rattle.std.specs.Prelude.{ℕ, ◌≡◌, ◌==◌, List, [], Option, Some, None, codes, if◌then◌else◌}
+use Rattle.std.specs.Prelude.{ℕ, ◌≡◌, ◌==◌, List, [], Option, Some, None, codes, if◌then◌else◌, IsSome}
 use Rattle.lmn_reading.specs.declared.code.Code.{Code}
 use Rattle.lmn_reading.specs.declared.code.Code.TheVariants.{TextTooLong, BadByte, NotClosed, IntegerOutOfRange, NameTooLong, FloatingPoint, StringLiteral, InlineCode, Hyperlink, UnexpectedToken, NestingTooDeep, TooManyArguments, LinkOnce, LinkTooOften, LinkOnceInRule, LinkTooOftenInRule, ContextOutsideHeadMembrane, TwoContextsInMembrane, ContextTwiceInHead, ContextNotOnceInBody, ContextNotInHead, RuleContextOutsideHeadMembrane, RuleInHead, ConnectorInHead, EmptyHead, ContextOutsideRule, ContextWithoutType, UnknownGuard, WrongOperands, UnboundContext, RuleTooLarge, ContextInTwoForms, TypedContextNotHeld, ProcessTooLarge}
 
-abbrev pub number_of : Code → ℕ
-number_of TextTooLong = 1
-number_of BadByte = 2
-number_of NotClosed = 3
-number_of IntegerOutOfRange = 4
-number_of NameTooLong = 5
-number_of FloatingPoint = 6
-number_of StringLiteral = 7
-number_of InlineCode = 8
-number_of Hyperlink = 9
-number_of UnexpectedToken = 10
-number_of NestingTooDeep = 11
-number_of TooManyArguments = 12
-number_of LinkOnce = 20
-number_of LinkTooOften = 21
-number_of LinkOnceInRule = 22
-number_of LinkTooOftenInRule = 23
-number_of ContextOutsideHeadMembrane = 30
-number_of TwoContextsInMembrane = 31
-number_of ContextTwiceInHead = 32
-number_of ContextNotOnceInBody = 33
-number_of ContextNotInHead = 34
-number_of RuleContextOutsideHeadMembrane = 35
-number_of RuleInHead = 36
-number_of ConnectorInHead = 37
-number_of EmptyHead = 38
-number_of ContextOutsideRule = 39
-number_of ContextWithoutType = 40
-number_of UnknownGuard = 41
-number_of WrongOperands = 42
-number_of UnboundContext = 43
-number_of RuleTooLarge = 44
-number_of ContextInTwoForms = 45
-number_of TypedContextNotHeld = 46
-number_of ProcessTooLarge = 50
+-- the number of each code
+abbrev pub code_number : Code → ℕ
+code_number TextTooLong = 1
+code_number BadByte = 2
+code_number NotClosed = 3
+code_number IntegerOutOfRange = 4
+code_number NameTooLong = 5
+code_number FloatingPoint = 6
+code_number StringLiteral = 7
+code_number InlineCode = 8
+code_number Hyperlink = 9
+code_number UnexpectedToken = 10
+code_number NestingTooDeep = 11
+code_number TooManyArguments = 12
+code_number LinkOnce = 20
+code_number LinkTooOften = 21
+code_number LinkOnceInRule = 22
+code_number LinkTooOftenInRule = 23
+code_number ContextOutsideHeadMembrane = 30
+code_number TwoContextsInMembrane = 31
+code_number ContextTwiceInHead = 32
+code_number ContextNotOnceInBody = 33
+code_number ContextNotInHead = 34
+code_number RuleContextOutsideHeadMembrane = 35
+code_number RuleInHead = 36
+code_number ConnectorInHead = 37
+code_number EmptyHead = 38
+code_number ContextOutsideRule = 39
+code_number ContextWithoutType = 40
+code_number UnknownGuard = 41
+code_number WrongOperands = 42
+code_number UnboundContext = 43
+code_number RuleTooLarge = 44
+code_number ContextInTwoForms = 45
+code_number TypedContextNotHeld = 46
+code_number ProcessTooLarge = 50
 
-abbrev pub words_of : Code → List ℕ
-words_of TextTooLong = codes "text too long"
-words_of BadByte = codes "bad byte"
-words_of NotClosed = codes "not closed"
-words_of IntegerOutOfRange = codes "integer out of range"
-words_of NameTooLong = codes "name too long"
-words_of FloatingPoint = codes "floating-point number"
-words_of StringLiteral = codes "string literal"
-words_of InlineCode = codes "inline code"
-words_of Hyperlink = codes "hyperlink"
-words_of UnexpectedToken = codes "unexpected token"
-words_of NestingTooDeep = codes "nesting too deep"
-words_of TooManyArguments = codes "too many arguments"
-words_of LinkOnce = codes "link occurs once"
-words_of LinkTooOften = codes "link occurs too often"
-words_of LinkOnceInRule = codes "link occurs once in rule"
-words_of LinkTooOftenInRule = codes "link occurs too often in rule"
-words_of ContextOutsideHeadMembrane = codes "context outside a head membrane"
-words_of TwoContextsInMembrane = codes "two contexts in one membrane"
-words_of ContextTwiceInHead = codes "context twice in head"
-words_of ContextNotOnceInBody = codes "context not once in body"
-words_of ContextNotInHead = codes "context not in head"
-words_of RuleContextOutsideHeadMembrane = codes "rule context outside a head membrane"
-words_of RuleInHead = codes "rule in head"
-words_of ConnectorInHead = codes "connector in head"
-words_of EmptyHead = codes "empty head"
-words_of ContextOutsideRule = codes "context outside a rule"
-words_of ContextWithoutType = codes "context without type"
-words_of UnknownGuard = codes "unknown guard"
-words_of WrongOperands = codes "wrong operands"
-words_of UnboundContext = codes "unbound context"
-words_of RuleTooLarge = codes "rule too large"
-words_of ContextInTwoForms = codes "context in two forms"
-words_of TypedContextNotHeld = codes "typed context not held"
-words_of ProcessTooLarge = codes "process too large"
+-- and its words
+abbrev pub code_words : Code → List ℕ
+code_words TextTooLong = codes "text too long"
+code_words BadByte = codes "bad byte"
+code_words NotClosed = codes "not closed"
+code_words IntegerOutOfRange = codes "integer out of range"
+code_words NameTooLong = codes "name too long"
+code_words FloatingPoint = codes "floating-point number"
+code_words StringLiteral = codes "string literal"
+code_words InlineCode = codes "inline code"
+code_words Hyperlink = codes "hyperlink"
+code_words UnexpectedToken = codes "unexpected token"
+code_words NestingTooDeep = codes "nesting too deep"
+code_words TooManyArguments = codes "too many arguments"
+code_words LinkOnce = codes "link occurs once"
+code_words LinkTooOften = codes "link occurs too often"
+code_words LinkOnceInRule = codes "link occurs once in rule"
+code_words LinkTooOftenInRule = codes "link occurs too often in rule"
+code_words ContextOutsideHeadMembrane = codes "context outside a head membrane"
+code_words TwoContextsInMembrane = codes "two contexts in one membrane"
+code_words ContextTwiceInHead = codes "context twice in head"
+code_words ContextNotOnceInBody = codes "context not once in body"
+code_words ContextNotInHead = codes "context not in head"
+code_words RuleContextOutsideHeadMembrane = codes "rule context outside a head membrane"
+code_words RuleInHead = codes "rule in head"
+code_words ConnectorInHead = codes "connector in head"
+code_words EmptyHead = codes "empty head"
+code_words ContextOutsideRule = codes "context outside a rule"
+code_words ContextWithoutType = codes "context without type"
+code_words UnknownGuard = codes "unknown guard"
+code_words WrongOperands = codes "wrong operands"
+code_words UnboundContext = codes "unbound context"
+code_words RuleTooLarge = codes "rule too large"
+code_words ContextInTwoForms = codes "context in two forms"
+code_words TypedContextNotHeld = codes "typed context not held"
+code_words ProcessTooLarge = codes "process too large"
 
 -- the code with a number
 abbrev pub code_of : ℕ → Option Code
@@ -114,17 +116,23 @@ code_of n =
     else if n == 50 then Some ProcessTooLarge
     else None
 
+-- a code that refuses a text
+abbrev pub IsCode : ℕ → Type 0
+IsCode code = IsSome (code_of code)
+
+-- the words of a code, where there is one
 abbrev pub words_or_none : Option Code → List ℕ
-words_or_none (Some code) = words_of code
+words_or_none (Some code) = code_words code
 words_or_none None = []
 
+-- the words of a number
 abbrev pub words_of_number : ℕ → List ℕ
 words_of_number n = words_or_none (code_of n)
 
 -- a code is the one that has its number
 abbrev pub CodesAreNumbered : Type 0
-CodesAreNumbered = (code : Code) → code_of (number_of code) ≡ Some code
+CodesAreNumbered = (code : Code) → code_of (code_number code) ≡ Some code
 
 -- and a number without a code is that of none
 abbrev pub NumbersAreOfCodes : Type 0
-NumbersAreOfCodes = (number : ℕ) (code : Code) → code_of number ≡ Some code → number ≡ number_of code
+NumbersAreOfCodes = (number : ℕ) (code : Code) → code_of number ≡ Some code → number ≡ code_number code

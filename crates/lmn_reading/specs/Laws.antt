@@ -15,18 +15,18 @@ use Rattle.lmn_reading.specs.Texts.{IsAcceptedAs, IsRefusedAs, LeavesNames, Read
 abbrev pub IsAcceptedText : List ℕ → List Name → Type 0
 IsAcceptedText text names = (plain : Plain) × (plans : List GuardPlan) × IsAcceptedAs text names plain plans
 
--- A text is accepted, or it is refused. A box in a condition belongs to an allocator, so one is given.
-abbrev pub AcceptedOrRefused : Type 0
-AcceptedOrRefused = (alloc : Global) (text : List ℕ) (names : List Name)
+-- Reading accepts a text, or it refuses it. A box in a condition belongs to an allocator, so one is given.
+abbrev pub ReadingAcceptsOrRefuses : Type 0
+ReadingAcceptsOrRefuses = (alloc : Global) (text : List ℕ) (names : List Name)
     → IsAcceptedText text names ⊎ ((refusal : Refusal) × IsRefusedAs text names refusal)
 
--- a text that is refused isn't accepted
-abbrev pub RefusedNotAccepted : Type 0
-RefusedNotAccepted = (text : List ℕ) (names : List Name) (refusal : Refusal) → IsRefusedAs text names refusal → ¬ (IsAcceptedText text names)
+-- a text that reading refuses isn't accepted by it
+abbrev pub RefusedTextNotAccepted : Type 0
+RefusedTextNotAccepted = (text : List ℕ) (names : List Name) (refusal : Refusal) → IsRefusedAs text names refusal → ¬ (IsAcceptedText text names)
 
--- a text has one refusal at most
-abbrev pub OneRefusal : Type 0
-OneRefusal = (text : List ℕ) (names : List Name) (refusal other : Refusal) → IsRefusedAs text names refusal → IsRefusedAs text names other
+-- reading gives a text one refusal at most
+abbrev pub ReadingRefusesOnce : Type 0
+ReadingRefusesOnce = (text : List ℕ) (names : List Name) (refusal other : Refusal) → IsRefusedAs text names refusal → IsRefusedAs text names other
     → refusal ≡ other
 
 -- Two plains that are the same but for the addresses of boxes in conditions, so that the same is asked of their rules, and

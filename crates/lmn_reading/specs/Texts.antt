@@ -12,12 +12,12 @@ use Rattle.lmn_congruence.specs.Rules.{Name}
 use Rattle.lmn_expand.specs.NameLists.{names_read}
 use Rattle.lmn_expand.specs.Outside.{outside_rules}
 use Rattle.lmn_grammar.specs.Refusing.{IsWithin}
-use Rattle.lmn_guards.specs.Accepted.{IsAccepted}
+use Rattle.lmn_guards.specs.Accepted.{IsAcceptedRule}
 use Rattle.lmn_guards.specs.GuardCodes.{guard_rows}
 use Rattle.lmn_guards.specs.Plans.{IsPlan}
 use Rattle.lmn_guards.specs.declared.plan.GuardPlan.{GuardPlan}
 use Rattle.lmn_lexer.specs.Cutting.{Cuts}
-use Rattle.lmn_lexer.specs.Faults.{IsRefusal, NothingWrong}
+use Rattle.lmn_lexer.specs.Faults.{IsLexicalFault, NothingWrong}
 use Rattle.lmn_lexer.specs.Laying.{words_of}
 use Rattle.lmn_lexer.specs.declared.token.Token.{Token}
 use Rattle.lmn_parser.specs.Faults.{IsFaultOf}
@@ -25,7 +25,7 @@ use Rattle.lmn_parser.specs.Parsing.{kinds_of}
 use Rattle.lmn_parser.specs.Readings.{Reads}
 use Rattle.lmn_parser.specs.Syntax.{Clauses}
 use Rattle.lmn_plain.specs.Laws.{IsPlain}
-use Rattle.lmn_plain.specs.Plains.{Each}
+use Rattle.lmn_plain.specs.Plains.{EachPair}
 
 -- Nothing is wrong in the text, it reads as a tree within the limits, and the plain is that of the tree, with the numbers of
 -- a list of names.
@@ -57,8 +57,8 @@ pub record IsAcceptedAs (text : List ℕ) (names : List Name) (plain : Plain) (p
   pub reads : ReadsAs text names plain
   pub outside : NoneApplies (outside_rules plain.top ∷ [])
   pub links : (a : Refusal) → ¬ (LinkFault plain a)
-  pub rules : AllByRecursion (IsAccepted plain.rules) plain.rules
-  pub planned : Each IsPlan plain.rules plans
+  pub rules : AllByRecursion (IsAcceptedRule plain.rules) plain.rules
+  pub planned : EachPair IsPlan plain.rules plans
 
 -- The text is refused, by the first of these that applies:
 --   by_bytes     its bytes are cut into no right tokens
@@ -67,7 +67,7 @@ pub record IsAcceptedAs (text : List ℕ) (names : List Name) (plain : Plain) (p
 --   by_links     a link occurs once or too often
 --   by_rules     something that is asked of a rule applies
 pub data IsRefusedAs (text : List ℕ) (names : List Name) (refusal : Refusal) : Type 0 where
-  by_bytes : IsRefusal text refusal → IsRefusedAs text names refusal
+  by_bytes : IsLexicalFault text refusal → IsRefusedAs text names refusal
   by_tokens : (tokens : List Token) → NothingWrong text → Cuts text tokens → IsFaultOf tokens (Refused refusal) → IsRefusedAs text names refusal
   by_contexts : (plain : Plain) → ReadsAs text names plain → RefusedBy (outside_rules plain.top ∷ []) refusal → IsRefusedAs text names refusal
   by_links : (plain : Plain) → ReadsAs text names plain → NoneApplies (outside_rules plain.top ∷ []) → IsFirstFault plain refusal

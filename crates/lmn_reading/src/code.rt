@@ -1,7 +1,7 @@
 //! The codes by which a text is refused, each with its number and its words.
 
 ghost use Rattle.std.specs.Prelude.{◌≡◌};
-ghost use Rattle.lmn_reading.specs.Codes.{code_of, number_of, words_of, words_of_number};
+ghost use Rattle.lmn_reading.specs.Codes.{code_of, code_number, code_words, words_of_number};
 
 /// Why a text is refused.
 #[derive(Clone, Copy, Debug, PartialEq, Eq)]
@@ -79,7 +79,7 @@ pub enum Code {
 impl Code {
     /// Its number: 1 for `E01`, 46 for `E46`.
     pub fn number(self) -> u8
-        ensures { result ≡ number_of self }
+        ensures { result ≡ code_number self }
     {
         match self {
             Code::TextTooLong => 1,
@@ -121,7 +121,7 @@ impl Code {
 
     /// What is said to whoever wrote the text, in ASCII.
     pub fn words(self) -> &'static [u8]
-        ensures { result.now ≡ words_of self }
+        ensures { result.now ≡ code_words self }
     {
         match self {
             Code::TextTooLong => b"text too long",

@@ -1,17 +1,17 @@
 //! The laws of reading: a text is accepted, or it is refused, and in one way.
 
 ghost use Rattle.lmn_reading.specs.Codes.{CodesAreNumbered, NumbersAreOfCodes};
-ghost use Rattle.lmn_reading.specs.Laws.{AcceptedOrRefused, OneAcceptance, OneRefusal, PlainsAreNamed, RefusalsHaveCodes, RefusedNotAccepted};
+ghost use Rattle.lmn_reading.specs.Laws.{ReadingAcceptsOrRefuses, OneAcceptance, ReadingRefusesOnce, PlainsAreNamed, RefusalsHaveCodes, RefusedTextNotAccepted};
 
 /// A text is accepted, or it is refused.
 pub fn texts_are_accepted_or_refused()
-    ensures { AcceptedOrRefused }
+    ensures { ReadingAcceptsOrRefuses }
 {}
 
 /// A text that is refused isn't accepted, and it has one refusal at most.
 pub fn refusals_are_one()
-    ensures accepted { RefusedNotAccepted }
-    ensures one { OneRefusal }
+    ensures accepted { RefusedTextNotAccepted }
+    ensures one { ReadingRefusesOnce }
 {}
 
 /// A text is accepted in one way at most, but for the addresses of boxes in conditions.

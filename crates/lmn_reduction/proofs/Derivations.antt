@@ -7,12 +7,13 @@ use Rattle.lmn_congruence.specs.Congruence.{Congruent, unit, swap, chain}
 use Rattle.lmn_congruence.specs.FreeLinks.{link_bound}
 use Rattle.lmn_congruence.specs.Fused.{fused}
 use Rattle.lmn_congruence.specs.UpToOrder.{Reordered, r_unit, r_swap, r_regroup, r_beside, r_inside, r_same, r_back, r_chain}
-use Rattle.lmn_congruence.proofs.Counts.{below_or_from, same_or_not}
+use Rattle.lmn_congruence.proofs.Counts.{below_or_from}
 use Rattle.lmn_congruence.proofs.Crossings.{occurrences_above, crossings}
 use Rattle.lmn_congruence.proofs.Reordered.{reordered_congruent, r_right}
 use Rattle.lmn_congruence.proofs.LinkMaps.{closed_leaves, closed_linked}
 use Rattle.lmn_reduction.proofs.SettledForms.{reads_congruent, all_join}
 use Rattle.lmn_congruence.proofs.FewestCrossings.{same_crossings_each}
+use Rattle.lmn_base.proofs.Numbers.{same_or_not}
 
 pub zero_not_one : ¬ (◌≡◌ {A = ℕ} 0 1)
 zero_not_one = omega arith
@@ -76,11 +77,11 @@ spread (pair P Q) = spread P ++ spread Q
 spread (membrane P) = membrane (together (spread P)) ∷ []
 spread (rule r) = rule r ∷ []
 
-together_append : (Ps Qs : List Process) → Reordered (together (Ps ++ Qs)) (pair (together Ps) (together Qs))
+pub together_append : (Ps Qs : List Process) → Reordered (together (Ps ++ Qs)) (pair (together Ps) (together Qs))
 together_append [] Qs = r_back r_unit
 together_append (P ∷ Ps) Qs = r_chain (r_right (together_append Ps Qs)) r_regroup
 
-alone : {P : Process} → Reordered P (pair P nothing)
+pub alone : {P : Process} → Reordered P (pair P nothing)
 alone = r_chain (r_back r_unit) r_swap
 
 together_spread : (P : Process) → Reordered P (together (spread P))

@@ -4,7 +4,7 @@ use Rattle.lmn_congruence.specs.Orders.{Among, at_head, further, here, there, Sh
 use Rattle.lmn_congruence.specs.Process.{Process, nothing, connector, atom, pair, membrane, rule, Linked, Free, OneToOneOn, together}
 use Rattle.lmn_congruence.specs.Congruence.{swap, same, back}
 use Rattle.lmn_congruence.specs.Rules.{Name, Label, named, integer, Rule, head_of, Expression, number, operation, over, modulo}
-use Rattle.lmn_reduction.specs.Parts.{Rooted, IsGround, SameGraph, Reached, the_root, across, an_integer, atoms_of}
+use Rattle.lmn_reduction.specs.Parts.{Rooted, IsGround, EqualParts, ReachesLink, the_root, across, an_integer, atoms_at_top}
 use Rattle.lmn_reduction.specs.Assignments.{Assignment, NoRuleAtTop}
 use Rattle.lmn_reduction.specs.Instances.{IsCopy, instance, no_leaf, leaf_and, of_atom, of_connector, of_typed, no_membrane, membrane_and}
 use Rattle.lmn_guards.specs.Values.{of_number, of_context, of_operation, InRange}
@@ -14,7 +14,7 @@ use Rattle.lmn_reduction.specs.Firing.{Fires, fires, typed_contexts}
 use Rattle.lmn_reduction.specs.Steps.{Step, SettlingStep, leaf, beside as derived_beside, up_to, out, into}
 use Rattle.lmn_reduction.specs.Commits.{Commit, already, step_and}
 use Rattle.lmn_congruence.specs.Fused.{NoConnector}
-use Rattle.lmn_reduction.specs.Examples.{a, b, c, p, int, z, two_make_b, TwoMakeOne, join_in_c, LinkMeetsItself, ConnectorLeaves, LoopVanishes, QuotientsAndRemainders, add_up, SumIsBound, b_makes_c, double_rules, RulesAreCopied, least, LeastByMinusOne, NothingByZero, tie_ends, LoopIsLeft, open_both, LinkIsShared, double_part, PartIsCopied, straight, turned_round, crossed, PortsAreTold, two_parts, NotGround}
+use Rattle.lmn_reduction.specs.Examples.{label_a, label_b, label_c, label_p, int, letter_z, two_make_b, TwoMakeOne, join_in_c, LinkMeetsItself, ConnectorLeaves, LoopVanishes, QuotientsAndRemainders, add_up, SumIsBound, b_makes_c, double_rules, RulesAreCopied, least, LeastByMinusOne, NothingByZero, tie_ends, LoopIsLeft, open_both, LinkIsShared, double_part, PartIsCopied, straight, turned_round, crossed, PortsAreTold, two_parts, NotGround}
 use Rattle.lmn_reduction.proofs.SettledProcesses.{no_connector_settled}
 use Rattle.lmn_reduction.proofs.Derivations.{zero_not_one, linked_by, closed_by, regrouped, by_one_link}
 
@@ -24,7 +24,7 @@ commits {Q = Q} n l s = record { between = Q; step = s; settles = record { settl
 
 -- an assignment of links, one context and one rule context
 abbrev assigned : (ℕ → ℕ) → Process → List Rule → Assignment
-assigned f P rs = record { link_of = f; context_of = λ q. P; rules_of = λ q. rs; typed_of = λ q. record { process = atom a (0 ∷ []); root = 0 } }
+assigned f P rs = record { link_of = f; context_of = λ q. P; rules_of = λ q. rs; typed_of = λ q. record { process = atom label_a (0 ∷ []); root = 0 } }
 
 -- an instance of a level of leaves has nothing else
 abbrev only : Process → Process
@@ -32,7 +32,7 @@ only P = pair P (pair nothing (pair nothing (pair nothing nothing)))
 
 -- ---- `a. a. a, a :- b.`
 
-two_fire : Fires two_make_b (only (together (atom a [] ∷ atom a [] ∷ []))) (only (together (atom b [] ∷ [])))
+two_fire : Fires two_make_b (only (together (atom label_a [] ∷ atom label_a [] ∷ []))) (only (together (atom label_b [] ∷ [])))
 two_fire = record {
   matches = record {
     assignment = assigned (λ n. n) nothing [];
@@ -48,7 +48,7 @@ two_make_one = commits (tt, (tt, tt)) (linked_by refl) (up_to (regrouped refl (l
 
 -- ---- `a(X), b(X). a(X), b(Y) :- c(X,Y).`
 
-join_fires : Fires join_in_c (only (together (atom a (0 ∷ []) ∷ atom b (1 ∷ []) ∷ []))) (only (together (atom c (0 ∷ 1 ∷ []) ∷ [])))
+join_fires : Fires join_in_c (only (together (atom label_a (0 ∷ []) ∷ atom label_b (1 ∷ []) ∷ []))) (only (together (atom label_c (0 ∷ 1 ∷ []) ∷ [])))
 join_fires = record {
   matches = record {
     assignment = assigned (λ n. n) nothing [];
@@ -64,10 +64,10 @@ abbrev with_connector : Process → Process
 with_connector P = pair (pair (only P) (rule join_in_c)) (connector 0 1)
 
 abbrev apart : Process
-apart = with_connector (together (atom a (0 ∷ []) ∷ atom b (1 ∷ []) ∷ []))
+apart = with_connector (together (atom label_a (0 ∷ []) ∷ atom label_b (1 ∷ []) ∷ []))
 
 abbrev joined : Process
-joined = with_connector (together (atom c (0 ∷ 1 ∷ []) ∷ []))
+joined = with_connector (together (atom label_c (0 ∷ 1 ∷ []) ∷ []))
 
 join_step : Step apart joined
 join_step = derived_beside (leaf (fires join_fires) (linked_by refl) (linked_by refl)) (linked_by refl) (linked_by refl)
@@ -87,14 +87,14 @@ abbrev outside_it : Process
 outside_it = pair (connector 0 1) (membrane nothing)
 
 abbrev atoms : Process
-atoms = pair (atom a (0 ∷ [])) (atom b (1 ∷ []))
+atoms = pair (atom label_a (0 ∷ [])) (atom label_b (1 ∷ []))
 
 goes_out : SettlingStep (pair inside_it atoms) (pair outside_it atoms)
 goes_out = derived_beside (leaf (out 0 1 zero_not_one refl refl) (linked_by refl) (linked_by refl)) (linked_by refl) (linked_by refl)
 
 pub connector_leaves : ConnectorLeaves
 connector_leaves = record {
-  settled = no_connector_settled (together (atom a (0 ∷ []) ∷ atom b (0 ∷ []) ∷ membrane nothing ∷ [])) (tt, (tt, (tt, tt)));
+  settled = no_connector_settled (together (atom label_a (0 ∷ []) ∷ atom label_b (0 ∷ []) ∷ membrane nothing ∷ [])) (tt, (tt, (tt, tt)));
   towards = step_and
       (up_to (regrouped refl (linked_by refl)) goes_out (swap (linked_by refl)))
       (already (by_one_link (closed_by (pair atoms outside_it) refl) (linked_by refl) refl refl));
@@ -114,7 +114,7 @@ loop_vanishes = record {
 -- ---- `p(3), p(4). p($x), p($y) :- $z = $x + $y | p($z).`
 
 abbrev seven_apart : Process
-seven_apart = pair (only (together (atom p (2 ∷ []) ∷ atom (int 7) (2 ∷ []) ∷ []))) (rule add_up)
+seven_apart = pair (only (together (atom label_p (2 ∷ []) ∷ atom (int 7) (2 ∷ []) ∷ []))) (rule add_up)
 
 abbrev number_part : ℕ → Rooted
 number_part n = record { process = atom (int n) (0 ∷ []); root = 0 }
@@ -148,13 +148,13 @@ member_of_two e f (further (further m)) = no_member m
 names_differ : (i j : ℕ) → i ≢ j → ¬ (◌≡◌ {A = Name} (i ∷ []) (j ∷ []))
 names_differ i j d e = d (ap first_byte e)
 
-z_is_bound : ¬ (Among z (typed_contexts (head_of add_up)))
+z_is_bound : ¬ (Among letter_z (typed_contexts (head_of add_up)))
 z_is_bound = member_of_two (names_differ 122 120 (omega arith)) (names_differ 122 121 (omega arith))
 
 seven : InRange (pos 7)
 seven = (grind arith, grind arith)
 
-sum_fires : Fires add_up (only (together (atom p (0 ∷ []) ∷ atom (int 3) (0 ∷ []) ∷ atom p (1 ∷ []) ∷ atom (int 4) (1 ∷ []) ∷ []))) (only (together (atom p (2 ∷ []) ∷ atom (int 7) (2 ∷ []) ∷ [])))
+sum_fires : Fires add_up (only (together (atom label_p (0 ∷ []) ∷ atom (int 3) (0 ∷ []) ∷ atom label_p (1 ∷ []) ∷ atom (int 4) (1 ∷ []) ∷ []))) (only (together (atom label_p (2 ∷ []) ∷ atom (int 7) (2 ∷ []) ∷ [])))
 sum_fires = record {
   matches = record {
     assignment = sums;
@@ -174,16 +174,16 @@ sum_is_bound =
 
 abbrev one_inside : Process → List Process → Process
 one_inside P rules =
-    let content : Process = pair P (pair nothing (pair (together (atom b [] ∷ [])) (pair (together rules) nothing))) in
+    let content : Process = pair P (pair nothing (pair (together (atom label_b [] ∷ [])) (pair (together rules) nothing))) in
     pair nothing (pair (together (membrane content ∷ [])) (pair nothing (pair nothing nothing)))
 
 abbrev its_rules : Process
 its_rules = together (rule b_makes_c ∷ [])
 
-double_fires : Fires double_rules (one_inside (together (atom a [] ∷ [])) (its_rules ∷ [])) (one_inside nothing (its_rules ∷ its_rules ∷ []))
+double_fires : Fires double_rules (one_inside (together (atom label_a [] ∷ [])) (its_rules ∷ [])) (one_inside nothing (its_rules ∷ its_rules ∷ []))
 double_fires = record {
   matches = record {
-    assignment = assigned (λ n. n) (atom b []) (b_makes_c ∷ []);
+    assignment = assigned (λ n. n) (atom label_b []) (b_makes_c ∷ []);
     proper = record { links_differ = λ m n e. e; no_rule = λ q. tt; links_apart = λ q n. zero_not_one; root_is_free = λ q. refl };
     guard = no_condition;
     head = instance no_leaf (membrane_and (instance (leaf_and of_atom no_leaf) no_membrane) no_membrane);
@@ -224,7 +224,7 @@ nothing_by_zero t e n = (no_quotient t e n, no_remainder t e n)
 
 -- ---- `a(X,X). a(X,Y) :- X=Y.`
 
-tie_fires : Fires tie_ends (only (together (atom a (0 ∷ 1 ∷ []) ∷ []))) (only (together (connector 0 1 ∷ [])))
+tie_fires : Fires tie_ends (only (together (atom label_a (0 ∷ 1 ∷ []) ∷ []))) (only (together (connector 0 1 ∷ [])))
 tie_fires = record {
   matches = record {
     assignment = assigned (λ n. n) nothing [];
@@ -239,13 +239,13 @@ tie_fires = record {
 abbrev tied : Process → Process
 tied P = pair (pair (only (together (P ∷ []))) (rule tie_ends)) (connector 0 1)
 
-tie_step : Step (tied (atom a (0 ∷ 1 ∷ []))) (tied (connector 0 1))
+tie_step : Step (tied (atom label_a (0 ∷ 1 ∷ []))) (tied (connector 0 1))
 tie_step = derived_beside (leaf (fires tie_fires) (linked_by refl) (linked_by refl)) (linked_by refl) (linked_by refl)
 
 pub loop_is_left : LoopIsLeft
 loop_is_left =
     commits (tt, tt) (linked_by refl)
-    (up_to (back (by_one_link (closed_by (tied (atom a (0 ∷ 1 ∷ []))) refl) (linked_by refl) refl refl)) tie_step
+    (up_to (back (by_one_link (closed_by (tied (atom label_a (0 ∷ 1 ∷ []))) refl) (linked_by refl) refl refl)) tie_step
     (by_one_link (closed_by (tied (connector 0 1)) refl) (linked_by refl) refl refl))
 
 -- ---- `{{a(X)}, b(X)}. {{$p}, $q} :- $p, $q.`
@@ -253,14 +253,14 @@ loop_is_left =
 shared : Assignment
 shared = record {
   link_of = λ n. suc n;
-  context_of = λ q. cond (eqb (first_byte q) 112) (atom a (0 ∷ [])) (cond (eqb (first_byte q) 113) (atom b (0 ∷ [])) nothing);
+  context_of = λ q. cond (eqb (first_byte q) 112) (atom label_a (0 ∷ [])) (cond (eqb (first_byte q) 113) (atom label_b (0 ∷ [])) nothing);
   rules_of = λ q. [];
-  typed_of = λ q. record { process = atom a (0 ∷ []); root = 0 };
+  typed_of = λ q. record { process = atom label_a (0 ∷ []); root = 0 };
 }
 
 open_fires : Fires open_both
-    (pair nothing (pair (together (membrane (pair nothing (pair (together (membrane (pair nothing (pair nothing (pair (together (atom a (0 ∷ []) ∷ [])) (pair nothing nothing)))) ∷ [])) (pair (together (atom b (0 ∷ []) ∷ [])) (pair nothing nothing)))) ∷ [])) (pair nothing (pair nothing nothing))))
-    (pair nothing (pair nothing (pair (together (atom a (0 ∷ []) ∷ atom b (0 ∷ []) ∷ [])) (pair nothing nothing))))
+    (pair nothing (pair (together (membrane (pair nothing (pair (together (membrane (pair nothing (pair nothing (pair (together (atom label_a (0 ∷ []) ∷ [])) (pair nothing nothing)))) ∷ [])) (pair (together (atom label_b (0 ∷ []) ∷ [])) (pair nothing nothing)))) ∷ [])) (pair nothing (pair nothing nothing))))
+    (pair nothing (pair nothing (pair (together (atom label_a (0 ∷ []) ∷ atom label_b (0 ∷ []) ∷ [])) (pair nothing nothing))))
 unfolding shared
 open_fires = record {
   matches = record {
@@ -272,12 +272,12 @@ open_fires = record {
   body = instance no_leaf no_membrane;
 }
   where
-    no_rule_in : (i j : Bool) → NoRuleAtTop (cond i (atom a (0 ∷ [])) (cond j (atom b (0 ∷ [])) nothing))
+    no_rule_in : (i j : Bool) → NoRuleAtTop (cond i (atom label_a (0 ∷ [])) (cond j (atom label_b (0 ∷ [])) nothing))
     no_rule_in true j = tt
     no_rule_in false true = tt
     no_rule_in false false = tt
 
-    not_free : (i j : Bool) (n : ℕ) → ¬ (Free (suc n) (cond i (atom a (0 ∷ [])) (cond j (atom b (0 ∷ [])) nothing)))
+    not_free : (i j : Bool) (n : ℕ) → ¬ (Free (suc n) (cond i (atom label_a (0 ∷ [])) (cond j (atom label_b (0 ∷ [])) nothing)))
     not_free true j n e = grind (arith, e)
     not_free false true n e = grind (arith, e)
     not_free false false n e = zero_not_one e
@@ -291,7 +291,7 @@ link_is_shared =
 
 -- `b(X,Y,Y)` from the link X on
 abbrev pub looped : Rooted
-looped = record { process = atom b (0 ∷ 9 ∷ 9 ∷ []); root = 0 }
+looped = record { process = atom label_b (0 ∷ 9 ∷ 9 ∷ []); root = 0 }
 
 pub looped_ground : IsGround looped
 looped_ground = record { only_atoms = tt; root_is_free = refl; nothing_else_free = once; connected = joined_to }
@@ -299,17 +299,17 @@ looped_ground = record { only_atoms = tt; root_is_free = refl; nothing_else_free
     once : (x : ℕ) → Free x looped.process → x ≡ 0
     once x h = grind (arith, h)
 
-    joined_to : {l : Label} {xs : List ℕ} → Among {A = Label × List ℕ} (l, xs) ((b, 0 ∷ 9 ∷ 9 ∷ []) ∷ []) → (x : ℕ) × (Among x xs) × Reached looped x
+    joined_to : {l : Label} {xs : List ℕ} → Among {A = Label × List ℕ} (l, xs) ((label_b, 0 ∷ 9 ∷ 9 ∷ []) ∷ []) → (x : ℕ) × (Among x xs) × ReachesLink looped x
     joined_to at_head = (0, at_head, the_root)
     joined_to (further m) = elim m [ ]
 
-looped_copy : (x y : ℕ) → x ≢ y → IsCopy looped x (atom b (x ∷ y ∷ y ∷ []))
+looped_copy : (x y : ℕ) → x ≢ y → IsCopy looped x (atom label_b (x ∷ y ∷ y ∷ []))
 looped_copy x y d = record { to = λ n. cond (eqb n 0) x y; one_to_one = differ; root = refl; is = refl }
   where
     differ : OneToOneOn (λ n. cond (eqb n 0) x y) looped.process
-    differ i j o p e = grind (arith, o, p, e, d)
+    differ i j o label_p e = grind (arith, o, label_p, e, d)
 
-double_part_fires : Fires double_part (only (together (atom a (0 ∷ []) ∷ atom b (0 ∷ 1 ∷ 1 ∷ []) ∷ []))) (only (together (atom a (1 ∷ 2 ∷ []) ∷ atom b (1 ∷ 3 ∷ 3 ∷ []) ∷ atom b (2 ∷ 4 ∷ 4 ∷ []) ∷ [])))
+double_part_fires : Fires double_part (only (together (atom label_a (0 ∷ []) ∷ atom label_b (0 ∷ 1 ∷ 1 ∷ []) ∷ []))) (only (together (atom label_a (1 ∷ 2 ∷ []) ∷ atom label_b (1 ∷ 3 ∷ 3 ∷ []) ∷ atom label_b (2 ∷ 4 ∷ 4 ∷ []) ∷ [])))
 double_part_fires = record {
   matches = record {
     assignment = record { link_of = λ n. n; context_of = λ q. nothing; rules_of = λ q. []; typed_of = λ q. looped };
@@ -333,9 +333,9 @@ labelled l xs = (l, xs)
 letter : Label → ℕ
 letter (named (n ∷ ns)) = n
 letter (named []) = 0
-letter (integer z) = 0
+letter (integer letter_z) = 0
 
-a_not_b : a ≢ b
+a_not_b : label_a ≢ label_b
 unfolding letter
 a_not_b e = 97_not_98 (ap letter e)
   where
@@ -354,18 +354,18 @@ straight_ground = record { only_atoms = (tt, tt); root_is_free = refl; nothing_e
     root_alone : (x : ℕ) → Free x straight.process → x ≡ 0
     root_alone x h = grind (arith, h)
 
-    joined_to : {l : Label} {xs : List ℕ} → Among (labelled l xs) (atoms_of straight.process) → (x : ℕ) × (Among x xs) × Reached straight x
+    joined_to : {l : Label} {xs : List ℕ} → Among (labelled l xs) (atoms_at_top straight.process) → (x : ℕ) × (Among x xs) × ReachesLink straight x
     joined_to at_head = (0, at_head, the_root)
     joined_to (further at_head) = (1, at_head, across at_head at_head (further at_head) the_root)
     joined_to (further (further m)) = elim m [ ]
 
-straight_is_turned : SameGraph straight turned_round
+straight_is_turned : EqualParts straight turned_round
 straight_is_turned = record { to = λ n. cond (eqb n 0) 0 (3 + n); one_to_one = differ; roots = refl; atoms = more refl (more refl none here) (there here) }
   where
     differ : OneToOneOn (λ n. cond (eqb n 0) 0 (3 + n)) straight.process
-    differ i j o p e = grind (arith, e)
+    differ i j o label_p e = grind (arith, e)
 
-straight_not_crossed : ¬ (SameGraph straight crossed)
+straight_not_crossed : ¬ (EqualParts straight crossed)
 straight_not_crossed s = go s.to s.atoms
   where
     heads : {A : Type 0} {x y : A} {xs ys : List A} → x ∷ xs ≡ y ∷ ys → x ≡ y
@@ -377,10 +377,10 @@ straight_not_crossed s = go s.to s.atoms
     one_not_two : ◌≢◌ {A = ℕ} 1 2
     one_not_two e = cc e
 
-    go : (to : ℕ → ℕ) → Shuffle (λ s t. labelled s.0 (map to s.1) ≡ t) (atoms_of straight.process) (atoms_of crossed.process) → ⊥
+    go : (to : ℕ → ℕ) → Shuffle (λ s t. labelled s.0 (map to s.1) ≡ t) (atoms_at_top straight.process) (atoms_at_top crossed.process) → ⊥
     go to (more e (more d none here) here) =
-        one_not_two (sym (heads (tails (same_links a a (to 0 ∷ to 1 ∷ to 2 ∷ []) (0 ∷ 1 ∷ 2 ∷ []) e))) ∙ heads (same_links b b (to 1 ∷ to 2 ∷ []) (2 ∷ 1 ∷ []) d))
-    go to (more e (more d none here) (there here)) = a_not_b (same_label a b (to 0 ∷ to 1 ∷ to 2 ∷ []) (2 ∷ 1 ∷ []) e)
+        one_not_two (sym (heads (tails (same_links label_a label_a (to 0 ∷ to 1 ∷ to 2 ∷ []) (0 ∷ 1 ∷ 2 ∷ []) e))) ∙ heads (same_links label_b label_b (to 1 ∷ to 2 ∷ []) (2 ∷ 1 ∷ []) d))
+    go to (more e (more d none here) (there here)) = a_not_b (same_label label_a label_b (to 0 ∷ to 1 ∷ to 2 ∷ []) (2 ∷ 1 ∷ []) e)
 
 pub ports_are_told : PortsAreTold
 ports_are_told = (straight_ground, straight_is_turned, straight_not_crossed)
@@ -407,7 +407,7 @@ not_ground = (
     root_atom (further m) = elim m [ ]
 
     -- from the root nothing but the root is reached
-    not_reached : {x : ℕ} → Reached two_parts x → ¬ (x ≡ 1)
+    not_reached : {x : ℕ} → ReachesLink two_parts x → ¬ (x ≡ 1)
     not_reached the_root e = one_not_zero (sym e)
     not_reached (across at_head i j r) e = one_not_zero (sym e ∙ root_atom j)
     not_reached (across (further at_head) i j r) e = not_reached r (of_loop i)

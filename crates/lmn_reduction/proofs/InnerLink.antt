@@ -11,7 +11,7 @@ use Rattle.lmn_reduction.specs.Instances.{Instance, instance, no_leaf, leaf_and,
 use Rattle.lmn_reduction.specs.Firing.{Matches}
 use Rattle.lmn_reduction.specs.Steps.{Step}
 use Rattle.lmn_reduction.specs.Redexes.{HasRedex, at_top, in_membrane}
-use Rattle.lmn_reduction.specs.Examples.{a, b, join_from_membrane, InnerLinkStays}
+use Rattle.lmn_reduction.specs.Examples.{label_a, label_b, join_from_membrane, InnerLinkStays}
 use Rattle.lmn_congruence.proofs.Counts.{occurs_once}
 use Rattle.lmn_congruence.proofs.Totals.{total_includes}
 use Rattle.lmn_congruence.proofs.FreeNumbers.{free_total}
@@ -34,7 +34,7 @@ one_free x y C d h = not_zero (one_if_free C x) (free_number C) (ap one_if_once 
     f = h x ∙ first_one x y d
 
     not_zero : (k n : ℕ) → k ≡ 1 → k ≤ n → n ≢ 0
-    not_zero k n e b = omega arith
+    not_zero k n e label_b = omega arith
 
 crossed : (t : Assignment) (A : Process) → Proper t → Instance t (head_of join_from_membrane) A → crossings A ≢ 0
 crossed t A p (instance no_leaf (membrane_and {P = C} (instance (leaf_and of_atom (leaf_and of_atom no_leaf)) no_membrane) no_membrane)) =
@@ -48,7 +48,7 @@ redex_crossed (at_top {r = r} {A = A} m) h = λ e. matched r A h.0.1 m (omega ar
 redex_crossed (in_membrane d) h = λ e. redex_crossed d h.0 (omega arith)
 
 inner_link : Process
-inner_link = together (membrane (together (atom a (0 ∷ []) ∷ atom b (0 ∷ []) ∷ [])) ∷ rule join_from_membrane ∷ [])
+inner_link = together (membrane (together (atom label_a (0 ∷ []) ∷ atom label_b (0 ∷ []) ∷ [])) ∷ rule join_from_membrane ∷ [])
 
 no_step : (Q : Process) → ¬ (Step inner_link Q)
 unfolding inner_link

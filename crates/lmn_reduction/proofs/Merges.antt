@@ -2,12 +2,13 @@
 use Rattle.std.proofs.Common.{ℕ, zero, suc, ◌≡◌, ◌≢◌, ◌+◌, ◌≤◌, ◌⊎◌, List, [], ◌∷◌, ◌++◌, length, map, refl, sym, ◌∙◌, ap, inl, inr, arith}
 use Rattle.lmn_congruence.specs.Links.{one_if_same, places}
 use Rattle.lmn_congruence.specs.Process.{Process, nothing, connector, atom, pair, membrane, rule, occurrences, replace, Free, Fresh, Linked, substitute}
-use Rattle.lmn_congruence.specs.Congruence.{Congruent, unit, swap, regroup, beside, inside, loop, turn, absorb, pass, same, back, IsAtom, a_connector, an_atom}
+use Rattle.lmn_congruence.specs.Congruence.{Congruent, unit, swap, regroup, beside, inside, loop, turn, absorb, pass, same, back, IsAtomProcess, a_connector, an_atom}
 use Rattle.lmn_reduction.specs.Steps.{leaf, beside as derived_beside, inside as derived_inside, out, into, SettlingStep}
 use Rattle.lmn_reduction.specs.Commits.{SettlesTowards, already, step_and}
-use Rattle.lmn_congruence.proofs.Counts.{one_if_equal, count_first, count_second, same_or_not, Replaced, is_old, is_new, is_other, replaced}
+use Rattle.lmn_congruence.proofs.Counts.{one_if_equal, count_first, count_second, Replaced, is_old, is_new, is_other, replaced}
 use Rattle.lmn_congruence.specs.Fused.{NoConnector}
 use Rattle.lmn_reduction.proofs.SettledProcesses.{settle_after}
+use Rattle.lmn_base.proofs.Numbers.{same_or_not}
 
 -- one step that brings in no link
 pub data Merge : Process → Process → Type 0 where
@@ -18,7 +19,7 @@ pub data Merge : Process → Process → Type 0 where
   group_right : {P Q S : Process} → Merge (pair (pair P Q) S) (pair P (pair Q S))
   vanish : {x : ℕ} → Merge (connector x x) nothing
   turn_round : {x y : ℕ} → Merge (connector x y) (connector y x)
-  fuse : {P : Process} (x y : ℕ) → IsAtom P → Free x P → y ≢ x → Merge (pair (connector x y) P) (substitute y x P)
+  fuse : {P : Process} (x y : ℕ) → IsAtomProcess P → Free x P → y ≢ x → Merge (pair (connector x y) P) (substitute y x P)
   leave : {P : Process} (x y : ℕ) → x ≢ y → Fresh x P → Fresh y P → Merge (membrane (pair (connector x y) P)) (pair (connector x y) (membrane P))
   enter : {P : Process} (x y : ℕ) → x ≢ y → Free x P → Free y P → Merge (pair (connector x y) (membrane P)) (membrane (pair (connector x y) P))
   enter_half : {P : Process} (x y : ℕ) → x ≢ y → Free x P → ¬ (Free y P) → Merge (pair (connector x y) (membrane P)) (membrane (pair (connector x y) P))

@@ -5,18 +5,19 @@ use Rattle.lmn_congruence.specs.Links.{one_if_same, places}
 use Rattle.lmn_congruence.specs.Process.{Process, nothing, connector, atom, pair, membrane, rule, occurrences, Linked, Closed, renamed, together}
 use Rattle.lmn_congruence.specs.Rules.{Rule, Leaf, atom_leaf, connector_leaf, typed_leaf, Level, level, Levels, no_level, level_and, rules_list}
 use Rattle.lmn_congruence.specs.Fused.{Joins, fused}
-use Rattle.lmn_congruence.specs.FreeLinks.{total, link_bound}
+use Rattle.lmn_congruence.specs.FreeLinks.{sum_below, link_bound}
 use Rattle.lmn_congruence.specs.Regions.{SolidAtom, Region, region, Regions, no_region, region_and, region_process, atom_process, regions_processes}
 use Rattle.lmn_congruence.specs.Same.{renamed_atom, renamed_region, renamed_regions}
 use Rattle.lmn_congruence.specs.Plains.{leaf_process, level_process, levels_processes, fused_leaves, fused_level, fused_levels}
 use Rattle.lmn_reduction.specs.Laws.{SolidIsOne}
-use Rattle.lmn_congruence.proofs.Counts.{same_or_not, three_ways, one_if_equal, none_if_apart, in_left, in_right, map_after}
+use Rattle.lmn_congruence.proofs.Counts.{three_ways, one_if_equal, none_if_apart, in_left, in_right, map_after}
 use Rattle.lmn_congruence.proofs.Totals.{total_same}
 use Rattle.lmn_congruence.proofs.Crossings.{occurs_below}
 use Rattle.lmn_congruence.proofs.Reordered.{reordered_count}
 use Rattle.lmn_congruence.proofs.LinkMaps.{closed_leaves, closed_linked, one_to_one}
 use Rattle.lmn_congruence.proofs.FewestCrossings.{with_image, total_image_sum, image_count, image_even}
 use Rattle.lmn_reduction.proofs.Plains.{level_reordered}
+use Rattle.lmn_base.proofs.Numbers.{same_or_not}
 
 -- ---- two numbers in one
 
@@ -117,7 +118,7 @@ twice_or_more w z P j c o =
     let h : ℕ → ℕ = λ y. cond (eqb (occurrences y P) 2) 1 0 in
     let split = total_same n (with_image w z (λ y. occurrences y P)) (with_image w z (λ y. h y + h y)) (λ y b. ap (λ k. cond (eqb (w y) z) k 0) (half (occurrences y P) (c y))) in
     let even = image_even w z P j in
-    two_or_more (occurrences z (fused w P)) even.0 (total n (with_image w z h)) (sym even.1 ∙ sym (image_count n w z P (omega arith)) ∙ split ∙ total_image_sum n w z h h) o
+    two_or_more (occurrences z (fused w P)) even.0 (sum_below n (with_image w z h)) (sym even.1 ∙ sym (image_count n w z P (omega arith)) ∙ split ∙ total_image_sum n w z h h) o
 
 -- ---- links at atoms that one map joins are joined by the other one
 

@@ -13,10 +13,11 @@ use Rattle.lmn_guards.specs.Values.{of_number, of_context, of_operation}
 use Rattle.lmn_reduction.specs.Values.{Value}
 use Rattle.lmn_reduction.specs.Instances.{IsCopy, LeafInstance, of_atom, of_connector, of_typed, LeafInstances, no_leaf, leaf_and, Instance, instance, MembraneInstances, no_membrane, membrane_and, rules_of_contexts}
 use Rattle.lmn_reduction.specs.Steps.{leaf, beside as derived_beside, inside as derived_inside, up_to, Step}
-use Rattle.lmn_congruence.proofs.Counts.{below_or_from, same_free, linked_both, same_or_not, map_after}
+use Rattle.lmn_congruence.proofs.Counts.{below_or_from, same_free, linked_both, map_after}
 use Rattle.lmn_reduction.proofs.Derivations.{no_right}
 use Rattle.lmn_congruence.proofs.Crossings.{occurs_below, occurrences_above}
 use Rattle.lmn_congruence.proofs.Renaming.{moved_away, away_free, away_local, away_apart, low_high, rename_all, occurrences_image, occurrences_none}
+use Rattle.lmn_base.proofs.Numbers.{same_or_not}
 
 -- ---- an instance after a one to one renaming of links
 

@@ -4,7 +4,7 @@ use Rattle.lmn_congruence.specs.Process.{Process, nothing, connector, atom, memb
 use Rattle.lmn_congruence.specs.Congruence.{Congruent, back, chain}
 use Rattle.lmn_congruence.specs.Fused.{NoConnector, Joins, fused}
 use Rattle.lmn_congruence.specs.UpToOrder.{Reordered, r_same, r_back, r_chain}
-use Rattle.lmn_congruence.specs.LinkMaps.{ReadsAs}
+use Rattle.lmn_congruence.specs.LinkMaps.{ReadsByMap}
 use Rattle.lmn_reduction.specs.Commits.{Settles, SettlesTowards, already}
 use Rattle.lmn_reduction.specs.Laws.{CongruentByOneMap}
 use Rattle.lmn_congruence.proofs.Counts.{count_first, count_second, linked_as}
@@ -52,7 +52,7 @@ settles_fused v P l j s k =
     record { settled = no_connector_settled (fused v P) (fused_plain v P); towards = towards_joined f.towards (already (towards_fused v P f.form j s k f.towards f.plain)) }
 
 -- a process that reads as N is congruent to it
-pub reads_congruent : (P N : Process) → Linked P → Linked N → ReadsAs P N → Congruent P N
+pub reads_congruent : (P N : Process) → Linked P → Linked N → ReadsByMap P N → Congruent P N
 reads_congruent P N l n r =
     let k : Linked (fused r.to P) = linked_as (λ z. sym (reordered_count r.order z)) n in
     chain (settled_congruent (same_crossings_settled r.to P r.joins r.crossings) (settles_fused r.to P l r.joins r.leaves k).towards) (reordered_congruent r.order k)

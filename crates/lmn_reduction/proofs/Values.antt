@@ -11,13 +11,14 @@ use Rattle.lmn_base.specs.declared.guard.Expr.TheOpen as open'
 use Rattle.lmn_base.specs.declared.guard.Expr.TheVariants as variant
 use Rattle.lmn_base.specs.declared.guard.Expr.TheFolds.{fold-roll-Expr}
 use Rattle.lmn_base.specs.declared.level.CtxUse.{CtxUse}
-use Rattle.lmn_base.specs.Names.{expression_names, expression_step as names_step}
+use Rattle.lmn_base.specs.Names.{expression_names, expression_names_step as names_step}
 use Rattle.lmn_congruence.specs.Rules as tree
 use Rattle.lmn_congruence.specs.Translation.{name_of, operator_of, expression_step, expression_of}
 use Rattle.lmn_congruence.proofs.Appended.{all_left, all_right}
 use Rattle.lmn_guards.specs.Values.{value, both, in_range, ranged, is_zero, result_of, Evaluates, of_number, of_context, of_operation, InRange, DivisorAllowed, computed}
 use Rattle.lmn_reduction.specs.Laws.{ValuesAgree}
 use Rattle.lmn_reduction.specs.Parts.{IsInteger}
+use Rattle.lmn_base.proofs.Truth.{and_true as both_true}
 
 -- ---- expressions as trees
 
@@ -41,11 +42,6 @@ true_of e = subst T (sym e) tt
 is_true : (b : Bool) → T b → b ≡ true
 is_true true t = refl
 is_true false t = absurd t
-
-both_true : (a b : Bool) → (a && b) ≡ true → (a ≡ true) × (b ≡ true)
-both_true true true e = (refl, refl)
-both_true true false e = absurd (cc)
-both_true false b e = absurd (cc)
 
 range_into : (l z u : ℤ) → (int_le l z && int_lt z u) ≡ true → (l ≤ℤ z) × (z <ℤ u)
 range_into l z u e = let w = both_true (int_le l z) (int_lt z u) e in (le_z_yes (true_of w.0), lt_z_yes (true_of w.1))

@@ -16,11 +16,11 @@ typed_leaves (typed_leaf p x ∷ ls) = p ∷ typed_leaves ls
 abbrev mutual
   pub typed_contexts : Level → List Name
   typed_contexts (level leaves membranes contexts rule_contexts rules) =
-      typed_leaves leaves ++ typed_contexts_of membranes
+      typed_leaves leaves ++ typed_contexts_in membranes
 
-  pub typed_contexts_of : Levels → List Name
-  typed_contexts_of no_level = []
-  typed_contexts_of (level_and l ls) = typed_contexts l ++ typed_contexts_of ls
+  pub typed_contexts_in : Levels → List Name
+  typed_contexts_in no_level = []
+  typed_contexts_in (level_and l ls) = typed_contexts l ++ typed_contexts_in ls
 
 -- A is an instance of the head of a rule, for one assignment for which the guard holds
 pub record Matches (r : Rule) (A : Process) : Type 0 where

@@ -3,10 +3,11 @@ use Rattle.std.specs.Prelude.{ℤ, List, [], ◌∷◌}
 use Rattle.lmn_congruence.specs.Orders.{Among}
 use Rattle.lmn_congruence.specs.Rules.{Name, Comparison, Expression, value_of, Kind, int, unary, grounded, Condition, is_kind, compares, equates, differs}
 use Rattle.lmn_guards.specs.Values.{Ordered}
-use Rattle.lmn_reduction.specs.Parts.{Rooted, IsInteger, IsUnary, IsGround, SameGraph}
+use Rattle.lmn_reduction.specs.Parts.{Rooted, IsInteger, IsUnary, IsGround, EqualParts}
 use Rattle.lmn_reduction.specs.Assignments.{Assignment}
 use Rattle.lmn_reduction.specs.Values.{Value}
 
+-- a part is of the kind that a condition names
 abbrev pub IsOfKind : Kind → Rooted → Type 0
 IsOfKind int g = (n : ℤ) × IsInteger n g
 IsOfKind unary g = IsUnary g
@@ -24,9 +25,9 @@ pub data Holds (heads : List Name) (t : Assignment) : Condition → Type 0 where
   binds : {p : Name} {e : Expression} {n : ℤ} →
       ¬ (Among p heads) → Value t e n → IsInteger n (t.typed_of p) → Holds heads t (equates p e)
   alike : {p q : Name} → Among p heads → Among q heads → IsGround (t.typed_of p) → IsGround (t.typed_of q) →
-      SameGraph (t.typed_of p) (t.typed_of q) → Holds heads t (equates p (value_of q))
+      EqualParts (t.typed_of p) (t.typed_of q) → Holds heads t (equates p (value_of q))
   unlike : {p q : Name} → Among p heads → Among q heads → IsGround (t.typed_of p) → IsGround (t.typed_of q) →
-      ¬ (SameGraph (t.typed_of p) (t.typed_of q)) → Holds heads t (differs p q)
+      ¬ (EqualParts (t.typed_of p) (t.typed_of q)) → Holds heads t (differs p q)
 
 -- every condition of a guard holds
 pub data GuardHolds (heads : List Name) (t : Assignment) : List Condition → Type 0 where

@@ -20,6 +20,7 @@ pub data LeafInstance (t : Assignment) : Leaf → Process → Type 0 where
   of_typed : {p : Name} {x : ℕ} {P : Process} →
       IsCopy (t.typed_of p) (t.link_of x) P → LeafInstance t (typed_leaf p x) P
 
+-- leaf by leaf
 pub data LeafInstances (t : Assignment) : List Leaf → List Process → Type 0 where
   no_leaf : LeafInstances t [] []
   leaf_and : {l : Leaf} {ls : List Leaf} {P : Process} {Ps : List Process} →

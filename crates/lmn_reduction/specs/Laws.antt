@@ -6,7 +6,7 @@ use Rattle.lmn_congruence.specs.Process.{Process, Linked, Closed}
 use Rattle.lmn_congruence.specs.Congruence.{Congruent}
 use Rattle.lmn_congruence.specs.Rules.{Level, Name}
 use Rattle.lmn_congruence.specs.Fused.{NoConnector}
-use Rattle.lmn_congruence.specs.LinkMaps.{ReadsAs}
+use Rattle.lmn_congruence.specs.LinkMaps.{ReadsByMap}
 use Rattle.lmn_congruence.specs.Regions.{Region, region_process}
 use Rattle.lmn_congruence.specs.Same.{IsRenamed}
 use Rattle.lmn_congruence.specs.Translation.{name_of, expression_of}
@@ -56,7 +56,7 @@ PlainSettles = (top : Level) (S : Region) → SolidOf top S → Settles (level_p
 
 -- a linked process is congruent to one without connectors exactly where one map of links reads it so
 abbrev pub CongruentByOneMap : Type 0
-CongruentByOneMap = (P N : Process) → Linked P → Linked N → NoConnector N → Congruent P N ↔ ReadsAs P N
+CongruentByOneMap = (P N : Process) → Linked P → Linked N → NoConnector N → Congruent P N ↔ ReadsByMap P N
 
 -- where a step is possible, some congruent process has a redex
 abbrev pub StepsShowRedexes : Type 0

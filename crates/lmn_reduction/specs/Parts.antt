@@ -27,33 +27,33 @@ OnlyAtoms (membrane P) = ⊥
 OnlyAtoms (rule r) = ⊥
 
 -- the atoms that stand in a process outside its membranes, in order, each with its links
-abbrev pub atoms_of : Process → List (Label × List ℕ)
-atoms_of nothing = []
-atoms_of (connector x y) = []
-atoms_of (atom a xs) = (a, xs) ∷ []
-atoms_of (pair P Q) = atoms_of P ++ atoms_of Q
-atoms_of (membrane P) = []
-atoms_of (rule r) = []
+abbrev pub atoms_at_top : Process → List (Label × List ℕ)
+atoms_at_top nothing = []
+atoms_at_top (connector x y) = []
+atoms_at_top (atom a xs) = (a, xs) ∷ []
+atoms_at_top (pair P Q) = atoms_at_top P ++ atoms_at_top Q
+atoms_at_top (membrane P) = []
+atoms_at_top (rule r) = []
 
 -- a link is reached from the root over links and atoms
-pub data Reached (g : Rooted) : ℕ → Type 0 where
-  the_root : Reached g g.root
+pub data ReachesLink (g : Rooted) : ℕ → Type 0 where
+  the_root : ReachesLink g g.root
   across : {a : Label} {xs : List ℕ} {x y : ℕ} →
-      Among (a, xs) (atoms_of g.process) → Among x xs → Among y xs → Reached g x → Reached g y
+      Among (a, xs) (atoms_at_top g.process) → Among x xs → Among y xs → ReachesLink g x → ReachesLink g y
 
 -- atoms that are no connectors, each reached from the root, with no free link but the root
 pub record IsGround (g : Rooted) : Type 0 where
   pub only_atoms : OnlyAtoms g.process
   pub root_is_free : Free g.root g.process
   pub nothing_else_free : (x : ℕ) → Free x g.process → x ≡ g.root
-  pub connected : {a : Label} {xs : List ℕ} → Among (a, xs) (atoms_of g.process) →
-      (x : ℕ) × (Among x xs) × Reached g x
+  pub connected : {a : Label} {xs : List ℕ} → Among (a, xs) (atoms_at_top g.process) →
+      (x : ℕ) × (Among x xs) × ReachesLink g x
 
 -- Two ground parts are equal as rooted graphs: one map of links, one to one, takes the root to the root and
 -- the atoms, in some order, to the atoms. Each link of such a part but the root joins two ports, so the atoms
 -- are matched one to one with their names, their arities and the ports that are joined.
-pub record SameGraph (g h : Rooted) : Type 0 where
+pub record EqualParts (g h : Rooted) : Type 0 where
   pub to : ℕ → ℕ
   pub one_to_one : OneToOneOn to g.process
   pub roots : to g.root ≡ h.root
-  pub atoms : Shuffle (λ a b. (a.0, map to a.1) ≡ b) (atoms_of g.process) (atoms_of h.process)
+  pub atoms : Shuffle (λ a b. (a.0, map to a.1) ≡ b) (atoms_at_top g.process) (atoms_at_top h.process)

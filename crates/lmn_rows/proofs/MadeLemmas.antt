@@ -1,19 +1,21 @@
 -- What each call leaves of a heap that is made by hand, and that such a heap is valid once nothing is open.
-use Rattle.std.proofs.Common.{ℕ, zero, suc, ◌≡◌, ◌≢◌, ◌⊎◌, ◌+◌, ◌<◌, ◌≤◌, ◌^◌, List, [], ◌∷◌, ◌++◌, length, Option, Some, None, IsSome, refl, sym, ap, subst, ◌∙◌, inl, inr, arith}
-use Rattle.std.specs.Prelude.{slice_index_or, replicate}
+use Rattle.std.proofs.Common.{ℕ, ◌≡◌, ◌≢◌, ◌⊎◌, ◌+◌, ◌<◌, ◌≤◌, ◌^◌, List, [], ◌∷◌, ◌++◌, Option, Some, None, IsSome, refl, sym, ap, subst, ◌∙◌, inl, inr, arith}
+use Rattle.std.specs.Prelude.{slice_index_or}
 use Rattle.std.specs.Option.{option_map, option_and_then}
 use Rattle.std.proofs.lemmas.Bool.{cases_eq}
 use Rattle.lmn_base.specs.declared.functor.Functor.{Functor}
 use Rattle.lmn_base.specs.Solids.{connector}
-use Rattle.lmn_heap.specs.Heap.{Heap, HeapAtom, HeapMem, Place, top, within, gone, alter, with_place, with_link, mem_with_place, mem_with_atoms, mem_with_mems, mem_with_spare, mem_with_rules, new_atom, new_mem, home_by, links_of, marks_of, link_of, functor_of, mems_by, mems_in, mem_place_of, IsMem, linked, cleared, made_atom, made_mem, placed, placed_mem, reserved, rule_added, joined, lone_root, In}
-use Rattle.lmn_heap.specs.Sound.{Sound, Settled, AtMost, Valid, Forest}
+use Rattle.lmn_heap.specs.Heap.{Heap, HeapAtom, HeapMem, Place, top, within, gone, alter, with_place, mem_with_place, mem_with_atoms, mem_with_mems, mem_with_spare, mem_with_rules, new_atom, new_mem, home_by, marks_of, link_of, functor_of, mems_by, mems_in, mem_place_of, IsMem, linked, cleared, made_atom, made_mem, placed, placed_mem, reserved, rule_added, joined, lone_root, In}
+use Rattle.lmn_heap.specs.Sound.{Sound, AllInPlace, AtMost, Valid, Forest}
 use Rattle.lmn_heap.specs.Conditions.{Ready}
 use Rattle.lmn_heap.proofs.Listing.{alter_at, alter_away, alter_keeps}
 use Rattle.lmn_heap.proofs.Trees.{in_either}
 use Rattle.lmn_heap.proofs.Heights.{mem_of_place}
 use Rattle.lmn_heap.proofs.Replacing.{joined_functor}
 use Rattle.lmn_heap.proofs.Ranks.{tree, tree_forms, tree_once, tree_all}
-use Rattle.lmn_rows.specs.Made.{IsMade}
+use Rattle.lmn_rows.specs.Made.{IsMadeByHand}
+use Rattle.lmn_base.proofs.Numbers.{zeros_at as no_marks}
+use Rattle.lmn_heap.proofs.Common.{atom_with_links as has_links, linked_marks, cleared_marks}
 
 -- Changes of one item
 
@@ -34,16 +36,11 @@ NoConnector a o = option_map (λ x. x.functor) o ≢ Some connector
 abbrev NoMark : ℕ → Option HeapAtom → Type 0
 NoMark a o = (i : ℕ) → ◌≡◌ {A = ℕ} (slice_index_or (marks_of o) i 0) 0
 
-no_marks : (n i : ℕ) → ◌≡◌ {A = ℕ} (slice_index_or (replicate n 0) i 0) 0
-no_marks zero i = refl
-no_marks (suc n) zero = refl
-no_marks (suc n) (suc i) = no_marks n i
-
-pub made_same : (s t : Heap) → t ≡ s → IsMade s → IsMade t
-made_same s t e h = subst IsMade (sym e) h
+pub made_same : (s t : Heap) → t ≡ s → IsMadeByHand s → IsMadeByHand t
+made_same s t e h = subst IsMadeByHand (sym e) h
 
 -- heaps with the same functors, marks and lists of membranes
-kept : (s t : Heap) → ((a : ℕ) → functor_of t a ≡ functor_of s a) → ((a : ℕ) → marks_of (t.atoms a) ≡ marks_of (s.atoms a)) → ((m : ℕ) → mems_in t m ≡ mems_in s m) → IsMade s → IsMade t
+kept : (s t : Heap) → ((a : ℕ) → functor_of t a ≡ functor_of s a) → ((a : ℕ) → marks_of (t.atoms a) ≡ marks_of (s.atoms a)) → ((m : ℕ) → mems_in t m ≡ mems_in s m) → IsMadeByHand s → IsMadeByHand t
 kept s t f k l h = record {
   no_connector = λ a e. h.no_connector a (sym (f a) ∙ e);
   unmarked = λ a i. ap (λ xs. slice_index_or xs i 0) (k a) ∙ h.unmarked a i;
@@ -52,7 +49,7 @@ kept s t f k l h = record {
 
 -- The calls
 
-pub lone_made : IsMade lone_root
+pub lone_made : IsMadeByHand lone_root
 lone_made = record {
   no_connector = λ a e. absurd (cc);
   unmarked = λ a i. refl;
@@ -62,21 +59,21 @@ lone_made = record {
 some_is : (x y : Functor) → Some x ≡ Some y → x ≡ y
 some_is x y e = (cc)
 
-pub atom_made : (s : Heap) (a : ℕ) (f : Functor) → f ≢ connector → IsMade s → IsMade (made_atom s a f)
+pub atom_made : (s : Heap) (a : ℕ) (f : Functor) → f ≢ connector → IsMadeByHand s → IsMadeByHand (made_atom s a f)
 atom_made s a f d h = record {
   no_connector = alter_all NoConnector s.atoms a (λ _. Some (new_atom f)) (λ was e. d (some_is f connector e)) h.no_connector;
   unmarked = alter_all NoMark s.atoms a (λ _. Some (new_atom f)) (λ was i. no_marks (f.arity + 1) i) h.unmarked;
   rising = h.rising;
 }
 
-pub mem_made : (s : Heap) (m : ℕ) → IsMade s → IsMade (made_mem s m)
+pub mem_made : (s : Heap) (m : ℕ) → IsMadeByHand s → IsMadeByHand (made_mem s m)
 mem_made s m h = record {
   no_connector = h.no_connector;
   unmarked = h.unmarked;
   rising = alter_all Rises s.mems m (λ _. Some new_mem) (λ was n i. absurd i) h.rising;
 }
 
-pub atom_placed : (s : Heap) (m a : ℕ) → IsMade s → IsMade (placed s m a)
+pub atom_placed : (s : Heap) (m a : ℕ) → IsMadeByHand s → IsMadeByHand (placed s m a)
 atom_placed s m a h = kept s (placed s m a)
     (alter_keeps s.atoms a (option_map (with_place (within m))) (λ o. option_map (λ x. x.functor) o) functor)
     (alter_keeps s.atoms a (option_map (with_place (within m))) marks_of marks)
@@ -94,7 +91,7 @@ atom_placed s m a h = kept s (placed s m a)
     mems None = refl
     mems (Some x) = refl
 
-pub mem_placed : (s : Heap) (m n : ℕ) → m < n → IsMade s → IsMade (placed_mem s m n)
+pub mem_placed : (s : Heap) (m n : ℕ) → m < n → IsMadeByHand s → IsMadeByHand (placed_mem s m n)
 mem_placed s m n less h = record {
   no_connector = h.no_connector;
   unmarked = h.unmarked;
@@ -112,32 +109,21 @@ mem_placed s m n less h = record {
       | inr w ↦ elim w [ inl e ↦ subst (λ z. m < z) e less | inr w ↦ absurd w ]
     ]
 
-pub room_made : (s : Heap) (m n : ℕ) → IsMade s → IsMade (reserved s m n)
+pub room_made : (s : Heap) (m n : ℕ) → IsMadeByHand s → IsMadeByHand (reserved s m n)
 room_made s m n h = kept s (reserved s m n) (λ a. refl) (λ a. refl) (alter_keeps s.mems m (option_map (mem_with_spare n)) mems_by mems) h
   where
     mems : (o : Option HeapMem) → mems_by (option_map (mem_with_spare n) o) ≡ mems_by o
     mems None = refl
     mems (Some x) = refl
 
-pub rule_made : (s : Heap) (m k : ℕ) → IsMade s → IsMade (rule_added s m k)
+pub rule_made : (s : Heap) (m k : ℕ) → IsMadeByHand s → IsMadeByHand (rule_added s m k)
 rule_made s m k h = kept s (rule_added s m k) (λ a. refl) (λ a. refl) (alter_keeps s.mems m (option_map (mem_with_rules (k ∷ []))) mems_by mems) h
   where
     mems : (o : Option HeapMem) → mems_by (option_map (mem_with_rules (k ∷ [])) o) ≡ mems_by o
     mems None = refl
     mems (Some x) = refl
 
-linked_marks : (f : ℕ → Option HeapAtom) (a i : ℕ) (p : Option (ℕ × ℕ)) (b : ℕ) → marks_of (linked f a i p b) ≡ marks_of (f b)
-linked_marks f a i p b = alter_keeps f a (option_map (with_link i p)) marks_of marks b
-  where
-    marks : (o : Option HeapAtom) → marks_of (option_map (with_link i p) o) ≡ marks_of o
-    marks None = refl
-    marks (Some x) = refl
-
-cleared_marks : (f : ℕ → Option HeapAtom) (p : Option (ℕ × ℕ)) (b : ℕ) → marks_of (cleared f p b) ≡ marks_of (f b)
-cleared_marks f None b = refl
-cleared_marks f (Some p) b = linked_marks f p.0 p.1 None b
-
-pub ports_joined : (s : Heap) (a i b j : ℕ) → IsMade s → IsMade (joined s a i b j)
+pub ports_joined : (s : Heap) (a i b j : ℕ) → IsMadeByHand s → IsMadeByHand (joined s a i b j)
 ports_joined s a i b j h = kept s (joined s a i b j) (joined_functor s a i b j) marks (λ m. refl) h
   where
     marks : (c : ℕ) → marks_of ((joined s a i b j).atoms c) ≡ marks_of (s.atoms c)
@@ -159,10 +145,6 @@ below_sum x [] i = absurd i
 below_sum x (y ∷ xs) (inl e) = omega (arith, e)
 below_sum x (y ∷ xs) (inr i) = let l = below_sum x xs i in omega (arith, l)
 
-has_links : (o : Option HeapAtom) (i : ℕ) → i < length (links_of o) → IsSome o
-has_links None i l = absurd (omega (arith, l))
-has_links (Some x) i l = refl
-
 not_gone : (o : Option HeapMem) → (option_map (λ x. x.place) o ≡ Some top) ⊎ IsSome (option_and_then (λ x. home_by x.place) o) → option_map (λ x. x.place) o ≡ Some gone → ⊥
 not_gone o (inl e) f = absurd (let w : Some top ≡ Some gone = sym e ∙ f in cc)
 not_gone None (inr i) f = absurd (cc)
@@ -170,7 +152,7 @@ not_gone (Some x) (inr i) f =
     let w : x.place ≡ gone = (cc) in
     let n : IsSome {T = ℕ} None = subst (λ (p : Place). IsSome (home_by p)) w i in absurd (cc)
 
-module _ (s : Heap) (sound : Sound s) (few : AtMost (2 ^ 48) s) (settled : Settled s) (ready : Ready s) (made : IsMade s) where
+module _ (s : Heap) (sound : Sound s) (few : AtMost (2 ^ 48) s) (settled : AllInPlace s) (ready : Ready s) (made : IsMadeByHand s) where
   bound : (m : ℕ) → IsMem s m → m ≤ sum_of few.mems
   bound m i = below_sum m few.mems (few.all_mems m i)
 

@@ -4,7 +4,7 @@ use Rattle.lmn_base.specs.Solids.{connector}
 use Rattle.lmn_heap.specs.Heap.{Heap, functor_of, mark_of, mems_in, In}
 
 -- No atom is a connector, no atom has a mark, and each membrane has a greater number than the one in which it stands.
-pub record IsMade (s : Heap) : Type 0 where
+pub record IsMadeByHand (s : Heap) : Type 0 where
   pub no_connector : (a : ℕ) → functor_of s a ≢ Some connector
   pub unmarked : (a i : ℕ) → mark_of s a i ≡ 0
   pub rising : (m n : ℕ) → In n (mems_in s m) → m < n

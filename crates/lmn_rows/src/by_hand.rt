@@ -2,7 +2,7 @@
 //! folded one. Rules are read of a text.
 ghost use Rattle.std.specs.Prelude.{◌≢◌, IsFalse};
 ghost use Rattle.lmn_base.specs.Solids.{connector};
-ghost use Rattle.lmn_rows.specs.Made.{IsMade};
+ghost use Rattle.lmn_rows.specs.Made.{IsMadeByHand};
 ghost use Rattle.lmn_store.specs.Kept.{heap_of};
 
 use crate::reading::read_of;
@@ -465,7 +465,7 @@ const FOLDED: [FoldedRow; 18] = [
 
 /// A new store.
 fn new_store(rt: &(impl Abort + AllocGlobal)) -> SlabStore
-    ensures { IsMade (heap_of result) }
+    ensures { IsMadeByHand (heap_of result) }
 {
     SlabStore::new(rt.alloc()).expect(rt, "memory")
 }
@@ -482,8 +482,8 @@ fn is_connector(functor: Functor) -> bool
 
 /// Places the first atom that waits.
 fn place(rt: &impl Abort, store: &mut SlabStore, m: usize)
-    requires { IsMade (heap_of store.old) }
-    ensures { IsMade (heap_of store.new) }
+    requires { IsMadeByHand (heap_of store.old) }
+    ensures { IsMadeByHand (heap_of store.new) }
 {
     assert!(rt; store.stands(m));
     assert!(rt; store.waits());
@@ -492,8 +492,8 @@ fn place(rt: &impl Abort, store: &mut SlabStore, m: usize)
 
 /// An atom more in a membrane.
 fn add_atom(rt: &(impl Abort + AllocGlobal), store: &mut SlabStore, m: usize, functor: Functor)
-    requires { IsMade (heap_of store.old) }
-    ensures { IsMade (heap_of store.new) }
+    requires { IsMadeByHand (heap_of store.old) }
+    ensures { IsMadeByHand (heap_of store.new) }
 {
     assert!(rt; !is_connector(functor));
     store.make_atom(rt.alloc(), functor).expect(rt, "memory");
@@ -502,8 +502,8 @@ fn add_atom(rt: &(impl Abort + AllocGlobal), store: &mut SlabStore, m: usize, fu
 
 /// Places the first membrane that waits. It must have a greater number than the one in which it is placed.
 fn place_membrane(rt: &impl Abort, store: &mut SlabStore, m: usize)
-    requires { IsMade (heap_of store.old) }
-    ensures { IsMade (heap_of store.new) }
+    requires { IsMadeByHand (heap_of store.old) }
+    ensures { IsMadeByHand (heap_of store.new) }
 {
     assert!(rt; store.stands(m));
     assert!(rt; store.mem_waits());
@@ -513,8 +513,8 @@ fn place_membrane(rt: &impl Abort, store: &mut SlabStore, m: usize)
 
 /// A membrane more in a membrane.
 fn add_membrane(rt: &(impl Abort + AllocGlobal), store: &mut SlabStore, m: usize)
-    requires { IsMade (heap_of store.old) }
-    ensures { IsMade (heap_of store.new) }
+    requires { IsMadeByHand (heap_of store.old) }
+    ensures { IsMadeByHand (heap_of store.new) }
 {
     store.make_mem(rt.alloc()).expect(rt, "memory");
     place_membrane(rt, store, m);
@@ -522,8 +522,8 @@ fn add_membrane(rt: &(impl Abort + AllocGlobal), store: &mut SlabStore, m: usize
 
 /// Room for a rule more in a membrane.
 fn make_room(rt: &(impl Abort + AllocGlobal), store: &mut SlabStore, m: usize)
-    requires { IsMade (heap_of store.old) }
-    ensures { IsMade (heap_of store.new) }
+    requires { IsMadeByHand (heap_of store.old) }
+    ensures { IsMadeByHand (heap_of store.new) }
 {
     assert!(rt; store.has_mem(m));
     store.reserve_rules(rt.alloc(), m, 1).expect(rt, "memory");
@@ -531,8 +531,8 @@ fn make_room(rt: &(impl Abort + AllocGlobal), store: &mut SlabStore, m: usize)
 
 /// A rule more in a membrane.
 fn add_rule(rt: &(impl Abort + AllocGlobal), store: &mut SlabStore, m: usize, rule: u32)
-    requires { IsMade (heap_of store.old) }
-    ensures { IsMade (heap_of store.new) }
+    requires { IsMadeByHand (heap_of store.old) }
+    ensures { IsMadeByHand (heap_of store.new) }
 {
     make_room(rt, store, m);
     assert!(rt; store.has_mem(m));
@@ -542,8 +542,8 @@ fn add_rule(rt: &(impl Abort + AllocGlobal), store: &mut SlabStore, m: usize, ru
 
 /// Two ports become partners.
 fn join(rt: &impl Abort, store: &mut SlabStore, a: usize, i: u8, b: usize, j: u8)
-    requires { IsMade (heap_of store.old) }
-    ensures { IsMade (heap_of store.new) }
+    requires { IsMadeByHand (heap_of store.old) }
+    ensures { IsMadeByHand (heap_of store.new) }
 {
     assert!(rt; store.has_port(a, i));
     assert!(rt; store.has_port(b, j));
@@ -560,8 +560,8 @@ fn label_of(rt: &impl Abort, names: &mut Names, name: &[u8]) -> Label {
 
 /// One call.
 fn make(rt: &(impl Abort + AllocGlobal), store: &mut SlabStore, names: &mut Names, step: Step)
-    requires { IsMade (heap_of store.old) }
-    ensures { IsMade (heap_of store.new) }
+    requires { IsMadeByHand (heap_of store.old) }
+    ensures { IsMadeByHand (heap_of store.new) }
 {
     match step {
         Atom(m, name, arity) => {
@@ -580,7 +580,7 @@ fn make(rt: &(impl Abort + AllocGlobal), store: &mut SlabStore, names: &mut Name
 
 /// A store in which all of this was made.
 fn made(rt: &(impl Abort + AllocGlobal), names: &mut Names, steps: &[Step]) -> SlabStore
-    ensures { IsMade (heap_of result) }
+    ensures { IsMadeByHand (heap_of result) }
 {
     let mut store = new_store(rt);
     for step in steps {
@@ -598,7 +598,7 @@ fn printed(
     folded: bool,
     room: usize,
 ) -> MemSink
-    requires { IsMade (heap_of store.old) }
+    requires { IsMadeByHand (heap_of store.old) }
 {
     assert!(rt; store.is_settled());
     assert!(rt; store.is_ready());
@@ -631,7 +631,7 @@ fn what_is_made_is_printed(rt: HostRuntime) {
 /// A store with so many membranes, each in the one before, an atom in the innermost one and one outside of all, where
 /// there is a link.
 fn walls(rt: &(impl Abort + AllocGlobal), names: &mut Names, count: usize, link: bool) -> SlabStore
-    ensures { IsMade (heap_of result) }
+    ensures { IsMadeByHand (heap_of result) }
 {
     let mut store = new_store(rt);
     for outer in 0..count {
@@ -678,7 +678,7 @@ fn walls_are_printed(rt: HostRuntime) {
 
 /// A store with an atom, and so many more, each in an argument of the one before.
 fn terms(rt: &(impl Abort + AllocGlobal), names: &mut Names, count: usize) -> SlabStore
-    ensures { IsMade (heap_of result) }
+    ensures { IsMadeByHand (heap_of result) }
 {
     let mut store = new_store(rt);
     make(rt, &mut store, names, Atom(0, b"a", 1));

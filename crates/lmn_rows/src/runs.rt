@@ -1,7 +1,7 @@
 //! Texts that are run: by an engine alone, turn by turn, and by `drive`.
 ghost use Rattle.std.specs.Prelude.{◌≡◌, ◌<◌};
 ghost use Rattle.lmn_order.specs.Answers.{AnswersBelow};
-ghost use Rattle.lmn_schedule.specs.Held.{CanBeLoaded, CanRun};
+ghost use Rattle.lmn_schedule.specs.Held.{CanBeLoaded, EngineCanTurn};
 ghost use Rattle.lmn_store.specs.Kept.{heap_of};
 
 use crate::reading::read_of;
@@ -284,9 +284,9 @@ fn is_reducible<F: Fn(u64, u64) -> u64, L: Ledger>(
     engine: &mut Engine<'_, SlabStore, F>,
     steps: &mut Steps<L>,
 ) -> bool
-    requires run { CanRun (heap_of engine.old.machine.store) engine.old.plain.now.rules engine.old.codes engine.old.size }
+    requires run { EngineCanTurn (heap_of engine.old.machine.store) engine.old.plain.now.rules engine.old.codes engine.old.size }
     requires chooser { AnswersBelow F.pre F.post engine.old.chooser.f }
-    ensures run { CanRun (heap_of engine.new.machine.store) engine.new.plain.now.rules engine.new.codes engine.new.size }
+    ensures run { EngineCanTurn (heap_of engine.new.machine.store) engine.new.plain.now.rules engine.new.codes engine.new.size }
     ensures chooser { AnswersBelow F.pre F.post engine.new.chooser.f }
 {
     engine.reducible(steps)
@@ -298,9 +298,9 @@ fn turn<F: Fn(u64, u64) -> u64, L: Ledger>(
     engine: &mut Engine<'_, SlabStore, F>,
     steps: &mut Steps<L>,
 ) -> Turn
-    requires run { CanRun (heap_of engine.old.machine.store) engine.old.plain.now.rules engine.old.codes engine.old.size }
+    requires run { EngineCanTurn (heap_of engine.old.machine.store) engine.old.plain.now.rules engine.old.codes engine.old.size }
     requires chooser { AnswersBelow F.pre F.post engine.old.chooser.f }
-    ensures run { CanRun (heap_of engine.new.machine.store) engine.new.plain.now.rules engine.new.codes engine.new.size }
+    ensures run { EngineCanTurn (heap_of engine.new.machine.store) engine.new.plain.now.rules engine.new.codes engine.new.size }
     ensures chooser { AnswersBelow F.pre F.post engine.new.chooser.f }
 {
     let reducible = is_reducible(engine, steps);
@@ -317,9 +317,9 @@ fn turns<F: Fn(u64, u64) -> u64, L: Ledger>(
     budget: u64,
     steps: &mut Steps<L>,
 ) -> Turn
-    requires run { CanRun (heap_of engine.old.machine.store) engine.old.plain.now.rules engine.old.codes engine.old.size }
+    requires run { EngineCanTurn (heap_of engine.old.machine.store) engine.old.plain.now.rules engine.old.codes engine.old.size }
     requires chooser { AnswersBelow F.pre F.post engine.old.chooser.f }
-    ensures run { CanRun (heap_of engine.new.machine.store) engine.new.plain.now.rules engine.new.codes engine.new.size }
+    ensures run { EngineCanTurn (heap_of engine.new.machine.store) engine.new.plain.now.rules engine.new.codes engine.new.size }
     ensures chooser { AnswersBelow F.pre F.post engine.new.chooser.f }
 {
     for _ in 0..budget {

@@ -15,11 +15,11 @@ use Rattle.lmn_base.specs.Levels.{leaves_of}
 use Rattle.lmn_congruence.specs.Orders.{at_head, further}
 use Rattle.lmn_congruence.specs.Rules as tree
 use Rattle.lmn_congruence.specs.Rules.{Condition, Expression, Label, Leaf, Level, Levels, Rule, atom_leaf, body_of, compares, connector_leaf, differs, equates, integer, is_kind, level, level_and, named, no_level, number, operation, rule_of, typed_leaf, unknown, value_of}
-use Rattle.lmn_congruence.specs.Translation.{atom_of, leaf_of, level_of, level_step, levels}
+use Rattle.lmn_congruence.specs.Translation.{atom_or_connector, leaf_of, level_of, level_step, levels}
 use Rattle.lmn_guards.specs.Values.{InRange}
 use Rattle.lmn_plain.specs.NamesHeld.{LeafHeld, LevelHeld, LevelsHeld, RuleHeld}
-use Rattle.lmn_plain.specs.Spelled.{ConditionSpelled, ExpressionSpelled, LabelSpelled, LeafSpelled, LevelSpelled, LevelsSpelled, NoConnector, RuleSpelled}
-use Rattle.lmn_runs.specs.Laws.{HasFewLinks}
+use Rattle.lmn_plain.specs.Spelled.{ConditionSpelled, ExpressionSpelled, LabelSpelled, LeafSpelled, LevelSpelled, LevelsSpelled, SpellsNoConnector, RuleSpelled}
+use Rattle.lmn_runs.specs.Laws.{LinksAreFew}
 use Rattle.lmn_runs.proofs.LabelsStay.{ExpressionInRange, GuardInRange, Leaves, LevelGood, LevelsGood, RuleGood}
 
 -- ---- integers of 64 bits
@@ -69,14 +69,14 @@ module _ (names : List tree.Name) where
   pub integer_good : (z : ℤ) → Good (integer z) 1 → InRange z
   integer_good z h = in_range z h.spelled
 
-  no_connector : (l : Label) (xs : List ℕ) → NoConnector l xs → IsNoConnector l (length xs)
+  no_connector : (l : Label) (xs : List ℕ) → SpellsNoConnector l xs → IsNoConnector l (length xs)
   no_connector (named n) [] h = λ e. absurd (omega (arith, e))
   no_connector (named n) (x ∷ []) h = λ e. absurd (omega (arith, e))
   no_connector (named n) (x ∷ y ∷ []) h = λ e. h
   no_connector (named n) (x ∷ y ∷ z ∷ xs) h = λ e. absurd (omega (arith, e))
   no_connector (integer z) xs h = tt
 
-  pub not_connector : (l : Label) (xs : List ℕ) → IsNoConnector l (length xs) → NoConnector l xs
+  pub not_connector : (l : Label) (xs : List ℕ) → IsNoConnector l (length xs) → SpellsNoConnector l xs
   not_connector (named n) [] h = tt
   not_connector (named n) (x ∷ []) h = tt
   not_connector (named n) (x ∷ y ∷ []) h = h refl
@@ -102,7 +102,7 @@ module _ (names : List tree.Name) where
     LevelsFew no_level = ⊤
     LevelsFew (level_and l ls) = LevelFew l × LevelsFew ls
 
-  atom_few : (l : base.Label) (xs : List ℕ) → length xs ≤ 255 → LeafFew (atom_of names l xs)
+  atom_few : (l : base.Label) (xs : List ℕ) → length xs ≤ 255 → LeafFew (atom_or_connector names l xs)
   atom_few (Name zero) [] h = h
   atom_few (Name zero) (x ∷ []) h = h
   atom_few (Name zero) (x ∷ (y ∷ [])) h = tt
@@ -110,23 +110,23 @@ module _ (names : List tree.Name) where
   atom_few (Name (suc n)) xs h = h
   atom_few (Int z) xs h = h
 
-  leaf_few : (l : base_leaf.Leaf) → HasFewLinks l → LeafFew (leaf_of names l)
+  leaf_few : (l : base_leaf.Leaf) → LinksAreFew l → LeafFew (leaf_of names l)
   leaf_few (Atom f os place) h = atom_few f.label (map (λ (o : Occ). o.link) os) (subst (λ n. n ≤ 255) (sym (length-map os (λ (o : Occ). o.link))) h)
   leaf_few (Typed n o place) h = tt
 
-  leaves_few : (ls : List base_leaf.Leaf) → AllByRecursion HasFewLinks ls → AllByRecursion LeafFew (map (leaf_of names) ls)
+  leaves_few : (ls : List base_leaf.Leaf) → AllByRecursion LinksAreFew ls → AllByRecursion LeafFew (map (leaf_of names) ls)
   leaves_few [] h = tt
   leaves_few (l ∷ ls) h = (leaf_few l h.0, leaves_few ls h.1)
 
-  few_left : (ks ls : List base_leaf.Leaf) → AllByRecursion HasFewLinks (ks ++ ls) → AllByRecursion HasFewLinks ks × AllByRecursion HasFewLinks ls
+  few_left : (ks ls : List base_leaf.Leaf) → AllByRecursion LinksAreFew (ks ++ ls) → AllByRecursion LinksAreFew ks × AllByRecursion LinksAreFew ls
   few_left [] ls h = (tt, h)
   few_left (k ∷ ks) ls h = let u = few_left ks ls h.1 in ((h.0, u.0), u.1)
 
   module _ (ρ : ℕ → Rule) where
     abbrev LevelIsFew : base_level.Level → Type 0
-    LevelIsFew l = AllByRecursion HasFewLinks (leaves_of l) → LevelFew (level_of names ρ l)
+    LevelIsFew l = AllByRecursion LinksAreFew (leaves_of l) → LevelFew (level_of names ρ l)
 
-    below_few : (ls : List ((l : base_level.Level) × LevelIsFew l)) → AllByRecursion HasFewLinks (flat_map (λ inner. inner) (map leaves_of (map (λ e. e.0) ls))) → LevelsFew (levels (map (level_of names ρ) (map (λ e. e.0) ls)))
+    below_few : (ls : List ((l : base_level.Level) × LevelIsFew l)) → AllByRecursion LinksAreFew (flat_map (λ inner. inner) (map leaves_of (map (λ e. e.0) ls))) → LevelsFew (levels (map (level_of names ρ) (map (λ e. e.0) ls)))
     below_few [] h = tt
     below_few (e ∷ ls) h =
         let u = few_left (leaves_of e.0) (flat_map (λ inner. inner) (map leaves_of (map (λ (e : (l : base_level.Level) × LevelIsFew l). e.0) ls))) h in
@@ -134,8 +134,8 @@ module _ (names : List tree.Name) where
 
     pub level_few : (l : base_level.Level) → LevelIsFew l
     level_few = ind-Level LevelIsFew (λ y z is h.
-        let here = subst (AllByRecursion HasFewLinks) (fold-roll-Level (List base_leaf.Leaf) (λ l. l.leaves ++ flat_map (λ inner. inner) l.membranes) y) h in
-        let inside = subst (λ l. AllByRecursion HasFewLinks (flat_map (λ inner. inner) (map leaves_of l.membranes)) → LevelsFew (levels (map (level_of names ρ) l.membranes))) is (below_few z.membranes) in
+        let here = subst (AllByRecursion LinksAreFew) (fold-roll-Level (List base_leaf.Leaf) (λ l. l.leaves ++ flat_map (λ inner. inner) l.membranes) y) h in
+        let inside = subst (λ l. AllByRecursion LinksAreFew (flat_map (λ inner. inner) (map leaves_of l.membranes)) → LevelsFew (levels (map (level_of names ρ) l.membranes))) is (below_few z.membranes) in
         let u = few_left y.leaves (flat_map (λ inner. inner) (map leaves_of y.membranes)) here in
         rw (fold-roll-Level Level (level_step names ρ) y) (leaves_few y.leaves u.0, inside u.1))
 

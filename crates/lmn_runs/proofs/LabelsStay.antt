@@ -11,17 +11,19 @@ use Rattle.lmn_congruence.specs.Translation.{levels}
 use Rattle.lmn_congruence.proofs.Shuffles.{shuffle_flip}
 use Rattle.lmn_guards.specs.Values.{InRange, of_context, of_number, of_operation}
 use Rattle.lmn_reduction.specs.Assignments.{Assignment}
-use Rattle.lmn_reduction.specs.Firing.{typed_contexts, typed_contexts_of, typed_leaves}
+use Rattle.lmn_reduction.specs.Firing.{typed_contexts, typed_contexts_in, typed_leaves}
 use Rattle.lmn_reduction.specs.Guards.{GuardHolds, alike, binds, condition_and}
-use Rattle.lmn_reduction.specs.Parts.{IsInteger, Rooted, an_integer, atoms_of}
+use Rattle.lmn_reduction.specs.Parts.{IsInteger, Rooted, an_integer, atoms_at_top}
 use Rattle.lmn_reduction.specs.Values.{Value}
-use Rattle.lmn_adequacy.specs.Accepted.{Accepted, InTurn, UsedIn, all_asked, all_contexts, binding_in_turn, comparison_in_turn, contexts_in, difference_in_turn, equality_in_turn, here_used, kind_in_turn, left_sides, membranes_of}
+use Rattle.lmn_adequacy.specs.Accepted.{Accepted, InTurn, UsedIn, all_asked, all_contexts, binding_in_turn, comparison_in_turn, contexts_in, difference_in_turn, equality_in_turn, here_used, kind_in_turn, left_sides, own_membranes}
 use Rattle.lmn_adequacy.specs.Embedding.{AllRules, AtomImages, IsPart, LevelImages, MembraneImages, Merged, Taken, TakenRegion, TypedParts, from_first, from_second, image_and, level_images, membrane_image_and, merged_none, no_image, no_membrane_image, no_part, no_part_of_atom, part_and, region_first, region_later, taken_first, taken_later, typed_later}
-use Rattle.lmn_adequacy.specs.Next.{Contents, EachLeft, EachLeftIn, FiresInOrder, LeftTo, LeftToContext, MadeLeaves, MadeLevel, MadeMembranes, NextAt, RawAt, assignment_of, context_atoms, context_membranes, fires_below, fires_here, kept_atoms, kept_level, kept_membranes, made_atom, made_atoms, made_connector, made_copy, made_level, made_membrane, no_context, no_made_leaf, no_made_membrane, of_rule, of_solid, one_context, raw_level, replaced, wire_leaves}
+use Rattle.lmn_adequacy.specs.Next.{Contents, EachLeft, EachLeftIn, FiresInOrder, LeftTo, LeftToContext, MadeLeaves, MadeLevel, MadeMembranes, NextAt, RawAt, assignment_of, context_atoms, context_membranes, fires_below, fires_here, kept_atoms, kept_level, kept_membranes, made_atom, part_leaves, made_connector, made_copy, made_level, made_membrane, no_context, no_made_leaf, no_made_membrane, one_context, raw_level, replaced, wire_leaves}
 use Rattle.lmn_adequacy.proofs.Heads.{region_there, rule_there}
 use Rattle.lmn_adequacy.proofs.OneNext.{names_split}
-use Rattle.lmn_adequacy.proofs.Orders.{among_append, among_left, among_right, either, taken_put}
+use Rattle.lmn_adequacy.proofs.Orders.{either, taken_put}
 use Rattle.lmn_adequacy.proofs.SameParts.{shuffle_among}
+use Rattle.lmn_splice.specs.Splice.{of_rule, of_solid}
+use Rattle.lmn_congruence.proofs.Common.{among_apart as among_append, among_left, among_right}
 
 -- each integer that is written in an expression, and in a condition, is in range
 abbrev pub ExpressionInRange : Expression → Type 0
@@ -121,7 +123,7 @@ module _ (H : Label → ℕ → Type 0) (makes : (z : ℤ) → InRange z → H (
 
   -- the atoms that a typed context stands for
   abbrev PartGood : Rooted → Type 0
-  PartGood g = (a : Label × List ℕ) → Among a (atoms_of g.process) → H a.0 (length a.1)
+  PartGood g = (a : Label × List ℕ) → Among a (atoms_at_top g.process) → H a.0 (length a.1)
 
   into_part : {g : Rooted} {x : ℕ} {part : List SolidAtom} → IsPart g x part → Atoms part → PartGood g
   into_part p h a i =
@@ -235,20 +237,20 @@ module _ (H : Label → ℕ → Type 0) (makes : (z : ℤ) → InRange z → H (
   -- What is left, what contexts of head membranes stand for, and what typed contexts stand for.
   record LeavesGood (c : Contents) (t : Assignment) (l : Level) (rest : Region) : Type 0 where
     pub left : AllAtoms rest
-    pub contexts : ContextGood c (contexts_in (membranes_of l))
+    pub contexts : ContextGood c (contexts_in (own_membranes l))
     pub typed : TypedGood t (typed_contexts l)
 
   record LeavesGoodIn (c : Contents) (t : Assignment) (ls : Levels) (rest : Regions) : Type 0 where
     pub left : AllAtomsIn rest
     pub contexts : ContextGood c (contexts_in ls)
-    pub typed : TypedGood t (typed_contexts_of ls)
+    pub typed : TypedGood t (typed_contexts_in ls)
 
   mutual
     images_good : (c : Contents) {t : Assignment} {l : Level} {ns : List ℕ} {m rest : Region} (i : LevelImages t l ns m rest) → EachLeft c i → AllAtoms m → LeavesGood c t l rest
     images_good c {t = t} (level_images {leaves = leaves} {membranes = membranes} i j k) e h =
         let u = parts_good j (images_atoms i h.0) in
         let v = membranes_good c k e h.1 in
-        record { left = (u.0, v.left); contexts = v.contexts; typed = both_typed t (typed_leaves leaves) (typed_contexts_of membranes) u.1 v.typed }
+        record { left = (u.0, v.left); contexts = v.contexts; typed = both_typed t (typed_leaves leaves) (typed_contexts_in membranes) u.1 v.typed }
 
     membranes_good : (c : Contents) {t : Assignment} {ls : Levels} {ns : List ℕ} {ms rest : Regions} (i : MembraneImages t ls ns ms rest) → EachLeftIn c i → AllAtomsIn ms → LeavesGoodIn c t ls rest
     membranes_good c no_membrane_image e h = record { left = h; contexts = λ p k. elim k [ ]; typed = λ p k. elim k [ ] }
@@ -259,12 +261,12 @@ module _ (H : Label → ℕ → Type 0) (makes : (z : ℤ) → InRange z → H (
         record {
           left = w.left;
           contexts = both_contexts c (ps ++ contexts_in membranes) (contexts_in ls) (both_contexts c ps (contexts_in membranes) (left_good c ps qs rest e.0 v.left) v.contexts) w.contexts;
-          typed = both_typed t (typed_leaves leaves ++ typed_contexts_of membranes) (typed_contexts_of ls) v.typed w.typed;
+          typed = both_typed t (typed_leaves leaves ++ typed_contexts_in membranes) (typed_contexts_in ls) v.typed w.typed;
         }
 
   -- ---- bodies
 
-  made_part : (xs : List SolidAtom) → Atoms xs → Leaves (made_atoms xs)
+  made_part : (xs : List SolidAtom) → Atoms xs → Leaves (part_leaves xs)
   made_part [] h l i = elim i [ ]
   made_part (a ∷ xs) h l at_head = h a at_head
   made_part (a ∷ xs) h l (further i) = made_part xs (λ b k. h b (further k)) l i
@@ -276,7 +278,7 @@ module _ (H : Label → ℕ → Type 0) (makes : (z : ℤ) → InRange z → H (
   made_leaves c (made_connector m) h k l at_head = tt
   made_leaves c (made_connector m) h k l (further i) = made_leaves c m (λ b j. h b (further j)) k l i
   made_leaves c (made_copy {p = p} {part = part} {outs = outs} u d m) h k l i =
-      leaves_append (made_atoms part) outs (made_part part (from_part u (k p at_head))) (made_leaves c m (λ b j. h b (further j)) (λ q j. k q (further j))) l i
+      leaves_append (part_leaves part) outs (made_part part (from_part u (k p at_head))) (made_leaves c m (λ b j. h b (further j)) (λ q j. k q (further j))) l i
 
   context_leaves : (c : Contents) (ps : List Name) → ContextGood c ps → Atoms (context_atoms c ps)
   context_leaves c [] h a i = elim i [ ]
@@ -291,16 +293,16 @@ module _ (H : Label → ℕ → Type 0) (makes : (z : ℤ) → InRange z → H (
   mutual
     made_good : (c : Contents) {l : Level} {outs : List Leaf} {ms : List Level} {rs : List Rule} → MadeLevel c l outs ms rs → LevelGood l → ContextGood c (all_contexts l) → TypedGood (assignment_of c) (typed_contexts l) → Leaves outs × ListGood ms
     made_good c (made_level {leaves = leaves} {outs = outs} {membranes = membranes} {made = ms} {contexts = ps} u v) h k t = (
-      leaves_append outs (kept_atoms (context_atoms c ps)) (made_leaves c u h.0 (λ p i. t p (among_left (typed_contexts_of membranes) i)))
+      leaves_append outs (kept_atoms (context_atoms c ps)) (made_leaves c u h.0 (λ p i. t p (among_left (typed_contexts_in membranes) i)))
           (kept_leaves (context_atoms c ps) (context_leaves c ps (λ p i. k p (among_left (contexts_in membranes) i)))),
       list_append ms (context_membranes c ps) (made_list c v h.1 (λ p i. k p (among_right ps i)) (λ p i. t p (among_right (typed_leaves leaves) i)))
           (context_list c ps (λ p i. k p (among_left (contexts_in membranes) i))),
     )
 
-    made_list : (c : Contents) {ls : Levels} {ms : List Level} → MadeMembranes c ls ms → LevelsGood ls → ContextGood c (contexts_in ls) → TypedGood (assignment_of c) (typed_contexts_of ls) → ListGood ms
+    made_list : (c : Contents) {ls : Levels} {ms : List Level} → MadeMembranes c ls ms → LevelsGood ls → ContextGood c (contexts_in ls) → TypedGood (assignment_of c) (typed_contexts_in ls) → ListGood ms
     made_list c no_made_membrane h k t = tt
     made_list c (made_membrane {l = l} {ls = ls} {inner = inner} u v) h k t =
-        let w = made_good c u h.0 (λ p i. k p (among_left (contexts_in ls) i)) (λ p i. t p (among_left (typed_contexts_of ls) i)) in
+        let w = made_good c u h.0 (λ p i. k p (among_left (contexts_in ls) i)) (λ p i. t p (among_left (typed_contexts_in ls) i)) in
         ((w.0, list_levels inner w.1), made_list c v h.1 (λ p i. k p (among_right (all_contexts l) i)) (λ p i. t p (among_right (typed_contexts l) i)))
 
   -- ---- firing
@@ -329,7 +331,7 @@ module _ (H : Label → ℕ → Type 0) (makes : (z : ℤ) → InRange z → H (
       let n = names_split (head_of r) in
       let contexts : ContextGood c (all_contexts (body_of r)) =
       λ p i. let j = shuffle_among (shuffle_flip a.kept) i in
-      let k = u.contexts j.0 (subst (Among j.0) (n.0 ∙ ap (λ w. w ++ contexts_in (membranes_of (head_of r))) a.top_contexts) j.1) in
+      let k = u.contexts j.0 (subst (Among j.0) (n.0 ∙ ap (λ w. w ++ contexts_in (own_membranes (head_of r))) a.top_contexts) j.1) in
       subst (λ w. Atoms (c.atoms_of w) × AllAtomsIn (c.membranes_of w)) j.2 k
       in
       let bound = bound_good t (typed_contexts (head_of r)) a.in_turn e.guard g.1 (λ q l. either l (u.typed q) (λ i. elim i [ ])) in

@@ -11,8 +11,8 @@ use Rattle.lmn_base.specs.Names.{IsNames}
 use Rattle.lmn_congruence.specs.Rules as tree
 use Rattle.lmn_guards.specs.Values as guards
 use Rattle.lmn_lexer.specs.Cutting.{Cuts, token_at as token_of}
-use Rattle.lmn_lexer.specs.Faults.{InRange, NothingWrong, TokenFault, floating_point, integer_out_of_range, long_name, value_behind}
-use Rattle.lmn_lexer.specs.Laying.{Word, end_word, word_of, words_of}
+use Rattle.lmn_lexer.specs.Faults.{SpelledInRange, NothingWrong, TokenFault, floating_point, integer_out_of_range, long_name, value_behind}
+use Rattle.lmn_lexer.specs.Laying.{Word, last_word, word_of, words_of}
 use Rattle.lmn_lexer.specs.Spelling.{AllPass, IsWord, Quotes, Spells, byte, goes_on, is_quotable, nothing}
 use Rattle.lmn_lexer.specs.Values.{IsSound, bytes_of, integer_of, minus_of}
 use Rattle.lmn_lexer.specs.declared.token.Kind.{Kind}
@@ -23,12 +23,13 @@ use Rattle.lmn_parser.specs.Trees.{At, NameAt}
 use Rattle.lmn_plain.specs.Meanings.{label_at, label_spelled, name_at, name_spelled, word_at}
 use Rattle.lmn_plain.specs.Spelled.{IsContextName, LabelSpelled}
 use Rattle.lmn_plain.proofs.LabelWords.{quoted_name}
-use Rattle.lmn_plain.proofs.Ranges.{at_most, in_range}
+use Rattle.lmn_plain.proofs.Ranges.{in_range}
 use Rattle.lmn_plain.proofs.Standing.{token_there}
-use Rattle.lmn_runs.specs.Texts.{HasName, Holds}
+use Rattle.lmn_runs.specs.Texts.{HasName, HoldsTokenNames}
 use Rattle.lmn_runs.proofs.GoodLevels.{fits}
 use Rattle.lmn_runs.proofs.SpelledParts.{IntegerAt, RightTokens}
 use Rattle.lmn_runs.proofs.SpelledRules.{IsContext, IsLabel}
+use Rattle.lmn_base.proofs.Numbers.{at_most_by_not as at_most}
 
 -- ---- words
 
@@ -56,7 +57,7 @@ IsRightWord kind.Quoted bytes = NameSpelled (name_spelled kind.Quoted bytes)
 IsRightWord kind.Mod bytes = NameSpelled (name_spelled kind.Mod bytes)
 IsRightWord kind.Context bytes = IsContextName (name_spelled kind.Context bytes)
 IsRightWord kind.RuleCtx bytes = IsContextName (name_spelled kind.RuleCtx bytes)
-IsRightWord kind.Int bytes = InRange bytes
+IsRightWord kind.Int bytes = SpelledInRange bytes
 IsRightWord _ bytes = Unit {0}
 
 right_word : (minus : Bool) (k : Kind) (bytes after : List ℕ) → Spells minus k bytes → ((code : ℕ) → TokenFault k bytes after code → ⊥) → IsRightWord k bytes
@@ -77,11 +78,11 @@ minus_in_range : (n : ℕ) → n ≤ 2 ^ 63 → guards.InRange (minus_of n)
 minus_in_range zero h = (record { le = tt }, record { lt = lt→ltb 0 (2 ^ 63) (omega arith) })
 minus_in_range (suc n) h = (record { le = le→leb n (2 ^ 63 - 1) (omega (arith, h)) }, record { lt = tt })
 
-integer_in_range : (bytes : List ℕ) → InRange bytes → guards.InRange (integer_of bytes)
+integer_in_range : (bytes : List ℕ) → SpelledInRange bytes → guards.InRange (integer_of bytes)
 integer_in_range [] h = absurd h
 integer_in_range (b ∷ bs) h = go (b == 45) refl h
   where
-    go : (t : Bool) → (b == 45) ≡ t → InRange (b ∷ bs) → guards.InRange (if t then minus_of (value_behind 0 bs) else pos (value_behind 0 (b ∷ bs)))
+    go : (t : Bool) → (b == 45) ≡ t → SpelledInRange (b ∷ bs) → guards.InRange (if t then minus_of (value_behind 0 bs) else pos (value_behind 0 (b ∷ bs)))
     go true e (inl (same, l)) = minus_in_range (value_behind 0 bs) l
     go true e (inr (other, l)) = absurd (other (grind (arith, nat_tests, e)))
     go false e (inl (same, l)) = absurd (let no : ¬ (b ≡ 45) = grind (arith, nat_tests, e) in no same)
@@ -99,7 +100,7 @@ sound_at text (u ∷ before) zero t h e =
     subst P (same_Some u t e) (right_word s.minus u.kind (bytes_of text u) (drop u.end text) s.spells s.right)
 sound_at text (u ∷ before) (suc p) t h e = sound_at text before p t h.1 e
 
-module _ (text : List ℕ) (tokens : List Token) (cut : Cuts text tokens) (none : NothingWrong text) (places : List Pos) (names : List tree.Name) (is : IsNames names) (holds : Holds names text tokens) where
+module _ (text : List ℕ) (tokens : List Token) (cut : Cuts text tokens) (none : NothingWrong text) (places : List Pos) (names : List tree.Name) (is : IsNames names) (holds : HoldsTokenNames names text tokens) where
   abbrev words : List Word
   words = words_of text tokens
 
@@ -120,7 +121,7 @@ module _ (text : List ℕ) (tokens : List Token) (cut : Cuts text tokens) (none 
       let there = token_there (slice_get tokens p) k (sym (slice_get-map (λ (t : Token). t.kind) tokens p) ∙ h) in
       let t = there.0 in
       let bytes = bytes_of text t in
-      let word = get_or_from_slice_get words p (word_of text t) end_word (slice_get-map (word_of text) tokens p ∙ ap (option_map (word_of text)) there.1) in
+      let word = get_or_from_slice_get words p (word_of text t) last_word (slice_get-map (word_of text) tokens p ∙ ap (option_map (word_of text)) there.1) in
       let P : Kind → Type 0 = λ k. IsRightWord k bytes in
       let Q : Kind → Type 0 = λ k. HasName k → Contains names (name_spelled k bytes) in
       record {

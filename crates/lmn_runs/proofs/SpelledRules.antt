@@ -21,23 +21,23 @@ use Rattle.lmn_base.specs.WellMade.{IsWellMadeRule, IsWellMade}
 use Rattle.lmn_congruence.specs.Orders.{Among, at_head, further}
 use Rattle.lmn_congruence.specs.Rules as tree
 use Rattle.lmn_congruence.specs.Rules.{Name}
-use Rattle.lmn_congruence.specs.Translation.{atom_of, condition_of, expression_of, kind_of, leaf_of, level_of, level_step, levels, name_of, names_of, numbered_rule, rules}
+use Rattle.lmn_congruence.specs.Translation.{atom_or_connector, condition_of, expression_of, kind_of, leaf_of, level_of, level_step, levels, name_of, names_of, numbered_rule, rules}
 use Rattle.lmn_congruence.specs.Translation as translation
 use Rattle.lmn_congruence.proofs.Appended.{all_left, all_right}
 use Rattle.lmn_congruence.proofs.NumberedRules.{rule_has_number}
 use Rattle.lmn_parser.specs.Syntax as syntax
-use Rattle.lmn_plain.specs.Expanded.{Context, Leaf, Level, Levels, Rule, atom_leaf, leaf_links, leaves_links, level, level_and, links_in, links_of, no_level, typed_leaf, use_links}
+use Rattle.lmn_plain.specs.Expanded.{Context, ExpandedLeaf, ExpandedLevel, ExpandedLevels, ExpandedRule, atom_leaf, expanded_leaf_links, expanded_leaves_links, level, level_and, expanded_links_in, expanded_links, no_level, typed_leaf, use_links}
 use Rattle.lmn_plain.specs.Links.{Link, Use}
-use Rattle.lmn_plain.specs.Plains.{Each, IsCond, IsExpr, IsRuleOf, all_numbered, context_use, number_of, numbered, numbered_context, numbered_leaf, numbered_use}
-use Rattle.lmn_plain.specs.Spelled.{ConditionSpelled, ExpressionSpelled, IsContextName, IsLinkNumber, LabelSpelled, LeafSpelled, LevelSpelled, LevelsSpelled, NoConnector, RuleSpelled, RulesSpelled}
+use Rattle.lmn_plain.specs.Plains.{EachPair, IsCond, IsExpr, IsRuleOf, all_numbered, context_use, number_of, numbered, numbered_context, numbered_leaf, numbered_use}
+use Rattle.lmn_plain.specs.Spelled.{ConditionSpelled, ExpressionSpelled, IsContextName, IsLinkNumber, LabelSpelled, LeafSpelled, LevelSpelled, LevelsSpelled, SpellsNoConnector, RuleSpelled, RulesSpelled}
 use Rattle.lmn_plain.proofs.Fitting.{numbers_in, rule_numbers}
 use Rattle.lmn_plain.proofs.HeldLabels.{connector_number, held_back}
 use Rattle.lmn_plain.proofs.NumberedLevels.{links_numbered, rules_numbered}
 use Rattle.lmn_plain.proofs.SolidNumbers.{there}
-use Rattle.lmn_adequacy.proofs.Orders.{among_left, among_map, among_right}
-use Rattle.lmn_runs.proofs.Counted.{numbers_below}
 use Rattle.lmn_runs.proofs.GoodLevels.{fits}
 use Rattle.lmn_runs.proofs.SpelledParts.{ConditionRight, ContextRight, ExprRight, LeafRight, LevelRight, LevelsRight, RuleRight, TokenRight}
+use Rattle.lmn_folded_same.proofs.SpelledForms.{numbers_below}
+use Rattle.lmn_congruence.proofs.Common.{among_left, among_right, among_map}
 use Rattle.lmn_base.specs.declared.rule.Plain.{Plain}
 use Rattle.lmn_base.specs.declared.refusal.Pos.{Pos}
 use Rattle.lmn_lexer.specs.Laying.{Word}
@@ -65,7 +65,7 @@ module _ (names : List Name) (is : IsNames names) where
 
   -- ---- leaves
 
-  named_leaf : (n : Name) (xs : List ℕ) → IsLabel (tree.named n) → AllByRecursion IsLinkNumber xs → LeafSpelled (atom_of names (Named (number_of names n)) xs)
+  named_leaf : (n : Name) (xs : List ℕ) → IsLabel (tree.named n) → AllByRecursion IsLinkNumber xs → LeafSpelled (atom_or_connector names (Named (number_of names n)) xs)
   named_leaf n xs h small = go (number_of names n) refl xs small
     where
       spelled : (k : ℕ) → number_of names n ≡ k → LabelSpelled (tree.named (name_of names k))
@@ -77,13 +77,13 @@ module _ (names : List Name) (is : IsNames names) where
           let zero_is : number_of names n ≡ 0 = ap (number_of names) same ∙ connector_number names is in
           absurd (omega (arith, e, zero_is))
 
-      other : (j : ℕ) → number_of names n ≡ suc j → (xs : List ℕ) → NoConnector (tree.named (name_of names (suc j))) xs
+      other : (j : ℕ) → number_of names n ≡ suc j → (xs : List ℕ) → SpellsNoConnector (tree.named (name_of names (suc j))) xs
       other j e [] = tt
       other j e (x ∷ []) = tt
       other j e (x ∷ y ∷ []) = apart j e
       other j e (x ∷ y ∷ z ∷ xs) = tt
 
-      go : (k : ℕ) → number_of names n ≡ k → (xs : List ℕ) → AllByRecursion IsLinkNumber xs → LeafSpelled (atom_of names (Named k) xs)
+      go : (k : ℕ) → number_of names n ≡ k → (xs : List ℕ) → AllByRecursion IsLinkNumber xs → LeafSpelled (atom_or_connector names (Named k) xs)
       go zero e [] s = (spelled 0 e, tt, tt)
       go zero e (x ∷ []) s = (spelled 0 e, s, tt)
       go zero e (x ∷ y ∷ []) s = (s.0, s.1.0)
@@ -99,14 +99,14 @@ module _ (names : List Name) (is : IsNames names) where
     small_uses [] h = tt
     small_uses (u ∷ us) h = (h u.link at_head, small_uses us (λ x i. h x (further i)))
 
-    leaf_spelled : (l : Leaf) → LeafRight IsLabel IsContext l → Small (leaf_links l) → LeafSpelled (leaf_of names (numbered_leaf names number l))
+    leaf_spelled : (l : ExpandedLeaf) → LeafRight IsLabel IsContext l → Small (expanded_leaf_links l) → LeafSpelled (leaf_of names (numbered_leaf names number l))
     leaf_spelled (atom_leaf (tree.named n) us place) h s = named_leaf n _ h (small_uses us s)
     leaf_spelled (atom_leaf (tree.integer z) us place) h s = (h, small_uses us s, tt)
     leaf_spelled (typed_leaf n u place) h s = (context_back n h, s u.link at_head)
 
-    leaves_spelled : (ls : List Leaf) → AllByRecursion (LeafRight IsLabel IsContext) ls → Small (leaves_links ls) → AllByRecursion LeafSpelled (map (leaf_of names) (map (numbered_leaf names number) ls))
+    leaves_spelled : (ls : List ExpandedLeaf) → AllByRecursion (LeafRight IsLabel IsContext) ls → Small (expanded_leaves_links ls) → AllByRecursion LeafSpelled (map (leaf_of names) (map (numbered_leaf names number) ls))
     leaves_spelled [] h s = tt
-    leaves_spelled (l ∷ ls) h s = (leaf_spelled l h.0 (λ x i. s x (among_left (leaves_links ls) i)), leaves_spelled ls h.1 (λ x i. s x (among_right (leaf_links l) i)))
+    leaves_spelled (l ∷ ls) h s = (leaf_spelled l h.0 (λ x i. s x (among_left (expanded_leaves_links ls) i)), leaves_spelled ls h.1 (λ x i. s x (among_right (expanded_leaf_links l) i)))
 
     contexts_spelled : (cs : List Context) → AllByRecursion (ContextRight IsLabel IsContext) cs → AllByRecursion IsContextName (names_of names (map (numbered_context names number) cs))
     contexts_spelled [] h = tt
@@ -123,12 +123,12 @@ module _ (names : List Name) (is : IsNames names) where
 
     -- the level of the calculus, by recursion on the level
     abbrev mutual
-      tree_level : Level → tree.Level
+      tree_level : ExpandedLevel → tree.Level
       tree_level (level ls ms cs os rs) =
           tree.level (map (leaf_of names) (map (numbered_leaf names number) ls)) (tree_levels ms)
           (names_of names (map (numbered_context names number) cs)) (names_of names (map (numbered_context names number) os)) (rules (map ρ rs))
 
-      tree_levels : Levels → tree.Levels
+      tree_levels : ExpandedLevels → tree.Levels
       tree_levels no_level = tree.no_level
       tree_levels (level_and l ls) = tree.level_and (tree_level l) (tree_levels ls)
 
@@ -136,35 +136,35 @@ module _ (names : List Name) (is : IsNames names) where
     two e f = cc
 
     mutual
-      as_tree : (l : Level) → level_of names ρ (numbered names number l) ≡ tree_level l
+      as_tree : (l : ExpandedLevel) → level_of names ρ (numbered names number l) ≡ tree_level l
       as_tree (level ls ms cs os rs) =
           fold-roll-Level tree.Level (level_step names ρ) _
           ∙ ap (λ ks. tree.level (map (leaf_of names) (map (numbered_leaf names number) ls)) ks
           (names_of names (map (numbered_context names number) cs)) (names_of names (map (numbered_context names number) os)) (rules (map ρ rs))) (as_trees ms)
 
-      as_trees : (ls : Levels) → levels (map (level_of names ρ) (all_numbered names number ls)) ≡ tree_levels ls
+      as_trees : (ls : ExpandedLevels) → levels (map (level_of names ρ) (all_numbered names number ls)) ≡ tree_levels ls
       as_trees no_level = refl
       as_trees (level_and l ls) = two (as_tree l) (as_trees ls)
 
     mutual
-      tree_spelled : (l : Level) → LevelRight IsLabel IsContext l → Small (links_of l) → All T (rule_numbers l) → LevelSpelled (tree_level l)
+      tree_spelled : (l : ExpandedLevel) → LevelRight IsLabel IsContext l → Small (expanded_links l) → All T (rule_numbers l) → LevelSpelled (tree_level l)
       tree_spelled (level ls ms cs os rs) h s k = (
-        leaves_spelled ls h.0 (λ x i. s x (among_left (links_in ms) i)),
-        trees_spelled ms h.1 (λ x i. s x (among_right (leaves_links ls) i)) (all_right T rs (numbers_in ms) k),
+        leaves_spelled ls h.0 (λ x i. s x (among_left (expanded_links_in ms) i)),
+        trees_spelled ms h.1 (λ x i. s x (among_right (expanded_leaves_links ls) i)) (all_right T rs (numbers_in ms) k),
         contexts_spelled cs h.2,
         contexts_spelled os h.3,
         each_spelled rs (all_left T rs (numbers_in ms) k),
       )
 
-      trees_spelled : (ls : Levels) → LevelsRight IsLabel IsContext ls → Small (links_in ls) → All T (numbers_in ls) → LevelsSpelled (tree_levels ls)
+      trees_spelled : (ls : ExpandedLevels) → LevelsRight IsLabel IsContext ls → Small (expanded_links_in ls) → All T (numbers_in ls) → LevelsSpelled (tree_levels ls)
       trees_spelled no_level h s k = tt
       trees_spelled (level_and l ls) h s k = (
-        tree_spelled l h.0 (λ x i. s x (among_left (links_in ls) i)) (all_left T (rule_numbers l) (numbers_in ls) k),
-        trees_spelled ls h.1 (λ x i. s x (among_right (links_of l) i)) (all_right T (rule_numbers l) (numbers_in ls) k),
+        tree_spelled l h.0 (λ x i. s x (among_left (expanded_links_in ls) i)) (all_left T (rule_numbers l) (numbers_in ls) k),
+        trees_spelled ls h.1 (λ x i. s x (among_right (expanded_links l) i)) (all_right T (rule_numbers l) (numbers_in ls) k),
       )
 
     -- a level with numbers for names and links
-    pub level_spelled : (l : Level) (b : base_level.Level) → b ≡ numbered names number l → LevelRight IsLabel IsContext l → Small (links_of l) → All T (rules_of b) → LevelSpelled (level_of names ρ b)
+    pub level_spelled : (l : ExpandedLevel) (b : base_level.Level) → b ≡ numbered names number l → LevelRight IsLabel IsContext l → Small (expanded_links l) → All T (rules_of b) → LevelSpelled (level_of names ρ b)
     level_spelled l b e h s k =
         let numbers : All T (rule_numbers l) = subst (All T) (ap rules_of e ∙ rules_numbered names number l) k in
         subst LevelSpelled (sym (ap (level_of names ρ) e ∙ as_tree l)) (tree_spelled l h s numbers)
@@ -202,7 +202,7 @@ module _ (names : List Name) (is : IsNames names) where
         go false false false k = absurd k
     kind_spelled n (u ∷ v ∷ us) cs h k = absurd k
 
-    guard_spelled : (cs : List syntax.Condition) (xs : List Cond) → Each (IsCond words places names) cs xs → AllByRecursion (ConditionRight IsLabel IsContext words places) cs
+    guard_spelled : (cs : List syntax.WrittenCondition) (xs : List Cond) → EachPair (IsCond words places names) cs xs → AllByRecursion (ConditionRight IsLabel IsContext words places) cs
         → NoneUnknown (map (condition_of names) xs) → AllByRecursion ConditionSpelled (map (condition_of names) xs)
     guard_spelled [] [] i h k = tt
     guard_spelled [] (x ∷ xs) i h k = absurd i
@@ -227,8 +227,8 @@ module _ (names : List Name) (is : IsNames names) where
 
     -- ---- rules of a table
 
-    rule_here : (rs : List Rule) (ts : List RuleTree) → Each (IsRuleOf words places names) rs ts → AllByRecursion (RuleRight IsLabel IsContext words places) rs
-        → (k : ℕ) (t : RuleTree) → slice_get ts k ≡ Some t → (r : Rule) × IsRuleOf words places names r t × RuleRight IsLabel IsContext words places r
+    rule_here : (rs : List ExpandedRule) (ts : List RuleTree) → EachPair (IsRuleOf words places names) rs ts → AllByRecursion (RuleRight IsLabel IsContext words places) rs
+        → (k : ℕ) (t : RuleTree) → slice_get ts k ≡ Some t → (r : ExpandedRule) × IsRuleOf words places names r t × RuleRight IsLabel IsContext words places r
     rule_here [] [] i h zero t e = absurd (cc)
     rule_here [] [] i h (suc k) t e = absurd (cc)
     rule_here [] (u ∷ ts) i h k t e = absurd i
@@ -237,7 +237,7 @@ module _ (names : List Name) (is : IsNames names) where
         let P : RuleTree → Type 0 = IsRuleOf words places names r in (r, subst P (same_Some u t e) i.0, h.0)
     rule_here (r ∷ rs) (u ∷ ts) i h (suc k) t e = rule_here rs ts i.1 h.1 k t e
 
-    module _ (p : Plain) (well : IsWellMade p) (rs : List Rule) (each : Each (IsRuleOf words places names) rs p.rules) (right : AllByRecursion (RuleRight IsLabel IsContext words places) rs)
+    module _ (p : Plain) (well : IsWellMade p) (rs : List ExpandedRule) (each : EachPair (IsRuleOf words places names) rs p.rules) (right : AllByRecursion (RuleRight IsLabel IsContext words places) rs)
         (few : (k : ℕ) (t : RuleTree) → slice_get p.rules k ≡ Some t → length t.links ≤ 2 ^ 64)
         (known : (k : ℕ) (t : RuleTree) → slice_get p.rules k ≡ Some t → NoneUnknown (map (condition_of names) t.guard)) where
       abbrev rule_at : ℕ → tree.Rule
@@ -259,19 +259,19 @@ module _ (names : List Name) (is : IsNames names) where
           let all : All T (rules_of t.head ++ rules_of t.body) =
           (λ j d b. let u = inside j d b in spelled_rule m (get_or (rules_of t.head ++ rules_of t.body) j d) (omega (arith, h, u.0)) u.1) in
           let Q : List ℕ → Type 0 = λ xs. NumbersLinks xs (length t.links) in
-          let same : flat_map base_links (t.head ∷ t.body ∷ []) ≡ map i.number (links_of r.head) ++ map i.number (links_of r.body) =
+          let same : flat_map base_links (t.head ∷ t.body ∷ []) ≡ map i.number (expanded_links r.head) ++ map i.number (expanded_links r.body) =
           ap (λ xs. base_links t.head ++ xs) (append-nil (base_links t.body))
           ∙ ap (λ xs. xs ++ base_links t.body) (ap base_links i.head ∙ links_numbered names i.number r.head)
-          ∙ ap (λ xs. map i.number (links_of r.head) ++ xs) (ap base_links i.body ∙ links_numbered names i.number r.body) in
+          ∙ ap (λ xs. map i.number (expanded_links r.head) ++ xs) (ap base_links i.body ∙ links_numbered names i.number r.body) in
           let numbers = subst Q same table.numbered in
           let most = few k t found.1 in
-          let small : (x : ℕ) → Among x (map i.number (links_of r.head) ++ map i.number (links_of r.body)) → x < 2 ^ 64 =
+          let small : (x : ℕ) → Among x (map i.number (expanded_links r.head) ++ map i.number (expanded_links r.body)) → x < 2 ^ 64 =
           (λ x a. let b = numbers_below numbers x a in omega (arith, b, most)) in
           let R : tree.Rule → Type 0 = RuleSpelled in
           subst R (sym (rule_has_number names p k t well found.1)) (
-            level_spelled i.number rule_at r.head t.head i.head here.2.0 (λ x a. small (i.number x) (among_left (map i.number (links_of r.body)) (among_map i.number a))) (all_left T (rules_of t.head) (rules_of t.body) all),
+            level_spelled i.number rule_at r.head t.head i.head here.2.0 (λ x a. small (i.number x) (among_left (map i.number (expanded_links r.body)) (among_map i.number a))) (all_left T (rules_of t.head) (rules_of t.body) all),
             guard_spelled r.guard t.guard i.guard here.2.1 (known k t found.1),
-            level_spelled i.number rule_at r.body t.body i.body here.2.2 (λ x a. small (i.number x) (among_right (map i.number (links_of r.head)) (among_map i.number a))) (all_right T (rules_of t.head) (rules_of t.body) all),
+            level_spelled i.number rule_at r.body t.body i.body here.2.2 (λ x a. small (i.number x) (among_right (map i.number (expanded_links r.head)) (among_map i.number a))) (all_right T (rules_of t.head) (rules_of t.body) all),
           )
 
       pub rules_spelled : (k : ℕ) → k < length p.rules → RuleSpelled (rule_at k)

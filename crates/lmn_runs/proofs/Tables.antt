@@ -1,46 +1,30 @@
 -- What holds of each rule of a table holds throughout each of them, and of the rules of a solid.
-use Rattle.std.proofs.Common.{◌≡◌, ℕ, zero, suc, ◌+◌, ◌<◌, ◌≤◌, List, [], ◌∷◌, ◌++◌, map, length, get_or, All, refl, sym, ap, ◌∙◌, subst, arith}
+use Rattle.std.proofs.Common.{ℕ, zero, suc, ◌+◌, ◌<◌, ◌≤◌, List, [], ◌∷◌, ◌++◌, map, length, get_or, All, sym, ap, ◌∙◌, subst, arith}
 use Rattle.std.specs.List.{flat_map}
 use Rattle.lmn_base.specs.declared.level.Level.{Level}
 use Rattle.lmn_base.specs.declared.level.Level.TheFolds.{fold-roll-Level, ind-Level}
 use Rattle.lmn_base.specs.declared.rule.Plain.{Plain}
 use Rattle.lmn_base.specs.declared.solid.Solid.{Solid}
 use Rattle.lmn_base.specs.declared.solid.Region.{Region}
-use Rattle.lmn_base.specs.declared.solid.Region.TheFolds.{fold-Region, fold-roll-Region, ind-Region}
+use Rattle.lmn_base.specs.declared.solid.Region.TheFolds.{fold-roll-Region, ind-Region}
 use Rattle.lmn_base.specs.Levels.{rules_of}
-use Rattle.lmn_base.specs.Solids.{rules_step, HasRules}
+use Rattle.lmn_base.specs.Solids.{rules_step, HasEachRule}
 use Rattle.lmn_base.specs.WellMade.{IsWellMade}
 use Rattle.lmn_congruence.specs.Regions as solid
 use Rattle.lmn_congruence.specs.Rules as tree
-use Rattle.lmn_congruence.specs.SolidsOfPlains.{IsSolidOf, fused_region, fused_step}
-use Rattle.lmn_congruence.specs.Translation.{level_of, level_step, levels, rules, regions, region_step, region_of, numbered_rule}
+use Rattle.lmn_congruence.specs.SolidsOfPlains.{IsSolidOf}
+use Rattle.lmn_congruence.specs.Translation.{level_of, level_step, levels, rules, regions, region_step, region_of, numbered_rule, numbered_region}
 use Rattle.lmn_congruence.proofs.Appended.{all_left, all_right}
 use Rattle.lmn_congruence.proofs.NumberedRules.{rule_has_number}
 use Rattle.lmn_plain.proofs.SolidNumbers.{there}
 use Rattle.lmn_adequacy.specs.Accepted.{Throughout, ThroughoutLevel, ThroughoutLevels, ThroughoutRules}
 use Rattle.lmn_adequacy.specs.Embedding.{AllRules, AllRulesIn, EachRule}
+use Rattle.lmn_base.proofs.Common.{rules as numbers}
+use Rattle.lmn_congruence.proofs.Common.{rules_kept, all_rules}
 
 -- ---- the rules of a solid are those of its plain
 
-abbrev numbers : Region → List ℕ
-numbers = fold-Region (List ℕ) rules_step
-
-abbrev all_numbers : List Region → List ℕ
-all_numbers rs = flat_map (λ inner. inner) (map numbers rs)
-
-abbrev Kept : (ℕ → ℕ) → Level → Type 0
-Kept v l = numbers (fused_region v l) ≡ rules_of l
-
-inner_kept : (v : ℕ → ℕ) (ls : List ((l : Level) × Kept v l)) → all_numbers (map (fused_region v) (map (λ e. e.0) ls)) ≡ flat_map (λ inner. inner) (map rules_of (map (λ e. e.0) ls))
-inner_kept v [] = refl
-inner_kept v (e ∷ ls) = rw (e.1, inner_kept v ls) refl
-
-rules_kept : (v : ℕ → ℕ) (l : Level) → Kept v l
-rules_kept v = ind-Level (Kept v) (λ y z is.
-    let inside = subst (λ l. all_numbers (map (fused_region v) l.membranes) ≡ flat_map (λ inner. inner) (map rules_of l.membranes)) is (inner_kept v z.membranes) in
-    rw (fold-roll-Level Region (fused_step v) y, fold-roll-Region (List ℕ) rules_step _, fold-roll-Level (List ℕ) (λ l. l.rules ++ flat_map (λ inner. inner) l.membranes) y, inside) refl)
-
-pub solid_has_rules : (p : Plain) (s : Solid) → IsWellMade p → IsSolidOf p s → HasRules p.rules s
+pub solid_has_rules : (p : Plain) (s : Solid) → IsWellMade p → IsSolidOf p s → HasEachRule p.rules s
 solid_has_rules p s well i =
     let P : ℕ → Type 0 = λ k. k < length p.rules in
     subst (All P) (sym (ap numbers i.is ∙ rules_kept i.to p.top)) well.rules_at_top
@@ -96,25 +80,22 @@ module _ (H : tree.Rule → Type 0) (names : List tree.Name) (p : Plain) (well :
     each_rule [] h = tt
     each_rule (k ∷ ks) h = (h zero k (omega arith), each_rule ks (all_right T (k ∷ []) ks h))
 
-    abbrev numbered_region : Region → solid.Region
-    numbered_region = fold-Region solid.Region (region_step names ρ)
-
     abbrev RegionSo : Region → Type 0
-    RegionSo r = All T (numbers r) → AllRules (Throughout H) (numbered_region r)
+    RegionSo r = All T (numbers r) → AllRules (Throughout H) (numbered_region names ρ r)
 
-    inner_so : (rs : List ((r : Region) × RegionSo r)) → All T (all_numbers (map (λ e. e.0) rs)) → AllRulesIn (Throughout H) (regions (map numbered_region (map (λ e. e.0) rs)))
+    inner_so : (rs : List ((r : Region) × RegionSo r)) → All T (all_rules (map (λ e. e.0) rs)) → AllRulesIn (Throughout H) (regions (map (numbered_region names ρ) (map (λ e. e.0) rs)))
     inner_so [] h = tt
     inner_so (e ∷ rs) h =
-        let rest = all_numbers (map (λ (e : (r : Region) × RegionSo r). e.0) rs) in
+        let rest = all_rules (map (λ (e : (r : Region) × RegionSo r). e.0) rs) in
         (e.1 (all_left T (numbers e.0) rest h), inner_so rs (all_right T (numbers e.0) rest h))
 
     region_so : (r : Region) → RegionSo r
     region_so = ind-Region RegionSo (λ y z is h.
         let here = subst (All T) (fold-roll-Region (List ℕ) rules_step y) h in
-        let inside = subst (λ r. All T (all_numbers r.membranes) → AllRulesIn (Throughout H) (regions (map numbered_region r.membranes))) is (inner_so z.membranes) in
+        let inside = subst (λ r. All T (all_rules r.membranes) → AllRulesIn (Throughout H) (regions (map (numbered_region names ρ) r.membranes))) is (inner_so z.membranes) in
         rw (fold-roll-Region solid.Region (region_step names ρ) y)
-        (each_rule y.rules (all_left T y.rules (all_numbers y.membranes) here), inside (all_right T y.rules (all_numbers y.membranes) here)))
+        (each_rule y.rules (all_left T y.rules (all_rules y.membranes) here), inside (all_right T y.rules (all_rules y.membranes) here)))
 
     -- each rule of a solid whose rules are of the table
-    pub solid_rules : (s : Solid) → HasRules p.rules s → AllRules (Throughout H) (region_of names p.rules s)
+    pub solid_rules : (s : Solid) → HasEachRule p.rules s → AllRules (Throughout H) (region_of names p.rules s)
     solid_rules s has = region_so s.root (λ i d l. throughout (length p.rules) (get_or (numbers s.root) i d) (omega arith) (has i d l))

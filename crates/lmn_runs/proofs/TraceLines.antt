@@ -6,11 +6,11 @@ use Rattle.lmn_congruence.specs.Regions.{Region, region_process}
 use Rattle.lmn_adequacy.specs.Runs.{Chooser, Trace, Turn, loaded, turned}
 use Rattle.lmn_plain.specs.SolidLines.{as_level}
 use Rattle.lmn_plain.specs.Words.{line_of}
-use Rattle.lmn_plain.proofs.AllLemmas.{all_append}
 use Rattle.lmn_folded.specs.Lines.{IsLine}
 use Rattle.lmn_folded.proofs.FoldedLines.{one_folded_line, some_folded_line}
 use Rattle.lmn_runs.specs.Laws.{TracesHaveLines}
 use Rattle.lmn_runs.specs.Runs.{LinesOf, printed_solids}
+use Rattle.lmn_base.proofs.Lists.{all_append}
 
 abbrev pub IsClosed : Region → Type 0
 IsClosed S = Closed (region_process S)

@@ -15,21 +15,21 @@ use Rattle.lmn_base.specs.declared.solid.Region.TheViews.{roll-Region}
 use Rattle.lmn_base.specs.Levels.{contexts_of, leaves_of, rule_contexts_of, rules_of}
 use Rattle.lmn_base.specs.Links.{NumbersLinks}
 use Rattle.lmn_base.specs.Names.{HasNames, NamesSolid, context_names, label_names, leaf_names, level_names, rule_names, IsNames}
-use Rattle.lmn_base.specs.Solids.{HasRules, atoms_step, items_of, items_step, rules_step}
+use Rattle.lmn_base.specs.Solids.{HasEachRule, atoms_step, item_count, items_step, rules_step}
 use Rattle.lmn_congruence.specs.Orders.{Among, at_head, further}
 use Rattle.lmn_congruence.specs.Plains.{level_process}
 use Rattle.lmn_congruence.specs.Process.{Closed}
-use Rattle.lmn_congruence.specs.Regions.{Region, Regions, SolidAtom, items, items_of_all, no_region, region, region_and, region_process}
+use Rattle.lmn_congruence.specs.Regions.{Region, Regions, SolidAtom, item_count_of_region, item_count_of_regions, no_region, region, region_and, region_process}
 use Rattle.lmn_congruence.specs.Rules as tree
-use Rattle.lmn_congruence.specs.Rules.{Name, Rule, atom_leaf, body_of, named, integer, rules_list}
+use Rattle.lmn_congruence.specs.Rules.{Name, Rule, atom_leaf, body_of, named, integer}
 use Rattle.lmn_congruence.specs.SolidsOfPlains.{IsSolidOf}
-use Rattle.lmn_congruence.specs.Translation.{numbered_rule, region_of, region_step, regions, solid_atom_of, top_of}
+use Rattle.lmn_congruence.specs.Translation.{numbered_rule, region_of, region_step, regions, solid_atom_of, top_of, rules as as_rules}
 use Rattle.lmn_congruence.proofs.Appended.{all_left, all_right}
 use Rattle.lmn_congruence.proofs.NumberedRules.{rule_has_number}
 use Rattle.lmn_congruence.proofs.SolidsOfPlains.{solids_of_plains}
 use Rattle.lmn_plain.specs.LinkNumbers.{AllRulesNumbered, EachNumbered, RuleNumbered, RulesNumbered, leaves_links, level_links, levels_links}
 use Rattle.lmn_plain.specs.NamesHeld.{LeafHeld, LevelHeld, LevelsHeld, RuleHeld, RulesHeld}
-use Rattle.lmn_plain.specs.SolidLines.{as_level, as_levels, atom_as_leaf, rules as as_rules}
+use Rattle.lmn_plain.specs.SolidLines.{as_level, as_levels, atom_as_leaf}
 use Rattle.lmn_plain.specs.Spelled.{IsLinkNumber, LeafSpelled, LevelSpelled, LevelsSpelled, RuleSpelled, RulesSpelled}
 use Rattle.lmn_plain.specs.Words.{line_of}
 use Rattle.lmn_plain.proofs.HeldSolids.{level_held}
@@ -41,23 +41,24 @@ use Rattle.lmn_folded.specs.Lines.{IsFoldedLine, IsLine}
 use Rattle.lmn_folded_same.specs.ReadBack.{IsFoldedLineOf}
 use Rattle.lmn_folded_same.proofs.ReadBack.{folded_lines_read_back}
 use Rattle.lmn_adequacy.specs.Accepted.{Accepted, Throughout}
-use Rattle.lmn_adequacy.specs.Embedding.{AllRules, AllRulesIn, EachRule, Embeds}
+use Rattle.lmn_adequacy.specs.Embedding.{AllRules, AllRulesIn, EachRule, HasEmbedding}
 use Rattle.lmn_adequacy.specs.Next.{links_at}
 use Rattle.lmn_adequacy.specs.Numbered.{IsNumbered, printed_links, printed_links_in}
 use Rattle.lmn_adequacy.specs.Runs.{End, Ends, Trace, Turn, budget_done, full, irreducible, loaded, none_allowed, nothing_embeds, too_many, turned, Chooser}
 use Rattle.lmn_adequacy.proofs.Heads.{all_rules_so}
-use Rattle.lmn_adequacy.proofs.Orders.{among_left, among_right}
 use Rattle.lmn_adequacy.proofs.Results.{firings_commit, irreducible_exactly}
 use Rattle.lmn_adequacy.proofs.RulesStay.{next_rules}
 use Rattle.lmn_reduction.specs.Chains.{Commits, no_step, step_after}
 use Rattle.lmn_reduction.specs.Commits.{Commit, Irreducible}
 use Rattle.lmn_runs.specs.Laws.{IsPrintable, TracesAreRuns, solid_of}
 use Rattle.lmn_runs.specs.Runs.{AllLines, IsLineOf, IsProcessLine, LastLine, LinesOf, Prints, Stop, StopsBy, StopsSo, at_end, first_line, next_line, no_memory, printed_solids}
-use Rattle.lmn_runs.proofs.Counted.{numbers_below, numbers_count}
+use Rattle.lmn_runs.proofs.Counted.{numbers_count}
 use Rattle.lmn_runs.proofs.GoodLevels.{Good, GoodRule, LabelHeld, LevelFew, good_integer, integer_good, level_few, level_good, not_connector, rule_good}
 use Rattle.lmn_runs.proofs.TraceLines.{one_more_line}
 use Rattle.lmn_runs.proofs.LabelsStay.{AllAtoms, AllAtomsIn, Atoms, fused_good, next_atoms}
 use Rattle.lmn_runs.proofs.Tables.{solid_has_rules, solid_rules}
+use Rattle.lmn_folded_same.proofs.SpelledForms.{numbers_below}
+use Rattle.lmn_congruence.proofs.Common.{among_left, among_right}
 use Rattle.std.specs.declared.alloc.Global.{Global}
 
 -- ---- the links of a line
@@ -92,10 +93,10 @@ module _ (names : List Name) where
       omega (arith, length-append a.links (links_at xs), first.few, few_ports xs (λ b i. h b (further i)))
 
   mutual
-    region_ports : (r : Region) → RegionGood r → length (printed_links r) ≤ 255 * items r
+    region_ports : (r : Region) → RegionGood r → length (printed_links r) ≤ 255 * item_count_of_region r
     region_ports (region xs ms rs) h = omega (arith, length-append (links_at xs) (printed_links_in ms), few_ports xs h.0, regions_ports ms h.1)
 
-    regions_ports : (ms : Regions) → RegionsGood ms → length (printed_links_in ms) ≤ 255 * items_of_all ms
+    regions_ports : (ms : Regions) → RegionsGood ms → length (printed_links_in ms) ≤ 255 * item_count_of_regions ms
     regions_ports no_region h = omega arith
     regions_ports (region_and m ms) h = omega (arith, length-append (printed_links m) (printed_links_in ms), region_ports m h.0, regions_ports ms h.1)
 
@@ -185,7 +186,7 @@ module _ (names : List Name) where
     pub rules : AllRules (Throughout RuleFine) S
     pub atoms : RegionGood S
     pub numbered : IsNumbered S
-    pub few : items S ≤ size
+    pub few : item_count_of_region S ≤ size
 
   itself : (r : Rule) → Throughout RuleFine r → RuleFine r
   itself (tree.rule_of head guard body) h = h.0
@@ -240,7 +241,7 @@ module _ (names : List Name) where
       abbrev IsTrace : List Region → Region → Type 0
       IsTrace = Trace chooser budget size S
 
-      next_fine : {n : ℕ} {R T : Region} → Fine size R → Turn chooser n R T → items T ≤ size → Fine size T
+      next_fine : {n : ℕ} {R T : Region} → Fine size R → Turn chooser n R T → item_count_of_region T ≤ size → Fine size T
       next_fine {n} {R} {T} f t few =
           let next = t.next.next in
           let accepted = all_rules_so accepted_rule R f.rules in
@@ -305,7 +306,7 @@ module _ (names : List Name) where
           f : Fine size R
           f = fine p
 
-          stuck : Irreducible (region_process R) ↔ (¬ (Embeds R))
+          stuck : Irreducible (region_process R) ↔ (¬ (HasEmbedding R))
           stuck = irreducible_exactly R f.closed (all_rules_so accepted_rule R f.rules)
 
           most : length before ≤ budget
@@ -316,7 +317,7 @@ module _ (names : List Name) where
           ends budget_done (none_allowed m q) = (q, λ i. stuck.0 i m)
           ends full (too_many l t m) = (l, λ i. stuck.0 i (embeds_in t))
             where
-              embeds_in : {T : Region} → Turn chooser (length before) R T → Embeds R
+              embeds_in : {T : Region} → Turn chooser (length before) R T → HasEmbedding R
               embeds_in t = let n = t.next in record { path = n.path; number = n.number; positions = n.positions; embeds = n.chosen.embeds }
 
           below : (n k : ℕ) → n ≤ k → (n < k) ⊎ (n ≡ k)
@@ -336,17 +337,17 @@ module _ (names : List Name) where
 
 -- as many items
 abbrev SameItems : List Name → List RuleTree → base_region.Region → Type 0
-SameItems names table r = items (fold-Region Region (region_step names (numbered_rule names table)) r) ≡ fold-Region ℕ items_step r
+SameItems names table r = item_count_of_region (fold-Region Region (region_step names (numbered_rule names table)) r) ≡ fold-Region ℕ items_step r
 
 inner_items : (names : List Name) (table : List RuleTree) (rs : List ((r : base_region.Region) × SameItems names table r))
-    → items_of_all (regions (map (fold-Region Region (region_step names (numbered_rule names table))) (map (λ e. e.0) rs))) ≡ length (map (λ e. e.0) rs) + sum (map (fold-Region ℕ items_step) (map (λ e. e.0) rs))
+    → item_count_of_regions (regions (map (fold-Region Region (region_step names (numbered_rule names table))) (map (λ e. e.0) rs))) ≡ length (map (λ e. e.0) rs) + sum (map (fold-Region ℕ items_step) (map (λ e. e.0) rs))
 inner_items names table [] = refl
 inner_items names table (e ∷ rs) =
     omega (arith, e.1, inner_items names table rs, sum_by-cons (λ (n : ℕ). n) (fold-Region ℕ items_step e.0) (map (fold-Region ℕ items_step) (map (λ (e : (r : base_region.Region) × SameItems names table r). e.0) rs)))
 
 same_items : (names : List Name) (table : List RuleTree) (r : base_region.Region) → SameItems names table r
 same_items names table = ind-Region (SameItems names table) (λ y z is.
-    let inside = subst (λ r. items_of_all (regions (map (fold-Region Region (region_step names (numbered_rule names table))) r.membranes)) ≡ length r.membranes + sum (map (fold-Region ℕ items_step) r.membranes)) is (inner_items names table z.membranes) in
+    let inside = subst (λ r. item_count_of_regions (regions (map (fold-Region Region (region_step names (numbered_rule names table))) r.membranes)) ≡ length r.membranes + sum (map (fold-Region ℕ items_step) r.membranes)) is (inner_items names table z.membranes) in
     rw (fold-roll-Region Region (region_step names (numbered_rule names table)) y, fold-roll-Region ℕ items_step y)
     (omega (arith, inside, length-map y.atoms (solid_atom_of names), length-map y.rules (numbered_rule names table), length-map y.membranes (fold-Region ℕ items_step))))
 
@@ -364,7 +365,7 @@ module _ (names : List Name) (p : Plain) (printable : IsPrintable names p) where
   lone_region : (k : ℕ) → region_of names p.rules (lone k) ≡ region [] no_region (ρ k ∷ [])
   lone_region k = fold-roll-Region Region (region_step names ρ) _
 
-  lone_has : (k : ℕ) → k < length p.rules → HasRules p.rules (lone k)
+  lone_has : (k : ℕ) → k < length p.rules → HasEachRule p.rules (lone k)
   lone_has k l =
       let P : List ℕ → Type 0 = All (λ j. j < length p.rules) in
       subst P (sym (fold-roll-Region (List ℕ) rules_step _)) (All-from_recursion (λ j. j < length p.rules) (k ∷ []) (l, tt))
@@ -421,7 +422,7 @@ module _ (names : List Name) (p : Plain) (printable : IsPrintable names p) where
         rule_numbers = λ i d l. rule_held (get_or (rules_of p.top) i d) (printable.made.rules_at_top i d l);
       })
 
-  solid_fine : (size : ℕ) (s : Solid) → IsSolidOf p s → items_of s ≤ size → Fine names size (solid_of names p s)
+  solid_fine : (size : ℕ) (s : Solid) → IsSolidOf p s → item_count s ≤ size → Fine names size (solid_of names p s)
   solid_fine size s i few =
       let S = solid_of names p s in
       let so = solids_of_plains names p s printable.made i in

@@ -9,7 +9,7 @@ use Rattle.lmn_base.specs.declared.rule.RuleTree.{RuleTree}
 use Rattle.lmn_base.specs.declared.solid.Solid.{Solid}
 use Rattle.lmn_base.specs.Levels.{leaves_of}
 use Rattle.lmn_base.specs.Names.{NamesPlain}
-use Rattle.lmn_base.specs.Solids.{items_of}
+use Rattle.lmn_base.specs.Solids.{item_count}
 use Rattle.lmn_base.specs.WellMade.{IsWellMade}
 use Rattle.lmn_congruence.specs.Process.{Closed}
 use Rattle.lmn_congruence.specs.Regions.{Region, region_process}
@@ -22,9 +22,9 @@ use Rattle.lmn_adequacy.specs.Runs.{Trace}
 use Rattle.lmn_runs.specs.Runs.{Given, PrintedLines, Prints, Stop, StopsBy, StopsSo}
 
 -- an atom has at most 255 links
-abbrev pub HasFewLinks : Leaf → Type 0
-HasFewLinks (Atom functor links pos) = length links ≤ 255
-HasFewLinks (Typed name link pos) = ⊤
+abbrev pub LinksAreFew : Leaf → Type 0
+LinksAreFew (Atom functor links pos) = length links ≤ 255
+LinksAreFew (Typed name link pos) = ⊤
 
 -- A plain of which runs can be printed, by a list of names: it is well made and has names of the list alone; a text can spell its top
 -- and its rules; no atom has more than 255 links; and each rule is accepted.
@@ -33,8 +33,8 @@ pub record IsPrintable (names : List Name) (plain : Plain) : Type 0 where
   pub named : NamesPlain names plain
   pub top : LevelSpelled (top_of names plain)
   pub rules : (k : ℕ) → k < length plain.rules → RuleSpelled (numbered_rule names plain.rules k) × Accepted (numbered_rule names plain.rules k)
-  pub top_few : AllByRecursion HasFewLinks (leaves_of plain.top)
-  pub rules_few : (k : ℕ) (r : RuleTree) → slice_get plain.rules k ≡ Some r → AllByRecursion HasFewLinks (leaves_of r.body)
+  pub top_few : AllByRecursion LinksAreFew (leaves_of plain.top)
+  pub rules_few : (k : ℕ) (r : RuleTree) → slice_get plain.rules k ≡ Some r → AllByRecursion LinksAreFew (leaves_of r.body)
 
 -- the process of the solid of a plain, as a region
 abbrev pub solid_of : List Name → Plain → Solid → Region
@@ -50,7 +50,7 @@ pub record IsRunOf (g : Given) (names : List Name) (plain : Plain) (s : Solid) (
 -- Each trace is such a run, where fewer than 2 ^ 32 items are allowed. A box in a condition belongs to an allocator, so one is given.
 abbrev pub TracesAreRuns : Type 0
 TracesAreRuns = (alloc : Global) (g : Given) (names : List Name) (plain : Plain) (s : Solid) → IsPrintable names plain → IsSolidOf plain s →
-    items_of s ≤ g.size → g.size < 2 ^ 32 → (before : List Region) (last : Region) →
+    item_count s ≤ g.size → g.size < 2 ^ 32 → (before : List Region) (last : Region) →
     Trace g.chooser g.budget g.size (solid_of names plain s) before last → IsRunOf g names plain s before last
 
 -- Lines are printed of each trace whose first solid has each link in two places, as that of a plain has, and no others are.

@@ -5,7 +5,7 @@ use Rattle.lmn_congruence.specs.Process.{Process, Closed}
 use Rattle.lmn_congruence.specs.Regions.{Region}
 use Rattle.lmn_congruence.specs.Rules.{Name}
 use Rattle.lmn_congruence.specs.Translation.{plain_process, top_of}
-use Rattle.lmn_plain.specs.Plains.{Each}
+use Rattle.lmn_plain.specs.Plains.{EachPair}
 use Rattle.lmn_plain.specs.Texts.{IsPlainOfText}
 use Rattle.lmn_plain.specs.Words.{line_of}
 use Rattle.lmn_folded.specs.Lines.{IsLine}
@@ -27,9 +27,10 @@ end_word irreducible = codes "irreducible"
 end_word budget_done = codes "budget"
 end_word full = codes "full"
 
-abbrev pub word_of : Stop → List ℕ
-word_of (at_end e) = end_word e
-word_of no_memory = codes "no memory"
+-- the word of the end line, also where memory was wanting
+abbrev pub word_of_stop : Stop → List ℕ
+word_of_stop (at_end e) = end_word e
+word_of_stop no_memory = codes "no memory"
 
 -- How a run stops at a process after n commits. With the word irreducible the process is so, and with each other word it isn't.
 abbrev pub StopsBy : ℕ → Stop → ℕ → Process → Type 0
@@ -81,7 +82,7 @@ printed_solids trace before last = if trace then before ++ last ∷ [] else last
 
 -- the lines of solids, one for each
 abbrev pub LinesOf : Bool → List Region → List (List ℕ) → Type 0
-LinesOf folded = Each (IsLine folded)
+LinesOf folded = EachPair (IsLine folded)
 
 -- What a run is given: whether all lines are printed, and in the folded form, the most commits, the most items, and which membrane is
 -- asked first.

@@ -18,7 +18,7 @@ use Rattle.lmn_parser.specs.Readings.{Reads}
 use Rattle.lmn_parser.specs.Syntax.{Clauses}
 use Rattle.lmn_plain.specs.Laws.{IsPlain}
 use Rattle.lmn_plain.specs.Meanings.{name_spelled}
-use Rattle.lmn_runs.specs.Laws.{HasFewLinks, IsPrintable}
+use Rattle.lmn_runs.specs.Laws.{LinksAreFew, IsPrintable}
 
 -- the kinds of tokens that spell a name
 abbrev pub HasName : Kind → Type 0
@@ -30,7 +30,7 @@ HasName RuleCtx = Unit {0}
 HasName _ = ⊥
 
 -- A list holds the names of the tokens of a text, and those that abbreviations and equations bring in.
-pub record Holds (names : List NameOf) (text : List ℕ) (tokens : List Token) : Type 0 where
+pub record HoldsTokenNames (names : List NameOf) (text : List ℕ) (tokens : List Token) : Type 0 where
   pub cell : Contains names (codes ".")
   pub empty : Contains names (codes "[]")
   pub plus : Contains names (codes "+")
@@ -52,10 +52,10 @@ pub record IsPlainRead (text : List ℕ) (names : List NameOf) (plain : Plain) :
   pub is_plain : IsPlain text tokens tree names plain
   pub made : IsWellMade plain
   pub named : NamesPlain names plain
-  pub holds : Holds names text tokens
+  pub holds : HoldsTokenNames names text tokens
   pub accepted : (k : ℕ) (r : RuleTree) → slice_get plain.rules k ≡ Some r → Accepted (rule_tree names (numbered_rule names plain.rules) r)
-  pub top_few : AllByRecursion HasFewLinks (leaves_of plain.top)
-  pub rules_few : (k : ℕ) (r : RuleTree) → slice_get plain.rules k ≡ Some r → AllByRecursion HasFewLinks (leaves_of r.body) × (length r.links ≤ 2 ^ 64)
+  pub top_few : AllByRecursion LinksAreFew (leaves_of plain.top)
+  pub rules_few : (k : ℕ) (r : RuleTree) → slice_get plain.rules k ≡ Some r → AllByRecursion LinksAreFew (leaves_of r.body) × (length r.links ≤ 2 ^ 64)
 
 -- Runs of such a plain can be printed.
 abbrev pub PlainsArePrintable : Type 0

@@ -1,4 +1,3 @@
-pub mod Printed
 mod Named
 pub mod Loaded
 mod Turned

@@ -1,5 +1,5 @@
 -- What an engine holds when it is loaded.
-use Rattle.std.proofs.Common.{ℕ, ◌≡◌, ◌<◌, ◌-◌, ◌^◌, List, [], ◌∷◌, map, length, slice_get, Some, refl, sym, ap, subst, ◌∙◌}
+use Rattle.std.proofs.Common.{ℕ, ◌≡◌, ◌<◌, ◌-◌, ◌^◌, List, map, length, slice_get, Some, refl, sym, ap, subst, ◌∙◌}
 use Rattle.std.proofs.lemmas.List.Elements.{All-weaker}
 use Rattle.lmn_base.specs.declared.rule.Plain.{Plain}
 use Rattle.lmn_base.specs.declared.rule.RuleTree.{RuleTree}
@@ -9,9 +9,8 @@ use Rattle.lmn_base.specs.Links.{NumbersLinks}
 use Rattle.lmn_base.specs.WellMade.{IsWellMade}
 use Rattle.lmn_guards.specs.declared.plan.GuardPlan.{GuardPlan}
 use Rattle.lmn_heap.specs.Heap.{Heap}
-use Rattle.lmn_heap.specs.Sound.{Forest, bare, mem, Forms, IsTree}
+use Rattle.lmn_heap.specs.Sound.{bare, mem, IsTree}
 use Rattle.lmn_instr.specs.declared.instr.Code.{Code}
-use Rattle.lmn_congruence.specs.Regions as solid
 use Rattle.lmn_congruence.specs.Rules.{Name}
 use Rattle.lmn_congruence.specs.Translation.{numbered_rule, region_of, region_step, regions}
 use Rattle.lmn_congruence.proofs.Appended.{all_right}
@@ -20,18 +19,20 @@ use Rattle.lmn_congruence.proofs.SolidsOfPlains.{solids_of_plains}
 use Rattle.lmn_bridge.specs.HeapRegions.{region_at, regions_at}
 use Rattle.lmn_bridge.specs.Laws.{SolidsAreRegions}
 use Rattle.lmn_bridge.specs.Premises.{IsRule}
-use Rattle.lmn_bridge.proofs.Runs.{get_some}
 use Rattle.lmn_loading.specs.Loaded.{IsLoaded}
 use Rattle.lmn_loading.specs.Laws.{LoadedRules, LoadingSettles}
 use Rattle.lmn_turn.specs.Commits.{PlainsAreTables}
 use Rattle.lmn_strategy.specs.Compiled.{AreWhole, AreCompiled}
-use Rattle.lmn_schedule.specs.Held.{AreNames, CanRun, HoldsSolid, reading_by}
+use Rattle.lmn_schedule.specs.Held.{AreNames, EngineCanTurn, HoldsSolid, reading_by}
 use Rattle.lmn_schedule.proofs.Named.{loaded_named}
-use Rattle.lmn_schedule.proofs.Printed.{printed}
+use Rattle.lmn_base.proofs.Lists.{get_there as get_some}
+use Rattle.lmn_turn.proofs.Leavings.{root_tree}
+use Rattle.lmn_adequacy.proofs.PlainSolids.{printed}
+use Rattle.lmn_congruence.specs.Regions as solid
 
 -- an engine over a store that is loaded can turn
 pub can_run : LoadedRules → (p : Plain) (plans : List GuardPlan) (codes : List Code) (h : Heap) (size : ℕ) → IsWellMade p → AreWhole p.rules plans → IsLoaded p h → AreCompiled p.rules plans codes → size < 2 ^ 64 - 1 →
-    CanRun h p.rules codes size
+    EngineCanTurn h p.rules codes size
 can_run law p plans codes h size well whole l compiled small = record {
   turn = record {
     valid = l.valid;
@@ -46,22 +47,7 @@ can_run law p plans codes h size well whole l compiled small = record {
   small = small;
 }
 
--- the tree of a heap is that of its root
-pub root_tree : (h : Heap) (t : Forest) → IsTree h t → (inner : Forest) × (t ≡ mem h.root inner bare)
-root_tree h t tr = by t tr.forms
-  where
-    empty : (f : Forest) (ms : List ℕ) → ms ≡ [] → Forms h f ms → f ≡ bare
-    empty bare ms e F = refl
-    empty (mem k i f) ms e F = absurd (let z : k ∷ F.0 ≡ [] = sym F.1 ∙ e in cc)
-
-    by : (t : Forest) → Forms h t (h.root ∷ []) → (inner : Forest) × (t ≡ mem h.root inner bare)
-    by bare F = absurd (cc)
-    by (mem k i f) F =
-        let first : k ≡ h.root = cc (F.1) in
-        let others : F.0 ≡ [] = cc (F.1) in
-        (i, λ j. mem (first j) i (empty f F.0 others F.3 j))
-
-abbrev first_of : solid.Regions → solid.Region → solid.Region
+abbrev pub first_of : solid.Regions → solid.Region → solid.Region
 first_of solid.no_region d = d
 first_of (solid.region_and m ms) d = m
 

@@ -16,16 +16,17 @@ use Rattle.lmn_base.specs.declared.solid.SolidAtom.{SolidAtom}
 use Rattle.lmn_base.specs.Levels.{leaves_of}
 use Rattle.lmn_base.specs.Names.{HasNames, NamesPlain, label_names, leaf_names, level_names, context_names, rule_names}
 use Rattle.lmn_base.specs.Levels.{contexts_of, rule_contexts_of}
-use Rattle.lmn_base.specs.Solids.{atoms_of, atoms_step}
+use Rattle.lmn_base.specs.Solids.{atoms_of_region, atoms_step}
 use Rattle.lmn_congruence.specs.Rules.{Name}
 use Rattle.lmn_congruence.specs.SolidsOfPlains.{fused_leaf, fused_step, fused_region, is_connector}
 use Rattle.lmn_congruence.proofs.Appended.{all_left, all_right}
-use Rattle.lmn_heap.specs.Heap.{Heap, HeapAtom, HeapMem, within, atoms_in, rules_in, atoms_by, Place, top, waiting, gone, functor_of, home_of, place_of, home_by}
+use Rattle.lmn_heap.specs.Heap.{Heap, HeapAtom, within, atoms_in, rules_in, Place, top, waiting, gone, functor_of, home_of, place_of, home_by}
 use Rattle.lmn_heap.specs.Lists as lists
-use Rattle.lmn_heap.specs.Solid.{numbered, atom_of, atoms_of as heap_atoms, regions_of}
+use Rattle.lmn_heap.specs.Solid.{links_from, solid_atom_at, solid_atoms_at as heap_atoms, regions_of}
 use Rattle.lmn_heap.specs.Sound.{Forest, bare, mem, flat, Valid}
 use Rattle.lmn_heap.proofs.Trees.{in_either}
 use Rattle.lmn_loading.specs.Loaded.{IsLoaded}
+use Rattle.lmn_heap.proofs.Common.{holds_mem as listed_mem}
 
 abbrev Below : List Name → ℕ → Type 0
 Below names n = n < length names
@@ -53,7 +54,7 @@ module _ (names : List Name) (v : ℕ → ℕ) where
   inner_of ls = flat_map (λ inner. inner) (map leaves_of ls)
 
   abbrev inner_atoms : List Region → List SolidAtom
-  inner_atoms rs = flat_map (λ inner. inner) (map atoms_of rs)
+  inner_atoms rs = flat_map (λ inner. inner) (map atoms_of_region rs)
 
   -- the names of some leaves, and of some more
   both_names : (ks ls : List Leaf) → HasNames names (flat_map leaf_names (ks ++ ls)) → HasNames names (flat_map leaf_names ks) × HasNames names (flat_map leaf_names ls)
@@ -63,13 +64,13 @@ module _ (names : List Name) (v : ℕ → ℕ) where
       (All-append (Below names) (leaf_names k) (flat_map leaf_names ks) (all_left (Below names) (leaf_names k) (flat_map leaf_names (ks ++ ls)) h) rest.0, rest.1)
 
   abbrev KeepsNames : Level → Type 0
-  KeepsNames l = HasNames names (flat_map leaf_names (leaves_of l)) → All (Named names) (atoms_of (fused_region v l))
+  KeepsNames l = HasNames names (flat_map leaf_names (leaves_of l)) → All (Named names) (atoms_of_region (fused_region v l))
 
   inner_named : (ls : List ((l : Level) × KeepsNames l)) → HasNames names (flat_map leaf_names (inner_of (map (λ e. e.0) ls))) → All (Named names) (inner_atoms (map (fused_region v) (map (λ e. e.0) ls)))
   inner_named [] h = All-from_recursion (Named names) [] tt
   inner_named (e ∷ ls) h =
       let both = both_names (leaves_of e.0) (inner_of (map (λ e. e.0) ls)) h in
-      All-append (Named names) (atoms_of (fused_region v e.0)) (inner_atoms (map (fused_region v) (map (λ e. e.0) ls))) (e.1 both.0) (inner_named ls both.1)
+      All-append (Named names) (atoms_of_region (fused_region v e.0)) (inner_atoms (map (fused_region v) (map (λ e. e.0) ls))) (e.1 both.0) (inner_named ls both.1)
 
   level_named : (l : Level) → KeepsNames l
   level_named = ind-Level KeepsNames (λ y z is h.
@@ -82,7 +83,7 @@ module _ (names : List Name) (v : ℕ → ℕ) where
 -- ---- the atoms of a heap
 
 abbrev all_atoms : List Region → List SolidAtom
-all_atoms rs = flat_map (λ inner. inner) (map atoms_of rs)
+all_atoms rs = flat_map (λ inner. inner) (map atoms_of_region rs)
 
 abbrev regions_first : Heap → (ℕ → ℕ → ℕ) → ℕ → Forest → Region
 regions_first s name n x = roll-Region (record { atoms = heap_atoms s name (atoms_in s n); membranes = regions_of s name x; rules = rules_in s n })
@@ -91,9 +92,9 @@ regions_first s name n x = roll-Region (record { atoms = heap_atoms s name (atom
 in_forest : (P : SolidAtom → Type 0) (s : Heap) (name : ℕ → ℕ → ℕ) (f : Forest) → All P (all_atoms (regions_of s name f)) → (m : ℕ) → lists.In m (flat f) → All P (heap_atoms s name (atoms_in s m))
 in_forest P s name bare h m i = absurd i
 in_forest P s name (mem n x r) h m i =
-    let here : atoms_of (regions_first s name n x) ≡ heap_atoms s name (atoms_in s n) ++ all_atoms (regions_of s name x) = fold-roll-Region (List SolidAtom) atoms_step _ in
-    let first : All P (heap_atoms s name (atoms_in s n) ++ all_atoms (regions_of s name x)) = subst (All P) here (all_left P (atoms_of (regions_first s name n x)) (all_atoms (regions_of s name r)) h) in
-    let rest : All P (all_atoms (regions_of s name r)) = all_right P (atoms_of (regions_first s name n x)) (all_atoms (regions_of s name r)) h in
+    let here : atoms_of_region (regions_first s name n x) ≡ heap_atoms s name (atoms_in s n) ++ all_atoms (regions_of s name x) = fold-roll-Region (List SolidAtom) atoms_step _ in
+    let first : All P (heap_atoms s name (atoms_in s n) ++ all_atoms (regions_of s name x)) = subst (All P) here (all_left P (atoms_of_region (regions_first s name n x)) (all_atoms (regions_of s name r)) h) in
+    let rest : All P (all_atoms (regions_of s name r)) = all_right P (atoms_of_region (regions_first s name n x)) (all_atoms (regions_of s name r)) h in
     elim i [
       | inl e ↦ subst (λ k. All P (heap_atoms s name (atoms_in s k))) e (all_left P (heap_atoms s name (atoms_in s n)) (all_atoms (regions_of s name x)) first)
       | inr j ↦ elim (in_either m (flat x) (flat r) j) [
@@ -103,17 +104,17 @@ in_forest P s name (mem n x r) h m i =
     ]
 
 module _ (names : List Name) (s : Heap) (name : ℕ → ℕ → ℕ) where
-  one_named : (o : Option HeapAtom) (a : ℕ) (f : Functor) → option_map (λ x. x.functor) o ≡ Some f → All (Named names) (atom_of name a o) → HasNames names (label_names f.label)
+  one_named : (o : Option HeapAtom) (a : ℕ) (f : Functor) → option_map (λ x. x.functor) o ≡ Some f → All (Named names) (solid_atom_at name a o) → HasNames names (label_names f.label)
   one_named None a f e h = absurd (cc e)
   one_named (Some x) a f e h =
       let same : x.functor ≡ f = cc e in
-      let first : SolidAtom = record { functor = x.functor; links = numbered name a 0 x.functor.arity } in
+      let first : SolidAtom = record { functor = x.functor; links = links_from name a 0 x.functor.arity } in
       subst (λ g. HasNames names (label_names g.label)) same (h zero first (omega arith))
 
   listed_named : (xs : List ℕ) → All (Named names) (heap_atoms s name xs) → (a : ℕ) → lists.In a xs → (f : Functor) → functor_of s a ≡ Some f → HasNames names (label_names f.label)
   listed_named [] h a i f e = absurd i
-  listed_named (x ∷ xs) h a (inl q) f e = one_named (s.atoms a) a f e (subst (λ k. All (Named names) (atom_of name k (s.atoms k))) q (all_left (Named names) (atom_of name x (s.atoms x)) (heap_atoms s name xs) h))
-  listed_named (x ∷ xs) h a (inr i) f e = listed_named xs (all_right (Named names) (atom_of name x (s.atoms x)) (heap_atoms s name xs) h) a i f e
+  listed_named (x ∷ xs) h a (inl q) f e = one_named (s.atoms a) a f e (subst (λ k. All (Named names) (solid_atom_at name k (s.atoms k))) q (all_left (Named names) (solid_atom_at name x (s.atoms x)) (heap_atoms s name xs) h))
+  listed_named (x ∷ xs) h a (inr i) f e = listed_named xs (all_right (Named names) (solid_atom_at name x (s.atoms x)) (heap_atoms s name xs) h) a i f e
 
 -- an atom that isn't freed stands in a membrane of a valid heap
 stands : (s : Heap) → Valid s → (a : ℕ) (f : Functor) → functor_of s a ≡ Some f → (m : ℕ) × lists.In a (atoms_in s m)
@@ -136,17 +137,13 @@ stands s v a f e = by (s.atoms a) refl
         in_home : (x : HeapAtom) → s.atoms a ≡ Some x → home_of s a ≡ home_by x.place
         in_home x q = rw q refl
 
-listed_mem : (o : Option HeapMem) (k : ℕ) → lists.In k (atoms_by o) → IsSome o
-listed_mem None k i = absurd i
-listed_mem (Some x) k i = refl
-
 -- the names of atoms that are loaded are those of the plain
 pub loaded_named : (names : List Name) (p : Plain) (s : Heap) → IsLoaded p s → NamesPlain names p → (a : ℕ) (f : Functor) → functor_of s a ≡ Some f → HasNames names (label_names f.label)
 loaded_named names p s l known a f e =
     let names_on_top : HasNames names (level_names p.top) = all_left (Below names) (level_names p.top) (flat_map rule_names p.rules) known.1 in
     let leaves : HasNames names (flat_map leaf_names (leaves_of p.top)) = all_left (Below names) (flat_map leaf_names (leaves_of p.top)) (context_names (contexts_of p.top)) (all_left (Below names) (flat_map leaf_names (leaves_of p.top) ++ context_names (contexts_of p.top)) (context_names (rule_contexts_of p.top)) names_on_top) in
-    let root : All (Named names) (atoms_of l.solid.root) = subst (λ r. All (Named names) (atoms_of r)) (sym l.of_plain.is) (level_named names l.of_plain.to p.top leaves) in
+    let root : All (Named names) (atoms_of_region l.solid.root) = subst (λ r. All (Named names) (atoms_of_region r)) (sym l.of_plain.is) (level_named names l.of_plain.to p.top leaves) in
     let whole : All (Named names) (all_atoms (regions_of s l.of_heap.name l.of_heap.forest)) =
-    subst (λ rs. All (Named names) (all_atoms rs)) (sym l.of_heap.root) (All-append (Named names) (atoms_of l.solid.root) [] root (All-from_recursion (Named names) [] tt)) in
+    subst (λ rs. All (Named names) (all_atoms rs)) (sym l.of_heap.root) (All-append (Named names) (atoms_of_region l.solid.root) [] root (All-from_recursion (Named names) [] tt)) in
     let home = stands s l.valid a f e in
     listed_named names s l.of_heap.name (atoms_in s home.0) (in_forest (Named names) s l.of_heap.name l.of_heap.forest whole home.0 (l.of_heap.tree.all home.0 (listed_mem (s.mems home.0) a home.1))) a home.1 f e

@@ -13,46 +13,46 @@ use Rattle.lmn_congruence.specs.Regions.{Region, region_process}
 use Rattle.lmn_congruence.specs.Rules.{Name}
 use Rattle.lmn_reduction.specs.Commits.{Commit, Irreducible as NothingLeft}
 use Rattle.lmn_adequacy.specs.Choice.{NextFrom}
-use Rattle.lmn_adequacy.specs.Embedding.{Embeds}
+use Rattle.lmn_adequacy.specs.Embedding.{HasEmbedding}
 use Rattle.lmn_adequacy.specs.Numbered.{IsNumbered}
 use Rattle.lmn_adequacy.specs.Runs.{Chooser, Turn as Chosen}
-use Rattle.lmn_turn.specs.Turning.{renumbered}
+use Rattle.lmn_turn.specs.Turning.{renumbered_reading}
 use Rattle.lmn_choice.specs.Laws.{NothingEmbeds, TurnsAgree, TurnsAreAlike, SparesAreNotRead, TurnsAreOfChooser}
-use Rattle.lmn_choice.specs.Turns.{HaveCodes, IsChosen, IsReadWith, heap_region, membranes_of, tree_of}
+use Rattle.lmn_choice.specs.Turns.{HaveCodes, IsChosen, IsReadWith, heap_region, membranes_in_preorder, tree_over}
 use Rattle.lmn_strategy.specs.Choosing.{NoneIn, IsFirstIn, asked}
 use Rattle.lmn_strategy.specs.Turns.{IsTurn}
 use Rattle.lmn_strategy.specs.declared.turning.Turn.{Turn}
 use Rattle.lmn_strategy.specs.declared.turning.Turn.TheVariants.{Committed, Irreducible, Full, NoMemory}
-use Rattle.lmn_schedule.specs.Held.{Holds, reading_by}
+use Rattle.lmn_schedule.specs.Held.{HoldsRegion, reading_by}
 use Rattle.lmn_schedule.specs.Turning.{IsDone, IsTurned}
-use Rattle.lmn_schedule.proofs.Loaded.{root_tree}
+use Rattle.lmn_turn.proofs.Leavings.{root_tree}
 
 -- the root is among the membranes of a valid heap
 pub some_membrane : (h : Heap) → Valid h → (many : ℕ) → ((f : Forest) → IsTree h f → many ≡ length (flat f)) → 0 < many
 some_membrane h v many law =
     let root = root_tree h v.tree.0 v.tree.1 in
-    let counted : many ≡ length (flat (tree_of h root.0)) = law (tree_of h root.0) (subst (IsTree h) root.1 v.tree.1) in
+    let counted : many ≡ length (flat (tree_over h root.0)) = law (tree_over h root.0) (subst (IsTree h) root.1 v.tree.1) in
     omega (arith, counted)
 
 module _ (names : List Name) (table : List RuleTree) (c : Chooser) (n size : ℕ) (plans : List GuardPlan) (codes : List Code) where
-  read_with : (h : Heap) (S : Region) (o : Holds names table h S) → IsReadWith h (reading_by names table o.number) o.inner table
+  read_with : (h : Heap) (S : Region) (o : HoldsRegion names table h S) → IsReadWith h (reading_by names table o.number) o.inner table
   read_with h S o = record { read = o.read; tree = o.tree; rules = o.rules }
 
   -- where no code succeeds, nothing can happen in the solid
-  pub done : TurnsAreAlike → HaveCodes table plans codes → (h : Heap) (S : Region) (o : Holds names table h S) → NoneIn h codes (membranes_of h o.inner) → IsDone S
+  pub done : TurnsAreAlike → HaveCodes table plans codes → (h : Heap) (S : Region) (o : HoldsRegion names table h S) → NoneIn h codes (membranes_in_preorder h o.inner) → IsDone S
   done alike have h S o none =
       let agree = alike table plans codes have h (reading_by names table o.number) o.inner (read_with h S o) o.keeps 0 in
       let both = agree.none none in record {
-        nothing_embeds = λ e. both.0 (subst Embeds o.is e);
+        nothing_embeds = λ e. both.0 (subst HasEmbedding o.is e);
         irreducible = subst (λ X. NothingLeft (region_process X)) (sym o.is) both.1;
       }
 
   -- where one is chosen, a rule embeds
-  pub embeds : NothingEmbeds → HaveCodes table plans codes → (h : Heap) (S : Region) (o : Holds names table h S) → (m place k : ℕ) → IsFirstIn h codes (asked 0 (tree_of h o.inner)) m place k → Embeds S
+  pub embeds : NothingEmbeds → HaveCodes table plans codes → (h : Heap) (S : Region) (o : HoldsRegion names table h S) → (m place k : ℕ) → IsFirstIn h codes (asked 0 (tree_over h o.inner)) m place k → HasEmbedding S
   embeds law have h S o m place k c =
       let e = law table plans codes have h (reading_by names table o.number) o.inner (read_with h S o) in
-      let there : In m (membranes_of h o.inner) = subst (In m) (sym c.order ∙ nil_right (membranes_of h o.inner)) (in_here m c.earlier c.later) in
-      subst Embeds (sym o.is) (e.some m k there (listed (rules_in h m) place k c.rule.stands) c.rule.succeeds)
+      let there : In m (membranes_in_preorder h o.inner) = subst (In m) (sym c.order ∙ nil_right (membranes_in_preorder h o.inner)) (in_here m c.earlier c.later) in
+      subst HasEmbedding (sym o.is) (e.some m k there (listed (rules_in h m) place k c.rule.stands) c.rule.succeeds)
     where
       listed : (xs : List ℕ) (i k : ℕ) → slice_get xs i ≡ Some k → In k xs
       listed [] zero k e = absurd (cc e)
@@ -61,7 +61,7 @@ module _ (names : List Name) (table : List RuleTree) (c : Chooser) (n size : ℕ
       listed (x ∷ xs) (suc i) k e = inr (listed xs i k e)
 
   module _ (alike : TurnsAreAlike) (of_chooser : TurnsAreOfChooser) (spares : SparesAreNotRead) (have : HaveCodes table plans codes) where
-    module _ (h : Heap) (S : Region) (o : Holds names table h S) (from : ℕ) (first : from ≡ c n (length (membranes_of h o.inner))) where
+    module _ (h : Heap) (S : Region) (o : HoldsRegion names table h S) (from : ℕ) (first : from ≡ c n (length (membranes_in_preorder h o.inner))) where
       abbrev the_agreement : TurnsAgree table plans codes from h (reading_by names table o.number) o.inner
       the_agreement = alike table plans codes have h (reading_by names table o.number) o.inner (read_with h S o) o.keeps from
 
@@ -71,25 +71,25 @@ module _ (names : List Name) (table : List RuleTree) (c : Chooser) (n size : ℕ
           subst (λ X. Chosen c n X S') (sym o.is) (of_chooser c n h (reading_by names table o.number) o.inner o.tree S' (subst (λ k. NextFrom k (heap_region h (reading_by names table o.number) o.inner) S') first next) numbered)
 
       -- what a turn leaves
-      pub turned : (answer : Turn) (h' : Heap) → Valid h' → IsTurn h codes (tree_of h o.inner) from size answer h' → IsTurned names table c size n S answer h'
+      pub turned : (answer : Turn) (h' : Heap) → Valid h' → IsTurn h codes (tree_over h o.inner) from size answer h' → IsTurned names table c size n S answer h'
       turned Committed h' v t =
           let chosen : IsChosen from codes h o.inner t.code t.registers = record { membrane = t.membrane; place = t.place; number = t.rule; chosen = t.chosen; is = t.is; first = t.first } in
           let next = (the_agreement).next t.code t.registers chosen h' t.answered.1 in
-          let S' = heap_region h' (renumbered (reading_by names table o.number) next.number) next.forest in
-          let holds : Holds names table h' S' = record { number = λ a i. next.number (a, i); inner = next.forest; read = next.again.read; tree = next.again.tree; rules = next.again.rules; keeps = next.of_table; is = refl; numbered = next.numbered } in (
+          let S' = heap_region h' (renumbered_reading (reading_by names table o.number) next.number) next.forest in
+          let holds : HoldsRegion names table h' S' = record { number = λ a i. next.number (a, i); inner = next.forest; read = next.again.read; tree = next.again.tree; rules = next.again.rules; keeps = next.of_table; is = refl; numbered = next.numbered } in (
             S',
             record { turn = turn_to S' next.next next.numbered; commit = subst (λ X. Commit (region_process X) (region_process S')) (sym o.is) next.commit },
             subst (λ k. k ≤ size) (sym ((the_agreement).items t.code t.registers chosen h' t.answered.1 next t.left t.leaves)) t.answered.0,
             holds,
           )
-      turned Irreducible h' v t = (done alike have h S o t.0, subst (λ k. Holds names table k S) (sym t.1) o)
+      turned Irreducible h' v t = (done alike have h S o t.0, subst (λ k. HoldsRegion names table k S) (sym t.1) o)
       turned Full h' v t =
           let chosen : IsChosen from codes h o.inner t.code t.registers = record { membrane = t.membrane; place = t.place; number = t.rule; chosen = t.chosen; is = t.is; first = t.first } in
           let told = (the_agreement).told t.code t.registers chosen t.left t.leaves in
-          ((told.0, turn_to told.0 told.1 told.2, subst (λ k. size < k) (sym told.3) t.answered.0), subst (λ k. Holds names table k S) (sym t.answered.1) o)
+          ((told.0, turn_to told.0 told.1 told.2, subst (λ k. size < k) (sym told.3) t.answered.0), subst (λ k. HoldsRegion names table k S) (sym t.answered.1) o)
       turned NoMemory h' v t =
           let chosen : IsChosen from codes h o.inner t.code t.registers = record { membrane = t.membrane; place = t.place; number = t.rule; chosen = t.chosen; is = t.is; first = t.first } in
           let told = (the_agreement).told t.code t.registers chosen t.left t.leaves in
           let same = spares h h' (reading_by names table o.number) o.inner table t.answered.1 v (read_with h S o) in
-          let holds : Holds names table h' S = record { number = o.number; inner = o.inner; read = same.0.read; tree = same.0.tree; rules = same.0.rules; keeps = o.keeps; is = o.is ∙ sym same.1; numbered = o.numbered } in
+          let holds : HoldsRegion names table h' S = record { number = o.number; inner = o.inner; read = same.0.read; tree = same.0.tree; rules = same.0.rules; keeps = o.keeps; is = o.is ∙ sym same.1; numbered = o.numbered } in
           ((told.0, turn_to told.0 told.1 told.2, subst (λ k. k ≤ size) (sym told.3) t.answered.0), holds)

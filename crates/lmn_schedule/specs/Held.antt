@@ -18,7 +18,7 @@ use Rattle.lmn_congruence.specs.SolidsOfPlains.{IsSolidOf}
 use Rattle.lmn_congruence.specs.Translation.{numbered_rule, plain_process, region_of, top_of}
 use Rattle.lmn_reduction.specs.Commits.{Settles}
 use Rattle.lmn_adequacy.specs.Numbered.{IsNumbered}
-use Rattle.lmn_bridge.specs.HeapRegions.{Reading, region_at}
+use Rattle.lmn_bridge.specs.HeapRegions.{HeapReading, region_at}
 use Rattle.lmn_bridge.specs.Premises.{IsRead, IsRule, HasRules}
 use Rattle.lmn_turn.specs.Commits.{IsTable}
 use Rattle.lmn_strategy.specs.Choosing.{CanTurn}
@@ -26,7 +26,7 @@ use Rattle.lmn_strategy.specs.Compiled.{AreWhole, AreCompiled}
 
 -- What a turn asks: of the heap; that the codes are those of the table, of whose rules each stands in bodies with rules of the
 -- table alone; and that no number of items is beyond the size for want of bits.
-pub record CanRun (h : Heap) (table : List RuleTree) (codes : List Code) (size : ℕ) : Type 0 where
+pub record EngineCanTurn (h : Heap) (table : List RuleTree) (codes : List Code) (size : ℕ) : Type 0 where
   pub turn : CanTurn h (length codes)
   pub plans : List GuardPlan
   pub whole : AreWhole table plans
@@ -35,11 +35,11 @@ pub record CanRun (h : Heap) (table : List RuleTree) (codes : List Code) (size :
   pub small : size < 2 ^ 64 - 1
 
 -- how a heap is read by a list of names and a table of rules, where its links have these numbers
-abbrev pub reading_by : List Name → List RuleTree → (ℕ → ℕ → ℕ) → Reading
+abbrev pub reading_by : List Name → List RuleTree → (ℕ → ℕ → ℕ) → HeapReading
 reading_by names table number = record { name = number; names = names; rule = numbered_rule names table }
 
 -- The heap holds the solid S: by these names and rules it is read as S, whose links are numbered in printed order.
-pub record Holds (names : List Name) (table : List RuleTree) (h : Heap) (S : Region) : Type 0 where
+pub record HoldsRegion (names : List Name) (table : List RuleTree) (h : Heap) (S : Region) : Type 0 where
   pub number : ℕ → ℕ → ℕ
   pub inner : Forest
   pub read : IsRead h (reading_by names table number)
@@ -64,7 +64,7 @@ pub record AreNames (names : List Name) (plain : Plain) : Type 0 where
 -- The heap holds the solid of the plain, to which the plain's process settles: the region of that by numbers.
 pub record HoldsSolid (names : List Name) (plain : Plain) (h : Heap) : Type 0 where
   pub solid : Region
-  pub holds : Holds names plain.rules h solid
+  pub holds : HoldsRegion names plain.rules h solid
   pub from : (s : Solid) × IsSolidOf plain s × (solid ≡ region_of names plain.rules s)
   pub of_plain : SolidOf (top_of names plain) solid
   pub settles : Settles (plain_process names plain) (region_process solid)

@@ -2,14 +2,14 @@
 use Rattle.std.specs.Prelude.{ℕ, ◌≡◌, ◌<◌, ◌≤◌, ◌^◌, List}
 use Rattle.lmn_base.specs.declared.rule.RuleTree.{RuleTree}
 use Rattle.lmn_heap.specs.Heap.{Heap}
-use Rattle.lmn_congruence.specs.Regions.{Region, region_process, items}
+use Rattle.lmn_congruence.specs.Regions.{Region, region_process, item_count_of_region}
 use Rattle.lmn_congruence.specs.Rules.{Name}
 use Rattle.lmn_reduction.specs.Commits.{Commit, Irreducible as NothingLeft}
-use Rattle.lmn_adequacy.specs.Embedding.{Embeds}
+use Rattle.lmn_adequacy.specs.Embedding.{HasEmbedding}
 use Rattle.lmn_adequacy.specs.Runs.{Chooser, Turn as Chooses}
 use Rattle.lmn_strategy.specs.declared.turning.Turn.{Turn}
 use Rattle.lmn_strategy.specs.declared.turning.Turn.TheVariants.{Committed, Irreducible, Full, NoMemory}
-use Rattle.lmn_schedule.specs.Held.{Holds}
+use Rattle.lmn_schedule.specs.Held.{HoldsRegion}
 
 -- the function gives what a closure answers, for numbers of 64 bits
 abbrev pub Gives : {F : Type 0} → (F → ℕ → ℕ → ℕ → Type 0) → F → Chooser → Type 0
@@ -22,15 +22,15 @@ pub record ComesNext (c : Chooser) (n : ℕ) (S S' : Region) : Type 0 where
 
 -- nothing can happen in S
 pub record IsDone (S : Region) : Type 0 where
-  pub nothing_embeds : ¬ (Embeds S)
+  pub nothing_embeds : ¬ (HasEmbedding S)
   pub irreducible : NothingLeft (region_process S)
 
 -- What a turn answers where the solid is S and n commits are done, and what the heap holds then. At most so many items may be left.
 abbrev pub IsTurned : List Name → List RuleTree → Chooser → ℕ → ℕ → Region → Turn → Heap → Type 0
-IsTurned names table c size n S Committed h = (S' : Region) × ComesNext c n S S' × (items S' ≤ size) × Holds names table h S'
-IsTurned names table c size n S Irreducible h = IsDone S × Holds names table h S
-IsTurned names table c size n S Full h = ((S' : Region) × Chooses c n S S' × (size < items S')) × Holds names table h S
-IsTurned names table c size n S NoMemory h = ((S' : Region) × Chooses c n S S' × (items S' ≤ size)) × Holds names table h S
+IsTurned names table c size n S Committed h = (S' : Region) × ComesNext c n S S' × (item_count_of_region S' ≤ size) × HoldsRegion names table h S'
+IsTurned names table c size n S Irreducible h = IsDone S × HoldsRegion names table h S
+IsTurned names table c size n S Full h = ((S' : Region) × Chooses c n S S' × (size < item_count_of_region S')) × HoldsRegion names table h S
+IsTurned names table c size n S NoMemory h = ((S' : Region) × Chooses c n S S' × (item_count_of_region S' ≤ size)) × HoldsRegion names table h S
 
 -- how many commits an answer counts
 abbrev pub counted : Turn → ℕ

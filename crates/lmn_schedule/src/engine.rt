@@ -2,18 +2,18 @@ ghost use Rattle.std.specs.Prelude.{[], ◌≡◌, ◌<◌, ◌≤◌, ◌+◌, 
 ghost use Rattle.std.specs.Borrow.{sem};
 ghost use mir.Syntax.{named};
 ghost use Rattle.lmn_base.specs.declared.solid.Solid.{Solid};
-ghost use Rattle.lmn_base.specs.Solids.{items_of};
+ghost use Rattle.lmn_base.specs.Solids.{item_count};
 ghost use Rattle.lmn_congruence.specs.Rules.{Name};
 ghost use Rattle.lmn_congruence.specs.SolidsOfPlains.{IsSolidOf};
-ghost use Rattle.lmn_heap.specs.Sound.{Forest, IsTree, Settled, flat, items_in};
-ghost use Rattle.lmn_loading.specs.Loaded.{IsEmpty, IsLoaded, Causes};
-ghost use Rattle.lmn_schedule.specs.Held.{AreNames, CanBeLoaded, CanRun, Holds, HoldsSolid};
+ghost use Rattle.lmn_heap.specs.Sound.{Forest, IsTree, AllInPlace, flat, item_count_in};
+ghost use Rattle.lmn_loading.specs.Loaded.{IsEmpty, IsLoaded, LoadCauses};
+ghost use Rattle.lmn_schedule.specs.Held.{AreNames, CanBeLoaded, EngineCanTurn, HoldsRegion, HoldsSolid};
 ghost use Rattle.lmn_schedule.specs.Turning.{Gives, IsDone, IsTurned, counted};
-ghost use Rattle.lmn_adequacy.specs.Embedding.{Embeds};
+ghost use Rattle.lmn_adequacy.specs.Embedding.{HasEmbedding};
 ghost use Rattle.lmn_adequacy.specs.Runs.{Chooser as Choosing};
 ghost use Rattle.lmn_order.specs.Answers.{AnswersBelow};
 ghost use Rattle.lmn_congruence.specs.Regions.{Region};
-ghost use Rattle.lmn_schedule.specs.Lending.{lends_store};
+ghost use Rattle.lmn_schedule.specs.Lending.{engine_lends_store};
 
 use lmn_base::{NoMemory, Plain, Rows};
 use lmn_bridge::solids_are_regions;
@@ -60,10 +60,10 @@ impl<'p, S: LinkStore + Drop, F: Fn(u64, u64) -> u64 + Drop> Engine<'p, S, F> {
         requires store { IsEmpty (S.heap store) }
         requires size { size < 2 ^ 64 - 1 }
         ensures holds { IfOk result (λ e. (names : List Name) → AreNames names plain.now → HoldsSolid names plain.now (S.heap e.machine.store)) }
-        ensures run { IfOk result (λ e. CanRun (S.heap e.machine.store) plain.now.rules e.codes e.size) }
+        ensures run { IfOk result (λ e. EngineCanTurn (S.heap e.machine.store) plain.now.rules e.codes e.size) }
         ensures keeps { IfOk result (λ e. (e.plain.now ≡ plain.now) × (e.chooser ≡ chooser) × (e.size ≡ size) × (e.commits ≡ 0)) }
-        ensures fits { OnOk result ((s : Solid) → IsSolidOf plain.now s → items_of s ≤ size) }
-        ensures fault { IfErr result (λ fault. Causes plain.now size fault) }
+        ensures fits { OnOk result ((s : Solid) → IsSolidOf plain.now s → item_count s ≤ size) }
+        ensures fault { IfErr result (λ fault. LoadCauses plain.now size fault) }
     {
         loading_settles();
         plains_are_tables();
@@ -89,7 +89,7 @@ impl<'p, S: LinkStore + Drop, F: Fn(u64, u64) -> u64 + Drop> Engine<'p, S, F> {
         requires store { IsLoaded plain.now (S.heap store) }
         requires size { size < 2 ^ 64 - 1 }
         ensures store { IfOk result (λ e. e.machine.store ≡ store) }
-        ensures run { IfOk result (λ e. CanRun (S.heap e.machine.store) plain.now.rules e.codes e.size) }
+        ensures run { IfOk result (λ e. EngineCanTurn (S.heap e.machine.store) plain.now.rules e.codes e.size) }
         ensures keeps { IfOk result (λ e. (e.plain.now ≡ plain.now) × (e.chooser ≡ chooser) × (e.size ≡ size) × (e.commits ≡ 0)) }
     {
         loading_settles();
@@ -108,12 +108,12 @@ impl<'p, S: LinkStore, F: Fn(u64, u64) -> u64> Engine<'p, S, F> {
     /// One turn: the rule that the strategy chooses fires, at its least match, unless more items would be left than are allowed.
     /// With another answer than `Committed` the solid is as it was.
     pub fn turn<L: Ledger>(&mut self, alloc: Global, steps: &mut Steps<L>) -> Turn
-        requires run { CanRun (S.heap self.old.machine.store) self.old.plain.now.rules self.old.codes self.old.size }
+        requires run { EngineCanTurn (S.heap self.old.machine.store) self.old.plain.now.rules self.old.codes self.old.size }
         requires chooser { AnswersBelow F.pre F.post self.old.chooser.f }
         requires commits { self.old.commits < 2 ^ 63 }
-        ensures turned { (c : Choosing) → Gives F.post self.old.chooser.f c → (names : List Name) (solid : Region) → Holds names self.old.plain.now.rules (S.heap self.old.machine.store) solid →
+        ensures turned { (c : Choosing) → Gives F.post self.old.chooser.f c → (names : List Name) (solid : Region) → HoldsRegion names self.old.plain.now.rules (S.heap self.old.machine.store) solid →
             IsTurned names self.old.plain.now.rules c self.old.size self.old.commits solid result (S.heap self.new.machine.store) }
-        ensures again { CanRun (S.heap self.new.machine.store) self.old.plain.now.rules self.old.codes self.old.size }
+        ensures again { EngineCanTurn (S.heap self.new.machine.store) self.old.plain.now.rules self.old.codes self.old.size }
         ensures keeps { self.new ≡ record self.old { machine = self.new.machine; commits = self.old.commits + counted result } }
     {
         turns_are_alike();
@@ -138,9 +138,9 @@ impl<'p, S: LinkStore, F: Fn(u64, u64) -> u64> Engine<'p, S, F> {
 
     /// Whether some rule of some membrane has a match. It takes no memory and changes nothing.
     pub fn reducible<L: Ledger>(&mut self, steps: &mut Steps<L>) -> bool
-        requires run { CanRun (S.heap self.old.machine.store) self.old.plain.now.rules self.old.codes self.old.size }
-        ensures yes { IsTrue result → (names : List Name) (solid : Region) → Holds names self.old.plain.now.rules (S.heap self.old.machine.store) solid → Embeds solid }
-        ensures no { IsFalse result → (names : List Name) (solid : Region) → Holds names self.old.plain.now.rules (S.heap self.old.machine.store) solid → IsDone solid }
+        requires run { EngineCanTurn (S.heap self.old.machine.store) self.old.plain.now.rules self.old.codes self.old.size }
+        ensures yes { IsTrue result → (names : List Name) (solid : Region) → HoldsRegion names self.old.plain.now.rules (S.heap self.old.machine.store) solid → HasEmbedding solid }
+        ensures no { IsFalse result → (names : List Name) (solid : Region) → HoldsRegion names self.old.plain.now.rules (S.heap self.old.machine.store) solid → IsDone solid }
         ensures same { S.heap self.new.machine.store ≡ S.heap self.old.machine.store }
         ensures keeps { self.new ≡ record self.old { machine = self.new.machine } }
     {
@@ -162,15 +162,15 @@ impl<'p, S: LinkStore, F: Fn(u64, u64) -> u64> Engine<'p, S, F> {
 
     /// How many items there are: atoms, membranes without the root, and rules that stand in membranes.
     pub fn items(&self) -> u64
-        requires { Settled (S.heap self.now.machine.store) }
-        ensures { (f : Forest) → IsTree (S.heap self.now.machine.store) f → result + 1 ≡ items_in (S.heap self.now.machine.store) (flat f) }
+        requires { AllInPlace (S.heap self.now.machine.store) }
+        ensures { (f : Forest) → IsTree (S.heap self.now.machine.store) f → result + 1 ≡ item_count_in (S.heap self.now.machine.store) (flat f) }
     {
         self.machine.store().items()
     }
 
     /// The store, to be changed. The engine then holds it as it was left.
     pub fn store(&mut self) -> &mut S
-        ensures* writes_back { sem 𝓛 (lends_store (record { mir = named 0; lft = [] }) S.row F.row S.Atom.row S.Mem.row self.entry result) }
+        ensures* writes_back { sem 𝓛 (engine_lends_store (record { mir = named 0; lft = [] }) S.row F.row S.Atom.row S.Mem.row self.entry result) }
         ensures value { result.now ≡ self.old.machine.store }
     {
         self.machine.store_mut()

@@ -3,10 +3,11 @@ use Rattle.std.proofs.Common.{true, false, ℕ, zero, suc, ◌≡◌, ◌⊎◌,
 use Rattle.lmn_heap.specs.Heap.{In, atoms_in, functor_of, mems_in, rules_in}
 use Rattle.lmn_solid.specs.declared.items.HeadItem.TheVariants.{Membrane}
 use Rattle.lmn_solid.specs.Embeddings.{Images, Embeds, IsAtomImage, IsInPart}
-use Rattle.lmn_solid.specs.Examples.{a, a_in_membrane, filled, ContextsTakeTheRest}
-use Rattle.lmn_solid.specs.Heads.{HeadAtom, HeadMembrane, Port}
+use Rattle.lmn_solid.specs.Examples.{a_of_arity, a_in_membrane, filled_membrane, ContextsTakeTheRest}
+use Rattle.lmn_solid.specs.Heads.{HeadAtom, HeadMembrane}
 use Rattle.lmn_solid.proofs.Found.{found_none, found_one}
 use Rattle.lmn_solid.proofs.ExampleLinks.{as_they_are, four_five, not_a_name}
+use Rattle.lmn_base.specs.Graphs.{Port}
 
 abbrev both : HeadMembrane
 both = record { inside = 0; has_context = true; has_rule_context = true }
@@ -14,7 +15,7 @@ both = record { inside = 0; has_context = true; has_rule_context = true }
 true_or_false : true ≡ false → ⊥
 true_or_false e = cc e
 
-lies : Embeds filled (a_in_membrane (Membrane 0 true true)) [] 0 as_they_are
+lies : Embeds filled_membrane (a_in_membrane (Membrane 0 true true)) [] 0 as_they_are
 lies = record {
   here = refl;
   atoms_differ = λ n k i j e. e;
@@ -31,46 +32,46 @@ lies = record {
   holds = tt;
 }
   where
-    functors : (n : ℕ) (s : HeadAtom) → (n ≡ 0) × (record { functor = a 0; links = []; inside = 1 } ≡ s) → functor_of filled n ≡ Some s.functor
+    functors : (n : ℕ) (s : HeadAtom) → (n ≡ 0) × (record { functor = a_of_arity 0; links = []; inside = 1 } ≡ s) → functor_of filled_membrane n ≡ Some s.functor
     functors n s u = rw (u.0, sym u.1) refl
 
-    placed : (n : ℕ) (s : HeadAtom) → (n ≡ 0) × (record { functor = a 0; links = []; inside = 1 } ≡ s) → In n (atoms_in filled s.inside)
+    placed : (n : ℕ) (s : HeadAtom) → (n ≡ 0) × (record { functor = a_of_arity 0; links = []; inside = 1 } ≡ s) → In n (atoms_in filled_membrane s.inside)
     placed n s u = rw (u.0, sym u.1) (inl refl)
 
-    inner : (i k : ℕ) (n : HeadMembrane) → k ≡ suc i → (i ≡ 0) × (both ≡ n) → In k (mems_in filled n.inside)
+    inner : (i k : ℕ) (n : HeadMembrane) → k ≡ suc i → (i ≡ 0) × (both ≡ n) → In k (mems_in filled_membrane n.inside)
     inner i k n e u = rw (e, u.0, sym u.1) (inl refl)
 
-    no_links : (x : ℕ) (p : Port) (s : HeadAtom) → (p.0 ≡ 0) × (record { functor = a 0; links = []; inside = 1 } ≡ s) → slice_get s.links p.1 ≡ Some x → ⊥
+    no_links : (x : ℕ) (p : Port) (s : HeadAtom) → (p.0 ≡ 0) × (record { functor = a_of_arity 0; links = []; inside = 1 } ≡ s) → slice_get s.links p.1 ≡ Some x → ⊥
     no_links x p s u l = found_none p.1 (subst (λ w. slice_get w.links p.1 ≡ Some x) (sym u.1) l)
 
 one : {n : ℕ} → In n (1 ∷ []) → n ≡ 1
 one (inl r) = sym r
 one (inr r) = absurd r
 
--- `a` lies at atom 0
-first : (n : ℕ) → functor_of filled n ≡ Some (a 0) → n ≡ 0
+-- `a_of_arity` lies at atom 0
+first : (n : ℕ) → functor_of filled_membrane n ≡ Some (a_of_arity 0) → n ≡ 0
 first zero q = refl
 first (suc zero) q = absurd (four_five (not_a_name 5 4 _ _ q refl refl))
 first (suc (suc n)) q = absurd (cc q)
 
-too_many_atoms : (f : Images) → Embeds filled (a_in_membrane (Membrane 0 false true)) [] 0 f → ⊥
+too_many_atoms : (f : Images) → Embeds filled_membrane (a_in_membrane (Membrane 0 false true)) [] 0 f → ⊥
 too_many_atoms f e = by (e.no_other_atom 1 _ 1 (0, refl, refl) refl (rw membrane (inr (inl refl))))
   where
     membrane : f.membrane 1 ≡ 1
-    membrane = one (subst (λ m. In (f.membrane 1) (mems_in filled m)) e.here (e.membranes_placed 1 _ (0, refl, refl)))
+    membrane = one (subst (λ m. In (f.membrane 1) (mems_in filled_membrane m)) e.here (e.membranes_placed 1 _ (0, refl, refl)))
 
-    by : IsAtomImage (a_in_membrane (Membrane 0 false true)) f 1 ⊎ IsInPart filled (a_in_membrane (Membrane 0 false true)) f 1 1 → ⊥
+    by : IsAtomImage (a_in_membrane (Membrane 0 false true)) f 1 ⊎ IsInPart filled_membrane (a_in_membrane (Membrane 0 false true)) f 1 1 → ⊥
     by (inl u) =
         let zero_first : u.0 ≡ 0 = omega (arith, u.1) in
         let at : f.atom 0 ≡ 1 = subst (λ n. f.atom n ≡ 1) zero_first u.2 in
         absurd (omega (arith, at, first (f.atom 0) (e.functors 0 _ refl)))
     by (inr u) = found_none u.0 u.2
 
-one_rule_too_many : (f : Images) → Embeds filled (a_in_membrane (Membrane 0 true false)) [] 0 f → ⊥
-one_rule_too_many f e = cc (subst (λ m. rules_in filled m ≡ []) membrane (e.no_rule 1 _ (0, refl, refl) refl))
+one_rule_too_many : (f : Images) → Embeds filled_membrane (a_in_membrane (Membrane 0 true false)) [] 0 f → ⊥
+one_rule_too_many f e = cc (subst (λ m. rules_in filled_membrane m ≡ []) membrane (e.no_rule 1 _ (0, refl, refl) refl))
   where
     membrane : f.membrane 1 ≡ 1
-    membrane = one (subst (λ m. In (f.membrane 1) (mems_in filled m)) e.here (e.membranes_placed 1 _ (0, refl, refl)))
+    membrane = one (subst (λ m. In (f.membrane 1) (mems_in filled_membrane m)) e.here (e.membranes_placed 1 _ (0, refl, refl)))
 
 pub contexts_take_the_rest : ContextsTakeTheRest
 contexts_take_the_rest = ((as_they_are, lies), (λ l. too_many_atoms l.0 l.1), (λ l. one_rule_too_many l.0 l.1))

@@ -6,10 +6,11 @@ use Rattle.lmn_base.specs.declared.functor.Label.{Label}
 use Rattle.lmn_base.specs.declared.functor.Label.TheVariants.{Name, Int}
 use Rattle.lmn_heap.specs.Conditions.{Above}
 use Rattle.lmn_heap.specs.Heap.{In, atoms_in, functor_of, link_of, mems_in, rules_in}
-use Rattle.lmn_solid.specs.Embeddings.{Images, Embeds, HasAtom, HasLink, IsAtomImage, IsWithin}
-use Rattle.lmn_solid.specs.Examples.{a, b, a_joined_to_b, a_with_b, c_between, LinksJoin, a_apart_from_b, through_the_wall, a_beside_b, one_membrane, LinksLeave}
-use Rattle.lmn_solid.specs.Heads.{HeadAtom, HeadMembrane, Port, membranes_of, outermost}
+use Rattle.lmn_solid.specs.Embeddings.{Images, Embeds, HasAtom, HasLink, IsAtomImage, StandsWithin}
+use Rattle.lmn_solid.specs.Examples.{a_of_arity, b_of_arity, a_joined_to_b, a_with_b, c_between, LinksJoin, a_apart_from_b, through_the_wall, a_beside_b, a_with_b_inside, LinksLeave}
+use Rattle.lmn_solid.specs.Heads.{HeadAtom, HeadMembrane, membranes_of, outermost}
 use Rattle.lmn_solid.proofs.Found.{found_none, found_one}
+use Rattle.lmn_base.specs.Graphs.{Port}
 
 -- ---- names
 
@@ -88,8 +89,8 @@ not_between f e = names (of_b (first (f.atom 0) (e.functors 0 _ refl)) (e.joined
     apart : ◌≢◌ {A = Port} (0, 0) (1, 0)
     apart d = cc (ap (λ p. p.0) d)
 
-    -- `a` lies at atom 0
-    first : (n : ℕ) → functor_of c_between n ≡ Some (a 1) → n ≡ 0
+    -- `a_of_arity` lies at atom 0
+    first : (n : ℕ) → functor_of c_between n ≡ Some (a_of_arity 1) → n ≡ 0
     first zero q = refl
     first (suc zero) q = absurd (four_five (not_a_name 5 4 _ _ q refl refl))
     first (suc (suc zero)) q = absurd (six_four (not_a_name 6 4 _ _ q refl refl))
@@ -101,8 +102,8 @@ not_between f e = names (of_b (first (f.atom 0) (e.functors 0 _ refl)) (e.joined
     of_b : f.atom 0 ≡ 0 → link_of c_between (f.atom 0) 0 ≡ Some (f.atom 1, 0) → f.atom 1 ≡ 2
     of_b d q = sym (ap (λ p. p.0) (same_Some (2, 0) (f.atom 1, 0) (subst (λ n. link_of c_between n 0 ≡ Some (f.atom 1, 0)) d q)))
 
-    names : f.atom 1 ≡ 2 → functor_of c_between (f.atom 1) ≡ Some (b 1) → ⊥
-    names d q = six_five (not_a_name 6 5 _ _ (subst (λ n. functor_of c_between n ≡ Some (b 1)) d q) refl refl)
+    names : f.atom 1 ≡ 2 → functor_of c_between (f.atom 1) ≡ Some (b_of_arity 1) → ⊥
+    names d q = six_five (not_a_name 6 5 _ _ (subst (λ n. functor_of c_between n ≡ Some (b_of_arity 1)) d q) refl refl)
       where
         six_five : ◌≡◌ {A = ℕ} 6 5 → ⊥
         six_five e = cc e
@@ -161,9 +162,9 @@ leaves = record {
     root_outside zero e = omega (arith, e)
     root_outside (suc k) u = cc u.1
 
-    away : (n i : ℕ) (s : HeadAtom) (p : Port) → HasAtom a_apart_from_b n s → s.inside ≢ 0 → link_of through_the_wall n i ≡ Some p → IsWithin through_the_wall p.0 (outermost (membranes_of a_apart_from_b) s.inside) → ⊥
+    away : (n i : ℕ) (s : HeadAtom) (p : Port) → HasAtom a_apart_from_b n s → s.inside ≢ 0 → link_of through_the_wall n i ≡ Some p → StandsWithin through_the_wall p.0 (outermost (membranes_of a_apart_from_b) s.inside) → ⊥
     away zero zero s p h d q w =
-        let at : IsWithin through_the_wall 1 1 = subst (λ o. IsWithin through_the_wall o.0 1) (sym (same_Some (1, 0) p q)) (subst (λ v. IsWithin through_the_wall p.0 (outermost (membranes_of a_apart_from_b) v.inside)) (sym (same_Some _ _ h)) w) in
+        let at : StandsWithin through_the_wall 1 1 = subst (λ o. StandsWithin through_the_wall o.0 1) (sym (same_Some (1, 0) p q)) (subst (λ v. StandsWithin through_the_wall p.0 (outermost (membranes_of a_apart_from_b) v.inside)) (sym (same_Some _ _ h)) w) in
         root_outside at.1 (subst (λ m. Above through_the_wall at.1 1 m) (sym (same_Some 0 at.0 at.2)) at.3)
     away zero (suc i) s p h d q w = cc q
     away (suc zero) i s p h d q w = d (sym (ap (λ v. v.inside) (same_Some _ _ h)))
@@ -182,20 +183,20 @@ leaves = record {
     no_rules : (i k : ℕ) (n : HeadMembrane) → k ≡ suc i → (i ≡ 0) × (record { inside = 0; has_context = false; has_rule_context = false } ≡ n) → rules_in through_the_wall k ≡ []
     no_rules i k n e d = rw (e, d.0) refl
 
-not_inside : (f : Images) → Embeds one_membrane a_beside_b [] 0 f → ⊥
+not_inside : (f : Images) → Embeds a_with_b_inside a_beside_b [] 0 f → ⊥
 not_inside f e = e.outside 0 0 0 _ (1, 0) refl refl refl one_not_zero (rw atom refl) (rw membrane (1, 0, refl, refl))
   where
     one_not_zero : ◌≢◌ {A = ℕ} 1 0
     one_not_zero = omega arith
 
     membrane : f.membrane 1 ≡ 1
-    membrane = one (subst (λ m. In (f.membrane 1) (mems_in one_membrane m)) e.here (e.membranes_placed 1 _ (0, refl, refl)))
+    membrane = one (subst (λ m. In (f.membrane 1) (mems_in a_with_b_inside m)) e.here (e.membranes_placed 1 _ (0, refl, refl)))
       where
         one : {n : ℕ} → In n (1 ∷ []) → n ≡ 1
         one (inl r) = sym r
         one (inr r) = absurd r
 
-    first : (n : ℕ) → functor_of one_membrane n ≡ Some (a 1) → n ≡ 0
+    first : (n : ℕ) → functor_of a_with_b_inside n ≡ Some (a_of_arity 1) → n ≡ 0
     first zero q = refl
     first (suc zero) q = absurd (four_five (not_a_name 5 4 _ _ q refl refl))
     first (suc (suc n)) q = absurd (cc q)

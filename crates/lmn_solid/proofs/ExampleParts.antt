@@ -3,14 +3,14 @@ use Rattle.std.proofs.Common.{ℕ, zero, suc, ◌≡◌, ◌≢◌, ◌<◌, ◌
 use Rattle.std.specs.Prelude.{IsSome}
 use Rattle.std.proofs.lemmas.Option.{same_Some}
 use Rattle.lmn_base.specs.declared.functor.Functor.{Functor}
-use Rattle.lmn_base.specs.Graphs.{Reached, at_root, across, StandsWhole, SameGraph}
+use Rattle.lmn_base.specs.Graphs.{Reached, at_root, across, StandsWhole, SameGraph, Port}
 use Rattle.lmn_heap.specs.Graphs.{atom_map}
 use Rattle.lmn_heap.specs.Heap.{In, atoms_in, functor_of, home_of, link_of}
 use Rattle.lmn_guards.specs.declared.plan.TypeKind.TheVariants as kind
 use Rattle.lmn_solid.specs.Embeddings.{Images, Embeds, IsPartOf}
-use Rattle.lmn_solid.specs.Examples.{a, b, integer, a_of_ground, joined_twice, PartsHaveNoImage, a_of_int, below_three, a_with_number, number_inside, GuardsAskParts, straight, crossed, PortsAreTold}
+use Rattle.lmn_solid.specs.Examples.{a_of_arity, b_of_arity, integer, a_of_ground, joined_twice, PartsHaveNoImage, a_of_int, below_three, a_with_number, integer_inside, GuardsAskParts, straight_heap, crossed_heap, HeapPortsAreTold}
 use Rattle.lmn_solid.specs.Guards.{integer_at}
-use Rattle.lmn_solid.specs.Heads.{HeadAtom, HeadTyped, Port}
+use Rattle.lmn_solid.specs.Heads.{HeadAtom, HeadTyped}
 use Rattle.lmn_solid.proofs.Found.{found_none, found_one}
 use Rattle.lmn_solid.proofs.ExampleLinks.{four_five, not_a_name}
 
@@ -52,8 +52,8 @@ twice_whole = record { at_home = λ n r. home n (reached_two r); no_other_end = 
     some_at n i (inr e) (inr d) = rw (e, d) refl
 
     arity : (n : ℕ) (f : Functor) → (n ≡ 0) ⊎ (n ≡ 1) → functor_of joined_twice n ≡ Some f → f.arity ≡ 2
-    arity n f (inl e) q = sym (ap (λ w. w.arity) (same_Some (a 2) f (subst (λ m. functor_of joined_twice m ≡ Some f) e q)))
-    arity n f (inr e) q = sym (ap (λ w. w.arity) (same_Some (b 2) f (subst (λ m. functor_of joined_twice m ≡ Some f) e q)))
+    arity n f (inl e) q = sym (ap (λ w. w.arity) (same_Some (a_of_arity 2) f (subst (λ m. functor_of joined_twice m ≡ Some f) e q)))
+    arity n f (inr e) q = sym (ap (λ w. w.arity) (same_Some (b_of_arity 2) f (subst (λ m. functor_of joined_twice m ≡ Some f) e q)))
 
     joined : (n i : ℕ) (f : Functor) → (n ≡ 0) ⊎ (n ≡ 1) → functor_of joined_twice n ≡ Some f → i < f.arity → IsSome (link_of joined_twice n i)
     joined n i f e q l = some_at n i e (below i f (arity n f e q) l)
@@ -61,7 +61,7 @@ twice_whole = record { at_home = λ n r. home n (reached_two r); no_other_end = 
 image_in_part : (f : Images) → Embeds joined_twice a_of_ground [] 0 f → ⊥
 image_in_part f e = (e.parts 0 _ refl).apart 0 (rw (sym part) (across at_root (other_index 1 1 0 one_not_zero) refl)) (0, omega arith, atom)
   where
-    first : (n : ℕ) → functor_of joined_twice n ≡ Some (a 2) → n ≡ 0
+    first : (n : ℕ) → functor_of joined_twice n ≡ Some (a_of_arity 2) → n ≡ 0
     first zero q = refl
     first (suc zero) q = absurd (four_five (not_a_name 5 4 _ _ q refl refl))
     first (suc (suc n)) q = absurd (cc q)
@@ -96,7 +96,7 @@ number_whole k = record { at_home = λ n r. rw (alone k r) refl; no_other_end = 
     no_port (suc i) f q l d = absurd (let one : f.arity ≡ 1 = sym (ap (λ w. w.arity) (same_Some (integer k) f q)) in omega (arith, one, l))
 
 abbrev the_atom : HeadAtom
-the_atom = record { functor = a 1; links = 0 ∷ []; inside = 0 }
+the_atom = record { functor = a_of_arity 1; links = 0 ∷ []; inside = 0 }
 
 abbrev the_part : HeadTyped
 the_part = record { name = 7; kind = kind.Int; link = 0; inside = 0 }
@@ -145,7 +145,7 @@ lies = record {
 five_not_below : (f : Images) → Embeds (a_with_number 5) a_of_int below_three 0 f → ⊥
 five_not_below f e = by e.holds.0
   where
-    first : (n : ℕ) → functor_of (a_with_number 5) n ≡ Some (a 1) → n ≡ 0
+    first : (n : ℕ) → functor_of (a_with_number 5) n ≡ Some (a_of_arity 1) → n ≡ 0
     first zero q = refl
     first (suc zero) q = absurd (zero_four (not_a_name 0 4 _ _ q refl refl))
       where
@@ -167,13 +167,13 @@ five_not_below f e = by e.holds.0
 
 -- ---- a part in another membrane
 
-not_whole : StandsWhole (atom_map number_inside) (1, 0) 0 → ⊥
+not_whole : StandsWhole (atom_map integer_inside) (1, 0) 0 → ⊥
 not_whole w = one_not_zero (same_Some 1 0 (w.at_home 1 at_root))
 
-not_here : (f : Images) → Embeds number_inside a_of_int [] 0 f → ⊥
-not_here f e = not_whole (subst (λ p. StandsWhole (atom_map number_inside) p 0) (sym part) (subst (StandsWhole (atom_map number_inside) (f.part 0)) e.here (e.parts 0 _ refl).whole))
+not_here : (f : Images) → Embeds integer_inside a_of_int [] 0 f → ⊥
+not_here f e = not_whole (subst (λ p. StandsWhole (atom_map integer_inside) p 0) (sym part) (subst (StandsWhole (atom_map integer_inside) (f.part 0)) e.here (e.parts 0 _ refl).whole))
   where
-    first : (n : ℕ) → functor_of number_inside n ≡ Some (a 1) → n ≡ 0
+    first : (n : ℕ) → functor_of integer_inside n ≡ Some (a_of_arity 1) → n ≡ 0
     first zero q = refl
     first (suc zero) q = absurd (zero_four (not_a_name 0 4 _ _ q refl refl))
       where
@@ -182,14 +182,14 @@ not_here f e = not_whole (subst (λ p. StandsWhole (atom_map number_inside) p 0)
     first (suc (suc n)) q = absurd (cc q)
 
     part : ◌≡◌ {A = Port} (1, 0) (f.part 0)
-    part = same_Some (1, 0) (f.part 0) (subst (λ n. link_of number_inside n 0 ≡ Some (f.part 0)) (first (f.atom 0) (e.functors 0 _ refl)) ((e.parts 0 _ refl).held (0, 0) (_, refl, refl)))
+    part = same_Some (1, 0) (f.part 0) (subst (λ n. link_of integer_inside n 0 ≡ Some (f.part 0)) (first (f.atom 0) (e.functors 0 _ refl)) ((e.parts 0 _ refl).held (0, 0) (_, refl, refl)))
 
 pub guards_ask_parts : GuardsAskParts
 guards_ask_parts = ((part_behind, lies), (λ l. five_not_below l.0 l.1), not_whole, (λ l. not_here l.0 l.1))
 
 -- ---- rooted graphs
 
-itself : SameGraph (atom_map straight) (1, 0) (atom_map straight) (1, 0)
+itself : SameGraph (atom_map straight_heap) (1, 0) (atom_map straight_heap) (1, 0)
 itself = record {
   to = λ n. n;
   into = λ n r. r;
@@ -200,11 +200,11 @@ itself = record {
   root = refl;
 }
 
-not_crossed : SameGraph (atom_map straight) (1, 0) (atom_map crossed) (1, 0) → ⊥
-not_crossed s = one_not_zero (ap (λ p. p.1) (same_Some (2, 1) (s.to 2, 0) (subst (λ n. link_of crossed n 1 ≡ Some (s.to 2, 0)) (ap (λ p. p.0) s.root) ((s.joined 1 2 1 0 at_root second).0 refl))))
+not_crossed : SameGraph (atom_map straight_heap) (1, 0) (atom_map crossed_heap) (1, 0) → ⊥
+not_crossed s = one_not_zero (ap (λ p. p.1) (same_Some (2, 1) (s.to 2, 0) (subst (λ n. link_of crossed_heap n 1 ≡ Some (s.to 2, 0)) (ap (λ p. p.0) s.root) ((s.joined 1 2 1 0 at_root second).0 refl))))
   where
-    second : Reached (atom_map straight) (1, 0) 2
+    second : Reached (atom_map straight_heap) (1, 0) 2
     second = across at_root (other_index 1 1 0 one_not_zero) refl
 
-pub ports_are_told : PortsAreTold
+pub ports_are_told : HeapPortsAreTold
 ports_are_told = (itself, not_crossed)

@@ -12,12 +12,12 @@ use Rattle.lmn_base.specs.declared.level.Level.TheOpen.{Level-F}
 use Rattle.lmn_base.specs.declared.level.Level.TheFolds.{fold-Level, fold-roll-Level, ind-Level}
 use Rattle.lmn_base.specs.Items as base
 use Rattle.lmn_base.specs.Items.{own_items, used, number_step, number_of_items}
-use Rattle.lmn_base.specs.Levels.{leaves_of}
+use Rattle.lmn_base.specs.Levels.{leaves_of, rules_of}
 use Rattle.lmn_guards.specs.declared.plan.TypeKind.{TypeKind}
 use Rattle.lmn_guards.specs.Plans.{leaves_by_membrane}
 use Rattle.lmn_solid.specs.declared.items.HeadItem.{HeadItem}
 use Rattle.lmn_solid.specs.declared.items.HeadItem.TheVariants.{Membrane}
-use Rattle.lmn_solid.specs.Flattening.{Unnumbered, has_some, leaf_items, membrane_items, flatten_step, unnumbered, items_of}
+use Rattle.lmn_solid.specs.Flattening.{Unnumbered, has_some, leaf_items, head_membrane_items, flatten_step, unnumbered, items_of_head}
 
 mutual
   pub data Head : Type 0 where
@@ -84,7 +84,7 @@ module _ (kind : ℕ → TypeKind) where
   sized [] = refl
   sized (h ∷ hs) = sum_by-cons (λ n. n) (1 + size h) (map (λ m. 1 + m.size) (map (flattened kind) hs)) ∙ ap (λ n. (1 + size h) + n) (sized hs)
 
-  flat_in : (inside next : ℕ) (hs : List Head) → membrane_items inside next (map (flattened kind) hs) ≡ flat_membranes kind inside next (heads hs)
+  flat_in : (inside next : ℕ) (hs : List Head) → head_membrane_items inside next (map (flattened kind) hs) ≡ flat_membranes kind inside next (heads hs)
   flat_in inside next [] = refl
   flat_in inside next (h ∷ hs) =
       ap (λ ys. Membrane inside (has_context h) (has_rule_context h) ∷ flat_items kind next (next + 1) h ++ ys) (flat_in inside (next + 1 + size h) hs)
@@ -101,7 +101,7 @@ module _ (kind : ℕ → TypeKind) where
       }))
 
   -- the items of a level are those of its tree
-  pub items_flat : (l : Level) → items_of kind l ≡ flat_items kind 0 1 (head_at l)
+  pub items_flat : (l : Level) → items_of_head kind l ≡ flat_items kind 0 1 (head_at l)
   items_flat l = ap (λ u. u.items 0 1) (level_flat l)
 
   -- and so many membranes stand in both
@@ -173,6 +173,27 @@ pub same_uses : (l : Level) → base.items_of l ≡ head_uses (head_at l)
 same_uses = ind-Level SameUses (λ y z is.
     let inside = subst (λ l. flat_map (λ inner. inner) (map base.items_of l.membranes) ≡ heads_uses (heads (map head_at l.membranes))) is (inside_uses z.membranes) in
     rw (fold-roll-Level (List Item) (λ l. own_items l ++ flat_map (λ inner. inner) l.membranes) y, fold-roll-Level Head head_step y, inside) refl)
+
+-- the rules that stand in it
+abbrev mutual
+  pub head_rules : Head → List ℕ
+  head_rules (head leaves hs cs rcs rs) = rs ++ heads_rules hs
+
+  pub heads_rules : Heads → List ℕ
+  heads_rules no_head = []
+  heads_rules (head_and h hs) = head_rules h ++ heads_rules hs
+
+abbrev SameRules : Level → Type 0
+SameRules l = rules_of l ≡ head_rules (head_at l)
+
+inside_rules : (ls : List ((l : Level) × SameRules l)) → flat_map (λ inner. inner) (map rules_of (map (λ e. e.0) ls)) ≡ heads_rules (heads (map head_at (map (λ e. e.0) ls)))
+inside_rules [] = refl
+inside_rules (e ∷ ls) = λ i. e.1 i ++ inside_rules ls i
+
+pub same_rules : (l : Level) → rules_of l ≡ head_rules (head_at l)
+same_rules = ind-Level SameRules (λ y z is.
+    let inside = subst (λ l. flat_map (λ inner. inner) (map rules_of l.membranes) ≡ heads_rules (heads (map head_at l.membranes))) is (inside_rules z.membranes) in
+    rw (fold-roll-Level (List ℕ) (λ l. l.rules ++ flat_map (λ inner. inner) l.membranes) y, fold-roll-Level Head head_step y, inside) refl)
 
 -- how many items stand in it
 abbrev mutual

@@ -3,3 +3,4 @@ pub mod ExampleLinks
 pub mod ExampleContexts
 pub mod ExampleParts
 pub mod HeadTrees
+pub mod Common

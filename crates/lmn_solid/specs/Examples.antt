@@ -6,20 +6,19 @@ use Rattle.lmn_base.specs.declared.guard.Cmp.TheVariants.{Lt}
 use Rattle.lmn_base.specs.declared.guard.Cond.{Cond}
 use Rattle.lmn_base.specs.declared.guard.Cond.TheVariants.{Compare}
 use Rattle.lmn_base.specs.declared.guard.Expr.TheVariants as expr
-use Rattle.lmn_base.specs.declared.refusal.Pos.{Pos}
-use Rattle.lmn_base.specs.Graphs.{StandsWhole, SameGraph}
+use Rattle.lmn_base.specs.Graphs.{StandsWhole, SameGraph, Port}
 use Rattle.lmn_heap.specs.Graphs.{atom_map}
 use Rattle.lmn_heap.specs.Heap.{Heap, HeapAtom, HeapMem, Place, top, within}
 use Rattle.lmn_guards.specs.declared.plan.TypeKind.TheVariants as kind
 use Rattle.lmn_solid.specs.declared.items.HeadItem.{HeadItem}
 use Rattle.lmn_solid.specs.declared.items.HeadItem.TheVariants.{Atom, Typed, Membrane}
 use Rattle.lmn_solid.specs.Embeddings.{Images, Embeds}
-use Rattle.lmn_solid.specs.Heads.{Port}
+use Rattle.lmn_base.specs.SmallTexts.{somewhere}
 
 -- ---- heaps: the atoms, and the membranes from the root on, each by its number
 
-abbrev pub heap_of : List HeapAtom → List HeapMem → Heap
-heap_of atoms mems = record { root = 0; atoms = slice_get atoms; mems = slice_get mems; new_atoms = []; new_mems = [] }
+abbrev pub heap_with : List HeapAtom → List HeapMem → Heap
+heap_with atoms mems = record { root = 0; atoms = slice_get atoms; mems = slice_get mems; new_atoms = []; new_mems = [] }
 
 -- an atom of a membrane, its ports joined to these
 abbrev pub atom_in : ℕ → Functor → List Port → HeapAtom
@@ -28,15 +27,15 @@ atom_in m f ports = record { functor = f; links = map Some ports; marks = []; pl
 abbrev pub membrane_at : Place → List ℕ → List ℕ → List ℕ → HeapMem
 membrane_at p atoms mems rules = record { atoms = atoms; mems = mems; rules = rules; spare = 0; mark = 0; place = p }
 
--- names by their numbers
-abbrev pub a : ℕ → Functor
-a n = record { label = Name 4; arity = n }
+-- functors by their arity
+abbrev pub a_of_arity : ℕ → Functor
+a_of_arity n = record { label = Name 4; arity = n }
 
-abbrev pub b : ℕ → Functor
-b n = record { label = Name 5; arity = n }
+abbrev pub b_of_arity : ℕ → Functor
+b_of_arity n = record { label = Name 5; arity = n }
 
-abbrev pub c : ℕ → Functor
-c n = record { label = Name 6; arity = n }
+abbrev pub c_of_arity : ℕ → Functor
+c_of_arity n = record { label = Name 6; arity = n }
 
 abbrev pub integer : ℕ → Functor
 integer n = record { label = Int (pos n); arity = 1 }
@@ -49,15 +48,15 @@ Lies h items guard = (f : Images) × Embeds h items guard 0 f
 
 -- the head `a(X), b(X)`
 abbrev pub a_joined_to_b : List HeadItem
-a_joined_to_b = Atom (a 1) (0 ∷ []) 0 ∷ Atom (b 1) (0 ∷ []) 0 ∷ []
+a_joined_to_b = Atom (a_of_arity 1) (0 ∷ []) 0 ∷ Atom (b_of_arity 1) (0 ∷ []) 0 ∷ []
 
 -- lies in `a(X), b(X)`, and not in `a(X), b(Y), c(X,Y)`
 abbrev pub a_with_b : Heap
-a_with_b = heap_of (atom_in 0 (a 1) ((1, 0) ∷ []) ∷ atom_in 0 (b 1) ((0, 0) ∷ []) ∷ []) (membrane_at top (0 ∷ 1 ∷ []) [] [] ∷ [])
+a_with_b = heap_with (atom_in 0 (a_of_arity 1) ((1, 0) ∷ []) ∷ atom_in 0 (b_of_arity 1) ((0, 0) ∷ []) ∷ []) (membrane_at top (0 ∷ 1 ∷ []) [] [] ∷ [])
 
 abbrev pub c_between : Heap
-c_between = heap_of
-    (atom_in 0 (a 1) ((2, 0) ∷ []) ∷ atom_in 0 (b 1) ((2, 1) ∷ []) ∷ atom_in 0 (c 2) ((0, 0) ∷ (1, 0) ∷ []) ∷ [])
+c_between = heap_with
+    (atom_in 0 (a_of_arity 1) ((2, 0) ∷ []) ∷ atom_in 0 (b_of_arity 1) ((2, 1) ∷ []) ∷ atom_in 0 (c_of_arity 2) ((0, 0) ∷ (1, 0) ∷ []) ∷ [])
     (membrane_at top (0 ∷ 1 ∷ 2 ∷ []) [] [] ∷ [])
 
 abbrev pub LinksJoin : Type 0
@@ -67,52 +66,52 @@ LinksJoin = Lies a_with_b a_joined_to_b [] × (¬ (Lies c_between a_joined_to_b 
 
 -- the head `{a(X)}, b(Y)` lies in `{a(X)}, b(X)`: two links of the head may be one link
 abbrev pub a_apart_from_b : List HeadItem
-a_apart_from_b = Membrane 0 false false ∷ Atom (a 1) (0 ∷ []) 1 ∷ Atom (b 1) (1 ∷ []) 0 ∷ []
+a_apart_from_b = Membrane 0 false false ∷ Atom (a_of_arity 1) (0 ∷ []) 1 ∷ Atom (b_of_arity 1) (1 ∷ []) 0 ∷ []
 
 abbrev pub through_the_wall : Heap
-through_the_wall = heap_of
-    (atom_in 1 (a 1) ((1, 0) ∷ []) ∷ atom_in 0 (b 1) ((0, 0) ∷ []) ∷ [])
+through_the_wall = heap_with
+    (atom_in 1 (a_of_arity 1) ((1, 0) ∷ []) ∷ atom_in 0 (b_of_arity 1) ((0, 0) ∷ []) ∷ [])
     (membrane_at top (1 ∷ []) (1 ∷ []) [] ∷ membrane_at (within 0) (0 ∷ []) [] [] ∷ [])
 
 -- but the head `{a(X), b(Y)}` doesn't lie in `{a(X), b(X)}`: there X doesn't leave the membrane
 abbrev pub a_beside_b : List HeadItem
-a_beside_b = Membrane 0 false false ∷ Atom (a 1) (0 ∷ []) 1 ∷ Atom (b 1) (1 ∷ []) 1 ∷ []
+a_beside_b = Membrane 0 false false ∷ Atom (a_of_arity 1) (0 ∷ []) 1 ∷ Atom (b_of_arity 1) (1 ∷ []) 1 ∷ []
 
-abbrev pub one_membrane : Heap
-one_membrane = heap_of
-    (atom_in 1 (a 1) ((1, 0) ∷ []) ∷ atom_in 1 (b 1) ((0, 0) ∷ []) ∷ [])
+abbrev pub a_with_b_inside : Heap
+a_with_b_inside = heap_with
+    (atom_in 1 (a_of_arity 1) ((1, 0) ∷ []) ∷ atom_in 1 (b_of_arity 1) ((0, 0) ∷ []) ∷ [])
     (membrane_at top [] (1 ∷ []) [] ∷ membrane_at (within 0) (0 ∷ 1 ∷ []) [] [] ∷ [])
 
 abbrev pub LinksLeave : Type 0
-LinksLeave = Lies through_the_wall a_apart_from_b [] × (¬ (Lies one_membrane a_beside_b []))
+LinksLeave = Lies through_the_wall a_apart_from_b [] × (¬ (Lies a_with_b_inside a_beside_b []))
 
 -- ---- nothing else
 
 -- The head `{a, $p, @r}` lies in `{a, b, T :- U}`. Without `$p` the membrane has an atom too many, without `@r` a rule.
 abbrev pub a_in_membrane : HeadItem → List HeadItem
-a_in_membrane m = m ∷ Atom (a 0) [] 1 ∷ []
+a_in_membrane m = m ∷ Atom (a_of_arity 0) [] 1 ∷ []
 
-abbrev pub filled : Heap
-filled = heap_of
-    (atom_in 1 (a 0) [] ∷ atom_in 1 (b 0) [] ∷ [])
+abbrev pub filled_membrane : Heap
+filled_membrane = heap_with
+    (atom_in 1 (a_of_arity 0) [] ∷ atom_in 1 (b_of_arity 0) [] ∷ [])
     (membrane_at top [] (1 ∷ []) [] ∷ membrane_at (within 0) (0 ∷ 1 ∷ []) [] (0 ∷ []) ∷ [])
 
 abbrev pub ContextsTakeTheRest : Type 0
 ContextsTakeTheRest =
-    Lies filled (a_in_membrane (Membrane 0 true true)) []
-    × (¬ (Lies filled (a_in_membrane (Membrane 0 false true)) []))
-    × (¬ (Lies filled (a_in_membrane (Membrane 0 true false)) []))
+    Lies filled_membrane (a_in_membrane (Membrane 0 true true)) []
+    × (¬ (Lies filled_membrane (a_in_membrane (Membrane 0 false true)) []))
+    × (¬ (Lies filled_membrane (a_in_membrane (Membrane 0 true false)) []))
 
 -- ---- parts
 
 -- the head `a($x,Z)` with a ground `$x`
 abbrev pub a_of_ground : List HeadItem
-a_of_ground = Atom (a 2) (0 ∷ 1 ∷ []) 0 ∷ Typed 7 kind.Ground 0 0 ∷ []
+a_of_ground = Atom (a_of_arity 2) (0 ∷ 1 ∷ []) 0 ∷ Typed 7 kind.Ground 0 0 ∷ []
 
--- In `a(X,Y), b(X,Y)` the part behind X comes back to `a` by Y. It stands whole, but has an image in it.
+-- In `a(X,Y), b(X,Y)` the part behind X comes back to `a_of_arity` by Y. It stands whole, but has an image in it.
 abbrev pub joined_twice : Heap
-joined_twice = heap_of
-    (atom_in 0 (a 2) ((1, 0) ∷ (1, 1) ∷ []) ∷ atom_in 0 (b 2) ((0, 0) ∷ (0, 1) ∷ []) ∷ [])
+joined_twice = heap_with
+    (atom_in 0 (a_of_arity 2) ((1, 0) ∷ (1, 1) ∷ []) ∷ atom_in 0 (b_of_arity 2) ((0, 0) ∷ (0, 1) ∷ []) ∷ [])
     (membrane_at top (0 ∷ 1 ∷ []) [] [] ∷ [])
 
 abbrev pub PartsHaveNoImage : Type 0
@@ -120,21 +119,18 @@ PartsHaveNoImage = StandsWhole (atom_map joined_twice) (1, 0) 0 × (¬ (Lies joi
 
 -- the head `a($x)` with `int($x)`, and the guard `$x < 3`
 abbrev pub a_of_int : List HeadItem
-a_of_int = Atom (a 1) (0 ∷ []) 0 ∷ Typed 7 kind.Int 0 0 ∷ []
-
-abbrev pub somewhere : Pos
-somewhere = record { line = 1; column = 1 }
+a_of_int = Atom (a_of_arity 1) (0 ∷ []) 0 ∷ Typed 7 kind.Int 0 0 ∷ []
 
 abbrev pub below_three : List Cond
 below_three = Compare Lt (expr.Ctx (record { name = 7; pos = somewhere })) (expr.Int (pos 3)) somewhere ∷ []
 
--- an integer beside `a`, and in a membrane
+-- an integer beside `a_of_arity`, and in a membrane
 abbrev pub a_with_number : ℕ → Heap
-a_with_number n = heap_of (atom_in 0 (a 1) ((1, 0) ∷ []) ∷ atom_in 0 (integer n) ((0, 0) ∷ []) ∷ []) (membrane_at top (0 ∷ 1 ∷ []) [] [] ∷ [])
+a_with_number n = heap_with (atom_in 0 (a_of_arity 1) ((1, 0) ∷ []) ∷ atom_in 0 (integer n) ((0, 0) ∷ []) ∷ []) (membrane_at top (0 ∷ 1 ∷ []) [] [] ∷ [])
 
-abbrev pub number_inside : Heap
-number_inside = heap_of
-    (atom_in 0 (a 1) ((1, 0) ∷ []) ∷ atom_in 1 (integer 2) ((0, 0) ∷ []) ∷ [])
+abbrev pub integer_inside : Heap
+integer_inside = heap_with
+    (atom_in 0 (a_of_arity 1) ((1, 0) ∷ []) ∷ atom_in 1 (integer 2) ((0, 0) ∷ []) ∷ [])
     (membrane_at top (0 ∷ []) (1 ∷ []) [] ∷ membrane_at (within 0) (1 ∷ []) [] [] ∷ [])
 
 -- The guard holds in `a(2)` and not in `a(5)`. In `a(X), {2(X)}` the part doesn't stand where it is written.
@@ -142,23 +138,23 @@ abbrev pub GuardsAskParts : Type 0
 GuardsAskParts =
     Lies (a_with_number 2) a_of_int below_three
     × (¬ (Lies (a_with_number 5) a_of_int below_three))
-    × (¬ (StandsWhole (atom_map number_inside) (1, 0) 0)) × (¬ (Lies number_inside a_of_int []))
+    × (¬ (StandsWhole (atom_map integer_inside) (1, 0) 0)) × (¬ (Lies integer_inside a_of_int []))
 
 -- ---- rooted graphs
 
 -- `a(R,X,Y), b(X,Y)` and `a(R,X,Y), b(Y,X)`, both held by `c(R)`, which has the number 0
-abbrev pub straight : Heap
-straight = heap_of
-    (atom_in 0 (c 1) ((1, 0) ∷ []) ∷ atom_in 0 (a 3) ((0, 0) ∷ (2, 0) ∷ (2, 1) ∷ []) ∷ atom_in 0 (b 2) ((1, 1) ∷ (1, 2) ∷ []) ∷ [])
+abbrev pub straight_heap : Heap
+straight_heap = heap_with
+    (atom_in 0 (c_of_arity 1) ((1, 0) ∷ []) ∷ atom_in 0 (a_of_arity 3) ((0, 0) ∷ (2, 0) ∷ (2, 1) ∷ []) ∷ atom_in 0 (b_of_arity 2) ((1, 1) ∷ (1, 2) ∷ []) ∷ [])
     (membrane_at top (0 ∷ 1 ∷ 2 ∷ []) [] [] ∷ [])
 
-abbrev pub crossed : Heap
-crossed = heap_of
-    (atom_in 0 (c 1) ((1, 0) ∷ []) ∷ atom_in 0 (a 3) ((0, 0) ∷ (2, 1) ∷ (2, 0) ∷ []) ∷ atom_in 0 (b 2) ((1, 2) ∷ (1, 1) ∷ []) ∷ [])
+abbrev pub crossed_heap : Heap
+crossed_heap = heap_with
+    (atom_in 0 (c_of_arity 1) ((1, 0) ∷ []) ∷ atom_in 0 (a_of_arity 3) ((0, 0) ∷ (2, 1) ∷ (2, 0) ∷ []) ∷ atom_in 0 (b_of_arity 2) ((1, 2) ∷ (1, 1) ∷ []) ∷ [])
     (membrane_at top (0 ∷ 1 ∷ 2 ∷ []) [] [] ∷ [])
 
--- The part behind `c` is the same graph as itself, and not as the one that joins other ports.
-abbrev pub PortsAreTold : Type 0
-PortsAreTold =
-    SameGraph (atom_map straight) (1, 0) (atom_map straight) (1, 0)
-    × (¬ (SameGraph (atom_map straight) (1, 0) (atom_map crossed) (1, 0)))
+-- The part behind `c_of_arity` is the same graph as itself, and not as the one that joins other ports.
+abbrev pub HeapPortsAreTold : Type 0
+HeapPortsAreTold =
+    SameGraph (atom_map straight_heap) (1, 0) (atom_map straight_heap) (1, 0)
+    × (¬ (SameGraph (atom_map straight_heap) (1, 0) (atom_map crossed_heap) (1, 0)))

@@ -1,7 +1,7 @@
 //! Small heads in small heaps, worked out: each the contract of an empty function.
 
 ghost use Rattle.lmn_solid.specs.Examples.{LinksJoin, LinksLeave, ContextsTakeTheRest};
-ghost use Rattle.lmn_solid.specs.Examples.{PartsHaveNoImage, GuardsAskParts, PortsAreTold};
+ghost use Rattle.lmn_solid.specs.Examples.{PartsHaveNoImage, GuardsAskParts, HeapPortsAreTold};
 
 /// `a(X), b(X)` lies in itself, and not in `a(X), b(Y), c(X,Y)`.
 #[tactic(auto, using(crate::proofs::ExampleLinks::links_join))]
@@ -36,5 +36,5 @@ pub fn guards_ask_parts()
 /// Two parts that join other ports are two rooted graphs.
 #[tactic(auto, using(crate::proofs::ExampleParts::ports_are_told))]
 pub fn ports_are_told()
-    ensures { PortsAreTold }
+    ensures { HeapPortsAreTold }
 {}

@@ -5,14 +5,14 @@ use Rattle.std.specs.Prelude.{sum}
 use Rattle.std.specs.Option.{option_map}
 use Rattle.lmn_heap.specs.Lists.{In, Distinct}
 use Rattle.lmn_heap.specs.Heap.{HeapAtom, HeapMem, Place, within, atoms_in, rules_in, spare_of, IsMem, spare_by, rules_by}
-use Rattle.lmn_heap.specs.Sound.{AtMost, Settled, Forest, IsTree, flat, items_in}
+use Rattle.lmn_heap.specs.Sound.{AtMost, AllInPlace, Forest, IsTree, flat, item_count_in}
 use Rattle.lmn_heap.proofs.ListLemmas.{each_in, in_left, in_right}
 use Rattle.lmn_heap.proofs.Depths.{both_distinct}
 use Rattle.lmn_heap.proofs.Trees.{in_either, is_mem}
 use Rattle.lmn_lists.specs.Lines.{list_at}
-use Rattle.lmn_store.specs.Cells.{atoms_of, mems_of, with_lists, place_by}
+use Rattle.lmn_store.specs.Cells.{atoms_in_cells, mems_in_cells, with_lists, place_by}
 use Rattle.lmn_store.specs.Census.{weight, total}
-use Rattle.lmn_store.specs.Kept.{Kept, Holds, BOUND, heap_of, one, with_rules}
+use Rattle.lmn_store.specs.Kept.{Kept, AlwaysHolds, BOUND, heap_of, one, with_rules}
 use Rattle.lmn_store.proofs.Files.{place_mem}
 use Rattle.lmn_store.proofs.CensusLemmas.{total_two, census_less}
 use Rattle.lmn_store.proofs.BuiltLemmas.{built_rules}
@@ -59,12 +59,12 @@ abbrev gather : (ℕ → List ℕ) → List ℕ → List ℕ
 gather L [] = []
 gather L (t ∷ ts) = L (t + 2) ++ gather L ts
 
-module _ (k : Kept) (n m s : ℕ) (h : Holds k n m s) where
+module _ (k : Kept) (n m s : ℕ) (h : AlwaysHolds k n m s) where
   abbrev A : ℕ → Option HeapAtom
-  A = atoms_of k.atoms
+  A = atoms_in_cells k.atoms
 
   abbrev B : ℕ → Option HeapMem
-  B = mems_of k.mems
+  B = mems_in_cells k.mems
 
   abbrev L : ℕ → List ℕ
   L = list_at k.atom_lists
@@ -142,7 +142,7 @@ module _ (k : Kept) (n m s : ℕ) (h : Holds k n m s) where
       let a = length-append (L (t + 2)) (gather L ts) in
       omega arith
 
-  items_split : (ts : List ℕ) → items_in (heap_of k) ts ≡ length ts + sum (map (λ t. length (rules_in (heap_of k) t)) ts) + sum (map (λ t. length (atoms_in (heap_of k) t)) ts)
+  items_split : (ts : List ℕ) → item_count_in (heap_of k) ts ≡ length ts + sum (map (λ t. length (rules_in (heap_of k) t)) ts) + sum (map (λ t. length (atoms_in (heap_of k) t)) ts)
   items_split [] = refl
   items_split (t ∷ ts) =
       let r = items_split ts in
@@ -151,7 +151,7 @@ module _ (k : Kept) (n m s : ℕ) (h : Holds k n m s) where
       let c = sum_cons (λ t. length (atoms_in (heap_of k) t)) t ts in
       omega arith
 
-  pub items_are : Settled (heap_of k) → (f : Forest) → IsTree (heap_of k) f → n + m ≡ items_in (heap_of k) (flat f)
+  pub items_are : AllInPlace (heap_of k) → (f : Forest) → IsTree (heap_of k) f → n + m ≡ item_count_in (heap_of k) (flat f)
   items_are settled f t =
       let ac = h.counts.atom_census in
       let mc = h.counts.mem_census in

@@ -3,27 +3,27 @@ use Rattle.std.proofs.Common.{◌≡◌, ◌⊎◌, ℕ, [], Option, Some, None,
 use Rattle.std.specs.Option.{option_map, option_and_then}
 use Rattle.lmn_heap.specs.Lists.{In}
 use Rattle.lmn_heap.specs.Heap.{HeapAtom, HeapMem, Place, top, within, waiting, gone, home_by, IsMem, parent_of}
-use Rattle.lmn_heap.specs.Sound.{Settled}
+use Rattle.lmn_heap.specs.Sound.{AllInPlace}
 use Rattle.lmn_heap.specs.Conditions.{Alone}
 use Rattle.lmn_lists.specs.Lines.{list_at}
-use Rattle.lmn_store.specs.Cells.{atoms_of, mems_of}
-use Rattle.lmn_store.specs.Kept.{Kept, Holds, heap_of, mem_place_in}
+use Rattle.lmn_store.specs.Cells.{atoms_in_cells, mems_in_cells}
+use Rattle.lmn_store.specs.Kept.{Kept, AlwaysHolds, heap_of, mem_place_in}
 use Rattle.lmn_store.proofs.BuiltLemmas.{built_mem_place, built_parent}
 use Rattle.lmn_store.proofs.HoldsLemmas.{mem_is}
 
-module _ (k : Kept) (n m s : ℕ) (h : Holds k n m s) where
+module _ (k : Kept) (n m s : ℕ) (h : AlwaysHolds k n m s) where
   -- no atom is detached
   pub alone_of : list_at k.atom_lists 0 ≡ [] → Alone (heap_of k)
   alone_of none a i b j e l = absurd (subst (In a) none ((h.fits.atom_files.filed 0 a).1 e))
 
   -- nothing is detached or taken
-  pub settled_of : list_at k.atom_lists 0 ≡ [] → list_at k.atom_lists 1 ≡ [] → list_at k.mem_lists 0 ≡ [] → list_at k.mem_lists 1 ≡ [] → Settled (heap_of k)
+  pub settled_of : list_at k.atom_lists 0 ≡ [] → list_at k.atom_lists 1 ≡ [] → list_at k.mem_lists 0 ≡ [] → list_at k.mem_lists 1 ≡ [] → AllInPlace (heap_of k)
   settled_of a0 a1 m0 m1 = record {
-    atoms = λ a i. atom (atoms_of k.atoms a) i (h.fits.no_top a)
+    atoms = λ a i. atom (atoms_in_cells k.atoms a) i (h.fits.no_top a)
         (λ e. subst (In a) a0 ((h.fits.atom_files.filed 0 a).1 e)) (λ e. subst (In a) a1 ((h.fits.atom_files.filed 1 a).1 e));
-    mems = λ t i. subst (λ p. (p ≡ Some top) ⊎ IsSome (parent_of (heap_of k) t)) (sym (built_mem_place (atoms_of k.atoms) (mems_of k.mems) (list_at k.atom_lists) (list_at k.mem_lists) t))
-        (subst (λ p. (mem_place_in (mems_of k.mems) t ≡ Some top) ⊎ IsSome p) (sym (built_parent (atoms_of k.atoms) (mems_of k.mems) (list_at k.atom_lists) (list_at k.mem_lists) t))
-        (mem (mems_of k.mems t) (there t i)
+    mems = λ t i. subst (λ p. (p ≡ Some top) ⊎ IsSome (parent_of (heap_of k) t)) (sym (built_mem_place (atoms_in_cells k.atoms) (mems_in_cells k.mems) (list_at k.atom_lists) (list_at k.mem_lists) t))
+        (subst (λ p. (mem_place_in (mems_in_cells k.mems) t ≡ Some top) ⊎ IsSome p) (sym (built_parent (atoms_in_cells k.atoms) (mems_in_cells k.mems) (list_at k.atom_lists) (list_at k.mem_lists) t))
+        (mem (mems_in_cells k.mems t) (there t i)
         (λ e. subst (In t) m0 ((h.fits.mem_files.filed 0 t).1 e)) (λ e. subst (In t) m1 ((h.fits.mem_files.filed 1 t).1 e))));
   }
     where
@@ -49,5 +49,5 @@ module _ (k : Kept) (n m s : ℕ) (h : Holds k n m s) where
           by waiting w g = absurd (w refl)
           by gone w g = absurd (g refl)
 
-      there : (t : ℕ) → IsMem (heap_of k) t → IsSome (mems_of k.mems t)
+      there : (t : ℕ) → IsMem (heap_of k) t → IsSome (mems_in_cells k.mems t)
       there t i = mem_is k n m s h t i

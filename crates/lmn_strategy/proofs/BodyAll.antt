@@ -1,57 +1,28 @@
 -- The rules of a body, and the registers of the names that a guard binds, item by item.
-use Rattle.std.proofs.Common.{ℕ, suc, ◌≡◌, ◌<◌, ◌≤◌, ◌+◌, Bool, true, false, List, [], ◌∷◌, ◌++◌, map, length, Option, Some, None, refl, sym, subst, arith}
+use Rattle.std.proofs.Common.{ℕ, ◌≡◌, ◌<◌, ◌≤◌, ◌+◌, Bool, true, false, List, [], ◌∷◌, ◌++◌, map, length, Option, Some, None, refl, sym, subst, arith}
 use Rattle.std.specs.Prelude.{Contains, All}
-use Rattle.std.specs.List.{flat_map, AllByRecursion}
+use Rattle.std.specs.List.{AllByRecursion}
 use Rattle.std.proofs.lemmas.List.Elements.{Contains-append_left, Contains-append_right, All-contains}
 use Rattle.lmn_base.specs.declared.functor.Functor.{Functor}
 use Rattle.lmn_base.specs.declared.level.CtxUse.{CtxUse}
 use Rattle.lmn_base.specs.declared.level.Leaf.{Leaf}
 use Rattle.lmn_base.specs.declared.level.Leaf.TheVariants as leaf
 use Rattle.lmn_base.specs.declared.level.Level.{Level}
-use Rattle.lmn_base.specs.declared.level.Level.TheFolds.{fold-roll-Level, ind-Level}
 use Rattle.lmn_base.specs.declared.level.Occ.{Occ}
 use Rattle.lmn_base.specs.declared.refusal.Pos.{Pos}
 use Rattle.lmn_base.specs.Levels.{leaves_of, rules_of}
 use Rattle.lmn_base.specs.Solids.{connector}
 use Rattle.lmn_heap.specs.Functors.{same_functor}
-use Rattle.lmn_solid.proofs.HeadTrees as trees
-use Rattle.lmn_solid.proofs.HeadTrees.{Head, Heads, head, no_head, head_and, head_step, head_at, head_leaves, heads_leaves, same_leaves, size}
+use Rattle.lmn_solid.proofs.HeadTrees.{Head, Heads, head, no_head, head_and, head_at, head_leaves, heads_leaves, same_leaves, size, head_rules, heads_rules, same_rules}
 use Rattle.lmn_body.specs.declared.items.BodyItem.{BodyItem}
 use Rattle.lmn_body.specs.declared.items.BodyItem.TheVariants.{Atom, Connector, Copy, Bound, Membrane, Rest, Rule, Rules}
-use Rattle.lmn_body.specs.Flattening.{BodyNames, atom_item, typed_item, leaf_items, context_items, rule_items, rule_context_items, body_items}
+use Rattle.lmn_body.specs.Flattening.{BodyNames, atom_item, typed_item, body_leaf_items, context_items, body_rule_items, rule_context_items, body_items}
 use Rattle.lmn_compile_body.proofs.BodyTrees.{flat_body, flat_bodies, items_flat}
 use Rattle.lmn_commit.specs.Orders.{atoms_in_body, membranes_in_body, copies_in_body, BoundBelow}
 use Rattle.lmn_strategy.proofs.BodyInstructions.{HasRules}
-
--- ---- the rules of a body
-
-abbrev mutual
-  head_rules : Head → List ℕ
-  head_rules (head leaves hs cs rcs rs) = rs ++ heads_rules hs
-
-  heads_rules : Heads → List ℕ
-  heads_rules no_head = []
-  heads_rules (head_and h hs) = head_rules h ++ heads_rules hs
-
-abbrev SameRules : Level → Type 0
-SameRules l = rules_of l ≡ head_rules (head_at l)
-
-inside_rules : (ls : List ((l : Level) × SameRules l)) → flat_map (λ inner. inner) (map rules_of (map (λ e. e.0) ls)) ≡ heads_rules (trees.heads (map head_at (map (λ e. e.0) ls)))
-inside_rules [] = refl
-inside_rules (e ∷ ls) = λ i. e.1 i ++ inside_rules ls i
-
-same_rules : (l : Level) → rules_of l ≡ head_rules (head_at l)
-same_rules = ind-Level SameRules (λ y z is.
-    let inside = subst (λ l. flat_map (λ inner. inner) (map rules_of l.membranes) ≡ heads_rules (trees.heads (map head_at l.membranes))) is (inside_rules z.membranes) in
-    rw (fold-roll-Level (List ℕ) (λ l. l.rules ++ flat_map (λ inner. inner) l.membranes) y, fold-roll-Level Head head_step y, inside) refl)
+use Rattle.lmn_base.proofs.Lists.{contains_behind as later, contains_first as first}
 
 -- ---- item by item
-
-first : {X : Type 0} (x : X) (xs : List X) → Contains (x ∷ xs) x
-first x xs = (0, omega arith, refl)
-
-later : {X : Type 0} (x : X) (xs : List X) (y : X) → Contains xs y → Contains (x ∷ xs) y
-later x xs y (k, within, e) = (suc k, omega (arith, within), e)
 
 -- the register of each integer has V, and each rule has P
 module _ (V P : ℕ → Type 0) where
@@ -85,7 +56,7 @@ module _ (V P : ℕ → Type 0) where
     of_typed (Some g) i x inside v = tt
     of_typed None i x inside v = v refl
 
-    of_leaves : (inside : ℕ) (ls : List Leaf) → Leaves ls → AllByRecursion OfItem (leaf_items bn inside ls)
+    of_leaves : (inside : ℕ) (ls : List Leaf) → Leaves ls → AllByRecursion OfItem (body_leaf_items bn inside ls)
     of_leaves inside [] v = tt
     of_leaves inside (leaf.Atom f os p ∷ ls) v =
         (of_atom (same_functor f connector) f (map (λ o. o.link) os) inside, of_leaves inside ls (λ n o q c. v n o q (later (leaf.Atom f os p) ls (leaf.Typed n o q) c)))
@@ -98,7 +69,7 @@ module _ (V P : ℕ → Type 0) where
     of_contexts inside [] = tt
     of_contexts inside (u ∷ us) = (tt, of_contexts inside us)
 
-    of_rules : (inside : ℕ) (ks : List ℕ) → ((k : ℕ) → Contains ks k → P k) → AllByRecursion OfItem (rule_items inside ks)
+    of_rules : (inside : ℕ) (ks : List ℕ) → ((k : ℕ) → Contains ks k → P k) → AllByRecursion OfItem (body_rule_items inside ks)
     of_rules inside [] p = tt
     of_rules inside (k ∷ ks) p = (p k (first k ks), of_rules inside ks (λ j w. p j (later k ks j w)))
 
@@ -109,12 +80,12 @@ module _ (V P : ℕ → Type 0) where
     mutual
       of_body : (inside next : ℕ) (hd : Head) → Leaves (head_leaves hd) → ((k : ℕ) → Contains (head_rules hd) k → P k) → AllByRecursion OfItem (flat_body bn inside next hd)
       of_body inside next (head leaves hs cs rcs rs) v p =
-          both (leaf_items bn inside leaves) (flat_bodies bn inside next hs ++ (context_items bn inside cs ++ (rule_items inside rs ++ rule_context_items bn inside rcs)))
+          both (body_leaf_items bn inside leaves) (flat_bodies bn inside next hs ++ (context_items bn inside cs ++ (body_rule_items inside rs ++ rule_context_items bn inside rcs)))
           (of_leaves inside leaves (λ n o q c. v n o q (Contains-append_left leaves (heads_leaves hs) (leaf.Typed n o q) c)))
-          (both (flat_bodies bn inside next hs) (context_items bn inside cs ++ (rule_items inside rs ++ rule_context_items bn inside rcs))
+          (both (flat_bodies bn inside next hs) (context_items bn inside cs ++ (body_rule_items inside rs ++ rule_context_items bn inside rcs))
           (of_bodies inside next hs (λ n o q c. v n o q (Contains-append_right leaves (heads_leaves hs) (leaf.Typed n o q) c)) (λ k w. p k (Contains-append_right rs (heads_rules hs) k w)))
-          (both (context_items bn inside cs) (rule_items inside rs ++ rule_context_items bn inside rcs) (of_contexts inside cs)
-          (both (rule_items inside rs) (rule_context_items bn inside rcs) (of_rules inside rs (λ k w. p k (Contains-append_left rs (heads_rules hs) k w))) (of_rule_contexts inside rcs))))
+          (both (context_items bn inside cs) (body_rule_items inside rs ++ rule_context_items bn inside rcs) (of_contexts inside cs)
+          (both (body_rule_items inside rs) (rule_context_items bn inside rcs) (of_rules inside rs (λ k w. p k (Contains-append_left rs (heads_rules hs) k w))) (of_rule_contexts inside rcs))))
 
       of_bodies : (inside next : ℕ) (hs : Heads) → Leaves (heads_leaves hs) → ((k : ℕ) → Contains (heads_rules hs) k → P k) → AllByRecursion OfItem (flat_bodies bn inside next hs)
       of_bodies inside next no_head v p = tt

@@ -4,7 +4,7 @@ use Rattle.std.specs.List.{AllByRecursion}
 use Rattle.lmn_heap.specs.Heap.{In}
 use Rattle.lmn_solid.specs.declared.items.HeadItem.{HeadItem}
 use Rattle.lmn_solid.specs.Heads.{atoms_of, typed_contexts_of, membranes_of}
-use Rattle.lmn_splice.specs.Classes.{class_of, ends, rising}
+use Rattle.lmn_splice.specs.Classes.{class_of, ends_of_class, rising}
 use Rattle.lmn_splice.specs.Splice as splice
 use Rattle.lmn_instr.specs.declared.instr.AtomPort.{AtomPort}
 use Rattle.lmn_instr.specs.declared.instr.NewPort.{NewPort}
@@ -17,9 +17,9 @@ use Rattle.lmn_body.specs.Items.{new_ports, old_ports, connectors}
 use Rattle.lmn_body.specs.Made.{copies_of}
 use Rattle.lmn_body.specs.Rules.{NestedRule, WellPlaced, IsHeadMembrane}
 use Rattle.lmn_body.proofs.Firing.{rising_below}
-use Rattle.lmn_commit.proofs.Codes.{get_below}
 use Rattle.lmn_machine.specs.Costs.{IsTold}
 use Rattle.lmn_strategy.proofs.KeptRules.{Loads}
+use Rattle.lmn_base.proofs.Lists.{get_below}
 
 all_both : (Q : Instr → Type 0) (xs ys : List Instr) → AllByRecursion Q xs → AllByRecursion Q ys → AllByRecursion Q (xs ++ ys)
 all_both Q [] ys a b = b
@@ -48,7 +48,7 @@ module _ (Q : Instr → Type 0) (head : List HeadItem) (body : List BodyItem) (n
 
   ties : (m : ℕ → ℕ) (news : List (NewPort × ℕ)) (olds : List (AtomPort × ℕ)) (zs : List ℕ) → AllByRecursion Q (links_code m news olds zs)
   ties m news olds [] = tt
-  ties m news olds (z ∷ zs) = all_both Q (link_code (ends m z news) (ends m z olds)) (links_code m news olds zs) (tie (ends m z news) (ends m z olds)) (ties m news olds zs)
+  ties m news olds (z ∷ zs) = all_both Q (link_code (ends_of_class m z news) (ends_of_class m z olds)) (links_code m news olds zs) (tie (ends_of_class m z news) (ends_of_class m z olds)) (ties m news olds zs)
 
   whole_code : AllByRecursion Q (making (length (atoms_of head)) (1 + length (membranes_of head)) 0 body) → AllByRecursion Q (body_code head body n)
   whole_code makes =
@@ -73,7 +73,7 @@ module _ (Q : Instr → Type 0) (head : List HeadItem) (body : List BodyItem) (n
 head_below : (k of : ℕ) → IsHeadMembrane k of → of < 1 + k
 head_below k of w = let e = w.1 in let b = w.2 in omega (arith, e, b)
 
-making_told : (k g a m c : ℕ) (body : List BodyItem) → WellPlaced k m body → ((e : ℕ × ℕ) → splice.In e (copies_of c body) → e.1 < g) → AllByRecursion (IsTold (1 + k) g) (making a m c body)
+making_told : (k g a m c : ℕ) (body : List BodyItem) → WellPlaced k m body → ((e : ℕ × ℕ) → splice.IsOneOf e (copies_of c body) → e.1 < g) → AllByRecursion (IsTold (1 + k) g) (making a m c body)
 making_told k g a m c [] w l = tt
 making_told k g a m c (Atom functor links inside ∷ xs) w l = (tt, making_told k g (a + 1) m c xs w.1 l)
 making_told k g a m c (Connector left right ∷ xs) w l = making_told k g a m c xs w l

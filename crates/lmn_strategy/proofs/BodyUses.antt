@@ -1,9 +1,9 @@
 -- A typed context of the body of an accepted rule is one of the head, or the guard binds its name.
-use Rattle.std.proofs.Common.{ℕ, zero, suc, ◌≡◌, ◌⊎◌, inl, inr, List, [], ◌∷◌, ◌++◌, map, Option, Some, None, refl, sym, ap, subst, arith}
-use Rattle.std.specs.Prelude.{Bool, true, false, ◌==◌, ◌||◌, if◌then◌else◌, Contains, IsSome}
+use Rattle.std.proofs.Common.{ℕ, ◌≡◌, ◌⊎◌, inl, inr, List, [], ◌∷◌, ◌++◌, map, Option, Some, None, refl, sym, subst}
+use Rattle.std.specs.Prelude.{Bool, true, false, ◌==◌, if◌then◌else◌, Contains, IsSome}
 use Rattle.std.specs.List.{flat_map, list_any}
 use Rattle.std.proofs.lemmas.Bool.Decides.{Decides-eqb}
-use Rattle.std.proofs.lemmas.List.Elements.{Contains-append_left, Contains-append_right, Contains-append_cases}
+use Rattle.std.proofs.lemmas.List.Elements.{Contains-append_left, Contains-append_right}
 use Rattle.lmn_base.specs.declared.item.Form.TheVariants as form
 use Rattle.lmn_base.specs.declared.item.FormedUse.{FormedUse}
 use Rattle.lmn_base.specs.declared.item.Item.{Item}
@@ -27,40 +27,11 @@ use Rattle.lmn_solid.proofs.HeadTrees.{Head, Heads, head, no_head, head_and, hea
 use Rattle.lmn_compile_head.specs.Accepted.{head_items}
 use Rattle.lmn_compile_head.specs.Heads.{kind_in}
 use Rattle.lmn_compile_head.proofs.HeadLeaves.{number_of_leaf}
-
-first : {X : Type 0} (x : X) (xs : List X) → Contains (x ∷ xs) x
-first x xs = (0, omega arith, refl)
-
-later : {X : Type 0} (x : X) (xs : List X) (y : X) → Contains xs y → Contains (x ∷ xs) y
-later x xs y (k, within, e) = (suc k, omega (arith, within), e)
-
-abbrev typed_use : ℕ → Pos → FormedUse
-typed_use n p = record { name = n; form = form.Typed; pos = p }
+use Rattle.lmn_compile_head.proofs.HeadUses.{typed_use, leaf_use}
+use Rattle.lmn_base.proofs.Lists.{contains_behind as later, contains_first as first}
+use Rattle.lmn_base.proofs.Truth.{either_true as or_cases}
 
 -- ---- a typed leaf is a use
-
-leaves_use : (ls : List Leaf) (n : ℕ) (o : Occ) (p : Pos) → Contains ls (leaf.Typed n o p) → Contains (map leaf_item ls) (item.Context (typed_use n p))
-leaves_use [] n o p (k, within, e) = absurd (omega (arith, within))
-leaves_use (l ∷ ls) n o p (zero, within, e) = subst (λ i. Contains (i ∷ map leaf_item ls) (item.Context (typed_use n p))) (ap leaf_item (sym e)) (first _ _)
-leaves_use (l ∷ ls) n o p (suc k, within, e) = later (leaf_item l) (map leaf_item ls) _ (leaves_use ls n o p (k, omega (arith, within), e))
-
-mutual
-  leaf_use : (h : Head) (n : ℕ) (o : Occ) (p : Pos) → Contains (head_leaves h) (leaf.Typed n o p) → Contains (head_uses h) (item.Context (typed_use n p))
-  leaf_use (head leaves hs cs rcs rs) n o p c =
-      let own = map leaf_item leaves in
-      let rest = map (used form.Bare) cs ++ (map item.RuleContext rcs ++ map item.Rule rs) in
-      elim (Contains-append_cases leaves (heads_leaves hs) (leaf.Typed n o p) c) [
-        | inl a ↦ Contains-append_left (own ++ rest) (heads_uses hs) (item.Context (typed_use n p)) (Contains-append_left own rest (item.Context (typed_use n p)) (leaves_use leaves n o p a))
-        | inr b ↦ Contains-append_right (own ++ rest) (heads_uses hs) (item.Context (typed_use n p)) (leaf_uses hs n o p b)
-      ]
-
-  leaf_uses : (hs : Heads) (n : ℕ) (o : Occ) (p : Pos) → Contains (heads_leaves hs) (leaf.Typed n o p) → Contains (heads_uses hs) (item.Context (typed_use n p))
-  leaf_uses no_head n o p (k, within, e) = absurd (omega (arith, within))
-  leaf_uses (head_and h hs) n o p c =
-      elim (Contains-append_cases (head_leaves h) (heads_leaves hs) (leaf.Typed n o p) c) [
-        | inl a ↦ Contains-append_left (head_uses h) (heads_uses hs) (item.Context (typed_use n p)) (leaf_use h n o p a)
-        | inr b ↦ Contains-append_right (head_uses h) (heads_uses hs) (item.Context (typed_use n p)) (leaf_uses hs n o p b)
-      ]
 
 leaf_is_use : (l : Level) (n : ℕ) (o : Occ) (p : Pos) → Contains (leaves_of l) (leaf.Typed n o p) → Contains (items_of l) (item.Context (typed_use n p))
 leaf_is_use l n o p c =
@@ -162,10 +133,6 @@ mutual
   ]
 
 -- ---- what is no typed context of the head is bound
-
-or_cases : (a b : Bool) → (a || b) ≡ true → (a ≡ true) ⊎ (b ≡ true)
-or_cases true b e = inl refl
-or_cases false b e = inr e
 
 some_none : (o : Option ℕ) → IsSome o → o ≡ None → ⊥
 some_none None i e = cc

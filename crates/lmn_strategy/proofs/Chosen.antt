@@ -8,18 +8,18 @@ use Rattle.lmn_guards.specs.declared.plan.GuardPlan.{GuardPlan}
 use Rattle.lmn_heap.specs.Heap.{Heap, rules_in}
 use Rattle.lmn_heap.specs.Lists.{In}
 use Rattle.lmn_heap.specs.Sound.{Forest, IsTree, flat}
-use Rattle.lmn_heap.proofs.Trees.{in_either, in_here}
+use Rattle.lmn_heap.proofs.Trees.{in_either}
 use Rattle.lmn_instr.specs.declared.instr.Code.{Code}
-use Rattle.lmn_instr.specs.Running.{Registers, Succeeds}
+use Rattle.lmn_instr.specs.Running.{HeadRegisters, Succeeds}
 use Rattle.lmn_machine.proofs.Besides.{known, known_agrees}
 use Rattle.lmn_matching.specs.AcceptedCode.{AcceptedInOrder}
 use Rattle.lmn_registers.specs.declared.registers.SetRegisters.{SetRegisters}
 use Rattle.lmn_strategy.specs.Compiled.{AreWhole, AreCompiled}
 use Rattle.lmn_strategy.specs.Choosing.{AllInOrder, CodeSucceeds, NoneOf, NoneIn, IsFirstRule, IsFirstIn, HasFound, asked}
-use Rattle.lmn_strategy.proofs.Numbers.{cut_at, get_drop, take_one_more, take_farther, take_no_more, take_whole, root_number}
+use Rattle.lmn_strategy.proofs.Numbers.{get_drop, take_one_more, take_farther, take_no_more, take_whole, root_number}
 
 -- where a code has no success, its rule has none
-pub fails : (h : Heap) (codes : List Code) (m n : ℕ) (code : Code) → slice_get codes n ≡ Some code → ((r : Registers) → Succeeds h code.head m r → ⊥) → CodeSucceeds h codes m n → ⊥
+pub fails : (h : Heap) (codes : List Code) (m n : ℕ) (code : Code) → slice_get codes n ≡ Some code → ((r : HeadRegisters) → Succeeds h code.head m r → ⊥) → CodeSucceeds h codes m n → ⊥
 fails h codes m n code e none s =
     let same : s.code ≡ code = (let u : Some s.code ≡ Some code = sym s.is ∙ e in cc u) in
     none s.registers (subst (λ c. Succeeds h c.head m s.registers) same s.succeeds)
@@ -32,10 +32,6 @@ found_succeeds atom membrane h codes m n g f = record {
   registers = known atom membrane g;
   succeeds = (f.first (known atom membrane g) (known_agrees atom membrane g)).succeeds;
 }
-
--- an element of a list stands in it
-pub get_in : (xs : List ℕ) (i m : ℕ) → slice_get xs i ≡ Some m → In m xs
-get_in xs i m e = let c = cut_at xs i m e in subst (In m) (sym c.is) (in_here m c.before c.rest)
 
 in_one : (n m : ℕ) → In n (m ∷ []) → m ≡ n
 in_one n m (inl e) = e

@@ -1,54 +1,51 @@
 -- From the match of a head to the heap after its body.
-use Rattle.std.proofs.Common.{ℕ, zero, suc, ◌≡◌, ◌<◌, ◌≤◌, ◌+◌, ◌-◌, ◌^◌, List, [], ◌∷◌, length, Option, Some, None, IsSome, refl, sym, ap, subst, ◌∙◌, inl, inr, arith}
+use Rattle.std.proofs.Common.{ℕ, zero, suc, ◌≡◌, ◌<◌, ◌≤◌, ◌+◌, ◌-◌, ◌^◌, List, [], length, Option, Some, None, IsSome, refl, sym, ap, subst, ◌∙◌, inl, inr, arith}
 use Rattle.std.specs.Prelude.{slice_get, min, ◌⊎◌, All}
-use Rattle.std.specs.Option.{option_map, option_and_then}
+use Rattle.std.specs.Option.{option_map}
 use Rattle.std.specs.List.{AllByRecursion}
 use Rattle.std.proofs.lemmas.Option.{slice_get_within}
 use Rattle.std.proofs.Math.Nat.{min-le_left, le-min}
 use Rattle.lmn_base.specs.declared.rule.RuleTree.{RuleTree}
 use Rattle.lmn_base.specs.Levels.{rules_of}
 use Rattle.lmn_guards.specs.declared.plan.GuardPlan.{GuardPlan}
-use Rattle.lmn_heap.specs.Heap.{Heap, HeapMem, Place, top, within, waiting, gone, In, IsMem, IsMemInPlace, StandsAt, home_by, rules_by, rules_in, port_id, mem_with_spare}
+use Rattle.lmn_heap.specs.Heap.{Heap, HeapMem, In, IsMem, rules_by, rules_in, port_id, mem_with_spare, Unmarked}
 use Rattle.lmn_heap.specs.Sound.{Forest, Valid}
 use Rattle.lmn_instr.specs.declared.instr.Code.{Code}
-use Rattle.lmn_instr.specs.Running.{Registers as HeadRegisters, IsFirst, atoms_set}
+use Rattle.lmn_instr.specs.Running.{HeadRegisters, IsFirstSuccess, atoms_set}
 use Rattle.lmn_compile_head.specs.Accepted.{head_items, rule_head_code, AcceptedLeast}
-use Rattle.lmn_compile_body.specs.Accepted.{IsWhole, AcceptedNested, rule_names, rule_body_items}
+use Rattle.lmn_compile_body.specs.Accepted.{IsCompilable, AcceptedNested, rule_body_names, rule_body_items}
 use Rattle.lmn_solid.specs.Heads.{membranes_of}
 use Rattle.lmn_body.specs.Running.{Registers, RunsBody}
 use Rattle.lmn_body.specs.Stopping.{SameButSpares}
 use Rattle.lmn_registers.specs.Agreeing.{Agrees}
 use Rattle.lmn_registers.specs.declared.registers.SetRegisters.{SetRegisters}
 use Rattle.lmn_commit.specs.Matched.{IsPrepared}
-use Rattle.lmn_commit.specs.Preparing.{InOrder, Prepared}
+use Rattle.lmn_commit.specs.Preparing.{BodyInOrder, Prepared}
 use Rattle.lmn_commit.specs.Registers.{HasCopies, AreSized, Grows}
 use Rattle.lmn_commit.specs.Registers as body
 use Rattle.lmn_cost.specs.Laws.{CostIsTold}
 use Rattle.lmn_machine.specs.Costs.{IsTold, Leaves}
-use Rattle.lmn_machine.specs.Searching.{AreAllSet, Unmarked, membranes_set, parts_set, integers_set}
+use Rattle.lmn_machine.specs.Searching.{AreAllSet, membranes_set, parts_set, integers_set}
 use Rattle.lmn_machine.proofs.Besides.{known, known_agrees}
 use Rattle.lmn_strategy.specs.declared.turning.Turn.{Turn}
 use Rattle.lmn_strategy.specs.declared.turning.Turn.TheVariants.{Committed, Irreducible, Full, NoMemory}
 use Rattle.lmn_strategy.specs.Compiled.{IsCompiled}
 use Rattle.lmn_strategy.specs.Choosing.{CanTurn, IsFirstIn, IsFirstRule, HasFound, asked}
-use Rattle.lmn_strategy.specs.Turns.{IsTableCode, IsAnswer, Chooses, IsTurn, BodiesAreReady, CanFire, Fires}
+use Rattle.lmn_strategy.specs.Turns.{IsTableCode, IsAnswer, Chooses, IsTurn, BodiesAreReady, CanFire, AnswersMatch}
 use Rattle.lmn_strategy.proofs.KeptRules.{AllRules, Loads, rules_kept}
 use Rattle.lmn_strategy.proofs.BodyAll.{level_rules}
 use Rattle.lmn_strategy.proofs.BodyInstructions.{code_loads}
+use Rattle.lmn_base.proofs.Lists.{value_or, get_there as there}
+use Rattle.lmn_heap.proofs.Common.{mem_stands}
 
 -- ---- the rule of a code
-
-there : {X : Type 0} (xs : List X) (k : ℕ) → k < length xs → (x : X) × (slice_get xs k ≡ Some x)
-there [] k l = absurd (omega (arith, l))
-there (x ∷ xs) zero l = (x, refl)
-there (x ∷ xs) (suc k) l = there xs k (omega (arith, l))
 
 -- a code is that of a rule of its table, with its plan
 record HasRule (codes : List Code) (t : IsTableCode codes) (n : ℕ) (code : Code) : Type 0 where
   rule : RuleTree
   plan : GuardPlan
   stands : slice_get t.table n ≡ Some rule
-  whole : IsWhole t.table rule plan
+  whole : IsCompilable t.table rule plan
   compiled : IsCompiled rule plan code
 
 has_rule : (codes : List Code) (t : IsTableCode codes) (n : ℕ) (code : Code) → slice_get codes n ≡ Some code → HasRule codes t n code
@@ -66,10 +63,6 @@ has_rule codes t n code e =
 
 -- ---- the registers of a body
 
-abbrev value_or : {A B : Type 0} → (A → B) → B → Option A → B
-value_or f other None = other
-value_or f other (Some a) = f a
-
 -- registers that have the values of those that are set, where the copies have these atoms
 abbrev body_known : {A M : Type 0} → (A → ℕ) → (M → ℕ) → SetRegisters A M → List (List ℕ) → Registers
 body_known atom membrane g copied = record {
@@ -81,7 +74,7 @@ body_known atom membrane g copied = record {
 known_copies : {A M : Type 0} (atom : A → ℕ) (membrane : M → ℕ) (g : SetRegisters A M) (copied : List (List ℕ)) → HasCopies (body_known atom membrane g copied) copied
 known_copies atom membrane g copied k atoms e = ap (λ o. value_or (λ xs. xs) [] o) e
 
-body_agrees : {A M : Type 0} (atom : A → ℕ) (membrane : M → ℕ) (g : SetRegisters A M) (copied : List (List ℕ)) → AreSized g.copies copied → body.Agrees atom membrane g (body_known atom membrane g copied)
+body_agrees : {A M : Type 0} (atom : A → ℕ) (membrane : M → ℕ) (g : SetRegisters A M) (copied : List (List ℕ)) → AreSized g.copies copied → body.AgreesWithCopies atom membrane g (body_known atom membrane g copied)
 body_agrees atom membrane g copied sized =
     let a = known_agrees atom membrane g in
     record {
@@ -108,21 +101,6 @@ agrees_before atom membrane g k grows s a = record {
 
 -- ---- a head is matched
 
-mem_stands : (h : Heap) → Valid h → (m : ℕ) → IsMem h m → IsMemInPlace h m
-mem_stands h v m i = by (h.mems m) (v.settled.mems m i)
-  where
-    home : (p : Place) → IsSome (home_by p) → StandsAt (Some p)
-    home top s = absurd (cc)
-    home (within k) s = tt
-    home waiting s = absurd (cc)
-    home gone s = absurd (cc)
-
-    by : (o : Option HeapMem) → (option_map (λ x. x.place) o ≡ Some top) ⊎ IsSome (option_and_then (λ x. home_by x.place) o) → StandsAt (option_map (λ x. x.place) o)
-    by None (inl e) = absurd (cc)
-    by None (inr s) = absurd (cc)
-    by (Some x) (inl e) = subst StandsAt (sym e) tt
-    by (Some x) (inr s) = home x.place s
-
 -- a membrane in which a rule stands is there
 ruled_mem : (h : Heap) (m i n : ℕ) → slice_get (rules_in h m) i ≡ Some n → IsMem h m
 ruled_mem h m i n e = by (h.mems m) e
@@ -144,8 +122,8 @@ module _ (ready_law : BodiesAreReady) (nested : AcceptedNested) (least : Accepte
       let ready = ready_law t.table r.rule r.plan r.whole code r.compiled in
       let set = subst (λ (c : Code). AreAllSet g c.head) same found.set in
       let placed = mem_stands h can.valid m (ruled_mem h m place n first.stands) in
-      let is_first : (s : HeadRegisters) → Agrees atom membrane g s → IsFirst h (rule_head_code r.rule r.plan) m s =
-      λ s a. subst (λ hd. IsFirst h hd m s) r.compiled.head (subst (λ (c : Code). IsFirst h c.head m s) same (found.first s a)) in
+      let is_first : (s : HeadRegisters) → Agrees atom membrane g s → IsFirstSuccess h (rule_head_code r.rule r.plan) m s =
+      λ s a. subst (λ hd. IsFirstSuccess h hd m s) r.compiled.head (subst (λ (c : Code). IsFirstSuccess h c.head m s) same (found.first s a)) in
       record {
         held = found.held;
         copies = found.copies;
@@ -169,8 +147,8 @@ module _ (ready_law : BodiesAreReady) (nested : AcceptedNested) (least : Accepte
             (cost.some t.table r.rule r.plan h m (record { head = s; copy = λ k. (0, 0); copied = λ k. [] }) (record { whole = r.whole; valid = can.valid; placed = placed; first = is_first s a }));
       }
     where
-      order_as : {A M : Type 0} (g : SetRegisters A M) (code : Code) → AreAllSet g code.head → InOrder (atoms_set code.head) (1 + membranes_set code.head) (parts_set code.head) (integers_set code.head) 0 code.body →
-          InOrder (length g.atoms) (length g.membranes) (length g.parts) (length g.integers) 0 code.body
+      order_as : {A M : Type 0} (g : SetRegisters A M) (code : Code) → AreAllSet g code.head → BodyInOrder (atoms_set code.head) (1 + membranes_set code.head) (parts_set code.head) (integers_set code.head) 0 code.body →
+          BodyInOrder (length g.atoms) (length g.membranes) (length g.parts) (length g.integers) 0 code.body
       order_as g code set o = rw (set.atoms, set.membranes, set.parts, set.integers) o
 
       told_as : {A M : Type 0} (g : SetRegisters A M) (code : Code) → AreAllSet g code.head → AllByRecursion (IsTold (1 + membranes_set code.head) (parts_set code.head)) code.body →
@@ -196,7 +174,7 @@ module _ {A M : Type 0} (atom : A → ℕ) (membrane : M → ℕ) (h : Heap) (g 
   many_left n e c = let l = min-le_left n (2 ^ 64 - 1) in omega (arith, l, e, c)
 
   -- too many items would be left
-  pub fires_full : (h' : Heap) → h' ≡ h → size < cost → Fires atom membrane h g code size Full h'
+  pub fires_full : (h' : Heap) → h' ≡ h → size < cost → AnswersMatch atom membrane h g code size Full h'
   fires_full h' e l =
       let s = body_known atom membrane g [] in
       let a = known_agrees atom membrane g in
@@ -204,7 +182,7 @@ module _ {A M : Type 0} (atom : A → ℕ) (membrane : M → ℕ) (h : Heap) (g 
       record { registers = s; agrees = a; left = n.0; leaves = n.1; answered = (many_left n.0 (left s.head n.0 a n.1) l, e) }
 
   -- there is no memory
-  pub fires_not : (h' : Heap) → size < 2 ^ 64 - 1 → cost ≤ size → SameButSpares h h' → Fires atom membrane h g code size NoMemory h'
+  pub fires_not : (h' : Heap) → size < 2 ^ 64 - 1 → cost ≤ size → SameButSpares h h' → AnswersMatch atom membrane h g code size NoMemory h'
   fires_not h' small l same =
       let s = body_known atom membrane g [] in
       let a = known_agrees atom membrane g in
@@ -217,7 +195,7 @@ module _ {A M : Type 0} (atom : A → ℕ) (membrane : M → ℕ) (h : Heap) (g 
 
   -- it is committed
   pub fires_all : (t h' : Heap) (k : SetRegisters A M) (p : Prepared atom membrane h t g k code.body) → size < 2 ^ 64 - 1 → cost ≤ size →
-      ((q : IsPrepared atom membrane t k code.body) (r : Registers) → body.Agrees atom membrane k r → HasCopies r q.prepared.copied → RunsBody r code.body q.before h') → Fires atom membrane h g code size Committed h'
+      ((q : IsPrepared atom membrane t k code.body) (r : Registers) → body.AgreesWithCopies atom membrane k r → HasCopies r q.prepared.copied → RunsBody r code.body q.before h') → AnswersMatch atom membrane h g code size Committed h'
   fires_all t h' k p small l runs =
       let s = body_known atom membrane k p.copied in
       let a = agrees_before atom membrane g k p.grows s.head (known_agrees atom membrane k) in
@@ -237,7 +215,7 @@ prepared_as atom membrane h h1 t g g1 k code e d p = subst (λ x. Prepared atom 
 -- ---- the turn
 
 module _ {A M : Type 0} (atom : A → ℕ) (membrane : M → ℕ) (h : Heap) (codes : List Code) (m place n size : ℕ) (g : SetRegisters A M) (found : HasFound atom membrane h codes m n g) (code : Code) (is : slice_get codes n ≡ Some code) where
-  chooses : (f : Forest) (from : ℕ) → IsFirstIn h codes (asked from f) m place n → (answer : Turn) (h' : Heap) → Fires atom membrane h g code size answer h' → Chooses h codes (asked from f) size answer h'
+  chooses : (f : Forest) (from : ℕ) → IsFirstIn h codes (asked from f) m place n → (answer : Turn) (h' : Heap) → AnswersMatch atom membrane h g code size answer h' → Chooses h codes (asked from f) size answer h'
   chooses f from first answer h' fires = record {
     membrane = m;
     place = place;
@@ -246,14 +224,14 @@ module _ {A M : Type 0} (atom : A → ℕ) (membrane : M → ℕ) (h : Heap) (co
     code = code;
     is = is;
     registers = fires.registers;
-    first = subst (λ (c : Code). IsFirst h c.head m fires.registers.head) (one_code codes n found.code code found.is is) (found.first fires.registers.head fires.agrees);
+    first = subst (λ (c : Code). IsFirstSuccess h c.head m fires.registers.head) (one_code codes n found.code code found.is is) (found.first fires.registers.head fires.agrees);
     left = fires.left;
     leaves = fires.leaves;
     answered = fires.answered;
   }
 
   -- what fires is a turn
-  pub turned : (f : Forest) (from : ℕ) → IsFirstIn h codes (asked from f) m place n → (answer : Turn) (h' : Heap) → Fires atom membrane h g code size answer h' → IsTurn h codes f from size answer h'
+  pub turned : (f : Forest) (from : ℕ) → IsFirstIn h codes (asked from f) m place n → (answer : Turn) (h' : Heap) → AnswersMatch atom membrane h g code size answer h' → IsTurn h codes f from size answer h'
   turned f from first Committed h' fires = chooses f from first Committed h' fires
   turned f from first Irreducible h' fires = absurd fires.answered
   turned f from first Full h' fires = chooses f from first Full h' fires
@@ -271,7 +249,7 @@ module _ {A M : Type 0} (atom : A → ℕ) (membrane : M → ℕ) (h : Heap) (co
   rules_again P s left NoMemory h' loads answered all = λ x k i. let w = answered.1.mems x in all x k (same_rules w.0 (h.mems x) (h'.mems x) w.1 k i)
 
   -- and the next turn can be made
-  pub can_again : (t : IsTableCode codes) → CanTurn h (length codes) → (answer : Turn) (h' : Heap) → Fires atom membrane h g code size answer h' → Valid h' → Unmarked h' → CanTurn h' (length codes)
+  pub can_again : (t : IsTableCode codes) → CanTurn h (length codes) → (answer : Turn) (h' : Heap) → AnswersMatch atom membrane h g code size answer h' → Valid h' → Unmarked h' → CanTurn h' (length codes)
   can_again t can answer h' fires valid unmarked =
       let r = has_rule codes t n code is in
       let P : ℕ → Type 0 = λ j. j < length codes in
@@ -279,7 +257,7 @@ module _ {A M : Type 0} (atom : A → ℕ) (membrane : M → ℕ) (h : Heap) (co
       let inner = subst (λ k. All (λ j. j < k) (rules_of r.rule.body)) (sym few) (t.inner n r.rule r.stands) in
       let items = head_items r.rule r.plan in
       let loads = subst (AllByRecursion (Loads P)) (sym r.compiled.body)
-      (code_loads P items (rule_body_items r.rule r.plan) (length r.rule.links) (level_rules (rule_names r.rule r.plan) P (length (membranes_of items)) r.rule.body inner)) in
+      (code_loads P items (rule_body_items r.rule r.plan) (length r.rule.links) (level_rules (rule_body_names r.rule r.plan) P (length (membranes_of items)) r.rule.body inner)) in
       record {
         valid = valid;
         unmarked = unmarked;

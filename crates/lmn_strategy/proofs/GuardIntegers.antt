@@ -17,23 +17,14 @@ use Rattle.lmn_solid.specs.declared.items.HeadItem.{HeadItem}
 use Rattle.lmn_solid.specs.Heads.{HeadTyped, typed_contexts_of, membranes_of}
 use Rattle.lmn_solid.specs.Guards.{typed_number, context_alone}
 use Rattle.lmn_instr.specs.declared.instr.Instr.{Instr}
-use Rattle.lmn_instr.specs.declared.instr.Instr.TheVariants.{GetInt, Const, Add, Sub, Mul, Div, Mod, Commit}
-use Rattle.lmn_instr.specs.HeadCode.{Computed, operation, named_code, value_code, comparison, part_named, equal_code, differ_parts_code, bind_register, guard_code, head_code, items_code, parts_code, all_filled_code}
-use Rattle.lmn_compile_head.specs.Heads.{Uses, EqualAllowed, IsGuard}
+use Rattle.lmn_instr.specs.declared.instr.Instr.TheVariants.{Add, Sub, Mul, Div, Mod, Commit}
+use Rattle.lmn_instr.specs.HeadCode.{Computed, operator_instruction, named_code, value_code, comparison, part_named, equal_code, differ_parts_code, bind_register, guard_code, head_code, items_code, parts_code, all_filled_code}
+use Rattle.lmn_compile_head.specs.Heads.{UsesKnown, EqualAllowed, IsGuard}
 use Rattle.lmn_compile_body.specs.Naming.{equal_registers, guard_registers}
 use Rattle.lmn_machine.specs.Searching.{integers_set}
+use Rattle.lmn_machine.proofs.Stepping.{integers_more as one_more}
 
 -- ---- how many integers code sets
-
-one_more : (i : Instr) (is : List Instr) → integers_set (i ∷ is) ≡ integers_set (i ∷ []) + integers_set is
-one_more (GetInt v g) is = omega arith
-one_more (Const v z) is = omega arith
-one_more (Add v w x) is = omega arith
-one_more (Sub v w x) is = omega arith
-one_more (Mul v w x) is = omega arith
-one_more (Div v w x) is = omega arith
-one_more (Mod v w x) is = omega arith
-one_more _ is = omega arith
 
 integers_both : (xs ys : List Instr) → integers_set (xs ++ ys) ≡ integers_set xs + integers_set ys
 integers_both [] ys = omega arith
@@ -43,7 +34,7 @@ integers_both (x ∷ xs) ys =
     let c = integers_both xs ys in
     omega (arith, a, b, c)
 
-operation_sets : (o : Arith) (v w x : ℕ) → integers_set (operation o v w x ∷ []) ≡ 1
+operation_sets : (o : Arith) (v w x : ℕ) → integers_set (operator_instruction o v w x ∷ []) ≡ 1
 operation_sets op.Add v w x = refl
 operation_sets op.Sub v w x = refl
 operation_sets op.Mul v w x = refl
@@ -76,7 +67,7 @@ module _ (part : ℕ → Option ℕ) (bound : ℕ → ℕ) (known : List ℕ) wh
   named_in x None v (inr u) below = record { next = omega arith; at = below x u }
   named_in x (Some g) v u below = record { next = omega arith; at = omega arith }
 
-  value_in : (e : Expr) (v : ℕ) → Uses part known e → ((y : ℕ) → In y known → bound y < v) → IsIn v (value_code part bound e v)
+  value_in : (e : Expr) (v : ℕ) → UsesKnown part known e → ((y : ℕ) → In y known → bound y < v) → IsIn v (value_code part bound e v)
   value_in (expr.Int z) v u below = record { next = omega arith; at = omega arith }
   value_in (expr.Ctx x) v u below = named_in x.name (part x.name) v u below
   value_in (expr.Op' o p left q right) v u below =
@@ -87,8 +78,8 @@ module _ (part : ℕ → Option ℕ) (bound : ℕ → ℕ) (known : List ℕ) wh
       let b = value_in right ca.next u.1 (λ y s. let l = below y s in omega (arith, l, an)) in
       let bn = b.next in
       let last = operation_sets o cb.next ca.at cb.at in
-      let c = integers_both ca.code (cb.code ++ (operation o cb.next ca.at cb.at ∷ [])) in
-      let d = integers_both cb.code (operation o cb.next ca.at cb.at ∷ []) in
+      let c = integers_both ca.code (cb.code ++ (operator_instruction o cb.next ca.at cb.at ∷ [])) in
+      let d = integers_both cb.code (operator_instruction o cb.next ca.at cb.at ∷ []) in
       record { next = omega (arith, an, bn, last, c, d); at = omega arith }
 
 -- ---- the registers of names
@@ -156,7 +147,7 @@ module _ (ts : List HeadTyped) (x : ℕ) (none : typed_number ts 0 x ≡ None) w
       let c = value_code part bound right v in
       let next_code = guard_code part (bind_register bound left.name c.at) c.next cs in
       equal_in (part left.name) (part_named part (context_alone right)) c next_code (guard_code part bound v cs) (guard_registers part (bind_register bound left.name c.at) c.next cs) (guard_registers part bound v cs) v
-      (Uses part known right) (IsGuard ts (left.name ∷ known) cs) (IsGuard ts known cs) is
+      (UsesKnown part known right) (IsGuard ts (left.name ∷ known) cs) (IsGuard ts known cs) is
       (λ p uses later. (let i = value_in part bound known right v uses below in
       let n = i.next in
       let l = register_in cs c.next (left.name ∷ known) (bind_register bound left.name c.at) later

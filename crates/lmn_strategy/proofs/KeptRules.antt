@@ -4,15 +4,15 @@ use Rattle.std.specs.Prelude.{◌==◌, ◌&&◌}
 use Rattle.std.specs.Option.{option_map, option_and_then}
 use Rattle.std.specs.List.{AllByRecursion}
 use Rattle.lmn_heap.specs.Heap as heap
-use Rattle.lmn_heap.specs.Heap.{Heap, HeapMem, Place, top, within, waiting, gone, In, alter, rules_by, rules_in, atoms_in, mems_in, home_of, parent_of, link_of, mem_with_place, mem_with_atoms, mem_with_mems, mem_with_spare, mem_with_rules, new_mem, mem_unless_gone, placed, atom_out, mem_out, taken, mem_sent, emptied, filled, joined, without}
+use Rattle.lmn_heap.specs.Heap.{Heap, HeapMem, Place, top, within, waiting, gone, In, alter, rules_by, rules_in, atoms_in, mems_in, home_of, parent_of, link_of, mem_with_place, mem_with_atoms, mem_with_mems, mem_with_spare, mem_with_rules, new_mem, mem_unless_gone, placed, atom_out, mem_out, taken, mem_sent, emptied, filled, joined, without, taken_all}
 use Rattle.lmn_heap.specs.Splice.{joined_to, joined_both}
 use Rattle.lmn_heap.proofs.Trees.{in_either}
-use Rattle.lmn_splice.specs.Ports.{Port}
 use Rattle.lmn_splice.specs.Ties.{Tie, newlink, relink, unify}
 use Rattle.lmn_instr.specs.declared.instr.Instr.{Instr}
 use Rattle.lmn_instr.specs.declared.instr.Instr.TheVariants.{RemoveAtom, RemovePart, RemoveMem, NewAtom, NewInt, NewMem, CopyGround, MoveCells, LoadRule, CopyRules, NewLink, Relink, Unify, Proceed}
-use Rattle.lmn_body.specs.Running.{Registers, Prepares, Commits, RunsBody, Makes, Does, all_taken, all_placed, new_port, old_port}
+use Rattle.lmn_body.specs.Running.{Registers, Prepares, DoesAll, RunsBody, Makes, Does, all_placed, new_port, old_port}
 use Rattle.lmn_body.specs.Tied.{tied}
+use Rattle.lmn_base.specs.Graphs.{Port}
 
 module _ (P : ℕ → Type 0) where
   -- each rule of each membrane is one of these
@@ -47,7 +47,7 @@ module _ (P : ℕ → Type 0) where
   mem_leaves mems None n all = all
   mem_leaves mems (Some m) n all = altered mems m (mem_with_mems (without n)) (λ y r. r) all
 
-  atoms_leave : (ns : List ℕ) (s : Heap) → AllRules s.mems → AllRules (all_taken s ns).mems
+  atoms_leave : (ns : List ℕ) (s : Heap) → AllRules s.mems → AllRules (taken_all s ns).mems
   atoms_leave [] s all = all
   atoms_leave (a ∷ ns) s all = atoms_leave ns (taken s a) (atom_leaves s.mems (home_of s a) a all)
 
@@ -155,7 +155,7 @@ module _ (P : ℕ → Type 0) where
   prepares r [] s t w all = at s t w all
   prepares r (i ∷ is) s t w all = prepares r is w.0 t w.2 (makes r i s w.0 w.1 all)
 
-  commits : (r : Registers) (is : List Instr) (s t : Heap) → AllByRecursion Loads is → Commits r is s t → AllRules s.mems → AllRules t.mems
+  commits : (r : Registers) (is : List Instr) (s t : Heap) → AllByRecursion Loads is → DoesAll r is s t → AllRules s.mems → AllRules t.mems
   commits r [] s t l w all = at s t w all
   commits r (i ∷ is) s t l w all = commits r is w.0 t l.1 w.2 (does r i s w.0 l.0 w.1 all)
 

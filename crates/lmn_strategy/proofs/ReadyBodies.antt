@@ -1,24 +1,17 @@
 -- The body of an accepted rule can be prepared after its head has set its registers.
-use Rattle.std.proofs.Common.{ℕ, ◌≡◌, ◌≤◌, ◌+◌, List, length, refl, sym, subst, arith}
-use Rattle.std.specs.Prelude.{Bool, true, false, ◌||◌, nat_lt}
+use Rattle.std.proofs.Common.{ℕ, ◌≡◌, ◌+◌, List, length, sym, subst, arith}
 use Rattle.std.specs.List.{AllByRecursion}
-use Rattle.std.proofs.lemmas.Bool.Decides.{nat_tests}
-use Rattle.lmn_base.specs.declared.rule.RuleTree.{RuleTree}
-use Rattle.lmn_base.specs.Items.{number_of_items}
-use Rattle.lmn_base.specs.RuleCodes.{too_large, is_too_large}
-use Rattle.lmn_guards.specs.declared.plan.GuardPlan.{GuardPlan}
 use Rattle.lmn_guards.proofs.AcceptedLemmas.{in_order}
-use Rattle.lmn_guards.proofs.OrderLemmas.{not_then}
 use Rattle.lmn_solid.specs.Heads.{atoms_of, typed_contexts_of, membranes_of}
 use Rattle.lmn_instr.specs.declared.instr.Code.{Code}
 use Rattle.lmn_instr.specs.declared.instr.Instr.{Instr}
 use Rattle.lmn_instr.specs.Running.{atoms_set}
 use Rattle.lmn_compile_head.specs.Accepted.{head_items, rule_head_code, AcceptedHeads}
 use Rattle.lmn_compile_head.specs.Heads.{kind_in}
-use Rattle.lmn_compile_body.specs.Accepted.{IsWhole, AcceptedNested, rule_names, rule_body_items, rule_body_code}
-use Rattle.lmn_compile_body.proofs.BodyTrees.{items_few, head_items_few}
+use Rattle.lmn_compile_body.specs.Accepted.{AcceptedNested, rule_body_names, rule_body_items, rule_body_code}
+use Rattle.lmn_compile_body.proofs.BodyTrees.{items_few}
 use Rattle.lmn_commit.specs.Orders.{BodiesAreInOrder}
-use Rattle.lmn_commit.specs.Preparing.{InOrder}
+use Rattle.lmn_commit.specs.Preparing.{BodyInOrder}
 use Rattle.lmn_machine.specs.Searching.{membranes_set, parts_set, integers_set}
 use Rattle.lmn_machine.specs.Costs.{IsTold}
 use Rattle.lmn_matching.specs.AcceptedCode.{AcceptedSetsItems}
@@ -28,35 +21,22 @@ use Rattle.lmn_strategy.proofs.BodyUses.{bound_or_head}
 use Rattle.lmn_strategy.proofs.BodyAll.{level_below, made_few}
 use Rattle.lmn_strategy.proofs.BodyInstructions.{code_told}
 use Rattle.lmn_strategy.proofs.GuardIntegers.{bound_below}
-
-or_none : (a b : Bool) → (a || b) ≡ false → (a ≡ false) × (b ≡ false)
-or_none true b e = absurd (cc)
-or_none false b e = (refl, e)
-
-not_less : (m n : ℕ) → nat_lt m n ≡ false → n ≤ m
-not_less m n e = grind (arith, nat_tests)
-
--- the limits of head and body
-limits : (table : List RuleTree) (r : RuleTree) (plan : GuardPlan) → IsWhole table r plan → (number_of_items r.head ≤ 128) × (number_of_items r.body ≤ 1024)
-limits table r plan whole =
-    let large = not_then (is_too_large r) r.pos (whole.ready.accepted.contexts 0 (too_large r) (omega arith)) in
-    let a = or_none (nat_lt 128 (number_of_items r.head)) _ large in
-    let b = or_none (nat_lt 1024 (number_of_items r.body)) _ a.1 in
-    (not_less 128 (number_of_items r.head) a.0, not_less 1024 (number_of_items r.body) b.0)
+use Rattle.lmn_compile_body.proofs.Accepted.{limits}
+use Rattle.lmn_compile_head.proofs.HeadLeaves.{items_few as head_items_few}
 
 -- so many registers are set by the head
 with_counts : (code : Code) (head body : List Instr) (a m g : ℕ) → code.head ≡ head → code.body ≡ body → atoms_set code.head ≡ a → membranes_set code.head ≡ m → parts_set code.head ≡ g →
-    InOrder a (1 + m) g (integers_set head) 0 body → AllByRecursion (IsTold (1 + m) g) body → IsReadyCode code
+    BodyInOrder a (1 + m) g (integers_set head) 0 body → AllByRecursion (IsTold (1 + m) g) body → IsReadyCode code
 with_counts code head body a m g h b ea em eg order told =
-    let one : InOrder (atoms_set code.head) (1 + m) g (integers_set head) 0 body = subst (λ x. InOrder x (1 + m) g (integers_set head) 0 body) (sym ea) order in
-    let two : InOrder (atoms_set code.head) (1 + membranes_set code.head) g (integers_set head) 0 body = subst (λ x. InOrder (atoms_set code.head) (1 + x) g (integers_set head) 0 body) (sym em) one in
-    let three : InOrder (atoms_set code.head) (1 + membranes_set code.head) (parts_set code.head) (integers_set head) 0 body = subst (λ x. InOrder (atoms_set code.head) (1 + membranes_set code.head) x (integers_set head) 0 body) (sym eg) two in
-    let four : InOrder (atoms_set code.head) (1 + membranes_set code.head) (parts_set code.head) (integers_set code.head) 0 body =
-    subst (λ is. InOrder (atoms_set code.head) (1 + membranes_set code.head) (parts_set code.head) (integers_set is) 0 body) (sym h) three in
+    let one : BodyInOrder (atoms_set code.head) (1 + m) g (integers_set head) 0 body = subst (λ x. BodyInOrder x (1 + m) g (integers_set head) 0 body) (sym ea) order in
+    let two : BodyInOrder (atoms_set code.head) (1 + membranes_set code.head) g (integers_set head) 0 body = subst (λ x. BodyInOrder (atoms_set code.head) (1 + x) g (integers_set head) 0 body) (sym em) one in
+    let three : BodyInOrder (atoms_set code.head) (1 + membranes_set code.head) (parts_set code.head) (integers_set head) 0 body = subst (λ x. BodyInOrder (atoms_set code.head) (1 + membranes_set code.head) x (integers_set head) 0 body) (sym eg) two in
+    let four : BodyInOrder (atoms_set code.head) (1 + membranes_set code.head) (parts_set code.head) (integers_set code.head) 0 body =
+    subst (λ is. BodyInOrder (atoms_set code.head) (1 + membranes_set code.head) (parts_set code.head) (integers_set is) 0 body) (sym h) three in
     let first : AllByRecursion (IsTold (1 + membranes_set code.head) g) body = subst (λ x. AllByRecursion (IsTold (1 + x) g) body) (sym em) told in
     let second : AllByRecursion (IsTold (1 + membranes_set code.head) (parts_set code.head)) body = subst (λ x. AllByRecursion (IsTold (1 + membranes_set code.head) x) body) (sym eg) first in
     record {
-      order = subst (λ is. InOrder (atoms_set code.head) (1 + membranes_set code.head) (parts_set code.head) (integers_set code.head) 0 is) (sym b) four;
+      order = subst (λ is. BodyInOrder (atoms_set code.head) (1 + membranes_set code.head) (parts_set code.head) (integers_set code.head) 0 is) (sym b) four;
       told = subst (λ is. AllByRecursion (IsTold (1 + membranes_set code.head) (parts_set code.head)) is) (sym b) second;
     }
 
@@ -71,13 +51,13 @@ bodies_are_ready heads sets nested bodies table r plan whole code compiled =
     let set = sets code.head table r plan (record { ready = whole.ready; is = compiled.head }) in
     let order = in_order table r whole.ready.accepted in
     let guard = heads.guard table r plan whole.ready in
-    let below = level_below (rule_names r plan) (integers_set (rule_head_code r plan)) k r.body
+    let below = level_below (rule_body_names r plan) (integers_set (rule_head_code r plan)) k r.body
     (λ x o p c none. bound_below items r.guard x guard none (bound_or_head table r plan order x o p c none)) in
     let l = limits table r plan whole in
     let head_few = l.0 in
     let body_few = l.1 in
     let a = head_items_few (kind_in plan.kinds) r.head in
-    let b = items_few (rule_names r plan) k r.body in
+    let b = items_few (rule_body_names r plan) k r.body in
     let c = few_of_each items in
     let d = made_few body in
     with_counts code (rule_head_code r plan) (rule_body_code r plan) (length (atoms_of items)) k (length (typed_contexts_of items)) compiled.head compiled.body set.atoms set.membranes set.parts

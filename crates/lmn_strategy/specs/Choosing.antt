@@ -1,13 +1,13 @@
 -- Which rule the strategy chooses on a heap, by the code of the rules.
 use Rattle.std.specs.Prelude.{ℕ, ◌≡◌, ◌<◌, List, ◌∷◌, ◌++◌, [], Some, slice_get, take, drop}
-use Rattle.lmn_heap.specs.Heap.{Heap, rules_in}
+use Rattle.lmn_heap.specs.Heap.{Heap, rules_in, Unmarked}
 use Rattle.lmn_heap.specs.Lists.{In}
 use Rattle.lmn_heap.specs.Sound.{Forest, Valid, flat}
 use Rattle.lmn_instr.specs.declared.instr.Code.{Code}
-use Rattle.lmn_instr.specs.Running.{Registers, Succeeds, IsFirst}
+use Rattle.lmn_instr.specs.Running.{HeadRegisters, Succeeds, IsFirstSuccess}
 use Rattle.lmn_registers.specs.declared.registers.SetRegisters.{SetRegisters}
 use Rattle.lmn_registers.specs.Agreeing.{Agrees}
-use Rattle.lmn_machine.specs.Searching.{AreAllSet, AreHeld, InOrder, Unmarked}
+use Rattle.lmn_machine.specs.Searching.{AreAllSet, AreHeldWhole, HeadInOrder}
 
 -- What a turn asks of a heap, for a table of so many rules.
 pub record CanTurn (h : Heap) (rules : ℕ) : Type 0 where
@@ -17,13 +17,13 @@ pub record CanTurn (h : Heap) (rules : ℕ) : Type 0 where
 
 -- the machine can run the head of each code
 abbrev pub AllInOrder : List Code → Type 0
-AllInOrder codes = (n : ℕ) (code : Code) → slice_get codes n ≡ Some code → InOrder 0 1 0 0 code.head
+AllInOrder codes = (n : ℕ) (code : Code) → slice_get codes n ≡ Some code → HeadInOrder 0 1 0 0 code.head
 
 -- The code of the head of rule n succeeds in membrane m.
 pub record CodeSucceeds (h : Heap) (codes : List Code) (m n : ℕ) : Type 0 where
   pub code : Code
   pub is : slice_get codes n ≡ Some code
-  pub registers : Registers
+  pub registers : HeadRegisters
   pub succeeds : Succeeds h code.head m registers
 
 -- none of these rules succeeds in membrane m,
@@ -56,7 +56,7 @@ asked from f = drop from (flat f) ++ take from (flat f)
 pub record HasFound {A M : Type 0} (atom : A → ℕ) (membrane : M → ℕ) (h : Heap) (codes : List Code) (m n : ℕ) (g : SetRegisters A M) : Type 0 where
   pub code : Code
   pub is : slice_get codes n ≡ Some code
-  pub held : AreHeld atom membrane h g
+  pub held : AreHeldWhole atom membrane h g
   pub set : AreAllSet g code.head
   pub copies : g.copies ≡ []
-  pub first : (r : Registers) → Agrees atom membrane g r → IsFirst h code.head m r
+  pub first : (r : HeadRegisters) → Agrees atom membrane g r → IsFirstSuccess h code.head m r

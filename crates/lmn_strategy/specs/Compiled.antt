@@ -4,12 +4,12 @@ use Rattle.lmn_base.specs.declared.rule.RuleTree.{RuleTree}
 use Rattle.lmn_guards.specs.declared.plan.GuardPlan.{GuardPlan}
 use Rattle.lmn_instr.specs.declared.instr.Code.{Code}
 use Rattle.lmn_compile_head.specs.Accepted.{rule_head_code}
-use Rattle.lmn_compile_body.specs.Accepted.{IsWhole, rule_body_code}
+use Rattle.lmn_compile_body.specs.Accepted.{IsCompilable, rule_body_code}
 
 -- Each rule of a table has its plan, and is whole with it.
 pub record AreWhole (table : List RuleTree) (plans : List GuardPlan) : Type 0 where
   pub many : length plans ≡ length table
-  pub whole : (k : ℕ) (r : RuleTree) (plan : GuardPlan) → slice_get table k ≡ Some r → slice_get plans k ≡ Some plan → IsWhole table r plan
+  pub whole : (k : ℕ) (r : RuleTree) (plan : GuardPlan) → slice_get table k ≡ Some r → slice_get plans k ≡ Some plan → IsCompilable table r plan
 
 -- the code of a rule with its plan
 pub record IsCompiled (r : RuleTree) (plan : GuardPlan) (code : Code) : Type 0 where

@@ -8,16 +8,16 @@ use Rattle.lmn_heap.specs.Heap.{Heap}
 use Rattle.lmn_heap.specs.Sound.{Forest, flat}
 use Rattle.lmn_instr.specs.declared.instr.Code.{Code}
 use Rattle.lmn_instr.specs.declared.instr.Instr.{Instr}
-use Rattle.lmn_instr.specs.Running.{Registers as HeadRegisters, IsFirst, atoms_set}
-use Rattle.lmn_compile_body.specs.Accepted.{IsWhole}
+use Rattle.lmn_instr.specs.Running.{HeadRegisters, IsFirstSuccess, atoms_set}
+use Rattle.lmn_compile_body.specs.Accepted.{IsCompilable}
 use Rattle.lmn_body.specs.Running.{Registers, RunsBody}
 use Rattle.lmn_body.specs.Stopping.{SameButSpares}
 use Rattle.lmn_registers.specs.Agreeing.{Agrees}
 use Rattle.lmn_registers.specs.declared.registers.SetRegisters.{SetRegisters}
 use Rattle.lmn_commit.specs.Matched.{IsMatched}
-use Rattle.lmn_commit.specs.Preparing.{InOrder}
+use Rattle.lmn_commit.specs.Preparing.{BodyInOrder}
 use Rattle.lmn_machine.specs.Costs.{IsTold, Leaves}
-use Rattle.lmn_machine.specs.Searching.{AreHeld, membranes_set, parts_set, integers_set}
+use Rattle.lmn_machine.specs.Searching.{AreHeldWhole, membranes_set, parts_set, integers_set}
 use Rattle.lmn_strategy.specs.declared.turning.Turn.{Turn}
 use Rattle.lmn_strategy.specs.declared.turning.Turn.TheVariants.{Committed, Irreducible, Full, NoMemory}
 use Rattle.lmn_strategy.specs.Compiled.{AreWhole, IsCompiled, AreCompiled}
@@ -49,7 +49,7 @@ pub record Chooses (h : Heap) (codes : List Code) (ms : List ℕ) (size : ℕ) (
   pub code : Code
   pub is : slice_get codes rule ≡ Some code
   pub registers : Registers
-  pub first : IsFirst h code.head membrane registers.head
+  pub first : IsFirstSuccess h code.head membrane registers.head
   pub left : ℕ
   pub leaves : Leaves h registers.head code.body left
   pub answered : IsAnswer h registers code.body left size answer h'
@@ -63,24 +63,24 @@ IsTurn h codes f from size NoMemory h' = Chooses h codes (asked from f) size NoM
 
 -- After its head the body of a code can be prepared, and what is read to tell its cost is set.
 pub record IsReadyCode (code : Code) : Type 0 where
-  pub order : InOrder (atoms_set code.head) (1 + membranes_set code.head) (parts_set code.head) (integers_set code.head) 0 code.body
+  pub order : BodyInOrder (atoms_set code.head) (1 + membranes_set code.head) (parts_set code.head) (integers_set code.head) 0 code.body
   pub told : AllByRecursion (IsTold (1 + membranes_set code.head) (parts_set code.head)) code.body
 
 -- So it is with the code of each accepted rule.
 abbrev pub BodiesAreReady : Type 0
-BodiesAreReady = (table : List RuleTree) (r : RuleTree) (plan : GuardPlan) → IsWhole table r plan → (code : Code) → IsCompiled r plan code → IsReadyCode code
+BodiesAreReady = (table : List RuleTree) (r : RuleTree) (plan : GuardPlan) → IsCompilable table r plan → (code : Code) → IsCompiled r plan code → IsReadyCode code
 
 -- The registers hold a match of the head of a code, and its body can be prepared and committed.
 pub record CanFire {A M : Type 0} (atom : A → ℕ) (membrane : M → ℕ) (h : Heap) (g : SetRegisters A M) (code : Code) : Type 0 where
-  pub held : AreHeld atom membrane h g
+  pub held : AreHeldWhole atom membrane h g
   pub copies : g.copies ≡ []
-  pub order : InOrder (length g.atoms) (length g.membranes) (length g.parts) (length g.integers) 0 code.body
+  pub order : BodyInOrder (length g.atoms) (length g.membranes) (length g.parts) (length g.integers) 0 code.body
   pub told : AllByRecursion (IsTold (length g.membranes) (length g.parts)) code.body
   pub matched : IsMatched atom membrane h g code.body
   pub some : (s : HeadRegisters) → Agrees atom membrane g s → (n : ℕ) × Leaves h s code.body n
 
 -- The answer to a match that the registers hold, for registers that have the values of those that are set.
-pub record Fires {A M : Type 0} (atom : A → ℕ) (membrane : M → ℕ) (h : Heap) (g : SetRegisters A M) (code : Code) (size : ℕ) (answer : Turn) (h' : Heap) : Type 0 where
+pub record AnswersMatch {A M : Type 0} (atom : A → ℕ) (membrane : M → ℕ) (h : Heap) (g : SetRegisters A M) (code : Code) (size : ℕ) (answer : Turn) (h' : Heap) : Type 0 where
   pub registers : Registers
   pub agrees : Agrees atom membrane g registers.head
   pub left : ℕ

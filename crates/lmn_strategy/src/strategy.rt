@@ -1,5 +1,5 @@
 //! The search of the strategy: the first membrane that is asked and has a rule that succeeds, and its first such rule.
-ghost use Rattle.std.specs.Prelude.{◌≡◌, ◌<◌, List, IsTrue, IsFalse, IfSome, MatchOption, length, take, drop, Some};
+ghost use Rattle.std.specs.Prelude.{◌≡◌, ◌<◌, List, IsTrue, IsFalse, IfSome, MatchOption, length, take, drop};
 ghost use Rattle.lmn_heap.specs.Heap.{IsMem, rules_in};
 ghost use Rattle.lmn_heap.specs.Sound.{Forest, IsTree, flat};
 ghost use Rattle.lmn_base.specs.declared.rule.RuleTree.{RuleTree};

@@ -1,9 +1,9 @@
 //! One turn: what the strategy chooses is prepared and committed, where the store may have that many items.
 ghost use Rattle.std.specs.Prelude.{◌≡◌, ◌<◌, ◌-◌, ◌^◌, length};
 ghost use Rattle.lmn_heap.specs.Sound.{Forest, IsTree, Valid, flat};
-ghost use Rattle.lmn_machine.specs.Searching.{Unmarked};
 ghost use Rattle.lmn_strategy.specs.Choosing.{CanTurn};
-ghost use Rattle.lmn_strategy.specs.Turns.{CanFire, Fires, IsTableCode, IsTurn};
+ghost use Rattle.lmn_strategy.specs.Turns.{CanFire, AnswersMatch, IsTableCode, IsTurn};
+ghost use Rattle.lmn_heap.specs.Heap.{Unmarked};
 
 use crate::ready::bodies_are_ready;
 use crate::strategy::search;
@@ -33,7 +33,7 @@ pub enum Turn {
 fn fire<S: LinkStore>(alloc: Global, machine: &mut Machine<S>, code: &Code, size: u64) -> Turn
     requires fire { CanFire S.atom_id S.mem_id (S.heap machine.old.store) machine.old.set code.now }
     requires size { size < 2 ^ 64 - 1 }
-    ensures fires { Fires S.atom_id S.mem_id (S.heap machine.old.store) machine.old.set code.now size result (S.heap machine.new.store) }
+    ensures fires { AnswersMatch S.atom_id S.mem_id (S.heap machine.old.store) machine.old.set code.now size result (S.heap machine.new.store) }
     ensures valid { Valid (S.heap machine.new.store) }
     ensures unmarked { Unmarked (S.heap machine.new.store) }
 {

@@ -7,7 +7,7 @@ use Rattle.lmn_body.specs.declared.items.BodyItem.TheVariants.{Atom, Connector, 
 use Rattle.lmn_body.specs.Running.{Registers}
 use Rattle.lmn_body.specs.Added.{added_mems, added_rules}
 use Rattle.lmn_body.specs.Within.{added_with_copies}
-use Rattle.lmn_body.proofs.Below.{not_eq}
+use Rattle.lmn_base.proofs.Numbers.{not_equal as not_eq}
 
 -- the membrane of a register
 abbrev pub at : Registers → ℕ → ℕ

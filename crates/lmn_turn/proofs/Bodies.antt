@@ -16,21 +16,20 @@ use Rattle.lmn_congruence.specs.Plains.{fused_leaves, fused_levels}
 use Rattle.lmn_congruence.specs.Regions as region
 use Rattle.lmn_congruence.specs.Rules as tree
 use Rattle.lmn_congruence.specs.Same.{renamed_atom}
-use Rattle.lmn_congruence.specs.Translation.{name_of, names_of, atom_of, label_of, leaf_of, levels, solid_atom_of}
+use Rattle.lmn_congruence.specs.Translation.{name_of, names_of, atom_or_connector, label_of, leaf_of, levels, solid_atom_of}
 use Rattle.lmn_reduction.specs.Parts.{Rooted, IsInteger, an_integer}
 use Rattle.lmn_adequacy.specs.Embedding.{IsPart}
 use Rattle.lmn_congruence.specs.Links.{places}
-use Rattle.lmn_congruence.proofs.Counts.{none_if_apart, one_if_equal, same_or_not}
-use Rattle.lmn_adequacy.specs.Next.{Contents, DepthFirst, reaches_listed, reaches_new, reaches_none, made_atoms, kept_atoms, kept_membranes, context_atoms, context_membranes, context_rules, links_at, of_rule, of_solid}
+use Rattle.lmn_congruence.proofs.Counts.{none_if_apart, one_if_equal}
+use Rattle.lmn_adequacy.specs.Next.{Contents, DepthFirst, reaches_listed, reaches_new, reaches_none, part_leaves, kept_atoms, kept_membranes, context_atoms, context_membranes, context_rules, links_at}
 use Rattle.lmn_solid.proofs.HeadTrees.{Head, Heads, head, no_head, head_and}
-use Rattle.lmn_bridge.specs.HeapRegions.{Reading}
+use Rattle.lmn_bridge.specs.HeapRegions.{HeapReading}
 use Rattle.lmn_body.specs.declared.items.BodyItem.{BodyItem}
 use Rattle.lmn_body.specs.declared.items.BodyItem.TheVariants.{Atom, Connector}
-use Rattle.lmn_body.specs.Flattening.{BodyNames, atom_item, typed_item, leaf_items, context_items, rule_items, rule_context_items}
+use Rattle.lmn_body.specs.Flattening.{BodyNames, atom_item, typed_item, body_leaf_items, context_items, body_rule_items, rule_context_items}
 use Rattle.lmn_body.specs.Running.{Registers, integer_functor}
 use Rattle.lmn_body.specs.Added.{added_mems, added_rules}
 use Rattle.lmn_body.specs.Within.{added_with_copies}
-use Rattle.lmn_body.proofs.Below.{not_eq}
 use Rattle.std.specs.Prelude.{◌&&◌}
 use Rattle.lmn_turn.specs.Standing.{StandAs, none_stands}
 use Rattle.lmn_turn.proofs.Standings.{stand_both}
@@ -38,12 +37,11 @@ use Rattle.lmn_turn.proofs.Adders.{at, here_is}
 use Rattle.lmn_turn.proofs.CopyLinks.{Block}
 use Rattle.lmn_turn.proofs.OwnLinks.{OwnLeaves, own_none, own_atom, own_connector, own_integer, own_copy}
 use Rattle.lmn_turn.proofs.Locals.{next_copy, after_leaves, after_level}
+use Rattle.lmn_splice.specs.Splice.{of_rule, of_solid}
+use Rattle.lmn_base.proofs.Lists.{map_twice}
+use Rattle.lmn_base.proofs.Numbers.{not_equal as not_eq, same_or_not}
 
 -- ---- lists of leaves
-
-pub map_twice : {A B C : Type 0} (f : B → C) (g : A → B) (xs : List A) → map f (map g xs) ≡ map (λ x. f (g x)) xs
-map_twice f g [] = refl
-map_twice f g (x ∷ xs) = ap (λ ys. f (g x) ∷ ys) (map_twice f g xs)
 
 pub fused_both : (to : ℕ → ℕ) (xs ys : List tree.Leaf) → fused_leaves to (xs ++ ys) ≡ fused_leaves to xs ++ fused_leaves to ys
 fused_both to [] ys = refl
@@ -57,8 +55,8 @@ fused_kept to (x ∷ xs) = λ i. record { label = x.label; links = map_twice to 
 
 -- an atom of a body is read as it is made: as a connector or as an atom
 pub leaf_cases : (names : List tree.Name) (f : Functor) (ys : List ℕ) (inside : ℕ) → length ys ≡ f.arity →
-    ((x : ℕ) × (y : ℕ) × (atom_of names f.label ys ≡ tree.connector_leaf x y) × (atom_item (same_functor f connector) f ys inside ≡ Connector x y))
-    ⊎ ((atom_of names f.label ys ≡ tree.atom_leaf (label_of names f.label) ys) × (atom_item (same_functor f connector) f ys inside ≡ Atom f ys inside))
+    ((x : ℕ) × (y : ℕ) × (atom_or_connector names f.label ys ≡ tree.connector_leaf x y) × (atom_item (same_functor f connector) f ys inside ≡ Connector x y))
+    ⊎ ((atom_or_connector names f.label ys ≡ tree.atom_leaf (label_of names f.label) ys) × (atom_item (same_functor f connector) f ys inside ≡ Atom f ys inside))
 leaf_cases names f ys inside e = by f.label f.arity ys e
   where
     short : (b : Bool) (g : Functor) (zs : List ℕ) → length zs ≢ 2 → atom_item b g zs inside ≡ Atom g zs inside
@@ -69,8 +67,8 @@ leaf_cases names f ys inside e = by f.label f.arity ys e
     short false g zs d = refl
 
     by : (l : Label) (n : ℕ) (ys : List ℕ) → length ys ≡ n →
-        ((x : ℕ) × (y : ℕ) × (atom_of names l ys ≡ tree.connector_leaf x y) × (atom_item (same_functor (record { label = l; arity = n }) connector) (record { label = l; arity = n }) ys inside ≡ Connector x y))
-        ⊎ ((atom_of names l ys ≡ tree.atom_leaf (label_of names l) ys) × (atom_item (same_functor (record { label = l; arity = n }) connector) (record { label = l; arity = n }) ys inside ≡ Atom (record { label = l; arity = n }) ys inside))
+        ((x : ℕ) × (y : ℕ) × (atom_or_connector names l ys ≡ tree.connector_leaf x y) × (atom_item (same_functor (record { label = l; arity = n }) connector) (record { label = l; arity = n }) ys inside ≡ Connector x y))
+        ⊎ ((atom_or_connector names l ys ≡ tree.atom_leaf (label_of names l) ys) × (atom_item (same_functor (record { label = l; arity = n }) connector) (record { label = l; arity = n }) ys inside ≡ Atom (record { label = l; arity = n }) ys inside))
     by (label.Name zero) n [] e = inr (refl, short _ _ [] (λ q. omega (arith, q)))
     by (label.Name zero) n (a ∷ []) e = inr (refl, short _ _ (a ∷ []) (λ q. omega (arith, q)))
     by (label.Name zero) n (a ∷ (b ∷ [])) e = inl (a, b, refl, subst (λ k. atom_item (same_functor (record { label = label.Name 0; arity = k }) connector) (record { label = label.Name 0; arity = k }) (a ∷ (b ∷ [])) inside ≡ Connector a b) e refl)
@@ -78,7 +76,7 @@ leaf_cases names f ys inside e = by f.label f.arity ys e
     by (label.Name (suc k)) n ys e = inr (refl, ap (λ b. atom_item (b && (n == 2)) (record { label = label.Name (suc k); arity = n }) ys inside) (not_eq (suc k) 0 (λ q. omega (arith, q))))
     by (label.Int z) n ys e = inr (refl, refl)
 
-pub fused_made : (to : ℕ → ℕ) (xs : List region.SolidAtom) → fused_leaves to (made_atoms xs) ≡ map (renamed_atom to) xs
+pub fused_made : (to : ℕ → ℕ) (xs : List region.SolidAtom) → fused_leaves to (part_leaves xs) ≡ map (renamed_atom to) xs
 fused_made to [] = refl
 fused_made to (x ∷ xs) = ap (λ ys. renamed_atom to x ∷ ys) (fused_made to xs)
 
@@ -116,7 +114,7 @@ integer_first z x =
     let one = one_if_equal (of_rule x) (of_rule x) refl in
     reaches_new {bs = []} {cs = []} (omega (arith, one)) at_head (reaches_listed (omega (arith, one)) reaches_none) reaches_none
 
-module _ (h h' : Heap) (r r' : Reading) (s : Registers) (bn : BodyNames) (c : Contents) (left : ℕ → List SolidAtom) (left_mems : ℕ → List ℕ) (to : ℕ → ℕ) (limit : ℕ) (copy : ℕ → List SolidAtom) (part : ℕ → ℕ → List region.SolidAtom) where
+module _ (h h' : Heap) (r r' : HeapReading) (s : Registers) (bn : BodyNames) (c : Contents) (left : ℕ → List SolidAtom) (left_mems : ℕ → List ℕ) (to : ℕ → ℕ) (limit : ℕ) (copy : ℕ → List SolidAtom) (part : ℕ → ℕ → List region.SolidAtom) where
   abbrev names : List tree.Name
   names = r.names
 
@@ -172,8 +170,8 @@ module _ (h h' : Heap) (r r' : Reading) (s : Registers) (bn : BodyNames) (c : Co
 
   -- what a typed context makes, and what leaves make
   abbrev pub typed_made : Option ℕ → ℕ → ℕ → ℕ → List tree.Leaf
-  typed_made (Some g) k i x = made_atoms (part k x)
-  typed_made None k i x = made_atoms (integer_atom (s.head.integer i) x ∷ [])
+  typed_made (Some g) k i x = part_leaves (part k x)
+  typed_made None k i x = part_leaves (integer_atom (s.head.integer i) x ∷ [])
 
   abbrev pub leaves_made : ℕ → List Leaf → List tree.Leaf
   leaves_made k [] = []
@@ -212,21 +210,21 @@ module _ (h h' : Heap) (r r' : Reading) (s : Registers) (bn : BodyNames) (c : Co
       ap (map (solid_atom_of r.names)) (sym (here_is (at s inside) (atom ∷ []) (added_with_copies s left copy (λ z. to (of_rule z)) k xs (at s inside))))
 
   pub leaf_atoms : (inside k : ℕ) (ls : List Leaf) → LeavesAgree k ls →
-      fused_leaves to (leaves_made k ls) ≡ map (solid_atom_of r.names) (added_with_copies s left copy (λ z. to (of_rule z)) k (leaf_items bn inside ls) (at s inside))
+      fused_leaves to (leaves_made k ls) ≡ map (solid_atom_of r.names) (added_with_copies s left copy (λ z. to (of_rule z)) k (body_leaf_items bn inside ls) (at s inside))
   leaf_atoms inside k [] a = refl
   leaf_atoms inside k (leaf.Atom f os p ∷ ls) a = elim (leaf_cases r.names f (map (λ o. o.link) os) inside (length-map os (λ o. o.link) ∙ a.0)) [
-    | inl e ↦ ap (λ l. fused_leaves to (placed_leaf l ∷ leaves_made k ls)) e.2 ∙ leaf_atoms inside k ls a.1 ∙ ap (λ (i : BodyItem). solid k (i ∷ leaf_items bn inside ls) (at s inside)) (sym e.3)
+    | inl e ↦ ap (λ l. fused_leaves to (placed_leaf l ∷ leaves_made k ls)) e.2 ∙ leaf_atoms inside k ls a.1 ∙ ap (λ (i : BodyItem). solid k (i ∷ body_leaf_items bn inside ls) (at s inside)) (sym e.3)
     | inr e ↦ (let ys = map (λ o. o.link) os in
         let one : record { label = label_of r.names f.label; links = map to (map of_rule ys) } ≡ solid_atom_of r.names (record { functor = f; links = map (λ z. to (of_rule z)) ys }) =
         λ i. record { label = label_of r.names f.label; links = map_twice to of_rule ys i } in
         ap (λ l. fused_leaves to (placed_leaf l ∷ leaves_made k ls)) e.0 ∙ (λ i. one i ∷ leaf_atoms inside k ls a.1 i)
-        ∙ ap (map (solid_atom_of r.names)) (sym (here_is (at s inside) ((record { functor = f; links = map (λ z. to (of_rule z)) ys }) ∷ []) (added_with_copies s left copy (λ z. to (of_rule z)) k (leaf_items bn inside ls) (at s inside))))
-        ∙ ap (λ (i : BodyItem). solid k (i ∷ leaf_items bn inside ls) (at s inside)) (sym e.1))
+        ∙ ap (map (solid_atom_of r.names)) (sym (here_is (at s inside) ((record { functor = f; links = map (λ z. to (of_rule z)) ys }) ∷ []) (added_with_copies s left copy (λ z. to (of_rule z)) k (body_leaf_items bn inside ls) (at s inside))))
+        ∙ ap (λ (i : BodyItem). solid k (i ∷ body_leaf_items bn inside ls) (at s inside)) (sym e.1))
   ]
   leaf_atoms inside k (leaf.Typed n o p ∷ ls) a =
       fused_both to (typed_made (bn.part n) k (bn.integer n) o.link) (leaves_made (next_copy (bn.part n) k) ls)
       ∙ ap (λ ys. fused_leaves to (typed_made (bn.part n) k (bn.integer n) o.link) ++ ys) (leaf_atoms inside (next_copy (bn.part n) k) ls a.1)
-      ∙ typed_atoms inside (bn.part n) k n o.link (leaf_items bn inside ls) a.0
+      ∙ typed_atoms inside (bn.part n) k n o.link (body_leaf_items bn inside ls) a.0
 
   -- leaves add no membranes and no rules
   atom_item_adds : (b : Bool) (f : Functor) (ys : List ℕ) (inside n x : ℕ) (xs : List BodyItem) →
@@ -242,14 +240,14 @@ module _ (h h' : Heap) (r r' : Reading) (s : Registers) (bn : BodyNames) (c : Co
   typed_item_adds (Some g) i y inside n x xs = (refl, refl)
   typed_item_adds None i y inside n x xs = (refl, refl)
 
-  pub leaf_adds : (inside n x : ℕ) (ls : List Leaf) → (added_mems s left_mems n (leaf_items bn inside ls) x ≡ []) × (added_rules s (rules_in h) (leaf_items bn inside ls) x ≡ [])
+  pub leaf_adds : (inside n x : ℕ) (ls : List Leaf) → (added_mems s left_mems n (body_leaf_items bn inside ls) x ≡ []) × (added_rules s (rules_in h) (body_leaf_items bn inside ls) x ≡ [])
   leaf_adds inside n x [] = (refl, refl)
   leaf_adds inside n x (leaf.Atom f os p ∷ ls) =
-      let a = atom_item_adds (same_functor f connector) f (map (λ o. o.link) os) inside n x (leaf_items bn inside ls) in
+      let a = atom_item_adds (same_functor f connector) f (map (λ o. o.link) os) inside n x (body_leaf_items bn inside ls) in
       let b = leaf_adds inside n x ls in
       (a.0 ∙ b.0, a.1 ∙ b.1)
   leaf_adds inside n x (leaf.Typed m o p ∷ ls) =
-      let a = typed_item_adds (bn.part m) (bn.integer m) o.link inside n x (leaf_items bn inside ls) in
+      let a = typed_item_adds (bn.part m) (bn.integer m) o.link inside n x (body_leaf_items bn inside ls) in
       let b = leaf_adds inside n x ls in
       (a.0 ∙ b.0, a.1 ∙ b.1)
 
@@ -281,7 +279,7 @@ module _ (h h' : Heap) (r r' : Reading) (s : Registers) (bn : BodyNames) (c : Co
   contexts_no_rules inside x [] = refl
   contexts_no_rules inside x (u ∷ us) = contexts_no_rules inside x us
 
-  pub rules_alone : (inside n k x : ℕ) (ks : List ℕ) → (added_with_copies s left copy (λ z. to (of_rule z)) k (rule_items inside ks) x ≡ []) × (added_mems s left_mems n (rule_items inside ks) x ≡ [])
+  pub rules_alone : (inside n k x : ℕ) (ks : List ℕ) → (added_with_copies s left copy (λ z. to (of_rule z)) k (body_rule_items inside ks) x ≡ []) × (added_mems s left_mems n (body_rule_items inside ks) x ≡ [])
   rules_alone inside n k x [] = (refl, refl)
   rules_alone inside n k x (j ∷ ks) = rules_alone inside n k x ks
 
@@ -289,10 +287,10 @@ module _ (h h' : Heap) (r r' : Reading) (s : Registers) (bn : BodyNames) (c : Co
   rule_contexts_alone inside n k x [] = (refl, refl)
   rule_contexts_alone inside n k x (u ∷ us) = rule_contexts_alone inside n k x us
 
-  pub rules_are : (inside : ℕ) (ks : List ℕ) → map r.rule ks ≡ map r.rule (added_rules s (rules_in h) (rule_items inside ks) (at s inside))
+  pub rules_are : (inside : ℕ) (ks : List ℕ) → map r.rule ks ≡ map r.rule (added_rules s (rules_in h) (body_rule_items inside ks) (at s inside))
   rules_are inside [] = refl
   rules_are inside (k ∷ ks) =
-      ap (λ z. r.rule k ∷ z) (rules_are inside ks) ∙ ap (map r.rule) (sym (here_is (at s inside) (k ∷ []) (added_rules s (rules_in h) (rule_items inside ks) (at s inside))))
+      ap (λ z. r.rule k ∷ z) (rules_are inside ks) ∙ ap (map r.rule) (sym (here_is (at s inside) (k ∷ []) (added_rules s (rules_in h) (body_rule_items inside ks) (at s inside))))
 
   pub rule_contexts_are : (inside : ℕ) (us : List CtxUse) → RuleContextsAgree us → context_rules c (names_of r.names us) ≡ map r.rule (added_rules s (rules_in h) (rule_context_items bn inside us) (at s inside))
   rule_contexts_are inside [] a = refl

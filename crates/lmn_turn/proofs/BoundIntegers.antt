@@ -1,8 +1,7 @@
 -- What a guard binds on a heap is what it binds in the calculus.
-use Rattle.std.proofs.Common.{ℕ, zero, suc, ◌≡◌, ◌<◌, ◌⊎◌, ◌==◌, Bool, true, false, cond, List, [], ◌∷◌, map, length, Option, Some, None, All, refl, sym, ap, subst, ◌∙◌, inl, inr, arith}
+use Rattle.std.proofs.Common.{ℕ, zero, suc, ◌≡◌, ◌<◌, ◌⊎◌, Bool, true, false, cond, List, [], ◌∷◌, map, length, Option, Some, None, All, refl, sym, ap, subst, ◌∙◌, inl, inr, arith}
 use Rattle.std.specs.Prelude.{ℤ, Contains}
-use Rattle.std.proofs.lemmas.Bool.{cases_eq, eq-eqb, eqb-true}
-use Rattle.std.proofs.lemmas.Option.{same_Some}
+use Rattle.std.proofs.lemmas.Bool.{cases_eq, eq-eqb}
 use Rattle.std.proofs.lemmas.List.Elements.{Contains-append_cases}
 use Rattle.lmn_base.specs.declared.functor.Functor.{Functor}
 use Rattle.lmn_base.specs.declared.functor.Label.{Label}
@@ -12,34 +11,34 @@ use Rattle.lmn_base.specs.declared.guard.Cond.TheVariants.{Kind, Compare, Equal,
 use Rattle.lmn_base.specs.declared.guard.Expr.{Expr}
 use Rattle.lmn_base.specs.declared.level.CtxUse.{CtxUse}
 use Rattle.lmn_base.specs.declared.level.Leaf.{Leaf}
-use Rattle.lmn_base.specs.declared.level.Leaf.TheVariants as leaf
 use Rattle.lmn_base.specs.declared.level.Occ.{Occ}
 use Rattle.lmn_base.specs.declared.refusal.Pos.{Pos}
-use Rattle.lmn_base.specs.Names.{IsNames, HasNames, label_names, condition_names, expression_names}
+use Rattle.lmn_base.specs.Names.{IsNames, HasNames, label_names, expression_names}
 use Rattle.lmn_guards.specs.Values.{value, Evaluates, of_number, of_context, of_operation, computed}
 use Rattle.lmn_heap.specs.Heap.{Heap, functor_of}
 use Rattle.lmn_heap.specs.Sound.{Valid}
-use Rattle.lmn_heap.proofs.ListLemmas.{apart_test}
-use Rattle.lmn_solid.specs.Guards.{GuardHolds as HoldsOnHeap, Meaning, EqualHolds, bind, integer_named, integer_or, part_alone, context_alone}
-use Rattle.lmn_solid.specs.Heads.{Port}
+use Rattle.lmn_solid.specs.Guards.{HoldsOnHeap, Meaning, EqualHolds, bind, integer_named, part_alone, context_alone}
 use Rattle.lmn_solid.proofs.HeadTrees.{Head, Heads, head, no_head, head_and, head_leaves, heads_leaves}
 use Rattle.lmn_congruence.specs.Orders.{Among, at_head, further}
 use Rattle.lmn_congruence.specs.Process.{atom}
-use Rattle.lmn_congruence.specs.Rules as tree
-use Rattle.lmn_congruence.specs.Translation.{name_of, atom_of, leaf_of, kind_of, condition_of, expression_of}
+use Rattle.lmn_congruence.specs.Translation.{name_of, atom_or_connector, leaf_of, kind_of, condition_of, expression_of}
 use Rattle.lmn_congruence.proofs.Appended.{all_left, all_right}
 use Rattle.lmn_reduction.specs.Assignments.{Assignment}
-use Rattle.lmn_reduction.specs.Firing.{typed_leaves, typed_contexts, typed_contexts_of}
+use Rattle.lmn_reduction.specs.Firing.{typed_leaves, typed_contexts, typed_contexts_in}
 use Rattle.lmn_reduction.specs.Guards.{GuardHolds, Holds, binds, alike}
 use Rattle.lmn_reduction.specs.Parts.{Rooted, IsInteger, an_integer}
 use Rattle.lmn_reduction.specs.Values.{Value}
 use Rattle.lmn_adequacy.specs.Accepted.{left_sides}
-use Rattle.lmn_adequacy.proofs.Orders.{among_left, among_right}
 use Rattle.lmn_firing.specs.Bound.{bound_by, bound_all}
 use Rattle.lmn_bridge.proofs.HeadTrees.{tree_of, trees_of}
 use Rattle.lmn_bridge.proofs.KindConditions.{holds_first, same_number}
 use Rattle.lmn_bridge.proofs.Values.{value_into}
-use Rattle.lmn_bridge.proofs.WholeGuards.{Parts}
+use Rattle.lmn_bridge.proofs.WholeGuards.{Parts, BoundRight, KnownIn, more_right, value_at}
+use Rattle.lmn_base.specs.Graphs.{Port}
+use Rattle.lmn_base.proofs.Numbers.{not_equal as apart_test}
+use Rattle.lmn_congruence.proofs.Common.{among_left, among_right}
+use Rattle.lmn_base.specs.declared.level.Leaf.TheVariants as leaf
+use Rattle.lmn_congruence.specs.Rules as tree
 
 -- ---- one value
 
@@ -75,7 +74,7 @@ no_side names n (u ∷ []) cs = by _ _ _
     by false false false = refl
 
 -- an atom isn't a typed context
-atom_skipped : (names : List tree.Name) (l : Label) (xs : List ℕ) (ls : List tree.Leaf) → typed_leaves (atom_of names l xs ∷ ls) ≡ typed_leaves ls
+atom_skipped : (names : List tree.Name) (l : Label) (xs : List ℕ) (ls : List tree.Leaf) → typed_leaves (atom_or_connector names l xs ∷ ls) ≡ typed_leaves ls
 atom_skipped names (Name zero) [] ls = refl
 atom_skipped names (Name zero) (x ∷ []) ls = refl
 atom_skipped names (Name zero) (x ∷ (y ∷ [])) ls = refl
@@ -95,14 +94,14 @@ module _ (names : List tree.Name) (rule : ℕ → tree.Rule) (n : ℕ) (o : Occ)
   mutual
     pub typed_among : (hd : Head) → Contains (head_leaves hd) (leaf.Typed n o q) → Among (name_of names n) (typed_contexts (tree_of names rule hd))
     typed_among (head leaves hs cs rcs rs) w = elim (Contains-append_cases leaves (heads_leaves hs) (leaf.Typed n o q) w) [
-      | inl j ↦ among_left (typed_contexts_of (trees_of names rule hs)) (leaf_among leaves j)
+      | inl j ↦ among_left (typed_contexts_in (trees_of names rule hs)) (leaf_among leaves j)
       | inr j ↦ among_right (typed_leaves (map (leaf_of names) leaves)) (typed_among_in hs j)
     ]
 
-    typed_among_in : (hs : Heads) → Contains (heads_leaves hs) (leaf.Typed n o q) → Among (name_of names n) (typed_contexts_of (trees_of names rule hs))
+    typed_among_in : (hs : Heads) → Contains (heads_leaves hs) (leaf.Typed n o q) → Among (name_of names n) (typed_contexts_in (trees_of names rule hs))
     typed_among_in no_head (k, within, e) = absurd (omega (arith, within))
     typed_among_in (head_and hd hs) w = elim (Contains-append_cases (head_leaves hd) (heads_leaves hs) (leaf.Typed n o q) w) [
-      | inl j ↦ among_left (typed_contexts_of (trees_of names rule hs)) (typed_among hd j)
+      | inl j ↦ among_left (typed_contexts_in (trees_of names rule hs)) (typed_among hd j)
       | inr j ↦ among_right (typed_contexts (tree_of names rule hd)) (typed_among_in hs j)
     ]
 
@@ -111,26 +110,6 @@ module _ (names : List tree.Name) (rule : ℕ → tree.Rule) (n : ℕ) (o : Occ)
 module _ (h : Heap) (v : Valid h) (names : List tree.Name) (is_names : IsNames names) (known : (a : ℕ) (g : Functor) → functor_of h a ≡ Some g → HasNames names (label_names g.label)) (heads : List tree.Name) (t : Assignment) where
   abbrev InHead : (ℕ → Option Port) → Type 0
   InHead part = Parts h v names is_names known heads t part
-
-  abbrev BoundRight : (ℕ → Option ℤ) → Type 0
-  BoundRight bound = (x : ℕ) (n : ℤ) → bound x ≡ Some n → IsInteger n (t.typed_of (name_of names x))
-
-  abbrev KnownIn : Cond → Type 0
-  KnownIn c = All (λ i. i < length names) (condition_names c)
-
-  more_right : (s : Meaning) (x : ℕ) (z : ℤ) → BoundRight s.bound_to → IsInteger z (t.typed_of (name_of names x)) → BoundRight (bind s x z).bound_to
-  more_right s x z b i y n e = by (y == x) refl e
-    where
-      by : (c : Bool) → (y == x) ≡ c → cond c (Some z) (s.bound_to y) ≡ Some n → IsInteger n (t.typed_of (name_of names y))
-      by true q e = subst (λ w. IsInteger n (t.typed_of (name_of names w))) (sym (eqb-true y x q)) (subst (λ w. IsInteger w (t.typed_of (name_of names x))) (same_Some z n e) i)
-      by false q e = b y n e
-
-  value_at : (s : Meaning) → InHead s.part_of → BoundRight s.bound_to → (x : ℕ) (n : ℤ) → integer_named h s x ≡ Some n → IsInteger n (t.typed_of (name_of names x))
-  value_at s f b x n e = by (s.part_of x) refl e
-    where
-      by : (o : Option Port) → s.part_of x ≡ o → integer_or h o (s.bound_to x) ≡ Some n → IsInteger n (t.typed_of (name_of names x))
-      by None q e = b x n e
-      by (Some p) q e = ((f.stands x p q).integer n).0 e
 
   -- a name that isn't of the head is bound to the value
   value_bound : {p : tree.Name} {e : tree.Expression} → Holds heads t (tree.equates p e) → ¬ (Among p heads) → (n : ℤ) × Value t e n × IsInteger n (t.typed_of p)
@@ -145,8 +124,8 @@ module _ (h : Heap) (v : Valid h) (names : List tree.Name) (is_names : IsNames n
     abbrev IsBound : Meaning → Type 0
     IsBound s = (z : ℤ) × (s.bound_to x ≡ Some z) × IsInteger z (t.typed_of (name_of names x))
 
-    equal_bound : (s : Meaning) (l : CtxUse) (r : Expr) (cs : List Cond) → InHead s.part_of → BoundRight s.bound_to → s.part_of x ≡ None → HasNames names (l.name ∷ []) →
-        ((s' : Meaning) → InHead s'.part_of → BoundRight s'.bound_to → s'.part_of x ≡ None → HoldsOnHeap h s' cs → WillBe s' cs → IsBound (bound_all h s' cs)) →
+    equal_bound : (s : Meaning) (l : CtxUse) (r : Expr) (cs : List Cond) → InHead s.part_of → BoundRight names t s.bound_to → s.part_of x ≡ None → HasNames names (l.name ∷ []) →
+        ((s' : Meaning) → InHead s'.part_of → BoundRight names t s'.bound_to → s'.part_of x ≡ None → HoldsOnHeap h s' cs → WillBe s' cs → IsBound (bound_all h s' cs)) →
         Holds heads t (tree.equates (name_of names l.name) (expression_of names r)) →
         ((z : ℤ) × (s.bound_to x ≡ Some z)) ⊎ Among (name_of names x) (name_of names l.name ∷ left_sides (map (condition_of names) cs)) →
         (o1 o2 : Option Port) (z : Option ℤ) → s.part_of l.name ≡ o1 → value (integer_named h s) r ≡ z → EqualHolds h s o1 o2 l.name z (λ s'. HoldsOnHeap h s' cs) → IsBound (bound_all h (bound_by o1 s l.name z) cs)
@@ -161,8 +140,8 @@ module _ (h : Heap) (v : Valid h) (names : List tree.Name) (is_names : IsNames n
     ])
     equal_bound s l r cs f b none kl next holds will None o2 (Some z) e1 ez w =
         let u = value_bound holds (λ a. let g = f.found l.name kl a in let n : None ≡ Some g.0 = sym e1 ∙ g.1 in cc) in
-        let same : u.0 ≡ z = one_value (λ p n. IsInteger n (t.typed_of p)) (λ p m n a b. one_integer a b) u.1 (value_into names t (integer_named h s) (value_at s f b) r z ez) in
-        let right = more_right s l.name z b (subst (λ n. IsInteger n (t.typed_of (name_of names l.name))) same u.2) in
+        let same : u.0 ≡ z = one_value (λ p n. IsInteger n (t.typed_of p)) (λ p m n a b. one_integer a b) u.1 (value_into names t (integer_named h s) (value_at h v names is_names known heads t s f b) r z ez) in
+        let right = more_right names t s l.name z b (subst (λ n. IsInteger n (t.typed_of (name_of names l.name))) same u.2) in
         next (bind s l.name z) f right none w (elim (cases_eq x l.name) [
           | inl e ↦ inl (z, rw (eq-eqb x l.name e) refl)
           | inr d ↦ elim will [
@@ -175,17 +154,17 @@ module _ (h : Heap) (v : Valid h) (names : List tree.Name) (is_names : IsNames n
         ])
 
     -- a name that the guard binds stands for the same integer on the heap and in the calculus
-    pub guard_binds : (cs : List Cond) (s : Meaning) → InHead s.part_of → BoundRight s.bound_to → s.part_of x ≡ None → All KnownIn cs → GuardHolds heads t (map (condition_of names) cs) → HoldsOnHeap h s cs →
+    pub guard_binds : (cs : List Cond) (s : Meaning) → InHead s.part_of → BoundRight names t s.bound_to → s.part_of x ≡ None → All (KnownIn names) cs → GuardHolds heads t (map (condition_of names) cs) → HoldsOnHeap h s cs →
         ((z : ℤ) × (s.bound_to x ≡ Some z)) ⊎ Among (name_of names x) (left_sides (map (condition_of names) cs)) → IsBound (bound_all h s cs)
     guard_binds [] s f b none k g w will = elim will [ inl y ↦ (y.0, y.1, b x y.0 y.1) | inr j ↦ elim j [ ] ]
     guard_binds (Kind n args q ∷ cs) s f b none k g w will =
-        guard_binds cs s f b none (all_right KnownIn (Kind n args q ∷ []) cs k) (holds_first h names heads t s g).1 w.1
+        guard_binds cs s f b none (all_right (KnownIn names) (Kind n args q ∷ []) cs k) (holds_first h names heads t s g).1 w.1
         (elim will [ inl y ↦ inl y | inr j ↦ inr (subst (Among (name_of names x)) (no_side names n args (map (condition_of names) cs)) j) ])
-    guard_binds (Compare op l r q ∷ cs) s f b none k g w will = guard_binds cs s f b none (all_right KnownIn (Compare op l r q ∷ []) cs k) (holds_first h names heads t s g).1 w.1 will
+    guard_binds (Compare op l r q ∷ cs) s f b none k g w will = guard_binds cs s f b none (all_right (KnownIn names) (Compare op l r q ∷ []) cs k) (holds_first h names heads t s g).1 w.1 will
     guard_binds (Equal l r q ∷ cs) s f b none k g w will =
         let kl = all_left (λ i. i < length names) (l.name ∷ []) (expression_names r) (k zero (Equal l r q) (omega arith)) in
-        let k' = all_right KnownIn (Equal l r q ∷ []) cs k in
+        let k' = all_right (KnownIn names) (Equal l r q ∷ []) cs k in
         let p = holds_first h names heads t s g in
         equal_bound s l r cs f b none kl (λ s' f' b' none' w' will'. guard_binds cs s' f' b' none' k' p.1 w' will') p.0 will
         (s.part_of l.name) (part_alone s (context_alone r)) (value (integer_named h s) r) refl refl w
-    guard_binds (Differ l r q ∷ cs) s f b none k g w will = guard_binds cs s f b none (all_right KnownIn (Differ l r q ∷ []) cs k) (holds_first h names heads t s g).1 w.1 will
+    guard_binds (Differ l r q ∷ cs) s f b none k g w will = guard_binds cs s f b none (all_right (KnownIn names) (Differ l r q ∷ []) cs k) (holds_first h names heads t s g).1 w.1 will

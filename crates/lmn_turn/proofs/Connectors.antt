@@ -12,19 +12,20 @@ use Rattle.lmn_congruence.specs.Plains.{leaf_process, levels_processes}
 use Rattle.lmn_congruence.specs.Process.{together}
 use Rattle.lmn_congruence.specs.Rules as tree
 use Rattle.lmn_congruence.specs.Translation.{leaf_of, levels, rules as listed_rules}
-use Rattle.lmn_adequacy.specs.Next.{Contents, MadeLeaves, no_made_leaf, made_atom, made_connector, made_copy, MadeLevel, made_level, MadeMembranes, no_made_membrane, made_membrane, made_atoms, kept_atoms, kept_membranes, context_atoms, context_membranes, of_rule, of_solid, wire_leaves}
+use Rattle.lmn_adequacy.specs.Next.{Contents, MadeLeaves, no_made_leaf, made_atom, made_connector, made_copy, MadeLevel, made_level, MadeMembranes, no_made_membrane, made_membrane, part_leaves, kept_atoms, kept_membranes, context_atoms, context_membranes, wire_leaves}
 use Rattle.lmn_congruence.specs.Regions.{SolidAtom}
 use Rattle.lmn_solid.proofs.HeadTrees.{Head, Heads, head, no_head, head_and, size}
-use Rattle.lmn_splice.specs.Splice.{In}
+use Rattle.lmn_splice.specs.Splice.{IsOneOf, of_rule, of_solid}
 use Rattle.lmn_body.specs.declared.items.BodyItem.{BodyItem}
 use Rattle.lmn_body.specs.declared.items.BodyItem.TheVariants.{Atom, Connector, Copy, Bound, Membrane, Rest, Rule, Rules}
-use Rattle.lmn_body.specs.Flattening.{BodyNames, atom_item, typed_item, leaf_items, context_items, rule_items, rule_context_items}
+use Rattle.lmn_body.specs.Flattening.{BodyNames, atom_item, typed_item, body_leaf_items, context_items, body_rule_items, rule_context_items}
 use Rattle.lmn_body.specs.Items.{connectors}
-use Rattle.lmn_body.proofs.HeadPorts.{in_front, in_back}
 use Rattle.lmn_bridge.proofs.HeadTrees.{tree_of, trees_of}
 use Rattle.lmn_compile_body.proofs.BodyTrees.{flat_body, flat_bodies}
 use Rattle.lmn_turn.proofs.Bodies.{leaf_cases}
-use Rattle.lmn_turn.proofs.Kept.{kept_atoms_join, kept_membranes_join, rules_join}
+use Rattle.lmn_turn.proofs.Kept.{kept_atoms_join, kept_membranes_join}
+use Rattle.lmn_congruence.proofs.Common.{rules_join}
+use Rattle.lmn_splice.proofs.Common.{in_back, in_front}
 
 -- ---- lists of processes
 
@@ -36,7 +37,7 @@ pub levels_join_both : (to : ℕ → ℕ) (xs ys : List tree.Level) → Joins to
 levels_join_both to [] ys a b = b
 levels_join_both to (x ∷ xs) ys a b = (a.0, levels_join_both to xs ys a.1 b)
 
-made_atoms_join : (to : ℕ → ℕ) (xs : List SolidAtom) → Joins to (together (map leaf_process (made_atoms xs)))
+made_atoms_join : (to : ℕ → ℕ) (xs : List SolidAtom) → Joins to (together (map leaf_process (part_leaves xs)))
 made_atoms_join to [] = tt
 made_atoms_join to (x ∷ xs) = (tt, made_atoms_join to xs)
 
@@ -65,13 +66,13 @@ connectors_both (Rules of inside ∷ xs) ys = connectors_both xs ys
 
 -- the connectors among items are fused
 abbrev pub AreFused : (ℕ → ℕ) → List BodyItem → Type 0
-AreFused to xs = (e : ℕ × ℕ) → In e (connectors xs) → to (of_rule e.0) ≡ to (of_rule e.1)
+AreFused to xs = (e : ℕ × ℕ) → IsOneOf e (connectors xs) → to (of_rule e.0) ≡ to (of_rule e.1)
 
 fused_front : (to : ℕ → ℕ) (xs ys : List BodyItem) → AreFused to (xs ++ ys) → AreFused to xs
-fused_front to xs ys f e i = f e (subst (In e) (sym (connectors_both xs ys)) (in_front e (connectors xs) (connectors ys) i))
+fused_front to xs ys f e i = f e (subst (IsOneOf e) (sym (connectors_both xs ys)) (in_front e (connectors xs) (connectors ys) i))
 
 fused_back : (to : ℕ → ℕ) (xs ys : List BodyItem) → AreFused to (xs ++ ys) → AreFused to ys
-fused_back to xs ys f e i = f e (subst (In e) (sym (connectors_both xs ys)) (in_back e (connectors xs) (connectors ys) i))
+fused_back to xs ys f e i = f e (subst (IsOneOf e) (sym (connectors_both xs ys)) (in_back e (connectors xs) (connectors ys) i))
 
 module _ (names : List tree.Name) (tree_at : ℕ → tree.Rule) (bn : BodyNames) (c : Contents) (to : ℕ → ℕ) where
   -- an atom fits its arity
@@ -94,25 +95,25 @@ module _ (names : List tree.Name) (tree_at : ℕ → tree.Rule) (bn : BodyNames)
       let first : a ≡ x = cc in
       let second : b ≡ y = cc in
       (ap (λ z. to (of_rule z)) first ∙ fused ∙ ap (λ z. to (of_rule z)) (sym second), k _ d)
-  leaf_joins x y e fused (made_copy {part = part} {outs = outs} i o d) k = leaves_join_both to (made_atoms part) outs (made_atoms_join to part) (k outs d)
+  leaf_joins x y e fused (made_copy {part = part} {outs = outs} i o d) k = leaves_join_both to (part_leaves part) outs (made_atoms_join to part) (k outs d)
 
   atom_joins : {l : tree.Leaf} {ls outs : List tree.Leaf} (a : tree.Label) (ys : List ℕ) → l ≡ tree.atom_leaf a ys → MadeLeaves c (l ∷ ls) outs → ((others : List tree.Leaf) → MadeLeaves c ls others → Joins to (together (map leaf_process others))) → Joins to (together (map leaf_process outs))
   atom_joins a ys e (made_atom d) k = (tt, k _ d)
   atom_joins a ys e (made_connector d) k = absurd (cc)
-  atom_joins a ys e (made_copy {part = part} {outs = outs} i o d) k = leaves_join_both to (made_atoms part) outs (made_atoms_join to part) (k outs d)
+  atom_joins a ys e (made_copy {part = part} {outs = outs} i o d) k = leaves_join_both to (part_leaves part) outs (made_atoms_join to part) (k outs d)
 
-  leaves_join : (inside : ℕ) (ls : List Leaf) {outs : List tree.Leaf} → Fit ls → AreFused to (leaf_items bn inside ls) → MadeLeaves c (map (leaf_of names) ls) outs → Joins to (together (map leaf_process outs))
+  leaves_join : (inside : ℕ) (ls : List Leaf) {outs : List tree.Leaf} → Fit ls → AreFused to (body_leaf_items bn inside ls) → MadeLeaves c (map (leaf_of names) ls) outs → Joins to (together (map leaf_process outs))
   leaves_join inside [] a f no_made_leaf = tt
   leaves_join inside (leaf.Atom fu os p ∷ ls) a f d =
       let ys = map (λ o. o.link) os in
       let i = atom_item (same_functor fu connector) fu ys inside in
-      let rest = fused_back to (i ∷ []) (leaf_items bn inside ls) f in
+      let rest = fused_back to (i ∷ []) (body_leaf_items bn inside ls) f in
       elim (leaf_cases names fu ys inside (length-map os (λ o. o.link) ∙ a.0)) [
-        | inl k ↦ leaf_joins k.0 k.1 k.2 (subst (λ z. AreFused to (z ∷ [])) k.3 (fused_front to (i ∷ []) (leaf_items bn inside ls) f) (k.0, k.1) (inl refl)) d (λ others w. leaves_join inside ls a.1 rest w)
+        | inl k ↦ leaf_joins k.0 k.1 k.2 (subst (λ z. AreFused to (z ∷ [])) k.3 (fused_front to (i ∷ []) (body_leaf_items bn inside ls) f) (k.0, k.1) (inl refl)) d (λ others w. leaves_join inside ls a.1 rest w)
         | inr k ↦ atom_joins _ _ k.0 d (λ others w. leaves_join inside ls a.1 rest w)
       ]
   leaves_join inside (leaf.Typed n o p ∷ ls) a f (made_copy {part = part} {outs = outs} i order d) =
-      leaves_join_both to (made_atoms part) outs (made_atoms_join to part) (leaves_join inside ls a (fused_back to (typed_item (bn.part n) (bn.integer n) o.link inside ∷ []) (leaf_items bn inside ls) f) d)
+      leaves_join_both to (part_leaves part) outs (made_atoms_join to part) (leaves_join inside ls a (fused_back to (typed_item (bn.part n) (bn.integer n) o.link inside ∷ []) (body_leaf_items bn inside ls) f) d)
 
   contexts_join : (ps : List tree.Name) → Joins to (together (levels_processes (levels (context_membranes c ps))))
   contexts_join [] = tt
@@ -122,9 +123,9 @@ module _ (names : List tree.Name) (tree_at : ℕ → tree.Rule) (bn : BodyNames)
     pub level_joins : (inside next : ℕ) (hd : Head) {outs : List tree.Leaf} {inner : List tree.Level} {rs : List tree.Rule} → AllFit hd → AreFused to (flat_body bn inside next hd) → MadeLevel c (tree_of names tree_at hd) outs inner rs →
         Joins to (together (map leaf_process outs)) × Joins to (together (levels_processes (levels inner)))
     level_joins inside next (head leaves hs cs rcs rs) a f (made_level {outs = outs} {made = made} {contexts = ps} dl dm) =
-        let L = leaf_items bn inside leaves in
+        let L = body_leaf_items bn inside leaves in
         let D = flat_bodies bn inside next hs in
-        let T = context_items bn inside cs ++ (rule_items inside rs ++ rule_context_items bn inside rcs) in (
+        let T = context_items bn inside cs ++ (body_rule_items inside rs ++ rule_context_items bn inside rcs) in (
           leaves_join_both to outs (kept_atoms (context_atoms c ps)) (leaves_join inside leaves a.0 (fused_front to L (D ++ T) f) dl) (kept_atoms_join to (context_atoms c ps)),
           levels_join_both to made (context_membranes c ps) (bodies_join inside next hs a.1 (fused_front to D T (fused_back to L (D ++ T) f)) dm) (contexts_join ps),
         )

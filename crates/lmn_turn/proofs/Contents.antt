@@ -1,5 +1,5 @@
 -- Contents that are those of the heap are what the levels of a body ask.
-use Rattle.std.proofs.Common.{ℕ, suc, ◌≡◌, ◌+◌, List, [], ◌∷◌, ◌++◌, map, length, Option, Some, None, refl, subst, arith}
+use Rattle.std.proofs.Common.{ℕ, ◌≡◌, ◌+◌, List, [], ◌∷◌, ◌++◌, map, length, Option, Some, None, refl, subst}
 use Rattle.std.specs.Prelude.{Bool, true, false, Contains}
 use Rattle.std.specs.List.{flat_map}
 use Rattle.std.proofs.lemmas.List.Elements.{Contains-append_left, Contains-append_right}
@@ -25,12 +25,13 @@ use Rattle.lmn_base.specs.declared.solid.SolidAtom.{SolidAtom}
 use Rattle.lmn_adequacy.specs.Next.{Contents}
 use Rattle.lmn_solid.proofs.HeadTrees.{Head, Heads, head, no_head, head_and, heads, head_step, head_at, head_leaves, heads_leaves, size}
 use Rattle.lmn_body.specs.declared.items.BodyItem.{BodyItem}
-use Rattle.lmn_body.specs.Flattening.{BodyNames, atom_item, typed_item, leaf_items, context_items, rule_items, rule_context_items}
+use Rattle.lmn_body.specs.Flattening.{BodyNames, atom_item, typed_item, body_leaf_items, context_items, body_rule_items, rule_context_items}
 use Rattle.lmn_body.specs.Running.{Registers}
-use Rattle.lmn_bridge.specs.HeapRegions.{Reading}
+use Rattle.lmn_bridge.specs.HeapRegions.{HeapReading}
 use Rattle.lmn_compile_body.proofs.BodyTrees.{flat_body, flat_bodies}
 use Rattle.lmn_turn.proofs.Bodies.{CopyAgrees, TypedAgrees, LeavesAgree, ContextAgrees, ContextsAgree, RuleContextsAgree, BodyAgrees, BodiesAgree}
 use Rattle.lmn_turn.proofs.Connectors.{Fit, AllFit, AllFitIn}
+use Rattle.lmn_base.proofs.Lists.{contains_behind as later_is, contains_first as first_is}
 
 -- ---- the contexts of a level, at every depth
 
@@ -76,14 +77,7 @@ same_rule_contexts = ind-Level SameRuleContexts (λ y z is.
 
 -- ---- what holds of each element
 
--- the first element, and a later one
-pub first_is : {X : Type 0} (x : X) (xs : List X) → Contains (x ∷ xs) x
-first_is x xs = (0, omega arith, refl)
-
-pub later_is : {X : Type 0} (x : X) (xs : List X) (y : X) → Contains xs y → Contains (x ∷ xs) y
-later_is x xs y (k, within, e) = (suc k, omega (arith, within), e)
-
-module _ (h h' : Heap) (r r' : Reading) (s : Registers) (bn : BodyNames) (c : Contents) (left : ℕ → List SolidAtom) (left_mems : ℕ → List ℕ) (to : ℕ → ℕ) (limit : ℕ) (copy : ℕ → List SolidAtom) (part : ℕ → ℕ → List region.SolidAtom) where
+module _ (h h' : Heap) (r r' : HeapReading) (s : Registers) (bn : BodyNames) (c : Contents) (left : ℕ → List SolidAtom) (left_mems : ℕ → List ℕ) (to : ℕ → ℕ) (limit : ℕ) (copy : ℕ → List SolidAtom) (part : ℕ → ℕ → List region.SolidAtom) where
   abbrev OfContext : CtxUse → Type 0
   OfContext = ContextAgrees h h' r r' s bn c left left_mems to limit copy part
 
@@ -119,14 +113,14 @@ module _ (h h' : Heap) (r r' : Reading) (s : Registers) (bn : BodyNames) (c : Co
     typed_each (Some g) n x q p inside k xs i fits e = (fits.1 k g x i e.0, e.1)
     typed_each None n x q p inside k xs i fits e = (fits.0 i, e)
 
-    leaves_agree : (inside k : ℕ) (ls : List Leaf) → ((l : Leaf) → Contains ls l → LeafFits l) → EachCopy P k (leaf_items bn inside ls) → LeavesAgree h h' r r' s bn c left left_mems to limit copy part k ls
+    leaves_agree : (inside k : ℕ) (ls : List Leaf) → ((l : Leaf) → Contains ls l → LeafFits l) → EachCopy P k (body_leaf_items bn inside ls) → LeavesAgree h h' r r' s bn c left left_mems to limit copy part k ls
     leaves_agree inside k [] a e = tt
     leaves_agree inside k (leaf.Atom f os p ∷ ls) a e = (
       a (leaf.Atom f os p) (first_is (leaf.Atom f os p) ls),
-      leaves_agree inside k ls (λ l w. a l (later_is (leaf.Atom f os p) ls l w)) (atom_each (same_functor f connector) f (map (λ o. o.link) os) inside k (leaf_items bn inside ls) e),
+      leaves_agree inside k ls (λ l w. a l (later_is (leaf.Atom f os p) ls l w)) (atom_each (same_functor f connector) f (map (λ o. o.link) os) inside k (body_leaf_items bn inside ls) e),
     )
     leaves_agree inside k (leaf.Typed n o p ∷ ls) a e =
-        let u = typed_each (bn.part n) n o.link o p inside k (leaf_items bn inside ls) refl (a (leaf.Typed n o p) (first_is (leaf.Typed n o p) ls)) e in
+        let u = typed_each (bn.part n) n o.link o p inside k (body_leaf_items bn inside ls) refl (a (leaf.Typed n o p) (first_is (leaf.Typed n o p) ls)) e in
         (u.0, leaves_agree inside (next_copy (bn.part n) k) ls (λ l w. a l (later_is (leaf.Typed n o p) ls l w)) u.1)
 
     mutual
@@ -136,9 +130,9 @@ module _ (h h' : Heap) (r r' : Reading) (s : Registers) (bn : BodyNames) (c : Co
           ((u : CtxUse) → Contains (head_rule_contexts hd) u → c.rules_of (name_of r.names u.name) ≡ map r.rule (rules_in h (at s (bn.rule_context u.name)))) →
           EachCopy P k (flat_body bn inside next hd) → BodyAgrees h h' r r' s bn c left left_mems to limit copy part k hd
       body_agrees inside next k (head leaves hs cs rcs rs) a b d e =
-          let L = leaf_items bn inside leaves in
+          let L = body_leaf_items bn inside leaves in
           let D = flat_bodies bn inside next hs in
-          let T = context_items bn inside cs ++ (rule_items inside rs ++ rule_context_items bn inside rcs) in
+          let T = context_items bn inside cs ++ (body_rule_items inside rs ++ rule_context_items bn inside rcs) in
           let u = each_both P k L (D ++ T) e in
           let v = each_both P (past k L) D T u.1 in (
             leaves_agree inside k leaves (λ l w. a l (Contains-append_left leaves (heads_leaves hs) l w)) u.0,

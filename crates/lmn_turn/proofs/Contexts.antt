@@ -16,9 +16,9 @@ use Rattle.lmn_congruence.specs.Translation.{name_of, names_of}
 use Rattle.lmn_congruence.proofs.Appended.{all_left, all_right}
 use Rattle.lmn_adequacy.specs.Accepted.{all_contexts, contexts_in, all_rule_contexts, rule_contexts_in}
 use Rattle.lmn_solid.proofs.HeadTrees.{Head, Heads, head, no_head, head_and, head_at}
-use Rattle.lmn_splice.specs.Splice.{In}
+use Rattle.lmn_splice.specs.Splice.{IsOneOf}
 use Rattle.lmn_body.specs.Flattening.{context_membrane, rule_context_membrane}
-use Rattle.lmn_bridge.specs.HeapRegions.{Reading}
+use Rattle.lmn_bridge.specs.HeapRegions.{HeapReading}
 use Rattle.lmn_bridge.specs.Premises.{IsRule}
 use Rattle.lmn_bridge.proofs.HeadTrees.{tree_of, trees_of, level_tree}
 use Rattle.lmn_bridge.proofs.KindConditions.{same_number}
@@ -55,22 +55,22 @@ shuffled_back (more {x = x} {xs = xs} e s p) {y = y} k = elim (among_put p k) [
   | inr j ↦ further (shuffled_back s j)
 ]
 
-among_use : (names : List tree.Name) (us : List CtxUse) (u : CtxUse) → In u us → Among (name_of names u.name) (names_of names us)
+among_use : (names : List tree.Name) (us : List CtxUse) (u : CtxUse) → IsOneOf u us → Among (name_of names u.name) (names_of names us)
 among_use names [] u i = absurd i
 among_use names (v ∷ us) u (inl e) = subst (λ (z : CtxUse). Among (name_of names z.name) (name_of names v.name ∷ names_of names us)) e at_head
 among_use names (v ∷ us) u (inr i) = further (among_use names us u i)
 
-use_among : (names : List tree.Name) (us : List CtxUse) {p : tree.Name} → Among p (names_of names us) → (u : CtxUse) × In u us × (name_of names u.name ≡ p)
+use_among : (names : List tree.Name) (us : List CtxUse) {p : tree.Name} → Among p (names_of names us) → (u : CtxUse) × IsOneOf u us × (name_of names u.name ≡ p)
 use_among names [] k = elim k [ ]
 use_among names (u ∷ us) at_head = (u, inl refl, refl)
 use_among names (u ∷ us) (further k) = let w = use_among names us k in (w.0, inr w.1, w.2)
 
-all_named : (P : ℕ → Type 0) (us : List CtxUse) → All P (context_names us) → (u : CtxUse) → In u us → P u.name
+all_named : (P : ℕ → Type 0) (us : List CtxUse) → All P (context_names us) → (u : CtxUse) → IsOneOf u us → P u.name
 all_named P [] a u i = absurd i
 all_named P (v ∷ us) a u (inl e) = subst (λ (z : CtxUse). P z.name) e (All-head P v.name (context_names us) a)
 all_named P (v ∷ us) a u (inr i) = all_named P us (All-tail P v.name (context_names us) a) u i
 
-module _ (r : Reading) (rule : RuleTree) (read_names : IsNames r.names) (is : IsRule r rule) where
+module _ (r : HeapReading) (rule : RuleTree) (read_names : IsNames r.names) (is : IsRule r rule) where
   abbrev P : ℕ → Type 0
   P n = n < length r.names
 
@@ -90,31 +90,31 @@ module _ (r : Reading) (rule : RuleTree) (read_names : IsNames r.names) (is : Is
   rule_contexts_known l a = all_right P (flat_map leaf_names (leaves_of l) ++ context_names (contexts_of l)) (context_names (rule_contexts_of l)) a
 
   -- an untyped context of the body has its membrane in the head
-  pub context_there : (u : CtxUse) → Contains (contexts_of rule.body) u → In {A = ℕ × ℕ} (u.name, context_membrane rule.head u.name) (head_names untyped 0 1 (head_at rule.head))
+  pub context_there : (u : CtxUse) → Contains (contexts_of rule.body) u → IsOneOf {A = ℕ × ℕ} (u.name, context_membrane rule.head u.name) (head_names untyped 0 1 (head_at rule.head))
   context_there u w =
       let i = is_in u (contexts_of rule.body) w in
       let in_body = subst (λ l. Among (name_of r.names u.name) (all_contexts l)) (sym (level_tree r.names r.rule rule.body))
-      (subst (Among (name_of r.names u.name)) (sym (tree_contexts r.names r.rule (head_at rule.body))) (among_use r.names (head_contexts untyped (head_at rule.body)) u (subst (In u) (same_contexts untyped rule.body) i))) in
+      (subst (Among (name_of r.names u.name)) (sym (tree_contexts r.names r.rule (head_at rule.body))) (among_use r.names (head_contexts untyped (head_at rule.body)) u (subst (IsOneOf u) (same_contexts untyped rule.body) i))) in
       let in_head = subst (Among (name_of r.names u.name)) (tree_contexts r.names r.rule (head_at rule.head))
       (subst (λ l. Among (name_of r.names u.name) (all_contexts l)) (level_tree r.names r.rule rule.head) (shuffled_back is.accepted.kept in_body)) in
       let v = use_among r.names (head_contexts untyped (head_at rule.head)) in_head in
-      let in_list = subst (In v.0) (sym (same_contexts untyped rule.head)) v.1 in
+      let in_list = subst (IsOneOf v.0) (sym (same_contexts untyped rule.head)) v.1 in
       let same = same_number r.names v.0.name u.name read_names (one_named v.0.name (all_named P (contexts_of rule.head) (contexts_known rule.head head_known) v.0 in_list)) (one_named u.name (all_named P (contexts_of rule.body) (contexts_known rule.body body_known) u i)) v.2 in
-      let first = subst (λ y. In y (firsts (head_names untyped 0 1 (head_at rule.head)))) same (has_name 0 1 (head_at rule.head) (record { name = v.0.name; form = Bare; pos = v.0.pos }) (context_used (head_at rule.head) v.0 v.1) refl) in
+      let first = subst (λ y. IsOneOf y (firsts (head_names untyped 0 1 (head_at rule.head)))) same (has_name 0 1 (head_at rule.head) (record { name = v.0.name; form = Bare; pos = v.0.pos }) (context_used (head_at rule.head) v.0 v.1) refl) in
       let e = sym (names_are untyped rule.head) in
-      subst (λ es. In {A = ℕ × ℕ} (u.name, context_membrane rule.head u.name) es) (names_are untyped rule.head) (named_there _ u.name (subst (λ es. In u.name (firsts es)) e first))
+      subst (λ es. IsOneOf {A = ℕ × ℕ} (u.name, context_membrane rule.head u.name) es) (names_are untyped rule.head) (named_there _ u.name (subst (λ es. IsOneOf u.name (firsts es)) e first))
 
   -- and so has a rule context
-  pub rule_context_there : (u : CtxUse) → Contains (rule_contexts_of rule.body) u → In {A = ℕ × ℕ} (u.name, rule_context_membrane rule.head u.name) (head_names of_rules 0 1 (head_at rule.head))
+  pub rule_context_there : (u : CtxUse) → Contains (rule_contexts_of rule.body) u → IsOneOf {A = ℕ × ℕ} (u.name, rule_context_membrane rule.head u.name) (head_names of_rules 0 1 (head_at rule.head))
   rule_context_there u w =
       let i = is_in u (rule_contexts_of rule.body) w in
       let in_body = subst (λ l. Among (name_of r.names u.name) (all_rule_contexts l)) (sym (level_tree r.names r.rule rule.body))
-      (subst (Among (name_of r.names u.name)) (sym (tree_rule_contexts r.names r.rule (head_at rule.body))) (among_use r.names (head_contexts of_rules (head_at rule.body)) u (subst (In u) (same_contexts of_rules rule.body) i))) in
+      (subst (Among (name_of r.names u.name)) (sym (tree_rule_contexts r.names r.rule (head_at rule.body))) (among_use r.names (head_contexts of_rules (head_at rule.body)) u (subst (IsOneOf u) (same_contexts of_rules rule.body) i))) in
       let in_head = subst (Among (name_of r.names u.name)) (tree_rule_contexts r.names r.rule (head_at rule.head))
       (subst (λ l. Among (name_of r.names u.name) (all_rule_contexts l)) (level_tree r.names r.rule rule.head) (is.accepted.known_rules (name_of r.names u.name) in_body)) in
       let v = use_among r.names (head_contexts of_rules (head_at rule.head)) in_head in
-      let in_list = subst (In v.0) (sym (same_contexts of_rules rule.head)) v.1 in
+      let in_list = subst (IsOneOf v.0) (sym (same_contexts of_rules rule.head)) v.1 in
       let same = same_number r.names v.0.name u.name read_names (one_named v.0.name (all_named P (rule_contexts_of rule.head) (rule_contexts_known rule.head head_known) v.0 in_list)) (one_named u.name (all_named P (rule_contexts_of rule.body) (rule_contexts_known rule.body body_known) u i)) v.2 in
-      let first = subst (λ y. In y (firsts (head_names of_rules 0 1 (head_at rule.head)))) same (has_rule_name 0 1 (head_at rule.head) v.0 (rule_context_used (head_at rule.head) v.0 v.1)) in
+      let first = subst (λ y. IsOneOf y (firsts (head_names of_rules 0 1 (head_at rule.head)))) same (has_rule_name 0 1 (head_at rule.head) v.0 (rule_context_used (head_at rule.head) v.0 v.1)) in
       let e = sym (names_are of_rules rule.head) in
-      subst (λ es. In {A = ℕ × ℕ} (u.name, rule_context_membrane rule.head u.name) es) (names_are of_rules rule.head) (named_there _ u.name (subst (λ es. In u.name (firsts es)) e first))
+      subst (λ es. IsOneOf {A = ℕ × ℕ} (u.name, rule_context_membrane rule.head u.name) es) (names_are of_rules rule.head) (named_there _ u.name (subst (λ es. IsOneOf u.name (firsts es)) e first))

@@ -6,34 +6,34 @@ use Rattle.lmn_heap.specs.Heap.{Heap, IsAtom, arity_of, atoms_in, link_of}
 use Rattle.lmn_heap.specs.Graphs.{atom_map}
 use Rattle.lmn_heap.specs.Lists.{In, Distinct}
 use Rattle.lmn_heap.proofs.ListLemmas.{each_in, each_of}
-use Rattle.lmn_parts.specs.Walks.{ports, net, next, IsPart as InDepth}
+use Rattle.lmn_parts.specs.Walks.{port_range, net, neighbour, IsPartInDepth as InDepth}
 use Rattle.lmn_parts.proofs.WalkLaws.{once, kept_seen}
-use Rattle.lmn_body.proofs.Brought.{in_part, part_all, is_atom_at, reached_into}
+use Rattle.lmn_body.proofs.Brought.{in_part, part_all, reached_into}
 use Rattle.lmn_congruence.specs.Links.{places}
-use Rattle.lmn_congruence.specs.Orders.{Among, Shuffle, at_head, further, more, none}
+use Rattle.lmn_congruence.specs.Orders.{Among, Shuffle, at_head, further}
 use Rattle.lmn_congruence.specs.Regions.{SolidAtom}
 use Rattle.lmn_congruence.specs.Rules.{Label}
 use Rattle.lmn_congruence.specs.Same.{renamed_atom}
-use Rattle.lmn_congruence.proofs.Counts.{Occurs}
+use Rattle.lmn_congruence.proofs.Counts.{Occurs, one_if_equal as same_one}
 use Rattle.lmn_congruence.proofs.Shuffles.{shuffle_chain}
-use Rattle.lmn_congruence.proofs.Solids.{put_map}
 use Rattle.lmn_reduction.specs.Parts.{Rooted}
 use Rattle.lmn_adequacy.specs.Embedding.{IsPart}
-use Rattle.lmn_adequacy.specs.Next.{DepthFirst, Reaches, links_at, reaches_new, reaches_none}
-use Rattle.lmn_adequacy.proofs.Copies.{places_among}
+use Rattle.lmn_adequacy.specs.Next.{DepthFirst, ReachesAtoms, links_at, reaches_new, reaches_none}
 use Rattle.lmn_adequacy.proofs.Depth.{order_kept}
 use Rattle.lmn_adequacy.proofs.Images.{map_maps}
-use Rattle.lmn_adequacy.proofs.Orders.{among_left, among_right}
 use Rattle.lmn_adequacy.proofs.SameParts.{part_image}
-use Rattle.lmn_bridge.specs.HeapRegions.{Reading, atoms_at}
+use Rattle.lmn_bridge.specs.HeapRegions.{HeapReading, atoms_at}
 use Rattle.lmn_bridge.specs.Parts.{HasPart, IsGroundPart}
 use Rattle.lmn_bridge.specs.Premises.{IsRead}
-use Rattle.lmn_bridge.proofs.Counting.{list_atoms, same_one, within_arity}
+use Rattle.lmn_bridge.proofs.Counting.{list_atoms}
 use Rattle.lmn_bridge.proofs.GroundParts.{link_among}
 use Rattle.lmn_bridge.proofs.Matchings.{matching, shuffle_mapped}
-use Rattle.lmn_bridge.proofs.PartLaws.{ground_parts_stand_whole}
+use Rattle.lmn_bridge.proofs.PartLaws.{ground_parts_stand_whole, shuffle_right}
 use Rattle.lmn_bridge.proofs.Pieces.{atom_at, atoms_each}
 use Rattle.lmn_turn.proofs.PartOrder.{Lists, lists, links_of_ports, port_at}
+use Rattle.lmn_heap.proofs.Common.{is_atom_at}
+use Rattle.lmn_congruence.proofs.Common.{among_left, among_right, places_among}
+use Rattle.lmn_heap.proofs.Replacing.{port_within}
 
 -- ---- renamed one to one
 
@@ -50,10 +50,6 @@ renamed_depth_first to x bs one k d =
     alone z at_head = k
     alone z (further i) = elim i [ ]
 
-shuffle_right : {A B C : Type 0} {R : A → B → Type 0} (S : A → C → Type 0) (f : B → C) {as' : List A} {bs : List B} → Shuffle R as' bs → ((a : A) (b : B) → R a b → S a (f b)) → Shuffle S as' (map f bs)
-shuffle_right S f none h = none
-shuffle_right S f (more {x = x} {y = y} e s p) h = more (h x y e) (shuffle_right S f s h) (put_map f p)
-
 -- and they are the same part, with its root renamed
 pub renamed_part : (to : ℕ → ℕ) (g : Rooted) (x : ℕ) (bs : List SolidAtom) → OneToOneAt to bs → IsPart g x bs → IsPart g (to x) (map (renamed_atom to) bs)
 renamed_part to g x bs one i = record {
@@ -61,7 +57,7 @@ renamed_part to g x bs one i = record {
   to = λ y. to (i.to y);
   one_to_one = λ y z o o' e. i.one_to_one y z o o' (one (i.to y) (i.to z) (stands y o) (stands z o') e);
   root = ap to i.root;
-  atoms = shuffle_right (λ (a : Label × List ℕ) (b : SolidAtom). record { label = a.0; links = map (λ y. to (i.to y)) a.1 } ≡ b) (renamed_atom to) i.atoms
+  atoms = shuffle_right {S = (λ (a : Label × List ℕ) (b : SolidAtom). record { label = a.0; links = map (λ y. to (i.to y)) a.1 } ≡ b)} (renamed_atom to) i.atoms
       (λ a b e. ap (λ (ys : List ℕ). record { label = a.0; links = ys }) (sym (map_maps to i.to a.1)) ∙ ap (renamed_atom to) e);
 }
   where
@@ -75,7 +71,7 @@ pub record CopiedPart (g : Rooted) (x : ℕ) (bs : List SolidAtom) : Type 0 wher
 
 -- ---- links and ports
 
-module _ (h : Heap) (r : Reading) (read : IsRead h r) where
+module _ (h : Heap) (r : HeapReading) (read : IsRead h r) where
   each_as : (atoms : List ℕ) → ((a : ℕ) → In a atoms → IsAtom h a) → atoms_at h r atoms ≡ map (atom_at h r) atoms
   each_as atoms k = atoms_each h r atoms (each_of (IsAtom h) atoms k)
 
@@ -96,7 +92,7 @@ module _ (h : Heap) (r : Reading) (read : IsRead h r) where
     top = atom_at h r root.0
 
     port : root.1 < arity_of h root.0
-    port = within_arity h root.0 root.1 link
+    port = port_within h root.0 root.1 _ link
 
     -- its atoms are atoms
     pub part_atoms : (a : ℕ) → In a atoms → IsAtom h a
@@ -105,7 +101,7 @@ module _ (h : Heap) (r : Reading) (read : IsRead h r) where
     away : In q.0 atoms → ⊥
     away k = outside (in_part h root atoms walk q.0 k)
 
-    listed : Lists h r read root q link (root.0 ∷ []) atoms (ports root.0 0 (arity_of h root.0))
+    listed : Lists h r read root q link (root.0 ∷ []) atoms (port_range root.0 0 (arity_of h root.0))
     listed = lists h r read root q link walk away part_atoms (tt, tt)
         (λ p k. let u = port_at p root.0 0 (arity_of h root.0) k in (inl (sym u.0), subst (λ z. p.1 < arity_of h z) (sym u.0) (omega (arith, u.1))))
 
@@ -113,9 +109,9 @@ module _ (h : Heap) (r : Reading) (read : IsRead h r) where
     pub part_depth_first : DepthFirst (r.name root.0 root.1) (atoms_at h r atoms)
     part_depth_first =
         let new : List SolidAtom = map (atom_at h r) listed.new in
-        let d : Reaches top.links (r.name root.0 root.1 ∷ top.links) new =
-        subst (λ k. Reaches k (r.name root.0 root.1 ∷ top.links) new) (sym (links_of_ports h r read root.0 (is_atom_at h root.0 root.1 port)))
-        (subst (λ k. Reaches (map (λ p. r.name p.0 p.1) (ports root.0 0 (arity_of h root.0))) (r.name root.0 root.1 ∷ k) new) (append-nil top.links) listed.reaches) in
+        let d : ReachesAtoms top.links (r.name root.0 root.1 ∷ top.links) new =
+        subst (λ k. ReachesAtoms k (r.name root.0 root.1 ∷ top.links) new) (sym (links_of_ports h r read root.0 (is_atom_at h root.0 root.1 port)))
+        (subst (λ k. ReachesAtoms (map (λ p. r.name p.0 p.1) (port_range root.0 0 (arity_of h root.0))) (r.name root.0 root.1 ∷ k) new) (append-nil top.links) listed.reaches) in
         let whole : DepthFirst (r.name root.0 root.1) (top ∷ (new ++ [])) = reaches_new (same_one_alone (r.name root.0 root.1)) (link_among h r read.valid root.0 root.1 port) d reaches_none in
         subst (DepthFirst (r.name root.0 root.1)) (ap (λ k. top ∷ k) (append-nil new) ∙ ap (map (atom_at h r)) (sym listed.is) ∙ sym (each_as atoms part_atoms)) whole
       where
@@ -126,7 +122,7 @@ module _ (h : Heap) (r : Reading) (read : IsRead h r) where
   pub part_in_order : (m : ℕ) (root : ℕ × ℕ) (part : List ℕ) (g : Rooted) → IsGroundPart h r m root part g → (atoms : List ℕ) → InDepth h root atoms → IsGroundPart h r m root atoms g
   part_in_order m root part g p atoms walk =
       let has : HasPart h root part = (ground_parts_stand_whole h r m root part g read p).1 in
-      let alone : Distinct atoms = once (net h).arity (next (net h) root (λ _. true)) walk (tt, tt) in
+      let alone : Distinct atoms = once (net h).arity (neighbour (net h) root (λ _. true)) walk (tt, tt) in
       let into : (a : ℕ) → In a atoms → In a part = λ a k. (has a).1 (in_part h root atoms walk a k) in
       let back : (a : ℕ) → In a part → In a atoms = λ a k. part_all h root atoms read.valid.sound.paired walk a ((has a).0 k) in
       let there : (a : ℕ) → In a part → IsAtom h a = λ a k. each_in (IsAtom h) (atoms_in h m) a (list_atoms h read.valid m) (p.inside a k) in
@@ -159,8 +155,8 @@ module _ (h : Heap) (r : Reading) (read : IsRead h r) where
   copied_part m root part g p atoms walk to one =
       let u = part_in_order m root part g p atoms walk in
       let outside : Reached (atom_map h) root u.holder.0 → ⊥ = λ w. u.away (part_all h root atoms read.valid.sound.paired walk u.holder.0 w) in
-      let port : root.1 < arity_of h root.0 = within_arity h root.0 root.1 u.link in
-      let first : In root.0 atoms = kept_seen (net h).arity (next (net h) root (λ _. true)) walk root.0 (inl refl) in
+      let port : root.1 < arity_of h root.0 = port_within h root.0 root.1 _ u.link in
+      let first : In root.0 atoms = kept_seen (net h).arity (neighbour (net h) root (λ _. true)) walk root.0 (inl refl) in
       let x = port_at_link atoms (part_atoms root u.holder u.link outside atoms walk) root.0 root.1 first port in
       record {
         is = renamed_part to g (r.name root.0 root.1) (atoms_at h r atoms) one u.is;

@@ -1,7 +1,8 @@
 -- Raw links inside copies of typed contexts, and a map of raw links that is known at them.
 use Rattle.std.proofs.Common.{ℕ, zero, suc, cond, ltb, ◌≡◌, ◌+◌, ◌-◌, ◌<◌, ◌≤◌, refl, sym, ap, ◌∙◌, arith}
-use Rattle.lmn_adequacy.specs.Next.{of_rule, of_solid}
-use Rattle.lmn_adequacy.proofs.Skeleton.{at_even, at_odd, by_parity, even_differs, even_not_odd, odd_differs}
+use Rattle.lmn_adequacy.proofs.Skeleton.{at_even, at_odd, by_parity}
+use Rattle.lmn_splice.specs.Splice.{of_rule, of_solid}
+use Rattle.lmn_splice.proofs.Fusions.{apart_rule as even_not_odd, rule_once as even_differs, solid_once as odd_differs}
 
 -- a number for link y of copy k
 abbrev pub code : ℕ → ℕ → ℕ

@@ -2,36 +2,36 @@
 use Rattle.std.proofs.Common.{ℕ, zero, suc, cond, eqb, ◌≡◌, ◌≢◌, ◌+◌, ◌<◌, ◌≤◌, ◌⊎◌, List, [], ◌∷◌, map, length, inl, inr, refl, sym, ap, subst, ◌∙◌, arith}
 use Rattle.lmn_base.specs.declared.solid.SolidAtom.{SolidAtom}
 use Rattle.lmn_heap.specs.Heap.{Heap}
-use Rattle.lmn_heap.specs.Solid.{atoms_of}
+use Rattle.lmn_heap.specs.Solid.{solid_atoms_at}
 use Rattle.lmn_congruence.specs.Orders.{Among, at_head, further}
 use Rattle.lmn_congruence.specs.Regions as region
 use Rattle.lmn_congruence.specs.Rules.{Name}
 use Rattle.lmn_congruence.specs.Same.{renamed_atom}
 use Rattle.lmn_congruence.specs.Translation.{solid_atom_of}
-use Rattle.lmn_congruence.proofs.Counts.{same_or_not}
-use Rattle.lmn_adequacy.specs.Next.{DepthFirst, links_at, of_rule, of_solid}
+use Rattle.lmn_adequacy.specs.Next.{DepthFirst, links_at}
 use Rattle.lmn_adequacy.specs.Embedding.{IsPart}
 use Rattle.lmn_adequacy.proofs.Depth.{renamed_links}
-use Rattle.lmn_adequacy.proofs.Skeleton.{even_not_odd, odd_differs}
-use Rattle.lmn_bridge.specs.HeapRegions.{Reading, atoms_at}
+use Rattle.lmn_bridge.specs.HeapRegions.{HeapReading, atoms_at}
 use Rattle.lmn_bridge.specs.Premises.{IsRead}
-use Rattle.lmn_parts.specs.Walks.{IsPart as InDepth}
-use Rattle.lmn_splice.specs.Ports.{Port}
-use Rattle.lmn_splice.specs.Splice.{In}
+use Rattle.lmn_parts.specs.Walks.{IsPartInDepth as InDepth}
+use Rattle.lmn_splice.specs.Splice.{IsOneOf, of_rule, of_solid}
 use Rattle.lmn_instr.specs.declared.instr.NewPort.{NewPort}
 use Rattle.lmn_instr.specs.declared.instr.NewPort.TheVariants as new
 use Rattle.lmn_body.specs.declared.items.BodyItem.{BodyItem}
 use Rattle.lmn_body.specs.declared.items.BodyItem.TheVariants.{Atom, Connector, Copy, Bound, Membrane, Rest, Rule, Rules}
 use Rattle.lmn_body.specs.CopiedSolid.{IsSolidCopy}
 use Rattle.lmn_body.specs.Fired.{linked_by}
-use Rattle.lmn_body.specs.Items.{new_ports, ports_from}
+use Rattle.lmn_body.specs.Items.{new_ports, new_ports_from}
 use Rattle.lmn_body.specs.Made.{copies_of}
 use Rattle.lmn_body.specs.Running.{Registers, new_port}
-use Rattle.lmn_body.proofs.HeadPorts.{in_back}
-use Rattle.lmn_turn.proofs.Bodies.{map_twice}
 use Rattle.lmn_turn.proofs.CopiedParts.{copied_part}
 use Rattle.lmn_turn.proofs.CopyLinks.{Block, code, code_apart, copy_link, over, over_copy, over_rule}
 use Rattle.lmn_turn.proofs.EachCopy.{EachCopy}
+use Rattle.lmn_base.specs.Graphs.{Port}
+use Rattle.lmn_base.proofs.Lists.{map_twice}
+use Rattle.lmn_base.proofs.Numbers.{same_or_not}
+use Rattle.lmn_splice.proofs.Common.{in_back}
+use Rattle.lmn_splice.proofs.Fusions.{apart_rule as even_not_odd, solid_once as odd_differs}
 use Rattle.lmn_bridge.specs.Parts.{IsGroundPart}
 use Rattle.lmn_reduction.specs.Parts.{Rooted}
 
@@ -65,7 +65,7 @@ pub record CopyData : Type 0 where
 module _ (h h' : Heap) (c number : Port → ℕ) (s : Registers) (g : ℕ → ℕ) where
   -- each of these copies is one in the solid
   abbrev pub Copies : List (ℕ × ℕ) → Type 0
-  Copies es = (e : ℕ × ℕ) → In e es → IsSolidCopy h c h' number (s.head.images.part e.1) (s.copy e.0) (s.copied e.0) (atoms_of h' (λ a i. number (a, i)) (s.copied e.0))
+  Copies es = (e : ℕ × ℕ) → IsOneOf e es → IsSolidCopy h c h' number (s.head.images.part e.1) (s.copy e.0) (s.copied e.0) (solid_atoms_at h' (λ a i. number (a, i)) (s.copied e.0))
 
   abbrev pub chosen : (es : List (ℕ × ℕ)) → Copies es → ℕ → CopyData
   chosen [] f k = record { to = λ y. y; atoms = []; root = 0 }
@@ -75,16 +75,16 @@ module _ (h h' : Heap) (c number : Port → ℕ) (s : Registers) (g : ℕ → �
   -- Of copy number k, of the typed context p, at the rule's link x. All copies have numbers below n.
   pub record KnownBy (n : ℕ) (d : CopyData) (k p x : ℕ) : Type 0 where
     pub part : InDepth h (s.head.images.part p) d.atoms
-    pub are : atoms_of h' (λ a i. number (a, i)) (s.copied k) ≡ map (linked_by d.to) (atoms_of h (λ a i. c (a, i)) d.atoms)
+    pub are : solid_atoms_at h' (λ a i. number (a, i)) (s.copied k) ≡ map (linked_by d.to) (solid_atoms_at h (λ a i. c (a, i)) d.atoms)
     pub root : d.root ≡ c (s.head.images.part p)
     pub entered : d.to (c (s.head.images.part p)) ≡ g x
     pub below : k < n
 
   -- so much is known of each copy that items make
-  pub each_known : (n : ℕ) (D : ℕ → CopyData) (items : List BodyItem) (a k : ℕ) (f : Copies (copies_of k items)) → ((e : NewPort × ℕ) → In e (new_ports a k items) → number (new_port s e.0) ≡ g e.1) →
+  pub each_known : (n : ℕ) (D : ℕ → CopyData) (items : List BodyItem) (a k : ℕ) (f : Copies (copies_of k items)) → ((e : NewPort × ℕ) → IsOneOf e (new_ports a k items) → number (new_port s e.0) ≡ g e.1) →
       ((j : ℕ) → D (k + j) ≡ chosen (copies_of k items) f j) → k + length (copies_of k items) ≤ n → EachCopy (λ i p x. KnownBy n (D i) i p x) k items
   each_known n D [] a k f links e b = tt
-  each_known n D (Atom functor ls inside ∷ xs) a k f links e b = each_known n D xs (a + 1) k f (λ d i. links d (in_back d (ports_from a 0 ls) (new_ports (a + 1) k xs) i)) e b
+  each_known n D (Atom functor ls inside ∷ xs) a k f links e b = each_known n D xs (a + 1) k f (λ d i. links d (in_back d (new_ports_from a 0 ls) (new_ports (a + 1) k xs) i)) e b
   each_known n D (Connector left right ∷ xs) a k f links e b = each_known n D xs a k f links e b
   each_known n D (Copy p x inside ∷ xs) a k f links e b =
       let i = f (k, p) (inl refl) in
@@ -129,10 +129,10 @@ copy_link_one limit k x y z d e = by (same_or_not y d.root) (same_or_not z d.roo
         (code_apart k y k z (omega (arith, odd_differs (limit + code k y) (limit + code k z) u))).1
 
 -- the raw atoms of a copy
-abbrev pub raw_part : Heap → Reading → ℕ → CopyData → ℕ → ℕ → List region.SolidAtom
+abbrev pub raw_part : Heap → HeapReading → ℕ → CopyData → ℕ → ℕ → List region.SolidAtom
 raw_part h r limit d k x = map (renamed_atom (raw_link limit d k x)) (atoms_at h r d.atoms)
 
-module _ (h h' : Heap) (r : Reading) (read : IsRead h r) (number : Port → ℕ) (s : Registers) (to : ℕ → ℕ) (limit n : ℕ) (D : ℕ → CopyData) where
+module _ (h h' : Heap) (r : HeapReading) (read : IsRead h r) (number : Port → ℕ) (s : Registers) (to : ℕ → ℕ) (limit n : ℕ) (D : ℕ → CopyData) where
   -- the map at all raw links
   abbrev pub to_all : ℕ → ℕ
   to_all = over to limit n (λ k. (D k).to)
@@ -165,10 +165,10 @@ module _ (h h' : Heap) (r : Reading) (read : IsRead h r) (number : Port → ℕ)
         by y e (inr q) = inr (limit + code k y, e ∙ elsewhere (of_rule x) (copy_link limit k y) y (D k).root q, (y, refl))
 
     -- and with each link at its image it is the copy in the solid
-    pub raw_atoms : map (renamed_atom to_all) (raw_part h r limit (D k) k x) ≡ map (solid_atom_of r.names) (atoms_of h' (λ a i. number (a, i)) (s.copied k))
+    pub raw_atoms : map (renamed_atom to_all) (raw_part h r limit (D k) k x) ≡ map (solid_atom_of r.names) (solid_atoms_at h' (λ a i. number (a, i)) (s.copied k))
     raw_atoms =
         renamed_twice to_all (raw_link limit (D k) k x) (D k).to (λ y. at y (same_or_not y (D k).root)) (atoms_at h r (D k).atoms)
-        ∙ sym (read_linked r.names (D k).to (atoms_of h r.name (D k).atoms)) ∙ ap (map (solid_atom_of r.names)) (sym known.are)
+        ∙ sym (read_linked r.names (D k).to (solid_atoms_at h r.name (D k).atoms)) ∙ ap (map (solid_atom_of r.names)) (sym known.are)
       where
         at : (y : ℕ) → (y ≡ (D k).root) ⊎ (y ≢ (D k).root) → to_all (raw_link limit (D k) k x y) ≡ (D k).to y
         at y (inl q) =

@@ -19,32 +19,31 @@ use Rattle.lmn_congruence.specs.Orders.{Among}
 use Rattle.lmn_congruence.specs.Regions.{region}
 use Rattle.lmn_congruence.specs.Rules as tree
 use Rattle.lmn_congruence.specs.Translation.{name_of, rule_tree}
-use Rattle.lmn_adequacy.specs.Accepted.{NoConnectorLeaf, EachLevel, leaves_of as tree_leaves, own_contexts, own_rule_contexts, left_sides}
+use Rattle.lmn_adequacy.specs.Accepted.{NoConnectorLeaf, EachLevel, own_leaves as tree_leaves, own_contexts, own_rule_contexts, left_sides}
 use Rattle.lmn_adequacy.specs.Embedding.{Plain, LevelImages}
 use Rattle.lmn_adequacy.specs.Next.{Contents, EmbedsInOrder, EachLeft, assignment_of}
 use Rattle.lmn_adequacy.proofs.InOrder.{contents_plain}
 use Rattle.lmn_adequacy.proofs.Literal.{embeds_in_order}
 use Rattle.lmn_solid.specs.declared.items.HeadItem.{HeadItem}
-use Rattle.lmn_solid.specs.Heads.{HeadTyped, Port, atoms_of, typed_contexts_of, membranes_of}
+use Rattle.lmn_solid.specs.Heads.{HeadTyped, atoms_of, typed_contexts_of, membranes_of}
 use Rattle.lmn_solid.specs.Embeddings.{Embeds, HasLink, HasTyped, meaning}
 use Rattle.lmn_solid.proofs.HeadTrees.{Head, head, head_at, flat_items, items_flat, same_leaves}
 use Rattle.lmn_splice.specs.Classes.{rising}
 use Rattle.lmn_splice.specs.Splice as splice
 use Rattle.lmn_base.specs.Names.{HasNames, leaf_names, level_names, context_names, condition_names}
-use Rattle.lmn_compile_body.specs.Accepted.{rule_names}
+use Rattle.lmn_compile_body.specs.Accepted.{rule_body_names}
 use Rattle.lmn_congruence.proofs.Appended.{all_left, all_right}
 use Rattle.lmn_base.specs.declared.level.Leaf.{Leaf}
 use Rattle.lmn_compile_head.specs.Accepted.{AcceptedHeads, AcceptedLeast, IsReady, head_items, rule_head_code}
 use Rattle.lmn_compile_head.specs.Heads.{IsHead, EachInside, kind_in}
 use Rattle.lmn_compile_body.proofs.HeadContexts.{head_names, heads_names, untyped, of_rules}
-use Rattle.lmn_instr.specs.Running.{IsFirst}
+use Rattle.lmn_instr.specs.Running.{IsFirstSuccess}
 use Rattle.lmn_body.specs.Fired.{images_of}
 use Rattle.lmn_body.specs.Flattening.{names_inside, context_membrane, rule_context_membrane}
 use Rattle.lmn_body.specs.Rules.{PartAtoms}
 use Rattle.lmn_body.specs.Running.{Registers}
 use Rattle.lmn_body.specs.Within.{membrane_images}
-use Rattle.lmn_body.proofs.HeadPorts.{in_append}
-use Rattle.lmn_bridge.specs.HeapRegions.{Reading, regions_at, region_at}
+use Rattle.lmn_bridge.specs.HeapRegions.{HeapReading, regions_at, region_at}
 use Rattle.lmn_bridge.specs.Laws.{EmbedsAlike}
 use Rattle.lmn_bridge.specs.Numbers.{numbers_left}
 use Rattle.lmn_bridge.specs.Parts.{HasPart, TakesParts}
@@ -56,13 +55,13 @@ use Rattle.lmn_reduction.specs.Parts.{IsInteger}
 use Rattle.lmn_bridge.proofs.Weighing.{weigh_out}
 use Rattle.lmn_bridge.specs.Premises.{IsRead, HasForest, IsRule}
 use Rattle.lmn_bridge.proofs.Back.{Reads}
-use Rattle.lmn_bridge.proofs.Counting.{weigh, weigh_same, weigh_both}
+use Rattle.lmn_bridge.proofs.Counting.{weigh_same}
 use Rattle.lmn_bridge.proofs.Forests.{Grown, forms_tops, forms_grown, once_of}
 use Rattle.lmn_bridge.proofs.HeadTrees.{tree_of, level_tree}
 use Rattle.lmn_bridge.proofs.Lying.{Lies, lies}
 use Rattle.lmn_bridge.proofs.PartsOut.{flattened, parts_both}
 use Rattle.lmn_bridge.proofs.Results.{is_tree, no_rules}
-use Rattle.lmn_bridge.proofs.Runs.{parts_in, in_parts, get_some, get_below}
+use Rattle.lmn_bridge.proofs.Runs.{parts_in, in_parts}
 use Rattle.lmn_bridge.proofs.Walking.{run}
 use Rattle.lmn_turn.specs.Turning.{IsLeft, IsRegisters}
 use Rattle.lmn_turn.proofs.Adders.{at}
@@ -73,6 +72,9 @@ use Rattle.lmn_turn.proofs.Held.{Held, HeldLevel}
 use Rattle.lmn_turn.proofs.LeftOver.{Room, LeftThere, left_there, each_read, contexts_there, name_among}
 use Rattle.lmn_turn.proofs.PartNames.{part_named}
 use Rattle.lmn_turn.proofs.PlanTypes.{plan_types}
+use Rattle.lmn_base.specs.Graphs.{Port}
+use Rattle.lmn_base.proofs.Lists.{weigh, get_below, get_there as get_some, weigh_append}
+use Rattle.lmn_splice.proofs.Common.{in_append}
 
 -- the images of numbers in a row
 rising_run : (g : ℕ → ℕ) (a n : ℕ) → map g (rising a n) ≡ run g a n
@@ -81,14 +83,14 @@ rising_run g a (suc n) = let z : suc a ≡ a + 1 = omega arith in ap (λ xs. g a
 
 -- ---- what is found, at the root
 
-module _ (h : Heap) (r : Reading) (read : IsRead h r) (c : Contents) (all_as all_ps all_ms taken ks : List ℕ)
+module _ (h : Heap) (r : HeapReading) (read : IsRead h r) (c : Contents) (all_as all_ps all_ms taken ks : List ℕ)
     (takes_as : (b : ℕ) → In b all_as → In b taken) (takes_ps : (b : ℕ) → In b all_ps → In b taken) (takes_only : (b : ℕ) → In b taken → In b all_as ⊎ In b all_ps)
     (ms_are : (b : ℕ) → In b all_ms → In b ks) (ks_are : (b : ℕ) → In b ks → In b all_ms) (kind : ℕ → TypeKind) (at : ℕ → ℕ) where
   -- what the contexts of a head stand for
   pub record HeadThere (hd : Head) : Type 0 where
-    pub contexts : (e : ℕ × ℕ) → splice.In e (head_names untyped 0 1 hd) →
+    pub contexts : (e : ℕ × ℕ) → splice.IsOneOf e (head_names untyped 0 1 hd) →
         IsLeft h r taken ks (at e.1) (region (c.atoms_of (name_of r.names e.0)) (c.membranes_of (name_of r.names e.0)) (map r.rule (rules_in h (at e.1))))
-    pub rules : (e : ℕ × ℕ) → splice.In e (head_names of_rules 0 1 hd) → c.rules_of (name_of r.names e.0) ≡ map r.rule (rules_in h (at e.1))
+    pub rules : (e : ℕ × ℕ) → splice.IsOneOf e (head_names of_rules 0 1 hd) → c.rules_of (name_of r.names e.0) ≡ map r.rule (rules_in h (at e.1))
 
   pub head_there : (hd : Head) (m : ℕ) {ns xs : List ℕ} {ps : List (List ℕ)} {bs ms : List ℕ} {i i' : Forest} → EachLevel (λ l. NoConnectorLeaf (tree_leaves l)) (tree_of r.names r.rule hd) →
       own_contexts (tree_of r.names r.rule hd) ≡ [] → own_rule_contexts (tree_of r.names r.rule hd) ≡ [] →
@@ -98,7 +100,7 @@ module _ (h : Heap) (r : Reading) (read : IsRead h r) (c : Contents) (all_as all
       let deeper : Room h read.valid r c all_as all_ps all_ms taken ks takes_as takes_ps takes_only ms_are ks_are (λ b. 0 + (weigh (one_if_same b) bs + weigh (one_if_same b) (flattened parts))) (λ b. 0) [] i as' ps ms = record {
         atom_room = λ b. let u = room.atom_room b in omega (arith, u, weigh_out (one_if_same b) bs (atoms_in h m) dist among out);
         membrane_room = room.membrane_room;
-        all_atoms_are = λ b. let u = room.all_atoms_are b in omega (arith, u, weigh_both (one_if_same b) bs as', parts_both (one_if_same b) parts ps);
+        all_atoms_are = λ b. let u = room.all_atoms_are b in omega (arith, u, weigh_append (one_if_same b) bs as', parts_both (one_if_same b) parts ps);
         all_membranes_are = room.all_membranes_are;
       } in
       let below = contexts_there h read.valid r c all_as all_ps all_ms taken ks takes_as takes_ps takes_only ms_are ks_are kind at hs 1 (λ b. 0 + (weigh (one_if_same b) bs + weigh (one_if_same b) (flattened parts))) (λ b. 0) o.1 inner deeper reads grown in
@@ -122,7 +124,7 @@ leaf_known P n o p (l ∷ ls) a (zero, within, e) = let same : l ≡ leaf.Typed 
 leaf_known P n o p (l ∷ ls) a (suc k, within, e) = leaf_known P n o p ls (all_right P (leaf_names l) (flat_map leaf_names ls) a) (k, omega (arith, within), e)
 
 -- the name of a typed context of a body is known
-body_typed_known : (r : Reading) (rule : RuleTree) → IsRule r rule → (n : ℕ) (o : Occ) (p : Pos) → Contains (leaves_of rule.body) (leaf.Typed n o p) → HasNames r.names (n ∷ [])
+body_typed_known : (r : HeapReading) (rule : RuleTree) → IsRule r rule → (n : ℕ) (o : Occ) (p : Pos) → Contains (leaves_of rule.body) (leaf.Typed n o p) → HasNames r.names (n ∷ [])
 body_typed_known r rule is n o p w =
     let P : ℕ → Type 0 = λ n. n < length r.names in
     let body = all_right P (level_names rule.head ++ flat_map condition_names rule.guard) (level_names rule.body) is.known in
@@ -133,7 +135,7 @@ body_typed_known r rule is n o p w =
 -- ---- the embedding
 
 module _ (head_law : AcceptedHeads) (least_law : AcceptedLeast) (alike : EmbedsAlike) (bound_law : BoundNames) (table : List RuleTree) (rule : RuleTree) (plan : GuardPlan) (ready : IsReady table rule plan)
-    (h : Heap) (r : Reading) (read : IsRead h r) (is_rule : IsRule r rule) (m : ℕ) (mi : Forest) (forest : HasForest h m mi) (s : Registers) (first : IsFirst h (rule_head_code rule plan) m s.head) where
+    (h : Heap) (r : HeapReading) (read : IsRead h r) (is_rule : IsRule r rule) (m : ℕ) (mi : Forest) (forest : HasForest h m mi) (s : Registers) (first : IsFirstSuccess h (rule_head_code rule plan) m s.head) where
   abbrev kind : ℕ → TypeKind
   kind = kind_in plan.kinds
 
@@ -271,7 +273,7 @@ module _ (head_law : AcceptedHeads) (least_law : AcceptedLeast) (alike : EmbedsA
         (subst (λ xs. HasTyped xs n u) as_flat k),
   )
 
-  bound_is : (n : ℕ) (o : Occ) (p : Pos) → Contains (leaves_of rule.body) (leaf.Typed n o p) → (rule_names rule plan).part n ≡ None → IsInteger (s.head.integer ((rule_names rule plan).integer n)) (c.typed_of (name_of r.names n))
+  bound_is : (n : ℕ) (o : Occ) (p : Pos) → Contains (leaves_of rule.body) (leaf.Typed n o p) → (rule_body_names rule plan).part n ≡ None → IsInteger (s.head.integer ((rule_body_names rule plan).integer n)) (c.typed_of (name_of r.names n))
   bound_is n o p w q =
       let parts = ground_parts h r read kind rule is_rule s.head.images (assignment_of c) takes in
       let none : (meaning items s.head.images).part_of n ≡ None = ap (option_map s.head.images.part) q in

@@ -3,9 +3,8 @@ use Rattle.std.proofs.Common.{ℕ, ◌≡◌, ◌+◌, ◌<◌, ◌≤◌, List,
 use Rattle.lmn_base.specs.declared.solid.SolidAtom.{SolidAtom}
 use Rattle.lmn_heap.specs.Heap.{Heap, IsMem}
 use Rattle.lmn_heap.specs.Lists.{In}
-use Rattle.lmn_heap.specs.Solid.{atoms_of}
+use Rattle.lmn_heap.specs.Solid.{solid_atoms_at}
 use Rattle.lmn_congruence.specs.Regions as region
-use Rattle.lmn_adequacy.specs.Next.{of_rule, of_solid}
 use Rattle.lmn_solid.specs.declared.items.HeadItem.{HeadItem}
 use Rattle.lmn_solid.specs.Heads.{atoms_of as atoms_of_head}
 use Rattle.lmn_splice.specs.Splice as splice
@@ -14,16 +13,17 @@ use Rattle.lmn_body.specs.Items.{connectors}
 use Rattle.lmn_body.specs.Made.{copies_of}
 use Rattle.lmn_body.specs.Running.{Registers}
 use Rattle.lmn_body.specs.Within.{FiresWithin, FiredSolid, added_with_copies, left_solid}
-use Rattle.lmn_bridge.specs.HeapRegions.{Reading}
+use Rattle.lmn_bridge.specs.HeapRegions.{HeapReading}
 use Rattle.lmn_turn.proofs.CopyLinks.{over, over_rule, over_solid}
 use Rattle.lmn_turn.proofs.CopyMaps.{CopyData, Copies, chosen, KnownBy, each_known, raw_part}
 use Rattle.lmn_turn.proofs.EachCopy.{EachCopy}
 use Rattle.lmn_turn.proofs.LinksBelow.{links_limit}
 use Rattle.lmn_turn.proofs.LinksKept.{left_same}
 use Rattle.lmn_turn.proofs.Turns.{FiredTo}
+use Rattle.lmn_splice.specs.Splice.{of_rule, of_solid}
 
 -- All membranes are among ms, and the links of their atoms are below the limit.
-module _ (h h' : Heap) (r : Reading) (s : Registers) (head : List HeadItem) (body : List BodyItem) (taken : List ℕ) (f : FiresWithin h (λ p. r.name p.0 p.1) s head body taken h')
+module _ (h h' : Heap) (r : HeapReading) (s : Registers) (head : List HeadItem) (body : List BodyItem) (taken : List ℕ) (f : FiresWithin h (λ p. r.name p.0 p.1) s head body taken h')
     (solid : FiredSolid h (λ p. r.name p.0 p.1) s head body taken h' f) (copies : Copies h h' (λ p. r.name p.0 p.1) f.number s (λ z. f.to (of_rule z)) (copies_of 0 body))
     (ms : List ℕ) (all : (x : ℕ) → IsMem h x → In x ms) (limit : ℕ) (above : links_limit h r ms ≤ limit) where
   -- the copies of the body by their numbers, and how many they are
@@ -39,7 +39,7 @@ module _ (h h' : Heap) (r : Reading) (s : Registers) (head : List HeadItem) (bod
 
   -- the atoms of each copy after the firing, and those of the raw level at a link of the rule
   abbrev pub copy_of : ℕ → List SolidAtom
-  copy_of k = atoms_of h' (λ a i. f.number (a, i)) (s.copied k)
+  copy_of k = solid_atoms_at h' (λ a i. f.number (a, i)) (s.copied k)
 
   abbrev pub part_of : ℕ → ℕ → List region.SolidAtom
   part_of k x = raw_part h r limit (data_of k) k x
@@ -52,7 +52,7 @@ module _ (h h' : Heap) (r : Reading) (s : Registers) (head : List HeadItem) (bod
   map_solid = over_solid f.to limit count (λ k. (data_of k).to)
 
   -- so it fuses the connectors of the body,
-  pub map_joins : (d : ℕ × ℕ) → splice.In d (connectors body) → map_of (of_rule d.0) ≡ map_of (of_rule d.1)
+  pub map_joins : (d : ℕ × ℕ) → splice.IsOneOf d (connectors body) → map_of (of_rule d.0) ≡ map_of (of_rule d.1)
   map_joins d i = map_rule d.0 ∙ f.connectors_fused d i ∙ sym (map_rule d.1)
 
   left_is : left_solid h (λ p. r.name p.0 p.1) taken (λ z. f.to (of_solid z)) ≡ left_solid h (λ p. r.name p.0 p.1) taken (λ z. map_of (of_solid z))

@@ -1,5 +1,5 @@
 -- An embedding in order, found on the heap: its images, links and parts are those of the heap's embedding.
-use Rattle.std.proofs.Common.{ℕ, zero, suc, ◌≡◌, ◌≢◌, ◌+◌, ◌<◌, ◌≤◌, List, [], ◌∷◌, map, length, Some, refl, sym, ap, subst, ◌∙◌, inl, inr, arith}
+use Rattle.std.proofs.Common.{ℕ, suc, ◌≡◌, ◌≢◌, ◌+◌, ◌≤◌, List, [], ◌∷◌, map, length, Some, refl, sym, ap, subst, ◌∙◌, inl, arith}
 use Rattle.std.specs.Prelude.{slice_get, slice_index_or}
 use Rattle.lmn_base.specs.declared.guard.Cond.{Cond}
 use Rattle.lmn_guards.specs.declared.plan.TypeKind.{TypeKind}
@@ -7,26 +7,25 @@ use Rattle.lmn_heap.specs.Heap.{Heap, atoms_in, mems_in, rules_in}
 use Rattle.lmn_heap.specs.Lists.{In, Distinct}
 use Rattle.lmn_heap.specs.Sound.{Forest, flat, Forms, Valid}
 use Rattle.lmn_heap.proofs.Trees.{nil_right}
-use Rattle.lmn_heap.proofs.ListLemmas.{in_left, in_right}
 use Rattle.lmn_solid.specs.declared.items.HeadItem.{HeadItem}
-use Rattle.lmn_solid.specs.Heads.{HeadAtom, HeadTyped, Port, atoms_of, typed_contexts_of, membranes_of, inside_of}
+use Rattle.lmn_solid.specs.Heads.{HeadAtom, HeadTyped, atoms_of, typed_contexts_of, membranes_of, inside_of}
 use Rattle.lmn_solid.specs.Embeddings.{Images, Embeds, HasLink, HasAtom, HasTyped}
 use Rattle.lmn_solid.proofs.HeadTrees.{Head, flat_items}
 use Rattle.lmn_congruence.specs.Links.{one_if_same, places}
 use Rattle.lmn_congruence.specs.Regions.{Region, region}
 use Rattle.lmn_congruence.specs.Translation.{name_of}
 use Rattle.lmn_reduction.specs.Assignments.{Assignment}
-use Rattle.lmn_adequacy.specs.Accepted.{NoConnectorLeaf, EachLevel, leaves_of}
+use Rattle.lmn_adequacy.specs.Accepted.{NoConnectorLeaf, EachLevel, own_leaves}
 use Rattle.lmn_adequacy.specs.Embedding.{Plain, LevelImages, IsPart}
 use Rattle.lmn_adequacy.specs.Next.{Contents, assignment_of, EachLeft}
 use Rattle.lmn_compile_head.specs.Heads.{EachInside}
-use Rattle.lmn_bridge.specs.HeapRegions.{Reading, regions_at, region_at}
+use Rattle.lmn_bridge.specs.HeapRegions.{HeapReading, regions_at, region_at}
 use Rattle.lmn_bridge.specs.Numbers.{numbers_left}
 use Rattle.lmn_bridge.specs.Premises.{IsRead}
 use Rattle.lmn_bridge.specs.Parts.{HasPart, IsGroundPart}
 use Rattle.lmn_bridge.proofs.Back.{Reads, walk_level, Stood}
 use Rattle.lmn_bridge.proofs.Contexts.{NoRules}
-use Rattle.lmn_bridge.proofs.Counting.{weigh, weigh_both, weigh_same, list_atoms, tree_atoms, forest_atoms, places_both}
+use Rattle.lmn_bridge.proofs.Counting.{weigh_same, list_atoms, tree_atoms, forest_atoms}
 use Rattle.lmn_bridge.proofs.Forests.{forms_tops, forms_grown, once_of, some_of, tree_once, distinct_of}
 use Rattle.lmn_bridge.proofs.HeadTrees.{tree_of}
 use Rattle.lmn_bridge.proofs.Laying.{AtomLies, MembraneLies, TypedLies, all_atoms, all_parts, all_membranes, total}
@@ -38,42 +37,24 @@ use Rattle.lmn_bridge.proofs.PartsLaid.{held_part}
 use Rattle.lmn_bridge.proofs.PartsOut.{flattened}
 use Rattle.lmn_bridge.proofs.Pieces.{atom_at, atoms_each}
 use Rattle.lmn_bridge.proofs.Ports.{port_named, get_map}
-use Rattle.lmn_bridge.proofs.Runs.{get_below, get_inside}
+use Rattle.lmn_bridge.proofs.Runs.{get_inside}
 use Rattle.lmn_bridge.proofs.Walking.{Walk, walk_from, walk_atom, walk_typed, atoms_in_items, typed_in_items, membranes_in_items, run}
 use Rattle.lmn_bridge.proofs.Weighing.{level_weighs, weigh_nothing}
 use Rattle.lmn_turn.proofs.Held.{Held, HeldLevel, held_level, lies_kept}
 use Rattle.lmn_turn.proofs.Numbered.{SameImages, same_images, embedding_fresh}
+use Rattle.lmn_base.specs.Graphs.{Port}
+use Rattle.lmn_base.proofs.Lists.{weigh, get_below, weigh_append}
+use Rattle.lmn_bridge.proofs.OutOf.{flattened_in, index_in, places_part, reads_index}
 
 -- ---- lists by their indices
-
-reads_index : {A : Type 0} (none : A) (xs : List A) (g : ℕ → A) (n : ℕ) → ((i : ℕ) → i < length xs → g (n + i) ≡ slice_index_or xs i none) → Reads g n xs
-reads_index none [] g n h = tt
-reads_index none (x ∷ xs) g n h =
-    let z : n + 0 ≡ n = omega arith in
-    (ap g (sym z) ∙ h 0 (omega arith), reads_index none xs g (n + 1) (λ i l. let y : (n + 1) + i ≡ n + suc i = omega arith in ap g y ∙ h (suc i) (omega (arith, l))))
 
 pub reads_run : {A : Type 0} (g : ℕ → A) (n : ℕ) (bs : List A) → Reads g n bs → run g n (length bs) ≡ bs
 reads_run g n [] h = refl
 reads_run g n (b ∷ bs) h = λ j. h.0 j ∷ reads_run g (n + 1) bs h.1 j
 
-places_part : (ps : List (List ℕ)) (b n : ℕ) → places b (slice_index_or ps n []) ≤ places b (flattened ps)
-places_part [] b n = omega arith
-places_part (p ∷ ps) b zero = omega (arith, places_both b p (flattened ps))
-places_part (p ∷ ps) b (suc n) = omega (arith, places_part ps b n, places_both b p (flattened ps))
-
-flattened_in : (ps : List (List ℕ)) (b n : ℕ) → In b (slice_index_or ps n []) → In b (flattened ps)
-flattened_in [] b n k = absurd k
-flattened_in (p ∷ ps) b zero k = in_left b p (flattened ps) k
-flattened_in (p ∷ ps) b (suc n) k = in_right b p (flattened ps) (flattened_in ps b n k)
-
-index_in : (xs : List ℕ) (i : ℕ) → i < length xs → In (slice_index_or xs i 0) xs
-index_in [] i l = absurd (omega (arith, l))
-index_in (x ∷ xs) zero l = inl refl
-index_in (x ∷ xs) (suc i) l = inr (index_in xs i (omega (arith, l)))
-
-module _ (h : Heap) (r : Reading) (read : IsRead h r) (kind : ℕ → TypeKind) (hd : Head) (m : ℕ) (inner : Forest) (forms : Forms h inner (mems_in h m)) (once : Distinct (m ∷ flat inner))
+module _ (h : Heap) (r : HeapReading) (read : IsRead h r) (kind : ℕ → TypeKind) (hd : Head) (m : ℕ) (inner : Forest) (forms : Forms h inner (mems_in h m)) (once : Distinct (m ∷ flat inner))
     (c : Contents) (plain : Plain (assignment_of c)) (ns : List ℕ) (rest : Region) (images : LevelImages (assignment_of c) (tree_of r.names r.rule hd) ns (region_at h r m inner) rest) (left : EachLeft c images)
-    (o : EachLevel (λ l. NoConnectorLeaf (leaves_of l)) (tree_of r.names r.rule hd)) (none : EachLevel NoRules (tree_of r.names r.rule hd))
+    (o : EachLevel (λ l. NoConnectorLeaf (own_leaves l)) (tree_of r.names r.rule hd)) (none : EachLevel NoRules (tree_of r.names r.rule hd))
     (holds_typed : (n : ℕ) (u : HeadTyped) → HasTyped (flat_items kind 0 1 hd) n u → (p : Port) × HasLink (flat_items kind 0 1 hd) u.link p) (inside : EachInside 0 (flat_items kind 0 1 hd))
     (guard : List Cond) (f : Images) (em : Embeds h (flat_items kind 0 1 hd) guard m f) (numbers : numbers_left h f 0 1 [] [] (flat_items kind 0 1 hd) ≡ ns) where
   abbrev items : List HeadItem
@@ -108,7 +89,7 @@ module _ (h : Heap) (r : Reading) (read : IsRead h r) (kind : ℕ → TypeKind) 
   whole_once b =
       let whole = subst (λ z. Distinct (m ∷ z)) (sym (nil_right (flat inner))) once in
       let u = tree_once h v m inner whole b in
-      omega (arith, u, weigh_both (one_if_same b) (atoms_in h m) (forest_atoms h inner), weigh_same b (tree_atoms h m inner))
+      omega (arith, u, weigh_append (one_if_same b) (atoms_in h m) (forest_atoms h inner), weigh_same b (tree_atoms h m inner))
 
   listed_numbers : numbers_left h listed 0 1 [] [] items ≡ ns
   listed_numbers = level_numbers h v r c.link_of c.typed_of (Held h v r c) listed kind 0 1 0 hd m [] [] refl o found.lying

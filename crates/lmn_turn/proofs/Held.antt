@@ -1,7 +1,7 @@
 -- A head that lies in the region of a heap, with what its contexts stand for, by numbers.
 use Rattle.std.proofs.Common.{ℕ, ◌≡◌, ◌⊎◌, List, [], ◌∷◌, ◌++◌, map, refl, sym, ap, subst, ◌∙◌, inl, inr}
 use Rattle.lmn_heap.specs.Heap.{Heap, atoms_in, rules_in}
-use Rattle.lmn_heap.specs.Lists.{In, Distinct}
+use Rattle.lmn_heap.specs.Lists.{In, Distinct, without_all}
 use Rattle.lmn_heap.specs.Sound.{Forest, bare, mem, Forms, Valid}
 use Rattle.lmn_heap.proofs.ListLemmas.{in_left, in_right}
 use Rattle.lmn_congruence.specs.Orders.{Among, at_head, further}
@@ -13,17 +13,16 @@ use Rattle.lmn_reduction.specs.Parts.{Rooted}
 use Rattle.lmn_adequacy.specs.Accepted.{own_contexts, own_rule_contexts}
 use Rattle.lmn_adequacy.specs.Embedding.{LevelImages, level_images, MembraneImages, no_membrane_image, membrane_image_and, KeepsLinks, filling}
 use Rattle.lmn_adequacy.specs.Next.{Contents, assignment_of, LeftTo, LeftToContext, LeftToRuleContext, no_context, one_context, no_rule_context, one_rule_context, EachLeft, EachLeftIn}
-use Rattle.lmn_bridge.specs.HeapRegions.{Reading, regions_at}
-use Rattle.lmn_bridge.specs.Numbers.{without_all}
+use Rattle.lmn_bridge.specs.HeapRegions.{HeapReading, regions_at}
 use Rattle.lmn_bridge.proofs.Counting.{list_atoms}
 use Rattle.lmn_bridge.proofs.Forests.{tops, Grown, taken_grown}
 use Rattle.lmn_bridge.proofs.Lying.{Kept, Lies, lies, LiesIn, lies_none, lies_and, rest_at}
 use Rattle.lmn_bridge.proofs.PartsOut.{PartsOut, parts_none, parts_atom, parts_typed, find_parts, flattened, merged_either}
 use Rattle.lmn_bridge.proofs.Pieces.{atom_at, atoms_each}
 use Rattle.lmn_bridge.proofs.Read.{find_leaves, find_tree}
-use Rattle.lmn_turn.proofs.Sublists.{Sublist, sub_itself, sub_then, sub_merged, sub_tree, tree_or_left}
+use Rattle.lmn_turn.proofs.Sublists.{Sublist, sub_itself, sub_then, sub_merged, sub_tree}
 
-module _ (h : Heap) (v : Valid h) (r : Reading) (c : Contents) where
+module _ (h : Heap) (v : Valid h) (r : HeapReading) (c : Contents) where
   abbrev t : Assignment
   t = assignment_of c
 
@@ -136,19 +135,11 @@ parts_or_left (parts_typed {parts = parts} {part = part} ground is m p) a i = el
   | inr j ↦ elim (parts_or_left p a j) [ inl k ↦ inl (in_right a part (flattened parts) k) | inr k ↦ inr k ]
 ]
 
-pub tops_sub : {h : Heap} {r : Reading} {link_of : ℕ → ℕ} {typed_of : Name → Rooted} {Q : Level → ℕ → List ℕ → Forest → Forest → Type 0} {ls : Levels} {bs ms ns : List ℕ} {ps : List (List ℕ)} {f f' : Forest} → LiesIn h r link_of typed_of Q ls bs ps ms ns f f' → Sublist (tops f') (tops f)
+pub tops_sub : {h : Heap} {r : HeapReading} {link_of : ℕ → ℕ} {typed_of : Name → Rooted} {Q : Level → ℕ → List ℕ → Forest → Forest → Type 0} {ls : Levels} {bs ms ns : List ℕ} {ps : List (List ℕ)} {f f' : Forest} → LiesIn h r link_of typed_of Q ls bs ps ms ns f f' → Sublist (tops f') (tops f)
 tops_sub (lies_none {f = f}) = sub_itself (tops f)
 tops_sub (lies_and k d q later) = sub_then (tops_sub later) (sub_tree k)
 
-pub tops_or_left : {h : Heap} {r : Reading} {link_of : ℕ → ℕ} {typed_of : Name → Rooted} {Q : Level → ℕ → List ℕ → Forest → Forest → Type 0} {ls : Levels} {bs ms ns : List ℕ} {ps : List (List ℕ)} {f f' : Forest} → LiesIn h r link_of typed_of Q ls bs ps ms ns f f' →
-    (z : ℕ) → In z (tops f) → In z ms ⊎ In z (tops f')
-tops_or_left lies_none z i = inr i
-tops_or_left (lies_and {m = m} {ms = ms} {ks = ks} k d q later) z i = elim (tree_or_left k z i) [
-  | inl e ↦ inl (inl e)
-  | inr j ↦ elim (tops_or_left later z j) [ inl w ↦ inl (inr (in_right z ms ks w)) | inr w ↦ inr w ]
-]
-
-pub left_grown : {h : Heap} {r : Reading} {link_of : ℕ → ℕ} {typed_of : Name → Rooted} {Q : Level → ℕ → List ℕ → Forest → Forest → Type 0} {ls : Levels} {bs ms ns : List ℕ} {ps : List (List ℕ)} {f f' : Forest} → LiesIn h r link_of typed_of Q ls bs ps ms ns f f' → Grown h f → Grown h f'
+pub left_grown : {h : Heap} {r : HeapReading} {link_of : ℕ → ℕ} {typed_of : Name → Rooted} {Q : Level → ℕ → List ℕ → Forest → Forest → Type 0} {ls : Levels} {bs ms ns : List ℕ} {ps : List (List ℕ)} {f f' : Forest} → LiesIn h r link_of typed_of Q ls bs ps ms ns f f' → Grown h f → Grown h f'
 left_grown lies_none g = g
 left_grown {h = h} (lies_and k d q later) g = left_grown later (taken_grown h k g).1
 

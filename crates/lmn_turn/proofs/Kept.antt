@@ -7,17 +7,18 @@ use Rattle.lmn_congruence.specs.Fused.{Joins}
 use Rattle.lmn_congruence.specs.Plains.{fused_levels, leaf_process, level_process, levels_processes}
 use Rattle.lmn_congruence.specs.Process.{together, rule}
 use Rattle.lmn_congruence.specs.Regions.{Region, Regions, SolidAtom, no_region, region, region_and}
-use Rattle.lmn_congruence.specs.Rules.{Level, Rule, level, rules_list}
+use Rattle.lmn_congruence.specs.Rules.{Level, level, rules_list}
 use Rattle.lmn_congruence.specs.Same.{renamed_atom}
 use Rattle.lmn_congruence.specs.Translation.{levels, rules as listed_rules}
-use Rattle.lmn_adequacy.specs.Next.{kept_atoms, kept_level, kept_membranes, of_solid}
-use Rattle.lmn_adequacy.proofs.InOrder.{rules_listed}
-use Rattle.lmn_bridge.specs.HeapRegions.{Reading, atoms_at, regions_at}
+use Rattle.lmn_adequacy.specs.Next.{kept_atoms, kept_level, kept_membranes}
+use Rattle.lmn_bridge.specs.HeapRegions.{HeapReading, atoms_at, regions_at}
 use Rattle.lmn_turn.specs.Standing.{StandAs, none_stands, one_stands}
 use Rattle.lmn_turn.proofs.Bodies.{fused_kept}
+use Rattle.lmn_splice.specs.Splice.{of_solid}
+use Rattle.lmn_congruence.proofs.Common.{rules_join, rules_listed}
 
-module _ (h h' : Heap) (r : Reading) (name : ℕ → ℕ → ℕ) (to : ℕ → ℕ) where
-  abbrev r' : Reading
+module _ (h h' : Heap) (r : HeapReading) (name : ℕ → ℕ → ℕ) (to : ℕ → ℕ) where
+  abbrev r' : HeapReading
   r' = record { name = name; names = r.names; rule = r.rule }
 
   -- a membrane that is as before, but for the numbers of its links
@@ -50,10 +51,6 @@ module _ (h h' : Heap) (r : Reading) (name : ℕ → ℕ → ℕ) (to : ℕ → 
 pub kept_atoms_join : (to : ℕ → ℕ) (xs : List SolidAtom) → Joins to (together (map leaf_process (kept_atoms xs)))
 kept_atoms_join to [] = tt
 kept_atoms_join to (x ∷ xs) = (tt, kept_atoms_join to xs)
-
-pub rules_join : (to : ℕ → ℕ) (rs : List Rule) → Joins to (together (map rule rs))
-rules_join to [] = tt
-rules_join to (x ∷ rs) = (tt, rules_join to rs)
 
 mutual
   pub kept_level_joins : (to : ℕ → ℕ) (m : Region) → Joins to (level_process (kept_level m))

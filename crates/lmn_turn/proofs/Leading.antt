@@ -8,7 +8,7 @@ use Rattle.lmn_heap.proofs.Groves.{forms_one}
 use Rattle.lmn_congruence.specs.Regions.{Region, Regions, SolidAtom, region}
 use Rattle.lmn_congruence.specs.Rules.{Rule}
 use Rattle.lmn_adequacy.specs.Embedding.{EmbedsAt, EmbedsIn, embeds_here, embeds_below, Taken, taken_first, taken_later, TakenRegion, region_first, region_later}
-use Rattle.lmn_bridge.specs.HeapRegions.{Reading, regions_at, region_at}
+use Rattle.lmn_bridge.specs.HeapRegions.{HeapReading, regions_at, region_at}
 use Rattle.lmn_turn.specs.Turning.{Leads, stays, enters}
 
 -- one item has a number in a list
@@ -29,7 +29,7 @@ below (embeds_below t e) = (_, _, t, e)
 here : {k : ℕ} {g : List ℕ} {xs : List SolidAtom} {ms : Regions} {rs : List Rule} → EmbedsIn [] k g (region xs ms rs) → (rule : Rule) × (others : List Rule) × Taken k rule rs others × EmbedsAt rule g (region xs ms rs)
 here (embeds_here t e) = (_, _, t, e)
 
-module _ (h : Heap) (r : Reading) where
+module _ (h : Heap) (r : HeapReading) where
   -- the region with a number in a forest is that of the membrane with this number
   region_there : {n : ℕ} {s : Region} {all others : Regions} → TakenRegion n s all others → (i : Forest) (ms : List ℕ) (y : ℕ) → regions_at h r i ≡ all → Forms h i ms → slice_get ms n ≡ Some y →
       (j : Forest) × Forms h j (mems_in h y) × (s ≡ region_at h r y j)

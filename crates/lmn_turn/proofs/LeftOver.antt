@@ -2,26 +2,24 @@
 use Rattle.std.proofs.Common.{ℕ, ◌≡◌, ◌+◌, ◌≤◌, ◌⊎◌, List, [], ◌∷◌, ◌++◌, map, length, sym, ap, subst, ◌∙◌, inl, inr, arith}
 use Rattle.lmn_base.specs.declared.level.CtxUse.{CtxUse}
 use Rattle.lmn_heap.specs.Heap.{Heap, IsAtom, atoms_in, mems_in, rules_in}
-use Rattle.lmn_heap.specs.Lists.{In}
+use Rattle.lmn_heap.specs.Lists.{In, without_all}
 use Rattle.lmn_heap.specs.Sound.{Forest, flat, Forms, Valid}
 use Rattle.lmn_heap.proofs.ListLemmas.{in_left, each_in, each_of}
 use Rattle.std.proofs.lemmas.Bool.{cases_eq}
 use Rattle.lmn_body.proofs.Committing.{in_withouts_of}
 use Rattle.lmn_splice.specs.Splice as splice
-use Rattle.lmn_body.proofs.HeadPorts.{in_append}
 use Rattle.lmn_congruence.specs.Links.{one_if_same}
 use Rattle.lmn_congruence.specs.Orders.{Among, at_head, further}
 use Rattle.lmn_congruence.specs.Regions.{region}
 use Rattle.lmn_congruence.specs.Rules.{Level, Name, level}
 use Rattle.lmn_congruence.specs.Translation.{name_of, names_of}
-use Rattle.lmn_adequacy.specs.Accepted.{NoConnectorLeaf, EachOf, leaves_of}
+use Rattle.lmn_adequacy.specs.Accepted.{NoConnectorLeaf, EachOf, own_leaves}
 use Rattle.lmn_adequacy.specs.Next.{Contents}
 use Rattle.lmn_solid.proofs.HeadTrees.{Heads, head, no_head, head_and, sizes}
 use Rattle.lmn_body.specs.Flattening.{names_inside}
-use Rattle.lmn_body.specs.Running.{withouts}
-use Rattle.lmn_bridge.specs.HeapRegions.{Reading, atoms_at}
-use Rattle.lmn_bridge.proofs.Back.{Reads, reads_split}
-use Rattle.lmn_bridge.proofs.Counting.{weigh, weigh_both, weigh_same, list_atoms, forest_atoms}
+use Rattle.lmn_bridge.specs.HeapRegions.{HeapReading, atoms_at}
+use Rattle.lmn_bridge.proofs.Back.{Reads, reads_split, tops_taken as tops_or_left}
+use Rattle.lmn_bridge.proofs.Counting.{weigh_same, list_atoms, forest_atoms}
 use Rattle.lmn_bridge.proofs.Forests.{tops, Grown, taken_grown, some_of, find_in, tops_flat}
 use Rattle.lmn_bridge.proofs.HeadTrees.{tree_of, trees_of}
 use Rattle.lmn_bridge.proofs.Lengths.{level_length}
@@ -32,8 +30,10 @@ use Rattle.lmn_bridge.proofs.Walking.{flat_size}
 use Rattle.lmn_bridge.proofs.Weighing.{heavy_taken, level_weighs, membranes_weigh, weigh_nothing, weigh_out}
 use Rattle.lmn_compile_body.proofs.HeadContexts.{heads_names, untyped, of_rules}
 use Rattle.lmn_turn.specs.Turning.{IsLeft}
-use Rattle.lmn_turn.proofs.Held.{Held, context_is, rule_context_is, parts_sub, parts_or_left, tops_sub, tops_or_left, left_grown, grown_forms}
+use Rattle.lmn_turn.proofs.Held.{Held, context_is, rule_context_is, parts_sub, parts_or_left, tops_sub, left_grown, grown_forms}
 use Rattle.lmn_turn.proofs.Sublists.{Sublist, sub_then, sub_without_all, gone_or_left, sub_is}
+use Rattle.lmn_base.proofs.Lists.{weigh, weigh_append}
+use Rattle.lmn_splice.proofs.Common.{in_append}
 use Rattle.lmn_guards.specs.declared.plan.TypeKind.{TypeKind}
 
 in_some : (b : ℕ) (xs : List ℕ) → In b xs → 1 ≤ weigh (one_if_same b) xs
@@ -43,13 +43,13 @@ some_in : (b : ℕ) (xs : List ℕ) → 1 ≤ weigh (one_if_same b) xs → In b 
 some_in b xs p = find_in b xs (omega (arith, weigh_same b xs, p))
 
 -- a name of some contexts is among those of the calculus
-pub name_among : (names : List Name) (inside : ℕ) (us : List CtxUse) (e : ℕ × ℕ) → splice.In e (names_inside inside us) → Among (name_of names e.0) (names_of names us) × (e.1 ≡ inside)
+pub name_among : (names : List Name) (inside : ℕ) (us : List CtxUse) (e : ℕ × ℕ) → splice.IsOneOf e (names_inside inside us) → Among (name_of names e.0) (names_of names us) × (e.1 ≡ inside)
 name_among names inside [] e i = absurd i
 name_among names inside (u ∷ us) e (inl q) =
     (subst (λ x. Among (name_of names x) (name_of names u.name ∷ names_of names us)) (ap (λ (p : ℕ × ℕ). p.0) q) at_head, sym (ap (λ (p : ℕ × ℕ). p.1) q))
 name_among names inside (u ∷ us) e (inr i) = let w = name_among names inside us e i in (further w.0, w.1)
 
-module _ (h : Heap) (v : Valid h) (r : Reading) (c : Contents) (all_as all_ps all_ms taken ks : List ℕ)
+module _ (h : Heap) (v : Valid h) (r : HeapReading) (c : Contents) (all_as all_ps all_ms taken ks : List ℕ)
     (takes_as : (b : ℕ) → In b all_as → In b taken) (takes_ps : (b : ℕ) → In b all_ps → In b taken) (takes_only : (b : ℕ) → In b taken → In b all_as ⊎ In b all_ps)
     (ms_are : (b : ℕ) → In b all_ms → In b ks) (ks_are : (b : ℕ) → In b ks → In b all_ms) where
   -- what stands elsewhere in the head, beside what is held in a list and a forest
@@ -61,8 +61,8 @@ module _ (h : Heap) (v : Valid h) (r : Reading) (c : Contents) (all_as all_ps al
 
   -- what is left of a membrane is what is left on the heap
   pub record LeftThere (m : ℕ) (xs : List ℕ) (i' : Forest) : Type 0 where
-    pub atoms : xs ≡ withouts taken (atoms_in h m)
-    pub forms : Forms h i' (withouts ks (mems_in h m))
+    pub atoms : xs ≡ without_all taken (atoms_in h m)
+    pub forms : Forms h i' (without_all ks (mems_in h m))
 
   pub left_there : (ea em : ℕ → ℕ) (l : Level) (m : ℕ) {bs ms ns xs : List ℕ} {ps : List (List ℕ)} {i i' : Forest} → Lies h r c.link_of c.typed_of (Held h v r c) l bs ps ms ns (atoms_in h m) xs i i' →
       Room ea em (atoms_in h m) i bs ps ms → tops i ≡ mems_in h m → Grown h i → LeftThere m xs i'
@@ -89,7 +89,7 @@ module _ (h : Heap) (v : Valid h) (r : Reading) (c : Contents) (all_as all_ps al
         | inl w ↦ inl (ms_are b (some_in b all_ms (let u = room.all_membranes_are b in omega (arith, u, in_some b ms w))))
         | inr w ↦ inr w
       ] in
-      let mems : tops i' ≡ withouts ks (mems_in h m) = sub_is ks (subst (Sublist (tops i')) grown (tops_sub k)) (v.sound.listed.mems_once m) gone_ms apart_ms in
+      let mems : tops i' ≡ without_all ks (mems_in h m) = sub_is ks (subst (Sublist (tops i')) grown (tops_sub k)) (v.sound.listed.mems_once m) gone_ms apart_ms in
       record {
         atoms = sub_is taken (sub_then (parts_sub out) (sub_without_all bs X)) (v.sound.listed.atoms_once m) gone apart;
         forms = subst (Forms h i') mems (grown_forms h i' (left_grown k g));
@@ -108,20 +108,20 @@ module _ (h : Heap) (v : Valid h) (r : Reading) (c : Contents) (all_as all_ps al
           ]
 
   -- a list of numbers as it is read
-  pub each_read : (m : ℕ) (xs : List ℕ) → xs ≡ withouts taken (atoms_in h m) → map (atom_at h r) xs ≡ atoms_at h r (withouts taken (atoms_in h m))
+  pub each_read : (m : ℕ) (xs : List ℕ) → xs ≡ without_all taken (atoms_in h m) → map (atom_at h r) xs ≡ atoms_at h r (without_all taken (atoms_in h m))
   each_read m xs e = subst (λ ys. map (atom_at h r) xs ≡ atoms_at h r ys) e (sym (atoms_each h r xs (each_of (IsAtom h) xs (λ a i. each_in (IsAtom h) (atoms_in h m) a (list_atoms h v m) (within a (subst (In a) e i))))))
     where
-      within : (a : ℕ) → In a (withouts taken (atoms_in h m)) → In a (atoms_in h m)
+      within : (a : ℕ) → In a (without_all taken (atoms_in h m)) → In a (atoms_in h m)
       within a i = (in_withouts_of taken (atoms_in h m) a (v.sound.listed.atoms_once m) i).0
 
   module _ (kind : ℕ → TypeKind) (at : ℕ → ℕ) where
     -- what the contexts of the membranes of a head stand for
     pub record ContextsThere (next : ℕ) (hs : Heads) : Type 0 where
-      pub contexts : (e : ℕ × ℕ) → splice.In e (heads_names untyped next hs) →
+      pub contexts : (e : ℕ × ℕ) → splice.IsOneOf e (heads_names untyped next hs) →
           IsLeft h r taken ks (at e.1) (region (c.atoms_of (name_of r.names e.0)) (c.membranes_of (name_of r.names e.0)) (map r.rule (rules_in h (at e.1))))
-      pub rules : (e : ℕ × ℕ) → splice.In e (heads_names of_rules next hs) → c.rules_of (name_of r.names e.0) ≡ map r.rule (rules_in h (at e.1))
+      pub rules : (e : ℕ × ℕ) → splice.IsOneOf e (heads_names of_rules next hs) → c.rules_of (name_of r.names e.0) ≡ map r.rule (rules_in h (at e.1))
 
-    pub contexts_there : (hs : Heads) (next : ℕ) (ea em : ℕ → ℕ) {bs ms ns : List ℕ} {ps : List (List ℕ)} {F F' : Forest} → EachOf (λ l. NoConnectorLeaf (leaves_of l)) (trees_of r.names r.rule hs) →
+    pub contexts_there : (hs : Heads) (next : ℕ) (ea em : ℕ → ℕ) {bs ms ns : List ℕ} {ps : List (List ℕ)} {F F' : Forest} → EachOf (λ l. NoConnectorLeaf (own_leaves l)) (trees_of r.names r.rule hs) →
         LiesIn h r c.link_of c.typed_of (Held h v r c) (trees_of r.names r.rule hs) bs ps ms ns F F' → Room ea em [] F bs ps ms → Reads at next ms → Grown h F → ContextsThere next hs
     contexts_there no_head next ea em o lies_none room gm g = record { contexts = λ e i. absurd i; rules = λ e i. absurd i }
     contexts_there (head_and (head leaves hs' cs rcs rs) hs) next ea em o
@@ -142,8 +142,8 @@ module _ (h : Heap) (v : Valid h) (r : Reading) (c : Contents) (all_as all_ps al
               let w = heavy_taken h (λ b. 0) (one_if_same b) k in
               let y = membranes_weigh h (λ b. 0) (one_if_same b) more in
               omega (arith, u, w, y, weigh_nothing bs, weigh_nothing (flattened qs), weigh_nothing (forest_atoms h F), weigh_nothing (forest_atoms h F'), weigh_nothing (forest_atoms h F''), weigh_nothing (forest_atoms h i), weigh_nothing (atoms_in h m));
-          all_atoms_are = λ b. let u = room.all_atoms_are b in omega (arith, u, weigh_both (one_if_same b) all_bs bs, parts_both (one_if_same b) all_ps qs);
-          all_membranes_are = λ b. let u = room.all_membranes_are b in omega (arith, u, weigh_both (one_if_same b) ms ks');
+          all_atoms_are = λ b. let u = room.all_atoms_are b in omega (arith, u, weigh_append (one_if_same b) all_bs bs, parts_both (one_if_same b) all_ps qs);
+          all_membranes_are = λ b. let u = room.all_membranes_are b in omega (arith, u, weigh_append (one_if_same b) ms ks');
         } in
         let there : Room (λ b. ea b + (weigh (one_if_same b) all_bs + weigh (one_if_same b) (flattened all_ps))) (λ b. (em b + one_if_same b m) + weigh (one_if_same b) ms) [] F' bs qs ks' = record {
           atom_room = λ b.
@@ -156,13 +156,13 @@ module _ (h : Heap) (v : Valid h) (r : Reading) (c : Contents) (all_as all_ps al
               let w = heavy_taken h (λ b. 0) (one_if_same b) k in
               let y = level_weighs h (λ b. 0) (one_if_same b) d in
               omega (arith, u, w, y, weigh_nothing all_bs, weigh_nothing (flattened all_ps), weigh_nothing xs, weigh_nothing (forest_atoms h F), weigh_nothing (forest_atoms h F'), weigh_nothing (forest_atoms h i), weigh_nothing (forest_atoms h i'), weigh_nothing (atoms_in h m));
-          all_atoms_are = λ b. let u = room.all_atoms_are b in omega (arith, u, weigh_both (one_if_same b) all_bs bs, parts_both (one_if_same b) all_ps qs);
-          all_membranes_are = λ b. let u = room.all_membranes_are b in omega (arith, u, weigh_both (one_if_same b) ms ks');
+          all_atoms_are = λ b. let u = room.all_atoms_are b in omega (arith, u, weigh_append (one_if_same b) all_bs bs, parts_both (one_if_same b) all_ps qs);
+          all_membranes_are = λ b. let u = room.all_membranes_are b in omega (arith, u, weigh_append (one_if_same b) ms ks');
         } in
         let deeper : Room (λ b. (ea b + (weigh (one_if_same b) bs + weigh (one_if_same b) (flattened qs))) + (weigh (one_if_same b) bs' + weigh (one_if_same b) (flattened parts))) (λ b. (em b + one_if_same b m) + weigh (one_if_same b) ks') [] i as' ps ms = record {
           atom_room = λ b. let u = here.atom_room b in omega (arith, u, weigh_out (one_if_same b) bs' (atoms_in h m) dist among out);
           membrane_room = here.membrane_room;
-          all_atoms_are = λ b. let u = here.all_atoms_are b in omega (arith, u, weigh_both (one_if_same b) bs' as', parts_both (one_if_same b) parts ps);
+          all_atoms_are = λ b. let u = here.all_atoms_are b in omega (arith, u, weigh_append (one_if_same b) bs' as', parts_both (one_if_same b) parts ps);
           all_membranes_are = here.all_membranes_are;
         } in
         let left = left_there (λ b. ea b + (weigh (one_if_same b) bs + weigh (one_if_same b) (flattened qs))) (λ b. (em b + one_if_same b m) + weigh (one_if_same b) ks') (tree_of r.names r.rule hd) m d here grown.0.0 grown.0.1 in
@@ -181,8 +181,8 @@ module _ (h : Heap) (v : Valid h) (r : Reading) (c : Contents) (all_as all_ps al
                   let there : at e.1 ≡ m = ap at n.1 ∙ gm.0 in
                   record {
                     forest = i';
-                    forms = subst (λ z. Forms h i' (withouts ks (mems_in h z))) (sym there) left.forms;
-                    is = λ j. region ((held.0 ∙ each_read m xs left.atoms ∙ ap (λ z. atoms_at h r (withouts taken (atoms_in h z))) (sym there)) j) (held.1 j) (map r.rule (rules_in h (at e.1)));
+                    forms = subst (λ z. Forms h i' (without_all ks (mems_in h z))) (sym there) left.forms;
+                    is = λ j. region ((held.0 ∙ each_read m xs left.atoms ∙ ap (λ z. atoms_at h r (without_all taken (atoms_in h z))) (sym there)) j) (held.1 j) (map r.rule (rules_in h (at e.1)));
                   })
               | inr b ↦ below.contexts e b
             ]

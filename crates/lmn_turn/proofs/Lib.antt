@@ -1,4 +1,4 @@
-mod PlanTypes
+pub mod PlanTypes
 mod Steps
 mod Standings
 mod Adders
@@ -10,7 +10,7 @@ mod OwnLinks
 mod Bodies
 mod MadeLevels
 mod Kept
-mod Leading
+pub mod Leading
 mod LinksBelow
 mod LinksKept
 mod Paths
@@ -22,7 +22,7 @@ mod Namings
 mod NamesKept
 mod Places
 mod Contents
-mod Leavings
+pub mod Leavings
 mod RulesKept
 mod ReadAgain
 mod HeadLinks
@@ -37,7 +37,7 @@ mod Contexts
 mod BoundIntegers
 mod Embedded
 mod Tables
-mod Turned
+pub mod Turned
 mod PartOrder
 mod CopiedParts
 mod PartNames

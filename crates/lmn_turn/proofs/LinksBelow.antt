@@ -7,7 +7,7 @@ use Rattle.lmn_congruence.specs.Orders.{Among, at_head, further}
 use Rattle.lmn_congruence.specs.Process.{Process}
 use Rattle.lmn_congruence.specs.UpToOrder.{Reordered, r_unit, r_swap, r_regroup, r_beside, r_inside, r_same, r_back, r_chain}
 use Rattle.lmn_adequacy.specs.Next.{links_at}
-use Rattle.lmn_bridge.specs.HeapRegions.{Reading, atoms_at}
+use Rattle.lmn_bridge.specs.HeapRegions.{HeapReading, atoms_at}
 
 -- an element of a list is below the number above all of them
 pub below_all : (ys : List ℕ) (y : ℕ) → Among y ys → y < above_all ys
@@ -16,12 +16,12 @@ below_all (z ∷ ys) y at_head = omega arith
 below_all (z ∷ ys) y (further a) = let l = below_all ys y a in omega (arith, l)
 
 -- a number above the links of the atoms of these membranes
-abbrev pub links_limit : Heap → Reading → List ℕ → ℕ
+abbrev pub links_limit : Heap → HeapReading → List ℕ → ℕ
 links_limit h r [] = 0
 links_limit h r (m ∷ ms) = above_all (links_at (atoms_at h r (atoms_in h m))) + links_limit h r ms
 
 -- a link of an atom of one of these membranes is below
-pub links_below : (h : Heap) (r : Reading) (ms : List ℕ) (x : ℕ) → In x ms → (y : ℕ) → Among y (links_at (atoms_at h r (atoms_in h x))) → y < links_limit h r ms
+pub links_below : (h : Heap) (r : HeapReading) (ms : List ℕ) (x : ℕ) → In x ms → (y : ℕ) → Among y (links_at (atoms_at h r (atoms_in h x))) → y < links_limit h r ms
 links_below h r [] x k y a = absurd k
 links_below h r (m ∷ ms) x (inl e) y a =
     let l = below_all (links_at (atoms_at h r (atoms_in h m))) y (subst (λ z. Among y (links_at (atoms_at h r (atoms_in h z)))) (sym e) a) in

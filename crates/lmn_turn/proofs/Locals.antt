@@ -10,7 +10,7 @@ use Rattle.std.proofs.lemmas.List.{append-nil}
 use Rattle.lmn_solid.proofs.HeadTrees.{Head, Heads, head, no_head, head_and, size, sizes}
 use Rattle.lmn_body.specs.declared.items.BodyItem.{BodyItem}
 use Rattle.lmn_body.specs.declared.items.BodyItem.TheVariants.{Membrane}
-use Rattle.lmn_body.specs.Flattening.{BodyNames, atom_item, typed_item, leaf_items, context_items, rule_items, rule_context_items}
+use Rattle.lmn_body.specs.Flattening.{BodyNames, atom_item, typed_item, body_leaf_items, context_items, body_rule_items, rule_context_items}
 use Rattle.lmn_compile_body.proofs.BodyTrees.{flat_body, flat_bodies}
 use Rattle.lmn_turn.proofs.Adders.{at, many, many_both, past, past_both, Elsewhere, Misses, misses_both, Adder}
 use Rattle.lmn_body.specs.Running.{Registers}
@@ -49,16 +49,16 @@ typed_past (Some g) i x inside k xs = refl
 typed_past None i x inside k xs = refl
 
 module _ (bn : BodyNames) where
-  pub leaves_past : (inside k : ℕ) (ls : List Leaf) → past k (leaf_items bn inside ls) ≡ after_leaves bn k ls
+  pub leaves_past : (inside k : ℕ) (ls : List Leaf) → past k (body_leaf_items bn inside ls) ≡ after_leaves bn k ls
   leaves_past inside k [] = refl
-  leaves_past inside k (leaf.Atom f os p ∷ ls) = atom_past (same_functor f connector) f (map (λ o. o.link) os) inside k (leaf_items bn inside ls) ∙ leaves_past inside k ls
-  leaves_past inside k (leaf.Typed n o p ∷ ls) = typed_past (bn.part n) (bn.integer n) o.link inside k (leaf_items bn inside ls) ∙ leaves_past inside (next_copy (bn.part n) k) ls
+  leaves_past inside k (leaf.Atom f os p ∷ ls) = atom_past (same_functor f connector) f (map (λ o. o.link) os) inside k (body_leaf_items bn inside ls) ∙ leaves_past inside k ls
+  leaves_past inside k (leaf.Typed n o p ∷ ls) = typed_past (bn.part n) (bn.integer n) o.link inside k (body_leaf_items bn inside ls) ∙ leaves_past inside (next_copy (bn.part n) k) ls
 
   pub contexts_past : (inside k : ℕ) (us : List CtxUse) → past k (context_items bn inside us) ≡ k
   contexts_past inside k [] = refl
   contexts_past inside k (u ∷ us) = contexts_past inside k us
 
-  rules_past : (inside k : ℕ) (ks : List ℕ) → past k (rule_items inside ks) ≡ k
+  rules_past : (inside k : ℕ) (ks : List ℕ) → past k (body_rule_items inside ks) ≡ k
   rules_past inside k [] = refl
   rules_past inside k (j ∷ ks) = rules_past inside k ks
 
@@ -71,13 +71,13 @@ module _ (bn : BodyNames) where
     pub level_past : (inside next k : ℕ) (h : Head) → past k (flat_body bn inside next h) ≡ after_level bn k h
     level_past inside next k (head leaves hs cs rcs rs) =
         let n = after_levels bn (after_leaves bn k leaves) hs in
-        past_both k (leaf_items bn inside leaves) (flat_bodies bn inside next hs ++ (context_items bn inside cs ++ (rule_items inside rs ++ rule_context_items bn inside rcs)))
-        ∙ ap (λ z. past z (flat_bodies bn inside next hs ++ (context_items bn inside cs ++ (rule_items inside rs ++ rule_context_items bn inside rcs)))) (leaves_past inside k leaves)
-        ∙ past_both (after_leaves bn k leaves) (flat_bodies bn inside next hs) (context_items bn inside cs ++ (rule_items inside rs ++ rule_context_items bn inside rcs))
-        ∙ ap (λ z. past z (context_items bn inside cs ++ (rule_items inside rs ++ rule_context_items bn inside rcs))) (levels_past inside next (after_leaves bn k leaves) hs)
-        ∙ past_both n (context_items bn inside cs) (rule_items inside rs ++ rule_context_items bn inside rcs)
-        ∙ ap (λ z. past z (rule_items inside rs ++ rule_context_items bn inside rcs)) (contexts_past inside n cs)
-        ∙ past_both n (rule_items inside rs) (rule_context_items bn inside rcs)
+        past_both k (body_leaf_items bn inside leaves) (flat_bodies bn inside next hs ++ (context_items bn inside cs ++ (body_rule_items inside rs ++ rule_context_items bn inside rcs)))
+        ∙ ap (λ z. past z (flat_bodies bn inside next hs ++ (context_items bn inside cs ++ (body_rule_items inside rs ++ rule_context_items bn inside rcs)))) (leaves_past inside k leaves)
+        ∙ past_both (after_leaves bn k leaves) (flat_bodies bn inside next hs) (context_items bn inside cs ++ (body_rule_items inside rs ++ rule_context_items bn inside rcs))
+        ∙ ap (λ z. past z (context_items bn inside cs ++ (body_rule_items inside rs ++ rule_context_items bn inside rcs))) (levels_past inside next (after_leaves bn k leaves) hs)
+        ∙ past_both n (context_items bn inside cs) (body_rule_items inside rs ++ rule_context_items bn inside rcs)
+        ∙ ap (λ z. past z (body_rule_items inside rs ++ rule_context_items bn inside rcs)) (contexts_past inside n cs)
+        ∙ past_both n (body_rule_items inside rs) (rule_context_items bn inside rcs)
         ∙ ap (λ z. past z (rule_context_items bn inside rcs)) (rules_past inside n rs)
         ∙ rule_contexts_past inside n rcs
 
@@ -102,16 +102,16 @@ typed_makes_none (Some g) i x inside xs = refl
 typed_makes_none None i x inside xs = refl
 
 module _ (bn : BodyNames) where
-  pub no_leaf_membrane : (inside : ℕ) (ls : List Leaf) → many (leaf_items bn inside ls) ≡ 0
+  pub no_leaf_membrane : (inside : ℕ) (ls : List Leaf) → many (body_leaf_items bn inside ls) ≡ 0
   no_leaf_membrane inside [] = refl
-  no_leaf_membrane inside (leaf.Atom f os p ∷ ls) = leaf_makes_none (same_functor f connector) f (map (λ o. o.link) os) inside (leaf_items bn inside ls) ∙ no_leaf_membrane inside ls
-  no_leaf_membrane inside (leaf.Typed n o p ∷ ls) = typed_makes_none (bn.part n) (bn.integer n) o.link inside (leaf_items bn inside ls) ∙ no_leaf_membrane inside ls
+  no_leaf_membrane inside (leaf.Atom f os p ∷ ls) = leaf_makes_none (same_functor f connector) f (map (λ o. o.link) os) inside (body_leaf_items bn inside ls) ∙ no_leaf_membrane inside ls
+  no_leaf_membrane inside (leaf.Typed n o p ∷ ls) = typed_makes_none (bn.part n) (bn.integer n) o.link inside (body_leaf_items bn inside ls) ∙ no_leaf_membrane inside ls
 
   no_context_membrane : (inside : ℕ) (us : List CtxUse) → many (context_items bn inside us) ≡ 0
   no_context_membrane inside [] = refl
   no_context_membrane inside (u ∷ us) = no_context_membrane inside us
 
-  no_rule_membrane : (inside : ℕ) (ks : List ℕ) → many (rule_items inside ks) ≡ 0
+  no_rule_membrane : (inside : ℕ) (ks : List ℕ) → many (body_rule_items inside ks) ≡ 0
   no_rule_membrane inside [] = refl
   no_rule_membrane inside (k ∷ ks) = no_rule_membrane inside ks
 
@@ -123,10 +123,10 @@ module _ (bn : BodyNames) where
     -- a level makes as many membranes as it has
     pub many_flat : (inside next : ℕ) (h : Head) → many (flat_body bn inside next h) ≡ size h
     many_flat inside next (head leaves hs cs rcs rs) =
-        let a = many_both (leaf_items bn inside leaves) (flat_bodies bn inside next hs ++ (context_items bn inside cs ++ (rule_items inside rs ++ rule_context_items bn inside rcs))) in
-        let b = many_both (flat_bodies bn inside next hs) (context_items bn inside cs ++ (rule_items inside rs ++ rule_context_items bn inside rcs)) in
-        let c = many_both (context_items bn inside cs) (rule_items inside rs ++ rule_context_items bn inside rcs) in
-        let d = many_both (rule_items inside rs) (rule_context_items bn inside rcs) in
+        let a = many_both (body_leaf_items bn inside leaves) (flat_bodies bn inside next hs ++ (context_items bn inside cs ++ (body_rule_items inside rs ++ rule_context_items bn inside rcs))) in
+        let b = many_both (flat_bodies bn inside next hs) (context_items bn inside cs ++ (body_rule_items inside rs ++ rule_context_items bn inside rcs)) in
+        let c = many_both (context_items bn inside cs) (body_rule_items inside rs ++ rule_context_items bn inside rcs) in
+        let d = many_both (body_rule_items inside rs) (rule_context_items bn inside rcs) in
         omega (arith, a, b, c, d, no_leaf_membrane inside leaves, many_inside inside next hs, no_context_membrane inside cs, no_rule_membrane inside rs, no_rule_context_membrane inside rcs)
 
     many_inside : (inside next : ℕ) (hs : Heads) → many (flat_bodies bn inside next hs) ≡ sizes hs
@@ -149,7 +149,7 @@ module _ (bn : BodyNames) where
     typed_elsewhere x (Some g) i y inside d = d
     typed_elsewhere x None i y inside d = d
 
-    pub leaves_miss : (x inside : ℕ) → at s inside ≢ x → (ls : List Leaf) → Misses s x (leaf_items bn inside ls)
+    pub leaves_miss : (x inside : ℕ) → at s inside ≢ x → (ls : List Leaf) → Misses s x (body_leaf_items bn inside ls)
     leaves_miss x inside d [] = tt
     leaves_miss x inside d (leaf.Atom f os p ∷ ls) = (atom_elsewhere x (same_functor f connector) f (map (λ o. o.link) os) inside d, leaves_miss x inside d ls)
     leaves_miss x inside d (leaf.Typed n o p ∷ ls) = (typed_elsewhere x (bn.part n) (bn.integer n) o.link inside d, leaves_miss x inside d ls)
@@ -158,7 +158,7 @@ module _ (bn : BodyNames) where
     contexts_miss x inside d [] = tt
     contexts_miss x inside d (u ∷ us) = (d, contexts_miss x inside d us)
 
-    rules_miss : (x inside : ℕ) → at s inside ≢ x → (ks : List ℕ) → Misses s x (rule_items inside ks)
+    rules_miss : (x inside : ℕ) → at s inside ≢ x → (ks : List ℕ) → Misses s x (body_rule_items inside ks)
     rules_miss x inside d [] = tt
     rules_miss x inside d (k ∷ ks) = (d, rules_miss x inside d ks)
 
@@ -166,17 +166,17 @@ module _ (bn : BodyNames) where
     rule_contexts_miss x inside d [] = tt
     rule_contexts_miss x inside d (u ∷ us) = (d, rule_contexts_miss x inside d us)
 
-    behind_miss : (x inside : ℕ) → at s inside ≢ x → (cs rcs : List CtxUse) (rs : List ℕ) → Misses s x (context_items bn inside cs ++ (rule_items inside rs ++ rule_context_items bn inside rcs))
+    behind_miss : (x inside : ℕ) → at s inside ≢ x → (cs rcs : List CtxUse) (rs : List ℕ) → Misses s x (context_items bn inside cs ++ (body_rule_items inside rs ++ rule_context_items bn inside rcs))
     behind_miss x inside d cs rcs rs =
-        misses_both s x (context_items bn inside cs) (rule_items inside rs ++ rule_context_items bn inside rcs) (contexts_miss x inside d cs)
-        (misses_both s x (rule_items inside rs) (rule_context_items bn inside rcs) (rules_miss x inside d rs) (rule_contexts_miss x inside d rcs))
+        misses_both s x (context_items bn inside cs) (body_rule_items inside rs ++ rule_context_items bn inside rcs) (contexts_miss x inside d cs)
+        (misses_both s x (body_rule_items inside rs) (rule_context_items bn inside rcs) (rules_miss x inside d rs) (rule_contexts_miss x inside d rcs))
 
     mutual
       -- a level adds nothing elsewhere
       pub body_misses : (x inside next : ℕ) (h : Head) → at s inside ≢ x → ((j : ℕ) → next ≤ j → j < next + size h → at s j ≢ x) → Misses s x (flat_body bn inside next h)
       body_misses x inside next (head leaves hs cs rcs rs) d o =
-          misses_both s x (leaf_items bn inside leaves) (flat_bodies bn inside next hs ++ (context_items bn inside cs ++ (rule_items inside rs ++ rule_context_items bn inside rcs))) (leaves_miss x inside d leaves)
-          (misses_both s x (flat_bodies bn inside next hs) (context_items bn inside cs ++ (rule_items inside rs ++ rule_context_items bn inside rcs)) (bodies_miss x inside next hs d o) (behind_miss x inside d cs rcs rs))
+          misses_both s x (body_leaf_items bn inside leaves) (flat_bodies bn inside next hs ++ (context_items bn inside cs ++ (body_rule_items inside rs ++ rule_context_items bn inside rcs))) (leaves_miss x inside d leaves)
+          (misses_both s x (flat_bodies bn inside next hs) (context_items bn inside cs ++ (body_rule_items inside rs ++ rule_context_items bn inside rcs)) (bodies_miss x inside next hs d o) (behind_miss x inside d cs rcs rs))
 
       bodies_miss : (x inside next : ℕ) (hs : Heads) → at s inside ≢ x → ((j : ℕ) → next ≤ j → j < next + sizes hs → at s j ≢ x) → Misses s x (flat_bodies bn inside next hs)
       bodies_miss x inside next no_head d o = tt
@@ -219,10 +219,10 @@ module _ (bn : BodyNames) where
           let z : next + 0 ≡ next = omega arith in
           let c' = after_leaves bn c leaves in
           L j (inr (a, b))
-          ∙ skip next 0 c c' (leaf_items bn inside leaves) (flat_bodies bn inside next hs ++ (context_items bn inside cs ++ (rule_items inside rs ++ rule_context_items bn inside rcs))) (at s j) (leaves_miss (at s j) inside d leaves) (no_leaf_membrane inside leaves)
+          ∙ skip next 0 c c' (body_leaf_items bn inside leaves) (flat_bodies bn inside next hs ++ (context_items bn inside cs ++ (body_rule_items inside rs ++ rule_context_items bn inside rcs))) (at s j) (leaves_miss (at s j) inside d leaves) (no_leaf_membrane inside leaves)
           (leaves_past bn inside c leaves)
-          ∙ ap (λ n. A.adds n c' (flat_bodies bn inside next hs ++ (context_items bn inside cs ++ (rule_items inside rs ++ rule_context_items bn inside rcs))) (at s j)) z
-          ∙ front next c' (flat_bodies bn inside next hs) (context_items bn inside cs ++ (rule_items inside rs ++ rule_context_items bn inside rcs)) (at s j) (behind_miss (at s j) inside d cs rcs rs)
+          ∙ ap (λ n. A.adds n c' (flat_bodies bn inside next hs ++ (context_items bn inside cs ++ (body_rule_items inside rs ++ rule_context_items bn inside rcs))) (at s j)) z
+          ∙ front next c' (flat_bodies bn inside next hs) (context_items bn inside cs ++ (body_rule_items inside rs ++ rule_context_items bn inside rcs)) (at s j) (behind_miss (at s j) inside d cs rcs rs)
 
       pub local_first : (inside next c : ℕ) (h : Head) (hs : Heads) → Used inside → low ≤ next → inside < next → next + sizes (head_and h hs) ≤ high → LocalIn (head_and h hs) inside next c → Local h next (next + 1) c
       local_first inside next c h hs u l i t L j w =

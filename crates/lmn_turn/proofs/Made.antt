@@ -1,11 +1,10 @@
 -- What the code of a body makes is new, and the root stays.
 use Rattle.std.proofs.Common.{ℕ, ◌≡◌, ◌+◌, Bool, true, false, List, [], ◌∷◌, ◌++◌, map, length, Option, Some, None, refl, ap, subst, ◌∙◌}
 use Rattle.std.specs.Prelude.{◌==◌, ◌&&◌, cond}
-use Rattle.lmn_heap.specs.Heap.{Heap, link_of, taken, placed, joined}
+use Rattle.lmn_heap.specs.Heap.{Heap, link_of, taken, placed, joined, taken_all}
 use Rattle.lmn_heap.specs.Splice.{joined_to, joined_both}
 use Rattle.lmn_solid.specs.declared.items.HeadItem.{HeadItem}
 use Rattle.lmn_solid.specs.Heads.{atoms_of, membranes_of, typed_contexts_of}
-use Rattle.lmn_splice.specs.Ports.{Port}
 use Rattle.lmn_splice.specs.Classes.{class_of, rising}
 use Rattle.lmn_splice.specs.Ties.{Tie, newlink, relink, unify}
 use Rattle.lmn_instr.specs.declared.instr.Instr.{Instr}
@@ -14,14 +13,17 @@ use Rattle.lmn_body.specs.declared.items.BodyItem.{BodyItem}
 use Rattle.lmn_body.specs.Added.{made_mems}
 use Rattle.lmn_body.specs.Code.{body_code, making, removals, links_code}
 use Rattle.lmn_body.specs.Items.{new_ports, old_ports, connectors}
-use Rattle.lmn_body.specs.Running.{Registers, Prepares, Commits, RunsBody, Makes, Does, all_taken, all_placed, new_port, old_port}
+use Rattle.lmn_body.specs.Running.{Registers, Prepares, DoesAll, RunsBody, Makes, Does, all_placed, new_port, old_port}
 use Rattle.lmn_body.specs.Tied.{tied}
 use Rattle.lmn_body.proofs.Coding.{prepares_append, prepares_taken}
 use Rattle.lmn_body.proofs.Preparing.{MemsMade, making_mems}
+use Rattle.lmn_base.specs.Graphs.{Port}
+use Rattle.lmn_body.proofs.Parts.{no_part_prepares as part_prepares}
+use Rattle.lmn_body.proofs.Removing.{prepares_taken_mems as mem_prepares}
 
 -- ---- the root
 
-taken_root : (ns : List ℕ) (s : Heap) → (all_taken s ns).root ≡ s.root
+taken_root : (ns : List ℕ) (s : Heap) → (taken_all s ns).root ≡ s.root
 taken_root [] s = refl
 taken_root (a ∷ ns) s = taken_root ns (taken s a)
 
@@ -85,7 +87,7 @@ prepares_root : (r : Registers) (is : List Instr) (s t : Heap) → Prepares r is
 prepares_root r [] s t w = ap (λ z. z.root) w
 prepares_root r (i ∷ is) s t w = prepares_root r is w.0 t w.2 ∙ makes_root r i s w.0 w.1
 
-commits_root : (r : Registers) (is : List Instr) (s t : Heap) → Commits r is s t → t.root ≡ s.root
+commits_root : (r : Registers) (is : List Instr) (s t : Heap) → DoesAll r is s t → t.root ≡ s.root
 commits_root r [] s t w = ap (λ z. z.root) w
 commits_root r (i ∷ is) s t w = commits_root r is w.0 t w.2 ∙ does_root r i s w.0 w.1
 
@@ -94,14 +96,6 @@ pub root_stays : (r : Registers) (code : List Instr) (s t : Heap) → RunsBody r
 root_stays r code s t w = commits_root r code w.0 t w.2 ∙ prepares_root r code s w.0 w.1
 
 -- ---- what is made
-
-part_prepares : (r : Registers) (gs : List ℕ) (s t : Heap) → Prepares r (map RemovePart gs) s t → t ≡ s
-part_prepares r [] s t w = w
-part_prepares r (g ∷ gs) s t w = part_prepares r gs w.0 t w.2 ∙ w.1
-
-mem_prepares : (r : Registers) (ms : List ℕ) (s t : Heap) → Prepares r (map RemoveMem ms) s t → t ≡ s
-mem_prepares r [] s t w = w
-mem_prepares r (m ∷ ms) s t w = mem_prepares r ms w.0 t w.2 ∙ w.1
 
 -- what a body makes is new, each once
 pub all_new : (head : List HeadItem) (body : List BodyItem) (n : ℕ) → (r : Registers) (h h' : Heap) → RunsBody r (body_code head body n) h h' →

@@ -9,12 +9,11 @@ use Rattle.lmn_congruence.specs.Plains.{fused_leaves, fused_levels}
 use Rattle.lmn_congruence.specs.Regions as region
 use Rattle.lmn_congruence.specs.Rules as tree
 use Rattle.lmn_congruence.specs.Translation.{names_of, levels, rules as listed_rules, solid_atom_of}
-use Rattle.lmn_adequacy.specs.Next.{Contents, kept_atoms, context_atoms, context_membranes, context_rules, of_rule}
-use Rattle.lmn_adequacy.proofs.InOrder.{rules_listed}
+use Rattle.lmn_adequacy.specs.Next.{Contents, kept_atoms, context_atoms, context_membranes, context_rules}
 use Rattle.lmn_solid.proofs.HeadTrees.{Head, Heads, head, no_head, head_and, size, sizes}
-use Rattle.lmn_bridge.specs.HeapRegions.{Reading, atoms_at}
+use Rattle.lmn_bridge.specs.HeapRegions.{HeapReading, atoms_at}
 use Rattle.lmn_bridge.proofs.HeadTrees.{tree_of, trees_of}
-use Rattle.lmn_body.specs.Flattening.{BodyNames, leaf_items, context_items, rule_items, rule_context_items}
+use Rattle.lmn_body.specs.Flattening.{BodyNames, body_leaf_items, context_items, body_rule_items, rule_context_items}
 use Rattle.lmn_body.specs.Running.{Registers}
 use Rattle.lmn_body.specs.Added.{added_mems, added_rules}
 use Rattle.lmn_body.specs.Within.{added_with_copies}
@@ -26,6 +25,8 @@ use Rattle.lmn_turn.proofs.OwnLinks.{OwnLevel, OwnMembranes, own_level, own_memb
 use Rattle.lmn_turn.proofs.Adders.{at, many, past, Adder, atoms_adder, mems_adder, rules_adder, here_is}
 use Rattle.lmn_turn.proofs.Locals.{Local, LocalIn, after_leaves, after_level, after_levels, local_inside, local_first, local_rest, body_misses, many_flat, no_leaf_membrane}
 use Rattle.lmn_turn.proofs.Bodies.{BodyAgrees, BodiesAgree, fused_both, leaves_made, leaves_make, leaf_atoms, leaf_adds, context_atoms_are, context_membranes_stand, contexts_no_rules, rules_alone, rule_contexts_alone, rules_are, rule_contexts_are}
+use Rattle.lmn_splice.specs.Splice.{of_rule}
+use Rattle.lmn_congruence.proofs.Common.{rules_listed}
 use Rattle.lmn_body.specs.declared.items.BodyItem.{BodyItem}
 
 -- nothing in front, nothing behind
@@ -35,8 +36,8 @@ no_front {bs = bs} e f = ap (λ z. z ++ bs) e ∙ f
 no_back : {X : Type 0} {as' bs cs : List X} → as' ≡ cs → bs ≡ [] → as' ++ bs ≡ cs
 no_back {as' = as'} e f = ap (λ z. as' ++ z) f ∙ append-nil as' ∙ e
 
-module _ (h h' : Heap) (r : Reading) (name : ℕ → ℕ → ℕ) (s : Registers) (bn : BodyNames) (c : Contents) (left : ℕ → List SolidAtom) (left_mems : ℕ → List ℕ) (to : ℕ → ℕ) (limit : ℕ) (copy : ℕ → List SolidAtom) (part : ℕ → ℕ → List region.SolidAtom) where
-  abbrev r' : Reading
+module _ (h h' : Heap) (r : HeapReading) (name : ℕ → ℕ → ℕ) (s : Registers) (bn : BodyNames) (c : Contents) (left : ℕ → List SolidAtom) (left_mems : ℕ → List ℕ) (to : ℕ → ℕ) (limit : ℕ) (copy : ℕ → List SolidAtom) (part : ℕ → ℕ → List region.SolidAtom) where
+  abbrev r' : HeapReading
   r' = record { name = name; names = r.names; rule = r.rule }
 
   abbrev A : Adder s SolidAtom
@@ -106,15 +107,15 @@ module _ (h h' : Heap) (r : Reading) (name : ℕ → ℕ → ℕ) (s : Registers
       let items = flat_body bn inside next (head leaves hs cs rcs rs) in
       let x = at s inside in
       ((d : ℕ) × (added_with_copies s left copy (λ z. to (of_rule z)) k items x ≡
-      added_with_copies s left copy (λ z. to (of_rule z)) k (leaf_items bn inside leaves) x ++ added_with_copies s left copy (λ z. to (of_rule z)) d (context_items bn inside cs) x))
+      added_with_copies s left copy (λ z. to (of_rule z)) k (body_leaf_items bn inside leaves) x ++ added_with_copies s left copy (λ z. to (of_rule z)) d (context_items bn inside cs) x))
       × ((n : ℕ) × (added_mems s left_mems next items x ≡ children next hs ++ added_mems s left_mems n (context_items bn inside cs) x))
-      × (added_rules s (rules_in h) items x ≡ added_rules s (rules_in h) (rule_items inside rs) x ++ added_rules s (rules_in h) (rule_context_items bn inside rcs) x)
+      × (added_rules s (rules_in h) items x ≡ added_rules s (rules_in h) (body_rule_items inside rs) x ++ added_rules s (rules_in h) (rule_context_items bn inside rcs) x)
   level_adds inside next k leaves hs cs rcs rs o =
       let x = at s inside in
-      let L = leaf_items bn inside leaves in
+      let L = body_leaf_items bn inside leaves in
       let D = flat_bodies bn inside next hs in
       let C = context_items bn inside cs in
-      let K = rule_items inside rs in
+      let K = body_rule_items inside rs in
       let Q = rule_context_items bn inside rcs in
       let k0 = past k L in
       let k1 = past k0 D in
@@ -185,13 +186,13 @@ module _ (h h' : Heap) (r : Reading) (name : ℕ → ℕ → ℕ) (s : Registers
           record {
             atoms = fused_both to outs (kept_atoms (context_atoms c (names_of r.names cs)))
                 ∙ (λ j. leaf_atoms h h' r r' s bn c left left_mems to limit copy part inside k leaves agrees.0 j ++ context_atoms_are h h' r r' s bn c left left_mems to limit copy part inside adds.0.0 cs agrees.1 j)
-                ∙ sym (map-append (solid_atom_of r.names) (added_with_copies s left copy (λ z. to (of_rule z)) k (leaf_items bn inside leaves) x) (added_with_copies s left copy (λ z. to (of_rule z)) adds.0.0 (context_items bn inside cs) x))
+                ∙ sym (map-append (solid_atom_of r.names) (added_with_copies s left copy (λ z. to (of_rule z)) k (body_leaf_items bn inside leaves) x) (added_with_copies s left copy (λ z. to (of_rule z)) adds.0.0 (context_items bn inside cs) x))
                 ∙ ap (map (solid_atom_of r.names)) (sym adds.0.1) ∙ ap (map (solid_atom_of r.names)) (sym (LA inside (inl refl)));
             membranes = subst (λ xs. StandAs h' r' xs (fused_levels to (levels (membranes_made after hs ++ context_membranes c (names_of r.names cs))))) (sym (LM inside (inl refl) ∙ adds.1.1))
                 (stand_both h' r' to (children next hs) (added_mems s left_mems adds.1.0 (context_items bn inside cs) x) (membranes_made after hs) (context_membranes c (names_of r.names cs)) inner
                 (context_membranes_stand h h' r r' s bn c left left_mems to limit copy part inside adds.1.0 cs agrees.1));
             rules = (λ j. (rules_listed (map r.rule rs) ∙ rules_are h h' r r' s bn c left left_mems to limit copy part inside rs) j ++ rule_contexts_are h h' r r' s bn c left left_mems to limit copy part inside rcs agrees.2 j)
-                ∙ sym (map-append r.rule (added_rules s (rules_in h) (rule_items inside rs) x) (added_rules s (rules_in h) (rule_context_items bn inside rcs) x))
+                ∙ sym (map-append r.rule (added_rules s (rules_in h) (body_rule_items inside rs) x) (added_rules s (rules_in h) (rule_context_items bn inside rcs) x))
                 ∙ ap (map r.rule) (sym (LR inside (inl refl) ∙ adds.2));
           }
 

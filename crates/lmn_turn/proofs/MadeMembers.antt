@@ -2,24 +2,19 @@
 use Rattle.std.proofs.Common.{ℕ, ◌≡◌, ◌+◌, ◌<◌, ◌≤◌, List, [], ◌∷◌, refl, sym, ap, ◌∙◌, inl, inr, arith}
 use Rattle.std.proofs.lemmas.Bool.{cases_eq}
 use Rattle.std.specs.Prelude.{◌≢◌}
-use Rattle.lmn_heap.specs.Lists.{In, Distinct}
-use Rattle.lmn_heap.proofs.Groves.{without_absent}
+use Rattle.lmn_heap.specs.Lists.{In, Distinct, without_all}
 use Rattle.lmn_heap.proofs.ListLemmas.{each_in}
 use Rattle.lmn_body.specs.declared.items.BodyItem.{BodyItem}
 use Rattle.lmn_body.specs.declared.items.BodyItem.TheVariants.{Atom, Connector, Copy, Bound, Membrane, Rest, Rule, Rules}
 use Rattle.lmn_body.specs.Added.{made_mems}
-use Rattle.lmn_body.specs.Running.{Registers, withouts}
+use Rattle.lmn_body.specs.Running.{Registers}
 use Rattle.lmn_turn.proofs.Adders.{at, many}
 
 -- ---- lists without some numbers
 
-pub withouts_nothing : (ns : List ℕ) → withouts ns [] ≡ []
+pub withouts_nothing : (ns : List ℕ) → without_all ns [] ≡ []
 withouts_nothing [] = refl
 withouts_nothing (a ∷ ns) = withouts_nothing ns
-
-pub withouts_absent : (ns xs : List ℕ) → ((a : ℕ) → In a ns → In a xs → ⊥) → withouts ns xs ≡ xs
-withouts_absent [] xs d = refl
-withouts_absent (a ∷ ns) xs d = ap (withouts ns) (without_absent a xs (d a (inl refl))) ∙ withouts_absent ns xs (λ b i j. d b (inr i) j)
 
 -- ---- the membranes that a body makes
 

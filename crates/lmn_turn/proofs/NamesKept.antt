@@ -1,5 +1,5 @@
 -- After a firing no removed membrane is in the tree, and the names of functors are known.
-use Rattle.std.proofs.Common.{ℕ, ◌≡◌, ◌+◌, ◌⊎◌, ◌==◌, Bool, true, false, cond, List, [], ◌∷◌, ◌++◌, map, length, Option, Some, None, IsSome, refl, sym, ap, subst, ◌∙◌, inl, inr, arith}
+use Rattle.std.proofs.Common.{ℕ, ◌≡◌, ◌+◌, ◌⊎◌, Bool, true, false, List, [], ◌∷◌, ◌++◌, map, length, Option, Some, None, IsSome, refl, sym, ap, subst, ◌∙◌, inl, inr, arith}
 use Rattle.std.specs.Option.{option_map}
 use Rattle.std.proofs.lemmas.Option.{same_Some}
 use Rattle.lmn_base.specs.declared.functor.Functor.{Functor}
@@ -10,40 +10,33 @@ use Rattle.lmn_base.specs.Names.{HasNames, label_names}
 use Rattle.lmn_base.specs.Solids.{connector}
 use Rattle.lmn_heap.specs.Functors.{same_functor}
 use Rattle.lmn_heap.specs.Heap.{Heap, HeapAtom, HeapMem, IsAtom, IsMem, functor_of, home_of, atoms_in, mems_in, atoms_by}
-use Rattle.lmn_heap.specs.Lists.{In}
+use Rattle.lmn_heap.specs.Lists.{In, without_all}
 use Rattle.lmn_heap.specs.Sound.{Forest, bare, mem, flat, Forms, IsTree, Valid}
 use Rattle.lmn_heap.proofs.Trees.{in_either}
 use Rattle.lmn_solid.specs.declared.items.HeadItem.{HeadItem}
 use Rattle.lmn_solid.specs.Heads as heads
 use Rattle.lmn_solid.proofs.HeadTrees.{Head, Heads, head, no_head, head_and, size, head_leaves, heads_leaves}
-use Rattle.lmn_splice.specs.Ports.{Port}
 use Rattle.lmn_splice.specs.Splice as splice
 use Rattle.lmn_body.specs.declared.items.BodyItem.{BodyItem}
 use Rattle.lmn_body.specs.declared.items.BodyItem.TheVariants.{Atom, Connector, Copy, Bound, Membrane, Rest, Rule, Rules}
 use Rattle.lmn_body.specs.Added.{if_inside, added_atoms, added_mems, made_mems}
-use Rattle.lmn_body.specs.Flattening.{atom_item, typed_item, leaf_items, context_items, rule_items, rule_context_items, BodyNames}
+use Rattle.lmn_body.specs.Flattening.{atom_item, typed_item, body_leaf_items, context_items, body_rule_items, rule_context_items, BodyNames}
 use Rattle.lmn_body.specs.Made.{made_of, new_atoms, copies_of}
 use Rattle.lmn_parts.proofs.AnswerLaws.{answer_onto}
 use Rattle.lmn_parts.proofs.WalkLaws.{once}
-use Rattle.lmn_parts.specs.Walks.{net, next}
-use Rattle.lmn_body.specs.Running.{Registers, withouts, integer_functor}
+use Rattle.lmn_parts.specs.Walks.{net, neighbour}
+use Rattle.lmn_body.specs.Running.{Registers, integer_functor}
 use Rattle.lmn_body.specs.Within.{membrane_images, FiresWithin}
-use Rattle.lmn_body.proofs.AddedLemmas.{comes_from}
+use Rattle.lmn_body.proofs.AddedLemmas.{comes_from, in_if}
 use Rattle.lmn_body.proofs.BodyPorts.{numbers}
 use Rattle.lmn_body.proofs.Committing.{in_withouts_of}
 use Rattle.lmn_body.proofs.Finishing.{in_place_listed}
 use Rattle.lmn_bridge.proofs.Forests.{in_place}
 use Rattle.lmn_compile_body.proofs.BodyTrees.{flat_body, flat_bodies}
 use Rattle.lmn_turn.proofs.Adders.{at}
+use Rattle.lmn_base.specs.Graphs.{Port}
 
 -- ---- where added membranes come from
-
-pub if_in : (s : Registers) (x inside : ℕ) (ns : List ℕ) (b : ℕ) → In b (if_inside s x inside ns) → In b ns
-if_in s x inside ns b i = by (at s inside == x) i
-  where
-    by : (t : Bool) → In b (cond t ns []) → In b ns
-    by true i = i
-    by false i = absurd i
 
 -- an added membrane is made, or was left of another
 added_from : (s : Registers) (left : ℕ → List ℕ) (n : ℕ) (xs : List BodyItem) (x z : ℕ) → In z (added_mems s left n xs x) → In z (made_mems s n xs) ⊎ ((k : ℕ) × In z (left k))
@@ -53,18 +46,18 @@ added_from s left n (Connector l l' ∷ xs) x z i = added_from s left n xs x z i
 added_from s left n (Copy part link inside ∷ xs) x z i = added_from s left n xs x z i
 added_from s left n (Bound integer link inside ∷ xs) x z i = added_from s left n xs x z i
 added_from s left n (Membrane inside ∷ xs) x z i = elim (in_either z (if_inside s x inside (at s n ∷ [])) (added_mems s left (n + 1) xs x) i) [
-  | inl j ↦ elim (if_in s x inside (at s n ∷ []) z j) [ inl e ↦ inl (inl e) | inr w ↦ absurd w ]
+  | inl j ↦ elim (in_if s x inside (at s n ∷ []) z j) [ inl e ↦ inl (inl e) | inr w ↦ absurd w ]
   | inr j ↦ elim (added_from s left (n + 1) xs x z j) [ inl w ↦ inl (inr w) | inr w ↦ inr w ]
 ]
 added_from s left n (Rest of inside ∷ xs) x z i = elim (in_either z (if_inside s x inside (left (at s of))) (added_mems s left n xs x) i) [
-  | inl j ↦ inr (at s of, if_in s x inside (left (at s of)) z j)
+  | inl j ↦ inr (at s of, in_if s x inside (left (at s of)) z j)
   | inr j ↦ added_from s left n xs x z j
 ]
 added_from s left n (Rule k inside ∷ xs) x z i = added_from s left n xs x z i
 added_from s left n (Rules of inside ∷ xs) x z i = added_from s left n xs x z i
 
 -- a new atom is written, or is one of a copy
-new_from : (s : Registers) (a c : ℕ) (body : List BodyItem) (b : ℕ) → In b (new_atoms s a c body) → In b (numbers (made_of s a body)) ⊎ ((e : ℕ × ℕ) × splice.In e (copies_of c body) × In b (s.copied e.0))
+new_from : (s : Registers) (a c : ℕ) (body : List BodyItem) (b : ℕ) → In b (new_atoms s a c body) → In b (numbers (made_of s a body)) ⊎ ((e : ℕ × ℕ) × splice.IsOneOf e (copies_of c body) × In b (s.copied e.0))
 new_from s a c [] b i = absurd i
 new_from s a c (Atom functor links inside ∷ xs) b (inl e) = inl (inl e)
 new_from s a c (Atom functor links inside ∷ xs) b (inr i) = elim (new_from s (a + 1) c xs b i) [ inl w ↦ inl (inr w) | inr w ↦ inr w ]
@@ -117,7 +110,7 @@ module _ (names : List (List ℕ)) where
   no_name : (z : List ℕ) → HasNames names []
   no_name z i d l = absurd (omega (arith, l))
 
-  made_named : (s : Registers) (a : ℕ) (xs : List BodyItem) → AllNamed xs → (b : ℕ) → In b (numbers (made_of s a xs)) → (e : ℕ × Functor) × splice.In e (made_of s a xs) × (e.0 ≡ b) × HasNames names (label_names e.1.label)
+  made_named : (s : Registers) (a : ℕ) (xs : List BodyItem) → AllNamed xs → (b : ℕ) → In b (numbers (made_of s a xs)) → (e : ℕ × Functor) × splice.IsOneOf e (made_of s a xs) × (e.0 ≡ b) × HasNames names (label_names e.1.label)
   made_named s a [] n b i = absurd i
   made_named s a (Atom functor links inside ∷ xs) n b (inl e) = ((s.head.images.atom a, functor), inl refl, e, n.0)
   made_named s a (Atom functor links inside ∷ xs) n b (inr i) = let u = made_named s (a + 1) xs n.1 b i in (u.0, inr u.1, u.2, u.3)
@@ -142,7 +135,7 @@ module _ (names : List (List ℕ)) where
     typed_named (Some g) i x inside = tt
     typed_named None i x inside = tt
 
-    items_named : (inside : ℕ) (ls : List Leaf) → LeavesNamed ls → AllNamed (leaf_items bn inside ls)
+    items_named : (inside : ℕ) (ls : List Leaf) → LeavesNamed ls → AllNamed (body_leaf_items bn inside ls)
     items_named inside [] n = tt
     items_named inside (leaf.Atom f os p ∷ ls) n = (atom_named (same_functor f connector) f (map (λ o. o.link) os) inside n.0, items_named inside ls n.1)
     items_named inside (leaf.Typed m o p ∷ ls) n = (typed_named (bn.part m) (bn.integer m) o.link inside, items_named inside ls n.1)
@@ -151,7 +144,7 @@ module _ (names : List (List ℕ)) where
     contexts_named inside [] = tt
     contexts_named inside (u ∷ us) = (tt, contexts_named inside us)
 
-    rules_named : (inside : ℕ) (ks : List ℕ) → AllNamed (rule_items inside ks)
+    rules_named : (inside : ℕ) (ks : List ℕ) → AllNamed (body_rule_items inside ks)
     rules_named inside [] = tt
     rules_named inside (k ∷ ks) = (tt, rules_named inside ks)
 
@@ -161,19 +154,19 @@ module _ (names : List (List ℕ)) where
 
     mutual
       -- the names of a body are known
-      pub body_named : (inside next : ℕ) (hd : Head) → LeavesNamed (head_leaves hd) → AllNamed (flat_body bn inside next hd)
-      body_named inside next (head leaves hs cs rcs rs) n =
+      pub body_named : (inside neighbour : ℕ) (hd : Head) → LeavesNamed (head_leaves hd) → AllNamed (flat_body bn inside neighbour hd)
+      body_named inside neighbour (head leaves hs cs rcs rs) n =
           let u = leaves_split leaves (heads_leaves hs) n in
-          named_both (leaf_items bn inside leaves) (flat_bodies bn inside next hs ++ (context_items bn inside cs ++ (rule_items inside rs ++ rule_context_items bn inside rcs))) (items_named inside leaves u.0)
-          (named_both (flat_bodies bn inside next hs) (context_items bn inside cs ++ (rule_items inside rs ++ rule_context_items bn inside rcs)) (bodies_named inside next hs u.1)
-          (named_both (context_items bn inside cs) (rule_items inside rs ++ rule_context_items bn inside rcs) (contexts_named inside cs)
-          (named_both (rule_items inside rs) (rule_context_items bn inside rcs) (rules_named inside rs) (rule_contexts_named inside rcs))))
+          named_both (body_leaf_items bn inside leaves) (flat_bodies bn inside neighbour hs ++ (context_items bn inside cs ++ (body_rule_items inside rs ++ rule_context_items bn inside rcs))) (items_named inside leaves u.0)
+          (named_both (flat_bodies bn inside neighbour hs) (context_items bn inside cs ++ (body_rule_items inside rs ++ rule_context_items bn inside rcs)) (bodies_named inside neighbour hs u.1)
+          (named_both (context_items bn inside cs) (body_rule_items inside rs ++ rule_context_items bn inside rcs) (contexts_named inside cs)
+          (named_both (body_rule_items inside rs) (rule_context_items bn inside rcs) (rules_named inside rs) (rule_contexts_named inside rcs))))
 
-      bodies_named : (inside next : ℕ) (hs : Heads) → LeavesNamed (heads_leaves hs) → AllNamed (flat_bodies bn inside next hs)
-      bodies_named inside next no_head n = tt
-      bodies_named inside next (head_and h hs) n =
+      bodies_named : (inside neighbour : ℕ) (hs : Heads) → LeavesNamed (heads_leaves hs) → AllNamed (flat_bodies bn inside neighbour hs)
+      bodies_named inside neighbour no_head n = tt
+      bodies_named inside neighbour (head_and h hs) n =
           let u = leaves_split (head_leaves h) (heads_leaves hs) n in
-          (tt, named_both (flat_body bn next (next + 1) h) (flat_bodies bn inside (next + 1 + size h) hs) (body_named next (next + 1) h u.0) (bodies_named inside (next + 1 + size h) hs u.1))
+          (tt, named_both (flat_body bn neighbour (neighbour + 1) h) (flat_bodies bn inside (neighbour + 1 + size h) hs) (body_named neighbour (neighbour + 1) h u.0) (bodies_named inside (neighbour + 1 + size h) hs u.1))
 
 -- ---- after a firing
 
@@ -195,13 +188,13 @@ module _ (h h' : Heap) (v : Valid h) (v' : Valid h') (c : Port → ℕ) (s : Reg
         ]
       ]
     where
-      kept : (k z : ℕ) → In z (withouts ks (mems_in h k)) → In z ks → ⊥
+      kept : (k z : ℕ) → In z (without_all ks (mems_in h k)) → In z ks → ⊥
       kept k z i = (in_withouts_of ks (mems_in h k) z (v.sound.listed.mems_once k) i).1
 
-      children : (k : ℕ) → (In k ks → ⊥) → (z : ℕ) → In z (withouts ks (mems_in h k) ++ added_mems s (λ j. withouts ks (mems_in h j)) (1 + length (heads.membranes_of head)) body k) → In z ks → ⊥
-      children k o z i = elim (in_either z (withouts ks (mems_in h k)) (added_mems s (λ j. withouts ks (mems_in h j)) (1 + length (heads.membranes_of head)) body k) i) [
+      children : (k : ℕ) → (In k ks → ⊥) → (z : ℕ) → In z (without_all ks (mems_in h k) ++ added_mems s (λ j. without_all ks (mems_in h j)) (1 + length (heads.membranes_of head)) body k) → In z ks → ⊥
+      children k o z i = elim (in_either z (without_all ks (mems_in h k)) (added_mems s (λ j. without_all ks (mems_in h j)) (1 + length (heads.membranes_of head)) body k) i) [
         | inl a ↦ kept k z a
-        | inr b ↦ elim (added_from s (λ j. withouts ks (mems_in h j)) (1 + length (heads.membranes_of head)) body k z b) [
+        | inr b ↦ elim (added_from s (λ j. without_all ks (mems_in h j)) (1 + length (heads.membranes_of head)) body k z b) [
           | inl w ↦ new z w
           | inr w ↦ kept w.0 z w.1
         ]
@@ -235,7 +228,7 @@ module _ (h h' : Heap) (v : Valid h) (v' : Valid h') (c : Port → ℕ) (s : Reg
       let x = home_is a (v'.settled.atoms a (functor_atom a g e)) in
       let i = in_place h' v' a x.0 x.1 in
       let outside = none_removed t (h'.root ∷ []) tr.forms (λ z j. elim j [ inl q ↦ subst (λ w. In w ks → ⊥) q o | inr w ↦ absurd w ]) x.0 (tr.all x.0 (list_mem x.0 a i)) in
-      let left = λ (k : ℕ). withouts taken (atoms_in h k) in
+      let left = λ (k : ℕ). without_all taken (atoms_in h k) in
       let N = length (heads.atoms_of head) in
       elim (in_either a (left x.0) (added_atoms s left N 0 body x.0) (subst (In a) (f.atoms x.0 outside) i)) [
         | inl j ↦ old x.0 j
@@ -245,14 +238,14 @@ module _ (h h' : Heap) (v : Valid h) (v' : Valid h') (c : Port → ℕ) (s : Reg
                 let same : u.0.1 ≡ g = same_Some u.0.1 g (sym (f.made_functors u.0 u.1) ∙ ap (functor_of h') u.2 ∙ e) in
                 subst (λ z. HasNames names (label_names z.label)) same u.3)
             | inr k ↦ (let w = f.copies k.0 k.1 in
-                let u = answer_onto w.atoms (s.copied k.0.0) a (sym w.long) (once (net h).arity (next (net h) (s.head.images.part k.0.1) (λ _. true)) w.part (tt, tt)) k.2 in
+                let u = answer_onto w.atoms (s.copied k.0.0) a (sym w.long) (once (net h).arity (neighbour (net h) (s.head.images.part k.0.1) (λ _. true)) w.part (tt, tt)) k.2 in
                 known u.0 g (sym (w.functors u.0 u.1) ∙ ap (functor_of h') u.2 ∙ e))
           ]
           | inr w ↦ old w.0 w.2
         ]
       ]
     where
-      old : (k : ℕ) → In a (withouts taken (atoms_in h k)) → HasNames names (label_names g.label)
+      old : (k : ℕ) → In a (without_all taken (atoms_in h k)) → HasNames names (label_names g.label)
       old k j =
           let w = in_withouts_of taken (atoms_in h k) a (v.sound.listed.atoms_once k) j in
           known a g (sym (f.kept_functors a (in_place_listed h k a v.sound.listed w.0) w.1) ∙ e)

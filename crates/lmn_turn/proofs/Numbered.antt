@@ -5,15 +5,16 @@ use Rattle.std.proofs.lemmas.Bool.{cases_eq, eq-eqb}
 use Rattle.lmn_base.specs.declared.guard.Cond.{Cond}
 use Rattle.lmn_base.specs.declared.functor.Functor.{Functor}
 use Rattle.lmn_heap.specs.Heap.{Heap, atoms_in, mems_in}
-use Rattle.lmn_heap.specs.Lists.{In, without}
-use Rattle.lmn_heap.proofs.ListLemmas.{in_without, apart_test}
+use Rattle.lmn_heap.specs.Lists.{In, without, without_all}
+use Rattle.lmn_heap.proofs.ListLemmas.{in_without}
 use Rattle.lmn_heap.proofs.Trees.{in_either}
 use Rattle.lmn_solid.specs.declared.items.HeadItem.{HeadItem}
 use Rattle.lmn_solid.specs.declared.items.HeadItem.TheVariants.{Atom, Typed, Membrane}
 use Rattle.lmn_solid.specs.Heads.{HeadAtom, HeadMembrane, atoms_of, membranes_of}
 use Rattle.lmn_solid.specs.Embeddings.{Images, Embeds, HasAtom, index_of}
 use Rattle.lmn_compile_head.specs.Heads.{EachInside}
-use Rattle.lmn_bridge.specs.Numbers.{without_all, numbers_left}
+use Rattle.lmn_bridge.specs.Numbers.{numbers_left}
+use Rattle.lmn_base.proofs.Numbers.{not_equal as apart_test}
 
 -- what is in a list and has the index of another number is that number
 index_same : (a b : ℕ) (xs : List ℕ) → In a xs → index_of a xs ≡ index_of b xs → a ≡ b

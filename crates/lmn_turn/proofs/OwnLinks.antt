@@ -9,26 +9,29 @@ use Rattle.lmn_congruence.specs.Process.{Closed, Process, occurrences, pair, ren
 use Rattle.lmn_congruence.specs.Regions.{Region, SolidAtom, region_process}
 use Rattle.lmn_congruence.specs.Rules.{Label, Leaf, Level, Levels, Name, Rule, Rules, atom_leaf, body_of, connector_leaf, head_of, level, level_and, no_level, no_rule, rules_list, typed_leaf}
 use Rattle.lmn_congruence.specs.Translation.{levels, rules as listed_rules}
-use Rattle.lmn_congruence.proofs.Counts.{none_if_apart, one_if_equal, same_or_not}
+use Rattle.lmn_congruence.proofs.Counts.{none_if_apart, one_if_equal}
 use Rattle.lmn_congruence.proofs.Crossings.{occurs_below}
 use Rattle.lmn_congruence.proofs.Reordered.{reordered_count}
 use Rattle.lmn_reduction.specs.Assignments.{Assignment}
-use Rattle.lmn_reduction.specs.Firing.{typed_contexts, typed_contexts_of, typed_leaves}
+use Rattle.lmn_reduction.specs.Firing.{typed_contexts, typed_contexts_in, typed_leaves}
 use Rattle.lmn_adequacy.specs.Accepted.{Accepted, all_contexts, contexts_in}
 use Rattle.lmn_adequacy.specs.Embedding.{IsPart, LevelImages, Plain}
-use Rattle.lmn_adequacy.specs.Next.{Contents, DepthFirst, EmbedsInOrder, MadeLeaves, MadeLevel, MadeMembranes, assignment_of, context_atoms, context_membranes, context_rules, kept_atoms, links_at, made_atom, made_atoms, made_connector, made_copy, made_level, made_membrane, no_made_leaf, no_made_membrane, of_rule, of_solid, raw_level, wire_leaves}
+use Rattle.lmn_adequacy.specs.Next.{Contents, DepthFirst, EmbedsInOrder, MadeLeaves, MadeLevel, MadeMembranes, assignment_of, context_atoms, context_membranes, context_rules, kept_atoms, links_at, made_atom, part_leaves, made_connector, made_copy, made_level, made_membrane, no_made_leaf, no_made_membrane, raw_level, wire_leaves}
 use Rattle.lmn_adequacy.proofs.Accepting.{accepted_bare}
 use Rattle.lmn_adequacy.proofs.Bodies.{Copied, LevelMade, Whole, context_places, context_places_append, odd_contexts, odd_not_even}
 use Rattle.lmn_adequacy.proofs.Closing.{body_whole, head_whole, raw_closes}
 use Rattle.lmn_adequacy.proofs.Commits.{closed_as}
-use Rattle.lmn_adequacy.proofs.Copies.{made_places, places_among}
+use Rattle.lmn_adequacy.proofs.Copies.{made_places}
 use Rattle.lmn_adequacy.proofs.Existence.{level_bound}
-use Rattle.lmn_adequacy.proofs.Images.{no_link_rules}
 use Rattle.lmn_adequacy.proofs.InOrder.{contents_plain, contexts_listed, held, level_listed, listed, listed_both, made_process, raw_joined, together_both}
-use Rattle.lmn_adequacy.proofs.Orders.{among_left, among_right}
 use Rattle.lmn_adequacy.proofs.RawProcesses.{head_wires, made}
-use Rattle.lmn_adequacy.proofs.Skeleton.{even_differs, even_not_odd, level_skeleton, no_even_contexts, odd_differs, places_even}
+use Rattle.lmn_adequacy.proofs.Skeleton.{level_skeleton, no_even_contexts, places_even}
 use Rattle.lmn_turn.proofs.PartLinks.{part_links_twice, part_root_once}
+use Rattle.lmn_splice.specs.Splice.{of_rule, of_solid}
+use Rattle.lmn_base.proofs.Numbers.{same_or_not}
+use Rattle.lmn_congruence.proofs.TranslatedLinks.{no_link_in_rules as no_link_rules}
+use Rattle.lmn_splice.proofs.Fusions.{apart_rule as even_not_odd, rule_once as even_differs, solid_once as odd_differs}
+use Rattle.lmn_congruence.proofs.Common.{among_left, among_right, places_among}
 use Rattle.lmn_reduction.specs.Parts.{Rooted}
 
 -- ---- what is made, with the numbers of the copies
@@ -42,9 +45,9 @@ module _ (c : Contents) (Block : ℕ → ℕ → Type 0) where
     own_atom : {k j : ℕ} {a : Label} {xs : List ℕ} {ls outs : List Leaf} → OwnLeaves k j ls outs → OwnLeaves k j (atom_leaf a xs ∷ ls) (atom_leaf a (map of_rule xs) ∷ outs)
     own_connector : {k j x y : ℕ} {ls outs : List Leaf} → OwnLeaves k j ls outs → OwnLeaves k j (connector_leaf x y ∷ ls) (connector_leaf (of_rule x) (of_rule y) ∷ outs)
     own_integer : {k j x : ℕ} {p : Name} {part : List SolidAtom} {ls outs : List Leaf} → IsPart (c.typed_of p) (of_rule x) part → DepthFirst (of_rule x) part →
-        ((z : ℕ) → Among z (links_at part) → z ≡ of_rule x) → OwnLeaves k j ls outs → OwnLeaves k j (typed_leaf p x ∷ ls) (made_atoms part ++ outs)
+        ((z : ℕ) → Among z (links_at part) → z ≡ of_rule x) → OwnLeaves k j ls outs → OwnLeaves k j (typed_leaf p x ∷ ls) (part_leaves part ++ outs)
     own_copy : {k j x : ℕ} {p : Name} {part : List SolidAtom} {ls outs : List Leaf} → IsPart (c.typed_of p) (of_rule x) part → DepthFirst (of_rule x) part →
-        ((z : ℕ) → Among z (links_at part) → (z ≡ of_rule x) ⊎ ((L : ℕ) × (z ≡ of_solid L) × Block k L)) → OwnLeaves (k + 1) j ls outs → OwnLeaves k j (typed_leaf p x ∷ ls) (made_atoms part ++ outs)
+        ((z : ℕ) → Among z (links_at part) → (z ≡ of_rule x) ⊎ ((L : ℕ) × (z ≡ of_solid L) × Block k L)) → OwnLeaves (k + 1) j ls outs → OwnLeaves k j (typed_leaf p x ∷ ls) (part_leaves part ++ outs)
 
   mutual
     pub data OwnLevel : ℕ → ℕ → Level → List Leaf → List Level → List Rule → Type 0 where
@@ -136,8 +139,8 @@ module _ (c : Contents) (Block : ℕ → ℕ → Type 0) where
       leaves_both : (z : ℕ) (xs ys : List Leaf) → occurrences z (together (map leaf_process (xs ++ ys))) ≡ occurrences z (together (map leaf_process xs)) + occurrences z (together (map leaf_process ys))
       leaves_both z xs ys = reordered_count (together_both leaf_process xs ys) z
 
-      part_both : (z : ℕ) (part : List SolidAtom) (outs : List Leaf) → occurrences z (together (map leaf_process (made_atoms part ++ outs))) ≡ places z (links_at part) + occurrences z (together (map leaf_process outs))
-      part_both z part outs = omega (arith, leaves_both z (made_atoms part) outs, made_places z part)
+      part_both : (z : ℕ) (part : List SolidAtom) (outs : List Leaf) → occurrences z (together (map leaf_process (part_leaves part ++ outs))) ≡ places z (links_at part) + occurrences z (together (map leaf_process outs))
+      part_both z part outs = omega (arith, leaves_both z (part_leaves part) outs, made_places z part)
 
       pub record LeavesOwn (k j : ℕ) (ls outs : List Leaf) : Type 0 where
         pub later : k ≤ j
@@ -208,7 +211,7 @@ module _ (c : Contents) (Block : ℕ → ℕ → Type 0) where
         -- a link of the rule has as many places as in the body, those of the contexts are kept, and a copy's are its own
         pub level_own : {k j : ℕ} {l : Level} {outs : List Leaf} {inner : List Level} {rs : List Rule} → OwnLevel k j l outs inner rs → Ready (typed_contexts l) → LevelOwn k j l outs inner rs
         level_own (own_level {k = k} {i = i} {j = j} {leaves = leaves} {outs = outs} {membranes = membranes} {inner = inner} {contexts = ps} {rule_contexts = qs} {rules = rules} d e) w =
-            let u = leaves_own d (λ q a. w q (among_left (typed_contexts_of membranes) a)) in
+            let u = leaves_own d (λ q a. w q (among_left (typed_contexts_in membranes) a)) in
             let v = levels_own e (λ q a. w q (among_right (typed_leaves leaves) a)) in
             record {
               later = omega (arith, u.later, v.later);
@@ -218,10 +221,10 @@ module _ (c : Contents) (Block : ℕ → ℕ → Type 0) where
                   record { copies = b.copies; is = omega (arith, b.is, level_count (of_solid L) outs inner ps qs (rules_list rules), odd_contexts t p L ps, context_places_append t p L ps (contexts_in membranes)); whole = b.whole };
             }
 
-        levels_own : {k j : ℕ} {ls : Levels} {inner : List Level} → OwnMembranes k j ls inner → Ready (typed_contexts_of ls) → LevelsOwn k j ls inner
+        levels_own : {k j : ℕ} {ls : Levels} {inner : List Level} → OwnMembranes k j ls inner → Ready (typed_contexts_in ls) → LevelsOwn k j ls inner
         levels_own (own_no_membrane {k = k}) w = record { later = omega arith; count = λ x. refl; odd = λ L. blocks_none k L }
         levels_own (own_membrane {k = k} {i = i} {j = j} {l = l} {ls = ls} {outs = outs} {inner = inner} {others = others} {rs = rs} d e) w =
-            let u = level_own d (λ q a. w q (among_left (typed_contexts_of ls) a)) in
+            let u = level_own d (λ q a. w q (among_left (typed_contexts_in ls) a)) in
             let v = levels_own e (λ q a. w q (among_right (typed_contexts l) a)) in
             let same = level_listed outs inner rs in
             record {

@@ -4,21 +4,21 @@ use Rattle.lmn_base.specs.declared.rule.RuleTree.{RuleTree}
 use Rattle.lmn_guards.specs.declared.plan.TypeKind.{TypeKind}
 use Rattle.lmn_heap.specs.Heap.{Heap}
 use Rattle.lmn_solid.specs.Embeddings.{Images}
-use Rattle.lmn_solid.specs.Flattening.{items_of}
+use Rattle.lmn_solid.specs.Flattening.{items_of_head}
 use Rattle.lmn_solid.specs.Guards.{typed_number}
 use Rattle.lmn_solid.specs.Heads.{typed_contexts_of}
 use Rattle.lmn_congruence.specs.Rules.{Name}
 use Rattle.lmn_congruence.specs.Translation.{name_of}
 use Rattle.lmn_reduction.specs.Parts.{Rooted}
-use Rattle.lmn_bridge.specs.HeapRegions.{Reading}
+use Rattle.lmn_bridge.specs.HeapRegions.{HeapReading}
 use Rattle.lmn_bridge.specs.Parts.{IsGroundPart, TakesParts}
 use Rattle.lmn_bridge.proofs.TypeConditions.{number_is}
 
 -- the part with the number of a name is what the name stands for
-pub part_named : (h : Heap) (r : Reading) (kind : ℕ → TypeKind) (rule : RuleTree) (f : Images) (typed_of : Name → Rooted) → TakesParts h r kind rule f typed_of → (n g : ℕ) →
-    typed_number (typed_contexts_of (items_of kind rule.head)) 0 n ≡ Some g → (x : ℕ) × (part : List ℕ) × IsGroundPart h r x (f.part g) part (typed_of (name_of r.names n))
+pub part_named : (h : Heap) (r : HeapReading) (kind : ℕ → TypeKind) (rule : RuleTree) (f : Images) (typed_of : Name → Rooted) → TakesParts h r kind rule f typed_of → (n g : ℕ) →
+    typed_number (typed_contexts_of (items_of_head kind rule.head)) 0 n ≡ Some g → (x : ℕ) × (part : List ℕ) × IsGroundPart h r x (f.part g) part (typed_of (name_of r.names n))
 part_named h r kind rule f typed_of takes n g e =
-    let w = number_is (typed_contexts_of (items_of kind rule.head)) 0 n g e in
+    let w = number_is (typed_contexts_of (items_of_head kind rule.head)) 0 n g e in
     let z : w.0 ≡ g = omega (arith, w.4) in
     let u = takes w.0 w.1 w.2 in (
       f.membrane w.1.inside,

@@ -6,23 +6,25 @@ use Rattle.std.proofs.lemmas.Option.{same_Some}
 use Rattle.std.specs.Option.{option_and_then}
 use Rattle.lmn_heap.specs.Heap.{Heap, HeapAtom, IsAtom, arity_of, functor_of, link_of}
 use Rattle.lmn_heap.specs.Lists.{In, Distinct}
-use Rattle.lmn_heap.specs.Solid.{numbered}
 use Rattle.lmn_heap.proofs.ListLemmas.{each_of, in_left}
 use Rattle.lmn_heap.proofs.Listing.{distinct_snoc}
-use Rattle.lmn_parts.specs.Walks.{HasPort, Walk, ends, passes, finds, ports, is_port, net, next, kept}
-use Rattle.lmn_parts.proofs.WalkLaws.{kept_seen, in_last}
-use Rattle.lmn_splice.proofs.Joining.{port_cases}
+use Rattle.lmn_parts.specs.Walks.{HasPort, Walk, ends, passes, finds, port_range, is_port, net, neighbour, kept}
+use Rattle.lmn_parts.proofs.WalkLaws.{kept_seen, in_last, by_port, ports_named}
 use Rattle.lmn_congruence.specs.Links.{one_if_same, places}
 use Rattle.lmn_congruence.specs.Orders.{Among}
 use Rattle.lmn_congruence.specs.Regions.{SolidAtom}
-use Rattle.lmn_adequacy.specs.Next.{Reaches, links_at, reaches_listed, reaches_new, reaches_none}
+use Rattle.lmn_adequacy.specs.Next.{ReachesAtoms, links_at, reaches_listed, reaches_new, reaches_none}
 use Rattle.lmn_adequacy.proofs.Depth.{at_cons}
-use Rattle.lmn_bridge.specs.HeapRegions.{Reading}
+use Rattle.lmn_bridge.specs.HeapRegions.{HeapReading}
 use Rattle.lmn_bridge.specs.Premises.{IsRead}
-use Rattle.lmn_bridge.proofs.Counting.{weigh, times_at, ends_among, within_arity, same_one, apart_none}
+use Rattle.lmn_bridge.proofs.Counting.{times_at, ends_among}
 use Rattle.lmn_bridge.proofs.Forests.{none_of, some_of, once_of}
-use Rattle.lmn_bridge.proofs.GroundParts.{link_among, some_is}
+use Rattle.lmn_bridge.proofs.GroundParts.{link_among}
 use Rattle.lmn_bridge.proofs.Pieces.{atom_at, atom_by}
+use Rattle.lmn_base.proofs.Lists.{weigh, map_append as map_both, some_is}
+use Rattle.lmn_base.proofs.Common.{port_cases}
+use Rattle.lmn_congruence.proofs.Counts.{none_if_apart as apart_none, one_if_equal as same_one}
+use Rattle.lmn_heap.proofs.Replacing.{port_within}
 
 -- ---- what is reached over two lists of links
 
@@ -31,20 +33,20 @@ record Split (ys zs seen : List ℕ) (ds : List SolidAtom) : Type 0 where
   first : List SolidAtom
   later : List SolidAtom
   is : ds ≡ first ++ later
-  before : Reaches ys seen first
-  behind : Reaches zs (seen ++ links_at first) later
+  before : ReachesAtoms ys seen first
+  behind : ReachesAtoms zs (seen ++ links_at first) later
 
 pub links_both : (xs ys : List SolidAtom) → links_at (xs ++ ys) ≡ links_at xs ++ links_at ys
 links_both [] ys = refl
 links_both (x ∷ xs) ys = ap (λ k. x.links ++ k) (links_both xs ys) ∙ sym (append_assoc x.links (links_at xs) (links_at ys))
 
-split : {ws seen : List ℕ} {ds : List SolidAtom} → Reaches ws seen ds → (ys zs : List ℕ) → ws ≡ ys ++ zs → Split ys zs seen ds
+split : {ws seen : List ℕ} {ds : List SolidAtom} → ReachesAtoms ws seen ds → (ys zs : List ℕ) → ws ≡ ys ++ zs → Split ys zs seen ds
 split {seen = seen} {ds = ds} d [] zs e = record {
   first = [];
   later = ds;
   is = refl;
   before = reaches_none;
-  behind = subst (λ k. Reaches zs k ds) (sym (append-nil seen)) (subst (λ k. Reaches k seen ds) e d);
+  behind = subst (λ k. ReachesAtoms zs k ds) (sym (append-nil seen)) (subst (λ k. ReachesAtoms k seen ds) e d);
 }
 split reaches_none (y ∷ ys) zs e = absurd (cc)
 split (reaches_listed {y = z} {ys = ws} {seen = seen} c d) (y ∷ ys) zs e =
@@ -63,12 +65,12 @@ split (reaches_new {y = z} {ys = ws} {seen = seen} {b = b} {bs = bs} {cs = cs} c
       later = u.later;
       is = ap (λ w. b ∷ (bs ++ w)) u.is ∙ ap (λ w. b ∷ w) (sym (append_assoc bs u.first u.later));
       before = reaches_new (subst (λ w. places w seen ≡ 1) head c) (subst (λ w. Among w b.links) head k) d u.before;
-      behind = subst (λ w. Reaches zs w u.later) all u.behind;
+      behind = subst (λ w. ReachesAtoms zs w u.later) all u.behind;
     }
 
 -- ---- ports of an atom
 
-pub port_at : (p : ℕ × ℕ) (a i n : ℕ) → HasPort p (ports a i n) → (p.0 ≡ a) × (p.1 < i + n)
+pub port_at : (p : ℕ × ℕ) (a i n : ℕ) → HasPort p (port_range a i n) → (p.0 ≡ a) × (p.1 < i + n)
 port_at p a i zero k = absurd k
 port_at p a i (suc n) (inl e) = let z : p.1 ≡ i = ap (λ q. q.1) (sym e) in (ap (λ q. q.0) (sym e), omega (arith, z))
 port_at p a i (suc n) (inr k) = let u = port_at p a (i + 1) n k in (u.0, omega (arith, u.1))
@@ -82,29 +84,17 @@ port_either p (r ∷ ps) qs (inr k) = again (port_either p ps qs k)
     again (inl j) = inl (inr j)
     again (inr j) = inr j
 
--- the number of the link at a port
-abbrev pub named_by : (ℕ → ℕ → ℕ) → ℕ × ℕ → ℕ
-named_by name p = name p.0 p.1
-
-ports_named : (name : ℕ → ℕ → ℕ) (a i n : ℕ) → map (named_by name) (ports a i n) ≡ numbered name a i n
-ports_named name a i zero = refl
-ports_named name a i (suc n) = ap (λ ys. name a i ∷ ys) (ports_named name a (i + 1) n)
-
-map_both : {A B : Type 0} (f : A → B) (xs ys : List A) → map f (xs ++ ys) ≡ map f xs ++ map f ys
-map_both f [] ys = refl
-map_both f (x ∷ xs) ys = ap (λ zs. f x ∷ zs) (map_both f xs ys)
-
-module _ (h : Heap) (r : Reading) (read : IsRead h r) where
+module _ (h : Heap) (r : HeapReading) (read : IsRead h r) where
   -- the links of an atom, by its ports
-  pub links_of_ports : (a : ℕ) → IsAtom h a → (atom_at h r a).links ≡ map (named_by r.name) (ports a 0 (arity_of h a))
+  pub links_of_ports : (a : ℕ) → IsAtom h a → (atom_at h r a).links ≡ map (by_port r.name) (port_range a 0 (arity_of h a))
   links_of_ports a s = by (h.atoms a) refl s
     where
-      by : (o : Option HeapAtom) → h.atoms a ≡ o → IsSome o → (atom_by r a o).links ≡ map (named_by r.name) (ports a 0 (arity_of h a))
+      by : (o : Option HeapAtom) → h.atoms a ≡ o → IsSome o → (atom_by r a o).links ≡ map (by_port r.name) (port_range a 0 (arity_of h a))
       by None q s = absurd (cc)
       by (Some y) q s =
           let f : functor_of h a ≡ Some y.functor = rw q refl in
           let n : arity_of h a ≡ y.functor.arity = read.valid.sound.shaped.ports a y.functor f in
-          sym (ap (λ k. map (named_by r.name) (ports a 0 k)) n ∙ ports_named r.name a 0 y.functor.arity)
+          sym (ap (λ k. map (by_port r.name) (port_range a 0 k)) n ∙ ports_named r.name a 0 y.functor.arity)
 
   -- the links of atoms, as weights
   pub links_weigh : (y : ℕ) (xs : List ℕ) → places y (links_at (map (atom_at h r) xs)) ≡ weigh (times_at h r y) xs
@@ -113,10 +103,10 @@ module _ (h : Heap) (r : Reading) (read : IsRead h r) where
 
   module _ (root q : ℕ × ℕ) (link : link_of h root.0 root.1 ≡ Some q) where
     abbrev pub to : ℕ × ℕ → Option ℕ
-    to = next (net h) root (λ _. true)
+    to = neighbour (net h) root (λ _. true)
 
     abbrev pub name : ℕ × ℕ → ℕ
-    name = named_by r.name
+    name = by_port r.name
 
     -- the root's link, and the links at the ports of these atoms
     abbrev pub links : List ℕ → List ℕ
@@ -145,7 +135,7 @@ module _ (h : Heap) (r : Reading) (read : IsRead h r) where
     -- partner has been seen.
     at_the_root : (seen : List ℕ) → Distinct seen → ((a : ℕ) → In a seen → IsAtom h a) → (In q.0 seen → ⊥) → In root.0 seen → places (name root) (links seen) ≡ 2
     at_the_root seen once atoms away k =
-        let e = ends_among h r read.valid read.naming root.0 root.1 q.0 q.1 (within_arity h root.0 root.1 link) link seen (each_of (IsAtom h) seen atoms) in
+        let e = ends_among h r read.valid read.naming root.0 root.1 q.0 q.1 (port_within h root.0 root.1 _ link) link seen (each_of (IsAtom h) seen atoms) in
         omega (arith, e, links_weigh (name root) seen, same_one (name root) (name root) refl, once_of root.0 seen once, some_of root.0 seen k, none_of q.0 seen away)
 
     elsewhere : (seen : List ℕ) → Distinct seen → ((a : ℕ) → In a seen → IsAtom h a) → (In q.0 seen → ⊥) → (p s : ℕ × ℕ) → Here seen p → p ≢ root → link_of h p.0 p.1 ≡ Some s → places (name p) (links seen) ≡ 1 + places s.0 seen
@@ -155,7 +145,7 @@ module _ (h : Heap) (r : Reading) (read : IsRead h r) where
         omega (arith, e, links_weigh (name p) seen, other, once_of p.0 seen once, some_of p.0 seen k.0)
       where
         differs : name p ≢ name root
-        differs f = elim (read.naming.apart p.0 p.1 root.0 root.1 k.1 (within_arity h root.0 root.1 link) f) [
+        differs f = elim (read.naming.apart p.0 p.1 root.0 root.1 k.1 (port_within h root.0 root.1 _ link) f) [
           | inl same ↦ d (λ i. (same.0 i, same.1 i))
           | inr across ↦ (let back = read.valid.sound.paired.back p.0 p.1 root.0 root.1 across in
               let same : p ≡ q = same_Some p q (sym back ∙ link) in
@@ -166,7 +156,7 @@ module _ (h : Heap) (r : Reading) (read : IsRead h r) where
     pub record Lists (seen all : List ℕ) (ps : List (ℕ × ℕ)) : Type 0 where
       pub new : List ℕ
       pub is : all ≡ seen ++ new
-      pub reaches : Reaches (map name ps) (links seen) (map (atom_at h r) new)
+      pub reaches : ReachesAtoms (map name ps) (links seen) (map (atom_at h r) new)
 
     pub lists : {seen all : List ℕ} {ps : List (ℕ × ℕ)} → Walk (arity_of h) to seen ps all → (In q.0 all → ⊥) → ((a : ℕ) → In a all → IsAtom h a) → Distinct seen → ((p : ℕ × ℕ) → HasPort p ps → Here seen p) → Lists seen all ps
     lists (ends {seen = seen}) away atoms once here = record { new = []; is = sym (append-nil seen); reaches = reaches_none }
@@ -190,17 +180,17 @@ module _ (h : Heap) (r : Reading) (read : IsRead h r) where
             omega (arith, elsewhere seen once seen_atoms out p s.0 at d s.1, once_of s.0.0 seen once, some_of s.0.0 seen (k s.0.0 (way p s.0 d s.1)))
     lists (finds {seen = seen} {all = all} {ps = ps} {p = p} {b = b} e n w) away atoms once here =
         let u = lists w away atoms (distinct_snoc b seen once n) ports_here in
-        let own : (atom_at h r b).links ≡ map name (ports b 0 (arity_of h b)) = links_of_ports b there in
-        let d : Reaches ((atom_at h r b).links ++ map name ps) (links seen ++ (atom_at h r b).links) (map (atom_at h r) u.new) =
-        subst (λ k. Reaches k (links seen ++ (atom_at h r b).links) (map (atom_at h r) u.new)) (map_both name (ports b 0 (arity_of h b)) ps ∙ ap (λ k. k ++ map name ps) (sym own))
-        (subst (λ k. Reaches (map name (ports b 0 (arity_of h b) ++ ps)) k (map (atom_at h r) u.new)) seen_more u.reaches) in
+        let own : (atom_at h r b).links ≡ map name (port_range b 0 (arity_of h b)) = links_of_ports b there in
+        let d : ReachesAtoms ((atom_at h r b).links ++ map name ps) (links seen ++ (atom_at h r b).links) (map (atom_at h r) u.new) =
+        subst (λ k. ReachesAtoms k (links seen ++ (atom_at h r b).links) (map (atom_at h r) u.new)) (map_both name (port_range b 0 (arity_of h b)) ps ∙ ap (λ k. k ++ map name ps) (sym own))
+        (subst (λ k. ReachesAtoms (map name (port_range b 0 (arity_of h b) ++ ps)) k (map (atom_at h r) u.new)) seen_more u.reaches) in
         let v = split d (atom_at h r b).links (map name ps) refl in
         record {
           new = b ∷ u.new;
           is = u.is ∙ append_assoc seen (b ∷ []) u.new;
-          reaches = subst (λ k. Reaches (name p ∷ map name ps) (links seen) (atom_at h r b ∷ k)) (sym v.is)
+          reaches = subst (λ k. ReachesAtoms (name p ∷ map name ps) (links seen) (atom_at h r b ∷ k)) (sym v.is)
               (reaches_new (found (port_cases p root)) (holds (port_cases p root)) v.before
-              (subst (λ k. Reaches (map name ps) k v.later) (append_assoc (links seen) (atom_at h r b).links (links_at v.first)) v.behind));
+              (subst (λ k. ReachesAtoms (map name ps) k v.later) (append_assoc (links seen) (atom_at h r b).links (links_at v.first)) v.behind));
         }
       where
         there : IsAtom h b
@@ -215,8 +205,8 @@ module _ (h : Heap) (r : Reading) (read : IsRead h r) where
         at : Here seen p
         at = here p (inl refl)
 
-        ports_here : (s : ℕ × ℕ) → HasPort s (ports b 0 (arity_of h b) ++ ps) → Here (seen ++ b ∷ []) s
-        ports_here s m = elim (port_either s (ports b 0 (arity_of h b)) ps m) [
+        ports_here : (s : ℕ × ℕ) → HasPort s (port_range b 0 (arity_of h b) ++ ps) → Here (seen ++ b ∷ []) s
+        ports_here s m = elim (port_either s (port_range b 0 (arity_of h b)) ps m) [
           | inl j ↦ (let t = port_at s b 0 (arity_of h b) j in
               (subst (λ z. In z (seen ++ b ∷ [])) (sym t.0) (in_last b seen), subst (λ z. s.1 < arity_of h z) (sym t.0) (omega (arith, t.1))))
           | inr j ↦ (let t = here s (inr j) in (in_left s.0 seen (b ∷ []) t.0, t.1))
@@ -244,4 +234,4 @@ module _ (h : Heap) (r : Reading) (read : IsRead h r) where
         holds (inr d) =
             let s = partner d in
             subst (λ k. Among k (atom_at h r b).links) (sym (read.naming.joined p.0 p.1 b s.0 s.1))
-            (link_among h r read.valid b s.0 (within_arity h b s.0 (read.valid.sound.paired.back p.0 p.1 b s.0 s.1)))
+            (link_among h r read.valid b s.0 (port_within h b s.0 _ (read.valid.sound.paired.back p.0 p.1 b s.0 s.1)))

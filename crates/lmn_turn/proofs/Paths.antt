@@ -11,30 +11,21 @@ use Rattle.lmn_congruence.specs.FreeLinks.{link_bound}
 use Rattle.lmn_congruence.specs.Fused.{Joins}
 use Rattle.lmn_congruence.specs.Plains.{fused_level, fused_levels, level_process, levels_processes}
 use Rattle.lmn_congruence.specs.Process.{Closed, Process, pair, renamed, together}
-use Rattle.lmn_congruence.specs.Regions.{Region, Regions, SolidAtom, no_region, region, region_and, region_process}
-use Rattle.lmn_congruence.specs.Rules.{Level, Rule, level, rules_list}
+use Rattle.lmn_congruence.specs.Regions.{Regions, no_region, region, region_and, region_process}
+use Rattle.lmn_congruence.specs.Rules.{Level, level, rules_list}
 use Rattle.lmn_congruence.specs.Translation.{levels, rules as listed_rules}
-use Rattle.lmn_congruence.specs.UpToOrder.{Reordered, r_back, r_beside, r_chain, r_regroup, r_same}
-use Rattle.lmn_congruence.proofs.Reordered.{r_right, reordered_count}
-use Rattle.lmn_congruence.proofs.Solids.{put_together}
-use Rattle.lmn_adequacy.specs.Embedding.{TakenRegion}
-use Rattle.lmn_adequacy.specs.Next.{RawAt, fires_below, kept_atoms, kept_membranes, of_solid, replaced}
+use Rattle.lmn_congruence.proofs.Reordered.{reordered_count}
+use Rattle.lmn_adequacy.specs.Next.{RawAt, fires_below, kept_atoms, kept_membranes, replaced}
 use Rattle.lmn_adequacy.proofs.Commits.{closed_as, region_out}
-use Rattle.lmn_adequacy.proofs.InOrder.{held, kept_listed, level_listed, replaced_put}
-use Rattle.lmn_adequacy.proofs.Orders.{r_over}
-use Rattle.lmn_bridge.specs.HeapRegions.{Reading, atoms_at, regions_at, region_at}
+use Rattle.lmn_bridge.specs.HeapRegions.{HeapReading, atoms_at, regions_at, region_at}
 use Rattle.lmn_bridge.proofs.Lying.{TakenTree, tree_first, tree_later, taken_region}
 use Rattle.lmn_turn.specs.Turning.{Leads, enters}
 use Rattle.lmn_turn.proofs.LinksBelow.{reordered_bound}
 use Rattle.lmn_turn.specs.Standing.{StandAs, none_stands, one_stands}
-use Rattle.lmn_turn.proofs.Kept.{Untouched, kept_one, kept_stand, kept_atoms_join, rules_join, kept_level_joins, kept_membranes_join}
-
--- a membrane of a raw level in its place
-below_order : {n : ℕ} {m : Region} {ms ms' : Regions} (xs : List SolidAtom) (rs : List Rule) (L : Level) → TakenRegion n m ms ms'
-    → Reordered (level_process (level (kept_atoms xs) (levels (replaced n L (kept_membranes ms))) [] [] (listed_rules rs))) (pair (held L) (renamed of_solid (region_process (region xs ms' rs))))
-below_order {n = n} {ms = ms} {ms' = ms'} xs rs L k =
-    r_chain (r_same (level_listed (kept_atoms xs) (replaced n L (kept_membranes ms)) rs))
-    (r_chain (r_right (r_chain (r_beside (r_back (put_together (replaced_put L k)))) (r_back r_regroup))) (r_chain r_over (r_right (r_same (kept_listed xs ms' rs)))))
+use Rattle.lmn_turn.proofs.Kept.{Untouched, kept_one, kept_stand, kept_atoms_join, kept_level_joins, kept_membranes_join}
+use Rattle.lmn_splice.specs.Splice.{of_solid}
+use Rattle.lmn_adequacy.proofs.Existence.{below_order}
+use Rattle.lmn_congruence.proofs.Common.{rules_join}
 
 -- links stay below a number
 taken_out : (s m q o n : ℕ) → s ≡ m + q → s + o ≤ n → m + (q + o) ≤ n
@@ -51,8 +42,8 @@ inner_within h m mi Fm (mem k i f) ms F (inr p) y q = elim (in_either m (flat i)
   | inr b ↦ inr (in_right y (flat i) (flat f) (inner_within h m mi Fm f F.0 F.3 b y q))
 ]
 
-module _ (h h' : Heap) (r : Reading) (name : ℕ → ℕ → ℕ) (to : ℕ → ℕ) (rule_number : ℕ) (positions : List ℕ) (m : ℕ) where
-  abbrev r' : Reading
+module _ (h h' : Heap) (r : HeapReading) (name : ℕ → ℕ → ℕ) (to : ℕ → ℕ) (rule_number : ℕ) (positions : List ℕ) (m : ℕ) where
+  abbrev r' : HeapReading
   r' = record { name = name; names = r.names; rule = r.rule }
 
   -- The rule fires in membrane m, at or below membrane x, and what is left there stands as the raw level says; O is what stands outside.

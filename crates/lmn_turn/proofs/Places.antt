@@ -21,8 +21,8 @@ use Rattle.lmn_body.proofs.Below.{removed_is, is_removed}
 use Rattle.lmn_body.proofs.Firing.{rising_below, heap_in_of}
 use Rattle.lmn_body.proofs.HeadPorts.{of_map}
 use Rattle.lmn_bridge.proofs.Forests.{home_in, one_home}
-use Rattle.lmn_bridge.proofs.Runs.{get_some, get_below}
 use Rattle.lmn_turn.proofs.Turns.{Placing}
+use Rattle.lmn_base.proofs.Lists.{get_below, get_there as get_some}
 
 -- ---- items stand in membranes of the head
 

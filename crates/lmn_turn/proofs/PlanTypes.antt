@@ -12,7 +12,7 @@ use Rattle.lmn_compile_head.proofs.HeadLeaves.{typed_leaf}
 use Rattle.lmn_compile_head.proofs.PlanKinds.{kind_of_leaf}
 use Rattle.lmn_bridge.specs.Premises.{HasTypes}
 
-is_of : (o : Option TypeKind) → IsSome o → (k : TypeKind) × (o ≡ Some k)
+pub is_of : (o : Option TypeKind) → IsSome o → (k : TypeKind) × (o ≡ Some k)
 is_of (Some k) s = (k, refl)
 is_of None s = absurd (cc)
 

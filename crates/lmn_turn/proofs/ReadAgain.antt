@@ -16,12 +16,12 @@ use Rattle.lmn_heap.specs.Lists.{In, Distinct}
 use Rattle.lmn_heap.specs.Sound.{Forest, bare, mem, IsTree, Valid}
 use Rattle.lmn_congruence.proofs.Appended.{all_left, all_right}
 use Rattle.lmn_solid.specs.declared.items.HeadItem.{HeadItem}
-use Rattle.lmn_solid.specs.Heads.{Port, membranes_of}
-use Rattle.lmn_solid.proofs.HeadTrees.{Head, head_at, head_leaves, same_leaves}
-use Rattle.lmn_instr.specs.Running.{IsFirst}
+use Rattle.lmn_solid.specs.Heads.{membranes_of}
+use Rattle.lmn_solid.proofs.HeadTrees.{Head, head_at, head_leaves, same_leaves, head_rules, same_rules}
+use Rattle.lmn_instr.specs.Running.{IsFirstSuccess}
 use Rattle.lmn_compile_head.specs.Accepted.{AcceptedHeads, head_items, rule_head_code}
 use Rattle.lmn_compile_head.specs.Heads.{IsHead}
-use Rattle.lmn_compile_body.specs.Accepted.{AcceptedNested, IsWhole, rule_names, rule_body_items, rule_body_code}
+use Rattle.lmn_compile_body.specs.Accepted.{AcceptedNested, IsCompilable, rule_body_names, rule_body_items, rule_body_code}
 use Rattle.lmn_compile_body.proofs.BodyTrees.{flat_body, items_flat}
 use Rattle.lmn_body.specs.declared.items.BodyItem.{BodyItem}
 use Rattle.lmn_body.specs.Added.{made_mems}
@@ -31,17 +31,19 @@ use Rattle.lmn_body.specs.Running.{Registers, RunsBody}
 use Rattle.lmn_body.specs.Within.{membrane_images, FiresWithin}
 use Rattle.lmn_body.proofs.Below.{removed_is}
 use Rattle.lmn_firing.specs.Accepted.{AcceptedFires, Fired}
-use Rattle.lmn_bridge.specs.HeapRegions.{Reading}
+use Rattle.lmn_bridge.specs.HeapRegions.{HeapReading}
 use Rattle.lmn_bridge.specs.Premises.{IsRead, HasForest, IsRule}
-use Rattle.lmn_turn.proofs.RulesKept.{head_rules, same_rules, body_written, rules_kept}
-use Rattle.lmn_turn.specs.Turning.{TurnIsRead, renumbered}
+use Rattle.lmn_turn.proofs.RulesKept.{body_written, rules_kept}
+use Rattle.lmn_turn.specs.Turning.{TurnIsRead, renumbered_reading}
 use Rattle.lmn_turn.proofs.Adders.{at}
 use Rattle.lmn_turn.proofs.Leavings.{root_tree}
 use Rattle.lmn_turn.proofs.Made.{root_stays, all_new}
-use Rattle.lmn_turn.proofs.Namings.{names_of_naming, naming_of_names, mem_stands}
+use Rattle.lmn_turn.proofs.Namings.{names_of_naming, naming_of_names}
 use Rattle.lmn_turn.proofs.NamesKept.{LeavesNamed, body_named, names_known}
 use Rattle.lmn_turn.proofs.Places.{placing}
 use Rattle.lmn_turn.proofs.Turns.{Placing}
+use Rattle.lmn_base.specs.Graphs.{Port}
+use Rattle.lmn_heap.proofs.Common.{mem_stands}
 
 -- ---- names
 
@@ -59,7 +61,7 @@ root_mem h v = by (h.mems h.root) ((v.sound.listed.root h.root).1 refl)
     by None e = absurd (cc)
     by (Some z) e = refl
 
-module _ (r : Reading) (rule : RuleTree) (is : IsRule r rule) where
+module _ (r : HeapReading) (rule : RuleTree) (is : IsRule r rule) where
   pub body_leaves_named : LeavesNamed r.names (head_leaves (head_at rule.body))
   body_leaves_named =
       let P : ℕ → Type 0 = λ n. n < length r.names in
@@ -73,15 +75,15 @@ module _ (r : Reading) (rule : RuleTree) (is : IsRule r rule) where
 
 -- ---- the turn
 
-module _ (firing : AcceptedFires) (head_law : AcceptedHeads) (nested : AcceptedNested) (table : List RuleTree) (rule : RuleTree) (plan : GuardPlan) (whole : IsWhole table rule plan)
-    (h : Heap) (r : Reading) (read : IsRead h r) (is_rule : IsRule r rule)
-    (m : ℕ) (mi : Forest) (there : IsMem h m) (forest : HasForest h m mi) (s : Registers) (first : IsFirst h (rule_head_code rule plan) m s.head)
+module _ (firing : AcceptedFires) (head_law : AcceptedHeads) (nested : AcceptedNested) (table : List RuleTree) (rule : RuleTree) (plan : GuardPlan) (whole : IsCompilable table rule plan)
+    (h : Heap) (r : HeapReading) (read : IsRead h r) (is_rule : IsRule r rule)
+    (m : ℕ) (mi : Forest) (there : IsMem h m) (forest : HasForest h m mi) (s : Registers) (first : IsFirstSuccess h (rule_head_code rule plan) m s.head)
     (h' : Heap) (runs : RunsBody s (rule_body_code rule plan) h h') where
   abbrev items : List HeadItem
   items = head_items rule plan
 
   abbrev bn : BodyNames
-  bn = rule_names rule plan
+  bn = rule_body_names rule plan
 
   abbrev hd : Head
   hd = head_at rule.body
@@ -90,7 +92,7 @@ module _ (firing : AcceptedFires) (head_law : AcceptedHeads) (nested : AcceptedN
   low = 1 + length (membranes_of (head_items rule plan))
 
   abbrev B : List BodyItem
-  B = flat_body (rule_names rule plan) 0 (1 + length (membranes_of (head_items rule plan))) (head_at rule.body)
+  B = flat_body (rule_body_names rule plan) 0 (1 + length (membranes_of (head_items rule plan))) (head_at rule.body)
 
   abbrev c : Port → ℕ
   c p = r.name p.0 p.1
@@ -119,7 +121,7 @@ module _ (firing : AcceptedFires) (head_law : AcceptedHeads) (nested : AcceptedN
       subst (λ b. Placing h s (membrane_images s items) (made_mems s low b) taken m mi) body_is
       (placing h read.valid items rule.guard m mi s fired.least.embeds n.head_nests is_head.inside there forest.forms forest.once fired.parts fired.are (made_mems s low (rule_body_items rule plan)) new_mems.0 new_mems.1)
 
-  module _ (f : FiresWithin h (λ p. r.name p.0 p.1) s (head_items rule plan) (flat_body (rule_names rule plan) 0 (1 + length (membranes_of (head_items rule plan))) (head_at rule.body)) (images_of s (head_items rule plan) ++ fired.parts) h') where
+  module _ (f : FiresWithin h (λ p. r.name p.0 p.1) s (head_items rule plan) (flat_body (rule_body_names rule plan) 0 (1 + length (membranes_of (head_items rule plan))) (head_at rule.body)) (images_of s (head_items rule plan) ++ fired.parts) h') where
     pub not_removed : (x : ℕ) → In x (made_mems s low B) → In x (membrane_images s items) → ⊥
     not_removed x i j = by (h.mems x) (place.images_there x j) (place.fresh x i)
       where
@@ -139,7 +141,7 @@ module _ (firing : AcceptedFires) (head_law : AcceptedHeads) (nested : AcceptedN
         clash : {y : ℕ} → ◌≡◌ {A = Option Place} (Some top) (Some (within y)) → ⊥
         clash e = absurd (cc)
 
-    pub read_again : IsRead h' (renumbered r f.number)
+    pub read_again : IsRead h' (renumbered_reading r f.number)
     read_again = record {
       valid = fired.valid;
       naming = naming_of_names h' fired.valid f.number f.named;

@@ -1,14 +1,10 @@
 -- After a firing each rule of a membrane stood in one before, or stands in the body.
-use Rattle.std.proofs.Common.{ℕ, ◌≡◌, ◌+◌, ◌⊎◌, Bool, true, false, List, [], ◌∷◌, ◌++◌, map, length, Option, Some, None, IsSome, refl, subst, inl, inr}
-use Rattle.std.specs.Prelude.{Contains, flat_map}
+use Rattle.std.proofs.Common.{ℕ, ◌+◌, ◌⊎◌, Bool, true, false, List, [], ◌∷◌, ◌++◌, map, length, Option, Some, None, IsSome, refl, subst, inl, inr}
+use Rattle.std.specs.Prelude.{Contains}
 use Rattle.std.proofs.lemmas.List.Elements.{Contains-append_left, Contains-append_right}
 use Rattle.lmn_base.specs.declared.functor.Functor.{Functor}
 use Rattle.lmn_base.specs.declared.level.CtxUse.{CtxUse}
 use Rattle.lmn_base.specs.declared.level.Leaf.{Leaf}
-use Rattle.lmn_base.specs.declared.level.Leaf.TheVariants as leaf
-use Rattle.lmn_base.specs.declared.level.Level.{Level}
-use Rattle.lmn_base.specs.declared.level.Level.TheFolds.{fold-roll-Level, ind-Level}
-use Rattle.lmn_base.specs.Levels.{rules_of}
 use Rattle.lmn_base.specs.Solids.{connector}
 use Rattle.lmn_heap.specs.Functors.{same_functor}
 use Rattle.lmn_heap.specs.Heap.{Heap, HeapMem, IsMem, rules_in, rules_by}
@@ -16,42 +12,21 @@ use Rattle.lmn_heap.specs.Lists.{In}
 use Rattle.lmn_heap.specs.Sound.{Forest, IsTree, Valid}
 use Rattle.lmn_heap.proofs.Trees.{in_either}
 use Rattle.lmn_solid.specs.declared.items.HeadItem.{HeadItem}
-use Rattle.lmn_solid.specs.Heads as heads
-use Rattle.lmn_solid.proofs.HeadTrees as trees
-use Rattle.lmn_solid.proofs.HeadTrees.{Head, Heads, head, no_head, head_and, head_step, head_at, size}
-use Rattle.lmn_splice.specs.Ports.{Port}
+use Rattle.lmn_solid.proofs.HeadTrees.{Head, Heads, head, no_head, head_and, size, head_rules, heads_rules}
 use Rattle.lmn_body.specs.declared.items.BodyItem.{BodyItem}
 use Rattle.lmn_body.specs.declared.items.BodyItem.TheVariants.{Atom, Connector, Copy, Bound, Membrane, Rest, Rule, Rules}
 use Rattle.lmn_body.specs.Added.{if_inside, added_rules, made_mems}
-use Rattle.lmn_body.specs.Flattening.{atom_item, typed_item, leaf_items, context_items, rule_items, rule_context_items, BodyNames}
+use Rattle.lmn_body.specs.Flattening.{atom_item, typed_item, body_leaf_items, context_items, body_rule_items, rule_context_items, BodyNames}
 use Rattle.lmn_body.specs.Running.{Registers}
 use Rattle.lmn_body.specs.Within.{membrane_images, FiresWithin}
 use Rattle.lmn_compile_body.proofs.BodyTrees.{flat_body, flat_bodies}
 use Rattle.lmn_turn.proofs.Adders.{at}
-use Rattle.lmn_turn.proofs.Contents.{first_is, later_is}
-use Rattle.lmn_turn.proofs.NamesKept.{if_in, none_removed}
-
--- ---- the rules of a body
-
-abbrev mutual
-  pub head_rules : Head → List ℕ
-  head_rules (head leaves hs cs rcs rs) = rs ++ heads_rules hs
-
-  heads_rules : Heads → List ℕ
-  heads_rules no_head = []
-  heads_rules (head_and h hs) = head_rules h ++ heads_rules hs
-
-abbrev SameRules : Level → Type 0
-SameRules l = rules_of l ≡ head_rules (head_at l)
-
-inside_rules : (ls : List ((l : Level) × SameRules l)) → flat_map (λ inner. inner) (map rules_of (map (λ e. e.0) ls)) ≡ heads_rules (trees.heads (map head_at (map (λ e. e.0) ls)))
-inside_rules [] = refl
-inside_rules (e ∷ ls) = λ i. e.1 i ++ inside_rules ls i
-
-pub same_rules : (l : Level) → rules_of l ≡ head_rules (head_at l)
-same_rules = ind-Level SameRules (λ y z is.
-    let inside = subst (λ l. flat_map (λ inner. inner) (map rules_of l.membranes) ≡ heads_rules (trees.heads (map head_at l.membranes))) is (inside_rules z.membranes) in
-    rw (fold-roll-Level (List ℕ) (λ l. l.rules ++ flat_map (λ inner. inner) l.membranes) y, fold-roll-Level Head head_step y, inside) refl)
+use Rattle.lmn_turn.proofs.NamesKept.{none_removed}
+use Rattle.lmn_base.specs.Graphs.{Port}
+use Rattle.lmn_base.proofs.Lists.{contains_behind as later_is, contains_first as first_is}
+use Rattle.lmn_body.proofs.AddedLemmas.{in_if}
+use Rattle.lmn_base.specs.declared.level.Leaf.TheVariants as leaf
+use Rattle.lmn_solid.specs.Heads as heads
 
 module _ (P : ℕ → Type 0) where
   -- so is each rule that is written
@@ -85,7 +60,7 @@ module _ (P : ℕ → Type 0) where
     typed_written (Some g) i x inside = tt
     typed_written None i x inside = tt
 
-    leaves_written : (inside : ℕ) (ls : List Leaf) → AllWritten (leaf_items bn inside ls)
+    leaves_written : (inside : ℕ) (ls : List Leaf) → AllWritten (body_leaf_items bn inside ls)
     leaves_written inside [] = tt
     leaves_written inside (leaf.Atom f os p ∷ ls) = (atom_written (same_functor f connector) f (map (λ o. o.link) os) inside, leaves_written inside ls)
     leaves_written inside (leaf.Typed m o p ∷ ls) = (typed_written (bn.part m) (bn.integer m) o.link inside, leaves_written inside ls)
@@ -94,7 +69,7 @@ module _ (P : ℕ → Type 0) where
     contexts_written inside [] = tt
     contexts_written inside (u ∷ us) = (tt, contexts_written inside us)
 
-    rules_written : (inside : ℕ) (ks : List ℕ) → ((k : ℕ) → Contains ks k → P k) → AllWritten (rule_items inside ks)
+    rules_written : (inside : ℕ) (ks : List ℕ) → ((k : ℕ) → Contains ks k → P k) → AllWritten (body_rule_items inside ks)
     rules_written inside [] p = tt
     rules_written inside (k ∷ ks) p = (p k (first_is k ks), rules_written inside ks (λ j w. p j (later_is k ks j w)))
 
@@ -106,10 +81,10 @@ module _ (P : ℕ → Type 0) where
       -- what holds of the rules of a body holds of those that are written
       pub body_written : (inside next : ℕ) (hd : Head) → ((k : ℕ) → Contains (head_rules hd) k → P k) → AllWritten (flat_body bn inside next hd)
       body_written inside next (head leaves hs cs rcs rs) p =
-          written_both (leaf_items bn inside leaves) (flat_bodies bn inside next hs ++ (context_items bn inside cs ++ (rule_items inside rs ++ rule_context_items bn inside rcs))) (leaves_written inside leaves)
-          (written_both (flat_bodies bn inside next hs) (context_items bn inside cs ++ (rule_items inside rs ++ rule_context_items bn inside rcs)) (bodies_written inside next hs (λ k w. p k (Contains-append_right rs (heads_rules hs) k w)))
-          (written_both (context_items bn inside cs) (rule_items inside rs ++ rule_context_items bn inside rcs) (contexts_written inside cs)
-          (written_both (rule_items inside rs) (rule_context_items bn inside rcs) (rules_written inside rs (λ k w. p k (Contains-append_left rs (heads_rules hs) k w))) (rule_contexts_written inside rcs))))
+          written_both (body_leaf_items bn inside leaves) (flat_bodies bn inside next hs ++ (context_items bn inside cs ++ (body_rule_items inside rs ++ rule_context_items bn inside rcs))) (leaves_written inside leaves)
+          (written_both (flat_bodies bn inside next hs) (context_items bn inside cs ++ (body_rule_items inside rs ++ rule_context_items bn inside rcs)) (bodies_written inside next hs (λ k w. p k (Contains-append_right rs (heads_rules hs) k w)))
+          (written_both (context_items bn inside cs) (body_rule_items inside rs ++ rule_context_items bn inside rcs) (contexts_written inside cs)
+          (written_both (body_rule_items inside rs) (rule_context_items bn inside rcs) (rules_written inside rs (λ k w. p k (Contains-append_left rs (heads_rules hs) k w))) (rule_contexts_written inside rcs))))
 
       bodies_written : (inside next : ℕ) (hs : Heads) → ((k : ℕ) → Contains (heads_rules hs) k → P k) → AllWritten (flat_bodies bn inside next hs)
       bodies_written inside next no_head p = tt
@@ -129,11 +104,11 @@ module _ (P : ℕ → Type 0) where
   rule_from s rules (Membrane inside ∷ xs) x k w i = rule_from s rules xs x k w.1 i
   rule_from s rules (Rest of inside ∷ xs) x k w i = rule_from s rules xs x k w.1 i
   rule_from s rules (Rule j inside ∷ xs) x k w i = elim (in_either k (if_inside s x inside (j ∷ [])) (added_rules s rules xs x) i) [
-    | inl a ↦ elim (if_in s x inside (j ∷ []) k a) [ inl e ↦ inr (subst P e w.0) | inr b ↦ absurd b ]
+    | inl a ↦ elim (in_if s x inside (j ∷ []) k a) [ inl e ↦ inr (subst P e w.0) | inr b ↦ absurd b ]
     | inr a ↦ rule_from s rules xs x k w.1 a
   ]
   rule_from s rules (Rules of inside ∷ xs) x k w i = elim (in_either k (if_inside s x inside (rules (at s of))) (added_rules s rules xs x) i) [
-    | inl a ↦ inl (at s of, if_in s x inside (rules (at s of)) k a)
+    | inl a ↦ inl (at s of, in_if s x inside (rules (at s of)) k a)
     | inr a ↦ rule_from s rules xs x k w.1 a
   ]
 

@@ -6,11 +6,11 @@ use Rattle.lmn_congruence.specs.Plains.{fused_level, fused_levels}
 use Rattle.lmn_congruence.specs.Regions.{Regions, no_region, region, region_and}
 use Rattle.lmn_congruence.specs.Rules.{Level}
 use Rattle.lmn_congruence.specs.Translation.{levels}
-use Rattle.lmn_bridge.specs.HeapRegions.{Reading, atoms_at, regions_at}
+use Rattle.lmn_bridge.specs.HeapRegions.{HeapReading, atoms_at, regions_at}
 use Rattle.lmn_turn.specs.Standing.{StandAs, none_stands, one_stands}
 
 -- what stands in the membranes of a forest is one, and the forest says it
-pub stands_one : (h : Heap) (r : Reading) (f : Forest) (ms : List ℕ) {rs : Regions} → Forms h f ms → StandAs h r ms rs → rs ≡ regions_at h r f
+pub stands_one : (h : Heap) (r : HeapReading) (f : Forest) (ms : List ℕ) {rs : Regions} → Forms h f ms → StandAs h r ms rs → rs ≡ regions_at h r f
 stands_one h r bare [] F none_stands = refl
 stands_one h r bare (m ∷ ns) F (one_stands i t) = absurd (cc)
 stands_one h r (mem k i f) [] F none_stands = absurd (let e : [] ≡ k ∷ F.0 = F.1 in cc)
@@ -23,7 +23,7 @@ stands_one h r (mem k i f) (m ∷ ns) F (one_stands {is = is} {rs = rs} s t) =
     (λ j. region_and (region (atoms_at h r (atoms_in h m)) (inner j) (map r.rule (rules_in h m))) (rest j))
 
 -- levels side by side
-pub stand_both : (h : Heap) (r : Reading) (to : ℕ → ℕ) (ns ks : List ℕ) (xs ys : List Level) → StandAs h r ns (fused_levels to (levels xs)) → StandAs h r ks (fused_levels to (levels ys)) → StandAs h r (ns ++ ks) (fused_levels to (levels (xs ++ ys)))
+pub stand_both : (h : Heap) (r : HeapReading) (to : ℕ → ℕ) (ns ks : List ℕ) (xs ys : List Level) → StandAs h r ns (fused_levels to (levels xs)) → StandAs h r ks (fused_levels to (levels ys)) → StandAs h r (ns ++ ks) (fused_levels to (levels (xs ++ ys)))
 stand_both h r to ns ks xs ys s t = by ns xs s refl
   where
     by : (ns : List ℕ) (xs : List Level) {rs : Regions} → StandAs h r ns rs → rs ≡ fused_levels to (levels xs) → StandAs h r (ns ++ ks) (fused_levels to (levels (xs ++ ys)))

@@ -1,16 +1,15 @@
 -- Lists that keep some elements of another one, in its order.
 use Rattle.std.proofs.Common.{ℕ, ◌≡◌, ◌≢◌, ◌⊎◌, ◌==◌, Bool, true, false, cond, List, [], ◌∷◌, refl, sym, ap, ◌∙◌, inl, inr}
 use Rattle.std.proofs.lemmas.Bool.{cases_eq, eq-eqb}
-use Rattle.lmn_heap.specs.Lists.{In, Each, Distinct, without}
+use Rattle.lmn_heap.specs.Lists.{In, Each, Distinct, without, without_all}
 use Rattle.lmn_heap.specs.Sound.{Forest}
-use Rattle.lmn_heap.proofs.ListLemmas.{each_in, each_of, in_without, apart_test}
+use Rattle.lmn_heap.proofs.ListLemmas.{each_in, each_of, in_without}
 use Rattle.lmn_heap.proofs.Listing.{in_without_of, distinct_without}
 use Rattle.lmn_adequacy.specs.Embedding.{Merged, merged_none, from_first, from_second}
-use Rattle.lmn_body.specs.Running.{withouts}
-use Rattle.lmn_bridge.specs.Numbers.{without_all}
 use Rattle.lmn_bridge.proofs.Forests.{tops}
 use Rattle.lmn_bridge.proofs.Lying.{TakenTree, tree_first, tree_later}
 use Rattle.lmn_turn.proofs.MadeMembers.{withouts_nothing}
+use Rattle.lmn_base.proofs.Numbers.{not_equal as apart_test}
 
 -- the first list has elements of the second, in their order
 pub data Sublist : List ℕ → List ℕ → Type 0 where
@@ -63,20 +62,14 @@ gone_or_left (b ∷ bs) xs a i = elim (cases_eq a b) [
   | inr d ↦ elim (gone_or_left bs (without b xs) a (in_without b a xs i d)) [ inl j ↦ inl (inr j) | inr j ↦ inr j ]
 ]
 
-pub tree_or_left : {n m : ℕ} {i f f' : Forest} → TakenTree n m i f f' → (b : ℕ) → In b (tops f) → (m ≡ b) ⊎ In b (tops f')
-tree_or_left tree_first b (inl e) = inl e
-tree_or_left tree_first b (inr j) = inr j
-tree_or_left (tree_later t) b (inl e) = inr (inl e)
-tree_or_left (tree_later t) b (inr j) = elim (tree_or_left t b j) [ inl e ↦ inl e | inr k ↦ inr (inr k) ]
-
 -- ---- without some numbers, one element at a time
 
-step_out : (ns : List ℕ) (y : ℕ) (ys : List ℕ) → Distinct (y ∷ ys) → In y ns → withouts ns (y ∷ ys) ≡ withouts ns ys
+step_out : (ns : List ℕ) (y : ℕ) (ys : List ℕ) → Distinct (y ∷ ys) → In y ns → without_all ns (y ∷ ys) ≡ without_all ns ys
 step_out [] y ys d i = absurd i
 step_out (a ∷ ns) y ys d i = elim (cases_eq y a) [
   | inl e ↦ (let t : (y == a) ≡ true = eq-eqb y a e in
       let gone : without a ys ≡ ys = ap (λ z. without z ys) (sym e) ∙ absent ys d.0 in
-      rw t (ap (withouts ns) (sym gone)))
+      rw t (ap (without_all ns) (sym gone)))
   | inr n ↦ (let t : (y == a) ≡ false = apart_test y a n in
       rw t (step_out ns y (without a ys) (smaller, distinct_without a ys d.1) (elim i [ inl e ↦ absurd (n (sym e)) | inr j ↦ j ])))
 ]
@@ -88,12 +81,12 @@ step_out (a ∷ ns) y ys d i = elim (cases_eq y a) [
     smaller : Each (λ z. y ≢ z) (without a ys)
     smaller = each_of (λ z. y ≢ z) (without a ys) (λ z j. each_in (λ w. y ≢ w) ys z d.0 (in_without_of a z ys d.1 j).0)
 
-step_kept : (ns : List ℕ) (y : ℕ) (ys : List ℕ) → (In y ns → ⊥) → withouts ns (y ∷ ys) ≡ y ∷ withouts ns ys
+step_kept : (ns : List ℕ) (y : ℕ) (ys : List ℕ) → (In y ns → ⊥) → without_all ns (y ∷ ys) ≡ y ∷ without_all ns ys
 step_kept [] y ys o = refl
 step_kept (a ∷ ns) y ys o = rw (apart_test y a (λ e. o (inl (sym e)))) (step_kept ns y (without a ys) (λ j. o (inr j)))
 
 -- a sublist is what some numbers leave, where it has none of them and all others
-pub sub_is : (ns : List ℕ) {xs ys : List ℕ} → Sublist xs ys → Distinct ys → ((a : ℕ) → In a ys → In a ns ⊎ In a xs) → ((a : ℕ) → In a xs → In a ns → ⊥) → xs ≡ withouts ns ys
+pub sub_is : (ns : List ℕ) {xs ys : List ℕ} → Sublist xs ys → Distinct ys → ((a : ℕ) → In a ys → In a ns ⊎ In a xs) → ((a : ℕ) → In a xs → In a ns → ⊥) → xs ≡ without_all ns ys
 sub_is ns all_gone d t o = sym (withouts_nothing ns)
 sub_is ns (keeps {x = x} {xs = xs} {ys = ys} s) d t o =
     ap (λ zs. x ∷ zs) (sub_is ns s d.1 (λ a i. elim (t a (inr i)) [ inl j ↦ inl j | inr j ↦ elim j [ inl e ↦ absurd (each_in (λ z. x ≢ z) ys a d.0 i e) | inr k ↦ inr k ] ]) (λ a i j. o a (inr i) j))

@@ -1,36 +1,30 @@
 -- Each turn of a rule of a heap is one commit.
-use Rattle.std.proofs.Common.{ℕ, zero, suc, ◌≡◌, ◌<◌, length, List, [], ◌∷◌, Some, refl, sym, subst, ◌∙◌, inl, inr}
-use Rattle.std.specs.Prelude.{slice_get}
+use Rattle.std.proofs.Common.{ℕ, ◌<◌, length, refl, sym, subst, ◌∙◌, inl, inr}
 use Rattle.std.proofs.lemmas.Option.{same_Some}
 use Rattle.lmn_base.specs.declared.rule.RuleTree.{RuleTree}
 use Rattle.lmn_heap.specs.Heap.{rules_in}
-use Rattle.lmn_heap.specs.Lists.{In}
 use Rattle.lmn_compile_head.specs.Accepted.{AcceptedHeads, AcceptedLeast}
 use Rattle.lmn_adequacy.specs.Embedding.{EmbedsAt}
 use Rattle.lmn_compile_head.specs.Heads.{kind_in}
 use Rattle.lmn_adequacy.specs.Laws.{FiringsCommit}
 use Rattle.std.proofs.lemmas.List.Elements.{All-contains}
 use Rattle.lmn_base.specs.Levels.{rules_of}
-use Rattle.lmn_solid.specs.Heads.{Port}
-use Rattle.lmn_bridge.proofs.Runs.{get_some}
-use Rattle.lmn_bridge.specs.HeapRegions.{Reading, region_at}
+use Rattle.lmn_bridge.specs.HeapRegions.{HeapReading, region_at}
 use Rattle.lmn_bridge.specs.Laws.{EmbedsAlike, LeastAlike}
 use Rattle.lmn_bridge.specs.Premises.{IsRule}
 use Rattle.lmn_bridge.proofs.Wholes.{closed_heap, all_accepted}
-use Rattle.lmn_turn.specs.Turning.{TurnIsNext, renumbered}
+use Rattle.lmn_turn.specs.Turning.{TurnIsNext, renumbered_reading}
 use Rattle.lmn_firing.specs.Bound.{BoundNames}
 use Rattle.lmn_turn.specs.Commits.{TurnsCommit}
 use Rattle.lmn_turn.proofs.Embedded.{ordered, ordered_is, numbers_at}
 use Rattle.lmn_turn.proofs.Leading.{led, embeds_there}
 use Rattle.lmn_turn.proofs.PlanTypes.{plan_types}
-
-got_in : (xs : List ℕ) (i k : ℕ) → slice_get xs i ≡ Some k → In k xs
-got_in [] i k e = absurd (cc)
-got_in (x ∷ xs) zero k e = inl (same_Some x k e)
-got_in (x ∷ xs) (suc i) k e = inr (got_in xs i k e)
+use Rattle.lmn_base.specs.Graphs.{Port}
+use Rattle.lmn_base.proofs.Lists.{get_there as get_some}
+use Rattle.lmn_heap.proofs.Common.{in_at as got_in}
 
 -- a rule is as it was where links have other numbers
-read_as : (r : Reading) (number : Port → ℕ) (rule : RuleTree) → IsRule r rule → IsRule (renumbered r number) rule
+pub read_as : (r : HeapReading) (number : Port → ℕ) (rule : RuleTree) → IsRule r rule → IsRule (renumbered_reading r number) rule
 read_as r number rule k = record { well_made = k.well_made; known = k.known; accepted = k.accepted }
 
 pub turns_commit : TurnIsNext → AcceptedHeads → AcceptedLeast → BoundNames → EmbedsAlike → LeastAlike → FiringsCommit → TurnsCommit
@@ -48,7 +42,7 @@ turns_commit is_next head_law least_law bound_law alike first_alike commit table
       next = next;
       least = λ ks e. least.1 ks (subst (λ z. EmbedsAt z ks (region_at h r m mi)) (has.read k rule is_at)
           (embeds_there h r m mi index k ks stands (led h r next.leads inner mi tr.forms.2 forest.forms index ks e)));
-      commits = commit (region_at h r h.root inner) (region_at h' (renumbered r next.again.number) h'.root next.again.forest) (closed_heap h r inner read tr) (all_accepted h r table has h.root inner)
+      commits = commit (region_at h r h.root inner) (region_at h' (renumbered_reading r next.again.number) h'.root next.again.forest) (closed_heap h r inner read tr) (all_accepted h r table has h.root inner)
           (record { path = next.path; number = index; positions = ns; next = next.next });
       rules = λ t. record {
         known = λ x j i. elim (next.again.rules x j i) [

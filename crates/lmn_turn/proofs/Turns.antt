@@ -3,8 +3,8 @@ use Rattle.std.proofs.Common.{ℕ, zero, suc, ◌≡◌, ◌≢◌, ◌⊎◌, �
 use Rattle.std.proofs.lemmas.List.{map-append}
 use Rattle.lmn_base.specs.declared.solid.SolidAtom.{SolidAtom}
 use Rattle.lmn_heap.specs.Heap.{Heap, HeapMem, IsMem, atoms_in, mems_in, rules_in, atoms_by, mems_by, rules_by}
-use Rattle.lmn_heap.specs.Lists.{In, Distinct}
-use Rattle.lmn_heap.specs.Solid.{atoms_of}
+use Rattle.lmn_heap.specs.Lists.{In, Distinct, without_all}
+use Rattle.lmn_heap.specs.Solid.{solid_atoms_at}
 use Rattle.lmn_heap.specs.Sound.{Forest, flat, Forms}
 use Rattle.lmn_heap.proofs.ListLemmas.{each_in}
 use Rattle.lmn_heap.proofs.Trees.{nil_right}
@@ -21,8 +21,7 @@ use Rattle.lmn_congruence.specs.Regions.{Region, region_process}
 use Rattle.lmn_congruence.specs.Rules as tree
 use Rattle.lmn_congruence.specs.Same.{renamed_atom}
 use Rattle.lmn_congruence.specs.Translation.{levels, rules as listed_rules, solid_atom_of}
-use Rattle.lmn_adequacy.specs.Next.{MadeLevel, fires_here, kept_atoms, kept_membranes, of_rule, of_solid, raw_level, wire_leaves, EmbedsInOrder}
-use Rattle.lmn_adequacy.proofs.InOrder.{rules_listed}
+use Rattle.lmn_adequacy.specs.Next.{MadeLevel, fires_here, kept_atoms, kept_membranes, raw_level, wire_leaves, EmbedsInOrder}
 use Rattle.lmn_solid.specs.declared.items.HeadItem.{HeadItem}
 use Rattle.lmn_solid.proofs.HeadTrees.{Head, size}
 use Rattle.lmn_body.specs.declared.items.BodyItem.{BodyItem}
@@ -30,25 +29,29 @@ use Rattle.lmn_body.specs.Added.{added_mems, added_rules, made_mems}
 use Rattle.lmn_body.specs.Fired.{linked_by}
 use Rattle.lmn_body.specs.Flattening.{BodyNames}
 use Rattle.lmn_body.specs.Items.{connectors}
-use Rattle.lmn_solid.specs.Heads.{Port}
 use Rattle.lmn_splice.specs.Splice as splice
-use Rattle.lmn_body.specs.Running.{Registers, withouts}
+use Rattle.lmn_body.specs.Running.{Registers}
 use Rattle.lmn_body.specs.Within.{membrane_images, FiresWithin, added_with_copies, left_solid}
-use Rattle.lmn_bridge.specs.HeapRegions.{Reading, atoms_at, region_at}
+use Rattle.lmn_bridge.specs.HeapRegions.{HeapReading, atoms_at, region_at}
 use Rattle.lmn_compile_body.proofs.BodyTrees.{flat_body}
 use Rattle.lmn_turn.specs.Turning.{stays}
 use Rattle.lmn_turn.specs.Standing.{StandAs, none_stands, one_stands}
 use Rattle.lmn_turn.proofs.Standings.{stand_both}
 use Rattle.lmn_turn.proofs.Adders.{at, many, atoms_adder, mems_adder, rules_adder}
 use Rattle.lmn_turn.proofs.Locals.{after_level, body_misses, many_flat}
-use Rattle.lmn_turn.proofs.Bodies.{map_twice, fused_both, fused_kept, BodyAgrees}
+use Rattle.lmn_turn.proofs.Bodies.{fused_both, fused_kept, BodyAgrees}
 use Rattle.lmn_turn.proofs.MadeLevels.{level_stands, level_leaves, level_membranes, level_rules, level_makes}
 use Rattle.lmn_turn.proofs.CopyLinks.{Block, block_one, block_above}
 use Rattle.lmn_turn.proofs.OwnLinks.{OwnLevel, own_made, raw_own}
-use Rattle.lmn_turn.proofs.Kept.{Untouched, kept_atoms_join, kept_membranes_join, rules_join}
-use Rattle.lmn_turn.proofs.MadeMembers.{withouts_nothing, withouts_absent, in_made, made_apart}
+use Rattle.lmn_turn.proofs.Kept.{Untouched, kept_atoms_join, kept_membranes_join}
+use Rattle.lmn_turn.proofs.MadeMembers.{withouts_nothing, in_made, made_apart}
 use Rattle.lmn_turn.proofs.Paths.{Firing, from_root}
 use Rattle.lmn_turn.proofs.Connectors.{level_joins, wires_join, leaves_join_both, levels_join_both, AllFit}
+use Rattle.lmn_base.specs.Graphs.{Port}
+use Rattle.lmn_splice.specs.Splice.{of_rule, of_solid}
+use Rattle.lmn_base.proofs.Lists.{map_twice}
+use Rattle.lmn_bridge.proofs.Numbering.{all_absent as withouts_absent}
+use Rattle.lmn_congruence.proofs.Common.{rules_join, rules_listed}
 use Rattle.lmn_adequacy.specs.Accepted.{Accepted}
 use Rattle.lmn_adequacy.specs.Embedding.{Taken}
 use Rattle.lmn_bridge.proofs.HeadTrees.{tree_of}
@@ -57,7 +60,7 @@ use Rattle.lmn_bridge.proofs.HeadTrees.{tree_of}
 abbrev pub FiredTo : (h : Heap) (c : Port → ℕ) (s : Registers) (head : List HeadItem) (body : List BodyItem) (taken : List ℕ) (h' : Heap) (name : ℕ → ℕ → ℕ) (to : ℕ → ℕ) (copy : ℕ → List SolidAtom) → Type 0
 FiredTo h c s head body taken h' name to copy =
     let left = left_solid h c taken (λ z. to (of_solid z)) in
-    (x : ℕ) → (In x (membrane_images s head) → ⊥) → atoms_of h' name (atoms_in h' x) ≡ left x ++ added_with_copies s left copy (λ z. to (of_rule z)) 0 body x
+    (x : ℕ) → (In x (membrane_images s head) → ⊥) → solid_atoms_at h' name (atoms_in h' x) ≡ left x ++ added_with_copies s left copy (λ z. to (of_rule z)) 0 body x
 
 -- Where a firing takes place.
 --   at_home             the rule's membrane, which is there
@@ -85,9 +88,9 @@ not_both : (o : Option HeapMem) → IsSome o → o ≡ None → ⊥
 not_both None i e = absurd (cc)
 not_both (Some x) i e = absurd (cc)
 
-module _ (h h' : Heap) (r : Reading) (s : Registers) (head : List HeadItem) (bn : BodyNames) (hd : Head) (low : ℕ) (taken : List ℕ)
+module _ (h h' : Heap) (r : HeapReading) (s : Registers) (head : List HeadItem) (bn : BodyNames) (hd : Head) (low : ℕ) (taken : List ℕ)
     (f : FiresWithin h (λ p. r.name p.0 p.1) s head (flat_body bn 0 low hd) taken h') (to : ℕ → ℕ) (limit : ℕ) (copy : ℕ → List SolidAtom) (part : ℕ → ℕ → List region.SolidAtom)
-    (joined : (e : ℕ × ℕ) → splice.In e (connectors (flat_body bn 0 low hd)) → to (of_rule e.0) ≡ to (of_rule e.1))
+    (joined : (e : ℕ × ℕ) → splice.IsOneOf e (connectors (flat_body bn 0 low hd)) → to (of_rule e.0) ≡ to (of_rule e.1))
     (fired : FiredTo h (λ p. r.name p.0 p.1) s head (flat_body bn 0 low hd) taken h' (λ a i. f.number (a, i)) to copy)
     (low_is : low ≡ 1 + length (membranes_of head)) (m : ℕ) (mi : Forest)
     (p : Placing h s (membrane_images s head) (made_mems s low (flat_body bn 0 low hd)) taken m mi) where
@@ -100,7 +103,7 @@ module _ (h h' : Heap) (r : Reading) (s : Registers) (head : List HeadItem) (bn 
   abbrev pub name_after : ℕ → ℕ → ℕ
   name_after a i = f.number (a, i)
 
-  abbrev r' : Reading
+  abbrev r' : HeapReading
   r' = record { name = λ a i. f.number (a, i); names = r.names; rule = r.rule }
 
   -- what the head leaves of a membrane: atoms, each link at its image, and membranes
@@ -108,7 +111,7 @@ module _ (h h' : Heap) (r : Reading) (s : Registers) (head : List HeadItem) (bn 
   left = left_solid h (λ p. r.name p.0 p.1) taken (λ z. to (of_solid z))
 
   abbrev pub left_mems : ℕ → List ℕ
-  left_mems x = withouts (membrane_images s head) (mems_in h x)
+  left_mems x = without_all (membrane_images s head) (mems_in h x)
 
   atoms_after : (x : ℕ) → (In x ks → ⊥) → atoms_at h' r' (atoms_in h' x) ≡ map (solid_atom_of r.names) (left x) ++ map (solid_atom_of r.names) (added_with_copies s left copy (λ z. to (of_rule z)) 0 B x)
   atoms_after x o = ap (map (solid_atom_of r.names)) (fired x o) ∙ map-append (solid_atom_of r.names) (left x) (added_with_copies s left copy (λ z. to (of_rule z)) 0 B x)
@@ -117,9 +120,9 @@ module _ (h h' : Heap) (r : Reading) (s : Registers) (head : List HeadItem) (bn 
   mems_after x o = subst (λ n. mems_in h' x ≡ left_mems x ++ added_mems s left_mems n B x) (sym low_is) (f.mems x o)
 
   -- what is left of a membrane, as it is read
-  pub left_read : (x : ℕ) → map (solid_atom_of r.names) (left x) ≡ map (renamed_atom (λ z. to (of_solid z))) (atoms_at h r (withouts taken (atoms_in h x)))
+  pub left_read : (x : ℕ) → map (solid_atom_of r.names) (left x) ≡ map (renamed_atom (λ z. to (of_solid z))) (atoms_at h r (without_all taken (atoms_in h x)))
   left_read x =
-      let as' = atoms_of h r.name (withouts taken (atoms_in h x)) in
+      let as' = solid_atoms_at h r.name (without_all taken (atoms_in h x)) in
       map_twice (solid_atom_of r.names) (linked_by (λ z. to (of_solid z))) as' ∙ sym (map_twice (renamed_atom (λ z. to (of_solid z))) (solid_atom_of r.names) as')
 
   -- ---- registers
@@ -148,12 +151,12 @@ module _ (h h' : Heap) (r : Reading) (s : Registers) (head : List HeadItem) (bn 
 
   made_atoms_are : (j : ℕ) → low ≤ j → j < low + size hd → atoms_at h' r' (atoms_in h' (at s j)) ≡ map (solid_atom_of r.names) (added_with_copies s left copy (λ z. to (of_rule z)) 0 B (at s j))
   made_atoms_are j a b =
-      let none : left (at s j) ≡ [] = ap (λ xs. map (linked_by (λ z. to (of_solid z))) (atoms_of h r.name xs)) (ap (withouts taken) (empty j a b).0 ∙ withouts_nothing taken) in
+      let none : left (at s j) ≡ [] = ap (λ xs. map (linked_by (λ z. to (of_solid z))) (solid_atoms_at h r.name xs)) (ap (without_all taken) (empty j a b).0 ∙ withouts_nothing taken) in
       atoms_after (at s j) (made_not_image j a b) ∙ ap (λ xs. map (solid_atom_of r.names) xs ++ map (solid_atom_of r.names) (added_with_copies s left copy (λ z. to (of_rule z)) 0 B (at s j))) none
 
   made_mems_are : (j : ℕ) → low ≤ j → j < low + size hd → mems_in h' (at s j) ≡ added_mems s left_mems low B (at s j)
   made_mems_are j a b =
-      mems_after (at s j) (made_not_image j a b) ∙ ap (λ xs. xs ++ added_mems s left_mems low B (at s j)) (ap (withouts ks) (empty j a b).1 ∙ withouts_nothing ks)
+      mems_after (at s j) (made_not_image j a b) ∙ ap (λ xs. xs ++ added_mems s left_mems low B (at s j)) (ap (without_all ks) (empty j a b).1 ∙ withouts_nothing ks)
 
   made_rules_are : (j : ℕ) → low ≤ j → j < low + size hd → rules_in h' (at s j) ≡ added_rules s (rules_in h) B (at s j)
   made_rules_are j a b = f.rules (at s j) (made_not_image j a b) ∙ ap (λ xs. xs ++ added_rules s (rules_in h) B (at s j)) (empty j a b).2

@@ -8,10 +8,10 @@ use Rattle.lmn_base.specs.declared.rule.RuleTree.{RuleTree}
 use Rattle.lmn_guards.specs.declared.plan.GuardPlan.{GuardPlan}
 use Rattle.lmn_base.specs.declared.solid.SolidAtom.{SolidAtom}
 use Rattle.lmn_heap.specs.Heap.{Heap, IsMem, atoms_in, mems_in, rules_in}
-use Rattle.lmn_heap.specs.Lists.{In, Distinct}
+use Rattle.lmn_heap.specs.Lists.{In, Distinct, without_all}
 use Rattle.lmn_heap.specs.Sound.{Forest, bare, mem, flat, Forms, IsTree}
 use Rattle.lmn_heap.proofs.Trees.{nil_right}
-use Rattle.lmn_congruence.specs.FreeLinks.{link_bound, total}
+use Rattle.lmn_congruence.specs.FreeLinks.{link_bound, sum_below}
 use Rattle.lmn_congruence.proofs.Counts.{below_or_from}
 use Rattle.lmn_congruence.proofs.Totals.{highest}
 use Rattle.lmn_adequacy.proofs.Existence.{level_bound}
@@ -26,29 +26,29 @@ use Rattle.lmn_congruence.specs.Rules as tree
 use Rattle.lmn_congruence.specs.Same.{renamed_atom}
 use Rattle.lmn_congruence.specs.Translation.{levels, name_of, rule_tree}
 use Rattle.lmn_adequacy.specs.Embedding.{Taken}
-use Rattle.lmn_adequacy.specs.Next.{kept_membranes, of_rule, of_solid, EmbedsInOrder}
+use Rattle.lmn_adequacy.specs.Next.{kept_membranes, EmbedsInOrder}
 use Rattle.lmn_adequacy.proofs.Commits.{beside_nothing, closed_as}
 use Rattle.lmn_solid.specs.declared.items.HeadItem.{HeadItem}
-use Rattle.lmn_solid.specs.Heads.{Port, membranes_of, links_of, times}
+use Rattle.lmn_solid.specs.Heads.{membranes_of, links_of_head, times}
 use Rattle.lmn_solid.proofs.HeadTrees.{Head, head_at, head_leaves, same_leaves, items_flat as head_flat}
 use Rattle.lmn_splice.specs.Splice as splice
-use Rattle.lmn_instr.specs.Running.{IsFirst}
+use Rattle.lmn_instr.specs.Running.{IsFirstSuccess}
 use Rattle.lmn_compile_head.specs.Accepted.{AcceptedHeads, head_items, rule_head_code}
 use Rattle.lmn_compile_head.specs.Heads.{IsHead, kind_in}
-use Rattle.lmn_compile_body.specs.Accepted.{AcceptedNested, IsWhole, rule_names, rule_body_items, rule_body_code}
+use Rattle.lmn_compile_body.specs.Accepted.{AcceptedNested, IsCompilable, rule_body_names, rule_body_items, rule_body_code}
 use Rattle.lmn_compile_body.proofs.BodyTrees.{flat_body, items_flat}
 use Rattle.lmn_body.specs.declared.items.BodyItem.{BodyItem}
 use Rattle.lmn_body.specs.Added.{made_mems}
 use Rattle.lmn_body.specs.Fired.{images_of}
 use Rattle.lmn_body.specs.Flattening.{BodyNames}
 use Rattle.lmn_body.specs.Items.{connectors, port_at}
-use Rattle.lmn_body.specs.Running.{Registers, RunsBody, withouts}
+use Rattle.lmn_body.specs.Running.{Registers, RunsBody}
 use Rattle.lmn_body.specs.Within.{membrane_images, FiresWithin, FiredSolid}
 use Rattle.lmn_body.proofs.Below.{is_removed}
 use Rattle.lmn_body.proofs.Committing.{in_withouts_of}
 use Rattle.lmn_body.proofs.Numbered.{contexts_of_heads}
 use Rattle.lmn_firing.specs.Accepted.{AcceptedFires, Fired}
-use Rattle.lmn_bridge.specs.HeapRegions.{Reading, atoms_at, regions_at, region_at}
+use Rattle.lmn_bridge.specs.HeapRegions.{HeapReading, atoms_at, regions_at, region_at}
 use Rattle.lmn_bridge.specs.Premises.{IsRead, HasForest, IsRule}
 use Rattle.lmn_bridge.proofs.HeadTrees.{level_tree}
 use Rattle.lmn_bridge.proofs.Occurrences.{times_are}
@@ -57,7 +57,7 @@ use Rattle.lmn_turn.specs.Standing.{StandAs}
 use Rattle.lmn_turn.proofs.ReadAgain as again
 use Rattle.lmn_turn.proofs.ReadAgain.{body_fits, root_mem}
 use Rattle.lmn_turn.proofs.Leading.{taken_at}
-use Rattle.lmn_turn.specs.Turning.{HasNext, TurnIsNext, renumbered, HasContents, IsLeft}
+use Rattle.lmn_turn.specs.Turning.{HasNext, TurnIsNext, renumbered_reading, HasContents, IsLeft}
 use Rattle.lmn_turn.proofs.Standings.{stands_one}
 use Rattle.lmn_turn.proofs.Adders.{at}
 use Rattle.lmn_turn.proofs.Bodies.{CopyAgrees, ContextAgrees, BodyAgrees}
@@ -70,19 +70,21 @@ use Rattle.lmn_turn.proofs.Kept.{kept_stand}
 use Rattle.lmn_turn.proofs.Leavings.{listed_there, forest_there, left_free}
 use Rattle.lmn_turn.proofs.Paths.{RawFrom}
 use Rattle.lmn_turn.proofs.Turns.{FiredTo, Placing, LeavesRest, left, left_read, untouched, fires_in_tree}
+use Rattle.lmn_base.specs.Graphs.{Port}
+use Rattle.lmn_splice.specs.Splice.{of_rule, of_solid}
 
 same_region : {as' bs : List solid.SolidAtom} {is js : Regions} {rs ss : List tree.Rule} → region as' is rs ≡ region bs js ss → (as' ≡ bs) × (is ≡ js)
 same_region e = (cc, cc)
 
-module _ (firing : AcceptedFires) (head_law : AcceptedHeads) (nested : AcceptedNested) (table : List RuleTree) (rule : RuleTree) (plan : GuardPlan) (whole : IsWhole table rule plan)
-    (h : Heap) (r : Reading) (inner : Forest) (read : IsRead h r) (tr : IsTree h (mem h.root inner bare)) (is_rule : IsRule r rule)
-    (m : ℕ) (mi : Forest) (there : IsMem h m) (forest : HasForest h m mi) (s : Registers) (first : IsFirst h (rule_head_code rule plan) m s.head)
+module _ (firing : AcceptedFires) (head_law : AcceptedHeads) (nested : AcceptedNested) (table : List RuleTree) (rule : RuleTree) (plan : GuardPlan) (whole : IsCompilable table rule plan)
+    (h : Heap) (r : HeapReading) (inner : Forest) (read : IsRead h r) (tr : IsTree h (mem h.root inner bare)) (is_rule : IsRule r rule)
+    (m : ℕ) (mi : Forest) (there : IsMem h m) (forest : HasForest h m mi) (s : Registers) (first : IsFirstSuccess h (rule_head_code rule plan) m s.head)
     (h' : Heap) (runs : RunsBody s (rule_body_code rule plan) h h') where
   abbrev items : List HeadItem
   items = head_items rule plan
 
   abbrev bn : BodyNames
-  bn = rule_names rule plan
+  bn = rule_body_names rule plan
 
   abbrev hd : Head
   hd = head_at rule.body
@@ -91,7 +93,7 @@ module _ (firing : AcceptedFires) (head_law : AcceptedHeads) (nested : AcceptedN
   low = 1 + length (membranes_of (head_items rule plan))
 
   abbrev B : List BodyItem
-  B = flat_body (rule_names rule plan) 0 (1 + length (membranes_of (head_items rule plan))) (head_at rule.body)
+  B = flat_body (rule_body_names rule plan) 0 (1 + length (membranes_of (head_items rule plan))) (head_at rule.body)
 
   abbrev c : Port → ℕ
   c p = r.name p.0 p.1
@@ -118,11 +120,11 @@ module _ (firing : AcceptedFires) (head_law : AcceptedHeads) (nested : AcceptedN
   abbrev f : FiresWithin h c s items B taken h'
   f = both.0
 
-  abbrev r' : Reading
-  r' = renumbered r both.0.number
+  abbrev r' : HeapReading
+  r' = renumbered_reading r both.0.number
 
   abbrev mems_at : ℕ → List ℕ
-  mems_at x = withouts (membrane_images s items) (mems_in h x)
+  mems_at x = without_all (membrane_images s items) (mems_in h x)
 
   -- a membrane of a context
   register_inside : (k : ℕ) → (k ≡ 0) ⊎ ((i : ℕ) × (k ≡ suc i) × (i < length (membranes_of items))) → In (at s k) (m ∷ flat mi)
@@ -141,7 +143,7 @@ module _ (firing : AcceptedFires) (head_law : AcceptedHeads) (nested : AcceptedN
 
     -- all links of the solid are below this number, and those that links of the head stand for
     abbrev limit : ℕ
-    limit = (links_limit h r (flat (mem h.root inner bare)) + link_bound (region_process (region_at h r h.root inner))) + total bound (λ x. suc (e.contents.link_of x))
+    limit = (links_limit h r (flat (mem h.root inner bare)) + link_bound (region_process (region_at h r h.root inner))) + sum_below bound (λ x. suc (e.contents.link_of x))
 
     above : links_limit h r (flat (mem h.root inner bare)) ≤ limit
     above = omega arith
@@ -158,7 +160,7 @@ module _ (firing : AcceptedFires) (head_law : AcceptedHeads) (nested : AcceptedN
     abbrev part : ℕ → ℕ → List solid.SolidAtom
     part = part_of h h' r s items B taken both.0 both.1 both.2 (flat (mem h.root inner bare)) tr.all limit above
 
-    joined : (d : ℕ × ℕ) → splice.In d (connectors B) → to (of_rule d.0) ≡ to (of_rule d.1)
+    joined : (d : ℕ × ℕ) → splice.IsOneOf d (connectors B) → to (of_rule d.0) ≡ to (of_rule d.1)
     joined = map_joins h h' r s items B taken both.0 both.1 both.2 (flat (mem h.root inner bare)) tr.all limit above
 
     fired_to : FiredTo h c s items B taken h' (λ a i. both.0.number (a, i)) to copy
@@ -216,7 +218,7 @@ module _ (firing : AcceptedFires) (head_law : AcceptedHeads) (nested : AcceptedN
 
     leaves_rest : LeavesRest h h' r s items bn hd low taken both.0 to limit copy part joined fired_to refl m mi place e.rest
     leaves_rest = record {
-      atoms = atoms_at h r (withouts taken (atoms_in h m));
+      atoms = atoms_at h r (without_all taken (atoms_in h m));
       membranes = regions_at h r rest.forest;
       rules = map r.rule (rules_in h m);
       is = rest.is;
@@ -236,7 +238,7 @@ module _ (firing : AcceptedFires) (head_law : AcceptedHeads) (nested : AcceptedN
     wires : (x : ℕ) → level_occurrences x (tree.head_of (rule_tree r.names r.rule rule)) ≡ 1 → to (of_rule x) ≡ to (of_solid (e.contents.link_of x))
     wires x one =
         let kind = kind_in plan.kinds in
-        let once : times x (links_of items) ≡ 1 = ap (λ is. times x (links_of is)) (head_flat kind rule.head) ∙ times_are r.names r.rule kind x 0 1 (head_at rule.head) ∙ ap (level_occurrences x) (sym (level_tree r.names r.rule rule.head)) ∙ one in
+        let once : times x (links_of_head items) ≡ 1 = ap (λ is. times x (links_of_head is)) (head_flat kind rule.head) ∙ times_are r.names r.rule kind x 0 1 (head_at rule.head) ∙ ap (level_occurrences x) (sym (level_tree r.names r.rule rule.head)) ∙ one in
         let p = has_port items is_head x once in
         let low_link = highest bound e.contents.link_of x (head_below x one) in
         map_rule h h' r s items B taken both.0 both.1 both.2 (flat (mem h.root inner bare)) tr.all limit above x
@@ -256,7 +258,7 @@ module _ (firing : AcceptedFires) (head_law : AcceptedHeads) (nested : AcceptedN
           (λ y j. elim j [ inl q ↦ subst (IsMem h) q (root_mem h read.valid) | inr q ↦ forest_there h read.valid inner (mems_in h h.root) tr.forms.2 (λ z u. listed_there h read.valid z h.root u) y q ])
           nothing (beside_nothing (region_process (region_at h r h.root inner)) (closed_heap h r inner read tr)) (omega arith)
 
-      read_again : IsRead h' (renumbered r both.0.number)
+      read_again : IsRead h' (renumbered_reading r both.0.number)
       read_again = again.read_again firing head_law nested table rule plan whole h r read is_rule m mi there forest s first h' runs both.0
 
       tree_again : (t : Forest) × IsTree h' (mem h'.root t bare)
@@ -270,8 +272,8 @@ module _ (firing : AcceptedFires) (head_law : AcceptedHeads) (nested : AcceptedN
 
       pub turned : HasNext h r inner rule m index ns h'
       turned =
-          let is = first_region (stands_one h' (renumbered r both.0.number) (mem h'.root tree_again.0 bare) (h'.root ∷ []) tree_again.1.forms
-          (subst (λ z. StandAs h' (renumbered r both.0.number) (z ∷ []) (region_and (fused_level to raw.raw) no_region)) (sym same_root) raw.stands)) in
+          let is = first_region (stands_one h' (renumbered_reading r both.0.number) (mem h'.root tree_again.0 bare) (h'.root ∷ []) tree_again.1.forms
+          (subst (λ z. StandAs h' (renumbered_reading r both.0.number) (z ∷ []) (region_and (fused_level to raw.raw) no_region)) (sym same_root) raw.stands)) in
           record {
             again = record {
               number = both.0.number;
@@ -290,7 +292,7 @@ module _ (firing : AcceptedFires) (head_law : AcceptedHeads) (nested : AcceptedN
                 to = to;
                 joins = raw.joins;
                 is = sym is;
-                closed = closed_heap h' (renumbered r both.0.number) tree_again.0 read_again tree_again.1;
+                closed = closed_heap h' (renumbered_reading r both.0.number) tree_again.0 read_again tree_again.1;
               };
             };
           }

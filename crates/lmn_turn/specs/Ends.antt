@@ -5,12 +5,12 @@ use Rattle.lmn_guards.specs.declared.plan.GuardPlan.{GuardPlan}
 use Rattle.lmn_heap.specs.Heap.{Heap, IsMem, rules_in}
 use Rattle.lmn_heap.specs.Lists.{In}
 use Rattle.lmn_heap.specs.Sound.{Forest, bare, mem, IsTree}
-use Rattle.lmn_instr.specs.Running.{Registers, Succeeds}
+use Rattle.lmn_instr.specs.Running.{HeadRegisters, Succeeds}
 use Rattle.lmn_compile_head.specs.Accepted.{IsReady, rule_head_code}
 use Rattle.lmn_congruence.specs.Process.{Process}
 use Rattle.lmn_reduction.specs.Commits.{Irreducible}
 use Rattle.lmn_reduction.specs.Steps.{Step}
-use Rattle.lmn_bridge.specs.HeapRegions.{Reading}
+use Rattle.lmn_bridge.specs.HeapRegions.{HeapReading}
 use Rattle.lmn_bridge.specs.Laws.{heap_process}
 use Rattle.lmn_bridge.specs.Premises.{IsRead, HasRules}
 
@@ -26,17 +26,17 @@ pub record SomeCodeSucceeds (h : Heap) (table : List RuleTree) (plans : ℕ → 
   pub stands : In number (rules_in h membrane)
   pub rule : RuleTree
   pub is : slice_get table number ≡ Some rule
-  pub registers : Registers
+  pub registers : HeadRegisters
   pub succeeds : Succeeds h (rule_head_code rule (plans number)) membrane registers
 
 -- A step is possible from the process of a heap exactly where the code of a head succeeds in some membrane,
 abbrev pub StepsByCode : Type 0
-StepsByCode = (h : Heap) (r : Reading) (table : List RuleTree) (plans : ℕ → GuardPlan) (inner : Forest) →
+StepsByCode = (h : Heap) (r : HeapReading) (table : List RuleTree) (plans : ℕ → GuardPlan) (inner : Forest) →
     IsRead h r → IsTree h (mem h.root inner bare) → HasRules h r table → AllPlanned table plans →
     ((Q : Process) × Step (heap_process h r inner) Q) ↔ SomeCodeSucceeds h table plans
 
 -- and the process is irreducible exactly where the code of no head does.
 abbrev pub IrreducibleByCode : Type 0
-IrreducibleByCode = (h : Heap) (r : Reading) (table : List RuleTree) (plans : ℕ → GuardPlan) (inner : Forest) →
+IrreducibleByCode = (h : Heap) (r : HeapReading) (table : List RuleTree) (plans : ℕ → GuardPlan) (inner : Forest) →
     IsRead h r → IsTree h (mem h.root inner bare) → HasRules h r table → AllPlanned table plans →
     Irreducible (heap_process h r inner) ↔ (¬ (SomeCodeSucceeds h table plans))

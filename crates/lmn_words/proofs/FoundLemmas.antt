@@ -13,23 +13,23 @@ use Rattle.clap.specs.declared.parser.matches.SubCommand.{SubCommand}
 use Rattle.clap.specs.declared.parser.matches.ArgMatches.TheViews.{out-SubCommand}
 use Rattle.lmn_words.specs.declared.command.RunWords.{RunWords}
 use Rattle.lmn_words.specs.declared.command.Command.{Command}
-use Rattle.lmn_words.specs.Forms.{Asks, InForm, IsForm, IsInRanges, Request, Run, TextsAsk, Word, ordered_by, request_of, run_of, texts_of, to_compile, to_demo, to_run}
-use Rattle.lmn_words.specs.Hearing.{number_of}
-use Rattle.lmn_words.specs.Parsing.{IsFound, Tells, number_given, order_given, whole_line}
+use Rattle.lmn_words.specs.Forms.{Asks, InForm, IsForm, IsInRanges, Request, Run, TextsAsk, CommandWord, ordered_by, request_of, run_of, texts_of, to_compile, to_demo, to_run}
+use Rattle.lmn_words.specs.Hearing.{number_written}
+use Rattle.lmn_words.specs.Parsing.{FoundIsRequest, Tells, number_given, order_given, whole_line}
 use Rattle.lmn_words.proofs.ReadLemmas.{form_reads, in_ranges, request_told}
 use Rattle.lmn_words.proofs.ParseLemmas.{asked_taken}
 
 -- words of the form are taken
-pub form_taken : (line : App) (words : List Word) → line ≡ whole_line → IsForm words → takes line words ≡ true
+pub form_taken : (line : App) (words : List CommandWord) → line ≡ whole_line → IsForm words → takes line words ≡ true
 form_taken line words is form =
     let r = form_reads words form in
     ap (λ a. takes a words) is ∙ (asked_taken words r.0 (request_told words r.0 r.1)).0
 
 -- and what they ask for is found
-pub asked_found : {A : Type 0} (line : App) (words : List Word) (o : Option (Text × List Row)) → line ≡ whole_line → (is_simple line ≡ true → A × (o ≡ subcommand_of line words))
-    → (r : Request) → TextsAsk words r → IsFound o r
+pub asked_found : {A : Type 0} (line : App) (words : List CommandWord) (o : Option (Text × List Row)) → line ≡ whole_line → (is_simple line ≡ true → A × (o ≡ subcommand_of line words))
+    → (r : Request) → TextsAsk words r → FoundIsRequest o r
 asked_found line words o is matches r asks =
-    subst (λ x. IsFound x r) (sym ((matches (ap is_simple is)).1 ∙ ap (λ a. subcommand_of a words) is)) (asked_taken words r asks).1
+    subst (λ x. FoundIsRequest x r) (sym ((matches (ap is_simple is)).1 ∙ ap (λ a. subcommand_of a words) is)) (asked_taken words r asks).1
 
 module _ {Z : Type 0} where
   -- a command that was found, by its name and its rows
@@ -39,21 +39,21 @@ module _ {Z : Type 0} where
   found_is (Some b) n rows e f = λ i. Some (sym (same_Some n _ e) i, sym (same_Some rows _ f) i)
 
   pub found_so : (o : Option (Box SubCommand Z)) (n : Text) (rows : List Row) (r : Request) → Some n ≡ option_map (λ b. (out-SubCommand (box_value b)).name.now) o
-      → Some rows ≡ option_map (λ p. p.1) (subcommand_rows o) → IsFound (subcommand_rows o) r → IsFound (Some (n, rows)) r
-  found_so o n rows r e f h = subst (λ x. IsFound x r) (found_is o n rows e f) h
+      → Some rows ≡ option_map (λ p. p.1) (subcommand_rows o) → FoundIsRequest (subcommand_rows o) r → FoundIsRequest (Some (n, rows)) r
+  found_so o n rows r e f h = subst (λ x. FoundIsRequest x r) (found_is o n rows e f) h
 
 other_length : (a b : Text) → a ≡ b → (length a ≡ length b → ⊥) → ⊥
 other_length a b e differs = differs (ap length e)
 
 -- the file of `compile`
-pub compile_found : (n : Text) (rows : List Row) (r : Request) (o : Option Text) → n ≡ codes "compile" → o ≡ first_of (codes "file") rows → IsFound (Some (n, rows)) r
+pub compile_found : (n : Text) (rows : List Row) (r : Request) (o : Option Text) → n ≡ codes "compile" → o ≡ first_of (codes "file") rows → FoundIsRequest (Some (n, rows)) r
     → option_map to_compile o ≡ Some r
 compile_found n rows (to_run run) o is e h = absurd (other_length (codes "compile") (codes "run") (sym is ∙ h.0) (λ l. omega (arith, l)))
 compile_found n rows (to_demo k) o is e h = absurd (other_length (codes "compile") (codes "demo") (sym is ∙ h.0) (λ l. omega (arith, l)))
 compile_found n rows (to_compile file) o is e h = ap (option_map to_compile) (e ∙ h.1)
 
 -- the number of `demo`
-pub demo_found : (n : Text) (rows : List Row) (r : Request) (o : Option ℕ) → n ≡ codes "demo" → o ≡ option_and_then number_of (first_of (codes "number") rows) → IsFound (Some (n, rows)) r
+pub demo_found : (n : Text) (rows : List Row) (r : Request) (o : Option ℕ) → n ≡ codes "demo" → o ≡ option_and_then number_written (first_of (codes "number") rows) → FoundIsRequest (Some (n, rows)) r
     → option_map to_demo o ≡ Some r
 demo_found n rows (to_run run) o is e h = absurd (other_length (codes "demo") (codes "run") (sym is ∙ h.0) (λ l. omega (arith, l)))
 demo_found n rows (to_compile file) o is e h = absurd (other_length (codes "demo") (codes "compile") (sym is ∙ h.0) (λ l. omega (arith, l)))

@@ -24,13 +24,15 @@ use Rattle.lmn_words.specs.declared.setting.Flag.TheVariants as flag
 use Rattle.lmn_words.specs.declared.setting.Valued.{Valued}
 use Rattle.lmn_words.specs.declared.setting.Valued.TheVariants as valued
 use Rattle.lmn_words.specs.declared.setting.OrderName.TheVariants as name
-use Rattle.lmn_words.specs.Forms.{Word, IsFileName, IsNumber, Sets, Spells, nothing, a_file, a_flag, two_words, one_word, ordered_by, Run, Request, to_run, to_compile, to_demo, AsksRun, TextsAsk, budget_of, size_of, order_name_of, seed_of}
-use Rattle.lmn_words.specs.Hearing.{no_settings, number_of, order_named, with_setting}
-use Rattle.lmn_words.specs.Parsing.{IsFound, Tells, compile_line, demo_line, whole_line}
-use Rattle.lmn_words.proofs.WordLemmas.{and_true, bool_cases, if_some, not_same, number_read, option_word, order_read}
+use Rattle.lmn_words.specs.Forms.{CommandWord, IsFileName, IsNumber, Sets, AreFilesAndSettings, nothing, a_file, a_flag, two_words, one_word, ordered_by, Run, Request, to_run, to_compile, to_demo, AsksRun, TextsAsk, budget_of, size_of, order_name_of, seed_of}
+use Rattle.lmn_words.specs.Hearing.{no_settings, number_written, order_named, with_setting}
+use Rattle.lmn_words.specs.Parsing.{FoundIsRequest, Tells, compile_line, demo_line, whole_line}
+use Rattle.lmn_words.proofs.WordLemmas.{bool_cases, if_some, number_read, option_word, order_read}
 use Rattle.lmn_words.proofs.SettingLemmas.{all_read, firsts, firsts_collected, front_empty, is_none, list_option, only_value, settings_all, trace_value, folded_value}
 use Rattle.lmn_words.proofs.ReadLemmas.{each_once}
 use Rattle.lmn_words.proofs.WalkLemmas.{Stands, after_met, and_first_true, at_new_row, between, both_passes, both_walked, built_line, file_passes, file_walked, flag_id, flag_passes, flag_walked, given, held, name_passes, name_walked, named, option_id, passes, plain_met, plain_passes, run_rules, run_shape, stands_done, stands_file, stands_option, step_of_met, used_new, used_once, value_walked, value_word_passes}
+use Rattle.lmn_base.proofs.Numbers.{unequal as not_same}
+use Rattle.lmn_base.proofs.Truth.{and_true2 as and_true}
 
 -- ---- what rows tell
 
@@ -71,26 +73,26 @@ has_row_find id (r ∷ rows) = go (has_id id r) (has_row_find id rows)
 no_row : (rows : List Row) (t : Text → Option Text) (id : Text) → Looks rows t → t id ≡ None → has_row id rows ≡ false
 no_row rows t id looks free = has_row_find id rows ∙ ap is_some (looks id ∙ ap (option_map (given id)) free)
 
-abbrev Reads : {A : Type 0} → (Word → Option A) → Option Word → Option A → Type 0
+abbrev Reads : {A : Type 0} → (CommandWord → Option A) → Option CommandWord → Option A → Type 0
 Reads g o a = (option_and_then g o ≡ a) × (is_some o ≡ is_some a)
 
 -- the texts mean this file and these settings
-record Means (t : Text → Option Text) (f : Option Word) (s : Settings) : Type 0 where
+record Means (t : Text → Option Text) (f : Option CommandWord) (s : Settings) : Type 0 where
   pub file : t (codes "file") ≡ f
   pub trace : t (codes "trace") ≡ (if s.trace then Some (codes "true") else None)
   pub folded : t (codes "folded") ≡ (if s.folded then Some (codes "true") else None)
-  pub budget : Reads number_of (t (codes "budget")) s.budget
-  pub size : Reads number_of (t (codes "size")) s.size
+  pub budget : Reads number_written (t (codes "budget")) s.budget
+  pub size : Reads number_written (t (codes "size")) s.size
   pub order : Reads order_named (t (codes "order")) s.order
-  pub seed : Reads number_of (t (codes "seed")) s.seed
+  pub seed : Reads number_written (t (codes "seed")) s.seed
 
 means_nothing : Means (λ _. None) None no_settings
 means_nothing = record { file = refl; trace = refl; folded = refl; budget = (refl, refl); size = (refl, refl); order = (refl, refl); seed = (refl, refl) }
 
-means_file : (t : Text → Option Text) (file : Word) (s : Settings) → Means t None s → Means (put t (codes "file") file) (Some file) s
+means_file : (t : Text → Option Text) (file : CommandWord) (s : Settings) → Means t None s → Means (put t (codes "file") file) (Some file) s
 means_file t file s m = record { file = refl; trace = m.trace; folded = m.folded; budget = m.budget; size = m.size; order = m.order; seed = m.seed }
 
-means_flag : (f : Flag) (t : Text → Option Text) (file : Option Word) (s r : Settings) → with_setting s (set.Flag f) ≡ Some r → Means t file s
+means_flag : (f : Flag) (t : Text → Option Text) (file : Option CommandWord) (s r : Settings) → with_setting s (set.Flag f) ≡ Some r → Means t file s
     → (t (flag_id f) ≡ None) × Means (put t (flag_id f) (codes "true")) file r
 means_flag flag.Trace t file s r e m = if_some s.trace None (Some (record s { trace = true })) r e (λ is bad. absurd (none-some r bad)) (λ free same. (
   m.trace ∙ ap (λ b. if b then Some (codes "true") else None) free,
@@ -103,15 +105,15 @@ means_flag flag.Folded t file s r e m = if_some s.folded None (Some (record s { 
       (record { file = m.file; trace = m.trace; folded = refl; budget = m.budget; size = m.size; order = m.order; seed = m.seed }),
 ))
 
-number_is : (least most : ℕ) (w : Word) (n : ℕ) → IsNumber least most w n → number_of w ≡ Some n
+number_is : (least most : ℕ) (w : CommandWord) (n : ℕ) → IsNumber least most w n → number_written w ≡ Some n
 number_is least most w n h = number_read w h.0 h.1 ∙ ap Some h.2
 
 -- an option with a value sets what wasn't set
-abbrev SetsOnce : Valued → Word → Setting → Type 0
-SetsOnce o v x = (t : Text → Option Text) (file : Option Word) (s r : Settings) → with_setting s x ≡ Some r → Means t file s
+abbrev SetsOnce : Valued → CommandWord → Setting → Type 0
+SetsOnce o v x = (t : Text → Option Text) (file : Option CommandWord) (s r : Settings) → with_setting s x ≡ Some r → Means t file s
     → (t (option_id o) ≡ None) × Means (put t (option_id o) v) file r
 
-option_met : (option v : Word) (x : Setting) → Sets option v x → (o : Valued) × (option ≡ option_word o) × SetsOnce o v x
+option_met : (option v : CommandWord) (x : Setting) → Sets option v x → (o : Valued) × (option ≡ option_word o) × SetsOnce o v x
 option_met option v (set.Flag f) h = absurd h
 option_met option v (set.Budget n) h = (
   valued.Budget,
@@ -155,11 +157,11 @@ option_met option v (set.Seed n) h = (
 )
 
 -- a value of an option doesn't begin with a hyphen
-numeral_plain : (w : Word) → IsNumeral 10 w → IsFileName w
+numeral_plain : (w : CommandWord) → IsNumeral 10 w → IsFileName w
 numeral_plain [] h = absurd (omega (arith, h.0))
 numeral_plain (b ∷ w) h = λ e. let r = digit_from_value b h.1.0 in omega (arith, e, r.0)
 
-value_plain : (option v : Word) (x : Setting) → Sets option v x → IsFileName v
+value_plain : (option v : CommandWord) (x : Setting) → Sets option v x → IsFileName v
 value_plain option v (set.Flag f) h = absurd h
 value_plain option v (set.Budget n) h = numeral_plain v h.1.0
 value_plain option v (set.Size n) h = numeral_plain v h.1.0
@@ -171,7 +173,7 @@ value_plain option v (set.Seed n) h = numeral_plain v h.1.0
 -- ---- the walk over words
 
 -- the walk over the words passes, and ends with these rows when what waits is used
-record Goes (w : Walk) (words : List Word) (rows : List Row) : Type 0 where
+record Goes (w : Walk) (words : List CommandWord) (rows : List Row) : Type 0 where
   pub pending : Option (Text × List Text)
   pub before : List Row
   pub position : ℕ
@@ -180,7 +182,7 @@ record Goes (w : Walk) (words : List Word) (rows : List Row) : Type 0 where
   pub passed : walk_passes run_shape [] w words ≡ true
 
 -- and the rows tell a file and settings
-record Reaches (w : Walk) (words : List Word) (file : Option Word) (s : Settings) : Type 0 where
+record Reaches (w : Walk) (words : List CommandWord) (file : Option CommandWord) (s : Settings) : Type 0 where
   pub rows : List Row
   pub texts : Text → Option Text
   pub goes : Goes w words rows
@@ -191,7 +193,7 @@ goes_nothing : (p : Option (Text × List Text)) (before : List Row) (n : ℕ) (r
 unfolding walk_passes
 goes_nothing p before n rows stands = record { pending = p; before = before; position = n; end = refl; stands = stands; passed = refl }
 
-goes_on : (w v : Walk) (word : Word) (words : List Word) (rows : List Row) → walked run_rules [] w word ≡ v → passes w word ≡ true → Goes v words rows → Goes w (word ∷ words) rows
+goes_on : (w v : Walk) (word : CommandWord) (words : List CommandWord) (rows : List Row) → walked run_rules [] w word ≡ v → passes w word ≡ true → Goes v words rows → Goes w (word ∷ words) rows
 unfolding walk_passes
 goes_on w v word words rows e f g = record {
   pending = g.pending;
@@ -202,35 +204,35 @@ goes_on w v word words rows e f g = record {
   passed = and_true (passes w word) (walk_passes run_shape [] (walked run_rules [] w word) words) f (ap (λ u. walk_passes run_shape [] u words) e ∙ g.passed);
 }
 
-reaches_on : (w v : Walk) (word : Word) (words : List Word) (file : Option Word) (s : Settings) → walked run_rules [] w word ≡ v → passes w word ≡ true
+reaches_on : (w v : Walk) (word : CommandWord) (words : List CommandWord) (file : Option CommandWord) (s : Settings) → walked run_rules [] w word ≡ v → passes w word ≡ true
     → Reaches v words file s → Reaches w (word ∷ words) file s
 reaches_on w v word words file s e f r = record { rows = r.rows; texts = r.texts; goes = goes_on w v word words r.rows e f r.goes; looks = r.looks; means = r.means }
 
 -- where the next word without a hyphen goes
-abbrev position_of : Option Word → ℕ
+abbrev position_of : Option CommandWord → ℕ
 position_of None = 1
 position_of (Some file) = 2
 
-file_goes : (w : Word) (p : Option (Text × List Text)) (rows : List Row) → IsFileName w
+file_goes : (w : CommandWord) (p : Option (Text × List Text)) (rows : List Row) → IsFileName w
     → walked run_rules [] (between p rows 1) w ≡ between (Some (codes "file", w ∷ [])) (settled_rows run_rules p rows) 2
 file_goes [] p rows h = absurd h
 file_goes (b ∷ w) p rows h = file_walked b w p rows (not_same b 45 h)
 
-file_goes_on : (w : Word) (p : Option (Text × List Text)) (rows : List Row) → IsFileName w → settle_passes run_rules false (held p rows) ≡ true → passes (between p rows 1) w ≡ true
+file_goes_on : (w : CommandWord) (p : Option (Text × List Text)) (rows : List Row) → IsFileName w → settle_passes run_rules false (held p rows) ≡ true → passes (between p rows 1) w ≡ true
 file_goes_on [] p rows h e = absurd h
 file_goes_on (b ∷ w) p rows h e = file_passes b w p rows (not_same b 45 h) e
 
-value_goes : (o : Valued) (w : Word) (p : Option (Text × List Text)) (rows : List Row) (n : ℕ) → IsFileName w
+value_goes : (o : Valued) (w : CommandWord) (p : Option (Text × List Text)) (rows : List Row) (n : ℕ) → IsFileName w
     → walked run_rules [] (named p rows n o) w ≡ between (Some (option_id o, w ∷ [])) (settled_rows run_rules p rows) n
 value_goes o [] p rows n h = absurd h
 value_goes o (b ∷ w) p rows n h = value_walked o b w p rows n (not_same b 45 h)
 
-value_goes_on : (o : Valued) (w : Word) (p : Option (Text × List Text)) (rows : List Row) (n : ℕ) → IsFileName w → passes (named p rows n o) w ≡ true
+value_goes_on : (o : Valued) (w : CommandWord) (p : Option (Text × List Text)) (rows : List Row) (n : ℕ) → IsFileName w → passes (named p rows n o) w ≡ true
 value_goes_on o [] p rows n h = absurd h
 value_goes_on o (b ∷ w) p rows n h = value_word_passes o b w p rows n (not_same b 45 h)
 
 -- words of a file and settings are walked to rows that tell them
-all_walked : {words files : List Word} {settings : List Setting} → Spells words files settings → (f g : Option Word) (s u : Settings)
+all_walked : {words files : List CommandWord} {settings : List Setting} → AreFilesAndSettings words files settings → (f g : Option CommandWord) (s u : Settings)
     → (p : Option (Text × List Text)) (before rows : List Row) (t : Text → Option Text) → Stands p before rows → Looks rows t → Means t f s
     → option_to_list f ++ files ≡ option_to_list g → settings_all s settings ≡ Some u → Reaches (between p before (position_of f)) words g u
 all_walked nothing f g s u p before rows t stands looks means e k = record {
@@ -353,7 +355,7 @@ record BothEnd (s : Settings) (rows : List Row) : Type 0 where
   pub folded : one_of (codes "folded") (with_flags rows) ≡ Some (bool_text s.folded)
   pub others : (id : Text) → bytes_eq (codes "trace") id ≡ false → bytes_eq (codes "folded") id ≡ false → find (has_id id) (with_flags rows) ≡ find (has_id id) rows
 
-both_end : (f : Option Word) (s : Settings) (rows : List Row) (t : Text → Option Text) → Looks rows t → Means t f s → BothEnd s rows
+both_end : (f : Option CommandWord) (s : Settings) (rows : List Row) (t : Text → Option Text) → Looks rows t → Means t f s → BothEnd s rows
 both_end f s rows t looks m =
     let a = ends (codes "trace") s.trace rows (looks (codes "trace") ∙ ap (option_map (given (codes "trace"))) m.trace) in
     let b = ends (codes "folded") s.folded (flagged (codes "trace") rows) (a.others (codes "folded") refl ∙ looks (codes "folded") ∙ ap (option_map (given (codes "folded"))) m.folded) in
@@ -372,17 +374,17 @@ first_told : (s : Settings) (rows : List Row) (t : Text → Option Text) (id : T
 first_told s rows t id looks e first second = ap (option_and_then (λ (r : Row). slice_get r.values 0)) (e.others id first second ∙ looks id) ∙ first_given id (t id)
 
 -- what is read of a text is given, or the default
-reads_or : {A : Type 0} (g : Word → Option A) (o p : Option Word) (a : Option A) (d v : A) → p ≡ o → Reads g o a → unwrap_or a d ≡ v → unwrap_or (option_and_then g p) d ≡ v
+reads_or : {A : Type 0} (g : CommandWord → Option A) (o p : Option CommandWord) (a : Option A) (d v : A) → p ≡ o → Reads g o a → unwrap_or a d ≡ v → unwrap_or (option_and_then g p) d ≡ v
 reads_or g o p a d v same reads is = ap (λ q. unwrap_or (option_and_then g q) d) same ∙ ap (λ q. unwrap_or q d) reads.0 ∙ is
 
 -- the matches at the end are the rows with the defaults
-rows_are : (words : List Word) (rows : List Row) → Goes (between None [] 1) words rows → rows_after run_rules [] words ≡ with_flags rows
+rows_are : (words : List CommandWord) (rows : List Row) → Goes (between None [] 1) words rows → rows_after run_rules [] words ≡ with_flags rows
 rows_are words rows g = ap (λ (w : Walk). finished run_rules w.held) g.end ∙ ap (λ rs. fold with_default rs run_rules) g.stands.settled ∙ defaults_are rows
 
-file_given : (file : Word) (rows : List Row) (t : Text → Option Text) (s : Settings) → Looks rows t → BothEnd s rows → t (codes "file") ≡ Some file → is_given (codes "file") (with_flags rows) ≡ true
+file_given : (file : CommandWord) (rows : List Row) (t : Text → Option Text) (s : Settings) → Looks rows t → BothEnd s rows → t (codes "file") ≡ Some file → is_given (codes "file") (with_flags rows) ≡ true
 file_given file rows t s looks e is = ap (λ o. option_map_or (λ (r : Row). explicit_source r.source) o false) (e.others (codes "file") refl refl ∙ looks (codes "file") ∙ ap (option_map (given (codes "file"))) is)
 
-level_taken : (words : List Word) (rows : List Row) → Goes (between None [] 1) words rows → is_given (codes "file") (with_flags rows) ≡ true
+level_taken : (words : List CommandWord) (rows : List Row) → Goes (between None [] 1) words rows → is_given (codes "file") (with_flags rows) ≡ true
     → level_passes run_shape [] nothing_held words false ≡ true
 level_taken words rows g file =
     let end = (fold (walked run_rules []) (between None [] 1) words).held in
@@ -392,14 +394,14 @@ level_taken words rows g file =
     (ap (λ rs. list_all default_passes run_rules && is_valid run_shape rs false) (rows_are words rows g) ∙ ap (λ b. b && true) file))
 
 -- words that ask for a run are taken, and the matches tell the run
-run_taken : (words : List Word) (run : Run) → AsksRun words run → (level_passes run_shape [] nothing_held words false ≡ true) × Tells (rows_after run_rules [] words) run
+run_taken : (words : List CommandWord) (run : Run) → AsksRun words run → (level_passes run_shape [] nothing_held words false ≡ true) × Tells (rows_after run_rules [] words) run
 run_taken words run a =
     let s = a.settings in
     let u = firsts s in
     let k = all_walked a.spelled None (Some run.file) no_settings u None [] [] (λ _. None) (stands_done []) (λ id. refl) means_nothing refl
     (all_read no_settings u s (firsts_collected s (each_once a))) in
     let e = both_end (Some run.file) u k.rows k.texts k.looks k.means in
-    let seed = reads_or number_of (k.texts (codes "seed")) (first_text (codes "seed") (with_flags k.rows)) u.seed 0 a.seed
+    let seed = reads_or number_written (k.texts (codes "seed")) (first_text (codes "seed") (with_flags k.rows)) u.seed 0 a.seed
     (first_told u k.rows k.texts (codes "seed") k.looks e refl refl) k.means.seed (only_value 0 (filter_map seed_of s) a.seed a.seeded) in
     let order = reads_or order_named (k.texts (codes "order")) (first_text (codes "order") (with_flags k.rows)) u.order name.First a.order_name
     (first_told u k.rows k.texts (codes "order") k.looks e refl refl) k.means.order (only_value name.First (filter_map order_name_of s) a.order_name a.named) in (
@@ -408,9 +410,9 @@ run_taken words run a =
         file = first_told u k.rows k.texts (codes "file") k.looks e refl refl ∙ k.means.file;
         trace = e.trace ∙ ap (λ b. Some (bool_text b)) (trace_value s run.trace a.trace);
         folded = e.folded ∙ ap (λ b. Some (bool_text b)) (folded_value s run.folded a.folded);
-        budget = reads_or number_of (k.texts (codes "budget")) (first_text (codes "budget") (with_flags k.rows)) u.budget 1000000 run.budget
+        budget = reads_or number_written (k.texts (codes "budget")) (first_text (codes "budget") (with_flags k.rows)) u.budget 1000000 run.budget
             (first_told u k.rows k.texts (codes "budget") k.looks e refl refl) k.means.budget (only_value 1000000 (filter_map budget_of s) run.budget a.budget);
-        size = reads_or number_of (k.texts (codes "size")) (first_text (codes "size") (with_flags k.rows)) u.size 16777216 run.size
+        size = reads_or number_written (k.texts (codes "size")) (first_text (codes "size") (with_flags k.rows)) u.size 16777216 run.size
             (first_told u k.rows k.texts (codes "size") k.looks e refl refl) k.means.size (only_value 16777216 (filter_map size_of s) run.size a.size);
         order = (λ i. ordered_by (order i) (seed i)) ∙ sym a.order;
       }),
@@ -460,16 +462,16 @@ abbrev after_walk : OneWord → Walk → Bool
 after_walk o w = settle_passes (one_rules o) (one_shape o).args_override_self w.held && (list_all default_passes (one_rules o) && is_valid (one_shape o) (finished (one_rules o) w.held) false)
 
 -- and met there
-after_word : (o : OneWord) (word : Word) → after_walk o (between (Some (one_id o, word ∷ [])) [] 2) ≡ true
+after_word : (o : OneWord) (word : CommandWord) → after_walk o (between (Some (one_id o, word ∷ [])) [] 2) ≡ true
 after_word of_compile word = refl
 after_word of_demo word = refl
 
-first_word : (o : OneWord) (word : Word) → first_text (one_id o) (finished (one_rules o) (between (Some (one_id o, word ∷ [])) [] 2).held) ≡ Some word
+first_word : (o : OneWord) (word : CommandWord) → first_text (one_id o) (finished (one_rules o) (between (Some (one_id o, word ∷ [])) [] 2).held) ≡ Some word
 first_word of_compile word = refl
 first_word of_demo word = refl
 
 -- one word that doesn't begin with a hyphen is taken, and the matches tell it
-one_taken : (o : OneWord) (word : Word) → IsFileName word
+one_taken : (o : OneWord) (word : CommandWord) → IsFileName word
     → (level_passes (one_shape o) [] nothing_held (word ∷ []) false ≡ true) × (first_text (one_id o) (rows_after (one_rules o) [] (word ∷ [])) ≡ Some word)
 one_taken o [] h = absurd h
 one_taken o (b ∷ bs) h =
@@ -485,19 +487,19 @@ abbrev top : App
 top = built whole_line
 
 -- behind the name of a command the words are kept for it
-kept_words : (c : List Rule) (names : Names) (w : Walk) (n : Text) (front words : List Word)
+kept_words : (c : List Rule) (names : Names) (w : Walk) (n : Text) (front words : List CommandWord)
     → fold (walked c names) (record w { stopped = Some (n, front) }) words ≡ record w { stopped = Some (n, front ++ words) }
 unfolding walked
 kept_words c names w n front [] = ap (λ ws. record w { stopped = Some (n, ws) }) (sym (append-nil front))
 kept_words c names w n front (word ∷ words) = kept_words c names w n (front ++ (word ∷ [])) words ∙ ap (λ ws. record w { stopped = Some (n, ws) }) (append_assoc front (word ∷ []) words)
 
-kept_passes : (s : Shape) (names : Names) (w : Walk) (n : Text) (front words : List Word) → walk_passes s names (record w { stopped = Some (n, front) }) words ≡ true
+kept_passes : (s : Shape) (names : Names) (w : Walk) (n : Text) (front words : List CommandWord) → walk_passes s names (record w { stopped = Some (n, front) }) words ≡ true
 unfolding walked walk_passes
 kept_passes s names w n front [] = refl
 kept_passes s names w n front (word ∷ words) = kept_passes s names w n (front ++ (word ∷ [])) words
 
 -- the walk over a first word and those behind it
-abbrev stopped_at : Text → List Word → Walk
+abbrev stopped_at : Text → List CommandWord → Walk
 stopped_at n words = record (walk_from nothing_held) { stopped = Some (n, words) }
 
 abbrev Stops : Text → Type 0
@@ -515,10 +517,10 @@ demo_stops : Stops (codes "demo")
 unfolding clap_on_literals
 demo_stops = (refl, refl)
 
-top_walked : (n : Text) (words : List Word) → Stops n → walk top.top.rules (names_of top) nothing_held (n ∷ words) ≡ stopped_at n words
+top_walked : (n : Text) (words : List CommandWord) → Stops n → walk top.top.rules (names_of top) nothing_held (n ∷ words) ≡ stopped_at n words
 top_walked n words h = ap (λ w. fold (walked top.top.rules (names_of top)) w words) h.0 ∙ kept_words top.top.rules (names_of top) (walk_from nothing_held) n [] words
 
-top_passes : (n : Text) (words : List Word) → Stops n → walk_passes top.top (names_of top) (walk_from nothing_held) (n ∷ words) ≡ true
+top_passes : (n : Text) (words : List CommandWord) → Stops n → walk_passes top.top (names_of top) (walk_from nothing_held) (n ∷ words) ≡ true
 unfolding walk_passes
 top_passes n words h = and_true (turn_passes top.top (names_of top) (walk_from nothing_held) n) (walk_passes top.top (names_of top) (walked top.top.rules (names_of top) (walk_from nothing_held) n) words)
     h.1 (ap (λ w. walk_passes top.top (names_of top) w words) h.0 ∙ kept_passes top.top (names_of top) (walk_from nothing_held) n [] words)
@@ -527,7 +529,7 @@ abbrev top_after : Walk → Bool
 top_after w = settle_passes top.top.rules false w.held && (list_all default_passes top.top.rules && is_valid top.top (finished top.top.rules w.held) true)
 
 -- the words are taken where the command's own are
-top_takes : (n : Text) (words : List Word) → Stops n → is_some (entered top (Some (n, words))) ≡ true → entered_passes top (Some (n, words)) ≡ true → takes whole_line (n ∷ words) ≡ true
+top_takes : (n : Text) (words : List CommandWord) → Stops n → is_some (entered top (Some (n, words))) ≡ true → entered_passes top (Some (n, words)) ≡ true → takes whole_line (n ∷ words) ≡ true
 top_takes n words h found e =
     let w = walk top.top.rules (names_of top) nothing_held (n ∷ words) in
     and_true (is_simple whole_line) (entered_passes top w.stopped && level_passes top.top (names_of top) nothing_held (n ∷ words) (is_some (entered top w.stopped))) refl
@@ -538,29 +540,29 @@ top_takes n words h found e =
     ∙ and_true (walk_passes top.top (names_of top) (walk_from nothing_held) (n ∷ words)) (top_after w) (top_passes n words h) (ap top_after (top_walked n words h))))
 
 -- what words ask for is taken, and found
-pub asked_taken : (words : List Word) (r : Request) → TextsAsk words r → (takes whole_line words ≡ true) × IsFound (subcommand_of whole_line words) r
+pub asked_taken : (words : List CommandWord) (r : Request) → TextsAsk words r → (takes whole_line words ≡ true) × FoundIsRequest (subcommand_of whole_line words) r
 asked_taken [] r h = absurd h
 asked_taken (w ∷ words) (to_run run) h =
     let t = run_taken words run h.1 in
-    let P : Word → Type 0 = λ v. (takes whole_line (v ∷ words) ≡ true) × IsFound (subcommand_of whole_line (v ∷ words)) (to_run run) in
+    let P : CommandWord → Type 0 = λ v. (takes whole_line (v ∷ words) ≡ true) × FoundIsRequest (subcommand_of whole_line (v ∷ words)) (to_run run) in
     subst P (sym h.0) (
       top_takes (codes "run") words run_stops refl t.0,
-      subst (λ (v : Walk). IsFound (entered top v.stopped) (to_run run)) (sym (top_walked (codes "run") words run_stops)) (refl, t.1),
+      subst (λ (v : Walk). FoundIsRequest (entered top v.stopped) (to_run run)) (sym (top_walked (codes "run") words run_stops)) (refl, t.1),
     )
 asked_taken (w ∷ words) (to_compile file) h =
     let t = one_taken of_compile file h.1.1 in
-    let P : Word → List Word → Type 0 = λ v ws. (takes whole_line (v ∷ ws) ≡ true) × IsFound (subcommand_of whole_line (v ∷ ws)) (to_compile file) in
+    let P : CommandWord → List CommandWord → Type 0 = λ v ws. (takes whole_line (v ∷ ws) ≡ true) × FoundIsRequest (subcommand_of whole_line (v ∷ ws)) (to_compile file) in
     subst (λ v. P v words) (sym h.0) (subst (P (codes "compile")) (sym h.1.0) (
       top_takes (codes "compile") (file ∷ []) compile_stops refl t.0,
-      subst (λ (v : Walk). IsFound (entered top v.stopped) (to_compile file)) (sym (top_walked (codes "compile") (file ∷ []) compile_stops)) (refl, t.1),
+      subst (λ (v : Walk). FoundIsRequest (entered top v.stopped) (to_compile file)) (sym (top_walked (codes "compile") (file ∷ []) compile_stops)) (refl, t.1),
     ))
 asked_taken (w ∷ words) (to_demo n) h =
     let word = h.1.0 in
     let is = h.1.2 in
     let t = one_taken of_demo word (numeral_plain word is.0) in
-    let P : Word → List Word → Type 0 = λ v ws. (takes whole_line (v ∷ ws) ≡ true) × IsFound (subcommand_of whole_line (v ∷ ws)) (to_demo n) in
+    let P : CommandWord → List CommandWord → Type 0 = λ v ws. (takes whole_line (v ∷ ws) ≡ true) × FoundIsRequest (subcommand_of whole_line (v ∷ ws)) (to_demo n) in
     subst (λ v. P v words) (sym h.0) (subst (P (codes "demo")) (sym h.1.1) (
       top_takes (codes "demo") (word ∷ []) demo_stops refl t.0,
-      subst (λ (v : Walk). IsFound (entered top v.stopped) (to_demo n)) (sym (top_walked (codes "demo") (word ∷ []) demo_stops))
-          (refl, ap (option_and_then number_of) t.1 ∙ number_is 1 100000 word n is),
+      subst (λ (v : Walk). FoundIsRequest (entered top v.stopped) (to_demo n)) (sym (top_walked (codes "demo") (word ∷ []) demo_stops))
+          (refl, ap (option_and_then number_written) t.1 ∙ number_is 1 100000 word n is),
     ))

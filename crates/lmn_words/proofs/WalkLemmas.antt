@@ -15,6 +15,7 @@ use Rattle.lmn_words.specs.declared.setting.Valued.TheVariants as valued
 use Rattle.lmn_words.specs.Forms.{flag_word}
 use Rattle.lmn_words.specs.Parsing.{run_line, whole_line}
 use Rattle.lmn_words.proofs.WordLemmas.{bool_cases, option_word}
+use Rattle.lmn_base.proofs.Truth.{or_true}
 
 -- ---- the built commands
 
@@ -180,10 +181,6 @@ both_passes valued.Budget v p rows n e f = used_passes (settles p rows) (has_row
 both_passes valued.Size v p rows n e f = used_passes (settles p rows) (has_row (codes "size") (settled_rows run_rules p rows)) e f
 both_passes valued.Order v p rows n e f = used_passes (settles p rows) (has_row (codes "order") (settled_rows run_rules p rows)) e f
 both_passes valued.Seed v p rows n e f = used_passes (settles p rows) (has_row (codes "seed") (settled_rows run_rules p rows)) e f
-
-pub or_true : (a b : Bool) → b ≡ true → (a || b) ≡ true
-or_true true b e = refl
-or_true false b e = e
 
 abbrev pub step_of_met : Shape → ℕ → Held × Step → Bool
 step_of_met s n met = step_passes s n met.0 met.1

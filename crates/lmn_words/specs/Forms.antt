@@ -17,30 +17,32 @@ use Rattle.lmn_words.specs.declared.command.RunWords.{RunWords}
 
 -- ---- words
 
-abbrev pub Word : Type 0
-Word = List ℕ
+-- a word of the command line, by its bytes
+abbrev pub CommandWord : Type 0
+CommandWord = List ℕ
 
 -- a word that can name a file isn't empty and doesn't begin with `-`
-abbrev pub IsFileName : Word → Type 0
+abbrev pub IsFileName : CommandWord → Type 0
 IsFileName [] = ⊥
 IsFileName (first ∷ rest) = first ≢ 45
 
 -- the word is the number n, in 1 to 19 decimal digits, and n lies between the two
-abbrev pub IsNumber : ℕ → ℕ → Word → ℕ → Type 0
+abbrev pub IsNumber : ℕ → ℕ → CommandWord → ℕ → Type 0
 IsNumber least most word n = IsNumeral 10 word × (length word ≤ 19) × (digits_value 10 word ≡ n) × (least ≤ n) × (n ≤ most)
 
-abbrev pub order_word : OrderName → Word
+-- the word of an order
+abbrev pub order_word : OrderName → CommandWord
 order_word name.First = codes "first"
 order_word name.Turn = codes "turn"
 order_word name.Seed = codes "seed"
 
 -- the name of an option without a value
-abbrev pub flag_word : Flag → Word
+abbrev pub flag_word : Flag → CommandWord
 flag_word flag.Trace = codes "--trace"
 flag_word flag.Folded = codes "--folded"
 
 -- the option of this name, with this value, sets this
-abbrev pub Sets : Word → Word → Setting → Type 0
+abbrev pub Sets : CommandWord → CommandWord → Setting → Type 0
 Sets option value (set.Flag f) = ⊥
 Sets option value (set.Budget n) = (option ≡ codes "--budget") × IsNumber 0 9223372036854775807 value n
 Sets option value (set.Size n) = (option ≡ codes "--size") × IsNumber 1 4294967295 value n
@@ -48,20 +50,21 @@ Sets option value (set.Order kind) = (option ≡ codes "--order") × (value ≡ 
 Sets option value (set.Seed n) = (option ≡ codes "--seed") × IsNumber 0 9223372036854775807 value n
 
 -- The words are these files and these settings, in any order. An option with a value is two words, or one with `=`.
-pub data Spells : List Word → List Word → List Setting → Type 0 where
-  nothing : Spells [] [] []
-  a_file : {file : Word} {words files : List Word} {settings : List Setting} → IsFileName file
-      → Spells words files settings → Spells (file ∷ words) (file ∷ files) settings
-  a_flag : {option : Word} (f : Flag) {words files : List Word} {settings : List Setting} → option ≡ flag_word f
-      → Spells words files settings → Spells (option ∷ words) files (set.Flag f ∷ settings)
-  two_words : {option value : Word} {words files : List Word} {setting : Setting} {settings : List Setting} → Sets option value setting
-      → Spells words files settings → Spells (option ∷ (value ∷ words)) files (setting ∷ settings)
-  one_word : {word : Word} (option value : Word) {words files : List Word} {setting : Setting} {settings : List Setting}
+pub data AreFilesAndSettings : List CommandWord → List CommandWord → List Setting → Type 0 where
+  nothing : AreFilesAndSettings [] [] []
+  a_file : {file : CommandWord} {words files : List CommandWord} {settings : List Setting} → IsFileName file
+      → AreFilesAndSettings words files settings → AreFilesAndSettings (file ∷ words) (file ∷ files) settings
+  a_flag : {option : CommandWord} (f : Flag) {words files : List CommandWord} {settings : List Setting} → option ≡ flag_word f
+      → AreFilesAndSettings words files settings → AreFilesAndSettings (option ∷ words) files (set.Flag f ∷ settings)
+  two_words : {option value : CommandWord} {words files : List CommandWord} {setting : Setting} {settings : List Setting} → Sets option value setting
+      → AreFilesAndSettings words files settings → AreFilesAndSettings (option ∷ (value ∷ words)) files (setting ∷ settings)
+  one_word : {word : CommandWord} (option value : CommandWord) {words files : List CommandWord} {setting : Setting} {settings : List Setting}
       → word ≡ option ++ (codes "=" ++ value) → Sets option value setting
-      → Spells words files settings → Spells (word ∷ words) files (setting ∷ settings)
+      → AreFilesAndSettings words files settings → AreFilesAndSettings (word ∷ words) files (setting ∷ settings)
 
 -- ---- what is given
 
+-- what a setting gives to each option, if it is one of that option
 abbrev pub trace_of : Setting → Option Bool
 trace_of (set.Flag flag.Trace) = Some true
 trace_of _ = None
@@ -87,13 +90,13 @@ seed_of (set.Seed n) = Some n
 seed_of _ = None
 
 -- the option that has these values is given at most once
-abbrev pub AtMostOne : {A : Type 0} → (Setting → Option A) → List Setting → Type 0
-AtMostOne value_of settings = length (filter_map value_of settings) ≤ 1
+abbrev pub GivenAtMostOnce : {A : Type 0} → (Setting → Option A) → List Setting → Type 0
+GivenAtMostOnce value_of settings = length (filter_map value_of settings) ≤ 1
 
 -- each option is given at most once
 abbrev pub EachAtMostOnce : List Setting → Type 0
-EachAtMostOnce settings = AtMostOne trace_of settings × AtMostOne folded_of settings × AtMostOne budget_of settings
-    × AtMostOne size_of settings × AtMostOne order_name_of settings × AtMostOne seed_of settings
+EachAtMostOnce settings = GivenAtMostOnce trace_of settings × GivenAtMostOnce folded_of settings × GivenAtMostOnce budget_of settings
+    × GivenAtMostOnce size_of settings × GivenAtMostOnce order_name_of settings × GivenAtMostOnce seed_of settings
 
 -- the one value that is given, or the default where none is
 abbrev pub OnlyOr : {A : Type 0} → A → List A → A → Type 0
@@ -101,6 +104,7 @@ OnlyOr default [] value = value ≡ default
 OnlyOr default (given ∷ []) value = value ≡ given
 OnlyOr default (given ∷ again ∷ more) value = ⊥
 
+-- the order with this name; a seed has an effect on one alone
 abbrev pub ordered_by : OrderName → ℕ → Order
 ordered_by name.First seed = order.First
 ordered_by name.Turn seed = order.Turn
@@ -110,22 +114,23 @@ ordered_by name.Seed seed = order.Seed seed
 
 -- what `run` is asked for: the file and the options, with the defaults of those that aren't given
 pub record Run : Type 0 where
-  pub file : Word
+  pub file : CommandWord
   pub trace : Bool
   pub folded : Bool
   pub budget : ℕ
   pub size : ℕ
   pub order : Order
 
+-- what is asked for
 pub data Request : Type 0 where
   to_run : Run → Request
-  to_compile : Word → Request
+  to_compile : CommandWord → Request
   to_demo : ℕ → Request
 
 -- the words behind `run` name one file, and settings that give these values
-pub record AsksRun (words : List Word) (run : Run) : Type 0 where
+pub record AsksRun (words : List CommandWord) (run : Run) : Type 0 where
   pub settings : List Setting
-  pub spelled : Spells words (run.file ∷ []) settings
+  pub spelled : AreFilesAndSettings words (run.file ∷ []) settings
   pub trace : OnlyOr false (filter_map trace_of settings) run.trace
   pub folded : OnlyOr false (filter_map folded_of settings) run.folded
   pub budget : OnlyOr 1000000 (filter_map budget_of settings) run.budget
@@ -137,18 +142,19 @@ pub record AsksRun (words : List Word) (run : Run) : Type 0 where
   pub order : run.order ≡ ordered_by order_name seed
 
 -- the words are this one file
-abbrev pub AsksCompile : List Word → Word → Type 0
+abbrev pub AsksCompile : List CommandWord → CommandWord → Type 0
 AsksCompile words file = (words ≡ file ∷ []) × IsFileName file
 
 -- the words behind `demo` are this one number
-abbrev pub AsksDemo : List Word → ℕ → Type 0
-AsksDemo words n = (word : Word) × (words ≡ word ∷ []) × IsNumber 1 100000 word n
+abbrev pub AsksDemo : List CommandWord → ℕ → Type 0
+AsksDemo words n = (word : CommandWord) × (words ≡ word ∷ []) × IsNumber 1 100000 word n
 
-abbrev pub texts_of : List (String Global) → List Word
+-- the bytes of each word
+abbrev pub texts_of : List (String Global) → List CommandWord
 texts_of = map string_bytes
 
 -- these texts ask for this
-abbrev pub TextsAsk : List Word → Request → Type 0
+abbrev pub TextsAsk : List CommandWord → Request → Type 0
 TextsAsk [] request = ⊥
 TextsAsk (first ∷ words) (to_run run) = (first ≡ codes "run") × AsksRun words run
 TextsAsk (first ∷ words) (to_compile file) = (first ≡ codes "compile") × AsksCompile words file
@@ -167,18 +173,19 @@ IsInRanges (to_demo n) = (1 ≤ n) × (n ≤ 100000)
 -- ---- the form
 
 -- one file, and each option at most once
-abbrev pub IsRunForm : List Word → Type 0
-IsRunForm words = (file : Word) × (settings : List Setting) × Spells words (file ∷ []) settings × EachAtMostOnce settings
+abbrev pub IsRunForm : List CommandWord → Type 0
+IsRunForm words = (file : CommandWord) × (settings : List Setting) × AreFilesAndSettings words (file ∷ []) settings × EachAtMostOnce settings
 
 -- one file
-abbrev pub IsCompileForm : List Word → Type 0
-IsCompileForm words = (file : Word) × AsksCompile words file
+abbrev pub IsCompileForm : List CommandWord → Type 0
+IsCompileForm words = (file : CommandWord) × AsksCompile words file
 
 -- one number
-abbrev pub IsDemoForm : List Word → Type 0
+abbrev pub IsDemoForm : List CommandWord → Type 0
 IsDemoForm words = (n : ℕ) × AsksDemo words n
 
-abbrev pub IsForm : List Word → Type 0
+-- the first word names a command, and the others are of its form
+abbrev pub IsForm : List CommandWord → Type 0
 IsForm [] = ⊥
 IsForm (first ∷ words) = ((first ≡ codes "run") × IsRunForm words) ⊎ ((first ≡ codes "compile") × IsCompileForm words)
     ⊎ ((first ≡ codes "demo") × IsDemoForm words)
@@ -189,6 +196,7 @@ InForm words = IsForm (texts_of words)
 
 -- ---- what a command is
 
+-- what a command to run asks for
 abbrev pub run_of : RunWords → Run
 run_of words = record {
   file = words.file.now;

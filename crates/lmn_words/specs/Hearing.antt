@@ -12,15 +12,15 @@ use Rattle.lmn_words.specs.declared.setting.Valued.TheVariants as valued
 use Rattle.lmn_words.specs.declared.setting.OrderName.{OrderName}
 use Rattle.lmn_words.specs.declared.setting.OrderName.TheVariants as name
 use Rattle.lmn_words.specs.declared.reading.Reader.{Reader}
-use Rattle.lmn_words.specs.Forms.{Word, Request, Run, ordered_by, to_run, to_compile, to_demo}
+use Rattle.lmn_words.specs.Forms.{CommandWord, Request, Run, ordered_by, to_run, to_compile, to_demo}
 
 -- ---- one word
 
-abbrev pub begins_with : ℕ → Word → Bool
+abbrev pub begins_with : ℕ → CommandWord → Bool
 begins_with byte [] = false
 begins_with byte (first ∷ rest) = first == byte
 
-abbrev pub is_file_name : Word → Bool
+abbrev pub is_file_name : CommandWord → Bool
 is_file_name [] = false
 is_file_name (first ∷ rest) = not (first == 45)
 
@@ -28,29 +28,29 @@ abbrev pub is_digit : ℕ → Bool
 is_digit byte = nat_le 48 byte && nat_le byte 57
 
 -- the number that 1 to 19 digits write
-abbrev pub number_of : Word → Option ℕ
-number_of word = if not (length word == 0) && (nat_le (length word) 19 && list_all is_digit word) then Some (digits_value 10 word) else None
+abbrev pub number_written : CommandWord → Option ℕ
+number_written word = if not (length word == 0) && (nat_le (length word) 19 && list_all is_digit word) then Some (digits_value 10 word) else None
 
 -- the number, where it lies between the two
-abbrev pub number_from : ℕ → ℕ → Word → Option ℕ
-number_from least most word = option_and_then (λ n. if nat_le least n && nat_le n most then Some n else None) (number_of word)
+abbrev pub number_from : ℕ → ℕ → CommandWord → Option ℕ
+number_from least most word = option_and_then (λ n. if nat_le least n && nat_le n most then Some n else None) (number_written word)
 
-abbrev pub order_named : Word → Option OrderName
+abbrev pub order_named : CommandWord → Option OrderName
 order_named word = if bytes_eq word (codes "first") then Some name.First
     else if bytes_eq word (codes "turn") then Some name.Turn
     else if bytes_eq word (codes "seed") then Some name.Seed else None
 
-abbrev pub flag_named : Word → Option Flag
+abbrev pub flag_named : CommandWord → Option Flag
 flag_named word = if bytes_eq word (codes "--trace") then Some flag.Trace
     else if bytes_eq word (codes "--folded") then Some flag.Folded else None
 
-abbrev pub option_named : Word → Option Valued
+abbrev pub option_named : CommandWord → Option Valued
 option_named word = if bytes_eq word (codes "--budget") then Some valued.Budget
     else if bytes_eq word (codes "--size") then Some valued.Size
     else if bytes_eq word (codes "--order") then Some valued.Order
     else if bytes_eq word (codes "--seed") then Some valued.Seed else None
 
-abbrev pub setting_of : Valued → Word → Option Setting
+abbrev pub setting_of : Valued → CommandWord → Option Setting
 setting_of valued.Budget value = option_map set.Budget (number_from 0 9223372036854775807 value)
 setting_of valued.Size value = option_map set.Size (number_from 1 4294967295 value)
 setting_of valued.Order value = option_map set.Order (order_named value)
@@ -69,7 +69,7 @@ with_setting s (set.Seed n) = if is_some s.seed then None else Some (record s { 
 
 -- the file, the settings, and the option that waits for its value
 pub record Heard : Type 0 where
-  pub file : Option Word
+  pub file : Option CommandWord
   pub settings : Settings
   pub waiting : Option Valued
 
@@ -85,45 +85,45 @@ nothing_heard = record { file = None; settings = no_settings; waiting = None }
 abbrev pub hear_setting : Heard → Setting → Option Heard
 hear_setting h setting = option_map (λ settings. record h { settings = settings; waiting = None }) (with_setting h.settings setting)
 
-abbrev pub hear_value : Heard → Valued → Word → Option Heard
+abbrev pub hear_value : Heard → Valued → CommandWord → Option Heard
 hear_value h option value = option_and_then (hear_setting h) (setting_of option value)
 
-abbrev pub hear_file : Heard → Word → Option Heard
+abbrev pub hear_file : Heard → CommandWord → Option Heard
 hear_file h word = if is_some h.file then None else Some (record h { file = Some word })
 
 -- the place of the first `=`, or the length
-abbrev pub equals_at : Word → ℕ
+abbrev pub equals_at : CommandWord → ℕ
 equals_at = position_or_len (λ b. b == 61)
 
-abbrev pub hear_option : Heard → Word → Option Heard
+abbrev pub hear_option : Heard → CommandWord → Option Heard
 hear_option h word = if equals_at word == length word
     then option_map (λ option. record h { waiting = Some option }) (option_named word)
     else option_and_then (λ option. hear_value h option (drop (equals_at word + 1) word)) (option_named (take (equals_at word) word))
 
-abbrev pub hear_flag : Option Flag → Heard → Word → Option Heard
+abbrev pub hear_flag : Option Flag → Heard → CommandWord → Option Heard
 hear_flag (Some f) h word = hear_setting h (set.Flag f)
 hear_flag None h word = hear_option h word
 
-abbrev pub hear_dashes : Heard → Word → Option Heard
+abbrev pub hear_dashes : Heard → CommandWord → Option Heard
 hear_dashes h word = hear_flag (flag_named word) h word
 
-abbrev pub hear_word : Heard → Word → Option Heard
+abbrev pub hear_word : Heard → CommandWord → Option Heard
 hear_word h word = if is_file_name word then hear_file h word else hear_dashes h word
 
-abbrev pub hear_waiting : Option Valued → Heard → Word → Option Heard
+abbrev pub hear_waiting : Option Valued → Heard → CommandWord → Option Heard
 hear_waiting (Some option) h word = hear_value h option word
 hear_waiting None h word = hear_word h word
 
-abbrev pub hear : Heard → Word → Option Heard
+abbrev pub hear : Heard → CommandWord → Option Heard
 hear h = hear_waiting h.waiting h
 
-abbrev pub hear_all : Heard → List Word → Option Heard
+abbrev pub hear_all : Heard → List CommandWord → Option Heard
 hear_all h [] = Some h
 hear_all h (word ∷ words) = option_and_then (λ next. hear_all next words) (hear h word)
 
 -- ---- the end
 
-abbrev pub run_by : Settings → Word → Run
+abbrev pub run_by : Settings → CommandWord → Run
 run_by s file = record {
   file = file;
   trace = s.trace;
@@ -136,20 +136,20 @@ run_by s file = record {
 abbrev pub run_heard : Heard → Option Run
 run_heard h = if is_some h.waiting then None else option_map (run_by h.settings) h.file
 
-abbrev pub run_read : List Word → Option Run
+abbrev pub run_read : List CommandWord → Option Run
 run_read words = option_and_then run_heard (hear_all nothing_heard words)
 
-abbrev pub file_read : List Word → Option Word
+abbrev pub file_read : List CommandWord → Option CommandWord
 file_read [] = None
 file_read (file ∷ []) = if is_file_name file then Some file else None
 file_read (file ∷ more ∷ words) = None
 
-abbrev pub demo_read : List Word → Option ℕ
+abbrev pub demo_read : List CommandWord → Option ℕ
 demo_read [] = None
 demo_read (word ∷ []) = number_from 1 100000 word
 demo_read (word ∷ more ∷ words) = None
 
-abbrev pub request_read : List Word → Option Request
+abbrev pub request_read : List CommandWord → Option Request
 request_read [] = None
 request_read (first ∷ words) = if bytes_eq first (codes "run") then option_map to_run (run_read words)
     else if bytes_eq first (codes "compile") then option_map to_compile (file_read words)

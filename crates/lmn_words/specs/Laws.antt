@@ -1,7 +1,7 @@
 -- Laws of the words of the command line.
 use Rattle.std.specs.Prelude.{◌≡◌, List, [], ◌∷◌, true, false, codes}
 use Rattle.lmn_order.specs.declared.order.Order.TheVariants as order
-use Rattle.lmn_words.specs.Forms.{Asks, InForm, IsFileName, IsInRanges, Request, TextsAsk, Word, to_run}
+use Rattle.lmn_words.specs.Forms.{Asks, InForm, IsFileName, IsInRanges, Request, TextsAsk, CommandWord, to_run}
 use Rattle.std.specs.declared.string.String.{String}
 use Rattle.std.specs.declared.alloc.Global.{Global}
 
@@ -20,5 +20,5 @@ RequestsInRanges = (words : List (String Global)) (request : Request) → Asks w
 
 -- an example: the words `run --folded FILE` ask for a run in the folded form, with all other defaults
 abbrev pub FoldedRun : Type 0
-FoldedRun = (file : Word) → IsFileName file → TextsAsk (codes "run" ∷ codes "--folded" ∷ file ∷ [])
+FoldedRun = (file : CommandWord) → IsFileName file → TextsAsk (codes "run" ∷ codes "--folded" ∷ file ∷ [])
     (to_run (record { file = file; trace = false; folded = true; budget = 1000000; size = 16777216; order = order.First }))

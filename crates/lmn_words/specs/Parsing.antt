@@ -9,7 +9,7 @@ use Rattle.clap.specs.declared.builder.command.Command.TheViews.{out-Command}
 use Rattle.lmn_words.specs.declared.setting.OrderName.{OrderName}
 use Rattle.lmn_words.specs.declared.setting.OrderName.TheVariants as name
 use Rattle.lmn_words.specs.Forms.{Request, Run, ordered_by, to_compile, to_demo, to_run}
-use Rattle.lmn_words.specs.Hearing.{number_of, order_named}
+use Rattle.lmn_words.specs.Hearing.{number_written, order_named}
 
 -- ---- the command line
 
@@ -44,14 +44,14 @@ abbrev pub whole_line : App
 whole_line = with_subcommand (with_subcommand (with_subcommand (on_top with_settings (new_app (codes "lmn"))) run_line.top) compile_line.top) demo_line.top
 
 -- a command is a line, in which no argument is global
-abbrev pub IsLine : Command → App → Type 0
-IsLine command line = (app_of command ≡ line) × ((out-Command command).has_globals ≡ false)
+abbrev pub IsLineOfCommand : Command → App → Type 0
+IsLineOfCommand command line = (app_of command ≡ line) × ((out-Command command).has_globals ≡ false)
 
 -- ---- what matches ask for
 
 -- the number that an option has, or the default
 abbrev pub number_given : List Row → Text → ℕ → ℕ
-number_given rows id default = unwrap_or (option_and_then number_of (first_of id rows)) default
+number_given rows id default = unwrap_or (option_and_then number_written (first_of id rows)) default
 
 -- the name that `--order` has, or the default
 abbrev pub order_given : List Row → OrderName
@@ -67,8 +67,8 @@ pub record Tells (rows : List Row) (run : Run) : Type 0 where
   pub order : ordered_by (order_given rows) (number_given rows (codes "seed") 0) ≡ run.order
 
 -- the command that was found, with its rows, is this request
-abbrev pub IsFound : Option (Text × List Row) → Request → Type 0
-IsFound None request = ⊥
-IsFound (Some found) (to_run run) = (found.0 ≡ codes "run") × Tells found.1 run
-IsFound (Some found) (to_compile file) = (found.0 ≡ codes "compile") × (first_of (codes "file") found.1 ≡ Some file)
-IsFound (Some found) (to_demo n) = (found.0 ≡ codes "demo") × (option_and_then number_of (first_of (codes "number") found.1) ≡ Some n)
+abbrev pub FoundIsRequest : Option (Text × List Row) → Request → Type 0
+FoundIsRequest None request = ⊥
+FoundIsRequest (Some found) (to_run run) = (found.0 ≡ codes "run") × Tells found.1 run
+FoundIsRequest (Some found) (to_compile file) = (found.0 ≡ codes "compile") × (first_of (codes "file") found.1 ≡ Some file)
+FoundIsRequest (Some found) (to_demo n) = (found.0 ≡ codes "demo") × (option_and_then number_written (first_of (codes "number") found.1) ≡ Some n)

@@ -2,8 +2,8 @@
 ghost use Rattle.std.specs.Prelude.{◌≡◌, ◌↔◌, IfOk, false, IfSome, IsSome, OnErr, Some, option_and_then, option_map, unwrap_or};
 ghost use Rattle.clap.specs.Words.{found_of, rows_of, rule_of, subcommand_rows_of};
 ghost use Rattle.lmn_words.specs.Forms.{Asks, InForm, IsInRanges, Request, Run, request_of, run_of};
-ghost use Rattle.lmn_words.specs.Hearing.{number_of, order_named};
-ghost use Rattle.lmn_words.specs.Parsing.{IsFound, IsLine, Tells, compile_line, demo_line, flag_rule, option_rule, required_rule, run_line, whole_line};
+ghost use Rattle.lmn_words.specs.Hearing.{number_written, order_named};
+ghost use Rattle.lmn_words.specs.Parsing.{FoundIsRequest, IsLineOfCommand, Tells, compile_line, demo_line, flag_rule, option_rule, required_rule, run_line, whole_line};
 
 use crate::command::{Command, RunWords};
 use crate::reading::in_form;
@@ -41,7 +41,7 @@ impl Command<'_> {
 /// The matches of words of the form. Of the errors of `clap` only want of memory is met.
 fn matches_of<'w>(alloc: Global, words: &'w [String]) -> Result<ArgMatches<'w>, AllocError>
     requires { InForm words.now }
-    ensures { IfOk result (λ matches. (request : Request) → Asks words.now request → IsFound (subcommand_rows_of matches) request) }
+    ensures { IfOk result (λ matches. (request : Request) → Asks words.now request → FoundIsRequest (subcommand_rows_of matches) request) }
 {
     match whole_line(alloc)?.try_get_matches_from(words) {
         Ok(matches) => Ok(matches),
@@ -55,7 +55,7 @@ fn matches_of<'w>(alloc: Global, words: &'w [String]) -> Result<ArgMatches<'w>, 
 
 /// The whole command line.
 fn whole_line<'w>(alloc: Global) -> Result<clap::Command<'w>, AllocError>
-    ensures { IfOk result (λ line. IsLine line whole_line) }
+    ensures { IfOk result (λ line. IsLineOfCommand line whole_line) }
 {
     clap::Command::new(alloc, "lmn")
         .no_binary_name(true)
@@ -69,7 +69,7 @@ fn whole_line<'w>(alloc: Global) -> Result<clap::Command<'w>, AllocError>
 
 /// The words of `run`.
 fn run_line<'w>(alloc: Global) -> Result<clap::Command<'w>, AllocError>
-    ensures { IfOk result (λ line. IsLine line run_line) }
+    ensures { IfOk result (λ line. IsLineOfCommand line run_line) }
 {
     clap::Command::new(alloc, "run")
         .arg(required(alloc, "file"))?
@@ -83,14 +83,14 @@ fn run_line<'w>(alloc: Global) -> Result<clap::Command<'w>, AllocError>
 
 /// The words of `compile`.
 fn compile_line<'w>(alloc: Global) -> Result<clap::Command<'w>, AllocError>
-    ensures { IfOk result (λ line. IsLine line compile_line) }
+    ensures { IfOk result (λ line. IsLineOfCommand line compile_line) }
 {
     clap::Command::new(alloc, "compile").arg(required(alloc, "file"))
 }
 
 /// The words of `demo`.
 fn demo_line<'w>(alloc: Global) -> Result<clap::Command<'w>, AllocError>
-    ensures { IfOk result (λ line. IsLine line demo_line) }
+    ensures { IfOk result (λ line. IsLineOfCommand line demo_line) }
 {
     clap::Command::new(alloc, "demo").arg(required(alloc, "number"))
 }
@@ -121,7 +121,7 @@ fn option<'w>(alloc: Global, name: &'w str) -> Arg<'w>
 
 /// What matches ask for.
 fn command_of<'w>(matches: &ArgMatches<'w>) -> Option<Command<'w>>
-    ensures { (request : Request) → IsFound (subcommand_rows_of matches.now) request → option_map request_of result ≡ Some request }
+    ensures { (request : Request) → FoundIsRequest (subcommand_rows_of matches.now) request → option_map request_of result ≡ Some request }
 {
     let (name, words) = matches.subcommand()?;
     match name {
@@ -155,7 +155,7 @@ fn run_words<'w>(matches: &ArgMatches<'w>) -> Option<RunWords<'w>>
 
 /// The number that a word writes, or the default.
 fn number_or(word: Option<&str>, default: u64) -> u64
-    ensures { result ≡ unwrap_or (option_and_then number_of (option_map (λ text. text.now) word.entry)) default }
+    ensures { result ≡ unwrap_or (option_and_then number_written (option_map (λ text. text.now) word.entry)) default }
 {
     match word {
         Some(word) => number(word).unwrap_or(default),

@@ -1,15 +1,5 @@
 ghost use Rattle.std.specs.Prelude.{◌≡◌};
-ghost use Rattle.lmn_words.specs.Hearing.{
-  begins_with,
-  flag_named,
-  no_settings,
-  number_from,
-  number_of,
-  option_named,
-  order_named,
-  setting_of,
-  with_setting,
-};
+ghost use Rattle.lmn_words.specs.Hearing.{begins_with, flag_named, no_settings, number_from, number_written, option_named, order_named, setting_of, with_setting};
 ghost use Rattle.lmn_words.specs.Forms.{ordered_by};
 
 use lmn_order::Order;
@@ -146,7 +136,7 @@ fn number_between(word: &str, least: u64, most: u64) -> Option<u64>
 
 /// The number that 1 to 19 decimal digits write.
 pub(crate) fn number(word: &str) -> Option<u64>
-    ensures { result ≡ number_of word.now }
+    ensures { result ≡ number_written word.now }
 {
     if word.len() > DIGITS || begins_with(word.as_bytes(), b'+') {
         return None;

@@ -1,4 +1,4 @@
-use Rattle.lmn_turn.specs.Turning.{renumbered}
+use Rattle.lmn_turn.specs.Turning.{renumbered_reading}
 use Rattle.lmn_choice.proofs.turns_are_alike.Goals as goal
 
 pub returns : goal.returns
@@ -10,6 +10,6 @@ returns c table plans codes have h r inner w tab from =
           record { path = u.path; number = chosen.place; positions = u.positions; embeds = u.chosen.embeds };
       some = λ code s chosen. c.choices_alike.ensures table plans codes have h r inner w from code s chosen;
       next = λ code s chosen h' runs. c.choices_agree.ensures table plans codes have h r inner w tab from code s chosen h' runs;
-      items = λ code s chosen h' runs n k l. (c.costs_are_items.ensures table plans codes have h r inner w from code s chosen h' runs (renumbered r n.number) n.forest n.again.read n.again.tree k).0 l;
+      items = λ code s chosen h' runs n k l. (c.costs_are_items.ensures table plans codes have h r inner w from code s chosen h' runs (renumbered_reading r n.number) n.forest n.again.read n.again.tree k).0 l;
       told = λ code s chosen k l. c.costs_are_told.ensures table plans codes have h r inner w tab from code s chosen k l;
     }

@@ -12,8 +12,8 @@ returns-in-Ok-clause-plain c =
       accepted_when (outside_rules c.in_ok-plain.plain.top ∷ []) c.refuse.result tt c.in-Ok.is (c.refuse.ensures (context_places c.in_ok-plain.plain.top) c.first_outside.ensures),
     )
 
-pub returns-clause-plain : goal.returns-clause-plain
-returns-clause-plain c =
+pub returns-in-Err-clause-plain : goal.returns-in-Err-clause-plain
+returns-in-Err-clause-plain c =
     let found = c.in_ok-glossary.ensures.glossary in (
       c.in_ok-plain.plain,
       c.in_ok-plain.ensures (reading_of c.args.text.now c.args.tokens.now c.read.new.names found.0) found.1,

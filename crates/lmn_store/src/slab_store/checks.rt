@@ -2,7 +2,7 @@
 ghost use Rattle.std.specs.Prelude.{◌≡◌, ◌≢◌, ◌<◌, ℕ, Some, IsTrue, []};
 ghost use Rattle.lmn_heap.specs.Heap.{gone, arity_of, mem_place_of, atoms_in, mems_in, spare_of, IsAtom, IsMem, IsInPlace, IsMemInPlace};
 ghost use Rattle.lmn_heap.specs.Conditions.{Alone, Ready, IsOutside};
-ghost use Rattle.lmn_heap.specs.Sound.{Settled};
+ghost use Rattle.lmn_heap.specs.Sound.{AllInPlace};
 ghost use Rattle.lmn_store.specs.Kept.{heap_of};
 ghost use Rattle.lmn_store.specs.Checks.{IsJoined};
 
@@ -92,7 +92,7 @@ impl SlabStore {
 
     /// Whether nothing is detached or taken.
     pub fn is_settled(&self) -> bool
-        ensures { IsTrue result → Settled (heap_of self.now) }
+        ensures { IsTrue result → AllInPlace (heap_of self.now) }
     {
         if self.atom_lists.count(0) != 0 {
             return false;

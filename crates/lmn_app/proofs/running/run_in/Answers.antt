@@ -1,9 +1,9 @@
 use Rattle.std.proofs.Common.{◌∙◌, ℕ, Some, subst, sym}
 use Rattle.lmn_congruence.specs.Regions.{Region}
-use Rattle.lmn_loading.specs.Loaded.{Causes as LoadCauses}
+use Rattle.lmn_loading.specs.Loaded.{LoadCauses}
 use Rattle.lmn_order.specs.Orders.{chosen}
 use Rattle.lmn_schedule.specs.Held.{CanBeLoaded}
-use Rattle.lmn_drive.specs.Driving.{Drove, given}
+use Rattle.lmn_drive.specs.Driving.{Drove, given_by_engine}
 use Rattle.lmn_runs.specs.Laws.{solid_of}
 use Rattle.lmn_app.specs.declared.task.Task.TheVariants as task
 use Rattle.lmn_app.specs.Outcomes.{Ended}
@@ -36,7 +36,7 @@ returns-in-Ok g c text before after a =
     let laws : Laws = record { accepted = c.accepted_texts.ensures; bodies = c.accepted_bodies.ensures.room; printable = c.plains_are_printable.ensures; runs = c.traces_are_runs.ensures } in
     let held = c.in-Ok.ensures.holds names (well_named c.accepted_texts.ensures c.accepted_bodies.ensures.room text names plain plans a) in
     let from = held.from in
-    let D : Region → ℕ → Type 0 = λ S size. Drove (given names plain.rules size (record { trace = settings.trace; folded = settings.folded; budget = settings.budget }) (chosen settings.order) S) n h end old new in
+    let D : Region → ℕ → Type 0 = λ S size. Drove (given_by_engine names plain.rules size (record { trace = settings.trace; folded = settings.folded; budget = settings.budget }) (chosen settings.order) S) n h end old new in
     let keeps = c.in-Ok.ensures.keeps.1 in
     let same = c.new-chooser.ensures.same in
     let drove : D held.solid engine.size =

@@ -1,8 +1,9 @@
 use Rattle.std.proofs.Common.{drop, ◌+◌}
-use Rattle.lmn_commit.proofs.Codes.{read_at, drop_get, used_at}
+use Rattle.lmn_commit.proofs.Codes.{read_at, used_at}
 use Rattle.lmn_commit.proofs.Doing.{done_more, can_now}
 use Rattle.lmn_commit.proofs.Marks.{does_unmarked}
 use Rattle.lmn_commit.proofs.committing.run_all.Goals as goal
+use Rattle.lmn_base.proofs.Lists.{drop_get}
 
 pub run-requires-clause-uses : goal.run-requires-clause-uses
 run-requires-clause-uses g c =

@@ -1,7 +1,7 @@
 use Rattle.std.proofs.Common.{drop}
-use Rattle.lmn_commit.specs.Committing.{Unmarked}
 use Rattle.lmn_commit.proofs.Doing.{Done}
 use Rattle.lmn_commit.proofs.committing.run_all.Given as goal
+use Rattle.lmn_heap.specs.Heap.{Unmarked}
 
 abbrev pub invariant-loop-i : goal.invariant-loop-i
 invariant-loop-i g l = record {

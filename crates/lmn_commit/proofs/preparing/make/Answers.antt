@@ -3,11 +3,12 @@ use Rattle.std.proofs.lemmas.Result.{on_ok_weaker}
 use Rattle.std.proofs.lemmas.Int.{to_z-of_z}
 use Rattle.lmn_body.specs.Running.{integer_functor}
 use Rattle.lmn_instr.specs.declared.instr.Instr.TheVariants.{LoadRule, CopyRules}
-use Rattle.lmn_commit.specs.Preparing.{AllUse, Reads}
-use Rattle.lmn_commit.proofs.Codes.{take_get, get_below, use_one_more}
+use Rattle.lmn_commit.specs.Preparing.{AllUse, UsesInOrder}
+use Rattle.lmn_commit.proofs.Codes.{take_get, use_one_more}
 use Rattle.lmn_commit.proofs.Making.{new_atom_made, new_int_made, new_mem_made, copy_made, load_rule_made, copy_rules_made, nothing_made}
 use Rattle.lmn_commit.proofs.Waiting.{makes_nothing}
 use Rattle.lmn_commit.proofs.preparing.make.Goals as goal
+use Rattle.lmn_base.proofs.Lists.{get_below}
 
 pub make_copy-requires-clause-part : goal.make_copy-requires-clause-part
 make_copy-requires-clause-part g c = c.requires.parts c.in-CopyGround.part c.at-in-CopyGround.result c.at-in-CopyGround.ensures
@@ -20,13 +21,13 @@ reserve-requires-in-CopyRules-clause-at g c = get_below c.args.code.now c.args.a
 
 pub reserve-requires-clause-uses : goal.reserve-requires-clause-uses
 reserve-requires-clause-uses g c =
-    let reads = subst (λ i. Reads (length c.args.set.now.atoms) (length c.args.set.now.membranes) (length c.args.set.now.parts) (length c.args.set.now.integers) (length c.args.set.now.copies) i) c.in-LoadRule.is c.requires.reads in
+    let reads = subst (λ i. UsesInOrder (length c.args.set.now.atoms) (length c.args.set.now.membranes) (length c.args.set.now.parts) (length c.args.set.now.integers) (length c.args.set.now.copies) i) c.in-LoadRule.is c.requires.reads in
     subst (λ is. AllUse (length c.args.set.now.atoms) (length c.args.set.now.membranes) (length c.args.set.now.parts) (length c.args.set.now.copies) is) (sym (take_get c.args.at c.args.code.now (LoadRule c.in-LoadRule.membrane c.in-LoadRule.rule) (c.requires.at ∙ ap (λ i. Some i) c.in-LoadRule.is)))
     (use_one_more (length c.args.set.now.atoms) (length c.args.set.now.membranes) (length c.args.set.now.parts) (length c.args.set.now.copies) (take c.args.at c.args.code.now) (LoadRule c.in-LoadRule.membrane c.in-LoadRule.rule) c.requires.uses reads)
 
 pub reserve-requires-in-CopyRules-clause-uses : goal.reserve-requires-in-CopyRules-clause-uses
 reserve-requires-in-CopyRules-clause-uses g c =
-    let reads = subst (λ i. Reads (length c.args.set.now.atoms) (length c.args.set.now.membranes) (length c.args.set.now.parts) (length c.args.set.now.integers) (length c.args.set.now.copies) i) c.in-CopyRules.is c.requires.reads in
+    let reads = subst (λ i. UsesInOrder (length c.args.set.now.atoms) (length c.args.set.now.membranes) (length c.args.set.now.parts) (length c.args.set.now.integers) (length c.args.set.now.copies) i) c.in-CopyRules.is c.requires.reads in
     subst (λ is. AllUse (length c.args.set.now.atoms) (length c.args.set.now.membranes) (length c.args.set.now.parts) (length c.args.set.now.copies) is) (sym (take_get c.args.at c.args.code.now (CopyRules c.in-CopyRules.from c.in-CopyRules.to) (c.requires.at ∙ ap (λ i. Some i) c.in-CopyRules.is)))
     (use_one_more (length c.args.set.now.atoms) (length c.args.set.now.membranes) (length c.args.set.now.parts) (length c.args.set.now.copies) (take c.args.at c.args.code.now) (CopyRules c.in-CopyRules.from c.in-CopyRules.to) c.requires.uses reads)
 

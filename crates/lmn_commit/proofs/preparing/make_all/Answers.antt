@@ -1,19 +1,20 @@
 use Rattle.std.proofs.Common.{◌+◌, take, drop, subst, sym, ap, length, ◌∷◌}
-use Rattle.lmn_commit.specs.Preparing.{Prepared, InOrder}
-use Rattle.lmn_commit.proofs.Codes.{read_at, take_get, drop_get}
+use Rattle.lmn_commit.specs.Preparing.{Prepared, BodyInOrder}
+use Rattle.lmn_commit.proofs.Codes.{read_at, take_get}
 use Rattle.lmn_commit.proofs.Making.{prepared_nothing, prepared_more, in_order_next, still_copies}
 use Rattle.lmn_commit.proofs.Waiting.{makes_on}
 use Rattle.lmn_commit.proofs.preparing.make_all.Goals as goal
+use Rattle.lmn_base.proofs.Lists.{drop_get}
 
 pub make-requires-clause-reads : goal.make-requires-clause-reads
 make-requires-clause-reads g c =
     let ahead = drop_get c.loop-i.i c.args.code.now c.index-code-i.result (read_at c.args.code.now c.loop-i.i c.index-code-i.result c.loop-i-test.true c.index-code-i.is) in
-    (subst (λ is. InOrder (length c.loop-i.set.atoms) (length c.loop-i.set.membranes) (length c.loop-i.set.parts) (length c.loop-i.set.integers) (length c.loop-i.set.copies) is) ahead c.loop-i.invariant.order).0
+    (subst (λ is. BodyInOrder (length c.loop-i.set.atoms) (length c.loop-i.set.membranes) (length c.loop-i.set.parts) (length c.loop-i.set.integers) (length c.loop-i.set.copies) is) ahead c.loop-i.invariant.order).0
 
 pub loop-i-init : goal.loop-i-init
 loop-i-init g c = record {
   done = prepared_nothing g.S.LinkStore.atom_id g.S.LinkStore.mem_id (g.S.LinkStore.heap c.args.store.now) c.args.set.now c.requires.copies c.requires.held;
-  order = subst (λ n. InOrder (length c.args.set.now.atoms) (length c.args.set.now.membranes) (length c.args.set.now.parts) (length c.args.set.now.integers) n c.args.code.now) (sym (ap length c.requires.copies)) c.requires.order;
+  order = subst (λ n. BodyInOrder (length c.args.set.now.atoms) (length c.args.set.now.membranes) (length c.args.set.now.parts) (length c.args.set.now.integers) n c.args.code.now) (sym (ap length c.requires.copies)) c.requires.order;
 }
 
 pub make-requires-clause-at : goal.make-requires-clause-at
@@ -33,8 +34,8 @@ pub loop-i-preserved : goal.loop-i-preserved
 loop-i-preserved g c =
     let here = read_at c.args.code.now c.loop-i.i c.index-code-i.result c.loop-i-test.true c.index-code-i.is in
     let ahead = drop_get c.loop-i.i c.args.code.now c.index-code-i.result here in
-    let order : InOrder (length c.loop-i.set.atoms) (length c.loop-i.set.membranes) (length c.loop-i.set.parts) (length c.loop-i.set.integers) (length c.loop-i.set.copies) (c.index-code-i.result ∷ drop (c.loop-i.i + 1) c.args.code.now) =
-    subst (λ is. InOrder (length c.loop-i.set.atoms) (length c.loop-i.set.membranes) (length c.loop-i.set.parts) (length c.loop-i.set.integers) (length c.loop-i.set.copies) is) ahead c.loop-i.invariant.order in
+    let order : BodyInOrder (length c.loop-i.set.atoms) (length c.loop-i.set.membranes) (length c.loop-i.set.parts) (length c.loop-i.set.integers) (length c.loop-i.set.copies) (c.index-code-i.result ∷ drop (c.loop-i.i + 1) c.args.code.now) =
+    subst (λ is. BodyInOrder (length c.loop-i.set.atoms) (length c.loop-i.set.membranes) (length c.loop-i.set.parts) (length c.loop-i.set.integers) (length c.loop-i.set.copies) is) ahead c.loop-i.invariant.order in
     let made = c.in_ok-make.ensures.ok in
     record {
       done = subst (λ is. Prepared g.S.LinkStore.atom_id g.S.LinkStore.mem_id (g.S.LinkStore.heap c.args.store.now) (g.S.LinkStore.heap c.make.new.store) c.args.set.now c.make.new.set is) (sym (take_get c.loop-i.i c.args.code.now c.index-code-i.result here))

@@ -1,6 +1,6 @@
 use Rattle.std.proofs.Common.{arith}
-use Rattle.lmn_compile_body.proofs.Registers.{tokens_next}
 use Rattle.lmn_compile_body.proofs.integers.integers_of.Goals as goal
+use Rattle.lmn_compile_head.proofs.GuardRoom.{tokens_next}
 
 pub note_condition-requires-clause-room : goal.note_condition-requires-clause-room
 note_condition-requires-clause-room c =

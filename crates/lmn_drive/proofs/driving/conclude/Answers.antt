@@ -1,12 +1,12 @@
 use Rattle.std.proofs.Common.{sym, subst}
-use Rattle.lmn_drive.specs.Driving.{Drove, Given, given, stop_end}
+use Rattle.lmn_drive.specs.Driving.{Drove, RunInput, given_by_engine, stop_end}
 use Rattle.lmn_drive.specs.declared.driving.RunEnd.TheVariants.{Failed}
 use Rattle.lmn_drive.proofs.Goings.{broken_off, concluded}
 use Rattle.lmn_drive.proofs.driving.conclude.Goals as goal
 
 pub returns-in-Ok-clause-drove : goal.returns-in-Ok-clause-drove
 returns-in-Ok-clause-drove g c k solid told s =
-    let r : Given = given c.args.names.now c.args.plain.now.rules c.args.engine.now.size c.args.options.now k solid in
+    let r : RunInput = given_by_engine c.args.names.now c.args.plain.now.rules c.args.engine.now.size c.args.options.now k solid in
     let n = c.args.engine.now.commits in
     let h = g.S.LinkStore.heap c.args.engine.now.machine.store in
     let h' = g.S.LinkStore.heap c.write_rest.new.engine.machine.store in
@@ -16,7 +16,7 @@ returns-in-Ok-clause-drove g c k solid told s =
 
 pub returns-in-Err-clause-drove : goal.returns-in-Err-clause-drove
 returns-in-Err-clause-drove g c k solid told s =
-    let r : Given = given c.args.names.now c.args.plain.now.rules c.args.engine.now.size c.args.options.now k solid in
+    let r : RunInput = given_by_engine c.args.names.now c.args.plain.now.rules c.args.engine.now.size c.args.options.now k solid in
     let n = c.args.engine.now.commits in
     let h = g.S.LinkStore.heap c.args.engine.now.machine.store in
     let new = g.O.Sink.told c.write_rest.new.out in

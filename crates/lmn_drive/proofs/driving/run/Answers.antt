@@ -1,9 +1,9 @@
 use Rattle.std.proofs.Common.{◌≡◌, ◌+◌, ◌<◌, refl, sym, ap, subst, ◌∙◌, arith}
-use Rattle.lmn_schedule.specs.Held.{CanRun, Holds}
+use Rattle.lmn_schedule.specs.Held.{EngineCanTurn, HoldsRegion}
 use Rattle.lmn_io.specs.Counts.{Rose}
 use Rattle.lmn_order.specs.Answers.{AnswersBelow}
 use Rattle.lmn_schedule.specs.Turning.{Gives}
-use Rattle.lmn_drive.specs.Driving.{Broke, Counts, Given, Going, StepsOn, Stopped, given}
+use Rattle.lmn_drive.specs.Driving.{Broke, CountsCommit, RunInput, Going, StepsOn, Stopped, given_by_engine}
 use Rattle.lmn_drive.specs.declared.driving.Stop.TheVariants as stop
 use Rattle.lmn_drive.proofs.Goings.{broke_first, going_first, moved, stops_budget, stops_done}
 use Rattle.lmn_drive.proofs.Writings.{at_err}
@@ -15,7 +15,7 @@ returns-in_err-write_traced-clause-stops g c k gives solid held =
     let table = c.args.plain.now.rules in
     let options = c.args.options.now in
     let told = g.O.Sink.told c.args.out.now in
-    let r : Given = given names table c.args.engine.now.size options k solid in
+    let r : RunInput = given_by_engine names table c.args.engine.now.size options k solid in
     let h = g.S.LinkStore.heap c.args.engine.now.machine.store in
     let new = g.O.Sink.told c.write_traced.new.out in
     at_err _ c.from_residual.result _ _ c.from_residual.ensures.1
@@ -23,7 +23,7 @@ returns-in_err-write_traced-clause-stops g c k gives solid held =
     (broke_first r c.args.engine.now.commits h told new c.requires.commits held (λ bytes is. c.in_err-write_traced.ensures.writes.prefix bytes is)))
 
 pub returns-in_err-write_traced-clause-again : goal.returns-in_err-write_traced-clause-again
-returns-in_err-write_traced-clause-again g c = subst (λ h. CanRun h c.args.plain.now.rules c.args.engine.now.codes c.args.engine.now.size) (sym c.write_traced.ensures.kept) c.requires.run
+returns-in_err-write_traced-clause-again g c = subst (λ h. EngineCanTurn h c.args.plain.now.rules c.args.engine.now.codes c.args.engine.now.size) (sym c.write_traced.ensures.kept) c.requires.run
 
 pub returns-in_err-write_traced-clause-keeps : goal.returns-in_err-write_traced-clause-keeps
 returns-in_err-write_traced-clause-keeps g c =
@@ -43,11 +43,11 @@ loop-init g c =
     let new = g.O.Sink.told c.write_traced.new.out in
     let wrote = c.write_traced.ensures.keeps in
     record {
-      run = subst (λ h. CanRun h table c.args.engine.now.codes c.args.engine.now.size) (sym c.write_traced.ensures.kept) c.requires.run;
+      run = subst (λ h. EngineCanTurn h table c.args.engine.now.codes c.args.engine.now.size) (sym c.write_traced.ensures.kept) c.requires.run;
       keeps = wrote ∙ sym (λ i. record c.args.engine.now { machine = c.write_traced.new.engine.machine; commits = (wrote i).commits });
       count = (λ i. (wrote i).commits) ∙ c.requires.commits;
       same = c.in_ok-write_traced.ensures.writes.same;
-      going = λ k gives solid held. (let r : Given = given names table c.args.engine.now.size options k solid in
+      going = λ k gives solid held. (let r : RunInput = given_by_engine names table c.args.engine.now.size options k solid in
           moved (λ n h. Going r n h told new) (λ i. (wrote i).commits) c.write_traced.ensures.kept
           (going_first r c.args.engine.now.commits h told new c.requires.commits held (λ bytes is. c.in_ok-write_traced.ensures.writes.took bytes is)));
     }
@@ -57,7 +57,7 @@ step-requires-clause-run g c =
     let keeps = c.loop.invariant.keeps in
     let h = g.S.LinkStore.heap c.loop.engine.machine.store in
     let table = c.args.plain.now.rules in
-    subst (λ codes. CanRun h table codes c.loop.engine.size) (sym (λ i. (keeps i).codes)) (subst (λ size. CanRun h table c.args.engine.now.codes size) (sym (λ i. (keeps i).size)) c.loop.invariant.run)
+    subst (λ codes. EngineCanTurn h table codes c.loop.engine.size) (sym (λ i. (keeps i).codes)) (subst (λ size. EngineCanTurn h table c.args.engine.now.codes size) (sym (λ i. (keeps i).size)) c.loop.invariant.run)
 
 pub step-requires-clause-plain : goal.step-requires-clause-plain
 step-requires-clause-plain g c = (λ i. (c.loop.invariant.keeps i).plain.now) ∙ c.requires.plain
@@ -81,14 +81,14 @@ returns-in_err-stop-clause-stops g c k gives solid held =
     let size : c.loop.engine.size ≡ c.args.engine.now.size = λ i. (c.loop.invariant.keeps i).size in
     let below : c.loop.engine.commits < options.budget = (let l = c.loop-test.true in let e = c.loop.invariant.count in omega (arith, l, e)) in
     let gives' = subst (λ f. Gives (λ f t m r. g.F.Fn.post f (t, (m, tt)) r) f k) (sym (λ i. (c.loop.invariant.keeps i).chooser.f)) gives in
-    let going = subst (λ n. Going (given names table n options k solid) c.loop.engine.commits (g.S.LinkStore.heap c.loop.engine.machine.store) told (g.O.Sink.told c.loop.out)) (sym size) (c.loop.invariant.going k gives solid held) in
+    let going = subst (λ n. Going (given_by_engine names table n options k solid) c.loop.engine.commits (g.S.LinkStore.heap c.loop.engine.machine.store) told (g.O.Sink.told c.loop.out)) (sym size) (c.loop.invariant.going k gives solid held) in
     at_err _ c.from_residual-in_err-stop.result _ _ c.from_residual-in_err-stop.ensures.1
-    (subst (λ n. Broke (given names table n options k solid) c.step.new.engine.commits (g.S.LinkStore.heap c.step.new.engine.machine.store) told (g.O.Sink.told c.step.new.out)) size (c.in_err-stop.ensures.goes k gives' solid told below going))
+    (subst (λ n. Broke (given_by_engine names table n options k solid) c.step.new.engine.commits (g.S.LinkStore.heap c.step.new.engine.machine.store) told (g.O.Sink.told c.step.new.out)) size (c.in_err-stop.ensures.goes k gives' solid told below going))
 
 pub returns-in_err-stop-clause-again : goal.returns-in_err-stop-clause-again
 returns-in_err-stop-clause-again g c =
-    subst (λ size. CanRun (g.S.LinkStore.heap c.step.new.engine.machine.store) c.args.plain.now.rules c.args.engine.now.codes size) (λ i. (c.loop.invariant.keeps i).size)
-    (subst (λ codes. CanRun (g.S.LinkStore.heap c.step.new.engine.machine.store) c.args.plain.now.rules codes c.loop.engine.size) (λ i. (c.loop.invariant.keeps i).codes) c.step.ensures.again)
+    subst (λ size. EngineCanTurn (g.S.LinkStore.heap c.step.new.engine.machine.store) c.args.plain.now.rules c.args.engine.now.codes size) (λ i. (c.loop.invariant.keeps i).size)
+    (subst (λ codes. EngineCanTurn (g.S.LinkStore.heap c.step.new.engine.machine.store) c.args.plain.now.rules codes c.loop.engine.size) (λ i. (c.loop.invariant.keeps i).codes) c.step.ensures.again)
 
 pub returns-in_err-stop-clause-keeps : goal.returns-in_err-stop-clause-keeps
 returns-in_err-stop-clause-keeps g c = c.step.ensures.keeps ∙ (λ i. record (c.loop.invariant.keeps i) { machine = c.step.new.engine.machine; commits = c.step.new.engine.commits })
@@ -105,15 +105,15 @@ returns-in-Some-clause-stops g c k gives solid held =
     let size : c.loop.engine.size ≡ c.args.engine.now.size = λ i. (c.loop.invariant.keeps i).size in
     let below : c.loop.engine.commits < options.budget = (let l = c.loop-test.true in let e = c.loop.invariant.count in omega (arith, l, e)) in
     let gives' = subst (λ f. Gives (λ f t m r. g.F.Fn.post f (t, (m, tt)) r) f k) (sym (λ i. (c.loop.invariant.keeps i).chooser.f)) gives in
-    let going = subst (λ n. Going (given names table n options k solid) c.loop.engine.commits (g.S.LinkStore.heap c.loop.engine.machine.store) told (g.O.Sink.told c.loop.out)) (sym size) (c.loop.invariant.going k gives solid held) in
-    let r : Given = given names table c.loop.engine.size options k solid in
-    subst (λ n. Stopped (given names table n options k solid) c.step.new.engine.commits (g.S.LinkStore.heap c.step.new.engine.machine.store) c.in-Some.stop told (g.O.Sink.told c.step.new.out)) size
+    let going = subst (λ n. Going (given_by_engine names table n options k solid) c.loop.engine.commits (g.S.LinkStore.heap c.loop.engine.machine.store) told (g.O.Sink.told c.loop.out)) (sym size) (c.loop.invariant.going k gives solid held) in
+    let r : RunInput = given_by_engine names table c.loop.engine.size options k solid in
+    subst (λ n. Stopped (given_by_engine names table n options k solid) c.step.new.engine.commits (g.S.LinkStore.heap c.step.new.engine.machine.store) c.in-Some.stop told (g.O.Sink.told c.step.new.out)) size
     (subst (StepsOn r c.step.new.engine.commits (g.S.LinkStore.heap c.step.new.engine.machine.store) told (g.O.Sink.told c.step.new.out)) c.in-Some.is (c.in_ok-stop.ensures.goes k gives' solid told below going))
 
 pub returns-in-Some-clause-again : goal.returns-in-Some-clause-again
 returns-in-Some-clause-again g c =
-    subst (λ size. CanRun (g.S.LinkStore.heap c.step.new.engine.machine.store) c.args.plain.now.rules c.args.engine.now.codes size) (λ i. (c.loop.invariant.keeps i).size)
-    (subst (λ codes. CanRun (g.S.LinkStore.heap c.step.new.engine.machine.store) c.args.plain.now.rules codes c.loop.engine.size) (λ i. (c.loop.invariant.keeps i).codes) c.step.ensures.again)
+    subst (λ size. EngineCanTurn (g.S.LinkStore.heap c.step.new.engine.machine.store) c.args.plain.now.rules c.args.engine.now.codes size) (λ i. (c.loop.invariant.keeps i).size)
+    (subst (λ codes. EngineCanTurn (g.S.LinkStore.heap c.step.new.engine.machine.store) c.args.plain.now.rules codes c.loop.engine.size) (λ i. (c.loop.invariant.keeps i).codes) c.step.ensures.again)
 
 pub returns-in-Some-clause-keeps : goal.returns-in-Some-clause-keeps
 returns-in-Some-clause-keeps g c = c.step.ensures.keeps ∙ (λ i. record (c.loop.invariant.keeps i) { machine = c.step.new.engine.machine; commits = c.step.new.engine.commits })
@@ -128,18 +128,18 @@ loop-preserved g c =
     let options = c.args.options.now in
     let told = g.O.Sink.told c.args.out.now in
     record {
-      run = subst (λ size. CanRun (g.S.LinkStore.heap c.step.new.engine.machine.store) c.args.plain.now.rules c.args.engine.now.codes size) (λ i. (c.loop.invariant.keeps i).size)
-          (subst (λ codes. CanRun (g.S.LinkStore.heap c.step.new.engine.machine.store) c.args.plain.now.rules codes c.loop.engine.size) (λ i. (c.loop.invariant.keeps i).codes) c.step.ensures.again);
+      run = subst (λ size. EngineCanTurn (g.S.LinkStore.heap c.step.new.engine.machine.store) c.args.plain.now.rules c.args.engine.now.codes size) (λ i. (c.loop.invariant.keeps i).size)
+          (subst (λ codes. EngineCanTurn (g.S.LinkStore.heap c.step.new.engine.machine.store) c.args.plain.now.rules codes c.loop.engine.size) (λ i. (c.loop.invariant.keeps i).codes) c.step.ensures.again);
       keeps = c.step.ensures.keeps ∙ (λ i. record (c.loop.invariant.keeps i) { machine = c.step.new.engine.machine; commits = c.step.new.engine.commits });
-      count = subst (λ o. Counts o c.loop.engine.commits c.step.new.engine.commits) c.in_default.is c.in_ok-stop.ensures.counts ∙ ap (λ n. n + 1) c.loop.invariant.count;
+      count = subst (λ o. CountsCommit o c.loop.engine.commits c.step.new.engine.commits) c.in_default.is c.in_ok-stop.ensures.counts ∙ ap (λ n. n + 1) c.loop.invariant.count;
       same = c.in_ok-stop.ensures.same ∙ c.loop.invariant.same;
       going = λ k gives solid held. (
           let size : c.loop.engine.size ≡ c.args.engine.now.size = λ i. (c.loop.invariant.keeps i).size in
           let below : c.loop.engine.commits < options.budget = (let l = c.loop-test.true in let e = c.loop.invariant.count in omega (arith, l, e)) in
           let gives' = subst (λ f. Gives (λ f t m r. g.F.Fn.post f (t, (m, tt)) r) f k) (sym (λ i. (c.loop.invariant.keeps i).chooser.f)) gives in
-          let going = subst (λ n. Going (given names table n options k solid) c.loop.engine.commits (g.S.LinkStore.heap c.loop.engine.machine.store) told (g.O.Sink.told c.loop.out)) (sym size) (c.loop.invariant.going k gives solid held) in
-          subst (λ n. Going (given names table n options k solid) c.step.new.engine.commits (g.S.LinkStore.heap c.step.new.engine.machine.store) told (g.O.Sink.told c.step.new.out)) size
-          (subst (StepsOn (given names table c.loop.engine.size options k solid) c.step.new.engine.commits (g.S.LinkStore.heap c.step.new.engine.machine.store) told (g.O.Sink.told c.step.new.out)) c.in_default.is (c.in_ok-stop.ensures.goes k gives' solid told below going)));
+          let going = subst (λ n. Going (given_by_engine names table n options k solid) c.loop.engine.commits (g.S.LinkStore.heap c.loop.engine.machine.store) told (g.O.Sink.told c.loop.out)) (sym size) (c.loop.invariant.going k gives solid held) in
+          subst (λ n. Going (given_by_engine names table n options k solid) c.step.new.engine.commits (g.S.LinkStore.heap c.step.new.engine.machine.store) told (g.O.Sink.told c.step.new.out)) size
+          (subst (StepsOn (given_by_engine names table c.loop.engine.size options k solid) c.step.new.engine.commits (g.S.LinkStore.heap c.step.new.engine.machine.store) told (g.O.Sink.told c.step.new.out)) c.in_default.is (c.in_ok-stop.ensures.goes k gives' solid told below going)));
     }
 
 pub reducible-requires : goal.reducible-requires
@@ -147,9 +147,9 @@ reducible-requires g c =
     let keeps = c.loop.invariant.keeps in
     let h = g.S.LinkStore.heap c.loop.engine.machine.store in
     let table = c.args.plain.now.rules in
-    let run : CanRun h table c.loop.engine.codes c.loop.engine.size =
-    subst (λ codes. CanRun h table codes c.loop.engine.size) (sym (λ i. (keeps i).codes)) (subst (λ size. CanRun h table c.args.engine.now.codes size) (sym (λ i. (keeps i).size)) c.loop.invariant.run) in
-    record { run = subst (λ rules. CanRun h rules c.loop.engine.codes c.loop.engine.size) (sym ((λ i. (keeps i).plain.now.rules) ∙ (λ i. (c.requires.plain i).rules))) run }
+    let run : EngineCanTurn h table c.loop.engine.codes c.loop.engine.size =
+    subst (λ codes. EngineCanTurn h table codes c.loop.engine.size) (sym (λ i. (keeps i).codes)) (subst (λ size. EngineCanTurn h table c.args.engine.now.codes size) (sym (λ i. (keeps i).size)) c.loop.invariant.run) in
+    record { run = subst (λ rules. EngineCanTurn h rules c.loop.engine.codes c.loop.engine.size) (sym ((λ i. (keeps i).plain.now.rules) ∙ (λ i. (c.requires.plain i).rules))) run }
 
 pub returns-then-reducible-clause-stops : goal.returns-then-reducible-clause-stops
 returns-then-reducible-clause-stops g c k gives solid held =
@@ -157,7 +157,7 @@ returns-then-reducible-clause-stops g c k gives solid held =
     let table = c.args.plain.now.rules in
     let options = c.args.options.now in
     let told = g.O.Sink.told c.args.out.now in
-    let r : Given = given names table c.args.engine.now.size options k solid in
+    let r : RunInput = given_by_engine names table c.args.engine.now.size options k solid in
     let keeps = c.loop.invariant.keeps in
     let h = g.S.LinkStore.heap c.loop.engine.machine.store in
     let h' = g.S.LinkStore.heap c.reducible.new.self.machine.store in
@@ -165,12 +165,12 @@ returns-then-reducible-clause-stops g c k gives solid held =
     let s = c.loop.invariant.going k gives solid held in
     let e : c.loop.engine.commits ≡ options.budget = (let f = c.loop-test.false in let l = c.loop.auto in let n = c.loop.invariant.count in omega (arith, n)) in
     let rules : c.loop.engine.plain.now.rules ≡ table = (λ i. (keeps i).plain.now.rules) ∙ (λ i. (c.requires.plain i).rules) in
-    let holds = subst (λ T. Holds names T h s.ran.last) (sym rules) s.ran.holds in
+    let holds = subst (λ T. HoldsRegion names T h s.ran.last) (sym rules) s.ran.holds in
     moved (λ n h. Stopped r n h stop.Budget told new) {h' = h'} (λ i. (c.reducible.ensures.keeps i).commits) refl
     (stops_budget r c.loop.engine.commits h h' told new s c.reducible.ensures.same e (c.reducible.ensures.yes c.if-reducible.true names s.ran.last holds))
 
 pub returns-then-reducible-clause-again : goal.returns-then-reducible-clause-again
-returns-then-reducible-clause-again g c = subst (λ h. CanRun h c.args.plain.now.rules c.args.engine.now.codes c.args.engine.now.size) (sym c.reducible.ensures.same) c.loop.invariant.run
+returns-then-reducible-clause-again g c = subst (λ h. EngineCanTurn h c.args.plain.now.rules c.args.engine.now.codes c.args.engine.now.size) (sym c.reducible.ensures.same) c.loop.invariant.run
 
 pub returns-then-reducible-clause-keeps : goal.returns-then-reducible-clause-keeps
 returns-then-reducible-clause-keeps g c =
@@ -187,7 +187,7 @@ returns-else-reducible-clause-stops g c k gives solid held =
     let table = c.args.plain.now.rules in
     let options = c.args.options.now in
     let told = g.O.Sink.told c.args.out.now in
-    let r : Given = given names table c.args.engine.now.size options k solid in
+    let r : RunInput = given_by_engine names table c.args.engine.now.size options k solid in
     let keeps = c.loop.invariant.keeps in
     let h = g.S.LinkStore.heap c.loop.engine.machine.store in
     let h' = g.S.LinkStore.heap c.reducible.new.self.machine.store in
@@ -195,12 +195,12 @@ returns-else-reducible-clause-stops g c k gives solid held =
     let s = c.loop.invariant.going k gives solid held in
     let e : c.loop.engine.commits ≡ options.budget = (let f = c.loop-test.false in let l = c.loop.auto in let n = c.loop.invariant.count in omega (arith, n)) in
     let rules : c.loop.engine.plain.now.rules ≡ table = (λ i. (keeps i).plain.now.rules) ∙ (λ i. (c.requires.plain i).rules) in
-    let holds = subst (λ T. Holds names T h s.ran.last) (sym rules) s.ran.holds in
+    let holds = subst (λ T. HoldsRegion names T h s.ran.last) (sym rules) s.ran.holds in
     moved (λ n h. Stopped r n h stop.Irreducible told new) {h' = h'} (λ i. (c.reducible.ensures.keeps i).commits) refl
     (stops_done r c.loop.engine.commits h h' told new s c.reducible.ensures.same (c.reducible.ensures.no c.if-reducible.false names s.ran.last holds))
 
 pub returns-else-reducible-clause-again : goal.returns-else-reducible-clause-again
-returns-else-reducible-clause-again g c = subst (λ h. CanRun h c.args.plain.now.rules c.args.engine.now.codes c.args.engine.now.size) (sym c.reducible.ensures.same) c.loop.invariant.run
+returns-else-reducible-clause-again g c = subst (λ h. EngineCanTurn h c.args.plain.now.rules c.args.engine.now.codes c.args.engine.now.size) (sym c.reducible.ensures.same) c.loop.invariant.run
 
 pub returns-else-reducible-clause-keeps : goal.returns-else-reducible-clause-keeps
 returns-else-reducible-clause-keeps g c =

@@ -1,19 +1,19 @@
 use Rattle.std.proofs.Common.{◌≡◌}
 use Rattle.lmn_adequacy.specs.Runs.{Chooser}
 use Rattle.lmn_congruence.specs.Regions.{Region}
-use Rattle.lmn_schedule.specs.Held.{CanRun, Holds}
+use Rattle.lmn_schedule.specs.Held.{EngineCanTurn, HoldsRegion}
 use Rattle.lmn_schedule.specs.Turning.{Gives}
-use Rattle.lmn_drive.specs.Driving.{Going, given}
+use Rattle.lmn_drive.specs.Driving.{Going, given_by_engine}
 use Rattle.lmn_drive.proofs.driving.run.Given as goal
 
 abbrev pub invariant-loop : goal.invariant-loop
 invariant-loop g l =
     let heap = g.S.LinkStore.heap in
     record {
-      run : CanRun (heap l.engine.machine.store) l.plain.rules l.fn.engine.codes l.fn.engine.size;
+      run : EngineCanTurn (heap l.engine.machine.store) l.plain.rules l.fn.engine.codes l.fn.engine.size;
       keeps : l.engine ≡ record l.fn.engine { machine = l.engine.machine; commits = l.engine.commits };
       count : l.engine.commits ≡ l.counter;
       same : g.O.Sink.faults l.out ≡ g.O.Sink.faults l.fn.out;
-      going : (c : Chooser) → Gives (λ f t m r. g.F.Fn.post f (t, (m, tt)) r) l.fn.engine.chooser.f c → (solid : Region) → Holds l.names l.plain.rules (heap l.fn.engine.machine.store) solid →
-          Going (given l.names l.plain.rules l.fn.engine.size l.options c solid) l.engine.commits (heap l.engine.machine.store) (g.O.Sink.told l.fn.out) (g.O.Sink.told l.out);
+      going : (c : Chooser) → Gives (λ f t m r. g.F.Fn.post f (t, (m, tt)) r) l.fn.engine.chooser.f c → (solid : Region) → HoldsRegion l.names l.plain.rules (heap l.fn.engine.machine.store) solid →
+          Going (given_by_engine l.names l.plain.rules l.fn.engine.size l.options c solid) l.engine.commits (heap l.engine.machine.store) (g.O.Sink.told l.fn.out) (g.O.Sink.told l.out);
     }

@@ -1,8 +1,8 @@
 use Rattle.std.proofs.Common.{refl, sym, subst, ◌∙◌}
-use Rattle.lmn_schedule.specs.Held.{CanRun, Holds}
+use Rattle.lmn_schedule.specs.Held.{EngineCanTurn, HoldsRegion}
 use Rattle.lmn_strategy.specs.declared.turning.Turn.TheVariants as answer
 use Rattle.lmn_schedule.specs.Turning.{IsTurned}
-use Rattle.lmn_drive.specs.Driving.{Broke, Given, Going, Stopped, given}
+use Rattle.lmn_drive.specs.Driving.{Broke, RunInput, Going, Stopped, given_by_engine}
 use Rattle.lmn_drive.specs.declared.driving.Stop.TheVariants as stop
 use Rattle.lmn_drive.proofs.Goings.{broke_more, going_more, moved, none_more, stops_full, stops_irreducible, stops_no_memory}
 use Rattle.lmn_drive.proofs.Writings.{at_err}
@@ -13,10 +13,10 @@ returns-in_err-write_traced-in-Committed-clause-goes g c k gives solid told belo
     let names = c.args.names.now in
     let size = c.args.engine.now.size in
     let commits = c.args.engine.now.commits in
-    let r : Given = given names c.args.plain.now.rules size c.args.options.now k solid in
+    let r : RunInput = given_by_engine names c.args.plain.now.rules size c.args.options.now k solid in
     let h = g.S.LinkStore.heap c.args.engine.now.machine.store in
     let h' = g.S.LinkStore.heap c.turn.new.self.machine.store in
-    let t = subst (λ T. Holds names T h s.ran.last → IsTurned names T k size commits s.ran.last answer.Committed h') (λ i. (c.requires.plain i).rules) (c.in-Committed.ensures.turned k gives names s.ran.last) s.ran.holds in
+    let t = subst (λ T. HoldsRegion names T h s.ran.last → IsTurned names T k size commits s.ran.last answer.Committed h') (λ i. (c.requires.plain i).rules) (c.in-Committed.ensures.turned k gives names s.ran.last) s.ran.holds in
     let new = g.O.Sink.told c.write_traced.new.out in
     at_err _ c.from_residual.result _ _ c.from_residual.ensures.1
     (moved (λ n h. Broke r n h told new) (λ i. (c.write_traced.ensures.keeps i).commits) c.write_traced.ensures.kept
@@ -26,8 +26,8 @@ returns-in_err-write_traced-in-Committed-clause-goes g c k gives solid told belo
 
 pub returns-in_err-write_traced-in-Committed-clause-again : goal.returns-in_err-write_traced-in-Committed-clause-again
 returns-in_err-write_traced-in-Committed-clause-again g c =
-    subst (λ h. CanRun h c.args.plain.now.rules c.args.engine.now.codes c.args.engine.now.size) (sym c.write_traced.ensures.kept)
-    (subst (λ T. CanRun (g.S.LinkStore.heap c.turn.new.self.machine.store) T c.args.engine.now.codes c.args.engine.now.size) (λ i. (c.requires.plain i).rules) c.turn.ensures.again)
+    subst (λ h. EngineCanTurn h c.args.plain.now.rules c.args.engine.now.codes c.args.engine.now.size) (sym c.write_traced.ensures.kept)
+    (subst (λ T. EngineCanTurn (g.S.LinkStore.heap c.turn.new.self.machine.store) T c.args.engine.now.codes c.args.engine.now.size) (λ i. (c.requires.plain i).rules) c.turn.ensures.again)
 
 pub returns-in_err-write_traced-in-Committed-clause-keeps : goal.returns-in_err-write_traced-in-Committed-clause-keeps
 returns-in_err-write_traced-in-Committed-clause-keeps g c =
@@ -41,10 +41,10 @@ returns-in_ok-write_traced-in-Committed-clause-goes g c k gives solid told below
     let names = c.args.names.now in
     let size = c.args.engine.now.size in
     let commits = c.args.engine.now.commits in
-    let r : Given = given names c.args.plain.now.rules size c.args.options.now k solid in
+    let r : RunInput = given_by_engine names c.args.plain.now.rules size c.args.options.now k solid in
     let h = g.S.LinkStore.heap c.args.engine.now.machine.store in
     let h' = g.S.LinkStore.heap c.turn.new.self.machine.store in
-    let t = subst (λ T. Holds names T h s.ran.last → IsTurned names T k size commits s.ran.last answer.Committed h') (λ i. (c.requires.plain i).rules) (c.in-Committed.ensures.turned k gives names s.ran.last) s.ran.holds in
+    let t = subst (λ T. HoldsRegion names T h s.ran.last → IsTurned names T k size commits s.ran.last answer.Committed h') (λ i. (c.requires.plain i).rules) (c.in-Committed.ensures.turned k gives names s.ran.last) s.ran.holds in
     let new = g.O.Sink.told c.write_traced.new.out in
     moved (λ n h. Going r n h told new) (λ i. (c.write_traced.ensures.keeps i).commits) c.write_traced.ensures.kept
     (moved (λ n h. Going r n h told new) {h' = h'} (λ i. (c.in-Committed.ensures.keeps i).commits) refl
@@ -53,8 +53,8 @@ returns-in_ok-write_traced-in-Committed-clause-goes g c k gives solid told below
 
 pub returns-in_ok-write_traced-in-Committed-clause-again : goal.returns-in_ok-write_traced-in-Committed-clause-again
 returns-in_ok-write_traced-in-Committed-clause-again g c =
-    subst (λ h. CanRun h c.args.plain.now.rules c.args.engine.now.codes c.args.engine.now.size) (sym c.write_traced.ensures.kept)
-    (subst (λ T. CanRun (g.S.LinkStore.heap c.turn.new.self.machine.store) T c.args.engine.now.codes c.args.engine.now.size) (λ i. (c.requires.plain i).rules) c.turn.ensures.again)
+    subst (λ h. EngineCanTurn h c.args.plain.now.rules c.args.engine.now.codes c.args.engine.now.size) (sym c.write_traced.ensures.kept)
+    (subst (λ T. EngineCanTurn (g.S.LinkStore.heap c.turn.new.self.machine.store) T c.args.engine.now.codes c.args.engine.now.size) (λ i. (c.requires.plain i).rules) c.turn.ensures.again)
 
 pub returns-in_ok-write_traced-in-Committed-clause-keeps : goal.returns-in_ok-write_traced-in-Committed-clause-keeps
 returns-in_ok-write_traced-in-Committed-clause-keeps g c =
@@ -77,15 +77,15 @@ returns-in-Irreducible-clause-goes g c k gives solid told below s =
     let names = c.args.names.now in
     let size = c.args.engine.now.size in
     let commits = c.args.engine.now.commits in
-    let r : Given = given names c.args.plain.now.rules size c.args.options.now k solid in
+    let r : RunInput = given_by_engine names c.args.plain.now.rules size c.args.options.now k solid in
     let h = g.S.LinkStore.heap c.args.engine.now.machine.store in
     let h' = g.S.LinkStore.heap c.turn.new.self.machine.store in
-    let t = subst (λ T. Holds names T h s.ran.last → IsTurned names T k size commits s.ran.last answer.Irreducible h') (λ i. (c.requires.plain i).rules) (c.in-Irreducible.ensures.turned k gives names s.ran.last) s.ran.holds in
+    let t = subst (λ T. HoldsRegion names T h s.ran.last → IsTurned names T k size commits s.ran.last answer.Irreducible h') (λ i. (c.requires.plain i).rules) (c.in-Irreducible.ensures.turned k gives names s.ran.last) s.ran.holds in
     let old = g.O.Sink.told c.args.out.now in
     moved (λ n h. Stopped r n h stop.Irreducible told old) {h' = h'} ((λ i. (c.in-Irreducible.ensures.keeps i).commits) ∙ none_more commits) refl (stops_irreducible r commits h h' told old s t)
 
 pub returns-in-Irreducible-clause-again : goal.returns-in-Irreducible-clause-again
-returns-in-Irreducible-clause-again g c = subst (λ T. CanRun (g.S.LinkStore.heap c.turn.new.self.machine.store) T c.args.engine.now.codes c.args.engine.now.size) (λ i. (c.requires.plain i).rules) c.turn.ensures.again
+returns-in-Irreducible-clause-again g c = subst (λ T. EngineCanTurn (g.S.LinkStore.heap c.turn.new.self.machine.store) T c.args.engine.now.codes c.args.engine.now.size) (λ i. (c.requires.plain i).rules) c.turn.ensures.again
 
 pub returns-in-Irreducible-clause-keeps : goal.returns-in-Irreducible-clause-keeps
 returns-in-Irreducible-clause-keeps g c =
@@ -100,15 +100,15 @@ returns-in-Full-clause-goes g c k gives solid told below s =
     let names = c.args.names.now in
     let size = c.args.engine.now.size in
     let commits = c.args.engine.now.commits in
-    let r : Given = given names c.args.plain.now.rules size c.args.options.now k solid in
+    let r : RunInput = given_by_engine names c.args.plain.now.rules size c.args.options.now k solid in
     let h = g.S.LinkStore.heap c.args.engine.now.machine.store in
     let h' = g.S.LinkStore.heap c.turn.new.self.machine.store in
-    let t = subst (λ T. Holds names T h s.ran.last → IsTurned names T k size commits s.ran.last answer.Full h') (λ i. (c.requires.plain i).rules) (c.in-Full.ensures.turned k gives names s.ran.last) s.ran.holds in
+    let t = subst (λ T. HoldsRegion names T h s.ran.last → IsTurned names T k size commits s.ran.last answer.Full h') (λ i. (c.requires.plain i).rules) (c.in-Full.ensures.turned k gives names s.ran.last) s.ran.holds in
     let old = g.O.Sink.told c.args.out.now in
     moved (λ n h. Stopped r n h stop.Full told old) {h' = h'} ((λ i. (c.in-Full.ensures.keeps i).commits) ∙ none_more commits) refl (stops_full r commits h h' told old s below t)
 
 pub returns-in-Full-clause-again : goal.returns-in-Full-clause-again
-returns-in-Full-clause-again g c = subst (λ T. CanRun (g.S.LinkStore.heap c.turn.new.self.machine.store) T c.args.engine.now.codes c.args.engine.now.size) (λ i. (c.requires.plain i).rules) c.turn.ensures.again
+returns-in-Full-clause-again g c = subst (λ T. EngineCanTurn (g.S.LinkStore.heap c.turn.new.self.machine.store) T c.args.engine.now.codes c.args.engine.now.size) (λ i. (c.requires.plain i).rules) c.turn.ensures.again
 
 pub returns-in-Full-clause-keeps : goal.returns-in-Full-clause-keeps
 returns-in-Full-clause-keeps g c =
@@ -123,15 +123,15 @@ returns-in-NoMemory-clause-goes g c k gives solid told below s =
     let names = c.args.names.now in
     let size = c.args.engine.now.size in
     let commits = c.args.engine.now.commits in
-    let r : Given = given names c.args.plain.now.rules size c.args.options.now k solid in
+    let r : RunInput = given_by_engine names c.args.plain.now.rules size c.args.options.now k solid in
     let h = g.S.LinkStore.heap c.args.engine.now.machine.store in
     let h' = g.S.LinkStore.heap c.turn.new.self.machine.store in
-    let t = subst (λ T. Holds names T h s.ran.last → IsTurned names T k size commits s.ran.last answer.NoMemory h') (λ i. (c.requires.plain i).rules) (c.in-NoMemory.ensures.turned k gives names s.ran.last) s.ran.holds in
+    let t = subst (λ T. HoldsRegion names T h s.ran.last → IsTurned names T k size commits s.ran.last answer.NoMemory h') (λ i. (c.requires.plain i).rules) (c.in-NoMemory.ensures.turned k gives names s.ran.last) s.ran.holds in
     let old = g.O.Sink.told c.args.out.now in
     moved (λ n h. Stopped r n h stop.NoMemory told old) {h' = h'} ((λ i. (c.in-NoMemory.ensures.keeps i).commits) ∙ none_more commits) refl (stops_no_memory r commits h h' told old s below t)
 
 pub returns-in-NoMemory-clause-again : goal.returns-in-NoMemory-clause-again
-returns-in-NoMemory-clause-again g c = subst (λ T. CanRun (g.S.LinkStore.heap c.turn.new.self.machine.store) T c.args.engine.now.codes c.args.engine.now.size) (λ i. (c.requires.plain i).rules) c.turn.ensures.again
+returns-in-NoMemory-clause-again g c = subst (λ T. EngineCanTurn (g.S.LinkStore.heap c.turn.new.self.machine.store) T c.args.engine.now.codes c.args.engine.now.size) (λ i. (c.requires.plain i).rules) c.turn.ensures.again
 
 pub returns-in-NoMemory-clause-keeps : goal.returns-in-NoMemory-clause-keeps
 returns-in-NoMemory-clause-keeps g c =

@@ -1,16 +1,16 @@
 use Rattle.std.proofs.Common.{◌∙◌, ap, subst, sym}
 use Rattle.lmn_heap.specs.Sound.{Valid}
-use Rattle.lmn_items.specs.Chosen.{AllUnmarked}
 use Rattle.lmn_io.specs.Writing.{Writes}
 use Rattle.lmn_folded_printer.specs.Lines.{IsHeapLine}
 use Rattle.lmn_drive.proofs.Lines.{can_print}
 use Rattle.lmn_drive.proofs.driving.write_process.Goals as goal
+use Rattle.lmn_heap.specs.Heap.{Unmarked}
 
 pub print-requires-clause-valid : goal.print-requires-clause-valid
 print-requires-clause-valid g c = subst (λ s. Valid (g.S.LinkStore.heap s)) (sym c.store.ensures.value) (can_print c.requires.run).0
 
 pub print-requires-clause-unmarked : goal.print-requires-clause-unmarked
-print-requires-clause-unmarked g c = subst (λ s. AllUnmarked (g.S.LinkStore.heap s)) (sym c.store.ensures.value) (can_print c.requires.run).1
+print-requires-clause-unmarked g c = subst (λ s. Unmarked (g.S.LinkStore.heap s)) (sym c.store.ensures.value) (can_print c.requires.run).1
 
 pub returns-clause-writes : goal.returns-clause-writes
 returns-clause-writes g c =

@@ -2,10 +2,10 @@ use Rattle.std.proofs.Common.{◌≡◌, List, ℕ, length, take}
 use Rattle.lmn_parser.specs.Syntax.{terms_of}
 use Rattle.lmn_plain.specs.Links.{Link}
 use Rattle.lmn_expand.specs.Glossaries.{Reading}
-use Rattle.lmn_expand.specs.Growing.{Ready, Argument}
+use Rattle.lmn_expand.specs.Growing.{MayGrow, Argument}
 use Rattle.lmn_expand.proofs.WalkLemmas.{ArgumentsSoFar}
 use Rattle.lmn_expand.proofs.walk.arguments.Given as goal
 
 abbrev pub invariant-loop-term : goal.invariant-loop-term
-invariant-loop-term l = (length l.links ≡ l.term-index) × ((r : Reading) (way : List ℕ) (keys : List Link) → Ready r (Argument way) keys l.glossary l.initial.scope
+invariant-loop-term l = (length l.links ≡ l.term-index) × ((r : Reading) (way : List ℕ) (keys : List Link) → MayGrow r (Argument way) keys l.glossary l.initial.scope
     → ArgumentsSoFar r way keys l.pos (terms_of (take l.term-index l.terms)) l.term-index l.links l.scope)

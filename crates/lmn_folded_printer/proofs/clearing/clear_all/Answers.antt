@@ -1,9 +1,9 @@
 use Rattle.std.specs.Option.{option_map}
 use Rattle.lmn_heap.specs.Heap.{IsInPlace}
-use Rattle.lmn_printer.proofs.NumberingLemmas.{place_atom}
 use Rattle.lmn_printer.proofs.StoredLemmas.{here}
 use Rattle.lmn_folded_printer.proofs.ClearedMarks.{others_more, tree_same, place_same, next_place, clearing_first, clearing_next, clearing_last, clearing_fewer}
 use Rattle.lmn_folded_printer.proofs.clearing.clear_all.Goals as goal
+use Rattle.lmn_heap.proofs.Common.{in_place_atom as place_atom}
 
 pub first_printed-next-requires : goal.first_printed-next-requires
 first_printed-next-requires g c = c.requires.tree

@@ -1,9 +1,9 @@
 use Rattle.std.proofs.Common.{◌≡◌}
 use Rattle.std.specs.Option.{option_map}
-use Rattle.lmn_folding.specs.Marks.{own_mark}
 use Rattle.lmn_heap.proofs.Listing.{home_is}
 use Rattle.lmn_folded_printer.proofs.ItemLemmas.{each_mapped, next_some, next_turned, next_none}
 use Rattle.lmn_folded_printer.proofs.items.next_item.Goals as goal
+use Rattle.lmn_heap.specs.Heap.{own_mark}
 
 pub returns-in-Some-clause-list : goal.returns-in-Some-clause-list
 returns-in-Some-clause-list g c =

@@ -1,8 +1,7 @@
 use Rattle.std.proofs.Common.{◌≡◌, Some, IfSome, ◌==◌, length}
 use Rattle.std.specs.Prelude.{filter}
 use Rattle.std.specs.Option.{option_map}
-use Rattle.lmn_folding.specs.Marks.{own_mark}
-use Rattle.lmn_heap.specs.Heap.{atoms_in, home_of}
+use Rattle.lmn_heap.specs.Heap.{atoms_in, home_of, own_mark}
 use Rattle.lmn_heap.specs.Lists.{from}
 use Rattle.lmn_folded_printer.proofs.items.with_mark.Given as goal
 

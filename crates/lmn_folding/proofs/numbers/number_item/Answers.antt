@@ -2,7 +2,7 @@ use Rattle.std.proofs.Common.{rules, ◌<◌, ◌≤◌, ◌-◌, ◌+◌, arith
 use Rattle.lmn_heap.specs.Heap.{arity_of, link_of}
 use Rattle.lmn_printer.proofs.KeptLemmas.{valid_same}
 use Rattle.lmn_printer.proofs.MarkLemmas.{arity_same, atom_same, atom_before, link_same, remarks_none, remarks_more}
-use Rattle.lmn_folding.specs.Marks.{arguments}
+use Rattle.lmn_folding.specs.Marks.{argument_count}
 use Rattle.lmn_folding.proofs.FewTurns.{few_turns}
 use Rattle.lmn_folding.proofs.NumberedWalks.{item_same, arguments_same, term_same, numbers_first, numbers_link, numbers_term, numbers_end, numbers_all, numbers_room, numbers_turns}
 use Rattle.lmn_folding.proofs.WalkLemmas.{arguments_low, term_ends}
@@ -23,7 +23,7 @@ pub term_at-requires-clause-port : goal.term_at-requires-clause-port
 term_at-requires-clause-port g c =
     let t = g.S.LinkStore.heap c.loop-at.store in
     let at = g.S.LinkStore.atom_id c.loop-at.at.atom in
-    let low : c.loop-at.at.port < arguments t at = subst (λ n. c.loop-at.at.port < n) c.arguments.ensures c.if-at-arguments.true in
+    let low : c.loop-at.at.port < argument_count t at = subst (λ n. c.loop-at.at.port < n) c.arguments.ensures c.if-at-arguments.true in
     let most = arguments_low t at in
     omega (arith, low, most)
 
@@ -37,7 +37,7 @@ pub number_port-numbered-requires-clause-port : goal.number_port-numbered-requir
 number_port-numbered-requires-clause-port g c =
     let t = g.S.LinkStore.heap c.loop-at.store in
     let at = g.S.LinkStore.atom_id c.loop-at.at.atom in
-    let low : c.loop-at.at.port < arguments t at = subst (λ n. c.loop-at.at.port < n) c.arguments.ensures c.if-at-arguments.true in
+    let low : c.loop-at.at.port < argument_count t at = subst (λ n. c.loop-at.at.port < n) c.arguments.ensures c.if-at-arguments.true in
     let most = arguments_low t at in
     omega (arith, low, most)
 

@@ -1,8 +1,9 @@
 use Rattle.std.proofs.Common.{ℕ, map, sym, subst}
 use Rattle.lmn_ground.specs.Copies.{Copied, unmarked_all}
 use Rattle.lmn_ground.proofs.CopyLaws.{map_long}
-use Rattle.lmn_ground.proofs.CopiedLaws.{on_err, first_answer, some_first, remains_none, remains_some, made_there, copies_ready, copies_numbered, joined_there, copied_all}
+use Rattle.lmn_ground.proofs.CopiedLaws.{first_answer, some_first, remains_none, remains_some, made_there, copies_ready, copies_numbered, joined_there, copied_all}
 use Rattle.lmn_ground.proofs.copying.copy_marked.Goals as goal
+use Rattle.lmn_base.proofs.Lists.{on_err}
 
 pub returns-in_err-gather-clause-err : goal.returns-in_err-gather-clause-err
 returns-in_err-gather-clause-err g c = on_err _ _ (remains_none (g.S.LinkStore.heap c.args.store.now) (g.S.LinkStore.heap c.gather.new.store) (map g.S.LinkStore.atom_id c.gather.new.atoms) c.in_err-gather.ensures.marked)

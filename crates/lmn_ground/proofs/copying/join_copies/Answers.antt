@@ -1,9 +1,9 @@
 use Rattle.std.proofs.Common.{◌∙◌, map}
 use Rattle.lmn_heap.specs.Heap.{arity_of}
-use Rattle.lmn_ground.specs.Walks.{ports}
 use Rattle.lmn_ground.specs.Follow.{answer}
 use Rattle.lmn_ground.proofs.CopyLaws.{member, ports_copying, ports_numbers, ports_arity, ports_done}
 use Rattle.lmn_ground.proofs.copying.join_copies.Goals as goal
+use Rattle.lmn_parts.specs.Walks.{port_range}
 
 pub join_ports-requires-clause-among : goal.join_ports-requires-clause-among
 join_ports-requires-clause-among g c = member g.S.LinkStore.atom_id c.args.atoms.now _ _ c.at.ensures
@@ -17,9 +17,9 @@ loop-k-preserved g c =
           (g.S.LinkStore.heap c.loop-k.store) (g.S.LinkStore.heap c.join_ports.new.store) (g.S.LinkStore.atom_id c.at.result.now) t.copying (member g.S.LinkStore.atom_id c.args.atoms.now _ _ c.at.ensures)
           (arity_of (g.S.LinkStore.heap c.loop-k.store) (g.S.LinkStore.atom_id c.at.result.now)) e;
       numbers = ports_numbers (g.S.LinkStore.atom_id c.args.root.0, c.args.root.1) (answer (map g.S.LinkStore.atom_id c.args.atoms.now) (map g.S.LinkStore.atom_id c.args.copies.now))
-          (g.S.LinkStore.heap c.loop-k.store) (g.S.LinkStore.heap c.join_ports.new.store) (ports (g.S.LinkStore.atom_id c.at.result.now) 0 (arity_of (g.S.LinkStore.heap c.loop-k.store) (g.S.LinkStore.atom_id c.at.result.now))) _ e t.numbers;
+          (g.S.LinkStore.heap c.loop-k.store) (g.S.LinkStore.heap c.join_ports.new.store) (port_range (g.S.LinkStore.atom_id c.at.result.now) 0 (arity_of (g.S.LinkStore.heap c.loop-k.store) (g.S.LinkStore.atom_id c.at.result.now))) _ e t.numbers;
       arities = λ a. ports_arity (g.S.LinkStore.atom_id c.args.root.0, c.args.root.1) (answer (map g.S.LinkStore.atom_id c.args.atoms.now) (map g.S.LinkStore.atom_id c.args.copies.now))
-          (g.S.LinkStore.heap c.loop-k.store) (g.S.LinkStore.heap c.join_ports.new.store) (ports (g.S.LinkStore.atom_id c.at.result.now) 0 (arity_of (g.S.LinkStore.heap c.loop-k.store) (g.S.LinkStore.atom_id c.at.result.now))) a e ∙ t.arities a;
+          (g.S.LinkStore.heap c.loop-k.store) (g.S.LinkStore.heap c.join_ports.new.store) (port_range (g.S.LinkStore.atom_id c.at.result.now) 0 (arity_of (g.S.LinkStore.heap c.loop-k.store) (g.S.LinkStore.atom_id c.at.result.now))) a e ∙ t.arities a;
       rest = ports_done (g.S.LinkStore.atom_id c.args.root.0, c.args.root.1) (answer (map g.S.LinkStore.atom_id c.args.atoms.now) (map g.S.LinkStore.atom_id c.args.copies.now))
           (g.S.LinkStore.heap c.loop-k.store) (g.S.LinkStore.heap c.join_ports.new.store) g.S.LinkStore.atom_id (g.S.LinkStore.heap c.args.store.now) _ c.args.atoms.now c.loop-k.k c.at.result.now c.at.ensures e (t.arities (g.S.LinkStore.atom_id c.at.result.now)) t.rest;
     }

@@ -2,7 +2,7 @@ use Rattle.lmn_store.specs.Kept.{heap_of}
 use Rattle.std.proofs.Common.{rules, ◌<◌, sym, subst, inr}
 use Rattle.lmn_heap.specs.Heap.{Heap, IsAtom, arity_of}
 use Rattle.std.specs.Prelude.{None}
-use Rattle.lmn_ground.specs.Spread.{IsGround, IsWhole}
+use Rattle.lmn_ground.specs.Spread.{IsGroundIn, IsWhole}
 use Rattle.lmn_ground.proofs.CleanLaws.{clean_same, ground_apart}
 use Rattle.lmn_ground.proofs.tests.equals.Goals as goal
 
@@ -17,7 +17,7 @@ equal-requires-clause-ground g c = subst (λ (h : Heap). IsWhole h (c.args.x.0, 
 
 pub equal-requires-clause-apart : goal.equal-requires-clause-apart
 equal-requires-clause-apart g c = inr (ground_apart (heap_of c.part.new.store) (heap_of c.part-2.new.store) _ _ _ _ c.part.ensures.ground
-    (subst (λ (h : Heap). IsGround h (c.args.y.0, c.args.y.1) c.args.n) c.part-2.ensures.same c.part-2.ensures.ground) (search rules) c.part-2.ensures.same)
+    (subst (λ (h : Heap). IsGroundIn h (c.args.y.0, c.args.y.1) c.args.n) c.part-2.ensures.same c.part-2.ensures.ground) (search rules) c.part-2.ensures.same)
 
 pub returns : goal.returns
 returns g c = clean_same (heap_of c.part-2.new.store) (heap_of c.equal.new.store) c.equal.ensures.same c.part-2.ensures.clean

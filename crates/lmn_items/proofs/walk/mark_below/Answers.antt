@@ -1,5 +1,5 @@
 use Rattle.std.proofs.Common.{rules, ◌<◌, ◌≤◌, refl, arith, sym, ◌∙◌, subst}
-use Rattle.lmn_folding.specs.Marks.{arguments}
+use Rattle.lmn_folding.specs.Marks.{argument_count}
 use Rattle.lmn_folding.proofs.FewTurns.{few_turns}
 use Rattle.lmn_folding.proofs.PrintedWalks.{term_is}
 use Rattle.lmn_folding.proofs.WalkLemmas.{arguments_low, term_ends}
@@ -31,7 +31,7 @@ pub term_at-requires-clause-port : goal.term_at-requires-clause-port
 term_at-requires-clause-port g c =
     let t = g.S.LinkStore.heap c.loop-at.store in
     let at = g.S.LinkStore.atom_id c.loop-at.at.atom in
-    let low : c.loop-at.at.port < arguments t at = subst (λ n. c.loop-at.at.port < n) c.arguments.ensures c.if-at-arguments.true in
+    let low : c.loop-at.at.port < argument_count t at = subst (λ n. c.loop-at.at.port < n) c.arguments.ensures c.if-at-arguments.true in
     let most = arguments_low t at in
     omega (arith, low, most)
 

@@ -1,5 +1,5 @@
 use Rattle.std.proofs.Common.{ℕ, ◌≡◌, ◌-◌, ◌^◌, ◌*◌, ◌<◌, ◌≤◌, List}
-use Rattle.lmn_folding.specs.Marks.{Event, Walk, is_item}
+use Rattle.lmn_folding.specs.Marks.{Event, WalkMeets, is_item}
 use Rattle.lmn_heap.specs.Heap.{IsAtom}
 use Rattle.lmn_heap.specs.Sound.{Valid}
 use Rattle.lmn_items.specs.Chosen.{ChangesOwnMarks}
@@ -16,7 +16,7 @@ invariant-loop-at g l =
       valid : Valid t;
       marks : ChangesOwnMarks s t;
       items : (a : ℕ) → is_item t a ≡ is_item s a;
-      walk : (es : List Event) → Walk s (g.S.LinkStore.atom_id l.fn.item) 0 es → Marking s t at l.at.port l.turns es;
+      walk : (es : List Event) → WalkMeets s (g.S.LinkStore.atom_id l.fn.item) 0 es → Marking s t at l.at.port l.turns es;
       few : l.turns ≤ 2 ^ 49;
       low : l.at.port < 256;
     }

@@ -1,8 +1,8 @@
 use Rattle.std.proofs.Common.{[], take}
 use Rattle.lmn_base.specs.declared.level.Level.{out-Level}
 use Rattle.lmn_loading.specs.Adding.{Fills}
-use Rattle.lmn_numbering.proofs.LevelSteps.{number_of_levels}
 use Rattle.lmn_loading.proofs.filling.+fill.Given as goal
+use Rattle.lmn_base.proofs.Common.{levels_in as number_of_levels}
 
 abbrev pub decreases-fill : goal.decreases-fill
 decreases-fill g l = number_of_levels l.level.now

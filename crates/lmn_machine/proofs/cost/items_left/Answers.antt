@@ -1,6 +1,6 @@
 use Rattle.std.proofs.Common.{drop, refl, subst, arith, ◌∙◌, ◌≡◌, ◌+◌}
-use Rattle.lmn_heap.specs.Sound.{Forest, IsTree, flat, items_in}
-use Rattle.lmn_machine.specs.Costs.{Adds, Takes}
+use Rattle.lmn_heap.specs.Sound.{Forest, IsTree, flat, item_count_in}
+use Rattle.lmn_machine.specs.Costs.{AddsItems, TakesItems}
 use Rattle.lmn_machine.proofs.Calling.{drop_at, drop_none}
 use Rattle.lmn_machine.proofs.Costing.{sum_first, sum_next, sum_last, left_over}
 use Rattle.lmn_machine.proofs.cost.items_left.Goals as goal
@@ -10,8 +10,8 @@ loop-i-init g c = record {
   same = refl;
   added_few = omega arith;
   taken_few = omega arith;
-  adds = λ s a. sum_first (Adds (g.S.LinkStore.heap c.args.store.now) s) c.args.body.now (drop 0 c.args.body.now) 0 refl refl;
-  takes = λ s a. sum_first (Takes (g.S.LinkStore.heap c.args.store.now) s) c.args.body.now (drop 0 c.args.body.now) 0 refl refl;
+  adds = λ s a. sum_first (AddsItems (g.S.LinkStore.heap c.args.store.now) s) c.args.body.now (drop 0 c.args.body.now) 0 refl refl;
+  takes = λ s a. sum_first (TakesItems (g.S.LinkStore.heap c.args.store.now) s) c.args.body.now (drop 0 c.args.body.now) 0 refl refl;
 }
 
 pub loop-i-preserved : goal.loop-i-preserved
@@ -26,10 +26,10 @@ loop-i-preserved g c =
       same = c.taken-all_taken.ensures.same ∙ (c.added.ensures.same ∙ c.loop-i.invariant.same);
       added_few = omega (arith, a);
       taken_few = omega (arith, t, few);
-      adds = λ s g'. sum_next (Adds (g.S.LinkStore.heap c.args.store.now) s) c.args.body.now (drop c.loop-i.i c.args.body.now) (drop (c.loop-i.i + 1) c.args.body.now) c.index-body-i.result c.loop-i.all_added c.added.result _ ahead
-          (subst (λ h. Adds h s c.index-body-i.result c.added.result) c.loop-i.invariant.same (c.added.ensures.adds s g')) (omega (arith, from)) (c.loop-i.invariant.adds s g');
-      takes = λ s g'. sum_next (Takes (g.S.LinkStore.heap c.args.store.now) s) c.args.body.now (drop c.loop-i.i c.args.body.now) (drop (c.loop-i.i + 1) c.args.body.now) c.index-body-i-in-loop-i.result c.loop-i.all_taken c.taken-all_taken.result _ again
-          (subst (λ h. Takes h s c.index-body-i-in-loop-i.result c.taken-all_taken.result) (c.added.ensures.same ∙ c.loop-i.invariant.same) (c.taken-all_taken.ensures.takes s g')) refl (c.loop-i.invariant.takes s g');
+      adds = λ s g'. sum_next (AddsItems (g.S.LinkStore.heap c.args.store.now) s) c.args.body.now (drop c.loop-i.i c.args.body.now) (drop (c.loop-i.i + 1) c.args.body.now) c.index-body-i.result c.loop-i.all_added c.added.result _ ahead
+          (subst (λ h. AddsItems h s c.index-body-i.result c.added.result) c.loop-i.invariant.same (c.added.ensures.adds s g')) (omega (arith, from)) (c.loop-i.invariant.adds s g');
+      takes = λ s g'. sum_next (TakesItems (g.S.LinkStore.heap c.args.store.now) s) c.args.body.now (drop c.loop-i.i c.args.body.now) (drop (c.loop-i.i + 1) c.args.body.now) c.index-body-i-in-loop-i.result c.loop-i.all_taken c.taken-all_taken.result _ again
+          (subst (λ h. TakesItems h s c.index-body-i-in-loop-i.result c.taken-all_taken.result) (c.added.ensures.same ∙ c.loop-i.invariant.same) (c.taken-all_taken.ensures.takes s g')) refl (c.loop-i.invariant.takes s g');
     }
 
 pub returns-clause-left : goal.returns-clause-left
@@ -38,7 +38,7 @@ returns-clause-left g c = λ s n a l.
     let f = c.requires.valid.tree.0 in
     let tree = c.requires.valid.tree.1 in
     let none = drop_none c.args.body.now c.loop-i.i (omega arith) in
-    let adds = sum_last (Adds h s) c.args.body.now (drop c.loop-i.i c.args.body.now) c.loop-i.all_added none (c.loop-i.invariant.adds s a) in
-    let takes = sum_last (Takes h s) c.args.body.now (drop c.loop-i.i c.args.body.now) c.loop-i.all_taken none (c.loop-i.invariant.takes s a) in
-    let count = subst (λ k. (e : Forest) → IsTree k e → c.items.result + 1 ≡ items_in k (flat e)) c.loop-i.invariant.same c.items.ensures f tree in
+    let adds = sum_last (AddsItems h s) c.args.body.now (drop c.loop-i.i c.args.body.now) c.loop-i.all_added none (c.loop-i.invariant.adds s a) in
+    let takes = sum_last (TakesItems h s) c.args.body.now (drop c.loop-i.i c.args.body.now) c.loop-i.all_taken none (c.loop-i.invariant.takes s a) in
+    let count = subst (λ k. (e : Forest) → IsTree k e → c.items.result + 1 ≡ item_count_in k (flat e)) c.loop-i.invariant.same c.items.ensures f tree in
     c.capped.ensures n (left_over h s c.args.body.now n c.items.result c.loop-i.all_added c.loop-i.all_taken f tree count adds takes l))

@@ -2,15 +2,16 @@ use Rattle.std.proofs.Common.{rules, ◌≡◌, ◌<◌, ◌+◌, length, drop, 
 use Rattle.std.specs.Prelude.{true, false}
 use Rattle.std.specs.Prelude.{IfSome}
 use Rattle.std.proofs.lemmas.Option.{slice_get_within}
-use Rattle.lmn_heap.specs.Heap.{functor_of, home_of, parent_of}
+use Rattle.lmn_heap.specs.Heap.{functor_of, home_of, parent_of, Unmarked}
 use Rattle.lmn_instr.specs.declared.instr.Instr.TheVariants.{FindAtom, AnyMem}
 use Rattle.lmn_heap.specs.Sound.{Valid}
-use Rattle.lmn_machine.specs.Searching.{Unmarked, AreHeld, InOrder, Searched, Stepped}
+use Rattle.lmn_machine.specs.Searching.{AreHeldWhole, HeadInOrder, Searched, Stepped}
 use Rattle.lmn_registers.specs.declared.stack.TheConstants.{ROOM}
 use Rattle.lmn_machine.proofs.Stepping.{Passed, extends_on, passed_one, failed, passed_all, passed_search}
-use Rattle.lmn_machine.proofs.Choosing.{drop_get, AtomsLeft, MembranesLeft, with_atom, with_membrane, extends_atom, extends_membrane, atoms_first, atoms_next, atoms_none, atoms_found, membranes_first, membranes_next, membranes_none, membranes_found, held_atom, held_membrane}
-use Rattle.lmn_machine.proofs.Calling.{read_at, drop_at, drop_none, length_one, no_choice, if_both, if_same, none_is, one_more, one_membrane_more, taken_back, having_atoms, having_membranes, next_same, next_mem_same, atom_ahead, membrane_ahead}
+use Rattle.lmn_machine.proofs.Choosing.{AtomsLeft, MembranesLeft, with_atom, with_membrane, extends_atom, extends_membrane, atoms_first, atoms_next, atoms_none, atoms_found, membranes_first, membranes_next, membranes_none, membranes_found, held_atom, held_membrane}
+use Rattle.lmn_machine.proofs.Calling.{read_at, drop_at, drop_none, no_choice, if_both, if_same, none_is, one_more, one_membrane_more, taken_back, having_atoms, having_membranes, next_same, next_mem_same, atom_ahead, membrane_ahead}
 use Rattle.lmn_machine.proofs.search.+search.Goals as goal
+use Rattle.lmn_base.proofs.Lists.{drop_get, length_one}
 
 pub search-search_atom-requires : goal.search-search_atom-requires
 search-search_atom-requires g t c κs within =
@@ -29,7 +30,7 @@ search-search_atom-requires g t c κs within =
               (
                 subst (λ h. Unmarked h) (sym c.loop-i.invariant.same) c.requires.unmarked,
                 (
-                  subst (λ h. AreHeld g.S.LinkStore.atom_id g.S.LinkStore.mem_id h c.loop-i.set) (sym c.loop-i.invariant.same) c.loop-i.invariant.passed.held,
+                  subst (λ h. AreHeldWhole g.S.LinkStore.atom_id g.S.LinkStore.mem_id h c.loop-i.set) (sym c.loop-i.invariant.same) c.loop-i.invariant.passed.held,
                   ((c.in-FindAtom.membrane, here ∙ ap (λ x. Some (FindAtom x c.in-FindAtom.membrane c.in-FindAtom.functor)) ahead.0.0, c.at-place.ensures), c.loop-i.invariant.passed.order),
                 ),
               ),
@@ -62,7 +63,7 @@ search-search_membrane-requires g t c κs within =
               (
                 subst (λ h. Unmarked h) (sym c.loop-i.invariant.same) c.requires.unmarked,
                 (
-                  subst (λ h. AreHeld g.S.LinkStore.atom_id g.S.LinkStore.mem_id h c.loop-i.set) (sym c.loop-i.invariant.same) c.loop-i.invariant.passed.held,
+                  subst (λ h. AreHeldWhole g.S.LinkStore.atom_id g.S.LinkStore.mem_id h c.loop-i.set) (sym c.loop-i.invariant.same) c.loop-i.invariant.passed.held,
                   ((c.in-AnyMem.inside, here ∙ ap (λ x. Some (AnyMem x c.in-AnyMem.inside)) ahead.0.0, c.at-place-in-AnyMem.ensures), c.loop-i.invariant.passed.order),
                 ),
               ),
@@ -126,8 +127,8 @@ search_atom-search-requires g t c κs within =
     let code = drop_get c.args.at c.args.code.now (FindAtom (length c.args.set.now.atoms) c.requires.at.0 c.args.functor) c.requires.at.1 in
     let ahead = atom_ahead (length c.args.set.now.atoms) (length c.args.set.now.membranes) (length c.args.set.now.parts) (length c.args.set.now.integers) (length c.args.set.now.atoms) c.requires.at.0 c.args.functor (drop c.args.at c.args.code.now) (drop (c.args.at + 1) c.args.code.now) code c.requires.order in
     let below : c.args.at < length c.args.code.now = slice_get_within c.args.code.now c.args.at (FindAtom (length c.args.set.now.atoms) c.requires.at.0 c.args.functor) c.requires.at.1 in
-    let held = subst (λ k. AreHeld g.S.LinkStore.atom_id g.S.LinkStore.mem_id (g.S.LinkStore.heap c.args.store.now) k) (sym more) (held_atom g.S.LinkStore.atom_id g.S.LinkStore.mem_id (g.S.LinkStore.heap c.args.store.now) c.args.set.now c.in-Some.atom c.args.functor ahead.0.3 c.requires.held there.0) in
-    let next = subst (λ n. InOrder n (length c.args.set.now.membranes) (length c.args.set.now.parts) (length c.args.set.now.integers) (drop (c.args.at + 1) c.args.code.now)) (sym (length_one c.args.set.now.atoms c.in-Some.atom)) ahead.1 in (
+    let held = subst (λ k. AreHeldWhole g.S.LinkStore.atom_id g.S.LinkStore.mem_id (g.S.LinkStore.heap c.args.store.now) k) (sym more) (held_atom g.S.LinkStore.atom_id g.S.LinkStore.mem_id (g.S.LinkStore.heap c.args.store.now) c.args.set.now c.in-Some.atom c.args.functor ahead.0.3 c.requires.held there.0) in
+    let next = subst (λ n. HeadInOrder n (length c.args.set.now.membranes) (length c.args.set.now.parts) (length c.args.set.now.integers) (drop (c.args.at + 1) c.args.code.now)) (sym (length_one c.args.set.now.atoms c.in-Some.atom)) ahead.1 in (
       search rules,
       (
         search rules,
@@ -140,10 +141,10 @@ search_atom-search-requires g t c κs within =
               (
                 subst (λ h. Unmarked h) (sym c.loop-candidate.invariant.same) c.requires.unmarked,
                 (
-                  subst (λ h. AreHeld g.S.LinkStore.atom_id g.S.LinkStore.mem_id h (having_atoms c.loop-candidate.set c.push.new.self)) (sym c.loop-candidate.invariant.same) held,
+                  subst (λ h. AreHeldWhole g.S.LinkStore.atom_id g.S.LinkStore.mem_id h (having_atoms c.loop-candidate.set c.push.new.self)) (sym c.loop-candidate.invariant.same) held,
                   (
                     omega arith,
-                    subst (λ k. InOrder (length k.atoms) (length k.membranes) (length k.parts) (length k.integers) (drop (c.args.at + 1) c.args.code.now)) (sym more) next,
+                    subst (λ k. HeadInOrder (length k.atoms) (length k.membranes) (length k.parts) (length k.integers) (drop (c.args.at + 1) c.args.code.now)) (sym more) next,
                   ),
                 ),
               ),
@@ -212,8 +213,8 @@ search_membrane-search-requires g t c κs within =
     let code = drop_get c.args.at c.args.code.now (AnyMem (length c.args.set.now.membranes) c.requires.at.0) c.requires.at.1 in
     let ahead = membrane_ahead (length c.args.set.now.atoms) (length c.args.set.now.membranes) (length c.args.set.now.parts) (length c.args.set.now.integers) (length c.args.set.now.membranes) c.requires.at.0 (drop c.args.at c.args.code.now) (drop (c.args.at + 1) c.args.code.now) code c.requires.order in
     let below : c.args.at < length c.args.code.now = slice_get_within c.args.code.now c.args.at (AnyMem (length c.args.set.now.membranes) c.requires.at.0) c.requires.at.1 in
-    let held = subst (λ k. AreHeld g.S.LinkStore.atom_id g.S.LinkStore.mem_id (g.S.LinkStore.heap c.args.store.now) k) (sym more) (held_membrane g.S.LinkStore.atom_id g.S.LinkStore.mem_id (g.S.LinkStore.heap c.args.store.now) c.args.set.now c.in-Some.membrane (g.S.LinkStore.mem_id c.args.place) c.requires.held there) in
-    let next = subst (λ n. InOrder (length c.args.set.now.atoms) n (length c.args.set.now.parts) (length c.args.set.now.integers) (drop (c.args.at + 1) c.args.code.now)) (sym (length_one c.args.set.now.membranes c.in-Some.membrane)) ahead.1 in (
+    let held = subst (λ k. AreHeldWhole g.S.LinkStore.atom_id g.S.LinkStore.mem_id (g.S.LinkStore.heap c.args.store.now) k) (sym more) (held_membrane g.S.LinkStore.atom_id g.S.LinkStore.mem_id (g.S.LinkStore.heap c.args.store.now) c.args.set.now c.in-Some.membrane (g.S.LinkStore.mem_id c.args.place) c.requires.held there) in
+    let next = subst (λ n. HeadInOrder (length c.args.set.now.atoms) n (length c.args.set.now.parts) (length c.args.set.now.integers) (drop (c.args.at + 1) c.args.code.now)) (sym (length_one c.args.set.now.membranes c.in-Some.membrane)) ahead.1 in (
       search rules,
       (
         search rules,
@@ -226,10 +227,10 @@ search_membrane-search-requires g t c κs within =
               (
                 subst (λ h. Unmarked h) (sym c.loop-candidate.invariant.same) c.requires.unmarked,
                 (
-                  subst (λ h. AreHeld g.S.LinkStore.atom_id g.S.LinkStore.mem_id h (having_membranes c.loop-candidate.set c.push.new.self)) (sym c.loop-candidate.invariant.same) held,
+                  subst (λ h. AreHeldWhole g.S.LinkStore.atom_id g.S.LinkStore.mem_id h (having_membranes c.loop-candidate.set c.push.new.self)) (sym c.loop-candidate.invariant.same) held,
                   (
                     omega arith,
-                    subst (λ k. InOrder (length k.atoms) (length k.membranes) (length k.parts) (length k.integers) (drop (c.args.at + 1) c.args.code.now)) (sym more) next,
+                    subst (λ k. HeadInOrder (length k.atoms) (length k.membranes) (length k.parts) (length k.integers) (drop (c.args.at + 1) c.args.code.now)) (sym more) next,
                   ),
                 ),
               ),

@@ -1,9 +1,9 @@
 use Rattle.std.proofs.Common.{◌+◌, drop, map}
 use Rattle.lmn_heap.specs.Heap.{arity_of}
 use Rattle.lmn_machine.specs.Searching.{own_marked}
-use Rattle.lmn_machine.proofs.Choosing.{drop_get}
 use Rattle.lmn_machine.proofs.Owning.{own_next, there_marked}
 use Rattle.lmn_machine.proofs.whole.mark_all.Goals as goal
+use Rattle.lmn_base.proofs.Lists.{drop_get}
 
 pub loop-i-preserved : goal.loop-i-preserved
 loop-i-preserved g c = record {

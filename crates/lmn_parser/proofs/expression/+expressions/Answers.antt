@@ -1,6 +1,6 @@
 use Rattle.std.proofs.Common.{rules, arith, ◌∷◌, refl, ◌∙◌}
 use Rattle.lmn_grammar.specs.Grammar.{Tok, Many, Ref, SumPart, ◌·◌, fact, product}
-use Rattle.lmn_grammar.specs.Factored.{plus, times}
+use Rattle.lmn_grammar.specs.Factored.{plus, product_sign}
 use Rattle.lmn_lexer.specs.declared.token.Kind.TheVariants.{RParen}
 use Rattle.lmn_grammar.proofs.Terms.{fact_int, fact_context, times_more, times_done, plus_more, plus_done, sum_ref, product_parts, ends_product}
 use Rattle.lmn_parser.specs.Parsing.{kinds_of}
@@ -29,16 +29,16 @@ pub factor-returns-clause-reads : goal.factor-returns-clause-reads
 factor-returns-clause-reads t c κ = fact_round (kinds_of c.args.tokens.now) c.args.at κ (search rules) (search rules) ∙ c.in_ok-start.ensures.reads (Ref SumPart ∷ Tok RParen ∷ κ) ∙ c.in_ok-inner.ensures.reads (Tok RParen ∷ κ) (refl, refl, refl, refl, refl) ∙ c.in_ok-after.ensures.reads κ
 
 pub product-returns-in_err-first-clause-reads : goal.product-returns-in_err-first-clause-reads
-product-returns-in_err-first-clause-reads t c κ h = refused _ _ _ _ κ _ _ _ (product_parts (kinds_of c.args.tokens.now) c.args.at κ) (c.in_err-first.ensures.reads (Many (times · fact) ∷ κ)) c.from_residual.ensures.1
+product-returns-in_err-first-clause-reads t c κ h = refused _ _ _ _ κ _ _ _ (product_parts (kinds_of c.args.tokens.now) c.args.at κ) (c.in_err-first.ensures.reads (Many (product_sign · fact) ∷ κ)) c.from_residual.ensures.1
 
 pub product-more-init : goal.product-more-init
-product-more-init t c = record { reads = λ κ h. product_parts (kinds_of c.args.tokens.now) c.args.at κ ∙ c.in_ok-first.ensures.reads (Many (times · fact) ∷ κ); forth = c.in_ok-first.ensures.forth; tree = one_factor c.in_ok-first.ensures.tree }
+product-more-init t c = record { reads = λ κ h. product_parts (kinds_of c.args.tokens.now) c.args.at κ ∙ c.in_ok-first.ensures.reads (Many (product_sign · fact) ∷ κ); forth = c.in_ok-first.ensures.forth; tree = one_factor c.in_ok-first.ensures.tree }
 
 pub product-returns-in_err-right-clause-reads : goal.product-returns-in_err-right-clause-reads
-product-returns-in_err-right-clause-reads t c κ h = refused _ _ _ _ κ _ _ _ (c.more.invariant.reads κ h ∙ times_more (kinds_of c.args.tokens.now) c.more.end κ h (search rules)) (c.in_err-right.ensures.reads (Many (times · fact) ∷ κ)) c.from_residual-in_err-right.ensures.1
+product-returns-in_err-right-clause-reads t c κ h = refused _ _ _ _ κ _ _ _ (c.more.invariant.reads κ h ∙ times_more (kinds_of c.args.tokens.now) c.more.end κ h (search rules)) (c.in_err-right.ensures.reads (Many (product_sign · fact) ∷ κ)) c.from_residual-in_err-right.ensures.1
 
 pub product-more-preserved : goal.product-more-preserved
-product-more-preserved t c = record { reads = λ κ h. c.more.invariant.reads κ h ∙ times_more (kinds_of c.args.tokens.now) c.more.end κ h (search rules) ∙ c.in_ok-right.ensures.reads (Many (times · fact) ∷ κ); forth = (omega (arith, c.more.invariant.forth.0, c.in_ok-right.ensures.forth.0), c.in_ok-right.ensures.forth.1); tree = product_times _ _ _ _ _ _ _ _ c.more.invariant.tree c.in-Some.ensures.operator c.in_ok-right.ensures.tree c.in_ok-left.ensures }
+product-more-preserved t c = record { reads = λ κ h. c.more.invariant.reads κ h ∙ times_more (kinds_of c.args.tokens.now) c.more.end κ h (search rules) ∙ c.in_ok-right.ensures.reads (Many (product_sign · fact) ∷ κ); forth = (omega (arith, c.more.invariant.forth.0, c.in_ok-right.ensures.forth.0), c.in_ok-right.ensures.forth.1); tree = product_times _ _ _ _ _ _ _ _ c.more.invariant.tree c.in-Some.ensures.operator c.in_ok-right.ensures.tree c.in_ok-left.ensures }
 
 pub product-returns-clause-reads : goal.product-returns-clause-reads
 product-returns-clause-reads t c κ h = c.more.invariant.reads κ h ∙ times_done (kinds_of c.args.tokens.now) c.more.end κ (search rules)

@@ -1,7 +1,7 @@
 use Rattle.std.proofs.Common.{◌≡◌, ◌+◌, ◌-◌, ◌*◌, ◌≤◌, ◌<◌, length}
 use Rattle.std.proofs.Common.{[], ◌∷◌}
 use Rattle.lmn_grammar.specs.Grammar.{Ref, Many, ◌·◌, SumPart, fact, product}
-use Rattle.lmn_grammar.specs.Factored.{plus, times}
+use Rattle.lmn_grammar.specs.Factored.{plus, product_sign}
 use Rattle.lmn_grammar.specs.Reading.{Owed, stop_at, EndsSum, EndsProduct}
 use Rattle.lmn_parser.specs.Parsing.{kinds_of}
 use Rattle.lmn_parser.specs.Outcomes.{reach}
@@ -33,7 +33,7 @@ decreases-product-more l = length l.tokens - l.end
 
 abbrev pub invariant-product-more : goal.invariant-product-more
 invariant-product-more l = record {
-  reads : (κ : Owed) → EndsProduct κ → stop_at (kinds_of l.tokens) l.at ((product ∷ κ) ∷ []) ≡ stop_at (kinds_of l.tokens) l.end ((Many (times · fact) ∷ κ) ∷ []);
+  reads : (κ : Owed) → EndsProduct κ → stop_at (kinds_of l.tokens) l.at ((product ∷ κ) ∷ []) ≡ stop_at (kinds_of l.tokens) l.end ((Many (product_sign · fact) ∷ κ) ∷ []);
   forth : (l.at < l.end) × (l.end ≤ reach (kinds_of l.tokens));
   tree : IsProduct l.tokens (expr_of l.left) l.at l.end;
 }

@@ -6,7 +6,7 @@ use Rattle.lmn_lexer.specs.declared.token.Kind.TheVariants as kind
 use Rattle.lmn_parser.specs.Parsing.{kinds_of}
 use Rattle.lmn_parser.specs.Outcomes.{reach}
 use Rattle.lmn_parser.specs.Syntax.{conditions_of}
-use Rattle.lmn_parser.specs.Trees.{IsGuard}
+use Rattle.lmn_parser.specs.Trees.{IsWrittenGuard}
 use Rattle.lmn_parser.proofs.guard.guard.Given as goal
 
 abbrev pub decreases-more : goal.decreases-more
@@ -16,5 +16,5 @@ abbrev pub invariant-more : goal.invariant-more
 invariant-more l = record {
   reads : (κ : Owed) → stop_at (kinds_of l.tokens) l.at ((guard_bar ∷ κ) ∷ []) ≡ stop_at (kinds_of l.tokens) l.end ((more_of cond ∷ Tok kind.Bar ∷ κ) ∷ []);
   forth : (l.at < l.end) × (l.end ≤ reach (kinds_of l.tokens));
-  tree : IsGuard l.tokens (conditions_of l.conditions) l.at l.end;
+  tree : IsWrittenGuard l.tokens (conditions_of l.conditions) l.at l.end;
 }

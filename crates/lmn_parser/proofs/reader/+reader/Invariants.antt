@@ -4,7 +4,7 @@ use Rattle.lmn_grammar.specs.Factored.{more_clauses}
 use Rattle.lmn_grammar.specs.Reading.{Owed, stop_at, NoMore, EndsList, OnlyEnds}
 use Rattle.lmn_parser.specs.Parsing.{kinds_of}
 use Rattle.lmn_parser.specs.Outcomes.{reach}
-use Rattle.lmn_parser.specs.Syntax.{terms_of, items_of}
+use Rattle.lmn_parser.specs.Syntax.{terms_of, items_of_nodes}
 use Rattle.lmn_parser.specs.Trees.{IsTerms, IsList}
 use Rattle.lmn_parser.proofs.BuiltClauses.{Continues}
 use Rattle.lmn_parser.proofs.reader.+reader.Given as goal
@@ -71,7 +71,7 @@ abbrev pub invariant-list-more : goal.invariant-list-more
 invariant-list-more l = record {
   reads : (κ : Owed) → EndsList κ → stop_at (kinds_of l.tokens) l.at ((list ∷ κ) ∷ []) ≡ stop_at (kinds_of l.tokens) l.end ((more_of item ∷ κ) ∷ []);
   forth : (l.at < l.end) × (l.end ≤ reach (kinds_of l.tokens));
-  tree : IsList l.tokens (items_of l.items) l.at l.end;
+  tree : IsList l.tokens (items_of_nodes l.items) l.at l.end;
 }
 
 abbrev pub decreases-clauses-more : goal.decreases-clauses-more

@@ -2,9 +2,10 @@ use Rattle.std.specs.Option.{option_map}
 use Rattle.lmn_heap.specs.Heap.{IsInPlace}
 use Rattle.lmn_printer.proofs.ClearLemmas.{clearing_first, clearing_next, clearing_last}
 use Rattle.lmn_printer.proofs.MarkLemmas.{remarks_more, tree_same}
-use Rattle.lmn_printer.proofs.NumberingLemmas.{next_place, place_before, place_atom, numbers_fewer}
+use Rattle.lmn_printer.proofs.NumberingLemmas.{next_place, place_before, numbers_fewer}
 use Rattle.lmn_printer.proofs.StoredLemmas.{here}
 use Rattle.lmn_printer.proofs.numbers.clear_numbers.Goals as goal
+use Rattle.lmn_heap.proofs.Common.{in_place_atom as place_atom}
 
 pub first_printed-next-requires : goal.first_printed-next-requires
 first_printed-next-requires g c = c.requires.tree

@@ -1,9 +1,10 @@
 use Rattle.std.specs.Option.{option_map}
 use Rattle.lmn_heap.specs.Heap.{IsInPlace}
 use Rattle.lmn_printer.proofs.MarkLemmas.{atom_same, remarks_none, remarks_more, tree_same}
-use Rattle.lmn_printer.proofs.NumberingLemmas.{numbering_first, numbering_more, numbering_room, numbering_last, numbering_at, numbering_none, next_place, place_before, place_atom, numbers_fewer}
+use Rattle.lmn_printer.proofs.NumberingLemmas.{numbering_first, numbering_more, numbering_room, numbering_last, numbering_at, numbering_none, next_place, place_before, numbers_fewer}
 use Rattle.lmn_printer.proofs.StoredLemmas.{here}
 use Rattle.lmn_printer.proofs.numbers.number_links.Goals as goal
+use Rattle.lmn_heap.proofs.Common.{in_place_atom as place_atom}
 
 pub first_printed-next-requires : goal.first_printed-next-requires
 first_printed-next-requires g c = c.requires.tree

@@ -1,7 +1,8 @@
 use Rattle.std.specs.Option.{option_map}
 use Rattle.lmn_heap.specs.Heap.{home_of}
-use Rattle.lmn_printer.proofs.OrderLemmas.{next_here, next_further, next_none, some_of}
+use Rattle.lmn_printer.proofs.OrderLemmas.{next_here, next_further, next_none}
 use Rattle.lmn_printer.proofs.order.next_printed.Goals as goal
+use Rattle.lmn_base.proofs.Lists.{some_is as some_of}
 
 pub returns-in-Some-clause-list : goal.returns-in-Some-clause-list
 returns-in-Some-clause-list g c = λ f t.

@@ -1,5 +1,5 @@
 use Rattle.lmn_io.proofs.WritingLemmas.{writes_as}
-use Rattle.lmn_printer.specs.Writing.{IsLineOf, IsMarkedLineOf}
+use Rattle.lmn_printer.specs.Writing.{IsPlainHeapLine, IsMarkedLineOf}
 use Rattle.lmn_printer.proofs.KeptLemmas.{valid_same, line_same, kept_heap}
 use Rattle.lmn_printer.proofs.MarkLemmas.{remarks_more}
 use Rattle.lmn_printer.proofs.printing.print.Goals as goal
@@ -16,7 +16,7 @@ pub returns-clause-writes : goal.returns-clause-writes
 returns-clause-writes g c =
     let s = g.S.LinkStore.heap c.args.store.now in
     let t = g.S.LinkStore.heap c.number_links.new.store in
-    writes_as (IsMarkedLineOf c.args.names.now c.args.plain.now.rules t) (IsLineOf c.args.names.now c.args.plain.now.rules s) _ _ _ _ _
+    writes_as (IsMarkedLineOf c.args.names.now c.args.plain.now.rules t) (IsPlainHeapLine c.args.names.now c.args.plain.now.rules s) _ _ _ _ _
     (line_same c.args.names.now c.args.plain.now.rules s t c.number_links.ensures.marks (c.number_links.ensures.numbers c.requires.unmarked)) c.write_line-answer.ensures
 
 pub returns-clause-kept : goal.returns-clause-kept

@@ -3,8 +3,9 @@ use Rattle.std.specs.Prelude.{codes}
 use Rattle.lmn_io.specs.Gathering.{output}
 use Rattle.lmn_printer.specs.Parts.{level_in, rule_text}
 use Rattle.lmn_printer.proofs.RowLemmas.{InRow}
-use Rattle.lmn_printer.proofs.RuleLemmas.{levels_behind, levels_in, membrane_text}
+use Rattle.lmn_printer.proofs.RuleLemmas.{levels_behind, membrane_text}
 use Rattle.lmn_printer.proofs.rules.+rules.Given as goal
+use Rattle.lmn_base.proofs.Common.{levels_in}
 
 abbrev pub decreases-add_level : goal.decreases-add_level
 decreases-add_level g l = levels_behind l.first l.table.now + levels_in l.level.now

@@ -1,7 +1,7 @@
 use Rattle.std.proofs.Common.{ℕ, ap, arith, ◌∙◌, ◌-◌, false, map}
 use Rattle.std.proofs.lemmas.Grind.{common_steps}
 use Rattle.std.specs.Prelude.{codes}
-use Rattle.lmn_heap.specs.Solid.{numbered}
+use Rattle.lmn_heap.specs.Solid.{links_from}
 use Rattle.lmn_io.proofs.TakingLemmas.{adds_as, adds_more}
 use Rattle.lmn_plain.specs.Words.{link_name}
 use Rattle.lmn_printer.specs.Rows.{in_row}
@@ -22,5 +22,5 @@ returns g c =
     let name = number_by_mark (g.S.LinkStore.heap c.args.store.now) in
     let a = g.S.LinkStore.atom_id c.args.atom in
     adds_as (ports_text name a c.args.arity (grind (arith, common_steps, c.if-arity-eq0.false)))
-    (adds_more (codes "(") _ _ _ _ c.add.ensures (adds_more (in_row (codes ", ") false (map link_name (numbered name a 0 c.args.arity))) (codes ")") _ _ _
+    (adds_more (codes "(") _ _ _ _ c.add.ensures (adds_more (in_row (codes ", ") false (map link_name (links_from name a 0 c.args.arity))) (codes ")") _ _ _
     (ports_end (codes ", ") c.loop-port.any link_name name a c.loop-port.port c.args.arity _ _ _ c.loop-port-test.false c.loop-port.invariant) c.add-2.ensures))

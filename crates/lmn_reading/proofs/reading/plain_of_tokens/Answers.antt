@@ -1,5 +1,5 @@
 use Rattle.lmn_parser.proofs.OneReading.{cut_ends}
-use Rattle.lmn_parser.specs.Syntax.{tree_of}
+use Rattle.lmn_parser.specs.Syntax.{clauses_of_tree}
 use Rattle.lmn_reading.proofs.Readings.{names_with_each, none_by_tokens, plain_read, tokens_refused}
 use Rattle.lmn_reading.proofs.reading.plain_of_tokens.Goals as goal
 
@@ -14,10 +14,10 @@ returns-in-Err-clause-reads c = tokens_refused c.args.text.now _ c.args.tokens.n
 
 pub returns-in-Ok-clause-names : goal.returns-in-Ok-clause-names
 returns-in-Ok-clause-names c =
-    names_with_each c.args.text.now c.args.names.now c.flatten.new.names c.args.tokens.now (tree_of c.in-Ok.tree) c.flatten.result
+    names_with_each c.args.text.now c.args.names.now c.flatten.new.names c.args.tokens.now (clauses_of_tree c.in-Ok.tree) c.flatten.result
     (record { cut = c.requires.cut; is_tree = c.in-Ok.ensures.tree }) c.flatten.ensures.names
 
 pub returns-in-Ok-clause-reads : goal.returns-in-Ok-clause-reads
 returns-in-Ok-clause-reads c =
-    plain_read c.args.text.now c.flatten.new.names c.args.tokens.now (tree_of c.in-Ok.tree) c.flatten.result c.requires.right
+    plain_read c.args.text.now c.flatten.new.names c.args.tokens.now (clauses_of_tree c.in-Ok.tree) c.flatten.result c.requires.right
     (record { cut = c.requires.cut; is_tree = c.in-Ok.ensures.tree }) c.in-Ok.ensures.within c.flatten.ensures.plain

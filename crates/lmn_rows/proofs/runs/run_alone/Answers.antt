@@ -2,7 +2,7 @@ use Rattle.std.proofs.Common.{◌≡◌, subst, sym}
 use Rattle.std.proofs.lemmas.Result.{IfOk-at_ok}
 use Rattle.lmn_heap.specs.Heap.{lone_root}
 use Rattle.lmn_loading.specs.Loaded.{IsEmpty}
-use Rattle.lmn_schedule.specs.Held.{CanBeLoaded, CanRun}
+use Rattle.lmn_schedule.specs.Held.{CanBeLoaded, EngineCanTurn}
 use Rattle.lmn_store.specs.Kept.{heap_of}
 use Rattle.lmn_rows.proofs.runs.run_alone.Goals as goal
 
@@ -13,4 +13,4 @@ pub load-requires-clause-store : goal.load-requires-clause-store
 load-requires-clause-store g c = subst IsEmpty (sym (IfOk-at_ok (λ s. heap_of s ≡ lone_root) c.expect-store.ensures c.new.ensures.heap)) c.loading_settles.ensures.empty.0
 
 pub turns-answer-requires-clause-run : goal.turns-answer-requires-clause-run
-turns-answer-requires-clause-run g c = subst (λ p. CanRun (heap_of c.in_ok-engine.engine.machine.store) p.rules c.in_ok-engine.engine.codes c.in_ok-engine.engine.size) (sym c.in_ok-engine.ensures.keeps.0) c.in_ok-engine.ensures.run
+turns-answer-requires-clause-run g c = subst (λ p. EngineCanTurn (heap_of c.in_ok-engine.engine.machine.store) p.rules c.in_ok-engine.engine.codes c.in_ok-engine.engine.size) (sym c.in_ok-engine.ensures.keeps.0) c.in_ok-engine.ensures.run

@@ -1,8 +1,9 @@
 use Rattle.std.proofs.Common.{◌≡◌, length, refl, sym, subst, ap, ◌∙◌, arith}
 use Rattle.lmn_heap.specs.Heap.{IsMem, rules_in}
 use Rattle.lmn_strategy.specs.Choosing.{CanTurn, CodeSucceeds, HasFound}
-use Rattle.lmn_strategy.proofs.Chosen.{found_succeeds, get_in, none_of_more, none_of_all, rule_below, rule_read}
+use Rattle.lmn_strategy.proofs.Chosen.{found_succeeds, none_of_more, none_of_all, rule_below, rule_read}
 use Rattle.lmn_strategy.proofs.strategy.first_rule.Goals as goal
+use Rattle.lmn_heap.proofs.Common.{in_at as get_in}
 
 pub rules-rules-requires : goal.rules-rules-requires
 rules-rules-requires g c = subst (λ s. IsMem (g.S.LinkStore.heap s) (g.S.LinkStore.mem_id c.args.membrane)) (sym c.store.ensures) c.requires.membrane

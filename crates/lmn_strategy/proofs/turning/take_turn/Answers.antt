@@ -1,6 +1,6 @@
 use Rattle.std.proofs.Common.{subst, sym, refl, length}
 use Rattle.std.proofs.lemmas.Option.{slice_get_within, slice_get_read}
-use Rattle.lmn_strategy.specs.Turns.{CanFire, Fires}
+use Rattle.lmn_strategy.specs.Turns.{CanFire, AnswersMatch}
 use Rattle.lmn_strategy.proofs.Firing.{can_fire, turned, can_again}
 use Rattle.lmn_strategy.proofs.turning.take_turn.Goals as goal
 
@@ -27,7 +27,7 @@ returns-in-Some-clause-turned g c = λ f t.
     let is = slice_get_read codes (length codes) n code refl (slice_get_within codes n found.code found.is) c.index-codes-choice.is in
     turned g.S.LinkStore.atom_id g.S.LinkStore.mem_id h codes (g.S.LinkStore.mem_id c.in-Some.choice.membrane) c.in-Some.choice.place n c.args.size c.search.new.machine.set found code is
     f c.args.from (c.in-Some.ensures.first f t) c.fire.result (g.S.LinkStore.heap c.fire.new.machine.store)
-    (subst (λ x. Fires g.S.LinkStore.atom_id g.S.LinkStore.mem_id x c.search.new.machine.set code c.args.size c.fire.result (g.S.LinkStore.heap c.fire.new.machine.store)) c.search.ensures.same c.fire.ensures.fires))
+    (subst (λ x. AnswersMatch g.S.LinkStore.atom_id g.S.LinkStore.mem_id x c.search.new.machine.set code c.args.size c.fire.result (g.S.LinkStore.heap c.fire.new.machine.store)) c.search.ensures.same c.fire.ensures.fires))
 
 pub returns-in-Some-clause-again : goal.returns-in-Some-clause-again
 returns-in-Some-clause-again g c =
@@ -39,7 +39,7 @@ returns-in-Some-clause-again g c =
     let is = slice_get_read codes (length codes) n code refl (slice_get_within codes n found.code found.is) c.index-codes-choice.is in
     can_again g.S.LinkStore.atom_id g.S.LinkStore.mem_id h codes (g.S.LinkStore.mem_id c.in-Some.choice.membrane) c.in-Some.choice.place n c.args.size c.search.new.machine.set found code is
     c.requires.codes c.requires.turn c.fire.result (g.S.LinkStore.heap c.fire.new.machine.store)
-    (subst (λ x. Fires g.S.LinkStore.atom_id g.S.LinkStore.mem_id x c.search.new.machine.set code c.args.size c.fire.result (g.S.LinkStore.heap c.fire.new.machine.store)) c.search.ensures.same c.fire.ensures.fires)
+    (subst (λ x. AnswersMatch g.S.LinkStore.atom_id g.S.LinkStore.mem_id x c.search.new.machine.set code c.args.size c.fire.result (g.S.LinkStore.heap c.fire.new.machine.store)) c.search.ensures.same c.fire.ensures.fires)
     c.fire.ensures.valid c.fire.ensures.unmarked
 
 pub returns-in-None-clause-turned : goal.returns-in-None-clause-turned

@@ -1,7 +1,8 @@
 use Rattle.lmn_base.specs.Levels.{links_of}
 use Rattle.lmn_numbering.specs.Renumbered.{renumbered}
-use Rattle.lmn_numbering.proofs.LevelSteps.{Renumbers, number_of_levels}
+use Rattle.lmn_numbering.proofs.LevelSteps.{Renumbers}
 use Rattle.lmn_numbering.proofs.numbering.Numbering.+number_level.Given as goal
+use Rattle.lmn_base.proofs.Common.{levels_in as number_of_levels}
 
 abbrev pub decreases-number_level : goal.decreases-number_level
 decreases-number_level l = number_of_levels l.level.now

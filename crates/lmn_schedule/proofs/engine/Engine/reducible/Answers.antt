@@ -1,5 +1,5 @@
 use Rattle.std.proofs.Common.{◌≡◌, length, subst}
-use Rattle.lmn_choice.specs.Turns.{HaveCodes, tree_of}
+use Rattle.lmn_choice.specs.Turns.{HaveCodes, tree_over}
 use Rattle.lmn_heap.specs.Sound.{Forest, IsTree, flat}
 use Rattle.lmn_strategy.specs.Choosing.{IsFirstIn, NoneIn, asked}
 use Rattle.lmn_schedule.proofs.Turned.{done, embeds, some_membrane}
@@ -15,11 +15,11 @@ returns-in-Some-clause-yes g c _ names solid o =
     let h = g.S.LinkStore.heap c.args.self.now.machine.store in
     let have : HaveCodes c.args.self.now.plain.now.rules c.requires.run.plans c.args.self.now.codes = record { whole = c.requires.run.whole; compiled = c.requires.run.compiled } in
     embeds names c.args.self.now.plain.now.rules (λ t m. 0) 0 0 c.requires.run.plans c.args.self.now.codes c.nothing_embeds.ensures have h solid o (g.S.LinkStore.mem_id c.in-Some.field-0.membrane) c.in-Some.field-0.place c.in-Some.field-0.rule
-    (subst (λ xs. IsFirstIn h xs (asked 0 (tree_of h o.inner)) (g.S.LinkStore.mem_id c.in-Some.field-0.membrane) c.in-Some.field-0.place c.in-Some.field-0.rule) c.as_slice.ensures (c.in-Some.ensures.first (tree_of h o.inner) o.tree))
+    (subst (λ xs. IsFirstIn h xs (asked 0 (tree_over h o.inner)) (g.S.LinkStore.mem_id c.in-Some.field-0.membrane) c.in-Some.field-0.place c.in-Some.field-0.rule) c.as_slice.ensures (c.in-Some.ensures.first (tree_over h o.inner) o.tree))
 
 pub returns-in-None-clause-no : goal.returns-in-None-clause-no
 returns-in-None-clause-no g c _ names solid o =
     let h = g.S.LinkStore.heap c.args.self.now.machine.store in
     let have : HaveCodes c.args.self.now.plain.now.rules c.requires.run.plans c.args.self.now.codes = record { whole = c.requires.run.whole; compiled = c.requires.run.compiled } in
     done names c.args.self.now.plain.now.rules (λ t m. 0) 0 0 c.requires.run.plans c.args.self.now.codes c.turns_are_alike.ensures have h solid o
-    (subst (λ xs. NoneIn h xs (flat (tree_of h o.inner))) c.as_slice.ensures (c.in-None.ensures.first (tree_of h o.inner) o.tree))
+    (subst (λ xs. NoneIn h xs (flat (tree_over h o.inner))) c.as_slice.ensures (c.in-None.ensures.first (tree_over h o.inner) o.tree))

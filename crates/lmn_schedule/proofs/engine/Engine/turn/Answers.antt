@@ -1,5 +1,5 @@
 use Rattle.std.proofs.Common.{◌≡◌, length, subst, arith}
-use Rattle.lmn_choice.specs.Turns.{HaveCodes, tree_of}
+use Rattle.lmn_choice.specs.Turns.{HaveCodes, tree_over}
 use Rattle.lmn_heap.specs.Sound.{Forest, IsTree, flat}
 use Rattle.lmn_strategy.specs.Turns.{IsTurn}
 use Rattle.lmn_schedule.proofs.Turned.{some_membrane, turned}
@@ -13,7 +13,7 @@ pick-from-requires-clause-some g c =
 pub returns-then-eq-clause-turned : goal.returns-then-eq-clause-turned
 returns-then-eq-clause-turned g c k gives names solid o =
     let h = g.S.LinkStore.heap c.args.self.now.machine.store in
-    let f = tree_of h o.inner in
+    let f = tree_over h o.inner in
     let counts = subst (λ s. (f : Forest) → IsTree (g.S.LinkStore.heap s) f → c.membranes-many.result ≡ length (flat f)) c.store.ensures c.membranes-many.ensures in
     let some = some_membrane h c.requires.run.turn.valid c.membranes-many.result counts in
     let first = gives c.args.self.now.commits c.membranes-many.result c.pick-from.result (omega (arith, c.requires.commits)) (omega (arith, c.membranes-many.type_inv)) some c.pick-from.ensures.answer in
@@ -27,7 +27,7 @@ returns-then-eq-clause-turned g c k gives names solid o =
 pub returns-else-eq-clause-turned : goal.returns-else-eq-clause-turned
 returns-else-eq-clause-turned g c k gives names solid o =
     let h = g.S.LinkStore.heap c.args.self.now.machine.store in
-    let f = tree_of h o.inner in
+    let f = tree_over h o.inner in
     let counts = subst (λ s. (f : Forest) → IsTree (g.S.LinkStore.heap s) f → c.membranes-many.result ≡ length (flat f)) c.store.ensures c.membranes-many.ensures in
     let some = some_membrane h c.requires.run.turn.valid c.membranes-many.result counts in
     let first = gives c.args.self.now.commits c.membranes-many.result c.pick-from.result (omega (arith, c.requires.commits)) (omega (arith, c.membranes-many.type_inv)) some c.pick-from.ensures.answer in

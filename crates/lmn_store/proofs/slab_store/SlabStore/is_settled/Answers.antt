@@ -1,6 +1,6 @@
 use Rattle.std.proofs.Common.{◌≡◌, subst, arith, rules}
 use Rattle.std.proofs.lemmas.List.{nil_from_length}
-use Rattle.lmn_heap.specs.Sound.{Settled}
+use Rattle.lmn_heap.specs.Sound.{AllInPlace}
 use Rattle.lmn_store.specs.Kept.{Kept, heap_of}
 use Rattle.lmn_store.proofs.HoldsLemmas.{line_there, mem_line_there}
 use Rattle.lmn_store.proofs.CheckLemmas.{settled_of}
@@ -28,5 +28,5 @@ returns c h =
     let d1 = c.if-count-ne0-3.false in
     let e = c.count-4.ensures in
     let e1 : c.count-4.result ≡ 0 = (search rules) in
-    subst (λ (z : Kept). Settled (heap_of z)) c.self.view_is
+    subst (λ (z : Kept). AllInPlace (heap_of z)) c.self.view_is
     (settled_of _ _ _ _ c.self.invariant (nil_from_length _ (omega (arith, a, a1))) (nil_from_length _ (omega (arith, b, b1))) (nil_from_length _ (omega (arith, d, d1))) (nil_from_length _ (omega (arith, e, e1))))

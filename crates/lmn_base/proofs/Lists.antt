@@ -1,0 +1,151 @@
+-- General lemmas on lists, options and results.
+use Rattle.std.proofs.Common.{List, [], ℕ, ◌+◌, ◌∷◌, ◌≡◌, ◌⊎◌, None, Option, Some, ap, arith, length, refl, suc, take, zero, ◌≤◌, map, ◌++◌, ◌<◌, drop, ◌∙◌, All, Err, Ok, Result, sym, inl, inr}
+use Rattle.std.specs.List.{AllByRecursion}
+use Rattle.std.specs.Prelude.{slice_get, IsSome, Contains, slice_index_or}
+use Rattle.std.specs.Result.{OnErr}
+use Rattle.std.proofs.lemmas.List.{length-append}
+
+abbrev pub weigh : (ℕ → ℕ) → List ℕ → ℕ
+weigh w [] = 0
+weigh w (x ∷ xs) = w x + weigh w xs
+
+abbrev pub In : ℕ → List ℕ → Type 0
+In x [] = ⊥
+In x (y ∷ ys) = (x ≡ y) ⊎ In x ys
+
+abbrev pub value_or : {A B : Type 0} → (A → B) → B → Option A → B
+value_or f other None = other
+value_or f other (Some a) = f a
+
+pub length_taken : (rs : List ℕ) (i : ℕ) → i ≤ length rs → length (take i rs) ≡ i
+length_taken rs zero h = refl
+length_taken [] (suc i) h = absurd (omega arith)
+length_taken (r ∷ rs) (suc i) h = ap suc (length_taken rs i (omega arith))
+
+pub map_itself : (xs : List ℕ) → map (λ x. x) xs ≡ xs
+map_itself [] = refl
+map_itself (x ∷ xs) = ap (λ ys. x ∷ ys) (map_itself xs)
+
+pub nothing_added : (xs : List ℕ) → xs ≡ xs ++ []
+nothing_added [] = refl
+nothing_added (x ∷ xs) = ap (λ ys. x ∷ ys) (nothing_added xs)
+
+pub joined_alike : {A : Type 0} {xs xs' ys ys' : List A} → xs ≡ xs' → ys ≡ ys' → xs ++ ys ≡ xs' ++ ys'
+joined_alike e d = λ i. e i ++ d i
+
+-- two ways that end alike have the same step before the end
+pub same_step : (u v : List ℕ) (b c : ℕ) (way : List ℕ) → u ++ b ∷ way ≡ v ++ c ∷ way → b ≡ c
+same_step [] [] b c way e = cc
+same_step [] (x ∷ v) b c way e = absurd (let l = ap length e in omega (arith, l, length-append v (c ∷ way)))
+same_step (x ∷ u) [] b c way e = absurd (let l = ap length e in omega (arith, l, length-append u (b ∷ way)))
+same_step (x ∷ u) (y ∷ v) b c way e = let t : u ++ b ∷ way ≡ v ++ c ∷ way = cc in same_step u v b c way t
+
+pub head_is : {A : Type 0} {x y : A} {xs ys : List A} → x ∷ xs ≡ y ∷ ys → x ≡ y
+head_is e = cc e
+
+pub tail_is : {A : Type 0} {x y : A} {xs ys : List A} → x ∷ xs ≡ y ∷ ys → xs ≡ ys
+tail_is e = cc e
+
+pub length_mapped : (f : ℕ → ℕ) (ys : List ℕ) → length (map f ys) ≡ length ys
+length_mapped f [] = refl
+length_mapped f (y ∷ ys) = ap suc (length_mapped f ys)
+
+pub get_front : {A : Type 0} (xs ys : List A) (k : ℕ) (x : A) → slice_get xs k ≡ Some x → slice_get (xs ++ ys) k ≡ Some x
+get_front [] ys k x e = absurd (cc)
+get_front (z ∷ xs) ys zero x e = e
+get_front (z ∷ xs) ys (suc k) x e = get_front xs ys k x e
+
+pub get_below : {A : Type 0} (xs : List A) (n : ℕ) (x : A) → slice_get xs n ≡ Some x → n < length xs
+get_below [] n x e = absurd (cc)
+get_below (y ∷ xs) zero x e = omega arith
+get_below (y ∷ xs) (suc n) x e = let h = get_below xs n x e in omega arith
+
+pub get_there : {A : Type 0} (xs : List A) (p : ℕ) → p < length xs → (x : A) × (slice_get xs p ≡ Some x)
+get_there [] p l = absurd (omega (arith, l))
+get_there (x ∷ xs) zero l = (x, refl)
+get_there (x ∷ xs) (suc p) l = get_there xs p (omega (arith, l))
+
+pub length_one : {A : Type 0} (xs : List A) (x : A) → length (xs ++ x ∷ []) ≡ length xs + 1
+length_one [] x = refl
+length_one (y ∷ xs) x = let k = length_one xs x in omega (arith, k)
+
+pub get_last : {A : Type 0} (xs : List A) (y : A) → slice_get (xs ++ y ∷ []) (length xs) ≡ Some y
+get_last [] y = refl
+get_last (x ∷ xs) y = get_last xs y
+
+pub take_whole : {A : Type 0} (xs : List A) → take (length xs) xs ≡ xs
+take_whole [] = refl
+take_whole (x ∷ xs) = ap (λ k. x ∷ k) (take_whole xs)
+
+pub plus_nothing : {X : Type 0} → (xs : List X) → xs ++ [] ≡ xs
+plus_nothing [] = refl
+plus_nothing (x ∷ xs) = ap (λ l. x ∷ l) (plus_nothing xs)
+
+pub some_is : {A : Type 0} (o : Option A) → IsSome o → (p : A) × (o ≡ Some p)
+some_is None s = absurd (cc)
+some_is (Some p) s = (p, refl)
+
+pub drop_get : {A : Type 0} (k : ℕ) (xs : List A) (x : A) → slice_get xs k ≡ Some x → drop k xs ≡ x ∷ drop (k + 1) xs
+drop_get k [] x e = absurd (cc)
+drop_get zero (y ∷ xs) x e = let t : y ≡ x = cc in ap (λ w. w ∷ xs) t
+drop_get (suc k) (y ∷ xs) x e = let t : suc (k + 1) ≡ suc k + 1 = omega arith in drop_get k xs x e ∙ ap (λ n. x ∷ drop n (y ∷ xs)) t
+
+pub contains_behind : {X : Type 0} (x : X) (xs : List X) (y : X) → Contains xs y → Contains (x ∷ xs) y
+contains_behind x xs y (k, within, e) = (suc k, omega (arith, within), e)
+
+pub contains_first : {X : Type 0} (x : X) (xs : List X) → Contains (x ∷ xs) x
+contains_first x xs = (0, omega arith, refl)
+
+pub all_both : {A : Type 0} (P : A → Type 0) (xs ys : List A) → All P xs → All P ys → All P (xs ++ ys)
+all_both P [] ys h k n d l = k n d l
+all_both P (x ∷ xs) ys h k zero d l = h zero d (omega arith)
+all_both P (x ∷ xs) ys h k (suc n) d l = all_both P xs ys (λ j e m. h (suc j) e (omega (arith, m))) k n d (omega (arith, l))
+
+pub all_left : {A : Type 0} (P : A → Type 0) (xs ys : List A) → AllByRecursion P (xs ++ ys) → AllByRecursion P xs
+all_left P [] ys a = tt
+all_left P (x ∷ xs) ys a = (a.0, all_left P xs ys a.1)
+
+pub all_right : {X : Type 0} (P : X → Type 0) (xs ys : List X) → AllByRecursion P (xs ++ ys) → AllByRecursion P ys
+all_right P [] ys h = h
+all_right P (x ∷ xs) ys h = all_right P xs ys h.1
+
+pub all_append : {X : Type 0} (P : X → Type 0) (xs ys : List X) → AllByRecursion P xs → AllByRecursion P ys → AllByRecursion P (xs ++ ys)
+all_append P [] ys h k = k
+all_append P (x ∷ xs) ys h k = (h.0, all_append P xs ys h.1 k)
+
+pub all_none : {A : Type 0} (P : A → Type 0) → All P []
+all_none P k d l = absurd (omega (arith, l))
+
+pub on_err : {T E : Type 0} (r : Result T E) (Q : Type 0) → Q → OnErr r Q
+on_err (Ok x) Q q = tt
+on_err (Err e) Q q = q
+
+pub map_append : {A B : Type 0} (f : A → B) (xs ys : List A) → map f (xs ++ ys) ≡ map f xs ++ map f ys
+map_append f [] ys = refl
+map_append f (x ∷ xs) ys = ap (λ zs. f x ∷ zs) (map_append f xs ys)
+
+pub map_twice : {A B C : Type 0} (f : B → C) (g : A → B) (xs : List A) → map f (map g xs) ≡ map (λ x. f (g x)) xs
+map_twice f g [] = refl
+map_twice f g (x ∷ xs) = ap (λ ys. f (g x) ∷ ys) (map_twice f g xs)
+
+pub join_maps : (f : ℕ → ℕ) (xs ys : List ℕ) {xs' ys' : List ℕ} → xs' ≡ map f xs → ys' ≡ map f ys → xs' ++ ys' ≡ map f (xs ++ ys)
+join_maps f xs ys e d = cc (e, d) ∙ sym (map_append f xs ys)
+
+-- the weight of two lists in a row
+pub weigh_append : (w : ℕ → ℕ) (xs ys : List ℕ) → weigh w (xs ++ ys) ≡ weigh w xs + weigh w ys
+weigh_append w [] ys = omega arith
+weigh_append w (x ∷ xs) ys = omega (arith, weigh_append w xs ys)
+
+pub in_either : (x : ℕ) (xs ys : List ℕ) → In x (xs ++ ys) → In x xs ⊎ In x ys
+in_either x [] ys h = inr h
+in_either x (y ∷ xs) ys (inl e) = inl (inl e)
+in_either x (y ∷ xs) ys (inr h) = go (in_either x xs ys h)
+  where
+    go : In x xs ⊎ In x ys → In x (y ∷ xs) ⊎ In x ys
+    go (inl i) = inl (inr i)
+    go (inr i) = inr i
+
+pub past_end : {A : Type 0} (xs : List A) (i : ℕ) (d : A) → length xs ≤ i → slice_index_or xs i d ≡ d
+past_end [] i d l = refl
+past_end (x ∷ xs) zero d l = absurd (omega (arith, l))
+past_end (x ∷ xs) (suc i) d l = past_end xs i d (omega (arith, l))

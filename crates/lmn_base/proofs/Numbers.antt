@@ -1,0 +1,91 @@
+-- General lemmas on numbers.
+use Rattle.std.proofs.Common.{suc, zero, ℕ, ◌+◌, arith, true, ◌==◌, ◌≡◌, inl, inr, ◌<◌, ◌∙◌, ◌≤◌, ◌⊎◌, ◌≢◌, false, Bool, refl, nat_le, replicate, subst, sym}
+use Rattle.std.proofs.Math.Nat.{min-eq_left, min_comm}
+use Rattle.std.proofs.lemmas.Bool.{cases_lt, eqb-true, cases_eq}
+use Rattle.std.proofs.lemmas.Bool.Decides.{nat_tests, leb_tells}
+use Rattle.std.specs.Prelude.{min, nat_lt, slice_index_or}
+use Rattle.lmn_base.proofs.Truth.{Decided}
+
+abbrev pub triangle : ℕ → ℕ
+triangle zero = 0
+triangle (suc n) = triangle n + suc n
+
+pub equal_itself : (x : ℕ) → (x == x) ≡ true
+equal_itself x = grind (arith, nat_tests)
+
+pub min_is_one : (a b : ℕ) → (min a b ≡ a) ⊎ (min a b ≡ b)
+min_is_one a b = elim (cases_lt a b) [
+  | inl l ↦ inl (min-eq_left (weak a b l))
+  | inr g ↦ inr (min_comm a b ∙ min-eq_left g)
+]
+  where
+    weak : (a b : ℕ) → a < b → a ≤ b
+    weak a b l = omega arith
+
+pub equal_when : (a b : ℕ) → (a == b) ≡ true → a ≡ b
+equal_when a b h = grind (arith, nat_tests)
+
+pub same_or_not : (x y : ℕ) → (x ≡ y) ⊎ (x ≢ y)
+same_or_not x y = grind arith
+
+pub unequal : (a b : ℕ) → (a ≡ b → ⊥) → (a == b) ≡ false
+unequal a b h = grind (arith, nat_tests)
+
+pub at_most_by_not : (a b : ℕ) → (b < a → ⊥) → a ≤ b
+at_most_by_not a b h = elim (cases_lt b a) [
+  | inl l ↦ absurd (h l)
+  | inr l ↦ l
+]
+
+pub at_most_by_test : (m n : ℕ) → nat_lt m n ≡ false → n ≤ m
+at_most_by_test m n e = grind (arith, nat_tests)
+
+pub one_not_zero : (m n : ℕ) → m + n ≢ 0 → (m ≢ 0) ⊎ (n ≢ 0)
+one_not_zero m n d = grind arith
+
+pub below_zero_plus : (g k : ℕ) → g < 0 + k → g < k
+below_zero_plus g k h = omega arith
+
+pub below_next : (i n : ℕ) → i < suc n → (i < n) ⊎ (i ≡ n)
+below_next i n h = grind arith
+
+pub below_next2 : (p j : ℕ) → p < j + 1 → (p < j) ⊎ (p ≡ j)
+below_next2 p j l = grind arith
+
+pub zero_plus_below : (g k : ℕ) → g < k → g < 0 + k
+zero_plus_below g k h = omega arith
+
+pub less_at_most : (x y : ℕ) → x < y → x ≤ y
+less_at_most x y h = omega arith
+
+pub not_equal : (x y : ℕ) → x ≢ y → (x == y) ≡ false
+not_equal x y d = by (x == y) refl
+  where
+    by : (t : Bool) → (x == y) ≡ t → t ≡ false
+    by true e = absurd (d (eqb-true x y e))
+    by false e = refl
+
+pub test_at_most : (n m : ℕ) → n ≤ m → nat_le n m ≡ true
+test_at_most n m h = grind arith
+
+pub zeros_at : (n i : ℕ) → ◌≡◌ {A = ℕ} (slice_index_or (replicate n 0) i 0) 0
+zeros_at zero zero = refl
+zeros_at zero (suc i) = refl
+zeros_at (suc n) zero = refl
+zeros_at (suc n) (suc i) = zeros_at n i
+
+pub zero_least : (g : ℕ) → 0 ≤ g
+zero_least g = omega arith
+
+pub triangle_less : (s t : ℕ) → s < t → triangle s + s < triangle t
+triangle_less s zero l = absurd (omega (arith, l))
+triangle_less s (suc t) l = elim (cases_eq s t) [
+  | inl e ↦ subst (λ z. triangle z + z < triangle t + suc t) (sym e) (omega arith)
+  | inr d ↦ (let i = triangle_less s t (less s t l d) in omega (arith, i))
+]
+  where
+    less : (s t : ℕ) → s < suc t → s ≢ t → s < t
+    less s t l d = omega (arith, l, d)
+
+pub less_decided : (m n : ℕ) → Decided (m < n)
+less_decided m n = elim (leb_tells n m) [ inl h ↦ inr (λ l. let le = h.1 in omega (arith, l)) | inr h ↦ inl (h.1) ]

@@ -1,0 +1,66 @@
+-- General lemmas on truth values.
+use Rattle.std.proofs.Common.{Bool, false, refl, true, ◌&&◌, ◌≡◌, ◌||◌, inl, inr, ◌⊎◌, not, arith, cond, ℕ, ◌+◌, sym, ◌∙◌, ◌≤◌}
+use Rattle.std.specs.Prelude.{if◌then◌else◌}
+
+pub and_true : (a b : Bool) → (a && b) ≡ true → (a ≡ true) × (b ≡ true)
+and_true true b h = (refl, h)
+and_true false b h = cc
+
+pub first_true : (a b : Bool) → (a && b) ≡ true → a ≡ true
+first_true true b e = refl
+first_true false b e = e
+
+pub second_true : (a b : Bool) → (a && b) ≡ true → b ≡ true
+second_true true b e = e
+second_true false b e = absurd (cc)
+
+pub neither_true : (a b : Bool) → (a || b) ≡ false → (a ≡ false) × (b ≡ false)
+neither_true true b e = absurd (cc)
+neither_true false b e = (refl, e)
+
+pub either_true : (a b : Bool) → (a || b) ≡ true → (a ≡ true) ⊎ (b ≡ true)
+either_true true b h = inl refl
+either_true false b h = inr h
+
+pub guarded_first : (f b k : Bool) → (f && (not b || k)) ≡ true → f ≡ true
+guarded_first true b k e = refl
+guarded_first false b k e = absurd (cc)
+
+pub guarded_then : (f b k : Bool) → (f && (not b || k)) ≡ true → b ≡ true → k ≡ true
+guarded_then true true k e g = e
+guarded_then true false k e g = absurd (cc)
+guarded_then false b k e g = absurd (cc)
+
+pub and_true2 : (a b : Bool) → a ≡ true → b ≡ true → (a && b) ≡ true
+and_true2 true b e f = f
+and_true2 false b e f = e
+
+pub or_true : (a b : Bool) → b ≡ true → (a || b) ≡ true
+or_true true b e = refl
+or_true false b e = e
+
+pub cond_plus : (b : Bool) (n : ℕ) → cond b 1 0 + n ≡ cond b (1 + n) n
+cond_plus true n = refl
+cond_plus false n = omega arith
+
+pub not_false : (a : Bool) → not a ≡ false → a ≡ true
+not_false true e = refl
+not_false false e = absurd (cc)
+
+pub not_true : (b : Bool) → not b ≡ true → b ≡ false
+not_true false e = refl
+not_true true e = absurd (cc e)
+
+pub never_both : (a : Bool) → a ≡ true → a ≡ false → ⊥
+never_both a e f = let clash : true ≡ false = sym e ∙ f in cc
+
+pub if_at_most : (k o : ℕ) (b : Bool) → o ≤ k → (if b then k else o) ≤ k
+if_at_most k o true l = omega arith
+if_at_most k o false l = l
+
+pub false_not_true : false ≡ true → ⊥
+false_not_true h = cc
+
+-- a statement that holds or doesn't
+abbrev pub Decided : Type 0 → Type 0
+Decided P = P ⊎ (P → ⊥)

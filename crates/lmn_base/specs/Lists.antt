@@ -1,0 +1,6 @@
+-- Lists of any type.
+use Rattle.std.specs.Prelude.{List, ℕ, ◌++◌, ◌≡◌}
+
+-- a part begins a list
+abbrev pub Begins : List ℕ → List ℕ → Type 0
+Begins part text = (after : List ℕ) × (text ≡ part ++ after)

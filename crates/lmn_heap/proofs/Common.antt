@@ -1,0 +1,143 @@
+-- Lemmas that several crates above cite.
+use Rattle.lmn_heap.specs.Heap.{Heap, HeapAtom, home_by, home_of, place_of, within, IsAtom, arity_of, partners_of, IsInPlace, HeapMem, IsMem, IsMemInPlace, IsTopOrWithin, Place, gone, top, waiting, atoms_by, linked, cleared, marks_of, with_link, rules_by, alter, mem_with_atoms, link_of}
+use Rattle.lmn_heap.specs.Lists.{In, without}
+use Rattle.lmn_heap.specs.Solid.{links_from}
+use Rattle.lmn_heap.specs.Sound.{Valid}
+use Rattle.std.proofs.Common.{None, Option, Some, ap, ℕ, ◌≡◌, IsSome, arith, length, refl, ◌<◌, inl, inr, subst, sym, ◌⊎◌, List, [], ◌∷◌, slice_get, suc, zero, Bool, cond, false, true, ◌==◌, ◌+◌, map, replicate}
+use Rattle.std.proofs.lemmas.Bool.{cases_eq}
+use Rattle.std.proofs.lemmas.Option.{none-some, same_Some}
+use Rattle.std.specs.Option.{option_and_then, option_map}
+use Rattle.lmn_heap.specs.Heap as heap
+use Rattle.lmn_heap.proofs.Listing.{alter_keeps}
+use Rattle.std.specs.Prelude.{slice_index_or}
+
+pub place_home : (s : Heap) (a m : ℕ) → place_of s a ≡ Some (within m) → home_of s a ≡ Some m
+place_home s a m e = by (s.atoms a) e
+  where
+    by : (o : Option HeapAtom) → option_map (λ x. x.place) o ≡ Some (within m) → option_and_then (λ x. home_by x.place) o ≡ Some m
+    by None e = absurd (cc)
+    by (Some x) e = let w : x.place ≡ within m = (cc) in ap home_by w
+
+pub is_atom_at : (s : Heap) (a i : ℕ) → i < arity_of s a → IsAtom s a
+is_atom_at s a i l = by (s.atoms a) l
+  where
+    by : (o : Option HeapAtom) → i < length (partners_of o) → IsSome o
+    by None l = absurd (omega arith)
+    by (Some x) l = refl
+
+pub in_place_atom : (s : Heap) (a : ℕ) → IsInPlace s a → IsAtom s a
+in_place_atom s a i = by (s.atoms a) i
+  where
+    by : (o : Option HeapAtom) → IsSome (option_and_then (λ x. home_by x.place) o) → IsSome o
+    by None i = absurd (cc)
+    by (Some x) i = refl
+
+pub same_atoms : (s : Heap) (f g : ℕ → Option HeapAtom) → ((a : ℕ) → f a ≡ g a) → record s { atoms = f } ≡ record s { atoms = g }
+same_atoms s f g h = ap (λ (k : ℕ → Option HeapAtom). let t : Heap = record s { atoms = k } in t) (λ i a. h a i)
+
+pub mem_stands : (h : Heap) → Valid h → (m : ℕ) → IsMem h m → IsMemInPlace h m
+mem_stands h v m i = by (h.mems m) (v.settled.mems m i)
+  where
+    home : (p : Place) → IsSome (home_by p) → IsTopOrWithin (Some p)
+    home top s = absurd (cc)
+    home (within k) s = tt
+    home waiting s = absurd (cc)
+    home gone s = absurd (cc)
+
+    by : (o : Option HeapMem) → (option_map (λ x. x.place) o ≡ Some top) ⊎ IsSome (option_and_then (λ x. home_by x.place) o) → IsTopOrWithin (option_map (λ x. x.place) o)
+    by None (inl e) = absurd (cc)
+    by None (inr s) = absurd (cc)
+    by (Some x) (inl e) = subst IsTopOrWithin (sym e) tt
+    by (Some x) (inr s) = home x.place s
+
+pub nothing_in : (xs : List ℕ) → ((b : ℕ) → In b xs → ⊥) → xs ≡ []
+nothing_in [] h = refl
+nothing_in (x ∷ xs) h = absurd (h x (inl refl))
+
+pub in_at : (xs : List ℕ) (q a : ℕ) → slice_get xs q ≡ Some a → In a xs
+in_at [] q a e = absurd (none-some a e)
+in_at (x ∷ xs) zero a e = inl (same_Some x a e)
+in_at (x ∷ xs) (suc q) a e = inr (in_at xs q a e)
+
+pub home_placed : (o : Option HeapAtom) (m : ℕ) → option_map (λ x. x.place) o ≡ Some (within m) → option_and_then (λ x. home_by x.place) o ≡ Some m
+home_placed None m e = absurd (cc)
+home_placed (Some x) m e = let t : x.place ≡ within m = cc in ap home_by t
+
+pub atom_with_links : (o : Option HeapAtom) (i : ℕ) → i < length (partners_of o) → IsSome o
+atom_with_links None i l = absurd (omega (arith, l))
+atom_with_links (Some x) i l = refl
+
+pub holds_mem : (o : Option HeapMem) (a : ℕ) → In a (atoms_by o) → IsSome o
+holds_mem None a p = absurd p
+holds_mem (Some x) a p = refl
+
+pub decide_in : (a : ℕ) (xs : List ℕ) → heap.In a xs ⊎ (heap.In a xs → ⊥)
+decide_in a [] = inr (λ i. i)
+decide_in a (x ∷ xs) = elim (cases_eq x a) [
+  | inl e ↦ inl (inl e)
+  | inr d ↦ elim (decide_in a xs) [ inl i ↦ inl (inr i) | inr o ↦ inr (λ j. elim j [ inl e ↦ d e | inr i ↦ o i ]) ]
+]
+
+pub in_of_without : (a b : ℕ) (xs : List ℕ) → In b (without a xs) → In b xs
+in_of_without a b [] k = k
+in_of_without a b (x ∷ xs) k = by (x == a) (in_of_without a b xs) k
+  where
+    by : (t : Bool) → (In b (without a xs) → In b xs) → In b (cond t xs (x ∷ without a xs)) → In b (x ∷ xs)
+    by true later k = inr k
+    by false later (inl e) = inl e
+    by false later (inr k) = inr (later k)
+
+pub numbered_get : (name : ℕ → ℕ → ℕ) (a k n i : ℕ) → i < n → slice_get (links_from name a k n) i ≡ Some (name a (k + i))
+numbered_get name a k zero i l = absurd (omega (arith, l))
+numbered_get name a k (suc n) zero l = let z : k + 0 ≡ k = omega arith in rw z refl
+numbered_get name a k (suc n) (suc i) l = let z : k + suc i ≡ (k + 1) + i = omega arith in rw z (numbered_get name a (k + 1) n i (omega (arith, l)))
+
+pub length_numbered : (name : ℕ → ℕ → ℕ) (a i n : ℕ) → length (links_from name a i n) ≡ n
+length_numbered name a i zero = refl
+length_numbered name a i (suc n) = ap suc (length_numbered name a (i + 1) n)
+
+pub linked_marks : (f : ℕ → Option HeapAtom) (a i : ℕ) (p : Option (ℕ × ℕ)) (b : ℕ) → marks_of (linked f a i p b) ≡ marks_of (f b)
+linked_marks f a i p b = alter_keeps f a (option_map (with_link i p)) marks_of by b
+  where
+    by : (x : Option HeapAtom) → marks_of (option_map (with_link i p) x) ≡ marks_of x
+    by None = refl
+    by (Some x) = refl
+
+pub cleared_marks : (f : ℕ → Option HeapAtom) (p : Option (ℕ × ℕ)) (b : ℕ) → marks_of (cleared f p b) ≡ marks_of (f b)
+cleared_marks f None b = refl
+cleared_marks f (Some p) b = linked_marks f p.0 p.1 None b
+
+pub list_rules : (f : ℕ → Option HeapMem) (m : ℕ) (g : List ℕ → List ℕ) (k : ℕ) → rules_by (alter f m (option_map (mem_with_atoms g)) k) ≡ rules_by (f k)
+list_rules f m g k = alter_keeps f m (option_map (mem_with_atoms g)) rules_by by k
+  where
+    by : (o : Option HeapMem) → rules_by (option_map (mem_with_atoms g) o) ≡ rules_by o
+    by None = refl
+    by (Some y) = refl
+
+-- two ports that a link leads to are one
+pub same_port : {b j c k : ℕ} → ◌≡◌ {A = Option (ℕ × ℕ)} (Some (b, j)) (Some (c, k)) → (b ≡ c) × (j ≡ k)
+same_port e = (ap (λ o. (or_port o).0) e, ap (λ o. (or_port o).1) e)
+  where
+    or_port : Option (ℕ × ℕ) → ℕ × ℕ
+    or_port None = (0, 0)
+    or_port (Some p) = p
+
+pub linked_atom : (h : Heap) (a i : ℕ) {p : ℕ × ℕ} → link_of h a i ≡ Some p → IsAtom h a
+linked_atom h a i e = by (h.atoms a) e
+  where
+    by : (o : Option HeapAtom) {p : ℕ × ℕ} → slice_index_or (partners_of o) i None ≡ Some p → IsSome o
+    by None e = absurd (cc)
+    by (Some x) e = refl
+
+pub in_map : (f : ℕ → ℕ) (x : ℕ) (xs : List ℕ) → In x xs → In (f x) (map f xs)
+in_map f x [] i = absurd i
+in_map f x (y ∷ ys) (inl e) = inl (ap f e)
+in_map f x (y ∷ ys) (inr i) = inr (in_map f x ys i)
+
+abbrev pub no_port : Option (ℕ × ℕ)
+no_port = None
+
+pub no_links : (n i : ℕ) → slice_index_or (replicate n no_port) i None ≡ None
+no_links zero i = refl
+no_links (suc n) zero = refl
+no_links (suc n) (suc i) = no_links n i
