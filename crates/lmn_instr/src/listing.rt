@@ -10,9 +10,9 @@ ghost use Rattle.lmn_instr.specs.declared.words.Operand.TheVariants as operand;
 use crate::instr::{AtomPort, Code, Instr};
 use crate::labels::add_label;
 use crate::words::{Operand, Operands, name_of, operands_of};
-use itoa::Buffer;
 use lmn_base::{Functor, Names};
 use lmn_io::{Failed, LineBuffer, Sink};
+use lmn_labels::{add_integer, add_number};
 
 /// Writes the listing of a rule's code: a line with the number of the rule, and then a line for each instruction. The
 /// list of names has those of all functors. It takes no memory.
@@ -111,7 +111,7 @@ fn add_operand<O: Sink>(buffer: &mut LineBuffer, out: &mut O, names: &Names, ope
         Operand::Port(port) => add_port(buffer, out, port),
         Operand::Functor(functor) => add_functor(buffer, out, names, functor),
         Operand::Number(number) => add_number(buffer, out, number),
-        Operand::Constant(value) => buffer.add(out, Buffer::new().format(value).as_bytes()),
+        Operand::Constant(value) => add_integer(buffer, out, value),
     }
 }
 
@@ -141,11 +141,4 @@ fn add_functor<O: Sink>(buffer: &mut LineBuffer, out: &mut O, names: &Names, fun
     add_label(buffer, out, names, functor.label);
     buffer.add(out, b"/");
     add_number(buffer, out, functor.arity as u64);
-}
-
-/// Adds a number in decimal.
-fn add_number<O: Sink>(buffer: &mut LineBuffer, out: &mut O, number: u64)
-    ensures { Adds (decimal number) (output buffer.old (O.told out.old) (O.faults out.old)) (output buffer.new (O.told out.new) (O.faults out.new)) }
-{
-    buffer.add(out, Buffer::new().format(number).as_bytes());
 }

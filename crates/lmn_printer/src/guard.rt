@@ -5,10 +5,11 @@ ghost use Rattle.lmn_congruence.specs.Translation.{comparison_of, condition_of, 
 ghost use Rattle.lmn_plain.specs.Words.{comparison_pieces, condition_pieces, guard_pieces, operand_pieces, operator_pieces, side_pieces, text_of};
 ghost use Rattle.lmn_printer.specs.Parts.{condition_text};
 
-use crate::labels::{add_context, add_integer, add_name, name_of};
+use crate::labels::{add_context, name_of};
 use crate::leaves::{add_arguments, add_between};
 use lmn_base::{Arith, Cmp, Cond, CtxUse, Expr, Names};
 use lmn_io::{LineBuffer, Sink};
+use lmn_labels::{add_integer, add_name};
 
 /// Adds the conditions of a guard and the bar behind them, and nothing where there are none.
 pub(crate) fn add_guard<O: Sink>(

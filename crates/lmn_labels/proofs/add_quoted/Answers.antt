@@ -1,7 +1,7 @@
 use Rattle.std.specs.Prelude.{codes}
 use Rattle.std.specs.List.{flat_map}
 use Rattle.lmn_io.proofs.TakingLemmas.{adds_all, adds_as, adds_more, adds_next}
-use Rattle.lmn_instr.proofs.labels.add_quoted.Goals as goal
+use Rattle.lmn_labels.proofs.add_quoted.Goals as goal
 use Rattle.lmn_lexer.specs.NameText.{quoted_byte}
 
 pub loop-byte-preserved : goal.loop-byte-preserved

@@ -1,7 +1,7 @@
 use Rattle.std.proofs.Common.{take}
 use Rattle.std.specs.List.{flat_map}
 use Rattle.lmn_io.specs.Gathering.{Adds, output}
-use Rattle.lmn_instr.proofs.labels.add_quoted.Given as goal
+use Rattle.lmn_labels.proofs.add_quoted.Given as goal
 use Rattle.lmn_lexer.specs.NameText.{quoted_byte}
 
 abbrev pub invariant-loop-byte : goal.invariant-loop-byte
