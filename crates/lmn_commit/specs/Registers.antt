@@ -14,11 +14,23 @@ pub record AgreesWithCopies {A M : Type 0} (atom : A → ℕ) (membrane : M → 
   pub integers : (k : ℕ) (z : ℤ) → slice_get g.integers k ≡ Some z → r.head.integer k ≡ z
   pub copies : (k : ℕ) (p : PartCopy A) → slice_get g.copies k ≡ Some p → (r.copy k ≡ port_id atom p.root) × (length (r.copied k) ≡ p.atoms)
 
+-- these handles are of atoms
+abbrev pub AreAtomHandles : {A : Type 0} → (A → ℕ) → Heap → List A → Type 0
+AreAtomHandles {A} atom h handles = (k : ℕ) (a : A) → slice_get handles k ≡ Some a → IsAtom h (atom a)
+
+-- of membranes
+abbrev pub AreMembraneHandles : {M : Type 0} → (M → ℕ) → Heap → List M → Type 0
+AreMembraneHandles {M} membrane h handles = (k : ℕ) (m : M) → slice_get handles k ≡ Some m → IsMem h (membrane m)
+
+-- each of these is a port of an atom
+abbrev pub AreRootHandles : {A : Type 0} → (A → ℕ) → Heap → List (A × ℕ) → Type 0
+AreRootHandles {A} atom h handles = (k : ℕ) (p : A × ℕ) → slice_get handles k ≡ Some p → IsAtom h (atom p.0)
+
 -- the handles in the registers are of atoms and of membranes
 pub record AreHeld {A M : Type 0} (atom : A → ℕ) (membrane : M → ℕ) (h : Heap) (g : SetRegisters A M) : Type 0 where
-  pub atoms : (k : ℕ) (a : A) → slice_get g.atoms k ≡ Some a → IsAtom h (atom a)
-  pub membranes : (k : ℕ) (m : M) → slice_get g.membranes k ≡ Some m → IsMem h (membrane m)
-  pub parts : (k : ℕ) (p : A × ℕ) → slice_get g.parts k ≡ Some p → IsAtom h (atom p.0)
+  pub atoms : AreAtomHandles atom h g.atoms
+  pub membranes : AreMembraneHandles membrane h g.membranes
+  pub parts : AreRootHandles atom h g.parts
 
 -- the copies in registers have as many atoms as these lists
 pub record AreSized {A : Type 0} (copies : List (PartCopy A)) (copied : List (List ℕ)) : Type 0 where

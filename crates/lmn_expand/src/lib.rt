@@ -36,6 +36,7 @@ use lmn_base::{Names, Plain, TextFault, refuse};
 use lmn_lexer::Tokens;
 use lmn_numbering::first_outside;
 use lmn_parser::Tree;
+pub use number::narrow;
 use std::alloc::Global;
 
 /// The plain of a tree.

@@ -2,8 +2,8 @@ ghost use Rattle.std.specs.Prelude.{◌≡◌, ◌+◌, IfOk};
 
 use lmn_base::NoMemory;
 
-/// A number of at most 32 bits. Where it has more, so many rows would stand in no memory.
-pub(crate) fn narrow(number: usize) -> Result<u32, NoMemory>
+/// The same number, if it has at most 32 bits. So many rows would stand in no memory where it has more.
+pub fn narrow(number: usize) -> Result<u32, NoMemory>
     ensures { IfOk result (λ narrow. narrow ≡ number) }
 {
     if number < 1 << 32 {

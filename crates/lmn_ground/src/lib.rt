@@ -12,7 +12,7 @@ mod take;
 mod wipe;
 
 pub use copying::copy;
-pub use equality::equal;
+pub use equality::{equal, is_same_port};
 pub use parts::{is_ground, size_of, take_part};
 
 #[cfg(test)]

@@ -2,7 +2,7 @@
 use Rattle.std.specs.Prelude.{ℕ, ℤ, Bool, true, false, ◌≡◌, ◌<◌, ◌+◌, List, [], ◌∷◌, ◌++◌, Option, Some, None, length, slice_get, take}
 use Rattle.std.specs.List.{AllByRecursion}
 use Rattle.lmn_base.specs.Graphs.{Reached, StandsWhole}
-use Rattle.lmn_heap.specs.Heap.{Heap, IsAtom, IsMem, port_id, home_of, link_of, arity_of, marked}
+use Rattle.lmn_heap.specs.Heap.{Heap, port_id, home_of, link_of, arity_of, marked}
 use Rattle.lmn_heap.specs.Graphs.{atom_map}
 use Rattle.lmn_instr.specs.declared.instr.Instr.{Instr}
 use Rattle.lmn_instr.specs.declared.instr.Instr.TheVariants.{FindAtom, Deref, Func, InMem, NeqAtom, Joined, AnyMem, NeqMem, NMems, NoRules, NotIn, IsInt, IsUnary, IsGround, NAtoms, EqGround, NeqGround, GetInt, Const, Add, Sub, Mul, Div, Mod, Lt, Le, Gt, Ge, Eq, Ne, Commit}
@@ -13,6 +13,7 @@ use Rattle.lmn_registers.specs.Agreeing.{Agrees}
 use Rattle.lmn_registers.specs.declared.registers.SetRegisters.{SetRegisters}
 use Rattle.lmn_registers.specs.declared.stack.TheConstants.{ROOM}
 use Rattle.lmn_commit.specs.Preparing.{IsNext}
+use Rattle.lmn_commit.specs.Registers.{AreAtomHandles, AreMembraneHandles, AreRootHandles}
 
 -- none of these handles is of an atom
 pub record AreApart {A : Type 0} (atom : A → ℕ) (handles : List A) (n : ℕ) : Type 0 where
@@ -27,9 +28,9 @@ pub record IsHeldPart {A : Type 0} (atom : A → ℕ) (h : Heap) (handles : List
 
 -- the handles in the registers are of atoms, of membranes and of the roots of parts that stand whole
 pub record AreHeldWhole {A M : Type 0} (atom : A → ℕ) (membrane : M → ℕ) (h : Heap) (g : SetRegisters A M) : Type 0 where
-  pub atoms : (k : ℕ) (a : A) → slice_get g.atoms k ≡ Some a → IsAtom h (atom a)
-  pub membranes : (k : ℕ) (m : M) → slice_get g.membranes k ≡ Some m → IsMem h (membrane m)
-  pub parts : (k : ℕ) (p : A × ℕ) → slice_get g.parts k ≡ Some p → IsAtom h (atom p.0)
+  pub atoms : AreAtomHandles atom h g.atoms
+  pub membranes : AreMembraneHandles membrane h g.membranes
+  pub parts : AreRootHandles atom h g.parts
   pub whole : (k : ℕ) (p : A × ℕ) → slice_get g.parts k ≡ Some p → IsHeldPart atom h g.atoms p
 
 -- more registers are set, and the earlier ones are as they were

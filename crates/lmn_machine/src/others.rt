@@ -7,18 +7,9 @@ ghost use Rattle.lmn_registers.specs.Agreeing.{Agrees};
 ghost use Rattle.lmn_machine.specs.Searching.{AreHeldWhole};
 
 use crate::checks;
-use lmn_ground::size_of;
+use lmn_ground::{is_same_port, size_of};
 use lmn_registers::{SetRegisters, Stack};
 use lmn_store::LinkStore;
-
-/// Whether two parts are entered at one port.
-fn is_same_root<S: LinkStore>(store: &S, p: (S::Atom, u8), q: (S::Atom, u8)) -> bool
-    requires p { IsAtom (S.heap store.now) (S.atom_id p.0) }
-    requires q { IsAtom (S.heap store.now) (S.atom_id q.0) }
-    ensures { IsTrue result ↔ (port_id S.atom_id p ≡ port_id S.atom_id q) }
-{
-    store.same_atom(p.0, q.0) && p.1 == q.1
-}
 
 /// Whether one of the first n parts that are listed is entered at a port.
 fn is_listed<S: LinkStore>(
@@ -36,7 +27,7 @@ fn is_listed<S: LinkStore>(
     ensures none { IsFalse result → (j k : ℕ) (p : _) → j < n → slice_get listed.now j ≡ Some k → slice_get parts.now k ≡ Some p → port_id S.atom_id p ≢ port_id S.atom_id root }
 {
     for j in 0..n {
-        if is_same_root(store, parts.at(listed[j] as usize), root) {
+        if is_same_port(store, parts.at(listed[j] as usize), root) {
             return true;
         }
     }

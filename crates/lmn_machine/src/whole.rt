@@ -1,10 +1,11 @@
 //! Parts of any number of atoms.
-ghost use Rattle.std.specs.Prelude.{◌≡◌, ◌<◌, ◌↔◌, ℕ, List, Some, IfSome, IsTrue, map, slice_get};
+ghost use Rattle.std.specs.Prelude.{◌≡◌, ◌<◌, ◌↔◌, ℕ, List, Some, IfSome, IsTrue, map};
 ghost use Rattle.std.specs.Option.{option_map};
 ghost use Rattle.lmn_heap.specs.Heap.{IsAtom, IsMem, arity_of, link_of, port_id, marked, Unmarked};
 ghost use Rattle.lmn_base.specs.Graphs.{SameGraph};
 ghost use Rattle.lmn_heap.specs.Graphs.{atom_map};
 ghost use Rattle.lmn_machine.specs.Searching.{IsHeldPart, IsWholeApart, own_marked};
+ghost use Rattle.lmn_commit.specs.Registers.{AreAtomHandles};
 
 use crate::checks;
 use lmn_ground::{equal, is_ground};
@@ -23,7 +24,7 @@ fn set_own<S: LinkStore>(store: &mut S, a: S::Atom, mark: u64)
 
 /// Sets the own marks of the atoms in registers.
 fn mark_all<S: LinkStore>(store: &mut S, atoms: &Stack<S::Atom>, mark: u64)
-    requires held { (k : ℕ) (b : _) → slice_get atoms.now k ≡ Some b → IsAtom (S.heap store.old) (S.atom_id b) }
+    requires held { AreAtomHandles S.atom_id (S.heap store.old) atoms.now }
     ensures { S.heap store.new ≡ own_marked mark (map S.atom_id atoms.now) (S.heap store.old) }
 {
     for i in 0..atoms.len() {
@@ -43,7 +44,7 @@ fn is_whole<S: LinkStore>(
     requires atom { IsAtom (S.heap store.old) (S.atom_id root.0) }
     requires port { root.1 < arity_of (S.heap store.old) (S.atom_id root.0) }
     requires membrane { IsMem (S.heap store.old) (S.mem_id m) }
-    requires held { (k : ℕ) (b : _) → slice_get atoms.now k ≡ Some b → IsAtom (S.heap store.old) (S.atom_id b) }
+    requires held { AreAtomHandles S.atom_id (S.heap store.old) atoms.now }
     ensures whole { IsTrue result ↔ IsWholeApart S.atom_id (S.heap store.old) atoms.now (S.mem_id m) (S.atom_id root.0, root.1) }
     ensures same { S.heap store.new ≡ S.heap store.old }
 {
@@ -65,7 +66,7 @@ pub fn whole_end<S: LinkStore>(
     requires unmarked { Unmarked (S.heap store.old) }
     requires atom { IsAtom (S.heap store.old) (S.atom_id from) }
     requires membrane { IsMem (S.heap store.old) (S.mem_id m) }
-    requires held { (k : ℕ) (b : _) → slice_get atoms.now k ≡ Some b → IsAtom (S.heap store.old) (S.atom_id b) }
+    requires held { AreAtomHandles S.atom_id (S.heap store.old) atoms.now }
     ensures same { S.heap store.new ≡ S.heap store.old }
     ensures there { IfSome result (λ p. IsAtom (S.heap store.old) (S.atom_id p.0)) }
     ensures end { (q : ℕ × ℕ) → option_map (port_id S.atom_id) result ≡ Some q → link_of (S.heap store.old) (S.atom_id from) port ≡ Some q }

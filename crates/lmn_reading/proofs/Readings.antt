@@ -30,7 +30,7 @@ use Rattle.lmn_plain.specs.Laws.{IsPlain}
 use Rattle.lmn_plain.specs.Plains.{EachPair}
 use Rattle.lmn_plain.proofs.PrintedLines.{plains_are_well_made}
 use Rattle.lmn_reading.specs.declared.reading.Accepted.{Accepted}
-use Rattle.lmn_reading.specs.Texts.{IsAcceptedAs, IsRefusedAs, LeavesNames, ReadsAs, by_bytes, by_tokens, by_contexts, by_links, by_rules, rows_of_rules}
+use Rattle.lmn_reading.specs.Texts.{IsAcceptedAs, IsPlainOrRefusal, IsRefusedAs, LeavesNames, LeavesNamesWith, ReadsAs, by_bytes, by_tokens, by_contexts, by_links, by_rules, rows_of_rules}
 use Rattle.lmn_reading.proofs.Levels.{no_context}
 use Rattle.lmn_reading.proofs.Rules.{rules_accepted}
 
@@ -60,7 +60,7 @@ module _ (text : List ℕ) (before after : List Name) where
 
   pub names_with_each : {A : Type 0} (ts : List Token) (tree : Clauses) (x : Result A TextFault) → Reads text ts tree
       → MatchResult x (λ plain. after ≡ names_read before (words_of text ts)) (λ fault. IfRefused fault (λ refusal. after ≡ names_read before (words_of text ts)))
-      → MatchResult x (λ read. LeavesNames text before after) (λ fault. IfRefused fault (λ refusal. LeavesNames text before after))
+      → LeavesNamesWith x text before after
   names_with_each ts tree (Ok a) reads h = names_left ts tree reads h
   names_with_each ts tree (Err (Refused r)) reads h = names_left ts tree reads h
   names_with_each ts tree (Err NoMemory) reads h = tt
@@ -77,7 +77,7 @@ module _ (text : List ℕ) (names : List Name) where
   pub plain_read : (tokens : List Token) (tree : Clauses) (x : Result Plain TextFault) → NothingWrong text → Reads text tokens tree → IsWithin (kinds_of tokens)
       → MatchResult x (λ plain. IsPlain text tokens tree names plain × NoneApplies (outside_rules plain.top ∷ []))
       (λ fault. IfRefused fault (λ refusal. (plain : Plain) × IsPlain text tokens tree names plain × RefusedBy (outside_rules plain.top ∷ []) refusal))
-      → MatchResult x (λ plain. ReadsAs text names plain × NoneApplies (outside_rules plain.top ∷ [])) (λ fault. IfRefused fault (IsRefusedAs text names))
+      → IsPlainOrRefusal x text names
   plain_read tokens tree (Ok plain) right reads within h =
       (record { tokens = tokens; tree = tree; right = right; reads = reads; within = within; is_plain = h.0 }, h.1)
   plain_read tokens tree (Err (Refused refusal)) right reads within h =

@@ -1,12 +1,14 @@
 -- What is read of a text, and why a text is refused.
-use Rattle.std.specs.Prelude.{ℕ, ◌≡◌, List, [], ◌∷◌, ◌++◌, flat_map}
+use Rattle.std.specs.Prelude.{ℕ, ◌≡◌, List, [], ◌∷◌, ◌++◌, Result, MatchResult, flat_map}
 use Rattle.std.specs.List.{AllByRecursion}
 use Rattle.lmn_base.specs.declared.refusal.Refusal.{Refusal}
+use Rattle.lmn_base.specs.declared.refusal.TextFault.{TextFault}
 use Rattle.lmn_base.specs.declared.refusal.TextFault.TheVariants.{Refused}
 use Rattle.lmn_base.specs.declared.rule.Plain.{Plain}
 use Rattle.lmn_base.specs.declared.rule.RuleTree.{RuleTree}
 use Rattle.lmn_base.specs.Firsts.{Row, NoneApplies, RefusedBy}
 use Rattle.lmn_base.specs.LinkCodes.{LinkFault, IsFirstFault}
+use Rattle.lmn_base.specs.Refusals.{IfRefused}
 use Rattle.lmn_base.specs.RuleCodes.{rule_rows}
 use Rattle.lmn_congruence.specs.Rules.{Name}
 use Rattle.lmn_expand.specs.NameLists.{names_read}
@@ -43,6 +45,10 @@ abbrev pub LeavesNames : List ℕ → List Name → List Name → Type 0
 LeavesNames text before after = (tokens : List Token) (tree : Clauses) → NothingWrong text → Reads text tokens tree → IsWithin (kinds_of tokens)
     → after ≡ names_read before (words_of text tokens)
 
+-- the same with each answer but want of memory
+abbrev pub LeavesNamesWith : {A : Type 0} → Result A TextFault → List ℕ → List Name → List Name → Type 0
+LeavesNamesWith result text before after = MatchResult result (λ read. LeavesNames text before after) (λ fault. IfRefused fault (λ refusal. LeavesNames text before after))
+
 -- what is asked of a rule, in order: first of its size, its head and its contexts, and then of its guard
 abbrev pub rows_of_rule : List RuleTree → RuleTree → List Row
 rows_of_rule table r = rule_rows table r ++ guard_rows r
@@ -74,3 +80,7 @@ pub data IsRefusedAs (text : List ℕ) (names : List Name) (refusal : Refusal) :
       → IsRefusedAs text names refusal
   by_rules : (plain : Plain) → ReadsAs text names plain → NoneApplies (outside_rules plain.top ∷ []) → ((a : Refusal) → ¬ (LinkFault plain a))
       → RefusedBy (rows_of_rules plain) refusal → IsRefusedAs text names refusal
+
+-- The answer is a plain as which the text reads, and in which no context stands outside every rule, or the text is refused so.
+abbrev pub IsPlainOrRefusal : Result Plain TextFault → List ℕ → List Name → Type 0
+IsPlainOrRefusal result text names = MatchResult result (λ plain. ReadsAs text names plain × NoneApplies (outside_rules plain.top ∷ [])) (λ fault. IfRefused fault (IsRefusedAs text names))

@@ -1,18 +1,17 @@
-ghost use Rattle.std.specs.Prelude.{◌≡◌, ◌+◌, ◌≤◌, ◌<◌, ◌^◌, [], ◌∷◌, length, slice_get, Some, IfOk, MatchResult};
+ghost use Rattle.std.specs.Prelude.{◌≡◌, ◌+◌, ◌≤◌, ◌<◌, ◌^◌, length, slice_get, Some, MatchResult};
 ghost use Rattle.lmn_base.specs.declared.rule.RuleTree.{RuleTree};
 ghost use Rattle.lmn_base.specs.Firsts.{NoneApplies, RefusedBy};
 ghost use Rattle.lmn_base.specs.Refusals.{IfRefused};
 ghost use Rattle.lmn_expand.specs.Glossaries.{GrowsBy};
-ghost use Rattle.lmn_expand.specs.Outside.{outside_rules};
 ghost use Rattle.lmn_guards.specs.Plans.{IsPlan};
 ghost use Rattle.lmn_lexer.specs.Cutting.{Cuts};
 ghost use Rattle.lmn_lexer.specs.Faults.{NothingWrong};
 ghost use Rattle.lmn_plain.specs.Plains.{EachPair};
-ghost use Rattle.lmn_reading.specs.Texts.{IsAcceptedAs, IsRefusedAs, LeavesNames, ReadsAs, rows_of_rule, rows_of_rules};
+ghost use Rattle.lmn_reading.specs.Texts.{IsAcceptedAs, IsPlainOrRefusal, IsRefusedAs, LeavesNamesWith, rows_of_rule, rows_of_rules};
 
-use lmn_base::{Names, NoMemory, Plain, Rows, TextFault};
+use lmn_base::{Names, Plain, Rows, TextFault};
 use lmn_contexts::check_rule;
-use lmn_expand::flatten;
+use lmn_expand::{flatten, narrow};
 use lmn_guards::{GuardPlan, analyse};
 use lmn_lexer::{Tokens, lex};
 use lmn_linkcheck::check_links;
@@ -40,7 +39,7 @@ pub struct Accepted {
 pub fn read(alloc: Global, text: &[u8], names: &mut Names) -> Result<Accepted, TextFault>
     requires room { length names.old + (length text.now + 4) ≤ 2 ^ 32 }
     ensures grows { GrowsBy (length text.now + 4) names.old names.new }
-    ensures names { MatchResult result (λ read. LeavesNames text.now names.old names.new) (λ fault. IfRefused fault (λ refusal. LeavesNames text.now names.old names.new)) }
+    ensures names { LeavesNamesWith result text.now names.old names.new }
     ensures reads { MatchResult result
         (λ accepted. IsAcceptedAs text.now names.new accepted.plain accepted.plans)
         (λ fault. IfRefused fault (IsRefusedAs text.now names.new)) }
@@ -66,10 +65,8 @@ fn with_plans(alloc: Global, plain: Plain, names: &Names) -> Result<Accepted, Te
 fn plain_of(alloc: Global, text: &[u8], names: &mut Names) -> Result<Plain, TextFault>
     requires room { length names.old + (length text.now + 4) ≤ 2 ^ 32 }
     ensures grows { GrowsBy (length text.now + 4) names.old names.new }
-    ensures names { MatchResult result (λ read. LeavesNames text.now names.old names.new) (λ fault. IfRefused fault (λ refusal. LeavesNames text.now names.old names.new)) }
-    ensures reads { MatchResult result
-        (λ plain. ReadsAs text.now names.new plain × NoneApplies (outside_rules plain.top ∷ []))
-        (λ fault. IfRefused fault (IsRefusedAs text.now names.new)) }
+    ensures names { LeavesNamesWith result text.now names.old names.new }
+    ensures reads { IsPlainOrRefusal result text.now names.new }
 {
     match lex(alloc, text) {
         Err(fault) => Err(fault),
@@ -88,10 +85,8 @@ fn plain_of_tokens(
     requires cut { Cuts text.now tokens.now }
     requires room { length names.old + (length tokens.now + 3) ≤ 2 ^ 32 }
     ensures grows { GrowsBy (length tokens.now + 3) names.old names.new }
-    ensures names { MatchResult result (λ read. LeavesNames text.now names.old names.new) (λ fault. IfRefused fault (λ refusal. LeavesNames text.now names.old names.new)) }
-    ensures reads { MatchResult result
-        (λ plain. ReadsAs text.now names.new plain × NoneApplies (outside_rules plain.top ∷ []))
-        (λ fault. IfRefused fault (IsRefusedAs text.now names.new)) }
+    ensures names { LeavesNamesWith result text.now names.old names.new }
+    ensures reads { IsPlainOrRefusal result text.now names.new }
 {
     match parse(alloc, tokens) {
         Err(fault) => Err(fault),
@@ -131,16 +126,5 @@ fn plan_of(
     match check_rule(plain, narrow) {
         Err(refusal) => Err(TextFault::Refused(refusal)),
         Ok(()) => analyse(alloc, plain.rules.at(number), names),
-    }
-}
-
-/// The same number, if it has 32 bits. So many rules would stand in no memory where it has more.
-fn narrow(number: usize) -> Result<u32, NoMemory>
-    ensures { IfOk result (λ narrow. narrow ≡ number) }
-{
-    if number < 1 << 32 {
-        Ok(number as u32)
-    } else {
-        Err(NoMemory)
     }
 }
