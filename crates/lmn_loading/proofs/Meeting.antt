@@ -103,19 +103,19 @@ module _ (m : ℕ → ℕ) (done left : List (Port × ℕ)) (p : Port) (x : ℕ)
   twice (r ∷ ds) q ls d (inl e) j = d.0 (subst (λ z. IsOneOf z (ds ++ ls)) (sym e) (right_in q ds ls j))
   twice (r ∷ ds) q ls d (inr i) j = twice ds q ls d.1 i j
 
-  once : NoneTwice (ports done ++ (p ∷ ports left))
-  once = subst NoneTwice (ports_append done ((p, x) ∷ left)) w.once
+  all_once : NoneTwice (ports done ++ (p ∷ ports left))
+  all_once = subst NoneTwice (ports_append done ((p, x) ∷ left)) w.once
 
   -- a port that has met isn't this one, nor one of those that are left
   pub met_before : (q : Port) → IsOneOf q (ports done) → q ≢ p
-  met_before q i e = twice (ports done) q (p ∷ ports left) once i (inl (sym e))
+  met_before q i e = twice (ports done) q (p ∷ ports left) all_once i (inl (sym e))
 
   right_of : (ds : List Port) (ls : List Port) → NoneTwice (ds ++ ls) → NoneTwice ls
   right_of [] ls d = d
   right_of (r ∷ ds) ls d = right_of ds ls d.1
 
   left_apart : (q : Port) → IsOneOf q (ports left) → q ≢ p
-  left_apart q i e = (right_of (ports done) (p ∷ ports left) once).0 (subst (λ z. IsOneOf z (ports left)) e i)
+  left_apart q i e = (right_of (ports done) (p ∷ ports left) all_once).0 (subst (λ z. IsOneOf z (ports left)) e i)
 
   more_often : (z : ℕ) → places z (map m (links done')) ≡ places z (map m (links done)) + places z (m x ∷ [])
   more_often z = links_both m z done ((p, x) ∷ [])
@@ -235,7 +235,7 @@ module _ (m : ℕ → ℕ) (done left : List (Port × ℕ)) (p : Port) (x : ℕ)
       | inl g ↦ absurd (not_some (held' (m x)) r (at_class ∙ ap (λ u. flipped u p) e) (ap held' (sym g) ∙ f))
       | inr d ↦ (let v = w.waits z r (sym (away z d) ∙ f) in
           let c : r ≢ p = met_before r (in_ports done r v.0 v.1) in
-          let b : r ≢ q = λ k. d (sym v.2 ∙ ap m (one_link done (done_once (ports done) (p ∷ ports left) once) q v.0 q_waits.0 (subst (λ u. IsOneOf {A = Port × ℕ} (u, v.0) done) k v.1) q_waits.1) ∙ q_waits.2) in
+          let b : r ≢ q = λ k. d (sym v.2 ∙ ap m (one_link done (done_once (ports done) (p ∷ ports left) all_once) q v.0 q_waits.0 (subst (λ u. IsOneOf {A = Port × ℕ} (u, v.0) done) k v.1) q_waits.1) ∙ q_waits.2) in
           (v.0, in_done' (r, v.0) v.1, v.2, other r b c ∙ v.3))
     ]
       where
@@ -268,7 +268,7 @@ module _ (m : ℕ → ℕ) (done left : List (Port × ℕ)) (p : Port) (x : ℕ)
       ];
       waits = waits';
       parity = parity_flips (Some q) e refl;
-      new = λ r i. other r (λ a. twice (ports done) r (p ∷ ports left) once (subst (λ u. IsOneOf u (ports done)) (sym a) q_done) (inr i)) (left_apart r i) ∙ w.new r (inr i);
+      new = λ r i. other r (λ a. twice (ports done) r (p ∷ ports left) all_once (subst (λ u. IsOneOf u (ports done)) (sym a) q_done) (inr i)) (left_apart r i) ∙ w.new r (inr i);
       one_class = classes';
     }
 

@@ -5,7 +5,7 @@ use Rattle.std.proofs.lemmas.List.Elements.{All-append, All-nil, All-cons, All-w
 use Rattle.std.proofs.lemmas.Option.{same_Some}
 use Rattle.lmn_base.specs.Links.{Numbers, no_more, known, new}
 use Rattle.lmn_numbering.specs.declared.numbering.Numbering.{Numbering}
-use Rattle.lmn_numbering.specs.Numberings.{left, HasNumber, IsNumbering, IsNewNumbering, FollowsNumbering, GivesNumbers}
+use Rattle.lmn_numbering.specs.Numberings.{keys_left, HasNumber, IsNumbering, IsNewNumbering, FollowsNumbering, GivesNumbers}
 
 -- one list is numbered, and then another
 pub numbers_append : {n m k : ℕ} {xs ys : List ℕ} → Numbers n xs m → Numbers m ys k → Numbers n (xs ++ ys) k
@@ -31,14 +31,14 @@ read_other (x ∷ xs) (suc k) (suc j) a h = read_other xs k j a (λ e. h (ap suc
 pub same_or_other : (j k : ℕ) → (j ≡ k) ⊎ (j ≡ k → ⊥)
 same_or_other j k = grind arith
 
-one_less : (ns : List (Option ℕ)) (k m : ℕ) → slice_get ns k ≡ Some None → left ns ≡ suc (left (set ns k (Some m)))
+one_less : (ns : List (Option ℕ)) (k m : ℕ) → slice_get ns k ≡ Some None → keys_left ns ≡ suc (keys_left (set ns k (Some m)))
 one_less [] k m h = absurd (cc)
 one_less (None ∷ ns) zero m h = refl
 one_less (Some n ∷ ns) zero m h = absurd (cc)
 one_less (None ∷ ns) (suc k) m h = ap suc (one_less ns k m h)
 one_less (Some n ∷ ns) (suc k) m h = one_less ns k m h
 
-pub left_none : (n : ℕ) → left (replicate n None) ≡ n
+pub left_none : (n : ℕ) → keys_left (replicate n None) ≡ n
 left_none zero = refl
 left_none (suc n) = ap suc (left_none n)
 

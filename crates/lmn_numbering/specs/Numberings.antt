@@ -4,10 +4,10 @@ use Rattle.lmn_base.specs.Links.{Numbers}
 use Rattle.lmn_numbering.specs.declared.numbering.Numbering.{Numbering}
 
 -- how many keys have no number
-abbrev pub left : List (Option ℕ) → ℕ
-left [] = 0
-left (None ∷ ns) = suc (left ns)
-left (Some n ∷ ns) = left ns
+abbrev pub keys_left : List (Option ℕ) → ℕ
+keys_left [] = 0
+keys_left (None ∷ ns) = suc (keys_left ns)
+keys_left (Some n ∷ ns) = keys_left ns
 
 -- the link with this key has this number
 abbrev pub HasNumber : Numbering → ℕ → ℕ → Type 0
@@ -17,7 +17,7 @@ HasNumber t key n = slice_get t.numbers key ≡ Some (Some n)
 pub record IsNumbering (t : Numbering) : Type 0 where
   pub below : (key n : ℕ) → HasNumber t key n → n < t.count
   pub apart : (key other n : ℕ) → HasNumber t key n → HasNumber t other n → key ≡ other
-  pub left : t.count + left t.numbers ≡ length t.numbers
+  pub left : t.count + keys_left t.numbers ≡ length t.numbers
   pub fits : length t.numbers < 2 ^ 32
 
 -- no link has a number yet

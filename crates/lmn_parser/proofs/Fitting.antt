@@ -94,15 +94,15 @@ next_spot start n ks p m word s e b h = record {
       subst P (append_assoc s.inside word (Comma ∷ [])) (token_ends_in start (s.inside ++ word) Comma refl);
 }
 
-ending : (start : List Kind) (n : ℕ) (ks : List Kind) (p q : ℕ) (word : List Kind) → Spot start n ks p → drop p ks ≡ word ++ drop q ks → Balanced 0 word → Ending start n ks q
-ending start n ks p q word s e b = record {
+ends_after : (start : List Kind) (n : ℕ) (ks : List Kind) (p q : ℕ) (word : List Kind) → Spot start n ks p → drop p ks ≡ word ++ drop q ks → Balanced 0 word → Ending start n ks q
+ends_after start n ks p q word s e b = record {
   inside = s.inside ++ word;
   balanced = balanced_as (omega arith) (balanced_both s.balanced b);
   split = s.split ∙ ap (λ z. (start ++ s.inside) ++ z) e ∙ onward start s.inside word (drop q ks);
 }
 
-last : (start : List Kind) (n : ℕ) (ks : List Kind) (p : ℕ) (k : Kind) (rest : List Kind) → Spot start n ks p → drop p ks ≡ k ∷ rest → LastPart start n ks
-last start n ks p k rest s e = record { inside = s.inside; balanced = s.balanced; token = k; rest = rest; split = s.split ∙ ap (λ z. (start ++ s.inside) ++ z) e }
+last_part : (start : List Kind) (n : ℕ) (ks : List Kind) (p : ℕ) (k : Kind) (rest : List Kind) → Spot start n ks p → drop p ks ≡ k ∷ rest → LastPart start n ks
+last_part start n ks p k rest s e = record { inside = s.inside; balanced = s.balanced; token = k; rest = rest; split = s.split ∙ ap (λ z. (start ++ s.inside) ++ z) e }
 
 -- a term has a first token, and no comma outside brackets
 first_of : (w d : List Kind) → Derives (Ref TermPart) w → (k : Kind) × (rest : List Kind) × (w ++ d ≡ k ∷ rest)
@@ -254,7 +254,7 @@ context_spot ks start n p s h c = let P : ℕ → Type 0 = Spot start (suc n) ks
     subst P (sym (next_to p)) (next_spot start n ks p (p + 1) (Context ∷ []) s (drop_token ks p Context h) (other Context refl empty) c)
 
 contexts_fit : (ts : List Token) {xs : List ℕ} {p q : ℕ} → IsContexts ts xs p q → (start : List Kind) (n : ℕ) → Spot start n (kinds_of ts) p → ContextsFit xs start n (kinds_of ts)
-contexts_fit ts (last_context {p = p} h) start n s = record { commas = n; count = omega arith; last = last start n (kinds_of ts) p Context _ s (drop_token (kinds_of ts) p Context h) }
+contexts_fit ts (last_context {p = p} h) start n s = record { commas = n; count = omega arith; last = last_part start n (kinds_of ts) p Context _ s (drop_token (kinds_of ts) p Context h) }
 contexts_fit ts (more_contexts {p = p} h c d) start n s =
     let r = contexts_fit ts d start (suc n) (context_spot (kinds_of ts) start n p s h c) in
     let count = r.count in
@@ -312,8 +312,8 @@ record AtomFits (xs : tree.Terms) (is_term : Type 0) : Type 0 where
 abbrev IsTermAt : List Token → (before : List Kind) → ℕ → Type 0
 IsTermAt ts before q = TermNext before ⊎ At ts q Equal
 
-few : (n m : ℕ) → n ≡ 0 → n ≤ m
-few n m h = omega (arith, h)
+none_fits : (n m : ℕ) → n ≡ 0 → n ≤ m
+none_fits n m h = omega (arith, h)
 
 fewer : (n c m : ℕ) → suc c ≡ 0 + n → suc c ≤ m → n ≤ m
 fewer n c m h g = omega (arith, h, g)
@@ -389,8 +389,8 @@ mutual
 
   arguments_fit : (ts : List Token) → IsWithin (kinds_of ts) → {x : tree.Terms} {p q : ℕ} → IsArguments ts x p q →
       (front : List Kind) (k : Kind) → IsAtomName front k → kinds_of ts ≡ (front ++ k ∷ []) ++ drop p (kinds_of ts) → AtomFits x (IsTermAt ts front q)
-  arguments_fit ts w no_parentheses front k h e = record { any = few 0 255 refl; term = λ t. few 0 254 refl; fits = tt }
-  arguments_fit ts w (no_arguments o c) front k h e = record { any = few 0 255 refl; term = λ t. few 0 254 refl; fits = tt }
+  arguments_fit ts w no_parentheses front k h e = record { any = none_fits 0 255 refl; term = λ t. none_fits 0 254 refl; fits = tt }
+  arguments_fit ts w (no_arguments o c) front k h e = record { any = none_fits 0 255 refl; term = λ t. none_fits 0 254 refl; fits = tt }
   arguments_fit ts w (some_arguments {xs = xs} {p = p} {q = q} o d c) front k h e =
       let ks = kinds_of ts in
       let f = terms_fit ts w d (arguments front k) 0 (first_spot front k ks p e o) (λ m u b. in_arguments (begun_in front k h b)) in
@@ -407,8 +407,8 @@ mutual
       record {
         commas = n;
         count = omega arith;
-        last = last start n ks p x.first.0 x.first.1 s x.first.2;
-        ending = ending start n ks p q x.word s x.split x.balanced;
+        last = last_part start n ks p x.first.0 x.first.1 s x.first.2;
+        ending = ends_after start n ks p q x.word s x.split x.balanced;
         fits = (term_fits ts w d (spot_ready start n ks p s) (inl (next n s.inside s.balanced)), tt);
       }
   terms_fit ts w (more_terms {p = p} {m = m} d h e) start n s next =

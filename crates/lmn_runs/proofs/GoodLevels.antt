@@ -69,12 +69,12 @@ module _ (names : List tree.Name) where
   pub integer_good : (z : ℤ) → Good (integer z) 1 → InRange z
   integer_good z h = in_range z h.spelled
 
-  no_connector : (l : Label) (xs : List ℕ) → SpellsNoConnector l xs → IsNoConnector l (length xs)
-  no_connector (named n) [] h = λ e. absurd (omega (arith, e))
-  no_connector (named n) (x ∷ []) h = λ e. absurd (omega (arith, e))
-  no_connector (named n) (x ∷ y ∷ []) h = λ e. h
-  no_connector (named n) (x ∷ y ∷ z ∷ xs) h = λ e. absurd (omega (arith, e))
-  no_connector (integer z) xs h = tt
+  is_no_connector : (l : Label) (xs : List ℕ) → SpellsNoConnector l xs → IsNoConnector l (length xs)
+  is_no_connector (named n) [] h = λ e. absurd (omega (arith, e))
+  is_no_connector (named n) (x ∷ []) h = λ e. absurd (omega (arith, e))
+  is_no_connector (named n) (x ∷ y ∷ []) h = λ e. h
+  is_no_connector (named n) (x ∷ y ∷ z ∷ xs) h = λ e. absurd (omega (arith, e))
+  is_no_connector (integer z) xs h = tt
 
   pub not_connector : (l : Label) (xs : List ℕ) → IsNoConnector l (length xs) → SpellsNoConnector l xs
   not_connector (named n) [] h = tt
@@ -150,7 +150,7 @@ module _ (names : List tree.Name) where
   leaves_good : (ls : List Leaf) → AllByRecursion LeafSpelled ls → AllByRecursion (LeafHeld names) ls → AllByRecursion LeafFew ls → Leaves Good good_integer integer_good ls
   leaves_good [] s h f l i = elim i [ ]
   leaves_good (atom_leaf a xs ∷ ls) s h f l at_head =
-      record { spelled = s.0.0; held = held_label a xs h.0; few = f.0; no_connector = no_connector a xs s.0.2 }
+      record { spelled = s.0.0; held = held_label a xs h.0; few = f.0; no_connector = is_no_connector a xs s.0.2 }
   leaves_good (connector_leaf x y ∷ ls) s h f l at_head = tt
   leaves_good (typed_leaf p x ∷ ls) s h f l at_head = tt
   leaves_good (k ∷ ls) s h f l (further i) = leaves_good ls s.1 h.1 f.1 l i

@@ -133,11 +133,11 @@ module _ (h h' : Heap) (r : HeapReading) (s : Registers) (head : List HeadItem) 
   is_made : (j : ℕ) → low ≤ j → j < low + size hd → In (at s j) (made_mems s low B)
   is_made j a b = in_made s low B j a (omega (arith, b, many_is))
 
-  pub apart : (j k : ℕ) → (j ≡ 0) ⊎ ((low ≤ j) × (j < low + size hd)) → (k ≡ 0) ⊎ ((low ≤ k) × (k < low + size hd)) → at s j ≡ at s k → j ≡ k
-  apart j k (inl a) (inl b) e = a ∙ sym b
-  apart j k (inl a) (inr b) e = absurd (not_both (h.mems m) p.there (ap h.mems (sym p.at_home ∙ ap (at s) (sym a) ∙ e) ∙ p.fresh (at s k) (is_made k b.0 b.1)))
-  apart j k (inr a) (inl b) e = absurd (not_both (h.mems m) p.there (ap h.mems (sym p.at_home ∙ ap (at s) (sym b) ∙ sym e) ∙ p.fresh (at s j) (is_made j a.0 a.1)))
-  apart j k (inr a) (inr b) e = made_apart s low B p.once j k a.0 (omega (arith, a.1, many_is)) b.0 (omega (arith, b.1, many_is)) e
+  pub regions_apart : (j k : ℕ) → (j ≡ 0) ⊎ ((low ≤ j) × (j < low + size hd)) → (k ≡ 0) ⊎ ((low ≤ k) × (k < low + size hd)) → at s j ≡ at s k → j ≡ k
+  regions_apart j k (inl a) (inl b) e = a ∙ sym b
+  regions_apart j k (inl a) (inr b) e = absurd (not_both (h.mems m) p.there (ap h.mems (sym p.at_home ∙ ap (at s) (sym a) ∙ e) ∙ p.fresh (at s k) (is_made k b.0 b.1)))
+  regions_apart j k (inr a) (inl b) e = absurd (not_both (h.mems m) p.there (ap h.mems (sym p.at_home ∙ ap (at s) (sym b) ∙ sym e) ∙ p.fresh (at s j) (is_made j a.0 a.1)))
+  regions_apart j k (inr a) (inr b) e = made_apart s low B p.once j k a.0 (omega (arith, a.1, many_is)) b.0 (omega (arith, b.1, many_is)) e
 
   old_apart : (x : ℕ) → IsMem h x → (j : ℕ) → low ≤ j → j < low + size hd → at s j ≢ x
   old_apart x i j a b e = not_both (h.mems x) i (ap h.mems (sym e) ∙ p.fresh (at s j) (is_made j a b))
@@ -210,7 +210,7 @@ module _ (h h' : Heap) (r : HeapReading) (s : Registers) (head : List HeadItem) 
 
     raw_stands : (R : Region) (w : List tree.Leaf) → LeavesRest R → fused_leaves to w ≡ [] → StandAs h' r' (m ∷ []) (region.region_and (fused_level to (raw_level R w outs inner rs)) region.no_region)
     raw_stands R w R' none =
-        let L = level_stands h h' r name_after s bn e.contents left left_mems to limit copy part B low (low + size hd) apart made_atoms_are made_mems_are made_rules_are hd 0 low 0 (inl refl) (omega arith) (omega (arith, low_is)) (omega arith) agrees
+        let L = level_stands h h' r name_after s bn e.contents left left_mems to limit copy part B low (low + size hd) regions_apart made_atoms_are made_mems_are made_rules_are hd 0 low 0 (inl refl) (omega arith) (omega (arith, low_is)) (omega arith) agrees
         (λ j w. refl) (λ j w. refl) (λ j w. refl) in
         let xs = R'.atoms in
         let ms = R'.membranes in
