@@ -35,7 +35,8 @@ use Rattle.lmn_solid.proofs.HeadTrees.{Head, Heads, head, no_head, head_and, hea
 use Rattle.lmn_accepted.proofs.InTurns.{guard_in_turn}
 use Rattle.lmn_accepted.proofs.Types.{left_among, type_given}
 use Rattle.lmn_accepted.proofs.Counts.{guard_typed, kept, once_in_head, rule_context_known, rule_context_once, typed_in_head, typed_known}
-use Rattle.lmn_accepted.proofs.Listed.{alone, each_so, times, times_here, some_of, among_name, name_among, N, each_once, same_shuffle}
+use Rattle.lmn_accepted.proofs.Listed.{alone, each_so, how_often_here, some_of, among_name, name_among, N, each_once, same_shuffle}
+use Rattle.lmn_linkcheck.proofs.LinkedLemmas.{how_often}
 use Rattle.lmn_accepted.proofs.PlanKinds.{leaf_name}
 use Rattle.lmn_accepted.proofs.Items.{bare_name, typed_name, rule_context_name, rule_number, own_seconds, all_seconds, gathered_in, rules_are, contexts_are, rule_contexts_are, typed_are}
 use Rattle.lmn_accepted.proofs.Trees.{contexts_named, rule_contexts_named, typed_named, no_rules_stand, IsPlainLeaf, typed_link, atom_links, LevelIs, level_is, few_in}
@@ -206,7 +207,7 @@ module _ (names : List tree.Name) (rule : ℕ → tree.Rule) (is_names : IsNames
   no_numbers : flat_map rule_number (items_of r.head) ≡ []
   no_numbers = by (flat_map rule_number (items_of r.head)) refl
     where
-      of_rule : (x : Item) (k : ℕ) → 1 ≤ times k (rule_number x) → x ≡ item.Rule k
+      of_rule : (x : Item) (k : ℕ) → 1 ≤ how_often k (rule_number x) → x ≡ item.Rule k
       of_rule (item.Atom f p) k h = absurd (omega (arith, h))
       of_rule (item.Context u) k h = absurd (omega (arith, h))
       of_rule (item.RuleContext u) k h = absurd (omega (arith, h))
@@ -215,7 +216,7 @@ module _ (names : List tree.Name) (rule : ℕ → tree.Rule) (is_names : IsNames
       by : (ks : List ℕ) → flat_map rule_number (items_of r.head) ≡ ks → ks ≡ []
       by [] e = refl
       by (k ∷ ks) e = absurd (
-          let found = some_of rule_number k (items_of r.head) (subst (λ ks. 1 ≤ times k ks) (sym e) (let h = times_here k ks in omega (arith, h))) in
+          let found = some_of rule_number k (items_of r.head) (subst (λ ks. 1 ≤ how_often k ks) (sym e) (let h = how_often_here k ks in omega (arith, h))) in
           let beyond = order.no_rule k (subst (Contains (items_of r.head)) (of_rule found.0 k found.2) found.1) in
           let same : rules_of r.head ≡ k ∷ ks = rules_are r.head ∙ ap (flat_map rule_number) (sym (same_uses r.head)) ∙ e in
           let within = All-head (λ k. k < length table) k ks (subst (All (λ k. k < length table)) same numbers) in
@@ -267,13 +268,13 @@ module _ (names : List tree.Name) (rule : ℕ → tree.Rule) (is_names : IsNames
   condition_rows : NoneApplies (rows_of_conditions r.head [] r.guard)
   condition_rows = appended.all_left (λ (row : Row). row.places ≡ []) (rows_of_conditions r.head [] r.guard) (rows_of_typed r) accepted.guard
 
-  typed_leaf : (n : ℕ) → 1 ≤ times n (flat_map typed_name (items_of r.head)) → IsSome (type_of r.head r.guard n)
+  typed_leaf : (n : ℕ) → 1 ≤ how_often n (flat_map typed_name (items_of r.head)) → IsSome (type_of r.head r.guard n)
   typed_leaf n h =
       let same = typed_are r.head ∙ ap (flat_map typed_name) (sym (same_uses r.head)) in
-      let found = some_of leaf_name n (base.leaves_of r.head) (subst (λ ns. 1 ≤ times n ns) (sym same) h) in
+      let found = some_of leaf_name n (base.leaves_of r.head) (subst (λ ns. 1 ≤ how_often n ns) (sym same) h) in
       by found.0 found.1 found.2
     where
-      by : (l : Leaf) → Contains (base.leaves_of r.head) l → 1 ≤ times n (leaf_name l) → IsSome (type_of r.head r.guard n)
+      by : (l : Leaf) → Contains (base.leaves_of r.head) l → 1 ≤ how_often n (leaf_name l) → IsSome (type_of r.head r.guard n)
       by (leaf.Atom f os p) c h = absurd (omega (arith, h))
       by (leaf.Typed m o p) c h = subst (λ k. IsSome (type_of r.head r.guard k)) (alone n m h) (order.has_type m o p c)
 

@@ -15,7 +15,8 @@ use Rattle.lmn_base.specs.RuleCodes.{is_bare, bare_use, rule_use, is_left_of}
 use Rattle.lmn_base.specs.Uses.{use_of, has_use, is_some_place}
 use Rattle.lmn_guards.specs.Accepted.{IsInOrder}
 use Rattle.lmn_guards.specs.GuardCodes.{in_head}
-use Rattle.lmn_accepted.proofs.Listed.{times, times_both, some_of, alone}
+use Rattle.lmn_accepted.proofs.Listed.{some_of, alone}
+use Rattle.lmn_linkcheck.proofs.LinkedLemmas.{how_often, how_often_both}
 use Rattle.lmn_accepted.proofs.Items.{bare_name, typed_name, rule_context_name}
 use Rattle.lmn_accepted.proofs.Expressions.{typed_is}
 use Rattle.lmn_accepted.proofs.Types.{left_used_there}
@@ -29,72 +30,72 @@ length_some [] l = absurd (omega (arith, l))
 length_some (p ∷ ps) l = refl
 
 -- the uses of a context, bare and typed
-pub use_count : (n : ℕ) (xs : List Item) → length (flat_map (use_of n) xs) ≡ times n (flat_map bare_name xs) + times n (flat_map typed_name xs)
+pub use_count : (n : ℕ) (xs : List Item) → length (flat_map (use_of n) xs) ≡ how_often n (flat_map bare_name xs) + how_often n (flat_map typed_name xs)
 use_count n [] = refl
 use_count n (item.Atom f p ∷ xs) = use_count n xs
 use_count n (item.RuleContext u ∷ xs) = use_count n xs
 use_count n (item.Rule k ∷ xs) = use_count n xs
 use_count n (item.Context u ∷ xs) = by u.form (use_count n xs)
   where
-    by : (f : Form) → length (flat_map (use_of n) xs) ≡ times n (flat_map bare_name xs) + times n (flat_map typed_name xs)
+    by : (f : Form) → length (flat_map (use_of n) xs) ≡ how_often n (flat_map bare_name xs) + how_often n (flat_map typed_name xs)
         → length ((cond (u.name == n) (u.pos ∷ []) []) ++ flat_map (use_of n) xs)
-        ≡ times n (cond (is_bare f) (u.name ∷ []) [] ++ flat_map bare_name xs) + times n (cond (is_bare f) [] (u.name ∷ []) ++ flat_map typed_name xs)
+        ≡ how_often n (cond (is_bare f) (u.name ∷ []) [] ++ flat_map bare_name xs) + how_often n (cond (is_bare f) [] (u.name ∷ []) ++ flat_map typed_name xs)
     by form.Bare h = on (u.name == n)
       where
-        on : (b : Bool) → length (cond b (u.pos ∷ []) [] ++ flat_map (use_of n) xs) ≡ cond b (suc (times n (flat_map bare_name xs))) (times n (flat_map bare_name xs)) + times n (flat_map typed_name xs)
+        on : (b : Bool) → length (cond b (u.pos ∷ []) [] ++ flat_map (use_of n) xs) ≡ cond b (suc (how_often n (flat_map bare_name xs))) (how_often n (flat_map bare_name xs)) + how_often n (flat_map typed_name xs)
         on true = omega (arith, h)
         on false = h
     by form.Typed h = on (u.name == n)
       where
-        on : (b : Bool) → length (cond b (u.pos ∷ []) [] ++ flat_map (use_of n) xs) ≡ times n (flat_map bare_name xs) + cond b (suc (times n (flat_map typed_name xs))) (times n (flat_map typed_name xs))
+        on : (b : Bool) → length (cond b (u.pos ∷ []) [] ++ flat_map (use_of n) xs) ≡ how_often n (flat_map bare_name xs) + cond b (suc (how_often n (flat_map typed_name xs))) (how_often n (flat_map typed_name xs))
         on true = omega (arith, h)
         on false = h
 
-pub bare_count : (n : ℕ) (xs : List Item) → length (flat_map (bare_use n) xs) ≡ times n (flat_map bare_name xs)
+pub bare_count : (n : ℕ) (xs : List Item) → length (flat_map (bare_use n) xs) ≡ how_often n (flat_map bare_name xs)
 bare_count n [] = refl
 bare_count n (item.Atom f p ∷ xs) = bare_count n xs
 bare_count n (item.RuleContext u ∷ xs) = bare_count n xs
 bare_count n (item.Rule k ∷ xs) = bare_count n xs
 bare_count n (item.Context u ∷ xs) = by u.form (bare_count n xs)
   where
-    by : (f : Form) → length (flat_map (bare_use n) xs) ≡ times n (flat_map bare_name xs)
-        → length (cond ((u.name == n) && is_bare f) (u.pos ∷ []) [] ++ flat_map (bare_use n) xs) ≡ times n (cond (is_bare f) (u.name ∷ []) [] ++ flat_map bare_name xs)
+    by : (f : Form) → length (flat_map (bare_use n) xs) ≡ how_often n (flat_map bare_name xs)
+        → length (cond ((u.name == n) && is_bare f) (u.pos ∷ []) [] ++ flat_map (bare_use n) xs) ≡ how_often n (cond (is_bare f) (u.name ∷ []) [] ++ flat_map bare_name xs)
     by form.Bare h = on (u.name == n)
       where
-        on : (b : Bool) → length (cond (b && true) (u.pos ∷ []) [] ++ flat_map (bare_use n) xs) ≡ cond b (suc (times n (flat_map bare_name xs))) (times n (flat_map bare_name xs))
+        on : (b : Bool) → length (cond (b && true) (u.pos ∷ []) [] ++ flat_map (bare_use n) xs) ≡ cond b (suc (how_often n (flat_map bare_name xs))) (how_often n (flat_map bare_name xs))
         on true = ap suc h
         on false = h
     by form.Typed h = on (u.name == n)
       where
-        on : (b : Bool) → length (cond (b && false) (u.pos ∷ []) [] ++ flat_map (bare_use n) xs) ≡ times n (flat_map bare_name xs)
+        on : (b : Bool) → length (cond (b && false) (u.pos ∷ []) [] ++ flat_map (bare_use n) xs) ≡ how_often n (flat_map bare_name xs)
         on true = h
         on false = h
 
-pub rule_count : (n : ℕ) (xs : List Item) → length (flat_map (rule_use n) xs) ≡ times n (flat_map rule_context_name xs)
+pub rule_count : (n : ℕ) (xs : List Item) → length (flat_map (rule_use n) xs) ≡ how_often n (flat_map rule_context_name xs)
 rule_count n [] = refl
 rule_count n (item.Atom f p ∷ xs) = rule_count n xs
 rule_count n (item.Context u ∷ xs) = rule_count n xs
 rule_count n (item.Rule k ∷ xs) = rule_count n xs
 rule_count n (item.RuleContext u ∷ xs) = on (u.name == n) (rule_count n xs)
   where
-    on : (b : Bool) → length (flat_map (rule_use n) xs) ≡ times n (flat_map rule_context_name xs)
-        → length (cond b (u.pos ∷ []) [] ++ flat_map (rule_use n) xs) ≡ cond b (suc (times n (flat_map rule_context_name xs))) (times n (flat_map rule_context_name xs))
+    on : (b : Bool) → length (flat_map (rule_use n) xs) ≡ how_often n (flat_map rule_context_name xs)
+        → length (cond b (u.pos ∷ []) [] ++ flat_map (rule_use n) xs) ≡ cond b (suc (how_often n (flat_map rule_context_name xs))) (how_often n (flat_map rule_context_name xs))
     on true h = ap suc h
     on false h = h
 
 -- ---- items that use a name
 
-pub bare_is : (x : Item) (n : ℕ) → 1 ≤ times n (bare_name x) → (u : FormedUse) × (x ≡ item.Context u) × (u.form ≡ form.Bare) × (u.name ≡ n)
+pub bare_is : (x : Item) (n : ℕ) → 1 ≤ how_often n (bare_name x) → (u : FormedUse) × (x ≡ item.Context u) × (u.form ≡ form.Bare) × (u.name ≡ n)
 bare_is (item.Atom f p) n h = absurd (omega (arith, h))
 bare_is (item.Context u) n h = by u.form refl h
   where
-    by : (f : Form) → u.form ≡ f → 1 ≤ times n (cond (is_bare f) (u.name ∷ []) []) → (v : FormedUse) × (item.Context u ≡ item.Context v) × (v.form ≡ form.Bare) × (v.name ≡ n)
+    by : (f : Form) → u.form ≡ f → 1 ≤ how_often n (cond (is_bare f) (u.name ∷ []) []) → (v : FormedUse) × (item.Context u ≡ item.Context v) × (v.form ≡ form.Bare) × (v.name ≡ n)
     by form.Bare e h = (u, refl, e, alone n u.name h)
     by form.Typed e h = absurd (omega (arith, h))
 bare_is (item.RuleContext u) n h = absurd (omega (arith, h))
 bare_is (item.Rule k) n h = absurd (omega (arith, h))
 
-rule_context_is : (x : Item) (n : ℕ) → 1 ≤ times n (rule_context_name x) → (u : CtxUse) × (x ≡ item.RuleContext u) × (u.name ≡ n)
+rule_context_is : (x : Item) (n : ℕ) → 1 ≤ how_often n (rule_context_name x) → (u : CtxUse) × (x ≡ item.RuleContext u) × (u.name ≡ n)
 rule_context_is (item.Atom f p) n h = absurd (omega (arith, h))
 rule_context_is (item.Context u) n h = absurd (omega (arith, h))
 rule_context_is (item.RuleContext u) n h = (u, refl, alone n u.name h)
@@ -103,19 +104,19 @@ rule_context_is (item.Rule k) n h = absurd (omega (arith, h))
 abbrev Uses : List Item → (FormedUse → Type 0) → Type 0
 Uses xs P = (u : FormedUse) × Contains xs (item.Context u) × P u
 
-pub some_bare : (n : ℕ) (xs : List Item) → 1 ≤ times n (flat_map bare_name xs) → Uses xs (λ u. (u.form ≡ form.Bare) × (u.name ≡ n))
+pub some_bare : (n : ℕ) (xs : List Item) → 1 ≤ how_often n (flat_map bare_name xs) → Uses xs (λ u. (u.form ≡ form.Bare) × (u.name ≡ n))
 some_bare n xs h =
     let found = some_of bare_name n xs h in
     let u = bare_is found.0 n found.2 in
     (u.0, subst (Contains xs) u.1 found.1, (u.2, u.3))
 
-pub some_typed : (n : ℕ) (xs : List Item) → 1 ≤ times n (flat_map typed_name xs) → Uses xs (λ u. (u.form ≡ form.Typed) × (u.name ≡ n))
+pub some_typed : (n : ℕ) (xs : List Item) → 1 ≤ how_often n (flat_map typed_name xs) → Uses xs (λ u. (u.form ≡ form.Typed) × (u.name ≡ n))
 some_typed n xs h =
     let found = some_of typed_name n xs h in
     let u = typed_is found.0 n found.2 in
     (u.0, subst (Contains xs) u.1 found.1, (u.2, u.3))
 
-pub some_rule_context : (n : ℕ) (xs : List Item) → 1 ≤ times n (flat_map rule_context_name xs) → (u : CtxUse) × Contains xs (item.RuleContext u) × (u.name ≡ n)
+pub some_rule_context : (n : ℕ) (xs : List Item) → 1 ≤ how_often n (flat_map rule_context_name xs) → (u : CtxUse) × Contains xs (item.RuleContext u) × (u.name ≡ n)
 some_rule_context n xs h =
     let found = some_of rule_context_name n xs h in
     let u = rule_context_is found.0 n found.2 in
@@ -125,20 +126,20 @@ some_rule_context n xs h =
 
 module _ (table : List RuleTree) (r : RuleTree) (order : IsInOrder table r) where
   abbrev pub bare_in : List Item → ℕ → ℕ
-  bare_in xs n = times n (flat_map bare_name xs)
+  bare_in xs n = how_often n (flat_map bare_name xs)
 
   abbrev pub typed_in : List Item → ℕ → ℕ
-  typed_in xs n = times n (flat_map typed_name xs)
+  typed_in xs n = how_often n (flat_map typed_name xs)
 
-  in_three : (f : Item → List ℕ) (n : ℕ) → times n (flat_map f (rule_items r)) ≡ times n (flat_map f (items_of r.head)) + (times n (flat_map f (guard_items r.guard)) + times n (flat_map f (items_of r.body)))
+  in_three : (f : Item → List ℕ) (n : ℕ) → how_often n (flat_map f (rule_items r)) ≡ how_often n (flat_map f (items_of r.head)) + (how_often n (flat_map f (guard_items r.guard)) + how_often n (flat_map f (items_of r.body)))
   in_three f n =
-      let e = ap (times n) (flat_map-append f (items_of r.head) (guard_items r.guard ++ items_of r.body) ∙ ap (λ xs. flat_map f (items_of r.head) ++ xs) (flat_map-append f (guard_items r.guard) (items_of r.body))) in
-      let g = times_both n (flat_map f (items_of r.head)) (flat_map f (guard_items r.guard) ++ flat_map f (items_of r.body)) in
-      let h = times_both n (flat_map f (guard_items r.guard)) (flat_map f (items_of r.body)) in
+      let e = ap (how_often n) (flat_map-append f (items_of r.head) (guard_items r.guard ++ items_of r.body) ∙ ap (λ xs. flat_map f (items_of r.head) ++ xs) (flat_map-append f (guard_items r.guard) (items_of r.body))) in
+      let g = how_often_both n (flat_map f (items_of r.head)) (flat_map f (guard_items r.guard) ++ flat_map f (items_of r.body)) in
+      let h = how_often_both n (flat_map f (guard_items r.guard)) (flat_map f (items_of r.body)) in
       omega (arith, e, g, h)
 
   -- a context is not bare in one place and typed in another
-  one_form : (n : ℕ) → 1 ≤ times n (flat_map bare_name (rule_items r)) → 1 ≤ times n (flat_map typed_name (rule_items r)) → ⊥
+  one_form : (n : ℕ) → 1 ≤ how_often n (flat_map bare_name (rule_items r)) → 1 ≤ how_often n (flat_map typed_name (rule_items r)) → ⊥
   one_form n b t =
       let u = some_bare n (rule_items r) b in
       let v = some_typed n (rule_items r) t in
@@ -159,7 +160,7 @@ module _ (table : List RuleTree) (r : RuleTree) (order : IsInOrder table r) wher
   pub once_in_head : (n : ℕ) → bare_in (items_of r.head) n + typed_in (items_of r.head) n ≤ 1
   once_in_head n = let l = order.once_in_head n in let c = use_count n (items_of r.head) in omega (arith, l, c)
 
-  pub rule_context_once : (n : ℕ) → times n (flat_map rule_context_name (items_of r.head)) ≤ 1
+  pub rule_context_once : (n : ℕ) → how_often n (flat_map rule_context_name (items_of r.head)) ≤ 1
   rule_context_once n = let l = order.rule_context_once_in_head n in let c = rule_count n (items_of r.head) in omega (arith, l, c)
 
   -- a context of the guard that stands in the head is typed there
@@ -218,9 +219,9 @@ module _ (table : List RuleTree) (r : RuleTree) (order : IsInOrder table r) wher
       by k zero e = absurd (apart n (omega (arith, k, e)) (omega (arith, h)))
 
   -- a rule context of the body stands in the head
-  pub rule_context_known : (n : ℕ) → 1 ≤ times n (flat_map rule_context_name (items_of r.body)) → 1 ≤ times n (flat_map rule_context_name (items_of r.head))
+  pub rule_context_known : (n : ℕ) → 1 ≤ how_often n (flat_map rule_context_name (items_of r.body)) → 1 ≤ how_often n (flat_map rule_context_name (items_of r.head))
   rule_context_known n h =
       let u = some_rule_context n (items_of r.body) h in
       let there = some_length (flat_map (rule_use u.0.name) (items_of r.head)) (order.rule_context_of_the_head u.0 u.1) in
       let c = rule_count u.0.name (items_of r.head) in
-      subst (λ k. 1 ≤ times k (flat_map rule_context_name (items_of r.head))) u.2 (omega (arith, there, c))
+      subst (λ k. 1 ≤ how_often k (flat_map rule_context_name (items_of r.head))) u.2 (omega (arith, there, c))

@@ -27,7 +27,8 @@ use Rattle.lmn_congruence.specs.Translation.{expression_of, kind_of, condition_o
 use Rattle.lmn_guards.specs.GuardCodes.{in_head, is_bound, is_type, unknown, use_of_none, unbound, is_of_head, has_wrong_operands, wrong_operands, rows_of_conditions}
 use Rattle.lmn_guards.proofs.OrderLemmas.{not_then, so_else}
 use Rattle.lmn_reduction.proofs.Values.{context_tree}
-use Rattle.lmn_accepted.proofs.Listed.{times, times_both, times_here, times_later, N, among_name, number_among}
+use Rattle.lmn_accepted.proofs.Listed.{how_often_here, how_often_later, N, among_name, number_among}
+use Rattle.lmn_linkcheck.proofs.LinkedLemmas.{how_often, how_often_both}
 use Rattle.lmn_reading.proofs.NamedPlains.{AllBelow}
 use Rattle.lmn_accepted.proofs.Items.{typed_name}
 use Rattle.lmn_accepted.proofs.Expressions.{use_known, used_names, used_there}
@@ -45,8 +46,8 @@ any_more f before c = list_any-append f before (c ∷ []) ∙ ap (λ b. list_any
 
 -- a list has the names that some conditions bind
 record Binds (head : Level) (before : List Cond) (bs : List ℕ) : Type 0 where
-  into : (n : ℕ) → is_bound head before n ≡ true → 1 ≤ times n bs
-  back : (n : ℕ) → 1 ≤ times n bs → is_bound head before n ≡ true
+  into : (n : ℕ) → is_bound head before n ≡ true → 1 ≤ how_often n bs
+  back : (n : ℕ) → 1 ≤ how_often n bs → is_bound head before n ≡ true
 
 binds_as_before : (head : Level) (before : List Cond) (c : Cond) (bs : List ℕ) → ((n : ℕ) → is_bound head (before ++ c ∷ []) n ≡ is_bound head before n) → Binds head before bs → Binds head (before ++ c ∷ []) bs
 binds_as_before head before c bs same b = record { into = λ n e. b.into n (sym (same n) ∙ e); back = λ n h. same n ∙ b.back n h }
@@ -79,20 +80,20 @@ binds_left head before left right pos bs new b = record { into = into; back = ba
     is : (n : ℕ) → is_bound head (before ++ Equal left right pos ∷ []) n ≡ (not (in_head head n) && (list_any (is_left_of n) before || (left.name == n)))
     is n = ap (λ b. not (in_head head n) && b) (any_more (is_left_of n) before (Equal left right pos))
 
-    into : (n : ℕ) → is_bound head (before ++ Equal left right pos ∷ []) n ≡ true → 1 ≤ times n (left.name ∷ bs)
+    into : (n : ℕ) → is_bound head (before ++ Equal left right pos ∷ []) n ≡ true → 1 ≤ how_often n (left.name ∷ bs)
     into n e = by (left.name == n) refl (both_true (not (in_head head n)) (list_any (is_left_of n) before || (left.name == n)) (sym (is n) ∙ e))
       where
-        by : (t : Bool) → (left.name == n) ≡ t → (not (in_head head n) ≡ true) × ((list_any (is_left_of n) before || (left.name == n)) ≡ true) → 1 ≤ cond t (suc (times n bs)) (times n bs)
+        by : (t : Bool) → (left.name == n) ≡ t → (not (in_head head n) ≡ true) × ((list_any (is_left_of n) before || (left.name == n)) ≡ true) → 1 ≤ cond t (suc (how_often n bs)) (how_often n bs)
         by true q h = omega arith
         by false q h = elim (or_true (list_any (is_left_of n) before) (left.name == n) h.1) [
           | inl k ↦ b.into n (rw (h.0, k) refl)
           | inr k ↦ absurd (cc)
         ]
 
-    back : (n : ℕ) → 1 ≤ times n (left.name ∷ bs) → is_bound head (before ++ Equal left right pos ∷ []) n ≡ true
+    back : (n : ℕ) → 1 ≤ how_often n (left.name ∷ bs) → is_bound head (before ++ Equal left right pos ∷ []) n ≡ true
     back n h = is n ∙ by (left.name == n) refl h
       where
-        by : (t : Bool) → (left.name == n) ≡ t → 1 ≤ cond t (suc (times n bs)) (times n bs) → (not (in_head head n) && (list_any (is_left_of n) before || t)) ≡ true
+        by : (t : Bool) → (left.name == n) ≡ t → 1 ≤ cond t (suc (how_often n bs)) (how_often n bs) → (not (in_head head n) && (list_any (is_left_of n) before || t)) ≡ true
         by true q h =
             let here : in_head head n ≡ false = subst (λ m. in_head head m ≡ false) (eqb-true left.name n q) new in
             ap (λ b. not b && (list_any (is_left_of n) before || true)) here ∙ or_true (list_any (is_left_of n) before)
@@ -131,27 +132,27 @@ kind_tree names n u e = by (n == INT_NAME) (n == UNARY_NAME) (n == GROUND_NAME) 
     by false false true e = (tree.grounded, refl)
     by false false false e = absurd (cc)
 
-module _ (names : List tree.Name) (is : IsNames names) (head : Level) (ts : List ℕ) (known : AllBelow names ts) (typed : (n : ℕ) → 1 ≤ times n ts → in_head head n ≡ true) where
+module _ (names : List tree.Name) (is : IsNames names) (head : Level) (ts : List ℕ) (known : AllBelow names ts) (typed : (n : ℕ) → 1 ≤ how_often n ts → in_head head n ≡ true) where
   -- what is used in a guard is a typed context, where it stands in the head
   abbrev pub Typed : List Item → Type 0
-  Typed xs = (n : ℕ) → 1 ≤ times n (flat_map typed_name xs) → in_head head n ≡ true → 1 ≤ times n ts
+  Typed xs = (n : ℕ) → 1 ≤ how_often n (flat_map typed_name xs) → in_head head n ≡ true → 1 ≤ how_often n ts
 
   typed_left : (xs ys : List Item) → Typed (xs ++ ys) → Typed xs
-  typed_left xs ys t n h = t n (let e = ap (times n) (flat_map-append typed_name xs ys) in let f = times_both n (flat_map typed_name xs) (flat_map typed_name ys) in omega (arith, e, f, h))
+  typed_left xs ys t n h = t n (let e = ap (how_often n) (flat_map-append typed_name xs ys) in let f = how_often_both n (flat_map typed_name xs) (flat_map typed_name ys) in omega (arith, e, f, h))
 
   typed_right : (xs ys : List Item) → Typed (xs ++ ys) → Typed ys
-  typed_right xs ys t n h = t n (let e = ap (times n) (flat_map-append typed_name xs ys) in let f = times_both n (flat_map typed_name xs) (flat_map typed_name ys) in omega (arith, e, f, h))
+  typed_right xs ys t n h = t n (let e = ap (how_often n) (flat_map-append typed_name xs ys) in let f = how_often_both n (flat_map typed_name xs) (flat_map typed_name ys) in omega (arith, e, f, h))
 
   -- a use that is of the head or bound stands among the names of either
   known_use : (before : List Cond) (bs : List ℕ) (xs : List Item) → Binds head before bs → flat_map (use_of_none head before) xs ≡ [] → Typed xs
-      → (n : ℕ) → 1 ≤ times n (flat_map typed_name xs) → Among (N names n) (map (N names) ts) ⊎ Among (N names n) (map (N names) bs)
+      → (n : ℕ) → 1 ≤ how_often n (flat_map typed_name xs) → Among (N names n) (map (N names) ts) ⊎ Among (N names n) (map (N names) bs)
   known_use before bs xs b none t n h = elim (or_true (in_head head n) (is_bound head before n) (use_known head before xs none n h)) [
     | inl k ↦ inl (among_name names n ts (t n h k))
     | inr k ↦ inr (among_name names n bs (b.into n k))
   ]
 
-  one_use : (u : CtxUse) (more : List Item) → 1 ≤ times u.name (flat_map typed_name (used form.Typed u ∷ more))
-  one_use u more = let e = times_here u.name (flat_map typed_name more) in omega (arith, e)
+  one_use : (u : CtxUse) (more : List Item) → 1 ≤ how_often u.name (flat_map typed_name (used form.Typed u ∷ more))
+  one_use u more = let e = how_often_here u.name (flat_map typed_name more) in omega (arith, e)
 
   -- the guard's conditions, behind those that are before
   in_turn : (before cs : List Cond) (bs : List ℕ) → AllBelow names bs → Binds head before bs → NoneApplies (rows_of_conditions head before cs) → Typed (guard_items cs)
@@ -190,11 +191,11 @@ module _ (names : List tree.Name) (is : IsNames names) (head : Level) (ts : List
       xs : List Item
       xs = expression_items left ++ expression_items right
 
-      known_there : (n : ℕ) → 1 ≤ times n (flat_map typed_name (expression_items left ++ expression_items right)) → Among (N names n) (map (N names) ts) ⊎ Among (N names n) (map (N names) bs)
+      known_there : (n : ℕ) → 1 ≤ how_often n (flat_map typed_name (expression_items left ++ expression_items right)) → Among (N names n) (map (N names) ts) ⊎ Among (N names n) (map (N names) bs)
       known_there = known_use before bs (expression_items left ++ expression_items right) b r.1 (typed_left (condition_items (Compare op left right pos)) (guard_items cs) t)
 
-      both : (n : ℕ) → times n (flat_map typed_name (expression_items left ++ expression_items right)) ≡ times n (used_names left) + times n (used_names right)
-      both n = ap (times n) (flat_map-append typed_name (expression_items left) (expression_items right)) ∙ times_both n (used_names left) (used_names right)
+      both : (n : ℕ) → how_often n (flat_map typed_name (expression_items left ++ expression_items right)) ≡ how_often n (used_names left) + how_often n (used_names right)
+      both n = ap (how_often n) (flat_map-append typed_name (expression_items left) (expression_items right)) ∙ how_often_both n (used_names left) (used_names right)
 
       uses : (p : tree.Name) → UsedIn p (expression_of names left) ⊎ UsedIn p (expression_of names right) → Among p (map (N names) ts) ⊎ Among p (map (N names) bs)
       uses p (inl h) =
@@ -228,7 +229,7 @@ module _ (names : List tree.Name) (is : IsNames names) (head : Level) (ts : List
       compared there (expr.Int z) e k rest = absurd (cc)
       compared there (expr.Op' op a l c q) e k rest = absurd (cc)
       compared there (expr.Ctx u) e k rest =
-          let used_once : 1 ≤ times u.name (used_names (expr.Ctx u)) = subst (λ is. 1 ≤ times u.name (flat_map typed_name is)) (sym (context_items u)) (one_use u []) in
+          let used_once : 1 ≤ how_often u.name (used_names (expr.Ctx u)) = subst (λ is. 1 ≤ how_often u.name (flat_map typed_name is)) (sym (context_items u)) (one_use u []) in
           subst (λ E. InTurn (map (N names) ts) (map (N names) bs) (tree.equates (N names left.name) E ∷ map (condition_of names) cs)) (sym (context_tree names u))
           (equality_in_turn (among_name names left.name ts (here left.name (one_use left (expression_items right)) there)) (among_name names u.name ts (k u.name used_once e)) rest)
 
@@ -262,13 +263,13 @@ module _ (names : List tree.Name) (is : IsNames names) (head : Level) (ts : List
       here : Typed (used form.Typed left ∷ used form.Typed right ∷ [])
       here = typed_left (condition_items (Differ left right pos)) (guard_items cs) t
 
-      first : 1 ≤ times left.name (flat_map typed_name (used form.Typed left ∷ used form.Typed right ∷ []))
+      first : 1 ≤ how_often left.name (flat_map typed_name (used form.Typed left ∷ used form.Typed right ∷ []))
       first = one_use left (used form.Typed right ∷ [])
 
-      second : 1 ≤ times right.name (flat_map typed_name (used form.Typed left ∷ used form.Typed right ∷ []))
-      second = let l = times_later right.name left.name (right.name ∷ []) in let e = times_here right.name [] in omega (arith, l, e)
+      second : 1 ≤ how_often right.name (flat_map typed_name (used form.Typed left ∷ used form.Typed right ∷ []))
+      second = let l = how_often_later right.name left.name (right.name ∷ []) in let e = how_often_here right.name [] in omega (arith, l, e)
 
-      seen : (n : ℕ) → 1 ≤ times n (flat_map typed_name (used form.Typed left ∷ used form.Typed right ∷ [])) → (in_head head n || is_bound head before n) ≡ true
+      seen : (n : ℕ) → 1 ≤ how_often n (flat_map typed_name (used form.Typed left ∷ used form.Typed right ∷ [])) → (in_head head n || is_bound head before n) ≡ true
       seen = use_known head before (used form.Typed left ∷ used form.Typed right ∷ []) r.1
 
       of_head : (n : ℕ) → is_bound head before n ≡ false → (in_head head n || is_bound head before n) ≡ true → in_head head n ≡ true

@@ -24,7 +24,8 @@ use Rattle.lmn_solid.specs.declared.items.HeadItem.{HeadItem}
 use Rattle.lmn_solid.specs.Flattening.{leaf_items}
 use Rattle.lmn_solid.specs.Heads.{HeadTyped, typed_contexts_of}
 use Rattle.lmn_solid.proofs.HeadTrees.{Head, Heads, head, no_head, head_and, head_at, size, flat_items, flat_membranes, items_flat, head_leaves, heads_leaves, same_leaves, head_membranes, heads_membranes, same_membranes}
-use Rattle.lmn_accepted.proofs.Listed.{all_so, each_so, times, times_here, times_later}
+use Rattle.lmn_accepted.proofs.Listed.{all_so, each_so, how_often_here, how_often_later}
+use Rattle.lmn_linkcheck.proofs.LinkedLemmas.{how_often}
 use Rattle.lmn_base.proofs.Lists.{all_append, all_left as all_front, all_right as all_back}
 use Rattle.lmn_bridge.proofs.TypeConditions.{typed_more}
 
@@ -81,12 +82,12 @@ module _ (top : Level) (guard : List Cond) where
       flat_map-append use_name (flat_map (typed_use top guard number) ls) (numbered_uses (typed_use top guard) (number + 1) lss)
       ∙ (λ i. leaves_named number ls h.0 i ++ uses_named (number + 1) lss h.1 i)
 
-  told : (n : ℕ) (ts : List TypedUse) → AllByRecursion Right ts → 1 ≤ times n (flat_map use_name ts) → type_of top guard n ≡ Some (kind_in ts n)
+  told : (n : ℕ) (ts : List TypedUse) → AllByRecursion Right ts → 1 ≤ how_often n (flat_map use_name ts) → type_of top guard n ≡ Some (kind_in ts n)
   told n [] h l = absurd (omega (arith, l))
   told n (t ∷ ts) h l = by (t.name == n) refl l (told n ts h.1)
     where
-      by : (b : Bool) → (t.name == n) ≡ b → 1 ≤ cond b (suc (times n (flat_map use_name ts))) (times n (flat_map use_name ts))
-          → (1 ≤ times n (flat_map use_name ts) → type_of top guard n ≡ Some (kind_in ts n)) → type_of top guard n ≡ Some (if b then t.kind else kind_in ts n)
+      by : (b : Bool) → (t.name == n) ≡ b → 1 ≤ cond b (suc (how_often n (flat_map use_name ts))) (how_often n (flat_map use_name ts))
+          → (1 ≤ how_often n (flat_map use_name ts) → type_of top guard n ≡ Some (kind_in ts n)) → type_of top guard n ≡ Some (if b then t.kind else kind_in ts n)
       by true e l rest = ap (type_of top guard) (sym (eqb-true t.name n e)) ∙ h.0
       by false e l rest = rest l
 
@@ -115,10 +116,10 @@ mutual
 module _ (kind : ℕ → TypeKind) (names : List ℕ) where
   -- it is of its kind, and its name is one of these
   abbrev IsOne : HeadTyped → Type 0
-  IsOne u = (u.kind ≡ kind u.name) × (1 ≤ times u.name names)
+  IsOne u = (u.kind ≡ kind u.name) × (1 ≤ how_often u.name names)
 
   abbrev Named : List ℕ → Type 0
-  Named ns = AllByRecursion (λ n. 1 ≤ times n names) ns
+  Named ns = AllByRecursion (λ n. 1 ≤ how_often n names) ns
 
   leaves_one : (inside : ℕ) (ls : List Leaf) → Named (flat_map leaf_name ls) → AllByRecursion IsOne (typed_contexts_of (leaf_items kind inside ls))
   leaves_one inside [] h = tt
@@ -130,10 +131,10 @@ module _ (kind : ℕ → TypeKind) (names : List ℕ) where
       let P : List HeadTyped → Type 0 = AllByRecursion IsOne in subst P (sym (typed_more xs ys)) (all_append IsOne (typed_contexts_of xs) (typed_contexts_of ys) h k)
 
   front : (ls ms : List Leaf) → Named (flat_map leaf_name (ls ++ ms)) → Named (flat_map leaf_name ls)
-  front ls ms h = let P : List ℕ → Type 0 = Named in all_front (λ n. 1 ≤ times n names) (flat_map leaf_name ls) (flat_map leaf_name ms) (subst P (flat_map-append leaf_name ls ms) h)
+  front ls ms h = let P : List ℕ → Type 0 = Named in all_front (λ n. 1 ≤ how_often n names) (flat_map leaf_name ls) (flat_map leaf_name ms) (subst P (flat_map-append leaf_name ls ms) h)
 
   back : (ls ms : List Leaf) → Named (flat_map leaf_name (ls ++ ms)) → Named (flat_map leaf_name ms)
-  back ls ms h = let P : List ℕ → Type 0 = Named in all_back (λ n. 1 ≤ times n names) (flat_map leaf_name ls) (flat_map leaf_name ms) (subst P (flat_map-append leaf_name ls ms) h)
+  back ls ms h = let P : List ℕ → Type 0 = Named in all_back (λ n. 1 ≤ how_often n names) (flat_map leaf_name ls) (flat_map leaf_name ms) (subst P (flat_map-append leaf_name ls ms) h)
 
   mutual
     level_one : (inside next : ℕ) (h : Head) → Named (flat_map leaf_name (head_leaves h)) → AllByRecursion IsOne (typed_contexts_of (flat_items kind inside next h))
@@ -147,11 +148,11 @@ module _ (kind : ℕ → TypeKind) (names : List ℕ) where
         joined_one (flat_items kind next (next + 1) h) (flat_membranes kind inside (next + 1 + size h) hs) (level_one next (next + 1) h (front (head_leaves h) (heads_leaves hs) k))
         (levels_one inside (next + 1 + size h) hs (back (head_leaves h) (heads_leaves hs) k))
 
-all_times : (ns : List ℕ) → AllByRecursion (λ n. 1 ≤ times n ns) ns
+all_times : (ns : List ℕ) → AllByRecursion (λ n. 1 ≤ how_often n ns) ns
 all_times [] = tt
 all_times (n ∷ ns) = (
-  (let e = times_here n ns in omega (arith, e)),
-  all_so (λ m h. let l = times_later m n ns in omega (arith, h, l)) ns (all_times ns),
+  (let e = how_often_here n ns in omega (arith, e)),
+  all_so (λ m h. let l = how_often_later m n ns in omega (arith, h, l)) ns (all_times ns),
 )
 
 pub at_index : {A : Type 0} (P : A → Type 0) (xs : List A) (i : ℕ) (x : A) → AllByRecursion P xs → slice_get xs i ≡ Some x → P x
@@ -168,13 +169,13 @@ plan_types r plan is typed n u e =
     let hd = head_at r.head in
     let names = flat_map leaf_name (head_leaves hd) in
     let P : List HeadItem → Type 0 = λ xs. slice_get (typed_contexts_of xs) n ≡ Some u in
-    let one = at_index (λ u. (u.kind ≡ kind u.name) × (1 ≤ times u.name names)) (typed_contexts_of (flat_items kind 0 1 hd)) n u
+    let one = at_index (λ u. (u.kind ≡ kind u.name) × (1 ≤ how_often u.name names)) (typed_contexts_of (flat_items kind 0 1 hd)) n u
     (level_one kind names 0 1 hd (all_times names)) (subst P (items_flat kind r.head) e) in
     let Q : List Leaf → Type 0 = AllByRecursion (HasType r.head r.guard) in
     let all_typed = subst Q (same_leaves r.head) (each_so (HasType r.head r.guard) (leaves_of r.head) (has_type r.head r.guard typed)) in
     let right = uses_right r.head r.guard 0 (head_membranes hd) in
     let named = uses_named r.head r.guard 0 (head_membranes hd) (in_membranes r.head r.guard hd all_typed) ∙ membranes_named hd in
-    let known = told r.head r.guard u.name (numbered_uses (typed_use r.head r.guard) 0 (head_membranes hd)) right (subst (λ ns. 1 ≤ times u.name ns) (sym named) one.1) in
+    let known = told r.head r.guard u.name (numbered_uses (typed_use r.head r.guard) 0 (head_membranes hd)) right (subst (λ ns. 1 ≤ how_often u.name ns) (sym named) one.1) in
     let kinds = ap (numbered_uses (typed_use r.head r.guard) 0) (sym (same_membranes r.head)) ∙ sym is.kinds in
     known ∙ ap (λ ts. Some (kind_in ts u.name)) kinds ∙ ap Some (sym one.0)
   where

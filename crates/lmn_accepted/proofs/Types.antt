@@ -25,7 +25,8 @@ use Rattle.lmn_guards.specs.declared.plan.TypeKind.{TypeKind}
 use Rattle.lmn_guards.specs.declared.plan.TypeKind.TheVariants as kind
 use Rattle.lmn_guards.specs.GuardCodes.{in_head, is_type, unknown, asks, type_of, type_name, rows_of_conditions}
 use Rattle.lmn_guards.proofs.OrderLemmas.{so_else}
-use Rattle.lmn_accepted.proofs.Listed.{times, times_both, alone, N}
+use Rattle.lmn_accepted.proofs.Listed.{alone, N}
+use Rattle.lmn_linkcheck.proofs.LinkedLemmas.{how_often, how_often_both}
 use Rattle.lmn_accepted.proofs.Items.{typed_name}
 use Rattle.lmn_accepted.proofs.Expressions.{used_names, in_either, there_used}
 use Rattle.lmn_accepted.proofs.InTurns.{rows_apart, kind_tree}
@@ -40,17 +41,17 @@ use Rattle.lmn_guards.proofs.WorkedGuards.{of_context as context_items, of_integ
 abbrev pub AllTyped : List Item → Type 0
 AllTyped xs = AllByRecursion (λ x. (u : CtxUse) × (x ≡ used form.Typed u)) xs
 
-typed_use_there : (n : ℕ) (xs : List Item) → AllTyped xs → has_use n xs ≡ true → 1 ≤ times n (flat_map typed_name xs)
+typed_use_there : (n : ℕ) (xs : List Item) → AllTyped xs → has_use n xs ≡ true → 1 ≤ how_often n (flat_map typed_name xs)
 typed_use_there n [] h e = absurd (cc)
 typed_use_there n (x ∷ xs) h e =
     let u = h.0 in
-    let P : Item → Type 0 = λ y. 1 ≤ times n (flat_map typed_name (y ∷ xs)) in
+    let P : Item → Type 0 = λ y. 1 ≤ how_often n (flat_map typed_name (y ∷ xs)) in
     subst P (sym u.1) (by u.0 (subst (λ y. is_some_place (flat_map (use_of n) (y ∷ xs)) ≡ true) u.1 e) (typed_use_there n xs h.1))
   where
-    by : (u : CtxUse) → is_some_place ((if u.name == n then u.pos ∷ [] else []) ++ flat_map (use_of n) xs) ≡ true → (has_use n xs ≡ true → 1 ≤ times n (flat_map typed_name xs)) → 1 ≤ cond (u.name == n) (suc (times n (flat_map typed_name xs))) (times n (flat_map typed_name xs))
+    by : (u : CtxUse) → is_some_place ((if u.name == n then u.pos ∷ [] else []) ++ flat_map (use_of n) xs) ≡ true → (has_use n xs ≡ true → 1 ≤ how_often n (flat_map typed_name xs)) → 1 ≤ cond (u.name == n) (suc (how_often n (flat_map typed_name xs))) (how_often n (flat_map typed_name xs))
     by u e rest = on (u.name == n) e
       where
-        on : (b : Bool) → is_some_place ((if b then u.pos ∷ [] else []) ++ flat_map (use_of n) xs) ≡ true → 1 ≤ cond b (suc (times n (flat_map typed_name xs))) (times n (flat_map typed_name xs))
+        on : (b : Bool) → is_some_place ((if b then u.pos ∷ [] else []) ++ flat_map (use_of n) xs) ≡ true → 1 ≤ cond b (suc (how_often n (flat_map typed_name xs))) (how_often n (flat_map typed_name xs))
         on true e = omega arith
         on false e = rest e
 
@@ -88,8 +89,8 @@ module _ (names : List tree.Name) (head : Level) (n : ℕ) where
           subst (GivesType (N names n)) (sym t.1) (subst (λ x. GivesType (N names x) (tree.is_kind t.0 (N names u.name))) one by_kind)
   gives kind.Int (Compare op l r pos) none e =
       let h = typed_use_there n (expression_items l ++ expression_items r) (condition_typed (Compare op l r pos)) e in
-      let both = ap (times n) (flat_map-append typed_name (expression_items l) (expression_items r)) ∙ times_both n (used_names l) (used_names r) in
-      elim (in_either names (times n (flat_map typed_name (expression_items l ++ expression_items r))) (times n (used_names l)) (times n (used_names r)) both h) [
+      let both = ap (how_often n) (flat_map-append typed_name (expression_items l) (expression_items r)) ∙ how_often_both n (used_names l) (used_names r) in
+      elim (in_either names (how_often n (flat_map typed_name (expression_items l ++ expression_items r))) (how_often n (used_names l)) (how_often n (used_names r)) both h) [
         | inl k ↦ by_left (there_used names l n k)
         | inr k ↦ by_right (there_used names r n k)
       ]
@@ -99,14 +100,14 @@ module _ (names : List tree.Name) (head : Level) (n : ℕ) where
   gives kind.Unary (Equal u r pos) none e = absurd (cc)
   gives kind.Ground (Equal u r pos) none e = by (u.name == n) refl (typed_use_there n (used form.Typed u ∷ expression_items r) (condition_typed (Equal u r pos)) (both_true (in_head head u.name) (has_use n (condition_items (Equal u r pos))) e).1)
     where
-      by : (b : Bool) → (u.name == n) ≡ b → 1 ≤ cond b (suc (times n (used_names r))) (times n (used_names r)) → GivesType (N names n) (tree.equates (N names u.name) (expression_of names r))
+      by : (b : Bool) → (u.name == n) ≡ b → 1 ≤ cond b (suc (how_often n (used_names r))) (how_often n (used_names r)) → GivesType (N names n) (tree.equates (N names u.name) (expression_of names r))
       by true q h = subst (λ x. GivesType (N names x) (tree.equates (N names u.name) (expression_of names r))) (eqb-true u.name n q) by_equality
       by false q h = by_value (there_used names r n h)
   gives kind.Int (Differ u v pos) none e = absurd (cc)
   gives kind.Unary (Differ u v pos) none e = absurd (cc)
   gives kind.Ground (Differ u v pos) none e = by (u.name == n) refl (typed_use_there n (used form.Typed u ∷ used form.Typed v ∷ []) (condition_typed (Differ u v pos)) e)
     where
-      by : (b : Bool) → (u.name == n) ≡ b → 1 ≤ cond b (suc (times n (v.name ∷ []))) (times n (v.name ∷ [])) → GivesType (N names n) (tree.differs (N names u.name) (N names v.name))
+      by : (b : Bool) → (u.name == n) ≡ b → 1 ≤ cond b (suc (how_often n (v.name ∷ []))) (how_often n (v.name ∷ [])) → GivesType (N names n) (tree.differs (N names u.name) (N names v.name))
       by true q h = subst (λ x. GivesType (N names x) (tree.differs (N names u.name) (N names v.name))) (eqb-true u.name n q) by_difference_left
       by false q h = subst (λ x. GivesType (N names x) (tree.differs (N names u.name) (N names v.name))) (alone n v.name h) by_difference_right
 
@@ -157,17 +158,17 @@ module _ (names : List tree.Name) (n : ℕ) where
       by false q e rest = further (rest e)
 
   -- and they are used in the guard
-  pub left_used_there : (cs : List Cond) → list_any (is_left_of n) cs ≡ true → 1 ≤ times n (flat_map typed_name (guard_items cs))
+  pub left_used_there : (cs : List Cond) → list_any (is_left_of n) cs ≡ true → 1 ≤ how_often n (flat_map typed_name (guard_items cs))
   left_used_there [] e = absurd (cc)
   left_used_there (c ∷ cs) e =
-      let both = ap (times n) (flat_map-append typed_name (condition_items c) (guard_items cs)) ∙ times_both n (flat_map typed_name (condition_items c)) (flat_map typed_name (guard_items cs)) in
+      let both = ap (how_often n) (flat_map-append typed_name (condition_items c) (guard_items cs)) ∙ how_often_both n (flat_map typed_name (condition_items c)) (flat_map typed_name (guard_items cs)) in
       elim (or_true (is_left_of n c) (list_any (is_left_of n) cs) e) [
         | inl h ↦ (let one = here c h in omega (arith, both, one))
         | inr h ↦ (let rest = left_used_there cs h in omega (arith, both, rest))
       ]
     where
-      here : (c : Cond) → is_left_of n c ≡ true → 1 ≤ times n (flat_map typed_name (condition_items c))
+      here : (c : Cond) → is_left_of n c ≡ true → 1 ≤ how_often n (flat_map typed_name (condition_items c))
       here (Kind m us pos) e = absurd (cc)
       here (Compare op l r pos) e = absurd (cc)
       here (Differ u v pos) e = absurd (cc)
-      here (Equal u r pos) e = subst (λ b. 1 ≤ cond b (suc (times n (used_names r))) (times n (used_names r))) (sym e) (omega arith)
+      here (Equal u r pos) e = subst (λ b. 1 ≤ cond b (suc (how_often n (used_names r))) (how_often n (used_names r))) (sym e) (omega arith)

@@ -2,7 +2,7 @@
 use Rattle.std.proofs.Common.{ℕ, zero, suc, ◌≡◌, ◌<◌, ◌⊎◌, ◌==◌, not, Bool, true, false, List, [], ◌∷◌, ◌++◌, map, length, Some, None, All, refl, sym, ap, subst, ◌∙◌, inl, inr, arith}
 use Rattle.std.specs.Prelude.{ℤ, slice_get, if◌then◌else◌}
 use Rattle.std.specs.List.{flat_map, list_any}
-use Rattle.std.proofs.lemmas.Bool.{cases_eq, eq-eqb, eqb-true}
+use Rattle.std.proofs.lemmas.Bool.{eq-eqb, eqb-true}
 use Rattle.lmn_base.specs.declared.guard.Cond.{Cond}
 use Rattle.lmn_base.specs.declared.guard.Cond.TheVariants.{Kind, Compare, Equal, Differ}
 use Rattle.lmn_base.specs.declared.guard.Expr.{Expr}
@@ -29,26 +29,24 @@ use Rattle.lmn_guards.specs.Values.{of_context, of_operation}
 use Rattle.lmn_solid.specs.Flattening.{items_of_head}
 use Rattle.lmn_solid.specs.Heads.{HeadTyped, typed_contexts_of}
 use Rattle.lmn_solid.proofs.HeadTrees.{Head, Heads, head, no_head, head_and, head_at, head_leaves, heads_leaves, same_leaves, head_uses, heads_uses, same_uses, items_flat}
-use Rattle.lmn_congruence.specs.Orders.{Among, at_head, further}
-use Rattle.lmn_congruence.specs.Process.{atom}
+use Rattle.lmn_congruence.specs.Orders.{Among}
 use Rattle.lmn_congruence.specs.Rules as tree
 use Rattle.lmn_congruence.specs.Translation.{name_of, rule_tree, condition_of, kind_of, expression_of}
 use Rattle.lmn_reduction.specs.Assignments.{Assignment}
 use Rattle.lmn_reduction.specs.Firing.{typed_contexts}
 use Rattle.lmn_reduction.specs.Guards.{GuardHolds, Holds, of_kind, in_order, binds, alike, unlike, condition_and}
-use Rattle.lmn_reduction.specs.Parts.{IsInteger, IsGround, ReachesLink, the_root}
+use Rattle.lmn_reduction.specs.Parts.{IsInteger, IsGround}
 use Rattle.lmn_reduction.specs.Values.{Value}
 use Rattle.lmn_congruence.proofs.Appended.{all_left, all_right}
 use Rattle.lmn_bridge.specs.HeapRegions.{HeapReading}
 use Rattle.lmn_bridge.specs.Premises.{IsRule, IsOfTypeKind, HasKinds, HasTypes}
-use Rattle.lmn_bridge.proofs.Expressions.{context_tree, operation_tree}
+use Rattle.lmn_reduction.proofs.Values.{context_tree, operation_tree}
 use Rattle.lmn_bridge.proofs.HeadFacts.{typed_holds}
 use Rattle.lmn_bridge.proofs.KindConditions.{heads_are, typed_known, guard_known, same_number}
 use Rattle.lmn_bridge.proofs.TypeConditions.{among_named, among_of}
 use Rattle.lmn_base.proofs.Common.{operation_items}
 use Rattle.lmn_base.proofs.Lists.{all_both}
 use Rattle.lmn_base.proofs.Truth.{and_true as and_both, either_true as or_either}
-use Rattle.lmn_congruence.proofs.Counts.{none_if_apart as apart_none, one_if_equal as same_one}
 use Rattle.lmn_guards.proofs.WorkedGuards.{of_context as context_items, of_integer as number_items}
 use Rattle.lmn_adequacy.proofs.Accepting.{integer_ground}
 

@@ -10,7 +10,7 @@ use Rattle.lmn_guards.specs.Values.{value, Stand, Ordered}
 use Rattle.lmn_reduction.specs.Assignments.{Assignment}
 use Rattle.lmn_reduction.specs.Parts.{IsInteger}
 use Rattle.lmn_reduction.specs.Values.{Value}
-pub use Rattle.lmn_reduction.proofs.Values.{Uses, uses_known}
+use Rattle.lmn_reduction.proofs.Values.{Uses}
 use Rattle.lmn_reduction.proofs.Values.{context_tree, operation_tree, value_into as into_tree, value_back as back_of_tree}
 use Rattle.lmn_adequacy.specs.Accepted.{UsedIn, here_used, left_used, right_used}
 

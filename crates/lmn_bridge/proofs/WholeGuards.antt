@@ -25,8 +25,8 @@ use Rattle.lmn_reduction.specs.Values.{Value}
 use Rattle.lmn_congruence.proofs.Appended.{all_left, all_right}
 use Rattle.lmn_adequacy.specs.Accepted.{InTurn, binding_in_turn, equality_in_turn, difference_in_turn, UsedIn}
 use Rattle.lmn_bridge.specs.Bindings.{Binds, BindsAt}
-use Rattle.lmn_bridge.proofs.Expressions.{number_tree, context_tree, operation_tree}
-use Rattle.lmn_bridge.proofs.Values.{Uses, uses_from, uses_known, uses_both, value_into, value_back, stand_into, stand_back}
+use Rattle.lmn_reduction.proofs.Values.{number_tree, context_tree, operation_tree, Uses, uses_known}
+use Rattle.lmn_bridge.proofs.Values.{uses_from, uses_both, value_into, value_back, stand_into, stand_back}
 use Rattle.lmn_bridge.proofs.KindConditions.{StandsFor, each_use, type_into, type_back, compared, turn_compared, holds_first, same_number}
 use Rattle.lmn_base.proofs.Numbers.{not_equal as apart_test}
 use Rattle.lmn_base.specs.declared.guard.Expr.TheVariants as expr

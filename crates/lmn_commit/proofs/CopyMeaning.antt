@@ -2,7 +2,7 @@
 use Rattle.std.proofs.Common.{ℕ, ◌≡◌, List, [], ◌∷◌, ◌++◌, sym, subst, length, ◌∙◌}
 use Rattle.lmn_heap.specs.Heap.{Heap, port_id}
 use Rattle.lmn_ground.specs.Spread.{AreAtoms}
-use Rattle.lmn_ground.specs.Copies.{Copied}
+use Rattle.lmn_parts.specs.Copies.{Copied}
 use Rattle.lmn_ground.proofs.GroundLaws.{part_atoms}
 use Rattle.lmn_registers.specs.declared.registers.SetRegisters.{SetRegisters}
 use Rattle.lmn_commit.specs.Preparing.{CopyIsMade}

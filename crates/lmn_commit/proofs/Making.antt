@@ -128,18 +128,21 @@ module _ {A M : Type 0} (atom : A → ℕ) (membrane : M → ℕ) where
     abbrev new_one : A
     new_one = made.0
 
-    grown : Grows g k
-    grown = subst (λ l. Grows g l) (sym made.3) (record { atoms = λ n x e. get_front g.atoms (new_one ∷ []) n x e; membranes = λ n m e. e; parts = refl; integers = refl; copies = λ n p e. e })
+    abbrev with_atom : SetRegisters A M
+    with_atom = record g { atoms = g.atoms ++ new_one ∷ [] }
 
-    held_now : AreHeld atom membrane t k
-    held_now = subst (λ l. AreHeld atom membrane t l) (sym made.3) (subst (λ u. AreHeld atom membrane u (record g { atoms = g.atoms ++ new_one ∷ [] })) (sym made.2) (record {
+    atom_grows : Grows g with_atom
+    atom_grows = record { atoms = λ n x e. get_front g.atoms (new_one ∷ []) n x e; membranes = λ n m e. e; parts = refl; integers = refl; copies = λ n p e. e }
+
+    atom_held : AreHeld atom membrane (made_atom s (atom new_one) f) with_atom
+    atom_held = record {
       atoms = λ n x e. elim (get_either g.atoms new_one n x e) [
         | inl w ↦ some_altered s.atoms (atom new_one) (atom x) (new_atom f) (held.atoms n x w)
         | inr w ↦ subst (λ y. IsAtom (made_atom s (atom new_one) f) (atom y)) w (rw (alter_at s.atoms (atom new_one) (λ _. Some (new_atom f))) refl)
       ];
       membranes = held.membranes;
       parts = λ n p e. some_altered s.atoms (atom new_one) (atom p.0) (new_atom f) (held.parts n p e);
-    }))
+    }
 
     in_next : slice_get k.atoms (length g.atoms) ≡ Some new_one
     in_next = subst (λ (l : SetRegisters A M). slice_get l.atoms (length g.atoms) ≡ Some new_one) (sym made.3) (get_last g.atoms new_one)
@@ -147,8 +150,8 @@ module _ {A M : Type 0} (atom : A → ℕ) (membrane : M → ℕ) where
     atom_made : atoms_made i ≡ 1 → membranes_made i ≡ 0 → copies_made i ≡ 0 → ((r : Registers) (rules : ℕ → List ℕ) (x : ℕ) → needed_by r rules i x ≡ 0) →
         ((r : Registers) → AgreesWithCopies atom membrane k r → r.head.images.atom (length g.atoms) ≡ atom new_one → Makes r i s t) → IsMade atom membrane s t g k before i
     atom_made one none no_copy free makes = record {
-      grows = grown;
-      held = held_now;
+      grows = subst (λ l. Grows g l) (sym made.3) atom_grows;
+      held = subst (λ l. AreHeld atom membrane t l) (sym made.3) (subst (λ u. AreHeld atom membrane u with_atom) (sym made.2) atom_held);
       atoms = ap (λ (l : SetRegisters A M). length l.atoms) made.3 ∙ length_one g.atoms new_one ∙ ap (λ n. length g.atoms + n) (sym one);
       membranes = ap (λ (l : SetRegisters A M). length l.membranes) made.3 ∙ (let e : length g.membranes ≡ length g.membranes + 0 = omega arith in e) ∙ ap (λ n. length g.membranes + n) (sym none);
       copies = ap (λ (l : SetRegisters A M). length l.copies) made.3 ∙ (let e : length g.copies ≡ length g.copies + 0 = omega arith in e) ∙ ap (λ n. length g.copies + n) (sym no_copy);
@@ -173,7 +176,7 @@ module _ {A M : Type 0} (atom : A → ℕ) (membrane : M → ℕ) where
         atom_made (ap atoms_made e) (ap membranes_made e) (ap copies_made e) (λ r rules n. ap (λ j. needed_by r rules j n) e)
         (λ r w q. subst (λ j. Makes r j s t) (sym e)
         (let n : r.head.images.atom x ≡ atom new_one = ap r.head.images.atom u.0.0 ∙ q in
-        let b : r.head.integer z ≡ value = w.integers z value (subst (λ zs. slice_get zs z ≡ Some value) (sym grown.integers) at) in
+        let b : r.head.integer z ≡ value = w.integers z value (subst (λ zs. slice_get zs z ≡ Some value) (sym (ap (λ (l : SetRegisters A M). l.integers) made.3)) at) in
         (ap s.atoms n ∙ made.1, made.2 ∙ (ap (λ m. made_atom s m f) (sym n) ∙ ap (λ h. made_atom s (r.head.images.atom x) h) (is ∙ ap integer_functor (sym b))))))
 
   -- A membrane is made.
@@ -181,18 +184,21 @@ module _ {A M : Type 0} (atom : A → ℕ) (membrane : M → ℕ) where
     abbrev new_handle : M
     new_handle = made.0
 
-    more : Grows g k
-    more = subst (λ l. Grows g l) (sym made.3) (record { atoms = λ n x e. e; membranes = λ n m e. get_front g.membranes (new_handle ∷ []) n m e; parts = refl; integers = refl; copies = λ n p e. e })
+    abbrev with_membrane : SetRegisters A M
+    with_membrane = record g { membranes = g.membranes ++ new_handle ∷ [] }
 
-    held_too : AreHeld atom membrane t k
-    held_too = subst (λ l. AreHeld atom membrane t l) (sym made.3) (subst (λ u. AreHeld atom membrane u (record g { membranes = g.membranes ++ new_handle ∷ [] })) (sym made.2) (record {
+    membrane_grows : Grows g with_membrane
+    membrane_grows = record { atoms = λ n x e. e; membranes = λ n m e. get_front g.membranes (new_handle ∷ []) n m e; parts = refl; integers = refl; copies = λ n p e. e }
+
+    membrane_held : AreHeld atom membrane (made_mem s (membrane new_handle)) with_membrane
+    membrane_held = record {
       atoms = held.atoms;
       membranes = λ n x e. elim (get_either g.membranes new_handle n x e) [
         | inl w ↦ some_altered s.mems (membrane new_handle) (membrane x) new_mem (held.membranes n x w)
         | inr w ↦ subst (λ y. IsMem (made_mem s (membrane new_handle)) (membrane y)) w (rw (alter_at s.mems (membrane new_handle) (λ _. Some new_mem)) refl)
       ];
       parts = held.parts;
-    }))
+    }
 
     same_rules : (x : ℕ) → rules_in (made_mem s (membrane new_handle)) x ≡ rules_in s x
     same_rules x = elim (cases_eq x (membrane new_handle)) [
@@ -210,8 +216,8 @@ module _ {A M : Type 0} (atom : A → ℕ) (membrane : M → ℕ) where
     new_mem_made x y e v c reads =
         let u : UsesInOrder (length g.atoms) (length g.membranes) (length g.parts) v c (NewMem x y) = subst (λ j. UsesInOrder (length g.atoms) (length g.membranes) (length g.parts) v c j) e reads in
         record {
-          grows = more;
-          held = held_too;
+          grows = subst (λ l. Grows g l) (sym made.3) membrane_grows;
+          held = subst (λ l. AreHeld atom membrane t l) (sym made.3) (subst (λ u. AreHeld atom membrane u with_membrane) (sym made.2) membrane_held);
           atoms = ap (λ (l : SetRegisters A M). length l.atoms) made.3 ∙ (let z : length g.atoms ≡ length g.atoms + 0 = omega arith in z) ∙ ap (λ n. length g.atoms + n) (sym (ap atoms_made e));
           membranes = ap (λ (l : SetRegisters A M). length l.membranes) made.3 ∙ length_one g.membranes new_handle ∙ ap (λ n. length g.membranes + n) (sym (ap membranes_made e));
           copies = ap (λ (l : SetRegisters A M). length l.copies) made.3 ∙ (let z : length g.copies ≡ length g.copies + 0 = omega arith in z) ∙ ap (λ n. length g.copies + n) (sym (ap copies_made e));

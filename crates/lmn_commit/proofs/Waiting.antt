@@ -9,7 +9,8 @@ use Rattle.lmn_heap.specs.Heap.{Heap, HeapAtom, HeapMem, Place, top, within, wai
 use Rattle.lmn_heap.specs.Sound.{Paired}
 use Rattle.lmn_heap.specs.Graphs.{atom_map}
 use Rattle.lmn_heap.proofs.Listing.{alter_at, alter_away}
-use Rattle.lmn_ground.specs.Copies.{Beside, Copied, Remains}
+use Rattle.lmn_ground.specs.Copies.{Remains}
+use Rattle.lmn_parts.specs.Copies.{Beside, Copied}
 use Rattle.lmn_commit.specs.Preparing.{CanBeCopied, OnlyMakes}
 use Rattle.lmn_base.proofs.Numbers.{zeros_at as no_marks}
 use Rattle.lmn_heap.proofs.Common.{decide_in as in_or_not, no_links}

@@ -4,7 +4,7 @@ use Rattle.lmn_base.specs.declared.functor.Functor.{Functor}
 use Rattle.lmn_heap.specs.Heap.{Heap, IsAtom, arity_of, made_atom, made_mem, reserved, discarded, rules_in, spare_of, port_id, Unmarked}
 use Rattle.lmn_heap.specs.Conditions.{Alone}
 use Rattle.lmn_ground.specs.Spread.{IsWhole}
-use Rattle.lmn_ground.specs.Copies.{Copied, LeadsOut}
+use Rattle.lmn_parts.specs.Copies.{Copied, LeadsOut}
 use Rattle.lmn_instr.specs.declared.instr.NewPort.{NewPort}
 use Rattle.lmn_instr.specs.declared.instr.NewPort.TheVariants as new
 use Rattle.lmn_instr.specs.declared.instr.Instr.{Instr}

@@ -24,75 +24,13 @@ use Rattle.lmn_solid.specs.Heads as heads
 use Rattle.lmn_solid.specs.Guards.{typed_number}
 use Rattle.lmn_solid.specs.Flattening.{leaf_items, items_of_head, unnumbered}
 use Rattle.lmn_solid.specs.Embeddings.{HasAtom, HasTyped, HasLink}
-use Rattle.lmn_solid.proofs.HeadTrees.{Head, Heads, head, no_head, head_and, size, sizes, flat_items, flat_membranes, items_flat, head_at, head_leaves, heads_leaves, same_leaves, head_number, heads_number, heads_length, same_number, same_size}
+use Rattle.lmn_solid.proofs.HeadTrees.{Head, Heads, head, no_head, head_and, size, sizes, flat_items, flat_membranes, items_flat, head_at, head_number, heads_number, heads_length, same_number, same_size}
 use Rattle.lmn_compile_head.specs.Heads.{EachInside}
 use Rattle.lmn_compile_head.specs.Tables.{AllBelow, HeadFits, HasFewLinks}
-use Rattle.lmn_compile_head.proofs.Noting.{atom_times, typed_times}
+use Rattle.lmn_solid.proofs.HeadLinks.{bare, bare_items, head_links}
 use Rattle.lmn_base.specs.Graphs.{Port}
 use Rattle.lmn_base.proofs.Lists.{contains_behind as behind}
 use Rattle.lmn_solid.proofs.Common.{times_append}
-
--- the atoms and typed contexts of a list of items, as if all stood at the top
-abbrev pub bare : List HeadItem → List HeadItem
-bare [] = []
-bare (Atom f xs m ∷ is) = Atom f xs 0 ∷ bare is
-bare (Typed n k x m ∷ is) = Typed n k x 0 ∷ bare is
-bare (Membrane m c r ∷ is) = bare is
-
-bare_append : (as' bs : List HeadItem) → bare (as' ++ bs) ≡ bare as' ++ bare bs
-bare_append [] bs = refl
-bare_append (Atom f xs m ∷ is) bs = ap (λ k. Atom f xs 0 ∷ k) (bare_append is bs)
-bare_append (Typed n k x m ∷ is) bs = ap (λ l. Typed n k x 0 ∷ l) (bare_append is bs)
-bare_append (Membrane m c r ∷ is) bs = bare_append is bs
-
-leaves_append : (kind : ℕ → TypeKind) (ls ms : List Leaf) → leaf_items kind 0 (ls ++ ms) ≡ leaf_items kind 0 ls ++ leaf_items kind 0 ms
-leaves_append kind [] ms = refl
-leaves_append kind (leaf.Atom f os p ∷ ls) ms = ap (λ k. Atom f (map (λ o. o.link) os) 0 ∷ k) (leaves_append kind ls ms)
-leaves_append kind (leaf.Typed n o p ∷ ls) ms = ap (λ k. Typed n (kind n) o.link 0 ∷ k) (leaves_append kind ls ms)
-
-bare_leaves : (kind : ℕ → TypeKind) (inside : ℕ) (ls : List Leaf) → bare (leaf_items kind inside ls) ≡ leaf_items kind 0 ls
-bare_leaves kind inside [] = refl
-bare_leaves kind inside (leaf.Atom f os p ∷ ls) = ap (λ k. Atom f (map (λ o. o.link) os) 0 ∷ k) (bare_leaves kind inside ls)
-bare_leaves kind inside (leaf.Typed n o p ∷ ls) = ap (λ k. Typed n (kind n) o.link 0 ∷ k) (bare_leaves kind inside ls)
-
-module _ (kind : ℕ → TypeKind) where
-  mutual
-    bare_head : (inside next : ℕ) (h : Head) → bare (flat_items kind inside next h) ≡ leaf_items kind 0 (head_leaves h)
-    bare_head inside next (head leaves hs cs rcs rs) =
-        bare_append (leaf_items kind inside leaves) (flat_membranes kind inside next hs)
-        ∙ (λ i. bare_leaves kind inside leaves i ++ bare_heads inside next hs i)
-        ∙ sym (leaves_append kind leaves (heads_leaves hs))
-
-    bare_heads : (inside next : ℕ) (hs : Heads) → bare (flat_membranes kind inside next hs) ≡ leaf_items kind 0 (heads_leaves hs)
-    bare_heads inside next no_head = refl
-    bare_heads inside next (head_and h hs) =
-        bare_append (flat_items kind next (next + 1) h) (flat_membranes kind inside (next + 1 + size h) hs)
-        ∙ (λ i. bare_head next (next + 1) h i ++ bare_heads inside (next + 1 + size h) hs i)
-        ∙ sym (leaves_append kind (head_leaves h) (heads_leaves hs))
-
-  -- the leaves of a head's items are the leaves of the head
-  pub bare_items : (l : Level) → bare (items_of_head kind l) ≡ leaf_items kind 0 (leaves_of l)
-  bare_items l = ap bare (items_flat kind l) ∙ bare_head 0 1 (head_at l) ∙ ap (leaf_items kind 0) (sym (same_leaves l))
-
--- ---- links
-
-bare_times : (x : ℕ) (is : List HeadItem) → times x (heads.links_of_head is) ≡ times x (heads.links_of_head (bare is))
-bare_times x [] = refl
-bare_times x (Atom f xs m ∷ is) = atom_times x f xs m is ∙ (ap (λ k. times x xs + k) (bare_times x is) ∙ sym (atom_times x f xs 0 (bare is)))
-bare_times x (Typed n k y m ∷ is) = let a = typed_times x n k y m is in let b = typed_times x n k y 0 (bare is) in let c = bare_times x is in omega (arith, a, b, c)
-bare_times x (Membrane m c r ∷ is) = bare_times x is
-
-leaves_times : (kind : ℕ → TypeKind) (x : ℕ) (ls : List Leaf) → times x (heads.links_of_head (leaf_items kind 0 ls)) ≡ times x (map (λ o. o.link) (flat_map occurrences_of_leaf ls))
-leaves_times kind x [] = refl
-leaves_times kind x (leaf.Atom f os p ∷ ls) =
-    atom_times x f (map (λ o. o.link) os) 0 (leaf_items kind 0 ls) ∙ (ap (λ k. times x (map (λ o. o.link) os) + k) (leaves_times kind x ls)
-    ∙ (sym (times_append x (map (λ o. o.link) os) (map (λ o. o.link) (flat_map occurrences_of_leaf ls))) ∙ ap (times x) (sym (map-append (λ o. o.link) os (flat_map occurrences_of_leaf ls)))))
-leaves_times kind x (leaf.Typed n o p ∷ ls) =
-    let a = typed_times x n (kind n) o.link 0 (leaf_items kind 0 ls) in let b = leaves_times kind x ls in omega (arith, a, b)
-
--- a link occurs as often in the items of a head as in the head
-pub head_links : (kind : ℕ → TypeKind) (l : Level) (x : ℕ) → times x (heads.links_of_head (items_of_head kind l)) ≡ times x (links_of l)
-head_links kind l x = bare_times x (items_of_head kind l) ∙ (ap (λ is. times x (heads.links_of_head is)) (bare_items kind l) ∙ leaves_times kind x (leaves_of l))
 
 -- ---- where items stand
 

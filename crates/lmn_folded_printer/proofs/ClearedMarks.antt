@@ -122,11 +122,11 @@ cleared_all s t sound a n there low c i = elim (below_or i (length (marks_of (t.
 ]
 
 -- All marks are 0 but those of atoms that are still to come.
-pub record Clearing (s t : Heap) (f : Forest) (next : Option ℕ) : Type 0 where
+pub record ClearingAll (s t : Heap) (f : Forest) (next : Option ℕ) : Type 0 where
   pub marks : OtherMarks s t
   pub left : (a i : ℕ) → (mark_of t a i ≡ 0) ⊎ In a (from next (printed_atoms s (flat f)))
 
-pub clearing_first : (s : Heap) → Valid s → (f : Forest) → IsTree s f → (next : Option ℕ) → from next (printed_atoms s (flat f)) ≡ printed_atoms s (flat f) → Clearing s s f next
+pub clearing_first : (s : Heap) → Valid s → (f : Forest) → IsTree s f → (next : Option ℕ) → from next (printed_atoms s (flat f)) ≡ printed_atoms s (flat f) → ClearingAll s s f next
 clearing_first s valid f t next e = record { marks = others_none s; left = λ a i. by a i (s.atoms a) refl }
   where
     by : (a i : ℕ) (o : Option HeapAtom) → s.atoms a ≡ o → (mark_of s a i ≡ 0) ⊎ In a (from next (printed_atoms s (flat f)))
@@ -134,12 +134,12 @@ clearing_first s valid f t next e = record { marks = others_none s; left = λ a 
     by a i (Some x) g = inr (subst (In a) (sym e) (printed_all s valid f t a (subst IsSome (sym g) refl)))
 
 -- one atom more
-pub clearing_next : {A : Type 0} (id : A → ℕ) (s t u : Heap) (f : Forest) → IsTree s f → (a : A) (now next : Option A) → now ≡ Some a → Clearing s t f (option_map id now) → OtherMarks t u
+pub clearing_next : {A : Type 0} (id : A → ℕ) (s t u : Heap) (f : Forest) → IsTree s f → (a : A) (now next : Option A) → now ≡ Some a → ClearingAll s t f (option_map id now) → OtherMarks t u
     → ((i : ℕ) → mark_of u (id a) i ≡ 0) → ((b i : ℕ) → mark_of t b i ≡ 0 → mark_of u b i ≡ 0)
-    → ((g : Forest) → IsTree u g → from (option_map id next) (printed_atoms u (flat g)) ≡ after (id a) (printed_atoms u (flat g))) → Clearing s u f (option_map id next)
+    → ((g : Forest) → IsTree u g → from (option_map id next) (printed_atoms u (flat g)) ≡ after (id a) (printed_atoms u (flat g))) → ClearingAll s u f (option_map id next)
 clearing_next id s t u f tree a now next is c r done others h =
     let whole = others_more s t u c.marks r in
-    let d = subst (λ o. Clearing s t f (option_map id o)) is c in
+    let d = subst (λ o. ClearingAll s t f (option_map id o)) is c in
     record { marks = whole; left = λ b i. by b i (behind_before s u whole f (id a) (option_map id next) (h f (tree_same s u whole f tree))) (d.left b i) }
   where
     by : (b i : ℕ) → from (option_map id next) (printed_atoms s (flat f)) ≡ after (id a) (printed_atoms s (flat f)) → (mark_of t b i ≡ 0) ⊎ In b (from (Some (id a)) (printed_atoms s (flat f)))
@@ -149,7 +149,7 @@ clearing_next id s t u f tree a now next is c r done others h =
     by b i behind (inr (inr j)) = inr (subst (In b) (sym behind) j)
 
 -- no atom is left
-pub clearing_last : {A : Type 0} (id : A → ℕ) (s t : Heap) (f : Forest) (now : Option A) → ((a : A) → now ≡ Some a → ⊥) → Clearing s t f (option_map id now) → Unmarked t
+pub clearing_last : {A : Type 0} (id : A → ℕ) (s t : Heap) (f : Forest) (now : Option A) → ((a : A) → now ≡ Some a → ⊥) → ClearingAll s t f (option_map id now) → Unmarked t
 clearing_last id s t f None none c a i = elim (c.left a i) [ inl z ↦ z | inr j ↦ absurd j ]
 clearing_last id s t f (Some b) none c a i = absurd (none b refl)
 

@@ -5,7 +5,7 @@ use Rattle.lmn_heap.specs.Heap.{Heap, HeapAtom, IsAtom, link_of, partners_of}
 use Rattle.lmn_heap.specs.Lists.{In, Distinct}
 use Rattle.lmn_heap.specs.Sound.{Paired, AtMost}
 use Rattle.lmn_heap.proofs.Pigeonholes.{not_longer}
-pub use Rattle.lmn_folding.specs.Marks.{turns}
+use Rattle.lmn_folding.specs.Marks.{turns}
 use Rattle.lmn_folding.specs.Marks.{argument_count, Event, meets_link, meets_term, leaves, WalkMeets, link, term, end_of_term, end_of_item}
 use Rattle.lmn_folding.proofs.PrintedWalks.{term_is}
 use Rattle.lmn_folding.proofs.WalkLemmas.{one_walk}

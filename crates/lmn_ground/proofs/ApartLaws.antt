@@ -2,18 +2,17 @@
 use Rattle.std.proofs.Common.{◌≡◌, ◌≢◌, ℕ, ◌<◌, Bool, true, List, length, None, IsSome, refl, sym, ap, subst, ◌∙◌}
 use Rattle.std.specs.Prelude.{slice_index_or, ◌↔◌}
 use Rattle.lmn_base.specs.Graphs.{AtomMap, Reached, at_root, SameGraph}
-use Rattle.lmn_heap.specs.Heap.{Heap, link_of, functor_of, marks_of}
+use Rattle.lmn_heap.specs.Heap.{Heap, functor_of, marks_of}
 use Rattle.lmn_heap.specs.Sound.{Sound}
 use Rattle.lmn_heap.specs.Graphs.{atom_map}
-use Rattle.lmn_ground.specs.Walks.{Net, net, FoundInside}
-use Rattle.lmn_ground.specs.Marks.{paint, painted, first_marks}
+use Rattle.lmn_ground.specs.Marks.{first_place, paint, painted, first_marks}
 use Rattle.lmn_ground.specs.Spread.{IsWhole, Spread, CleanPart}
 use Rattle.lmn_ground.specs.Follow.{Two}
 use Rattle.lmn_ground.proofs.PaintLaws.{net_painted}
-use Rattle.lmn_ground.proofs.SpreadLaws.{fits_home}
+use Rattle.lmn_ground.proofs.PaintedAt.{map_painted}
 use Rattle.lmn_ground.proofs.GroundLaws.{part_atoms}
-use Rattle.lmn_ground.proofs.FollowLaws.{functor_painted, carried}
-use Rattle.lmn_parts.specs.Walks.{IsPartInDepth}
+use Rattle.lmn_ground.proofs.FollowLaws.{carried}
+use Rattle.lmn_parts.specs.Walks.{IsPartInDepth, Net, net, FoundInside}
 use Rattle.lmn_base.proofs.Lists.{length_mapped as length_map}
 
 -- a part is equal to itself
@@ -38,22 +37,12 @@ same_size s x y xs ys sound full part part' g = sym (length_map g.to xs) ∙ ap 
 unpainted : (s : Heap) (v : ℕ → ℕ) (a : ℕ) → v a ≡ 0 → first_marks (painted s v) a ≡ first_marks s a
 unpainted s v a e = ap (λ (m : ℕ). slice_index_or (marks_of (paint m (s.atoms a))) 0 0) e
 
-map_painted : (s : Heap) (v : ℕ → ℕ) → atom_map (painted s v) ≡ atom_map s
-map_painted s v = λ i. record {
-  functor = λ z. functor_painted s v z i;
-  partner = λ p. links p.0 p.1 i;
-  home = λ z. fits_home (v z) (s.atoms z) i;
-}
-  where
-    links : (a k : ℕ) → link_of (painted s v) a k ≡ link_of s a k
-    links a k = ap (λ (n : Net). n.link a k) (net_painted s v)
-
 module _ (s now : Heap) (x y : ℕ × ℕ) (m : ℕ) (all : Bool) (t : Spread s now y m all) where
   net_is : net now ≡ net s
   net_is = ap net t.is ∙ net_painted s t.marks
 
   map_is : atom_map now ≡ atom_map s
-  map_is = ap atom_map t.is ∙ map_painted s t.marks
+  map_is = ap atom_map t.is ∙ map_painted first_place s t.marks
 
   pub graph_now : SameGraph (atom_map now) x (atom_map now) y ↔ SameGraph (atom_map s) x (atom_map s) y
   graph_now = (subst (λ (n : AtomMap). SameGraph n x n y) map_is, subst (λ (n : AtomMap). SameGraph n x n y) (sym map_is))

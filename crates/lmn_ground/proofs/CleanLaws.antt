@@ -12,7 +12,8 @@ use Rattle.lmn_heap.specs.Sound.{Sound}
 use Rattle.lmn_heap.specs.Graphs.{atom_map}
 use Rattle.lmn_heap.proofs.Listing.{alter_at, alter_away}
 use Rattle.lmn_ground.specs.Spread.{IsWhole, IsGroundIn}
-use Rattle.lmn_ground.specs.Copies.{Copied, Remains, Beside}
+use Rattle.lmn_ground.specs.Copies.{Remains}
+use Rattle.lmn_parts.specs.Copies.{Copied, Beside}
 use Rattle.lmn_ground.proofs.GroundLaws.{fits_ground}
 use Rattle.lmn_ground.proofs.JoinLaws.{joined_view, marks_linked, arity_linked}
 use Rattle.lmn_ground.proofs.CopiedLaws.{no_marks}

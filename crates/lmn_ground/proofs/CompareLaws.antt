@@ -4,7 +4,7 @@ use Rattle.lmn_base.specs.Graphs.{SameGraph}
 use Rattle.lmn_heap.specs.Heap.{Heap, In, IsAtom, marked, arity_of, link_of}
 use Rattle.lmn_heap.specs.Sound.{Sound}
 use Rattle.lmn_heap.specs.Graphs.{atom_map}
-use Rattle.lmn_ground.specs.Walks.{Net, net, ports_from, is_port}
+use Rattle.lmn_parts.specs.Walks.{Net, net, ports_from, is_port}
 use Rattle.lmn_ground.specs.Marks.{first_marks, entry_port, or_zero, back, way, ports_behind}
 use Rattle.lmn_ground.specs.Spread.{Spread, Spreading}
 use Rattle.lmn_ground.specs.Follow.{Two, Following}

@@ -8,29 +8,22 @@ use Rattle.lmn_heap.specs.Heap.{Heap, HeapAtom, In, marked, arity_of, link_of, f
 use Rattle.lmn_heap.specs.Sound.{Sound}
 use Rattle.lmn_heap.specs.Graphs.{atom_map}
 use Rattle.lmn_heap.proofs.ListLemmas.{in_left}
-use Rattle.lmn_ground.specs.Walks.{HasPort, Net, net, ports_from, is_port, Walk, ends}
-use Rattle.lmn_ground.specs.Marks.{paint, painted, entry_port, or_zero, back, first_marks, way, ports_behind, ports_ahead, OnWay, Sought}
+use Rattle.lmn_ground.specs.Marks.{first_place, entry_port, or_zero, back, first_marks, way, ports_behind, ports_ahead, OnWay, Sought}
 use Rattle.lmn_ground.specs.Spread.{IsWhole, Numbered, Spreading, CleanPart, AreAtoms}
-use Rattle.lmn_ground.specs.Follow.{answer, SameEnd, Two, Following}
-use Rattle.lmn_ground.specs.Copies.{moved}
-use Rattle.lmn_ground.proofs.WalkLaws.{determined, kept_seen, longer, past, found, in_last, in_snoc, holds_left, holds_right, holds_port}
+use Rattle.lmn_ground.specs.Follow.{SameEnd, Two, Following}
+use Rattle.lmn_parts.specs.Copies.{moved, answer}
+use Rattle.lmn_parts.proofs.WalkLaws.{determined, kept_seen, longer, past, found, in_last, in_snoc, holds_left, holds_right, holds_port}
 use Rattle.lmn_ground.proofs.SoughtLaws.{top_in, port_left, next_root, next_none, next_link, not_root_next, same_port, sought_none, sought_root, sought_marked, sought_back, no_port_left}
 use Rattle.lmn_ground.proofs.PaintLaws.{net_painted, mark_away, mark_here}
 use Rattle.lmn_ground.proofs.SpreadLaws.{spreading_first, next_to, not_root, part_reached, way_now, spreading_on, entered, marks_there, entry_is, ahead_enter, ahead_here, nothing_ahead}
 use Rattle.lmn_ground.proofs.GroundLaws.{part_atoms}
-use Rattle.lmn_ground.proofs.EqualLaws.{answer_here, walk_moved, answer_in, answer_one, same_or_not, same_pair, agree_same}
+use Rattle.lmn_ground.proofs.EqualLaws.{walk_moved, same_or_not, same_pair, agree_same}
+use Rattle.lmn_parts.proofs.AnswerLaws.{answer_here, answer_in, answer_one}
 use Rattle.lmn_ground.proofs.NumberLaws.{begins, numbered_same, answer_grow, answer_new, answer_same, number_of_answer, answer_map, number_next}
-use Rattle.lmn_parts.specs.Walks.{port_range, neighbour, IsPartInDepth}
+use Rattle.lmn_parts.specs.Walks.{port_range, neighbour, IsPartInDepth, HasPort, Net, net, ports_from, is_port, Walk, ends}
 use Rattle.lmn_heap.proofs.Common.{decide_in as in_or_not}
+use Rattle.lmn_ground.proofs.PaintedAt.{paint_functor}
 use Rattle.lmn_heap.proofs.Replacing.{port_within as link_inside}
-
-pub functor_painted : (s : Heap) (v : ℕ → ℕ) (z : ℕ) → functor_of (painted s v) z ≡ functor_of s z
-functor_painted s v z = by (v z) (s.atoms z)
-  where
-    by : (m : ℕ) (o : Option HeapAtom) → option_map (λ (h : HeapAtom). h.functor) (paint m o) ≡ option_map (λ (h : HeapAtom). h.functor) o
-    by zero o = refl
-    by (suc m) None = refl
-    by (suc m) (Some h) = refl
 
 pub to_none : (ps : List (ℕ × ℕ)) → ps ++ [] ≡ ps
 to_none [] = refl
@@ -345,7 +338,7 @@ module _ (s : Heap) (x y : ℕ × ℕ) (xs ys : List ℕ) (two : Two s x y xs ys
         grows b p b' j' k old h = (in_left b' seen (b ∷ []) h.0, ap (λ (z : ℕ). link_of s z k) (answer_grow seen ys b p old) ∙ h.1 ∙ ap (λ (z : ℕ). let r : Option (ℕ × ℕ) = Some (z, j') in r) (sym (answer_grow seen ys b b' h.0)))
 
         functor_now : (z : ℕ) → functor_of now z ≡ functor_of s z
-        functor_now z = ap (λ (h : Heap). functor_of h z) w.walk.is ∙ functor_painted s w.walk.marks z
+        functor_now z = ap (λ (h : Heap). functor_of h z) w.walk.is ∙ paint_functor first_place (w.walk.marks z) (s.atoms z)
 
     -- at the end the parts are equal
     pub follow_done : depth ≡ 0 → i ≡ arity_of now a → SameGraph (atom_map s) x (atom_map s) y
@@ -443,7 +436,7 @@ module _ (s : Heap) (x y : ℕ × ℕ) (xs ys : List ℕ) (two : Two s x y xs ys
     functor_differs b j d other link end h g =
         let link' : link_of s a i ≡ Some (b, j) = subst (λ (n : Net). n.link a i ≡ Some (b, j)) (nets now seen depth a c i count w) link in
         let rb : Reached (atom_map s) x b = across (w.walk.reached a (a_seen now seen depth a c i count w)) (not_root a i x other) link' in
-        let same : (z : ℕ) → functor_of now z ≡ functor_of s z = λ z. ap (λ (t : Heap). functor_of t z) w.walk.is ∙ functor_painted s w.walk.marks z in
+        let same : (z : ℕ) → functor_of now z ≡ functor_of s z = λ z. ap (λ (t : Heap). functor_of t z) w.walk.is ∙ paint_functor first_place (w.walk.marks z) (s.atoms z) in
         h (ap (functor_of now) (sym (image g i b j d (not_root a i x other) link end)) ∙ same (g.to b) ∙ g.functors b rb ∙ sym (same b))
 
     pub marked_seen : (b j : ℕ) → is_port (a, i) x ≡ false → link_of now a i ≡ Some (b, j) → first_marks now b ≢ 0 → In b seen

@@ -2,18 +2,19 @@
 use Rattle.std.proofs.Common.{◌≡◌, ℕ, ◌+◌, ◌*◌, ◌/◌, ◌<◌, ◌≤◌, false, List, [], ◌∷◌, ◌++◌, map, Some, None, refl, sym, ap, subst, ◌∙◌, arith}
 use Rattle.lmn_heap.specs.Heap.{Heap, marked, arity_of, link_of}
 use Rattle.lmn_heap.specs.Sound.{Sound}
-use Rattle.lmn_ground.specs.Walks.{is_port}
-use Rattle.lmn_ground.specs.Marks.{first_marks}
+use Rattle.lmn_parts.specs.Walks.{is_port}
+use Rattle.lmn_ground.specs.Marks.{first_place, first_marks}
 use Rattle.lmn_ground.specs.Spread.{CleanPart, IsWhole, Spreading}
 use Rattle.lmn_ground.specs.Copies.{NumbersAtoms, Gathered}
-use Rattle.lmn_ground.proofs.PaintLaws.{painted_none, with_port}
+use Rattle.lmn_ground.proofs.PaintLaws.{with_port}
+use Rattle.lmn_ground.proofs.PaintedAt.{painted_none}
 use Rattle.lmn_ground.proofs.SpreadLaws.{spreading_first, entered, whole_part, unjoined}
 use Rattle.lmn_ground.proofs.CopyLaws.{map_snoc}
 
 pub gather_none : {A : Type 0} (id : A → ℕ) (s : Heap) (xs : List A) → xs ≡ [] → (ys : List A) → ys ≡ xs → NumbersAtoms s s (map id ys)
 gather_none {A = A} id s xs e ys h = subst (λ (zs : List A). NumbersAtoms s s (map id zs)) (sym (h ∙ e)) (record {
   marks = λ _. 0;
-  is = sym (painted_none s (λ _. 0) (λ a. refl));
+  is = sym (painted_none first_place s (λ _. 0) (λ a. refl));
   outside = λ x d. refl;
   clean = λ x i. absurd i;
   there = λ x i. absurd i;

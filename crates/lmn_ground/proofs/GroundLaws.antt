@@ -6,14 +6,13 @@ use Rattle.lmn_base.specs.Graphs.{Reached, at_root, across}
 use Rattle.lmn_heap.specs.Heap.{Heap, HeapAtom, In, IsAtom, arity_of, link_of, functor_of}
 use Rattle.lmn_heap.specs.Sound.{Sound}
 use Rattle.lmn_heap.specs.Graphs.{atom_map}
-use Rattle.lmn_ground.specs.Walks.{HasPort, Net, net, is_port}
 use Rattle.lmn_ground.specs.Spread.{IsWhole, IsGroundIn, Spread, AreAtoms}
-use Rattle.lmn_ground.proofs.WalkLaws.{once, only}
+use Rattle.lmn_parts.proofs.WalkLaws.{once, only}
 use Rattle.lmn_ground.proofs.SoughtLaws.{next_root, next_link, next_none}
 use Rattle.lmn_ground.proofs.PaintLaws.{net_painted, is_painted, with_port}
 use Rattle.lmn_heap.proofs.Pigeonholes.{not_longer}
 use Rattle.lmn_ground.proofs.SpreadLaws.{not_root, part_reached}
-use Rattle.lmn_parts.specs.Walks.{port_range, neighbour, IsPartInDepth}
+use Rattle.lmn_parts.specs.Walks.{port_range, neighbour, IsPartInDepth, HasPort, Net, net, is_port}
 
 -- the root in the marked heap
 pub root_there : (before now : Heap) (root : ℕ × ℕ) (count : ℕ) (all : Bool) → Spread before now root count all → IsAtom before root.0 → IsAtom now root.0

@@ -8,16 +8,16 @@ use Rattle.lmn_heap.specs.Heap.{Heap, HeapAtom, In, with_link, partners_of, mark
 use Rattle.lmn_heap.specs.Splice.{joined_to}
 use Rattle.lmn_heap.proofs.Listing.{alter_at, alter_away}
 use Rattle.lmn_heap.proofs.Ports.{SamePort, same_port, linked_away, joined_arity, joined_a, joined_b, joined_other, joined_paired}
-use Rattle.lmn_ground.specs.Walks.{HasPort, is_port}
 use Rattle.lmn_ground.specs.Marks.{first_marks}
 use Rattle.lmn_ground.specs.Spread.{Numbered}
-use Rattle.lmn_ground.specs.Follow.{answer}
-use Rattle.lmn_ground.specs.Copies.{moved, joined_like, all_joined, CopyIsJoined, Copying}
-use Rattle.lmn_ground.proofs.EqualLaws.{answer_in, answer_one, same_pair}
+use Rattle.lmn_ground.specs.Copies.{CopyIsJoined, Copying}
+use Rattle.lmn_parts.specs.Copies.{moved, joined_like, all_joined, answer}
+use Rattle.lmn_ground.proofs.EqualLaws.{same_pair}
+use Rattle.lmn_parts.proofs.AnswerLaws.{answer_in, answer_one}
 use Rattle.lmn_ground.proofs.SoughtLaws.{same_port as is_root_port}
 use Rattle.lmn_ground.proofs.SpreadLaws.{not_root}
 use Rattle.lmn_ground.proofs.NumberLaws.{numbered_same}
-use Rattle.lmn_parts.specs.Walks.{port_range}
+use Rattle.lmn_parts.specs.Walks.{port_range, HasPort, is_port}
 use Rattle.lmn_heap.proofs.Replacing.{port_within as link_inside}
 
 -- what joining leaves as it is
@@ -86,11 +86,12 @@ module _ (s : Heap) (root : ℕ × ℕ) (xs ys : List ℕ) (t : Copying s root x
     b_in : In b xs
     b_in = (t.closed a i b j a_in (not_root a i root other) link).0
 
-    i_low : i < arity_of s (answer xs ys a)
-    i_low = subst (λ (n : ℕ). i < n) (sym (t.arities a a_in)) (link_inside s a i (b, j) link)
-
-    j_low : j < arity_of s (answer xs ys b)
-    j_low = subst (λ (n : ℕ). j < n) (sym (t.arities b b_in)) (link_inside s b j (a, i) (t.paired.back a i b j link))
+    -- both copies have the port
+    low : (i < arity_of s (answer xs ys a)) × (j < arity_of s (answer xs ys b))
+    low = (
+      subst (λ (n : ℕ). i < n) (sym (t.arities a a_in)) (link_inside s a i (b, j) link),
+      subst (λ (n : ℕ). j < n) (sym (t.arities b b_in)) (link_inside s b j (a, i) (t.paired.back a i b j link)),
+    )
 
     differ : SamePort (answer xs ys a) i (answer xs ys b) j → ⊥
     differ e =
@@ -105,7 +106,7 @@ module _ (s : Heap) (root : ℕ × ℕ) (xs ys : List ℕ) (t : Copying s root x
     next = joined s (answer xs ys a) i (answer xs ys b) j
 
     as_was : (c k : ℕ) → (SamePort c k (answer xs ys a) i → ⊥) → (SamePort c k (answer xs ys b) j → ⊥) → link_of next c k ≡ link_of s c k
-    as_was c k na nb = elim (joined_other s (answer xs ys a) i (answer xs ys b) j i_low j_low differ c k na nb) [
+    as_was c k na nb = elim (joined_other s (answer xs ys a) i (answer xs ys b) j low.0 low.1 differ c k na nb) [
       | inl w ↦ absurd (elim w.0 [
         | inl e ↦ nb (points a i b j a_in link c k e)
         | inr e ↦ na (points b j a i b_in (t.paired.back a i b j link) c k e)
@@ -123,63 +124,62 @@ module _ (s : Heap) (root : ℕ × ℕ) (xs ys : List ℕ) (t : Copying s root x
     link_kept : (x k : ℕ) → In x xs → link_of next x k ≡ link_of s x k
     link_kept x k x_in = ap (λ (o : Option HeapAtom). slice_index_or (partners_of o) k None) (away x (t.apart x x_in))
 
-    this : (x k : ℕ) → In x xs → SamePort (answer xs ys x) k (answer xs ys a) i → CopyIsJoined next root (answer xs ys) x k
-    this x k x_in e =
-        let g : x ≡ a = copy_one x a x_in a_in e.0 in
-        let h : k ≡ i = e.1 in
-        subst (λ (p : ℕ × ℕ). CopyIsJoined next root (answer xs ys) p.0 p.1) (λ m. let r : ℕ × ℕ = ((sym g) m, (sym h) m) in r) (
-          not_root a i root other,
-          subst (λ (o : Option (ℕ × ℕ)). IsSome o) (sym (link_kept a i a_in ∙ link)) refl,
-          joined_a s (answer xs ys a) i (answer xs ys b) j i_low j_low differ ∙ sym (ap (option_map (moved (answer xs ys))) (link_kept a i a_in ∙ link)),
+    -- the two ports are joined as those that they are copied from
+    both_joined : CopyIsJoined next root (answer xs ys) a i × CopyIsJoined next root (answer xs ys) b j
+    both_joined =
+        let back_link = t.paired.back a i b j link in (
+          (
+            not_root a i root other,
+            subst (λ (o : Option (ℕ × ℕ)). IsSome o) (sym (link_kept a i a_in ∙ link)) refl,
+            joined_a s (answer xs ys a) i (answer xs ys b) j low.0 low.1 differ ∙ sym (ap (option_map (moved (answer xs ys))) (link_kept a i a_in ∙ link)),
+          ),
+          (
+            (t.closed a i b j a_in (not_root a i root other) link).1,
+            subst (λ (o : Option (ℕ × ℕ)). IsSome o) (sym (link_kept b j b_in ∙ back_link)) refl,
+            joined_b s (answer xs ys a) i (answer xs ys b) j low.0 low.1 differ ∙ sym (ap (option_map (moved (answer xs ys))) (link_kept b j b_in ∙ back_link)),
+          ),
         )
 
-    that : (x k : ℕ) → In x xs → SamePort (answer xs ys x) k (answer xs ys b) j → CopyIsJoined next root (answer xs ys) x k
-    that x k x_in e =
-        let g : x ≡ b = copy_one x b x_in b_in e.0 in
-        let h : k ≡ j = e.1 in
-        let back_link = t.paired.back a i b j link in
-        subst (λ (p : ℕ × ℕ). CopyIsJoined next root (answer xs ys) p.0 p.1) (λ m. let r : ℕ × ℕ = ((sym g) m, (sym h) m) in r) (
-          (t.closed a i b j a_in (not_root a i root other) link).1,
-          subst (λ (o : Option (ℕ × ℕ)). IsSome o) (sym (link_kept b j b_in ∙ back_link)) refl,
-          joined_b s (answer xs ys a) i (answer xs ys b) j i_low j_low differ ∙ sym (ap (option_map (moved (answer xs ys))) (link_kept b j b_in ∙ back_link)),
-        )
+    joined_as : (x k c l : ℕ) → In x xs → In c xs → SamePort (answer xs ys x) k (answer xs ys c) l → CopyIsJoined next root (answer xs ys) c l → CopyIsJoined next root (answer xs ys) x k
+    joined_as x k c l x_in c_in e =
+        let g : x ≡ c = copy_one x c x_in c_in e.0 in
+        let h : k ≡ l = e.1 in
+        subst (λ (p : ℕ × ℕ). CopyIsJoined next root (answer xs ys) p.0 p.1) (λ m. let r : ℕ × ℕ = ((sym g) m, (sym h) m) in r)
+
+    -- a port of a copy is one of the two, or neither
+    joined_or_other : (x k : ℕ) → In x xs → CopyIsJoined next root (answer xs ys) x k ⊎ ((SamePort (answer xs ys x) k (answer xs ys a) i → ⊥) × (SamePort (answer xs ys x) k (answer xs ys b) j → ⊥))
+    joined_or_other x k x_in = elim (same_port (answer xs ys x) k (answer xs ys a) i) [
+      | inl e ↦ inl (joined_as x k a i x_in a_in e both_joined.0)
+      | inr na ↦ elim (same_port (answer xs ys x) k (answer xs ys b) j) [ inl e ↦ inl (joined_as x k b j x_in b_in e both_joined.1) | inr nb ↦ inr (na, nb) ]
+    ]
 
     -- a joined port stays joined
     stays : (x k : ℕ) → In x xs → CopyIsJoined s root (answer xs ys) x k → CopyIsJoined next root (answer xs ys) x k
-    stays x k x_in r = elim (same_port (answer xs ys x) k (answer xs ys a) i) [
-      | inl e ↦ this x k x_in e
-      | inr na ↦ elim (same_port (answer xs ys x) k (answer xs ys b) j) [
-        | inl e ↦ that x k x_in e
-        | inr nb ↦ (
-          r.0,
-          subst (λ (o : Option (ℕ × ℕ)). IsSome o) (sym (link_kept x k x_in)) r.1,
-          as_was (answer xs ys x) k na nb ∙ r.2 ∙ ap (option_map (moved (answer xs ys))) (sym (link_kept x k x_in)),
-        )
-      ]
+    stays x k x_in r = elim (joined_or_other x k x_in) [
+      | inl e ↦ e
+      | inr n ↦ (
+        r.0,
+        subst (λ (o : Option (ℕ × ℕ)). IsSome o) (sym (link_kept x k x_in)) r.1,
+        as_was (answer xs ys x) k n.0 n.1 ∙ r.2 ∙ ap (option_map (moved (answer xs ys))) (sym (link_kept x k x_in)),
+      )
     ]
 
     port_joined : (x k : ℕ) → In x xs → (link_of next (answer xs ys x) k ≡ None) ⊎ CopyIsJoined next root (answer xs ys) x k
-    port_joined x k x_in = elim (same_port (answer xs ys x) k (answer xs ys a) i) [
-      | inl e ↦ inr (this x k x_in e)
-      | inr na ↦ elim (same_port (answer xs ys x) k (answer xs ys b) j) [
-        | inl e ↦ inr (that x k x_in e)
-        | inr nb ↦ elim (t.joined x k x_in) [
-          | inl n ↦ inl (as_was (answer xs ys x) k na nb ∙ n)
-          | inr r ↦ inr (stays x k x_in r)
-        ]
-      ]
+    port_joined x k x_in = elim (joined_or_other x k x_in) [
+      | inl e ↦ inr e
+      | inr n ↦ elim (t.joined x k x_in) [ inl e ↦ inl (as_was (answer xs ys x) k n.0 n.1 ∙ e) | inr r ↦ inr (stays x k x_in r) ]
     ]
 
     still : Copying next root xs ys
     still = record {
       there = λ x k. subst (λ (o : Option HeapAtom). IsSome o) (sym (away x (t.apart x k))) (t.there x k);
       first = t.first;
-      paired = joined_paired s (answer xs ys a) i (answer xs ys b) j i_low j_low differ t.paired;
+      paired = joined_paired s (answer xs ys a) i (answer xs ys b) j low.0 low.1 differ t.paired;
       once = t.once;
       copies_once = t.copies_once;
       long = t.long;
       apart = t.apart;
-      arities = λ x k. joined_arity s (answer xs ys a) i (answer xs ys b) j i_low j_low differ (answer xs ys x) ∙ t.arities x k ∙ sym (joined_arity s (answer xs ys a) i (answer xs ys b) j i_low j_low differ x);
+      arities = λ x k. joined_arity s (answer xs ys a) i (answer xs ys b) j low.0 low.1 differ (answer xs ys x) ∙ t.arities x k ∙ sym (joined_arity s (answer xs ys a) i (answer xs ys b) j low.0 low.1 differ x);
       closed = λ x k y l x_in d e. t.closed x k y l x_in d (sym (link_kept x k x_in) ∙ e);
       joined = port_joined;
     }
@@ -196,7 +196,7 @@ module _ (s : Heap) (root : ℕ × ℕ) (xs ys : List ℕ) (t : Copying s root x
     like_stays x k x_in r = like_by (answer xs ys) root s (a, i) (λ h. CopyIsJoined h root (answer xs ys) x k) (λ _. r) (λ b j e g. stays a i a_in b j e g x k x_in r)
 
     like_joins : ◌≢◌ {A = ℕ × ℕ} (a, i) root → IsSome (link_of s a i) → CopyIsJoined (joined_like (answer xs ys) root s (a, i)) root (answer xs ys) a i
-    like_joins d is = like_by (answer xs ys) root s (a, i) (λ h. CopyIsJoined h root (answer xs ys) a i) (λ w. absurd (none w)) (λ b j e g. this a i a_in b j e g a i a_in (refl, refl))
+    like_joins d is = like_by (answer xs ys) root s (a, i) (λ h. CopyIsJoined h root (answer xs ys) a i) (λ w. absurd (none w)) (λ b j e g. (both_joined a i a_in b j e g).0)
       where
         none : (is_port (a, i) root ≡ true) ⊎ (link_of s a i ≡ None) → ⊥
         none (inl e) = d (is_root_port a i root e)

@@ -1,5 +1,5 @@
-pub mod WalkLaws
 pub mod SoughtLaws
+pub mod PaintedAt
 pub mod PaintLaws
 pub mod SpreadLaws
 pub mod WipeLaws

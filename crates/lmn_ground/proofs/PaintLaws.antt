@@ -6,19 +6,15 @@ use Rattle.std.specs.Option.{option_map}
 use Rattle.std.specs.Prelude.{slice_set, slice_index_or}
 use Rattle.lmn_heap.specs.Heap.{Heap, HeapAtom, In, IsAtom, alter, with_mark, marked, partners_of, marks_of, arity_of}
 use Rattle.lmn_heap.proofs.Listing.{alter_at, alter_away}
-use Rattle.lmn_ground.specs.Walks.{Net, net, ports_from, is_in}
-use Rattle.lmn_ground.specs.Marks.{paint, painted, first_marks, entry_port, or_zero, back, way, ports_behind, OnWay}
+use Rattle.lmn_parts.specs.Walks.{Net, net, ports_from, is_in}
+use Rattle.lmn_ground.specs.Marks.{first_place, paint, painted, first_marks, entry_port, or_zero, back, way, ports_behind, OnWay}
 use Rattle.lmn_heap.proofs.Common.{same_atoms as same_painted}
-
-paint_links : (v : ℕ) (o : Option HeapAtom) → partners_of (paint v o) ≡ partners_of o
-paint_links zero o = refl
-paint_links (suc v) None = refl
-paint_links (suc v) (Some x) = refl
+use Rattle.lmn_ground.proofs.PaintedAt.{paint_links, is_paint}
 
 pub net_painted : (s : Heap) (v : ℕ → ℕ) → net (painted s v) ≡ net s
 net_painted s v = λ i. record {
-  arity = λ a. (ap length (paint_links (v a) (s.atoms a))) i;
-  link = λ a k. (ap (λ xs. slice_index_or xs k None) (paint_links (v a) (s.atoms a))) i;
+  arity = λ a. (ap length (paint_links first_place (v a) (s.atoms a))) i;
+  link = λ a k. (ap (λ xs. slice_index_or xs k None) (paint_links first_place (v a) (s.atoms a))) i;
 }
 
 paint_is : (v : ℕ) (o : Option HeapAtom) → IsSome (paint v o) → IsSome o
@@ -26,16 +22,11 @@ paint_is zero o i = i
 paint_is (suc v) None i = absurd (cc)
 paint_is (suc v) (Some x) i = refl
 
-is_paint : (v : ℕ) (o : Option HeapAtom) → IsSome o → IsSome (paint v o)
-is_paint zero o i = i
-is_paint (suc v) None i = absurd (cc)
-is_paint (suc v) (Some x) i = refl
-
 pub painted_is : (s : Heap) (v : ℕ → ℕ) (a : ℕ) → IsAtom (painted s v) a → IsAtom s a
 painted_is s v a i = paint_is (v a) (s.atoms a) i
 
 pub is_painted : (s : Heap) (v : ℕ → ℕ) (a : ℕ) → IsAtom s a → IsAtom (painted s v) a
-is_painted s v a i = is_paint (v a) (s.atoms a) i
+is_painted s v a i = is_paint first_place (v a) (s.atoms a) i
 
 set_twice : (xs : List ℕ) (v w : ℕ) → slice_set (slice_set xs 0 v) 0 w ≡ slice_set xs 0 w
 set_twice [] v w = refl
@@ -70,9 +61,6 @@ painted_cleared s v b z = same_painted s _ _ (λ a. elim (cases_eq a b) [
     by zero (Some x) z = ap (λ (xs : List ℕ). Some (record x { marks = xs })) (set_same x.marks z)
     by (suc w) None z = refl
     by (suc w) (Some x) z = ap (λ (xs : List ℕ). Some (record x { marks = xs })) (set_twice x.marks (suc w) 0 ∙ set_same x.marks z)
-
-pub painted_none : (s : Heap) (v : ℕ → ℕ) → ((a : ℕ) → v a ≡ 0) → painted s v ≡ s
-painted_none s v h = same_painted s _ _ (λ a. ap (λ (w : ℕ). paint w (s.atoms a)) (h a))
 
 -- other marks elsewhere change no way back
 module _ (n : Net) (v w : ℕ → ℕ) where

@@ -6,12 +6,12 @@ use Rattle.lmn_base.specs.declared.functor.Functor.{Functor}
 use Rattle.lmn_heap.specs.Heap.{Heap, HeapAtom, In, alter, with_link, new_atom, functor_of, link_of, arity_of, linked, cleared, joined, made_atom}
 use Rattle.lmn_heap.specs.Splice.{joined_to}
 use Rattle.lmn_heap.proofs.Listing.{alter_at, alter_away}
-use Rattle.lmn_ground.specs.Walks.{Net, is_port}
-use Rattle.lmn_ground.specs.Marks.{paint, painted, first_marks}
-use Rattle.lmn_ground.specs.Copies.{made_as, made_like, moved, joined_like, all_joined, ports_of, unmarked_all}
-use Rattle.lmn_ground.proofs.PaintLaws.{net_painted, painted_cleared, painted_none}
-use Rattle.lmn_ground.proofs.FollowLaws.{functor_painted}
-use Rattle.lmn_parts.specs.Walks.{port_range}
+use Rattle.lmn_ground.specs.Marks.{first_place, paint, painted, first_marks}
+use Rattle.lmn_ground.specs.Copies.{unmarked_all}
+use Rattle.lmn_parts.specs.Copies.{made_as, made_like, moved, joined_like, all_joined, ports_of}
+use Rattle.lmn_ground.proofs.PaintLaws.{net_painted, painted_cleared}
+use Rattle.lmn_ground.proofs.PaintedAt.{paint_functor, painted_none}
+use Rattle.lmn_parts.specs.Walks.{port_range, Net, is_port}
 
 -- atoms with first marks
 abbrev over : (ℕ → ℕ) → (ℕ → Option HeapAtom) → ℕ → Option HeapAtom
@@ -86,11 +86,11 @@ pub made_painted : (s : Heap) (v : ℕ → ℕ) (xs ys : List ℕ) → ((y : ℕ
 made_painted s v [] ys z = refl
 made_painted s v (x ∷ xs) [] z = refl
 made_painted s v (x ∷ xs) (y ∷ ys) z =
-    ap (λ (t : Heap). made_like t xs ys) (ap (made_as (painted s v) y) (functor_painted s v x) ∙ as_painted s v y (functor_of s x) (z y (inl refl)))
+    ap (λ (t : Heap). made_like t xs ys) (ap (made_as (painted s v) y) (paint_functor first_place (v x) (s.atoms x)) ∙ as_painted s v y (functor_of s x) (z y (inl refl)))
     ∙ made_painted (made_as s y (functor_of s x)) v xs ys (λ w k. z w (inr k))
 
 pub unmarked_painted : (s : Heap) (v : ℕ → ℕ) (xs : List ℕ) → ((x : ℕ) → In x xs → first_marks s x ≡ 0) → ((x : ℕ) → (In x xs → ⊥) → v x ≡ 0) → unmarked_all (painted s v) xs ≡ s
-unmarked_painted s v [] h out = painted_none s v (λ a. out a (λ k. k))
+unmarked_painted s v [] h out = painted_none first_place s v (λ a. out a (λ k. k))
 unmarked_painted s v (x ∷ xs) h out =
     ap (λ (t : Heap). unmarked_all t xs) (painted_cleared s v x (h x (inl refl)))
     ∙ unmarked_painted s (alter v x (λ _. 0)) xs (λ z k. h z (inr k)) (λ z n. elim (cases_eq z x) [

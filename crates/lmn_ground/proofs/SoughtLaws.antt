@@ -3,9 +3,8 @@ use Rattle.std.proofs.Common.{◌≡◌, ◌≢◌, ◌⊎◌, ℕ, zero, suc, �
 use Rattle.std.proofs.lemmas.Bool.{eq-eqb, eqb-true}
 use Rattle.std.specs.Option.{option_and_then}
 use Rattle.lmn_heap.specs.Heap.{In}
-use Rattle.lmn_ground.specs.Walks.{HasPort, Net, ports_from, kept, is_port, Walk, passes}
 use Rattle.lmn_ground.specs.Marks.{way, back, ports_behind, OnWay, Sought}
-use Rattle.lmn_parts.specs.Walks.{port_range, neighbour}
+use Rattle.lmn_parts.specs.Walks.{port_range, neighbour, HasPort, Net, ports_from, kept, is_port, Walk, passes}
 use Rattle.lmn_base.proofs.Numbers.{not_equal as apart_test}
 
 pub port_left : (n : Net) (a i : ℕ) → i < n.arity a → ports_from n a i ≡ (a, i) ∷ ports_from n a (i + 1)

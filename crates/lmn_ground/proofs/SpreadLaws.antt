@@ -5,19 +5,19 @@ use Rattle.std.proofs.lemmas.List.{get_or-set_other}
 use Rattle.std.specs.Option.{option_and_then}
 use Rattle.std.specs.Prelude.{slice_index_or}
 use Rattle.lmn_base.specs.Graphs.{Reached, at_root, across}
-use Rattle.lmn_heap.specs.Heap.{Heap, HeapAtom, In, alter, home_by, IsAtom, marked, arity_of, link_of, marks_of, mark_of, own_mark, PortsUnmarked}
+use Rattle.lmn_heap.specs.Heap.{Heap, HeapAtom, In, alter, IsAtom, marked, arity_of, link_of, marks_of, mark_of, own_mark, PortsUnmarked}
 use Rattle.lmn_heap.specs.Sound.{Sound, AtMost}
 use Rattle.lmn_heap.specs.Graphs.{atom_map}
 use Rattle.lmn_heap.proofs.ListLemmas.{in_left}
 use Rattle.lmn_heap.proofs.Listing.{alter_away, distinct_snoc}
 use Rattle.lmn_heap.proofs.Pigeonholes.{not_longer}
-use Rattle.lmn_ground.specs.Walks.{HasPort, Net, net, ports_from, kept, is_port, is_in, Walk, ends, finds}
-use Rattle.lmn_ground.specs.Marks.{paint, painted, first_marks, entry_port, or_zero, back, way, ports_behind, ports_ahead, OnWay, Sought}
+use Rattle.lmn_ground.specs.Marks.{first_place, paint, painted, first_marks, entry_port, or_zero, back, way, ports_behind, ports_ahead, OnWay, Sought}
 use Rattle.lmn_ground.specs.Spread.{Numbered, CleanPart, AtomFits, IsWhole, Spread, Spreading}
-use Rattle.lmn_ground.proofs.WalkLaws.{holds_left, holds_right, holds_port, in_last, in_snoc, all_seen, closed, start_covers, kept_seen}
+use Rattle.lmn_parts.proofs.WalkLaws.{holds_left, holds_right, holds_port, in_last, in_snoc, all_seen, closed, start_covers, kept_seen}
 use Rattle.lmn_ground.proofs.SoughtLaws.{top_in, port_left, no_port_left}
-use Rattle.lmn_ground.proofs.PaintLaws.{net_painted, painted_marked, painted_none, way_same, behind_same, on_way_same, is_in_true, in_is, mark_here, mark_away, net_marked, with_port, is_painted}
-use Rattle.lmn_parts.specs.Walks.{port_range, neighbour, IsPartInDepth}
+use Rattle.lmn_ground.proofs.PaintLaws.{net_painted, painted_marked, way_same, behind_same, on_way_same, is_in_true, in_is, mark_here, mark_away, net_marked, with_port, is_painted}
+use Rattle.lmn_ground.proofs.PaintedAt.{paint_home, painted_none}
+use Rattle.lmn_parts.specs.Walks.{port_range, neighbour, IsPartInDepth, HasPort, Net, net, ports_from, kept, is_port, is_in, Walk, ends, finds}
 use Rattle.lmn_heap.proofs.Common.{decide_in as in_or_not}
 use Rattle.lmn_heap.proofs.Replacing.{port_within as link_inside}
 
@@ -48,11 +48,6 @@ not_root a i root e same =
     absurd (cc)
 
 -- fitting, whatever is painted
-pub fits_home : (m : ℕ) (o : Option HeapAtom) → option_and_then (λ x. home_by x.place) (paint m o) ≡ option_and_then (λ x. home_by x.place) o
-fits_home zero o = refl
-fits_home (suc m) None = refl
-fits_home (suc m) (Some x) = refl
-
 fits_mark : (m k : ℕ) (o : Option HeapAtom) → 0 < k → slice_index_or (marks_of (paint m o)) k 0 ≡ slice_index_or (marks_of o) k 0
 fits_mark zero k o l = refl
 fits_mark (suc m) k None l = refl
@@ -64,11 +59,11 @@ own_painted s v a l =
 
 pub fits_painted : (s : Heap) (v : ℕ → ℕ) (home : Option ℕ) (a : ℕ) → 0 < arity_of s a → AtomFits (painted s v) home a → AtomFits s home a
 fits_painted s v None a l f = tt
-fits_painted s v (Some m) a l f = (sym (fits_home (v a) (s.atoms a)) ∙ f.0, λ e. f.1 (own_painted s v a l ∙ e))
+fits_painted s v (Some m) a l f = (sym (paint_home first_place (v a) (s.atoms a)) ∙ f.0, λ e. f.1 (own_painted s v a l ∙ e))
 
 pub painted_fits : (s : Heap) (v : ℕ → ℕ) (home : Option ℕ) (a : ℕ) → 0 < arity_of s a → AtomFits s home a → AtomFits (painted s v) home a
 painted_fits s v None a l f = tt
-painted_fits s v (Some m) a l f = (fits_home (v a) (s.atoms a) ∙ f.0, λ e. f.1 (sym (own_painted s v a l) ∙ e))
+painted_fits s v (Some m) a l f = (paint_home first_place (v a) (s.atoms a) ∙ f.0, λ e. f.1 (sym (own_painted s v a l) ∙ e))
 
 pub marks_there : (s : Heap) (a : ℕ) → Sound s → 0 < arity_of s a → 0 < length (marks_of (s.atoms a))
 marks_there s a h l = let e = h.shaped.marks a (with_port s a l) in omega (arith, e)
@@ -121,7 +116,7 @@ module _ (before : Heap) (root : ℕ × ℕ) (home : Option ℕ) where
       let l : 0 < arity_of before root.0 = omega arith in
       record {
         marks = alter (λ _. 0) root.0 (λ _. m);
-        is = ap (λ (s : Heap). marked s root.0 0 m) (sym (painted_none before (λ _. 0) (λ a. refl))) ∙ painted_marked before (λ _. 0) root.0 m (omega arith);
+        is = ap (λ (s : Heap). marked s root.0 0 m) (sym (painted_none first_place before (λ _. 0) (λ a. refl))) ∙ painted_marked before (λ _. 0) root.0 m (omega arith);
         outside = λ x d. alter_away (λ _. 0) root.0 (λ _. m) x (λ e. d (inl (sym e)));
         on = λ x k. subst (λ (z : ℕ). 512 ≤ first_marks (marked before root.0 0 m) z) (only x k) (rw (mark_here before root.0 m (marks_there before root.0 sound l)) high);
         off = λ x p d. mark_away before root.0 m x (λ e. d (inl (sym e))) ∙ clean x p;

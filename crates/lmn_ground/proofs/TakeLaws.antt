@@ -8,14 +8,13 @@ use Rattle.lmn_heap.specs.Graphs.{atom_map}
 use Rattle.lmn_ground.proofs.WipeLaws.{b_reached}
 use Rattle.lmn_heap.specs.Heap.{link_of, Heap, HeapAtom, In, Distinct, IsAtom, IsInPlace, alter, gone, home_by, with_place, with_mark, partners_of, marks_of, marked, taken, atom_out, arity_of, home_of, taken_all}
 use Rattle.lmn_heap.proofs.Listing.{alter_at, alter_away}
-use Rattle.lmn_ground.specs.Walks.{is_port, Net, net, is_in, Walk, ends}
-use Rattle.lmn_ground.specs.Marks.{paint, painted, first_marks, way, ports_ahead, OnWay}
+use Rattle.lmn_ground.specs.Marks.{first_place, paint, painted, first_marks, way, ports_ahead, OnWay}
 use Rattle.lmn_ground.specs.Spread.{Spread, Wiping}
-use Rattle.lmn_ground.proofs.WalkLaws.{determined, kept_seen}
+use Rattle.lmn_parts.proofs.WalkLaws.{determined, kept_seen}
 use Rattle.lmn_ground.proofs.SoughtLaws.{no_port_left, weight}
 use Rattle.lmn_ground.proofs.PaintLaws.{net_painted}
-use Rattle.lmn_ground.proofs.SpreadLaws.{fits_home}
-use Rattle.lmn_parts.specs.Walks.{neighbour}
+use Rattle.lmn_ground.proofs.PaintedAt.{paint_home}
+use Rattle.lmn_parts.specs.Walks.{neighbour, is_port, Net, net, is_in, Walk, ends}
 use Rattle.lmn_heap.proofs.Common.{decide_in as in_or_not}
 
 -- what taking leaves as it is
@@ -46,7 +45,7 @@ firsts_taken s b = λ i a. (ap (λ xs. slice_index_or xs 0 0) (kept_by marks_of 
 pub painted_taken : (s : Heap) (v : ℕ → ℕ) (b : ℕ) → taken (painted s v) b ≡ painted (taken s b) v
 painted_taken s v b = λ i. record (taken s b) {
   atoms = λ a. (at a) i;
-  mems = ap (λ (h : Option ℕ). atom_out s.mems h b) (fits_home (v b) (s.atoms b)) i;
+  mems = ap (λ (h : Option ℕ). atom_out s.mems h b) (paint_home first_place (v b) (s.atoms b)) i;
 }
   where
     by : (m : ℕ) (o : Option HeapAtom) → option_map (with_place gone) (paint m o) ≡ paint m (option_map (with_place gone) o)
@@ -125,7 +124,7 @@ module _ (before0 : Heap) (root : ℕ × ℕ) (seen met : List ℕ) (now : Heap)
       let new : In b met → ⊥ = λ k. let h = t.low b k in absurd (omega (arith, h, marked_high)) in
       let b_seen : In b seen = elim (in_or_not b seen) [ inl k ↦ k | inr d ↦ (let h = t.off b (b_reached (taken_all before0 met) root now seen met depth a i left t link other) d in absurd (omega (arith, h, marked_high))) ] in
       subst (λ (o : Option ℕ). IsSome o) (sym (ap (λ (s : Heap). home_of s b) made ∙ home_marked now b 0 (256 + j) b ∙ ap (λ (s : Heap). home_of s b) t.is
-      ∙ fits_home (t.marks b) ((taken_all before0 met).atoms b) ∙ home_kept before0 met b new)) (placed b b_seen)
+      ∙ paint_home first_place (t.marks b) ((taken_all before0 met).atoms b) ∙ home_kept before0 met b new)) (placed b b_seen)
 
   -- at the end all are met
   pub all_taken : (to : Heap) → to ≡ taken_all before0 met → depth ≡ 0 → i ≡ arity_of now a → to ≡ taken_all before0 seen
@@ -165,7 +164,7 @@ pub root_placed : (before start : Heap) (root : ℕ × ℕ) (count : ℕ) (all :
     → (to : Heap) → to ≡ marked start root.0 0 (256 + root.1) → IsInPlace to root.0
 root_placed before start root count all t is to made =
     subst (λ (o : Option ℕ). IsSome o) (sym (ap (λ (s : Heap). home_of s root.0) made ∙ home_marked start root.0 0 (256 + root.1) root.0 ∙ ap (λ (s : Heap). home_of s root.0) t.is
-    ∙ fits_home (t.marks root.0) (before.atoms root.0))) is
+    ∙ paint_home first_place (t.marks root.0) (before.atoms root.0))) is
 
 -- entered and taken
 pub taken_too : (before0 : Heap) (root : ℕ × ℕ) (seen met : List ℕ) (mid to : Heap) (b d c k l : ℕ) → to ≡ taken mid b → Wiping (taken_all before0 met) mid root seen (met ++ b ∷ []) d c k l

@@ -7,14 +7,14 @@ use Rattle.lmn_heap.specs.Heap.{Heap, In, Distinct, alter, marked, arity_of, lin
 use Rattle.lmn_heap.specs.Sound.{Sound}
 use Rattle.lmn_heap.proofs.ListLemmas.{in_left, each_in, each_of}
 use Rattle.lmn_heap.proofs.Listing.{alter_at}
-use Rattle.lmn_ground.specs.Walks.{Net, net, ports_from, is_port, is_in, Walk, ends}
-use Rattle.lmn_ground.specs.Marks.{first_marks, entry_port, back, way, ports_behind, ports_ahead, OnWay}
+use Rattle.lmn_ground.specs.Marks.{first_place, first_marks, entry_port, back, way, ports_behind, ports_ahead, OnWay}
 use Rattle.lmn_ground.specs.Spread.{Spread, Wiping}
-use Rattle.lmn_ground.proofs.WalkLaws.{in_last, in_snoc, determined, kept_seen, longer, past, found}
+use Rattle.lmn_parts.proofs.WalkLaws.{in_last, in_snoc, determined, kept_seen, longer, past, found}
 use Rattle.lmn_ground.proofs.SoughtLaws.{top_in, port_left, no_port_left, next_root, next_none, next_link, weight, weight_back, length-ports}
-use Rattle.lmn_ground.proofs.PaintLaws.{net_painted, painted_marked, painted_cleared, painted_none, way_same, behind_same, on_way_same, is_in_true, mark_here, mark_away, net_marked}
+use Rattle.lmn_ground.proofs.PaintLaws.{net_painted, painted_marked, painted_cleared, way_same, behind_same, on_way_same, is_in_true, mark_here, mark_away, net_marked}
+use Rattle.lmn_ground.proofs.PaintedAt.{painted_none}
 use Rattle.lmn_ground.proofs.SpreadLaws.{not_root, next_in, next_to, marks_there, alter_zero, way_enter, ahead_enter, ahead_here, on_way_enter, behind_enter}
-use Rattle.lmn_parts.specs.Walks.{port_range, neighbour}
+use Rattle.lmn_parts.specs.Walks.{port_range, neighbour, Net, net, ports_from, is_port, is_in, Walk, ends}
 use Rattle.lmn_ground.proofs.FollowLaws.{to_none}
 use Rattle.lmn_heap.proofs.Common.{decide_in as in_or_not}
 
@@ -258,7 +258,7 @@ module _ (before : Heap) (root : ℕ × ℕ) where
             (subst (λ (ps : List (ℕ × ℕ)). Walk (net before).arity (neighbour (net before) root (is_in seen)) met (ps ++ []) seen) (no_port_left (net before) a i end) u.rest) in
             let a_seen : In a seen = subst (In a) all_met (u.way_met a (inl refl)) in
             made ∙ ap (λ (s : Heap). marked s a 0 0) u.is ∙ painted_cleared before u.marks a (u.clean a a_seen)
-            ∙ painted_none before (alter u.marks a (λ _. 0)) (λ x. elim (cases_eq x a) [
+            ∙ painted_none first_place before (alter u.marks a (λ _. 0)) (λ x. elim (cases_eq x a) [
               | inl s ↦ subst (λ (z : ℕ). alter u.marks a (λ _. 0) z ≡ 0) (sym s) (alter_at u.marks a (λ _. 0))
               | inr s ↦ alter_zero u.marks a 0 x s (elim (in_or_not x seen) [
                 | inl k ↦ u.wiped x (subst (In x) (sym all_met) k) (λ m. only x m s)

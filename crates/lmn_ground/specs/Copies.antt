@@ -3,10 +3,9 @@ use Rattle.std.specs.Prelude.{ℕ, ◌≡◌, ◌⊎◌, ◌≤◌, List, [], �
 use Rattle.std.specs.Option.{option_map}
 use Rattle.lmn_heap.specs.Heap.{Heap, In, Distinct, arity_of, link_of, marked}
 use Rattle.lmn_heap.specs.Sound.{Paired}
-pub use Rattle.lmn_parts.specs.Copies.{made_as, made_like, moved, joined_like, all_joined, ports_of, copied, AreNew, LeadsOut, AllAtoms, Beside, Copied}
+use Rattle.lmn_parts.specs.Copies.{made_like, moved, AreNew, AllAtoms, Beside, answer}
 use Rattle.lmn_ground.specs.Marks.{painted, first_marks}
 use Rattle.lmn_ground.specs.Spread.{Numbered}
-use Rattle.lmn_ground.specs.Follow.{answer}
 use Rattle.lmn_parts.specs.Walks.{IsPartInDepth}
 
 -- Some atoms were made as copies of these, and not joined.

@@ -3,11 +3,10 @@
 use Rattle.std.specs.Prelude.{ℕ, ◌≡◌, ◌⊎◌, ◌<◌, true, List, Some, None, length}
 use Rattle.lmn_heap.specs.Heap.{Heap, In, arity_of, link_of, functor_of}
 use Rattle.lmn_heap.specs.Sound.{Sound}
-pub use Rattle.lmn_parts.specs.Copies.{answer}
-use Rattle.lmn_ground.specs.Walks.{HasPort, net, Walk}
+use Rattle.lmn_parts.specs.Copies.{answer}
 use Rattle.lmn_ground.specs.Marks.{first_marks, ports_ahead}
 use Rattle.lmn_ground.specs.Spread.{IsWhole, Numbered, Spreading}
-use Rattle.lmn_parts.specs.Walks.{neighbour, IsPartInDepth}
+use Rattle.lmn_parts.specs.Walks.{neighbour, IsPartInDepth, HasPort, net, Walk}
 
 -- a port and its answer lead to a port and its answer
 abbrev pub SameEnd : Heap → List ℕ → List ℕ → ℕ → ℕ → Type 0

@@ -1,4 +1,3 @@
-pub mod Walks
 pub mod Marks
 pub mod Spread
 pub mod Follow

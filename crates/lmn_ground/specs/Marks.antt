@@ -2,16 +2,26 @@
 use Rattle.std.specs.Prelude.{ℕ, zero, suc, ◌≡◌, ◌≢◌, ◌⊎◌, ◌<◌, ◌≤◌, ◌+◌, ◌%◌, Bool, false, List, [], ◌∷◌, ◌++◌, Option, Some, None, IsSome}
 use Rattle.std.specs.Option.{option_map}
 use Rattle.lmn_heap.specs.Heap.{Heap, HeapAtom, with_mark, mark_of, In, Distinct}
-use Rattle.lmn_ground.specs.Walks.{HasPort, Net, ports_from, is_port, Walk}
-use Rattle.lmn_parts.specs.Walks.{neighbour}
+use Rattle.lmn_parts.specs.Walks.{neighbour, HasPort, Net, ports_from, is_port, Walk}
 
--- the atom with another first mark; 0 stands for the one that it has
+-- the atom with another mark at a place; 0 stands for the one that it has
+abbrev pub paint_at : (HeapAtom → ℕ) → ℕ → Option HeapAtom → Option HeapAtom
+paint_at place zero x = x
+paint_at place (suc v) x = option_map (λ y. with_mark (place y) (suc v) y) x
+
+abbrev pub painted_at : (HeapAtom → ℕ) → Heap → (ℕ → ℕ) → Heap
+painted_at place s marks = record s { atoms = λ a. paint_at place (marks a) (s.atoms a) }
+
+-- the place of the first mark
+abbrev pub first_place : HeapAtom → ℕ
+first_place x = 0
+
+-- other first marks
 abbrev pub paint : ℕ → Option HeapAtom → Option HeapAtom
-paint zero x = x
-paint (suc v) x = option_map (with_mark 0 (suc v)) x
+paint v x = paint_at first_place v x
 
 abbrev pub painted : Heap → (ℕ → ℕ) → Heap
-painted s marks = record s { atoms = λ a. paint (marks a) (s.atoms a) }
+painted s marks = painted_at first_place s marks
 
 abbrev pub first_marks : Heap → ℕ → ℕ
 first_marks s a = mark_of s a 0

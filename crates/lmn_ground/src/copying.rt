@@ -4,8 +4,8 @@ ghost use Rattle.lmn_heap.specs.Conditions.{Alone};
 ghost use Rattle.lmn_heap.specs.Heap.{In, IsAtom, arity_of, PortsUnmarked};
 ghost use Rattle.lmn_ground.specs.Marks.{first_marks};
 ghost use Rattle.lmn_ground.specs.Spread.{CleanPart, IsWhole, Numbered};
-ghost use Rattle.lmn_ground.specs.Follow.{answer};
-ghost use Rattle.lmn_ground.specs.Copies.{AllAtoms, Copied, Copying, LeadsOut, Made, Remains, all_joined, joined_like, ports_of, unmarked_all};
+ghost use Rattle.lmn_ground.specs.Copies.{Copying, Made, Remains, unmarked_all};
+ghost use Rattle.lmn_parts.specs.Copies.{AllAtoms, Copied, LeadsOut, all_joined, joined_like, ports_of, answer};
 ghost use Rattle.lmn_parts.specs.Walks.{port_range};
 
 use crate::equality::is_same_port;

@@ -2,7 +2,8 @@
 ghost use Rattle.std.specs.Prelude.{◌≡◌, ◌<◌, [], map, None, OnOk};
 ghost use Rattle.lmn_heap.specs.Heap.{IsAtom, arity_of};
 ghost use Rattle.lmn_ground.specs.Spread.{CleanPart, IsWhole};
-ghost use Rattle.lmn_ground.specs.Copies.{AllAtoms, NumbersAtoms, Gathered, unmarked_all};
+ghost use Rattle.lmn_ground.specs.Copies.{NumbersAtoms, Gathered, unmarked_all};
+ghost use Rattle.lmn_parts.specs.Copies.{AllAtoms};
 
 use crate::seek::{Stand, arity, seek};
 use crate::spread::mark_entry;

@@ -2,7 +2,7 @@
 ghost use Rattle.std.specs.Prelude.{◌≡◌, ◌<◌, ◌≤◌, ◌+◌, ◌↔◌, ◌^◌, IsTrue};
 ghost use Rattle.lmn_heap.specs.Heap.{IsAtom, arity_of};
 ghost use Rattle.lmn_heap.specs.Sound.{Sound, AtMost};
-ghost use Rattle.lmn_ground.specs.Walks.{net};
+ghost use Rattle.lmn_parts.specs.Walks.{net};
 ghost use Rattle.lmn_ground.specs.Marks.{first_marks, back, OnWay, Sought, Halts};
 
 use lmn_store::LinkStore;

@@ -2,7 +2,7 @@
 ghost use Rattle.std.specs.Prelude.{◌≡◌, ◌<◌, ◌≤◌, ◌+◌, ℕ, Bool, false, Some, IfSome};
 ghost use Rattle.lmn_heap.specs.Heap.{Heap, IsAtom, arity_of, link_of, marked};
 ghost use Rattle.lmn_heap.specs.Sound.{Sound};
-ghost use Rattle.lmn_ground.specs.Walks.{is_port, net};
+ghost use Rattle.lmn_parts.specs.Walks.{is_port, net};
 ghost use Rattle.lmn_ground.specs.Marks.{OnWay, back, first_marks};
 ghost use Rattle.lmn_ground.specs.Spread.{Spread};
 

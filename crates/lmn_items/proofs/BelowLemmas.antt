@@ -3,8 +3,8 @@ use Rattle.std.proofs.Common.{◌≡◌, ◌≢◌, ℕ, suc, ◌+◌, ◌-◌, 
 use Rattle.lmn_heap.specs.Heap.{Heap, arity_of, link_of, own_mark}
 use Rattle.lmn_heap.specs.Lists.{In}
 use Rattle.lmn_heap.specs.Sound.{Paired}
-use Rattle.lmn_folding.specs.Marks.{is_item, is_end_of_term, term_by, term_at, argument_count, Event, leaves, WalkMeets}
-use Rattle.lmn_folding.proofs.FewTurns.{entered, turns}
+use Rattle.lmn_folding.specs.Marks.{is_item, is_end_of_term, term_by, term_at, argument_count, Event, leaves, WalkMeets, turns}
+use Rattle.lmn_folding.proofs.FewTurns.{entered}
 use Rattle.lmn_folding.proofs.WalkLemmas.{at_link, at_term, at_end_of_term, at_end_of_item, arguments_of_term}
 use Rattle.lmn_items.specs.Chosen.{ChangesOwnMarks}
 use Rattle.lmn_items.specs.Marking.{MarksTerms, SetsOwnMark}

@@ -2,55 +2,29 @@
 use Rattle.std.proofs.Common.{◌≡◌, ℕ, zero, suc, ◌+◌, ◌<◌, List, [], ◌∷◌, length, map, Option, Some, None, IsSome, refl, sym, ap, subst, ◌∙◌, inl, inr, arith}
 use Rattle.std.proofs.lemmas.Bool.{cases_eq}
 use Rattle.std.proofs.lemmas.List.{get_or-set_same, get_or-set_other}
-use Rattle.std.specs.Option.{option_map, option_and_then}
+use Rattle.std.specs.Option.{option_map}
 use Rattle.std.specs.Prelude.{slice_get, slice_set, slice_index_or}
 use Rattle.lmn_base.specs.Graphs.{AtomMap, Reached, StandsWhole}
-use Rattle.lmn_heap.specs.Heap.{Heap, HeapAtom, In, IsAtom, IsMem, alter, with_mark, marked, mark_of, partners_of, marks_of, arity_of, home_by, PortsUnmarked, own_mark, Unmarked}
+use Rattle.lmn_heap.specs.Heap.{Heap, HeapAtom, In, IsAtom, IsMem, alter, with_mark, marked, mark_of, partners_of, marks_of, arity_of, PortsUnmarked, own_mark, Unmarked}
 use Rattle.lmn_heap.specs.Sound.{Sound}
 use Rattle.lmn_heap.specs.Graphs.{atom_map}
 use Rattle.lmn_heap.proofs.Listing.{alter_at, alter_away}
 use Rattle.lmn_ground.specs.Spread.{IsGroundIn}
 use Rattle.lmn_machine.specs.Searching.{IsWholeApart, own_marked}
+use Rattle.lmn_ground.specs.Marks.{paint_at, painted_at}
 use Rattle.lmn_ground.proofs.CopyLaws.{member as in_handles}
+use Rattle.lmn_ground.proofs.PaintedAt.{paint_links, is_paint, map_painted, painted_none}
 use Rattle.lmn_heap.proofs.Common.{decide_in as in_or_not, same_atoms as same_painted}
 
--- the atom with another own mark; 0 stands for the one that it has
-abbrev paint : ℕ → Option HeapAtom → Option HeapAtom
-paint zero x = x
-paint (suc v) x = option_map (λ y. with_mark (length y.links) (suc v) y) x
+-- the place of the own mark
+abbrev own_place : HeapAtom → ℕ
+own_place x = length x.links
 
-abbrev painted : Heap → (ℕ → ℕ) → Heap
-painted h v = record h { atoms = λ a. paint (v a) (h.atoms a) }
+abbrev own_painted : Heap → (ℕ → ℕ) → Heap
+own_painted h v = painted_at own_place h v
 
-paint_links : (v : ℕ) (o : Option HeapAtom) → partners_of (paint v o) ≡ partners_of o
-paint_links zero o = refl
-paint_links (suc v) None = refl
-paint_links (suc v) (Some x) = refl
-
-arity_painted : (h : Heap) (v : ℕ → ℕ) (a : ℕ) → arity_of (painted h v) a ≡ arity_of h a
-arity_painted h v a = ap length (paint_links (v a) (h.atoms a))
-
-is_paint : (v : ℕ) (o : Option HeapAtom) → IsSome o → IsSome (paint v o)
-is_paint zero o i = i
-is_paint (suc v) None i = absurd (cc)
-is_paint (suc v) (Some x) i = refl
-
-map_painted : (h : Heap) (v : ℕ → ℕ) → atom_map (painted h v) ≡ atom_map h
-map_painted h v = λ i. record {
-  functor = λ z. functors (v z) (h.atoms z) i;
-  partner = λ p. (ap (λ xs. slice_index_or xs p.1 None) (paint_links (v p.0) (h.atoms p.0))) i;
-  home = λ z. homes (v z) (h.atoms z) i;
-}
-  where
-    functors : (w : ℕ) (o : Option HeapAtom) → option_map (λ x. x.functor) (paint w o) ≡ option_map (λ x. x.functor) o
-    functors zero o = refl
-    functors (suc w) None = refl
-    functors (suc w) (Some x) = refl
-
-    homes : (w : ℕ) (o : Option HeapAtom) → option_and_then (λ x. home_by x.place) (paint w o) ≡ option_and_then (λ x. home_by x.place) o
-    homes zero o = refl
-    homes (suc w) None = refl
-    homes (suc w) (Some x) = refl
+arity_painted : (h : Heap) (v : ℕ → ℕ) (a : ℕ) → arity_of (own_painted h v) a ≡ arity_of h a
+arity_painted h v a = ap length (paint_links own_place (v a) (h.atoms a))
 
 set_twice : (xs : List ℕ) (k v w : ℕ) → slice_set (slice_set xs k v) k w ≡ slice_set xs k w
 set_twice [] k v w = refl
@@ -63,14 +37,14 @@ set_same (x ∷ xs) zero e = ap (λ y. y ∷ xs) (sym e)
 set_same (x ∷ xs) (suc k) e = ap (λ ys. x ∷ ys) (set_same xs k e)
 
 -- one own mark more
-painted_set : (h : Heap) (v : ℕ → ℕ) (b m : ℕ) → Unmarked h → marked (painted h v) b (arity_of h b) m ≡ painted h (alter v b (λ _. m))
+painted_set : (h : Heap) (v : ℕ → ℕ) (b m : ℕ) → Unmarked h → marked (own_painted h v) b (arity_of h b) m ≡ own_painted h (alter v b (λ _. m))
 painted_set h v b m z = same_painted h _ _ (λ a. elim (cases_eq a b) [
-  | inl e ↦ subst (λ (x : ℕ). alter (painted h v).atoms b (option_map (with_mark (arity_of h b) m)) x ≡ paint (alter v b (λ _. m) x) (h.atoms x)) (sym e)
-      (alter_at (painted h v).atoms b (option_map (with_mark (arity_of h b) m)) ∙ by m (v b) (h.atoms b) (z b (arity_of h b)) ∙ ap (λ (w : ℕ). paint w (h.atoms b)) (sym (alter_at v b (λ _. m))))
-  | inr d ↦ alter_away (painted h v).atoms b (option_map (with_mark (arity_of h b) m)) a d ∙ ap (λ (w : ℕ). paint w (h.atoms a)) (sym (alter_away v b (λ _. m) a d))
+  | inl e ↦ subst (λ (x : ℕ). alter (own_painted h v).atoms b (option_map (with_mark (arity_of h b) m)) x ≡ paint_at own_place (alter v b (λ _. m) x) (h.atoms x)) (sym e)
+      (alter_at (own_painted h v).atoms b (option_map (with_mark (arity_of h b) m)) ∙ by m (v b) (h.atoms b) (z b (arity_of h b)) ∙ ap (λ (w : ℕ). paint_at own_place w (h.atoms b)) (sym (alter_at v b (λ _. m))))
+  | inr d ↦ alter_away (own_painted h v).atoms b (option_map (with_mark (arity_of h b) m)) a d ∙ ap (λ (w : ℕ). paint_at own_place w (h.atoms a)) (sym (alter_away v b (λ _. m) a d))
 ])
   where
-    by : (m w : ℕ) (o : Option HeapAtom) → slice_index_or (marks_of o) (length (partners_of o)) 0 ≡ 0 → option_map (with_mark (length (partners_of o)) m) (paint w o) ≡ paint m o
+    by : (m w : ℕ) (o : Option HeapAtom) → slice_index_or (marks_of o) (length (partners_of o)) 0 ≡ 0 → option_map (with_mark (length (partners_of o)) m) (paint_at own_place w o) ≡ paint_at own_place m o
     by zero zero None z = refl
     by zero (suc w) None z = refl
     by (suc m) zero None z = refl
@@ -80,18 +54,15 @@ painted_set h v b m z = same_painted h _ _ (λ a. elim (cases_eq a b) [
     by (suc m) zero (Some x) z = refl
     by (suc m) (suc w) (Some x) z = ap (λ (xs : List ℕ). Some (record x { marks = xs })) (set_twice x.marks (length x.links) (suc w) (suc m))
 
-painted_none : (h : Heap) (v : ℕ → ℕ) → ((a : ℕ) → v a ≡ 0) → painted h v ≡ h
-painted_none h v e = same_painted h _ _ (λ a. ap (λ (w : ℕ). paint w (h.atoms a)) (e a))
-
 -- the own marks after those of a list were set
 abbrev all_at : List ℕ → ℕ → (ℕ → ℕ) → ℕ → ℕ
 all_at [] m v = v
 all_at (x ∷ xs) m v = all_at xs m (alter v x (λ _. m))
 
-own_all : (h : Heap) (xs : List ℕ) (m : ℕ) (v : ℕ → ℕ) → Unmarked h → own_marked m xs (painted h v) ≡ painted h (all_at xs m v)
+own_all : (h : Heap) (xs : List ℕ) (m : ℕ) (v : ℕ → ℕ) → Unmarked h → own_marked m xs (own_painted h v) ≡ own_painted h (all_at xs m v)
 own_all h [] m v z = refl
 own_all h (x ∷ xs) m v z =
-    ap (λ (k : ℕ). own_marked m xs (marked (painted h v) x k m)) (arity_painted h v x)
+    ap (λ (k : ℕ). own_marked m xs (marked (own_painted h v) x k m)) (arity_painted h v x)
     ∙ ap (λ (s : Heap). own_marked m xs s) (painted_set h v x m z)
     ∙ own_all h xs m (alter v x (λ _. m)) z
 
@@ -115,17 +86,17 @@ abbrev none : ℕ → ℕ
 none a = 0
 
 -- the heap while the marks are set
-marked_is : (h : Heap) (xs : List ℕ) (m : ℕ) → Unmarked h → own_marked m xs h ≡ painted h (all_at xs m none)
-marked_is h xs m z = ap (λ (s : Heap). own_marked m xs s) (sym (painted_none h none (λ a. refl))) ∙ own_all h xs m none z
+marked_is : (h : Heap) (xs : List ℕ) (m : ℕ) → Unmarked h → own_marked m xs h ≡ own_painted h (all_at xs m none)
+marked_is h xs m z = ap (λ (s : Heap). own_marked m xs s) (sym (painted_none own_place h none (λ a. refl))) ∙ own_all h xs m none z
 
 -- marks that are taken back
 pub taken_back_own : (h k t : Heap) (xs : List ℕ) → Unmarked h → k ≡ own_marked 1 xs h → t ≡ own_marked 0 xs k → t ≡ h
 taken_back_own h k t xs z e f =
     f ∙ ap (λ (s : Heap). own_marked 0 xs s) (e ∙ marked_is h xs 1 z) ∙ own_all h xs 0 (all_at xs 1 none) z
-    ∙ painted_none h (all_at xs 0 (all_at xs 1 none)) (λ a. elim (in_or_not a xs) [ inl i ↦ in_all xs 0 (all_at xs 1 none) a i | inr n ↦ off_all xs 0 (all_at xs 1 none) a n ∙ off_all xs 1 none a n ])
+    ∙ painted_none own_place h (all_at xs 0 (all_at xs 1 none)) (λ a. elim (in_or_not a xs) [ inl i ↦ in_all xs 0 (all_at xs 1 none) a i | inr n ↦ off_all xs 0 (all_at xs 1 none) a n ∙ off_all xs 1 none a n ])
 
 pub there_own : (h k : Heap) (xs : List ℕ) (m a : ℕ) → Unmarked h → k ≡ own_marked m xs h → IsAtom h a → IsAtom k a
-there_own h k xs m a z e i = subst (λ (s : Heap). IsAtom s a) (sym (e ∙ marked_is h xs m z)) (is_paint (all_at xs m none a) (h.atoms a) i)
+there_own h k xs m a z e i = subst (λ (s : Heap). IsAtom s a) (sym (e ∙ marked_is h xs m z)) (is_paint own_place (all_at xs m none a) (h.atoms a) i)
 
 pub mem_own : (h k : Heap) (xs : List ℕ) (m n : ℕ) → Unmarked h → k ≡ own_marked m xs h → IsMem h n → IsMem k n
 mem_own h k xs m n z e i = subst (λ (s : Heap). IsMem s n) (sym (e ∙ marked_is h xs m z)) i
@@ -137,7 +108,7 @@ pub clean_own_all : (h k : Heap) (xs : List ℕ) (m : ℕ) → Unmarked h → k 
 clean_own_all h k xs m z e = subst (λ (s : Heap). PortsUnmarked s) (sym (e ∙ marked_is h xs m z)) (λ a i l.
     by (all_at xs m none a) (h.atoms a) i (subst (λ (n : ℕ). i < n) (arity_painted h (all_at xs m none) a) l) (z a i))
   where
-    by : (w : ℕ) (o : Option HeapAtom) (i : ℕ) → i < length (partners_of o) → slice_index_or (marks_of o) i 0 ≡ 0 → slice_index_or (marks_of (paint w o)) i 0 ≡ 0
+    by : (w : ℕ) (o : Option HeapAtom) (i : ℕ) → i < length (partners_of o) → slice_index_or (marks_of o) i 0 ≡ 0 → slice_index_or (marks_of (paint_at own_place w o)) i 0 ≡ 0
     by zero o i l e = e
     by (suc w) None i l e = e
     by (suc w) (Some x) i l e = get_or-set_other x.marks (length x.links) i (suc w) 0 (λ (q : i ≡ length x.links). absurd (omega (arith, q, l))) ∙ e
@@ -151,27 +122,27 @@ module _ {A : Type 0} (atom : A → ℕ) (h k : Heap) (handles : List A) (z : Un
   abbrev marks : ℕ → ℕ
   marks = all_at (map atom handles) 1 none
 
-  is : k ≡ painted h marks
+  is : k ≡ own_painted h marks
   is = e ∙ marked_is h (map atom handles) 1 z
 
   same_map : atom_map k ≡ atom_map h
-  same_map = ap atom_map is ∙ map_painted h marks
+  same_map = ap atom_map is ∙ map_painted own_place h marks
 
   matched : Sound h → (a : ℕ) → IsAtom h a → In a (map atom handles) → own_mark k a ≡ 1
   matched sound a there i =
       let m : marks a ≡ 1 = in_all (map atom handles) 1 none a i in
-      ap (λ (s : Heap). own_mark s a) is ∙ ap (λ (n : ℕ). mark_of (painted h marks) a n) (arity_painted h marks a)
-      ∙ ap (λ (w : ℕ). slice_index_or (marks_of (paint w (h.atoms a))) (arity_of h a) 0) m
+      ap (λ (s : Heap). own_mark s a) is ∙ ap (λ (n : ℕ). mark_of (own_painted h marks) a n) (arity_painted h marks a)
+      ∙ ap (λ (w : ℕ). slice_index_or (marks_of (paint_at own_place w (h.atoms a))) (arity_of h a) 0) m
       ∙ by (h.atoms a) there (sound.shaped.marks a there)
     where
-      by : (o : Option HeapAtom) → IsSome o → length (marks_of o) ≡ length (partners_of o) + 1 → slice_index_or (marks_of (paint 1 o)) (length (partners_of o)) 0 ≡ 1
+      by : (o : Option HeapAtom) → IsSome o → length (marks_of o) ≡ length (partners_of o) + 1 → slice_index_or (marks_of (paint_at own_place 1 o)) (length (partners_of o)) 0 ≡ 1
       by None s l = absurd (cc)
       by (Some x) s l = get_or-set_same x.marks (length x.links) 1 0 (omega (arith, l))
 
   unmatched : (a : ℕ) → (In a (map atom handles) → ⊥) → own_mark k a ≡ 0
   unmatched a n =
-      ap (λ (s : Heap). own_mark s a) is ∙ ap (λ (j : ℕ). mark_of (painted h marks) a j) (arity_painted h marks a)
-      ∙ ap (λ (w : ℕ). slice_index_or (marks_of (paint w (h.atoms a))) (arity_of h a) 0) (off_all (map atom handles) 1 none a n) ∙ z a (arity_of h a)
+      ap (λ (s : Heap). own_mark s a) is ∙ ap (λ (j : ℕ). mark_of (own_painted h marks) a j) (arity_painted h marks a)
+      ∙ ap (λ (w : ℕ). slice_index_or (marks_of (paint_at own_place w (h.atoms a))) (arity_of h a) 0) (off_all (map atom handles) 1 none a n) ∙ z a (arity_of h a)
 
   pub ground_whole : Sound h → ((j : ℕ) (b : A) → slice_get handles j ≡ Some b → IsAtom h (atom b)) → (root : ℕ × ℕ) (m : ℕ) → IsGroundIn k root m → IsWholeApart atom h handles m root
   ground_whole sound held root m g = record {

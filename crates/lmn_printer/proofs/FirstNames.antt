@@ -12,26 +12,22 @@ use Rattle.lmn_printer.specs.Numbers.{links_at_ports, links_on}
 use Rattle.lmn_printer.proofs.NumberLemmas.{joined_or_not}
 use Rattle.lmn_base.proofs.Common.{numbers_head}
 use Rattle.lmn_heap.proofs.Common.{same_port as same_ports}
+use Rattle.lmn_parts.specs.Copies.{ports_of}
 use Rattle.lmn_parts.specs.Walks.{port_range}
 use Rattle.lmn_parts.proofs.WalkLaws.{by_port, ports_named}
 
 -- Ports in a row.
-
--- the ports of the atoms of a list
-abbrev pub ports_on : Heap → List ℕ → List (ℕ × ℕ)
-ports_on s [] = []
-ports_on s (a ∷ xs) = port_range a 0 (arity_of s a) ++ ports_on s xs
 
 -- the port is one of them
 abbrev pub Has : ℕ → ℕ → List (ℕ × ℕ) → Type 0
 Has a i [] = ⊥
 Has a i (p ∷ ps) = SamePort p.0 p.1 a i ⊎ Has a i ps
 
-pub names_on : (s : Heap) (name : ℕ → ℕ → ℕ) (xs : List ℕ) → map (by_port name) (ports_on s xs) ≡ links_on s xs name
+pub names_on : (s : Heap) (name : ℕ → ℕ → ℕ) (xs : List ℕ) → map (by_port name) (ports_of s xs) ≡ links_on s xs name
 names_on s name [] = refl
 names_on s name (a ∷ xs) =
-    map-append (by_port name) (port_range a 0 (arity_of s a)) (ports_on s xs)
-    ∙ ap (λ ys. ys ++ map (by_port name) (ports_on s xs)) (ports_named name a 0 (arity_of s a)) ∙ ap (λ ys. links_at_ports s a name ++ ys) (names_on s name xs)
+    map-append (by_port name) (port_range a 0 (arity_of s a)) (ports_of s xs)
+    ∙ ap (λ ys. ys ++ map (by_port name) (ports_of s xs)) (ports_named name a 0 (arity_of s a)) ∙ ap (λ ys. links_at_ports s a name ++ ys) (names_on s name xs)
 
 has_left : (a i : ℕ) (ps qs : List (ℕ × ℕ)) → Has a i ps → Has a i (ps ++ qs)
 has_left a i [] qs h = absurd h
@@ -47,12 +43,12 @@ has_from a j zero i l = absurd (omega (arith, l))
 has_from a j (suc n) zero l = inl (refl, let e : j ≡ j + 0 = omega arith in e)
 has_from a j (suc n) (suc i) l = inr (subst (λ k. Has a k (port_range a (j + 1) n)) (let e : j + 1 + i ≡ j + suc i = omega arith in e) (has_from a (j + 1) n i (omega (arith, l))))
 
-pub has_on : (s : Heap) (xs : List ℕ) (a i : ℕ) → In a xs → i < arity_of s a → Has a i (ports_on s xs)
+pub has_on : (s : Heap) (xs : List ℕ) (a i : ℕ) → In a xs → i < arity_of s a → Has a i (ports_of s xs)
 has_on s [] a i h l = absurd h
 has_on s (b ∷ xs) a i (inl e) l =
-    has_left a i (port_range b 0 (arity_of s b)) (ports_on s xs)
+    has_left a i (port_range b 0 (arity_of s b)) (ports_of s xs)
     (subst (λ c. Has a i (port_range c 0 (arity_of s c))) (sym e) (subst (λ k. Has a k (port_range a 0 (arity_of s a))) (let z : 0 + i ≡ i = omega arith in z) (has_from a 0 (arity_of s a) i l)))
-has_on s (b ∷ xs) a i (inr h) l = has_right a i (port_range b 0 (arity_of s b)) (ports_on s xs) (has_on s xs a i h l)
+has_on s (b ∷ xs) a i (inr h) l = has_right a i (port_range b 0 (arity_of s b)) (ports_of s xs) (has_on s xs a i h l)
 
 -- There is a numbering.
 
@@ -262,6 +258,6 @@ are_append : (s : Heap) (ps qs : List (ℕ × ℕ)) → ArePorts s ps → ArePor
 are_append s [] qs h k = k
 are_append s (p ∷ ps) qs h k = (h.0, are_append s ps qs h.1 k)
 
-pub are_on : (s : Heap) (xs : List ℕ) → ArePorts s (ports_on s xs)
+pub are_on : (s : Heap) (xs : List ℕ) → ArePorts s (ports_of s xs)
 are_on s [] = tt
-are_on s (a ∷ xs) = are_append s (port_range a 0 (arity_of s a)) (ports_on s xs) (are_from s a 0 (arity_of s a) (omega arith)) (are_on s xs)
+are_on s (a ∷ xs) = are_append s (port_range a 0 (arity_of s a)) (ports_of s xs) (are_from s a 0 (arity_of s a) (omega arith)) (are_on s xs)

@@ -12,7 +12,8 @@ use Rattle.lmn_heap.proofs.Calls.{one_tree}
 use Rattle.lmn_heap.proofs.SolidLemmas.{regions_frame}
 use Rattle.lmn_printer.specs.HeapLaws.{HeapsHaveSolids, OneSolid}
 use Rattle.lmn_printer.specs.Numbers.{printed_atoms, links_on}
-use Rattle.lmn_printer.proofs.FirstNames.{ports_on, names_on, has_on, are_on, first_naming, names_alike}
+use Rattle.lmn_printer.proofs.FirstNames.{names_on, has_on, are_on, first_naming, names_alike}
+use Rattle.lmn_parts.specs.Copies.{ports_of}
 use Rattle.lmn_printer.proofs.OrderLemmas.{printed_all}
 use Rattle.lmn_printer.proofs.ToldLemmas.{numbered_alike, solid_atom}
 use Rattle.lmn_printer.proofs.SolidLinks.{solid_links, in_links, numbers_below}
@@ -36,7 +37,7 @@ heaps_have_solids s valid =
     let f = valid.tree.0 in
     let tree = valid.tree.1 in
     let xs = printed_atoms s (flat f) in
-    let first = first_naming s valid.sound.paired (ports_on s xs) (λ a i l. has_on s xs a i (printed_all s valid f tree a (port_there s a i l)) l) in
+    let first = first_naming s valid.sound.paired (ports_of s xs) (λ a i l. has_on s xs a i (printed_all s valid f tree a (port_there s a i l)) l) in
     let region = one_region s first.name f tree.forms in
     let x : Solid = record { root = region.0 } in (
       x,
@@ -79,7 +80,7 @@ one_solid s x y valid p q =
     let below : (a i : ℕ) → i < arity_of s a → p.name a i < p.count = λ a i l.
     numbers_below 0 p.count (links_on s xs p.name) (p.name a i) (subst (λ ls. Numbers 0 ls p.count) links p.numbers) (in_links s valid.sound p.name xs a i (printed_all s valid p.forest p.tree a (port_there s a i l)) l) in
     let same : (a i : ℕ) → i < arity_of s a → q.name a i ≡ p.name a i = λ a i l.
-    names_alike s p.name q.name p.naming q.naming (ports_on s xs) p.count q.count (are_on s xs) nx ny a i l (below a i l) in
+    names_alike s p.name q.name p.naming q.naming (ports_of s xs) p.count q.count (are_on s xs) nx ny a i l (below a i l) in
     let whole : y.root ∷ [] ≡ x.root ∷ [] = sym other ∙ regions_alike s valid.sound q.name p.name same p.forest ∙ p.root in
     let root : x.root ≡ y.root = (cc whole) in
     λ i. record { root = root i }

@@ -18,7 +18,8 @@ use Rattle.lmn_heap.proofs.Ports.{SamePort, same_port}
 use Rattle.lmn_heap.proofs.Replacing.{port_within}
 use Rattle.lmn_printer.specs.HeapLaws.{HeapSolidsAreSolids}
 use Rattle.lmn_printer.specs.Numbers.{printed_atoms, links_on}
-use Rattle.lmn_printer.proofs.FirstNames.{ports_on, names_on, are_on, ArePorts}
+use Rattle.lmn_printer.proofs.FirstNames.{names_on, are_on, ArePorts}
+use Rattle.lmn_parts.specs.Copies.{ports_of}
 use Rattle.lmn_printer.proofs.OrderLemmas.{printed_all, printed_once}
 use Rattle.lmn_printer.proofs.SolidLinks.{solid_atoms, solid_links}
 use Rattle.lmn_heap.proofs.Common.{is_atom_at as port_there, length_numbered, same_port as same_ports}
@@ -89,24 +90,24 @@ from_here a i j (suc n) l k = elim (cases_eq j i) [
 ]
 
 module _ (s : Heap) (a i : ℕ) (l : i < arity_of s a) where
-  none_on : (xs : List ℕ) → Each (λ b. a ≢ b) xs → times a i (ports_on s xs) ≡ 0
+  none_on : (xs : List ℕ) → Each (λ b. a ≢ b) xs → times a i (ports_of s xs) ≡ 0
   none_on [] e = refl
   none_on (b ∷ xs) e =
-      let t = times_append a i (port_range b 0 (arity_of s b)) (ports_on s xs) in
+      let t = times_append a i (port_range b 0 (arity_of s b)) (ports_of s xs) in
       let f = from_other a i b 0 (arity_of s b) (λ q. e.0 (sym q)) in
       let g = none_on xs e.1 in
       omega (arith, t, f, g)
 
   -- a port of one of different atoms stands there once
-  once_on : (xs : List ℕ) → Distinct xs → In a xs → times a i (ports_on s xs) ≡ 1
+  once_on : (xs : List ℕ) → Distinct xs → In a xs → times a i (ports_of s xs) ≡ 1
   once_on [] d h = absurd h
   once_on (b ∷ xs) d (inl e) =
-      let t = times_append a i (port_range b 0 (arity_of s b)) (ports_on s xs) in
+      let t = times_append a i (port_range b 0 (arity_of s b)) (ports_of s xs) in
       let f : times a i (port_range b 0 (arity_of s b)) ≡ 1 = subst (λ c. times a i (port_range c 0 (arity_of s c)) ≡ 1) (sym e) (from_here a i 0 (arity_of s a) (omega arith) (omega (arith, l))) in
       let g = none_on xs (subst (λ c. Each (λ y. c ≢ y) xs) e d.0) in
       omega (arith, t, f, g)
   once_on (b ∷ xs) d (inr h) =
-      let t = times_append a i (port_range b 0 (arity_of s b)) (ports_on s xs) in
+      let t = times_append a i (port_range b 0 (arity_of s b)) (ports_of s xs) in
       let f = from_other a i b 0 (arity_of s b) (each_in (λ n. b ≢ n) xs a d.0 h) in
       let g = once_on xs d.1 h in
       omega (arith, t, f, g)
@@ -154,22 +155,22 @@ partner_of s a i None e h = absurd (cc h)
 partner_of s a i (Some p) e h = (p, e)
 
 module _ (s : Heap) (valid : Valid s) (name : ℕ → ℕ → ℕ) (naming : IsNaming s name) (xs : List ℕ) (distinct : Distinct xs) (all : (a i : ℕ) → i < arity_of s a → In a xs) where
-  port_twice : (a i : ℕ) → i < arity_of s a → tally (name a i) (map (by_port name) (ports_on s xs)) ≡ 2
+  port_twice : (a i : ℕ) → i < arity_of s a → tally (name a i) (map (by_port name) (ports_of s xs)) ≡ 2
   port_twice a i l =
       let q = partner_of s a i (link_of s a i) refl (valid.full a i l) in
       let k = port_within s q.0.0 q.0.1 (a, i) (valid.sound.paired.back a i q.0.0 q.0.1 q.1) in
-      let t = both_ports s name naming a i q.0.0 q.0.1 l q.1 (λ p. valid.sound.paired.apart a i (q.1 ∙ (λ z. Some (sym p.0 z, sym p.1 z)))) (ports_on s xs) (are_on s xs) in
+      let t = both_ports s name naming a i q.0.0 q.0.1 l q.1 (λ p. valid.sound.paired.apart a i (q.1 ∙ (λ z. Some (sym p.0 z, sym p.1 z)))) (ports_of s xs) (are_on s xs) in
       let e = once_on s a i l xs distinct (all a i l) in
       let f = once_on s q.0.0 q.0.1 k xs distinct (all q.0.0 q.0.1 k) in
       omega (arith, t, e, f)
 
   links_twice : EachTwice (links_on s xs name)
-  links_twice x = subst (λ ls. (count_by (λ y. x == y) ls ≡ 0) ⊎ (count_by (λ y. x == y) ls ≡ 2)) (names_on s name xs) (by (stands s name x (ports_on s xs) (are_on s xs)))
+  links_twice x = subst (λ ls. (count_by (λ y. x == y) ls ≡ 0) ⊎ (count_by (λ y. x == y) ls ≡ 2)) (names_on s name xs) (by (stands s name x (ports_of s xs) (are_on s xs)))
     where
-      by : (tally x (map (by_port name) (ports_on s xs)) ≡ 0) ⊎ ((p : ℕ × ℕ) × (name p.0 p.1 ≡ x) × (p.1 < arity_of s p.0))
-          → (count_by (λ y. x == y) (map (by_port name) (ports_on s xs)) ≡ 0) ⊎ (count_by (λ y. x == y) (map (by_port name) (ports_on s xs)) ≡ 2)
-      by (inl z) = inl (sym (tally_is x (map (by_port name) (ports_on s xs))) ∙ z)
-      by (inr r) = inr (sym (tally_is x (map (by_port name) (ports_on s xs))) ∙ subst (λ y. tally y (map (by_port name) (ports_on s xs)) ≡ 2) r.1 (port_twice r.0.0 r.0.1 r.2))
+      by : (tally x (map (by_port name) (ports_of s xs)) ≡ 0) ⊎ ((p : ℕ × ℕ) × (name p.0 p.1 ≡ x) × (p.1 < arity_of s p.0))
+          → (count_by (λ y. x == y) (map (by_port name) (ports_of s xs)) ≡ 0) ⊎ (count_by (λ y. x == y) (map (by_port name) (ports_of s xs)) ≡ 2)
+      by (inl z) = inl (sym (tally_is x (map (by_port name) (ports_of s xs))) ∙ z)
+      by (inr r) = inr (sym (tally_is x (map (by_port name) (ports_of s xs))) ∙ subst (λ y. tally y (map (by_port name) (ports_of s xs)) ≡ 2) r.1 (port_twice r.0.0 r.0.1 r.2))
 
 -- Each atom of the solid.
 

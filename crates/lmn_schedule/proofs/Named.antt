@@ -17,6 +17,7 @@ use Rattle.lmn_base.specs.Levels.{leaves_of}
 use Rattle.lmn_base.specs.Names.{HasNames, NamesPlain, label_names, leaf_names, level_names, context_names, rule_names}
 use Rattle.lmn_base.specs.Levels.{contexts_of, rule_contexts_of}
 use Rattle.lmn_base.specs.Solids.{atoms_of_region, atoms_step}
+use Rattle.lmn_base.proofs.Common.{inner_leaves, inner_atoms}
 use Rattle.lmn_congruence.specs.Rules.{Name}
 use Rattle.lmn_congruence.specs.SolidsOfPlains.{fused_leaf, fused_step, fused_region, is_connector}
 use Rattle.lmn_congruence.proofs.Appended.{all_left, all_right}
@@ -50,12 +51,6 @@ module _ (names : List Name) (v : ℕ → ℕ) where
   leaves_named (l ∷ ls) h = All-append (Named names) (fused_leaf v l) (flat_map (fused_leaf v) ls)
       (leaf_named l (all_left (Below names) (leaf_names l) (flat_map leaf_names ls) h)) (leaves_named ls (all_right (Below names) (leaf_names l) (flat_map leaf_names ls) h))
 
-  abbrev inner_of : List Level → List Leaf
-  inner_of ls = flat_map (λ inner. inner) (map leaves_of ls)
-
-  abbrev inner_atoms : List Region → List SolidAtom
-  inner_atoms rs = flat_map (λ inner. inner) (map atoms_of_region rs)
-
   -- the names of some leaves, and of some more
   both_names : (ks ls : List Leaf) → HasNames names (flat_map leaf_names (ks ++ ls)) → HasNames names (flat_map leaf_names ks) × HasNames names (flat_map leaf_names ls)
   both_names [] ls h = (All-from_recursion (Below names) [] tt, h)
@@ -66,39 +61,36 @@ module _ (names : List Name) (v : ℕ → ℕ) where
   abbrev KeepsNames : Level → Type 0
   KeepsNames l = HasNames names (flat_map leaf_names (leaves_of l)) → All (Named names) (atoms_of_region (fused_region v l))
 
-  inner_named : (ls : List ((l : Level) × KeepsNames l)) → HasNames names (flat_map leaf_names (inner_of (map (λ e. e.0) ls))) → All (Named names) (inner_atoms (map (fused_region v) (map (λ e. e.0) ls)))
+  inner_named : (ls : List ((l : Level) × KeepsNames l)) → HasNames names (flat_map leaf_names (inner_leaves (map (λ e. e.0) ls))) → All (Named names) (inner_atoms (map (fused_region v) (map (λ e. e.0) ls)))
   inner_named [] h = All-from_recursion (Named names) [] tt
   inner_named (e ∷ ls) h =
-      let both = both_names (leaves_of e.0) (inner_of (map (λ e. e.0) ls)) h in
+      let both = both_names (leaves_of e.0) (inner_leaves (map (λ e. e.0) ls)) h in
       All-append (Named names) (atoms_of_region (fused_region v e.0)) (inner_atoms (map (fused_region v) (map (λ e. e.0) ls))) (e.1 both.0) (inner_named ls both.1)
 
   level_named : (l : Level) → KeepsNames l
   level_named = ind-Level KeepsNames (λ y z is h.
       let split = fold-roll-Level (List Leaf) (λ l. l.leaves ++ flat_map (λ inner. inner) l.membranes) y in
-      let both = both_names y.leaves (inner_of y.membranes) (subst (λ ls. HasNames names (flat_map leaf_names ls)) split h) in
-      let inside = subst (λ l. HasNames names (flat_map leaf_names (inner_of l.membranes)) → All (Named names) (inner_atoms (map (fused_region v) l.membranes))) is (inner_named z.membranes) in
+      let both = both_names y.leaves (inner_leaves y.membranes) (subst (λ ls. HasNames names (flat_map leaf_names ls)) split h) in
+      let inside = subst (λ l. HasNames names (flat_map leaf_names (inner_leaves l.membranes)) → All (Named names) (inner_atoms (map (fused_region v) l.membranes))) is (inner_named z.membranes) in
       rw (fold-roll-Level Region (fused_step v) y, fold-roll-Region (List SolidAtom) atoms_step _)
       (All-append (Named names) (flat_map (fused_leaf v) y.leaves) (inner_atoms (map (fused_region v) y.membranes)) (leaves_named y.leaves both.0) (inside both.1)))
 
 -- ---- the atoms of a heap
 
-abbrev all_atoms : List Region → List SolidAtom
-all_atoms rs = flat_map (λ inner. inner) (map atoms_of_region rs)
-
 abbrev regions_first : Heap → (ℕ → ℕ → ℕ) → ℕ → Forest → Region
 regions_first s name n x = roll-Region (record { atoms = heap_atoms s name (atoms_in s n); membranes = regions_of s name x; rules = rules_in s n })
 
 -- what holds of each atom of the regions of a forest holds of each atom of its membranes
-in_forest : (P : SolidAtom → Type 0) (s : Heap) (name : ℕ → ℕ → ℕ) (f : Forest) → All P (all_atoms (regions_of s name f)) → (m : ℕ) → lists.In m (flat f) → All P (heap_atoms s name (atoms_in s m))
+in_forest : (P : SolidAtom → Type 0) (s : Heap) (name : ℕ → ℕ → ℕ) (f : Forest) → All P (inner_atoms (regions_of s name f)) → (m : ℕ) → lists.In m (flat f) → All P (heap_atoms s name (atoms_in s m))
 in_forest P s name bare h m i = absurd i
 in_forest P s name (mem n x r) h m i =
-    let here : atoms_of_region (regions_first s name n x) ≡ heap_atoms s name (atoms_in s n) ++ all_atoms (regions_of s name x) = fold-roll-Region (List SolidAtom) atoms_step _ in
-    let first : All P (heap_atoms s name (atoms_in s n) ++ all_atoms (regions_of s name x)) = subst (All P) here (all_left P (atoms_of_region (regions_first s name n x)) (all_atoms (regions_of s name r)) h) in
-    let rest : All P (all_atoms (regions_of s name r)) = all_right P (atoms_of_region (regions_first s name n x)) (all_atoms (regions_of s name r)) h in
+    let here : atoms_of_region (regions_first s name n x) ≡ heap_atoms s name (atoms_in s n) ++ inner_atoms (regions_of s name x) = fold-roll-Region (List SolidAtom) atoms_step _ in
+    let first : All P (heap_atoms s name (atoms_in s n) ++ inner_atoms (regions_of s name x)) = subst (All P) here (all_left P (atoms_of_region (regions_first s name n x)) (inner_atoms (regions_of s name r)) h) in
+    let rest : All P (inner_atoms (regions_of s name r)) = all_right P (atoms_of_region (regions_first s name n x)) (inner_atoms (regions_of s name r)) h in
     elim i [
-      | inl e ↦ subst (λ k. All P (heap_atoms s name (atoms_in s k))) e (all_left P (heap_atoms s name (atoms_in s n)) (all_atoms (regions_of s name x)) first)
+      | inl e ↦ subst (λ k. All P (heap_atoms s name (atoms_in s k))) e (all_left P (heap_atoms s name (atoms_in s n)) (inner_atoms (regions_of s name x)) first)
       | inr j ↦ elim (in_either m (flat x) (flat r) j) [
-        | inl q ↦ in_forest P s name x (all_right P (heap_atoms s name (atoms_in s n)) (all_atoms (regions_of s name x)) first) m q
+        | inl q ↦ in_forest P s name x (all_right P (heap_atoms s name (atoms_in s n)) (inner_atoms (regions_of s name x)) first) m q
         | inr q ↦ in_forest P s name r rest m q
       ]
     ]
@@ -143,7 +135,7 @@ loaded_named names p s l known a f e =
     let names_on_top : HasNames names (level_names p.top) = all_left (Below names) (level_names p.top) (flat_map rule_names p.rules) known.1 in
     let leaves : HasNames names (flat_map leaf_names (leaves_of p.top)) = all_left (Below names) (flat_map leaf_names (leaves_of p.top)) (context_names (contexts_of p.top)) (all_left (Below names) (flat_map leaf_names (leaves_of p.top) ++ context_names (contexts_of p.top)) (context_names (rule_contexts_of p.top)) names_on_top) in
     let root : All (Named names) (atoms_of_region l.solid.root) = subst (λ r. All (Named names) (atoms_of_region r)) (sym l.of_plain.is) (level_named names l.of_plain.to p.top leaves) in
-    let whole : All (Named names) (all_atoms (regions_of s l.of_heap.name l.of_heap.forest)) =
-    subst (λ rs. All (Named names) (all_atoms rs)) (sym l.of_heap.root) (All-append (Named names) (atoms_of_region l.solid.root) [] root (All-from_recursion (Named names) [] tt)) in
+    let whole : All (Named names) (inner_atoms (regions_of s l.of_heap.name l.of_heap.forest)) =
+    subst (λ rs. All (Named names) (inner_atoms rs)) (sym l.of_heap.root) (All-append (Named names) (atoms_of_region l.solid.root) [] root (All-from_recursion (Named names) [] tt)) in
     let home = stands s l.valid a f e in
     listed_named names s l.of_heap.name (atoms_in s home.0) (in_forest (Named names) s l.of_heap.name l.of_heap.forest whole home.0 (l.of_heap.tree.all home.0 (listed_mem (s.mems home.0) a home.1))) a home.1 f e

@@ -3,4 +3,5 @@ pub mod ExampleLinks
 pub mod ExampleContexts
 pub mod ExampleParts
 pub mod HeadTrees
+pub mod HeadLinks
 pub mod Common

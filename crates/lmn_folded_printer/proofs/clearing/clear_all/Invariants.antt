@@ -6,14 +6,14 @@ use Rattle.lmn_heap.specs.Lists.{from}
 use Rattle.lmn_heap.specs.Sound.{Forest, IsTree, flat}
 use Rattle.lmn_heap.specs.Trees.{tree_of}
 use Rattle.lmn_printer.specs.Numbers.{printed_atoms}
-use Rattle.lmn_folded_printer.proofs.ClearedMarks.{Clearing}
+use Rattle.lmn_folded_printer.proofs.ClearedMarks.{ClearingAll}
 use Rattle.lmn_folded_printer.proofs.clearing.clear_all.Given as goal
 
 abbrev pub invariant-loop-next : goal.invariant-loop-next
 invariant-loop-next g l =
     let s = g.S.LinkStore.heap l.fn.store in
     record {
-      cleared : (f : Forest) → IsTree s f → Clearing s (g.S.LinkStore.heap l.store) f (option_map g.S.LinkStore.atom_id l.next);
+      cleared : (f : Forest) → IsTree s f → ClearingAll s (g.S.LinkStore.heap l.store) f (option_map g.S.LinkStore.atom_id l.next);
       place : IfSome l.next (λ a. IsInPlace s (g.S.LinkStore.atom_id a));
     }
 

@@ -1,6 +1,6 @@
 use Rattle.std.proofs.Common.{◌∙◌, map}
 use Rattle.lmn_heap.specs.Heap.{arity_of}
-use Rattle.lmn_ground.specs.Follow.{answer}
+use Rattle.lmn_parts.specs.Copies.{answer}
 use Rattle.lmn_ground.proofs.CopyLaws.{member, ports_copying, ports_numbers, ports_arity, ports_done}
 use Rattle.lmn_ground.proofs.copying.join_copies.Goals as goal
 use Rattle.lmn_parts.specs.Walks.{port_range}

@@ -2,8 +2,8 @@ use Rattle.std.proofs.Common.{◌≡◌, ℕ, map, drop}
 use Rattle.lmn_heap.specs.Heap.{arity_of}
 use Rattle.lmn_ground.specs.Marks.{first_marks}
 use Rattle.lmn_ground.specs.Spread.{Numbered}
-use Rattle.lmn_ground.specs.Follow.{answer}
-use Rattle.lmn_ground.specs.Copies.{Copying, all_joined, ports_of}
+use Rattle.lmn_ground.specs.Copies.{Copying}
+use Rattle.lmn_parts.specs.Copies.{all_joined, ports_of, answer}
 use Rattle.lmn_ground.proofs.copying.join_copies.Given as goal
 
 abbrev pub invariant-loop-k : goal.invariant-loop-k

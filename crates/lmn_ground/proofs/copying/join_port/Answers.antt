@@ -1,5 +1,5 @@
 use Rattle.std.proofs.Common.{rules, map}
-use Rattle.lmn_ground.specs.Follow.{answer}
+use Rattle.lmn_parts.specs.Copies.{answer}
 use Rattle.lmn_ground.proofs.CopyLaws.{other_port, port_differs, port_is_joined}
 use Rattle.lmn_ground.proofs.copying.join_port.Goals as goal
 

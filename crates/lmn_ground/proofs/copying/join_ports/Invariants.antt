@@ -2,8 +2,8 @@ use Rattle.std.proofs.Common.{◌≡◌, ◌-◌, map}
 use Rattle.lmn_heap.specs.Heap.{arity_of}
 use Rattle.lmn_ground.specs.Marks.{first_marks}
 use Rattle.lmn_ground.specs.Spread.{Numbered}
-use Rattle.lmn_ground.specs.Follow.{answer}
-use Rattle.lmn_ground.specs.Copies.{Copying, all_joined}
+use Rattle.lmn_ground.specs.Copies.{Copying}
+use Rattle.lmn_parts.specs.Copies.{all_joined, answer}
 use Rattle.lmn_ground.proofs.copying.join_ports.Given as goal
 use Rattle.lmn_parts.specs.Walks.{port_range}
 
