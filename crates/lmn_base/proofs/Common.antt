@@ -20,7 +20,7 @@ use Rattle.std.specs.List.{sum, flat_map}
 use Rattle.std.specs.List.Sorted.{IsPermutation}
 use Rattle.lmn_base.proofs.Numbers.{triangle, triangle_less}
 use Rattle.std.specs.Prelude.{min}
-use Rattle.lmn_base.proofs.Lists.{In}
+use Rattle.lmn_base.specs.Lists.{In}
 use Rattle.std.proofs.lemmas.List.Sums.{get_or-le-sum_by}
 use Rattle.std.proofs.lemmas.List.{get_or-map, length-map}
 use Rattle.lmn_base.specs.declared.level.Leaf.{Leaf}
@@ -96,7 +96,7 @@ numbers_in {n = n} (new {xs = xs} h) x a b = go xs (first x n a) (λ c. numbers_
     first x n a = grind arith
 
     go : (xs : List ℕ) → (x ≡ n) ⊎ (suc n ≤ x) → (suc n ≤ x → In x xs) → In x (n ∷ xs)
-    go xs (inl e) more = inl e
+    go xs (inl e) more = inl (sym e)
     go xs (inr l) more = inr (more l)
 
 -- a membrane is smaller than the level round it

@@ -1,6 +1,7 @@
 -- General lemmas on lists, options and results.
 use Rattle.std.proofs.Common.{List, [], ℕ, ◌+◌, ◌∷◌, ◌≡◌, ◌⊎◌, None, Option, Some, ap, arith, length, refl, suc, take, zero, ◌≤◌, map, ◌++◌, ◌<◌, drop, ◌∙◌, All, Err, Ok, Result, sym, inl, inr}
 use Rattle.std.specs.List.{AllByRecursion}
+use Rattle.lmn_base.specs.Lists.{In}
 use Rattle.std.specs.Prelude.{slice_get, IsSome, Contains, slice_index_or}
 use Rattle.std.specs.Result.{OnErr}
 use Rattle.std.proofs.lemmas.List.{length-append}
@@ -8,10 +9,6 @@ use Rattle.std.proofs.lemmas.List.{length-append}
 abbrev pub weigh : (ℕ → ℕ) → List ℕ → ℕ
 weigh w [] = 0
 weigh w (x ∷ xs) = w x + weigh w xs
-
-abbrev pub In : ℕ → List ℕ → Type 0
-In x [] = ⊥
-In x (y ∷ ys) = (x ≡ y) ⊎ In x ys
 
 abbrev pub value_or : {A B : Type 0} → (A → B) → B → Option A → B
 value_or f other None = other

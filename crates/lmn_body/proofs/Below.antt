@@ -1,7 +1,7 @@
 -- Preorder: a membrane comes after those round it, so the images of the membranes of a head after that of the rule.
 use Rattle.std.proofs.Common.{ℕ, zero, suc, ◌+◌, ◌<◌, ◌≤◌, ◌≡◌, ◌≢◌, ◌==◌, Bool, true, false, cond, List, [], ◌∷◌, ◌++◌, length, refl, sym, ap, subst, ◌∙◌, inl, inr, arith}
 use Rattle.std.proofs.lemmas.Bool.{eq-eqb}
-use Rattle.lmn_heap.specs.Heap.{Heap, mems_in, In, Distinct}
+use Rattle.lmn_heap.specs.Heap.{Heap, mems_in, Distinct}
 use Rattle.lmn_heap.specs.Sound.{Forest, flat, Valid}
 use Rattle.lmn_heap.proofs.ListLemmas.{each_in, in_left, in_right}
 use Rattle.lmn_heap.proofs.Trees.{find_at, split_at, around}
@@ -20,6 +20,7 @@ use Rattle.lmn_base.proofs.Lists.{get_below, get_there as get_some}
 use Rattle.lmn_base.proofs.Numbers.{not_equal as not_eq}
 use Rattle.lmn_base.specs.declared.guard.Cond.{Cond}
 use Rattle.lmn_body.specs.Rules.{HeadNests}
+use Rattle.lmn_base.specs.Lists.{In}
 
 -- Indices
 

@@ -3,7 +3,7 @@ use Rattle.std.proofs.Common.{true, ℕ, ◌+◌, ◌<◌, ◌≤◌, ◌≡◌,
 use Rattle.std.specs.Option.{option_map, option_and_then}
 use Rattle.lmn_base.specs.declared.guard.Cond.{Cond}
 use Rattle.lmn_heap.specs.Heap as heap
-use Rattle.lmn_heap.specs.Heap.{Heap, HeapAtom, HeapMem, Place, within, gone, mem_with_atoms, mem_with_mems, mem_with_place, without, arity_of, mem_place_of, mems_in, rules_in, spare_of, spare_by, atom_out, mem_out, home_of, parent_of, IsMem, IsInPlace, IsMemInPlace, In, Distinct, taken, taken_mem, taken_all}
+use Rattle.lmn_heap.specs.Heap.{Heap, HeapAtom, HeapMem, Place, within, gone, mem_with_atoms, mem_with_mems, mem_with_place, without, arity_of, mem_place_of, mems_in, rules_in, spare_of, spare_by, atom_out, mem_out, home_of, parent_of, IsMem, IsInPlace, IsMemInPlace, Distinct, taken, taken_mem, taken_all}
 use Rattle.lmn_heap.specs.Sound.{Listed, Valid}
 use Rattle.lmn_heap.proofs.ListLemmas.{each_in}
 use Rattle.lmn_heap.proofs.Trees.{nil_right}
@@ -42,6 +42,7 @@ use Rattle.lmn_body.proofs.Soundness as soundness
 use Rattle.lmn_base.specs.Graphs.{Port}
 use Rattle.lmn_heap.specs.Lists.{without_all}
 use Rattle.lmn_heap.proofs.Common.{in_of_without}
+use Rattle.lmn_base.specs.Lists.{In}
 
 -- membranes that aren't taken stay, and those that are are gone
 taken_mems_away : (ks : List ℕ) (s : Heap) (x : ℕ) → (In x ks → ⊥) → mem_place_of (all_taken_mems s ks) x ≡ mem_place_of s x

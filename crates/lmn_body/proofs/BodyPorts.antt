@@ -26,6 +26,7 @@ use Rattle.lmn_congruence.proofs.Counts.{none_if_apart as one_other}
 use Rattle.lmn_congruence.proofs.TranslatedLinks.{places_append as often_append}
 use Rattle.lmn_splice.proofs.Common.{in_append, in_back, in_front, links_append, ports_append, distinct_append}
 use Rattle.lmn_heap.proofs.Common.{no_links, no_port}
+use Rattle.lmn_base.specs.Lists.{In}
 
 pub heap_append : {P : Type 0} (f : P → Port) (xs ys : List (P × ℕ)) → at_heap f (xs ++ ys) ≡ at_heap f xs ++ at_heap f ys
 heap_append f [] ys = refl
@@ -99,7 +100,7 @@ made_arity s x f e = ap (λ (o : Option HeapAtom). length (partners_of o)) e ∙
 
 -- A new port is one of a new atom, and has no partner yet.
 abbrev pub IsNewPort : Heap → List ℕ → Port → Type 0
-IsNewPort s new p = heap.In p.0 new × (p.1 < arity_of s p.0) × (partners s p ≡ None)
+IsNewPort s new p = In p.0 new × (p.1 < arity_of s p.0) × (partners s p ≡ None)
 
 -- What was made in s stands there: written atoms, and copies of parts of h.
 abbrev pub Written : Heap → Registers → ℕ → List BodyItem → Type 0
@@ -139,9 +140,9 @@ new_is r a c (Rules of inside ∷ xs) w h s wr cp e i = new_is r a c xs w.1 h s 
 
 -- a port of a new atom is a new port, or has a partner at a new atom
 abbrev pub NewOrInside : Heap → Registers → ℕ → ℕ → List BodyItem → Port → Type 0
-NewOrInside s r a c body p = IsOneOf p (ports (at_heap (new_port r) (new_ports a c body))) ⊎ ((q : Port) × heap.In q.0 (new_atoms r a c body) × (partners s p ≡ Some q))
+NewOrInside s r a c body p = IsOneOf p (ports (at_heap (new_port r) (new_ports a c body))) ⊎ ((q : Port) × In q.0 (new_atoms r a c body) × (partners s p ≡ Some q))
 
-pub new_all : (r : Registers) (a c : ℕ) (body : List BodyItem) → AllMade body → (h s : Heap) → Written s r a body → AreCopied h s r c body → (p : Port) → heap.In p.0 (new_atoms r a c body) → p.1 < arity_of s p.0 → NewOrInside s r a c body p
+pub new_all : (r : Registers) (a c : ℕ) (body : List BodyItem) → AllMade body → (h s : Heap) → Written s r a body → AreCopied h s r c body → (p : Port) → In p.0 (new_atoms r a c body) → p.1 < arity_of s p.0 → NewOrInside s r a c body p
 new_all r a c [] w h s wr cp p i l = absurd i
 new_all r a c (Atom functor ls inside ∷ xs) w h s wr cp p (inl q) l =
     inl (subst (IsOneOf p) (sym (ap ports (heap_append (new_port r) (new_ports_from a 0 ls) (new_ports (a + 1) c xs)) ∙ ports_append (at_heap (new_port r) (new_ports_from a 0 ls)) (at_heap (new_port r) (new_ports (a + 1) c xs))))
@@ -185,7 +186,7 @@ abbrev pub numbers : List (ℕ × Functor) → List ℕ
 numbers es = map (λ (e : ℕ × Functor). e.0) es
 
 -- a written atom is a new one
-pub written_new : (r : Registers) (a c : ℕ) (body : List BodyItem) (x : ℕ) (f : Functor) → IsOneOf {A = ℕ × Functor} (x, f) (made_of r a body) → heap.In x (new_atoms r a c body)
+pub written_new : (r : Registers) (a c : ℕ) (body : List BodyItem) (x : ℕ) (f : Functor) → IsOneOf {A = ℕ × Functor} (x, f) (made_of r a body) → In x (new_atoms r a c body)
 written_new r a c [] x f i = absurd i
 written_new r a c (Atom functor ls inside ∷ xs) x f (inl e) = inl (ap (λ (q : ℕ × Functor). q.0) e)
 written_new r a c (Atom functor ls inside ∷ xs) x f (inr i) = inr (written_new r (a + 1) c xs x f i)
@@ -211,12 +212,12 @@ plain_new r a c (Rule rule inside ∷ xs) s = plain_new r a c xs s
 plain_new r a c (Rules of inside ∷ xs) s = plain_new r a c xs s
 
 -- an atom of a copy is a new one
-pub copied_new : (r : Registers) (a c : ℕ) (body : List BodyItem) (e : ℕ × ℕ) (y : ℕ) → IsOneOf e (copies_of c body) → heap.In y (r.copied e.0) → heap.In y (new_atoms r a c body)
+pub copied_new : (r : Registers) (a c : ℕ) (body : List BodyItem) (e : ℕ × ℕ) (y : ℕ) → IsOneOf e (copies_of c body) → In y (r.copied e.0) → In y (new_atoms r a c body)
 copied_new r a c [] e y i j = absurd i
 copied_new r a c (Atom functor ls inside ∷ xs) e y i j = inr (copied_new r (a + 1) c xs e y i j)
 copied_new r a c (Bound integer link inside ∷ xs) e y i j = inr (copied_new r (a + 1) c xs e y i j)
 copied_new r a c (Connector left right ∷ xs) e y i j = copied_new r a c xs e y i j
-copied_new r a c (Copy part link inside ∷ xs) e y (inl q) j = in_left y (r.copied c) (new_atoms r a (c + 1) xs) (subst (λ (z : ℕ × ℕ). heap.In y (r.copied z.0)) (sym q) j)
+copied_new r a c (Copy part link inside ∷ xs) e y (inl q) j = in_left y (r.copied c) (new_atoms r a (c + 1) xs) (subst (λ (z : ℕ × ℕ). In y (r.copied z.0)) (sym q) j)
 copied_new r a c (Copy part link inside ∷ xs) e y (inr i) j = in_right y (r.copied c) (new_atoms r a (c + 1) xs) (copied_new r a (c + 1) xs e y i j)
 copied_new r a c (Membrane inside ∷ xs) e y i j = copied_new r a c xs e y i j
 copied_new r a c (Rest of inside ∷ xs) e y i j = copied_new r a c xs e y i j

@@ -6,7 +6,7 @@ use Rattle.std.specs.Option.{option_map, option_and_then}
 use Rattle.std.specs.Prelude.{slice_index_or}
 use Rattle.lmn_base.specs.declared.functor.Functor.{Functor}
 use Rattle.lmn_base.specs.Graphs.{Reached, at_root, across, Port}
-use Rattle.lmn_heap.specs.Heap.{Heap, HeapAtom, within, waiting, top, partners_of, functor_of, arity_of, link_of, place_of, IsAtom, In, Distinct, made_atom}
+use Rattle.lmn_heap.specs.Heap.{Heap, HeapAtom, within, waiting, top, partners_of, functor_of, arity_of, link_of, place_of, IsAtom, Distinct, made_atom}
 use Rattle.lmn_heap.specs.Heap as heap
 use Rattle.lmn_heap.specs.Sound.{Paired, Shaped, Listed}
 use Rattle.lmn_heap.specs.Graphs.{atom_map}
@@ -25,6 +25,7 @@ use Rattle.lmn_body.specs.Within.{IsCopyIn}
 use Rattle.lmn_body.proofs.Making.{made_at, made_away, made_paired, made_shaped}
 use Rattle.lmn_base.proofs.Common.{port_cases}
 use Rattle.lmn_heap.proofs.Common.{is_atom_at}
+use Rattle.lmn_base.specs.Lists.{In}
 
 -- From s to t new atoms are made, and wait; each other atom is as it was.
 pub record Brings (s t : Heap) (new : List ℕ) : Type 0 where

@@ -3,7 +3,7 @@ use Rattle.std.proofs.Common.{ℕ, zero, suc, ◌+◌, ◌-◌, ◌≡◌, ◌�
 use Rattle.std.specs.Prelude.{min, slice_index_or}
 use Rattle.std.proofs.lemmas.Bool.{cases_eq, eq-eqb, eqb-true}
 use Rattle.std.proofs.Math.Nat.{min_comm}
-use Rattle.lmn_heap.specs.Heap.{Heap, HeapAtom, IsAtom, In}
+use Rattle.lmn_heap.specs.Heap.{Heap, HeapAtom, IsAtom}
 use Rattle.lmn_heap.specs.Sound.{Paired}
 use Rattle.lmn_parts.specs.Walks.{is_in}
 use Rattle.lmn_solid.specs.declared.items.HeadItem.{HeadItem}
@@ -24,6 +24,7 @@ use Rattle.lmn_heap.proofs.Common.{is_atom_at}
 use Rattle.lmn_base.proofs.Common.{lesser, port_number}
 use Rattle.lmn_splice.specs.Splice as splice
 use Rattle.lmn_heap.specs.Heap as heap
+use Rattle.lmn_base.specs.Lists.{In}
 
 -- ports of new atoms have odd colours, by their links in s; the others the even ones, by their colours
 abbrev pub beside : (Port → ℕ) → Heap → List ℕ → Port → ℕ

@@ -1,13 +1,14 @@
 -- A part of two atoms has its copy.
 use Rattle.std.proofs.Common.{ℕ, zero, suc, ◌≡◌, true, List, [], ◌∷◌, Option, Some, None, refl, sym, ap, subst, ◌∙◌, inl, inr, arith, ◌≢◌}
 use Rattle.lmn_base.specs.declared.functor.Functor.{Functor}
-use Rattle.lmn_heap.specs.Heap.{In, functor_of, link_of}
+use Rattle.lmn_heap.specs.Heap.{functor_of, link_of}
 use Rattle.lmn_parts.specs.Walks.{ends, passes, finds, net, neighbour, IsPartInDepth}
 use Rattle.lmn_parts.specs.Copies.{answer, moved}
 use Rattle.lmn_parts.proofs.WalkLaws.{determined}
 use Rattle.lmn_body.specs.CopyExamples.{binary_f, whole, with_copy, PartHasCopy}
 use Rattle.lmn_base.specs.Graphs.{Port}
 use Rattle.lmn_splice.proofs.Joining.{same_some as some_pair}
+use Rattle.lmn_base.specs.Lists.{In}
 
 abbrev parted : List ℕ
 parted = 1 ∷ 2 ∷ []

@@ -54,6 +54,7 @@ use Rattle.lmn_congruence.proofs.TranslatedLinks.{places_append as often_append}
 use Rattle.lmn_heap.proofs.Common.{decide_in, place_home}
 use Rattle.lmn_solid.proofs.Common.{times_append, times_places as times_often}
 use Rattle.lmn_splice.proofs.Common.{in_append}
+use Rattle.lmn_base.specs.Lists.{In}
 
 -- Numbers from 0 on
 
@@ -68,12 +69,12 @@ rising_below (suc n) a x (inr i) = let w = rising_below n (suc a) x i in (low w.
     high : x < suc a + n → x < a + suc n
     high h = omega arith
 
-pub heap_in_of : (a : ℕ) (xs : List ℕ) → heap.In a xs → IsOneOf a xs
+pub heap_in_of : (a : ℕ) (xs : List ℕ) → In a xs → IsOneOf a xs
 heap_in_of a [] i = i
 heap_in_of a (x ∷ xs) (inl e) = inl e
 heap_in_of a (x ∷ xs) (inr i) = inr (heap_in_of a xs i)
 
-pub of_heap_in : (a : ℕ) (xs : List ℕ) → IsOneOf a xs → heap.In a xs
+pub of_heap_in : (a : ℕ) (xs : List ℕ) → IsOneOf a xs → In a xs
 of_heap_in a [] i = i
 of_heap_in a (x ∷ xs) (inl e) = inl e
 of_heap_in a (x ∷ xs) (inr i) = inr (of_heap_in a xs i)
@@ -122,8 +123,8 @@ stand_at s r a c (item.Rule rule inside ∷ xs) p i w = absurd p.0
 stand_at s r a c (item.Rules of inside ∷ xs) p i w = absurd p.0
 
 -- a new atom is written, or one of a copy
-new_or_copied : (s : Heap) (r : Registers) (a c : ℕ) (body : List BodyItem) → Written s r a body → (b : ℕ) → heap.In b (new_atoms r a c body)
-    → ((f : Functor) × IsOneOf {A = ℕ × Functor} (b, f) (made_of r a body)) ⊎ ((e : ℕ × ℕ) × IsOneOf e (copies_of c body) × heap.In b (r.copied e.0))
+new_or_copied : (s : Heap) (r : Registers) (a c : ℕ) (body : List BodyItem) → Written s r a body → (b : ℕ) → In b (new_atoms r a c body)
+    → ((f : Functor) × IsOneOf {A = ℕ × Functor} (b, f) (made_of r a body)) ⊎ ((e : ℕ × ℕ) × IsOneOf e (copies_of c body) × In b (r.copied e.0))
 new_or_copied s r a c [] w b i = absurd i
 new_or_copied s r a c (item.Atom functor ls inside ∷ xs) w b (inl e) = inl (functor, inl (λ t. (e t, functor)))
 new_or_copied s r a c (item.Atom functor ls inside ∷ xs) w b (inr i) = elim (new_or_copied s r (a + 1) c xs (λ x k. w x (inr k)) b i) [ inl v ↦ inl (v.0, inr v.1) | inr v ↦ inr v ]
@@ -296,13 +297,13 @@ module _ (h : Heap) (valid : Valid h) (head : List HeadItem) (guard : List Cond)
 
   -- Head atoms
 
-  pub image_is : (a : ℕ) → heap.In a images → (k : ℕ) × (k < N) × (r.head.images.atom k ≡ a)
+  pub image_is : (a : ℕ) → In a images → (k : ℕ) × (k < N) × (r.head.images.atom k ≡ a)
   image_is a i = let w = of_map r.head.images.atom a (rising 0 N) (heap_in_of a images i) in (w.0, plain w.0 (rising_below N 0 w.0 w.1).1, w.2)
     where
       plain : (k : ℕ) → k < 0 + N → k < N
       plain k h = omega arith
 
-  pub is_taken : (k : ℕ) → k < N → heap.In (r.head.images.atom k) ns
+  pub is_taken : (k : ℕ) → k < N → In (r.head.images.atom k) ns
   is_taken k b = in_left (r.head.images.atom k) images ps (of_heap_in (r.head.images.atom k) images (in_map r.head.images.atom k (rising 0 N) (in_rising N 0 k (omega arith) (plain b))))
     where
       plain : k < N → k < 0 + N
@@ -311,17 +312,17 @@ module _ (h : Heap) (valid : Valid h) (head : List HeadItem) (guard : List Cond)
   pub head_in_place : (k : ℕ) → k < N → IsInPlace h (r.head.images.atom k)
   head_in_place k b = let a = get_some (atoms_of head) k b in in_place_listed h (r.head.images.membrane a.0.inside) (r.head.images.atom k) valid.sound.listed (em.atoms_placed k a.0 a.1)
 
-  pub part_in_place : (a : ℕ) → heap.In a ps → IsInPlace h a
+  pub part_in_place : (a : ℕ) → In a ps → IsInPlace h a
   part_in_place a i = let w = parts.are a i in subst (λ (o : Option ℕ). IsSome o) (sym ((em.parts w.0 w.1 w.2).whole.at_home a w.3)) refl
 
   -- an atom of a part is no image
-  pub part_apart : (a k : ℕ) → heap.In a ps → k < N → r.head.images.atom k ≡ a → ⊥
+  pub part_apart : (a k : ℕ) → In a ps → k < N → r.head.images.atom k ≡ a → ⊥
   part_apart a k i b e = let w = parts.are a i in (em.parts w.0 w.1 w.2).apart a w.3 (k, b, e)
 
-  pub part_taken : (g : ℕ) (t : heads.HeadTyped) (a : ℕ) → HasTyped head g t → Reached (atom_map h) (r.head.images.part g) a → heap.In a ns
+  pub part_taken : (g : ℕ) (t : heads.HeadTyped) (a : ℕ) → HasTyped head g t → Reached (atom_map h) (r.head.images.part g) a → In a ns
   part_taken g t a w i = in_right a images ps (parts.all g t a w i)
 
-  pub taken_in_place : (a : ℕ) → heap.In a ns → IsInPlace h a
+  pub taken_in_place : (a : ℕ) → In a ns → IsInPlace h a
   taken_in_place a i = elim (in_either a images ps i) [
     | inl j ↦ (let w = image_is a j in subst (IsInPlace h) w.2 (head_in_place w.0 w.1))
     | inr j ↦ part_in_place a j
@@ -348,7 +349,7 @@ module _ (h : Heap) (valid : Valid h) (head : List HeadItem) (guard : List Cond)
       plain k h = omega arith
 
   -- a new atom isn't one of the heap before
-  not_new : (a : ℕ) → IsAtom h a → heap.In a new → ⊥
+  not_new : (a : ℕ) → IsAtom h a → In a new → ⊥
   not_new a is = (brought_old free.brings a is).0
 
   pub in_place_old : (a : ℕ) → IsInPlace s a → IsInPlace h a
@@ -374,13 +375,13 @@ module _ (h : Heap) (valid : Valid h) (head : List HeadItem) (guard : List Cond)
   new_entry : (p : Port) → IsOneOf p (ports news) → IsNewPort s new p
   new_entry p i = let w = of_map (λ (e : Port × ℕ). e.0) p news i in subst (IsNewPort s new) w.2 (new_is r N 0 body rule.made h s free.written free.copies w.0 w.1)
 
-  new_atom_in : (p : Port) → IsOneOf p (ports news) → heap.In p.0 new
+  new_atom_in : (p : Port) → IsOneOf p (ports news) → In p.0 new
   new_atom_in p i = (new_entry p i).0
 
   new_live : (p : Port) → IsOneOf p (ports news) → F p × (partners s p ≡ None)
-  new_live p i = let w = new_entry p i in ((w.1, inr (subst (heap.In p.0) (sym es_numbers) w.0)), w.2)
+  new_live p i = let w = new_entry p i in ((w.1, inr (subst (In p.0) (sym es_numbers) w.0)), w.2)
 
-  all_new : (p : Port) → p.1 < arity_of s p.0 → heap.In p.0 new → NewOrInside s r N 0 body p
+  all_new : (p : Port) → p.1 < arity_of s p.0 → In p.0 new → NewOrInside s r N 0 body p
   all_new p b i = new_all r N 0 body rule.made h s free.written free.copies p i b
 
   -- an old port: a head port whose link stands once in the head
@@ -425,8 +426,8 @@ module _ (h : Heap) (valid : Valid h) (head : List HeadItem) (guard : List Cond)
 
   old_gone : (p : Port) → IsOneOf p (ports olds) → F p → ⊥
   old_gone p i f = let o = old_entry p i in let same : r.head.images.atom o.k ≡ p.0 = ap (λ (q : Port). q.0) o.is in elim f.1 [
-    | inl w ↦ w.1 (subst (λ z. heap.In z ns) same (is_taken o.k o.number))
-    | inr j ↦ not_new p.0 (subst (IsAtom h) same (is_atom (r.head.images.atom o.k) (head_in_place o.k o.number))) (subst (heap.In p.0) es_numbers j)
+    | inl w ↦ w.1 (subst (λ z. In z ns) same (is_taken o.k o.number))
+    | inr j ↦ not_new p.0 (subst (IsAtom h) same (is_atom (r.head.images.atom o.k) (head_in_place o.k o.number))) (subst (In p.0) es_numbers j)
   ]
 
   head_below : (o : Occurrence) → IsOneOf o (at_atoms 0 (atoms_of head)) → o.port.0 < N
@@ -501,13 +502,13 @@ module _ (h : Heap) (valid : Valid h) (head : List HeadItem) (guard : List Cond)
 
   -- a port of a copy with its partner
   abbrev Inside : Port → Type 0
-  Inside p = (q : Port) × heap.In p.0 new × heap.In q.0 new × (partners s p ≡ Some q)
+  Inside p = (q : Port) × In p.0 new × In q.0 new × (partners s p ≡ Some q)
 
   -- what lives before is a port of the heap before, or joined inside a copy
   stands_before : (p : Port) → LiveBefore F news olds p → StandsPort h p ⊎ Inside p
   stands_before p (inl w) = elim w.0.1 [
     | inl v ↦ (let i = in_place_old p.0 v.0 in inl (i, subst (λ z. p.1 < z) (arity_old p.0 i) w.0.0))
-    | inr j ↦ (let i = subst (heap.In p.0) es_numbers j in elim (all_new p w.0.0 i) [
+    | inr j ↦ (let i = subst (In p.0) es_numbers j in elim (all_new p w.0.0 i) [
       | inl k ↦ absurd (w.1 k)
       | inr u ↦ inr (u.0, i, u.1, u.2)
     ])
@@ -515,10 +516,10 @@ module _ (h : Heap) (valid : Valid h) (head : List HeadItem) (guard : List Cond)
   stands_before p (inr i) = inl (old_port_stands p i)
 
   -- the partner of such a port lives too
-  inside_lives : (p q : Port) → heap.In q.0 new → partners s p ≡ Some q → LiveBefore F news olds q × (q ≢ p)
+  inside_lives : (p q : Port) → In q.0 new → partners s p ≡ Some q → LiveBefore F news olds q × (q ≢ p)
   inside_lives p q j e =
       let back : partners s q ≡ Some p = free.sound.paired.back p.0 p.1 q.0 q.1 e in (
-        inl ((port_within s q.0 q.1 p back, inr (subst (heap.In q.0) (sym es_numbers) j)), λ i. let z : ◌≡◌ {A = Option Port} None (Some p) = sym (new_live q i).1 ∙ back in absurd (cc)),
+        inl ((port_within s q.0 q.1 p back, inr (subst (In q.0) (sym es_numbers) j)), λ i. let z : ◌≡◌ {A = Option Port} None (Some p) = sym (new_live q i).1 ∙ back in absurd (cc)),
         λ f. free.sound.paired.apart p.0 p.1 (e ∙ ap Some f),
       )
 
@@ -545,7 +546,7 @@ module _ (h : Heap) (valid : Valid h) (head : List HeadItem) (guard : List Cond)
       not_in_part g t w p l i = elim l [
         | inl v ↦ elim v.0.1 [
           | inl u ↦ u.1 (part_taken g t p.0 w i)
-          | inr j ↦ not_new p.0 (is_atom p.0 (part_in_place p.0 (parts.all g t p.0 w i))) (subst (heap.In p.0) es_numbers j)
+          | inr j ↦ not_new p.0 (is_atom p.0 (part_in_place p.0 (parts.all g t p.0 w i))) (subst (In p.0) es_numbers j)
         ]
         | inr j ↦ (let o = old_entry p j in part_apart p.0 o.k (parts.all g t p.0 w i) o.number (ap (λ (q : Port). q.0) o.is))
       ]
@@ -556,8 +557,8 @@ module _ (h : Heap) (valid : Valid h) (head : List HeadItem) (guard : List Cond)
           let below = get_below (atoms_of head) k has.0 has.1 in
           elim l [
             | inl v ↦ absurd (elim v.0.1 [
-              | inl u ↦ u.1 (subst (λ z. heap.In z ns) (sym (ap (λ (q : Port). q.0) is_p)) (is_taken k below))
-              | inr j ↦ not_new p.0 (subst (IsAtom h) (sym (ap (λ (q : Port). q.0) is_p)) (is_atom (r.head.images.atom k) (head_in_place k below))) (subst (heap.In p.0) es_numbers j)
+              | inl u ↦ u.1 (subst (λ z. In z ns) (sym (ap (λ (q : Port). q.0) is_p)) (is_taken k below))
+              | inr j ↦ not_new p.0 (subst (IsAtom h) (sym (ap (λ (q : Port). q.0) is_p)) (is_atom (r.head.images.atom k) (head_in_place k below))) (subst (In p.0) es_numbers j)
             ])
             | inr j ↦ (let o = old_entry p j in
                 let image : ◌≡◌ {A = Port} (r.head.images.atom o.k, o.i) (r.head.images.atom k, i) = o.is ∙ is_p in
@@ -575,7 +576,7 @@ module _ (h : Heap) (valid : Valid h) (head : List HeadItem) (guard : List Cond)
           one_link x y e = (cc)
 
       -- the other end of a port of a part isn't live
-      part_never : (q : Port) → heap.In q.0 ps → (p : Port) → LiveBefore F news olds p → partners h q ≡ Some p → ⊥
+      part_never : (q : Port) → In q.0 ps → (p : Port) → LiveBefore F news olds p → partners h q ≡ Some p → ⊥
       part_never q i p l e =
           let w = parts.are q.0 i in
           elim (port_cases q (r.head.images.part w.0)) [
@@ -655,8 +656,8 @@ module _ (h : Heap) (valid : Valid h) (head : List HeadItem) (guard : List Cond)
       by (Some x) i = place x x.place refl i
 
   -- no new atom is a connector
-  pub new_plain : (a : ℕ) → heap.In a (atoms_of_pairs es) → functor_of s a ≢ Some connector
-  new_plain a i e = elim (new_or_copied s r N 0 body free.written a (subst (heap.In a) es_numbers i)) [
+  pub new_plain : (a : ℕ) → In a (atoms_of_pairs es) → functor_of s a ≢ Some connector
+  new_plain a i e = elim (new_or_copied s r N 0 body free.written a (subst (In a) es_numbers i)) [
     | inl w ↦ plain_made r N body rule.made (a, w.0) w.1 (one_functor w.0 connector (sym (ap (λ (o : Option HeapAtom). option_map (λ x. x.functor) o) (free.written (a, w.0) w.1)) ∙ e))
     | inr w ↦ (let t = rule.copied w.0 w.1 in
         let u = (free.copies w.0 w.1).from a w.2 in
@@ -739,5 +740,5 @@ module _ (h : Heap) (valid : Valid h) (head : List HeadItem) (guard : List Cond)
   same_rules k = ap (λ f. heap.rules_by (f k)) free.mems
 
   -- the port inside a copy is named by its colour
-  pub inner_link : (p q : Port) → heap.In p.0 new → partners s p ≡ Some q → raw_link news c p ≡ of_solid (c p)
+  pub inner_link : (p q : Port) → In p.0 new → partners s p ≡ Some q → raw_link news c p ≡ of_solid (c p)
   inner_link p q i e = ap (raw_by (c p)) (link_absent news p (λ j. let z : ◌≡◌ {A = Option Port} None (Some q) = sym (new_live p j).1 ∙ e in absurd (cc)))

@@ -62,6 +62,7 @@ use Rattle.lmn_heap.specs.Lists.{without_all}
 use Rattle.lmn_base.proofs.Lists.{get_below, get_there as get_some}
 use Rattle.lmn_base.proofs.Numbers.{below_zero_plus as below_plain, zero_least as nothing_less, zero_plus_below as plain_below}
 use Rattle.lmn_heap.proofs.Common.{is_atom_at, in_map as mapped}
+use Rattle.lmn_base.specs.Lists.{In}
 
 -- a head of atoms alone: nothing else is removed
 nothing_else_commits : (r : Registers) (ts : List HeadTyped) (ms : List HeadMembrane) (s t : Heap) → ts ≡ [] → ms ≡ []
@@ -103,7 +104,7 @@ made_brings : (h s : Heap) (mk : List (ℕ × Functor)) → Listed h → AllInPl
 made_brings h s mk listed settled ma once = record {
   others = ma.others;
   fresh = ma.fresh;
-  waits = λ a i. (ma.sound.listed.new_atoms a).0 (subst (heap.In a) (sym ma.line) (in_right a h.new_atoms (numbers mk) i));
+  waits = λ a i. (ma.sound.listed.new_atoms a).0 (subst (In a) (sym ma.line) (in_right a h.new_atoms (numbers mk) i));
   once = once;
   line = ma.line;
   paired = λ p. ma.sound.paired;
@@ -165,9 +166,9 @@ module _ (head : List HeadItem) (body : List BodyItem) (n : ℕ) (rule : PlainRu
     ma = all_made_after mk h valid.sound free
 
     -- nothing is joined inside a copy
-    unjoined : (p q : Port) → heap.In p.0 (new_atoms r N 0 body) → partners s p ≡ Some q → ⊥
+    unjoined : (p q : Port) → In p.0 (new_atoms r N 0 body) → partners s p ≡ Some q → ⊥
     unjoined p q i e =
-        let j = subst (heap.In p.0) (plain_new r N 0 body (simple_plain body rule.simple)) i in
+        let j = subst (In p.0) (plain_new r N 0 body (simple_plain body rule.simple)) i in
         let z : ◌≡◌ {A = Option Port} None (Some q) = sym (ap (λ (o : Option HeapAtom). prelude.slice_index_or (partners_of o) p.1 None) (ma.fresh p.0 j)) ∙ sym (ma.links p.0 p.1) ∙ e in absurd (cc)
 
     abbrev bro : Brought c h r N body
@@ -222,7 +223,7 @@ module _ (head : List HeadItem) (body : List BodyItem) (n : ℕ) (rule : PlainRu
     new_solid : solid_atoms_at (finished v) name (numbers mk) ≡ made_atoms r (λ x. fu.to (of_rule x)) body
     new_solid = new_atoms_are (finished v) r name (λ x. fu.to (of_rule x)) N 0 body rule.atoms.made rule.simple
         (λ e i. commit_functor s ns es valid.tree.0 po c news olds (connectors body) n sp below e.0
-        (inr (subst (heap.In e.0) (sym (es_numbers h valid head guard body n m r rule.atoms em stand c names bro [] no_parts)) (written_new r N 0 body e.0 e.1 i)))
+        (inr (subst (In e.0) (sym (es_numbers h valid head guard body n m r rule.atoms em stand c names bro [] no_parts)) (written_new r N 0 body e.0 e.1 i)))
         ∙ new_functor h valid head guard body n m r rule.atoms em stand c names bro [] no_parts e i)
         (λ e i. ap fu.to (new_link h valid head guard body n m r rule.atoms em stand c names bro [] no_parts e i))
 
@@ -347,7 +348,7 @@ body_fires_within head body n nested r h valid guard m em stand c names h' (s, p
     let pr = all.pr in
     let goes = goes_body h valid head guard m r em stand head_nests body pr.mems.fresh nested.placed in
     let nests = nests_body h valid head guard m r em stand head_nests body pr.mems.fresh nested.placed in
-    let contexts : (k : ℕ) (b : HeadMembrane) → HasMembrane head k b → b.has_context ≡ true → heap.In (r.head.images.membrane k) (moved_mems r body) = λ k b w e. moved_are r body k (nested.contexts k b w e) in
+    let contexts : (k : ℕ) (b : HeadMembrane) → HasMembrane head k b → b.has_context ≡ true → In (r.head.images.membrane k) (moved_mems r body) = λ k b w e. moved_are r body k (nested.contexts k b w e) in
     let ca = commits_append r (removals head) (make ++ (links_part ++ (Proceed ∷ []))) s h' commits in
     let cb = commits_append r (map RemoveAtom (rising 0 N)) (parts ++ mems) s ca.0 ca.1 in
     let cd = commits_append r parts mems cb.0 ca.0 cb.2 in
@@ -413,7 +414,7 @@ module _ (head : List HeadItem) (body : List BodyItem) (n : ℕ) (rule : AtomRul
       is_atom None i = absurd (cc)
       is_atom (Some x) i = refl
 
-  image_of : (a : ℕ) → heap.In a (images_of r head) → (k : ℕ) × (k < N2) × (r.head.images.atom k ≡ a)
+  image_of : (a : ℕ) → In a (images_of r head) → (k : ℕ) × (k < N2) × (r.head.images.atom k ≡ a)
   image_of a i = let w = of_map r.head.images.atom a (rising 0 N2) (heap_in_of a (images_of r head) i) in (w.0, below_plain w.0 N2 (rising_below N2 0 w.0 w.1).1, w.2)
 
   same_links : (t : Heap) → t ≡ taken_all s (images_of r head) → (p : Port) → IsAtom h p.0 → partners t p ≡ partners h p
@@ -473,7 +474,7 @@ body_can_run head body n nested r h valid guard m em stand c names s prepares sp
     let listed = all.listed in
     let goes = goes_body h valid head guard m r em stand nested.head_nests body pr.mems.fresh nested.placed in
     let nests = nests_body h valid head guard m r em stand nested.head_nests body pr.mems.fresh nested.placed in
-    let contexts : (k : ℕ) (b : HeadMembrane) → HasMembrane head k b → b.has_context ≡ true → heap.In (r.head.images.membrane k) (moved_mems r body) = λ k b w e. moved_are r body k (nested.contexts k b w e) in
+    let contexts : (k : ℕ) (b : HeadMembrane) → HasMembrane head k b → b.has_context ≡ true → In (r.head.images.membrane k) (moved_mems r body) = λ k b w e. moved_are r body k (nested.contexts k b w e) in
     let removed = removed_mem h valid head guard m r em stand nested.head_nests body pr.mems.fresh in
     let home_mem = home_is_mem h valid head guard m r em stand nested.head_nests body pr.mems.fresh in
     let home_out = home_apart h valid head guard m r em stand nested.head_nests body pr.mems.fresh in

@@ -4,7 +4,7 @@ use Rattle.std.proofs.lemmas.Bool.{cases_eq, eq-eqb, eqb-true}
 use Rattle.std.proofs.lemmas.List.{append_assoc, length-append}
 use Rattle.std.specs.Option.{option_map}
 use Rattle.lmn_heap.specs.Heap as heap
-use Rattle.lmn_heap.specs.Heap.{Heap, HeapMem, Place, top, within, waiting, gone, alter, mem_with_atoms, mem_with_mems, mem_with_place, mem_with_rules, mem_sent, emptied, filled, mem_place_of, mems_in, rules_in, spare_of, spare_by, IsMemInPlace, IsTopOrWithin, In, Distinct, placed, placed_mem, moved_all}
+use Rattle.lmn_heap.specs.Heap.{Heap, HeapMem, Place, top, within, waiting, gone, alter, mem_with_atoms, mem_with_mems, mem_with_place, mem_with_rules, mem_sent, emptied, filled, mem_place_of, mems_in, rules_in, spare_of, spare_by, IsMemInPlace, IsTopOrWithin, Distinct, placed, placed_mem, moved_all}
 use Rattle.lmn_heap.specs.Sound.{Listed}
 use Rattle.lmn_heap.specs.Conditions.{Above, IsOutside}
 use Rattle.lmn_heap.proofs.ListLemmas as lists
@@ -29,6 +29,7 @@ use Rattle.lmn_heap.proofs.MoveListing.{moved_all_listed}
 use Rattle.lmn_body.proofs.Below.{index_split, index_front}
 use Rattle.lmn_heap.proofs.Common.{decide_in as decide}
 use Rattle.lmn_heap.proofs.Heights.{parent_place}
+use Rattle.lmn_base.specs.Lists.{In}
 
 -- Ranks of membranes: the membrane of the rule and the made ones are low, in the order in which they are made, and removed
 -- ones are high.

@@ -1,6 +1,6 @@
 -- The making part of the code of a body grows lists by what the body adds.
 use Rattle.std.proofs.Common.{ℕ, ◌+◌, ◌≡◌, List, [], ◌∷◌, ◌++◌, IsSome, refl, sym, ap, subst, ◌∙◌, inl, inr}
-use Rattle.lmn_heap.specs.Heap.{Heap, In, atoms_in, mems_in, rules_in}
+use Rattle.lmn_heap.specs.Heap.{Heap, atoms_in, mems_in, rules_in}
 use Rattle.lmn_body.specs.declared.items.BodyItem.{BodyItem}
 use Rattle.lmn_body.specs.declared.items.BodyItem.TheVariants.{Atom, Connector, Copy, Bound, Membrane, Rest, Rule, Rules}
 use Rattle.lmn_body.specs.Code.{making}
@@ -10,6 +10,7 @@ use Rattle.lmn_body.specs.Added.{if_inside, added_atoms, added_mems, added_rules
 use Rattle.lmn_body.specs.Made.{new_atoms}
 use Rattle.lmn_body.proofs.ListOps.{there_by}
 use Rattle.lmn_body.proofs.Growing.{Grown, grown_none, grown_after, grown_placed, grown_all_placed, grown_placed_mem, grown_moved, grown_rules, only_at, some_there}
+use Rattle.lmn_base.specs.Lists.{In}
 
 pub moved_within : (r : Registers) (ks : List ℕ) (E : ℕ → Type 0) (body : List BodyItem) → Goes r ks E body → (x : ℕ) → In x (moved_mems r body) → In x ks
 moved_within r ks E [] g x i = absurd i

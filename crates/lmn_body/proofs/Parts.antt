@@ -3,7 +3,7 @@ use Rattle.std.proofs.Common.{ℕ, ◌<◌, ◌≡◌, ◌≢◌, ◌↔◌, Lis
 use Rattle.std.specs.Prelude.{slice_get}
 use Rattle.lmn_base.specs.declared.guard.Cond.{Cond}
 use Rattle.lmn_base.specs.Graphs.{Reached, at_root, across, Port}
-use Rattle.lmn_heap.specs.Heap.{Heap, HeapAtom, partners_of, functor_of, arity_of, link_of, IsAtom, In, Distinct, taken, taken_all}
+use Rattle.lmn_heap.specs.Heap.{Heap, HeapAtom, partners_of, functor_of, arity_of, link_of, IsAtom, Distinct, taken, taken_all}
 use Rattle.lmn_base.specs.declared.functor.Functor.{Functor}
 use Rattle.std.specs.Option.{option_map}
 use Rattle.lmn_heap.proofs.Replacing.{port_within}
@@ -28,6 +28,7 @@ use Rattle.lmn_heap.proofs.Depths.{both_distinct}
 use Rattle.lmn_base.proofs.Common.{port_cases}
 use Rattle.lmn_base.proofs.Lists.{get_below}
 use Rattle.lmn_heap.proofs.Common.{is_atom_at}
+use Rattle.lmn_base.specs.Lists.{In}
 
 pub taken_links : (ns : List ℕ) (s : Heap) (a i : ℕ) → link_of (taken_all s ns) a i ≡ link_of s a i
 taken_links [] s a i = refl

@@ -19,8 +19,9 @@ use Rattle.lmn_body.specs.Added.{moved_mems, made_mems}
 use Rattle.lmn_body.specs.Rules.{Target, Goes, Exists, Into, Nests, HeadNests, StandsIn, IsHeadMembrane, rests, WellPlaced}
 use Rattle.lmn_body.specs.Within.{membrane_images}
 use Rattle.lmn_body.proofs.Below.{preorder, below_home, removed_is, is_removed}
+use Rattle.lmn_base.specs.Lists.{In}
 
-pub moved_are : (r : Registers) (body : List BodyItem) (k : ℕ) → IsOneOf k (rests body) → heap.In (r.head.images.membrane k) (moved_mems r body)
+pub moved_are : (r : Registers) (body : List BodyItem) (k : ℕ) → IsOneOf k (rests body) → In (r.head.images.membrane k) (moved_mems r body)
 moved_are r [] k i = absurd i
 moved_are r (Atom functor links inside ∷ xs) k i = moved_are r xs k i
 moved_are r (Connector left right ∷ xs) k i = moved_are r xs k i
@@ -33,7 +34,7 @@ moved_are r (Rule rule inside ∷ xs) k i = moved_are r xs k i
 moved_are r (Rules of inside ∷ xs) k i = moved_are r xs k i
 
 module _ (h : Heap) (valid : Valid h) (head : List HeadItem) (guard : List Cond) (m : ℕ) (r : Registers) (em : Embeds h head guard m r.head.images) (stand : IsMemInPlace h m) (head_nests : HeadNests head)
-    (body : List BodyItem) (fresh : (x : ℕ) → heap.In x (made_mems r (1 + length (membranes_of head)) body) → h.mems x ≡ None) where
+    (body : List BodyItem) (fresh : (x : ℕ) → In x (made_mems r (1 + length (membranes_of head)) body) → h.mems x ≡ None) where
   abbrev K : ℕ
   K = length (membranes_of head)
 
@@ -53,19 +54,19 @@ module _ (h : Heap) (valid : Valid h) (head : List HeadItem) (guard : List Cond)
       by None i = absurd i
       by (Some x) i = refl
 
-  pub removed_mem : (x : ℕ) → heap.In x ks → IsMem h x
+  pub removed_mem : (x : ℕ) → In x ks → IsMem h x
   removed_mem x i =
       let w = removed_is head r x i in
-      by (h.mems x) ((valid.sound.listed.mems (r.head.images.membrane w.1.inside) x).0 (subst (λ z. heap.In z (mems_in h (r.head.images.membrane w.1.inside))) w.3 (em.membranes_placed w.0 w.1 w.2)))
+      by (h.mems x) ((valid.sound.listed.mems (r.head.images.membrane w.1.inside) x).0 (subst (λ z. In z (mems_in h (r.head.images.membrane w.1.inside))) w.3 (em.membranes_placed w.0 w.1 w.2)))
     where
       by : {p : ℕ} (o : Option HeapMem) → option_map (λ y. y.place) o ≡ Some (within p) → IsSome o
       by None e = absurd (cc)
       by (Some y) e = refl
 
-  pub new_apart : (x : ℕ) → heap.In x nm → heap.In x ks → ⊥
+  pub new_apart : (x : ℕ) → In x nm → In x ks → ⊥
   new_apart x i j = let z : IsSome {T = HeapMem} None = subst (λ (o : Option HeapMem). IsSome o) (fresh x i) (removed_mem x j) in absurd (cc)
 
-  pub home_apart : heap.In m ks → ⊥
+  pub home_apart : In m ks → ⊥
   home_apart i = off (below_home h valid head guard m r em head_nests m i)
     where
       off : preorder h valid m < preorder h valid m → ⊥
@@ -73,7 +74,7 @@ module _ (h : Heap) (valid : Valid h) (head : List HeadItem) (guard : List Cond)
 
   -- the membranes made so far have these numbers
   abbrev MadeSo : ℕ → List ℕ → Type 0
-  MadeSo next done = (j : ℕ) → K < j → j < next → heap.In (r.head.images.membrane j) done
+  MadeSo next done = (j : ℕ) → K < j → j < next → In (r.head.images.membrane j) done
 
   more_made : (next : ℕ) (done : List ℕ) → MadeSo next done → MadeSo (next + 1) (done ++ r.head.images.membrane next ∷ [])
   more_made next done so j low high = elim (cases_eq j next) [
@@ -85,20 +86,20 @@ module _ (h : Heap) (valid : Valid h) (head : List HeadItem) (guard : List Cond)
       less h d = grind arith
 
   target : (next : ℕ) (done rest : List ℕ) → nm ≡ done ++ rest → MadeSo next done → (inside : ℕ) → StandsIn K next inside → Target r ks E inside
-  target next done rest e so inside (inl z) = subst (Target r ks E) (sym z) (subst (λ x. (heap.In x ks → ⊥) × E x) (sym em.here) (home_apart, inl home_is_mem))
+  target next done rest e so inside (inl z) = subst (Target r ks E) (sym z) (subst (λ x. (In x ks → ⊥) × E x) (sym em.here) (home_apart, inl home_is_mem))
   target next done rest e so inside (inr w) =
-      let i : heap.In (r.head.images.membrane inside) nm = subst (heap.In (r.head.images.membrane inside)) (sym e) (in_left (r.head.images.membrane inside) done rest (so inside w.0 w.1)) in
+      let i : In (r.head.images.membrane inside) nm = subst (In (r.head.images.membrane inside)) (sym e) (in_left (r.head.images.membrane inside) done rest (so inside w.0 w.1)) in
       (new_apart (r.head.images.membrane inside) i, inr i)
 
   into : (next : ℕ) (done : List ℕ) → MadeSo next done → (inside : ℕ) → StandsIn K next inside → Into r m done inside
   into next done so inside (inl z) = inl (ap r.head.images.membrane z ∙ em.here)
   into next done so inside (inr w) = inr (so inside w.0 w.1)
 
-  head_image : (of : ℕ) → IsHeadMembrane K of → heap.In (r.head.images.membrane of) ks
-  head_image of w = subst (λ z. heap.In (r.head.images.membrane z) ks) (sym w.1) (is_removed head r w.0 w.2)
+  head_image : (of : ℕ) → IsHeadMembrane K of → In (r.head.images.membrane of) ks
+  head_image of w = subst (λ z. In (r.head.images.membrane z) ks) (sym w.1) (is_removed head r w.0 w.2)
 
   -- a head membrane whose number isn't there doesn't move
-  not_moved : (next : ℕ) (xs : List BodyItem) → WellPlaced K next xs → (of : ℕ) → IsHeadMembrane K of → (IsOneOf of (rests xs) → ⊥) → heap.In (r.head.images.membrane of) (moved_mems r xs) → ⊥
+  not_moved : (next : ℕ) (xs : List BodyItem) → WellPlaced K next xs → (of : ℕ) → IsHeadMembrane K of → (IsOneOf of (rests xs) → ⊥) → In (r.head.images.membrane of) (moved_mems r xs) → ⊥
   not_moved next [] w of k o i = i
   not_moved next (Atom functor links inside ∷ xs) w of k o i = not_moved next xs w.1 of k o i
   not_moved next (Connector left right ∷ xs) w of k o i = not_moved next xs w of k o i

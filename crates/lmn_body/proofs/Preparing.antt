@@ -3,7 +3,7 @@ use Rattle.std.proofs.Common.{ℕ, ◌+◌, ◌≡◌, ◌≢◌, ◌⊎◌, Lis
 use Rattle.std.proofs.lemmas.Bool.{cases_eq}
 use Rattle.std.proofs.lemmas.List.{append_assoc}
 use Rattle.lmn_base.specs.declared.functor.Functor.{Functor}
-use Rattle.lmn_heap.specs.Heap.{Heap, HeapAtom, HeapMem, waiting, gone, new_atom, new_mem, mem_with_spare, mem_place_of, atoms_in, mems_in, rules_in, atoms_by, mems_by, rules_by, IsMem, In, Distinct, made_atom, made_mem, reserved}
+use Rattle.lmn_heap.specs.Heap.{Heap, HeapAtom, HeapMem, waiting, gone, new_atom, new_mem, mem_with_spare, mem_place_of, atoms_in, mems_in, rules_in, atoms_by, mems_by, rules_by, IsMem, Distinct, made_atom, made_mem, reserved}
 use Rattle.lmn_heap.proofs.Trees.{nil_right}
 use Rattle.lmn_heap.proofs.Trees as trees
 use Rattle.lmn_heap.proofs.ListLemmas as lists
@@ -25,6 +25,7 @@ use Rattle.lmn_body.proofs.ListOps.{change_keeps, place_by, there_by}
 use Rattle.lmn_body.proofs.Growing.{some_there}
 use Rattle.lmn_heap.proofs.Depths.{both_distinct}
 use Rattle.lmn_base.specs.Graphs.{Port}
+use Rattle.lmn_base.specs.Lists.{In}
 
 -- From s to t membranes nm are made, and wait.
 pub record MemsMade (s t : Heap) (nm : List ℕ) : Type 0 where

@@ -1,7 +1,7 @@
 -- Code in two parts can run; and the removals of a body can.
 use Rattle.std.proofs.Common.{ℕ, ◌≡◌, ◌≢◌, List, [], ◌∷◌, ◌++◌, map, Option, Some, IsSome, refl, sym, ap, subst, ◌∙◌, inl, inr}
 use Rattle.lmn_base.specs.Graphs.{Reached, Port}
-use Rattle.lmn_heap.specs.Heap.{Heap, parent_of, IsAtom, IsInPlace, In, Distinct, taken, taken_mem, taken_all}
+use Rattle.lmn_heap.specs.Heap.{Heap, parent_of, IsAtom, IsInPlace, Distinct, taken, taken_mem, taken_all}
 use Rattle.lmn_heap.specs.Graphs.{atom_map}
 use Rattle.lmn_heap.proofs.ListLemmas.{each_in}
 use Rattle.lmn_instr.specs.declared.instr.Instr.{Instr}
@@ -17,6 +17,7 @@ use Rattle.lmn_body.proofs.Brought.{reached_into}
 use Rattle.lmn_heap.specs.Sound.{Paired}
 use Rattle.lmn_body.proofs.Parts.{taken_links}
 use Rattle.lmn_heap.proofs.Heights.{parent_place}
+use Rattle.lmn_base.specs.Lists.{In}
 
 pub can_append : (r : Registers) (xs ys : List Instr) (s : Heap) → CanRun r xs s → ((t : Heap) → DoesAll r xs s t → CanRun r ys t) → CanRun r (xs ++ ys) s
 can_append r [] ys s c next = next s refl

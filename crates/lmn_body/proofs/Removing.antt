@@ -2,7 +2,7 @@
 use Rattle.std.proofs.Common.{ℕ, ◌≡◌, ◌≢◌, ◌⊎◌, List, [], ◌∷◌, map, Option, Some, None, IsSome, refl, sym, ap, subst, ◌∙◌, inl, inr}
 use Rattle.std.proofs.lemmas.Bool.{cases_eq}
 use Rattle.std.specs.Option.{option_map, option_and_then}
-use Rattle.lmn_heap.specs.Heap.{Heap, HeapMem, within, gone, alter, home_by, mem_with_atoms, atom_out, mem_place_of, home_of, parent_of, atoms_in, mems_in, rules_in, atoms_by, In, Distinct, without, taken, taken_mem, taken_all}
+use Rattle.lmn_heap.specs.Heap.{Heap, HeapMem, within, gone, alter, home_by, mem_with_atoms, atom_out, mem_place_of, home_of, parent_of, atoms_in, mems_in, rules_in, atoms_by, Distinct, without, taken, taken_mem, taken_all}
 use Rattle.lmn_heap.proofs.ListLemmas.{each_in}
 use Rattle.lmn_heap.proofs.Listing.{atoms_at, atoms_away, place_away, home_is}
 use Rattle.lmn_heap.proofs.Groves.{without_absent}
@@ -14,6 +14,7 @@ use Rattle.lmn_body.proofs.Growing.{SameAtoms, same_atoms, same_atoms_after, som
 use Rattle.lmn_heap.specs.Lists.{without_all}
 use Rattle.lmn_heap.proofs.Common.{place_home, in_of_without}
 use Rattle.lmn_heap.proofs.Heights.{parent_place}
+use Rattle.lmn_base.specs.Lists.{In}
 
 abbrev pub all_taken_mems : Heap → List ℕ → Heap
 all_taken_mems s [] = s

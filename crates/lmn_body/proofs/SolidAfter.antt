@@ -24,6 +24,7 @@ use Rattle.lmn_body.proofs.BodyPorts.{heap_append, numbers}
 use Rattle.lmn_base.specs.Graphs.{Port}
 use Rattle.lmn_heap.specs.Lists.{without_all}
 use Rattle.lmn_splice.proofs.Common.{in_back, in_front}
+use Rattle.lmn_base.specs.Lists.{In}
 
 -- Atoms that stay
 
@@ -46,7 +47,7 @@ map_append_atoms g [] ys = refl
 map_append_atoms g (x ∷ xs) ys = ap (λ zs. g x ∷ zs) (map_append_atoms g xs ys)
 
 -- atoms with the same functors, each link at its image
-pub kept_atoms : (h h' : Heap) (u v : ℕ → ℕ → ℕ) (g : ℕ → ℕ) (xs : List ℕ) → ((a : ℕ) → heap.In a xs → (functor_of h' a ≡ functor_of h a) × ((j : ℕ) → v a j ≡ g (u a j)))
+pub kept_atoms : (h h' : Heap) (u v : ℕ → ℕ → ℕ) (g : ℕ → ℕ) (xs : List ℕ) → ((a : ℕ) → In a xs → (functor_of h' a ≡ functor_of h a) × ((j : ℕ) → v a j ≡ g (u a j)))
     → solid_atoms_at h' v xs ≡ map (linked_by g) (solid_atoms_at h u xs)
 kept_atoms h h' u v g [] e = refl
 kept_atoms h h' u v g (a ∷ xs) e =
@@ -139,7 +140,7 @@ placed_here r a c k m body s e = by (k == m) refl
 
 -- the regions of a forest, from the atoms and rules of each membrane
 pub fired_are : (h h' : Heap) (c : Port → ℕ) (r : Registers) (head : List HeadItem) (body : List BodyItem) (m : ℕ) (to : ℕ → ℕ) (v : ℕ → ℕ → ℕ) (f : Forest)
-    → ((k : ℕ) → heap.In k (flat f) → (solid_atoms_at h' v (atoms_in h' k) ≡ map (linked_by (λ x. to (of_solid x))) (solid_atoms_at h (λ a i. c (a, i)) (without_all (images_of r head) (atoms_in h k)))
+    → ((k : ℕ) → In k (flat f) → (solid_atoms_at h' v (atoms_in h' k) ≡ map (linked_by (λ x. to (of_solid x))) (solid_atoms_at h (λ a i. c (a, i)) (without_all (images_of r head) (atoms_in h k)))
     ++ cond (k == m) (made_atoms r (λ x. to (of_rule x)) body) []) × (rules_in h' k ≡ rules_in h k))
     → regions_of h' v f ≡ fired_regions h c r head body m to f
 fired_are h h' c r head body m to v bare e = refl

@@ -5,7 +5,7 @@ use Rattle.std.specs.Option.{option_map}
 use Rattle.lmn_base.specs.declared.functor.Functor.{Functor}
 use Rattle.lmn_base.specs.declared.solid.SolidAtom.{SolidAtom}
 use Rattle.lmn_base.specs.Graphs.{Reached, at_root, Port}
-use Rattle.lmn_heap.specs.Heap.{Heap, HeapAtom, functor_of, arity_of, IsAtom, IsInPlace, In}
+use Rattle.lmn_heap.specs.Heap.{Heap, HeapAtom, functor_of, arity_of, IsAtom, IsInPlace}
 use Rattle.lmn_heap.specs.Sound.{Valid}
 use Rattle.lmn_heap.specs.Graphs.{atom_map}
 use Rattle.lmn_heap.specs.Solid.{links_from, solid_atom_at, solid_atoms_at}
@@ -23,6 +23,7 @@ use Rattle.lmn_body.specs.CopiedSolid.{Hangs, IsSolidCopy}
 use Rattle.lmn_body.proofs.Brought.{in_part, part_all, reached_into}
 use Rattle.lmn_base.proofs.Common.{port_cases}
 use Rattle.lmn_heap.proofs.Common.{is_atom_at}
+use Rattle.lmn_base.specs.Lists.{In}
 
 -- a port of one of these atoms
 abbrev PortOf : Heap → List ℕ → Port → Type 0

@@ -4,7 +4,7 @@ use Rattle.std.proofs.lemmas.Bool.{cases_eq, eq-eqb}
 use Rattle.std.specs.Option.{option_map, option_and_then}
 use Rattle.lmn_base.specs.declared.guard.Cond.{Cond}
 use Rattle.lmn_heap.specs.Heap as heap
-use Rattle.lmn_heap.specs.Heap.{Heap, HeapAtom, HeapMem, waiting, gone, functor_of, arity_of, mem_place_of, parent_of, atoms_by, mems_by, IsMem, IsMemInPlace, In, Distinct, placed, placed_mem, moved_all, taken_mem}
+use Rattle.lmn_heap.specs.Heap.{Heap, HeapAtom, HeapMem, waiting, gone, functor_of, arity_of, mem_place_of, parent_of, atoms_by, mems_by, IsMem, IsMemInPlace, Distinct, placed, placed_mem, moved_all, taken_mem}
 use Rattle.lmn_heap.specs.Sound.{Sound, Listed, Paired, Shaped, Valid}
 use Rattle.lmn_heap.proofs.ListLemmas.{each_in}
 use Rattle.lmn_heap.proofs.Trees.{in_either}
@@ -36,6 +36,7 @@ use Rattle.lmn_heap.proofs.MoveListing.{moved_all_listed}
 use Rattle.lmn_body.proofs.Nesting as nesting
 use Rattle.lmn_base.specs.Graphs.{Port}
 use Rattle.lmn_heap.proofs.Heights.{parent_place}
+use Rattle.lmn_base.specs.Lists.{In}
 
 -- What prepares keeps lists and places together.
 pub prepares_listed : (r : Registers) (a m c : ℕ) (body : List BodyItem) → (s t : Heap) → Listed s → Prepares r (making a m c body) s t → Listed t

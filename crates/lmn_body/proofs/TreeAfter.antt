@@ -7,7 +7,7 @@ use Rattle.lmn_base.specs.declared.guard.Cond.{Cond}
 use Rattle.lmn_base.specs.Solids.{connector}
 use Rattle.lmn_heap.specs.Heap as heap
 use Rattle.lmn_heap.specs.Conditions.{Ready}
-use Rattle.lmn_heap.specs.Heap.{Heap, HeapAtom, HeapMem, top, within, gone, mem_place_of, mems_in, functor_of, IsMem, IsInPlace, IsMemInPlace, In, Distinct, finished}
+use Rattle.lmn_heap.specs.Heap.{Heap, HeapAtom, HeapMem, top, within, gone, mem_place_of, mems_in, functor_of, IsMem, IsInPlace, IsMemInPlace, Distinct, finished}
 use Rattle.lmn_heap.specs.Sound.{Forest, flat, Valid, Sound}
 use Rattle.lmn_heap.proofs.ListLemmas.{in_left, in_right}
 use Rattle.lmn_heap.proofs.Trees.{in_either}
@@ -35,6 +35,7 @@ use Rattle.lmn_base.specs.Graphs.{Port}
 use Rattle.lmn_heap.specs.Lists.{without_all}
 use Rattle.lmn_heap.proofs.Common.{decide_in}
 use Rattle.lmn_body.specs.Code.{making}
+use Rattle.lmn_base.specs.Lists.{In}
 
 -- Membranes that are added
 

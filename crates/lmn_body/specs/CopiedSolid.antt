@@ -2,12 +2,13 @@
 use Rattle.std.specs.Prelude.{ℕ, ◌≡◌, ◌≢◌, ◌<◌, List, map, Some}
 use Rattle.lmn_base.specs.Graphs.{Reached, Port}
 use Rattle.lmn_base.specs.declared.solid.SolidAtom.{SolidAtom}
-use Rattle.lmn_heap.specs.Heap.{Heap, In, arity_of, link_of}
+use Rattle.lmn_heap.specs.Heap.{Heap, arity_of, link_of}
 use Rattle.lmn_heap.specs.Graphs.{atom_map}
 use Rattle.lmn_heap.specs.Solid.{solid_atoms_at}
 use Rattle.lmn_parts.specs.Walks.{IsPartInDepth}
 use Rattle.lmn_body.specs.Fired.{linked_by}
 use Rattle.lmn_body.specs.Names.{StandsPort}
+use Rattle.lmn_base.specs.Lists.{In}
 
 -- the root port of a part hangs at a port outside of it
 abbrev pub Hangs : Heap → Port → Type 0

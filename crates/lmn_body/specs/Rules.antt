@@ -15,6 +15,7 @@ use Rattle.lmn_body.specs.Items.{body_links, LinkedItems, AllMade, Simple}
 use Rattle.lmn_body.specs.Running.{Registers}
 use Rattle.lmn_body.specs.Added.{moved_mems, made_mems}
 use Rattle.lmn_body.specs.Made.{copies_of}
+use Rattle.lmn_base.specs.Lists.{In}
 
 -- A rule.
 --   held                     the link of a typed context of the head stands at an atom of the head
@@ -41,7 +42,7 @@ pub record PlainRule (head : List HeadItem) (body : List BodyItem) (n : ℕ) : T
 
 -- an item goes to a membrane that is there and isn't removed
 abbrev pub Target : Registers → List ℕ → (ℕ → Type 0) → ℕ → Type 0
-Target r ks E inside = (heap.In (r.head.images.membrane inside) ks → ⊥) × E (r.head.images.membrane inside)
+Target r ks E inside = (In (r.head.images.membrane inside) ks → ⊥) × E (r.head.images.membrane inside)
 
 -- The items of a body go to membranes that are there and aren't removed; contexts are of removed ones, each untyped
 -- context once.
@@ -53,17 +54,17 @@ Goes r ks E (Copy part link inside ∷ xs) = Target r ks E inside × Goes r ks E
 Goes r ks E (Bound integer link inside ∷ xs) = Target r ks E inside × Goes r ks E xs
 Goes r ks E (Membrane inside ∷ xs) = Target r ks E inside × Goes r ks E xs
 Goes r ks E (Rest of inside ∷ xs) =
-    heap.In (r.head.images.membrane of) ks × E (r.head.images.membrane of) × (heap.In (r.head.images.membrane of) (moved_mems r xs) → ⊥) × Target r ks E inside × Goes r ks E xs
+    In (r.head.images.membrane of) ks × E (r.head.images.membrane of) × (In (r.head.images.membrane of) (moved_mems r xs) → ⊥) × Target r ks E inside × Goes r ks E xs
 Goes r ks E (Rule rule inside ∷ xs) = Target r ks E inside × Goes r ks E xs
-Goes r ks E (Rules of inside ∷ xs) = heap.In (r.head.images.membrane of) ks × Target r ks E inside × Goes r ks E xs
+Goes r ks E (Rules of inside ∷ xs) = In (r.head.images.membrane of) ks × Target r ks E inside × Goes r ks E xs
 
 -- what stands in the heap when all is made: what stood before, and the new membranes
 abbrev pub Exists : Heap → Registers → List HeadItem → List BodyItem → ℕ → Type 0
-Exists h r head body x = IsMem h x ⊎ heap.In x (made_mems r (1 + length (membranes_of head)) body)
+Exists h r head body x = IsMem h x ⊎ In x (made_mems r (1 + length (membranes_of head)) body)
 
 -- a membrane in which an item stands: that of the rule, or one that is made before
 abbrev pub Into : Registers → ℕ → List ℕ → ℕ → Type 0
-Into r top made inside = (r.head.images.membrane inside ≡ top) ⊎ heap.In (r.head.images.membrane inside) made
+Into r top made inside = (r.head.images.membrane inside ≡ top) ⊎ In (r.head.images.membrane inside) made
 
 -- The items of a body go into the membrane of the rule or into one that is made before. `made` are the membranes made so far, the next has the register m.
 abbrev pub Nests : Registers → ℕ → List ℕ → ℕ → List BodyItem → Type 0
@@ -84,8 +85,8 @@ HeadNests head = (k : ℕ) (b : heads.HeadMembrane) → HasMembrane head k b →
 -- the atoms of the parts of a head, each once
 pub record PartAtoms (h : Heap) (head : List HeadItem) (f : Images) (ps : List ℕ) : Type 0 where
   pub once : heap.Distinct ps
-  pub are : (a : ℕ) → heap.In a ps → (g : ℕ) × (t : heads.HeadTyped) × HasTyped head g t × Reached (atom_map h) (f.part g) a
-  pub all : (g : ℕ) (t : heads.HeadTyped) (a : ℕ) → HasTyped head g t → Reached (atom_map h) (f.part g) a → heap.In a ps
+  pub are : (a : ℕ) → In a ps → (g : ℕ) × (t : heads.HeadTyped) × HasTyped head g t × Reached (atom_map h) (f.part g) a
+  pub all : (g : ℕ) (t : heads.HeadTyped) (a : ℕ) → HasTyped head g t → Reached (atom_map h) (f.part g) a → In a ps
 
 -- By numbers alone
 

@@ -7,7 +7,7 @@ use Rattle.std.specs.Prelude.{ℕ, ℤ, ◌≡◌, ◌↔◌, List, [], ◌∷�
 use Rattle.lmn_base.specs.declared.functor.Functor.{Functor}
 use Rattle.lmn_base.specs.declared.functor.Label.TheVariants.{Int}
 use Rattle.lmn_base.specs.Graphs.{Reached, Port}
-use Rattle.lmn_heap.specs.Heap.{Heap, In, Distinct, from, made_atom, made_mem, reserved, taken, taken_mem, placed, placed_mem, moved_all, rule_added, rules_copied, finished, taken_all}
+use Rattle.lmn_heap.specs.Heap.{Heap, Distinct, from, made_atom, made_mem, reserved, taken, taken_mem, placed, placed_mem, moved_all, rule_added, rules_copied, finished, taken_all}
 use Rattle.lmn_heap.specs.Graphs.{atom_map}
 use Rattle.lmn_parts.specs.Copies.{Copied}
 use Rattle.lmn_splice.specs.Ties.{newlink, relink, unify}
@@ -18,6 +18,7 @@ use Rattle.lmn_instr.specs.declared.instr.Instr.{Instr}
 use Rattle.lmn_instr.specs.Running.{HeadRegisters, port_of}
 use Rattle.lmn_instr.specs.declared.instr.Instr.TheVariants.{RemoveAtom, RemovePart, RemoveMem, NewAtom, NewInt, NewMem, CopyGround, MoveCells, LoadRule, CopyRules, NewLink, Relink, Unify, Proceed}
 use Rattle.lmn_body.specs.Tied.{tied}
+use Rattle.lmn_base.specs.Lists.{In}
 
 -- What the registers hold. Each is set once, so code is read with all of them at once.
 --   head      those of head code: atoms, membranes, typed contexts and integers. On from the atoms and membranes of the

@@ -1,7 +1,7 @@
 -- What a firing leaves in the lists of each membrane, with membranes and contexts.
 use Rattle.std.specs.Prelude.{ℕ, ◌+◌, ◌≡◌, ◌==◌, if◌then◌else◌, List, [], ◌∷◌, ◌++◌, length, map, Some, ◌≢◌}
 use Rattle.lmn_base.specs.declared.solid.SolidAtom.{SolidAtom}
-use Rattle.lmn_heap.specs.Heap.{Heap, In, IsInPlace, functor_of, link_of, atoms_in, mems_in, rules_in}
+use Rattle.lmn_heap.specs.Heap.{Heap, IsInPlace, functor_of, link_of, atoms_in, mems_in, rules_in}
 use Rattle.lmn_base.specs.declared.functor.Functor.{Functor}
 use Rattle.lmn_solid.specs.declared.items.HeadItem.{HeadItem}
 use Rattle.lmn_solid.specs.Heads as heads
@@ -23,6 +23,7 @@ use Rattle.lmn_body.specs.Fired.{linked_by}
 use Rattle.lmn_heap.specs.Solid.{solid_atoms_at}
 use Rattle.lmn_base.specs.Graphs.{Port}
 use Rattle.lmn_heap.specs.Lists.{without_all}
+use Rattle.lmn_base.specs.Lists.{In}
 
 -- the images of the membranes of a head
 abbrev pub membrane_images : Registers → List HeadItem → List ℕ

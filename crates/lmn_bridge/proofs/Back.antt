@@ -7,7 +7,7 @@ use Rattle.lmn_base.specs.declared.level.Leaf.{Leaf}
 use Rattle.lmn_base.specs.declared.level.Leaf.TheVariants as leaf
 use Rattle.lmn_guards.specs.declared.plan.TypeKind.{TypeKind}
 use Rattle.lmn_heap.specs.Heap.{Heap, atoms_in, mems_in, rules_in, link_of}
-use Rattle.lmn_heap.specs.Lists.{Each, In, Distinct, without_all}
+use Rattle.lmn_heap.specs.Lists.{Distinct, without_all}
 use Rattle.lmn_heap.specs.Sound.{Forest, bare, mem, Valid}
 use Rattle.lmn_heap.proofs.ListLemmas.{in_left, in_right}
 use Rattle.lmn_solid.specs.declared.items.HeadItem.{HeadItem}
@@ -41,6 +41,8 @@ use Rattle.lmn_bridge.proofs.Contexts.{NoRules}
 use Rattle.lmn_bridge.proofs.Empty.{nothing_left, no_rule_left}
 use Rattle.lmn_base.specs.Graphs.{Port}
 use Rattle.lmn_base.proofs.Lists.{weigh}
+use Rattle.lmn_base.specs.Lists.{In}
+use Rattle.std.specs.List.{AllByRecursion}
 
 -- ---- lists of images
 
@@ -58,7 +60,7 @@ reads_split g n (x ∷ xs) ys h =
     ((h.0, u.0), subst (λ k. Reads g k ys) (sym z) u.1)
 
 -- what images leave of a list is in it
-left_in : (b : ℕ) (bs xs : List ℕ) → Distinct bs → Each (λ b. In b xs) bs → In b (without_all bs xs) → In b xs
+left_in : (b : ℕ) (bs xs : List ℕ) → Distinct bs → AllByRecursion (λ b. In b xs) bs → In b (without_all bs xs) → In b xs
 left_in b bs xs d e i = find_in b xs (omega (arith, weigh_left (one_if_same b) bs xs d e, weigh_same b bs, weigh_same b xs, weigh_same b (without_all bs xs), some_of b (without_all bs xs) i))
 
 -- where nothing is left, each atom is an image or a part, and each membrane is an image
@@ -174,7 +176,7 @@ module _ (h : Heap) (v : Valid h) (r : HeapReading) (naming : IsNaming h r.name)
     pub membranes : length ms ≡ membranes_in_items xs
 
   leaves_stand : (cur n t' k : ℕ) (ls : List Leaf) (bs : List ℕ) (parts : List (List ℕ)) {xs rest : List ℕ} → NoConnectorLeaf (map (leaf_of r.names) ls) → FitLeaves (atom_at h r) t.link_of (map (leaf_of r.names) ls) bs →
-      PartsOut (atom_at h r) t.link_of t.typed_of (map (leaf_of r.names) ls) parts xs rest → Reads f.atom n bs → Reads part_at t' parts → Each (λ b. In b (atoms_in h (f.membrane cur))) bs → ((b : ℕ) → In b xs → In b (atoms_in h (f.membrane cur))) →
+      PartsOut (atom_at h r) t.link_of t.typed_of (map (leaf_of r.names) ls) parts xs rest → Reads f.atom n bs → Reads part_at t' parts → AllByRecursion (λ b. In b (atoms_in h (f.membrane cur))) bs → ((b : ℕ) → In b xs → In b (atoms_in h (f.membrane cur))) →
       Place cur (λ x. leaves_occurrences x (map (leaf_of r.names) ls)) → Known n t' k (leaf_items kind cur ls) → Stood n t' k (leaf_items kind cur ls) bs parts []
   leaves_stand cur n t' k [] bs parts o fit_none parts_none g gt e et p w = record { walk = tt; atoms = refl; parts = refl; membranes = refl }
   leaves_stand cur n t' k (leaf.Typed y l q ∷ ls) bs parts o (fit_typed fit) (parts_typed {p = name} {parts = later} {part = part} ground is m out) g gt e et p w =
@@ -199,7 +201,7 @@ module _ (h : Heap) (v : Valid h) (r : HeapReading) (naming : IsNaming h r.name)
       let u = fit_one (subst (λ l. FitLeaves (atom_at h r) t.link_of (l ∷ map (leaf_of r.names) ls) bs) c.0 fit) in
       let out' = out_rest (subst (λ l. PartsOut (atom_at h r) t.link_of t.typed_of (l ∷ map (leaf_of r.names) ls) parts xs over) c.0 out) in
       let g' = subst (Reads f.atom n) u.are g in
-      let e' = subst (Each (λ b. In b (atoms_in h (f.membrane cur)))) u.are e in
+      let e' = subst (AllByRecursion (λ b. In b (atoms_in h (f.membrane cur)))) u.are e in
       let same : (x : ℕ) → leaf_occurrences x (leaf_of r.names (leaf.Atom fu os q)) ≡ places x ys = λ x. ap (leaf_occurrences x) c.0 in
       let rest = leaves_stand cur (n + 1) t' k ls u.others parts c.1 u.fit out' g'.1 gt e'.1 et (less cur (λ x. leaves_occurrences x (map (leaf_of r.names) (leaf.Atom fu os q ∷ ls))) (λ x. leaves_occurrences x (map (leaf_of r.names) ls)) (λ x. omega arith) p) w.1 in
       let is' : atom_at h r (f.atom n) ≡ record { label = label_of r.names fu.label; links = map t.link_of ys } = ap (atom_at h r) g'.0 ∙ u.is in
@@ -297,7 +299,7 @@ module _ (h : Heap) (v : Valid h) (r : HeapReading) (naming : IsNaming h r.name)
         let occ : ℕ → ℕ = λ x. level_occurrences x (Tree (head leaves hs cs rcs rs)) in
         let here = reads_split f.atom n bs as' ga in
         let here_t = reads_split part_at t' parts ps gt in
-        let placed = subst (λ z. Each (λ b. In b (atoms_in h z)) bs) (sym e) among in
+        let placed = subst (λ z. AllByRecursion (λ b. In b (atoms_in h z)) bs) (sym e) among in
         let a = leaves_stand cur n t' next leaves bs parts o.0 fit out here.0 here_t.0 placed (λ b i. subst (λ z. In b (atoms_in h z)) (sym e) (left_in b bs (atoms_in h M) d among i)) (less cur occ (λ x. leaves_occurrences x (map (leaf_of r.names) leaves)) (λ x. omega arith) p) u.0 in
         let y : n + length bs ≡ n + atoms_in_items first = let s = a.atoms in omega (arith, s) in
         let yt : t' + length parts ≡ t' + typed_in_items first = let s = a.parts in omega (arith, s) in

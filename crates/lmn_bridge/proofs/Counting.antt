@@ -2,8 +2,7 @@
 use Rattle.std.proofs.Common.{ℕ, zero, suc, ◌≡◌, ◌+◌, ◌<◌, ◌≤◌, ◌⊎◌, ◌==◌, cond, List, [], ◌∷◌, ◌++◌, map, Option, Some, None, IsSome, refl, sym, ◌∙◌, inl, inr, arith}
 use Rattle.std.proofs.lemmas.Bool.{cases_eq, eq-eqb}
 use Rattle.std.specs.Option.{option_map}
-use Rattle.lmn_heap.specs.Heap.{Heap, HeapAtom, IsAtom, In, arity_of, functor_of, link_of, atoms_in, rules_in, within}
-use Rattle.lmn_heap.specs.Lists.{Each}
+use Rattle.lmn_heap.specs.Heap.{Heap, HeapAtom, IsAtom, arity_of, functor_of, link_of, atoms_in, rules_in, within}
 use Rattle.lmn_heap.specs.Sound.{Forest, bare, mem, Valid}
 use Rattle.lmn_heap.specs.Solid.{IsNaming, links_from}
 use Rattle.lmn_heap.proofs.ListLemmas.{each_of}
@@ -18,6 +17,8 @@ use Rattle.lmn_congruence.proofs.Counts.{none_if_apart as apart_none, one_if_equ
 use Rattle.lmn_congruence.proofs.TranslatedLinks.{no_link_in_rules}
 use Rattle.lmn_heap.proofs.Replacing.{port_within}
 use Rattle.lmn_heap.proofs.Common.{same_port}
+use Rattle.lmn_base.specs.Lists.{In}
+use Rattle.std.specs.List.{AllByRecursion}
 
 -- 1 at one port, and else 0
 abbrev at_port : ℕ → ℕ → ℕ → ℕ → ℕ
@@ -101,7 +102,7 @@ is_atom h v m a p = by (h.atoms a) ((v.sound.listed.atoms m a).0 p)
     by (Some x) e = refl
 
 -- what stands in a membrane's list is an atom
-pub list_atoms : (h : Heap) (v : Valid h) (m : ℕ) → Each (IsAtom h) (atoms_in h m)
+pub list_atoms : (h : Heap) (v : Valid h) (m : ℕ) → AllByRecursion (IsAtom h) (atoms_in h m)
 list_atoms h v m = each_of (IsAtom h) (atoms_in h m) (is_atom h v m)
 
 -- a link with its two ports
@@ -133,7 +134,7 @@ module _ (h : Heap) (r : HeapReading) (v : Valid h) (naming : IsNaming h r.name)
           omega (arith, u, w, z)
 
   -- a link stands in atoms once for each of its two ends among them
-  pub ends_among : (xs : List ℕ) → Each (IsAtom h) xs → weigh (times_at h r (r.name a i)) xs ≡ places a xs + places b xs
+  pub ends_among : (xs : List ℕ) → AllByRecursion (IsAtom h) xs → weigh (times_at h r (r.name a i)) xs ≡ places a xs + places b xs
   ends_among [] e = omega arith
   ends_among (c ∷ xs) e = omega (arith, at_atom c e.0, ends_among xs e.1)
 

@@ -3,7 +3,7 @@ use Rattle.std.proofs.Common.{ℕ, zero, suc, ◌≡◌, ◌≢◌, ◌+◌, ◌
 use Rattle.std.proofs.lemmas.Bool.{cases_eq}
 use Rattle.std.specs.Option.{option_map, option_and_then}
 use Rattle.lmn_heap.specs.Heap.{Heap, HeapAtom, HeapMem, IsAtom, Place, top, within, waiting, gone, home_by, atoms_in, mems_in, home_of, parent_of, mem_place_of}
-use Rattle.lmn_heap.specs.Lists.{Each, In, Distinct}
+use Rattle.lmn_heap.specs.Lists.{Distinct}
 use Rattle.lmn_heap.specs.Conditions.{Above}
 use Rattle.lmn_heap.specs.Sound.{Forest, bare, mem, flat, Forms, Valid}
 use Rattle.lmn_heap.proofs.ListLemmas.{each_in, each_of, in_left, in_right}
@@ -16,6 +16,8 @@ use Rattle.lmn_bridge.proofs.Lying.{TakenTree, tree_first, tree_later}
 use Rattle.lmn_congruence.proofs.Counts.{none_if_apart as apart_none, one_if_equal as same_one}
 use Rattle.lmn_congruence.proofs.TranslatedLinks.{places_append as places_both}
 use Rattle.lmn_heap.proofs.Common.{place_home as home_at}
+use Rattle.lmn_base.specs.Lists.{In}
+use Rattle.std.specs.List.{AllByRecursion}
 
 -- the membranes that stand first in a forest
 abbrev pub tops : Forest → List ℕ
@@ -118,7 +120,7 @@ distinct_of (x ∷ xs) h = (
   distinct_of xs (λ b. let u = h b in omega (arith, u)),
 )
   where
-    others : (ys : List ℕ) → (In x ys → ⊥) → Each (λ y. x ≢ y) ys
+    others : (ys : List ℕ) → (In x ys → ⊥) → AllByRecursion (λ y. x ≢ y) ys
     others [] n = tt
     others (y ∷ ys) n = ((λ e. n (inl (sym e))), others ys (λ p. n (inr p)))
 
@@ -259,11 +261,11 @@ module _ (h : Heap) (v : Valid h) where
   tree_once m i d a = let u = atoms_once (mem m i bare) d a in omega (arith, u, places_both a (tree_atoms h m i) [])
 
   -- all that a forest holds are atoms
-  pub each_forest : (f : Forest) → Each (IsAtom h) (forest_atoms h f)
+  pub each_forest : (f : Forest) → AllByRecursion (IsAtom h) (forest_atoms h f)
   each_forest f = each_of (IsAtom h) (forest_atoms h f) (λ a p. let q = no_home f a p in each_in (IsAtom h) (atoms_in h q.0) a (list_atoms h v q.0) q.1)
 
   -- all that a tree holds are atoms
-  pub each_tree : (m : ℕ) (i : Forest) → Each (IsAtom h) (tree_atoms h m i)
+  pub each_tree : (m : ℕ) (i : Forest) → AllByRecursion (IsAtom h) (tree_atoms h m i)
   each_tree m i = each_of (IsAtom h) (tree_atoms h m i) (λ a p. elim (in_either a (atoms_in h m) (forest_atoms h i) p) [
     | inl k ↦ each_in (IsAtom h) (atoms_in h m) a (list_atoms h v m) k
     | inr k ↦ each_in (IsAtom h) (forest_atoms h i) a (each_forest i) k

@@ -6,7 +6,6 @@ use Rattle.std.proofs.lemmas.Option.{same_Some}
 use Rattle.lmn_base.specs.Graphs.{Reached as ReachedOnHeap, at_root, across as across_port}
 use Rattle.lmn_heap.specs.Heap.{Heap, arity_of, link_of, IsAtom}
 use Rattle.lmn_heap.specs.Graphs.{atom_map}
-use Rattle.lmn_heap.specs.Lists.{In, Each}
 use Rattle.lmn_heap.specs.Sound.{Valid}
 use Rattle.lmn_congruence.specs.Links.{places}
 use Rattle.lmn_congruence.specs.Orders.{Among, at_head, further}
@@ -24,6 +23,8 @@ use Rattle.lmn_base.proofs.Lists.{weigh, some_is}
 use Rattle.lmn_congruence.proofs.Counts.{none_if_apart as apart_none}
 use Rattle.lmn_heap.proofs.Replacing.{port_within}
 use Rattle.lmn_heap.specs.Solid.{IsNaming}
+use Rattle.lmn_base.specs.Lists.{In}
+use Rattle.std.specs.List.{AllByRecursion}
 
 -- atoms side by side: a first one and others
 abbrev pub side_by_side : SolidAtom → List SolidAtom → Process
@@ -106,7 +107,7 @@ module _ (h : Heap) (r : HeapReading) (v : Valid h) where
       let w = among_mapped (atom_at h r) (x ∷ xs) u.1 in
       (w.0, in_among (x ∷ xs) w.0 w.1, ap labelled w.2 ∙ u.2)
 
-  module _ (naming : IsNaming h r.name) (root q : ℕ × ℕ) (link : link_of h root.0 root.1 ≡ Some q) (l : PartList h root) (atoms : Each (IsAtom h) (l.first ∷ l.others)) (away : In q.0 (l.first ∷ l.others) → ⊥) where
+  module _ (naming : IsNaming h r.name) (root q : ℕ × ℕ) (link : link_of h root.0 root.1 ≡ Some q) (l : PartList h root) (atoms : AllByRecursion (IsAtom h) (l.first ∷ l.others)) (away : In q.0 (l.first ∷ l.others) → ⊥) where
     root_once : weigh (times_at h r (r.name root.0 root.1)) (l.first ∷ l.others) ≡ 1
     root_once =
         let e = ends_among h r v naming root.0 root.1 q.0 q.1 (port_within h root.0 root.1 _ link) link (l.first ∷ l.others) atoms in

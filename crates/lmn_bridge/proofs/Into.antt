@@ -5,7 +5,7 @@ use Rattle.std.proofs.lemmas.Bool.{cases_eq}
 use Rattle.std.proofs.lemmas.Option.{same_Some}
 use Rattle.lmn_guards.specs.declared.plan.TypeKind.{TypeKind}
 use Rattle.lmn_heap.specs.Heap.{Heap, HeapAtom, IsAtom, atoms_in, mems_in, rules_in, arity_of, link_of}
-use Rattle.lmn_heap.specs.Lists.{Each, In, Distinct}
+use Rattle.lmn_heap.specs.Lists.{Distinct}
 use Rattle.lmn_heap.specs.Sound.{Forest, bare, mem, flat, Valid, Forms}
 use Rattle.lmn_heap.specs.Solid.{IsNaming, links_from}
 use Rattle.lmn_heap.proofs.Trees.{nil_right}
@@ -51,6 +51,8 @@ use Rattle.lmn_base.proofs.Lists.{weigh, get_below, get_there as get_some, weigh
 use Rattle.lmn_base.specs.declared.guard.Cond.{Cond}
 use Rattle.lmn_bridge.specs.Premises.{IsRead}
 use Rattle.lmn_reduction.specs.Parts.{Rooted}
+use Rattle.lmn_base.specs.Lists.{In}
+use Rattle.std.specs.List.{AllByRecursion}
 
 -- ---- links of an atom
 
@@ -68,7 +70,7 @@ numbered_are name g b k (suc n) (y ∷ ys) e h =
 -- ---- the ends of links
 
 -- at most two ports have one number
-pub two_ends : (h : Heap) (v : Valid h) (r : HeapReading) → IsNaming h r.name → (x : ℕ) (xs : List ℕ) → Each (IsAtom h) xs → ((z : ℕ) → places z xs ≤ 1) → weigh (times_at h r x) xs ≤ 2
+pub two_ends : (h : Heap) (v : Valid h) (r : HeapReading) → IsNaming h r.name → (x : ℕ) (xs : List ℕ) → AllByRecursion (IsAtom h) xs → ((z : ℕ) → places z xs ≤ 1) → weigh (times_at h r x) xs ≤ 2
 two_ends h v r naming x xs e once = elim (cases_eq (weigh (times_at h r x) xs) 0) [
   | inl z ↦ omega (arith, z)
   | inr z ↦ some z

@@ -2,7 +2,6 @@
 use Rattle.std.proofs.Common.{ℕ, ◌≡◌, ◌≢◌, ◌+◌, ◌≤◌, List, [], ◌∷◌, map, refl, sym, ap, subst, ◌∙◌, inl, inr, arith}
 use Rattle.std.proofs.lemmas.Bool.{cases_eq}
 use Rattle.lmn_heap.specs.Heap.{Heap, atoms_in, rules_in}
-use Rattle.lmn_heap.specs.Lists.{In}
 use Rattle.lmn_heap.specs.Sound.{Forest, bare, mem, flat, Valid}
 use Rattle.lmn_solid.specs.declared.items.HeadItem.{HeadItem}
 use Rattle.lmn_solid.specs.Embeddings.{Images}
@@ -29,6 +28,7 @@ use Rattle.lmn_bridge.proofs.Laying.{Known, all_atoms, all_parts, all_membranes,
 use Rattle.lmn_base.proofs.Lists.{weigh, weigh_append}
 use Rattle.lmn_heap.proofs.Common.{nothing_in}
 use Rattle.lmn_reduction.proofs.Derivations.{alone as r_alone}
+use Rattle.lmn_base.specs.Lists.{In}
 
 -- ---- contexts
 

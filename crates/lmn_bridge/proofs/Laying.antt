@@ -8,7 +8,7 @@ use Rattle.lmn_base.specs.declared.functor.Label.{Label}
 use Rattle.lmn_base.specs.declared.functor.Label.TheVariants.{Name as ByName, Int as ByInt}
 use Rattle.lmn_guards.specs.declared.plan.TypeKind.{TypeKind}
 use Rattle.lmn_heap.specs.Heap.{Heap, atoms_in, mems_in, rules_in, arity_of, link_of}
-use Rattle.lmn_heap.specs.Lists.{Each, In, Distinct, without_all}
+use Rattle.lmn_heap.specs.Lists.{Distinct, without_all}
 use Rattle.lmn_heap.specs.Conditions.{Above}
 use Rattle.lmn_heap.specs.Sound.{Forest, bare, mem, flat, Valid}
 use Rattle.lmn_heap.proofs.ListLemmas.{each_in, each_of, in_right, distinct_left, distinct_right}
@@ -44,6 +44,8 @@ use Rattle.lmn_congruence.proofs.Counts.{none_if_apart as apart_none}
 use Rattle.lmn_congruence.proofs.TranslatedLinks.{places_append as places_both}
 use Rattle.lmn_heap.proofs.Trees.{in_either}
 use Rattle.lmn_heap.proofs.Listing.{distinct_without_all}
+use Rattle.lmn_base.specs.Lists.{In}
+use Rattle.std.specs.List.{AllByRecursion}
 
 -- ---- leaves as trees
 
@@ -261,7 +263,7 @@ module _ (h : Heap) (v : Valid h) (r : HeapReading) (naming : IsNaming h r.name)
 
   leaves_fit : (cur n t k : ℕ) (ls : List Leaf) → NoConnectorLeaf (map (leaf_of r.names) ls) → Items n t k (leaf_items kind cur ls) →
       FitLeaves (atom_at h r) link_of' (map (leaf_of r.names) ls) (run f.atom n (atoms_in_items (leaf_items kind cur ls)))
-      × Each (λ b. In b (atoms_in h (f.membrane cur))) (run f.atom n (atoms_in_items (leaf_items kind cur ls)))
+      × AllByRecursion (λ b. In b (atoms_in h (f.membrane cur))) (run f.atom n (atoms_in_items (leaf_items kind cur ls)))
       × GivenParts (atom_at h r) link_of' typed_of (map (leaf_of r.names) ls) (run part_at t (typed_in_items (leaf_items kind cur ls)))
       × ((b : ℕ) → In b (flattened (run part_at t (typed_in_items (leaf_items kind cur ls)))) → In b (atoms_in h (f.membrane cur)))
   leaves_fit cur n t k [] o w = (fit_none, tt, given_none, λ b i. absurd i)
@@ -279,7 +281,7 @@ module _ (h : Heap) (v : Valid h) (r : HeapReading) (naming : IsNaming h r.name)
       )
 
   -- an atom that is no image is left
-  in_left_over : (b : ℕ) (bs xs : List ℕ) → Distinct bs → Each (λ b. In b xs) bs → places b bs ≡ 0 → In b xs → In b (without_all bs xs)
+  in_left_over : (b : ℕ) (bs xs : List ℕ) → Distinct bs → AllByRecursion (λ b. In b xs) bs → places b bs ≡ 0 → In b xs → In b (without_all bs xs)
   in_left_over b bs xs d e z i = find_in b (without_all bs xs) (omega (arith, weigh_left (one_if_same b) bs xs d e, weigh_same b bs, weigh_same b xs, weigh_same b (without_all bs xs), z, some_of b xs i))
 
   -- ---- membranes
@@ -300,7 +302,7 @@ module _ (h : Heap) (v : Valid h) (r : HeapReading) (naming : IsNaming h r.name)
             (subst (λ k. Items (n + atoms_in_items inner) (t + typed_in_items inner) k (flat_membranes kind cur (next + 1 + size hd) hs)) q u.1) e,
       )
 
-  tops_stay : {p m : ℕ} {i F F' : Forest} (cur next : ℕ) (hs : Heads) → TakenTree p m i F F' → TopsIn next hs F → Each (λ b. m ≢ b) (run f.membrane next (membranes_in_items (flat_membranes kind cur next hs))) → TopsIn next hs F'
+  tops_stay : {p m : ℕ} {i F F' : Forest} (cur next : ℕ) (hs : Heads) → TakenTree p m i F F' → TopsIn next hs F → AllByRecursion (λ b. m ≢ b) (run f.membrane next (membranes_in_items (flat_membranes kind cur next hs))) → TopsIn next hs F'
   tops_stay cur next no_head k t e = tt
   tops_stay {m = m} cur next (head_and hd hs) k t e =
       let inner = flat_items kind next (next + 1) hd in

@@ -1,7 +1,7 @@
 -- A level of a head lies in lists of atoms and in a forest of a heap, by their numbers.
 use Rattle.std.proofs.Common.{ℕ, suc, ◌≡◌, ◌≢◌, List, [], ◌∷◌, ◌++◌, map, sym, subst}
 use Rattle.lmn_heap.specs.Heap.{Heap, atoms_in, rules_in}
-use Rattle.lmn_heap.specs.Lists.{Each, In, Distinct, without, without_all}
+use Rattle.lmn_heap.specs.Lists.{Distinct, without, without_all}
 use Rattle.lmn_heap.specs.Sound.{Forest, mem, Valid}
 use Rattle.lmn_congruence.specs.Process.{Process}
 use Rattle.lmn_congruence.specs.Regions.{SolidAtom, Region, region, region_process}
@@ -16,6 +16,8 @@ use Rattle.lmn_bridge.specs.HeapRegions.{HeapReading, regions_at, region_at}
 use Rattle.lmn_bridge.proofs.Pieces.{atom_at, atoms_each, numbers, taken_in}
 use Rattle.lmn_bridge.proofs.Counting.{list_atoms}
 use Rattle.lmn_bridge.proofs.PartsOut.{PartsOut, parts_of_leaves}
+use Rattle.lmn_base.specs.Lists.{In}
+use Rattle.std.specs.List.{AllByRecursion}
 
 -- each atom of the leaves is read from a number
 pub data FitLeaves (g : ℕ → SolidAtom) (link_of : ℕ → ℕ) : List Leaf → List ℕ → Type 0 where
@@ -36,7 +38,7 @@ mutual
   pub data Lies (h : Heap) (r : HeapReading) (link_of : ℕ → ℕ) (typed_of : Name → Rooted) (Q : Level → ℕ → List ℕ → Forest → Forest → Type 0) : Level → List ℕ → List (List ℕ) → List ℕ → List ℕ → List ℕ → List ℕ → Forest → Forest → Type 0 where
     lies : {leaves : List Leaf} {membranes : Levels} {contexts rule_contexts : List Name} {rules : Rules}
         {bs as' ms ns xs rest : List ℕ} {parts ps : List (List ℕ)} {f f' : Forest} →
-        FitLeaves (atom_at h r) link_of leaves bs → Distinct bs → Each (λ b. In b xs) bs → PartsOut (atom_at h r) link_of typed_of leaves parts (without_all bs xs) rest →
+        FitLeaves (atom_at h r) link_of leaves bs → Distinct bs → AllByRecursion (λ b. In b xs) bs → PartsOut (atom_at h r) link_of typed_of leaves parts (without_all bs xs) rest →
         LiesIn h r link_of typed_of Q membranes as' ps ms ns f f' →
         Lies h r link_of typed_of Q (level leaves membranes contexts rule_contexts rules) (bs ++ as') (parts ++ ps) ms (numbers bs xs ++ ns) xs rest f f'
 
@@ -63,20 +65,20 @@ Kept h r t l m xs i i' = KeepsLinks t l (region_at h r m i) × Reordered (fills 
 
 -- ---- so it lies in the region
 
-images_of_leaves : (g : ℕ → SolidAtom) (t : Assignment) {ls : List Leaf} {bs : List ℕ} (xs : List ℕ) → FitLeaves g t.link_of ls bs → Distinct bs → Each (λ b. In b xs) bs →
+images_of_leaves : (g : ℕ → SolidAtom) (t : Assignment) {ls : List Leaf} {bs : List ℕ} (xs : List ℕ) → FitLeaves g t.link_of ls bs → Distinct bs → AllByRecursion (λ b. In b xs) bs →
     AtomImages t ls (numbers bs xs) (map g xs) (map g (without_all bs xs))
 images_of_leaves g t xs fit_none d e = no_image
 images_of_leaves g t xs (fit_atom {a = a} {ys = ys} {b = b} {bs = bs} is f) d e =
     image_and (subst (λ y. Taken (index_of b xs) y (map g xs) (map g (without b xs))) is (taken_in g b xs e.0))
     (images_of_leaves g t (without b xs) f d.1 (others bs d.0 e.1))
   where
-    others : (cs : List ℕ) → Each (λ c. b ≢ c) cs → Each (λ c. In c xs) cs → Each (λ c. In c (without b xs)) cs
+    others : (cs : List ℕ) → AllByRecursion (λ c. b ≢ c) cs → AllByRecursion (λ c. In c xs) cs → AllByRecursion (λ c. In c (without b xs)) cs
     others [] u w = tt
     others (c ∷ cs) u w = (in_without b c xs w.0 (λ q. u.0 (sym q)), others cs u.1 w.1)
 images_of_leaves g t xs (fit_typed f) d e = typed_later (images_of_leaves g t xs f d e)
 
 -- others stay when one is taken out
-pub each_without : (b : ℕ) (xs cs : List ℕ) → Each (λ c. b ≢ c) cs → Each (λ c. In c xs) cs → Each (λ c. In c (without b xs)) cs
+pub each_without : (b : ℕ) (xs cs : List ℕ) → AllByRecursion (λ c. b ≢ c) cs → AllByRecursion (λ c. In c xs) cs → AllByRecursion (λ c. In c (without b xs)) cs
 each_without b xs [] u w = tt
 each_without b xs (c ∷ cs) u w = (in_without b c xs w.0 (λ q. u.0 (sym q)), each_without b xs cs u.1 w.1)
 

@@ -1,12 +1,14 @@
 -- Lists of numbers that match one by one in some order.
 use Rattle.std.proofs.Common.{ℕ, ◌≡◌, ◌≢◌, ◌⊎◌, ◌==◌, cond, List, [], ◌∷◌, map, refl, sym, ap, subst, ◌∙◌, inl, inr}
 use Rattle.std.proofs.lemmas.Bool.{cases_eq, eq-eqb}
-use Rattle.lmn_heap.specs.Lists.{Each, In, Distinct, without}
+use Rattle.lmn_heap.specs.Lists.{Distinct, without}
 use Rattle.lmn_heap.proofs.ListLemmas.{each_in, in_without}
 use Rattle.lmn_heap.proofs.Listing.{in_without_of, distinct_without}
 use Rattle.lmn_congruence.specs.Orders.{Put, here, there, Shuffle, none, more}
 use Rattle.lmn_congruence.proofs.Solids.{put_map}
 use Rattle.lmn_base.proofs.Numbers.{not_equal as apart_test}
+use Rattle.lmn_base.specs.Lists.{In}
+use Rattle.std.specs.List.{AllByRecursion}
 
 put_without : (b : ℕ) (ys : List ℕ) → In b ys → Put b (without b ys) ys
 put_without b [] k = absurd k
@@ -40,7 +42,7 @@ put_distinct : {b : ℕ} {ys zs : List ℕ} → Put b ys zs → Distinct zs → 
 put_distinct here d = d.1
 put_distinct (there {y = b} {z = z} {ys = ys} {zs = zs} p) d = (others ys (λ c k. each_in (λ w. z ≢ w) zs c d.0 (put_keeps p c k)), put_distinct p d.1)
   where
-    others : (cs : List ℕ) → ((c : ℕ) → In c cs → z ≢ c) → Each (λ w. z ≢ w) cs
+    others : (cs : List ℕ) → ((c : ℕ) → In c cs → z ≢ c) → AllByRecursion (λ w. z ≢ w) cs
     others [] h = tt
     others (c ∷ cs) h = (h c (inl refl), others cs (λ w k. h w (inr k)))
 

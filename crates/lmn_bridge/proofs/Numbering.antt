@@ -6,7 +6,7 @@ use Rattle.lmn_base.specs.declared.level.Leaf.{Leaf}
 use Rattle.lmn_base.specs.declared.level.Leaf.TheVariants as leaf
 use Rattle.lmn_guards.specs.declared.plan.TypeKind.{TypeKind}
 use Rattle.lmn_heap.specs.Heap.{Heap, atoms_in, mems_in}
-use Rattle.lmn_heap.specs.Lists.{In, Distinct, without, without_all}
+use Rattle.lmn_heap.specs.Lists.{Distinct, without, without_all}
 use Rattle.lmn_heap.specs.Sound.{Forest, bare, mem, flat, Valid}
 use Rattle.lmn_heap.proofs.ListLemmas.{each_in}
 use Rattle.lmn_heap.proofs.Groves.{without_absent}
@@ -35,6 +35,7 @@ use Rattle.lmn_bridge.proofs.Back.{Reads, reads_split, fit_one}
 use Rattle.lmn_bridge.proofs.Lengths.{level_length, leaf_length}
 use Rattle.lmn_base.proofs.Lists.{weigh, weigh_append}
 use Rattle.lmn_base.proofs.Numbers.{not_equal as apart_test}
+use Rattle.lmn_base.specs.Lists.{In}
 
 -- ---- lists
 

@@ -10,7 +10,7 @@ use Rattle.lmn_base.specs.declared.functor.Label.TheVariants.{Name as ByName, In
 use Rattle.lmn_base.specs.Graphs.{Reached, at_root, Port}
 use Rattle.lmn_heap.specs.Heap.{Heap, arity_of, functor_of}
 use Rattle.lmn_heap.specs.Graphs.{atom_map}
-use Rattle.lmn_heap.specs.Lists.{In, Distinct}
+use Rattle.lmn_heap.specs.Lists.{Distinct}
 use Rattle.lmn_heap.proofs.ListLemmas.{each_in}
 use Rattle.lmn_solid.specs.Guards.{integer_by, integer_of_functor}
 use Rattle.lmn_congruence.specs.Links.{one_if_same}
@@ -28,6 +28,7 @@ use Rattle.lmn_bridge.proofs.SameWholes.{atom_is, links_length, pieces_are, piec
 use Rattle.lmn_base.proofs.Lists.{length_mapped}
 use Rattle.lmn_congruence.proofs.Counts.{none_if_apart as apart_none}
 use Rattle.lmn_heap.proofs.Replacing.{port_within}
+use Rattle.lmn_base.specs.Lists.{In}
 
 one_left : {A B : Type 0} {R : A → B → Type 0} {as' : List A} {bs : List B} (b : B) → Shuffle R as' bs → bs ≡ b ∷ [] → (a : A) × (as' ≡ a ∷ []) × R a b
 one_left b none e = absurd (cc)

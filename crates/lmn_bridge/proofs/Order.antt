@@ -6,7 +6,7 @@ use Rattle.lmn_base.specs.declared.level.Leaf.{Leaf}
 use Rattle.lmn_base.specs.declared.level.Leaf.TheVariants as leaf
 use Rattle.lmn_guards.specs.declared.plan.TypeKind.{TypeKind}
 use Rattle.lmn_heap.specs.Heap.{Heap, atoms_in, mems_in}
-use Rattle.lmn_heap.specs.Lists.{In, without, without_all}
+use Rattle.lmn_heap.specs.Lists.{without, without_all}
 use Rattle.lmn_heap.proofs.ListLemmas.{in_without}
 use Rattle.lmn_solid.specs.declared.items.HeadItem.{HeadItem}
 use Rattle.lmn_solid.specs.declared.items.HeadItem.TheVariants.{Atom, Typed, Membrane}
@@ -21,6 +21,7 @@ use Rattle.lmn_bridge.proofs.Walking.{Walk, walk_from, run, run_both, membranes_
 use Rattle.lmn_bridge.proofs.Runs.{in_run}
 use Rattle.lmn_base.proofs.Lists.{get_below}
 use Rattle.lmn_base.proofs.Numbers.{not_equal as apart_test}
+use Rattle.lmn_base.specs.Lists.{In}
 
 -- ---- places in a list
 

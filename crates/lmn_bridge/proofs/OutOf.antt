@@ -5,7 +5,7 @@ use Rattle.std.proofs.lemmas.List.{length-map}
 use Rattle.lmn_base.specs.declared.guard.Cond.{Cond}
 use Rattle.lmn_guards.specs.declared.plan.TypeKind.{TypeKind}
 use Rattle.lmn_heap.specs.Heap.{Heap, IsAtom, atoms_in, mems_in, rules_in, arity_of, link_of, functor_of}
-use Rattle.lmn_heap.specs.Lists.{In, Distinct}
+use Rattle.lmn_heap.specs.Lists.{Distinct}
 use Rattle.lmn_heap.specs.Sound.{Forest, flat, Forms, Valid}
 use Rattle.lmn_heap.proofs.ListLemmas.{each_in, in_left, in_right}
 use Rattle.lmn_heap.proofs.Trees.{nil_right, in_either}
@@ -53,6 +53,7 @@ use Rattle.lmn_heap.proofs.Common.{same_port}
 use Rattle.lmn_base.specs.declared.functor.Functor.{Functor}
 use Rattle.lmn_base.specs.Names.{HasNames, IsNames, label_names}
 use Rattle.lmn_bridge.specs.Premises.{IsRead}
+use Rattle.lmn_base.specs.Lists.{In}
 
 -- ---- lists by their indices
 

@@ -3,7 +3,7 @@ use Rattle.std.proofs.Common.{ℕ, ◌≡◌, ◌≢◌, List, [], ◌∷◌, ma
 use Rattle.lmn_base.specs.Graphs.{Reached, at_root, across, StandsWhole, Port}
 use Rattle.lmn_heap.specs.Heap.{Heap, IsAtom, atoms_in}
 use Rattle.lmn_heap.specs.Graphs.{atom_map}
-use Rattle.lmn_heap.specs.Lists.{Each, In, Distinct}
+use Rattle.lmn_heap.specs.Lists.{Distinct}
 use Rattle.lmn_heap.proofs.ListLemmas.{each_in, each_of}
 use Rattle.lmn_heap.proofs.Listing.{home_is}
 use Rattle.lmn_congruence.specs.Orders.{Put, Shuffle, none, more, here, there}
@@ -25,6 +25,8 @@ use Rattle.lmn_bridge.proofs.SameParts.{Renames, counted, count, same_flipped, s
 use Rattle.lmn_bridge.proofs.SameWholes.{WholePart, same_into, same_back}
 use Rattle.lmn_base.proofs.Lists.{map_itself as same_links}
 use Rattle.lmn_heap.proofs.Common.{decide_in}
+use Rattle.lmn_base.specs.Lists.{In}
+use Rattle.std.specs.List.{AllByRecursion}
 
 -- ---- atoms taken out of a list, in its order
 
@@ -77,7 +79,7 @@ none_left (more w s p) e = absurd (not_put p e)
     not_put (there p) e = cc
 
 module _ (h : Heap) (r : HeapReading) (read : IsRead h r) where
-  atoms_are : (part : List ℕ) → ((a : ℕ) → In a part → IsAtom h a) → Each (IsAtom h) part
+  atoms_are : (part : List ℕ) → ((a : ℕ) → In a part → IsAtom h a) → AllByRecursion (IsAtom h) part
   atoms_are part k = each_of (IsAtom h) part k
 
   listed_atom : (m a : ℕ) → In a (atoms_in h m) → IsAtom h a
@@ -87,7 +89,7 @@ module _ (h : Heap) (r : HeapReading) (read : IsRead h r) where
 
   module _ (m : ℕ) (root : Port) (x : ℕ) (xs : List ℕ) (g : Rooted) (p : IsGroundPart h r m root (x ∷ xs) g) where
     -- the atoms of a part are atoms
-    pub each_atom : Each (IsAtom h) (x ∷ xs)
+    pub each_atom : AllByRecursion (IsAtom h) (x ∷ xs)
     each_atom = atoms_are (x ∷ xs) (λ a k. listed_atom m a (p.inside a k))
 
     -- a part as atoms side by side
@@ -182,7 +184,7 @@ whole_parts_are_ground h r m root holder xs read whole link outside once has =
         (g : Rooted) × IsGroundPart h r m root part g
     by [] d reached holds stands = absurd (holds root.0 at_root)
     by (x ∷ ys) d reached holds stands =
-        let atoms : Each (IsAtom h) (x ∷ ys) = atoms_are h r read (x ∷ ys) (λ a k. listed_atom h r read m a (stands a k)) in
+        let atoms : AllByRecursion (IsAtom h) (x ∷ ys) = atoms_are h r read (x ∷ ys) (λ a k. listed_atom h r read m a (stands a k)) in
         let away : In holder.0 (x ∷ ys) → ⊥ = λ k. outside (reached holder.0 k) in
         let l : PartList h root = record {
           first = x;

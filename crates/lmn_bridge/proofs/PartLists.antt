@@ -4,7 +4,7 @@ use Rattle.std.proofs.lemmas.Bool.{cases_eq}
 use Rattle.lmn_base.specs.Graphs.{Reached, at_root, across, StandsWhole}
 use Rattle.lmn_heap.specs.Heap.{Heap, arity_of, link_of, atoms_in}
 use Rattle.lmn_heap.specs.Graphs.{atom_map}
-use Rattle.lmn_heap.specs.Lists.{Each, In, Distinct, without}
+use Rattle.lmn_heap.specs.Lists.{Distinct, without}
 use Rattle.lmn_heap.specs.Sound.{Valid}
 use Rattle.lmn_heap.proofs.ListLemmas.{each_in, each_of, in_without}
 use Rattle.lmn_heap.proofs.Listing.{home_is}
@@ -12,6 +12,8 @@ use Rattle.lmn_bridge.proofs.Weighing.{weigh_without}
 use Rattle.lmn_base.proofs.Lists.{weigh}
 use Rattle.lmn_heap.proofs.Replacing.{port_within}
 use Rattle.lmn_heap.proofs.Common.{decide_in}
+use Rattle.lmn_base.specs.Lists.{In}
+use Rattle.std.specs.List.{AllByRecursion}
 
 -- a list without one of its numbers is one shorter
 pub length_without : (a : ℕ) (xs : List ℕ) → In a xs → suc (length (without a xs)) ≡ length xs
@@ -80,7 +82,7 @@ module _ (h : Heap) (root : ℕ × ℕ) where
     ]
   ]
 
-  door_of : (xs : List ℕ) (ys : List ℕ) → Each (λ a. In a xs) ys → Door xs ⊎ ((a i : ℕ) → In a ys → ShutAt xs a i)
+  door_of : (xs : List ℕ) (ys : List ℕ) → AllByRecursion (λ a. In a xs) ys → Door xs ⊎ ((a i : ℕ) → In a ys → ShutAt xs a i)
   door_of xs [] e = inr (λ a i k. absurd k)
   door_of xs (y ∷ ys) e = elim (door_below xs y (arity_of h y) e.0) [
     | inl d ↦ inl d
@@ -114,16 +116,16 @@ module _ (h : Heap) (root : ℕ × ℕ) where
   remains : (xs rs : List ℕ) → Covers xs rs → (door : Door xs) → Reached (atom_map h) root door.beyond → In door.beyond rs
   remains xs rs cover door w = elim (cover door.beyond w) [ inl k ↦ absurd (door.new k) | inr k ↦ k ]
 
-  opened : (xs : List ℕ) → Each (Reached (atom_map h) root) xs → (door : Door xs) → Reached (atom_map h) root door.beyond
+  opened : (xs : List ℕ) → AllByRecursion (Reached (atom_map h) root) xs → (door : Door xs) → Reached (atom_map h) root door.beyond
   opened xs e door = across (each_in (Reached (atom_map h) root) xs door.atom e door.among) door.other door.link
 
-  finished : (x : ℕ) (xs : List ℕ) → Distinct (x ∷ xs) → Each (Reached (atom_map h) root) (x ∷ xs) → In root.0 (x ∷ xs) → ((a i : ℕ) → In a (x ∷ xs) → ShutAt (x ∷ xs) a i) → PartList
+  finished : (x : ℕ) (xs : List ℕ) → Distinct (x ∷ xs) → AllByRecursion (Reached (atom_map h) root) (x ∷ xs) → In root.0 (x ∷ xs) → ((a i : ℕ) → In a (x ∷ xs) → ShutAt (x ∷ xs) a i) → PartList
   finished x xs d e s shut = record { first = x; others = xs; once = d; reached = λ a k. each_in (Reached (atom_map h) root) (x ∷ xs) a e k; start = s; shut = λ a i b j k. shut a i k b j }
 
   any_door : (xs : List ℕ) → Door xs ⊎ ((a i : ℕ) → In a xs → ShutAt xs a i)
   any_door xs = door_of xs xs (each_of (λ a. In a xs) xs (λ a k. k))
 
-  grown : (n x : ℕ) (xs rs : List ℕ) → length rs ≤ n → Distinct (x ∷ xs) → Each (Reached (atom_map h) root) (x ∷ xs) → In root.0 (x ∷ xs) → Covers (x ∷ xs) rs → PartList
+  grown : (n x : ℕ) (xs rs : List ℕ) → length rs ≤ n → Distinct (x ∷ xs) → AllByRecursion (Reached (atom_map h) root) (x ∷ xs) → In root.0 (x ∷ xs) → Covers (x ∷ xs) rs → PartList
   grown zero x xs rs l d e s cover = elim (any_door (x ∷ xs)) [
     | inl door ↦ absurd (let w = length_without door.beyond rs (remains (x ∷ xs) rs cover door (opened (x ∷ xs) e door)) in omega (arith, l, w))
     | inr shut ↦ finished x xs d e s shut

@@ -3,7 +3,7 @@ use Rattle.std.proofs.Common.{ℕ, ◌≡◌, ◌<◌, List, ◌∷◌, Option, 
 use Rattle.lmn_base.specs.Graphs.{Reached as ReachedOnHeap, at_root, across as across_port, StandsWhole}
 use Rattle.lmn_heap.specs.Heap.{Heap, IsAtom, arity_of, link_of, home_of}
 use Rattle.lmn_heap.specs.Graphs.{atom_map}
-use Rattle.lmn_heap.specs.Lists.{Each, In, Distinct}
+use Rattle.lmn_heap.specs.Lists.{Distinct}
 use Rattle.lmn_heap.specs.Sound.{Valid}
 use Rattle.lmn_congruence.specs.Orders.{Among}
 use Rattle.lmn_reduction.specs.Parts.{IsGround, ReachesLink, the_root, across}
@@ -18,9 +18,11 @@ use Rattle.lmn_bridge.proofs.GroundParts.{rooted_at, at_among, among_atom, atom_
 use Rattle.lmn_base.proofs.Lists.{weigh}
 use Rattle.lmn_heap.proofs.Common.{same_port, decide_in}
 use Rattle.lmn_heap.proofs.Replacing.{port_within}
+use Rattle.lmn_base.specs.Lists.{In}
+use Rattle.std.specs.List.{AllByRecursion}
 
 module _ (h : Heap) (r : HeapReading) (v : Valid h) (naming : IsNaming h r.name) (root q : ℕ × ℕ) (link : link_of h root.0 root.1 ≡ Some q)
-    (x : ℕ) (xs : List ℕ) (once : Distinct (x ∷ xs)) (atoms : Each (IsAtom h) (x ∷ xs)) (away : In q.0 (x ∷ xs) → ⊥) (ground : IsGround (rooted_at h r root x xs)) where
+    (x : ℕ) (xs : List ℕ) (once : Distinct (x ∷ xs)) (atoms : AllByRecursion (IsAtom h) (x ∷ xs)) (away : In q.0 (x ∷ xs) → ⊥) (ground : IsGround (rooted_at h r root x xs)) where
   -- the atom of the root is among them
   pub root_inside : In root.0 (x ∷ xs)
   root_inside =

@@ -1,7 +1,7 @@
 -- The parts of typed contexts, given as lists of atoms, are taken out of a list that has their atoms.
 use Rattle.std.proofs.Common.{ℕ, ◌≡◌, ◌+◌, List, [], ◌∷◌, map, Some, refl, sym, ap, subst, ◌∙◌, inl, inr, arith}
 use Rattle.lmn_heap.specs.Heap.{Heap, IsAtom, atoms_in, link_of}
-use Rattle.lmn_heap.specs.Lists.{In, Distinct}
+use Rattle.lmn_heap.specs.Lists.{Distinct}
 use Rattle.lmn_heap.proofs.ListLemmas.{each_in, each_of, in_left, in_right, apart, distinct_left, distinct_right}
 use Rattle.lmn_congruence.specs.Links.{one_if_same}
 use Rattle.lmn_congruence.specs.Orders.{Put, there, Shuffle, none, more, here}
@@ -21,6 +21,7 @@ use Rattle.lmn_bridge.proofs.PartLaws.{picked}
 use Rattle.lmn_bridge.proofs.PartsOut.{PartsOut, parts_none, parts_atom, parts_typed, flattened, merged_either, merged_once}
 use Rattle.lmn_base.specs.Graphs.{Port}
 use Rattle.lmn_base.proofs.Lists.{weigh, weigh_append}
+use Rattle.lmn_base.specs.Lists.{In}
 
 -- ---- the same atoms in another order
 

@@ -1,7 +1,7 @@
 -- The parts of the typed contexts of a level, taken out of a list of atoms by their numbers.
 use Rattle.std.proofs.Common.{ℕ, ◌≡◌, ◌≢◌, ◌+◌, ◌⊎◌, List, [], ◌∷◌, ◌++◌, map, refl, sym, ap, subst, ◌∙◌, inl, inr, arith}
 use Rattle.std.proofs.lemmas.List.{append_assoc}
-use Rattle.lmn_heap.specs.Lists.{In, Distinct}
+use Rattle.lmn_heap.specs.Lists.{Distinct}
 use Rattle.lmn_heap.proofs.ListLemmas.{each_in, each_of, in_left, in_right}
 use Rattle.lmn_congruence.specs.Links.{places}
 use Rattle.lmn_congruence.specs.Regions.{SolidAtom}
@@ -11,6 +11,7 @@ use Rattle.lmn_reduction.specs.Parts.{IsGround, Rooted}
 use Rattle.lmn_adequacy.specs.Embedding.{TypedParts, no_part, no_part_of_atom, part_and, IsPart, Merged, merged_none, from_first, from_second}
 use Rattle.lmn_base.proofs.Lists.{weigh, weigh_append}
 use Rattle.lmn_congruence.proofs.TranslatedLinks.{places_append as places_both}
+use Rattle.lmn_base.specs.Lists.{In}
 
 -- each typed context of the leaves has its part, one list each
 pub data PartsOut (g : ℕ → SolidAtom) (link_of : ℕ → ℕ) (typed_of : Name → Rooted) : List Leaf → List (List ℕ) → List ℕ → List ℕ → Type 0 where

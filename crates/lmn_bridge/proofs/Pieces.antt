@@ -2,7 +2,7 @@
 use Rattle.std.proofs.Common.{ℕ, suc, ◌≡◌, ◌≢◌, ◌==◌, Bool, true, false, cond, List, [], ◌∷◌, map, Option, Some, None, IsSome, refl, sym, ap, subst, ◌∙◌, inl, inr}
 use Rattle.std.proofs.lemmas.Bool.{eq-eqb, eqb-true}
 use Rattle.lmn_heap.specs.Heap.{Heap, HeapAtom, IsAtom}
-use Rattle.lmn_heap.specs.Lists.{Each, In, Distinct, without}
+use Rattle.lmn_heap.specs.Lists.{Distinct, without}
 use Rattle.lmn_heap.specs.Solid.{links_from}
 use Rattle.lmn_heap.proofs.ListLemmas.{each_in}
 use Rattle.lmn_solid.specs.Embeddings.{index_of}
@@ -12,6 +12,8 @@ use Rattle.lmn_congruence.specs.Translation.{label_of}
 use Rattle.lmn_adequacy.specs.Embedding.{Taken, taken_first, taken_later}
 use Rattle.lmn_bridge.specs.HeapRegions.{HeapReading, atoms_at}
 use Rattle.lmn_base.proofs.Numbers.{not_equal as apart_test}
+use Rattle.lmn_base.specs.Lists.{In}
+use Rattle.std.specs.List.{AllByRecursion}
 
 -- an atom of the solid, by its number
 abbrev pub atom_by : HeapReading → ℕ → Option HeapAtom → SolidAtom
@@ -23,7 +25,7 @@ abbrev pub atom_at : Heap → HeapReading → ℕ → SolidAtom
 atom_at h r a = atom_by r a (h.atoms a)
 
 -- the atoms of a list stand one by one
-pub atoms_each : (h : Heap) (r : HeapReading) (xs : List ℕ) → Each (IsAtom h) xs → atoms_at h r xs ≡ map (atom_at h r) xs
+pub atoms_each : (h : Heap) (r : HeapReading) (xs : List ℕ) → AllByRecursion (IsAtom h) xs → atoms_at h r xs ≡ map (atom_at h r) xs
 atoms_each h r [] e = refl
 atoms_each h r (a ∷ xs) e = by (h.atoms a) refl e.0 (atoms_each h r xs e.1)
   where

@@ -1,7 +1,7 @@
 -- What lies in the region of a heap lies in the heap.
 use Rattle.std.proofs.Common.{ℕ, ◌≡◌, ◌≢◌, List, [], ◌∷◌, ◌++◌, map, refl, sym, ap, subst, ◌∙◌}
 use Rattle.lmn_heap.specs.Heap.{Heap, atoms_in, rules_in}
-use Rattle.lmn_heap.specs.Lists.{Each, In, Distinct, without, without_all}
+use Rattle.lmn_heap.specs.Lists.{Distinct, without, without_all}
 use Rattle.lmn_heap.specs.Sound.{Forest, bare, mem, Valid}
 use Rattle.lmn_heap.proofs.Listing.{in_without_of, distinct_without}
 use Rattle.lmn_congruence.specs.Regions.{SolidAtom, Region, Regions, region, region_and, region_process}
@@ -15,13 +15,15 @@ use Rattle.lmn_bridge.proofs.Counting.{list_atoms}
 use Rattle.lmn_bridge.proofs.PartsOut.{find_parts}
 use Rattle.lmn_bridge.proofs.Lying.{FitLeaves, fit_none, fit_atom, fit_typed, TakenTree, tree_first, tree_later, Kept, Lies, lies, LiesIn, lies_none, lies_and}
 use Rattle.lmn_adequacy.proofs.PlainSolids.{first_or as first_region, others as later_regions}
+use Rattle.lmn_base.specs.Lists.{In}
+use Rattle.std.specs.List.{AllByRecursion}
 
 -- the numbers of the images of leaves
 pub record FoundLeaves (g : ℕ → SolidAtom) (t : Assignment) (ls : List Leaf) (xs ns : List ℕ) (rest : List SolidAtom) : Type 0 where
   pub images : List ℕ
   pub fit : FitLeaves g t.link_of ls images
   pub distinct : Distinct images
-  pub among : Each (λ b. In b xs) images
+  pub among : AllByRecursion (λ b. In b xs) images
   pub places : ns ≡ numbers images xs
   pub others : rest ≡ map g (without_all images xs)
 
@@ -40,11 +42,11 @@ find_leaves g t xs d (image_and k i) e =
       others = w.others;
     }
   where
-    apart : (b : ℕ) (cs : List ℕ) → Each (λ c. In c (without b xs)) cs → Each (λ c. b ≢ c) cs
+    apart : (b : ℕ) (cs : List ℕ) → AllByRecursion (λ c. In c (without b xs)) cs → AllByRecursion (λ c. b ≢ c) cs
     apart b [] u = tt
     apart b (c ∷ cs) u = ((λ q. (in_without_of b c xs d u.0).1 (sym q)), apart b cs u.1)
 
-    wider : (b : ℕ) (cs : List ℕ) → Each (λ c. In c (without b xs)) cs → Each (λ c. In c xs) cs
+    wider : (b : ℕ) (cs : List ℕ) → AllByRecursion (λ c. In c (without b xs)) cs → AllByRecursion (λ c. In c xs) cs
     wider b [] u = tt
     wider b (c ∷ cs) u = ((in_without_of b c xs d u.0).0, wider b cs u.1)
 find_leaves g t xs d (typed_later i) e =

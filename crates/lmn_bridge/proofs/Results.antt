@@ -12,7 +12,7 @@ use Rattle.std.proofs.lemmas.Option.{same_Some}
 use Rattle.lmn_bridge.proofs.TypedFacts.{typed_held}
 use Rattle.std.specs.Prelude.{Option, None, IsSome, slice_get}
 use Rattle.lmn_heap.specs.Heap.{Heap, HeapMem, IsMem, rules_in, rules_by}
-use Rattle.lmn_heap.specs.Lists.{In, Distinct}
+use Rattle.lmn_heap.specs.Lists.{Distinct}
 use Rattle.lmn_heap.proofs.Trees.{nil_right}
 use Rattle.lmn_heap.specs.Sound.{Forest, bare, mem, flat, IsTree}
 use Rattle.lmn_solid.specs.Embeddings.{Images, Embeds, HasAtom, HasTyped}
@@ -47,6 +47,7 @@ use Rattle.lmn_solid.specs.declared.items.HeadItem.{HeadItem}
 use Rattle.lmn_bridge.specs.Numbers.{numbers_left}
 use Rattle.lmn_base.specs.Graphs.{Port}
 use Rattle.lmn_congruence.proofs.TranslatedNames.{each_part}
+use Rattle.lmn_base.specs.Lists.{In}
 
 -- what an accepted rule's head is like
 module _ (r : HeapReading) (rule : RuleTree) (kind : ℕ → TypeKind) (k : IsRule r rule) where

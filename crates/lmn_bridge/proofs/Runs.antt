@@ -3,7 +3,7 @@ use Rattle.std.proofs.Common.{ℕ, zero, suc, ◌≡◌, ◌≢◌, ◌+◌, ◌
 use Rattle.std.specs.Prelude.{slice_get, slice_index_or}
 use Rattle.std.proofs.lemmas.Bool.{cases_eq}
 use Rattle.std.proofs.lemmas.Option.{same_Some}
-use Rattle.lmn_heap.specs.Lists.{Each, In, Distinct}
+use Rattle.lmn_heap.specs.Lists.{Distinct}
 use Rattle.lmn_heap.proofs.ListLemmas.{in_left, in_right}
 use Rattle.lmn_solid.specs.Heads.{HeadMembrane}
 use Rattle.lmn_congruence.specs.Links.{places}
@@ -12,6 +12,8 @@ use Rattle.lmn_bridge.proofs.PartsOut.{flattened}
 use Rattle.lmn_bridge.proofs.Walking.{run}
 use Rattle.lmn_congruence.proofs.TranslatedLinks.{places_append as places_both}
 use Rattle.lmn_heap.proofs.Trees.{in_either}
+use Rattle.lmn_base.specs.Lists.{In}
+use Rattle.std.specs.List.{AllByRecursion}
 
 -- a value of a row is in it
 pub run_in : (f : ℕ → ℕ) (n k i : ℕ) → i < k → In (f (n + i)) (run f n k)
@@ -40,7 +42,7 @@ run_distinct f n (suc k) h = (
       omega (arith, u)),
 )
   where
-    away : (xs : List ℕ) → ((b : ℕ) → In b xs → (i : ℕ) × (i < k) × (f ((n + 1) + i) ≡ b)) → Each (λ b. f n ≢ b) xs
+    away : (xs : List ℕ) → ((b : ℕ) → In b xs → (i : ℕ) × (i < k) × (f ((n + 1) + i) ≡ b)) → AllByRecursion (λ b. f n ≢ b) xs
     away [] g = tt
     away (x ∷ xs) g = (
       (λ e.

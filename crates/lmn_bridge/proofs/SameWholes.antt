@@ -9,7 +9,6 @@ use Rattle.lmn_base.specs.Graphs.{Reached as ReachedOnHeap, SameGraph as SameOnH
 use Rattle.lmn_base.specs.Names.{IsNames, HasNames, label_names}
 use Rattle.lmn_heap.specs.Heap.{Heap, IsAtom, arity_of, link_of, functor_of}
 use Rattle.lmn_heap.specs.Graphs.{atom_map}
-use Rattle.lmn_heap.specs.Lists.{Each, In}
 use Rattle.lmn_heap.specs.Solid.{links_from, IsNaming}
 use Rattle.lmn_heap.specs.Sound.{Valid}
 use Rattle.lmn_heap.proofs.ListLemmas.{each_in}
@@ -35,11 +34,13 @@ use Rattle.lmn_base.proofs.Numbers.{not_equal as apart_test}
 use Rattle.lmn_congruence.proofs.Counts.{none_if_apart as apart_none, one_if_equal as same_one}
 use Rattle.lmn_heap.proofs.Common.{length_numbered, same_port}
 use Rattle.lmn_heap.proofs.Replacing.{port_within}
+use Rattle.lmn_base.specs.Lists.{In}
+use Rattle.std.specs.List.{AllByRecursion}
 
 -- A part of a heap, with the port to which its root is joined. This one isn't of the part.
 pub record WholePart (h : Heap) (root : ℕ × ℕ) : Type 0 where
   pub list : PartList h root
-  pub atoms : Each (IsAtom h) (list.first ∷ list.others)
+  pub atoms : AllByRecursion (IsAtom h) (list.first ∷ list.others)
   pub holder : ℕ × ℕ
   pub link : link_of h root.0 root.1 ≡ Some holder
   pub away : In holder.0 (list.first ∷ list.others) → ⊥

@@ -4,7 +4,6 @@ use Rattle.std.specs.Prelude.{slice_get}
 use Rattle.lmn_base.specs.declared.level.Leaf.{Leaf}
 use Rattle.lmn_base.specs.declared.level.Leaf.TheVariants as leaf
 use Rattle.lmn_guards.specs.declared.plan.TypeKind.{TypeKind}
-use Rattle.lmn_heap.specs.Lists.{In}
 use Rattle.lmn_solid.specs.declared.items.HeadItem.{HeadItem}
 use Rattle.lmn_solid.specs.declared.items.HeadItem.TheVariants.{Atom, Typed, Membrane}
 use Rattle.lmn_solid.specs.Flattening.{leaf_items}
@@ -20,6 +19,7 @@ use Rattle.lmn_bridge.proofs.Laying.{only_atom}
 use Rattle.lmn_bridge.proofs.Walking.{Walk, walk_join, walk_typed, atoms_in_items, typed_in_items, membranes_in_items}
 use Rattle.lmn_base.specs.Graphs.{Port}
 use Rattle.lmn_congruence.proofs.Common.{among_left, among_right, among_apart}
+use Rattle.lmn_base.specs.Lists.{In}
 
 among_in : {x : ℕ} (xs : List ℕ) → Among x xs → In x xs
 among_in [] k = elim k [ ]

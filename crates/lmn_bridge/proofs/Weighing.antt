@@ -2,7 +2,7 @@
 use Rattle.std.proofs.Common.{ℕ, ◌≡◌, ◌+◌, ◌≤◌, ◌==◌, Bool, true, false, cond, List, [], ◌∷◌, ◌++◌, map, refl, sym, ap, subst, ◌∙◌, inl, inr, arith}
 use Rattle.std.proofs.lemmas.Bool.{cases_eq, eq-eqb, eqb-true}
 use Rattle.lmn_heap.specs.Heap.{Heap, atoms_in}
-use Rattle.lmn_heap.specs.Lists.{Each, In, Distinct, without, without_all}
+use Rattle.lmn_heap.specs.Lists.{Distinct, without, without_all}
 use Rattle.lmn_heap.specs.Sound.{Forest, mem, flat}
 use Rattle.lmn_congruence.specs.Links.{one_if_same, places}
 use Rattle.lmn_congruence.specs.LinkedRules.{leaves_occurrences, level_occurrences, levels_occurrences}
@@ -22,6 +22,8 @@ use Rattle.lmn_base.proofs.Lists.{weigh, weigh_append}
 use Rattle.lmn_adequacy.proofs.Images.{places_least as places_map}
 use Rattle.lmn_base.proofs.Numbers.{not_equal as apart_test}
 use Rattle.lmn_congruence.proofs.Counts.{one_if_equal as same_one}
+use Rattle.lmn_base.specs.Lists.{In}
+use Rattle.std.specs.List.{AllByRecursion}
 
 -- one and the others weigh what there was
 pub weigh_without : (w : ℕ → ℕ) (b : ℕ) (xs : List ℕ) → In b xs → w b + weigh w (without b xs) ≡ weigh w xs
@@ -34,12 +36,12 @@ weigh_without w b (x ∷ xs) i = by (x == b) refl i (weigh_without w b xs)
     by false e (inr j) later = omega (arith, later j)
 
 -- some and what is left weigh what there was
-pub weigh_left : (w : ℕ → ℕ) (bs xs : List ℕ) → Distinct bs → Each (λ b. In b xs) bs → weigh w bs + weigh w (without_all bs xs) ≡ weigh w xs
+pub weigh_left : (w : ℕ → ℕ) (bs xs : List ℕ) → Distinct bs → AllByRecursion (λ b. In b xs) bs → weigh w bs + weigh w (without_all bs xs) ≡ weigh w xs
 weigh_left w [] xs d e = omega arith
 weigh_left w (b ∷ bs) xs d e = omega (arith, weigh_left w bs (without b xs) d.1 (each_without b xs bs d.0 e.1), weigh_without w b xs e.0)
 
 -- images, parts and what is left of a list
-pub weigh_out : (w : ℕ → ℕ) {g : ℕ → SolidAtom} {link_of : ℕ → ℕ} {typed_of : Name → Rooted} {ls : List Leaf} {parts : List (List ℕ)} (bs xs : List ℕ) {rest : List ℕ} → Distinct bs → Each (λ b. In b xs) bs →
+pub weigh_out : (w : ℕ → ℕ) {g : ℕ → SolidAtom} {link_of : ℕ → ℕ} {typed_of : Name → Rooted} {ls : List Leaf} {parts : List (List ℕ)} (bs xs : List ℕ) {rest : List ℕ} → Distinct bs → AllByRecursion (λ b. In b xs) bs →
     PartsOut g link_of typed_of ls parts (without_all bs xs) rest → (weigh w bs + weigh w (flattened parts)) + weigh w rest ≡ weigh w xs
 weigh_out w bs xs d e out = omega (arith, weigh_left w bs xs d e, parts_weigh w out)
 

@@ -5,7 +5,7 @@ use Rattle.std.proofs.lemmas.Bool.{cases_eq}
 use Rattle.lmn_base.specs.declared.rule.RuleTree.{RuleTree}
 use Rattle.lmn_guards.specs.declared.plan.TypeKind.{TypeKind}
 use Rattle.lmn_heap.specs.Heap.{Heap, HeapMem, IsAtom, IsMem, atoms_by, atoms_in, mems_in, rules_in, arity_of, link_of, home_of}
-use Rattle.lmn_heap.specs.Lists.{Each, In, Distinct}
+use Rattle.lmn_heap.specs.Lists.{Distinct}
 use Rattle.lmn_heap.specs.Sound.{Forest, bare, mem, flat, Forms, IsTree, Valid}
 use Rattle.lmn_heap.proofs.ListLemmas.{distinct_left, distinct_right, in_left, in_right}
 use Rattle.lmn_heap.proofs.Trees.{in_either}
@@ -32,6 +32,8 @@ use Rattle.lmn_bridge.proofs.Lying.{TakenTree, tree_first, tree_later}
 use Rattle.lmn_base.proofs.Lists.{weigh}
 use Rattle.lmn_adequacy.proofs.Embedding.{in_a_membrane as below}
 use Rattle.lmn_heap.proofs.Common.{linked_atom}
+use Rattle.lmn_base.specs.Lists.{In}
+use Rattle.std.specs.List.{AllByRecursion}
 
 -- ---- the process of a heap is closed
 
@@ -118,7 +120,7 @@ out_of_put g (k ∷ ks) (there {z = z} {zs = zs} p) e = let q : zs ≡ map g ks 
 pub taken_forest : (h : Heap) {n m : ℕ} {i f f' : Forest} (ms : List ℕ) → TakenTree n m i f f' → Forms h f ms → Distinct (flat f) → HasForest h m i
 taken_forest h ms (tree_first {m = m} {i = i} {f = f}) F d = record { forms = F.2; once = (each_left (flat i) d.0, distinct_left (flat i) (flat f) d.1) }
   where
-    each_left : (xs : List ℕ) → Each (λ b. m ≢ b) (xs ++ flat f) → Each (λ b. m ≢ b) xs
+    each_left : (xs : List ℕ) → AllByRecursion (λ b. m ≢ b) (xs ++ flat f) → AllByRecursion (λ b. m ≢ b) xs
     each_left [] e = tt
     each_left (x ∷ xs) e = (e.0, each_left xs e.1)
 taken_forest h ms (tree_later {j = j} {f = f} t) F d = taken_forest h F.0 t F.3 (distinct_right (flat j) (flat f) d.1)

@@ -5,7 +5,6 @@ use Rattle.lmn_base.specs.declared.level.Level.{Level}
 use Rattle.lmn_base.specs.declared.rule.RuleTree.{RuleTree}
 use Rattle.lmn_guards.specs.declared.plan.TypeKind.{TypeKind}
 use Rattle.lmn_heap.specs.Heap.{Heap, IsMem, rules_in}
-use Rattle.lmn_heap.specs.Lists.{In}
 use Rattle.lmn_heap.specs.Sound.{Forest, bare, mem, IsTree, Valid}
 use Rattle.lmn_solid.specs.Embeddings.{Images, Embeds, IsLeast, positions, ListNotAfter, meaning}
 use Rattle.lmn_solid.specs.Guards.{HoldsOnHeap}
@@ -29,6 +28,7 @@ use Rattle.lmn_heap.specs.Solid.{IsNaming, regions_of}
 use Rattle.lmn_bridge.specs.Numbers.{numbers_left}
 use Rattle.lmn_bridge.specs.Premises.{IsRead, HasForest, HasRules, IsRule, HasKinds, HasTypes}
 use Rattle.lmn_bridge.specs.Parts.{TakesParts}
+use Rattle.lmn_base.specs.Lists.{In}
 
 -- The head of a rule lies in a region at these numbers, its guard aside.
 pub record LiesInRegion (rule : Rule) (ns : List ℕ) (m : Region) (t : Assignment) : Type 0 where

@@ -4,7 +4,7 @@ use Rattle.lmn_base.specs.declared.rule.RuleTree.{RuleTree}
 use Rattle.lmn_base.specs.Graphs.{Reached, StandsWhole, SameGraph as SameOnHeap, Port}
 use Rattle.lmn_heap.specs.Heap.{Heap, link_of, atoms_in}
 use Rattle.lmn_heap.specs.Graphs.{atom_map}
-use Rattle.lmn_heap.specs.Lists.{Distinct, In}
+use Rattle.lmn_heap.specs.Lists.{Distinct}
 use Rattle.lmn_solid.specs.Guards.{IsUnaryPart as UnaryOnHeap, integer_at}
 use Rattle.lmn_reduction.specs.Parts.{Rooted, IsGround, IsInteger, IsUnary, EqualParts}
 use Rattle.lmn_adequacy.specs.Embedding.{IsPart, Merged}
@@ -18,6 +18,7 @@ use Rattle.lmn_solid.specs.Heads.{HeadTyped}
 use Rattle.lmn_congruence.specs.Rules.{Name}
 use Rattle.lmn_congruence.specs.Translation.{name_of}
 use Rattle.lmn_bridge.specs.Premises.{IsRead}
+use Rattle.lmn_base.specs.Lists.{In}
 
 -- Some atoms of a membrane are, in the calculus, a ground part with this root. The root is joined to a port of an atom
 -- that isn't one of them.

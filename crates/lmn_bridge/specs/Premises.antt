@@ -5,7 +5,7 @@ use Rattle.lmn_base.specs.declared.rule.RuleTree.{RuleTree}
 use Rattle.lmn_base.specs.Names.{IsNames, HasNames, label_names, rule_names}
 use Rattle.lmn_base.specs.WellMade.{IsWellMadeRule}
 use Rattle.lmn_heap.specs.Heap.{Heap, functor_of, mems_in, rules_in}
-use Rattle.lmn_heap.specs.Lists.{Distinct, In}
+use Rattle.lmn_heap.specs.Lists.{Distinct}
 use Rattle.lmn_heap.specs.Sound.{Forest, Forms, Valid, flat}
 use Rattle.lmn_congruence.specs.Rules.{Name}
 use Rattle.lmn_congruence.specs.Translation.{rule_tree, name_of}
@@ -19,6 +19,7 @@ use Rattle.lmn_solid.specs.Heads.{HeadTyped}
 use Rattle.lmn_adequacy.specs.Accepted.{Accepted}
 use Rattle.lmn_heap.specs.Solid.{IsNaming}
 use Rattle.lmn_bridge.specs.HeapRegions.{HeapReading}
+use Rattle.lmn_base.specs.Lists.{In}
 
 -- a heap between commits, and how it is read: its links have numbers, and its names stand in the list
 pub record IsRead (h : Heap) (r : HeapReading) : Type 0 where

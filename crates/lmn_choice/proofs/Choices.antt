@@ -5,7 +5,6 @@ use Rattle.std.proofs.lemmas.Option.{same_Some}
 use Rattle.lmn_base.specs.declared.rule.RuleTree.{RuleTree}
 use Rattle.lmn_guards.specs.declared.plan.GuardPlan.{GuardPlan}
 use Rattle.lmn_heap.specs.Heap.{Heap, mems_in, rules_in}
-use Rattle.lmn_heap.specs.Lists.{In}
 use Rattle.lmn_heap.specs.Sound.{Forest}
 use Rattle.lmn_heap.proofs.Groves.{forms_one}
 use Rattle.lmn_heap.proofs.Trees.{in_here, is_mem}
@@ -36,6 +35,7 @@ use Rattle.lmn_choice.proofs.Paths.{forest_there, leads_to_one}
 use Rattle.lmn_choice.proofs.Placed.{AtEnd, at_end, at_path}
 use Rattle.lmn_choice.proofs.Renumbering.{table_as}
 use Rattle.lmn_heap.proofs.Common.{in_at as got_in}
+use Rattle.lmn_base.specs.Lists.{In}
 
 module _ (table : List RuleTree) (plans : List GuardPlan) (codes : List Code) (c : HaveCodes table plans codes) (h : Heap) (r : HeapReading) (inner : Forest) (w : IsReadWith h r inner table)
     (from : ℕ) (code : Code) (s : Registers) (ch : IsChosen from codes h inner code s) where

@@ -6,7 +6,6 @@ use Rattle.lmn_guards.specs.declared.plan.GuardPlan.{GuardPlan}
 use Rattle.lmn_guards.specs.GuardCodes.{type_of}
 use Rattle.lmn_guards.proofs.AcceptedLemmas.{in_order}
 use Rattle.lmn_heap.specs.Heap.{Heap, rules_in}
-use Rattle.lmn_heap.specs.Lists.{In}
 use Rattle.lmn_heap.specs.Sound.{Forest}
 use Rattle.lmn_instr.specs.declared.instr.Code.{Code}
 use Rattle.lmn_instr.specs.Running.{Succeeds}
@@ -25,6 +24,7 @@ use Rattle.lmn_strategy.specs.Choosing.{CodeSucceeds}
 use Rattle.lmn_choice.specs.Turns.{HaveCodes}
 use Rattle.lmn_base.proofs.Lists.{get_below, get_there as get_some}
 use Rattle.lmn_turn.proofs.PlanTypes.{is_of}
+use Rattle.lmn_base.specs.Lists.{In}
 
 -- A rule of a membrane, by its number: its tree, its plan and its code.
 pub record Coded (r : HeapReading) (table : List RuleTree) (plans : List GuardPlan) (codes : List Code) (k : ℕ) : Type 0 where

@@ -4,7 +4,7 @@ use Rattle.std.specs.Prelude.{Bool, true, false, cond}
 use Rattle.std.specs.Option.{option_and_then}
 use Rattle.lmn_base.specs.Graphs.{Reached, at_root, across, Port}
 use Rattle.lmn_heap.specs.Graphs.{atom_map}
-use Rattle.lmn_heap.specs.Heap.{Heap, Distinct, In, IsAtom, arity_of, link_of}
+use Rattle.lmn_heap.specs.Heap.{Heap, Distinct, IsAtom, arity_of, link_of}
 use Rattle.lmn_heap.specs.Sound.{Sound}
 use Rattle.lmn_heap.proofs.Depths.{both_distinct}
 use Rattle.lmn_heap.proofs.Pigeonholes.{not_longer}
@@ -21,6 +21,7 @@ use Rattle.lmn_commit.proofs.Waiting.{makes_copy}
 use Rattle.lmn_choice.proofs.Runs.{Bounded}
 use Rattle.lmn_heap.proofs.Common.{decide_in, is_atom_at}
 use Rattle.lmn_heap.proofs.Replacing.{port_within}
+use Rattle.lmn_base.specs.Lists.{In}
 
 -- ---- a walk
 

@@ -5,7 +5,6 @@ use Rattle.std.proofs.lemmas.Option.{same_Some}
 use Rattle.lmn_base.specs.declared.rule.RuleTree.{RuleTree}
 use Rattle.lmn_guards.specs.declared.plan.GuardPlan.{GuardPlan}
 use Rattle.lmn_heap.specs.Heap.{Heap, rules_in}
-use Rattle.lmn_heap.specs.Lists.{In}
 use Rattle.lmn_heap.specs.Sound.{Forest}
 use Rattle.lmn_heap.proofs.Trees.{is_mem}
 use Rattle.lmn_instr.specs.declared.instr.Code.{Code}
@@ -20,6 +19,7 @@ use Rattle.lmn_choice.specs.Laws.{EndsByCode, NothingEmbeds}
 use Rattle.lmn_choice.specs.Turns.{membranes_in_preorder, tree_over, heap_region, HaveCodes, IsReadWith}
 use Rattle.lmn_choice.proofs.Codes.{coded}
 use Rattle.lmn_base.proofs.Lists.{get_below, get_there as get_some}
+use Rattle.lmn_base.specs.Lists.{In}
 
 -- the plan with a number
 abbrev plan_at : List GuardPlan → ℕ → GuardPlan

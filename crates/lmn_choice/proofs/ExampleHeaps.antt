@@ -2,11 +2,11 @@
 use Rattle.std.proofs.Common.{ℕ, ◌≡◌, [], Option, Some, None, IsSome, refl, sym, subst, inl, inr, arith}
 use Rattle.lmn_heap.specs.Examples.{across}
 use Rattle.lmn_heap.specs.Heap.{HeapMem, rules_by, rules_in}
-use Rattle.lmn_heap.specs.Lists.{In}
 use Rattle.lmn_heap.specs.Sound.{IsTree}
 use Rattle.lmn_choice.specs.Examples.{inner, AcrossIsReadWith, AcrossHasTwoPaths}
 use Rattle.lmn_choice.specs.Turns.{tree_over}
 use Rattle.lmn_heap.proofs.ExampleProofs.{mem_cases}
+use Rattle.lmn_base.specs.Lists.{In}
 
 no_mem : (o : Option HeapMem) → o ≡ None → IsSome o → ⊥
 no_mem None e i = absurd (cc)

@@ -4,7 +4,7 @@ use Rattle.std.specs.Prelude.{slice_get}
 use Rattle.lmn_base.specs.declared.guard.Cond.{Cond}
 use Rattle.lmn_base.specs.Graphs.{StandsWhole}
 use Rattle.lmn_heap.specs.Graphs.{atom_map}
-use Rattle.lmn_heap.specs.Heap.{Heap, In, atoms_in, functor_of, mems_in, rules_in}
+use Rattle.lmn_heap.specs.Heap.{Heap, atoms_in, functor_of, mems_in, rules_in}
 use Rattle.lmn_solid.specs.declared.items.HeadItem.{HeadItem}
 use Rattle.lmn_solid.specs.declared.items.HeadItem.TheVariants.{Atom, Typed, Membrane}
 use Rattle.lmn_solid.specs.Heads.{HeadAtom, HeadMembrane, atoms_of, membranes_of, outermost}
@@ -13,6 +13,7 @@ use Rattle.lmn_compile_head.specs.Heads.{EachInside, IsHead}
 use Rattle.lmn_compile_head.proofs.Nesting.{atoms_nested, membranes_nested}
 use Rattle.lmn_base.proofs.Lists.{get_below}
 use Rattle.lmn_matching.proofs.Order.{outer_less, typed_nested}
+use Rattle.lmn_base.specs.Lists.{In}
 
 -- ---- numbers
 

@@ -4,7 +4,7 @@ use Rattle.std.specs.Option.{option_map}
 use Rattle.std.proofs.lemmas.Bool.{cases_eq}
 use Rattle.lmn_base.specs.declared.rule.RuleTree.{RuleTree}
 use Rattle.lmn_guards.specs.declared.plan.GuardPlan.{GuardPlan}
-use Rattle.lmn_heap.specs.Heap.{Heap, HeapMem, In, IsMem, link_of, mems_in, rules_in, spare_of, within}
+use Rattle.lmn_heap.specs.Heap.{Heap, HeapMem, IsMem, link_of, mems_in, rules_in, spare_of, within}
 use Rattle.lmn_heap.specs.Sound.{Forest, Valid}
 use Rattle.lmn_heap.proofs.Trees.{is_mem}
 use Rattle.lmn_solid.specs.Heads.{HeadTyped, atoms_of, membranes_of as head_membranes}
@@ -42,6 +42,7 @@ use Rattle.lmn_base.specs.Graphs.{Port}
 use Rattle.lmn_base.proofs.Lists.{weigh as total, get_below, get_there as get_some}
 use Rattle.lmn_heap.proofs.Common.{is_atom_at, mem_stands as mem_in_place, same_port}
 use Rattle.lmn_heap.proofs.Replacing.{port_within}
+use Rattle.lmn_base.specs.Lists.{In}
 
 -- an element of a list is at most the sum of all
 in_total : (xs : List ℕ) (x : ℕ) → In x xs → x ≤ total (λ z. z) xs

@@ -3,7 +3,7 @@ use Rattle.std.proofs.Common.{ℕ, ◌≡◌, ◌≢◌, ◌⊎◌, ◌+◌, ◌
 use Rattle.std.specs.Option.{option_map}
 use Rattle.std.proofs.lemmas.Bool.{cases_eq, eqb-true}
 use Rattle.lmn_base.specs.declared.functor.Functor.{Functor}
-use Rattle.lmn_heap.specs.Heap.{Heap, HeapMem, In, IsMem, alter, made_atom, made_mem, mem_with_spare, new_atom, new_mem, reserved, spare_by, spare_of}
+use Rattle.lmn_heap.specs.Heap.{Heap, HeapMem, IsMem, alter, made_atom, made_mem, mem_with_spare, new_atom, new_mem, reserved, spare_by, spare_of}
 use Rattle.lmn_body.specs.declared.items.BodyItem.{BodyItem}
 use Rattle.lmn_body.specs.declared.items.BodyItem.TheVariants.{Atom, Connector, Copy, Bound, Membrane, Rest, Rule, Rules}
 use Rattle.lmn_body.specs.Added.{added_rules, if_inside}
@@ -24,6 +24,7 @@ use Rattle.lmn_choice.proofs.Runs.{Bounded}
 use Rattle.lmn_base.specs.Graphs.{Port}
 use Rattle.lmn_heap.proofs.Common.{decide_in}
 use Rattle.lmn_heap.proofs.Listing.{alter_at as altered_at, alter_away as altered_away}
+use Rattle.lmn_base.specs.Lists.{In}
 
 some_kept : (o : Option HeapMem) (n : ℕ) → IsSome o → IsSome (option_map (mem_with_spare n) o)
 some_kept None n i = absurd (cc)

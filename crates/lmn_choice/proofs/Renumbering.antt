@@ -4,7 +4,6 @@ use Rattle.std.proofs.lemmas.List.{map-append}
 use Rattle.std.specs.Prelude.{slice_get}
 use Rattle.lmn_base.specs.declared.rule.RuleTree.{RuleTree}
 use Rattle.lmn_heap.specs.Heap.{Heap, HeapAtom, IsAtom, arity_of, atoms_in, home_of, rules_in}
-use Rattle.lmn_heap.specs.Lists.{In}
 use Rattle.lmn_heap.specs.Solid.{solid_atom_at, solid_atoms_at, links_from, IsNaming}
 use Rattle.lmn_heap.specs.Sound.{Forest, bare, mem, IsTree, Valid}
 use Rattle.lmn_heap.proofs.Trees.{in_either}
@@ -30,6 +29,7 @@ use Rattle.lmn_base.specs.Graphs.{Port}
 use Rattle.lmn_base.proofs.Lists.{weigh, some_is as home_is}
 use Rattle.lmn_heap.proofs.Common.{atom_with_links as ported, holds_mem, in_at as got_in}
 use Rattle.lmn_turn.proofs.Turned.{read_as as rule_as}
+use Rattle.lmn_base.specs.Lists.{In}
 
 -- ---- the region with other numbers
 

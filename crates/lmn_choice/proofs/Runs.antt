@@ -3,7 +3,7 @@ use Rattle.std.proofs.Common.{ℕ, ◌≡◌, ◌==◌, Bool, true, false, cond,
 use Rattle.std.specs.Prelude.{◌&&◌}
 use Rattle.std.specs.Option.{option_map, option_and_then}
 use Rattle.std.proofs.lemmas.Bool.{eq-eqb}
-use Rattle.lmn_heap.specs.Heap.{Heap, HeapAtom, IsAtom, In, alter, after, atom_sent, cleared, finished, from, gone, joined, link_of, linked, moved_all, placed, placed_mem, rule_added, rules_copied, taken, taken_mem, unless_gone, with_link, with_place, within, taken_all}
+use Rattle.lmn_heap.specs.Heap.{Heap, HeapAtom, IsAtom, alter, after, atom_sent, cleared, finished, from, gone, joined, link_of, linked, moved_all, placed, placed_mem, rule_added, rules_copied, taken, taken_mem, unless_gone, with_link, with_place, within, taken_all}
 use Rattle.lmn_heap.specs.Splice.{joined_both, joined_to}
 use Rattle.lmn_splice.specs.Ties.{Tie, newlink, relink, unify}
 use Rattle.lmn_instr.specs.declared.instr.Instr.{Instr}
@@ -14,6 +14,7 @@ use Rattle.lmn_body.specs.Tied.{tied}
 use Rattle.lmn_cost.proofs.Finite.{part_listed}
 use Rattle.lmn_base.specs.Graphs.{Port}
 use Rattle.lmn_heap.proofs.Common.{in_place_atom}
+use Rattle.lmn_base.specs.Lists.{In}
 
 -- ---- no atom comes in
 

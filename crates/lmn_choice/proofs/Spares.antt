@@ -3,7 +3,7 @@ use Rattle.std.proofs.Common.{ℕ, ◌≡◌, ◌<◌, List, [], ◌∷◌, ◌+
 use Rattle.std.specs.Prelude.{slice_index_or, length}
 use Rattle.std.specs.Option.{option_map}
 use Rattle.lmn_heap.specs.Heap.{Heap, HeapMem, atoms_by, mems_by, rules_by, atoms_in, partners_of, mem_with_spare, mems_in, rules_in}
-use Rattle.lmn_heap.specs.Lists.{In, Distinct}
+use Rattle.lmn_heap.specs.Lists.{Distinct}
 use Rattle.lmn_heap.specs.Solid.{solid_atom_at, solid_atoms_at, IsNaming}
 use Rattle.lmn_heap.specs.Sound.{Forest, bare, mem, flat, Forms, IsTree}
 use Rattle.lmn_heap.proofs.Groves.{forms_frame}
@@ -13,6 +13,7 @@ use Rattle.lmn_congruence.specs.Translation.{solid_atom_of}
 use Rattle.lmn_bridge.specs.HeapRegions.{HeapReading, atoms_at, regions_at}
 use Rattle.lmn_choice.specs.Laws.{SparesAreNotRead}
 use Rattle.lmn_choice.specs.Turns.{tree_over, heap_region}
+use Rattle.lmn_base.specs.Lists.{In}
 
 -- a membrane with other room has the same lists
 same_lists : (o : Option HeapMem) (k : ℕ) → (atoms_by (option_map (mem_with_spare k) o) ≡ atoms_by o) × (mems_by (option_map (mem_with_spare k) o) ≡ mems_by o) × (rules_by (option_map (mem_with_spare k) o) ≡ rules_by o)

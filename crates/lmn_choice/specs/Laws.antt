@@ -3,7 +3,6 @@ use Rattle.std.specs.Prelude.{ℕ, ◌≡◌, ◌↔◌, List, [], ◌∷◌, le
 use Rattle.lmn_base.specs.declared.rule.RuleTree.{RuleTree}
 use Rattle.lmn_guards.specs.declared.plan.GuardPlan.{GuardPlan}
 use Rattle.lmn_heap.specs.Heap.{Heap, rules_in}
-use Rattle.lmn_heap.specs.Lists.{In}
 use Rattle.lmn_heap.specs.Sound.{Forest, IsTree, Valid}
 use Rattle.lmn_instr.specs.declared.instr.Code.{Code}
 use Rattle.lmn_body.specs.Running.{Registers, RunsBody}
@@ -22,6 +21,7 @@ use Rattle.lmn_strategy.specs.Choosing.{CodeSucceeds, NoneIn, asked as asked_on_
 use Rattle.lmn_turn.specs.Commits.{IsTable}
 use Rattle.lmn_turn.specs.Turning.{Leads, renumbered_reading}
 use Rattle.lmn_choice.specs.Turns.{tree_over, membranes_in_preorder, heap_region, HaveCodes, IsReadWith, IsChosen, IsChoice, IsNextHeap, IsNumberedAnew}
+use Rattle.lmn_base.specs.Lists.{In}
 
 -- Two lists are as long, and what has one number in both is related.
 pub data EachWith {A B : Type 0} (R : A → B → Type 0) : List A → List B → Type 0 where

@@ -4,7 +4,7 @@ use Rattle.std.specs.Prelude.{slice_get}
 use Rattle.std.specs.Prelude.{◌↔◌}
 use Rattle.lmn_base.specs.Graphs.{Reached}
 use Rattle.lmn_heap.specs.Graphs.{atom_map}
-use Rattle.lmn_heap.specs.Heap.{Heap, In, Distinct, IsMemInPlace, port_id, taken_all}
+use Rattle.lmn_heap.specs.Heap.{Heap, Distinct, IsMemInPlace, port_id, taken_all}
 use Rattle.lmn_ground.proofs.GroundLaws.{part_atoms}
 use Rattle.lmn_instr.specs.declared.instr.Instr.{Instr}
 use Rattle.lmn_instr.specs.declared.instr.Instr.TheVariants.{RemovePart, CopyGround}
@@ -15,6 +15,7 @@ use Rattle.lmn_registers.specs.declared.registers.SetRegisters.{SetRegisters}
 use Rattle.lmn_commit.specs.Registers.{AgreesWithCopies}
 use Rattle.lmn_commit.specs.Committing.{Runs, Stands}
 use Rattle.lmn_parts.specs.Walks.{IsPartInDepth}
+use Rattle.lmn_base.specs.Lists.{In}
 
 same_taken : (ns : List ℕ) (s : Heap) → taken_all s ns ≡ taken_all s ns
 same_taken [] s = refl

@@ -1,7 +1,6 @@
 -- The code of a body sets its registers in order.
 use Rattle.std.proofs.Common.{ℕ, ◌≡◌, ◌<◌, ◌≤◌, ◌+◌, ◌==◌, inl, inr, Bool, true, false, cond, List, [], ◌∷◌, ◌++◌, map, refl, arith, ap, sym, subst, length, ◌∙◌}
 use Rattle.std.proofs.lemmas.List.{append_assoc}
-use Rattle.lmn_heap.specs.Heap.{In}
 use Rattle.lmn_solid.specs.Heads.{Occurrence, HeadAtom, at_ports, at_atoms, atoms_of, typed_contexts_of, membranes_of, links_of_head, times}
 use Rattle.lmn_splice.specs.Classes.{class_of, ends_of_class, rising}
 use Rattle.lmn_instr.specs.declared.instr.AtomPort.{AtomPort}
@@ -20,6 +19,7 @@ use Rattle.lmn_registers.specs.declared.stack.TheConstants.{ROOM}
 use Rattle.lmn_commit.specs.Preparing.{UsesPort, BodyInOrder}
 use Rattle.lmn_commit.specs.Orders.{atoms_in_body, membranes_in_body, copies_in_body, BoundBelow, BodiesAreInOrder}
 use Rattle.lmn_base.proofs.Lists.{get_below}
+use Rattle.lmn_base.specs.Lists.{In}
 
 -- it copies only the first g typed contexts
 abbrev CopiedBelow : ℕ → List BodyItem → Type 0

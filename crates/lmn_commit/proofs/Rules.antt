@@ -2,7 +2,7 @@
 use Rattle.std.proofs.Common.{ℕ, zero, suc, ◌≡◌, ◌≢◌, ◌<◌, ◌≤◌, ◌+◌, ◌==◌, ◌⊎◌, inl, inr, Bool, true, false, cond, List, [], ◌∷◌, ◌++◌, map, Option, Some, None, IsSome, refl, arith, ap, sym, subst, length, ◌∙◌}
 use Rattle.std.specs.Option.{option_map, option_and_then}
 use Rattle.std.specs.Prelude.{slice_get, slice_index_or, pos}
-use Rattle.lmn_heap.specs.Heap.{Heap, HeapAtom, Place, top, within, waiting, gone, In, IsInPlace, home_by, partners_of, marks_of, arity_of, link_of, rules_in, spare_of, unless_waiting, discarded, taken, with_place, taken_all, Unmarked}
+use Rattle.lmn_heap.specs.Heap.{Heap, HeapAtom, Place, top, within, waiting, gone, IsInPlace, home_by, partners_of, marks_of, arity_of, link_of, rules_in, spare_of, unless_waiting, discarded, taken, with_place, taken_all, Unmarked}
 use Rattle.lmn_heap.specs.Sound.{Sound, Valid, Forest, bare, mem, Forms}
 use Rattle.lmn_heap.specs.Heap.{HeapMem, mems_in, mems_by, mem_with_spare}
 use Rattle.lmn_base.specs.Solids.{connector}
@@ -36,6 +36,7 @@ use Rattle.lmn_body.proofs.Numbering.{links_have_numbers}
 use Rattle.lmn_body.proofs.Laws.{body_can_run, body_fires_within}
 use Rattle.lmn_commit.proofs.Making.{agrees_before}
 use Rattle.std.proofs.lemmas.List.{append_assoc}
+use Rattle.lmn_base.specs.Lists.{In}
 
 -- Instructions of a list, each with a property
 

@@ -31,7 +31,6 @@ use Rattle.lmn_guards.specs.Accepted.{IsInOrder}
 use Rattle.lmn_guards.specs.GuardCodes.{in_head, is_bound, is_type, unknown, use_of_none, unbound, is_of_head, has_wrong_operands, condition_place, asks, type_of, rows_of_conditions}
 use Rattle.lmn_guards.specs.Plans.{IsPlan}
 use Rattle.lmn_guards.proofs.OrderLemmas.{no_places, not_then, so_else}
-use Rattle.lmn_heap.specs.Heap.{In}
 use Rattle.lmn_solid.specs.Flattening.{items_of_head}
 use Rattle.lmn_solid.specs.Guards.{typed_number, context_alone, kind_named}
 use Rattle.lmn_solid.specs.Heads.{HeadTyped, typed_contexts_of}
@@ -44,6 +43,7 @@ use Rattle.lmn_base.proofs.Common.{operation_items as op_items}
 use Rattle.lmn_base.proofs.Lists.{contains_behind as behind, contains_first as here}
 use Rattle.lmn_base.proofs.Truth.{and_true as and_both, either_true as or_either, never_both, not_false, not_true}
 use Rattle.lmn_guards.proofs.WorkedGuards.{of_context as ctx_items}
+use Rattle.lmn_base.specs.Lists.{In}
 
 -- ---- tests
 

@@ -3,7 +3,7 @@ use Rattle.std.proofs.Common.{ℕ, ◌+◌, ◌≡◌, ◌⊎◌, ◌==◌, cond
 use Rattle.std.specs.Option.{option_map, option_and_then}
 use Rattle.lmn_base.specs.declared.guard.Cond.{Cond}
 use Rattle.lmn_heap.specs.Heap as heap
-use Rattle.lmn_heap.specs.Heap.{Heap, HeapMem, top, within, waiting, gone, mem_place_of, atoms_in, atoms_by, mems_in, mems_by, rules_in, rules_by, IsMem, IsMemInPlace, In, Distinct, finished, mem_unless_gone}
+use Rattle.lmn_heap.specs.Heap.{Heap, HeapMem, top, within, waiting, gone, mem_place_of, atoms_in, atoms_by, mems_in, mems_by, rules_in, rules_by, IsMem, IsMemInPlace, Distinct, finished, mem_unless_gone}
 use Rattle.lmn_heap.specs.Sound.{Sound, flat, Valid, item_count_in, Forest, IsTree}
 use Rattle.lmn_heap.proofs.Depths.{both_distinct}
 use Rattle.lmn_heap.proofs.ListLemmas.{in_left, in_right}
@@ -40,6 +40,7 @@ use Rattle.lmn_heap.specs.Lists.{without_all}
 use Rattle.lmn_base.proofs.Lists.{weigh as total, weigh_append}
 use Rattle.lmn_heap.proofs.Common.{decide_in}
 use Rattle.lmn_heap.proofs.Listing.{listed_mem as listed_some, distinct_without_all}
+use Rattle.lmn_base.specs.Lists.{In}
 
 -- what `finish` leaves of a membrane
 

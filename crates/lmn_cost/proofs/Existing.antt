@@ -2,7 +2,7 @@
 use Rattle.std.proofs.Common.{ℕ, zero, suc, ◌+◌, ◌<◌, ◌≤◌, ◌≡◌, List, [], ◌∷◌, ◌++◌, map, length, Option, Some, None, IsSome, refl, sym, ap, subst, ◌∙◌, inl, inr, arith, length-append}
 use Rattle.std.specs.Option.{option_map}
 use Rattle.lmn_base.specs.declared.guard.Cond.{Cond}
-use Rattle.lmn_heap.specs.Heap.{Heap, HeapMem, top, within, place_of, mem_place_of, mems_in, atoms_in, rules_in, IsInPlace, In, Distinct, Place, home_of, without}
+use Rattle.lmn_heap.specs.Heap.{Heap, HeapMem, top, within, place_of, mem_place_of, mems_in, atoms_in, rules_in, IsInPlace, Distinct, Place, home_of, without}
 use Rattle.lmn_heap.specs.Sound.{Forest, flat, IsTree, Valid, item_count_in}
 use Rattle.lmn_heap.proofs.Depths.{both_distinct}
 use Rattle.lmn_heap.proofs.ListLemmas.{in_left, in_right}
@@ -39,6 +39,7 @@ use Rattle.lmn_base.proofs.Lists.{weigh as total, get_there as get_some}
 use Rattle.lmn_base.proofs.Numbers.{below_zero_plus as below_plain}
 use Rattle.lmn_heap.proofs.Common.{place_home}
 use Rattle.lmn_heap.proofs.Listing.{listed_mem as listed_some}
+use Rattle.lmn_base.specs.Lists.{In}
 
 -- two trees of a heap have the same items
 same_items : (h : Heap) → Valid h → (f g : Forest) → IsTree h f → IsTree h g → item_count_in h (flat f) ≡ item_count_in h (flat g)

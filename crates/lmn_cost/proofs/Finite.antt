@@ -2,7 +2,7 @@
 use Rattle.std.proofs.Common.{ℕ, zero, suc, ◌+◌, ◌<◌, ◌≤◌, ◌≡◌, ◌≢◌, ◌⊎◌, List, [], ◌∷◌, length, Option, Some, None, refl, sym, subst, ◌∙◌, inl, inr, arith}
 use Rattle.std.proofs.lemmas.Bool.{cases_eq}
 use Rattle.lmn_base.specs.Graphs.{Reached, at_root, across, Port}
-use Rattle.lmn_heap.specs.Heap.{Heap, In, Distinct, arity_of, link_of}
+use Rattle.lmn_heap.specs.Heap.{Heap, Distinct, arity_of, link_of}
 use Rattle.lmn_heap.specs.Graphs.{atom_map}
 use Rattle.lmn_heap.proofs.ListLemmas.{each_of}
 use Rattle.lmn_heap.proofs.Pigeonholes.{has_all}
@@ -11,6 +11,7 @@ use Rattle.lmn_splice.proofs.Joining.{same_some}
 use Rattle.lmn_ground.specs.Spread.{AreAtoms}
 use Rattle.lmn_base.proofs.Common.{port_cases}
 use Rattle.lmn_heap.proofs.Common.{decide_in}
+use Rattle.lmn_base.specs.Lists.{In}
 
 module _ (h : Heap) (root : Port) (all : List ℕ) (inside : (a : ℕ) → Reached (atom_map h) root a → In a all) where
   abbrev Part : ℕ → Type 0

@@ -46,6 +46,7 @@ use Rattle.lmn_cost.proofs.Counting.{adds, items_are}
 use Rattle.lmn_base.specs.Graphs.{Port}
 use Rattle.lmn_base.proofs.Lists.{weigh as total, get_below, get_there as get_some}
 use Rattle.lmn_base.proofs.Numbers.{below_zero_plus as below_plain, zero_least as nothing_less, zero_plus_below as plain_below}
+use Rattle.lmn_base.specs.Lists.{In}
 
 -- What the instructions of a body add and take, and the items before and after them.
 pub record Counted (h : Heap) (r : Registers) (code : List Instr) (items : ℕ) : Type 0 where
@@ -73,7 +74,7 @@ body_counts head body n nested r h valid guard m em stand c names h' (s, prepare
     let pr = all.pr in
     let goes = goes_body h valid head guard m r em stand head_nests body pr.mems.fresh nested.placed in
     let nests = nests_body h valid head guard m r em stand head_nests body pr.mems.fresh nested.placed in
-    let contexts : (k : ℕ) (b : HeadMembrane) → HasMembrane head k b → b.has_context ≡ true → heap.In (r.head.images.membrane k) (moved_mems r body) = λ k b w e. moved_are r body k (nested.contexts k b w e) in
+    let contexts : (k : ℕ) (b : HeadMembrane) → HasMembrane head k b → b.has_context ≡ true → In (r.head.images.membrane k) (moved_mems r body) = λ k b w e. moved_are r body k (nested.contexts k b w e) in
     let ca = commits_append r (removals head) (make ++ (links_part ++ (Proceed ∷ []))) s h' commits in
     let cb = commits_append r (map RemoveAtom (rising 0 N)) (part_code ++ mems) s ca.0 ca.1 in
     let cd = commits_append r part_code mems cb.0 ca.0 cb.2 in
@@ -112,7 +113,7 @@ body_counts head body n nested r h valid guard m em stand c names h' (s, prepare
     })
 
 -- there is the root at least
-some_items : (s : Heap) (xs : List ℕ) (x : ℕ) → heap.In x xs → (k : ℕ) × (k + 1 ≡ item_count_in s xs)
+some_items : (s : Heap) (xs : List ℕ) (x : ℕ) → In x xs → (k : ℕ) × (k + 1 ≡ item_count_in s xs)
 some_items s [] x i = absurd i
 some_items s (y ∷ ys) x i =
     let w : ℕ → ℕ = λ m. 1 + length (atoms_in s m) + length (rules_in s m) in

@@ -17,11 +17,12 @@ use Rattle.lmn_body.specs.Added.{if_inside, added_atoms, added_rules, moved_mems
 use Rattle.lmn_body.specs.Rules.{Goes}
 use Rattle.lmn_machine.specs.Costs.{IsSize, AddsItems, TakesItems, InAll}
 use Rattle.lmn_cost.proofs.Totals.{total_same, total_plus, total_none}
-use Rattle.lmn_heap.specs.Lists.{In, Distinct}
+use Rattle.lmn_heap.specs.Lists.{Distinct}
 use Rattle.lmn_heap.proofs.ListLemmas.{each_in, each_of}
 use Rattle.std.proofs.lemmas.Bool.{eq-eqb}
 use Rattle.lmn_base.proofs.Lists.{weigh as total}
 use Rattle.lmn_base.proofs.Numbers.{not_equal as apart_test}
+use Rattle.lmn_base.specs.Lists.{In}
 
 -- one part and then another
 pub both_sums : (P : Instr → ℕ → Type 0) (xs ys : List Instr) (m n : ℕ) → InAll P xs m → InAll P ys n → InAll P (xs ++ ys) (m + n)

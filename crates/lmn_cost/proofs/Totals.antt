@@ -3,13 +3,14 @@ use Rattle.std.proofs.Common.{ℕ, ◌+◌, ◌≡◌, ◌≢◌, ◌==◌, Bool
 use Rattle.std.specs.Prelude.{sum}
 use Rattle.std.proofs.lemmas.Bool.{eqb-true, eq-eqb}
 use Rattle.std.proofs.lemmas.List.Sums.{sum-map, sum_by-cons}
-use Rattle.lmn_heap.specs.Lists.{In, Distinct, without, without_all}
+use Rattle.lmn_heap.specs.Lists.{Distinct, without, without_all}
 use Rattle.lmn_heap.proofs.ListLemmas.{each_in, in_without}
 use Rattle.lmn_heap.proofs.Listing.{in_without_of, distinct_without}
 use Rattle.lmn_heap.proofs.Pigeonholes.{length_without}
 use Rattle.lmn_heap.proofs.Groves.{without_absent}
 use Rattle.lmn_base.proofs.Lists.{weigh as total}
 use Rattle.lmn_heap.proofs.Common.{in_of_without}
+use Rattle.lmn_base.specs.Lists.{In}
 
 pub total_is_sum : (w : ℕ → ℕ) (xs : List ℕ) → sum (map w xs) ≡ total w xs
 total_is_sum w [] = refl

@@ -5,7 +5,7 @@ use Rattle.std.specs.Option.{option_map}
 use Rattle.std.proofs.lemmas.Bool.Decides.{Decides-eqb}
 use Rattle.lmn_base.specs.declared.guard.Cond.{Cond}
 use Rattle.lmn_base.specs.declared.guard.Cond.TheVariants.{Kind, Compare, Equal, Differ}
-use Rattle.lmn_heap.specs.Heap.{Heap, In}
+use Rattle.lmn_heap.specs.Heap.{Heap}
 use Rattle.lmn_guards.specs.Values.{value}
 use Rattle.lmn_solid.specs.declared.items.HeadItem.{HeadItem}
 use Rattle.lmn_solid.specs.Guards.{Meaning, bind, integer_named, context_alone, typed_number}
@@ -20,6 +20,7 @@ use Rattle.lmn_compile_head.proofs.Holding.{hold_front, hold_back}
 use Rattle.lmn_compile_head.proofs.Values.{meant, value_is}
 use Rattle.lmn_compile_body.specs.Naming.{equal_registers, guard_registers}
 use Rattle.lmn_firing.specs.Bound.{bound_by, bound_all, BoundNames}
+use Rattle.lmn_base.specs.Lists.{In}
 
 module _ (h : Heap) (c : ℕ) (r : HeadRegisters) (ts : List HeadTyped) where
   -- what names are bound to stands in their registers

@@ -18,7 +18,7 @@ use Rattle.lmn_folded.specs.Lines.{IsFoldedLine}
 use Rattle.lmn_folded.specs.Terms.{Folded, folded, FoldedMembranes, no_membrane, membrane_and, folded_links, membranes_links, renamed_folded}
 use Rattle.lmn_folded.specs.Words.{line_of_folded}
 use Rattle.lmn_folded.proofs.FoldedLines.{one_folded_line}
-use Rattle.lmn_heap.specs.Heap.{Heap, IsMem, In, atoms_in, rules_in}
+use Rattle.lmn_heap.specs.Heap.{Heap, IsMem, atoms_in, rules_in}
 use Rattle.lmn_heap.specs.Solid.{IsNaming, HasSolid, solid_atoms_at, regions_of}
 use Rattle.lmn_heap.specs.Sound.{Forest, bare, mem, flat, Valid}
 use Rattle.lmn_heap.proofs.ListLemmas.{in_left, in_right}
@@ -27,6 +27,7 @@ use Rattle.lmn_items.specs.Chosen.{AreChosen}
 use Rattle.lmn_printer.specs.Stored.{number_by_mark}
 use Rattle.lmn_printer.proofs.SolidShapes.{heap_solids_are_solids}
 use Rattle.lmn_folded_printer.specs.Printed.{PrintsForest, none, more, IsNumberedBy}
+use Rattle.lmn_base.specs.Lists.{In}
 
 module _ (names : List Name) (table : List RuleTree) (s : Heap) (chosen : AreChosen s) (name : ℕ → ℕ → ℕ) (naming : IsNaming s name) where
   abbrev reg : Region → solid.Region

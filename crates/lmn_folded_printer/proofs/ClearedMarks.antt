@@ -4,7 +4,7 @@ use Rattle.std.proofs.lemmas.Bool.{cases_eq}
 use Rattle.std.specs.Option.{option_map}
 use Rattle.std.specs.Prelude.{slice_index_or}
 use Rattle.lmn_heap.specs.Heap.{Heap, HeapAtom, IsAtom, IsInPlace, alter, with_mark, home_of, atoms_in, partners_of, mark_of, marked, marks_of, arity_of, Unmarked}
-use Rattle.lmn_heap.specs.Lists.{In, from, after}
+use Rattle.lmn_heap.specs.Lists.{from, after}
 use Rattle.lmn_heap.specs.Sound.{Forest, flat, IsTree, Valid, Sound, AtMost}
 use Rattle.lmn_heap.specs.Trees.{tree_of}
 use Rattle.lmn_heap.proofs.Groves.{forms_frame}
@@ -16,6 +16,7 @@ use Rattle.lmn_printer.proofs.OrderLemmas.{printed_all, tree_there}
 use Rattle.lmn_printer.proofs.StoredLemmas.{atoms_fewer}
 use Rattle.lmn_congruence.proofs.Counts.{below_or_from as below_or}
 use Rattle.lmn_heap.proofs.Common.{same_atoms}
+use Rattle.lmn_base.specs.Lists.{In}
 
 -- t is s with other marks
 abbrev pub OtherMarks : Heap → Heap → Type 0

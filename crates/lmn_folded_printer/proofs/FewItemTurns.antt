@@ -1,7 +1,7 @@
 -- The walks over different items enter and leave different atoms, so they turn seldom.
 use Rattle.std.proofs.Common.{◌≡◌, ◌≢◌, ℕ, ◌+◌, ◌≤◌, ◌^◌, inl, inr, ◌⊎◌, List, [], ◌∷◌, ◌++◌, length, refl, sym, ap, ◌∙◌, subst, arith}
 use Rattle.lmn_heap.specs.Heap.{Heap, IsAtom}
-use Rattle.lmn_heap.specs.Lists.{In, Distinct}
+use Rattle.lmn_heap.specs.Lists.{Distinct}
 use Rattle.lmn_heap.specs.Sound.{Paired, AtMost}
 use Rattle.lmn_heap.proofs.Depths.{both_distinct}
 use Rattle.lmn_heap.proofs.ListLemmas.{each_in}
@@ -11,6 +11,7 @@ use Rattle.lmn_folding.specs.Marks.{argument_count, Event, meets_link, meets_ter
 use Rattle.lmn_folding.proofs.FewTurns.{entered, left, counted, entered_once, left_once, entered_there, left_there}
 use Rattle.lmn_folding.proofs.WalkLemmas.{one_walk}
 use Rattle.lmn_folded_printer.specs.Walked.{ItemsWalked, none, more}
+use Rattle.lmn_base.specs.Lists.{In}
 
 -- the atom that is left last
 abbrev ended : ℕ → List Event → ℕ

@@ -5,10 +5,10 @@ use Rattle.lmn_congruence.specs.Orders.{Among, at_head, further}
 use Rattle.lmn_folded.specs.Terms.{Folded, folded, FoldedMembranes, folded_links, membranes_links, renamed_membranes}
 use Rattle.lmn_folded.proofs.Numbering.{renamed_links, some_numbered}
 use Rattle.lmn_heap.specs.Heap.{Heap}
-use Rattle.lmn_heap.specs.Lists.{In}
 use Rattle.lmn_heap.specs.Solid.{IsNaming}
 use Rattle.lmn_printer.proofs.SolidLinks.{numbers_below}
 use Rattle.lmn_heap.proofs.Common.{decide_in, in_map}
+use Rattle.lmn_base.specs.Lists.{In}
 
 in_among : (x : ℕ) (xs : List ℕ) → In x xs → Among x xs
 in_among x [] i = absurd i

@@ -7,7 +7,7 @@ use Rattle.lmn_congruence.specs.Rules.{Name}
 use Rattle.lmn_congruence.specs.Translation.{numbered_rule, rules}
 use Rattle.lmn_folded.specs.Terms.{FoldedItem, Folded, folded, FoldedMembranes, no_membrane, membrane_and}
 use Rattle.lmn_folded.specs.Words.{item_pieces, folded_pieces, membranes_pieces, line_of_folded}
-use Rattle.lmn_heap.specs.Heap.{Heap, IsMem, In, mems_in, rules_in}
+use Rattle.lmn_heap.specs.Heap.{Heap, IsMem, mems_in, rules_in}
 use Rattle.lmn_heap.specs.Sound.{Forest, mem, flat, Forms, IsTree, Valid}
 use Rattle.lmn_heap.proofs.ListLemmas.{in_left, in_right}
 use Rattle.lmn_heap.proofs.Trees.{in_either, is_mem}
@@ -25,6 +25,7 @@ use Rattle.lmn_folded_printer.specs.Texts.{AreItemTexts, IsLineByMarks, item_tex
 use Rattle.lmn_folded_printer.proofs.OneText.{one_row}
 use Rattle.lmn_plain.proofs.LaidLines.{text_append}
 use Rattle.lmn_heap.proofs.Common.{decide_in as in_or_not}
+use Rattle.lmn_base.specs.Lists.{In}
 
 module _ (names : List Name) (table : List RuleTree) (s : Heap) where
   abbrev pub Shown : Forest → FoldedMembranes → Type 0

@@ -3,7 +3,7 @@ use Rattle.std.proofs.Common.{◌≡◌, ◌≢◌, ℕ, ◌==◌, inl, inr, ◌
 use Rattle.std.specs.Option.{option_map}
 use Rattle.std.proofs.lemmas.Bool.{eqb-true}
 use Rattle.lmn_heap.specs.Heap.{Heap, HeapAtom, IsAtom, atoms_in, within, own_mark}
-use Rattle.lmn_heap.specs.Lists.{In, Distinct}
+use Rattle.lmn_heap.specs.Lists.{Distinct}
 use Rattle.lmn_heap.specs.Sound.{Sound}
 use Rattle.lmn_heap.proofs.Depths.{both_distinct}
 use Rattle.lmn_heap.proofs.ListLemmas.{each_in, each_of}
@@ -11,6 +11,7 @@ use Rattle.lmn_heap.proofs.Trees.{in_either}
 use Rattle.lmn_items.specs.Chosen.{marked_in, items_in}
 use Rattle.lmn_folded_printer.specs.Walked.{printed_items}
 use Rattle.lmn_folded_printer.proofs.ItemLemmas.{filter_in}
+use Rattle.lmn_base.specs.Lists.{In}
 
 filter_part : (p : ℕ → Bool) (a : ℕ) (xs : List ℕ) → In a (filter p xs) → In a xs
 filter_part p a [] i = i

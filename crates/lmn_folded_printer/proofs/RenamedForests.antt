@@ -5,7 +5,6 @@ use Rattle.lmn_congruence.specs.Rules.{Name, Rule}
 use Rattle.lmn_congruence.specs.Translation.{numbered_rule}
 use Rattle.lmn_folded.specs.Terms.{FoldedTerm, link, FoldedTerms, FoldedItem, FoldedMembranes, membrane_and, folded, term_links, terms_links, items_links, membranes_links, renamed_term, renamed_terms, renamed_item, renamed_membranes}
 use Rattle.lmn_heap.specs.Heap.{Heap, arity_of, atoms_in, rules_in, own_mark}
-use Rattle.lmn_heap.specs.Lists.{In}
 use Rattle.lmn_heap.specs.Sound.{Forest, mem}
 use Rattle.lmn_heap.proofs.ListLemmas.{in_left, in_right}
 use Rattle.lmn_folding.specs.Printed as printed
@@ -18,6 +17,7 @@ use Rattle.lmn_printer.specs.Stored.{number_by_mark}
 use Rattle.lmn_printer.proofs.MarkLemmas.{arity_same, functor_same}
 use Rattle.lmn_printer.proofs.NumberLemmas.{mark_low}
 use Rattle.lmn_folded_printer.specs.Printed.{PrintsForest, none, more}
+use Rattle.lmn_base.specs.Lists.{In}
 
 -- Other numbers.
 module _ (names : List Name) (s : Heap) (name : ℕ → ℕ → ℕ) (to : ℕ → ℕ) where

@@ -5,7 +5,6 @@ use Rattle.lmn_base.specs.declared.rule.RuleTree.{RuleTree}
 use Rattle.lmn_congruence.specs.Rules.{Name}
 use Rattle.lmn_folded.specs.Terms.{FoldedTerm, FoldedTerms, FoldedItem, FoldedMembranes, term_links, terms_links, items_links, membranes_links}
 use Rattle.lmn_heap.specs.Heap.{Heap, arity_of}
-use Rattle.lmn_heap.specs.Lists.{In}
 use Rattle.lmn_heap.specs.Sound.{Forest, flat, Paired}
 use Rattle.lmn_folding.specs.Marks.{is_item, argument_count, Event, meets_link, meets_term, leaves, WalkMeets, end_of_item, links_met}
 use Rattle.lmn_folding.specs.Printed as printed
@@ -17,6 +16,7 @@ use Rattle.lmn_folded_printer.specs.Printed as forest
 use Rattle.lmn_folded_printer.specs.Printed.{PrintsForest}
 use Rattle.lmn_folded_printer.specs.Walked.{printed_items, ItemsWalked, none, more}
 use Rattle.lmn_folded_printer.proofs.ItemLemmas.{items_are}
+use Rattle.lmn_base.specs.Lists.{In}
 
 pub met_append : (es fs : List Event) (name : ℕ → ℕ → ℕ) → links_met (es ++ fs) name ≡ links_met es name ++ links_met fs name
 met_append [] fs name = refl

@@ -2,7 +2,7 @@
 use Rattle.std.proofs.Common.{◌≡◌, ◌≢◌, ℕ, ◌+◌, ◌<◌, ◌≤◌, ◌^◌, inl, inr, List, [], ◌∷◌, length, Option, Some, None, IsSome, refl, sym, ap, subst, arith}
 use Rattle.std.specs.Prelude.{slice_index_or}
 use Rattle.lmn_heap.specs.Heap.{Heap, HeapAtom, IsAtom, link_of, partners_of}
-use Rattle.lmn_heap.specs.Lists.{In, Distinct}
+use Rattle.lmn_heap.specs.Lists.{Distinct}
 use Rattle.lmn_heap.specs.Sound.{Paired, AtMost}
 use Rattle.lmn_heap.proofs.Pigeonholes.{not_longer}
 use Rattle.lmn_folding.specs.Marks.{turns}
@@ -10,6 +10,7 @@ use Rattle.lmn_folding.specs.Marks.{argument_count, Event, meets_link, meets_ter
 use Rattle.lmn_folding.proofs.PrintedWalks.{term_is}
 use Rattle.lmn_folding.proofs.WalkLemmas.{one_walk}
 use Rattle.lmn_heap.proofs.ListLemmas.{each_of}
+use Rattle.lmn_base.specs.Lists.{In}
 
 -- the atoms that are entered as terms, and those that are left
 abbrev pub entered : List Event → List ℕ

@@ -1,7 +1,7 @@
 -- Two parts in step: what each step of the comparison needs.
 use Rattle.std.proofs.Common.{◌≡◌, ℕ, suc, ◌+◌, ◌-◌, ◌*◌, ◌/◌, ◌%◌, ◌<◌, ◌≤◌, true, false, List, length, Option, Some, None, sym, ap, subst, ◌∙◌, arith, length-append, add-one, ◌≢◌}
 use Rattle.lmn_base.specs.Graphs.{SameGraph}
-use Rattle.lmn_heap.specs.Heap.{Heap, In, IsAtom, marked, arity_of, link_of}
+use Rattle.lmn_heap.specs.Heap.{Heap, IsAtom, marked, arity_of, link_of}
 use Rattle.lmn_heap.specs.Sound.{Sound}
 use Rattle.lmn_heap.specs.Graphs.{atom_map}
 use Rattle.lmn_parts.specs.Walks.{Net, net, ports_from, is_port}
@@ -13,6 +13,7 @@ use Rattle.lmn_ground.proofs.PaintLaws.{net_painted, mark_here, mark_away, net_m
 use Rattle.lmn_ground.proofs.SpreadLaws.{marks_there, entry_is, behind_enter, spread_some}
 use Rattle.lmn_ground.proofs.WipeLaws.{heavier}
 use Rattle.lmn_ground.proofs.FollowLaws.{follow_back, follow_arity, follow_way, follow_here, entry_low, entry_apart, both_none, number_differs, back_seen}
+use Rattle.lmn_base.specs.Lists.{In}
 
 -- going back makes the weight smaller
 pub back_lighter : (n : Net) (v : ℕ → ℕ) (m depth d a i p k e : ℕ) → e ≡ v a → depth ≡ d + 1 → n.link a (e % 256) ≡ Some (p, k)

@@ -6,7 +6,7 @@ use Rattle.std.specs.Result.{IfOk, OnErr}
 use Rattle.std.specs.Prelude.{slice_get, slice_index_or, replicate}
 use Rattle.lmn_base.specs.declared.functor.Functor.{Functor}
 use Rattle.lmn_base.specs.Graphs.{Reached, at_root, across, SameGraph}
-use Rattle.lmn_heap.specs.Heap.{Heap, HeapAtom, In, waiting, IsAtom, with_link, new_atom, partners_of, marks_of, functor_of, link_of, arity_of, place_of, joined}
+use Rattle.lmn_heap.specs.Heap.{Heap, HeapAtom, waiting, IsAtom, with_link, new_atom, partners_of, marks_of, functor_of, link_of, arity_of, place_of, joined}
 use Rattle.lmn_heap.specs.Conditions.{Alone}
 use Rattle.lmn_heap.specs.Sound.{Paired, Sound}
 use Rattle.lmn_heap.specs.Graphs.{atom_map}
@@ -28,6 +28,7 @@ use Rattle.lmn_ground.proofs.PaintedLaws.{all_painted, ports_painted, made_paint
 use Rattle.lmn_parts.specs.Walks.{port_range, IsPartInDepth, HasPort, Net, net}
 use Rattle.lmn_heap.proofs.Common.{decide_in as in_or_not, no_links, no_port}
 use Rattle.lmn_heap.proofs.Replacing.{port_within as link_inside}
+use Rattle.lmn_base.specs.Lists.{In}
 
 abbrev no_mark : ℕ
 no_mark = 0

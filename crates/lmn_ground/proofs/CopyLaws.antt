@@ -5,7 +5,7 @@ use Rattle.std.proofs.lemmas.Option.{slice_get-map, slice_get_within}
 use Rattle.std.specs.Option.{option_map}
 use Rattle.std.specs.Prelude.{slice_get}
 use Rattle.lmn_base.specs.declared.functor.Functor.{Functor}
-use Rattle.lmn_heap.specs.Heap.{Heap, HeapAtom, In, Distinct, IsAtom, alter, with_mark, new_atom, functor_of, link_of, arity_of, joined, made_atom, marked}
+use Rattle.lmn_heap.specs.Heap.{Heap, HeapAtom, Distinct, IsAtom, alter, with_mark, new_atom, functor_of, link_of, arity_of, joined, made_atom, marked}
 use Rattle.lmn_heap.proofs.ListLemmas.{each_in}
 use Rattle.lmn_heap.proofs.Listing.{alter_at, alter_away, distinct_snoc}
 use Rattle.lmn_ground.specs.Marks.{first_marks}
@@ -19,6 +19,7 @@ use Rattle.lmn_ground.proofs.JoinLaws.{like_some, like_copying, like_numbers, li
 use Rattle.lmn_ground.proofs.SoughtLaws.{same_port}
 use Rattle.lmn_parts.specs.Walks.{port_range, is_port}
 use Rattle.lmn_heap.proofs.Common.{in_at}
+use Rattle.lmn_base.specs.Lists.{In}
 
 -- lists
 

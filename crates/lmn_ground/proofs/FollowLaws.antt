@@ -4,7 +4,7 @@ use Rattle.std.specs.Option.{option_map}
 use Rattle.std.specs.Prelude.{slice_index_or}
 use Rattle.lmn_base.specs.declared.functor.Functor.{Functor}
 use Rattle.lmn_base.specs.Graphs.{Reached, at_root, across, SameGraph}
-use Rattle.lmn_heap.specs.Heap.{Heap, HeapAtom, In, marked, arity_of, link_of, functor_of, partners_of}
+use Rattle.lmn_heap.specs.Heap.{Heap, HeapAtom, marked, arity_of, link_of, functor_of, partners_of}
 use Rattle.lmn_heap.specs.Sound.{Sound}
 use Rattle.lmn_heap.specs.Graphs.{atom_map}
 use Rattle.lmn_heap.proofs.ListLemmas.{in_left}
@@ -24,6 +24,7 @@ use Rattle.lmn_parts.specs.Walks.{port_range, neighbour, IsPartInDepth, HasPort,
 use Rattle.lmn_heap.proofs.Common.{decide_in as in_or_not}
 use Rattle.lmn_ground.proofs.PaintedAt.{paint_functor}
 use Rattle.lmn_heap.proofs.Replacing.{port_within as link_inside}
+use Rattle.lmn_base.specs.Lists.{In}
 
 pub to_none : (ps : List (ℕ × ℕ)) → ps ++ [] ≡ ps
 to_none [] = refl

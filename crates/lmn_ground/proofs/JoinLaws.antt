@@ -4,7 +4,7 @@ use Rattle.std.proofs.lemmas.Bool.{cases_eq}
 use Rattle.std.proofs.lemmas.List.{length-set}
 use Rattle.std.specs.Option.{option_map}
 use Rattle.std.specs.Prelude.{slice_index_or}
-use Rattle.lmn_heap.specs.Heap.{Heap, HeapAtom, In, with_link, partners_of, marks_of, mark_of, link_of, arity_of, linked, cleared, joined}
+use Rattle.lmn_heap.specs.Heap.{Heap, HeapAtom, with_link, partners_of, marks_of, mark_of, link_of, arity_of, linked, cleared, joined}
 use Rattle.lmn_heap.specs.Splice.{joined_to}
 use Rattle.lmn_heap.proofs.Listing.{alter_at, alter_away}
 use Rattle.lmn_heap.proofs.Ports.{SamePort, same_port, linked_away, joined_arity, joined_a, joined_b, joined_other, joined_paired}
@@ -19,6 +19,7 @@ use Rattle.lmn_ground.proofs.SpreadLaws.{not_root}
 use Rattle.lmn_ground.proofs.NumberLaws.{numbered_same}
 use Rattle.lmn_parts.specs.Walks.{port_range, HasPort, is_port}
 use Rattle.lmn_heap.proofs.Replacing.{port_within as link_inside}
+use Rattle.lmn_base.specs.Lists.{In}
 
 -- what joining leaves as it is
 module _ {X : Type 0} (view : Option HeapAtom → X) (h : (i : ℕ) (p : Option (ℕ × ℕ)) (o : Option HeapAtom) → view (option_map (with_link i p) o) ≡ view o) where

@@ -2,10 +2,10 @@
 use Rattle.std.proofs.Common.{◌≡◌, ◌≢◌, ◌⊎◌, ℕ, zero, suc, ◌+◌, ◌-◌, ◌<◌, ◌==◌, ◌&&◌, Bool, true, false, cond, List, [], ◌∷◌, ◌++◌, length, Option, Some, None, IsSome, refl, sym, ap, subst, ◌∙◌, inl, inr, arith, length-append}
 use Rattle.std.proofs.lemmas.Bool.{eq-eqb, eqb-true}
 use Rattle.std.specs.Option.{option_and_then}
-use Rattle.lmn_heap.specs.Heap.{In}
 use Rattle.lmn_ground.specs.Marks.{way, back, ports_behind, OnWay, Sought}
 use Rattle.lmn_parts.specs.Walks.{port_range, neighbour, HasPort, Net, ports_from, kept, is_port, Walk, passes}
 use Rattle.lmn_base.proofs.Numbers.{not_equal as apart_test}
+use Rattle.lmn_base.specs.Lists.{In}
 
 pub port_left : (n : Net) (a i : ℕ) → i < n.arity a → ports_from n a i ≡ (a, i) ∷ ports_from n a (i + 1)
 port_left n a i l = by (n.arity a - i) refl

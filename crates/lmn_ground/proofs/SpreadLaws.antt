@@ -5,7 +5,7 @@ use Rattle.std.proofs.lemmas.List.{get_or-set_other}
 use Rattle.std.specs.Option.{option_and_then}
 use Rattle.std.specs.Prelude.{slice_index_or}
 use Rattle.lmn_base.specs.Graphs.{Reached, at_root, across}
-use Rattle.lmn_heap.specs.Heap.{Heap, HeapAtom, In, alter, IsAtom, marked, arity_of, link_of, marks_of, mark_of, own_mark, PortsUnmarked}
+use Rattle.lmn_heap.specs.Heap.{Heap, HeapAtom, alter, IsAtom, marked, arity_of, link_of, marks_of, mark_of, own_mark, PortsUnmarked}
 use Rattle.lmn_heap.specs.Sound.{Sound, AtMost}
 use Rattle.lmn_heap.specs.Graphs.{atom_map}
 use Rattle.lmn_heap.proofs.ListLemmas.{in_left}
@@ -20,6 +20,7 @@ use Rattle.lmn_ground.proofs.PaintedAt.{paint_home, painted_none}
 use Rattle.lmn_parts.specs.Walks.{port_range, neighbour, IsPartInDepth, HasPort, Net, net, ports_from, kept, is_port, is_in, Walk, ends, finds}
 use Rattle.lmn_heap.proofs.Common.{decide_in as in_or_not}
 use Rattle.lmn_heap.proofs.Replacing.{port_within as link_inside}
+use Rattle.lmn_base.specs.Lists.{In}
 
 pub next_in : (n : Net) (root : ℕ × ℕ) (seen : List ℕ) (p : ℕ × ℕ) (b : ℕ) → neighbour n root (is_in seen) p ≡ Some b → In b seen
 next_in n root seen p b e = by (is_port p root) e

@@ -6,7 +6,7 @@ use Rattle.std.specs.Prelude.{slice_index_or}
 use Rattle.lmn_base.specs.Graphs.{AtomMap, Reached, at_root, across}
 use Rattle.lmn_heap.specs.Graphs.{atom_map}
 use Rattle.lmn_ground.proofs.WipeLaws.{b_reached}
-use Rattle.lmn_heap.specs.Heap.{link_of, Heap, HeapAtom, In, Distinct, IsAtom, IsInPlace, alter, gone, home_by, with_place, with_mark, partners_of, marks_of, marked, taken, atom_out, arity_of, home_of, taken_all}
+use Rattle.lmn_heap.specs.Heap.{link_of, Heap, HeapAtom, Distinct, IsAtom, IsInPlace, alter, gone, home_by, with_place, with_mark, partners_of, marks_of, marked, taken, atom_out, arity_of, home_of, taken_all}
 use Rattle.lmn_heap.proofs.Listing.{alter_at, alter_away}
 use Rattle.lmn_ground.specs.Marks.{first_place, paint, painted, first_marks, way, ports_ahead, OnWay}
 use Rattle.lmn_ground.specs.Spread.{Spread, Wiping}
@@ -16,6 +16,7 @@ use Rattle.lmn_ground.proofs.PaintLaws.{net_painted}
 use Rattle.lmn_ground.proofs.PaintedAt.{paint_home}
 use Rattle.lmn_parts.specs.Walks.{neighbour, is_port, Net, net, is_in, Walk, ends}
 use Rattle.lmn_heap.proofs.Common.{decide_in as in_or_not}
+use Rattle.lmn_base.specs.Lists.{In}
 
 -- what taking leaves as it is
 kept_by : {X : Type 0} (view : Option HeapAtom → X) → ((o : Option HeapAtom) → view (option_map (with_place gone) o) ≡ view o) → (s : Heap) (b a : ℕ) → view ((taken s b).atoms a) ≡ view (s.atoms a)

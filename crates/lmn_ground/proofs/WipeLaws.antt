@@ -3,7 +3,7 @@ use Rattle.std.proofs.Common.{◌≡◌, ◌≢◌, ℕ, suc, ◌+◌, ◌-◌, 
 use Rattle.std.proofs.lemmas.Bool.{cases_eq}
 use Rattle.lmn_base.specs.Graphs.{Reached, across}
 use Rattle.lmn_heap.specs.Graphs.{atom_map}
-use Rattle.lmn_heap.specs.Heap.{Heap, In, Distinct, alter, marked, arity_of, link_of}
+use Rattle.lmn_heap.specs.Heap.{Heap, Distinct, alter, marked, arity_of, link_of}
 use Rattle.lmn_heap.specs.Sound.{Sound}
 use Rattle.lmn_heap.proofs.ListLemmas.{in_left, each_in, each_of}
 use Rattle.lmn_heap.proofs.Listing.{alter_at}
@@ -17,6 +17,7 @@ use Rattle.lmn_ground.proofs.SpreadLaws.{not_root, next_in, next_to, marks_there
 use Rattle.lmn_parts.specs.Walks.{port_range, neighbour, Net, net, ports_from, is_port, is_in, Walk, ends}
 use Rattle.lmn_ground.proofs.FollowLaws.{to_none}
 use Rattle.lmn_heap.proofs.Common.{decide_in as in_or_not}
+use Rattle.lmn_base.specs.Lists.{In}
 
 pub entry_wiped : (j : ℕ) → j < 256 → entry_port (256 + j) ≡ j
 entry_wiped j l = omega arith

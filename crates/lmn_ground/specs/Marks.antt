@@ -1,8 +1,9 @@
 -- Walks that are kept in the first marks of atoms.
 use Rattle.std.specs.Prelude.{ℕ, zero, suc, ◌≡◌, ◌≢◌, ◌⊎◌, ◌<◌, ◌≤◌, ◌+◌, ◌%◌, Bool, false, List, [], ◌∷◌, ◌++◌, Option, Some, None, IsSome}
 use Rattle.std.specs.Option.{option_map}
-use Rattle.lmn_heap.specs.Heap.{Heap, HeapAtom, with_mark, mark_of, In, Distinct}
+use Rattle.lmn_heap.specs.Heap.{Heap, HeapAtom, with_mark, mark_of, Distinct}
 use Rattle.lmn_parts.specs.Walks.{neighbour, HasPort, Net, ports_from, is_port, Walk}
+use Rattle.lmn_base.specs.Lists.{In}
 
 -- the atom with another mark at a place; 0 stands for the one that it has
 abbrev pub paint_at : (HeapAtom → ℕ) → ℕ → Option HeapAtom → Option HeapAtom

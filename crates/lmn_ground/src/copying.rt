@@ -1,12 +1,13 @@
 //! A part is copied.
 ghost use Rattle.std.specs.Prelude.{◌≡◌, ◌<◌, ℕ, List, [], None, IfOk, OnErr, OnOk, length, map};
 ghost use Rattle.lmn_heap.specs.Conditions.{Alone};
-ghost use Rattle.lmn_heap.specs.Heap.{In, IsAtom, arity_of, PortsUnmarked};
+ghost use Rattle.lmn_heap.specs.Heap.{IsAtom, arity_of, PortsUnmarked};
 ghost use Rattle.lmn_ground.specs.Marks.{first_marks};
 ghost use Rattle.lmn_ground.specs.Spread.{CleanPart, IsWhole, Numbered};
 ghost use Rattle.lmn_ground.specs.Copies.{Copying, Made, Remains, unmarked_all};
 ghost use Rattle.lmn_parts.specs.Copies.{AllAtoms, Copied, LeadsOut, all_joined, joined_like, ports_of, answer};
 ghost use Rattle.lmn_parts.specs.Walks.{port_range};
+ghost use Rattle.lmn_base.specs.Lists.{In};
 
 use crate::equality::is_same_port;
 use crate::gather::{clear, gather};

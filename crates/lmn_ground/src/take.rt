@@ -1,7 +1,8 @@
 //! The walk that takes the marks back and the atoms out.
 ghost use Rattle.std.specs.Prelude.{◌≡◌, ◌<◌, ℕ, Bool};
-ghost use Rattle.lmn_heap.specs.Heap.{Heap, In, IsAtom, IsInPlace, arity_of, taken_all};
+ghost use Rattle.lmn_heap.specs.Heap.{Heap, IsAtom, IsInPlace, arity_of, taken_all};
 ghost use Rattle.lmn_ground.specs.Spread.{Spread};
+ghost use Rattle.lmn_base.specs.Lists.{In};
 
 use crate::seek::{Stand, arity};
 use crate::wipe::{enter, leave, marked_end};

@@ -1,6 +1,6 @@
 -- Lemmas that several crates above cite.
 use Rattle.lmn_heap.specs.Heap.{Heap, HeapAtom, home_by, home_of, place_of, within, IsAtom, arity_of, partners_of, IsInPlace, HeapMem, IsMem, IsMemInPlace, IsTopOrWithin, Place, gone, top, waiting, atoms_by, linked, cleared, marks_of, with_link, rules_by, alter, mem_with_atoms, link_of}
-use Rattle.lmn_heap.specs.Lists.{In, without}
+use Rattle.lmn_heap.specs.Lists.{without}
 use Rattle.lmn_heap.specs.Solid.{links_from}
 use Rattle.lmn_heap.specs.Sound.{Valid}
 use Rattle.std.proofs.Common.{None, Option, Some, ap, ℕ, ◌≡◌, IsSome, arith, length, refl, ◌<◌, inl, inr, subst, sym, ◌⊎◌, List, [], ◌∷◌, slice_get, suc, zero, Bool, cond, false, true, ◌==◌, ◌+◌, map, replicate}
@@ -10,6 +10,7 @@ use Rattle.std.specs.Option.{option_and_then, option_map}
 use Rattle.lmn_heap.specs.Heap as heap
 use Rattle.lmn_heap.proofs.Listing.{alter_keeps}
 use Rattle.std.specs.Prelude.{slice_index_or}
+use Rattle.lmn_base.specs.Lists.{In}
 
 pub place_home : (s : Heap) (a m : ℕ) → place_of s a ≡ Some (within m) → home_of s a ≡ Some m
 place_home s a m e = by (s.atoms a) e
@@ -71,7 +72,7 @@ pub holds_mem : (o : Option HeapMem) (a : ℕ) → In a (atoms_by o) → IsSome 
 holds_mem None a p = absurd p
 holds_mem (Some x) a p = refl
 
-pub decide_in : (a : ℕ) (xs : List ℕ) → heap.In a xs ⊎ (heap.In a xs → ⊥)
+pub decide_in : (a : ℕ) (xs : List ℕ) → In a xs ⊎ (In a xs → ⊥)
 decide_in a [] = inr (λ i. i)
 decide_in a (x ∷ xs) = elim (cases_eq x a) [
   | inl e ↦ inl (inl e)

@@ -1,6 +1,6 @@
 -- A membrane stands in one place of the tree.
 use Rattle.std.proofs.Common.{◌≡◌, ◌≢◌, ◌⊎◌, ℕ, zero, suc, ◌+◌, ◌≤◌, ◌^◌, List, [], ◌∷◌, ◌++◌, length, Option, Some, None, refl, sym, ap, subst, ◌∙◌, inl, inr, arith, length-append}
-use Rattle.lmn_heap.specs.Lists.{In, Distinct}
+use Rattle.lmn_heap.specs.Lists.{Distinct}
 use Rattle.lmn_heap.specs.Heap.{Heap, top, parent_of, mems_in}
 use Rattle.lmn_heap.specs.Sound.{Forest, bare, mem, flat, Forms, IsTree, Listed, Sound, AtMost}
 use Rattle.lmn_heap.specs.Conditions.{Above}
@@ -9,6 +9,7 @@ use Rattle.lmn_heap.proofs.ListLemmas.{each_in, each_of}
 use Rattle.lmn_heap.proofs.Pigeonholes.{not_longer}
 use Rattle.lmn_heap.proofs.Trees.{in_either, parent_by, is_mem}
 use Rattle.lmn_heap.proofs.Heights.{parent_is, above_more, one_above}
+use Rattle.lmn_base.specs.Lists.{In}
 
 -- x is n steps below a membrane without a parent
 abbrev Depth : Heap → ℕ → ℕ → Type 0

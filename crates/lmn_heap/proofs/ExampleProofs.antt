@@ -12,7 +12,6 @@ use Rattle.lmn_base.specs.declared.solid.Region.TheFolds.{fold-roll-Region}
 use Rattle.lmn_base.specs.Links.{Numbers, no_more, known, new}
 use Rattle.lmn_base.specs.Solids.{connector, atoms_step, links_of_region}
 use Rattle.lmn_heap.specs.Heap.{HeapAtom, HeapMem, Place, top, within, waiting, gone, home_by, lone_root, made_atom, made_mem, placed, placed_mem, IsInPlace, arity_of, link_of, partners_of as atom_links}
-use Rattle.lmn_heap.specs.Lists.{In}
 use Rattle.lmn_heap.specs.Sound.{Sound, AllInPlace, IsTree, bare, mem}
 use Rattle.lmn_heap.specs.Conditions.{Above}
 use Rattle.lmn_heap.specs.Solid.{IsNaming}
@@ -20,6 +19,7 @@ use Rattle.lmn_heap.specs.Examples.{functor_a, functor_b, made, loose, across, A
 use Rattle.lmn_heap.proofs.Lone.{lone_valid}
 use Rattle.lmn_heap.proofs.Calls.{keeps_sound}
 use Rattle.lmn_base.proofs.Numbers.{not_equal as apart_test}
+use Rattle.lmn_base.specs.Lists.{In}
 
 -- the calls, one after the other
 made_sound : Sound made

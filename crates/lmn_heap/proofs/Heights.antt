@@ -2,10 +2,11 @@
 use Rattle.std.proofs.Common.{ℕ, zero, suc, ◌≡◌, ◌≤◌, ◌+◌, inl, inr, List, [], ◌∷◌, ◌++◌, Option, Some, None, refl, arith, ap, sym, subst, ◌∙◌, length, length-append}
 use Rattle.std.specs.Option.{option_map, option_and_then}
 use Rattle.std.specs.Prelude.{IsSome}
-use Rattle.lmn_heap.specs.Heap.{Heap, HeapMem, Place, top, within, waiting, gone, In, IsMem, mems_in, mems_by, mem_place_of, parent_of, home_by}
+use Rattle.lmn_heap.specs.Heap.{Heap, HeapMem, Place, top, within, waiting, gone, IsMem, mems_in, mems_by, mem_place_of, parent_of, home_by}
 use Rattle.lmn_heap.specs.Sound.{Valid, Forest, bare, mem, flat, Forms, Listed}
 use Rattle.lmn_heap.specs.Conditions.{Above}
 use Rattle.lmn_heap.proofs.Trees.{in_either, parent_by}
+use Rattle.lmn_base.specs.Lists.{In}
 
 -- what is in a list has that membrane for its parent
 pub parent_is : (h : Heap) (listed : Listed h) (n m : ℕ) → In n (mems_in h m) → parent_of h n ≡ Some m

@@ -9,11 +9,11 @@ use Rattle.lmn_base.specs.declared.solid.Region.TheFolds.{fold-Region, fold-roll
 use Rattle.lmn_base.specs.declared.solid.Region.TheOpen.{Region-F}
 use Rattle.lmn_base.specs.declared.solid.Region.TheViews.{roll-Region}
 use Rattle.lmn_base.specs.Solids.{items_step}
-use Rattle.lmn_heap.specs.Lists.{In}
 use Rattle.lmn_heap.specs.Heap.{Heap, HeapAtom, Place, within, IsAtom, atoms_in, rules_in}
 use Rattle.lmn_heap.specs.Sound.{Forest, bare, mem, flat, item_count_in}
 use Rattle.lmn_heap.specs.Solid.{solid_atom_at, solid_atoms_at, regions_of}
 use Rattle.lmn_heap.specs.Laws.{ItemsOfSolid}
+use Rattle.lmn_base.specs.Lists.{In}
 
 sum_cons : {X : Type 0} (f : X → ℕ) (x : X) (xs : List X) → sum (map f (x ∷ xs)) ≡ f x + sum (map f xs)
 sum_cons f x xs = sum-map f (x ∷ xs) ∙ sum_by-cons f x xs ∙ ap (λ n. f x + n) (sym (sum-map f xs))

@@ -4,17 +4,18 @@ use Rattle.std.proofs.lemmas.Bool.{cases_eq, eq-eqb, eqb-true}
 use Rattle.std.proofs.lemmas.Map.Steps.{length-le_from_distinct_below}
 use Rattle.std.specs.Prelude.{nat_eq}
 use Rattle.std.specs.List.{IsDistinct, AllByRecursion, list_any}
-use Rattle.lmn_heap.specs.Lists.{Each, In, Distinct, without}
+use Rattle.lmn_heap.specs.Lists.{Distinct, without}
 use Rattle.lmn_base.proofs.Numbers.{not_equal as apart_test}
+use Rattle.lmn_base.specs.Lists.{In}
 
 -- what holds of each element holds of one
-pub each_in : (P : ℕ → Type 0) (xs : List ℕ) (a : ℕ) → Each P xs → In a xs → P a
+pub each_in : (P : ℕ → Type 0) (xs : List ℕ) (a : ℕ) → AllByRecursion P xs → In a xs → P a
 each_in P [] a e i = absurd i
 each_in P (x ∷ xs) a e (inl same) = subst P same e.0
 each_in P (x ∷ xs) a e (inr i) = each_in P xs a e.1 i
 
 -- and the other way
-pub each_of : (P : ℕ → Type 0) (xs : List ℕ) → ((a : ℕ) → In a xs → P a) → Each P xs
+pub each_of : (P : ℕ → Type 0) (xs : List ℕ) → ((a : ℕ) → In a xs → P a) → AllByRecursion P xs
 each_of P [] h = tt
 each_of P (x ∷ xs) h = (h x (inl refl), each_of P xs (λ a i. h a (inr i)))
 
@@ -43,7 +44,7 @@ pub distinct_right : (xs ys : List ℕ) → Distinct (xs ++ ys) → Distinct ys
 distinct_right [] ys d = d
 distinct_right (x ∷ xs) ys d = distinct_right xs ys d.1
 
-all_apart : (x : ℕ) (xs : List ℕ) → Each (λ y. x ≢ y) xs → AllByRecursion (λ y. (x == y) ≡ false) xs
+all_apart : (x : ℕ) (xs : List ℕ) → AllByRecursion (λ y. x ≢ y) xs → AllByRecursion (λ y. (x == y) ≡ false) xs
 all_apart x [] e = tt
 all_apart x (y ∷ ys) e = (apart_test x y e.0, all_apart x ys e.1)
 
@@ -52,7 +53,7 @@ unfolding IsDistinct
 is_distinct [] d = tt
 is_distinct (x ∷ xs) d = (all_apart x xs d.0, is_distinct xs d.1)
 
-below_any : (n q : ℕ) (xs : List ℕ) → Each (λ x. x < n) xs → list_any (nat_eq q) xs ≡ true → q < n
+below_any : (n q : ℕ) (xs : List ℕ) → AllByRecursion (λ x. x < n) xs → list_any (nat_eq q) xs ≡ true → q < n
 below_any n q [] e h = absurd (cc)
 below_any n q (x ∷ xs) e h =
     elim (cases_eq q x) [
@@ -61,7 +62,7 @@ below_any n q (x ∷ xs) e h =
     ]
 
 -- a list of numbers below n without repeats has at most n
-pub short : (n : ℕ) (xs : List ℕ) → Distinct xs → Each (λ x. x < n) xs → length xs ≤ n
+pub short : (n : ℕ) (xs : List ℕ) → Distinct xs → AllByRecursion (λ x. x < n) xs → length xs ≤ n
 short n xs d e = length-le_from_distinct_below xs n (is_distinct xs d) (λ q h. below_any n q xs e h)
 
 -- a list is split at an element

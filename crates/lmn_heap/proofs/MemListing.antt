@@ -2,11 +2,12 @@
 use Rattle.std.proofs.Common.{◌≡◌, ◌≢◌, ℕ, List, [], ◌∷◌, ◌++◌, Option, Some, None, IsSome, refl, sym, ap, subst, ◌∙◌, inl, inr}
 use Rattle.std.proofs.lemmas.Bool.{cases_eq}
 use Rattle.std.specs.Option.{option_map}
-use Rattle.lmn_heap.specs.Lists.{In, Distinct, from, without}
+use Rattle.lmn_heap.specs.Lists.{Distinct, from, without}
 use Rattle.lmn_heap.specs.Heap.{Heap, HeapMem, Place, top, within, waiting, gone, alter, place_of, mem_place_of, parent_of, atoms_in, mems_in, atoms_by, mems_by, mem_with_place, mem_with_mems, mem_out, new_mem, made_mem, placed_mem, taken_mem}
 use Rattle.lmn_heap.specs.Sound.{Listed}
 use Rattle.lmn_heap.proofs.Heights.{parent_place, mem_of_list}
 use Rattle.lmn_heap.proofs.Listing.{alter_at, alter_away, alter_keeps, Turns, gains, loses, keeps, turned, distinct_without, distinct_snoc, without_first, gone_apart, waiting_apart, within_same}
+use Rattle.lmn_base.specs.Lists.{In}
 
 -- a membrane goes to another place
 pub record OneMemMoves (s t : Heap) (n : ℕ) (Q : Place) : Type 0 where

@@ -2,9 +2,10 @@
 use Rattle.std.proofs.Common.{ℕ, suc, ◌≡◌, ◌≢◌, ◌≤◌, inl, inr, List, [], ◌∷◌, refl, arith, ap, sym, length}
 use Rattle.std.specs.Prelude.{Bool, true, false, ◌==◌, if◌then◌else◌}
 use Rattle.std.proofs.lemmas.Bool.Decides.{Decides-eqb}
-use Rattle.lmn_heap.specs.Lists.{In, Distinct, without}
+use Rattle.lmn_heap.specs.Lists.{Distinct, without}
 use Rattle.lmn_heap.proofs.ListLemmas.{each_in, in_without}
 use Rattle.lmn_base.proofs.Numbers.{same_or_not as number_cases}
+use Rattle.lmn_base.specs.Lists.{In}
 
 length_by : (x y : ℕ) (ys : List ℕ) (b : Bool) → (y == x) ≡ b → (In x ys → length ys ≡ suc (length (without x ys))) → In x (y ∷ ys) →
     suc (length ys) ≡ suc (length (if b then ys else y ∷ without x ys))

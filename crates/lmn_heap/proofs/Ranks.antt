@@ -1,7 +1,7 @@
 -- A tree from ranks: where each membrane has a greater rank than the one that it stands in, the membranes form a tree.
 use Rattle.std.proofs.Common.{ℕ, zero, suc, ◌+◌, ◌<◌, ◌≤◌, ◌≡◌, ◌≢◌, ◌⊎◌, List, [], ◌∷◌, ◌++◌, Option, Some, None, IsSome, refl, sym, ap, subst, ◌∙◌, inl, inr, arith}
 use Rattle.std.specs.Option.{option_map}
-use Rattle.lmn_heap.specs.Heap.{Heap, HeapMem, Place, top, within, waiting, gone, mem_place_of, parent_of, mems_in, IsMem, In, Distinct}
+use Rattle.lmn_heap.specs.Heap.{Heap, HeapMem, Place, top, within, waiting, gone, mem_place_of, parent_of, mems_in, IsMem, Distinct}
 use Rattle.lmn_heap.specs.Sound.{Listed, Forest, bare, mem, flat, Forms}
 use Rattle.lmn_heap.specs.Conditions.{Above}
 use Rattle.lmn_heap.proofs.ListLemmas.{each_in, each_of}
@@ -10,6 +10,7 @@ use Rattle.lmn_heap.proofs.Groves.{child_inside}
 use Rattle.lmn_heap.proofs.Heights.{parent_is, parent_place, mem_of_list, mem_of_place, above_more}
 use Rattle.lmn_heap.proofs.Depths.{both_distinct}
 use Rattle.lmn_heap.proofs.Common.{nothing_in}
+use Rattle.lmn_base.specs.Lists.{In}
 
 -- a forest of a list, from a forest for what is in each
 abbrev pub build_list : (ℕ → Forest) → List ℕ → Forest

@@ -2,9 +2,10 @@
 use Rattle.std.proofs.Common.{◌≡◌, ◌⊎◌, ℕ, zero, suc, ◌<◌, List, [], ◌∷◌, length, Option, Some, None, IsSome, refl, sym, subst, ◌∙◌, inl, inr, arith}
 use Rattle.std.specs.Option.{option_map, option_and_then}
 use Rattle.std.specs.Prelude.{slice_index_or}
-use Rattle.lmn_heap.specs.Heap.{Heap, HeapAtom, HeapMem, Place, top, waiting, home_by, place_of, mem_place_of, partners_of, link_of, arity_of, functor_of, with_link, linked, cleared, joined, In}
+use Rattle.lmn_heap.specs.Heap.{Heap, HeapAtom, HeapMem, Place, top, waiting, home_by, place_of, mem_place_of, partners_of, link_of, arity_of, functor_of, with_link, linked, cleared, joined}
 use Rattle.lmn_heap.specs.Sound.{Listed, AllInPlace}
 use Rattle.lmn_heap.proofs.Listing.{alter_keeps}
+use Rattle.lmn_base.specs.Lists.{In}
 
 -- a port that has a partner is one
 pub port_within : (s : Heap) (x i : ℕ) (p : ℕ × ℕ) → link_of s x i ≡ Some p → i < arity_of s x

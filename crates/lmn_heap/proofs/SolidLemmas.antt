@@ -2,11 +2,12 @@
 use Rattle.std.proofs.Common.{◌≡◌, ℕ, List, [], ◌∷◌, ◌++◌, refl, sym, ap, ◌∙◌, inl, inr}
 use Rattle.std.proofs.lemmas.List.{append_assoc}
 use Rattle.lmn_heap.proofs.ListLemmas.{in_left, in_right}
-use Rattle.lmn_heap.specs.Heap.{Heap, atoms_in, rules_in, In}
+use Rattle.lmn_heap.specs.Heap.{Heap, atoms_in, rules_in}
 use Rattle.lmn_heap.specs.Sound.{Forest, bare, mem, flat}
 use Rattle.lmn_base.specs.declared.solid.Region.TheViews.{roll-Region}
 use Rattle.lmn_heap.specs.Solid.{solid_atoms_at, solid_atom_at, regions_of}
 use Rattle.lmn_heap.proofs.Groves.{beside}
+use Rattle.lmn_base.specs.Lists.{In}
 
 -- the atoms of two lists, one behind the other
 pub atoms_append : (s : Heap) (name : ℕ → ℕ → ℕ) (xs ys : List ℕ) → solid_atoms_at s name (xs ++ ys) ≡ solid_atoms_at s name xs ++ solid_atoms_at s name ys

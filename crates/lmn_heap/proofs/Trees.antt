@@ -3,10 +3,11 @@ use Rattle.std.proofs.Common.{◌≡◌, ◌⊎◌, ℕ, ◌<◌, ◌+◌, ◌-�
 use Rattle.std.proofs.lemmas.Bool.{eq-eqb}
 use Rattle.std.proofs.lemmas.List.{append_assoc, length-append}
 use Rattle.std.specs.Option.{option_map, option_and_then}
-use Rattle.lmn_heap.specs.Heap.{Heap, HeapMem, Place, top, within, home_by, parent_of, mem_place_of, mems_in, IsMem, In, Distinct, from, after}
+use Rattle.lmn_heap.specs.Heap.{Heap, HeapMem, Place, top, within, home_by, parent_of, mem_place_of, mems_in, IsMem, Distinct, from, after}
 use Rattle.lmn_heap.specs.Sound.{Forest, bare, mem, flat, Forms, IsTree, Sound}
 use Rattle.lmn_heap.proofs.ListLemmas.{apart}
 use Rattle.lmn_base.proofs.Numbers.{not_equal as apart_test}
+use Rattle.lmn_base.specs.Lists.{In}
 
 -- nothing behind a list
 pub nil_right : (xs : List ℕ) → xs ++ [] ≡ xs

@@ -2,7 +2,7 @@
 use Rattle.std.specs.Prelude.{ℕ, ◌==◌, ◌+◌, ◌-◌, List, [], ◌∷◌, ◌++◌, Option, Some, None, IsSome, if◌then◌else◌, length, slice_set, slice_index_or, replicate, ◌<◌, ◌≡◌}
 use Rattle.std.specs.Option.{option_map, option_and_then}
 use Rattle.lmn_base.specs.declared.functor.Functor.{Functor}
-pub use Rattle.lmn_heap.specs.Lists.{from, after, without, In, Distinct}
+pub use Rattle.lmn_heap.specs.Lists.{from, after, without, Distinct}
 
 -- where an item is: the root, in the list of a membrane, made and not yet placed, taken out and not yet freed
 pub data Place : Type 0 where

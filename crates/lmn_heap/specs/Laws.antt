@@ -3,11 +3,12 @@ use Rattle.std.specs.Prelude.{◌≡◌, ◌≢◌, ◌<◌, ℕ, suc, [], ◌�
 use Rattle.lmn_base.specs.declared.functor.Functor.{Functor}
 use Rattle.lmn_base.specs.declared.solid.Solid.{Solid}
 use Rattle.lmn_base.specs.Solids.{connector, item_count}
-use Rattle.lmn_heap.specs.Lists.{In, from}
+use Rattle.lmn_heap.specs.Lists.{from}
 use Rattle.lmn_heap.specs.Heap.{Heap, gone, IsMem, IsInPlace, IsPlacedMem, IsMemInPlace, functor_of, arity_of, mem_place_of, marked, mem_marked, made_atom, made_mem, reserved, discarded, finished, placed, placed_mem, taken, taken_mem, moved_all, rule_added, rules_copied, joined}
 use Rattle.lmn_heap.specs.Sound.{Sound, Valid, Forest, flat, Forms, IsTree, item_count_in}
 use Rattle.lmn_heap.specs.Conditions.{Above, IsOutside, Alone, Ready}
 use Rattle.lmn_heap.specs.Solid.{HasSolid}
+use Rattle.lmn_base.specs.Lists.{In}
 
 -- What each call makes of this heap is sound.
 pub record KeepsSound (s : Heap) : Type 0 where

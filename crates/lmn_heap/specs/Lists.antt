@@ -1,20 +1,11 @@
 -- Lists of numbers: what is in them, and their parts.
 use Rattle.std.specs.Prelude.{ℕ, ◌≡◌, ◌≢◌, ◌⊎◌, ◌==◌, List, [], ◌∷◌, Option, Some, None, if◌then◌else◌}
-
--- each element of the list
-abbrev pub Each : (ℕ → Type 0) → List ℕ → Type 0
-Each P [] = Unit {0}
-Each P (x ∷ xs) = P x × Each P xs
-
--- the number is in the list
-abbrev pub In : ℕ → List ℕ → Type 0
-In a [] = ⊥
-In a (x ∷ xs) = (x ≡ a) ⊎ In a xs
+use Rattle.std.specs.List.{AllByRecursion}
 
 -- no number stands twice
 abbrev pub Distinct : List ℕ → Type 0
 Distinct [] = Unit {0}
-Distinct (x ∷ xs) = Each (λ y. x ≢ y) xs × Distinct xs
+Distinct (x ∷ xs) = AllByRecursion (λ y. x ≢ y) xs × Distinct xs
 
 -- without the first a
 abbrev pub without : ℕ → List ℕ → List ℕ

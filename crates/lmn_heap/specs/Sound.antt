@@ -2,7 +2,8 @@
 use Rattle.std.specs.Prelude.{◌≡◌, ◌≢◌, ◌<◌, ◌≤◌, ℕ, ◌+◌, ◌↔◌, ◌⊎◌, List, [], ◌∷◌, ◌++◌, Some, IsSome, length, map, sum}
 use Rattle.lmn_base.specs.declared.functor.Functor.{Functor}
 use Rattle.lmn_base.specs.Solids.{connector}
-use Rattle.lmn_heap.specs.Heap.{Heap, top, within, waiting, IsAtom, IsMem, IsInPlace, functor_of, link_of, place_of, mem_place_of, parent_of, atoms_in, mems_in, rules_in, spare_of, arity_of, marks_of, In, Distinct}
+use Rattle.lmn_heap.specs.Heap.{Heap, top, within, waiting, IsAtom, IsMem, IsInPlace, functor_of, link_of, place_of, mem_place_of, parent_of, atoms_in, mems_in, rules_in, spare_of, arity_of, marks_of, Distinct}
+use Rattle.lmn_base.specs.Lists.{In}
 
 -- each port that has a partner is that partner's partner, and not its own
 pub record Paired (s : Heap) : Type 0 where

@@ -8,12 +8,13 @@ use Rattle.lmn_congruence.specs.Regions.{SolidAtom}
 use Rattle.lmn_congruence.specs.Rules.{Label, Name, named}
 use Rattle.lmn_congruence.specs.Translation.{label_of, solid_atom_of}
 use Rattle.lmn_heap.specs.Heap.{Heap, HeapAtom, IsAtom, partners_of, arity_of, functor_of}
-use Rattle.lmn_heap.specs.Lists.{In, Distinct}
+use Rattle.lmn_heap.specs.Lists.{Distinct}
 use Rattle.lmn_heap.specs.Solid.{IsNaming, links_from, solid_atom_at, solid_atoms_at}
 use Rattle.lmn_heap.specs.Sound.{Sound}
 use Rattle.lmn_folded.proofs.Places.{count, AtMostTwice, ends_in_one_way, not_nil}
 use Rattle.lmn_items.proofs.TwoPlaces.{times, at_most_twice}
 use Rattle.lmn_heap.proofs.Common.{numbered_get as number_from}
+use Rattle.lmn_base.specs.Lists.{In}
 
 abbrev label_by : List Name → Option HeapAtom → Label
 label_by names None = named []

@@ -1,7 +1,6 @@
 -- The terms in an item are marked while it is walked.
 use Rattle.std.proofs.Common.{◌≡◌, ◌≢◌, ℕ, suc, ◌+◌, ◌-◌, ◌<◌, ◌≤◌, ◌==◌, ◌&&◌, ◌||◌, ◌⊎◌, inl, inr, not, true, false, if◌then◌else◌, List, [], ◌∷◌, Option, Some, None, refl, sym, ap, ◌∙◌, subst, arith}
 use Rattle.lmn_heap.specs.Heap.{Heap, arity_of, link_of, own_mark}
-use Rattle.lmn_heap.specs.Lists.{In}
 use Rattle.lmn_heap.specs.Sound.{Paired}
 use Rattle.lmn_folding.specs.Marks.{is_item, is_end_of_term, term_by, term_at, argument_count, Event, leaves, WalkMeets, turns}
 use Rattle.lmn_folding.proofs.FewTurns.{entered}
@@ -12,6 +11,7 @@ use Rattle.lmn_items.proofs.ItemWalks.{Down, terms_entered, entered_terms}
 use Rattle.lmn_items.proofs.OwnMarks.{arity_same, link_same}
 use Rattle.lmn_base.proofs.Numbers.{same_or_not as number_cases}
 use Rattle.lmn_heap.proofs.Common.{same_port}
+use Rattle.lmn_base.specs.Lists.{In}
 
 -- other marks of terms change nothing of what is printed as a term
 module _ (s t : Heap) (r : ChangesOwnMarks s t) (same : (a : ℕ) → is_item t a ≡ is_item s a) where

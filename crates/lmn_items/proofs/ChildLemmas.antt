@@ -1,7 +1,7 @@
 -- Whether an atom is a child, by the port to which its last port is joined.
 use Rattle.std.proofs.Common.{◌≡◌, ◌≢◌, ℕ, ◌+◌, ◌-◌, ◌<◌, ◌⊎◌, inl, inr, Some, sym, ◌∙◌, subst, arith}
 use Rattle.lmn_heap.specs.Heap.{Heap, arity_of, atoms_in, link_of, own_mark}
-use Rattle.lmn_heap.specs.Lists.{In, after}
+use Rattle.lmn_heap.specs.Lists.{after}
 use Rattle.lmn_heap.specs.Sound.{Sound}
 use Rattle.lmn_printer.proofs.OrderLemmas.{at_home}
 use Rattle.lmn_items.specs.Children.{IsChildAt}
@@ -9,6 +9,7 @@ use Rattle.lmn_items.specs.Marking.{AreBeside, IsChildNowhere, IsChildSomewhere,
 use Rattle.lmn_items.proofs.Orders.{home_in}
 use Rattle.lmn_base.proofs.Numbers.{same_or_not as number_cases}
 use Rattle.lmn_heap.proofs.Common.{same_port}
+use Rattle.lmn_base.specs.Lists.{In}
 
 module _ (s : Heap) (sound : Sound s) (q p k : ℕ) (ports : 0 < arity_of s q) (joined : link_of s q (arity_of s q - 1) ≡ Some (p, k)) where
   -- it is joined to one port

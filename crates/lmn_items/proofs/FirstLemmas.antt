@@ -1,7 +1,7 @@
 -- The atoms that are no child are marked, one after the other.
 use Rattle.std.proofs.Common.{◌≡◌, ◌≢◌, ℕ, ◌+◌, ◌-◌, ◌⊎◌, inl, inr, List, ◌∷◌, Option, Some, None, sym, ap, ◌∙◌, subst, arith}
 use Rattle.lmn_heap.specs.Heap.{Heap, IsAtom, arity_of, atoms_in, link_of, own_mark, Unmarked}
-use Rattle.lmn_heap.specs.Lists.{In, from, after}
+use Rattle.lmn_heap.specs.Lists.{from, after}
 use Rattle.lmn_heap.specs.Sound.{Valid}
 use Rattle.lmn_items.specs.Chosen.{ChangesOwnMarks}
 use Rattle.lmn_items.specs.Children.{IsChildAt}
@@ -12,6 +12,7 @@ use Rattle.lmn_heap.proofs.Replacing.{port_within as link_low}
 use Rattle.lmn_base.proofs.Numbers.{same_or_not as number_cases}
 use Rattle.lmn_heap.proofs.Common.{same_port}
 use Rattle.lmn_printer.proofs.ToldLemmas.{all_atoms}
+use Rattle.lmn_base.specs.Lists.{In}
 
 -- Each atom before the next one has the mark 1 where it is no child, and those that are to come have 0.
 pub record FirstsLeft (s t : Heap) (xs : List ℕ) (next : Option ℕ) : Type 0 where

@@ -1,7 +1,7 @@
 -- From each item on there is a walk, and what it enters are the terms in it.
 use Rattle.std.proofs.Common.{◌≡◌, ◌≢◌, ℕ, zero, suc, ◌+◌, ◌-◌, ◌<◌, ◌≤◌, ◌⊎◌, inl, inr, true, false, if◌then◌else◌, List, [], ◌∷◌, length, Option, Some, None, refl, sym, ap, ◌∙◌, subst, arith, ◌^◌}
 use Rattle.lmn_heap.specs.Heap.{Heap, IsAtom, arity_of, link_of}
-use Rattle.lmn_heap.specs.Lists.{In, Distinct}
+use Rattle.lmn_heap.specs.Lists.{Distinct}
 use Rattle.lmn_heap.specs.Sound.{Paired, AtMost}
 use Rattle.lmn_heap.proofs.ListLemmas.{each_of}
 use Rattle.lmn_heap.proofs.Pigeonholes.{not_longer}
@@ -11,6 +11,7 @@ use Rattle.lmn_folding.proofs.PrintedWalks.{term_is}
 use Rattle.lmn_items.specs.Marking.{IsTermAt, IsTermIn, outer, inner}
 use Rattle.lmn_base.proofs.Numbers.{same_or_not as number_cases}
 use Rattle.lmn_heap.proofs.Common.{same_port}
+use Rattle.lmn_base.specs.Lists.{In}
 
 -- The way down to an atom: an item, and then terms, each in the one before it.
 data Path (s : Heap) : ℕ → List ℕ → Type 0 where

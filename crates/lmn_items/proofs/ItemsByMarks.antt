@@ -10,7 +10,7 @@ use Rattle.lmn_congruence.specs.Rules.{Name}
 use Rattle.lmn_folded.specs.Folding.{Descends, itself, NoChildren, Further, AreItems}
 use Rattle.lmn_folded.specs.Folding as folding
 use Rattle.lmn_heap.specs.Heap.{Heap, atoms_in, own_mark}
-use Rattle.lmn_heap.specs.Lists.{In, after}
+use Rattle.lmn_heap.specs.Lists.{after}
 use Rattle.lmn_heap.specs.Solid.{IsNaming}
 use Rattle.lmn_heap.specs.Sound.{Valid}
 use Rattle.lmn_items.specs.Children.{IsChildAt, DescendsAt, IsMarkedIn}
@@ -21,6 +21,7 @@ use Rattle.lmn_items.proofs.ChildPositions.{to_heap, from_heap, down, up}
 use Rattle.lmn_base.proofs.Numbers.{below_next2 as below_next, not_equal as apart_test}
 use Rattle.lmn_heap.proofs.Common.{in_at}
 use Rattle.lmn_congruence.proofs.Common.{among_left, among_right, among_apart}
+use Rattle.lmn_base.specs.Lists.{In}
 
 -- The list `ys` is what stands in `xs` from j on.
 abbrev From : List ℕ → ℕ → List ℕ → Type 0

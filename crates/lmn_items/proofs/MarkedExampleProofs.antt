@@ -1,10 +1,10 @@
 -- What holds of the examples of own marks.
 use Rattle.std.proofs.Common.{◌≡◌, ◌⊎◌, ℕ, [], ◌∷◌, refl, sym, subst, inl, inr, arith}
-use Rattle.lmn_heap.specs.Lists.{In}
 use Rattle.lmn_items.specs.Children.{IsChildAt, DescendsAt, itself, child, IsItemBefore}
 use Rattle.lmn_items.specs.MarkedExamples.{marked_last_ports, marked_circle, TermIsMarked, ChildIsNoFirstItem, TermIsNoLaterItem, LaterItemIsMarked, TermIsNotBeforeItsItem}
 use Rattle.lmn_heap.specs.Heap.{own_mark}
 use Rattle.lmn_heap.proofs.Common.{same_port}
+use Rattle.lmn_base.specs.Lists.{In}
 
 -- what holds of both atoms holds of each
 both : (P : ℕ → Type 0) → P 0 → P 1 → (a : ℕ) → In a (0 ∷ 1 ∷ []) → P a

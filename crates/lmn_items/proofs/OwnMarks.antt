@@ -3,7 +3,7 @@ use Rattle.std.proofs.Common.{◌≡◌, ℕ, ◌-◌, ◌<◌, ◌⊎◌, inl, 
 use Rattle.std.specs.Option.{option_map, option_and_then}
 use Rattle.std.specs.Prelude.{slice_index_or}
 use Rattle.lmn_heap.specs.Heap.{Heap, HeapAtom, IsAtom, IsMem, top, marked, partners_of, marks_of, arity_of, link_of, mark_of, functor_of, home_of, home_by, parent_of, mem_place_of, atoms_in}
-use Rattle.lmn_heap.specs.Lists.{In, after}
+use Rattle.lmn_heap.specs.Lists.{after}
 use Rattle.lmn_heap.specs.Sound.{Forest, IsTree, Paired, Sound, Valid}
 use Rattle.lmn_heap.proofs.Groves.{forms_frame}
 use Rattle.lmn_printer.specs.Numbers.{printed_atoms, with_marks, remarked}
@@ -11,6 +11,7 @@ use Rattle.lmn_printer.proofs.MarkLemmas.{mark_at, mark_off, remarked_same, rema
 use Rattle.lmn_items.specs.Chosen.{ChangesOwnMarks}
 use Rattle.lmn_items.specs.Children.{IsChildAt, DescendsAt, itself, child}
 use Rattle.lmn_items.specs.Marking.{IsChildNowhere, IsChildSomewhere, SetsOwnMark}
+use Rattle.lmn_base.specs.Lists.{In}
 
 view_same : {X : Type 0} (view : Option HeapAtom → X) → ((x : HeapAtom) (ms : List ℕ) → view (Some (with_marks ms x)) ≡ view (Some x)) → (s t : Heap) → ChangesOwnMarks s t → (a : ℕ) → view (t.atoms a) ≡ view (s.atoms a)
 view_same view h s t r a = ap (λ (k : Heap). view (k.atoms a)) r.is ∙ view_is view h s r.marks a

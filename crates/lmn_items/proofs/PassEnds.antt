@@ -2,7 +2,7 @@
 use Rattle.std.proofs.Common.{◌≡◌, ◌≢◌, ℕ, ◌^◌, inl, inr, List, [], Option, Some, None, IfSome, refl, sym, ap, ◌∙◌, subst}
 use Rattle.std.specs.Option.{option_map}
 use Rattle.lmn_heap.specs.Heap.{Heap, IsAtom, IsInPlace, atoms_in, home_of, own_mark}
-use Rattle.lmn_heap.specs.Lists.{In, from, after}
+use Rattle.lmn_heap.specs.Lists.{from, after}
 use Rattle.lmn_heap.specs.Sound.{Forest, flat, IsTree, AtMost, Valid}
 use Rattle.lmn_heap.specs.Trees.{tree_of}
 use Rattle.lmn_printer.specs.Numbers.{printed_atoms}
@@ -16,6 +16,7 @@ use Rattle.lmn_items.proofs.PassLemmas.{IsBefore, Marked, open_more, rest_less, 
 use Rattle.lmn_base.proofs.Lists.{some_is as some_of}
 use Rattle.lmn_heap.proofs.Common.{in_place_atom as place_atom}
 use Rattle.lmn_printer.proofs.ToldLemmas.{all_atoms as atom_in}
+use Rattle.lmn_base.specs.Lists.{In}
 
 -- all atoms, in printed order
 abbrev pub all_atoms : Heap → List ℕ

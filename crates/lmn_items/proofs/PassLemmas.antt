@@ -2,7 +2,7 @@
 use Rattle.std.proofs.Common.{◌≡◌, ◌≢◌, ℕ, ◌+◌, ◌-◌, ◌<◌, ◌==◌, ◌&&◌, ◌||◌, ◌⊎◌, inl, inr, Bool, not, true, false, if◌then◌else◌, List, Some, None, refl, sym, ap, ◌∙◌, subst, arith}
 use Rattle.std.proofs.lemmas.Bool.{eq-eqb}
 use Rattle.lmn_heap.specs.Heap.{Heap, IsAtom, arity_of, atoms_in, link_of, own_mark}
-use Rattle.lmn_heap.specs.Lists.{In, after}
+use Rattle.lmn_heap.specs.Lists.{after}
 use Rattle.lmn_heap.specs.Sound.{Paired, Sound}
 use Rattle.lmn_folding.specs.Marks.{is_item, term_by, term_at, argument_count}
 use Rattle.lmn_folding.proofs.FewTurns.{end_there}
@@ -18,6 +18,7 @@ use Rattle.lmn_items.proofs.OwnMarks.{arity_same, link_same, last_same, atom_bef
 use Rattle.lmn_heap.proofs.Replacing.{port_within as link_low}
 use Rattle.lmn_base.proofs.Numbers.{same_or_not as number_cases}
 use Rattle.lmn_heap.proofs.Common.{same_port}
+use Rattle.lmn_base.specs.Lists.{In}
 
 -- an item that is chosen before a is asked, where the atoms stand in this order
 abbrev pub IsBefore : Heap → List ℕ → ℕ → ℕ → Type 0

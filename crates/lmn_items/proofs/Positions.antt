@@ -2,10 +2,11 @@
 use Rattle.std.proofs.Common.{◌≡◌, ◌≢◌, ℕ, zero, suc, ◌<◌, List, [], ◌∷◌, Some, slice_get, refl, sym, ap, subst, inl, inr, arith}
 use Rattle.std.proofs.lemmas.Bool.{cases_eq}
 use Rattle.std.proofs.lemmas.Option.{none-some, same_Some}
-use Rattle.lmn_heap.specs.Lists.{In, Distinct, after}
+use Rattle.lmn_heap.specs.Lists.{Distinct, after}
 use Rattle.lmn_heap.proofs.ListLemmas.{each_in}
 use Rattle.lmn_heap.proofs.Common.{in_at}
 use Rattle.lmn_items.proofs.Orders.{after_here, after_there}
+use Rattle.lmn_base.specs.Lists.{In}
 
 pub position : (xs : List ℕ) (a : ℕ) → In a xs → (q : ℕ) × (slice_get xs q ≡ Some a)
 position [] a h = absurd h

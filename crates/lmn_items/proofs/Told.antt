@@ -15,7 +15,6 @@ use Rattle.lmn_folding.specs.Marks.{is_item, is_end_of_term, term_by, term_at}
 use Rattle.lmn_folding.specs.Printed.{PrintsArgument, PrintsAll}
 use Rattle.lmn_folding.specs.Printed as printed
 use Rattle.lmn_heap.specs.Heap.{Heap, Place, top, within, waiting, gone, IsMem, arity_of, atoms_in, home_of, link_of, own_mark}
-use Rattle.lmn_heap.specs.Lists.{In}
 use Rattle.lmn_heap.specs.Solid.{IsNaming, links_from}
 use Rattle.lmn_heap.specs.Sound.{Valid}
 use Rattle.lmn_heap.proofs.Replacing.{port_within}
@@ -33,6 +32,7 @@ use Rattle.lmn_base.proofs.Numbers.{equal_when as equal_numbers}
 use Rattle.lmn_base.proofs.Truth.{and_true as and_both, not_true}
 use Rattle.lmn_heap.proofs.Common.{in_at, is_atom_at as port_there, same_port}
 use Rattle.lmn_printer.proofs.ToldLemmas.{all_atoms}
+use Rattle.lmn_base.specs.Lists.{In}
 
 -- A region of atoms alone is folded to items.
 

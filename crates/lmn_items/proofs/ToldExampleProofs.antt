@@ -13,11 +13,11 @@ use Rattle.lmn_folding.specs.Printed as printed
 use Rattle.lmn_folding.specs.PrintedExamples.{one_item, item_with}
 use Rattle.lmn_folding.proofs.PrintedExampleProofs.{link_is_printed}
 use Rattle.lmn_heap.specs.Heap.{arity_of, own_mark}
-use Rattle.lmn_heap.specs.Lists.{In}
 use Rattle.lmn_items.specs.Children.{IsMarkedIn}
 use Rattle.lmn_items.specs.Chosen.{PrintsItems}
 use Rattle.lmn_items.specs.Chosen as chosen
 use Rattle.lmn_items.specs.ToldExamples.{ItemIsTold, OneMembraneIsNotEnough}
+use Rattle.lmn_base.specs.Lists.{In}
 
 -- One atom alone is no child.
 

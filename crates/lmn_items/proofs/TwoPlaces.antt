@@ -3,11 +3,13 @@ use Rattle.std.proofs.Common.{◌≡◌, ◌≢◌, ℕ, zero, suc, ◌+◌, ◌
 use Rattle.lmn_congruence.specs.Links.{one_if_same, places}
 use Rattle.lmn_congruence.proofs.Counts.{one_if_equal, none_if_apart}
 use Rattle.lmn_heap.specs.Heap.{Heap, arity_of, link_of}
-use Rattle.lmn_heap.specs.Lists.{In, Each, Distinct}
+use Rattle.lmn_heap.specs.Lists.{Distinct}
 use Rattle.lmn_heap.specs.Solid.{IsNaming, links_from}
 use Rattle.lmn_heap.proofs.ListLemmas.{each_in}
 use Rattle.lmn_base.proofs.Numbers.{same_or_not}
 use Rattle.lmn_heap.proofs.Common.{same_port}
+use Rattle.lmn_base.specs.Lists.{In}
+use Rattle.std.specs.List.{AllByRecursion}
 
 -- a port of the atom c from k on, or of an atom of the list
 abbrev Among : ℕ → ℕ → List ℕ → ℕ → ℕ → Type 0
@@ -39,7 +41,7 @@ module _ (s : Heap) (name : ℕ → ℕ → ℕ) (naming : IsNaming s name) (x :
   moved c k e i xs ys f _ (one b j h) = one b j (moved_one c k e i xs ys f b j h)
   moved c k e i xs ys f _ (two b j d l h g u) = two b j d l (moved_one c k e i xs ys f b j h) (moved_one c k e i xs ys f d l g) u
 
-  module _ (c k : ℕ) (xs : List ℕ) (apart : Each (λ y. c ≢ y) xs) (port : k < arity_of s c) where
+  module _ (c k : ℕ) (xs : List ℕ) (apart : AllByRecursion (λ y. c ≢ y) xs) (port : k < arity_of s c) where
     wider : (b j : ℕ) → Among c (k + 1) xs b j → Among c k xs b j
     wider b j (inl h) = let l = h.1 in inl (h.0, omega (arith, l))
     wider b j (inr h) = inr h
@@ -70,7 +72,7 @@ module _ (s : Heap) (name : ℕ → ℕ → ℕ) (naming : IsNaming s name) (x :
       | inr d ↦ subst (Ports s name x c k xs) (let u = none_if_apart x (name c k) d in omega (arith, u)) (moved c (k + 1) c k xs xs wider n h)
     ]
 
-  from_port : (c : ℕ) (xs : List ℕ) → Each (λ y. c ≢ y) xs → (k n m : ℕ) → k + n ≤ arity_of s c → Ports s name x c (k + n) xs m
+  from_port : (c : ℕ) (xs : List ℕ) → AllByRecursion (λ y. c ≢ y) xs → (k n m : ℕ) → k + n ≤ arity_of s c → Ports s name x c (k + n) xs m
       → Ports s name x c k xs (places x (links_from name c k n) + m)
   from_port c xs apart k zero m l h =
       let at : k + 0 ≡ k = omega arith in

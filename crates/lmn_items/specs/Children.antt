@@ -1,9 +1,10 @@
 -- Children of atoms in a heap, and own marks that tell which atoms of a membrane are items.
 use Rattle.std.specs.Prelude.{ℕ, ◌≡◌, ◌≢◌, ◌<◌, ◌+◌, ◌-◌, ◌⊎◌, Some}
 use Rattle.lmn_heap.specs.Heap.{Heap, IsMem, arity_of, atoms_in, link_of, own_mark}
-use Rattle.lmn_heap.specs.Lists.{In, after}
+use Rattle.lmn_heap.specs.Lists.{after}
 use Rattle.lmn_heap.specs.Sound.{Valid}
 use Rattle.lmn_items.specs.Chosen.{AreChosen}
+use Rattle.lmn_base.specs.Lists.{In}
 
 -- The atom q is a child of another atom p of its membrane at the port k of p: the last port of q is joined to that port, and that
 -- port isn't the last one of p, or it is and p stands before q.

@@ -2,9 +2,10 @@
 use Rattle.std.specs.Prelude.{ℕ, ◌≡◌, ◌≢◌, ◌<◌, ◌+◌, ◌-◌, ◌⊎◌, ◌↔◌, Some}
 use Rattle.lmn_folding.specs.Marks.{argument_count, term_at}
 use Rattle.lmn_heap.specs.Heap.{Heap, IsAtom, arity_of, atoms_in, home_of, link_of, own_mark}
-use Rattle.lmn_heap.specs.Lists.{In, after}
+use Rattle.lmn_heap.specs.Lists.{after}
 use Rattle.lmn_items.specs.Chosen.{ChangesOwnMarks}
 use Rattle.lmn_items.specs.Children.{IsChildAt, DescendsAt}
+use Rattle.lmn_base.specs.Lists.{In}
 
 -- the atom is a child in no membrane
 abbrev pub IsChildNowhere : Heap → ℕ → Type 0

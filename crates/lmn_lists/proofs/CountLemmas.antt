@@ -3,7 +3,7 @@ use Rattle.std.proofs.Common.{◌≡◌, ℕ, zero, suc, ◌+◌, ◌-◌, ◌<�
 use Rattle.std.specs.Prelude.{slice_set, slice_index_or}
 use Rattle.std.proofs.lemmas.Bool.{cases_eq}
 use Rattle.std.proofs.lemmas.List.{length-set, get_or-set_same}
-use Rattle.lmn_heap.specs.Lists.{In, Distinct, without}
+use Rattle.lmn_heap.specs.Lists.{Distinct, without}
 use Rattle.lmn_heap.specs.Heap.{alter}
 use Rattle.lmn_heap.proofs.ListLemmas.{short}
 use Rattle.lmn_heap.proofs.Pigeonholes.{length_without}
@@ -14,6 +14,7 @@ use Rattle.lmn_lists.specs.Lines.{HeldLists, list_at, lengths, WellLinked, view_
 use Rattle.lmn_lists.proofs.Growth.{read_more}
 use Rattle.lmn_lists.proofs.SoundLemmas.{within}
 use Rattle.lmn_lists.proofs.TableLemmas.{list_is, list_within, not_there}
+use Rattle.lmn_base.specs.Lists.{In}
 
 pub length-lengths : (ls : List (List ℕ)) → length (lengths ls) ≡ length ls
 length-lengths [] = refl

@@ -25,6 +25,7 @@ use Rattle.lmn_heap.proofs.Items.{place_some as placed_is_atom}
 use Rattle.lmn_splice.proofs.Common.{in_append as either_in, in_back as right_in, in_front as left_in, links_append, ports_append, distinct_append}
 use Rattle.lmn_heap.specs.Lists as lists
 use Rattle.lmn_heap.proofs.ListLemmas as lemmas
+use Rattle.lmn_base.specs.Lists.{In}
 
 -- Lists
 
@@ -38,7 +39,7 @@ named_second name v (e ∷ ps) qs n = named_second name v ps qs n.1
 
 -- Forests side by side
 
-pub in_beside : (f g : Forest) (k : ℕ) → lists.In k (flat (beside f g)) → lists.In k (flat f) ⊎ lists.In k (flat g)
+pub in_beside : (f g : Forest) (k : ℕ) → In k (flat (beside f g)) → In k (flat f) ⊎ In k (flat g)
 in_beside bare g k i = inr i
 in_beside (mem m x r) g k (inl e) = inl (inl e)
 in_beside (mem m x r) g k (inr i) = elim (in_either k (flat x) (flat (beside r g)) i) [
@@ -46,7 +47,7 @@ in_beside (mem m x r) g k (inr i) = elim (in_either k (flat x) (flat (beside r g
   | inr j ↦ elim (in_beside r g k j) [ inl q ↦ inl (inr (lemmas.in_right k (flat x) (flat r) q)) | inr q ↦ inr q ]
 ]
 
-pub beside_first : (f g : Forest) (k : ℕ) → lists.In k (flat f) → lists.In k (flat (beside f g))
+pub beside_first : (f g : Forest) (k : ℕ) → In k (flat f) → In k (flat (beside f g))
 beside_first bare g k i = absurd i
 beside_first (mem m x r) g k (inl e) = inl e
 beside_first (mem m x r) g k (inr i) = elim (in_either k (flat x) (flat r) i) [
@@ -54,7 +55,7 @@ beside_first (mem m x r) g k (inr i) = elim (in_either k (flat x) (flat r) i) [
   | inr j ↦ inr (lemmas.in_right k (flat x) (flat (beside r g)) (beside_first r g k j))
 ]
 
-pub beside_second : (f g : Forest) (k : ℕ) → lists.In k (flat g) → lists.In k (flat (beside f g))
+pub beside_second : (f g : Forest) (k : ℕ) → In k (flat g) → In k (flat (beside f g))
 beside_second bare g k i = i
 beside_second (mem m x r) g k i = inr (lemmas.in_right k (flat x) (flat (beside r g)) (beside_second r g k i))
 
@@ -68,12 +69,12 @@ pub none_is_not : {A : Type 0} (o : Option A) → o ≡ None → IsSome o → �
 none_is_not o e i = absurd (cc (e, i))
 
 -- the atoms of a list, in two heaps
-pub atoms_frame : (s t : Heap) (name : ℕ → ℕ → ℕ) (xs : List ℕ) → ((a : ℕ) → lists.In a xs → t.atoms a ≡ s.atoms a) → solid_atoms_at t name xs ≡ solid_atoms_at s name xs
+pub atoms_frame : (s t : Heap) (name : ℕ → ℕ → ℕ) (xs : List ℕ) → ((a : ℕ) → In a xs → t.atoms a ≡ s.atoms a) → solid_atoms_at t name xs ≡ solid_atoms_at s name xs
 atoms_frame s t name [] h = refl
 atoms_frame s t name (a ∷ xs) h = both (ap (solid_atom_at name a) (h a (inl refl))) (atoms_frame s t name xs (λ b i. h b (inr i)))
 
 -- an atom in the list of a membrane
-pub listed_is_atom : (s : Heap) → Listed s → (k a : ℕ) → lists.In a (atoms_in s k) → IsAtom s a
+pub listed_is_atom : (s : Heap) → Listed s → (k a : ℕ) → In a (atoms_in s k) → IsAtom s a
 listed_is_atom s h k a i = placed_is_atom (s.atoms a) (within k) ((h.atoms k a).0 i)
 
 made_more : (o : Option HeapAtom) (a : ℕ) (ps qs : List (Port × ℕ)) → ((p : Port) → IsOneOf p (ports ps) → IsOneOf p (ports qs)) → IsMadeAtom o a ps → IsMadeAtom o a qs
@@ -105,17 +106,17 @@ module _ (s t u : Heap) (m : ℕ) (ls ls' : List Leaf) (is is' : List Level) (rs
   is_mem : IsMem s m
   is_mem = standing_is_mem (s.mems m) here.there
 
-  not_here : (k : ℕ) → lists.In k (flat a.forest) → k ≢ m
+  not_here : (k : ℕ) → In k (flat a.forest) → k ≢ m
   not_here k i e = none_is_not (s.mems m) (subst (λ j. s.mems j ≡ None) e (a.new k i).0) is_mem
 
-  mem_stays : (k : ℕ) → lists.In k (flat a.forest) → u.mems k ≡ t.mems k
+  mem_stays : (k : ℕ) → In k (flat a.forest) → u.mems k ≡ t.mems k
   mem_stays k i = b.mems_kept k (placed_is_mem (t.mems k) (a.new k i).1) (not_here k i)
 
-  atom_stays : (k x : ℕ) → lists.In x (atoms_in t k) → u.atoms x ≡ t.atoms x
+  atom_stays : (k x : ℕ) → In x (atoms_in t k) → u.atoms x ≡ t.atoms x
   atom_stays k x i = b.atoms_kept x (listed_is_atom t a.ready.sound.listed k x i)
 
-  own_atom : (x : ℕ) → lists.In x a.atoms → u.atoms x ≡ t.atoms x
-  own_atom x i = atom_stays m x (subst (lists.In x) (sym a.atoms_are) (lemmas.in_right x (atoms_in s m) a.atoms i))
+  own_atom : (x : ℕ) → In x a.atoms → u.atoms x ≡ t.atoms x
+  own_atom x i = atom_stays m x (subst (In x) (sym a.atoms_are) (lemmas.in_right x (atoms_in s m) a.atoms i))
 
   region_stays : (name : ℕ → ℕ → ℕ) → regions_of u name a.forest ≡ regions_of t name a.forest
   region_stays name = regions_frame u t name name a.forest (λ k i. (
@@ -150,7 +151,7 @@ module _ (s t u : Heap) (m : ℕ) (ls ls' : List Leaf) (is is' : List Level) (rs
   ]
   all_atoms x (inr h) = inr (made_more (u.atoms x) x ps' (ps ++ ps') (in_second ps ps') h)
 
-  all_mems : (k : ℕ) → IsMem t k ⊎ lists.In k (flat b.forest) → IsMem s k ⊎ lists.In k (flat (beside a.forest b.forest))
+  all_mems : (k : ℕ) → IsMem t k ⊎ In k (flat b.forest) → IsMem s k ⊎ In k (flat (beside a.forest b.forest))
   all_mems k (inl i) = elim (a.new_mems k i) [ inl j ↦ inl j | inr j ↦ inr (beside_first a.forest b.forest k j) ]
   all_mems k (inr i) = inr (beside_second a.forest b.forest k i)
 
@@ -164,7 +165,7 @@ module _ (s t u : Heap) (m : ℕ) (ls ls' : List Leaf) (is is' : List Level) (rs
   not_there : (k : ℕ) → t.mems k ≡ None → k ≢ m
   not_there k e d = none_is_not (t.mems m) (subst (λ j. t.mems j ≡ None) d e) (standing_is_mem (t.mems m) a.ready.there)
 
-  new_ones : (k : ℕ) → lists.In k (flat a.forest) ⊎ lists.In k (flat b.forest) → (s.mems k ≡ None) × IsPlacedMem u k
+  new_ones : (k : ℕ) → In k (flat a.forest) ⊎ In k (flat b.forest) → (s.mems k ≡ None) × IsPlacedMem u k
   new_ones k (inl i) = ((a.new k i).0, subst (λ (o : Option HeapMem). IsSome (option_and_then (λ x. home_by x.place) o)) (sym (mem_stays k i)) (a.new k i).1)
   new_ones k (inr i) = (fresh_mem k (not_there k (b.new k i).0) (b.new k i).0, (b.new k i).1)
 

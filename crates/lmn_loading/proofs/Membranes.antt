@@ -26,6 +26,7 @@ use Rattle.lmn_loading.proofs.Atoms.{line_first, line_rest}
 use Rattle.lmn_congruence.specs.Links.{places}
 use Rattle.lmn_loading.proofs.AloneLemmas.{nil as nil_leaves}
 use Rattle.lmn_base.specs.Graphs.{Port}
+use Rattle.lmn_base.specs.Lists.{In}
 
 -- a level without its connectors, by its lists
 pub fused_apart : (v : ℕ → ℕ) (l : Level) → fused_region v l ≡ roll-Region (record { atoms = flat_map (fused_leaf v) (out-Level l).leaves; membranes = map (fused_region v) (out-Level l).membranes; rules = (out-Level l).rules })
@@ -138,7 +139,7 @@ module _ (s : Heap) (m n : ℕ) (h : CanBeFilled s m) (fresh : s.mems n ≡ None
       ]
     ]
 
-    mem_before : (k : ℕ) → IsMem s1 k → IsMem s k ⊎ lists.In k (flat (mem n b.forest bare))
+    mem_before : (k : ℕ) → IsMem s1 k → IsMem s k ⊎ In k (flat (mem n b.forest bare))
     mem_before k i = elim (cases_eq k n) [
       | inl d ↦ inr (inl (sym d))
       | inr d ↦ elim (cases_eq k m) [
@@ -147,13 +148,13 @@ module _ (s : Heap) (m n : ℕ) (h : CanBeFilled s m) (fresh : s.mems n ≡ None
       ]
     ]
 
-    mem_after : (k : ℕ) → IsMem s1 k ⊎ lists.In k (flat b.forest) → IsMem s k ⊎ lists.In k (flat (mem n b.forest bare))
+    mem_after : (k : ℕ) → IsMem s1 k ⊎ In k (flat b.forest) → IsMem s k ⊎ In k (flat (mem n b.forest bare))
     mem_after k (inl i) = mem_before k i
     mem_after k (inr i) = inr (inr (lemmas.in_left k (flat b.forest) [] i))
 
-    new_ones : (k : ℕ) → lists.In k (flat (mem n b.forest bare)) → (s.mems k ≡ None) × IsPlacedMem t k
+    new_ones : (k : ℕ) → In k (flat (mem n b.forest bare)) → (s.mems k ≡ None) × IsPlacedMem t k
     new_ones k (inl e) = (ap s.mems (sym e) ∙ fresh, subst (IsPlacedMem t) e place_new)
-    new_ones k (inr i) = let j = subst (lists.In k) (nil_right (flat b.forest)) i in (fresh_before k (b.new k j).0, (b.new k j).1)
+    new_ones k (inr i) = let j = subst (In k) (nil_right (flat b.forest)) i in (fresh_before k (b.new k j).0, (b.new k j).1)
 
     other_mem : (k : ℕ) → IsMem s k → k ≢ m → t.mems k ≡ s.mems k
     other_mem k i d =

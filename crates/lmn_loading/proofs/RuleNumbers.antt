@@ -13,8 +13,9 @@ use Rattle.lmn_heap.proofs.Trees.{in_either}
 use Rattle.lmn_loading.specs.Laws.{LoadedRules}
 use Rattle.lmn_base.proofs.Common.{rules}
 use Rattle.lmn_congruence.proofs.Common.{rules_kept, all_rules}
+use Rattle.lmn_base.specs.Lists.{In}
 
-all_in : (P : ℕ → Type 0) (xs : List ℕ) → All P xs → (k : ℕ) → lists.In k xs → P k
+all_in : (P : ℕ → Type 0) (xs : List ℕ) → All P xs → (k : ℕ) → In k xs → P k
 all_in P [] h k i = absurd i
 all_in P (x ∷ xs) h k (inl e) = subst P e (h zero x (omega arith))
 all_in P (x ∷ xs) h k (inr i) = all_in P xs (all_right P (x ∷ []) xs h) k i
@@ -24,7 +25,7 @@ abbrev regions_first : Heap → (ℕ → ℕ → ℕ) → ℕ → Forest → Reg
 regions_first s name n x = roll-Region (record { atoms = solid_atoms_at s name (atoms_in s n); membranes = regions_of s name x; rules = rules_in s n })
 
 -- what holds of each rule of the regions of a forest holds of each rule of its membranes
-in_forest : (P : ℕ → Type 0) (s : Heap) (name : ℕ → ℕ → ℕ) (f : Forest) → All P (all_rules (regions_of s name f)) → (m : ℕ) → lists.In m (flat f) → All P (rules_in s m)
+in_forest : (P : ℕ → Type 0) (s : Heap) (name : ℕ → ℕ → ℕ) (f : Forest) → All P (all_rules (regions_of s name f)) → (m : ℕ) → In m (flat f) → All P (rules_in s m)
 in_forest P s name bare h m i = absurd i
 in_forest P s name (mem n x r) h m i =
     let here : rules (regions_first s name n x) ≡ rules_in s n ++ all_rules (regions_of s name x) = fold-roll-Region (List ℕ) rules_step _ in
@@ -38,7 +39,7 @@ in_forest P s name (mem n x r) h m i =
       ]
     ]
 
-listed_mem : (o : Option HeapMem) (k : ℕ) → lists.In k (rules_by o) → IsSome o
+listed_mem : (o : Option HeapMem) (k : ℕ) → In k (rules_by o) → IsSome o
 listed_mem None k i = absurd i
 listed_mem (Some x) k i = refl
 

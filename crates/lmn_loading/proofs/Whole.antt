@@ -45,6 +45,7 @@ use Rattle.lmn_base.specs.Links as base
 use Rattle.lmn_base.specs.Solids as solids
 use Rattle.lmn_heap.specs.Lists as lists
 use Rattle.lmn_heap.proofs.ListLemmas as lemmas
+use Rattle.lmn_base.specs.Lists.{In}
 
 -- An empty heap is ready
 
@@ -233,7 +234,7 @@ module _ (p : Plain) (s t : Heap) (ps : List (Port × ℕ)) (sound : Sound s) (e
     forms : Forms u f (u.root ∷ [])
     forms = ([], ap (λ r. r ∷ []) root_is, inner_forms, refl)
 
-    mem_inside : (k : ℕ) → IsMem u k → (k ≡ s.root) ⊎ lists.In k (flat a.forest)
+    mem_inside : (k : ℕ) → IsMem u k → (k ≡ s.root) ⊎ In k (flat a.forest)
     mem_inside k i = elim (a.new_mems k (subst (λ (o : Option HeapMem). IsSome o) (mems_same k) i)) [ inl h ↦ inl (empty.only_root k h) | inr h ↦ inr h ]
 
     tree : IsTree u f

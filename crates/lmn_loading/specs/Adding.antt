@@ -16,6 +16,7 @@ use Rattle.lmn_heap.specs.Sound.{Sound, Forest, flat, Forms}
 use Rattle.lmn_splice.specs.Splice.{IsOneOf, NoneTwice, ports, links}
 use Rattle.lmn_base.specs.Graphs.{Port}
 use Rattle.lmn_congruence.specs.Links.{places}
+use Rattle.lmn_base.specs.Lists.{In}
 
 -- something may be placed in the membrane m, and nothing waits
 pub record CanBeFilled (s : Heap) (m : ℕ) : Type 0 where
@@ -85,8 +86,8 @@ pub record AddsToMembrane (s t : Heap) (m : ℕ) (leaves : List Leaf) (inner : L
   pub atoms_kept : (a : ℕ) → IsAtom s a → t.atoms a ≡ s.atoms a
   pub mems_kept : (k : ℕ) → IsMem s k → k ≢ m → t.mems k ≡ s.mems k
   pub new_atoms : (a : ℕ) → IsAtom t a → IsAtom s a ⊎ IsMadeAtom (t.atoms a) a ps
-  pub new_mems : (k : ℕ) → IsMem t k → IsMem s k ⊎ lists.In k (flat forest)
-  pub new : (k : ℕ) → lists.In k (flat forest) → (s.mems k ≡ None) × IsPlacedMem t k
+  pub new_mems : (k : ℕ) → IsMem t k → IsMem s k ⊎ In k (flat forest)
+  pub new : (k : ℕ) → In k (flat forest) → (s.mems k ≡ None) × IsPlacedMem t k
 
 -- the same, where the ports go to the end of a list of ports
 pub record Fills {A : Type 0} (id : A → ℕ) (s t : Heap) (m : ℕ) (leaves : List Leaf) (inner : List Level) (rules : List ℕ) (old new : List ((A × ℕ) × ℕ)) : Type 0 where

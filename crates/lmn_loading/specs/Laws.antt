@@ -5,10 +5,10 @@ use Rattle.lmn_base.specs.WellMade.{IsWellMade}
 use Rattle.lmn_congruence.specs.Rules.{Name}
 use Rattle.lmn_congruence.specs.Translation.{plain_process, solid_process}
 use Rattle.lmn_heap.specs.Heap.{Heap, lone_root, rules_in}
-use Rattle.lmn_heap.specs.Lists.{In}
 use Rattle.lmn_heap.specs.Examples.{across}
 use Rattle.lmn_reduction.specs.Commits.{Settles}
 use Rattle.lmn_loading.specs.Loaded.{IsEmpty, IsLoaded}
+use Rattle.lmn_base.specs.Lists.{In}
 
 -- The process of a plain settles to that of the solid that is loaded, by each list of names.
 abbrev pub LoadingSettles : Type 0

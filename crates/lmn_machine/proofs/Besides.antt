@@ -3,7 +3,7 @@ use Rattle.std.proofs.Common.{ℕ, zero, suc, ◌≡◌, ◌≢◌, ◌<◌, ◌
 use Rattle.std.specs.Prelude.{slice_get}
 use Rattle.std.specs.List.{AllByRecursion}
 use Rattle.lmn_base.specs.Graphs.{Reached, at_root}
-use Rattle.lmn_heap.specs.Heap.{Heap, In, Distinct, atoms_in, home_of, within, port_id}
+use Rattle.lmn_heap.specs.Heap.{Heap, Distinct, atoms_in, home_of, within, port_id}
 use Rattle.lmn_heap.specs.Lists.{without}
 use Rattle.lmn_heap.specs.Graphs.{atom_map}
 use Rattle.lmn_heap.specs.Sound.{Sound}
@@ -19,6 +19,7 @@ use Rattle.lmn_machine.proofs.Apart.{one_or_apart}
 use Rattle.lmn_base.proofs.Lists.{value_or, get_there}
 use Rattle.lmn_base.proofs.Numbers.{same_or_not as number_cases}
 use Rattle.lmn_heap.proofs.Common.{home_placed}
+use Rattle.lmn_base.specs.Lists.{In}
 
 -- What is left of a list without the elements of another.
 record TakenOut (ys xs : List ℕ) : Type 0 where

@@ -3,7 +3,7 @@ use Rattle.std.proofs.Common.{ℕ, zero, suc, ◌≡◌, ◌+◌, ◌⊎◌, inl
 use Rattle.std.specs.Prelude.{true, false, slice_get, IsSome}
 use Rattle.std.specs.Option.{option_map}
 use Rattle.lmn_base.specs.declared.functor.Functor.{Functor}
-use Rattle.lmn_heap.specs.Lists.{In, after, from}
+use Rattle.lmn_heap.specs.Lists.{after, from}
 use Rattle.lmn_heap.specs.Heap.{Heap, HeapAtom, IsAtom, IsMem, functor_of, home_of, parent_of, atoms_in, mems_in}
 use Rattle.lmn_heap.specs.Sound.{Listed}
 use Rattle.lmn_heap.specs.Functors.{with_functor}
@@ -19,6 +19,7 @@ use Rattle.lmn_machine.proofs.Candidates.{index_after, index_behind, with_functo
 use Rattle.lmn_base.proofs.Lists.{get_front, get_last, length_one as longer, take_whole}
 use Rattle.lmn_heap.proofs.Heights.{has_parent as mem_there, place_by_parent}
 use Rattle.lmn_heap.proofs.Listing.{home_place as place_by_home}
+use Rattle.lmn_base.specs.Lists.{In}
 
 pub get_either : {A : Type 0} (xs : List A) (y : A) (k : ℕ) (x : A) → slice_get (xs ++ y ∷ []) k ≡ Some x → (slice_get xs k ≡ Some x) ⊎ ((k ≡ length xs) × (y ≡ x))
 get_either [] y zero x e = inr (refl, cc)

@@ -5,7 +5,7 @@ use Rattle.std.proofs.lemmas.List.{get_or-set_same, get_or-set_other}
 use Rattle.std.specs.Option.{option_map}
 use Rattle.std.specs.Prelude.{slice_get, slice_set, slice_index_or}
 use Rattle.lmn_base.specs.Graphs.{AtomMap, Reached, StandsWhole}
-use Rattle.lmn_heap.specs.Heap.{Heap, HeapAtom, In, IsAtom, IsMem, alter, with_mark, marked, mark_of, partners_of, marks_of, arity_of, PortsUnmarked, own_mark, Unmarked}
+use Rattle.lmn_heap.specs.Heap.{Heap, HeapAtom, IsAtom, IsMem, alter, with_mark, marked, mark_of, partners_of, marks_of, arity_of, PortsUnmarked, own_mark, Unmarked}
 use Rattle.lmn_heap.specs.Sound.{Sound}
 use Rattle.lmn_heap.specs.Graphs.{atom_map}
 use Rattle.lmn_heap.proofs.Listing.{alter_at, alter_away}
@@ -15,6 +15,7 @@ use Rattle.lmn_ground.specs.Marks.{paint_at, painted_at}
 use Rattle.lmn_ground.proofs.CopyLaws.{member as in_handles}
 use Rattle.lmn_ground.proofs.PaintedAt.{paint_links, is_paint, map_painted, painted_none}
 use Rattle.lmn_heap.proofs.Common.{decide_in as in_or_not, same_atoms as same_painted}
+use Rattle.lmn_base.specs.Lists.{In}
 
 -- the place of the own mark
 abbrev own_place : HeapAtom → ℕ

@@ -12,7 +12,6 @@ use Rattle.lmn_base.specs.declared.guard.Expr.TheVariants as expr
 use Rattle.lmn_base.specs.declared.guard.Cond.{Cond}
 use Rattle.lmn_base.specs.declared.guard.Cond.TheVariants.{Kind, Compare, Equal, Differ}
 use Rattle.lmn_base.specs.RuleCodes.{condition_tokens, expression_tokens}
-use Rattle.lmn_heap.specs.Heap.{In}
 use Rattle.lmn_solid.specs.Heads.{HeadTyped}
 use Rattle.lmn_solid.specs.Guards.{typed_number, context_alone}
 use Rattle.lmn_instr.specs.declared.instr.Instr.{Instr}
@@ -20,6 +19,7 @@ use Rattle.lmn_instr.specs.HeadCode.{Computed, operator_instruction, named_code,
 use Rattle.lmn_compile_head.specs.Heads.{UsesKnown, EqualAllowed, IsGuard}
 use Rattle.lmn_registers.specs.declared.stack.TheConstants.{ROOM}
 use Rattle.lmn_machine.specs.Searching.{HeadInOrder}
+use Rattle.lmn_base.specs.Lists.{In}
 
 -- what is known of the registers of an expression: the value is in one before the next, and two for each integer or context
 -- are enough

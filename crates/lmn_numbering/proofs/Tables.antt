@@ -17,7 +17,8 @@ use Rattle.lmn_numbering.specs.declared.tally.FirstPlaces.{FirstPlaces}
 use Rattle.lmn_numbering.specs.declared.tally.Tally.{Tally}
 use Rattle.lmn_numbering.specs.Tallies.{Rising, AreFirstThree, IsTally, places_among, AreTallies, EachOccurs, EachOccursAlone, IsOwnTally, EachAlone, AreAlone, IsJoinedEntry, EachJoined, IsJoinedTable}
 use Rattle.lmn_numbering.proofs.TallySteps.{last_or_before}
-use Rattle.lmn_base.proofs.Lists.{In, get_there as read_at, in_either}
+use Rattle.lmn_base.specs.Lists.{In}
+use Rattle.lmn_base.proofs.Lists.{get_there as read_at, in_either}
 use Rattle.lmn_base.proofs.Common.{numbers_grow, numbers_in}
 
 -- ---- one entry
@@ -74,7 +75,7 @@ some_place : (x : ℕ) (os : List Occ) → In x (link_numbers os) → 0 < length
 some_place x [] h = absurd h
 some_place x (o ∷ os) h = go (o.link == x) refl h (some_place x os)
   where
-    same : (a b : ℕ) → b ≡ a → (a == b) ≡ true
+    same : (a b : ℕ) → a ≡ b → (a == b) ≡ true
     same a b h = grind (arith, nat_tests)
 
     go : (t : Bool) → (o.link == x) ≡ t → In x (link_numbers (o ∷ os)) → (In x (link_numbers os) → 0 < length (places_among x os))

@@ -1,10 +1,11 @@
 -- The atom of one list that stands where another stands in another list.
 use Rattle.std.proofs.Common.{◌≤◌, ◌≡◌, ◌≢◌, ℕ, List, [], ◌∷◌, length, map, refl, sym, ap, subst, ◌∙◌, inl, inr, arith}
 use Rattle.std.proofs.lemmas.Bool.{cases_eq, eq-eqb}
-use Rattle.lmn_heap.specs.Heap.{In, Distinct}
+use Rattle.lmn_heap.specs.Heap.{Distinct}
 use Rattle.lmn_heap.proofs.ListLemmas.{each_in}
 use Rattle.lmn_parts.specs.Copies.{answer}
 use Rattle.lmn_base.proofs.Numbers.{not_equal as apart_test}
+use Rattle.lmn_base.specs.Lists.{In}
 
 pub answer_here : (x y : ℕ) (xs ys : List ℕ) (a : ℕ) → x ≡ a → answer (x ∷ xs) (y ∷ ys) a ≡ y
 answer_here x y xs ys a e = rw (eq-eqb x a e) refl

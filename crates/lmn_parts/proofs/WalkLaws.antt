@@ -1,11 +1,12 @@
 -- Laws of walks: what is found is all that is reached, each atom once, in one order.
 use Rattle.std.proofs.Common.{◌≡◌, ◌⊎◌, ℕ, zero, suc, ◌+◌, ◌<◌, ◌≤◌, List, [], ◌∷◌, ◌++◌, length, Option, Some, refl, sym, ap, subst, ◌∙◌, inl, inr, arith, length-append, map}
 use Rattle.std.proofs.lemmas.Bool.{cases_eq}
-use Rattle.lmn_heap.specs.Heap.{In, Distinct}
+use Rattle.lmn_heap.specs.Heap.{Distinct}
 use Rattle.lmn_heap.proofs.ListLemmas.{in_left, in_right}
 use Rattle.lmn_heap.proofs.Listing.{distinct_snoc}
 use Rattle.lmn_parts.specs.Walks.{HasPort, port_range, Walk, ends, passes, finds}
 use Rattle.lmn_heap.specs.Solid.{links_from}
+use Rattle.lmn_base.specs.Lists.{In}
 
 pub holds_left : (p : ℕ × ℕ) (ps qs : List (ℕ × ℕ)) → HasPort p ps → HasPort p (ps ++ qs)
 holds_left p [] qs h = absurd h

@@ -3,10 +3,11 @@ use Rattle.std.specs.Prelude.{ℕ, ◌≡◌, ◌≢◌, ◌++◌, ◌==◌, Lis
 use Rattle.std.specs.Option.{option_map}
 use Rattle.lmn_base.specs.declared.functor.Functor.{Functor}
 use Rattle.lmn_base.specs.Graphs.{Reached, SameGraph}
-use Rattle.lmn_heap.specs.Heap.{Heap, IsAtom, waiting, In, Distinct, arity_of, functor_of, link_of, mark_of, place_of, made_atom}
+use Rattle.lmn_heap.specs.Heap.{Heap, IsAtom, waiting, Distinct, arity_of, functor_of, link_of, mark_of, place_of, made_atom}
 use Rattle.lmn_heap.specs.Graphs.{atom_map}
 use Rattle.lmn_heap.specs.Splice.{joined_to}
 use Rattle.lmn_parts.specs.Walks.{is_port, port_range, IsPartInDepth}
+use Rattle.lmn_base.specs.Lists.{In}
 
 -- an atom is made with the functor of another
 abbrev pub made_as : Heap → ℕ → Option Functor → Heap

@@ -1,7 +1,8 @@
 -- Walks: the atoms that are found from a port, depth first and by rising ports.
 use Rattle.std.specs.Prelude.{ℕ, zero, suc, ◌≡◌, ◌⊎◌, ◌+◌, ◌-◌, ◌==◌, ◌&&◌, Bool, true, false, List, [], ◌∷◌, ◌++◌, Option, Some, None, if◌then◌else◌}
 use Rattle.std.specs.Option.{option_and_then}
-use Rattle.lmn_heap.specs.Heap.{Heap, arity_of, link_of, In}
+use Rattle.lmn_heap.specs.Heap.{Heap, arity_of, link_of}
+use Rattle.lmn_base.specs.Lists.{In}
 
 -- how many ports each atom has, and what is at the other end of each
 pub record Net : Type 0 where

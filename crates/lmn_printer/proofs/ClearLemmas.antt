@@ -2,13 +2,14 @@
 use Rattle.std.proofs.Common.{◌≡◌, ℕ, ◌<◌, ◌⊎◌, inl, inr, Option, Some, None, refl, sym, subst}
 use Rattle.std.specs.Option.{option_map}
 use Rattle.lmn_heap.specs.Heap.{Heap, arity_of, mark_of, PortsUnmarked}
-use Rattle.lmn_heap.specs.Lists.{In, from, after}
+use Rattle.lmn_heap.specs.Lists.{from, after}
 use Rattle.lmn_heap.specs.Sound.{Forest, flat, IsTree, Valid}
 use Rattle.lmn_printer.specs.Numbers.{printed_atoms, Remarks}
 use Rattle.lmn_printer.proofs.MarkLemmas.{arity_same, tree_same, remarks_none, remarks_more}
 use Rattle.lmn_printer.proofs.NumberingLemmas.{behind_before}
 use Rattle.lmn_printer.proofs.OrderLemmas.{printed_all}
 use Rattle.lmn_heap.proofs.Common.{is_atom_at as port_there}
+use Rattle.lmn_base.specs.Lists.{In}
 
 -- The ports of all atoms but those that are still to come are cleared.
 pub record Clearing (s t : Heap) (f : Forest) (next : Option ℕ) : Type 0 where

@@ -4,7 +4,6 @@ use Rattle.std.proofs.lemmas.Bool.{cases_eq}
 use Rattle.std.proofs.lemmas.List.{map-append}
 use Rattle.lmn_base.specs.Links.{Numbers, no_more, known, new}
 use Rattle.lmn_heap.specs.Heap.{Heap, arity_of, link_of}
-use Rattle.lmn_heap.specs.Lists.{In}
 use Rattle.lmn_heap.specs.Solid.{IsNaming}
 use Rattle.lmn_heap.specs.Sound.{Paired}
 use Rattle.lmn_heap.proofs.Ports.{SamePort, same_port}
@@ -15,6 +14,7 @@ use Rattle.lmn_heap.proofs.Common.{same_port as same_ports}
 use Rattle.lmn_parts.specs.Copies.{ports_of}
 use Rattle.lmn_parts.specs.Walks.{port_range}
 use Rattle.lmn_parts.proofs.WalkLaws.{by_port, ports_named}
+use Rattle.lmn_base.specs.Lists.{In}
 
 -- Ports in a row.
 

@@ -12,7 +12,7 @@ use Rattle.lmn_base.specs.declared.solid.Solid.{Solid}
 use Rattle.lmn_congruence.specs.Regions as solid
 use Rattle.lmn_congruence.specs.Rules as tree
 use Rattle.lmn_congruence.specs.Translation.{numbered_rule, region_step, regions, solid_atom_of, rules}
-use Rattle.lmn_heap.specs.Heap.{Heap, HeapAtom, IsAtom, In, atoms_in, rules_in}
+use Rattle.lmn_heap.specs.Heap.{Heap, HeapAtom, IsAtom, atoms_in, rules_in}
 use Rattle.lmn_heap.specs.Solid.{solid_atom_at, solid_atoms_at, regions_of}
 use Rattle.lmn_heap.specs.Sound.{Forest, bare, mem}
 use Rattle.lmn_plain.specs.SolidLines.{as_level, as_levels, atom_as_leaf, solid_line}
@@ -22,6 +22,7 @@ use Rattle.lmn_printer.specs.Stored.{number_by_mark, solid_atom_text, stored_tex
 use Rattle.lmn_printer.specs.Walks.{Texts, items_text, members, has_atoms, tree_text}
 use Rattle.lmn_printer.proofs.RowLemmas.{row_append, any_map, comma_row}
 use Rattle.lmn_plain.proofs.LaidLines.{text_append}
+use Rattle.lmn_base.specs.Lists.{In}
 
 -- items with full stops are a row, and a full stop behind it where there is one
 abbrev pub stop_if : Bool → List ℕ

@@ -3,7 +3,7 @@ use Rattle.std.proofs.Common.{◌≡◌, ◌≢◌, ℕ, suc, ◌-◌, ◌<◌, 
 use Rattle.std.specs.Option.{option_map}
 use Rattle.std.proofs.lemmas.List.{append_assoc}
 use Rattle.lmn_heap.specs.Heap.{Heap, HeapAtom, within, IsAtom, IsMem, atoms_in, home_of, parent_of, place_of}
-use Rattle.lmn_heap.specs.Lists.{In, Distinct, from, after}
+use Rattle.lmn_heap.specs.Lists.{Distinct, from, after}
 use Rattle.lmn_heap.specs.Sound.{Forest, flat, IsTree, Sound, AtMost, Valid}
 use Rattle.lmn_heap.specs.Trees.{tree_of}
 use Rattle.lmn_heap.proofs.Depths.{both_distinct, tree_is}
@@ -14,6 +14,7 @@ use Rattle.lmn_heap.proofs.Pigeonholes.{not_longer}
 use Rattle.lmn_heap.proofs.Trees.{Left, lower, root_first, after_split, from_next, in_either}
 use Rattle.lmn_printer.specs.Numbers.{printed_atoms}
 use Rattle.lmn_heap.proofs.Common.{holds_mem as mem_with_atom}
+use Rattle.lmn_base.specs.Lists.{In}
 
 -- the membrane round one is there
 pub parent_there : (s : Heap) → Sound s → (m p : ℕ) → parent_of s m ≡ Some p → IsMem s p

@@ -11,7 +11,6 @@ use Rattle.lmn_base.specs.declared.solid.Region.TheFolds.{fold-roll-Region}
 use Rattle.lmn_base.specs.declared.solid.Region.TheOpen.{Region-F}
 use Rattle.lmn_base.specs.declared.solid.SolidAtom.{SolidAtom}
 use Rattle.lmn_heap.specs.Heap.{Heap, HeapAtom, Place, within, IsAtom, partners_of, arity_of, atoms_in, rules_in}
-use Rattle.lmn_heap.specs.Lists.{In}
 use Rattle.lmn_heap.specs.Solid.{links_from, solid_atom_at, solid_atoms_at, regions_of}
 use Rattle.lmn_heap.specs.Sound.{Forest, bare, mem, flat, Sound}
 use Rattle.lmn_heap.proofs.ListLemmas.{in_left, in_right}
@@ -20,6 +19,7 @@ use Rattle.lmn_heap.proofs.Trees.{in_either}
 use Rattle.lmn_printer.specs.Numbers.{printed_atoms, links_at_ports, links_on}
 use Rattle.lmn_printer.proofs.OrderLemmas.{printed_append}
 use Rattle.lmn_base.proofs.Common.{numbers_grow}
+use Rattle.lmn_base.specs.Lists.{In}
 
 -- what stands in the lists of membranes is an atom
 pub printed_are : (s : Heap) → Sound s → (ms : List ℕ) (a : ℕ) → In a (printed_atoms s ms) → IsAtom s a

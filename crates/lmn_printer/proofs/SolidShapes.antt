@@ -1,6 +1,6 @@
 -- The solid of a valid heap is like every solid.
 use Rattle.std.proofs.Common.{◌≡◌, ◌≢◌, ◌==◌, ℕ, zero, suc, ◌+◌, ◌<◌, ◌≤◌, ◌⊎◌, inl, inr, cond, List, [], ◌∷◌, ◌++◌, map, length, Option, Some, None, IsSome, refl, sym, ap, ◌∙◌, subst, arith}
-use Rattle.std.specs.List.{All, count_by}
+use Rattle.std.specs.List.{All, count_by, AllByRecursion}
 use Rattle.std.specs.Option.{option_map}
 use Rattle.std.proofs.lemmas.Bool.{cases_eq}
 use Rattle.std.proofs.lemmas.Bool.Decides.{nat_tests}
@@ -10,7 +10,7 @@ use Rattle.lmn_base.specs.Links.{EachTwice}
 use Rattle.lmn_base.specs.Solids.{connector}
 use Rattle.lmn_base.specs.declared.solid.SolidAtom.{SolidAtom}
 use Rattle.lmn_heap.specs.Heap.{Heap, HeapAtom, arity_of, link_of}
-use Rattle.lmn_heap.specs.Lists.{In, Each, Distinct}
+use Rattle.lmn_heap.specs.Lists.{Distinct}
 use Rattle.lmn_heap.specs.Solid.{IsNaming, links_from, solid_atom_at, solid_atoms_at}
 use Rattle.lmn_heap.specs.Sound.{flat, Valid}
 use Rattle.lmn_heap.proofs.ListLemmas.{each_in}
@@ -26,6 +26,7 @@ use Rattle.lmn_heap.proofs.Common.{is_atom_at as port_there, length_numbered, sa
 use Rattle.lmn_parts.proofs.WalkLaws.{by_port}
 use Rattle.lmn_parts.specs.Walks.{port_range}
 use Rattle.lmn_base.specs.Solids as solids
+use Rattle.lmn_base.specs.Lists.{In}
 
 -- How often a number stands in a list.
 
@@ -90,7 +91,7 @@ from_here a i j (suc n) l k = elim (cases_eq j i) [
 ]
 
 module _ (s : Heap) (a i : ℕ) (l : i < arity_of s a) where
-  none_on : (xs : List ℕ) → Each (λ b. a ≢ b) xs → times a i (ports_of s xs) ≡ 0
+  none_on : (xs : List ℕ) → AllByRecursion (λ b. a ≢ b) xs → times a i (ports_of s xs) ≡ 0
   none_on [] e = refl
   none_on (b ∷ xs) e =
       let t = times_append a i (port_range b 0 (arity_of s b)) (ports_of s xs) in
@@ -104,7 +105,7 @@ module _ (s : Heap) (a i : ℕ) (l : i < arity_of s a) where
   once_on (b ∷ xs) d (inl e) =
       let t = times_append a i (port_range b 0 (arity_of s b)) (ports_of s xs) in
       let f : times a i (port_range b 0 (arity_of s b)) ≡ 1 = subst (λ c. times a i (port_range c 0 (arity_of s c)) ≡ 1) (sym e) (from_here a i 0 (arity_of s a) (omega arith) (omega (arith, l))) in
-      let g = none_on xs (subst (λ c. Each (λ y. c ≢ y) xs) e d.0) in
+      let g = none_on xs (subst (λ c. AllByRecursion (λ y. c ≢ y) xs) e d.0) in
       omega (arith, t, f, g)
   once_on (b ∷ xs) d (inr h) =
       let t = times_append a i (port_range b 0 (arity_of s b)) (ports_of s xs) in

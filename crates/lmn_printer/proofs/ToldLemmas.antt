@@ -8,7 +8,7 @@ use Rattle.lmn_base.specs.declared.rule.RuleTree.{RuleTree}
 use Rattle.lmn_base.specs.declared.solid.SolidAtom.{SolidAtom}
 use Rattle.lmn_base.specs.declared.solid.Solid.{Solid}
 use Rattle.lmn_congruence.specs.Rules.{Name}
-use Rattle.lmn_heap.specs.Heap.{Heap, HeapAtom, within, IsAtom, In, arity_of, atoms_in, mems_in, rules_in}
+use Rattle.lmn_heap.specs.Heap.{Heap, HeapAtom, within, IsAtom, arity_of, atoms_in, mems_in, rules_in}
 use Rattle.lmn_heap.specs.Solid.{HasSolid, solid_atom_at, solid_atoms_at, links_from, regions_of}
 use Rattle.lmn_heap.specs.Sound.{Forest, bare, mem, Forms, Sound}
 use Rattle.lmn_heap.proofs.SolidLemmas.{regions_frame}
@@ -21,6 +21,7 @@ use Rattle.lmn_printer.specs.Walks.{Texts, texts_in, members, tree_text, has_any
 use Rattle.lmn_printer.proofs.LineLemmas.{line_is, stop_if}
 use Rattle.lmn_printer.proofs.RowLemmas.{any_map}
 use Rattle.lmn_heap.proofs.Items.{place_some as atom_by_place}
+use Rattle.lmn_base.specs.Lists.{In}
 
 -- names that say the same of some ports number them alike
 pub numbered_alike : (u v : ℕ → ℕ → ℕ) (a i n : ℕ) → ((j : ℕ) → j < i + n → u a j ≡ v a j) → links_from u a i n ≡ links_from v a i n

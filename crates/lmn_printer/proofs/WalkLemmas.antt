@@ -2,7 +2,7 @@
 use Rattle.std.proofs.Common.{◌≡◌, ℕ, suc, ◌+◌, ◌-◌, ◌<◌, ◌≤◌, ◌^◌, Bool, true, false, List, [], ◌∷◌, ◌++◌, length, Option, Some, None, refl, sym, ap, ◌∙◌, subst, length-append, arith}
 use Rattle.std.specs.Prelude.{codes, MatchOption}
 use Rattle.std.proofs.lemmas.List.{append-nil, append_assoc}
-use Rattle.lmn_heap.specs.Heap.{Heap, top as at_top, within, In, Distinct, IsMem, from, after, mems_in, parent_of}
+use Rattle.lmn_heap.specs.Heap.{Heap, top as at_top, within, Distinct, IsMem, from, after, mems_in, parent_of}
 use Rattle.lmn_heap.specs.Sound.{Forest, bare, mem, flat, Forms, IsTree, Sound, AtMost}
 use Rattle.lmn_heap.proofs.Heights.{mem_of_place, parent_is}
 use Rattle.lmn_heap.proofs.Pigeonholes.{not_longer}
@@ -12,6 +12,7 @@ use Rattle.lmn_io.proofs.TakingLemmas.{adds_as, adds_more}
 use Rattle.lmn_printer.specs.Rows.{between_if, in_row}
 use Rattle.lmn_printer.specs.Walks.{Texts, Way, top, inside, membranes_round, between, StandsBeside, size, membranes_behind, Position, Leaving, members, items_text, has_atoms, has_atoms_or_membranes, closing, from_atoms, from_membranes, from_rules, membranes_ahead, left_behind, WalksOn, tree_text}
 use Rattle.lmn_printer.proofs.DueLemmas.{Due, due_first, due_next, due_as, due_end}
+use Rattle.lmn_base.specs.Lists.{In}
 
 -- a membrane in braces, and what follows
 regroup : (x inner more rest : List ℕ) → (x ++ ((123 ∷ (inner ++ (125 ∷ []))) ++ more)) ++ rest ≡ (x ++ (123 ∷ [])) ++ (inner ++ (125 ∷ (more ++ rest)))

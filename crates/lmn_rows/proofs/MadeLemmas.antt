@@ -5,7 +5,7 @@ use Rattle.std.specs.Option.{option_map, option_and_then}
 use Rattle.std.proofs.lemmas.Bool.{cases_eq}
 use Rattle.lmn_base.specs.declared.functor.Functor.{Functor}
 use Rattle.lmn_base.specs.Solids.{connector}
-use Rattle.lmn_heap.specs.Heap.{Heap, HeapAtom, HeapMem, Place, top, within, gone, alter, with_place, mem_with_place, mem_with_atoms, mem_with_mems, mem_with_spare, mem_with_rules, new_atom, new_mem, home_by, marks_of, link_of, functor_of, mems_by, mems_in, mem_place_of, IsMem, linked, cleared, made_atom, made_mem, placed, placed_mem, reserved, rule_added, joined, lone_root, In}
+use Rattle.lmn_heap.specs.Heap.{Heap, HeapAtom, HeapMem, Place, top, within, gone, alter, with_place, mem_with_place, mem_with_atoms, mem_with_mems, mem_with_spare, mem_with_rules, new_atom, new_mem, home_by, marks_of, link_of, functor_of, mems_by, mems_in, mem_place_of, IsMem, linked, cleared, made_atom, made_mem, placed, placed_mem, reserved, rule_added, joined, lone_root}
 use Rattle.lmn_heap.specs.Sound.{Sound, AllInPlace, AtMost, Valid, Forest}
 use Rattle.lmn_heap.specs.Conditions.{Ready}
 use Rattle.lmn_heap.proofs.Listing.{alter_at, alter_away, alter_keeps}
@@ -16,6 +16,7 @@ use Rattle.lmn_heap.proofs.Ranks.{tree, tree_forms, tree_once, tree_all}
 use Rattle.lmn_rows.specs.Made.{IsMadeByHand}
 use Rattle.lmn_base.proofs.Numbers.{zeros_at as no_marks}
 use Rattle.lmn_heap.proofs.Common.{atom_with_links as has_links, linked_marks, cleared_marks}
+use Rattle.lmn_base.specs.Lists.{In}
 
 -- Changes of one item
 

@@ -1,7 +1,8 @@
 -- What holds of a heap that is made call by call. No public contract cites a word of this.
 use Rattle.std.specs.Prelude.{◌≡◌, ◌≢◌, ◌<◌, ℕ, Some}
 use Rattle.lmn_base.specs.Solids.{connector}
-use Rattle.lmn_heap.specs.Heap.{Heap, functor_of, mark_of, mems_in, In}
+use Rattle.lmn_heap.specs.Heap.{Heap, functor_of, mark_of, mems_in}
+use Rattle.lmn_base.specs.Lists.{In}
 
 -- No atom is a connector, no atom has a mark, and each membrane has a greater number than the one in which it stands.
 pub record IsMadeByHand (s : Heap) : Type 0 where

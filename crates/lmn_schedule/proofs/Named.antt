@@ -28,6 +28,7 @@ use Rattle.lmn_heap.specs.Sound.{Forest, bare, mem, flat, Valid}
 use Rattle.lmn_heap.proofs.Trees.{in_either}
 use Rattle.lmn_loading.specs.Loaded.{IsLoaded}
 use Rattle.lmn_heap.proofs.Common.{holds_mem as listed_mem}
+use Rattle.lmn_base.specs.Lists.{In}
 
 abbrev Below : List Name → ℕ → Type 0
 Below names n = n < length names
@@ -81,7 +82,7 @@ abbrev regions_first : Heap → (ℕ → ℕ → ℕ) → ℕ → Forest → Reg
 regions_first s name n x = roll-Region (record { atoms = heap_atoms s name (atoms_in s n); membranes = regions_of s name x; rules = rules_in s n })
 
 -- what holds of each atom of the regions of a forest holds of each atom of its membranes
-in_forest : (P : SolidAtom → Type 0) (s : Heap) (name : ℕ → ℕ → ℕ) (f : Forest) → All P (inner_atoms (regions_of s name f)) → (m : ℕ) → lists.In m (flat f) → All P (heap_atoms s name (atoms_in s m))
+in_forest : (P : SolidAtom → Type 0) (s : Heap) (name : ℕ → ℕ → ℕ) (f : Forest) → All P (inner_atoms (regions_of s name f)) → (m : ℕ) → In m (flat f) → All P (heap_atoms s name (atoms_in s m))
 in_forest P s name bare h m i = absurd i
 in_forest P s name (mem n x r) h m i =
     let here : atoms_of_region (regions_first s name n x) ≡ heap_atoms s name (atoms_in s n) ++ inner_atoms (regions_of s name x) = fold-roll-Region (List SolidAtom) atoms_step _ in
@@ -103,16 +104,16 @@ module _ (names : List Name) (s : Heap) (name : ℕ → ℕ → ℕ) where
       let first : SolidAtom = record { functor = x.functor; links = links_from name a 0 x.functor.arity } in
       subst (λ g. HasNames names (label_names g.label)) same (h zero first (omega arith))
 
-  listed_named : (xs : List ℕ) → All (Named names) (heap_atoms s name xs) → (a : ℕ) → lists.In a xs → (f : Functor) → functor_of s a ≡ Some f → HasNames names (label_names f.label)
+  listed_named : (xs : List ℕ) → All (Named names) (heap_atoms s name xs) → (a : ℕ) → In a xs → (f : Functor) → functor_of s a ≡ Some f → HasNames names (label_names f.label)
   listed_named [] h a i f e = absurd i
   listed_named (x ∷ xs) h a (inl q) f e = one_named (s.atoms a) a f e (subst (λ k. All (Named names) (solid_atom_at name k (s.atoms k))) q (all_left (Named names) (solid_atom_at name x (s.atoms x)) (heap_atoms s name xs) h))
   listed_named (x ∷ xs) h a (inr i) f e = listed_named xs (all_right (Named names) (solid_atom_at name x (s.atoms x)) (heap_atoms s name xs) h) a i f e
 
 -- an atom that isn't freed stands in a membrane of a valid heap
-stands : (s : Heap) → Valid s → (a : ℕ) (f : Functor) → functor_of s a ≡ Some f → (m : ℕ) × lists.In a (atoms_in s m)
+stands : (s : Heap) → Valid s → (a : ℕ) (f : Functor) → functor_of s a ≡ Some f → (m : ℕ) × In a (atoms_in s m)
 stands s v a f e = by (s.atoms a) refl
   where
-    homed : (x : HeapAtom) → s.atoms a ≡ Some x → (o : Option ℕ) → home_by x.place ≡ o → IsSome o → (m : ℕ) × lists.In a (atoms_in s m)
+    homed : (x : HeapAtom) → s.atoms a ≡ Some x → (o : Option ℕ) → home_by x.place ≡ o → IsSome o → (m : ℕ) × In a (atoms_in s m)
     homed x q None p k = absurd (cc k)
     homed x q (Some m) p k = (m, (v.sound.listed.atoms m a).1 (placed x q m p))
       where
@@ -122,7 +123,7 @@ stands s v a f e = by (s.atoms a) refl
             at : (pl : Place) (m : ℕ) → home_by pl ≡ Some m → pl ≡ within m
             at pl m p = elim pl as (λ pl. home_by pl ≡ Some m → pl ≡ within m) [ top ↦ λ p. absurd (cc p) | within k ↦ λ p. ap within (cc p) | waiting ↦ λ p. absurd (cc p) | gone ↦ λ p. absurd (cc p) ] p
 
-    by : (o : Option HeapAtom) → s.atoms a ≡ o → (m : ℕ) × lists.In a (atoms_in s m)
+    by : (o : Option HeapAtom) → s.atoms a ≡ o → (m : ℕ) × In a (atoms_in s m)
     by None q = absurd (let z : option_map (λ x. x.functor) (s.atoms a) ≡ Some f = e in cc (q, z))
     by (Some x) q = homed x q (home_by x.place) refl (subst IsSome (in_home x q) (v.settled.atoms a (rw q refl)))
       where

@@ -5,7 +5,6 @@ use Rattle.std.proofs.lemmas.Option.{same_Some}
 use Rattle.lmn_base.specs.declared.rule.RuleTree.{RuleTree}
 use Rattle.lmn_guards.specs.declared.plan.GuardPlan.{GuardPlan}
 use Rattle.lmn_heap.specs.Heap.{Heap, rules_in}
-use Rattle.lmn_heap.specs.Lists.{In}
 use Rattle.lmn_heap.proofs.Trees.{in_here, nil_right}
 use Rattle.lmn_heap.specs.Sound.{Forest, Valid, IsTree, flat}
 use Rattle.lmn_instr.specs.declared.instr.Code.{Code}
@@ -26,6 +25,7 @@ use Rattle.lmn_strategy.specs.declared.turning.Turn.TheVariants.{Committed, Irre
 use Rattle.lmn_schedule.specs.Held.{HoldsRegion, reading_by}
 use Rattle.lmn_schedule.specs.Turning.{IsDone, IsTurned}
 use Rattle.lmn_turn.proofs.Leavings.{root_tree}
+use Rattle.lmn_base.specs.Lists.{In}
 
 -- the root is among the membranes of a valid heap
 pub some_membrane : (h : Heap) → Valid h → (many : ℕ) → ((f : Forest) → IsTree h f → many ≡ length (flat f)) → 0 < many

@@ -1,6 +1,6 @@
 -- Contexts of heads in small heaps.
 use Rattle.std.proofs.Common.{true, false, ℕ, zero, suc, ◌≡◌, ◌⊎◌, [], ◌∷◌, Some, slice_get, refl, sym, ◌∙◌, ap, subst, inl, inr, arith}
-use Rattle.lmn_heap.specs.Heap.{In, atoms_in, functor_of, mems_in, rules_in}
+use Rattle.lmn_heap.specs.Heap.{atoms_in, functor_of, mems_in, rules_in}
 use Rattle.lmn_solid.specs.declared.items.HeadItem.TheVariants.{Membrane}
 use Rattle.lmn_solid.specs.Embeddings.{Images, Embeds, IsAtomImage, IsInPart}
 use Rattle.lmn_solid.specs.Examples.{a_of_arity, a_in_membrane, filled_membrane, ContextsTakeTheRest}
@@ -8,6 +8,7 @@ use Rattle.lmn_solid.specs.Heads.{HeadAtom, HeadMembrane}
 use Rattle.lmn_solid.proofs.Found.{found_none, found_one}
 use Rattle.lmn_solid.proofs.ExampleLinks.{as_they_are, four_five, not_a_name}
 use Rattle.lmn_base.specs.Graphs.{Port}
+use Rattle.lmn_base.specs.Lists.{In}
 
 abbrev both : HeadMembrane
 both = record { inside = 0; has_context = true; has_rule_context = true }

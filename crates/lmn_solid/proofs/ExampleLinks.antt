@@ -5,12 +5,13 @@ use Rattle.lmn_base.specs.declared.functor.Functor.{Functor}
 use Rattle.lmn_base.specs.declared.functor.Label.{Label}
 use Rattle.lmn_base.specs.declared.functor.Label.TheVariants.{Name, Int}
 use Rattle.lmn_heap.specs.Conditions.{Above}
-use Rattle.lmn_heap.specs.Heap.{In, atoms_in, functor_of, link_of, mems_in, rules_in}
+use Rattle.lmn_heap.specs.Heap.{atoms_in, functor_of, link_of, mems_in, rules_in}
 use Rattle.lmn_solid.specs.Embeddings.{Images, Embeds, HasAtom, HasLink, IsAtomImage, StandsWithin}
 use Rattle.lmn_solid.specs.Examples.{a_of_arity, b_of_arity, a_joined_to_b, a_with_b, c_between, LinksJoin, a_apart_from_b, through_the_wall, a_beside_b, a_with_b_inside, LinksLeave}
 use Rattle.lmn_solid.specs.Heads.{HeadAtom, HeadMembrane, membranes_of, outermost}
 use Rattle.lmn_solid.proofs.Found.{found_none, found_one}
 use Rattle.lmn_base.specs.Graphs.{Port}
+use Rattle.lmn_base.specs.Lists.{In}
 
 -- ---- names
 

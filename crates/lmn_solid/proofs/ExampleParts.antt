@@ -5,7 +5,7 @@ use Rattle.std.proofs.lemmas.Option.{same_Some}
 use Rattle.lmn_base.specs.declared.functor.Functor.{Functor}
 use Rattle.lmn_base.specs.Graphs.{Reached, at_root, across, StandsWhole, SameGraph, Port}
 use Rattle.lmn_heap.specs.Graphs.{atom_map}
-use Rattle.lmn_heap.specs.Heap.{In, atoms_in, functor_of, home_of, link_of}
+use Rattle.lmn_heap.specs.Heap.{atoms_in, functor_of, home_of, link_of}
 use Rattle.lmn_guards.specs.declared.plan.TypeKind.TheVariants as kind
 use Rattle.lmn_solid.specs.Embeddings.{Images, Embeds, IsPartOf}
 use Rattle.lmn_solid.specs.Examples.{a_of_arity, b_of_arity, integer, a_of_ground, joined_twice, PartsHaveNoImage, a_of_int, below_three, a_with_number, integer_inside, GuardsAskParts, straight_heap, crossed_heap, HeapPortsAreTold}
@@ -13,6 +13,7 @@ use Rattle.lmn_solid.specs.Guards.{integer_at}
 use Rattle.lmn_solid.specs.Heads.{HeadAtom, HeadTyped}
 use Rattle.lmn_solid.proofs.Found.{found_none, found_one}
 use Rattle.lmn_solid.proofs.ExampleLinks.{four_five, not_a_name}
+use Rattle.lmn_base.specs.Lists.{In}
 
 other_index : (n i j : ℕ) → i ≢ j → ◌≢◌ {A = Port} (n, i) (n, j)
 other_index n i j d e = d (ap (λ p. p.1) e)

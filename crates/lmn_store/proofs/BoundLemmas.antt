@@ -3,7 +3,7 @@ use Rattle.std.proofs.Common.{◌≡◌, ◌≢◌, ℕ, ◌+◌, ◌≤◌, Lis
 use Rattle.std.proofs.lemmas.List.Sums.{sum-map, sum_by-cons}
 use Rattle.std.specs.Prelude.{sum}
 use Rattle.std.specs.Option.{option_map}
-use Rattle.lmn_heap.specs.Lists.{In, Distinct}
+use Rattle.lmn_heap.specs.Lists.{Distinct}
 use Rattle.lmn_heap.specs.Heap.{HeapAtom, HeapMem, Place, within, atoms_in, rules_in, spare_of, IsMem, spare_by, rules_by}
 use Rattle.lmn_heap.specs.Sound.{AtMost, AllInPlace, Forest, IsTree, flat, item_count_in}
 use Rattle.lmn_heap.proofs.ListLemmas.{each_in, in_left, in_right}
@@ -18,6 +18,7 @@ use Rattle.lmn_store.proofs.CensusLemmas.{total_two, census_less}
 use Rattle.lmn_store.proofs.BuiltLemmas.{built_rules}
 use Rattle.lmn_store.proofs.FitsLemmas.{built_atoms, fits_sound}
 use Rattle.lmn_store.proofs.HoldsLemmas.{mem_is, mem_there, root_is, in_home}
+use Rattle.lmn_base.specs.Lists.{In}
 
 sum_cons : (f : ℕ → ℕ) (x : ℕ) (xs : List ℕ) → sum (map f (x ∷ xs)) ≡ f x + sum (map f xs)
 sum_cons f x xs = sum-map f (x ∷ xs) ∙ sum_by-cons f x xs ∙ ap (λ n. f x + n) (sym (sum-map f xs))

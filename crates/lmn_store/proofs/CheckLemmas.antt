@@ -1,7 +1,6 @@
 -- What follows from empty lists: nothing is detached, or nothing is taken either.
 use Rattle.std.proofs.Common.{◌≡◌, ◌⊎◌, ℕ, [], Option, Some, None, IsSome, refl, sym, subst, inl, inr}
 use Rattle.std.specs.Option.{option_map, option_and_then}
-use Rattle.lmn_heap.specs.Lists.{In}
 use Rattle.lmn_heap.specs.Heap.{HeapAtom, HeapMem, Place, top, within, waiting, gone, home_by, IsMem, parent_of}
 use Rattle.lmn_heap.specs.Sound.{AllInPlace}
 use Rattle.lmn_heap.specs.Conditions.{Alone}
@@ -10,6 +9,7 @@ use Rattle.lmn_store.specs.Cells.{atoms_in_cells, mems_in_cells}
 use Rattle.lmn_store.specs.Kept.{Kept, AlwaysHolds, heap_of, mem_place_in}
 use Rattle.lmn_store.proofs.BuiltLemmas.{built_mem_place, built_parent}
 use Rattle.lmn_store.proofs.HoldsLemmas.{mem_is}
+use Rattle.lmn_base.specs.Lists.{In}
 
 module _ (k : Kept) (n m s : ℕ) (h : AlwaysHolds k n m s) where
   -- no atom is detached

@@ -1,7 +1,6 @@
 -- What holds of each instruction of the code of a body.
 use Rattle.std.proofs.Common.{ℕ, ◌<◌, ◌+◌, inl, inr, List, [], ◌∷◌, ◌++◌, map, length, refl, arith}
 use Rattle.std.specs.List.{AllByRecursion}
-use Rattle.lmn_heap.specs.Heap.{In}
 use Rattle.lmn_solid.specs.declared.items.HeadItem.{HeadItem}
 use Rattle.lmn_solid.specs.Heads.{atoms_of, typed_contexts_of, membranes_of}
 use Rattle.lmn_splice.specs.Classes.{class_of, ends_of_class, rising}
@@ -20,6 +19,7 @@ use Rattle.lmn_body.proofs.Firing.{rising_below}
 use Rattle.lmn_machine.specs.Costs.{IsTold}
 use Rattle.lmn_strategy.proofs.KeptRules.{Loads}
 use Rattle.lmn_base.proofs.Lists.{get_below}
+use Rattle.lmn_base.specs.Lists.{In}
 
 all_both : (Q : Instr → Type 0) (xs ys : List Instr) → AllByRecursion Q xs → AllByRecursion Q ys → AllByRecursion Q (xs ++ ys)
 all_both Q [] ys a b = b

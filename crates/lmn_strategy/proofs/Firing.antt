@@ -8,7 +8,7 @@ use Rattle.std.proofs.Math.Nat.{min-le_left, le-min}
 use Rattle.lmn_base.specs.declared.rule.RuleTree.{RuleTree}
 use Rattle.lmn_base.specs.Levels.{rules_of}
 use Rattle.lmn_guards.specs.declared.plan.GuardPlan.{GuardPlan}
-use Rattle.lmn_heap.specs.Heap.{Heap, HeapMem, In, IsMem, rules_by, rules_in, port_id, mem_with_spare, Unmarked}
+use Rattle.lmn_heap.specs.Heap.{Heap, HeapMem, IsMem, rules_by, rules_in, port_id, mem_with_spare, Unmarked}
 use Rattle.lmn_heap.specs.Sound.{Forest, Valid}
 use Rattle.lmn_instr.specs.declared.instr.Code.{Code}
 use Rattle.lmn_instr.specs.Running.{HeadRegisters, IsFirstSuccess, atoms_set}
@@ -37,6 +37,7 @@ use Rattle.lmn_strategy.proofs.BodyAll.{level_rules}
 use Rattle.lmn_strategy.proofs.BodyInstructions.{code_loads}
 use Rattle.lmn_base.proofs.Lists.{value_or, get_there as there}
 use Rattle.lmn_heap.proofs.Common.{mem_stands}
+use Rattle.lmn_base.specs.Lists.{In}
 
 -- ---- the rule of a code
 

@@ -12,7 +12,6 @@ use Rattle.lmn_base.specs.declared.guard.Expr.TheVariants as expr
 use Rattle.lmn_base.specs.declared.guard.Cond.{Cond}
 use Rattle.lmn_base.specs.declared.guard.Cond.TheVariants.{Kind, Compare, Equal, Differ}
 use Rattle.lmn_base.specs.RuleCodes.{is_left_of}
-use Rattle.lmn_heap.specs.Heap.{In}
 use Rattle.lmn_solid.specs.declared.items.HeadItem.{HeadItem}
 use Rattle.lmn_solid.specs.Heads.{HeadTyped, typed_contexts_of, membranes_of}
 use Rattle.lmn_solid.specs.Guards.{typed_number, context_alone}
@@ -23,6 +22,7 @@ use Rattle.lmn_compile_head.specs.Heads.{UsesKnown, EqualAllowed, IsGuard}
 use Rattle.lmn_compile_body.specs.Naming.{equal_registers, guard_registers}
 use Rattle.lmn_machine.specs.Searching.{integers_set}
 use Rattle.lmn_machine.proofs.Stepping.{integers_more as one_more}
+use Rattle.lmn_base.specs.Lists.{In}
 
 -- ---- how many integers code sets
 

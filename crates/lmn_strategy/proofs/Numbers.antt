@@ -2,10 +2,11 @@
 use Rattle.std.proofs.Common.{ℕ, zero, suc, ◌≡◌, ◌<◌, ◌≤◌, ◌+◌, ◌^◌, List, [], ◌∷◌, ◌++◌, length, Option, Some, None, refl, sym, ap, subst, ◌∙◌, arith}
 use Rattle.std.specs.Prelude.{slice_get, take, drop}
 use Rattle.std.proofs.lemmas.Option.{slice_get_within}
-use Rattle.lmn_heap.specs.Heap.{Heap, IsMem, In, Distinct, from, after}
+use Rattle.lmn_heap.specs.Heap.{Heap, IsMem, Distinct, from, after}
 use Rattle.lmn_heap.specs.Sound.{Forest, Sound, Valid, AtMost, IsTree, flat}
 use Rattle.lmn_heap.proofs.Pigeonholes.{not_longer}
 use Rattle.lmn_heap.proofs.Trees.{after_split, in_here, is_mem, root_first}
+use Rattle.lmn_base.specs.Lists.{In}
 
 -- a list, cut at the element with a number
 pub record Cut (xs : List ℕ) (i m : ℕ) : Type 0 where

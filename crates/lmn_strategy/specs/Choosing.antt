@@ -1,13 +1,13 @@
 -- Which rule the strategy chooses on a heap, by the code of the rules.
 use Rattle.std.specs.Prelude.{ℕ, ◌≡◌, ◌<◌, List, ◌∷◌, ◌++◌, [], Some, slice_get, take, drop}
 use Rattle.lmn_heap.specs.Heap.{Heap, rules_in, Unmarked}
-use Rattle.lmn_heap.specs.Lists.{In}
 use Rattle.lmn_heap.specs.Sound.{Forest, Valid, flat}
 use Rattle.lmn_instr.specs.declared.instr.Code.{Code}
 use Rattle.lmn_instr.specs.Running.{HeadRegisters, Succeeds, IsFirstSuccess}
 use Rattle.lmn_registers.specs.declared.registers.SetRegisters.{SetRegisters}
 use Rattle.lmn_registers.specs.Agreeing.{Agrees}
 use Rattle.lmn_machine.specs.Searching.{AreAllSet, AreHeldWhole, HeadInOrder}
+use Rattle.lmn_base.specs.Lists.{In}
 
 -- What a turn asks of a heap, for a table of so many rules.
 pub record CanTurn (h : Heap) (rules : ℕ) : Type 0 where

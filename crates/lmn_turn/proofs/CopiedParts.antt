@@ -4,7 +4,7 @@ use Rattle.std.proofs.lemmas.List.{append-nil}
 use Rattle.lmn_base.specs.Graphs.{Reached}
 use Rattle.lmn_heap.specs.Heap.{Heap, IsAtom, arity_of, atoms_in, link_of}
 use Rattle.lmn_heap.specs.Graphs.{atom_map}
-use Rattle.lmn_heap.specs.Lists.{In, Distinct}
+use Rattle.lmn_heap.specs.Lists.{Distinct}
 use Rattle.lmn_heap.proofs.ListLemmas.{each_in, each_of}
 use Rattle.lmn_parts.specs.Walks.{port_range, net, neighbour, IsPartInDepth as InDepth}
 use Rattle.lmn_parts.proofs.WalkLaws.{once, kept_seen}
@@ -34,6 +34,7 @@ use Rattle.lmn_turn.proofs.PartOrder.{Lists, lists, links_of_ports, port_at}
 use Rattle.lmn_heap.proofs.Common.{is_atom_at}
 use Rattle.lmn_congruence.proofs.Common.{among_left, among_right, places_among}
 use Rattle.lmn_heap.proofs.Replacing.{port_within}
+use Rattle.lmn_base.specs.Lists.{In}
 
 -- ---- renamed one to one
 

@@ -10,7 +10,6 @@ use Rattle.lmn_base.specs.Levels.{leaves_of, contexts_of, rule_contexts_of}
 use Rattle.lmn_guards.specs.declared.plan.GuardPlan.{GuardPlan}
 use Rattle.lmn_guards.specs.declared.plan.TypeKind.{TypeKind}
 use Rattle.lmn_heap.specs.Heap.{Heap, atoms_in, mems_in, rules_in}
-use Rattle.lmn_heap.specs.Lists.{In}
 use Rattle.lmn_heap.specs.Sound.{Forest, flat}
 use Rattle.lmn_heap.proofs.ListLemmas.{in_left, in_right}
 use Rattle.lmn_heap.proofs.Trees.{in_either}
@@ -75,6 +74,7 @@ use Rattle.lmn_turn.proofs.PlanTypes.{plan_types}
 use Rattle.lmn_base.specs.Graphs.{Port}
 use Rattle.lmn_base.proofs.Lists.{weigh, get_below, get_there as get_some, weigh_append}
 use Rattle.lmn_splice.proofs.Common.{in_append}
+use Rattle.lmn_base.specs.Lists.{In}
 
 -- the images of numbers in a row
 rising_run : (g : ℕ → ℕ) (a n : ℕ) → map g (rising a n) ≡ run g a n

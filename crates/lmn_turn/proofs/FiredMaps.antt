@@ -2,7 +2,6 @@
 use Rattle.std.proofs.Common.{ℕ, ◌≡◌, ◌+◌, ◌<◌, ◌≤◌, List, ◌++◌, length, sym, ap, ◌∙◌, arith}
 use Rattle.lmn_base.specs.declared.solid.SolidAtom.{SolidAtom}
 use Rattle.lmn_heap.specs.Heap.{Heap, IsMem}
-use Rattle.lmn_heap.specs.Lists.{In}
 use Rattle.lmn_heap.specs.Solid.{solid_atoms_at}
 use Rattle.lmn_congruence.specs.Regions as region
 use Rattle.lmn_solid.specs.declared.items.HeadItem.{HeadItem}
@@ -21,6 +20,7 @@ use Rattle.lmn_turn.proofs.LinksBelow.{links_limit}
 use Rattle.lmn_turn.proofs.LinksKept.{left_same}
 use Rattle.lmn_turn.proofs.Turns.{FiredTo}
 use Rattle.lmn_splice.specs.Splice.{of_rule, of_solid}
+use Rattle.lmn_base.specs.Lists.{In}
 
 -- All membranes are among ms, and the links of their atoms are below the limit.
 module _ (h h' : Heap) (r : HeapReading) (s : Registers) (head : List HeadItem) (body : List BodyItem) (taken : List ℕ) (f : FiresWithin h (λ p. r.name p.0 p.1) s head body taken h')

@@ -4,7 +4,7 @@ use Rattle.std.specs.Prelude.{slice_get, slice_index_or}
 use Rattle.lmn_base.specs.declared.guard.Cond.{Cond}
 use Rattle.lmn_guards.specs.declared.plan.TypeKind.{TypeKind}
 use Rattle.lmn_heap.specs.Heap.{Heap, atoms_in, mems_in, rules_in}
-use Rattle.lmn_heap.specs.Lists.{In, Distinct}
+use Rattle.lmn_heap.specs.Lists.{Distinct}
 use Rattle.lmn_heap.specs.Sound.{Forest, flat, Forms, Valid}
 use Rattle.lmn_heap.proofs.Trees.{nil_right}
 use Rattle.lmn_solid.specs.declared.items.HeadItem.{HeadItem}
@@ -45,6 +45,7 @@ use Rattle.lmn_turn.proofs.Numbered.{SameImages, same_images, embedding_fresh}
 use Rattle.lmn_base.specs.Graphs.{Port}
 use Rattle.lmn_base.proofs.Lists.{weigh, get_below, weigh_append}
 use Rattle.lmn_bridge.proofs.OutOf.{flattened_in, index_in, places_part, reads_index}
+use Rattle.lmn_base.specs.Lists.{In}
 
 -- ---- lists by their indices
 

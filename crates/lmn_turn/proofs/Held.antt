@@ -1,7 +1,7 @@
 -- A head that lies in the region of a heap, with what its contexts stand for, by numbers.
 use Rattle.std.proofs.Common.{ℕ, ◌≡◌, ◌⊎◌, List, [], ◌∷◌, ◌++◌, map, refl, sym, ap, subst, ◌∙◌, inl, inr}
 use Rattle.lmn_heap.specs.Heap.{Heap, atoms_in, rules_in}
-use Rattle.lmn_heap.specs.Lists.{In, Distinct, without_all}
+use Rattle.lmn_heap.specs.Lists.{Distinct, without_all}
 use Rattle.lmn_heap.specs.Sound.{Forest, bare, mem, Forms, Valid}
 use Rattle.lmn_heap.proofs.ListLemmas.{in_left, in_right}
 use Rattle.lmn_congruence.specs.Orders.{Among, at_head, further}
@@ -21,6 +21,7 @@ use Rattle.lmn_bridge.proofs.PartsOut.{PartsOut, parts_none, parts_atom, parts_t
 use Rattle.lmn_bridge.proofs.Pieces.{atom_at, atoms_each}
 use Rattle.lmn_bridge.proofs.Read.{find_leaves, find_tree}
 use Rattle.lmn_turn.proofs.Sublists.{Sublist, sub_itself, sub_then, sub_merged, sub_tree}
+use Rattle.lmn_base.specs.Lists.{In}
 
 module _ (h : Heap) (v : Valid h) (r : HeapReading) (c : Contents) where
   abbrev t : Assignment

@@ -1,6 +1,6 @@
 -- What stays of a heap stands as before, links at their images.
 use Rattle.std.proofs.Common.{ℕ, ◌≡◌, List, [], ◌∷◌, map, refl, sym, ap, subst, ◌∙◌, inl, inr}
-use Rattle.lmn_heap.specs.Heap.{Heap, In, atoms_in, mems_in, rules_in}
+use Rattle.lmn_heap.specs.Heap.{Heap, atoms_in, mems_in, rules_in}
 use Rattle.lmn_heap.specs.Sound.{Forest, bare, mem, flat, Forms}
 use Rattle.lmn_heap.proofs.ListLemmas.{in_left, in_right}
 use Rattle.lmn_congruence.specs.Fused.{Joins}
@@ -16,6 +16,7 @@ use Rattle.lmn_turn.specs.Standing.{StandAs, none_stands, one_stands}
 use Rattle.lmn_turn.proofs.Bodies.{fused_kept}
 use Rattle.lmn_splice.specs.Splice.{of_solid}
 use Rattle.lmn_congruence.proofs.Common.{rules_join, rules_listed}
+use Rattle.lmn_base.specs.Lists.{In}
 
 module _ (h h' : Heap) (r : HeapReading) (name : ℕ → ℕ → ℕ) (to : ℕ → ℕ) where
   abbrev r' : HeapReading

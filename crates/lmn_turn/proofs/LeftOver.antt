@@ -2,7 +2,7 @@
 use Rattle.std.proofs.Common.{ℕ, ◌≡◌, ◌+◌, ◌≤◌, ◌⊎◌, List, [], ◌∷◌, ◌++◌, map, length, sym, ap, subst, ◌∙◌, inl, inr, arith}
 use Rattle.lmn_base.specs.declared.level.CtxUse.{CtxUse}
 use Rattle.lmn_heap.specs.Heap.{Heap, IsAtom, atoms_in, mems_in, rules_in}
-use Rattle.lmn_heap.specs.Lists.{In, without_all}
+use Rattle.lmn_heap.specs.Lists.{without_all}
 use Rattle.lmn_heap.specs.Sound.{Forest, flat, Forms, Valid}
 use Rattle.lmn_heap.proofs.ListLemmas.{in_left, each_in, each_of}
 use Rattle.std.proofs.lemmas.Bool.{cases_eq}
@@ -35,6 +35,7 @@ use Rattle.lmn_turn.proofs.Sublists.{Sublist, sub_then, sub_without_all, gone_or
 use Rattle.lmn_base.proofs.Lists.{weigh, weigh_append}
 use Rattle.lmn_splice.proofs.Common.{in_append}
 use Rattle.lmn_guards.specs.declared.plan.TypeKind.{TypeKind}
+use Rattle.lmn_base.specs.Lists.{In}
 
 in_some : (b : ℕ) (xs : List ℕ) → In b xs → 1 ≤ weigh (one_if_same b) xs
 in_some b xs p = omega (arith, weigh_same b xs, some_of b xs p)

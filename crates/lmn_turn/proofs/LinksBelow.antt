@@ -1,13 +1,13 @@
 -- A number above the links of the atoms of some membranes.
 use Rattle.std.proofs.Common.{ℕ, List, [], ◌∷◌, ◌≡◌, ◌+◌, ◌<◌, sym, ap, subst, ◌∙◌, inl, inr, arith}
 use Rattle.lmn_heap.specs.Heap.{Heap, atoms_in}
-use Rattle.lmn_heap.specs.Lists.{In}
 use Rattle.lmn_congruence.specs.FreeLinks.{above_all, link_bound}
 use Rattle.lmn_congruence.specs.Orders.{Among, at_head, further}
 use Rattle.lmn_congruence.specs.Process.{Process}
 use Rattle.lmn_congruence.specs.UpToOrder.{Reordered, r_unit, r_swap, r_regroup, r_beside, r_inside, r_same, r_back, r_chain}
 use Rattle.lmn_adequacy.specs.Next.{links_at}
 use Rattle.lmn_bridge.specs.HeapRegions.{HeapReading, atoms_at}
+use Rattle.lmn_base.specs.Lists.{In}
 
 -- an element of a list is below the number above all of them
 pub below_all : (ys : List ℕ) (y : ℕ) → Among y ys → y < above_all ys

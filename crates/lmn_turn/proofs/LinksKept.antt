@@ -1,7 +1,7 @@
 -- What is left of a membrane depends on the images of the links of the heap alone.
 use Rattle.std.proofs.Common.{ℕ, ◌≡◌, ◌<◌, List, [], ◌∷◌, ◌++◌, map, Option, Some, None, IsSome, refl, sym, ap, subst, ◌∙◌, inl, inr}
 use Rattle.lmn_heap.specs.Heap.{Heap, HeapAtom, HeapMem, IsMem, atoms_by, atoms_in}
-use Rattle.lmn_heap.specs.Lists.{In, without, without_all}
+use Rattle.lmn_heap.specs.Lists.{without, without_all}
 use Rattle.lmn_heap.specs.Solid.{solid_atom_at, solid_atoms_at, links_from}
 use Rattle.lmn_congruence.specs.Orders.{Among}
 use Rattle.lmn_congruence.specs.Translation.{solid_atom_of}
@@ -13,6 +13,7 @@ use Rattle.lmn_turn.proofs.LinksBelow.{links_below, links_limit}
 use Rattle.lmn_heap.proofs.Common.{in_of_without as left_of}
 use Rattle.lmn_turn.proofs.MadeMembers.{withouts_nothing as no_atoms}
 use Rattle.lmn_congruence.proofs.Common.{among_left, among_right, map_known}
+use Rattle.lmn_base.specs.Lists.{In}
 
 all_left_of : (ns : List ℕ) (b : ℕ) (xs : List ℕ) → In b (without_all ns xs) → In b xs
 all_left_of [] b xs k = k

@@ -2,13 +2,14 @@
 use Rattle.std.proofs.Common.{ℕ, ◌≡◌, ◌+◌, ◌<◌, ◌≤◌, List, [], ◌∷◌, refl, sym, ap, ◌∙◌, inl, inr, arith}
 use Rattle.std.proofs.lemmas.Bool.{cases_eq}
 use Rattle.std.specs.Prelude.{◌≢◌}
-use Rattle.lmn_heap.specs.Lists.{In, Distinct, without_all}
+use Rattle.lmn_heap.specs.Lists.{Distinct, without_all}
 use Rattle.lmn_heap.proofs.ListLemmas.{each_in}
 use Rattle.lmn_body.specs.declared.items.BodyItem.{BodyItem}
 use Rattle.lmn_body.specs.declared.items.BodyItem.TheVariants.{Atom, Connector, Copy, Bound, Membrane, Rest, Rule, Rules}
 use Rattle.lmn_body.specs.Added.{made_mems}
 use Rattle.lmn_body.specs.Running.{Registers}
 use Rattle.lmn_turn.proofs.Adders.{at, many}
+use Rattle.lmn_base.specs.Lists.{In}
 
 -- ---- lists without some numbers
 

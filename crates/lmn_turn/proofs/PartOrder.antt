@@ -5,7 +5,7 @@ use Rattle.std.proofs.lemmas.List.{append-nil, append_assoc}
 use Rattle.std.proofs.lemmas.Option.{same_Some}
 use Rattle.std.specs.Option.{option_and_then}
 use Rattle.lmn_heap.specs.Heap.{Heap, HeapAtom, IsAtom, arity_of, functor_of, link_of}
-use Rattle.lmn_heap.specs.Lists.{In, Distinct}
+use Rattle.lmn_heap.specs.Lists.{Distinct}
 use Rattle.lmn_heap.proofs.ListLemmas.{each_of, in_left}
 use Rattle.lmn_heap.proofs.Listing.{distinct_snoc}
 use Rattle.lmn_parts.specs.Walks.{HasPort, Walk, ends, passes, finds, port_range, is_port, net, neighbour, kept}
@@ -25,6 +25,7 @@ use Rattle.lmn_base.proofs.Lists.{weigh, map_append as map_both, some_is}
 use Rattle.lmn_base.proofs.Common.{port_cases}
 use Rattle.lmn_congruence.proofs.Counts.{none_if_apart as apart_none, one_if_equal as same_one}
 use Rattle.lmn_heap.proofs.Replacing.{port_within}
+use Rattle.lmn_base.specs.Lists.{In}
 
 -- ---- what is reached over two lists of links
 

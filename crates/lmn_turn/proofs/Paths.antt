@@ -2,7 +2,7 @@
 use Rattle.std.proofs.Common.{ℕ, suc, ◌≡◌, ◌≢◌, ◌+◌, ◌≤◌, Some, List, [], ◌∷◌, ◌++◌, map, refl, sym, subst, ◌∙◌, inl, inr, arith}
 use Rattle.std.specs.Prelude.{slice_get}
 use Rattle.lmn_heap.specs.Heap.{Heap, atoms_in, mems_in, rules_in}
-use Rattle.lmn_heap.specs.Lists.{In, Distinct}
+use Rattle.lmn_heap.specs.Lists.{Distinct}
 use Rattle.lmn_heap.specs.Sound.{Forest, bare, mem, flat, Forms}
 use Rattle.lmn_heap.proofs.Groves.{forms_one}
 use Rattle.lmn_heap.proofs.ListLemmas.{in_left, in_right, each_in, distinct_left, distinct_right, apart}
@@ -26,6 +26,7 @@ use Rattle.lmn_turn.proofs.Kept.{Untouched, kept_one, kept_stand, kept_atoms_joi
 use Rattle.lmn_splice.specs.Splice.{of_solid}
 use Rattle.lmn_adequacy.proofs.Existence.{below_order}
 use Rattle.lmn_congruence.proofs.Common.{rules_join}
+use Rattle.lmn_base.specs.Lists.{In}
 
 -- links stay below a number
 taken_out : (s m q o n : ℕ) → s ≡ m + q → s + o ≤ n → m + (q + o) ≤ n

@@ -3,7 +3,7 @@ use Rattle.std.proofs.Common.{ℕ, zero, suc, ◌≡◌, ◌+◌, ◌≤◌, Lis
 use Rattle.std.specs.Option.{option_map}
 use Rattle.lmn_base.specs.declared.guard.Cond.{Cond}
 use Rattle.lmn_heap.specs.Heap.{Heap, HeapMem, Place, within, IsMem, atoms_in, mems_in, mem_place_of}
-use Rattle.lmn_heap.specs.Lists.{In, Distinct}
+use Rattle.lmn_heap.specs.Lists.{Distinct}
 use Rattle.lmn_heap.specs.Sound.{Forest, flat, Forms, Valid}
 use Rattle.lmn_heap.proofs.Groves.{list_inside, child_inside}
 use Rattle.lmn_heap.proofs.Trees.{in_either}
@@ -23,6 +23,7 @@ use Rattle.lmn_body.proofs.HeadPorts.{of_map}
 use Rattle.lmn_bridge.proofs.Forests.{home_in, one_home}
 use Rattle.lmn_turn.proofs.Turns.{Placing}
 use Rattle.lmn_base.proofs.Lists.{get_below, get_there as get_some}
+use Rattle.lmn_base.specs.Lists.{In}
 
 -- ---- items stand in membranes of the head
 

@@ -12,7 +12,7 @@ use Rattle.lmn_base.specs.WellMade.{FitsArity}
 use Rattle.lmn_guards.specs.declared.plan.GuardPlan.{GuardPlan}
 use Rattle.std.specs.Option.{option_map}
 use Rattle.lmn_heap.specs.Heap.{Heap, HeapMem, top, within, Place, IsMem, mems_in, rules_in}
-use Rattle.lmn_heap.specs.Lists.{In, Distinct}
+use Rattle.lmn_heap.specs.Lists.{Distinct}
 use Rattle.lmn_heap.specs.Sound.{Forest, bare, mem, IsTree, Valid}
 use Rattle.lmn_congruence.proofs.Appended.{all_left, all_right}
 use Rattle.lmn_solid.specs.declared.items.HeadItem.{HeadItem}
@@ -44,6 +44,7 @@ use Rattle.lmn_turn.proofs.Places.{placing}
 use Rattle.lmn_turn.proofs.Turns.{Placing}
 use Rattle.lmn_base.specs.Graphs.{Port}
 use Rattle.lmn_heap.proofs.Common.{mem_stands}
+use Rattle.lmn_base.specs.Lists.{In}
 
 -- ---- names
 

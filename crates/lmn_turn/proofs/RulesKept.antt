@@ -8,7 +8,6 @@ use Rattle.lmn_base.specs.declared.level.Leaf.{Leaf}
 use Rattle.lmn_base.specs.Solids.{connector}
 use Rattle.lmn_heap.specs.Functors.{same_functor}
 use Rattle.lmn_heap.specs.Heap.{Heap, HeapMem, IsMem, rules_in, rules_by}
-use Rattle.lmn_heap.specs.Lists.{In}
 use Rattle.lmn_heap.specs.Sound.{Forest, IsTree, Valid}
 use Rattle.lmn_heap.proofs.Trees.{in_either}
 use Rattle.lmn_solid.specs.declared.items.HeadItem.{HeadItem}
@@ -27,6 +26,7 @@ use Rattle.lmn_base.proofs.Lists.{contains_behind as later_is, contains_first as
 use Rattle.lmn_body.proofs.AddedLemmas.{in_if}
 use Rattle.lmn_base.specs.declared.level.Leaf.TheVariants as leaf
 use Rattle.lmn_solid.specs.Heads as heads
+use Rattle.lmn_base.specs.Lists.{In}
 
 module _ (P : ℕ → Type 0) where
   -- so is each rule that is written

@@ -1,7 +1,7 @@
 -- Lists that keep some elements of another one, in its order.
 use Rattle.std.proofs.Common.{ℕ, ◌≡◌, ◌≢◌, ◌⊎◌, ◌==◌, Bool, true, false, cond, List, [], ◌∷◌, refl, sym, ap, ◌∙◌, inl, inr}
 use Rattle.std.proofs.lemmas.Bool.{cases_eq, eq-eqb}
-use Rattle.lmn_heap.specs.Lists.{In, Each, Distinct, without, without_all}
+use Rattle.lmn_heap.specs.Lists.{Distinct, without, without_all}
 use Rattle.lmn_heap.specs.Sound.{Forest}
 use Rattle.lmn_heap.proofs.ListLemmas.{each_in, each_of, in_without}
 use Rattle.lmn_heap.proofs.Listing.{in_without_of, distinct_without}
@@ -10,6 +10,8 @@ use Rattle.lmn_bridge.proofs.Forests.{tops}
 use Rattle.lmn_bridge.proofs.Lying.{TakenTree, tree_first, tree_later}
 use Rattle.lmn_turn.proofs.MadeMembers.{withouts_nothing}
 use Rattle.lmn_base.proofs.Numbers.{not_equal as apart_test}
+use Rattle.lmn_base.specs.Lists.{In}
+use Rattle.std.specs.List.{AllByRecursion}
 
 -- the first list has elements of the second, in their order
 pub data Sublist : List ℕ → List ℕ → Type 0 where
@@ -74,11 +76,11 @@ step_out (a ∷ ns) y ys d i = elim (cases_eq y a) [
       rw t (step_out ns y (without a ys) (smaller, distinct_without a ys d.1) (elim i [ inl e ↦ absurd (n (sym e)) | inr j ↦ j ])))
 ]
   where
-    absent : (zs : List ℕ) → Each (λ z. y ≢ z) zs → without y zs ≡ zs
+    absent : (zs : List ℕ) → AllByRecursion (λ z. y ≢ z) zs → without y zs ≡ zs
     absent [] e = refl
     absent (z ∷ zs) e = rw (apart_test z y (λ q. e.0 (sym q))) (ap (λ ws. z ∷ ws) (absent zs e.1))
 
-    smaller : Each (λ z. y ≢ z) (without a ys)
+    smaller : AllByRecursion (λ z. y ≢ z) (without a ys)
     smaller = each_of (λ z. y ≢ z) (without a ys) (λ z j. each_in (λ w. y ≢ w) ys z d.0 (in_without_of a z ys d.1 j).0)
 
 step_kept : (ns : List ℕ) (y : ℕ) (ys : List ℕ) → (In y ns → ⊥) → without_all ns (y ∷ ys) ≡ y ∷ without_all ns ys

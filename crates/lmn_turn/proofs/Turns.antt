@@ -3,7 +3,7 @@ use Rattle.std.proofs.Common.{ℕ, zero, suc, ◌≡◌, ◌≢◌, ◌⊎◌, �
 use Rattle.std.proofs.lemmas.List.{map-append}
 use Rattle.lmn_base.specs.declared.solid.SolidAtom.{SolidAtom}
 use Rattle.lmn_heap.specs.Heap.{Heap, HeapMem, IsMem, atoms_in, mems_in, rules_in, atoms_by, mems_by, rules_by}
-use Rattle.lmn_heap.specs.Lists.{In, Distinct, without_all}
+use Rattle.lmn_heap.specs.Lists.{Distinct, without_all}
 use Rattle.lmn_heap.specs.Solid.{solid_atoms_at}
 use Rattle.lmn_heap.specs.Sound.{Forest, flat, Forms}
 use Rattle.lmn_heap.proofs.ListLemmas.{each_in}
@@ -55,6 +55,7 @@ use Rattle.lmn_congruence.proofs.Common.{rules_join, rules_listed}
 use Rattle.lmn_adequacy.specs.Accepted.{Accepted}
 use Rattle.lmn_adequacy.specs.Embedding.{Taken}
 use Rattle.lmn_bridge.proofs.HeadTrees.{tree_of}
+use Rattle.lmn_base.specs.Lists.{In}
 
 -- The atoms of each membrane after a firing, copies included: what is left, then what is added, raw links at their images by a map.
 abbrev pub FiredTo : (h : Heap) (c : Port → ℕ) (s : Registers) (head : List HeadItem) (body : List BodyItem) (taken : List ℕ) (h' : Heap) (name : ℕ → ℕ → ℕ) (to : ℕ → ℕ) (copy : ℕ → List SolidAtom) → Type 0

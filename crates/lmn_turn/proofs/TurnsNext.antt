@@ -8,7 +8,7 @@ use Rattle.lmn_base.specs.declared.rule.RuleTree.{RuleTree}
 use Rattle.lmn_guards.specs.declared.plan.GuardPlan.{GuardPlan}
 use Rattle.lmn_base.specs.declared.solid.SolidAtom.{SolidAtom}
 use Rattle.lmn_heap.specs.Heap.{Heap, IsMem, atoms_in, mems_in, rules_in}
-use Rattle.lmn_heap.specs.Lists.{In, Distinct, without_all}
+use Rattle.lmn_heap.specs.Lists.{Distinct, without_all}
 use Rattle.lmn_heap.specs.Sound.{Forest, bare, mem, flat, Forms, IsTree}
 use Rattle.lmn_heap.proofs.Trees.{nil_right}
 use Rattle.lmn_congruence.specs.FreeLinks.{link_bound, sum_below}
@@ -72,6 +72,7 @@ use Rattle.lmn_turn.proofs.Paths.{RawFrom}
 use Rattle.lmn_turn.proofs.Turns.{FiredTo, Placing, LeavesRest, left, left_read, untouched, fires_in_tree}
 use Rattle.lmn_base.specs.Graphs.{Port}
 use Rattle.lmn_splice.specs.Splice.{of_rule, of_solid}
+use Rattle.lmn_base.specs.Lists.{In}
 
 same_region : {as' bs : List solid.SolidAtom} {is js : Regions} {rs ss : List tree.Rule} → region as' is rs ≡ region bs js ss → (as' ≡ bs) × (is ≡ js)
 same_region e = (cc, cc)

@@ -3,7 +3,6 @@ use Rattle.std.specs.Prelude.{ℕ, ◌≡◌, ◌↔◌, Some, List, slice_get}
 use Rattle.lmn_base.specs.declared.rule.RuleTree.{RuleTree}
 use Rattle.lmn_guards.specs.declared.plan.GuardPlan.{GuardPlan}
 use Rattle.lmn_heap.specs.Heap.{Heap, IsMem, rules_in}
-use Rattle.lmn_heap.specs.Lists.{In}
 use Rattle.lmn_heap.specs.Sound.{Forest, bare, mem, IsTree}
 use Rattle.lmn_instr.specs.Running.{HeadRegisters, Succeeds}
 use Rattle.lmn_compile_head.specs.Accepted.{IsReady, rule_head_code}
@@ -13,6 +12,7 @@ use Rattle.lmn_reduction.specs.Steps.{Step}
 use Rattle.lmn_bridge.specs.HeapRegions.{HeapReading}
 use Rattle.lmn_bridge.specs.Laws.{heap_process}
 use Rattle.lmn_bridge.specs.Premises.{IsRead, HasRules}
+use Rattle.lmn_base.specs.Lists.{In}
 
 -- the rules of a table are accepted and well made, each with its plan
 abbrev pub AllPlanned : List RuleTree → (ℕ → GuardPlan) → Type 0

@@ -8,7 +8,7 @@ use Rattle.lmn_base.specs.declared.rule.RuleTree.{RuleTree}
 use Rattle.lmn_base.specs.Levels.{leaves_of, contexts_of, rule_contexts_of, rules_of}
 use Rattle.lmn_guards.specs.declared.plan.GuardPlan.{GuardPlan}
 use Rattle.lmn_heap.specs.Heap.{Heap, IsMem, atoms_in, mems_in, rules_in}
-use Rattle.lmn_heap.specs.Lists.{In, without_all}
+use Rattle.lmn_heap.specs.Lists.{without_all}
 use Rattle.lmn_heap.specs.Sound.{Forest, bare, mem, Forms, IsTree}
 use Rattle.lmn_solid.specs.Embeddings.{HasLink}
 use Rattle.lmn_instr.specs.Running.{IsFirstSuccess}
@@ -26,6 +26,7 @@ use Rattle.lmn_bridge.specs.HeapRegions.{HeapReading, atoms_at, regions_at, regi
 use Rattle.lmn_bridge.specs.Parts.{IsGroundPart}
 use Rattle.lmn_bridge.specs.Premises.{IsRead, HasForest, IsRule}
 use Rattle.lmn_base.specs.Graphs.{Port}
+use Rattle.lmn_base.specs.Lists.{In}
 
 -- The region is what is left of membrane x when these atoms and membranes are taken: of each list what isn't taken, in its
 -- order.
