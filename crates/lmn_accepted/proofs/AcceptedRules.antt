@@ -4,7 +4,7 @@ use Rattle.std.specs.Prelude.{IsSome, ◌||◌, if◌then◌else◌}
 use Rattle.std.proofs.lemmas.Bool.{eqb-true}
 use Rattle.std.specs.List.{AllByRecursion, flat_map, list_any}
 use Rattle.std.proofs.lemmas.List.Concat.{flat_map-append}
-use Rattle.std.proofs.lemmas.List.Elements.{All-head, All-tail, Contains-append_left, Contains-append_right}
+use Rattle.std.proofs.lemmas.List.Elements.{All-head, Contains-append_left, Contains-append_right, recursion_from_All}
 use Rattle.lmn_base.specs.declared.guard.Cond.{Cond}
 use Rattle.lmn_base.specs.declared.item.Item.{Item}
 use Rattle.lmn_base.specs.declared.level.CtxUse.{CtxUse}
@@ -40,8 +40,7 @@ use Rattle.lmn_linkcheck.proofs.LinkedLemmas.{how_often}
 use Rattle.lmn_accepted.proofs.PlanKinds.{leaf_name}
 use Rattle.lmn_accepted.proofs.Items.{bare_name, typed_name, rule_context_name, rule_number, own_seconds, all_seconds, gathered_in, rules_are, contexts_are, rule_contexts_are, typed_are}
 use Rattle.lmn_accepted.proofs.Trees.{contexts_named, rule_contexts_named, typed_named, no_rules_stand, IsPlainLeaf, typed_link, atom_links, LevelIs, level_is, few_in}
-use Rattle.lmn_reading.proofs.Levels.{two_empty}
-use Rattle.lmn_base.proofs.Lists.{all_append, all_left as all_front, all_right as all_back}
+use Rattle.lmn_base.proofs.Lists.{all_append, all_left as all_front, all_right as all_back, two_empty, all_of_left}
 use Rattle.lmn_congruence.proofs.Common.{among_left, among_right}
 use Rattle.lmn_bridge.proofs.HeadTrees.{tree_of, level_tree}
 use Rattle.lmn_reading.proofs.NamedPlains.{Below, AllBelow}
@@ -49,14 +48,9 @@ use Rattle.lmn_base.specs.declared.item.Form.TheVariants as form
 use Rattle.lmn_base.specs.declared.item.Item.TheVariants as item
 use Rattle.lmn_base.specs.declared.level.Leaf.TheVariants as leaf
 use Rattle.lmn_base.specs.Levels as base
-use Rattle.lmn_congruence.proofs.Appended as appended
 use Rattle.lmn_congruence.specs.Rules as tree
 
 -- ---- lists
-
-to_recursion : {A : Type 0} (P : A → Type 0) (xs : List A) → All P xs → AllByRecursion P xs
-to_recursion P [] h = tt
-to_recursion P (x ∷ xs) h = (All-head P x xs h, to_recursion P xs (All-tail P x xs h))
 
 -- ---- names that are known
 
@@ -196,7 +190,7 @@ module _ (names : List tree.Name) (rule : ℕ → tree.Rule) (is_names : IsNames
   known_parts : LevelKnown names r.head × AllByRecursion (λ c. AllBelow names (condition_names c)) r.guard × LevelKnown names r.body
   known_parts =
       let P : ℕ → Type 0 = λ n. n < length names in
-      let all = to_recursion P (rule_names r) known in
+      let all = recursion_from_All P (rule_names r) known in
       let front = all_front P (level_names r.head ++ flat_map condition_names r.guard) (level_names r.body) all in (
         level_known names r.head (all_front P (level_names r.head) (flat_map condition_names r.guard) front),
         conditions_known names r.guard (all_back P (level_names r.head) (flat_map condition_names r.guard) front),
@@ -228,7 +222,7 @@ module _ (names : List tree.Name) (rule : ℕ → tree.Rule) (is_names : IsNames
       let nowhere = accepted.contexts 3 (connector_in_head r) (omega arith) in
       let P : List Item → Type 0 = λ xs. flat_map connector_place xs ≡ [] in
       let no = head_nowhere (head_at r.head) (subst P (same_uses r.head) nowhere) in
-      let fits = all_front FitsArity (base.leaves_of r.head) (base.leaves_of r.body) (to_recursion FitsArity (base.leaves_of r.head ++ base.leaves_of r.body) made.arities) in
+      let fits = all_front FitsArity (base.leaves_of r.head) (base.leaves_of r.body) (recursion_from_All FitsArity (base.leaves_of r.head ++ base.leaves_of r.body) made.arities) in
       let Q : List Leaf → Type 0 = AllByRecursion FitsArity in
       level_is names rule (head_at r.head) (plain_leaves names rule (head_leaves (head_at r.head)) no (subst Q (same_leaves r.head) fits))
 
@@ -266,7 +260,7 @@ module _ (names : List tree.Name) (rule : ℕ → tree.Rule) (is_names : IsNames
   names_of_nothing f xs e = ap (map f) e
 
   condition_rows : NoneApplies (rows_of_conditions r.head [] r.guard)
-  condition_rows = appended.all_left (λ (row : Row). row.places ≡ []) (rows_of_conditions r.head [] r.guard) (rows_of_typed r) accepted.guard
+  condition_rows = all_of_left (λ (row : Row). row.places ≡ []) (rows_of_conditions r.head [] r.guard) (rows_of_typed r) accepted.guard
 
   typed_leaf : (n : ℕ) → 1 ≤ how_often n (flat_map typed_name (items_of r.head)) → IsSome (type_of r.head r.guard n)
   typed_leaf n h =

@@ -14,7 +14,6 @@ use Rattle.lmn_bridge.specs.Premises.{IsRule, HasTypes}
 use Rattle.lmn_compile_body.specs.Accepted.{IsCompilable}
 use Rattle.lmn_compile_head.specs.Heads.{kind_in}
 use Rattle.lmn_compile_head.specs.Tables.{HasFewLinks}
-use Rattle.lmn_congruence.proofs.Appended.{all_left, all_right}
 use Rattle.lmn_congruence.specs.Rules.{Name}
 use Rattle.lmn_guards.proofs.AcceptedLemmas.{in_order}
 use Rattle.lmn_guards.specs.Accepted.{IsAcceptedRule}
@@ -31,6 +30,7 @@ use Rattle.lmn_accepted.proofs.AcceptedRules.{accepted_tree}
 use Rattle.lmn_accepted.proofs.FewLinks.{RuleHasFew, few_links, top_few}
 use Rattle.lmn_accepted.proofs.PlanKinds.{at_index, plan_types}
 use Rattle.lmn_accepted.specs.Rules.{HasRule, AcceptedTexts}
+use Rattle.lmn_base.proofs.Lists.{all_of_left, all_of_right}
 
 each_at : (rs : List RuleTree) (plans : List GuardPlan) (k : ℕ) (r : RuleTree) (plan : GuardPlan) → EachPair IsPlan rs plans → slice_get rs k ≡ Some r → slice_get plans k ≡ Some plan → IsPlan r plan
 each_at [] [] zero r plan h e f = absurd (cc)
@@ -46,8 +46,8 @@ each_at (s ∷ rs) (q ∷ qs) (suc k) r plan h e f = each_at rs qs k r plan h.1 
 part_at : (P : ℕ → Type 0) (f : RuleTree → List ℕ) (rs : List RuleTree) (k : ℕ) (r : RuleTree) → All P (flat_map f rs) → slice_get rs k ≡ Some r → All P (f r)
 part_at P f [] zero r h e = absurd (cc)
 part_at P f [] (suc k) r h e = absurd (cc)
-part_at P f (s ∷ rs) zero r h e = subst (λ s. All P (f s)) (same_Some s r e) (all_left P (f s) (flat_map f rs) h)
-part_at P f (s ∷ rs) (suc k) r h e = part_at P f rs k r (all_right P (f s) (flat_map f rs) h) e
+part_at P f (s ∷ rs) zero r h e = subst (λ s. All P (f s)) (same_Some s r e) (all_of_left P (f s) (flat_map f rs) h)
+part_at P f (s ∷ rs) (suc k) r h e = part_at P f rs k r (all_of_right P (f s) (flat_map f rs) h) e
 
 module _ (text : List ℕ) (names : List Name) (plain : Plain) (plans : List GuardPlan) (a : IsAcceptedAs text names plain plans) where
   made : IsWellMade plain
@@ -87,9 +87,9 @@ module _ (text : List ℕ) (names : List Name) (plain : Plain) (plans : List Gua
   is_rule named reading same k r e =
       let P : List Name → Type 0 = λ names. NamesPlain names plain in
       let here = subst P (sym same) named in
-      let known = part_at (λ n. n < length reading.names) rule_names plain.rules k r (all_right (λ n. n < length reading.names) (level_names plain.top) (flat_map rule_names plain.rules) here.1) e in
+      let known = part_at (λ n. n < length reading.names) rule_names plain.rules k r (all_of_right (λ n. n < length reading.names) (level_names plain.top) (flat_map rule_names plain.rules) here.1) e in
       let numbers = All-weaker (λ j. (k < j) × (j < length plain.rules)) (λ j. j < length plain.rules) (λ j h. h.1) (rules_of r.head)
-      (all_left (λ j. (k < j) × (j < length plain.rules)) (rules_of r.head) (rules_of r.body) (made.rules_in_rules k r e)) in
+      (all_of_left (λ j. (k < j) × (j < length plain.rules)) (rules_of r.head) (rules_of r.body) (made.rules_in_rules k r e)) in
       record {
         well_made = rule_at plain made k r e;
         known = known;

@@ -2,7 +2,7 @@
 use Rattle.std.proofs.Common.{ℕ, suc, ◌≡◌, ◌≤◌, ◌+◌, ◌==◌, ◌⊎◌, inl, inr, ◌&&◌, ◌||◌, not, Bool, true, false, cond, List, [], ◌∷◌, ◌++◌, map, length, refl, sym, ap, subst, ◌∙◌, arith}
 use Rattle.std.specs.Prelude.{if◌then◌else◌}
 use Rattle.std.specs.List.{AllByRecursion, flat_map, list_any}
-use Rattle.std.proofs.lemmas.Bool.{eqb-true}
+use Rattle.std.proofs.lemmas.Bool.{eqb-true, or_parts}
 use Rattle.std.proofs.lemmas.List.Concat.{flat_map-append}
 use Rattle.std.proofs.lemmas.List.Elements.{All-head, All-tail}
 use Rattle.std.proofs.lemmas.List.Folds.{list_any-append}
@@ -32,7 +32,7 @@ use Rattle.lmn_linkcheck.proofs.LinkedLemmas.{how_often, how_often_both}
 use Rattle.lmn_reading.proofs.NamedPlains.{AllBelow}
 use Rattle.lmn_accepted.proofs.Items.{typed_name}
 use Rattle.lmn_accepted.proofs.Expressions.{use_known, used_names, used_there}
-use Rattle.lmn_base.proofs.Truth.{and_true as both_true, either_true as or_true, neither_true as or_neither}
+use Rattle.lmn_base.proofs.Truth.{and_true as both_true, either_true as or_true}
 use Rattle.lmn_guards.proofs.WorkedGuards.{of_context as context_items}
 
 -- ---- what earlier conditions bind
@@ -209,7 +209,7 @@ module _ (names : List tree.Name) (is : IsNames names) (head : Level) (ts : List
           let g = one.1 in
           subst (λ q. Among q (map (N names) ts) ⊎ Among q (map (N names) bs)) one.2 (known_there one.0 (omega (arith, e, g)))
   in_turn before (Equal left right pos ∷ cs) bs kb b rows t kc =
-      by (in_head head left.name) refl (or_neither (in_head head left.name && not (is_of_head head right)) (is_bound head before left.name) (not_then (has_wrong_operands head before (Equal left right pos)) pos r.2))
+      by (in_head head left.name) refl (or_parts (in_head head left.name && not (is_of_head head right)) (is_bound head before left.name) (not_then (has_wrong_operands head before (Equal left right pos)) pos r.2))
       (λ bs kb b. in_turn (before ++ Equal left right pos ∷ []) cs bs kb b r.3 (typed_right (condition_items (Equal left right pos)) (guard_items cs) t) kc.1)
     where
       r : RowsOf head before (Equal left right pos) cs
@@ -258,7 +258,7 @@ module _ (names : List tree.Name) (is : IsNames names) (head : Level) (ts : List
       r = rows_apart head before (Differ left right pos) cs rows
 
       w : (is_bound head before left.name ≡ false) × (is_bound head before right.name ≡ false)
-      w = or_neither (is_bound head before left.name) (is_bound head before right.name) (not_then (has_wrong_operands head before (Differ left right pos)) pos r.2)
+      w = or_parts (is_bound head before left.name) (is_bound head before right.name) (not_then (has_wrong_operands head before (Differ left right pos)) pos r.2)
 
       here : Typed (used form.Typed left ∷ used form.Typed right ∷ [])
       here = typed_left (condition_items (Differ left right pos)) (guard_items cs) t

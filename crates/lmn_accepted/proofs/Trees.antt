@@ -20,8 +20,7 @@ use Rattle.lmn_reduction.specs.Firing.{typed_leaves, typed_contexts, typed_conte
 use Rattle.lmn_solid.proofs.HeadTrees.{Head, Heads, head, no_head, head_and, head_leaves, heads_leaves, head_uses, heads_uses}
 use Rattle.lmn_accepted.proofs.Listed.{N}
 use Rattle.lmn_accepted.proofs.Items.{bare_name, typed_name, rule_context_name, rule_number, gathered, gathered_in, own_seconds, bare_own, rule_context_own, typed_own, rule_own}
-use Rattle.lmn_reading.proofs.Levels.{two_empty}
-use Rattle.lmn_base.proofs.Lists.{all_left as all_front, all_right as all_back}
+use Rattle.lmn_base.proofs.Lists.{all_left as all_front, all_right as all_back, two_empty}
 use Rattle.lmn_bridge.proofs.HeadTrees.{tree_of, trees_of}
 
 -- ---- of the tree

@@ -8,7 +8,7 @@ use Rattle.lmn_congruence.specs.Regions.{SolidAtom}
 use Rattle.lmn_congruence.specs.Rules.{Label}
 use Rattle.lmn_congruence.specs.Same.{renamed_atom}
 use Rattle.lmn_reduction.specs.Parts.{OnlyAtoms, Rooted, EqualParts, atoms_at_top}
-use Rattle.lmn_congruence.proofs.Counts.{Occurs, none_if_apart, occurs_once, one_bound}
+use Rattle.lmn_congruence.proofs.Counts.{Occurs, none_if_apart, one_bound}
 use Rattle.lmn_congruence.proofs.Renaming.{occurrences_none}
 use Rattle.lmn_congruence.proofs.Shuffles.{shuffle_chain, shuffle_flip}
 use Rattle.lmn_adequacy.specs.Embedding.{IsPart}
@@ -17,11 +17,12 @@ use Rattle.lmn_adequacy.proofs.Bodies.{Whole}
 use Rattle.lmn_adequacy.proofs.Depth.{SameAtoms, at_cons, at_same, depth_first_one, order_kept}
 use Rattle.lmn_adequacy.proofs.Embedding.{part_atom}
 use Rattle.lmn_adequacy.proofs.Exposing.{Source, found, missing, source}
-use Rattle.lmn_adequacy.proofs.Images.{map_maps, not_one, positive}
+use Rattle.lmn_adequacy.proofs.Images.{not_one, positive}
 use Rattle.lmn_adequacy.proofs.Moved.{MovedList}
 use Rattle.lmn_adequacy.proofs.SameParts.{Knows, atoms_occur, knows, part_count, part_image, shuffle_among, shuffle_known}
-use Rattle.lmn_base.proofs.Numbers.{same_or_not}
+use Rattle.lmn_base.proofs.Numbers.{same_or_not, not_zero_if_one}
 use Rattle.lmn_congruence.proofs.Common.{among_left, among_right, among_map, places_among, among_places, map_known}
+use Rattle.lmn_base.proofs.Lists.{map_twice}
 
 occurs_atoms : (P : Process) → OnlyAtoms P → {x : ℕ} → Occurs x P → (a : Label × List ℕ) × (Among a (atoms_at_top P)) × Among x a.1
 occurs_atoms nothing o d = absurd o
@@ -89,11 +90,11 @@ module _ {g h : Rooted} {y : ℕ} {part part' : List SolidAtom} (whole : Whole g
       sym u.2 ∙ ap i.to (s.one_to_one u.0 v.0 u.1 v.1 (j.one_to_one (s.to u.0) (s.to v.0) (carried u.0 u.1) (carried v.0 v.1) f)) ∙ v.2
 
   root_across : across_to y ≡ y
-  root_across = ap across_to (sym i.root) ∙ across_is g.root (occurs_once (occurrences g.root g.process) free) ∙ ap j.to s.roots ∙ j.root
+  root_across = ap across_to (sym i.root) ∙ across_is g.root (not_zero_if_one (occurrences g.root g.process) free) ∙ ap j.to s.roots ∙ j.root
 
   atom_across : (a : Label × List ℕ) (b : SolidAtom) (c : Label × List ℕ) (d : SolidAtom) → part_atom i.to a ≡ b → Knows g a → (a.0, map s.to a.1) ≡ c → part_atom j.to c ≡ d → renamed_atom across_to b ≡ d
   atom_across a b c d p k q r =
-      let e : map across_to (map i.to a.1) ≡ map j.to (map s.to a.1) = map_maps across_to i.to a.1 ∙ map_known a.1 (λ x l. across_is x (k x l)) ∙ sym (map_maps j.to s.to a.1) in
+      let e : map across_to (map i.to a.1) ≡ map j.to (map s.to a.1) = map_twice across_to i.to a.1 ∙ map_known a.1 (λ x l. across_is x (k x l)) ∙ sym (map_twice j.to s.to a.1) in
       let f : renamed_atom across_to (part_atom i.to a) ≡ part_atom j.to (a.0, map s.to a.1) = ap (λ w. record { label = a.0; links = w }) e in
       ap (renamed_atom across_to) (sym p) ∙ f ∙ ap (part_atom j.to) q ∙ r
 
@@ -113,13 +114,13 @@ module _ {g h : Rooted} {y : ℕ} {part part' : List SolidAtom} (whole : Whole g
       record { to = f; is = ap (λ w. map leaf_process (part_leaves w)) (sym e) ∙ atoms_listed f part; stays = λ z a. stays z (sym (made_places z part) ∙ a) }
     where
       root_places : places y (links_at part) ≡ 1
-      root_places = ap (λ w. places w (links_at part)) (sym i.root) ∙ part_image i g.root (occurs_once (occurrences g.root g.process) free) ∙ free
+      root_places = ap (λ w. places w (links_at part)) (sym i.root) ∙ part_image i g.root (not_zero_if_one (occurrences g.root g.process) free) ∙ free
 
       root_places' : places y (links_at part') ≡ 1
-      root_places' = ap (λ w. places w (links_at part')) (sym j.root) ∙ part_image j h.root (occurs_once (occurrences h.root h.process) free') ∙ free'
+      root_places' = ap (λ w. places w (links_at part')) (sym j.root) ∙ part_image j h.root (not_zero_if_one (occurrences h.root h.process) free') ∙ free'
 
       root_here : (z : ℕ) → Among z (y ∷ []) → Here z
-      root_here z at_head = occurs_once (places y (links_at part)) root_places
+      root_here z at_head = not_zero_if_one (places y (links_at part)) root_places
       root_here z (further a) = elim a [ ]
 
       room : (z : ℕ) → places z (links_at (map (renamed_atom across_to) part)) ≡ places z (links_at part') → places z (y ∷ []) + places z (links_at (map (renamed_atom across_to) part)) ≤ 2
@@ -131,7 +132,7 @@ module _ {g h : Rooted} {y : ℕ} {part part' : List SolidAtom} (whole : Whole g
 
       stays : (z : ℕ) → places z (links_at part) ≡ 1 → across_to z ≡ z
       stays z e =
-          let u = origin z (occurs_once (places z (links_at part)) e) in
+          let u = origin z (not_zero_if_one (places z (links_at part)) e) in
           let c : occurrences u.0 g.process ≡ 1 = sym (part_image i u.0 u.1) ∙ ap (λ w. places w (links_at part)) u.2 ∙ e in
           go u.0 u.2 c (same_or_not u.0 g.root)
         where

@@ -30,11 +30,12 @@ use Rattle.lmn_adequacy.specs.Embedding.{AllRules, AllRulesIn, AtomImages, HasEm
 use Rattle.lmn_adequacy.proofs.Ends.{EndsOutside, ends_outside}
 use Rattle.lmn_adequacy.proofs.Exposing.{Source, found, missing, source}
 use Rattle.lmn_adequacy.proofs.Heads.{HeadAllowed, HeadLeaves, HeadLevel, HeadLevels, region_there, rule_there}
-use Rattle.lmn_adequacy.proofs.Images.{atoms_plain, fused_renamed, image_at_least, map_maps, no_link_rule_contexts, places_least}
+use Rattle.lmn_adequacy.proofs.Images.{atoms_plain, fused_renamed, image_at_least, no_link_rule_contexts, places_least}
 use Rattle.lmn_adequacy.proofs.Orders.{all_second, merged_taken, pieces_reordered, put_taken, shuffled_atoms, together_pieces}
 use Rattle.lmn_adequacy.proofs.RegionPieces.{pieces_of, region_pieces, take_atom, take_region}
 use Rattle.lmn_base.proofs.Numbers.{same_or_not}
 use Rattle.lmn_congruence.proofs.TranslatedLinks.{no_link_in_rules as no_link_rules}
+use Rattle.lmn_base.proofs.Lists.{map_twice}
 
 -- ---- copies of rooted processes
 
@@ -130,7 +131,7 @@ module _ (t : Assignment) (v : ℕ → ℕ) where
 
   -- each port of a head atom has its link in the solid
   places_twice : (x : ℕ) (ys : List ℕ) → places x ys ≤ places (v (t.link_of x)) (map v (map t.link_of ys))
-  places_twice x ys = subst (λ k. places x ys ≤ places (v (t.link_of x)) k) (sym (map_maps v t.link_of ys)) (places_least (λ z. v (t.link_of z)) x ys)
+  places_twice x ys = subst (λ k. places x ys ≤ places (v (t.link_of x)) k) (sym (map_twice v t.link_of ys)) (places_least (λ z. v (t.link_of z)) x ys)
 
   leaves_at_least : (x : ℕ) {ls : List Leaf} {Ps : List Process} → LeafInstances t ls Ps → HeadLeaves t ls → leaves_occurrences x ls ≤ occurrences (v (t.link_of x)) (fused v (together Ps))
   leaves_at_least x no_leaf a = omega arith
@@ -272,7 +273,7 @@ module _ (t : Assignment) (p : Proper t) (v : ℕ → ℕ) where
   match_leaves no_leaf a W xs ms rs s = record { at = []; rest = xs; images = no_image; left = s }
   match_leaves (leaf_and {ls = ls} {Ps = Ps} (of_atom {a = b} {xs = ys}) j) a W xs ms rs s =
       match_atom b ys ls (pieces (fused v (together Ps)) ++ W) (parts_of j ++ W) xs ms rs (λ xs' k. match_leaves j a W xs' ms rs k)
-      (subst (λ k. Shuffle SamePiece (atom b k ∷ (pieces (fused v (together Ps)) ++ W)) (pieces_of (region xs ms rs))) (map_maps v t.link_of ys) s)
+      (subst (λ k. Shuffle SamePiece (atom b k ∷ (pieces (fused v (together Ps)) ++ W)) (pieces_of (region xs ms rs))) (map_twice v t.link_of ys) s)
   match_leaves (leaf_and of_connector j) a W xs ms rs s = absurd a
   match_leaves (leaf_and {ls = ls} {Ps = Ps} (of_typed {P = P} c) j) a W xs ms rs s =
       let A = pieces (fused v P) in

@@ -8,10 +8,11 @@ use Rattle.lmn_congruence.specs.UpToOrder.{Reordered, r_back, r_beside, r_chain,
 use Rattle.lmn_reduction.specs.Assignments.{Assignment}
 use Rattle.lmn_reduction.specs.Instances.{rules_of_contexts}
 use Rattle.lmn_reduction.specs.Parts.{OnlyAtoms}
-use Rattle.lmn_congruence.proofs.Counts.{map_after, none_if_apart, one_if_equal}
+use Rattle.lmn_congruence.proofs.Counts.{none_if_apart, one_if_equal}
 use Rattle.lmn_reduction.proofs.Merges.{row}
 use Rattle.lmn_base.proofs.Numbers.{same_or_not}
 use Rattle.lmn_congruence.proofs.TranslatedLinks.{no_link_in_rules as no_link_rules}
+use Rattle.lmn_base.proofs.Lists.{map_twice}
 
 one_least : (f : ℕ → ℕ) (x y : ℕ) → one_if_same x y ≤ one_if_same (f x) (f y)
 one_least f x y = go (same_or_not x y)
@@ -35,13 +36,10 @@ image_at_least f x (rule r) = omega arith
 
 -- ---- one renaming after another
 
-pub map_maps : (f g : ℕ → ℕ) (xs : List ℕ) → map f (map g xs) ≡ map (λ x. f (g x)) xs
-map_maps f g xs = map_after f g (λ x. f (g x)) xs (λ x n. refl)
-
 pub renamed_renamed : (f g : ℕ → ℕ) (P : Process) → renamed f (renamed g P) ≡ renamed (λ x. f (g x)) P
 renamed_renamed f g nothing = refl
 renamed_renamed f g (connector x y) = refl
-renamed_renamed f g (atom a xs) = ap (atom a) (map_maps f g xs)
+renamed_renamed f g (atom a xs) = ap (atom a) (map_twice f g xs)
 renamed_renamed f g (pair P Q) = cc (renamed_renamed f g P, renamed_renamed f g Q)
 renamed_renamed f g (membrane P) = cc (renamed_renamed f g P)
 renamed_renamed f g (rule r) = refl
@@ -49,7 +47,7 @@ renamed_renamed f g (rule r) = refl
 pub fused_renamed : (v f : ℕ → ℕ) (P : Process) → fused v (renamed f P) ≡ fused (λ x. v (f x)) P
 fused_renamed v f nothing = refl
 fused_renamed v f (connector x y) = refl
-fused_renamed v f (atom a xs) = ap (atom a) (map_maps v f xs)
+fused_renamed v f (atom a xs) = ap (atom a) (map_twice v f xs)
 fused_renamed v f (pair P Q) = cc (fused_renamed v f P, fused_renamed v f Q)
 fused_renamed v f (membrane P) = cc (fused_renamed v f P)
 fused_renamed v f (rule r) = refl

@@ -6,7 +6,7 @@ use Rattle.lmn_congruence.specs.Orders.{Among, Put, Shuffle, at_head, further, h
 use Rattle.lmn_congruence.specs.Process.{OneToOneOn}
 use Rattle.lmn_congruence.specs.Regions.{SolidAtom}
 use Rattle.lmn_reduction.specs.Parts.{IsGround, ReachesLink, Rooted, across, atoms_at_top, the_root}
-use Rattle.lmn_congruence.proofs.Counts.{none_if_apart, occurs_once, one_if_equal}
+use Rattle.lmn_congruence.proofs.Counts.{none_if_apart, one_if_equal}
 use Rattle.lmn_congruence.proofs.Renaming.{occurrences_none}
 use Rattle.lmn_congruence.proofs.Shuffles.{shuffle_append, shuffle_chain, shuffle_flip, shuffle_same}
 use Rattle.lmn_adequacy.specs.Embedding.{IsPart}
@@ -20,7 +20,7 @@ use Rattle.lmn_adequacy.proofs.OneEmbedding.{root_occurs}
 use Rattle.lmn_adequacy.proofs.Orders.{either}
 use Rattle.lmn_adequacy.proofs.SameParts.{at_among, part_count, part_image, shuffle_among}
 use Rattle.lmn_adequacy.proofs.Wires.{at_most_two}
-use Rattle.lmn_base.proofs.Numbers.{same_or_not}
+use Rattle.lmn_base.proofs.Numbers.{same_or_not, not_zero_if_one}
 use Rattle.lmn_congruence.proofs.Common.{among_apart as among_append, among_left, among_right, among_map, places_among, among_places}
 use Rattle.lmn_congruence.proofs.TranslatedLinks.{places_append}
 
@@ -130,7 +130,7 @@ module _ (n : ℕ) (rec : (ys seen : List ℕ) (G : List SolidAtom) → suc (len
           first : (z : ℕ) → Among z (y ∷ ys) → places z (seen ++ links_at u.listed) ≡ 2
           first z at_head = omega (arith, q.0, q.1, places_append y seen (links_at u.listed), at_same y u.same, at_append y u.listed u.rest)
           first z (further j) = u.done z (inl j)
-      go (inr q) u = let h = holder y G (occurs_once (places y (links_at G)) q.1) in found_new y ys seen G h.1 h.0 l e (λ z i. w z (further i)) q.0 h.2 h.3
+      go (inr q) u = let h = holder y G (not_zero_if_one (places y (links_at G)) q.1) in found_new y ys seen G h.1 h.0 l e (λ z i. w z (further i)) q.0 h.2 h.3
 
 not_less : (n : ℕ) → ¬ (suc n ≤ 0)
 not_less n b = absurd (omega arith)
@@ -183,7 +183,7 @@ listing g ground whole f one x root = record { part = u.listed; atoms = shuffle_
     u = reach (length (map (part_atom f) (atoms_at_top g.process))) (x ∷ []) (x ∷ []) (map (part_atom f) (atoms_at_top g.process)) (omega arith) even (λ y k. root_there y k)
       where
         root_there : (y : ℕ) → Among y (x ∷ []) → places y (x ∷ []) ≢ 0
-        root_there y at_head = occurs_once (places y (y ∷ [])) (omega (arith, one_if_equal y y refl))
+        root_there y at_head = not_zero_if_one (places y (y ∷ [])) (omega (arith, one_if_equal y y refl))
         root_there y (further k) = elim k [ ]
 
     count : (z : ℕ) → places z (x ∷ []) + (places z (links_at u.listed) + places z (links_at u.rest)) ≤ 2

@@ -8,12 +8,12 @@ use Rattle.lmn_congruence.specs.Process.{Free, Linked, Process, atom, connector,
 use Rattle.lmn_congruence.specs.Regions.{Region, Regions, SolidAtom, no_region, region, region_and}
 use Rattle.lmn_congruence.specs.Rules.{Leaf, Level, Levels, Rule, atom_leaf, connector_leaf, level, level_and, no_level, rules_list, typed_leaf}
 use Rattle.lmn_congruence.specs.Same.{IsRenamed}
-use Rattle.lmn_congruence.proofs.Counts.{Occurs, in_left, in_right}
+use Rattle.lmn_congruence.proofs.Counts.{Occurs}
 use Rattle.lmn_reduction.proofs.OneSolid.{solid_is_one}
 use Rattle.lmn_congruence.proofs.Renaming.{renamed_agree, renamed_id}
 use Rattle.lmn_adequacy.proofs.Images.{fused_renamed}
 use Rattle.lmn_adequacy.proofs.ReadRegions.{append_regions, joined, region_from}
-use Rattle.lmn_base.proofs.Numbers.{same_or_not}
+use Rattle.lmn_base.proofs.Numbers.{same_or_not, left_not_zero, right_not_zero}
 
 pub record Moved (P P' : Process) : Type 0 where
   pub to : ℕ → ℕ
@@ -94,7 +94,7 @@ linked_append Ps Qs l = record { at_most_twice = λ z. omega (arith, occurrences
 
 agree_list : (f g : ℕ → ℕ) (Ps : List Process) → ((z : ℕ) → Occurs z (together Ps) → f z ≡ g z) → map (renamed f) Ps ≡ map (renamed g) Ps
 agree_list f g [] h = refl
-agree_list f g (P ∷ Ps) h = cc (renamed_agree f g P (λ z o. h z (in_left (occurrences z P) (occurrences z (together Ps)) o)), agree_list f g Ps (λ z o. h z (in_right (occurrences z P) (occurrences z (together Ps)) o)))
+agree_list f g (P ∷ Ps) h = cc (renamed_agree f g P (λ z o. h z (left_not_zero (occurrences z P) (occurrences z (together Ps)) o)), agree_list f g Ps (λ z o. h z (right_not_zero (occurrences z P) (occurrences z (together Ps)) o)))
 
 map_append : (f : Process → Process) (Ps Qs : List Process) → map f (Ps ++ Qs) ≡ map f Ps ++ map f Qs
 map_append f [] Qs = refl

@@ -20,7 +20,7 @@ use Rattle.lmn_adequacy.proofs.Exposing.{Source, found, missing, source}
 use Rattle.lmn_adequacy.proofs.Orders.{either}
 use Rattle.lmn_adequacy.proofs.SameParts.{atoms_places}
 use Rattle.lmn_base.proofs.Common.{numbers_head as one_number}
-use Rattle.lmn_base.proofs.Numbers.{same_or_not}
+use Rattle.lmn_base.proofs.Numbers.{same_or_not, chosen_there, chosen_elsewhere}
 use Rattle.lmn_congruence.proofs.TranslatedLinks.{no_link_in_rules as no_link_rules, places_append}
 use Rattle.lmn_congruence.proofs.Common.{among_left, among_right, places_among, among_places, map_known}
 use Rattle.lmn_base.proofs.Lists.{join_maps}
@@ -132,12 +132,6 @@ record Seen (seen : List ℕ) (n : ℕ) (f : ℕ → ℕ) : Type 0 where
 abbrev with_new : ℕ → ℕ → (ℕ → ℕ) → ℕ → ℕ
 with_new x n f z = cond (eqb z x) n (f z)
 
-at_new : (x n k z : ℕ) → z ≡ x → cond (eqb z x) n k ≡ n
-at_new x n k z e = grind arith
-
-elsewhere : (x n k z : ℕ) → z ≢ x → cond (eqb z x) n k ≡ k
-elsewhere x n k z d = grind arith
-
 module _ (x n : ℕ) (seen : List ℕ) (f : ℕ → ℕ) (s : Seen seen n f) (fresh : places x seen ≡ 0) where
   not_x : (z : ℕ) → Among z seen → z ≢ x
   not_x z k e = none (places x seen) fresh (subst (λ w. 1 ≤ places w seen) e (among_places k))
@@ -146,10 +140,10 @@ module _ (x n : ℕ) (seen : List ℕ) (f : ℕ → ℕ) (s : Seen seen n f) (fr
       none m e l = absurd (omega (arith, e, l))
 
   same_seen : (z : ℕ) → Among z seen → with_new x n f z ≡ f z
-  same_seen z k = elsewhere x n (f z) z (not_x z k)
+  same_seen z k = chosen_elsewhere x n (f z) z (not_x z k)
 
   new_number : with_new x n f x ≡ n
-  new_number = at_new x n (f x) x refl
+  new_number = chosen_there x n (f x) x refl
 
   one_more_seen : Seen (x ∷ seen) (suc n) (with_new x n f)
   one_more_seen = record { below = below; one_to_one = apart_links }

@@ -9,7 +9,7 @@ use Rattle.lmn_congruence.specs.Rules.{Leaf, Level, Levels, Name, Rule, level}
 use Rattle.lmn_reduction.specs.Assignments.{Assignment}
 use Rattle.lmn_reduction.specs.Firing.{typed_contexts, typed_contexts_in, typed_leaves}
 use Rattle.lmn_reduction.specs.Parts.{IsGround, Rooted, EqualParts}
-use Rattle.lmn_congruence.proofs.Counts.{Occurs, occurs_once}
+use Rattle.lmn_congruence.proofs.Counts.{Occurs}
 use Rattle.lmn_congruence.proofs.Reordered.{reordered_count}
 use Rattle.lmn_congruence.proofs.Solids.{put_together}
 use Rattle.lmn_adequacy.specs.Accepted.{contexts_in, own_membranes, port_links, port_links_in, port_links_of, rule_contexts_in, typed_links, typed_links_in, typed_links_of}
@@ -20,6 +20,7 @@ use Rattle.lmn_adequacy.proofs.Orders.{either, region_put, taken_put}
 use Rattle.lmn_adequacy.proofs.SameParts.{atoms_places, merged_count, one_graph, one_part}
 use Rattle.lmn_congruence.proofs.Common.{among_apart as among_append, among_left, among_right, among_map, among_places}
 use Rattle.lmn_congruence.proofs.TranslatedLinks.{no_link_in_rules as no_link_rules}
+use Rattle.lmn_base.proofs.Numbers.{not_zero_if_one}
 
 abbrev pub AgreeOn : Assignment → Assignment → List ℕ → Type 0
 AgreeOn t s xs = (x : ℕ) → Among x xs → t.link_of x ≡ s.link_of x
@@ -153,7 +154,7 @@ mutual
 -- ---- the typed parts
 
 pub root_occurs : {g : Rooted} → IsGround g → Occurs g.root g.process
-root_occurs {g} i = occurs_once (occurrences g.root g.process) i.root_is_free
+root_occurs {g} i = not_zero_if_one (occurrences g.root g.process) i.root_is_free
 
 with_first : (A : Name → Type 0) {p : Name} {ps : List Name} → A p → ((q : Name) → Among q ps → A q) → (q : Name) → Among q (p ∷ ps) → A q
 with_first A z f q at_head = z

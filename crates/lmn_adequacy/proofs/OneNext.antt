@@ -11,7 +11,7 @@ use Rattle.lmn_congruence.specs.Rules.{Leaf, Level, Levels, Name, Rule, atom_lea
 use Rattle.lmn_congruence.specs.Same.{IsRenamed}
 use Rattle.lmn_reduction.specs.Firing.{typed_contexts, typed_contexts_in, typed_leaves}
 use Rattle.lmn_reduction.specs.Parts.{EqualParts}
-use Rattle.lmn_congruence.proofs.Counts.{linked_as, linked_inside, linked_left, linked_right, none_if_apart, occurs_once}
+use Rattle.lmn_congruence.proofs.Counts.{linked_as, linked_inside, linked_left, linked_right, none_if_apart}
 use Rattle.lmn_congruence.proofs.LinkMaps.{closed_linked}
 use Rattle.lmn_congruence.proofs.Reordered.{reordered_count}
 use Rattle.lmn_congruence.proofs.Shuffles.{shuffle_flip}
@@ -33,7 +33,7 @@ use Rattle.lmn_adequacy.proofs.SameParts.{shuffle_among}
 use Rattle.lmn_adequacy.proofs.Skeleton.{level_skeleton}
 use Rattle.lmn_splice.specs.Splice.{of_rule, of_solid}
 use Rattle.lmn_base.proofs.Lists.{map_append as maps_append}
-use Rattle.lmn_base.proofs.Numbers.{one_not_zero as split_sum, same_or_not}
+use Rattle.lmn_base.proofs.Numbers.{one_not_zero as split_sum, same_or_not, not_zero_if_one}
 use Rattle.lmn_congruence.proofs.Common.{among_left, among_right, places_among}
 
 -- ---- what the body makes
@@ -219,7 +219,7 @@ fires_one {r} {f} {m} {L} {L'} a F F' O closed l l' =
     let typed_agree : AgreeOn t s (typed_links hd) = λ x k. ports.links x (a.held x k) in
     let two : Linked (pair (region_process m) O) = closed_linked closed in
     let same = parts_same t s c d e.images e'.images refl [] [] refl (λ z. occurrences z O) two.at_most_twice typed_agree (λ x k. inl (a.held x k)) e.left e'.left in
-    let w = wires_one c.link_of d.link_of hd F.bound F'.bound F.bounded F'.bounded (λ x o. either (level_links x hd a.no_connectors (occurs_once (level_occurrences x hd) o)) (λ k. ports.links x k) (λ k. typed_agree x k)) in
+    let w = wires_one c.link_of d.link_of hd F.bound F'.bound F.bounded F'.bounded (λ x o. either (level_links x hd a.no_connectors (not_zero_if_one (level_occurrences x hd) o)) (λ k. ports.links x k) (λ k. typed_agree x k)) in
     let b = accepted_bare r a in
     let p = contents_plain c e.root_is_free in
     let i : LevelImages t (level b.leaves b.membranes [] [] no_rule) f m e.rest = subst (λ k. LevelImages t k f m e.rest) b.is e.images in

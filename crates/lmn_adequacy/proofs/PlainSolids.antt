@@ -26,7 +26,6 @@ use Rattle.lmn_congruence.specs.Plains.{SolidOf, fused_leaves, fused_level, fuse
 use Rattle.lmn_congruence.specs.Process.{Closed, together}
 use Rattle.lmn_congruence.specs.SolidsOfPlains.{JoinsLeaf, fused_leaf, fused_region, fused_step, is_connector}
 use Rattle.lmn_congruence.specs.Translation.{leaf_of, level_of, level_step, levels, numbered_rule, region_of, region_step, regions, solid_atom_of, top_of, numbered_region}
-use Rattle.lmn_congruence.proofs.Appended.{all_left, all_right}
 use Rattle.lmn_congruence.proofs.SolidsOfPlains.{fused, solids_of_plains, twice_mapped}
 use Rattle.lmn_congruence.proofs.TranslatedLinks.{plains_closed, solid_links_kept}
 use Rattle.lmn_reduction.proofs.OneSolid.{solid_is_one}
@@ -36,10 +35,11 @@ use Rattle.lmn_adequacy.specs.Next.{links_at}
 use Rattle.lmn_adequacy.specs.Numbered.{IsNumbered, printed_links, printed_links_in}
 use Rattle.lmn_adequacy.proofs.Numbering.{numbered_one, numbering, renamed_solid}
 use Rattle.lmn_adequacy.proofs.OneEmbedding.{atoms_in as its_atoms, membranes_in as its_membranes}
-use Rattle.lmn_base.proofs.Lists.{all_both as all_of_both, all_none as all_of_none, head_is, tail_is}
+use Rattle.lmn_base.proofs.Lists.{head_is, tail_is, all_of_left, all_of_right}
 use Rattle.lmn_base.proofs.Common.{inner_leaves, inner_atoms}
 use Rattle.lmn_congruence.specs.Regions as solid
 use Rattle.lmn_congruence.specs.Rules as tree
+use Rattle.std.proofs.lemmas.List.Elements.{All-append, All-nil}
 
 -- ---- lists
 
@@ -63,22 +63,22 @@ module _ (names : List tree.Name) (number : ℕ → tree.Rule) (v : ℕ → ℕ)
   leaf_back (Atom f os p) h = cases_back f.label f.arity os p h
 
   leaves_back : (ls : List Leaf) → Joins v (together (map leaf_process (map (leaf_of names) ls))) → All (JoinsLeaf v) ls
-  leaves_back [] h = all_of_none (JoinsLeaf v)
-  leaves_back (l ∷ ls) h = all_of_both (JoinsLeaf v) (l ∷ []) ls (all_of_one (JoinsLeaf v) l (leaf_back l h.0)) (leaves_back ls h.1)
+  leaves_back [] h = All-nil (JoinsLeaf v)
+  leaves_back (l ∷ ls) h = All-append (JoinsLeaf v) (l ∷ []) ls (all_of_one (JoinsLeaf v) l (leaf_back l h.0)) (leaves_back ls h.1)
 
   abbrev Back : Level → Type 0
   Back l = Joins v (level_process (level_of names number l)) → All (JoinsLeaf v) (leaves_of l)
 
   inner_back : (ls : List ((l : Level) × Back l)) → Joins v (together (levels_processes (levels (map (level_of names number) (map (λ e. e.0) ls))))) → All (JoinsLeaf v) (inner_leaves (map (λ e. e.0) ls))
-  inner_back [] h = all_of_none (JoinsLeaf v)
-  inner_back (e ∷ ls) h = all_of_both (JoinsLeaf v) (leaves_of e.0) (inner_leaves (map (λ e. e.0) ls)) (e.1 h.0) (inner_back ls h.1)
+  inner_back [] h = All-nil (JoinsLeaf v)
+  inner_back (e ∷ ls) h = All-append (JoinsLeaf v) (leaves_of e.0) (inner_leaves (map (λ e. e.0) ls)) (e.1 h.0) (inner_back ls h.1)
 
   joined_back : (l : Level) → Back l
   joined_back = ind-Level Back (λ y z is h.
       let parts = subst (λ L. Joins v (level_process L)) (fold-roll-Level tree.Level (level_step names number) y) h in
       let inside = subst (λ l. Joins v (together (levels_processes (levels (map (level_of names number) l.membranes)))) → All (JoinsLeaf v) (inner_leaves l.membranes)) is (inner_back z.membranes) in
       rw (fold-roll-Level (List Leaf) (λ l. l.leaves ++ flat_map (λ inner. inner) l.membranes) y)
-      (all_of_both (JoinsLeaf v) y.leaves (inner_leaves y.membranes) (leaves_back y.leaves parts.0) (inside parts.1.0)))
+      (All-append (JoinsLeaf v) y.leaves (inner_leaves y.membranes) (leaves_back y.leaves parts.0) (inside parts.1.0)))
 
 -- ---- the atoms of the fused top have their arities, and none is a connector
 
@@ -91,25 +91,25 @@ module _ (v : ℕ → ℕ) where
   leaf_atom f os p h = by (is_connector f) refl
     where
       by : (b : Bool) → is_connector f ≡ b → All IsSolidAtom (cond b [] (record { functor = f; links = map (λ o. v o.link) os } ∷ []))
-      by true e = all_of_none IsSolidAtom
+      by true e = All-nil IsSolidAtom
       by false e = all_of_one IsSolidAtom _ (record { arity = length-map os (λ o. v o.link) ∙ h; no_connector = λ q. cc (sym e ∙ ap is_connector q) })
 
   leaf_solid : (l : Leaf) → FitsArity l → All IsSolidAtom (fused_leaf v l)
-  leaf_solid (Typed n o p) h = all_of_none IsSolidAtom
+  leaf_solid (Typed n o p) h = All-nil IsSolidAtom
   leaf_solid (Atom f os p) h = leaf_atom f os p h
 
   leaves_solid : (ls : List Leaf) → All FitsArity ls → All IsSolidAtom (flat_map (fused_leaf v) ls)
-  leaves_solid [] h = all_of_none IsSolidAtom
-  leaves_solid (l ∷ ls) h = all_of_both IsSolidAtom (fused_leaf v l) (flat_map (fused_leaf v) ls) (leaf_solid l (h zero l (omega arith))) (leaves_solid ls (all_right FitsArity (l ∷ []) ls h))
+  leaves_solid [] h = All-nil IsSolidAtom
+  leaves_solid (l ∷ ls) h = All-append IsSolidAtom (fused_leaf v l) (flat_map (fused_leaf v) ls) (leaf_solid l (h zero l (omega arith))) (leaves_solid ls (all_of_right FitsArity (l ∷ []) ls h))
 
   abbrev Solidly : Level → Type 0
   Solidly l = All FitsArity (leaves_of l) → All IsSolidAtom (atoms_of_region (fused_region v l))
 
   inner_solid : (ls : List ((l : Level) × Solidly l)) → All FitsArity (inner_leaves (map (λ e. e.0) ls)) → All IsSolidAtom (inner_atoms (map (fused_region v) (map (λ e. e.0) ls)))
-  inner_solid [] h = all_of_none IsSolidAtom
+  inner_solid [] h = All-nil IsSolidAtom
   inner_solid (e ∷ ls) h =
       let behind = inner_leaves (map (λ e. e.0) ls) in
-      all_of_both IsSolidAtom (atoms_of_region (fused_region v e.0)) (inner_atoms (map (fused_region v) (map (λ e. e.0) ls))) (e.1 (all_left FitsArity (leaves_of e.0) behind h)) (inner_solid ls (all_right FitsArity (leaves_of e.0) behind h))
+      All-append IsSolidAtom (atoms_of_region (fused_region v e.0)) (inner_atoms (map (fused_region v) (map (λ e. e.0) ls))) (e.1 (all_of_left FitsArity (leaves_of e.0) behind h)) (inner_solid ls (all_of_right FitsArity (leaves_of e.0) behind h))
 
   solidly : (l : Level) → Solidly l
   solidly = ind-Level Solidly (λ y z is h.
@@ -117,7 +117,7 @@ module _ (v : ℕ → ℕ) where
       let here = subst (All FitsArity) split h in
       let inside = subst (λ l. All FitsArity (inner_leaves l.membranes) → All IsSolidAtom (inner_atoms (map (fused_region v) l.membranes))) is (inner_solid z.membranes) in
       rw (fold-roll-Level Region (fused_step v) y, fold-roll-Region (List SolidAtom) atoms_step _)
-      (all_of_both IsSolidAtom (flat_map (fused_leaf v) y.leaves) (inner_atoms (map (fused_region v) y.membranes)) (leaves_solid y.leaves (all_left FitsArity y.leaves (inner_leaves y.membranes) here)) (inside (all_right FitsArity y.leaves (inner_leaves y.membranes) here))))
+      (All-append IsSolidAtom (flat_map (fused_leaf v) y.leaves) (inner_atoms (map (fused_region v) y.membranes)) (leaves_solid y.leaves (all_of_left FitsArity y.leaves (inner_leaves y.membranes) here)) (inside (all_of_right FitsArity y.leaves (inner_leaves y.membranes) here))))
 
 -- ---- the printed links of a region
 
@@ -206,7 +206,7 @@ module _ (names : List tree.Name) (number : ℕ → tree.Rule) (v w : ℕ → �
   one_leaves [] h e = refl
   one_leaves (l ∷ ls) h e =
       let u = one_leaf l (h zero l (omega arith)) (map (leaf_of names) ls) e in
-      let k = one_leaves ls (all_right FitsArity (l ∷ []) ls h) u.1 in
+      let k = one_leaves ls (all_of_right FitsArity (l ∷ []) ls h) u.1 in
       rw (u.0, k) refl
 
   abbrev leaves_inside : List Level → List Leaf
@@ -223,8 +223,8 @@ module _ (names : List tree.Name) (number : ℕ → tree.Rule) (v w : ℕ → �
   inner_one [] h e = refl
   inner_one (l ∷ ls) h e =
       let behind = leaves_inside (map (λ e. e.0) ls) in
-      let first = l.1 (all_left FitsArity (leaves_of l.0) behind h) (ap (first_or (fused_level v (tree_of l.0))) e) in
-      let rest = inner_one ls (all_right FitsArity (leaves_of l.0) behind h) (ap others e) in
+      let first = l.1 (all_of_left FitsArity (leaves_of l.0) behind h) (ap (first_or (fused_level v (tree_of l.0))) e) in
+      let rest = inner_one ls (all_of_right FitsArity (leaves_of l.0) behind h) (ap others e) in
       rw (first, rest) refl
 
   one_region : (l : Level) → One l
@@ -233,8 +233,8 @@ module _ (names : List tree.Name) (number : ℕ → tree.Rule) (v w : ℕ → �
       let here = subst (All FitsArity) split h in
       let parts = subst (λ L. fused_level v L ≡ fused_level w L) (fold-roll-Level tree.Level (level_step names number) y) e in
       let inside = subst (λ l. All FitsArity (leaves_inside l.membranes) → fused_levels v (levels (map tree_of l.membranes)) ≡ fused_levels w (levels (map tree_of l.membranes)) → map (fused_region v) l.membranes ≡ map (fused_region w) l.membranes) is (inner_one z.membranes) in
-      let first = one_leaves y.leaves (all_left FitsArity y.leaves (leaves_inside y.membranes) here) (ap its_atoms parts) in
-      let rest = inside (all_right FitsArity y.leaves (leaves_inside y.membranes) here) (ap its_membranes parts) in
+      let first = one_leaves y.leaves (all_of_left FitsArity y.leaves (leaves_inside y.membranes) here) (ap its_atoms parts) in
+      let rest = inside (all_of_right FitsArity y.leaves (leaves_inside y.membranes) here) (ap its_membranes parts) in
       rw (fold-roll-Level Region (fused_step v) y, fold-roll-Level Region (fused_step w) y, first, rest) refl)
 
 pub solid_of_plain_is_one : SolidOfPlainIsOne

@@ -4,10 +4,10 @@ use Rattle.std.proofs.lemmas.List.{append_assoc}
 use Rattle.lmn_congruence.specs.Regions.{Region, Regions, SolidAtom, region, region_and}
 use Rattle.lmn_congruence.specs.Rules.{Leaf, Level, Levels, Rule, atom_leaf, connector_leaf, head_of, level, level_and, no_level, typed_leaf}
 use Rattle.lmn_reduction.specs.Assignments.{Assignment}
-use Rattle.lmn_congruence.proofs.Counts.{three_ways}
 use Rattle.lmn_adequacy.specs.Choice.{AtomsStand, Before, LevelStands, MembranesStand, atom_stands, leaf_positions, less_behind, less_here, level_positions, level_stands, membrane_positions, membrane_stands, no_atom_stands, no_membrane_stands, positions_of, typed_stands, whole_list, left_without}
 use Rattle.lmn_adequacy.specs.Embedding.{AtomImages, EmbedsAt, LevelImages, MembraneImages, Taken, TakenRegion, image_and, level_images, membrane_image_and, no_image, no_membrane_image, region_first, region_later, taken_first, taken_later, typed_later}
 use Rattle.lmn_adequacy.proofs.OneEmbedding.{same_head, same_tail}
+use Rattle.lmn_base.proofs.Numbers.{three_ways}
 
 abbrev Rising : (ℕ → ℕ) → Type 0
 Rising at = (i j : ℕ) → i < j → at i < at j

@@ -7,7 +7,7 @@ use Rattle.lmn_congruence.specs.Process.{OneToOneOn, Process, atom, connector, m
 use Rattle.lmn_congruence.specs.Regions.{SolidAtom, atom_process}
 use Rattle.lmn_congruence.specs.Rules.{Label}
 use Rattle.lmn_reduction.specs.Parts.{IsGround, ReachesLink, Rooted, EqualParts, across, atoms_at_top, the_root}
-use Rattle.lmn_congruence.proofs.Counts.{Occurs, in_left, in_right, occurs_once}
+use Rattle.lmn_congruence.proofs.Counts.{Occurs}
 use Rattle.lmn_congruence.proofs.Renaming.{occurrences_image, occurrences_none}
 use Rattle.lmn_congruence.proofs.Reordered.{reordered_count}
 use Rattle.lmn_congruence.proofs.Shuffles.{shuffle_chain, shuffle_flip}
@@ -16,10 +16,11 @@ use Rattle.lmn_adequacy.specs.Next.{links_at}
 use Rattle.lmn_adequacy.proofs.Depth.{at_append, at_cons, at_same}
 use Rattle.lmn_adequacy.proofs.Embedding.{part_atom, part_order}
 use Rattle.lmn_adequacy.proofs.Exposing.{Source, found, missing, source}
-use Rattle.lmn_adequacy.proofs.Images.{map_maps, positive}
+use Rattle.lmn_adequacy.proofs.Images.{positive}
 use Rattle.lmn_adequacy.proofs.Orders.{among_others, among_put, either, merged_shuffle}
-use Rattle.lmn_base.proofs.Numbers.{same_or_not}
+use Rattle.lmn_base.proofs.Numbers.{same_or_not, left_not_zero, right_not_zero, not_zero_if_one}
 use Rattle.lmn_congruence.proofs.Common.{among_apart as among_append, among_map, among_places, map_known}
+use Rattle.lmn_base.proofs.Lists.{map_twice}
 
 -- ---- atoms and their links
 
@@ -28,7 +29,7 @@ atoms_occur nothing k l = elim k [ ]
 atoms_occur (connector y z) k l = elim k [ ]
 atoms_occur (atom b ys) at_head l = positive (places _ ys) (among_places l)
 atoms_occur (atom b ys) (further k) l = elim k [ ]
-atoms_occur (pair P Q) {a} {x} k l = either (among_append (atoms_at_top P) (atoms_at_top Q) k) (λ i. in_left (occurrences x P) (occurrences x Q) (atoms_occur P i l)) (λ i. in_right (occurrences x P) (occurrences x Q) (atoms_occur Q i l))
+atoms_occur (pair P Q) {a} {x} k l = either (among_append (atoms_at_top P) (atoms_at_top Q) k) (λ i. left_not_zero (occurrences x P) (occurrences x Q) (atoms_occur P i l)) (λ i. right_not_zero (occurrences x P) (occurrences x Q) (atoms_occur Q i l))
 atoms_occur (membrane P) k l = elim k [ ]
 atoms_occur (rule r) k l = elim k [ ]
 
@@ -90,7 +91,7 @@ one_graph {g} {h} {x} {part} i j o o' =
     joined_atom a b c p q k =
         let e : map i.to a.1 ≡ map j.to c.1 = ap (λ m. m.links) (p ∙ sym q) in
         let f : map (λ z. backward j.to h.process (i.to z)) a.1 ≡ c.1 =
-        sym (map_maps (backward j.to h.process) i.to a.1) ∙ ap (map (backward j.to h.process)) e ∙ map_maps (backward j.to h.process) j.to c.1
+        sym (map_twice (backward j.to h.process) i.to a.1) ∙ ap (map (backward j.to h.process)) e ∙ map_twice (backward j.to h.process) j.to c.1
         ∙ map_known c.1 (λ y l. backward_is j.to h.process j.one_to_one y (k y l)) ∙ map-id c.1 in
         pair_is a.0 (map (λ z. backward j.to h.process (i.to z)) a.1) c (ap (λ m. m.label) (p ∙ sym q)) f
 
@@ -160,7 +161,7 @@ none_left {g} {L} {part} {rest} {xs} ground i m two one {a} {y} k l d = go (sour
     at_root : (z : ℕ) → Occurs z g.process → i.to z ≡ y → z ≡ g.root → ⊥
     at_root z o e r =
         let q : y ≡ L = sym e ∙ ap i.to r ∙ i.root in
-        let c : places L (links_at part) ≡ 1 = ap (λ w. places w (links_at part)) (sym i.root) ∙ part_image i g.root (occurs_once (occurrences g.root g.process) ground.root_is_free) ∙ ground.root_is_free in
+        let c : places L (links_at part) ≡ 1 = ap (λ w. places w (links_at part)) (sym i.root) ∙ part_image i g.root (not_zero_if_one (occurrences g.root g.process) ground.root_is_free) ∙ ground.root_is_free in
         too_many (places L (links_at part)) (places L (links_at rest)) c (subst (λ w. 1 ≤ places w (links_at rest)) q (at_among k l)) (omega (arith, count L, one))
 
     go : Source i.to g.process y → ⊥
@@ -179,8 +180,8 @@ module _ {g h : Rooted} {L : ℕ} {part rest part' rest' xs : List SolidAtom} (i
   -- each link of the one part is one of the other
   links_shared : {y : ℕ} → ReachesLink g y → places (i.to y) (links_at part') ≢ 0
   links_shared the_root =
-      let c : places (i.to g.root) (links_at part') ≡ 1 = ap (λ w. places w (links_at part')) (i.root ∙ sym j.root) ∙ part_image j h.root (occurs_once (occurrences h.root h.process) ground.root_is_free) ∙ ground.root_is_free in
-      occurs_once (places (i.to g.root) (links_at part')) c
+      let c : places (i.to g.root) (links_at part') ≡ 1 = ap (λ w. places w (links_at part')) (i.root ∙ sym j.root) ∙ part_image j h.root (not_zero_if_one (occurrences h.root h.process) ground.root_is_free) ∙ ground.root_is_free in
+      not_zero_if_one (places (i.to g.root) (links_at part')) c
   links_shared (across {a = a} {xs = ys} {x = x} {y = y} k l l' r) =
       let u = shuffle_among i.atoms k in
       let e : part_atom i.to (a, ys) ≡ u.0 = u.2 in

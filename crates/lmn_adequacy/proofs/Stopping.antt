@@ -5,13 +5,13 @@ use Rattle.lmn_congruence.specs.Orders.{Among, at_head, further}
 use Rattle.lmn_congruence.specs.Regions.{Region, Regions, SolidAtom}
 use Rattle.lmn_congruence.specs.Rules.{Leaf, Level, Levels, atom_leaf, connector_leaf, head_of, level, level_and, no_level, typed_leaf}
 use Rattle.lmn_reduction.specs.Assignments.{Assignment}
-use Rattle.lmn_congruence.proofs.Counts.{three_ways}
 use Rattle.lmn_adequacy.specs.Choice.{Before, ChosenFrom, asked_paths, less_behind, less_here, paths, paths_from}
 use Rattle.lmn_adequacy.specs.Embedding.{AtomImages, HasEmbedding, EmbedsIn, LevelImages, MembraneImages, TakenRegion, embeds_below, embeds_here, image_and, level_images, membrane_image_and, no_image, no_membrane_image, region_first, region_later, typed_later}
 use Rattle.lmn_adequacy.proofs.OneEmbedding.{region_one, taken_one}
 use Rattle.lmn_adequacy.proofs.Orders.{either}
 use Rattle.lmn_adequacy.proofs.Positions.{before_is, nothing_before, nothing_behind}
 use Rattle.lmn_congruence.proofs.Common.{among_apart as among_append, among_left, among_right, among_map}
+use Rattle.lmn_base.proofs.Numbers.{three_ways}
 
 abbrev atom_items : List Leaf → ℕ
 atom_items [] = 0

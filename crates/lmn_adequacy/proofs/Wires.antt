@@ -8,14 +8,14 @@ use Rattle.lmn_congruence.specs.Process.{Process, connector, nothing, occurrence
 use Rattle.lmn_congruence.specs.Rules.{Level}
 use Rattle.lmn_congruence.specs.UpToOrder.{Reordered, r_chain, r_same, r_unit}
 use Rattle.lmn_reduction.specs.Assignments.{Assignment}
-use Rattle.lmn_congruence.proofs.Counts.{below_or_from, none_if_apart, one_bound, one_if_equal}
+use Rattle.lmn_congruence.proofs.Counts.{none_if_apart, one_bound, one_if_equal}
 use Rattle.lmn_congruence.proofs.Crossings.{occurrences_above}
 use Rattle.lmn_congruence.proofs.FewestCrossings.{image_count, with_image}
 use Rattle.lmn_congruence.proofs.Totals.{total_one, total_same, total_single, total_zero}
 use Rattle.lmn_adequacy.proofs.RawProcesses.{head_wires}
 use Rattle.lmn_adequacy.proofs.Skeleton.{Parity, even, odd, parity, place, place_rule, place_solid}
 use Rattle.lmn_splice.specs.Splice.{of_rule, of_solid}
-use Rattle.lmn_base.proofs.Numbers.{same_or_not}
+use Rattle.lmn_base.proofs.Numbers.{same_or_not, below_or_from}
 use Rattle.lmn_splice.proofs.Fusions.{apart_rule as even_not_odd, rule_once as even_differs, solid_once as odd_differs}
 use Rattle.lmn_adequacy.specs.Embedding.{Plain}
 

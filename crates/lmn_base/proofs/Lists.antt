@@ -1,10 +1,11 @@
 -- General lemmas on lists, options and results.
-use Rattle.std.proofs.Common.{List, [], ℕ, ◌+◌, ◌∷◌, ◌≡◌, ◌⊎◌, None, Option, Some, ap, arith, length, refl, suc, take, zero, ◌≤◌, map, ◌++◌, ◌<◌, drop, ◌∙◌, All, Err, Ok, Result, sym, inl, inr}
-use Rattle.std.specs.List.{AllByRecursion}
+use Rattle.std.proofs.Common.{List, [], ℕ, ◌+◌, ◌∷◌, ◌≡◌, ◌⊎◌, None, Option, Some, ap, arith, length, refl, suc, take, zero, ◌≤◌, map, ◌++◌, ◌<◌, drop, ◌∙◌, Err, Ok, Result, sym, inl, inr, All, subst}
+use Rattle.std.specs.List.{AllByRecursion, flat_map}
 use Rattle.lmn_base.specs.Lists.{In}
-use Rattle.std.specs.Prelude.{slice_get, IsSome, Contains, slice_index_or}
+use Rattle.std.specs.Prelude.{slice_get, IsSome, Contains, IfSome}
 use Rattle.std.specs.Result.{OnErr}
 use Rattle.std.proofs.lemmas.List.{length-append}
+use Rattle.std.proofs.lemmas.Option.{same_Some}
 
 abbrev pub weigh : (ℕ → ℕ) → List ℕ → ℕ
 weigh w [] = 0
@@ -62,10 +63,6 @@ get_there [] p l = absurd (omega (arith, l))
 get_there (x ∷ xs) zero l = (x, refl)
 get_there (x ∷ xs) (suc p) l = get_there xs p (omega (arith, l))
 
-pub length_one : {A : Type 0} (xs : List A) (x : A) → length (xs ++ x ∷ []) ≡ length xs + 1
-length_one [] x = refl
-length_one (y ∷ xs) x = let k = length_one xs x in omega (arith, k)
-
 pub get_last : {A : Type 0} (xs : List A) (y : A) → slice_get (xs ++ y ∷ []) (length xs) ≡ Some y
 get_last [] y = refl
 get_last (x ∷ xs) y = get_last xs y
@@ -93,11 +90,6 @@ contains_behind x xs y (k, within, e) = (suc k, omega (arith, within), e)
 pub contains_first : {X : Type 0} (x : X) (xs : List X) → Contains (x ∷ xs) x
 contains_first x xs = (0, omega arith, refl)
 
-pub all_both : {A : Type 0} (P : A → Type 0) (xs ys : List A) → All P xs → All P ys → All P (xs ++ ys)
-all_both P [] ys h k n d l = k n d l
-all_both P (x ∷ xs) ys h k zero d l = h zero d (omega arith)
-all_both P (x ∷ xs) ys h k (suc n) d l = all_both P xs ys (λ j e m. h (suc j) e (omega (arith, m))) k n d (omega (arith, l))
-
 pub all_left : {A : Type 0} (P : A → Type 0) (xs ys : List A) → AllByRecursion P (xs ++ ys) → AllByRecursion P xs
 all_left P [] ys a = tt
 all_left P (x ∷ xs) ys a = (a.0, all_left P xs ys a.1)
@@ -109,9 +101,6 @@ all_right P (x ∷ xs) ys h = all_right P xs ys h.1
 pub all_append : {X : Type 0} (P : X → Type 0) (xs ys : List X) → AllByRecursion P xs → AllByRecursion P ys → AllByRecursion P (xs ++ ys)
 all_append P [] ys h k = k
 all_append P (x ∷ xs) ys h k = (h.0, all_append P xs ys h.1 k)
-
-pub all_none : {A : Type 0} (P : A → Type 0) → All P []
-all_none P k d l = absurd (omega (arith, l))
 
 pub on_err : {T E : Type 0} (r : Result T E) (Q : Type 0) → Q → OnErr r Q
 on_err (Ok x) Q q = tt
@@ -142,7 +131,72 @@ in_either x (y ∷ xs) ys (inr h) = go (in_either x xs ys h)
     go (inl i) = inl (inr i)
     go (inr i) = inr i
 
-pub past_end : {A : Type 0} (xs : List A) (i : ℕ) (d : A) → length xs ≤ i → slice_index_or xs i d ≡ d
-past_end [] i d l = refl
-past_end (x ∷ xs) zero d l = absurd (omega (arith, l))
-past_end (x ∷ xs) (suc i) d l = past_end xs i d (omega (arith, l))
+-- what stands in a list with one more element
+pub get_either : {A : Type 0} (xs : List A) (y : A) (k : ℕ) (x : A) → slice_get (xs ++ y ∷ []) k ≡ Some x → (slice_get xs k ≡ Some x) ⊎ ((k ≡ length xs) × (y ≡ x))
+get_either [] y zero x e = inr (refl, cc)
+get_either [] y (suc k) x e = absurd (cc)
+get_either (z ∷ xs) y zero x e = inl e
+get_either (z ∷ xs) y (suc k) x e = elim (get_either xs y k x e) [ inl s ↦ inl s | inr s ↦ inr (ap suc s.0, s.1) ]
+
+-- what is in a list with one more element
+pub in_snoc : (a b : ℕ) (xs : List ℕ) → In a (xs ++ b ∷ []) → In a xs ⊎ (a ≡ b)
+in_snoc a b [] (inl e) = inr (sym e)
+in_snoc a b [] (inr i) = absurd i
+in_snoc a b (x ∷ xs) (inl e) = inl (inl e)
+in_snoc a b (x ∷ xs) (inr i) = elim (in_snoc a b xs i) [ inl j ↦ inl (inr j) | inr e ↦ inr e ]
+
+-- an image stands at the same index
+pub get_map : (f : ℕ → ℕ) (ys : List ℕ) (i x : ℕ) → slice_get ys i ≡ Some x → slice_get (map f ys) i ≡ Some (f x)
+get_map f [] i x e = absurd (cc)
+get_map f (y ∷ ys) zero x e = ap Some (ap f (same_Some y x e))
+get_map f (y ∷ ys) (suc i) x e = get_map f ys i x e
+
+-- what stands in the front of a list stands there in the whole
+pub get_taken : {A : Type 0} (n : ℕ) (xs : List A) (k : ℕ) (x : A) → slice_get (take n xs) k ≡ Some x → (k < n) × (slice_get xs k ≡ Some x)
+get_taken zero xs k x e = absurd (cc)
+get_taken (suc n) [] k x e = absurd (cc)
+get_taken (suc n) (y ∷ ys) zero x e = (omega arith, e)
+get_taken (suc n) (y ∷ ys) (suc k) x e = let s = get_taken n ys k x e in (omega (arith, s.0), s.1)
+
+-- what holds of each element of two lists in a row holds of those of each
+pub all_of_left : {A : Type 0} (P : A → Type 0) (xs ys : List A) → All P (xs ++ ys) → All P xs
+all_of_left P [] ys h k d l = absurd (omega (arith, l))
+all_of_left P (x ∷ xs) ys h zero d l = h zero d (omega arith)
+all_of_left P (x ∷ xs) ys h (suc k) d l = all_of_left P xs ys (λ j e m. h (suc j) e (omega (arith, m))) k d (omega (arith, l))
+
+pub all_of_right : {A : Type 0} (P : A → Type 0) (xs ys : List A) → All P (xs ++ ys) → All P ys
+all_of_right P [] ys h = h
+all_of_right P (x ∷ xs) ys h = all_of_right P xs ys (λ j e m. h (suc j) e (omega (arith, m)))
+
+-- and of those of many lists in a row
+pub all_of_parts : {A B : Type 0} (P : B → Type 0) (f : A → List B) (xs : List A) → All P (flat_map f xs) → All (λ x. All P (f x)) xs
+all_of_parts P f [] h k d l = absurd (omega (arith, l))
+all_of_parts P f (x ∷ xs) h zero d l = all_of_left P (f x) (flat_map f xs) h
+all_of_parts P f (x ∷ xs) h (suc k) d l = all_of_parts P f xs (all_of_right P (f x) (flat_map f xs) h) k d (omega (arith, l))
+
+pub never_nil : (xs : List ℕ) (x : ℕ) → [] ≡ xs ++ x ∷ [] → ⊥
+never_nil [] x e = cc
+never_nil (y ∷ xs) x e = cc
+
+-- a list ends in one way
+pub ends_in_one_way : (xs ys : List ℕ) (x y : ℕ) → xs ++ x ∷ [] ≡ ys ++ y ∷ [] → (xs ≡ ys) × (x ≡ y)
+ends_in_one_way [] [] x y e = (refl, head_is e)
+ends_in_one_way [] (z ∷ ys) x y e = absurd (never_nil ys y (tail_is e))
+ends_in_one_way (z ∷ xs) [] x y e = absurd (never_nil xs x (sym (tail_is e)))
+ends_in_one_way (z ∷ xs) (w ∷ ys) x y e = let more = ends_in_one_way xs ys x y (tail_is e) in ((λ i. head_is e i ∷ more.0 i), more.1)
+
+-- no list stands behind something in itself
+pub not_behind_itself : (v : List ℕ) (c : ℕ) (way : List ℕ) → way ≡ v ++ c ∷ way → ⊥
+not_behind_itself v c way e = let size = length-append v (c ∷ way) in let same = ap length e in omega (arith, size, same)
+
+pub contains_none : {X : Type 0} (x : X) → Contains [] x → ⊥
+contains_none x c = absurd (omega (arith, c.1))
+
+-- what holds of the item of an option
+pub holds_of_item : {A : Type 0} (P : A → Type 0) (o : Option A) (a : A) → o ≡ Some a → IfSome o P → P a
+holds_of_item P o a e h = subst (λ x. IfSome x P) e h
+
+-- where two lists make nothing, each is empty
+pub two_empty : {A : Type 0} (xs ys : List A) → xs ++ ys ≡ [] → (xs ≡ []) × (ys ≡ [])
+two_empty [] ys e = (refl, e)
+two_empty (x ∷ xs) ys e = absurd (cc)

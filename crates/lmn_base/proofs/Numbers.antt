@@ -3,7 +3,7 @@ use Rattle.std.proofs.Common.{suc, zero, ℕ, ◌+◌, arith, true, ◌==◌, �
 use Rattle.std.proofs.Math.Nat.{min-eq_left, min_comm}
 use Rattle.std.proofs.lemmas.Bool.{cases_lt, eqb-true, cases_eq}
 use Rattle.std.proofs.lemmas.Bool.Decides.{nat_tests, leb_tells}
-use Rattle.std.specs.Prelude.{min, nat_lt, slice_index_or}
+use Rattle.std.specs.Prelude.{min, nat_lt, slice_index_or, if◌then◌else◌}
 use Rattle.lmn_base.proofs.Truth.{Decided}
 
 abbrev pub triangle : ℕ → ℕ
@@ -89,3 +89,38 @@ triangle_less s (suc t) l = elim (cases_eq s t) [
 
 pub less_decided : (m n : ℕ) → Decided (m < n)
 less_decided m n = elim (leb_tells n m) [ inl h ↦ inr (λ l. let le = h.1 in omega (arith, l)) | inr h ↦ inl (h.1) ]
+
+-- a choice by a test of equality, where the numbers are equal and where they are not
+pub chosen_there : (x n k z : ℕ) → z ≡ x → (if z == x then n else k) ≡ n
+chosen_there x n k z e = grind arith
+
+pub chosen_elsewhere : (x n k z : ℕ) → z ≢ x → (if z == x then n else k) ≡ k
+chosen_elsewhere x n k z d = grind arith
+
+-- x is below n, or from n on
+pub below_or_from : (x n : ℕ) → (x < n) ⊎ (n ≤ x)
+below_or_from x n = grind arith
+
+-- x is below n, or n, or above n
+pub three_ways : (x n : ℕ) → (x < n) ⊎ ((x ≡ n) ⊎ (n < x))
+three_ways x n = grind arith
+
+-- a sum is not 0 where a part of it isn't
+pub left_not_zero : (m n : ℕ) → m ≢ 0 → m + n ≢ 0
+left_not_zero m n h = grind arith
+
+pub right_not_zero : (m n : ℕ) → n ≢ 0 → m + n ≢ 0
+right_not_zero m n h = grind arith
+
+pub not_zero_if_one : (n : ℕ) → n ≡ 1 → n ≢ 0
+not_zero_if_one n e = grind arith
+
+pub not_one_if_even : (n : ℕ) → (n ≡ 0) ⊎ (n ≡ 2) → n ≢ 1
+not_one_if_even n e = grind arith
+
+pub below_not_above : (K x y : ℕ) → x < K → x ≢ y + K
+below_not_above K x y c = omega arith
+
+-- numbers that a test finds different are different
+pub unequal_when : (a b : ℕ) → (a == b) ≡ false → a ≡ b → ⊥
+unequal_when a b h e = grind (arith, nat_tests)

@@ -14,10 +14,6 @@ pub second_true : (a b : Bool) → (a && b) ≡ true → b ≡ true
 second_true true b e = e
 second_true false b e = absurd (cc)
 
-pub neither_true : (a b : Bool) → (a || b) ≡ false → (a ≡ false) × (b ≡ false)
-neither_true true b e = absurd (cc)
-neither_true false b e = (refl, e)
-
 pub either_true : (a b : Bool) → (a || b) ≡ true → (a ≡ true) ⊎ (b ≡ true)
 either_true true b h = inl refl
 either_true false b h = inr h
@@ -30,14 +26,6 @@ pub guarded_then : (f b k : Bool) → (f && (not b || k)) ≡ true → b ≡ tru
 guarded_then true true k e g = e
 guarded_then true false k e g = absurd (cc)
 guarded_then false b k e g = absurd (cc)
-
-pub and_true2 : (a b : Bool) → a ≡ true → b ≡ true → (a && b) ≡ true
-and_true2 true b e f = f
-and_true2 false b e f = e
-
-pub or_true : (a b : Bool) → b ≡ true → (a || b) ≡ true
-or_true true b e = refl
-or_true false b e = e
 
 pub cond_plus : (b : Bool) (n : ℕ) → cond b 1 0 + n ≡ cond b (1 + n) n
 cond_plus true n = refl

@@ -1,4 +1,4 @@
--- Lists of any type.
+-- Lists of numbers: how one begins, and what is in it.
 use Rattle.std.specs.Prelude.{List, ℕ, ◌++◌, ◌≡◌, [], ◌∷◌, ◌⊎◌}
 
 -- a part begins a list

@@ -2,7 +2,6 @@
 use Rattle.std.proofs.Common.{ℕ, ◌+◌, ◌≡◌, ◌⊎◌, ◌==◌, Bool, true, false, cond, List, [], ◌∷◌, refl, sym, subst, inl, inr}
 use Rattle.std.proofs.lemmas.Bool.{eq-eqb}
 use Rattle.lmn_heap.proofs.ListLemmas.{in_left, in_right}
-use Rattle.lmn_heap.proofs.Trees.{in_either}
 use Rattle.lmn_body.specs.declared.items.BodyItem.{BodyItem}
 use Rattle.lmn_body.specs.declared.items.BodyItem.TheVariants.{Atom, Connector, Copy, Bound, Membrane, Rest, Rule, Rules}
 use Rattle.lmn_body.specs.Running.{Registers}
@@ -10,6 +9,7 @@ use Rattle.lmn_body.specs.Added.{if_inside, added_atoms, moved_mems}
 use Rattle.lmn_body.specs.Made.{new_atoms}
 use Rattle.lmn_body.specs.Rules.{Goes}
 use Rattle.lmn_base.specs.Lists.{In}
+use Rattle.lmn_base.proofs.Lists.{in_either}
 
 pub in_if : (r : Registers) (x inside : ℕ) (ns : List ℕ) (b : ℕ) → In b (if_inside r x inside ns) → In b ns
 in_if r x inside ns b i = by (r.head.images.membrane inside == x) i

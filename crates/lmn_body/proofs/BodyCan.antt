@@ -6,7 +6,6 @@ use Rattle.lmn_heap.specs.Heap as heap
 use Rattle.lmn_heap.specs.Heap.{Heap, HeapAtom, HeapMem, Place, within, gone, mem_with_atoms, mem_with_mems, mem_with_place, without, arity_of, mem_place_of, mems_in, rules_in, spare_of, spare_by, atom_out, mem_out, home_of, parent_of, IsMem, IsInPlace, IsMemInPlace, Distinct, taken, taken_mem, taken_all}
 use Rattle.lmn_heap.specs.Sound.{Listed, Valid}
 use Rattle.lmn_heap.proofs.ListLemmas.{each_in}
-use Rattle.lmn_heap.proofs.Trees.{nil_right}
 use Rattle.lmn_heap.proofs.Listing.{alter_at, same_paired}
 use Rattle.lmn_heap.proofs.Replacing.{no_waiting, no_waiting_mems}
 use Rattle.lmn_solid.specs.declared.items.HeadItem.{HeadItem}
@@ -43,6 +42,7 @@ use Rattle.lmn_base.specs.Graphs.{Port}
 use Rattle.lmn_heap.specs.Lists.{without_all}
 use Rattle.lmn_heap.proofs.Common.{in_of_without}
 use Rattle.lmn_base.specs.Lists.{In}
+use Rattle.lmn_base.proofs.Lists.{plus_nothing}
 
 -- membranes that aren't taken stay, and those that are are gone
 taken_mems_away : (ks : List ℕ) (s : Heap) (x : ℕ) → (In x ks → ⊥) → mem_place_of (all_taken_mems s ks) x ≡ mem_place_of s x
@@ -160,9 +160,9 @@ module _ (h : Heap) (valid : Valid h) (head : List HeadItem) (guard : List Cond)
     line = (
       [],
       (nesting.sh h valid head guard body n m r rule em stand c names goes contexts ps parts s pr).line ∙ pr.atoms.line ∙ pr.free.brings.line
-          ∙ ap (λ xs. xs ++ new_atoms r N 0 body) (no_waiting h valid.sound.listed valid.settled) ∙ sym (nil_right (new_atoms r N 0 body)),
+          ∙ ap (λ xs. xs ++ new_atoms r N 0 body) (no_waiting h valid.sound.listed valid.settled) ∙ sym (plus_nothing (new_atoms r N 0 body)),
     );
-    mem_line = ([], (nesting.sh h valid head guard body n m r rule em stand c names goes contexts ps parts s pr).mem_line ∙ line_s ∙ sym (nil_right nm));
+    mem_line = ([], (nesting.sh h valid head guard body n m r rule em stand c names goes contexts ps parts s pr).mem_line ∙ line_s ∙ sym (plus_nothing nm));
     spare = λ x o. subst (λ k. length (added_rules r (rules_in t2) body x) ≤ k) (sym (taken_mems_spare ks t1 x ∙ taken_spare ns s x))
         (subst (λ k. k ≤ spare_of s x) (ap (λ (zs : List ℕ). length zs) (sym (same_rules_added r ks (Exists h r head body) (rules_in h) (rules_in t2) body x goes
         (λ k i. nesting.rules_t2 h valid head guard body n m r rule em stand c names goes contexts ps parts s pr k)))) (spares x));

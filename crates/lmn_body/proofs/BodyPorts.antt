@@ -15,7 +15,6 @@ use Rattle.lmn_body.specs.Made.{made_of, new_atoms, copies_of}
 use Rattle.lmn_body.specs.Tied.{partners}
 use Rattle.lmn_body.proofs.Brought.{HasCopy}
 use Rattle.lmn_heap.specs.Heap.{Heap, HeapAtom, new_atom, partners_of, arity_of}
-use Rattle.lmn_heap.proofs.Trees.{in_either}
 use Rattle.std.proofs.lemmas.List.{length-replicate}
 use Rattle.std.specs.Prelude.{slice_index_or}
 use Rattle.lmn_body.proofs.HeadPorts.{of_map}
@@ -27,6 +26,7 @@ use Rattle.lmn_congruence.proofs.TranslatedLinks.{places_append as often_append}
 use Rattle.lmn_splice.proofs.Common.{in_append, in_back, in_front, links_append, ports_append, distinct_append}
 use Rattle.lmn_heap.proofs.Common.{no_links, no_port}
 use Rattle.lmn_base.specs.Lists.{In}
+use Rattle.lmn_base.proofs.Lists.{in_either}
 
 pub heap_append : {P : Type 0} (f : P → Port) (xs ys : List (P × ℕ)) → at_heap f (xs ++ ys) ≡ at_heap f xs ++ at_heap f ys
 heap_append f [] ys = refl

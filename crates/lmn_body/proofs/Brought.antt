@@ -12,7 +12,6 @@ use Rattle.lmn_heap.specs.Sound.{Paired, Shaped, Listed}
 use Rattle.lmn_heap.specs.Graphs.{atom_map}
 use Rattle.lmn_heap.specs.Splice.{joined_to}
 use Rattle.lmn_heap.proofs.ListLemmas.{in_left, in_right}
-use Rattle.lmn_heap.proofs.Trees.{in_either, nil_right}
 use Rattle.lmn_heap.proofs.Depths.{both_distinct}
 use Rattle.lmn_heap.proofs.Replacing.{port_within}
 use Rattle.lmn_heap.proofs.Shapes.{WellShaped, shaped_of, shaped_at, made_shape, joined_shape}
@@ -26,6 +25,7 @@ use Rattle.lmn_body.proofs.Making.{made_at, made_away, made_paired, made_shaped}
 use Rattle.lmn_base.proofs.Common.{port_cases}
 use Rattle.lmn_heap.proofs.Common.{is_atom_at}
 use Rattle.lmn_base.specs.Lists.{In}
+use Rattle.lmn_base.proofs.Lists.{in_either, plus_nothing}
 
 -- From s to t new atoms are made, and wait; each other atom is as it was.
 pub record Brings (s t : Heap) (new : List ℕ) : Type 0 where
@@ -63,7 +63,7 @@ brings_none s = record {
   fresh = λ a i. absurd i;
   waits = λ a i. absurd i;
   once = tt;
-  line = sym (nil_right s.new_atoms);
+  line = sym (plus_nothing s.new_atoms);
   paired = λ p. p;
   shaped = λ p. p;
 }

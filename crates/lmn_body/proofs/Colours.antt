@@ -1,7 +1,7 @@
 -- Colours of the ports inside copies, beside those of a heap.
 use Rattle.std.proofs.Common.{ℕ, zero, suc, ◌+◌, ◌-◌, ◌≡◌, ◌≢◌, ◌⊎◌, ◌==◌, Bool, true, false, cond, not, List, [], ◌∷◌, Option, Some, None, IsSome, refl, sym, ap, ◌∙◌, inl, inr, arith}
 use Rattle.std.specs.Prelude.{min, slice_index_or}
-use Rattle.std.proofs.lemmas.Bool.{cases_eq, eq-eqb, eqb-true}
+use Rattle.std.proofs.lemmas.Bool.{cases_eq, eqb-true}
 use Rattle.std.proofs.Math.Nat.{min_comm}
 use Rattle.lmn_heap.specs.Heap.{Heap, HeapAtom, IsAtom}
 use Rattle.lmn_heap.specs.Sound.{Paired}
@@ -25,19 +25,11 @@ use Rattle.lmn_base.proofs.Common.{lesser, port_number}
 use Rattle.lmn_splice.specs.Splice as splice
 use Rattle.lmn_heap.specs.Heap as heap
 use Rattle.lmn_base.specs.Lists.{In}
+use Rattle.lmn_parts.proofs.AnswerLaws.{is_in_true}
 
 -- ports of new atoms have odd colours, by their links in s; the others the even ones, by their colours
 abbrev pub beside : (Port → ℕ) → Heap → List ℕ → Port → ℕ
 beside c s new p = cond (is_in new p.0) (suc (lesser p (partners s p) + lesser p (partners s p))) (c p + c p)
-
-in_true : (xs : List ℕ) (a : ℕ) → In a xs → is_in xs a ≡ true
-in_true [] a i = absurd i
-in_true (x ∷ xs) a (inl e) = rw (eq-eqb x a e) refl
-in_true (x ∷ xs) a (inr i) = by (x == a) (in_true xs a i)
-  where
-    by : (t : Bool) → is_in xs a ≡ true → cond t true (is_in xs a) ≡ true
-    by true e = refl
-    by false e = e
 
 in_false : (xs : List ℕ) (a : ℕ) → (In a xs → ⊥) → is_in xs a ≡ false
 in_false [] a o = refl
@@ -65,7 +57,7 @@ module _ (h s : Heap) (new : List ℕ) (b : Brings h s new) (paired_h : Paired h
 
   inner_colour : (p q : Port) → In p.0 new → partners s p ≡ Some q → d p ≡ suc (min (port_number p) (port_number q) + min (port_number p) (port_number q))
   inner_colour p q i e =
-      ap (λ t. cond t (suc (lesser p (partners s p) + lesser p (partners s p))) (c p + c p)) (in_true new p.0 i)
+      ap (λ t. cond t (suc (lesser p (partners s p) + lesser p (partners s p))) (c p + c p)) (is_in_true p.0 new i)
       ∙ ap (λ o. suc (lesser p o + lesser p o)) e
 
   -- the partner of a new atom is new

@@ -15,7 +15,6 @@ use Rattle.lmn_heap.proofs.Groves.{forms_frame}
 use Rattle.lmn_base.specs.Graphs.{Reached, at_root, across, Port}
 use Rattle.lmn_heap.specs.Graphs.{atom_map}
 use Rattle.lmn_heap.proofs.ListLemmas.{each_of, in_left, in_right}
-use Rattle.lmn_heap.proofs.Trees.{in_either}
 use Rattle.lmn_heap.proofs.Replacing.{no_waiting, no_waiting_mems}
 use Rattle.lmn_solid.specs.declared.items.HeadItem.{HeadItem}
 use Rattle.lmn_solid.specs.Heads.{HeadAtom, Occurrence, atoms_of, typed_contexts_of, at_atoms, times}
@@ -48,7 +47,7 @@ use Rattle.lmn_body.proofs.BodyPorts.{heap_in, of_heap, IsNewPort, Written, NewO
 use Rattle.lmn_body.proofs.Committing.{Poised, EndsLive}
 use Rattle.lmn_congruence.specs.Links.{places, one_if_same}
 use Rattle.lmn_base.proofs.Common.{port_cases}
-use Rattle.lmn_base.proofs.Lists.{get_below, get_there as get_some}
+use Rattle.lmn_base.proofs.Lists.{get_below, get_there as get_some, in_either}
 use Rattle.lmn_congruence.proofs.Counts.{none_if_apart as one_other, one_if_equal as one_same}
 use Rattle.lmn_congruence.proofs.TranslatedLinks.{places_append as often_append}
 use Rattle.lmn_heap.proofs.Common.{decide_in, place_home}

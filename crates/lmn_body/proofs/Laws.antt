@@ -12,7 +12,6 @@ use Rattle.lmn_heap.specs.Solid.{solid_atoms_at}
 use Rattle.std.specs.Prelude.{slice_get}
 use Rattle.std.specs.Prelude as prelude
 use Rattle.lmn_heap.specs.Heap.{HeapAtom, partners_of}
-use Rattle.lmn_heap.proofs.Trees.{nil_right}
 use Rattle.lmn_heap.proofs.SolidLemmas.{atoms_append}
 use Rattle.lmn_solid.specs.declared.items.HeadItem.{HeadItem}
 use Rattle.lmn_solid.specs.Heads.{HeadTyped, HeadMembrane, atoms_of as head_atoms, typed_contexts_of, membranes_of}
@@ -59,7 +58,7 @@ use Rattle.lmn_body.proofs.Firing.{old_port_stands, rising_below, heap_in_of, di
 use Rattle.lmn_body.proofs.SolidAfter.{kept_atoms, new_atoms_are, placed_here, fired_are}
 use Rattle.lmn_base.specs.Graphs.{Port}
 use Rattle.lmn_heap.specs.Lists.{without_all}
-use Rattle.lmn_base.proofs.Lists.{get_below, get_there as get_some}
+use Rattle.lmn_base.proofs.Lists.{get_below, get_there as get_some, plus_nothing}
 use Rattle.lmn_base.proofs.Numbers.{below_zero_plus as below_plain, zero_least as nothing_less, zero_plus_below as plain_below}
 use Rattle.lmn_heap.proofs.Common.{is_atom_at, in_map as mapped}
 use Rattle.lmn_base.specs.Lists.{In}
@@ -197,10 +196,10 @@ module _ (head : List HeadItem) (body : List BodyItem) (n : ℕ) (rule : PlainRu
     }
 
     abbrev po : Poised s ns es valid.tree.0
-    po = subst (λ z. Poised s z es valid.tree.0) (nil_right (images_of r head)) (poised h valid head guard body n m r rule.atoms em stand c names bro [] no_parts rule.simple)
+    po = subst (λ z. Poised s z es valid.tree.0) (plus_nothing (images_of r head)) (poised h valid head guard body n m r rule.atoms em stand c names bro [] no_parts rule.simple)
 
     abbrev sp : Splice (EndsLive s ns es) c (partners s) news olds (connectors body)
-    sp = subst (λ z. Splice (EndsLive s z es) c (partners s) news olds (connectors body)) (nil_right (images_of r head)) (splice_at h valid head guard body n m r rule.atoms em stand c names bro [] no_parts)
+    sp = subst (λ z. Splice (EndsLive s z es) c (partners s) news olds (connectors body)) (plus_nothing (images_of r head)) (splice_at h valid head guard body n m r rule.atoms em stand c names bro [] no_parts)
 
     abbrev below : (x : ℕ) → IsOneOf x (links news ++ links olds) → x < n
     below = links_below h valid head guard body n m r rule.atoms em stand c names bro [] no_parts

@@ -9,7 +9,7 @@ use Rattle.lmn_heap.specs.Sound.{Listed}
 use Rattle.lmn_heap.specs.Conditions.{Above, IsOutside}
 use Rattle.lmn_heap.proofs.ListLemmas as lists
 use Rattle.lmn_heap.proofs.ListLemmas.{in_left, in_right}
-use Rattle.lmn_heap.proofs.Trees.{in_either, mem_by as is_some}
+use Rattle.lmn_heap.proofs.Trees.{mem_by as is_some}
 use Rattle.lmn_heap.proofs.Listing.{alter_at, placed_listed, same_mem_place}
 use Rattle.lmn_solid.specs.Embeddings.{index_of}
 use Rattle.lmn_body.specs.declared.items.BodyItem.{BodyItem}
@@ -30,6 +30,7 @@ use Rattle.lmn_body.proofs.Below.{index_split, index_front}
 use Rattle.lmn_heap.proofs.Common.{decide_in as decide}
 use Rattle.lmn_heap.proofs.Heights.{parent_place}
 use Rattle.lmn_base.specs.Lists.{In}
+use Rattle.lmn_base.proofs.Lists.{in_either}
 
 -- Ranks of membranes: the membrane of the rule and the made ones are low, in the order in which they are made, and removed
 -- ones are high.

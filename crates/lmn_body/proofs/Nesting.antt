@@ -7,8 +7,7 @@ use Rattle.lmn_heap.specs.Heap.{Heap, HeapAtom, HeapMem, top, within, waiting, g
 use Rattle.lmn_heap.specs.Heap as heap
 use Rattle.lmn_heap.specs.Sound.{Paired, Valid, Sound}
 use Rattle.lmn_heap.specs.Conditions.{Ready}
-use Rattle.lmn_heap.proofs.ListLemmas.{in_left, in_right}
-use Rattle.lmn_heap.proofs.Trees.{in_either, nil_right}
+use Rattle.lmn_heap.proofs.ListLemmas.{in_left, in_right, in_withouts}
 use Rattle.lmn_heap.proofs.Listing.{same_paired, listed_mem as listed_some}
 use Rattle.lmn_heap.proofs.Replacing.{no_waiting, no_waiting_mems}
 use Rattle.lmn_solid.specs.declared.items.HeadItem.{HeadItem}
@@ -34,7 +33,7 @@ use Rattle.lmn_body.proofs.Coding.{at_heap}
 use Rattle.lmn_body.specs.Made.{places_of, new_atoms, copies_of}
 use Rattle.lmn_body.proofs.BodyPorts.{heap_in, written_new, copied_new}
 use Rattle.lmn_body.proofs.Finishing.{within_of, in_place_within, in_place_listed, ready, names_left, stands_on}
-use Rattle.lmn_body.proofs.Committing.{in_withouts_of, in_withouts, EndsLive}
+use Rattle.lmn_body.proofs.Committing.{in_withouts_of, EndsLive}
 use Rattle.lmn_body.specs.Rules.{AtomRule, Goes, Exists, PartAtoms}
 use Rattle.lmn_body.proofs.Firing.{distinct_images, in_place_old, is_taken, part_taken, ns_once, home_s, old_atom, is_atom, taken_in_place, splice_at, links_below, new_link, kept_link, inner_link, kept_functor, new_functor, in_place_new, es_numbers}
 use Rattle.lmn_body.proofs.Below.{removed_is as image_of_head, is_removed as head_is_image}
@@ -48,6 +47,7 @@ use Rattle.lmn_heap.specs.Lists.{without_all}
 use Rattle.lmn_heap.proofs.Common.{decide_in, place_home}
 use Rattle.lmn_body.specs.Code.{making}
 use Rattle.lmn_base.specs.Lists.{In}
+use Rattle.lmn_base.proofs.Lists.{in_either, plus_nothing}
 
 module _ (h : Heap) (valid : Valid h) (head : List HeadItem) (guard : List Cond) (body : List BodyItem) (n m : ℕ) (r : Registers) (rule : AtomRule head body n)
     (em : Embeds h head guard m r.head.images) (stand : IsMemInPlace h m) (c : Port → ℕ) (names : Names h c)
@@ -375,11 +375,11 @@ module _ (h : Heap) (valid : Valid h) (head : List HeadItem) (guard : List Cond)
 
       no_line : v.new_atoms ≡ []
       no_line = same.new_atoms ∙ gr.line [] (sh.line ∙ pr.atoms.line ∙ free.brings.line
-          ∙ ap (λ xs. xs ++ new) (no_waiting h valid.sound.listed valid.settled) ∙ sym (nil_right new))
+          ∙ ap (λ xs. xs ++ new) (no_waiting h valid.sound.listed valid.settled) ∙ sym (plus_nothing new))
 
       no_mem_line : v.new_mems ≡ []
       no_mem_line = same.new_mems ∙ gr.mem_line [] (sh.mem_line ∙ pr.mems.line
-          ∙ ap (λ xs. xs ++ made_mems r (1 + K) body) (no_waiting_mems h valid.sound.listed valid.settled) ∙ sym (nil_right (made_mems r (1 + K) body)))
+          ∙ ap (λ xs. xs ++ made_mems r (1 + K) body) (no_waiting_mems h valid.sound.listed valid.settled) ∙ sym (plus_nothing (made_mems r (1 + K) body)))
 
       -- what was removed may be freed
       pub ready_v : Ready v

@@ -11,7 +11,6 @@ use Rattle.lmn_body.proofs.Brought.{Whole, reached_into, reached_from}
 use Rattle.lmn_heap.specs.Graphs.{atom_map}
 use Rattle.lmn_heap.specs.Sound.{Valid}
 use Rattle.lmn_heap.proofs.ListLemmas.{in_left, in_right}
-use Rattle.lmn_heap.proofs.Trees.{in_either}
 use Rattle.lmn_solid.specs.declared.items.HeadItem.{HeadItem}
 use Rattle.lmn_solid.specs.Heads.{HeadAtom, HeadTyped, atoms_of}
 use Rattle.lmn_solid.specs.Embeddings.{Embeds, HasTyped, HasLink}
@@ -26,7 +25,7 @@ use Rattle.lmn_body.specs.Running.{Registers, DoesAll, Prepares}
 use Rattle.lmn_body.proofs.Phases.{taken_stays}
 use Rattle.lmn_heap.proofs.Depths.{both_distinct}
 use Rattle.lmn_base.proofs.Common.{port_cases}
-use Rattle.lmn_base.proofs.Lists.{get_below}
+use Rattle.lmn_base.proofs.Lists.{get_below, in_either}
 use Rattle.lmn_heap.proofs.Common.{is_atom_at}
 use Rattle.lmn_base.specs.Lists.{In}
 

@@ -4,8 +4,6 @@ use Rattle.std.proofs.lemmas.Bool.{cases_eq}
 use Rattle.std.proofs.lemmas.List.{append_assoc}
 use Rattle.lmn_base.specs.declared.functor.Functor.{Functor}
 use Rattle.lmn_heap.specs.Heap.{Heap, HeapAtom, HeapMem, waiting, gone, new_atom, new_mem, mem_with_spare, mem_place_of, atoms_in, mems_in, rules_in, atoms_by, mems_by, rules_by, IsMem, Distinct, made_atom, made_mem, reserved}
-use Rattle.lmn_heap.proofs.Trees.{nil_right}
-use Rattle.lmn_heap.proofs.Trees as trees
 use Rattle.lmn_heap.proofs.ListLemmas as lists
 use Rattle.lmn_heap.proofs.Listing.{alter_at, alter_away}
 use Rattle.lmn_body.specs.declared.items.BodyItem.{BodyItem}
@@ -26,6 +24,7 @@ use Rattle.lmn_body.proofs.Growing.{some_there}
 use Rattle.lmn_heap.proofs.Depths.{both_distinct}
 use Rattle.lmn_base.specs.Graphs.{Port}
 use Rattle.lmn_base.specs.Lists.{In}
+use Rattle.lmn_base.proofs.Lists.{plus_nothing, in_either}
 
 -- From s to t membranes nm are made, and wait.
 pub record MemsMade (s t : Heap) (nm : List ℕ) : Type 0 where
@@ -54,7 +53,7 @@ none_made s = record {
   fresh = λ x i. absurd i;
   only = λ x i. inl i;
   once = tt;
-  line = sym (nil_right s.new_mems);
+  line = sym (plus_nothing s.new_mems);
   root = refl;
 }
 
@@ -70,8 +69,8 @@ mems_made_after s t u n1 n2 g h = record {
   places = λ x i. h.places x (g.there x i) ∙ g.places x i;
   gone_before = λ x e. g.gone_before x (h.gone_before x e);
   there = λ x i. h.there x (g.there x i);
-  made = λ x i. elim (trees.in_either x n1 n2 i) [ inl j ↦ h.there x (g.made x j) | inr j ↦ h.made x j ];
-  fresh = λ x i. elim (trees.in_either x n1 n2 i) [
+  made = λ x i. elim (in_either x n1 n2 i) [ inl j ↦ h.there x (g.made x j) | inr j ↦ h.made x j ];
+  fresh = λ x i. elim (in_either x n1 n2 i) [
     | inl j ↦ g.fresh x j
     | inr j ↦ elim (some_or_none (s.mems x)) [
       | inl k ↦ absurd (let z : IsSome {T = HeapMem} None = subst (λ (o : Option HeapMem). IsSome o) (h.fresh x j) (g.there x k) in cc)
@@ -99,7 +98,7 @@ made_atom_mems s a f = record {
   fresh = λ x i. absurd i;
   only = λ x i. inl i;
   once = tt;
-  line = sym (nil_right s.new_mems);
+  line = sym (plus_nothing s.new_mems);
   root = refl;
 }
 
@@ -138,7 +137,7 @@ reserved_mems s m n = record {
   fresh = λ x i. absurd i;
   once = tt;
   only = λ x i. inl (some_there ((reserved s m n).mems x) (s.mems x) (sym (change_keeps there_by s.mems m (mem_with_spare n) (λ y. refl) x)) i);
-  line = sym (nil_right s.new_mems);
+  line = sym (plus_nothing s.new_mems);
   root = refl;
 }
 
@@ -155,7 +154,7 @@ mems_same s t e n q = record {
   fresh = λ x i. absurd i;
   only = λ x i. inl (subst (λ (f : ℕ → Option HeapMem). IsSome (f x)) e i);
   once = tt;
-  line = n ∙ sym (nil_right s.new_mems);
+  line = n ∙ sym (plus_nothing s.new_mems);
   root = q;
 }
 

@@ -6,7 +6,6 @@ use Rattle.lmn_base.specs.declared.functor.Functor.{Functor}
 use Rattle.lmn_base.specs.declared.solid.SolidAtom.{SolidAtom}
 use Rattle.lmn_base.specs.declared.solid.Region.TheViews.{roll-Region}
 use Rattle.lmn_heap.specs.Heap.{Heap, HeapAtom, functor_of, atoms_in, rules_in}
-use Rattle.lmn_heap.specs.Heap as heap
 use Rattle.lmn_heap.specs.Sound.{Forest, bare, mem, flat}
 use Rattle.lmn_heap.specs.Solid.{links_from, solid_atom_at, solid_atoms_at, regions_of}
 use Rattle.lmn_heap.proofs.ListLemmas.{in_left, in_right}

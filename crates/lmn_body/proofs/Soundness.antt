@@ -7,7 +7,6 @@ use Rattle.lmn_heap.specs.Heap as heap
 use Rattle.lmn_heap.specs.Heap.{Heap, HeapAtom, HeapMem, waiting, gone, functor_of, arity_of, mem_place_of, parent_of, atoms_by, mems_by, IsMem, IsMemInPlace, Distinct, placed, placed_mem, moved_all, taken_mem}
 use Rattle.lmn_heap.specs.Sound.{Sound, Listed, Paired, Shaped, Valid}
 use Rattle.lmn_heap.proofs.ListLemmas.{each_in}
-use Rattle.lmn_heap.proofs.Trees.{in_either}
 use Rattle.lmn_heap.proofs.Listing.{alter_at, made_listed, placed_listed, same_listed, same_mem_place}
 use Rattle.lmn_solid.specs.declared.items.HeadItem.{HeadItem}
 use Rattle.lmn_solid.specs.Heads.{HeadMembrane, atoms_of, membranes_of}
@@ -37,6 +36,7 @@ use Rattle.lmn_body.proofs.Nesting as nesting
 use Rattle.lmn_base.specs.Graphs.{Port}
 use Rattle.lmn_heap.proofs.Heights.{parent_place}
 use Rattle.lmn_base.specs.Lists.{In}
+use Rattle.lmn_base.proofs.Lists.{in_either}
 
 -- What prepares keeps lists and places together.
 pub prepares_listed : (r : Registers) (a m c : ℕ) (body : List BodyItem) → (s t : Heap) → Listed s → Prepares r (making a m c body) s t → Listed t

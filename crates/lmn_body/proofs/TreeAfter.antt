@@ -10,7 +10,6 @@ use Rattle.lmn_heap.specs.Conditions.{Ready}
 use Rattle.lmn_heap.specs.Heap.{Heap, HeapAtom, HeapMem, top, within, gone, mem_place_of, mems_in, functor_of, IsMem, IsInPlace, IsMemInPlace, Distinct, finished}
 use Rattle.lmn_heap.specs.Sound.{Forest, flat, Valid, Sound}
 use Rattle.lmn_heap.proofs.ListLemmas.{in_left, in_right}
-use Rattle.lmn_heap.proofs.Trees.{in_either}
 use Rattle.lmn_heap.proofs.Finish.{finish_valid}
 use Rattle.lmn_solid.specs.declared.items.HeadItem.{HeadItem}
 use Rattle.lmn_solid.specs.Heads.{HeadMembrane, atoms_of, membranes_of}
@@ -36,6 +35,7 @@ use Rattle.lmn_heap.specs.Lists.{without_all}
 use Rattle.lmn_heap.proofs.Common.{decide_in}
 use Rattle.lmn_body.specs.Code.{making}
 use Rattle.lmn_base.specs.Lists.{In}
+use Rattle.lmn_base.proofs.Lists.{in_either}
 
 -- Membranes that are added
 

@@ -35,12 +35,12 @@ use Rattle.lmn_bridge.proofs.Weighing.{weigh_out, weigh_left}
 use Rattle.lmn_bridge.proofs.PartsOut.{PartsOut, parts_none, parts_typed, flattened, flattened_left, flattened_right, out_rest, merged_first, merged_second}
 use Rattle.lmn_bridge.proofs.Forests.{tops, Grown, taken_top, taken_grown, taken_others, taken_before, find_in, some_of, within_tree, each_tree, home_in}
 use Rattle.lmn_heap.proofs.Heights.{parent_is}
-use Rattle.lmn_bridge.proofs.Ports.{port_named, get_map, Outer, outer_top, outer_in, outermost_is}
+use Rattle.lmn_bridge.proofs.Ports.{port_named, Outer, outer_top, outer_in, outermost_is}
 use Rattle.lmn_bridge.proofs.Laying.{only_atom, AtomLies, MembraneLies, TypedLies, Below, all_atoms, all_parts, all_membranes, total}
 use Rattle.lmn_bridge.proofs.Contexts.{NoRules}
 use Rattle.lmn_bridge.proofs.Empty.{nothing_left, no_rule_left}
 use Rattle.lmn_base.specs.Graphs.{Port}
-use Rattle.lmn_base.proofs.Lists.{weigh}
+use Rattle.lmn_base.proofs.Lists.{weigh, get_map}
 use Rattle.lmn_base.specs.Lists.{In}
 use Rattle.std.specs.List.{AllByRecursion}
 

@@ -9,6 +9,7 @@ use Rattle.lmn_reduction.specs.Instances.{rules_of_contexts}
 use Rattle.lmn_adequacy.specs.Accepted.{own_contexts, own_rule_contexts, own_rules}
 use Rattle.lmn_adequacy.specs.Embedding.{Plain}
 use Rattle.lmn_bridge.proofs.Lying.{fills}
+use Rattle.std.proofs.lemmas.List.{nil_from_length}
 
 -- how many atoms and membranes, and how many rules, stand outside membranes
 abbrev things : Process → ℕ
@@ -83,10 +84,6 @@ contexts_no_rule : (t : Assignment) → Plain t → (ps : List Name) → rules_t
 contexts_no_rule t p [] = refl
 contexts_no_rule t p (x ∷ ps) = omega (arith, no_rule_there (t.context_of x) (p.no_rule x), contexts_no_rule t p ps)
 
-none_by_length : {A : Type 0} (xs : List A) → length xs ≡ 0 → xs ≡ []
-none_by_length [] e = refl
-none_by_length (x ∷ xs) e = absurd (omega (arith, e))
-
 -- a level with no untyped context leaves nothing
 pub nothing_left : (t : Assignment) (l : Level) (xs : List SolidAtom) (ms : Regions) (rs : List Rule) → Reordered (fills t l) (region_process (region xs ms rs)) → own_contexts l ≡ [] → own_rules l ≡ no_rule →
     (xs ≡ []) × (ms ≡ no_region)
@@ -97,7 +94,7 @@ nothing_left t (level leaves membranes cs qs rules) xs ms rs d c n =
     let u = contexts_no_thing t qs in
     let w = rules_no_thing rs in
     let a = atoms_counted xs in
-    (none_by_length xs (omega (arith, e, s, y, u, w, a)), by ms (omega (arith, e, s, y, u, w, a)))
+    (nil_from_length xs (omega (arith, e, s, y, u, w, a)), by ms (omega (arith, e, s, y, u, w, a)))
   where
     by : (ms : Regions) → things (together (regions_processes ms)) ≡ 0 → ms ≡ no_region
     by no_region e = refl
@@ -113,4 +110,4 @@ no_rule_left t p (level leaves membranes cs qs rules) xs ms rs d c n =
     let w = rules_counted rs in
     let a = atoms_no_rule xs in
     let b = membranes_no_rule ms in
-    none_by_length rs (omega (arith, e, s, y, u, w, a, b))
+    nil_from_length rs (omega (arith, e, s, y, u, w, a, b))

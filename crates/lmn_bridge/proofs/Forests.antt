@@ -8,7 +8,6 @@ use Rattle.lmn_heap.specs.Conditions.{Above}
 use Rattle.lmn_heap.specs.Sound.{Forest, bare, mem, flat, Forms, Valid}
 use Rattle.lmn_heap.proofs.ListLemmas.{each_in, each_of, in_left, in_right}
 use Rattle.lmn_heap.proofs.Heights.{parent_is, above_more}
-use Rattle.lmn_heap.proofs.Trees.{in_either, nil_right}
 use Rattle.lmn_congruence.specs.Links.{places}
 use Rattle.lmn_solid.specs.Embeddings.{StandsWithin}
 use Rattle.lmn_bridge.proofs.Counting.{forest_atoms, tree_atoms, list_atoms}
@@ -18,6 +17,7 @@ use Rattle.lmn_congruence.proofs.TranslatedLinks.{places_append as places_both}
 use Rattle.lmn_heap.proofs.Common.{place_home as home_at}
 use Rattle.lmn_base.specs.Lists.{In}
 use Rattle.std.specs.List.{AllByRecursion}
+use Rattle.lmn_base.proofs.Lists.{in_either, plus_nothing}
 
 -- the membranes that stand first in a forest
 abbrev pub tops : Forest → List ℕ
@@ -132,7 +132,7 @@ places_taken (tree_later {k = k} {j = j} {f = f} {f' = f'} t) b = omega (arith, 
 pub taken_distinct : {n m : ℕ} {i f f' : Forest} → TakenTree n m i f f' → Distinct (flat f) → Distinct (flat (mem m i bare)) × Distinct (flat i) × Distinct (flat f')
 taken_distinct {m = m} {i = i} {f = f} {f' = f'} t d =
     let u = distinct_of (flat (mem m i bare)) (λ b. omega (arith, places_taken t b, once_of b (flat f) d)) in
-    (u, subst Distinct (nil_right (flat i)) u.1, distinct_of (flat f') (λ b. omega (arith, places_taken t b, once_of b (flat f) d)))
+    (u, subst Distinct (plus_nothing (flat i)) u.1, distinct_of (flat f') (λ b. omega (arith, places_taken t b, once_of b (flat f) d)))
 
 -- ---- homes
 

@@ -25,6 +25,7 @@ use Rattle.lmn_heap.proofs.Replacing.{port_within}
 use Rattle.lmn_heap.specs.Solid.{IsNaming}
 use Rattle.lmn_base.specs.Lists.{In}
 use Rattle.std.specs.List.{AllByRecursion}
+use Rattle.lmn_congruence.proofs.Common.{among_image}
 
 -- atoms side by side: a first one and others
 abbrev pub side_by_side : SolidAtom → List SolidAtom → Process
@@ -71,11 +72,6 @@ place_at (z ∷ ys) y l = elim (cases_eq y z) [
   | inr d ↦ let u = place_at ys y (omega (arith, l, apart_none y z d)) in (suc u.0, u.1)
 ]
 
-pub among_mapped : {A B : Type 0} (f : A → B) (xs : List A) {y : B} → Among y (map f xs) → (x : A) × Among x xs × (f x ≡ y)
-among_mapped f [] k = elim k [ ]
-among_mapped f (x ∷ xs) at_head = (x, at_head, refl)
-among_mapped f (x ∷ xs) (further k) = let u = among_mapped f xs k in (u.0, further u.1, u.2)
-
 pub in_among : (xs : List ℕ) (x : ℕ) → Among x xs → In x xs
 in_among [] y k = elim k [ ]
 in_among (x ∷ xs) y at_head = inl refl
@@ -103,8 +99,8 @@ module _ (h : Heap) (r : HeapReading) (v : Valid h) where
 
   pub among_atom : (x : ℕ) (xs : List ℕ) (p : Label × List ℕ) → Among p (atoms_at_top (side_by_side (atom_at h r x) (map (atom_at h r) xs))) → (c : ℕ) × In c (x ∷ xs) × (labelled (atom_at h r c) ≡ p)
   among_atom x xs p k =
-      let u = among_mapped labelled (map (atom_at h r) (x ∷ xs)) (subst (Among p) (atoms_beside (atom_at h r x) (map (atom_at h r) xs)) k) in
-      let w = among_mapped (atom_at h r) (x ∷ xs) u.1 in
+      let u = among_image labelled (map (atom_at h r) (x ∷ xs)) (subst (Among p) (atoms_beside (atom_at h r x) (map (atom_at h r) xs)) k) in
+      let w = among_image (atom_at h r) (x ∷ xs) u.1 in
       (w.0, in_among (x ∷ xs) w.0 w.1, ap labelled w.2 ∙ u.2)
 
   module _ (naming : IsNaming h r.name) (root q : ℕ × ℕ) (link : link_of h root.0 root.1 ≡ Some q) (l : PartList h root) (atoms : AllByRecursion (IsAtom h) (l.first ∷ l.others)) (away : In q.0 (l.first ∷ l.others) → ⊥) where

@@ -10,9 +10,9 @@ use Rattle.lmn_base.specs.Levels.{leaves_of}
 use Rattle.lmn_guards.specs.declared.plan.TypeKind.{TypeKind}
 use Rattle.lmn_solid.specs.Flattening.{leaf_items}
 use Rattle.lmn_solid.specs.Heads.{HeadAtom, HeadTyped, HeadMembrane, atoms_of, typed_contexts_of}
-use Rattle.lmn_congruence.proofs.Appended.{all_left, all_right}
 use Rattle.lmn_solid.proofs.HeadTrees.{Head, Heads, head, no_head, head_and, head_at, size, flat_items, flat_membranes, head_leaves, heads_leaves, same_leaves}
 use Rattle.lmn_bridge.proofs.Walking.{Walk, walk_join, walk_atom, walk_typed, atoms_in_items, typed_in_items, membranes_in_items}
+use Rattle.lmn_base.proofs.Lists.{all_of_left, all_of_right}
 
 -- the atom is a leaf of which P holds
 pub record IsLeafWith (P : Leaf → Type 0) (a : HeadAtom) : Type 0 where
@@ -39,23 +39,23 @@ module _ (P : Leaf → Type 0) (kind : ℕ → TypeKind) where
 
   leaf_walk : (cur n t k : ℕ) (ls : List Leaf) → All P ls → Walk Atoms AnyTyped AnyMembrane n t k (leaf_items kind cur ls)
   leaf_walk cur n t k [] h = tt
-  leaf_walk cur n t k (leaf.Atom f os p ∷ ls) h = (record { occurrences = os; place = p; holds = h zero (leaf.Atom f os p) (omega arith); links = refl }, leaf_walk cur (n + 1) t k ls (all_right P (leaf.Atom f os p ∷ []) ls h))
-  leaf_walk cur n t k (leaf.Typed m o p ∷ ls) h = (record { occurrence = o; place = p; holds = h zero (leaf.Typed m o p) (omega arith) }, leaf_walk cur n (t + 1) k ls (all_right P (leaf.Typed m o p ∷ []) ls h))
+  leaf_walk cur n t k (leaf.Atom f os p ∷ ls) h = (record { occurrences = os; place = p; holds = h zero (leaf.Atom f os p) (omega arith); links = refl }, leaf_walk cur (n + 1) t k ls (all_of_right P (leaf.Atom f os p ∷ []) ls h))
+  leaf_walk cur n t k (leaf.Typed m o p ∷ ls) h = (record { occurrence = o; place = p; holds = h zero (leaf.Typed m o p) (omega arith) }, leaf_walk cur n (t + 1) k ls (all_of_right P (leaf.Typed m o p ∷ []) ls h))
 
   mutual
     level_walk : (cur next n t k : ℕ) (hd : Head) → All P (head_leaves hd) → Walk Atoms AnyTyped AnyMembrane n t k (flat_items kind cur next hd)
     level_walk cur next n t k (head leaves hs cs rcs rs) h =
         let first = leaf_items kind cur leaves in
-        walk_join Atoms AnyTyped AnyMembrane first (flat_membranes kind cur next hs) n t k (leaf_walk cur n t k leaves (all_left P leaves (heads_leaves hs) h))
-        (levels_walk cur next (n + atoms_in_items first) (t + typed_in_items first) (k + membranes_in_items first) hs (all_right P leaves (heads_leaves hs) h))
+        walk_join Atoms AnyTyped AnyMembrane first (flat_membranes kind cur next hs) n t k (leaf_walk cur n t k leaves (all_of_left P leaves (heads_leaves hs) h))
+        (levels_walk cur next (n + atoms_in_items first) (t + typed_in_items first) (k + membranes_in_items first) hs (all_of_right P leaves (heads_leaves hs) h))
 
     levels_walk : (cur next n t k : ℕ) (hs : Heads) → All P (heads_leaves hs) → Walk Atoms AnyTyped AnyMembrane n t k (flat_membranes kind cur next hs)
     levels_walk cur next n t k no_head h = tt
     levels_walk cur next n t k (head_and hd hs) h =
         let first = flat_items kind next (next + 1) hd in (
           tt,
-          walk_join Atoms AnyTyped AnyMembrane first (flat_membranes kind cur (next + 1 + size hd) hs) n t (k + 1) (level_walk next (next + 1) n t (k + 1) hd (all_left P (head_leaves hd) (heads_leaves hs) h))
-              (levels_walk cur (next + 1 + size hd) (n + atoms_in_items first) (t + typed_in_items first) ((k + 1) + membranes_in_items first) hs (all_right P (head_leaves hd) (heads_leaves hs) h)),
+          walk_join Atoms AnyTyped AnyMembrane first (flat_membranes kind cur (next + 1 + size hd) hs) n t (k + 1) (level_walk next (next + 1) n t (k + 1) hd (all_of_left P (head_leaves hd) (heads_leaves hs) h))
+              (levels_walk cur (next + 1 + size hd) (n + atoms_in_items first) (t + typed_in_items first) ((k + 1) + membranes_in_items first) hs (all_of_right P (head_leaves hd) (heads_leaves hs) h)),
         )
 
   -- what holds of all leaves holds of each atom of the items

@@ -8,7 +8,6 @@ use Rattle.lmn_heap.specs.Heap.{Heap, HeapAtom, IsAtom, atoms_in, mems_in, rules
 use Rattle.lmn_heap.specs.Lists.{Distinct}
 use Rattle.lmn_heap.specs.Sound.{Forest, bare, mem, flat, Valid, Forms}
 use Rattle.lmn_heap.specs.Solid.{IsNaming, links_from}
-use Rattle.lmn_heap.proofs.Trees.{nil_right}
 use Rattle.lmn_solid.specs.declared.items.HeadItem.{HeadItem}
 use Rattle.lmn_solid.specs.Heads.{HeadAtom, HeadTyped, HeadMembrane, atoms_of, typed_contexts_of, membranes_of, at_atoms}
 use Rattle.lmn_solid.specs.Embeddings.{Images, HasLink, HasAtom, HasTyped, HasMembrane, Embeds}
@@ -47,7 +46,7 @@ use Rattle.lmn_bridge.proofs.Numbering.{level_numbers, run_reads}
 use Rattle.lmn_bridge.proofs.Occurrences.{first_name, first_found, times_are, times_parts, port_counts, typed_counts, two_typed}
 use Rattle.lmn_base.specs.Graphs.{Port}
 use Rattle.lmn_congruence.specs.Orders.{EachOnce}
-use Rattle.lmn_base.proofs.Lists.{weigh, get_below, get_there as get_some, weigh_append}
+use Rattle.lmn_base.proofs.Lists.{weigh, get_below, get_there as get_some, weigh_append, plus_nothing}
 use Rattle.lmn_base.specs.declared.guard.Cond.{Cond}
 use Rattle.lmn_bridge.specs.Premises.{IsRead}
 use Rattle.lmn_reduction.specs.Parts.{Rooted}
@@ -289,7 +288,7 @@ module _ (h : Heap) (v : Valid h) (r : HeapReading) (naming : IsNaming h r.name)
             let told = C.agree t (λ p a k. ap (λ b. region_process (region b.0 b.1 [])) (looked ([], no_region) C.held oc k)) (λ p a k. looked [] C.rules_held or k) in
             let sum : (x : ℕ) → 0 + level_occurrences x Tree ≡ total h r f part_at link_name typed_of items x = λ x. omega (arith, times_are r.names r.rule kind x 0 1 hd) in
             let M = f.membrane 0 in
-            let whole : Distinct (flat (mem M inner bare)) = subst (λ z. Distinct (z ∷ (flat inner ++ []))) (sym e.here) (subst (λ z. Distinct (m ∷ z)) (sym (nil_right (flat inner))) once) in
+            let whole : Distinct (flat (mem M inner bare)) = subst (λ z. Distinct (z ∷ (flat inner ++ []))) (sym e.here) (subst (λ z. Distinct (m ∷ z)) (sym (plus_nothing (flat inner))) once) in
             let kept = keep_level h v r f part_at t items (λ x. let u = sum x in let w = linked x in omega (arith, u, w)) (λ x. 0) (λ b. 0) (λ b. 0) told (record {
               link_room = λ x.
                   let u = two_ends h v r naming (link_name x) (tree_atoms h M inner) (each_tree h v M inner) (tree_once h v M inner whole) in

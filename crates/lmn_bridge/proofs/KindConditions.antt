@@ -29,8 +29,7 @@ use Rattle.lmn_guards.specs.Values.{Ordered as StandInTree}
 use Rattle.lmn_reduction.specs.Guards.{GuardHolds, Holds, of_kind, in_order, condition_and, IsOfKind as IsOfTreeKind}
 use Rattle.lmn_reduction.specs.Parts.{Rooted, IsInteger, IsUnary, IsGround}
 use Rattle.lmn_reduction.specs.Values.{Value}
-use Rattle.lmn_congruence.proofs.Appended.{all_left, all_right}
-use Rattle.lmn_congruence.proofs.TranslatedNames.{labels_apart, each_part}
+use Rattle.lmn_congruence.proofs.TranslatedNames.{labels_apart}
 use Rattle.lmn_adequacy.specs.Accepted.{EachLevel, NoConnectorLeaf, own_leaves, InTurn, kind_in_turn, comparison_in_turn, UsedIn}
 use Rattle.lmn_bridge.specs.HeapRegions.{HeapReading}
 use Rattle.lmn_bridge.specs.Premises.{IsRule}
@@ -41,6 +40,7 @@ use Rattle.lmn_bridge.proofs.Contexts.{look, same_name}
 use Rattle.lmn_bridge.proofs.TypeConditions.{level_named, named_parts}
 use Rattle.lmn_bridge.proofs.Results.{is_tree}
 use Rattle.lmn_base.specs.Graphs.{Port}
+use Rattle.lmn_base.proofs.Lists.{all_of_left, all_of_right, all_of_parts}
 
 -- ---- conditions on types
 
@@ -157,7 +157,7 @@ FreeRoot g = Free g.root g.process
 -- what holds of all values holds of the one that is found
 pub look_each : (P : Rooted → Type 0) (d : Rooted) (es : List (tree.Name × Rooted)) → P d → All (λ e. P e.1) es → (p : tree.Name) → P (look d es p)
 look_each P d [] k a p = k
-look_each P d (e ∷ es) k a p = by (same_name e.0 p) (a zero e (omega arith)) (look_each P d es k (all_right (λ e. P e.1) (e ∷ []) es a) p)
+look_each P d (e ∷ es) k a p = by (same_name e.0 p) (a zero e (omega arith)) (look_each P d es k (all_of_right (λ e. P e.1) (e ∷ []) es a) p)
   where
     by : (b : Bool) → P e.1 → P (look d es p) → P (cond b e.1 (look d es p))
     by true u w = u
@@ -190,19 +190,19 @@ module _ (r : HeapReading) (kind : ℕ → TypeKind) (rule : RuleTree) (k : IsRu
   -- the name of a typed context stands in the list
   pub typed_known : (i : ℕ) (u : HeadTyped) → slice_get (typed_contexts_of (items_of_head kind rule.head)) i ≡ Some u → HasNames r.names (u.name ∷ [])
   typed_known i u e =
-      let both = all_left Below (level_names rule.head ++ flat_map condition_names rule.guard) (level_names rule.body) k.known in
-      let here = all_left Below (level_names rule.head) (flat_map condition_names rule.guard) both in
-      let leaves = all_left Below (flat_map leaf_names (level_leaves rule.head)) (context_names (contexts_of rule.head))
-      (all_left Below (flat_map leaf_names (level_leaves rule.head) ++ context_names (contexts_of rule.head)) (context_names (rule_contexts_of rule.head)) here) in
-      (typed_holds (λ l. All Below (leaf_names l)) kind rule.head (each_part Below leaf_names (level_leaves rule.head) leaves) i u (subst (λ xs. slice_get (typed_contexts_of xs) i ≡ Some u) (items_flat kind rule.head) e)).holds
+      let both = all_of_left Below (level_names rule.head ++ flat_map condition_names rule.guard) (level_names rule.body) k.known in
+      let here = all_of_left Below (level_names rule.head) (flat_map condition_names rule.guard) both in
+      let leaves = all_of_left Below (flat_map leaf_names (level_leaves rule.head)) (context_names (contexts_of rule.head))
+      (all_of_left Below (flat_map leaf_names (level_leaves rule.head) ++ context_names (contexts_of rule.head)) (context_names (rule_contexts_of rule.head)) here) in
+      (typed_holds (λ l. All Below (leaf_names l)) kind rule.head (all_of_parts Below leaf_names (level_leaves rule.head) leaves) i u (subst (λ xs. slice_get (typed_contexts_of xs) i ≡ Some u) (items_flat kind rule.head) e)).holds
 
   pub guard_known : All (λ c. All Below (condition_names c)) rule.guard
   guard_known =
-      let both = all_left Below (level_names rule.head ++ flat_map condition_names rule.guard) (level_names rule.body) k.known in
-      each_part Below condition_names rule.guard (all_right Below (level_names rule.head) (flat_map condition_names rule.guard) both)
+      let both = all_of_left Below (level_names rule.head ++ flat_map condition_names rule.guard) (level_names rule.body) k.known in
+      all_of_parts Below condition_names rule.guard (all_of_right Below (level_names rule.head) (flat_map condition_names rule.guard) both)
 
 -- what holds of each name holds of each use
 pub each_use : (P : ℕ → Type 0) (Q : ℕ → Type 0) → ((x : ℕ) → All P (x ∷ []) → Q x) → (us : List CtxUse) → All P (context_names us) → All (λ u. Q u.name) us
 each_use P Q h [] a i d l = absurd (omega (arith, l))
-each_use P Q h (u ∷ us) a zero d l = h u.name (all_left P (u.name ∷ []) (context_names us) a)
-each_use P Q h (u ∷ us) a (suc i) d l = each_use P Q h us (all_right P (u.name ∷ []) (context_names us) a) i d (omega (arith, l))
+each_use P Q h (u ∷ us) a zero d l = h u.name (all_of_left P (u.name ∷ []) (context_names us) a)
+each_use P Q h (u ∷ us) a (suc i) d l = each_use P Q h us (all_of_right P (u.name ∷ []) (context_names us) a) i d (omega (arith, l))

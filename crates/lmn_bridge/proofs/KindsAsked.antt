@@ -37,7 +37,6 @@ use Rattle.lmn_reduction.specs.Firing.{typed_contexts}
 use Rattle.lmn_reduction.specs.Guards.{GuardHolds, Holds, of_kind, in_order, binds, alike, unlike, condition_and}
 use Rattle.lmn_reduction.specs.Parts.{IsInteger, IsGround}
 use Rattle.lmn_reduction.specs.Values.{Value}
-use Rattle.lmn_congruence.proofs.Appended.{all_left, all_right}
 use Rattle.lmn_bridge.specs.HeapRegions.{HeapReading}
 use Rattle.lmn_bridge.specs.Premises.{IsRule, IsOfTypeKind, HasKinds, HasTypes}
 use Rattle.lmn_reduction.proofs.Values.{context_tree, operation_tree}
@@ -45,10 +44,11 @@ use Rattle.lmn_bridge.proofs.HeadFacts.{typed_holds}
 use Rattle.lmn_bridge.proofs.KindConditions.{heads_are, typed_known, guard_known, same_number}
 use Rattle.lmn_bridge.proofs.TypeConditions.{among_named, among_of}
 use Rattle.lmn_base.proofs.Common.{operation_items}
-use Rattle.lmn_base.proofs.Lists.{all_both}
 use Rattle.lmn_base.proofs.Truth.{and_true as and_both, either_true as or_either}
 use Rattle.lmn_guards.proofs.WorkedGuards.{of_context as context_items, of_integer as number_items}
 use Rattle.lmn_adequacy.proofs.Accepting.{integer_ground}
+use Rattle.std.proofs.lemmas.List.Elements.{All-append}
+use Rattle.lmn_base.proofs.Lists.{all_of_left, all_of_right}
 
 -- ---- tests
 
@@ -110,14 +110,14 @@ mutual
   head_used (head leaves hs cs rcs rs) k d l =
       let own = map leaf_item leaves in
       let rest = map (used form.Bare) cs ++ (map item.RuleContext rcs ++ map item.Rule rs) in
-      all_both (Used (head_uses (head leaves hs cs rcs rs))) leaves (heads_leaves hs)
+      All-append (Used (head_uses (head leaves hs cs rcs rs))) leaves (heads_leaves hs)
       (λ k d l. wider own (head_uses (head leaves hs cs rcs rs)) _ (λ n e. used_left n (own ++ rest) (heads_uses hs) (used_left n own rest e)) (own_used leaves k d l))
       (λ k d l. wider (heads_uses hs) (head_uses (head leaves hs cs rcs rs)) _ (λ n e. used_right n (own ++ rest) (heads_uses hs) e) (heads_used hs k d l)) k d l
 
   heads_used : (hs : Heads) → All (Used (heads_uses hs)) (heads_leaves hs)
   heads_used no_head k d l = absurd (omega (arith, l))
   heads_used (head_and hd hs) k d l =
-      all_both (Used (heads_uses (head_and hd hs))) (head_leaves hd) (heads_leaves hs)
+      All-append (Used (heads_uses (head_and hd hs))) (head_leaves hd) (heads_leaves hs)
       (λ k d l. wider (head_uses hd) (heads_uses (head_and hd hs)) _ (λ n e. used_left n (head_uses hd) (heads_uses hs) e) (head_used hd k d l))
       (λ k d l. wider (heads_uses hs) (heads_uses (head_and hd hs)) _ (λ n e. used_right n (head_uses hd) (heads_uses hs) e) (heads_used hs k d l)) k d l
 
@@ -206,7 +206,7 @@ module _ (names : List tree.Name) (heads : List tree.Name) (t : Assignment) (top
     where
       by : (not (in_head top l.name) ≡ true) × (has_use x (expression_items r) ≡ true) → EquatesHolds (name_of names l.name) (expression_of names r) → (z : ℤ) × IsInteger z (t.typed_of (name_of names x))
       by w (holds_bound a n v) = used_value r n v w.1
-      by w (holds_same p s a g k) = absurd (never_both (in_head top l.name) (in_top l.name (all_left (λ i. i < length names) (l.name ∷ []) (expression_names r) known) a) w.0)
+      by w (holds_same p s a g k) = absurd (never_both (in_head top l.name) (in_top l.name (all_of_left (λ i. i < length names) (l.name ∷ []) (expression_names r) known) a) w.0)
   asked_one Unary (Equal l r q) h known e = absurd (cc)
   asked_one Ground (Equal l r q) h known e = by (used_either x (used form.Typed l ∷ []) (expression_items r) (and_both (in_head top l.name) (has_use x (used form.Typed l ∷ expression_items r)) e).1) (holds_equates h)
     where
@@ -230,7 +230,7 @@ module _ (names : List tree.Name) (heads : List tree.Name) (t : Assignment) (top
       let w = holds_both h in
       elim (or_either (asks top k x c) (list_any (asks top k x) cs) e) [
         | inl a ↦ asked_one k c w.0 (known zero c (omega arith)) a
-        | inr a ↦ asked_some k cs w.1 (all_right (λ c. All (λ i. i < length names) (condition_names c)) (c ∷ []) cs known) a
+        | inr a ↦ asked_some k cs w.1 (all_of_right (λ c. All (λ i. i < length names) (condition_names c)) (c ∷ []) cs known) a
       ]
 
 -- the type of a context is one that is asked

@@ -37,12 +37,11 @@ use Rattle.lmn_bridge.proofs.PartsLaid.{GivenParts, given_none, given_atom, give
 use Rattle.lmn_bridge.proofs.Weighing.{weigh_left}
 use Rattle.lmn_congruence.specs.Links.{one_if_same}
 use Rattle.lmn_adequacy.specs.Embedding.{IsPart}
-use Rattle.lmn_bridge.proofs.Ports.{find_place, get_map, port_named, Outer, outer_top, outer_in, outermost_is}
+use Rattle.lmn_bridge.proofs.Ports.{find_place, port_named, Outer, outer_top, outer_in, outermost_is}
 use Rattle.lmn_base.specs.Graphs.{Port}
-use Rattle.lmn_base.proofs.Lists.{weigh}
+use Rattle.lmn_base.proofs.Lists.{weigh, in_either, get_map}
 use Rattle.lmn_congruence.proofs.Counts.{none_if_apart as apart_none}
 use Rattle.lmn_congruence.proofs.TranslatedLinks.{places_append as places_both}
-use Rattle.lmn_heap.proofs.Trees.{in_either}
 use Rattle.lmn_heap.proofs.Listing.{distinct_without_all}
 use Rattle.lmn_base.specs.Lists.{In}
 use Rattle.std.specs.List.{AllByRecursion}

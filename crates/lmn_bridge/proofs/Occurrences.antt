@@ -48,7 +48,8 @@ atom_links x n (Atom f ls i ∷ xs) = omega (arith, port_links x n 0 ls (at_atom
 atom_links x n (Typed m k y i ∷ xs) = omega (arith, atom_links x n xs)
 atom_links x n (Membrane i c rc ∷ xs) = atom_links x n xs
 
-some_place : (x : ℕ) (ys : List ℕ) (j : ℕ) → slice_get ys j ≡ Some x → 1 ≤ places x ys
+-- a link that is got from a list stands in it
+pub some_place : (x : ℕ) (ys : List ℕ) (j : ℕ) → slice_get ys j ≡ Some x → 1 ≤ places x ys
 some_place x [] j e = absurd (cc)
 some_place x (y ∷ ys) zero e = omega (arith, same_one x y (sym (same_Some y x e)))
 some_place x (y ∷ ys) (suc j) e = omega (arith, some_place x ys j e)

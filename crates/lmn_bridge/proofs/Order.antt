@@ -7,7 +7,7 @@ use Rattle.lmn_base.specs.declared.level.Leaf.TheVariants as leaf
 use Rattle.lmn_guards.specs.declared.plan.TypeKind.{TypeKind}
 use Rattle.lmn_heap.specs.Heap.{Heap, atoms_in, mems_in}
 use Rattle.lmn_heap.specs.Lists.{without, without_all}
-use Rattle.lmn_heap.proofs.ListLemmas.{in_without}
+use Rattle.lmn_heap.proofs.ListLemmas.{in_withouts}
 use Rattle.lmn_solid.specs.declared.items.HeadItem.{HeadItem}
 use Rattle.lmn_solid.specs.declared.items.HeadItem.TheVariants.{Atom, Typed, Membrane}
 use Rattle.lmn_solid.specs.Flattening.{leaf_items}
@@ -22,6 +22,7 @@ use Rattle.lmn_bridge.proofs.Runs.{in_run}
 use Rattle.lmn_base.proofs.Lists.{get_below}
 use Rattle.lmn_base.proofs.Numbers.{not_equal as apart_test}
 use Rattle.lmn_base.specs.Lists.{In}
+use Rattle.lmn_solid.proofs.Common.{same_index}
 
 -- ---- places in a list
 
@@ -30,23 +31,6 @@ place_first x z zs e = rw (eq-eqb z x e) refl
 
 place_later : (x z : ℕ) (zs : List ℕ) → z ≢ x → index_of x (z ∷ zs) ≡ suc (index_of x zs)
 place_later x z zs d = rw (apart_test z x d) refl
-
-same_place : (x y : ℕ) (L : List ℕ) → In x L → In y L → index_of x L ≡ index_of y L → x ≡ y
-same_place x y [] p q e = absurd p
-same_place x y (z ∷ zs) p q e = elim (cases_eq z x) [
-  | inl ex ↦ elim (cases_eq z y) [
-    | inl ey ↦ sym ex ∙ ey
-    | inr dy ↦ absurd (omega (arith, e, place_first x z zs ex, place_later y z zs dy))
-  ]
-  | inr dx ↦ elim (cases_eq z y) [
-    | inl ey ↦ absurd (omega (arith, e, place_first y z zs ey, place_later x z zs dx))
-    | inr dy ↦ same_place x y zs (rest dx p) (rest dy q) (omega (arith, e, place_later x z zs dx, place_later y z zs dy))
-  ]
-]
-  where
-    rest : {a : ℕ} → z ≢ a → In a (z ∷ zs) → In a zs
-    rest d (inl e) = absurd (d e)
-    rest d (inr p) = p
 
 -- without another number the order stays
 before_without : (c x y : ℕ) (L : List ℕ) → x ≢ c → y ≢ c → index_of x L < index_of y L → index_of x (without c L) < index_of y (without c L)
@@ -72,10 +56,6 @@ before_all : (gone : List ℕ) (x y : ℕ) (L : List ℕ) → (In x gone → ⊥
 before_all [] x y L dx dy l = l
 before_all (c ∷ gone) x y L dx dy l = before_all gone x y (without c L) (λ p. dx (inr p)) (λ p. dy (inr p)) (before_without c x y L (λ e. dx (inl (sym e))) (λ e. dy (inl (sym e))) l)
 
-in_left_over : (gone : List ℕ) (x : ℕ) (L : List ℕ) → (In x gone → ⊥) → In x L → In x (without_all gone L)
-in_left_over [] x L d p = p
-in_left_over (c ∷ gone) x L d p = in_left_over gone x (without c L) (λ q. d (inr q)) (in_without c x L p (λ e. d (inl (sym e))))
-
 -- two numbers of a list, among those that are left and in the whole list
 module _ (gone : List ℕ) (x y : ℕ) (L : List ℕ) (nx : In x gone → ⊥) (ny : In y gone → ⊥) (px : In x L) (py : In y L) where
   kept_order : index_of x L < index_of y L → index_of x (without_all gone L) < index_of y (without_all gone L)
@@ -83,7 +63,7 @@ module _ (gone : List ℕ) (x y : ℕ) (L : List ℕ) (nx : In x gone → ⊥) (
 
   order_back : index_of x (without_all gone L) < index_of y (without_all gone L) → index_of x L < index_of y L
   order_back l = elim (cases_eq (index_of x L) (index_of y L)) [
-    | inl e ↦ (let w = ap (λ z. index_of z (without_all gone L)) (same_place x y L px py e) in absurd (omega (arith, w, l)))
+    | inl e ↦ (let w = ap (λ z. index_of z (without_all gone L)) (same_index x y L e px py) in absurd (omega (arith, w, l)))
     | inr d ↦ by l d
   ]
     where
@@ -97,7 +77,7 @@ module _ (gone : List ℕ) (x y : ℕ) (L : List ℕ) (nx : In x gone → ⊥) (
           less (suc a) (suc b) n h = let u = less a b (λ e. n (ap suc e)) (λ l. h (omega (arith, l))) in omega (arith, u)
 
   same_left : index_of x (without_all gone L) ≡ index_of y (without_all gone L) → x ≡ y
-  same_left e = same_place x y (without_all gone L) (in_left_over gone x L nx px) (in_left_over gone y L ny py) e
+  same_left e = same_index x y (without_all gone L) e (in_withouts gone L x px nx) (in_withouts gone L y py ny)
 
 -- ---- items whose membrane comes before them
 
@@ -198,7 +178,7 @@ module _ (h : Heap) (f g : Images) where
         (λ s. elim s [
           | inl l ↦ inl (let y : index_of a L < index_of b L = subst (λ M. index_of a L < index_of b M) (sym e) l in subst (λ M. index_of a (without_all gone L) < index_of b (without_all gone M)) e (kept_order gone a b L na nb u.0.0 pb y))
           | inr q ↦ (let y : index_of a L ≡ index_of b L = q.0 ∙ ap (index_of b) (sym e) in
-              let ab = same_place a b L u.0.0 pb y in
+              let ab = same_index a b L y u.0.0 pb in
               inr ((λ r. index_of (ab r) (without_all gone (e r))), subst (λ c. ListNotAfter (numbers_left h f (n + 1) k (gone ++ a ∷ []) out xs) (tail (gone ++ c ∷ []) out xs)) ab ((more ab).0 q.1)))
         ]),
         (λ s. elim s [
@@ -224,7 +204,7 @@ module _ (h : Heap) (f g : Images) where
         (λ s. elim s [
           | inl l ↦ inl (let y : index_of a L < index_of b L = subst (λ M. index_of a L < index_of b M) (sym e) l in subst (λ M. index_of a (without_all out L) < index_of b (without_all out M)) e (kept_order out a b L na nb u.0.0 pb y))
           | inr q ↦ (let y : index_of a L ≡ index_of b L = q.0 ∙ ap (index_of b) (sym e) in
-              let ab = same_place a b L u.0.0 pb y in
+              let ab = same_index a b L y u.0.0 pb in
               inr ((λ r. index_of (ab r) (without_all out (e r))), subst (λ c. ListNotAfter (numbers_left h f n (k + 1) gone (out ++ a ∷ []) xs) (tail gone (out ++ c ∷ []) xs)) ab ((more ab).0 q.1)))
         ]),
         (λ s. elim s [

@@ -8,7 +8,6 @@ use Rattle.lmn_heap.specs.Heap.{Heap, IsAtom, atoms_in, mems_in, rules_in, arity
 use Rattle.lmn_heap.specs.Lists.{Distinct}
 use Rattle.lmn_heap.specs.Sound.{Forest, flat, Forms, Valid}
 use Rattle.lmn_heap.proofs.ListLemmas.{each_in, in_left, in_right}
-use Rattle.lmn_heap.proofs.Trees.{nil_right, in_either}
 use Rattle.lmn_solid.specs.declared.items.HeadItem.{HeadItem}
 use Rattle.lmn_solid.specs.Guards.{HoldsOnHeap, IsOfKindAt}
 use Rattle.lmn_base.specs.Graphs.{at_root, StandsWhole, Port}
@@ -33,7 +32,7 @@ use Rattle.lmn_bridge.proofs.Read.{FoundLevel, find_level}
 use Rattle.lmn_bridge.proofs.Walking.{Walk, walk_from, walk_atom, walk_typed, walk_membrane, inside_bound, flat_size, atoms_in_items, typed_in_items, membranes_in_items}
 use Rattle.lmn_bridge.proofs.Weighing.{level_weighs, weigh_nothing}
 use Rattle.lmn_bridge.proofs.Forests.{forms_tops, forms_grown, once_of, none_of, some_of, one_home, tree_once, distinct_of}
-use Rattle.lmn_bridge.proofs.Ports.{port_named, get_map}
+use Rattle.lmn_bridge.proofs.Ports.{port_named}
 use Rattle.lmn_bridge.proofs.Laying.{AtomLies, MembraneLies, TypedLies, all_atoms, all_parts, all_membranes, total}
 use Rattle.lmn_bridge.proofs.Contexts.{NoRules}
 use Rattle.lmn_bridge.proofs.Occurrences.{times_are, times_parts, port_counts, typed_counts}
@@ -47,7 +46,7 @@ use Rattle.lmn_bridge.proofs.Back.{Reads, walk_level, Stood}
 use Rattle.lmn_bridge.proofs.Lengths.{level_length}
 use Rattle.lmn_bridge.proofs.Numbering.{level_numbers}
 use Rattle.lmn_bridge.specs.Numbers.{numbers_left}
-use Rattle.lmn_base.proofs.Lists.{get_below, get_there as get_some, weigh_append}
+use Rattle.lmn_base.proofs.Lists.{get_below, get_there as get_some, weigh_append, in_either, get_map, plus_nothing}
 use Rattle.lmn_congruence.proofs.TranslatedLinks.{places_append as places_both}
 use Rattle.lmn_heap.proofs.Common.{same_port}
 use Rattle.lmn_base.specs.declared.functor.Functor.{Functor}
@@ -182,7 +181,7 @@ module _ (h : Heap) (v : Valid h) (r : HeapReading) (naming : IsNaming h r.name)
   pub numbers_are : numbers_left h images_at 0 1 [] [] (flat_items kind 0 1 hd) ≡ ns
   numbers_are = level_numbers h v r t.link_of t.typed_of (Kept h r t) images_at kind 0 1 0 hd m [] [] refl o found.lying atoms_read membranes_read (forms_tops h inner (mems_in h m) forms) (forms_grown h inner (mems_in h m) forms)
       (λ b.
-      let whole = subst (λ z. Distinct (m ∷ z)) (sym (nil_right (flat inner))) once in
+      let whole = subst (λ z. Distinct (m ∷ z)) (sym (plus_nothing (flat inner))) once in
       let u = tree_once h v m inner whole b in
       omega (arith, u, weigh_append (one_if_same b) (atoms_in h m) (forest_atoms h inner), weigh_same b (tree_atoms h m inner)))
       (λ b. omega (arith, once_of b (flat inner) once.1, weigh_same b (flat inner)))
@@ -198,7 +197,7 @@ module _ (h : Heap) (v : Valid h) (r : HeapReading) (naming : IsNaming h r.name)
   places_few : (b : ℕ) → places b found.atoms + places b (flattened found.parts) ≤ 1
   places_few b =
       let heavy = level_weighs h (one_if_same b) (λ a. 0) found.lying in
-      let whole = subst (λ z. Distinct (m ∷ z)) (sym (nil_right (flat inner))) once in
+      let whole = subst (λ z. Distinct (m ∷ z)) (sym (plus_nothing (flat inner))) once in
       let u = tree_once h v m inner whole b in
       omega (arith, heavy, u, weigh_nothing found.membranes, weigh_nothing (flat inner), weigh_nothing (flat found.left_forest), weigh_same b found.atoms, weigh_same b (flattened found.parts), weigh_same b (tree_atoms h m inner), weigh_append (one_if_same b) (atoms_in h m) (forest_atoms h inner))
 

@@ -1,5 +1,5 @@
 -- Links at the ports of atoms, and the outermost membrane round an item.
-use Rattle.std.proofs.Common.{ℕ, zero, suc, ◌≡◌, ◌≢◌, ◌+◌, ◌≤◌, ◌<◌, List, [], ◌∷◌, map, length, Option, Some, None, refl, sym, ap, inl, inr, arith}
+use Rattle.std.proofs.Common.{ℕ, zero, suc, ◌≡◌, ◌≢◌, ◌+◌, ◌≤◌, ◌<◌, List, [], ◌∷◌, length, Option, Some, None, refl, sym, ap, inl, inr, arith}
 use Rattle.std.specs.Prelude.{slice_get}
 use Rattle.std.proofs.lemmas.Bool.{cases_eq, eq-eqb}
 use Rattle.std.proofs.lemmas.Option.{same_Some}
@@ -21,12 +21,6 @@ find_place x (y ∷ ys) d = elim (cases_eq x y) [
   | inl e ↦ (0, ap Some (sym e))
   | inr k ↦ (let u = find_place x ys (λ z. d (omega (arith, z, apart_none x y k))) in (suc u.0, u.1))
 ]
-
--- an image stands at the same index
-pub get_map : (f : ℕ → ℕ) (ys : List ℕ) (i x : ℕ) → slice_get ys i ≡ Some x → slice_get (map f ys) i ≡ Some (f x)
-get_map f [] i x e = absurd (cc)
-get_map f (y ∷ ys) zero x e = ap Some (ap f (same_Some y x e))
-get_map f (y ∷ ys) (suc i) x e = get_map f ys i x e
 
 -- a link of an atom has the number of its port
 pub get_numbered : (name : ℕ → ℕ → ℕ) (a k n i x : ℕ) → slice_get (links_from name a k n) i ≡ Some x → (name a (k + i) ≡ x) × (i < n)

@@ -13,7 +13,6 @@ use Rattle.lmn_bridge.proofs.TypedFacts.{typed_held}
 use Rattle.std.specs.Prelude.{Option, None, IsSome, slice_get}
 use Rattle.lmn_heap.specs.Heap.{Heap, HeapMem, IsMem, rules_in, rules_by}
 use Rattle.lmn_heap.specs.Lists.{Distinct}
-use Rattle.lmn_heap.proofs.Trees.{nil_right}
 use Rattle.lmn_heap.specs.Sound.{Forest, bare, mem, flat, IsTree}
 use Rattle.lmn_solid.specs.Embeddings.{Images, Embeds, HasAtom, HasTyped}
 use Rattle.lmn_solid.specs.Flattening.{items_of_head}
@@ -27,7 +26,6 @@ use Rattle.lmn_reduction.specs.Parts.{Rooted}
 use Rattle.lmn_congruence.specs.Process.{Process}
 use Rattle.lmn_reduction.specs.Commits.{Irreducible}
 use Rattle.lmn_reduction.specs.Steps.{Step}
-use Rattle.lmn_congruence.proofs.Appended.{all_left}
 use Rattle.lmn_adequacy.specs.Accepted.{typed_links, port_links, EachLevel, EachOf, NoConnectorLeaf, own_leaves as tree_leaves, own_membranes, own_contexts, own_rule_contexts, all_contexts, all_rule_contexts, contexts_in, rule_contexts_in}
 use Rattle.lmn_adequacy.specs.Embedding.{EmbedsAt, LevelImages, HasEmbedding as EmbedsInRegion}
 use Rattle.lmn_adequacy.proofs.Results.{steps_exactly, irreducible_exactly}
@@ -46,8 +44,8 @@ use Rattle.lmn_bridge.specs.Parts.{IsGroundPart, TakesParts}
 use Rattle.lmn_solid.specs.declared.items.HeadItem.{HeadItem}
 use Rattle.lmn_bridge.specs.Numbers.{numbers_left}
 use Rattle.lmn_base.specs.Graphs.{Port}
-use Rattle.lmn_congruence.proofs.TranslatedNames.{each_part}
 use Rattle.lmn_base.specs.Lists.{In}
+use Rattle.lmn_base.proofs.Lists.{all_of_left, all_of_parts, plus_nothing}
 
 -- what an accepted rule's head is like
 module _ (r : HeapReading) (rule : RuleTree) (kind : ℕ → TypeKind) (k : IsRule r rule) where
@@ -91,18 +89,18 @@ module _ (r : HeapReading) (rule : RuleTree) (kind : ℕ → TypeKind) (k : IsRu
   -- a head atom has as many links as its arity
   pub arity_fits : (n : ℕ) (a : HeadAtom) → HasAtom (flat_items kind 0 1 (head_at rule.head)) n a → length a.links ≡ a.functor.arity
   arity_fits n a e =
-      let u = leaf_holds FitsArity kind rule.head (all_left FitsArity (leaves_of rule.head) (leaves_of rule.body) k.well_made.arities) n a e in
+      let u = leaf_holds FitsArity kind rule.head (all_of_left FitsArity (leaves_of rule.head) (leaves_of rule.body) k.well_made.arities) n a e in
       ap length u.links ∙ length-map u.occurrences (λ o. o.link) ∙ u.holds
 
   -- the name of a head atom stands in the list
   pub names_known : (n : ℕ) (a : HeadAtom) → HasAtom (flat_items kind 0 1 (head_at rule.head)) n a → HasNames r.names (label_names a.functor.label)
   names_known n a e =
       let P : ℕ → Type 0 = λ i. i < length r.names in
-      let both = all_left P (level_names rule.head ++ flat_map condition_names rule.guard) (level_names rule.body) k.known in
-      let here = all_left P (level_names rule.head) (flat_map condition_names rule.guard) both in
-      let leaves = all_left P (flat_map leaf_names (leaves_of rule.head)) (context_names (contexts_of rule.head))
-      (all_left P (flat_map leaf_names (leaves_of rule.head) ++ context_names (contexts_of rule.head)) (context_names (rule_contexts_of rule.head)) here) in
-      (leaf_holds (λ l. All P (leaf_names l)) kind rule.head (each_part P leaf_names (leaves_of rule.head) leaves) n a e).holds
+      let both = all_of_left P (level_names rule.head ++ flat_map condition_names rule.guard) (level_names rule.body) k.known in
+      let here = all_of_left P (level_names rule.head) (flat_map condition_names rule.guard) both in
+      let leaves = all_of_left P (flat_map leaf_names (leaves_of rule.head)) (context_names (contexts_of rule.head))
+      (all_of_left P (flat_map leaf_names (leaves_of rule.head) ++ context_names (contexts_of rule.head)) (context_names (rule_contexts_of rule.head)) here) in
+      (leaf_holds (λ l. All P (leaf_names l)) kind rule.head (all_of_parts P leaf_names (leaves_of rule.head) leaves) n a e).holds
 
 -- the kind of a part on the heap and in the calculus
 pub kind_alike : (h : Heap) (r : HeapReading) (m : ℕ) (root : Port) (part : List ℕ) (g : Rooted) (kind : TypeKind) → IsRead h r → IsGroundPart h r m root part g → IsOfKindAt h kind root ↔ IsOfTypeKind kind g
@@ -179,14 +177,14 @@ heads_alike h r m inner kind rule read forest is_rule ns typed_of free =
 
 -- the tree of a heap is the forest of its root
 pub root_forest : (h : Heap) (inner : Forest) → IsTree h (mem h.root inner bare) → HasForest h h.root inner
-root_forest h inner tr = record { forms = tr.forms.2; once = subst (λ z. Distinct (h.root ∷ z)) (nil_right (flat inner)) tr.once }
+root_forest h inner tr = record { forms = tr.forms.2; once = subst (λ z. Distinct (h.root ∷ z)) (plus_nothing (flat inner)) tr.once }
 
 module _ (h : Heap) (r : HeapReading) (table : List RuleTree) (kinds : ℕ → ℕ → TypeKind) (inner : Forest) (read : IsRead h r) (tr : IsTree h (mem h.root inner bare)) (has : HasRules h r table)
     (alike : (m : ℕ) (i : Forest) (k : ℕ) (rule : RuleTree) → HasForest h m i → slice_get table k ≡ Some rule → IsRule r rule →
     ((f : Images) × Embeds h (items_of_head (kinds k) rule.head) rule.guard m f) ↔ ((ns : List ℕ) × EmbedsAt (rule_tree r.names r.rule rule) ns (region_at h r m i))) where
   into_region : SomeRuleEmbeds h table kinds → EmbedsInRegion (region_at h r h.root inner)
   into_region s =
-      let p = subst (In s.membrane) (ap (λ z. h.root ∷ z) (nil_right (flat inner))) (tr.all s.membrane s.in_place) in
+      let p = subst (In s.membrane) (ap (λ z. h.root ∷ z) (plus_nothing (flat inner))) (tr.all s.membrane s.in_place) in
       embeds_from h r table kinds has alike h.root inner (root_forest h inner tr)
       (record { membrane = s.membrane; among = p; number = s.number; stands = s.stands; rule = s.rule; is = s.is; images = s.images; embeds = s.embeds }) p
 

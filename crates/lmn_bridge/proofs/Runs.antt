@@ -11,9 +11,9 @@ use Rattle.lmn_bridge.proofs.Forests.{find_in}
 use Rattle.lmn_bridge.proofs.PartsOut.{flattened}
 use Rattle.lmn_bridge.proofs.Walking.{run}
 use Rattle.lmn_congruence.proofs.TranslatedLinks.{places_append as places_both}
-use Rattle.lmn_heap.proofs.Trees.{in_either}
 use Rattle.lmn_base.specs.Lists.{In}
 use Rattle.std.specs.List.{AllByRecursion}
+use Rattle.lmn_base.proofs.Lists.{in_either}
 
 -- a value of a row is in it
 pub run_in : (f : ℕ → ℕ) (n k i : ℕ) → i < k → In (f (n + i)) (run f n k)

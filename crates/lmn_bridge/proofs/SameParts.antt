@@ -10,6 +10,7 @@ use Rattle.lmn_congruence.proofs.Shuffles.{shuffle_flip, shuffle_chain}
 use Rattle.lmn_base.proofs.Numbers.{not_equal as apart_test}
 use Rattle.lmn_congruence.proofs.Counts.{none_if_apart as apart_none, one_if_equal as same_one}
 use Rattle.lmn_congruence.proofs.TranslatedLinks.{places_append as places_apart}
+use Rattle.lmn_base.proofs.Lists.{map_twice}
 
 abbrev Piece : Type 0
 Piece = Label × List ℕ
@@ -74,7 +75,8 @@ count_from f y (more {x = a} {y = b} {xs = as'} {ys = ys} e s p) l =
       | inr d ↦ let u = places_from f y a.1 (omega (arith, d, is)) in (u.0, omega (arith, u.1), u.2)
     ]
 
-put_among : {A : Type 0} {y b : A} {ys zs : List A} → Put y ys zs → Among b zs → (y ≡ b) ⊎ Among b ys
+-- what stands in a list with one more element is that one, or stood there
+pub put_among : {A : Type 0} {y b : A} {ys zs : List A} → Put y ys zs → Among b zs → (y ≡ b) ⊎ Among b ys
 put_among here at_head = inl refl
 put_among here (further k) = inr k
 put_among (there p) at_head = inr at_head
@@ -125,10 +127,6 @@ places_there y (b ∷ as') a (further k) = omega (arith, places_there y as' a k)
 mapped_back : (f g : ℕ → ℕ) (xs : List ℕ) → ((x : ℕ) → 1 ≤ places x xs → g (f x) ≡ x) → map g (map f xs) ≡ xs
 mapped_back f g [] h = refl
 mapped_back f g (x ∷ xs) h = λ i. h x (omega (arith, same_one x x refl)) i ∷ mapped_back f g xs (λ y l. h y (omega (arith, l))) i
-
-mapped_twice : (f g : ℕ → ℕ) (xs : List ℕ) → map g (map f xs) ≡ map (λ x. g (f x)) xs
-mapped_twice f g [] = refl
-mapped_twice f g (x ∷ xs) = ap (λ ys. g (f x) ∷ ys) (mapped_twice f g xs)
 
 module _ (g k : Rooted) (o : OnlyAtoms g.process) (s : EqualParts g k) where
   one_on : (x y : ℕ) → 1 ≤ count x (atoms_at_top g.process) → 1 ≤ count y (atoms_at_top g.process) → s.to x ≡ s.to y → x ≡ y
@@ -196,7 +194,7 @@ same_chained g k l o o' s t = record {
   to = λ x. t.to (s.to x);
   one_to_one = λ x y m n e. s.one_to_one x y m n (t.one_to_one (s.to x) (s.to y) (there_too x m) (there_too y n) e);
   roots = ap t.to s.roots ∙ t.roots;
-  atoms = shuffle_chain (λ a b c e f. (λ i. (a.0, sym (mapped_twice s.to t.to a.1) i)) ∙ ap (λ q. (q.0, map t.to q.1)) e ∙ f) s.atoms (atoms_at_top l.process) t.atoms;
+  atoms = shuffle_chain (λ a b c e f. (λ i. (a.0, sym (map_twice t.to s.to a.1) i)) ∙ ap (λ q. (q.0, map t.to q.1)) e ∙ f) s.atoms (atoms_at_top l.process) t.atoms;
 }
   where
     there_too : (x : ℕ) → occurrences x g.process ≢ 0 → occurrences (s.to x) k.process ≢ 0

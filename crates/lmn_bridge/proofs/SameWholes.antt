@@ -24,12 +24,12 @@ use Rattle.lmn_bridge.specs.HeapRegions.{HeapReading}
 use Rattle.lmn_bridge.proofs.Pieces.{atom_at, atom_by}
 use Rattle.lmn_bridge.proofs.Counting.{times_at}
 use Rattle.lmn_bridge.proofs.Functors.{both_names}
-use Rattle.lmn_bridge.proofs.Ports.{port_named, named_port, get_map as get_mapped}
+use Rattle.lmn_bridge.proofs.Ports.{port_named, named_port}
 use Rattle.lmn_bridge.proofs.PartLists.{PartList, all_of_part}
 use Rattle.lmn_bridge.proofs.GroundParts.{labelled, atoms_beside, rooted_at, occurs_beside}
 use Rattle.lmn_bridge.proofs.SameParts.{Renames}
 use Rattle.lmn_bridge.proofs.Matchings.{matching, shuffle_mapped, shuffle_unmapped, matched, matched_related, matched_in, matched_onto, matched_one}
-use Rattle.lmn_base.proofs.Lists.{weigh, length_mapped, some_is}
+use Rattle.lmn_base.proofs.Lists.{weigh, length_mapped, some_is, map_twice, get_map}
 use Rattle.lmn_base.proofs.Numbers.{not_equal as apart_test}
 use Rattle.lmn_congruence.proofs.Counts.{none_if_apart as apart_none, one_if_equal as same_one}
 use Rattle.lmn_heap.proofs.Common.{length_numbered, same_port}
@@ -51,10 +51,6 @@ atoms_of_part p = p.list.first ∷ p.list.others
 abbrev pub part_at : {h : Heap} {root : ℕ × ℕ} → HeapReading → WholePart h root → Rooted
 part_at {h} {root} r p = rooted_at h r root p.list.first p.list.others
 
-mapped_twice : {A B C : Type 0} (f : A → B) (g : B → C) (xs : List A) → map g (map f xs) ≡ map (λ x. g (f x)) xs
-mapped_twice f g [] = refl
-mapped_twice f g (x ∷ xs) = ap (λ ys. g (f x) ∷ ys) (mapped_twice f g xs)
-
 index_there : (ys : List ℕ) (y : ℕ) → 1 ≤ places y ys → slice_get ys (index_of y ys) ≡ Some y
 index_there [] y l = absurd (omega (arith, l))
 index_there (z ∷ ys) y l = elim (cases_eq z y) [
@@ -71,7 +67,7 @@ module _ (h : Heap) (r : HeapReading) (v : Valid h) where
   piece a = labelled (atom_at h r a)
 
   pub pieces_are : (x : ℕ) (xs : List ℕ) → atoms_at_top (rooted_at h r (0, 0) x xs).process ≡ map piece (x ∷ xs)
-  pieces_are x xs = atoms_beside (atom_at h r x) (map (atom_at h r) xs) ∙ mapped_twice (atom_at h r) labelled (x ∷ xs)
+  pieces_are x xs = atoms_beside (atom_at h r x) (map (atom_at h r) xs) ∙ map_twice labelled (atom_at h r) (x ∷ xs)
 
   pub record AtomIs (a : ℕ) : Type 0 where
     pub functor : Functor
@@ -105,7 +101,7 @@ module _ (h : Heap) (r : HeapReading) (v : Valid h) where
   -- the links of atoms that match
   renamed_port : (f : ℕ → ℕ) (a b : ℕ) → Renames f (piece a) (piece b) → (i : ℕ) → i < arity_of h a → (r.name b i ≡ f (r.name a i)) × (i < arity_of h b)
   renamed_port f a b e i l =
-      let g = get_mapped f (atom_at h r a).links i (r.name a i) (named_port h v r a i l) in
+      let g = get_map f (atom_at h r a).links i (r.name a i) (named_port h v r a i l) in
       let k : slice_get (atom_at h r b).links i ≡ Some (f (r.name a i)) = subst (λ ys. slice_get ys i ≡ Some (f (r.name a i))) (ap (λ z. z.1) e) g in
       port_named h v r b i (f (r.name a i)) k
 

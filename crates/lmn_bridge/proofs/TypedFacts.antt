@@ -1,6 +1,5 @@
 -- Typed contexts of a head: in its tree and among its items.
-use Rattle.std.proofs.Common.{ℕ, suc, ◌≡◌, ◌+◌, ◌⊎◌, List, [], ◌∷◌, ◌++◌, map, Some, refl, ap, subst, inl, inr}
-use Rattle.std.specs.Prelude.{slice_get}
+use Rattle.std.proofs.Common.{ℕ, suc, ◌+◌, ◌⊎◌, List, [], ◌∷◌, ◌++◌, map, refl, subst, inl, inr}
 use Rattle.lmn_base.specs.declared.level.Leaf.{Leaf}
 use Rattle.lmn_base.specs.declared.level.Leaf.TheVariants as leaf
 use Rattle.lmn_guards.specs.declared.plan.TypeKind.{TypeKind}
@@ -20,6 +19,7 @@ use Rattle.lmn_bridge.proofs.Walking.{Walk, walk_join, walk_typed, atoms_in_item
 use Rattle.lmn_base.specs.Graphs.{Port}
 use Rattle.lmn_congruence.proofs.Common.{among_left, among_right, among_apart}
 use Rattle.lmn_base.specs.Lists.{In}
+use Rattle.lmn_heap.proofs.Common.{position}
 
 among_in : {x : ℕ} (xs : List ℕ) → Among x xs → In x xs
 among_in [] k = elim k [ ]
@@ -85,14 +85,9 @@ holds_right x (Atom f ls i ∷ xs) ys w = inr (holds_right x xs ys w)
 holds_right x (Typed n k l i ∷ xs) ys w = holds_right x xs ys w
 holds_right x (Membrane i c rc ∷ xs) ys w = holds_right x xs ys w
 
-index_of_in : (x : ℕ) (ys : List ℕ) → In x ys → (j : ℕ) × (slice_get ys j ≡ Some x)
-index_of_in x [] p = absurd p
-index_of_in x (y ∷ ys) (inl e) = (0, ap Some e)
-index_of_in x (y ∷ ys) (inr p) = let u = index_of_in x ys p in (suc u.0, u.1)
-
 holds_link : (x : ℕ) (xs : List HeadItem) → Holds x xs → (p : Port) × HasLink xs x p
 holds_link x [] w = absurd w
-holds_link x (Atom f ls i ∷ xs) (inl p) = let u = index_of_in x ls p in ((0, u.0), (record { functor = f; links = ls; inside = i }, refl, u.1))
+holds_link x (Atom f ls i ∷ xs) (inl p) = let u = position ls x p in ((0, u.0), (record { functor = f; links = ls; inside = i }, refl, u.1))
 holds_link x (Atom f ls i ∷ xs) (inr w) = let u = holds_link x xs w in ((suc u.0.0, u.0.1), u.1)
 holds_link x (Typed n k l i ∷ xs) w = holds_link x xs w
 holds_link x (Membrane i c rc ∷ xs) w = holds_link x xs w

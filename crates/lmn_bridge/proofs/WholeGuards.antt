@@ -22,7 +22,6 @@ use Rattle.lmn_reduction.specs.Assignments.{Assignment}
 use Rattle.lmn_reduction.specs.Guards.{GuardHolds, Holds, in_order, binds, alike, unlike, no_condition, condition_and}
 use Rattle.lmn_reduction.specs.Parts.{Rooted, IsInteger, an_integer, IsGround, EqualParts}
 use Rattle.lmn_reduction.specs.Values.{Value}
-use Rattle.lmn_congruence.proofs.Appended.{all_left, all_right}
 use Rattle.lmn_adequacy.specs.Accepted.{InTurn, binding_in_turn, equality_in_turn, difference_in_turn, UsedIn}
 use Rattle.lmn_bridge.specs.Bindings.{Binds, BindsAt}
 use Rattle.lmn_reduction.proofs.Values.{number_tree, context_tree, operation_tree, Uses, uses_known}
@@ -31,6 +30,7 @@ use Rattle.lmn_bridge.proofs.KindConditions.{StandsFor, each_use, type_into, typ
 use Rattle.lmn_base.proofs.Numbers.{not_equal as apart_test}
 use Rattle.lmn_base.specs.declared.guard.Expr.TheVariants as expr
 use Rattle.lmn_congruence.specs.Rules as tree
+use Rattle.lmn_base.proofs.Lists.{all_of_left, all_of_right}
 
 -- the context that an expression is
 alone_is : (s : Meaning) (e : Expr) (q : Port) → part_alone s (context_alone e) ≡ Some q → (u : CtxUse) × (e ≡ expr.Ctx u) × (s.part_of u.name ≡ Some q)
@@ -148,16 +148,16 @@ module _ (h : Heap) (v : Valid h) (names : List tree.Name) (is_names : IsNames n
   -- a guard that holds on the heap holds in the calculus
   pub guard_into : (cs : List Cond) (s : Meaning) → Parts s.part_of → BoundRight names t s.bound_to → All (KnownIn names) cs → Binds h names t.typed_of s cs → HoldsOnHeap h s cs → GuardHolds heads t (map (condition_of names) cs)
   guard_into [] s f b k y w = no_condition
-  guard_into (Kind n args q ∷ cs) s f b k y w = condition_and (type_into h names heads t s n args q f.stands w.0) (guard_into cs s f b (all_right (KnownIn names) (Kind n args q ∷ []) cs k) y w.1)
+  guard_into (Kind n args q ∷ cs) s f b k y w = condition_and (type_into h names heads t s n args q f.stands w.0) (guard_into cs s f b (all_of_right (KnownIn names) (Kind n args q ∷ []) cs k) y w.1)
   guard_into (Compare op l r q ∷ cs) s f b k y w =
       condition_and (in_order (value_into names t (integer_named h s) (value_at s f b) l w.0.0 w.0.2) (value_into names t (integer_named h s) (value_at s f b) r w.0.1 w.0.3) (stand_into op w.0.0 w.0.1 w.0.4))
-      (guard_into cs s f b (all_right (KnownIn names) (Compare op l r q ∷ []) cs k) y w.1)
+      (guard_into cs s f b (all_of_right (KnownIn names) (Compare op l r q ∷ []) cs k) y w.1)
   guard_into (Equal l r q ∷ cs) s f b k y w =
-      let kl = all_left (λ i. i < length names) (l.name ∷ []) (expression_names r) (k zero (Equal l r q) (omega arith)) in
-      let k' = all_right (KnownIn names) (Equal l r q ∷ []) cs k in
+      let kl = all_of_left (λ i. i < length names) (l.name ∷ []) (expression_names r) (k zero (Equal l r q) (omega arith)) in
+      let k' = all_of_right (KnownIn names) (Equal l r q ∷ []) cs k in
       equal_into s l r (map (condition_of names) cs) (λ s'. HoldsOnHeap h s' cs) (λ s'. Binds h names t.typed_of s' cs) f b kl (λ w y. guard_into cs s f b k' y w) (λ z i w y. guard_into cs (bind s l.name z) f (more_right names t s l.name z b i) k' y w)
       (s.part_of l.name) (part_alone s (context_alone r)) (value (integer_named h s) r) refl refl refl w y
-  guard_into (Differ l r q ∷ cs) s f b k y w = condition_and (differ_into s f l.name r.name (s.part_of l.name) (s.part_of r.name) refl refl w.0) (guard_into cs s f b (all_right (KnownIn names) (Differ l r q ∷ []) cs k) y w.1)
+  guard_into (Differ l r q ∷ cs) s f b k y w = condition_and (differ_into s f l.name r.name (s.part_of l.name) (s.part_of r.name) refl refl w.0) (guard_into cs s f b (all_of_right (KnownIn names) (Differ l r q ∷ []) cs k) y w.1)
 
   -- ---- and back
 
@@ -236,32 +236,32 @@ module _ (h : Heap) (v : Valid h) (names : List tree.Name) (is_names : IsNames n
   guard_back [] s done f b c k i w = tt
   guard_back (Kind n args q ∷ cs) s done f b c k i w =
       let p = holds_first h names heads t s w in
-      let ka = all_right (λ i. i < length names) (n ∷ []) (context_names args) (k zero (Kind n args q) (omega arith)) in
+      let ka = all_of_right (λ i. i < length names) (n ∷ []) (context_names args) (k zero (Kind n args q) (omega arith)) in
       let found = each_use (λ i. i < length names) (λ x. Among (name_of names x) heads → (p : Port) × (s.part_of x ≡ Some p) × StandsFor h names t x p) (λ x kx a. let y = f.found x kx a in (y.0, y.1, f.stands x y.0 y.1)) args ka in
       let u = type_back h names heads t s n args q found i p.0 in
-      (u.0, guard_back cs s done f b c (all_right (KnownIn names) (Kind n args q ∷ []) cs k) u.1 p.1)
+      (u.0, guard_back cs s done f b c (all_of_right (KnownIn names) (Kind n args q ∷ []) cs k) u.1 p.1)
   guard_back (Compare op l r q ∷ cs) s done f b c k i w =
       let p = holds_first h names heads t s w in
       let y = compared h names heads t s p.0 in
       let u = turn_compared h names heads t s i in
       let both = k zero (Compare op l r q) (omega arith) in
-      let kl = all_left (λ i. i < length names) (expression_names l) (expression_names r) both in
-      let kr = all_right (λ i. i < length names) (expression_names l) (expression_names r) both in (
+      let kl = all_of_left (λ i. i < length names) (expression_names l) (expression_names r) both in
+      let kr = all_of_right (λ i. i < length names) (expression_names l) (expression_names r) both in (
         (y.left, y.right, value_there s done f b c l y.left kl (λ p z. u.0 p (inl z)) y.first, value_there s done f b c r y.right kr (λ p z. u.0 p (inr z)) y.second, stand_back op y.left y.right y.stand),
-        guard_back cs s done f b c (all_right (KnownIn names) (Compare op l r q ∷ []) cs k) u.1 p.1,
+        guard_back cs s done f b c (all_of_right (KnownIn names) (Compare op l r q ∷ []) cs k) u.1 p.1,
       )
   guard_back (Equal l r q ∷ cs) s done f b c k i w =
       let p = holds_first h names heads t s w in
       let both = k zero (Equal l r q) (omega arith) in
-      let kl = all_left (λ i. i < length names) (l.name ∷ []) (expression_names r) both in
-      let kr = all_right (λ i. i < length names) (l.name ∷ []) (expression_names r) both in
-      let k' = all_right (KnownIn names) (Equal l r q ∷ []) cs k in
+      let kl = all_of_left (λ i. i < length names) (l.name ∷ []) (expression_names r) both in
+      let kr = all_of_right (λ i. i < length names) (l.name ∷ []) (expression_names r) both in
+      let k' = all_of_right (KnownIn names) (Equal l r q ∷ []) cs k in
       equal_back s done l r (map (condition_of names) cs) (λ s'. HoldsOnHeap h s' cs) f b c kl kr (turn_equates i) (holds_equates p.0) (λ i. guard_back cs s done f b c k' i p.1)
       (λ z j i. guard_back cs (bind s l.name z) (name_of names l.name ∷ done) f (more_right names t s l.name z b j) (more_all s done l.name z kl c) k' i p.1)
   guard_back (Differ l r q ∷ cs) s done f b c k i w =
       let p = holds_first h names heads t s w in
       let u = turn_differs i in
       let both = k zero (Differ l r q) (omega arith) in
-      let kl = all_left (λ i. i < length names) (l.name ∷ []) (r.name ∷ []) both in
-      let kr = all_right (λ i. i < length names) (l.name ∷ []) (r.name ∷ []) both in
-      (differ_back s f l.name r.name kl kr u.0 u.1 (holds_differs p.0), guard_back cs s done f b c (all_right (KnownIn names) (Differ l r q ∷ []) cs k) u.2 p.1)
+      let kl = all_of_left (λ i. i < length names) (l.name ∷ []) (r.name ∷ []) both in
+      let kr = all_of_right (λ i. i < length names) (l.name ∷ []) (r.name ∷ []) both in
+      (differ_back s f l.name r.name kl kr u.0 u.1 (holds_differs p.0), guard_back cs s done f b c (all_of_right (KnownIn names) (Differ l r q ∷ []) cs k) u.2 p.1)

@@ -22,7 +22,6 @@ use Rattle.lmn_congruence.specs.Translation.{name_of, rule_tree, condition_of}
 use Rattle.lmn_reduction.specs.Assignments.{Assignment}
 use Rattle.lmn_reduction.specs.Firing.{typed_contexts}
 use Rattle.lmn_reduction.specs.Parts.{Rooted, IsInteger, an_integer}
-use Rattle.lmn_congruence.proofs.Appended.{all_left, all_right}
 use Rattle.lmn_adequacy.specs.Accepted.{InTurn, kind_in_turn, comparison_in_turn, binding_in_turn, equality_in_turn, difference_in_turn, typed_links, port_links}
 use Rattle.lmn_adequacy.specs.Embedding.{EmbedsAt}
 use Rattle.lmn_bridge.specs.Bindings.{Binds, BindsAt}
@@ -45,8 +44,9 @@ use Rattle.lmn_bridge.proofs.Forests.{in_place}
 use Rattle.lmn_adequacy.specs.Embedding.{Merged}
 use Rattle.lmn_solid.specs.declared.items.HeadItem.{HeadItem}
 use Rattle.lmn_base.specs.Graphs.{Port}
-use Rattle.lmn_base.proofs.Lists.{all_both}
 use Rattle.lmn_congruence.proofs.Common.{among_left, among_right}
+use Rattle.std.proofs.lemmas.List.Elements.{All-append}
+use Rattle.lmn_base.proofs.Lists.{all_of_left, all_of_right}
 
 -- ---- what a guard binds
 
@@ -138,12 +138,12 @@ module _ (h : Heap) (names : List tree.Name) (heads : List tree.Name) where
   pub new_names : (cs : List Cond) (s : Meaning) (done : List tree.Name) → ((x : ℕ) → HasNames names (x ∷ []) → Among (name_of names x) heads → (p : Port) × (s.part_of x ≡ Some p)) → All (λ c. All (λ i. i < length names) (condition_names c)) cs →
       InTurn heads done (map (condition_of names) cs) → EachOnce (bound_names names (bound_list h s cs)) × ((p : tree.Name) → Among p (bound_names names (bound_list h s cs)) → (¬ (Among p heads)) × (¬ (Among p done)))
   new_names [] s done f k i = (tt, λ p j. elim j [ ])
-  new_names (Kind n args q ∷ cs) s done f k i = skip s cs (condition_of names (Kind n args q)) done (λ done i. new_names cs s done f (all_right (λ c. All (λ i. i < length names) (condition_names c)) (Kind n args q ∷ []) cs k) i) i
-  new_names (Compare op l r q ∷ cs) s done f k i = skip s cs (condition_of names (Compare op l r q)) done (λ done i. new_names cs s done f (all_right (λ c. All (λ i. i < length names) (condition_names c)) (Compare op l r q ∷ []) cs k) i) i
-  new_names (Differ l r q ∷ cs) s done f k i = skip s cs (condition_of names (Differ l r q)) done (λ done i. new_names cs s done f (all_right (λ c. All (λ i. i < length names) (condition_names c)) (Differ l r q ∷ []) cs k) i) i
+  new_names (Kind n args q ∷ cs) s done f k i = skip s cs (condition_of names (Kind n args q)) done (λ done i. new_names cs s done f (all_of_right (λ c. All (λ i. i < length names) (condition_names c)) (Kind n args q ∷ []) cs k) i) i
+  new_names (Compare op l r q ∷ cs) s done f k i = skip s cs (condition_of names (Compare op l r q)) done (λ done i. new_names cs s done f (all_of_right (λ c. All (λ i. i < length names) (condition_names c)) (Compare op l r q ∷ []) cs k) i) i
+  new_names (Differ l r q ∷ cs) s done f k i = skip s cs (condition_of names (Differ l r q)) done (λ done i. new_names cs s done f (all_of_right (λ c. All (λ i. i < length names) (condition_names c)) (Differ l r q ∷ []) cs k) i) i
   new_names (Equal l r q ∷ cs) s done f k i =
-      let k' = all_right (λ c. All (λ i. i < length names) (condition_names c)) (Equal l r q ∷ []) cs k in
-      let kl = all_left (λ i. i < length names) (l.name ∷ []) (expression_names r) (k zero (Equal l r q) (omega arith)) in
+      let k' = all_of_right (λ c. All (λ i. i < length names) (condition_names c)) (Equal l r q ∷ []) cs k in
+      let kl = all_of_left (λ i. i < length names) (l.name ∷ []) (expression_names r) (k zero (Equal l r q) (omega arith)) in
       by (s.part_of l.name) (value (integer_named h s) r) refl (turn_equates i) kl (λ done i. new_names cs s done f k' i) (λ z done i. new_names cs (bind s l.name z) done f k' i)
     where
       by : (o : Option Port) (v : Option ℤ) → s.part_of l.name ≡ o →
@@ -229,7 +229,7 @@ embeds_alike h r m inner kind rule read forest is_rule types ns =
           let all = es ++ bound_entries r.names bs in
           let d = integer_part (pos 0) in
           let typed_of : tree.Name → Rooted = look d all in
-          let free = look_each FreeRoot d all (omega arith) (all_both (λ e. FreeRoot e.1) es (bound_entries r.names bs)
+          let free = look_each FreeRoot d all (omega arith) (All-append (λ e. FreeRoot e.1) es (bound_entries r.names bs)
           (parts_free r.names graph (graph_free h r read items rule.guard m f e holds) 0 (typed_contexts_of items)) (entries_free r.names bs)) in
           let part_names = named_parts_names r.names graph 0 (typed_contexts_of items) ∙ same in
           let plain : Assignment = record { link_of = λ x. x; context_of = λ p. nothing; rules_of = λ p. []; typed_of = look d es } in

@@ -8,7 +8,6 @@ use Rattle.lmn_heap.specs.Heap.{Heap, HeapMem, IsAtom, IsMem, atoms_by, atoms_in
 use Rattle.lmn_heap.specs.Lists.{Distinct}
 use Rattle.lmn_heap.specs.Sound.{Forest, bare, mem, flat, Forms, IsTree, Valid}
 use Rattle.lmn_heap.proofs.ListLemmas.{distinct_left, distinct_right, in_left, in_right}
-use Rattle.lmn_heap.proofs.Trees.{in_either}
 use Rattle.lmn_solid.specs.Embeddings.{Images, Embeds as OnHeap}
 use Rattle.lmn_solid.specs.Flattening.{items_of_head}
 use Rattle.lmn_congruence.specs.Links.{places}
@@ -29,7 +28,7 @@ use Rattle.lmn_bridge.proofs.Forests.{tree_once, each_tree, some_of, forest_atom
 use Rattle.lmn_bridge.proofs.Ports.{find_place, port_named}
 use Rattle.lmn_bridge.proofs.Read.{find_tree}
 use Rattle.lmn_bridge.proofs.Lying.{TakenTree, tree_first, tree_later}
-use Rattle.lmn_base.proofs.Lists.{weigh}
+use Rattle.lmn_base.proofs.Lists.{weigh, in_either}
 use Rattle.lmn_adequacy.proofs.Embedding.{in_a_membrane as below}
 use Rattle.lmn_heap.proofs.Common.{linked_atom}
 use Rattle.lmn_base.specs.Lists.{In}

@@ -8,7 +8,6 @@ use Rattle.lmn_heap.specs.Heap.{Heap, Distinct, IsAtom, arity_of, link_of}
 use Rattle.lmn_heap.specs.Sound.{Sound}
 use Rattle.lmn_heap.proofs.Depths.{both_distinct}
 use Rattle.lmn_heap.proofs.Pigeonholes.{not_longer}
-use Rattle.lmn_heap.proofs.Trees.{in_either}
 use Rattle.lmn_parts.specs.Copies.{AreNew, Copied, answer, copied}
 use Rattle.lmn_parts.specs.Walks.{Walk, ends, finds, is_port, kept, net, neighbour, passes, port_range, IsPartInDepth}
 use Rattle.lmn_ground.proofs.CopiedLaws.{answers_are, copied_beside, copied_free, copied_part, copied_same}
@@ -22,6 +21,7 @@ use Rattle.lmn_choice.proofs.Runs.{Bounded}
 use Rattle.lmn_heap.proofs.Common.{decide_in, is_atom_at}
 use Rattle.lmn_heap.proofs.Replacing.{port_within}
 use Rattle.lmn_base.specs.Lists.{In}
+use Rattle.lmn_base.proofs.Lists.{in_either}
 
 -- ---- a walk
 

@@ -2,10 +2,10 @@
 use Rattle.std.proofs.Common.{ℕ, zero, suc, ◌≡◌, ◌<◌, List, [], ◌∷◌, ◌++◌, map, length, Some, refl, ap, subst, inl, inr, arith}
 use Rattle.std.specs.Prelude.{slice_get, take, drop}
 use Rattle.std.proofs.lemmas.Option.{same_Some}
-use Rattle.lmn_heap.proofs.Trees.{in_either}
 use Rattle.lmn_congruence.specs.Orders.{Among, at_head, further}
 use Rattle.lmn_choice.specs.Laws.{EachWith, each_none, each_and}
 use Rattle.lmn_base.specs.Lists.{In}
+use Rattle.lmn_base.proofs.Lists.{in_either}
 
 -- what has a smaller number is in the front
 pub got_front : (xs : List ℕ) (n i k : ℕ) → i < n → slice_get xs i ≡ Some k → In k (take n xs)

@@ -3,7 +3,6 @@ use Rattle.std.proofs.Common.{ℕ, suc, ◌≡◌, ◌+◌, List, [], ◌∷◌,
 use Rattle.std.specs.Prelude.{slice_get}
 use Rattle.lmn_heap.specs.Heap.{Heap, mems_in}
 use Rattle.lmn_heap.specs.Sound.{Forest, bare, mem, flat, Forms}
-use Rattle.lmn_heap.proofs.Trees.{nil_right}
 use Rattle.lmn_adequacy.specs.Choice.{paths_from}
 use Rattle.lmn_bridge.specs.HeapRegions.{HeapReading, regions_at}
 use Rattle.lmn_bridge.proofs.Results.{root_forest}
@@ -11,6 +10,7 @@ use Rattle.lmn_turn.specs.Turning.{Leads, stays, enters}
 use Rattle.lmn_choice.specs.Laws.{EachWith, each_none, each_and, MembranesAreNumberedAlike}
 use Rattle.lmn_choice.proofs.Lists.{each_many, each_both, each_drop, each_take, each_changed}
 use Rattle.lmn_choice.proofs.Paths.{one_path}
+use Rattle.lmn_base.proofs.Lists.{plus_nothing}
 
 module _ (h : Heap) (r : HeapReading) where
   -- the membranes of a list that begins at number n of those of x
@@ -31,7 +31,7 @@ pub numbered_alike : MembranesAreNumberedAlike
 numbered_alike h r inner tr =
     let R : List ℕ → ℕ → Type 0 = λ path m. Leads h m path h.root in
     let below = numbers_from h r h.root inner (mems_in h h.root) 0 tr.forms.2 (λ j y e. let z : 0 + j ≡ j = omega arith in subst (λ w. slice_get (mems_in h h.root) w ≡ Some y) (sym z) e) in
-    let all = each_and {x = []} {y = h.root} stays (subst (EachWith R (paths_from 0 (regions_at h r inner))) (sym (nil_right (flat inner))) below) in
+    let all = each_and {x = []} {y = h.root} stays (subst (EachWith R (paths_from 0 (regions_at h r inner))) (sym (plus_nothing (flat inner))) below) in
     record {
       numbers = all;
       many = each_many R all;

@@ -7,12 +7,12 @@ use Rattle.lmn_heap.specs.Lists.{Distinct}
 use Rattle.lmn_heap.specs.Sound.{Forest, bare, mem, flat, Forms}
 use Rattle.lmn_heap.proofs.Groves.{forms_one}
 use Rattle.lmn_heap.proofs.ListLemmas.{each_in, in_left, in_right, apart, distinct_left, distinct_right}
-use Rattle.lmn_heap.proofs.Trees.{in_either}
 use Rattle.lmn_bridge.specs.Premises.{HasForest}
 use Rattle.lmn_bridge.proofs.Lying.{TakenTree, tree_first, tree_later}
 use Rattle.lmn_bridge.proofs.Wholes.{taken_forest}
 use Rattle.lmn_turn.specs.Turning.{Leads, stays, enters}
 use Rattle.lmn_base.specs.Lists.{In}
+use Rattle.lmn_base.proofs.Lists.{in_either}
 
 -- how a path begins
 abbrev Begins : Heap → ℕ → List ℕ → ℕ → Type 0

@@ -1,24 +1,21 @@
 -- The links of a heap can be given the numbers of printed order.
 use Rattle.std.proofs.Common.{ℕ, zero, suc, ◌≡◌, ◌≢◌, ◌+◌, ◌<◌, ◌≤◌, List, [], ◌∷◌, ◌++◌, map, Option, Some, None, refl, sym, ap, subst, ◌∙◌, inl, inr, arith}
 use Rattle.std.proofs.lemmas.List.{map-append}
-use Rattle.std.specs.Prelude.{slice_get}
 use Rattle.lmn_base.specs.declared.rule.RuleTree.{RuleTree}
 use Rattle.lmn_heap.specs.Heap.{Heap, HeapAtom, IsAtom, arity_of, atoms_in, home_of, rules_in}
 use Rattle.lmn_heap.specs.Solid.{solid_atom_at, solid_atoms_at, links_from, IsNaming}
 use Rattle.lmn_heap.specs.Sound.{Forest, bare, mem, IsTree, Valid}
-use Rattle.lmn_heap.proofs.Trees.{in_either}
 use Rattle.lmn_congruence.specs.Process.{occurrences}
 use Rattle.lmn_congruence.specs.Regions.{region, region_and}
 use Rattle.lmn_congruence.specs.Same.{IsRenamed, renamed_atom, renamed_region, renamed_regions}
 use Rattle.lmn_congruence.specs.Translation.{solid_atom_of}
-use Rattle.lmn_congruence.specs.Links.{places}
 use Rattle.lmn_adequacy.specs.Laws.{NumberingExists}
 use Rattle.lmn_adequacy.specs.Numbered.{IsNumbered}
 use Rattle.lmn_bridge.specs.HeapRegions.{HeapReading, atoms_at, regions_at, region_at}
 use Rattle.lmn_bridge.specs.Laws.{heap_process}
 use Rattle.lmn_bridge.specs.Premises.{HasRules}
 use Rattle.lmn_bridge.proofs.Counting.{in_region, tree_atoms, times_at}
-use Rattle.lmn_bridge.proofs.Forests.{forest_atom, in_place, some_of}
+use Rattle.lmn_bridge.proofs.Forests.{forest_atom, in_place}
 use Rattle.lmn_bridge.proofs.Pieces.{atom_at}
 use Rattle.lmn_bridge.proofs.Ports.{named_port}
 use Rattle.lmn_turn.specs.Commits.{IsTable}
@@ -26,10 +23,11 @@ use Rattle.lmn_turn.specs.Turning.{renumbered_reading}
 use Rattle.lmn_choice.specs.Turns.{tree_over, heap_region}
 use Rattle.lmn_choice.specs.Laws.{HeapsAreNumbered}
 use Rattle.lmn_base.specs.Graphs.{Port}
-use Rattle.lmn_base.proofs.Lists.{weigh, some_is as home_is}
-use Rattle.lmn_heap.proofs.Common.{atom_with_links as ported, holds_mem, in_at as got_in}
+use Rattle.lmn_base.proofs.Lists.{weigh, some_is as home_is, in_either}
+use Rattle.lmn_heap.proofs.Common.{atom_with_links as ported, holds_mem}
 use Rattle.lmn_turn.proofs.Turned.{read_as as rule_as}
 use Rattle.lmn_base.specs.Lists.{In}
+use Rattle.lmn_bridge.proofs.Occurrences.{some_place}
 
 -- ---- the region with other numbers
 
@@ -75,9 +73,6 @@ weighs w [] a p = absurd p
 weighs w (x ∷ xs) a (inl e) = subst (λ z. w z ≤ w x + weigh w xs) e (omega arith)
 weighs w (x ∷ xs) a (inr p) = let u = weighs w xs a p in omega (arith, u)
 
-got_place : (xs : List ℕ) (i x : ℕ) → slice_get xs i ≡ Some x → 1 ≤ places x xs
-got_place xs i x e = some_of x xs (got_in xs i x e)
-
 module _ (h : Heap) (v : Valid h) (r : HeapReading) (inner : Forest) (tr : IsTree h (tree_over h inner)) where
   -- each atom stands in the tree
   pub atom_there : (a : ℕ) → IsAtom h a → In a (tree_atoms h h.root inner)
@@ -92,7 +87,7 @@ module _ (h : Heap) (v : Valid h) (r : HeapReading) (inner : Forest) (tr : IsTre
       let x = r.name a i in
       let s = ported (h.atoms a) i l in
       let w = weighs (times_at h r x) (tree_atoms h h.root inner) a (atom_there a s) in
-      let p = got_place (atom_at h r a).links i x (named_port h v r a i l) in
+      let p = some_place x (atom_at h r a).links i (named_port h v r a i l) in
       let e = in_region h r v x h.root inner in
       omega (arith, z, w, p, e)
 

@@ -16,7 +16,8 @@ use Rattle.lmn_commit.specs.Registers.{AgreesWithCopies, AreHeld, AreSized, Grow
 use Rattle.lmn_commit.specs.Preparing.{Uses, AllUse, UsesInOrder, BodyInOrder, needed, needed_by, atoms_made, membranes_made, copies_made, CopyIsMade, OnlyMakes, RoomIsMade, IsMade, Prepared, CanCopy, AtomIsMade, MembraneIsMade}
 use Rattle.lmn_commit.proofs.Codes.{get_either, all_use_more, use_one_more, reads_uses, needed_more}
 use Rattle.lmn_commit.proofs.Waiting.{makes_nothing, makes_on, still_copied, none_there}
-use Rattle.lmn_base.proofs.Lists.{get_front, get_last, length_one, plus_nothing as nothing_more}
+use Rattle.lmn_base.proofs.Lists.{get_front, get_last, plus_nothing as nothing_more}
+use Rattle.std.proofs.lemmas.List.{length_push}
 
 some_altered : {X : Type 0} (f : ℕ → Option X) (n m : ℕ) (v : X) → IsSome (f m) → IsSome (alter f n (λ _. Some v) m)
 some_altered {X} f n m v e = by (m == n)
@@ -48,7 +49,7 @@ none_sized ps qs e es w = subst (λ xss. AreSized qs xss) (sym (nothing_more es)
 
 one_sized : {A : Type 0} (ps : List (PartCopy A)) (es : List (List ℕ)) (p : PartCopy A) (xs : List ℕ) → length xs ≡ p.atoms → AreSized ps es → AreSized (ps ++ p ∷ []) (es ++ xs ∷ [])
 one_sized {A} ps es p xs l w = record {
-  count = (let a = length_one ps p in let b = length_one es xs in let c = w.count in omega (arith, a, b, c));
+  count = (let a = length_push ps p in let b = length_push es xs in let c = w.count in omega (arith, a, b, c));
   sizes = λ k q ys a b. both ps es w.count w.sizes k q ys a b;
 }
   where
@@ -152,7 +153,7 @@ module _ {A M : Type 0} (atom : A → ℕ) (membrane : M → ℕ) where
     atom_made one none no_copy free makes = record {
       grows = subst (λ l. Grows g l) (sym made.3) atom_grows;
       held = subst (λ l. AreHeld atom membrane t l) (sym made.3) (subst (λ u. AreHeld atom membrane u with_atom) (sym made.2) atom_held);
-      atoms = ap (λ (l : SetRegisters A M). length l.atoms) made.3 ∙ length_one g.atoms new_one ∙ ap (λ n. length g.atoms + n) (sym one);
+      atoms = ap (λ (l : SetRegisters A M). length l.atoms) made.3 ∙ length_push g.atoms new_one ∙ ap (λ n. length g.atoms + n) (sym one);
       membranes = ap (λ (l : SetRegisters A M). length l.membranes) made.3 ∙ (let e : length g.membranes ≡ length g.membranes + 0 = omega arith in e) ∙ ap (λ n. length g.membranes + n) (sym none);
       copies = ap (λ (l : SetRegisters A M). length l.copies) made.3 ∙ (let e : length g.copies ≡ length g.copies + 0 = omega arith in e) ∙ ap (λ n. length g.copies + n) (sym no_copy);
       copied = [];
@@ -219,7 +220,7 @@ module _ {A M : Type 0} (atom : A → ℕ) (membrane : M → ℕ) where
           grows = subst (λ l. Grows g l) (sym made.3) membrane_grows;
           held = subst (λ l. AreHeld atom membrane t l) (sym made.3) (subst (λ u. AreHeld atom membrane u with_membrane) (sym made.2) membrane_held);
           atoms = ap (λ (l : SetRegisters A M). length l.atoms) made.3 ∙ (let z : length g.atoms ≡ length g.atoms + 0 = omega arith in z) ∙ ap (λ n. length g.atoms + n) (sym (ap atoms_made e));
-          membranes = ap (λ (l : SetRegisters A M). length l.membranes) made.3 ∙ length_one g.membranes new_handle ∙ ap (λ n. length g.membranes + n) (sym (ap membranes_made e));
+          membranes = ap (λ (l : SetRegisters A M). length l.membranes) made.3 ∙ length_push g.membranes new_handle ∙ ap (λ n. length g.membranes + n) (sym (ap membranes_made e));
           copies = ap (λ (l : SetRegisters A M). length l.copies) made.3 ∙ (let z : length g.copies ≡ length g.copies + 0 = omega arith in z) ∙ ap (λ n. length g.copies + n) (sym (ap copies_made e));
           copied = [];
           sizes = none_sized g.copies k.copies (ap (λ (l : SetRegisters A M). l.copies) made.3);
@@ -306,7 +307,7 @@ module _ {A M : Type 0} (atom : A → ℕ) (membrane : M → ℕ) where
         });
         atoms = ap (λ (l : SetRegisters A M). length l.atoms) made.3 ∙ (let w : length g.atoms ≡ length g.atoms + 0 = omega arith in w) ∙ ap (λ n. length g.atoms + n) (sym (ap atoms_made e));
         membranes = ap (λ (l : SetRegisters A M). length l.membranes) made.3 ∙ (let w : length g.membranes ≡ length g.membranes + 0 = omega arith in w) ∙ ap (λ n. length g.membranes + n) (sym (ap membranes_made e));
-        copies = ap (λ (l : SetRegisters A M). length l.copies) made.3 ∙ length_one g.copies made.0 ∙ ap (λ n. length g.copies + n) (sym (ap copies_made e));
+        copies = ap (λ (l : SetRegisters A M). length l.copies) made.3 ∙ length_push g.copies made.0 ∙ ap (λ n. length g.copies + n) (sym (ap copies_made e));
         copied = made.1.copies ∷ [];
         sizes = λ es w. subst (λ (l : SetRegisters A M). AreSized l.copies (es ++ made.1.copies ∷ [])) (sym made.3) (one_sized g.copies es made.0 made.1.copies made.2 w);
         makes = λ r es w sized has. subst (λ j. Makes r j s t) (sym e)

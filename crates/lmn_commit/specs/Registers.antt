@@ -22,7 +22,7 @@ AreAtomHandles {A} atom h handles = (k : ℕ) (a : A) → slice_get handles k �
 abbrev pub AreMembraneHandles : {M : Type 0} → (M → ℕ) → Heap → List M → Type 0
 AreMembraneHandles {M} membrane h handles = (k : ℕ) (m : M) → slice_get handles k ≡ Some m → IsMem h (membrane m)
 
--- each of these is a port of an atom
+-- the atoms of these roots of parts are there
 abbrev pub AreRootHandles : {A : Type 0} → (A → ℕ) → Heap → List (A × ℕ) → Type 0
 AreRootHandles {A} atom h handles = (k : ℕ) (p : A × ℕ) → slice_get handles k ≡ Some p → IsAtom h (atom p.0)
 

@@ -14,14 +14,14 @@ use Rattle.lmn_compile_body.specs.Accepted.{rule_body_names, IsCompilable, Accep
 use Rattle.lmn_compile_head.proofs.HeadLeaves as leaves
 use Rattle.lmn_compile_body.proofs.BodyTrees.{items_few, size_few, links_fit, links_many, links_counted}
 use Rattle.lmn_base.proofs.Numbers.{at_most_by_test as not_less}
-use Rattle.lmn_base.proofs.Truth.{neither_true as or_none}
+use Rattle.std.proofs.lemmas.Bool.{or_parts}
 
 -- the limits of head and body
 pub limits : (table : List RuleTree) (r : RuleTree) (plan : GuardPlan) → IsCompilable table r plan → (number_of_items r.head ≤ 128) × (number_of_items r.body ≤ 1024)
 limits table r plan whole =
     let large = not_then (is_too_large r) r.pos (whole.ready.accepted.contexts 0 (too_large r) (omega arith)) in
-    let a = or_none (nat_lt 128 (number_of_items r.head)) _ large in
-    let b = or_none (nat_lt 1024 (number_of_items r.body)) _ a.1 in
+    let a = or_parts (nat_lt 128 (number_of_items r.head)) _ large in
+    let b = or_parts (nat_lt 1024 (number_of_items r.body)) _ a.1 in
     (not_less 128 (number_of_items r.head) a.0, not_less 1024 (number_of_items r.body) b.0)
 
 pub accepted_bodies : AcceptedHeads → AcceptedBodies

@@ -23,7 +23,7 @@ use Rattle.lmn_compile_head.proofs.GuardUses.{accepted_guard}
 use Rattle.lmn_compile_head.proofs.Laws.{code_of_least}
 use Rattle.lmn_base.specs.Graphs.{Port}
 use Rattle.lmn_base.proofs.Numbers.{at_most_by_test as not_less}
-use Rattle.lmn_base.proofs.Truth.{neither_true as or_none}
+use Rattle.std.proofs.lemmas.Bool.{or_parts}
 
 front_none : (rows more : List Row) → NoneApplies (rows ++ more) → NoneApplies rows
 front_none rows more h = λ k d l. subst (λ (row : Row). row.places ≡ []) (get_or_append_left rows more d k l) (h k d (let e = length-append rows more in omega (arith, l, e)))
@@ -33,9 +33,9 @@ module _ (table : List RuleTree) (r : RuleTree) (plan : GuardPlan) (ready : IsRe
   small : (number_of_items r.head ≤ 128) × (sum_by condition_tokens r.guard ≤ 256)
   small =
       let large = not_then (is_too_large r) r.pos (ready.accepted.contexts 0 (too_large r) (omega arith)) in
-      let a = or_none (nat_lt 128 (number_of_items r.head)) _ large in
-      let b = or_none (nat_lt 1024 (number_of_items r.body)) _ a.1 in
-      let c = or_none (nat_lt 64 (length r.guard)) _ b.1 in
+      let a = or_parts (nat_lt 128 (number_of_items r.head)) _ large in
+      let b = or_parts (nat_lt 1024 (number_of_items r.body)) _ a.1 in
+      let c = or_parts (nat_lt 64 (length r.guard)) _ b.1 in
       (not_less 128 (number_of_items r.head) a.0, not_less 256 (sum_by condition_tokens r.guard) c.1)
 
   is_head : IsHead (head_items r plan)

@@ -4,9 +4,9 @@ use Rattle.lmn_congruence.specs.Process.{Process, nothing, connector, atom, pair
 use Rattle.lmn_congruence.specs.Congruence.{Congruent, unit, swap, regroup, rename, beside, inside, loop, turn, absorb, pass, same, back, chain}
 use Rattle.lmn_congruence.specs.Fused.{Joins, fused}
 use Rattle.lmn_congruence.specs.UpToOrder.{Reordered, r_unit, r_swap, r_regroup, r_beside, r_inside, r_same, r_back, r_chain}
-use Rattle.lmn_congruence.proofs.Counts.{Alike, flip_alike, same_free, fresh_differs, apart, occurrences_old, in_left, in_right, first_in, second_in, occurs_once, map_agree, map_after, replaced_here, replaced_other}
+use Rattle.lmn_congruence.proofs.Counts.{Alike, flip_alike, same_free, fresh_differs, apart, occurrences_old, first_in, second_in, map_agree, map_after, replaced_here, replaced_other}
 use Rattle.lmn_congruence.proofs.Reordered.{nothing_out}
-use Rattle.lmn_base.proofs.Numbers.{same_or_not}
+use Rattle.lmn_base.proofs.Numbers.{same_or_not, left_not_zero, right_not_zero, not_zero_if_one}
 
 -- maps that agree on the links of a process
 pub joins_agree : (u v : ℕ → ℕ) (P : Process) → ((z : ℕ) → occurrences z P ≢ 0 → u z ≡ v z) → Joins v P → Joins u P
@@ -14,8 +14,8 @@ joins_agree u v nothing h j = tt
 joins_agree u v (connector x y) h j = h x (first_in x y) ∙ j ∙ sym (h y (second_in x y))
 joins_agree u v (atom a xs) h j = tt
 joins_agree u v (pair P Q) h j = (
-  joins_agree u v P (λ z n. h z (in_left (occurrences z P) (occurrences z Q) n)) j.0,
-  joins_agree u v Q (λ z n. h z (in_right (occurrences z P) (occurrences z Q) n)) j.1,
+  joins_agree u v P (λ z n. h z (left_not_zero (occurrences z P) (occurrences z Q) n)) j.0,
+  joins_agree u v Q (λ z n. h z (right_not_zero (occurrences z P) (occurrences z Q) n)) j.1,
 )
 joins_agree u v (membrane P) h j = joins_agree u v P h j
 joins_agree u v (rule r) h j = tt
@@ -25,7 +25,7 @@ fused_agree u v nothing h = refl
 fused_agree u v (connector x y) h = refl
 fused_agree u v (atom a xs) h = ap (atom a) (map_agree u v xs h)
 fused_agree u v (pair P Q) h =
-    cc (fused_agree u v P (λ z n. h z (in_left (occurrences z P) (occurrences z Q) n)), fused_agree u v Q (λ z n. h z (in_right (occurrences z P) (occurrences z Q) n)))
+    cc (fused_agree u v P (λ z n. h z (left_not_zero (occurrences z P) (occurrences z Q) n)), fused_agree u v Q (λ z n. h z (right_not_zero (occurrences z P) (occurrences z Q) n)))
 fused_agree u v (membrane P) h = cc (fused_agree u v P h)
 fused_agree u v (rule r) h = refl
 
@@ -95,7 +95,7 @@ carried_rename x y P d n = λ v k.
     record {
       to = u;
       joins = joins_after u y x P (joins_agree (λ z. u (replace y x z)) v P same_there k);
-      agrees = λ z f. put_other v y (v x) z (λ e. occurs_once (occurrences z P) f (rw e n));
+      agrees = λ z f. put_other v y (v x) z (λ e. not_zero_if_one (occurrences z P) f (rw e n));
       order = r_same (sym (fused_substituted u y x P ∙ fused_agree (λ z. u (replace y x z)) v P same_there));
     }
   where
@@ -107,7 +107,7 @@ carried_back : (x y : ℕ) (P : Process) → y ≢ x → Carries (substitute y x
 carried_back x y P d = λ v k. record {
   to = λ z. v (replace y x z);
   joins = joins_before v y x P k;
-  agrees = λ z f. ap v (replaced_other y x z (λ e. occurs_once (occurrences z (substitute y x P)) f (rw e (occurrences_old y x P d))));
+  agrees = λ z f. ap v (replaced_other y x z (λ e. not_zero_if_one (occurrences z (substitute y x P)) f (rw e (occurrences_old y x P d))));
   order = r_same (fused_substituted v y x P);
 }
 
@@ -129,7 +129,7 @@ carried_expose : (x y : ℕ) (P : Process) → y ≢ x → Carries (substitute y
 carried_expose x y P d = λ v k. record {
   to = λ z. v (replace y x z);
   joins = (ap v (replaced_here y x ∙ sym (replaced_other y x y d)), joins_before v y x P k);
-  agrees = λ z f. ap v (replaced_other y x z (λ e. occurs_once (occurrences z (substitute y x P)) f (rw e (occurrences_old y x P d))));
+  agrees = λ z f. ap v (replaced_other y x z (λ e. not_zero_if_one (occurrences z (substitute y x P)) f (rw e (occurrences_old y x P d))));
   order = r_chain (r_same (fused_substituted v y x P)) (r_back r_unit);
 }
 

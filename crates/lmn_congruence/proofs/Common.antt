@@ -82,3 +82,9 @@ among_places (further k) = omega (arith, among_places k)
 pub map_known : {f g : ℕ → ℕ} (xs : List ℕ) → ((x : ℕ) → Among x xs → f x ≡ g x) → map f xs ≡ map g xs
 map_known [] h = refl
 map_known (x ∷ xs) h = cc (h x at_head, map_known xs (λ y k. h y (further k)))
+
+-- what stands in an image of a list is the image of one that stands in the list
+pub among_image : {A B : Type 0} (f : A → B) {b : B} (xs : List A) → Among b (map f xs) → (a : A) × Among a xs × (f a ≡ b)
+among_image f [] h = elim h [ ]
+among_image f (x ∷ xs) at_head = (x, at_head, refl)
+among_image f (x ∷ xs) (further h) = let more = among_image f xs h in (more.0, further more.1, more.2)

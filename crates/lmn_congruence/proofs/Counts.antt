@@ -11,9 +11,6 @@ one_if_equal x y e = grind arith
 pub none_if_apart : (x y : ℕ) → x ≢ y → one_if_same x y ≡ 0
 none_if_apart x y d = grind arith
 
-pub below_or_from : (x n : ℕ) → (x < n) ⊎ (n ≤ x)
-below_or_from x n = grind arith
-
 pub less_apart : (x n : ℕ) → x < n → x ≢ n
 less_apart x n l = grind arith
 
@@ -67,10 +64,6 @@ occurrences_new new old (atom a ys) n = places_new new old ys n
 occurrences_new new old (pair P Q) n = omega (arith, occurrences_new new old P n, occurrences_new new old Q n)
 occurrences_new new old (membrane P) n = occurrences_new new old P n
 occurrences_new new old (rule r) n = refl
-
--- x is below n, or n, or above n
-pub three_ways : (x n : ℕ) → (x < n) ⊎ ((x ≡ n) ⊎ (n < x))
-three_ways x n = grind arith
 
 -- how often each link occurs after a substitution
 pub data Replaced (new old x : ℕ) (P : Process) : Type 0 where
@@ -206,15 +199,6 @@ first_in x y = grind arith
 
 pub second_in : (x y : ℕ) → one_if_same y x + one_if_same y y ≢ 0
 second_in x y = grind arith
-
-pub in_left : (m n : ℕ) → m ≢ 0 → m + n ≢ 0
-in_left m n h = grind arith
-
-pub in_right : (m n : ℕ) → n ≢ 0 → m + n ≢ 0
-in_right m n h = grind arith
-
-pub occurs_once : (n : ℕ) → n ≡ 1 → n ≢ 0
-occurs_once n e = grind arith
 
 pub occurs_twice : (n : ℕ) → n ≡ 2 → n ≢ 0
 occurs_twice n e = grind arith

@@ -5,9 +5,10 @@ use Rattle.lmn_congruence.specs.Process.{Process, nothing, connector, atom, pair
 use Rattle.lmn_congruence.specs.Congruence.{Congruent, unit, swap, regroup, rename, beside, inside, loop, turn, absorb, pass, same, back, chain, IsAtomProcess, a_connector, an_atom, ExactlyOneFree}
 use Rattle.lmn_congruence.specs.FreeNumber.{free_number}
 use Rattle.lmn_congruence.specs.FreeLinks.{sum_below, above_all, link_bound, one_if_once, one_if_free}
-use Rattle.lmn_congruence.proofs.Counts.{below_or_from, Occurs, count_first, count_second, Alike, same_free, fresh_differs, occurrences_old, occurrences_new, occurrences_other}
+use Rattle.lmn_congruence.proofs.Counts.{Occurs, count_first, count_second, Alike, same_free, fresh_differs, occurrences_old, occurrences_new, occurrences_other}
 use Rattle.lmn_congruence.proofs.Totals.{total_same, total_two, total_past}
 use Rattle.lmn_congruence.proofs.FreeNumbers.{free_total}
+use Rattle.lmn_base.proofs.Numbers.{below_or_from}
 
 pub places_above : (x : ℕ) (xs : List ℕ) → above_all xs ≤ x → places x xs ≡ 0
 places_above x [] b = refl

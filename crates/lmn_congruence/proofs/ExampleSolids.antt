@@ -11,7 +11,7 @@ use Rattle.lmn_base.specs.Links.{no_more}
 use Rattle.lmn_base.specs.Solids.{atoms_of_region, atoms_step, connector, rules_step}
 use Rattle.lmn_congruence.specs.Examples.{RulesKeepTheirNumbers, two_rules, solid_with_rules}
 use Rattle.lmn_congruence.specs.SolidsOfPlains.{IsSolidOf, JoinsLeaf, fused_region, fused_step}
-use Rattle.lmn_base.proofs.Lists.{all_none as none_there}
+use Rattle.std.proofs.lemmas.List.Elements.{All-nil}
 
 no_leaves : leaves_of two_rules.top ≡ []
 no_leaves = rw (fold-roll-Level (List Leaf) (λ l. l.leaves ++ flat_map (λ inner. inner) l.membranes) _) refl
@@ -26,11 +26,11 @@ has_both : IsSolidOf two_rules (solid_with_rules (0 ∷ 1 ∷ []))
 has_both = record {
   closed = rw no_leaves (λ x. inl refl);
   to = λ x. x;
-  joins = rw no_leaves (none_there (JoinsLeaf (λ x. x)));
+  joins = rw no_leaves (All-nil (JoinsLeaf (λ x. x)));
   is = sym (fused_top (λ x. x));
   is_solid = record {
-    arities = rw (no_atoms (0 ∷ 1 ∷ [])) (none_there (λ a. length a.links ≡ a.functor.arity));
-    no_connector = rw (no_atoms (0 ∷ 1 ∷ [])) (none_there (λ a. a.functor ≢ connector));
+    arities = rw (no_atoms (0 ∷ 1 ∷ [])) (All-nil (λ a. length a.links ≡ a.functor.arity));
+    no_connector = rw (no_atoms (0 ∷ 1 ∷ [])) (All-nil (λ a. a.functor ≢ connector));
     closed = rw (no_atoms (0 ∷ 1 ∷ [])) (λ x. inl refl);
     numbered = rw (no_atoms (0 ∷ 1 ∷ [])) (0, no_more);
   };

@@ -10,6 +10,7 @@ use Rattle.lmn_congruence.specs.FreeLinks.{sum_below, above_all, link_bound, one
 use Rattle.lmn_congruence.proofs.Counts.{one_if_equal, none_if_apart}
 use Rattle.lmn_congruence.proofs.TranslatedLinks.{places_append}
 use Rattle.lmn_congruence.proofs.Totals.{total_same, total_sum, total_zero, total_single}
+use Rattle.lmn_base.proofs.Lists.{weigh}
 
 above_appended : (xs ys : List ℕ) → above_all (xs ++ ys) ≡ above_all xs + above_all ys
 above_appended [] ys = omega arith
@@ -31,10 +32,6 @@ bounded (pair P Q) = omega (arith, bounded P, bounded Q, above_appended (process
 bounded (membrane P) = bounded P
 bounded (rule r) = refl
 
-abbrev sum_of : (ℕ → ℕ) → List ℕ → ℕ
-sum_of g [] = 0
-sum_of g (x ∷ xs) = g x + sum_of g xs
-
 times_zero : (a b : ℕ) → a ≡ 0 → a * b ≡ 0
 times_zero a b e = rw e (grind arith)
 
@@ -44,7 +41,7 @@ times_one a b e = rw e (grind arith)
 split : (a b c : ℕ) → (a + b) * c ≡ a * c + b * c
 split a b c = grind arith
 
-by_element : (m : ℕ) (g : ℕ → ℕ) (xs : List ℕ) → above_all xs ≤ m → sum_below m (λ n. places n xs * g n) ≡ sum_of g xs
+by_element : (m : ℕ) (g : ℕ → ℕ) (xs : List ℕ) → above_all xs ≤ m → sum_below m (λ n. places n xs * g n) ≡ weigh g xs
 by_element m g [] h = total_zero m (λ n. 0 * g n) (λ n. times_zero 0 (g n) refl)
 by_element m g (x ∷ xs) h =
     total_same m (λ n. (one_if_same n x + places n xs) * g n) (λ n. one_if_same n x * g n + places n xs * g n) (λ n l. split (one_if_same n x) (places n xs) (g n))
@@ -60,14 +57,14 @@ once zero = refl
 once (suc zero) = refl
 once (suc (suc k)) = grind arith
 
-counted : (zs : List ℕ) (o : ℕ → ℕ) → ((x : ℕ) → o x ≡ places x zs) → (xs : List ℕ) → sum_of (λ n. one_if_once (places n zs)) xs ≡ count_by (λ x. o x == 1) xs
-counted zs o e xs = is_count_by (sum_of (λ n. one_if_once (places n zs))) (λ x. o x == 1) refl (λ y ys. rw (e y) (cond_plus (places y zs == 1) (sum_of (λ n. one_if_once (places n zs)) ys))) xs
+counted : (zs : List ℕ) (o : ℕ → ℕ) → ((x : ℕ) → o x ≡ places x zs) → (xs : List ℕ) → weigh (λ n. one_if_once (places n zs)) xs ≡ count_by (λ x. o x == 1) xs
+counted zs o e xs = is_count_by (weigh (λ n. one_if_once (places n zs))) (λ x. o x == 1) refl (λ y ys. rw (e y) (cond_plus (places y zs == 1) (weigh (λ n. one_if_once (places n zs)) ys))) xs
   where
     cond_plus : (b : Bool) (n : ℕ) → cond b 1 0 + n ≡ cond b (1 + n) n
     cond_plus true n = refl
     cond_plus false n = omega arith
 
-of_list : (zs : List ℕ) → sum_below (above_all zs) (λ n. one_if_once (places n zs)) ≡ sum_of (λ n. one_if_once (places n zs)) zs
+of_list : (zs : List ℕ) → sum_below (above_all zs) (λ n. one_if_once (places n zs)) ≡ weigh (λ n. one_if_once (places n zs)) zs
 of_list zs =
     total_same (above_all zs) (λ n. one_if_once (places n zs)) (λ n. places n zs * one_if_once (places n zs)) (λ n l. once (places n zs))
     ∙ by_element (above_all zs) (λ n. one_if_once (places n zs)) zs (omega arith)

@@ -1,5 +1,4 @@
 pub mod KeptWeights
-pub mod Appended
 pub mod NumberedRules
 pub mod TranslatedLinks
 pub mod SolidsOfPlains

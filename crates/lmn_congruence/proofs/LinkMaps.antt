@@ -13,7 +13,7 @@ use Rattle.lmn_congruence.proofs.Reordered.{reordered_crossings}
 use Rattle.lmn_congruence.proofs.Carried.{congruence_carries}
 use Rattle.lmn_congruence.proofs.Renaming.{rename_all, renamed_id}
 use Rattle.lmn_congruence.proofs.FewestCrossings.{same_crossings_each}
-use Rattle.lmn_base.proofs.Numbers.{same_or_not}
+use Rattle.lmn_base.proofs.Numbers.{same_or_not, not_one_if_even}
 
 -- ---- processes without connectors
 
@@ -69,11 +69,8 @@ closed_linked {P = P} c = record { at_most_twice = λ z. go z (c z) }
     go z (inl e) = omega arith
     go z (inr e) = omega arith
 
-pub closed_not_one : (n : ℕ) → (n ≡ 0) ⊎ (n ≡ 2) → n ≢ 1
-closed_not_one n e = grind arith
-
 pub closed_leaves : (v : ℕ → ℕ) (P : Process) → Closed P → Leaves v P
-closed_leaves v P c = λ x f. absurd (closed_not_one (occurrences x P) (c x) f)
+closed_leaves v P c = λ x f. absurd (not_one_if_even (occurrences x P) (c x) f)
 
 -- two links that go to one: their places add up there
 two_places : (v : ℕ → ℕ) (x y z : ℕ) → x ≢ y → v x ≡ v y → one_if_same x z + one_if_same y z ≤ one_if_same (v x) (v z)

@@ -8,12 +8,12 @@ use Rattle.lmn_base.specs.declared.rule.Plain.{Plain}
 use Rattle.lmn_base.specs.Levels.{rules_of}
 use Rattle.lmn_base.specs.WellMade.{IsWellMade}
 use Rattle.lmn_congruence.specs.Rules as tree
-use Rattle.lmn_congruence.proofs.Appended.{all_left, all_right}
 use Rattle.lmn_congruence.specs.Translation.{level_of, level_step, levels, rule_tree, rules_from, numbered_rule, no_such_rule}
+use Rattle.lmn_base.proofs.Lists.{all_of_left, all_of_right}
 
 same_map : {A B : Type 0} (f g : A → B) (xs : List A) → All (λ x. f x ≡ g x) xs → map f xs ≡ map g xs
 same_map f g [] h = refl
-same_map f g (x ∷ xs) h = rw (h zero x (omega arith), same_map f g xs (all_right (λ x. f x ≡ g x) (x ∷ []) xs h)) refl
+same_map f g (x ∷ xs) h = rw (h zero x (omega arith), same_map f g xs (all_of_right (λ x. f x ≡ g x) (x ∷ []) xs h)) refl
 
 -- a level depends on the rules alone whose numbers stand in it
 module _ (names : List tree.Name) (f g : ℕ → tree.Rule) where
@@ -31,7 +31,7 @@ module _ (names : List tree.Name) (f g : ℕ → tree.Rule) where
   inside_alike [] h = refl
   inside_alike (e ∷ ls) h =
       let rest = inner_rules (map (λ e. e.0) ls) in
-      rw (e.1 (all_left Agrees (rules_of e.0) rest h), inside_alike ls (all_right Agrees (rules_of e.0) rest h)) refl
+      rw (e.1 (all_of_left Agrees (rules_of e.0) rest h), inside_alike ls (all_of_right Agrees (rules_of e.0) rest h)) refl
 
   level_alike : (l : Level) → Alike l
   level_alike = ind-Level Alike (λ y z is h.
@@ -40,13 +40,13 @@ module _ (names : List tree.Name) (f g : ℕ → tree.Rule) where
       rw (
         fold-roll-Level tree.Level (level_step names f) y,
         fold-roll-Level tree.Level (level_step names g) y,
-        inside (all_right Agrees y.rules (inner_rules y.membranes) here),
-        same_map f g y.rules (all_left Agrees y.rules (inner_rules y.membranes) here),
+        inside (all_of_right Agrees y.rules (inner_rules y.membranes) here),
+        same_map f g y.rules (all_of_left Agrees y.rules (inner_rules y.membranes) here),
       ) refl)
 
   pub rule_alike : (r : RuleTree) → All Agrees (rules_of r.head ++ rules_of r.body) → rule_tree names f r ≡ rule_tree names g r
   rule_alike r h =
-      rw (level_alike r.head (all_left Agrees (rules_of r.head) (rules_of r.body) h), level_alike r.body (all_right Agrees (rules_of r.head) (rules_of r.body) h)) refl
+      rw (level_alike r.head (all_of_left Agrees (rules_of r.head) (rules_of r.body) h), level_alike r.body (all_of_right Agrees (rules_of r.head) (rules_of r.body) h)) refl
 
 -- the rule with the number m, in a table that begins with the number k
 abbrev numbered : List tree.Name → List RuleTree → ℕ → ℕ → tree.Rule

@@ -4,11 +4,11 @@ use Rattle.std.proofs.lemmas.List.{map-id}
 use Rattle.lmn_congruence.specs.Links.{one_if_same, places}
 use Rattle.lmn_congruence.specs.Process.{Process, nothing, connector, atom, pair, membrane, rule, occurrences, replace, Free, Local, Linked, substitute, renamed, OneToOneOn}
 use Rattle.lmn_congruence.specs.Congruence.{Congruent, rename, same, chain}
-use Rattle.lmn_congruence.proofs.Counts.{one_if_equal, none_if_apart, below_or_from, less_apart, three_ways, linked_both, Occurs, in_head, in_tail, first_in, second_in, in_left, in_right, occurs_once, occurs_twice, map_after, map_agree, replaced_here, replaced_other}
+use Rattle.lmn_congruence.proofs.Counts.{one_if_equal, none_if_apart, less_apart, linked_both, Occurs, in_head, in_tail, first_in, second_in, occurs_twice, map_after, map_agree, replaced_here, replaced_other}
 use Rattle.lmn_congruence.specs.FreeLinks.{sum_below, link_bound}
 use Rattle.lmn_congruence.proofs.Totals.{highest}
 use Rattle.lmn_congruence.proofs.Crossings.{occurs_below}
-use Rattle.lmn_base.proofs.Numbers.{same_or_not}
+use Rattle.lmn_base.proofs.Numbers.{same_or_not, below_or_from, left_not_zero, right_not_zero, not_zero_if_one, three_ways, below_not_above}
 
 -- two renamings one after the other, where they agree with a third on the links of the process
 pub substitute_renamed : (new old : ℕ) (g h : ℕ → ℕ) (P : Process) → ((x : ℕ) → Occurs x P → replace new old (g x) ≡ h x) → substitute new old (renamed g P) ≡ renamed h P
@@ -16,7 +16,7 @@ substitute_renamed new old g h nothing e = refl
 substitute_renamed new old g h (connector x y) e = cc (e x (first_in x y), e y (second_in x y))
 substitute_renamed new old g h (atom a xs) e = ap (atom a) (map_after (replace new old) g h xs e)
 substitute_renamed new old g h (pair P Q) e =
-    cc (substitute_renamed new old g h P (λ x n. e x (in_left (occurrences x P) (occurrences x Q) n)), substitute_renamed new old g h Q (λ x n. e x (in_right (occurrences x P) (occurrences x Q) n)))
+    cc (substitute_renamed new old g h P (λ x n. e x (left_not_zero (occurrences x P) (occurrences x Q) n)), substitute_renamed new old g h Q (λ x n. e x (right_not_zero (occurrences x P) (occurrences x Q) n)))
 substitute_renamed new old g h (membrane P) e = cc (substitute_renamed new old g h P e)
 substitute_renamed new old g h (rule r) e = refl
 
@@ -25,7 +25,7 @@ renamed_agree g h nothing e = refl
 renamed_agree g h (connector x y) e = cc (e x (first_in x y), e y (second_in x y))
 renamed_agree g h (atom a xs) e = ap (atom a) (map_agree g h xs e)
 renamed_agree g h (pair P Q) e =
-    cc (renamed_agree g h P (λ x n. e x (in_left (occurrences x P) (occurrences x Q) n)), renamed_agree g h Q (λ x n. e x (in_right (occurrences x P) (occurrences x Q) n)))
+    cc (renamed_agree g h P (λ x n. e x (left_not_zero (occurrences x P) (occurrences x Q) n)), renamed_agree g h Q (λ x n. e x (right_not_zero (occurrences x P) (occurrences x Q) n)))
 renamed_agree g h (membrane P) e = cc (renamed_agree g h P e)
 renamed_agree g h (rule r) e = refl
 
@@ -55,7 +55,7 @@ occurrences_image h x nothing e = refl
 occurrences_image h x (connector y z) e = omega (arith, one_image h x y (e y (first_in y z)), one_image h x z (e z (second_in y z)))
 occurrences_image h x (atom a zs) e = places_image h x zs e
 occurrences_image h x (pair P Q) e =
-    omega (arith, occurrences_image h x P (λ z n. e z (in_left (occurrences z P) (occurrences z Q) n)), occurrences_image h x Q (λ z n. e z (in_right (occurrences z P) (occurrences z Q) n)))
+    omega (arith, occurrences_image h x P (λ z n. e z (left_not_zero (occurrences z P) (occurrences z Q) n)), occurrences_image h x Q (λ z n. e z (right_not_zero (occurrences z P) (occurrences z Q) n)))
 occurrences_image h x (membrane P) e = occurrences_image h x P e
 occurrences_image h x (rule r) e = refl
 
@@ -69,7 +69,7 @@ occurrences_none h x nothing e = refl
 occurrences_none h x (connector y z) e = omega (arith, none_if_apart x (h y) (λ q. e y (first_in y z) (sym q)), none_if_apart x (h z) (λ q. e z (second_in y z) (sym q)))
 occurrences_none h x (atom a zs) e = places_none h x zs e
 occurrences_none h x (pair P Q) e =
-    omega (arith, occurrences_none h x P (λ z n. e z (in_left (occurrences z P) (occurrences z Q) n)), occurrences_none h x Q (λ z n. e z (in_right (occurrences z P) (occurrences z Q) n)))
+    omega (arith, occurrences_none h x P (λ z n. e z (left_not_zero (occurrences z P) (occurrences z Q) n)), occurrences_none h x Q (λ z n. e z (right_not_zero (occurrences z P) (occurrences z Q) n)))
 occurrences_none h x (membrane P) e = occurrences_none h x P e
 occurrences_none h x (rule r) e = refl
 
@@ -184,19 +184,16 @@ away_free K x P f = rw f refl
 pub away_local : (K x : ℕ) (P : Process) → occurrences x P ≢ 1 → moved_away K P x ≡ x + K
 away_local K x P f = grind arith
 
-pub low_high : (K x y : ℕ) → x < K → x ≢ y + K
-low_high K x y c = omega arith
-
 pub away_apart : (K : ℕ) (P : Process) → ((x : ℕ) → Occurs x P → x < K) → (x y : ℕ) → moved_away K P x ≡ moved_away K P y → x ≡ y
 away_apart K P above x y e = go (same_or_not (occurrences x P) 1) (same_or_not (occurrences y P) 1)
   where
     low : (x : ℕ) → Free x P → x < K
-    low x f = above x (occurs_once (occurrences x P) f)
+    low x f = above x (not_zero_if_one (occurrences x P) f)
 
     go : Free x P ⊎ (occurrences x P ≢ 1) → Free y P ⊎ (occurrences y P ≢ 1) → x ≡ y
     go (inl f) (inl g) = sym (away_free K x P f) ∙ e ∙ away_free K y P g
-    go (inl f) (inr g) = absurd (low_high K x y (low x f) (sym (away_free K x P f) ∙ e ∙ away_local K y P g))
-    go (inr f) (inl g) = absurd (low_high K y x (low y g) (sym (away_free K y P g) ∙ sym e ∙ away_local K x P f))
+    go (inl f) (inr g) = absurd (below_not_above K x y (low x f) (sym (away_free K x P f) ∙ e ∙ away_local K y P g))
+    go (inr f) (inl g) = absurd (below_not_above K y x (low y g) (sym (away_free K y P g) ∙ sym e ∙ away_local K x P f))
     go (inr f) (inr g) = let q : x + K ≡ y + K = sym (away_local K x P f) ∙ e ∙ away_local K y P g in omega arith
 
 module _ (K : ℕ) (P : Process) (l : Linked P) (above : (x : ℕ) → Occurs x P → x < K) where
@@ -217,7 +214,7 @@ module _ (K : ℕ) (P : Process) (l : Linked P) (above : (x : ℕ) → Occurs x 
     one_a = λ x y o o' e. e;
     one_b = away_one;
     free_stay = λ x f. sym (away_free K x P f);
-    local_fresh = λ x y f o e. low_high K y x (above y o) (e ∙ away_local K x P (local_not_free x f));
+    local_fresh = λ x y f o e. below_not_above K y x (above y o) (e ∙ away_local K x P (local_not_free x f));
   }
 
   module _ (f : ℕ → ℕ) (one : OneToOneOn f P) (stay : (x : ℕ) → Free x P → f x ≡ x) (low : (x : ℕ) → Occurs x P → f x < K) where
@@ -233,7 +230,7 @@ module _ (K : ℕ) (P : Process) (l : Linked P) (above : (x : ℕ) → Occurs x 
         go x y e o q (inl g) =
             let p : y ≡ x = one y x o (occurs_twice (occurrences x P) e) (stay y g ∙ sym (away_free K y P g) ∙ q) in
             local_not_free x e (sym (ap (λ k. occurrences k P) p) ∙ g)
-        go x y e o q (inr g) = low_high K (f x) y (low x (occurs_twice (occurrences x P) e)) (sym q ∙ away_local K y P g)
+        go x y e o q (inr g) = below_not_above K (f x) y (low x (occurs_twice (occurrences x P) e)) (sym q ∙ away_local K y P g)
 
     rename_below : Congruent P (renamed f P)
     rename_below =

@@ -22,9 +22,8 @@ use Rattle.lmn_congruence.specs.Plains.{leaf_process, level_process, levels_proc
 use Rattle.lmn_congruence.specs.Translation.{label_of, leaf_of, level_of, level_step, levels, rules, solid_atom_of, regions, region_step, numbered_rule, numbered_region}
 use Rattle.lmn_congruence.specs.SolidsOfPlains.{fused_leaf, fused_step, fused_region, JoinsLeaf}
 use Rattle.lmn_congruence.specs.TranslationLaws.{SolidsOfPlains}
-use Rattle.lmn_congruence.proofs.Appended.{all_left, all_right}
 use Rattle.lmn_congruence.proofs.TranslatedLinks.{plains_closed, solids_closed}
-use Rattle.lmn_base.proofs.Lists.{map_append}
+use Rattle.lmn_base.proofs.Lists.{map_append, all_of_left, all_of_right}
 use Rattle.lmn_base.proofs.Common.{inner_leaves}
 
 -- ---- one leaf
@@ -58,7 +57,7 @@ leaves_fused : (names : List tree.Name) (v : ℕ → ℕ) (ls : List Leaf) → A
 leaves_fused names v [] h = refl
 leaves_fused names v (l ∷ ls) h =
     map_append (solid_atom_of names) (fused_leaf v l) (flat_map (fused_leaf v) ls)
-    ∙ both (leaf_fused names v l (h zero l (omega arith))) (leaves_fused names v ls (all_right FitsArity (l ∷ []) ls h))
+    ∙ both (leaf_fused names v l (h zero l (omega arith))) (leaves_fused names v ls (all_of_right FitsArity (l ∷ []) ls h))
     ∙ sym (fused_both v (leaf_of names l) (map (leaf_of names) ls))
   where
     both : {xs xs' ys ys' : List solid.SolidAtom} → xs ≡ xs' → ys ≡ ys' → xs ++ ys ≡ xs' ++ ys'
@@ -79,7 +78,7 @@ module _ (names : List tree.Name) (number : ℕ → tree.Rule) (v : ℕ → ℕ)
   inner_fused [] h = refl
   inner_fused (e ∷ ls) h =
       let behind = inner_leaves (map (λ e. e.0) ls) in
-      rw (e.1 (all_left FitsArity (leaves_of e.0) behind h), inner_fused ls (all_right FitsArity (leaves_of e.0) behind h)) refl
+      rw (e.1 (all_of_left FitsArity (leaves_of e.0) behind h), inner_fused ls (all_of_right FitsArity (leaves_of e.0) behind h)) refl
 
   pub fused : (l : Level) → Fused l
   fused = ind-Level Fused (λ y z is h.
@@ -90,8 +89,8 @@ module _ (names : List tree.Name) (number : ℕ → tree.Rule) (v : ℕ → ℕ)
         fold-roll-Level Region (fused_step v) y,
         fold-roll-Region solid.Region (region_step names number) _,
         fold-roll-Level tree.Level (level_step names number) y,
-        leaves_fused names v y.leaves (all_left FitsArity y.leaves (inner_leaves y.membranes) here),
-        inside (all_right FitsArity y.leaves (inner_leaves y.membranes) here),
+        leaves_fused names v y.leaves (all_of_left FitsArity y.leaves (inner_leaves y.membranes) here),
+        inside (all_of_right FitsArity y.leaves (inner_leaves y.membranes) here),
         sym (rules_back number y.rules),
       ) refl)
 
@@ -111,7 +110,7 @@ module _ (names : List tree.Name) (number : ℕ → tree.Rule) (v : ℕ → ℕ)
 
   leaves_joined : (ls : List Leaf) → All (JoinsLeaf v) ls → Joins v (together (map leaf_process (map (leaf_of names) ls)))
   leaves_joined [] h = tt
-  leaves_joined (l ∷ ls) h = (leaf_joined l (h zero l (omega arith)), leaves_joined ls (all_right (JoinsLeaf v) (l ∷ []) ls h))
+  leaves_joined (l ∷ ls) h = (leaf_joined l (h zero l (omega arith)), leaves_joined ls (all_of_right (JoinsLeaf v) (l ∷ []) ls h))
 
   rules_join : (rs : List tree.Rule) → Joins v (together (map rule rs))
   rules_join [] = tt
@@ -125,7 +124,7 @@ module _ (names : List tree.Name) (number : ℕ → tree.Rule) (v : ℕ → ℕ)
   inner_joined [] h = tt
   inner_joined (e ∷ ls) h =
       let behind = inner_leaves (map (λ e. e.0) ls) in
-      (e.1 (all_left (JoinsLeaf v) (leaves_of e.0) behind h), inner_joined ls (all_right (JoinsLeaf v) (leaves_of e.0) behind h))
+      (e.1 (all_of_left (JoinsLeaf v) (leaves_of e.0) behind h), inner_joined ls (all_of_right (JoinsLeaf v) (leaves_of e.0) behind h))
 
   pub joined : (l : Level) → Joined l
   joined = ind-Level Joined (λ y z is h.
@@ -133,7 +132,7 @@ module _ (names : List tree.Name) (number : ℕ → tree.Rule) (v : ℕ → ℕ)
       let here = subst (All (JoinsLeaf v)) split h in
       let inside = subst (λ l. All (JoinsLeaf v) (inner_leaves l.membranes) → Joins v (together (levels_processes (levels (map (level_of names number) l.membranes))))) is (inner_joined z.membranes) in
       rw (fold-roll-Level tree.Level (level_step names number) y)
-      (leaves_joined y.leaves (all_left (JoinsLeaf v) y.leaves (inner_leaves y.membranes) here), (inside (all_right (JoinsLeaf v) y.leaves (inner_leaves y.membranes) here), rules_join (tree.rules_list (rules (map number y.rules))))))
+      (leaves_joined y.leaves (all_of_left (JoinsLeaf v) y.leaves (inner_leaves y.membranes) here), (inside (all_of_right (JoinsLeaf v) y.leaves (inner_leaves y.membranes) here), rules_join (tree.rules_list (rules (map number y.rules))))))
 
 pub solids_of_plains : SolidsOfPlains
 solids_of_plains names p s w i =

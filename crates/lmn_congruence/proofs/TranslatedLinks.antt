@@ -20,13 +20,13 @@ use Rattle.lmn_congruence.specs.Links.{places}
 use Rattle.lmn_congruence.specs.Process.{Process, occurrences, together, rule}
 use Rattle.lmn_congruence.specs.Plains.{leaf_process, level_process, levels_processes}
 use Rattle.lmn_congruence.specs.Regions as solid
-use Rattle.lmn_congruence.proofs.Appended.{all_left, all_right}
 use Rattle.lmn_congruence.specs.Rules as tree
 use Rattle.lmn_congruence.specs.LinkedRules.{leaf_occurrences, leaves_occurrences, level_occurrences, levels_occurrences}
 use Rattle.lmn_congruence.specs.Translation.{atom_or_connector, leaf_of, level_of, level_step, levels, rules, solid_atom_of, regions, region_step, numbered_rule}
 use Rattle.lmn_congruence.specs.TranslationLaws.{LevelLinksKept, TopLinksKept, SolidLinksKept, LinkedRulesKept, SolidsClosed, PlainsClosed}
 use Rattle.lmn_base.proofs.Truth.{cond_plus}
 use Rattle.lmn_base.proofs.Common.{inner_leaves}
+use Rattle.lmn_base.proofs.Lists.{all_of_left, all_of_right}
 
 pub places_append : (x : ℕ) (xs ys : List ℕ) → places x (xs ++ ys) ≡ places x xs + places x ys
 places_append x [] ys = omega arith
@@ -75,7 +75,7 @@ leaf_alone names x (Typed n o p) h = absurd h
 
 leaves_alone : (names : List tree.Name) (x : ℕ) (ls : List Leaf) → All IsAtomLeaf ls → occurrences x (together (map leaf_process (map (leaf_of names) ls))) ≡ places x (links_of_leaves ls)
 leaves_alone names x [] h = refl
-leaves_alone names x (l ∷ ls) h = omega (arith, leaf_alone names x l (h zero l (omega arith)), leaves_alone names x ls (all_right IsAtomLeaf (l ∷ []) ls h), places_both x (l ∷ []) ls)
+leaves_alone names x (l ∷ ls) h = omega (arith, leaf_alone names x l (h zero l (omega arith)), leaves_alone names x ls (all_of_right IsAtomLeaf (l ∷ []) ls h), places_both x (l ∷ []) ls)
 
 pub no_link_in_rules : (x : ℕ) (rs : List tree.Rule) → occurrences x (together (map rule rs)) ≡ 0
 no_link_in_rules x [] = refl
@@ -93,7 +93,7 @@ module _ (names : List tree.Name) (number : ℕ → tree.Rule) (x : ℕ) where
   inner_shown [] h = refl
   inner_shown (e ∷ ls) h =
       let behind = inner_leaves (map (λ e. e.0) ls) in
-      omega (arith, e.1 (all_left IsAtomLeaf (leaves_of e.0) behind h), inner_shown ls (all_right IsAtomLeaf (leaves_of e.0) behind h), places_both x (leaves_of e.0) behind)
+      omega (arith, e.1 (all_of_left IsAtomLeaf (leaves_of e.0) behind h), inner_shown ls (all_of_right IsAtomLeaf (leaves_of e.0) behind h), places_both x (leaves_of e.0) behind)
 
   pub top_places : (l : Level) → Shown l
   top_places = ind-Level Shown (λ y z is h.
@@ -103,8 +103,8 @@ module _ (names : List tree.Name) (number : ℕ → tree.Rule) (x : ℕ) where
       rw (fold-roll-Level tree.Level (level_step names number) y, split)
       (omega (
         arith,
-        leaves_alone names x y.leaves (all_left IsAtomLeaf y.leaves (inner_leaves y.membranes) here),
-        inside (all_right IsAtomLeaf y.leaves (inner_leaves y.membranes) here),
+        leaves_alone names x y.leaves (all_of_left IsAtomLeaf y.leaves (inner_leaves y.membranes) here),
+        inside (all_of_right IsAtomLeaf y.leaves (inner_leaves y.membranes) here),
         no_link_in_rules x (tree.rules_list (rules (map number y.rules))),
         places_both x y.leaves (inner_leaves y.membranes),
       )))

@@ -6,8 +6,7 @@ use Rattle.lmn_heap.specs.Heap as heap
 use Rattle.lmn_heap.specs.Heap.{Heap, HeapMem, top, within, waiting, gone, mem_place_of, atoms_in, atoms_by, mems_in, mems_by, rules_in, rules_by, IsMem, IsMemInPlace, Distinct, finished, mem_unless_gone}
 use Rattle.lmn_heap.specs.Sound.{Sound, flat, Valid, item_count_in, Forest, IsTree}
 use Rattle.lmn_heap.proofs.Depths.{both_distinct}
-use Rattle.lmn_heap.proofs.ListLemmas.{in_left, in_right}
-use Rattle.lmn_heap.proofs.Trees.{in_either}
+use Rattle.lmn_heap.proofs.ListLemmas.{in_left, in_right, in_withouts}
 use Rattle.lmn_heap.proofs.Trees as trees
 use Rattle.lmn_solid.specs.declared.items.HeadItem.{HeadItem}
 use Rattle.lmn_solid.specs.Heads.{HeadMembrane, atoms_of, membranes_of}
@@ -24,7 +23,7 @@ use Rattle.lmn_body.specs.Rules.{AtomRule, Goes, Exists, PartAtoms}
 use Rattle.lmn_body.specs.Fired.{images_of}
 use Rattle.lmn_body.specs.Within.{membrane_images, FiresWithin}
 use Rattle.lmn_body.proofs.Below.{removed_is}
-use Rattle.lmn_body.proofs.Committing.{in_withouts_of, in_withouts}
+use Rattle.lmn_body.proofs.Committing.{in_withouts_of}
 use Rattle.lmn_body.proofs.Finishing.{within_of}
 use Rattle.lmn_body.proofs.Firing.{ns_once, taken_in_place}
 use Rattle.lmn_body.proofs.Growing.{some_there}
@@ -37,7 +36,7 @@ use Rattle.lmn_cost.proofs.Totals.{total_is_sum, total_same, total_none, total_o
 use Rattle.lmn_cost.proofs.Sums.{making_adds, moved_once}
 use Rattle.lmn_base.specs.Graphs.{Port}
 use Rattle.lmn_heap.specs.Lists.{without_all}
-use Rattle.lmn_base.proofs.Lists.{weigh as total, weigh_append}
+use Rattle.lmn_base.proofs.Lists.{weigh as total, weigh_append, in_either}
 use Rattle.lmn_heap.proofs.Common.{decide_in}
 use Rattle.lmn_heap.proofs.Listing.{listed_mem as listed_some, distinct_without_all}
 use Rattle.lmn_base.specs.Lists.{In}

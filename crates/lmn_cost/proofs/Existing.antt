@@ -5,9 +5,9 @@ use Rattle.lmn_base.specs.declared.guard.Cond.{Cond}
 use Rattle.lmn_heap.specs.Heap.{Heap, HeapMem, top, within, place_of, mem_place_of, mems_in, atoms_in, rules_in, IsInPlace, Distinct, Place, home_of, without}
 use Rattle.lmn_heap.specs.Sound.{Forest, flat, IsTree, Valid, item_count_in}
 use Rattle.lmn_heap.proofs.Depths.{both_distinct}
-use Rattle.lmn_heap.proofs.ListLemmas.{in_left, in_right}
+use Rattle.lmn_heap.proofs.ListLemmas.{in_left, in_right, in_withouts}
 use Rattle.lmn_heap.proofs.Pigeonholes.{not_longer}
-use Rattle.lmn_heap.proofs.Trees.{in_either, root_first, is_mem}
+use Rattle.lmn_heap.proofs.Trees.{root_first, is_mem}
 use Rattle.lmn_solid.specs.declared.items.HeadItem.{HeadItem}
 use Rattle.lmn_solid.specs.Heads.{HeadTyped, atoms_of, typed_contexts_of, membranes_of}
 use Rattle.lmn_solid.specs.Embeddings.{Embeds, HasTyped}
@@ -24,7 +24,6 @@ use Rattle.lmn_body.specs.Rules.{AtomRule}
 use Rattle.lmn_body.specs.Running.{Registers}
 use Rattle.lmn_body.specs.Within.{membrane_images}
 use Rattle.lmn_body.proofs.Below.{removed_is}
-use Rattle.lmn_body.proofs.Committing.{in_withouts}
 use Rattle.lmn_body.proofs.Finishing.{within_of, in_place_listed}
 use Rattle.lmn_body.proofs.Firing.{distinct_images, heap_in_of, rising_below}
 use Rattle.lmn_body.proofs.HeadPorts.{of_map}
@@ -35,7 +34,7 @@ use Rattle.lmn_cost.proofs.Totals.{total_is_sum, total_part, total_three, total_
 use Rattle.lmn_cost.proofs.Codes.{code_adds, code_takes}
 use Rattle.lmn_cost.proofs.Finite.{part_listed}
 use Rattle.lmn_heap.specs.Lists.{without_all}
-use Rattle.lmn_base.proofs.Lists.{weigh as total, get_there as get_some}
+use Rattle.lmn_base.proofs.Lists.{weigh as total, get_there as get_some, in_either}
 use Rattle.lmn_base.proofs.Numbers.{below_zero_plus as below_plain}
 use Rattle.lmn_heap.proofs.Common.{place_home}
 use Rattle.lmn_heap.proofs.Listing.{listed_mem as listed_some}

@@ -3,7 +3,6 @@ use Rattle.std.proofs.Common.{ℕ, ◌+◌, ◌≡◌, ◌↔◌, true, List, []
 use Rattle.lmn_base.specs.declared.guard.Cond.{Cond}
 use Rattle.lmn_base.specs.declared.rule.RuleTree.{RuleTree}
 use Rattle.lmn_guards.specs.declared.plan.GuardPlan.{GuardPlan}
-use Rattle.lmn_heap.specs.Heap as heap
 use Rattle.lmn_heap.specs.Heap.{Heap, atoms_in, rules_in, IsMemInPlace, finished, taken_all}
 use Rattle.lmn_heap.specs.Sound.{Forest, flat, IsTree, Valid, item_count_in}
 use Rattle.lmn_heap.proofs.Trees.{root_first}

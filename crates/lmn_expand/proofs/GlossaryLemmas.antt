@@ -3,7 +3,7 @@ use Rattle.std.proofs.Common.{◌≡◌, ℕ, zero, suc, ◌+◌, ◌^◌, ◌<�
 use Rattle.std.specs.Prelude.{bytes_eq, Result, Ok, Err, IfOk, OnOk, OnErr, codes, slice_index_or}
 use Rattle.std.specs.List.{AllByRecursion, list_any}
 use Rattle.std.specs.Cmp.Lexicographic.{nat_list_eq_equiv}
-use Rattle.std.proofs.lemmas.List.{append_assoc, append-nil, length-append, take_all, take_more}
+use Rattle.std.proofs.lemmas.List.{append_assoc, append-nil, length-append, take_all, take_more, map_push}
 use Rattle.std.proofs.lemmas.Map.Views.{list_any-from_Contains, Contains-from_any}
 use Rattle.std.proofs.lemmas.Option.{same_Some, slice_get_within}
 use Rattle.std.proofs.lemmas.Result.{IfOk-weaker}
@@ -101,15 +101,11 @@ with_more : (names : List tree.Name) (ws : List Word) (w : Word) → with_words 
 with_more names [] w = refl
 with_more names (v ∷ ws) w = with_more (with_word names v) ws w
 
-map_more : {A B : Type 0} (f : A → B) (xs : List A) (x : A) → map f (xs ++ x ∷ []) ≡ map f xs ++ f x ∷ []
-map_more f [] x = refl
-map_more f (y ∷ xs) x = ap (λ l. f y ∷ l) (map_more f xs x)
-
 -- the names of one word more
 words_more : (text : List ℕ) (names0 names names' : List tree.Name) (i : ℕ) (tokens : List Token) (d t : Token) → i < length tokens → t ≡ get_or tokens i d
     → names ≡ with_words names0 (words_of text (take i tokens)) → names' ≡ with_word names (word_of text t) → names' ≡ with_words names0 (words_of text (take (i + 1) tokens))
 words_more text names0 names names' i tokens d t l at h k =
-    let whole = ap (words_of text) (take_more tokens i d l ∙ ap (λ z. take i tokens ++ z ∷ []) (sym at)) ∙ map_more (word_of text) (take i tokens) t in
+    let whole = ap (words_of text) (take_more tokens i d l ∙ ap (λ z. take i tokens ++ z ∷ []) (sym at)) ∙ map_push (word_of text) (take i tokens) t in
     k ∙ ap (λ ns. with_word ns (word_of text t)) h ∙ sym (with_more names0 (words_of text (take i tokens)) (word_of text t)) ∙ ap (with_words names0) (sym whole)
 
 -- three names and then those of the words

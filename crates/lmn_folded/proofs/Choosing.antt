@@ -6,8 +6,8 @@ use Rattle.lmn_congruence.specs.Orders.{Among, at_head, further}
 use Rattle.lmn_congruence.specs.Regions.{SolidAtom}
 use Rattle.lmn_folded.specs.Folding as folding
 use Rattle.lmn_folded.specs.Folding.{IsChild, Descends, itself}
-use Rattle.lmn_folded.proofs.Places.{AtMostTwice, one_parent, ends_in_one_way, not_nil}
-use Rattle.lmn_base.proofs.Lists.{get_below as within}
+use Rattle.lmn_folded.proofs.Places.{AtMostTwice, one_parent}
+use Rattle.lmn_base.proofs.Lists.{get_below as within, ends_in_one_way, never_nil}
 use Rattle.lmn_base.proofs.Numbers.{below_next, same_or_not as same_or_apart, less_decided}
 use Rattle.lmn_base.proofs.Truth.{Decided}
 
@@ -130,7 +130,7 @@ module _ (atoms : List SolidAtom) where
       ended : (a b : SolidAtom) → slice_get atoms q ≡ Some a → slice_get atoms p ≡ Some b → ((ys : List ℕ) × (y : ℕ) × (a.links ≡ ys ++ y ∷ [])) ⊎ (a.links ≡ []) → Decided (IsChild atoms q p k)
       ended a b e f (inl h) = joined a b h.0 h.1 e f h.2
       ended a b e f (inr n) =
-          inr (λ c. not_nil c.first_links c.last_link (sym n ∙ ap (λ (d : SolidAtom). d.links) (same_Some a c.child (sym e ∙ c.child_at)) ∙ c.links))
+          inr (λ c. never_nil c.first_links c.last_link (sym n ∙ ap (λ (d : SolidAtom). d.links) (same_Some a c.child (sym e ∙ c.child_at)) ∙ c.links))
 
       go : ((a : SolidAtom) × (slice_get atoms q ≡ Some a)) ⊎ (slice_get atoms q ≡ None) → ((b : SolidAtom) × (slice_get atoms p ≡ Some b)) ⊎ (slice_get atoms p ≡ None) → Decided (IsChild atoms q p k)
       go (inl a) (inl b) = ended a.0 b.0 a.1 b.1 (last_of a.0.links)

@@ -7,7 +7,7 @@ use Rattle.lmn_congruence.specs.Links.{one_if_same, places}
 use Rattle.lmn_congruence.specs.Orders.{Among, at_head, further}
 use Rattle.lmn_congruence.specs.Process.{Process, nothing, connector, atom, pair, membrane, rule, occurrences, Closed, Fresh, Local}
 use Rattle.lmn_congruence.specs.Regions.{Region, region_process}
-use Rattle.lmn_congruence.proofs.Counts.{none_if_apart, one_if_equal, below_or_from}
+use Rattle.lmn_congruence.proofs.Counts.{none_if_apart, one_if_equal}
 use Rattle.lmn_folded.specs.Terms.{Folded, folded_links, renamed_folded}
 use Rattle.lmn_folded.specs.Lines.{IsFoldedLine}
 use Rattle.lmn_folded.specs.Words.{line_of_folded}
@@ -16,7 +16,7 @@ use Rattle.lmn_folded.proofs.OneFolded.{FewIn}
 use Rattle.lmn_folded.proofs.Computed.{folded_of, computed}
 use Rattle.lmn_folded.proofs.FoldedLines.{one_folded_line}
 use Rattle.lmn_base.proofs.Lists.{head_is as first_byte}
-use Rattle.lmn_base.proofs.Numbers.{below_next, same_or_not as same_or_apart}
+use Rattle.lmn_base.proofs.Numbers.{below_next, same_or_not as same_or_apart, below_or_from}
 
 -- Each link is below a number, and each number below it stands at most twice.
 

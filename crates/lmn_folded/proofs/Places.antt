@@ -7,7 +7,7 @@ use Rattle.lmn_congruence.specs.Process.{occurrences, together}
 use Rattle.lmn_congruence.specs.Regions.{SolidAtom, atom_process}
 use Rattle.lmn_congruence.proofs.Counts.{one_if_equal, none_if_apart}
 use Rattle.lmn_folded.specs.Folding.{IsChild}
-use Rattle.lmn_base.proofs.Lists.{head_is as cons_first, tail_is as cons_last}
+use Rattle.lmn_base.proofs.Lists.{ends_in_one_way}
 use Rattle.lmn_base.proofs.Numbers.{same_or_not as same_or_apart}
 
 -- how often a link stands at atoms
@@ -129,22 +129,6 @@ one_child atoms q r p k few c d = go (same_or_apart q r)
     go (inr n) =
         let same = one_link (parent_place d) (parent_place c) in
         absurd (three_places atoms c.last_link q _ r _ p k few (last_place c) (place_of same (last_place d)) (parent_place c) (inl n) (inl c.other) (inl d.other))
-
-both : (x y : ℕ) (xs ys : List ℕ) → x ≡ y → xs ≡ ys → x ∷ xs ≡ y ∷ ys
-both x y xs ys e f = cc
-
-pub not_nil : (xs : List ℕ) (x : ℕ) → [] ≡ xs ++ x ∷ [] → ⊥
-not_nil [] x e = cc
-not_nil (y ∷ xs) x e = cc
-
--- a list ends in one way
-pub ends_in_one_way : (xs ys : List ℕ) (x y : ℕ) → xs ++ x ∷ [] ≡ ys ++ y ∷ [] → (xs ≡ ys) × (x ≡ y)
-ends_in_one_way [] [] x y e = (refl, cons_first e)
-ends_in_one_way [] (z ∷ ys) x y e = absurd (not_nil ys y (cons_last e))
-ends_in_one_way (z ∷ xs) [] x y e = absurd (not_nil xs x (sym (cons_last e)))
-ends_in_one_way (z ∷ xs) (w ∷ ys) x y e =
-    let more = ends_in_one_way xs ys x y (cons_last e) in
-    (both z w xs ys (cons_first e) more.0, more.1)
 
 -- an atom is one, with its links but the last and its last link
 pub one_atom : {atoms : List SolidAtom} {q p r k j : ℕ} (c : IsChild atoms q p k) (d : IsChild atoms q r j) → c.child ≡ d.child

@@ -1,5 +1,5 @@
 -- What other marks, own marks too, change of a heap, and that all are set to 0, atom by atom.
-use Rattle.std.proofs.Common.{◌≡◌, ℕ, zero, suc, ◌+◌, ◌^◌, ◌<◌, ◌≤◌, ◌⊎◌, inl, inr, List, [], ◌∷◌, ◌++◌, length, Option, Some, None, IsSome, IfSome, refl, sym, ap, ◌∙◌, subst, arith}
+use Rattle.std.proofs.Common.{◌≡◌, ℕ, ◌+◌, ◌^◌, ◌<◌, ◌⊎◌, inl, inr, List, [], ◌∷◌, ◌++◌, length, Option, Some, None, IsSome, IfSome, refl, sym, ap, ◌∙◌, subst, arith}
 use Rattle.std.proofs.lemmas.Bool.{cases_eq}
 use Rattle.std.specs.Option.{option_map}
 use Rattle.std.specs.Prelude.{slice_index_or}
@@ -14,9 +14,10 @@ use Rattle.lmn_printer.specs.Numbers.{printed_atoms, remarked, with_marks}
 use Rattle.lmn_printer.proofs.MarkLemmas.{remarked_same, remarked_twice, mark_zero, mark_off, marks_length}
 use Rattle.lmn_printer.proofs.OrderLemmas.{printed_all, tree_there}
 use Rattle.lmn_printer.proofs.StoredLemmas.{atoms_fewer}
-use Rattle.lmn_congruence.proofs.Counts.{below_or_from as below_or}
 use Rattle.lmn_heap.proofs.Common.{same_atoms}
 use Rattle.lmn_base.specs.Lists.{In}
+use Rattle.std.proofs.lemmas.List.{get_or_past}
+use Rattle.lmn_base.proofs.Numbers.{below_or_from}
 
 -- t is s with other marks
 abbrev pub OtherMarks : Heap → Heap → Type 0
@@ -110,16 +111,11 @@ cleared_more s t u a n c e = subst (λ (h : Heap). ClearedTo s h a (n + 1)) (sym
   ];
 })
 
-none_behind : (xs : List ℕ) (i : ℕ) → length xs ≤ i → slice_index_or xs i 0 ≡ 0
-none_behind [] i l = refl
-none_behind (x ∷ xs) zero l = absurd (omega (arith, l))
-none_behind (x ∷ xs) (suc i) l = none_behind xs i (omega (arith, l))
-
 -- all of them are
 pub cleared_all : (s t : Heap) → Sound s → (a n : ℕ) → IsAtom s a → arity_of s a < n → ClearedTo s t a n → (i : ℕ) → mark_of t a i ≡ 0
-cleared_all s t sound a n there low c i = elim (below_or i (length (marks_of (t.atoms a)))) [
+cleared_all s t sound a n there low c i = elim (below_or_from i (length (marks_of (t.atoms a)))) [
   | inl l ↦ (let long = c.long a in let shape = sound.shaped.marks a there in c.here i (omega (arith, l, long, shape, low)))
-  | inr l ↦ none_behind (marks_of (t.atoms a)) i l
+  | inr l ↦ get_or_past (marks_of (t.atoms a)) i 0 l
 ]
 
 -- All marks are 0 but those of atoms that are still to come.

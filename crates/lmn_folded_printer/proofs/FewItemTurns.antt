@@ -6,12 +6,12 @@ use Rattle.lmn_heap.specs.Sound.{Paired, AtMost}
 use Rattle.lmn_heap.proofs.Depths.{both_distinct}
 use Rattle.lmn_heap.proofs.ListLemmas.{each_in}
 use Rattle.lmn_heap.proofs.Pigeonholes.{not_longer}
-use Rattle.lmn_heap.proofs.Trees.{in_either}
 use Rattle.lmn_folding.specs.Marks.{argument_count, Event, meets_link, meets_term, leaves, WalkMeets, link, term, end_of_term, end_of_item, turns}
 use Rattle.lmn_folding.proofs.FewTurns.{entered, left, counted, entered_once, left_once, entered_there, left_there}
 use Rattle.lmn_folding.proofs.WalkLemmas.{one_walk}
 use Rattle.lmn_folded_printer.specs.Walked.{ItemsWalked, none, more}
 use Rattle.lmn_base.specs.Lists.{In}
+use Rattle.lmn_base.proofs.Lists.{in_either}
 
 -- the atom that is left last
 abbrev ended : ℕ → List Event → ℕ

@@ -10,7 +10,7 @@ use Rattle.lmn_folded.specs.Words.{item_pieces, folded_pieces, membranes_pieces,
 use Rattle.lmn_heap.specs.Heap.{Heap, IsMem, mems_in, rules_in}
 use Rattle.lmn_heap.specs.Sound.{Forest, mem, flat, Forms, IsTree, Valid}
 use Rattle.lmn_heap.proofs.ListLemmas.{in_left, in_right}
-use Rattle.lmn_heap.proofs.Trees.{in_either, is_mem}
+use Rattle.lmn_heap.proofs.Trees.{is_mem}
 use Rattle.lmn_items.specs.Chosen.{PrintsItems, items_in}
 use Rattle.lmn_plain.specs.Words.{text_of, with_commas, rule_pieces, rules_pieces}
 use Rattle.lmn_printer.specs.Rows.{in_row, any_behind, between_if}
@@ -26,6 +26,7 @@ use Rattle.lmn_folded_printer.proofs.OneText.{one_row}
 use Rattle.lmn_plain.proofs.LaidLines.{text_append}
 use Rattle.lmn_heap.proofs.Common.{decide_in as in_or_not}
 use Rattle.lmn_base.specs.Lists.{In}
+use Rattle.lmn_base.proofs.Lists.{in_either}
 
 module _ (names : List Name) (table : List RuleTree) (s : Heap) where
   abbrev pub Shown : Forest → FoldedMembranes → Type 0

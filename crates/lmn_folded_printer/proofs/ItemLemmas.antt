@@ -5,11 +5,12 @@ use Rattle.std.specs.Option.{option_map}
 use Rattle.std.proofs.lemmas.Bool.{eq-eqb, eqb-true}
 use Rattle.lmn_heap.specs.Heap.{Heap, atoms_in, own_mark}
 use Rattle.lmn_heap.specs.Lists.{after, from}
-use Rattle.lmn_heap.proofs.Trees.{in_either, next_in}
+use Rattle.lmn_heap.proofs.Trees.{next_in}
 use Rattle.lmn_folding.specs.Marks.{is_item}
 use Rattle.lmn_items.specs.Chosen.{marked_in, items_in}
 use Rattle.lmn_items.proofs.Told.{item_mark as item_by, mark_item as item_cases}
 use Rattle.lmn_base.specs.Lists.{In}
+use Rattle.lmn_base.proofs.Lists.{in_either}
 
 -- Lists that are filtered.
 module _ (p : ℕ → Bool) where

@@ -7,11 +7,11 @@ use Rattle.lmn_heap.specs.Lists.{Distinct}
 use Rattle.lmn_heap.specs.Sound.{Sound}
 use Rattle.lmn_heap.proofs.Depths.{both_distinct}
 use Rattle.lmn_heap.proofs.ListLemmas.{each_in, each_of}
-use Rattle.lmn_heap.proofs.Trees.{in_either}
 use Rattle.lmn_items.specs.Chosen.{marked_in, items_in}
 use Rattle.lmn_folded_printer.specs.Walked.{printed_items}
 use Rattle.lmn_folded_printer.proofs.ItemLemmas.{filter_in}
 use Rattle.lmn_base.specs.Lists.{In}
+use Rattle.lmn_base.proofs.Lists.{in_either}
 
 filter_part : (p : ℕ → Bool) (a : ℕ) (xs : List ℕ) → In a (filter p xs) → In a xs
 filter_part p a [] i = i

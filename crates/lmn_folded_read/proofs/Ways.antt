@@ -3,9 +3,9 @@ use Rattle.std.proofs.Common.{◌≡◌, ℕ, ◌⊎◌, inl, inr, List, [], ◌
 use Rattle.std.proofs.lemmas.List.{append_assoc}
 use Rattle.lmn_congruence.specs.Orders.{Among, at_head, further, EachOnce}
 use Rattle.lmn_plain.specs.Links.{Link, made}
-use Rattle.lmn_folded_read.proofs.Lists.{all_different, longer}
+use Rattle.lmn_folded_read.proofs.Lists.{all_different}
 use Rattle.lmn_congruence.proofs.Common.{among_apart}
-use Rattle.lmn_base.proofs.Lists.{same_step}
+use Rattle.lmn_base.proofs.Lists.{same_step, not_behind_itself}
 
 abbrev pub Under : List ℕ → Link → Type 0
 Under way a = (v : List ℕ) × (a ≡ made (v ++ way))
@@ -39,7 +39,7 @@ pub deeper : {c : ℕ} {way : List ℕ} {ms : List Link} → Names (c ∷ way) m
 deeper {c} h = record { inside = λ a i. let g = h.under a i in (g.0, c, g.1); different = h.different }
 
 pub own : {way : List ℕ} {ms : List Link} → Inner way ms → Names way (made way ∷ ms)
-own {way} {ms} h = record { under = under; different = (λ i. let g = h.inside (made way) i in longer g.0 g.1 way (made_same _ _ g.2), h.different) }
+own {way} {ms} h = record { under = under; different = (λ i. let g = h.inside (made way) i in not_behind_itself g.0 g.1 way (made_same _ _ g.2), h.different) }
   where
     under : (a : Link) → Among a (made way ∷ ms) → Under way a
     under a at_head = ([], refl)

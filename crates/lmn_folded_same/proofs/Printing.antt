@@ -9,9 +9,9 @@ use Rattle.lmn_folded.specs.Folding.{IsChild, Descends, itself, NoChildren, Furt
 use Rattle.lmn_folded.proofs.Places.{AtMostTwice, one_child, one_parent, one_link, last_place, parent_place, three_places, Place}
 use Rattle.lmn_folded.proofs.Choosing.{among}
 use Rattle.lmn_folded.proofs.SomeFolded.{Path, start, below, new_one, kept_below}
-use Rattle.lmn_folded_read.proofs.Lists.{all_different, longer}
+use Rattle.lmn_folded_read.proofs.Lists.{all_different}
 use Rattle.lmn_folded_same.proofs.Once.{range_once}
-use Rattle.lmn_base.proofs.Lists.{get_below as within, same_step}
+use Rattle.lmn_base.proofs.Lists.{get_below as within, same_step, not_behind_itself}
 use Rattle.lmn_base.proofs.Numbers.{same_or_not as same_or_apart}
 use Rattle.lmn_congruence.proofs.Common.{among_apart, among_left, among_right}
 use Rattle.lmn_base.proofs.Truth.{Decided}
@@ -113,7 +113,7 @@ module _ (atoms : List SolidAtom) (few : AtMostTwice atoms) (items : List ℕ) w
         not_below a =
             let r = reach_all s (down path ch n) c a in
             let it = r.2 in
-            longer it.ahead it.top (c ∷ p ∷ above) (ap (λ xs. c ∷ xs) (path_same (down path ch n) it.path) ∙ it.is)
+            not_behind_itself it.ahead it.top (c ∷ p ∷ above) (ap (λ xs. c ∷ xs) (path_same (down path ch n) it.path) ∙ it.is)
 
     once_all : {p k : ℕ} {xs : List ℕ} {ts : FoldedTerms} {above : List ℕ} → (s : ShowsAll atoms items p k xs ts) → Path atoms items p above → EachOnce (all_order s)
     once_all folding.none path = tt

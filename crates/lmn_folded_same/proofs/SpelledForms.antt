@@ -16,7 +16,6 @@ use Rattle.lmn_folded.proofs.Numbering.{renamed_links}
 use Rattle.lmn_folded_read.specs.Spelled.{TermSpelled, TermsSpelled, ItemSpelled, FoldedSpelled, MembranesSpelled}
 use Rattle.lmn_folded_same.specs.Whole.{TermWhole, link_whole, atom_whole, TermsWhole, none_whole, more_whole, ItemsWhole, no_items, items_whole, FoldedWhole, folded_whole, MembranesWhole, no_membranes, membranes_whole}
 use Rattle.lmn_folded_same.proofs.WholeForms.{folded_forms_are_whole}
-use Rattle.lmn_folded_read.proofs.Lists.{among_image}
 use Rattle.lmn_folded_same.proofs.Kept.{Everywhere, EverywhereIn, kept}
 use Rattle.lmn_folded_same.proofs.SameLines.{Small, folded_small}
 use Rattle.lmn_congruence.specs.Translation.{rules}
@@ -24,7 +23,7 @@ use Rattle.lmn_base.proofs.Common.{numbers_grow}
 use Rattle.lmn_base.proofs.Lists.{all_left as all_front, all_right as all_back}
 use Rattle.lmn_base.proofs.Numbers.{not_equal as test_apart, same_or_not as same_or_apart}
 use Rattle.lmn_folded_same.proofs.Naming.{equal_true as test_same}
-use Rattle.lmn_congruence.proofs.Common.{among_left, among_right, among_map}
+use Rattle.lmn_congruence.proofs.Common.{among_left, among_right, among_map, among_image}
 
 -- The atoms and rules of such a region.
 

@@ -32,10 +32,11 @@ use Rattle.lmn_plain.specs.Spelled.{LeafSpelled, LevelSpelled, LevelsSpelled, Sp
 use Rattle.lmn_plain.proofs.HeldLabels.{atom_back}
 use Rattle.lmn_plain.proofs.NumberedLevels.{all_leaves, leaves_below, leaves_numbered}
 use Rattle.lmn_plain.proofs.ReadBack.{level_back}
-use Rattle.lmn_plain.proofs.WellMadePlains.{all_at, NoContext, plain_well_made}
+use Rattle.lmn_plain.proofs.WellMadePlains.{NoContext, plain_well_made}
 use Rattle.lmn_folded_same.specs.Numbered.{AtomNumbered, RegionNumbered, RegionsNumbered}
 use Rattle.lmn_folded_same.proofs.Kept.{Everywhere, EverywhereIn}
 use Rattle.lmn_base.proofs.Lists.{all_append}
+use Rattle.std.proofs.lemmas.List.Elements.{All-from_recursion}
 
 module _ (names : List tree.Name) where
   -- What is asked of each atom and of each rule.
@@ -216,7 +217,7 @@ module _ (names : List tree.Name) where
     none_outside T a h =
         let P : List base_leaf.Leaf → Type 0 = All IsAtomLeaf in
         record {
-          only_atoms = subst P (sym (leaves_numbered names f a)) (all_at IsAtomLeaf (map (numbered_leaf names f) (all_leaves a)) (all_atoms T a h));
+          only_atoms = subst P (sym (leaves_numbered names f a)) (All-from_recursion IsAtomLeaf (map (numbered_leaf names f) (all_leaves a)) (all_atoms T a h));
           no_context = no_contexts T a h;
           no_rule_context = no_rule_contexts T a h;
         }

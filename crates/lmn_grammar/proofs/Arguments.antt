@@ -1,6 +1,5 @@
 -- What a derived word is to the counts, and how many brackets, operators and arguments there may be.
-use Rattle.std.proofs.Common.{◌≡◌, ℕ, zero, suc, ◌+◌, ◌≤◌, ◌<◌, Bool, true, false, ◌&&◌, ◌||◌, List, [], ◌∷◌, ◌++◌, refl, sym, ◌∙◌, ap, arith, subst, inl, inr, append_assoc}
-use Rattle.std.proofs.lemmas.Bool.{cases_lt}
+use Rattle.std.proofs.Common.{◌≡◌, ℕ, zero, suc, ◌+◌, ◌≤◌, Bool, true, false, ◌&&◌, ◌||◌, List, [], ◌∷◌, ◌++◌, refl, sym, ◌∙◌, ap, arith, subst, inl, inr, append_assoc}
 use Rattle.lmn_grammar.specs.Grammar.{Exp, Tok, Seq, Alt, Opt, Many, Within, Ref, Bracket, Round, Square, Curly, opener, closer, Part, TermPart, SumPart, ClausePart, ClausesPart, part_expression, Derives, here, both, left, right, without, with, no_more, one_more, inside, by}
 use Rattle.lmn_grammar.specs.Limits.{is_opener, is_closer, is_comma, Balanced, empty, comma, other, closed, Open, Side, operand, operator, begun, of_any, of_term}
 use Rattle.lmn_grammar.specs.Limits as limits
@@ -12,6 +11,7 @@ use Rattle.lmn_grammar.proofs.Counts.{balanced_both}
 use Rattle.lmn_grammar.proofs.Scans.{within_front}
 use Rattle.lmn_grammar.proofs.Theory.{empty_right}
 use Rattle.lmn_base.proofs.Truth.{and_true, false_not_true as clash}
+use Rattle.lmn_base.proofs.Numbers.{at_most_by_not}
 
 -- no bracket stands alone in a word
 abbrev paired : Exp → Bool
@@ -157,9 +157,6 @@ last_term (suc n) w (u, v, e, d, more) =
       balanced = subst P (omega arith) (balanced_both (balanced_word (Ref TermPart) u d refl) (comma t.balanced));
     }
 
-pub not_beyond : (n m : ℕ) → ¬ (m < n) → n ≤ m
-not_beyond n m h = elim (cases_lt m n) [ inl lt ↦ absurd (h lt) | inr le ↦ le ]
-
 pub arguments_within : ArgumentsWithin
 arguments_within before arguments behind word n h d w =
     let t = last_term n arguments d in
@@ -169,5 +166,5 @@ arguments_within before arguments behind word n h d w =
     ∙ sym (append_assoc before (word ∷ LParen ∷ t.front) (t.first ∷ (t.behind ++ behind))) in
     let none = (w list t.first (t.behind ++ behind) split).1 in
     let is_in = begun word h t.balanced in
-    let any : suc n ≤ 255 = not_beyond (suc n) 255 (λ lt. none (of_any is_in lt)) in
-    (omega (arith, any), λ next. let term : suc n ≤ 254 = not_beyond (suc n) 254 (λ lt. none (of_term is_in next lt)) in omega (arith, term))
+    let any : suc n ≤ 255 = at_most_by_not (suc n) 255 (λ lt. none (of_any is_in lt)) in
+    (omega (arith, any), λ next. let term : suc n ≤ 254 = at_most_by_not (suc n) 254 (λ lt. none (of_term is_in next lt)) in omega (arith, term))

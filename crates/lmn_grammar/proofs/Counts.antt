@@ -6,8 +6,9 @@ use Rattle.lmn_lexer.specs.declared.token.Kind.{Kind}
 use Rattle.lmn_lexer.specs.declared.token.Kind.TheVariants.{Name, Quoted, Mod, Int, LParen, RParen, LBracket, RBracket, LBrace, RBrace, Comma, Equal}
 use Rattle.lmn_base.proofs.Lists.{plus_nothing}
 use Rattle.lmn_base.proofs.Numbers.{test_at_most as at_most}
-use Rattle.lmn_base.proofs.Truth.{and_true, and_true2 as both_true, either_true as or_true, false_not_true as clash, or_true as or_right}
+use Rattle.lmn_base.proofs.Truth.{and_true, either_true as or_true, false_not_true as clash}
 use Rattle.lmn_grammar.proofs.Theory.{cons_same}
+use Rattle.std.proofs.lemmas.Bool.{and_from, or_right, or_left}
 
 pub scan_append : (s : Scan) (u v : List Kind) → scan_from s (u ++ v) ≡ scan_from (scan_from s u) v
 scan_append s [] v = refl
@@ -70,7 +71,7 @@ pub scan_operator : (u : List Kind) (k : Kind) → is_operator (scan u) k ≡ tr
 scan_operator u k h = let p = and_true (may_be_operator k) (was_operand (scan u).last) h in (p.0, scan_operand u p.1)
 
 pub operator_scan : (u : List Kind) (k : Kind) → IsOperator u k → is_operator (scan u) k ≡ true
-operator_scan u k h = both_true (may_be_operator k) (was_operand (scan u).last) h.0 (operand_scan u h.1)
+operator_scan u k h = and_from (may_be_operator k) (was_operand (scan u).last) h.0 (operand_scan u h.1)
 
 -- Sides.
 side_step : (n m : ℕ) (is_one goes : Bool) → n ≤ m → goes ≡ true → n ≤ (if is_one then m + 1 else if goes then m else 0)
@@ -503,10 +504,6 @@ is_lower n m h = grind arith
 is_at_most : (n m : ℕ) → nat_le n m ≡ true → n ≤ m
 is_at_most n m h = grind arith
 
-or_left : (a b : Bool) → a ≡ true → (a || b) ≡ true
-or_left true b h = refl
-or_left false b h = absurd (clash h)
-
 abbrev many : List Kind → Kind → Bool
 many u k = has_too_many (scan u).opened || (is_equal k && is_full (scan u).last)
 
@@ -563,10 +560,10 @@ scan_many u k h = elim (or_true (has_too_many (scan u).opened) (is_equal k && is
 pub deep_scan : (u : List Kind) (k : Kind) → TooDeep u k → is_too_deep (scan u) k ≡ true
 deep_scan u k (inl (h, o)) =
     or_left (is_opener k && nat_le 200 (length (scan u).opened)) (is_operator (scan u) k && nat_le 255 (scan u).operators)
-    (both_true (is_opener k) (nat_le 200 (length (scan u).opened)) h (at_most 200 (length (scan u).opened) (open_scan o)))
+    (and_from (is_opener k) (nat_le 200 (length (scan u).opened)) h (at_most 200 (length (scan u).opened) (open_scan o)))
 deep_scan u k (inr (h, d)) =
     or_right (is_opener k && nat_le 200 (length (scan u).opened)) (is_operator (scan u) k && nat_le 255 (scan u).operators)
-    (both_true (is_operator (scan u) k) (nat_le 255 (scan u).operators) (operator_scan u k h) (at_most 255 (scan u).operators (side_scan d)))
+    (and_from (is_operator (scan u) k) (nat_le 255 (scan u).operators) (operator_scan u k h) (at_most 255 (scan u).operators (side_scan d)))
 
 pub scan_deep : (u : List Kind) (k : Kind) → is_too_deep (scan u) k ≡ true → TooDeep u k
 scan_deep u k h = elim (or_true (is_opener k && nat_le 200 (length (scan u).opened)) (is_operator (scan u) k && nat_le 255 (scan u).operators) h) [

@@ -1,11 +1,11 @@
 -- What reading owes after a token is what completes the tokens read.
 use Rattle.std.proofs.Common.{◌≡◌, ℕ, zero, suc, Bool, true, false, List, [], ◌∷◌, ◌++◌, refl, sym, ◌∙◌, ap, subst, ◌⊎◌, inl, inr, append_assoc, ◌&&◌, ◌||◌, if◌then◌else◌, get_or}
-use Rattle.std.proofs.lemmas.Bool.{eqb-true, eq-eqb}
+use Rattle.std.proofs.lemmas.Bool.{eqb-true, eq-eqb, and_from, or_right}
 use Rattle.lmn_grammar.specs.Grammar.{Exp, Tok, Seq, Alt, Opt, Many, Within, Ref, Bracket, opener, closer, Part, TermPart, SumPart, ClausePart, ClausesPart, part_expression, Derives, here, both, left, right, without, with, no_more, one_more, inside, by}
 use Rattle.lmn_grammar.specs.Reading.{Owed, kind_number, is_kind, owed_after, next, nexts, may_be_empty, empty_part}
 use Rattle.lmn_lexer.specs.declared.token.Kind.{Kind}
 use Rattle.lmn_lexer.specs.declared.token.Kind.TheVariants.{Name, Quoted, Mod, Link, Int, Context, RuleCtx, End, LParen, RParen, LBracket, RBracket, LBrace, RBrace, Comma, Dot, Arrow, AtAt, Bar, Backslash, Equal, Less, LessEq, Greater, GreaterEq, NumEq, NumNe, Differ, Plus, Minus, Star, Slash}
-use Rattle.lmn_base.proofs.Truth.{and_true, and_true2 as true_and, either_true as or_true, or_true as true_or}
+use Rattle.lmn_base.proofs.Truth.{and_true, either_true as or_true}
 
 pub cons_same : (a b : Kind) (x y : List Kind) → a ∷ x ≡ b ∷ y → (a ≡ b) × (x ≡ y)
 cons_same a b x y h = (cc, cc)
@@ -158,8 +158,8 @@ optional_true false b h g = cc
 
 all_fit : (e : Exp) → fits 3 e ≡ true
 all_fit (Tok k) = refl
-all_fit (Seq a b) = true_and (fits 3 a) _ (all_fit a) (true_optional (may_be_empty a) (fits 3 b) (all_fit b))
-all_fit (Alt a b) = true_and (fits 3 a) (fits 3 b) (all_fit a) (all_fit b)
+all_fit (Seq a b) = and_from (fits 3 a) _ (all_fit a) (true_optional (may_be_empty a) (fits 3 b) (all_fit b))
+all_fit (Alt a b) = and_from (fits 3 a) (fits 3 b) (all_fit a) (all_fit b)
 all_fit (Opt a) = all_fit a
 all_fit (Many a) = all_fit a
 all_fit (Within b a) = refl
@@ -184,9 +184,9 @@ part_empty ClausesPart = refl
 
 pub empty_right : (e : Exp) (u : List Kind) → Derives e u → u ≡ [] → may_be_empty e ≡ true
 empty_right _ _ (here k) h = cc
-empty_right _ _ (both a b u v w e da db) h = true_and (may_be_empty a) (may_be_empty b) (empty_right a u da (append_nil_left u v (sym e ∙ h))) (empty_right b v db (append_nil_right u v (sym e ∙ h)))
+empty_right _ _ (both a b u v w e da db) h = and_from (may_be_empty a) (may_be_empty b) (empty_right a u da (append_nil_left u v (sym e ∙ h))) (empty_right b v db (append_nil_right u v (sym e ∙ h)))
 empty_right _ _ (left a b w d) h = ap (λ x. x || may_be_empty b) (empty_right a w d h)
-empty_right _ _ (right a b w d) h = true_or (may_be_empty a) (may_be_empty b) (empty_right b w d h)
+empty_right _ _ (right a b w d) h = or_right (may_be_empty a) (may_be_empty b) (empty_right b w d h)
 empty_right _ _ (without a) h = refl
 empty_right _ _ (with a w d) h = refl
 empty_right _ _ (no_more a) h = refl

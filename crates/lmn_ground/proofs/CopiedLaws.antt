@@ -18,7 +18,6 @@ use Rattle.lmn_parts.proofs.WalkLaws.{holds_left, holds_right, holds_port}
 use Rattle.lmn_ground.proofs.PaintLaws.{net_painted, is_painted}
 use Rattle.lmn_ground.proofs.SpreadLaws.{part_reached}
 use Rattle.lmn_ground.proofs.GroundLaws.{part_atoms}
-use Rattle.lmn_ground.proofs.EqualLaws.{same_pair}
 use Rattle.lmn_parts.proofs.AnswerLaws.{map_answer, answer_here, answer_in, answer_one, answer_onto}
 use Rattle.lmn_ground.proofs.NumberLaws.{begins, numbered_same}
 use Rattle.lmn_ground.proofs.FollowLaws.{walked}
@@ -26,7 +25,7 @@ use Rattle.lmn_ground.proofs.JoinLaws.{like_by, all_view, all_marks, all_copying
 use Rattle.lmn_ground.proofs.CopyLaws.{length_map, made_away, made_new, made_at, is_not, has_functor, as_there, as_new}
 use Rattle.lmn_ground.proofs.PaintedLaws.{all_painted, ports_painted, made_painted, unmarked_painted}
 use Rattle.lmn_parts.specs.Walks.{port_range, IsPartInDepth, HasPort, Net, net}
-use Rattle.lmn_heap.proofs.Common.{decide_in as in_or_not, no_links, no_port}
+use Rattle.lmn_heap.proofs.Common.{decide_in as in_or_not, no_links, no_port, same_port}
 use Rattle.lmn_heap.proofs.Replacing.{port_within as link_inside}
 use Rattle.lmn_base.specs.Lists.{In}
 
@@ -248,7 +247,7 @@ module _ (s : Heap) (root : ℕ × ℕ) (xs ys : List ℕ) (sound : Sound s) (fu
       by None g is h d = let is' = subst (λ (o : Option (ℕ × ℕ)). IsSome o) g is in absurd (cc)
       by (Some p) g is h d =
           let h' : ◌≡◌ {A = Option (ℕ × ℕ)} (Some (answer xs ys p.0, p.1)) (Some q) = sym (ap (option_map (moved (answer xs ys))) g) ∙ h in
-          let m = same_pair (answer xs ys p.0) q.0 p.1 q.1 h' in
+          let m = same_port h' in
           (p, sym (link_t a i k) ∙ g, (end_copying.closed a i p.0 p.1 k d g).0, λ z. (m.0 z, m.1 z))
 
   back : (a b i j : ℕ) → In a xs → In b xs → link_of t (answer xs ys a) i ≡ Some (answer xs ys b, j) → link_of s a i ≡ Some (b, j)

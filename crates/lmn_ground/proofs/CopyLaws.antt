@@ -14,12 +14,12 @@ use Rattle.lmn_ground.specs.Copies.{unmarked_all, Made, Copying}
 use Rattle.lmn_parts.specs.Copies.{made_as, made_like, joined_like, all_joined, ports_of, AreNew, AllAtoms, answer}
 use Rattle.lmn_parts.proofs.AnswerLaws.{answer_here, answer_on}
 use Rattle.lmn_ground.proofs.NumberLaws.{numbered_low, rest_in}
-use Rattle.lmn_parts.proofs.WalkLaws.{in_snoc}
 use Rattle.lmn_ground.proofs.JoinLaws.{like_some, like_copying, like_numbers, like_arity, all_append, all_copying, all_numbers, all_arity, ports_in, copies_differ}
 use Rattle.lmn_ground.proofs.SoughtLaws.{same_port}
 use Rattle.lmn_parts.specs.Walks.{port_range, is_port}
 use Rattle.lmn_heap.proofs.Common.{in_at}
 use Rattle.lmn_base.specs.Lists.{In}
+use Rattle.lmn_base.proofs.Lists.{in_snoc}
 
 -- lists
 

@@ -7,10 +7,11 @@ use Rattle.lmn_heap.specs.Sound.{Sound}
 use Rattle.lmn_heap.specs.Graphs.{atom_map}
 use Rattle.lmn_parts.specs.Copies.{moved, answer}
 use Rattle.lmn_ground.specs.Spread.{AreAtoms, IsWhole}
-use Rattle.lmn_parts.proofs.WalkLaws.{in_snoc}
 use Rattle.lmn_parts.proofs.AnswerLaws.{answer_in, answer_one, answer_onto}
 use Rattle.lmn_parts.specs.Walks.{port_range, Walk, ends, passes, finds, HasPort}
 use Rattle.lmn_base.specs.Lists.{In}
+use Rattle.lmn_base.proofs.Lists.{in_snoc}
+use Rattle.lmn_heap.proofs.Common.{same_port}
 
 -- A map that is one to one on what is reached, and keeps ports and ends, carries one walk to another.
 module _ (arity arity' : ℕ → ℕ) (to to' : ℕ × ℕ → Option ℕ) (f : ℕ → ℕ) (R : ℕ → Type 0)
@@ -72,9 +73,6 @@ same_or_not p q = elim (cases_eq p.0 q.0) [
   | inr d ↦ inr (λ g. d (ap (λ (r : ℕ × ℕ). r.0) g))
 ]
 
-pub same_pair : (a b i j : ℕ) → ◌≡◌ {A = Option (ℕ × ℕ)} (Some (a, i)) (Some (b, j)) → (a ≡ b) × (i ≡ j)
-same_pair a b i j e = let g : ◌≡◌ {A = ℕ × ℕ} (a, i) (b, j) = (cc) in (ap (λ (p : ℕ × ℕ). p.0) g, ap (λ (p : ℕ × ℕ). p.1) g)
-
 -- Two parts whose atoms agree one by one: each has the functor of its answer, and each of its ports but the root leads to
 -- the port that answers. So the parts are equal.
 module _ (s : Heap) (x y : ℕ × ℕ) (xs ys : List ℕ) (sound : Sound s) (full : IsWhole s x None) (are : AreAtoms s x xs) (are' : AreAtoms s y ys) (long : length xs ≡ length ys)
@@ -102,7 +100,7 @@ module _ (s : Heap) (x y : ℕ × ℕ) (xs ys : List ℕ) (sound : Sound s) (ful
       by (Some q) g is =
           let c_in : In q.0 xs = (are.1 q.0).1 (across ((are.1 a).0 ia) d g) in
           let h = ends_agree a i q.0 q.1 ia d g in
-          let k = same_pair (answer xs ys q.0) (answer xs ys b) q.1 j (sym h ∙ e) in
+          let k = same_port (sym h ∙ e) in
           let c_is : q.0 ≡ b = answer_one xs ys q.0 b (omega (arith, long)) are'.0 c_in ib k.0 in
           g ∙ ap (λ (p : ℕ × ℕ). Some p) (λ m. (c_is m, k.1 m))
 

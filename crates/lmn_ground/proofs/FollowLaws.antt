@@ -12,19 +12,20 @@ use Rattle.lmn_ground.specs.Marks.{first_place, entry_port, or_zero, back, first
 use Rattle.lmn_ground.specs.Spread.{IsWhole, Numbered, Spreading, CleanPart, AreAtoms}
 use Rattle.lmn_ground.specs.Follow.{SameEnd, Two, Following}
 use Rattle.lmn_parts.specs.Copies.{moved, answer}
-use Rattle.lmn_parts.proofs.WalkLaws.{determined, kept_seen, longer, past, found, in_last, in_snoc, holds_left, holds_right, holds_port}
+use Rattle.lmn_parts.proofs.WalkLaws.{determined, kept_seen, longer, past, found, in_last, holds_left, holds_right, holds_port}
 use Rattle.lmn_ground.proofs.SoughtLaws.{top_in, port_left, next_root, next_none, next_link, not_root_next, same_port, sought_none, sought_root, sought_marked, sought_back, no_port_left}
 use Rattle.lmn_ground.proofs.PaintLaws.{net_painted, mark_away, mark_here}
 use Rattle.lmn_ground.proofs.SpreadLaws.{spreading_first, next_to, not_root, part_reached, way_now, spreading_on, entered, marks_there, entry_is, ahead_enter, ahead_here, nothing_ahead}
 use Rattle.lmn_ground.proofs.GroundLaws.{part_atoms}
-use Rattle.lmn_ground.proofs.EqualLaws.{walk_moved, same_or_not, same_pair, agree_same}
+use Rattle.lmn_ground.proofs.EqualLaws.{walk_moved, same_or_not, agree_same}
 use Rattle.lmn_parts.proofs.AnswerLaws.{answer_here, answer_in, answer_one}
 use Rattle.lmn_ground.proofs.NumberLaws.{begins, numbered_same, answer_grow, answer_new, answer_same, number_of_answer, answer_map, number_next}
 use Rattle.lmn_parts.specs.Walks.{port_range, neighbour, IsPartInDepth, HasPort, Net, net, ports_from, is_port, Walk, ends}
-use Rattle.lmn_heap.proofs.Common.{decide_in as in_or_not}
+use Rattle.lmn_heap.proofs.Common.{decide_in as in_or_not, same_port as same_pair}
 use Rattle.lmn_ground.proofs.PaintedAt.{paint_functor}
 use Rattle.lmn_heap.proofs.Replacing.{port_within as link_inside}
 use Rattle.lmn_base.specs.Lists.{In}
+use Rattle.lmn_base.proofs.Lists.{in_snoc}
 
 pub to_none : (ps : List (ℕ × ℕ)) → ps ++ [] ≡ ps
 to_none [] = refl
@@ -183,7 +184,7 @@ module _ (s : Heap) (x y : ℕ × ℕ) (xs ys : List ℕ) (two : Two s x y xs ys
           root = w.root;
           agreed = λ p k q l. elim (w.agreed p k q l) [
             | inl m ↦ elim (subst (HasPort (p, k)) split m) [
-              | inl h ↦ inr (inr (subst (λ (t : ℕ × ℕ). SameEnd s seen ys t.0 t.1) h (λ b' j' e. agrees b' j' (same_pair b b' j j' (sym link ∙ e)) b_seen (ap (λ (z : ℕ). link_of s z i) (sym w.answers) ∙ end ∙ ap (λ (z : ℕ). let r : Option (ℕ × ℕ) = Some (z, j) in r) (sym b_is)))))
+              | inl h ↦ inr (inr (subst (λ (t : ℕ × ℕ). SameEnd s seen ys t.0 t.1) h (λ b' j' e. agrees b' j' (same_pair (sym link ∙ e)) b_seen (ap (λ (z : ℕ). link_of s z i) (sym w.answers) ∙ end ∙ ap (λ (z : ℕ). let r : Option (ℕ × ℕ) = Some (z, j) in r) (sym b_is)))))
               | inr h ↦ inl h
             ]
             | inr m ↦ inr m
@@ -302,7 +303,7 @@ module _ (s : Heap) (x y : ℕ × ℕ) (xs ys : List ℕ) (two : Two s x y xs ys
         let d_in : In d ys = end_in i d j (not_root a i x other) given_end in
         let d_is : answer (seen ++ b ∷ []) ys b ≡ d = answer_new v 2 b d seen ys w.numbers d_in (number ∙ ap (λ (m : ℕ). 2 + m) (sym w.walk.counted)) new in
         let functor_is : functor_of s d ≡ functor_of s b = sym (functor_now d) ∙ given_functor ∙ functor_now b in
-        let step : SameEnd s (seen ++ b ∷ []) ys a i = λ b' j' e. agrees b b' j j' d (same_pair b b' j j' (sym link ∙ e)) (in_last b seen) d_is
+        let step : SameEnd s (seen ++ b ∷ []) ys a i = λ b' j' e. agrees b b' j j' d (same_pair (sym link ∙ e)) (in_last b seen) d_is
         (ap (λ (z : ℕ). link_of s z i) (answer_grow seen ys b a a_seen ∙ sym w.answers) ∙ end) in
         let ahead_to : ports_ahead n u (suc depth) b 0 ≡ port_range b 0 (n.arity b) ++ (ports_from n a (i + 1) ++ ports_behind n v depth a) = next_ahead in
         subst (λ (k : ℕ). Following s to x y xs ys (seen ++ b ∷ []) k b d 0 (count + 1)) (sym (add-one depth)) (record {
@@ -421,7 +422,7 @@ module _ (s : Heap) (x y : ℕ × ℕ) (xs ys : List ℕ) (two : Two s x y xs ys
             h q.0 q.1 (g.to q.0) f (must_end now seen depth a c i count w g k q.0 q.1 apart f)
 
     image : (g : SameGraph (atom_map s) x (atom_map s) y) (k b j d : ℕ) → ◌≢◌ {A = ℕ × ℕ} (a, k) x → link_of now a k ≡ Some (b, j) → link_of now c k ≡ Some (d, j) → g.to b ≡ d
-    image g k b j d apart link end = (same_pair (g.to b) d j j (sym (must_end now seen depth a c i count w g k b j apart link) ∙ end)).0
+    image g k b j d apart link end = (same_pair (sym (must_end now seen depth a c i count w g k b j apart link) ∙ end)).0
 
     pub number_differs : (k b j d : ℕ) → ◌≢◌ {A = ℕ × ℕ} (a, k) x → link_of now a k ≡ Some (b, j) → link_of now c k ≡ Some (d, j) → In b seen
         → (first_marks now b / 256 ≡ first_marks now d / 256 → ⊥) → SameGraph (atom_map s) x (atom_map s) y → ⊥

@@ -12,7 +12,6 @@ use Rattle.lmn_ground.specs.Marks.{first_marks}
 use Rattle.lmn_ground.specs.Spread.{Numbered}
 use Rattle.lmn_ground.specs.Copies.{CopyIsJoined, Copying}
 use Rattle.lmn_parts.specs.Copies.{moved, joined_like, all_joined, answer}
-use Rattle.lmn_ground.proofs.EqualLaws.{same_pair}
 use Rattle.lmn_parts.proofs.AnswerLaws.{answer_in, answer_one}
 use Rattle.lmn_ground.proofs.SoughtLaws.{same_port as is_root_port}
 use Rattle.lmn_ground.proofs.SpreadLaws.{not_root}
@@ -20,6 +19,7 @@ use Rattle.lmn_ground.proofs.NumberLaws.{numbered_same}
 use Rattle.lmn_parts.specs.Walks.{port_range, HasPort, is_port}
 use Rattle.lmn_heap.proofs.Replacing.{port_within as link_inside}
 use Rattle.lmn_base.specs.Lists.{In}
+use Rattle.lmn_heap.proofs.Common.{same_port as same_pair}
 
 -- what joining leaves as it is
 module _ {X : Type 0} (view : Option HeapAtom → X) (h : (i : ℕ) (p : Option (ℕ × ℕ)) (o : Option HeapAtom) → view (option_map (with_link i p) o) ≡ view o) where
@@ -79,7 +79,7 @@ module _ (s : Heap) (root : ℕ × ℕ) (xs ys : List ℕ) (t : Copying s root x
   points : (x k y l : ℕ) → In x xs → link_of s x k ≡ Some (y, l) → (c m : ℕ) → link_of s (answer xs ys x) k ≡ Some (c, m) → SamePort c m (answer xs ys y) l
   points x k y l i e c m g = elim (t.joined x k i) [
     | inl n ↦ (let h : ◌≡◌ {A = Option (ℕ × ℕ)} None (Some (c, m)) = sym n ∙ g in absurd (cc))
-    | inr r ↦ same_pair c (answer xs ys y) m l (sym g ∙ r.2 ∙ ap (option_map (moved (answer xs ys))) e)
+    | inr r ↦ same_pair (sym g ∙ r.2 ∙ ap (option_map (moved (answer xs ys))) e)
   ]
 
   -- two copies are joined
@@ -88,8 +88,8 @@ module _ (s : Heap) (root : ℕ × ℕ) (xs ys : List ℕ) (t : Copying s root x
     b_in = (t.closed a i b j a_in (not_root a i root other) link).0
 
     -- both copies have the port
-    low : (i < arity_of s (answer xs ys a)) × (j < arity_of s (answer xs ys b))
-    low = (
+    ports_there : (i < arity_of s (answer xs ys a)) × (j < arity_of s (answer xs ys b))
+    ports_there = (
       subst (λ (n : ℕ). i < n) (sym (t.arities a a_in)) (link_inside s a i (b, j) link),
       subst (λ (n : ℕ). j < n) (sym (t.arities b b_in)) (link_inside s b j (a, i) (t.paired.back a i b j link)),
     )
@@ -107,7 +107,7 @@ module _ (s : Heap) (root : ℕ × ℕ) (xs ys : List ℕ) (t : Copying s root x
     next = joined s (answer xs ys a) i (answer xs ys b) j
 
     as_was : (c k : ℕ) → (SamePort c k (answer xs ys a) i → ⊥) → (SamePort c k (answer xs ys b) j → ⊥) → link_of next c k ≡ link_of s c k
-    as_was c k na nb = elim (joined_other s (answer xs ys a) i (answer xs ys b) j low.0 low.1 differ c k na nb) [
+    as_was c k na nb = elim (joined_other s (answer xs ys a) i (answer xs ys b) j ports_there.0 ports_there.1 differ c k na nb) [
       | inl w ↦ absurd (elim w.0 [
         | inl e ↦ nb (points a i b j a_in link c k e)
         | inr e ↦ na (points b j a i b_in (t.paired.back a i b j link) c k e)
@@ -132,12 +132,12 @@ module _ (s : Heap) (root : ℕ × ℕ) (xs ys : List ℕ) (t : Copying s root x
           (
             not_root a i root other,
             subst (λ (o : Option (ℕ × ℕ)). IsSome o) (sym (link_kept a i a_in ∙ link)) refl,
-            joined_a s (answer xs ys a) i (answer xs ys b) j low.0 low.1 differ ∙ sym (ap (option_map (moved (answer xs ys))) (link_kept a i a_in ∙ link)),
+            joined_a s (answer xs ys a) i (answer xs ys b) j ports_there.0 ports_there.1 differ ∙ sym (ap (option_map (moved (answer xs ys))) (link_kept a i a_in ∙ link)),
           ),
           (
             (t.closed a i b j a_in (not_root a i root other) link).1,
             subst (λ (o : Option (ℕ × ℕ)). IsSome o) (sym (link_kept b j b_in ∙ back_link)) refl,
-            joined_b s (answer xs ys a) i (answer xs ys b) j low.0 low.1 differ ∙ sym (ap (option_map (moved (answer xs ys))) (link_kept b j b_in ∙ back_link)),
+            joined_b s (answer xs ys a) i (answer xs ys b) j ports_there.0 ports_there.1 differ ∙ sym (ap (option_map (moved (answer xs ys))) (link_kept b j b_in ∙ back_link)),
           ),
         )
 
@@ -175,12 +175,12 @@ module _ (s : Heap) (root : ℕ × ℕ) (xs ys : List ℕ) (t : Copying s root x
     still = record {
       there = λ x k. subst (λ (o : Option HeapAtom). IsSome o) (sym (away x (t.apart x k))) (t.there x k);
       first = t.first;
-      paired = joined_paired s (answer xs ys a) i (answer xs ys b) j low.0 low.1 differ t.paired;
+      paired = joined_paired s (answer xs ys a) i (answer xs ys b) j ports_there.0 ports_there.1 differ t.paired;
       once = t.once;
       copies_once = t.copies_once;
       long = t.long;
       apart = t.apart;
-      arities = λ x k. joined_arity s (answer xs ys a) i (answer xs ys b) j low.0 low.1 differ (answer xs ys x) ∙ t.arities x k ∙ sym (joined_arity s (answer xs ys a) i (answer xs ys b) j low.0 low.1 differ x);
+      arities = λ x k. joined_arity s (answer xs ys a) i (answer xs ys b) j ports_there.0 ports_there.1 differ (answer xs ys x) ∙ t.arities x k ∙ sym (joined_arity s (answer xs ys a) i (answer xs ys b) j ports_there.0 ports_there.1 differ x);
       closed = λ x k y l x_in d e. t.closed x k y l x_in d (sym (link_kept x k x_in) ∙ e);
       joined = port_joined;
     }

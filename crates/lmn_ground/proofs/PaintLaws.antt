@@ -1,6 +1,6 @@
 -- What marks change of a heap, and that they change no walk.
 use Rattle.std.proofs.Common.{◌≡◌, ◌≢◌, ℕ, zero, suc, ◌+◌, ◌<◌, ◌==◌, Bool, true, false, cond, List, [], ◌∷◌, ◌++◌, length, Option, Some, None, IsSome, refl, sym, ap, subst, ◌∙◌, inl, inr, arith}
-use Rattle.std.proofs.lemmas.Bool.{cases_eq, eq-eqb, eqb-true}
+use Rattle.std.proofs.lemmas.Bool.{cases_eq, eqb-true}
 use Rattle.std.proofs.lemmas.List.{get_or-set_same}
 use Rattle.std.specs.Option.{option_map}
 use Rattle.std.specs.Prelude.{slice_set, slice_index_or}
@@ -86,15 +86,6 @@ module _ (n : Net) (v w : ℕ → ℕ) where
       subst (λ (m : ℕ). let p : ℕ × ℕ = or_zero (n.link a (entry_port m)) in
       (n.link a (entry_port m) ≡ Some p) × (entry_port m < n.arity a) × (p.1 < n.arity p.0) × (a ≡ root.0 → ⊥) × OnWay n w root d p.0) (sym e)
       (o.0, o.1, o.2, o.3, r)
-
-pub is_in_true : (a : ℕ) (xs : List ℕ) → In a xs → is_in xs a ≡ true
-is_in_true a [] i = absurd i
-is_in_true a (x ∷ xs) (inl e) = rw (eq-eqb x a e) refl
-is_in_true a (x ∷ xs) (inr i) = by (x == a) (is_in_true a xs i)
-  where
-    by : (t : Bool) → is_in xs a ≡ true → cond t true (is_in xs a) ≡ true
-    by true e = refl
-    by false e = e
 
 pub in_is : (a : ℕ) (xs : List ℕ) → is_in xs a ≡ true → In a xs
 in_is a [] e = absurd (cc)

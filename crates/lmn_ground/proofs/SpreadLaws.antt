@@ -13,14 +13,16 @@ use Rattle.lmn_heap.proofs.Listing.{alter_away, distinct_snoc}
 use Rattle.lmn_heap.proofs.Pigeonholes.{not_longer}
 use Rattle.lmn_ground.specs.Marks.{first_place, paint, painted, first_marks, entry_port, or_zero, back, way, ports_behind, ports_ahead, OnWay, Sought}
 use Rattle.lmn_ground.specs.Spread.{Numbered, CleanPart, AtomFits, IsWhole, Spread, Spreading}
-use Rattle.lmn_parts.proofs.WalkLaws.{holds_left, holds_right, holds_port, in_last, in_snoc, all_seen, closed, start_covers, kept_seen}
+use Rattle.lmn_parts.proofs.WalkLaws.{holds_left, holds_right, holds_port, in_last, all_seen, closed, start_covers, kept_seen}
 use Rattle.lmn_ground.proofs.SoughtLaws.{top_in, port_left, no_port_left}
-use Rattle.lmn_ground.proofs.PaintLaws.{net_painted, painted_marked, way_same, behind_same, on_way_same, is_in_true, in_is, mark_here, mark_away, net_marked, with_port, is_painted}
+use Rattle.lmn_ground.proofs.PaintLaws.{net_painted, painted_marked, way_same, behind_same, on_way_same, in_is, mark_here, mark_away, net_marked, with_port, is_painted}
 use Rattle.lmn_ground.proofs.PaintedAt.{paint_home, painted_none}
 use Rattle.lmn_parts.specs.Walks.{port_range, neighbour, IsPartInDepth, HasPort, Net, net, ports_from, kept, is_port, is_in, Walk, ends, finds}
 use Rattle.lmn_heap.proofs.Common.{decide_in as in_or_not}
 use Rattle.lmn_heap.proofs.Replacing.{port_within as link_inside}
 use Rattle.lmn_base.specs.Lists.{In}
+use Rattle.lmn_base.proofs.Lists.{in_snoc}
+use Rattle.lmn_parts.proofs.AnswerLaws.{is_in_true}
 
 pub next_in : (n : Net) (root : ℕ × ℕ) (seen : List ℕ) (p : ℕ × ℕ) (b : ℕ) → neighbour n root (is_in seen) p ≡ Some b → In b seen
 next_in n root seen p b e = by (is_port p root) e

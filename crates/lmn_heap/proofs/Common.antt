@@ -7,7 +7,6 @@ use Rattle.std.proofs.Common.{None, Option, Some, ap, ℕ, ◌≡◌, IsSome, ar
 use Rattle.std.proofs.lemmas.Bool.{cases_eq}
 use Rattle.std.proofs.lemmas.Option.{none-some, same_Some}
 use Rattle.std.specs.Option.{option_and_then, option_map}
-use Rattle.lmn_heap.specs.Heap as heap
 use Rattle.lmn_heap.proofs.Listing.{alter_keeps}
 use Rattle.std.specs.Prelude.{slice_index_or}
 use Rattle.lmn_base.specs.Lists.{In}
@@ -142,3 +141,9 @@ pub no_links : (n i : ℕ) → slice_index_or (replicate n no_port) i None ≡ N
 no_links zero i = refl
 no_links (suc n) zero = refl
 no_links (suc n) (suc i) = no_links n i
+
+-- an element of a list has a position
+pub position : (xs : List ℕ) (a : ℕ) → In a xs → (q : ℕ) × (slice_get xs q ≡ Some a)
+position [] a h = absurd h
+position (x ∷ xs) a (inl e) = (zero, ap Some e)
+position (x ∷ xs) a (inr h) = let q = position xs a h in (suc q.0, q.1)

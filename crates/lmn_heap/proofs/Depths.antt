@@ -7,9 +7,10 @@ use Rattle.lmn_heap.specs.Conditions.{Above}
 use Rattle.lmn_heap.specs.Trees.{forest_of, tree_of}
 use Rattle.lmn_heap.proofs.ListLemmas.{each_in, each_of}
 use Rattle.lmn_heap.proofs.Pigeonholes.{not_longer}
-use Rattle.lmn_heap.proofs.Trees.{in_either, parent_by, is_mem}
+use Rattle.lmn_heap.proofs.Trees.{parent_by, is_mem}
 use Rattle.lmn_heap.proofs.Heights.{parent_is, above_more, one_above}
 use Rattle.lmn_base.specs.Lists.{In}
+use Rattle.lmn_base.proofs.Lists.{in_either}
 
 -- x is n steps below a membrane without a parent
 abbrev Depth : Heap → ℕ → ℕ → Type 0

@@ -2,10 +2,10 @@
 use Rattle.std.proofs.Common.{◌≡◌, ℕ, List, [], ◌∷◌, ◌++◌, refl, sym, ap, subst, ◌∙◌, inl, inr}
 use Rattle.lmn_heap.specs.Heap.{Heap, mems_in, without}
 use Rattle.lmn_heap.specs.Sound.{Forest, bare, mem, flat, Forms}
-use Rattle.lmn_heap.proofs.Trees.{in_either}
 use Rattle.lmn_heap.proofs.ListLemmas.{in_left, in_right}
 use Rattle.lmn_base.proofs.Numbers.{not_equal as apart_test}
 use Rattle.lmn_base.specs.Lists.{In}
+use Rattle.lmn_base.proofs.Lists.{in_either}
 
 -- only the lists of membranes matter
 pub forms_frame : (s t : Heap) (f : Forest) (ms : List ℕ) → ((m : ℕ) → In m (flat f) → mems_in t m ≡ mems_in s m) → Forms s f ms → Forms t f ms

@@ -5,8 +5,9 @@ use Rattle.std.specs.Prelude.{IsSome}
 use Rattle.lmn_heap.specs.Heap.{Heap, HeapMem, Place, top, within, waiting, gone, IsMem, mems_in, mems_by, mem_place_of, parent_of, home_by}
 use Rattle.lmn_heap.specs.Sound.{Valid, Forest, bare, mem, flat, Forms, Listed}
 use Rattle.lmn_heap.specs.Conditions.{Above}
-use Rattle.lmn_heap.proofs.Trees.{in_either, parent_by}
+use Rattle.lmn_heap.proofs.Trees.{parent_by}
 use Rattle.lmn_base.specs.Lists.{In}
+use Rattle.lmn_base.proofs.Lists.{in_either}
 
 -- what is in a list has that membrane for its parent
 pub parent_is : (h : Heap) (listed : Listed h) (n m : ℕ) → In n (mems_in h m) → parent_of h n ≡ Some m

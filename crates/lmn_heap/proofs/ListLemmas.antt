@@ -4,7 +4,7 @@ use Rattle.std.proofs.lemmas.Bool.{cases_eq, eq-eqb, eqb-true}
 use Rattle.std.proofs.lemmas.Map.Steps.{length-le_from_distinct_below}
 use Rattle.std.specs.Prelude.{nat_eq}
 use Rattle.std.specs.List.{IsDistinct, AllByRecursion, list_any}
-use Rattle.lmn_heap.specs.Lists.{Distinct, without}
+use Rattle.lmn_heap.specs.Lists.{Distinct, without, without_all}
 use Rattle.lmn_base.proofs.Numbers.{not_equal as apart_test}
 use Rattle.lmn_base.specs.Lists.{In}
 
@@ -86,3 +86,8 @@ in_without x z (y ∷ ys) i d = by (y == x) refl (λ j. in_without x z ys j d) i
     by true e rest (inr j) = j
     by false e rest (inl same) = inl same
     by false e rest (inr j) = inr (rest j)
+
+-- what stands in a list and is not among those taken out is left
+pub in_withouts : (ns xs : List ℕ) (x : ℕ) → In x xs → (In x ns → ⊥) → In x (without_all ns xs)
+in_withouts [] xs x i d = i
+in_withouts (a ∷ ns) xs x i d = in_withouts ns (without a xs) x (in_without a x xs i (λ e. d (inl (sym e)))) (λ j. d (inr j))

@@ -8,10 +8,11 @@ use Rattle.lmn_base.specs.declared.functor.Functor.{Functor}
 use Rattle.std.specs.Prelude.{slice_index_or}
 use Rattle.lmn_heap.specs.Heap.{made_atom, new_atom, partners_of, Heap, HeapAtom, HeapMem, Place, top, within, waiting, gone, alter, with_place, mem_with_atoms, place_of, mem_place_of, home_of, home_by, atoms_in, mems_in, atoms_by, mems_by, atom_out, linked, cleared, with_link, placed, taken, joined, link_of, Distinct, from, after, without}
 use Rattle.lmn_heap.specs.Sound.{Paired, Listed}
-use Rattle.lmn_heap.proofs.Trees.{in_either, in_here}
+use Rattle.lmn_heap.proofs.Trees.{in_here}
 use Rattle.lmn_base.proofs.Numbers.{not_equal as apart_test}
 use Rattle.lmn_heap.specs.Lists.{without_all}
 use Rattle.lmn_base.specs.Lists.{In}
+use Rattle.lmn_base.proofs.Lists.{in_either}
 
 -- Reading an alter
 

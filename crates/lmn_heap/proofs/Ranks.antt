@@ -5,12 +5,12 @@ use Rattle.lmn_heap.specs.Heap.{Heap, HeapMem, Place, top, within, waiting, gone
 use Rattle.lmn_heap.specs.Sound.{Listed, Forest, bare, mem, flat, Forms}
 use Rattle.lmn_heap.specs.Conditions.{Above}
 use Rattle.lmn_heap.proofs.ListLemmas.{each_in, each_of}
-use Rattle.lmn_heap.proofs.Trees.{in_either}
 use Rattle.lmn_heap.proofs.Groves.{child_inside}
 use Rattle.lmn_heap.proofs.Heights.{parent_is, parent_place, mem_of_list, mem_of_place, above_more}
 use Rattle.lmn_heap.proofs.Depths.{both_distinct}
 use Rattle.lmn_heap.proofs.Common.{nothing_in}
 use Rattle.lmn_base.specs.Lists.{In}
+use Rattle.lmn_base.proofs.Lists.{in_either}
 
 -- a forest of a list, from a forest for what is in each
 abbrev pub build_list : (ℕ → Forest) → List ℕ → Forest

@@ -8,17 +8,7 @@ use Rattle.lmn_heap.specs.Sound.{Forest, bare, mem, flat, Forms, IsTree, Sound}
 use Rattle.lmn_heap.proofs.ListLemmas.{apart}
 use Rattle.lmn_base.proofs.Numbers.{not_equal as apart_test}
 use Rattle.lmn_base.specs.Lists.{In}
-
--- nothing behind a list
-pub nil_right : (xs : List ℕ) → xs ++ [] ≡ xs
-nil_right [] = refl
-nil_right (x ∷ xs) = ap (λ ys. x ∷ ys) (nil_right xs)
-
--- an element of two lists in a row is in one of them
-pub in_either : (a : ℕ) (xs ys : List ℕ) → In a (xs ++ ys) → In a xs ⊎ In a ys
-in_either a [] ys i = inr i
-in_either a (x ∷ xs) ys (inl e) = inl (inl e)
-in_either a (x ∷ xs) ys (inr i) = elim (in_either a xs ys i) [ inl j ↦ inl (inr j) | inr j ↦ inr j ]
+use Rattle.lmn_base.proofs.Lists.{in_either, plus_nothing}
 
 -- an element between two lists
 pub in_here : (a : ℕ) (xs ys : List ℕ) → In a (xs ++ (a ∷ ys))
@@ -40,7 +30,7 @@ regroup m (x ∷ xs) ys zs us vs = ap (λ ws. x ∷ ws) (regroup m xs ys zs us v
 -- a forest in preorder, split at a membrane
 pub split_at : (f : Forest) (m : ℕ) (i b : Forest) (out : List ℕ) → At f m i b out → (before : List ℕ) × (flat f ≡ before ++ (m ∷ (flat i ++ (flat b ++ out))))
 split_at bare m i b out a = absurd a
-split_at (mem k fi fr) m i b out (inl e) = ([], rw (e.0, e.1, e.2, e.3, nil_right (flat b)) refl)
+split_at (mem k fi fr) m i b out (inl e) = ([], rw (e.0, e.1, e.2, e.3, plus_nothing (flat b)) refl)
 split_at (mem k fi fr) m i b out (inr (inl q)) =
     let s = split_at fi m i b q.0 q.1 in (
       k ∷ s.0,
@@ -133,7 +123,7 @@ around s (mem k fi fr) ms m i b out F (inr (inl q)) =
       before = c.1.0;
       at = inl (refl, refl, refl, refl);
       list = c.1.1;
-      past = q.2 ∙ ap (λ ws. ws ++ flat fr) c.0 ∙ sym (nil_right (flat fr));
+      past = q.2 ∙ ap (λ ws. ws ++ flat fr) c.0 ∙ sym (plus_nothing (flat fr));
       less = smaller fi m i b q.0 q.1;
     } in
     let deep : Inside s fi m r.ls i b q.0 → Inside s (mem k fi fr) m r.ls i b out = λ c. record {

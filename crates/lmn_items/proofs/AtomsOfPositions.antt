@@ -11,10 +11,11 @@ use Rattle.lmn_heap.specs.Heap.{Heap, HeapAtom, IsAtom, partners_of, arity_of, f
 use Rattle.lmn_heap.specs.Lists.{Distinct}
 use Rattle.lmn_heap.specs.Solid.{IsNaming, links_from, solid_atom_at, solid_atoms_at}
 use Rattle.lmn_heap.specs.Sound.{Sound}
-use Rattle.lmn_folded.proofs.Places.{count, AtMostTwice, ends_in_one_way, not_nil}
+use Rattle.lmn_folded.proofs.Places.{count, AtMostTwice}
 use Rattle.lmn_items.proofs.TwoPlaces.{times, at_most_twice}
 use Rattle.lmn_heap.proofs.Common.{numbered_get as number_from}
 use Rattle.lmn_base.specs.Lists.{In}
+use Rattle.lmn_base.proofs.Lists.{ends_in_one_way, never_nil}
 
 abbrev label_by : List Name → Option HeapAtom → Label
 label_by names None = named []
@@ -102,7 +103,7 @@ last_number name a n l =
     ap (links_from name a 0) up ∙ one_more name a 0 (n - 1) ∙ ap (λ j. links_from name a 0 (n - 1) ++ name a j ∷ []) down
 
 pub numbers_end : (name : ℕ → ℕ → ℕ) (a n : ℕ) (xs : List ℕ) (x : ℕ) → links_from name a 0 n ≡ xs ++ x ∷ [] → (0 < n) × (xs ≡ links_from name a 0 (n - 1)) × (x ≡ name a (n - 1))
-numbers_end name a zero xs x e = absurd (not_nil xs x e)
+numbers_end name a zero xs x e = absurd (never_nil xs x e)
 numbers_end name a (suc n) xs x e =
     let l : 0 < suc n = omega arith in
     let same = ends_in_one_way xs (links_from name a 0 (suc n - 1)) x (name a (suc n - 1)) (sym e ∙ last_number name a (suc n) l) in

@@ -12,9 +12,9 @@ use Rattle.lmn_heap.specs.Sound.{Valid}
 use Rattle.lmn_heap.proofs.Replacing.{port_within}
 use Rattle.lmn_items.specs.Children.{IsChildAt, DescendsAt}
 use Rattle.lmn_items.specs.Children as marked
-use Rattle.lmn_items.proofs.Positions.{position, one_position, behind, further_back}
+use Rattle.lmn_items.proofs.Positions.{one_position, behind, further_back}
 use Rattle.lmn_items.proofs.AtomsOfPositions.{atom_with, atom_at, atom_behind, number_at, number_is, last_number, numbers_end}
-use Rattle.lmn_heap.proofs.Common.{in_at, length_numbered}
+use Rattle.lmn_heap.proofs.Common.{in_at, length_numbered, position}
 
 module _ (names : List Name) (s : Heap) (valid : Valid s) (name : ℕ → ℕ → ℕ) (naming : IsNaming s name) (m : ℕ) where
   abbrev atoms : List SolidAtom

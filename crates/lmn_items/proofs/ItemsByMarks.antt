@@ -15,11 +15,11 @@ use Rattle.lmn_heap.specs.Solid.{IsNaming}
 use Rattle.lmn_heap.specs.Sound.{Valid}
 use Rattle.lmn_items.specs.Children.{IsChildAt, DescendsAt, IsMarkedIn}
 use Rattle.lmn_items.specs.Children as marked
-use Rattle.lmn_items.proofs.Positions.{position, behind, further_back}
+use Rattle.lmn_items.proofs.Positions.{behind, further_back}
 use Rattle.lmn_items.proofs.AtomsOfPositions.{atom_with, atom_behind}
 use Rattle.lmn_items.proofs.ChildPositions.{to_heap, from_heap, down, up}
 use Rattle.lmn_base.proofs.Numbers.{below_next2 as below_next, not_equal as apart_test}
-use Rattle.lmn_heap.proofs.Common.{in_at}
+use Rattle.lmn_heap.proofs.Common.{in_at, position}
 use Rattle.lmn_congruence.proofs.Common.{among_left, among_right, among_apart}
 use Rattle.lmn_base.specs.Lists.{In}
 

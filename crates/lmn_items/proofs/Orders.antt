@@ -6,12 +6,12 @@ use Rattle.lmn_heap.specs.Heap.{Heap, HeapAtom, IsAtom, within, atoms_in, home_o
 use Rattle.lmn_heap.specs.Lists.{Distinct, after}
 use Rattle.lmn_heap.specs.Sound.{Forest, flat, IsTree, Sound, Valid}
 use Rattle.lmn_heap.proofs.ListLemmas.{each_in, in_left}
-use Rattle.lmn_heap.proofs.Trees.{in_either}
 use Rattle.lmn_printer.specs.Numbers.{printed_atoms}
 use Rattle.lmn_printer.proofs.OrderLemmas.{behind_atom, printed_all, printed_once, printed_in}
 use Rattle.lmn_base.proofs.Numbers.{not_equal as apart_test, same_or_not as number_cases}
 use Rattle.lmn_lists.proofs.TableLemmas.{in_after as after_in}
 use Rattle.lmn_base.specs.Lists.{In}
+use Rattle.lmn_base.proofs.Lists.{in_either}
 
 pub after_here : (x a : ℕ) (xs : List ℕ) → x ≡ a → after a (x ∷ xs) ≡ xs
 after_here x a xs e = rw (eq-eqb x a e) refl

@@ -1,17 +1,12 @@
 -- Where a number stands in a list without repeats.
-use Rattle.std.proofs.Common.{◌≡◌, ◌≢◌, ℕ, zero, suc, ◌<◌, List, [], ◌∷◌, Some, slice_get, refl, sym, ap, subst, inl, inr, arith}
-use Rattle.std.proofs.lemmas.Bool.{cases_eq}
+use Rattle.std.proofs.Common.{◌≡◌, ◌≢◌, ℕ, zero, suc, ◌<◌, List, [], ◌∷◌, Some, slice_get, refl, sym, ap, subst, arith}
 use Rattle.std.proofs.lemmas.Option.{none-some, same_Some}
 use Rattle.lmn_heap.specs.Lists.{Distinct, after}
 use Rattle.lmn_heap.proofs.ListLemmas.{each_in}
 use Rattle.lmn_heap.proofs.Common.{in_at}
 use Rattle.lmn_items.proofs.Orders.{after_here, after_there}
 use Rattle.lmn_base.specs.Lists.{In}
-
-pub position : (xs : List ℕ) (a : ℕ) → In a xs → (q : ℕ) × (slice_get xs q ≡ Some a)
-position [] a h = absurd h
-position (x ∷ xs) a (inl e) = (zero, ap Some e)
-position (x ∷ xs) a (inr h) = let q = position xs a h in (suc q.0, q.1)
+use Rattle.lmn_lists.proofs.TableLemmas.{in_after}
 
 pub one_position : (xs : List ℕ) (p q a : ℕ) → Distinct xs → slice_get xs p ≡ Some a → slice_get xs q ≡ Some a → p ≡ q
 one_position [] p q a d e f = absurd (none-some a e)
@@ -19,13 +14,6 @@ one_position (x ∷ xs) zero zero a d e f = refl
 one_position (x ∷ xs) zero (suc q) a d e f = absurd (each_in (λ y. x ≢ y) xs a d.0 (in_at xs q a f) (same_Some x a e))
 one_position (x ∷ xs) (suc p) zero a d e f = absurd (each_in (λ y. x ≢ y) xs a d.0 (in_at xs p a e) (same_Some x a f))
 one_position (x ∷ xs) (suc p) (suc q) a d e f = ap suc (one_position xs p q a d.1 e f)
-
-in_after : (xs : List ℕ) (a b : ℕ) → In b (after a xs) → In b xs
-in_after [] a b h = h
-in_after (x ∷ xs) a b h = elim (cases_eq x a) [
-  | inl e ↦ inr (subst (In b) (after_here x a xs e) h)
-  | inr d ↦ inr (in_after xs a b (subst (In b) (after_there x a xs d) h))
-]
 
 -- what stands further back stands behind
 pub behind : (xs : List ℕ) (p q a b : ℕ) → Distinct xs → slice_get xs p ≡ Some a → slice_get xs q ≡ Some b → p < q → In b (after a xs)
@@ -43,7 +31,7 @@ further_back (x ∷ xs) zero zero a b d e f h =
 further_back (x ∷ xs) zero (suc q) a b d e f h = omega arith
 further_back (x ∷ xs) (suc p) zero a b d e f h =
     let other = each_in (λ y. x ≢ y) xs a d.0 (in_at xs p a e) in
-    absurd (each_in (λ y. x ≢ y) xs b d.0 (in_after xs a b (subst (In b) (after_there x a xs other) h)) (same_Some x b f))
+    absurd (each_in (λ y. x ≢ y) xs b d.0 (in_after a b xs (subst (In b) (after_there x a xs other) h)) (same_Some x b f))
 further_back (x ∷ xs) (suc p) (suc q) a b d e f h =
     let other = each_in (λ y. x ≢ y) xs a d.0 (in_at xs p a e) in
     let l = further_back xs p q a b d.1 e f (subst (In b) (after_there x a xs other) h) in

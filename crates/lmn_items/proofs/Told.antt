@@ -22,7 +22,6 @@ use Rattle.lmn_printer.proofs.OrderLemmas.{at_home}
 use Rattle.lmn_items.specs.Chosen.{PrintsItems, TellsItems, atoms_with, items_in}
 use Rattle.lmn_items.specs.Chosen as chosen
 use Rattle.lmn_items.specs.Children.{IsChildAt, IsMarkedIn, MarkedAreTold}
-use Rattle.lmn_items.proofs.Positions.{position}
 use Rattle.lmn_items.proofs.AtomsOfPositions.{atom_with, functor_is, atoms_are, atom_at, atom_behind, few_places}
 use Rattle.lmn_items.proofs.ChildPositions.{child_is, to_heap, from_heap}
 use Rattle.lmn_items.proofs.ItemsByMarks.{StandAt, has_parent, items, are_items, item_has, item_is, items_stand}
@@ -30,7 +29,7 @@ use Rattle.lmn_items.proofs.ItemsByMarks as by_marks
 use Rattle.lmn_base.proofs.Lists.{some_is as some_of}
 use Rattle.lmn_base.proofs.Numbers.{equal_when as equal_numbers}
 use Rattle.lmn_base.proofs.Truth.{and_true as and_both, not_true}
-use Rattle.lmn_heap.proofs.Common.{in_at, is_atom_at as port_there, same_port}
+use Rattle.lmn_heap.proofs.Common.{in_at, is_atom_at as port_there, same_port, position}
 use Rattle.lmn_printer.proofs.ToldLemmas.{all_atoms}
 use Rattle.lmn_base.specs.Lists.{In}
 

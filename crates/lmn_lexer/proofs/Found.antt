@@ -15,10 +15,10 @@ use Rattle.lmn_lexer.specs.Spelling.{goes_on, begins_link, begins_context, is_qu
 use Rattle.lmn_lexer.specs.Gaps.{Gap, separator, percent, slashes, block, OccursIn, EndsLine, NoLineFeed}
 use Rattle.lmn_lexer.specs.Faults.{Wrong, bad_quoted_byte, open_quote, open_comment, string, inline_code, hyperlink}
 use Rattle.lmn_lexer.specs.Scanning.{follows, first_passes, word_bytes, digit_bytes, line_bytes, later, close_at, lowercase_at, context_at, at_sign_at, minus_at, block_at, slash_at, quoted_behind, equal_at, colon_at, bracket_at, greater_at, backslash_at, sign_at, sign_piece, piece_of}
-use Rattle.lmn_lexer.proofs.Runs.{if_case, unequal_when, run_is}
+use Rattle.lmn_lexer.proofs.Runs.{if_case, run_is}
 use Rattle.lmn_lexer.specs.Laying.{NoneStandsFirst}
 use Rattle.lmn_base.specs.Lists.{Begins}
-use Rattle.lmn_base.proofs.Numbers.{equal_when}
+use Rattle.lmn_base.proofs.Numbers.{equal_when, unequal_when}
 use Rattle.lmn_base.proofs.Truth.{and_true as both_true}
 use Rattle.lmn_base.proofs.Lists.{head_is, tail_is}
 

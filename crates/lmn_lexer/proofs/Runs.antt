@@ -1,17 +1,13 @@
 -- Runs of bytes that pass a test, and tests by cases.
-use Rattle.std.proofs.Common.{◌≡◌, ℕ, ◌+◌, ◌≤◌, ◌==◌, Bool, true, false, cond, if◌then◌else◌, List, [], ◌∷◌, ◌++◌, length, take, drop, suc, refl, sym, ap, ◌∙◌, subst, arith}
+use Rattle.std.proofs.Common.{◌≡◌, ℕ, ◌+◌, ◌≤◌, Bool, true, false, cond, if◌then◌else◌, List, [], ◌∷◌, ◌++◌, length, take, drop, suc, refl, sym, ap, ◌∙◌, subst, arith}
 use Rattle.std.specs.List.{prefix_len, count_by}
 use Rattle.std.proofs.lemmas.List.Sums.{sum_by-cons, sum_by-append}
-use Rattle.std.proofs.lemmas.Bool.Decides.{nat_tests}
 use Rattle.lmn_lexer.specs.Spelling.{AllPass}
 use Rattle.lmn_lexer.specs.Laying.{NoneStandsFirst}
 
 pub if_case : {A : Type 0} (P : A → Type 0) (t : Bool) (x y : A) → (t ≡ true → P x) → (t ≡ false → P y) → P (if t then x else y)
 if_case P true x y h k = h refl
 if_case P false x y h k = k refl
-
-pub unequal_when : (a b : ℕ) → (a == b) ≡ false → a ≡ b → ⊥
-unequal_when a b h e = grind (arith, nat_tests)
 
 -- where a run ends
 

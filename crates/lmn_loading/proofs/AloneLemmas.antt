@@ -16,9 +16,9 @@ use Rattle.lmn_base.specs.declared.rule.Plain.{Plain}
 use Rattle.lmn_base.specs.Levels.{leaves_of, occurrences_of_leaf, links_of, contexts_of, rule_contexts_of, rules_of}
 use Rattle.lmn_base.specs.Links.{EachTwice, no_more, NumbersLinks}
 use Rattle.lmn_base.specs.WellMade.{IsWellMade, IsWellMadeRule, FitsArity, IsAtomLeaf}
-use Rattle.lmn_congruence.proofs.Appended.{all_right}
 use Rattle.lmn_loading.specs.Alone.{IsAlone}
-use Rattle.lmn_base.proofs.Lists.{all_none, joined_alike as both}
+use Rattle.lmn_base.proofs.Lists.{joined_alike as both, all_of_right}
+use Rattle.std.proofs.lemmas.List.Elements.{All-nil}
 
 fits : (l : Leaf) → IsAlone l → FitsArity l
 fits (Atom f os p) h = ap (λ (xs : List Occ). length xs) h.0 ∙ sym h.1
@@ -34,7 +34,7 @@ no_links (Typed n o p) h = absurd h
 
 no_occurrences : (ls : List Leaf) → All IsAlone ls → flat_map occurrences_of_leaf ls ≡ []
 no_occurrences [] h = refl
-no_occurrences (l ∷ ls) h = both (no_links l (h zero l (omega arith))) (no_occurrences ls (all_right IsAlone (l ∷ []) ls h))
+no_occurrences (l ∷ ls) h = both (no_links l (h zero l (omega arith))) (no_occurrences ls (all_of_right IsAlone (l ∷ []) ls h))
 
 pub nil : (ls : List Leaf) → ls ++ [] ≡ ls
 nil [] = refl
@@ -75,8 +75,8 @@ alone_well p ls a b c d e f g h =
           numbered = subst (λ xs. NumbersLinks (xs ++ []) (length p.links)) (sym links) (subst (λ us. NumbersLinks [] (length us)) (sym f) no_more);
           tells = λ x u i. absurd (no_rule x u (subst (λ us. slice_get us x ≡ Some u) f i));
         };
-        each_rule = subst (All IsWellMadeRule) (sym g) (all_none IsWellMadeRule);
-        rules_at_top = subst (All (λ k. k < length p.rules)) (sym (rules_are p.top ls a b c d e h)) (all_none (λ k. k < length p.rules));
+        each_rule = subst (All IsWellMadeRule) (sym g) (All-nil IsWellMadeRule);
+        rules_at_top = subst (All (λ k. k < length p.rules)) (sym (rules_are p.top ls a b c d e h)) (All-nil (λ k. k < length p.rules));
         rules_in_rules = λ n r i. absurd (no_rule n r (subst (λ rs. slice_get rs n ≡ Some r) g i));
         only_atoms = subst (All IsAtomLeaf) (sym leaves) (λ k x l. is_atom _ (h k x l));
         no_context = contexts_are p.top ls a b c d e h;

@@ -11,19 +11,17 @@ use Rattle.lmn_congruence.specs.SolidsOfPlains.{fused_leaf, fused_region}
 use Rattle.lmn_heap.specs.Heap.{Heap, HeapAtom, HeapMem, within, home_by, IsAtom, IsMem, IsPlacedMem, atoms_in, mems_in, rules_in, mems_by, atoms_by, rules_by}
 use Rattle.lmn_heap.specs.Solid.{solid_atoms_at, solid_atom_at, regions_of}
 use Rattle.lmn_heap.specs.Sound.{Listed, Forest, bare, mem, flat}
-use Rattle.lmn_heap.proofs.Trees.{in_either}
 use Rattle.lmn_heap.proofs.Groves.{beside, forms_frame, forms_beside}
 use Rattle.lmn_heap.proofs.SolidLemmas.{atoms_append, regions_beside, regions_frame}
 use Rattle.lmn_splice.specs.Splice.{IsOneOf, NoneTwice, ports, links}
 use Rattle.lmn_loading.specs.Adding.{CanBeFilled, Named, atom_links, atom_leaf_links, IsMadeAtom, IsFreePort, AddsToMembrane}
 use Rattle.lmn_base.specs.Graphs.{Port}
 use Rattle.lmn_congruence.specs.Links.{places}
-use Rattle.lmn_base.proofs.Lists.{nothing_added as none_more, joined_alike as both}
+use Rattle.lmn_base.proofs.Lists.{nothing_added as none_more, joined_alike as both, in_either}
 use Rattle.lmn_congruence.proofs.TranslatedLinks.{places_append as often_append}
 use Rattle.lmn_heap.proofs.Calls.{stands_some as standing_is_mem}
 use Rattle.lmn_heap.proofs.Items.{place_some as placed_is_atom}
 use Rattle.lmn_splice.proofs.Common.{in_append as either_in, in_back as right_in, in_front as left_in, links_append, ports_append, distinct_append}
-use Rattle.lmn_heap.specs.Lists as lists
 use Rattle.lmn_heap.proofs.ListLemmas as lemmas
 use Rattle.lmn_base.specs.Lists.{In}
 

@@ -13,13 +13,12 @@ use Rattle.lmn_base.specs.Levels.{leaves_of}
 use Rattle.lmn_base.specs.WellMade.{FitsArity}
 use Rattle.lmn_base.proofs.ItemLemmas.{leaves_apart}
 use Rattle.lmn_congruence.specs.SolidsOfPlains.{is_connector, fused_leaf}
-use Rattle.lmn_congruence.proofs.Appended.{all_left, all_right}
 use Rattle.lmn_heap.specs.Heap.{Heap, spare_of, reserved, rule_added}
 use Rattle.lmn_loading.specs.Adding.{CanBeFilled, AddsToMembrane, Fills, AtomIsAdded, atom_leaf_links, ports_with_links, by_id, with_mem}
 use Rattle.lmn_loading.proofs.Composing.{composed, nothing_added}
 use Rattle.lmn_loading.proofs.Atoms.{no_leaf, atom_added, room_added, one_rule, room_left}
 use Rattle.lmn_loading.proofs.Membranes.{new_ready, membrane_added}
-use Rattle.lmn_base.proofs.Lists.{plus_nothing as nil_behind}
+use Rattle.lmn_base.proofs.Lists.{plus_nothing as nil_behind, all_of_left, all_of_right}
 use Rattle.lmn_heap.proofs.Calls.{stands_some as standing_is_mem}
 
 -- an item more of a list
@@ -98,16 +97,16 @@ membrane_ready s s1 m n h fresh e = subst (λ u. CanBeFilled u n) (sym e) (new_r
 
 -- arities of parts of a level
 pub own_arities : (l : Level) (ls : List Leaf) → ls ≡ (out-Level l).leaves → All FitsArity (leaves_of l) → All FitsArity ls
-own_arities l ls e h = subst (All FitsArity) (sym e) (all_left FitsArity (out-Level l).leaves (flat_map leaves_of (out-Level l).membranes) (subst (All FitsArity) (leaves_apart l) h))
+own_arities l ls e h = subst (All FitsArity) (sym e) (all_of_left FitsArity (out-Level l).leaves (flat_map leaves_of (out-Level l).membranes) (subst (All FitsArity) (leaves_apart l) h))
 
 piece_arities : (ms : List Level) (i : ℕ) (x : Level) → i < length ms → All FitsArity (flat_map leaves_of ms) → All FitsArity (leaves_of (get_or ms i x))
 piece_arities [] i x l h = absurd (omega (arith, l))
-piece_arities (m ∷ ms) zero x l h = all_left FitsArity (leaves_of m) (flat_map leaves_of ms) h
-piece_arities (m ∷ ms) (suc i) x l h = piece_arities ms i x (omega (arith, l)) (all_right FitsArity (leaves_of m) (flat_map leaves_of ms) h)
+piece_arities (m ∷ ms) zero x l h = all_of_left FitsArity (leaves_of m) (flat_map leaves_of ms) h
+piece_arities (m ∷ ms) (suc i) x l h = piece_arities ms i x (omega (arith, l)) (all_of_right FitsArity (leaves_of m) (flat_map leaves_of ms) h)
 
 pub inner_arities : (l : Level) (ms : List Level) (i : ℕ) (x : Level) → i < length ms → x ≡ get_or ms i x → ms ≡ (out-Level l).membranes → All FitsArity (leaves_of l) → All FitsArity (leaves_of x)
 inner_arities l ms i x lt e d h = subst (λ y. All FitsArity (leaves_of y)) (sym e) (piece_arities ms i x lt
-    (subst (λ xs. All FitsArity (flat_map leaves_of xs)) (sym d) (all_right FitsArity (out-Level l).leaves (flat_map leaves_of (out-Level l).membranes) (subst (All FitsArity) (leaves_apart l) h))))
+    (subst (λ xs. All FitsArity (flat_map leaves_of xs)) (sym d) (all_of_right FitsArity (out-Level l).leaves (flat_map leaves_of (out-Level l).membranes) (subst (All FitsArity) (leaves_apart l) h))))
 
 -- Rules
 

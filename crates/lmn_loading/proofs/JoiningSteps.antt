@@ -3,7 +3,7 @@ use Rattle.std.proofs.Common.{ℕ, zero, suc, ◌≡◌, ◌+◌, ◌<◌, ◌�
 use Rattle.std.specs.Option.{option_map}
 use Rattle.std.specs.Prelude.{slice_index_or}
 use Rattle.std.proofs.lemmas.Bool.{cases_lt}
-use Rattle.std.proofs.lemmas.List.{map-append, map-id, take_more, take_all}
+use Rattle.std.proofs.lemmas.List.{map-append, map-id, take_more, take_all, get_or_past}
 use Rattle.lmn_heap.specs.Heap.{Heap, port_id}
 use Rattle.lmn_splice.specs.Splice.{TwiceOrNever, both_links, links}
 use Rattle.lmn_splice.specs.Classes.{class_of}
@@ -13,13 +13,12 @@ use Rattle.lmn_classes.specs.Tables.{LinksBelow}
 use Rattle.lmn_loading.specs.Joining.{held_at, held_after, met, MayMeet, AreFree, AreJoined}
 use Rattle.lmn_loading.proofs.Meeting.{Meets, none_met, one_more, may_meet, all_met}
 use Rattle.lmn_base.specs.Graphs.{Port}
-use Rattle.lmn_base.proofs.Lists.{past_end}
 
 module _ {A : Type 0} (id : A → ℕ) where
   none_held : (table : List (Option (A × ℕ))) → ((z : ℕ) → z < length table → slice_index_or table z None ≡ None) → (z : ℕ) → held_at id table z ≡ None
   none_held table h z = elim (cases_lt z (length table)) [
     | inl l ↦ ap (option_map (port_id id)) (h z l)
-    | inr l ↦ ap (option_map (port_id id)) (past_end table z None l)
+    | inr l ↦ ap (option_map (port_id id)) (get_or_past table z None l)
   ]
 
   pub meets_none : (m : ℕ → ℕ) (es : List ((A × ℕ) × ℕ)) (s : Heap) (table : List (Option (A × ℕ))) (n : ℕ) → length table ≡ n → ((z : ℕ) → z < n → slice_index_or table z None ≡ None) → AreFree s (by_id id es)

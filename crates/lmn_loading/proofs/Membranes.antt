@@ -12,12 +12,10 @@ use Rattle.lmn_base.specs.Levels.{leaves_of}
 use Rattle.lmn_base.proofs.ItemLemmas.{leaves_apart}
 use Rattle.lmn_congruence.specs.SolidsOfPlains.{fused_leaf, fused_step, fused_region}
 use Rattle.lmn_heap.specs.Heap.{Heap, HeapMem, within, alter, new_mem, mem_with_place, mem_with_mems, home_by, IsMem, IsPlacedMem, IsTopOrWithin, atoms_in, mems_in, rules_in, atoms_by, mems_by, rules_by, mem_place_of, made_mem}
-use Rattle.lmn_heap.specs.Lists as lists
 use Rattle.lmn_heap.specs.Solid.{solid_atoms_at, regions_of}
 use Rattle.lmn_heap.specs.Sound.{Sound, bare, mem, flat, Forms}
 use Rattle.lmn_heap.proofs.Calls.{calls_keep_sound, stands_some as standing_is_mem}
 use Rattle.lmn_heap.proofs.ListLemmas as lemmas
-use Rattle.lmn_heap.proofs.Trees.{nil_right}
 use Rattle.lmn_heap.proofs.Listing.{alter_at, alter_away}
 use Rattle.lmn_splice.specs.Splice.{links}
 use Rattle.lmn_loading.specs.Adding.{CanBeFilled, Named, atom_links, AddsToMembrane, with_mem}
@@ -27,6 +25,7 @@ use Rattle.lmn_congruence.specs.Links.{places}
 use Rattle.lmn_loading.proofs.AloneLemmas.{nil as nil_leaves}
 use Rattle.lmn_base.specs.Graphs.{Port}
 use Rattle.lmn_base.specs.Lists.{In}
+use Rattle.lmn_base.proofs.Lists.{plus_nothing}
 
 -- a level without its connectors, by its lists
 pub fused_apart : (v : ℕ → ℕ) (l : Level) → fused_region v l ≡ roll-Region (record { atoms = flat_map (fused_leaf v) (out-Level l).leaves; membranes = map (fused_region v) (out-Level l).membranes; rules = (out-Level l).rules })
@@ -154,7 +153,7 @@ module _ (s : Heap) (m n : ℕ) (h : CanBeFilled s m) (fresh : s.mems n ≡ None
 
     new_ones : (k : ℕ) → In k (flat (mem n b.forest bare)) → (s.mems k ≡ None) × IsPlacedMem t k
     new_ones k (inl e) = (ap s.mems (sym e) ∙ fresh, subst (IsPlacedMem t) e place_new)
-    new_ones k (inr i) = let j = subst (In k) (nil_right (flat b.forest)) i in (fresh_before k (b.new k j).0, (b.new k j).1)
+    new_ones k (inr i) = let j = subst (In k) (plus_nothing (flat b.forest)) i in (fresh_before k (b.new k j).0, (b.new k j).1)
 
     other_mem : (k : ℕ) → IsMem s k → k ≢ m → t.mems k ≡ s.mems k
     other_mem k i d =
@@ -169,9 +168,9 @@ module _ (s : Heap) (m n : ℕ) (h : CanBeFilled s m) (fresh : s.mems n ≡ None
       atoms = [];
       mems = n ∷ [];
       forest = mem n b.forest bare;
-      atoms_are = ap atoms_by home_stays ∙ (kept_home (s.mems m)).0 ∙ sym (nil_right (atoms_in s m));
+      atoms_are = ap atoms_by home_stays ∙ (kept_home (s.mems m)).0 ∙ sym (plus_nothing (atoms_in s m));
       mems_are = ap mems_by home_stays ∙ grown_home (s.mems m) was_mem;
-      rules_are = ap rules_by home_stays ∙ (kept_home (s.mems m)).1 ∙ sym (nil_right (rules_in s m));
+      rules_are = ap rules_by home_stays ∙ (kept_home (s.mems m)).1 ∙ sym (plus_nothing (rules_in s m));
       forms = ([], refl, subst (Forms t b.forest) (sym mems_new) b.forms, refl);
       here = λ v name k. refl;
       below = regions;

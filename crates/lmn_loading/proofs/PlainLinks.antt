@@ -24,7 +24,6 @@ use Rattle.lmn_base.specs.Solids.{atoms_of_region, atoms_step}
 use Rattle.lmn_base.specs.WellMade.{FitsArity, IsAtomLeaf}
 use Rattle.lmn_base.proofs.ItemLemmas.{leaves_apart}
 use Rattle.lmn_congruence.specs.SolidsOfPlains.{is_equals, is_connector, fused_leaf, fused_step, fused_region, JoinsLeaf}
-use Rattle.lmn_congruence.proofs.Appended.{all_right}
 use Rattle.lmn_congruence.proofs.SolidsOfPlains.{twice_mapped}
 use Rattle.lmn_splice.specs.Splice.{IsOneOf, both_links}
 use Rattle.lmn_splice.specs.Classes.{with_joined, classes}
@@ -35,7 +34,7 @@ use Rattle.lmn_congruence.specs.Process.{replace}
 use Rattle.lmn_congruence.proofs.Counts.{one_if_equal as one_same}
 use Rattle.lmn_congruence.proofs.TranslatedLinks.{places_append as often_append}
 use Rattle.lmn_splice.proofs.Common.{in_append as either_in}
-use Rattle.lmn_base.proofs.Lists.{joined_alike as both}
+use Rattle.lmn_base.proofs.Lists.{joined_alike as both, all_of_right}
 use Rattle.lmn_base.proofs.Common.{inner_leaves, inner_atoms}
 
 -- Counting
@@ -108,7 +107,7 @@ one_leaf z (Atom f os p) h a = by (is_connector f) refl
 pub all_links : (z : ℕ) (ls : List Leaf) → All FitsArity ls → All IsAtomLeaf ls →
     places z (map (λ o. o.link) (flat_map occurrences_of_leaf ls)) ≡ places z (both_links (connectors_of_leaves ls)) + places z (atom_links ls)
 all_links z [] h a = refl
-all_links z (l ∷ ls) h a = omega (arith, first, second, third, one_leaf z l (h zero l (omega arith)) (a zero l (omega arith)), all_links z ls (all_right FitsArity (l ∷ []) ls h) (all_right IsAtomLeaf (l ∷ []) ls a))
+all_links z (l ∷ ls) h a = omega (arith, first, second, third, one_leaf z l (h zero l (omega arith)) (a zero l (omega arith)), all_links z ls (all_of_right FitsArity (l ∷ []) ls h) (all_of_right IsAtomLeaf (l ∷ []) ls a))
   where
     first : places z (map (λ o. o.link) (occurrences_of_leaf l ++ flat_map occurrences_of_leaf ls)) ≡ places z (map (λ o. o.link) (occurrences_of_leaf l)) + places z (map (λ o. o.link) (flat_map occurrences_of_leaf ls))
     first = ap (places z) (map-append (λ (o : Occ). o.link) (occurrences_of_leaf l) (flat_map occurrences_of_leaf ls)) ∙ often_append z _ _
@@ -169,7 +168,7 @@ pub connectors_joined : (v : ℕ → ℕ) (ls : List Leaf) → All FitsArity ls 
 connectors_joined v [] h j e i = absurd i
 connectors_joined v (l ∷ ls) h j e i = elim (either_in e (leaf_pairs l) (connectors_of_leaves ls) i) [
   | inl k ↦ leaf_joined v l (h zero l (omega arith)) (j zero l (omega arith)) e k
-  | inr k ↦ connectors_joined v ls (all_right FitsArity (l ∷ []) ls h) (all_right (JoinsLeaf v) (l ∷ []) ls j) e k
+  | inr k ↦ connectors_joined v ls (all_of_right FitsArity (l ∷ []) ls h) (all_of_right (JoinsLeaf v) (l ∷ []) ls j) e k
 ]
 
 -- The links of the fused process

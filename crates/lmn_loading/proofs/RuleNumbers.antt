@@ -4,21 +4,19 @@ use Rattle.lmn_base.specs.declared.solid.Region.{Region}
 use Rattle.lmn_base.specs.declared.solid.Region.TheViews.{roll-Region}
 use Rattle.lmn_base.specs.declared.solid.Region.TheFolds.{fold-roll-Region}
 use Rattle.lmn_base.specs.Solids.{rules_step}
-use Rattle.lmn_congruence.proofs.Appended.{all_left, all_right}
 use Rattle.lmn_heap.specs.Heap.{Heap, HeapMem, atoms_in, rules_in, rules_by}
-use Rattle.lmn_heap.specs.Lists as lists
 use Rattle.lmn_heap.specs.Solid.{solid_atoms_at, regions_of}
 use Rattle.lmn_heap.specs.Sound.{Forest, bare, mem, flat}
-use Rattle.lmn_heap.proofs.Trees.{in_either}
 use Rattle.lmn_loading.specs.Laws.{LoadedRules}
 use Rattle.lmn_base.proofs.Common.{rules}
 use Rattle.lmn_congruence.proofs.Common.{rules_kept, all_rules}
 use Rattle.lmn_base.specs.Lists.{In}
+use Rattle.lmn_base.proofs.Lists.{in_either, all_of_left, all_of_right}
 
 all_in : (P : ℕ → Type 0) (xs : List ℕ) → All P xs → (k : ℕ) → In k xs → P k
 all_in P [] h k i = absurd i
 all_in P (x ∷ xs) h k (inl e) = subst P e (h zero x (omega arith))
-all_in P (x ∷ xs) h k (inr i) = all_in P xs (all_right P (x ∷ []) xs h) k i
+all_in P (x ∷ xs) h k (inr i) = all_in P xs (all_of_right P (x ∷ []) xs h) k i
 
 -- the region of a membrane with this forest inside it
 abbrev regions_first : Heap → (ℕ → ℕ → ℕ) → ℕ → Forest → Region
@@ -29,12 +27,12 @@ in_forest : (P : ℕ → Type 0) (s : Heap) (name : ℕ → ℕ → ℕ) (f : Fo
 in_forest P s name bare h m i = absurd i
 in_forest P s name (mem n x r) h m i =
     let here : rules (regions_first s name n x) ≡ rules_in s n ++ all_rules (regions_of s name x) = fold-roll-Region (List ℕ) rules_step _ in
-    let first : All P (rules_in s n ++ all_rules (regions_of s name x)) = subst (All P) here (all_left P (rules (regions_first s name n x)) (all_rules (regions_of s name r)) h) in
-    let rest : All P (all_rules (regions_of s name r)) = all_right P (rules (regions_first s name n x)) (all_rules (regions_of s name r)) h in
+    let first : All P (rules_in s n ++ all_rules (regions_of s name x)) = subst (All P) here (all_of_left P (rules (regions_first s name n x)) (all_rules (regions_of s name r)) h) in
+    let rest : All P (all_rules (regions_of s name r)) = all_of_right P (rules (regions_first s name n x)) (all_rules (regions_of s name r)) h in
     elim i [
-      | inl e ↦ subst (λ k. All P (rules_in s k)) e (all_left P (rules_in s n) (all_rules (regions_of s name x)) first)
+      | inl e ↦ subst (λ k. All P (rules_in s k)) e (all_of_left P (rules_in s n) (all_rules (regions_of s name x)) first)
       | inr j ↦ elim (in_either m (flat x) (flat r) j) [
-        | inl q ↦ in_forest P s name x (all_right P (rules_in s n) (all_rules (regions_of s name x)) first) m q
+        | inl q ↦ in_forest P s name x (all_of_right P (rules_in s n) (all_rules (regions_of s name x)) first) m q
         | inr q ↦ in_forest P s name r rest m q
       ]
     ]

@@ -4,7 +4,7 @@ use Rattle.std.specs.List.{flat_map}
 use Rattle.std.specs.Option.{option_map, option_and_then}
 use Rattle.std.specs.Prelude.{slice_index_or}
 use Rattle.std.proofs.lemmas.Bool.{cases_lt}
-use Rattle.std.proofs.lemmas.List.{map-id}
+use Rattle.std.proofs.lemmas.List.{map-id, get_or_past}
 use Rattle.lmn_base.specs.declared.level.Leaf.{Leaf}
 use Rattle.lmn_base.specs.declared.level.Level.{out-Level}
 use Rattle.lmn_base.specs.declared.rule.Plain.{Plain}
@@ -38,12 +38,11 @@ use Rattle.lmn_congruence.specs.Links.{places}
 use Rattle.lmn_congruence.proofs.TranslatedLinks.{counted, places_append as often_append}
 use Rattle.lmn_heap.proofs.Common.{atom_with_links as has_links, nothing_in as no_some}
 use Rattle.lmn_splice.proofs.Common.{in_back as right_in, in_front as left_in}
-use Rattle.lmn_base.proofs.Lists.{past_end, joined_alike as both}
+use Rattle.lmn_base.proofs.Lists.{joined_alike as both}
 use Rattle.lmn_classes.specs.Tables.{PairsBelow, LinksBelow}
 use Rattle.lmn_base.specs.Levels as levels
 use Rattle.lmn_base.specs.Links as base
 use Rattle.lmn_base.specs.Solids as solids
-use Rattle.lmn_heap.specs.Lists as lists
 use Rattle.lmn_heap.proofs.ListLemmas as lemmas
 use Rattle.lmn_base.specs.Lists.{In}
 
@@ -146,7 +145,7 @@ module _ (p : Plain) (s t : Heap) (ps : List (Port × ℕ)) (sound : Sound s) (e
   no_partner : (x i : ℕ) → link_of t x i ≡ None
   no_partner x i = elim (cases_lt i (length (partners_of (t.atoms x)))) [
     | inl l ↦ (a.made (x, i) ((made_atom x (has_links (t.atoms x) i l)).ports i l)).1.2
-    | inr l ↦ past_end (partners_of (t.atoms x)) i None l
+    | inr l ↦ get_or_past (partners_of (t.atoms x)) i None l
   ]
 
   pub free : AreFree t ps

@@ -1,5 +1,5 @@
 -- Atoms of a membrane besides those of typed contexts.
-use Rattle.std.proofs.Common.{ℕ, zero, suc, ◌≡◌, ◌≢◌, ◌<◌, ◌≤◌, ◌+◌, ◌-◌, ◌⊎◌, inl, inr, List, [], ◌∷◌, Some, pos, refl, arith, ap, sym, subst, length, take, get_or, ◌∙◌}
+use Rattle.std.proofs.Common.{ℕ, zero, suc, ◌≡◌, ◌≢◌, ◌<◌, ◌≤◌, ◌+◌, ◌-◌, ◌⊎◌, inl, inr, List, [], ◌∷◌, Some, pos, refl, arith, ap, sym, subst, length, take, ◌∙◌}
 use Rattle.std.specs.Prelude.{slice_get}
 use Rattle.std.specs.List.{AllByRecursion}
 use Rattle.lmn_base.specs.Graphs.{Reached, at_root}
@@ -201,12 +201,6 @@ known_agrees atom membrane g = record {
 abbrev pub Fewer : {A M : Type 0} → (A → ℕ) → (M → ℕ) → SetRegisters A M → List ℕ → ℕ → ℕ → ℕ → Heap → Type 0
 Fewer atom membrane set listed i m result h = (s : HeadRegisters) (n : ℕ) → Agrees atom membrane set s → HasOthers (IsInSome h s (take i listed)) n (atoms_in h m) →
     (result ≤ n) × HasOthers (IsInSome h s (take (i + 1) listed)) (n - result) (atoms_in h m)
-
--- what stands at a place of a list
-pub slice_at : {A : Type 0} (xs : List A) (i : ℕ) (d : A) → i < length xs → slice_get xs i ≡ Some (get_or xs i d)
-slice_at [] i d l = absurd (omega (arith, l))
-slice_at (x ∷ xs) zero d l = refl
-slice_at (x ∷ xs) (suc i) d l = slice_at xs i d (omega (arith, l))
 
 -- none of the parts up to here is entered at a port
 pub unlisted_next : {A : Type 0} (atom : A → ℕ) (listed : List ℕ) (parts : List (A × ℕ)) (root : ℕ × ℕ) (n k0 : ℕ) (p0 : A × ℕ) → slice_get listed n ≡ Some k0 → slice_get parts k0 ≡ Some p0 → port_id atom p0 ≢ root →

@@ -1,5 +1,5 @@
 -- Trying the candidates of a choice in order.
-use Rattle.std.proofs.Common.{ℕ, zero, suc, ◌≡◌, ◌+◌, ◌⊎◌, inl, inr, List, [], ◌∷◌, ◌++◌, Option, Some, None, refl, arith, ap, sym, subst, length, take, ◌∙◌}
+use Rattle.std.proofs.Common.{ℕ, ◌≡◌, ◌+◌, inl, inr, List, [], ◌∷◌, ◌++◌, Option, Some, None, refl, arith, ap, sym, subst, length, take, ◌∙◌}
 use Rattle.std.specs.Prelude.{true, false, slice_get, IsSome}
 use Rattle.std.specs.Option.{option_map}
 use Rattle.lmn_base.specs.declared.functor.Functor.{Functor}
@@ -16,16 +16,11 @@ use Rattle.lmn_registers.specs.Agreeing.{Agrees}
 use Rattle.lmn_machine.specs.Searching.{AreHeldWhole, Extends, SetsAll, Searched, SetsMore}
 use Rattle.lmn_machine.proofs.Stepping.{extends_itself, agrees_before, extends_on}
 use Rattle.lmn_machine.proofs.Candidates.{index_after, index_behind, with_functor_in}
-use Rattle.lmn_base.proofs.Lists.{get_front, get_last, length_one as longer, take_whole}
+use Rattle.lmn_base.proofs.Lists.{get_front, get_last, take_whole, get_either}
 use Rattle.lmn_heap.proofs.Heights.{has_parent as mem_there, place_by_parent}
 use Rattle.lmn_heap.proofs.Listing.{home_place as place_by_home}
 use Rattle.lmn_base.specs.Lists.{In}
-
-pub get_either : {A : Type 0} (xs : List A) (y : A) (k : ℕ) (x : A) → slice_get (xs ++ y ∷ []) k ≡ Some x → (slice_get xs k ≡ Some x) ⊎ ((k ≡ length xs) × (y ≡ x))
-get_either [] y zero x e = inr (refl, cc)
-get_either [] y (suc k) x e = absurd (cc)
-get_either (z ∷ xs) y zero x e = inl e
-get_either (z ∷ xs) y (suc k) x e = elim (get_either xs y k x e) [ inl s ↦ inl s | inr s ↦ inr (ap suc s.0, s.1) ]
+use Rattle.std.proofs.lemmas.List.{length_push}
 
 pub take_front : {A : Type 0} (xs ys : List A) → take (length xs) (xs ++ ys) ≡ xs
 take_front [] ys = refl
@@ -90,7 +85,7 @@ module _ {A M : Type 0} (atom : A → ℕ) (membrane : M → ℕ) (h : Heap) whe
   atom_more : (g : SetRegisters A M) (a : A) (code is : List Instr) (f : Functor) (y c : ℕ) → code ≡ FindAtom (length g.atoms) y f ∷ is → SetsAll c g code → SetsAll c (with_atom g a) is
   atom_more g a code is f y c e k =
       let t : atoms_set code ≡ 1 + atoms_set is = ap atoms_set e in
-      let l = longer g.atoms a in
+      let l = length_push g.atoms a in
       omega (arith, t, l, k)
 
   membrane_more : (g : SetRegisters A M) (m : M) (code is : List Instr) (y c : ℕ) → code ≡ AnyMem (length g.membranes) y ∷ is → SetsAll c g code → SetsAll c (with_membrane g m) is
@@ -139,7 +134,7 @@ module _ {A M : Type 0} (atom : A → ℕ) (membrane : M → ℕ) (h : Heap) whe
     held = t.held;
     extends = extends_on atom membrane h g (with_atom g a) k (extends_atom g a) t.extends;
     sets = λ u. subst (λ c. SetsMore g k c) (sym e) (record {
-      atoms = (let n = (t.sets refl).atoms in let l = longer g.atoms a in omega (arith, n, l));
+      atoms = (let n = (t.sets refl).atoms in let l = length_push g.atoms a in omega (arith, n, l));
       membranes = (t.sets refl).membranes;
       parts = (t.sets refl).parts;
       integers = (t.sets refl).integers;
@@ -217,7 +212,7 @@ module _ {A M : Type 0} (atom : A → ℕ) (membrane : M → ℕ) (h : Heap) whe
     extends = extends_on atom membrane h g (with_membrane g a) k (extends_membrane g a) t.extends;
     sets = λ u. subst (λ c. SetsMore g k c) (sym e) (record {
       atoms = (t.sets refl).atoms;
-      membranes = (let n = (t.sets refl).membranes in let l = longer g.membranes a in omega (arith, n, l));
+      membranes = (let n = (t.sets refl).membranes in let l = length_push g.membranes a in omega (arith, n, l));
       parts = (t.sets refl).parts;
       integers = (t.sets refl).integers;
     });

@@ -13,8 +13,9 @@ use Rattle.lmn_registers.specs.declared.registers.SetRegisters.{SetRegisters}
 use Rattle.lmn_registers.specs.Agreeing.{Agrees}
 use Rattle.lmn_machine.specs.Searching.{AreHeldWhole, Extends, Stepped, HeadInOrder, HasGiven}
 use Rattle.lmn_machine.proofs.Stepping.{SetsSo, extends_itself, agrees_before}
-use Rattle.lmn_machine.proofs.Choosing.{get_either, take_front}
-use Rattle.lmn_base.proofs.Lists.{get_last, length_one, take_whole}
+use Rattle.lmn_machine.proofs.Choosing.{take_front}
+use Rattle.lmn_base.proofs.Lists.{get_last, take_whole, get_either}
+use Rattle.std.proofs.lemmas.List.{length_push}
 
 abbrev pub with_integer : {A M : Type 0} → SetRegisters A M → ℤ → SetRegisters A M
 with_integer g z = record g { integers = g.integers ++ z ∷ [] }
@@ -67,9 +68,9 @@ module _ {A M : Type 0} (atom : A → ℕ) (membrane : M → ℕ) (h : Heap) whe
           atoms = (let n = count.0 in omega (arith, n));
           membranes = (let n = count.1 in omega (arith, n));
           parts = (let n = count.2 in omega (arith, n));
-          integers = (let n = count.3 in let l = length_one g.integers z in omega (arith, n, l));
+          integers = (let n = count.3 in let l = length_push g.integers z in omega (arith, n, l));
         };
-        order = λ t is u. subst (λ n. HeadInOrder (length g.atoms) (length g.membranes) (length g.parts) n is) (sym (length_one g.integers z)) (next is u);
+        order = λ t is u. subst (λ n. HeadInOrder (length g.atoms) (length g.membranes) (length g.parts) n is) (sym (length_push g.integers z)) (next is u);
       }
 
   binary : (f : ℤ → ℤ → Option ℤ) (g : SetRegisters A M) (s : HeadRegisters) (v w x : ℕ) (m n : ℤ) (o : Option ℤ) → Agrees atom membrane g s → slice_get g.integers w ≡ Some m → slice_get g.integers x ≡ Some n →

@@ -21,9 +21,10 @@ use Rattle.lmn_registers.specs.declared.registers.SetRegisters.{SetRegisters}
 use Rattle.lmn_registers.specs.Agreeing.{Agrees}
 use Rattle.lmn_machine.specs.Searching.{AreHeldWhole, Extends, AllSet, Stepped, HeadInOrder, HasGivenPart, AreApart, IsLone, IsWholeApart, IsHeldPart}
 use Rattle.lmn_machine.proofs.Stepping.{SetsSo, extends_itself, agrees_before}
-use Rattle.lmn_machine.proofs.Choosing.{get_either, take_front}
-use Rattle.lmn_base.proofs.Lists.{get_last, length_one, take_whole}
+use Rattle.lmn_machine.proofs.Choosing.{take_front}
+use Rattle.lmn_base.proofs.Lists.{get_last, take_whole, get_either}
 use Rattle.lmn_base.proofs.Numbers.{below_next2 as less_or_same}
+use Rattle.std.proofs.lemmas.List.{length_push}
 
 -- none of the first i handles is of an atom
 pub record ApartUpTo {A : Type 0} (atom : A → ℕ) (handles : List A) (n i : ℕ) : Type 0 where
@@ -197,10 +198,10 @@ module _ {A M : Type 0} (atom : A → ℕ) (membrane : M → ℕ) (h : Heap) whe
         sets = λ t. record {
           atoms = (let n = count.0 in omega (arith, n));
           membranes = (let n = count.1 in omega (arith, n));
-          parts = (let n = count.2 in let l = length_one g.parts p in omega (arith, n, l));
+          parts = (let n = count.2 in let l = length_push g.parts p in omega (arith, n, l));
           integers = (let n = count.3 in omega (arith, n));
         };
-        order = λ t is u. subst (λ n. HeadInOrder (length g.atoms) (length g.membranes) n (length g.integers) is) (sym (length_one g.parts p)) (next is u);
+        order = λ t is u. subst (λ n. HeadInOrder (length g.atoms) (length g.membranes) n (length g.integers) is) (sym (length_push g.parts p)) (next is u);
       }
 
   -- what the search for a part of one atom answers, from the port of a handle in a membrane

@@ -22,12 +22,13 @@ use Rattle.lmn_instr.specs.declared.instr.Instr.{Instr}
 use Rattle.lmn_instr.specs.declared.instr.Instr.TheVariants.{FindAtom, Deref, AnyMem, NeqAtom, NeqMem, NotIn, IsInt, IsUnary, IsGround, NAtoms, NMems, NoRules, EqGround, NeqGround, GetInt, Const, Add, Sub, Mul, Div, Mod, Commit}
 use Rattle.lmn_instr.specs.HeadCode.{items_code, atom_code, found_code, differ_code, differ_membrane_code, ports_code, port_code, joined_code, find_port, occurrences_before, Entry, entry, is_entry, operand, filled_code, all_filled_code, parts_inside, number_inside, head_code, parts_code, part_code, test_of, guard_code}
 use Rattle.lmn_compile_head.specs.Heads.{IsHead, IsGuard, EachInside}
-use Rattle.lmn_compile_head.proofs.Places.{occurs, has_either, atoms_have, ports_have, find_found, find_missed, stands_at, entry_stands, slice_take}
+use Rattle.lmn_compile_head.proofs.Places.{occurs, has_either, atoms_have, ports_have, find_found, find_missed, stands_at, entry_stands}
 use Rattle.lmn_compile_head.proofs.Nesting.{membranes_nested}
 use Rattle.lmn_registers.specs.declared.stack.TheConstants.{ROOM}
 use Rattle.lmn_machine.specs.Searching.{TestsSetRegisters, HeadInOrder}
 use Rattle.lmn_base.specs.Graphs.{Port}
 use Rattle.lmn_base.proofs.Truth.{if_at_most as outer_if}
+use Rattle.lmn_base.proofs.Lists.{get_taken}
 
 -- Code before any typed context is set.
 
@@ -124,7 +125,7 @@ module _ (items : List HeadItem) (head : IsHead items) where
   port_found : (n i x : ℕ) (a : HeadAtom) (q : Port) → find_port x (occurrences_before items n a i) ≡ Some q → q.0 ≤ n
   port_found n i x a q e =
       elim (has_either (occurs x q) (at_atoms 0 (take n (atoms_of items))) (at_ports n 0 (take i a.links)) (find_found x (occurrences_before items n a i) q e)) [
-        | inl t ↦ (let r = atoms_have 0 (take n (atoms_of items)) (occurs x q) t in let l = (slice_take n (atoms_of items) r.0 r.2 r.3).0 in
+        | inl t ↦ (let r = atoms_have 0 (take n (atoms_of items)) (occurs x q) t in let l = (get_taken n (atoms_of items) r.0 r.2 r.3).0 in
             let s : q.0 ≡ 0 + r.0 = ap (λ w. w.0) r.5 in omega arith)
         | inr t ↦ (let r = ports_have n 0 (take i a.links) (occurs x q) t in let s : q.0 ≡ n = ap (λ w. w.0) r.2 in omega arith)
       ]
@@ -133,7 +134,7 @@ module _ (items : List HeadItem) (head : IsHead items) where
   entry_found n a e t =
       let k = entry_stands (at_atoms 0 (take n (atoms_of items))) 0 a.links e t in
       let v = atoms_have 0 (take n (atoms_of items)) (occurs k.1 e.1) (find_found k.1 (at_atoms 0 (take n (atoms_of items))) e.1 k.4) in
-      let l = (slice_take n (atoms_of items) v.0 v.2 v.3).0 in
+      let l = (get_taken n (atoms_of items) v.0 v.2 v.3).0 in
       let same : e.1.0 ≡ 0 + v.0 = ap (λ w. w.0) v.5 in omega arith
 
   found_order : (n m : ℕ) (a : HeadAtom) (e : Option Entry) (ys : List Instr) → entry items n a ≡ e → a.inside < m → n < ROOM → PlainOrder (n + 1) m ys → PlainOrder n m (found_code n a e ++ ys)

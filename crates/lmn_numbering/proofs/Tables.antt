@@ -16,9 +16,8 @@ use Rattle.lmn_base.specs.LinkUses.{RisingPlaces, no_places, places_and, TellsOf
 use Rattle.lmn_numbering.specs.declared.tally.FirstPlaces.{FirstPlaces}
 use Rattle.lmn_numbering.specs.declared.tally.Tally.{Tally}
 use Rattle.lmn_numbering.specs.Tallies.{Rising, AreFirstThree, IsTally, places_among, AreTallies, EachOccurs, EachOccursAlone, IsOwnTally, EachAlone, AreAlone, IsJoinedEntry, EachJoined, IsJoinedTable}
-use Rattle.lmn_numbering.proofs.TallySteps.{last_or_before}
 use Rattle.lmn_base.specs.Lists.{In}
-use Rattle.lmn_base.proofs.Lists.{get_there as read_at, in_either}
+use Rattle.lmn_base.proofs.Lists.{get_there as read_at, in_either, get_either}
 use Rattle.lmn_base.proofs.Common.{numbers_grow, numbers_in}
 
 -- ---- one entry
@@ -134,7 +133,7 @@ module _ (heads bodies : List Tally) where
       let size = length-append table (u ∷ []) in
       let whole = ap length e in
       let was = before.0 in
-      (omega (arith, size, whole, was), λ x g c v p q t. let P : List LinkUse → Type 0 = λ us. slice_get us x ≡ Some v in go x g c v p q (last_or_before table u v x (subst P e t)))
+      (omega (arith, size, whole, was), λ x g c v p q t. let P : List LinkUse → Type 0 = λ us. slice_get us x ≡ Some v in go x g c v p q (get_either table u x v (subst P e t)))
     where
       go : (x : ℕ) (g c : Tally) (v : LinkUse) → slice_get heads x ≡ Some g → slice_get bodies x ≡ Some c → (slice_get table x ≡ Some v) ⊎ ((x ≡ length table) × (u ≡ v)) → IsJoinedEntry g c v
       go x g c v p q (inl t) = before.1 x g c v p q t
@@ -168,7 +167,7 @@ module _ (tallies : List Tally) where
       let size = length-append table (u ∷ []) in
       let whole = ap length e in
       let was = before.0 in
-      (omega (arith, size, whole, was), λ x s v p q. let P : List LinkUse → Type 0 = λ us. slice_get us x ≡ Some v in go x s v p (last_or_before table u v x (subst P e q)))
+      (omega (arith, size, whole, was), λ x s v p q. let P : List LinkUse → Type 0 = λ us. slice_get us x ≡ Some v in go x s v p (get_either table u x v (subst P e q)))
     where
       go : (x : ℕ) (s : Tally) (v : LinkUse) → slice_get tallies x ≡ Some s → (slice_get table x ≡ Some v) ⊎ ((x ≡ length table) × (u ≡ v)) → IsOwnTally s v
       go x s v p (inl q) = before.1 x s v p q

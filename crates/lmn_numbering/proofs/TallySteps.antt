@@ -1,7 +1,6 @@
 -- Occurrences counted one after another.
-use Rattle.std.proofs.Common.{◌≡◌, ℕ, zero, suc, ◌+◌, ◌<◌, ◌≤◌, ◌⊎◌, inl, inr, ◌==◌, Bool, false, if◌then◌else◌, List, [], ◌∷◌, ◌++◌, map, filter, length, set, get_or, take, slice_get, Some, All, refl, sym, ap, ◌∙◌, subst, arith}
+use Rattle.std.proofs.Common.{◌≡◌, ℕ, zero, suc, ◌+◌, ◌<◌, ◌≤◌, ◌⊎◌, inl, inr, ◌==◌, Bool, if◌then◌else◌, List, [], ◌∷◌, ◌++◌, map, filter, length, set, get_or, take, slice_get, Some, All, refl, sym, ap, ◌∙◌, subst, arith}
 use Rattle.std.specs.List.{flat_map}
-use Rattle.std.proofs.lemmas.Bool.Decides.{nat_tests}
 use Rattle.std.proofs.lemmas.List.{take_more, take_all, map-append, append-nil, append_assoc, length-set, length-append, get_or_default}
 use Rattle.std.proofs.lemmas.List.Concat.{flat_map-append}
 use Rattle.std.proofs.lemmas.List.Elements.{filter-append, All-head}
@@ -16,15 +15,13 @@ use Rattle.lmn_numbering.specs.declared.tally.Tally.{Tally}
 use Rattle.lmn_numbering.specs.Tallies.{IsTally, places_among, AreTallies, CountsOccurrences}
 use Rattle.lmn_numbering.proofs.LevelSteps.{all_left, all_right}
 use Rattle.lmn_numbering.proofs.NumberSteps.{same_or_other, read_same, read_other}
-use Rattle.lmn_base.proofs.Numbers.{equal_itself as is_itself}
+use Rattle.lmn_base.proofs.Numbers.{equal_itself as is_itself, unequal}
+use Rattle.lmn_base.proofs.Lists.{get_either}
 
 -- ---- where a link stands among more occurrences
 
 among_more : (x : ℕ) (os ps : List Occ) → places_among x (os ++ ps) ≡ places_among x os ++ places_among x ps
 among_more x os ps = ap (map (λ (o : Occ). o.pos)) (filter-append (λ (o : Occ). o.link == x) os ps) ∙ map-append (λ (o : Occ). o.pos) (filter (λ o. o.link == x) os) (filter (λ o. o.link == x) ps)
-
-is_other : (x y : ℕ) → (x ≡ y → ⊥) → (y == x) ≡ false
-is_other x y h = grind (arith, nat_tests)
 
 abbrev kept : Occ → Bool → List Pos
 kept o t = map (λ (o : Occ). o.pos) (if t then o ∷ [] else [])
@@ -33,7 +30,7 @@ here : (o : Occ) → places_among o.link (o ∷ []) ≡ o.pos ∷ []
 here o = ap (kept o) (is_itself o.link)
 
 elsewhere : (x : ℕ) (o : Occ) → (x ≡ o.link → ⊥) → places_among x (o ∷ []) ≡ []
-elsewhere x o h = ap (kept o) (is_other x o.link h)
+elsewhere x o h = ap (kept o) (unequal o.link x (λ e. h (sym e)))
 
 -- ---- counting
 
@@ -129,17 +126,6 @@ module _ (t u v : List Tally) (l : Level) (leaves : List Leaf) (membranes : List
 
 -- ---- no occurrences
 
--- what stands in a list with one element more
-pub last_or_before : {A : Type 0} (xs : List A) (a b : A) (x : ℕ) → slice_get (xs ++ a ∷ []) x ≡ Some b → (slice_get xs x ≡ Some b) ⊎ ((x ≡ length xs) × (a ≡ b))
-last_or_before [] a b zero h = inr (refl, same_Some a b h)
-last_or_before [] a b (suc x) h = absurd (cc)
-last_or_before (y ∷ xs) a b zero h = inl h
-last_or_before (y ∷ xs) a b (suc x) h = go (last_or_before xs a b x h)
-  where
-    go : (slice_get xs x ≡ Some b) ⊎ ((x ≡ length xs) × (a ≡ b)) → (slice_get xs x ≡ Some b) ⊎ ((suc x ≡ suc (length xs)) × (a ≡ b))
-    go (inl e) = inl e
-    go (inr e) = inr (ap suc e.0, e.1)
-
 pub no_tally : (t : List Tally) → t ≡ [] → (length t ≡ 0) × AreTallies [] t
 no_tally t e = (ap length e, λ x u r. let P : List Tally → Type 0 = λ ts. slice_get ts x ≡ Some u in absurd (nothing x u (subst P e r)))
   where
@@ -152,7 +138,7 @@ next_tally n old new t h e k =
     let size = length-append old (t ∷ []) in
     let whole = ap length e in
     let was = k.0 in
-    (omega (arith, size, whole, was), λ x u r. let P : List Tally → Type 0 = λ ts. slice_get ts x ≡ Some u in go x u (last_or_before old t u x (subst P e r)))
+    (omega (arith, size, whole, was), λ x u r. let P : List Tally → Type 0 = λ ts. slice_get ts x ≡ Some u in go x u (get_either old t x u (subst P e r)))
   where
     go : (x : ℕ) (u : Tally) → (slice_get old x ≡ Some u) ⊎ ((x ≡ length old) × (t ≡ u)) → IsTally [] u
     go x u (inl r) = k.1 x u r

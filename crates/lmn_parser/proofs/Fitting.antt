@@ -9,7 +9,7 @@ use Rattle.std.specs.List.{AllByRecursion}
 use Rattle.lmn_grammar.specs.Grammar.{Ref, TermPart, Derives, by}
 use Rattle.lmn_grammar.specs.Limits.{ends_operand, may_be_operator, may_be_atom_name, continues_side, EndsWith, IsOperator, Side, begins, operand, operator, IsAtomName, Balanced, empty, comma, other, InArguments, begun, TermNext, behind_equal, in_arguments, in_list, of_any, of_term, left_of_equal}
 use Rattle.lmn_grammar.specs.Refusing.{IsWithin}
-use Rattle.lmn_grammar.proofs.Arguments.{balanced_word, not_beyond}
+use Rattle.lmn_grammar.proofs.Arguments.{balanced_word}
 use Rattle.lmn_grammar.proofs.Counts.{balanced_both, last_is, side_less}
 use Rattle.lmn_grammar.proofs.Theory.{empty_right}
 use Rattle.lmn_lexer.specs.declared.token.Kind.{Kind}
@@ -23,6 +23,7 @@ use Rattle.lmn_parser.specs.TreeLaws.{TreesFit}
 use Rattle.lmn_parser.proofs.TreeWords.{drop_token, next_to, term_words}
 use Rattle.lmn_base.proofs.Lists.{plus_nothing}
 use Rattle.lmn_base.proofs.Truth.{false_not_true as clash}
+use Rattle.lmn_base.proofs.Numbers.{at_most_by_not}
 
 -- What stands before the token with a number; it isn't an operand, so that no operator can follow.
 record Ready (ks : List Kind) (p : ℕ) : Type 0 where
@@ -141,17 +142,17 @@ module _ (front : List Kind) (word : Kind) where
   }
 
   any_fit : (ks : List Kind) (n : ℕ) → IsWithin ks → IsAtomName front word → LastPart arguments n ks → suc n ≤ 255
-  any_fit ks n w h l = not_beyond (suc n) 255 (λ lt. (w (arguments ++ l.inside) l.token l.rest l.split).1 (of_any (begun_in h l.balanced) lt))
+  any_fit ks n w h l = at_most_by_not (suc n) 255 (λ lt. (w (arguments ++ l.inside) l.token l.rest l.split).1 (of_any (begun_in h l.balanced) lt))
 
   term_fit : (ks : List Kind) (n : ℕ) → IsWithin ks → IsAtomName front word → LastPart arguments n ks → TermNext front → suc n ≤ 254
-  term_fit ks n w h l t = not_beyond (suc n) 254 (λ lt. (w (arguments ++ l.inside) l.token l.rest l.split).1 (of_term (begun_in h l.balanced) t lt))
+  term_fit ks n w h l t = at_most_by_not (suc n) 254 (λ lt. (w (arguments ++ l.inside) l.token l.rest l.split).1 (of_term (begun_in h l.balanced) t lt))
 
   equal_fit : (ks : List Kind) (n q : ℕ) → IsWithin ks → IsAtomName front word → Ending arguments n ks q → slice_get ks q ≡ Some RParen → slice_get ks (q + 1) ≡ Some Equal → suc n ≤ 254
   equal_fit ks n q w h l c e =
       let split : ks ≡ ((arguments ++ l.inside) ++ RParen ∷ []) ++ Equal ∷ drop (q + 1 + 1) ks =
       l.split ∙ ap (λ z. (arguments ++ l.inside) ++ z) (drop_token ks q RParen c ∙ ap (λ z. RParen ∷ z) (drop_token ks (q + 1) Equal e))
       ∙ sym (append_assoc (arguments ++ l.inside) (RParen ∷ []) (Equal ∷ drop (q + 1 + 1) ks)) in
-      not_beyond (suc n) 254 (λ lt. (w ((arguments ++ l.inside) ++ RParen ∷ []) Equal _ split).1 (left_of_equal (begun_in h l.balanced) lt))
+      at_most_by_not (suc n) 254 (λ lt. (w ((arguments ++ l.inside) ++ RParen ∷ []) Equal _ split).1 (left_of_equal (begun_in h l.balanced) lt))
 
 -- Sides.
 -- Behind a part of a side that has n operators up to there.

@@ -22,6 +22,7 @@ use Rattle.lmn_parser.proofs.TreeWords.{drop_all, next_to}
 use Rattle.lmn_base.proofs.Lists.{plus_nothing}
 use Rattle.lmn_base.proofs.Numbers.{test_at_most as at_most}
 use Rattle.lmn_base.proofs.Truth.{false_not_true as clash}
+use Rattle.std.proofs.lemmas.Bool.{and_left, and_right}
 
 abbrev state : List Opened → ℕ → Last → Scan
 state o n l = record { opened = o; operators = n; last = l }
@@ -89,14 +90,6 @@ NotFull l = is_full l ≡ false
 any : (ks : List Kind) {q : ℕ} {o : List Opened} {P : Last → Type 0} → Walked ks q o P → Walked ks q o Any
 any ks w = record { operators = w.operators; last = w.last; walk = w.walk; holds = tt }
 
-and_first : (a b : Bool) → a ≡ false → (a && b) ≡ false
-and_first true b h = absurd (clash (sym h))
-and_first false b h = refl
-
-and_second : (a b : Bool) → b ≡ false → (a && b) ≡ false
-and_second true b h = h
-and_second false b h = refl
-
 -- Sides.
 record SumWalked (ks : List Kind) (q : ℕ) (o : List Opened) (n : ℕ) : Type 0 where
   pub last : Last
@@ -121,7 +114,7 @@ not_equal _ m = refl
 operator_step : (ks : List Kind) → Shallow ks → {q : ℕ} (k : Kind) (o : List Opened) (n : ℕ) → slice_get ks q ≡ Some k → may_be_operator k ≡ true → has_too_many o ≡ false → n ≤ 254 → SumWalked ks q o n → Walk ks (q + 1) (state o (n + 1) Other)
 operator_step ks shallow k o n h m t le w =
     walk_as ks (after_operator k m o n w.last w.ends)
-    (step ks shallow k w.walk h (and_second (is_operator (state o n w.last) k) (nat_le 255 n) (below 255 n (omega (arith, le))), t, and_first (is_equal k) (is_full w.last) (not_equal k m)))
+    (step ks shallow k w.walk h (and_right (is_operator (state o n w.last) k) (nat_le 255 n) (below 255 n (omega (arith, le))), t, and_left (is_equal k) (is_full w.last) (not_equal k m)))
 
 opened_round : (o : List Opened) (n : ℕ) (l : Last) → round_behind l ≡ Group → scan_after (state o n l) LParen ≡ state (Group ∷ o) n Other
 opened_round o n l h = ap (λ x. state (x ∷ o) n Other) h
@@ -232,7 +225,7 @@ walk_name ts s o n l (inl h) t e w = step (kinds_of ts) s Name w h (refl, t, ref
 walk_name ts s o n l (inr (inl h)) t e w = step (kinds_of ts) s Quoted w h (refl, t, refl)
 walk_name ts s o n l (inr (inr h)) t e w =
     walk_as (kinds_of ts) (ap (λ b. state o (if b then n + 1 else 0) (if b then Other else Word (limit_behind l o))) e)
-    (step (kinds_of ts) s Mod w h (and_first (was_operand l) (nat_le 255 n) e, t, refl))
+    (step (kinds_of ts) s Mod w h (and_left (was_operand l) (nat_le 255 n) e, t, refl))
 
 walk_context_arguments : (ts : List Token) → Shallow (kinds_of ts) → {xs : List ℕ} {p q : ℕ} → IsContextArguments ts xs p q → (o : List Opened) (m : ℕ) → has_too_many o ≡ false → length xs ≤ m →
     Walk (kinds_of ts) p (state o 0 (Word m)) → Walked (kinds_of ts) q o Any

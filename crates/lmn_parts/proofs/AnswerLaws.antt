@@ -1,11 +1,12 @@
 -- The atom of one list that stands where another stands in another list.
-use Rattle.std.proofs.Common.{◌≤◌, ◌≡◌, ◌≢◌, ℕ, List, [], ◌∷◌, length, map, refl, sym, ap, subst, ◌∙◌, inl, inr, arith}
+use Rattle.std.proofs.Common.{◌≤◌, ◌≡◌, ◌≢◌, ℕ, List, [], ◌∷◌, length, map, refl, sym, ap, subst, ◌∙◌, inl, inr, arith, Bool, true, false, cond, ◌==◌}
 use Rattle.std.proofs.lemmas.Bool.{cases_eq, eq-eqb}
 use Rattle.lmn_heap.specs.Heap.{Distinct}
 use Rattle.lmn_heap.proofs.ListLemmas.{each_in}
 use Rattle.lmn_parts.specs.Copies.{answer}
 use Rattle.lmn_base.proofs.Numbers.{not_equal as apart_test}
 use Rattle.lmn_base.specs.Lists.{In}
+use Rattle.lmn_parts.specs.Walks.{is_in}
 
 pub answer_here : (x y : ℕ) (xs ys : List ℕ) (a : ℕ) → x ≡ a → answer (x ∷ xs) (y ∷ ys) a ≡ y
 answer_here x y xs ys a e = rw (eq-eqb x a e) refl
@@ -68,3 +69,13 @@ map_answer (x ∷ xs) (y ∷ ys) d l =
     same : (zs : List ℕ) → ((z : ℕ) → In z zs → answer (x ∷ xs) (y ∷ ys) z ≡ answer xs ys z) → map (answer (x ∷ xs) (y ∷ ys)) zs ≡ map (answer xs ys) zs
     same [] h = refl
     same (z ∷ zs) h = ap (λ w. w ∷ map (answer (x ∷ xs) (y ∷ ys)) zs) (h z (inl refl)) ∙ ap (λ ws. answer xs ys z ∷ ws) (same zs (λ w k. h w (inr k)))
+
+-- the test of membership is true of an element
+pub is_in_true : (a : ℕ) (xs : List ℕ) → In a xs → is_in xs a ≡ true
+is_in_true a [] i = absurd i
+is_in_true a (x ∷ xs) (inl e) = rw (eq-eqb x a e) refl
+is_in_true a (x ∷ xs) (inr i) = by (x == a) (is_in_true a xs i)
+  where
+    by : (t : Bool) → is_in xs a ≡ true → cond t true (is_in xs a) ≡ true
+    by true e = refl
+    by false e = e

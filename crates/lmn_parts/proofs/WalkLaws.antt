@@ -7,6 +7,7 @@ use Rattle.lmn_heap.proofs.Listing.{distinct_snoc}
 use Rattle.lmn_parts.specs.Walks.{HasPort, port_range, Walk, ends, passes, finds}
 use Rattle.lmn_heap.specs.Solid.{links_from}
 use Rattle.lmn_base.specs.Lists.{In}
+use Rattle.lmn_base.proofs.Lists.{in_snoc}
 
 pub holds_left : (p : ℕ × ℕ) (ps qs : List (ℕ × ℕ)) → HasPort p ps → HasPort p (ps ++ qs)
 holds_left p [] qs h = absurd h
@@ -34,12 +35,6 @@ ports_named name a i (suc n) = ap (λ ys. name a i ∷ ys) (ports_named name a (
 
 pub in_last : (a : ℕ) (xs : List ℕ) → In a (xs ++ a ∷ [])
 in_last a xs = in_right a xs (a ∷ []) (inl refl)
-
-pub in_snoc : (a b : ℕ) (xs : List ℕ) → In a (xs ++ b ∷ []) → In a xs ⊎ (a ≡ b)
-in_snoc a b [] (inl e) = inr (sym e)
-in_snoc a b [] (inr i) = absurd i
-in_snoc a b (x ∷ xs) (inl e) = inl (inl e)
-in_snoc a b (x ∷ xs) (inr i) = elim (in_snoc a b xs i) [ inl j ↦ inl (inr j) | inr e ↦ inr e ]
 
 module _ (arity : ℕ → ℕ) (to : ℕ × ℕ → Option ℕ) where
   -- one walk

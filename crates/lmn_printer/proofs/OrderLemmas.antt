@@ -11,10 +11,11 @@ use Rattle.lmn_heap.proofs.Heights.{parent_place, mem_of_list}
 use Rattle.lmn_heap.proofs.ListLemmas.{each_in, in_left, in_right, in_split}
 use Rattle.lmn_heap.proofs.Listing.{home_is}
 use Rattle.lmn_heap.proofs.Pigeonholes.{not_longer}
-use Rattle.lmn_heap.proofs.Trees.{Left, lower, root_first, after_split, from_next, in_either}
+use Rattle.lmn_heap.proofs.Trees.{Left, lower, root_first, after_split, from_next}
 use Rattle.lmn_printer.specs.Numbers.{printed_atoms}
 use Rattle.lmn_heap.proofs.Common.{holds_mem as mem_with_atom}
 use Rattle.lmn_base.specs.Lists.{In}
+use Rattle.lmn_base.proofs.Lists.{in_either}
 
 -- the membrane round one is there
 pub parent_there : (s : Heap) → Sound s → (m p : ℕ) → parent_of s m ≡ Some p → IsMem s p

@@ -15,11 +15,11 @@ use Rattle.lmn_heap.specs.Solid.{links_from, solid_atom_at, solid_atoms_at, regi
 use Rattle.lmn_heap.specs.Sound.{Forest, bare, mem, flat, Sound}
 use Rattle.lmn_heap.proofs.ListLemmas.{in_left, in_right}
 use Rattle.lmn_heap.proofs.SolidLemmas.{atoms_append}
-use Rattle.lmn_heap.proofs.Trees.{in_either}
 use Rattle.lmn_printer.specs.Numbers.{printed_atoms, links_at_ports, links_on}
 use Rattle.lmn_printer.proofs.OrderLemmas.{printed_append}
 use Rattle.lmn_base.proofs.Common.{numbers_grow}
 use Rattle.lmn_base.specs.Lists.{In}
+use Rattle.lmn_base.proofs.Lists.{in_either}
 
 -- what stands in the lists of membranes is an atom
 pub printed_are : (s : Heap) → Sound s → (ms : List ℕ) (a : ℕ) → In a (printed_atoms s ms) → IsAtom s a

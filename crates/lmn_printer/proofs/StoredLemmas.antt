@@ -50,10 +50,6 @@ atom_at_home h a m e = by (h.atoms a) e
 pub placed_at_home : (h : Heap) (a m : ℕ) → home_of h a ≡ Some m → IsInPlace h a
 placed_at_home h a m e = subst IsSome (sym e) refl
 
--- what holds of the item of an option
-pub here : {A : Type 0} (P : A → Type 0) (o : Option A) (a : A) → o ≡ Some a → IfSome o P → P a
-here P o a e h = subst (λ x. IfSome x P) e h
-
 pub same_home : {A : Type 0} (id : A → ℕ) (h : Heap) (a : A) (m : ℕ) (next : Option A) → home_of h (id a) ≡ Some m → IfSome next (λ b. home_of h (id b) ≡ home_of h (id a)) → IfSome next (λ b. home_of h (id b) ≡ Some m)
 same_home id h a m None e i = tt
 same_home id h a m (Some b) e i = i ∙ e

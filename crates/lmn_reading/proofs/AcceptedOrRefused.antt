@@ -27,7 +27,7 @@ use Rattle.lmn_lexer.specs.declared.token.Kind.{Kind}
 use Rattle.lmn_lexer.specs.declared.token.Token.{Token}
 use Rattle.lmn_linkcheck.proofs.Firsts.{first_of_both as first_refusal_of_both, first_alone}
 use Rattle.lmn_linkcheck.proofs.LinkedLemmas.{no_fault_is_linked}
-use Rattle.lmn_linkcheck.proofs.Tables.{absent, fault_is_told, told_is_fault}
+use Rattle.lmn_linkcheck.proofs.Tables.{fault_is_told, told_is_fault}
 use Rattle.lmn_linkcheck.specs.Least.{IsFirstRefusal, earlier_refusal}
 use Rattle.lmn_parser.proofs.OneReading.{cut_ends}
 use Rattle.lmn_parser.proofs.OneLanguage.{refused_by_trees}
@@ -40,6 +40,7 @@ use Rattle.lmn_reading.specs.Laws.{IsAcceptedText, ReadingAcceptsOrRefuses}
 use Rattle.lmn_reading.specs.Texts.{ReadsAs, IsRefusedAs, by_bytes, by_tokens, by_contexts, by_links, by_rules, rows_of_rules}
 use Rattle.lmn_reading.proofs.Readings.{well_made}
 use Rattle.lmn_reading.proofs.Rules.{rules_accepted}
+use Rattle.lmn_base.proofs.Lists.{contains_none}
 
 -- ---- rows
 
@@ -70,7 +71,7 @@ links_decided : (p : Plain) → IsWellMade p → ((a : Refusal) → ¬ (LinkFaul
 links_decided p is = let first = some_first_of (told_of_plain p) in by first.0 first.1
   where
     by : (first : Option Refusal) → IsFirstRefusal (told_of_plain p) first → ((a : Refusal) → ¬ (LinkFault p a)) ⊎ ((refusal : Refusal) × IsFirstFault p refusal)
-    by None h = inl (λ a f. absent a (subst (λ refusals. Contains refusals a) h (fault_is_told p is a f)))
+    by None h = inl (λ a f. contains_none a (subst (λ refusals. Contains refusals a) h (fault_is_told p is a f)))
     by (Some a) h = inr (
       a,
       record {

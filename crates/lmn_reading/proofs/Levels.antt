@@ -16,11 +16,7 @@ use Rattle.lmn_base.specs.Levels.{contexts_of, leaves_of, rule_contexts_of}
 use Rattle.lmn_base.specs.WellMade.{IsAtomLeaf}
 use Rattle.lmn_numbering.specs.Outside.{context_place, context_places}
 use Rattle.lmn_plain.proofs.WellMadePlains.{NoContext}
-
--- where two lists make nothing, each is empty
-pub two_empty : {A : Type 0} (xs ys : List A) → xs ++ ys ≡ [] → (xs ≡ []) × (ys ≡ [])
-two_empty [] ys e = (refl, e)
-two_empty (x ∷ xs) ys e = absurd (cc)
+use Rattle.lmn_base.proofs.Lists.{two_empty}
 
 both_empty : {A : Type 0} (xs ys : List A) → xs ≡ [] → ys ≡ [] → xs ++ ys ≡ []
 both_empty xs ys e f = ap (λ l. l ++ ys) e ∙ f

@@ -7,13 +7,12 @@ use Rattle.lmn_congruence.specs.Congruence.{Congruent, unit, swap, chain}
 use Rattle.lmn_congruence.specs.FreeLinks.{link_bound}
 use Rattle.lmn_congruence.specs.Fused.{fused}
 use Rattle.lmn_congruence.specs.UpToOrder.{Reordered, r_unit, r_swap, r_regroup, r_beside, r_inside, r_same, r_back, r_chain}
-use Rattle.lmn_congruence.proofs.Counts.{below_or_from}
 use Rattle.lmn_congruence.proofs.Crossings.{occurrences_above, crossings}
 use Rattle.lmn_congruence.proofs.Reordered.{reordered_congruent, r_right}
 use Rattle.lmn_congruence.proofs.LinkMaps.{closed_leaves, closed_linked}
 use Rattle.lmn_reduction.proofs.SettledForms.{reads_congruent, all_join}
 use Rattle.lmn_congruence.proofs.FewestCrossings.{same_crossings_each}
-use Rattle.lmn_base.proofs.Numbers.{same_or_not}
+use Rattle.lmn_base.proofs.Numbers.{same_or_not, below_or_from}
 
 pub zero_not_one : ¬ (◌≡◌ {A = ℕ} 0 1)
 zero_not_one = omega arith

@@ -12,7 +12,6 @@ use Rattle.lmn_reduction.specs.Firing.{Matches}
 use Rattle.lmn_reduction.specs.Steps.{Step}
 use Rattle.lmn_reduction.specs.Redexes.{HasRedex, at_top, in_membrane}
 use Rattle.lmn_reduction.specs.Examples.{label_a, label_b, join_from_membrane, InnerLinkStays}
-use Rattle.lmn_congruence.proofs.Counts.{occurs_once}
 use Rattle.lmn_congruence.proofs.Totals.{total_includes}
 use Rattle.lmn_congruence.proofs.FreeNumbers.{free_total}
 use Rattle.lmn_congruence.proofs.Crossings.{occurs_below, crossings, same_crossings}
@@ -20,12 +19,13 @@ use Rattle.lmn_reduction.proofs.SettledProcesses.{no_connector_settled}
 use Rattle.lmn_reduction.proofs.Derivations.{zero_not_one}
 use Rattle.lmn_congruence.proofs.KeptRules.{AllRules, kept_rules}
 use Rattle.lmn_reduction.proofs.Redexes.{step_shows}
+use Rattle.lmn_base.proofs.Numbers.{not_zero_if_one}
 
 -- ---- the links across the membrane of an instance of the head
 
 one_free : (x y : ℕ) (C : Process) → x ≢ y → ((z : ℕ) → occurrences z C ≡ one_if_same z x + one_if_same z y) → free_number C ≢ 0
 one_free x y C d h = not_zero (one_if_free C x) (free_number C) (ap one_if_once f)
-    (omega (arith, total_includes (link_bound C) (one_if_free C) x (occurs_below C x (occurs_once (occurrences x C) f)), free_total C))
+    (omega (arith, total_includes (link_bound C) (one_if_free C) x (occurs_below C x (not_zero_if_one (occurrences x C) f)), free_total C))
   where
     first_one : (x y : ℕ) → x ≢ y → one_if_same x x + one_if_same x y ≡ 1
     first_one x y d = grind arith

@@ -10,14 +10,14 @@ use Rattle.lmn_congruence.specs.Regions.{SolidAtom, Region, region, Regions, no_
 use Rattle.lmn_congruence.specs.Same.{renamed_atom, renamed_region, renamed_regions}
 use Rattle.lmn_congruence.specs.Plains.{leaf_process, level_process, levels_processes, fused_leaves, fused_level, fused_levels}
 use Rattle.lmn_reduction.specs.Laws.{SolidIsOne}
-use Rattle.lmn_congruence.proofs.Counts.{three_ways, one_if_equal, none_if_apart, in_left, in_right, map_after}
+use Rattle.lmn_congruence.proofs.Counts.{one_if_equal, none_if_apart, map_after}
 use Rattle.lmn_congruence.proofs.Totals.{total_same}
 use Rattle.lmn_congruence.proofs.Crossings.{occurs_below}
 use Rattle.lmn_congruence.proofs.Reordered.{reordered_count}
 use Rattle.lmn_congruence.proofs.LinkMaps.{closed_leaves, closed_linked, one_to_one}
 use Rattle.lmn_congruence.proofs.FewestCrossings.{with_image, total_image_sum, image_count, image_even}
 use Rattle.lmn_reduction.proofs.Plains.{level_reordered}
-use Rattle.lmn_base.proofs.Numbers.{same_or_not}
+use Rattle.lmn_base.proofs.Numbers.{same_or_not, left_not_zero, right_not_zero, three_ways}
 
 -- ---- two numbers in one
 
@@ -198,9 +198,9 @@ module _ (f v v' : ℕ → ℕ) where
   leaves_taken [] h = refl
   leaves_taken (atom_leaf a xs ∷ ls) h =
       let rest = together (map leaf_process ls) in
-      rw (links_taken xs (λ x o. h x (in_left (places x (map (λ y. y) xs)) (at_atoms x rest) o)), leaves_taken ls (λ x o. h x (in_right (places x (map (λ y. y) xs)) (at_atoms x rest) o))) refl
-  leaves_taken (connector_leaf x y ∷ ls) h = leaves_taken ls (λ z o. h z (in_right 0 (at_atoms z (together (map leaf_process ls))) o))
-  leaves_taken (typed_leaf p x ∷ ls) h = leaves_taken ls (λ z o. h z (in_right 0 (at_atoms z (together (map leaf_process ls))) o))
+      rw (links_taken xs (λ x o. h x (left_not_zero (places x (map (λ y. y) xs)) (at_atoms x rest) o)), leaves_taken ls (λ x o. h x (right_not_zero (places x (map (λ y. y) xs)) (at_atoms x rest) o))) refl
+  leaves_taken (connector_leaf x y ∷ ls) h = leaves_taken ls (λ z o. h z (right_not_zero 0 (at_atoms z (together (map leaf_process ls))) o))
+  leaves_taken (typed_leaf p x ∷ ls) h = leaves_taken ls (λ z o. h z (right_not_zero 0 (at_atoms z (together (map leaf_process ls))) o))
 
   mutual
     pub level_taken : (l : Level) → Takes (level_process l) → renamed_region f (fused_level v l) ≡ fused_level v' l
@@ -209,8 +209,8 @@ module _ (f v v' : ℕ → ℕ) where
         let inside = together (levels_processes membranes) in
         let behind = together (map rule (rules_list rules)) in
         rw (
-          leaves_taken leaves (λ x o. h x (in_left (at_atoms x here) (at_atoms x inside + at_atoms x behind) o)),
-          levels_taken membranes (λ x o. h x (in_right (at_atoms x here) (at_atoms x inside + at_atoms x behind) (in_left (at_atoms x inside) (at_atoms x behind) o))),
+          leaves_taken leaves (λ x o. h x (left_not_zero (at_atoms x here) (at_atoms x inside + at_atoms x behind) o)),
+          levels_taken membranes (λ x o. h x (right_not_zero (at_atoms x here) (at_atoms x inside + at_atoms x behind) (left_not_zero (at_atoms x inside) (at_atoms x behind) o))),
         ) refl
 
     levels_taken : (ls : Levels) → Takes (together (levels_processes ls)) → renamed_regions f (fused_levels v ls) ≡ fused_levels v' ls
@@ -219,8 +219,8 @@ module _ (f v v' : ℕ → ℕ) where
         let inside = level_process l in
         let rest = together (levels_processes ls) in
         rw (
-          level_taken l (λ x o. h x (in_left (at_atoms x inside) (at_atoms x rest) o)),
-          levels_taken ls (λ x o. h x (in_right (at_atoms x inside) (at_atoms x rest) o)),
+          level_taken l (λ x o. h x (left_not_zero (at_atoms x inside) (at_atoms x rest) o)),
+          levels_taken ls (λ x o. h x (right_not_zero (at_atoms x inside) (at_atoms x rest) o)),
         ) refl
 
 -- ---- the process of a renamed region

@@ -13,11 +13,11 @@ use Rattle.lmn_guards.specs.Values.{of_number, of_context, of_operation}
 use Rattle.lmn_reduction.specs.Values.{Value}
 use Rattle.lmn_reduction.specs.Instances.{IsCopy, LeafInstance, of_atom, of_connector, of_typed, LeafInstances, no_leaf, leaf_and, Instance, instance, MembraneInstances, no_membrane, membrane_and, rules_of_contexts}
 use Rattle.lmn_reduction.specs.Steps.{leaf, beside as derived_beside, inside as derived_inside, up_to, Step}
-use Rattle.lmn_congruence.proofs.Counts.{below_or_from, same_free, linked_both, map_after}
+use Rattle.lmn_congruence.proofs.Counts.{same_free, linked_both, map_after}
 use Rattle.lmn_reduction.proofs.Derivations.{no_right}
 use Rattle.lmn_congruence.proofs.Crossings.{occurs_below, occurrences_above}
-use Rattle.lmn_congruence.proofs.Renaming.{moved_away, away_free, away_local, away_apart, low_high, rename_all, occurrences_image, occurrences_none}
-use Rattle.lmn_base.proofs.Numbers.{same_or_not}
+use Rattle.lmn_congruence.proofs.Renaming.{moved_away, away_free, away_local, away_apart, rename_all, occurrences_image, occurrences_none}
+use Rattle.lmn_base.proofs.Numbers.{same_or_not, below_or_from, below_not_above}
 
 -- ---- an instance after a one to one renaming of links
 
@@ -163,7 +163,7 @@ shown_beside {P = P} {Q = Q} s l =
       where
         go : (occurrences x P ≡ 1) ⊎ (occurrences x P ≢ 1) → moved_away K P x ≢ z
         go (inl f) = λ q. e (ap (λ k. occurrences k P) (sym q ∙ away_free K x P f) ∙ f)
-        go (inr f) = λ q. low_high K z x b (sym q ∙ away_local K x P f)
+        go (inr f) = λ q. below_not_above K z x b (sym q ∙ away_local K x P f)
 
 shown_inside : {P : Process} → ShowsRedex P → ShowsRedex (membrane P)
 shown_inside {P = P} s =

@@ -10,8 +10,9 @@ use Rattle.lmn_congruence.proofs.Counts.{linked_both}
 use Rattle.lmn_congruence.proofs.Crossings.{crossings}
 use Rattle.lmn_congruence.proofs.Reordered.{reordered_crossings}
 use Rattle.lmn_congruence.proofs.FewestCrossings.{crossings_fused, same_crossings_all}
-use Rattle.lmn_congruence.proofs.LinkMaps.{joins_plain, fused_id, closed_not_one}
+use Rattle.lmn_congruence.proofs.LinkMaps.{joins_plain, fused_id}
 use Rattle.lmn_reduction.proofs.SettlingSteps.{linked_derived, step_lowers, step_carries, towards_alike}
+use Rattle.lmn_base.proofs.Numbers.{not_one_if_even}
 
 not_less : (p q r s : ℕ) → p ≡ q + 2 → r ≤ q → s ≡ r → s ≢ p
 not_less p q r s e b d = omega arith
@@ -43,7 +44,7 @@ closed_by : (n : ℕ) → n ≤ 2 → n ≢ 1 → (n ≡ 0) ⊎ (n ≡ 2)
 closed_by n b e = grind arith
 
 pub towards_closed : {P Q : Process} → SettlesTowards P Q → Closed P → Closed Q
-towards_closed {P = P} {Q = Q} t c = λ z. closed_by (occurrences z Q) ((towards_linked t).at_most_twice z) (λ e. closed_not_one (occurrences z P) (c z) ((towards_alike t z).back_again e))
+towards_closed {P = P} {Q = Q} t c = λ z. closed_by (occurrences z Q) ((towards_linked t).at_most_twice z) (λ e. not_one_if_even (occurrences z P) (c z) ((towards_alike t z).back_again e))
 
 pub settle_after : {P Q S : Process} → Congruent P Q → SettlesTowards Q S → SettlesTowards P S
 settle_after c (already d) = already (chain c d)

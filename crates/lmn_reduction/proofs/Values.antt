@@ -14,11 +14,11 @@ use Rattle.lmn_base.specs.declared.level.CtxUse.{CtxUse}
 use Rattle.lmn_base.specs.Names.{expression_names, expression_names_step as names_step}
 use Rattle.lmn_congruence.specs.Rules as tree
 use Rattle.lmn_congruence.specs.Translation.{name_of, operator_of, expression_step, expression_of}
-use Rattle.lmn_congruence.proofs.Appended.{all_left, all_right}
 use Rattle.lmn_guards.specs.Values.{value, both, in_range, ranged, is_zero, result_of, Evaluates, of_number, of_context, of_operation, InRange, DivisorAllowed, computed}
 use Rattle.lmn_reduction.specs.Laws.{ValuesAgree}
 use Rattle.lmn_reduction.specs.Parts.{IsInteger}
 use Rattle.lmn_base.proofs.Truth.{and_true as both_true}
+use Rattle.lmn_base.proofs.Lists.{all_of_left, all_of_right}
 
 -- ---- expressions as trees
 
@@ -124,7 +124,7 @@ uses_known P (variant.Int z) h = tt
 uses_known P (variant.Ctx u) h = subst (All P) (context_named u) h
 uses_known P (variant.Op' o p l q r) h =
     let w = subst (All P) (operation_named o p l q r) h in
-    (uses_known P l (all_left P (expression_names l) (expression_names r) w), uses_known P r (all_right P (expression_names l) (expression_names r) w))
+    (uses_known P l (all_of_left P (expression_names l) (expression_names r) w), uses_known P r (all_of_right P (expression_names l) (expression_names r) w))
 
 pub uses_so : {P Q : ℕ → Type 0} → ((x : ℕ) → P x → Q x) → (e : Expr) → Uses P e → Uses Q e
 uses_so h (variant.Int z) a = tt

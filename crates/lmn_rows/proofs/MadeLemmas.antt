@@ -9,7 +9,6 @@ use Rattle.lmn_heap.specs.Heap.{Heap, HeapAtom, HeapMem, Place, top, within, gon
 use Rattle.lmn_heap.specs.Sound.{Sound, AllInPlace, AtMost, Valid, Forest}
 use Rattle.lmn_heap.specs.Conditions.{Ready}
 use Rattle.lmn_heap.proofs.Listing.{alter_at, alter_away, alter_keeps}
-use Rattle.lmn_heap.proofs.Trees.{in_either}
 use Rattle.lmn_heap.proofs.Heights.{mem_of_place}
 use Rattle.lmn_heap.proofs.Replacing.{joined_functor}
 use Rattle.lmn_heap.proofs.Ranks.{tree, tree_forms, tree_once, tree_all}
@@ -17,6 +16,7 @@ use Rattle.lmn_rows.specs.Made.{IsMadeByHand}
 use Rattle.lmn_base.proofs.Numbers.{zeros_at as no_marks}
 use Rattle.lmn_heap.proofs.Common.{atom_with_links as has_links, linked_marks, cleared_marks}
 use Rattle.lmn_base.specs.Lists.{In}
+use Rattle.lmn_base.proofs.Lists.{in_either}
 
 -- Changes of one item
 

@@ -23,7 +23,6 @@ use Rattle.lmn_congruence.specs.Rules as tree
 use Rattle.lmn_congruence.specs.Rules.{Name}
 use Rattle.lmn_congruence.specs.Translation.{atom_or_connector, condition_of, expression_of, kind_of, leaf_of, level_of, level_step, levels, name_of, names_of, numbered_rule, rules}
 use Rattle.lmn_congruence.specs.Translation as translation
-use Rattle.lmn_congruence.proofs.Appended.{all_left, all_right}
 use Rattle.lmn_congruence.proofs.NumberedRules.{rule_has_number}
 use Rattle.lmn_parser.specs.Syntax as syntax
 use Rattle.lmn_plain.specs.Expanded.{Context, ExpandedLeaf, ExpandedLevel, ExpandedLevels, ExpandedRule, atom_leaf, expanded_leaf_links, expanded_leaves_links, level, level_and, expanded_links_in, expanded_links, no_level, typed_leaf, use_links}
@@ -41,6 +40,7 @@ use Rattle.lmn_congruence.proofs.Common.{among_left, among_right, among_map}
 use Rattle.lmn_base.specs.declared.rule.Plain.{Plain}
 use Rattle.lmn_base.specs.declared.refusal.Pos.{Pos}
 use Rattle.lmn_lexer.specs.Laying.{Word}
+use Rattle.lmn_base.proofs.Lists.{all_of_left, all_of_right}
 
 -- the conditions of a guard are those of the language
 abbrev pub NoneUnknown : List tree.Condition → Type 0
@@ -117,7 +117,7 @@ module _ (names : List Name) (is : IsNames names) where
 
     each_spelled : (ks : List ℕ) → All T ks → RulesSpelled (rules (map ρ ks))
     each_spelled [] h = tt
-    each_spelled (k ∷ ks) h = (h zero k (omega arith), each_spelled ks (all_right T (k ∷ []) ks h))
+    each_spelled (k ∷ ks) h = (h zero k (omega arith), each_spelled ks (all_of_right T (k ∷ []) ks h))
 
     -- ---- levels
 
@@ -150,17 +150,17 @@ module _ (names : List Name) (is : IsNames names) where
       tree_spelled : (l : ExpandedLevel) → LevelRight IsLabel IsContext l → Small (expanded_links l) → All T (rule_numbers l) → LevelSpelled (tree_level l)
       tree_spelled (level ls ms cs os rs) h s k = (
         leaves_spelled ls h.0 (λ x i. s x (among_left (expanded_links_in ms) i)),
-        trees_spelled ms h.1 (λ x i. s x (among_right (expanded_leaves_links ls) i)) (all_right T rs (numbers_in ms) k),
+        trees_spelled ms h.1 (λ x i. s x (among_right (expanded_leaves_links ls) i)) (all_of_right T rs (numbers_in ms) k),
         contexts_spelled cs h.2,
         contexts_spelled os h.3,
-        each_spelled rs (all_left T rs (numbers_in ms) k),
+        each_spelled rs (all_of_left T rs (numbers_in ms) k),
       )
 
       trees_spelled : (ls : ExpandedLevels) → LevelsRight IsLabel IsContext ls → Small (expanded_links_in ls) → All T (numbers_in ls) → LevelsSpelled (tree_levels ls)
       trees_spelled no_level h s k = tt
       trees_spelled (level_and l ls) h s k = (
-        tree_spelled l h.0 (λ x i. s x (among_left (expanded_links_in ls) i)) (all_left T (rule_numbers l) (numbers_in ls) k),
-        trees_spelled ls h.1 (λ x i. s x (among_right (expanded_links l) i)) (all_right T (rule_numbers l) (numbers_in ls) k),
+        tree_spelled l h.0 (λ x i. s x (among_left (expanded_links_in ls) i)) (all_of_left T (rule_numbers l) (numbers_in ls) k),
+        trees_spelled ls h.1 (λ x i. s x (among_right (expanded_links l) i)) (all_of_right T (rule_numbers l) (numbers_in ls) k),
       )
 
     -- a level with numbers for names and links
@@ -269,9 +269,9 @@ module _ (names : List Name) (is : IsNames names) where
           (λ x a. let b = numbers_below numbers x a in omega (arith, b, most)) in
           let R : tree.Rule → Type 0 = RuleSpelled in
           subst R (sym (rule_has_number names p k t well found.1)) (
-            level_spelled i.number rule_at r.head t.head i.head here.2.0 (λ x a. small (i.number x) (among_left (map i.number (expanded_links r.body)) (among_map i.number a))) (all_left T (rules_of t.head) (rules_of t.body) all),
+            level_spelled i.number rule_at r.head t.head i.head here.2.0 (λ x a. small (i.number x) (among_left (map i.number (expanded_links r.body)) (among_map i.number a))) (all_of_left T (rules_of t.head) (rules_of t.body) all),
             guard_spelled r.guard t.guard i.guard here.2.1 (known k t found.1),
-            level_spelled i.number rule_at r.body t.body i.body here.2.2 (λ x a. small (i.number x) (among_right (map i.number (expanded_links r.head)) (among_map i.number a))) (all_right T (rules_of t.head) (rules_of t.body) all),
+            level_spelled i.number rule_at r.body t.body i.body here.2.2 (λ x a. small (i.number x) (among_right (map i.number (expanded_links r.head)) (among_map i.number a))) (all_of_right T (rules_of t.head) (rules_of t.body) all),
           )
 
       pub rules_spelled : (k : ℕ) → k < length p.rules → RuleSpelled (rule_at k)

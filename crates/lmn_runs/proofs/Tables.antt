@@ -14,13 +14,13 @@ use Rattle.lmn_congruence.specs.Regions as solid
 use Rattle.lmn_congruence.specs.Rules as tree
 use Rattle.lmn_congruence.specs.SolidsOfPlains.{IsSolidOf}
 use Rattle.lmn_congruence.specs.Translation.{level_of, level_step, levels, rules, regions, region_step, region_of, numbered_rule, numbered_region}
-use Rattle.lmn_congruence.proofs.Appended.{all_left, all_right}
 use Rattle.lmn_congruence.proofs.NumberedRules.{rule_has_number}
 use Rattle.lmn_plain.proofs.SolidNumbers.{there}
 use Rattle.lmn_adequacy.specs.Accepted.{Throughout, ThroughoutLevel, ThroughoutLevels, ThroughoutRules}
 use Rattle.lmn_adequacy.specs.Embedding.{AllRules, AllRulesIn, EachRule}
 use Rattle.lmn_base.proofs.Common.{rules as numbers}
 use Rattle.lmn_congruence.proofs.Common.{rules_kept, all_rules}
+use Rattle.lmn_base.proofs.Lists.{all_of_left, all_of_right}
 
 -- ---- the rules of a solid are those of its plain
 
@@ -40,7 +40,7 @@ module _ (H : tree.Rule → Type 0) (names : List tree.Name) (p : Plain) (well :
 
   each_throughout : (ks : List ℕ) → All T ks → ThroughoutRules H (rules (map ρ ks))
   each_throughout [] h = tt
-  each_throughout (k ∷ ks) h = (h zero k (omega arith), each_throughout ks (all_right T (k ∷ []) ks h))
+  each_throughout (k ∷ ks) h = (h zero k (omega arith), each_throughout ks (all_of_right T (k ∷ []) ks h))
 
   abbrev below_rules : List Level → List ℕ
   below_rules ls = flat_map (λ inner. inner) (map rules_of ls)
@@ -52,14 +52,14 @@ module _ (H : tree.Rule → Type 0) (names : List tree.Name) (p : Plain) (well :
   below_so [] h = tt
   below_so (e ∷ ls) h =
       let rest = below_rules (map (λ (e : (l : Level) × LevelSo l). e.0) ls) in
-      (e.1 (all_left T (rules_of e.0) rest h), below_so ls (all_right T (rules_of e.0) rest h))
+      (e.1 (all_of_left T (rules_of e.0) rest h), below_so ls (all_of_right T (rules_of e.0) rest h))
 
   level_so : (l : Level) → LevelSo l
   level_so = ind-Level LevelSo (λ y z is h.
       let here = subst (All T) (fold-roll-Level (List ℕ) (λ l. l.rules ++ flat_map (λ inner. inner) l.membranes) y) h in
       let inside = subst (λ l. All T (below_rules l.membranes) → ThroughoutLevels H (levels (map (level_of names ρ) l.membranes))) is (below_so z.membranes) in
       rw (fold-roll-Level tree.Level (level_step names ρ) y)
-      (inside (all_right T y.rules (below_rules y.membranes) here), each_throughout y.rules (all_left T y.rules (below_rules y.membranes) here)))
+      (inside (all_of_right T y.rules (below_rules y.membranes) here), each_throughout y.rules (all_of_left T y.rules (below_rules y.membranes) here)))
 
   module _ (each : (k : ℕ) → k < length p.rules → H (ρ k)) where
     throughout : (m k : ℕ) → length p.rules ≤ k + m → k < length p.rules → T k
@@ -72,13 +72,13 @@ module _ (H : tree.Rule → Type 0) (names : List tree.Name) (p : Plain) (well :
         (λ i d b. let j = inside i d b in throughout m (get_or (rules_of t.head ++ rules_of t.body) i d) (omega (arith, h, j.0)) j.1) in
         let is = rule_has_number names p k t well found.1 in
         let R : tree.Rule → Type 0 = Throughout H in
-        subst R (sym is) (subst H is (each k l), level_so t.body (all_right T (rules_of t.head) (rules_of t.body) all))
+        subst R (sym is) (subst H is (each k l), level_so t.body (all_of_right T (rules_of t.head) (rules_of t.body) all))
 
     -- ---- regions
 
     each_rule : (ks : List ℕ) → All T ks → EachRule (Throughout H) (map ρ ks)
     each_rule [] h = tt
-    each_rule (k ∷ ks) h = (h zero k (omega arith), each_rule ks (all_right T (k ∷ []) ks h))
+    each_rule (k ∷ ks) h = (h zero k (omega arith), each_rule ks (all_of_right T (k ∷ []) ks h))
 
     abbrev RegionSo : Region → Type 0
     RegionSo r = All T (numbers r) → AllRules (Throughout H) (numbered_region names ρ r)
@@ -87,14 +87,14 @@ module _ (H : tree.Rule → Type 0) (names : List tree.Name) (p : Plain) (well :
     inner_so [] h = tt
     inner_so (e ∷ rs) h =
         let rest = all_rules (map (λ (e : (r : Region) × RegionSo r). e.0) rs) in
-        (e.1 (all_left T (numbers e.0) rest h), inner_so rs (all_right T (numbers e.0) rest h))
+        (e.1 (all_of_left T (numbers e.0) rest h), inner_so rs (all_of_right T (numbers e.0) rest h))
 
     region_so : (r : Region) → RegionSo r
     region_so = ind-Region RegionSo (λ y z is h.
         let here = subst (All T) (fold-roll-Region (List ℕ) rules_step y) h in
         let inside = subst (λ r. All T (all_rules r.membranes) → AllRulesIn (Throughout H) (regions (map (numbered_region names ρ) r.membranes))) is (inner_so z.membranes) in
         rw (fold-roll-Region solid.Region (region_step names ρ) y)
-        (each_rule y.rules (all_left T y.rules (all_rules y.membranes) here), inside (all_right T y.rules (all_rules y.membranes) here)))
+        (each_rule y.rules (all_of_left T y.rules (all_rules y.membranes) here), inside (all_of_right T y.rules (all_rules y.membranes) here)))
 
     -- each rule of a solid whose rules are of the table
     pub solid_rules : (s : Solid) → HasEachRule p.rules s → AllRules (Throughout H) (region_of names p.rules s)

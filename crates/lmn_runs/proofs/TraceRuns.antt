@@ -24,7 +24,6 @@ use Rattle.lmn_congruence.specs.Rules as tree
 use Rattle.lmn_congruence.specs.Rules.{Name, Rule, atom_leaf, body_of, named, integer}
 use Rattle.lmn_congruence.specs.SolidsOfPlains.{IsSolidOf}
 use Rattle.lmn_congruence.specs.Translation.{numbered_rule, region_of, region_step, regions, solid_atom_of, top_of, rules as as_rules}
-use Rattle.lmn_congruence.proofs.Appended.{all_left, all_right}
 use Rattle.lmn_congruence.proofs.NumberedRules.{rule_has_number}
 use Rattle.lmn_congruence.proofs.SolidsOfPlains.{solids_of_plains}
 use Rattle.lmn_plain.specs.LinkNumbers.{AllRulesNumbered, EachNumbered, RuleNumbered, RulesNumbered, leaves_links, level_links, levels_links}
@@ -60,6 +59,7 @@ use Rattle.lmn_runs.proofs.Tables.{solid_has_rules, solid_rules}
 use Rattle.lmn_folded_same.proofs.SpelledForms.{numbers_below}
 use Rattle.lmn_congruence.proofs.Common.{among_left, among_right}
 use Rattle.std.specs.declared.alloc.Global.{Global}
+use Rattle.lmn_base.proofs.Lists.{all_of_left, all_of_right}
 
 -- ---- the links of a line
 
@@ -371,10 +371,10 @@ module _ (names : List Name) (p : Plain) (printable : IsPrintable names p) where
       subst P (sym (fold-roll-Region (List ℕ) rules_step _)) (All-from_recursion (λ j. j < length p.rules) (k ∷ []) (l, tt))
 
   names_of_rules : All (λ n. n < length names) (flat_map rule_names p.rules)
-  names_of_rules = all_right (λ n. n < length names) (level_names p.top) (flat_map rule_names p.rules) printable.named.1
+  names_of_rules = all_of_right (λ n. n < length names) (level_names p.top) (flat_map rule_names p.rules) printable.named.1
 
   names_of_top : All (λ n. n < length names) (level_names p.top)
-  names_of_top = all_left (λ n. n < length names) (level_names p.top) (flat_map rule_names p.rules) printable.named.1
+  names_of_top = all_of_left (λ n. n < length names) (level_names p.top) (flat_map rule_names p.rules) printable.named.1
 
   lone_named : (k : ℕ) → NamesSolid names p.rules (lone k)
   lone_named k =
@@ -414,11 +414,11 @@ module _ (names : List Name) (p : Plain) (printable : IsPrintable names p) where
       let ls = flat_map leaf_names (leaves_of p.top) in
       let cs = context_names (contexts_of p.top) in
       let os = context_names (rule_contexts_of p.top) in
-      let front = all_left (λ n. n < length names) (ls ++ cs) os names_of_top in
+      let front = all_of_left (λ n. n < length names) (ls ++ cs) os names_of_top in
       level_held names ρ p.top (record {
-        leaves = all_left (λ n. n < length names) ls cs front;
-        contexts = all_right (λ n. n < length names) ls cs front;
-        rule_contexts = all_right (λ n. n < length names) (ls ++ cs) os names_of_top;
+        leaves = all_of_left (λ n. n < length names) ls cs front;
+        contexts = all_of_right (λ n. n < length names) ls cs front;
+        rule_contexts = all_of_right (λ n. n < length names) (ls ++ cs) os names_of_top;
         rule_numbers = λ i d l. rule_held (get_or (rules_of p.top) i d) (printable.made.rules_at_top i d l);
       })
 

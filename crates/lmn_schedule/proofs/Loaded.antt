@@ -13,7 +13,6 @@ use Rattle.lmn_heap.specs.Sound.{bare, mem, IsTree}
 use Rattle.lmn_instr.specs.declared.instr.Code.{Code}
 use Rattle.lmn_congruence.specs.Rules.{Name}
 use Rattle.lmn_congruence.specs.Translation.{numbered_rule, region_of, region_step, regions}
-use Rattle.lmn_congruence.proofs.Appended.{all_right}
 use Rattle.lmn_congruence.proofs.NumberedRules.{rule_has_number}
 use Rattle.lmn_congruence.proofs.SolidsOfPlains.{solids_of_plains}
 use Rattle.lmn_bridge.specs.HeapRegions.{region_at, regions_at}
@@ -25,7 +24,7 @@ use Rattle.lmn_turn.specs.Commits.{PlainsAreTables}
 use Rattle.lmn_strategy.specs.Compiled.{AreWhole, AreCompiled}
 use Rattle.lmn_schedule.specs.Held.{AreNames, EngineCanTurn, HoldsSolid, reading_by}
 use Rattle.lmn_schedule.proofs.Named.{loaded_named}
-use Rattle.lmn_base.proofs.Lists.{get_there as get_some}
+use Rattle.lmn_base.proofs.Lists.{get_there as get_some, all_of_right}
 use Rattle.lmn_turn.proofs.Leavings.{root_tree}
 use Rattle.lmn_adequacy.proofs.PlainSolids.{printed}
 use Rattle.lmn_congruence.specs.Regions as solid
@@ -43,7 +42,7 @@ can_run law p plans codes h size well whole l compiled small = record {
   whole = whole;
   compiled = compiled;
   inner = λ k rule e. All-weaker (λ j. (k < j) × (j < length p.rules)) (λ j. j < length p.rules) (λ j h. h.1) (rules_of rule.body)
-      (all_right (λ j. (k < j) × (j < length p.rules)) (rules_of rule.head) (rules_of rule.body) (well.rules_in_rules k rule e));
+      (all_of_right (λ j. (k < j) × (j < length p.rules)) (rules_of rule.head) (rules_of rule.body) (well.rules_in_rules k rule e));
   small = small;
 }
 

@@ -20,15 +20,13 @@ use Rattle.lmn_base.specs.Solids.{atoms_of_region, atoms_step}
 use Rattle.lmn_base.proofs.Common.{inner_leaves, inner_atoms}
 use Rattle.lmn_congruence.specs.Rules.{Name}
 use Rattle.lmn_congruence.specs.SolidsOfPlains.{fused_leaf, fused_step, fused_region, is_connector}
-use Rattle.lmn_congruence.proofs.Appended.{all_left, all_right}
 use Rattle.lmn_heap.specs.Heap.{Heap, HeapAtom, within, atoms_in, rules_in, Place, top, waiting, gone, functor_of, home_of, place_of, home_by}
-use Rattle.lmn_heap.specs.Lists as lists
 use Rattle.lmn_heap.specs.Solid.{links_from, solid_atom_at, solid_atoms_at as heap_atoms, regions_of}
 use Rattle.lmn_heap.specs.Sound.{Forest, bare, mem, flat, Valid}
-use Rattle.lmn_heap.proofs.Trees.{in_either}
 use Rattle.lmn_loading.specs.Loaded.{IsLoaded}
 use Rattle.lmn_heap.proofs.Common.{holds_mem as listed_mem}
 use Rattle.lmn_base.specs.Lists.{In}
+use Rattle.lmn_base.proofs.Lists.{in_either, all_of_left, all_of_right}
 
 abbrev Below : List Name → ℕ → Type 0
 Below names n = n < length names
@@ -50,14 +48,14 @@ module _ (names : List Name) (v : ℕ → ℕ) where
   leaves_named : (ls : List Leaf) → HasNames names (flat_map leaf_names ls) → All (Named names) (flat_map (fused_leaf v) ls)
   leaves_named [] h = All-from_recursion (Named names) [] tt
   leaves_named (l ∷ ls) h = All-append (Named names) (fused_leaf v l) (flat_map (fused_leaf v) ls)
-      (leaf_named l (all_left (Below names) (leaf_names l) (flat_map leaf_names ls) h)) (leaves_named ls (all_right (Below names) (leaf_names l) (flat_map leaf_names ls) h))
+      (leaf_named l (all_of_left (Below names) (leaf_names l) (flat_map leaf_names ls) h)) (leaves_named ls (all_of_right (Below names) (leaf_names l) (flat_map leaf_names ls) h))
 
   -- the names of some leaves, and of some more
   both_names : (ks ls : List Leaf) → HasNames names (flat_map leaf_names (ks ++ ls)) → HasNames names (flat_map leaf_names ks) × HasNames names (flat_map leaf_names ls)
   both_names [] ls h = (All-from_recursion (Below names) [] tt, h)
   both_names (k ∷ ks) ls h =
-      let rest = both_names ks ls (all_right (Below names) (leaf_names k) (flat_map leaf_names (ks ++ ls)) h) in
-      (All-append (Below names) (leaf_names k) (flat_map leaf_names ks) (all_left (Below names) (leaf_names k) (flat_map leaf_names (ks ++ ls)) h) rest.0, rest.1)
+      let rest = both_names ks ls (all_of_right (Below names) (leaf_names k) (flat_map leaf_names (ks ++ ls)) h) in
+      (All-append (Below names) (leaf_names k) (flat_map leaf_names ks) (all_of_left (Below names) (leaf_names k) (flat_map leaf_names (ks ++ ls)) h) rest.0, rest.1)
 
   abbrev KeepsNames : Level → Type 0
   KeepsNames l = HasNames names (flat_map leaf_names (leaves_of l)) → All (Named names) (atoms_of_region (fused_region v l))
@@ -86,12 +84,12 @@ in_forest : (P : SolidAtom → Type 0) (s : Heap) (name : ℕ → ℕ → ℕ) (
 in_forest P s name bare h m i = absurd i
 in_forest P s name (mem n x r) h m i =
     let here : atoms_of_region (regions_first s name n x) ≡ heap_atoms s name (atoms_in s n) ++ inner_atoms (regions_of s name x) = fold-roll-Region (List SolidAtom) atoms_step _ in
-    let first : All P (heap_atoms s name (atoms_in s n) ++ inner_atoms (regions_of s name x)) = subst (All P) here (all_left P (atoms_of_region (regions_first s name n x)) (inner_atoms (regions_of s name r)) h) in
-    let rest : All P (inner_atoms (regions_of s name r)) = all_right P (atoms_of_region (regions_first s name n x)) (inner_atoms (regions_of s name r)) h in
+    let first : All P (heap_atoms s name (atoms_in s n) ++ inner_atoms (regions_of s name x)) = subst (All P) here (all_of_left P (atoms_of_region (regions_first s name n x)) (inner_atoms (regions_of s name r)) h) in
+    let rest : All P (inner_atoms (regions_of s name r)) = all_of_right P (atoms_of_region (regions_first s name n x)) (inner_atoms (regions_of s name r)) h in
     elim i [
-      | inl e ↦ subst (λ k. All P (heap_atoms s name (atoms_in s k))) e (all_left P (heap_atoms s name (atoms_in s n)) (inner_atoms (regions_of s name x)) first)
+      | inl e ↦ subst (λ k. All P (heap_atoms s name (atoms_in s k))) e (all_of_left P (heap_atoms s name (atoms_in s n)) (inner_atoms (regions_of s name x)) first)
       | inr j ↦ elim (in_either m (flat x) (flat r) j) [
-        | inl q ↦ in_forest P s name x (all_right P (heap_atoms s name (atoms_in s n)) (inner_atoms (regions_of s name x)) first) m q
+        | inl q ↦ in_forest P s name x (all_of_right P (heap_atoms s name (atoms_in s n)) (inner_atoms (regions_of s name x)) first) m q
         | inr q ↦ in_forest P s name r rest m q
       ]
     ]
@@ -106,8 +104,8 @@ module _ (names : List Name) (s : Heap) (name : ℕ → ℕ → ℕ) where
 
   listed_named : (xs : List ℕ) → All (Named names) (heap_atoms s name xs) → (a : ℕ) → In a xs → (f : Functor) → functor_of s a ≡ Some f → HasNames names (label_names f.label)
   listed_named [] h a i f e = absurd i
-  listed_named (x ∷ xs) h a (inl q) f e = one_named (s.atoms a) a f e (subst (λ k. All (Named names) (solid_atom_at name k (s.atoms k))) q (all_left (Named names) (solid_atom_at name x (s.atoms x)) (heap_atoms s name xs) h))
-  listed_named (x ∷ xs) h a (inr i) f e = listed_named xs (all_right (Named names) (solid_atom_at name x (s.atoms x)) (heap_atoms s name xs) h) a i f e
+  listed_named (x ∷ xs) h a (inl q) f e = one_named (s.atoms a) a f e (subst (λ k. All (Named names) (solid_atom_at name k (s.atoms k))) q (all_of_left (Named names) (solid_atom_at name x (s.atoms x)) (heap_atoms s name xs) h))
+  listed_named (x ∷ xs) h a (inr i) f e = listed_named xs (all_of_right (Named names) (solid_atom_at name x (s.atoms x)) (heap_atoms s name xs) h) a i f e
 
 -- an atom that isn't freed stands in a membrane of a valid heap
 stands : (s : Heap) → Valid s → (a : ℕ) (f : Functor) → functor_of s a ≡ Some f → (m : ℕ) × In a (atoms_in s m)
@@ -133,8 +131,8 @@ stands s v a f e = by (s.atoms a) refl
 -- the names of atoms that are loaded are those of the plain
 pub loaded_named : (names : List Name) (p : Plain) (s : Heap) → IsLoaded p s → NamesPlain names p → (a : ℕ) (f : Functor) → functor_of s a ≡ Some f → HasNames names (label_names f.label)
 loaded_named names p s l known a f e =
-    let names_on_top : HasNames names (level_names p.top) = all_left (Below names) (level_names p.top) (flat_map rule_names p.rules) known.1 in
-    let leaves : HasNames names (flat_map leaf_names (leaves_of p.top)) = all_left (Below names) (flat_map leaf_names (leaves_of p.top)) (context_names (contexts_of p.top)) (all_left (Below names) (flat_map leaf_names (leaves_of p.top) ++ context_names (contexts_of p.top)) (context_names (rule_contexts_of p.top)) names_on_top) in
+    let names_on_top : HasNames names (level_names p.top) = all_of_left (Below names) (level_names p.top) (flat_map rule_names p.rules) known.1 in
+    let leaves : HasNames names (flat_map leaf_names (leaves_of p.top)) = all_of_left (Below names) (flat_map leaf_names (leaves_of p.top)) (context_names (contexts_of p.top)) (all_of_left (Below names) (flat_map leaf_names (leaves_of p.top) ++ context_names (contexts_of p.top)) (context_names (rule_contexts_of p.top)) names_on_top) in
     let root : All (Named names) (atoms_of_region l.solid.root) = subst (λ r. All (Named names) (atoms_of_region r)) (sym l.of_plain.is) (level_named names l.of_plain.to p.top leaves) in
     let whole : All (Named names) (inner_atoms (regions_of s l.of_heap.name l.of_heap.forest)) =
     subst (λ rs. All (Named names) (inner_atoms rs)) (sym l.of_heap.root) (All-append (Named names) (atoms_of_region l.solid.root) [] root (All-from_recursion (Named names) [] tt)) in

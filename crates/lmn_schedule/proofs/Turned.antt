@@ -5,7 +5,7 @@ use Rattle.std.proofs.lemmas.Option.{same_Some}
 use Rattle.lmn_base.specs.declared.rule.RuleTree.{RuleTree}
 use Rattle.lmn_guards.specs.declared.plan.GuardPlan.{GuardPlan}
 use Rattle.lmn_heap.specs.Heap.{Heap, rules_in}
-use Rattle.lmn_heap.proofs.Trees.{in_here, nil_right}
+use Rattle.lmn_heap.proofs.Trees.{in_here}
 use Rattle.lmn_heap.specs.Sound.{Forest, Valid, IsTree, flat}
 use Rattle.lmn_instr.specs.declared.instr.Code.{Code}
 use Rattle.lmn_congruence.specs.Regions.{Region, region_process}
@@ -26,6 +26,7 @@ use Rattle.lmn_schedule.specs.Held.{HoldsRegion, reading_by}
 use Rattle.lmn_schedule.specs.Turning.{IsDone, IsTurned}
 use Rattle.lmn_turn.proofs.Leavings.{root_tree}
 use Rattle.lmn_base.specs.Lists.{In}
+use Rattle.lmn_base.proofs.Lists.{plus_nothing}
 
 -- the root is among the membranes of a valid heap
 pub some_membrane : (h : Heap) → Valid h → (many : ℕ) → ((f : Forest) → IsTree h f → many ≡ length (flat f)) → 0 < many
@@ -51,7 +52,7 @@ module _ (names : List Name) (table : List RuleTree) (c : Chooser) (n size : ℕ
   pub embeds : NothingEmbeds → HaveCodes table plans codes → (h : Heap) (S : Region) (o : HoldsRegion names table h S) → (m place k : ℕ) → IsFirstIn h codes (asked 0 (tree_over h o.inner)) m place k → HasEmbedding S
   embeds law have h S o m place k c =
       let e = law table plans codes have h (reading_by names table o.number) o.inner (read_with h S o) in
-      let there : In m (membranes_in_preorder h o.inner) = subst (In m) (sym c.order ∙ nil_right (membranes_in_preorder h o.inner)) (in_here m c.earlier c.later) in
+      let there : In m (membranes_in_preorder h o.inner) = subst (In m) (sym c.order ∙ plus_nothing (membranes_in_preorder h o.inner)) (in_here m c.earlier c.later) in
       subst HasEmbedding (sym o.is) (e.some m k there (listed (rules_in h m) place k c.rule.stands) c.rule.succeeds)
     where
       listed : (xs : List ℕ) (i k : ℕ) → slice_get xs i ≡ Some k → In k xs

@@ -3,8 +3,12 @@ use Rattle.lmn_base.proofs.Numbers.{not_equal as apart_test}
 use Rattle.lmn_congruence.proofs.Counts.{none_if_apart as apart_none, one_if_equal as same_one}
 use Rattle.lmn_congruence.specs.Links.{places}
 use Rattle.lmn_solid.specs.Heads.{times, at_ports}
-use Rattle.std.proofs.Common.{List, [], arith, ℕ, ◌++◌, ◌+◌, ◌∷◌, ◌≡◌, ap, map, refl, inl, inr, sym}
+use Rattle.std.proofs.Common.{List, [], arith, ℕ, ◌++◌, ◌+◌, ◌∷◌, ◌≡◌, ap, map, refl, inl, inr, sym, suc}
 use Rattle.std.proofs.lemmas.Bool.{cases_eq, eq-eqb}
+use Rattle.std.specs.Prelude.{Bool, true, false, ◌==◌, if◌then◌else◌}
+use Rattle.std.proofs.lemmas.Bool.Decides.{Decides-eqb}
+use Rattle.lmn_base.specs.Lists.{In}
+use Rattle.lmn_solid.specs.Embeddings.{index_of}
 
 pub times_append : (x : ℕ) (xs ys : List ℕ) → times x (xs ++ ys) ≡ times x xs + times x ys
 times_append x [] ys = omega arith
@@ -20,3 +24,17 @@ times_places x (y ∷ ys) = elim (cases_eq x y) [
   | inl e ↦ rw (eq-eqb y x (sym e)) (omega (arith, same_one x y e, times_places x ys))
   | inr d ↦ rw (apart_test y x (λ q. d (sym q))) (omega (arith, apart_none x y d, times_places x ys))
 ]
+
+index_if : (a b x : ℕ) (xs : List ℕ) (s t : Bool) → (x == a) ≡ s → (x == b) ≡ t → (index_of a xs ≡ index_of b xs → In a xs → In b xs → a ≡ b) →
+    (if s then 0 else suc (index_of a xs)) ≡ (if t then 0 else suc (index_of b xs)) → In a (x ∷ xs) → In b (x ∷ xs) → a ≡ b
+index_if a b x xs true true u v later e k l = let p : x ≡ a = (Decides-eqb x a).0 u in let q : x ≡ b = (Decides-eqb x b).0 v in cc
+index_if a b x xs true false u v later e k l = absurd (omega (arith, e))
+index_if a b x xs false true u v later e k l = absurd (omega (arith, e))
+index_if a b x xs false false u v later e (inl k) l = let p = (Decides-eqb x a).1 k in absurd (cc)
+index_if a b x xs false false u v later e (inr k) (inl l) = let p = (Decides-eqb x b).1 l in absurd (cc)
+index_if a b x xs false false u v later e (inr k) (inr l) = later (omega (arith, e)) k l
+
+-- two numbers of a list that have the same index
+pub same_index : (a b : ℕ) (xs : List ℕ) → index_of a xs ≡ index_of b xs → In a xs → In b xs → a ≡ b
+same_index a b [] e k l = absurd k
+same_index a b (x ∷ xs) e k l = index_if a b x xs (x == a) (x == b) refl refl (same_index a b xs) e k l

@@ -8,7 +8,7 @@ use Rattle.lmn_heap.specs.Heap.{HeapAtom, HeapMem, Place, within, atoms_in, rule
 use Rattle.lmn_heap.specs.Sound.{AtMost, AllInPlace, Forest, IsTree, flat, item_count_in}
 use Rattle.lmn_heap.proofs.ListLemmas.{each_in, in_left, in_right}
 use Rattle.lmn_heap.proofs.Depths.{both_distinct}
-use Rattle.lmn_heap.proofs.Trees.{in_either, is_mem}
+use Rattle.lmn_heap.proofs.Trees.{is_mem}
 use Rattle.lmn_lists.specs.Lines.{list_at}
 use Rattle.lmn_store.specs.Cells.{atoms_in_cells, mems_in_cells, with_lists, place_by}
 use Rattle.lmn_store.specs.Census.{weight, total}
@@ -19,6 +19,7 @@ use Rattle.lmn_store.proofs.BuiltLemmas.{built_rules}
 use Rattle.lmn_store.proofs.FitsLemmas.{built_atoms, fits_sound}
 use Rattle.lmn_store.proofs.HoldsLemmas.{mem_is, mem_there, root_is, in_home}
 use Rattle.lmn_base.specs.Lists.{In}
+use Rattle.lmn_base.proofs.Lists.{in_either}
 
 sum_cons : (f : ℕ → ℕ) (x : ℕ) (xs : List ℕ) → sum (map f (x ∷ xs)) ≡ f x + sum (map f xs)
 sum_cons f x xs = sum-map f (x ∷ xs) ∙ sum_by-cons f x xs ∙ ap (λ n. f x + n) (sym (sum-map f xs))

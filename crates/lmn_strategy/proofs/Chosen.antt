@@ -7,7 +7,6 @@ use Rattle.lmn_base.specs.declared.rule.RuleTree.{RuleTree}
 use Rattle.lmn_guards.specs.declared.plan.GuardPlan.{GuardPlan}
 use Rattle.lmn_heap.specs.Heap.{Heap, rules_in}
 use Rattle.lmn_heap.specs.Sound.{Forest, IsTree, flat}
-use Rattle.lmn_heap.proofs.Trees.{in_either}
 use Rattle.lmn_instr.specs.declared.instr.Code.{Code}
 use Rattle.lmn_instr.specs.Running.{HeadRegisters, Succeeds}
 use Rattle.lmn_machine.proofs.Besides.{known, known_agrees}
@@ -17,6 +16,7 @@ use Rattle.lmn_strategy.specs.Compiled.{AreWhole, AreCompiled}
 use Rattle.lmn_strategy.specs.Choosing.{AllInOrder, CodeSucceeds, NoneOf, NoneIn, IsFirstRule, IsFirstIn, HasFound, asked}
 use Rattle.lmn_strategy.proofs.Numbers.{get_drop, take_one_more, take_farther, take_no_more, take_whole, root_number}
 use Rattle.lmn_base.specs.Lists.{In}
+use Rattle.lmn_base.proofs.Lists.{in_either}
 
 -- where a code has no success, its rule has none
 pub fails : (h : Heap) (codes : List Code) (m n : ℕ) (code : Code) → slice_get codes n ≡ Some code → ((r : HeadRegisters) → Succeeds h code.head m r → ⊥) → CodeSucceeds h codes m n → ⊥

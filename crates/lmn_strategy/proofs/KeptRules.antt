@@ -6,7 +6,6 @@ use Rattle.std.specs.List.{AllByRecursion}
 use Rattle.lmn_heap.specs.Heap as heap
 use Rattle.lmn_heap.specs.Heap.{Heap, HeapMem, Place, top, within, waiting, gone, alter, rules_by, rules_in, atoms_in, mems_in, home_of, parent_of, link_of, mem_with_place, mem_with_atoms, mem_with_mems, mem_with_spare, mem_with_rules, new_mem, mem_unless_gone, placed, atom_out, mem_out, taken, mem_sent, emptied, filled, joined, without, taken_all}
 use Rattle.lmn_heap.specs.Splice.{joined_to, joined_both}
-use Rattle.lmn_heap.proofs.Trees.{in_either}
 use Rattle.lmn_splice.specs.Ties.{Tie, newlink, relink, unify}
 use Rattle.lmn_instr.specs.declared.instr.Instr.{Instr}
 use Rattle.lmn_instr.specs.declared.instr.Instr.TheVariants.{RemoveAtom, RemovePart, RemoveMem, NewAtom, NewInt, NewMem, CopyGround, MoveCells, LoadRule, CopyRules, NewLink, Relink, Unify, Proceed}
@@ -14,6 +13,7 @@ use Rattle.lmn_body.specs.Running.{Registers, Prepares, DoesAll, RunsBody, Makes
 use Rattle.lmn_body.specs.Tied.{tied}
 use Rattle.lmn_base.specs.Graphs.{Port}
 use Rattle.lmn_base.specs.Lists.{In}
+use Rattle.lmn_base.proofs.Lists.{in_either}
 
 module _ (P : ℕ → Type 0) where
   -- each rule of each membrane is one of these

@@ -22,7 +22,6 @@ use Rattle.lmn_solid.proofs.HeadTrees.{Head, Heads, head, no_head, head_and, hea
 use Rattle.lmn_congruence.specs.Orders.{Among, at_head, further}
 use Rattle.lmn_congruence.specs.Process.{atom}
 use Rattle.lmn_congruence.specs.Translation.{name_of, atom_or_connector, leaf_of, kind_of, condition_of, expression_of}
-use Rattle.lmn_congruence.proofs.Appended.{all_left, all_right}
 use Rattle.lmn_reduction.specs.Assignments.{Assignment}
 use Rattle.lmn_reduction.specs.Firing.{typed_leaves, typed_contexts, typed_contexts_in}
 use Rattle.lmn_reduction.specs.Guards.{GuardHolds, Holds, binds, alike}
@@ -39,6 +38,7 @@ use Rattle.lmn_base.proofs.Numbers.{not_equal as apart_test}
 use Rattle.lmn_congruence.proofs.Common.{among_left, among_right}
 use Rattle.lmn_base.specs.declared.level.Leaf.TheVariants as leaf
 use Rattle.lmn_congruence.specs.Rules as tree
+use Rattle.lmn_base.proofs.Lists.{all_of_left, all_of_right}
 
 -- ---- one value
 
@@ -158,13 +158,13 @@ module _ (h : Heap) (v : Valid h) (names : List tree.Name) (is_names : IsNames n
         ((z : ℤ) × (s.bound_to x ≡ Some z)) ⊎ Among (name_of names x) (left_sides (map (condition_of names) cs)) → IsBound (bound_all h s cs)
     guard_binds [] s f b none k g w will = elim will [ inl y ↦ (y.0, y.1, b x y.0 y.1) | inr j ↦ elim j [ ] ]
     guard_binds (Kind n args q ∷ cs) s f b none k g w will =
-        guard_binds cs s f b none (all_right (KnownIn names) (Kind n args q ∷ []) cs k) (holds_first h names heads t s g).1 w.1
+        guard_binds cs s f b none (all_of_right (KnownIn names) (Kind n args q ∷ []) cs k) (holds_first h names heads t s g).1 w.1
         (elim will [ inl y ↦ inl y | inr j ↦ inr (subst (Among (name_of names x)) (no_side names n args (map (condition_of names) cs)) j) ])
-    guard_binds (Compare op l r q ∷ cs) s f b none k g w will = guard_binds cs s f b none (all_right (KnownIn names) (Compare op l r q ∷ []) cs k) (holds_first h names heads t s g).1 w.1 will
+    guard_binds (Compare op l r q ∷ cs) s f b none k g w will = guard_binds cs s f b none (all_of_right (KnownIn names) (Compare op l r q ∷ []) cs k) (holds_first h names heads t s g).1 w.1 will
     guard_binds (Equal l r q ∷ cs) s f b none k g w will =
-        let kl = all_left (λ i. i < length names) (l.name ∷ []) (expression_names r) (k zero (Equal l r q) (omega arith)) in
-        let k' = all_right (KnownIn names) (Equal l r q ∷ []) cs k in
+        let kl = all_of_left (λ i. i < length names) (l.name ∷ []) (expression_names r) (k zero (Equal l r q) (omega arith)) in
+        let k' = all_of_right (KnownIn names) (Equal l r q ∷ []) cs k in
         let p = holds_first h names heads t s g in
         equal_bound s l r cs f b none kl (λ s' f' b' none' w' will'. guard_binds cs s' f' b' none' k' p.1 w' will') p.0 will
         (s.part_of l.name) (part_alone s (context_alone r)) (value (integer_named h s) r) refl refl w
-    guard_binds (Differ l r q ∷ cs) s f b none k g w will = guard_binds cs s f b none (all_right (KnownIn names) (Differ l r q ∷ []) cs k) (holds_first h names heads t s g).1 w.1 will
+    guard_binds (Differ l r q ∷ cs) s f b none k g w will = guard_binds cs s f b none (all_of_right (KnownIn names) (Differ l r q ∷ []) cs k) (holds_first h names heads t s g).1 w.1 will

@@ -1,5 +1,5 @@
 -- Each context of the body of an accepted rule is one of its head, and so has a membrane there.
-use Rattle.std.proofs.Common.{ℕ, ◌≡◌, ◌<◌, ◌⊎◌, List, [], ◌∷◌, ◌++◌, length, refl, sym, ap, subst, ◌∙◌, inl, inr}
+use Rattle.std.proofs.Common.{ℕ, ◌≡◌, ◌<◌, List, [], ◌∷◌, ◌++◌, length, refl, sym, ap, subst, ◌∙◌, inl, inr}
 use Rattle.std.specs.Prelude.{Contains, All}
 use Rattle.std.specs.List.{flat_map}
 use Rattle.std.proofs.lemmas.List.{map-append}
@@ -10,10 +10,9 @@ use Rattle.lmn_base.specs.declared.rule.RuleTree.{RuleTree}
 use Rattle.lmn_base.specs.Levels.{leaves_of, contexts_of, rule_contexts_of}
 use Rattle.lmn_base.specs.declared.level.Level.{Level}
 use Rattle.lmn_base.specs.Names.{IsNames, HasNames, leaf_names, context_names, condition_names, level_names}
-use Rattle.lmn_congruence.specs.Orders.{Among, at_head, further, Put, here, there, Shuffle, none, more}
+use Rattle.lmn_congruence.specs.Orders.{Among, at_head, further, Shuffle, none, more}
 use Rattle.lmn_congruence.specs.Rules as tree
 use Rattle.lmn_congruence.specs.Translation.{name_of, names_of}
-use Rattle.lmn_congruence.proofs.Appended.{all_left, all_right}
 use Rattle.lmn_adequacy.specs.Accepted.{all_contexts, contexts_in, all_rule_contexts, rule_contexts_in}
 use Rattle.lmn_solid.proofs.HeadTrees.{Head, Heads, head, no_head, head_and, head_at}
 use Rattle.lmn_splice.specs.Splice.{IsOneOf}
@@ -23,6 +22,8 @@ use Rattle.lmn_bridge.specs.Premises.{IsRule}
 use Rattle.lmn_bridge.proofs.HeadTrees.{tree_of, trees_of, level_tree}
 use Rattle.lmn_bridge.proofs.KindConditions.{same_number}
 use Rattle.lmn_compile_body.proofs.HeadContexts.{is_in, head_names, untyped, of_rules, firsts, names_are, named_there, head_contexts, heads_contexts, same_contexts, context_used, rule_context_used, has_name, has_rule_name}
+use Rattle.lmn_bridge.proofs.SameParts.{put_among}
+use Rattle.lmn_base.proofs.Lists.{all_of_left, all_of_right}
 
 -- ---- contexts of a level as names of the calculus
 
@@ -42,16 +43,10 @@ mutual
   trees_rule_contexts names rule no_head = refl
   trees_rule_contexts names rule (head_and hd hs) = (λ i. tree_rule_contexts names rule hd i ++ trees_rule_contexts names rule hs i) ∙ sym (map-append (λ (u : CtxUse). name_of names u.name) (head_contexts of_rules hd) (heads_contexts of_rules hs))
 
-among_put : {A : Type 0} {y z : A} {ys zs : List A} → Put y ys zs → Among z zs → (z ≡ y) ⊎ Among z ys
-among_put here at_head = inl refl
-among_put here (further k) = inr k
-among_put (there p) at_head = inr at_head
-among_put (there p) (further k) = elim (among_put p k) [ inl e ↦ inl e | inr j ↦ inr (further j) ]
-
 shuffled_back : {A : Type 0} {xs ys : List A} → Shuffle (λ p q. p ≡ q) xs ys → {y : A} → Among y ys → Among y xs
 shuffled_back none k = elim k [ ]
-shuffled_back (more {x = x} {xs = xs} e s p) {y = y} k = elim (among_put p k) [
-  | inl q ↦ subst (λ z. Among z (x ∷ xs)) (e ∙ sym q) at_head
+shuffled_back (more {x = x} {xs = xs} e s p) {y = y} k = elim (put_among p k) [
+  | inl q ↦ subst (λ z. Among z (x ∷ xs)) (e ∙ q) at_head
   | inr j ↦ further (shuffled_back s j)
 ]
 
@@ -78,16 +73,16 @@ module _ (r : HeapReading) (rule : RuleTree) (read_names : IsNames r.names) (is 
   one_named n l = All-cons P n [] l (All-nil P)
 
   head_known : All P (level_names rule.head)
-  head_known = all_left P (level_names rule.head) (flat_map condition_names rule.guard) (all_left P (level_names rule.head ++ flat_map condition_names rule.guard) (level_names rule.body) is.known)
+  head_known = all_of_left P (level_names rule.head) (flat_map condition_names rule.guard) (all_of_left P (level_names rule.head ++ flat_map condition_names rule.guard) (level_names rule.body) is.known)
 
   body_known : All P (level_names rule.body)
-  body_known = all_right P (level_names rule.head ++ flat_map condition_names rule.guard) (level_names rule.body) is.known
+  body_known = all_of_right P (level_names rule.head ++ flat_map condition_names rule.guard) (level_names rule.body) is.known
 
   contexts_known : (l : Level) → All P (level_names l) → All P (context_names (contexts_of l))
-  contexts_known l a = all_right P (flat_map leaf_names (leaves_of l)) (context_names (contexts_of l)) (all_left P (flat_map leaf_names (leaves_of l) ++ context_names (contexts_of l)) (context_names (rule_contexts_of l)) a)
+  contexts_known l a = all_of_right P (flat_map leaf_names (leaves_of l)) (context_names (contexts_of l)) (all_of_left P (flat_map leaf_names (leaves_of l) ++ context_names (contexts_of l)) (context_names (rule_contexts_of l)) a)
 
   rule_contexts_known : (l : Level) → All P (level_names l) → All P (context_names (rule_contexts_of l))
-  rule_contexts_known l a = all_right P (flat_map leaf_names (leaves_of l) ++ context_names (contexts_of l)) (context_names (rule_contexts_of l)) a
+  rule_contexts_known l a = all_of_right P (flat_map leaf_names (leaves_of l) ++ context_names (contexts_of l)) (context_names (rule_contexts_of l)) a
 
   -- an untyped context of the body has its membrane in the head
   pub context_there : (u : CtxUse) → Contains (contexts_of rule.body) u → IsOneOf {A = ℕ × ℕ} (u.name, context_membrane rule.head u.name) (head_names untyped 0 1 (head_at rule.head))

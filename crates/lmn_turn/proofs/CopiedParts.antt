@@ -20,7 +20,6 @@ use Rattle.lmn_reduction.specs.Parts.{Rooted}
 use Rattle.lmn_adequacy.specs.Embedding.{IsPart}
 use Rattle.lmn_adequacy.specs.Next.{DepthFirst, ReachesAtoms, links_at, reaches_new, reaches_none}
 use Rattle.lmn_adequacy.proofs.Depth.{order_kept}
-use Rattle.lmn_adequacy.proofs.Images.{map_maps}
 use Rattle.lmn_adequacy.proofs.SameParts.{part_image}
 use Rattle.lmn_bridge.specs.HeapRegions.{HeapReading, atoms_at}
 use Rattle.lmn_bridge.specs.Parts.{HasPart, IsGroundPart}
@@ -35,6 +34,7 @@ use Rattle.lmn_heap.proofs.Common.{is_atom_at}
 use Rattle.lmn_congruence.proofs.Common.{among_left, among_right, places_among}
 use Rattle.lmn_heap.proofs.Replacing.{port_within}
 use Rattle.lmn_base.specs.Lists.{In}
+use Rattle.lmn_base.proofs.Lists.{map_twice}
 
 -- ---- renamed one to one
 
@@ -59,7 +59,7 @@ renamed_part to g x bs one i = record {
   one_to_one = λ y z o o' e. i.one_to_one y z o o' (one (i.to y) (i.to z) (stands y o) (stands z o') e);
   root = ap to i.root;
   atoms = shuffle_right {S = (λ (a : Label × List ℕ) (b : SolidAtom). record { label = a.0; links = map (λ y. to (i.to y)) a.1 } ≡ b)} (renamed_atom to) i.atoms
-      (λ a b e. ap (λ (ys : List ℕ). record { label = a.0; links = ys }) (sym (map_maps to i.to a.1)) ∙ ap (renamed_atom to) e);
+      (λ a b e. ap (λ (ys : List ℕ). record { label = a.0; links = ys }) (sym (map_twice to i.to a.1)) ∙ ap (renamed_atom to) e);
 }
   where
     stands : (y : ℕ) → Occurs y g.process → Among (i.to y) (links_at bs)

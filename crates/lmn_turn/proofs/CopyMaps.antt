@@ -29,7 +29,7 @@ use Rattle.lmn_turn.proofs.CopyLinks.{Block, code, code_apart, copy_link, over, 
 use Rattle.lmn_turn.proofs.EachCopy.{EachCopy}
 use Rattle.lmn_base.specs.Graphs.{Port}
 use Rattle.lmn_base.proofs.Lists.{map_twice}
-use Rattle.lmn_base.proofs.Numbers.{same_or_not}
+use Rattle.lmn_base.proofs.Numbers.{same_or_not, chosen_there, chosen_elsewhere}
 use Rattle.lmn_splice.proofs.Common.{in_back}
 use Rattle.lmn_splice.proofs.Fusions.{apart_rule as even_not_odd, solid_once as odd_differs}
 use Rattle.lmn_bridge.specs.Parts.{IsGroundPart}
@@ -111,21 +111,15 @@ module _ (h h' : Heap) (c number : Port → ℕ) (s : Registers) (g : ℕ → �
 abbrev pub raw_link : ℕ → CopyData → ℕ → ℕ → ℕ → ℕ
 raw_link limit d k x y = cond (eqb y d.root) (of_rule x) (copy_link limit k y)
 
-at_root : (m n y r : ℕ) → y ≡ r → cond (eqb y r) m n ≡ m
-at_root m n y r e = grind arith
-
-elsewhere : (m n y r : ℕ) → y ≢ r → cond (eqb y r) m n ≡ n
-elsewhere m n y r e = grind arith
-
 copy_link_one : (limit k x y z : ℕ) (d : CopyData) → raw_link limit d k x y ≡ raw_link limit d k x z → y ≡ z
 copy_link_one limit k x y z d e = by (same_or_not y d.root) (same_or_not z d.root)
   where
     by : (y ≡ d.root) ⊎ (y ≢ d.root) → (z ≡ d.root) ⊎ (z ≢ d.root) → y ≡ z
     by (inl p) (inl q) = p ∙ sym q
-    by (inl p) (inr q) = absurd (even_not_odd x (limit + code k z) (sym (at_root (of_rule x) (copy_link limit k y) y d.root p) ∙ e ∙ elsewhere (of_rule x) (copy_link limit k z) z d.root q))
-    by (inr p) (inl q) = absurd (even_not_odd x (limit + code k y) (sym (at_root (of_rule x) (copy_link limit k z) z d.root q) ∙ sym e ∙ elsewhere (of_rule x) (copy_link limit k y) y d.root p))
+    by (inl p) (inr q) = absurd (even_not_odd x (limit + code k z) (sym (chosen_there d.root (of_rule x) (copy_link limit k y) y p) ∙ e ∙ chosen_elsewhere d.root (of_rule x) (copy_link limit k z) z q))
+    by (inr p) (inl q) = absurd (even_not_odd x (limit + code k y) (sym (chosen_there d.root (of_rule x) (copy_link limit k z) z q) ∙ sym e ∙ chosen_elsewhere d.root (of_rule x) (copy_link limit k y) y p))
     by (inr p) (inr q) =
-        let u : copy_link limit k y ≡ copy_link limit k z = sym (elsewhere (of_rule x) (copy_link limit k y) y d.root p) ∙ e ∙ elsewhere (of_rule x) (copy_link limit k z) z d.root q in
+        let u : copy_link limit k y ≡ copy_link limit k z = sym (chosen_elsewhere d.root (of_rule x) (copy_link limit k y) y p) ∙ e ∙ chosen_elsewhere d.root (of_rule x) (copy_link limit k z) z q in
         (code_apart k y k z (omega (arith, odd_differs (limit + code k y) (limit + code k z) u))).1
 
 -- the raw atoms of a copy
@@ -142,7 +136,7 @@ module _ (h h' : Heap) (r : HeapReading) (read : IsRead h r) (number : Port → 
     copy_of_part =
         let root = s.head.images.part p in
         let w = copied_part h r read m root part g ground (D k).atoms known.part (raw_link limit (D k) k x) (λ y z i j e. copy_link_one limit k x y z (D k) e) in
-        let e : raw_link limit (D k) k x (r.name root.0 root.1) ≡ of_rule x = at_root (of_rule x) (copy_link limit k (r.name root.0 root.1)) (r.name root.0 root.1) (D k).root (sym known.root) in
+        let e : raw_link limit (D k) k x (r.name root.0 root.1) ≡ of_rule x = chosen_there (D k).root (of_rule x) (copy_link limit k (r.name root.0 root.1)) (r.name root.0 root.1) (sym known.root) in
         (subst (λ z. IsPart g z (raw_part h r limit (D k) k x)) e w.is, subst (λ z. DepthFirst z (raw_part h r limit (D k) k x)) e w.in_order)
 
     -- it is the part, depth first
@@ -161,8 +155,8 @@ module _ (h h' : Heap) (r : HeapReading) (read : IsRead h r) (number : Port → 
         by w.0 w.1 (same_or_not w.0 (D k).root)
       where
         by : (y : ℕ) → z ≡ raw_link limit (D k) k x y → (y ≡ (D k).root) ⊎ (y ≢ (D k).root) → (z ≡ of_rule x) ⊎ ((L : ℕ) × (z ≡ of_solid L) × Block limit k L)
-        by y e (inl q) = inl (e ∙ at_root (of_rule x) (copy_link limit k y) y (D k).root q)
-        by y e (inr q) = inr (limit + code k y, e ∙ elsewhere (of_rule x) (copy_link limit k y) y (D k).root q, (y, refl))
+        by y e (inl q) = inl (e ∙ chosen_there (D k).root (of_rule x) (copy_link limit k y) y q)
+        by y e (inr q) = inr (limit + code k y, e ∙ chosen_elsewhere (D k).root (of_rule x) (copy_link limit k y) y q, (y, refl))
 
     -- and with each link at its image it is the copy in the solid
     pub raw_atoms : map (renamed_atom to_all) (raw_part h r limit (D k) k x) ≡ map (solid_atom_of r.names) (solid_atoms_at h' (λ a i. number (a, i)) (s.copied k))
@@ -172,6 +166,6 @@ module _ (h h' : Heap) (r : HeapReading) (read : IsRead h r) (number : Port → 
       where
         at : (y : ℕ) → (y ≡ (D k).root) ⊎ (y ≢ (D k).root) → to_all (raw_link limit (D k) k x y) ≡ (D k).to y
         at y (inl q) =
-            ap to_all (at_root (of_rule x) (copy_link limit k y) y (D k).root q) ∙ over_rule to limit n (λ k. (D k).to) x
+            ap to_all (chosen_there (D k).root (of_rule x) (copy_link limit k y) y q) ∙ over_rule to limit n (λ k. (D k).to) x
             ∙ sym known.entered ∙ ap (D k).to (sym known.root ∙ sym q)
-        at y (inr q) = ap to_all (elsewhere (of_rule x) (copy_link limit k y) y (D k).root q) ∙ over_copy to limit n (λ k. (D k).to) k y known.below
+        at y (inr q) = ap to_all (chosen_elsewhere (D k).root (of_rule x) (copy_link limit k y) y q) ∙ over_copy to limit n (λ k. (D k).to) k y known.below

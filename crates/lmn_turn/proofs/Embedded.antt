@@ -12,7 +12,6 @@ use Rattle.lmn_guards.specs.declared.plan.TypeKind.{TypeKind}
 use Rattle.lmn_heap.specs.Heap.{Heap, atoms_in, mems_in, rules_in}
 use Rattle.lmn_heap.specs.Sound.{Forest, flat}
 use Rattle.lmn_heap.proofs.ListLemmas.{in_left, in_right}
-use Rattle.lmn_heap.proofs.Trees.{in_either}
 use Rattle.lmn_congruence.specs.Links.{one_if_same}
 use Rattle.lmn_congruence.specs.Orders.{Among}
 use Rattle.lmn_congruence.specs.Regions.{region}
@@ -31,7 +30,6 @@ use Rattle.lmn_splice.specs.Classes.{rising}
 use Rattle.lmn_splice.specs.Splice as splice
 use Rattle.lmn_base.specs.Names.{HasNames, leaf_names, level_names, context_names, condition_names}
 use Rattle.lmn_compile_body.specs.Accepted.{rule_body_names}
-use Rattle.lmn_congruence.proofs.Appended.{all_left, all_right}
 use Rattle.lmn_base.specs.declared.level.Leaf.{Leaf}
 use Rattle.lmn_compile_head.specs.Accepted.{AcceptedHeads, AcceptedLeast, IsReady, head_items, rule_head_code}
 use Rattle.lmn_compile_head.specs.Heads.{IsHead, EachInside, kind_in}
@@ -72,7 +70,7 @@ use Rattle.lmn_turn.proofs.LeftOver.{Room, LeftThere, left_there, each_read, con
 use Rattle.lmn_turn.proofs.PartNames.{part_named}
 use Rattle.lmn_turn.proofs.PlanTypes.{plan_types}
 use Rattle.lmn_base.specs.Graphs.{Port}
-use Rattle.lmn_base.proofs.Lists.{weigh, get_below, get_there as get_some, weigh_append}
+use Rattle.lmn_base.proofs.Lists.{weigh, get_below, get_there as get_some, weigh_append, in_either, all_of_left, all_of_right}
 use Rattle.lmn_splice.proofs.Common.{in_append}
 use Rattle.lmn_base.specs.Lists.{In}
 
@@ -120,16 +118,16 @@ module _ (h : Heap) (r : HeapReading) (read : IsRead h r) (c : Contents) (all_as
 
 leaf_known : (P : ℕ → Type 0) (n : ℕ) (o : Occ) (p : Pos) (ls : List Leaf) → All P (flat_map leaf_names ls) → Contains ls (leaf.Typed n o p) → All P (n ∷ [])
 leaf_known P n o p [] a (k, within, e) = absurd (omega (arith, within))
-leaf_known P n o p (l ∷ ls) a (zero, within, e) = let same : l ≡ leaf.Typed n o p = cc in subst (λ l. All P (leaf_names l)) same (all_left P (leaf_names l) (flat_map leaf_names ls) a)
-leaf_known P n o p (l ∷ ls) a (suc k, within, e) = leaf_known P n o p ls (all_right P (leaf_names l) (flat_map leaf_names ls) a) (k, omega (arith, within), e)
+leaf_known P n o p (l ∷ ls) a (zero, within, e) = let same : l ≡ leaf.Typed n o p = cc in subst (λ l. All P (leaf_names l)) same (all_of_left P (leaf_names l) (flat_map leaf_names ls) a)
+leaf_known P n o p (l ∷ ls) a (suc k, within, e) = leaf_known P n o p ls (all_of_right P (leaf_names l) (flat_map leaf_names ls) a) (k, omega (arith, within), e)
 
 -- the name of a typed context of a body is known
 body_typed_known : (r : HeapReading) (rule : RuleTree) → IsRule r rule → (n : ℕ) (o : Occ) (p : Pos) → Contains (leaves_of rule.body) (leaf.Typed n o p) → HasNames r.names (n ∷ [])
 body_typed_known r rule is n o p w =
     let P : ℕ → Type 0 = λ n. n < length r.names in
-    let body = all_right P (level_names rule.head ++ flat_map condition_names rule.guard) (level_names rule.body) is.known in
-    let leaves = all_left P (flat_map leaf_names (leaves_of rule.body)) (context_names (contexts_of rule.body))
-    (all_left P (flat_map leaf_names (leaves_of rule.body) ++ context_names (contexts_of rule.body)) (context_names (rule_contexts_of rule.body)) body) in
+    let body = all_of_right P (level_names rule.head ++ flat_map condition_names rule.guard) (level_names rule.body) is.known in
+    let leaves = all_of_left P (flat_map leaf_names (leaves_of rule.body)) (context_names (contexts_of rule.body))
+    (all_of_left P (flat_map leaf_names (leaves_of rule.body) ++ context_names (contexts_of rule.body)) (context_names (rule_contexts_of rule.body)) body) in
     leaf_known P n o p (leaves_of rule.body) leaves w
 
 -- ---- the embedding

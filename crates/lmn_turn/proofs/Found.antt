@@ -6,7 +6,6 @@ use Rattle.lmn_guards.specs.declared.plan.TypeKind.{TypeKind}
 use Rattle.lmn_heap.specs.Heap.{Heap, atoms_in, mems_in, rules_in}
 use Rattle.lmn_heap.specs.Lists.{Distinct}
 use Rattle.lmn_heap.specs.Sound.{Forest, flat, Forms, Valid}
-use Rattle.lmn_heap.proofs.Trees.{nil_right}
 use Rattle.lmn_solid.specs.declared.items.HeadItem.{HeadItem}
 use Rattle.lmn_solid.specs.Heads.{HeadAtom, HeadTyped, atoms_of, typed_contexts_of, membranes_of, inside_of}
 use Rattle.lmn_solid.specs.Embeddings.{Images, Embeds, HasLink, HasAtom, HasTyped}
@@ -36,14 +35,14 @@ use Rattle.lmn_bridge.proofs.PartLaws.{ground_parts_stand_whole}
 use Rattle.lmn_bridge.proofs.PartsLaid.{held_part}
 use Rattle.lmn_bridge.proofs.PartsOut.{flattened}
 use Rattle.lmn_bridge.proofs.Pieces.{atom_at, atoms_each}
-use Rattle.lmn_bridge.proofs.Ports.{port_named, get_map}
+use Rattle.lmn_bridge.proofs.Ports.{port_named}
 use Rattle.lmn_bridge.proofs.Runs.{get_inside}
 use Rattle.lmn_bridge.proofs.Walking.{Walk, walk_from, walk_atom, walk_typed, atoms_in_items, typed_in_items, membranes_in_items, run}
 use Rattle.lmn_bridge.proofs.Weighing.{level_weighs, weigh_nothing}
 use Rattle.lmn_turn.proofs.Held.{Held, HeldLevel, held_level, lies_kept}
 use Rattle.lmn_turn.proofs.Numbered.{SameImages, same_images, embedding_fresh}
 use Rattle.lmn_base.specs.Graphs.{Port}
-use Rattle.lmn_base.proofs.Lists.{weigh, get_below, weigh_append}
+use Rattle.lmn_base.proofs.Lists.{weigh, get_below, weigh_append, get_map, plus_nothing}
 use Rattle.lmn_bridge.proofs.OutOf.{flattened_in, index_in, places_part, reads_index}
 use Rattle.lmn_base.specs.Lists.{In}
 
@@ -88,7 +87,7 @@ module _ (h : Heap) (r : HeapReading) (read : IsRead h r) (kind : ℕ → TypeKi
 
   pub whole_once : (b : ℕ) → weigh (one_if_same b) (atoms_in h m) + weigh (one_if_same b) (forest_atoms h inner) ≤ 1
   whole_once b =
-      let whole = subst (λ z. Distinct (m ∷ z)) (sym (nil_right (flat inner))) once in
+      let whole = subst (λ z. Distinct (m ∷ z)) (sym (plus_nothing (flat inner))) once in
       let u = tree_once h v m inner whole b in
       omega (arith, u, weigh_append (one_if_same b) (atoms_in h m) (forest_atoms h inner), weigh_same b (tree_atoms h m inner))
 

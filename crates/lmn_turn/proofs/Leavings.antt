@@ -5,10 +5,10 @@ use Rattle.lmn_heap.specs.Heap.{Heap, HeapMem, within, IsMem, mems_in}
 use Rattle.lmn_heap.specs.Sound.{Forest, bare, mem, flat, Forms, IsTree, Valid}
 use Rattle.lmn_heap.proofs.Groves.{list_inside, child_inside}
 use Rattle.lmn_heap.proofs.ListLemmas.{each_in}
-use Rattle.lmn_heap.proofs.Trees.{in_either}
 use Rattle.lmn_body.specs.Running.{Registers}
 use Rattle.lmn_turn.proofs.Turns.{Placing}
 use Rattle.lmn_base.specs.Lists.{In}
+use Rattle.lmn_base.proofs.Lists.{in_either}
 
 -- the tree of a heap is that of its root
 pub root_tree : (h : Heap) (t : Forest) → IsTree h t → (inner : Forest) × (t ≡ mem h.root inner bare)

@@ -12,7 +12,6 @@ use Rattle.lmn_heap.specs.Functors.{same_functor}
 use Rattle.lmn_heap.specs.Heap.{Heap, HeapAtom, HeapMem, IsAtom, IsMem, functor_of, home_of, atoms_in, mems_in, atoms_by}
 use Rattle.lmn_heap.specs.Lists.{without_all}
 use Rattle.lmn_heap.specs.Sound.{Forest, bare, mem, flat, Forms, IsTree, Valid}
-use Rattle.lmn_heap.proofs.Trees.{in_either}
 use Rattle.lmn_solid.specs.declared.items.HeadItem.{HeadItem}
 use Rattle.lmn_solid.specs.Heads as heads
 use Rattle.lmn_solid.proofs.HeadTrees.{Head, Heads, head, no_head, head_and, size, head_leaves, heads_leaves}
@@ -36,6 +35,7 @@ use Rattle.lmn_compile_body.proofs.BodyTrees.{flat_body, flat_bodies}
 use Rattle.lmn_turn.proofs.Adders.{at}
 use Rattle.lmn_base.specs.Graphs.{Port}
 use Rattle.lmn_base.specs.Lists.{In}
+use Rattle.lmn_base.proofs.Lists.{in_either}
 
 -- ---- where added membranes come from
 

@@ -7,7 +7,6 @@ use Rattle.lmn_base.specs.declared.functor.Functor.{Functor}
 use Rattle.lmn_heap.specs.Heap.{Heap, atoms_in, mems_in}
 use Rattle.lmn_heap.specs.Lists.{without, without_all}
 use Rattle.lmn_heap.proofs.ListLemmas.{in_without}
-use Rattle.lmn_heap.proofs.Trees.{in_either}
 use Rattle.lmn_solid.specs.declared.items.HeadItem.{HeadItem}
 use Rattle.lmn_solid.specs.declared.items.HeadItem.TheVariants.{Atom, Typed, Membrane}
 use Rattle.lmn_solid.specs.Heads.{HeadAtom, HeadMembrane, atoms_of, membranes_of}
@@ -16,6 +15,7 @@ use Rattle.lmn_compile_head.specs.Heads.{EachInside}
 use Rattle.lmn_bridge.specs.Numbers.{numbers_left}
 use Rattle.lmn_base.proofs.Numbers.{not_equal as apart_test}
 use Rattle.lmn_base.specs.Lists.{In}
+use Rattle.lmn_base.proofs.Lists.{in_either}
 
 -- what is in a list and has the index of another number is that number
 index_same : (a b : ℕ) (xs : List ℕ) → In a xs → index_of a xs ≡ index_of b xs → a ≡ b

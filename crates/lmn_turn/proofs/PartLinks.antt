@@ -3,7 +3,6 @@ use Rattle.std.proofs.Common.{ℕ, ◌≡◌, ◌≢◌, ◌⊎◌, List, sym, a
 use Rattle.lmn_congruence.specs.Links.{places}
 use Rattle.lmn_congruence.specs.Process.{Free, occurrences}
 use Rattle.lmn_congruence.specs.Regions.{SolidAtom}
-use Rattle.lmn_congruence.proofs.Counts.{occurs_once}
 use Rattle.lmn_congruence.proofs.Renaming.{occurrences_none}
 use Rattle.lmn_reduction.specs.Parts.{Rooted}
 use Rattle.lmn_adequacy.specs.Embedding.{IsPart}
@@ -11,11 +10,12 @@ use Rattle.lmn_adequacy.specs.Next.{links_at}
 use Rattle.lmn_adequacy.proofs.Bodies.{Whole}
 use Rattle.lmn_adequacy.proofs.Exposing.{Source, found, missing, source}
 use Rattle.lmn_adequacy.proofs.SameParts.{part_count, part_image}
+use Rattle.lmn_base.proofs.Numbers.{not_zero_if_one}
 
 module _ {g : Rooted} {x : ℕ} {bs : List SolidAtom} (i : IsPart g x bs) (free : Free g.root g.process) where
   -- the root's link stands once
   pub part_root_once : places x (links_at bs) ≡ 1
-  part_root_once = ap (λ w. places w (links_at bs)) (sym i.root) ∙ part_image i g.root (occurs_once (occurrences g.root g.process) free) ∙ free
+  part_root_once = ap (λ w. places w (links_at bs)) (sym i.root) ∙ part_image i g.root (not_zero_if_one (occurrences g.root g.process) free) ∙ free
 
   -- each other link twice, or not at all
   pub part_links_twice : Whole g → (z : ℕ) → z ≢ x → (places z (links_at bs) ≡ 0) ⊎ (places z (links_at bs) ≡ 2)

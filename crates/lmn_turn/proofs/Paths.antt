@@ -6,7 +6,6 @@ use Rattle.lmn_heap.specs.Lists.{Distinct}
 use Rattle.lmn_heap.specs.Sound.{Forest, bare, mem, flat, Forms}
 use Rattle.lmn_heap.proofs.Groves.{forms_one}
 use Rattle.lmn_heap.proofs.ListLemmas.{in_left, in_right, each_in, distinct_left, distinct_right, apart}
-use Rattle.lmn_heap.proofs.Trees.{in_either}
 use Rattle.lmn_congruence.specs.FreeLinks.{link_bound}
 use Rattle.lmn_congruence.specs.Fused.{Joins}
 use Rattle.lmn_congruence.specs.Plains.{fused_level, fused_levels, level_process, levels_processes}
@@ -27,6 +26,7 @@ use Rattle.lmn_splice.specs.Splice.{of_solid}
 use Rattle.lmn_adequacy.proofs.Existence.{below_order}
 use Rattle.lmn_congruence.proofs.Common.{rules_join}
 use Rattle.lmn_base.specs.Lists.{In}
+use Rattle.lmn_base.proofs.Lists.{in_either}
 
 -- links stay below a number
 taken_out : (s m q o n : ℕ) → s ≡ m + q → s + o ≤ n → m + (q + o) ≤ n

@@ -6,7 +6,6 @@ use Rattle.lmn_heap.specs.Heap.{Heap, HeapMem, Place, within, IsMem, atoms_in, m
 use Rattle.lmn_heap.specs.Lists.{Distinct}
 use Rattle.lmn_heap.specs.Sound.{Forest, flat, Forms, Valid}
 use Rattle.lmn_heap.proofs.Groves.{list_inside, child_inside}
-use Rattle.lmn_heap.proofs.Trees.{in_either}
 use Rattle.lmn_solid.specs.declared.items.HeadItem.{HeadItem}
 use Rattle.lmn_solid.specs.declared.items.HeadItem.TheVariants.{Atom, Typed, Membrane}
 use Rattle.lmn_solid.specs.Heads.{HeadAtom, HeadTyped, HeadMembrane, atoms_of, membranes_of}
@@ -22,7 +21,7 @@ use Rattle.lmn_body.proofs.Firing.{rising_below, heap_in_of}
 use Rattle.lmn_body.proofs.HeadPorts.{of_map}
 use Rattle.lmn_bridge.proofs.Forests.{home_in, one_home}
 use Rattle.lmn_turn.proofs.Turns.{Placing}
-use Rattle.lmn_base.proofs.Lists.{get_below, get_there as get_some}
+use Rattle.lmn_base.proofs.Lists.{get_below, get_there as get_some, in_either}
 use Rattle.lmn_base.specs.Lists.{In}
 
 -- ---- items stand in membranes of the head

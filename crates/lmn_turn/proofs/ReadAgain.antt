@@ -14,7 +14,6 @@ use Rattle.std.specs.Option.{option_map}
 use Rattle.lmn_heap.specs.Heap.{Heap, HeapMem, top, within, Place, IsMem, mems_in, rules_in}
 use Rattle.lmn_heap.specs.Lists.{Distinct}
 use Rattle.lmn_heap.specs.Sound.{Forest, bare, mem, IsTree, Valid}
-use Rattle.lmn_congruence.proofs.Appended.{all_left, all_right}
 use Rattle.lmn_solid.specs.declared.items.HeadItem.{HeadItem}
 use Rattle.lmn_solid.specs.Heads.{membranes_of}
 use Rattle.lmn_solid.proofs.HeadTrees.{Head, head_at, head_leaves, same_leaves, head_rules, same_rules}
@@ -45,14 +44,15 @@ use Rattle.lmn_turn.proofs.Turns.{Placing}
 use Rattle.lmn_base.specs.Graphs.{Port}
 use Rattle.lmn_heap.proofs.Common.{mem_stands}
 use Rattle.lmn_base.specs.Lists.{In}
+use Rattle.lmn_base.proofs.Lists.{all_of_left, all_of_right}
 
 -- ---- names
 
 leaves_named : (names : List (List ℕ)) (ls : List Leaf) → All (λ n. n < length names) (flat_map leaf_names ls) → LeavesNamed names ls
 leaves_named names [] a = tt
 leaves_named names (leaf.Atom f os p ∷ ls) a =
-    (all_left (λ n. n < length names) (leaf_names (leaf.Atom f os p)) (flat_map leaf_names ls) a, leaves_named names ls (all_right (λ n. n < length names) (leaf_names (leaf.Atom f os p)) (flat_map leaf_names ls) a))
-leaves_named names (leaf.Typed n o p ∷ ls) a = (tt, leaves_named names ls (all_right (λ n. n < length names) (n ∷ []) (flat_map leaf_names ls) a))
+    (all_of_left (λ n. n < length names) (leaf_names (leaf.Atom f os p)) (flat_map leaf_names ls) a, leaves_named names ls (all_of_right (λ n. n < length names) (leaf_names (leaf.Atom f os p)) (flat_map leaf_names ls) a))
+leaves_named names (leaf.Typed n o p ∷ ls) a = (tt, leaves_named names ls (all_of_right (λ n. n < length names) (n ∷ []) (flat_map leaf_names ls) a))
 
 -- the root is there
 pub root_mem : (h : Heap) → Valid h → IsMem h h.root
@@ -66,13 +66,13 @@ module _ (r : HeapReading) (rule : RuleTree) (is : IsRule r rule) where
   pub body_leaves_named : LeavesNamed r.names (head_leaves (head_at rule.body))
   body_leaves_named =
       let P : ℕ → Type 0 = λ n. n < length r.names in
-      let body = all_right P (level_names rule.head ++ flat_map condition_names rule.guard) (level_names rule.body) is.known in
-      let leaves = all_left P (flat_map leaf_names (leaves_of rule.body)) (context_names (contexts_of rule.body))
-      (all_left P (flat_map leaf_names (leaves_of rule.body) ++ context_names (contexts_of rule.body)) (context_names (rule_contexts_of rule.body)) body) in
+      let body = all_of_right P (level_names rule.head ++ flat_map condition_names rule.guard) (level_names rule.body) is.known in
+      let leaves = all_of_left P (flat_map leaf_names (leaves_of rule.body)) (context_names (contexts_of rule.body))
+      (all_of_left P (flat_map leaf_names (leaves_of rule.body) ++ context_names (contexts_of rule.body)) (context_names (rule_contexts_of rule.body)) body) in
       subst (LeavesNamed r.names) (same_leaves rule.body) (leaves_named r.names (leaves_of rule.body) leaves)
 
   pub body_fits : (l : Leaf) → Contains (head_leaves (head_at rule.body)) l → FitsArity l
-  body_fits l c = All-contains FitsArity (leaves_of rule.body) l (all_right FitsArity (leaves_of rule.head) (leaves_of rule.body) is.well_made.arities) (subst (λ ls. Contains ls l) (sym (same_leaves rule.body)) c)
+  body_fits l c = All-contains FitsArity (leaves_of rule.body) l (all_of_right FitsArity (leaves_of rule.head) (leaves_of rule.body) is.well_made.arities) (subst (λ ls. Contains ls l) (sym (same_leaves rule.body)) c)
 
 -- ---- the turn
 

@@ -9,7 +9,6 @@ use Rattle.lmn_base.specs.Solids.{connector}
 use Rattle.lmn_heap.specs.Functors.{same_functor}
 use Rattle.lmn_heap.specs.Heap.{Heap, HeapMem, IsMem, rules_in, rules_by}
 use Rattle.lmn_heap.specs.Sound.{Forest, IsTree, Valid}
-use Rattle.lmn_heap.proofs.Trees.{in_either}
 use Rattle.lmn_solid.specs.declared.items.HeadItem.{HeadItem}
 use Rattle.lmn_solid.proofs.HeadTrees.{Head, Heads, head, no_head, head_and, size, head_rules, heads_rules}
 use Rattle.lmn_body.specs.declared.items.BodyItem.{BodyItem}
@@ -22,7 +21,7 @@ use Rattle.lmn_compile_body.proofs.BodyTrees.{flat_body, flat_bodies}
 use Rattle.lmn_turn.proofs.Adders.{at}
 use Rattle.lmn_turn.proofs.NamesKept.{none_removed}
 use Rattle.lmn_base.specs.Graphs.{Port}
-use Rattle.lmn_base.proofs.Lists.{contains_behind as later_is, contains_first as first_is}
+use Rattle.lmn_base.proofs.Lists.{contains_behind as later_is, contains_first as first_is, in_either}
 use Rattle.lmn_body.proofs.AddedLemmas.{in_if}
 use Rattle.lmn_base.specs.declared.level.Leaf.TheVariants as leaf
 use Rattle.lmn_solid.specs.Heads as heads

@@ -7,7 +7,6 @@ use Rattle.lmn_heap.specs.Lists.{Distinct, without_all}
 use Rattle.lmn_heap.specs.Solid.{solid_atoms_at}
 use Rattle.lmn_heap.specs.Sound.{Forest, flat, Forms}
 use Rattle.lmn_heap.proofs.ListLemmas.{each_in}
-use Rattle.lmn_heap.proofs.Trees.{nil_right}
 use Rattle.std.proofs.lemmas.List.{append-nil}
 use Rattle.lmn_solid.specs.Heads.{membranes_of}
 use Rattle.std.specs.Prelude.{Bool, true, false, cond, ◌==◌}
@@ -49,7 +48,7 @@ use Rattle.lmn_turn.proofs.Paths.{Firing, from_root}
 use Rattle.lmn_turn.proofs.Connectors.{level_joins, wires_join, leaves_join_both, levels_join_both, AllFit}
 use Rattle.lmn_base.specs.Graphs.{Port}
 use Rattle.lmn_splice.specs.Splice.{of_rule, of_solid}
-use Rattle.lmn_base.proofs.Lists.{map_twice}
+use Rattle.lmn_base.proofs.Lists.{map_twice, plus_nothing}
 use Rattle.lmn_bridge.proofs.Numbering.{all_absent as withouts_absent}
 use Rattle.lmn_congruence.proofs.Common.{rules_join, rules_listed}
 use Rattle.lmn_adequacy.specs.Accepted.{Accepted}
@@ -175,9 +174,9 @@ module _ (h h' : Heap) (r : HeapReading) (s : Registers) (head : List HeadItem) 
             ∙ ap (λ xs. map (solid_atom_of r.names) (left y) ++ map (solid_atom_of r.names) xs) none ∙ append-nil (map (solid_atom_of r.names) (left y)) ∙ left_read y
             ∙ ap (λ xs. map (renamed_atom (λ z. to (of_solid z))) (atoms_at h r xs)) (withouts_absent taken (atoms_in h y) (λ a j k. o (p.taken_home a y j k)));
         mems = mems_after y outside
-            ∙ ap (λ xs. left_mems y ++ xs) ((mems_adder s left_mems).missed low 0 B y misses) ∙ nil_right (left_mems y)
+            ∙ ap (λ xs. left_mems y ++ xs) ((mems_adder s left_mems).missed low 0 B y misses) ∙ plus_nothing (left_mems y)
             ∙ withouts_absent ks (mems_in h y) (λ x j k. o (p.images_home x y j k));
-        rules = f.rules y outside ∙ ap (λ xs. rules_in h y ++ xs) ((rules_adder s (rules_in h)).missed low 0 B y misses) ∙ nil_right (rules_in h y);
+        rules = f.rules y outside ∙ ap (λ xs. rules_in h y ++ xs) ((rules_adder s (rules_in h)).missed low 0 B y misses) ∙ plus_nothing (rules_in h y);
       }
 
   -- ---- where the rule fires

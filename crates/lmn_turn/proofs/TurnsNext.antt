@@ -10,9 +10,7 @@ use Rattle.lmn_base.specs.declared.solid.SolidAtom.{SolidAtom}
 use Rattle.lmn_heap.specs.Heap.{Heap, IsMem, atoms_in, mems_in, rules_in}
 use Rattle.lmn_heap.specs.Lists.{Distinct, without_all}
 use Rattle.lmn_heap.specs.Sound.{Forest, bare, mem, flat, Forms, IsTree}
-use Rattle.lmn_heap.proofs.Trees.{nil_right}
 use Rattle.lmn_congruence.specs.FreeLinks.{link_bound, sum_below}
-use Rattle.lmn_congruence.proofs.Counts.{below_or_from}
 use Rattle.lmn_congruence.proofs.Totals.{highest}
 use Rattle.lmn_adequacy.proofs.Existence.{level_bound}
 use Rattle.lmn_bridge.specs.Parts.{IsGroundPart}
@@ -73,6 +71,8 @@ use Rattle.lmn_turn.proofs.Turns.{FiredTo, Placing, LeavesRest, left, left_read,
 use Rattle.lmn_base.specs.Graphs.{Port}
 use Rattle.lmn_splice.specs.Splice.{of_rule, of_solid}
 use Rattle.lmn_base.specs.Lists.{In}
+use Rattle.lmn_base.proofs.Numbers.{below_or_from}
+use Rattle.lmn_base.proofs.Lists.{plus_nothing}
 
 same_region : {as' bs : List solid.SolidAtom} {is js : Regions} {rs ss : List tree.Rule} → region as' is rs ≡ region bs js ss → (as' ≡ bs) × (is ≡ js)
 same_region e = (cc, cc)
@@ -248,14 +248,14 @@ module _ (firing : AcceptedFires) (head_law : AcceptedHeads) (nested : AcceptedN
 
     module _ (index k : ℕ) (stands : slice_get (rules_in h m) index ≡ Some k) (rule_is : r.rule k ≡ rule_tree r.names r.rule rule) where
       in_tree : In m (h.root ∷ flat inner)
-      in_tree = subst (In m) (ap (λ z. h.root ∷ z) (nil_right (flat inner))) (tr.all m there)
+      in_tree = subst (In m) (ap (λ z. h.root ∷ z) (plus_nothing (flat inner))) (tr.all m there)
 
       raw : RawFrom h h' r (λ a i. both.0.number (a, i)) to index ns m h.root inner nothing
       raw =
           let w = taken_at r.rule (rules_in h m) index k stands in
           fires_in_tree h h' r s items bn hd low taken both.0 to limit copy part joined fired_to refl m mi place (rule_tree r.names r.rule rule) is_rule.accepted ns index w.0 (subst (λ z. Taken index z (map r.rule (rules_in h m)) w.0) rule_is w.1)
           (level_tree r.names r.rule rule.body) e leaves_rest agrees (all_fit h h' r r' s bn e.contents left_at mems_at to limit copy part 0 hd agrees) wires
-          inner tr.forms.2 (subst (λ z. Distinct (h.root ∷ z)) (nil_right (flat inner)) tr.once) in_tree
+          inner tr.forms.2 (subst (λ z. Distinct (h.root ∷ z)) (plus_nothing (flat inner)) tr.once) in_tree
           (λ y j. elim j [ inl q ↦ subst (IsMem h) q (root_mem h read.valid) | inr q ↦ forest_there h read.valid inner (mems_in h h.root) tr.forms.2 (λ z u. listed_there h read.valid z h.root u) y q ])
           nothing (beside_nothing (region_process (region_at h r h.root inner)) (closed_heap h r inner read tr)) (omega arith)
 

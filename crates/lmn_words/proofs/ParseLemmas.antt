@@ -32,7 +32,7 @@ use Rattle.lmn_words.proofs.SettingLemmas.{all_read, firsts, firsts_collected, f
 use Rattle.lmn_words.proofs.ReadLemmas.{each_once}
 use Rattle.lmn_words.proofs.WalkLemmas.{Stands, after_met, and_first_true, at_new_row, between, both_passes, both_walked, built_line, file_passes, file_walked, flag_id, flag_passes, flag_walked, given, held, name_passes, name_walked, named, option_id, passes, plain_met, plain_passes, run_rules, run_shape, stands_done, stands_file, stands_option, step_of_met, used_new, used_once, value_walked, value_word_passes}
 use Rattle.lmn_base.proofs.Numbers.{unequal as not_same}
-use Rattle.lmn_base.proofs.Truth.{and_true2 as and_true}
+use Rattle.std.proofs.lemmas.Bool.{and_from}
 
 -- ---- what rows tell
 
@@ -201,7 +201,7 @@ goes_on w v word words rows e f g = record {
   position = g.position;
   end = ap (λ u. fold (walked run_rules []) u words) e ∙ g.end;
   stands = g.stands;
-  passed = and_true (passes w word) (walk_passes run_shape [] (walked run_rules [] w word) words) f (ap (λ u. walk_passes run_shape [] u words) e ∙ g.passed);
+  passed = and_from (passes w word) (walk_passes run_shape [] (walked run_rules [] w word) words) f (ap (λ u. walk_passes run_shape [] u words) e ∙ g.passed);
 }
 
 reaches_on : (w v : Walk) (word : CommandWord) (words : List CommandWord) (file : Option CommandWord) (s : Settings) → walked run_rules [] w word ≡ v → passes w word ≡ true
@@ -388,8 +388,8 @@ level_taken : (words : List CommandWord) (rows : List Row) → Goes (between Non
     → level_passes run_shape [] nothing_held words false ≡ true
 level_taken words rows g file =
     let end = (fold (walked run_rules []) (between None [] 1) words).held in
-    and_true (walk_passes run_shape [] (between None [] 1) words) (settle_passes run_rules false end && (list_all default_passes run_rules && is_valid run_shape (finished run_rules end) false)) g.passed
-    (and_true (settle_passes run_rules false end) (list_all default_passes run_rules && is_valid run_shape (finished run_rules end) false)
+    and_from (walk_passes run_shape [] (between None [] 1) words) (settle_passes run_rules false end && (list_all default_passes run_rules && is_valid run_shape (finished run_rules end) false)) g.passed
+    (and_from (settle_passes run_rules false end) (list_all default_passes run_rules && is_valid run_shape (finished run_rules end) false)
     (ap (λ (w : Walk). settle_passes run_rules false w.held) g.end ∙ g.stands.settle)
     (ap (λ rs. list_all default_passes run_rules && is_valid run_shape rs false) (rows_are words rows g) ∙ ap (λ b. b && true) file))
 
@@ -454,7 +454,7 @@ one_steps of_demo b bs e = ap (step_of_met (one_shape of_demo) 1) (plain_met (on
 
 one_passes : (o : OneWord) (b : ℕ) (bs : Text) → (b == 45) ≡ false → walk_passes (one_shape o) [] (between None [] 1) ((b ∷ bs) ∷ []) ≡ true
 unfolding walk_passes
-one_passes o b bs e = and_true (turn_passes (one_shape o) [] (between None [] 1) (b ∷ bs)) true
+one_passes o b bs e = and_from (turn_passes (one_shape o) [] (between None [] 1) (b ∷ bs)) true
     (and_first_true (word_passes (one_shape o) [] false idle (b ∷ bs) (held None [])) (one_met o b bs) (plain_passes (one_shape o) idle b bs (held None []) e refl) ∙ one_steps o b bs e) refl
 
 -- what is asked behind the walk
@@ -476,7 +476,7 @@ one_taken : (o : OneWord) (word : CommandWord) → IsFileName word
 one_taken o [] h = absurd h
 one_taken o (b ∷ bs) h =
     let e = not_same b 45 h in (
-      and_true (walk_passes (one_shape o) [] (between None [] 1) ((b ∷ bs) ∷ [])) (after_walk o (walk (one_rules o) [] nothing_held ((b ∷ bs) ∷ [])))
+      and_from (walk_passes (one_shape o) [] (between None [] 1) ((b ∷ bs) ∷ [])) (after_walk o (walk (one_rules o) [] nothing_held ((b ∷ bs) ∷ [])))
           (one_passes o b bs e) (ap (after_walk o) (one_walked o b bs e) ∙ after_word o (b ∷ bs)),
       ap (λ (w : Walk). first_text (one_id o) (finished (one_rules o) w.held)) (one_walked o b bs e) ∙ first_word o (b ∷ bs),
     )
@@ -522,7 +522,7 @@ top_walked n words h = ap (λ w. fold (walked top.top.rules (names_of top)) w wo
 
 top_passes : (n : Text) (words : List CommandWord) → Stops n → walk_passes top.top (names_of top) (walk_from nothing_held) (n ∷ words) ≡ true
 unfolding walk_passes
-top_passes n words h = and_true (turn_passes top.top (names_of top) (walk_from nothing_held) n) (walk_passes top.top (names_of top) (walked top.top.rules (names_of top) (walk_from nothing_held) n) words)
+top_passes n words h = and_from (turn_passes top.top (names_of top) (walk_from nothing_held) n) (walk_passes top.top (names_of top) (walked top.top.rules (names_of top) (walk_from nothing_held) n) words)
     h.1 (ap (λ w. walk_passes top.top (names_of top) w words) h.0 ∙ kept_passes top.top (names_of top) (walk_from nothing_held) n [] words)
 
 abbrev top_after : Walk → Bool
@@ -532,12 +532,12 @@ top_after w = settle_passes top.top.rules false w.held && (list_all default_pass
 top_takes : (n : Text) (words : List CommandWord) → Stops n → is_some (entered top (Some (n, words))) ≡ true → entered_passes top (Some (n, words)) ≡ true → takes whole_line (n ∷ words) ≡ true
 top_takes n words h found e =
     let w = walk top.top.rules (names_of top) nothing_held (n ∷ words) in
-    and_true (is_simple whole_line) (entered_passes top w.stopped && level_passes top.top (names_of top) nothing_held (n ∷ words) (is_some (entered top w.stopped))) refl
-    (and_true (entered_passes top w.stopped) (level_passes top.top (names_of top) nothing_held (n ∷ words) (is_some (entered top w.stopped)))
+    and_from (is_simple whole_line) (entered_passes top w.stopped && level_passes top.top (names_of top) nothing_held (n ∷ words) (is_some (entered top w.stopped))) refl
+    (and_from (entered_passes top w.stopped) (level_passes top.top (names_of top) nothing_held (n ∷ words) (is_some (entered top w.stopped)))
     (ap (λ (v : Walk). entered_passes top v.stopped) (top_walked n words h) ∙ e)
     (ap (λ (v : Walk). level_passes top.top (names_of top) nothing_held (n ∷ words) (is_some (entered top v.stopped))) (top_walked n words h)
     ∙ ap (level_passes top.top (names_of top) nothing_held (n ∷ words)) found
-    ∙ and_true (walk_passes top.top (names_of top) (walk_from nothing_held) (n ∷ words)) (top_after w) (top_passes n words h) (ap top_after (top_walked n words h))))
+    ∙ and_from (walk_passes top.top (names_of top) (walk_from nothing_held) (n ∷ words)) (top_after w) (top_passes n words h) (ap top_after (top_walked n words h))))
 
 -- what words ask for is taken, and found
 pub asked_taken : (words : List CommandWord) (r : Request) → TextsAsk words r → (takes whole_line words ≡ true) × FoundIsRequest (subcommand_of whole_line words) r

@@ -15,7 +15,7 @@ use Rattle.lmn_words.specs.declared.setting.Valued.TheVariants as valued
 use Rattle.lmn_words.specs.Forms.{flag_word}
 use Rattle.lmn_words.specs.Parsing.{run_line, whole_line}
 use Rattle.lmn_words.proofs.WordLemmas.{bool_cases, option_word}
-use Rattle.lmn_base.proofs.Truth.{or_true}
+use Rattle.std.proofs.lemmas.Bool.{or_right}
 
 -- ---- the built commands
 
@@ -190,7 +190,7 @@ pub file_passes : (b : ℕ) (bs : Text) (p : Option (Text × List Text)) (rows :
 file_passes b bs p rows e s =
     and_first_true (word_passes run_shape [] false idle (b ∷ bs) (held p rows)) (step_of_met run_shape 1 (word_met run_rules [] false idle 1 (b ∷ bs) (held p rows))) (plain_passes run_shape idle b bs (held p rows) e refl)
     ∙ ap (step_of_met run_shape 1) (plain_met run_rules idle b bs 1 (held p rows) e refl)
-    ∙ or_true _ (settles p rows) s
+    ∙ or_right _ (settles p rows) s
 
 pub value_word_passes : (o : Valued) (b : ℕ) (bs : Text) (p : Option (Text × List Text)) (rows : List Row) (n : ℕ) → (b == 45) ≡ false
     → passes (named p rows n o) (b ∷ bs) ≡ true

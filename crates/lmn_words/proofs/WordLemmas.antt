@@ -4,7 +4,7 @@ use Rattle.std.specs.List.{list_all}
 use Rattle.std.specs.Result.{result_ok}
 use Rattle.std.specs.Char.{digit_value}
 use Rattle.std.specs.Str.Parse.{AllDigits, IsNumeral, digits_value, without_leading_plus}
-use Rattle.std.proofs.lemmas.Bool.{le-leb, leb-true, eq-eqb, eqb-true}
+use Rattle.std.proofs.lemmas.Bool.{le-leb, leb-true, eq-eqb, eqb-true, and_from}
 use Rattle.std.proofs.lemmas.Option.{none-some, same_Some, option_and_then_some}
 use Rattle.std.proofs.lemmas.Str.{digit_value_digit}
 use Rattle.std.proofs.lemmas.Str.Parse.{digit_from_value, digits_value_short, numerals_by_value, tells_digits}
@@ -19,7 +19,7 @@ use Rattle.lmn_words.specs.declared.setting.OrderName.TheVariants as name
 use Rattle.lmn_words.specs.Forms.{CommandWord, IsFileName, IsNumber, flag_word, order_word, Sets}
 use Rattle.lmn_words.specs.Hearing.{begins_with, is_file_name, is_digit, number_written, number_from, order_named, flag_named, option_named, setting_of, equals_at}
 use Rattle.lmn_base.proofs.Numbers.{unequal as not_same}
-use Rattle.lmn_base.proofs.Truth.{and_true2 as and_true, first_true as and_first, not_true as not_false, second_true as and_second}
+use Rattle.lmn_base.proofs.Truth.{first_true as and_first, not_true as not_false, second_true as and_second}
 use Rattle.std.proofs.lemmas.Slice.Eq.{bytes_eq-Decides}
 
 pub is_bytes : (w v : CommandWord) → bytes_eq w v ≡ true → w ≡ v
@@ -57,7 +57,7 @@ digit_below b e =
 below_digit : (b : ℕ) → digit_value b < 10 → is_digit b ≡ true
 below_digit b h =
     let r = digit_from_value b h in
-    and_true (nat_le 48 b) (nat_le b 57) (le-leb 48 b r.0) (le-leb b 57 r.1)
+    and_from (nat_le 48 b) (nat_le b 57) (le-leb 48 b r.0) (le-leb b 57 r.1)
 
 all_below : (w : CommandWord) → list_all is_digit w ≡ true → AllDigits 10 w
 all_below [] e = tt
@@ -65,7 +65,7 @@ all_below (b ∷ w) e = (digit_below b (and_first (is_digit b) (list_all is_digi
 
 below_all : (w : CommandWord) → AllDigits 10 w → list_all is_digit w ≡ true
 below_all [] h = refl
-below_all (b ∷ w) h = and_true (is_digit b) (list_all is_digit w) (below_digit b h.0) (below_all w h.1)
+below_all (b ∷ w) h = and_from (is_digit b) (list_all is_digit w) (below_digit b h.0) (below_all w h.1)
 
 number_if : (w : CommandWord) (n : ℕ) (a b c : Bool) → (if not a && (b && c) then Some (digits_value 10 w) else None) ≡ Some n → (a ≡ false) × (b ≡ true) × (c ≡ true) × (digits_value 10 w ≡ n)
 number_if w n false true true e = (refl, refl, refl, same_Some (digits_value 10 w) n e)
@@ -145,7 +145,7 @@ pub number_from_read : (least most : ℕ) (w : CommandWord) (n : ℕ) → IsNumb
 number_from_read least most w n h =
     then_some (λ m. if nat_le least m && nat_le m most then Some m else None) (number_written w) n (Some n)
     (number_read w h.0 h.1 ∙ ap Some h.2)
-    (ap (λ b. if b then Some n else None) (and_true (nat_le least n) (nat_le n most) (le-leb least n h.3) (le-leb n most h.4)))
+    (ap (λ b. if b then Some n else None) (and_from (nat_le least n) (nat_le n most) (le-leb least n h.3) (le-leb n most h.4)))
 
 -- ---- names
 

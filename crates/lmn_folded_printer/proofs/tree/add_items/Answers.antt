@@ -3,9 +3,10 @@ use Rattle.std.specs.Option.{option_map}
 use Rattle.lmn_folding.specs.Marks.{is_item}
 use Rattle.lmn_heap.specs.Heap.{home_of}
 use Rattle.lmn_items.specs.Chosen.{items_in}
-use Rattle.lmn_printer.proofs.StoredLemmas.{atom_at_home, atoms_fewer, here}
+use Rattle.lmn_printer.proofs.StoredLemmas.{atom_at_home, atoms_fewer}
 use Rattle.lmn_folded_printer.proofs.ItemRows.{item_here, items_end, items_first, items_next}
 use Rattle.lmn_folded_printer.proofs.tree.add_items.Goals as goal
+use Rattle.lmn_base.proofs.Lists.{holds_of_item}
 
 pub loop-next-init : goal.loop-next-init
 loop-next-init g c = record {
@@ -20,10 +21,10 @@ add_item-requires-clause-valid g c = c.requires.texts.1.0
 pub add_item-requires-clause-atom : goal.add_item-requires-clause-atom
 add_item-requires-clause-atom g c =
     atom_at_home (g.S.LinkStore.heap c.args.store.now) (g.S.LinkStore.atom_id c.in-Some.item) (g.S.LinkStore.mem_id c.args.mem)
-    (here (λ a. home_of (g.S.LinkStore.heap c.args.store.now) (g.S.LinkStore.atom_id a) ≡ Some (g.S.LinkStore.mem_id c.args.mem)) c.loop-next.next c.in-Some.item c.in-Some.is c.loop-next.invariant.there)
+    (holds_of_item (λ a. home_of (g.S.LinkStore.heap c.args.store.now) (g.S.LinkStore.atom_id a) ≡ Some (g.S.LinkStore.mem_id c.args.mem)) c.loop-next.next c.in-Some.item c.in-Some.is c.loop-next.invariant.there)
 
 pub add_item-requires-clause-item : goal.add_item-requires-clause-item
-add_item-requires-clause-item g c = here (λ a. is_item (g.S.LinkStore.heap c.args.store.now) (g.S.LinkStore.atom_id a) ≡ true) c.loop-next.next c.in-Some.item c.in-Some.is c.loop-next.invariant.item
+add_item-requires-clause-item g c = holds_of_item (λ a. is_item (g.S.LinkStore.heap c.args.store.now) (g.S.LinkStore.atom_id a) ≡ true) c.loop-next.next c.in-Some.item c.in-Some.is c.loop-next.invariant.item
 
 pub add_item-requires-clause-printed : goal.add_item-requires-clause-printed
 add_item-requires-clause-printed g c =
@@ -33,10 +34,10 @@ add_item-requires-clause-printed g c =
 
 pub next_item-next-requires-clause-home : goal.next_item-next-requires-clause-home
 next_item-next-requires-clause-home g c =
-    here (λ a. home_of (g.S.LinkStore.heap c.args.store.now) (g.S.LinkStore.atom_id a) ≡ Some (g.S.LinkStore.mem_id c.args.mem)) c.loop-next.next c.in-Some.item c.in-Some.is c.loop-next.invariant.there
+    holds_of_item (λ a. home_of (g.S.LinkStore.heap c.args.store.now) (g.S.LinkStore.atom_id a) ≡ Some (g.S.LinkStore.mem_id c.args.mem)) c.loop-next.next c.in-Some.item c.in-Some.is c.loop-next.invariant.there
 
 pub next_item-next-requires-clause-item : goal.next_item-next-requires-clause-item
-next_item-next-requires-clause-item g c = here (λ a. is_item (g.S.LinkStore.heap c.args.store.now) (g.S.LinkStore.atom_id a) ≡ true) c.loop-next.next c.in-Some.item c.in-Some.is c.loop-next.invariant.item
+next_item-next-requires-clause-item g c = holds_of_item (λ a. is_item (g.S.LinkStore.heap c.args.store.now) (g.S.LinkStore.atom_id a) ≡ true) c.loop-next.next c.in-Some.item c.in-Some.is c.loop-next.invariant.item
 
 pub loop-next-preserved : goal.loop-next-preserved
 loop-next-preserved g c =

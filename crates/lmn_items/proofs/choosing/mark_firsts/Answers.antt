@@ -1,12 +1,13 @@
 use Rattle.std.proofs.Common.{subst}
 use Rattle.std.specs.Option.{option_map}
 use Rattle.lmn_heap.specs.Heap.{IsAtom}
-use Rattle.lmn_printer.proofs.StoredLemmas.{atoms_fewer, here}
+use Rattle.lmn_printer.proofs.StoredLemmas.{atoms_fewer}
 use Rattle.std.proofs.Common.{inl, refl}
 use Rattle.lmn_items.proofs.FirstLemmas.{FirstsLeft, firsts_first, firsts_before, firsts_next, firsts_last}
 use Rattle.lmn_items.proofs.OwnMarks.{atom_same, changes_none, changes_more}
 use Rattle.lmn_items.proofs.PassEnds.{all_atoms, all_in_order, first_list, next_list, next_there, none_left}
 use Rattle.lmn_items.proofs.choosing.mark_firsts.Goals as goal
+use Rattle.lmn_base.proofs.Lists.{holds_of_item}
 
 pub first_printed-next-requires : goal.first_printed-next-requires
 first_printed-next-requires g c = c.requires.valid.tree
@@ -33,7 +34,7 @@ pub mark_if_first-requires-clause-before : goal.mark_if_first-requires-clause-be
 mark_if_first-requires-clause-before g c =
     let s = g.S.LinkStore.heap c.args.store.now in
     let t = g.S.LinkStore.heap c.loop-next.store in
-    let there = here (λ b. IsAtom s (g.S.LinkStore.atom_id b)) c.loop-next.next c.in-Some.atom c.in-Some.is c.loop-next.invariant.place in
+    let there = holds_of_item (λ b. IsAtom s (g.S.LinkStore.atom_id b)) c.loop-next.next c.in-Some.atom c.in-Some.is c.loop-next.invariant.place in
     let before = subst (λ o. FirstsLeft s t (all_atoms s) (option_map g.S.LinkStore.atom_id o)) c.in-Some.is c.loop-next.invariant.firsts in
     firsts_before s t c.requires.valid (all_atoms s) (all_in_order s c.requires.valid c.root-root.ensures.few) (g.S.LinkStore.atom_id c.in-Some.atom) there before
 
@@ -41,7 +42,7 @@ pub mark_if_first-requires-clause-atom : goal.mark_if_first-requires-clause-atom
 mark_if_first-requires-clause-atom g c =
     let s = g.S.LinkStore.heap c.args.store.now in
     atom_same s (g.S.LinkStore.heap c.loop-next.store) c.loop-next.invariant.firsts.marks (g.S.LinkStore.atom_id c.in-Some.atom)
-    (here (λ b. IsAtom s (g.S.LinkStore.atom_id b)) c.loop-next.next c.in-Some.atom c.in-Some.is c.loop-next.invariant.place)
+    (holds_of_item (λ b. IsAtom s (g.S.LinkStore.atom_id b)) c.loop-next.next c.in-Some.atom c.in-Some.is c.loop-next.invariant.place)
 
 pub next_printed-next-requires : goal.next_printed-next-requires
 next_printed-next-requires g c =
@@ -49,7 +50,7 @@ next_printed-next-requires g c =
     let t = g.S.LinkStore.heap c.loop-next.store in
     let u = g.S.LinkStore.heap c.mark_if_first.new.store in
     let b = g.S.LinkStore.atom_id c.in-Some.atom in
-    let there = here (λ b. IsAtom s (g.S.LinkStore.atom_id b)) c.loop-next.next c.in-Some.atom c.in-Some.is c.loop-next.invariant.place in
+    let there = holds_of_item (λ b. IsAtom s (g.S.LinkStore.atom_id b)) c.loop-next.next c.in-Some.atom c.in-Some.is c.loop-next.invariant.place in
     let before = subst (λ o. FirstsLeft s t (all_atoms s) (option_map g.S.LinkStore.atom_id o)) c.in-Some.is c.loop-next.invariant.firsts in
     let r = changes_more s t u before.marks c.mark_if_first.ensures.first.marks in
     record { tree = c.mark_if_first.ensures.valid.tree; place = c.mark_if_first.ensures.valid.settled.atoms b (atom_same s u r b there) }
@@ -60,7 +61,7 @@ loop-next-preserved g c =
     let t = g.S.LinkStore.heap c.loop-next.store in
     let u = g.S.LinkStore.heap c.mark_if_first.new.store in
     let b = g.S.LinkStore.atom_id c.in-Some.atom in
-    let there = here (λ b. IsAtom s (g.S.LinkStore.atom_id b)) c.loop-next.next c.in-Some.atom c.in-Some.is c.loop-next.invariant.place in
+    let there = holds_of_item (λ b. IsAtom s (g.S.LinkStore.atom_id b)) c.loop-next.next c.in-Some.atom c.in-Some.is c.loop-next.invariant.place in
     let before = subst (λ o. FirstsLeft s t (all_atoms s) (option_map g.S.LinkStore.atom_id o)) c.in-Some.is c.loop-next.invariant.firsts in
     let r = changes_more s t u before.marks c.mark_if_first.ensures.first.marks in
     let next = option_map g.S.LinkStore.atom_id c.next_printed-next.result in

@@ -1,10 +1,11 @@
 use Rattle.std.proofs.Common.{subst}
 use Rattle.std.specs.Option.{option_map}
 use Rattle.lmn_heap.specs.Heap.{IsAtom}
-use Rattle.lmn_printer.proofs.StoredLemmas.{atoms_fewer, here}
+use Rattle.lmn_printer.proofs.StoredLemmas.{atoms_fewer}
 use Rattle.lmn_items.proofs.OwnMarks.{atom_same, changes_none, changes_more}
 use Rattle.lmn_items.proofs.PassEnds.{all_atoms, first_list, next_list, next_there, none_left, Choosing, choosing_first, choosing_next, choosing_last, later_marks}
 use Rattle.lmn_items.proofs.choosing.mark_later_items.Goals as goal
+use Rattle.lmn_base.proofs.Lists.{holds_of_item}
 
 pub first_printed-next-requires : goal.first_printed-next-requires
 first_printed-next-requires g c = c.requires.valid.tree
@@ -24,7 +25,7 @@ pub mark_if_later-requires-clause-atom : goal.mark_if_later-requires-clause-atom
 mark_if_later-requires-clause-atom g c =
     let s = g.S.LinkStore.heap c.args.store.now in
     atom_same s (g.S.LinkStore.heap c.loop-next.store) c.loop-next.invariant.items.marks (g.S.LinkStore.atom_id c.in-Some.atom)
-    (here (λ b. IsAtom s (g.S.LinkStore.atom_id b)) c.loop-next.next c.in-Some.atom c.in-Some.is c.loop-next.invariant.place)
+    (holds_of_item (λ b. IsAtom s (g.S.LinkStore.atom_id b)) c.loop-next.next c.in-Some.atom c.in-Some.is c.loop-next.invariant.place)
 
 pub next_printed-next-requires : goal.next_printed-next-requires
 next_printed-next-requires g c =
@@ -32,7 +33,7 @@ next_printed-next-requires g c =
     let t = g.S.LinkStore.heap c.loop-next.store in
     let u = g.S.LinkStore.heap c.mark_if_later.new.store in
     let b = g.S.LinkStore.atom_id c.in-Some.atom in
-    let there = here (λ b. IsAtom s (g.S.LinkStore.atom_id b)) c.loop-next.next c.in-Some.atom c.in-Some.is c.loop-next.invariant.place in
+    let there = holds_of_item (λ b. IsAtom s (g.S.LinkStore.atom_id b)) c.loop-next.next c.in-Some.atom c.in-Some.is c.loop-next.invariant.place in
     let before = subst (λ o. Choosing s t (option_map g.S.LinkStore.atom_id o)) c.in-Some.is c.loop-next.invariant.items in
     let r = changes_more s t u before.marks (later_marks t u b c.mark_if_later.ensures.later) in
     record { tree = c.mark_if_later.ensures.valid.tree; place = c.mark_if_later.ensures.valid.settled.atoms b (atom_same s u r b there) }
@@ -43,7 +44,7 @@ loop-next-preserved g c =
     let t = g.S.LinkStore.heap c.loop-next.store in
     let u = g.S.LinkStore.heap c.mark_if_later.new.store in
     let b = g.S.LinkStore.atom_id c.in-Some.atom in
-    let there = here (λ b. IsAtom s (g.S.LinkStore.atom_id b)) c.loop-next.next c.in-Some.atom c.in-Some.is c.loop-next.invariant.place in
+    let there = holds_of_item (λ b. IsAtom s (g.S.LinkStore.atom_id b)) c.loop-next.next c.in-Some.atom c.in-Some.is c.loop-next.invariant.place in
     let before = subst (λ o. Choosing s t (option_map g.S.LinkStore.atom_id o)) c.in-Some.is c.loop-next.invariant.items in
     let r = changes_more s t u before.marks (later_marks t u b c.mark_if_later.ensures.later) in
     let next = option_map g.S.LinkStore.atom_id c.next_printed-next.result in

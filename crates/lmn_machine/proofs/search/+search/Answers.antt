@@ -11,7 +11,8 @@ use Rattle.lmn_machine.proofs.Stepping.{Passed, extends_on, passed_one, failed, 
 use Rattle.lmn_machine.proofs.Choosing.{AtomsLeft, MembranesLeft, with_atom, with_membrane, extends_atom, extends_membrane, atoms_first, atoms_next, atoms_none, atoms_found, membranes_first, membranes_next, membranes_none, membranes_found, held_atom, held_membrane}
 use Rattle.lmn_machine.proofs.Calling.{read_at, drop_at, drop_none, no_choice, if_both, if_same, none_is, one_more, one_membrane_more, taken_back, having_atoms, having_membranes, next_same, next_mem_same, atom_ahead, membrane_ahead}
 use Rattle.lmn_machine.proofs.search.+search.Goals as goal
-use Rattle.lmn_base.proofs.Lists.{drop_get, length_one}
+use Rattle.lmn_base.proofs.Lists.{drop_get}
+use Rattle.std.proofs.lemmas.List.{length_push}
 
 pub search-search_atom-requires : goal.search-search_atom-requires
 search-search_atom-requires g t c κs within =
@@ -128,7 +129,7 @@ search_atom-search-requires g t c κs within =
     let ahead = atom_ahead (length c.args.set.now.atoms) (length c.args.set.now.membranes) (length c.args.set.now.parts) (length c.args.set.now.integers) (length c.args.set.now.atoms) c.requires.at.0 c.args.functor (drop c.args.at c.args.code.now) (drop (c.args.at + 1) c.args.code.now) code c.requires.order in
     let below : c.args.at < length c.args.code.now = slice_get_within c.args.code.now c.args.at (FindAtom (length c.args.set.now.atoms) c.requires.at.0 c.args.functor) c.requires.at.1 in
     let held = subst (λ k. AreHeldWhole g.S.LinkStore.atom_id g.S.LinkStore.mem_id (g.S.LinkStore.heap c.args.store.now) k) (sym more) (held_atom g.S.LinkStore.atom_id g.S.LinkStore.mem_id (g.S.LinkStore.heap c.args.store.now) c.args.set.now c.in-Some.atom c.args.functor ahead.0.3 c.requires.held there.0) in
-    let next = subst (λ n. HeadInOrder n (length c.args.set.now.membranes) (length c.args.set.now.parts) (length c.args.set.now.integers) (drop (c.args.at + 1) c.args.code.now)) (sym (length_one c.args.set.now.atoms c.in-Some.atom)) ahead.1 in (
+    let next = subst (λ n. HeadInOrder n (length c.args.set.now.membranes) (length c.args.set.now.parts) (length c.args.set.now.integers) (drop (c.args.at + 1) c.args.code.now)) (sym (length_push c.args.set.now.atoms c.in-Some.atom)) ahead.1 in (
       search rules,
       (
         search rules,
@@ -214,7 +215,7 @@ search_membrane-search-requires g t c κs within =
     let ahead = membrane_ahead (length c.args.set.now.atoms) (length c.args.set.now.membranes) (length c.args.set.now.parts) (length c.args.set.now.integers) (length c.args.set.now.membranes) c.requires.at.0 (drop c.args.at c.args.code.now) (drop (c.args.at + 1) c.args.code.now) code c.requires.order in
     let below : c.args.at < length c.args.code.now = slice_get_within c.args.code.now c.args.at (AnyMem (length c.args.set.now.membranes) c.requires.at.0) c.requires.at.1 in
     let held = subst (λ k. AreHeldWhole g.S.LinkStore.atom_id g.S.LinkStore.mem_id (g.S.LinkStore.heap c.args.store.now) k) (sym more) (held_membrane g.S.LinkStore.atom_id g.S.LinkStore.mem_id (g.S.LinkStore.heap c.args.store.now) c.args.set.now c.in-Some.membrane (g.S.LinkStore.mem_id c.args.place) c.requires.held there) in
-    let next = subst (λ n. HeadInOrder (length c.args.set.now.atoms) n (length c.args.set.now.parts) (length c.args.set.now.integers) (drop (c.args.at + 1) c.args.code.now)) (sym (length_one c.args.set.now.membranes c.in-Some.membrane)) ahead.1 in (
+    let next = subst (λ n. HeadInOrder (length c.args.set.now.atoms) n (length c.args.set.now.parts) (length c.args.set.now.integers) (drop (c.args.at + 1) c.args.code.now)) (sym (length_push c.args.set.now.membranes c.in-Some.membrane)) ahead.1 in (
       search rules,
       (
         search rules,

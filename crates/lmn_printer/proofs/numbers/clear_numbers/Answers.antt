@@ -3,9 +3,9 @@ use Rattle.lmn_heap.specs.Heap.{IsInPlace}
 use Rattle.lmn_printer.proofs.ClearLemmas.{clearing_first, clearing_next, clearing_last}
 use Rattle.lmn_printer.proofs.MarkLemmas.{remarks_more, tree_same}
 use Rattle.lmn_printer.proofs.NumberingLemmas.{next_place, place_before, numbers_fewer}
-use Rattle.lmn_printer.proofs.StoredLemmas.{here}
 use Rattle.lmn_printer.proofs.numbers.clear_numbers.Goals as goal
 use Rattle.lmn_heap.proofs.Common.{in_place_atom as place_atom}
+use Rattle.lmn_base.proofs.Lists.{holds_of_item}
 
 pub first_printed-next-requires : goal.first_printed-next-requires
 first_printed-next-requires g c = c.requires.tree
@@ -22,7 +22,7 @@ clear_ports-requires g c =
     let t = g.S.LinkStore.heap c.loop-next.store in
     let a = g.S.LinkStore.atom_id c.in-Some.atom in
     let f = c.requires.tree in
-    let place = here (λ b. IsInPlace s (g.S.LinkStore.atom_id b)) c.loop-next.next c.in-Some.atom c.in-Some.is c.loop-next.invariant.place in
+    let place = holds_of_item (λ b. IsInPlace s (g.S.LinkStore.atom_id b)) c.loop-next.next c.in-Some.atom c.in-Some.is c.loop-next.invariant.place in
     place_atom t a (place_before s t (c.loop-next.invariant.cleared f.0 f.1).marks a place)
 
 pub next_printed-next-requires : goal.next_printed-next-requires
@@ -32,7 +32,7 @@ next_printed-next-requires g c =
     let u = g.S.LinkStore.heap c.clear_ports.new.store in
     let f = c.requires.tree in
     let r = remarks_more s t u (c.loop-next.invariant.cleared f.0 f.1).marks c.clear_ports.ensures.marks in
-    let place = here (λ b. IsInPlace s (g.S.LinkStore.atom_id b)) c.loop-next.next c.in-Some.atom c.in-Some.is c.loop-next.invariant.place in
+    let place = holds_of_item (λ b. IsInPlace s (g.S.LinkStore.atom_id b)) c.loop-next.next c.in-Some.atom c.in-Some.is c.loop-next.invariant.place in
     record { tree = (f.0, tree_same s u r f.0 f.1); place = place_before s u r (g.S.LinkStore.atom_id c.in-Some.atom) place }
 
 pub loop-next-preserved : goal.loop-next-preserved

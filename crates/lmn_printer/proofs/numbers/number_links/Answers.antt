@@ -2,9 +2,9 @@ use Rattle.std.specs.Option.{option_map}
 use Rattle.lmn_heap.specs.Heap.{IsInPlace}
 use Rattle.lmn_printer.proofs.MarkLemmas.{atom_same, remarks_none, remarks_more, tree_same}
 use Rattle.lmn_printer.proofs.NumberingLemmas.{numbering_first, numbering_more, numbering_room, numbering_last, numbering_at, numbering_none, next_place, place_before, numbers_fewer}
-use Rattle.lmn_printer.proofs.StoredLemmas.{here}
 use Rattle.lmn_printer.proofs.numbers.number_links.Goals as goal
 use Rattle.lmn_heap.proofs.Common.{in_place_atom as place_atom}
+use Rattle.lmn_base.proofs.Lists.{holds_of_item}
 
 pub first_printed-next-requires : goal.first_printed-next-requires
 first_printed-next-requires g c = c.requires.tree
@@ -22,7 +22,7 @@ pub number_ports-count-requires-clause-atom : goal.number_ports-count-requires-c
 number_ports-count-requires-clause-atom g c =
     let s = g.S.LinkStore.heap c.args.store.now in
     let a = g.S.LinkStore.atom_id c.in-Some.atom in
-    atom_same s (g.S.LinkStore.heap c.loop-next.store) c.loop-next.invariant.marks a (place_atom s a (here (λ b. IsInPlace s (g.S.LinkStore.atom_id b)) c.loop-next.next c.in-Some.atom c.in-Some.is c.loop-next.invariant.place))
+    atom_same s (g.S.LinkStore.heap c.loop-next.store) c.loop-next.invariant.marks a (place_atom s a (holds_of_item (λ b. IsInPlace s (g.S.LinkStore.atom_id b)) c.loop-next.next c.in-Some.atom c.in-Some.is c.loop-next.invariant.place))
 
 pub number_ports-count-requires-clause-count : goal.number_ports-count-requires-clause-count
 number_ports-count-requires-clause-count g c =
@@ -46,7 +46,7 @@ next_printed-next-requires-clause-place g c =
     let t = g.S.LinkStore.heap c.loop-next.store in
     let u = g.S.LinkStore.heap c.number_ports-count.new.store in
     place_before s u (remarks_more s t u c.loop-next.invariant.marks c.number_ports-count.ensures.marks) (g.S.LinkStore.atom_id c.in-Some.atom)
-    (here (λ b. IsInPlace s (g.S.LinkStore.atom_id b)) c.loop-next.next c.in-Some.atom c.in-Some.is c.loop-next.invariant.place)
+    (holds_of_item (λ b. IsInPlace s (g.S.LinkStore.atom_id b)) c.loop-next.next c.in-Some.atom c.in-Some.is c.loop-next.invariant.place)
 
 pub loop-next-smaller : goal.loop-next-smaller
 loop-next-smaller g c =
