@@ -7,14 +7,12 @@ use Rattle.lmn_congruence.specs.Rules.{Level, Levels, Name, equates, level, leve
 use Rattle.lmn_reduction.specs.Examples.{add_up, double_rules, letter_x, letter_y, letter_z}
 use Rattle.lmn_adequacy.specs.Accepted.{Accepted, GivesType, UsedIn, all_asked, binding_in_turn, by_value, here_used, left_used, right_used}
 use Rattle.lmn_adequacy.specs.Examples.{TheseAreAccepted, open_membrane}
+use Rattle.lmn_congruence.proofs.Common.{nothing_among}
 
 -- ---- `{a, $p, @r} :- {$p, @r, @r}` and `{a, $p} :- $p, a`
 
 not_empty_with : (l : Level) (ls : Levels) → ¬ (level [] (level_and l ls) [] [] no_rule ≡ level [] no_level [] [] no_rule)
 not_empty_with l ls e = absurd (cc e)
-
-nothing_among : {A : Type 0} {letter_x : A} → ¬ (Among letter_x [])
-nothing_among k = elim k [ ]
 
 double_accepted : Accepted double_rules
 double_accepted = record {

@@ -1,25 +1,17 @@
 -- Images of links.
-use Rattle.std.proofs.Common.{ℕ, List, map, refl, sym, ap, inl, inr, arith, ◌≡◌, ◌≢◌, ◌≤◌, ◌⊎◌, [], ◌∷◌, ◌∙◌}
+use Rattle.std.proofs.Common.{ℕ, List, map, refl, sym, ap, arith, ◌≡◌, ◌≢◌, ◌≤◌, ◌⊎◌, [], ◌∷◌, ◌∙◌}
 use Rattle.lmn_congruence.specs.Fused.{Joins, NoConnector, fused}
-use Rattle.lmn_congruence.specs.Links.{one_if_same, places}
+use Rattle.lmn_congruence.specs.Links.{places}
 use Rattle.lmn_congruence.specs.Process.{Process, atom, connector, membrane, nothing, occurrences, pair, renamed, rule, together}
 use Rattle.lmn_congruence.specs.Rules.{Name}
 use Rattle.lmn_congruence.specs.UpToOrder.{Reordered, r_back, r_beside, r_chain, r_inside, r_regroup, r_same, r_swap, r_unit}
 use Rattle.lmn_reduction.specs.Assignments.{Assignment}
 use Rattle.lmn_reduction.specs.Instances.{rules_of_contexts}
 use Rattle.lmn_reduction.specs.Parts.{OnlyAtoms}
-use Rattle.lmn_congruence.proofs.Counts.{none_if_apart, one_if_equal}
+use Rattle.lmn_congruence.proofs.Counts.{one_least}
 use Rattle.lmn_reduction.proofs.Merges.{row}
-use Rattle.lmn_base.proofs.Numbers.{same_or_not}
 use Rattle.lmn_congruence.proofs.TranslatedLinks.{no_link_in_rules as no_link_rules}
 use Rattle.lmn_base.proofs.Lists.{map_twice}
-
-one_least : (f : ℕ → ℕ) (x y : ℕ) → one_if_same x y ≤ one_if_same (f x) (f y)
-one_least f x y = go (same_or_not x y)
-  where
-    go : (x ≡ y) ⊎ (x ≢ y) → one_if_same x y ≤ one_if_same (f x) (f y)
-    go (inl e) = omega (arith, one_if_equal x y e, one_if_equal (f x) (f y) (ap f e))
-    go (inr d) = omega (arith, none_if_apart x y d)
 
 -- a link has at most as many places as its image after a renaming
 pub places_least : (f : ℕ → ℕ) (x : ℕ) (ys : List ℕ) → places x ys ≤ places (f x) (map f ys)

@@ -79,6 +79,10 @@ pub some_is : {A : Type 0} (o : Option A) → IsSome o → (p : A) × (o ≡ Som
 some_is None s = absurd (cc)
 some_is (Some p) s = (p, refl)
 
+-- what is none is not there
+pub none_is_not : {A : Type 0} (o : Option A) → o ≡ None → IsSome o → ⊥
+none_is_not o e i = absurd (cc (e, i))
+
 pub drop_get : {A : Type 0} (k : ℕ) (xs : List A) (x : A) → slice_get xs k ≡ Some x → drop k xs ≡ x ∷ drop (k + 1) xs
 drop_get k [] x e = absurd (cc)
 drop_get zero (y ∷ xs) x e = let t : y ≡ x = cc in ap (λ w. w ∷ xs) t

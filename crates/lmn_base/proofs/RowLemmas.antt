@@ -60,6 +60,16 @@ answers_later rows more (Err a) none h = refused_later rows more a none h
 pub no_rows : NoneApplies []
 no_rows = All-nil Nowhere
 
+-- where none of two lists of rows joined applies none of the first does
+pub none_before : (rows more : List Row) → NoneApplies (rows ++ more) → NoneApplies rows
+none_before [] more h = no_rows
+none_before (row ∷ rows) more h = All-cons Nowhere row rows (All-head Nowhere row (rows ++ more) h) (none_before rows more (All-tail Nowhere row (rows ++ more) h))
+
+-- and none of the second
+pub none_behind : (rows more : List Row) → NoneApplies (rows ++ more) → NoneApplies more
+none_behind [] more h = h
+none_behind (row ∷ rows) more h = none_behind rows more (All-tail Nowhere row (rows ++ more) h)
+
 pub one_row : (row : Row) → row.places ≡ [] → NoneApplies (row ∷ [])
 one_row row e = All-cons Nowhere row [] e no_rows
 

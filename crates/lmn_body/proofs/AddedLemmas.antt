@@ -5,7 +5,7 @@ use Rattle.lmn_heap.proofs.ListLemmas.{in_left, in_right}
 use Rattle.lmn_body.specs.declared.items.BodyItem.{BodyItem}
 use Rattle.lmn_body.specs.declared.items.BodyItem.TheVariants.{Atom, Connector, Copy, Bound, Membrane, Rest, Rule, Rules}
 use Rattle.lmn_body.specs.Running.{Registers}
-use Rattle.lmn_body.specs.Added.{if_inside, added_atoms, moved_mems}
+use Rattle.lmn_body.specs.Added.{if_inside, added_atoms, added_mems, made_mems, moved_mems}
 use Rattle.lmn_body.specs.Made.{new_atoms}
 use Rattle.lmn_body.specs.Rules.{Goes}
 use Rattle.lmn_base.specs.Lists.{In}
@@ -47,6 +47,24 @@ comes_from r left a c (Rest of inside ∷ xs) x b i = elim (in_either b (if_insi
 ]
 comes_from r left a c (Rule rule inside ∷ xs) x b i = comes_from r left a c xs x b i
 comes_from r left a c (Rules of inside ∷ xs) x b i = comes_from r left a c xs x b i
+
+-- an added membrane is made, or was left of another
+pub mems_come_from : (r : Registers) (left : ℕ → List ℕ) (m : ℕ) (body : List BodyItem) (x b : ℕ) → In b (added_mems r left m body x) → In b (made_mems r m body) ⊎ ((k : ℕ) × In b (left k))
+mems_come_from r left m [] x b i = absurd i
+mems_come_from r left m (Atom functor links inside ∷ xs) x b i = mems_come_from r left m xs x b i
+mems_come_from r left m (Connector l l' ∷ xs) x b i = mems_come_from r left m xs x b i
+mems_come_from r left m (Copy part link inside ∷ xs) x b i = mems_come_from r left m xs x b i
+mems_come_from r left m (Bound integer link inside ∷ xs) x b i = mems_come_from r left m xs x b i
+mems_come_from r left m (Membrane inside ∷ xs) x b i = elim (in_either b (if_inside r x inside (r.head.images.membrane m ∷ [])) (added_mems r left (m + 1) xs x) i) [
+  | inl j ↦ elim (in_if r x inside (r.head.images.membrane m ∷ []) b j) [ inl e ↦ inl (inl e) | inr v ↦ absurd v ]
+  | inr j ↦ elim (mems_come_from r left (m + 1) xs x b j) [ inl v ↦ inl (inr v) | inr v ↦ inr v ]
+]
+mems_come_from r left m (Rest of inside ∷ xs) x b i = elim (in_either b (if_inside r x inside (left (r.head.images.membrane of))) (added_mems r left m xs x) i) [
+  | inl j ↦ inr (r.head.images.membrane of, in_if r x inside (left (r.head.images.membrane of)) b j)
+  | inr j ↦ mems_come_from r left m xs x b j
+]
+mems_come_from r left m (Rule rule inside ∷ xs) x b i = mems_come_from r left m xs x b i
+mems_come_from r left m (Rules of inside ∷ xs) x b i = mems_come_from r left m xs x b i
 
 -- some membrane that isn't removed gets the atom
 abbrev pub Arrives : Registers → (ℕ → List ℕ) → List ℕ → ℕ → ℕ → List BodyItem → ℕ → Type 0

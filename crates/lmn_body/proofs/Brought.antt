@@ -1,6 +1,6 @@
 -- Atoms that are made and wait, those of copies among them.
-use Rattle.std.proofs.Common.{ℕ, zero, suc, ◌+◌, ◌<◌, ◌≡◌, ◌≢◌, ◌⊎◌, ◌==◌, ◌&&◌, Bool, true, false, cond, List, [], ◌∷◌, ◌++◌, length, Option, Some, None, IsSome, refl, sym, ap, subst, ◌∙◌, inl, inr, arith}
-use Rattle.std.proofs.lemmas.Bool.{cases_eq, eq-eqb, eqb-true}
+use Rattle.std.proofs.Common.{ℕ, zero, suc, ◌+◌, ◌<◌, ◌≡◌, ◌≢◌, ◌==◌, ◌&&◌, Bool, true, false, cond, List, [], ◌∷◌, ◌++◌, length, Option, Some, None, IsSome, refl, sym, ap, subst, ◌∙◌, inl, inr, arith}
+use Rattle.std.proofs.lemmas.Bool.{eq-eqb, eqb-true}
 use Rattle.std.proofs.lemmas.List.{append_assoc}
 use Rattle.std.specs.Option.{option_map, option_and_then}
 use Rattle.std.specs.Prelude.{slice_index_or}
@@ -23,7 +23,7 @@ use Rattle.lmn_body.specs.Tied.{partners}
 use Rattle.lmn_body.specs.Within.{IsCopyIn}
 use Rattle.lmn_body.proofs.Making.{made_at, made_away, made_paired, made_shaped}
 use Rattle.lmn_base.proofs.Common.{port_cases}
-use Rattle.lmn_heap.proofs.Common.{is_atom_at}
+use Rattle.lmn_heap.proofs.Common.{decide_in as in_or_not, is_atom_at}
 use Rattle.lmn_base.specs.Lists.{In}
 use Rattle.lmn_base.proofs.Lists.{in_either, plus_nothing}
 
@@ -45,13 +45,6 @@ atom_not_none o e i = let z : IsSome {T = HeapAtom} None = subst (λ (q : Option
 
 place_none : (o : Option HeapAtom) → o ≡ None → option_map (λ x. x.place) o ≡ None
 place_none o e = ap (option_map (λ x. x.place)) e
-
-pub in_or_not : (a : ℕ) (xs : List ℕ) → In a xs ⊎ (In a xs → ⊥)
-in_or_not a [] = inr (λ i. i)
-in_or_not a (x ∷ xs) = elim (cases_eq x a) [
-  | inl e ↦ inl (inl e)
-  | inr d ↦ elim (in_or_not a xs) [ inl i ↦ inl (inr i) | inr o ↦ inr (λ j. elim j [ inl e ↦ d e | inr i ↦ o i ]) ]
-]
 
 -- what was there is no new atom, and stays
 pub brought_old : {s t : Heap} {new : List ℕ} → Brings s t new → (a : ℕ) → IsAtom s a → (In a new → ⊥) × (t.atoms a ≡ s.atoms a)

@@ -268,7 +268,8 @@ body_fires head body n rule r h valid guard m em stand c names h' w =
 -- With membranes
 
 -- what stood before has the same partner
-prepared_links : (d : Port → ℕ) (h : Heap) (s : Heap) (r : Registers) (a m : ℕ) (body : List BodyItem) → AllPrepared d h s r a m body → (p : Port) → IsAtom h p.0 → partners s p ≡ partners h p
+-- what stood before has the same partner when a body is prepared
+pub prepared_links : (d : Port → ℕ) (h : Heap) (s : Heap) (r : Registers) (a m : ℕ) (body : List BodyItem) → AllPrepared d h s r a m body → (p : Port) → IsAtom h p.0 → partners s p ≡ partners h p
 prepared_links d h s r a m body pr p is =
     ap (λ (f : ℕ → Option HeapAtom). prelude.slice_index_or (partners_of (f p.0)) p.1 None) pr.atoms.atoms ∙ ap (λ (o : Option HeapAtom). prelude.slice_index_or (partners_of o) p.1 None) (brought_old pr.free.brings p.0 is).1
 
@@ -280,7 +281,8 @@ pub record Prepared (c : Port → ℕ) (h s : Heap) (r : Registers) (a m : ℕ) 
   pub pr : AllPrepared d h s r a m body
   pub listed : Listed s
 
-prepared_all : (head : List HeadItem) (body : List BodyItem) (n : ℕ) → AtomRule head body n → (r : Registers) (h : Heap) → Valid h → (guard : List Cond) (m : ℕ) → Embeds h head guard m r.head.images → (c : Port → ℕ) → Names h c →
+-- a body that is prepared makes all of that
+pub prepared_all : (head : List HeadItem) (body : List BodyItem) (n : ℕ) → AtomRule head body n → (r : Registers) (h : Heap) → Valid h → (guard : List Cond) (m : ℕ) → Embeds h head guard m r.head.images → (c : Port → ℕ) → Names h c →
     (s : Heap) → Prepares r (body_code head body n) h s → Prepared c h s r (length (head_atoms head)) (1 + length (membranes_of head)) body
 prepared_all head body n rule r h valid guard m em c names s prepares =
     let N = length (head_atoms head) in

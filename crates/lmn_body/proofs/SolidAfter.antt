@@ -3,7 +3,6 @@ use Rattle.std.proofs.Common.{ℕ, zero, suc, ◌+◌, ◌≡◌, ◌≢◌, ◌
 use Rattle.std.proofs.lemmas.Bool.{eq-eqb, eqb-true}
 use Rattle.std.specs.Option.{option_map}
 use Rattle.lmn_base.specs.declared.functor.Functor.{Functor}
-use Rattle.lmn_base.specs.declared.solid.SolidAtom.{SolidAtom}
 use Rattle.lmn_base.specs.declared.solid.Region.TheViews.{roll-Region}
 use Rattle.lmn_heap.specs.Heap.{Heap, HeapAtom, functor_of, atoms_in, rules_in}
 use Rattle.lmn_heap.specs.Sound.{Forest, bare, mem, flat}
@@ -24,6 +23,7 @@ use Rattle.lmn_base.specs.Graphs.{Port}
 use Rattle.lmn_heap.specs.Lists.{without_all}
 use Rattle.lmn_splice.proofs.Common.{in_back, in_front}
 use Rattle.lmn_base.specs.Lists.{In}
+use Rattle.lmn_base.proofs.Lists.{map_append}
 
 -- Atoms that stay
 
@@ -41,10 +41,6 @@ same_atom u v g a (Some x) (Some y) e w =
     let ls : links_from v a 0 y.functor.arity ≡ map g (links_from u a 0 x.functor.arity) = ap (λ (k : Functor). links_from v a 0 k.arity) f ∙ numbered_map u v g a 0 x.functor.arity w in
     λ t. (record { functor = f t; links = ls t }) ∷ []
 
-map_append_atoms : (g : SolidAtom → SolidAtom) (xs ys : List SolidAtom) → map g (xs ++ ys) ≡ map g xs ++ map g ys
-map_append_atoms g [] ys = refl
-map_append_atoms g (x ∷ xs) ys = ap (λ zs. g x ∷ zs) (map_append_atoms g xs ys)
-
 -- atoms with the same functors, each link at its image
 pub kept_atoms : (h h' : Heap) (u v : ℕ → ℕ → ℕ) (g : ℕ → ℕ) (xs : List ℕ) → ((a : ℕ) → In a xs → (functor_of h' a ≡ functor_of h a) × ((j : ℕ) → v a j ≡ g (u a j)))
     → solid_atoms_at h' v xs ≡ map (linked_by g) (solid_atoms_at h u xs)
@@ -53,7 +49,7 @@ kept_atoms h h' u v g (a ∷ xs) e =
     let w = e a (inl refl) in
     let here = same_atom u v g a (h.atoms a) (h'.atoms a) w.0 w.1 in
     let rest = kept_atoms h h' u v g xs (λ b i. e b (inr i)) in
-    (λ t. here t ++ rest t) ∙ sym (map_append_atoms (linked_by g) (solid_atom_at u a (h.atoms a)) (solid_atoms_at h u xs))
+    (λ t. here t ++ rest t) ∙ sym (map_append (linked_by g) (solid_atom_at u a (h.atoms a)) (solid_atoms_at h u xs))
 
 -- Atoms that are made
 

@@ -3,7 +3,6 @@ use Rattle.std.proofs.Common.{ℕ, zero, suc, ◌+◌, ◌<◌, ◌≤◌, ◌�
 use Rattle.std.proofs.lemmas.Bool.{eq-eqb, eqb-true}
 use Rattle.std.specs.Option.{option_map}
 use Rattle.lmn_base.specs.declared.functor.Functor.{Functor}
-use Rattle.lmn_base.specs.declared.solid.SolidAtom.{SolidAtom}
 use Rattle.lmn_base.specs.Graphs.{Reached, at_root, Port}
 use Rattle.lmn_heap.specs.Heap.{Heap, HeapAtom, functor_of, arity_of, IsAtom, IsInPlace}
 use Rattle.lmn_heap.specs.Sound.{Valid}
@@ -24,6 +23,7 @@ use Rattle.lmn_body.proofs.Brought.{in_part, part_all, reached_into}
 use Rattle.lmn_base.proofs.Common.{port_cases}
 use Rattle.lmn_heap.proofs.Common.{is_atom_at}
 use Rattle.lmn_base.specs.Lists.{In}
+use Rattle.lmn_base.proofs.Lists.{map_append}
 
 -- a port of one of these atoms
 abbrev PortOf : Heap → List ℕ → Port → Type 0
@@ -98,17 +98,13 @@ atom_moved u v g f a (Some x) (Some y) e w =
     plain : (j n : ℕ) → j < 0 + n → j < n
     plain j n l = omega arith
 
-map_both : (g : SolidAtom → SolidAtom) (xs ys : List SolidAtom) → map g (xs ++ ys) ≡ map g xs ++ map g ys
-map_both g [] ys = refl
-map_both g (x ∷ xs) ys = ap (λ zs. g x ∷ zs) (map_both g xs ys)
-
 atoms_moved : (h h' : Heap) (u v : ℕ → ℕ → ℕ) (g f : ℕ → ℕ) (xs : List ℕ) → ((a : ℕ) → In a xs → functor_of h' (f a) ≡ functor_of h a)
     → ((a : ℕ) → In a xs → (x : HeapAtom) → h.atoms a ≡ Some x → (j : ℕ) → j < x.functor.arity → v (f a) j ≡ g (u a j)) → solid_atoms_at h' v (map f xs) ≡ map (linked_by g) (solid_atoms_at h u xs)
 atoms_moved h h' u v g f [] e w = refl
 atoms_moved h h' u v g f (a ∷ xs) e w =
     let here = atom_moved u v g f a (h.atoms a) (h'.atoms (f a)) (e a (inl refl)) (w a (inl refl)) in
     let rest = atoms_moved h h' u v g f xs (λ b i. e b (inr i)) (λ b i. w b (inr i)) in
-    (λ t. here t ++ rest t) ∙ sym (map_both (linked_by g) (solid_atom_at u a (h.atoms a)) (solid_atoms_at h u xs))
+    (λ t. here t ++ rest t) ∙ sym (map_append (linked_by g) (solid_atom_at u a (h.atoms a)) (solid_atoms_at h u xs))
 
 module _ (h : Heap) (valid : Valid h) (c : Port → ℕ) (names : Names h c) (h' : Heap) (valid' : Valid h') (number : Port → ℕ) (named : Names h' number) (root copy : Port) (ys : List ℕ)
     (k : IsCopyIn h h' root copy ys) (placed : (y : ℕ) → In y ys → IsInPlace h' y) (hangs : Hangs h root) where

@@ -28,7 +28,8 @@ use Rattle.lmn_turn.specs.Commits.{IsTable, Turned, TurnsCommit}
 use Rattle.lmn_turn.specs.Turning.{Leads, renumbered_reading}
 use Rattle.lmn_choice.specs.Laws.{ChoicesAgree, ChoicesAlike, HeapsAreNumbered}
 use Rattle.lmn_choice.specs.Turns.{tree_over, membranes_in_preorder, heap_region, HaveCodes, IsReadWith, IsChosen, IsChoice, IsNextHeap}
-use Rattle.lmn_choice.proofs.Codes.{Coded, coded, embedded_succeeds, plan_types}
+use Rattle.lmn_choice.proofs.Codes.{Coded, coded, embedded_succeeds}
+use Rattle.lmn_turn.proofs.PlanTypes.{plan_types}
 use Rattle.lmn_choice.proofs.Lists.{got_front, in_turned, cut_at, each_among}
 use Rattle.lmn_choice.proofs.Numbers.{numbered_alike}
 use Rattle.lmn_choice.proofs.Paths.{forest_there, leads_to_one}

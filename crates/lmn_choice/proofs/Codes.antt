@@ -1,30 +1,26 @@
 -- The rules of a membrane, with their plans and their codes: a code succeeds where its rule embeds.
-use Rattle.std.proofs.Common.{ℕ, ◌≡◌, List, Some, sym, ap, subst, ◌∙◌, arith}
+use Rattle.std.proofs.Common.{ℕ, ◌≡◌, List, Some, sym, subst, arith}
 use Rattle.std.specs.Prelude.{slice_get}
 use Rattle.lmn_base.specs.declared.rule.RuleTree.{RuleTree}
 use Rattle.lmn_guards.specs.declared.plan.GuardPlan.{GuardPlan}
-use Rattle.lmn_guards.specs.GuardCodes.{type_of}
-use Rattle.lmn_guards.proofs.AcceptedLemmas.{in_order}
 use Rattle.lmn_heap.specs.Heap.{Heap, rules_in}
 use Rattle.lmn_heap.specs.Sound.{Forest}
 use Rattle.lmn_instr.specs.declared.instr.Code.{Code}
 use Rattle.lmn_instr.specs.Running.{Succeeds}
-use Rattle.lmn_compile_head.specs.Accepted.{AcceptedHeads, IsReady, head_items, rule_head_code}
+use Rattle.lmn_compile_head.specs.Accepted.{AcceptedHeads, head_items, rule_head_code}
 use Rattle.lmn_compile_head.specs.Heads.{kind_in}
 use Rattle.lmn_compile_head.specs.Laws.{CodeOfEmbeddings}
-use Rattle.lmn_compile_head.proofs.HeadLeaves.{typed_leaf}
-use Rattle.lmn_compile_head.proofs.PlanKinds.{kind_of_leaf}
 use Rattle.lmn_compile_body.specs.Accepted.{IsCompilable, rule_body_code}
 use Rattle.lmn_congruence.specs.Translation.{rule_tree}
 use Rattle.lmn_adequacy.specs.Embedding.{EmbedsAt}
 use Rattle.lmn_bridge.specs.HeapRegions.{HeapReading, region_at}
 use Rattle.lmn_bridge.specs.Laws.{EmbedsAlike}
-use Rattle.lmn_bridge.specs.Premises.{IsRead, IsRule, HasForest, HasRules, HasTypes}
+use Rattle.lmn_bridge.specs.Premises.{IsRead, IsRule, HasForest, HasRules}
 use Rattle.lmn_strategy.specs.Choosing.{CodeSucceeds}
 use Rattle.lmn_choice.specs.Turns.{HaveCodes}
 use Rattle.lmn_base.proofs.Lists.{get_below, get_there as get_some}
-use Rattle.lmn_turn.proofs.PlanTypes.{is_of}
 use Rattle.lmn_base.specs.Lists.{In}
+use Rattle.lmn_turn.proofs.PlanTypes.{plan_types}
 
 -- A rule of a membrane, by its number: its tree, its plan and its code.
 pub record Coded (r : HeapReading) (table : List RuleTree) (plans : List GuardPlan) (codes : List Code) (k : ℕ) : Type 0 where
@@ -62,14 +58,6 @@ coded h r table plans codes c has m k p =
       head = is.head;
       body = is.body;
     }
-
--- the kinds of a plan are those that the guard gives
-pub plan_types : (table : List RuleTree) (rule : RuleTree) (plan : GuardPlan) → IsReady table rule plan → HasTypes (kind_in plan.kinds) rule
-plan_types table rule plan ready n u k =
-    let l = typed_leaf (kind_in plan.kinds) rule.head n u k in
-    let t = is_of (type_of rule.head rule.guard u.name) ((in_order table rule ready.accepted).has_type u.name l.0 l.1 l.2) in
-    let same : kind_in plan.kinds u.name ≡ t.0 = ap (λ ts. kind_in ts u.name) ready.planned.kinds ∙ kind_of_leaf rule.head rule.guard u.name t.0 t.1 l.0 l.1 l.2 in
-    t.1 ∙ ap (λ z. Some z) (sym (l.4 ∙ same))
 
 -- where the tree of a rule embeds, its code succeeds
 pub embedded_succeeds : AcceptedHeads → CodeOfEmbeddings → EmbedsAlike → (h : Heap) (r : HeapReading) (table : List RuleTree) (plans : List GuardPlan) (codes : List Code) → HaveCodes table plans codes → IsRead h r → HasRules h r table →

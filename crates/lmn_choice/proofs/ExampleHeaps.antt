@@ -1,16 +1,13 @@
 -- The small heap of the examples.
-use Rattle.std.proofs.Common.{ℕ, ◌≡◌, [], Option, Some, None, IsSome, refl, sym, subst, inl, inr, arith}
+use Rattle.std.proofs.Common.{ℕ, [], refl, sym, subst, inl, inr, arith}
 use Rattle.lmn_heap.specs.Examples.{across}
-use Rattle.lmn_heap.specs.Heap.{HeapMem, rules_by, rules_in}
+use Rattle.lmn_heap.specs.Heap.{rules_by, rules_in}
 use Rattle.lmn_heap.specs.Sound.{IsTree}
 use Rattle.lmn_choice.specs.Examples.{inner, AcrossIsReadWith, AcrossHasTwoPaths}
 use Rattle.lmn_choice.specs.Turns.{tree_over}
 use Rattle.lmn_heap.proofs.ExampleProofs.{mem_cases}
 use Rattle.lmn_base.specs.Lists.{In}
-
-no_mem : (o : Option HeapMem) → o ≡ None → IsSome o → ⊥
-no_mem None e i = absurd (cc)
-no_mem (Some x) e i = absurd (cc)
+use Rattle.lmn_base.proofs.Lists.{none_is_not}
 
 across_tree : IsTree across (tree_over across inner)
 across_tree = record {
@@ -18,7 +15,7 @@ across_tree = record {
   once = (((λ e. absurd (omega (arith, e))), tt), (tt, tt));
   all = λ m i. elim (mem_cases m) [
     | inl e ↦ inl (sym e)
-    | inr w ↦ elim w [ inl e ↦ inr (inl (sym e)) | inr e ↦ absurd (no_mem (across.mems m) e i) ]
+    | inr w ↦ elim w [ inl e ↦ inr (inl (sym e)) | inr e ↦ absurd (none_is_not (across.mems m) e i) ]
   ];
 }
 

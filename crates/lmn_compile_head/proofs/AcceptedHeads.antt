@@ -1,11 +1,10 @@
 -- The laws of head code hold of accepted rules.
-use Rattle.std.proofs.Common.{ℕ, ◌≡◌, ◌≤◌, List, [], ◌++◌, length, sym, subst, arith}
+use Rattle.std.proofs.Common.{ℕ, ◌≤◌, List, [], length, sym, subst, arith}
 use Rattle.std.specs.Prelude.{sum_by, nat_lt}
-use Rattle.std.proofs.lemmas.List.{get_or_append_left, length-append}
 use Rattle.lmn_base.specs.declared.rule.RuleTree.{RuleTree}
-use Rattle.lmn_base.specs.Firsts.{Row, NoneApplies}
 use Rattle.lmn_base.specs.Items.{number_of_items}
 use Rattle.lmn_base.specs.RuleCodes.{too_large, is_too_large, condition_tokens}
+use Rattle.lmn_base.proofs.RowLemmas.{none_before}
 use Rattle.lmn_guards.specs.declared.plan.GuardPlan.{GuardPlan}
 use Rattle.lmn_guards.specs.GuardCodes.{rows_of_conditions, rows_of_typed}
 use Rattle.lmn_guards.proofs.AcceptedLemmas.{in_order}
@@ -24,9 +23,6 @@ use Rattle.lmn_compile_head.proofs.Laws.{code_of_least}
 use Rattle.lmn_base.specs.Graphs.{Port}
 use Rattle.lmn_base.proofs.Numbers.{at_most_by_test as not_less}
 use Rattle.std.proofs.lemmas.Bool.{or_parts}
-
-front_none : (rows more : List Row) → NoneApplies (rows ++ more) → NoneApplies rows
-front_none rows more h = λ k d l. subst (λ (row : Row). row.places ≡ []) (get_or_append_left rows more d k l) (h k d (let e = length-append rows more in omega (arith, l, e)))
 
 module _ (table : List RuleTree) (r : RuleTree) (plan : GuardPlan) (ready : IsReady table r plan) where
   -- the limits of a rule
@@ -53,7 +49,7 @@ module _ (table : List RuleTree) (r : RuleTree) (plan : GuardPlan) (ready : IsRe
       }
 
   is_guard : IsGuard (heads.typed_contexts_of (head_items r plan)) [] r.guard
-  is_guard = accepted_guard table r plan (in_order table r ready.accepted) ready.planned (front_none (rows_of_conditions r.head [] r.guard) (rows_of_typed r) ready.accepted.guard)
+  is_guard = accepted_guard table r plan (in_order table r ready.accepted) ready.planned (none_before (rows_of_conditions r.head [] r.guard) (rows_of_typed r) ready.accepted.guard)
 
   has_room : HasRoom r plan
   has_room =

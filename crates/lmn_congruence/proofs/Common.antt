@@ -51,6 +51,10 @@ rules_kept v = ind-Level (Kept v) (λ y z is.
     let inside = subst (λ l. all_rules (map (fused_region v) l.membranes) ≡ flat_map (λ inner. inner) (map rules_of l.membranes)) is (inner_kept v z.membranes) in
     rw (fold-roll-Level Region (fused_step v) y, fold-roll-Region (List ℕ) rules_step _, fold-roll-Level (List ℕ) (λ l. l.rules ++ flat_map (λ inner. inner) l.membranes) y, inside) refl)
 
+-- nothing is among an empty list
+pub nothing_among : {A : Type 0} {x : A} → ¬ (Among x [])
+nothing_among k = elim k [ ]
+
 pub among_left : {A : Type 0} {x : A} {xs : List A} (ys : List A) → Among x xs → Among x (xs ++ ys)
 among_left ys at_head = at_head
 among_left ys (further a) = further (among_left ys a)

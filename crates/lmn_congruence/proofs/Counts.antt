@@ -1,5 +1,5 @@
 -- How often links occur, in lists and in processes.
-use Rattle.std.proofs.Common.{ℕ, suc, ◌≡◌, ◌≢◌, ◌+◌, ◌≤◌, ◌<◌, ◌⊎◌, List, [], ◌∷◌, map, refl, inl, inr, arith}
+use Rattle.std.proofs.Common.{ℕ, suc, ◌≡◌, ◌≢◌, ◌+◌, ◌≤◌, ◌<◌, ◌⊎◌, List, [], ◌∷◌, map, refl, ap, inl, inr, arith}
 use Rattle.lmn_congruence.specs.Links.{one_if_same, places}
 use Rattle.lmn_congruence.specs.Process.{Process, nothing, connector, atom, pair, membrane, rule, occurrences, replace, Free, Local, Fresh, Linked, substitute}
 use Rattle.lmn_congruence.specs.Congruence.{Congruent, unit, swap, regroup, rename, beside, inside, loop, turn, absorb, pass, same, back, chain}
@@ -10,6 +10,14 @@ one_if_equal x y e = grind arith
 
 pub none_if_apart : (x y : ℕ) → x ≢ y → one_if_same x y ≡ 0
 none_if_apart x y d = grind arith
+
+-- links that are equal have equal images, so images count where links do
+pub one_least : (f : ℕ → ℕ) (x y : ℕ) → one_if_same x y ≤ one_if_same (f x) (f y)
+one_least f x y = go (same_or_not x y)
+  where
+    go : (x ≡ y) ⊎ (x ≢ y) → one_if_same x y ≤ one_if_same (f x) (f y)
+    go (inl e) = omega (arith, one_if_equal x y e, one_if_equal (f x) (f y) (ap f e))
+    go (inr d) = omega (arith, none_if_apart x y d)
 
 pub less_apart : (x n : ℕ) → x < n → x ≢ n
 less_apart x n l = grind arith

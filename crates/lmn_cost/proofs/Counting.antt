@@ -1,27 +1,27 @@
 -- The items of the heap before and after the code of a body, membrane by membrane.
-use Rattle.std.proofs.Common.{ℕ, ◌+◌, ◌≡◌, ◌⊎◌, ◌==◌, cond, Bool, true, false, List, [], ◌∷◌, ◌++◌, length, Option, Some, None, IsSome, refl, sym, ap, subst, ◌∙◌, inl, inr, arith, length-append}
+use Rattle.std.proofs.Common.{ℕ, ◌+◌, ◌≡◌, true, List, [], ◌++◌, length, Option, Some, None, IsSome, refl, sym, ap, subst, ◌∙◌, inl, inr, arith, length-append}
 use Rattle.std.specs.Option.{option_map, option_and_then}
 use Rattle.lmn_base.specs.declared.guard.Cond.{Cond}
 use Rattle.lmn_heap.specs.Heap as heap
 use Rattle.lmn_heap.specs.Heap.{Heap, HeapMem, top, within, waiting, gone, mem_place_of, atoms_in, atoms_by, mems_in, mems_by, rules_in, rules_by, IsMem, IsMemInPlace, Distinct, finished, mem_unless_gone}
 use Rattle.lmn_heap.specs.Sound.{Sound, flat, Valid, item_count_in, Forest, IsTree}
 use Rattle.lmn_heap.proofs.Depths.{both_distinct}
-use Rattle.lmn_heap.proofs.ListLemmas.{in_left, in_right, in_withouts}
+use Rattle.lmn_heap.proofs.ListLemmas.{in_left, in_right, in_withouts, withouts_nothing}
 use Rattle.lmn_heap.proofs.Trees as trees
 use Rattle.lmn_solid.specs.declared.items.HeadItem.{HeadItem}
 use Rattle.lmn_solid.specs.Heads.{HeadMembrane, atoms_of, membranes_of}
 use Rattle.lmn_solid.specs.Embeddings.{Embeds, HasMembrane}
 use Rattle.lmn_splice.specs.Splice as splice
 use Rattle.lmn_body.specs.declared.items.BodyItem.{BodyItem}
-use Rattle.lmn_body.specs.declared.items.BodyItem.TheVariants.{Atom, Connector, Copy, Bound, Membrane, Rest, Rule, Rules}
 use Rattle.lmn_body.specs.Code.{making}
 use Rattle.lmn_body.specs.Running.{Registers, DoesAll}
 use Rattle.lmn_body.specs.Names.{Names}
 use Rattle.lmn_body.specs.Made.{copies_of}
-use Rattle.lmn_body.specs.Added.{if_inside, added_atoms, added_mems, added_rules, moved_mems, made_mems}
+use Rattle.lmn_body.specs.Added.{added_atoms, added_mems, added_rules, moved_mems, made_mems}
 use Rattle.lmn_body.specs.Rules.{AtomRule, Goes, Exists, PartAtoms}
 use Rattle.lmn_body.specs.Fired.{images_of}
 use Rattle.lmn_body.specs.Within.{membrane_images, FiresWithin}
+use Rattle.lmn_body.proofs.AddedLemmas.{mems_come_from}
 use Rattle.lmn_body.proofs.Below.{removed_is}
 use Rattle.lmn_body.proofs.Committing.{in_withouts_of}
 use Rattle.lmn_body.proofs.Finishing.{within_of}
@@ -69,35 +69,6 @@ was_in x (Some y) i = by y.place refl
     by (within k) e = subst (λ o. In x (mems_by o)) (freed y (within k) e (λ q. absurd (cc))) i
     by waiting e = subst (λ o. In x (mems_by o)) (freed y waiting e (λ q. absurd (cc))) i
     by gone e = absurd (subst (λ o. In x (mems_by o)) (gone_none e) i)
-
--- an added membrane is made, or is left of one that moves
-in_if : (r : Registers) (x inside : ℕ) (ns : List ℕ) (b : ℕ) → In b (if_inside r x inside ns) → In b ns
-in_if r x inside ns b i = by (r.head.images.membrane inside == x) i
-  where
-    by : (t : Bool) → In b (cond t ns []) → In b ns
-    by true i = i
-    by false i = absurd i
-
-mems_come : (r : Registers) (left : ℕ → List ℕ) (m : ℕ) (body : List BodyItem) (x b : ℕ) → In b (added_mems r left m body x) → In b (made_mems r m body) ⊎ ((k : ℕ) × In b (left k))
-mems_come r left m [] x b i = absurd i
-mems_come r left m (Atom functor links inside ∷ xs) x b i = mems_come r left m xs x b i
-mems_come r left m (Connector l l' ∷ xs) x b i = mems_come r left m xs x b i
-mems_come r left m (Copy part link inside ∷ xs) x b i = mems_come r left m xs x b i
-mems_come r left m (Bound integer link inside ∷ xs) x b i = mems_come r left m xs x b i
-mems_come r left m (Membrane inside ∷ xs) x b i = elim (in_either b (if_inside r x inside (r.head.images.membrane m ∷ [])) (added_mems r left (m + 1) xs x) i) [
-  | inl j ↦ elim (in_if r x inside (r.head.images.membrane m ∷ []) b j) [ inl e ↦ inl (inl e) | inr v ↦ absurd v ]
-  | inr j ↦ elim (mems_come r left (m + 1) xs x b j) [ inl v ↦ inl (inr v) | inr v ↦ inr v ]
-]
-mems_come r left m (Rest of inside ∷ xs) x b i = elim (in_either b (if_inside r x inside (left (r.head.images.membrane of))) (added_mems r left m xs x) i) [
-  | inl j ↦ inr (r.head.images.membrane of, in_if r x inside (left (r.head.images.membrane of)) b j)
-  | inr j ↦ mems_come r left m xs x b j
-]
-mems_come r left m (Rule rule inside ∷ xs) x b i = mems_come r left m xs x b i
-mems_come r left m (Rules of inside ∷ xs) x b i = mems_come r left m xs x b i
-
-withouts_none : (ns : List ℕ) → without_all ns [] ≡ []
-withouts_none [] = refl
-withouts_none (a ∷ ns) = withouts_none ns
 
 module _ (h : Heap) (valid : Valid h) (head : List HeadItem) (guard : List Cond) (body : List BodyItem) (n m : ℕ) (r : Registers) (rule : AtomRule head body n)
     (em : Embeds h head guard m r.head.images) (stand : IsMemInPlace h m) (c : Port → ℕ) (names : Names h c)
@@ -167,7 +138,7 @@ module _ (h : Heap) (valid : Valid h) (head : List HeadItem) (guard : List Cond)
     | inl q ↦ subst (In x) (nesting.removed_empty h valid head guard body n m r rule em stand c names goes contexts ps parts s pr t3 run p q).1 (was_in x (v.mems p) i)
     | inr o ↦ elim (in_either x (left_mems p) (added_mems r left_mems (1 + K) body p) (subst (In x) (nesting.mems_v h valid head guard body n m r rule em stand c names goes contexts ps parts s pr t3 run p o) (was_in x (v.mems p) i))) [
       | inl j ↦ left_apart p x j k
-      | inr j ↦ elim (mems_come r left_mems (1 + K) body p x j) [
+      | inr j ↦ elim (mems_come_from r left_mems (1 + K) body p x j) [
         | inl w ↦ made_apart x w (removed x k)
         | inr w ↦ left_apart w.0 x w.1 k
       ]
@@ -262,7 +233,7 @@ module _ (h : Heap) (valid : Valid h) (head : List HeadItem) (guard : List Cond)
 
       -- a membrane that is made was empty
       fresh_left : (x : ℕ) → In x nm → length (left x) ≡ 0
-      fresh_left x i = ap (λ o. length (without_all ns (atoms_by o))) (pr.mems.fresh x i) ∙ ap (λ zs. length zs) (withouts_none ns)
+      fresh_left x i = ap (λ o. length (without_all ns (atoms_by o))) (pr.mems.fresh x i) ∙ ap (λ zs. length zs) (withouts_nothing ns)
 
       fresh_rules : (x : ℕ) → In x nm → length (rules_in h x) ≡ 0
       fresh_rules x i = ap (λ o. length (rules_by o)) (pr.mems.fresh x i)

@@ -28,6 +28,7 @@ use Rattle.lmn_body.specs.Rules.{NestedRule, PartAtoms}
 use Rattle.lmn_body.specs.Within.{membrane_images}
 use Rattle.lmn_body.proofs.Coding.{at_heap, commits_append, commits_taken, commits_tied}
 use Rattle.lmn_body.proofs.Firing.{rising_below}
+use Rattle.lmn_body.proofs.Laws.{prepared_all, prepared_links}
 use Rattle.lmn_body.proofs.Numbering.{links_have_numbers}
 use Rattle.lmn_body.proofs.Parts.{taken_append, taken_links, parts_commit}
 use Rattle.lmn_body.proofs.Places.{goes_body, nests_body, moved_are, removed_mem, home_is_mem}
@@ -38,7 +39,6 @@ use Rattle.lmn_machine.specs.Costs.{AddsItems, TakesItems, InAll, Leaves}
 use Rattle.lmn_machine.proofs.Costing.{left_over}
 use Rattle.lmn_cost.specs.Laws.{HeadIsFound, CostIsTold}
 use Rattle.lmn_cost.proofs.Totals.{total_is_sum}
-use Rattle.lmn_cost.proofs.Prepared.{prepared_all, prepared_links}
 use Rattle.lmn_cost.proofs.Codes.{code_adds, code_takes}
 use Rattle.lmn_cost.proofs.Existing.{parts_sum, some_left}
 use Rattle.lmn_cost.proofs.Counting.{adds, items_are}

@@ -3,6 +3,5 @@ pub mod Sums
 pub mod Codes
 pub mod Finite
 pub mod Existing
-pub mod Prepared
 pub mod Counting
 pub mod Laws

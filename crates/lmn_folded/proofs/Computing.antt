@@ -6,7 +6,7 @@ use Rattle.lmn_congruence.specs.Regions.{SolidAtom}
 use Rattle.lmn_folded.specs.Folding.{IsChild}
 use Rattle.lmn_base.proofs.Lists.{get_below as within}
 use Rattle.lmn_base.proofs.Numbers.{below_next}
-use Rattle.lmn_base.proofs.Truth.{first_true as and_first, never_both as true_false}
+use Rattle.lmn_base.proofs.Truth.{first_true, second_true, never_both as true_false}
 
 -- The tests.
 
@@ -41,10 +41,6 @@ true_ends [] x = grind arith
 true_ends (z ∷ []) x = grind arith
 true_ends (z ∷ w ∷ ws) x = true_ends (w ∷ ws) x
 
-and_second : (s t : Bool) → s && t ≡ true → t ≡ true
-and_second true t e = e
-and_second false t e = absurd (cc)
-
 both_true : (s t : Bool) → s ≡ true → t ≡ true → s && t ≡ true
 both_true true t e f = f
 both_true false t e f = e
@@ -74,9 +70,9 @@ module _ (atoms : List SolidAtom) where
       go None u f g e = absurd (cc)
       go (Some a) None f g e = absurd (cc)
       go (Some a) (Some b) f g e =
-          let j = joined_true (slice_get b.links k) a.links (and_first _ _ e) in
+          let j = joined_true (slice_get b.links k) a.links (first_true _ _ e) in
           let l = ends_true a.links j.0 j.2 in
-          let more = and_second (joined (slice_get b.links k) a.links) _ e in
+          let more = second_true (joined (slice_get b.links k) a.links) _ e in
           record {
             child = a;
             parent = b;
@@ -86,8 +82,8 @@ module _ (atoms : List SolidAtom) where
             parent_at = g;
             links = l.1;
             joined = j.1;
-            other = not_same q p (and_first _ _ more);
-            before = or_true (suc k) (length b.links) p q (and_second (not (q == p)) _ more);
+            other = not_same q p (first_true _ _ more);
+            before = or_true (suc k) (length b.links) p q (second_true (not (q == p)) _ more);
           }
 
   true_child : (q p k : ℕ) → IsChild atoms q p k → is_child atoms q p k ≡ true

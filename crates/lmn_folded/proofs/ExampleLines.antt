@@ -1,5 +1,5 @@
 -- Folded lines of small regions, by computing.
-use Rattle.std.proofs.Common.{ℕ, zero, suc, ◌≡◌, ◌≢◌, ◌≤◌, ◌<◌, ◌⊎◌, inl, inr, ◌&&◌, Bool, true, false, List, [], ◌∷◌, Some, nat_lt, nat_le, refl, sym, ◌∙◌, subst, arith}
+use Rattle.std.proofs.Common.{ℕ, zero, suc, ◌≡◌, ◌≢◌, ◌≤◌, ◌<◌, ◌⊎◌, inl, inr, ◌&&◌, Bool, true, List, [], ◌∷◌, Some, nat_lt, nat_le, refl, sym, ◌∙◌, subst, arith}
 use Rattle.std.specs.Prelude.{codes}
 use Rattle.std.proofs.lemmas.Fmt.{decimal_digit}
 use Rattle.lmn_base.specs.Links.{NumbersLinks, no_more, known, new}
@@ -17,6 +17,7 @@ use Rattle.lmn_folded.proofs.Computed.{folded_of, computed}
 use Rattle.lmn_folded.proofs.FoldedLines.{one_folded_line}
 use Rattle.lmn_base.proofs.Lists.{head_is as first_byte}
 use Rattle.lmn_base.proofs.Numbers.{below_next, same_or_not as same_or_apart, below_or_from}
+use Rattle.lmn_base.proofs.Truth.{and_true}
 
 -- Each link is below a number, and each number below it stands at most twice.
 
@@ -36,29 +37,25 @@ abbrev few_below : ℕ → Process → Bool
 few_below zero P = true
 few_below (suc n) P = nat_le (occurrences n P) 2 && few_below n P
 
-halves : (s t : Bool) → s && t ≡ true → (s ≡ true) × (t ≡ true)
-halves true t e = (refl, e)
-halves false t e = absurd (cc)
-
 not_here : (x y n : ℕ) → nat_lt y n ≡ true → n ≤ x → one_if_same x y ≡ 0
 not_here x y n e l = let d : x ≢ y = grind arith in none_if_apart x y d
 
 no_place : (n : ℕ) (xs : List ℕ) (x : ℕ) → all_below n xs ≡ true → n ≤ x → places x xs ≡ 0
 no_place n [] x e l = refl
 no_place n (y ∷ ys) x e l =
-    let h = halves (nat_lt y n) (all_below n ys) e in
+    let h = and_true (nat_lt y n) (all_below n ys) e in
     let a = not_here x y n h.0 l in
     let b = no_place n ys x h.1 l in omega (arith, a, b)
 
 none_above : (n : ℕ) (P : Process) (x : ℕ) → links_below n P ≡ true → n ≤ x → occurrences x P ≡ 0
 none_above n nothing x e l = refl
 none_above n (connector y z) x e l =
-    let h = halves (nat_lt y n) (nat_lt z n) e in
+    let h = and_true (nat_lt y n) (nat_lt z n) e in
     let a = not_here x y n h.0 l in
     let b = not_here x z n h.1 l in omega (arith, a, b)
 none_above n (atom k xs) x e l = no_place n xs x e l
 none_above n (pair P Q) x e l =
-    let h = halves (links_below n P) (links_below n Q) e in
+    let h = and_true (links_below n P) (links_below n Q) e in
     let a = none_above n P x h.0 l in
     let b = none_above n Q x h.1 l in omega (arith, a, b)
 none_above n (membrane P) x e l = none_above n P x e l
@@ -69,7 +66,7 @@ at_most m e = grind arith
 
 few_there : (n : ℕ) (P : Process) (x : ℕ) → few_below n P ≡ true → x < n → occurrences x P ≤ 2
 few_there zero P x e l = absurd (omega (arith, l))
-few_there (suc n) P x e l = let h = halves (nat_le (occurrences n P) 2) (few_below n P) e in go (below_next x n l) (at_most _ h.0) (few_there n P x h.1)
+few_there (suc n) P x e l = let h = and_true (nat_le (occurrences n P) 2) (few_below n P) e in go (below_next x n l) (at_most _ h.0) (few_there n P x h.1)
   where
     go : (x < n) ⊎ (x ≡ n) → occurrences n P ≤ 2 → (x < n → occurrences x P ≤ 2) → occurrences x P ≤ 2
     go (inl l) a more = more l

@@ -91,3 +91,8 @@ in_without x z (y ∷ ys) i d = by (y == x) refl (λ j. in_without x z ys j d) i
 pub in_withouts : (ns xs : List ℕ) (x : ℕ) → In x xs → (In x ns → ⊥) → In x (without_all ns xs)
 in_withouts [] xs x i d = i
 in_withouts (a ∷ ns) xs x i d = in_withouts ns (without a xs) x (in_without a x xs i (λ e. d (inl (sym e)))) (λ j. d (inr j))
+
+-- taken from an empty list nothing is left
+pub withouts_nothing : (ns : List ℕ) → without_all ns [] ≡ []
+withouts_nothing [] = refl
+withouts_nothing (a ∷ ns) = withouts_nothing ns

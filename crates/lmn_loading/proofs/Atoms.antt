@@ -18,9 +18,8 @@ use Rattle.lmn_heap.proofs.Calls.{calls_keep_sound, stands_some as standing_is_m
 use Rattle.lmn_heap.proofs.Listing.{alter_at, alter_away, alter_keeps, same_mem_place, same_mems, atoms_at}
 use Rattle.lmn_splice.specs.Splice.{IsOneOf, NoneTwice, ports, links}
 use Rattle.lmn_loading.specs.Adding.{CanBeFilled, Named, atom_links, atom_leaf_links, ports_with_links, IsMadeAtom, IsFreePort, AddsToMembrane, with_atom}
-use Rattle.lmn_loading.proofs.Composing.{none_is_not}
 use Rattle.lmn_base.specs.Graphs.{Port}
-use Rattle.lmn_base.proofs.Lists.{nothing_added as none_more}
+use Rattle.lmn_base.proofs.Lists.{nothing_added as none_more, none_is_not}
 use Rattle.lmn_base.proofs.Numbers.{zeros_at as no_marks}
 use Rattle.lmn_heap.proofs.Common.{list_rules, no_links, no_port}
 

@@ -17,7 +17,7 @@ use Rattle.lmn_splice.specs.Splice.{IsOneOf, NoneTwice, ports, links}
 use Rattle.lmn_loading.specs.Adding.{CanBeFilled, Named, atom_links, atom_leaf_links, IsMadeAtom, IsFreePort, AddsToMembrane}
 use Rattle.lmn_base.specs.Graphs.{Port}
 use Rattle.lmn_congruence.specs.Links.{places}
-use Rattle.lmn_base.proofs.Lists.{nothing_added as none_more, joined_alike as both, in_either}
+use Rattle.lmn_base.proofs.Lists.{nothing_added as none_more, joined_alike as both, in_either, none_is_not}
 use Rattle.lmn_congruence.proofs.TranslatedLinks.{places_append as often_append}
 use Rattle.lmn_heap.proofs.Calls.{stands_some as standing_is_mem}
 use Rattle.lmn_heap.proofs.Items.{place_some as placed_is_atom}
@@ -62,9 +62,6 @@ beside_second (mem m x r) g k i = inr (lemmas.in_right k (flat x) (flat (beside 
 pub placed_is_mem : (o : Option HeapMem) → IsSome (option_and_then (λ x. home_by x.place) o) → IsSome o
 placed_is_mem None i = absurd (let u : IsSome {T = ℕ} None = i in cc)
 placed_is_mem (Some x) i = refl
-
-pub none_is_not : {A : Type 0} (o : Option A) → o ≡ None → IsSome o → ⊥
-none_is_not o e i = absurd (cc (e, i))
 
 -- the atoms of a list, in two heaps
 pub atoms_frame : (s t : Heap) (name : ℕ → ℕ → ℕ) (xs : List ℕ) → ((a : ℕ) → In a xs → t.atoms a ≡ s.atoms a) → solid_atoms_at t name xs ≡ solid_atoms_at s name xs

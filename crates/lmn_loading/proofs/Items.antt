@@ -22,7 +22,7 @@ use Rattle.lmn_heap.specs.Heap.{top}
 use Rattle.lmn_heap.specs.Examples.{across}
 use Rattle.lmn_loading.specs.Loaded.{IsEmpty, stands, one_if_atom, atoms_among, loaded_step, loaded_items}
 use Rattle.lmn_loading.specs.Laws.{LoadingSettles, EmptyStores}
-use Rattle.lmn_loading.proofs.Composing.{none_is_not}
+use Rattle.lmn_base.proofs.Lists.{none_is_not}
 use Rattle.lmn_heap.proofs.Lone.{is_root as only_root}
 
 module _ (v : ℕ → ℕ) where

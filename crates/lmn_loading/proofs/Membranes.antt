@@ -19,13 +19,13 @@ use Rattle.lmn_heap.proofs.ListLemmas as lemmas
 use Rattle.lmn_heap.proofs.Listing.{alter_at, alter_away}
 use Rattle.lmn_splice.specs.Splice.{links}
 use Rattle.lmn_loading.specs.Adding.{CanBeFilled, Named, atom_links, AddsToMembrane, with_mem}
-use Rattle.lmn_loading.proofs.Composing.{none_is_not, leaves_both}
+use Rattle.lmn_loading.proofs.Composing.{leaves_both}
 use Rattle.lmn_loading.proofs.Atoms.{line_first, line_rest}
 use Rattle.lmn_congruence.specs.Links.{places}
 use Rattle.lmn_loading.proofs.AloneLemmas.{nil as nil_leaves}
 use Rattle.lmn_base.specs.Graphs.{Port}
 use Rattle.lmn_base.specs.Lists.{In}
-use Rattle.lmn_base.proofs.Lists.{plus_nothing}
+use Rattle.lmn_base.proofs.Lists.{plus_nothing, none_is_not}
 
 -- a level without its connectors, by its lists
 pub fused_apart : (v : ℕ → ℕ) (l : Level) → fused_region v l ≡ roll-Region (record { atoms = flat_map (fused_leaf v) (out-Level l).leaves; membranes = map (fused_region v) (out-Level l).membranes; rules = (out-Level l).rules })

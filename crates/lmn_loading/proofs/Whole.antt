@@ -30,7 +30,7 @@ use Rattle.lmn_splice.proofs.EndLemmas.{in_ports, ports_in, link_found, in_ends}
 use Rattle.lmn_loading.specs.Adding.{CanBeFilled, Named, atom_links, IsMadeAtom, AddsToMembrane, Fills, by_id}
 use Rattle.lmn_loading.specs.Joining.{connectors_of_leaves, AreFree, AreJoined}
 use Rattle.lmn_loading.specs.Loaded.{IsEmpty, IsLoaded}
-use Rattle.lmn_loading.proofs.Composing.{none_is_not, leaves_both}
+use Rattle.lmn_loading.proofs.Composing.{leaves_both}
 use Rattle.lmn_loading.proofs.Membranes.{fused_apart}
 use Rattle.lmn_loading.proofs.PlainLinks.{in_often, often_in, numbers_below, all_links, of_class, connectors_joined, region_links}
 use Rattle.lmn_base.specs.Graphs.{Port}
@@ -38,7 +38,7 @@ use Rattle.lmn_congruence.specs.Links.{places}
 use Rattle.lmn_congruence.proofs.TranslatedLinks.{counted, places_append as often_append}
 use Rattle.lmn_heap.proofs.Common.{atom_with_links as has_links, nothing_in as no_some}
 use Rattle.lmn_splice.proofs.Common.{in_back as right_in, in_front as left_in}
-use Rattle.lmn_base.proofs.Lists.{joined_alike as both}
+use Rattle.lmn_base.proofs.Lists.{joined_alike as both, none_is_not}
 use Rattle.lmn_classes.specs.Tables.{PairsBelow, LinksBelow}
 use Rattle.lmn_base.specs.Levels as levels
 use Rattle.lmn_base.specs.Links as base

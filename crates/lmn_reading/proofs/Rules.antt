@@ -2,7 +2,7 @@
 use Rattle.std.proofs.Common.{◌≡◌, ℕ, zero, suc, ◌+◌, ◌<◌, ◌≤◌, List, [], ◌∷◌, ◌++◌, length, take, slice_get, Some, Result, Ok, Err, MatchResult, refl, sym, subst, ◌∙◌, arith}
 use Rattle.std.specs.List.{AllByRecursion, flat_map}
 use Rattle.std.proofs.lemmas.List.{take_all}
-use Rattle.std.proofs.lemmas.List.Elements.{All-append, All-cons, All-head, All-tail}
+use Rattle.std.proofs.lemmas.List.Elements.{All-append}
 use Rattle.std.proofs.lemmas.Option.{same_Some, slice_get_within}
 use Rattle.lmn_base.specs.declared.refusal.Refusal.{Refusal}
 use Rattle.lmn_base.specs.declared.refusal.TextFault.{TextFault}
@@ -12,7 +12,7 @@ use Rattle.lmn_base.specs.Firsts.{Row, RefusedBy, NoneApplies, AnswersBy}
 use Rattle.lmn_base.specs.Refusals.{IfRefused}
 use Rattle.lmn_base.specs.RuleCodes.{rule_rows}
 use Rattle.lmn_base.specs.WellMade.{IsLinkedRule}
-use Rattle.lmn_base.proofs.RowLemmas.{no_rows, refused_later, refused_now, Nowhere}
+use Rattle.lmn_base.proofs.RowLemmas.{no_rows, none_before, none_behind, refused_later, refused_now, Nowhere}
 use Rattle.lmn_guards.specs.Accepted.{IsAcceptedRule}
 use Rattle.lmn_guards.specs.GuardCodes.{guard_rows}
 use Rattle.lmn_guards.specs.Plans.{IsPlan}
@@ -21,23 +21,15 @@ use Rattle.lmn_plain.specs.Plains.{EachPair}
 use Rattle.lmn_reading.specs.Texts.{rows_of_rule}
 use Rattle.lmn_base.proofs.Lists.{get_there as some_at}
 
-none_left : (rows more : List Row) → NoneApplies (rows ++ more) → NoneApplies rows
-none_left [] more h = no_rows
-none_left (row ∷ rows) more h = All-cons Nowhere row rows (All-head Nowhere row (rows ++ more) h) (none_left rows more (All-tail Nowhere row (rows ++ more) h))
-
-none_right : (rows more : List Row) → NoneApplies (rows ++ more) → NoneApplies more
-none_right [] more h = h
-none_right (row ∷ rows) more h = none_right rows more (All-tail Nowhere row (rows ++ more) h)
-
 -- rules of which nothing that is asked applies are accepted, where they are linked
 pub rules_accepted : (table rules : List RuleTree) → ((k : ℕ) (r : RuleTree) → slice_get rules k ≡ Some r → IsLinkedRule r)
     → NoneApplies (flat_map (rows_of_rule table) rules) → AllByRecursion (IsAcceptedRule table) rules
 rules_accepted table [] linked none = tt
 rules_accepted table (r ∷ rs) linked none =
     let rest = flat_map (rows_of_rule table) rs in
-    let here = none_left (rows_of_rule table r) rest none in (
-      record { linked = linked 0 r refl; contexts = none_left (rule_rows table r) (guard_rows r) here; guard = none_right (rule_rows table r) (guard_rows r) here },
-      rules_accepted table rs (λ k. linked (suc k)) (none_right (rows_of_rule table r) rest none),
+    let here = none_before (rows_of_rule table r) rest none in (
+      record { linked = linked 0 r refl; contexts = none_before (rule_rows table r) (guard_rows r) here; guard = none_behind (rule_rows table r) (guard_rows r) here },
+      rules_accepted table rs (λ k. linked (suc k)) (none_behind (rows_of_rule table r) rest none),
     )
 
 -- ---- one rule
@@ -83,8 +75,8 @@ module _ (table : List RuleTree) where
       let P : RuleTree → Type 0 = λ x. RefusedBy (rows x) refusal in
       refused_now (rows r) (flat_map rows rs) refusal (subst P (sym (same_Some r rule at)) h)
   refused_in (r ∷ rs) (suc i) refusal rule none at h =
-      refused_later (rows r) (flat_map rows rs) refusal (none_left (rows r) (flat_map rows (take i rs)) none)
-      (refused_in rs i refusal rule (none_right (rows r) (flat_map rows (take i rs)) none) at h)
+      refused_later (rows r) (flat_map rows rs) refusal (none_before (rows r) (flat_map rows (take i rs)) none)
+      (refused_in rs i refusal rule (none_behind (rows r) (flat_map rows (take i rs)) none) at h)
 
   pub refused_at : (rules : List RuleTree) (plans : List GuardPlan) (i : ℕ) (fault : TextFault) → i < length rules → SoFar table (take i rules) plans
       → IfRefused fault (λ refusal. (rule : RuleTree) → slice_get rules i ≡ Some rule → RefusedBy (rows rule) refusal) → IfRefused fault (RefusedBy (flat_map rows rules))
@@ -96,8 +88,8 @@ module _ (table : List RuleTree) where
   none_more [] i l none h = absurd (omega (arith, l))
   none_more (r ∷ rs) zero l none h = All-append Nowhere (rows r) [] (h r refl) no_rows
   none_more (r ∷ rs) (suc i) l none h =
-      All-append Nowhere (rows r) (flat_map rows (take (suc i) rs)) (none_left (rows r) (flat_map rows (take i rs)) none)
-      (none_more rs i (omega (arith, l)) (none_right (rows r) (flat_map rows (take i rs)) none) h)
+      All-append Nowhere (rows r) (flat_map rows (take (suc i) rs)) (none_before (rows r) (flat_map rows (take i rs)) none)
+      (none_more rs i (omega (arith, l)) (none_behind (rows r) (flat_map rows (take i rs)) none) h)
 
   each_more : (rules : List RuleTree) (i : ℕ) (plans : List GuardPlan) (plan : GuardPlan) → i < length rules → EachPair IsPlan (take i rules) plans
       → ((rule : RuleTree) → slice_get rules i ≡ Some rule → IsPlan rule plan) → EachPair IsPlan (take (suc i) rules) (plans ++ plan ∷ [])

@@ -15,6 +15,7 @@ use Rattle.lmn_reduction.specs.Steps.{Step, SettlingStep, leaf, beside as derive
 use Rattle.lmn_reduction.specs.Commits.{Commit, already, step_and}
 use Rattle.lmn_congruence.specs.Fused.{NoConnector}
 use Rattle.lmn_reduction.specs.Examples.{label_a, label_b, label_c, label_p, int, letter_z, two_make_b, TwoMakeOne, join_in_c, LinkMeetsItself, ConnectorLeaves, LoopVanishes, QuotientsAndRemainders, add_up, SumIsBound, b_makes_c, double_rules, RulesAreCopied, least, LeastByMinusOne, NothingByZero, tie_ends, LoopIsLeft, open_both, LinkIsShared, double_part, PartIsCopied, straight, turned_round, crossed, PortsAreTold, two_parts, NotGround}
+use Rattle.lmn_congruence.proofs.Common.{nothing_among}
 use Rattle.lmn_reduction.proofs.SettledProcesses.{no_connector_settled}
 use Rattle.lmn_reduction.proofs.Derivations.{zero_not_one, linked_by, closed_by, regrouped, by_one_link}
 
@@ -137,13 +138,10 @@ copied n k = record { to = λ m. k; one_to_one = λ i j o o' e. only_root i j o 
     only_root : (i j : ℕ) → cond (eqb i 0) 1 0 + 0 ≢ 0 → cond (eqb j 0) 1 0 + 0 ≢ 0 → i ≡ j
     only_root i j o o' = grind arith
 
-no_member : {A : Type 0} {n : A} → ¬ (Among n [])
-no_member m = elim m [ ]
-
 member_of_two : {A : Type 0} {n m k : A} → n ≢ m → n ≢ k → ¬ (Among n (m ∷ k ∷ []))
 member_of_two e f at_head = e refl
 member_of_two e f (further at_head) = f refl
-member_of_two e f (further (further m)) = no_member m
+member_of_two e f (further (further m)) = nothing_among m
 
 names_differ : (i j : ℕ) → i ≢ j → ¬ (◌≡◌ {A = Name} (i ∷ []) (j ∷ []))
 names_differ i j d e = d (ap first_byte e)

@@ -10,35 +10,19 @@ use Rattle.lmn_congruence.specs.Regions.{SolidAtom, Region, region, Regions, no_
 use Rattle.lmn_congruence.specs.Same.{renamed_atom, renamed_region, renamed_regions}
 use Rattle.lmn_congruence.specs.Plains.{leaf_process, level_process, levels_processes, fused_leaves, fused_level, fused_levels}
 use Rattle.lmn_reduction.specs.Laws.{SolidIsOne}
-use Rattle.lmn_congruence.proofs.Counts.{one_if_equal, none_if_apart, map_after}
+use Rattle.lmn_congruence.proofs.Counts.{one_if_equal, none_if_apart, one_least, map_after}
 use Rattle.lmn_congruence.proofs.Totals.{total_same}
 use Rattle.lmn_congruence.proofs.Crossings.{occurs_below}
 use Rattle.lmn_congruence.proofs.Reordered.{reordered_count}
 use Rattle.lmn_congruence.proofs.LinkMaps.{closed_leaves, closed_linked, one_to_one}
 use Rattle.lmn_congruence.proofs.FewestCrossings.{with_image, total_image_sum, image_count, image_even}
 use Rattle.lmn_reduction.proofs.Plains.{level_reordered}
-use Rattle.lmn_base.proofs.Numbers.{same_or_not, left_not_zero, right_not_zero, three_ways}
+use Rattle.lmn_base.proofs.Numbers.{triangle, triangle_less, same_or_not, left_not_zero, right_not_zero, three_ways}
 
 -- ---- two numbers in one
 
-abbrev triangle : ℕ → ℕ
-triangle zero = 0
-triangle (suc n) = suc n + triangle n
-
 abbrev both : ℕ → ℕ → ℕ
 both m n = triangle (m + n) + n
-
-triangle_less : (m n : ℕ) → m < n → suc m + triangle m ≤ triangle n
-triangle_less m zero l = absurd (not_below m l)
-  where
-    not_below : (m : ℕ) → ¬ (m < 0)
-    not_below m = omega arith
-triangle_less m (suc n) l = go (three_ways m n) (λ c. triangle_less m n c)
-  where
-    go : (m < n) ⊎ ((m ≡ n) ⊎ (n < m)) → (m < n → suc m + triangle m ≤ triangle n) → suc m + triangle m ≤ suc n + triangle n
-    go (inl c) i = omega (arith, i c)
-    go (inr (inl e)) i = rw e (omega arith)
-    go (inr (inr c)) i = absurd (omega arith)
 
 sums_agree : (m n k l : ℕ) → both m n ≡ both k l → (m + n < k + l) ⊎ ((m + n ≡ k + l) ⊎ (k + l < m + n)) → m + n ≡ k + l
 sums_agree m n k l e (inl c) = let t = triangle_less (m + n) (k + l) c in absurd (omega arith)
@@ -59,16 +43,9 @@ both_agree m n k l e =
 abbrev at_atoms : ℕ → Process → ℕ
 at_atoms x P = occurrences x (fused (λ y. y) P)
 
-one_kept : (w : ℕ → ℕ) (x y : ℕ) → one_if_same x y ≤ one_if_same (w x) (w y)
-one_kept w x y = go (same_or_not x y)
-  where
-    go : (x ≡ y) ⊎ (x ≢ y) → one_if_same x y ≤ one_if_same (w x) (w y)
-    go (inl e) = omega (arith, one_if_equal x y e, one_if_equal (w x) (w y) (ap w e))
-    go (inr d) = omega (arith, none_if_apart x y d)
-
 places_kept : (w : ℕ → ℕ) (x : ℕ) (ys : List ℕ) → places x (map (λ y. y) ys) ≤ places (w x) (map w ys)
 places_kept w x [] = omega arith
-places_kept w x (y ∷ ys) = omega (arith, one_kept w x y, places_kept w x ys)
+places_kept w x (y ∷ ys) = omega (arith, one_least w x y, places_kept w x ys)
 
 image_kept : (w : ℕ → ℕ) (x : ℕ) (P : Process) → at_atoms x P ≤ occurrences (w x) (fused w P)
 image_kept w x nothing = omega arith

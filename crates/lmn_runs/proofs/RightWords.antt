@@ -50,28 +50,28 @@ name_quotes (b ∷ bs) h = byte (small_quotable b h.0) (stand_for_themselves bs 
 abbrev NameSpelled : List ℕ → Type 0
 NameSpelled name = LabelSpelled (tree.named name)
 
--- what a word of a kind means
-abbrev IsRightWord : Kind → List ℕ → Type 0
-IsRightWord kind.Name bytes = NameSpelled (name_spelled kind.Name bytes)
-IsRightWord kind.Quoted bytes = NameSpelled (name_spelled kind.Quoted bytes)
-IsRightWord kind.Mod bytes = NameSpelled (name_spelled kind.Mod bytes)
-IsRightWord kind.Context bytes = IsContextName (name_spelled kind.Context bytes)
-IsRightWord kind.RuleCtx bytes = IsContextName (name_spelled kind.RuleCtx bytes)
-IsRightWord kind.Int bytes = SpelledInRange bytes
-IsRightWord _ bytes = Unit {0}
+-- what a word spells is right: a name that a text can spell, or an integer of 64 bits
+abbrev SpellsWell : Kind → List ℕ → Type 0
+SpellsWell kind.Name bytes = NameSpelled (name_spelled kind.Name bytes)
+SpellsWell kind.Quoted bytes = NameSpelled (name_spelled kind.Quoted bytes)
+SpellsWell kind.Mod bytes = NameSpelled (name_spelled kind.Mod bytes)
+SpellsWell kind.Context bytes = IsContextName (name_spelled kind.Context bytes)
+SpellsWell kind.RuleCtx bytes = IsContextName (name_spelled kind.RuleCtx bytes)
+SpellsWell kind.Int bytes = SpelledInRange bytes
+SpellsWell _ bytes = Unit {0}
 
-right_word : (minus : Bool) (k : Kind) (bytes after : List ℕ) → Spells minus k bytes → ((code : ℕ) → TokenFault k bytes after code → ⊥) → IsRightWord k bytes
-right_word minus kind.Name bytes after s right = (at_most (length bytes) 255 (λ l. right 5 (long_name l)), (bytes, name_quotes bytes s.0))
-right_word minus kind.Quoted bytes after s right =
+spells_well : (minus : Bool) (k : Kind) (bytes after : List ℕ) → Spells minus k bytes → ((code : ℕ) → TokenFault k bytes after code → ⊥) → SpellsWell k bytes
+spells_well minus kind.Name bytes after s right = (at_most (length bytes) 255 (λ l. right 5 (long_name l)), (bytes, name_quotes bytes s.0))
+spells_well minus kind.Quoted bytes after s right =
     let q = s.1 in
     subst NameSpelled (sym (quoted_name bytes s.0 q)) (at_most (length s.0) 255 (λ l. right 5 (long_name (s.0, q, l))), (q.inside, q.quotes))
-right_word minus kind.Mod bytes after s right = subst NameSpelled (sym s) (omega arith, (codes "mod", byte refl (byte refl (byte refl nothing))))
-right_word minus kind.Context [] after s right = absurd s
-right_word minus kind.Context (b ∷ bs) after s right = (at_most (length bs) 255 (λ l. right 5 (long_name (omega (arith, l)))), s.1)
-right_word minus kind.RuleCtx [] after s right = absurd s
-right_word minus kind.RuleCtx (b ∷ bs) after s right = (at_most (length bs) 255 (λ l. right 5 (long_name (omega (arith, l)))), s.1)
-right_word minus kind.Int bytes after s right = in_range bytes (λ out. right 4 (integer_out_of_range refl (λ fraction. right 6 (floating_point refl fraction)) out))
-right_word minus _ bytes after s right = tt
+spells_well minus kind.Mod bytes after s right = subst NameSpelled (sym s) (omega arith, (codes "mod", byte refl (byte refl (byte refl nothing))))
+spells_well minus kind.Context [] after s right = absurd s
+spells_well minus kind.Context (b ∷ bs) after s right = (at_most (length bs) 255 (λ l. right 5 (long_name (omega (arith, l)))), s.1)
+spells_well minus kind.RuleCtx [] after s right = absurd s
+spells_well minus kind.RuleCtx (b ∷ bs) after s right = (at_most (length bs) 255 (λ l. right 5 (long_name (omega (arith, l)))), s.1)
+spells_well minus kind.Int bytes after s right = in_range bytes (λ out. right 4 (integer_out_of_range refl (λ fraction. right 6 (floating_point refl fraction)) out))
+spells_well minus _ bytes after s right = tt
 
 -- an integer in range
 minus_in_range : (n : ℕ) → n ≤ 2 ^ 63 → guards.InRange (minus_of n)
@@ -90,21 +90,21 @@ integer_in_range (b ∷ bs) h = go (b == 45) refl h
 
 -- ---- tokens
 
-sound_at : (text : List ℕ) (before : List Token) (p : ℕ) (t : Token) → AllByRecursion (IsSound text) before → slice_get (before ++ token_of kind.End text [] ∷ []) p ≡ Some t → IsRightWord t.kind (bytes_of text t)
-sound_at text [] zero t h e = let P : Token → Type 0 = λ t. IsRightWord t.kind (bytes_of text t) in subst P (same_Some _ t e) tt
+sound_at : (text : List ℕ) (before : List Token) (p : ℕ) (t : Token) → AllByRecursion (IsSound text) before → slice_get (before ++ token_of kind.End text [] ∷ []) p ≡ Some t → SpellsWell t.kind (bytes_of text t)
+sound_at text [] zero t h e = let P : Token → Type 0 = λ t. SpellsWell t.kind (bytes_of text t) in subst P (same_Some _ t e) tt
 sound_at text [] (suc zero) t h e = absurd (cc)
 sound_at text [] (suc (suc p)) t h e = absurd (cc)
 sound_at text (u ∷ before) zero t h e =
     let s = h.0 in
-    let P : Token → Type 0 = λ t. IsRightWord t.kind (bytes_of text t) in
-    subst P (same_Some u t e) (right_word s.minus u.kind (bytes_of text u) (drop u.end text) s.spells s.right)
+    let P : Token → Type 0 = λ t. SpellsWell t.kind (bytes_of text t) in
+    subst P (same_Some u t e) (spells_well s.minus u.kind (bytes_of text u) (drop u.end text) s.spells s.right)
 sound_at text (u ∷ before) (suc p) t h e = sound_at text before p t h.1 e
 
 module _ (text : List ℕ) (tokens : List Token) (cut : Cuts text tokens) (none : NothingWrong text) (places : List Pos) (names : List tree.Name) (is : IsNames names) (holds : HoldsTokenNames names text tokens) where
   abbrev words : List Word
   words = words_of text tokens
 
-  right_at : (p : ℕ) (t : Token) → slice_get tokens p ≡ Some t → IsRightWord t.kind (bytes_of text t)
+  right_at : (p : ℕ) (t : Token) → slice_get tokens p ≡ Some t → SpellsWell t.kind (bytes_of text t)
   right_at p t e =
       let sound = tokens_are_sound text tokens cut none in
       sound_at text sound.0 p t sound.1 (ap (λ ts. slice_get ts p) (sym sound.2) ∙ e)
@@ -113,7 +113,7 @@ module _ (text : List ℕ) (tokens : List Token) (cut : Cuts text tokens) (none 
   record TokenHere (p : ℕ) (k : Kind) : Type 0 where
     pub bytes : List ℕ
     pub word : word_at words places p ≡ record { kind = k; bytes = bytes }
-    pub right : IsRightWord k bytes
+    pub right : SpellsWell k bytes
     pub held : HasName k → Contains names (name_spelled k bytes)
 
   token_here : (p : ℕ) (k : Kind) → At tokens p k → TokenHere p k
@@ -122,7 +122,7 @@ module _ (text : List ℕ) (tokens : List Token) (cut : Cuts text tokens) (none 
       let t = there.0 in
       let bytes = bytes_of text t in
       let word = get_or_from_slice_get words p (word_of text t) last_word (slice_get-map (word_of text) tokens p ∙ ap (option_map (word_of text)) there.1) in
-      let P : Kind → Type 0 = λ k. IsRightWord k bytes in
+      let P : Kind → Type 0 = λ k. SpellsWell k bytes in
       let Q : Kind → Type 0 = λ k. HasName k → Contains names (name_spelled k bytes) in
       record {
         bytes = bytes;
@@ -131,7 +131,7 @@ module _ (text : List ℕ) (tokens : List Token) (cut : Cuts text tokens) (none 
         held = subst Q there.2 (holds.token p t there.1);
       }
 
-  name_here : (p : ℕ) (k : Kind) → At tokens p k → ((bytes : List ℕ) → IsRightWord k bytes → Contains names (name_spelled k bytes) → IsLabel names is (label_spelled k bytes)) → HasName k
+  name_here : (p : ℕ) (k : Kind) → At tokens p k → ((bytes : List ℕ) → SpellsWell k bytes → Contains names (name_spelled k bytes) → IsLabel names is (label_spelled k bytes)) → HasName k
       → IsLabel names is (label_at words places p)
   name_here p k h means named =
       let t = token_here p k h in
@@ -151,7 +151,7 @@ module _ (text : List ℕ) (tokens : List Token) (cut : Cuts text tokens) (none 
       let range = integer_in_range t.bytes t.right in
       (subst P (sym t.word) (fits (integer_of t.bytes) range), subst Q (sym t.word) range)
 
-  context_here : (p : ℕ) (k : Kind) → At tokens p k → (IsRightWord k ≡ λ bytes. IsContextName (name_spelled k bytes)) → HasName k → IsContext names is (name_at words places p)
+  context_here : (p : ℕ) (k : Kind) → At tokens p k → (SpellsWell k ≡ λ bytes. IsContextName (name_spelled k bytes)) → HasName k → IsContext names is (name_at words places p)
   context_here p k h means named =
       let t = token_here p k h in
       let P : Word → Type 0 = λ w. IsContext names is (name_spelled w.kind w.bytes) in

@@ -11,7 +11,7 @@ use Rattle.lmn_body.specs.Within.{left_solid}
 use Rattle.lmn_bridge.specs.HeapRegions.{HeapReading, atoms_at}
 use Rattle.lmn_turn.proofs.LinksBelow.{links_below, links_limit}
 use Rattle.lmn_heap.proofs.Common.{in_of_without as left_of}
-use Rattle.lmn_turn.proofs.MadeMembers.{withouts_nothing as no_atoms}
+use Rattle.lmn_heap.proofs.ListLemmas.{withouts_nothing as no_atoms}
 use Rattle.lmn_congruence.proofs.Common.{among_left, among_right, map_known}
 use Rattle.lmn_base.specs.Lists.{In}
 

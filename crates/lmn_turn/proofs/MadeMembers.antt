@@ -1,8 +1,8 @@
 -- Lists without some numbers, and the membranes that a body makes.
-use Rattle.std.proofs.Common.{ℕ, ◌≡◌, ◌+◌, ◌<◌, ◌≤◌, List, [], ◌∷◌, refl, sym, ap, ◌∙◌, inl, inr, arith}
+use Rattle.std.proofs.Common.{ℕ, ◌≡◌, ◌+◌, ◌<◌, ◌≤◌, List, [], ◌∷◌, sym, ap, ◌∙◌, inl, inr, arith}
 use Rattle.std.proofs.lemmas.Bool.{cases_eq}
 use Rattle.std.specs.Prelude.{◌≢◌}
-use Rattle.lmn_heap.specs.Lists.{Distinct, without_all}
+use Rattle.lmn_heap.specs.Lists.{Distinct}
 use Rattle.lmn_heap.proofs.ListLemmas.{each_in}
 use Rattle.lmn_body.specs.declared.items.BodyItem.{BodyItem}
 use Rattle.lmn_body.specs.declared.items.BodyItem.TheVariants.{Atom, Connector, Copy, Bound, Membrane, Rest, Rule, Rules}
@@ -12,10 +12,6 @@ use Rattle.lmn_turn.proofs.Adders.{at, many}
 use Rattle.lmn_base.specs.Lists.{In}
 
 -- ---- lists without some numbers
-
-pub withouts_nothing : (ns : List ℕ) → without_all ns [] ≡ []
-withouts_nothing [] = refl
-withouts_nothing (a ∷ ns) = withouts_nothing ns
 
 -- ---- the membranes that a body makes
 

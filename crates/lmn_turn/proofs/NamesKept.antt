@@ -18,7 +18,7 @@ use Rattle.lmn_solid.proofs.HeadTrees.{Head, Heads, head, no_head, head_and, siz
 use Rattle.lmn_splice.specs.Splice as splice
 use Rattle.lmn_body.specs.declared.items.BodyItem.{BodyItem}
 use Rattle.lmn_body.specs.declared.items.BodyItem.TheVariants.{Atom, Connector, Copy, Bound, Membrane, Rest, Rule, Rules}
-use Rattle.lmn_body.specs.Added.{if_inside, added_atoms, added_mems, made_mems}
+use Rattle.lmn_body.specs.Added.{added_atoms, added_mems, made_mems}
 use Rattle.lmn_body.specs.Flattening.{atom_item, typed_item, body_leaf_items, context_items, body_rule_items, rule_context_items, BodyNames}
 use Rattle.lmn_body.specs.Made.{made_of, new_atoms, copies_of}
 use Rattle.lmn_parts.proofs.AnswerLaws.{answer_onto}
@@ -26,36 +26,15 @@ use Rattle.lmn_parts.proofs.WalkLaws.{once}
 use Rattle.lmn_parts.specs.Walks.{net, neighbour}
 use Rattle.lmn_body.specs.Running.{Registers, integer_functor}
 use Rattle.lmn_body.specs.Within.{membrane_images, FiresWithin}
-use Rattle.lmn_body.proofs.AddedLemmas.{comes_from, in_if}
+use Rattle.lmn_body.proofs.AddedLemmas.{comes_from, mems_come_from}
 use Rattle.lmn_body.proofs.BodyPorts.{numbers}
 use Rattle.lmn_body.proofs.Committing.{in_withouts_of}
 use Rattle.lmn_body.proofs.Finishing.{in_place_listed}
 use Rattle.lmn_bridge.proofs.Forests.{in_place}
 use Rattle.lmn_compile_body.proofs.BodyTrees.{flat_body, flat_bodies}
-use Rattle.lmn_turn.proofs.Adders.{at}
 use Rattle.lmn_base.specs.Graphs.{Port}
 use Rattle.lmn_base.specs.Lists.{In}
 use Rattle.lmn_base.proofs.Lists.{in_either}
-
--- ---- where added membranes come from
-
--- an added membrane is made, or was left of another
-added_from : (s : Registers) (left : ℕ → List ℕ) (n : ℕ) (xs : List BodyItem) (x z : ℕ) → In z (added_mems s left n xs x) → In z (made_mems s n xs) ⊎ ((k : ℕ) × In z (left k))
-added_from s left n [] x z i = absurd i
-added_from s left n (Atom functor links inside ∷ xs) x z i = added_from s left n xs x z i
-added_from s left n (Connector l l' ∷ xs) x z i = added_from s left n xs x z i
-added_from s left n (Copy part link inside ∷ xs) x z i = added_from s left n xs x z i
-added_from s left n (Bound integer link inside ∷ xs) x z i = added_from s left n xs x z i
-added_from s left n (Membrane inside ∷ xs) x z i = elim (in_either z (if_inside s x inside (at s n ∷ [])) (added_mems s left (n + 1) xs x) i) [
-  | inl j ↦ elim (in_if s x inside (at s n ∷ []) z j) [ inl e ↦ inl (inl e) | inr w ↦ absurd w ]
-  | inr j ↦ elim (added_from s left (n + 1) xs x z j) [ inl w ↦ inl (inr w) | inr w ↦ inr w ]
-]
-added_from s left n (Rest of inside ∷ xs) x z i = elim (in_either z (if_inside s x inside (left (at s of))) (added_mems s left n xs x) i) [
-  | inl j ↦ inr (at s of, in_if s x inside (left (at s of)) z j)
-  | inr j ↦ added_from s left n xs x z j
-]
-added_from s left n (Rule k inside ∷ xs) x z i = added_from s left n xs x z i
-added_from s left n (Rules of inside ∷ xs) x z i = added_from s left n xs x z i
 
 -- a new atom is written, or is one of a copy
 new_from : (s : Registers) (a c : ℕ) (body : List BodyItem) (b : ℕ) → In b (new_atoms s a c body) → In b (numbers (made_of s a body)) ⊎ ((e : ℕ × ℕ) × splice.IsOneOf e (copies_of c body) × In b (s.copied e.0))
@@ -195,7 +174,7 @@ module _ (h h' : Heap) (v : Valid h) (v' : Valid h') (c : Port → ℕ) (s : Reg
       children : (k : ℕ) → (In k ks → ⊥) → (z : ℕ) → In z (without_all ks (mems_in h k) ++ added_mems s (λ j. without_all ks (mems_in h j)) (1 + length (heads.membranes_of head)) body k) → In z ks → ⊥
       children k o z i = elim (in_either z (without_all ks (mems_in h k)) (added_mems s (λ j. without_all ks (mems_in h j)) (1 + length (heads.membranes_of head)) body k) i) [
         | inl a ↦ kept k z a
-        | inr b ↦ elim (added_from s (λ j. without_all ks (mems_in h j)) (1 + length (heads.membranes_of head)) body k z b) [
+        | inr b ↦ elim (mems_come_from s (λ j. without_all ks (mems_in h j)) (1 + length (heads.membranes_of head)) body k z b) [
           | inl w ↦ new z w
           | inr w ↦ kept w.0 z w.1
         ]

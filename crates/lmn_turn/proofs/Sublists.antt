@@ -3,12 +3,11 @@ use Rattle.std.proofs.Common.{ℕ, ◌≡◌, ◌≢◌, ◌⊎◌, ◌==◌, Bo
 use Rattle.std.proofs.lemmas.Bool.{cases_eq, eq-eqb}
 use Rattle.lmn_heap.specs.Lists.{Distinct, without, without_all}
 use Rattle.lmn_heap.specs.Sound.{Forest}
-use Rattle.lmn_heap.proofs.ListLemmas.{each_in, each_of, in_without}
+use Rattle.lmn_heap.proofs.ListLemmas.{each_in, each_of, in_without, withouts_nothing}
 use Rattle.lmn_heap.proofs.Listing.{in_without_of, distinct_without}
 use Rattle.lmn_adequacy.specs.Embedding.{Merged, merged_none, from_first, from_second}
 use Rattle.lmn_bridge.proofs.Forests.{tops}
 use Rattle.lmn_bridge.proofs.Lying.{TakenTree, tree_first, tree_later}
-use Rattle.lmn_turn.proofs.MadeMembers.{withouts_nothing}
 use Rattle.lmn_base.proofs.Numbers.{not_equal as apart_test}
 use Rattle.lmn_base.specs.Lists.{In}
 use Rattle.std.specs.List.{AllByRecursion}

@@ -1,12 +1,12 @@
 -- A firing on a heap is a next region of the calculus.
-use Rattle.std.proofs.Common.{ℕ, zero, suc, ◌≡◌, ◌≢◌, ◌⊎◌, ◌+◌, ◌<◌, ◌≤◌, List, [], ◌∷◌, ◌++◌, map, length, Option, Some, None, IsSome, refl, sym, ap, subst, ◌∙◌, inl, inr, arith}
+use Rattle.std.proofs.Common.{ℕ, zero, suc, ◌≡◌, ◌≢◌, ◌⊎◌, ◌+◌, ◌<◌, ◌≤◌, List, [], ◌∷◌, ◌++◌, map, length, Option, Some, None, refl, sym, ap, subst, ◌∙◌, inl, inr, arith}
 use Rattle.std.proofs.lemmas.List.{map-append}
 use Rattle.lmn_base.specs.declared.solid.SolidAtom.{SolidAtom}
 use Rattle.lmn_heap.specs.Heap.{Heap, HeapMem, IsMem, atoms_in, mems_in, rules_in, atoms_by, mems_by, rules_by}
 use Rattle.lmn_heap.specs.Lists.{Distinct, without_all}
 use Rattle.lmn_heap.specs.Solid.{solid_atoms_at}
 use Rattle.lmn_heap.specs.Sound.{Forest, flat, Forms}
-use Rattle.lmn_heap.proofs.ListLemmas.{each_in}
+use Rattle.lmn_heap.proofs.ListLemmas.{each_in, withouts_nothing}
 use Rattle.std.proofs.lemmas.List.{append-nil}
 use Rattle.lmn_solid.specs.Heads.{membranes_of}
 use Rattle.std.specs.Prelude.{Bool, true, false, cond, ◌==◌}
@@ -43,12 +43,12 @@ use Rattle.lmn_turn.proofs.MadeLevels.{level_stands, level_leaves, level_membran
 use Rattle.lmn_turn.proofs.CopyLinks.{Block, block_one, block_above}
 use Rattle.lmn_turn.proofs.OwnLinks.{OwnLevel, own_made, raw_own}
 use Rattle.lmn_turn.proofs.Kept.{Untouched, kept_atoms_join, kept_membranes_join}
-use Rattle.lmn_turn.proofs.MadeMembers.{withouts_nothing, in_made, made_apart}
+use Rattle.lmn_turn.proofs.MadeMembers.{in_made, made_apart}
 use Rattle.lmn_turn.proofs.Paths.{Firing, from_root}
 use Rattle.lmn_turn.proofs.Connectors.{level_joins, wires_join, leaves_join_both, levels_join_both, AllFit}
 use Rattle.lmn_base.specs.Graphs.{Port}
 use Rattle.lmn_splice.specs.Splice.{of_rule, of_solid}
-use Rattle.lmn_base.proofs.Lists.{map_twice, plus_nothing}
+use Rattle.lmn_base.proofs.Lists.{map_twice, none_is_not, plus_nothing}
 use Rattle.lmn_bridge.proofs.Numbering.{all_absent as withouts_absent}
 use Rattle.lmn_congruence.proofs.Common.{rules_join, rules_listed}
 use Rattle.lmn_adequacy.specs.Accepted.{Accepted}
@@ -83,10 +83,6 @@ pub record Placing (h : Heap) (s : Registers) (images made taken : List ℕ) (m 
 nothing_there : (o : Option HeapMem) → o ≡ None → (atoms_by o ≡ []) × (mems_by o ≡ []) × (rules_by o ≡ [])
 nothing_there None e = (refl, refl, refl)
 nothing_there (Some x) e = absurd (cc)
-
-not_both : (o : Option HeapMem) → IsSome o → o ≡ None → ⊥
-not_both None i e = absurd (cc)
-not_both (Some x) i e = absurd (cc)
 
 module _ (h h' : Heap) (r : HeapReading) (s : Registers) (head : List HeadItem) (bn : BodyNames) (hd : Head) (low : ℕ) (taken : List ℕ)
     (f : FiresWithin h (λ p. r.name p.0 p.1) s head (flat_body bn 0 low hd) taken h') (to : ℕ → ℕ) (limit : ℕ) (copy : ℕ → List SolidAtom) (part : ℕ → ℕ → List region.SolidAtom)
@@ -135,15 +131,15 @@ module _ (h h' : Heap) (r : HeapReading) (s : Registers) (head : List HeadItem) 
 
   pub regions_apart : (j k : ℕ) → (j ≡ 0) ⊎ ((low ≤ j) × (j < low + size hd)) → (k ≡ 0) ⊎ ((low ≤ k) × (k < low + size hd)) → at s j ≡ at s k → j ≡ k
   regions_apart j k (inl a) (inl b) e = a ∙ sym b
-  regions_apart j k (inl a) (inr b) e = absurd (not_both (h.mems m) p.there (ap h.mems (sym p.at_home ∙ ap (at s) (sym a) ∙ e) ∙ p.fresh (at s k) (is_made k b.0 b.1)))
-  regions_apart j k (inr a) (inl b) e = absurd (not_both (h.mems m) p.there (ap h.mems (sym p.at_home ∙ ap (at s) (sym b) ∙ sym e) ∙ p.fresh (at s j) (is_made j a.0 a.1)))
+  regions_apart j k (inl a) (inr b) e = absurd (none_is_not (h.mems m) (ap h.mems (sym p.at_home ∙ ap (at s) (sym a) ∙ e) ∙ p.fresh (at s k) (is_made k b.0 b.1)) p.there)
+  regions_apart j k (inr a) (inl b) e = absurd (none_is_not (h.mems m) (ap h.mems (sym p.at_home ∙ ap (at s) (sym b) ∙ sym e) ∙ p.fresh (at s j) (is_made j a.0 a.1)) p.there)
   regions_apart j k (inr a) (inr b) e = made_apart s low B p.once j k a.0 (omega (arith, a.1, many_is)) b.0 (omega (arith, b.1, many_is)) e
 
   old_apart : (x : ℕ) → IsMem h x → (j : ℕ) → low ≤ j → j < low + size hd → at s j ≢ x
-  old_apart x i j a b e = not_both (h.mems x) i (ap h.mems (sym e) ∙ p.fresh (at s j) (is_made j a b))
+  old_apart x i j a b e = none_is_not (h.mems x) (ap h.mems (sym e) ∙ p.fresh (at s j) (is_made j a b)) i
 
   made_not_image : (j : ℕ) → low ≤ j → j < low + size hd → In (at s j) ks → ⊥
-  made_not_image j a b i = not_both (h.mems (at s j)) (p.images_there (at s j) i) (p.fresh (at s j) (is_made j a b))
+  made_not_image j a b i = none_is_not (h.mems (at s j)) (p.fresh (at s j) (is_made j a b)) (p.images_there (at s j) i)
 
   -- what stands in a made membrane is what the body adds
   empty : (j : ℕ) → low ≤ j → j < low + size hd → (atoms_in h (at s j) ≡ []) × (mems_in h (at s j) ≡ []) × (rules_in h (at s j) ≡ [])
