@@ -100,6 +100,7 @@ named : (text : List ℕ) (before names : List Name) (plain : Plain) (plans : Li
     → IsAcceptedAs text names plain plans → NamesPlain names plain
 named text before names plain plans is left a = plains_are_named text before names plain is left a.reads
 
+-- what is known of each accepted text
 pub accepted_texts : AcceptedTexts
 accepted_texts = record {
   made = made;

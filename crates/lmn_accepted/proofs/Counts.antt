@@ -51,6 +51,7 @@ use_count n (item.Context u ∷ xs) = by u.form (use_count n xs)
         on true = omega (arith, h)
         on false = h
 
+-- a context is used untyped as often as its name stands among those
 pub bare_count : (n : ℕ) (xs : List Item) → length (flat_map (bare_use n) xs) ≡ how_often n (flat_map bare_name xs)
 bare_count n [] = refl
 bare_count n (item.Atom f p ∷ xs) = bare_count n xs
@@ -71,6 +72,7 @@ bare_count n (item.Context u ∷ xs) = by u.form (bare_count n xs)
         on true = h
         on false = h
 
+-- and so a rule context
 pub rule_count : (n : ℕ) (xs : List Item) → length (flat_map (rule_use n) xs) ≡ how_often n (flat_map rule_context_name xs)
 rule_count n [] = refl
 rule_count n (item.Atom f p ∷ xs) = rule_count n xs
@@ -85,6 +87,7 @@ rule_count n (item.RuleContext u ∷ xs) = on (u.name == n) (rule_count n xs)
 
 -- ---- items that use a name
 
+-- an item with such a name is such a use
 pub bare_is : (x : Item) (n : ℕ) → 1 ≤ how_often n (bare_name x) → (u : FormedUse) × (x ≡ item.Context u) × (u.form ≡ form.Bare) × (u.name ≡ n)
 bare_is (item.Atom f p) n h = absurd (omega (arith, h))
 bare_is (item.Context u) n h = by u.form refl h
@@ -104,18 +107,21 @@ rule_context_is (item.Rule k) n h = absurd (omega (arith, h))
 abbrev Uses : List Item → (FormedUse → Type 0) → Type 0
 Uses xs P = (u : FormedUse) × Contains xs (item.Context u) × P u
 
+-- so a name that stands there has a use
 pub some_bare : (n : ℕ) (xs : List Item) → 1 ≤ how_often n (flat_map bare_name xs) → Uses xs (λ u. (u.form ≡ form.Bare) × (u.name ≡ n))
 some_bare n xs h =
     let found = some_of bare_name n xs h in
     let u = bare_is found.0 n found.2 in
     (u.0, subst (Contains xs) u.1 found.1, (u.2, u.3))
 
+-- and so for typed contexts
 pub some_typed : (n : ℕ) (xs : List Item) → 1 ≤ how_often n (flat_map typed_name xs) → Uses xs (λ u. (u.form ≡ form.Typed) × (u.name ≡ n))
 some_typed n xs h =
     let found = some_of typed_name n xs h in
     let u = typed_is found.0 n found.2 in
     (u.0, subst (Contains xs) u.1 found.1, (u.2, u.3))
 
+-- and for rule contexts
 pub some_rule_context : (n : ℕ) (xs : List Item) → 1 ≤ how_often n (flat_map rule_context_name xs) → (u : CtxUse) × Contains xs (item.RuleContext u) × (u.name ≡ n)
 some_rule_context n xs h =
     let found = some_of rule_context_name n xs h in

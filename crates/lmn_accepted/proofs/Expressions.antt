@@ -54,9 +54,11 @@ module _ (head : Level) (before : List Cond) where
 
 -- ---- expressions
 
+-- the names of contexts in an expression
 abbrev pub used_names : Expr → List ℕ
 used_names e = flat_map typed_name (expression_items e)
 
+-- those of an operation are those of both sides
 pub operation_names : (op : Arith) (p : Box (Unit {0}) Global) (left : Expr) (q : Box (Unit {0}) Global) (right : Expr) → used_names (expr.Op' op p left q right) ≡ used_names left ++ used_names right
 operation_names op p left q right = ap (flat_map typed_name) (operation_items op p left q right) ∙ flat_map-append typed_name (expression_items left) (expression_items right)
 

@@ -116,6 +116,7 @@ three_rows a b c rows h =
 abbrev pub RowsOf : Level → List Cond → Cond → List Cond → Type 0
 RowsOf head before c cs = (unknown c ≡ []) × (unbound head before c ≡ []) × (wrong_operands head before c ≡ []) × NoneApplies (rows_of_conditions head (before ++ c ∷ []) cs)
 
+-- where no row of conditions applies none of the first does, and none of the others
 pub rows_apart : (head : Level) (before : List Cond) (c : Cond) (cs : List Cond) → NoneApplies (rows_of_conditions head before (c ∷ cs)) → RowsOf head before c cs
 rows_apart head before c cs h =
     three_rows (record { code = 41; places = unknown c }) (record { code = 43; places = unbound head before c }) (record { code = 42; places = wrong_operands head before c })

@@ -22,24 +22,28 @@ use Rattle.lmn_base.specs.declared.level.Level.TheOpen.{Level-F}
 
 -- ---- the names of contexts, by their form, and of rule contexts; the numbers of rules
 
+-- the name of an untyped context, where the item is one
 abbrev pub bare_name : Item → List ℕ
 bare_name (item.Atom f p) = []
 bare_name (item.Context u) = cond (is_bare u.form) (u.name ∷ []) []
 bare_name (item.RuleContext u) = []
 bare_name (item.Rule k) = []
 
+-- the name of a typed context, where the item is one
 abbrev pub typed_name : Item → List ℕ
 typed_name (item.Atom f p) = []
 typed_name (item.Context u) = cond (is_bare u.form) [] (u.name ∷ [])
 typed_name (item.RuleContext u) = []
 typed_name (item.Rule k) = []
 
+-- the name of a rule context, where the item is one
 abbrev pub rule_context_name : Item → List ℕ
 rule_context_name (item.Atom f p) = []
 rule_context_name (item.Context u) = []
 rule_context_name (item.RuleContext u) = u.name ∷ []
 rule_context_name (item.Rule k) = []
 
+-- the number of a rule, where the item is one
 abbrev pub rule_number : Item → List ℕ
 rule_number (item.Atom f p) = []
 rule_number (item.Context u) = []
@@ -61,6 +65,7 @@ module _ (f : Item → List ℕ) where
       flat_map-append f (a ++ (b ++ (c ++ d))) rest
       ∙ ap (λ xs. xs ++ flat_map f rest) (flat_map-append f a (b ++ (c ++ d)) ∙ ap (λ xs. flat_map f a ++ xs) (flat_map-append f b (c ++ d) ∙ ap (λ xs. flat_map f b ++ xs) (flat_map-append f c d)))
 
+-- the untyped contexts among the items of a level
 pub bare_own : (ls : List Leaf) (cs os : List CtxUse) (rs : List ℕ) (rest : List Item)
     → flat_map bare_name ((map leaf_item ls ++ (map (used form.Bare) cs ++ (map item.RuleContext os ++ map item.Rule rs))) ++ rest) ≡ map (λ u. u.name) cs ++ flat_map bare_name rest
 bare_own ls cs os rs rest =
@@ -73,6 +78,7 @@ bare_own ls cs os rs rest =
     leaf_none (leaf.Atom f os p) = refl
     leaf_none (leaf.Typed n o p) = refl
 
+-- and its rule contexts
 pub rule_context_own : (ls : List Leaf) (cs os : List CtxUse) (rs : List ℕ) (rest : List Item)
     → flat_map rule_context_name ((map leaf_item ls ++ (map (used form.Bare) cs ++ (map item.RuleContext os ++ map item.Rule rs))) ++ rest) ≡ map (λ u. u.name) os ++ flat_map rule_context_name rest
 rule_context_own ls cs os rs rest =
@@ -85,6 +91,7 @@ rule_context_own ls cs os rs rest =
     leaf_none (leaf.Atom f os p) = refl
     leaf_none (leaf.Typed n o p) = refl
 
+-- and its typed contexts
 pub typed_own : (ls : List Leaf) (cs os : List CtxUse) (rs : List ℕ) (rest : List Item)
     → flat_map typed_name ((map leaf_item ls ++ (map (used form.Bare) cs ++ (map item.RuleContext os ++ map item.Rule rs))) ++ rest) ≡ flat_map typed_name (map leaf_item ls) ++ flat_map typed_name rest
 typed_own ls cs os rs rest =
@@ -93,6 +100,7 @@ typed_own ls cs os rs rest =
     ++ (none_of typed_name item.RuleContext (λ u. refl) os i ++ none_of typed_name item.Rule (λ k. refl) rs i))) ++ flat_map typed_name rest)
     ∙ ap (λ xs. xs ++ flat_map typed_name rest) (append-nil (flat_map typed_name (map leaf_item ls)))
 
+-- and its rules
 pub rule_own : (ls : List Leaf) (cs os : List CtxUse) (rs : List ℕ) (rest : List Item)
     → flat_map rule_number ((map leaf_item ls ++ (map (used form.Bare) cs ++ (map item.RuleContext os ++ map item.Rule rs))) ++ rest) ≡ rs ++ flat_map rule_number rest
 rule_own ls cs os rs rest =
@@ -138,6 +146,7 @@ module _ {X : Type 0} (own : List Leaf → List CtxUse → List CtxUse → List 
     all_gathered [] = refl
     all_gathered (l ∷ ls) = λ i. same_gathered l i ++ all_gathered ls i
 
+-- the second contexts of a level itself
 abbrev pub own_seconds : List Leaf → List CtxUse → List CtxUse → List ℕ → List (List Pos)
 own_seconds ls cs os rs = (behind_the_first cs ++ behind_the_first os) ∷ []
 
@@ -200,11 +209,14 @@ mutual
 pub rules_are : (l : Level) → rules_of l ≡ flat_map rule_number (head_uses (head_at l))
 rules_are l = same_gathered the_rules (λ l. l.rules) (λ l. refl) l ∙ sym (rules_used (head_at l))
 
+-- the contexts of a level are the untyped ones of its head
 pub contexts_are : (l : Level) → map (λ u. u.name) (contexts_of l) ≡ flat_map bare_name (head_uses (head_at l))
 contexts_are l = ap (map (λ u. u.name)) (same_gathered the_contexts (λ l. l.contexts) (λ l. refl) l) ∙ sym (bare_used (head_at l))
 
+-- and so are its rule contexts
 pub rule_contexts_are : (l : Level) → map (λ u. u.name) (rule_contexts_of l) ≡ flat_map rule_context_name (head_uses (head_at l))
 rule_contexts_are l = ap (map (λ u. u.name)) (same_gathered the_rule_contexts (λ l. l.rule_contexts) (λ l. refl) l) ∙ sym (rule_contexts_used (head_at l))
 
+-- and its typed contexts
 pub typed_are : (l : Level) → flat_map leaf_name (base.leaves_of l) ≡ flat_map typed_name (head_uses (head_at l))
 typed_are l = ap (flat_map leaf_name) (same_leaves l) ∙ sym (typed_used (head_at l))

@@ -19,15 +19,18 @@ module _ {A : Type 0} (P : A → Type 0) where
   each_so [] h = tt
   each_so (x ∷ xs) h = (h x (0, omega arith, refl), each_so xs (λ y c. h y (suc c.0, (let w = c.1 in omega (arith, w)), c.2)))
 
+-- what holds of all holds by a wider word
 pub all_so : {A : Type 0} {P Q : A → Type 0} → ((x : A) → P x → Q x) → (xs : List A) → AllByRecursion P xs → AllByRecursion Q xs
 all_so f [] h = tt
 all_so f (x ∷ xs) h = (f x h.0, all_so f xs h.1)
 
 -- ---- how often
 
+-- a number stands once more where it stands in front
 pub how_often_here : (n : ℕ) (xs : List ℕ) → how_often n (n ∷ xs) ≡ suc (how_often n xs)
 how_often_here n xs = rw (eq-eqb n n refl) refl
 
+-- a number stands in a longer list as often, or more often
 pub how_often_later : (n x : ℕ) (xs : List ℕ) → how_often n xs ≤ how_often n (x ∷ xs)
 how_often_later n x xs = by (x == n)
   where
@@ -35,6 +38,7 @@ how_often_later n x xs = by (x == n)
     by true = omega arith
     by false = omega arith
 
+-- what stands in a list of one is that one
 pub alone : (n x : ℕ) → 1 ≤ how_often n (x ∷ []) → x ≡ n
 alone n x h = by (x == n) refl h
   where

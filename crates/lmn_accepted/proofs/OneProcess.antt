@@ -33,6 +33,7 @@ plains_are_one words places tree names others p q h g n m =
       processes = ap level_process tops;
     }
 
+-- a text that is read with the numbers of two lists is one process
 pub one_process : OneProcess
 one_process text names others p q h g n m =
     let same = one_reading text h.tokens g.tokens h.tree g.tree h.reads g.reads in
@@ -40,6 +41,7 @@ one_process text names others p q h g n m =
     let Q : Clauses → Type 0 = λ t. IsPlain text g.tokens t names p in
     plains_are_one (words_of text g.tokens) (map (λ (t : Token). t.pos) g.tokens) g.tree names others p q (subst Q same.1 (subst P same.0 h.is_plain)) g.is_plain n m
 
+-- and so is one that is read twice
 pub one_process_of_readings : OneProcessOfReadings
 one_process_of_readings text before names once others p q is left are gone h g =
     one_process text names others p q h g (plains_are_named text before names p is left h) (plains_are_named text once others q are gone g)

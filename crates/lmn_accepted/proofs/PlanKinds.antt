@@ -155,6 +155,7 @@ all_times (n ∷ ns) = (
   all_so (λ m h. let l = how_often_later m n ns in omega (arith, h, l)) ns (all_times ns),
 )
 
+-- what holds of all holds of one
 pub at_index : {A : Type 0} (P : A → Type 0) (xs : List A) (i : ℕ) (x : A) → AllByRecursion P xs → slice_get xs i ≡ Some x → P x
 at_index P [] zero x h e = absurd (cc)
 at_index P [] (suc i) x h e = absurd (cc)

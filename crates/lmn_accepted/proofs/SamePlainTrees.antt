@@ -24,6 +24,7 @@ use Rattle.lmn_accepted.proofs.SameTrees.{level_same}
 use Rattle.lmn_accepted.proofs.SameGuards.{guard_same}
 use Rattle.lmn_base.proofs.Lists.{all_left as all_front, all_right as all_back}
 
+-- two lists that are related to one are as long
 pub same_counts : {A B C : Type 0} (R : A → B → Type 0) (S : A → C → Type 0) (xs : List A) (ys : List B) (zs : List C) → EachPair R xs ys → EachPair S xs zs → length ys ≡ length zs
 same_counts R S [] [] [] h g = refl
 same_counts R S [] [] (z ∷ zs) h g = absurd g

@@ -66,6 +66,7 @@ expression_typed (expr.Op' op a l b r) =
     let P : List Item → Type 0 = AllTyped in
     subst P (sym (operation_items op a l b r)) (all_append (λ x. (u : CtxUse) × (x ≡ used form.Typed u)) (expression_items l) (expression_items r) (expression_typed l) (expression_typed r))
 
+-- each use in a condition is a typed one
 pub condition_typed : (c : Cond) → AllTyped (condition_items c)
 condition_typed (Kind n args pos) = args_typed args
 condition_typed (Compare op l r pos) = all_append (λ x. (u : CtxUse) × (x ≡ used form.Typed u)) (expression_items l) (expression_items r) (expression_typed l) (expression_typed r)

@@ -37,6 +37,7 @@ one_atom_ground a x = record {
     at_it at_head = (x, at_head, the_root)
     at_it (further k) = elim k [ ]
 
+-- what is an integer is ground
 pub integer_ground : (n : ℤ) (g : Rooted) → IsInteger n g → IsGround g
 integer_ground n g (an_integer {x = x}) = one_atom_ground (integer n) x
 
@@ -64,10 +65,12 @@ type_ground heads t a by_equality (alike h h' g g' s) = g
 type_ground heads t a by_difference_left (unlike h h' g g' s) = g
 type_ground heads t a by_difference_right (unlike h h' g g' s) = g'
 
+-- where a guard holds each of its conditions does
 pub condition_there : (heads : List Name) (t : Assignment) {c : Condition} {cs : List Condition} → Among c cs → GuardHolds heads t cs → Holds heads t c
 condition_there heads t at_head (condition_and h k) = h
 condition_there heads t (further a) (condition_and h k) = condition_there heads t a k
 
+-- where the guard of an accepted rule holds each typed context of its head stands for a ground part
 pub typed_ground : {r : Rule} → Accepted r → (t : Assignment) → GuardHolds (typed_contexts (head_of r)) t (guard_of r) → (p : Name) → Among p (typed_contexts (head_of r)) → IsGround (t.typed_of p)
 typed_ground {r} a t g p k = let c = a.typed p k in type_ground (typed_contexts (head_of r)) t k c.2 (condition_there (typed_contexts (head_of r)) t c.1 g)
 
@@ -88,6 +91,7 @@ mutual
   head_levels t no_level n g = tt
   head_levels t (level_and l ls) n g = (head_level t l n.0 (λ p a. g p (among_left (typed_contexts_in ls) a)), head_levels t ls n.1 (λ p a. g p (among_right (typed_contexts l) a)))
 
+-- an accepted rule has a head that is allowed
 pub accepted_head : (r : Rule) → Accepted r → HeadAllowed r
 accepted_head r a t g = head_level t (head_of r) a.no_connectors (λ p k. typed_ground a t g p k)
 
@@ -97,6 +101,7 @@ bare_level (level leaves membranes contexts rule_contexts rules) c d e = cc (c, 
 first_rules : (l : Level) → EachLevel (λ l. own_rules l ≡ no_rule) l → own_rules l ≡ no_rule
 first_rules (level leaves membranes contexts rule_contexts rules) e = e.0
 
+-- an accepted rule has no context and no rule at the top of its head
 pub accepted_bare : (r : Rule) → Accepted r → Bare r
 accepted_bare r a = record {
   leaves = own_leaves (head_of r);

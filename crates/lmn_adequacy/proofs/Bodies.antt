@@ -31,9 +31,11 @@ pub record Copied (from next L n m : ℕ) : Type 0 where
   pub is : m ≡ n + copies
   pub whole : (copies ≡ 0) ⊎ ((copies ≡ 2) × (from ≤ L) × (L < next))
 
+-- what has no places in copies has those of the contexts alone
 pub copied_none : (from next L n m : ℕ) → m ≡ n → Copied from next L n m
 copied_none from next L n m e = record { copies = 0; is = omega (arith, e); whole = inl refl }
 
+-- copies beside each other, with numbers one behind the other, are copies
 pub copied_more : (from middle next L n n' m m' : ℕ) → from ≤ middle → middle ≤ next → Copied from middle L n m → Copied middle next L n' m' → Copied from next L (n + n') (m + m')
 copied_more from middle next L n n' m m' b b' c d = record { copies = c.copies + d.copies; is = omega (arith, c.is, d.is); whole = go c.whole d.whole }
   where

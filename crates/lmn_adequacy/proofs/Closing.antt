@@ -118,9 +118,11 @@ left_side heads t (equates p e ∷ cs) (further a) (condition_and h g) = left_si
 left_side heads t (differs p q ∷ cs) a (condition_and h g) = left_side heads t cs a g
 left_side heads t (unknown n ps ∷ cs) a (condition_and h g) = left_side heads t cs a g
 
+-- where the guard holds and what the typed contexts of the head stand for is whole, so is what those of the body stand for
 pub body_whole : {r : Rule} → Accepted r → (t : Assignment) → GuardHolds (typed_contexts (head_of r)) t (guard_of r) → ((q : Name) → Among q (typed_contexts (head_of r)) → Whole (t.typed_of q)) → (q : Name) → Among q (typed_contexts (body_of r)) → Whole (t.typed_of q)
 body_whole {r} a t g w q k = either (a.known q k) (w q) (λ b. either (left_side (typed_contexts (head_of r)) t (guard_of r) b g) (w q) (λ i. integer_whole i.0 (t.typed_of q) i.1))
 
+-- where the guard of an accepted rule holds each typed context of its body stands for a ground part
 pub body_ground : {r : Rule} → Accepted r → (t : Assignment) → GuardHolds (typed_contexts (head_of r)) t (guard_of r) → (q : Name) → Among q (typed_contexts (body_of r)) → IsGround (t.typed_of q)
 body_ground {r} a t g q k =
     either (a.known q k) (typed_ground a t g q) (λ b. either (left_side (typed_contexts (head_of r)) t (guard_of r) b g) (typed_ground a t g q) (λ i. integer_ground i.0 (t.typed_of q) i.1))

@@ -64,6 +64,7 @@ fired t p r leaves membranes bare guard {rs' = rs'} (level_images {xs = xs} {xs'
       order = λ v j. order_here t p r leaves membranes bare guard S ys ns rs rs' u stands l (link_bound O) B bound bounded v j;
     }
 
+-- a process in which each link occurs as often as in a closed one is closed
 pub closed_as : (P Q : Process) → ((z : ℕ) → occurrences z P ≡ occurrences z Q) → Closed P → Closed Q
 closed_as P Q h c = λ z. subst (λ k. (k ≡ 0) ⊎ (k ≡ 2)) (h z) (c z)
 
@@ -103,6 +104,7 @@ raw_made (raw_below {m = m} {xs = xs} {ms = ms} {ms' = ms'} {rs = rs} {P = P} k 
 
 -- ---- the law of firing
 
+-- a closed process is closed beside nothing
 pub beside_nothing : (P : Process) → Closed P → Closed (pair P nothing)
 beside_nothing P c = closed_as P (pair P nothing) (λ z. omega arith) c
 

@@ -47,6 +47,7 @@ atoms_listed : (f : ℕ → ℕ) (xs : List SolidAtom) → map leaf_process (par
 atoms_listed f [] = refl
 atoms_listed f (x ∷ xs) = ap (λ k. atom x.label (map f x.links) ∷ k) (atoms_listed f xs)
 
+-- a link occurs in the atoms of a part as often as it has places in them
 pub made_places : (z : ℕ) (xs : List SolidAtom) → occurrences z (together (map leaf_process (part_leaves xs))) ≡ places z (links_at xs)
 made_places z [] = refl
 made_places z (x ∷ xs) = omega (arith, made_places z xs, at_cons z x xs)

@@ -42,9 +42,11 @@ use Rattle.lmn_base.proofs.Lists.{map_twice}
 fused_atoms : (v f : ℕ → ℕ) (P : Process) → OnlyAtoms P → fused v (renamed f P) ≡ renamed (λ z. v (f z)) P
 fused_atoms v f P o = fused_renamed v f P ∙ fused_is_renamed (λ z. v (f z)) P (atoms_plain P o)
 
+-- an atom of a part with its links renamed, as one of the solid
 abbrev pub part_atom : (ℕ → ℕ) → Label × List ℕ → SolidAtom
 part_atom f a = record { label = a.0; links = map f a.1 }
 
+-- the pieces of a renamed process of atoms are its atoms renamed
 pub part_pieces : (f : ℕ → ℕ) (P : Process) → OnlyAtoms P → pieces (renamed f P) ≡ map atom_process (map (part_atom f) (atoms_at_top P))
 part_pieces f nothing o = absurd o
 part_pieces f (connector x y) o = absurd o
@@ -66,6 +68,7 @@ part_order f P part o s =
     twice [] = refl
     twice (x ∷ xs) = ap (λ k. atom_process (part_atom f x) ∷ k) (twice xs)
 
+-- atoms match themselves renamed
 pub part_shuffled : (f : ℕ → ℕ) (xs : List (Label × List ℕ)) → Shuffle (λ a b. part_atom f a ≡ b) xs (map (part_atom f) xs)
 part_shuffled f [] = none
 part_shuffled f (x ∷ xs) = more refl (part_shuffled f xs) here
@@ -149,10 +152,12 @@ module _ (t : Assignment) (v : ℕ → ℕ) where
 
 -- ---- beside the ports of the head a link of the rule stands an even number of times
 
+-- a number is another and twice some number more
 pub record EvenMore (m n : ℕ) : Type 0 where
   pub half : ℕ
   pub is : m ≡ n + (half + half)
 
+-- a number up to two that is not one is even
 pub not_one_even : (n : ℕ) → n ≢ 1 → n ≤ 2 → (k : ℕ) × (n ≡ k + k)
 not_one_even zero d b = (0, refl)
 not_one_even (suc zero) d b = absurd (d refl)
@@ -461,6 +466,7 @@ redex_rule v r A P xs ms rs d =
 in_itself : {k : ℕ} {r : Rule} {f : List ℕ} {xs : List SolidAtom} {ms : Regions} {rs rs' : List Rule} → Taken k r rs rs' → EmbedsAt r f (region xs ms rs) → HasEmbedding (region xs ms rs)
 in_itself k e = record { path = []; number = _; positions = _; embeds = embeds_here k e }
 
+-- where a rule embeds in a membrane of a region it embeds in the region
 pub in_a_membrane : {n : ℕ} {m : Region} {xs : List SolidAtom} {ms ms' : Regions} {rs : List Rule} → TakenRegion n m ms ms' → HasEmbedding m → HasEmbedding (region xs ms rs)
 in_a_membrane k e = record { path = _; number = e.number; positions = e.positions; embeds = embeds_below k e.embeds }
 

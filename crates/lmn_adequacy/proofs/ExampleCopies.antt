@@ -53,6 +53,7 @@ listed_two = reaches_new refl at_head (reaches_listed refl (reaches_listed refl 
 listed_four : DepthFirst 4 (solid_atom_with label_b (4 ∷ 8 ∷ 8 ∷ []) ∷ [])
 listed_four = reaches_new refl at_head (reaches_listed refl (reaches_listed refl (reaches_listed refl reaches_none))) reaches_none
 
+-- in the example each copy has links of its own
 pub part_is_copied : CopiesStandAsWritten
 unfolding lies
 part_is_copied = record {

@@ -120,5 +120,6 @@ add_accepted = record {
     held_by : (letter_x : ℕ) → Among letter_x (0 ∷ 1 ∷ []) → Among letter_x (0 ∷ 1 ∷ [])
     held_by letter_x k = k
 
+-- the rules of the example are accepted
 pub these_are_accepted : TheseAreAccepted
 these_are_accepted = (add_accepted, double_accepted, open_accepted)

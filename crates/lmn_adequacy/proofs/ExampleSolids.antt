@@ -25,6 +25,7 @@ use Rattle.lmn_adequacy.proofs.Orders.{r_both}
 one_port : Name → Rooted
 one_port p = record { process = atom label_a (0 ∷ []); root = 0 }
 
+-- the list of the example is listed depth first
 pub list_depth_first : ListDepthFirst
 list_depth_first =
     reaches_new refl (further (further at_head))
@@ -51,6 +52,7 @@ joined_closed : Closed (level_process joined_raw)
 unfolding joined_raw
 joined_closed = closed_by (level_process joined_raw) refl
 
+-- the two ends of a link may be joined to one atom
 pub link_meets_itself : EndsMeetInOneAtom
 unfolding joined one_port joined_raw
 link_meets_itself =
@@ -97,6 +99,7 @@ past_both x h = omega (arith, none_if_apart x 0 (apart x 0 (omega (arith, h))), 
     apart : (x y : ℕ) → suc y ≤ x → x ≢ y
     apart x y h = grind arith
 
+-- a connector and a link that are a loop leave nothing
 pub loop_vanishes : NextHasNoLoop
 unfolding joined one_port tied_raw
 loop_vanishes =
@@ -138,6 +141,7 @@ opened_raw =
     raw_level (region (solid_atom_with label_c [] ∷ []) (region_and (region [] no_region []) no_region) (open_membrane ∷ [])) [] (atom_leaf label_a [] ∷ atom_leaf label_b [] ∷ atom_leaf label_c [] ∷ [])
     (kept_level (region (solid_atom_with label_b [] ∷ []) no_region []) ∷ []) []
 
+-- a context leaves its membrane, its items behind those that stay and those that are written
 pub membrane_opens : MembraneOpens
 unfolding opened one_port opened_raw
 membrane_opens =
@@ -211,6 +215,7 @@ no_images : (t : Assignment) {f : List ℕ} {rest : Region} → LevelImages t (h
 no_images t (level_images no_image no_part (membrane_image_and region_first (level_images (image_and k i) j q) keeps o p)) = not_once t (first_link t k) keeps
 no_images t (level_images no_image no_part (membrane_image_and (region_later k) i keeps o p)) = elim k [ ]
 
+-- a link that stays inside a membrane doesn't match two that leave it
 pub inner_link_does_not_embed : InnerLinkDoesNotEmbed
 inner_link_does_not_embed e = go e.embeds
   where

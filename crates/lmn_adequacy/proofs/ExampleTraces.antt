@@ -113,6 +113,7 @@ nothing_grows e = go e.embeds
     go (embeds_here (taken_later k) e) = elim k [ ]
     go (embeds_below k i) = elim k [ ]
 
+-- the traces of the example end so
 pub traces_end : TracesEnd
 traces_end = (
   (turned loaded (omega arith) one_turn (omega arith), too_many (omega arith) next_turn (omega arith)),

@@ -44,11 +44,13 @@ mutual
   levels_bound (level_and l ls) =
       let u = level_bound l in let w = levels_bound ls in (u.0 + w.0, λ x b. omega (arith, u.1 x (omega (arith, b)), w.1 x (omega (arith, b))))
 
+-- what the rule makes at an embedding, closed with what stands beside it
 pub record Fired (r : Rule) (f : List ℕ) (m : Region) (O : Process) : Type 0 where
   pub raw : Level
   pub fires : FiresInOrder r f m raw
   pub closed : Closed (pair (level_process raw) (renamed of_solid O))
 
+-- an accepted rule fires at each embedding
 pub embedding_fires : {r : Rule} {f : List ℕ} {m : Region} → Accepted r → EmbedsInOrder r f m → (O : Process) → Closed (pair (region_process m) O) → Fired r f m O
 embedding_fires {r} {f} {m} a e O closed =
     let c = e.contents in
@@ -78,6 +80,7 @@ embedding_fires {r} {f} {m} a e O closed =
       closed = closed_as (pair (pair B.process (pair (head_wires t (head_of r) n.0) (renamed of_solid (region_process e.rest)))) (renamed of_solid O)) (pair (level_process (raw_level e.rest W v.outs v.membranes v.rule_list)) (renamed of_solid O)) (λ z. omega (arith, reordered_count o z)) k;
     }
 
+-- the same in a membrane of a region
 pub record RawClosed (path : List ℕ) (k : ℕ) (f : List ℕ) (S : Region) (O : Process) : Type 0 where
   pub raw : Level
   pub fires : RawAt path k f S raw
@@ -90,6 +93,7 @@ below_order {n = n} {ms = ms} {ms' = ms'} xs rs L k =
     r_chain (r_same (level_listed (kept_atoms xs) (replaced n L (kept_membranes ms)) rs))
     (r_chain (r_right (r_chain (r_beside (r_back (put_together (replaced_put L k)))) (r_back r_regroup))) (r_chain r_over (r_right (r_same (kept_listed xs ms' rs)))))
 
+-- wherever an accepted rule embeds it fires, and leaves a raw level that is closed with what stands beside it
 pub embeds_raw : {path : List ℕ} {k : ℕ} {f : List ℕ} {S : Region} → EmbedsIn path k f S → AllRules Accepted S → (O : Process) → Closed (pair (region_process S) O) → RawClosed path k f S O
 embeds_raw (embeds_here k e) h O c =
     let a = rule_there Accepted h.0 (taken_put k) in

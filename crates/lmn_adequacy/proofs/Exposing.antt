@@ -76,9 +76,11 @@ module _ (H : Process) (w : ℕ → ℕ) (K : ℕ) where
 
 -- ---- the exposed process
 
+-- a map that leaves each link of a process without connectors leaves the process
 pub fused_stays : (v : ℕ → ℕ) (P : Process) → NoConnector P → ((x : ℕ) → Occurs x P → v x ≡ x) → fused v P ≡ P
 fused_stays v P n h = fused_is_renamed v P n ∙ renamed_agree v (λ x. x) P h ∙ renamed_id P
 
+-- and its crossings
 pub ends_stay : (v : ℕ → ℕ) (P : Process) → NoConnector P → ((x : ℕ) → Occurs x P → v x ≡ x) → SameCrossings v P
 ends_stay v nothing n h = tt
 ends_stay v (connector x y) n h = tt
@@ -222,6 +224,7 @@ pub data Source (w : ℕ → ℕ) (P : Process) (z : ℕ) : Type 0 where
   found : (x : ℕ) → Occurs x P → w x ≡ z → Source w P z
   missing : ((x : ℕ) → Occurs x P → w x ≢ z) → Source w P z
 
+-- a link below n with a given image, or none
 pub data SourceBelow (w : ℕ → ℕ) (P : Process) (z n : ℕ) : Type 0 where
   found_below : (x : ℕ) → Occurs x P → w x ≡ z → SourceBelow w P z n
   missing_below : ((x : ℕ) → x < n → Occurs x P → w x ≢ z) → SourceBelow w P z n
@@ -249,6 +252,7 @@ search_source w P z (suc n) = go (search_source w P z n) (same_or_not (occurrenc
     go (missing_below h) (inr a) (inl b) = found_below n a b
     go (missing_below h) (inr a) (inr b) = missing_below (skip h (λ o. b))
 
+-- each link is the image of one that occurs, or of none
 pub source : (w : ℕ → ℕ) (P : Process) (z : ℕ) → Source w P z
 source w P z = go (search_source w P z (link_bound P))
   where
@@ -259,6 +263,7 @@ source w P z = go (search_source w P z (link_bound P))
 not_occurring : (P : Process) (y : ℕ) → occurrences y P ≡ 0 → one_if_free P y ≡ 0
 not_occurring P y e = ap one_if_once e
 
+-- where each link keeps its occurrences the free links are as many
 pub free_number_kept : (w : ℕ → ℕ) (P : Process) → KeepsCounts w P → free_number (renamed w P) ≡ free_number P
 free_number_kept w P k =
     let n = link_bound P in

@@ -64,12 +64,14 @@ add_differs K x y e = omega (arith, e)
 abbrev pub raw_link : ℕ → ℕ → ℕ
 raw_link K z = cond (ltb z K) (of_solid z) (z - K)
 
+-- a new link is told from its number above the bound
 pub raw_new : (K x : ℕ) → raw_link K (x + K) ≡ x
 raw_new K x = go (x + K) (of_solid (x + K)) (x + K - K) (omega arith) ∙ omega arith
   where
     go : (z m n : ℕ) → K ≤ z → cond (ltb z K) m n ≡ n
     go z m n b = grind arith
 
+-- and one below the bound is of the solid
 pub raw_low : (K z : ℕ) → z < K → raw_link K z ≡ of_solid z
 raw_low K z b = go (of_solid z) (z - K) b
   where

@@ -36,10 +36,12 @@ pub record Bare (r : Rule) : Type 0 where
 
 -- ---- the rules of a region
 
+-- what holds of each rule holds of one that stands among them
 pub rule_there : (H : Rule → Type 0) {r : Rule} {rest rs : List Rule} → EachRule H rs → Put r rest rs → H r
 rule_there H e here = e.0
 rule_there H e (there p) = rule_there H e.1 p
 
+-- what holds of the rules in some membranes holds of those in each of them
 pub region_there : (H : Rule → Type 0) {n : ℕ} {m : Region} {ms rest : Regions} → AllRulesIn H ms → TakenRegion n m ms rest → AllRules H m
 region_there H e region_first = e.0
 region_there H e (region_later k) = region_there H e.1 k

@@ -18,6 +18,7 @@ pub places_least : (f : ℕ → ℕ) (x : ℕ) (ys : List ℕ) → places x ys �
 places_least f x [] = omega arith
 places_least f x (y ∷ ys) = omega (arith, one_least f x y, places_least f x ys)
 
+-- the image of a link occurs at least as often as the link
 pub image_at_least : (f : ℕ → ℕ) (x : ℕ) (P : Process) → occurrences x P ≤ occurrences (f x) (renamed f P)
 image_at_least f x nothing = omega arith
 image_at_least f x (connector y z) = omega (arith, one_least f x y, one_least f x z)
@@ -28,6 +29,7 @@ image_at_least f x (rule r) = omega arith
 
 -- ---- one renaming after another
 
+-- renamed twice is renamed by both maps
 pub renamed_renamed : (f g : ℕ → ℕ) (P : Process) → renamed f (renamed g P) ≡ renamed (λ x. f (g x)) P
 renamed_renamed f g nothing = refl
 renamed_renamed f g (connector x y) = refl
@@ -36,6 +38,7 @@ renamed_renamed f g (pair P Q) = cc (renamed_renamed f g P, renamed_renamed f g 
 renamed_renamed f g (membrane P) = cc (renamed_renamed f g P)
 renamed_renamed f g (rule r) = refl
 
+-- to rename and then to fuse is to fuse by both maps
 pub fused_renamed : (v f : ℕ → ℕ) (P : Process) → fused v (renamed f P) ≡ fused (λ x. v (f x)) P
 fused_renamed v f nothing = refl
 fused_renamed v f (connector x y) = refl
@@ -44,6 +47,7 @@ fused_renamed v f (pair P Q) = cc (fused_renamed v f P, fused_renamed v f Q)
 fused_renamed v f (membrane P) = cc (fused_renamed v f P)
 fused_renamed v f (rule r) = refl
 
+-- renaming brings in no connector
 pub no_connector_renamed : (f : ℕ → ℕ) (P : Process) → NoConnector P → NoConnector (renamed f P)
 no_connector_renamed f nothing n = tt
 no_connector_renamed f (connector x y) n = n
@@ -52,6 +56,7 @@ no_connector_renamed f (pair P Q) n = (no_connector_renamed f P n.0, no_connecto
 no_connector_renamed f (membrane P) n = no_connector_renamed f P n
 no_connector_renamed f (rule r) n = tt
 
+-- a map joins the connectors of a renamed process where it joined them before
 pub joins_renamed : (v w f : ℕ → ℕ) → ((x : ℕ) → w (f x) ≡ v x) → (P : Process) → Joins v P → Joins w (renamed f P)
 joins_renamed v w f e nothing j = tt
 joins_renamed v w f e (connector x y) j = e x ∙ j ∙ sym (e y)
@@ -60,6 +65,7 @@ joins_renamed v w f e (pair P Q) j = (joins_renamed v w f e P j.0, joins_renamed
 joins_renamed v w f e (membrane P) j = joins_renamed v w f e P j
 joins_renamed v w f e (rule r) j = tt
 
+-- what is reordered is so when it is fused
 pub reordered_fused : (v : ℕ → ℕ) {P Q : Process} → Reordered P Q → Reordered (fused v P) (fused v Q)
 reordered_fused v r_unit = r_unit
 reordered_fused v r_swap = r_swap
@@ -72,18 +78,22 @@ reordered_fused v (r_chain d e) = r_chain (reordered_fused v d) (reordered_fused
 
 -- ---- links that aren't there
 
+-- what rule contexts stand for has no links
 pub no_link_rule_contexts : (t : Assignment) (z : ℕ) (qs : List Name) → occurrences z (together (rules_of_contexts t qs)) ≡ 0
 no_link_rule_contexts t z [] = refl
 no_link_rule_contexts t z (q ∷ qs) = omega (arith, no_link_rules z (t.rules_of q), no_link_rule_contexts t z qs)
 
+-- what is at least one is not zero
 pub positive : (n : ℕ) → 1 ≤ n → n ≢ 0
 positive n b = grind arith
 
+-- what is one is neither zero nor two
 pub not_one : (n : ℕ) → n ≡ 1 → ¬ ((n ≡ 0) ⊎ (n ≡ 2))
 not_one n e s = grind arith
 
 -- ---- processes of atoms
 
+-- atoms alone have no connector
 pub atoms_plain : (P : Process) → OnlyAtoms P → NoConnector P
 atoms_plain nothing o = tt
 atoms_plain (connector x y) o = o

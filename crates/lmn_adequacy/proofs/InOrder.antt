@@ -27,9 +27,11 @@ use Rattle.lmn_reduction.proofs.Derivations.{alone as r_alone}
 
 -- ---- processes of levels in lists
 
+-- a level as a membrane
 abbrev pub held : Level → Process
 held l = membrane (level_process l)
 
+-- the processes of some levels, each in its membrane
 pub levels_listed : (ls : List Level) → levels_processes (levels ls) ≡ map held ls
 levels_listed [] = refl
 levels_listed (l ∷ ls) = ap (λ k. held l ∷ k) (levels_listed ls)
@@ -38,13 +40,16 @@ levels_listed (l ∷ ls) = ap (λ k. held l ∷ k) (levels_listed ls)
 abbrev pub listed : List Leaf → List Level → List Rule → Process
 listed leaves ms rs = pair (together (map leaf_process leaves)) (pair (together (map held ms)) (together (map rule rs)))
 
+-- a level of lists has the process of these lists
 pub level_listed : (leaves : List Leaf) (ms : List Level) (rs : List Rule) → level_process (level leaves (levels ms) [] [] (listed_rules rs)) ≡ listed leaves ms rs
 level_listed leaves ms rs = cc (levels_listed ms, rules_listed rs)
 
+-- what two lists give is what both give side by side, up to grouping
 pub together_both : {A : Type 0} (g : A → Process) (xs ys : List A) → Reordered (together (map g (xs ++ ys))) (pair (together (map g xs)) (together (map g ys)))
 together_both g [] ys = r_back r_unit
 together_both g (x ∷ xs) ys = r_chain (r_right (together_both g xs ys)) r_regroup
 
+-- the process of lists joined is that of both side by side, up to order
 pub listed_both : (ls ls' : List Leaf) (ms ms' : List Level) (rs rs' : List Rule) → Reordered (listed (ls ++ ls') (ms ++ ms') (rs ++ rs')) (pair (listed ls ms rs) (listed ls' ms' rs'))
 listed_both ls ls' ms ms' rs rs' =
     r_chain (r_both (together_both leaf_process ls ls') (r_chain (r_both (together_both held ms ms') (together_both rule rs rs')) r_exchange)) r_exchange
@@ -70,6 +75,7 @@ mutual
   kept_membranes_process no_region = refl
   kept_membranes_process (region_and m ms) = cc (kept_level_process m, kept_membranes_process ms)
 
+-- what stays of a region is the process of the region, with the links of the solid
 pub kept_listed : (xs : List SolidAtom) (ms : Regions) (rs : List Rule) → listed (kept_atoms xs) (kept_membranes ms) rs ≡ renamed of_solid (region_process (region xs ms rs))
 kept_listed xs ms rs = kept_listed_from xs ms rs (kept_membranes_process ms)
 
@@ -186,6 +192,7 @@ membranes_no_rule : (ms : Regions) → NoRuleAtTop (together (regions_processes 
 membranes_no_rule no_region = tt
 membranes_no_rule (region_and m ms) = (tt, membranes_no_rule ms)
 
+-- contents whose roots are free are a plain assignment
 pub contents_plain : (c : Contents) → ((p : Name) → Free (c.typed_of p).root (c.typed_of p).process) → Plain (assignment_of c)
 contents_plain c f = record {
   no_connector = λ p. region_plain (region (c.atoms_of p) (c.membranes_of p) []);
@@ -193,14 +200,17 @@ contents_plain c f = record {
   root_is_free = f;
 }
 
+-- an embedding in order is one
 abbrev pub embeds_at : {r : Rule} {f : List ℕ} {m : Region} → EmbedsInOrder r f m → EmbedsAt r f m
 embeds_at e = record { assignment = assignment_of e.contents; rest = e.rest; plain = contents_plain e.contents e.root_is_free; images = e.images; guard = e.guard }
 
+-- a level has the raw process of a firing, up to order
 pub record RawProcess (S : Region) (L : Level) : Type 0 where
   pub process : Process
   pub raw : Raw S process
   pub order : Reordered (level_process L) process
 
+-- a region with what the body makes beside it is what the firing leaves, up to order
 pub raw_joined : (t : Assignment) (l : Level) (n : ℕ) (B : Process) (rest : Region) (outs : List Leaf) (made_ms : List Level) (rs : List Rule) → Reordered (listed outs made_ms rs) B
     → Reordered (level_process (raw_level rest (wire_leaves t.link_of l n) outs made_ms rs)) (pair B (pair (head_wires t l n) (renamed of_solid (region_process rest))))
 raw_joined t l n B (region xs ms rs') outs made_ms rs o =
@@ -211,10 +221,12 @@ raw_joined t l n B (region xs ms rs') outs made_ms rs o =
     (r_chain (listed_both (kept_atoms xs) (W ++ outs) (kept_membranes ms) made_ms rs' rs)
     (r_chain (r_both (r_same (kept_listed xs ms rs')) d) (r_chain r_swap (r_chain (r_beside r_swap) (r_back r_regroup)))))
 
+-- a level put in the place of a membrane stands among the membranes that are kept
 pub replaced_put : {n : ℕ} {m : Region} {ms ms' : Regions} (L : Level) → TakenRegion n m ms ms' → Put (held L) (map held (kept_membranes ms')) (map held (replaced n L (kept_membranes ms)))
 replaced_put L region_first = here
 replaced_put L (region_later k) = there (replaced_put L k)
 
+-- the level that a firing leaves is one of its raw processes
 pub raw_process : {path : List ℕ} {k : ℕ} {f : List ℕ} {S : Region} {L : Level} → RawAt path k f S L → RawProcess S L
 raw_process (fires_here {r = r} {f = f} {xs = xs} {ms = ms} {rs = rs} {L = L} stands F) =
     let c = F.at.contents in
@@ -249,6 +261,7 @@ joins_reordered v (r_same e) = (subst (Joins v) e, subst (Joins v) (sym e))
 joins_reordered v (r_back d) = let i = joins_reordered v d in (i.1, i.0)
 joins_reordered v (r_chain d e) = let i = joins_reordered v d in let k = joins_reordered v e in ((λ j. k.0 (i.0 j)), (λ j. i.1 (k.1 j)))
 
+-- a next solid in order is one up to order
 pub next_up_to_order : {path : List ℕ} {k : ℕ} {f : List ℕ} {S S' : Region} → NextAt path k f S S' → NextUpToOrder S S'
 next_up_to_order {S' = S'} n =
     let u = raw_process n.fires in

@@ -141,11 +141,13 @@ reach (suc n) ys seen G l e w = reach_step (suc n) (λ ys' seen' G' b e' w'. rea
 
 -- ---- a ground process
 
+-- the atoms of a process, renamed, listed depth first from a link
 pub record Listed (g : Rooted) (f : ℕ → ℕ) (x : ℕ) : Type 0 where
   pub part : List SolidAtom
   pub atoms : Shuffle (λ a b. part_atom f a ≡ b) (atoms_at_top g.process) part
   pub order : DepthFirst x part
 
+-- each ground part can be listed so
 pub listing : (g : Rooted) → IsGround g → Whole g → (f : ℕ → ℕ) → OneToOneOn f g.process → (x : ℕ) → f g.root ≡ x → Listed g f x
 listing g ground whole f one x root = record { part = u.listed; atoms = shuffle_chain (λ a b c p q. p ∙ q) i.atoms u.listed (same_back (subst (λ k. SameAtoms k G) (ap (λ k. u.listed ++ k) none_over ∙ append-nil u.listed) u.same)); order = u.reaches }
   where

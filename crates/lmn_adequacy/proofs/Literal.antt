@@ -151,9 +151,11 @@ module _ (t : Assignment) (plain : Plain t) where
 
 -- ---- images with literal contents
 
+-- an assignment whose contexts stand for these lists
 abbrev pub contents_with : Assignment → (Name → List SolidAtom) → (Name → Regions) → (Name → List Rule) → Contents
 contents_with t A M R = record { link_of = t.link_of; atoms_of = A; membranes_of = M; rules_of = R; typed_of = t.typed_of }
 
+-- and read as an assignment again
 abbrev pub read_as : Assignment → (Name → List SolidAtom) → (Name → Regions) → (Name → List Rule) → Assignment
 read_as t A M R = assignment_of (contents_with t A M R)
 
@@ -270,6 +272,7 @@ inner_rules (level leaves membranes contexts rule_contexts rules) e = e.1
 inner_once : (l : Level) → EachOnce (all_contexts l) → EachOnce (all_rule_contexts l) → EachOnce (contexts_in (own_membranes l)) × EachOnce (rule_contexts_in (own_membranes l))
 inner_once (level leaves membranes ps qs rules) o o' = (once_right ps (contexts_in membranes) o, once_right qs (rule_contexts_in membranes) o')
 
+-- an accepted rule that embeds does so with contexts that stand for what is left to them, in its order
 pub embeds_in_order : {r : Rule} {f : List ℕ} {m : Region} → Accepted r → EmbedsAt r f m → EmbedsInOrder r f m
 embeds_in_order {r} {f} {m} a e =
     let t = e.assignment in

@@ -15,11 +15,13 @@ use Rattle.lmn_adequacy.proofs.Images.{fused_renamed}
 use Rattle.lmn_adequacy.proofs.ReadRegions.{append_regions, joined, region_from}
 use Rattle.lmn_base.proofs.Numbers.{same_or_not, left_not_zero, right_not_zero}
 
+-- a process is another with its bound links renamed
 pub record Moved (P P' : Process) : Type 0 where
   pub to : ℕ → ℕ
   pub is : P' ≡ renamed to P
   pub stays : (z : ℕ) → Free z P → to z ≡ z
 
+-- and so are some processes, by one map
 pub record MovedList (Ps Ps' : List Process) : Type 0 where
   pub to : ℕ → ℕ
   pub is : Ps' ≡ map (renamed to) Ps
@@ -70,6 +72,7 @@ module _ (P Q : Process) (a b : ℕ → ℕ) (l : Linked (pair P Q)) (f : (z : �
       go (inl p) = other (occurrences z P) (b z) (a z) p ∙ g z (omega (arith, p, e))
       go (inr d) = chosen (occurrences z P) (b z) (a z) d ∙ f z (not_none (occurrences z P) (occurrences z Q) e d)
 
+-- two processes beside each other are moved by one map, where they are linked
 pub moved_pair : {P P' Q Q' : Process} → Moved P P' → Moved Q Q' → Linked (pair P Q) → Moved (pair P Q) (pair P' Q')
 moved_pair {P} {P'} {Q} {Q'} u v l = record {
   to = both P Q u.to v.to l u.stays v.stays;
@@ -77,9 +80,11 @@ moved_pair {P} {P'} {Q} {Q'} u v l = record {
   stays = λ z e. both_stay P Q u.to v.to l u.stays v.stays z e;
 }
 
+-- a membrane is moved with its content
 pub moved_inside : {P P' : Process} → Moved P P' → Moved (membrane P) (membrane P')
 moved_inside u = record { to = u.to; is = ap membrane u.is; stays = u.stays }
 
+-- a process is moved to itself
 pub moved_same : {P P' : Process} → P ≡ P' → Moved P P'
 moved_same {P} e = record { to = λ z. z; is = sym e ∙ sym (renamed_id P); stays = λ z f. refl }
 
@@ -89,6 +94,7 @@ occurrences_append : (z : ℕ) (Ps Qs : List Process) → occurrences z (togethe
 occurrences_append z [] Qs = omega arith
 occurrences_append z (P ∷ Ps) Qs = omega (arith, occurrences_append z Ps Qs)
 
+-- lists of processes that are linked together are linked side by side
 pub linked_append : (Ps Qs : List Process) → Linked (together (Ps ++ Qs)) → Linked (pair (together Ps) (together Qs))
 linked_append Ps Qs l = record { at_most_twice = λ z. omega (arith, occurrences_append z Ps Qs, l.at_most_twice z) }
 
@@ -100,6 +106,7 @@ map_append : (f : Process → Process) (Ps Qs : List Process) → map f (Ps ++ Q
 map_append f [] Qs = refl
 map_append f (P ∷ Ps) Qs = ap (λ k. f P ∷ k) (map_append f Ps Qs)
 
+-- two lists of processes are moved by one map
 pub moved_append : {Ps Ps' Qs Qs' : List Process} → MovedList Ps Ps' → MovedList Qs Qs' → Linked (together (Ps ++ Qs)) → MovedList (Ps ++ Qs) (Ps' ++ Qs')
 moved_append {Ps} {Ps'} {Qs} {Qs'} u v k =
     let P = together Ps in
@@ -114,6 +121,7 @@ moved_append {Ps} {Ps'} {Qs} {Qs'} u v k =
       stays = λ z g. both_stay P Q u.to v.to l u.stays v.stays z (sym (occurrences_append z Ps Qs) ∙ g);
     }
 
+-- a list of processes is moved to itself
 pub moved_list_same : {Ps Ps' : List Process} → Ps ≡ Ps' → MovedList Ps Ps'
 moved_list_same {Ps} e = record { to = λ z. z; is = sym e ∙ sym (same_list Ps); stays = λ z f. refl }
   where
@@ -121,12 +129,15 @@ moved_list_same {Ps} e = record { to = λ z. z; is = sym e ∙ sym (same_list Ps
     same_list [] = refl
     same_list (P ∷ Ps) = cc (renamed_id P, same_list Ps)
 
+-- a process is moved as a list of one
 pub moved_one : {P P' : Process} → Moved P P' → MovedList (P ∷ []) (P' ∷ [])
 moved_one {P} u = record { to = u.to; is = ap (λ k. k ∷ []) u.is; stays = λ z f. u.stays z (omega (arith, f)) }
 
+-- and as the first of a list
 pub moved_cons : {P P' : Process} {Ps Ps' : List Process} → Moved P P' → MovedList Ps Ps' → Linked (together (P ∷ Ps)) → MovedList (P ∷ Ps) (P' ∷ Ps')
 moved_cons u v l = moved_append (moved_one u) v l
 
+-- processes that are moved are moved together
 pub moved_together : {Ps Ps' : List Process} → MovedList Ps Ps' → Moved (together Ps) (together Ps')
 moved_together {Ps} u = record { to = u.to; is = ap together u.is ∙ renamed_list u.to Ps; stays = u.stays }
   where
@@ -163,6 +174,7 @@ mutual
   levels_read v no_level = refl
   levels_read v (level_and l ls) = cc (level_read v l, levels_read v ls)
 
+-- the solids of levels that are moved differ by a renaming
 pub moved_solid : {L L' : Level} {S S' : Region} → Moved (level_process L) (level_process L') → SolidOf L S → SolidOf L' S' → IsRenamed S S'
 moved_solid {L} {L'} {S} {S'} u s s' =
     let w : ℕ → ℕ = λ z. s'.to (u.to z) in

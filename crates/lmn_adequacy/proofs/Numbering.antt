@@ -99,6 +99,7 @@ module _ (f : ℕ → ℕ) (P : Process) (one : OneToOneOn f P) where
   numbers_left (new {n = n} r) s h o x at_head = (new_left h (o n at_head) s).0
   numbers_left (new {n = n} r) s h o x (further k) = let e = new_left h (o n at_head) s in numbers_left r e.1 (one_further n h (o n at_head) e.0) (λ z i. o z (further i)) x k
 
+-- a region and its links numbered in printed order: there is one at most
 pub numbered_one : (S S' : Region) → IsRenamed S S' → IsNumbered S → IsNumbered S' → S ≡ S'
 numbered_one S S' i s s' =
     let numbers : NumbersLinks (map i.to (printed_links S)) s'.0 = subst (λ k. NumbersLinks k s'.0) (ap printed_links i.is ∙ region_links i.to S) s'.1 in
@@ -192,6 +193,7 @@ number (x ∷ xs) seen n f s = go (same_or_not (places x seen) 0) (number xs see
     go (inl e) u v = once e (v e)
     go (inr d) u v = again (places_among x seen d) u
 
+-- each region has one with its links numbered in printed order
 pub numbering : (S : Region) → (S' : Region) × IsRenamed S S' × IsNumbered S'
 numbering S =
     let u = number (printed_links S) [] 0 (λ z. z) (record { below = λ z k. elim k [ ]; one_to_one = λ y z k. elim k [ ] }) in
@@ -215,6 +217,7 @@ closed_image f P one c z = go (source f P z)
     go (found x o e) = subst (λ k. (k ≡ 0) ⊎ (k ≡ 2)) (sym (occurrences_image f x P (λ y o' q. one y x o' o q)) ∙ ap (λ w. occurrences w (renamed f P)) e) (c x)
     go (missing h) = inl (occurrences_none f z P h)
 
+-- a solid with other numbers for its links is a solid of the same level
 pub renamed_solid : {top : Level} {S S' : Region} → SolidOf top S → IsRenamed S S' → SolidOf top S'
 renamed_solid {top} {S} {S'} s i = record {
   closed_top = s.closed_top;

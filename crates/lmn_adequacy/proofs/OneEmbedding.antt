@@ -22,30 +22,38 @@ use Rattle.lmn_congruence.proofs.Common.{among_apart as among_append, among_left
 use Rattle.lmn_congruence.proofs.TranslatedLinks.{no_link_in_rules as no_link_rules}
 use Rattle.lmn_base.proofs.Numbers.{not_zero_if_one}
 
+-- two assignments give these links the same links
 abbrev pub AgreeOn : Assignment → Assignment → List ℕ → Type 0
 AgreeOn t s xs = (x : ℕ) → Among x xs → t.link_of x ≡ s.link_of x
 
+-- and these typed contexts equal parts
 abbrev pub SameTyped : Assignment → Assignment → List Name → Type 0
 SameTyped t s ps = (p : Name) → Among p ps → EqualParts (t.typed_of p) (s.typed_of p)
 
+-- and these contexts the same lists
 abbrev pub SameContexts : Contents → Contents → List Name → Type 0
 SameContexts c d ps = (p : Name) → Among p ps → (c.atoms_of p ≡ d.atoms_of p) × (c.membranes_of p ≡ d.membranes_of p)
 
+-- and these rule contexts the same rules
 abbrev pub SameRuleContexts : Contents → Contents → List Name → Type 0
 SameRuleContexts c d ps = (p : Name) → Among p ps → c.rules_of p ≡ d.rules_of p
 
 -- ---- what is taken
 
+-- lists of links that are the same begin alike
 pub same_head : (x y : ℕ) (xs ys : List ℕ) → (x ∷ xs) ≡ (y ∷ ys) → x ≡ y
 same_head x y xs ys e = cc e
 
+-- and go on alike
 pub same_tail : (x y : ℕ) (xs ys : List ℕ) → (x ∷ xs) ≡ (y ∷ ys) → xs ≡ ys
 same_tail x y xs ys e = cc e
 
+-- by one number one item is taken, and the same are left
 pub taken_one : {A : Type 0} {n : ℕ} {x y : A} {xs rest rest' : List A} → Taken n x xs rest → Taken n y xs rest' → (x ≡ y) × (rest ≡ rest')
 taken_one taken_first taken_first = (refl, refl)
 taken_one (taken_later {z = z} k) (taken_later k') = let i = taken_one k k' in (i.0, ap (λ w. z ∷ w) i.1)
 
+-- and one membrane
 pub region_one : {n : ℕ} {m m' : Region} {ms rest rest' : Regions} → TakenRegion n m ms rest → TakenRegion n m' ms rest' → (m ≡ m') × (rest ≡ rest')
 region_one region_first region_first = (refl, refl)
 region_one (region_later {k = z} k) (region_later k') = let i = region_one k k' in (i.0, ap (region_and z) i.1)
@@ -58,11 +66,13 @@ same_links f g (y ∷ ys) e x (further k) = same_links f g ys (same_tail (f y) (
 
 -- ---- the links at ports
 
+-- two lists of images of the same leaves leave the same, by the same links and numbers
 pub record AtomsAgree (t s : Assignment) (ls : List Leaf) (rest rest' : List SolidAtom) (ks ks' : List ℕ) : Type 0 where
   pub rests : rest ≡ rest'
   pub links : AgreeOn t s (port_links_of ls)
   pub numbers : ks ≡ ks'
 
+-- so it is where the numbers are the same
 pub images_agree : {t s : Assignment} {ls : List Leaf} {ns ns' : List ℕ} {xs xs' rest rest' : List SolidAtom} → AtomImages t ls ns xs rest → AtomImages s ls ns' xs' rest' → xs ≡ xs' → {ks ks' : List ℕ} → ns ++ ks ≡ ns' ++ ks' → AtomsAgree t s ls rest rest' ks ks'
 images_agree no_image no_image e f = record { rests = e; links = λ x k. elim k [ ]; numbers = f }
 images_agree {t} {s} (image_and {a = a} {ys = ys} {ls = ls} {n = n} {ns = ns} {xs = xs} k i) (image_and {n = n'} {ns = ns'} {xs = xs'} {xs' = us} k' i') e {ks} {ks'} f =
@@ -78,16 +88,20 @@ images_agree {t} {s} (image_and {a = a} {ys = ys} {ls = ls} {n = n} {ns = ns} {x
     }
 images_agree (typed_later i) (typed_later i') e f = let v = images_agree i i' e f in record { rests = v.rests; links = v.links; numbers = v.numbers }
 
+-- the links are the same and the numbers that are over
 pub record LinksAgree (t s : Assignment) (xs : List ℕ) (ks ks' : List ℕ) : Type 0 where
   pub links : AgreeOn t s xs
   pub numbers : ks ≡ ks'
 
+-- the atoms of a region
 abbrev pub atoms_in : Region → List SolidAtom
 atoms_in (region xs ms rs) = xs
 
+-- the membranes of a region
 abbrev pub membranes_in : Region → Regions
 membranes_in (region xs ms rs) = ms
 
+-- and its rules
 abbrev pub rules_in : Region → List Rule
 rules_in (region xs ms rs) = rs
 
@@ -153,6 +167,7 @@ mutual
 
 -- ---- the typed parts
 
+-- the root of a ground part occurs in it
 pub root_occurs : {g : Rooted} → IsGround g → Occurs g.root g.process
 root_occurs {g} i = not_zero_if_one (occurrences g.root g.process) i.root_is_free
 
@@ -160,10 +175,12 @@ with_first : (A : Name → Type 0) {p : Name} {ps : List Name} → A p → ((q :
 with_first A z f q at_head = z
 with_first A z f q (further k) = f q k
 
+-- two lists of parts of the same typed contexts leave the same, and are equal
 pub record PartsAgree (t s : Assignment) (ls : List Leaf) (rest rest' : List SolidAtom) : Type 0 where
   pub rests : rest ≡ rest'
   pub typed : SameTyped t s (typed_leaves ls)
 
+-- so it is where their links are the same
 pub parts_agree : {t s : Assignment} {ls : List Leaf} {xs xs' rest rest' : List SolidAtom} → TypedParts t ls xs rest → TypedParts s ls xs' rest' → xs ≡ xs' → AgreeOn t s (typed_links_of ls)
     → ((z : ℕ) → places z (links_at xs) ≤ 2) → ((x : ℕ) → Among x (typed_links_of ls) → places (t.link_of x) (links_at xs) ≤ 1) → PartsAgree t s ls rest rest'
 parts_agree no_part no_part e h two one = record { rests = e; typed = λ p k. elim k [ ] }
@@ -200,12 +217,14 @@ left_same c d (region xs ms rs) (region xs' ms' rs') u v e = (left_contexts u.0 
 
 -- ---- all of it
 
+-- two embeddings of a level leave the same region, and their contexts stand for the same
 pub record PartsSame (t s : Assignment) (c d : Contents) (rest rest' : Region) (typed contexts rule_contexts : List Name) : Type 0 where
   pub rests : rest ≡ rest'
   pub same_typed : SameTyped t s typed
   pub same_contexts : SameContexts c d contexts
   pub same_rules : SameRuleContexts c d rule_contexts
 
+-- and so for the membranes of a level
 pub record MembranesSame (t s : Assignment) (c d : Contents) (rest rest' : Regions) (typed contexts rule_contexts : List Name) : Type 0 where
   pub rests : rest ≡ rest'
   pub same_typed : SameTyped t s typed

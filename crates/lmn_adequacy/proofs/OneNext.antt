@@ -50,11 +50,13 @@ moved_both g xs xs' ys ys' u v l =
     let w = moved_append u v (subst (λ k. Linked (together k)) e l) in
     subst₂ MovedList (sym e) (sym (maps_append g xs' ys')) w
 
+-- what two firings make is the same but for bound links
 pub record LevelMoved (outs outs' : List Leaf) (ms ms' : List Level) (rs rs' : List Rule) : Type 0 where
   pub leaves : MovedList (map leaf_process outs) (map leaf_process outs')
   pub membranes : MovedList (map held ms) (map held ms')
   pub rules : rs ≡ rs'
 
+-- so are the processes that they leave
 pub listed_moved : {outs outs' : List Leaf} {ms ms' : List Level} {rs rs' : List Rule} → LevelMoved outs outs' ms ms' rs rs' → Linked (listed outs ms rs) → Moved (listed outs ms rs) (listed outs' ms' rs')
 listed_moved u l = moved_pair (moved_together u.leaves) (moved_pair (moved_together u.membranes) (moved_same (ap (λ k. together (map rule k)) u.rules)) (linked_right l)) l
 
@@ -203,6 +205,7 @@ raw_linked (region xs us ts) W outs ms rs l =
     linked_as (λ z. reordered_count (listed_both (kept_atoms xs ++ W) outs (kept_membranes us) ms ts rs) z) (subst (λ v. Linked (listed v (kept_membranes us ++ ms) (ts ++ rs))) (sym (append_assoc (kept_atoms xs) W outs)) (subst Linked e l)) in
     linked_right i
 
+-- the contexts of a level are its own and those of its membranes, and so are its rule contexts
 pub names_split : (l : Level) → (all_contexts l ≡ own_contexts l ++ contexts_in (own_membranes l)) × (all_rule_contexts l ≡ own_rule_contexts l ++ rule_contexts_in (own_membranes l))
 names_split (level leaves membranes contexts rule_contexts rules) = (refl, refl)
 
@@ -246,6 +249,7 @@ replaced_linked : {n : ℕ} {m : Region} {ms ms' : Regions} (L : Level) → Take
 replaced_linked L region_first l = linked_inside (linked_left l)
 replaced_linked L (region_later k) l = replaced_linked L k (linked_right l)
 
+-- at one embedding a firing leaves one raw level, but for bound links
 pub raw_one : {path : List ℕ} {k : ℕ} {f : List ℕ} {S : Region} {L L' : Level} → RawAt path k f S L → RawAt path k f S L' → AllRules Accepted S → (O : Process) → Closed (pair (region_process S) O) → Linked (level_process L) → Linked (level_process L') → Moved (level_process L) (level_process L')
 raw_one (fires_here {f = f} {xs = xs} {ms = ms} {rs = rs} {L = L} k F) (fires_here {L = L'} k' F') h O c l l' =
     let e = taken_one k k' in
@@ -263,6 +267,7 @@ raw_one (fires_below {n = n} {k = q} {path = path} {f = f} {m = m} {xs = xs} {ms
     (replaced_linked L k (linked_left (linked_right a))) (replaced_linked L' k' (linked_left (linked_right a'))) in
     subst₂ Moved (sym e) (sym e') (moved_pair (moved_same refl) (moved_pair (moved_together (replaced_moved n L L' (kept_membranes ms) u (linked_left (linked_right a)))) (moved_same refl) (linked_right a)) a)
 
+-- and one next solid, up to the numbers of links
 pub next_is_one : {path : List ℕ} {k : ℕ} {f : List ℕ} (S S' S'' : Region) → Closed (region_process S) → AllRules Accepted S → NextAt path k f S S' → NextAt path k f S S'' → IsRenamed S' S''
 next_is_one S S' S'' c h n n' =
     moved_solid (raw_one n.fires n'.fires h nothing (beside_nothing (region_process S) c) (closed_linked n.fuses.closed_top) (closed_linked n'.fuses.closed_top)) n.fuses n'.fuses

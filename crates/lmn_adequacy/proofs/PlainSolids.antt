@@ -121,6 +121,7 @@ module _ (v : ℕ → ℕ) where
 
 -- ---- the printed links of a region
 
+-- the links of atoms as the calculus has them
 pub links_read : (names : List tree.Name) (ks : List SolidAtom) → links_at (map (solid_atom_of names) ks) ≡ flat_map (λ a. a.links) ks
 links_read names [] = refl
 links_read names (a ∷ ks) = ap (λ ls. a.links ++ ls) (links_read names ks)
@@ -145,6 +146,7 @@ module _ (names : List tree.Name) (number : ℕ → tree.Rule) where
 
 -- ---- the law
 
+-- each closed plain that is well made has a solid with its links numbered in printed order
 pub solids_of_plains_exist : SolidsOfPlainsExist
 solids_of_plains_exist p w e =
     let top = top_of [] p in
@@ -172,10 +174,12 @@ solids_of_plains_exist p w e =
 
 -- ---- the solid is one
 
+-- the first of some regions, or another where there is none
 abbrev pub first_or : solid.Region → solid.Regions → solid.Region
 first_or d solid.no_region = d
 first_or d (solid.region_and m ms) = m
 
+-- all regions but the first
 abbrev pub others : solid.Regions → solid.Regions
 others solid.no_region = solid.no_region
 others (solid.region_and m ms) = ms
@@ -237,6 +241,7 @@ module _ (names : List tree.Name) (number : ℕ → tree.Rule) (v w : ℕ → �
       let rest = inside (all_of_right FitsArity y.leaves (leaves_inside y.membranes) here) (ap its_membranes parts) in
       rw (fold-roll-Level Region (fused_step v) y, fold-roll-Level Region (fused_step w) y, first, rest) refl)
 
+-- a well made plain has one solid at most with its links numbered in printed order
 pub solid_of_plain_is_one : SolidOfPlainIsOne
 solid_of_plain_is_one p s s' w i i' =
     let number = numbered_rule [] p.rules in

@@ -64,10 +64,12 @@ pub before_is : {f g : List ℕ} → Before f g → (x y : ℕ) (xs ys : List �
 before_is (less_here {m = m} {n = n} {ms = ms} {ns = ns} l) x y xs ys e f = inl (omega (arith, l, same_head m x ms xs e, same_head n y ns ys f))
 before_is (less_behind {n = n} {ms = ms} {ns = ns} b) x y xs ys e f = inr (sym (same_head n x ms xs e) ∙ same_head n y ns ys f, subst₂ Before (same_tail n x ms xs e) (same_tail n y ns ys f) b)
 
+-- a list of numbers that is before another is not empty
 pub nothing_before : {f g : List ℕ} → Before f g → f ≢ []
 nothing_before (less_here l) e = absurd (cc e)
 nothing_before (less_behind b) e = absurd (cc e)
 
+-- and neither is the other
 pub nothing_behind : {f g : List ℕ} → Before f g → g ≢ []
 nothing_behind (less_here l) e = absurd (cc e)
 nothing_behind (less_behind b) e = absurd (cc e)
@@ -123,6 +125,7 @@ mutual
       subst₂ (λ x y. (Before ns ms → Before x y) × (Before x y → Before ns ms)) (as_head l ls at rest ns) (as_head l ls at rest ms)
       (head_keeps at (λ n. level_positions l (membrane_positions ls (left_without n at) rest)) h (λ n. level_keeps l (membrane_positions ls (left_without n at) rest) (membranes_keep ls (left_without n at) rest (without_rising n at h) k)) ns ms)
 
+-- the order of the numbers of embeddings is that of their positions
 pub numbers_in_order : (r : Rule) (f g : List ℕ) → (Before f g → Before (positions_of r f) (positions_of r g)) × (Before (positions_of r f) (positions_of r g) → Before f g)
 numbers_in_order r f g = level_keeps (head_of r) (λ ns. ns) (λ ns ms. ((λ b. b), (λ b. b))) f g
 
@@ -132,9 +135,11 @@ numbers_in_order r f g = level_keeps (head_of r) (λ ns. ns) (λ ns ms. ((λ b. 
 abbrev pub Stands : {A : Type 0} → (ℕ → ℕ) → List A → List A → Type 0
 Stands {A} at zs xs = (i : ℕ) (x : A) (rest : List A) → Taken i x zs rest → (others : List A) × Taken (at i) x xs others
 
+-- each item of a list stands at its own place
 pub stands_itself : {A : Type 0} (xs : List A) → Stands whole_list xs xs
 stands_itself xs i x rest k = (rest, k)
 
+-- and so do those that are left, by the places without one
 pub left_stands : {A : Type 0} {n : ℕ} {y : A} {zs ys xs : List A} (at : ℕ → ℕ) → Taken n y zs ys → Stands at zs xs → Stands (left_without n at) ys xs
 left_stands at (taken_first {y = y}) h i x rest k = h (suc i) x (y ∷ rest) (taken_later k)
 left_stands at (taken_later {z = z} {zs = zs} k) h zero x rest taken_first = h 0 z zs taken_first
@@ -194,5 +199,6 @@ mutual
       subst (λ w. MembranesStand t (level_and l ls) (at n ∷ w) ms) (sym (level_read (membrane_positions ls (left_without n at) (λ r. r)) ns' i))
       (membrane_stands (h n m us k).1 (level_stands_at i) (membranes_stand_at (left_without n at) c (left_stands_in at k h)))
 
+-- at the positions of an embedding stand its images
 pub images_stand : (r : Rule) (f : List ℕ) (m : Region) (e : EmbedsAt r f m) → LevelStands e.assignment (head_of r) (positions_of r f) m
 images_stand r f m e = level_stands_at e.images

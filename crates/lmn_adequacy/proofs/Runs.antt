@@ -29,6 +29,7 @@ good_rules {S} g = all_rules_so throughout_itself S g.accepted
 next_of : {from : ℕ} {S S' : Region} → NextFrom from S S' → Next S S'
 next_of n = record { path = n.path; number = n.number; positions = n.positions; next = n.next }
 
+-- where a firing is chosen a rule embeds
 pub embeds_in : {from : ℕ} {S S' : Region} → NextFrom from S S' → HasEmbedding S
 embeds_in n = record { path = n.path; number = n.number; positions = n.positions; embeds = n.chosen.embeds }
 
@@ -129,15 +130,19 @@ module _ (chooser : Chooser) (budget size : ℕ) (S : Region) where
 good : {S : Region} → Closed (region_process S) → AllRules (Throughout Accepted) S → Good S
 good c h = record { closed = c; accepted = h }
 
+-- a chooser, a budget and a size give one trace of a solid
 pub trace_is_one : TraceIsOne
 trace_is_one chooser budget size S before others S' S'' c h p q e = trace_one chooser budget size S (good c h) p q e
 
+-- two traces that have come to an end are the same, and have one end
 pub end_is_one : EndIsOne
 end_is_one chooser budget size S before others S' S'' e d c h p a q b = ends_one chooser budget size S (good c h) p a q b
 
+-- a trace is a chain of commits, and its last solid is one
 pub trace_commits : TraceCommits
 trace_commits chooser budget size S before S' c h p = let g = good_trace chooser budget size S (good c h) p in (trace_commit chooser budget size S (good c h) p, g.closed, g.accepted)
 
+-- it ends irreducible exactly where the process is
 pub trace_ends : TraceEnds
 trace_ends chooser budget size S before S' e c h p a = ((λ i. into i a), (λ i. back i a))
   where
@@ -168,6 +173,7 @@ numbered_next {from} {S} {S'} n =
     let u = numbering S' in
     (u.0, record { path = n.path; number = n.number; positions = n.positions; chosen = n.chosen; next = record { raw = n.next.raw; fires = n.next.fires; fuses = renamed_solid n.next.fuses u.1 } }, u.2)
 
+-- and there is no further turn exactly where the process is irreducible
 pub trace_stops : TraceStops
 trace_stops chooser budget size S before S' c h p = (
   (λ i u. exact.0 i (u.0, u.1.next)),

@@ -24,6 +24,7 @@ use Rattle.lmn_base.proofs.Lists.{map_twice}
 
 -- ---- atoms and their links
 
+-- a link of an atom at the top occurs in the process
 pub atoms_occur : (P : Process) {a : Label × List ℕ} {x : ℕ} → Among a (atoms_at_top P) → Among x a.1 → Occurs x P
 atoms_occur nothing k l = elim k [ ]
 atoms_occur (connector y z) k l = elim k [ ]
@@ -33,28 +34,35 @@ atoms_occur (pair P Q) {a} {x} k l = either (among_append (atoms_at_top P) (atom
 atoms_occur (membrane P) k l = elim k [ ]
 atoms_occur (rule r) k l = elim k [ ]
 
+-- lists that match do so with what is known of each element
 pub shuffle_known : {A B : Type 0} {R : A → B → Type 0} (P : A → Type 0) (Q : B → Type 0) {xs : List A} {ys : List B} → ((a : A) → Among a xs → P a) → ((b : B) → Among b ys → Q b) → Shuffle R xs ys → Shuffle (λ a b. R a b × P a × Q b) xs ys
 shuffle_known P Q p q none = none
 shuffle_known P Q p q (more {x = x} {y = y} r s k) = more (r, p x at_head, q y (among_put k)) (shuffle_known P Q (λ a i. p a (further i)) (λ b i. q b (among_others k i)) s) k
 
+-- a link occurs in the process of atoms as often as it has places in them
 pub atoms_places : (z : ℕ) (xs : List SolidAtom) → occurrences z (together (map atom_process xs)) ≡ places z (links_at xs)
 atoms_places z [] = refl
 atoms_places z (x ∷ xs) = omega (arith, atoms_places z xs, at_cons z x xs)
 
+-- a link has as many places in a part as in the process whose image it is
 pub part_count : {g : Rooted} {x : ℕ} {part : List SolidAtom} (i : IsPart g x part) (z : ℕ) → places z (links_at part) ≡ occurrences z (renamed i.to g.process)
 part_count {g} {x} {part} i z = sym (reordered_count (part_order i.to g.process part i.only_atoms i.atoms) z ∙ atoms_places z part)
 
+-- the image of a link has as many places in the part as the link has in the process
 pub part_image : {g : Rooted} {x : ℕ} {part : List SolidAtom} (i : IsPart g x part) (y : ℕ) → Occurs y g.process → places (i.to y) (links_at part) ≡ occurrences y g.process
 part_image {g} i y o = part_count i (i.to y) ∙ occurrences_image i.to y g.process (λ z o' q. i.one_to_one z y o' o q)
 
 -- ---- a map and the other way
 
+-- each link of the atom occurs in the process
 abbrev pub Knows : Rooted → Label × List ℕ → Type 0
 Knows g a = (x : ℕ) → Among x a.1 → Occurs x g.process
 
+-- so it is for the atoms at its top
 pub knows : (g : Rooted) (a : Label × List ℕ) → Among a (atoms_at_top g.process) → Knows g a
 knows g a k x l = atoms_occur g.process k l
 
+-- the link with a given image, or another where there is none
 abbrev pub found_or : (w : ℕ → ℕ) (P : Process) (z d : ℕ) → Source w P z → ℕ
 found_or w P z d (found x o e) = x
 found_or w P z d (missing h) = d
@@ -112,6 +120,7 @@ one_graph {g} {h} {x} {part} i j o o' =
 
 -- ---- the part at a link is one
 
+-- each element of the left list has its match in the right one
 pub shuffle_among : {A B : Type 0} {R : A → B → Type 0} {xs : List A} {ys : List B} {a : A} → Shuffle R xs ys → Among a xs → (b : B) × (Among b ys) × R a b
 shuffle_among none k = elim k [ ]
 shuffle_among (more {y = y} r s p) at_head = (y, among_put p, r)
@@ -137,9 +146,11 @@ merged_apart (from_second {x = x} m) (from_second n) h h' = let i = merged_apart
 merged_apart (from_first {x = x} m) (from_second n) h h' = absurd (h x at_head at_head)
 merged_apart (from_second {x = x} m) (from_first n) h h' = absurd (h' x at_head at_head)
 
+-- a link has in a list the places that it has in the two of which it is made
 pub merged_count : {ps qs xs : List SolidAtom} → Merged ps qs xs → (z : ℕ) → places z (links_at xs) ≡ places z (links_at ps) + places z (links_at qs)
 merged_count {ps} {qs} m z = sym (at_same z (merged_shuffle m)) ∙ at_append z ps qs
 
+-- a link of an atom has a place in the list of atoms
 pub at_among : {y : ℕ} {a : SolidAtom} {xs : List SolidAtom} → Among a xs → Among y a.links → 1 ≤ places y (links_at xs)
 at_among {y} {a} (at_head {ys = xs}) k = omega (arith, at_cons y a xs, among_places k)
 at_among {y} (further {y = b} {ys = xs} i) k = omega (arith, at_cons y b xs, at_among i k)
@@ -195,6 +206,7 @@ module _ {g h : Rooted} {L : ℕ} {part rest part' rest' xs : List SolidAtom} (i
       let c = ground_g.connected u.1 in
       none_left ground j n two one l (subst (λ b. Among (i.to c.0) b.links) u.2 (among_map i.to c.1)) (links_shared c.2)
 
+-- from one link one ground part is taken
 pub one_part : {g h : Rooted} {L : ℕ} {part rest part' rest' xs : List SolidAtom} → IsGround g → IsPart g L part → Merged part rest xs → IsGround h → IsPart h L part' → Merged part' rest' xs
     → ((z : ℕ) → places z (links_at xs) ≤ 2) → places L (links_at xs) ≤ 1 → (part ≡ part') × (rest ≡ rest')
 one_part x i m y j n two one = merged_apart m n (part_apart i m y j n two one x) (part_apart j n x i m two one y)

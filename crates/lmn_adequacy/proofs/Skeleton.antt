@@ -29,19 +29,23 @@ use Rattle.lmn_splice.proofs.Fusions.{apart_rule as even_not_odd, rule_once as e
 
 -- ---- even and odd numbers
 
+-- one map of links at even numbers, another at odd ones
 abbrev pub by_parity : (ℕ → ℕ) → (ℕ → ℕ) → ℕ → ℕ
 by_parity f g zero = f 0
 by_parity f g (suc zero) = g 0
 by_parity f g (suc (suc n)) = by_parity (λ x. f (suc x)) (λ x. g (suc x)) n
 
+-- the first map holds at links of the rule
 pub at_even : (f g : ℕ → ℕ) (x : ℕ) → by_parity f g (of_rule x) ≡ f x
 at_even f g zero = refl
 at_even f g (suc x) = let e : suc x + suc x ≡ suc (suc (x + x)) = omega arith in ap (by_parity f g) e ∙ at_even (λ x. f (suc x)) (λ x. g (suc x)) x
 
+-- and the second at links of the solid
 pub at_odd : (f g : ℕ → ℕ) (x : ℕ) → by_parity f g (of_solid x) ≡ g x
 at_odd f g zero = refl
 at_odd f g (suc x) = let e : suc (suc x + suc x) ≡ suc (suc (suc (x + x))) = omega arith in ap (by_parity f g) e ∙ at_odd (λ x. f (suc x)) (λ x. g (suc x)) x
 
+-- a raw link is one of the rule, or one of the solid
 pub data Parity (z : ℕ) : Type 0 where
   even : (x : ℕ) → z ≡ of_rule x → Parity z
   odd : (x : ℕ) → z ≡ of_solid x → Parity z
@@ -50,6 +54,7 @@ next_parity : {z : ℕ} → Parity z → Parity (suc z)
 next_parity (even x e) = odd x (ap suc e)
 next_parity {z = z} (odd x e) = even (suc x) (omega (arith, e))
 
+-- each raw link is one of the rule or one of the solid
 pub parity : (z : ℕ) → Parity z
 parity zero = even 0 refl
 parity (suc z) = next_parity (parity z)

@@ -19,20 +19,25 @@ use Rattle.lmn_base.proofs.Numbers.{same_or_not, below_or_from}
 use Rattle.lmn_splice.proofs.Fusions.{apart_rule as even_not_odd, rule_once as even_differs, solid_once as odd_differs}
 use Rattle.lmn_adequacy.specs.Embedding.{Plain}
 
+-- the number is twice some number
 abbrev pub IsEven : ℕ → Type 0
 IsEven n = (k : ℕ) × (n ≡ k + k)
 
+-- zero and two are even
 pub zero_or_two_even : (n : ℕ) → (n ≡ 0) ⊎ (n ≡ 2) → IsEven n
 zero_or_two_even n (inl e) = (0, e)
 zero_or_two_even n (inr e) = (1, e)
 
+-- none or two are at most two
 pub at_most_two : (n : ℕ) → (n ≡ 0) ⊎ (n ≡ 2) → n ≤ 2
 at_most_two n (inl e) = omega (arith, e)
 at_most_two n (inr e) = omega (arith, e)
 
+-- an even number up to two is zero or two
 pub even_zero_or_two : (n k : ℕ) → n ≤ 2 → n ≡ k + k → (n ≡ 0) ⊎ (n ≡ 2)
 even_zero_or_two n k b e = grind arith
 
+-- what an even number has more than another even one is even
 pub even_less : (n a b : ℕ) → n + (a + a) ≡ b + b → IsEven n
 even_less n a b e = (b - a, half n a b e)
   where

@@ -17,6 +17,7 @@ suc_more f a (suc n) j e =
     ap (λ xs. f a ++ xs) (suc_more f (a + 1) n j (omega (arith, e)))
     ∙ sym (append_assoc (f a) (flat_map f (range_with_len (a + 1) n)) (f j))
 
+-- one atom more of the text of `demo`
 pub atoms_more : (n : ℕ) → flat_map demo_atom (range_with_len 1 (n + 1)) ≡ flat_map demo_atom (range_with_len 1 n) ++ demo_atom (n + 1)
 atoms_more n =
     let next : n + 1 ≡ suc n = omega arith in
@@ -36,6 +37,7 @@ atoms_short a (suc n) h =
     let rest = atoms_short (a + 1) n (omega (arith, h)) in
     omega (arith, first, rest, length-append (demo_atom a) (flat_map demo_atom (range_with_len (a + 1) n)))
 
+-- the text of `demo` is not too long
 pub demo_short : (n : ℕ) → n ≤ 100000 → length (demo_text n) ≤ text_bytes
 demo_short n h =
     let atoms = atoms_short 1 n (omega (arith, h)) in
@@ -43,11 +45,13 @@ demo_short n h =
 
 -- ---- a small text
 
+-- the text of `demo 2`
 pub some_demo : SomeDemo
 unfolding digits
 some_demo = refl
 
 -- ---- what is done with them
 
+-- `demo` does with its text what `run --folded` does with a file
 pub demo_is_folded_run : DemoIsFoldedRun
 demo_is_folded_run n file named = (to_run _, folded_run_asked file named, refl)

@@ -10,6 +10,7 @@ use Rattle.lmn_congruence.specs.Rules.{Name}
 apart : (m n : Name) → bytes_eq m n ≡ false → m ≢ n
 apart m n e same = true≢false (sym ((bytes_eq-Decides m n).1 same) ∙ e)
 
+-- the names with the numbers 0 to 3 make a list of names
 pub first_are_names : IsNames first_names
 first_are_names =
     let R : Name → Name → Type 0 = λ m n. m ≢ n in

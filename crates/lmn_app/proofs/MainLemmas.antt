@@ -23,6 +23,7 @@ use Rattle.lmn_app.proofs.OutcomeLemmas.{Refusing, accepted_answered, unaccepted
 
 -- ---- each status is that of one ending
 
+-- the status 0 is that of a task that is done
 pub done_is : (e : Ending) → status_of e ≡ 0 → e ≡ Done
 done_is Done h = refl
 done_is Budget h = absurd (cc)
@@ -33,6 +34,7 @@ done_is WriteFault h = absurd (cc)
 done_is NoMemory h = absurd (cc)
 done_is Full h = absurd (cc)
 
+-- the status 1 that of a budget that is done
 pub budget_is : (e : Ending) → status_of e ≡ 1 → e ≡ Budget
 budget_is Done h = absurd (cc)
 budget_is Budget h = refl
@@ -43,6 +45,7 @@ budget_is WriteFault h = absurd (cc)
 budget_is NoMemory h = absurd (cc)
 budget_is Full h = absurd (cc)
 
+-- the status 6 that of want of memory
 pub memory_is : (e : Ending) → status_of e ≡ 6 → e ≡ NoMemory
 memory_is Done h = absurd (cc)
 memory_is Budget h = absurd (cc)
@@ -53,6 +56,7 @@ memory_is WriteFault h = absurd (cc)
 memory_is NoMemory h = refl
 memory_is Full h = absurd (cc)
 
+-- the status 7 that of a size that is reached
 pub full_is : (e : Ending) → status_of e ≡ 7 → e ≡ Full
 full_is Done h = absurd (cc)
 full_is Budget h = absurd (cc)
@@ -63,6 +67,7 @@ full_is WriteFault h = absurd (cc)
 full_is NoMemory h = absurd (cc)
 full_is Full h = refl
 
+-- the status 3 that of words that ask for nothing
 pub words_is : (e : Ending) → status_of e ≡ 3 → e ≡ Words
 words_is Done h = absurd (cc)
 words_is Budget h = absurd (cc)
@@ -73,6 +78,7 @@ words_is WriteFault h = absurd (cc)
 words_is NoMemory h = absurd (cc)
 words_is Full h = absurd (cc)
 
+-- the status 4 that of a file that can't be read
 pub read_is : (e : Ending) → status_of e ≡ 4 → e ≡ ReadFault
 read_is Done h = absurd (cc)
 read_is Budget h = absurd (cc)

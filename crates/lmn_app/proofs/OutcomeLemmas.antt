@@ -128,6 +128,7 @@ accepted_answered t Words told oo on ob oa rb ra status eo en eb ea h (inl k) re
 accepted_answered t ReadFault told oo on ob oa rb ra status eo en eb ea h (inl k) read out err = absurd (read h.cause)
 accepted_answered t WriteFault told oo on ob oa rb ra status eo en eb ea h (inl k) read out err = absurd (out h.counts)
 
+-- a status of a task that is refused, or of which the file can't be read, or that has no memory
 abbrev pub Refusing : ℕ → Type 0
 Refusing status = (status ≡ 2) ⊎ (status ≡ 4) ⊎ (status ≡ 5) ⊎ (status ≡ 6)
 
@@ -172,13 +173,16 @@ nothing_more : (t : Task) (told : Option (Option (List ℕ))) (x : Option (List 
 nothing_more (task.Run s) told x = inl refl
 nothing_more task.List told x = refl
 
+-- a task with a text that is refused ends so
 pub refused_ended : (t : Task) (r : Refusal) (told : Option (Option (List ℕ))) (x : Option (List ℕ)) (n rb ra : ℕ) → IsToldAnd told (λ text. IsRefusal (most_items t) text r) → IsCode r.code
     → Ended t (Refused r) told x x n n rb ra
 refused_ended t r told x n rb ra h k = record { cause = (h, k); output = nothing_refused t r told x; counts = refl }
 
+-- and one with a file that can't be read
 pub fault_ended : (t : Task) (told : Option (Option (List ℕ))) (x : Option (List ℕ)) (n rb ra : ℕ) → Rose rb ra → Ended t ReadFault told x x n n rb ra
 fault_ended t told x n rb ra h = record { cause = h; output = nothing_read t told x; counts = refl }
 
+-- a task may end for want of memory, with its output as it was
 pub memory_ended : (t : Task) (told : Option (Option (List ℕ))) (x : Option (List ℕ)) (n rb ra : ℕ) → Ended t NoMemory told x x n n rb ra
 memory_ended t told x n rb ra = record { cause = tt; output = nothing_more t told x; counts = refl }
 
@@ -192,6 +196,7 @@ long_told P (Some text) name most h f = go (text name) h
     go None k = k
     go (Some bytes) k = f bytes k
 
+-- a task with a text that is too long ends so
 pub long_ended : (t : Task) (told : Option (List ℕ → Option (List ℕ))) (name : List ℕ) (x : Option (List ℕ)) (n rb ra : ℕ) → IfSome told (λ text. IsSomeAnd (text name) (λ bytes. text_bytes < length bytes))
     → Ended t (Refused (at_start 1)) (told_under told name) x x n n rb ra
 long_ended t told name x n rb ra h =

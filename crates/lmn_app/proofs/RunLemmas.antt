@@ -20,6 +20,7 @@ pub record Laws : Type 0 where
   pub printable : PlainsArePrintable
   pub runs : TracesAreRuns
 
+-- a trace of an accepted text that stops is a run
 pub trace_is_run : Laws → Global → (g : Given) (text : List ℕ) (lines : List (List ℕ)) (n : ℕ) (t : IsTraceOf g text lines n) → g.size < 2 ^ 32 →
     (why : Stop) → StopsSo g n t.last why → IsRun g.trace g.folded g.budget text lines why n
 trace_is_run laws alloc g text lines n t small why stops =

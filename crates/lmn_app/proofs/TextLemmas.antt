@@ -39,6 +39,7 @@ use Rattle.lmn_app.specs.Texts.{Accepts, AcceptedOrRefused, Fits, IsAccepted, Is
 has_code : (r : Refusal) (n : ℕ) → r ≡ at_start n → IsCode n → IsCode r.code
 has_code r n e h = let P : ℕ → Type 0 = IsCode in subst P (sym (ap (λ (z : Refusal). z.code) e)) h
 
+-- a refusal has a code of the table
 pub refusal_code : (size : Option ℕ) (text : List ℕ) (r : Refusal) → IsRefusal size text r → IsCode r.code
 refusal_code size text r (too_long l e) = has_code r 1 e refl
 refusal_code size text r (by_reading short names named h) = refusals_have_codes text names r h
@@ -102,6 +103,7 @@ one_top text names others p q ps qs a b =
     let same = one.plain in
     same.top
 
+-- a text that is refused isn't accepted
 pub refused_not_accepted : RefusedNotAccepted
 refused_not_accepted size text r (too_long long e) (names, plain, plans, a, fits) = omega (arith, long, a.short)
 refused_not_accepted size text r (by_reading short others named h) (names, plain, plans, a, fits) =
@@ -112,6 +114,7 @@ refused_not_accepted size text r (too_large others p ps b l e) (names, plain, pl
 accepted_not_refused : (text : List ℕ) (names others : List Name) (p : Plain) (ps : List GuardPlan) (r : Refusal) → Accepts text names p ps → NamesText text others → IsRefusedAs text others r → ⊥
 accepted_not_refused text names others p ps r a named h = read.refused_not_accepted text names r (at_names text others names r named a.named h) (p, ps, a.accepted)
 
+-- a text has one refusal at most
 pub one_refusal : OneRefusal
 one_refusal size text r q (too_long l e) (too_long m d) = e ∙ sym d
 one_refusal size text r q (too_long l e) (by_reading short names k g) = absurd (omega (arith, l, short))
@@ -164,6 +167,7 @@ module _ (size : Option ℕ) where
   short_text alloc text short (inr (r, by_links p reads n f)) = reads_so alloc text first_names p short reads
   short_text alloc text short (inr (r, by_rules p reads n l f)) = reads_so alloc text first_names p short reads
 
+-- a text is accepted, or it is refused
 pub accepted_or_refused : AcceptedOrRefused
 accepted_or_refused alloc size text = elim (cases_lt text_bytes (length text)) [
   | inl long ↦ inr (at_start 1, too_long long refl)

@@ -29,9 +29,11 @@ use Rattle.lmn_base.specs.Levels.{leaves_of}
 use Rattle.lmn_base.specs.declared.guard.Expr.TheOpen as step
 use Rattle.lmn_base.specs.declared.guard.Expr.TheVariants as expr
 
+-- how many levels a level has, itself counted
 abbrev pub levels_in : Level → ℕ
 levels_in = fold-Level ℕ (λ l. suc (sum l.membranes))
 
+-- the numbers of the rules of a region, at every depth
 abbrev pub rules : Region → List ℕ
 rules = fold-Region (List ℕ) rules_step
 
@@ -39,49 +41,60 @@ rules = fold-Region (List ℕ) rules_step
 abbrev pub inner_leaves : List Level → List Leaf
 inner_leaves ls = flat_map (λ inner. inner) (map leaves_of ls)
 
+-- the atoms of some membranes, at every depth
 abbrev pub inner_atoms : List Region → List SolidAtom
 inner_atoms rs = flat_map (λ inner. inner) (map atoms_of_region rs)
 
+-- two ports are the same or they are not
 pub port_cases : (p q : Port) → (p ≡ q) ⊎ (p ≢ q)
 port_cases p q = elim (cases_eq p.0 q.0) [
   | inl e ↦ elim (cases_eq p.1 q.1) [ inl f ↦ inl (λ t. (e t, f t)) | inr d ↦ inr (λ h. d (ap (λ (x : Port). x.1) h)) ]
   | inr d ↦ inr (λ h. d (ap (λ (x : Port). x.0) h))
 ]
 
+-- the contexts of an operation are those of its left side, then those of its right
 pub operation_items : (op : Arith) (p : Box (Unit {0}) Global) (left : Expr) (q : Box (Unit {0}) Global) (right : Expr) → expression_items (expr.Op' op p left q right) ≡ expression_items left ++ expression_items right
 operation_items op p left q right =
     let l : Box Expr Global = record { value = left; ptr = p.ptr; alloc = p.alloc } in
     let k : Box Expr Global = record { value = right; ptr = q.ptr; alloc = q.alloc } in
     ap expression_items (sym (expr.rolls-Op op l k)) ∙ fold-roll-Expr (List Item) expression_items_step (step.Op op l k)
 
+-- the order of places goes on from one to the next
 pub not_after_on : (p q r : Pos) → NotAfter p q → NotAfter q r → NotAfter p r
 not_after_on p q r (inl a) (inl b) = inl (omega (arith, a, b))
 not_after_on p q r (inl a) (inr b) = inl (omega (arith, a, b.0))
 not_after_on p q r (inr a) (inl b) = inl (omega (arith, a.0, b))
 not_after_on p q r (inr a) (inr b) = inr (a.0 ∙ b.0, omega (arith, a.1, b.1))
 
+-- two places at the front may change their order
 pub swapped_places : (a b : Pos) (bs : List Pos) → IsPermutation (a ∷ b ∷ bs) (b ∷ a ∷ bs)
 swapped_places a b bs = IsPermutation-append_left bs (a ∷ b ∷ []) (b ∷ a ∷ []) (IsPermutation-append_comm (a ∷ []) (b ∷ []))
 
+-- in a list in order no place is before the first
 pub first_before_all : (b : Pos) (bs : List Pos) → AllPairs NotAfter (b ∷ bs) → All (NotAfter b) bs
 first_before_all b bs g k d l = g zero (suc k) d (omega arith) (omega (arith, l))
 
+-- what is left of a list in order is in order
 pub pairs_tail : (a : Pos) (ps : List Pos) → AllPairs NotAfter (a ∷ ps) → AllPairs NotAfter ps
 pairs_tail a ps h i j d l m = h (suc i) (suc j) d (omega (arith, l)) (omega (arith, m))
 
+-- what holds of the first and of all others holds of all
 pub all_cons : (P : Pos → Type 0) (a : Pos) (bs : List Pos) → P a → All P bs → All P (a ∷ bs)
 all_cons P a bs h g zero d l = h
 all_cons P a bs h g (suc k) d l = g k d (omega (arith, l))
 
+-- the numbers of a list end where they begin, or later
 pub numbers_grow : {n m : ℕ} {xs : List ℕ} → Numbers n xs m → n ≤ m
 numbers_grow no_more = omega arith
 numbers_grow (known b h) = numbers_grow h
 numbers_grow (new h) = let g = numbers_grow h in omega arith
 
+-- the first of such numbers is an old one, or the next new one
 pub numbers_head : {n m x : ℕ} {xs : List ℕ} → Numbers n (x ∷ xs) m → ((x < n) × Numbers n xs m) ⊎ ((x ≡ n) × Numbers (suc n) xs m)
 numbers_head (known l h) = inl (l, h)
 numbers_head (new h) = inr (refl, h)
 
+-- a place that is not after the first of a list in order is not after any
 pub all_after : (a b : Pos) (bs : List Pos) → NotAfter a b → AllPairs NotAfter (b ∷ bs) → All (NotAfter a) (b ∷ bs)
 all_after a b bs h g zero d l = h
 all_after a b bs h g (suc k) d l = not_after_on a b _ h (g zero (suc k) d (omega arith) l)
@@ -109,6 +122,7 @@ membrane_smaller l x i h =
     let one : get_or (map levels_in ms) i 0 ≡ levels_in (get_or ms i x) = get_or-map levels_in ms i x 0 h in
     omega (arith, all, some, one)
 
+-- a number for each port, row by row of a triangle
 abbrev pub port_number : Port → ℕ
 port_number p = triangle (p.0 + p.1) + p.0
 
@@ -130,6 +144,7 @@ port_of_number p q e = elim (cases_eq (p.0 + p.1) (q.0 + q.1)) [
     strict : (s t : ℕ) → s ≢ t → t ≤ s → t < s
     strict s t d g = omega (arith, d, g)
 
+-- the less of the numbers of two ports, where there is a second
 abbrev pub lesser : Port → Option Port → ℕ
 lesser p None = port_number p
 lesser p (Some q) = min (port_number p) (port_number q)

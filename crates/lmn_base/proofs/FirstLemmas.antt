@@ -13,6 +13,7 @@ use Rattle.lmn_base.specs.Firsts.{FirstAt, IsFirst, IsFound, earlier}
 
 -- ---- the order of places
 
+-- a place is not after itself
 pub not_after_itself : (p : Pos) → IsTrue (not_after p p)
 not_after_itself p = grind (arith, nat_tests)
 
@@ -28,12 +29,15 @@ same_line a b c d g h = grind (arith, nat_tests)
 same_column : (a b c d : ℕ) → (nat_lt a c || (nat_eq a c && nat_le b d)) ≡ true → (nat_lt c a || (nat_eq c a && nat_le d b)) ≡ true → b ≡ d
 same_column a b c d g h = grind (arith, nat_tests)
 
+-- the order of places goes on from one to the next
 pub not_after_chain : (p q r : Pos) → IsTrue (not_after p q) → IsTrue (not_after q r) → IsTrue (not_after p r)
 not_after_chain p q r = chain p.line p.column q.line q.column r.line r.column
 
+-- of two places that are not in order the second comes first
 pub not_after_turned : (p q : Pos) → not_after p q ≡ false → IsTrue (not_after q p)
 not_after_turned p q = turned p.line p.column q.line q.column
 
+-- places of which neither is after the other are one
 pub same_place : (p q : Pos) → IsTrue (not_after p q) → IsTrue (not_after q p) → p ≡ q
 same_place p q g h = λ i. record { line = same_line p.line p.column q.line q.column g h i; column = same_column p.line p.column q.line q.column g h i }
 
@@ -56,11 +60,13 @@ of_two ps qs p q false e a b = record {
   none_before = All-append (λ r. IsTrue (not_after q r)) ps qs (none_before_both ps q p (not_after_turned p q e) a.none_before) b.none_before;
 }
 
+-- the first of two lists of places is the earlier of their first ones
 pub first_of_both : (ps qs : List Pos) (a b : Option Pos) → IsFirst ps a → IsFirst qs b → IsFirst (ps ++ qs) (earlier a b)
 first_of_both ps qs None b g h = subst (λ l. IsFirst (l ++ qs) b) (sym g) h
 first_of_both ps qs (Some p) None g h = subst (λ l. FirstAt (ps ++ l) p) (sym h) (subst (λ l. FirstAt l p) (sym (append-nil ps)) g)
 first_of_both ps qs (Some p) (Some q) g h = of_two ps qs p q (not_after p q) refl g h
 
+-- one place alone is the first
 pub first_of_one : (p : Pos) → FirstAt (p ∷ []) p
 first_of_one p = record {
   one_of_them = (0, omega arith, refl);
@@ -69,6 +75,7 @@ first_of_one p = record {
 
 -- ---- what is found
 
+-- what is found in two lists of places, by the first of both and both counts
 pub found_in_both : (ps qs : List Pos) (f g : Found) (first : Option Pos) (n : ℕ) → first ≡ earlier f.first g.first → n ≡ min (f.count + g.count) (2 ^ 64 - 1)
     → IsFound ps f → IsFound qs g → IsFound (ps ++ qs) (record { first = first; count = n })
 found_in_both ps qs f g first n e k a b = record {
@@ -76,6 +83,7 @@ found_in_both ps qs f g first n e k a b = record {
   count = omega (arith, k, a.count, b.count, length-append ps qs);
 }
 
+-- what a list gives up to one more is what it gave, and then what that one gives
 pub next_piece : {X A : Type 0} (f : X → List A) (xs : List X) (i : ℕ) (d : X) → i < length xs → flat_map f (take (i + 1) xs) ≡ flat_map f (take i xs) ++ f (get_or xs i d)
 next_piece f xs i d within =
     ap (flat_map f) (take_more xs i d within) ∙ flat_map-append f (take i xs) (get_or xs i d ∷ []) ∙ ap (λ l. flat_map f (take i xs) ++ l) (append-nil (f (get_or xs i d)))

@@ -49,6 +49,7 @@ one_more names name old absent = record {
 pub other_absent : (others : List (List ℕ)) (name : List ℕ) → ¬ (Contains (first_names ++ others) name) → ¬ (Contains others name)
 other_absent others name absent = λ there. absent (Contains-append_right first_names others name there)
 
+-- a name that is added behind stands at the old length
 pub get_last : (xs : List (List ℕ)) (y : List ℕ) → slice_get (xs ++ y ∷ []) (length xs) ≡ Some y
 get_last [] y = refl
 get_last (x ∷ xs) y = get_last xs y

@@ -25,6 +25,7 @@ items_apart l = fold_out-Level (List Item) (λ l. own_items l ++ flat_map (λ in
 pub listed_items : (l : Level-F Level) → items_of (roll-Level l) ≡ own_items l ++ flat_map items_of l.membranes
 listed_items l = items_apart (roll-Level l) ∙ ap (λ o. own_items o ++ flat_map items_of o.membranes) (out-roll-Level l)
 
+-- of each of what each gives, at once or in two steps
 pub flat_map-flat_map : {X Y Z : Type 0} (f : Y → List Z) (h : X → List Y) (xs : List X) → flat_map f (flat_map h xs) ≡ flat_map (λ x. flat_map f (h x)) xs
 flat_map-flat_map f h [] = refl
 flat_map-flat_map f h (x ∷ xs) = flat_map-append f (h x) (flat_map h xs) ∙ ap (λ l. flat_map f (h x) ++ l) (flat_map-flat_map f h xs)
@@ -45,10 +46,12 @@ module _ {A : Type 0} (places : A → List Pos) (all own : Level → List A) (ap
       ∙ ap (λ ls. flat_map places (own l) ++ flat_map (λ x. flat_map places (all x)) ls) (sym e ∙ sym (take_all i inner end))
       in subst (λ ps. IsFound ps found) (sym whole) h
 
+-- what is found among a level's own items and those of all its membranes is found in the level
 pub found_in_level : (places : Item → List Pos) (l : Level) (inner : List Level) (i : ℕ) (found : Found) → inner ≡ (out-Level l).membranes → length inner ≤ i
     → IsFound (flat_map places (own_items (out-Level l)) ++ flat_map (λ x. flat_map places (items_of x)) (take i inner)) found → IsFound (flat_map places (items_of l)) found
 found_in_level places = found_everywhere places items_of (λ l. own_items (out-Level l)) items_apart
 
+-- what is found among a level's own leaves and those of all its membranes is found in the level
 pub found_in_leaves : (places : Leaf → List Pos) (l : Level) (inner : List Level) (i : ℕ) (found : Found) → inner ≡ (out-Level l).membranes → length inner ≤ i
     → IsFound (flat_map places (out-Level l).leaves ++ flat_map (λ x. flat_map places (leaves_of x)) (take i inner)) found → IsFound (flat_map places (leaves_of l)) found
 found_in_leaves places = found_everywhere places leaves_of (λ l. (out-Level l).leaves) leaves_apart

@@ -7,27 +7,33 @@ use Rattle.std.specs.Result.{OnErr}
 use Rattle.std.proofs.lemmas.List.{length-append}
 use Rattle.std.proofs.lemmas.Option.{same_Some}
 
+-- the sum of the weights of some numbers
 abbrev pub weigh : (ℕ → ℕ) → List ℕ → ℕ
 weigh w [] = 0
 weigh w (x ∷ xs) = w x + weigh w xs
 
+-- what a function gives of a value, or another where there is none
 abbrev pub value_or : {A B : Type 0} → (A → B) → B → Option A → B
 value_or f other None = other
 value_or f other (Some a) = f a
 
+-- as many are taken as are asked for, where there are so many
 pub length_taken : (rs : List ℕ) (i : ℕ) → i ≤ length rs → length (take i rs) ≡ i
 length_taken rs zero h = refl
 length_taken [] (suc i) h = absurd (omega arith)
 length_taken (r ∷ rs) (suc i) h = ap suc (length_taken rs i (omega arith))
 
+-- what changes nothing leaves a list as it is
 pub map_itself : (xs : List ℕ) → map (λ x. x) xs ≡ xs
 map_itself [] = refl
 map_itself (x ∷ xs) = ap (λ ys. x ∷ ys) (map_itself xs)
 
+-- a list is itself with nothing added
 pub nothing_added : (xs : List ℕ) → xs ≡ xs ++ []
 nothing_added [] = refl
 nothing_added (x ∷ xs) = ap (λ ys. x ∷ ys) (nothing_added xs)
 
+-- lists that are the same, joined, are the same
 pub joined_alike : {A : Type 0} {xs xs' ys ys' : List A} → xs ≡ xs' → ys ≡ ys' → xs ++ ys ≡ xs' ++ ys'
 joined_alike e d = λ i. e i ++ d i
 
@@ -38,43 +44,53 @@ same_step [] (x ∷ v) b c way e = absurd (let l = ap length e in omega (arith, 
 same_step (x ∷ u) [] b c way e = absurd (let l = ap length e in omega (arith, l, length-append u (b ∷ way)))
 same_step (x ∷ u) (y ∷ v) b c way e = let t : u ++ b ∷ way ≡ v ++ c ∷ way = cc in same_step u v b c way t
 
+-- lists that are the same begin alike
 pub head_is : {A : Type 0} {x y : A} {xs ys : List A} → x ∷ xs ≡ y ∷ ys → x ≡ y
 head_is e = cc e
 
+-- lists that are the same go on alike
 pub tail_is : {A : Type 0} {x y : A} {xs ys : List A} → x ∷ xs ≡ y ∷ ys → xs ≡ ys
 tail_is e = cc e
 
+-- a list keeps its length when each number is changed
 pub length_mapped : (f : ℕ → ℕ) (ys : List ℕ) → length (map f ys) ≡ length ys
 length_mapped f [] = refl
 length_mapped f (y ∷ ys) = ap suc (length_mapped f ys)
 
+-- what stands in a list stands at the same place of a longer one
 pub get_front : {A : Type 0} (xs ys : List A) (k : ℕ) (x : A) → slice_get xs k ≡ Some x → slice_get (xs ++ ys) k ≡ Some x
 get_front [] ys k x e = absurd (cc)
 get_front (z ∷ xs) ys zero x e = e
 get_front (z ∷ xs) ys (suc k) x e = get_front xs ys k x e
 
+-- a place where something stands is below the length
 pub get_below : {A : Type 0} (xs : List A) (n : ℕ) (x : A) → slice_get xs n ≡ Some x → n < length xs
 get_below [] n x e = absurd (cc)
 get_below (y ∷ xs) zero x e = omega arith
 get_below (y ∷ xs) (suc n) x e = let h = get_below xs n x e in omega arith
 
+-- at each place below the length something stands
 pub get_there : {A : Type 0} (xs : List A) (p : ℕ) → p < length xs → (x : A) × (slice_get xs p ≡ Some x)
 get_there [] p l = absurd (omega (arith, l))
 get_there (x ∷ xs) zero l = (x, refl)
 get_there (x ∷ xs) (suc p) l = get_there xs p (omega (arith, l))
 
+-- what is added behind stands at the old length
 pub get_last : {A : Type 0} (xs : List A) (y : A) → slice_get (xs ++ y ∷ []) (length xs) ≡ Some y
 get_last [] y = refl
 get_last (x ∷ xs) y = get_last xs y
 
+-- all of a list are the list
 pub take_whole : {A : Type 0} (xs : List A) → take (length xs) xs ≡ xs
 take_whole [] = refl
 take_whole (x ∷ xs) = ap (λ k. x ∷ k) (take_whole xs)
 
+-- a list with nothing added is itself
 pub plus_nothing : {X : Type 0} → (xs : List X) → xs ++ [] ≡ xs
 plus_nothing [] = refl
 plus_nothing (x ∷ xs) = ap (λ l. x ∷ l) (plus_nothing xs)
 
+-- where there is a value, it is one
 pub some_is : {A : Type 0} (o : Option A) → IsSome o → (p : A) × (o ≡ Some p)
 some_is None s = absurd (cc)
 some_is (Some p) s = (p, refl)
@@ -83,41 +99,51 @@ some_is (Some p) s = (p, refl)
 pub none_is_not : {A : Type 0} (o : Option A) → o ≡ None → IsSome o → ⊥
 none_is_not o e i = absurd (cc (e, i))
 
+-- what is left from a place on begins with what stands there
 pub drop_get : {A : Type 0} (k : ℕ) (xs : List A) (x : A) → slice_get xs k ≡ Some x → drop k xs ≡ x ∷ drop (k + 1) xs
 drop_get k [] x e = absurd (cc)
 drop_get zero (y ∷ xs) x e = let t : y ≡ x = cc in ap (λ w. w ∷ xs) t
 drop_get (suc k) (y ∷ xs) x e = let t : suc (k + 1) ≡ suc k + 1 = omega arith in drop_get k xs x e ∙ ap (λ n. x ∷ drop n (y ∷ xs)) t
 
+-- what a list contains a longer one contains
 pub contains_behind : {X : Type 0} (x : X) (xs : List X) (y : X) → Contains xs y → Contains (x ∷ xs) y
 contains_behind x xs y (k, within, e) = (suc k, omega (arith, within), e)
 
+-- a list contains its first
 pub contains_first : {X : Type 0} (x : X) (xs : List X) → Contains (x ∷ xs) x
 contains_first x xs = (0, omega arith, refl)
 
+-- what holds of all of two lists holds of all of the first
 pub all_left : {A : Type 0} (P : A → Type 0) (xs ys : List A) → AllByRecursion P (xs ++ ys) → AllByRecursion P xs
 all_left P [] ys a = tt
 all_left P (x ∷ xs) ys a = (a.0, all_left P xs ys a.1)
 
+-- and of all of the second
 pub all_right : {X : Type 0} (P : X → Type 0) (xs ys : List X) → AllByRecursion P (xs ++ ys) → AllByRecursion P ys
 all_right P [] ys h = h
 all_right P (x ∷ xs) ys h = all_right P xs ys h.1
 
+-- what holds of all of two lists holds of both joined
 pub all_append : {X : Type 0} (P : X → Type 0) (xs ys : List X) → AllByRecursion P xs → AllByRecursion P ys → AllByRecursion P (xs ++ ys)
 all_append P [] ys h k = k
 all_append P (x ∷ xs) ys h k = (h.0, all_append P xs ys h.1 k)
 
+-- what holds anyway holds of an error too
 pub on_err : {T E : Type 0} (r : Result T E) (Q : Type 0) → Q → OnErr r Q
 on_err (Ok x) Q q = tt
 on_err (Err e) Q q = q
 
+-- two lists joined and changed are each changed and joined
 pub map_append : {A B : Type 0} (f : A → B) (xs ys : List A) → map f (xs ++ ys) ≡ map f xs ++ map f ys
 map_append f [] ys = refl
 map_append f (x ∷ xs) ys = ap (λ zs. f x ∷ zs) (map_append f xs ys)
 
+-- two changes of a list are one
 pub map_twice : {A B C : Type 0} (f : B → C) (g : A → B) (xs : List A) → map f (map g xs) ≡ map (λ x. f (g x)) xs
 map_twice f g [] = refl
 map_twice f g (x ∷ xs) = ap (λ ys. f (g x) ∷ ys) (map_twice f g xs)
 
+-- lists that were changed alike, joined, are the joined ones changed
 pub join_maps : (f : ℕ → ℕ) (xs ys : List ℕ) {xs' ys' : List ℕ} → xs' ≡ map f xs → ys' ≡ map f ys → xs' ++ ys' ≡ map f (xs ++ ys)
 join_maps f xs ys e d = cc (e, d) ∙ sym (map_append f xs ys)
 
@@ -126,6 +152,7 @@ pub weigh_append : (w : ℕ → ℕ) (xs ys : List ℕ) → weigh w (xs ++ ys) �
 weigh_append w [] ys = omega arith
 weigh_append w (x ∷ xs) ys = omega (arith, weigh_append w xs ys)
 
+-- a number of two lists joined stands in one of them
 pub in_either : (x : ℕ) (xs ys : List ℕ) → In x (xs ++ ys) → In x xs ⊎ In x ys
 in_either x [] ys h = inr h
 in_either x (y ∷ xs) ys (inl e) = inl (inl e)
@@ -168,6 +195,7 @@ all_of_left P [] ys h k d l = absurd (omega (arith, l))
 all_of_left P (x ∷ xs) ys h zero d l = h zero d (omega arith)
 all_of_left P (x ∷ xs) ys h (suc k) d l = all_of_left P xs ys (λ j e m. h (suc j) e (omega (arith, m))) k d (omega (arith, l))
 
+-- what holds of all of two lists holds of all of the second, by places
 pub all_of_right : {A : Type 0} (P : A → Type 0) (xs ys : List A) → All P (xs ++ ys) → All P ys
 all_of_right P [] ys h = h
 all_of_right P (x ∷ xs) ys h = all_of_right P xs ys (λ j e m. h (suc j) e (omega (arith, m)))
@@ -178,6 +206,7 @@ all_of_parts P f [] h k d l = absurd (omega (arith, l))
 all_of_parts P f (x ∷ xs) h zero d l = all_of_left P (f x) (flat_map f xs) h
 all_of_parts P f (x ∷ xs) h (suc k) d l = all_of_parts P f xs (all_of_right P (f x) (flat_map f xs) h) k d (omega (arith, l))
 
+-- a list with one more is not empty
 pub never_nil : (xs : List ℕ) (x : ℕ) → [] ≡ xs ++ x ∷ [] → ⊥
 never_nil [] x e = cc
 never_nil (y ∷ xs) x e = cc
@@ -193,6 +222,7 @@ ends_in_one_way (z ∷ xs) (w ∷ ys) x y e = let more = ends_in_one_way xs ys x
 pub not_behind_itself : (v : List ℕ) (c : ℕ) (way : List ℕ) → way ≡ v ++ c ∷ way → ⊥
 not_behind_itself v c way e = let size = length-append v (c ∷ way) in let same = ap length e in omega (arith, size, same)
 
+-- an empty list contains nothing
 pub contains_none : {X : Type 0} (x : X) → Contains [] x → ⊥
 contains_none x c = absurd (omega (arith, c.1))
 

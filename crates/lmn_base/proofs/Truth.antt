@@ -2,50 +2,62 @@
 use Rattle.std.proofs.Common.{Bool, false, refl, true, ◌&&◌, ◌≡◌, ◌||◌, inl, inr, ◌⊎◌, not, arith, cond, ℕ, ◌+◌, sym, ◌∙◌, ◌≤◌}
 use Rattle.std.specs.Prelude.{if◌then◌else◌}
 
+-- where both hold together each holds
 pub and_true : (a b : Bool) → (a && b) ≡ true → (a ≡ true) × (b ≡ true)
 and_true true b h = (refl, h)
 and_true false b h = cc
 
+-- where both hold the first holds
 pub first_true : (a b : Bool) → (a && b) ≡ true → a ≡ true
 first_true true b e = refl
 first_true false b e = e
 
+-- where both hold the second holds
 pub second_true : (a b : Bool) → (a && b) ≡ true → b ≡ true
 second_true true b e = e
 second_true false b e = absurd (cc)
 
+-- where one or the other holds, one of them does
 pub either_true : (a b : Bool) → (a || b) ≡ true → (a ≡ true) ⊎ (b ≡ true)
 either_true true b h = inl refl
 either_true false b h = inr h
 
+-- what is asked before a condition holds
 pub guarded_first : (f b k : Bool) → (f && (not b || k)) ≡ true → f ≡ true
 guarded_first true b k e = refl
 guarded_first false b k e = absurd (cc)
 
+-- and what is asked under the condition, where that holds
 pub guarded_then : (f b k : Bool) → (f && (not b || k)) ≡ true → b ≡ true → k ≡ true
 guarded_then true true k e g = e
 guarded_then true false k e g = absurd (cc)
 guarded_then false b k e g = absurd (cc)
 
+-- one more where it holds, before or behind a number
 pub cond_plus : (b : Bool) (n : ℕ) → cond b 1 0 + n ≡ cond b (1 + n) n
 cond_plus true n = refl
 cond_plus false n = omega arith
 
+-- what has a false opposite is true
 pub not_false : (a : Bool) → not a ≡ false → a ≡ true
 not_false true e = refl
 not_false false e = absurd (cc)
 
+-- and what has a true opposite is false
 pub not_true : (b : Bool) → not b ≡ true → b ≡ false
 not_true false e = refl
 not_true true e = absurd (cc e)
 
+-- nothing is true and false
 pub never_both : (a : Bool) → a ≡ true → a ≡ false → ⊥
 never_both a e f = let clash : true ≡ false = sym e ∙ f in cc
 
+-- either choice is at most the greater number
 pub if_at_most : (k o : ℕ) (b : Bool) → o ≤ k → (if b then k else o) ≤ k
 if_at_most k o true l = omega arith
 if_at_most k o false l = l
 
+-- false is not true
 pub false_not_true : false ≡ true → ⊥
 false_not_true h = cc
 

@@ -11,6 +11,7 @@ use Rattle.lmn_body.specs.Rules.{Goes}
 use Rattle.lmn_base.specs.Lists.{In}
 use Rattle.lmn_base.proofs.Lists.{in_either}
 
+-- what goes to a membrane if it is this one is among what goes there
 pub in_if : (r : Registers) (x inside : ℕ) (ns : List ℕ) (b : ℕ) → In b (if_inside r x inside ns) → In b ns
 in_if r x inside ns b i = by (r.head.images.membrane inside == x) i
   where
@@ -21,6 +22,7 @@ in_if r x inside ns b i = by (r.head.images.membrane inside == x) i
 if_there : (r : Registers) (inside : ℕ) (ns : List ℕ) → if_inside r (r.head.images.membrane inside) inside ns ≡ ns
 if_there r inside ns = rw (eq-eqb (r.head.images.membrane inside) (r.head.images.membrane inside) refl) refl
 
+-- an atom that a body adds is new, or stood in a membrane that moves
 abbrev pub Comes : Registers → (ℕ → List ℕ) → ℕ → ℕ → List BodyItem → ℕ → Type 0
 Comes r left a c body b = In b (new_atoms r a c body) ⊎ ((k : ℕ) × In k (moved_mems r body) × In b (left k))
 
@@ -70,6 +72,7 @@ mems_come_from r left m (Rules of inside ∷ xs) x b i = mems_come_from r left m
 abbrev pub Arrives : Registers → (ℕ → List ℕ) → List ℕ → ℕ → ℕ → List BodyItem → ℕ → Type 0
 Arrives r left ks a c body b = (y : ℕ) × (In y ks → ⊥) × In b (added_atoms r left a c body y)
 
+-- each new atom goes to some membrane that isn't removed
 pub new_arrives : (r : Registers) (left : ℕ → List ℕ) (ks : List ℕ) (E : ℕ → Type 0) (a c : ℕ) (body : List BodyItem) → Goes r ks E body → (b : ℕ) → In b (new_atoms r a c body) → Arrives r left ks a c body b
 new_arrives r left ks E a c [] g b i = absurd i
 new_arrives r left ks E a c (Atom functor links inside ∷ xs) g b (inl e) =
@@ -91,6 +94,7 @@ new_arrives r left ks E a c (Rest of inside ∷ xs) g b i =
 new_arrives r left ks E a c (Rule rule inside ∷ xs) g b i = new_arrives r left ks E a c xs g.1 b i
 new_arrives r left ks E a c (Rules of inside ∷ xs) g b i = new_arrives r left ks E a c xs g.2 b i
 
+-- and so does each that stood in a membrane that moves
 pub moved_arrives : (r : Registers) (left : ℕ → List ℕ) (ks : List ℕ) (E : ℕ → Type 0) (a c : ℕ) (body : List BodyItem) → Goes r ks E body → (k b : ℕ) → In k (moved_mems r body) → In b (left k) → Arrives r left ks a c body b
 moved_arrives r left ks E a c [] g k b i j = absurd i
 moved_arrives r left ks E a c (Atom functor links inside ∷ xs) g k b i j =

@@ -24,6 +24,7 @@ use Rattle.lmn_base.specs.Lists.{In}
 
 -- Indices
 
+-- the index of a number is at most the length
 pub index_most : (x : ℕ) (xs : List ℕ) → index_of x xs ≤ length xs
 index_most x [] = omega arith
 index_most x (y ∷ ys) = let r = index_most x ys in by (y == x) r
@@ -32,6 +33,7 @@ index_most x (y ∷ ys) = let r = index_most x ys in by (y == x) r
     by true r = omega arith
     by false r = omega arith
 
+-- and below it where the number stands in the list
 pub index_in : (x : ℕ) (xs : List ℕ) → In x xs → index_of x xs < length xs
 index_in x [] i = absurd i
 index_in x (y ∷ ys) (inl e) = rw (eq-eqb y x e) (omega arith)
@@ -47,6 +49,7 @@ index_split [] m rest d = rw (eq-eqb m m refl) refl
 index_split (x ∷ before) m rest d =
     rw (not_eq x m (λ e. each_in (λ z. x ≢ z) (before ++ (m ∷ rest)) m d.0 (in_right m before (m ∷ rest) (inl refl)) e)) (ap (λ n. suc n) (index_split before m rest d.1))
 
+-- a number behind another has a higher index
 pub index_later : (before : List ℕ) (m : ℕ) (rest : List ℕ) (n : ℕ) → Distinct (before ++ (m ∷ rest)) → In n rest → length before < index_of n (before ++ (m ∷ rest))
 index_later [] m rest n d i = rw (not_eq m n (λ e. each_in (λ z. m ≢ z) rest n d.0 i e)) (omega arith)
 index_later (x ∷ before) m rest n d i =

@@ -28,15 +28,18 @@ use Rattle.lmn_heap.proofs.Common.{no_links, no_port}
 use Rattle.lmn_base.specs.Lists.{In}
 use Rattle.lmn_base.proofs.Lists.{in_either}
 
+-- ports of two lists go to the heap one list after the other
 pub heap_append : {P : Type 0} (f : P → Port) (xs ys : List (P × ℕ)) → at_heap f (xs ++ ys) ≡ at_heap f xs ++ at_heap f ys
 heap_append f [] ys = refl
 heap_append f (x ∷ xs) ys = ap (λ zs. (f x.0, x.1) ∷ zs) (heap_append f xs ys)
 
+-- a port of a register that is listed with its link is listed as a port of the heap
 pub heap_in : {P : Type 0} (f : P → Port) (e : P × ℕ) (xs : List (P × ℕ)) → IsOneOf e xs → IsOneOf {A = Port × ℕ} (f e.0, e.1) (at_heap f xs)
 heap_in f e [] i = absurd i
 heap_in {P = P} f e (x ∷ xs) (inl h) = inl (ap (λ (w : P × ℕ). (f w.0, w.1)) h)
 heap_in f e (x ∷ xs) (inr i) = inr (heap_in f e xs i)
 
+-- each port of the heap that is listed comes from one of a register
 pub of_heap : {P : Type 0} (f : P → Port) (e : Port × ℕ) (xs : List (P × ℕ)) → IsOneOf e (at_heap f xs) → (x : P × ℕ) × IsOneOf x xs × (◌≡◌ {A = Port × ℕ} (f x.0, x.1) e)
 of_heap f e [] i = absurd i
 of_heap f e (x ∷ xs) (inl h) = (x, inl refl, h)
@@ -106,9 +109,11 @@ IsNewPort s new p = In p.0 new × (p.1 < arity_of s p.0) × (partners s p ≡ No
 abbrev pub Written : Heap → Registers → ℕ → List BodyItem → Type 0
 Written s r a body = (e : ℕ × Functor) → IsOneOf e (made_of r a body) → s.atoms e.0 ≡ Some (new_atom e.1)
 
+-- each copy of a body is one of its part
 abbrev pub AreCopied : Heap → Heap → Registers → ℕ → List BodyItem → Type 0
 AreCopied h s r c body = (e : ℕ × ℕ) → IsOneOf e (copies_of c body) → HasCopy h s (r.head.images.part e.1) (r.copy e.0) (r.copied e.0)
 
+-- each new port of a body is a port of a new atom
 pub new_is : (r : Registers) (a c : ℕ) (body : List BodyItem) → AllMade body → (h s : Heap) → Written s r a body → AreCopied h s r c body → (e : Port × ℕ) → IsOneOf e (at_heap (new_port r) (new_ports a c body)) → IsNewPort s (new_atoms r a c body) e.0
 new_is r a c [] w h s wr cp e i = absurd i
 new_is r a c (Atom functor ls inside ∷ xs) w h s wr cp e i =
@@ -142,6 +147,7 @@ new_is r a c (Rules of inside ∷ xs) w h s wr cp e i = new_is r a c xs w.1 h s 
 abbrev pub NewOrInside : Heap → Registers → ℕ → ℕ → List BodyItem → Port → Type 0
 NewOrInside s r a c body p = IsOneOf p (ports (at_heap (new_port r) (new_ports a c body))) ⊎ ((q : Port) × In q.0 (new_atoms r a c body) × (partners s p ≡ Some q))
 
+-- each port of a new atom is a new port, or stands inside a copy
 pub new_all : (r : Registers) (a c : ℕ) (body : List BodyItem) → AllMade body → (h s : Heap) → Written s r a body → AreCopied h s r c body → (p : Port) → In p.0 (new_atoms r a c body) → p.1 < arity_of s p.0 → NewOrInside s r a c body p
 new_all r a c [] w h s wr cp p i l = absurd i
 new_all r a c (Atom functor ls inside ∷ xs) w h s wr cp p (inl q) l =
@@ -182,6 +188,7 @@ new_all r a c (Rest of inside ∷ xs) w h s wr cp p i l = new_all r a c xs w.1 h
 new_all r a c (Rule rule inside ∷ xs) w h s wr cp p i l = new_all r a c xs w.1 h s wr cp p i l
 new_all r a c (Rules of inside ∷ xs) w h s wr cp p i l = new_all r a c xs w.1 h s wr cp p i l
 
+-- the numbers of atoms that are listed with their functors
 abbrev pub numbers : List (ℕ × Functor) → List ℕ
 numbers es = map (λ (e : ℕ × Functor). e.0) es
 
@@ -260,6 +267,7 @@ one_atom_links : (r : Registers) (a i x : ℕ) (xs : List ℕ) → places x (lin
 one_atom_links r a i x [] = refl
 one_atom_links r a i x (y ∷ xs) = ap (λ n. one_if_same x y + n) (one_atom_links r a (i + 1) x xs)
 
+-- a link of a body has as many places in its connectors and ports as in its items
 pub body_count : (r : Registers) (a c x : ℕ) (body : List BodyItem) → places x (both_links (connectors body)) + places x (links (at_heap (new_port r) (new_ports a c body))) ≡ places x (body_links body)
 body_count r a c x [] = refl
 body_count r a c x (Atom functor ls inside ∷ xs) =

@@ -37,9 +37,11 @@ pub record Brings (s t : Heap) (new : List ℕ) : Type 0 where
   pub paired : Paired s → Paired t
   pub shaped : Shaped s → Shaped t
 
+-- what is there isn't none
 pub some_not_none : {X : Type 0} {A : Type 0} (x : A) (o : Option A) → o ≡ None → o ≡ Some x → X
 some_not_none x o e f = let z : None ≡ Some x = sym e ∙ f in absurd (cc)
 
+-- so it is of atoms
 pub atom_not_none : {X : Type 0} (o : Option HeapAtom) → o ≡ None → IsSome o → X
 atom_not_none o e i = let z : IsSome {T = HeapAtom} None = subst (λ (q : Option HeapAtom). IsSome q) e i in absurd (cc)
 
@@ -50,6 +52,7 @@ place_none o e = ap (option_map (λ x. x.place)) e
 pub brought_old : {s t : Heap} {new : List ℕ} → Brings s t new → (a : ℕ) → IsAtom s a → (In a new → ⊥) × (t.atoms a ≡ s.atoms a)
 brought_old {s = s} {new = new} b a is = let n : In a new → ⊥ = λ i. atom_not_none (s.atoms a) (b.fresh a i) is in (n, b.others a n)
 
+-- a heap that stays as it is brings nothing
 pub brings_none : (s : Heap) → Brings s s []
 brings_none s = record {
   others = λ a o. refl;
@@ -61,6 +64,7 @@ brings_none s = record {
   shaped = λ p. p;
 }
 
+-- what brings some and then others brings both
 pub brings_after : (s t u : Heap) (n1 n2 : List ℕ) → Brings s t n1 → Brings t u n2 → Brings s u (n1 ++ n2)
 brings_after s t u n1 n2 g h = record {
   others = λ a o. h.others a (λ i. o (in_right a n1 n2 i)) ∙ g.others a (λ i. o (in_left a n1 n2 i));
@@ -244,6 +248,7 @@ link_at o i = slice_index_or (partners_of o) i None
 abbrev pub Old : Heap → Heap → Type 0
 Old h s = (a : ℕ) → IsAtom h a → s.atoms a ≡ h.atoms a
 
+-- what was there before stays as it was when more is brought
 pub old_on : {s t : Heap} {new : List ℕ} (h : Heap) → Old h s → Brings s t new → Old h t
 old_on {s = s} h old b a is = (brought_old b a (subst (λ (o : Option HeapAtom). IsSome o) (sym (old a is)) is)).1 ∙ old a is
 

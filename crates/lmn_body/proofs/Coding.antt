@@ -20,26 +20,31 @@ use Rattle.lmn_base.specs.Graphs.{Port}
 
 -- Code in two parts
 
+-- what code does is what its first part does, and then the second
 pub commits_append : (r : Registers) (xs ys : List Instr) (s u : Heap) → DoesAll r (xs ++ ys) s u → (t : Heap) × DoesAll r xs s t × DoesAll r ys t u
 commits_append r [] ys s u w = (s, refl, w)
 commits_append r (x ∷ xs) ys s u w = let v = commits_append r xs ys w.0 u w.2 in (v.0, (w.0, w.1, v.1), v.2)
 
+-- and what it makes too
 pub prepares_append : (r : Registers) (xs ys : List Instr) (s u : Heap) → Prepares r (xs ++ ys) s u → (t : Heap) × Prepares r xs s t × Prepares r ys t u
 prepares_append r [] ys s u w = (s, refl, w)
 prepares_append r (x ∷ xs) ys s u w = let v = prepares_append r xs ys w.0 u w.2 in (v.0, (w.0, w.1, v.1), v.2)
 
 -- Removals
 
+-- instructions that remove atoms take them from the heap, one by one
 pub commits_taken : (r : Registers) (ns : List ℕ) (s t : Heap) → DoesAll r (map RemoveAtom ns) s t → t ≡ taken_all s (map r.head.images.atom ns)
 commits_taken r [] s t w = w
 commits_taken r (n ∷ ns) s t w = commits_taken r ns w.0 t w.2 ∙ ap (λ z. taken_all z (map r.head.images.atom ns)) w.1
 
+-- and make nothing
 pub prepares_taken : (r : Registers) (ns : List ℕ) (s t : Heap) → Prepares r (map RemoveAtom ns) s t → t ≡ s
 prepares_taken r [] s t w = w
 prepares_taken r (n ∷ ns) s t w = prepares_taken r ns w.0 t w.2 ∙ w.1
 
 -- What is made
 
+-- the making part of code places each atom in its membrane
 pub commits_placed : (r : Registers) (a m c : ℕ) (body : List BodyItem) → Simple body → (s t : Heap) → DoesAll r (making a m c body) s t → t ≡ all_placed s (places_of r a c body)
 commits_placed r a m c [] p s t w = w
 commits_placed r a m c (Atom functor links inside ∷ xs) p s t w = commits_placed r (a + 1) m c xs p.1 w.0 t w.2 ∙ ap (λ z. all_placed z (places_of r (a + 1) c xs)) w.1.1
@@ -54,6 +59,7 @@ commits_placed r a m c (Rules of inside ∷ xs) p s t w = absurd p.0
 free_on : (s t : Heap) (es : List (ℕ × Functor)) → t ≡ s → AllFree t es → AllFree s es
 free_on s t es e w = subst (λ z. AllFree z es) e w
 
+-- and has made each before
 pub prepares_made : (r : Registers) (a m c : ℕ) (body : List BodyItem) → Simple body → (s t : Heap) → Prepares r (making a m c body) s t
     → AllFree s (made_of r a body) × (t ≡ all_made s (made_of r a body))
 prepares_made r a m c [] p s t w = (tt, w)
@@ -77,6 +83,7 @@ abbrev pub at_heap : {P : Type 0} → (P → Port) → List (P × ℕ) → List 
 at_heap f [] = []
 at_heap f (e ∷ es) = (f e.0, e.1) ∷ at_heap f es
 
+-- the ends of a class on the heap are those of the registers
 pub ends_map : {P : Type 0} (f : P → Port) (m : ℕ → ℕ) (z : ℕ) (es : List (P × ℕ)) → ends_of_class m z (at_heap f es) ≡ map f (ends_of_class m z es)
 ends_map f m z [] = refl
 ends_map f m z (e ∷ es) = by (m e.1 == z) (ends_map f m z es)
@@ -85,6 +92,7 @@ ends_map f m z (e ∷ es) = by (m e.1 == z) (ends_map f m z es)
     by true h = ap (λ xs. f e.0 ∷ xs) h
     by false h = h
 
+-- the instructions of a class tie its ends
 pub class_commits : (r : Registers) (ps : List NewPort) (hs : List AtomPort) (s t : Heap) → DoesAll r (link_code ps hs) s t → t ≡ all_tied s (tie_of (map (new_port r) ps) (map (old_port r) hs))
 class_commits r [] [] s t w = w
 class_commits r [] (g ∷ []) s t w = w
@@ -113,6 +121,7 @@ tied_append : (s : Heap) (ts us : List (Tie Port)) → all_tied s (ts ++ us) ≡
 tied_append s [] us = refl
 tied_append s (t ∷ ts) us = tied_append (tied s t) ts us
 
+-- instructions that link the ports of a body tie them, class by class
 pub commits_tied : (r : Registers) (m : ℕ → ℕ) (news : List (NewPort × ℕ)) (olds : List (AtomPort × ℕ)) (zs : List ℕ) (s t : Heap) → DoesAll r (links_code m news olds zs) s t
     → t ≡ all_tied s (ties_of m (at_heap (new_port r) news) (at_heap (old_port r) olds) zs)
 commits_tied r m news olds [] s t w = w
@@ -123,6 +132,7 @@ commits_tied r m news olds (z ∷ zs) s t w =
     commits_tied r m news olds zs v.0 t v.2 ∙ ap (λ x. all_tied x (ties_of m (at_heap (new_port r) news) (at_heap (old_port r) olds) zs)) here
     ∙ sym (tied_append s (tie_of (ends_of_class m z (at_heap (new_port r) news)) (ends_of_class m z (at_heap (old_port r) olds))) (ties_of m (at_heap (new_port r) news) (at_heap (old_port r) olds) zs))
 
+-- and make nothing
 pub prepares_tied : (r : Registers) (m : ℕ → ℕ) (news : List (NewPort × ℕ)) (olds : List (AtomPort × ℕ)) (zs : List ℕ) (s t : Heap) → Prepares r (links_code m news olds zs) s t → t ≡ s
 prepares_tied r m news olds [] s t w = w
 prepares_tied r m news olds (z ∷ zs) s t w =

@@ -49,6 +49,7 @@ inner x i y j (inl e) d l =
 inner x i y j (inr (inl e)) d l = subst (λ z. Inner z i y j) e (of_second i y j (subst (λ z. link_of whole z i ≡ Some (y, j)) (sym e) l))
 inner x i y j (inr (inr v)) d l = absurd v
 
+-- in the example a part has its copy
 pub part_has_copy : PartHasCopy
 part_has_copy = record {
   is = record { atoms = parted; part = part; long = refl; entered = refl; functors = functors; inner = inner };

@@ -57,6 +57,7 @@ use Rattle.lmn_base.specs.Lists.{In}
 
 -- Numbers from 0 on
 
+-- each of n numbers from a on is one of those
 pub rising_below : (n a x : ℕ) → IsOneOf x (rising a n) → (a ≤ x) × (x < a + n)
 rising_below zero a x i = absurd i
 rising_below (suc n) a x (inl e) = (subst (λ z. a ≤ z) e (omega arith), subst (λ z. z < a + suc n) e (omega arith))
@@ -68,16 +69,19 @@ rising_below (suc n) a x (inr i) = let w = rising_below n (suc a) x i in (low w.
     high : x < suc a + n → x < a + suc n
     high h = omega arith
 
+-- a number that stands in a list is one of the list
 pub heap_in_of : (a : ℕ) (xs : List ℕ) → In a xs → IsOneOf a xs
 heap_in_of a [] i = i
 heap_in_of a (x ∷ xs) (inl e) = inl e
 heap_in_of a (x ∷ xs) (inr i) = inr (heap_in_of a xs i)
 
+-- what is one of a list stands in it
 pub of_heap_in : (a : ℕ) (xs : List ℕ) → IsOneOf a xs → In a xs
 of_heap_in a [] i = i
 of_heap_in a (x ∷ xs) (inl e) = inl e
 of_heap_in a (x ∷ xs) (inr i) = inr (of_heap_in a xs i)
 
+-- images of different numbers that are different stand in a list once
 pub distinct_images : (f : ℕ → ℕ) (n a : ℕ) → ((x y : ℕ) → a ≤ x → x < a + n → a ≤ y → y < a + n → f x ≡ f y → x ≡ y) → heap.Distinct (map f (rising a n))
 distinct_images f zero a once = tt
 distinct_images f (suc n) a once = (
@@ -168,6 +172,7 @@ stands_times (p ∷ os) o (inr i) = by (cond (p.link == o.link) 1 0) (times o.li
     by : (x n : ℕ) → 1 ≤ n → 1 ≤ x + n
     by x n h = omega arith
 
+-- what has a place in a list is one of it
 pub often_in : (x : ℕ) (xs : List ℕ) → 1 ≤ places x xs → IsOneOf x xs
 often_in x [] h = absurd (off h)
   where
@@ -181,6 +186,7 @@ often_in x (y ∷ xs) h = elim (cases_eq y x) [
     rest : (a n : ℕ) → a ≡ 0 → 1 ≤ a + n → 1 ≤ n
     rest a n e h = omega arith
 
+-- and what is one of it has a place
 pub in_often : (x : ℕ) (xs : List ℕ) → IsOneOf x xs → 1 ≤ places x xs
 in_often x [] i = absurd i
 in_often x (y ∷ xs) (inl e) = by (one_if_same x y) (places x xs) (one_same x y (sym e))

@@ -334,6 +334,7 @@ prepared_all head body n rule r h valid guard m em c names s prepares =
           };
         }
 
+-- the code of a body that is run at an embedding fires the rule
 pub body_fires_within : BodyFiresWithin
 body_fires_within head body n nested r h valid guard m em stand c names h' (s, prepares, commits) =
     let rule = nested.atoms in
@@ -459,6 +460,7 @@ module _ (head : List HeadItem) (body : List BodyItem) (n : ℕ) (rule : AtomRul
       let p = parts_taken a.0 b.0 (commits_taken r (rising 0 N2) s a.0 a.1) b.1 in
       (p.0, p.1, commits_taken_mems r (rising 1 K2) b.0 t b.2 ∙ ap (λ z. all_taken_mems z (membrane_images r head)) p.2)
 
+-- each instruction of a body that is prepared can run in its turn
 pub body_can_run : BodyCanRun
 body_can_run head body n nested r h valid guard m em stand c names s prepares spares =
     let rule = nested.atoms in

@@ -12,6 +12,7 @@ use Rattle.lmn_body.proofs.ListOps.{there_by}
 use Rattle.lmn_body.proofs.Growing.{Grown, grown_none, grown_after, grown_placed, grown_all_placed, grown_placed_mem, grown_moved, grown_rules, only_at, some_there}
 use Rattle.lmn_base.specs.Lists.{In}
 
+-- each membrane whose content moves is one that the head removes
 pub moved_within : (r : Registers) (ks : List ℕ) (E : ℕ → Type 0) (body : List BodyItem) → Goes r ks E body → (x : ℕ) → In x (moved_mems r body) → In x ks
 moved_within r ks E [] g x i = absurd i
 moved_within r ks E (Atom functor links inside ∷ xs) g x i = moved_within r ks E xs g.1 x i
@@ -39,6 +40,7 @@ same_atoms_added r f g a c (Rest of inside ∷ xs) x e =
 same_atoms_added r f g a c (Rule rule inside ∷ xs) x e = same_atoms_added r f g a c xs x e
 same_atoms_added r f g a c (Rules of inside ∷ xs) x e = same_atoms_added r f g a c xs x e
 
+-- a body adds the same membranes by two maps that agree on those that move
 pub same_mems_added : (r : Registers) (f g : ℕ → List ℕ) (m : ℕ) (body : List BodyItem) (x : ℕ) → ((k : ℕ) → In k (moved_mems r body) → g k ≡ f k) → added_mems r g m body x ≡ added_mems r f m body x
 same_mems_added r f g m [] x e = refl
 same_mems_added r f g m (Atom functor links inside ∷ xs) x e = same_mems_added r f g m xs x e
@@ -53,6 +55,7 @@ same_mems_added r f g m (Rest of inside ∷ xs) x e =
 same_mems_added r f g m (Rule rule inside ∷ xs) x e = same_mems_added r f g m xs x e
 same_mems_added r f g m (Rules of inside ∷ xs) x e = same_mems_added r f g m xs x e
 
+-- a body adds the same rules by two maps that agree on the membranes from which it takes them
 pub same_rules_added : (r : Registers) (ks : List ℕ) (E : ℕ → Type 0) (f g : ℕ → List ℕ) (body : List BodyItem) (x : ℕ) → Goes r ks E body → ((k : ℕ) → In k ks → g k ≡ f k) → added_rules r g body x ≡ added_rules r f body x
 same_rules_added r ks E f g [] x w e = refl
 same_rules_added r ks E f g (Atom functor links inside ∷ xs) x w e = same_rules_added r ks E f g xs x w.1 e
@@ -85,6 +88,7 @@ grown_as ks s t mv na nm A M R A' M' R' g a m r = record {
   rules = λ x o. g.rules x o ∙ ap (λ zs. rules_in s x ++ zs) (sym (r x));
 }
 
+-- the heap has grown by what a body makes
 abbrev pub GrownBy : Registers → List ℕ → ℕ → ℕ → ℕ → List BodyItem → Heap → Heap → Type 0
 GrownBy r ks a m c body s t =
     Grown ks s t (moved_mems r body) (new_atoms r a c body) (made_mems r m body) (added_atoms r (atoms_in s) a c body) (added_mems r (mems_in s) m body) (added_rules r (rules_in s) body)
@@ -107,6 +111,7 @@ step r ks E s t u a m c xs mv na nm A M R w sub apart g h =
 there_on : (E : ℕ → Type 0) (s t : Heap) → ((x : ℕ) → there_by (t.mems x) ≡ there_by (s.mems x)) → ((x : ℕ) → E x → IsSome (s.mems x)) → (x : ℕ) → E x → IsSome (t.mems x)
 there_on E s t e h x i = some_there (s.mems x) (t.mems x) (e x) (h x i)
 
+-- the heap grows by what a body makes when the making part of its code runs
 pub making_grows : (r : Registers) (ks : List ℕ) (E : ℕ → Type 0) (a m c : ℕ) (body : List BodyItem) → Goes r ks E body → (s t : Heap) → ((x : ℕ) → E x → IsSome (s.mems x))
     → DoesAll r (making a m c body) s t → GrownBy r ks a m c body s t
 making_grows r ks E a m c [] w s t h run = subst (λ z. Grown ks s z [] [] [] (λ x. []) (λ x. []) (λ x. [])) (sym run) (grown_none ks s)

@@ -8,6 +8,7 @@ use Rattle.lmn_heap.specs.Sound.{Listed}
 use Rattle.lmn_heap.proofs.Listing.{same_listed, alter_at}
 use Rattle.lmn_body.proofs.ListOps.{change_away, change_keeps, place_by}
 
+-- what waits after a membrane is placed waited before, and is another
 pub place_after : (s : Heap) (m n : ℕ) (x : ℕ) → mem_place_of (placed_mem s m n) x ≡ Some waiting → (mem_place_of s x ≡ Some waiting) × (x ≢ n)
 place_after s m n x e = elim (cases_eq x n) [
   | inl q ↦ absurd (never (s.mems n) (sym (change_keeps place_by f1 m (heap.mem_with_mems (λ xs. xs ++ n ∷ [])) (λ y. refl) n ∙ ap place_by (alter_at s.mems n (option_map (mem_with_place (within m)))))
@@ -38,6 +39,7 @@ sent_back m n P d (Some (within j)) e = by (j == m) e
     by true f = absurd (d n (let g : within n ≡ P = (cc) in sym g))
     by false f = f
 
+-- the places of membranes after the content of one has moved
 pub moved_place : (s : Heap) (m n k : ℕ) → mem_place_of (moved_all s m n) k ≡ sent_at m n (mem_place_of s k)
 moved_place s m n k = by (alter (alter s.mems m (option_map emptied)) n (option_map (filled (atoms_in s m) (mems_in s m))) k)
     ∙ ap (sent_at m n) (change_keeps place_by (alter s.mems m (option_map emptied)) n (filled (atoms_in s m) (mems_in s m)) (λ y. refl) k ∙ change_keeps place_by s.mems m emptied (λ y. refl) k)
@@ -46,6 +48,7 @@ moved_place s m n k = by (alter (alter s.mems m (option_map emptied)) n (option_
     by None = refl
     by (Some x) = refl
 
+-- what waits then waited before
 pub waits_before : (s : Heap) (m n k : ℕ) → mem_place_of (moved_all s m n) k ≡ Some waiting → mem_place_of s k ≡ Some waiting
 waits_before s m n k e = sent_back m n waiting (λ j q. absurd (cc)) (mem_place_of s k) (sym (moved_place s m n k) ∙ e)
 

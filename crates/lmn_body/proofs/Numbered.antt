@@ -163,5 +163,6 @@ module _ (uses : Level-F NumberedContexts → List CtxUse) (kind : ℕ → TypeK
           by zero l m = absurd (omega arith)
           by (suc n) l m = (n, refl, omega arith)
 
+-- the membrane of a context of a head is one of the head, or that of the rule
 pub contexts_of_heads : ContextsOfHeads
 contexts_of_heads kind head x = (in_head (λ l. l.contexts) kind head x, in_head (λ l. l.rule_contexts) kind head x)

@@ -29,10 +29,12 @@ use Rattle.lmn_base.proofs.Lists.{get_below, in_either}
 use Rattle.lmn_heap.proofs.Common.{is_atom_at}
 use Rattle.lmn_base.specs.Lists.{In}
 
+-- atoms that are taken keep each link as it is
 pub taken_links : (ns : List ℕ) (s : Heap) (a i : ℕ) → link_of (taken_all s ns) a i ≡ link_of s a i
 taken_links [] s a i = refl
 taken_links (n ∷ ns) s a i = taken_links ns (taken s n) a i ∙ (taken_stays s n).links a i
 
+-- atoms of two lists joined are taken one list after the other
 pub taken_append : (s : Heap) (xs ys : List ℕ) → taken_all s (xs ++ ys) ≡ taken_all (taken_all s xs) ys
 taken_append s [] ys = refl
 taken_append s (x ∷ xs) ys = taken_append (taken s x) xs ys
@@ -148,6 +150,7 @@ module _ (h : Heap) (valid : Valid h) (head : List HeadItem) (guard : List Cond)
         },
       )
 
+-- instructions that remove parts make nothing
 pub no_part_prepares : (r : Registers) (gs : List ℕ) (s t : Heap) → Prepares r (map RemovePart gs) s t → t ≡ s
 no_part_prepares r [] s t w = w
 no_part_prepares r (g ∷ gs) s t w = no_part_prepares r gs w.0 t w.2 ∙ w.1

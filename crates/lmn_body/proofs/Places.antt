@@ -21,6 +21,7 @@ use Rattle.lmn_body.specs.Within.{membrane_images}
 use Rattle.lmn_body.proofs.Below.{preorder, below_home, removed_is, is_removed}
 use Rattle.lmn_base.specs.Lists.{In}
 
+-- a head membrane whose context stands in the body has its image among those that move
 pub moved_are : (r : Registers) (body : List BodyItem) (k : ℕ) → IsOneOf k (rests body) → In (r.head.images.membrane k) (moved_mems r body)
 moved_are r [] k i = absurd i
 moved_are r (Atom functor links inside ∷ xs) k i = moved_are r xs k i

@@ -41,6 +41,7 @@ pub record MemsMade (s t : Heap) (nm : List ℕ) : Type 0 where
   pub line : t.new_mems ≡ s.new_mems ++ nm
   pub root : t.root ≡ s.root
 
+-- a heap that stays as it is has no membrane made
 pub none_made : (s : Heap) → MemsMade s s []
 none_made s = record {
   atoms = λ x. refl;
@@ -61,6 +62,7 @@ some_or_none : (o : Option HeapMem) → IsSome o ⊎ (o ≡ None)
 some_or_none None = inr refl
 some_or_none (Some x) = inl refl
 
+-- membranes made and then others are both made
 pub mems_made_after : (s t u : Heap) (n1 n2 : List ℕ) → MemsMade s t n1 → MemsMade t u n2 → MemsMade s u (n1 ++ n2)
 mems_made_after s t u n1 n2 g h = record {
   atoms = λ x. h.atoms x ∙ g.atoms x;
@@ -102,6 +104,7 @@ made_atom_mems s a f = record {
   root = refl;
 }
 
+-- one that is made is made
 pub made_one_mem : (s : Heap) (m : ℕ) → s.mems m ≡ None → MemsMade s (made_mem s m) (m ∷ [])
 made_one_mem s m free =
     let at : (made_mem s m).mems m ≡ Some new_mem = alter_at s.mems m (λ _. Some new_mem) in
@@ -215,6 +218,7 @@ same_prepares r a m k xs h s u t e f b = brings_after s u t [] (new_atoms r a k 
 same_old : (h s u : Heap) → u.atoms ≡ s.atoms → u.new_atoms ≡ s.new_atoms → Old h s → Paired s → Shaped s → Old h u × Paired u × Shaped u
 same_old h s u e f old p q = let b = brings_on s s u [] e f (brings_none s) in (old_on h old b, b.paired p, b.shaped q)
 
+-- what the making part of a body makes is all that the body lists, with copies of the parts
 pub making_prepares : (r : Registers) (a m k : ℕ) (body : List BodyItem) (h : Heap) → Paired h → Shaped h → ((e : ℕ × ℕ) → splice.IsOneOf e (copies_of k body) → Whole h (r.head.images.part e.1)) → (s t : Heap) → Old h s → Paired s → Shaped s
     → Prepares r (making a m k body) s t → MakesAll h s t r a m k body
 making_prepares r a m k [] h hp hs whole s t old p q w = record {

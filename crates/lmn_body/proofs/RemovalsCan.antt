@@ -19,6 +19,7 @@ use Rattle.lmn_body.proofs.Parts.{taken_links}
 use Rattle.lmn_heap.proofs.Heights.{parent_place}
 use Rattle.lmn_base.specs.Lists.{In}
 
+-- code can run where its first part can, and then the second
 pub can_append : (r : Registers) (xs ys : List Instr) (s : Heap) → CanRun r xs s → ((t : Heap) → DoesAll r xs s t → CanRun r ys t) → CanRun r (xs ++ ys) s
 can_append r [] ys s c next = next s refl
 can_append r (x ∷ xs) ys s c next = (c.0, λ t d. can_append r xs ys t (c.1 t d) (λ u w. next u (t, d, w)))
@@ -27,10 +28,12 @@ can_append r (x ∷ xs) ys s c next = (c.0, λ t d. can_append r xs ys t (c.1 t 
 pub stays_in_place : (s : Heap) (a b : ℕ) → b ≢ a → IsInPlace s b → IsInPlace (taken s a) b
 stays_in_place s a b d i = let w = within_of s b i in in_place_within (taken s a) b w.0 (taken_place_away s a b d ∙ w.1)
 
+-- other atoms stay in place when some are taken
 pub all_stay_in_place : (ns : List ℕ) (s : Heap) (b : ℕ) → (In b ns → ⊥) → IsInPlace s b → IsInPlace (taken_all s ns) b
 all_stay_in_place [] s b o i = i
 all_stay_in_place (n ∷ ns) s b o i = all_stay_in_place ns (taken s n) b (λ j. o (inr j)) (stays_in_place s n b (λ e. o (inl (sym e))) i)
 
+-- atoms in place can be removed
 pub atoms_can : (r : Registers) (ns : List ℕ) (s : Heap) → Distinct (map r.head.images.atom ns) → ((n : ℕ) → In n ns → IsInPlace s (r.head.images.atom n)) → CanRun r (map RemoveAtom ns) s
 atoms_can r [] s d i = tt
 atoms_can r (n ∷ ns) s d i = (
@@ -56,6 +59,7 @@ parts_can r h (g ∷ gs) d s pr at e apart i = (
       (λ z. apart g k a (inl refl) (inr x) (λ q. each_in (λ u. g ≢ u) gs k d.0 x q) (reached_into h s (r.head.images.part g) pr (at g (inl refl)) e a ((w.2 a).0 z)).1 y) (i k a (inr x) y))),
 )
 
+-- membranes that stand in others can be removed
 pub mems_can : (r : Registers) (ns : List ℕ) (s : Heap) → Distinct (map r.head.images.membrane ns) → ((n : ℕ) → In n ns → (p : ℕ) × (parent_of s (r.head.images.membrane n) ≡ Some p)) → CanRun r (map RemoveMem ns) s
 mems_can r [] s d i = tt
 mems_can r (n ∷ ns) s d i = (

@@ -16,14 +16,17 @@ use Rattle.lmn_heap.proofs.Common.{place_home, in_of_without}
 use Rattle.lmn_heap.proofs.Heights.{parent_place}
 use Rattle.lmn_base.specs.Lists.{In}
 
+-- these membranes are taken, one after the other
 abbrev pub all_taken_mems : Heap → List ℕ → Heap
 all_taken_mems s [] = s
 all_taken_mems s (k ∷ ks) = all_taken_mems (taken_mem s k) ks
 
+-- instructions that remove membranes take them from the heap, one by one
 pub commits_taken_mems : (r : Registers) (ns : List ℕ) (s t : Heap) → DoesAll r (map RemoveMem ns) s t → t ≡ all_taken_mems s (map r.head.images.membrane ns)
 commits_taken_mems r [] s t w = w
 commits_taken_mems r (n ∷ ns) s t w = commits_taken_mems r ns w.0 t w.2 ∙ ap (λ z. all_taken_mems z (map r.head.images.membrane ns)) w.1
 
+-- and make nothing
 pub prepares_taken_mems : (r : Registers) (ns : List ℕ) (s t : Heap) → Prepares r (map RemoveMem ns) s t → t ≡ s
 prepares_taken_mems r [] s t w = w
 prepares_taken_mems r (n ∷ ns) s t w = prepares_taken_mems r ns w.0 t w.2 ∙ w.1
@@ -60,6 +63,7 @@ taken_one s a m home once is x = ap (λ (o : Option ℕ). atoms_by (atom_out s.m
   | inr d ↦ atoms_away s.mems m (without a) x d ∙ sym (without_absent a (atoms_in s x) (λ i. d (once x i)))
 ]
 
+-- a heap has shrunk by the atoms that are taken
 pub shrunk_atoms : (ns : List ℕ) (s : Heap) → Distinct ns → InOneList s ns → Shrunk s (taken_all s ns) ns []
 shrunk_atoms [] s d w = record { same = same_atoms s; atoms = λ x. refl; mems = λ x. refl; rules = λ x. refl; there = λ x. refl; gone_before = λ x e. inr e; line = refl; mem_line = refl }
 shrunk_atoms (a ∷ ns) s d w =
@@ -85,6 +89,7 @@ shrunk_atoms (a ∷ ns) s d w =
       mem_line = on.mem_line;
     }
 
+-- a membrane that stands in another has that for its parent
 pub place_parent : (s : Heap) (k p : ℕ) → mem_place_of s k ≡ Some (within p) → parent_of s k ≡ Some p
 place_parent s k p e = by (s.mems k) e
   where
@@ -92,6 +97,7 @@ place_parent s k p e = by (s.mems k) e
     by None e = absurd (cc)
     by (Some x) e = let g : x.place ≡ within p = (cc) in ap home_by g
 
+-- a heap has shrunk by the membranes that are taken
 pub shrunk_mems : (ks : List ℕ) (s : Heap) → Distinct ks → MemInOneList s ks → Shrunk s (all_taken_mems s ks) [] ks
 shrunk_mems [] s d w = record { same = same_atoms s; atoms = λ x. refl; mems = λ x. refl; rules = λ x. refl; there = λ x. refl; gone_before = λ x e. inr e; line = refl; mem_line = refl }
 shrunk_mems (k ∷ ks) s d w =
@@ -133,6 +139,7 @@ shrunk_after s t u ns ks g h = record {
   mem_line = h.mem_line ∙ g.mem_line;
 }
 
+-- membranes stay in their places when atoms are taken
 pub taken_places : (ns : List ℕ) (s : Heap) (x : ℕ) → mem_place_of (taken_all s ns) x ≡ mem_place_of s x
 taken_places [] s x = refl
 taken_places (a ∷ ns) s x = taken_places ns (taken s a) x ∙ (taken_stays s a).mem_places x

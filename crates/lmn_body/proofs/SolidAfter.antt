@@ -53,6 +53,7 @@ kept_atoms h h' u v g (a ∷ xs) e =
 
 -- Atoms that are made
 
+-- the links of a new atom in the solid
 pub numbered_links : (r : Registers) (v : ℕ → ℕ → ℕ) (g : ℕ → ℕ) (a i : ℕ) (xs : List ℕ)
     → ((e : Port × ℕ) → IsOneOf e (at_heap (new_port r) (new_ports_from a i xs)) → v e.0.0 e.0.1 ≡ g e.1) → links_from v (r.head.images.atom a) i (length xs) ≡ map g xs
 numbered_links r v g a i [] e = refl
@@ -61,6 +62,7 @@ numbered_links r v g a i (x ∷ xs) e =
     let rest = numbered_links r v g a (i + 1) xs (λ f w. e f (inr w)) in
     λ t. here t ∷ rest t
 
+-- an atom with its functor and links is that of the solid
 pub one_made : (v : ℕ → ℕ → ℕ) (a : ℕ) (f : Functor) (o : Option HeapAtom) (ls : List ℕ) → option_map (λ x. x.functor) o ≡ Some f → links_from v a 0 f.arity ≡ ls → solid_atom_at v a o ≡ (record { functor = f; links = ls }) ∷ []
 one_made v a f None ls e w = absurd (cc)
 one_made v a f (Some x) ls e w =
@@ -68,6 +70,7 @@ one_made v a f (Some x) ls e w =
     let links : links_from v a 0 x.functor.arity ≡ ls = ap (λ (k : Functor). links_from v a 0 k.arity) q ∙ w in
     λ t. (record { functor = q t; links = links t }) ∷ []
 
+-- the new atoms in the solid are those that the body makes
 pub new_atoms_are : (h' : Heap) (r : Registers) (v : ℕ → ℕ → ℕ) (g : ℕ → ℕ) (a c : ℕ) (body : List BodyItem) → AllMade body → Simple body
     → ((e : ℕ × Functor) → IsOneOf e (made_of r a body) → functor_of h' e.0 ≡ Some e.1)
     → ((e : Port × ℕ) → IsOneOf e (at_heap (new_port r) (new_ports a c body)) → v e.0.0 e.0.1 ≡ g e.1)

@@ -71,6 +71,7 @@ added_are h' r v g left solid l a c (Rest of inside ∷ xs) m f e x =
 added_are h' r v g left solid l a c (Rule rule inside ∷ xs) m f e x = added_are h' r v g left solid l a c xs m.1 f e x
 added_are h' r v g left solid l a c (Rules of inside ∷ xs) m f e x = added_are h' r v g left solid l a c xs m.1 f e x
 
+-- a firing leaves the atoms of the solid
 pub firing_leaves_solid : FiringLeavesSolid
 firing_leaves_solid h valid c r head body made taken h' f x o =
     let v : ℕ → ℕ → ℕ = λ a i. f.number (a, i) in
@@ -100,12 +101,14 @@ plain_solid r left copy g c (Rest of inside ∷ xs) p x =
 plain_solid r left copy g c (Rule rule inside ∷ xs) p x = plain_solid r left copy g c xs p x
 plain_solid r left copy g c (Rules of inside ∷ xs) p x = plain_solid r left copy g c xs p x
 
+-- a firing leaves the atoms of the solid, of a body without copies
 pub firing_leaves_atoms : FiringLeavesAtoms
 firing_leaves_atoms h valid c r head body made plain taken h' f x o =
     let left = left_solid h c taken (λ z. f.to (of_solid z)) in
     firing_leaves_solid h valid c r head body made taken h' f x o
     ∙ ap (λ zs. left x ++ zs) (plain_solid r left (λ k. solid_atoms_at h' (λ a i. f.number (a, i)) (r.copied k)) (λ z. f.to (of_rule z)) 0 body plain x)
 
+-- the atoms of a copy in the solid are those of its part
 pub copies_in_solid : CopiesInSolid
 copies_in_solid h valid c names r head body taken h' valid' f e i hangs =
     solid_copy h valid c names h' valid' f.number f.named (r.head.images.part e.1) (r.copy e.0) (r.copied e.0) (f.copies e i)

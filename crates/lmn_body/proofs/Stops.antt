@@ -118,6 +118,7 @@ mem_stays k (Some x) h = by x.place refl (h refl)
     by waiting e (inr i) = absurd (let z : IsSome (home_by waiting) = subst (λ q. IsSome (home_by q)) e i in cc)
     by gone e i = rw e refl
 
+-- a prepare may be given up after any of its instructions
 pub prepare_stops : PrepareStops
 prepare_stops r code c h valid s p =
     let w = all_wait r code c h h s (record { atoms = λ a. inl refl; mems = λ m. inl (same_spare (h.mems m)); root = refl }) p in (

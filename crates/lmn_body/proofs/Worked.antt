@@ -3,6 +3,7 @@ use Rattle.std.proofs.Common.{refl}
 use Rattle.std.specs.Fmt.{digits}
 use Rattle.lmn_body.specs.Worked.{WorkedBodies}
 
+-- the bodies of the examples have this code
 pub worked_bodies : WorkedBodies
 unfolding digits
 worked_bodies = record {

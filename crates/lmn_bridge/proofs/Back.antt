@@ -74,6 +74,7 @@ all_taken (lies {bs = bs} {as' = as'} {xs = xs} {rest = rest} {parts = parts} {p
       | inr z ↦ inl (in_left b bs as' (find_in b bs (omega (arith, z))))
     ]
 
+-- each membrane that stands first is the image of one of the level, or is left
 pub tops_taken : {h : Heap} {r : HeapReading} {link_of' : ℕ → ℕ} {typed_of : tree.Name → Rooted} {Q : tree.Level → ℕ → List ℕ → Forest → Forest → Type 0} {ls : tree.Levels} {bs ms ns : List ℕ} {ps : List (List ℕ)} {f f' : Forest}
     → LiesIn h r link_of' typed_of Q ls bs ps ms ns f f' → (b : ℕ) → In b (tops f) → In b ms ⊎ In b (tops f')
 tops_taken lies_none b p = inr p

@@ -32,6 +32,7 @@ abbrev pub side_by_side : SolidAtom → List SolidAtom → Process
 side_by_side a [] = atom_process a
 side_by_side a (b ∷ bs) = pair (atom_process a) (side_by_side b bs)
 
+-- some atoms side by side are atoms alone
 pub only_atoms_beside : (a : SolidAtom) (bs : List SolidAtom) → OnlyAtoms (side_by_side a bs)
 only_atoms_beside a [] = tt
 only_atoms_beside a (b ∷ bs) = (tt, only_atoms_beside b bs)
@@ -40,6 +41,7 @@ only_atoms_beside a (b ∷ bs) = (tt, only_atoms_beside b bs)
 abbrev pub labelled : SolidAtom → Label × List ℕ
 labelled a = (a.label, a.links)
 
+-- the atoms at the top of some side by side are these
 pub atoms_beside : (a : SolidAtom) (bs : List SolidAtom) → atoms_at_top (side_by_side a bs) ≡ map labelled (a ∷ bs)
 atoms_beside a [] = refl
 atoms_beside a (b ∷ bs) = ap (λ z. labelled a ∷ z) (atoms_beside b bs)
@@ -48,6 +50,7 @@ atoms_beside a (b ∷ bs) = ap (λ z. labelled a ∷ z) (atoms_beside b bs)
 abbrev pub rooted_at : Heap → HeapReading → ℕ × ℕ → ℕ → List ℕ → Rooted
 rooted_at h r root x xs = record { process = side_by_side (atom_at h r x) (map (atom_at h r) xs); root = r.name root.0 root.1 }
 
+-- where a list weighs something one of it does
 pub weighs_some : (w : ℕ → ℕ) (xs : List ℕ) → 1 ≤ weigh w xs → (c : ℕ) × In c xs × (1 ≤ w c)
 weighs_some w [] l = absurd (omega (arith, l))
 weighs_some w (x ∷ xs) l = elim (cases_eq (w x) 0) [
@@ -55,16 +58,19 @@ weighs_some w (x ∷ xs) l = elim (cases_eq (w x) 0) [
   | inr d ↦ (x, inl refl, omega (arith, d))
 ]
 
+-- what stands at a place is among the list
 pub among_at : (ys : List ℕ) (i y : ℕ) → slice_get ys i ≡ Some y → Among y ys
 among_at [] i y e = absurd (cc)
 among_at (z ∷ ys) zero y e = subst (λ w. Among w (z ∷ ys)) (same_Some z y e) at_head
 among_at (z ∷ ys) (suc i) y e = further (among_at ys i y e)
 
+-- and what is among it stands at one
 pub at_among : (ys : List ℕ) (y : ℕ) → Among y ys → (i : ℕ) × (slice_get ys i ≡ Some y)
 at_among [] y k = elim k [ ]
 at_among (x ∷ ys) y at_head = (0, refl)
 at_among (x ∷ ys) y (further k) = let u = at_among ys y k in (suc u.0, u.1)
 
+-- and so does what has a place
 pub place_at : (ys : List ℕ) (y : ℕ) → 1 ≤ places y ys → (i : ℕ) × (slice_get ys i ≡ Some y)
 place_at [] y l = absurd (omega (arith, l))
 place_at (z ∷ ys) y l = elim (cases_eq y z) [
@@ -72,6 +78,7 @@ place_at (z ∷ ys) y l = elim (cases_eq y z) [
   | inr d ↦ let u = place_at ys y (omega (arith, l, apart_none y z d)) in (suc u.0, u.1)
 ]
 
+-- what is among a list stands in it
 pub in_among : (xs : List ℕ) (x : ℕ) → Among x xs → In x xs
 in_among [] y k = elim k [ ]
 in_among (x ∷ xs) y at_head = inl refl

@@ -17,15 +17,18 @@ put_without b (y ∷ ys) k = elim (cases_eq y b) [
   | inr d ↦ rw (apart_test y b d) (there (put_without b ys (elim k [ inl e ↦ absurd (d e) | inr m ↦ m ])))
 ]
 
+-- what is put in stands in the list
 pub put_in : {b : ℕ} {ys zs : List ℕ} → Put b ys zs → In b zs
 put_in here = inl refl
 put_in (there p) = inr (put_in p)
 
+-- and all others stay
 pub put_keeps : {b : ℕ} {ys zs : List ℕ} → Put b ys zs → (c : ℕ) → In c ys → In c zs
 put_keeps here c k = inr k
 put_keeps (there p) c (inl e) = inl e
 put_keeps (there p) c (inr k) = inr (put_keeps p c k)
 
+-- and nothing else is there
 pub in_put : {b : ℕ} {ys zs : List ℕ} → Put b ys zs → (c : ℕ) → In c zs → (b ≡ c) ⊎ In c ys
 in_put here c (inl e) = inl e
 in_put here c (inr k) = inr k
@@ -65,6 +68,7 @@ matching f (x ∷ xs) ys d e into one onto =
     ]))
     (put_without (f x) ys (into x (inl refl)))
 
+-- what is made of lists that match matches, where it does one by one
 pub shuffle_mapped : {B : Type 0} {R : ℕ → ℕ → Type 0} {S : B → B → Type 0} (g : ℕ → B) {xs ys : List ℕ} → Shuffle R xs ys → ((x y : ℕ) → In x xs → R x y → S (g x) (g y)) → Shuffle S (map g xs) (map g ys)
 shuffle_mapped g none h = none
 shuffle_mapped g (more {x = x} {y = y} e s p) h = more (h x y (inl refl) e) (shuffle_mapped g s (λ a b k. h a b (inr k))) (put_map g p)
@@ -84,6 +88,7 @@ put_unmapped g (t ∷ ts) (there {y = y} {z = z} {ys = ys} {zs = zs} p) e =
     let u = put_unmapped g ts p b in
     (u.0, t ∷ u.1, u.2, (λ i. a i ∷ u.3 i), there u.4)
 
+-- images that match do so as what they are of
 pub shuffle_unmapped : {B : Type 0} {R : B → B → Type 0} (g : ℕ → B) (ss ts : List ℕ) {xs ys : List B} → Shuffle R xs ys → xs ≡ map g ss → ys ≡ map g ts → Shuffle (λ a b. R (g a) (g b)) ss ts
 shuffle_unmapped g [] [] none e f = none
 shuffle_unmapped g [] (t ∷ ts) none e f = absurd (cc)
@@ -100,6 +105,7 @@ abbrev pub matched : {R : ℕ → ℕ → Type 0} {xs ys : List ℕ} → Shuffle
 matched none z = z
 matched (more {x = x} {y = y} e s p) z = cond (x == z) y (matched s z)
 
+-- each element is related to its match
 pub matched_related : {R : ℕ → ℕ → Type 0} {xs ys : List ℕ} (s : Shuffle R xs ys) (a : ℕ) → In a xs → R a (matched s a)
 matched_related none a k = absurd k
 matched_related {R = R} (more {x = x} {y = y} e s p) a k = elim (cases_eq x a) [
@@ -107,6 +113,7 @@ matched_related {R = R} (more {x = x} {y = y} e s p) a k = elim (cases_eq x a) [
   | inr d ↦ rw (apart_test x a d) (matched_related s a (elim k [ inl q ↦ absurd (d q) | inr m ↦ m ]))
 ]
 
+-- which stands in the other list
 pub matched_in : {R : ℕ → ℕ → Type 0} {xs ys : List ℕ} (s : Shuffle R xs ys) (a : ℕ) → In a xs → In (matched s a) ys
 matched_in none a k = absurd k
 matched_in (more {x = x} {y = y} e s p) a k = elim (cases_eq x a) [
@@ -114,6 +121,7 @@ matched_in (more {x = x} {y = y} e s p) a k = elim (cases_eq x a) [
   | inr d ↦ rw (apart_test x a d) (put_keeps p (matched s a) (matched_in s a (elim k [ inl q ↦ absurd (d q) | inr m ↦ m ])))
 ]
 
+-- and each of that is a match
 pub matched_onto : {R : ℕ → ℕ → Type 0} {xs ys : List ℕ} (s : Shuffle R xs ys) → Distinct xs → (b : ℕ) → In b ys → (a : ℕ) × In a xs × (matched s a ≡ b)
 matched_onto none d b k = absurd k
 matched_onto (more {x = x} {y = y} {xs = xs} e s p) d b k = elim (in_put p b k) [
@@ -123,6 +131,7 @@ matched_onto (more {x = x} {y = y} {xs = xs} e s p) d b k = elim (in_put p b k) 
       (u.0, inr u.1, rw (apart_test x u.0 (each_in (λ w. x ≢ w) xs u.0 d.0 u.1)) u.2)
 ]
 
+-- of one element
 pub matched_one : {R : ℕ → ℕ → Type 0} {xs ys : List ℕ} (s : Shuffle R xs ys) → Distinct ys → (a b : ℕ) → In a xs → In b xs → matched s a ≡ matched s b → a ≡ b
 matched_one none d a b k m q = absurd k
 matched_one (more {x = x} {y = y} {ys = ys} e s p) d a b k m q = elim (cases_eq x a) [

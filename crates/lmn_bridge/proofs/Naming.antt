@@ -16,6 +16,7 @@ use Rattle.lmn_base.proofs.Common.{port_number, port_of_number, lesser}
 abbrev link_number : Heap → ℕ → ℕ → ℕ
 link_number h a i = lesser (a, i) (link_of h a i)
 
+-- each valid heap has a naming
 pub heaps_are_named : HeapsAreNamed
 heaps_are_named h v = (link_number h, record { joined = joined; apart = apart })
   where

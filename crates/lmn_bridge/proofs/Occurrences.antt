@@ -93,6 +93,7 @@ module _ (names : List tree.Name) (rule : ℕ → tree.Rule) (kind : ℕ → Typ
 pub times_parts : (x : ℕ) (items : List HeadItem) → times x (links_of_head items) ≡ places x (map (λ o. o.link) (at_atoms 0 (atoms_of items))) + places x (map (λ t. t.link) (typed_contexts_of items))
 times_parts x items = times_places x (links_of_head items) ∙ places_both x (map (λ o. o.link) (at_atoms 0 (atoms_of items))) (map (λ t. t.link) (typed_contexts_of items))
 
+-- a link at a port of a head atom has a place among the links of atoms
 pub port_counts : (x : ℕ) (xs : List HeadAtom) (n i j : ℕ) (a : HeadAtom) → slice_get xs i ≡ Some a → slice_get a.links j ≡ Some x → 1 ≤ places x (map (λ o. o.link) (at_atoms n xs))
 port_counts x [] n i j a e g = absurd (cc)
 port_counts x (b ∷ xs) n zero j a e g =
@@ -101,11 +102,13 @@ port_counts x (b ∷ xs) n zero j a e g =
     omega (arith, u, port_links x n 0 b.links (at_atoms (n + 1) xs))
 port_counts x (b ∷ xs) n (suc i) j a e g = omega (arith, port_counts x xs (n + 1) i j a e g, port_links x n 0 b.links (at_atoms (n + 1) xs))
 
+-- and one at a typed context has one among those of typed contexts
 pub typed_counts : (x : ℕ) (ts : List HeadTyped) (i : ℕ) (a : HeadTyped) → slice_get ts i ≡ Some a → a.link ≡ x → 1 ≤ places x (map (λ t. t.link) ts)
 typed_counts x [] i a e g = absurd (cc)
 typed_counts x (b ∷ ts) zero a e g = let q : b ≡ a = same_Some b a e in omega (arith, same_one x b.link (sym (ap (λ z. z.link) q ∙ g)))
 typed_counts x (b ∷ ts) (suc i) a e g = omega (arith, typed_counts x ts i a e g)
 
+-- a link of two typed contexts has two places
 pub two_typed : (x : ℕ) (ts : List HeadTyped) (i j : ℕ) (a b : HeadTyped) → slice_get ts i ≡ Some a → slice_get ts j ≡ Some b → a.link ≡ x → b.link ≡ x → i ≢ j → 2 ≤ places x (map (λ t. t.link) ts)
 two_typed x [] i j a b e f g k d = absurd (cc)
 two_typed x (c ∷ ts) zero zero a b e f g k d = absurd (d refl)
@@ -139,6 +142,7 @@ first_port g n k (y ∷ ys) os x = elim (cases_eq y x) [
     later d h zero e = d (same_Some y x e)
     later d h (suc j) e = h j e
 
+-- the first name of a link is that of a port where it stands
 pub first_found : (g : Port → ℕ) (n : ℕ) (as' : List HeadAtom) (x : ℕ) (p : Port) → StandsAt n as' x p → (q : Port) × StandsAt n as' x q × (first_name g (at_atoms n as') x ≡ g q)
 first_found g n [] x p s = absurd (let e = s.3 in cc)
 first_found g n (a ∷ as') x p s = elim (first_port g n 0 a.links (at_atoms (n + 1) as') x) [

@@ -56,6 +56,7 @@ use Rattle.lmn_base.specs.Lists.{In}
 
 -- ---- lists by their indices
 
+-- a map that gives what stands at each place of a list gives the list
 pub reads_index : {A : Type 0} (none : A) (xs : List A) (g : ℕ → A) (n : ℕ) → ((i : ℕ) → i < length xs → g (n + i) ≡ slice_index_or xs i none) → Reads g n xs
 reads_index none [] g n h = tt
 reads_index none (x ∷ xs) g n h =
@@ -71,11 +72,13 @@ in_flattened (p ∷ ps) b k = elim (in_either b p (flattened ps) k) [
   | inr j ↦ (let u = in_flattened ps b j in (suc u.0, omega (arith, u.1), u.2))
 ]
 
+-- an atom of one part is one of the atoms of all parts
 pub flattened_in : (ps : List (List ℕ)) (b n : ℕ) → In b (slice_index_or ps n []) → In b (flattened ps)
 flattened_in [] b n k = absurd k
 flattened_in (p ∷ ps) b zero k = in_left b p (flattened ps) k
 flattened_in (p ∷ ps) b (suc n) k = in_right b p (flattened ps) (flattened_in ps b n k)
 
+-- and stands in its part no more often than in all
 pub places_part : (ps : List (List ℕ)) (b n : ℕ) → places b (slice_index_or ps n []) ≤ places b (flattened ps)
 places_part [] b n = omega arith
 places_part (p ∷ ps) b zero = omega (arith, places_both b p (flattened ps))
@@ -88,6 +91,7 @@ in_index [] b p = absurd p
 in_index (x ∷ xs) b (inl e) = (0, omega arith, e)
 in_index (x ∷ xs) b (inr p) = let u = in_index xs b p in (suc u.0, omega (arith, u.1), u.2)
 
+-- what stands at a place below the length stands in the list
 pub index_in : (xs : List ℕ) (i : ℕ) → i < length xs → In (slice_index_or xs i 0) xs
 index_in [] i l = absurd (omega (arith, l))
 index_in (x ∷ xs) zero l = inl refl

@@ -30,6 +30,7 @@ use Rattle.std.specs.List.{AllByRecursion}
 
 -- ---- atoms taken out of a list, in its order
 
+-- the elements of one list that stand in another
 pub record Picked (ss us : List ℕ) : Type 0 where
   pub part : List ℕ
   pub rest : List ℕ
@@ -38,6 +39,7 @@ pub record Picked (ss us : List ℕ) : Type 0 where
   pub from : (a : ℕ) → In a part → In a ss × In a us
   pub to : (a : ℕ) → In a ss → In a us → In a part
 
+-- so each list has them
 pub picked : (ss us : List ℕ) → Distinct us → Picked ss us
 picked ss [] d = record { part = []; rest = []; merged = merged_none; once = tt; from = λ a k. absurd k; to = λ a k m. m }
 picked ss (u ∷ us) d =
@@ -65,6 +67,7 @@ as_they_are : (bs : List SolidAtom) → Shuffle (λ (a : Label × List ℕ) (b :
 as_they_are [] = none
 as_they_are (b ∷ bs) = more (λ i. record { label = b.label; links = same_links b.links i }) (as_they_are bs) here
 
+-- lists that match still do when the right one is changed one by one
 pub shuffle_right : {A B C : Type 0} {R : A → B → Type 0} {S : A → C → Type 0} (f : B → C) {as' : List A} {bs : List B} → Shuffle R as' bs → ((a : A) (b : B) → R a b → S a (f b)) → Shuffle S as' (map f bs)
 shuffle_right f none h = none
 shuffle_right f (more {x = x} {y = y} e s p) h = more (h x y e) (shuffle_right f s h) (put_map f p)

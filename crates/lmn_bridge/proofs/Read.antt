@@ -27,6 +27,7 @@ pub record FoundLeaves (g : ℕ → SolidAtom) (t : Assignment) (ls : List Leaf)
   pub places : ns ≡ numbers images xs
   pub others : rest ≡ map g (without_all images xs)
 
+-- the images of leaves among the atoms of a list are found by their numbers
 pub find_leaves : (g : ℕ → SolidAtom) (t : Assignment) (xs : List ℕ) {ls : List Leaf} {ns : List ℕ} {zs rest : List SolidAtom} → Distinct xs → AtomImages t ls ns zs rest → zs ≡ map g xs →
     FoundLeaves g t ls xs ns rest
 find_leaves g t xs d no_image e = record { images = []; fit = fit_none; distinct = tt; among = tt; places = refl; others = e }

@@ -57,6 +57,7 @@ places_from f y (x ∷ xs) l = elim (cases_eq y (f x)) [
   | inr d ↦ let u = places_from f y xs (omega (arith, l, apart_none y (f x) d)) in (u.0, omega (arith, u.1), u.2)
 ]
 
+-- an image that comes from one link counts as often
 pub count_renamed : (f : ℕ → ℕ) (y : ℕ) {as' bs : List Piece} → Shuffle (Renames f) as' bs → ((x : ℕ) → 1 ≤ count x as' → f x ≡ f y → x ≡ y) → count (f y) bs ≡ count y as'
 count_renamed f y none one = refl
 count_renamed f y (more {x = a} {y = b} {xs = as'} {ys = ys} e s p) one =
@@ -65,6 +66,7 @@ count_renamed f y (more {x = a} {y = b} {xs = as'} {ys = ys} e s p) one =
     let is : places (f y) (map f a.1) ≡ places (f y) b.1 = ap (λ q. places (f y) q.1) e in
     omega (arith, rest, first, is, count_put (f y) p)
 
+-- an image that counts comes from a link that does
 pub count_from : (f : ℕ → ℕ) (y : ℕ) {as' bs : List Piece} → Shuffle (Renames f) as' bs → 1 ≤ count y bs → (x : ℕ) × (1 ≤ count x as') × (f x ≡ y)
 count_from f y none l = absurd (omega (arith, l))
 count_from f y (more {x = a} {y = b} {xs = as'} {ys = ys} e s p) l =
@@ -82,6 +84,7 @@ put_among here (further k) = inr k
 put_among (there p) at_head = inr at_head
 put_among (there p) (further k) = elim (put_among p k) [ inl e ↦ inl e | inr m ↦ inr (further m) ]
 
+-- what is among the right list has its match in the left
 pub among_shuffled : {A B : Type 0} {R : A → B → Type 0} {as' : List A} {bs : List B} → Shuffle R as' bs → {b : B} → Among b bs → (a : A) × Among a as' × R a b
 among_shuffled none {b} k = elim k [ ]
 among_shuffled {R = R} (more {x = a} e s p) {b} k = elim (put_among p k) [
@@ -89,6 +92,7 @@ among_shuffled {R = R} (more {x = a} e s p) {b} k = elim (put_among p k) [
   | inr m ↦ let u = among_shuffled s m in (u.0, further u.1, u.2)
 ]
 
+-- a match by what holds of the elements of the left list
 pub shuffle_within : {A B : Type 0} {R S : A → B → Type 0} {as' : List A} {bs : List B} → Shuffle R as' bs → ((a : A) (b : B) → Among a as' → R a b → S a b) → Shuffle S as' bs
 shuffle_within none h = none
 shuffle_within (more {x = a} {y = b} e s p) h = more (h a b at_head e) (shuffle_within s (λ c d k. h c d (further k))) p

@@ -45,9 +45,11 @@ pub record WholePart (h : Heap) (root : ℕ × ℕ) : Type 0 where
   pub link : link_of h root.0 root.1 ≡ Some holder
   pub away : In holder.0 (list.first ∷ list.others) → ⊥
 
+-- the atoms of a whole part
 abbrev pub atoms_of_part : {h : Heap} {root : ℕ × ℕ} → WholePart h root → List ℕ
 atoms_of_part p = p.list.first ∷ p.list.others
 
+-- a whole part as the calculus has it
 abbrev pub part_at : {h : Heap} {root : ℕ × ℕ} → HeapReading → WholePart h root → Rooted
 part_at {h} {root} r p = rooted_at h r root p.list.first p.list.others
 

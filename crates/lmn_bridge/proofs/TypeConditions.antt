@@ -24,6 +24,7 @@ use Rattle.lmn_base.proofs.Numbers.{not_equal as apart_test}
 
 -- ---- the typed contexts of the tree, by name and in their order
 
+-- the typed contexts of two heads joined are those of both
 pub typed_more : (xs ys : List HeadItem) → typed_contexts_of (xs ++ ys) ≡ typed_contexts_of xs ++ typed_contexts_of ys
 typed_more [] ys = refl
 typed_more (Atom f ls i ∷ xs) ys = typed_more xs ys

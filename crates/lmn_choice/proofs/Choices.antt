@@ -157,10 +157,12 @@ module _ (table : List RuleTree) (plans : List GuardPlan) (codes : List Code) (c
         (is_mem h w.read.valid.sound (tree_over h inner) w.tree m inside) forest_of.1 ch.place ch.number ch.chosen.rule.stands u.is s first_of h'
         (subst (λ z. RunsBody s z h h') (ap (λ z. z.body) code_of ∙ u.body) runs))
 
+-- what is chosen by code is chosen by the calculus
 pub choices_alike : AcceptedHeads → CodeOfEmbeddings → EmbedsAlike → AcceptedLeast → LeastAlike → EmbeddingsFire → NumberingExists → RenamedNext → ChoicesAlike
 choices_alike heads embeddings alike least_law first_alike fire exists renaming table plans codes c h r inner w from code s ch =
     choice_is table plans codes c h r inner w from code s ch heads embeddings alike least_law first_alike fire exists renaming
 
+-- and the run of its body code leaves the next heap
 pub choices_agree : AcceptedHeads → CodeOfEmbeddings → EmbedsAlike → AcceptedLeast → LeastAlike → HeapsAreNumbered → RenamedNext → FiringsCommit → TurnsCommit → ChoicesAgree
 choices_agree heads embeddings alike least_law first_alike numbering renaming commits turns table plans codes c h r inner w tab from code s ch h' runs =
     run_is_next table plans codes c h r inner w from code s ch heads embeddings alike least_law first_alike numbering renaming commits turns tab h' runs

@@ -92,6 +92,7 @@ pub record HasCopy (s : Heap) (root : ℕ × ℕ) (number : ℕ → ℕ) (q : �
   pub sound : Sound heap
   pub makes : OnlyMakes s heap
 
+-- a part that can be copied has a copy with these numbers
 pub copy_exists : (s : Heap) → Sound s → (all : List ℕ) → Bounded s all → (root : ℕ × ℕ) → CanBeCopied s root → (number : ℕ → ℕ) (q : ℕ) → ((i j : ℕ) → number i ≡ number j → i ≡ j) → ((j : ℕ) → q ≤ j → s.atoms (number j) ≡ None) → HasCopy s root number q
 copy_exists s sound all bounded root can number q apart fresh =
     let w = walk_exists (arity_of s) (neighbour (net s) root (λ _. true)) all (λ p b e. bounded b (leads_to_atom s sound root p b e)) (length all) (root.0 ∷ []) (tt, tt)
@@ -138,11 +139,13 @@ abbrev pub AreThese : List (Port × List ℕ) → (ℕ → Port) → (ℕ → Li
 AreThese [] copy atoms_of c = Unit {0}
 AreThese (p ∷ ps) copy atoms_of c = (copy c ≡ p.0) × (atoms_of c ≡ p.1) × AreThese ps copy atoms_of (c + 1)
 
+-- the root of the copy with a number
 abbrev pub copy_in : List (Port × List ℕ) → ℕ → Port
 copy_in [] i = (0, 0)
 copy_in (p ∷ ps) zero = p.0
 copy_in (p ∷ ps) (suc i) = copy_in ps i
 
+-- and its atoms
 abbrev pub copied_in : List (Port × List ℕ) → ℕ → List ℕ
 copied_in [] i = []
 copied_in (p ∷ ps) zero = p.1
@@ -161,5 +164,6 @@ these_from copy atoms_of (p ∷ ps) c f =
           (subst (λ n. copy n ≡ copy_in ps i) e w.0, subst (λ n. atoms_of n ≡ copied_in ps i) e w.1)),
     )
 
+-- so the copies are told by their numbers
 pub these_are : (ps : List (Port × List ℕ)) → AreThese ps (copy_in ps) (copied_in ps) 0
 these_are ps = these_from (copy_in ps) (copied_in ps) ps 0 (λ i l. let e : 0 + i ≡ i = omega arith in (ap (copy_in ps) e, ap (copied_in ps) e))

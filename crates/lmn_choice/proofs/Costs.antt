@@ -21,6 +21,7 @@ use Rattle.lmn_machine.specs.Costs.{AddsItems, InAll, IsSize, Leaves, TakesItems
 
 -- ---- instructions that make nothing
 
+-- what one part of code makes, and then the other, all of it makes
 pub prepares_join : (r : BodyRegisters) (xs ys : List Instr) (s t u : Heap) → Prepares r xs s t → Prepares r ys t u → Prepares r (xs ++ ys) s u
 prepares_join r [] ys s t u p q = subst (λ z. Prepares r ys z u) p q
 prepares_join r (i ∷ xs) ys s t u p q = (p.0, p.1, prepares_join r xs ys p.0 t u p.2 q)
@@ -37,6 +38,7 @@ quiet_mems : (r : BodyRegisters) (s : Heap) (xs : List ℕ) → Prepares r (map 
 quiet_mems r s [] = refl
 quiet_mems r s (x ∷ xs) = (s, refl, quiet_mems r s xs)
 
+-- removals make nothing
 pub quiet_removals : (r : BodyRegisters) (s : Heap) (head : List HeadItem) → Prepares r (removals head) s s
 quiet_removals r s head =
     let ps = map RemovePart (rising 0 (length (typed_contexts_of head))) in
@@ -56,6 +58,7 @@ quiet_link r s (p ∷ (q ∷ [])) [] = (s, refl, refl)
 quiet_link r s (p ∷ (q ∷ [])) (g ∷ hs) = refl
 quiet_link r s (p ∷ (q ∷ (z ∷ ps))) hs = refl
 
+-- nor do links
 pub quiet_links : (r : BodyRegisters) (s : Heap) (m : ℕ → ℕ) (news : List (NewPort × ℕ)) (olds : List (AtomPort × ℕ)) (zs : List ℕ) → Prepares r (links_code m news olds zs) s s
 quiet_links r s m news olds [] = refl
 quiet_links r s m news olds (z ∷ zs) =
@@ -69,6 +72,7 @@ Reads m (RemoveMem x) = x < m
 Reads m (CopyRules x y) = x < m
 Reads m _ = Unit {0}
 
+-- each instruction reads registers that are set
 abbrev pub AllRead : ℕ → List Instr → Type 0
 AllRead m [] = Unit {0}
 AllRead m (i ∷ is) = Reads m i × AllRead m is

@@ -73,5 +73,6 @@ module _ (table : List RuleTree) (plans : List GuardPlan) (codes : List Code) (c
         some = λ m n p i s. embeds.0 (steps.1 (some_of m n p i s));
       }
 
+-- where no code succeeds nothing embeds
 pub nothing_embeds : StepsByCode → IrreducibleByCode → StepsExactly → NothingEmbeds
 nothing_embeds by_code ends exact table plans codes c h r inner w = nothing table plans codes c h r inner w by_code ends exact

@@ -25,11 +25,13 @@ no_rule m k i = elim (mem_cases m) [
   | inr w ↦ elim w [ inl e ↦ subst (λ z. In k (rules_in across z)) e i | inr e ↦ subst (λ z. In k (rules_by z)) e i ]
 ]
 
+-- the heap of the example is read with its membrane
 pub across_is_read_with : AcrossIsReadWith
 across_is_read_with r read = (
   record { read = read; tree = across_tree; rules = record { known = λ m k i. absurd (no_rule m k i); read = λ k rule e. absurd (cc) } },
   (λ w. let e = w.tree.forms.2 in cc),
 )
 
+-- and has two paths
 pub across_has_two_paths : AcrossHasTwoPaths
 across_has_two_paths r = (refl, refl)

@@ -23,11 +23,13 @@ raised zero b f n = b + (n + n)
 raised (suc k) b f zero = f zero
 raised (suc k) b f (suc n) = raised k (b + 2) (λ i. f (suc i)) n
 
+-- registers below the bound keep their numbers
 pub raised_below : (k b : ℕ) (f : ℕ → ℕ) (n : ℕ) → n < k → raised k b f n ≡ f n
 raised_below zero b f n l = absurd (omega (arith, l))
 raised_below (suc k) b f zero l = refl
 raised_below (suc k) b f (suc n) l = raised_below k (b + 2) (λ i. f (suc i)) n (omega (arith, l))
 
+-- and those above get fresh ones
 pub raised_above : (k b : ℕ) (f : ℕ → ℕ) (n : ℕ) → k ≤ n → raised k b f n ≡ b + (n + n)
 raised_above zero b f n l = refl
 raised_above (suc k) b f zero l = absurd (omega (arith, l))

@@ -238,6 +238,7 @@ module _ (table : List RuleTree) (plans : List GuardPlan) (codes : List Code) (c
       (leaves_so h s.head head_registers (1 + K) (λ g. refl) (λ j q. raised_below (1 + K) B s.head.images.membrane j q) (rule_body_code u.rule u.plan) k
       (body_reads (head_items u.rule u.plan) (rule_body_items u.rule u.plan) (length u.rule.links) nested.placed) (subst (λ z. Leaves h s.head z k) body_is l))
 
+-- what is chosen has a next region with as many items as its cost tells
 pub costs_are_told : AcceptedHeads → AcceptedLeast → AcceptedNested → BodyCanRun → LinksHaveNumbers → ChoicesAgree → CostsAreItems → CostsAreTold
 costs_are_told heads least_law nested_law can_run numbers agree items table plans codes c h r inner w tab from code s ch k leaves =
     let copy = copies table plans codes c h r inner w from code s ch heads least_law nested_law in

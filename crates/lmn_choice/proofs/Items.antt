@@ -45,6 +45,7 @@ module _ (h : Heap) (v : Valid h) (r : HeapReading) where
       let b : sum (map weight (flat (tree_over h inner))) ≡ total weight (flat (tree_over h inner)) = total_is_sum weight (flat (tree_over h inner)) in
       omega arith
 
+-- the cost is the number of items of the region that is left
 pub costs_are_items : CostIsTold → CostsAreItems
 costs_are_items law table plans codes c h r inner w from code s ch h' runs r' inner' read tr k =
     let u = rule_of table plans codes c h r inner w from code s ch in

@@ -27,6 +27,7 @@ module _ (h : Heap) (r : HeapReading) where
       subst (λ w. slice_get (mems_in h x) w ≡ Some y) (sym z) (g (suc j) y (subst (λ w. slice_get w (suc j) ≡ Some y) (sym F.1) e))) in
       each_both (λ path m. Leads h m path x) first later
 
+-- membranes have the same numbers in the tree of a heap and in its region
 pub numbered_alike : MembranesAreNumberedAlike
 numbered_alike h r inner tr =
     let R : List ℕ → ℕ → Type 0 = λ path m. Leads h m path h.root in

@@ -51,6 +51,7 @@ pub record Child (h : Heap) (f : Forest) (n y : ℕ) : Type 0 where
   pub has : HasForest h y inner
   pub inside : (z : ℕ) → In z (y ∷ flat inner) → In z (flat f)
 
+-- a membrane of a list is a child with its number
 pub child : (h : Heap) (f : Forest) (ms : List ℕ) → Forms h f ms → Distinct (flat f) → (n y : ℕ) → slice_get ms n ≡ Some y → Child h f n y
 child h bare ms F d n y e = absurd (let g : slice_get [] n ≡ Some y = subst (λ z. slice_get z n ≡ Some y) F e in cc)
 child h (mem k i f) ms F d zero y e =

@@ -98,12 +98,15 @@ module _ (h : Heap) (v : Valid h) (r : HeapReading) (inner : Forest) (tr : IsTre
     apart = λ a i b j p q e. n.apart a i b j p q (one (r.name a i) (r.name b j) (occurs a i p) (occurs b j q) e);
   }
 
+-- other numbers of links leave the rules
 pub rules_as : (h : Heap) (r : HeapReading) (number : Port → ℕ) (table : List RuleTree) → HasRules h r table → HasRules h (renumbered_reading r number) table
 rules_as h r number table has = record { known = λ m k i. let u = has.known m k i in (u.0, u.1, rule_as r number u.0 u.2); read = has.read }
 
+-- and the table
 pub table_as : (r : HeapReading) (number : Port → ℕ) (table : List RuleTree) → IsTable r table → IsTable (renumbered_reading r number) table
 table_as r number table t = record { rules = λ k z e. rule_as r number z (t.rules k z e); inner = t.inner }
 
+-- the links of a heap can have the numbers of printed order
 pub heaps_are_numbered : NumberingExists → HeapsAreNumbered
 heaps_are_numbered exists h r inner table w =
     let u = exists (heap_region h r inner) in

@@ -79,6 +79,7 @@ module _ (h t : Heap) (same : SameButSpares h t) where
     all = λ m i. subst (λ z. In m (flat (mem z inner bare))) (sym same.root) (tr.all m (let u = same.mems m in there_before (h.mems m) u.0 (subst (λ o. IsSome o) u.1 i)));
   }
 
+-- room for more rules is no part of what is read
 pub spares_are_not_read : SparesAreNotRead
 spares_are_not_read h t r inner table same valid w = (
   record {

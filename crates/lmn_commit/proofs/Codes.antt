@@ -10,6 +10,7 @@ use Rattle.lmn_commit.specs.Preparing.{Uses, UsesPort, AllUse, UsesInOrder, need
 
 -- Lists
 
+-- what is read below the length is what stands there
 pub read_at : {A : Type 0} (xs : List A) (i : ℕ) (x : A) → i < length xs → x ≡ get_or xs i x → slice_get xs i ≡ Some x
 read_at [] i x l e = absurd (omega arith)
 read_at (z ∷ xs) zero x l e = ap (λ w. Some w) (sym e)
@@ -20,9 +21,11 @@ take_suc k [] x e = absurd (cc)
 take_suc zero (y ∷ xs) x e = let t : y ≡ x = cc in ap (λ w. w ∷ []) t
 take_suc (suc k) (y ∷ xs) x e = ap (λ ys. y ∷ ys) (take_suc k xs x e)
 
+-- one more taken is what was taken, and what stands there
 pub take_get : {A : Type 0} (k : ℕ) (xs : List A) (x : A) → slice_get xs k ≡ Some x → take (k + 1) xs ≡ take k xs ++ x ∷ []
 take_get k xs x e = let t : k + 1 ≡ suc k = omega arith in ap (λ n. take n xs) t ∙ take_suc k xs x e
 
+-- what stands in a longer list stands in the list, or is the new one
 pub get_either : {A : Type 0} (xs : List A) (y : A) (k : ℕ) (x : A) → slice_get (xs ++ y ∷ []) k ≡ Some x → (slice_get xs k ≡ Some x) ⊎ (y ≡ x)
 get_either [] y zero x e = inr (cc)
 get_either [] y (suc k) x e = absurd (cc)
@@ -52,10 +55,12 @@ uses_more a b m n g c d l k e (Unify p h) u = let v = u.0 in let w = u.1 in (ome
 uses_more a b m n g c d l k e Proceed u = tt
 uses_more a b m n g c d l k e _ u = absurd u
 
+-- instructions that use registers below some bounds use them below higher ones
 pub all_use_more : (a b m n g c d : ℕ) → a ≤ b → m ≤ n → c ≤ d → (is : List Instr) → AllUse a m g c is → AllUse b n g d is
 all_use_more a b m n g c d l k e [] u = tt
 all_use_more a b m n g c d l k e (i ∷ is) u = (uses_more a b m n g c d l k e i u.0, all_use_more a b m n g c d l k e is u.1)
 
+-- and so with one more
 pub use_one_more : (a m g c : ℕ) (is : List Instr) (i : Instr) → AllUse a m g c is → Uses a m g c i → AllUse a m g c (is ++ i ∷ [])
 use_one_more a m g c [] i u v = (v, tt)
 use_one_more a m g c (j ∷ is) i u v = (u.0, use_one_more a m g c is i u.1 v)
@@ -87,10 +92,12 @@ use_at a m g c (suc k) (suc n) (j ∷ is) i u l e = use_at a m g c k n is i u.1 
 
 -- Room for rules
 
+-- one instruction more needs room of its own
 pub needed_more : (r : Registers) (rules : ℕ → List ℕ) (is : List Instr) (i : Instr) (x : ℕ) → needed r rules (is ++ i ∷ []) x ≡ needed r rules is x + needed_by r rules i x
 needed_more r rules [] i x = omega arith
 needed_more r rules (j ∷ is) i x = let t = needed_more r rules is i x in omega (arith, t)
 
+-- each instruction uses registers below the bounds
 pub used_at : (a m g c k : ℕ) (is : List Instr) (i : Instr) → AllUse a m g c is → slice_get is k ≡ Some i → Uses a m g c i
 used_at a m g c k [] i u e = absurd (cc)
 used_at a m g c zero (j ∷ is) i u e = let t : j ≡ i = cc in subst (λ x. Uses a m g c x) t u.0

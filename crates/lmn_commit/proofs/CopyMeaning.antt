@@ -7,6 +7,7 @@ use Rattle.lmn_ground.proofs.GroundLaws.{part_atoms}
 use Rattle.lmn_registers.specs.declared.registers.SetRegisters.{SetRegisters}
 use Rattle.lmn_commit.specs.Preparing.{CopyIsMade}
 
+-- an instruction that copies a part has made it
 pub copy_is_made : {A M : Type 0} (atom : A → ℕ) (s s1 t : Heap) (g k : SetRegisters A M) (root : ℕ × ℕ) (copy : A × ℕ) (n : ℕ) → s1 ≡ s → ((xs : List ℕ) → AreAtoms s root xs → n ≡ length xs) →
     Copied s1 t root (port_id atom copy) → k ≡ record g { copies = g.copies ++ (record { root = copy; atoms = n }) ∷ [] } → CopyIsMade {A = A} {M = M} atom s t g k root
 copy_is_made atom s s1 t g k root copy n e size copied is =

@@ -86,6 +86,7 @@ finished_unmarked s u a i = by (s.atoms a) (u a i)
 on : (s t u : Heap) → t ≡ u → Same s u → Unmarked s → Unmarked t
 on s t u e h m = subst Unmarked (sym e) (still s u h m)
 
+-- no mark comes when an instruction runs
 pub does_unmarked : (r : Registers) (i : Instr) (s t : Heap) → Does r i s t → Unmarked s → Unmarked t
 does_unmarked r (RemoveAtom a) s t d u = on s t (taken s (r.head.images.atom a)) d (taken_same s (r.head.images.atom a)) u
 does_unmarked r (RemovePart g) s t d u = on s t (taken_all s d.0) d.3 (all_taken_same d.0 s) u

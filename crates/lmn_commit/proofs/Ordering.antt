@@ -205,6 +205,7 @@ olds_more : (a b : ℕ) → a ≤ b → (es : List (AtomPort × ℕ)) → Olds a
 olds_more a b l [] w = tt
 olds_more a b l (e ∷ es) w = let u = w.0 in (omega (arith, l, u), olds_more a b l es w.1)
 
+-- the code of a body sets its registers in order
 pub bodies_are_in_order : BodiesAreInOrder
 bodies_are_in_order head body n v rule below room room_mems room_copies =
     let copied = copied_below (length (typed_contexts_of head)) 0 body (λ e i. (let w = rule.atoms.copied e i in get_below (typed_contexts_of head) e.1 w.0 w.1)) in

@@ -10,6 +10,7 @@ use Rattle.lmn_base.proofs.Lists.{head_is}
 after_first : (a : ℕ) (xs ys : List ℕ) → xs ≡ a ∷ ys → after a xs ≡ ys
 after_first a xs ys e = ap (after a) e ∙ rw (eq-eqb a a refl) refl
 
+-- some atoms with the membrane to which they go
 abbrev pub pairs : ℕ → List ℕ → List (ℕ × ℕ)
 pairs m xs = map (λ a. (m, a)) xs
 
@@ -30,6 +31,7 @@ one_waits s i atoms rest l e =
     let w = ahead_of atoms i l in
     cons_is_some w.0 (drop (i + 1) atoms ++ rest) s.new_atoms (e ∙ ap (λ xs. xs ++ rest) w.1)
 
+-- one atom more is placed
 pub place_step : (m a : ℕ) (h s t : Heap) (i : ℕ) (atoms rest : List ℕ) → i < length atoms → s.new_atoms ≡ drop i atoms ++ rest → from (Some a) s.new_atoms ≡ s.new_atoms → t ≡ placed s m a →
     all_placed s (pairs m (drop i atoms)) ≡ all_placed h (pairs m atoms) → (t.new_atoms ≡ drop (i + 1) atoms ++ rest) × (all_placed t (pairs m (drop (i + 1) atoms)) ≡ all_placed h (pairs m atoms))
 place_step m a h s t i atoms rest l e first is done =
@@ -41,6 +43,7 @@ place_step m a h s t i atoms rest l e first is done =
       ap (λ u. all_placed u (pairs m (drop (i + 1) atoms))) now ∙ (sym (ap (λ xs. all_placed s (pairs m xs)) w.1) ∙ done),
     )
 
+-- membranes stay in place then
 pub still_in_place : (s t : Heap) (m a n : ℕ) → t ≡ placed s m a → IsMemInPlace s n → IsMemInPlace t n
 still_in_place s t m a n e w = subst (λ u. IsMemInPlace u n) (sym e) (subst IsTopOrWithin (sym (alter_keeps s.mems m (option_map (mem_with_atoms (λ xs. xs ++ a ∷ []))) (λ (o : Option HeapMem). option_map (λ x. x.place) o) on n)) w)
   where

@@ -378,6 +378,7 @@ module _ {A M : Type 0} (atom : A → ℕ) (membrane : M → ℕ) (s : Heap) (k 
 
 -- A heap that differs from a valid one in spares alone has no marks and is valid.
 
+-- what differs in spares alone has no marks either
 pub stops_unmarked : (h t : Heap) → SameButSpares h t → Unmarked h → Unmarked t
 stops_unmarked h t e u a i = ap (λ (o : Option HeapAtom). slice_index_or (marks_of o) i 0) (e.atoms a) ∙ u a i
 
@@ -385,6 +386,7 @@ forms_on : (h t : Heap) → ((m : ℕ) → mems_in t m ≡ mems_in h m) → (f :
 forms_on h t e bare ms w = w
 forms_on h t e (mem m inner rest) ms w = (w.0, w.1, subst (Forms t inner) (sym (e m)) (forms_on h t e inner (mems_in h m) w.2), forms_on h t e rest w.0 w.3)
 
+-- and is valid where it is sound
 pub valid_but_spares : (h t : Heap) → SameButSpares h t → Valid h → Sound t → Valid t
 valid_but_spares h t e v sound = record {
   sound = sound;

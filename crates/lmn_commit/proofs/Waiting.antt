@@ -15,15 +15,19 @@ use Rattle.lmn_commit.specs.Preparing.{CanBeCopied, OnlyMakes}
 use Rattle.lmn_base.proofs.Numbers.{zeros_at as no_marks}
 use Rattle.lmn_heap.proofs.Common.{decide_in as in_or_not, no_links}
 
+-- what is none is not there
 pub none_there : (o : Option HeapAtom) → IsSome o → o ≡ None → ⊥
 none_there o i e = let z : IsSome {T = HeapAtom} None = subst (λ (p : Option HeapAtom). IsSome p) e i in cc
 
+-- a heap that stays as it is only makes, and makes nothing
 pub makes_nothing : (s : Heap) → OnlyMakes s s
 makes_nothing s = record { kept = λ a i. refl; alone = λ l. l; rest = λ h r. r; unmarked = λ u. u }
 
+-- a heap that is the same only makes
 pub makes_same : (s t : Heap) → t ≡ s → OnlyMakes s t
 makes_same s t e = subst (OnlyMakes s) (sym e) (makes_nothing s)
 
+-- what only makes, and then only makes, only makes
 pub makes_on : (h s t : Heap) → OnlyMakes h s → OnlyMakes s t → OnlyMakes h t
 makes_on h s t u v = record {
   kept = λ a i. v.kept a (subst (λ (o : Option HeapAtom). IsSome o) (sym (u.kept a i)) i) ∙ u.kept a i;
@@ -34,6 +38,7 @@ makes_on h s t u v = record {
 
 -- An atom
 
+-- a new atom is only made
 pub makes_atom : (s t : Heap) (a : ℕ) (f : Functor) → s.atoms a ≡ None → t ≡ made_atom s a f → OnlyMakes s t
 makes_atom s t a f free e = subst (OnlyMakes s) (sym e) (record {
   kept = λ b i. away b (λ d. none_there (s.atoms b) i (ap s.atoms d ∙ free));
@@ -71,6 +76,7 @@ makes_atom s t a f free e = subst (OnlyMakes s) (sym e) (record {
 
 -- A membrane
 
+-- a new membrane is only made
 pub makes_mem : (s t : Heap) (m : ℕ) → s.mems m ≡ None → t ≡ made_mem s m → OnlyMakes s t
 makes_mem s t m free e = subst (OnlyMakes s) (sym e) (record {
   kept = λ b i. refl;
@@ -110,6 +116,7 @@ other_spare n k (Some x) p e = by x.place refl e
     by waiting d f = (n, (let z : mem_unless_waiting x ≡ None = rw d refl in let y : mem_unless_waiting (mem_with_spare n x) ≡ None = rw d refl in y ∙ goes p (sym z ∙ f)))
     by gone d f = (n, (let z : mem_unless_waiting x ≡ Some x = rw d refl in let y : mem_unless_waiting (mem_with_spare n x) ≡ Some (mem_with_spare n x) = rw d refl in y ∙ stays p (sym z ∙ f)))
 
+-- room in a list is only made
 pub makes_room : (s t : Heap) (m n : ℕ) → t ≡ reserved s m n → OnlyMakes s t
 makes_room s t m n e = subst (OnlyMakes s) (sym e) (record {
   kept = λ b i. refl;
@@ -168,6 +175,7 @@ beside_makes s t ys b = record {
     left None e = refl
     left (Some x) e = let q : x.place ≡ waiting = cc in rw q refl
 
+-- a copy of a part is only made
 pub makes_copy : (s t : Heap) (root copy : ℕ × ℕ) → Copied s t root copy → OnlyMakes s t
 makes_copy s t root copy w = beside_makes s t w.copies w.beside
 

@@ -24,6 +24,7 @@ limits table r plan whole =
     let b = or_parts (nat_lt 1024 (number_of_items r.body)) _ a.1 in
     (not_less 128 (number_of_items r.head) a.0, not_less 1024 (number_of_items r.body) b.0)
 
+-- the bodies of accepted rules have their items
 pub accepted_bodies : AcceptedHeads → AcceptedBodies
 accepted_bodies heads table r plan whole =
     let room = heads.room table r plan whole.ready in

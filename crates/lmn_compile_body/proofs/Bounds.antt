@@ -11,6 +11,7 @@ use Rattle.lmn_compile_head.specs.Tables.{AllBelow, HeadFits}
 use Rattle.lmn_classes.specs.Tables.{PairsBelow, LinksBelow}
 use Rattle.lmn_compile_body.specs.Tables.{BodyFits, AllFew}
 
+-- each atom of a body that fits has few links
 pub fits_few : (n : ℕ) (xs : List BodyItem) → BodyFits n xs → AllFew xs
 fits_few n [] h = h
 fits_few n (Atom functor links inside ∷ xs) h = (h.0, fits_few n xs h.2)
@@ -22,6 +23,7 @@ fits_few n (Rest of inside ∷ xs) h = fits_few n xs h
 fits_few n (Rule rule inside ∷ xs) h = fits_few n xs h
 fits_few n (Rules of inside ∷ xs) h = fits_few n xs h
 
+-- links of connectors are below the bound
 pub connectors_below : (n : ℕ) (xs : List BodyItem) → BodyFits n xs → PairsBelow n (connectors xs)
 connectors_below n [] h = h
 connectors_below n (Atom functor links inside ∷ xs) h = connectors_below n xs h.2
@@ -41,6 +43,7 @@ ports_below : (n a i : ℕ) (xs : List ℕ) → AllBelow n xs → LinksBelow n (
 ports_below n a i [] h = h
 ports_below n a i (x ∷ xs) h = (h.0, ports_below n a (i + 1) xs h.1)
 
+-- and those of new ports
 pub new_below : (n a c : ℕ) (xs : List BodyItem) → BodyFits n xs → LinksBelow n (new_ports a c xs)
 new_below n a c [] h = h
 new_below n a c (Atom functor links inside ∷ xs) h = below_append n (new_ports_from a 0 links) (new_ports (a + 1) c xs) (ports_below n a 0 links h.1) (new_below n (a + 1) c xs h.2)
@@ -79,5 +82,6 @@ once_below n xs (o ∷ os) h = by (times o.link xs == 1) (once_below n xs os h.1
     by true g = (h.0, g)
     by false g = g
 
+-- the links of old ports are below the bound
 pub old_below : (n : ℕ) (xs : List HeadItem) → HeadFits n xs → LinksBelow n (old_ports xs)
 old_below n xs h = once_below n (links_of_head xs) (at_atoms 0 (atoms_of xs)) (at_atoms_below n 0 xs h)

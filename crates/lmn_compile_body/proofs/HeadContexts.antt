@@ -38,16 +38,19 @@ use Rattle.lmn_base.specs.Names.{context_names}
 
 -- ---- lists
 
+-- what is one of a list is contained in it
 pub contained : {X : Type 0} (x : X) (xs : List X) → IsOneOf x xs → Contains xs x
 contained x [] i = absurd i
 contained x (y ∷ xs) (inl e) = (0, omega arith, e)
 contained x (y ∷ xs) (inr i) = let r = contained x xs i in let w = r.1 in (suc r.0, omega (arith, w), r.2)
 
+-- what a list contains is one of it
 pub is_in : {X : Type 0} (x : X) (xs : List X) → Contains xs x → IsOneOf x xs
 is_in x [] (k, within, e) = absurd (omega (arith, within))
 is_in x (y ∷ xs) (zero, within, e) = inl e
 is_in x (y ∷ xs) (suc k, within, e) = inr (is_in x xs (k, omega (arith, within), e))
 
+-- images that differ where their numbers do stand once each
 pub distinct_map : (f : ℕ → ℕ) (xs : List ℕ) → NoneTwice xs → ((x y : ℕ) → IsOneOf x xs → IsOneOf y xs → f x ≡ f y → x ≡ y) → NoneTwice (map f xs)
 distinct_map f [] d one = tt
 distinct_map f (x ∷ xs) d one = (
@@ -193,12 +196,15 @@ own_names : (inside : ℕ) (us : List CtxUse) → map (λ e. e.0) (names_inside 
 own_names inside [] = refl
 own_names inside (u ∷ us) = ap (λ xs. u.name ∷ xs) (own_names inside us)
 
+-- of the contexts and rule contexts of a head the contexts
 abbrev pub untyped : List CtxUse → List CtxUse → List CtxUse
 untyped cs rcs = cs
 
+-- of the contexts and rule contexts of a head the rule contexts
 abbrev pub of_rules : List CtxUse → List CtxUse → List CtxUse
 of_rules cs rcs = rcs
 
+-- the first numbers of pairs
 abbrev pub firsts : List (ℕ × ℕ) → List ℕ
 firsts es = map (λ e. e.0) es
 
@@ -213,6 +219,7 @@ leaf_rule : (l : Leaf) (u : CtxUse) → leaf_item l ≡ item.RuleContext u → �
 leaf_rule (leaf.Atom f os p) u e = absurd (cc)
 leaf_rule (leaf.Typed x o p) u e = absurd (cc)
 
+-- a use isn't typed and untyped
 pub not_both : Typed ≡ Bare → ⊥
 not_both e = absurd (cc)
 
@@ -337,11 +344,13 @@ module _ (pick : List CtxUse → List CtxUse → List CtxUse) where
         | inr j ↦ in_back (as_item u) (head_uses h) (heads_uses hs) (are_used hs u j)
       ]
 
+-- a context of a head is used there, bare
 pub context_used : (h : Head) (u : CtxUse) → IsOneOf u (head_contexts untyped h) → IsOneOf (used Bare u) (head_uses h)
 context_used = is_used untyped (used Bare) (λ leaves cs rcs rs u i.
     in_back (used Bare u) (map leaf_item leaves) (map (used Bare) cs ++ (map item.RuleContext rcs ++ map item.Rule rs))
     (in_front (used Bare u) (map (used Bare) cs) (map item.RuleContext rcs ++ map item.Rule rs) (in_map (used Bare) u cs i)))
 
+-- and a rule context as such
 pub rule_context_used : (h : Head) (u : CtxUse) → IsOneOf u (head_contexts of_rules h) → IsOneOf (item.RuleContext u) (head_uses h)
 rule_context_used = is_used of_rules item.RuleContext (λ leaves cs rcs rs u i.
     in_back (item.RuleContext u) (map leaf_item leaves) (map (used Bare) cs ++ (map item.RuleContext rcs ++ map item.Rule rs))
@@ -517,6 +526,7 @@ at_most_one (head_and (head leaves hs cs rcs rs) more) none = (
 abbrev pub inner_of : Level → Heads
 inner_of l = heads (map head_at (out-Level l).membranes)
 
+-- the head of a level, by its parts
 pub head_out : (l : Level) → head_at l ≡ head (out-Level l).leaves (inner_of l) (out-Level l).contexts (out-Level l).rule_contexts (out-Level l).rules
 head_out l = fold_out-Level Head head_step l
 

@@ -274,5 +274,6 @@ module _ (heads : AcceptedHeads) (table : List RuleTree) (r : RuleTree) (plan : 
       (all_front FitsArity (leaves_of r.head) (leaves_of r.body) whole.ready.made.arities) (all_back FitsArity (leaves_of r.head) (leaves_of r.body) whole.ready.made.arities)
       named (heads.head table r plan whole.ready).held owned rules_owned apart stands
 
+-- an accepted rule is a nested one
 pub accepted_nested : AcceptedHeads → AcceptedNested
 accepted_nested heads table r plan whole = nested heads table r plan whole

@@ -14,6 +14,7 @@ last_more : (es : List (ℕ × ℕ)) (before x : ℕ) (e : ℕ × ℕ) → last_
 last_more [] before x e = refl
 last_more (d ∷ es) before x e = last_more es (if x == d.0 then d.1 else before) x e
 
+-- one register more
 pub registers_more : (es : List (ℕ × ℕ)) (e : ℕ × ℕ) → registers_by (es ++ e ∷ []) ≡ bind_register (registers_by es) e.0 e.1
 registers_more es e = λ i. λ x. last_more es 0 x e i
 

@@ -67,9 +67,11 @@ module _ (table : List RuleTree) (r : RuleTree) (plan : GuardPlan) (ready : IsRe
   meets : (h : Heap) → Valid h → HeadMeetsHeap h (head_items r plan) r.guard
   meets h valid = record { valid = valid; head = is_head; allowed = is_guard }
 
+-- the head code of an accepted rule succeeds where the rule embeds
 pub accepted_heads : AcceptedHeads
 accepted_heads = record { head = is_head; guard = is_guard; room = has_room }
 
+-- and first at the least embedding
 pub accepted_least : AcceptedLeast
 accepted_least = record {
   least = λ table r plan h m s ready valid. code_of_least.least h (head_items r plan) r.guard m s (meets table r plan ready h valid);

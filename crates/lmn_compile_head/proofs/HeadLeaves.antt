@@ -259,10 +259,12 @@ fits_bare n (Atom f xs m ∷ is) h = (h.0, h.1, fits_bare n is h.2)
 fits_bare n (Typed x k y m ∷ is) h = (h.0, fits_bare n is h.1)
 fits_bare n (Membrane m c r ∷ is) h = fits_bare n is h
 
+-- numbers below n in two lists joined are below n in the first
 pub below_front : (n : ℕ) (xs ys : List ℕ) → AllBelow n (xs ++ ys) → AllBelow n xs
 below_front n [] ys h = tt
 below_front n (x ∷ xs) ys h = (h.0, below_front n xs ys h.1)
 
+-- and in the second
 pub below_back : (n : ℕ) (xs ys : List ℕ) → AllBelow n (xs ++ ys) → AllBelow n ys
 below_back n [] ys h = h
 below_back n (x ∷ xs) ys h = below_back n xs ys h.1
@@ -299,6 +301,7 @@ count_times x (y ∷ xs) = sum_by-cons (λ y. if x == y then 1 else 0) y xs ∙ 
     turned : (a b : ℕ) → (a == b) ≡ (b == a)
     turned a b = grind (arith, nat_tests)
 
+-- a link of a head stands there twice at most
 pub at_most_twice : (kind : ℕ → TypeKind) (top body : Level) (x : ℕ) → EachTwice (links_of top ++ links_of body) → times x (heads.links_of_head (items_of_head kind top)) ≤ 2
 at_most_twice kind top body x twice =
     let a = head_links kind top x in

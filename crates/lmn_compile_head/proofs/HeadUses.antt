@@ -54,9 +54,11 @@ contained f (z ∷ zs) x y (suc k, within, is) c = Contains-append_right (f z) (
 
 -- ---- uses and leaves
 
+-- the use of a typed context
 abbrev pub typed_use : ℕ → Pos → FormedUse
 typed_use n p = record { name = n; form = form.Typed; pos = p }
 
+-- a typed context among leaves is used by them
 pub leaves_use : (ls : List Leaf) (n : ℕ) (o : Occ) (p : Pos) → Contains ls (leaf.Typed n o p) → Contains (map leaf_item ls) (item.Context (typed_use n p))
 leaves_use [] n o p (k, within, e) = absurd (omega (arith, within))
 leaves_use (l ∷ ls) n o p (zero, within, e) = subst (λ i. Contains (i ∷ map leaf_item ls) (item.Context (typed_use n p))) (ap leaf_item (sym e)) (here _ _)

@@ -20,6 +20,7 @@ joins_agree u v (pair P Q) h j = (
 joins_agree u v (membrane P) h j = joins_agree u v P h j
 joins_agree u v (rule r) h j = tt
 
+-- maps that agree on the links of a process fuse it alike
 pub fused_agree : (u v : ℕ → ℕ) (P : Process) → ((z : ℕ) → occurrences z P ≢ 0 → u z ≡ v z) → fused u P ≡ fused v P
 fused_agree u v nothing h = refl
 fused_agree u v (connector x y) h = refl
@@ -63,18 +64,22 @@ pub record Carried (v : ℕ → ℕ) (P Q : Process) : Type 0 where
   pub agrees : (z : ℕ) → Free z P → to z ≡ v z
   pub order : Reordered (fused v P) (fused to Q)
 
+-- each map that joins the connectors of P has one of Q that fuses Q to the same process up to order
 abbrev pub Carries : Process → Process → Type 0
 Carries P Q = (v : ℕ → ℕ) → Joins v P → Carried v P Q
 
+-- so it is where each map that joins the connectors of P joins those of Q and fuses both alike
 pub carried_as : (P Q : Process) → ((v : ℕ → ℕ) → Joins v P → Joins v Q) → ((v : ℕ → ℕ) → Reordered (fused v P) (fused v Q)) → Carries P Q
 carried_as P Q h o = λ v j. record { to = v; joins = h v j; agrees = λ z f. refl; order = o v }
 
+-- from P to Q and on to S
 pub carried_chain : (P Q S : Process) → ((z : ℕ) → Free z P → Free z Q) → Carries P Q → Carries Q S → Carries P S
 carried_chain P Q S f i j = λ v k.
     let a = i v k in
     let b = j a.to a.joins in
     record { to = b.to; joins = b.joins; agrees = λ z e. b.agrees z (f z e) ∙ a.agrees z e; order = r_chain a.order b.order }
 
+-- and within a membrane
 pub carried_inside : (P Q : Process) → Carries P Q → Carries (membrane P) (membrane Q)
 carried_inside P Q i = λ v k. let a = i v k in record { to = a.to; joins = a.joins; agrees = a.agrees; order = r_inside a.order }
 

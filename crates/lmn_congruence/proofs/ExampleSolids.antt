@@ -49,5 +49,6 @@ not_twice i = one_not_zero (heads (sym (rules_there (1 ∷ 1 ∷ [])) ∙ ap (fo
     heads : {x y : ℕ} {xs ys : List ℕ} → x ∷ xs ≡ y ∷ ys → x ≡ y
     heads e = cc e
 
+-- a solid of the example has its rules by their numbers
 pub rules_keep_their_numbers : RulesKeepTheirNumbers
 rules_keep_their_numbers = (has_both, not_twice)

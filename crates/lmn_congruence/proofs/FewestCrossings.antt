@@ -21,6 +21,7 @@ with_image v z f y = cond (eqb (v y) z) (f y) 0
 image_sum : (v : ℕ → ℕ) (z : ℕ) (f g : ℕ → ℕ) (y : ℕ) → with_image v z (λ y. f y + g y) y ≡ with_image v z f y + with_image v z g y
 image_sum v z f g y = grind arith
 
+-- what goes to one link of two counts together is the sum of what goes there of each
 pub total_image_sum : (n : ℕ) (v : ℕ → ℕ) (z : ℕ) (f g : ℕ → ℕ) → sum_below n (with_image v z (λ y. f y + g y)) ≡ sum_below n (with_image v z f) + sum_below n (with_image v z g)
 total_image_sum n v z f g = total_same n _ _ (λ y b. image_sum v z f g y) ∙ total_sum n (with_image v z f) (with_image v z g)
 
@@ -42,6 +43,7 @@ image_places : (n : ℕ) (v : ℕ → ℕ) (z : ℕ) (xs : List ℕ) → above_a
 image_places n v z [] b = total_zero n _ (λ y. image_zero v z y)
 image_places n v z (x ∷ xs) b = omega (arith, total_image_sum n v z (λ y. one_if_same y x) (λ y. places y xs), image_one n v z x (omega arith), image_places n v z xs (omega arith))
 
+-- a link occurs in the renamed process as often as all links that go to it occurred
 pub image_count : (n : ℕ) (v : ℕ → ℕ) (z : ℕ) (P : Process) → link_bound P ≤ n → sum_below n (with_image v z (λ y. occurrences y P)) ≡ occurrences z (renamed v P)
 image_count n v z nothing b = total_zero n _ (λ y. image_zero v z y)
 image_count n v z (connector x x') b = omega (arith, total_image_sum n v z (λ y. one_if_same y x) (λ y. one_if_same y x'), image_one n v z x (omega arith), image_one n v z x' (omega arith))
@@ -93,10 +95,12 @@ image_pick n x k b = total_single n x (λ z. cond (eqb x z) k 0) b (λ z d. else
     there : cond (eqb x x) k 0 ≡ k
     there = grind arith
 
+-- the sum over all images is the sum over all links
 pub all_images : (N n : ℕ) (v f : ℕ → ℕ) → ((y : ℕ) → y < n → v y < N) → sum_below N (λ z. sum_below n (with_image v z f)) ≡ sum_below n f
 all_images N zero v f h = total_zero N _ (λ z. refl)
 all_images N (suc n) v f h = omega (arith, total_sum N (λ z. with_image v z f n) (λ z. sum_below n (with_image v z f)), image_pick N (v n) (f n) (h n (omega arith)), all_images N n v f (λ y b. h y (omega arith)))
 
+-- a map that joins connectors makes no more free links
 pub free_number_fused : (v : ℕ → ℕ) (P : Process) → Joins v P → Linked P → free_number (fused v P) ≤ free_number P
 free_number_fused v P h l =
     let n = link_bound P in
@@ -132,6 +136,7 @@ same_crossings_each v (membrane P) h l e =
     (omega arith, same_crossings_each v P h (linked_inside l) (omega arith))
 same_crossings_each v (rule r) h l e = tt
 
+-- where each membrane keeps its crossings they are as many in all
 pub same_crossings_all : (v : ℕ → ℕ) (P : Process) → SameCrossings v P → crossings (fused v P) ≡ crossings P
 same_crossings_all v nothing e = refl
 same_crossings_all v (connector x y) e = refl

@@ -13,6 +13,7 @@ substituted_weight f m new old (pair P Q) = omega (arith, substituted_weight f m
 substituted_weight f m new old (membrane P) = refl
 substituted_weight f m new old (rule r) = refl
 
+-- congruent processes have one weight, where connectors weigh nothing
 pub kept_weight : (f : Label → ℕ) (m : ℕ) {P Q : Process} → Congruent P Q → process_weight f m P ≡ process_weight f m Q
 kept_weight f m (unit l) = omega arith
 kept_weight f m (swap l) = omega arith
@@ -28,5 +29,6 @@ kept_weight f m (same l) = refl
 kept_weight f m (back d) = sym (kept_weight f m d)
 kept_weight f m (chain d e) = kept_weight f m d ∙ kept_weight f m e
 
+-- so it is for each weight of labels and membranes
 pub same_weight : SameWeight
 same_weight f m P Q c = kept_weight f m c

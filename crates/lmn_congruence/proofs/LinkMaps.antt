@@ -17,6 +17,7 @@ use Rattle.lmn_base.proofs.Numbers.{same_or_not, not_one_if_even}
 
 -- ---- processes without connectors
 
+-- where no connector stands every map joins them all
 pub joins_plain : (v : ℕ → ℕ) (P : Process) → NoConnector P → Joins v P
 joins_plain v nothing n = tt
 joins_plain v (connector x y) n = absurd n
@@ -25,6 +26,7 @@ joins_plain v (pair P Q) n = (joins_plain v P n.0, joins_plain v Q n.1)
 joins_plain v (membrane P) n = joins_plain v P n
 joins_plain v (rule r) n = tt
 
+-- where no connector stands fusing is renaming
 pub fused_is_renamed : (v : ℕ → ℕ) (P : Process) → NoConnector P → fused v P ≡ renamed v P
 fused_is_renamed v nothing n = refl
 fused_is_renamed v (connector x y) n = absurd n
@@ -33,9 +35,11 @@ fused_is_renamed v (pair P Q) n = cc (fused_is_renamed v P n.0, fused_is_renamed
 fused_is_renamed v (membrane P) n = cc (fused_is_renamed v P n)
 fused_is_renamed v (rule r) n = refl
 
+-- where no connector stands the map that changes nothing fuses nothing
 pub fused_id : (P : Process) → NoConnector P → fused (λ x. x) P ≡ P
 fused_id P n = fused_is_renamed (λ x. x) P n ∙ renamed_id P
 
+-- in a fused process no connector stands
 pub fused_plain : (v : ℕ → ℕ) (P : Process) → NoConnector (fused v P)
 fused_plain v nothing = tt
 fused_plain v (connector x y) = tt
@@ -59,9 +63,11 @@ congruent_reads P N n c =
 
 -- ---- maps that leave the free links
 
+-- the map leaves the free links of the process as they are
 abbrev pub Leaves : (ℕ → ℕ) → Process → Type 0
 Leaves v P = (x : ℕ) → Free x P → v x ≡ x
 
+-- a closed process is linked
 pub closed_linked : {P : Process} → Closed P → Linked P
 closed_linked {P = P} c = record { at_most_twice = λ z. go z (c z) }
   where
@@ -69,6 +75,7 @@ closed_linked {P = P} c = record { at_most_twice = λ z. go z (c z) }
     go z (inl e) = omega arith
     go z (inr e) = omega arith
 
+-- every map leaves the free links of a closed process, since there are none
 pub closed_leaves : (v : ℕ → ℕ) (P : Process) → Closed P → Leaves v P
 closed_leaves v P c = λ x f. absurd (not_one_if_even (occurrences x P) (c x) f)
 
@@ -86,6 +93,7 @@ two_in_list : (v : ℕ → ℕ) (x y : ℕ) (zs : List ℕ) → x ≢ y → v x 
 two_in_list v x y [] d e = omega arith
 two_in_list v x y (z ∷ zs) d e = omega (arith, two_places v x y z d e, two_in_list v x y zs d e)
 
+-- the one image of two links occurs as often as both together, or more often
 pub two_occurrences : (v : ℕ → ℕ) (x y : ℕ) (P : Process) → x ≢ y → v x ≡ v y → occurrences x P + occurrences y P ≤ occurrences (v x) (renamed v P)
 two_occurrences v x y nothing d e = omega arith
 two_occurrences v x y (connector z z') d e = omega (arith, two_places v x y z d e, two_places v x y z' d e)
@@ -107,6 +115,7 @@ one_to_one v P s l = λ x y o o' e. go x y o o' e (same_or_not x y)
         let b = both_free (occurrences x P) (occurrences y P) (occurrences (v x) (renamed v P)) o o' (two_occurrences v x y P d e) (l.at_most_twice (v x)) in
         sym (s x b.0) ∙ e ∙ s y b.1
 
+-- a map that leaves the free links takes a process without connectors to a congruent one, where that is linked
 pub plain_congruent : (v : ℕ → ℕ) (P : Process) → NoConnector P → Linked P → Leaves v P → Linked (fused v P) → Congruent P (fused v P)
 plain_congruent v P n l s k =
     let e = fused_is_renamed v P n in
@@ -114,8 +123,10 @@ plain_congruent v P n l s k =
 
 -- ---- the laws of congruence alone
 
+-- both sides of a congruence are linked
 pub both_sides_linked : BothSidesLinked
 both_sides_linked P Q c = linked_both c
 
+-- and have the same free links
 pub same_free_links : SameFreeLinks
 same_free_links P Q c x = let i = same_free c x in (i.there, i.back_again)

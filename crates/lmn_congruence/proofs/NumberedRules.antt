@@ -74,6 +74,7 @@ rule_behind names (q ∷ table) k (suc n) r e h =
 from_first : (names : List tree.Name) (table : List RuleTree) (m : ℕ) → numbered names table 0 m ≡ numbered_rule names table m
 from_first names table m = let e : m - 0 ≡ m = omega arith in rw e refl
 
+-- the rule of a number is that of the tree that stands at the number
 pub rule_has_number : (names : List tree.Name) (p : Plain) (n : ℕ) (r : RuleTree) → IsWellMade p → slice_get p.rules n ≡ Some r → numbered_rule names p.rules n ≡ rule_tree names (numbered_rule names p.rules) r
 rule_has_number names p n r w e =
     rule_behind names p.rules 0 n r e (λ i d l. omega (arith, (w.rules_in_rules n r e i d l).0)) ∙

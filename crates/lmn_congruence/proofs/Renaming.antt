@@ -20,6 +20,7 @@ substitute_renamed new old g h (pair P Q) e =
 substitute_renamed new old g h (membrane P) e = cc (substitute_renamed new old g h P e)
 substitute_renamed new old g h (rule r) e = refl
 
+-- maps that agree on the links of a process rename it alike
 pub renamed_agree : (g h : ℕ → ℕ) (P : Process) → ((x : ℕ) → Occurs x P → g x ≡ h x) → renamed g P ≡ renamed h P
 renamed_agree g h nothing e = refl
 renamed_agree g h (connector x y) e = cc (e x (first_in x y), e y (second_in x y))
@@ -29,6 +30,7 @@ renamed_agree g h (pair P Q) e =
 renamed_agree g h (membrane P) e = cc (renamed_agree g h P e)
 renamed_agree g h (rule r) e = refl
 
+-- renamed by the map that changes nothing a process is itself
 pub renamed_id : (P : Process) → renamed (λ x. x) P ≡ P
 renamed_id nothing = refl
 renamed_id (connector x y) = refl
@@ -50,6 +52,7 @@ places_image : (h : ℕ → ℕ) (x : ℕ) (zs : List ℕ) → ((z : ℕ) → pl
 places_image h x [] e = refl
 places_image h x (z ∷ zs) e = omega (arith, one_image h x z (e z (in_head z zs)), places_image h x zs (λ y n. e y (in_tail z y zs n)))
 
+-- an image that comes from one link alone occurs as often as that
 pub occurrences_image : (h : ℕ → ℕ) (x : ℕ) (P : Process) → ((z : ℕ) → Occurs z P → h z ≡ h x → z ≡ x) → occurrences (h x) (renamed h P) ≡ occurrences x P
 occurrences_image h x nothing e = refl
 occurrences_image h x (connector y z) e = omega (arith, one_image h x y (e y (first_in y z)), one_image h x z (e z (second_in y z)))
@@ -64,6 +67,7 @@ places_none : (h : ℕ → ℕ) (x : ℕ) (zs : List ℕ) → ((z : ℕ) → pla
 places_none h x [] e = refl
 places_none h x (z ∷ zs) e = omega (arith, none_if_apart x (h z) (λ q. e z (in_head z zs) (sym q)), places_none h x zs (λ y n. e y (in_tail z y zs n)))
 
+-- what is no image of a link of the process doesn't occur after the renaming
 pub occurrences_none : (h : ℕ → ℕ) (x : ℕ) (P : Process) → ((z : ℕ) → Occurs z P → h z ≢ x) → occurrences x (renamed h P) ≡ 0
 occurrences_none h x nothing e = refl
 occurrences_none h x (connector y z) e = omega (arith, none_if_apart x (h y) (λ q. e y (first_in y z) (sym q)), none_if_apart x (h z) (λ q. e z (second_in y z) (sym q)))
@@ -175,15 +179,19 @@ module _ (a b : ℕ → ℕ) (P : Process) (m : Movable a b P) (l : Linked P) wh
 
 -- ---- a renaming that is one to one and leaves the free links
 
+-- each link that is not free moved up by K
 abbrev pub moved_away : ℕ → Process → ℕ → ℕ
 moved_away K P x = cond (eqb (occurrences x P) 1) x (x + K)
 
+-- a free link stays
 pub away_free : (K x : ℕ) (P : Process) → Free x P → moved_away K P x ≡ x
 away_free K x P f = rw f refl
 
+-- a link that is not free is moved
 pub away_local : (K x : ℕ) (P : Process) → occurrences x P ≢ 1 → moved_away K P x ≡ x + K
 away_local K x P f = grind arith
 
+-- no two links of a process with links below K are moved to one
 pub away_apart : (K : ℕ) (P : Process) → ((x : ℕ) → Occurs x P → x < K) → (x y : ℕ) → moved_away K P x ≡ moved_away K P y → x ≡ y
 away_apart K P above x y e = go (same_or_not (occurrences x P) 1) (same_or_not (occurrences y P) 1)
   where

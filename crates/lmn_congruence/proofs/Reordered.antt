@@ -9,12 +9,15 @@ use Rattle.lmn_congruence.proofs.Counts.{linked_left, linked_right, linked_insid
 use Rattle.lmn_congruence.proofs.Crossings.{crossings, same_number}
 use Rattle.lmn_congruence.proofs.Shuffles.{shuffle_append, shuffle_same, shuffle_swap, shuffle_flip, shuffle_chain, shuffle_map}
 
+-- an empty process in a membrane may stand outside
 pub nothing_out : {P : Process} → Reordered (membrane (pair nothing P)) (pair nothing (membrane P))
 nothing_out = r_chain (r_inside r_unit) (r_back r_unit)
 
+-- processes that are reordered beside another are reordered with it
 pub r_right : {P Q Q' : Process} → Reordered Q Q' → Reordered (pair P Q) (pair P Q')
 r_right d = r_chain r_swap (r_chain (r_beside d) r_swap)
 
+-- order and grouping don't change how often a link occurs
 pub reordered_count : {P Q : Process} → Reordered P Q → (z : ℕ) → occurrences z P ≡ occurrences z Q
 reordered_count r_unit z = omega arith
 reordered_count r_swap z = omega arith
@@ -25,6 +28,7 @@ reordered_count (r_same e) z = ap (occurrences z) e
 reordered_count (r_back d) z = sym (reordered_count d z)
 reordered_count (r_chain d e) z = reordered_count d z ∙ reordered_count e z
 
+-- nor the crossings
 pub reordered_crossings : {P Q : Process} → Reordered P Q → crossings P ≡ crossings Q
 reordered_crossings r_unit = omega arith
 reordered_crossings r_swap = omega arith
@@ -48,6 +52,7 @@ reordered_congruent (r_chain d e) l = chain (reordered_congruent d l) (reordered
 
 -- ---- what stands side by side in a process
 
+-- the atoms, connectors, membranes and rules of a process, in a row
 abbrev pub pieces : Process → List (Process)
 pieces nothing = []
 pieces (connector x y) = connector x y ∷ []
@@ -65,6 +70,7 @@ same_piece_back : (P Q : Process) → SamePiece Q P → SamePiece P Q
 same_piece_back P Q itself = itself
 same_piece_back P Q (content d) = content (r_back d)
 
+-- sameness of pieces goes on from one to the next
 pub same_piece_chain : (P Q S : Process) → SamePiece P Q → SamePiece Q S → SamePiece P S
 same_piece_chain P Q S itself e = e
 same_piece_chain P Q S (content d) itself = content d

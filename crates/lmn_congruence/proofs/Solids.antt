@@ -17,18 +17,22 @@ use Rattle.lmn_congruence.specs.Same.{renamed_atom, PutRegion, first, later, Sam
 
 -- ---- the pieces of one kind
 
+-- a value before a list, where there is one
 abbrev pub onto : {B : Type 0} → Option B → List B → List B
 onto None bs = bs
 onto (Some b) bs = b ∷ bs
 
+-- what is picked from the elements of a list
 abbrev pub picks : {A B : Type 0} → (A → Option B) → List A → List B
 picks p [] = []
 picks p (x ∷ xs) = onto (p x) (picks p xs)
 
+-- both are there and related, or neither is
 pub data Both {B C : Type 0} (R : B → C → Type 0) : Option B → Option C → Type 0 where
   neither : Both R None None
   each : {b : B} {c : C} → R b c → Both R (Some b) (Some c)
 
+-- an element was put into a list, where there is one
 pub data PutOnto {B : Type 0} : Option B → List B → List B → Type 0 where
   absent : {bs : List B} → PutOnto None bs bs
   present : {b : B} {bs cs : List B} → Put b bs cs → PutOnto (Some b) bs cs
@@ -42,6 +46,7 @@ onto_there None p = p
 onto_there (Some b) absent = absent
 onto_there (Some b) (present p) = present (there p)
 
+-- of a list with an element put in is picked what was picked before, and what the element gives
 pub put_picks : {A B : Type 0} (p : A → Option B) {y : A} {ys zs : List A} → Put y ys zs → PutOnto (p y) (picks p ys) (picks p zs)
 put_picks p (here {y = y} {ys = ys}) = onto_here (p y) (picks p ys)
 put_picks p (there {z = z} q) = onto_there (p z) (put_picks p q)
@@ -50,6 +55,7 @@ both_onto : {B C : Type 0} {R : B → C → Type 0} {o : Option B} {o' : Option 
 both_onto neither bs cs ds s absent = s
 both_onto (each r) bs cs ds s (present p) = more r s p
 
+-- of lists that match are picked lists that match
 pub shuffle_picks : {A B C D : Type 0} {R : A → C → Type 0} (S : B → D → Type 0) (p : A → Option B) (q : C → Option D) → ((x : A) (y : C) → R x y → Both S (p x) (q y)) → {xs : List A} {ys : List C} → Shuffle R xs ys → Shuffle S (picks p xs) (picks q ys)
 shuffle_picks S p q h none = none
 shuffle_picks S p q h (more {x = x} {y = y} {xs = xs} {ys = ys} {zs = zs} r s k) = both_onto (h x y r) (picks p xs) (picks q ys) (picks q zs) (shuffle_picks S p q h s) (put_picks q k)
@@ -58,6 +64,7 @@ onto_append : {B : Type 0} (o : Option B) (xs ys : List B) → onto o (xs ++ ys)
 onto_append None xs ys = refl
 onto_append (Some b) xs ys = refl
 
+-- what is picked from two lists joined is what is picked from both
 pub picks_append : {A B : Type 0} (p : A → Option B) (xs ys : List A) → picks p (xs ++ ys) ≡ picks p xs ++ picks p ys
 picks_append p [] ys = refl
 picks_append p (x ∷ xs) ys = ap (onto (p x)) (picks_append p xs ys) ∙ onto_append (p x) (picks p xs) (picks p ys)
@@ -67,6 +74,7 @@ picks_three p xs ys zs = picks_append p xs (ys ++ zs) ∙ ap (λ k. picks p xs +
 
 -- ---- the three kinds
 
+-- a piece as an atom, where it is one
 abbrev pub as_atom : Process → Option SolidAtom
 as_atom nothing = None
 as_atom (connector x y) = None
@@ -75,6 +83,7 @@ as_atom (pair P Q) = None
 as_atom (membrane P) = None
 as_atom (rule r) = None
 
+-- the content of a piece, where it is a membrane
 abbrev pub as_content : Process → Option Process
 as_content nothing = None
 as_content (connector x y) = None
@@ -83,6 +92,7 @@ as_content (pair P Q) = None
 as_content (membrane P) = Some P
 as_content (rule r) = None
 
+-- a piece as a rule, where it is one
 abbrev pub as_rule : Process → Option Rule
 as_rule nothing = None
 as_rule (connector x y) = None
@@ -95,14 +105,17 @@ both_same : {B : Type 0} {R : B → B → Type 0} → ((b : B) → R b b) → (o
 both_same h None = neither
 both_same h (Some b) = each (h b)
 
+-- of pieces that are the same either both are that atom or none is an atom
 pub same_atoms : (P Q : Process) → SamePiece P Q → Both (λ a b. a ≡ b) (as_atom P) (as_atom Q)
 same_atoms P Q itself = both_same (λ a. refl) (as_atom P)
 same_atoms P Q (content d) = neither
 
+-- and either both are membranes of the same content or none is
 pub same_contents : (P Q : Process) → SamePiece P Q → Both Reordered (as_content P) (as_content Q)
 same_contents P Q itself = both_same (λ a. r_same refl) (as_content P)
 same_contents P Q (content d) = each d
 
+-- of pieces that are the same either both are that rule or none is a rule
 pub same_rules : (P Q : Process) → SamePiece P Q → Both (λ a b. a ≡ b) (as_rule P) (as_rule Q)
 same_rules P Q itself = both_same (λ a. refl) (as_rule P)
 same_rules P Q (content d) = neither
@@ -170,6 +183,7 @@ module _ (v : ℕ → ℕ) where
 
 -- ---- reordered processes of regions
 
+-- the map of links that changes nothing
 abbrev pub stay : ℕ → ℕ
 stay x = x
 
@@ -177,6 +191,7 @@ unmap : {A B : Type 0} (g : A → B) (xs : List A) (ys : List B) → Shuffle (λ
 unmap g [] ys none = none
 unmap g (x ∷ xs) ys (more {ys = zs} r s p) = more r (unmap g xs zs s) p
 
+-- the map that changes nothing leaves atoms as they are
 pub stay_atoms : (xs : List SolidAtom) → map (renamed_atom stay) xs ≡ xs
 stay_atoms [] = refl
 stay_atoms (x ∷ xs) = cc (stay_atoms xs, stay_atom x)
@@ -184,6 +199,7 @@ stay_atoms (x ∷ xs) = cc (stay_atoms xs, stay_atom x)
     stay_atom : (a : SolidAtom) → renamed_atom stay a ≡ a
     stay_atom a = ap (λ k. record { label = a.label; links = k }) (map-id a.links)
 
+-- a content among those of membranes is that of one of them
 pub record PutContent (y : Process) (ys : List Process) (ns : Regions) : Type 0 where
   pub region : Region
   pub rest : Regions
@@ -191,6 +207,7 @@ pub record PutContent (y : Process) (ys : List Process) (ns : Regions) : Type 0 
   pub others : ys ≡ contents stay rest
   pub joins : PutRegion region rest ns
 
+-- so it is for each that was put in
 pub put_content : (ns : Regions) {y : Process} {ys : List Process} → Put y ys (contents stay ns) → PutContent y ys ns
 put_content no_region p = elim p [ ]
 put_content (region_and n ns) here = record { region = n; rest = ns; is = refl; others = refl; joins = first }
@@ -252,6 +269,7 @@ pub put_together : {P : Process} {Ps Qs : List (Process)} → Put P Ps Qs → Re
 put_together here = r_same refl
 put_together (there p) = r_chain r_regroup (r_chain (r_beside r_swap) (r_chain (r_back r_regroup) (r_right (put_together p))))
 
+-- where an element was put into a list its image was put into the images
 pub put_map : {A B : Type 0} (g : A → B) {y : A} {ys zs : List A} → Put y ys zs → Put (g y) (map g ys) (map g zs)
 put_map g here = here
 put_map g (there p) = there (put_map g p)
@@ -276,11 +294,13 @@ mutual
   regions_shuffled f none_left = r_same refl
   regions_shuffled f (one_more m s j) = r_chain (r_beside (r_inside (region_shuffled f m))) (r_chain (r_right (regions_shuffled f s)) (put_together (joins_put j)))
 
+-- solids that are the same have congruent processes
 pub same_congruent : (S S' : Region) → Closed (region_process S) → Same S S' → Congruent (region_process S) (region_process S')
 same_congruent S S' c s =
     let P = region_process S in
     let d = rename_all s.to P (closed_linked c) s.one_to_one (closed_leaves s.to P c) in
     chain d (reordered_congruent (region_shuffled s.to s.same) (linked_both d).1)
 
+-- solids have congruent processes exactly where they are the same
 pub congruent_exactly_same : CongruentSolids
 congruent_exactly_same S S' c = ((λ d. congruent_same S S' c d), (λ s. same_congruent S S' c s))

@@ -28,6 +28,7 @@ use Rattle.lmn_base.proofs.Common.{inner_leaves}
 
 -- ---- one leaf
 
+-- the images of the links of some occurrences
 pub twice_mapped : (v : ℕ → ℕ) (os : List Occ) → map (λ o. v o.link) os ≡ map v (map (λ o. o.link) os)
 twice_mapped v [] = refl
 twice_mapped v (o ∷ os) = ap (λ ys. v o.link ∷ ys) (twice_mapped v os)
@@ -134,6 +135,7 @@ module _ (names : List tree.Name) (number : ℕ → tree.Rule) (v : ℕ → ℕ)
       rw (fold-roll-Level tree.Level (level_step names number) y)
       (leaves_joined y.leaves (all_of_left (JoinsLeaf v) y.leaves (inner_leaves y.membranes) here), (inside (all_of_right (JoinsLeaf v) y.leaves (inner_leaves y.membranes) here), rules_join (tree.rules_list (rules (map number y.rules))))))
 
+-- the solid of a plain has the region of its top, by whatever names
 pub solids_of_plains : SolidsOfPlains
 solids_of_plains names p s w i =
     let number = numbered_rule names p.rules in

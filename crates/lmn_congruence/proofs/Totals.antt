@@ -4,6 +4,7 @@ use Rattle.lmn_congruence.specs.FreeLinks.{sum_below}
 use Rattle.lmn_congruence.proofs.Counts.{less_apart}
 use Rattle.lmn_base.proofs.Numbers.{same_or_not}
 
+-- sums of the same numbers are the same
 pub total_same : (n : ℕ) (f g : ℕ → ℕ) → ((z : ℕ) → z < n → f z ≡ g z) → sum_below n f ≡ sum_below n g
 total_same zero f g h = refl
 total_same (suc n) f g h = omega (arith, h n (omega arith), total_same n f g (λ z b. h z (omega arith)))
@@ -26,6 +27,7 @@ total_one (suc n) x f g b h = go (same_or_not x n) (λ c. total_one n x f g c (�
 alone : (n x y : ℕ) (f g : ℕ → ℕ) → x ≡ n → y < n → ((z : ℕ) → z ≢ x → z ≢ y → f z ≡ g z) → f n + sum_below n f + (g x + g y) ≡ g n + sum_below n g + (f x + f y)
 alone n x y f g e c h = rw e (omega (arith, total_one n y f g c (λ z b p. h z (λ q. less_apart z n b (q ∙ e)) p)))
 
+-- sums that differ at two numbers alone differ by these
 pub total_two : (n x y : ℕ) (f g : ℕ → ℕ) → x ≢ y → x < n → y < n → ((z : ℕ) → z ≢ x → z ≢ y → f z ≡ g z) → sum_below n f + (g x + g y) ≡ sum_below n g + (f x + f y)
 total_two zero x y f g d b c h = absurd (go b)
   where
@@ -48,18 +50,22 @@ total_past n (suc m) f b h = go (same_or_not n (suc m)) (λ c. total_past n m f 
     go (inl e) i = rw e refl
     go (inr e) i = let c : n ≤ m = omega arith in omega (arith, i c, h m c)
 
+-- the sum of two is the sum of both sums
 pub total_sum : (n : ℕ) (f g : ℕ → ℕ) → sum_below n (λ y. f y + g y) ≡ sum_below n f + sum_below n g
 total_sum zero f g = refl
 total_sum (suc n) f g = omega (arith, total_sum n f g)
 
+-- a sum of zeros is zero
 pub total_zero : (n : ℕ) (f : ℕ → ℕ) → ((y : ℕ) → f y ≡ 0) → sum_below n f ≡ 0
 total_zero zero f h = refl
 total_zero (suc n) f h = omega (arith, h n, total_zero n f h)
 
+-- a sum of numbers that are at most others is at most their sum
 pub total_at_most : (n : ℕ) (f g : ℕ → ℕ) → ((y : ℕ) → f y ≤ g y) → sum_below n f ≤ sum_below n g
 total_at_most zero f g h = omega arith
 total_at_most (suc n) f g h = omega (arith, h n, total_at_most n f g h)
 
+-- each image of a number below n is below the sum of all of them, each with one more
 pub highest : (n : ℕ) (v : ℕ → ℕ) (y : ℕ) → y < n → v y < sum_below n (λ y. suc (v y))
 highest zero v y b = absurd (go b)
   where

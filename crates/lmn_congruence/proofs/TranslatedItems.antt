@@ -27,5 +27,6 @@ module _ (names : List tree.Name) (number : ℕ → tree.Rule) where
       rw (fold-roll-Region solid.Region (region_step names number) y, fold-roll-Region ℕ items_step y)
       (omega (arith, inside, length-map y.atoms (solid_atom_of names), length-map y.rules number, length-map y.membranes (fold-Region ℕ items_step))))
 
+-- a solid has as many items as its region
 pub items_kept : ItemsKept
 items_kept names table s = same_items names (numbered_rule names table) s.root

@@ -28,6 +28,7 @@ use Rattle.lmn_base.proofs.Truth.{cond_plus}
 use Rattle.lmn_base.proofs.Common.{inner_leaves}
 use Rattle.lmn_base.proofs.Lists.{all_of_left, all_of_right}
 
+-- a number has the places of both lists joined
 pub places_append : (x : ℕ) (xs ys : List ℕ) → places x (xs ++ ys) ≡ places x xs + places x ys
 places_append x [] ys = omega arith
 places_append x (z ∷ xs) ys = omega (arith, places_append x xs ys)
@@ -77,6 +78,7 @@ leaves_alone : (names : List tree.Name) (x : ℕ) (ls : List Leaf) → All IsAto
 leaves_alone names x [] h = refl
 leaves_alone names x (l ∷ ls) h = omega (arith, leaf_alone names x l (h zero l (omega arith)), leaves_alone names x ls (all_of_right IsAtomLeaf (l ∷ []) ls h), places_both x (l ∷ []) ls)
 
+-- no link occurs in rules
 pub no_link_in_rules : (x : ℕ) (rs : List tree.Rule) → occurrences x (together (map rule rs)) ≡ 0
 no_link_in_rules x [] = refl
 no_link_in_rules x (r ∷ rs) = omega (arith, no_link_in_rules x rs)
@@ -143,28 +145,35 @@ module _ (names : List tree.Name) (number : ℕ → tree.Rule) (x : ℕ) where
 
 -- ---- how often a link occurs
 
+-- to count the numbers that are x is to count the places of x
 pub counted : (x : ℕ) (xs : List ℕ) → count_by (λ y. x == y) xs ≡ places x xs
 counted x xs = sym (is_count_by (places x) (λ y. x == y) refl (λ y ys. cond_plus (x == y) (places x ys)) xs)
 
+-- a link occurs in the process of a level as often as in the level
 pub level_links : LevelLinksKept
 level_links names number l x = level_places names number x l ∙ sym (counted x (links_of l))
 
+-- and in that of a plain's top
 pub top_links : TopLinksKept
 top_links names p w x = top_places names (numbered_rule names p.rules) x p.top w.only_atoms ∙ sym (counted x (links_of p.top))
 
+-- a link occurs in the process of a solid as often as in the solid
 pub solid_links_kept : SolidLinksKept
 solid_links_kept names table s x = region_places names (numbered_rule names table) x s.root ∙ sym (counted x (solid_links s.root))
 
 -- ---- closed processes, linked rules
 
+-- a rule is linked exactly where its tree is
 pub linked_rules : LinkedRulesKept
 linked_rules names number r = ((λ h x. rw (both_parts x) (h x)), (λ h x. rw (← both_parts x) (h x)))
   where
     both_parts : (x : ℕ) → level_occurrences x (level_of names number r.head) + level_occurrences x (level_of names number r.body) ≡ count_by (λ y. x == y) (links_of r.head ++ links_of r.body)
     both_parts x = omega (arith, level_links names number r.head x, level_links names number r.body x, counted x (links_of r.head), counted x (links_of r.body), counted x (links_of r.head ++ links_of r.body), places_append x (links_of r.head) (links_of r.body))
 
+-- the process of a solid is closed
 pub solids_closed : SolidsClosed
 solids_closed names table s k = λ x. rw (solid_links_kept names table s x) (k.closed x)
 
+-- that of a plain is closed exactly where each link of its top stands there twice
 pub plains_closed : PlainsClosed
 plains_closed names p w = ((λ h x. rw (top_links names p w x) (h x)), (λ h x. rw (← top_links names p w x) (h x)))

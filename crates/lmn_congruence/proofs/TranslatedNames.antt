@@ -21,6 +21,7 @@ names_apart names m n h l k e = go (three_ways m n)
     go (inr (inl c)) = c
     go (inr (inr c)) = absurd (h n m [] c l (sym e))
 
+-- labels whose names the list has are one where their trees are one
 pub labels_apart : LabelsApart
 labels_apart names (Name m) (Name n) i h e = ap Name (names_apart names m n i.once (h 0 0 (omega arith)) (h 1 0 (omega arith)) (same_name e))
   where
@@ -39,6 +40,7 @@ is_connector f e e' = parts f.label f.arity e e'
     parts : (l : Label) (n : ℕ) → l ≡ Name 0 → n ≡ 2 → record { label = l; arity = n } ≡ connector
     parts l n e e' = rw (e, e') refl
 
+-- no atom in the region of a solid is a connector
 pub no_solid_connector : NoSolidConnector
 no_solid_connector names table s n k j d l p =
     let a = slice_index_or (atoms_of_region s.root) j d in

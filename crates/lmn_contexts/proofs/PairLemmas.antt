@@ -21,6 +21,7 @@ joined [] ys = refl
 joined ([] ∷ xs) ys = joined xs ys
 joined ((p ∷ ps) ∷ xs) ys = refl
 
+-- where there is a first place there is one
 pub is_somewhere : (ps : List Pos) (p : Pos) → FirstAt ps p → is_some_place ps ≡ true
 is_somewhere [] p f = absurd (nowhere p f)
 is_somewhere (q ∷ ps) p f = refl

@@ -27,15 +27,19 @@ use Rattle.lmn_base.proofs.RowLemmas.{Nowhere}
 counted : (l : Level-F Level) → number_of_items (roll-Level l) ≡ number_step (map-Level Level ℕ number_of_items l)
 counted l = fold-roll-Level ℕ number_step l
 
+-- a head that holds nothing is refused
 pub empty_head : EmptyHead
 empty_head = ap (λ n. if n == 0 then at_column 1 ∷ [] else []) (counted _)
 
+-- and one with a connector
 pub connector_in_head : ConnectorInHead
 connector_in_head = ap (flat_map connector_place) (listed _)
 
+-- and one with a context at its top
 pub context_at_top : ContextAtTop
 context_at_top = ap (λ o. flat_map bare_place (own_items o)) (out-roll-Level _)
 
+-- or a rule context
 pub rule_context_at_top : RuleContextAtTop
 rule_context_at_top = ap (λ o. flat_map rule_context_place (own_items o)) (out-roll-Level _)
 
@@ -53,6 +57,7 @@ none = listed _
 abbrev outer : Level-F Level
 outer = record { leaves = []; membranes = []; contexts = []; rule_contexts = []; rules = 1 ∷ [] }
 
+-- a head with a rule in it is refused
 pub rule_in_head : RuleInHead
 rule_in_head =
     let inner : RuleTree = record { head = holding (alone name_a 2 ∷ []) [] [] []; guard = []; body = holding (alone name_b 7 ∷ []) [] [] []; links = []; pos = at_column 2 } in
@@ -66,16 +71,19 @@ membranes_of_rolled l = ap (λ o. flat_map seconds_by_membrane o.membranes) (out
 seconds_listed : (l : Level-F Level) → seconds_by_membrane (roll-Level l) ≡ seconds l ∷ flat_map seconds_by_membrane l.membranes
 seconds_listed l = fold-roll-Level (List (List Pos)) (λ l. (seconds l ∷ []) ++ flat_map (λ inner. inner) l.membranes) l ∙ ap (λ ps. seconds l ∷ ps) (flat_map-map (λ inner. inner) seconds_by_membrane l.membranes)
 
+-- two contexts in one membrane of a head are refused
 pub two_in_membrane : TwoInMembrane
 two_in_membrane =
     ap first_with_some (membranes_of_rolled _ ∙ ap (λ ps. ps ++ []) (seconds_listed _))
 
+-- those of an outer membrane come first
 pub outer_pair_first : OuterPairFirst
 outer_pair_first =
     ap first_with_some (membranes_of_rolled _ ∙ ap (λ ps. ps ++ []) (seconds_listed _ ∙ ap (λ ps. (at_column 16 ∷ []) ∷ (ps ++ [])) (seconds_listed _)))
 
 -- ---- uses in the head
 
+-- a context that stands twice in the head is refused
 pub twice_in_head : TwiceInHead
 twice_in_head =
     let first : items_of (holding [] [] (use_at name_p 2 ∷ []) []) ≡ _ = listed _ in
@@ -86,6 +94,7 @@ twice_in_head =
 abbrev two_forms : List Item → List Pos
 two_forms items = flat_map (in_other_form items) items
 
+-- also in two forms
 pub twice_in_two_forms : TwiceInTwoForms
 twice_in_two_forms =
     let atom = Atom (record { label = Name name_p; arity = 1 }) (record { link = 0; pos = at_column 7 } ∷ []) (at_column 7) in
@@ -93,6 +102,7 @@ twice_in_two_forms =
     let head : items_of (holding (atom ∷ typed ∷ []) (holding [] [] (use_at context_x 2 ∷ []) [] ∷ []) [] []) ≡ _ = in_one _ _ [] _ (listed _) in
     ((λ i. flat_map (used_again (head i)) (head i)), (λ i. two_forms (head i ++ none i)))
 
+-- and so is one in two forms in the rule
 pub in_two_forms : InTwoForms
 in_two_forms =
     let head : items_of (holding [] (holding (alone name_a 2 ∷ []) [] (use_at name_p 5 ∷ []) [] ∷ []) [] []) ≡ _ = in_one [] _ [] _ (listed _) in
@@ -104,11 +114,13 @@ in_two_forms =
 abbrev once : List Item → List Item → List Pos
 once head body = flat_map (missing body) head ++ flat_map (bare_again head body) body
 
+-- a context of the head that isn't in the body is refused
 pub not_in_body : NotInBody
 not_in_body =
     let head : items_of (membrane_with_contexts (use_at name_p 2 ∷ [])) ≡ _ = in_one [] _ [] _ (listed _) in
     λ i. once (head i) (none i)
 
+-- or stands twice there
 pub twice_in_body : TwiceInBody
 twice_in_body =
     let head : items_of (holding (alone name_b 8 ∷ []) (holding [] [] (use_at name_p 2 ∷ []) [] ∷ []) [] []) ≡ _ = in_one _ _ [] _ (listed _) in
@@ -118,11 +130,13 @@ twice_in_body =
 b_alone : items_of (holding (alone name_b 1 ∷ []) [] [] []) ≡ leaf_item (alone name_b 1) ∷ []
 b_alone = listed _
 
+-- and one of the body that isn't in the head
 pub not_in_head : NotInHead
 not_in_head =
     let body : items_of (holding [] [] (use_at name_p 6 ∷ []) []) ≡ _ = listed _ in
     λ i. flat_map (from_nowhere (b_alone i) []) (body i)
 
+-- and so a rule context
 pub rule_context_not_in_head : RuleContextNotInHead
 rule_context_not_in_head =
     let body : items_of (holding [] [] [] (use_at name_r 6 ∷ [])) ≡ _ = listed _ in
@@ -141,12 +155,14 @@ sized : (leaves : List Leaf) (inner : Level) (n : ℕ) → number_of_items inner
     number_of_items (holding leaves (inner ∷ []) [] []) ≡ number_step (record { leaves = leaves; membranes = n ∷ []; contexts = []; rule_contexts = []; rules = [] })
 sized leaves inner n e = counted _ ∙ ap (λ k. number_step (record { leaves = leaves; membranes = k ∷ []; contexts = []; rule_contexts = []; rules = [] })) e
 
+-- a head of 128 items is within the limits
 pub largest_head : LargestHead
 largest_head =
     let within : number_of_items (holding (many 127 (alone name_a 1)) (holding [] [] [] [] ∷ []) [] []) ≡ 128 = sized _ _ 0 (counted _) in
     let beyond : number_of_items (holding (many 127 (alone name_a 1)) (holding [] [] (use_at name_p 9 ∷ []) [] ∷ []) [] []) ≡ 129 = sized _ _ 1 (counted _) in
     ((λ i. too_many (within i) (size_of_empty i)), (λ i. too_many (beyond i) (size_of_empty i)))
 
+-- and a body of as many as it may have
 pub largest_body : LargestBody
 largest_body =
     let within : number_of_items (holding (many 1024 (alone name_a 1)) [] [] []) ≡ 1024 = counted _ in
@@ -155,6 +171,7 @@ largest_body =
 
 -- ---- a rule that may stand
 
+-- a rule in order is not refused
 pub nothing_offends : NothingOffends
 nothing_offends =
     let inner : Level = holding (alone name_a 2 ∷ []) [] (use_at name_p 5 ∷ []) (use_at name_r 9 ∷ []) in

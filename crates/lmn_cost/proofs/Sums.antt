@@ -29,6 +29,7 @@ pub both_sums : (P : Instr → ℕ → Type 0) (xs ys : List Instr) (m n : ℕ) 
 both_sums P [] ys m n s t = let e : n ≡ m + n = omega (arith, s) in subst (λ k. InAll P ys k) e t
 both_sums P (x ∷ xs) ys m n (a, b, (p, s, e)) t = (a, b + n, (p, both_sums P xs ys b n s t, omega (arith, e)))
 
+-- one instruction more adds its own
 pub one_more : (P : Instr → ℕ → Type 0) (x : Instr) (xs : List Instr) (a n : ℕ) → P x a → InAll P xs n → InAll P (x ∷ xs) (a + n)
 one_more P x xs a n p s = (a, n, (p, s, refl))
 

@@ -12,6 +12,7 @@ use Rattle.lmn_base.proofs.Lists.{weigh as total}
 use Rattle.lmn_heap.proofs.Common.{in_of_without}
 use Rattle.lmn_base.specs.Lists.{In}
 
+-- the total of the weights is their sum
 pub total_is_sum : (w : ℕ → ℕ) (xs : List ℕ) → sum (map w xs) ≡ total w xs
 total_is_sum w [] = refl
 total_is_sum w (x ∷ xs) = sum-map w (x ∷ xs) ∙ sum_by-cons w x xs ∙ ap (λ n. w x + n) (sym (sum-map w xs) ∙ total_is_sum w xs)
@@ -21,18 +22,22 @@ pub total_same : (w u : ℕ → ℕ) (xs : List ℕ) → ((x : ℕ) → In x xs 
 total_same w u [] h = refl
 total_same w u (x ∷ xs) h = let a = h x (inl refl) in let r = total_same w u xs (λ y i. h y (inr i)) in omega arith
 
+-- a total of nothing is 0
 pub total_none : (w : ℕ → ℕ) (xs : List ℕ) → ((x : ℕ) → In x xs → w x ≡ 0) → total w xs ≡ 0
 total_none w [] h = refl
 total_none w (x ∷ xs) h = let a = h x (inl refl) in let r = total_none w xs (λ y i. h y (inr i)) in omega arith
 
+-- a total of ones is the length
 pub total_ones : (xs : List ℕ) → total (λ x. 1) xs ≡ length xs
 total_ones [] = refl
 total_ones (x ∷ xs) = let r = total_ones xs in omega arith
 
+-- the total of two weights together is the sum of both totals
 pub total_plus : (w u : ℕ → ℕ) (xs : List ℕ) → total (λ x. w x + u x) xs ≡ total w xs + total u xs
 total_plus w u [] = refl
 total_plus w u (x ∷ xs) = let r = total_plus w u xs in omega arith
 
+-- a total of images is one of their weights
 pub total_mapped : (w f : ℕ → ℕ) (xs : List ℕ) → total w (map f xs) ≡ total (λ x. w (f x)) xs
 total_mapped w f [] = refl
 total_mapped w f (x ∷ xs) = ap (λ n. w (f x) + n) (total_mapped w f xs)
@@ -98,6 +103,7 @@ pub total_three : (a b c : ℕ → ℕ) (xs : List ℕ) → total (λ x. a x + b
 total_three a b c [] = refl
 total_three a b c (x ∷ xs) = let r = total_three a b c xs in omega arith
 
+-- a total of five weights is the sum of five totals
 pub total_five : (a b c d e : ℕ → ℕ) (xs : List ℕ) → total (λ x. a x + (b x + c x) + (d x + e x)) xs ≡ total a xs + total b xs + total c xs + total d xs + total e xs
 total_five a b c d e [] = refl
 total_five a b c d e (x ∷ xs) = let r = total_five a b c d e xs in omega arith

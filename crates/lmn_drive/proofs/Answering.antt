@@ -23,5 +23,6 @@ module _ (g : RunInput) (n : ℕ) (h : Heap) (r : Ran g n h) where
   exact NoMemory old new ended fine = ((λ e ends. absurd (ended.0 e ends)), (λ on. refl))
   exact Failed old new ended fine = absurd (fine refl)
 
+-- where the trace ends the answer names this end and no other
 pub answers_are_exact : AnswersAreExact
 answers_are_exact g n h r answer old new ended fine = exact g n h r answer old new ended fine

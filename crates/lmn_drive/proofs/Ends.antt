@@ -19,6 +19,7 @@ use Rattle.lmn_adequacy.proofs.Runs.{embeds_in}
 pub closed_held : {names : List Name} {table : List RuleTree} {h : Heap} {S : Region} → HoldsRegion names table h S → Closed (region_process S)
 closed_held {names} {table} {h} {S} held = subst (λ R. Closed (region_process R)) (sym held.is) (closed_heap h (reading_by names table held.number) held.inner held.read held.tree)
 
+-- a heap that holds an accepted region has accepted rules
 pub accepted_held : {names : List Name} {table : List RuleTree} {h : Heap} {S : Region} → HoldsRegion names table h S → AllRules Accepted S
 accepted_held {names} {table} {h} {S} held = subst (AllRules Accepted) (sym held.is) (all_accepted h (reading_by names table held.number) table held.rules h.root held.inner)
 

@@ -4,6 +4,7 @@ use Rattle.std.specs.Fmt.{digits}
 use Rattle.lmn_folded.proofs.ExampleLines as folded
 use Rattle.lmn_drive.specs.Examples.{FoldedRunIsWritten, FullRunIsWritten}
 
+-- what is written of the example that is full
 pub full_run_is_written : FullRunIsWritten
 unfolding digits
 full_run_is_written = (
@@ -11,6 +12,7 @@ full_run_is_written = (
   (record { first_lines = codes "a. (a :- a, a).\n" ∷ []; last_line = codes "a. a. (a :- a, a).\n"; are_lines = (refl, tt); is_line = refl }, refl),
 )
 
+-- and in the folded form
 pub folded_run_is_written : FoldedRunIsWritten
 unfolding digits
 folded_run_is_written = (

@@ -30,6 +30,7 @@ Answers {g} {n} r a h' = IsTurned g.names g.table g.chooser g.size n r.last a h'
 pub moved : (P : ℕ → Heap → Type 0) {n n' : ℕ} {h h' : Heap} → n' ≡ n → h' ≡ h → P n h → P n' h'
 moved P {n} {n'} {h} {h'} e d p = subst (λ k. P n' k) (sym d) (subst (λ k. P k h) (sym e) p)
 
+-- with none more it is the same
 pub none_more : (n : ℕ) → n + 0 ≡ n
 none_more n = omega arith
 

@@ -7,6 +7,7 @@ use Rattle.lmn_runs.proofs.TraceLines.{before_closed, last_closed, one_line, one
 use Rattle.lmn_drive.specs.Laws.{TextsAreOne}
 use Rattle.lmn_drive.specs.Written.{written}
 
+-- what is given to a run says what is written of it, over every heap
 pub texts_are_one : TextsAreOne
 texts_are_one g n h h' r s closed accepted word =
     let same = trace_is_one g.chooser g.budget g.size g.first r.before s.before r.last s.last closed accepted r.trace s.trace (r.count ∙ sym s.count) in

@@ -44,5 +44,6 @@ module _ (trace : Bool) (lines : List (List ℕ)) (last word : List ℕ) (n : �
 pub line_taken : (trace : Bool) (lines : List (List ℕ)) (line : List ℕ) (old mid new : Option (List ℕ)) → Takes (traced trace lines) old mid → Takes (traced trace (line ∷ [])) mid new → Takes (traced trace (lines ++ line ∷ [])) old new
 line_taken trace lines line old mid new first later = subst (λ text. Takes text old new) (traced_more trace lines (line ∷ [])) (takes_both (traced trace lines) (traced trace (line ∷ [])) old mid new first later)
 
+-- a line that is begun is the last of a trace
 pub line_begun : (trace : Bool) (lines : List (List ℕ)) (line : List ℕ) (old mid new : Option (List ℕ)) → Takes (traced trace lines) old mid → TakesPrefix (traced trace (line ∷ [])) mid new → TakesPrefix (traced trace (lines ++ line ∷ [])) old new
 line_begun trace lines line old mid new first later = subst (λ text. TakesPrefix text old new) (traced_more trace lines (line ∷ [])) (prefix_after (traced trace lines) (traced trace (line ∷ [])) old mid new first later)

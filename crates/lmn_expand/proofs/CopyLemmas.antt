@@ -80,6 +80,7 @@ count_append x (y ∷ xs) ys = by (x == y) (count_append x xs ys)
 often_append : (x : ℕ) (xs ys : List ℕ) → often x (xs ++ ys) ≡ often x xs + often x ys
 often_append x xs ys = omega (arith, count_append x xs ys, often_is x (xs ++ ys), often_is x xs, often_is x ys)
 
+-- no links counted leave the counts as they were
 pub counts_none : (a : List ℕ) → CountsPlaces [] a a
 counts_none a = record {
   size = refl;
@@ -92,6 +93,7 @@ counts_none a = record {
       | inr y ↦ omega (arith, y.0, y.1, l, often_is x [])
     ]
 
+-- links counted and then others are both counted
 pub counts_both : (xs ys a b c : List ℕ) → CountsPlaces xs a b → CountsPlaces ys b c → CountsPlaces (xs ++ ys) a c
 counts_both xs ys a b c h k = record {
   size = k.size ∙ h.size;
@@ -110,15 +112,18 @@ flat_map_last : {A B : Type 0} (f : A → List B) (xs : List A) (x : A) → flat
 flat_map_last f [] x = append-nil (f x)
 flat_map_last f (y ∷ xs) x = ap (λ z. f y ++ z) (flat_map_last f xs x) ∙ sym (append_assoc (f y) (flat_map f xs) (f x))
 
+-- one more is taken
 pub taken : {A : Type 0} (xs : List A) (i : ℕ) (d x : A) → i < length xs → x ≡ get_or xs i d → take (i + 1) xs ≡ take i xs ++ x ∷ []
 taken xs i d x l e = take_more xs i d l ∙ ap (λ y. take i xs ++ y ∷ []) (sym e)
 
+-- the link of one more place is counted
 pub counts_link : (os : List Occ) (i : ℕ) (d x : Occ) (a b c : List ℕ) → i < length os → x ≡ get_or os i d → CountsPlaces (map (λ (o : Occ). o.link) (take i os)) a b
     → CountsPlaces (x.link ∷ []) b c → CountsPlaces (map (λ (o : Occ). o.link) (take (i + 1) os)) a c
 counts_link os i d x a b c l e h k =
     counts_as _ _ a c (sym (map-append (λ (o : Occ). o.link) (take i os) (x ∷ [])) ∙ ap (map (λ (o : Occ). o.link)) (sym (taken os i d x l e)))
     (counts_both (map (λ (o : Occ). o.link) (take i os)) (x.link ∷ []) a b c h k)
 
+-- and those of one more leaf
 pub counts_leaf : (ls : List base.Leaf) (i : ℕ) (d x : base.Leaf) (a b c : List ℕ) → i < length ls → x ≡ get_or ls i d → CountsPlaces (links_of_leaves (take i ls)) a b
     → CountsPlaces (links_of_leaf x) b c → CountsPlaces (links_of_leaves (take (i + 1) ls)) a c
 counts_leaf ls i d x a b c l e h k =
@@ -127,6 +132,7 @@ counts_leaf ls i d x a b c l e h k =
     ∙ ap links_of_leaves (sym (taken ls i d x l e)))
     (counts_both (links_of_leaves (take i ls)) (links_of_leaf x) a b c h k)
 
+-- and of one more level
 pub counts_level : (ls : List base_level.Level) (i : ℕ) (d x : base_level.Level) (a b c : List ℕ) → i < length ls → x ≡ get_or ls i d → CountsPlaces (links_of_levels (take i ls)) a b
     → CountsPlaces (links_of x) b c → CountsPlaces (links_of_levels (take (i + 1) ls)) a c
 counts_level ls i d x a b c l e h k =
@@ -161,6 +167,7 @@ counts_agree keys a x h (b ∷ bs) (y ∷ ys) e =
     ap (λ t. if t then 1 + occurs a bs else occurs a bs) (test_is keys a b x y h e.0)
     ∙ ap (λ n. if x == y then 1 + n else n) (counts_agree keys a x h bs ys e.1)
 
+-- a link stands as often as its number is counted
 pub times_often : (keys : List Link) (a : Link) (x : ℕ) (bs : List Link) (ys : List ℕ) → IsKey keys a x → EachPair (IsKey keys) bs ys → times_among a bs ≡ often x ys
 times_often keys a x bs ys h e = sym (times_is a bs) ∙ counts_agree keys a x h bs ys e ∙ often_is x ys
 
@@ -178,6 +185,7 @@ two_of m = same_test (min 3 (0 + m) == 2) (m == 2)
 
 -- ---- counts of whole lists
 
+-- with all places all are counted
 pub counts_all : (os : List Occ) (i : ℕ) (a b : List ℕ) → length os ≤ i → CountsPlaces (map (λ (o : Occ). o.link) (take i os)) a b → CountsPlaces (map (λ (o : Occ). o.link) os) a b
 counts_all os i a b l h = counts_as _ _ a b (ap (map (λ (o : Occ). o.link)) (take_all i os l)) h
 
@@ -198,6 +206,7 @@ links_out l =
     ap (λ xs. links_of_leaves xs) (leaves_apart l) ∙ links_append (out-Level l).leaves (flat_map leaves_of (out-Level l).membranes)
     ∙ ap (λ ys. links_of_leaves (out-Level l).leaves ++ ys) (links_inside (out-Level l).membranes)
 
+-- and with all leaves and membranes of a level
 pub counts_out : (ls : List base_level.Level) (i : ℕ) (d x : base_level.Level) (leaves : List base.Leaf) (inside : List base_level.Level) (a b c e : List ℕ) → i < length ls
     → x ≡ get_or ls i d → leaves ≡ (out-Level x).leaves → inside ≡ (out-Level x).membranes → CountsPlaces (links_of_levels (take i ls)) a b → CountsPlaces (links_of_leaves leaves) b c
     → CountsPlaces (links_of_levels inside) c e → CountsPlaces (links_of_levels (take (i + 1) ls)) a e
@@ -209,6 +218,7 @@ counts_out ls i d x leaves inside a b c e l at f g h k m =
 
 -- ---- fresh links
 
+-- what holds of a number and what holds where there is one
 pub ok_both : (x : Result ℕ NoMemory) (P : ℕ → Type 0) (Q : Type 0) (R : ℕ → Type 0) → ((n : ℕ) → P n → Q → R n) → IfOk x P → OnOk x Q → IfOk x R
 ok_both (Ok n) P Q R f p q = f n p q
 ok_both (Err e) P Q R f p q = tt
@@ -216,6 +226,7 @@ ok_both (Err e) P Q R f p q = tt
 not_fresh : (a : Link) (n : Name) → fresh a ≡ written n → ⊥
 not_fresh a n e = absurd (cc)
 
+-- a link that stands twice gets a fresh one
 pub fresh_one : (r : Reading) (keys : List Link) (a : Link) (n new : ℕ) (s t : Scope) → n ≡ 2 → IsScope r keys s → (IsLinkIn (fresh a) keys → ⊥)
     → new ≡ s.count → t.count ≡ s.count + 1 → t.written ≡ s.written → IsFreshOrSame r keys a n new t
 fresh_one r keys a n new s t two h absent number count same = record {
@@ -239,6 +250,7 @@ pub record FreshSoFar (r : Reading) (keys : List Link) (counts : List ℕ) (i : 
   pub size : length new ≡ i
   pub links : (x n : ℕ) (a : Link) → x < i → slice_get counts x ≡ Some n → IsKey keys a x → IsKey (keys ++ more) (if n == 2 then fresh a else a) (new_link new x)
 
+-- at first none has
 pub no_fresh_yet : (r : Reading) (keys : List Link) (counts new : List ℕ) (s : Scope) → new ≡ [] → IsScope r keys s → FreshSoFar r keys counts 0 new s
 no_fresh_yet r keys counts new s e h = record {
   more = [];
@@ -313,6 +325,7 @@ fresh_next r keys counts new new' i number n link s t h none size l at same push
         let S : ℕ → Type 0 = λ c. IsKey ((keys ++ f.more) ++ done.more) (if c == 2 then fresh a else a) link in
         subst P (append_assoc keys f.more done.more) (subst Q e (subst R (sym one) (subst S (sym count) done.key)))
 
+-- at the end each link that stands twice has a fresh one
 pub all_fresh : (r : Reading) (keys : List Link) (counts new : List ℕ) (i : ℕ) (s : Scope) → length counts ≤ i → FreshSoFar r keys counts i new s → Freshens r keys counts new s
 all_fresh r keys counts new i s l f = record {
   more = f.more;
@@ -328,6 +341,7 @@ zero_there [] x h l = absurd (omega (arith, l))
 zero_there (y ∷ xs) zero h l = ap Some (h 0 0 (omega arith))
 zero_there (y ∷ xs) (suc x) h l = zero_there xs x (λ k d m. h (suc k) d (omega (arith, m))) (omega (arith, l))
 
+-- a part is copied with fresh links
 pub is_copied : (r : Reading) (keys : List Link) (p : Parts) (kept copy : Part) (zeros counts mid links : List ℕ) (s t : Scope) → IsScope r keys s → IsPartOfLevel r.names (IsKey keys) p kept
     → length zeros ≡ s.count → All (λ n. n ≡ 0) zeros → CountsPlaces (links_of_leaves kept.leaves) zeros mid → CountsPlaces (links_of_levels kept.membranes) mid counts
     → Freshens r keys counts links t
@@ -371,6 +385,7 @@ is_copied r keys p kept copy zeros counts mid links s t scope h size none one tw
         let P : Bool → Type 0 = λ z. IsKey (keys ++ f.more) (if z then fresh a else a) (new_link links x) in
         subst P same (f.links x (min 3 (0 + often x all)) a n k)
 
+-- so it is when its links were counted
 pub copied_by : (r : Reading) (keys : List Link) (p : Parts) (kept copy : Part) (zeros mid counts seen links links1 links2 : List ℕ) (s t : Scope) → IsScope r keys s → NoneFresh keys
     → IsPartOfLevel r.names (IsKey keys) p kept → length zeros ≡ s.count → All (λ n. n ≡ 0) zeros → CountsPlaces (links_of_leaves kept.leaves) zeros mid
     → CountsPlaces (links_of_levels kept.membranes) mid counts → seen ≡ counts
@@ -385,6 +400,7 @@ copied_by r keys p kept copy zeros mid counts seen links links1 links2 s t h unf
     is_copied r keys p kept copy zeros counts mid links s t h part size none one two (subst F same (found r keys h unfresh long))
     (a ∙ ap (λ z. map (renumbered_leaf (new_link z)) kept.leaves) e1) (b ∙ ap (λ z. map (renumbered (new_link z)) kept.membranes) e2) c d e
 
+-- what is read below the length is there
 pub get_at : (xs : List ℕ) (i d : ℕ) → i < length xs → slice_get xs i ≡ Some (get_or xs i d)
 get_at [] i d l = absurd (omega (arith, l))
 get_at (x ∷ xs) zero d l = refl

@@ -51,18 +51,22 @@ number_there (m ∷ ns) k n h = go (bytes_eq m n) (bytes_eq-Decides m n) k h (λ
     go false d zero h more = absurd (true≢false (sym (d.1 (same_Some m n h))))
     go false d (suc k) h more = more k h
 
+-- the number of a name is its place
 pub number_is : (ns : List tree.Name) → IsNames ns → (k : ℕ) (n : tree.Name) → slice_get ns k ≡ Some n → k ≡ number_of ns n
 number_is ns is k n h = one_place ns is k (number_of ns n) n h (number_there ns k n h)
 
+-- a label by its number
 pub label_is : (ns : List tree.Name) → IsNames ns → (l : tree.Label) (x : Label) → IsLabel ns l x → x ≡ numbered_label ns (λ a. 0) l
 label_is ns is (tree.named n) x h = h.1 ∙ ap base.Name (number_is ns is h.0 n h.2)
 label_is ns is (tree.integer z) x h = h
 
 -- ---- lists of names that grow
 
+-- a list that stays grows by nothing
 pub grows_not : (ns : List tree.Name) → GrowsBy 0 ns ns
 grows_not ns = record { more = []; grown = sym (append-nil ns); few = omega arith }
 
+-- what grows twice grows by both
 pub grows_more : {m n : ℕ} (a b c : List tree.Name) → GrowsBy m a b → GrowsBy n b c → GrowsBy (m + n) a c
 grows_more a b c h k = record {
   more = h.more ++ k.more;
@@ -70,12 +74,15 @@ grows_more a b c h k = record {
   few = omega (arith, length-append h.more k.more, h.few, k.few);
 }
 
+-- what grew by so many at most grew by more at most
 pub grows_less : {m n : ℕ} (a b : List tree.Name) → m ≤ n → GrowsBy m a b → GrowsBy n a b
 grows_less a b l h = record { more = h.more; grown = h.grown; few = omega (arith, l, h.few) }
 
+-- a list that grew by so many at most has at most so many more
 pub grown_length : {n : ℕ} (a b : List tree.Name) → GrowsBy n a b → length b ≤ length a + n
 grown_length a b h = omega (arith, ap length h.grown, length-append a h.more, h.few)
 
+-- a name that is put in is one more, or none
 pub grows_put : (old new : List tree.Name) (name : tree.Name) → (Contains old name → new ≡ old) → (¬ (Contains old name) → new ≡ old ++ name ∷ []) → GrowsBy 1 old new
 grows_put old new name held absent = by (list_any (bytes_eq name) old) refl
   where
@@ -120,6 +127,7 @@ front [] ys k n h = absurd (let l = slice_get_within [] k n h in omega arith)
 front (x ∷ xs) ys zero n h = h
 front (x ∷ xs) ys (suc k) n h = front xs ys k n h
 
+-- names keep their places
 pub place_grown : {m : ℕ} (old new : List tree.Name) (k : ℕ) (n : tree.Name) → GrowsBy m old new → slice_get old k ≡ Some n → slice_get new k ≡ Some n
 place_grown old new k n g h = let P : List tree.Name → Type 0 = λ ns. slice_get ns k ≡ Some n in subst P (sym g.grown) (front old g.more k n h)
 
@@ -153,6 +161,7 @@ right_tokens : (text : List ℕ) (before : List Token) → AllByRecursion (IsSou
 right_tokens text [] h = (record { forth = omega arith; within = omega arith; right = tt }, tt)
 right_tokens text (t ∷ before) h = (right_token text t h.0, right_tokens text before h.1)
 
+-- the tokens of a text without a fault are right
 pub tokens_are_right : (text : List ℕ) (tokens : List Token) → NothingWrong text → Cuts text tokens → AllByRecursion (IsRightToken text) tokens
 tokens_are_right text tokens none cut =
     let sound = tokens_are_sound text tokens cut none in
@@ -161,12 +170,14 @@ tokens_are_right text tokens none cut =
 
 -- ---- labels
 
+-- the entry of a label names it
 pub entry_label : (r : Reading) (g : Glossary) (p : ℕ) (e : Entry) (l : Label) → IsGlossary r g → slice_get g.entries p ≡ Some e → e.meaning ≡ meaning.Label l
     → l ≡ numbered_label r.names (λ a. 0) (label_at r.words r.places p)
 entry_label r g p e l is at m =
     let P : Meaning → Type 0 = IsMeaning r.names r.links (word_at r.words r.places p) in
     label_is r.names is.names (label_at r.words r.places p) l (subst P m (is.entries p e at).1)
 
+-- a quoted name has at most 255 bytes
 pub quoted_short : (kind : Kind) (bytes seen name all : List ℕ) → kind ≡ Quoted → IsRightWord kind bytes → seen ≡ bytes → IsQuoted seen name → all ≡ name
     → length all ≤ 255
 quoted_short kind bytes seen name all e right s q a =
@@ -176,6 +187,7 @@ quoted_short kind bytes seen name all e right s q a =
     let same = ap length (sym (quoted_name bytes name (subst Q s q)) ∙ quoted_name bytes short.0 short.1) in
     omega (arith, same, short.2, ap length a)
 
+-- and means itself without its quotes
 pub quoted_meaning : (r : Result Meaning NoMemory) (names links : List tree.Name) (kind : Kind) (bytes seen name all : List ℕ) → kind ≡ Quoted → seen ≡ bytes
     → IsQuoted seen name → all ≡ name
     → IfOk r (λ made. (ls : List tree.Name) (word : Word) → label_spelled word.kind word.bytes ≡ tree.named all → IsMeaning names ls word made)
@@ -185,6 +197,7 @@ quoted_meaning r names links kind bytes seen name all e s q a h =
     let same : label_spelled kind bytes ≡ tree.named all = ap (λ k. label_spelled k bytes) e ∙ ap tree.named (quoted_name bytes name (subst Q s q) ∙ sym a) in
     IfOk-weaker r _ _ (λ made more. more links (record { kind = kind; bytes = bytes }) same) h
 
+-- and is put into the list so
 pub quoted_put : (r : Result Meaning NoMemory) (old new : List tree.Name) (kind : Kind) (bytes seen name all : List ℕ) → kind ≡ Quoted → seen ≡ bytes
     → IsQuoted seen name → all ≡ name → OnOk r (new ≡ with_name old all) → OnOk r (new ≡ with_word old (record { kind = kind; bytes = bytes }))
 quoted_put (Err e) old new kind bytes seen name all k s q a h = tt
@@ -194,15 +207,18 @@ quoted_put (Ok m) old new kind bytes seen name all k s q a h =
 
 -- ---- entries of tokens
 
+-- the entry of a token
 abbrev pub IsEntry : List ℕ → List tree.Name → List tree.Name → Token → Entry → Type 0
 IsEntry text names links t e = (e.pos ≡ t.pos) × IsMeaning names links (word_of text t) e.meaning
 
+-- the entries of the first tokens
 pub record SoFar (text : List ℕ) (names0 names links0 links : List tree.Name) (i : ℕ) (done : List Token) (es : List Entry) : Type 0 where
   pub names_grown : GrowsBy i names0 names
   pub names_are : names ≡ with_words names0 (words_of text done)
   pub links_grown : GrowsBy i links0 links
   pub entries : EachPair (IsEntry text names links) done es
 
+-- meanings stay when the lists grow
 pub meaning_grown : {m n : ℕ} (names names' links links' : List tree.Name) (w : Word) (x : Meaning) → GrowsBy m names names' → GrowsBy n links links'
     → IsMeaning names links w x → IsMeaning names' links' w x
 meaning_grown names names' links links' w (meaning.Label l) g k h = by (label_spelled w.kind w.bytes) h
@@ -213,6 +229,7 @@ meaning_grown names names' links links' w (meaning.Label l) g k h = by (label_sp
 meaning_grown names names' links links' w (meaning.Link x) g k h = place_grown links links' x w.bytes k h
 meaning_grown names names' links links' w meaning.Sign g k h = tt
 
+-- the entry of one more token
 pub so_far_next : (text : List ℕ) (names0 names names' links0 links links' : List tree.Name) (i : ℕ) (tokens : List Token) (d t : Token) (es es' : List Entry) (m : Meaning) (e : Entry)
     → i < length tokens → t ≡ get_or tokens i d → SoFar text names0 names links0 links i (take i tokens) es → GrowsBy 1 names names' → GrowsBy 1 links links'
     → names' ≡ with_word names (word_of text t) → IsMeaning names' links' (word_of text t) m → e ≡ record { meaning = m; pos = t.pos } → es' ≡ es ++ e ∷ []
@@ -237,6 +254,7 @@ map_at f [] p x d h = absurd (let l = slice_get_within [] p x h in omega arith)
 map_at f (y ∷ xs) zero x d h = ap f (same_Some y x h)
 map_at f (y ∷ xs) (suc p) x d h = map_at f xs p x d h
 
+-- entries of all tokens are those of the text
 pub are_entries : (text : List ℕ) (tokens : List Token) (names links : List tree.Name) (es : List Entry) → EachPair (IsEntry text names links) tokens es
     → AreEntries (reading_of text tokens names links) es
 are_entries text tokens names links es h p e at =
@@ -248,21 +266,25 @@ are_entries text tokens names links es h p e at =
       subst P (sym (map_at (word_of text) tokens p t last_word there.1)) is.1,
     )
 
+-- so it is at the end
 pub has_entries : (text : List ℕ) (tokens : List Token) (names0 names links0 links : List tree.Name) (i : ℕ) (es : List Entry) → length tokens ≤ i
     → IsNames names → IsNames links → SoFar text names0 names links0 links i (take i tokens) es → HasEntries text tokens names es
 has_entries text tokens names0 names links0 links i es l n k h =
     let P : List Token → Type 0 = λ z. EachPair (IsEntry text names links) z es in
     (links, n, k, are_entries text tokens names links es (subst P (take_all i tokens l) h.entries))
 
+-- and the names of the text are in the list
 pub names_done : (text : List ℕ) (tokens : List Token) (names0 names links0 links : List tree.Name) (i : ℕ) (es : List Entry) → length tokens ≤ i
     → SoFar text names0 names links0 links i (take i tokens) es → names ≡ with_words names0 (words_of text tokens)
 names_done text tokens names0 names links0 links i es l h = h.names_are ∙ ap (λ ts. with_words names0 (words_of text ts)) (take_all i tokens l)
 
+-- at first there are no entries
 pub nothing_so_far : (text : List ℕ) (names links : List tree.Name) (tokens : List Token) (es : List Entry) → es ≡ [] → SoFar text names names links links 0 (take 0 tokens) es
 nothing_so_far text names links tokens es e =
     let P : List Entry → Type 0 = λ z. EachPair (IsEntry text names links) [] z in
     record { names_grown = grows_not names; names_are = refl; links_grown = grows_not links; entries = subst P (sym e) tt }
 
+-- a name that is put in grows the list by one at most, also for want of memory
 pub put_grows : (old new : List tree.Name) (name : tree.Name) (r : Result ℕ NoMemory) → OnOk r (Contains old name → new ≡ old)
     → OnOk r (¬ (Contains old name) → new ≡ old ++ name ∷ []) → OnErr r (new ≡ old) → GrowsBy 1 old new
 put_grows old new name (Ok k) held absent err = grows_put old new name held absent
@@ -285,11 +307,13 @@ read_glossary text tokens names1 names2 names3 names g h cell empty plus a b c =
   },
 )
 
+-- three names and those of the tokens grow it by so many at most
 pub grows_four : (a b c d e : List tree.Name) (tokens seen : List Token) → seen ≡ tokens → GrowsBy 1 a b → GrowsBy 1 b c → GrowsBy 1 c d → GrowsBy (length seen) d e
     → GrowsBy (length tokens + 3) a e
 grows_four a b c d e tokens seen same g h i j =
     grows_less a e (omega (arith, ap length same)) (grows_more a d e (grows_more a c d (grows_more a b c g h) i) j)
 
+-- links have room where names have
 pub room_for_links : (names : List tree.Name) (tokens seen : List Token) → IsNames names → seen ≡ tokens → length names + (length tokens + 3) ≤ 2 ^ 32 → 4 + length seen ≤ 2 ^ 32
 room_for_links names tokens seen is same room =
     let b = is.begins in
@@ -297,8 +321,10 @@ room_for_links names tokens seen is same room =
 
 -- ---- answers by rows of refusals
 
+-- where the answer is no refusal no row applies
 pub accepted_when : (rows : List Row) (x : Result (Unit {0}) Refusal) (v : Unit {0}) → x ≡ Ok v → AnswersBy rows x → NoneApplies rows
 accepted_when rows x v e h = let P : Result (Unit {0}) Refusal → Type 0 = AnswersBy rows in subst P e h
 
+-- where it is one the rows refuse so
 pub refused_when : (rows : List Row) (x : Result (Unit {0}) Refusal) (refusal : Refusal) → x ≡ Err refusal → AnswersBy rows x → RefusedBy rows refusal
 refused_when rows x refusal e h = let P : Result (Unit {0}) Refusal → Type 0 = AnswersBy rows in subst P e h

@@ -24,9 +24,11 @@ use Rattle.lmn_base.proofs.Lists.{joined_alike}
 
 -- ---- keys
 
+-- a link keeps its key when more links are met
 pub key_more : (keys more : List Link) (a : Link) (x : ℕ) → IsKey keys a x → IsKey (keys ++ more) a x
 key_more keys more a x h = (in_front a keys more h.0, index_front a keys more h.0 ∙ h.1)
 
+-- a link of two lists joined stands in one of them
 pub in_either : (a : Link) (xs ys : List Link) → IsLinkIn a (xs ++ ys) → IsLinkIn a xs ⊎ IsLinkIn a ys
 in_either a [] ys h = inr h
 in_either a (x ∷ xs) ys (inl e) = inl (inl e)
@@ -35,6 +37,7 @@ in_either a (x ∷ xs) ys (inr h) = elim (in_either a xs ys h) [
   | inr i ↦ inr i
 ]
 
+-- what is written or made in one way is so in a wider one
 pub of_more : (Z Y : List ℕ → Type 0) → ((v : List ℕ) → Z v → Y v) → (a : Link) → IsWrittenOrMade Z a → IsWrittenOrMade Y a
 of_more Z Y f (written n) h = tt
 of_more Z Y f (made v) h = f v h
@@ -42,6 +45,7 @@ of_more Z Y f (fresh a) h = h
 
 -- ---- links that are met
 
+-- where nothing is read no link is met
 abbrev pub meets_nothing : (r : Reading) (Z : List ℕ → Type 0) (keys : List Link) (s : Scope) → IsScope r keys s → Meets r Z keys s
 meets_nothing r Z keys s h = record {
   more = [];
@@ -49,9 +53,11 @@ meets_nothing r Z keys s h = record {
   only = λ a i. absurd i;
 }
 
+-- links that are met in one way are met in a wider one
 abbrev pub meets_more : (r : Reading) (Z Y : List ℕ → Type 0) (keys : List Link) (s : Scope) → ((v : List ℕ) → Z v → Y v) → Meets r Z keys s → Meets r Y keys s
 meets_more r Z Y keys s f m = record { more = m.more; scope = m.scope; only = λ a i. of_more Z Y f a (m.only a i) }
 
+-- and of those that are met one after the other
 abbrev pub meets_both : (r : Reading) (Z Y X : List ℕ → Type 0) (keys : List Link) (s t : Scope) → ((v : List ℕ) → Z v → X v) → ((v : List ℕ) → Y v → X v)
     → (m : Meets r Z keys s) → Meets r Y (keys ++ m.more) t → Meets r X keys t
 meets_both r Z Y X keys s t f g m n = record {
@@ -63,9 +69,11 @@ meets_both r Z Y X keys s t f g m n = record {
   ];
 }
 
+-- keys that are clear of some ways are so of fewer
 pub clear_less : (Z Y : List ℕ → Type 0) (keys : List Link) → ((v : List ℕ) → Y v → Z v) → Clear Z keys → Clear Y keys
 clear_less Z Y keys f c v i y = c v i (f v y)
 
+-- and of others after more links were met
 pub clear_after : (r : Reading) (Z Y X : List ℕ → Type 0) (keys : List Link) (s : Scope) → ((v : List ℕ) → X v → Z v) → ((v : List ℕ) → Y v → X v → ⊥)
     → Clear Z keys → (m : Meets r Y keys s) → Clear X (keys ++ m.more)
 clear_after r Z Y X keys s f apart c m v i x = elim (in_either (made v) keys m.more i) [
@@ -75,6 +83,7 @@ clear_after r Z Y X keys s f apart c m v i x = elim (in_either (made v) keys m.m
 
 -- ---- items
 
+-- a part by one relation is one by a wider one
 pub part_by : (names : List tree.Name) (R S : Link → ℕ → Type 0) → ((a : Link) (x : ℕ) → R a x → S a x) → (p : Parts) (x : Part)
     → IsPartOfLevel names R p x → IsPartOfLevel names S p x
 part_by names R S more p x h = record {
@@ -85,6 +94,7 @@ part_by names R S more p x h = record {
   rules = h.rules;
 }
 
+-- parts of two are a part of both joined
 pub part_joined : (names : List tree.Name) (R : Link → ℕ → Type 0) (p q : Parts) (x y : Part) → IsPartOfLevel names R p x → IsPartOfLevel names R q y
     → IsPartOfLevel names R (joined_parts p q) (with_items x y)
 part_joined names R p q x y h g = record {
@@ -98,6 +108,7 @@ part_joined names R p q x y h g = record {
 abbrev items_as : List base.Leaf → List base_level.Level → List CtxUse → List CtxUse → List ℕ → Part
 items_as ls ms cs rs ns = record { leaves = ls; membranes = ms; contexts = cs; rule_contexts = rs; rules = ns }
 
+-- parts are the same where each of their lists is
 pub part_is : (x y : Part) → x.leaves ≡ y.leaves → x.membranes ≡ y.membranes → x.contexts ≡ y.contexts → x.rule_contexts ≡ y.rule_contexts → x.rules ≡ y.rules → x ≡ y
 part_is x y a b c d e = layer x.leaves y.leaves x.membranes y.membranes x.contexts y.contexts x.rule_contexts y.rule_contexts x.rules y.rules a b c d e
   where
@@ -107,10 +118,12 @@ part_is x y a b c d e = layer x.leaves y.leaves x.membranes y.membranes x.contex
         ap (λ x. items_as x cs es gs is) a ∙ ap (λ x. items_as bs x es gs is) b ∙ ap (λ x. items_as bs ds x gs is) c ∙ ap (λ x. items_as bs ds fs x is) d
         ∙ ap (λ x. items_as bs ds fs hs x) e
 
+-- items of three parts, joined either way
 pub items_behind : (x y z : Part) → with_items (with_items x y) z ≡ with_items x (with_items y z)
 items_behind x y z = part_is _ _ (append_assoc x.leaves y.leaves z.leaves) (append_assoc x.membranes y.membranes z.membranes)
     (append_assoc x.contexts y.contexts z.contexts) (append_assoc x.rule_contexts y.rule_contexts z.rule_contexts) (append_assoc x.rules y.rules z.rules)
 
+-- a part with no more items is itself
 pub no_more_items : (x : Part) → x ≡ with_items x no_items
 no_more_items x = part_is _ _ (sym (append-nil x.leaves)) (sym (append-nil x.membranes)) (sym (append-nil x.contexts)) (sym (append-nil x.rule_contexts)) (sym (append-nil x.rules))
 

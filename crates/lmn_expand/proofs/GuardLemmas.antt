@@ -7,6 +7,7 @@ use Rattle.lmn_parser.specs.Syntax.{WrittenCondition, condition_of_node, conditi
 use Rattle.lmn_plain.specs.Plains.{EachPair}
 use Rattle.lmn_expand.proofs.EachLemmas.{each_append}
 
+-- one more condition is read
 pub one_more_condition : (R : WrittenCondition → Cond → Type 0) (xs : List CondNode) (i : ℕ) (d x : CondNode) (cs cs1 : List Cond) (c : Cond) → i < length xs → x ≡ get_or xs i d
     → EachPair R (conditions_of (take i xs)) cs → R (condition_of_node x) c → cs1 ≡ cs ++ c ∷ [] → EachPair R (conditions_of (take (i + 1) xs)) cs1
 one_more_condition R xs i d x cs cs1 c l e h k f =

@@ -76,6 +76,7 @@ module _ (keys : List Link) where
 
 -- ---- the process outside every rule
 
+-- the parts of a text, with its links and its rules
 pub record TopParts (r : Reading) (tree : Clauses) (top : base_level.Level) (table : List RuleTree) (s : Scope) : Type 0 where
   pub keys : List Link
   pub scope : IsScope r keys s
@@ -261,11 +262,13 @@ set_there : (xs : List RuleTree) (x y : RuleTree) (zs : List RuleTree) → slice
 set_there [] x y zs = refl
 set_there (w ∷ xs) x y zs = ap (λ t. w ∷ t) (set_there xs x y zs)
 
+-- a rule has its place in the table before it is read
 pub room_for_rule : (r : Reading) (way : List ℕ) (kept taken : Items) (conditions : List WrittenCondition) (body : Items) (pos : Pos) (table pushed read : List RuleTree) (x rule : RuleTree) (place : ℕ)
     → place ≡ length table → pushed ≡ table ++ x ∷ [] → ReadsRule r way kept taken conditions body pos pushed rule read → place < length read
 room_for_rule r way kept taken conditions body pos table pushed read x rule place e p h =
     omega (arith, e, ap length h.grown, length-append pushed h.rules, ap length p, length-append table (x ∷ []))
 
+-- and is set there afterwards
 pub rule_grows : (r : Reading) (Z : List ℕ → Type 0) (way : List ℕ) (keys : List Link) (kept taken : Items) (conditions : List WrittenCondition) (body : Items) (pos : Pos)
     (part : Part) (table pushed read set : List RuleTree) (s : Scope) (x rule : RuleTree) (place number : ℕ) (rules : List ℕ)
     → IsScope r keys s → place ≡ length table → number ≡ place → pushed ≡ table ++ x ∷ [] → ReadsRule r way kept taken conditions body pos pushed rule read
@@ -291,6 +294,7 @@ rule_grows r Z way keys kept taken conditions body pos part table pushed read se
       table_grown = g ∙ ap (λ t. slice_set t place rule) whole ∙ ap (λ n. slice_set (table ++ x ∷ h.rules) n rule) e ∙ set_there table x rule h.rules;
     }
 
+-- the same parts are read as the same rule
 pub reads_as : (r : Reading) (way : List ℕ) (ks ks1 ts ts1 bs bs1 : List ItemNode) (cs cs1 : List CondNode) (pos : Pos) (table : List RuleTree) (rule : RuleTree) (table1 : List RuleTree)
     → ks ≡ ks1 → ts ≡ ts1 → bs ≡ bs1 → cs ≡ cs1 → ReadsRule r way (items_of_nodes ks) (items_of_nodes ts) (conditions_of cs) (items_of_nodes bs) pos table rule table1
     → ReadsRule r way (items_of_nodes ks1) (items_of_nodes ts1) (conditions_of cs1) (items_of_nodes bs1) pos table rule table1

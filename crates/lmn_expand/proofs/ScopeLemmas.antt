@@ -29,6 +29,7 @@ at_end (k ∷ keys) a b (suc x) h = elim (at_end keys a b x h) [
   | inr g ↦ inr (ap suc g.0, g.1)
 ]
 
+-- a new link has the next key
 pub key_new : (keys : List Link) (a : Link) → (IsLinkIn a keys → ⊥) → IsKey (keys ++ a ∷ []) a (length keys)
 key_new keys a h = (in_last a keys [], index_last a keys [] h)
 
@@ -76,6 +77,7 @@ pub met_before : (r : Reading) (keys : List Link) (s : Scope) (k x : ℕ) (n : N
     → get nat_cmp s.written k ≡ Some x → (m : Meets r NoWay keys s) × IsKey (keys ++ m.more) (written n) x
 met_before r keys s k x n h g e = (meets_nothing r NoWay keys s h, key_more keys [] (written n) x (h.found k x n e g))
 
+-- a name has one place
 pub one_place : (ns : List Name) → IsNames ns → (i j : ℕ) (n : Name) → slice_get ns i ≡ Some n → slice_get ns j ≡ Some n → i ≡ j
 one_place ns is i j n g h = elim (cases_lt i j) [
   | inl l ↦ absurd (is.once i j n l (slice_get_within ns j n h) (at ns i n g ∙ sym (at ns j n h)))

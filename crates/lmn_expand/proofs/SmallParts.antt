@@ -28,6 +28,7 @@ use Rattle.lmn_expand.specs.declared.scope.Scope.{Scope}
 use Rattle.lmn_expand.proofs.EachLemmas.{each_length}
 use Rattle.lmn_expand.proofs.GrowingLemmas.{meets_more, meets_nothing, key_more}
 
+-- an atom is a leaf more
 pub adds_atom : (names : List tree.Name) (R : Link → ℕ → Type 0) (l : tree.Label) (us : List Use) (pos : Pos) (label : Label) (arity : ℕ) (links : List Occ)
     (part : Part) (leaves : List base.Leaf) → label ≡ numbered_label names (λ a. 0) l → arity ≡ length links → EachPair (IsUse names R) us links
     → leaves ≡ part.leaves ++ Atom (record { label = label; arity = arity }) links pos ∷ []
@@ -48,6 +49,7 @@ adds_atom names R l us pos label arity links part leaves e n uses grown = record
   rules = refl;
 }
 
+-- and so is a typed context
 pub adds_typed : (r : Reading) (R : Link → ℕ → Type 0) (u : Use) (p name : ℕ) (pos : Pos) (link : Occ) (part : Part) (leaves : List base.Leaf)
     → name ≡ number_of r.names (name_at r.words r.places p) → pos ≡ place_at r.words r.places p → IsUse r.names R u link → leaves ≡ part.leaves ++ Typed name link pos ∷ []
     → AddsLeaf r.names R (typed_leaf (name_at r.words r.places p) u (place_at r.words r.places p)) part
@@ -84,11 +86,13 @@ module _ (names : List tree.Name) (R : Link → ℕ → Type 0) where
 abbrev pub Made : Reading → List ℕ → List Link → Scope → Use → Occ → Type 0
 Made r way keys s u o = (m : Meets r (λ v. v ≡ way) keys s) × IsUse r.names (IsKey (keys ++ m.more)) u o
 
+-- an argument with a link of its own
 pub argument_made : (r : Reading) (keys : List Link) (way : List ℕ) (pos : Pos) (t : TermNode) (o : Occ) (s : Scope)
     → argument r.words r.places pos way (term_of t) ≡ record { link = made way; pos = pos } → Made r way keys s (record { link = made way; pos = pos }) o
     → Made r way keys s (argument r.words r.places pos way (term_of t)) o
 argument_made r keys way pos t o s e h = let P : Use → Type 0 = λ u. Made r way keys s u o in subst P (sym e) h
 
+-- an argument that is a link
 pub argument_link : (r : Reading) (keys : List Link) (way : List ℕ) (pos : Pos) (t : TermNode) (p : ℕ) (o : Occ) (s : Scope) → t ≡ term_variant.Link p
     → (m : Meets r NoWay keys s) × IsUse r.names (IsKey (keys ++ m.more)) (written_link r.words r.places p) o
     → Made r way keys s (argument r.words r.places pos way (term_of t)) o
@@ -99,26 +103,32 @@ argument_link r keys way pos t p o s e h =
 abbrev Is : Reading → List ℕ → Pos → TermNode → Type 0
 Is r way pos t = argument r.words r.places pos way (term_of t) ≡ record { link = made way; pos = pos }
 
+-- an atom as an argument has a link of its own
 pub atom_made : (r : Reading) (way : List ℕ) (pos : Pos) (t : TermNode) (n : AtomNode) → t ≡ view.Term::Atom n → Is r way pos t
 atom_made r way pos t n e = ap (argument r.words r.places pos way) (ap term_of e ∙ term_atom n)
 
+-- and so has a context
 pub context_made : (r : Reading) (way : List ℕ) (pos : Pos) (t : TermNode) (p : ℕ) → t ≡ term_variant.Context p → Is r way pos t
 context_made r way pos t p e = ap (argument r.words r.places pos way) (ap term_of e ∙ term_context p)
 
+-- and a membrane
 pub membrane_made : (r : Reading) (way : List ℕ) (pos : Pos) (t : TermNode) (cs : List ClauseNode) → t ≡ view.Term::Membrane cs → Is r way pos t
 membrane_made r way pos t cs e = ap (argument r.words r.places pos way) (ap term_of e ∙ term_membrane cs)
 
+-- and a list
 pub list_made : (r : Reading) (way : List ℕ) (pos : Pos) (t : TermNode) (ts : List TermNode) (o : Option (Box TermNode Global)) → t ≡ view.List ts o → Is r way pos t
 list_made r way pos t ts None e = ap (argument r.words r.places pos way) (ap term_of e ∙ term_list ts)
 list_made r way pos t ts (Some b) e = ap (argument r.words r.places pos way) (ap term_of e ∙ term_list_onto ts b)
 
 -- ---- the rest of a cell
 
+-- the rest of a list that goes on has a link of its own
 pub rest_new : (r : Reading) (keys : List Link) (way : List ℕ) (last : Use) (ts : Terms) (pos : Pos) (o : Occ) (s : Scope) → true ≡ some_term ts
     → Made r way keys s (record { link = made way; pos = pos }) o → Made r way keys s (rest r.words r.places pos way last ts) o
 rest_new r keys way last no_term pos o s e h = absurd (cc)
 rest_new r keys way last (term_and t ts) pos o s e h = h
 
+-- but not where it ends
 pub rest_end : (r : Reading) (keys : List Link) (way : List ℕ) (last : Use) (ts : Terms) (pos : Pos) (o : Occ) (s : Scope) → false ≡ some_term ts
     → IsScope r keys s → IsUse r.names (IsKey keys) last o → Made r way keys s (rest r.words r.places pos way last ts) o
 rest_end r keys way last no_term pos o s e h is_use = (meets_nothing r (λ v. v ≡ way) keys s h, (key_more keys [] last.link o.link is_use.0, is_use.1))

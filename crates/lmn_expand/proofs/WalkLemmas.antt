@@ -46,6 +46,7 @@ joined_behind p q s = part_parts _ _ (sym (append_assoc p.leaves q.leaves s.leav
     (sym (append_assoc p.contexts q.contexts s.contexts)) (sym (append_assoc p.rule_contexts q.rule_contexts s.rule_contexts))
     (sym (append_assoc p.rules q.rules s.rules)) (sym (append_assoc p.table q.table s.table))
 
+-- parts of three, joined either way
 pub sum_behind : (f g h : NumberedParts) (k : ℕ) → (f ⊕ (g ⊕ h)) k ≡ ((f ⊕ g) ⊕ h) k
 sum_behind f g h k =
     let p = f k in
@@ -53,24 +54,29 @@ sum_behind f g h k =
     let e : k + length p.table + length q.table ≡ k + length (p.table ++ q.table) = omega (arith, length-append p.table q.table) in
     joined_behind p q (h (k + length p.table + length q.table)) ∙ ap (λ n. joined_parts (joined_parts p q) (h n)) e
 
+-- parts and nothing are these parts
 pub sum_nothing : (f : NumberedParts) (k : ℕ) → f k ≡ (f ⊕ nothing) k
 sum_nothing f k =
     let p = f k in
     part_parts _ _ (sym (append-nil p.leaves)) (sym (append-nil p.membranes)) (sym (append-nil p.contexts)) (sym (append-nil p.rule_contexts)) (sym (append-nil p.rules)) (sym (append-nil p.table))
 
+-- nothing and parts are these parts
 pub nothing_sum : (f : NumberedParts) (k : ℕ) → (nothing ⊕ f) k ≡ f k
 nothing_sum f k = let e : k + 0 ≡ k = omega arith in part_parts _ _ refl refl refl refl refl refl ∙ ap f e
 
 -- ---- ways of the parts of lists
 
+-- a way with so many steps along a list
 abbrev pub ones : ℕ → List ℕ → List ℕ
 ones zero way = way
 ones (suc n) way = ones n (1 ∷ way)
 
+-- one more step, counted last
 pub ones_last : (n : ℕ) (way : List ℕ) → ones (suc n) way ≡ 1 ∷ ones n way
 ones_last zero way = refl
 ones_last (suc n) way = ones_last n (1 ∷ way)
 
+-- or first
 pub ones_next : (n : ℕ) (way : List ℕ) → ones (n + 1) way ≡ 1 ∷ ones n way
 ones_next n way = let e : n + 1 ≡ suc n = omega arith in ap (λ m. ones m way) e ∙ ones_last n way
 
@@ -80,9 +86,11 @@ pub record Kind (Z : List ℕ → List ℕ → Type 0) : Type 0 where
   pub later : (w v : List ℕ) → Z (1 ∷ w) v → Z w v
   pub below : (w v : List ℕ) → Z (1 ∷ w) v → Below (1 ∷ w) v
 
+-- the ways under a way are of a kind
 pub under_kind : Kind Under
 under_kind = record { first = λ w v u. under_step w v 0 u; later = λ w v u. under_step w v 1 u; below = λ w v u. under_below (1 ∷ w) v u }
 
+-- and those within it
 pub within_kind : Kind Within
 within_kind = record { first = λ w v u. within_first u; later = λ w v u. within_later u; below = λ w v u. under_below (1 ∷ w) v (within_under u) }
 
@@ -94,6 +102,7 @@ module _ (Z : List ℕ → List ℕ → Type 0) (kind : Kind Z) where
   pub element : (n : ℕ) (way v : List ℕ) → Under (0 ∷ ones n way) v → Z way v
   element n way v h = at_ones n way v (kind.first (ones n way) v h)
 
+-- where an element of a list stands
 pub argument_at : (n : ℕ) (way : List ℕ) → Argument way (0 ∷ ones n way)
 argument_at zero way = first_argument
 argument_at (suc n) way = later_argument (argument_at n (1 ∷ way))

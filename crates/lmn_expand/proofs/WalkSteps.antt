@@ -55,27 +55,32 @@ map_place [] i x e = absurd (cc)
 map_place (y ∷ xs) zero x e = ap (λ o. option_map term_of o) e
 map_place (y ∷ xs) (suc i) x e = map_place xs i x e
 
+-- a term is left below the length
 pub some_term_left : (xs : List TermNode) (k : ℕ) → k < length xs → true ≡ some_term (terms_of (drop k xs))
 some_term_left [] k l = absurd (omega (arith, l))
 some_term_left (x ∷ xs) zero l = refl
 some_term_left (x ∷ xs) (suc k) l = some_term_left xs k (omega (arith, l))
 
+-- none is left behind the last
 pub no_term_left : (xs : List TermNode) (k : ℕ) → length xs ≤ k → false ≡ some_term (terms_of (drop k xs))
 no_term_left [] zero l = refl
 no_term_left [] (suc k) l = refl
 no_term_left (x ∷ xs) zero l = absurd (omega (arith, l))
 no_term_left (x ∷ xs) (suc k) l = no_term_left xs k (omega (arith, l))
 
+-- so nothing is
 pub nothing_left : (xs : List TermNode) (k : ℕ) → length xs ≤ k → terms_of (drop k xs) ≡ no_term
 nothing_left [] zero l = refl
 nothing_left [] (suc k) l = refl
 nothing_left (x ∷ xs) zero l = absurd (omega (arith, l))
 nothing_left (x ∷ xs) (suc k) l = nothing_left xs k (omega (arith, l))
 
+-- terms that aren't none are some
 pub some_terms : (xs : List TermNode) → (length xs ≡ 0 → ⊥) → true ≡ some_term (terms_of xs)
 some_terms [] h = absurd (h refl)
 some_terms (x ∷ xs) h = refl
 
+-- and none are none
 pub no_terms : (xs : List TermNode) → length xs ≡ 0 → terms_of xs ≡ no_term
 no_terms [] h = refl
 no_terms (x ∷ xs) h = absurd (omega (arith, h))
@@ -254,5 +259,6 @@ module _ (r : Reading) where
       let Q : Pos → Type 0 = λ z. GrowsPart r Z keys (one_leaf (atom_leaf (named (codes "+")) (expansion.written_link r.words r.places (p + 1) ∷ []) z)) part table part1 table s1 in
       subst Q e (written_leaf Z keys _ part table s s1 part1 m (adds (keys ++ m.more) (expansion.written_link r.words r.places (p + 1)) (subst P f first.1)))
 
+-- what is read twice is the same
 pub same_read : {A : Type 0} (xs : List A) (i : ℕ) (d e x y : A) → i < length xs → x ≡ get_or xs i d → y ≡ get_or xs i e → x ≡ y
 same_read xs i d e x y l f g = same_Some x y (sym (at_place xs i d x l f) ∙ at_place xs i e y l g)

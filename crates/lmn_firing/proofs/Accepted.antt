@@ -33,6 +33,7 @@ fired heads bodies table r plan whole h m s c finds h' runs =
           copies_in_solid h finds.valid c finds.named s head body (images_of s head ++ f.0) h' f.2 f.3 e i (part_hangs h finds.valid head r.guard body (length r.links) m s rule.atoms least.embeds e.1 t.0 t.1);
     }
 
+-- where the head code of an accepted rule succeeds its body code fires it
 pub accepted_fires : AcceptedLeast → AcceptedNested → AcceptedFires
 accepted_fires heads bodies = record {
   fires = fired heads bodies;

@@ -88,6 +88,7 @@ guard_held h items guard m r s =
     let behind = hold_back h c r ps (fs ++ (gs ++ (Commit ∷ []))) later in
     hold_front h c r gs (Commit ∷ []) (hold_back h c r fs (gs ++ (Commit ∷ [])) behind)
 
+-- the names that a guard binds have their integers
 pub bound_names : AcceptedHeads → BoundNames
 bound_names heads table r plan ready h m s succeeds x z e =
     let items = head_items r plan in

@@ -3,6 +3,7 @@ use Rattle.lmn_compile_head.proofs.Laws.{code_of_least}
 use Rattle.lmn_body.proofs.Laws.{body_fires_within}
 use Rattle.lmn_firing.specs.Laws.{CodeFires}
 
+-- where head code succeeds, body code fires the rule
 pub code_fires : CodeFires
 code_fires head guard body n rule h meets m placed r first c names h' runs =
     let least = code_of_least.least h head guard m r.head meets first in

@@ -68,6 +68,7 @@ get [] i = inr refl
 get (x ∷ xs) zero = inl (x, refl)
 get (x ∷ xs) (suc i) = get xs i
 
+-- whether a number is among a list is decided
 pub among : (x : ℕ) (xs : List ℕ) → Decided (Among x xs)
 among x [] = inr no
   where

@@ -24,9 +24,11 @@ child_test None b q p k = false
 child_test (Some a) None q p k = false
 child_test (Some a) (Some b) q p k = joined (slice_get b.links k) a.links && (not (q == p) && (not (suc k == length b.links) || nat_lt p q))
 
+-- a test whether an atom is a child of another at a port
 abbrev pub is_child : List SolidAtom → ℕ → ℕ → ℕ → Bool
 is_child atoms q p k = child_test (slice_get atoms q) (slice_get atoms p) q p k
 
+-- the highest number below n that passes a test
 abbrev pub find_below : ℕ → (ℕ → Bool) → Option ℕ
 find_below zero t = None
 find_below (suc n) t = if t n then Some n else find_below n t
@@ -124,10 +126,12 @@ abbrev found : Option ℕ → Bool
 found None = false
 found (Some x) = true
 
+-- a test whether a number is among a list
 abbrev pub one_of : ℕ → List ℕ → Bool
 one_of x [] = false
 one_of x (y ∷ ys) = if x == y then true else one_of x ys
 
+-- a number that passes it is
 pub one_true : (x : ℕ) (xs : List ℕ) → one_of x xs ≡ true → Among x xs
 one_true x [] e = absurd (cc)
 one_true x (y ∷ ys) e = go (x == y) refl e (one_true x ys)
@@ -139,6 +143,7 @@ one_true x (y ∷ ys) e = go (x == y) refl e (one_true x ys)
     go true f e more = let g : x ≡ y = grind arith in here g
     go false f e more = further (more e)
 
+-- and one that doesn't isn't
 pub true_one : (x : ℕ) (xs : List ℕ) → one_of x xs ≡ false → Among x xs → ⊥
 true_one x [] e h = elim h [ ]
 true_one x (y ∷ ys) e h = go (x == y) refl e (true_one x ys) h

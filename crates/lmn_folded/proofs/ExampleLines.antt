@@ -90,33 +90,43 @@ line_by S f n count to line a b e one numbers is = record {
   is = is;
 }
 
+-- the line of two lists
 pub two_lists : example.TwoLists
 two_lists = line_by example.two_lists _ 10 0 (λ x. x) _ refl refl refl (λ x y a b e. e) no_more (rw (decimal_digit 0 (omega arith), decimal_digit 1 (omega arith), decimal_digit 2 (omega arith)) refl)
 
+-- and of an answer in a list
 pub an_answer : example.AnAnswer
 an_answer = line_by example.an_answer _ 7 0 (λ x. x) _ refl refl refl (λ x y a b e. e) no_more (rw (decimal_digit 0 (omega arith), decimal_digit 1 (omega arith), decimal_digit 2 (omega arith), decimal_digit 3 (omega arith), decimal_digit 4 (omega arith), decimal_digit 5 (omega arith), decimal_digit 6 (omega arith)) refl)
 
+-- and of two atoms in a circle
 pub in_a_circle : example.InACircle
 in_a_circle = line_by example.in_a_circle _ 2 1 (λ x. x) _ refl refl refl (λ x y a b e. e) (new (known (omega arith) no_more)) (rw (decimal_digit 0 (omega arith)) refl)
 
+-- and of one beside it
 pub beside_a_circle : example.BesideACircle
 beside_a_circle = line_by example.beside_a_circle _ 3 2 (λ x. x) _ refl refl refl (λ x y a b e. e) (new (known (omega arith) (new (known (omega arith) no_more)))) (rw (decimal_digit 0 (omega arith), decimal_digit 1 (omega arith)) refl)
 
+-- an atom isn't its own child
 pub own_argument : example.OwnArgument
 own_argument = line_by example.own_argument _ 1 1 (λ x. x) _ refl refl refl (λ x y a b e. e) (new (known (omega arith) no_more)) (rw (decimal_digit 0 (omega arith)) refl)
 
+-- two lists may share their rest
 pub shared_rest : example.SharedRest
 shared_rest = line_by example.shared_rest _ 5 1 (λ x. x) _ refl refl refl (λ x y a b e. e) (new (known (omega arith) no_more)) (rw (decimal_digit 0 (omega arith), decimal_digit 1 (omega arith), decimal_digit 2 (omega arith)) refl)
 
+-- a rest may be no list
 pub other_rest : example.OtherRest
 other_rest = line_by example.other_rest _ 3 0 (λ x. x) _ refl refl refl (λ x y a b e. e) no_more (rw (decimal_digit 1 (omega arith)) refl)
 
+-- of two atoms joined by their last ports the later one is the child
 pub last_ports : example.LastPorts
 last_ports = line_by example.last_ports _ 1 0 (λ x. x) _ refl refl refl (λ x y a b e. e) no_more refl
 
+-- cells and empty lists with other links are written by their names
 pub no_lists : example.NoLists
 no_lists = line_by example.no_lists _ 4 0 (λ x. x) _ refl refl refl (λ x y a b e. e) no_more refl
 
+-- an item isn't written as a list
 pub cell_as_item : example.CellAsItem
 cell_as_item = line_by example.cell_as_item _ 2 1 (λ x. x) _ refl refl refl (λ x y a b e. e) (new (known (omega arith) no_more)) (rw (decimal_digit 0 (omega arith), decimal_digit 1 (omega arith)) refl)
 
@@ -125,11 +135,13 @@ seven x at_head = refl
 seven x (further at_head) = refl
 seven x (further (further h)) = elim h [ ]
 
+-- an atom in a membrane is no child of one outside
 pub across : example.Across
 across =
     line_by example.across_membrane _ 8 1 (λ x. 0) _ refl refl refl (λ x y a b e. seven x a ∙ sym (seven y b)) (new (known (omega arith) no_more))
     (rw (decimal_digit 0 (omega arith)) refl)
 
+-- the example is closed
 pub last_ports_closed : Closed (region_process example.last_ports)
 last_ports_closed x = go (same_or_apart x 0)
   where
@@ -137,6 +149,7 @@ last_ports_closed x = go (same_or_apart x 0)
     go (inl e) = let h = one_if_equal x 0 e in inr (omega (arith, h))
     go (inr d) = let h = none_if_apart x 0 d in inl (omega (arith, h))
 
+-- the first of two atoms joined by their last ports is no child
 pub not_the_first : example.NotTheFirst
 not_the_first h =
     let e = first_byte (one_folded_line example.last_ports (codes "a(b).\n") (codes "b(a).\n") last_ports_closed last_ports h) in

@@ -10,6 +10,7 @@ use Rattle.lmn_folded.proofs.OneFolded.{FewIn, one_folded}
 use Rattle.lmn_folded.proofs.SomeFolded.{some_folded}
 use Rattle.lmn_folded.proofs.Numbering.{some_numbered, one_numbered}
 
+-- in a closed process no link stands in more than two places
 pub few_in : (P : Process) → Closed P → FewIn P
 few_in P closed x = go (closed x)
   where
@@ -17,12 +18,14 @@ few_in P closed x = go (closed x)
     go (inl e) = omega (arith, e)
     go (inr e) = omega (arith, e)
 
+-- each closed region has a folded line
 pub some_folded_line : SomeFoldedLine
 some_folded_line S closed =
     let given = some_folded S (few_in (region_process S) closed) in
     let numbered = some_numbered given.0 in
     (line_of_folded numbered.0, record { given = given.0; folds = given.1; numbered = numbered.0; numbers = numbered.1; is = refl })
 
+-- and one alone
 pub one_folded_line : OneFoldedLine
 one_folded_line S line other closed h k =
     let same = one_folded (few_in (region_process S) closed) h.folds k.folds in

@@ -54,6 +54,7 @@ contains_mark x [] a = elim a [ ]
 mark_same : (x y : ℕ) → mark x ≡ mark y → x ≡ y
 mark_same x y e = cc
 
+-- each folded form can be numbered by first occurrence
 pub some_numbered : (given : Folded) → (numbered : Folded) × IsNumberedForm given numbered
 some_numbered given =
     let xs = folded_links given in
@@ -72,6 +73,7 @@ some_numbered given =
 
 -- Uniqueness.
 
+-- what is read below the length is among the list
 pub contains_among : (xs : List ℕ) (x k : ℕ) → k < length xs → slice_index_or xs k x ≡ x → Among x xs
 contains_among [] x k l e = absurd (omega (arith, l))
 contains_among (y ∷ ys) x zero l e = let P : ℕ → Type 0 = λ z. Among z (y ∷ ys) in subst P e at_head
@@ -120,6 +122,7 @@ module _ (f g : ℕ → ℕ) where
         same_membranes (folded_agrees t (all_front (λ x. f x ≡ g x) (folded_links t) (membranes_links ts) h))
         (membranes_agree ts (all_back (λ x. f x ≡ g x) (folded_links t) (membranes_links ts) h))
 
+-- a folded form is numbered in one way
 pub one_numbered : (given a b : Folded) → IsNumberedForm given a → IsNumberedForm given b → a ≡ b
 one_numbered given a b h k =
     let xs = folded_links given in

@@ -26,6 +26,7 @@ further_same (printed i a d h) (item n k) = absurd (n i a d)
 further_same (item n h) (printed i a d k) = absurd (n i a d)
 further_same (item n h) (item m k) = further_same h k
 
+-- some atoms have one list of items at most
 pub items_same : (atoms : List SolidAtom) (is js : List ℕ) → AreItems atoms is → AreItems atoms js → is ≡ js
 items_same atoms is js h k =
     let P : List ℕ → Type 0 = λ fs. Further atoms fs (atom_positions atoms) is in
@@ -34,6 +35,7 @@ items_same atoms is js h k =
 same_labelled : (l m : Label) (ts us : FoldedTerms) → l ≡ m → ts ≡ us → labelled l ts ≡ labelled m us
 same_labelled l m ts us e f = cc
 
+-- terms with the same first and the same others are the same
 pub same_terms : {t u : FoldedTerm} {ts us : FoldedTerms} → t ≡ u → ts ≡ us → term_and t ts ≡ term_and u us
 same_terms e f = cc
 
@@ -80,12 +82,14 @@ module _ (atoms : List SolidAtom) (items : List ℕ) (few : AtMostTwice atoms) w
 
 -- Each link stands at most twice in each membrane.
 
+-- no link stands in more than two places of a process
 abbrev pub FewIn : Process → Type 0
 FewIn P = (x : ℕ) → occurrences x P ≤ 2
 
 same_folded : (is js : List FoldedItem) (fs gs : FoldedMembranes) (rs : _) → is ≡ js → fs ≡ gs → folded is fs rs ≡ folded js gs rs
 same_folded is js fs gs rs e f = cc
 
+-- membranes with the same first and the same others are the same
 pub same_membranes : {f g : Folded} {fs gs : FoldedMembranes} → f ≡ g → fs ≡ gs → membrane_and f fs ≡ membrane_and g gs
 same_membranes d e = cc
 

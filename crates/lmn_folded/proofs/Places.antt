@@ -14,6 +14,7 @@ use Rattle.lmn_base.proofs.Numbers.{same_or_not as same_or_apart}
 abbrev pub count : ℕ → List SolidAtom → ℕ
 count x atoms = occurrences x (together (map atom_process atoms))
 
+-- no link stands in more than two places of some atoms
 abbrev pub AtMostTwice : List SolidAtom → Type 0
 AtMostTwice atoms = (x : ℕ) → count x atoms ≤ 2
 
@@ -101,6 +102,7 @@ last_here : (xs : List ℕ) (x : ℕ) → slice_get (xs ++ x ∷ []) (length xs)
 last_here [] x = refl
 last_here (y ∷ xs) x = last_here xs x
 
+-- the last link of a child stands at its last port
 pub last_place : {atoms : List SolidAtom} {q p k : ℕ} (c : IsChild atoms q p k) → Place atoms q (length c.first_links) c.last_link
 last_place c = record {
   atom = c.child;
@@ -108,6 +110,7 @@ last_place c = record {
   port = ap (λ ls. slice_get ls (length c.first_links)) c.links ∙ last_here c.first_links c.last_link;
 }
 
+-- and at the port of its parent
 pub parent_place : {atoms : List SolidAtom} {q p k : ℕ} (c : IsChild atoms q p k) → Place atoms p k c.last_link
 parent_place c = record { atom = c.parent; stands = c.parent_at; port = c.joined }
 
@@ -134,6 +137,7 @@ one_child atoms q r p k few c d = go (same_or_apart q r)
 pub one_atom : {atoms : List SolidAtom} {q p r k j : ℕ} (c : IsChild atoms q p k) (d : IsChild atoms q r j) → c.child ≡ d.child
 one_atom c d = same_Some _ _ (sym c.child_at ∙ d.child_at)
 
+-- a child has one last link
 pub one_ending : {atoms : List SolidAtom} {q p r k j : ℕ} (c : IsChild atoms q p k) (d : IsChild atoms q r j)
     → (c.first_links ≡ d.first_links) × (c.last_link ≡ d.last_link)
 one_ending c d = ends_in_one_way _ _ _ _ (sym c.links ∙ ap (λ (a : SolidAtom). a.links) (one_atom c d) ∙ d.links)

@@ -123,6 +123,7 @@ module _ (atoms : List SolidAtom) (few : AtMostTwice atoms) where
 
 -- Items are positions of atoms.
 
+-- what holds of some positions holds of those that are no children
 pub kept_below : {atoms : List SolidAtom} {qs is : List ℕ} (P : ℕ → Type 0) → NoChildren atoms qs is → ((v : ℕ) → Among v qs → P v) → (v : ℕ) → Among v is → P v
 kept_below P folding.none h v a = h v a
 kept_below P (folding.kept n k) h v at_head = h v at_head
@@ -141,6 +142,7 @@ all_below P folding.none h g v a = h v a
 all_below P (folding.printed i a d k) h g v b = all_below P k h (λ w c. g w (further c)) v b
 all_below P (folding.item {q = q} {items = items} n k) h g v b = all_below P k (last_one P items q (g q at_head) h) (λ w c. g w (further c)) v b
 
+-- each item is one of the atoms
 pub items_below : (atoms : List SolidAtom) (few : AtMostTwice atoms) (items : List ℕ) → AreItems atoms items → (v : ℕ) → Among v items → v < length atoms
 items_below atoms few items h =
     let P : ℕ → Type 0 = λ v. v < length atoms in

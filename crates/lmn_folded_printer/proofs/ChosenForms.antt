@@ -79,6 +79,7 @@ numbered_line names table t f S given root form e by =
       },
     )
 
+-- where the items are chosen and numbered the line is the folded one
 pub chosen_line : (names : List Name) (table : List RuleTree) (s t : Heap) (x : Solid) (of : HasSolid s x) → Valid s → AreChosen s
     → ((given : FoldedMembranes) → PrintsForest names table s of.name of.forest given → IsNumberedBy names table t of.forest given)
     → (shown : Folded) × PrintsForest names table t (number_by_mark t) of.forest (membrane_and shown no_membrane) × IsFoldedLine (region_of names table x) (line_of_folded shown)

@@ -23,9 +23,11 @@ use Rattle.lmn_base.proofs.Numbers.{below_or_from}
 abbrev pub OtherMarks : Heap → Heap → Type 0
 OtherMarks s t = (marks : ℕ → List ℕ) × (t ≡ remarked s marks)
 
+-- a heap has the marks that it has
 pub others_none : (s : Heap) → OtherMarks s s
 others_none s = ((λ a. marks_of (s.atoms a)), sym (remarked_same s))
 
+-- other marks and then others are other marks
 pub others_more : (s t u : Heap) → OtherMarks s t → OtherMarks t u → OtherMarks s u
 others_more s t u p q = (q.0, q.1 ∙ ap (λ (h : Heap). remarked h q.0) p.1 ∙ remarked_twice s p.0 q.0)
 
@@ -94,9 +96,11 @@ pub record ClearedTo (s t : Heap) (a n : ℕ) : Type 0 where
   pub here : (i : ℕ) → i < n → mark_of t a i ≡ 0
   pub others : (b i : ℕ) → mark_of s b i ≡ 0 → mark_of t b i ≡ 0
 
+-- at first no mark of an atom is cleared
 pub cleared_none : (s : Heap) (a : ℕ) → ClearedTo s s a 0
 cleared_none s a = record { marks = others_none s; long = λ b. refl; here = λ i l. absurd (omega (arith, l)); others = λ b i e. e }
 
+-- then one more
 pub cleared_more : (s t u : Heap) (a n : ℕ) → ClearedTo s t a n → u ≡ marked t a n 0 → ClearedTo s u a (n + 1)
 cleared_more s t u a n c e = subst (λ (h : Heap). ClearedTo s h a (n + 1)) (sym e) (record {
   marks = others_more s t (marked t a n 0) c.marks (marked_others t a n 0);
@@ -123,6 +127,7 @@ pub record ClearingAll (s t : Heap) (f : Forest) (next : Option ℕ) : Type 0 wh
   pub marks : OtherMarks s t
   pub left : (a i : ℕ) → (mark_of t a i ≡ 0) ⊎ In a (from next (printed_atoms s (flat f)))
 
+-- at first no atom is cleared
 pub clearing_first : (s : Heap) → Valid s → (f : Forest) → IsTree s f → (next : Option ℕ) → from next (printed_atoms s (flat f)) ≡ printed_atoms s (flat f) → ClearingAll s s f next
 clearing_first s valid f t next e = record { marks = others_none s; left = λ a i. by a i (s.atoms a) refl }
   where
@@ -158,6 +163,7 @@ clearing_fewer id s t sound most r f tree a now next is list =
     let whole = tree_there s sound most f tree in
     atoms_fewer id a now next (printed_atoms s (flat (tree_of s))) is (behind_before s t r (tree_of s) (id a) (option_map id next) (list (tree_of s) (tree_same s t r (tree_of s) whole)))
 
+-- what is in place with other marks is so without
 pub next_place : {A : Type 0} (id : A → ℕ) (s t : Heap) → OtherMarks s t → (next : Option A) → IfSome next (λ a. IsInPlace t (id a)) → IfSome next (λ a. IsInPlace s (id a))
 next_place id s t r None h = tt
 next_place id s t r (Some a) h = place_before s t r (id a) h

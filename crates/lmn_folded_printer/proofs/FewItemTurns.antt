@@ -105,6 +105,7 @@ module _ (s : Heap) (met : List Event → List ℕ) (parts : (es fs : List Event
       let r = met_from xs es h c i in
       most.all_atoms c (there r.0 (r.2 ++ leaves r.0 ∷ []) (atoms r.0 r.1) r.3 c r.4))
 
+-- the walks over all items have few turns together
 pub few_item_turns : (s : Heap) → Paired s → AtMost (2 ^ 48) s → (xs : List ℕ) (es : List Event) → Distinct xs → ((a : ℕ) → In a xs → IsAtom s a) → ItemsWalked s xs es → turns es ≤ 2 ^ 49
 few_item_turns s paired most xs es d atoms h =
     let first = met_few s entered entered_append (λ a es w. entered_once s a 0 es w) (λ a es i w b j. entered_there s paired a 0 es w b j) (one_entered s) refl xs es d atoms h most in

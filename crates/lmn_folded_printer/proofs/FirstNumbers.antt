@@ -56,6 +56,7 @@ pub record FirstNumbers (given : FoldedMembranes) : Type 0 where
   pub apart : (x y : ℕ) → to x ≡ to y → x ≡ y
   pub numbers : NumbersLinks (membranes_links (renamed_membranes to given)) count
 
+-- folded forms can be numbered by first occurrence
 pub first_numbers : (given : FoldedMembranes) → FirstNumbers given
 first_numbers given = by (first given)
   where

@@ -21,12 +21,14 @@ one_line : (folded : Bool) (S : Region) (text other : List ℕ) → Closed (regi
 one_line true S text other closed p q = one_folded_line S text other closed p q
 one_line false S text other closed p q = p ∙ sym q
 
+-- each valid heap has a folded line
 pub some_heap_line : SomeHeapLine
 some_heap_line folded names table s valid =
     let x = heaps_have_solids s valid in
     let line = some_line folded (region_of names table x.0) (solids_closed names table x.0 (heap_solids_are_solids s x.0 valid x.1)) in
     (line.0, (x.0, x.1, line.1))
 
+-- and one alone
 pub one_heap_line : OneHeapLine
 one_heap_line folded names table s text other valid p q =
     let same = one_solid s p.0 q.0 valid p.1 q.1 in

@@ -51,6 +51,7 @@ module _ (s t : Heap) (r : Remarks s t) where
 walked_none : (s : Heap) (es : List Event) → ItemsWalked s [] es → es ≡ []
 walked_none s _ none = refl
 
+-- walks over two lists of items, one after the other
 pub record Parts (s : Heap) (xs ys : List ℕ) (es : List Event) : Type 0 where
   pub first : List Event
   pub rest : List Event
@@ -139,6 +140,7 @@ next_walk s t count all left rest a n es r h e w low =
     let few = room.2 in
     (one.0, walk_same s t r a 0 one.0 one.1, omega (arith, few, turned))
 
+-- the links of one item more have their numbers
 pub next_done : (s t u : Heap) (count : ℕ) (all left rest : List ℕ) (a n m : ℕ) → Remarks s t → ItemsLeft s count all t left n → left ≡ a ∷ rest
     → ((ws : List Event) → WalkMeets t a 0 ws → GoOn t u n m (links_met ws)) → ((ws : List Event) → WalkMeets t a 0 ws → m ≤ n + 255 * turns ws) → ItemsLeft s count all u rest m
 next_done s t u count all left rest a n m r h e go few =
@@ -159,6 +161,7 @@ pub record Room (s : Heap) (f : Forest) : Type 0 where
 few_numbers : (k : ℕ) → k ≤ 2 ^ 49 → 0 + 255 * k < 2 ^ 64
 few_numbers k l = omega (arith, l)
 
+-- as many turns are left as a heap may need
 pub room : (s : Heap) → Valid s → AtMost (2 ^ 48) s → IsPrinted s → (f : Forest) → IsTree s f → Room s f
 room s valid most printed f tree =
     let solid = heaps_have_solids s valid in
@@ -195,6 +198,7 @@ all_numbered s t valid unmarked r n names table name naming f go given printed =
 pub next_items : (s : Heap) (m : ℕ) (next : Option ℕ) (ms : List ℕ) → from next ms ≡ after m ms → printed_items s (from (Some m) ms) ≡ items_in s m ++ printed_items s (from next ms)
 next_items s m next ms e = ap (λ ns. items_in s m ++ printed_items s ns) (sym e)
 
+-- the items of all membranes, from the root on
 pub root_items : (s : Heap) (m : ℕ) (f : Forest) → IsTree s f → m ≡ s.root → printed_items s (from (Some m) (flat f)) ≡ printed_items s (flat f)
 root_items s m f tree e = ap (λ k. printed_items s (from (Some k) (flat f))) e ∙ ap (printed_items s) (root_first s f tree).1
 
@@ -202,6 +206,7 @@ root_items s m f tree e = ap (λ k. printed_items s (from (Some k) (flat f))) e 
 pub walked_there : (s t : Heap) → Remarks s t → (m : ℕ) (es : List Event) → ItemsWalked s (items_in s m) es → ItemsWalked t (items_in t m) es
 walked_there s t r m es w = subst (λ xs. ItemsWalked t xs es) (sym (items_same s t r m)) (walked_same s t r (items_in s m) es w)
 
+-- the items behind one stay with other marks
 pub items_behind : (s t : Heap) → Remarks s t → (m a : ℕ) (next : Option ℕ) → from next (items_in t m) ≡ after a (items_in t m) → from next (items_in s m) ≡ after a (items_in s m)
 items_behind s t r m a next e = subst (λ xs. from next xs ≡ after a xs) (items_same s t r m) e
 
@@ -215,5 +220,6 @@ pub next_same : {A : Type 0} (id : A → ℕ) (P Q : ℕ → Type 0) → ((a : �
 next_same id P Q f None h = tt
 next_same id P Q f (Some a) h = f (id a) h
 
+-- what is a membrane with other marks is one without
 pub mem_before : (s t : Heap) → Remarks s t → (m : ℕ) → IsMem t m → IsMem s m
 mem_before s t r m i = subst (λ (h : Heap). IsMem h m) r.is i

@@ -30,6 +30,7 @@ filter_once p (x ∷ xs) d = by (p x) (filter_once p xs d.1)
     by true e = (each_of (λ y. x ≢ y) (filter p xs) (λ a i. each_in (λ y. x ≢ y) xs a d.0 (filter_part p a xs i)), e)
     by false e = e
 
+-- an item is an atom of its membrane
 pub item_in : (s : Heap) (m a : ℕ) → In a (items_in s m) → In a (atoms_in s m)
 item_in s m a i = elim (in_either a (marked_in s 1 m) (marked_in s 2 m) i) [
   | inl j ↦ filter_part (λ b. own_mark s b == 1) a (atoms_in s m) j
@@ -52,6 +53,7 @@ item_from s (m ∷ ms) a i = elim (in_either a (items_in s m) (printed_items s m
   | inr j ↦ (let r = item_from s ms a j in (r.0, inr r.1, r.2))
 ]
 
+-- no item is printed twice
 pub printed_items_once : (s : Heap) → Sound s → (ms : List ℕ) → Distinct ms → Distinct (printed_items s ms)
 printed_items_once s sound [] d = tt
 printed_items_once s sound (m ∷ ms) d =

@@ -24,6 +24,7 @@ pub some_given : (s : Heap) → Valid s → AreChosen s → (names : List Name) 
     → (given : FoldedMembranes) × PrintsForest names table s name f given
 some_given s valid chosen names table name naming f tree = let g = given_of names table s chosen name naming f (is_mem s valid.sound f tree) in (g.0, g.1)
 
+-- other own marks are other marks
 pub other_own_marks : (s t : Heap) → ChangesOwnMarks s t → OtherMarks s t
 other_own_marks s t r = (r.marks, r.is)
 

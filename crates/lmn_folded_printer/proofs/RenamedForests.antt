@@ -56,6 +56,7 @@ pub marked_same : (s t : Heap) → Remarks s t → (k m : ℕ) → marked_in t k
 marked_same s t r k m =
     ap (λ (h : Heap). filter (λ a. own_mark t a == k) (atoms_in h m)) r.is ∙ ap (λ (f : ℕ → ℕ). filter (λ a. f a == k) (atoms_in s m)) (λ i a. own_same s t r a i)
 
+-- the items of a membrane stay with other marks of ports
 pub items_same : (s t : Heap) → Remarks s t → (m : ℕ) → items_in t m ≡ items_in s m
 items_same s t r m = ap (λ xs. xs ++ marked_in t 2 m) (marked_same s t r 1 m) ∙ ap (λ xs. marked_in s 1 m ++ xs) (marked_same s t r 2 m)
 

@@ -18,6 +18,7 @@ use Rattle.lmn_folded_printer.specs.Walked.{printed_items, ItemsWalked, none, mo
 use Rattle.lmn_folded_printer.proofs.ItemLemmas.{items_are}
 use Rattle.lmn_base.specs.Lists.{In}
 
+-- the links met on two walks are those of both
 pub met_append : (es fs : List Event) (name : ℕ → ℕ → ℕ) → links_met (es ++ fs) name ≡ links_met es name ++ links_met fs name
 met_append [] fs name = refl
 met_append (meets_link a i ∷ es) fs name = ap (λ xs. name a i ∷ xs) (met_append es fs name)

@@ -156,6 +156,7 @@ mutual
   membranes_can no_membrane h = tt
   membranes_can (membrane_and f fs) h = (braces_can (folded_pieces f) (folded_can f h.0), membranes_can fs h.1)
 
+-- a folded line that a text can spell is laid out as its words
 pub folded_laid : (f : Folded) → FoldedSpelled f → Laid true (line_of_folded f) (words_in (with_full_stops (folded_pieces f)))
 folded_laid f h = laid_as refl (sym (append-nil (words_in (with_full_stops (folded_pieces f))))) (top_laid (folded_pieces f) (folded_can f h))
 
@@ -214,5 +215,6 @@ mutual
   membranes_right (membrane_and f fs) h =
       ((((λ i. absurd (cc)), (λ x. x)), both_right (with_commas (folded_pieces f)) (word kind.RBrace (codes "}") ∷ []) (commas_right (folded_pieces f) (folded_right f h.0)) (((λ i. absurd (cc)), (λ x. x)), tt)), membranes_right fs h.1)
 
+-- each word of a folded line that a text can spell is right
 pub line_right : (f : Folded) → FoldedSpelled f → AllByRecursion IsRight (words_in (with_full_stops (folded_pieces f)))
 line_right f h = stops_right (folded_pieces f) (folded_right f h)

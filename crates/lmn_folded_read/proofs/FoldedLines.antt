@@ -10,6 +10,7 @@ use Rattle.lmn_folded_read.specs.Laws.{FoldedLinesAreRead}
 use Rattle.lmn_folded_read.proofs.FoldedLaid.{folded_laid, line_right}
 use Rattle.lmn_folded_read.proofs.ReadFolded.{line_read}
 
+-- a folded line reads as the tree of its folded form
 pub folded_lines_are_read : FoldedLinesAreRead
 folded_lines_are_read f h =
     let text = line_of_folded f in

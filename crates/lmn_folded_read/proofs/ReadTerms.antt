@@ -32,6 +32,7 @@ use Rattle.lmn_folded_read.proofs.Ways.{Names, Inner, none_named, weaker, own, s
 abbrev pub only : List ExpandedLeaf → Parts
 only ls = record { leaves = ls; membranes = []; contexts = []; rule_contexts = []; rules = []; table = [] }
 
+-- parts of leaves alone, joined, have both leaves alone
 pub both_only : (p q : Parts) (ls ks : List ExpandedLeaf) → p ≡ only ls → q ≡ only ks → joined_parts p q ≡ only (ls ++ ks)
 both_only p q ls ks e f = ap (λ p. joined_parts p q) e ∙ ap (λ q. joined_parts (only ls) q) f
 

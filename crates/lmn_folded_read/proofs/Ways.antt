@@ -7,9 +7,11 @@ use Rattle.lmn_folded_read.proofs.Lists.{all_different}
 use Rattle.lmn_congruence.proofs.Common.{among_apart}
 use Rattle.lmn_base.proofs.Lists.{same_step, not_behind_itself}
 
+-- a link made at a way or further down
 abbrev pub Under : List ℕ → Link → Type 0
 Under way a = (v : List ℕ) × (a ≡ made (v ++ way))
 
+-- a link made further down
 abbrev pub Inside : List ℕ → Link → Type 0
 Inside way a = (v : List ℕ) × (c : ℕ) × (a ≡ made (v ++ c ∷ way))
 
@@ -26,18 +28,22 @@ pub record Inner (way : List ℕ) (ms : List Link) : Type 0 where
 made_same : (v w : List ℕ) → made v ≡ made w → v ≡ w
 made_same v w e = cc
 
+-- no links are such
 pub none_named : (way : List ℕ) → Inner way []
 none_named way = record { inside = λ a h. elim h [ ]; different = tt }
 
+-- links made further down are made at the way or further down
 pub weaker : {way : List ℕ} {ms : List Link} → Inner way ms → Names way ms
 weaker {way} h = record {
   under = λ a i. let g = h.inside a i in (g.0 ++ g.1 ∷ [], g.2 ∙ ap made (sym (append_assoc g.0 (g.1 ∷ []) way)));
   different = h.different;
 }
 
+-- and so are those of a step
 pub deeper : {c : ℕ} {way : List ℕ} {ms : List Link} → Names (c ∷ way) ms → Inner way ms
 deeper {c} h = record { inside = λ a i. let g = h.under a i in (g.0, c, g.1); different = h.different }
 
+-- the link of the way itself comes first
 pub own : {way : List ℕ} {ms : List Link} → Inner way ms → Names way (made way ∷ ms)
 own {way} {ms} h = record { under = under; different = (λ i. let g = h.inside (made way) i in not_behind_itself g.0 g.1 way (made_same _ _ g.2), h.different) }
   where

@@ -11,12 +11,14 @@ use Rattle.lmn_folded_same.proofs.OneRegion.{one_region}
 use Rattle.lmn_folded_same.proofs.ReadBack.{folded_lines_read_back}
 use Rattle.lmn_folded.proofs.ExampleLines.{last_ports_closed}
 
+-- the example has its folded line
 pub its_line : ItsLine
 its_line alloc names is a b =
     folded_lines_read_back alloc names last_ports (codes "a(b).\n") is ((a, (b, tt)), tt, tt, tt, tt)
     ((((omega arith, (codes "a", byte refl nothing)), (omega arith, tt), tt), (((omega arith, (codes "b", byte refl nothing)), (omega arith, tt), tt), tt)), tt, tt, tt, tt)
     (tt, tt) last_ports_closed folded.last_ports
 
+-- and no other one
 pub not_its_line : NotItsLine
 not_its_line names h =
     let P : Region → Type 0 = λ S. IsFoldedLine S (codes "b(a).\n") in

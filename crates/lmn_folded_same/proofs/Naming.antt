@@ -53,6 +53,7 @@ if_false : (b : Bool) (a c : Link) → b ≡ false → (if b then a else c) ≡ 
 if_false true a c e = absurd (cc)
 if_false false a c e = refl
 
+-- equal numbers pass the test
 pub equal_true : (x y : ℕ) → x ≡ y → (x == y) ≡ true
 equal_true x y e = grind arith
 
@@ -271,6 +272,7 @@ zero_or_not n = same_or_apart n 0
 no_made : (m way : List ℕ) → written m ≡ made way → ⊥
 no_made m way e = cc
 
+-- a folded form that is taken apart in a text has the atoms of its region, with other names for the links
 pub folded_links_are_named : FoldedLinksAreNamed
 folded_links_are_named words places_of table given numbered T l own closed w n small a different none_written =
     (name, one, it.named name (by_table, by_number))

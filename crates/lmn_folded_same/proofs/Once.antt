@@ -65,6 +65,7 @@ range_from k zero v h = elim h [ ]
 range_from k (suc n) v at_head = omega arith
 range_from k (suc n) v (further h) = let l = range_from (k + 1) n v h in omega (arith, l)
 
+-- a range has no number twice
 pub range_once : (k n : ℕ) → EachOnce (range_with_len k n)
 range_once k zero = tt
 range_once k (suc n) = (λ h. let l = range_from (k + 1) n k h in omega (arith, l), range_once (k + 1) n)
@@ -76,6 +77,7 @@ AtomsAt atoms [] (a ∷ bs) = ⊥
 AtomsAt atoms (q ∷ qs) [] = ⊥
 AtomsAt atoms (q ∷ qs) (a ∷ bs) = (slice_get atoms q ≡ Some a) × AtomsAt atoms qs bs
 
+-- atoms at two lists of positions are those at both
 pub atoms_append : (atoms : List SolidAtom) (ps qs : List ℕ) (xs ys : List SolidAtom) → AtomsAt atoms ps xs → AtomsAt atoms qs ys → AtomsAt atoms (ps ++ qs) (xs ++ ys)
 atoms_append atoms [] qs [] ys h k = k
 atoms_append atoms [] qs (x ∷ xs) ys h k = absurd h
@@ -98,6 +100,7 @@ all_positions front (a ∷ back) =
     let size = length-append front (a ∷ []) in
     (slice_behind front back a, subst Q size (subst P (append_one front back a) (all_positions (front ++ a ∷ []) back)))
 
+-- all positions have all atoms
 pub positions_at : (atoms : List SolidAtom) → AtomsAt atoms (range_with_len 0 (length atoms)) atoms
 positions_at atoms = all_positions [] atoms
 
@@ -111,6 +114,7 @@ put_atoms atoms (y ∷ ys) here h = (y, ys, h.0, h.1, here)
 put_atoms atoms [] (there p) h = absurd h
 put_atoms atoms (y ∷ ys) (there p) h = let more = put_atoms atoms ys p h.1 in (more.0, y ∷ more.1, more.2, (h.0, more.3), there more.4)
 
+-- the same positions in another order have the same atoms
 pub same_atoms : (atoms : List SolidAtom) {ps qs : List ℕ} (xs ys : List SolidAtom) → Shuffle (λ a b. a ≡ b) ps qs → AtomsAt atoms ps xs → AtomsAt atoms qs ys
     → Shuffle (λ a b. renamed_atom (λ x. x) a ≡ b) xs ys
 same_atoms atoms [] [] none h k = none

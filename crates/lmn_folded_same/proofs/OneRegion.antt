@@ -63,6 +63,7 @@ mutual
   regions_same (region_and m ms) (region_and n ns) e =
       regions_with (one_region m n (inside_of _ _ (first_of _ _ _ _ e))) (regions_same ms ns (second_of _ _ _ _ e))
 
+-- a process has one folded line at most
 pub one_folded_line_of : OneFoldedLineOf
 one_folded_line_of names others P line other h k =
     let P : Region → Type 0 = λ S. IsFoldedLine S line in

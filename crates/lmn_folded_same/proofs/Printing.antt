@@ -381,8 +381,10 @@ from_items {atoms} (folding.item {q = p} {items = is} {qs = qs} {all = all} n h)
     go q at_head more = (p, (grows h p (among_right is at_head), itself))
     go q (further c) more = more c
 
+-- no atom is an item twice
 pub items_once : (atoms : List SolidAtom) (items : List ℕ) → AreItems atoms items → EachOnce items
 items_once atoms items h = further_once h.further (firsts_once h.no_children (range_once 0 (length atoms)))
 
+-- each atom descends from an item
 pub each_from_item : (atoms : List SolidAtom) (items : List ℕ) → AreItems atoms items → (q : ℕ) → Among q (atom_positions atoms) → (i : ℕ) × (Among i items × Descends atoms i q)
 each_from_item atoms items h q a = from_items h.further q a

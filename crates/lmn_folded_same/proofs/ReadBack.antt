@@ -63,6 +63,7 @@ lines_are_read names S line is held spelled numbered closed h =
           (it.0, same, it.2, top_back (words_of line tokens) (map (λ (t : Token). t.pos) tokens) names is read.1 p plain it.0 it.3 there),
     )
 
+-- the folded line of a solid reads back as its process
 pub folded_solid_lines_are_read : FoldedSolidLinesAreRead
 folded_solid_lines_are_read names given s line well solid has named spelled h =
     let S = region_of names given.rules s in
@@ -92,6 +93,7 @@ line_ranges f line e s tokens {t} r =
     let Q : List ℕ → Type 0 = λ text. IntegersInRange (words_of text tokens) in
     subst Q (sym e) (form_ranges f s tokens (subst P e r))
 
+-- the folded line of a region reads back as its process
 pub folded_lines_read_back : FoldedLinesReadBack
 folded_lines_read_back alloc names S line is held spelled numbered closed h =
     let read = lines_are_read names S line is held spelled numbered closed h in

@@ -20,6 +20,7 @@ use Rattle.lmn_congruence.proofs.Common.{among_apart}
 
 -- The printed links of what can be spelled.
 
+-- each link has a number that can be spelled
 abbrev pub Small : List ℕ → Type 0
 Small xs = (x : ℕ) → Among x xs → IsLinkNumber x
 
@@ -61,6 +62,7 @@ mutual
   membranes_small no_membrane h = none_small
   membranes_small (membrane_and f fs) h = both_small (folded_links f) (membranes_links fs) (folded_small f h.0) (membranes_small fs h.1)
 
+-- a folded line gives the region that was printed, up to the order of atoms and the numbers of links
 pub folded_lines_are_same : FoldedLinesAreSame
 folded_lines_are_same S line h closed spelled =
     let P : List ℕ → Type 0 = λ text. (tokens : List Token) × (tree : Clauses) × Reads text tokens tree × NothingWrong text × IsTreeOf text tokens tree h.numbered in

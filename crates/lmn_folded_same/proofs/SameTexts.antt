@@ -215,6 +215,7 @@ still_closed f P Q closed one counts y = go (same_or_apart (occurrences y Q) 0)
             let c = counts y in
             let s = ap (λ z. occurrences z (renamed f P)) e in inr (omega (arith, c, s, image, z))
 
+-- a folded form that is taken apart in a text is the region that was folded
 pub folded_texts_are_same : FoldedTextsAreSame
 folded_texts_are_same words places_of table number S given numbered l own closed form n small a different none_written apart_numbers =
     let whole = folded_forms_are_whole S given closed form in

@@ -121,6 +121,7 @@ module _ (to : ℕ → ℕ) where
 
 -- Numbers by first occurrence are below their count, and each number below it stands in the list.
 
+-- numbers by first occurrence are below their count
 pub numbers_below : {n m : ℕ} {xs : List ℕ} → Numbers n xs m → (x : ℕ) → Among x xs → x < m
 numbers_below no_more x i = elim i [ ]
 numbers_below (known l h) x at_head = let g = numbers_grow h in omega (arith, l, g)
@@ -186,6 +187,7 @@ numbers_small given numbered n small x i = omega (arith, below x i, few)
         let from = among_image n.to (folded_links given) (subst P same (numbers_stand n.by_first_occurrence y (omega arith) l)) in
         (from.0, small from.0 from.1, from.2))
 
+-- the folded form of what a text can spell can be spelled
 pub numbered_form_spelled : (S : Region) (line : List ℕ) (h : IsFoldedLine S line) → Closed (region_process S) → LevelSpelled (as_level S) → FoldedSpelled h.numbered
 numbered_form_spelled S line h closed spelled =
     let whole = folded_forms_are_whole S h.given closed h.folds in

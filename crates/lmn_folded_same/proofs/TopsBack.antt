@@ -222,6 +222,7 @@ module _ (names : List tree.Name) where
           no_rule_context = no_rule_contexts T a h;
         }
 
+-- the top of the plain that is read has the region that was printed
 pub top_back : (words : List Word) (places : List Pos) (names : List tree.Name) (is : IsNames names) (t : Clauses) (p : Plain) (plain : IsPlainOf words places names t p) (T : Region)
     → (let parts = parts_of words places t in RegionNumbered words places parts.table plain.number T (level_from_parts parts)) → Everywhere (AtomFine names) (RuleFine names) T
     → top_of names p ≡ as_level T

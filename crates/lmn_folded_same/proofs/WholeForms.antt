@@ -125,5 +125,6 @@ mutual
       let others = whole_regions others_few hs in
       (region_and one.0 others.0, membranes_whole one.1 others.1, one_more one.2 others.2 first)
 
+-- the folded form of a region, taken apart, is that region up to the order of atoms
 pub folded_forms_are_whole : FoldedFormsAreWhole
 folded_forms_are_whole S f closed h = whole_region (few_in (region_process S) closed) h

@@ -19,6 +19,7 @@ entered (meets_link a i ∷ es) = entered es
 entered (meets_term a i c ∷ es) = c ∷ entered es
 entered (leaves a ∷ es) = entered es
 
+-- the atoms that a walk leaves
 abbrev pub left : List Event → List ℕ
 left [] = []
 left (meets_link a i ∷ es) = left es
@@ -32,6 +33,7 @@ walk_turns s a i _ (term c l t w) = omega arith
 walk_turns s a i _ (end_of_term p j e x ports l w) = omega arith
 walk_turns s a i _ (end_of_item e x) = omega arith
 
+-- a walk turns as often as it enters an atom or leaves one
 pub counted : (es : List Event) → turns es ≡ length (entered es) + length (left es)
 counted [] = refl
 counted (meets_link a i ∷ es) = counted es
@@ -56,6 +58,7 @@ leaving s a i b _ (end_of_item e x) (inl h) =
     (leaves a ∷ [], subst (λ z. WalkMeets s z (argument_count s z) (leaves a ∷ [])) h (subst (λ k. WalkMeets s a k (leaves a ∷ [])) e (end_of_item e x)), omega arith)
 leaving s a i b _ (end_of_item e x) (inr h) = absurd h
 
+-- no atom is entered twice
 pub entered_once : (s : Heap) (a i : ℕ) (es : List Event) → WalkMeets s a i es → Distinct (entered es)
 entered_once s a i _ (link l n w) = entered_once s a (i + 1) _ w
 entered_once s a i _ (term {es = es} c l t w) = (each_of (λ y. c ≢ y) (entered es) again, entered_once s c 0 es w)
@@ -69,6 +72,7 @@ entered_once s a i _ (term {es = es} c l t w) = (each_of (λ y. c ≢ y) (entere
 entered_once s a i _ (end_of_term p j e x ports l w) = entered_once s p (j + 1) _ w
 entered_once s a i _ (end_of_item e x) = tt
 
+-- and none is left twice
 pub left_once : (s : Heap) (a i : ℕ) (es : List Event) → WalkMeets s a i es → Distinct (left es)
 left_once s a i _ (link l n w) = left_once s a (i + 1) _ w
 left_once s a i _ (term {es = es} c l t w) = left_once s c 0 es w
@@ -91,6 +95,7 @@ end_there s paired a i b j e = by (s.atoms b) (paired.back a i b j e)
     by None l = absurd (cc l)
     by (Some x) l = refl
 
+-- what is entered is an atom
 pub entered_there : (s : Heap) → Paired s → (a i : ℕ) (es : List Event) → WalkMeets s a i es → (b : ℕ) → In b (entered es) → IsAtom s b
 entered_there s paired a i _ (link l n w) b h = entered_there s paired a (i + 1) _ w b h
 entered_there s paired a i _ (term {es = es} c l t w) b (inl e) = subst (IsAtom s) e (end_there s paired a i c (term_is s a i c t).0 (term_is s a i c t).1)
@@ -98,6 +103,7 @@ entered_there s paired a i _ (term {es = es} c l t w) b (inr h) = entered_there 
 entered_there s paired a i _ (end_of_term p j e x ports l w) b h = entered_there s paired p (j + 1) _ w b h
 entered_there s paired a i _ (end_of_item e x) b h = absurd h
 
+-- and so is what is left
 pub left_there : (s : Heap) → Paired s → (a i : ℕ) (es : List Event) → IsAtom s a → WalkMeets s a i es → (b : ℕ) → In b (left es) → IsAtom s b
 left_there s paired a i _ there (link l n w) b h = left_there s paired a (i + 1) _ there w b h
 left_there s paired a i _ there (term {es = es} c l t w) b h = left_there s paired c 0 es (end_there s paired a i c (term_is s a i c t).0 (term_is s a i c t).1) w b h
@@ -106,6 +112,7 @@ left_there s paired a i _ there (end_of_term {es = es} p j e x ports l w) b (inr
 left_there s paired a i _ there (end_of_item e x) b (inl h) = subst (IsAtom s) h there
 left_there s paired a i _ there (end_of_item e x) b (inr h) = absurd h
 
+-- a walk has few turns in a heap of few atoms
 pub few_turns : (s : Heap) → Paired s → AtMost (2 ^ 48) s → (a i : ℕ) (es : List Event) → IsAtom s a → WalkMeets s a i es → turns es ≤ 2 ^ 49
 few_turns s paired most a i es there w =
     let first = not_longer (entered es) most.atoms (entered_once s a i es w) (λ b h. most.all_atoms b (entered_there s paired a i es w b h)) in

@@ -10,6 +10,7 @@ use Rattle.lmn_folding.specs.Laws.{ItemsAreWalked}
 use Rattle.lmn_folding.proofs.PrintedWalks.{events_all, walk_all}
 use Rattle.lmn_folding.proofs.PrintedTexts.{opened, closed, label_words, text_split, opening_label, closed_is, first_args}
 
+-- an item is printed as a walk over its terms meets it
 pub items_are_walked : ItemsAreWalked
 items_are_walked names s name a i valid is p =
     let inside = events_all names s name p.arguments in

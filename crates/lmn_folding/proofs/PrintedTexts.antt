@@ -60,6 +60,7 @@ abbrev pub opened : FoldedTerms → List ℕ
 opened no_term = []
 opened (term_and t ts) = 40 ∷ (text_of (term_pieces t) ++ in_row (codes ", ") true (map text_of (terms_pieces ts)))
 
+-- what closes the arguments of a term
 abbrev pub closed : FoldedTerms → List ℕ
 closed no_term = []
 closed (term_and t ts) = codes ")"
@@ -68,6 +69,7 @@ opened_closed : (ts : FoldedTerms) → text_of (in_parentheses (terms_pieces ts)
 opened_closed no_term = refl
 opened_closed (term_and t ts) = parentheses_text (term_pieces t) (terms_pieces ts)
 
+-- the text of a label and its arguments
 pub label_words : (l : Label) (ts : FoldedTerms) → text_of (label_piece l ∷ in_parentheses (terms_pieces ts)) ≡ label_text l ++ (opened ts ++ closed ts)
 label_words l ts = ap (λ z. z ++ text_of (in_parentheses (terms_pieces ts))) (sym (label_is l)) ∙ ap (λ z. label_text l ++ z) (opened_closed ts)
 

@@ -64,6 +64,7 @@ closes Curly = refl
 enclosed : {n : ℕ} (b : Bracket) {u : List Kind} → Balanced n u → Balanced 0 (opener b ∷ (u ++ closer b ∷ []))
 enclosed b h = closed (opener b) (closer b) (opens b) (closes b) h empty
 
+-- what holds turned round doesn't hold
 pub flipped : (b : Bool) → elim b [ true ↦ false | false ↦ true ] ≡ true → b ≡ false
 flipped true h = absurd (clash h)
 flipped false h = refl
@@ -119,6 +120,7 @@ open_within (limits.one_more k {n = n} {before = u} {inside = v} d h b) w e =
     let P : ℕ → Type 0 = λ z. Open z u in
     let same : n ≡ 200 = omega (arith, e) in (w u k v refl).0 (inl (h, subst P same d))
 
+-- within the limits no more than 200 brackets are open
 pub brackets_within : BracketsWithin
 brackets_within u w d = open_within d w refl
 
@@ -129,6 +131,7 @@ side_within (operator k {n = n} {before = u} d h) w e =
     let P : ℕ → Type 0 = λ z. Side z u in
     let same : n ≡ 255 = omega (arith, e) in (w u k [] refl).0 (inr (h, subst P same d))
 
+-- within the limits no side has more than 255 operators
 pub operators_within : OperatorsWithin
 operators_within u w d = side_within d w refl
 
@@ -157,6 +160,7 @@ last_term (suc n) w (u, v, e, d, more) =
       balanced = subst P (omega arith) (balanced_both (balanced_word (Ref TermPart) u d refl) (comma t.balanced));
     }
 
+-- within the limits no atom has more than 255 arguments, nor more than 254 where it is a term
 pub arguments_within : ArgumentsWithin
 arguments_within before arguments behind word n h d w =
     let t = last_term n arguments d in

@@ -21,12 +21,15 @@ use Rattle.lmn_base.proofs.Truth.{false_not_true as clash}
 abbrev pub GuardRead : List Kind → ℕ → ℕ → Type 0
 GuardRead ts p q = (κ : Owed) → ReadsTo ts p guard_bar q κ
 
+-- reading a guard and its bar stops there, whatever is owed behind them
 abbrev pub GuardStops : List Kind → ℕ → ℕ → Type 0
 GuardStops ts p g = (κ : Owed) → StopsAt ts p guard_bar κ g
 
+-- a list, if any, is read up to there, whatever that doesn't go on with it is owed behind
 abbrev pub ListRead : List Kind → ℕ → ℕ → Type 0
 ListRead ts p q = (κ : Owed) → EndsOptList κ → ReadsTo ts p (Opt list) q κ
 
+-- reading a list, if any, stops there, whatever that doesn't go on with it is owed behind
 abbrev pub ListStops : List Kind → ℕ → ℕ → Type 0
 ListStops ts p l = (κ : Owed) → EndsOptList κ → StopsAt ts p (Opt list) κ l
 

@@ -30,6 +30,7 @@ optional_nothing : (b : Bool) (x y : List Owed) → (x ≡ [] → y ≡ []) → 
 optional_nothing true x y f h = f h
 optional_nothing false x y f h = refl
 
+-- whether a thing takes a token doesn't depend on what is owed behind it
 pub still_nothing : (f : ℕ) (e : Exp) (κ κ' : Owed) (t : Kind) → owed_after f e κ t ≡ [] → owed_after f e κ' t ≡ []
 still_nothing f (Tok k) κ κ' t h = if_nothing (is_kind k t) κ κ' h
 still_nothing f (Seq a b) κ κ' t h = both_nothing (owed_after f a (b ∷ κ') t) _ (still_nothing f a (b ∷ κ) (b ∷ κ') t (left_nothing (owed_after f a (b ∷ κ) t) _ h))
@@ -66,6 +67,7 @@ passed_by ts p e κ b m = alike ts p ((e ∷ κ) ∷ []) (κ ∷ []) (λ t h.
     ap (λ x. (x ++ optional (may_be_empty e) (next κ t)) ++ []) (nothing_after ts p e κ t b h)
     ∙ ap (λ x. optional x (next κ t) ++ []) m)
 
+-- a thing that can't begin with the token is read no farther than what is owed behind it
 pub no_farther : (ts : List Kind) (p : ℕ) (e : Exp) (κ : Owed) → begins e (slice_get ts p) ≡ false → stop_at ts p ((e ∷ κ) ∷ []) ≤ stop_at ts p (κ ∷ [])
 no_farther ts p e κ b = go (may_be_empty e) refl
   where
@@ -80,14 +82,17 @@ left_of n a b p e h = omega arith
 right_of : (n a b p : ℕ) → n ≡ max a b → a ≤ b → n ≡ b
 right_of n a b p e h = omega arith
 
+-- of two things the first is read where the second can't begin with the token
 pub alt_left : (ts : List Kind) (p : ℕ) (a b : Exp) (κ : Owed) → begins b (slice_get ts p) ≡ false → may_be_empty b ≡ false →
     stop_at ts p ((Alt a b ∷ κ) ∷ []) ≡ stop_at ts p ((a ∷ κ) ∷ [])
 alt_left ts p a b κ h m = left_of _ _ _ p (alt ts p a b κ) (omega (arith, not_begun ts p b κ h m, stop_at_from ts p ((a ∷ κ) ∷ [])))
 
+-- and the second where the first can't
 pub alt_right : (ts : List Kind) (p : ℕ) (a b : Exp) (κ : Owed) → begins a (slice_get ts p) ≡ false → may_be_empty a ≡ false →
     stop_at ts p ((Alt a b ∷ κ) ∷ []) ≡ stop_at ts p ((b ∷ κ) ∷ [])
 alt_right ts p a b κ h m = right_of _ _ _ p (alt ts p a b κ) (omega (arith, not_begun ts p a κ h m, stop_at_from ts p ((b ∷ κ) ∷ [])))
 
+-- a thing that may stand here doesn't where it can't begin with the token
 pub opt_none : (ts : List Kind) (p : ℕ) (e : Exp) (κ : Owed) → begins e (slice_get ts p) ≡ false → stop_at ts p ((Opt e ∷ κ) ∷ []) ≡ stop_at ts p (κ ∷ [])
 opt_none ts p e κ h = right_of _ _ _ p (opt ts p e κ) (no_farther ts p e κ h)
 
@@ -95,9 +100,11 @@ opt_none ts p e κ h = right_of _ _ _ p (opt ts p e κ) (no_farther ts p e κ h)
 pub opt_some : (ts : List Kind) (p : ℕ) (e : Exp) (κ : Owed) → stop_at ts p (κ ∷ []) ≡ p → stop_at ts p ((Opt e ∷ κ) ∷ []) ≡ stop_at ts p ((e ∷ κ) ∷ [])
 opt_some ts p e κ h = left_of _ _ _ p (opt ts p e κ) (omega (arith, h, stop_at_from ts p ((e ∷ κ) ∷ [])))
 
+-- no more of a thing is read where it can't begin with the token
 pub many_none : (ts : List Kind) (p : ℕ) (e : Exp) (κ : Owed) → begins e (slice_get ts p) ≡ false → may_be_empty e ≡ false → stop_at ts p ((Many e ∷ κ) ∷ []) ≡ stop_at ts p (κ ∷ [])
 many_none ts p e κ h m = right_of _ _ _ p (many ts p e κ) (omega (arith, not_begun ts p e (Many e ∷ κ) h m, stop_at_from ts p (κ ∷ [])))
 
+-- one more of it is read where what is owed behind takes no token
 pub many_some : (ts : List Kind) (p : ℕ) (e : Exp) (κ : Owed) → stop_at ts p (κ ∷ []) ≡ p → stop_at ts p ((Many e ∷ κ) ∷ []) ≡ stop_at ts p ((e ∷ Many e ∷ κ) ∷ [])
 many_some ts p e κ h = left_of _ _ _ p (many ts p e κ) (omega (arith, h, stop_at_from ts p ((e ∷ Many e ∷ κ) ∷ [])))
 
@@ -109,6 +116,7 @@ not_there ts p k other = go (slice_get ts p) refl
     go None h = ap (begins (Tok k)) h
     go (Some t) h = ap (begins (Tok k)) h ∙ ap (λ b. some_owed (if b then [] ∷ [] else [])) (other_there ts p k t other h)
 
+-- a thing in brackets can't begin where they don't open
 pub not_opened : (ts : List Kind) (p : ℕ) (b : Bracket) (e : Exp) → (slice_get ts p ≡ Some (opener b) → ⊥) → begins (Within b e) (slice_get ts p) ≡ false
 not_opened ts p b e other = go (slice_get ts p) refl
   where
@@ -120,6 +128,7 @@ not_opened ts p b e other = go (slice_get ts p) refl
 pub sign_taken : (ts : List Kind) (p : ℕ) (k : Kind) (e : Exp) (κ : Owed) → slice_get ts p ≡ Some k → stop_at ts p ((Seq (Tok k) e ∷ κ) ∷ []) ≡ stop_at ts (p + 1) ((e ∷ κ) ∷ [])
 sign_taken ts p k e κ h = seq ts p (Tok k) e κ ∙ tok_taken ts p k (e ∷ κ) h
 
+-- reading stops where a thing that is owed begins with another sign
 pub sign_dead : (ts : List Kind) (p : ℕ) (k : Kind) (e : Exp) (κ : Owed) → (slice_get ts p ≡ Some k → ⊥) → stop_at ts p ((Seq (Tok k) e ∷ κ) ∷ []) ≡ p
 sign_dead ts p k e κ h = seq ts p (Tok k) e κ ∙ tok_dead ts p k (e ∷ κ) h
 
@@ -128,6 +137,7 @@ pub opt_sign_taken : (ts : List Kind) (p : ℕ) (k : Kind) (e : Exp) (κ : Owed)
     stop_at ts p ((Opt (Seq (Tok k) e) ∷ κ) ∷ []) ≡ stop_at ts (p + 1) ((e ∷ κ) ∷ [])
 opt_sign_taken ts p k e κ h n = opt_some ts p (Seq (Tok k) e) κ (dead_here ts p κ k h n) ∙ sign_taken ts p k e κ h
 
+-- a thing that may stand here doesn't where it begins with another sign
 pub opt_sign_none : (ts : List Kind) (p : ℕ) (k : Kind) (e : Exp) (κ : Owed) → (slice_get ts p ≡ Some k → ⊥) →
     stop_at ts p ((Opt (Seq (Tok k) e) ∷ κ) ∷ []) ≡ stop_at ts p (κ ∷ [])
 opt_sign_none ts p k e κ h = opt_none ts p (Seq (Tok k) e) κ (begins_first (Tok k) e (slice_get ts p) refl (not_there ts p k h))
@@ -142,5 +152,6 @@ pub more_taken : (ts : List Kind) (p : ℕ) (e : Exp) (κ : Owed) → slice_get 
     stop_at ts p ((more_of e ∷ κ) ∷ []) ≡ stop_at ts (p + 1) ((e ∷ more_of e ∷ κ) ∷ [])
 more_taken ts p e κ h n = many_some ts p (Seq (Tok Comma) e) κ (dead_here ts p κ Comma h n) ∙ sign_taken ts p Comma e (more_of e ∷ κ) h
 
+-- no more of a thing comes where no comma stands
 pub more_done : (ts : List Kind) (p : ℕ) (e : Exp) (κ : Owed) → (slice_get ts p ≡ Some Comma → ⊥) → stop_at ts p ((more_of e ∷ κ) ∷ []) ≡ stop_at ts p (κ ∷ [])
 more_done ts p e κ h = many_none ts p (Seq (Tok Comma) e) κ (begins_first (Tok Comma) e (slice_get ts p) refl (not_there ts p Comma h)) refl

@@ -16,36 +16,46 @@ use Rattle.lmn_base.proofs.Truth.{false_not_true as clash}
 pub closers_list : (κ : Owed) → OnlyClosers κ → EndsList κ
 closers_list κ n = (n LParen refl, n LBracket refl, n Equal refl, n Comma refl)
 
+-- a list ends before an arrow
 pub closers_arrow : (κ : Owed) → EndsList (arrow ∷ κ)
 closers_arrow κ = (refl, refl, refl, refl)
 
+-- and before the tail of a rule
 pub closers_tail : (κ : Owed) → EndsList (rule_tail ∷ κ)
 closers_tail κ = (refl, refl, refl, refl)
 
+-- a list ends where the tail of a rule may come, and then only what closes
 pub closers_opt_tail : (κ : Owed) → OnlyClosers κ → EndsList (Opt rule_tail ∷ κ)
 closers_opt_tail κ n = closers_list κ n
 
+-- an item ends where more items may come and then what ends a list
 pub ends_item : (κ : Owed) → EndsList κ → EndsItem (more_of item ∷ κ)
 ends_item κ n = (n.0, n.1, n.2)
 
+-- what may be the left side of `=` takes no arguments behind it
 pub ends_left : (κ : Owed) → EndsItem κ → NoArgs (Opt right_side ∷ κ)
 ends_left κ n = n.0
 
+-- a term takes no arguments where more terms may come
 pub ends_term : (κ : Owed) → NoMore κ → NoArgs (more_of (Ref TermPart) ∷ κ)
 ends_term κ n = n.0
 
+-- only what closes comes before `)`
 pub closers_round : (κ : Owed) → OnlyClosers (Tok RParen ∷ κ)
 closers_round κ RParen h = absurd (clash (sym h))
 closers_round κ _ h = refl
 
+-- only `}` comes where it is owed
 pub ends_curly : (κ : Owed) → OnlyEnds (Tok RBrace ∷ κ)
 ends_curly κ RBrace h = absurd (clash (sym h))
 ends_curly κ _ h = refl
 
+-- only the end comes where it is owed
 pub ends_text : (κ : Owed) → OnlyEnds (Tok End ∷ κ)
 ends_text κ End h = absurd (clash (sym h))
 ends_text κ _ h = refl
 
+-- only what closes comes where more clauses may
 pub closers_more : (κ : Owed) → OnlyEnds κ → OnlyClosers (more_clauses ∷ κ)
 closers_more κ n RParen h = absurd (clash (sym h))
 closers_more κ n RBrace h = absurd (clash (sym h))
@@ -61,9 +71,11 @@ no_closer Dot h = absurd (clash h)
 no_closer End h = absurd (clash h)
 no_closer _ h = refl
 
+-- a list that may be missing ends where only what closes comes
 pub closers_opt_list : (κ : Owed) → OnlyClosers κ → EndsOptList κ
 closers_opt_list κ n = (closers_list κ n, λ t h. n t (no_closer t h))
 
+-- and before an arrow
 pub arrow_opt_list : (κ : Owed) → EndsOptList (arrow ∷ κ)
 arrow_opt_list κ = (closers_arrow κ, go)
   where
@@ -71,6 +83,7 @@ arrow_opt_list κ = (closers_arrow κ, go)
     go Arrow h = absurd (clash h)
     go _ h = refl
 
+-- and before the tail of a rule
 pub tail_opt_list : (κ : Owed) → EndsOptList (rule_tail ∷ κ)
 tail_opt_list κ = (closers_tail κ, go)
   where
@@ -79,13 +92,16 @@ tail_opt_list κ = (closers_tail κ, go)
     go Backslash h = absurd (clash h)
     go _ h = refl
 
+-- a list that may be missing is read where it can begin
 pub opt_list_some : (ts : List Kind) (p : ℕ) (κ : Owed) → EndsOptList κ → begins list (slice_get ts p) ≡ true →
     stop_at ts p ((Opt list ∷ κ) ∷ []) ≡ stop_at ts p ((list ∷ κ) ∷ [])
 opt_list_some ts p κ n b = opt_some ts p list κ (dead_owed ts p κ (λ t h. n.1 t (sym (ap (begins list) h) ∙ b)))
 
+-- and is missing where it can't
 pub opt_list_none : (ts : List Kind) (p : ℕ) (κ : Owed) → begins list (slice_get ts p) ≡ false → stop_at ts p ((Opt list ∷ κ) ∷ []) ≡ stop_at ts p (κ ∷ [])
 opt_list_none ts p κ b = opt_none ts p list κ b
 
+-- a list is an item, and more of them
 pub list_parts : (ts : List Kind) (p : ℕ) (κ : Owed) → stop_at ts p ((list ∷ κ) ∷ []) ≡ stop_at ts p ((item ∷ more_of item ∷ κ) ∷ [])
 list_parts ts p κ = seq ts p item (more_of item) κ
 
@@ -99,6 +115,7 @@ list_before_tail _ h = refl
 pub tail_backslash : (ts : List Kind) (p : ℕ) (κ : Owed) → slice_get ts p ≡ Some Backslash → stop_at ts p ((rule_tail ∷ κ) ∷ []) ≡ stop_at ts (p + 1) ((Opt list ∷ arrow ∷ κ) ∷ [])
 tail_backslash ts p κ h = seq ts p (Opt (Tok Backslash · Opt list)) arrow κ ∙ opt_sign_taken ts p Backslash (Opt list) (arrow ∷ κ) h refl
 
+-- the tail of a rule is its arrow where no `\` stands
 pub tail_arrow : (ts : List Kind) (p : ℕ) (κ : Owed) → (slice_get ts p ≡ Some Backslash → ⊥) → stop_at ts p ((rule_tail ∷ κ) ∷ []) ≡ stop_at ts p ((arrow ∷ κ) ∷ [])
 tail_arrow ts p κ h = seq ts p (Opt (Tok Backslash · Opt list)) arrow κ ∙ opt_sign_none ts p Backslash (Opt list) (arrow ∷ κ) h
 
@@ -109,9 +126,11 @@ rule_parts ts p κ =
     seq ts p heads arrow κ ∙ seq ts p (Opt list) second (arrow ∷ κ)
     ∙ sym (owed_alike ts p (Opt list ∷ rule_tail ∷ κ) (Opt list ∷ second ∷ arrow ∷ κ) (same_behind (Opt list) (rule_tail ∷ κ) (second ∷ arrow ∷ κ) (seq_split second arrow κ)))
 
+-- a rule that can begin as a list has that first, and then the tail
 pub rule_list : (ts : List Kind) (p : ℕ) (κ : Owed) → begins list (slice_get ts p) ≡ true → stop_at ts p ((rule ∷ κ) ∷ []) ≡ stop_at ts p ((list ∷ rule_tail ∷ κ) ∷ [])
 rule_list ts p κ b = rule_parts ts p κ ∙ opt_some ts p list (rule_tail ∷ κ) (not_begun ts p rule_tail κ (list_before_tail (slice_get ts p) b) refl)
 
+-- one that can't is the tail alone
 pub rule_no_list : (ts : List Kind) (p : ℕ) (κ : Owed) → begins list (slice_get ts p) ≡ false → stop_at ts p ((rule ∷ κ) ∷ []) ≡ stop_at ts p ((rule_tail ∷ κ) ∷ [])
 rule_no_list ts p κ b = rule_parts ts p κ ∙ opt_none ts p list (rule_tail ∷ κ) b
 
@@ -164,6 +183,7 @@ farthest n a b c e h k = omega arith
 others : (n a b c : ℕ) → n ≡ max (max a b) c → a ≤ max b c → n ≡ max b c
 others n a b c e h = omega arith
 
+-- a clause with a name and `@@` is a rule from there on
 pub clause_named : (ts : List Kind) (p : ℕ) (κ : Owed) → OnlyClosers κ → begins name (slice_get ts p) ≡ true → slice_get ts (p + 1) ≡ Some AtAt →
     stop_at ts p ((Ref ClausePart ∷ κ) ∷ []) ≡ stop_at ts (p + 1 + 1) ((rule ∷ κ) ∷ [])
 clause_named ts p κ n b h =
@@ -186,10 +206,12 @@ clause_unnamed : (ts : List Kind) (p : ℕ) (κ : Owed) → (begins name (slice_
     stop_at ts p ((Ref ClausePart ∷ κ) ∷ []) ≡ max (stop_at ts p ((rule ∷ κ) ∷ [])) (stop_at ts p ((list ∷ κ) ∷ []))
 clause_unnamed ts p κ other = others _ _ _ _ (clause_three ts p κ) (omega (arith, name_stops ts p (rule ∷ κ) κ other))
 
+-- a clause without them that can begin as a list is one, and then perhaps the tail of a rule
 pub clause_list : (ts : List Kind) (p : ℕ) (κ : Owed) → (begins name (slice_get ts p) ≡ true → slice_get ts (p + 1) ≡ Some AtAt → ⊥) → begins list (slice_get ts p) ≡ true →
     stop_at ts p ((Ref ClausePart ∷ κ) ∷ []) ≡ stop_at ts p ((list ∷ Opt rule_tail ∷ κ) ∷ [])
 clause_list ts p κ other b = clause_unnamed ts p κ other ∙ rule_or_list ts p κ b
 
+-- a clause that can't begin as a list is the tail of a rule
 pub clause_tail : (ts : List Kind) (p : ℕ) (κ : Owed) → begins list (slice_get ts p) ≡ false → stop_at ts p ((Ref ClausePart ∷ κ) ∷ []) ≡ stop_at ts p ((rule_tail ∷ κ) ∷ [])
 clause_tail ts p κ b = clause_unnamed ts p κ (λ n h. no_name (slice_get ts p) b n) ∙ rule_alone ts p κ b
   where
@@ -209,6 +231,7 @@ list_or_rule ts p κ n b = opt_some ts p rule_tail κ (dead_owed ts p κ (λ t h
     go Arrow h = refl
     go _ h = absurd (clash h)
 
+-- a clause is a list alone where no tail of a rule can begin
 pub list_ends : (ts : List Kind) (p : ℕ) (κ : Owed) → begins rule_tail (slice_get ts p) ≡ false → stop_at ts p ((Opt rule_tail ∷ κ) ∷ []) ≡ stop_at ts p (κ ∷ [])
 list_ends ts p κ b = opt_none ts p rule_tail κ b
 
@@ -255,6 +278,7 @@ no_end RBrace h = absurd (clash h)
 no_end End h = absurd (clash h)
 no_end _ h = refl
 
+-- clauses begin with one where one can begin
 pub clauses_some : (ts : List Kind) (p : ℕ) (κ : Owed) → OnlyEnds κ → begins (Ref ClausePart) (slice_get ts p) ≡ true →
     stop_at ts p ((Ref ClausesPart ∷ κ) ∷ []) ≡ stop_at ts p ((Ref ClausePart ∷ more_clauses ∷ κ) ∷ [])
 clauses_some ts p κ n b = ref ts p ClausesPart κ
@@ -263,14 +287,18 @@ clauses_some ts p κ n b = ref ts p ClausesPart κ
     ∙ owed_alike ts p (Ref ClausePart ∷ stops_and_clauses ∷ κ) (Ref ClausePart ∷ more_clauses ∷ κ)
     (same_behind (Ref ClausePart) (stops_and_clauses ∷ κ) (more_clauses ∷ κ) (same_first stops_and_clauses more_clauses κ (λ w. (more_to w, to_more w))))
 
+-- and are missing where none can
 pub clauses_none : (ts : List Kind) (p : ℕ) (κ : Owed) → begins (Ref ClausePart) (slice_get ts p) ≡ false → stop_at ts p ((Ref ClausesPart ∷ κ) ∷ []) ≡ stop_at ts p (κ ∷ [])
 clauses_none ts p κ b = ref ts p ClausesPart κ ∙ opt_none ts p (Ref ClausePart · stops_and_clauses) κ (begins_first (Ref ClausePart) stops_and_clauses (slice_get ts p) refl b)
 
+-- after a full stop clauses come
 pub more_stop : (ts : List Kind) (p : ℕ) (κ : Owed) → OnlyEnds κ → slice_get ts p ≡ Some Dot → stop_at ts p ((more_clauses ∷ κ) ∷ []) ≡ stop_at ts (p + 1) ((Ref ClausesPart ∷ κ) ∷ [])
 more_stop ts p κ n h = opt_sign_taken ts p Dot (Ref ClausesPart) κ h (n Dot refl)
 
+-- and without one no more
 pub more_none : (ts : List Kind) (p : ℕ) (κ : Owed) → (slice_get ts p ≡ Some Dot → ⊥) → stop_at ts p ((more_clauses ∷ κ) ∷ []) ≡ stop_at ts p (κ ∷ [])
 more_none ts p κ h = opt_sign_none ts p Dot (Ref ClausesPart) κ h
 
+-- a program is clauses and the end
 pub program_parts : (ts : List Kind) (p : ℕ) (κ : Owed) → stop_at ts p ((program ∷ κ) ∷ []) ≡ stop_at ts p ((Ref ClausesPart ∷ Tok End ∷ κ) ∷ [])
 program_parts ts p κ = seq ts p (Ref ClausesPart) (Tok End) κ

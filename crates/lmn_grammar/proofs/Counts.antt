@@ -10,10 +10,12 @@ use Rattle.lmn_base.proofs.Truth.{and_true, either_true as or_true, false_not_tr
 use Rattle.lmn_grammar.proofs.Theory.{cons_same}
 use Rattle.std.proofs.lemmas.Bool.{and_from, or_right, or_left}
 
+-- tokens are scanned one part after the other
 pub scan_append : (s : Scan) (u v : List Kind) → scan_from s (u ++ v) ≡ scan_from (scan_from s u) v
 scan_append s [] v = refl
 scan_append s (k ∷ u) v = scan_append (scan_after s k) u v
 
+-- a scan goes on token by token
 pub scan_more : (u : List Kind) (k : Kind) → scan (u ++ k ∷ []) ≡ scan_after (scan u) k
 scan_more u k = scan_append scan_at_start u (k ∷ [])
 
@@ -35,6 +37,7 @@ same_last [] (b ∷ v) k t e = absurd (never v t (cons_same k b [] (v ++ t ∷ [
 same_last (a ∷ u) [] k t e = absurd (never u k (sym (cons_same a t (u ++ k ∷ []) [] e).1))
 same_last (a ∷ u) (b ∷ v) k t e = same_last u v k t (cons_same a b (u ++ k ∷ []) (v ++ t ∷ []) e).1
 
+-- of tokens that end with one of a kind the last is of that kind
 pub last_is : (test : Kind → Bool) (u : List Kind) (k : Kind) → EndsWith test (u ++ k ∷ []) → test k ≡ true
 last_is test u k e = ap test (same_last u e.front k e.last e.split) ∙ e.is_one
 
@@ -67,9 +70,11 @@ scan_operand u = from_left (λ u. was_operand (scan u).last ≡ true → EndsWit
 operand_scan : (u : List Kind) → EndsWith ends_operand u → was_operand (scan u).last ≡ true
 operand_scan u e = ap (λ z. was_operand (scan z).last) e.split ∙ operand_last e.front e.last ∙ e.is_one
 
+-- what the scan takes for an operator is one
 pub scan_operator : (u : List Kind) (k : Kind) → is_operator (scan u) k ≡ true → IsOperator u k
 scan_operator u k h = let p = and_true (may_be_operator k) (was_operand (scan u).last) h in (p.0, scan_operand u p.1)
 
+-- the scan sees each operator
 pub operator_scan : (u : List Kind) (k : Kind) → IsOperator u k → is_operator (scan u) k ≡ true
 operator_scan u k h = and_from (may_be_operator k) (was_operand (scan u).last) h.0 (operand_scan u h.1)
 
@@ -83,6 +88,7 @@ side_more : (n m : ℕ) (is_one : Bool) (x : ℕ) → n ≤ m → is_one ≡ tru
 side_more n m true x h e = omega (arith, h)
 side_more n m false x h e = absurd (clash e)
 
+-- the scan counts at least as many operators as a side has
 pub side_scan : {n : ℕ} {u : List Kind} → Side n u → n ≤ (scan u).operators
 side_scan begins = omega arith
 side_scan (operand k {n = n} {before = u} d h) =
@@ -98,11 +104,13 @@ side_after u k n d true goes e g = let P : ℕ → Type 0 = λ m. Side m (u ++ k
 side_after u k n d false true e g = operand k d g
 side_after u k n d false false e g = begins
 
+-- the operators that it counts are those of a side
 pub scan_side : (u : List Kind) → Side (scan u).operators u
 scan_side u = from_left (λ u. Side (scan u).operators u) begins
     (λ u k d. let P : Scan → Type 0 = λ s. Side s.operators (u ++ k ∷ []) in
     subst P (sym (scan_more u k)) (side_after u k (scan u).operators d (is_operator (scan u) k) (continues_side k) refl refl)) u
 
+-- a side with n operators is one with fewer
 pub side_less : {n : ℕ} {u : List Kind} → Side n u → (m : ℕ) → m ≤ n → Side m u
 side_less {u = u} begins m h = let P : ℕ → Type 0 = λ z. Side z u in subst P (omega (arith, h)) begins
 side_less (operand k d g) m h = operand k (side_less d m h) g
@@ -117,18 +125,21 @@ added n (Arguments l m ∷ o) = Arguments l (m + n) ∷ o
 added n (Terms ∷ o) = Terms ∷ o
 added n (Group ∷ o) = Group ∷ o
 
+-- no argument added changes nothing
 pub added_none : (o : List Opened) → added 0 o ≡ o
 added_none [] = refl
 added_none (Arguments l m ∷ o) = ap (λ z. Arguments l z ∷ o) (omega arith)
 added_none (Terms ∷ o) = refl
 added_none (Group ∷ o) = refl
 
+-- one more argument begun is one added
 pub added_one : (o : List Opened) → one_more_begun o ≡ added 1 o
 added_one [] = refl
 added_one (Arguments l m ∷ o) = refl
 added_one (Terms ∷ o) = refl
 added_one (Group ∷ o) = refl
 
+-- arguments added one after the other are added together
 pub added_twice : (m n : ℕ) (o : List Opened) → added n (added m o) ≡ added (m + n) o
 added_twice m n [] = refl
 added_twice m n (Arguments l k ∷ o) = ap (λ z. Arguments l z ∷ o) (omega arith)
@@ -180,6 +191,7 @@ length_added n (Arguments l m ∷ o) = refl
 length_added n (Terms ∷ o) = refl
 length_added n (Group ∷ o) = refl
 
+-- it has at least as many open brackets as are open
 pub open_scan : {n : ℕ} {u : List Kind} → Open n u → n ≤ length (scan u).opened
 open_scan none = omega arith
 open_scan (one_more f {m = m} {n = n} {before = u} {inside = w} d h b) =
@@ -188,6 +200,7 @@ open_scan (one_more f {m = m} {n = n} {before = u} {inside = w} d h b) =
     ap (λ z. length z.opened) (scan_append scan_at_start u (f ∷ w)) ∙ ap length (balanced_scan b (scan_after (scan u) f)) ∙ length_added m _ ∙ ap length x.1 in
     omega (arith, e, open_scan d)
 
+-- balanced tokens one after the other are balanced, with the commas of both
 pub balanced_both : {m n : ℕ} {u v : List Kind} → Balanced m u → Balanced n v → Balanced (m + n) (u ++ v)
 balanced_both {n = n} {v = v} empty b = let P : ℕ → Type 0 = λ z. Balanced z v in subst P (omega arith) b
 balanced_both {n = n} {v = v} (comma {n = m} {tokens = w} d) b =
@@ -270,6 +283,7 @@ stacked_open (suc n) (x ∷ o) u (i, t) h =
     let P : List Kind → Type 0 = Open (suc n) in
     subst P (sym i.split) (one_more i.first (stacked_open n o i.front t (omega (arith, h))) i.opens i.balanced)
 
+-- the scan has at most as many open brackets as are open
 pub scan_open : (n : ℕ) (u : List Kind) → n ≤ length (scan u).opened → Open n u
 scan_open n u h = stacked_open n (scan u).opened u (stacked u) h
 
@@ -354,6 +368,7 @@ word_plain s Mod h = refl
 word_plain s Int h = refl
 word_plain s _ h = absurd (clash h)
 
+-- in an argument list it has the number of arguments that are begun
 pub arguments_scan : {n : ℕ} {front u : List Kind} → InArguments front n u → (scan u).opened ≡ Arguments (limit_here (scan front)) n ∷ (scan front).opened
 arguments_scan {front = f} (begun k {commas = n} {inside = w} h b) =
     let behind = scan_after (scan f) k in
@@ -488,6 +503,7 @@ inside_term (Closed n) o h = h
 inside_term Operand o h = h
 inside_term Other o h = h
 
+-- where a term comes next it has the limit of a term
 pub term_scan : {u : List Kind} → TermNext u → limit_here (scan u) ≡ 254
 term_scan (behind_equal u) = ap limit_here (scan_more u Equal)
 term_scan {u} (in_arguments d) = inside_term (scan u).last (scan u).opened (ap limit_in (arguments_scan d))
@@ -511,6 +527,7 @@ more_than : {n : ℕ} {front u : List Kind} (k : Kind) → InArguments front n u
 more_than {n} {front} {u} k d h =
     or_left (has_too_many (scan u).opened) (is_equal k && is_full (scan u).last) (ap has_too_many (arguments_scan d) ∙ lower (limit_here (scan front)) n h)
 
+-- the scan sees each argument too many
 pub many_scan : {u : List Kind} {k : Kind} → TooManyArguments u k → many u k ≡ true
 many_scan {k = k} (of_any {front = f} d h) = more_than k d (elim (term_limit f) [ inl e ↦ omega (arith, e, h) | inr e ↦ omega (arith, e.0, h) ])
 many_scan {k = k} (of_term {front = f} d t h) = more_than k d (let e = term_scan t in omega (arith, e, h))
@@ -550,6 +567,7 @@ full : (u : List Kind) → is_full (scan u).last ≡ true → TooManyArguments u
 full u = from_left (λ u. is_full (scan u).last ≡ true → TooManyArguments u Equal) (λ h. absurd (clash h))
     (λ u k i h. full_more u k (ap (λ s. is_full s.last) (sym (scan_more u k)) ∙ h)) u
 
+-- what it takes for an argument too many is one
 pub scan_many : (u : List Kind) (k : Kind) → many u k ≡ true → TooManyArguments u k
 scan_many u k h = elim (or_true (has_too_many (scan u).opened) (is_equal k && is_full (scan u).last) h) [
   | inl a ↦ begun_too_many u k (scan u).opened refl a
@@ -565,6 +583,7 @@ deep_scan u k (inr (h, d)) =
     or_right (is_opener k && nat_le 200 (length (scan u).opened)) (is_operator (scan u) k && nat_le 255 (scan u).operators)
     (and_from (is_operator (scan u) k) (nat_le 255 (scan u).operators) (operator_scan u k h) (at_most 255 (scan u).operators (side_scan d)))
 
+-- what it takes for too deep is so
 pub scan_deep : (u : List Kind) (k : Kind) → is_too_deep (scan u) k ≡ true → TooDeep u k
 scan_deep u k h = elim (or_true (is_opener k && nat_le 200 (length (scan u).opened)) (is_operator (scan u) k && nat_le 255 (scan u).operators) h) [
   | inl a ↦ let b = and_true (is_opener k) (nat_le 200 (length (scan u).opened)) a in inl (b.0, scan_open 200 u (is_at_most 200 (length (scan u).opened) b.1))
@@ -581,6 +600,7 @@ answered u k c true b d m h = inl (sym (same_some 11 c h), scan_deep u k d)
 answered u k c false true d m h = inr (sym (same_some 12 c h), (λ t. clash (sym d ∙ deep_scan u k t)), scan_many u k m)
 answered u k c false false d m h = absurd (none_some c h)
 
+-- what the scan says passes a limit passes it
 pub scan_passes : (u : List Kind) (k : Kind) (c : ℕ) → passes (scan u) k ≡ Some c → Passes c u k
 scan_passes u k c h = answered u k c (is_too_deep (scan u) k) (many u k) refl refl h
 
@@ -589,5 +609,6 @@ nothing_passes u k true b d m h = absurd (none_some 11 (sym h))
 nothing_passes u k false true d m h = absurd (none_some 12 (sym h))
 nothing_passes u k false false d m h = ((λ t. clash (sym d ∙ deep_scan u k t)), λ t. clash (sym m ∙ many_scan t))
 
+-- where it names no code the token passes none
 pub scan_none : (u : List Kind) (k : Kind) → passes (scan u) k ≡ None → PassesNone u k
 scan_none u k h = nothing_passes u k (is_too_deep (scan u) k) (many u k) refl refl h

@@ -131,6 +131,7 @@ beyond_limits u r t (before, token, rest, code, e, w, c) = elim (cases_lt (lengt
         go x s [] l = absurd (nothing_left x s l)
         go x s (y ∷ v) l = (length t.taken, 10, unexpected u r t y v l (within_front t.taken x (subst F s w)))
 
+-- what ends with `End` derives a program within the limits, or is refused
 pub derived_or_refused : DerivedOrRefused
 derived_or_refused kinds =
     let u = kinds ++ End ∷ [] in

@@ -15,6 +15,7 @@ abbrev item_read : Exp
 item_read = atom · Opt right_side ∣ membrane · Opt right_side ∣ Tok Context · context_tail ∣ Tok RuleCtx ∣ Tok Plus · Tok Link
     ∣ Within Round (Ref ClausePart) ∣ (Tok Link ∣ tlist) · right_side
 
+-- the same tokens are derived
 pub derives_along : (e : Exp) (a b : List Kind) → a ≡ b → Derives e a → Derives e b
 derives_along e a b h d = let P : List Kind → Type 0 = Derives e in subst P h d
 
@@ -43,6 +44,7 @@ read_of_item w (right _ _ _ (right _ _ _ (right _ _ _ (right _ _ _ (right _ _ _ 
 an_equation : (w u v : List Kind) → w ≡ u ++ v → Derives term u → Derives right_side v → Derives item w
 an_equation w u v e t r = right _ _ _ (right _ _ _ (right _ _ _ (right _ _ _ (right _ _ _ (right _ _ _ (right _ _ _ (both (Ref TermPart) right_side u v w e (by TermPart u t) r)))))))
 
+-- the first part is all where nothing stands behind it
 pub nothing_behind : (w u v : List Kind) → w ≡ u ++ v → v ≡ [] → u ≡ w
 nothing_behind w u v e n = sym (plus_nothing u) ∙ ap (λ z. u ++ z) (sym n) ∙ sym e
 
@@ -66,6 +68,7 @@ item_of_read w (right _ _ _ (right _ _ _ (right _ _ _ (right _ _ _ (right _ _ _ 
     elim (alt_parts (Tok Link) tlist s.0 s.3)
     [ inl l ↦ an_equation w s.0 s.1 s.2 (left _ _ _ l) s.4 | inr t ↦ an_equation w s.0 s.1 s.2 (right _ _ _ (right _ _ _ (right _ _ _ (right _ _ _ t)))) s.4 ]
 
+-- an item is read as by one token of look-ahead
 pub item_alike : (ts : List Kind) (p : ℕ) (κ : Owed) → stop_at ts p ((item ∷ κ) ∷ []) ≡ stop_at ts p ((item_read ∷ κ) ∷ [])
 item_alike ts p κ = exp_alike ts p item item_read κ (λ w. (read_of_item w, item_of_read w))
 
@@ -82,6 +85,7 @@ alike_at ts p e κ κ' h b = alike ts p (κ ∷ []) (κ' ∷ []) (λ t i. h t (s
 abbrev pub TakesOne : Exp → Type 0
 TakesOne e = (t : Kind) (κ : Owed) → begins e (Some t) ≡ true → nexts ((e ∷ κ) ∷ []) t ≡ κ ∷ []
 
+-- a thing of one token takes the token with which it begins
 pub one_taken : (ts : List Kind) (p : ℕ) (e : Exp) (κ : Owed) → TakesOne e → begins e (slice_get ts p) ≡ true → stop_at ts p ((e ∷ κ) ∷ []) ≡ stop_at ts (p + 1) (κ ∷ [])
 one_taken ts p e κ h b = go (slice_get ts p) refl
   where
@@ -102,12 +106,15 @@ name_one Quoted κ h = refl
 name_one Mod κ h = refl
 name_one _ κ h = absurd (clash h)
 
+-- so a name takes its token
 pub name_taken : (ts : List Kind) (p : ℕ) (κ : Owed) → begins name (slice_get ts p) ≡ true → stop_at ts p ((name ∷ κ) ∷ []) ≡ stop_at ts (p + 1) (κ ∷ [])
 name_taken ts p κ h = one_taken ts p name κ name_one h
 
+-- an atom is its name, and then perhaps its arguments
 pub atom_taken : (ts : List Kind) (p : ℕ) (κ : Owed) → begins atom_name (slice_get ts p) ≡ true → stop_at ts p ((atom ∷ κ) ∷ []) ≡ stop_at ts (p + 1) ((Opt arguments ∷ κ) ∷ [])
 atom_taken ts p κ h = seq ts p atom_name (Opt arguments) κ ∙ one_taken ts p atom_name (Opt arguments ∷ κ) atom_name_one h
 
+-- an item that begins as an atom is one, and then perhaps the right side of `=`
 pub item_atom : (ts : List Kind) (p : ℕ) (κ : Owed) → begins atom_name (slice_get ts p) ≡ true →
     stop_at ts p ((item ∷ κ) ∷ []) ≡ stop_at ts p ((atom ∷ Opt right_side ∷ κ) ∷ [])
 item_atom ts p κ h = item_alike ts p κ ∙ alike_at ts p atom_name (item_read ∷ κ) (atom ∷ Opt right_side ∷ κ) go h
@@ -119,26 +126,33 @@ item_atom ts p κ h = item_alike ts p κ ∙ alike_at ts p atom_name (item_read 
     go Int b = refl
     go _ b = absurd (clash b)
 
+-- one that begins with `{` is a membrane, and then perhaps the right side of `=`
 pub item_membrane : (ts : List Kind) (p : ℕ) (κ : Owed) → slice_get ts p ≡ Some LBrace →
     stop_at ts p ((item ∷ κ) ∷ []) ≡ stop_at ts p ((membrane ∷ Opt right_side ∷ κ) ∷ [])
 item_membrane ts p κ h = item_alike ts p κ ∙ swap ts p _ _ LBrace h refl
 
+-- one that begins with a context goes on with what may stand behind it
 pub item_context : (ts : List Kind) (p : ℕ) (κ : Owed) → slice_get ts p ≡ Some Context →
     stop_at ts p ((item ∷ κ) ∷ []) ≡ stop_at ts (p + 1) ((context_tail ∷ κ) ∷ [])
 item_context ts p κ h = item_alike ts p κ ∙ advance ts p _ Context (context_tail ∷ κ) [] h refl
 
+-- one that begins with a rule context is that
 pub item_rule_context : (ts : List Kind) (p : ℕ) (κ : Owed) → slice_get ts p ≡ Some RuleCtx → stop_at ts p ((item ∷ κ) ∷ []) ≡ stop_at ts (p + 1) (κ ∷ [])
 item_rule_context ts p κ h = advance ts p _ RuleCtx κ [] h refl
 
+-- one that begins with `+` goes on with a link
 pub item_plus : (ts : List Kind) (p : ℕ) (κ : Owed) → slice_get ts p ≡ Some Plus → stop_at ts p ((item ∷ κ) ∷ []) ≡ stop_at ts (p + 1) ((Tok Link ∷ κ) ∷ [])
 item_plus ts p κ h = advance ts p _ Plus (Tok Link ∷ κ) [] h refl
 
+-- one that begins with `(` is a clause in parentheses
 pub item_group : (ts : List Kind) (p : ℕ) (κ : Owed) → slice_get ts p ≡ Some LParen →
     stop_at ts p ((item ∷ κ) ∷ []) ≡ stop_at ts (p + 1) ((Ref ClausePart ∷ Tok RParen ∷ κ) ∷ [])
 item_group ts p κ h = advance ts p _ LParen (Ref ClausePart ∷ Tok RParen ∷ κ) [] h refl
 
+-- one that begins with a link goes on with `=`
 pub item_link : (ts : List Kind) (p : ℕ) (κ : Owed) → slice_get ts p ≡ Some Link → stop_at ts p ((item ∷ κ) ∷ []) ≡ stop_at ts (p + 1) ((right_side ∷ κ) ∷ [])
 item_link ts p κ h = advance ts p _ Link (right_side ∷ κ) [] h refl
 
+-- one that begins with `[` is a list of terms, and goes on with `=`
 pub item_tlist : (ts : List Kind) (p : ℕ) (κ : Owed) → slice_get ts p ≡ Some LBracket → stop_at ts p ((item ∷ κ) ∷ []) ≡ stop_at ts p ((tlist ∷ right_side ∷ κ) ∷ [])
 item_tlist ts p κ h = swap ts p _ _ LBracket h refl

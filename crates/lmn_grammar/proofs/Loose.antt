@@ -12,6 +12,7 @@ pub data Role : Type 0 where
   Ends : Role
   Stays : Role
 
+-- what a token does to brackets
 abbrev pub role : Kind → Role
 role LParen = Opens
 role LBracket = Opens
@@ -24,6 +25,7 @@ role Bar = Ends
 role End = Ends
 role _ = Stays
 
+-- the first token that stands loose, by what the first of all does to brackets
 abbrev pub loose_step : Role → ℕ → Kind → (ℕ → Option Kind) → Option Kind
 loose_step Opens n t f = f (suc n)
 loose_step Closes zero t f = Some t
@@ -88,6 +90,7 @@ closed Round n w = refl
 closed Square n w = refl
 closed Curly n w = refl
 
+-- what an expression derives has no loose token, so the first one stands behind it
 pub calm_keeps : (n : ℕ) (e : Exp) (u : List Kind) → Derives e u → calm n e ≡ true → (v : List Kind) → first_loose n (u ++ v) ≡ first_loose n v
 calm_keeps n _ _ (here k) h v = tok_calm n (role k) k (λ m. first_loose m v) h
 calm_keeps n _ _ (both a b x y w e da db) h v =

@@ -13,6 +13,7 @@ use Rattle.lmn_grammar.proofs.Scans.{within_front, take_more, cut_at, length_tak
 use Rattle.lmn_grammar.proofs.Spans.{append_same}
 use Rattle.lmn_base.proofs.Lists.{plus_nothing}
 
+-- what is owed at the front of a text
 abbrev pub start : List Owed
 start = (program ∷ []) ∷ []
 
@@ -31,6 +32,7 @@ started w d = one_found (program ∷ []) w (w, [], sym (plus_nothing w), d, refl
 pub begins_front : (P : List Kind → Type 0) (u v : List Kind) → BeginsProgram P (u ++ v) → BeginsProgram P u
 begins_front P u v (rest, d) = (v ++ rest, subst P (append_assoc u v rest) d)
 
+-- the same tokens begin a program
 pub begins_same : (P : List Kind → Type 0) (u v : List Kind) → u ≡ v → BeginsProgram P u → BeginsProgram P v
 begins_same P u v e b = let B : List Kind → Type 0 = BeginsProgram P in subst B e b
 
@@ -38,6 +40,7 @@ begins_same P u v e b = let B : List Kind → Type 0 = BeginsProgram P in subst 
 pub taken_begins : (w : List Kind) (r : ℕ) (t : Tells start 0 w r) → BeginsProgram (Derives program) t.taken
 taken_begins w r t = (t.rest, derived (t.taken ++ t.rest) t.goes_on)
 
+-- with the token at which reading stops no program begins
 pub no_more_begins : (w : List Kind) (r : ℕ) (t : Tells start 0 w r) (x : Kind) (v : List Kind) → t.left ≡ x ∷ v → BeginsProgram (Derives program) (t.taken ++ x ∷ []) → ⊥
 no_more_begins w r t x v e (rest, d) =
     let D : List Kind → Type 0 = Derives program in
@@ -96,6 +99,7 @@ refuses_along P u u' t t' c e e' r =
     let T : Kind → Type 0 = λ z. Refuses P c u' z in
     subst T e' (subst U e r)
 
+-- a list of kinds is refused at one place and by one code at most
 pub refused_once : (P : List Kind → Type 0) (kinds : List Kind) (p q c d : ℕ) → IsRefused P kinds p c → IsRefused P kinds q d → (p ≡ q) × (c ≡ d)
 refused_once P kinds p q c d a b = (place, code)
   where
@@ -114,6 +118,7 @@ refused_once P kinds p q c d a b = (place, code)
     code : c ≡ d
     code = one_code P b.before b.token c d (refuses_along P a.before b.before a.token b.token c before (cons_same a.token b.token a.rest b.rest behind).0 a.refuses) b.refuses
 
+-- what is refused is no program within the limits
 pub refused_is_none : (P : List Kind → Type 0) (kinds : List Kind) (p c : ℕ) → IsRefused P kinds p c → P kinds → IsWithin kinds → ⊥
 refused_is_none P kinds p c r d w =
     stays P r.before r.token c r.refuses (r.rest, subst P (r.split ∙ sym (append_assoc r.before (r.token ∷ []) r.rest)) d) (w r.before r.token r.rest r.split)
@@ -123,6 +128,7 @@ refuses_alike : (P Q : List Kind → Type 0) → ((u : List Kind) → P u → Q 
 refuses_alike P Q to from c before token (inl r) = inl (r.0, λ b. r.1 (b.0, from _ b.1))
 refuses_alike P Q to from c before token (inr (b, passes)) = inr ((b.0, to _ b.1), passes)
 
+-- two languages with the same programs refuse alike
 pub refused_alike : (P Q : List Kind → Type 0) → ((u : List Kind) → P u → Q u) → ((u : List Kind) → Q u → P u) → (kinds : List Kind) (p c : ℕ) → IsRefused P kinds p c → IsRefused Q kinds p c
 refused_alike P Q to from kinds p c r = record {
   before = r.before;
@@ -137,9 +143,11 @@ refused_alike P Q to from kinds p c r = record {
 
 -- of the grammar
 
+-- tokens are refused at one place and by one code at most
 pub one_refusal : OneRefusedPlace
 one_refusal = refused_once (Derives program)
 
+-- what is refused derives no program within the limits
 pub refused_derive_nothing : RefusedDeriveNothing
 refused_derive_nothing = refused_is_none (Derives program)
 

@@ -14,12 +14,15 @@ never : (before rest : List Kind) (token : Kind) → [] ≡ before ++ token ∷ 
 never [] rest token h = cc
 never (a ∷ before) rest token h = cc
 
+-- no token is within the limits
 pub within_none : IsWithin []
 within_none before token rest e = absurd (never before rest token e)
 
+-- what is within the limits begins within them
 pub within_front : (u v : List Kind) → IsWithin (u ++ v) → IsWithin u
 within_front u v w before token rest e = w before token (rest ++ v) (ap (λ z. z ++ v) e ∙ append_assoc before (token ∷ rest) v)
 
+-- one more token that passes none is within them too
 pub within_more : (u : List Kind) (k : Kind) → IsWithin u → PassesNone u k → IsWithin (u ++ k ∷ [])
 within_more u k w n before token rest e =
     elim (last_split k token before u rest e) [
@@ -37,21 +40,25 @@ take_more ks m k h = ap (λ n. take n ks) (add-one m) ∙ go ks m h
     go (a ∷ ks) zero h = ap (λ z. z ∷ []) (same_some a k h)
     go (a ∷ ks) (suc m) h = ap (λ z. a ∷ z) (go ks m h)
 
+-- tokens are those before one of them, it, and those behind
 pub cut_at : (ks : List Kind) (m : ℕ) (k : Kind) → slice_get ks m ≡ Some k → ks ≡ take m ks ++ k ∷ drop (suc m) ks
 cut_at [] zero k h = cc
 cut_at [] (suc m) k h = cc
 cut_at (a ∷ ks) zero k h = ap (λ z. z ∷ ks) (same_some a k h)
 cut_at (a ∷ ks) (suc m) k h = ap (λ z. a ∷ z) (cut_at ks m k h)
 
+-- before the token with number m stand m tokens
 pub length_take : (ks : List Kind) (m : ℕ) (k : Kind) → slice_get ks m ≡ Some k → length (take m ks) ≡ m
 length_take [] zero k h = refl
 length_take [] (suc m) k h = cc
 length_take (a ∷ ks) zero k h = refl
 length_take (a ∷ ks) (suc m) k h = ap suc (length_take ks m k h)
 
+-- the scan of one token more
 pub scan_take : (ks : List Kind) (m : ℕ) (k : Kind) → slice_get ks m ≡ Some k → scan (take (m + 1) ks) ≡ scan_after (scan (take m ks)) k
 scan_take ks m k h = ap scan (take_more ks m k h) ∙ scan_more (take m ks) k
 
+-- one token more is within the limits where the scan names no code for it
 pub within_take : (ks : List Kind) (m : ℕ) (k : Kind) → slice_get ks m ≡ Some k → IsWithin (take m ks) → passes (scan (take m ks)) k ≡ None → IsWithin (take (m + 1) ks)
 within_take ks m k h w n = let W : List Kind → Type 0 = IsWithin in subst W (sym (take_more ks m k h)) (within_more (take m ks) k w (scan_none (take m ks) k n))
 
@@ -59,6 +66,7 @@ within_take ks m k h w n = let W : List Kind → Type 0 = IsWithin in subst W (s
 abbrev pub FirstPassing : List Kind → Type 0
 FirstPassing u = (before : List Kind) × (token : Kind) × (rest : List Kind) × (code : ℕ) × (u ≡ before ++ token ∷ rest) × IsWithin before × Passes code before token
 
+-- tokens are within the limits, or a first one passes a limit
 pub first_passing : (u : List Kind) → IsWithin u ⊎ FirstPassing u
 first_passing u = go [] u within_none
   where
@@ -76,6 +84,7 @@ abbrev pub none_passes : Scan → List Kind → Bool
 none_passes s [] = true
 none_passes s (k ∷ u) = elim (passes s k) [ None ↦ none_passes (scan_after s k) u | Some c ↦ false ]
 
+-- tokens of which the scan finds none to pass are within the limits
 pub within_scanned : (u : List Kind) → none_passes (scan []) u ≡ true → IsWithin u
 within_scanned u h = go [] u within_none h
   where

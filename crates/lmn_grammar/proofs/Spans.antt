@@ -15,6 +15,7 @@ drop_next [] (suc p) a w h = cc
 drop_next (x ∷ ts) zero a w h = (cons_same x a ts w h).1
 drop_next (x ∷ ts) (suc p) a w h = drop_next ts p a w h
 
+-- behind the first part of what is left stands the second
 pub drop_front : (u v ts : List Kind) (p : ℕ) → drop p ts ≡ u ++ v → drop (p + length u) ts ≡ v
 drop_front [] v ts p h = let e : p + 0 ≡ p = omega arith in ap (λ n. drop n ts) e ∙ h
 drop_front (a ∷ u) v ts p h =
@@ -31,9 +32,11 @@ get_first [] (suc q) t v h = cc
 get_first (x ∷ ts) zero t v h = ap Some (cons_same x t ts v h).0
 get_first (x ∷ ts) (suc q) t v h = get_first ts q t v h
 
+-- the token behind a part stands at its end
 pub front_get : (ts u v : List Kind) (p q : ℕ) (t : Kind) → drop p ts ≡ u ++ t ∷ v → q ≡ p + length u → slice_get ts q ≡ Some t
 front_get ts u v p q t h e = get_first ts q t v (ap (λ n. drop n ts) e ∙ drop_front u (t ∷ v) ts p h)
 
+-- what goes on from the same front alike is the same
 pub append_same : (u x y : List Kind) → u ++ x ≡ u ++ y → x ≡ y
 append_same [] x y h = h
 append_same (a ∷ u) x y h = append_same u x y (cons_same a a (u ++ x) (u ++ y) h).1

@@ -17,9 +17,11 @@ pub record Tells (s : List Owed) (p : ℕ) (w : List Kind) (r : ℕ) : Type 0 wh
   pub goes_on : Found s (taken ++ rest)
   pub no_farther : (t : Kind) (v : List Kind) → left ≡ t ∷ v → (more : List Kind) → Found s (taken ++ t ∷ more) → ⊥
 
+-- some word is derived by what is owed
 abbrev pub Alive : List Owed → Type 0
 Alive s = (w : List Kind) × Found s w
 
+-- no row derives nothing at all
 pub nothing_found : (s : List Owed) (w : List Kind) → s ≡ [] → Found s w → ⊥
 nothing_found s w e f = let P : List Owed → Type 0 = λ x. Found x w in (subst P e f).1
 
@@ -48,6 +50,7 @@ goes_behind s p t w r h = record {
   no_farther = λ x v e more f. h.no_farther x v e more (complete_nexts s t (h.taken ++ x ∷ more) f);
 }
 
+-- what the place at which reading stops says of the tokens
 pub tells : (w : List Kind) (p : ℕ) (s : List Owed) → Alive s → Tells s p w (stop p s w)
 tells [] p s a =
     let P : ℕ → Type 0 = Tells s p [] in
@@ -63,13 +66,16 @@ tells (t ∷ w) p s a =
     go [] e h = stops_here s p t w e a
     go (κ ∷ n) e h = let P : List Owed → Type 0 = Alive in goes_behind s p t w _ (h (subst P (sym e) (first_alive κ n)))
 
+-- a row that is owed is one
 pub one_alive : (κ : Owed) → Alive (κ ∷ [])
 one_alive κ = first_alive κ []
 
+-- tokens found by one row are derived by it
 pub found_one : (κ : Owed) (w : List Kind) → Found (κ ∷ []) w → DerivesAll κ w
 found_one κ w (k, inl e, d) = let P : Owed → Type 0 = λ x. DerivesAll x w in subst P e d
 found_one κ w (k, inr i, d) = absurd i
 
+-- what one row derives is found
 pub one_found : (κ : Owed) (w : List Kind) → DerivesAll κ w → Found (κ ∷ []) w
 one_found κ w d = (κ, inl refl, d)
 

@@ -16,6 +16,7 @@ use Rattle.lmn_base.proofs.Truth.{false_not_true as clash}
 pub term_link : (ts : List Kind) (p : ℕ) (κ : Owed) → slice_get ts p ≡ Some Link → stop_at ts p ((Ref TermPart ∷ κ) ∷ []) ≡ stop_at ts (p + 1) (κ ∷ [])
 term_link ts p κ h = advance ts p _ Link κ [] h refl
 
+-- a term that begins as an atom is one
 pub term_atom : (ts : List Kind) (p : ℕ) (κ : Owed) → begins atom_name (slice_get ts p) ≡ true → stop_at ts p ((Ref TermPart ∷ κ) ∷ []) ≡ stop_at ts p ((atom ∷ κ) ∷ [])
 term_atom ts p κ h = alike_at ts p atom_name (Ref TermPart ∷ κ) (atom ∷ κ) go h
   where
@@ -26,12 +27,15 @@ term_atom ts p κ h = alike_at ts p atom_name (Ref TermPart ∷ κ) (atom ∷ κ
     go Int b = refl
     go _ b = absurd (clash b)
 
+-- one that begins with a context is that
 pub term_context : (ts : List Kind) (p : ℕ) (κ : Owed) → slice_get ts p ≡ Some Context → stop_at ts p ((Ref TermPart ∷ κ) ∷ []) ≡ stop_at ts (p + 1) (κ ∷ [])
 term_context ts p κ h = advance ts p _ Context κ [] h refl
 
+-- one that begins with `{` is a membrane
 pub term_membrane : (ts : List Kind) (p : ℕ) (κ : Owed) → slice_get ts p ≡ Some LBrace → stop_at ts p ((Ref TermPart ∷ κ) ∷ []) ≡ stop_at ts p ((membrane ∷ κ) ∷ [])
 term_membrane ts p κ h = swap ts p _ _ LBrace h refl
 
+-- one that begins with `[` is a list of terms
 pub term_tlist : (ts : List Kind) (p : ℕ) (κ : Owed) → slice_get ts p ≡ Some LBracket → stop_at ts p ((Ref TermPart ∷ κ) ∷ []) ≡ stop_at ts p ((tlist ∷ κ) ∷ [])
 term_tlist ts p κ h = swap ts p _ _ LBracket h refl
 
@@ -40,6 +44,7 @@ pub arguments_some : (ts : List Kind) (p : ℕ) (κ : Owed) → NoArgs κ → sl
     stop_at ts p ((Opt arguments ∷ κ) ∷ []) ≡ stop_at ts (p + 1) ((Opt (some_of (Ref TermPart)) ∷ Tok RParen ∷ κ) ∷ [])
 arguments_some ts p κ n h = opt_some ts p arguments κ (dead_here ts p κ LParen h n) ∙ within_taken ts p Round (Opt (some_of (Ref TermPart))) κ h
 
+-- no arguments come where no `(` stands
 pub arguments_none : (ts : List Kind) (p : ℕ) (κ : Owed) → (slice_get ts p ≡ Some LParen → ⊥) → stop_at ts p ((Opt arguments ∷ κ) ∷ []) ≡ stop_at ts p (κ ∷ [])
 arguments_none ts p κ h = opt_none ts p arguments κ (not_opened ts p Round (Opt (some_of (Ref TermPart))) h)
 
@@ -54,11 +59,13 @@ pub context_bracket : (ts : List Kind) (p : ℕ) (κ : Owed) → EndsItem κ →
 context_bracket ts p κ n h = opt_some ts p (Within Square (Tok Link) ∣ right_side) κ (dead_here ts p κ LBracket h n.1)
     ∙ alt_left ts p (Within Square (Tok Link)) right_side κ (ap (begins right_side) h) refl ∙ within_taken ts p Square (Tok Link) κ h
 
+-- behind a context and `=` comes a term
 pub context_equal : (ts : List Kind) (p : ℕ) (κ : Owed) → EndsItem κ → slice_get ts p ≡ Some Equal →
     stop_at ts p ((context_tail ∷ κ) ∷ []) ≡ stop_at ts (p + 1) ((Ref TermPart ∷ κ) ∷ [])
 context_equal ts p κ n h = opt_some ts p (Within Square (Tok Link) ∣ right_side) κ (dead_here ts p κ Equal h n.2)
     ∙ alt_right ts p (Within Square (Tok Link)) right_side κ (ap (begins (Within Square (Tok Link))) h) refl ∙ sign_taken ts p Equal (Ref TermPart) κ h
 
+-- a context stands alone where neither `[` nor `=` follows
 pub context_alone : (ts : List Kind) (p : ℕ) (κ : Owed) → (slice_get ts p ≡ Some LBracket → ⊥) → (slice_get ts p ≡ Some Equal → ⊥) →
     stop_at ts p ((context_tail ∷ κ) ∷ []) ≡ stop_at ts p (κ ∷ [])
 context_alone ts p κ b e = opt_none ts p (Within Square (Tok Link) ∣ right_side) κ (go (slice_get ts p) refl)
@@ -73,6 +80,7 @@ context_alone ts p κ b e = opt_none ts p (Within Square (Tok Link) ∣ right_si
 pub fact_int : (ts : List Kind) (p : ℕ) (κ : Owed) → slice_get ts p ≡ Some Int → stop_at ts p ((fact ∷ κ) ∷ []) ≡ stop_at ts (p + 1) (κ ∷ [])
 fact_int ts p κ h = advance ts p ((fact ∷ κ) ∷ []) Int κ [] h refl
 
+-- an operand that begins with a context is that
 pub fact_context : (ts : List Kind) (p : ℕ) (κ : Owed) → slice_get ts p ≡ Some Context → stop_at ts p ((fact ∷ κ) ∷ []) ≡ stop_at ts (p + 1) (κ ∷ [])
 fact_context ts p κ h = advance ts p ((fact ∷ κ) ∷ []) Context κ [] h refl
 
@@ -104,23 +112,29 @@ ends_plus ts p κ n b = go (slice_get ts p) refl
     go (Some Minus) h = dead_here ts p κ Minus h n.4
     go _ h = absurd (clash (sym (ap (begins plus) h) ∙ b))
 
+-- behind a sign of products comes one more operand
 pub times_more : (ts : List Kind) (p : ℕ) (κ : Owed) → EndsProduct κ → begins product_sign (slice_get ts p) ≡ true →
     stop_at ts p ((Many (product_sign · fact) ∷ κ) ∷ []) ≡ stop_at ts (p + 1) ((fact ∷ Many (product_sign · fact) ∷ κ) ∷ [])
 times_more ts p κ n h = many_some ts p (product_sign · fact) κ (ends_times ts p κ n h) ∙ seq ts p product_sign fact (Many (product_sign · fact) ∷ κ) ∙ one_taken ts p product_sign (fact ∷ Many (product_sign · fact) ∷ κ) times_one h
 
+-- and without one none
 pub times_done : (ts : List Kind) (p : ℕ) (κ : Owed) → begins product_sign (slice_get ts p) ≡ false → stop_at ts p ((Many (product_sign · fact) ∷ κ) ∷ []) ≡ stop_at ts p (κ ∷ [])
 times_done ts p κ h = many_none ts p (product_sign · fact) κ (begins_first product_sign fact (slice_get ts p) refl h) refl
 
+-- behind `+` or `-` comes one more product
 pub plus_more : (ts : List Kind) (p : ℕ) (κ : Owed) → EndsSum κ → begins plus (slice_get ts p) ≡ true →
     stop_at ts p ((Many (plus · product) ∷ κ) ∷ []) ≡ stop_at ts (p + 1) ((product ∷ Many (plus · product) ∷ κ) ∷ [])
 plus_more ts p κ n h = many_some ts p (plus · product) κ (ends_plus ts p κ n h) ∙ seq ts p plus product (Many (plus · product) ∷ κ) ∙ one_taken ts p plus (product ∷ Many (plus · product) ∷ κ) plus_one h
 
+-- and without them none
 pub plus_done : (ts : List Kind) (p : ℕ) (κ : Owed) → begins plus (slice_get ts p) ≡ false → stop_at ts p ((Many (plus · product) ∷ κ) ∷ []) ≡ stop_at ts p (κ ∷ [])
 plus_done ts p κ h = many_none ts p (plus · product) κ (begins_first plus product (slice_get ts p) refl h) refl
 
+-- a sum is a product, and more of them behind `+` or `-`
 pub sum_ref : (ts : List Kind) (p : ℕ) (κ : Owed) → stop_at ts p ((Ref SumPart ∷ κ) ∷ []) ≡ stop_at ts p ((product ∷ Many (plus · product) ∷ κ) ∷ [])
 sum_ref ts p κ = ref ts p SumPart κ ∙ seq ts p product (Many (plus · product)) κ
 
+-- a product is an operand, and more of them behind signs of products
 pub product_parts : (ts : List Kind) (p : ℕ) (κ : Owed) → stop_at ts p ((product ∷ κ) ∷ []) ≡ stop_at ts p ((fact ∷ Many (product_sign · fact) ∷ κ) ∷ [])
 product_parts ts p κ = seq ts p fact (Many (product_sign · fact)) κ
 
@@ -138,9 +152,11 @@ cmp_one NumEq κ h = refl
 cmp_one NumNe κ h = refl
 cmp_one _ κ h = absurd (clash h)
 
+-- a sign of comparison that is owed is passed
 pub cmp_taken : (ts : List Kind) (p : ℕ) (κ : Owed) → begins cmp (slice_get ts p) ≡ true → stop_at ts p ((cmp ∷ κ) ∷ []) ≡ stop_at ts (p + 1) (κ ∷ [])
 cmp_taken ts p κ h = one_taken ts p cmp κ cmp_one h
 
+-- where another token stands reading stops
 pub cmp_none : (ts : List Kind) (p : ℕ) (κ : Owed) → begins cmp (slice_get ts p) ≡ false → stop_at ts p ((cmp ∷ κ) ∷ []) ≡ p
 cmp_none ts p κ h = not_begun ts p cmp κ h refl
 
@@ -162,13 +178,16 @@ name_before (Some Quoted) h = refl
 name_before (Some Mod) h = refl
 name_before _ h = absurd (clash h)
 
+-- a condition that begins with a name goes on with its contexts, if any
 pub cond_name : (ts : List Kind) (p : ℕ) (κ : Owed) → begins name (slice_get ts p) ≡ true → stop_at ts p ((cond ∷ κ) ∷ []) ≡ stop_at ts (p + 1) ((Opt contexts ∷ κ) ∷ [])
 cond_name ts p κ h = alt_left ts p (name · Opt contexts) other_cond κ (name_before (slice_get ts p) h) refl ∙ seq ts p name (Opt contexts) κ ∙ name_taken ts p (Opt contexts ∷ κ) h
 
+-- contexts come where `(` stands
 pub contexts_some : (ts : List Kind) (p : ℕ) (κ : Owed) → next κ LParen ≡ [] → slice_get ts p ≡ Some LParen →
     stop_at ts p ((Opt contexts ∷ κ) ∷ []) ≡ stop_at ts (p + 1) ((some_of (Tok Context) ∷ Tok RParen ∷ κ) ∷ [])
 contexts_some ts p κ n h = opt_some ts p contexts κ (dead_here ts p κ LParen h n) ∙ within_taken ts p Round (some_of (Tok Context)) κ h
 
+-- and are missing where it doesn't
 pub contexts_none : (ts : List Kind) (p : ℕ) (κ : Owed) → (slice_get ts p ≡ Some LParen → ⊥) → stop_at ts p ((Opt contexts ∷ κ) ∷ []) ≡ stop_at ts p (κ ∷ [])
 contexts_none ts p κ h = opt_none ts p contexts κ (not_opened ts p Round (some_of (Tok Context)) h)
 
@@ -250,6 +269,7 @@ cond_binding ts p κ h h' = to_other_cond ts p κ (ap (begins name) h)
     (omega (arith, sign_taken ts p Context (Tok Differ · Tok Context) κ h, sign_dead ts (p + 1) Differ (Tok Context) κ (different ts (p + 1) Equal Differ h' refl)))
     ∙ signed_taken ts p Equal (Ref SumPart) κ h h'
 
+-- a condition of a context and `\=` goes on with a context
 pub cond_differ : (ts : List Kind) (p : ℕ) (κ : Owed) → slice_get ts p ≡ Some Context → slice_get ts (p + 1) ≡ Some Differ →
     stop_at ts p ((cond ∷ κ) ∷ []) ≡ stop_at ts (p + 1 + 1) ((Tok Context ∷ κ) ∷ [])
 cond_differ ts p κ h h' = to_other_cond ts p κ (ap (begins name) h)
@@ -259,6 +279,7 @@ cond_differ ts p κ h h' = to_other_cond ts p κ (ap (begins name) h)
     (omega (arith, signed_taken ts p Differ (Tok Context) κ h h', stop_at_from ts (p + 1 + 1) ((Tok Context ∷ κ) ∷ [])))
     ∙ signed_taken ts p Differ (Tok Context) κ h h'
 
+-- a condition that begins as none of the others is a comparison
 pub cond_comparison : (ts : List Kind) (p : ℕ) (κ : Owed) → begins name (slice_get ts p) ≡ false →
     (slice_get ts p ≡ Some Context → slice_get ts (p + 1) ≡ Some Equal → ⊥) → (slice_get ts p ≡ Some Context → slice_get ts (p + 1) ≡ Some Differ → ⊥) →
     stop_at ts p ((cond ∷ κ) ∷ []) ≡ stop_at ts p ((Ref SumPart ∷ cmp ∷ Ref SumPart ∷ κ) ∷ [])
@@ -266,6 +287,7 @@ cond_comparison ts p κ n e d = to_other_cond ts p κ n
     ∙ first_of_three _ _ _ _ (stop_at ts p ((Tok Context ∷ []) ∷ [])) (three ts p κ) (comparison_from ts p κ) (signed_stops ts p Equal (Ref SumPart) κ e) (signed_stops ts p Differ (Tok Context) κ d)
     ∙ seq3 ts p (Ref SumPart) cmp (Ref SumPart) κ
 
+-- a guard is a condition, more of them, and the bar
 pub guard_parts : (ts : List Kind) (p : ℕ) (κ : Owed) → stop_at ts p ((guard_bar ∷ κ) ∷ []) ≡ stop_at ts p ((cond ∷ more_of cond ∷ Tok Bar ∷ κ) ∷ [])
 guard_parts ts p κ = seq ts p guard (Tok Bar) κ ∙ seq ts p cond (more_of cond) (Tok Bar ∷ κ)
 

@@ -7,6 +7,7 @@ use Rattle.lmn_lexer.specs.declared.token.Kind.{Kind}
 use Rattle.lmn_lexer.specs.declared.token.Kind.TheVariants.{Name, Quoted, Mod, Link, Int, Context, RuleCtx, End, LParen, RParen, LBracket, RBracket, LBrace, RBrace, Comma, Dot, Arrow, AtAt, Bar, Backslash, Equal, Less, LessEq, Greater, GreaterEq, NumEq, NumNe, Differ, Plus, Minus, Star, Slash}
 use Rattle.lmn_base.proofs.Truth.{and_true, either_true as or_true}
 
+-- lists that are the same begin and go on alike
 pub cons_same : (a b : Kind) (x y : List Kind) → a ∷ x ≡ b ∷ y → (a ≡ b) × (x ≡ y)
 cons_same a b x y h = (cc, cc)
 
@@ -19,15 +20,19 @@ numbered : (t : Kind) → get_or all_kinds (kind_number t) End ≡ t
 numbered Name = refl
 numbered _ = refl
 
+-- kinds with one number are one
 pub same_number : (k t : Kind) → kind_number k ≡ kind_number t → k ≡ t
 same_number k t h = sym (numbered k) ∙ ap (λ n. get_or all_kinds n End) h ∙ numbered t
 
+-- kinds that pass the test are one
 pub same_kind : (k t : Kind) → is_kind k t ≡ true → k ≡ t
 same_kind k t h = same_number k t (eqb-true (kind_number k) (kind_number t) h)
 
+-- a kind passes the test against itself
 pub is_itself : (k t : Kind) → k ≡ t → is_kind k t ≡ true
 is_itself k t h = eq-eqb (kind_number k) (kind_number t) (ap kind_number h)
 
+-- the row is one of these
 abbrev pub IsIn : Owed → List Owed → Type 0
 IsIn κ [] = ⊥
 IsIn κ (x ∷ s) = (κ ≡ x) ⊎ IsIn κ s
@@ -63,12 +68,15 @@ abbrev pub DerivesAll : List Exp → List Kind → Type 0
 DerivesAll [] w = w ≡ []
 DerivesAll (e ∷ κ) w = (u : List Kind) × (v : List Kind) × (w ≡ u ++ v) × Derives e u × DerivesAll κ v
 
+-- the same tokens are derived
 pub derives_along : (κ : Owed) (a b : List Kind) → a ≡ b → DerivesAll κ a → DerivesAll κ b
 derives_along κ a b e h = let P : List Kind → Type 0 = λ x. DerivesAll κ x in subst P e h
 
+-- one of the rows that are owed derives the tokens
 abbrev pub Found : List Owed → List Kind → Type 0
 Found s w = (κ : Owed) × IsIn κ s × DerivesAll κ w
 
+-- a token derives itself alone
 pub of_tok : (k : Kind) (u : List Kind) → Derives (Tok k) u → u ≡ k ∷ []
 of_tok _ _ (here k) = refl
 
@@ -113,6 +121,7 @@ optional_in : (κ : Owed) (b : Bool) (s : List Owed) → b ≡ true → IsIn κ 
 optional_in κ true s e h = h
 optional_in κ false s e h = cc
 
+-- what may be owed behind a token derives the rest of what is owed before it
 pub sound : (f : ℕ) (e : Exp) (κ : Owed) (t : Kind) (w : List Kind) (κ' : Owed) → IsIn κ' (owed_after f e κ t) → DerivesAll κ' w → DerivesAll (e ∷ κ) (t ∷ w)
 sound f (Tok k) κ t w κ' i d = tok_case k t κ w κ' (is_kind k t) refl i d
 sound f (Seq a b) κ t w κ' i d = elim (in_either κ' (owed_after f a (b ∷ κ) t) _ i) [
@@ -129,6 +138,7 @@ sound f (Within b a) κ t w κ' i d = within_case b a t κ w κ' (is_kind (opene
 sound zero (Ref n) κ t w κ' i d = absurd i
 sound (suc f) (Ref n) κ t w κ' i d = let r = sound f (part_expression n) κ t w κ' i d in (r.0, r.1, r.2, by n r.0 r.3, r.4)
 
+-- so it is for a row
 pub sound_next : (κ : Owed) (t : Kind) (w : List Kind) (κ' : Owed) → IsIn κ' (next κ t) → DerivesAll κ' w → DerivesAll κ (t ∷ w)
 sound_next [] t w κ' i d = absurd i
 sound_next (e ∷ κ) t w κ' i d = elim (in_either κ' (owed_after 3 e κ t) _ i) [
@@ -182,6 +192,7 @@ part_empty SumPart = refl
 part_empty ClausePart = refl
 part_empty ClausesPart = refl
 
+-- what derives nothing may be empty
 pub empty_right : (e : Exp) (u : List Kind) → Derives e u → u ≡ [] → may_be_empty e ≡ true
 empty_right _ _ (here k) h = cc
 empty_right _ _ (both a b u v w e da db) h = and_from (may_be_empty a) (may_be_empty b) (empty_right a u da (append_nil_left u v (sym e ∙ h))) (empty_right b v db (append_nil_right u v (sym e ∙ h)))
@@ -221,6 +232,7 @@ tok_found : (b : Bool) (κ : Owed) (w : List Kind) → b ≡ true → DerivesAll
 tok_found true κ w e d = (κ, inl refl, d)
 tok_found false κ w e d = cc
 
+-- a word of an expression that begins with the token goes on in one of the ways that the expression owes then
 pub complete : (f : ℕ) (e : Exp) (u : List Kind) → Derives e u → fits f e ≡ true → (t : Kind) (u' : List Kind) → u ≡ t ∷ u' →
     (κ : Owed) (v : List Kind) → DerivesAll κ v → Found (owed_after f e κ t) (u' ++ v)
 complete f _ _ (here k) ok t u' h κ v d = along _ _ _ (ap (λ z. z ++ v) (tail_of k t u' h)) (tok_found (is_kind k t) κ v (is_itself k t (head_of k t u' h)) d)
@@ -250,6 +262,7 @@ complete f _ _ (inside b a x w e da) ok t u' h κ v d =
 complete zero _ _ (by n w da) ok t u' h κ v d = cc
 complete (suc f) _ _ (by n w da) ok t u' h κ v d = complete f (part_expression n) w da ok t u' h κ v d
 
+-- so it is for a row
 pub complete_next : (κ : Owed) (t : Kind) (w : List Kind) → DerivesAll κ (t ∷ w) → Found (next κ t) w
 complete_next [] t w d = cc
 complete_next (e ∷ κ) t w (u, v, q, de, dk) = elim (split t w u v (sym q)) [
@@ -257,11 +270,13 @@ complete_next (e ∷ κ) t w (u, v, q, de, dk) = elim (split t w u v (sym q)) [
   | inr x ↦ found_left (owed_after 3 e κ t) _ w (along _ _ _ (sym x.2) (complete 3 e u de (all_fit e) t x.0 x.1 κ v dk))
 ]
 
+-- and for several rows
 pub complete_nexts : (s : List Owed) (t : Kind) (w : List Kind) → Found s (t ∷ w) → Found (nexts s t) w
 complete_nexts [] t w (κ, i, d) = absurd i
 complete_nexts (x ∷ s) t w (κ, inl e, d) = let P : Owed → Type 0 = λ k. DerivesAll k (t ∷ w) in found_left (next x t) (nexts s t) w (complete_next x t w (subst P e d))
 complete_nexts (x ∷ s) t w (κ, inr i, d) = found_right (next x t) (nexts s t) w (complete_nexts s t w (κ, i, d))
 
+-- what may be owed behind a token by several rows derives the rest
 pub sound_nexts : (s : List Owed) (t : Kind) (w : List Kind) → Found (nexts s t) w → Found s (t ∷ w)
 sound_nexts [] t w (κ, i, d) = absurd i
 sound_nexts (x ∷ s) t w (κ, i, d) = elim (in_either κ (next x t) (nexts s t) i) [
@@ -282,6 +297,7 @@ completed (Ref SumPart) = (Int ∷ [], by SumPart _ (both _ _ (Int ∷ []) [] _ 
 completed (Ref ClausePart) = (RuleCtx ∷ [], by ClausePart _ (right _ _ _ (both _ _ (RuleCtx ∷ []) [] _ refl (right _ _ _ (right _ _ _ (right _ _ _ (right _ _ _ (left _ _ _ (here RuleCtx)))))) (no_more _))))
 completed (Ref ClausesPart) = ([], by ClausesPart _ (without _))
 
+-- each row derives some word
 pub all_completed : (κ : Owed) → (w : List Kind) × DerivesAll κ w
 all_completed [] = ([], refl)
 all_completed (e ∷ κ) = let x = completed e in let y = all_completed κ in (x.0 ++ y.0, (x.0, y.0, refl, x.1, y.1))

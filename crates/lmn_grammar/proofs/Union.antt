@@ -19,6 +19,7 @@ joined p (κ ∷ n) (κ' ∷ n') a b c la lb e x y = e
 twice : (p : ℕ) → p ≡ max p p
 twice p = omega arith
 
+-- several rows are read as far as the one that goes farthest
 pub union : (w : List Kind) (p : ℕ) (s s' : List Owed) → stop p (s ++ s') w ≡ max (stop p s w) (stop p s' w)
 union [] p s s' = stop_none p (s ++ s') ∙ twice p ∙ sym (ap (λ x. max x (stop p s' [])) (stop_none p s) ∙ ap (max p) (stop_none p s'))
 union (t ∷ w) p s s' =
@@ -32,5 +33,6 @@ union (t ∷ w) p s s' =
     (λ e. ap (λ x. stop (suc p) (x ++ n') w) e) (λ e. ap (λ x. stop (suc p) (n ++ x) w) e ∙ ap (λ x. stop (suc p) x w) (plus_nothing n))
     ∙ sym (ap (λ r. max r (stop p s' (t ∷ w))) (stop_cons p s t w) ∙ ap (λ r. max (unless_dead p n a) r) (stop_cons p s' t w))
 
+-- and so are two
 pub union_at : (ts : List Kind) (p : ℕ) (κ κ' : Owed) → stop_at ts p (κ ∷ κ' ∷ []) ≡ max (stop_at ts p (κ ∷ [])) (stop_at ts p (κ' ∷ []))
 union_at ts p κ κ' = union (drop p ts) p (κ ∷ []) (κ' ∷ [])

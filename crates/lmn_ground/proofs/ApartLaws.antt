@@ -27,6 +27,7 @@ same_self m x y e f = subst (λ (p : ℕ × ℕ). SameGraph m x m p) (λ i. (e i
   root = refl;
 })
 
+-- equal parts have one functor at their roots
 pub same_root_functor : (s : Heap) (x y : ℕ × ℕ) → SameGraph (atom_map s) x (atom_map s) y → functor_of s y.0 ≡ functor_of s x.0
 same_root_functor s x y g = sym (ap (λ (p : ℕ × ℕ). functor_of s p.0) g.root) ∙ g.functors x.0 at_root
 

@@ -22,9 +22,11 @@ use Rattle.lmn_heap.proofs.Common.{decide_in as in_or_not}
 clean_by : (s t : Heap) → ((a : ℕ) → arity_of t a ≡ arity_of s a) → ((a i : ℕ) → mark_of t a i ≡ mark_of s a i) → PortsUnmarked s → PortsUnmarked t
 clean_by s t e f c a i l = f a i ∙ c a i (let h = e a in omega (arith, h, l))
 
+-- a heap that stays as it is stays unmarked
 pub clean_same : (s t : Heap) → t ≡ s → PortsUnmarked s → PortsUnmarked t
 clean_same s t e c = subst PortsUnmarked (sym e) c
 
+-- a lone root has no marks
 pub clean_lone : (s : Heap) → s ≡ lone_root → PortsUnmarked s
 clean_lone s e = clean_same lone_root s e (λ a i l. absurd (omega (arith, l)))
 
@@ -35,6 +37,7 @@ views f b h view k a = elim (cases_eq a b) [
   | inr d ↦ ap view (alter_away f b (option_map h) a d)
 ]
 
+-- no mark comes when an atom is placed
 pub clean_placed : (s t : Heap) (m b : ℕ) → t ≡ placed s m b → PortsUnmarked s → PortsUnmarked t
 clean_placed s t m b e c = clean_same (placed s m b) t e (clean_by s (placed s m b)
     (λ a. views s.atoms b (with_place (within m)) (λ (o : Option HeapAtom). length (partners_of o)) links a)
@@ -65,14 +68,17 @@ all_clean : (s : Heap) (xs : List ℕ) → PortsUnmarked s → PortsUnmarked (ta
 all_clean s [] c = c
 all_clean s (x ∷ xs) c = all_clean (taken s x) xs (clean_taken s x c)
 
+-- nor when atoms are taken
 pub clean_all_taken : (s t : Heap) (xs : List ℕ) → t ≡ taken_all s xs → PortsUnmarked s → PortsUnmarked t
 clean_all_taken s t xs e c = clean_same (taken_all s xs) t e (all_clean s xs c)
 
+-- nor when ports are joined
 pub clean_joined : (s t : Heap) (a i b j : ℕ) → t ≡ joined s a i b j → PortsUnmarked s → PortsUnmarked t
 clean_joined s t a i b j e c = clean_same (joined s a i b j) t e (clean_by s (joined s a i b j)
     (λ x. joined_view (λ (o : Option HeapAtom). length (partners_of o)) arity_linked s a i b j x)
     (λ x k. ap (λ (xs : List ℕ). slice_index_or xs k 0) (joined_view marks_of marks_linked s a i b j x)) c)
 
+-- nor when an atom is made
 pub clean_made : (s t : Heap) (b : ℕ) (f : Functor) → t ≡ made_atom s b f → PortsUnmarked s → PortsUnmarked t
 clean_made s t b f e c = clean_same (made_atom s b f) t e (λ a i l. elim (cases_eq a b) [
   | inl h ↦ subst (λ (z : ℕ). mark_of (made_atom s b f) z i ≡ 0) (sym h) (ap (λ (o : Option HeapAtom). slice_index_or (marks_of o) i 0) (alter_at s.atoms b (λ _. Some (new_atom f))) ∙ no_marks (f.arity + 1) i)
@@ -80,9 +86,11 @@ clean_made s t b f e c = clean_same (made_atom s b f) t e (λ a i l. elim (cases
       ∙ c a i (let h = ap (λ (o : Option HeapAtom). length (partners_of o)) (alter_away s.atoms b (λ _. Some (new_atom f)) a d) in omega (arith, h, l))
 ])
 
+-- nor when a membrane is made
 pub clean_made_mem : (s t : Heap) (m : ℕ) → t ≡ made_mem s m → PortsUnmarked s → PortsUnmarked t
 clean_made_mem s t m e c = clean_same (made_mem s m) t e c
 
+-- nor when one is placed
 pub clean_placed_mem : (s t : Heap) (m n : ℕ) → t ≡ placed_mem s m n → PortsUnmarked s → PortsUnmarked t
 clean_placed_mem s t m n e c = clean_same (placed_mem s m n) t e c
 
@@ -114,19 +122,23 @@ clean_beside s t ys b c a i l = elim (in_or_not a ys) [
       ap (λ (o : Option HeapAtom). slice_index_or (marks_of o) i 0) (b.kept a d) ∙ c a i (omega (arith, h, l))
 ]
 
+-- no mark comes when a part is copied
 pub clean_copied : (s t : Heap) (x y : ℕ × ℕ) → Copied s t x y → PortsUnmarked s → PortsUnmarked t
 clean_copied s t x y h c = clean_beside s t h.copies h.beside c
 
+-- nor where a heap remains
 pub clean_remains : (s t : Heap) → Remains s t → PortsUnmarked s → PortsUnmarked t
 clean_remains s t h c = clean_beside s t h.copies h.beside c
 
 -- what is ground in a membrane
 
+-- a part that is ground in a membrane is whole
 pub ground_full : (s t : Heap) (root : ℕ × ℕ) (home : ℕ) → Sound s → IsGroundIn s root home → t ≡ s → IsWhole t root None
 ground_full s t root home sound g e =
     let f = (fits_ground s root home sound).1 g in
     subst (λ (h : Heap). IsWhole h root None) (sym e) (record { atoms = λ a r. tt; ends = f.ends })
 
+-- each atom of a ground part is in place
 pub ground_placed : (s t : Heap) (root : ℕ × ℕ) (home : ℕ) → IsGroundIn s root home → t ≡ s → (a : ℕ) → Reached (atom_map t) root a → IsInPlace t a
 ground_placed s t root home g e = subst (λ (h : Heap). (a : ℕ) → Reached (atom_map h) root a → IsInPlace h a) (sym e) (λ a r. by (home_of s a) (g.whole.at_home a r))
   where
@@ -134,15 +146,18 @@ ground_placed s t root home g e = subst (λ (h : Heap). (a : ℕ) → Reached (a
     by None q = absurd (cc)
     by (Some m) q = refl
 
+-- ground parts in different membranes share no atom
 pub ground_apart : (s t : Heap) (x y : ℕ × ℕ) (m n : ℕ) → IsGroundIn s x m → IsGroundIn s y n → m ≢ n → t ≡ s → (a : ℕ) → Reached (atom_map t) x a → Reached (atom_map t) y a → ⊥
 ground_apart s t x y m n g h d e = subst (λ (k : Heap). (a : ℕ) → Reached (atom_map k) x a → Reached (atom_map k) y a → ⊥) (sym e) (λ a p q.
     let f : ◌≡◌ {A = Option ℕ} (Some m) (Some n) = sym (g.whole.at_home a p) ∙ h.whole.at_home a q in
     let f' : m ≡ n = (cc) in
     d f')
 
+-- no mark stays whether a copy was made or not
 pub clean_answer : {A E : Type 0} (s t : Heap) (r : Result A E) (x : ℕ × ℕ) (y : A → ℕ × ℕ) → IfOk r (λ c. Copied s t x (y c)) → OnErr r (Remains s t) → PortsUnmarked s → PortsUnmarked t
 clean_answer s t (Ok c) x y h e k = clean_copied s t x (y c) h k
 clean_answer s t (Err n) x y h e k = clean_remains s t e k
 
+-- a port without a partner has none
 pub no_partner : (o : Option (ℕ × ℕ)) (b j : ℕ) → o ≡ None → o ≡ Some (b, j) → ⊥
 no_partner o b j n e = let g : ◌≡◌ {A = Option (ℕ × ℕ)} None (Some (b, j)) = sym n ∙ e in absurd (cc)

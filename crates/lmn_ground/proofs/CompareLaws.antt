@@ -51,6 +51,7 @@ pub still_there : (s now to : Heap) (x y : ℕ × ℕ) (xs ys seen seen' : List 
 still_there s now to x y xs ys seen seen' depth a c i count depth' a' c' i' count' z w u is =
     subst (λ (h : Heap). IsAtom h z) (sym u.walk.is) (is_painted s u.walk.marks z (painted_is s w.walk.marks z (subst (λ (h : Heap). IsAtom h z) w.walk.is is)))
 
+-- atoms stay while two parts are compared
 pub there_first : (s to : Heap) (x y : ℕ × ℕ) (xs ys seen : List ℕ) (depth a c i count z : ℕ) → Following s to x y xs ys seen depth a c i count → IsAtom s z → IsAtom to z
 there_first s to x y xs ys seen depth a c i count z u is = subst (λ (h : Heap). IsAtom h z) (sym u.walk.is) (is_painted s u.walk.marks z is)
 

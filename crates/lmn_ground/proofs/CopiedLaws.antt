@@ -32,6 +32,7 @@ use Rattle.lmn_base.specs.Lists.{In}
 abbrev no_mark : ℕ
 no_mark = 0
 
+-- a new atom has no marks
 pub no_marks : (n i : ℕ) → slice_index_or (replicate n no_mark) i no_mark ≡ no_mark
 no_marks zero i = refl
 no_marks (suc n) zero = refl
@@ -333,6 +334,7 @@ first_answer id s root xs (y ∷ ys) c part e =
     subst (λ (zs : List ℕ). id c ≡ answer zs (id y ∷ map id ys) root.0) (sym r.1)
     (ap id (sym g) ∙ sym (answer_here root.0 (id y) r.0 (map id ys) root.0 refl))
 
+-- a part has a first atom, and so have its copies
 pub some_first : {A : Type 0} (id : A → ℕ) (s : Heap) (root : ℕ × ℕ) (xs ys : List A) → IsPartInDepth s root (map id xs) → length ys ≡ length xs → 0 < length ys
 some_first id s root xs ys part e =
     let r = begins (net s).arity _ part in
@@ -452,6 +454,7 @@ beside_alone s t ys d h a i b j place link = elim (in_or_not a ys) [
     gone_by None e f = absurd (cc)
     gone_by (Some x) e f = absurd (cc)
 
+-- what waits is alone whether a copy was made or not
 pub alone_after : {A E : Type 0} (s t u : Heap) (r : Result A E) (x : ℕ × ℕ) (y : A → ℕ × ℕ) → IfOk r (λ c. Copied s t x (y c)) → OnErr r (Remains s t) → u ≡ t → Alone s → Alone u
 alone_after s t u (Ok c) x y h k e d = subst Alone (sym e) (beside_alone s t h.copies h.beside d)
 alone_after s t u (Err n) x y h k e d = subst Alone (sym e) (beside_alone s t k.copies k.beside d)

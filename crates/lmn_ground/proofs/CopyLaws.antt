@@ -31,31 +31,39 @@ drop_get (y ∷ xs) (suc k) x e = drop_get xs k x e
 get_map : {A : Type 0} (id : A → ℕ) (xs : List A) (k : ℕ) (a : A) → slice_get xs k ≡ Some a → slice_get (map id xs) k ≡ Some (id a)
 get_map id xs k a e = slice_get-map id xs k ∙ ap (option_map id) e
 
+-- what stands in a list has its number among the numbers
 pub member : {A : Type 0} (id : A → ℕ) (xs : List A) (k : ℕ) (a : A) → slice_get xs k ≡ Some a → In (id a) (map id xs)
 member id xs k a e = in_at (map id xs) k (id a) (get_map id xs k a e)
 
+-- the numbers from a place on begin with that of what stands there
 pub drop_map : {A : Type 0} (id : A → ℕ) (xs : List A) (k : ℕ) (a : A) → slice_get xs k ≡ Some a → drop k (map id xs) ≡ id a ∷ drop (k + 1) (map id xs)
 drop_map id xs k a e = drop_get (map id xs) k (id a) (get_map id xs k a e) ∙ ap (λ (n : ℕ). id a ∷ drop n (map id xs)) (sym (add-one k))
 
+-- as many numbers as handles
 pub length_map : {A : Type 0} (id : A → ℕ) (xs : List A) → length (map id xs) ≡ length xs
 length_map id [] = refl
 length_map id (x ∷ xs) = ap suc (length_map id xs)
 
+-- a handle behind has its number behind
 pub map_snoc : {A : Type 0} (id : A → ℕ) (xs : List A) (a : A) → map id (xs ++ a ∷ []) ≡ map id xs ++ id a ∷ []
 map_snoc id [] a = refl
 map_snoc id (x ∷ xs) a = ap (λ ys. id x ∷ ys) (map_snoc id xs a)
 
+-- lists of handles that are as long have as many numbers
 pub map_long : {A : Type 0} (id : A → ℕ) (xs ys : List A) → length xs ≡ length ys → length (map id xs) ≡ length (map id ys)
 map_long id xs ys e = length_map id xs ∙ e ∙ sym (length_map id ys)
 
+-- nothing has the length 0
 pub none_long : {A : Type 0} (xs : List A) → xs ≡ [] → length xs ≡ 0
 none_long xs e = ap (λ ys. length ys) e
 
+-- one more is one longer
 pub one_longer : {A : Type 0} (xs : List A) (a : A) (ys : List A) (k : ℕ) → length xs ≡ k → ys ≡ xs ++ a ∷ [] → length ys ≡ k + 1
 one_longer xs a ys k h e = let l = length-append xs (a ∷ []) in let g = ap (λ zs. length zs) e in omega (arith, h, l, g)
 
 -- the copy with the number of an atom
 
+-- the mark of an atom names its copy
 pub answer_at : {A : Type 0} (id : A → ℕ) (v : ℕ → ℕ) (k : ℕ) (xs : List ℕ) (ys : List A) (b : ℕ) (y : A) → Numbered v k xs → In b xs
     → slice_get ys (v b / 256 - k) ≡ Some y → id y ≡ answer xs (map id ys) b
 answer_at id v k [] ys b y n i e = absurd i
@@ -78,11 +86,13 @@ number_high v k b [] n i = absurd i
 number_high v k b (x ∷ xs) n (inl e) = let m : v b / 256 ≡ k = ap (λ (w : ℕ). v w / 256) (sym e) ∙ n.0 in omega (arith, m)
 number_high v k b (x ∷ xs) n (inr i) = let h = number_high v (suc k) b xs n.1 i in omega (arith, h)
 
+-- and is below the number of copies
 pub number_below : {A : Type 0} (id : A → ℕ) (v : ℕ → ℕ) (k b : ℕ) (xs ys : List A) → Numbered v k (map id xs) → In b (map id xs) → length ys ≡ length xs → v b / 256 - k < length ys
 number_below id v k b xs ys n i e = let h = number_high v k b (map id xs) n i in let l = length_map id xs in omega (arith, h, e, l)
 
 -- marks are taken back
 
+-- atoms stay when one is marked
 pub marked_there : (s : Heap) (b k m : ℕ) (xs : List ℕ) → AllAtoms s xs → AllAtoms (marked s b k m) xs
 marked_there s b k m xs h x i = elim (cases_eq x b) [
   | inl e ↦ subst (λ (z : ℕ). IsSome (alter s.atoms b (option_map (with_mark k m)) z)) (sym e)
@@ -96,6 +106,7 @@ marked_there s b k m xs h x i = elim (cases_eq x b) [
 
 -- atoms are made
 
+-- no copies are made at first
 pub made_nil : (s : Heap) (xs : List ℕ) → s ≡ made_like s xs []
 made_nil s [] = refl
 made_nil s (x ∷ xs) = refl
@@ -104,12 +115,14 @@ as_away : (s : Heap) (b c : ℕ) (o : Option Functor) → c ≢ b → (made_as s
 as_away s b c None d = refl
 as_away s b c (Some f) d = alter_away s.atoms b (λ _. Some (new_atom f)) c d
 
+-- other atoms stay when copies are made
 pub made_away : (s : Heap) (xs ys : List ℕ) (c : ℕ) → (In c ys → ⊥) → (made_like s xs ys).atoms c ≡ s.atoms c
 made_away s [] ys c n = refl
 made_away s (x ∷ xs) [] c n = refl
 made_away s (x ∷ xs) (y ∷ ys) c n =
     made_away (made_as s y (functor_of s x)) xs ys c (λ k. n (inr k)) ∙ as_away s y c (functor_of s x) (λ e. n (inl (sym e)))
 
+-- an atom that is there is none that is not
 pub is_not : (s : Heap) (a b : ℕ) → IsAtom s a → s.atoms b ≡ None → a ≢ b
 is_not s a b is none e = by (s.atoms b) (subst (λ (z : ℕ). IsAtom s z) e is) none
   where
@@ -117,6 +130,7 @@ is_not s a b is none e = by (s.atoms b) (subst (λ (z : ℕ). IsAtom s z) e is) 
     by None i f = absurd (cc)
     by (Some h) i f = absurd (cc)
 
+-- an atom has a functor
 pub has_functor : (s : Heap) (x : ℕ) → IsAtom s x → (f : Functor) × (functor_of s x ≡ Some f)
 has_functor s x is = by (s.atoms x) is
   where
@@ -128,6 +142,7 @@ has_functor s x is = by (s.atoms x) is
 pub as_there : (s : Heap) (y : ℕ) (o : Option Functor) (xs : List ℕ) → AllAtoms s xs → s.atoms y ≡ None → AllAtoms (made_as s y o) xs
 as_there s y o xs h none x i = subst (λ (q : Option HeapAtom). IsSome q) (sym (as_away s y x o (is_not s x y (h x i) none))) (h x i)
 
+-- the others are still new when one is made
 pub as_new : (s : Heap) (y : ℕ) (o : Option Functor) (ys : List ℕ) → AreNew s (y ∷ ys) → AreNew (made_as s y o) ys
 as_new s y o ys h = (h.0.1, λ z i. as_away s y z o (λ e. each_in (λ (w : ℕ). y ≢ w) ys z h.0.0 i (sym e)) ∙ h.1 z (inr i))
 
@@ -177,6 +192,7 @@ made_snoc s (z ∷ xs) [] x b f e g =
     ap (made_as s b) (sym (ap (functor_of s) h ∙ g)) ∙ made_nil (made_as s b (functor_of s z)) xs
 made_snoc s (z ∷ xs) (y ∷ ys) x b f e g = made_snoc (made_as s y (functor_of s z)) xs ys x b f e g
 
+-- nothing is made at first
 pub made_first : {A : Type 0} (id : A → ℕ) (s : Heap) (xs : List ℕ) (ys : List A) → ys ≡ [] → Made s s xs (map id ys)
 made_first {A = A} id s xs ys e = subst (λ (zs : List A). Made s s xs (map id zs)) (sym e) (record { fresh = (tt, λ y i. absurd i); is = made_nil s xs; short = omega arith })
 
@@ -206,11 +222,13 @@ module _ {A : Type 0} (id : A → ℕ) (s now : Heap) (xs ys : List A) (made : M
   pub made_next : (to : Heap) → to ≡ made_atom now (id b) f → (zs : List A) → zs ≡ ys ++ b ∷ [] → Made s to (map id xs) (map id zs)
   made_next to e zs g = subst (λ (ws : List ℕ). Made s to (map id xs) ws) (sym (ap (map id) g ∙ map_snoc id ys b)) (made_more to e)
 
+-- atoms stay when one is made
 pub made_keeps : (s to : Heap) (b : ℕ) (f : Functor) (xs : List ℕ) → to ≡ made_atom s b f → s.atoms b ≡ None → AllAtoms s xs → AllAtoms to xs
 made_keeps s to b f xs e none h = subst (λ (t : Heap). AllAtoms t xs) (sym e) (as_there s b (Some f) xs h none)
 
 -- ports are joined
 
+-- a port that isn't the root doesn't pass the test
 pub other_port : (a i : ℕ) (root : ℕ × ℕ) → ((a ≡ root.0) × (i ≡ root.1) → ⊥) → is_port (a, i) root ≡ false
 other_port a i root d = by (is_port (a, i) root) refl
   where
@@ -218,16 +236,19 @@ other_port a i root d = by (is_port (a, i) root) refl
     by true e = let g = same_port a i root e in absurd (d (ap (λ (p : ℕ × ℕ). p.0) g, ap (λ (p : ℕ × ℕ). p.1) g))
     by false e = e
 
+-- the copies of two joined ports differ
 pub port_differs : (s : Heap) (root : ℕ × ℕ) (xs ys : List ℕ) (a i b j c d : ℕ) → Copying s root xs ys → In a xs → is_port (a, i) root ≡ false → link_of s a i ≡ Some (b, j)
     → c ≡ answer xs ys a → d ≡ answer xs ys b → ◌≢◌ {A = ℕ × ℕ} (c, i) (d, j)
 port_differs s root xs ys a i b j c d t a_in other link e f same =
     copies_differ s root xs ys t a i a_in b j other link (λ k. let p : ℕ × ℕ = ((sym e ∙ ap (λ (p : ℕ × ℕ). p.0) same ∙ f) k, (ap (λ (p : ℕ × ℕ). p.1) same) k) in p)
 
+-- they are joined as the two ports are
 pub port_is_joined : (s to : Heap) (root : ℕ × ℕ) (f : ℕ → ℕ) (a i b j c d : ℕ) → to ≡ joined s c i d j → is_port (a, i) root ≡ false → link_of s a i ≡ Some (b, j)
     → c ≡ f a → d ≡ f b → to ≡ joined_like f root s (a, i)
 port_is_joined s to root f a i b j c d made other link e g =
     made ∙ ap (λ (x : ℕ). joined s x i d j) e ∙ ap (λ (x : ℕ). joined s (f a) i x j) g ∙ sym (like_some f root s a i b j other link)
 
+-- the ports of an atom from one on begin with it
 pub ports_first : (a i n : ℕ) → i < n → port_range a i (n - i) ≡ (a, i) ∷ port_range a (i + 1) (n - (i + 1))
 ports_first a i n l = ap (port_range a i) (let e : n - i ≡ suc (n - (i + 1)) = omega (arith, l) in e)
 
@@ -262,9 +283,11 @@ module _ (root : ℕ × ℕ) (f : ℕ → ℕ) (s to : Heap) where
       ∙ sym (all_append f root s (port_range (id a) 0 (arity_of start (id a))) (ports_of start (drop (k + 1) (map id xs))))
       ∙ sym (ap (λ (zs : List ℕ). all_joined f root s (ports_of start zs)) (drop_map id xs k a get)) ∙ h
 
+-- one mark less is left to be cleared
 pub clear_done : {A : Type 0} (id : A → ℕ) (s to goal : Heap) (xs : List A) (k : ℕ) (a : A) → slice_get xs k ≡ Some a → to ≡ marked s (id a) 0 0
     → unmarked_all s (drop k (map id xs)) ≡ goal → unmarked_all to (drop (k + 1) (map id xs)) ≡ goal
 clear_done id s to goal xs k a get e h = ap (λ (t : Heap). unmarked_all t (drop (k + 1) (map id xs))) e ∙ sym (ap (unmarked_all s) (drop_map id xs k a get)) ∙ h
 
+-- atoms stay when a mark is cleared
 pub clear_there : (s to : Heap) (b : ℕ) (xs : List ℕ) → to ≡ marked s b 0 0 → AllAtoms s xs → AllAtoms to xs
 clear_there s to b xs e h = subst (λ (t : Heap). AllAtoms t xs) (sym e) (marked_there s b 0 0 xs h)

@@ -64,6 +64,7 @@ module _ (arity arity' : ℕ → ℕ) (to to' : ℕ × ℕ → Option ℕ) (f : 
       (subst (λ (qs : List (ℕ × ℕ)). Walk arity' to' (map f seen ++ f b ∷ []) qs (map f all)) (moved_ports b 0 (arity b) ps)
       (subst (λ (xs : List ℕ). Walk arity' to' xs (map (moved f) (port_range b 0 (arity b) ++ ps)) (map f all)) (map_snoc seen b) v)))
 
+-- two ports are the same or they are not
 pub same_or_not : (p q : ℕ × ℕ) → (p ≡ q) ⊎ (p ≡ q → ⊥)
 same_or_not p q = elim (cases_eq p.0 q.0) [
   | inl e ↦ elim (cases_eq p.1 q.1) [

@@ -27,6 +27,7 @@ use Rattle.lmn_heap.proofs.Replacing.{port_within as link_inside}
 use Rattle.lmn_base.specs.Lists.{In}
 use Rattle.lmn_base.proofs.Lists.{in_snoc}
 
+-- ports with nothing behind are these
 pub to_none : (ps : List (ℕ × ℕ)) → ps ++ [] ≡ ps
 to_none [] = refl
 to_none (p ∷ ps) = ap (λ qs. p ∷ qs) (to_none ps)

@@ -19,6 +19,7 @@ use Rattle.lmn_base.specs.Lists.{In}
 pub root_there : (before now : Heap) (root : ℕ × ℕ) (count : ℕ) (all : Bool) → Spread before now root count all → IsAtom before root.0 → IsAtom now root.0
 root_there before now root count all t i = subst (λ (s : Heap). IsAtom s root.0) (sym t.is) (is_painted before t.marks root.0 i)
 
+-- the port of the root is still there after the walk
 pub root_port_there : (before now : Heap) (root : ℕ × ℕ) (count : ℕ) (all : Bool) → Spread before now root count all → root.1 < arity_of before root.0 → root.1 < arity_of now root.0
 root_port_there before now root count all t l = subst (λ (n : Net). root.1 < n.arity root.0) (sym (ap net t.is ∙ net_painted before t.marks)) l
 
@@ -80,8 +81,10 @@ one_size s root all xs w are =
     let g = not_longer xs all are.0 (λ x k. (p.1 x).1 ((are.1 x).0 k)) in
     omega (arith, h, g)
 
+-- a walk counts the atoms of the part
 pub size_is : (before now : Heap) (root : ℕ × ℕ) (count : ℕ) (all : Bool) → Spread before now root count all → all ≡ true → (xs : List ℕ) → AreAtoms before root xs → count ≡ length xs
 size_is before now root count all t e xs are = sym t.counted ∙ one_size before root t.seen xs (t.whole e) are
 
+-- and lists them
 pub some_part : (before now : Heap) (root : ℕ × ℕ) (count : ℕ) (all : Bool) → Spread before now root count all → all ≡ true → (xs : List ℕ) × IsPartInDepth before root xs × (length xs ≡ count)
 some_part before now root count all t e = (t.seen, t.whole e, t.counted)

@@ -51,6 +51,7 @@ like_by f root s p P same step = by (is_port p root) refl (link_of s p.0 p.1) re
     by false e None g = same (inr g)
     by false e (Some q) g = step q.0 q.1 e g
 
+-- what partners don't change stays when ports are joined
 pub all_view : {X : Type 0} (view : Option HeapAtom → X) → ((i : ℕ) (p : Option (ℕ × ℕ)) (o : Option HeapAtom) → view (option_map (with_link i p) o) ≡ view o)
     → (f : ℕ → ℕ) (root : ℕ × ℕ) (s : Heap) (ps : List (ℕ × ℕ)) (c : ℕ) → view ((all_joined f root s ps).atoms c) ≡ view (s.atoms c)
 all_view view h f root s [] c = refl
@@ -203,33 +204,42 @@ module _ (s : Heap) (root : ℕ × ℕ) (xs ys : List ℕ) (t : Copying s root x
         none (inl e) = d (is_root_port a i root e)
         none (inr e) = let is' = subst (λ (o : Option (ℕ × ℕ)). IsSome o) e is in absurd (cc)
 
+-- a port is joined as its original is
 pub like_some : (f : ℕ → ℕ) (root : ℕ × ℕ) (s : Heap) (a i b j : ℕ) → is_port (a, i) root ≡ false → link_of s a i ≡ Some (b, j) → joined_like f root s (a, i) ≡ joined s (f a) i (f b) j
 like_some f root s a i b j e g = rw (e, g) refl
 
+-- ports of two lists are joined one list after the other
 pub all_append : (f : ℕ → ℕ) (root : ℕ × ℕ) (s : Heap) (ps qs : List (ℕ × ℕ)) → all_joined f root s (ps ++ qs) ≡ all_joined f root (all_joined f root s ps) qs
 all_append f root s [] qs = refl
 all_append f root s (p ∷ ps) qs = all_append f root (joined_like f root s p) ps qs
 
+-- an atom keeps its marks with another partner
 pub marks_linked : (i : ℕ) (p : Option (ℕ × ℕ)) (o : Option HeapAtom) → marks_of (option_map (with_link i p) o) ≡ marks_of o
 marks_linked i p None = refl
 marks_linked i p (Some x) = refl
 
+-- and so do all when ports are joined
 pub all_marks : (f : ℕ → ℕ) (root : ℕ × ℕ) (s : Heap) (ps : List (ℕ × ℕ)) (c k : ℕ) → mark_of (all_joined f root s ps) c k ≡ mark_of s c k
 all_marks f root s ps c k = ap (λ (xs : List ℕ). slice_index_or xs k 0) (all_view marks_of marks_linked f root s ps c)
 
+-- an atom keeps its arity
 pub arity_linked : (i : ℕ) (p : Option (ℕ × ℕ)) (o : Option HeapAtom) → length (partners_of (option_map (with_link i p) o)) ≡ length (partners_of o)
 arity_linked i p None = refl
 arity_linked i p (Some x) = length-set x.links i p
 
+-- and so do all
 pub all_arity : (f : ℕ → ℕ) (root : ℕ × ℕ) (s : Heap) (ps : List (ℕ × ℕ)) (c : ℕ) → arity_of (all_joined f root s ps) c ≡ arity_of s c
 all_arity f root s ps c = all_view (λ (o : Option HeapAtom). length (partners_of o)) arity_linked f root s ps c
 
+-- also when one port is joined
 pub like_arity : (f : ℕ → ℕ) (root : ℕ × ℕ) (s : Heap) (p : ℕ × ℕ) (c : ℕ) → arity_of (joined_like f root s p) c ≡ arity_of s c
 like_arity f root s p c = all_arity f root s (p ∷ []) c
 
+-- marks tell the same numbers then
 pub like_numbers : (f : ℕ → ℕ) (root : ℕ × ℕ) (s : Heap) (p : ℕ × ℕ) (k : ℕ) (xs : List ℕ) → Numbered (first_marks s) k xs → Numbered (first_marks (joined_like f root s p)) k xs
 like_numbers f root s p k xs n = numbered_same (first_marks s) (first_marks (joined_like f root s p)) k xs n (λ z i. all_marks f root s (p ∷ []) z 0)
 
+-- and when all are joined
 pub all_numbers : (f : ℕ → ℕ) (root : ℕ × ℕ) (s : Heap) (ps : List (ℕ × ℕ)) (k : ℕ) (xs : List ℕ) → Numbered (first_marks s) k xs → Numbered (first_marks (all_joined f root s ps)) k xs
 all_numbers f root s ps k xs n = numbered_same (first_marks s) (first_marks (all_joined f root s ps)) k xs n (λ z i. all_marks f root s ps z 0)
 
@@ -265,6 +275,7 @@ module _ (root : ℕ × ℕ) (xs ys : List ℕ) where
       all_joins (joined_like (answer xs ys) root s p) ps (like_copying s root xs ys t p.0 p.1 (h p (inl refl))) (λ q m. h q (inr m)) a i k d
       (subst (λ (o : Option (ℕ × ℕ)). IsSome o) (sym (ap (λ (o : Option HeapAtom). slice_index_or (partners_of o) i None) (like_away s root xs ys t p.0 p.1 (h p (inl refl)) a (t.apart a (h (a, i) (inr k)))))) is)
 
+-- the ports of an atom of a list are of the list
 pub ports_in : (xs : List ℕ) (a i n : ℕ) → In a xs → (p : ℕ × ℕ) → HasPort p (port_range a i n) → In p.0 xs
 ports_in xs a i zero a_in p k = absurd k
 ports_in xs a i (suc n) a_in p (inl e) = subst (λ (q : ℕ × ℕ). In q.0 xs) e a_in

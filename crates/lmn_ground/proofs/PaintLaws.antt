@@ -12,6 +12,7 @@ use Rattle.lmn_heap.proofs.Common.{same_atoms as same_painted}
 use Rattle.lmn_ground.proofs.PaintedAt.{paint_links, is_paint}
 use Rattle.lmn_base.specs.Lists.{In}
 
+-- marks don't change how ports are joined
 pub net_painted : (s : Heap) (v : ℕ → ℕ) → net (painted s v) ≡ net s
 net_painted s v = λ i. record {
   arity = λ a. (ap length (paint_links first_place (v a) (s.atoms a))) i;
@@ -23,9 +24,11 @@ paint_is zero o i = i
 paint_is (suc v) None i = absurd (cc)
 paint_is (suc v) (Some x) i = refl
 
+-- what is an atom with marks is one
 pub painted_is : (s : Heap) (v : ℕ → ℕ) (a : ℕ) → IsAtom (painted s v) a → IsAtom s a
 painted_is s v a i = paint_is (v a) (s.atoms a) i
 
+-- what is an atom is one with marks
 pub is_painted : (s : Heap) (v : ℕ → ℕ) (a : ℕ) → IsAtom s a → IsAtom (painted s v) a
 is_painted s v a i = is_paint first_place (v a) (s.atoms a) i
 
@@ -37,6 +40,7 @@ set_same : (xs : List ℕ) → slice_index_or xs 0 0 ≡ 0 → slice_set xs 0 0 
 set_same [] e = refl
 set_same (x ∷ xs) e = ap (λ y. y ∷ xs) (sym e)
 
+-- one mark more
 pub painted_marked : (s : Heap) (v : ℕ → ℕ) (b m : ℕ) → 0 < m → marked (painted s v) b 0 m ≡ painted s (alter v b (λ _. m))
 painted_marked s v b zero l = absurd (omega arith)
 painted_marked s v b (suc m) l = same_painted s _ _ (λ a. elim (cases_eq a b) [
@@ -50,6 +54,7 @@ painted_marked s v b (suc m) l = same_painted s _ _ (λ a. elim (cases_eq a b) [
     by (suc w) None = refl
     by (suc w) (Some x) = ap (λ (xs : List ℕ). Some (record x { marks = xs })) (set_twice x.marks (suc w) (suc m))
 
+-- one mark cleared
 pub painted_cleared : (s : Heap) (v : ℕ → ℕ) (b : ℕ) → first_marks s b ≡ 0 → marked (painted s v) b 0 0 ≡ painted s (alter v b (λ _. 0))
 painted_cleared s v b z = same_painted s _ _ (λ a. elim (cases_eq a b) [
   | inl e ↦ subst (λ (x : ℕ). alter (painted s v).atoms b (option_map (with_mark 0 0)) x ≡ paint (alter v b (λ _. 0) x) (s.atoms x)) (sym e)
@@ -87,6 +92,7 @@ module _ (n : Net) (v w : ℕ → ℕ) where
       (n.link a (entry_port m) ≡ Some p) × (entry_port m < n.arity a) × (p.1 < n.arity p.0) × (a ≡ root.0 → ⊥) × OnWay n w root d p.0) (sym e)
       (o.0, o.1, o.2, o.3, r)
 
+-- a number that passes the test stands in the list
 pub in_is : (a : ℕ) (xs : List ℕ) → is_in xs a ≡ true → In a xs
 in_is a [] e = absurd (cc)
 in_is a (x ∷ xs) e = by (x == a) refl (in_is a xs) e
@@ -103,9 +109,11 @@ mark_here s b m l = ap (λ (o : Option HeapAtom). slice_index_or (marks_of o) 0 
     by None l = absurd (omega arith)
     by (Some x) l = get_or-set_same x.marks 0 m 0 l
 
+-- a mark at one atom leaves the marks of others
 pub mark_away : (s : Heap) (b m x : ℕ) → x ≢ b → first_marks (marked s b 0 m) x ≡ first_marks s x
 mark_away s b m x d = ap (λ (o : Option HeapAtom). slice_index_or (marks_of o) 0 0) (alter_away s.atoms b (option_map (with_mark 0 m)) x d)
 
+-- and leaves how ports are joined
 pub net_marked : (s : Heap) (b k m : ℕ) → net (marked s b k m) ≡ net s
 net_marked s b k m = λ i. record {
   arity = λ a. (ap length (links a)) i;

@@ -64,10 +64,12 @@ like_painted f root s v p =
     by false None = refl
     by false (Some q) = joined_painted s v (f p.0) p.1 q.0 q.1
 
+-- marks and joined ports don't depend on each other
 pub all_painted : (f : ℕ → ℕ) (root : ℕ × ℕ) (s : Heap) (v : ℕ → ℕ) (ps : List (ℕ × ℕ)) → all_joined f root (painted s v) ps ≡ painted (all_joined f root s ps) v
 all_painted f root s v [] = refl
 all_painted f root s v (p ∷ ps) = ap (λ (t : Heap). all_joined f root t ps) (like_painted f root s v p) ∙ all_painted f root (joined_like f root s p) v ps
 
+-- the ports of atoms stay with marks
 pub ports_painted : (s : Heap) (v : ℕ → ℕ) (xs : List ℕ) → ports_of (painted s v) xs ≡ ports_of s xs
 ports_painted s v [] = refl
 ports_painted s v (a ∷ xs) = ap (λ (n : Net). port_range a 0 (n.arity a) ++ ports_of (painted s v) xs) (net_painted s v) ∙ ap (λ (ps : List (ℕ × ℕ)). port_range a 0 (arity_of s a) ++ ps) (ports_painted s v xs)
@@ -83,6 +85,7 @@ as_painted s v y (Some f) z = λ k. record (made_atom s y f) { atoms = λ c. (at
       | inr d ↦ alter_away (over v s.atoms) y (λ _. Some (new_atom f)) c d ∙ ap (paint (v c)) (sym (alter_away s.atoms y (λ _. Some (new_atom f)) c d))
     ]
 
+-- copies are made alike with marks
 pub made_painted : (s : Heap) (v : ℕ → ℕ) (xs ys : List ℕ) → ((y : ℕ) → In y ys → v y ≡ 0) → made_like (painted s v) xs ys ≡ painted (made_like s xs ys) v
 made_painted s v [] ys z = refl
 made_painted s v (x ∷ xs) [] z = refl
@@ -90,6 +93,7 @@ made_painted s v (x ∷ xs) (y ∷ ys) z =
     ap (λ (t : Heap). made_like t xs ys) (ap (made_as (painted s v) y) (paint_functor first_place (v x) (s.atoms x)) ∙ as_painted s v y (functor_of s x) (z y (inl refl)))
     ∙ made_painted (made_as s y (functor_of s x)) v xs ys (λ w k. z w (inr k))
 
+-- a heap whose marks are cleared is as before
 pub unmarked_painted : (s : Heap) (v : ℕ → ℕ) (xs : List ℕ) → ((x : ℕ) → In x xs → first_marks s x ≡ 0) → ((x : ℕ) → (In x xs → ⊥) → v x ≡ 0) → unmarked_all (painted s v) xs ≡ s
 unmarked_painted s v [] h out = painted_none first_place s v (λ a. out a (λ k. k))
 unmarked_painted s v (x ∷ xs) h out =

@@ -7,6 +7,7 @@ use Rattle.lmn_parts.specs.Walks.{port_range, neighbour, HasPort, Net, ports_fro
 use Rattle.lmn_base.proofs.Numbers.{not_equal as apart_test}
 use Rattle.lmn_base.specs.Lists.{In}
 
+-- of the ports from i on i is the first
 pub port_left : (n : Net) (a i : ℕ) → i < n.arity a → ports_from n a i ≡ (a, i) ∷ ports_from n a (i + 1)
 port_left n a i l = by (n.arity a - i) refl
   where
@@ -14,13 +15,16 @@ port_left n a i l = by (n.arity a - i) refl
     by zero e = absurd (omega arith)
     by (suc m) e = let f : n.arity a - (i + 1) ≡ m = omega arith in rw (e, f) refl
 
+-- and behind the last port there is none
 pub no_port_left : (n : Net) (a i : ℕ) → i ≡ n.arity a → ports_from n a i ≡ []
 no_port_left n a i e = ap (λ (m : ℕ). port_range a i m) (let z : n.arity a - i ≡ 0 = omega arith in z)
 
+-- as many ports as are asked for
 pub length-ports : (a i m : ℕ) → length (port_range a i m) ≡ m
 length-ports a i zero = refl
 length-ports a i (suc m) = let h = length-ports a (i + 1) m in omega (arith, h)
 
+-- ports that pass the test are one
 pub same_port : (b j : ℕ) (root : ℕ × ℕ) → is_port (b, j) root ≡ true → ◌≡◌ {A = ℕ × ℕ} (b, j) root
 same_port b j root e = by (b == root.0) (j == root.1) refl refl e
   where
@@ -29,9 +33,11 @@ same_port b j root e = by (b == root.0) (j == root.1) refl refl e
     by true false e f h = absurd (cc)
     by false t e f h = absurd (cc)
 
+-- no atom is sought behind the root
 pub next_root : (n : Net) (root : ℕ × ℕ) (inside : ℕ → Bool) (p : ℕ × ℕ) → is_port p root ≡ true → neighbour n root inside p ≡ None
 next_root n root inside p e = rw e refl
 
+-- a port with a neighbour isn't the root
 pub not_root_next : (n : Net) (root : ℕ × ℕ) (inside : ℕ → Bool) (p : ℕ × ℕ) (x : ℕ) → neighbour n root inside p ≡ Some x → is_port p root ≡ false
 not_root_next n root inside p x h = by (is_port p root) h
   where
@@ -39,10 +45,12 @@ not_root_next n root inside p x h = by (is_port p root) h
     by true e = absurd (cc)
     by false e = refl
 
+-- an atom is on its own way back
 pub top_in : (n : Net) (v : ℕ → ℕ) (d a : ℕ) → In a (way n v d a)
 top_in n v zero a = inl refl
 top_in n v (suc d) a = inl refl
 
+-- no atom stands behind a port without a partner
 pub next_none : (n : Net) (root : ℕ × ℕ) (inside : ℕ → Bool) (a i : ℕ) → n.link a i ≡ None → neighbour n root inside (a, i) ≡ None
 next_none n root inside a i e = by (is_port (a, i) root)
   where
@@ -50,6 +58,7 @@ next_none n root inside a i e = by (is_port (a, i) root)
     by true = refl
     by false = ap (option_and_then (kept inside)) e
 
+-- the atom behind a port is that of its partner
 pub next_link : (n : Net) (root : ℕ × ℕ) (inside : ℕ → Bool) (a i b c j : ℕ) → n.link a i ≡ Some (b, j) → neighbour n root inside (a, i) ≡ Some c → b ≡ c
 next_link n root inside a i b c j e h = by (is_port (a, i) root) h
   where
@@ -124,9 +133,11 @@ module _ (n : Net) (marks : ℕ → ℕ) (root : ℕ × ℕ) (depth a i : ℕ) w
 abbrev pub weight : Net → (ℕ → ℕ) → ℕ → ℕ → ℕ → ℕ
 weight n marks depth a i = length (ports_behind n marks depth a) + depth + (n.arity a - i)
 
+-- one port further leaves less to go through
 pub weight_past : (n : Net) (marks : ℕ → ℕ) (depth a i : ℕ) → i < n.arity a → weight n marks depth a (i + 1) < weight n marks depth a i
 weight_past n marks depth a i l = omega arith
 
+-- a step back leaves less to go through
 pub weight_back : (n : Net) (marks : ℕ → ℕ) (depth d a i : ℕ) → depth ≡ suc d → weight n marks d (back n marks a).0 ((back n marks a).1 + 1) < weight n marks depth a i
 weight_back n marks depth d a i e = rw e (by (length-append (ports_from n (back n marks a).0 ((back n marks a).1 + 1)) (ports_behind n marks d (back n marks a).0)))
   where
@@ -137,11 +148,13 @@ weight_back n marks depth d a i e = rw e (by (length-append (ports_from n (back 
         → weight n marks d (back n marks a).0 ((back n marks a).1 + 1) < weight n marks (suc d) a i
     by h = let m = length-ports (back n marks a).0 ((back n marks a).1 + 1) (n.arity (back n marks a).0 - ((back n marks a).1 + 1)) in omega (arith, h, m)
 
+-- back at its port the walk is at the root
 pub root_port : (n : Net) (marks : ℕ → ℕ) (root : ℕ × ℕ) (depth a i : ℕ) → OnWay n marks root depth a → depth ≡ 0 → i ≡ root.1 → is_port (a, i) root ≡ true
 root_port n marks root depth a i w e p =
     let v : a ≡ root.0 = subst (λ (z : ℕ). OnWay n marks root z a) e w in
     rw (eq-eqb a root.0 v, eq-eqb i root.1 p) refl
 
+-- and at no other port
 pub other_port : (n : Net) (marks : ℕ → ℕ) (root : ℕ × ℕ) (depth a i : ℕ) → OnWay n marks root depth a → ((depth ≡ 0) × (i ≡ root.1) → ⊥) → is_port (a, i) root ≡ false
 other_port n marks root zero a i w d = rw (apart_test i root.1 (λ e. d (refl, e))) (by (a == root.0))
   where

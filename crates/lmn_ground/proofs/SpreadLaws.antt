@@ -24,6 +24,7 @@ use Rattle.lmn_base.specs.Lists.{In}
 use Rattle.lmn_base.proofs.Lists.{in_snoc}
 use Rattle.lmn_parts.proofs.AnswerLaws.{is_in_true}
 
+-- a neighbour is one of those inside
 pub next_in : (n : Net) (root : ℕ × ℕ) (seen : List ℕ) (p : ℕ × ℕ) (b : ℕ) → neighbour n root (is_in seen) p ≡ Some b → In b seen
 next_in n root seen p b e = by (is_port p root) e
   where
@@ -39,10 +40,12 @@ next_in n root seen p b e = by (is_port p root) e
     by true e = absurd (cc)
     by false e = to (n.link p.0 p.1) e
 
+-- a partner inside is a neighbour
 pub next_to : (n : Net) (root : ℕ × ℕ) (inside : ℕ → Bool) (a i b j : ℕ) → n.link a i ≡ Some (b, j) → is_port (a, i) root ≡ false → inside b ≡ true
     → neighbour n root inside (a, i) ≡ Some b
 next_to n root inside a i b j e f g = rw (f, e, g) refl
 
+-- a port that doesn't pass the test is not the root
 pub not_root : (a i : ℕ) (root : ℕ × ℕ) → is_port (a, i) root ≡ false → ◌≢◌ {A = ℕ × ℕ} (a, i) root
 not_root a i root e same =
     let f : a ≡ root.0 = ap (λ (p : ℕ × ℕ). p.0) same in
@@ -60,17 +63,21 @@ own_painted : (s : Heap) (v : ℕ → ℕ) (a : ℕ) → 0 < arity_of s a → ow
 own_painted s v a l =
     ap (λ (n : Net). mark_of (painted s v) a (n.arity a)) (net_painted s v) ∙ fits_mark (v a) (arity_of s a) (s.atoms a) l
 
+-- an atom fits with marks where it does without
 pub fits_painted : (s : Heap) (v : ℕ → ℕ) (home : Option ℕ) (a : ℕ) → 0 < arity_of s a → AtomFits (painted s v) home a → AtomFits s home a
 fits_painted s v None a l f = tt
 fits_painted s v (Some m) a l f = (sym (paint_home first_place (v a) (s.atoms a)) ∙ f.0, λ e. f.1 (own_painted s v a l ∙ e))
 
+-- and the other way round
 pub painted_fits : (s : Heap) (v : ℕ → ℕ) (home : Option ℕ) (a : ℕ) → 0 < arity_of s a → AtomFits s home a → AtomFits (painted s v) home a
 painted_fits s v None a l f = tt
 painted_fits s v (Some m) a l f = (paint_home first_place (v a) (s.atoms a) ∙ f.0, λ e. f.1 (sym (own_painted s v a l) ∙ e))
 
+-- an atom with ports has a mark for each
 pub marks_there : (s : Heap) (a : ℕ) → Sound s → 0 < arity_of s a → 0 < length (marks_of (s.atoms a))
 marks_there s a h l = let e = h.shaped.marks a (with_port s a l) in omega (arith, e)
 
+-- a mark elsewhere leaves one that is 0
 pub alter_zero : (v : ℕ → ℕ) (b m x : ℕ) → x ≢ b → v x ≡ 0 → alter v b (λ _. m) x ≡ 0
 alter_zero v b m x d e = alter_away v b (λ _. m) x d ∙ e
 
@@ -101,6 +108,7 @@ module _ (n : Net) (v w : ℕ → ℕ) (depth a i b j : ℕ) (same : (x : ℕ) �
       (q ≡ Some p) × (j < n.arity b) × (p.1 < n.arity p.0) × (b ≡ root.0 → ⊥) × OnWay n w root depth p.0) (sym link)
       (refl, m, l, d, on_way_same n v w root depth a same o))
 
+-- a mark tells the port of entry
 pub entry_is : (k j : ℕ) → j < 256 → entry_port (512 + 256 * k + j) ≡ j
 entry_is k j l = omega arith
 
@@ -324,6 +332,7 @@ part_reached s root all w b (across {a = a} {i = i} {j = j} r d e) =
         both true false e f = refl
         both false t e f = refl
 
+-- at the end of a walk the part is whole
 pub part_fits : (before now : Heap) (root : ℕ × ℕ) (home : Option ℕ) (seen : List ℕ) (depth a i count : ℕ) → Spreading before now root home seen depth a i count → depth ≡ 0 → i ≡ arity_of now a → IsWhole before root home
 part_fits before now root home seen depth a i count t d given =
     let part = whole_part before root home now seen depth a i count t d given in
@@ -347,6 +356,7 @@ unfit before now root home seen depth a i b j count t given other bad f =
     let link : link_of before a i ≡ Some (b, j) = subst (λ (x : Net). x.link a i ≡ Some (b, j)) e given in
     bad (f.atoms b (across (t.reached a (t.way_seen a (top_in (net before) (first_marks now) depth a))) (not_root a i root other) link))
 
+-- a port without a partner isn't met in a whole part
 pub unjoined : (before now : Heap) (root : ℕ × ℕ) (home : Option ℕ) (seen : List ℕ) (depth a i count : ℕ) → Spreading before now root home seen depth a i count
     → link_of now a i ≡ None → i < arity_of now a → is_port (a, i) root ≡ false → IsWhole before root home → ⊥
 unjoined before now root home seen depth a i count t given low other f =
@@ -375,6 +385,7 @@ fits_before before now root home seen depth a i b k count t given =
       λ f. subst (λ (s : Heap). AtomFits s home b) (sym t.is) (painted_fits before t.marks home b (omega arith) f),
     )
 
+-- the partner of a port that is met is reached
 pub reached_next : (before now : Heap) (root : ℕ × ℕ) (home : Option ℕ) (seen : List ℕ) (depth a i b j count : ℕ) → Spreading before now root home seen depth a i count
     → link_of now a i ≡ Some (b, j) → is_port (a, i) root ≡ false → Reached (atom_map before) root b
 reached_next before now root home seen depth a i b j count t given other =
@@ -382,6 +393,7 @@ reached_next before now root home seen depth a i b j count t given other =
     let link : link_of before a i ≡ Some (b, j) = subst (λ (x : Net). x.link a i ≡ Some (b, j)) e given in
     across (t.reached a (t.way_seen a (top_in (net before) (first_marks now) depth a))) (not_root a i root other) link
 
+-- a marked atom with ports is there
 pub first_there : (s : Heap) (b k m : ℕ) → 0 < arity_of s b → IsAtom (marked s b k m) b
 first_there s b k m l = with_port (marked s b k m) b (subst (λ (n : Net). 0 < n.arity b) (sym (net_marked s b k m)) l)
 
@@ -399,9 +411,11 @@ few_next before now root home seen depth a i b count m t f is fresh =
     let l = length-append seen (b ∷ []) in
     omega (arith, h, c, g, l)
 
+-- an atom with ports is there when another is marked
 pub there_after : (now to : Heap) (b k m j : ℕ) → to ≡ marked now b k m → j < arity_of now b → IsAtom to b
 there_after now to b k m j e l = subst (λ (s : Heap). IsAtom s b) (sym e) (first_there now b k m (omega arith))
 
+-- a walk that enters an atom goes on from its first port
 pub entered : (before now to : Heap) (root : ℕ × ℕ) (home : Option ℕ) (seen : List ℕ) (depth a i b j count : ℕ) → to ≡ marked now b 0 (512 + 256 * count + j) → Spreading before now root home seen depth a i count → Sound now → CleanPart before root
     → i < arity_of now a → link_of now a i ≡ Some (b, j) → link_of now b j ≡ Some (a, i) → j < arity_of now b → j < 256
     → is_port (a, i) root ≡ false → first_marks now b ≡ 0 → AtomFits now home b
@@ -417,5 +431,6 @@ pub reached_port : (s : Heap) (root : ℕ × ℕ) → Sound s → root.1 < arity
 reached_port s root h l a at_root = omega arith
 reached_port s root h l b (across {a = a} {i = i} {j = j} r d e) = let k = link_inside s b j (a, i) (h.paired.back a i b j e) in omega (arith, k)
 
+-- where no port is marked the part is clean
 pub clean_part : (s : Heap) (root : ℕ × ℕ) → Sound s → root.1 < arity_of s root.0 → PortsUnmarked s → CleanPart s root
 clean_part s root h l c a r = c a 0 (reached_port s root h l a r)

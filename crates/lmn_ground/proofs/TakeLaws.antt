@@ -34,15 +34,18 @@ marks_taken : (o : Option HeapAtom) → marks_of (option_map (with_place gone) o
 marks_taken None = refl
 marks_taken (Some x) = refl
 
+-- ports stay joined when an atom is taken
 pub net_taken : (s : Heap) (b : ℕ) → net (taken s b) ≡ net s
 net_taken s b = λ i. record {
   arity = λ a. (ap length (kept_by partners_of links_taken s b a)) i;
   link = λ a k. (ap (λ xs. slice_index_or xs k None) (kept_by partners_of links_taken s b a)) i;
 }
 
+-- and marks stay
 pub firsts_taken : (s : Heap) (b : ℕ) → first_marks (taken s b) ≡ first_marks s
 firsts_taken s b = λ i a. (ap (λ xs. slice_index_or xs 0 0) (kept_by marks_of marks_taken s b a)) i
 
+-- marks and taking don't depend on each other
 pub painted_taken : (s : Heap) (v : ℕ → ℕ) (b : ℕ) → taken (painted s v) b ≡ painted (taken s b) v
 painted_taken s v b = λ i. record (taken s b) {
   atoms = λ a. (at a) i;
@@ -61,6 +64,7 @@ painted_taken s v b = λ i. record (taken s b) {
       | inr d ↦ alter_away (painted s v).atoms b (option_map (with_place gone)) a d ∙ ap (paint (v a)) (sym (alter_away s.atoms b (option_map (with_place gone)) a d))
     ]
 
+-- one more is taken at the end
 pub taken_snoc : (s : Heap) (xs : List ℕ) (b : ℕ) → taken_all s (xs ++ b ∷ []) ≡ taken (taken_all s xs) b
 taken_snoc s [] b = refl
 taken_snoc s (x ∷ xs) b = taken_snoc (taken s x) xs b
@@ -68,10 +72,12 @@ taken_snoc s (x ∷ xs) b = taken_snoc (taken s x) xs b
 home_away : (s : Heap) (a b : ℕ) → b ≢ a → home_of (taken s a) b ≡ home_of s b
 home_away s a b d = ap (option_and_then (λ (x : HeapAtom). home_by x.place)) (alter_away s.atoms a (option_map (with_place gone)) b d)
 
+-- other atoms keep their homes
 pub home_kept : (s : Heap) (xs : List ℕ) (b : ℕ) → (In b xs → ⊥) → home_of (taken_all s xs) b ≡ home_of s b
 home_kept s [] b d = refl
 home_kept s (x ∷ xs) b d = home_kept (taken s x) xs b (λ k. d (inr k)) ∙ home_away s x b (λ e. d (inl (sym e)))
 
+-- and all do when one is marked
 pub home_marked : (s : Heap) (a k m b : ℕ) → home_of (marked s a k m) b ≡ home_of s b
 home_marked s a k m b = elim (cases_eq b a) [
   | inl e ↦ subst (λ (z : ℕ). home_of (marked s a k m) z ≡ home_of s z) (sym e)
@@ -137,15 +143,18 @@ module _ (before0 : Heap) (root : ℕ × ℕ) (seen met : List ℕ) (now : Heap)
       by u end = determined (net (taken_all before0 met)).arity (neighbour (net (taken_all before0 met)) root (is_in seen)) ends
           (subst (λ (ps : List (ℕ × ℕ)). Walk (net (taken_all before0 met)).arity (neighbour (net (taken_all before0 met)) root (is_in seen)) met (ps ++ []) seen) (no_port_left (net (taken_all before0 met)) a i end) u.rest)
 
+-- as much is left to go through
 pub weight_taken : (mid to : Heap) (b d c k : ℕ) → to ≡ taken mid b → weight (net to) (first_marks to) d c k ≡ weight (net mid) (first_marks mid) d c k
 weight_taken mid to b d c k e =
     ap (λ (s : Heap). weight (net s) (first_marks s) d c k) e
     ∙ ap (λ (n : Net). weight n (first_marks (taken mid b)) d c k) (net_taken mid b)
     ∙ ap (λ (v : ℕ → ℕ). weight (net mid) v d c k) (firsts_taken mid b)
 
+-- and so less than before
 pub lighter_taken : (mid to : Heap) (b d c k m n : ℕ) → to ≡ taken mid b → m + weight (net mid) (first_marks mid) d c k < n → m + weight (net to) (first_marks to) d c k < n
 lighter_taken mid to b d c k m n e h = subst (λ (x : ℕ). m + x < n) (sym (weight_taken mid to b d c k e)) h
 
+-- an atom that is taken is still there
 pub there_taken : (mid to : Heap) (b : ℕ) → to ≡ taken mid b → IsAtom mid b → IsAtom to b
 there_taken mid to b e i = subst (λ (s : Heap). IsAtom s b) (sym e) (subst (λ (o : Option HeapAtom). IsSome o) (sym (alter_at mid.atoms b (option_map (with_place gone)))) (by (mid.atoms b) i))
   where
@@ -153,14 +162,17 @@ there_taken mid to b e i = subst (λ (s : Heap). IsAtom s b) (sym e) (subst (λ 
     by None i = absurd (cc)
     by (Some x) i = refl
 
+-- the root is taken first
 pub first_taken : (before mid now : Heap) (root : ℕ × ℕ) (seen : List ℕ) (left : ℕ) → now ≡ taken mid root.0 → Wiping before mid root seen (root.0 ∷ []) 0 root.0 0 left
     → Wiping (taken_all before (root.0 ∷ [])) now root seen (root.0 ∷ []) 0 root.0 0 left
 first_taken before mid now root seen left e w =
     subst (λ (s : Heap). Wiping (taken before root.0) s root seen (root.0 ∷ []) 0 root.0 0 left) (sym e) (wiping_taken before mid root seen (root.0 ∷ []) 0 root.0 0 left root.0 w)
 
+-- a walk has seen the root
 pub root_seen : (before start : Heap) (root : ℕ × ℕ) (count : ℕ) (all : Bool) → (t : Spread before start root count all) → In root.0 t.seen
 root_seen before start root count all t = kept_seen _ _ t.walked root.0 (inl refl)
 
+-- which is in place, marked or not
 pub root_placed : (before start : Heap) (root : ℕ × ℕ) (count : ℕ) (all : Bool) → (t : Spread before start root count all) → IsInPlace before root.0
     → (to : Heap) → to ≡ marked start root.0 0 (256 + root.1) → IsInPlace to root.0
 root_placed before start root count all t is to made =

@@ -21,6 +21,7 @@ use Rattle.lmn_base.specs.Lists.{In}
 use Rattle.lmn_base.proofs.Lists.{in_snoc}
 use Rattle.lmn_parts.proofs.AnswerLaws.{is_in_true}
 
+-- a mark that is wiped still tells the port of entry
 pub entry_wiped : (j : ℕ) → j < 256 → entry_port (256 + j) ≡ j
 entry_wiped j l = omega arith
 
@@ -323,9 +324,11 @@ module _ (before : Heap) (root : ℕ × ℕ) where
             let k = length-ports a (i + 1) (n.arity a - (i + 1)) in
             omega (arith, l, m, k, low, few_ports, some)
 
+-- a walk has counted the root
 pub some_count : (before start : Heap) (root : ℕ × ℕ) (count : ℕ) (all : Bool) → Spread before start root count all → 1 ≤ count
 some_count before start root count all t = let h = longer _ _ t.walked in let c = t.counted in omega (arith, h, c)
 
+-- of two marks with one number the one with the higher port is higher
 pub heavier : (k m n : ℕ) → m < n → k * 256 + m < k * 256 + n
 heavier k m n h = omega (arith, h)
 

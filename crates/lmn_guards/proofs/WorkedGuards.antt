@@ -22,6 +22,7 @@ pub of_context : (u : CtxUse) → expression_items (Ctx u) ≡ used Typed u ∷ 
 unfolding rolled.roll-Expr denote.Hole.Carrier.roll
 of_context u = fold-roll-Expr (List Item) expression_items_step (opened.Ctx u)
 
+-- an integer has no contexts
 pub of_integer : (n : ℤ) → expression_items (Integer n) ≡ []
 unfolding rolled.roll-Expr denote.Hole.Carrier.roll
 of_integer n = fold-roll-Expr (List Item) expression_items_step (opened.Int n)
@@ -30,24 +31,30 @@ of_integer n = fold-roll-Expr (List Item) expression_items_step (opened.Int n)
 not_in_a : (n : ℕ) → in_head a_alone n ≡ false
 not_in_a n = rw (listed _) refl
 
+-- a condition of another name, or with more contexts, is unknown
 pub unknown : Unknown
 unknown = (refl, refl, refl)
 
+-- a context of the head is equal to no number
 pub wrong_operands : WrongOperands
 wrong_operands = rw (listed _) refl
 
+-- a context from nowhere is unbound
 pub unbound : Unbound
 unbound =
     let items : condition_items (Compare Lt (Ctx (use_at name_x 6)) (Integer (pos 1)) (at_column 9)) ≡ used Typed (use_at name_x 6) ∷ [] = λ i. of_context (use_at name_x 6) i ++ of_integer (pos 1) i in
     ap (flat_map (use_of_none a_alone [])) items ∙ rw (not_in_a name_x) refl
 
+-- a context may be used behind its binding, and no type is asked of it
 pub bound_before : BoundBefore
 bound_before =
     let items : condition_items (Compare Lt (Ctx (use_at name_z 14)) (Integer (pos 2)) (at_column 17)) ≡ used Typed (use_at name_z 14) ∷ [] = λ i. of_context (use_at name_z 14) i ++ of_integer (pos 2) i in
     (ap (flat_map (use_of_none a_alone bound_z)) items ∙ rw (not_in_a name_z) refl, rw (not_in_a name_z) refl)
 
+-- a bound context is compared with no part, and is bound once
 pub bound_operands : BoundOperands
 bound_operands = (rw (listed _) refl, rw (listed _) refl)
 
+-- of the types that the guard gives a context the narrowest counts
 pub narrowest : Narrowest
 narrowest = (rw (listed _) (rw (of_context (use_at name_x 15)) refl), refl, refl, refl)

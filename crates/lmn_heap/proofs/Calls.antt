@@ -159,11 +159,14 @@ module _ (s : Heap) (sound : Sound s) where
     finish = λ ready. finished_sound s sound ready;
   }
 
+-- each call keeps what holds at every moment
 pub calls_keep_sound : CallsKeepSound
 calls_keep_sound s sound = keeps_sound s sound
 
+-- after `finish` a heap is valid, where all its membranes are in the tree and none of its atoms is a connector
 pub finished_is_valid : FinishedIsValid
 finished_is_valid s f sound ready forms all plain = finish_valid s sound ready f forms (tree_once s sound.listed f forms) all plain
 
+-- a heap has one tree
 pub one_tree : OneTree
 one_tree s f g F G = forms_one s f g (s.root ∷ []) F.forms G.forms

@@ -11,6 +11,7 @@ use Rattle.lmn_heap.proofs.Listing.{alter_keeps}
 use Rattle.std.specs.Prelude.{slice_index_or}
 use Rattle.lmn_base.specs.Lists.{In}
 
+-- what stands in a membrane has that for its home
 pub place_home : (s : Heap) (a m : ℕ) → place_of s a ≡ Some (within m) → home_of s a ≡ Some m
 place_home s a m e = by (s.atoms a) e
   where
@@ -18,6 +19,7 @@ place_home s a m e = by (s.atoms a) e
     by None e = absurd (cc)
     by (Some x) e = let w : x.place ≡ within m = (cc) in ap home_by w
 
+-- where there is a port there is an atom
 pub is_atom_at : (s : Heap) (a i : ℕ) → i < arity_of s a → IsAtom s a
 is_atom_at s a i l = by (s.atoms a) l
   where
@@ -25,6 +27,7 @@ is_atom_at s a i l = by (s.atoms a) l
     by None l = absurd (omega arith)
     by (Some x) l = refl
 
+-- an atom in place is one
 pub in_place_atom : (s : Heap) (a : ℕ) → IsInPlace s a → IsAtom s a
 in_place_atom s a i = by (s.atoms a) i
   where
@@ -32,9 +35,11 @@ in_place_atom s a i = by (s.atoms a) i
     by None i = absurd (cc)
     by (Some x) i = refl
 
+-- a heap is the same where its atoms are, number by number
 pub same_atoms : (s : Heap) (f g : ℕ → Option HeapAtom) → ((a : ℕ) → f a ≡ g a) → record s { atoms = f } ≡ record s { atoms = g }
 same_atoms s f g h = ap (λ (k : ℕ → Option HeapAtom). let t : Heap = record s { atoms = k } in t) (λ i a. h a i)
 
+-- in a valid heap each membrane is in place
 pub mem_stands : (h : Heap) → Valid h → (m : ℕ) → IsMem h m → IsMemInPlace h m
 mem_stands h v m i = by (h.mems m) (v.settled.mems m i)
   where
@@ -50,27 +55,33 @@ mem_stands h v m i = by (h.mems m) (v.settled.mems m i)
     by (Some x) (inl e) = subst IsTopOrWithin (sym e) tt
     by (Some x) (inr s) = home x.place s
 
+-- a list in which no number stands is empty
 pub nothing_in : (xs : List ℕ) → ((b : ℕ) → In b xs → ⊥) → xs ≡ []
 nothing_in [] h = refl
 nothing_in (x ∷ xs) h = absurd (h x (inl refl))
 
+-- what stands at a place of a list stands in the list
 pub in_at : (xs : List ℕ) (q a : ℕ) → slice_get xs q ≡ Some a → In a xs
 in_at [] q a e = absurd (none-some a e)
 in_at (x ∷ xs) zero a e = inl (same_Some x a e)
 in_at (x ∷ xs) (suc q) a e = inr (in_at xs q a e)
 
+-- what stands in a membrane, if it is there, has that for its home
 pub home_placed : (o : Option HeapAtom) (m : ℕ) → option_map (λ x. x.place) o ≡ Some (within m) → option_and_then (λ x. home_by x.place) o ≡ Some m
 home_placed None m e = absurd (cc)
 home_placed (Some x) m e = let t : x.place ≡ within m = cc in ap home_by t
 
+-- what has a partner or room for one is an atom
 pub atom_with_links : (o : Option HeapAtom) (i : ℕ) → i < length (partners_of o) → IsSome o
 atom_with_links None i l = absurd (omega (arith, l))
 atom_with_links (Some x) i l = refl
 
+-- what lists an atom is a membrane
 pub holds_mem : (o : Option HeapMem) (a : ℕ) → In a (atoms_by o) → IsSome o
 holds_mem None a p = absurd p
 holds_mem (Some x) a p = refl
 
+-- a number stands in a list or it doesn't
 pub decide_in : (a : ℕ) (xs : List ℕ) → In a xs ⊎ (In a xs → ⊥)
 decide_in a [] = inr (λ i. i)
 decide_in a (x ∷ xs) = elim (cases_eq x a) [
@@ -78,6 +89,7 @@ decide_in a (x ∷ xs) = elim (cases_eq x a) [
   | inr d ↦ elim (decide_in a xs) [ inl i ↦ inl (inr i) | inr o ↦ inr (λ j. elim j [ inl e ↦ d e | inr i ↦ o i ]) ]
 ]
 
+-- what is left of a list without a number stood in it
 pub in_of_without : (a b : ℕ) (xs : List ℕ) → In b (without a xs) → In b xs
 in_of_without a b [] k = k
 in_of_without a b (x ∷ xs) k = by (x == a) (in_of_without a b xs) k
@@ -87,15 +99,18 @@ in_of_without a b (x ∷ xs) k = by (x == a) (in_of_without a b xs) k
     by false later (inl e) = inl e
     by false later (inr k) = inr (later k)
 
+-- of n ports from k on the one with number i has the name of its port
 pub numbered_get : (name : ℕ → ℕ → ℕ) (a k n i : ℕ) → i < n → slice_get (links_from name a k n) i ≡ Some (name a (k + i))
 numbered_get name a k zero i l = absurd (omega (arith, l))
 numbered_get name a k (suc n) zero l = let z : k + 0 ≡ k = omega arith in rw z refl
 numbered_get name a k (suc n) (suc i) l = let z : k + suc i ≡ (k + 1) + i = omega arith in rw z (numbered_get name a (k + 1) n i (omega (arith, l)))
 
+-- as many names as ports
 pub length_numbered : (name : ℕ → ℕ → ℕ) (a i n : ℕ) → length (links_from name a i n) ≡ n
 length_numbered name a i zero = refl
 length_numbered name a i (suc n) = ap suc (length_numbered name a (i + 1) n)
 
+-- an atom keeps its marks when it is linked
 pub linked_marks : (f : ℕ → Option HeapAtom) (a i : ℕ) (p : Option (ℕ × ℕ)) (b : ℕ) → marks_of (linked f a i p b) ≡ marks_of (f b)
 linked_marks f a i p b = alter_keeps f a (option_map (with_link i p)) marks_of by b
   where
@@ -103,10 +118,12 @@ linked_marks f a i p b = alter_keeps f a (option_map (with_link i p)) marks_of b
     by None = refl
     by (Some x) = refl
 
+-- and when a port loses its partner
 pub cleared_marks : (f : ℕ → Option HeapAtom) (p : Option (ℕ × ℕ)) (b : ℕ) → marks_of (cleared f p b) ≡ marks_of (f b)
 cleared_marks f None b = refl
 cleared_marks f (Some p) b = linked_marks f p.0 p.1 None b
 
+-- a membrane keeps its rules when its list of atoms changes
 pub list_rules : (f : ℕ → Option HeapMem) (m : ℕ) (g : List ℕ → List ℕ) (k : ℕ) → rules_by (alter f m (option_map (mem_with_atoms g)) k) ≡ rules_by (f k)
 list_rules f m g k = alter_keeps f m (option_map (mem_with_atoms g)) rules_by by k
   where
@@ -122,6 +139,7 @@ same_port e = (ap (λ o. (or_port o).0) e, ap (λ o. (or_port o).1) e)
     or_port None = (0, 0)
     or_port (Some p) = p
 
+-- what has a partner is an atom
 pub linked_atom : (h : Heap) (a i : ℕ) {p : ℕ × ℕ} → link_of h a i ≡ Some p → IsAtom h a
 linked_atom h a i e = by (h.atoms a) e
   where
@@ -129,14 +147,17 @@ linked_atom h a i e = by (h.atoms a) e
     by None e = absurd (cc)
     by (Some x) e = refl
 
+-- the image of a number of a list is one of the images
 pub in_map : (f : ℕ → ℕ) (x : ℕ) (xs : List ℕ) → In x xs → In (f x) (map f xs)
 in_map f x [] i = absurd i
 in_map f x (y ∷ ys) (inl e) = inl (ap f e)
 in_map f x (y ∷ ys) (inr i) = inr (in_map f x ys i)
 
+-- no partner
 abbrev pub no_port : Option (ℕ × ℕ)
 no_port = None
 
+-- none of n ports without partners has one
 pub no_links : (n i : ℕ) → slice_index_or (replicate n no_port) i None ≡ None
 no_links zero i = refl
 no_links (suc n) zero = refl

@@ -47,6 +47,7 @@ atom_cases x = elim (cases_eq x 0) [
   | inr d ↦ elim (cases_eq x 1) [ inl e ↦ inr (inl e) | inr f ↦ inr (inr (rw (apart_test x 0 d, apart_test x 1 f) refl)) ]
 ]
 
+-- the example has the membranes 0 and 1 alone
 pub mem_cases : (m : ℕ) → (m ≡ 0) ⊎ ((m ≡ 1) ⊎ (across.mems m ≡ None))
 mem_cases m = elim (cases_eq m 0) [
   | inl e ↦ inl e
@@ -99,6 +100,7 @@ across_settled = record {
   mems = each_mem (λ m o. IsSome o → (option_map (λ x. x.place) o ≡ Some top) ⊎ IsSome (option_and_then (λ x. home_by x.place) o)) (λ i. inl refl) (λ i. inr refl) (λ m i. absurd (cc));
 }
 
+-- the example is a valid heap
 pub across_is_valid : AcrossIsValid
 across_is_valid = record {
   sound = across_sound;
@@ -108,9 +110,11 @@ across_is_valid = record {
   tree = (mem 0 (mem 1 bare bare) bare, across_tree);
 }
 
+-- a heap with a port that has no partner is not valid
 pub loose_is_not_valid : LooseIsNotValid
 loose_is_not_valid v = let i : IsSome (link_of loose 0 0) = v.full 0 0 (omega arith) in absurd (cc)
 
+-- what is detached is alone, and not in place
 pub made_is_alone : MadeIsAlone
 made_is_alone = (
   λ x i y j p e. absurd (elim (cases_eq x 0) [
@@ -130,9 +134,11 @@ made_is_alone = (
     no_port zero = refl
     no_port (suc i) = refl
 
+-- what is joined to an atom in place is not
 pub joined_is_not_alone : JoinedIsNotAlone
 joined_is_not_alone alone = let e : ◌≡◌ {A = Option Place} (Some (within 0)) (Some waiting) = alone 1 0 0 0 refl refl in absurd (cc)
 
+-- an atom that something in place is joined to can't be freed
 pub partner_is_not_ready : PartnerIsNotReady
 partner_is_not_ready = (
   record {
@@ -145,6 +151,7 @@ partner_is_not_ready = (
   λ r. r.kept 1 0 0 0 refl refl refl,
 )
 
+-- the root is outside its membrane, which isn't outside the root
 pub root_is_outside : RootIsOutside
 root_is_outside = (outside, λ o. o 1 (0, refl, refl))
   where
@@ -190,6 +197,7 @@ across_links =
     ap (λ xs. flat_map (λ x. x.links) xs) (fold-roll-Region (List SolidAtom) atoms_step b_outside)
     ∙ ap (λ xs. 0 ∷ flat_map (λ x. x.links) (xs ++ [])) inner
 
+-- the heap of the example has the solid of its text
 pub across_has_its_solid : AcrossHasItsSolid
 across_has_its_solid = record {
   forest = mem 0 (mem 1 bare bare) bare;

@@ -13,6 +13,7 @@ use Rattle.lmn_base.proofs.Lists.{in_either}
 pub parent_is : (h : Heap) (listed : Listed h) (n m : ℕ) → In n (mems_in h m) → parent_of h n ≡ Some m
 parent_is h listed n m s = parent_by h n (within m) ((listed.mems m n).0 s)
 
+-- a membrane with a parent stands in it
 pub place_by_parent : (o : Option HeapMem) (m : ℕ) → option_and_then (λ x. home_by x.place) o ≡ Some m → option_map (λ x. x.place) o ≡ Some (within m)
 place_by_parent None m e = absurd (cc)
 place_by_parent (Some x) m e = by x.place e

@@ -60,10 +60,12 @@ module _ (s : Heap) (name : ℕ → ℕ → ℕ) (there : (m a : ℕ) → In a (
       let l : length (map count (regions_of s name inner)) ≡ length (regions_of s name inner) = length-map (regions_of s name inner) count in
       omega arith
 
+-- what has a place is an atom
 pub place_some : (o : Option HeapAtom) (p : Place) → option_map (λ x. x.place) o ≡ Some p → IsSome o
 place_some None p e = absurd (cc)
 place_some (Some x) p e = refl
 
+-- a heap has as many items as its solid
 pub items_of_solid : ItemsOfSolid
 items_of_solid s x valid of =
     let there : (m a : ℕ) → In a (atoms_in s m) → IsAtom s a = λ m a i. place_some (s.atoms a) (within m) ((valid.sound.listed.atoms m a).0 i) in

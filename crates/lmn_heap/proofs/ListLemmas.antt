@@ -25,6 +25,7 @@ in_left a [] ys i = absurd i
 in_left a (x ∷ xs) ys (inl e) = inl e
 in_left a (x ∷ xs) ys (inr i) = inr (in_left a xs ys i)
 
+-- what stands in the second of two lists stands in both joined
 pub in_right : (a : ℕ) (xs ys : List ℕ) → In a ys → In a (xs ++ ys)
 in_right a [] ys i = i
 in_right a (x ∷ xs) ys i = inr (in_right a xs ys i)
@@ -40,6 +41,7 @@ pub distinct_left : (xs ys : List ℕ) → Distinct (xs ++ ys) → Distinct xs
 distinct_left [] ys d = tt
 distinct_left (x ∷ xs) ys d = (each_of _ xs (λ a i. each_in (λ z. x ≢ z) (xs ++ ys) a d.0 (in_left a xs ys i)), distinct_left xs ys d.1)
 
+-- where no number stands twice in two lists joined none does in the second
 pub distinct_right : (xs ys : List ℕ) → Distinct (xs ++ ys) → Distinct ys
 distinct_right [] ys d = d
 distinct_right (x ∷ xs) ys d = distinct_right xs ys d.1

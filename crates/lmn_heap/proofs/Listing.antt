@@ -164,6 +164,7 @@ pub record OneMoves (s t : Heap) (a : ℕ) (Q : Place) : Type 0 where
   pub root : t.root ≡ s.root
   pub new_empty : (m : ℕ) → mem_place_of s m ≡ Some waiting → atoms_in t m ≡ []
 
+-- lists stay right when one atom moves
 pub one_moves : (s t : Heap) (a : ℕ) (Q : Place) → OneMoves s t a Q → Listed s → Listed t
 one_moves s t a Q o h = record {
   atoms = λ m. turned a Q (within m) (atoms_in s m) (atoms_in t m) (place_of s) (place_of t) o.at o.away (o.lists m) (h.atoms m);
@@ -230,12 +231,15 @@ without_first a xs e = subst (λ ys. without a ys ≡ after a xs) e (rw (eq-eqb 
 not_within : (s : Heap) (h : Listed s) (a : ℕ) (P : Place) → place_of s a ≡ Some P → (m : ℕ) → (P ≡ within m → ⊥) → In a (atoms_in s m) → ⊥
 not_within s h a P e m d i = d (let w : Some P ≡ Some (within m) = sym e ∙ (h.atoms m a).0 i in cc)
 
+-- one place is in one membrane
 pub within_same : (j k : ℕ) → within j ≡ within k → j ≡ k
 within_same j k e = (cc)
 
+-- what waits is in none
 pub waiting_apart : (m : ℕ) → waiting ≡ within m → ⊥
 waiting_apart m e = absurd (cc)
 
+-- and neither is what is gone
 pub gone_apart : (m : ℕ) → gone ≡ within m → ⊥
 gone_apart m e = absurd (cc)
 
@@ -278,9 +282,11 @@ home_place (Some x) m e = by x.place e
     by waiting e = absurd (cc)
     by gone e = absurd (cc)
 
+-- what has a home stands in that membrane
 pub home_is : (s : Heap) (a m : ℕ) → home_of s a ≡ Some m → place_of s a ≡ Some (within m)
 home_is s a m e = home_place (s.atoms a) m e
 
+-- what lists an atom is a membrane
 pub listed_mem : (s : Heap) (m a : ℕ) → In a (atoms_in s m) → IsSome (s.mems m)
 listed_mem s m a i = by (s.mems m) i
   where
@@ -352,6 +358,7 @@ same_paired s t same p = record {
   apart = λ a i e. p.apart a i (sym (same a i) ∙ e);
 }
 
+-- an atom that gets another place keeps its partners
 pub place_keeps : (f : ℕ → Option HeapAtom) (a : ℕ) (h : Place) (x : ℕ) → partners_of (alter f a (option_map (with_place h)) x) ≡ partners_of (f x)
 place_keeps f a h x = alter_keeps f a (option_map (with_place h)) partners_of by x
   where
@@ -363,6 +370,7 @@ place_keeps f a h x = alter_keeps f a (option_map (with_place h)) partners_of by
 pub placed_paired : (s : Heap) (m a : ℕ) → Paired s → Paired (placed s m a)
 placed_paired s m a = same_paired s (placed s m a) (λ x i. ap (λ xs. slice_index_or xs i None) (place_keeps s.atoms a (within m) x))
 
+-- ports stay paired when an atom is taken
 pub taken_paired : (s : Heap) (a : ℕ) → Paired s → Paired (taken s a)
 taken_paired s a = same_paired s (taken s a) (λ x i. ap (λ xs. slice_index_or xs i None) (place_keeps s.atoms a gone x))
 

@@ -10,6 +10,7 @@ use Rattle.lmn_heap.proofs.Shapes.{shaped_of}
 abbrev nothing : ℕ → Option HeapMem
 nothing m = None
 
+-- the root with nothing in it
 abbrev pub the_root : HeapMem
 the_root = mem_with_place top new_mem
 
@@ -59,6 +60,7 @@ lone_sound = record {
   shaped = shaped_of lone_root (λ a. tt);
 }
 
+-- the membrane 0 is the only one of a lone root
 pub is_root : (m : ℕ) → IsMem lone_root m → m ≡ 0
 is_root m i = elim (cases m) [
   | inl w ↦ w.0

@@ -25,6 +25,7 @@ pub record OneMemMoves (s t : Heap) (n : ℕ) (Q : Place) : Type 0 where
   pub root : t.root ≡ s.root
   pub new_empty : (m : ℕ) → mem_place_of t m ≡ Some waiting → (atoms_in t m ≡ []) × (mems_in t m ≡ [])
 
+-- lists stay right when one membrane moves
 pub one_mem_moves : (s t : Heap) (n : ℕ) (Q : Place) → OneMemMoves s t n Q → Listed s → Listed t
 one_mem_moves s t n Q o h = record {
   atoms = λ m a. rw (o.atoms m, o.places a) (h.atoms m a);

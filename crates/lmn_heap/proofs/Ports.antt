@@ -76,6 +76,7 @@ linked_arity f a i p c =
       | inr w ↦ ap (λ (o : Option HeapAtom). length (partners_of o)) (linked_away f a i p c w)
     ]
 
+-- an atom keeps its arity when a port loses its partner
 pub cleared_arity : (f : ℕ → Option HeapAtom) (q : Option (ℕ × ℕ)) (c : ℕ) → ar (cleared f q) c ≡ ar f c
 cleared_arity f None c = refl
 cleared_arity f (Some q) c = linked_arity f q.0 q.1 None c

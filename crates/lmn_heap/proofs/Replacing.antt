@@ -37,6 +37,7 @@ mem_standing (Some x) P e n d g = let w : x.place ≡ P = (cc) in
       | inr t ↦ (let u : IsSome (home_by P) = subst (λ p. IsSome (home_by p)) w t in let z : IsSome {T = ℕ} None = subst (λ (o : Option ℕ). IsSome o) n u in absurd (cc))
     ]
 
+-- where all is in place no membrane waits
 pub no_waiting_mems : (s : Heap) → Listed s → AllInPlace s → s.new_mems ≡ []
 no_waiting_mems s h q = by s.new_mems (λ a i. (h.new_mems a).0 i)
   where

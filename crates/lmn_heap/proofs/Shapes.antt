@@ -26,6 +26,7 @@ shaped_of s h = record { ports = λ a f e. ports (s.atoms a) f (h a) e; marks = 
     marks None w is = absurd (cc)
     marks (Some x) w is = w.1
 
+-- in a shaped heap each atom has its shape
 pub shaped_at : (s : Heap) → Shaped s → (a : ℕ) → WellShaped (s.atoms a)
 shaped_at s h a = by (s.atoms a) (λ f e. h.ports a f e) (λ is. h.marks a is)
   where
@@ -37,6 +38,7 @@ shaped_at s h a = by (s.atoms a) (λ f e. h.ports a f e) (λ is. h.marks a is)
 abbrev pub KeepsShape : (HeapAtom → HeapAtom) → Type 0
 KeepsShape h = (x : HeapAtom) → WellShaped (Some x) → WellShaped (Some (h x))
 
+-- a change that keeps the shape of an atom keeps that of all
 pub shape_alter : (f : ℕ → Option HeapAtom) (a : ℕ) (h : HeapAtom → HeapAtom) → KeepsShape h → ((b : ℕ) → WellShaped (f b)) → (b : ℕ) → WellShaped (alter f a (option_map h) b)
 shape_alter f a h k w b = elim (cases_eq b a) [
   | inl e ↦ subst (λ z. WellShaped (alter f a (option_map h) z)) (sym e) (subst WellShaped (sym (alter_at f a (option_map h))) (by (f a) (w a)))
@@ -51,9 +53,11 @@ shape_alter f a h k w b = elim (cases_eq b a) [
 pub place_shape : (P : Place) → KeepsShape (with_place P)
 place_shape P x w = w
 
+-- a partner keeps the shape
 pub link_shape : (i : ℕ) (p : Option (ℕ × ℕ)) → KeepsShape (with_link i p)
 link_shape i p x w = (length-set x.links i p ∙ w.0, w.1 ∙ ap (λ n. n + 1) (sym (length-set x.links i p)))
 
+-- a mark keeps the shape
 pub mark_shape : (i v : ℕ) → KeepsShape (with_mark i v)
 mark_shape i v x w = (w.0, length-set x.marks i v ∙ w.1)
 
@@ -61,6 +65,7 @@ mark_shape i v x w = (w.0, length-set x.marks i v ∙ w.1)
 pub linked_shape : (f : ℕ → Option HeapAtom) (a i : ℕ) (p : Option (ℕ × ℕ)) → ((b : ℕ) → WellShaped (f b)) → (b : ℕ) → WellShaped (linked f a i p b)
 linked_shape f a i p w = shape_alter f a (with_link i p) (link_shape i p) w
 
+-- the loss of a partner keeps the shape
 pub cleared_shape : (f : ℕ → Option HeapAtom) (p : Option (ℕ × ℕ)) → ((b : ℕ) → WellShaped (f b)) → (b : ℕ) → WellShaped (cleared f p b)
 cleared_shape f None w = w
 cleared_shape f (Some p) w = linked_shape f p.0 p.1 None w

@@ -71,6 +71,7 @@ tail_of m (x ∷ xs) = by (x == m) (tail_of m xs)
     by true r = (x ∷ [], refl)
     by false r = (x ∷ r.0, ap (λ ys. x ∷ ys) r.1)
 
+-- a list from the next number on is what stands behind this one
 pub from_next : (m n : ℕ) (xs zs : List ℕ) → Distinct xs → after m xs ≡ n ∷ zs → from (Some n) xs ≡ after m xs
 from_next m n xs zs d e =
     let t = tail_of m xs in
@@ -105,6 +106,7 @@ smaller f m i b out a =
     let v = length-append (flat b) out in
     omega arith
 
+-- a membrane of a forest has something round it
 pub around : (s : Heap) (f : Forest) (ms : List ℕ) (m : ℕ) (i b : Forest) (out : List ℕ) → Forms s f ms → At f m i b out → Round s f ms m i b out
 around s bare ms m i b out F a = absurd a
 around s (mem k fi fr) ms m i b out F (inl e) = record {
@@ -161,6 +163,7 @@ parent_by s m P e = by (s.mems m) e
     by None e = absurd (cc)
     by (Some y) e = let h : y.place ≡ P = (cc) in ap home_by h
 
+-- what has a place among membranes is one
 pub mem_by : (s : Heap) (m : ℕ) (P : Place) → mem_place_of s m ≡ Some P → IsSome (s.mems m)
 mem_by s m P e = by (s.mems m) e
   where

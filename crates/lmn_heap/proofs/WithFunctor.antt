@@ -16,6 +16,7 @@ label_is (Name n) (Int z) e = absurd (cc)
 label_is (Int z) (Name n) e = absurd (cc)
 label_is (Int y) (Int z) e = ap Int ((Decides-int_eq y z).0 e)
 
+-- a label passes the test against itself
 pub label_same : (k : Label) → same_label k k ≡ true
 label_same (Name m) = eq-eqb m m refl
 label_same (Int y) = (Decides-int_eq y y).1 refl
@@ -26,6 +27,7 @@ functor_is f g e =
     let w = both_true (same_label f.label g.label) (f.arity == g.arity) e in
     λ i. record { label = label_is f.label g.label w.0 i; arity = eqb-true f.arity g.arity w.1 i }
 
+-- a functor passes the test against itself
 pub functor_same : (f : Functor) → same_functor f f ≡ true
 functor_same f = rw (label_same f.label) (eq-eqb f.arity f.arity refl)
 

@@ -3,6 +3,7 @@ use Rattle.std.proofs.Common.{refl}
 use Rattle.std.specs.Fmt.{digits}
 use Rattle.lmn_instr.specs.Worked.{WorkedListings}
 
+-- the listings of the examples
 pub worked_listings : WorkedListings
 unfolding digits
 worked_listings = record {

@@ -85,6 +85,7 @@ pub takes_nothing : (told : Option (List ℕ)) → Takes [] told told
 takes_nothing None = refl
 takes_nothing (Some old) = rw append-nil refl
 
+-- what a sink has taken, piece by piece
 pub ruleset taking = (prefix_more, nothing_taken, takes_nothing, takes_more, prefix_after, gathers_more, gathers_takes, gathers_prefix, gathers_part)
 
 unchanged : (failed : Bool) (o : SinkState) → AddsWhere failed failed [] o o
@@ -139,4 +140,5 @@ pub adds_all : {X : Type 0} (f : X → List ℕ) (xs : List X) (i : ℕ) {before
     → Adds (flat_map f (take i xs)) before after → Adds (flat_map f xs) before after
 adds_all f xs i end added = adds_as (ap (flat_map f) (take_all i xs end)) added
 
+-- what is added to a sink, piece by piece
 pub ruleset adding = (adds_nothing, adds_more, adds_next)

@@ -66,6 +66,7 @@ count_is : (names : List Name) (s : Heap) (name : ℕ → ℕ → ℕ) (x : ℕ)
 count_is names s name x [] = refl
 count_is names s name x (a ∷ xs) = let e = count_is names s name x xs in omega (arith, e)
 
+-- no link stands in more than two places of the atoms of a membrane
 pub few_places : (names : List Name) (s : Heap) (name : ℕ → ℕ → ℕ) → IsNaming s name → (xs : List ℕ) → Distinct xs → AtMostTwice (map (atom_with names s name) xs)
 few_places names s name naming xs distinct x =
     let e = count_is names s name x xs in
@@ -77,6 +78,7 @@ few_places names s name naming xs distinct x =
 at_next : (name : ℕ → ℕ → ℕ) (a i k : ℕ) → name a ((i + 1) + k) ≡ name a (i + suc k)
 at_next name a i k = ap (name a) (omega arith)
 
+-- the link of a port below the arity
 pub number_at : (name : ℕ → ℕ → ℕ) (a n k : ℕ) → k < n → slice_get (links_from name a 0 n) k ≡ Some (name a k)
 number_at name a n k l = number_from name a 0 n k l ∙ ap (λ j. Some (name a j)) (let e : 0 + k ≡ k = omega arith in e)
 
@@ -85,6 +87,7 @@ number_within name a i zero k x e = absurd (none-some x e)
 number_within name a i (suc n) zero x e = omega arith
 number_within name a i (suc n) (suc k) x e = let l = number_within name a (i + 1) n k x e in omega (arith, l)
 
+-- and what is listed is that of a port
 pub number_is : (name : ℕ → ℕ → ℕ) (a n k x : ℕ) → slice_get (links_from name a 0 n) k ≡ Some x → (k < n) × (name a k ≡ x)
 number_is name a n k x e =
     let l = number_within name a 0 n k x e in
@@ -102,6 +105,7 @@ last_number name a n l =
     let down : 0 + (n - 1) ≡ n - 1 = omega arith in
     ap (links_from name a 0) up ∙ one_more name a 0 (n - 1) ∙ ap (λ j. links_from name a 0 (n - 1) ++ name a j ∷ []) down
 
+-- the last link of an atom is that of its last port
 pub numbers_end : (name : ℕ → ℕ → ℕ) (a n : ℕ) (xs : List ℕ) (x : ℕ) → links_from name a 0 n ≡ xs ++ x ∷ [] → (0 < n) × (xs ≡ links_from name a 0 (n - 1)) × (x ≡ name a (n - 1))
 numbers_end name a zero xs x e = absurd (never_nil xs x e)
 numbers_end name a (suc n) xs x e =

@@ -32,6 +32,7 @@ module _ (s t : Heap) (r : ChangesOwnMarks s t) (same : (a : ℕ) → is_item t 
 pub marked_term : (s : Heap) (a : ℕ) → own_mark s a ≡ 3 → is_item s a ≡ false
 marked_term s a e = ap (λ k. (k == 1) || (k == 2)) e
 
+-- an atom with the same mark is an item or not, as before
 pub same_mark : (s t : Heap) (a : ℕ) → own_mark t a ≡ own_mark s a → is_item t a ≡ is_item s a
 same_mark s t a e = ap (λ k. (k == 1) || (k == 2)) e
 
@@ -51,9 +52,11 @@ pub record Marking (s t : Heap) (a i n : ℕ) (es : List Event) : Type 0 where
   pub ahead : (x : ℕ) → In x (entered left) → In x (entered es)
   pub few : n + turns left ≤ turns es
 
+-- at first nothing below an item is marked
 pub marking_first : (s : Heap) (a : ℕ) (es : List Event) → WalkMeets s a 0 es → Marking s s a 0 0 es
 marking_first s a es w = record { left = es; walk = w; done = λ x h. inr h; others = λ x. inl refl; ahead = λ x h. h; few = omega arith }
 
+-- a link is passed
 pub marking_link : (s t : Heap) (a i n : ℕ) (es : List Event) → Marking s t a i n es → i < argument_count s a → term_at s a i ≡ None → Marking s t a (i + 1) n es
 marking_link s t a i n es m low none =
     let met = at_link s a i m.left m.walk low none in
@@ -69,6 +72,7 @@ marking_link s t a i n es m low none =
       few = omega (arith, few, turned);
     }
 
+-- a term is marked
 pub marking_term : (s t u : Heap) (a i c n : ℕ) (es : List Event) → Marking s t a i n es → i < argument_count s a → term_at s a i ≡ Some c → SetsOwnMark t u c 3 → Marking s u c 0 (n + 1) es
 marking_term s t u a i c n es m low is set =
     let met = at_term s a i c m.left m.walk low is in
@@ -92,6 +96,7 @@ marking_term s t u a i c n es m low is set =
     by x (inr d) (inl e) same = inl (set.others x d ∙ e)
     by x (inr d) (inr j) same = elim (subst (In x) same j) [ inl e ↦ absurd (d (sym e)) | inr k ↦ inr k ]
 
+-- and left behind its last argument
 pub marking_end : (s t : Heap) (a i p j port n : ℕ) (es : List Event) → Marking s t a i n es → argument_count s a ≤ i → is_item s a ≡ false → port ≡ j + 1
     → link_of s a (arity_of s a - 1) ≡ Some (p, j) → Marking s t p port (n + 1) es
 marking_end s t a i p j port n es m high plain behind link =

@@ -20,6 +20,7 @@ pub record FirstsLeft (s t : Heap) (xs : List ℕ) (next : Option ℕ) : Type 0 
   pub left : (a : ℕ) → In a (from next xs) → own_mark t a ≡ 0
   pub done : (a : ℕ) → IsAtom s a → In a (from next xs) ⊎ ((own_mark t a ≡ 1) × IsChildNowhere s a) ⊎ ((own_mark t a ≡ 0) × IsChildSomewhere s a)
 
+-- at first no item is marked
 pub firsts_first : (s : Heap) → Unmarked s → (xs : List ℕ) → IsOrder s xs → (next : Option ℕ) → from next xs ≡ xs → FirstsLeft s s xs next
 firsts_first s unmarked xs order next e = record {
   marks = changes_none s;

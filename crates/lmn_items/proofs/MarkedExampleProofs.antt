@@ -26,6 +26,7 @@ first_is_no_child v w p k c =
     none : IsChildAt (marked_last_ports v w) 0 0 1 0 → ⊥
     none c = elim c.before [ inl d ↦ d refl | inr h ↦ h ]
 
+-- of two atoms joined by their last ports the later one is a term
 pub term_is_marked : TermIsMarked
 term_is_marked = record {
   each = both (λ a. (own_mark (marked_last_ports 1 3) a ≡ 1) ⊎ (own_mark (marked_last_ports 1 3) a ≡ 2) ⊎ (own_mark (marked_last_ports 1 3) a ≡ 3)) (inl refl) (inr (inr refl));
@@ -42,9 +43,11 @@ term_is_marked = record {
     first a p k e c =
         both (λ a. own_mark (marked_last_ports 1 3) a ≡ 1 → IsChildAt (marked_last_ports 1 3) 0 a p k → ⊥) (λ e d. first_is_no_child 1 3 p k d) (λ e d. absurd (omega (arith, e))) a c.child e c
 
+-- and no item as one that is no child
 pub child_is_no_first_item : ChildIsNoFirstItem
 child_is_no_first_item h = h.first 1 0 0 refl (last_child 1 1)
 
+-- nor a later one
 pub term_is_no_later_item : TermIsNoLaterItem
 term_is_no_later_item h = h.later 1 0 (inr (inl refl)) refl (inl refl, inl refl) (child itself (last_child 1 2))
 
@@ -55,6 +58,7 @@ in_the_second v w = record { child = inl refl; parent = inr (inl refl); ports = 
 in_the_first : (v w : ℕ) → IsChildAt (marked_circle v w) 0 1 0 0
 in_the_first v w = record { child = inr (inl refl); parent = inl refl; ports = omega arith; joined = refl; other = λ e. absurd (omega (arith, e)); before = inl (λ e. absurd (omega (arith, e))) }
 
+-- in a circle the first atom is the item
 pub later_item_is_marked : LaterItemIsMarked
 later_item_is_marked = record {
   each = both (λ a. (own_mark (marked_circle 2 3) a ≡ 1) ⊎ (own_mark (marked_circle 2 3) a ≡ 2) ⊎ (own_mark (marked_circle 2 3) a ≡ 3)) (inr (inl refl)) (inr (inr refl));
@@ -77,6 +81,7 @@ later_item_is_marked = record {
     later : (i a : ℕ) → In a (0 ∷ 1 ∷ []) → own_mark (marked_circle 2 3) a ≡ 2 → IsItemBefore (marked_circle 2 3) 0 a i → ⊥
     later i = both (λ a. own_mark (marked_circle 2 3) a ≡ 2 → IsItemBefore (marked_circle 2 3) 0 a i → ⊥) (λ e b. none_before i b.0 b) (λ e b. absurd (omega (arith, e)))
 
+-- in a circle the second atom is no item
 pub term_is_not_before_its_item : TermIsNotBeforeItsItem
 term_is_not_before_its_item h = let t = h.term 0 (inl refl) refl in none_before t.0 t.1.0 t.1
   where

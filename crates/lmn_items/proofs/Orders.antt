@@ -13,9 +13,11 @@ use Rattle.lmn_lists.proofs.TableLemmas.{in_after as after_in}
 use Rattle.lmn_base.specs.Lists.{In}
 use Rattle.lmn_base.proofs.Lists.{in_either}
 
+-- what stands behind the first
 pub after_here : (x a : ℕ) (xs : List ℕ) → x ≡ a → after a (x ∷ xs) ≡ xs
 after_here x a xs e = rw (eq-eqb x a e) refl
 
+-- or behind another
 pub after_there : (x a : ℕ) (xs : List ℕ) → x ≢ a → after a (x ∷ xs) ≡ after a xs
 after_there x a xs d = rw (apart_test x a d) refl
 
@@ -93,6 +95,7 @@ pub record IsOrder (s : Heap) (xs : List ℕ) : Type 0 where
   pub into : (m p q : ℕ) → In p (atoms_in s m) → In q (atoms_in s m) → In q (after p xs) → In q (after p (atoms_in s m))
   pub out : (m p q : ℕ) → In p (atoms_in s m) → In q (after p (atoms_in s m)) → In q (after p xs)
 
+-- the atoms in printed order are in an order of items
 pub is_order : (s : Heap) → Valid s → (f : Forest) → IsTree s f → IsOrder s (printed_atoms s (flat f))
 is_order s valid f t = record {
   once = printed_once s valid.sound (flat f) t.once;

@@ -95,9 +95,11 @@ module _ (s t : Heap) (r : ChangesOwnMarks s t) where
   descends_same itself = itself
   descends_same (child d c) = child (descends_same d) (child_same c)
 
+-- other own marks leave what is no child
 pub no_child_same : (s t : Heap) → ChangesOwnMarks t s → (a : ℕ) → IsChildNowhere s a → IsChildNowhere t a
 no_child_same s t r a h m p k c = h m p k (child_same t s r c)
 
+-- and what is one
 pub some_child_same : (s t : Heap) → ChangesOwnMarks s t → (a : ℕ) → IsChildSomewhere s a → IsChildSomewhere t a
 some_child_same s t r a h = (h.0, h.1, h.2, child_same s t r h.3)
 
@@ -105,6 +107,7 @@ some_child_same s t r a h = (h.0, h.1, h.2, child_same s t r h.3)
 pub changes_none : (s : Heap) → ChangesOwnMarks s s
 changes_none s = record { marks = λ a. marks_of (s.atoms a); is = sym (remarked_same s); ports = λ a i l. refl }
 
+-- changes of own marks one after the other are such a change
 pub changes_more : (s t u : Heap) → ChangesOwnMarks s t → ChangesOwnMarks t u → ChangesOwnMarks s u
 changes_more s t u p q = record {
   marks = q.marks;
@@ -112,6 +115,7 @@ changes_more s t u p q = record {
   ports = λ a i l. q.ports a i (subst (λ n. i < n) (sym (arity_same s t p a)) l) ∙ p.ports a i l;
 }
 
+-- a change of own marks can be changed back
 pub changes_back : (s t : Heap) → ChangesOwnMarks s t → ChangesOwnMarks t s
 changes_back s t p = record {
   marks = λ a. marks_of (s.atoms a);

@@ -22,6 +22,7 @@ use Rattle.lmn_base.specs.Lists.{In}
 abbrev pub all_atoms : Heap → List ℕ
 all_atoms s = printed_atoms s (flat (tree_of s))
 
+-- all atoms in printed order are in an order of items
 pub all_in_order : (s : Heap) → Valid s → AtMost (2 ^ 48) s → IsOrder s (all_atoms s)
 all_in_order s valid few = is_order s valid (tree_of s) (tree_there s valid.sound few valid.tree.0 valid.tree.1)
 
@@ -29,16 +30,19 @@ all_in_order s valid few = is_order s valid (tree_of s) (tree_there s valid.soun
 pub first_list : (s : Heap) → Valid s → AtMost (2 ^ 48) s → (next : Option ℕ) → ((f : Forest) → IsTree s f → from next (printed_atoms s (flat f)) ≡ printed_atoms s (flat f)) → from next (all_atoms s) ≡ all_atoms s
 first_list s valid few next h = h (tree_of s) (tree_there s valid.sound few valid.tree.0 valid.tree.1)
 
+-- the atoms from the next one on are those behind this one, in printed order
 pub next_list : (s u : Heap) → Valid s → AtMost (2 ^ 48) s → ChangesOwnMarks s u → (b : ℕ) (next : Option ℕ) → ((f : Forest) → IsTree u f → from next (printed_atoms u (flat f)) ≡ after b (printed_atoms u (flat f)))
     → from next (all_atoms s) ≡ after b (all_atoms s)
 next_list s u valid few r b next h =
     let tree = tree_there s valid.sound few valid.tree.0 valid.tree.1 in
     subst (λ xs. from next xs ≡ after b xs) (printed_same s u r (flat (tree_of s))) (h (tree_of s) (tree_same s u r (tree_of s) tree))
 
+-- and the next one, if any, is an atom
 pub next_there : {A : Type 0} (id : A → ℕ) (s u : Heap) → ChangesOwnMarks s u → (next : Option A) → IfSome next (λ a. IsInPlace u (id a)) → IfSome next (λ a. IsAtom s (id a))
 next_there id s u r None h = tt
 next_there id s u r (Some a) h = atom_before s u r (id a) (place_atom u (id a) h)
 
+-- where no next one is named none is left
 pub none_left : {A : Type 0} (id : A → ℕ) (next : Option A) → ((a : A) → next ≡ Some a → ⊥) → option_map id next ≡ None
 none_left id None h = refl
 none_left id (Some a) h = absurd (h a refl)
@@ -48,6 +52,7 @@ pub below_first_marks : (t u : Heap) (b : ℕ) → MarksTermsIfFirst t u b → C
 below_first_marks t u b (inl h) = h.1.marks
 below_first_marks t u b (inr h) = subst (ChangesOwnMarks t) (sym h.1) (changes_none t)
 
+-- a pass for one atom changes own marks alone
 pub later_marks : (t u : Heap) (b : ℕ) → MarksLater t u b → ChangesOwnMarks t u
 later_marks t u b (inl h) = changes_more t h.1 u h.2.marks h.3.marks
 later_marks t u b (inr h) = subst (ChangesOwnMarks t) (sym h.1) (changes_none t)
@@ -56,6 +61,7 @@ later_marks t u b (inr h) = subst (ChangesOwnMarks t) (sym h.1) (changes_none t)
 abbrev pub Showing : Heap → Heap → Option ℕ → Type 0
 Showing s t next = Marked s t [] (λ a. Unit {0}) (λ p. (own_mark t p ≡ 1) × In p (from next (all_atoms s)))
 
+-- at first no term is shown
 pub showing_first : (s : Heap) → Valid s → AtMost (2 ^ 48) s → AreFirsts s → (next : Option ℕ) → from next (all_atoms s) ≡ all_atoms s → Showing s s next
 showing_first s valid few firsts next e = record {
   marks = changes_none s;
@@ -74,6 +80,7 @@ showing_first s valid few firsts next e = record {
       ];
 }
 
+-- then those of one atom more
 pub showing_next : (s t u : Heap) → Valid s → Valid t → (b : ℕ) → IsAtom s b → Showing s t (Some b) → (next : Option ℕ) → from next (all_atoms s) ≡ after b (all_atoms s) → MarksTermsIfFirst t u b → Showing s u next
 showing_next s t u valid valid' b there mk next e (inl h) =
     let m = some_of (home_of s b) (valid.settled.atoms b there) in
@@ -94,6 +101,7 @@ showing_next s t u valid valid' b there mk next e (inr h) =
     (open_more s t [] R (λ p. (own_mark t p ≡ 1) × In p (from (Some b) (all_atoms s))) (λ p. (own_mark t p ≡ 1) × In p (from next (all_atoms s))) mk
     (λ p n o. (o.0, elim o.1 [ inl f ↦ absurd (h.0 (ap (own_mark t) f ∙ o.0)) | inr j ↦ subst (In p) (sym e) j ])))
 
+-- at the end all are
 pub showing_last : (s t : Heap) → Showing s t None → AreShown t
 showing_last s t mk = record {
   each = λ a i. let there = before a i in elim (mk.each a there) [
@@ -121,6 +129,7 @@ showing_last s t mk = record {
 abbrev pub Choosing : Heap → Heap → Option ℕ → Type 0
 Choosing s t next = Marked s t (all_atoms s) (λ a. In a (from next (all_atoms s))) (λ p. ⊥)
 
+-- at first no later item is chosen
 pub choosing_first : (s : Heap) → Valid s → AtMost (2 ^ 48) s → AreShown s → (next : Option ℕ) → from next (all_atoms s) ≡ all_atoms s → Choosing s s next
 choosing_first s valid few shown next e = record {
   marks = changes_none s;
@@ -143,6 +152,7 @@ choosing_first s valid few shown next e = record {
       | inr q ↦ elim q [ inl z ↦ cc | inr z ↦ cc ]
     ]
 
+-- then one atom more is asked
 pub choosing_next : (s t u : Heap) → Valid s → AtMost (2 ^ 48) s → (b : ℕ) → IsAtom s b → Choosing s t (Some b) → (next : Option ℕ) → from next (all_atoms s) ≡ after b (all_atoms s) → MarksLater t u b → Choosing s u next
 choosing_next s t u valid few b there mk next e (inl h) =
     let xs = all_atoms s in

@@ -69,6 +69,7 @@ open_more s t xs R O Q mk f = record {
   below = λ m p c k h n. elim (mk.below m p c k h n) [ inl o ↦ inl (f p n o) | inr d ↦ inr d ];
 }
 
+-- what is said of the rest by one word is said by another
 pub rest_less : (s t : Heap) (xs : List ℕ) (R Q O : ℕ → Type 0) → Marked s t xs R O → ((a : ℕ) → own_mark t a ≡ 0 → R a → Q a) → ((a : ℕ) → Q a → R a) → Marked s t xs Q O
 rest_less s t xs R Q O mk f g = record {
   marks = mk.marks;

@@ -8,6 +8,7 @@ use Rattle.lmn_items.proofs.Orders.{after_here, after_there}
 use Rattle.lmn_base.specs.Lists.{In}
 use Rattle.lmn_lists.proofs.TableLemmas.{in_after}
 
+-- an atom has one position
 pub one_position : (xs : List ℕ) (p q a : ℕ) → Distinct xs → slice_get xs p ≡ Some a → slice_get xs q ≡ Some a → p ≡ q
 one_position [] p q a d e f = absurd (none-some a e)
 one_position (x ∷ xs) zero zero a d e f = refl

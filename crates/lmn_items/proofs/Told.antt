@@ -51,6 +51,7 @@ some_shown atoms ps few are =
 
 -- marks of items
 
+-- an atom with the own mark 1 or 2 is an item
 pub item_mark : (s : Heap) (a : ℕ) → (own_mark s a ≡ 1) ⊎ (own_mark s a ≡ 2) → is_item s a ≡ true
 item_mark s a (inl e) = ap (λ t. t || (own_mark s a == 2)) (eq-eqb (own_mark s a) 1 e)
 item_mark s a (inr e) = by (own_mark s a == 1) (own_mark s a == 2) (eq-eqb (own_mark s a) 2 e)
@@ -59,6 +60,7 @@ item_mark s a (inr e) = by (own_mark s a == 1) (own_mark s a == 2) (eq-eqb (own_
     by true u e = refl
     by false u e = e
 
+-- and an item has one of these
 pub mark_item : (s : Heap) (a : ℕ) → is_item s a ≡ true → (own_mark s a ≡ 1) ⊎ (own_mark s a ≡ 2)
 mark_item s a e = by (own_mark s a == 1) refl (own_mark s a == 2) refl e
   where
@@ -193,5 +195,6 @@ module _ (names : List Name) (s : Heap) (valid : Valid s) (name : ℕ → ℕ �
         shows = subst (λ xs. ShowsItems xs here here some.0) same some.1;
       }
 
+-- where the marks of each membrane are so they tell its folded form
 pub marked_are_told : MarkedAreTold
 marked_are_told s valid all names name naming m is_mem = told names s valid name naming all m is_mem

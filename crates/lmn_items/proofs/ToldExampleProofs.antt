@@ -28,6 +28,7 @@ at_start x y (suc q) e = absurd (none-some y e)
 alone : (x : SolidAtom) (q p k : ℕ) → IsChild (x ∷ []) q p k → ⊥
 alone x q p k c = c.other (at_start x c.child q c.child_at ∙ sym (at_start x c.parent p c.parent_at))
 
+-- in the example the item is told
 pub item_is_told : ItemIsTold
 item_is_told names name = record {
   shown = item_with names (link (name 0 0)) ∷ [];
@@ -73,5 +74,6 @@ marked = record {
     no_mark : (a : ℕ) → In a (0 ∷ []) → (v : ℕ) → (1 ≡ v → ⊥) → own_mark one_item a ≡ v → ⊥
     no_mark a i v d e = d (only_one (λ b. own_mark one_item b ≡ v → 1 ≡ v) (λ f. f) a i e)
 
+-- the marks of one membrane don't tell its folded form
 pub one_membrane_is_not_enough : OneMembraneIsNotEnough
 one_membrane_is_not_enough = (marked, λ names name t. no_items names name _ t.items (0 ∷ []) t.items t.shown refl t.prints t.shows)

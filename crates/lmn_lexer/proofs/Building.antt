@@ -22,6 +22,7 @@ use Rattle.lmn_lexer.proofs.Found.{context_goes_on}
 
 -- steps
 
+-- white space is cut off
 pub blank_off : {text before rest after : List ℕ} {tokens : List Token} (b : ℕ)
     → Reaches text (record { before = before; tokens = tokens; rest = rest }) → rest ≡ b ∷ after → is_ascii_whitespace b ≡ true
     → Reaches text (record { before = before ++ b ∷ []; tokens = tokens; rest = after })
@@ -39,6 +40,7 @@ token_begins minus kind bytes after (b ∷ bs) e p =
     let Q : List ℕ → Type 0 = λ x. BeginsToken minus kind bytes x (b ∷ bs) in
     subst Q same.1 (subst P same.0 t)
 
+-- and so is a token
 pub token_off : {text before rest : List ℕ} {tokens : List Token} (kind : Kind) (bytes after : List ℕ)
     → Reaches text (record { before = before; tokens = tokens; rest = rest })
     → rest ≡ bytes ++ after → piece_of (minus_behind tokens) rest ≡ piece.Token kind (length bytes)
@@ -51,6 +53,7 @@ token_off {rest = rest} {tokens = tokens} kind bytes after h e p = onward h (tok
 abbrev pub IsFirst : Bool → Kind → List ℕ → List ℕ → Type 0
 IsFirst minus kind bytes after = piece_of minus (bytes ++ after) ≡ piece.Token kind (length bytes)
 
+-- white space at the front is a gap of one byte
 pub blank_first : (minus : Bool) (b : ℕ) (after : List ℕ) → is_ascii_whitespace b ≡ true → piece_of minus (b ∷ after) ≡ piece.Gap 1
 blank_first minus b after s = gap_piece minus (separator b after s)
 

@@ -126,5 +126,6 @@ from_place (suc n) text at tokens c h = by (leb_tells (length text) at) (λ next
     by (inl w) again = let whole = whole_cut text at tokens c w.1 in inl (_, whole.0, whole.1)
     by (inr l) again = step (piece_of (minus_behind tokens) (drop at text)) l.1 refl again
 
+-- a text is cut and nothing is wrong in it, or it has a refusal
 pub cut_or_refused : CutOrRefused
 cut_or_refused text = from_place (length text) text 0 [] (cut_nothing text) (omega arith)

@@ -39,12 +39,15 @@ row_parts b h = record {
 
 -- what is found is there
 
+-- where a gap is found one stands
 pub gap_found : (minus : Bool) (b : ℕ) (bs : List ℕ) (n : ℕ) → piece_of minus (b ∷ bs) ≡ piece.Gap n → IsGap (b ∷ bs) n
 gap_found minus b bs n e = let P : Piece → Type 0 = IsPiece minus (b ∷ bs) in subst P e (found minus b bs)
 
+-- and where a token is found one stands
 pub token_stands : (minus : Bool) (kind : Kind) (b : ℕ) (bs : List ℕ) (n : ℕ) → piece_of minus (b ∷ bs) ≡ piece.Token kind n → Stands minus kind (b ∷ bs) n
 token_stands minus kind b bs n e = let P : Piece → Type 0 = IsPiece minus (b ∷ bs) in subst P e (found minus b bs)
 
+-- which begins there by its rule
 pub token_found : (minus : Bool) (kind : Kind) (b : ℕ) (bs : List ℕ) (n : ℕ) → piece_of minus (b ∷ bs) ≡ piece.Token kind n
     → BeginsToken minus kind (take n (b ∷ bs)) (drop n (b ∷ bs)) (b ∷ bs)
 token_found minus kind b bs n e =
@@ -71,6 +74,7 @@ no_token minus text code n e c z kind bytes after spells stands =
     let wrong = subst Q e (subst P (sym stands) (covered minus kind bytes after spells)) in
     wrong.1 c z
 
+-- where something wrong is found it is wrong
 pub wrong_found : (minus : Bool) (b : ℕ) (bs : List ℕ) (code n : ℕ) → piece_of minus (b ∷ bs) ≡ piece.Wrong code n
     → (n ≤ length (b ∷ bs)) × Wrong minus (b ∷ bs) code (take n (b ∷ bs))
 wrong_found minus b bs code n e = let P : Piece → Type 0 = IsPiece minus (b ∷ bs) in go (subst P e (found minus b bs))
@@ -88,6 +92,7 @@ wrong_found minus b bs code n e = let P : Piece → Type 0 = IsPiece minus (b �
 
 -- what is there is found
 
+-- a token at the front has a fault
 pub record IsTokenFault (minus : Bool) (text : List ℕ) (code : ℕ) (skipped : List ℕ) : Type 0 where
   pub kind : Kind
   pub bytes : List ℕ
@@ -137,6 +142,7 @@ bad_byte_piece minus b bs space percent_not string_not link_not quote_not none =
         let zero_is : n ≡ 0 = omega arith in
         e ∙ ap (λ c. piece.Wrong c n) alone.0 ∙ ap (λ m. piece.Wrong 2 m) zero_is
 
+-- what is wrong is found as such, or is the fault of a token
 pub fault_piece : {minus : Bool} {text : List ℕ} {code : ℕ} {skipped : List ℕ} → Wrong minus text code skipped
     → (piece_of minus text ≡ piece.Wrong code (length skipped)) ⊎ IsTokenFault minus text code skipped
 fault_piece {minus = minus} (bad_byte b after e r n) =
@@ -153,28 +159,33 @@ fault_piece {minus = minus} (hyperlink after e) = inl (ap (piece_of minus) e)
 
 -- one alone
 
+-- two lists that are cut at the same length have the same parts
 pub same_front : {xs ys us vs : List ℕ} → xs ++ ys ≡ us ++ vs → length xs ≡ length us → (xs ≡ us) × (ys ≡ vs)
 same_front {xs = xs} {ys = ys} {us = us} {vs = vs} e l = (
   sym (take_at xs ys (length xs) refl) ∙ ap (take (length xs)) e ∙ take_at us vs (length xs) (sym l),
   sym (drop_at xs ys (length xs) refl) ∙ ap (drop (length xs)) e ∙ drop_at us vs (length xs) (sym l),
 )
 
+-- at one place one gap begins
 pub one_gap : {xs ys us vs : List ℕ} → xs ++ ys ≡ us ++ vs → Gap xs ys → Gap us vs → (xs ≡ us) × (ys ≡ vs)
 one_gap {xs = xs} {us = us} e g h =
     let pieces : piece.Gap (length xs) ≡ piece.Gap (length us) = sym (gap_piece true g) ∙ ap (piece_of true) e ∙ gap_piece true h in
     same_front e cc
 
+-- two tokens are the same
 pub record SameToken (kind : Kind) (xs ys : List ℕ) (other : Kind) (us vs : List ℕ) : Type 0 where
   pub kinds : kind ≡ other
   pub bytes : xs ≡ us
   pub rests : ys ≡ vs
 
+-- at one place one token begins
 pub one_token : {minus : Bool} {kind other : Kind} {xs ys us vs text : List ℕ} → BeginsToken minus kind xs ys text → BeginsToken minus other us vs text → SameToken kind xs ys other us vs
 one_token {kind = kind} {other = other} {xs = xs} {us = us} t o =
     let pieces : piece.Token kind (length xs) ≡ piece.Token other (length us) = sym (token_piece t) ∙ token_piece o in
     let parts = same_front (sym t.stands ∙ o.stands) cc in
     record { kinds = cc; bytes = parts.0; rests = parts.1 }
 
+-- and not both
 pub gap_or_token : {minus : Bool} {kind : Kind} {xs ys us vs text : List ℕ} → text ≡ xs ++ ys → Gap xs ys → BeginsToken minus kind us vs text → ⊥
 gap_or_token {minus = minus} {kind = kind} {xs = xs} {us = us} e g t =
     let pieces : piece.Gap (length xs) ≡ piece.Token kind (length us) = sym (gap_piece minus g) ∙ ap (piece_of minus) (sym e) ∙ token_piece t in
@@ -204,6 +215,7 @@ wrong_front {text = text} (string after e) = (text, refl)
 wrong_front {text = text} (inline_code after e) = (text, refl)
 wrong_front {text = text} (hyperlink after e) = (text, refl)
 
+-- at one place one thing is wrong
 pub one_fault : {minus : Bool} {text : List ℕ} {code other : ℕ} {skipped passed : List ℕ} → Wrong minus text code skipped → Wrong minus text other passed → (code ≡ other) × (skipped ≡ passed)
 one_fault {minus = minus} {text = text} {code = code} {other = other} {skipped = skipped} {passed = passed} w v = go (fault_piece w) (fault_piece v)
   where
@@ -221,6 +233,7 @@ one_fault {minus = minus} {text = text} {code = code} {other = other} {skipped =
         let R : List ℕ → Type 0 = λ x. TokenFault g.kind g.bytes x code in
         (one_code (subst P same.kinds (subst Q same.bytes (subst R same.rests g.fault))) h.fault, g.none_skipped ∙ sym h.none_skipped)
 
+-- a gap is not wrong
 pub gap_not_wrong : {minus : Bool} {xs ys text : List ℕ} {code : ℕ} {skipped : List ℕ} → text ≡ xs ++ ys → Gap xs ys → Wrong minus text code skipped → ⊥
 gap_not_wrong {minus = minus} {xs = xs} {text = text} {code = code} {skipped = skipped} e g w = go (fault_piece w)
   where
@@ -228,6 +241,7 @@ gap_not_wrong {minus = minus} {xs = xs} {text = text} {code = code} {skipped = s
     go (inl f) = let pieces : piece.Gap (length xs) ≡ piece.Wrong code (length skipped) = sym (gap_piece minus g) ∙ ap (piece_of minus) (sym e) ∙ f in cc
     go (inr f) = gap_or_token e g f.token
 
+-- nor a token without a fault
 pub token_not_wrong : {minus : Bool} {kind : Kind} {xs ys text : List ℕ} {code : ℕ} {skipped : List ℕ} → BeginsToken minus kind xs ys text
     → ((found : ℕ) → TokenFault kind xs ys found → ⊥) → Wrong minus text code skipped → ⊥
 token_not_wrong {minus = minus} {kind = kind} {xs = xs} {ys = ys} {text = text} {code = code} {skipped = skipped} t none w = go (fault_piece w)

@@ -19,6 +19,7 @@ use Rattle.lmn_base.proofs.Numbers.{equal_when}
 
 -- words and numbers by their first byte
 
+-- a small letter begins a name
 pub lower_piece : (minus : Bool) (b : ℕ) (bs : List ℕ) → is_ascii_lowercase b ≡ true → piece_of minus (b ∷ bs) ≡ lowercase_at (b ∷ bs)
 lower_piece minus b bs h =
     let space : is_ascii_whitespace b ≡ false = grind (arith, nat_tests) in
@@ -27,6 +28,7 @@ lower_piece minus b bs h =
     ∙ ap (λ t. if t then lowercase_at (b ∷ bs)
     else (if begins_link b then piece.Token Link (1 + word_bytes bs) else (if is_ascii_digit b then piece.Token Int (1 + digit_bytes bs) else sign_piece minus b bs))) h
 
+-- a capital letter or `_` begins a link, up to the end of the word
 pub link_piece : (minus : Bool) (b : ℕ) (bs : List ℕ) → begins_link b ≡ true → piece_of minus (b ∷ bs) ≡ piece.Token Link (1 + word_bytes bs)
 link_piece minus b bs h =
     let space : is_ascii_whitespace b ≡ false = grind (arith, nat_tests) in
@@ -37,6 +39,7 @@ link_piece minus b bs h =
     else (if begins_link b then piece.Token Link (1 + word_bytes bs) else (if is_ascii_digit b then piece.Token Int (1 + digit_bytes bs) else sign_piece minus b bs))) low
     ∙ ap (λ t. if t then piece.Token Link (1 + word_bytes bs) else (if is_ascii_digit b then piece.Token Int (1 + digit_bytes bs) else sign_piece minus b bs)) h
 
+-- a digit begins an integer, up to the last digit
 pub digit_piece : (minus : Bool) (b : ℕ) (bs : List ℕ) → is_ascii_digit b ≡ true → piece_of minus (b ∷ bs) ≡ piece.Token Int (1 + digit_bytes bs)
 digit_piece minus b bs h =
     let space : is_ascii_whitespace b ≡ false = grind (arith, nat_tests) in
@@ -145,6 +148,7 @@ quotish_covers n m Free (piece.Token kind k) l h = omega arith
 quotish_covers n m Free (piece.Gap k) l h = absurd h
 quotish_covers n m Free (piece.Wrong code k) l h = h
 
+-- a byte that may stand in quotes is no quote and no line feed
 pub quote_not_line : (b : ℕ) → is_quotable b ≡ true → ((b == 39) ≡ false) × ((b == 10) ≡ false)
 quote_not_line b h = (grind (arith, nat_tests), grind (arith, nat_tests))
 
@@ -181,6 +185,7 @@ sign_covered minus kind sign first more (b ∷ bs) after found wrong sub h e =
     let long = run_at_least more (b ∷ bs) after (sub b h.0, h.1) in
     subst P (sym (e ∙ ap (λ t. if t then piece.Token found (1 + prefix_len more (b ∷ (bs ++ after))) else wrong) h.0)) (omega arith)
 
+-- a byte that begins the name of a context is no `@`
 pub context_not_at : (b : ℕ) → begins_context b ≡ true → (b == 64) ≡ false
 context_not_at b h = grind (arith, nat_tests)
 
@@ -220,6 +225,7 @@ covered_rule_context : (minus : Bool) (bytes after : List ℕ) → Spells minus 
 covered_rule_context minus [] after h = absurd h
 covered_rule_context minus (b ∷ bs) after (e, h) = literal minus RuleCtx (b ∷ bs) (64 ∷ bs) after (ap (λ x. x ∷ bs) e) (rule_context_covered minus bs after h)
 
+-- the bytes of each kind of token are found as that token
 pub covered : (minus : Bool) (kind : Kind) (bytes after : List ℕ) → Spells minus kind bytes → Covered minus kind bytes after
 covered minus Name bytes after h = covered_word minus Name bytes after is_ascii_lowercase (λ b bs e. (word_kind (take (1 + word_bytes bs) (b ∷ bs)), lower_piece minus b bs e)) h.0
 covered minus Quoted bytes after (name, q) = literal minus Quoted bytes (39 ∷ (q.inside ++ 39 ∷ [])) after q.stands (quoted_covered minus q.inside name after q.quotes)

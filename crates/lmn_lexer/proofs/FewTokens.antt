@@ -21,6 +21,7 @@ reached_few (onward {c = c} {d = d} h s) = go (step_of s) (reached_few h)
         let sum = length-append c.tokens (token_at kind c.before bytes ∷ []) in
         omega arith
 
+-- there are no more tokens than bytes, but for the end
 pub few_tokens : FewTokens
 few_tokens text tokens c =
     let few = reached_few c.cut in

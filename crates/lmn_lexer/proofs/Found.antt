@@ -22,6 +22,7 @@ use Rattle.lmn_base.proofs.Numbers.{equal_when, unequal_when}
 use Rattle.lmn_base.proofs.Truth.{and_true as both_true}
 use Rattle.lmn_base.proofs.Lists.{head_is, tail_is}
 
+-- a byte that begins the name of a context may go on in it
 pub context_goes_on : (b : ℕ) → begins_context b ≡ true → goes_on b ≡ true
 context_goes_on b h = grind (arith, nat_tests)
 
@@ -35,6 +36,7 @@ pub record Stands (minus : Bool) (kind : Kind) (text : List ℕ) (n : ℕ) : Typ
   pub no_block_comment : ¬ (Begins (codes "/*") text)
   pub no_inline_code : ¬ (Begins (codes "[:") text)
 
+-- a gap of so many bytes stands at the front
 pub record IsGap (text : List ℕ) (n : ℕ) : Type 0 where
   pub some : 0 < n
   pub within : n ≤ length text
@@ -50,10 +52,12 @@ pub record IsBadFirst (b code n : ℕ) : Type 0 where
   pub code_is : code ≡ 2
   pub at_first : n ≡ 0
 
+-- something wrong stands at the front
 abbrev pub IsWrong : Bool → List ℕ → ℕ → ℕ → Type 0
 IsWrong minus [] code n = ⊥
 IsWrong minus (b ∷ bs) code n = IsBadFirst b code n ⊎ ((n ≤ length (b ∷ bs)) × Wrong minus (b ∷ bs) code (take n (b ∷ bs)))
 
+-- such a piece stands at the front
 abbrev pub IsPiece : Bool → List ℕ → Piece → Type 0
 IsPiece minus text (piece.Gap n) = IsGap text n
 IsPiece minus text (piece.Token kind n) = Stands minus kind text n
@@ -272,6 +276,7 @@ line_found minus sign bs make some =
     (length-append sign (take n bs) ∙ ap (λ m. length sign + m) (length-take-le n bs within)) (omega arith)
     (make (take n bs) (drop n bs) run.passes (ends_line (drop n bs) run.stops))
 
+-- nothing and something that doesn't hold hold together
 pub and_false : (b : Bool) → (b && false) ≡ false
 and_false true = refl
 and_false false = refl
@@ -293,6 +298,7 @@ pub record Closes (text : List ℕ) (n : ℕ) : Type 0 where
   pub place : length inside ≡ n
   pub first : ¬ (OccursIn (codes "*/") (inside ++ codes "*"))
 
+-- the end of a comment stands there, or nowhere
 abbrev pub IsClose : List ℕ → Option ℕ → Type 0
 IsClose text None = ¬ (OccursIn (codes "*/") text)
 IsClose text (Some n) = Closes text n
@@ -322,6 +328,7 @@ close_step b bs (Some n) e h = record {
     not_closed [] s = and_false (b == 42)
     not_closed (c ∷ cs) s = sym (ap (λ x. (b == 42) && follows 47 x) s) ∙ e
 
+-- what is found is the end of the comment
 pub close_found : (text : List ℕ) → IsClose text (close_at text)
 close_found [] = λ h. nothing_holds h
 close_found (b ∷ bs) =
@@ -373,6 +380,7 @@ percent_found minus bs = line_found minus (37 ∷ []) bs percent (omega arith)
 
 -- names in quotes
 
+-- two quoted parts one after the other are quoted
 pub quotes_append : {xs ys names others : List ℕ} → Quotes xs names → Quotes ys others → Quotes (xs ++ ys) (names ++ others)
 quotes_append nothing k = k
 quotes_append (quote h) k = quote (quotes_append h k)
@@ -493,6 +501,7 @@ sign_piece_found minus b bs s =
       not_bracket = unequal_when b 91 bracket_not;
     }))))))))))))
 
+-- the piece that is found stands at the front
 pub found : (minus : Bool) (b : ℕ) (bs : List ℕ) → IsPiece minus (b ∷ bs) (piece_of minus (b ∷ bs))
 found minus b bs =
     let P : Piece → Type 0 = IsPiece minus (b ∷ bs) in

@@ -98,6 +98,7 @@ all_right text (word {minus = minus} {kind = kind} {bytes = bytes} {rest = rest}
     all_right text h (at + n) (tokens ++ t ∷ []) (sym (minus_last tokens t)) (sym behind ∙ drop-drop n at text)
     (token_cut text at n tokens kind c (not_at_end text (drop at text) at refl some) found none) all.1
 
+-- a text that is laid out as words is cut into them
 pub laid_texts_are_cut : LaidTextsAreCut
 laid_texts_are_cut text words h =
     let c = cut_on text h [] [] refl start in

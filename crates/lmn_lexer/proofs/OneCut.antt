@@ -17,6 +17,7 @@ pub data Step (c d : Cutting) : Type 0 where
   token_step : (kind : Kind) (bytes after : List ℕ) → BeginsToken (minus_behind c.tokens) kind bytes after c.rest
       → d ≡ record { before = c.before ++ bytes; tokens = c.tokens ++ token_at kind c.before bytes ∷ []; rest = after } → Step c d
 
+-- whatever is cut off is cut off by such a step
 pub step_of : {c d : Cutting} → CutsOff c d → Step c d
 step_of (gap {bytes = bytes} {after = after} e g) = gap_step bytes after e g refl
 step_of (token {kind = kind} {bytes = bytes} {after = after} t) = token_step kind bytes after t refl
@@ -147,6 +148,7 @@ ended {c = c} {d = d} h e = go (first_step h)
     go (inl p) = p
     go (inr (m, s, more)) = absurd (step_rest s e)
 
+-- a text is cut in one way at most
 pub one_cut : OneCut
 one_cut text tokens others a b = go (comparable (steps_of a.cut) (steps_of b.cut))
   where
@@ -158,6 +160,7 @@ one_cut text tokens others a b = go (comparable (steps_of a.cut) (steps_of b.cut
     go (inl h) = whole _ _ (ended h refl) tokens others a.with_end b.with_end
     go (inr h) = whole _ _ (sym (ended h refl)) tokens others a.with_end b.with_end
 
+-- a text has at most one first fault
 pub one_refusal : OneFirstFault
 one_refusal text r q a b = go (same_or_earlier a.reached b.reached)
   where
@@ -173,6 +176,7 @@ one_refusal text r q a b = go (same_or_earlier a.reached b.reached)
     go (inr (inl l)) = absurd (b.first a.cutting r.code a.skipped a.reached l a.wrong)
     go (inr (inr l)) = absurd (a.first b.cutting q.code b.skipped b.reached l b.wrong)
 
+-- a text with a first fault isn't without one
 pub refused_is_wrong : RefusedIsWrong
 refused_is_wrong text r a none = none a.cutting r.code a.skipped a.reached a.wrong
 
@@ -185,5 +189,6 @@ reached_whole {text = text} (onward {c = c} {d = d} h s) = go (step_of s) (reach
     go (gap_step bytes after x g p) e = ap (λ z. z.before ++ z.rest) p ∙ append_assoc c.before bytes after ∙ ap (λ r. c.before ++ r) (sym x) ∙ e
     go (token_step kind bytes after t p) e = ap (λ z. z.before ++ z.rest) p ∙ append_assoc c.before bytes after ∙ ap (λ r. c.before ++ r) (sym t.stands) ∙ e
 
+-- no more is cut off than the text has
 pub reached_within : {text : List ℕ} {c : Cutting} → Reaches text c → length c.before ≤ length text
 reached_within {c = c} h = let whole = ap length (reached_whole h) in let sum = length-append c.before c.rest in omega arith

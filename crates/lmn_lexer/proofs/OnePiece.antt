@@ -36,6 +36,7 @@ alone_name minus b bs kind low h k =
     ∙ ap (λ bytes. piece.Token (word_kind bytes) (length (b ∷ bs))) all
     ∙ ap (λ found. piece.Token found (length (b ∷ bs))) k
 
+-- a word that isn't `mod` is a name
 pub not_mod : (bytes : List ℕ) → bytes ≢ codes "mod" → word_kind bytes ≡ Name
 not_mod bytes h = if_case (λ kind. kind ≡ Name) (bytes_eq bytes (codes "mod")) Mod Name (λ e. absurd (h ((bytes_eq-Decides bytes (codes "mod")).0 e))) (λ e. refl)
 
@@ -193,6 +194,7 @@ close_of (b ∷ bs) after h =
 line_length : (line after : List ℕ) → NoLineFeed line → EndsLine after → line_bytes (line ++ after) ≡ length line
 line_length line after h e = run_exact (λ b. not (b == 10)) line after h (stops_line after e)
 
+-- a gap is found as one
 pub gap_piece : {bytes after : List ℕ} (minus : Bool) → Gap bytes after → piece_of minus (bytes ++ after) ≡ piece.Gap (length bytes)
 gap_piece minus (separator b after h) =
     ap (λ t. if t then piece.Gap 1 else (if is_ascii_lowercase b then lowercase_at (b ∷ after)
@@ -205,6 +207,7 @@ gap_piece minus (block inside after h) =
 
 -- faults of names in quotes and of comments
 
+-- a byte that can't stand in quotes is found as wrong, where it stands
 pub bad_quoted_piece : {inside name : List ℕ} (minus : Bool) (b : ℕ) (after : List ℕ) → Quotes inside name → is_quotable b ≡ false → b ≢ 39 → b ≢ 10
     → piece_of minus (39 ∷ (inside ++ b ∷ after)) ≡ piece.Wrong 2 (length (39 ∷ inside))
 bad_quoted_piece {inside = inside} minus b after q not_quotable x y =
@@ -220,9 +223,11 @@ open_rest : (n : ℕ) (after : List ℕ) → EndsLine after → quoted_behind n 
 open_rest n [] h = refl
 open_rest n (b ∷ bs) h = ap (λ x. quoted_behind n (x ∷ bs)) h ∙ quoted_steps n 10 bs
 
+-- quotes that aren't closed are found as wrong
 pub open_quote_piece : {inside name : List ℕ} (minus : Bool) (after : List ℕ) → Quotes inside name → EndsLine after → piece_of minus (39 ∷ (inside ++ after)) ≡ piece.Wrong 3 0
 open_quote_piece {inside = inside} minus after q e = quoted_past q 1 after ∙ open_rest (1 + length inside) after e
 
+-- and so is a comment that isn't
 pub open_comment_piece : (minus : Bool) (inside : List ℕ) → ¬ (OccursIn (codes "*/") inside) → piece_of minus (codes "/*" ++ inside) ≡ piece.Wrong 3 0
 open_comment_piece minus inside h = ap (λ o. elim o [ None ↦ piece.Wrong 3 0 | Some n ↦ piece.Gap (n + 4) ]) (go (close_at inside) refl (close_found inside))
   where
@@ -230,6 +235,7 @@ open_comment_piece minus inside h = ap (λ o. elim o [ None ↦ piece.Wrong 3 0 
     go None e c = e
     go (Some n) e c = absurd (h (c.inside, c.after, c.stands))
 
+-- a token has some byte
 pub token_some : {minus : Bool} {kind : Kind} {bytes after text : List ℕ} → BeginsToken minus kind bytes after text → 0 < length bytes
 token_some {minus = minus} {kind = kind} {bytes = bytes} {text = text} t = go text (token_piece t)
   where

@@ -29,5 +29,6 @@ column_within column (b ∷ bs) = go (b == 10) (column_within 1 bs) (column_with
     go true h k = omega arith
     go false h k = omega arith
 
+-- line and column are at most one more than the bytes before
 pub place_within : (before : List ℕ) → ((place before).line ≤ 1 + length before) × ((place before).column ≤ 1 + length before)
 place_within before = (let counts = count_by-le-length (λ b. b == 10) before in omega arith, column_within 1 before)

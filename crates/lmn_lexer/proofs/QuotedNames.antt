@@ -49,6 +49,7 @@ left_begins inside name at l h k =
 abbrev Went : List ℕ → ℕ → List ℕ → Type 0
 Went inside at name = (at ≤ length inside) × Quotes (take at inside) name
 
+-- a byte in quotes goes to the name
 pub byte_went : (inside name : List ℕ) (at : ℕ) → at < length inside → Inside inside → Quotes (take at inside) name → (get_or inside at 0 ≡ 39 → ⊥)
     → Went inside (at + 1) (name ++ get_or inside at 0 ∷ [])
 byte_went inside name at l h k n = go (left_begins inside name at l h k)
@@ -59,6 +60,7 @@ byte_went inside name at l h k n = go (left_begins inside name at l h k)
         (omega arith, subst P (sym (take_more inside at 0 l)) (quotes_append k (byte e nothing)))
     go (inr (e, r)) = absurd (n e)
 
+-- and two quotes go as one
 pub quote_went : (inside name : List ℕ) (at : ℕ) → at < length inside → Inside inside → Quotes (take at inside) name → get_or inside at 0 ≡ 39
     → Went inside (at + 1 + 1) (name ++ get_or inside at 0 ∷ [])
 quote_went inside name at l h k q = go (left_begins inside name at l h k)

@@ -16,6 +16,7 @@ use Rattle.lmn_lexer.proofs.Determined.{gap_found, token_stands, token_found, wr
 use Rattle.lmn_lexer.proofs.OneCut.{before_step, same_or_earlier, reached_within}
 use Rattle.lmn_base.proofs.Lists.{length_taken as cut_length}
 
+-- at the front nothing is cut off yet
 pub cut_nothing : (text : List ℕ) → IsCut text 0 []
 cut_nothing text = record { within = omega arith; reached = start; right = λ c code skipped h l. absurd (omega arith) }
 
@@ -42,6 +43,7 @@ wrong_in minus (b ∷ bs) code n h e = wrong_found minus b bs code n e
 
 -- how many bytes it has
 
+-- a gap has some bytes, all in the text
 pub gap_bytes : (minus : Bool) (text : List ℕ) (at n : ℕ) → at < length text → piece_of minus (drop at text) ≡ piece.Gap n → (0 < n) × (at + n ≤ length text)
 gap_bytes minus text at n h e =
     let g = gap_in minus (drop at text) n (rest_some text at h) e in
@@ -49,6 +51,7 @@ gap_bytes minus text at n h e =
     let within = g.within in
     (g.some, omega arith)
 
+-- and so has a token
 pub token_bytes : (minus : Bool) (kind : Kind) (text : List ℕ) (at n : ℕ) → at < length text → piece_of minus (drop at text) ≡ piece.Token kind n → (0 < n) × (at + n ≤ length text)
 token_bytes minus kind text at n h e =
     let g = stands_in minus kind (drop at text) n (rest_some text at h) e in
@@ -56,6 +59,7 @@ token_bytes minus kind text at n h e =
     let within = g.within in
     (g.some, omega arith)
 
+-- what is skipped before something wrong is in the text
 pub wrong_bytes : (minus : Bool) (text : List ℕ) (at code n : ℕ) → at < length text → piece_of minus (drop at text) ≡ piece.Wrong code n → at + n ≤ length text
 wrong_bytes minus text at code n h e =
     let w = wrong_in minus (drop at text) code n (rest_some text at h) e in
@@ -63,6 +67,7 @@ wrong_bytes minus text at code n h e =
     let within = w.0 in
     omega arith
 
+-- the bytes of a quoted name are quoted
 pub quoted_bytes : (minus : Bool) (text : List ℕ) (at n : ℕ) (kind : Kind) → at < length text → piece_of minus (drop at text) ≡ piece.Token kind n → kind ≡ Quoted
     → (name : List ℕ) × IsQuoted (take n (drop at text)) name
 quoted_bytes minus text at n kind h e q =
@@ -85,6 +90,7 @@ right_on text at n tokens more c within step here = record {
     go d code skipped wrong reached (inl e) = let P : Cutting → Type 0 = λ x. WrongAt x code skipped in here code skipped (subst P e wrong)
     go d code skipped wrong reached (inr l) = c.right d code skipped reached (let size = cut_length text at c.within in omega arith) wrong
 
+-- a gap is passed without a token
 pub gap_cut : (text : List ℕ) (at n : ℕ) (tokens : List Token) → IsCut text at tokens → at < length text → piece_of (minus_behind tokens) (drop at text) ≡ piece.Gap n
     → IsCut text (at + n) tokens
 gap_cut text at n tokens c h e =
@@ -96,6 +102,7 @@ gap_cut text at n tokens c h e =
     ∙ ap (λ r. record { before = take (at + n) text; tokens = tokens; rest = r }) (drop-drop n at text) in
     right_on text at n tokens tokens c (gap_bytes (minus_behind tokens) text at n h e).1 (subst P end step) (λ code skipped w. gap_not_wrong split g.gap w)
 
+-- a token without a fault is cut off
 pub token_cut : (text : List ℕ) (at n : ℕ) (tokens : List Token) (kind : Kind) → IsCut text at tokens → at < length text → piece_of (minus_behind tokens) (drop at text) ≡ piece.Token kind n
     → ((code : ℕ) → TokenFault kind (take n (drop at text)) (drop n (drop at text)) code → ⊥)
     → IsCut text (at + n) (tokens ++ token_at kind (take at text) (take n (drop at text)) ∷ [])
@@ -131,10 +138,12 @@ refused_at text at tokens code skipped c w = record {
   first = λ d other passed reached less. c.right d other passed reached (let size = cut_length text at c.within in omega arith);
 }
 
+-- something wrong behind what was cut is the first fault
 pub wrong_cut : (text : List ℕ) (at n : ℕ) (tokens : List Token) (code : ℕ) → IsCut text at tokens → at < length text → piece_of (minus_behind tokens) (drop at text) ≡ piece.Wrong code n
     → IsLexicalFault text (record { code = code; pos = place (take at text ++ take n (drop at text)) })
 wrong_cut text at n tokens code c h e = refused_at text at tokens code (take n (drop at text)) c (wrong_in (minus_behind tokens) (drop at text) code n (rest_some text at h) e).1
 
+-- and so is the fault of a token
 pub fault_cut : (text : List ℕ) (at n : ℕ) (tokens : List Token) (kind : Kind) (code : ℕ) → IsCut text at tokens → at < length text → piece_of (minus_behind tokens) (drop at text) ≡ piece.Token kind n
     → TokenFault kind (take n (drop at text)) (drop n (drop at text)) code → IsLexicalFault text (record { code = code; pos = place (take at text) })
 fault_cut text at n tokens kind code c h e f =
@@ -144,6 +153,7 @@ fault_cut text at n tokens kind code c h e f =
 
 -- the whole text
 
+-- what is cut off to its end is the whole text, with `End` behind it, and nothing is wrong
 pub whole_cut : (text : List ℕ) (at : ℕ) (tokens : List Token) → IsCut text at tokens → length text ≤ at
     → Cuts text (tokens ++ record { kind = End; start = at; end = at; pos = place (take at text) } ∷ []) × NothingWrong text
 whole_cut text at tokens c h =

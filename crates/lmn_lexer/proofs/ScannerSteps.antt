@@ -40,15 +40,19 @@ stands_in text s rest n h e w =
 found_at : (text : List ℕ) (s : Scanner) (rest : List ℕ) (p : Piece) → IsScanned text s → rest ≡ drop s.at text → p ≡ piece_of s.minus rest → piece_of (minus_behind s.tokens) (drop s.at text) ≡ p
 found_at text s rest p h e f = sym (f ∙ ap (piece_of s.minus) e ∙ ap (λ m. piece_of m (drop s.at text)) h.minus)
 
+-- a gap stands where the scanner is
 pub gap_stands : (text : List ℕ) (s : Scanner) (rest : List ℕ) (n : ℕ) → IsScanned text s → s.at < length text → rest ≡ drop s.at text → piece.Gap n ≡ piece_of s.minus rest → StandsIn text s rest n
 gap_stands text s rest n h l e f = stands_in text s rest n h e (gap_bytes (minus_behind s.tokens) text s.at n l (found_at text s rest (piece.Gap n) h e f)).1
 
+-- and so a token
 pub token_stands : (text : List ℕ) (s : Scanner) (rest : List ℕ) (n : ℕ) (kind : Kind) → IsScanned text s → s.at < length text → rest ≡ drop s.at text → piece.Token kind n ≡ piece_of s.minus rest → StandsIn text s rest n
 token_stands text s rest n kind h l e f = stands_in text s rest n h e (token_bytes (minus_behind s.tokens) kind text s.at n l (found_at text s rest (piece.Token kind n) h e f)).1
 
+-- and what is skipped before something wrong
 pub wrong_stands : (text : List ℕ) (s : Scanner) (rest : List ℕ) (n code : ℕ) → IsScanned text s → s.at < length text → rest ≡ drop s.at text → piece.Wrong code n ≡ piece_of s.minus rest → StandsIn text s rest n
 wrong_stands text s rest n code h l e f = stands_in text s rest n h e (wrong_bytes (minus_behind s.tokens) text s.at code n l (found_at text s rest (piece.Wrong code n) h e f))
 
+-- at the front nothing is scanned
 pub nothing_scanned : (text : List ℕ) (tokens : List Token) → tokens ≡ [] → IsScanned text (record { at = 0; pos = record { line = 1; column = 1 }; minus = true; tokens = tokens })
 nothing_scanned text tokens e =
     let P : List Token → Type 0 = λ t. IsScanned text (record { at = 0; pos = record { line = 1; column = 1 }; minus = true; tokens = t }) in
@@ -79,6 +83,7 @@ passed text s t rest n h e w p =
     let at : t.at ≡ s.at + n = p.at ∙ ap (λ m. s.at + m) (sym size) in
     (at, place_on text s.at n s.pos t.pos rest h.placed e p.line p.column ∙ ap place (sym (take-add s.at n text) ∙ ap (λ m. take m text) (sym at)))
 
+-- a gap is passed
 pub gap_scanned : (text : List ℕ) (s t : Scanner) (rest : List ℕ) (n : ℕ) → IsScanned text s → s.at < length text → rest ≡ drop s.at text → piece.Gap n ≡ piece_of s.minus rest
     → Passes s t (take n rest) → t.tokens ≡ s.tokens → t.minus ≡ s.minus → IsScanned text t × (s.at < t.at)
 gap_scanned text s t rest n h l e f p tokens minus =
@@ -95,11 +100,13 @@ gap_scanned text s t rest n h l e f p tokens minus =
       omega (arith, on.0),
     )
 
+-- a `-` may begin an integer behind a token that is no operand
 pub minus_last : (tokens : List Token) (t : Token) → minus_behind (tokens ++ t ∷ []) ≡ not (is_operand t.kind)
 minus_last [] t = refl
 minus_last (u ∷ []) t = refl
 minus_last (u ∷ v ∷ tokens) t = minus_last (v ∷ tokens) t
 
+-- a token without a fault is passed, and listed
 pub token_scanned : (text : List ℕ) (s t : Scanner) (rest : List ℕ) (n : ℕ) (kind : Kind) → IsScanned text s → s.at < length text → rest ≡ drop s.at text → piece.Token kind n ≡ piece_of s.minus rest
     → ((code : ℕ) → TokenFault kind (take n rest) (drop n rest) code → ⊥) → Passes s t (take n rest)
     → t.tokens ≡ s.tokens ++ record { kind = kind; start = s.at; end = s.at + n; pos = s.pos } ∷ [] → t.minus ≡ not (is_operand kind) → IsScanned text t × (s.at < t.at)
@@ -119,12 +126,14 @@ token_scanned text s t rest n kind h l e f none p tokens minus =
       omega (arith, on.0, bytes.0),
     )
 
+-- something wrong refuses the text, at the place behind what is skipped
 pub wrong_refused : (text : List ℕ) (s : Scanner) (rest : List ℕ) (n code : ℕ) (q : Pos) → IsScanned text s → s.at < length text → rest ≡ drop s.at text → piece.Wrong code n ≡ piece_of s.minus rest
     → q.line ≡ s.pos.line + count_by (λ b. b == 10) (take n rest) → q.column ≡ column_behind s.pos.column (take n rest) → IsLexicalFault text (record { code = code; pos = q })
 wrong_refused text s rest n code q h l e f line column =
     let P : Pos → Type 0 = λ z. IsLexicalFault text (record { code = code; pos = z }) in
     subst P (sym (place_on text s.at n s.pos q rest h.placed e line column)) (wrong_cut text s.at n s.tokens code h.cut l (found_at text s rest (piece.Wrong code n) h e f))
 
+-- and so does the fault of a token, at its own place
 pub fault_refused : (text : List ℕ) (s : Scanner) (rest : List ℕ) (n code : ℕ) (kind : Kind) → IsScanned text s → s.at < length text → rest ≡ drop s.at text → piece.Token kind n ≡ piece_of s.minus rest
     → TokenFault kind (take n rest) (drop n rest) code → IsLexicalFault text (record { code = code; pos = s.pos })
 fault_refused text s rest n code kind h l e f fault =
@@ -132,11 +141,13 @@ fault_refused text s rest n code kind h l e f fault =
     let F : List ℕ → Type 0 = λ x. TokenFault kind (take n x) (drop n x) code in
     subst P (sym h.placed) (fault_cut text s.at n s.tokens kind code h.cut l (found_at text s rest (piece.Token kind n) h e f) (subst F e fault))
 
+-- a quoted name is quoted
 pub quoted_there : (text : List ℕ) (s : Scanner) (rest : List ℕ) (n : ℕ) (kind : Kind) → IsScanned text s → s.at < length text → rest ≡ drop s.at text → piece.Token kind n ≡ piece_of s.minus rest
     → kind ≡ Quoted → (name : List ℕ) × IsQuoted (take n rest) name
 quoted_there text s rest n kind h l e f q =
     let P : List ℕ → Type 0 = λ x. (name : List ℕ) × IsQuoted (take n x) name in
     subst P (sym e) (quoted_bytes (minus_behind s.tokens) text s.at n kind l (found_at text s rest (piece.Token kind n) h e f) q)
 
+-- at the end of the text nothing is wrong
 pub all_right : (text : List ℕ) (s : Scanner) → IsScanned text s → length text ≤ s.at → NothingWrong text
 all_right text s h l = (whole_cut text s.at s.tokens h.cut l).1

@@ -11,6 +11,7 @@ use Rattle.lmn_lexer.specs.Values.{bytes_of, IsSound}
 use Rattle.lmn_lexer.specs.Laws.{TokensAreSound}
 use Rattle.lmn_lexer.proofs.OneCut.{Step, gap_step, token_step, step_of, reached_whole}
 
+-- what holds of each token and of one more holds of all
 pub all_add : (P : Token → Type 0) (ts : List Token) (t : Token) → AllByRecursion P ts → P t → AllByRecursion P (ts ++ t ∷ [])
 all_add P [] t h k = (k, tt)
 all_add P (u ∷ ts) t h k = (h.0, all_add P ts t h.1 k)
@@ -55,5 +56,6 @@ sound_so_far {text = text} none (onward {c = c} {d = d} h s) = go (step_of s) (s
         let sound = sound_here text c.before bytes after kind (minus_behind c.tokens) (sym (reached_whole h) ∙ ap (λ r. c.before ++ r) t.stands) t.spells right in
         subst Q (sym p) (all_add (IsSound text) c.tokens (token_at kind c.before bytes) all sound)
 
+-- the tokens before the end are sound, where nothing is wrong
 pub tokens_are_sound : TokensAreSound
 tokens_are_sound text tokens c none = (c.but_end, sound_so_far none c.cut, c.with_end)

@@ -39,6 +39,7 @@ reached_within (onward {c = c} {d = d} h s) = go (step_of s) (reached_within h)
         let R : ℕ → Type 0 = Within 0 (c.tokens ++ token_at kind c.before bytes ∷ []) in
         subst Q (sym p) (subst R (sym size) (within_add 0 (length c.before) c.tokens (token_at kind c.before bytes) (omega arith) (omega arith) w))
 
+-- each token begins at the end of the one before it or behind
 pub spans_in_order : SpansInOrder
 spans_in_order text tokens c =
     let P : List Token → Type 0 = InOrder 0 in

@@ -16,33 +16,40 @@ use Rattle.lmn_lists.proofs.SoundLemmas.{within}
 use Rattle.lmn_lists.proofs.TableLemmas.{list_is, list_within, not_there}
 use Rattle.lmn_base.specs.Lists.{In}
 
+-- there are as many lengths as lists
 pub length-lengths : (ls : List (List ℕ)) → length (lengths ls) ≡ length ls
 length-lengths [] = refl
 length-lengths (xs ∷ ls) = ap suc (length-lengths ls)
 
+-- the length of each list
 pub lengths-at : (ls : List (List ℕ)) (i d : ℕ) → i < length ls → get_or (lengths ls) i d ≡ length (slice_index_or ls i [])
 lengths-at [] i d h = absurd (omega arith)
 lengths-at (xs ∷ ls) zero d h = refl
 lengths-at (xs ∷ ls) (suc i) d h = lengths-at ls i d (omega arith)
 
+-- a list that is changed has another length, and the others have theirs
 pub lengths-set : (ls : List (List ℕ)) (i : ℕ) (xs : List ℕ) → lengths (slice_set ls i xs) ≡ slice_set (lengths ls) i (length xs)
 lengths-set [] i xs = refl
 lengths-set (ys ∷ ls) zero xs = refl
 lengths-set (ys ∷ ls) (suc i) xs = ap (λ ns. length ys ∷ ns) (lengths-set ls i xs)
 
+-- a new list has the length 0
 pub lengths-more : (ls : List (List ℕ)) → lengths (ls ++ [] ∷ []) ≡ lengths ls ++ 0 ∷ []
 lengths-more [] = refl
 lengths-more (ys ∷ ls) = ap (λ ns. length ys ∷ ns) (lengths-more ls)
 
+-- a new list leaves the others
 pub list_more : (t h new : HeldLists) → t ≡ h → new ≡ record t { lists = t.lists ++ [] ∷ [] } → list_at new ≡ list_at h
 list_more t h new v e = λ j i. (ap (λ (u : HeldLists). list_at u i) e ∙ read_more t.lists [] i ∙ ap (λ (u : HeldLists). list_at u i) v) j
 
+-- no list is longer than there are nodes
 pub list_short : (ns : List Node) (es : List Ends) (h : HeldLists) → view_of ns es ≡ h → WellLinked ns es → (l : ℕ) → l < length h.lists → length (list_at h l) ≤ length ns
 list_short ns es h v s l there =
     let lt = list_within ns es h v l there in
     let line = s.line l lt in
     rw (list_is ns es h v l there) (short (length ns) _ line.distinct (within ns l _ line.each))
 
+-- and none that is changed
 pub put_short : (ns : List Node) (es : List Ends) (h new : HeldLists) (l : ℕ) (ys : List ℕ) → view_of ns es ≡ new → WellLinked ns es → new ≡ record h { lists = slice_set h.lists l ys }
     → l < length h.lists → length (list_at new l) ≤ length ns
 put_short ns es h new l ys v s e there = list_short ns es new v s l (subst (λ n. l < n) (sym (ap (λ (u : HeldLists). length u.lists) e ∙ length-set h.lists l ys)) there)
@@ -88,6 +95,7 @@ module _ (t h : HeldLists) (cs : List ℕ) (v : t ≡ h) (i : cs ≡ lengths t.l
           ap (λ ns. slice_set ns l (n - 1)) is_lengths ∙ ap (slice_set (lengths h.lists) l) less
           ∙ sym (lengths-set h.lists l (without x (list_at h l))) ∙ ap (λ (u : HeldLists). lengths u.lists) (sym e)
 
+-- the counts stay right with a new list
 pub more_counts : (t : HeldLists) (cs : List ℕ) → cs ≡ lengths t.lists → (new : HeldLists) → new ≡ record t { lists = t.lists ++ [] ∷ [] } → cs ++ 0 ∷ [] ≡ lengths new.lists
 more_counts t cs i new e = ap (λ ns. ns ++ 0 ∷ []) i ∙ sym (lengths-more t.lists) ∙ ap (λ (u : HeldLists). lengths u.lists) (sym e)
 

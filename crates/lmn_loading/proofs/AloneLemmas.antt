@@ -36,6 +36,7 @@ no_occurrences : (ls : List Leaf) → All IsAlone ls → flat_map occurrences_of
 no_occurrences [] h = refl
 no_occurrences (l ∷ ls) h = both (no_links l (h zero l (omega arith))) (no_occurrences ls (all_of_right IsAlone (l ∷ []) ls h))
 
+-- leaves with nothing behind are these
 pub nil : (ls : List Leaf) → ls ++ [] ≡ ls
 nil [] = refl
 nil (l ∷ ls) = ap (λ ks. l ∷ ks) (nil ls)

@@ -110,6 +110,7 @@ altered_is f m g k i = elim (cases_eq k m) [
 pub line_first : (xs : List ℕ) (a : ℕ) → xs ≡ [] → from (Some a) (xs ++ a ∷ []) ≡ xs ++ a ∷ []
 line_first xs a e = rw e (rw (eq-eqb a a refl) refl)
 
+-- behind the only one in line stands nothing
 pub line_rest : (xs : List ℕ) (a : ℕ) → xs ≡ [] → after a (xs ++ a ∷ []) ≡ []
 line_rest xs a e = rw e (rw (eq-eqb a a refl) refl)
 

@@ -27,16 +27,19 @@ use Rattle.lmn_base.specs.Lists.{In}
 
 -- Lists
 
+-- ports of two lists that are named are so in the first
 pub named_first : (name : ℕ → ℕ → ℕ) (v : ℕ → ℕ) (ps qs : List (Port × ℕ)) → Named name v (ps ++ qs) → Named name v ps
 named_first name v [] qs n = tt
 named_first name v (e ∷ ps) qs n = (n.0, named_first name v ps qs n.1)
 
+-- and in the second
 pub named_second : (name : ℕ → ℕ → ℕ) (v : ℕ → ℕ) (ps qs : List (Port × ℕ)) → Named name v (ps ++ qs) → Named name v qs
 named_second name v [] qs n = n
 named_second name v (e ∷ ps) qs n = named_second name v ps qs n.1
 
 -- Forests side by side
 
+-- a membrane of two forests is in one of them
 pub in_beside : (f g : Forest) (k : ℕ) → In k (flat (beside f g)) → In k (flat f) ⊎ In k (flat g)
 in_beside bare g k i = inr i
 in_beside (mem m x r) g k (inl e) = inl (inl e)
@@ -45,6 +48,7 @@ in_beside (mem m x r) g k (inr i) = elim (in_either k (flat x) (flat (beside r g
   | inr j ↦ elim (in_beside r g k j) [ inl q ↦ inl (inr (lemmas.in_right k (flat x) (flat r) q)) | inr q ↦ inr q ]
 ]
 
+-- and one of the first is in both
 pub beside_first : (f g : Forest) (k : ℕ) → In k (flat f) → In k (flat (beside f g))
 beside_first bare g k i = absurd i
 beside_first (mem m x r) g k (inl e) = inl e
@@ -53,12 +57,14 @@ beside_first (mem m x r) g k (inr i) = elim (in_either k (flat x) (flat r) i) [
   | inr j ↦ inr (lemmas.in_right k (flat x) (flat (beside r g)) (beside_first r g k j))
 ]
 
+-- and so one of the second
 pub beside_second : (f g : Forest) (k : ℕ) → In k (flat g) → In k (flat (beside f g))
 beside_second bare g k i = i
 beside_second (mem m x r) g k i = inr (lemmas.in_right k (flat x) (flat (beside r g)) (beside_second r g k i))
 
 -- Items
 
+-- what stands in a membrane is one
 pub placed_is_mem : (o : Option HeapMem) → IsSome (option_and_then (λ x. home_by x.place) o) → IsSome o
 placed_is_mem None i = absurd (let u : IsSome {T = ℕ} None = i in cc)
 placed_is_mem (Some x) i = refl
@@ -75,9 +81,11 @@ listed_is_atom s h k a i = placed_is_atom (s.atoms a) (within k) ((h.atoms k a).
 made_more : (o : Option HeapAtom) (a : ℕ) (ps qs : List (Port × ℕ)) → ((p : Port) → IsOneOf p (ports ps) → IsOneOf p (ports qs)) → IsMadeAtom o a ps → IsMadeAtom o a qs
 made_more o a ps qs f h = record { in_place = h.in_place; no_connector = h.no_connector; ports = λ i l. f (a, i) (h.ports i l); unmarked = h.unmarked }
 
+-- a port of the first list is one of both
 pub in_first : (ps qs : List (Port × ℕ)) (p : Port) → IsOneOf p (ports ps) → IsOneOf p (ports (ps ++ qs))
 in_first ps qs p i = subst (IsOneOf p) (sym (ports_append ps qs)) (left_in p (ports ps) (ports qs) i)
 
+-- and so is one of the second
 pub in_second : (ps qs : List (Port × ℕ)) (p : Port) → IsOneOf p (ports qs) → IsOneOf p (ports (ps ++ qs))
 in_second ps qs p i = subst (IsOneOf p) (sym (ports_append ps qs)) (right_in p (ports ps) (ports qs) i)
 
@@ -85,12 +93,15 @@ in_second ps qs p i = subst (IsOneOf p) (sym (ports_append ps qs)) (right_in p (
 pub often_both : (v : ℕ → ℕ) (z : ℕ) (xs ys : List ℕ) → places z (map v (xs ++ ys)) ≡ places z (map v xs) + places z (map v ys)
 often_both v z xs ys = ap (places z) (map-append v xs ys) ∙ often_append z (map v xs) (map v ys)
 
+-- a link has in both lists the places of each
 pub links_both : (v : ℕ → ℕ) (z : ℕ) (ps qs : List (Port × ℕ)) → places z (map v (links (ps ++ qs))) ≡ places z (map v (links ps)) + places z (map v (links qs))
 links_both v z ps qs = ap (λ xs. places z (map v xs)) (links_append ps qs) ∙ often_both v z (links ps) (links qs)
 
+-- and so in leaves
 pub leaves_both : (v : ℕ → ℕ) (z : ℕ) (ls ks : List Leaf) → places z (map v (atom_links (ls ++ ks))) ≡ places z (map v (atom_links ls)) + places z (map v (atom_links ks))
 leaves_both v z ls ks = ap (λ xs. places z (map v xs)) (flat_map-append atom_leaf_links ls ks) ∙ often_both v z (atom_links ls) (atom_links ks)
 
+-- and in membranes
 pub inner_both : (v : ℕ → ℕ) (z : ℕ) (ls ks : List Level) →
     places z (map v (atom_links (flat_map leaves_of (ls ++ ks)))) ≡ places z (map v (atom_links (flat_map leaves_of ls))) + places z (map v (atom_links (flat_map leaves_of ks)))
 inner_both v z ls ks = ap (λ xs. places z (map v (atom_links xs))) (flat_map-append leaves_of ls ks) ∙ leaves_both v z (flat_map leaves_of ls) (flat_map leaves_of ks)

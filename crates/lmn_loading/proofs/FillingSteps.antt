@@ -104,15 +104,18 @@ piece_arities [] i x l h = absurd (omega (arith, l))
 piece_arities (m ∷ ms) zero x l h = all_of_left FitsArity (leaves_of m) (flat_map leaves_of ms) h
 piece_arities (m ∷ ms) (suc i) x l h = piece_arities ms i x (omega (arith, l)) (all_of_right FitsArity (leaves_of m) (flat_map leaves_of ms) h)
 
+-- the leaves of a membrane fit their arities where those of the level do
 pub inner_arities : (l : Level) (ms : List Level) (i : ℕ) (x : Level) → i < length ms → x ≡ get_or ms i x → ms ≡ (out-Level l).membranes → All FitsArity (leaves_of l) → All FitsArity (leaves_of x)
 inner_arities l ms i x lt e d h = subst (λ y. All FitsArity (leaves_of y)) (sym e) (piece_arities ms i x lt
     (subst (λ xs. All FitsArity (flat_map leaves_of xs)) (sym d) (all_of_right FitsArity (out-Level l).leaves (flat_map leaves_of (out-Level l).membranes) (subst (All FitsArity) (leaves_apart l) h))))
 
 -- Rules
 
+-- at first no rule is added
 pub rules_start : (s t : Heap) (m n : ℕ) → CanBeFilled s m → t ≡ reserved s m n → AddsToMembrane s t m [] [] [] []
 rules_start s t m n h e = subst (λ u. AddsToMembrane s u m [] [] [] []) (sym e) (room_added s m n h)
 
+-- then one more
 pub rules_next : (s t u : Heap) (m : ℕ) (ks : List ℕ) (i d : ℕ) → CanBeFilled s m → i < length ks → AddsToMembrane s t m [] [] (take i ks) [] → u ≡ rule_added t m (get_or ks i d) → AddsToMembrane s u m [] [] (take (i + 1) ks) []
 rules_next s t u m ks i d h l a e = subst (λ xs. AddsToMembrane s u m [] [] xs []) (sym (take_more ks i d l))
     (subst (λ w. AddsToMembrane s w m [] [] (take i ks ++ get_or ks i d ∷ []) []) (sym e) (composed s t (rule_added t m (get_or ks i d)) m [] [] [] [] (take i ks) (get_or ks i d ∷ []) [] [] h a (one_rule t m (get_or ks i d) a.ready)))
@@ -126,6 +129,7 @@ length_drop (x ∷ xs) (suc i) = length_drop xs i ∙ less (length xs)
     less : (n : ℕ) → n - i ≡ suc n - suc i
     less n = omega arith
 
+-- for which there is room
 pub room_next : (t u : Heap) (m k : ℕ) (ks : List ℕ) (i : ℕ) → CanBeFilled t m → i < length ks → length (drop i ks) ≤ spare_of t m → u ≡ rule_added t m k → length (drop (i + 1) ks) ≤ spare_of u m
 room_next t u m k ks i h l r e =
     let a = length_drop ks i in

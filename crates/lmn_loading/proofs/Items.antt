@@ -64,12 +64,14 @@ solid_items p s h = ap (λ r. fold-Region ℕ items_step r) h.is ∙ items_fused
 small : (n k size : ℕ) → size < 2 ^ 64 - 1 → k ≡ min n (2 ^ 64 - 1) → k ≤ size → n ≤ size
 small n k size a b c = grind arith
 
+-- a plain that isn't too large has a solid that fits
 pub fits_in : (p : Plain) (k size : ℕ) → size < 2 ^ 64 - 1 → k ≡ min (loaded_items p.top) (2 ^ 64 - 1) → k ≤ size → (s : Solid) → IsSolidOf p s → item_count s ≤ size
 fits_in p k size a b c s h = subst (λ n. n ≤ size) (sym (solid_items p s h)) (small (loaded_items p.top) k size a b c)
 
 great : (n k size : ℕ) → k ≡ min n (2 ^ 64 - 1) → size < k → size < n
 great n k size a b = grind arith
 
+-- and one that is too large has none
 pub too_large : (p : Plain) (k size : ℕ) → k ≡ min (loaded_items p.top) (2 ^ 64 - 1) → size < k → (s : Solid) → IsSolidOf p s → (size < item_count s) × (k ≡ min (item_count s) (2 ^ 64 - 1))
 too_large p k size b c s h = (
   subst (λ n. size < n) (sym (solid_items p s h)) (great (loaded_items p.top) k size b c),
@@ -78,11 +80,13 @@ too_large p k size b c s h = (
 
 -- Laws
 
+-- the process of a plain settles to that of the solid that is loaded
 pub loading_settles : LoadingSettles
 loading_settles names p s well l = plain_settles (top_of names p) (region_of names p.rules l.solid) (solids_of_plains names p l.solid well l.of_plain)
 
 has_an_atom : IsEmpty across → ⊥
 has_an_atom e = none_is_not (across.atoms 0) (e.no_atom 0) refl
 
+-- a new store is empty, and that of the example is not
 pub empty_stores : EmptyStores
 empty_stores = (record { no_atom = λ a. refl; only_root = only_root; no_rule = refl }, has_an_atom)

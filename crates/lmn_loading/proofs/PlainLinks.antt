@@ -39,6 +39,7 @@ use Rattle.lmn_base.proofs.Common.{inner_leaves, inner_atoms}
 
 -- Counting
 
+-- what is one of a list has a place in it
 pub in_often : (z : ℕ) (xs : List ℕ) → IsOneOf z xs → places z xs ≢ 0
 in_often z (x ∷ xs) (inl e) f = absurd (omega (arith, one_same z x (sym e), f))
 in_often z (x ∷ xs) (inr i) f = in_often z xs i (rest (one_if_same z x) (places z xs) f)
@@ -47,6 +48,7 @@ in_often z (x ∷ xs) (inr i) f = in_often z xs i (rest (one_if_same z x) (place
     rest m n e = omega (arith, e)
 in_often z [] i f = absurd i
 
+-- and what has a place is one
 pub often_in : (z : ℕ) (xs : List ℕ) → places z xs ≢ 0 → IsOneOf z xs
 often_in z [] d = absurd (d refl)
 often_in z (x ∷ xs) d = by (z == x) refl d (often_in z xs)
@@ -104,6 +106,7 @@ one_leaf z (Atom f os p) h a = by (is_connector f) refl
         zero_plus : (n : ℕ) → n ≡ 0 + n
         zero_plus n = omega arith
 
+-- the places of a link are those at connectors and those at atoms
 pub all_links : (z : ℕ) (ls : List Leaf) → All FitsArity ls → All IsAtomLeaf ls →
     places z (map (λ o. o.link) (flat_map occurrences_of_leaf ls)) ≡ places z (both_links (connectors_of_leaves ls)) + places z (atom_links ls)
 all_links z [] h a = refl
@@ -136,6 +139,7 @@ joined_class v m a b h e x = elim (cases_lt (m a) (m b)) [
         by true k = f ∙ ap v (sym (eqb-true (m x) hi k)) ∙ h x
         by false k = h x
 
+-- a map that joins connectors is the same on a whole class
 pub of_class : (v m : ℕ → ℕ) (es : List (ℕ × ℕ)) → ((x : ℕ) → v (m x) ≡ v x) → ((e : ℕ × ℕ) → IsOneOf e es → v e.0 ≡ v e.1) → (x : ℕ) → v (classes m es x) ≡ v x
 of_class v m [] h j x = h x
 of_class v m (e ∷ es) h j x = of_class v (with_joined m e.0 e.1) es (joined_class v m e.0 e.1 h (j e (inl refl))) (λ f i. j f (inr i)) x

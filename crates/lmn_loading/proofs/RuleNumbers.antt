@@ -41,6 +41,7 @@ listed_mem : (o : Option HeapMem) (k : ℕ) → In k (rules_by o) → IsSome o
 listed_mem None k i = absurd i
 listed_mem (Some x) k i = refl
 
+-- each rule of a membrane that is loaded is one of the table
 pub loaded_rules : LoadedRules
 loaded_rules p s well l m k i =
     let P : ℕ → Type 0 = λ n. n < length p.rules in

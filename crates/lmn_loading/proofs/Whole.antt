@@ -103,6 +103,7 @@ all_pairs : (n : ℕ) (es : List (ℕ × ℕ)) → ((z : ℕ) → IsOneOf z (bot
 all_pairs n [] h = tt
 all_pairs n (e ∷ es) h = (h e.0 (inl refl), h e.1 (inr (inl refl)), all_pairs n es (λ z i. h z (inr (inr i))))
 
+-- the links of ports are below the bound
 pub all_ports : {P : Type 0} (n : ℕ) (ps : List (P × ℕ)) → ((z : ℕ) → IsOneOf z (map (λ e. e.1) ps) → z < n) → LinksBelow n ps
 all_ports {P} n [] h = tt
 all_ports {P} n (e ∷ ps) h = (h e.1 (inl refl), all_ports n ps (λ z i. h z (inr i)))

@@ -179,6 +179,7 @@ module _ {A M : Type 0} (atom : A → ℕ) (membrane : M → ℕ) (h : Heap) (so
             | inr d ↦ d b r v
           ]
 
+-- the registers that are set, by the numbers of what they hold
 abbrev pub known : {A M : Type 0} → (A → ℕ) → (M → ℕ) → SetRegisters A M → HeadRegisters
 known atom membrane g = record {
   images = record {
@@ -189,6 +190,7 @@ known atom membrane g = record {
   integer = λ k. value_or (λ z. z) (pos 0) (slice_get g.integers k);
 }
 
+-- they agree with what is set
 pub known_agrees : {A M : Type 0} (atom : A → ℕ) (membrane : M → ℕ) (g : SetRegisters A M) → Agrees atom membrane g (known atom membrane g)
 known_agrees atom membrane g = record {
   atoms = λ k a e. ap (λ o. value_or atom 0 o) e;

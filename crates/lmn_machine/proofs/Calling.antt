@@ -15,14 +15,17 @@ use Rattle.lmn_registers.specs.declared.stack.TheConstants.{ROOM}
 use Rattle.lmn_machine.proofs.Choosing.{with_atom, with_membrane}
 use Rattle.lmn_base.proofs.Lists.{drop_get}
 
+-- what is read below the length is what stands there
 pub read_at : {A : Type 0} (xs : List A) (i : ℕ) (x y : A) → i < length xs → x ≡ get_or xs i x → x ≡ y → slice_get xs i ≡ Some y
 read_at [] i x y l e s = absurd (omega arith)
 read_at (z ∷ xs) zero x y l e s = ap (λ w. Some w) (sym e ∙ s)
 read_at (z ∷ xs) (suc i) x y l e s = read_at xs i x y (omega arith) e s
 
+-- and what is left begins with it
 pub drop_at : {A : Type 0} (xs : List A) (i : ℕ) (x y : A) → i < length xs → x ≡ get_or xs i x → x ≡ y → drop i xs ≡ y ∷ drop (i + 1) xs
 drop_at xs i x y l e s = drop_get i xs y (read_at xs i x y l e s)
 
+-- nothing is left behind the last
 pub drop_none : {A : Type 0} (xs : List A) (i : ℕ) → length xs ≤ i → drop i xs ≡ []
 drop_none [] zero l = refl
 drop_none [] (suc i) l = refl
@@ -33,9 +36,11 @@ drop_none (x ∷ xs) (suc i) l = drop_none xs i (omega arith)
 pub atom_ahead : (a m g v x y : ℕ) (f : Functor) (left is : List Instr) → left ≡ FindAtom x y f ∷ is → HeadInOrder a m g v left → ((x ≡ a) × (y < m) × (a < ROOM) × (g ≡ 0)) × HeadInOrder (a + 1) m g v is
 atom_ahead a m g v x y f left is e o = subst (λ k. HeadInOrder a m g v k) e o
 
+-- an instruction that chooses a membrane sets the next register
 pub membrane_ahead : (a m g v x y : ℕ) (left is : List Instr) → left ≡ AnyMem x y ∷ is → HeadInOrder a m g v left → ((x ≡ m) × (y < m) × (m < ROOM)) × HeadInOrder a (m + 1) g v is
 membrane_ahead a m g v x y left is e o = subst (λ k. HeadInOrder a m g v k) e o
 
+-- an instruction that chooses neither atom nor membrane chooses nothing
 pub no_choice : (i : Instr) → ((x y : ℕ) (f : Functor) → i ≡ FindAtom x y f → ⊥) → ((x y : ℕ) → i ≡ AnyMem x y → ⊥) → ChoosesNone i
 no_choice (FindAtom x y f) d e = d x y f refl
 no_choice (AnyMem x y) d e = e x y refl
@@ -43,14 +48,17 @@ no_choice _ d e = tt
 
 -- what holds of the value of an option, if there is one
 
+-- two things that hold of a value, if any, hold of it together
 pub if_both : {A : Type 0} (P Q : A → Type 0) (o : Option A) → IfSome o P → IfSome o Q → IfSome o (λ a. P a × Q a)
 if_both P Q None p q = tt
 if_both P Q (Some a) p q = (p, q)
 
+-- what is the same as something known is that
 pub if_same : {A B : Type 0} (F : A → B) (a : A) (v : B) (o : Option A) → IfSome o (λ b. F b ≡ F a) → F a ≡ v → IfSome o (λ b. F b ≡ v)
 if_same F a v None p e = tt
 if_same F a v (Some b) p e = p ∙ e
 
+-- where no value is there is none
 pub none_is : {A : Type 0} (o : Option A) → ((a : A) → o ≡ Some a → ⊥) → o ≡ None
 none_is None d = refl
 none_is (Some a) d = absurd (d a refl)
@@ -59,6 +67,7 @@ none_is (Some a) d = absurd (d a refl)
 abbrev pub having_atoms : {A M : Type 0} → SetRegisters A M → List A → SetRegisters A M
 having_atoms t xs = record { atoms = xs; membranes = t.membranes; parts = t.parts; integers = t.integers; copies = t.copies }
 
+-- registers with these membranes
 abbrev pub having_membranes : {A M : Type 0} → SetRegisters A M → List M → SetRegisters A M
 having_membranes t xs = record { atoms = t.atoms; membranes = xs; parts = t.parts; integers = t.integers; copies = t.copies }
 
@@ -68,11 +77,13 @@ one_more {A} {M} s t a xs e f =
     let R : List A → SetRegisters A M = λ ys. having_atoms t ys in
     ap R f ∙ ap (λ u. with_atom u a) e
 
+-- one membrane more is set
 pub one_membrane_more : {A M : Type 0} (s t : SetRegisters A M) (m : M) (xs : List M) → t ≡ s → xs ≡ t.membranes ++ m ∷ [] → having_membranes t xs ≡ with_membrane s m
 one_membrane_more {A} {M} s t m xs e f =
     let R : List M → SetRegisters A M = λ ys. having_membranes t ys in
     ap R f ∙ ap (λ u. with_membrane u m) e
 
+-- registers that were set further are taken back
 pub taken_back : {A M : Type 0} (s k r : SetRegisters A M) (n m p v : ℕ) → n ≡ length s.atoms → m ≡ length s.membranes → p ≡ length s.parts → v ≡ length s.integers → Extends s k →
     r ≡ record { atoms = take n k.atoms; membranes = take m k.membranes; parts = take p k.parts; integers = take v k.integers; copies = k.copies } → r ≡ s
 taken_back {A} {M} s k r n m p v e f i j x t =
@@ -100,6 +111,7 @@ next_same {A} atom h k a o e l f p = (
   subst (λ (s : Heap). IfSome o (λ b. home_of s (atom b) ≡ home_of s (atom a))) e p,
 )
 
+-- the next membrane stands in the same one
 pub next_mem_same : {M : Type 0} (membrane : M → ℕ) (h k : Heap) (n : M) (o : Option M) → k ≡ h →
     ((m : ℕ) → parent_of k (membrane n) ≡ Some m → from (option_map membrane o) (mems_in k m) ≡ after (membrane n) (mems_in k m)) → IfSome o (λ b. parent_of k (membrane b) ≡ parent_of k (membrane n)) →
     ((m : ℕ) → parent_of h (membrane n) ≡ Some m → from (option_map membrane o) (mems_in h m) ≡ after (membrane n) (mems_in h m)) × IfSome o (λ b. parent_of h (membrane b) ≡ parent_of h (membrane n))

@@ -22,6 +22,7 @@ use Rattle.lmn_heap.proofs.Listing.{home_place as place_by_home}
 use Rattle.lmn_base.specs.Lists.{In}
 use Rattle.std.proofs.lemmas.List.{length_push}
 
+-- the first part of a list is taken
 pub take_front : {A : Type 0} (xs ys : List A) → take (length xs) (xs ++ ys) ≡ xs
 take_front [] ys = refl
 take_front (x ∷ xs) ys = ap (λ k. x ∷ k) (take_front xs ys)
@@ -30,12 +31,15 @@ atom_there : (o : Option HeapAtom) (f : Functor) → option_map (λ x. x.functor
 atom_there None f e = absurd (cc)
 atom_there (Some x) f e = refl
 
+-- one atom more is set
 abbrev pub with_atom : {A M : Type 0} → SetRegisters A M → A → SetRegisters A M
 with_atom g a = record g { atoms = g.atoms ++ a ∷ [] }
 
+-- and one membrane
 abbrev pub with_membrane : {A M : Type 0} → SetRegisters A M → M → SetRegisters A M
 with_membrane g m = record g { membranes = g.membranes ++ m ∷ [] }
 
+-- where no part is set none is there
 pub no_part : {X : Type 0} (xs : List X) → length xs ≡ 0 → (k : ℕ) (x : X) → slice_get xs k ≡ Some x → ⊥
 no_part [] z k x e = cc
 no_part (y ∷ ys) z k x e = omega (arith, z)

@@ -38,14 +38,17 @@ one_sum P one (i ∷ is) m n (a, b, (p, s, e)) (c, d, (q, t, f)) = let u = one i
 pub record SoFar (P : Instr → ℕ → Type 0) (all left : List Instr) (sum : ℕ) : Type 0 where
   pub whole : (n : ℕ) → InAll P left n → InAll P all (sum + n)
 
+-- at first the sum is 0
 pub sum_first : (P : Instr → ℕ → Type 0) (all left : List Instr) (sum : ℕ) → left ≡ all → sum ≡ 0 → SoFar P all left sum
 sum_first P all left sum e z = record { whole = λ n s. (let t : n ≡ sum + n = omega (arith, z) in subst (λ k. InAll P all k) t (subst (λ xs. InAll P xs n) e s)) }
 
+-- then what one instruction more adds
 pub sum_next : (P : Instr → ℕ → Type 0) (all left is : List Instr) (i : Instr) (sum a next : ℕ) → left ≡ i ∷ is → P i a → next ≡ sum + a → SoFar P all left sum → SoFar P all is next
 sum_next P all left is i sum a next e p f s = record {
   whole = λ n t. (let u : sum + (a + n) ≡ next + n = omega (arith, f) in subst (λ k. InAll P all k) u (s.whole (a + n) (subst (λ xs. InAll P xs (a + n)) (sym e) (a, n, (p, t, refl)))));
 }
 
+-- at the end it is that of all
 pub sum_last : (P : Instr → ℕ → Type 0) (all left : List Instr) (sum : ℕ) → left ≡ [] → SoFar P all left sum → InAll P all sum
 sum_last P all left sum e s = let t : sum + 0 ≡ sum = omega arith in subst (λ k. InAll P all k) t (s.whole 0 (subst (λ xs. InAll P xs 0) (sym e) refl))
 

@@ -17,6 +17,7 @@ use Rattle.lmn_machine.proofs.Choosing.{take_front}
 use Rattle.lmn_base.proofs.Lists.{get_last, take_whole, get_either}
 use Rattle.std.proofs.lemmas.List.{length_push}
 
+-- one integer more is set
 abbrev pub with_integer : {A M : Type 0} → SetRegisters A M → ℤ → SetRegisters A M
 with_integer g z = record g { integers = g.integers ++ z ∷ [] }
 

@@ -30,9 +30,11 @@ use Rattle.std.proofs.lemmas.List.{length_push}
 pub record ApartUpTo {A : Type 0} (atom : A → ℕ) (handles : List A) (n i : ℕ) : Type 0 where
   pub differ : (k : ℕ) (b : A) → k < i → slice_get handles k ≡ Some b → atom b ≡ n → ⊥
 
+-- an atom differs from none of no handles
 pub apart_first : {A : Type 0} (atom : A → ℕ) (handles : List A) (n : ℕ) → ApartUpTo atom handles n 0
 apart_first atom handles n = record { differ = λ k b l. absurd (omega (arith, l)) }
 
+-- and from one more that isn't it
 pub apart_next : {A : Type 0} (atom : A → ℕ) (handles : List A) (n i : ℕ) (x : A) → ApartUpTo atom handles n i → slice_get handles i ≡ Some x → (atom x ≡ n → ⊥) → ApartUpTo atom handles n (i + 1)
 apart_next {A} atom handles n i x t here d = record { differ = λ k b l e. at k b e (less_or_same k i l) }
   where
@@ -40,6 +42,7 @@ apart_next {A} atom handles n i x t here d = record { differ = λ k b l e. at k 
     at k b e (inl l) = t.differ k b l e
     at k b e (inr s) = λ u. d (let v : Some b ≡ Some x = sym e ∙ (ap (λ j. slice_get handles j) s ∙ here) in let w : b ≡ x = cc in ap atom (sym w) ∙ u)
 
+-- and so from all
 pub apart_all : {A : Type 0} (atom : A → ℕ) (handles : List A) (n i : ℕ) → length handles ≤ i → ApartUpTo atom handles n i → AreApart atom handles n
 apart_all atom handles n i l t = record { differ = λ k b e. t.differ k b (let w = slice_get_within handles k b e in omega (arith, w, l)) e }
 
@@ -137,6 +140,7 @@ module _ {A M : Type 0} (atom : A → ℕ) (membrane : M → ℕ) (h : Heap) whe
   int_to_unary : (c x y : ℕ) (s : HeadRegisters) (p : AtomPort) → IsContext h c s kind.Int x p y → IsContext h c s kind.Unary x p y
   int_to_unary c x y s p k = record { held = k.held; of_kind = integer_unary (s.images.part x) k.of_kind.0 k.of_kind.1; whole = k.whole; apart = k.apart }
 
+-- one part more is set
 abbrev pub with_part : {A M : Type 0} → SetRegisters A M → A × ℕ → SetRegisters A M
 with_part g p = record g { parts = g.parts ++ p ∷ [] }
 

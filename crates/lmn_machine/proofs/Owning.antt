@@ -96,15 +96,19 @@ taken_back_own h k t xs z e f =
     f ∙ ap (λ (s : Heap). own_marked 0 xs s) (e ∙ marked_is h xs 1 z) ∙ own_all h xs 0 (all_at xs 1 none) z
     ∙ painted_none own_place h (all_at xs 0 (all_at xs 1 none)) (λ a. elim (in_or_not a xs) [ inl i ↦ in_all xs 0 (all_at xs 1 none) a i | inr n ↦ off_all xs 0 (all_at xs 1 none) a n ∙ off_all xs 1 none a n ])
 
+-- own marks leave each atom
 pub there_own : (h k : Heap) (xs : List ℕ) (m a : ℕ) → Unmarked h → k ≡ own_marked m xs h → IsAtom h a → IsAtom k a
 there_own h k xs m a z e i = subst (λ (s : Heap). IsAtom s a) (sym (e ∙ marked_is h xs m z)) (is_paint own_place (all_at xs m none a) (h.atoms a) i)
 
+-- and each membrane
 pub mem_own : (h k : Heap) (xs : List ℕ) (m n : ℕ) → Unmarked h → k ≡ own_marked m xs h → IsMem h n → IsMem k n
 mem_own h k xs m n z e i = subst (λ (s : Heap). IsMem s n) (sym (e ∙ marked_is h xs m z)) i
 
+-- and each port
 pub port_own : (h k : Heap) (xs : List ℕ) (m a i : ℕ) → Unmarked h → k ≡ own_marked m xs h → i < arity_of h a → i < arity_of k a
 port_own h k xs m a i z e l = subst (λ (n : ℕ). i < n) (sym (ap (λ (s : Heap). arity_of s a) (e ∙ marked_is h xs m z) ∙ arity_painted h (all_at xs m none) a)) l
 
+-- and the marks of ports
 pub clean_own_all : (h k : Heap) (xs : List ℕ) (m : ℕ) → Unmarked h → k ≡ own_marked m xs h → PortsUnmarked k
 clean_own_all h k xs m z e = subst (λ (s : Heap). PortsUnmarked s) (sym (e ∙ marked_is h xs m z)) (λ a i l.
     by (all_at xs m none a) (h.atoms a) i (subst (λ (n : ℕ). i < n) (arity_painted h (all_at xs m none) a) l) (z a i))
@@ -167,6 +171,7 @@ pub own_next : {A : Type 0} (atom : A → ℕ) (goal h k : Heap) (m : ℕ) (xs y
 own_next atom goal h k m xs ys x e g s =
     ap (λ (t : Heap). own_marked m (map atom ys) t) s ∙ (sym (ap (λ zs. own_marked m (map atom zs) h) e) ∙ g)
 
+-- an atom is there when another is marked
 pub there_marked : (h k : Heap) (a i m b : ℕ) → k ≡ marked h a i m → IsAtom h b → IsAtom k b
 there_marked h k a i m b e there = subst (λ (s : Heap). IsAtom s b) (sym e) (elim (cases_eq b a) [
   | inl s ↦ subst (λ (x : ℕ). IsSome (alter h.atoms a (option_map (with_mark i m)) x)) (sym s) (subst IsSome (sym (alter_at h.atoms a (option_map (with_mark i m)))) (by (h.atoms a) (subst (λ (x : ℕ). IsAtom h x) s there)))

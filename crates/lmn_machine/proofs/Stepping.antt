@@ -107,6 +107,7 @@ parts_more (IsUnary x p y) is = omega arith
 parts_more (IsGround x p y) is = omega arith
 parts_more _ is = omega arith
 
+-- code sets the integers that its first instruction sets, and then those of the others
 pub integers_more : (i : Instr) (is : List Instr) → integers_set (i ∷ is) ≡ integers_set (i ∷ []) + integers_set is
 integers_more (GetInt x y) is = omega arith
 integers_more (Const x z) is = omega arith

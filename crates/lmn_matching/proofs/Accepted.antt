@@ -29,6 +29,7 @@ few table r plan ready =
     let k = items_few (kind_in plan.kinds) r.head in
     omega (arith, n, k)
 
+-- the head code of an accepted rule sets its registers in order
 pub in_order : AcceptedHeads → AcceptedInOrder
 in_order heads code table r plan is =
     let items = head_items r plan in
@@ -38,6 +39,7 @@ in_order heads code table r plan is =
     subst (λ c. HeadInOrder 0 1 0 0 c) (sym is.is)
     (head_order items (heads.head table r plan is.ready) r.guard (heads.guard table r plan is.ready) (omega (arith, k, each)) (omega (arith, k, each)) (omega (arith, k, each)) (omega (arith, short)))
 
+-- one for each of its items
 pub sets_items : AcceptedHeads → AcceptedSetsItems
 sets_items heads code table r plan is =
     let items = head_items r plan in

@@ -32,15 +32,18 @@ use Rattle.lmn_base.proofs.Lists.{get_taken}
 
 -- Code before any typed context is set.
 
+-- registers of atoms and membranes are set in order
 abbrev pub PlainOrder : ℕ → ℕ → List Instr → Type 0
 PlainOrder a m is = HeadInOrder a m 0 0 is
 
 -- tests, with g typed contexts and no integer set
 
+-- an instruction reads such as are set
 abbrev pub PlainReads : ℕ → ℕ → ℕ → Instr → Type 0
 PlainReads a m g (NAtoms x n gs) = (x < m) × AllByRecursion (λ k. k < g) gs
 PlainReads a m g i = TestsSetRegisters a m 0 i
 
+-- and so do several
 abbrev pub ReadAll : ℕ → ℕ → ℕ → List Instr → Type 0
 ReadAll a m g [] = Unit {0}
 ReadAll a m g (i ∷ is) = PlainReads a m g i × ReadAll a m g is
@@ -63,6 +66,7 @@ one_read a m g (Div x y z) is r o = absurd r
 one_read a m g (Mod x y z) is r o = absurd r
 one_read a m g _ is r o = (r, o)
 
+-- code that only reads, before code that sets in order, is in order
 pub read_then : (a m g : ℕ) (xs ys : List Instr) → ReadAll a m g xs → HeadInOrder a m g 0 ys → HeadInOrder a m g 0 (xs ++ ys)
 read_then a m g [] ys r o = o
 read_then a m g (x ∷ xs) ys r o = one_read a m g x (xs ++ ys) r.0 (read_then a m g xs ys r.1 o)
@@ -81,16 +85,19 @@ reads_unless a m g false xs r = r
 
 -- the membranes round a membrane have lesser numbers
 
+-- the membrane in which another stands has no higher number
 pub inside_less : (ms : List HeadMembrane) (i k : ℕ) → ((j : ℕ) (b : HeadMembrane) → slice_get ms j ≡ Some b → b.inside ≤ i + j) → slice_index_or (map (λ b. b.inside) ms) k 0 ≤ i + k
 inside_less [] i k n = omega arith
 inside_less (b ∷ ms) i zero n = n 0 b refl
 inside_less (b ∷ ms) i (suc k) n =
     let r = inside_less ms (i + 1) k (λ j c e. let l = n (suc j) c e in omega (arith, l)) in omega (arith, r)
 
+-- and neither has the one round it
 pub above_less : (ms : List HeadMembrane) (k : ℕ) → ((j : ℕ) (b : HeadMembrane) → slice_get ms j ≡ Some b → b.inside ≤ j) → inside_of ms k ≤ k
 above_less ms zero n = omega arith
 above_less ms (suc k) n = let r = inside_less ms 0 k (λ j b e. let l = n j b e in omega (arith, l)) in omega (arith, r)
 
+-- the outermost membrane round a membrane of a head has no higher number
 pub outer_less : (fuel : ℕ) (ms : List HeadMembrane) (k : ℕ) → ((j : ℕ) (b : HeadMembrane) → slice_get ms j ≡ Some b → b.inside ≤ j) → outermost_by fuel ms k ≤ k
 outer_less zero ms k n = omega arith
 outer_less (suc fuel) ms k n = outer_if k (outermost_by fuel ms (inside_of ms k)) (inside_of ms k == 0) (let a = outer_less fuel ms (inside_of ms k) n in let b = above_less ms k n in omega (arith, a, b))

@@ -34,10 +34,12 @@ same_behind i xs ys d e = sym (at_zero ys) ∙ ap (λ l. get_or l 0 d) e ∙ at_
     at_zero : (l : List _) → get_or (drop i l) 0 d ≡ get_or l i d
     at_zero l = let k : i + 0 ≡ i = omega arith in get_or-drop i l 0 d ∙ ap (λ n. get_or l n d) k
 
+-- what holds of all numbers of two lists holds of all of the first
 pub all_left : (S : ℕ → Type 0) (xs ys : List ℕ) → All S (xs ++ ys) → All S xs
 all_left S [] ys h = All-nil S
 all_left S (x ∷ xs) ys h = All-cons S x xs (All-head S x (xs ++ ys) h) (all_left S xs ys (All-tail S x (xs ++ ys) h))
 
+-- and of all of the second
 pub all_right : (S : ℕ → Type 0) (xs ys : List ℕ) → All S (xs ++ ys) → All S ys
 all_right S [] ys h = h
 all_right S (x ∷ xs) ys h = all_right S xs ys (All-tail S x (xs ++ ys) h)
@@ -126,6 +128,7 @@ pub links_one : (os : List Occ) → link_numbers os ≡ flat_map (λ o. o.link �
 links_one [] = refl
 links_one (o ∷ os) = ap (λ ks. o.link ∷ ks) (links_one os)
 
+-- the links of leaves, leaf by leaf
 pub links_by_leaf : (ls : List Leaf) → link_numbers (flat_map occurrences_of_leaf ls) ≡ flat_map (λ leaf. link_numbers (occurrences_of_leaf leaf)) ls
 links_by_leaf [] = refl
 links_by_leaf (l ∷ ls) =
@@ -156,6 +159,7 @@ module _ (t u : Numbering) (i n : ℕ) (xs ys : List Occ) (o : Occ) (l : i < n) 
       subst P (sym w) (renumbers_next renumbered_occurrence (λ o. o.link ∷ []) t u v i xs ys (record { link = x; pos = o.pos }) o within r (subst Q (sym here) g)
       (λ to a. ap (λ y. record { link = y; pos = o.pos }) (h to a) ∙ sym (ap (renumbered_occurrence to) here)))
 
+-- all links of a leaf have got their numbers
 pub links_given : (t u : Numbering) (i n : ℕ) (xs ys : List Occ) → n ≤ i → n ≡ length xs → Renumbers renumbered_occurrence (λ o. o.link ∷ []) t u i xs ys → GivesNumbers (link_numbers xs) t u
 links_given t u i n xs ys l e r =
     let P : List ℕ → Type 0 = λ ks. GivesNumbers ks t u in
@@ -163,12 +167,14 @@ links_given t u i n xs ys l e r =
 
 -- ---- the loop over the leaves of a level
 
+-- the links of a leaf are within the bounds
 pub leaf_within : (t u : Numbering) (i : ℕ) (xs ys : List Leaf) (d : Leaf) → i < length xs → Renumbers renumbered_leaf (λ leaf. link_numbers (occurrences_of_leaf leaf)) t u i xs ys
     → All (λ k. k < length t.numbers) (link_numbers (flat_map occurrences_of_leaf xs)) → All (λ k. k < length u.numbers) (link_numbers (occurrences_of_leaf (get_or ys i d)))
 leaf_within t u i xs ys d l r all =
     let P : List ℕ → Type 0 = All (λ k. k < length t.numbers) in
     renumbers_within renumbered_leaf (λ leaf. link_numbers (occurrences_of_leaf leaf)) t u i xs ys d l r (subst P (links_by_leaf xs) all)
 
+-- all links of leaves have got their numbers
 pub leaves_given : (t u : Numbering) (i : ℕ) (xs ys : List Leaf) → length xs ≤ i → Renumbers renumbered_leaf (λ leaf. link_numbers (occurrences_of_leaf leaf)) t u i xs ys
     → GivesNumbers (link_numbers (flat_map occurrences_of_leaf xs)) t u
 leaves_given t u i xs ys l r =

@@ -21,6 +21,7 @@ read_same [] k a b h = absurd (cc)
 read_same (x ∷ xs) zero a b h = refl
 read_same (x ∷ xs) (suc k) a b h = read_same xs k a b h
 
+-- another number is as it was
 pub read_other : {A : Type 0} (xs : List A) (k j : ℕ) (a : A) → (j ≡ k → ⊥) → slice_get (set xs k a) j ≡ slice_get xs j
 read_other [] k j a h = refl
 read_other (x ∷ xs) zero zero a h = absurd (h refl)
@@ -28,6 +29,7 @@ read_other (x ∷ xs) zero (suc j) a h = refl
 read_other (x ∷ xs) (suc k) zero a h = refl
 read_other (x ∷ xs) (suc k) (suc j) a h = read_other xs k j a (λ e. h (ap suc e))
 
+-- two numbers are the same or they are not
 pub same_or_other : (j k : ℕ) → (j ≡ k) ⊎ (j ≡ k → ⊥)
 same_or_other j k = grind arith
 
@@ -38,6 +40,7 @@ one_less (Some n ∷ ns) zero m h = absurd (cc)
 one_less (None ∷ ns) (suc k) m h = ap suc (one_less ns k m h)
 one_less (Some n ∷ ns) (suc k) m h = one_less ns k m h
 
+-- at first all keys are left
 pub left_none : (n : ℕ) → keys_left (replicate n None) ≡ n
 left_none zero = refl
 left_none (suc n) = ap suc (left_none n)

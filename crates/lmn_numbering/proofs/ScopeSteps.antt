@@ -116,5 +116,6 @@ module _ (keys : ℕ) (t u : Numbering) (head body : Level) (n : IsNewNumbering 
   pub body_keys : GivesNumbers (links_of head) t u → All (λ k. k < length u.numbers) (links_of body)
   body_keys g = let P : ℕ → Type 0 = λ m. All (λ k. k < m) (links_of body) in subst P (sym (g.keys ∙ n.keys)) (all_right (λ k. k < keys) (links_of head) (links_of body) all)
 
+-- the links of a level are within the numbers
 pub level_keys : (keys : ℕ) (t : Numbering) (level : Level) → IsNewNumbering keys t → All (λ k. k < keys) (links_of level) → All (λ k. k < length t.numbers) (links_of level)
 level_keys keys t level n all = let P : ℕ → Type 0 = λ m. All (λ k. k < m) (links_of level) in subst P (sym n.keys) all

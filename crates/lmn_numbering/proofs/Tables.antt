@@ -22,6 +22,7 @@ use Rattle.lmn_base.proofs.Common.{numbers_grow, numbers_in}
 
 -- ---- one entry
 
+-- the tallies of head and body together
 pub joined_tells : (head body : Tally) (places : FirstPlaces) (count : ℕ) (first third : Pos)
     → ((ps qs : List Pos) → AreFirstThree ps head.places → AreFirstThree qs body.places → AreFirstThree (ps ++ qs) places)
     → places.first ≡ Some first → third ≡ unwrap_or places.third first → count ≡ head.count + body.count
@@ -46,6 +47,7 @@ joined_tells head body places count first third follows e f n ps qs h b =
     of_third None g = g
     of_third (Some p) g = g
 
+-- and one alone
 pub alone_tells : (t : Tally) (first third : Pos) → t.places.first ≡ Some first → third ≡ unwrap_or t.places.third first
     → IsOwnTally t (record { count = t.count; first = first; third = third })
 alone_tells t first third e f ps h = (

@@ -34,18 +34,21 @@ elsewhere x o h = ap (kept o) (unequal o.link x (λ e. h (sym e)))
 
 -- ---- counting
 
+-- no places counted leave the tallies
 pub counts_none : (t : List Tally) → CountsOccurrences [] t t
 counts_none t = record {
   keys = refl;
   more = λ before h. let P : List Occ → Type 0 = λ os. AreTallies os t in subst P (sym (append-nil before)) h;
 }
 
+-- places counted and then others are both counted
 pub counts_more : (os ps : List Occ) (t u v : List Tally) → CountsOccurrences os t u → CountsOccurrences ps u v → CountsOccurrences (os ++ ps) t v
 counts_more os ps t u v g h = record {
   keys = h.keys ∙ g.keys;
   more = λ before i. let P : List Occ → Type 0 = λ os. AreTallies os v in subst P (append_assoc before os ps) (h.more (before ++ os) (g.more before i));
 }
 
+-- one place more
 pub counts_one : (o : Occ) (old new : List Tally) (t u : Tally) → slice_get old o.link ≡ Some t → ((ps : List Pos) → IsTally ps t → IsTally (ps ++ o.pos ∷ []) u)
     → new ≡ set old o.link u → CountsOccurrences (o ∷ []) old new
 counts_one o old new t u read step e =
@@ -97,6 +100,7 @@ module _ {A : Type 0} (g : A → List Occ) where
 
 -- ---- a level
 
+-- the places of a level are its own and those of its membranes
 pub occurrences_apart : (l : Level) → occurrences_of l ≡ flat_map occurrences_of_leaf (out-Level l).leaves ++ flat_map occurrences_of (out-Level l).membranes
 occurrences_apart l =
     ap (flat_map occurrences_of_leaf) (leaves_apart l) ∙ flat_map-append occurrences_of_leaf (out-Level l).leaves (flat_map leaves_of (out-Level l).membranes)
@@ -126,6 +130,7 @@ module _ (t u v : List Tally) (l : Level) (leaves : List Leaf) (membranes : List
 
 -- ---- no occurrences
 
+-- at first there are no tallies
 pub no_tally : (t : List Tally) → t ≡ [] → (length t ≡ 0) × AreTallies [] t
 no_tally t e = (ap length e, λ x u r. let P : List Tally → Type 0 = λ ts. slice_get ts x ≡ Some u in absurd (nothing x u (subst P e r)))
   where

@@ -8,9 +8,11 @@ use Rattle.lmn_lexer.specs.declared.token.Kind.TheVariants.{Name, Quoted, Mod, L
 use Rattle.lmn_grammar.proofs.Stops.{alike, dead_at}
 use Rattle.lmn_base.proofs.Truth.{false_not_true as clash}
 
+-- two tokens on, counted in one step or in two
 pub two_behind : (ts : List Kind) (p : ℕ) (s : List Owed) → stop_at ts (p + 1 + 1) s ≡ stop_at ts (p + 2) s
 two_behind ts p s = let e : p + 1 + 1 ≡ p + 2 = omega arith in ap (λ n. stop_at ts n s) e
 
+-- an operand that is neither integer nor context is in parentheses
 pub fact_round : (ts : List Kind) (p : ℕ) (κ : Owed) → (slice_get ts p ≡ Some Int → ⊥) → (slice_get ts p ≡ Some Context → ⊥) →
     stop_at ts p ((fact ∷ κ) ∷ []) ≡ stop_at ts p ((Tok LParen ∷ Ref SumPart ∷ Tok RParen ∷ κ) ∷ [])
 fact_round ts p κ a b = alike ts p _ _ go
@@ -20,6 +22,7 @@ fact_round ts p κ a b = alike ts p _ _ go
     go Context h = absurd (b h)
     go _ h = refl
 
+-- no term begins with another token
 pub term_other : (ts : List Kind) (p : ℕ) (κ : Owed) → (slice_get ts p ≡ Some Link → ⊥) → (slice_get ts p ≡ Some Context → ⊥) → (slice_get ts p ≡ Some LBrace → ⊥) →
     (slice_get ts p ≡ Some LBracket → ⊥) → begins atom_name (slice_get ts p) ≡ false → stop_at ts p ((Ref TermPart ∷ κ) ∷ []) ≡ p
 term_other ts p κ l c m b a = dead_at ts p _ go
@@ -35,6 +38,7 @@ term_other ts p κ l c m b a = dead_at ts p _ go
     go Int h = absurd (clash (sym a ∙ ap (begins atom_name) h))
     go _ h = refl
 
+-- and no item
 pub item_other : (ts : List Kind) (p : ℕ) (κ : Owed) → (slice_get ts p ≡ Some RuleCtx → ⊥) → (slice_get ts p ≡ Some Plus → ⊥) → (slice_get ts p ≡ Some LParen → ⊥) → (slice_get ts p ≡ Some Context → ⊥) →
     begins atom_name (slice_get ts p) ≡ false → (slice_get ts p ≡ Some LBrace → ⊥) → (slice_get ts p ≡ Some Link → ⊥) → (slice_get ts p ≡ Some LBracket → ⊥) → stop_at ts p ((item ∷ κ) ∷ []) ≡ p
 item_other ts p κ r s g c a m l b = dead_at ts p _ go

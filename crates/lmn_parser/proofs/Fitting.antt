@@ -178,6 +178,7 @@ sided_as ks {q} e h = let P : ℕ → Type 0 = Sided ks q in subst P e h
 side_begins : (ks : List Kind) (p : ℕ) → SideStart ks p 0
 side_begins ks p = record { before = take p ks; split = sym (take-append-drop p ks); side = begins; few = omega arith }
 
+-- the tokens before a place, with the one that stands there
 pub behind_token : (ks : List Kind) (p : ℕ) (u : List Kind) (k : Kind) → ks ≡ u ++ drop p ks → slice_get ks p ≡ Some k → ks ≡ (u ++ k ∷ []) ++ drop (p + 1) ks
 behind_token ks p u k e h = e ∙ ap (λ z. u ++ z) (drop_token ks p k h) ∙ sym (append_assoc u (k ∷ []) (drop (p + 1) ks))
 
@@ -204,6 +205,7 @@ one_operator ks w q n k h m s =
     let lt : n < 255 = elim (cases_lt n 255) [ inl l ↦ l | inr le ↦ absurd ((w s.before k (drop (q + 1) ks) split).0 (inr (is, side_less s.side 255 le))) ] in
     record { before = s.before ++ k ∷ []; split = behind_token ks q s.before k s.split h; side = side_as (omega arith) (operator k s.side is); few = omega (arith, lt) }
 
+-- the sign of a product may be an operator
 pub times_is : (ts : List Token) (q : ℕ) (o : Arith) → TimesAt ts q o → (k : Kind) × At ts q k × (may_be_operator k ≡ true)
 times_is ts q op.Mul h = (Star, h, refl)
 times_is ts q op.Div h = (Slash, h, refl)
@@ -211,6 +213,7 @@ times_is ts q op.Mod h = (Mod, h, refl)
 times_is ts q op.Add h = absurd h
 times_is ts q op.Sub h = absurd h
 
+-- and so may the sign of a sum
 pub plus_is : (ts : List Token) (q : ℕ) (o : Arith) → PlusAt ts q o → (k : Kind) × At ts q k × (may_be_operator k ≡ true)
 plus_is ts q op.Add h = (Plus, h, refl)
 plus_is ts q op.Sub h = (Minus, h, refl)
@@ -218,6 +221,7 @@ plus_is ts q op.Mul h = absurd h
 plus_is ts q op.Div h = absurd h
 plus_is ts q op.Mod h = absurd h
 
+-- operators of both sides and the one between them
 pub joined : (n a b : ℕ) → n + a + 1 + b ≡ n + (a + b + 1)
 joined n a b = omega arith
 
@@ -443,5 +447,6 @@ mutual
             (inl (in_brackets (take p ks) (balanced_both f.ending.balanced (other Bar refl empty)))),
       )
 
+-- a tree whose tokens are within the limits fits
 pub trees_fit : TreesFit
 trees_fit ts tree (q, d, e, l) w = clauses_fit ts w d (at_first (kinds_of ts))

@@ -24,8 +24,10 @@ which_atom (Some Mod) h = inl (inr (inr refl))
 which_atom (Some Int) h = inr refl
 which_atom (Some _) h = cc
 
+-- where a name may begin one stands
 pub name_at : (ts : List Token) (p : ℕ) → begins name (slice_get (kinds_of ts) p) ≡ true → NameAt ts p
 name_at ts p h = which_name (slice_get (kinds_of ts) p) h
 
+-- where an atom may begin a name or an integer stands
 pub atom_at : (ts : List Token) (p : ℕ) → begins atom_name (slice_get (kinds_of ts) p) ≡ true → NameAt ts p ⊎ At ts p Int
 atom_at ts p h = which_atom (slice_get (kinds_of ts) p) h

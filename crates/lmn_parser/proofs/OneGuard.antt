@@ -286,6 +286,7 @@ one_context_arguments ts no_contexts (some_contexts o s c) F G = absurd (no_foll
 one_context_arguments ts (some_contexts o s c) no_contexts F G = absurd (no_follow ts after_condition _ G o refl)
 one_context_arguments ts (some_contexts o s c) (some_contexts o' s' c') F G = let x = one_contexts ts s s' c c' in (x.0, ap (λ n. n + 1) x.1)
 
+-- tokens are one condition at most
 pub one_condition : (ts : List Token) {x y : WrittenCondition} {p q r : ℕ} → IsCondition ts x p q → IsCondition ts y p r → Follow ts after_condition q → Follow ts after_condition r → (x ≡ y) × (q ≡ r)
 one_condition ts {p = p} (is_called n a) (is_called n' b) F G = let x = one_context_arguments ts a b F G in (ap (called p) x.0, x.1)
 one_condition ts (is_called n a) (is_compared op b h c) F G = absurd (sum_no_name ts b n)
@@ -312,6 +313,7 @@ one_condition ts (is_different g e c) (is_compared op a h b) F G = absurd (no_si
 one_condition ts (is_different h e a) (is_equal h' e' b) F G = absurd (apart ts _ e e' refl)
 one_condition ts (is_different h e a) (is_different h' e' b) F G = (refl, refl)
 
+-- and one guard before a bar
 pub one_guard : (ts : List Token) {xs ys : List WrittenCondition} {p q r : ℕ} → IsWrittenGuard ts xs p q → IsWrittenGuard ts ys p r → At ts q Bar → At ts r Bar → (xs ≡ ys) × (q ≡ r)
 one_guard ts (last_condition d) (last_condition e) h g = let x = one_condition ts d e (follows ts after_condition _ h refl) (follows ts after_condition _ g refl) in (ap (λ z. z ∷ []) x.0, x.1)
 one_guard ts (last_condition d) (more_conditions e c s) h g =
@@ -345,6 +347,7 @@ condition_no_bar ts (is_compared op a g b) h = sum_no_bar ts a h
 condition_no_bar ts (is_equal g e a) h = apart ts _ g h refl
 condition_no_bar ts (is_different g e a) h = apart ts _ g h refl
 
+-- a guard doesn't begin with a bar
 pub no_bar : (ts : List Token) {xs : List WrittenCondition} {p q : ℕ} → IsWrittenGuard ts xs p q → At ts p Bar → ⊥
 no_bar ts (last_condition d) h = condition_no_bar ts d h
 no_bar ts (more_conditions d c s) h = condition_no_bar ts d h

@@ -12,6 +12,7 @@ use Rattle.lmn_parser.specs.Trees.{IsProgram}
 use Rattle.lmn_parser.proofs.TreeWords.{trees_derive}
 use Rattle.lmn_parser.proofs.TreesExist.{trees_exist}
 
+-- tokens that are a tree are a program of the grammar
 pub program_derived : (kinds : List Kind) → AreKindsOfProgram kinds → Derives program kinds
 program_derived kinds (tokens, tree, e, h) = let D : List Kind → Type 0 = Derives program in subst D e (trees_derive tokens tree h)
 
@@ -24,6 +25,7 @@ kinds_are : (kinds : List Kind) → kinds_of (tokens_of kinds) ≡ kinds
 kinds_are [] = refl
 kinds_are (k ∷ kinds) = ap (λ z. k ∷ z) (kinds_are kinds)
 
+-- tokens that are a program of the grammar are a tree
 pub derived_program : (kinds : List Kind) → Derives program kinds → AreKindsOfProgram kinds
 derived_program kinds d =
     let e = kinds_are kinds in

@@ -277,5 +277,6 @@ mutual
       let y = one_term ts t v (same_sort ts (m + 1) (term_at ts t) (term_at ts v)) (follows ts after_term _ c refl) (follows ts after_term _ c' refl) in
       (same_onto x.0 y.0, ap (λ n. n + 1) y.1)
 
+-- tokens are one tree at most
 pub one_tree : OneProgram
 one_tree ts x y (q, d, h, e) (r, d', h', e') = (one_clauses ts d d' (follows ts is_end q h refl) (follows ts is_end r h' refl)).0

@@ -8,6 +8,7 @@ snoc_of (y ∷ []) zero x h l = cc
 snoc_of (y ∷ z ∷ xs) zero x h l = absurd (omega (arith, l))
 snoc_of (y ∷ xs) (suc n) x h l = ap (λ zs. y ∷ zs) (snoc_of xs n x h (omega (arith, l)))
 
+-- the last of a list is the first from behind
 pub last_first : {X : Type 0} → (xs : List X) (x : X) → 0 < length xs → slice_get xs (length xs - 1) ≡ Some x → reverse xs ≡ x ∷ reverse (take (length xs - 1) xs)
 last_first xs x m h =
     let l : length xs ≡ suc (length xs - 1) = omega (arith, m) in

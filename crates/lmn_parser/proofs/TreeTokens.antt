@@ -11,6 +11,7 @@ use Rattle.lmn_parser.specs.Trees.{At, NameAt, IsClause, named_rule, unnamed_rul
 use Rattle.lmn_base.proofs.Truth.{false_not_true as clash}
 use Rattle.lmn_grammar.proofs.Stops.{same_some as some_same}
 
+-- a token has one kind
 pub one_kind : (ts : List Token) (p : ℕ) {k l : Kind} → At ts p k → At ts p l → k ≡ l
 one_kind ts p {k} {l} h g = some_same k l (sym h ∙ g)
 
@@ -24,6 +25,7 @@ apart ts p {k} {l} h g e = clash (sym (sym (is_itself k l (one_kind ts p h g)) �
 abbrev pub Follow : List Token → (Kind → Bool) → ℕ → Type 0
 Follow ts f q = (k : Kind) → At ts q k → f k ≡ true
 
+-- a token that passes the test follows
 pub follows : (ts : List Token) (f : Kind → Bool) (q : ℕ) {k : Kind} → At ts q k → f k ≡ true → Follow ts f q
 follows ts f q {k} h e l g = ap f (sym (one_kind ts q h g)) ∙ e
 
@@ -31,6 +33,7 @@ follows ts f q {k} h e l g = ap f (sym (one_kind ts q h g)) ∙ e
 pub no_follow : (ts : List Token) (f : Kind → Bool) (q : ℕ) {k : Kind} → Follow ts f q → At ts q k → f k ≡ false → ⊥
 no_follow ts f q {k} F h e = clash (sym e ∙ F k h)
 
+-- what follows by one test follows by a wider one
 pub weaken : (ts : List Token) (f g : Kind → Bool) (q : ℕ) → ((k : Kind) → f k ≡ true → g k ≡ true) → Follow ts f q → Follow ts g q
 weaken ts f g q w F k h = w k (F k h)
 
@@ -39,6 +42,7 @@ abbrev pub after_term : Kind → Bool
 after_term LParen = false
 after_term _ = true
 
+-- what may stand behind an item
 abbrev pub after_item : Kind → Bool
 after_item LParen = false
 after_item LBracket = false
@@ -52,6 +56,7 @@ after_terms RBracket = true
 after_terms Bar = true
 after_terms _ = false
 
+-- what may stand behind a list
 abbrev pub after_list : Kind → Bool
 after_list RParen = true
 after_list RBrace = true
@@ -61,20 +66,24 @@ after_list Backslash = true
 after_list Arrow = true
 after_list _ = false
 
+-- what may stand behind an item may stand behind a term
 pub item_term : (k : Kind) → after_item k ≡ true → after_term k ≡ true
 item_term LParen h = absurd (clash h)
 item_term _ h = refl
 
+-- and so may what stands behind terms
 pub terms_term : (k : Kind) → after_terms k ≡ true → after_term k ≡ true
 terms_term LParen h = absurd (clash h)
 terms_term _ h = refl
 
+-- what may stand behind a list may stand behind an item
 pub list_item : (k : Kind) → after_list k ≡ true → after_item k ≡ true
 list_item LParen h = absurd (clash h)
 list_item LBracket h = absurd (clash h)
 list_item Equal h = absurd (clash h)
 list_item _ h = refl
 
+-- what may follow a clause may stand behind a list
 pub clause_list : (k : Kind) → may_follow_clause k ≡ true → after_list k ≡ true
 clause_list RParen h = refl
 clause_list RBrace h = refl
@@ -82,6 +91,7 @@ clause_list Dot h = refl
 clause_list End h = refl
 clause_list _ h = absurd (clash h)
 
+-- what ends a membrane or a text may follow a clause
 pub end_clause : (k : Kind) → is_end k ≡ true → may_follow_clause k ≡ true
 end_clause RBrace h = refl
 end_clause End h = refl
@@ -104,6 +114,7 @@ sort Plus = 7
 sort LParen = 8
 sort _ = 0
 
+-- how a term begins, as a number
 abbrev pub term_sort : {ts : List Token} {t : Term} {p q : ℕ} → IsTerm ts t p q → ℕ
 term_sort (is_link h) = 5
 term_sort (is_atom d) = 1
@@ -111,6 +122,7 @@ term_sort (is_context h) = 2
 term_sort (is_membrane d) = 3
 term_sort (is_list d) = 4
 
+-- how an item begins, as a number
 abbrev pub item_sort : {ts : List Token} {x : Item} {p q : ℕ} → IsItem ts x p q → ℕ
 item_sort (is_atom_item d) = 1
 item_sort (is_membrane_item d) = 3
@@ -142,6 +154,7 @@ list_at ts (empty_list o c) = (LBracket, o, refl)
 list_at ts (closed_list o d c) = (LBracket, o, refl)
 list_at ts (open_list o d h e c) = (LBracket, o, refl)
 
+-- a term begins with a token of its sort
 pub term_at : (ts : List Token) {t : Term} {p q : ℕ} (d : IsTerm ts t p q) → Sorted ts p (term_sort d)
 term_at ts (is_link h) = (Link, h, refl)
 term_at ts (is_atom d) = atom_at ts d
@@ -149,6 +162,7 @@ term_at ts (is_context h) = (Context, h, refl)
 term_at ts (is_membrane d) = membrane_at ts d
 term_at ts (is_list d) = list_at ts d
 
+-- and so does an item
 pub item_at : (ts : List Token) {x : Item} {p q : ℕ} (d : IsItem ts x p q) → Sorted ts p (item_sort d)
 item_at ts (is_atom_item d) = atom_at ts d
 item_at ts (is_membrane_item d) = membrane_at ts d
@@ -159,6 +173,7 @@ item_at ts (is_plus_link h l) = (Plus, h, refl)
 item_at ts (is_group o d c) = (LParen, o, refl)
 item_at ts (is_equation a h b) = term_at ts a
 
+-- a token has one sort
 pub same_sort : (ts : List Token) (p : ℕ) {a b : ℕ} → Sorted ts p a → Sorted ts p b → nat_eq a b ≡ true
 same_sort ts p {a} {b} (k, h, s) (l, g, t) = eq-eqb a b (sym s ∙ ap sort (one_kind ts p h g) ∙ t)
 
@@ -190,9 +205,11 @@ some_item_sort (is_rule_context h) = refl
 some_item_sort (is_plus_link h l) = refl
 some_item_sort (is_group o d c) = refl
 
+-- no term begins with a token of another sort
 pub no_term : (ts : List Token) {t : Term} {p q : ℕ} {k : Kind} → IsTerm ts t p q → At ts p k → sort k ≡ 0 → ⊥
 no_term ts {p = p} {k = k} d h s = clash (sym (some_sort d) ∙ same_sort ts p (term_at ts d) (k, h, s))
 
+-- and no terms
 pub no_terms : (ts : List Token) {xs : Terms} {p q : ℕ} {k : Kind} → IsTerms ts xs p q → At ts p k → sort k ≡ 0 → ⊥
 no_terms ts (last_term d) h s = no_term ts d h s
 no_terms ts (more_terms d c e) h s = no_term ts d h s
@@ -200,6 +217,7 @@ no_terms ts (more_terms d c e) h s = no_term ts d h s
 no_item : (ts : List Token) {x : Item} {p q : ℕ} {k : Kind} → IsItem ts x p q → At ts p k → sort k ≡ 0 → ⊥
 no_item ts {p = p} {k = k} d h s = clash (sym (some_item_sort d) ∙ same_sort ts p (item_at ts d) (k, h, s))
 
+-- and no list
 pub no_list_at : (ts : List Token) {xs : Items} {p q : ℕ} {k : Kind} → IsList ts xs p q → At ts p k → sort k ≡ 0 → ⊥
 no_list_at ts (last_item d) h s = no_item ts d h s
 no_list_at ts (more_items d c e) h s = no_item ts d h s
@@ -214,13 +232,16 @@ no_sort Backslash h = refl
 no_sort Arrow h = refl
 no_sort _ h = absurd (clash h)
 
+-- a list begins with a token
 pub list_token : (ts : List Token) {xs : Items} {p q : ℕ} → IsList ts xs p q → (k : Kind) × At ts p k
 list_token ts (last_item d) = let a = item_at ts d in (a.0, a.1)
 list_token ts (more_items d c e) = let a = item_at ts d in (a.0, a.1)
 
+-- and not with one that may stand behind it
 pub list_no_follow : (ts : List Token) {xs : Items} {p q : ℕ} → IsList ts xs p q → Follow ts after_list p → ⊥
 list_no_follow ts d F = let t = list_token ts d in no_list_at ts d t.1 (no_sort t.0 (F t.0 t.1))
 
+-- a name stands only where a token of its sort does
 pub no_name : (ts : List Token) (p : ℕ) {k : Kind} → NameAt ts p → At ts p k → nat_eq 1 (sort k) ≡ false → ⊥
 no_name ts p {k} n h e = clash (sym e ∙ same_sort ts p (name_at ts p n) (k, h, refl))
 
@@ -262,6 +283,7 @@ item_label ts (is_atom_item a) s h = atom_label ts a h
 item_label ts (is_equation (is_atom a) e b) s h = absurd (apart ts _ (subst (λ n. At ts n Equal) (atom_label ts a h) e) h refl)
 item_label ts _ s h = absurd (clash s)
 
+-- a list before `@@` is one name
 pub list_label : (ts : List Token) {xs : Items} {p q : ℕ} → IsList ts xs p q → NameAt ts p → At ts (p + 1) AtAt → q ≡ p + 1
 list_label ts {p = p} (last_item d) n h = item_label ts d (same_sort ts p (item_at ts d) (name_at ts p n)) h
 list_label ts {p = p} (more_items d c e) n h =
@@ -276,5 +298,6 @@ no_label_heads ts (all_taken (some_list d)) h n a = no_label_list ts d n a h ref
 no_label_heads ts (some_kept no_list b e) h n a = no_name ts _ n b refl
 no_label_heads ts (some_kept (some_list d) b e) h n a = no_label_list ts d n a b refl
 
+-- and no rule
 pub no_label_rule : (ts : List Token) {s : ℕ} {c : Clause} {p q : ℕ} → IsWrittenRule ts s c p q → NameAt ts p → At ts (p + 1) AtAt → ⊥
 no_label_rule ts (is_rule s d h b) n a = no_label_heads ts d h n a

@@ -107,6 +107,7 @@ dotted x y d (with _ _ (both _ _ u v _ s c (both _ _ m o _ t dm last))) =
 abbrev Words : List Token → Exp → ℕ → ℕ → Type 0
 Words ts = Spells (kinds_of ts)
 
+-- two on is one on twice
 pub next_to : (p : ℕ) → p + 2 ≡ p + 1 + 1
 next_to p = omega arith
 
@@ -175,6 +176,7 @@ condition_words ts (is_equal {p = p} h e b) =
 condition_words ts (is_different {p = p} h e c) =
     let k = kinds_of ts in that k (that k (that k (seq k (tok k _ Context h refl) (seq k (tok k (p + 2) Differ e (next_to p)) (tok k _ Context c (omega arith))))))
 
+-- the tokens of a guard are words of the grammar
 pub guard_words : (ts : List Token) {xs : List tree.WrittenCondition} {p q : ℕ} → IsWrittenGuard ts xs p q → Words ts guard p q
 guard_words ts (last_condition d) = one_words ts (condition_words ts d)
 guard_words ts (more_conditions d h e) = more_words ts (condition_words ts d) h (guard_words ts e)
@@ -253,10 +255,12 @@ mutual
   term_list_words ts (open_list o d h e c) = let k = kinds_of ts in
       within k _ Square o (opt k (seq k (terms_words ts d) (opt k (seq k (tok k _ Bar h refl) (ref k TermPart (term_words ts e)))))) c refl
 
+-- behind all nothing is left
 pub drop_all : (ks : List Kind) → drop (length ks) ks ≡ []
 drop_all [] = refl
 drop_all (x ∷ ks) = drop_all ks
 
+-- tokens that are a tree are a program of the grammar
 pub trees_derive : TreesDerive
 trees_derive ts x (q, d, h, e) = go (seq k (ref k ClausesPart (clauses_words ts d)) (tok k _ End h refl))
   where

@@ -293,6 +293,7 @@ parsed ts (inside b a u w s d) p q rest h e =
     )
 parsed ts (by n w d) p q rest h e = part_made ts n p q (parsed ts d p q rest h e)
 
+-- tokens that are a program of the grammar are a tree
 pub trees_exist : DerivedIsTree
 trees_exist ts d = go (parsed ts d 0 (length (kinds_of ts)) [] (sym (plus_nothing (kinds_of ts))) (omega arith))
   where

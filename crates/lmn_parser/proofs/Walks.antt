@@ -396,6 +396,7 @@ mutual
       let rest = walk_term ts s e f.1 (Terms ∷ o) 0 Other refl refl (step (kinds_of ts) s Bar inner.walked.walk h (refl, refl, refl)) in
       record { operators = 0; last = Other; walk = step (kinds_of ts) s RBracket rest.walk c (refl, refl, refl); holds = refl }
 
+-- tokens of a tree that fits are within the limits, where no more than 200 brackets are open
 pub fitting_within : FittingIsWithin
 fitting_within ts tree (q, d, e, l) f s =
     let all = walk_clauses ts s d f [] (refl, refl) 0 (record { before = []; split = refl; within = within_none; is = refl }) in

@@ -8,12 +8,15 @@ use Rattle.lmn_base.proofs.Numbers.{not_equal as apart_test}
 use Rattle.lmn_base.specs.Lists.{In}
 use Rattle.lmn_parts.specs.Walks.{is_in}
 
+-- the answer to the first is the first
 pub answer_here : (x y : ℕ) (xs ys : List ℕ) (a : ℕ) → x ≡ a → answer (x ∷ xs) (y ∷ ys) a ≡ y
 answer_here x y xs ys a e = rw (eq-eqb x a e) refl
 
+-- the answer to another is one of the others
 pub answer_on : (x y : ℕ) (xs ys : List ℕ) (a : ℕ) → x ≢ a → answer (x ∷ xs) (y ∷ ys) a ≡ answer xs ys a
 answer_on x y xs ys a d = rw (apart_test x a d) refl
 
+-- each atom of the one list has its answer in the other
 pub answer_in : (xs ys : List ℕ) (a : ℕ) → length xs ≤ length ys → In a xs → In (answer xs ys a) ys
 answer_in [] ys a l i = absurd i
 answer_in (x ∷ xs) [] a l i = absurd (omega arith)
@@ -26,6 +29,7 @@ answer_in (x ∷ xs) (y ∷ ys) a l i = elim (cases_eq x a) [
     rest (inl e) d = absurd (d e)
     rest (inr k) d = k
 
+-- no two atoms have one answer, where no atom stands twice among the answers
 pub answer_one : (xs ys : List ℕ) (a b : ℕ) → length xs ≤ length ys → Distinct ys → In a xs → In b xs → answer xs ys a ≡ answer xs ys b → a ≡ b
 answer_one [] ys a b l d i j e = absurd i
 answer_one (x ∷ xs) [] a b l d i j e = absurd (omega arith)
@@ -48,6 +52,7 @@ answer_one (x ∷ xs) (y ∷ ys) a b l d i j e = elim (cases_eq x a) [
     rest c (inl e) d = absurd (d e)
     rest c (inr k) d = k
 
+-- each atom of the other list is the answer to one
 pub answer_onto : (xs ys : List ℕ) (b : ℕ) → length xs ≡ length ys → Distinct xs → In b ys → (a : ℕ) × In a xs × (answer xs ys a ≡ b)
 answer_onto [] [] b l d i = absurd i
 answer_onto [] (y ∷ ys) b l d i = absurd (omega arith)

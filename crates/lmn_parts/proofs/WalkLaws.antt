@@ -9,15 +9,18 @@ use Rattle.lmn_heap.specs.Solid.{links_from}
 use Rattle.lmn_base.specs.Lists.{In}
 use Rattle.lmn_base.proofs.Lists.{in_snoc}
 
+-- a port of the first list is one of both joined
 pub holds_left : (p : ℕ × ℕ) (ps qs : List (ℕ × ℕ)) → HasPort p ps → HasPort p (ps ++ qs)
 holds_left p [] qs h = absurd h
 holds_left p (r ∷ ps) qs (inl e) = inl e
 holds_left p (r ∷ ps) qs (inr h) = inr (holds_left p ps qs h)
 
+-- and so is a port of the second
 pub holds_right : (p : ℕ × ℕ) (ps qs : List (ℕ × ℕ)) → HasPort p qs → HasPort p (ps ++ qs)
 holds_right p [] qs h = h
 holds_right p (r ∷ ps) qs h = inr (holds_right p ps qs h)
 
+-- a range of ports has each port of its atom between its ends
 pub holds_port : (a i n k : ℕ) → i ≤ k → k < i + n → HasPort (a, k) (port_range a i n)
 holds_port a i zero k low high = absurd (omega arith)
 holds_port a i (suc n) k low high = elim (cases_eq i k) [
@@ -29,10 +32,12 @@ holds_port a i (suc n) k low high = elim (cases_eq i k) [
 abbrev pub by_port : (ℕ → ℕ → ℕ) → ℕ × ℕ → ℕ
 by_port name p = name p.0 p.1
 
+-- the names of a range of ports, one by one
 pub ports_named : (name : ℕ → ℕ → ℕ) (a i n : ℕ) → map (by_port name) (port_range a i n) ≡ links_from name a i n
 ports_named name a i zero = refl
 ports_named name a i (suc n) = ap (λ ys. name a i ∷ ys) (ports_named name a (i + 1) n)
 
+-- a number that is added behind stands in the list
 pub in_last : (a : ℕ) (xs : List ℕ) → In a (xs ++ a ∷ [])
 in_last a xs = in_right a xs (a ∷ []) (inl refl)
 

@@ -61,6 +61,7 @@ natural_spelled n (d ∷ ds) h w =
 negative_spelled : (n : ℕ) (ds : List ℕ) → suc n ≤ 2 ^ 63 → Writes (suc n) ds → SpellsInteger (negsuc n) (45 ∷ ds)
 negative_spelled n ds h w = record { spells = inr (refl, refl, w.0); in_range = inl (refl, omega (arith, w.1)); value = ap minus_of w.1 }
 
+-- an integer of 64 bits is spelled by its decimal digits
 pub integer_spelled : (z : ℤ) → FitsSigned w64 z → SpellsInteger z (signed_decimal z)
 integer_spelled (pos n) h = let fits = h.sfits in natural_spelled n (decimal n) (omega arith) (decimal_writes n (omega arith))
 integer_spelled (negsuc n) h = let fits = h.sfits in negative_spelled n (decimal (suc n)) (omega arith) (decimal_writes (suc n) (omega arith))

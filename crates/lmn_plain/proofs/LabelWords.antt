@@ -96,6 +96,7 @@ spelled_by name true true = refl
 spelled_by name true false = refl
 spelled_by name false m = between name
 
+-- a name, in quotes where it must be, spells itself
 pub name_spells : (name : NameOf) → name_spelled (name_kind name) (if is_bare_name name then name else quoted name) ≡ name
 name_spells name = spelled_by name (is_bare_name name) (bytes_eq name (codes "mod"))
 

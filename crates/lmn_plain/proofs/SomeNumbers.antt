@@ -11,6 +11,7 @@ use Rattle.lmn_plain.specs.Plains.{OneToOne}
 not_false : (t : Bool) → false ≡ t → t ≡ true → ⊥
 not_false t h e = cc
 
+-- links that pass the test are the same
 pub link_same : (a b : Link) → same_link a b ≡ true → a ≡ b
 link_same (written m) (written n) h = ap written (by (bytes_eq m n) (bytes_eq-Decides m n) h)
   where
@@ -30,11 +31,13 @@ link_same (made m) (fresh n) h = absurd (cc)
 link_same (fresh m) (written n) h = absurd (cc)
 link_same (fresh m) (made n) h = absurd (cc)
 
+-- a link passes the test against itself
 pub link_itself : (a : Link) → same_link a a ≡ true
 link_itself (written m) = (bytes_eq-Decides m m).1 refl
 link_itself (made m) = (bytes_eq-Decides m m).1 refl
 link_itself (fresh a) = link_itself a
 
+-- what is read below the length stands in the list
 pub contains_in : (xs : List Link) (a : Link) (k : ℕ) → k < length xs → slice_index_or xs k a ≡ a → IsLinkIn a xs
 contains_in [] a k l e = absurd (omega (arith, l))
 contains_in (x ∷ xs) a zero l e = inl (sym e)
@@ -46,6 +49,7 @@ index_here a b bs e = ap (λ c. link_index a (c ∷ bs)) (sym e) ∙ ap (λ t. i
 index_later : (a b : Link) (bs : List Link) → same_link a b ≡ false → link_index a (b ∷ bs) ≡ suc (link_index a bs)
 index_later a b bs e = ap (λ t. if t then 0 else suc (link_index a bs)) e
 
+-- the number of a link that stands in a list is below the length
 pub index_below : (a : Link) (xs : List Link) → IsLinkIn a xs → link_index a xs < length xs
 index_below a [] h = absurd h
 index_below a (b ∷ bs) h = go (same_link a b) refl h (index_below a bs)
@@ -55,6 +59,7 @@ index_below a (b ∷ bs) h = go (same_link a b) refl h (index_below a bs)
     go true e (inr i) more = let k = index_here a b bs (link_same a b e) in omega (arith, k)
     go false e (inr i) more = let k = index_later a b bs e in let l = more i in omega (arith, k, l)
 
+-- and stays the same in a longer list
 pub index_front : (a : Link) (xs ys : List Link) → IsLinkIn a xs → link_index a (xs ++ ys) ≡ link_index a xs
 index_front a [] ys h = absurd h
 index_front a (b ∷ bs) ys h = go (same_link a b) refl h (index_front a bs ys)
@@ -64,6 +69,7 @@ index_front a (b ∷ bs) ys h = go (same_link a b) refl h (index_front a bs ys)
     go true e (inr i) more = index_here a b (bs ++ ys) (link_same a b e) ∙ sym (index_here a b bs (link_same a b e))
     go false e (inr i) more = index_later a b (bs ++ ys) e ∙ ap suc (more i) ∙ sym (index_later a b bs e)
 
+-- that of a link added behind is the old length
 pub index_last : (a : Link) (xs ys : List Link) → (IsLinkIn a xs → ⊥) → link_index a (xs ++ a ∷ ys) ≡ length xs
 index_last a [] ys h = index_here a a ys refl
 index_last a (b ∷ bs) ys h = go (same_link a b) refl (index_last a bs ys (λ i. h (inr i)))
@@ -72,6 +78,7 @@ index_last a (b ∷ bs) ys h = go (same_link a b) refl (index_last a bs ys (λ i
     go true e more = absurd (h (inl (link_same a b e)))
     go false e more = let k = index_later a b (bs ++ a ∷ ys) e in omega (arith, k, more)
 
+-- links with one number are one
 pub index_one : (a b : Link) (xs : List Link) → IsLinkIn a xs → IsLinkIn b xs → link_index a xs ≡ link_index b xs → a ≡ b
 index_one a b [] h g e = absurd h
 index_one a b (c ∷ cs) h g e = go (same_link a c) (same_link b c) refl refl h g (λ i j f. index_one a b cs i j f)
@@ -85,10 +92,12 @@ index_one a b (c ∷ cs) h g e = go (same_link a c) (same_link b c) refl refl h 
     go false false p q (inr i) (inr j) more =
         let k = index_later a c cs p in let l = index_later b c cs q in more i j (omega (arith, k, l, e))
 
+-- a test whether a link stands in a list
 abbrev pub is_in : Link → List Link → Bool
 is_in a [] = false
 is_in a (b ∷ bs) = if same_link a b then true else is_in a bs
 
+-- a link that passes it does
 pub in_yes : (a : Link) (xs : List Link) → is_in a xs ≡ true → IsLinkIn a xs
 in_yes a [] h = absurd (cc)
 in_yes a (b ∷ bs) h = go (same_link a b) refl h (in_yes a bs)
@@ -97,6 +106,7 @@ in_yes a (b ∷ bs) h = go (same_link a b) refl h (in_yes a bs)
     go true e h more = inl (link_same a b e)
     go false e h more = inr (more h)
 
+-- and one that doesn't doesn't
 pub in_no : (a : Link) (xs : List Link) → is_in a xs ≡ false → IsLinkIn a xs → ⊥
 in_no a [] h i = i
 in_no a (b ∷ bs) h i = go (same_link a b) refl h i (in_no a bs)
@@ -106,11 +116,13 @@ in_no a (b ∷ bs) h i = go (same_link a b) refl h i (in_no a bs)
     go false e h (inl i) more = not_false _ (sym e) (ap (λ x. same_link a x) (sym i) ∙ link_itself a)
     go false e h (inr i) more = more h i
 
+-- a link of a list is one of a longer list
 pub in_front : (a : Link) (xs ys : List Link) → IsLinkIn a xs → IsLinkIn a (xs ++ ys)
 in_front a [] ys h = absurd h
 in_front a (b ∷ bs) ys (inl e) = inl e
 in_front a (b ∷ bs) ys (inr i) = inr (in_front a bs ys i)
 
+-- a link that is added behind stands in the list
 pub in_last : (a : Link) (xs ys : List Link) → IsLinkIn a (xs ++ a ∷ ys)
 in_last a [] ys = inl refl
 in_last a (b ∷ bs) ys = inr (in_last a bs ys)

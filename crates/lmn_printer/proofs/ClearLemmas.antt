@@ -16,12 +16,14 @@ pub record Clearing (s t : Heap) (f : Forest) (next : Option ℕ) : Type 0 where
   pub marks : Remarks s t
   pub left : (a i : ℕ) → i < arity_of s a → (mark_of t a i ≡ 0) ⊎ In a (from next (printed_atoms s (flat f)))
 
+-- at first no marks are cleared
 pub clearing_first : (s : Heap) → Valid s → (f : Forest) → IsTree s f → (next : Option ℕ) → from next (printed_atoms s (flat f)) ≡ printed_atoms s (flat f) → Clearing s s f next
 clearing_first s valid f t next e = record {
   marks = remarks_none s;
   left = λ a i l. inr (subst (In a) (sym e) (printed_all s valid f t a (port_there s a i l)));
 }
 
+-- then those of one atom more
 pub clearing_more : (s t u : Heap) (f : Forest) (a : ℕ) (next : Option ℕ) → Clearing s t f (Some a) → Remarks t u
     → ((i : ℕ) → i < arity_of t a → mark_of u a i ≡ 0) → ((b i : ℕ) → i < arity_of t b → mark_of t b i ≡ 0 → mark_of u b i ≡ 0)
     → from next (printed_atoms s (flat f)) ≡ after a (printed_atoms s (flat f)) → Clearing s u f next

@@ -13,6 +13,7 @@ pub record Due (whole left : List ℕ) (before now : SinkState) : Type 0 where
   pub adds : Adds written before now
   pub rest : whole ≡ written ++ left
 
+-- at first the whole text is due
 pub due_first : (whole : List ℕ) (o : SinkState) → Due whole whole o o
 due_first whole o = record { written = []; adds = adds_nothing o; rest = refl }
 
@@ -45,6 +46,7 @@ row_step s any f a next xs whole before o1 o2 o3 e d h k =
     (due_next whole (f a ++ in_row s true (map f (after a xs))) (f a) (in_row s true (map f (after a xs))) before o2 o3 refl
     (due_next whole (in_row s any (map f (from (Some a) xs))) (between_if s any) (f a ++ in_row s true (map f (after a xs))) before o1 o2 refl d h) k)
 
+-- from the next on there are fewer
 pub fewer_left : (a : ℕ) (next : Option ℕ) (xs : List ℕ) → from next xs ≡ after a xs → length (from next xs) < length (from (Some a) xs)
 fewer_left a next xs e = let u : length (from next xs) ≡ length (after a xs) = ap length e in omega (arith, u)
 
@@ -57,6 +59,7 @@ dropped_here (x ∷ xs) (suc i) h = dropped_here xs i (omega (arith, h))
 dropped_at : (xs : List ℕ) (i : ℕ) → i < length xs → drop i xs ≡ slice_index_or xs i 0 ∷ drop (i + 1) xs
 dropped_at xs i h = dropped_here xs i h ∙ ap (λ j. slice_index_or xs i 0 ∷ drop j xs) (let e : suc i ≡ i + 1 = omega arith in e)
 
+-- one item more is written
 pub place_step : (s : List ℕ) (any : Bool) (f : ℕ → List ℕ) (x i : ℕ) (xs whole : List ℕ) (before o1 o2 o3 : SinkState) → i < length xs → slice_index_or xs i 0 ≡ x
     → Due whole (in_row s any (map f (drop i xs))) before o1 → Adds (between_if s any) o1 o2 → Adds (f x) o2 o3
     → Due whole (in_row s true (map f (drop (i + 1) xs))) before o3
@@ -71,6 +74,7 @@ dropped_all [] (suc i) h = refl
 dropped_all (x ∷ xs) zero h = absurd (omega (arith, h))
 dropped_all (x ∷ xs) (suc i) h = dropped_all xs i (omega (arith, h))
 
+-- behind the last the whole is written
 pub places_end : (s : List ℕ) (any : Bool) (f : ℕ → List ℕ) (i : ℕ) (xs whole : List ℕ) (before now : SinkState) → length xs ≤ i
     → Due whole (in_row s any (map f (drop i xs))) before now → Adds whole before now
 places_end s any f i xs whole before now l d = due_last whole before now (due_as whole _ [] before now (ap (λ ys. in_row s any (map f ys)) (dropped_all xs i l)) d)

@@ -23,6 +23,7 @@ abbrev pub Has : ℕ → ℕ → List (ℕ × ℕ) → Type 0
 Has a i [] = ⊥
 Has a i (p ∷ ps) = SamePort p.0 p.1 a i ⊎ Has a i ps
 
+-- the names of the ports of atoms are their links
 pub names_on : (s : Heap) (name : ℕ → ℕ → ℕ) (xs : List ℕ) → map (by_port name) (ports_of s xs) ≡ links_on s xs name
 names_on s name [] = refl
 names_on s name (a ∷ xs) =
@@ -43,6 +44,7 @@ has_from a j zero i l = absurd (omega (arith, l))
 has_from a j (suc n) zero l = inl (refl, let e : j ≡ j + 0 = omega arith in e)
 has_from a j (suc n) (suc i) l = inr (subst (λ k. Has a k (port_range a (j + 1) n)) (let e : j + 1 + i ≡ j + suc i = omega arith in e) (has_from a (j + 1) n i (omega (arith, l))))
 
+-- each port of an atom of the list is one of these
 pub has_on : (s : Heap) (xs : List ℕ) (a i : ℕ) → In a xs → i < arity_of s a → Has a i (ports_of s xs)
 has_on s [] a i h l = absurd h
 has_on s (b ∷ xs) a i (inl e) l =
@@ -181,6 +183,7 @@ pub record FirstNaming (s : Heap) (ps : List (ℕ × ℕ)) : Type 0 where
   pub count : ℕ
   pub numbers : Numbers 0 (map (by_port name) ps) count
 
+-- each list of all ports has names by first occurrence
 pub first_naming : (s : Heap) → Paired s → (ps : List (ℕ × ℕ)) → ((a i : ℕ) → i < arity_of s a → Has a i ps) → FirstNaming s ps
 first_naming s paired ps all = by (name_ports s paired ps (λ a i. 0) 0 (record { joined = λ a i b j e. refl; apart = λ a i b j l e. absurd (omega (arith, l)); low = λ a i. omega arith }))
   where
@@ -258,6 +261,7 @@ are_append : (s : Heap) (ps qs : List (ℕ × ℕ)) → ArePorts s ps → ArePor
 are_append s [] qs h k = k
 are_append s (p ∷ ps) qs h k = (h.0, are_append s ps qs h.1 k)
 
+-- the ports of atoms are ports
 pub are_on : (s : Heap) (xs : List ℕ) → ArePorts s (ports_of s xs)
 are_on s [] = tt
 are_on s (a ∷ xs) = are_append s (port_range a 0 (arity_of s a)) (ports_of s xs) (are_from s a 0 (arity_of s a) (omega arith)) (are_on s xs)

@@ -20,6 +20,7 @@ pub in_parentheses : (op : tree.Arithmetic) (l r : tree.Expression)
 in_parentheses op l r =
     ap (λ t. 40 ∷ t) (sym (text_append (operand_pieces l) _ ∙ ap (λ t. text_of (operand_pieces l) ++ t) (text_append (operator_pieces op) _ ∙ ap (λ t. text_of (operator_pieces op) ++ t) (text_append (operand_pieces r) _))))
 
+-- a side of a comparison has no parentheses round it
 pub without_parentheses : (op : tree.Arithmetic) (l r : tree.Expression)
     → text_of (operand_pieces l) ++ (text_of (operator_pieces op) ++ text_of (operand_pieces r)) ≡ text_of (side_pieces (tree.operation op l r))
 without_parentheses op l r =
@@ -36,6 +37,7 @@ operation_is names e op l r x y is ex ey =
     ∙ ap (λ z. tree.operation (operator_of op) (expression_of names z) (expression_of names r.value)) (sym ex)
     ∙ ap (λ z. tree.operation (operator_of op) (expression_of names x) (expression_of names z)) (sym ey)
 
+-- the text of an operation as an operand
 pub operand_text : (names : List tree.Name) (e : Expr) (op : Arith) (l r : Box Expr Global) (x y : Expr) (sign : List ℕ) → e ≡ Op op l r → x ≡ l.value → y ≡ r.value
     → sign ≡ text_of (operator_pieces (operator_of op))
     → codes "(" ++ (text_of (operand_pieces (expression_of names x)) ++ (sign ++ (text_of (operand_pieces (expression_of names y)) ++ codes ")"))) ≡ text_of (operand_pieces (expression_of names e))
@@ -46,6 +48,7 @@ operand_text names e op l r x y sign is ex ey es =
     ∙ in_parentheses (operator_of op) (expression_of names x) (expression_of names y)
     ∙ ap (λ z. text_of (operand_pieces z)) (sym (operation_is names e op l r x y is ex ey))
 
+-- and as a side
 pub side_text : (names : List tree.Name) (e : Expr) (op : Arith) (l r : Box Expr Global) (x y : Expr) (sign : List ℕ) → e ≡ Op op l r → x ≡ l.value → y ≡ r.value
     → sign ≡ text_of (operator_pieces (operator_of op))
     → text_of (operand_pieces (expression_of names x)) ++ (sign ++ text_of (operand_pieces (expression_of names y))) ≡ text_of (side_pieces (expression_of names e))

@@ -32,6 +32,7 @@ one_region s name (mem m i r) F =
     nothing bare F = refl
     nothing (mem k i b) F = absurd (let w : [] ≡ k ∷ F.0 = F.1 in cc w)
 
+-- each valid heap has a solid
 pub heaps_have_solids : HeapsHaveSolids
 heaps_have_solids s valid =
     let f = valid.tree.0 in
@@ -68,6 +69,7 @@ module _ (s : Heap) (sound : Sound s) (u v : ℕ → ℕ → ℕ) (same : (a i :
   regions_alike : (f : Forest) → regions_of s u f ≡ regions_of s v f
   regions_alike f = regions_frame s s u v f (λ m i. (atoms_alike (atoms_in s m), refl))
 
+-- a valid heap has one solid at most
 pub one_solid : OneSolid
 one_solid s x y valid p q =
     let forests : q.forest ≡ p.forest = one_tree s q.forest p.forest q.tree p.tree in

@@ -48,6 +48,7 @@ two (x ∷ []) e = absurd (omega (arith, e))
 two (x ∷ y ∷ []) e = (x, y, refl)
 two (x ∷ y ∷ z ∷ xs) e = absurd (omega (arith, e))
 
+-- what makes a connector is one
 pub connector_is : (names : List tree.Name) (label : Label) (xs : List ℕ) → makes_connector label (length xs) ≡ true
     → (x : ℕ) × (y : ℕ) × (xs ≡ x ∷ y ∷ []) × (atom_or_connector names label xs ≡ tree.connector_leaf x y)
 connector_is names (Name n) xs e =
@@ -99,6 +100,7 @@ kind_by names n u false false false f g h = refl
 named_so : (names : List tree.Name) (n k : ℕ) (name : tree.Name) → IsNames names → ((more : List tree.Name) → name_of (first_names ++ more) k ≡ name) → (n == k) ≡ true → name_of names n ≡ name
 named_so names n k name h f e = ap (name_of names) (tested n k e) ∙ ap (λ ns. name_of ns k) h.begins.1 ∙ f h.begins.0
 
+-- the text of a condition of a type
 pub kind_text : (names : List tree.Name) (n : ℕ) (us : List CtxUse) → IsNames names
     → piece_text (name_piece (name_of names n)) ++ text_of (contexts_pieces (names_of names us)) ≡ text_of (condition_pieces (kind_of names n us))
 kind_text names n [] h = refl
@@ -120,15 +122,18 @@ guard_text names c cs all e =
 
 -- The same where the list has an item.
 
+-- the text of the links of an atom
 pub links_all : (all : List Occ) → 0 < length all → codes "(" ++ (in_row (codes ", ") false (map (λ x. link_name x.link) all) ++ codes ")") ≡ text_of (links_pieces (link_numbers all))
 links_all [] h = absurd (omega (arith, h))
 links_all (o ∷ os) h = links_text o os (o ∷ os) refl
 
+-- and of the contexts of a condition
 pub arguments_all : (names : List tree.Name) (all : List CtxUse) → 0 < length all
     → codes "(" ++ (in_row (codes ", ") false (map (context_text names (codes "$")) all) ++ codes ")") ≡ text_of (contexts_pieces (names_of names all))
 arguments_all names [] h = absurd (omega (arith, h))
 arguments_all names (u ∷ us) h = arguments_text names u us (u ∷ us) refl
 
+-- and of a guard
 pub guard_all : (names : List tree.Name) (all : List Cond) → 0 < length all
     → in_row (codes ", ") false (map (condition_text names) all) ++ codes " | " ≡ text_of (guard_pieces (map (condition_of names) all))
 guard_all names [] h = absurd (omega (arith, h))
@@ -151,6 +156,7 @@ connector_text names label os d e t =
     links_two (o ∷ []) a b w = absurd (let v : o.link ∷ [] ≡ a ∷ b ∷ [] = w in cc v)
     links_two (o ∷ p ∷ os) a b w = let v : o.link ∷ p.link ∷ link_numbers os ≡ a ∷ b ∷ [] = w in (cc v, cc v)
 
+-- the text of an atom
 pub atom_text_is : (names : List tree.Name) (label : Label) (os : List Occ) → makes_connector label (length os) ≡ false
     → label_text (label_of names label) ++ text_of (links_pieces (link_numbers os)) ≡ text_of (leaf_pieces (atom_or_connector names label (link_numbers os)))
 atom_text_is names label os e =
@@ -165,6 +171,7 @@ typed_text names leaf n o pos e = ap (leaf_text names) (sym e)
 
 -- Conditions by their parts.
 
+-- the text of a comparison
 pub compare_text : (names : List tree.Name) (c : Cond) (op : Cmp) (l r : Expr) (pos : Pos) (sign : List ℕ) → c ≡ Compare op l r pos → sign ≡ text_of (comparison_pieces (comparison_of op))
     → text_of (side_pieces (expression_of names l)) ++ (sign ++ text_of (side_pieces (expression_of names r))) ≡ condition_text names c
 compare_text names c op l r pos sign e es =
@@ -174,10 +181,12 @@ compare_text names c op l r pos sign e es =
     ∙ sym (text_append a _ ∙ ap (λ t. text_of a ++ t) (text_append (comparison_pieces (comparison_of op)) b))
     ∙ ap (condition_text names) (sym e)
 
+-- and of a binding
 pub equal_text : (names : List tree.Name) (c : Cond) (u : CtxUse) (r : Expr) (pos : Pos) → c ≡ Equal u r pos
     → (codes "$" ++ name_of names u.name) ++ (codes " = " ++ text_of (side_pieces (expression_of names r))) ≡ condition_text names c
 equal_text names c u r pos e = ap (condition_text names) (sym e)
 
+-- and of two parts that differ
 pub differ_text : (names : List tree.Name) (c : Cond) (u v : CtxUse) (pos : Pos) → c ≡ Differ u v pos
     → (codes "$" ++ name_of names u.name) ++ (codes " \\= " ++ (codes "$" ++ name_of names v.name)) ≡ condition_text names c
 differ_text names c u v pos e =

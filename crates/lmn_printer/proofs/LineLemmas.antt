@@ -31,6 +31,7 @@ stop_if any = if any then codes "." else []
 rejoin : (t u : List ℕ) (r : List ℕ) → (t ++ (46 ∷ [])) ++ (32 ∷ ((u ++ r) ++ (46 ∷ []))) ≡ (t ++ (46 ∷ (32 ∷ (u ++ r)))) ++ (46 ∷ [])
 rejoin t u r = append_assoc t (46 ∷ []) (32 ∷ ((u ++ r) ++ (46 ∷ []))) ∙ sym (append_assoc t (46 ∷ (32 ∷ (u ++ r))) (46 ∷ []))
 
+-- the text of items with full stops is their texts in a row
 pub stops_row : (ps : List (List Piece)) → text_of (with_full_stops ps) ≡ in_row (codes ". ") false (map text_of ps) ++ stop_if (any_behind false ps)
 stops_row [] = refl
 stops_row (p ∷ []) = text_append p _ ∙ ap (λ z. z ++ (46 ∷ [])) (sym (append-nil (text_of p)))
@@ -40,10 +41,12 @@ stops_row (p ∷ q ∷ ps) =
     ∙ ap (λ z. (text_of p ++ (46 ∷ [])) ++ (32 ∷ z)) (stops_row (q ∷ ps))
     ∙ rejoin (text_of p) (text_of q) (in_row (codes ". ") true (map text_of ps))
 
+-- the texts of the rules of a membrane, by their numbers
 pub rules_texts : (names : List tree.Name) (table : List RuleTree) (ks : List ℕ) → map text_of (rules_pieces (rules (map (numbered_rule names table) ks))) ≡ map (λ k. text_of (rule_pieces (numbered_rule names table k))) ks
 rules_texts names table [] = refl
 rules_texts names table (k ∷ ks) = ap (λ ts. text_of (rule_pieces (numbered_rule names table k)) ∷ ts) (rules_texts names table ks)
 
+-- the items of a membrane in a row are its text
 pub row_is : (t : Texts) (b : List ℕ) (m : ℕ) (inside : List (List ℕ)) → in_row b false (t.atoms m ++ (inside ++ t.rules m)) ≡ items_text t b m inside
 row_is t b m inside =
     row_append b false (t.atoms m) (inside ++ t.rules m)

@@ -15,6 +15,7 @@ use Rattle.lmn_heap.proofs.Common.{same_atoms}
 
 -- the marks after one was set
 
+-- a mark that is set is found there
 pub mark_at : (s : Heap) (a i v : ℕ) → i < length (marks_of (s.atoms a)) → mark_of (marked s a i v) a i ≡ v
 mark_at s a i v l = ap (λ (o : Option HeapAtom). slice_index_or (marks_of o) i 0) (alter_at s.atoms a (option_map (with_mark i v))) ∙ by (s.atoms a) l
   where
@@ -35,6 +36,7 @@ mark_zero s a i = ap (λ (o : Option HeapAtom). slice_index_or (marks_of o) i 0)
     by None = refl
     by (Some x) = none x.marks i
 
+-- a mark that is set leaves every other mark
 pub mark_off : (s : Heap) (a i v c k : ℕ) → (SamePort c k a i → ⊥) → mark_of (marked s a i v) c k ≡ mark_of s c k
 mark_off s a i v c k d = elim (cases_eq c a) [
   | inl e ↦ subst (λ z. mark_of (marked s a i v) z k ≡ mark_of s z k) (sym e)
@@ -46,6 +48,7 @@ mark_off s a i v c k d = elim (cases_eq c a) [
     by None n = refl
     by (Some x) n = get_or-set_other x.marks i k v 0 n
 
+-- as many marks as before
 pub marks_length : (s : Heap) (a i v c : ℕ) → length (marks_of ((marked s a i v).atoms c)) ≡ length (marks_of (s.atoms c))
 marks_length s a i v c = elim (cases_eq c a) [
   | inl e ↦ subst (λ z. length (marks_of ((marked s a i v).atoms z)) ≡ length (marks_of (s.atoms z))) (sym e)
@@ -59,13 +62,16 @@ marks_length s a i v c = elim (cases_eq c a) [
 
 -- Other marks, as a whole.
 
+-- an atom with its own marks is itself
 pub own_marks : (o : Option HeapAtom) → option_map (with_marks (marks_of o)) o ≡ o
 own_marks None = refl
 own_marks (Some x) = refl
 
+-- a heap with the marks that it has is itself
 pub remarked_same : (s : Heap) → remarked s (λ a. marks_of (s.atoms a)) ≡ s
 remarked_same s = same_atoms s _ s.atoms (λ a. own_marks (s.atoms a))
 
+-- of two times new marks the last ones stay
 pub remarked_twice : (s : Heap) (u v : ℕ → List ℕ) → remarked (remarked s u) v ≡ remarked s v
 remarked_twice s u v = same_atoms s _ _ (λ a. by (s.atoms a) (u a) (v a))
   where
@@ -73,6 +79,7 @@ remarked_twice s u v = same_atoms s _ _ (λ a. by (s.atoms a) (u a) (v a))
     by None xs ys = refl
     by (Some x) xs ys = refl
 
+-- one mark set is new marks for all
 pub marked_is : (s : Heap) (a i v : ℕ) → marked s a i v ≡ remarked s (λ b. marks_of ((marked s a i v).atoms b))
 marked_is s a i v = same_atoms s _ _ (λ c. elim (cases_eq c a) [
   | inl e ↦ subst (λ z. alter s.atoms a (option_map (with_mark i v)) z ≡ option_map (with_marks (marks_of (alter s.atoms a (option_map (with_mark i v)) z))) (s.atoms z)) (sym e)
@@ -147,6 +154,7 @@ module _ (s t : Heap) (r : Remarks s t) where
 pub remarks_none : (s : Heap) → Remarks s s
 remarks_none s = record { marks = λ a. marks_of (s.atoms a); is = sym (remarked_same s); own = λ a. refl }
 
+-- other marks and then others again are other marks
 pub remarks_more : (s t u : Heap) → Remarks s t → Remarks t u → Remarks s u
 remarks_more s t u p q = record {
   marks = q.marks;
@@ -168,9 +176,11 @@ pub record Cleared (s t : Heap) (a n : ℕ) : Type 0 where
   pub here : (i : ℕ) → i < n → i < arity_of s a → mark_of t a i ≡ 0
   pub others : (b i : ℕ) → i < arity_of s b → mark_of s b i ≡ 0 → mark_of t b i ≡ 0
 
+-- at first no mark of an atom is cleared
 pub cleared_none : (s : Heap) (a : ℕ) → Cleared s s a 0
 cleared_none s a = record { marks = remarks_none s; here = λ i l k. absurd (omega (arith, l)); others = λ b i l e. e }
 
+-- then one more
 pub cleared_more : (s t u : Heap) (a n : ℕ) → n < arity_of s a → Cleared s t a n → u ≡ marked t a n 0 → Cleared s u a (n + 1)
 cleared_more s t u a n l c e = record {
   marks = subst (Remarks s) (sym e) (remarks_more s t (marked t a n 0) c.marks (remarks_mark t a n 0 (subst (λ k. n < k) (sym (arity_same s t c.marks a)) l)));

@@ -22,9 +22,11 @@ one_mark : (i : ℕ) → i < 1 → ◌≡◌ {A = ℕ} (slice_index_or (1 ∷ 0 
 one_mark zero l = refl
 one_mark (suc i) l = absurd (omega (arith, l))
 
+-- in the example both ports of a link tell its number
 pub both_ports_tell : BothPortsTell
 both_ports_tell a i l =
     each_atom (λ o. i < length (partners_of o) → slice_index_or (marks_of o) i 0 ≡ 1) (one_mark i) (one_mark i) (λ k. absurd (let z : i < 0 = k in omega (arith, z))) a l
 
+-- and one alone tells nothing
 pub one_port_tells_nothing : OnePortTellsNothing
 one_port_tells_nothing name told = let e : ◌≡◌ {A = ℕ} 0 (name 1 0 + 1) = told 1 0 (omega arith) in absurd (omega (arith, e))

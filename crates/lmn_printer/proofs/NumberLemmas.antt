@@ -14,9 +14,11 @@ use Rattle.lmn_heap.proofs.Common.{same_port as same_ports}
 
 -- the mark for a link by its number
 
+-- a link that has its number is marked by the next one
 pub mark_low : (n x : ℕ) → x < n → mark_when n x ≡ x + 1
 mark_low n x l = grind (arith, nat_tests, l)
 
+-- a link that has none yet is not marked
 pub mark_high : (n x : ℕ) → n ≤ x → mark_when n x ≡ 0
 mark_high n x l = grind (arith, nat_tests, l)
 
@@ -34,9 +36,11 @@ next_link n x left all (new k) = inr (refl, let e : suc n ≡ n + 1 = omega arit
 
 -- Chains.
 
+-- where no link is passed the numbers stay
 pub go_none : (s : Heap) (n : ℕ) → GoOn s s n n (λ name. [])
 go_none s n = λ name naming left all nums told. (nums, told)
 
+-- and two stretches of links go on one after the other
 pub go_more : (s t u : Heap) (n m k : ℕ) (ls ks : (ℕ → ℕ → ℕ) → List ℕ) → Remarks s t → GoOn s t n m ls → GoOn t u m k ks → GoOn s u n k (λ name. ls name ++ ks name)
 go_more s t u n m k ls ks r g h = λ name naming left all nums told.
     let first = g name naming (ks name ++ left) all (subst (λ xs. Numbers n xs all) (append_assoc (ls name) (ks name) left) nums) told in

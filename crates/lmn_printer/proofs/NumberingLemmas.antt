@@ -31,6 +31,7 @@ pub record Numbering (s t : Heap) (n : ℕ) (next : Option ℕ) (f : Forest) : T
   pub numbers : GoOn s t 0 n (links_on s done)
   pub few : n + 255 * length (from next (printed_atoms s (flat f))) ≤ 255 * 2 ^ 48
 
+-- at first no link has its number
 pub numbering_first : (s : Heap) → Sound s → AtMost (2 ^ 48) s → (f : Forest) → IsTree s f → (next : Option ℕ) → from next (printed_atoms s (flat f)) ≡ printed_atoms s (flat f) → Numbering s s 0 next f
 numbering_first s sound most f tree next e = record {
   done = [];
@@ -97,10 +98,12 @@ numbering_last s t valid r n all unmarked x of = λ a i l.
 
 -- The next atom, where marks were changed.
 
+-- what is in place with marks is so without
 pub next_place : {A : Type 0} (id : A → ℕ) (s t : Heap) → Remarks s t → (next : Option A) → IfSome next (λ a. IsInPlace t (id a)) → IfSome next (λ a. IsInPlace s (id a))
 next_place id s t r None h = tt
 next_place id s t r (Some a) h = subst IsSome (home_same s t r (id a)) h
 
+-- and the other way round
 pub place_before : (s t : Heap) → Remarks s t → (a : ℕ) → IsInPlace s a → IsInPlace t a
 place_before s t r a h = subst IsSome (sym (home_same s t r a)) h
 

@@ -22,9 +22,11 @@ pub record Ports (s t : Heap) (a n m k : ℕ) : Type 0 where
   pub numbers : GoOn s t n m (λ name. links_from name a 0 k)
   pub few : m ≤ n + k
 
+-- at first no port of an atom has its number
 pub ports_none : (s : Heap) (a n : ℕ) → Ports s s a n n 0
 ports_none s a n = record { marks = remarks_none s; numbers = go_none s n; few = omega arith }
 
+-- then one more
 pub ports_more : (s t u : Heap) (a n m m' k : ℕ) → Ports s t a n m k → Remarks t u → GoOn t u m m' (λ name. name a k ∷ []) → m' ≤ m + 1 → Ports s u a n m' (k + 1)
 ports_more s t u a n m m' k p r g l = record {
   marks = remarks_more s t u p.marks r;

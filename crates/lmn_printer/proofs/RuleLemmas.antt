@@ -166,10 +166,12 @@ rule_line head guard body =
 
 -- Measures: a level is as heavy as the levels in it, and rules as the levels of their heads and bodies.
 
+-- how many levels some rules have
 abbrev pub levels_of_rules : List RuleTree → ℕ
 levels_of_rules [] = 0
 levels_of_rules (r ∷ rs) = suc (levels_in r.head + levels_in r.body + levels_of_rules rs)
 
+-- and those from a number on
 abbrev pub levels_behind : ℕ → List RuleTree → ℕ
 levels_behind first table = levels_of_rules (drop first table)
 
@@ -203,6 +205,7 @@ swap : (f : List (List ℕ) → List ℕ) (g : Bool → List (List ℕ) → List
     → f a ++ (g m b ++ (g n c ++ (g p d ++ g q e))) ≡ f a' ++ (g m' b' ++ (g n' c' ++ (g p' d' ++ g q' e')))
 swap f g x1 x2 x3 x4 x5 x6 x7 x8 x9 = (cc)
 
+-- the parts of a level are written
 pub level_written : (names : List tree.Name) (first : ℕ) (table : List RuleTree) (l : Level) (ls : List Leaf) (ms : List Level) (cs ds : List CtxUse) (rs : List ℕ) (m n p q : Bool) (o0 o1 o2 o3 o4 o5 : SinkState)
     → let s = codes ", " in let o = out-Level l in ls ≡ o.leaves → ms ≡ o.membranes → cs ≡ o.contexts → ds ≡ o.rule_contexts → rs ≡ o.rules
     → m ≡ any_behind false ls → n ≡ any_behind m ms → p ≡ any_behind n cs → q ≡ any_behind p ds
@@ -232,6 +235,7 @@ level_written names first table l ls ms cs ds rs m n p q o0 o1 o2 o3 o4 o5 els e
 pub membrane_written : (l : tree.Level) (o0 o1 o2 o3 : SinkState) → Adds (codes "{") o0 o1 → Adds (text_of (with_commas (level_pieces l))) o1 o2 → Adds (codes "}") o2 o3 → Adds (membrane_text l) o0 o3
 membrane_written l o0 o1 o2 o3 a b c = adds_more (codes "{") _ o0 o1 o3 a (adds_more (text_of (with_commas (level_pieces l))) (codes "}") o1 o2 o3 b c)
 
+-- the parts of a rule are written
 pub rule_written : (names : List tree.Name) (first n at : ℕ) (table : List RuleTree) (r : RuleTree) (guard : List Cond) (o0 o1 o2 o3 o4 o5 o6 : SinkState) → at ≡ first + (n - first) → slice_get table at ≡ Some r → guard ≡ r.guard
     → Adds (codes "(") o0 o1 → Adds (text_of (with_commas (level_pieces (level_in names (at + 1) table r.head)))) o1 o2 → Adds (codes " :- ") o2 o3
     → Adds (text_of (guard_pieces (map (condition_of names) guard))) o3 o4 → Adds (text_of (with_commas (level_pieces (level_in names (at + 1) table r.body)))) o4 o5 → Adds (codes ")") o5 o6
@@ -242,17 +246,21 @@ rule_written names first n at table r guard o0 o1 o2 o3 o4 o5 o6 p e eg h1 h2 h3
     ∙ ap (λ x. text_of (rule_pieces x)) (sym (rule_is names first n at table r p e)))
     (adds_more (codes "(") _ o0 o1 o6 h1 (adds_more _ _ o1 o2 o6 h2 (adds_more (codes " :- ") _ o2 o3 o6 h3 (adds_more _ _ o3 o4 o6 h4 (adds_more _ (codes ")") o4 o5 o6 h5 h6)))))
 
+-- where a number has no rule `( :- )` is written
 pub no_rule_written : (names : List tree.Name) (first n at : ℕ) (table : List RuleTree) (o0 o1 : SinkState) → at ≡ first + (n - first) → slice_get table at ≡ None → Adds (codes "( :- )") o0 o1 → Adds (rule_text names first table n) o0 o1
 no_rule_written names first n at table o0 o1 p e h = adds_as (ap (λ x. text_of (rule_pieces x)) (sym (rule_is_missing names first n at table p e))) h
 
 -- The measures at the calls.
 
+-- a membrane has fewer levels to write than the level round it
 pub level_falls : (first : ℕ) (table : List RuleTree) (l : Level) (t i : ℕ) (xs : List Level) (x : Level) → i < length xs → x ≡ get_or xs i x → xs ≡ (out-Level l).membranes
     → levels_behind first table + levels_in l ≡ t → levels_behind first table + levels_in x < t
 level_falls first table l t i xs x h is e size = let w = membrane_below l i xs x h is e in omega (arith, w, size)
 
+-- and so has the head of a rule than the rule
 pub head_falls : (first n at t : ℕ) (table : List RuleTree) (r : RuleTree) → at ≡ first + (n - first) → slice_get table at ≡ Some r → levels_behind first table ≡ t → levels_behind (at + 1) table + levels_in r.head < t
 head_falls first n at t table r p e size = let w = rule_below first n at table r p e in omega (arith, w, size)
 
+-- and its body
 pub body_falls : (first n at t : ℕ) (table : List RuleTree) (r : RuleTree) → at ≡ first + (n - first) → slice_get table at ≡ Some r → levels_behind first table ≡ t → levels_behind (at + 1) table + levels_in r.body < t
 body_falls first n at t table r p e size = let w = rule_below first n at table r p e in omega (arith, w, size)

@@ -192,6 +192,7 @@ module _ (s : Heap) (valid : Valid s) (name : ℕ → ℕ → ℕ) where
       each_atom (λ a. a.functor ≢ connector)
       (λ a x e f. valid.no_connector a (valid.settled.atoms a (subst IsSome (sym e) refl)) (ap (option_map (λ (y : HeapAtom). y.functor)) e ∙ ap Some f))
 
+-- the solid of a heap is a solid: each link stands in two places, each atom has its links
 pub heap_solids_are_solids : HeapSolidsAreSolids
 heap_solids_are_solids s x valid of =
     let xs = printed_atoms s (flat of.forest) in

@@ -20,20 +20,24 @@ use Rattle.lmn_plain.proofs.LaidLines.{text_append}
 
 -- Atoms by `first` and `next`.
 
+-- at first all atoms of a membrane are due
 pub atoms_first : (s : List ℕ) (f : ℕ → List ℕ) (next : Option ℕ) (xs : List ℕ) (o : SinkState) → from next xs ≡ xs → Due (in_row s false (map f xs)) (in_row s false (map f (from next xs))) o o
 atoms_first s f next xs o e = due_as (in_row s false (map f xs)) (in_row s false (map f xs)) (in_row s false (map f (from next xs))) o o (ap (λ ys. in_row s false (map f ys)) (sym e)) (due_first (in_row s false (map f xs)) o)
 
+-- then one is written
 pub atoms_next : {A : Type 0} (id : A → ℕ) (s : List ℕ) (any : Bool) (f : ℕ → List ℕ) (a : A) (now next : Option A) (xs whole : List ℕ) (before o1 o2 o3 : SinkState)
     → now ≡ Some a → from (option_map id next) xs ≡ after (id a) xs → Due whole (in_row s any (map f (from (option_map id now) xs))) before o1 → Adds (between_if s any) o1 o2 → Adds (f (id a)) o2 o3
     → Due whole (in_row s true (map f (from (option_map id next) xs))) before o3
 atoms_next id s any f a now next xs whole before o1 o2 o3 is e d h k =
     row_step s any f (id a) (option_map id next) xs whole before o1 o2 o3 e (subst (λ o. Due whole (in_row s any (map f (from (option_map id o) xs))) before o1) is d) h k
 
+-- from the next atom on there are fewer than from this one
 pub atoms_fewer : {A : Type 0} (id : A → ℕ) (a : A) (now next : Option A) (xs : List ℕ) → now ≡ Some a → from (option_map id next) xs ≡ after (id a) xs
     → length (from (option_map id next) xs) < length (from (option_map id now) xs)
 atoms_fewer id a now next xs is e =
     subst (λ o. length (from (option_map id next) xs) < length (from (option_map id o) xs)) (sym is) (fewer_left (id a) (option_map id next) xs e)
 
+-- behind the last atom all are written
 pub atoms_end : {A : Type 0} (id : A → ℕ) (s : List ℕ) (any : Bool) (f : ℕ → List ℕ) (now : Option A) (xs whole : List ℕ) (before o : SinkState)
     → ((a : A) → now ≡ Some a → ⊥) → Due whole (in_row s any (map f (from (option_map id now) xs))) before o → Adds whole before o
 atoms_end id s any f None xs whole before o none d = due_last whole before o d
@@ -47,9 +51,11 @@ atom_at_home h a m e = by (h.atoms a) e
     by None e = absurd (cc e)
     by (Some x) e = refl
 
+-- what has a home is in place
 pub placed_at_home : (h : Heap) (a m : ℕ) → home_of h a ≡ Some m → IsInPlace h a
 placed_at_home h a m e = subst IsSome (sym e) refl
 
+-- the next one of a list has the same home
 pub same_home : {A : Type 0} (id : A → ℕ) (h : Heap) (a : A) (m : ℕ) (next : Option A) → home_of h (id a) ≡ Some m → IfSome next (λ b. home_of h (id b) ≡ home_of h (id a)) → IfSome next (λ b. home_of h (id b) ≡ Some m)
 same_home id h a m None e i = tt
 same_home id h a m (Some b) e i = i ∙ e
@@ -59,11 +65,13 @@ same_home id h a m (Some b) e i = i ∙ e
 numbered_at : (name : ℕ → ℕ → ℕ) (a i n k : ℕ) → n ≡ suc k → links_from name a i n ≡ name a i ∷ links_from name a (i + 1) k
 numbered_at name a i n k e = ap (links_from name a i) e
 
+-- at first all links of an atom are due
 pub ports_first : (s : List ℕ) (f : ℕ → List ℕ) (name : ℕ → ℕ → ℕ) (a n : ℕ) (o : SinkState) → Due (in_row s false (map f (links_from name a 0 n))) (in_row s false (map f (links_from name a 0 (n - 0)))) o o
 ports_first s f name a n o =
     due_as (in_row s false (map f (links_from name a 0 n))) (in_row s false (map f (links_from name a 0 n))) (in_row s false (map f (links_from name a 0 (n - 0)))) o o
     (ap (λ k. in_row s false (map f (links_from name a 0 k))) (let e : n ≡ n - 0 = omega arith in e)) (due_first (in_row s false (map f (links_from name a 0 n))) o)
 
+-- then one is written
 pub ports_next : (s : List ℕ) (any : Bool) (f : ℕ → List ℕ) (name : ℕ → ℕ → ℕ) (a i n link : ℕ) (whole : List ℕ) (before o1 o2 o3 : SinkState) → i < n → link ≡ name a i
     → Due whole (in_row s any (map f (links_from name a i (n - i)))) before o1 → Adds (between_if s any) o1 o2 → Adds (f link) o2 o3
     → Due whole (in_row s true (map f (links_from name a (i + 1) (n - (i + 1))))) before o3
@@ -73,11 +81,13 @@ ports_next s any f name a i n link whole before o1 o2 o3 l e d h k =
     ap (λ ys. in_row s any (map f ys)) (numbered_at name a i (n - i) (n - (i + 1)) (omega (arith, l)) ∙ ap (λ x. x ∷ links_from name a (i + 1) (n - (i + 1))) (sym e)) in
     due_next whole (f link ++ rest) (f link) rest before o2 o3 refl (due_next whole (in_row s any (map f (links_from name a i (n - i)))) (between_if s any) (f link ++ rest) before o1 o2 at d h) k
 
+-- behind the last all are
 pub ports_end : (s : List ℕ) (any : Bool) (f : ℕ → List ℕ) (name : ℕ → ℕ → ℕ) (a i n : ℕ) (whole : List ℕ) (before o : SinkState) → n ≤ i
     → Due whole (in_row s any (map f (links_from name a i (n - i)))) before o → Adds whole before o
 ports_end s any f name a i n whole before o l d =
     due_last whole before o (due_as whole (in_row s any (map f (links_from name a i (n - i)))) [] before o (ap (λ k. in_row s any (map f (links_from name a i k))) (let e : n - i ≡ 0 = omega (arith, l) in e)) d)
 
+-- the links of an atom in parentheses
 pub ports_text : (name : ℕ → ℕ → ℕ) (a n : ℕ) → 0 < n
     → codes "(" ++ (in_row (codes ", ") false (map link_name (links_from name a 0 n)) ++ codes ")") ≡ text_of (links_pieces (links_from name a 0 n))
 ports_text name a zero h = absurd (omega (arith, h))

@@ -28,6 +28,7 @@ pub numbered_alike : (u v : ℕ → ℕ → ℕ) (a i n : ℕ) → ((j : ℕ) �
 numbered_alike u v a i zero h = refl
 numbered_alike u v a i (suc n) h = ap (λ x. x ∷ links_from u a (i + 1) n) (h i (omega arith)) ∙ ap (λ xs. v a i ∷ xs) (numbered_alike u v a (i + 1) n (λ j l. h j (omega (arith, l))))
 
+-- an atom of a solid
 abbrev pub solid_atom : Functor → List ℕ → SolidAtom
 solid_atom f ls = record { functor = f; links = ls }
 
@@ -49,18 +50,22 @@ module _ (h : Heap) (sound : Sound h) (name : ℕ → ℕ → ℕ) (told : Tells
   told_regions : (f : Forest) → regions_of h name f ≡ regions_of h (number_by_mark h) f
   told_regions f = regions_frame h h name (number_by_mark h) f (λ m i. (told_atoms (atoms_in h m), refl))
 
+-- what a membrane lists is an atom
 pub all_atoms : (h : Heap) → Sound h → (m a : ℕ) → In a (atoms_in h m) → IsAtom h a
 all_atoms h sound m a i = atom_by_place (h.atoms a) (within m) ((sound.listed.atoms m a).0 i)
 
+-- whether an item stands behind two lists is asked of one after the other
 pub any_append : (any : Bool) (xs ys : List (List ℕ)) → any_behind any (xs ++ ys) ≡ any_behind (any_behind any xs) ys
 any_append any [] ys = refl
 any_append any (x ∷ xs) [] = refl
 any_append any (x ∷ xs) (y ∷ ys) = refl
 
+-- an item stands behind the membranes of a forest where it does behind its texts
 pub any_members : (t : Texts) (h : Heap) (any : Bool) (f : Forest) (ms : List ℕ) → Forms h f ms → any_behind any (members t f) ≡ any_behind any ms
 any_members t h any bare ms F = ap (any_behind any) (sym F)
 any_members t h any (mem m i r) ms F = ap (any_behind any) (sym F.1)
 
+-- the line of a solid is the text of its tree, where marks tell the numbers of links
 pub told_line : (names : List Name) (table : List RuleTree) (h : Heap) → Sound h → (x : Solid) (of : HasSolid h x) → TellsNumbers h of.name
     → solid_line names table x ≡ tree_text (texts_in names table h) of.forest ++ (between_if (codes ".") (has_any h h.root) ++ codes "\n")
 told_line names table h sound x of told = by of.forest of.tree.forms (sym (told_regions h sound of.name told of.forest) ∙ of.root)

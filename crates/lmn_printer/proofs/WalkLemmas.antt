@@ -54,9 +54,11 @@ position_by s sound m beside top st = mem_of_place s m at_top ((sound.listed.roo
 position_by s sound m beside (inside p b way) st =
     mem_of_place s m (within p) ((sound.listed.mems p m).0 (subst (In m) (sym st.2) (in_here m st.0 st.1)))
 
+-- where the writer stands is a membrane
 pub stands_in : (s : Heap) (sound : Sound s) (m depth : ℕ) → Position s m depth → IsMem s m
 stands_in s sound m depth p = position_by s sound m p.beside p.way p.stands
 
+-- and so is what it leaves
 pub leaves_in : (s : Heap) (sound : Sound s) (m depth : ℕ) → Leaving s m depth → IsMem s m
 leaves_in s sound m depth p = position_by s sound m p.beside p.way p.stands
 
@@ -105,6 +107,7 @@ enters t s m depth n i b way (mem k inner rest) ms F is e st d few o1 o2 o3 h l 
       fewer = omega (arith, size_is);
     }
 
+-- it goes into the first membrane
 pub goes_in : (t : Texts) (s : Heap) (m depth n : ℕ) (p : Position s m depth) → from (Some n) (mems_in s m) ≡ mems_in s m → (o1 o2 o3 : SinkState)
     → Adds (between_if (between p.way) (has_atoms t m)) o1 o2 → Adds (codes "{") o2 o3 → WalksOn t s (from_membranes t p) (membranes_ahead p) n (depth + 1) o1 o3
 goes_in t s m depth n p e o1 o2 o3 h k = enters t s m depth n bare p.beside p.way p.inner (mems_in s m) p.forms refl e p.stands p.deep p.few o1 o2 o3 h k
@@ -115,9 +118,11 @@ no_forest : (s : Heap) (g : Forest) (ms : List ℕ) → Forms s g ms → ms ≡ 
 no_forest s bare ms F e = refl
 no_forest s (mem k i b) ms F e = absurd (let w : k ∷ F.0 ≡ [] = sym F.1 ∙ e in cc w)
 
+-- where there is none it turns
 abbrev pub turn : (s : Heap) (m depth : ℕ) → Position s m depth → Leaving s m depth
 turn s m depth p = record { beside = p.beside; way = p.way; stands = p.stands; deep = p.deep; few = let f = p.few in omega (arith, f) }
 
+-- and its rules are due
 pub turned : (t : Texts) (s : Heap) (m depth : ℕ) (p : Position s m depth) → from None (mems_in s m) ≡ mems_in s m → from_rules t (has_atoms t m) (turn s m depth p) ≡ from_membranes t p
 turned t s m depth p e =
     let none : p.inner ≡ bare = no_forest s p.inner (mems_in s m) p.forms (sym e) in
@@ -135,6 +140,7 @@ ends_by t s sound m beside (inside p b way) st e =
     let w : parent_of s m ≡ Some p = parent_is s sound.listed m p (subst (In m) (sym st.2) (in_here m st.0 st.1)) in
     absurd (let u : None ≡ Some p = sym e ∙ w in cc u)
 
+-- behind the root all is written
 pub ends : (t : Texts) (s : Heap) (sound : Sound s) (m depth : ℕ) (any : Bool) (p : Leaving s m depth) (whole : List ℕ) (before o1 o2 : SinkState) → parent_of s m ≡ None
     → Due whole (from_rules t any p) before o1 → Adds (in_row (between p.way) any (t.rules m)) o1 o2 → Adds whole before o2
 ends t s sound m depth any p whole before o1 o2 e d h =
@@ -155,6 +161,7 @@ round_by s sound m depth q b (inside p b' way) st e =
     let same : p ≡ q = (let u : Some p ≡ Some q = sym w ∙ e in cc u) in
     (b', way, ap (λ x. inside x b' way) same)
 
+-- what is round the membrane that it leaves
 pub round : (s : Heap) (sound : Sound s) (m depth q : ℕ) (p : Leaving s m depth) → parent_of s m ≡ Some q → Round s m depth q p
 round s sound m depth q p e = let r = round_by s sound m depth q p.beside p.way p.stands e in record { beside = r.0; way = r.1; is = r.2 }
 
@@ -235,6 +242,7 @@ goes_beside t s m depth n q any (mem k i b) b' way before ls list F st e d few w
     let d5 = due_as whole next (from_atoms t p) start o5 (ap (λ y. items_text t (codes ", ") y (members t i) ++ (125 ∷ (more ++ end))) same) d4 in
     record { position = p; written = d5.written; adds = d5.adds; rest = d5.rest; fewer = omega (arith, size_is, fits) }
 
+-- it goes on to the next membrane
 pub goes_on : (t : Texts) (s : Heap) (sound : Sound s) (m depth n q : ℕ) (any : Bool) (p : Leaving s m depth) (r : Round s m depth q p)
     → from (Some n) (mems_in s q) ≡ after m (mems_in s q)
     → (whole : List ℕ) (most : ℕ) (start o1 o2 o3 o4 o5 : SinkState) → Due whole (from_rules t any p) start o1 → left_behind p ≤ most
@@ -250,25 +258,30 @@ goes_on t s sound m depth n q any p r e whole most start o1 o2 o3 o4 o5 due fits
 
 -- What a call answers, in other words.
 
+-- what is said of an option holds by wider words
 pub weaker : {A : Type 0} (o : Option A) (B B' : Type 0) (P P' : A → Type 0) → MatchOption o B P → (B → B') → ((x : A) → P x → P' x) → MatchOption o B' P'
 weaker None B B' P P' m f k = f m
 weaker (Some x) B B' P P' m f k = k x m
 
+-- the same is due, and no more membranes are ahead
 pub goes_same : (t : Texts) (s : Heap) (left left' : List ℕ) (more more' m depth : ℕ) (old new : SinkState) → left ≡ left' → more ≤ more' → WalksOn t s left more m depth old new → WalksOn t s left' more' m depth old new
 goes_same t s left left' more more' m depth old new e l h =
     let f = h.fewer in record { position = h.position; written = h.written; adds = h.adds; rest = sym e ∙ h.rest; fewer = omega (arith, f, l) }
 
 -- The same as the calls say it: what stands between two items is known for each way of the depth.
 
+-- behind the atoms the membranes are due
 pub atoms_done : (t : Texts) (s : Heap) (m depth : ℕ) (p : Position s m depth) (b : List ℕ) → ((way : Way) → depth ≡ membranes_round way → b ≡ between way) → (whole : List ℕ) (before o1 o2 : SinkState)
     → Due whole (from_atoms t p) before o1 → Adds (in_row b false (t.atoms m)) o1 o2 → Due whole (from_membranes t p) before o2
 atoms_done t s m depth p b bs whole before o1 o2 d h = atoms_written t s m depth p whole before o1 o2 d (subst (λ z. Adds (in_row z false (t.atoms m)) o1 o2) (bs p.way p.deep) h)
 
+-- the writer goes into a membrane
 pub goes_inside : (t : Texts) (s : Heap) (m depth n : ℕ) (p : Position s m depth) (b : List ℕ) (any : Bool) → ((way : Way) → depth ≡ membranes_round way → b ≡ between way) → any ≡ has_atoms t m → from (Some n) (mems_in s m) ≡ mems_in s m → (o1 o2 o3 : SinkState)
     → Adds (between_if b any) o1 o2 → Adds (codes "{") o2 o3 → WalksOn t s (from_membranes t p) (membranes_ahead p) n (depth + 1) o1 o3
 goes_inside t s m depth n p b any bs is e o1 o2 o3 h k =
     goes_in t s m depth n p e o1 o2 o3 (subst (λ z. Adds (between_if (between p.way) z) o1 o2) is (subst (λ z. Adds (between_if z any) o1 o2) (bs p.way p.deep) h)) k
 
+-- it leaves to the membrane round it
 pub leave_up : (t : Texts) (s : Heap) (sound : Sound s) (m depth q : ℕ) (any : Bool) (p : Leaving s m depth) → parent_of s m ≡ Some q → (b : List ℕ) → ((way : Way) → depth ≡ membranes_round way → b ≡ between way)
     → (whole : List ℕ) (most : ℕ) (start o1 o2 o3 : SinkState) → from None (mems_in s q) ≡ after m (mems_in s q) → Due whole (from_rules t any p) start o1 → left_behind p ≤ most
     → Adds (in_row b any (t.rules m)) o1 o2 → Adds (codes "}") o2 o3 → (next : Leaving s q (depth - 1)) × Due whole (from_rules t true next) start o3 × (left_behind next ≤ most)
@@ -281,6 +294,7 @@ leave_up t s sound m depth q any p e b bs whole most start o1 o2 o3 none d fits 
       omega (arith, l, fits),
     )
 
+-- or to the next one beside
 pub leave_on : (t : Texts) (s : Heap) (sound : Sound s) (m depth n q : ℕ) (any : Bool) (p : Leaving s m depth) → parent_of s m ≡ Some q → (b b' : List ℕ) → ((way : Way) → depth ≡ membranes_round way → b ≡ between way)
     → ((way : Way) → depth - 1 ≡ membranes_round way → b' ≡ between way) → (whole : List ℕ) (most : ℕ) (start o1 o2 o3 o4 o5 : SinkState) → from (Some n) (mems_in s q) ≡ after m (mems_in s q) → Due whole (from_rules t any p) start o1 → left_behind p ≤ most
     → Adds (in_row b any (t.rules m)) o1 o2 → Adds (codes "}") o2 o3 → Adds b' o3 o4 → Adds (codes "{") o4 o5 → WalksOn t s whole most n depth start o5
@@ -291,13 +305,16 @@ leave_on t s sound m depth n q any p e b b' bs bs' whole most start o1 o2 o3 o4 
     let outer : b' ≡ between r.way = bs' r.way (omega (arith, deep)) in
     goes_on t s sound m depth n q any p r next whole most start o1 o2 o3 o4 o5 d fits (subst (λ z. Adds (in_row z any (t.rules m)) o1 o2) same h1) h2 (adds_as outer h3) h4
 
+-- or ends at the root
 pub leave_end : (t : Texts) (s : Heap) (sound : Sound s) (m depth : ℕ) (any : Bool) (p : Leaving s m depth) (b : List ℕ) → ((way : Way) → depth ≡ membranes_round way → b ≡ between way) → (whole : List ℕ) (start o1 o2 : SinkState) → parent_of s m ≡ None
     → Due whole (from_rules t any p) start o1 → Adds (in_row b any (t.rules m)) o1 o2 → Adds whole start o2
 leave_end t s sound m depth any p b bs whole start o1 o2 e d h = ends t s sound m depth any p whole start o1 o2 e d (subst (λ z. Adds (in_row z any (t.rules m)) o1 o2) (bs p.way p.deep) h)
 
+-- what has a membrane round it is not the root
 pub leave_deep : (s : Heap) (sound : Sound s) (m depth q : ℕ) (p : Leaving s m depth) → parent_of s m ≡ Some q → 0 < depth
 leave_deep s sound m depth q p e = below s m depth q p (round s sound m depth q p e)
 
+-- at first the writer stands at the root, and all is due
 pub starts_at : (s : Heap) (sound : Sound s) (f : Forest) → IsTree s f → AtMost (2 ^ 48) s → (t : Texts) (m : ℕ) → m ≡ s.root → (o : SinkState)
     → (p : Position s m 0) × Due (tree_text t f) (from_atoms t p) o o × (1 + membranes_ahead p ≤ 2 ^ 48)
 starts_at s sound f tree few t m e o =

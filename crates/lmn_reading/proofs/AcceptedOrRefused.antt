@@ -142,5 +142,6 @@ module _ (alloc : Global) (text : List ℕ) (names : List Name) where
       let P : List Kind → Type 0 = λ ks. (Derives program ks × IsWithin ks) ⊎ ((p : ℕ) × (c : ℕ) × IsRefused (Derives program) ks p c) in
       by_the_tokens tokens cut right (subst P (sym end.1) (derived_or_refused end.0))
 
+-- reading accepts a text, or it refuses it
 pub accepted_or_refused : ReadingAcceptsOrRefuses
 accepted_or_refused alloc text names = by_the_bytes alloc text names (cut_or_refused text)

@@ -24,6 +24,7 @@ use Rattle.lmn_reading.specs.Texts.{by_bytes, by_tokens, by_contexts, by_links, 
 use Rattle.std.proofs.lemmas.Bool.{eqb-true}
 use Rattle.lmn_parser.specs.Faults.{AreKindsOfProgram}
 
+-- a code is the one that has its number
 pub codes_are_numbered : CodesAreNumbered
 codes_are_numbered TextTooLong = refl
 codes_are_numbered BadByte = refl
@@ -68,6 +69,7 @@ found n m here code later is e rest = by (n == m) refl e
     by true t h = eqb-true n m t ∙ sym is ∙ ap code_number (same_Some here code h)
     by false t h = rest h
 
+-- a number without a code is that of none
 pub numbers_are_of_codes : NumbersAreOfCodes
 numbers_are_of_codes n code e =
     found n 1 TextTooLong code _ refl e (λ e.
@@ -161,6 +163,7 @@ of_tokens code before token (inl (e, h)) = subst IsCode (sym e) refl
 of_tokens code before token (inr (b, inl h)) = let e = h.0 in subst IsCode (sym e) refl
 of_tokens code before token (inr (b, inr h)) = let e = h.0 in subst IsCode (sym e) refl
 
+-- a text is refused by a code of the table
 pub refusals_have_codes : RefusalsHaveCodes
 refusals_have_codes text names refusal (by_bytes h) = of_bytes _ _ _ _ h.wrong
 refusals_have_codes text names refusal (by_tokens tokens right cut h) = let r = h.refused in of_tokens _ _ _ r.refuses

@@ -18,6 +18,7 @@ use Rattle.lmn_plain.specs.Plains.{number_of}
 
 -- ---- names that are put stay
 
+-- names stay when one is put in
 pub name_kept : (names : List Name) (m n : Name) → Contains names n → Contains (with_name names m) n
 name_kept names m n h = go (list_any (bytes_eq m) names)
   where
@@ -32,10 +33,12 @@ word_kept names w n h = go (has_name w.kind)
     go true = name_kept names (name_spelled w.kind w.bytes) n h
     go false = h
 
+-- and when those of words are
 pub words_kept : (names : List Name) (ws : List Word) (n : Name) → Contains names n → Contains (with_words names ws) n
 words_kept names [] n h = h
 words_kept names (w ∷ ws) n h = words_kept (with_word names w) ws n (word_kept names w n h)
 
+-- a name that is put in is there
 pub name_there : (names : List Name) (n : Name) → Contains (with_name names n) n
 name_there names n = go (list_any (bytes_eq n) names) refl
   where
@@ -96,6 +99,7 @@ first_there names is =
     let P : List Name → Type 0 = λ ns. Contains ns (codes "=") in
     subst P (sym is.begins.1) (0, omega arith, refl)
 
+-- the list of names that reading leaves has the names of the text
 pub names_held : (text : List ℕ) (tokens : List Token) (before : List Name) → IsNames before → HoldsNames text tokens (names_read before (words_of text tokens))
 names_held text tokens before is =
     let a = with_name before (codes ".") in

@@ -167,12 +167,15 @@ module _ (text : List ℕ) (names : List Name) where
   not_both a q plans (by_links p f outside h) k = not_by_links a p q f k.reads h k.links
   not_both a q plans (by_rules p f outside links h) k = not_by_rules a p q f k.reads h (none_of_accepted q.rules q.rules k.rules)
 
+-- reading gives a text one refusal at most
 pub one_refusal : ReadingRefusesOnce
 one_refusal text names a b h k = one text names a b h k
 
+-- and doesn't accept a text that it refuses
 pub refused_not_accepted : RefusedTextNotAccepted
 refused_not_accepted text names a h (q, plans, k) = not_both text names a q plans h k
 
+-- a text is accepted in one way at most
 pub one_acceptance : OneAcceptance
 one_acceptance text names p q plans others h g =
     let same = one_text_plain text names p q h.reads g.reads in

@@ -317,6 +317,7 @@ one_plan r s plan other h p q = λ i. record { kinds = kinds i; bound = bound i 
     bound : plan.bound ≡ other.bound
     bound = p.bound ∙ (λ i. flat_map (binding (h.head i)) r.guard) ∙ flat_same (binding s.head) (λ c d e. same_binding s.head e) r.guard s.guard h.guard ∙ sym q.bound
 
+-- the same rules have the same plans
 pub one_plans : (rs ss : List RuleTree) (plans others : List GuardPlan) → EachPair SameRule rs ss → EachPair IsPlan rs plans → EachPair IsPlan ss others → plans ≡ others
 one_plans [] [] [] [] h p q = refl
 one_plans [] [] [] (o ∷ os) h p q = absurd q
@@ -337,6 +338,7 @@ rule_names_same (r ∷ rs) (s ∷ ss) h =
     let guards = flat_same condition_names (λ c d e. same_condition_names e) r.guard s.guard one.guard in
     λ i. (level_names (one.head i) ++ guards i ++ level_names (one.body i)) ++ rule_names_same rs ss h.1 i
 
+-- the same plains have the same names
 pub same_plain_names : (p q : Plain) → SamePlain p q → plain_names p ≡ plain_names q
 same_plain_names p q h = λ i. level_names (h.top i) ++ rule_names_same p.rules q.rules h.rules i
 

@@ -14,11 +14,13 @@ use Rattle.lmn_reduction.proofs.SettledForms.{reads_congruent, all_join}
 use Rattle.lmn_congruence.proofs.FewestCrossings.{same_crossings_each}
 use Rattle.lmn_base.proofs.Numbers.{same_or_not, below_or_from}
 
+-- zero is not one
 pub zero_not_one : ¬ (◌≡◌ {A = ℕ} 0 1)
 zero_not_one = omega arith
 
 -- ---- a test of each link below the greatest
 
+-- a test that each number below n passes
 abbrev pub all_below : ℕ → (ℕ → Bool) → Bool
 all_below zero t = true
 all_below (suc n) t = t n && all_below n t
@@ -48,6 +50,7 @@ zero_or_two n h = grind arith
 at_most_two : (n : ℕ) → IsTrue (leb n 2) → n ≤ 2
 at_most_two n h = grind arith
 
+-- a process is linked where each link below its bound occurs twice at most
 pub linked_by : {P : Process} → IsTrue (all_below (link_bound P) (λ z. leb (occurrences z P) 2)) → Linked P
 linked_by {P = P} h = record { at_most_twice = λ z. go z (below_or_from z (link_bound P)) }
   where
@@ -55,6 +58,7 @@ linked_by {P = P} h = record { at_most_twice = λ z. go z (below_or_from z (link
     go z (inl b) = at_most_two (occurrences z P) (tested (link_bound P) (λ z. leb (occurrences z P) 2) h z b)
     go z (inr b) = rw (occurrences_above z P b) (omega arith)
 
+-- a process is closed where each link below its bound occurs twice or never
 pub closed_by : (P : Process) → IsTrue (all_below (link_bound P) (λ z. eqb (occurrences z P) 0 || eqb (occurrences z P) 2)) → Closed P
 closed_by P h = λ z. go z (below_or_from z (link_bound P))
   where
@@ -64,6 +68,7 @@ closed_by P h = λ z. go z (below_or_from z (link_bound P))
 
 -- ---- congruence by grouping, and by a map of links
 
+-- nothing beside a process on its right may go
 pub no_right : {P : Process} → Linked P → Congruent (pair P nothing) P
 no_right {P = P} l = let m : Linked (pair P nothing) = record { at_most_twice = λ z. omega (arith, l.at_most_twice z) } in chain (swap m) (unit l)
 
@@ -76,10 +81,12 @@ spread (pair P Q) = spread P ++ spread Q
 spread (membrane P) = membrane (together (spread P)) ∷ []
 spread (rule r) = rule r ∷ []
 
+-- two lists of processes joined are both side by side, up to grouping
 pub together_append : (Ps Qs : List Process) → Reordered (together (Ps ++ Qs)) (pair (together Ps) (together Qs))
 together_append [] Qs = r_back r_unit
 together_append (P ∷ Ps) Qs = r_chain (r_right (together_append Ps Qs)) r_regroup
 
+-- a process is itself beside nothing, up to order
 pub alone : {P : Process} → Reordered P (pair P nothing)
 alone = r_chain (r_back r_unit) r_swap
 
@@ -94,6 +101,7 @@ together_spread (rule r) = alone
 same_spread : {P Q : Process} → spread P ≡ spread Q → Reordered P Q
 same_spread {P = P} {Q = Q} e = r_chain (together_spread P) (r_chain (r_same (ap together e)) (r_back (together_spread Q)))
 
+-- processes with the same pieces in the same order are congruent
 pub regrouped : {P Q : Process} → spread P ≡ spread Q → Linked P → Congruent P Q
 regrouped e l = reordered_congruent (same_spread e) l
 

@@ -44,6 +44,7 @@ two_fire = record {
   body = instance (leaf_and of_atom no_leaf) no_membrane;
 }
 
+-- two equal atoms make one of another name
 pub two_make_one : TwoMakeOne
 two_make_one = commits (tt, (tt, tt)) (linked_by refl) (up_to (regrouped refl (linked_by refl)) (leaf (fires two_fire) (linked_by refl) (linked_by refl)) (regrouped refl (linked_by refl)))
 
@@ -73,6 +74,7 @@ joined = with_connector (together (atom label_c (0 ∷ 1 ∷ []) ∷ []))
 join_step : Step apart joined
 join_step = derived_beside (leaf (fires join_fires) (linked_by refl) (linked_by refl)) (linked_by refl) (linked_by refl)
 
+-- two links of a head may be one link of the process
 pub link_meets_itself : LinkMeetsItself
 link_meets_itself =
     commits (tt, (tt, tt)) (linked_by refl)
@@ -93,6 +95,7 @@ atoms = pair (atom label_a (0 ∷ [])) (atom label_b (1 ∷ []))
 goes_out : SettlingStep (pair inside_it atoms) (pair outside_it atoms)
 goes_out = derived_beside (leaf (out 0 1 zero_not_one refl refl) (linked_by refl) (linked_by refl)) (linked_by refl) (linked_by refl)
 
+-- a connector leaves a membrane
 pub connector_leaves : ConnectorLeaves
 connector_leaves = record {
   settled = no_connector_settled (together (atom label_a (0 ∷ []) ∷ atom label_b (0 ∷ []) ∷ membrane nothing ∷ [])) (tt, (tt, (tt, tt)));
@@ -106,6 +109,7 @@ connector_leaves = record {
 goes_in : SettlingStep (pair (connector 0 1) (membrane (connector 0 1))) (membrane (pair (connector 0 1) (connector 0 1)))
 goes_in = leaf (into 0 1 zero_not_one refl refl) (linked_by refl) (linked_by refl)
 
+-- a connector enters a membrane and is a loop there, which vanishes
 pub loop_vanishes : LoopVanishes
 loop_vanishes = record {
   settled = no_connector_settled (membrane nothing) tt;
@@ -163,6 +167,7 @@ sum_fires = record {
   body = instance (leaf_and of_atom (leaf_and (of_typed (copied 7 2)) no_leaf)) no_membrane;
 }
 
+-- a guard binds the sum of two integers
 pub sum_is_bound : SumIsBound
 sum_is_bound =
     commits (tt, (tt, (tt, tt))) (linked_by refl)
@@ -189,11 +194,13 @@ double_fires = record {
   body = instance no_leaf (membrane_and (instance no_leaf no_membrane) no_membrane);
 }
 
+-- a rule context that stands twice in the body is copied
 pub rules_are_copied : RulesAreCopied
 rules_are_copied =
     commits ((tt, (tt, (tt, tt))), (tt, tt)) (linked_by refl)
     (up_to (regrouped refl (linked_by refl)) (leaf (fires double_fires) (linked_by refl) (linked_by refl)) (regrouped refl (linked_by refl)))
 
+-- quotients go toward zero, and remainders have the sign of the left side
 pub quotients_and_remainders : QuotientsAndRemainders
 quotients_and_remainders = (refl, refl, refl, refl)
 
@@ -208,6 +215,7 @@ no_least_quotient t n (of_operation of_number of_number d r) = too_great (2 ^ 63
 minus_one : negsuc 0 ≢ pos 0
 minus_one = grind arith
 
+-- the least integer by -1 has no quotient, and the remainder 0
 pub least_by_minus_one : LeastByMinusOne
 least_by_minus_one t = (no_least_quotient t, of_operation of_number of_number minus_one (grind arith, grind arith))
 
@@ -217,6 +225,7 @@ no_quotient t e n (of_operation v of_number d r) = d refl
 no_remainder : (t : Assignment) (e : Expression) (n : ℤ) → ¬ (Value t (operation modulo e (number (pos 0))) n)
 no_remainder t e n (of_operation v of_number d r) = d refl
 
+-- by zero there is neither
 pub nothing_by_zero : NothingByZero
 nothing_by_zero t e n = (no_quotient t e n, no_remainder t e n)
 
@@ -240,6 +249,7 @@ tied P = pair (pair (only (together (P ∷ []))) (rule tie_ends)) (connector 0 1
 tie_step : Step (tied (atom label_a (0 ∷ 1 ∷ []))) (tied (connector 0 1))
 tie_step = derived_beside (leaf (fires tie_fires) (linked_by refl) (linked_by refl)) (linked_by refl) (linked_by refl)
 
+-- a connector of the body that makes a loop leaves nothing
 pub loop_is_left : LoopIsLeft
 loop_is_left =
     commits (tt, tt) (linked_by refl)
@@ -280,6 +290,7 @@ open_fires = record {
     not_free false true n e = grind (arith, e)
     not_free false false n e = zero_not_one e
 
+-- two contexts may share a link
 pub link_is_shared : LinkIsShared
 link_is_shared =
     commits (tt, (tt, (tt, tt))) (linked_by refl)
@@ -291,6 +302,7 @@ link_is_shared =
 abbrev pub looped : Rooted
 looped = record { process = atom label_b (0 ∷ 9 ∷ 9 ∷ []); root = 0 }
 
+-- the example is ground
 pub looped_ground : IsGround looped
 looped_ground = record { only_atoms = tt; root_is_free = refl; nothing_else_free = once; connected = joined_to }
   where
@@ -318,6 +330,7 @@ double_part_fires = record {
   body = instance (leaf_and of_atom (leaf_and (of_typed (looped_copy 1 3 (omega arith))) (leaf_and (of_typed (looped_copy 2 4 (omega arith))) no_leaf))) no_membrane;
 }
 
+-- the copies of a ground part have links of their own
 pub part_is_copied : PartIsCopied
 part_is_copied =
     commits (tt, (tt, (tt, (tt, tt)))) (linked_by refl)
@@ -380,9 +393,11 @@ straight_not_crossed s = go s.to s.atoms
         one_not_two (sym (heads (tails (same_links label_a label_a (to 0 ∷ to 1 ∷ to 2 ∷ []) (0 ∷ 1 ∷ 2 ∷ []) e))) ∙ heads (same_links label_b label_b (to 1 ∷ to 2 ∷ []) (2 ∷ 1 ∷ []) d))
     go to (more e (more d none here) (there here)) = a_not_b (same_label label_a label_b (to 0 ∷ to 1 ∷ to 2 ∷ []) (2 ∷ 1 ∷ []) e)
 
+-- parts that join other ports aren't equal
 pub ports_are_told : PortsAreTold
 ports_are_told = (straight_ground, straight_is_turned, straight_not_crossed)
 
+-- a part with a free link that isn't its root isn't ground, nor one that isn't all reached
 pub not_ground : NotGround
 not_ground = (
   (λ g. two_not_zero (g.nothing_else_free 2 refl)),

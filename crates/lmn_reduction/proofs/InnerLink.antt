@@ -56,6 +56,7 @@ no_step Q s =
     let k = step_shows s in
     redex_crossed k.redex ((kept_rules (λ r. r ≡ join_from_membrane) k.congruent).0 ((tt, (tt, tt)), (refl, tt))) (sym (same_crossings k.congruent))
 
+-- a link that stays inside a membrane doesn't match two that leave it
 pub inner_link_stays : InnerLinkStays
 unfolding inner_link
 inner_link_stays = (no_step, no_connector_settled inner_link ((tt, (tt, tt)), (tt, tt)))

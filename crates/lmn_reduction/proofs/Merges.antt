@@ -34,6 +34,7 @@ absorbed_at x y z P f n (is_other e e' q) = omega arith
 absorbed : (x y z : ℕ) (P : Process) → Free x P → y ≢ x → occurrences z (substitute y x P) ≤ one_if_same z x + one_if_same z y + occurrences z P
 absorbed x y z P f n = absorbed_at x y z P f n (replaced y x z P n)
 
+-- a merge makes no link occur more often
 pub merge_shrinks : {P Q : Process} → Merge P Q → (z : ℕ) → occurrences z Q ≤ occurrences z P
 merge_shrinks drop_unit z = omega arith
 merge_shrinks add_unit z = omega arith
@@ -49,6 +50,7 @@ merge_shrinks (enter_half x y d f g) z = omega arith
 merge_shrinks (merge_beside d) z = omega (arith, merge_shrinks d z)
 merge_shrinks (merge_inside d) z = merge_shrinks d z
 
+-- what a linked process is merged to is linked
 pub merge_linked : {P Q : Process} → Merge P Q → Linked P → Linked Q
 merge_linked d l = record { at_most_twice = λ z. omega (arith, merge_shrinks d z, l.at_most_twice z) }
 
@@ -71,32 +73,40 @@ merge_is (merge_beside {P = P} {P' = P'} {Q = Q} d) l =
 merge_is (merge_inside d) l =
     elim (merge_is d (record { at_most_twice = l.at_most_twice })) [ inl c ↦ inl (inside c) | inr s ↦ inr (derived_inside s) ]
 
+-- merges one after the other
 pub data Merges : Process → Process → Type 0 where
   done : {P : Process} → Merges P P
   then : {P Q S : Process} → Merge P Q → Merges Q S → Merges P S
 
+-- one merge is merges
 pub one_merge : {P Q : Process} → Merge P Q → Merges P Q
 one_merge d = then d done
 
+-- merges and then merges are merges
 pub merges_join : {P Q S : Process} → Merges P Q → Merges Q S → Merges P S
 merges_join done e = e
 merges_join (then d ds) e = then d (merges_join ds e)
 
+-- merges on the left of a process
 pub merges_beside : {P P' : Process} (Q : Process) → Merges P P' → Merges (pair P Q) (pair P' Q)
 merges_beside Q done = done
 merges_beside Q (then d ds) = then (merge_beside d) (merges_beside Q ds)
 
+-- and on its right
 pub merges_right : {Q Q' : Process} (P : Process) → Merges Q Q' → Merges (pair P Q) (pair P Q')
 merges_right P ds = then exchange (merges_join (merges_beside P ds) (one_merge exchange))
 
+-- and in a membrane
 pub merges_inside : {P P' : Process} → Merges P P' → Merges (membrane P) (membrane P')
 merges_inside done = done
 merges_inside (then d ds) = then (merge_inside d) (merges_inside ds)
 
+-- merges make no link occur more often
 pub merges_shrink : {P Q : Process} → Merges P Q → (z : ℕ) → occurrences z Q ≤ occurrences z P
 merges_shrink done z = omega arith
 merges_shrink (then d ds) z = omega (arith, merge_shrinks d z, merges_shrink ds z)
 
+-- merges of a linked process are settling steps
 pub merges_settle : {P Q : Process} → Merges P Q → Linked P → SettlesTowards P Q
 merges_settle done l = already (same l)
 merges_settle (then d ds) l =
@@ -104,6 +114,7 @@ merges_settle (then d ds) l =
 
 -- ---- a connector is pushed to the one place of its link
 
+-- a link that isn't there is replaced without a change
 pub substitute_absent : (new old : ℕ) (P : Process) → Fresh old P → substitute new old P ≡ P
 substitute_absent new old nothing f = refl
 substitute_absent new old (connector x y) f = cc (replace_absent_first new old x y f, replace_absent_second new old x y f)
@@ -128,6 +139,7 @@ substitute_absent new old (rule r) f = refl
 one_side : (m n : ℕ) → m + n ≡ 1 → (m ≡ 1) × (n ≡ 0) ⊎ (m ≡ 0) × (n ≡ 1)
 one_side m n e = grind arith
 
+-- what is merged to a process is merged to one that is the same
 pub merges_along : {P Q S : Process} → Merges P Q → Q ≡ S → Merges P S
 merges_along {P = P} d e = rw (← e) d
 
@@ -142,6 +154,7 @@ push_inside : (x y : ℕ) (P : Process) → y ≢ x → Free x P → Merges (pai
 push_inside x y P n f i (inl e) = then (enter x y (λ q. n (sym q)) f e) (merges_inside i)
 push_inside x y P n f i (inr e) = then (enter_half x y (λ q. n (sym q)) f e) (merges_inside i)
 
+-- a connector of a free link is merged into the process by a substitution
 pub push : (x y : ℕ) (P : Process) → Free x P → y ≢ x → Merges (pair (connector x y) P) (substitute y x P)
 push x y nothing f n = absurd (go f)
   where
@@ -158,6 +171,7 @@ push x y (rule r) f n = absurd (go f)
 
 -- ---- all connectors, one after the other
 
+-- some connectors side by side
 abbrev pub row : List (ℕ × ℕ) → Process
 row [] = nothing
 row (p ∷ ps) = pair (connector p.0 p.1) (row ps)
@@ -276,6 +290,7 @@ open_pulled : (ps : List (ℕ × ℕ)) (C : Process) → Open ps C → Open ps (
 open_pulled [] C o = tt
 open_pulled (p ∷ ps) C o = (o.0, o.1, o.2, open_pulled ps C o.3)
 
+-- a process is merged to some connectors and a process without any
 abbrev pub NormalForm : Process → Type 0
 NormalForm P = (k : ℕ) × Gathered P k
 
@@ -289,6 +304,7 @@ normal_pair P Q l i j =
     let a = merges_join (merges_beside Q r.merges) (merges_join (merges_right (pair V r.core) s.merges) (merges_join (cross V r.core W s.core) (merges_beside C (wires_join r.wires s.wires)))) in
     (length ws, gathered_from a (omega arith) (gather (length ws) ws C (omega arith) (r.plain, s.plain) (linked_merged a l)))
 
+-- so it is for each linked process
 pub normal : (P : Process) → Linked P → NormalForm P
 normal nothing l = (0, record { wires = []; core = nothing; plain = tt; merges = one_merge add_unit; opens = tt; few = omega arith })
 normal (connector x y) l =

@@ -218,6 +218,7 @@ mutual
   regions_renamed f no_region = refl
   regions_renamed f (region_and r rs) = cc (region_renamed f r, regions_renamed f rs)
 
+-- a plain's top has one solid, up to the numbers of links
 pub solid_is_one : SolidIsOne
 solid_is_one top S S' s s' =
     let P = level_process top in

@@ -34,9 +34,11 @@ mutual
   levels_reordered v no_level = r_same refl
   levels_reordered v (level_and l ls) = r_chain (r_beside (r_inside (level_reordered v l))) (r_right (levels_reordered v ls))
 
+-- the process of a solid is settled
 pub solids_settled : SolidsSettled
 solids_settled S = no_connector_settled (region_process S) (region_plain S)
 
+-- the process of a plain's top settles to that of its solid
 pub plain_settles : (top : Level) (S : Region) → SolidOf top S → Settles (level_process top) (region_process S)
 plain_settles top S s =
     let P = level_process top in
@@ -48,6 +50,7 @@ plain_settles top S s =
 
 -- ---- the solid of a plain
 
+-- a plain with a closed top has a solid
 pub plain_has_solid : PlainHasSolid
 plain_has_solid top c =
     let P = level_process top in

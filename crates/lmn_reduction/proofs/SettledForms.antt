@@ -46,6 +46,7 @@ towards_fused v P X j s l t n =
     let stays : Leaves i.to X = λ x f. let g = (towards_alike t x).back_again f in i.agrees x g ∙ s x g in
     chain (plain_congruent i.to X n (towards_linked t) stays (linked_as (reordered_count i.order) l)) (back (reordered_congruent i.order l))
 
+-- a process settles to itself fused by a map that joins its connectors and leaves its free links
 pub settles_fused : (v : ℕ → ℕ) (P : Process) → Linked P → Joins v P → Leaves v P → Linked (fused v P) → Settles P (fused v P)
 settles_fused v P l j s k =
     let f = settled_form v P l j s in
@@ -57,6 +58,7 @@ reads_congruent P N l n r =
     let k : Linked (fused r.to P) = linked_as (λ z. sym (reordered_count r.order z)) n in
     chain (settled_congruent (same_crossings_settled r.to P r.joins r.crossings) (settles_fused r.to P l r.joins r.leaves k).towards) (reordered_congruent r.order k)
 
+-- a linked process is congruent to one without connectors exactly where one map of links reads it so
 pub congruent_by_one_map : CongruentByOneMap
 congruent_by_one_map P N l k n = ((λ c. congruent_reads P N n c), (λ r. reads_congruent P N l k r))
 
@@ -71,9 +73,11 @@ all_join (pair P Q) = (all_join P, all_join Q)
 all_join (membrane P) = all_join P
 all_join (rule r) = tt
 
+-- each closed process has a settled form
 pub closed_form : (P : Process) → Closed P → SettledForm P
 closed_form P c = settled_form (λ x. 0) P (closed_linked c) (all_join P) (closed_leaves (λ x. 0) P c)
 
+-- and settles
 pub closed_settles : (P : Process) → Closed P → (Q : Process) × Settles P Q
 closed_settles P c = let f = closed_form P c in (f.form, record { settled = no_connector_settled f.form f.plain; towards = f.towards })
 
@@ -88,6 +92,7 @@ forms_congruent P N X c n n' t t' =
     let k : Linked (fused v.0 P) = linked_as (λ z. sym (reordered_count v.2 z)) (towards_linked t) in
     chain (towards_fused v.0 P X v.1 (closed_leaves v.0 P c) k t' n') (reordered_congruent v.2 k)
 
+-- in one way, up to congruence
 pub settles_once : (P Q Q' : Process) → Closed P → Settles P Q → Settles P Q' → Congruent Q Q'
 settles_once P Q Q' c s s' =
     let f = closed_form Q (towards_closed s.towards c) in

@@ -12,18 +12,22 @@ use Rattle.lmn_reduction.specs.Laws.{StepsAreLinked, SettlingStepsAreLinked}
 use Rattle.lmn_congruence.proofs.Counts.{Alike, flip_alike, count_first, count_second, same_free, alike_sum, linked_both}
 use Rattle.lmn_congruence.proofs.Crossings.{free_number_two, free_number_alike, crossings, same_crossings, passed_other}
 
+-- both sides of a derivation are linked
 pub linked_derived : {L : Process → Process → Type 0} {P Q : Process} → Derived L P Q → Linked P × Linked Q
 linked_derived (leaf s l l') = (l, l')
 linked_derived (beside d l l') = (l, l')
 linked_derived (inside d) = let i = linked_derived d in (record { at_most_twice = i.0.at_most_twice }, record { at_most_twice = i.1.at_most_twice })
 linked_derived (up_to c d e) = ((linked_both c).0, (linked_both e).1)
 
+-- both sides of a step are linked
 pub steps_linked : StepsAreLinked
 steps_linked P Q d = linked_derived d
 
+-- and both of a settling step
 pub settling_steps_linked : SettlingStepsAreLinked
 settling_steps_linked P Q d = linked_derived d
 
+-- a connector that crosses a membrane leaves each link as often as it was
 pub settling_count : {P Q : Process} → Settling P Q → (z : ℕ) → occurrences z P ≡ occurrences z Q
 settling_count (out x y d f g) z = refl
 settling_count (into x y d f g) z = refl
@@ -37,9 +41,11 @@ same_free_settling (up_to c d e) z =
     let i = same_free c z in let j = same_free_settling d z in let k = same_free e z in
     record { there = (λ p. k.there (j.there (i.there p))); back_again = (λ p. i.back_again (j.back_again (k.back_again p))) }
 
+-- two links that occur once more and were not there are two free links more
 pub two_less : (m n : ℕ) → suc m ≡ 1 → suc n ≡ 1 → one_if_once (suc m) + one_if_once (suc n) ≡ one_if_once m + one_if_once n + 2
 two_less m n e k = grind arith
 
+-- two free links that occur once more are two less
 pub two_more : (m n : ℕ) → m ≡ 1 → n ≡ 1 → one_if_once m + one_if_once n ≡ one_if_once (suc m) + one_if_once (suc n) + 2
 two_more m n e k = grind arith
 
@@ -52,6 +58,7 @@ free_number_out x y P d f g =
     let s : one_if_free Q x + one_if_free Q y ≡ one_if_free P x + one_if_free P y + 2 = rw (a, b) (two_less (occurrences x P) (occurrences y P) (sym a ∙ f) (sym b ∙ g)) in
     omega (arith, free_number_two x y P Q d (λ z p q. ap one_if_once (passed_other x y z (occurrences z P) p q)), s)
 
+-- a connector of two free links that enters makes both of them bound
 pub free_number_into : (x y : ℕ) (P : Process) → x ≢ y → Free x P → Free y P → free_number P ≡ free_number (pair (connector x y) P) + 2
 free_number_into x y P d f g =
     let a = count_first x y (occurrences x P) d in
@@ -64,10 +71,12 @@ free_number_into x y P d f g =
 abbrev pub Lowers : Process → Process → Type 0
 Lowers P Q = crossings P ≡ crossings Q + 2
 
+-- so a connector that crosses a membrane lowers the crossings by two
 pub settling_lowers : {P Q : Process} → Settling P Q → Lowers P Q
 settling_lowers (out {P = P} x y d f g) = rw (free_number_out x y P d f g) (omega arith)
 settling_lowers (into {P = P} x y d f g) = rw (free_number_into x y P d f g) (omega arith)
 
+-- and so does a settling step
 pub step_lowers : {P Q : Process} → SettlingStep P Q → Lowers P Q
 step_lowers (leaf s l l') = settling_lowers s
 step_lowers (beside d l l') = let i = step_lowers d in omega arith
@@ -86,6 +95,7 @@ leaf_carries (into {P = P} x y d f g) = (
   carried_as (membrane (pair (connector x y) P)) (pair (connector x y) (membrane P)) (λ v k. k) (λ v. nothing_out),
 )
 
+-- both sides of a settling step are fused alike
 pub step_carries : {P Q : Process} → SettlingStep P Q → Carries P Q × Carries Q P
 step_carries (leaf s l l') = leaf_carries s
 step_carries (beside {P = P} {P' = P'} {Q = Q} d l l') =
@@ -100,6 +110,7 @@ step_carries (up_to {P = P} {P' = P'} {Q' = Q'} {Q = Q} d s e) =
       carried_chain Q P' P (λ z h. (same_free_settling s z).back_again ((same_free e z).back_again h)) (carried_chain Q Q' P' (λ z. (same_free e z).back_again) k.1 j.1) i.1,
     )
 
+-- settling steps leave the same links free
 pub towards_alike : {P Q : Process} → SettlesTowards P Q → (z : ℕ) → Alike (occurrences z P) (occurrences z Q)
 towards_alike (already c) z = same_free c z
 towards_alike (step_and s t) z =
@@ -107,6 +118,7 @@ towards_alike (step_and s t) z =
     let j = towards_alike t z in
     record { there = (λ e. j.there (i.there e)); back_again = (λ e. i.back_again (j.back_again e)) }
 
+-- and both sides are fused alike
 pub towards_carries : {P Q : Process} → SettlesTowards P Q → Carries P Q × Carries Q P
 towards_carries (already c) = congruence_carries c
 towards_carries (step_and {P = P} {Q = Q} {S = S} s t) =

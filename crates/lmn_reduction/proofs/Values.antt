@@ -22,12 +22,15 @@ use Rattle.lmn_base.proofs.Lists.{all_of_left, all_of_right}
 
 -- ---- expressions as trees
 
+-- an integer as an expression of the calculus
 pub number_tree : (names : List tree.Name) (z : ℤ) → expression_of names (variant.Int z) ≡ tree.number z
 number_tree names z = ap (expression_of names) (sym (variant.rolls-Int z)) ∙ fold-roll-Expr tree.Expression (expression_step names) (open'.Int z)
 
+-- and a context
 pub context_tree : (names : List tree.Name) (u : CtxUse) → expression_of names (variant.Ctx u) ≡ tree.value_of (name_of names u.name)
 context_tree names u = ap (expression_of names) (sym (variant.rolls-Ctx u)) ∙ fold-roll-Expr tree.Expression (expression_step names) (open'.Ctx u)
 
+-- and an operation
 pub operation_tree : (names : List tree.Name) (op : Arith) (p : Box (Unit {0}) Global) (left : Expr) (q : Box (Unit {0}) Global) (right : Expr) → expression_of names (variant.Op' op p left q right) ≡ tree.operation (operator_of op) (expression_of names left) (expression_of names right)
 operation_tree names op p left q right =
     let l : Box Expr Global = record { value = left; ptr = p.ptr; alloc = p.alloc } in
@@ -105,6 +108,7 @@ result_back Mod m n d r = divided_back n (m -ℤ (int_div m n *ℤ n)) d r
 
 -- ---- the contexts of an expression
 
+-- each context of an expression is one of these
 abbrev pub Uses : (ℕ → Type 0) → Expr → Type 0
 Uses P (variant.Int z) = Unit {0}
 Uses P (variant.Ctx u) = P u.name
@@ -119,6 +123,7 @@ operation_named op p left q right =
     let k : Box Expr Global = record { value = right; ptr = q.ptr; alloc = q.alloc } in
     ap expression_names (sym (variant.rolls-Op op l k)) ∙ fold-roll-Expr (List ℕ) names_step (open'.Op op l k)
 
+-- what holds of each name in an expression holds of each of its contexts
 pub uses_known : (P : ℕ → Type 0) (e : Expr) → All P (expression_names e) → Uses (λ x. All P (x ∷ [])) e
 uses_known P (variant.Int z) h = tt
 uses_known P (variant.Ctx u) h = subst (All P) (context_named u) h
@@ -126,6 +131,7 @@ uses_known P (variant.Op' o p l q r) h =
     let w = subst (All P) (operation_named o p l q r) h in
     (uses_known P l (all_of_left P (expression_names l) (expression_names r) w), uses_known P r (all_of_right P (expression_names l) (expression_names r) w))
 
+-- where each context of an expression is such, and what is such is more, each is that
 pub uses_so : {P Q : ℕ → Type 0} → ((x : ℕ) → P x → Q x) → (e : Expr) → Uses P e → Uses Q e
 uses_so h (variant.Int z) a = tt
 uses_so h (variant.Ctx u) a = h u.name a
@@ -173,6 +179,7 @@ module _ (names : List tree.Name) (Is : tree.Name → ℤ → Type 0) (given : �
       let y = operation_back (subst (λ T. Evaluates Is T n) (operation_tree names o p l k r) w) in
       (λ j. both (result_of o) (value_back l y.left u.0 y.first j) (value_back r y.right u.1 y.second j)) ∙ result_back o y.left y.right y.allowed y.range ∙ ap Some y.is
 
+-- the value of an expression of the program is that of its tree
 pub values_agree : ValuesAgree
 values_agree names t given e z h =
     let alike : Uses (λ x. All (λ y. (n : ℤ) → (given y ≡ Some n) ↔ IsInteger n (t.typed_of (name_of names y))) (x ∷ [])) e = uses_known (λ x. (n : ℤ) → (given x ≡ Some n) ↔ IsInteger n (t.typed_of (name_of names x))) e h in (

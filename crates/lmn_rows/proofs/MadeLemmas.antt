@@ -37,6 +37,7 @@ NoConnector a o = option_map (λ x. x.functor) o ≢ Some connector
 abbrev NoMark : ℕ → Option HeapAtom → Type 0
 NoMark a o = (i : ℕ) → ◌≡◌ {A = ℕ} (slice_index_or (marks_of o) i 0) 0
 
+-- a heap that stays as it is stays as made by hand
 pub made_same : (s t : Heap) → t ≡ s → IsMadeByHand s → IsMadeByHand t
 made_same s t e h = subst IsMadeByHand (sym e) h
 
@@ -50,6 +51,7 @@ kept s t f k l h = record {
 
 -- The calls
 
+-- a lone root is made by hand
 pub lone_made : IsMadeByHand lone_root
 lone_made = record {
   no_connector = λ a e. absurd (cc);
@@ -60,6 +62,7 @@ lone_made = record {
 some_is : (x y : Functor) → Some x ≡ Some y → x ≡ y
 some_is x y e = (cc)
 
+-- and so is a heap with one atom more that is no connector
 pub atom_made : (s : Heap) (a : ℕ) (f : Functor) → f ≢ connector → IsMadeByHand s → IsMadeByHand (made_atom s a f)
 atom_made s a f d h = record {
   no_connector = alter_all NoConnector s.atoms a (λ _. Some (new_atom f)) (λ was e. d (some_is f connector e)) h.no_connector;
@@ -67,6 +70,7 @@ atom_made s a f d h = record {
   rising = h.rising;
 }
 
+-- or one membrane more
 pub mem_made : (s : Heap) (m : ℕ) → IsMadeByHand s → IsMadeByHand (made_mem s m)
 mem_made s m h = record {
   no_connector = h.no_connector;
@@ -74,6 +78,7 @@ mem_made s m h = record {
   rising = alter_all Rises s.mems m (λ _. Some new_mem) (λ was n i. absurd i) h.rising;
 }
 
+-- or an atom placed
 pub atom_placed : (s : Heap) (m a : ℕ) → IsMadeByHand s → IsMadeByHand (placed s m a)
 atom_placed s m a h = kept s (placed s m a)
     (alter_keeps s.atoms a (option_map (with_place (within m))) (λ o. option_map (λ x. x.functor) o) functor)
@@ -92,6 +97,7 @@ atom_placed s m a h = kept s (placed s m a)
     mems None = refl
     mems (Some x) = refl
 
+-- or a membrane placed in an earlier one
 pub mem_placed : (s : Heap) (m n : ℕ) → m < n → IsMadeByHand s → IsMadeByHand (placed_mem s m n)
 mem_placed s m n less h = record {
   no_connector = h.no_connector;
@@ -110,6 +116,7 @@ mem_placed s m n less h = record {
       | inr w ↦ elim w [ inl e ↦ subst (λ z. m < z) e less | inr w ↦ absurd w ]
     ]
 
+-- or room for rules
 pub room_made : (s : Heap) (m n : ℕ) → IsMadeByHand s → IsMadeByHand (reserved s m n)
 room_made s m n h = kept s (reserved s m n) (λ a. refl) (λ a. refl) (alter_keeps s.mems m (option_map (mem_with_spare n)) mems_by mems) h
   where
@@ -117,6 +124,7 @@ room_made s m n h = kept s (reserved s m n) (λ a. refl) (λ a. refl) (alter_kee
     mems None = refl
     mems (Some x) = refl
 
+-- or one rule more
 pub rule_made : (s : Heap) (m k : ℕ) → IsMadeByHand s → IsMadeByHand (rule_added s m k)
 rule_made s m k h = kept s (rule_added s m k) (λ a. refl) (λ a. refl) (alter_keeps s.mems m (option_map (mem_with_rules (k ∷ []))) mems_by mems) h
   where
@@ -124,6 +132,7 @@ rule_made s m k h = kept s (rule_added s m k) (λ a. refl) (λ a. refl) (alter_k
     mems None = refl
     mems (Some x) = refl
 
+-- or two ports joined
 pub ports_joined : (s : Heap) (a i b j : ℕ) → IsMadeByHand s → IsMadeByHand (joined s a i b j)
 ports_joined s a i b j h = kept s (joined s a i b j) (joined_functor s a i b j) marks (λ m. refl) h
   where

@@ -24,10 +24,12 @@ use Rattle.lmn_runs.proofs.LabelsStay.{ExpressionInRange, GuardInRange, Leaves, 
 
 -- ---- integers of 64 bits
 
+-- an integer in range has 64 bits
 pub fits : (z : ℤ) → InRange z → FitsSigned w64 z
 fits (pos n) (l, h) = record { sfits = ltb→lt n (2 ^ 63) h.lt }
 fits (negsuc n) (l, h) = record { sfits = omega (arith, leb→le n (2 ^ 63 - 1) l.le) }
 
+-- and one of 64 bits is in range
 pub in_range : (z : ℤ) → FitsSigned w64 z → InRange z
 in_range (pos n) h = (record { le = tt }, record { lt = lt→ltb n (2 ^ 63) h.sfits })
 in_range (negsuc n) h = (record { le = le→leb n (2 ^ 63 - 1) (omega (arith, h.sfits)) }, record { lt = tt })

@@ -31,6 +31,7 @@ ExpressionInRange (number z) = InRange z
 ExpressionInRange (value_of p) = Unit {0}
 ExpressionInRange (operation o e f) = ExpressionInRange e × ExpressionInRange f
 
+-- the integers that a guard binds are in range
 abbrev pub GuardInRange : List Condition → Type 0
 GuardInRange [] = Unit {0}
 GuardInRange (is_kind k p ∷ cs) = GuardInRange cs

@@ -24,6 +24,7 @@ use Rattle.lmn_base.proofs.Lists.{all_of_left, all_of_right}
 
 -- ---- the rules of a solid are those of its plain
 
+-- a solid has rules of its plain's table
 pub solid_has_rules : (p : Plain) (s : Solid) → IsWellMade p → IsSolidOf p s → HasEachRule p.rules s
 solid_has_rules p s well i =
     let P : ℕ → Type 0 = λ k. k < length p.rules in

@@ -12,13 +12,16 @@ use Rattle.lmn_runs.specs.Laws.{TracesHaveLines}
 use Rattle.lmn_runs.specs.Runs.{LinesOf, printed_solids}
 use Rattle.lmn_base.proofs.Lists.{all_append}
 
+-- each link of the region stands in two places
 abbrev pub IsClosed : Region → Type 0
 IsClosed S = Closed (region_process S)
 
+-- each closed region has a line
 pub some_line : (folded : Bool) (S : Region) → IsClosed S → (line : List ℕ) × IsLine folded S line
 some_line true S closed = some_folded_line S closed
 some_line false S closed = (line_of (as_level S), refl)
 
+-- and one alone
 pub one_line : (folded : Bool) (S : Region) (line other : List ℕ) → IsClosed S → IsLine folded S line → IsLine folded S other → line ≡ other
 one_line true S line other closed h k = one_folded_line S line other closed h k
 one_line false S line other closed h k = h ∙ sym k
@@ -35,6 +38,7 @@ some_lines folded (S ∷ Ss) closed =
     let others = some_lines folded Ss closed.1 in
     (first.0 ∷ others.0, (first.1, others.1))
 
+-- some closed regions in a row have one row of lines at most
 pub one_lines : (folded : Bool) (Ss : List Region) (lines others : List (List ℕ)) → AllByRecursion IsClosed Ss → LinesOf folded Ss lines → LinesOf folded Ss others → others ≡ lines
 one_lines folded [] [] [] closed h k = refl
 one_lines folded [] [] (x ∷ xs) closed h k = absurd k
@@ -86,6 +90,7 @@ module _ (chooser : Chooser) (budget size : ℕ) (S : Region) (closed : IsClosed
   printed_closed true {before} {R} p = all_append IsClosed before (R ∷ []) (before_closed p) (last_closed p, tt)
   printed_closed false p = (last_closed p, tt)
 
+-- each trace has its lines
 pub traces_have_lines : TracesHaveLines
 traces_have_lines g S before last closed trace =
     let Ss = printed_solids g.trace before last in

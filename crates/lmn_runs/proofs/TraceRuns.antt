@@ -437,6 +437,7 @@ module _ (names : List Name) (p : Plain) (printable : IsPrintable names p) where
         few = omega (arith, same_items names p.rules s.root, few);
       }
 
+-- a trace with its lines is a run
 pub traces_are_runs : TracesAreRuns
 traces_are_runs alloc g names p s printable i few small before last trace =
     let start = solid_fine names p printable g.size s i few in

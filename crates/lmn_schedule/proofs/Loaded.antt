@@ -46,6 +46,7 @@ can_run law p plans codes h size well whole l compiled small = record {
   small = small;
 }
 
+-- the first of some regions, or another where there is none
 abbrev pub first_of : solid.Regions → solid.Region → solid.Region
 first_of solid.no_region d = d
 first_of (solid.region_and m ms) d = m

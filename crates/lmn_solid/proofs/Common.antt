@@ -10,14 +10,17 @@ use Rattle.std.proofs.lemmas.Bool.Decides.{Decides-eqb}
 use Rattle.lmn_base.specs.Lists.{In}
 use Rattle.lmn_solid.specs.Embeddings.{index_of}
 
+-- a number stands in two lists joined as often as in both
 pub times_append : (x : ℕ) (xs ys : List ℕ) → times x (xs ++ ys) ≡ times x xs + times x ys
 times_append x [] ys = omega arith
 times_append x (y ∷ xs) ys = let e = times_append x xs ys in omega arith
 
+-- the links at the ports of an atom are its links
 pub port_links : (n i : ℕ) (xs : List ℕ) → map (λ o. o.link) (at_ports n i xs) ≡ xs
 port_links n i [] = refl
 port_links n i (x ∷ xs) = ap (λ ys. x ∷ ys) (port_links n (i + 1) xs)
 
+-- how often a number stands in a list is the number of its places
 pub times_places : (x : ℕ) (ys : List ℕ) → times x ys ≡ places x ys
 times_places x [] = refl
 times_places x (y ∷ ys) = elim (cases_eq x y) [

@@ -74,5 +74,6 @@ one_rule_too_many f e = cc (subst (λ m. rules_in filled_membrane m ≡ []) memb
     membrane : f.membrane 1 ≡ 1
     membrane = one (subst (λ m. In (f.membrane 1) (mems_in filled_membrane m)) e.here (e.membranes_placed 1 _ (0, refl, refl)))
 
+-- in the example contexts take what is left
 pub contexts_take_the_rest : ContextsTakeTheRest
 contexts_take_the_rest = ((as_they_are, lies), (λ l. too_many_atoms l.0 l.1), (λ l. one_rule_too_many l.0 l.1))

@@ -23,9 +23,11 @@ abbrev name_in : Option Functor → ℕ
 name_in None = 0
 name_in (Some f) = name_by f.label
 
+-- functors that are the same have one name
 pub not_a_name : (n k : ℕ) (x y : Option Functor) → x ≡ y → name_in x ≡ n → name_in y ≡ k → n ≡ k
 not_a_name n k x y e p q = sym p ∙ ap name_in e ∙ q
 
+-- 5 is not 4
 pub four_five : ◌≡◌ {A = ℕ} 5 4 → ⊥
 four_five e = cc e
 
@@ -109,6 +111,7 @@ not_between f e = names (of_b (first (f.atom 0) (e.functors 0 _ refl)) (e.joined
         six_five : ◌≡◌ {A = ℕ} 6 5 → ⊥
         six_five e = cc e
 
+-- in the example two atoms of a head are joined
 pub links_join : LinksJoin
 links_join = ((as_they_are, joins), (λ l. not_between l.0 l.1))
 
@@ -205,5 +208,6 @@ not_inside f e = e.outside 0 0 0 _ (1, 0) refl refl refl one_not_zero (rw atom r
     atom : f.atom 0 ≡ 0
     atom = first (f.atom 0) (e.functors 0 _ refl)
 
+-- in the example a link leaves a membrane
 pub links_leave : LinksLeave
 links_leave = ((as_they_are, leaves), (λ l. not_inside l.0 l.1))

@@ -73,6 +73,7 @@ image_in_part f e = (e.parts 0 _ refl).apart 0 (rw (sym part) (across at_root (o
     part : ◌≡◌ {A = Port} (1, 0) (f.part 0)
     part = same_Some (1, 0) (f.part 0) (subst (λ n. link_of joined_twice n 0 ≡ Some (f.part 0)) atom ((e.parts 0 _ refl).held (0, 0) (_, refl, refl)))
 
+-- in the example a whole part has an atom of the head in it, so the head doesn't embed
 pub parts_have_no_image : PartsHaveNoImage
 parts_have_no_image = (twice_whole, (λ l. image_in_part l.0 l.1))
 
@@ -185,6 +186,7 @@ not_here f e = not_whole (subst (λ p. StandsWhole (atom_map integer_inside) p 0
     part : ◌≡◌ {A = Port} (1, 0) (f.part 0)
     part = same_Some (1, 0) (f.part 0) (subst (λ n. link_of integer_inside n 0 ≡ Some (f.part 0)) (first (f.atom 0) (e.functors 0 _ refl)) ((e.parts 0 _ refl).held (0, 0) (_, refl, refl)))
 
+-- in the example the guard asks of a part
 pub guards_ask_parts : GuardsAskParts
 guards_ask_parts = ((part_behind, lies), (λ l. five_not_below l.0 l.1), not_whole, (λ l. not_here l.0 l.1))
 
@@ -207,5 +209,6 @@ not_crossed s = one_not_zero (ap (λ p. p.1) (same_Some (2, 1) (s.to 2, 0) (subs
     second : Reached (atom_map straight_heap) (1, 0) 2
     second = across at_root (other_index 1 1 0 one_not_zero) refl
 
+-- in the example two parts that join other ports differ
 pub ports_are_told : HeapPortsAreTold
 ports_are_told = (itself, not_crossed)

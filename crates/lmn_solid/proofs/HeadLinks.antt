@@ -82,6 +82,7 @@ atom_times x f ls m xs =
     let c = times_append x ports typed in
     omega (arith, e, a, b, c)
 
+-- the link of a typed context of a head counts once among the links of the head
 pub typed_times : (x n : ℕ) (k : TypeKind) (l m : ℕ) (xs : List HeadItem) → times x (links_of_head (Typed n k l m ∷ xs)) ≡ (if l == x then 1 else 0) + times x (links_of_head xs)
 typed_times x n k l m xs =
     let ports = map (λ o. o.link) (at_atoms 0 (atoms_of xs)) in

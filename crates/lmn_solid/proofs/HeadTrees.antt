@@ -27,21 +27,26 @@ mutual
     no_head : Heads
     head_and : Head → Heads → Heads
 
+-- some heads as a tree
 abbrev pub heads : List Head → Heads
 heads [] = no_head
 heads (h ∷ hs) = head_and h (heads hs)
 
+-- the head of a level whose membranes are heads
 abbrev pub head_step : Level-F Head → Head
 head_step l = head l.leaves (heads l.membranes) l.contexts l.rule_contexts l.rules
 
+-- a level as a head
 abbrev pub head_at : Level → Head
 head_at = fold-Level Head head_step
 
 -- ---- as a flat list
 
+-- it has a process context
 abbrev pub has_context : Head → Bool
 has_context (head leaves membranes contexts rule_contexts rs) = has_some contexts
 
+-- it has a rule context
 abbrev pub has_rule_context : Head → Bool
 has_rule_context (head leaves membranes contexts rule_contexts rs) = has_some rule_contexts
 
@@ -190,6 +195,7 @@ inside_rules : (ls : List ((l : Level) × SameRules l)) → flat_map (λ inner. 
 inside_rules [] = refl
 inside_rules (e ∷ ls) = λ i. e.1 i ++ inside_rules ls i
 
+-- the rules of a level are those of its head
 pub same_rules : (l : Level) → rules_of l ≡ head_rules (head_at l)
 same_rules = ind-Level SameRules (λ y z is.
     let inside = subst (λ l. flat_map (λ inner. inner) (map rules_of l.membranes) ≡ heads_rules (heads (map head_at l.membranes))) is (inside_rules z.membranes) in

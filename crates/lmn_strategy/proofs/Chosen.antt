@@ -129,6 +129,7 @@ compiled_in_order codes table plans law whole are n code e =
 pub rule_below : (h j k : Heap) (m place many : ℕ) → j ≡ h → k ≡ h → many ≡ length (rules_in j m) → place < many → place < length (rules_in k m)
 rule_below h j k m place many e f l p = let q : length (rules_in j m) ≡ length (rules_in k m) = ap (λ z. length (rules_in z m)) (e ∙ sym f) in omega (arith, l, p, q)
 
+-- the rule that is read is one of the membrane
 pub rule_read : (h j k : Heap) (m place many n : ℕ) → j ≡ h → k ≡ h → many ≡ length (rules_in j m) → place < many → slice_index_or (rules_in k m) place 0 ≡ n → slice_get (rules_in h m) place ≡ Some n
 rule_read h j k m place many n e f l p r =
     subst (λ z. slice_get (rules_in z m) place ≡ Some n) f

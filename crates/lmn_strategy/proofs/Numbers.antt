@@ -15,6 +15,7 @@ pub record Cut (xs : List ℕ) (i m : ℕ) : Type 0 where
   pub is : xs ≡ before ++ (m ∷ rest)
   pub many : length before ≡ i
 
+-- a list is cut at one of its numbers
 pub cut_at : (xs : List ℕ) (i m : ℕ) → slice_get xs i ≡ Some m → Cut xs i m
 cut_at [] i m e = absurd (cc)
 cut_at (x ∷ xs) zero m e = record { before = []; rest = xs; is = (let s : x ≡ m = (cc) in ap (λ z. z ∷ xs) s); many = refl }
@@ -36,6 +37,7 @@ next_number xs i m o d e n =
     let k : i + 1 ≡ suc (length c.before) = (let l = c.many in omega (arith, l)) in
     ap (slice_get xs) k ∙ ap (λ z. slice_get z (suc (length c.before))) c.is ∙ get_behind c.before c.rest m ∙ first_from o xs c.rest (n ∙ a)
 
+-- what stands in the list from a place on
 pub get_drop : (xs : List ℕ) (i a : ℕ) → slice_get (drop i xs) a ≡ slice_get xs (i + a)
 get_drop xs zero a = ap (slice_get xs) (let z : a ≡ 0 + a = omega arith in z)
 get_drop [] (suc i) a = refl
@@ -59,12 +61,14 @@ take_none : (k : ℕ) → take {A = ℕ} k [] ≡ []
 take_none zero = refl
 take_none (suc k) = refl
 
+-- no more is taken than there is
 pub take_no_more : (xs : List ℕ) (a b : ℕ) → a ≤ b → slice_get xs a ≡ None → take b xs ≡ take a xs
 take_no_more [] a b l e = take_none b ∙ sym (take_none a)
 take_no_more (x ∷ xs) zero b l e = absurd (cc)
 take_no_more (x ∷ xs) (suc a) zero l e = absurd (omega (arith, l))
 take_no_more (x ∷ xs) (suc a) (suc b) l e = ap (λ z. x ∷ z) (take_no_more xs a b (omega (arith, l)) e)
 
+-- all is taken
 pub take_whole : (xs : List ℕ) (a : ℕ) → length xs ≤ a → take a xs ≡ xs
 take_whole [] a l = take_none a
 take_whole (x ∷ xs) zero l = absurd (omega (arith, l))
@@ -80,12 +84,15 @@ is_past (x ∷ xs) (suc k) e = let l = is_past xs k e in omega (arith, l)
 abbrev pub HasNumber : Heap → ℕ → ℕ → Type 0
 HasNumber h i m = (f : Forest) → IsTree h f → slice_get (flat f) i ≡ Some m
 
+-- the root has the number 0
 pub root_number : (h : Heap) (m : ℕ) → m ≡ h.root → HasNumber h 0 m
 root_number h m e = λ f t. first_from (Some h.root) (flat f) (flat f) (root_first h f t).1 ∙ ap (λ z. Some z) (sym e)
 
+-- the next membrane has the next number
 pub number_next : (h : Heap) (i m : ℕ) (o : Option ℕ) → HasNumber h i m → ((f : Forest) → IsTree h f → from o (flat f) ≡ after m (flat f)) → (f : Forest) → IsTree h f → slice_get (flat f) (i + 1) ≡ o
 number_next h i m o n e f t = next_number (flat f) i m o t.once (n f t) (e f t)
 
+-- what has a number is a membrane
 pub number_mem : (h : Heap) (i m : ℕ) → Valid h → HasNumber h i m → IsMem h m
 number_mem h i m v n =
     let f = v.tree.0 in
@@ -100,6 +107,7 @@ not_last h i k few l f t e = let p = is_past (flat f) (i + 1) e in let q = few f
 pub last_number : (h : Heap) (i m : ℕ) → HasNumber h i m → (f : Forest) → IsTree h f → slice_get (flat f) (i + 1) ≡ None → i + 1 ≡ length (flat f)
 last_number h i m n f t e = let p = is_past (flat f) (i + 1) e in let q = slice_get_within (flat f) i m (n f t) in omega (arith, p, q)
 
+-- a heap has few membranes
 pub few_membranes : (h : Heap) → Sound h → AtMost (2 ^ 48) h → (f : Forest) → IsTree h f → length (flat f) ≤ 2 ^ 48
 few_membranes h sound few f t =
     let l = not_longer (flat f) few.mems t.once (λ b i. few.all_mems b (is_mem h sound f t b i)) in

@@ -25,6 +25,7 @@ many (Rest of inside ∷ xs) = many xs
 many (Rule rule inside ∷ xs) = many xs
 many (Rules of inside ∷ xs) = many xs
 
+-- two bodies make as many membranes as both
 pub many_both : (xs ys : List BodyItem) → many (xs ++ ys) ≡ many xs + many ys
 many_both [] ys = omega arith
 many_both (Atom functor links inside ∷ xs) ys = many_both xs ys
@@ -48,6 +49,7 @@ past k (Rest of inside ∷ xs) = past k xs
 past k (Rule rule inside ∷ xs) = past k xs
 past k (Rules of inside ∷ xs) = past k xs
 
+-- the numbers behind two bodies
 pub past_both : (k : ℕ) (xs ys : List BodyItem) → past k (xs ++ ys) ≡ past (past k xs) ys
 past_both k [] ys = refl
 past_both k (Atom functor links inside ∷ xs) ys = past_both k xs ys
@@ -75,6 +77,7 @@ abbrev pub Misses : Registers → ℕ → List BodyItem → Type 0
 Misses s x [] = Unit {0}
 Misses s x (i ∷ is) = Elsewhere s x i × Misses s x is
 
+-- a membrane that two bodies miss is missed by both
 pub misses_both : (s : Registers) (x : ℕ) (xs ys : List BodyItem) → Misses s x xs → Misses s x ys → Misses s x (xs ++ ys)
 misses_both s x [] ys a b = b
 misses_both s x (i ∷ is) ys a b = (a.0, misses_both s x is ys a.1 b)

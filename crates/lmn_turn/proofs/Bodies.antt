@@ -43,12 +43,14 @@ use Rattle.lmn_base.proofs.Numbers.{not_equal as not_eq, same_or_not}
 
 -- ---- lists of leaves
 
+-- leaves of two lists are fused one list after the other
 pub fused_both : (to : ℕ → ℕ) (xs ys : List tree.Leaf) → fused_leaves to (xs ++ ys) ≡ fused_leaves to xs ++ fused_leaves to ys
 fused_both to [] ys = refl
 fused_both to (tree.atom_leaf a zs ∷ xs) ys = ap (λ l. record { label = a; links = map to zs } ∷ l) (fused_both to xs ys)
 fused_both to (tree.connector_leaf a b ∷ xs) ys = fused_both to xs ys
 fused_both to (tree.typed_leaf p x ∷ xs) ys = fused_both to xs ys
 
+-- atoms that stay are fused to those of the solid
 pub fused_kept : (to : ℕ → ℕ) (xs : List region.SolidAtom) → fused_leaves to (kept_atoms xs) ≡ map (renamed_atom (λ z. to (of_solid z))) xs
 fused_kept to [] = refl
 fused_kept to (x ∷ xs) = λ i. record { label = x.label; links = map_twice to of_solid x.links i } ∷ fused_kept to xs i
@@ -76,6 +78,7 @@ leaf_cases names f ys inside e = by f.label f.arity ys e
     by (label.Name (suc k)) n ys e = inr (refl, ap (λ b. atom_item (b && (n == 2)) (record { label = label.Name (suc k); arity = n }) ys inside) (not_eq (suc k) 0 (λ q. omega (arith, q))))
     by (label.Int z) n ys e = inr (refl, refl)
 
+-- leaves of a part are fused to its atoms
 pub fused_made : (to : ℕ → ℕ) (xs : List region.SolidAtom) → fused_leaves to (part_leaves xs) ≡ map (renamed_atom to) xs
 fused_made to [] = refl
 fused_made to (x ∷ xs) = ap (λ ys. renamed_atom to x ∷ ys) (fused_made to xs)
@@ -90,6 +93,7 @@ placed_leaf (tree.typed_leaf p x) = tree.typed_leaf p x
 abbrev pub integer_atom : ℤ → ℕ → region.SolidAtom
 integer_atom z x = record { label = tree.integer z; links = of_rule x ∷ [] }
 
+-- an integer atom is the part of its context
 pub integer_part : (z : ℤ) (g : Rooted) (x : ℕ) → IsInteger z g → IsPart g (of_rule x) (integer_atom z x ∷ [])
 integer_part z g x (an_integer {x = y}) = record {
   only_atoms = tt;
@@ -109,6 +113,7 @@ among_one : {x y : ℕ} → Among y (x ∷ []) → y ≡ x
 among_one at_head = refl
 among_one (further w) = elim w [ ]
 
+-- and listed depth first
 pub integer_first : (z : ℤ) (x : ℕ) → DepthFirst (of_rule x) (integer_atom z x ∷ [])
 integer_first z x =
     let one = one_if_equal (of_rule x) (of_rule x) refl in

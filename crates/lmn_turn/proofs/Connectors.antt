@@ -29,10 +29,12 @@ use Rattle.lmn_splice.proofs.Common.{in_back, in_front}
 
 -- ---- lists of processes
 
+-- a map joins the connectors of two lists of leaves where it does those of each
 pub leaves_join_both : (to : ℕ → ℕ) (xs ys : List tree.Leaf) → Joins to (together (map leaf_process xs)) → Joins to (together (map leaf_process ys)) → Joins to (together (map leaf_process (xs ++ ys)))
 leaves_join_both to [] ys a b = b
 leaves_join_both to (x ∷ xs) ys a b = (a.0, leaves_join_both to xs ys a.1 b)
 
+-- and those of two lists of levels
 pub levels_join_both : (to : ℕ → ℕ) (xs ys : List tree.Level) → Joins to (together (levels_processes (levels xs))) → Joins to (together (levels_processes (levels ys))) → Joins to (together (levels_processes (levels (xs ++ ys))))
 levels_join_both to [] ys a b = b
 levels_join_both to (x ∷ xs) ys a b = (a.0, levels_join_both to xs ys a.1 b)
@@ -43,6 +45,7 @@ made_atoms_join to (x ∷ xs) = (tt, made_atoms_join to xs)
 
 -- ---- the wires of the head
 
+-- a map joins the wires of a head
 pub wires_join : (to f : ℕ → ℕ) (l : tree.Level) (n : ℕ) → ((x : ℕ) → level_occurrences x l ≡ 1 → to (of_rule x) ≡ to (of_solid (f x))) → Joins to (together (map leaf_process (wire_leaves f l n)))
 wires_join to f l zero fused = tt
 wires_join to f l (suc n) fused = by (wires_join to f l n fused) (level_occurrences n l == 1) refl

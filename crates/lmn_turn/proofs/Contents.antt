@@ -58,6 +58,7 @@ inside_contexts : (ls : List ((l : Level) × SameContexts l)) → flat_map (λ i
 inside_contexts [] = refl
 inside_contexts (e ∷ ls) = λ i. e.1 i ++ inside_contexts ls i
 
+-- the contexts of a level are those of its head
 pub same_contexts : (l : Level) → contexts_of l ≡ head_contexts (head_at l)
 same_contexts = ind-Level SameContexts (λ y z is.
     let inside = subst (λ l. flat_map (λ inner. inner) (map contexts_of l.membranes) ≡ heads_contexts (heads (map head_at l.membranes))) is (inside_contexts z.membranes) in
@@ -70,6 +71,7 @@ inside_rule_contexts : (ls : List ((l : Level) × SameRuleContexts l)) → flat_
 inside_rule_contexts [] = refl
 inside_rule_contexts (e ∷ ls) = λ i. e.1 i ++ inside_rule_contexts ls i
 
+-- and so are its rule contexts
 pub same_rule_contexts : (l : Level) → rule_contexts_of l ≡ head_rule_contexts (head_at l)
 same_rule_contexts = ind-Level SameRuleContexts (λ y z is.
     let inside = subst (λ l. flat_map (λ inner. inner) (map rule_contexts_of l.membranes) ≡ heads_rule_contexts (heads (map head_at l.membranes))) is (inside_rule_contexts z.membranes) in

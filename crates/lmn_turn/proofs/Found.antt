@@ -48,6 +48,7 @@ use Rattle.lmn_base.specs.Lists.{In}
 
 -- ---- lists by their indices
 
+-- what a map gives in a row is the list
 pub reads_run : {A : Type 0} (g : ℕ → A) (n : ℕ) (bs : List A) → Reads g n bs → run g n (length bs) ≡ bs
 reads_run g n [] h = refl
 reads_run g n (b ∷ bs) h = λ j. h.0 j ∷ reads_run g (n + 1) bs h.1 j

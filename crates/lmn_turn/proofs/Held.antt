@@ -111,11 +111,13 @@ module _ (h : Heap) (v : Valid h) (r : HeapReading) (c : Contents) where
 
 -- ---- what contexts stand for
 
+-- what is left to a context is what it stands for
 pub context_is : (c : Contents) {ps : List Name} {xs : List SolidAtom} {ms : Regions} → LeftToContext c ps xs ms → {p : Name} → Among p ps → (c.atoms_of p ≡ xs) × (c.membranes_of p ≡ ms)
 context_is c no_context k = elim k [ ]
 context_is c one_context at_head = (refl, refl)
 context_is c one_context (further k) = elim k [ ]
 
+-- and so are the rules of a rule context
 pub rule_context_is : (c : Contents) {ps : List Name} {rs : List Rule} → LeftToRuleContext c ps rs → {p : Name} → Among p ps → c.rules_of p ≡ rs
 rule_context_is c no_rule_context k = elim k [ ]
 rule_context_is c one_rule_context at_head = refl
@@ -123,11 +125,13 @@ rule_context_is c one_rule_context (further k) = elim k [ ]
 
 -- ---- what is left, in its order
 
+-- what parts leave is part of the list, in its order
 pub parts_sub : {g : ℕ → SolidAtom} {link_of : ℕ → ℕ} {typed_of : Name → Rooted} {ls : List Leaf} {parts : List (List ℕ)} {xs rest : List ℕ} → PartsOut g link_of typed_of ls parts xs rest → Sublist rest xs
 parts_sub (parts_none {xs = xs}) = sub_itself xs
 parts_sub (parts_atom p) = parts_sub p
 parts_sub (parts_typed ground is m p) = sub_then (parts_sub p) (sub_merged m)
 
+-- an atom is in a part or left
 pub parts_or_left : {g : ℕ → SolidAtom} {link_of : ℕ → ℕ} {typed_of : Name → Rooted} {ls : List Leaf} {parts : List (List ℕ)} {xs rest : List ℕ} → PartsOut g link_of typed_of ls parts xs rest → (a : ℕ) → In a xs → In a (flattened parts) ⊎ In a rest
 parts_or_left parts_none a i = inr i
 parts_or_left (parts_atom p) a i = parts_or_left p a i
@@ -136,10 +140,12 @@ parts_or_left (parts_typed {parts = parts} {part = part} ground is m p) a i = el
   | inr j ↦ elim (parts_or_left p a j) [ inl k ↦ inl (in_right a part (flattened parts) k) | inr k ↦ inr k ]
 ]
 
+-- what images leave of a forest is part of it, in its order
 pub tops_sub : {h : Heap} {r : HeapReading} {link_of : ℕ → ℕ} {typed_of : Name → Rooted} {Q : Level → ℕ → List ℕ → Forest → Forest → Type 0} {ls : Levels} {bs ms ns : List ℕ} {ps : List (List ℕ)} {f f' : Forest} → LiesIn h r link_of typed_of Q ls bs ps ms ns f f' → Sublist (tops f') (tops f)
 tops_sub (lies_none {f = f}) = sub_itself (tops f)
 tops_sub (lies_and k d q later) = sub_then (tops_sub later) (sub_tree k)
 
+-- and still a forest of the heap
 pub left_grown : {h : Heap} {r : HeapReading} {link_of : ℕ → ℕ} {typed_of : Name → Rooted} {Q : Level → ℕ → List ℕ → Forest → Forest → Type 0} {ls : Levels} {bs ms ns : List ℕ} {ps : List (List ℕ)} {f f' : Forest} → LiesIn h r link_of typed_of Q ls bs ps ms ns f f' → Grown h f → Grown h f'
 left_grown lies_none g = g
 left_grown {h = h} (lies_and k d q later) g = left_grown later (taken_grown h k g).1

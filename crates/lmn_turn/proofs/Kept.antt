@@ -49,6 +49,7 @@ module _ (h h' : Heap) (r : HeapReading) (name : ℕ → ℕ → ℕ) (to : ℕ 
 
 -- ---- no connector stands in what stays
 
+-- atoms that are kept have no connector that a map would have to join
 pub kept_atoms_join : (to : ℕ → ℕ) (xs : List SolidAtom) → Joins to (together (map leaf_process (kept_atoms xs)))
 kept_atoms_join to [] = tt
 kept_atoms_join to (x ∷ xs) = (tt, kept_atoms_join to xs)

@@ -15,6 +15,7 @@ use Rattle.lmn_base.specs.Lists.{In}
 
 -- ---- the membranes that a body makes
 
+-- a membrane that a body makes is listed
 pub in_made : (s : Registers) (n : ℕ) (xs : List BodyItem) (j : ℕ) → n ≤ j → j < n + many xs → In (at s j) (made_mems s n xs)
 in_made s n [] j a b = absurd (omega (arith, a, b))
 in_made s n (Atom functor links inside ∷ xs) j a b = in_made s n xs j a b
@@ -29,6 +30,7 @@ in_made s n (Rest of inside ∷ xs) j a b = in_made s n xs j a b
 in_made s n (Rule rule inside ∷ xs) j a b = in_made s n xs j a b
 in_made s n (Rules of inside ∷ xs) j a b = in_made s n xs j a b
 
+-- and different ones are different
 pub made_apart : (s : Registers) (n : ℕ) (xs : List BodyItem) → Distinct (made_mems s n xs) → (j k : ℕ) → n ≤ j → j < n + many xs → n ≤ k → k < n + many xs → at s j ≡ at s k → j ≡ k
 made_apart s n [] d j k a b a' b' e = absurd (omega (arith, a, b))
 made_apart s n (Atom functor links inside ∷ xs) d j k a b a' b' e = made_apart s n xs d j k a b a' b' e

@@ -89,6 +89,7 @@ pub record SameImages (f g : Images) (n k : ℕ) (xs : List HeadItem) : Type 0 w
   pub atoms : (j : ℕ) → j < length (atoms_of xs) → f.atom (n + j) ≡ g.atom (n + j)
   pub mems : (j : ℕ) → j < length (membranes_of xs) → f.membrane (k + j) ≡ g.membrane (k + j)
 
+-- the numbers of images that agree on earlier membranes are the same
 pub same_images : (h : Heap) (f g : Images) (i n k : ℕ) (as' ms : List ℕ) (xs : List HeadItem) → k ≡ i + 1 → EachInside i xs → ((j : ℕ) → j ≤ i → f.membrane j ≡ g.membrane j) → Fresh h f n k as' ms xs →
     numbers_left h f n k as' ms xs ≡ numbers_left h g n k as' ms xs → SameImages f g n k xs
 same_images h f g i n k as' ms [] q e m p s = record { atoms = λ j l. absurd (omega (arith, l)); mems = λ j l. absurd (omega (arith, l)) }

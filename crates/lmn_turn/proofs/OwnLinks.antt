@@ -243,6 +243,7 @@ pub record RawOwn (r : Rule) (c : Contents) (rest : Region) (O : Process) (outs 
   pub bounded : (x : ℕ) → bound ≤ x → level_occurrences x (head_of r) ≡ 0
   pub closed : Closed (pair (level_process (raw_level rest (wire_leaves c.link_of (head_of r) bound) outs membranes rules)) (renamed of_solid O))
 
+-- what a body makes of a level has the links of its contents
 pub raw_own : (Block : ℕ → ℕ → Type 0) (r : Rule) (f : List ℕ) (m : Region) → Accepted r → (e : EmbedsInOrder r f m) → (O : Process) → Closed (pair (region_process m) O) →
     (k j : ℕ) (outs : List Leaf) (membranes : List Level) (rules : List Rule) → OwnLevel e.contents Block k j (body_of r) outs membranes rules →
     ((i n L : ℕ) → Block i L → Block n L → i ≡ n) → ((i L : ℕ) → Block i L → link_bound (region_process m) + link_bound O ≤ L) → RawOwn r e.contents e.rest O outs membranes rules

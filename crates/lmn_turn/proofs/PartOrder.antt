@@ -37,6 +37,7 @@ record Split (ys zs seen : List ℕ) (ds : List SolidAtom) : Type 0 where
   before : ReachesAtoms ys seen first
   behind : ReachesAtoms zs (seen ++ links_at first) later
 
+-- the links of two lists of atoms are those of both
 pub links_both : (xs ys : List SolidAtom) → links_at (xs ++ ys) ≡ links_at xs ++ links_at ys
 links_both [] ys = refl
 links_both (x ∷ xs) ys = ap (λ k. x.links ++ k) (links_both xs ys) ∙ sym (append_assoc x.links (links_at xs) (links_at ys))
@@ -71,6 +72,7 @@ split (reaches_new {y = z} {ys = ws} {seen = seen} {b = b} {bs = bs} {cs = cs} c
 
 -- ---- ports of an atom
 
+-- a port of a range is one of its atom
 pub port_at : (p : ℕ × ℕ) (a i n : ℕ) → HasPort p (port_range a i n) → (p.0 ≡ a) × (p.1 < i + n)
 port_at p a i zero k = absurd k
 port_at p a i (suc n) (inl e) = let z : p.1 ≡ i = ap (λ q. q.1) (sym e) in (ap (λ q. q.0) (sym e), omega (arith, z))

@@ -12,6 +12,7 @@ use Rattle.lmn_compile_head.proofs.HeadLeaves.{typed_leaf}
 use Rattle.lmn_compile_head.proofs.PlanKinds.{kind_of_leaf}
 use Rattle.lmn_bridge.specs.Premises.{HasTypes}
 
+-- where a kind is there, it is one
 pub is_of : (o : Option TypeKind) → IsSome o → (k : TypeKind) × (o ≡ Some k)
 is_of (Some k) s = (k, refl)
 is_of None s = absurd (cc)

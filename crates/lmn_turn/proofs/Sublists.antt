@@ -18,22 +18,26 @@ pub data Sublist : List ℕ → List ℕ → Type 0 where
   keeps : {x : ℕ} {xs ys : List ℕ} → Sublist xs ys → Sublist (x ∷ xs) (x ∷ ys)
   drops : {x : ℕ} {xs ys : List ℕ} → Sublist xs ys → Sublist xs (x ∷ ys)
 
+-- a list is part of itself
 pub sub_itself : (xs : List ℕ) → Sublist xs xs
 sub_itself [] = all_gone
 sub_itself (x ∷ xs) = keeps (sub_itself xs)
 
+-- and what is part of a part is part
 pub sub_then : {xs ys zs : List ℕ} → Sublist xs ys → Sublist ys zs → Sublist xs zs
 sub_then s all_gone = s
 sub_then (keeps s) (keeps t) = keeps (sub_then s t)
 sub_then (drops s) (keeps t) = drops (sub_then s t)
 sub_then s (drops t) = drops (sub_then s t)
 
+-- what stands in a part stands in the list
 pub sub_in : {xs ys : List ℕ} → Sublist xs ys → (a : ℕ) → In a xs → In a ys
 sub_in all_gone a i = i
 sub_in (keeps s) a (inl e) = inl e
 sub_in (keeps s) a (inr i) = inr (sub_in s a i)
 sub_in (drops s) a i = inr (sub_in s a i)
 
+-- a list without a number is part of it
 pub sub_without : (a : ℕ) (xs : List ℕ) → Sublist (without a xs) xs
 sub_without a [] = all_gone
 sub_without a (x ∷ xs) = by (x == a) (sub_without a xs)
@@ -42,15 +46,18 @@ sub_without a (x ∷ xs) = by (x == a) (sub_without a xs)
     by true s = drops (sub_itself xs)
     by false s = keeps s
 
+-- and so without some
 pub sub_without_all : (bs xs : List ℕ) → Sublist (without_all bs xs) xs
 sub_without_all [] xs = sub_itself xs
 sub_without_all (b ∷ bs) xs = sub_then (sub_without_all bs (without b xs)) (sub_without b xs)
 
+-- and each of two lists of which it is made
 pub sub_merged : {ps xs ys : List ℕ} → Merged ps xs ys → Sublist xs ys
 sub_merged merged_none = all_gone
 sub_merged (from_first m) = drops (sub_merged m)
 sub_merged (from_second m) = keeps (sub_merged m)
 
+-- and what is left of a forest
 pub sub_tree : {n m : ℕ} {i f f' : Forest} → TakenTree n m i f f' → Sublist (tops f') (tops f)
 sub_tree (tree_first {f = f}) = drops (sub_itself (tops f))
 sub_tree (tree_later t) = keeps (sub_tree t)

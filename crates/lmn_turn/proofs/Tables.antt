@@ -5,6 +5,7 @@ use Rattle.lmn_base.specs.Levels.{rules_of}
 use Rattle.lmn_turn.specs.Commits.{PlainsAreTables}
 use Rattle.lmn_base.proofs.Lists.{all_of_right}
 
+-- the rules of a well made plain are a table, where each is one that a text may have
 pub plains_are_tables : PlainsAreTables
 plains_are_tables plain r made rules = record {
   rules = rules;

@@ -27,6 +27,7 @@ use Rattle.lmn_heap.proofs.Common.{in_at as got_in}
 pub read_as : (r : HeapReading) (number : Port → ℕ) (rule : RuleTree) → IsRule r rule → IsRule (renumbered_reading r number) rule
 read_as r number rule k = record { well_made = k.well_made; known = k.known; accepted = k.accepted }
 
+-- the body code of the rule whose head code first succeeds makes a turn
 pub turns_commit : TurnIsNext → AcceptedHeads → AcceptedLeast → BoundNames → EmbedsAlike → LeastAlike → FiringsCommit → TurnsCommit
 turns_commit is_next head_law least_law bound_law alike first_alike commit table rule plan whole h r inner read tr has m mi there forest index k stands is_at s first h' runs =
     let known = has.known m k (got_in (rules_in h m) index k stands) in

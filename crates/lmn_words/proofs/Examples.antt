@@ -6,6 +6,7 @@ use Rattle.lmn_words.specs.declared.setting.Setting.TheVariants as set
 use Rattle.lmn_words.specs.Forms.{a_file, a_flag, nothing}
 use Rattle.lmn_words.specs.Laws.{FoldedRun}
 
+-- the words of the example ask for a run in the folded form
 pub folded_run_asked : FoldedRun
 folded_run_asked file named = (
   refl,

@@ -227,6 +227,7 @@ run_spelled words file settings spelled once =
     then_some run_heard (hear_all nothing_heard words) (at (Some file) (firsts settings)) (Some (run_by (firsts settings) file))
     (all_spelled spelled None (Some file) no_settings (firsts settings) refl collected) refl
 
+-- no setting of a run is given twice
 pub each_once : {words : List CommandWord} {run : Run} → (a : AsksRun words run) → EachAtMostOnce a.settings
 each_once {words} {run} a = (
   at_most_one false (filter_map trace_of a.settings) run.trace a.trace,
@@ -276,6 +277,7 @@ behind_compile w words = if bytes_eq w (codes "demo") then option_map to_demo (d
 abbrev behind_run : CommandWord → List CommandWord → Option Request
 behind_run w words = if bytes_eq w (codes "compile") then option_map to_compile (file_read words) else behind_compile w words
 
+-- what is read of the words is what they ask for
 pub request_told : (words : List CommandWord) (r : Request) → request_read words ≡ Some r → TextsAsk words r
 request_told [] r e = absurd (none-some r e)
 request_told (w ∷ words) r e =

@@ -16,6 +16,7 @@ abbrev pub settings_all : Settings → List Setting → Option Settings
 settings_all s [] = Some s
 settings_all s (x ∷ xs) = option_and_then (λ t. settings_all t xs) (with_setting s x)
 
+-- a flag is there once or not at all
 abbrev pub flagged : Bool → List Bool
 flagged true = true ∷ []
 flagged false = []
@@ -29,10 +30,12 @@ pub record Collects (s : Settings) (xs : List Setting) (t : Settings) : Type 0 w
   pub order : option_to_list s.order ++ filter_map order_name_of xs ≡ option_to_list t.order
   pub seed : option_to_list s.seed ++ filter_map seed_of xs ≡ option_to_list t.seed
 
+-- what is not there is none
 pub is_none : {A : Type 0} (o : Option A) → is_some o ≡ false → o ≡ None
 is_none None e = refl
 is_none (Some x) e = false_true (sym e)
 
+-- two values are the same where their lists are
 pub list_option : {A : Type 0} (o p : Option A) → option_to_list o ++ [] ≡ option_to_list p → o ≡ p
 list_option None None e = refl
 list_option None (Some y) e = absurd (let l = ap length e in omega (arith, l))
@@ -216,6 +219,7 @@ all_read s t (set.Seed n ∷ xs) c =
 
 -- ---- the settings of a list that has each at most once
 
+-- the first of a list, where there is one
 abbrev pub first_of : {A : Type 0} → List A → Option A
 first_of [] = None
 first_of (x ∷ xs) = Some x
@@ -252,6 +256,7 @@ only_flag [] h = refl
 only_flag (b ∷ []) h = refl
 only_flag (b ∷ (c ∷ bs)) h = absurd (omega (arith, h))
 
+-- the first setting of each kind
 abbrev pub firsts : List Setting → Settings
 firsts xs = record {
   trace = is_some (first_of (filter_map trace_of xs));
@@ -262,6 +267,7 @@ firsts xs = record {
   seed = first_of (filter_map seed_of xs);
 }
 
+-- where none is given twice these are all
 pub firsts_collected : (xs : List Setting) → EachAtMostOnce xs → Collects no_settings xs (firsts xs)
 firsts_collected xs h = record {
   trace = traces_true xs ∙ only_flag (filter_map trace_of xs) h.0;
@@ -274,20 +280,24 @@ firsts_collected xs h = record {
 
 -- ---- the one value, or the default
 
+-- a value that may be given is given once at most
 pub at_most_one : {A : Type 0} (d : A) (xs : List A) (v : A) → OnlyOr d xs v → length xs ≤ 1
 at_most_one d [] v h = omega arith
 at_most_one d (x ∷ []) v h = omega arith
 at_most_one d (x ∷ (y ∷ xs)) v h = absurd h
 
+-- and is the first that is given, or the default
 pub only_value : {A : Type 0} (d : A) (xs : List A) (v : A) → OnlyOr d xs v → unwrap_or (first_of xs) d ≡ v
 only_value d [] v h = sym h
 only_value d (x ∷ []) v h = sym h
 only_value d (x ∷ (y ∷ xs)) v h = absurd h
 
+-- a value that is there or the default is one that may be given
 pub value_only : {A : Type 0} (d : A) (o : Option A) → OnlyOr d (option_to_list o) (unwrap_or o d)
 value_only d None = refl
 value_only d (Some x) = refl
 
+-- and so is a flag
 pub flag_only : (b : Bool) → OnlyOr false (flagged b) b
 flag_only true = refl
 flag_only false = refl
@@ -297,8 +307,10 @@ flag_value [] v t h = sym h
 flag_value (b ∷ []) v t h = sym (h ∙ ap (λ l. unwrap_or (first_of l) false) t)
 flag_value (b ∷ (c ∷ bs)) v t h = absurd h
 
+-- whether `--trace` is given
 pub trace_value : (xs : List Setting) (v : Bool) → OnlyOr false (filter_map trace_of xs) v → is_some (first_of (filter_map trace_of xs)) ≡ v
 trace_value xs v h = flag_value (filter_map trace_of xs) v (traces_true xs) h
 
+-- whether `--folded` is
 pub folded_value : (xs : List Setting) (v : Bool) → OnlyOr false (filter_map folded_of xs) v → is_some (first_of (filter_map folded_of xs)) ≡ v
 folded_value xs v h = flag_value (filter_map folded_of xs) v (folds_true xs) h

@@ -23,14 +23,17 @@ use Rattle.std.proofs.lemmas.Bool.{or_right}
 abbrev pub built_line : Shape → Shape
 built_line line = built_leaf (inherited whole_line.top line)
 
+-- the words that `run` takes, as the library has them
 abbrev pub run_shape : Shape
 run_shape = built_line run_line.top
 
+-- and its rules
 abbrev pub run_rules : List Rule
 run_rules = run_shape.rules
 
 -- ---- between two words
 
+-- what is held behind some words
 abbrev pub held : Option (Text × List Text) → List Row → Held
 held pending rows = record { rows = rows; pending = pending; skip = 0 }
 
@@ -43,6 +46,7 @@ abbrev pub flag_id : Flag → Text
 flag_id flag.Trace = codes "trace"
 flag_id flag.Folded = codes "folded"
 
+-- the name of an option in the library
 abbrev pub option_id : Valued → Text
 option_id valued.Budget = codes "budget"
 option_id valued.Size = codes "size"
@@ -63,12 +67,14 @@ named pending rows position o = record {
 abbrev pub used_once : Text → Text → List Row → List Row
 used_once id v rows = with_values id AsWritten CommandLine (v ∷ []) (without id rows)
 
+-- a flag is met
 pub flag_walked : (f : Flag) (p : Option (Text × List Text)) (rows : List Row) (n : ℕ)
     → walked run_rules [] (between p rows n) (flag_word f) ≡ between None (used_once (flag_id f) (codes "true") (settled_rows run_rules p rows)) n
 unfolding clap_on_literals
 flag_walked flag.Trace p rows n = refl
 flag_walked flag.Folded p rows n = refl
 
+-- the name of an option is met
 pub name_walked : (o : Valued) (p : Option (Text × List Text)) (rows : List Row) (n : ℕ) → walked run_rules [] (between p rows n) (option_word o) ≡ named p rows n o
 unfolding clap_on_literals
 name_walked valued.Budget p rows n = refl
@@ -76,6 +82,7 @@ name_walked valued.Size p rows n = refl
 name_walked valued.Order p rows n = refl
 name_walked valued.Seed p rows n = refl
 
+-- and an option with its value in one word
 pub both_walked : (o : Valued) (v : Text) (p : Option (Text × List Text)) (rows : List Row) (n : ℕ)
     → walked run_rules [] (between p rows n) (option_word o ++ (61 ∷ v)) ≡ between None (used_once (option_id o) v (settled_rows run_rules p rows)) n
 unfolding clap_on_literals
@@ -107,6 +114,7 @@ plain_met c waiting b bs n h e m =
     ∙ ap (λ o. long_or_other c waiting (b ∷ bs) o h) (not_long b bs e)
     ∙ ap (λ o. short_or_plain c waiting (b ∷ bs) o h) (not_short b bs e)
 
+-- a word that doesn't begin with `-` passes
 pub plain_passes : (s : Shape) (waiting : Waiting) (b : ℕ) (bs : Text) (h : Held) → (b == 45) ≡ false → subcommand_met [] waiting (b ∷ bs) ≡ None
     → word_passes s [] false waiting (b ∷ bs) h ≡ true
 plain_passes s waiting b bs h e m =
@@ -119,6 +127,7 @@ plain_passes s waiting b bs h e m =
 abbrev pub after_met : List Rule → Walk → Text → Held × Step → Walk
 after_met c w word met = after_step c word w met.0 met.1
 
+-- a file is met
 pub file_walked : (b : ℕ) (bs : Text) (p : Option (Text × List Text)) (rows : List Row) → (b == 45) ≡ false
     → walked run_rules [] (between p rows 1) (b ∷ bs) ≡ between (Some (codes "file", (b ∷ bs) ∷ [])) (settled_rows run_rules p rows) 2
 unfolding walked
@@ -131,6 +140,7 @@ file_walked b bs p rows e = ap (after_met run_rules (between p rows 1) (b ∷ bs
       | inr f ↦ rw f refl
     ]
 
+-- and the value of an option
 pub value_walked : (o : Valued) (b : ℕ) (bs : Text) (p : Option (Text × List Text)) (rows : List Row) (n : ℕ) → (b == 45) ≡ false
     → walked run_rules [] (named p rows n o) (b ∷ bs) ≡ between (Some (option_id o, (b ∷ bs) ∷ [])) (settled_rows run_rules p rows) n
 unfolding walked
@@ -149,9 +159,11 @@ value_walked o b bs p rows n e = ap (after_met run_rules (named p rows n o) (b �
 abbrev pub settles : Option (Text × List Text) → List Row → Bool
 settles p rows = settle_passes run_rules false (held p rows)
 
+-- a word passes
 abbrev pub passes : Walk → Text → Bool
 passes w word = turn_passes run_shape [] w word
 
+-- what is asked beside something that holds is the other
 pub and_first_true : (a b : Bool) → a ≡ true → (a && b) ≡ b
 and_first_true true b e = refl
 and_first_true false b e = absurd (true≢false (sym e))
@@ -161,12 +173,14 @@ used_passes true false e f = refl
 used_passes true true e f = absurd (true≢false f)
 used_passes false b e f = absurd (true≢false (sym e))
 
+-- a flag that isn't given yet passes
 pub flag_passes : (f : Flag) (p : Option (Text × List Text)) (rows : List Row) (n : ℕ) → settles p rows ≡ true → has_row (flag_id f) (settled_rows run_rules p rows) ≡ false
     → passes (between p rows n) (flag_word f) ≡ true
 unfolding clap_on_literals
 flag_passes flag.Trace p rows n e f = used_passes (settles p rows) (has_row (codes "trace") (settled_rows run_rules p rows)) e f
 flag_passes flag.Folded p rows n e f = used_passes (settles p rows) (has_row (codes "folded") (settled_rows run_rules p rows)) e f
 
+-- the name of an option passes
 pub name_passes : (o : Valued) (p : Option (Text × List Text)) (rows : List Row) (n : ℕ) → settles p rows ≡ true → passes (between p rows n) (option_word o) ≡ true
 unfolding clap_on_literals
 name_passes valued.Budget p rows n e = and_first_true (settles p rows) true e
@@ -174,6 +188,7 @@ name_passes valued.Size p rows n e = and_first_true (settles p rows) true e
 name_passes valued.Order p rows n e = and_first_true (settles p rows) true e
 name_passes valued.Seed p rows n e = and_first_true (settles p rows) true e
 
+-- an option with its value passes, where it isn't given yet
 pub both_passes : (o : Valued) (v : Text) (p : Option (Text × List Text)) (rows : List Row) (n : ℕ) → settles p rows ≡ true
     → has_row (option_id o) (settled_rows run_rules p rows) ≡ false → passes (between p rows n) (option_word o ++ (61 ∷ v)) ≡ true
 unfolding clap_on_literals
@@ -182,9 +197,11 @@ both_passes valued.Size v p rows n e f = used_passes (settles p rows) (has_row (
 both_passes valued.Order v p rows n e f = used_passes (settles p rows) (has_row (codes "order") (settled_rows run_rules p rows)) e f
 both_passes valued.Seed v p rows n e f = used_passes (settles p rows) (has_row (codes "seed") (settled_rows run_rules p rows)) e f
 
+-- the step behind what was met passes
 abbrev pub step_of_met : Shape → ℕ → Held × Step → Bool
 step_of_met s n met = step_passes s n met.0 met.1
 
+-- a file passes
 pub file_passes : (b : ℕ) (bs : Text) (p : Option (Text × List Text)) (rows : List Row) → (b == 45) ≡ false → settles p rows ≡ true
     → passes (between p rows 1) (b ∷ bs) ≡ true
 file_passes b bs p rows e s =
@@ -192,6 +209,7 @@ file_passes b bs p rows e s =
     ∙ ap (step_of_met run_shape 1) (plain_met run_rules idle b bs 1 (held p rows) e refl)
     ∙ or_right _ (settles p rows) s
 
+-- and the value of an option
 pub value_word_passes : (o : Valued) (b : ℕ) (bs : Text) (p : Option (Text × List Text)) (rows : List Row) (n : ℕ) → (b == 45) ≡ false
     → passes (named p rows n o) (b ∷ bs) ≡ true
 value_word_passes o b bs p rows n e =
@@ -205,6 +223,7 @@ value_word_passes o b bs p rows n e =
 abbrev pub given : Text → Text → Row
 given id v = record { id = id; values = v ∷ []; count = None; source = Some CommandLine; reading = AsWritten }
 
+-- a row that isn't there yet comes at the end
 pub at_new_row : (id : Text) (change : Row → List Row) (missing : List Row) (rows : List Row) → has_row id rows ≡ false → at_row id change missing rows ≡ rows ++ missing
 at_new_row id change missing [] e = refl
 at_new_row id change missing (r ∷ rows) e = go (bytes_eq r.id id) e (at_new_row id change missing rows)
@@ -225,6 +244,7 @@ pub record Stands (p : Option (Text × List Text)) (rows now : List Row) : Type 
   pub settled : settled_rows run_rules p rows ≡ now
   pub settle : settles p rows ≡ true
 
+-- where nothing is pending the rows stand
 pub stands_done : (rows : List Row) → Stands None rows rows
 stands_done rows = record { settled = refl; settle = refl }
 
@@ -232,9 +252,11 @@ new_passes : (b : Bool) → b ≡ false → ((not b || false) && true) ≡ true
 new_passes true e = absurd (true≢false e)
 new_passes false e = refl
 
+-- a file that is pending is a row more
 pub stands_file : (file : Text) (rows : List Row) → has_row (codes "file") rows ≡ false → Stands (Some (codes "file", file ∷ [])) rows (rows ++ (given (codes "file") file ∷ []))
 stands_file file rows e = record { settled = used_new (codes "file") file rows e; settle = new_passes (has_row (codes "file") rows) e }
 
+-- and so is an option
 pub stands_option : (o : Valued) (v : Text) (rows : List Row) → has_row (option_id o) rows ≡ false
     → Stands (Some (option_id o, v ∷ [])) rows (rows ++ (given (option_id o) v ∷ []))
 stands_option valued.Budget v rows e = record { settled = used_new (codes "budget") v rows e; settle = new_passes (has_row (codes "budget") rows) e }

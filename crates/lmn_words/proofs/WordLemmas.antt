@@ -22,22 +22,27 @@ use Rattle.lmn_base.proofs.Numbers.{unequal as not_same}
 use Rattle.lmn_base.proofs.Truth.{first_true as and_first, not_true as not_false, second_true as and_second}
 use Rattle.std.proofs.lemmas.Slice.Eq.{bytes_eq-Decides}
 
+-- words that pass the test are the same
 pub is_bytes : (w v : CommandWord) → bytes_eq w v ≡ true → w ≡ v
 is_bytes w v e = (bytes_eq-Decides w v).0 e
 
 -- ---- tests and options
 
+-- a truth value is true or false
 pub bool_cases : (b : Bool) → (b ≡ true) ⊎ (b ≡ false)
 bool_cases true = inl refl
 bool_cases false = inr refl
 
+-- from false being true anything follows
 pub false_true : {P : Type 0} → false ≡ true → P
 false_true e = absurd (cc)
 
+-- a choice that gives a value gives that of one side
 pub if_some : {A P : Type 0} (b : Bool) (x y : Option A) (r : A) → (if b then x else y) ≡ Some r → (b ≡ true → x ≡ Some r → P) → (b ≡ false → y ≡ Some r → P) → P
 if_some true x y r e then' else' = then' refl e
 if_some false x y r e then' else' = else' refl e
 
+-- a change that gives a value gives that of one
 pub map_some : {A B P : Type 0} (f : A → B) (o : Option A) (y : B) → option_map f o ≡ Some y → ((x : A) → o ≡ Some x → f x ≡ y → P) → P
 map_some f None y e k = absurd (none-some y e)
 map_some f (Some x) y e k = k x refl (same_Some (f x) y e)
@@ -141,6 +146,7 @@ number_from_told least most w n e = option_and_then_some (λ m. if nat_le least 
     subst P here (t.0, t.1, t.2, leb-true least m (and_first (nat_le least m) (nat_le m most) both), leb-true m most (and_second (nat_le least m) (nat_le m most) both)))
     (λ f g. absurd (none-some n g)))
 
+-- a number in range is read
 pub number_from_read : (least most : ℕ) (w : CommandWord) (n : ℕ) → IsNumber least most w n → number_from least most w ≡ Some n
 number_from_read least most w n h =
     then_some (λ m. if nat_le least m && nat_le m most then Some m else None) (number_written w) n (Some n)
@@ -156,12 +162,14 @@ option_word valued.Size = codes "--size"
 option_word valued.Order = codes "--order"
 option_word valued.Seed = codes "--seed"
 
+-- a word that is read as a flag is its word
 pub flag_told : (w : CommandWord) (f : Flag) → flag_named w ≡ Some f → w ≡ flag_word f
 flag_told w f e =
     if_some (bytes_eq w (codes "--trace")) _ _ f e (λ t s. is_bytes w _ t ∙ ap flag_word (same_Some flag.Trace f s)) (λ no e.
     if_some (bytes_eq w (codes "--folded")) _ _ f e (λ t s. is_bytes w _ t ∙ ap flag_word (same_Some flag.Folded f s)) (λ no e.
     absurd (none-some f e)))
 
+-- and one that is read as an option
 pub option_told : (w : CommandWord) (o : Valued) → option_named w ≡ Some o → w ≡ option_word o
 option_told w o e =
     if_some (bytes_eq w (codes "--budget")) _ _ o e (λ t s. is_bytes w _ t ∙ ap option_word (same_Some valued.Budget o s)) (λ f e.
@@ -177,6 +185,7 @@ order_told w o e =
     if_some (bytes_eq w (codes "seed")) _ _ o e (λ t s. is_bytes w _ t ∙ ap order_word (same_Some name.Seed o s)) (λ f e.
     absurd (none-some o e))))
 
+-- the word of an order is read as that order
 pub order_read : (o : OrderName) → order_named (order_word o) ≡ Some o
 order_read name.First = refl
 order_read name.Turn = refl
@@ -203,10 +212,12 @@ setting_read option value (set.Seed n) h = (valued.Seed, h.0, ap (option_map set
 
 -- ---- files
 
+-- a word that is read as a file is one
 pub file_told : (w : CommandWord) → is_file_name w ≡ true → IsFileName w
 file_told [] e = false_true e
 file_told (b ∷ w) e = λ is. false_true (sym (not_false (b == 45) e) ∙ eq-eqb b 45 is)
 
+-- and the other way round
 pub file_read_is : (w : CommandWord) → IsFileName w → is_file_name w ≡ true
 file_read_is [] h = absurd h
 file_read_is (b ∷ w) h = elim (bool_cases (b == 45)) [
