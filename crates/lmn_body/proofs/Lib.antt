@@ -41,3 +41,4 @@ pub mod FlatRules
 pub mod Numbered
 mod Worked
 mod ExampleCopy
+pub mod Meant

@@ -15,3 +15,4 @@ pub mod Worked
 pub mod Flattening
 pub mod Conditions
 pub mod Stopping
+pub mod Meant

@@ -6,6 +6,7 @@
 
 ghost use Rattle.lmn_body.specs.Laws.{BodyFires, BodyFiresWithin, BodyCanRun, FiringLeavesSolid, FiringLeavesAtoms, CopiesInSolid, PrepareStops, FlattenedArePlaced, FlattenedKeepLinks, FlattenedAreMade, FlattenedHeads, FlattenedAreLinked, FlattenedRules, ContextsOfHeads, LinksHaveNumbers};
 ghost use Rattle.lmn_body.specs.CopyExamples.{PartHasCopy};
+ghost use Rattle.lmn_body.specs.Meant.{BodyCodeIsMeant};
 ghost use Rattle.lmn_body.specs.Worked.{WorkedBodies};
 
 mod items;
@@ -70,4 +71,10 @@ pub fn worked_bodies()
 /// The part that `a` holds in `a(X), f(X,Y), b(Y)` has a copy, whose atoms are in depth-first order.
 pub fn part_has_copy()
     ensures { PartHasCopy }
+{}
+
+/// The code of the body of `a, a :- b` on `a. a.`: what each run of it leaves.
+#[tactic(auto, using(crate::proofs::Meant::body_code_is_meant))]
+pub fn body_code_is_meant()
+    ensures { BodyCodeIsMeant }
 {}

@@ -4,3 +4,4 @@ pub mod Labels
 pub mod Words
 pub mod Listings
 pub mod Worked
+pub mod Meant

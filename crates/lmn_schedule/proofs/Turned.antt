@@ -11,19 +11,19 @@ use Rattle.lmn_instr.specs.declared.instr.Code.{Code}
 use Rattle.lmn_congruence.specs.Regions.{Region, region_process}
 use Rattle.lmn_congruence.specs.Rules.{Name}
 use Rattle.lmn_reduction.specs.Commits.{Commit, Irreducible as NothingLeft}
-use Rattle.lmn_adequacy.specs.Choice.{NextFrom}
+use Rattle.lmn_adequacy.specs.Choice.{NextFrom, paths}
 use Rattle.lmn_adequacy.specs.Embedding.{HasEmbedding}
 use Rattle.lmn_adequacy.specs.Numbered.{IsNumbered}
 use Rattle.lmn_adequacy.specs.Runs.{Chooser, Turn as Chosen}
 use Rattle.lmn_turn.specs.Turning.{renumbered_reading}
-use Rattle.lmn_choice.specs.Laws.{NothingEmbeds, TurnsAgree, TurnsAreAlike, SparesAreNotRead, TurnsAreOfChooser}
+use Rattle.lmn_choice.specs.Laws.{MembranesAreNumberedAlike, NothingEmbeds, TurnsAgree, TurnsAreAlike, SparesAreNotRead, TurnsAreOfChooser}
 use Rattle.lmn_choice.specs.Turns.{HaveCodes, IsChosen, IsReadWith, heap_region, membranes_in_preorder, tree_over}
 use Rattle.lmn_strategy.specs.Choosing.{NoneIn, IsFirstIn, asked}
 use Rattle.lmn_strategy.specs.Turns.{IsTurn}
 use Rattle.lmn_strategy.specs.declared.turning.Turn.{Turn}
 use Rattle.lmn_strategy.specs.declared.turning.Turn.TheVariants.{Committed, Irreducible, Full, NoMemory}
 use Rattle.lmn_schedule.specs.Held.{HoldsRegion, reading_by}
-use Rattle.lmn_schedule.specs.Turning.{IsDone, IsTurned}
+use Rattle.lmn_schedule.specs.Turning.{IsDone, IsTurned, KeepsHeap}
 use Rattle.lmn_turn.proofs.Leavings.{root_tree}
 use Rattle.lmn_base.specs.Lists.{In}
 use Rattle.lmn_base.proofs.Lists.{plus_nothing}
@@ -34,6 +34,18 @@ some_membrane h v many law =
     let root = root_tree h v.tree.0 v.tree.1 in
     let counted : many ≡ length (flat (tree_over h root.0)) = law (tree_over h root.0) (subst (IsTree h) root.1 v.tree.1) in
     omega (arith, counted)
+
+-- what a turn leaves of the heap where nothing is committed
+pub kept_heap : (h h' : Heap) (codes : List Code) (f : Forest) (from size : ℕ) (answer : Turn) → IsTurn h codes f from size answer h' → KeepsHeap answer h h'
+kept_heap h h' codes f from size Committed t = tt
+kept_heap h h' codes f from size Irreducible t = t.1
+kept_heap h h' codes f from size Full t = t.answered.1
+kept_heap h h' codes f from size NoMemory t = t.answered.1
+
+-- a solid that a heap holds has as many paths as the heap has membranes
+pub as_many_paths : MembranesAreNumberedAlike → (names : List Name) (table : List RuleTree) (h : Heap) (S : Region) (o : HoldsRegion names table h S) → length (paths S) ≡ length (membranes_in_preorder h o.inner)
+as_many_paths law names table h S o =
+    subst (λ X. length (paths X) ≡ length (membranes_in_preorder h o.inner)) (sym o.is) (law h (reading_by names table o.number) o.inner o.tree).many
 
 module _ (names : List Name) (table : List RuleTree) (c : Chooser) (n size : ℕ) (plans : List GuardPlan) (codes : List Code) where
   read_with : (h : Heap) (S : Region) (o : HoldsRegion names table h S) → IsReadWith h (reading_by names table o.number) o.inner table

@@ -1,14 +1,16 @@
 -- What a turn of the engine is in the calculus.
-use Rattle.std.specs.Prelude.{ℕ, ◌≡◌, ◌<◌, ◌≤◌, ◌^◌, List}
+use Rattle.std.specs.Prelude.{ℕ, ◌≡◌, ◌<◌, ◌≤◌, ◌^◌, List, length}
 use Rattle.lmn_base.specs.declared.rule.RuleTree.{RuleTree}
 use Rattle.lmn_heap.specs.Heap.{Heap}
 use Rattle.lmn_congruence.specs.Regions.{Region, region_process, item_count_of_region}
 use Rattle.lmn_congruence.specs.Rules.{Name}
 use Rattle.lmn_reduction.specs.Commits.{Commit, Irreducible as NothingLeft}
+use Rattle.lmn_adequacy.specs.Choice.{paths}
 use Rattle.lmn_adequacy.specs.Embedding.{HasEmbedding}
 use Rattle.lmn_adequacy.specs.Runs.{Chooser, Turn as Chooses}
 use Rattle.lmn_strategy.specs.declared.turning.Turn.{Turn}
 use Rattle.lmn_strategy.specs.declared.turning.Turn.TheVariants.{Committed, Irreducible, Full, NoMemory}
+use Rattle.lmn_body.specs.Stopping.{SameButSpares}
 use Rattle.lmn_schedule.specs.Held.{HoldsRegion}
 
 -- the function gives what a closure answers, for numbers of 64 bits
@@ -31,6 +33,19 @@ IsTurned names table c size n S Committed h = (S' : Region) × ComesNext c n S S
 IsTurned names table c size n S Irreducible h = IsDone S × HoldsRegion names table h S
 IsTurned names table c size n S Full h = ((S' : Region) × Chooses c n S S' × (size < item_count_of_region S')) × HoldsRegion names table h S
 IsTurned names table c size n S NoMemory h = ((S' : Region) × Chooses c n S S' × (item_count_of_region S' ≤ size)) × HoldsRegion names table h S
+
+-- What a turn answers where a closure says which membrane is asked first, whatever its answer is: some number that it may answer for the
+-- commits done and the number of membranes, and by this number the turn.
+abbrev pub IsTurnedByAnswer : (ℕ → ℕ → ℕ → Type 0) → List Name → List RuleTree → ℕ → ℕ → Region → Turn → Heap → Type 0
+IsTurnedByAnswer Answers names table size n S answer h =
+    (from : ℕ) × Answers n (length (paths S)) from × IsTurned names table (λ commits membranes. from) size n S answer h
+
+-- What an answer leaves of the heap where nothing is committed: all of it, marks too, but at `NoMemory` for room for more rules.
+abbrev pub KeepsHeap : Turn → Heap → Heap → Type 0
+KeepsHeap Committed h h' = Unit {0}
+KeepsHeap Irreducible h h' = h' ≡ h
+KeepsHeap Full h h' = h' ≡ h
+KeepsHeap NoMemory h h' = SameButSpares h h'
 
 -- how many commits an answer counts
 abbrev pub counted : Turn → ℕ

@@ -8,7 +8,7 @@ ghost use Rattle.lmn_congruence.specs.SolidsOfPlains.{IsSolidOf};
 ghost use Rattle.lmn_heap.specs.Sound.{Forest, IsTree, AllInPlace, flat, item_count_in};
 ghost use Rattle.lmn_loading.specs.Loaded.{IsEmpty, IsLoaded, LoadCauses};
 ghost use Rattle.lmn_schedule.specs.Held.{AreNames, CanBeLoaded, EngineCanTurn, HoldsRegion, HoldsSolid};
-ghost use Rattle.lmn_schedule.specs.Turning.{Gives, IsDone, IsTurned, counted};
+ghost use Rattle.lmn_schedule.specs.Turning.{Gives, IsDone, IsTurned, IsTurnedByAnswer, KeepsHeap, counted};
 ghost use Rattle.lmn_adequacy.specs.Embedding.{HasEmbedding};
 ghost use Rattle.lmn_adequacy.specs.Runs.{Chooser as Choosing};
 ghost use Rattle.lmn_order.specs.Answers.{AnswersBelow};
@@ -17,7 +17,10 @@ ghost use Rattle.lmn_schedule.specs.Lending.{engine_lends_store};
 
 use lmn_base::{NoMemory, Plain, Rows};
 use lmn_bridge::solids_are_regions;
-use lmn_choice::{nothing_embeds, spares_are_not_read, turns_are_alike, turns_are_of_chooser};
+use lmn_choice::{
+    membranes_are_numbered_alike, nothing_embeds, spares_are_not_read, turns_are_alike,
+    turns_are_of_chooser,
+};
 use lmn_guards::GuardPlan;
 use lmn_instr::Code;
 use lmn_loading::{LoadFault, load, loading_settles};
@@ -113,9 +116,13 @@ impl<'p, S: LinkStore, F: Fn(u64, u64) -> u64> Engine<'p, S, F> {
         requires commits { self.old.commits < 2 ^ 63 }
         ensures turned { (c : Choosing) → Gives F.post self.old.chooser.f c → (names : List Name) (solid : Region) → HoldsRegion names self.old.plain.now.rules (S.heap self.old.machine.store) solid →
             IsTurned names self.old.plain.now.rules c self.old.size self.old.commits solid result (S.heap self.new.machine.store) }
+        ensures chosen { (names : List Name) (solid : Region) → HoldsRegion names self.old.plain.now.rules (S.heap self.old.machine.store) solid →
+            IsTurnedByAnswer (F.post self.old.chooser.f) names self.old.plain.now.rules self.old.size self.old.commits solid result (S.heap self.new.machine.store) }
+        ensures kept { KeepsHeap result (S.heap self.old.machine.store) (S.heap self.new.machine.store) }
         ensures again { EngineCanTurn (S.heap self.new.machine.store) self.old.plain.now.rules self.old.codes self.old.size }
         ensures keeps { self.new ≡ record self.old { machine = self.new.machine; commits = self.old.commits + counted result } }
     {
+        membranes_are_numbered_alike();
         turns_are_alike();
         turns_are_of_chooser();
         spares_are_not_read();

@@ -1,8 +1,8 @@
-use Rattle.std.proofs.Common.{◌≡◌, length, subst, arith}
+use Rattle.std.proofs.Common.{◌≡◌, length, refl, sym, subst, arith, ◌∙◌}
 use Rattle.lmn_choice.specs.Turns.{HaveCodes, tree_over}
 use Rattle.lmn_heap.specs.Sound.{Forest, IsTree, flat}
 use Rattle.lmn_strategy.specs.Turns.{IsTurn}
-use Rattle.lmn_schedule.proofs.Turned.{some_membrane, turned}
+use Rattle.lmn_schedule.proofs.Turned.{as_many_paths, kept_heap, some_membrane, turned}
 use Rattle.lmn_schedule.proofs.engine.Engine.turn.Goals as goal
 
 pub pick-from-requires-clause-some : goal.pick-from-requires-clause-some
@@ -37,3 +37,47 @@ returns-else-eq-clause-turned g c k gives names solid o =
     (subst (λ n. c.pick-from.result ≡ k c.args.self.now.commits n) (counts f o.tree) first)
     c.take_turn-answer.result (g.S.LinkStore.heap c.take_turn-answer.new.machine.store) c.take_turn-answer.ensures.again.valid
     (subst (λ xs. IsTurn h xs f c.pick-from.result c.args.self.now.size c.take_turn-answer.result (g.S.LinkStore.heap c.take_turn-answer.new.machine.store)) c.as_slice.ensures (c.take_turn-answer.ensures.turned f o.tree))
+
+pub returns-then-eq-clause-chosen : goal.returns-then-eq-clause-chosen
+returns-then-eq-clause-chosen g c names solid o =
+    let h = g.S.LinkStore.heap c.args.self.now.machine.store in
+    let f = tree_over h o.inner in
+    let counts = subst (λ s. (f : Forest) → IsTree (g.S.LinkStore.heap s) f → c.membranes-many.result ≡ length (flat f)) c.store.ensures c.membranes-many.ensures in
+    let from = c.pick-from.result in
+    let have : HaveCodes c.args.self.now.plain.now.rules c.requires.run.plans c.args.self.now.codes = record { whole = c.requires.run.whole; compiled = c.requires.run.compiled } in (
+      from,
+      subst (λ n. g.F.Fn.post c.args.self.now.chooser.f (c.args.self.now.commits, (n, tt)) from) (counts f o.tree ∙ sym (as_many_paths c.membranes_are_numbered_alike.ensures names c.args.self.now.plain.now.rules h solid o)) c.pick-from.ensures.answer,
+      turned names c.args.self.now.plain.now.rules (λ commits membranes. from) c.args.self.now.commits c.args.self.now.size c.requires.run.plans c.args.self.now.codes
+          c.turns_are_alike.ensures c.turns_are_of_chooser.ensures c.spares_are_not_read.ensures have h solid o from refl
+          c.take_turn-answer.result (g.S.LinkStore.heap c.take_turn-answer.new.machine.store) c.take_turn-answer.ensures.again.valid
+          (subst (λ xs. IsTurn h xs f from c.args.self.now.size c.take_turn-answer.result (g.S.LinkStore.heap c.take_turn-answer.new.machine.store)) c.as_slice.ensures (c.take_turn-answer.ensures.turned f o.tree)),
+    )
+
+pub returns-else-eq-clause-chosen : goal.returns-else-eq-clause-chosen
+returns-else-eq-clause-chosen g c names solid o =
+    let h = g.S.LinkStore.heap c.args.self.now.machine.store in
+    let f = tree_over h o.inner in
+    let counts = subst (λ s. (f : Forest) → IsTree (g.S.LinkStore.heap s) f → c.membranes-many.result ≡ length (flat f)) c.store.ensures c.membranes-many.ensures in
+    let from = c.pick-from.result in
+    let have : HaveCodes c.args.self.now.plain.now.rules c.requires.run.plans c.args.self.now.codes = record { whole = c.requires.run.whole; compiled = c.requires.run.compiled } in (
+      from,
+      subst (λ n. g.F.Fn.post c.args.self.now.chooser.f (c.args.self.now.commits, (n, tt)) from) (counts f o.tree ∙ sym (as_many_paths c.membranes_are_numbered_alike.ensures names c.args.self.now.plain.now.rules h solid o)) c.pick-from.ensures.answer,
+      turned names c.args.self.now.plain.now.rules (λ commits membranes. from) c.args.self.now.commits c.args.self.now.size c.requires.run.plans c.args.self.now.codes
+          c.turns_are_alike.ensures c.turns_are_of_chooser.ensures c.spares_are_not_read.ensures have h solid o from refl
+          c.take_turn-answer.result (g.S.LinkStore.heap c.take_turn-answer.new.machine.store) c.take_turn-answer.ensures.again.valid
+          (subst (λ xs. IsTurn h xs f from c.args.self.now.size c.take_turn-answer.result (g.S.LinkStore.heap c.take_turn-answer.new.machine.store)) c.as_slice.ensures (c.take_turn-answer.ensures.turned f o.tree)),
+    )
+
+pub returns-then-eq-clause-kept : goal.returns-then-eq-clause-kept
+returns-then-eq-clause-kept g c =
+    let h = g.S.LinkStore.heap c.args.self.now.machine.store in
+    let tree = c.requires.run.turn.valid.tree in
+    kept_heap h (g.S.LinkStore.heap c.take_turn-answer.new.machine.store) c.args.self.now.codes tree.0 c.pick-from.result c.args.self.now.size c.take_turn-answer.result
+    (subst (λ xs. IsTurn h xs tree.0 c.pick-from.result c.args.self.now.size c.take_turn-answer.result (g.S.LinkStore.heap c.take_turn-answer.new.machine.store)) c.as_slice.ensures (c.take_turn-answer.ensures.turned tree.0 tree.1))
+
+pub returns-else-eq-clause-kept : goal.returns-else-eq-clause-kept
+returns-else-eq-clause-kept g c =
+    let h = g.S.LinkStore.heap c.args.self.now.machine.store in
+    let tree = c.requires.run.turn.valid.tree in
+    kept_heap h (g.S.LinkStore.heap c.take_turn-answer.new.machine.store) c.args.self.now.codes tree.0 c.pick-from.result c.args.self.now.size c.take_turn-answer.result
+    (subst (λ xs. IsTurn h xs tree.0 c.pick-from.result c.args.self.now.size c.take_turn-answer.result (g.S.LinkStore.heap c.take_turn-answer.new.machine.store)) c.as_slice.ensures (c.take_turn-answer.ensures.turned tree.0 tree.1))
