@@ -1,5 +1,6 @@
 pub mod Once
 pub mod Printing
+pub mod Reordering
 pub mod WholeForms
 pub mod Naming
 pub mod SameTexts

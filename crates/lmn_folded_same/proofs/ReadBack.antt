@@ -7,7 +7,8 @@ use Rattle.lmn_congruence.specs.Plains.{level_process, SolidOf}
 use Rattle.lmn_congruence.specs.Process.{Process, Closed}
 use Rattle.lmn_congruence.specs.Regions.{Region, region_process}
 use Rattle.lmn_congruence.specs.Rules as tree
-use Rattle.lmn_congruence.specs.Same.{Same}
+use Rattle.lmn_folded_same.specs.Reordered.{SameUpToAtomOrder}
+use Rattle.lmn_folded_same.proofs.Reordering.{as_same, is_same}
 use Rattle.lmn_congruence.specs.Translation.{region_of, top_of}
 use Rattle.lmn_congruence.proofs.Solids.{congruent_exactly_same}
 use Rattle.lmn_congruence.proofs.TranslatedLinks.{solids_closed}
@@ -43,7 +44,7 @@ use Rattle.lmn_plain.proofs.TextPlains.{all_ranges}
 
 -- The line of a region reads as a tree; the top of each plain of this tree is the level of a region that is the same.
 abbrev TopIs : List tree.Name → Region → Plain → Type 0
-TopIs names S p = (T : Region) × Same S T × Closed (region_process T) × (top_of names p ≡ as_level T)
+TopIs names S p = (T : Region) × SameUpToAtomOrder S T × Closed (region_process T) × (top_of names p ≡ as_level T)
 
 lines_are_read : (names : List tree.Name) (S : Region) (line : List ℕ) → IsNames names → LevelHeld names (as_level S) → LevelSpelled (as_level S)
     → RulesNumbered (as_level S) → Closed (region_process S) → IsFoldedLine S line
@@ -59,7 +60,7 @@ lines_are_read names S line is held spelled numbered closed h =
       λ p plain.
           let it = read.4 names p plain in
           let same = it.1 in
-          let there = kept (AtomFine names) (RuleFine names) same.to (still_fine names same.to) same.same fine in
+          let there = kept (AtomFine names) (RuleFine names) same.to (still_fine names same.to) (as_same same.to same.same) fine in
           (it.0, same, it.2, top_back (words_of line tokens) (map (λ (t : Token). t.pos) tokens) names is read.1 p plain it.0 it.3 there),
     )
 
@@ -113,6 +114,6 @@ folded_lines_read_back alloc names S line is held spelled numbered closed h =
         in_range = line_ranges h.numbered line h.is (numbered_form_spelled S line h closed spelled) read.0 read.2;
         plain = p.1;
       };
-      process = subst P (sym (ap level_process it.3 ∙ same_process it.0)) (back (same_solids.1 it.1));
+      process = subst P (sym (ap level_process it.3 ∙ same_process it.0)) (back (same_solids.1 (is_same it.1)));
       closed = closed;
     }

@@ -19,6 +19,8 @@ use Rattle.lmn_plain.specs.Plains.{EachPair}
 use Rattle.lmn_folded.specs.Terms.{Folded, FoldedMembranes, renamed_folded, renamed_membranes}
 use Rattle.lmn_folded.proofs.Places.{count}
 use Rattle.lmn_folded_read.specs.Apart.{FoldedApart, MembranesApart}
+use Rattle.lmn_folded_same.specs.Reordered.{AtomsReordered, atoms_reordered, EachReordered, none_reordered, more_reordered}
+use Rattle.lmn_folded_same.proofs.Reordering.{as_same}
 use Rattle.lmn_folded_same.specs.Whole.{FoldedWhole, folded_whole, MembranesWhole, no_membranes, membranes_whole}
 use Rattle.lmn_folded_same.proofs.WholeForms.{folded_forms_are_whole}
 use Rattle.lmn_folded_same.specs.Named.{AtomNamed, RegionNamed, RegionsNamed}
@@ -68,8 +70,8 @@ mutual
       let others = same_counts f y rs in
       let put = put_region_count y p in omega (arith, one, others, put)
 
-counted : {S T : Region} (y : ℕ) → SameRegion (λ x. x) S T → occurrences y (region_process S) ≡ occurrences y (region_process T)
-counted {S} y h = sym (ap (occurrences y) (renamed_id (region_process S))) ∙ same_count (λ x. x) y h
+counted : {S T : Region} (y : ℕ) → AtomsReordered (λ x. x) S T → occurrences y (region_process S) ≡ occurrences y (region_process T)
+counted {S} y h = sym (ap (occurrences y) (renamed_id (region_process S))) ∙ same_count (λ x. x) y (as_same (λ x. x) h)
 
 -- The same with other numbers.
 
@@ -85,17 +87,13 @@ module _ (f : ℕ → ℕ) where
   atoms_renamed none = none
   atoms_renamed (more e s p) = more (atom_renamed _ _ e) (atoms_renamed s) (put_renamed p)
 
-  put_region_renamed : {m : Region} {ms ns : Regions} → PutRegion m ms ns → PutRegion (renamed_region f m) (renamed_regions f ms) (renamed_regions f ns)
-  put_region_renamed first = first
-  put_region_renamed (later p) = later (put_region_renamed p)
-
   mutual
-    also_renamed : {S T : Region} → SameRegion (λ x. x) S T → SameRegion f S (renamed_region f T)
-    also_renamed (same_region a m r) = same_region (atoms_renamed a) (all_renamed m) r
+    also_renamed : {S T : Region} → AtomsReordered (λ x. x) S T → AtomsReordered f S (renamed_region f T)
+    also_renamed (atoms_reordered a m) = atoms_reordered (atoms_renamed a) (all_renamed m)
 
-    all_renamed : {ms ns : Regions} → SameRegions (λ x. x) ms ns → SameRegions f ms (renamed_regions f ns)
-    all_renamed none_left = none_left
-    all_renamed (one_more r rs p) = one_more (also_renamed r) (all_renamed rs) (put_region_renamed p)
+    all_renamed : {ms ns : Regions} → EachReordered (λ x. x) ms ns → EachReordered f ms (renamed_regions f ns)
+    all_renamed none_reordered = none_reordered
+    all_renamed (more_reordered r rs) = more_reordered (also_renamed r) (all_renamed rs)
 
 -- A link that occurs in the region has its name among those of the level.
 
@@ -232,7 +230,7 @@ folded_texts_are_same words places_of table number S given numbered l own closed
     let P : Folded → Type 0 = λ f. FoldedApart words places_of table f l own in (
       renamed_region new T,
       record { to = new; one_to_one = one; same = same },
-      still_closed new (region_process S) (region_process (renamed_region new T)) closed one (λ y. same_count new y same),
+      still_closed new (region_process S) (region_process (renamed_region new T)) closed one (λ y. same_count new y (as_same new same)),
       region_numbered words places_of table number name n.to l own whole.1 (subst P n.is a) names.2,
     )
   where

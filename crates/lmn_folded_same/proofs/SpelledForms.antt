@@ -15,6 +15,7 @@ use Rattle.lmn_folded.specs.Lines.{IsNumberedForm, IsFoldedLine}
 use Rattle.lmn_folded.proofs.Numbering.{renamed_links}
 use Rattle.lmn_folded_read.specs.Spelled.{TermSpelled, TermsSpelled, ItemSpelled, FoldedSpelled, MembranesSpelled}
 use Rattle.lmn_folded_same.specs.Whole.{TermWhole, link_whole, atom_whole, TermsWhole, none_whole, more_whole, ItemsWhole, no_items, items_whole, FoldedWhole, folded_whole, MembranesWhole, no_membranes, membranes_whole}
+use Rattle.lmn_folded_same.proofs.Reordering.{as_same}
 use Rattle.lmn_folded_same.proofs.WholeForms.{folded_forms_are_whole}
 use Rattle.lmn_folded_same.proofs.Kept.{Everywhere, EverywhereIn, kept}
 use Rattle.lmn_folded_same.proofs.SameLines.{Small, folded_small}
@@ -191,6 +192,6 @@ numbers_small given numbered n small x i = omega (arith, below x i, few)
 pub numbered_form_spelled : (S : Region) (line : List ℕ) (h : IsFoldedLine S line) → Closed (region_process S) → LevelSpelled (as_level S) → FoldedSpelled h.numbered
 numbered_form_spelled S line h closed spelled =
     let whole = folded_forms_are_whole S h.given closed h.folds in
-    let given = form_spelled whole.1 (kept AtomSpelled RuleSpelled (λ x. x) in_order whole.2 (region_spelled S spelled)) in
+    let given = form_spelled whole.1 (kept AtomSpelled RuleSpelled (λ x. x) in_order (as_same (λ x. x) whole.2) (region_spelled S spelled)) in
     let n = h.numbers in
     subst FoldedSpelled (sym n.is) (form_renamed n.to h.given given (numbers_small h.given h.numbered n (folded_small h.given given)))

@@ -5,7 +5,7 @@ use Rattle.lmn_congruence.specs.Orders.{Among, Shuffle, none, more, here}
 use Rattle.lmn_congruence.specs.Process.{together}
 use Rattle.lmn_congruence.specs.Regions.{SolidAtom, Region, region, Regions, no_region, region_and, region_process, regions_processes, solid_atom_with}
 use Rattle.lmn_congruence.specs.Rules.{Rule}
-use Rattle.lmn_congruence.specs.Same.{renamed_atom, SameRegion, same_region, SameRegions, none_left, one_more, first}
+use Rattle.lmn_congruence.specs.Same.{renamed_atom}
 use Rattle.lmn_folded.specs.Terms.{FoldedTerm, FoldedTerms, FoldedItem, Folded, FoldedMembranes}
 use Rattle.lmn_folded.specs.Folding as folding
 use Rattle.lmn_folded.specs.Folding.{IsChild, AreItems, atom_positions, Shows, as_link, as_term, ShowsAll, ShowsItems, Folds, folds, FoldsAll}
@@ -14,6 +14,7 @@ use Rattle.lmn_folded.proofs.OneFolded.{FewIn}
 use Rattle.lmn_folded.proofs.FoldedLines.{few_in}
 use Rattle.lmn_folded.proofs.SomeFolded.{items_below}
 use Rattle.lmn_folded.proofs.Choosing.{positions_all}
+use Rattle.lmn_folded_same.specs.Reordered.{AtomsReordered, atoms_reordered, EachReordered, none_reordered, more_reordered}
 use Rattle.lmn_folded_same.specs.Whole.{TermWhole, link_whole, atom_whole, TermsWhole, none_whole, more_whole, ItemsWhole, no_items, items_whole, FoldedWhole, folded_whole, MembranesWhole, no_membranes, membranes_whole, FoldedFormsAreWhole}
 use Rattle.lmn_folded_same.proofs.Once.{AtomsAt, atoms_append, positions_at, same_atoms, same_elements, range_once}
 use Rattle.lmn_folded_same.proofs.Printing.{shown_order, all_order, items_order, once_items, all_printed, printed_below, items_once, each_from_item}
@@ -103,27 +104,23 @@ one_membrane atoms items few are s =
     λ v a. let l = printed_below atoms few items s (λ w b. b) (items_below atoms few items are) v a in positions_all atoms items few 0 (length atoms) v (omega arith) (omega (arith, l)) in
     (it.found, it.whole, same_atoms atoms atoms it.found (same_elements (atom_positions atoms) order (range_once 0 (length atoms)) once into back) (positions_at atoms) it.at_order)
 
-same_rules : (rs : List Rule) → Shuffle (λ r s. r ≡ s) rs rs
-same_rules [] = none
-same_rules (r ∷ rs) = more refl (same_rules rs) here
-
 mutual
-  whole_region : {S : Region} {f : Folded} → FewIn (region_process S) → Folds S f → (T : Region) × FoldedWhole f T × SameRegion (λ x. x) S T
+  whole_region : {S : Region} {f : Folded} → FewIn (region_process S) → Folds S f → (T : Region) × FoldedWhole f T × AtomsReordered (λ x. x) S T
   whole_region few (folds {atoms = atoms} {membranes = ms} {rules = rs} items are s inside) =
       let few_here : AtMostTwice atoms = λ x. let n = few x in omega (arith, n) in
       let few_inside : FewIn (together (regions_processes ms)) = λ x. let n = few x in omega (arith, n) in
       let it = one_membrane atoms items few_here are s in
       let below = whole_regions few_inside inside in
-      (region it.0 below.0 rs, folded_whole it.1 below.1, same_region it.2 below.2 (same_rules rs))
+      (region it.0 below.0 rs, folded_whole it.1 below.1, atoms_reordered it.2 below.2)
 
-  whole_regions : {ms : Regions} {fs : FoldedMembranes} → FewIn (together (regions_processes ms)) → FoldsAll ms fs → (ns : Regions) × MembranesWhole fs ns × SameRegions (λ x. x) ms ns
-  whole_regions few folding.none = (no_region, no_membranes, none_left)
+  whole_regions : {ms : Regions} {fs : FoldedMembranes} → FewIn (together (regions_processes ms)) → FoldsAll ms fs → (ns : Regions) × MembranesWhole fs ns × EachReordered (λ x. x) ms ns
+  whole_regions few folding.none = (no_region, no_membranes, none_reordered)
   whole_regions few (folding.more {r = r} {rs = rs} h hs) =
       let first_few : FewIn (region_process r) = λ x. let n = few x in omega (arith, n) in
       let others_few : FewIn (together (regions_processes rs)) = λ x. let n = few x in omega (arith, n) in
       let one = whole_region first_few h in
       let others = whole_regions others_few hs in
-      (region_and one.0 others.0, membranes_whole one.1 others.1, one_more one.2 others.2 first)
+      (region_and one.0 others.0, membranes_whole one.1 others.1, more_reordered one.2 others.2)
 
 -- the folded form of a region, taken apart, is that region up to the order of atoms
 pub folded_forms_are_whole : FoldedFormsAreWhole

@@ -1,3 +1,4 @@
+pub mod Reordered
 pub mod Whole
 pub mod Named
 pub mod Numbered

@@ -4,7 +4,7 @@ use Rattle.lmn_base.specs.declared.rule.Plain.{Plain}
 use Rattle.lmn_congruence.specs.Process.{Closed}
 use Rattle.lmn_congruence.specs.Regions.{Region, region_process}
 use Rattle.lmn_congruence.specs.Rules.{Name}
-use Rattle.lmn_congruence.specs.Same.{Same}
+use Rattle.lmn_folded_same.specs.Reordered.{SameUpToAtomOrder}
 use Rattle.lmn_lexer.specs.declared.token.Token.{Token}
 use Rattle.lmn_lexer.specs.Faults.{NothingWrong}
 use Rattle.lmn_lexer.specs.Laying.{words_of}
@@ -24,7 +24,7 @@ abbrev pub FoldedLinesAreSame : Type 0
 FoldedLinesAreSame = (S : Region) (line : List ℕ) (h : IsFoldedLine S line) → Closed (region_process S) → FoldedSpelled h.numbered
     → (tokens : List Token) × (tree : Clauses) × Reads line tokens tree × NothingWrong line
     × ((names : List Name) (p : Plain) (plain : IsPlain line tokens tree names p)
-    → (T : Region) × Same S T × Closed (region_process T)
+    → (T : Region) × SameUpToAtomOrder S T × Closed (region_process T)
     × (let words = words_of line tokens in
     let places = map (λ t. t.pos) tokens in
     let parts = parts_of words places tree in RegionNumbered words places parts.table plain.number T (level_from_parts parts)))

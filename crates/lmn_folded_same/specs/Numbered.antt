@@ -4,7 +4,7 @@ use Rattle.lmn_base.specs.declared.refusal.Pos.{Pos}
 use Rattle.lmn_congruence.specs.Orders.{Among, EachOnce}
 use Rattle.lmn_congruence.specs.Process.{Closed}
 use Rattle.lmn_congruence.specs.Regions.{SolidAtom, Region, region, Regions, no_region, region_and, region_process}
-use Rattle.lmn_congruence.specs.Same.{Same}
+use Rattle.lmn_folded_same.specs.Reordered.{SameUpToAtomOrder}
 use Rattle.lmn_lexer.specs.Laying.{Word}
 use Rattle.lmn_plain.specs.Agreement.{RulesAre}
 use Rattle.lmn_plain.specs.Links.{Link, made}
@@ -42,4 +42,4 @@ FoldedTextsAreSame = (words : List Word) (places : List Pos) (table : List Expan
     → Closed (region_process S) → Folds S given → IsNumberedForm given numbered → ((x : ℕ) → Among x (folded_links numbered) → IsLinkNumber x)
     → FoldedApart words places table numbered l own → EachOnce own → ((a : Link) → Among a own → (way : List ℕ) × (a ≡ made way))
     → OneToOne number (expanded_links l)
-    → (T : Region) × Same S T × Closed (region_process T) × RegionNumbered words places table number T l
+    → (T : Region) × SameUpToAtomOrder S T × Closed (region_process T) × RegionNumbered words places table number T l

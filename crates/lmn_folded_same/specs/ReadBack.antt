@@ -11,7 +11,7 @@ use Rattle.lmn_congruence.specs.Plains.{SolidOf}
 use Rattle.lmn_congruence.specs.Process.{Process, Closed}
 use Rattle.lmn_congruence.specs.Regions.{Region, region_process}
 use Rattle.lmn_congruence.specs.Rules.{Name}
-use Rattle.lmn_congruence.specs.Same.{Same}
+use Rattle.lmn_folded_same.specs.Reordered.{SameUpToAtomOrder}
 use Rattle.lmn_congruence.specs.Translation.{plain_process, region_of, top_of}
 use Rattle.lmn_lexer.specs.declared.token.Token.{Token}
 use Rattle.lmn_lexer.specs.Faults.{NothingWrong}
@@ -27,13 +27,13 @@ use Rattle.lmn_folded.specs.Lines.{IsFoldedLine}
 
 -- A well made plain gives the rules of a solid by their numbers. The list has the names of the solid and of these rules. The
 -- folded line of the solid, where a text can spell it, is one in which nothing is wrong; it reads as a tree, and each plain of that
--- tree has a solid that is this one up to the order of lists and the numbers of links, rules being compared as trees.
+-- tree has a solid that is this one up to the order of atoms and the numbers of links, rules being compared as trees.
 abbrev pub FoldedSolidLinesAreRead : Type 0
 FoldedSolidLinesAreRead = (names : List Name) (given : Plain) (s : Solid) (line : List ℕ) → let table = given.rules in
     IsWellMade given → IsSolid s → HasEachRule table s → NamesSolid names table s → LevelSpelled (level_of_solid names table s)
     → IsFoldedLine (region_of names table s) line
     → (tokens : List Token) × (tree : Clauses) × Reads line tokens tree × NothingWrong line
-    × ((p : Plain) → IsPlain line tokens tree names p → (T : Region) × SolidOf (top_of names p) T × Same (region_of names table s) T)
+    × ((p : Plain) → IsPlain line tokens tree names p → (T : Region) × SolidOf (top_of names p) T × SameUpToAtomOrder (region_of names table s) T)
 
 -- P is the process of a solid, it is closed, and this is the folded line of that solid. The line reads, where no limit is asked, as a
 -- text with this plain, by a list of names, whose process is P up to congruence: in the line the atoms of a membrane may stand in

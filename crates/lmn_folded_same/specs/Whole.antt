@@ -3,7 +3,7 @@ use Rattle.std.specs.Prelude.{ℕ, List, [], ◌∷◌, ◌++◌}
 use Rattle.lmn_congruence.specs.Process.{Closed}
 use Rattle.lmn_congruence.specs.Regions.{SolidAtom, Region, region, Regions, no_region, region_and, region_process, solid_atom_with}
 use Rattle.lmn_congruence.specs.Rules.{Label, Rule}
-use Rattle.lmn_congruence.specs.Same.{SameRegion}
+use Rattle.lmn_folded_same.specs.Reordered.{AtomsReordered}
 use Rattle.lmn_folded.specs.Terms.{FoldedTerm, link, labelled, FoldedTerms, no_term, term_and, FoldedItem, Folded, folded, FoldedMembranes, no_membrane, membrane_and}
 use Rattle.lmn_folded.specs.Folding.{Folds}
 
@@ -38,4 +38,4 @@ mutual
 
 -- The folded form of a region in which each link stands in two places, taken apart, is this region up to the order of atoms.
 abbrev pub FoldedFormsAreWhole : Type 0
-FoldedFormsAreWhole = (S : Region) (f : Folded) → Closed (region_process S) → Folds S f → (T : Region) × FoldedWhole f T × SameRegion (λ x. x) S T
+FoldedFormsAreWhole = (S : Region) (f : Folded) → Closed (region_process S) → Folds S f → (T : Region) × FoldedWhole f T × AtomsReordered (λ x. x) S T

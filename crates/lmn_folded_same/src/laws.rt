@@ -28,7 +28,7 @@ pub fn folded_lines_are_same()
     ensures { FoldedLinesAreSame }
 {}
 
-/// The folded line of a solid reads as a tree, and each plain of this tree has this solid, up to the order of lists and the numbers
+/// The folded line of a solid reads as a tree, and each plain of this tree has this solid, up to the order of atoms and the numbers
 /// of links.
 pub fn folded_solid_lines_are_read()
     ensures { FoldedSolidLinesAreRead }

@@ -2,4 +2,6 @@ pub mod GuardLemmas
 pub mod PlanLemmas
 pub mod OrderLemmas
 pub mod AcceptedLemmas
+pub mod OrderedLemmas
+pub mod StandingLemmas
 pub mod WorkedGuards

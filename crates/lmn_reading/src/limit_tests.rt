@@ -7,7 +7,7 @@ use std::alloc::Global;
 /// Pieces of a text, each so many times, and whether the rule that they make isn't too large.
 type Row = (&'static [(&'static [u8], usize)], bool);
 
-const RULES: [Row; 37] = [
+const RULES: [Row; 38] = [
     // 128 items in the head: atoms, membranes, contexts of each kind, at every depth.
     (&[(b"a, ", 127), (b"a :- .", 1)], true),
     (&[(b"a, ", 128), (b"a :- .", 1)], false),
@@ -134,7 +134,8 @@ const RULES: [Row; 37] = [
         &[(b"a($x) :- 0 < $x", 1), (b"+($x)", 255), (b" | .", 1)],
         false,
     ),
-    // The first of all codes that are asked of a rule.
+    // The first of all codes that are asked of a rule; an empty head is one of them.
+    (&[(b":- ", 1), (b"b, ", 1024), (b"b.", 1)], false),
     (
         &[
             (b"a, ", 120),

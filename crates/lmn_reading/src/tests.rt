@@ -33,7 +33,7 @@ const WORKED: [Row; 18] = [
 ];
 
 /// Texts that only just are refused, or at a place that isn't the only one.
-const EDGES: [Row; 54] = [
+const EDGES: [Row; 58] = [
     // Of the links of a process, those that occur once and those that occur too often.
     (b"a(X).", 20, 1, 3),
     (b"a(X), b(X), c(X).", 21, 1, 15),
@@ -41,6 +41,7 @@ const EDGES: [Row; 54] = [
     (b"a(X,X), {b(Y)}.", 20, 1, 12),
     (b"a(X,X) :- b(Y).", 22, 1, 13),
     (b"a(X) :- b(X), c(X).", 23, 1, 17),
+    (b"a(X,X) :- b(X,X).", 23, 1, 13),
     // A membrane before those in it, and in a membrane the pair whose second is first.
     (b"{{$a, $b}, $p, $q} :- .", 31, 1, 16),
     (b"{{$a, $b}, $p} :- .", 31, 1, 7),
@@ -67,6 +68,9 @@ const EDGES: [Row; 54] = [
     (b"a :- $z = 1, $z = 2 | b($z).", 42, 1, 17),
     (b"a :- $z = 1 | b($w).", 34, 1, 17),
     (b"{@r} :- @s.", 34, 1, 9),
+    // What a condition only uses isn't bound.
+    (b"a :- int($w) | b($w).", 34, 1, 18),
+    (b"a :- 1 < $w | b($w).", 34, 1, 17),
     // What stands before `\` stands in the body too, at the same places.
     (b"{$p} \\ b :- $p.", 33, 1, 13),
     (b"a(X) \\ b :- c(X).", 23, 1, 15),
@@ -91,6 +95,7 @@ const EDGES: [Row; 54] = [
     (b"a($x) :- $x \\= $y | .", 43, 1, 16),
     (b"a($x), b($y) :- $x = $y + 1 | .", 42, 1, 20),
     (b"a($x) :- $z = 1, $x \\= $z | .", 42, 1, 21),
+    (b"a($x) :- $z = 1, $x = $z | .", 42, 1, 21),
     (b"a($x) :- $z = 1, $z \\= $x | .", 42, 1, 21),
     (b"a($x), b($y) :- $z = $x, $z = $y | .", 42, 1, 29),
     (b"a($x) :- $z = 1 | .", 40, 1, 3),
@@ -229,7 +234,7 @@ const ORDER: [Row; 39] = [
 ];
 
 /// Texts that are accepted.
-const ACCEPTED: [&[u8]; 20] = [
+const ACCEPTED: [&[u8]; 21] = [
     b"",
     b"a(_), b(_).",
     b"a(X) \\ b :- .",
@@ -247,6 +252,7 @@ const ACCEPTED: [&[u8]; 20] = [
     b"{{$a}, $p} :- $p, $a.",
     b"a($x) :- int($x) | $x[X], b(X).",
     b"$x[X], a(X) :- ground($x) | .",
+    b"{$x[X]}, a(X) :- int($x) | .",
     b"a :- | b.",
     b"n @@ a :- b.",
     b"a($x) :- unary($x), ground($x), 1 < $x | .",
