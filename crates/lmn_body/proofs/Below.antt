@@ -8,7 +8,7 @@ use Rattle.lmn_heap.proofs.Trees.{find_at, split_at, around}
 use Rattle.lmn_heap.proofs.Groves.{list_inside}
 use Rattle.lmn_solid.specs.declared.items.HeadItem.{HeadItem}
 use Rattle.lmn_solid.specs.Heads.{HeadMembrane, membranes_of}
-use Rattle.lmn_solid.specs.Embeddings.{HasMembrane, index_of, Embeds}
+use Rattle.lmn_solid.specs.Embeddings.{HasMembrane, index_of, Lies}
 use Rattle.lmn_splice.specs.Classes.{rising}
 use Rattle.lmn_body.specs.Running.{Registers}
 use Rattle.lmn_body.specs.Within.{membrane_images}
@@ -18,7 +18,6 @@ use Rattle.lmn_splice.proofs.EndLemmas.{in_rising}
 use Rattle.lmn_heap.proofs.Heights.{mem_of_list}
 use Rattle.lmn_base.proofs.Lists.{get_below, get_there as get_some}
 use Rattle.lmn_base.proofs.Numbers.{not_equal as not_eq}
-use Rattle.lmn_base.specs.declared.guard.Cond.{Cond}
 use Rattle.lmn_body.specs.Rules.{HeadNests}
 use Rattle.lmn_base.specs.Lists.{In}
 
@@ -114,7 +113,7 @@ module _ (h : Heap) (valid : Valid h) where
       let later : length u.0 < idx x = subst (λ zs. length u.0 < index_of x zs) (sym u.1) (index_later u.0 p (flat a.0 ++ (flat a.1 ++ a.2)) x once inner) in
       omega arith
 
-  module _ (head : List HeadItem) (guard : List Cond) (m : ℕ) (r : Registers) (em : Embeds h head guard m r.head.images) (head_nests : HeadNests head) where
+  module _ (head : List HeadItem) (m : ℕ) (r : Registers) (em : Lies h head m r.head.images) (head_nests : HeadNests head) where
     -- a membrane of the head is below that of the rule
     removed_below : (fuel k : ℕ) (b : HeadMembrane) → k < fuel → HasMembrane head k b → idx m < idx (r.head.images.membrane k)
     removed_below zero k b l w = absurd (off l)

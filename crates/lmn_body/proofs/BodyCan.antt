@@ -1,7 +1,6 @@
 -- The code of a body can run.
 use Rattle.std.proofs.Common.{true, ℕ, ◌+◌, ◌<◌, ◌≤◌, ◌≡◌, ◌≢◌, List, [], ◌∷◌, ◌++◌, length, Option, Some, None, IsSome, refl, sym, ap, subst, ◌∙◌, inl, inr, arith}
 use Rattle.std.specs.Option.{option_map, option_and_then}
-use Rattle.lmn_base.specs.declared.guard.Cond.{Cond}
 use Rattle.lmn_heap.specs.Heap as heap
 use Rattle.lmn_heap.specs.Heap.{Heap, HeapAtom, HeapMem, Place, within, gone, mem_with_atoms, mem_with_mems, mem_with_place, without, arity_of, mem_place_of, mems_in, rules_in, spare_of, spare_by, atom_out, mem_out, home_of, parent_of, IsMem, IsInPlace, IsMemInPlace, Distinct, taken, taken_mem, taken_all}
 use Rattle.lmn_heap.specs.Sound.{Listed, Valid}
@@ -10,7 +9,7 @@ use Rattle.lmn_heap.proofs.Listing.{alter_at, same_paired}
 use Rattle.lmn_heap.proofs.Replacing.{no_waiting, no_waiting_mems}
 use Rattle.lmn_solid.specs.declared.items.HeadItem.{HeadItem}
 use Rattle.lmn_solid.specs.Heads.{HeadMembrane, atoms_of, membranes_of}
-use Rattle.lmn_solid.specs.Embeddings.{Embeds, HasMembrane}
+use Rattle.lmn_solid.specs.Embeddings.{Lies, HasMembrane}
 use Rattle.lmn_splice.specs.Classes.{class_of, rising, body_ties}
 use Rattle.lmn_splice.specs.Splice.{Splice, ports, links}
 use Rattle.lmn_splice.specs.Splice as splice
@@ -84,8 +83,8 @@ taken_mems_spare (k ∷ ks) s x = taken_mems_spare ks (taken_mem s k) x ∙ chan
     by None = refl
     by (Some q) = change_keeps spare_by s.mems q (mem_with_mems (without k)) (λ y. refl) x
 
-module _ (h : Heap) (valid : Valid h) (head : List HeadItem) (guard : List Cond) (body : List BodyItem) (n m : ℕ) (r : Registers) (rule : AtomRule head body n)
-    (em : Embeds h head guard m r.head.images) (stand : IsMemInPlace h m) (c : Port → ℕ) (names : Names h c)
+module _ (h : Heap) (valid : Valid h) (head : List HeadItem) (body : List BodyItem) (n m : ℕ) (r : Registers) (rule : AtomRule head body n)
+    (em : Lies h head m r.head.images) (stand : IsMemInPlace h m) (c : Port → ℕ) (names : Names h c)
     (goes : Goes r (membrane_images r head) (Exists h r head body) body)
     (contexts : (k : ℕ) (b : HeadMembrane) → HasMembrane head k b → b.has_context ≡ true → In (r.head.images.membrane k) (moved_mems r body))
     (ps : List ℕ) (parts : PartAtoms h head r.head.images ps)
@@ -107,40 +106,40 @@ module _ (h : Heap) (valid : Valid h) (head : List HeadItem) (guard : List Cond)
   ks = membrane_images r head
 
   abbrev ns : List ℕ
-  ns = nesting.ns h valid head guard body n m r rule em stand c names goes contexts ps parts s pr
+  ns = nesting.ns h valid head body n m r rule em stand c names goes contexts ps parts s pr
 
   abbrev t1 : Heap
-  t1 = nesting.t1 h valid head guard body n m r rule em stand c names goes contexts ps parts s pr
+  t1 = nesting.t1 h valid head body n m r rule em stand c names goes contexts ps parts s pr
 
   abbrev t2 : Heap
-  t2 = nesting.t2 h valid head guard body n m r rule em stand c names goes contexts ps parts s pr
+  t2 = nesting.t2 h valid head body n m r rule em stand c names goes contexts ps parts s pr
 
   abbrev rank : ℕ → ℕ
-  rank = treeafter.rank h valid head guard body n m r rule em stand c names goes contexts ps parts s pr nests head_nests
+  rank = treeafter.rank h valid head body n m r rule em stand c names goes contexts ps parts s pr nests head_nests
 
   abbrev idx : ℕ → ℕ
-  idx = treeafter.idx h valid head guard body n m r rule em stand c names goes contexts ps parts s pr nests head_nests
+  idx = treeafter.idx h valid head body n m r rule em stand c names goes contexts ps parts s pr nests head_nests
 
   never_new : (x : ℕ) → IsMem h x → In x nm → ⊥
-  never_new x is i = treeafter.old h valid head guard body n m r rule em stand c names goes contexts ps parts s pr nests head_nests x i is
+  never_new x is i = treeafter.old h valid head body n m r rule em stand c names goes contexts ps parts s pr nests head_nests x i is
 
   ranked : Ranked r m ks nm rank
   ranked = record {
     low = idx m + length nm;
     once = pr.mems.once;
-    targets = treeafter.into_rank h valid head guard body n m r rule em stand c names goes contexts ps parts s pr nests head_nests;
+    targets = treeafter.into_rank h valid head body n m r rule em stand c names goes contexts ps parts s pr nests head_nests;
     removed = λ k i.
-        let a = treeafter.high_rank h valid head guard body n m r rule em stand c names goes contexts ps parts s pr nests head_nests k (λ j. new_apart k j i)
-        (treeafter.removed_later h valid head guard body n m r rule em stand c names goes contexts ps parts s pr nests head_nests k i) in
-        let b = treeafter.removed_later h valid head guard body n m r rule em stand c names goes contexts ps parts s pr nests head_nests k i in
+        let a = treeafter.high_rank h valid head body n m r rule em stand c names goes contexts ps parts s pr nests head_nests k (λ j. new_apart k j i)
+        (treeafter.removed_later h valid head body n m r rule em stand c names goes contexts ps parts s pr nests head_nests k i) in
+        let b = treeafter.removed_later h valid head body n m r rule em stand c names goes contexts ps parts s pr nests head_nests k i in
         omega arith;
     from_home = λ z i.
-        let a = treeafter.made_rank h valid head guard body n m r rule em stand c names goes contexts ps parts s pr nests head_nests z i in
-        let b = treeafter.home_rank h valid head guard body n m r rule em stand c names goes contexts ps parts s pr nests head_nests in
+        let a = treeafter.made_rank h valid head body n m r rule em stand c names goes contexts ps parts s pr nests head_nests z i in
+        let b = treeafter.home_rank h valid head body n m r rule em stand c names goes contexts ps parts s pr nests head_nests in
         omega arith;
     in_order = λ x z i j l.
-        let a = treeafter.made_rank h valid head guard body n m r rule em stand c names goes contexts ps parts s pr nests head_nests x i in
-        let b = treeafter.made_rank h valid head guard body n m r rule em stand c names goes contexts ps parts s pr nests head_nests z j in
+        let a = treeafter.made_rank h valid head body n m r rule em stand c names goes contexts ps parts s pr nests head_nests x i in
+        let b = treeafter.made_rank h valid head body n m r rule em stand c names goes contexts ps parts s pr nests head_nests z j in
         omega arith;
   }
 
@@ -149,23 +148,23 @@ module _ (h : Heap) (valid : Valid h) (head : List HeadItem) (guard : List Cond)
 
   state_t2 : State r m ks rank [] N (1 + K) 0 body t2
   state_t2 = record {
-    listed = soundness.listed_t2 h valid head guard body n m r rule em stand c names goes contexts ps parts s pr nests listed_s removed_mem home_mem;
+    listed = soundness.listed_t2 h valid head body n m r rule em stand c names goes contexts ps parts s pr nests listed_s removed_mem home_mem;
     up = λ p x i.
-        let child = in_left_mems p x (subst (In x) (nesting.mems_t2 h valid head guard body n m r rule em stand c names goes contexts ps parts s pr p) i) in
-        treeafter.old_up h valid head guard body n m r rule em stand c names goes contexts ps parts s pr nests head_nests p x (never_new p (mem_of_list h p x child)) (never_new x (child_mem p x child))
-        (treeafter.child_later h valid head guard body n m r rule em stand c names goes contexts ps parts s pr nests head_nests p x child);
+        let child = in_left_mems p x (subst (In x) (nesting.mems_t2 h valid head body n m r rule em stand c names goes contexts ps parts s pr p) i) in
+        treeafter.old_up h valid head body n m r rule em stand c names goes contexts ps parts s pr nests head_nests p x (never_new p (mem_of_list h p x child)) (never_new x (child_mem p x child))
+        (treeafter.child_later h valid head body n m r rule em stand c names goes contexts ps parts s pr nests head_nests p x child);
     place = λ x i. elim i [ inl e ↦ subst heap.IsTopOrWithin (sym (ap (mem_place_of t2) e ∙ place_t2 m home_apart ∙ pr.mems.places m home_mem)) stand | inr v ↦ absurd v ];
-    gone_ks = taken_mems_gone ks t1 (nesting.ks_once h valid head guard body n m r rule em stand c names goes contexts ps parts s pr) (λ k i. some_place t1 k (stands_t1 k i));
+    gone_ks = taken_mems_gone ks t1 (nesting.ks_once h valid head body n m r rule em stand c names goes contexts ps parts s pr) (λ k i. some_place t1 k (stands_t1 k i));
     wait = λ x i. place_t2 x (new_apart x i) ∙ (listed_s.new_mems x).0 (subst (In x) (sym line_s) i);
     line = (
       [],
-      (nesting.sh h valid head guard body n m r rule em stand c names goes contexts ps parts s pr).line ∙ pr.atoms.line ∙ pr.free.brings.line
+      (nesting.sh h valid head body n m r rule em stand c names goes contexts ps parts s pr).line ∙ pr.atoms.line ∙ pr.free.brings.line
           ∙ ap (λ xs. xs ++ new_atoms r N 0 body) (no_waiting h valid.sound.listed valid.settled) ∙ sym (plus_nothing (new_atoms r N 0 body)),
     );
-    mem_line = ([], (nesting.sh h valid head guard body n m r rule em stand c names goes contexts ps parts s pr).mem_line ∙ line_s ∙ sym (plus_nothing nm));
+    mem_line = ([], (nesting.sh h valid head body n m r rule em stand c names goes contexts ps parts s pr).mem_line ∙ line_s ∙ sym (plus_nothing nm));
     spare = λ x o. subst (λ k. length (added_rules r (rules_in t2) body x) ≤ k) (sym (taken_mems_spare ks t1 x ∙ taken_spare ns s x))
         (subst (λ k. k ≤ spare_of s x) (ap (λ (zs : List ℕ). length zs) (sym (same_rules_added r ks (Exists h r head body) (rules_in h) (rules_in t2) body x goes
-        (λ k i. nesting.rules_t2 h valid head guard body n m r rule em stand c names goes contexts ps parts s pr k)))) (spares x));
+        (λ k i. nesting.rules_t2 h valid head body n m r rule em stand c names goes contexts ps parts s pr k)))) (spares x));
   }
     where
       line_s : s.new_mems ≡ nm
@@ -189,7 +188,7 @@ module _ (h : Heap) (valid : Valid h) (head : List HeadItem) (guard : List Cond)
           by (Some y) e = refl
 
       stands_t1 : (k : ℕ) → In k ks → IsSome (t1.mems k)
-      stands_t1 k i = by (t1.mems k) (nesting.once_t1 h valid head guard body n m r rule em stand c names goes contexts ps parts s pr k i).1
+      stands_t1 k i = by (t1.mems k) (nesting.once_t1 h valid head body n m r rule em stand c names goes contexts ps parts s pr k i).1
         where
           by : {p : ℕ} (o : Option HeapMem) → option_and_then (λ y. heap.home_by y.place) o ≡ Some p → IsSome o
           by None e = absurd (cc)
@@ -216,20 +215,20 @@ module _ (h : Heap) (valid : Valid h) (head : List HeadItem) (guard : List Cond)
     wires = connectors body
 
     abbrev F : Port → Type 0
-    F = nesting.F h valid head guard body n m r rule em stand c names goes contexts ps parts s pr t3 run
+    F = nesting.F h valid head body n m r rule em stand c names goes contexts ps parts s pr t3 run
 
     sp : Splice F c (partners t3) news olds wires
-    sp = subst (λ k. Splice F c k news olds wires) (sym (nesting.same_partners h valid head guard body n m r rule em stand c names goes contexts ps parts s pr t3 run))
-        (nesting.sp_s h valid head guard body n m r rule em stand c names goes contexts ps parts s pr t3 run)
+    sp = subst (λ k. Splice F c k news olds wires) (sym (nesting.same_partners h valid head body n m r rule em stand c names goes contexts ps parts s pr t3 run))
+        (nesting.sp_s h valid head body n m r rule em stand c names goes contexts ps parts s pr t3 run)
 
     below : (x : ℕ) → splice.IsOneOf x (links news ++ links olds) → x < n
-    below = links_below h valid head guard body n m r rule em stand c names pr.free ps parts
+    below = links_below h valid head body n m r rule em stand c names pr.free ps parts
 
     -- a port of the heap where all waits is one after the making part
     stands_t3 : (p : Port) → p.1 < arity_of s p.0 → StandsAsPort t3 p
     stands_t3 p l = (
-      some (s.atoms p.0) (t3.atoms p.0) (nesting.functors_t3 h valid head guard body n m r rule em stand c names goes contexts ps parts s pr t3 run p.0) (has_ports (s.atoms p.0) l),
-      subst (λ k. p.1 < k) (sym (nesting.arities_t3 h valid head guard body n m r rule em stand c names goes contexts ps parts s pr t3 run p.0)) l,
+      some (s.atoms p.0) (t3.atoms p.0) (nesting.functors_t3 h valid head body n m r rule em stand c names goes contexts ps parts s pr t3 run p.0) (has_ports (s.atoms p.0) l),
+      subst (λ k. p.1 < k) (sym (nesting.arities_t3 h valid head body n m r rule em stand c names goes contexts ps parts s pr t3 run p.0)) l,
     )
       where
         has_ports : (o : Option HeapAtom) → p.1 < length (heap.partners_of o) → IsSome o
@@ -246,15 +245,15 @@ module _ (h : Heap) (valid : Valid h) (head : List HeadItem) (guard : List Cond)
 
     old_stands : (p : Port) → splice.IsOneOf p (ports olds) → StandsAsPort t3 p
     old_stands p i =
-        let w = old_port_stands h valid head guard body n m r rule em stand c names pr.free ps parts p i in
+        let w = old_port_stands h valid head body n m r rule em stand c names pr.free ps parts p i in
         stands_t3 p (subst (λ k. p.1 < k) (sym (old_arity p.0 w.0)) w.1)
       where
         old_arity : (a : ℕ) → IsInPlace h a → arity_of s a ≡ arity_of h a
-        old_arity a i = ap (λ (f : ℕ → Option HeapAtom). length (heap.partners_of (f a))) pr.atoms.atoms ∙ arity_old h valid head guard body n m r rule em stand c names pr.free ps parts a i
+        old_arity a i = ap (λ (f : ℕ → Option HeapAtom). length (heap.partners_of (f a))) pr.atoms.atoms ∙ arity_old h valid head body n m r rule em stand c names pr.free ps parts a i
 
     pub links_part_can : CanRun r (links_code (class_of wires) (new_ports N 0 body) (old_ports head) (rising 0 n)) t3
     links_part_can = links_can r (class_of wires) (new_ports N 0 body) (old_ports head) (rising 0 n) t3
         (all_can F (colour F c (partners t3) news olds wires n sp below) (body_ties news olds wires n) t3
-        (same_paired s t3 (nesting.links_t3 h valid head guard body n m r rule em stand c names goes contexts ps parts s pr t3 run) (nesting.paired_s h valid head guard body n m r rule em stand c names goes contexts ps parts s pr t3 run))
+        (same_paired s t3 (nesting.links_t3 h valid head body n m r rule em stand c names goes contexts ps parts s pr t3 run) (nesting.paired_s h valid head body n m r rule em stand c names goes contexts ps parts s pr t3 run))
         (λ p f. stands_t3 p f.0) (λ p o. old_stands p (is_old F c (partners t3) news olds wires n sp below p o))
         (fits F c (partners t3) news olds wires n sp below) (before F c (partners t3) news olds wires n sp below))

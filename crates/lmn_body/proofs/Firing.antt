@@ -5,7 +5,6 @@ use Rattle.std.specs.Option.{option_map, option_and_then}
 use Rattle.std.specs.Prelude.{slice_get}
 use Rattle.std.specs.Prelude as prelude
 use Rattle.lmn_base.specs.declared.functor.Functor.{Functor}
-use Rattle.lmn_base.specs.declared.guard.Cond.{Cond}
 use Rattle.lmn_base.specs.Solids.{connector}
 use Rattle.lmn_heap.specs.Heap.{Heap, HeapAtom, HeapMem, within, waiting, gone, top, partners_of, functor_of, arity_of, mem_place_of, home_of, home_by, atoms_in, IsAtom, IsInPlace, IsMemInPlace}
 use Rattle.lmn_heap.specs.Heap as heap
@@ -19,7 +18,7 @@ use Rattle.lmn_heap.proofs.Replacing.{no_waiting, no_waiting_mems}
 use Rattle.lmn_solid.specs.declared.items.HeadItem.{HeadItem}
 use Rattle.lmn_solid.specs.Heads.{HeadAtom, Occurrence, atoms_of, typed_contexts_of, at_atoms, times}
 use Rattle.lmn_solid.specs.Heads as heads
-use Rattle.lmn_solid.specs.Embeddings.{Embeds, HasAtom, HasTyped, HasLink}
+use Rattle.lmn_solid.specs.Embeddings.{Lies, HasAtom, HasTyped, HasLink}
 use Rattle.lmn_splice.specs.Ports.{Coloured}
 use Rattle.lmn_splice.specs.Classes.{rising}
 use Rattle.lmn_splice.specs.Splice.{IsOneOf, TwiceOrNever, both_links, ports, links, LiveBefore, of_rule, of_solid, raw_by, raw_link, Splice}
@@ -259,8 +258,8 @@ olds_once r N once xs (o ∷ os) d below = by (times o.link xs == 1) (olds_once 
     )
     by false w = w
 
-module _ (h : Heap) (valid : Valid h) (head : List HeadItem) (guard : List Cond) (body : List BodyItem) (n m : ℕ) (r : Registers) (rule : AtomRule head body n)
-    (em : Embeds h head guard m r.head.images) (stand : IsMemInPlace h m) (c : Port → ℕ) (names : Names h c) (free : Brought c h r (length (atoms_of head)) body)
+module _ (h : Heap) (valid : Valid h) (head : List HeadItem) (body : List BodyItem) (n m : ℕ) (r : Registers) (rule : AtomRule head body n)
+    (em : Lies h head m r.head.images) (stand : IsMemInPlace h m) (c : Port → ℕ) (names : Names h c) (free : Brought c h r (length (atoms_of head)) body)
     (ps : List ℕ) (parts : PartAtoms h head r.head.images ps) where
   abbrev pub N : ℕ
   N = length (atoms_of head)

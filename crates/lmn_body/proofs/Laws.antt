@@ -1,7 +1,6 @@
 -- The code of a body of atoms fires it.
 use Rattle.std.proofs.Common.{ℕ, ◌+◌, ◌<◌, ◌≡◌, ◌==◌, Bool, true, false, cond, List, [], ◌∷◌, ◌++◌, map, length, Option, Some, None, IsSome, refl, sym, ap, subst, ◌∙◌, inl, inr}
 use Rattle.lmn_base.specs.declared.functor.Functor.{Functor}
-use Rattle.lmn_base.specs.declared.guard.Cond.{Cond}
 use Rattle.lmn_heap.specs.Heap.{Heap, IsAtom, atoms_in, IsInPlace, finished, taken_all, IsMemInPlace}
 use Rattle.lmn_heap.specs.Heap as heap
 use Rattle.lmn_heap.specs.Sound.{Listed, AllInPlace, Valid}
@@ -15,7 +14,7 @@ use Rattle.lmn_heap.specs.Heap.{HeapAtom, partners_of}
 use Rattle.lmn_heap.proofs.SolidLemmas.{atoms_append}
 use Rattle.lmn_solid.specs.declared.items.HeadItem.{HeadItem}
 use Rattle.lmn_solid.specs.Heads.{HeadTyped, HeadMembrane, atoms_of as head_atoms, typed_contexts_of, membranes_of}
-use Rattle.lmn_solid.specs.Embeddings.{Embeds, HasMembrane, HasTyped}
+use Rattle.lmn_solid.specs.Embeddings.{Lies, HasMembrane, HasTyped}
 use Rattle.lmn_splice.specs.Classes.{class_of, rising, body_ties}
 use Rattle.lmn_splice.specs.Splice.{IsOneOf, links, raw_link, of_rule, of_solid, Splice, Fusion}
 use Rattle.lmn_instr.specs.declared.instr.Instr.{Instr}
@@ -157,7 +156,7 @@ module _ (head : List HeadItem) (body : List BodyItem) (n : ℕ) (rule : PlainRu
       commits_tied r (class_of (connectors body)) (new_ports N 0 body) (old_ports head) (rising 0 n) b.0 d.0 d.1 ∙ ap (λ z. all_tied z (body_ties news olds (connectors body) n)) second in
       d.2.2 ∙ d.2.1 ∙ ap finished third
 
-  module _ (h : Heap) (valid : Valid h) (guard : List Cond) (m : ℕ) (em : Embeds h head guard m r.head.images) (stand : IsMemInPlace h m) (c : Port → ℕ) (names : Names h c) (free : AllFree h mk) where
+  module _ (h : Heap) (valid : Valid h) (m : ℕ) (em : Lies h head m r.head.images) (stand : IsMemInPlace h m) (c : Port → ℕ) (names : Names h c) (free : AllFree h mk) where
     abbrev s : Heap
     s = all_made h mk
 
@@ -196,13 +195,13 @@ module _ (head : List HeadItem) (body : List BodyItem) (n : ℕ) (rule : PlainRu
     }
 
     abbrev po : Poised s ns es valid.tree.0
-    po = subst (λ z. Poised s z es valid.tree.0) (plus_nothing (images_of r head)) (poised h valid head guard body n m r rule.atoms em stand c names bro [] no_parts rule.simple)
+    po = subst (λ z. Poised s z es valid.tree.0) (plus_nothing (images_of r head)) (poised h valid head body n m r rule.atoms em stand c names bro [] no_parts rule.simple)
 
     abbrev sp : Splice (EndsLive s ns es) c (partners s) news olds (connectors body)
-    sp = subst (λ z. Splice (EndsLive s z es) c (partners s) news olds (connectors body)) (plus_nothing (images_of r head)) (splice_at h valid head guard body n m r rule.atoms em stand c names bro [] no_parts)
+    sp = subst (λ z. Splice (EndsLive s z es) c (partners s) news olds (connectors body)) (plus_nothing (images_of r head)) (splice_at h valid head body n m r rule.atoms em stand c names bro [] no_parts)
 
     abbrev below : (x : ℕ) → IsOneOf x (links news ++ links olds) → x < n
-    below = links_below h valid head guard body n m r rule.atoms em stand c names bro [] no_parts
+    below = links_below h valid head body n m r rule.atoms em stand c names bro [] no_parts
 
     abbrev fu : Fusion (EndsLive s ns es) c (partners v) news olds (connectors body)
     fu = commit_fusion s ns es valid.tree.0 po c news olds (connectors body) n sp below
@@ -214,17 +213,17 @@ module _ (head : List HeadItem) (body : List BodyItem) (n : ℕ) (rule : PlainRu
     left_atoms k = kept_atoms h (finished v) (λ a i. c (a, i)) name (λ x. fu.to (of_solid x)) (without_all ns (atoms_in h k)) (λ a i.
         let w = in_withouts_of ns (atoms_in h k) a (valid.sound.listed.atoms_once k) i in
         let p = in_place_listed h k a valid.sound.listed w.0 in (
-          commit_functor s ns es valid.tree.0 po c news olds (connectors body) n sp below a (inl (in_place_new h valid head guard body n m r rule.atoms em stand c names bro [] no_parts a p, w.1))
-              ∙ kept_functor h valid head guard body n m r rule.atoms em stand c names bro [] no_parts a p,
-          λ j. ap fu.to (kept_link h valid head guard body n m r rule.atoms em stand c names bro [] no_parts (a, j) p),
+          commit_functor s ns es valid.tree.0 po c news olds (connectors body) n sp below a (inl (in_place_new h valid head body n m r rule.atoms em stand c names bro [] no_parts a p, w.1))
+              ∙ kept_functor h valid head body n m r rule.atoms em stand c names bro [] no_parts a p,
+          λ j. ap fu.to (kept_link h valid head body n m r rule.atoms em stand c names bro [] no_parts (a, j) p),
         ))
 
     new_solid : solid_atoms_at (finished v) name (numbers mk) ≡ made_atoms r (λ x. fu.to (of_rule x)) body
     new_solid = new_atoms_are (finished v) r name (λ x. fu.to (of_rule x)) N 0 body rule.atoms.made rule.simple
         (λ e i. commit_functor s ns es valid.tree.0 po c news olds (connectors body) n sp below e.0
-        (inr (subst (In e.0) (sym (es_numbers h valid head guard body n m r rule.atoms em stand c names bro [] no_parts)) (written_new r N 0 body e.0 e.1 i)))
-        ∙ new_functor h valid head guard body n m r rule.atoms em stand c names bro [] no_parts e i)
-        (λ e i. ap fu.to (new_link h valid head guard body n m r rule.atoms em stand c names bro [] no_parts e i))
+        (inr (subst (In e.0) (sym (es_numbers h valid head body n m r rule.atoms em stand c names bro [] no_parts)) (written_new r N 0 body e.0 e.1 i)))
+        ∙ new_functor h valid head body n m r rule.atoms em stand c names bro [] no_parts e i)
+        (λ e i. ap fu.to (new_link h valid head body n m r rule.atoms em stand c names bro [] no_parts e i))
 
     placed_atoms : (k : ℕ) → solid_atoms_at (finished v) name (placed_in k es) ≡ cond (k == m) (made_atoms r (λ x. fu.to (of_rule x)) body) []
     placed_atoms k = ap (solid_atoms_at (finished v) name) (placed_here r N 0 k m body rule.simple em.here) ∙ by (k == m)
@@ -237,7 +236,7 @@ module _ (head : List HeadItem) (body : List BodyItem) (n : ℕ) (rule : PlainRu
         ≡ map (linked_by (λ x. fu.to (of_solid x))) (solid_atoms_at h (λ a i. c (a, i)) (without_all ns (atoms_in h k))) ++ cond (k == m) (made_atoms r (λ x. fu.to (of_rule x)) body) []
     atoms_then k =
         ap (solid_atoms_at (finished v) name) (commit_lists s ns es valid.tree.0 po c news olds (connectors body) n sp below k
-        ∙ ap (λ xs. without_all ns xs ++ placed_in k es) (same_atoms h valid head guard body n m r rule.atoms em stand c names bro [] no_parts k))
+        ∙ ap (λ xs. without_all ns xs ++ placed_in k es) (same_atoms h valid head body n m r rule.atoms em stand c names bro [] no_parts k))
         ∙ atoms_append (finished v) name (without_all ns (atoms_in h k)) (placed_in k es)
         ∙ (λ t. left_atoms k t ++ placed_atoms k t)
 
@@ -252,18 +251,18 @@ module _ (head : List HeadItem) (body : List BodyItem) (n : ℕ) (rule : PlainRu
       named = commit_names s ns es valid.tree.0 po c news olds (connectors body) n sp below;
       solid = fired_are h (finished v) c r head body m fu.to name valid.tree.0 (λ k i. (
         atoms_then k,
-        commit_rules s ns es valid.tree.0 po c news olds (connectors body) n sp below k ∙ same_rules h valid head guard body n m r rule.atoms em stand c names bro [] no_parts k,
+        commit_rules s ns es valid.tree.0 po c news olds (connectors body) n sp below k ∙ same_rules h valid head body n m r rule.atoms em stand c names bro [] no_parts k,
       ));
     }
 
 -- The code of a body without membranes and contexts, run at an embedding of a head of atoms, fires the rule: the heap is
 -- valid again, and its solid is the raw region with its links fused.
 pub body_fires : BodyFires
-body_fires head body n rule r h valid guard m em stand c names h' w =
+body_fires head body n rule r h valid m em stand c names h' w =
     let p = prepared head body n rule r h w.0 w.1 in
     let q : DoesAll r (body_code head body n) (all_made h (made_of r (length (head_atoms head)) body)) h' = subst (λ z. DoesAll r (body_code head body n) z h') p.1 w.2 in
     subst (λ z. FiresOnHeap h c valid.tree.0 r head body m z) (sym (committed head body n rule r (all_made h (made_of r (length (head_atoms head)) body)) h' q))
-    (fires head body n rule r h valid guard m em stand c names p.0)
+    (fires head body n rule r h valid m em stand c names p.0)
 
 -- With membranes
 
@@ -282,9 +281,9 @@ pub record Prepared (c : Port → ℕ) (h s : Heap) (r : Registers) (a m : ℕ) 
   pub listed : Listed s
 
 -- a body that is prepared makes all of that
-pub prepared_all : (head : List HeadItem) (body : List BodyItem) (n : ℕ) → AtomRule head body n → (r : Registers) (h : Heap) → Valid h → (guard : List Cond) (m : ℕ) → Embeds h head guard m r.head.images → (c : Port → ℕ) → Names h c →
+pub prepared_all : (head : List HeadItem) (body : List BodyItem) (n : ℕ) → AtomRule head body n → (r : Registers) (h : Heap) → Valid h → (m : ℕ) → Lies h head m r.head.images → (c : Port → ℕ) → Names h c →
     (s : Heap) → Prepares r (body_code head body n) h s → Prepared c h s r (length (head_atoms head)) (1 + length (membranes_of head)) body
-prepared_all head body n rule r h valid guard m em c names s prepares =
+prepared_all head body n rule r h valid m em c names s prepares =
     let N = length (head_atoms head) in
     let K = length (membranes_of head) in
     let links_part = links_code (class_of (connectors body)) (new_ports N 0 body) (old_ports head) (rising 0 n) in
@@ -299,7 +298,7 @@ prepared_all head body n rule r h valid guard m em c names s prepares =
     let first : pa.0 ≡ h = prepares_taken_mems r (rising 1 K) pc.0 pa.0 pc.2 ∙ no_part_prepares r (rising 0 (length (typed_contexts_of head))) pb.0 pc.0 pc.1 ∙ prepares_taken r (rising 0 N) h pb.0 pb.1 in
     let last : s ≡ pd.0 = pe.2.2 ∙ pe.2.1 ∙ prepares_tied r (class_of (connectors body)) (new_ports N 0 body) (old_ports head) (rising 0 n) pd.0 pe.0 pe.1 in
     let from_h : Prepares r make h s = subst (λ z. Prepares r make h z) (sym last) (subst (λ z. Prepares r make z pd.0) first pd.1) in
-    let whole : (e : ℕ × ℕ) → IsOneOf e (copies_of 0 body) → Whole h (r.head.images.part e.1) = λ e i. let t = rule.copied e i in part_whole h valid head guard body n m r rule em e.1 t.0 t.1 in
+    let whole : (e : ℕ × ℕ) → IsOneOf e (copies_of 0 body) → Whole h (r.head.images.part e.1) = λ e i. let t = rule.copied e i in part_whole h valid head body n m r rule em e.1 t.0 t.1 in
     with_colours c h s r N (1 + K) body valid names
     (making_prepares r N (1 + K) 0 body h valid.sound.paired valid.sound.shaped whole h s (λ a i. refl) valid.sound.paired valid.sound.shaped from_h)
     (prepares_listed r N (1 + K) 0 body h s valid.sound.listed from_h)
@@ -336,7 +335,7 @@ prepared_all head body n rule r h valid guard m em c names s prepares =
 
 -- the code of a body that is run at an embedding fires the rule
 pub body_fires_within : BodyFiresWithin
-body_fires_within head body n nested r h valid guard m em stand c names h' (s, prepares, commits) =
+body_fires_within head body n nested r h valid m em stand c names h' (s, prepares, commits) =
     let rule = nested.atoms in
     let head_nests = nested.head_nests in
     let N = length (head_atoms head) in
@@ -345,11 +344,11 @@ body_fires_within head body n nested r h valid guard m em stand c names h' (s, p
     let parts = map RemovePart (rising 0 (length (typed_contexts_of head))) in
     let mems = map RemoveMem (rising 1 K) in
     let make = making N (1 + K) 0 body in
-    let all = prepared_all head body n rule r h valid guard m em c names s prepares in
+    let all = prepared_all head body n rule r h valid m em c names s prepares in
     let d = all.d in
     let pr = all.pr in
-    let goes = goes_body h valid head guard m r em stand head_nests body pr.mems.fresh nested.placed in
-    let nests = nests_body h valid head guard m r em stand head_nests body pr.mems.fresh nested.placed in
+    let goes = goes_body h valid head m r em stand head_nests body pr.mems.fresh nested.placed in
+    let nests = nests_body h valid head m r em stand head_nests body pr.mems.fresh nested.placed in
     let contexts : (k : ℕ) (b : HeadMembrane) → HasMembrane head k b → b.has_context ≡ true → In (r.head.images.membrane k) (moved_mems r body) = λ k b w e. moved_are r body k (nested.contexts k b w e) in
     let ca = commits_append r (removals head) (make ++ (links_part ++ (Proceed ∷ []))) s h' commits in
     let cb = commits_append r (map RemoveAtom (rising 0 N)) (parts ++ mems) s ca.0 ca.1 in
@@ -357,7 +356,7 @@ body_fires_within head body n nested r h valid guard m em stand c names h' (s, p
     let ce = commits_append r make (links_part ++ (Proceed ∷ [])) ca.0 h' ca.2 in
     let cf = commits_append r links_part (Proceed ∷ []) ce.0 h' ce.2 in
     let images : cb.0 ≡ taken_all s (images_of r head) = commits_taken r (rising 0 N) s cb.0 cb.1 in
-    let taken_parts = parts_commit h valid head guard body n m r rule em (rising 0 (length (typed_contexts_of head))) (rising_distinct (length (typed_contexts_of head)) 0)
+    let taken_parts = parts_commit h valid head body n m r rule em (rising 0 (length (typed_contexts_of head))) (rising_distinct (length (typed_contexts_of head)) 0)
     (λ g i. get_some (typed_contexts_of head) g (below_plain g (length (typed_contexts_of head)) (rising_below (length (typed_contexts_of head)) 0 g i).1)) cb.0 cd.0
     (λ p is. ap (λ z. partners z p) images ∙ taken_links (images_of r head) s p.0 p.1 ∙ prepared_links d h s r N (1 + K) body pr p is) cd.1 in
     let ps = taken_parts.0 in
@@ -376,13 +375,13 @@ body_fires_within head body n nested r h valid guard m em stand c names h' (s, p
     let v = all_tied ce.0 (body_ties (at_heap (new_port r) (new_ports N 0 body)) (at_heap (old_port r) (old_ports head)) (connectors body) n) in
     let done : h' ≡ finished v = cf.2.2 ∙ cf.2.1 ∙ ap finished ties in
     let listed = all.listed in
-    let sound = sound_before h valid head guard body n m r rule em stand d all.names goes contexts ps parts_are s pr nests listed
-    (removed_mem h valid head guard m r em stand head_nests body pr.mems.fresh) (home_is_mem h valid head guard m r em stand head_nests body pr.mems.fresh) ce.0 run in (
+    let sound = sound_before h valid head body n m r rule em stand d all.names goes contexts ps parts_are s pr nests listed
+    (removed_mem h valid head m r em stand head_nests body pr.mems.fresh) (home_is_mem h valid head m r em stand head_nests body pr.mems.fresh) ce.0 run in (
       ps,
       parts_are,
-      subst Valid (sym done) (valid_after h valid head guard body n m r rule em stand d all.names goes contexts ps parts_are s pr nests head_nests ce.0 run sound),
+      subst Valid (sym done) (valid_after h valid head body n m r rule em stand d all.names goes contexts ps parts_are s pr nests head_nests ce.0 run sound),
       subst (λ z. FiresWithin h c r head body (images_of r head ++ ps) z) (sym done) (fires_by h (finished v) c d r head body (images_of r head ++ ps) all.colour
-          (λ e i. is_atom_at h (old_port r e.0).0 (old_port r e.0).1 (old_port_stands h valid head guard body n m r rule em stand d all.names pr.free ps parts_are (old_port r e.0) (in_map (λ (q : Port × ℕ). q.0) (old_port r e.0, e.1) (at_heap (old_port r) (old_ports head)) (heap_in (old_port r) e (old_ports head) i))).1) (fires_within h valid head guard body n m r rule em stand d all.names goes contexts ps parts_are s pr ce.0 run sound)),
+          (λ e i. is_atom_at h (old_port r e.0).0 (old_port r e.0).1 (old_port_stands h valid head body n m r rule em stand d all.names pr.free ps parts_are (old_port r e.0) (in_map (λ (q : Port × ℕ). q.0) (old_port r e.0, e.1) (at_heap (old_port r) (old_ports head)) (heap_in (old_port r) e (old_ports head) i))).1) (fires_within h valid head body n m r rule em stand d all.names goes contexts ps parts_are s pr ce.0 run sound)),
     )
 
 rising_once : (n a : ℕ) → heap.Distinct (rising a n)
@@ -392,7 +391,7 @@ rising_once n a = subst heap.Distinct (same (rising a n)) (distinct_images (λ x
     same [] = refl
     same (x ∷ xs) = ap (λ ys. x ∷ ys) (same xs)
 
-module _ (head : List HeadItem) (body : List BodyItem) (n : ℕ) (rule : AtomRule head body n) (r : Registers) (h : Heap) (valid : Valid h) (guard : List Cond) (m : ℕ) (em : Embeds h head guard m r.head.images)
+module _ (head : List HeadItem) (body : List BodyItem) (n : ℕ) (rule : AtomRule head body n) (r : Registers) (h : Heap) (valid : Valid h) (m : ℕ) (em : Lies h head m r.head.images)
     (s : Heap) (d : Port → ℕ) (pr : AllPrepared d h s r (length (head_atoms head)) (1 + length (membranes_of head)) body) where
   abbrev N2 : ℕ
   N2 = length (head_atoms head)
@@ -431,9 +430,9 @@ module _ (head : List HeadItem) (body : List BodyItem) (n : ℕ) (rule : AtomRul
 
   head_parts_can : (t : Heap) → t ≡ taken_all s (images_of r head) → CanRun r (map RemovePart (rising 0 T2)) t
   head_parts_can t e = parts_can r h (rising 0 T2) (rising_once T2 0) t valid.sound.paired
-      (λ g i. let x = typed_at g (heap_in_of g (rising 0 T2) i) in part_there h valid head guard body n m r rule em g x.0 x.1) (same_links t e)
+      (λ g i. let x = typed_at g (heap_in_of g (rising 0 T2) i) in part_there h valid head body n m r rule em g x.0 x.1) (same_links t e)
       (λ g k a i j d p q. let x = typed_at g (heap_in_of g (rising 0 T2) i) in let y = typed_at k (heap_in_of k (rising 0 T2) j) in
-      parts_apart h valid head guard body n m r rule em g k x.0 y.0 x.1 y.1 d a p q)
+      parts_apart h valid head body n m r rule em g k x.0 y.0 x.1 y.1 d a p q)
       (λ g a i p. let x = typed_at g (heap_in_of g (rising 0 T2) i) in
       subst (λ z. IsInPlace z a) (sym e) (all_stay_in_place (images_of r head) s a
       (λ j. (em.parts g x.0 x.1).apart a p (image_of a j))
@@ -442,7 +441,7 @@ module _ (head : List HeadItem) (body : List BodyItem) (n : ℕ) (rule : AtomRul
   -- the parts that are taken
   parts_taken : (t u : Heap) → t ≡ taken_all s (images_of r head) → DoesAll r (map RemovePart (rising 0 T2)) t u → (ps : List ℕ) × PartAtoms h head r.head.images ps × (u ≡ taken_all s (images_of r head ++ ps))
   parts_taken t u e w =
-      let v = parts_commit h valid head guard body n m r rule em (rising 0 T2) (rising_distinct T2 0) typed_at t u (same_links t e) w in (
+      let v = parts_commit h valid head body n m r rule em (rising 0 T2) (rising_distinct T2 0) typed_at t u (same_links t e) w in (
         v.0,
         record {
           once = v.1.once;
@@ -462,7 +461,7 @@ module _ (head : List HeadItem) (body : List BodyItem) (n : ℕ) (rule : AtomRul
 
 -- each instruction of a body that is prepared can run in its turn
 pub body_can_run : BodyCanRun
-body_can_run head body n nested r h valid guard m em stand c names s prepares spares =
+body_can_run head body n nested r h valid m em stand c names s prepares spares =
     let rule = nested.atoms in
     let N = length (head_atoms head) in
     let K = length (membranes_of head) in
@@ -471,36 +470,36 @@ body_can_run head body n nested r h valid guard m em stand c names s prepares sp
     let parts = map RemovePart (rising 0 T) in
     let mems = map RemoveMem (rising 1 K) in
     let make = making N (1 + K) 0 body in
-    let all = prepared_all head body n rule r h valid guard m em c names s prepares in
+    let all = prepared_all head body n rule r h valid m em c names s prepares in
     let d = all.d in
     let pr = all.pr in
     let listed = all.listed in
-    let goes = goes_body h valid head guard m r em stand nested.head_nests body pr.mems.fresh nested.placed in
-    let nests = nests_body h valid head guard m r em stand nested.head_nests body pr.mems.fresh nested.placed in
+    let goes = goes_body h valid head m r em stand nested.head_nests body pr.mems.fresh nested.placed in
+    let nests = nests_body h valid head m r em stand nested.head_nests body pr.mems.fresh nested.placed in
     let contexts : (k : ℕ) (b : HeadMembrane) → HasMembrane head k b → b.has_context ≡ true → In (r.head.images.membrane k) (moved_mems r body) = λ k b w e. moved_are r body k (nested.contexts k b w e) in
-    let removed = removed_mem h valid head guard m r em stand nested.head_nests body pr.mems.fresh in
-    let home_mem = home_is_mem h valid head guard m r em stand nested.head_nests body pr.mems.fresh in
-    let home_out = home_apart h valid head guard m r em stand nested.head_nests body pr.mems.fresh in
-    let new_out = new_apart h valid head guard m r em stand nested.head_nests body pr.mems.fresh in
+    let removed = removed_mem h valid head m r em stand nested.head_nests body pr.mems.fresh in
+    let home_mem = home_is_mem h valid head m r em stand nested.head_nests body pr.mems.fresh in
+    let home_out = home_apart h valid head m r em stand nested.head_nests body pr.mems.fresh in
+    let new_out = new_apart h valid head m r em stand nested.head_nests body pr.mems.fresh in
     can_append r (removals head) (make ++ (links_part ++ (Proceed ∷ []))) s
-    (can_append r (map RemoveAtom (rising 0 N)) (parts ++ mems) s (head_atoms_can head body n rule r h valid guard m em s d pr)
+    (can_append r (map RemoveAtom (rising 0 N)) (parts ++ mems) s (head_atoms_can head body n rule r h valid m em s d pr)
     (λ ta wa.
     let ea = commits_taken r (rising 0 N) s ta wa in
-    can_append r parts mems ta (head_parts_can head body n rule r h valid guard m em s d pr ta ea) (λ tp wp.
-    let p = parts_taken head body n rule r h valid guard m em s d pr ta tp ea wp in
-    mems_can r (rising 1 K) tp (ks_once h valid head guard body n m r rule em stand d all.names goes contexts p.0 p.1 s pr)
-    (λ k i. let u = once_t1 h valid head guard body n m r rule em stand d all.names goes contexts p.0 p.1 s pr (r.head.images.membrane k) (mapped r.head.images.membrane k (rising 1 K) i) in
+    can_append r parts mems ta (head_parts_can head body n rule r h valid m em s d pr ta ea) (λ tp wp.
+    let p = parts_taken head body n rule r h valid m em s d pr ta tp ea wp in
+    mems_can r (rising 1 K) tp (ks_once h valid head body n m r rule em stand d all.names goes contexts p.0 p.1 s pr)
+    (λ k i. let u = once_t1 h valid head body n m r rule em stand d all.names goes contexts p.0 p.1 s pr (r.head.images.membrane k) (mapped r.head.images.membrane k (rising 1 K) i) in
     (u.0, ap (λ z. heap.parent_of z (r.head.images.membrane k)) p.2 ∙ u.1)))))
     (λ tb wb.
-    let p = removals_commit head body n rule r h valid guard m em s d pr tb wb in
+    let p = removals_commit head body n rule r h valid m em s d pr tb wb in
     let t2 = all_taken_mems (taken_all s (images_of r head ++ p.0)) (membrane_images r head) in
     can_append r make (links_part ++ (Proceed ∷ [])) tb
-    (subst (CanRun r make) (sym p.2) (making_part_can h valid head guard body n m r rule em stand d all.names goes contexts p.0 p.1 s pr nests nested.head_nests listed removed home_mem home_out new_out spares))
+    (subst (CanRun r make) (sym p.2) (making_part_can h valid head body n m r rule em stand d all.names goes contexts p.0 p.1 s pr nests nested.head_nests listed removed home_mem home_out new_out spares))
     (λ tc wc.
     let run : DoesAll r make t2 tc = subst (λ z. DoesAll r make z tc) p.2 wc in
     can_append r links_part (Proceed ∷ []) tc
-    (links_part_can h valid head guard body n m r rule em stand d all.names goes contexts p.0 p.1 s pr nests nested.head_nests listed removed home_mem home_out new_out spares tc run)
+    (links_part_can h valid head body n m r rule em stand d all.names goes contexts p.0 p.1 s pr nests nested.head_nests listed removed home_mem home_out new_out spares tc run)
     (λ td wd.
     let e = commits_tied r (class_of (connectors body)) (new_ports N 0 body) (old_ports head) (rising 0 n) tc td wd in
-    let sound = sound_before h valid head guard body n m r rule em stand d all.names goes contexts p.0 p.1 s pr nests listed removed home_mem tc run in
-    (subst Ready (sym e) (ready_v h valid head guard body n m r rule em stand d all.names goes contexts p.0 p.1 s pr tc run sound), λ t w. tt))))
+    let sound = sound_before h valid head body n m r rule em stand d all.names goes contexts p.0 p.1 s pr nests listed removed home_mem tc run in
+    (subst Ready (sym e) (ready_v h valid head body n m r rule em stand d all.names goes contexts p.0 p.1 s pr tc run sound), λ t w. tt))))

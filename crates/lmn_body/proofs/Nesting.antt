@@ -2,7 +2,6 @@
 use Rattle.std.proofs.Common.{ℕ, zero, suc, ◌+◌, ◌<◌, ◌≤◌, ◌≡◌, ◌⊎◌, Bool, true, false, List, [], ◌∷◌, ◌++◌, length, Option, Some, None, IsSome, refl, sym, ap, subst, ◌∙◌, inl, inr, arith}
 use Rattle.std.specs.Option.{option_map, option_and_then}
 use Rattle.std.specs.Prelude as prelude
-use Rattle.lmn_base.specs.declared.guard.Cond.{Cond}
 use Rattle.lmn_heap.specs.Heap.{Heap, HeapAtom, HeapMem, top, within, waiting, gone, home_by, partners_of, functor_of, arity_of, link_of, place_of, mem_place_of, home_of, atoms_in, mems_in, rules_in, atoms_by, mems_by, rules_by, IsMem, IsInPlace, IsMemInPlace, Distinct, finished, taken_all}
 use Rattle.lmn_heap.specs.Heap as heap
 use Rattle.lmn_heap.specs.Sound.{Paired, Valid, Sound}
@@ -12,7 +11,7 @@ use Rattle.lmn_heap.proofs.Listing.{same_paired, listed_mem as listed_some}
 use Rattle.lmn_heap.proofs.Replacing.{no_waiting, no_waiting_mems}
 use Rattle.lmn_solid.specs.declared.items.HeadItem.{HeadItem}
 use Rattle.lmn_solid.specs.Heads.{HeadMembrane, atoms_of, membranes_of}
-use Rattle.lmn_solid.specs.Embeddings.{Embeds, HasMembrane}
+use Rattle.lmn_solid.specs.Embeddings.{Lies, HasMembrane}
 use Rattle.lmn_splice.specs.Classes.{body_ties}
 use Rattle.lmn_splice.specs.Splice.{raw_link, of_solid, Splice, Fusion}
 use Rattle.lmn_splice.specs.Splice as splice
@@ -49,8 +48,8 @@ use Rattle.lmn_body.specs.Code.{making}
 use Rattle.lmn_base.specs.Lists.{In}
 use Rattle.lmn_base.proofs.Lists.{in_either, plus_nothing}
 
-module _ (h : Heap) (valid : Valid h) (head : List HeadItem) (guard : List Cond) (body : List BodyItem) (n m : ℕ) (r : Registers) (rule : AtomRule head body n)
-    (em : Embeds h head guard m r.head.images) (stand : IsMemInPlace h m) (c : Port → ℕ) (names : Names h c)
+module _ (h : Heap) (valid : Valid h) (head : List HeadItem) (body : List BodyItem) (n m : ℕ) (r : Registers) (rule : AtomRule head body n)
+    (em : Lies h head m r.head.images) (stand : IsMemInPlace h m) (c : Port → ℕ) (names : Names h c)
     (goes : Goes r (membrane_images r head) (Exists h r head body) body)
     (contexts : (k : ℕ) (b : HeadMembrane) → HasMembrane head k b → b.has_context ≡ true → In (r.head.images.membrane k) (moved_mems r body))
     (ps : List ℕ) (parts : PartAtoms h head r.head.images ps)
@@ -126,8 +125,8 @@ module _ (h : Heap) (valid : Valid h) (head : List HeadItem) (guard : List Cond)
 
   pub once_s : InOneList s ns
   once_s a i =
-      let w = home_s h valid head guard body n m r rule em stand c names free ps parts a i in
-      let p = taken_in_place h valid head guard body n m r rule em stand c names free ps parts a i in
+      let w = home_s h valid head body n m r rule em stand c names free ps parts a i in
+      let p = taken_in_place h valid head body n m r rule em stand c names free ps parts a i in
       let v = within_of h a p in
       let at = within_one v.0 w.0 a v.1 (home_as a ∙ w.1) in (
         w.0,
@@ -147,18 +146,18 @@ module _ (h : Heap) (valid : Valid h) (head : List HeadItem) (guard : List Cond)
 
       within_one : (v w a : ℕ) → place_of h a ≡ Some (within v) → home_of s a ≡ Some w → v ≡ w
       within_one v w a e f =
-          let old = in_place_new h valid head guard body n m r rule em stand c names free ps parts a (in_place_within h a v e) in
+          let old = in_place_new h valid head body n m r rule em stand c names free ps parts a (in_place_within h a v e) in
           one_some v w (sym (place_home h a v e) ∙ sym (same_home_h a (in_place_within h a v e)) ∙ f)
         where
           same_home_h : (a : ℕ) → IsInPlace h a → home_of s a ≡ home_of h a
           same_home_h a i = home_as a ∙ ap (λ (o : Option HeapAtom). option_and_then (λ x. home_by x.place) o)
-              (old_atom h valid head guard body n m r rule em stand c names free ps parts a (is_atom h valid head guard body n m r rule em stand c names free ps parts a i))
+              (old_atom h valid head body n m r rule em stand c names free ps parts a (is_atom h valid head body n m r rule em stand c names free ps parts a i))
 
   abbrev pub t1 : Heap
   t1 = taken_all s ns
 
   sh1 : Shrunk s t1 ns []
-  sh1 = shrunk_atoms ns s (ns_once h valid head guard body n m r rule em stand c names free ps parts) once_s
+  sh1 = shrunk_atoms ns s (ns_once h valid head body n m r rule em stand c names free ps parts) once_s
 
   pub once_t1 : MemInOneList t1 ks
   once_t1 x i =
@@ -221,8 +220,8 @@ module _ (h : Heap) (valid : Valid h) (head : List HeadItem) (guard : List Cond)
         nothing (left_atoms x) (λ a j.
             let v = in_withouts_of ns (atoms_in h x) a (valid.sound.listed.atoms_once x) j in
             elim (em.no_other_atom w.0 w.1 a w.2 none (subst (λ z. In a (atoms_in h z)) (sym w.3) v.0)) [
-              | inl u ↦ v.1 (subst (λ z. In z ns) u.2 (is_taken h valid head guard body n m r rule em stand c names free ps parts u.0 u.1))
-              | inr u ↦ v.1 (part_taken h valid head guard body n m r rule em stand c names free ps parts u.0 u.1 a u.2 u.4)
+              | inl u ↦ v.1 (subst (λ z. In z ns) u.2 (is_taken h valid head body n m r rule em stand c names free ps parts u.0 u.1))
+              | inr u ↦ v.1 (part_taken h valid head body n m r rule em stand c names free ps parts u.0 u.1 a u.2 u.4)
             ]),
         nothing (left_mems x) (λ a j.
             let v = in_withouts_of ks (mems_in h x) a (valid.sound.listed.mems_once x) j in
@@ -255,7 +254,7 @@ module _ (h : Heap) (valid : Valid h) (head : List HeadItem) (guard : List Cond)
 
     pub sp_s : Splice F c (partners s) news olds wires
     sp_s = subst (λ (f : ℕ → Option HeapAtom). Splice (λ p. (p.1 < length (partners_of (f p.0))) × ((IsSome (option_and_then (λ x. home_by x.place) (f p.0)) × (In p.0 ns → ⊥)) ⊎ In p.0 (atoms_of_pairs es)))
-        c (λ p. prelude.slice_index_or (partners_of (f p.0)) p.1 None) news olds wires) (sym same_atom) (splice_at h valid head guard body n m r rule em stand c names free ps parts)
+        c (λ p. prelude.slice_index_or (partners_of (f p.0)) p.1 None) news olds wires) (sym same_atom) (splice_at h valid head body n m r rule em stand c names free ps parts)
 
     pub same_partners : partners t3 ≡ partners s
     same_partners = λ i p. links_t3 p.0 p.1 i
@@ -265,7 +264,7 @@ module _ (h : Heap) (valid : Valid h) (head : List HeadItem) (guard : List Cond)
 
     fu : Fusion F c (partners v) news olds wires × Paired v × SameItems t3 v
     fu = heap_fusion F c news olds wires n t3 (same_paired s t3 links_t3 paired_s) (λ p f. subst (λ k. p.1 < k) (sym (arities_t3 p.0)) f.0)
-        (subst (λ k. Splice F c k news olds wires) (sym same_partners) sp_s) (links_below h valid head guard body n m r rule em stand c names free ps parts)
+        (subst (λ k. Splice F c k news olds wires) (sym same_partners) sp_s) (links_below h valid head body n m r rule em stand c names free ps parts)
 
     pub fusion_v : Fusion F c (partners v) news olds wires
     fusion_v = fu.0
@@ -299,16 +298,16 @@ module _ (h : Heap) (valid : Valid h) (head : List HeadItem) (guard : List Cond)
 
     module _ (sound : Sound v) where
       old_s : (a : ℕ) → IsInPlace h a → IsInPlace s a
-      old_s a i = subst (λ (f : ℕ → Option HeapAtom). IsSome (option_and_then (λ x. home_by x.place) (f a))) (sym same_atom) (in_place_new h valid head guard body n m r rule em stand c names free ps parts a i)
+      old_s a i = subst (λ (f : ℕ → Option HeapAtom). IsSome (option_and_then (λ x. home_by x.place) (f a))) (sym same_atom) (in_place_new h valid head body n m r rule em stand c names free ps parts a i)
 
       pub s_old : (a : ℕ) → IsInPlace s a → IsInPlace h a
-      s_old a i = in_place_old h valid head guard body n m r rule em stand c names free ps parts a (subst (λ (f : ℕ → Option HeapAtom). IsSome (option_and_then (λ x. home_by x.place) (f a))) same_atom i)
+      s_old a i = in_place_old h valid head body n m r rule em stand c names free ps parts a (subst (λ (f : ℕ → Option HeapAtom). IsSome (option_and_then (λ x. home_by x.place) (f a))) same_atom i)
 
       left_stands : (x a : ℕ) → In a (left_atoms x) → IsInPlace s a × (In a ns → ⊥)
       left_stands x a i = let w = in_withouts_of ns (atoms_in h x) a (valid.sound.listed.atoms_once x) i in (old_s a (in_place_listed h x a valid.sound.listed w.0), w.1)
 
       numbers_pairs : (a : ℕ) → In a new → In a (atoms_of_pairs es)
-      numbers_pairs a i = subst (In a) (sym (es_numbers h valid head guard body n m r rule em stand c names free ps parts)) i
+      numbers_pairs a i = subst (In a) (sym (es_numbers h valid head body n m r rule em stand c names free ps parts)) i
 
       pub stands_v : (a : ℕ) → IsInPlace v a → (IsInPlace s a × (In a ns → ⊥)) ⊎ In a (atoms_of_pairs es)
       stands_v a i =
@@ -337,7 +336,7 @@ module _ (h : Heap) (valid : Valid h) (head : List HeadItem) (guard : List Cond)
             ]
           ]
       stands_then a (inr i) =
-          let y = new_arrives r left_atoms ks (Exists h r head body) N 0 body goes a (subst (In a) (es_numbers h valid head guard body n m r rule em stand c names free ps parts) i) in arrives y.0 a y.1 y.2
+          let y = new_arrives r left_atoms ks (Exists h r head body) N 0 body goes a (subst (In a) (es_numbers h valid head body n m r rule em stand c names free ps parts) i) in arrives y.0 a y.1 y.2
 
       arities_v : (a : ℕ) → arity_of v a ≡ arity_of s a
       arities_v a = same.arities a ∙ arities_t3 a
@@ -399,7 +398,7 @@ module _ (h : Heap) (valid : Valid h) (head : List HeadItem) (guard : List Cond)
           by (Some y) d = place y y.place refl (λ e. d (ap (λ z. Some z) e))
 
       pub kept_s : (a : ℕ) → IsInPlace h a → functor_of s a ≡ functor_of h a
-      kept_s a i = ap (λ (f : ℕ → Option HeapAtom). option_map (λ x. x.functor) (f a)) same_atom ∙ kept_functor h valid head guard body n m r rule em stand c names free ps parts a i
+      kept_s a i = ap (λ (f : ℕ → Option HeapAtom). option_map (λ x. x.functor) (f a)) same_atom ∙ kept_functor h valid head body n m r rule em stand c names free ps parts a i
 
       -- an atom of a copy stands
       copied_pairs : (e : ℕ × ℕ) → splice.IsOneOf e (copies_of 0 body) → (y : ℕ) → In y (r.copied e.0) → In y (atoms_of_pairs es)
@@ -416,8 +415,8 @@ module _ (h : Heap) (valid : Valid h) (head : List HeadItem) (guard : List Cond)
       joined_then : (p q : Port) → In p.0 new → In q.0 new → partners s0 p ≡ Some q → partners (finished v) p ≡ Some q
       joined_then p q i j e =
           let back_e : partners s0 q ≡ Some p = free.sound.paired.back p.0 p.1 q.0 q.1 e in
-          let same_number : number p ≡ number q = ap fusion_v.to (inner_link h valid head guard body n m r rule em stand c names free ps parts p q i e ∙ ap of_solid (sym (free.same p q i e))
-          ∙ sym (inner_link h valid head guard body n m r rule em stand c names free ps parts q p j back_e)) in
+          let same_number : number p ≡ number q = ap fusion_v.to (inner_link h valid head body n m r rule em stand c names free ps parts p q i e ∙ ap of_solid (sym (free.same p q i e))
+          ∙ sym (inner_link h valid head body n m r rule em stand c names free ps parts q p j back_e)) in
           elim (named_v.only p q (stands_port p q i e) (stands_port q p j back_e) same_number) [
             | inl f ↦ absurd (free.sound.paired.apart p.0 p.1 (e ∙ ap Some (sym f)))
             | inr f ↦ f
@@ -459,11 +458,11 @@ module _ (h : Heap) (valid : Valid h) (head : List HeadItem) (guard : List Cond)
         heads_fused = λ e i. fusion_v.heads (old_port r e.0, e.1) (heap_in (old_port r) e (old_ports head) i);
         number = λ p. fusion_v.to (raw_link news c p);
         named = names_left v F number fusion_v.coloured into back;
-        kept_links = λ p i. ap fusion_v.to (kept_link h valid head guard body n m r rule em stand c names free ps parts p i);
-        made_links = λ e i. ap fusion_v.to (new_link h valid head guard body n m r rule em stand c names free ps parts (new_port r e.0, e.1) (heap_in (new_port r) e (new_ports N 0 body) i));
+        kept_links = λ p i. ap fusion_v.to (kept_link h valid head body n m r rule em stand c names free ps parts p i);
+        made_links = λ e i. ap fusion_v.to (new_link h valid head body n m r rule em stand c names free ps parts (new_port r e.0, e.1) (heap_in (new_port r) e (new_ports N 0 body) i));
         kept_functors = λ a i o. ap (λ (q : Option HeapAtom). option_map (λ x. x.functor) q) (stands_on v a (stands_then a (inl (old_s a i, o)))) ∙ functors_v a ∙ kept_s a i;
         made_functors = λ e i. ap (λ (q : Option HeapAtom). option_map (λ x. x.functor) q) (stands_on v e.0 (stands_then e.0 (inr (numbers_pairs e.0 (written_new r N 0 body e.0 e.1 i))))) ∙ functors_v e.0
-            ∙ ap (λ (f : ℕ → Option HeapAtom). option_map (λ x. x.functor) (f e.0)) same_atom ∙ new_functor h valid head guard body n m r rule em stand c names free ps parts e i;
+            ∙ ap (λ (f : ℕ → Option HeapAtom). option_map (λ x. x.functor) (f e.0)) same_atom ∙ new_functor h valid head body n m r rule em stand c names free ps parts e i;
         new_placed = λ y i. subst (λ (o : Option HeapAtom). IsSome (option_and_then (λ x. home_by x.place) o)) (sym (stands_on v y (stands_then y (inr (numbers_pairs y i))))) (stands_then y (inr (numbers_pairs y i)));
         copies = copies_then;
         atoms = λ x o. ap atoms_by (stays_mem x o) ∙ atoms_v x o;

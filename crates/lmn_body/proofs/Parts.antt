@@ -1,7 +1,6 @@
 -- The parts of typed contexts are taken: no atom stands in two of them.
 use Rattle.std.proofs.Common.{ℕ, ◌<◌, ◌≡◌, ◌≢◌, ◌↔◌, List, [], ◌∷◌, ◌++◌, map, length, Option, Some, None, IsSome, refl, sym, ap, subst, ◌∙◌, inl, inr, arith}
 use Rattle.std.specs.Prelude.{slice_get}
-use Rattle.lmn_base.specs.declared.guard.Cond.{Cond}
 use Rattle.lmn_base.specs.Graphs.{Reached, at_root, across, Port}
 use Rattle.lmn_heap.specs.Heap.{Heap, HeapAtom, partners_of, functor_of, arity_of, link_of, IsAtom, Distinct, taken, taken_all}
 use Rattle.lmn_base.specs.declared.functor.Functor.{Functor}
@@ -13,7 +12,7 @@ use Rattle.lmn_heap.specs.Sound.{Valid}
 use Rattle.lmn_heap.proofs.ListLemmas.{in_left, in_right}
 use Rattle.lmn_solid.specs.declared.items.HeadItem.{HeadItem}
 use Rattle.lmn_solid.specs.Heads.{HeadAtom, HeadTyped, atoms_of}
-use Rattle.lmn_solid.specs.Embeddings.{Embeds, HasTyped, HasLink}
+use Rattle.lmn_solid.specs.Embeddings.{Lies, HasTyped, HasLink}
 use Rattle.lmn_splice.specs.Splice as splice
 use Rattle.lmn_splice.proofs.Joining.{same_some}
 use Rattle.lmn_instr.specs.declared.instr.Instr.TheVariants.{RemovePart}
@@ -43,7 +42,7 @@ taken_append s (x ∷ xs) ys = taken_append (taken s x) xs ys
 abbrev pub PartOf : Heap → Registers → ℕ → ℕ → Type 0
 PartOf h r g a = Reached (atom_map h) (r.head.images.part g) a
 
-module _ (h : Heap) (valid : Valid h) (head : List HeadItem) (guard : List Cond) (body : List BodyItem) (n m : ℕ) (r : Registers) (rule : AtomRule head body n) (em : Embeds h head guard m r.head.images) where
+module _ (h : Heap) (valid : Valid h) (head : List HeadItem) (body : List BodyItem) (n m : ℕ) (r : Registers) (rule : AtomRule head body n) (em : Lies h head m r.head.images) where
   -- the head port that holds a part
   holds : (g : ℕ) (t : HeadTyped) → HasTyped head g t → (p : Port) × HasLink head t.link p × (partners h (r.head.images.part g) ≡ Some (r.head.images.atom p.0, p.1))
   holds g t w =

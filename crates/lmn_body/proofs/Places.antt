@@ -3,14 +3,13 @@ use Rattle.std.proofs.Common.{ℕ, suc, ◌+◌, ◌<◌, ◌≡◌, ◌≢◌, 
 use Rattle.std.proofs.lemmas.Bool.{cases_eq}
 use Rattle.std.proofs.lemmas.List.{append_assoc}
 use Rattle.std.specs.Option.{option_map}
-use Rattle.lmn_base.specs.declared.guard.Cond.{Cond}
 use Rattle.lmn_heap.specs.Heap as heap
 use Rattle.lmn_heap.specs.Heap.{Heap, HeapMem, within, mems_in, IsMem, IsMemInPlace}
 use Rattle.lmn_heap.specs.Sound.{Valid}
 use Rattle.lmn_heap.proofs.ListLemmas.{in_left, in_right}
 use Rattle.lmn_solid.specs.declared.items.HeadItem.{HeadItem}
 use Rattle.lmn_solid.specs.Heads.{membranes_of}
-use Rattle.lmn_solid.specs.Embeddings.{Embeds}
+use Rattle.lmn_solid.specs.Embeddings.{Lies}
 use Rattle.lmn_splice.specs.Splice.{IsOneOf}
 use Rattle.lmn_body.specs.declared.items.BodyItem.{BodyItem}
 use Rattle.lmn_body.specs.declared.items.BodyItem.TheVariants.{Atom, Connector, Copy, Bound, Membrane, Rest, Rule, Rules}
@@ -34,7 +33,7 @@ moved_are r (Rest of inside ∷ xs) k (inr i) = inr (moved_are r xs k i)
 moved_are r (Rule rule inside ∷ xs) k i = moved_are r xs k i
 moved_are r (Rules of inside ∷ xs) k i = moved_are r xs k i
 
-module _ (h : Heap) (valid : Valid h) (head : List HeadItem) (guard : List Cond) (m : ℕ) (r : Registers) (em : Embeds h head guard m r.head.images) (stand : IsMemInPlace h m) (head_nests : HeadNests head)
+module _ (h : Heap) (valid : Valid h) (head : List HeadItem) (m : ℕ) (r : Registers) (em : Lies h head m r.head.images) (stand : IsMemInPlace h m) (head_nests : HeadNests head)
     (body : List BodyItem) (fresh : (x : ℕ) → In x (made_mems r (1 + length (membranes_of head)) body) → h.mems x ≡ None) where
   abbrev K : ℕ
   K = length (membranes_of head)
@@ -68,7 +67,7 @@ module _ (h : Heap) (valid : Valid h) (head : List HeadItem) (guard : List Cond)
   new_apart x i j = let z : IsSome {T = HeapMem} None = subst (λ (o : Option HeapMem). IsSome o) (fresh x i) (removed_mem x j) in absurd (cc)
 
   pub home_apart : In m ks → ⊥
-  home_apart i = off (below_home h valid head guard m r em head_nests m i)
+  home_apart i = off (below_home h valid head m r em head_nests m i)
     where
       off : preorder h valid m < preorder h valid m → ⊥
       off l = omega arith

@@ -2,7 +2,6 @@
 use Rattle.std.proofs.Common.{ℕ, ◌+◌, ◌≡◌, ◌≢◌, ◌⊎◌, true, List, [], ◌∷◌, ◌++◌, map, length, Option, Some, None, IsSome, refl, sym, ap, subst, ◌∙◌, inl, inr}
 use Rattle.std.proofs.lemmas.Bool.{cases_eq, eq-eqb}
 use Rattle.std.specs.Option.{option_map, option_and_then}
-use Rattle.lmn_base.specs.declared.guard.Cond.{Cond}
 use Rattle.lmn_heap.specs.Heap as heap
 use Rattle.lmn_heap.specs.Heap.{Heap, HeapAtom, HeapMem, waiting, gone, functor_of, arity_of, mem_place_of, parent_of, atoms_by, mems_by, IsMem, IsMemInPlace, Distinct, placed, placed_mem, moved_all, taken_mem}
 use Rattle.lmn_heap.specs.Sound.{Sound, Listed, Paired, Shaped, Valid}
@@ -10,7 +9,7 @@ use Rattle.lmn_heap.proofs.ListLemmas.{each_in}
 use Rattle.lmn_heap.proofs.Listing.{alter_at, made_listed, placed_listed, same_listed, same_mem_place}
 use Rattle.lmn_solid.specs.declared.items.HeadItem.{HeadItem}
 use Rattle.lmn_solid.specs.Heads.{HeadMembrane, atoms_of, membranes_of}
-use Rattle.lmn_solid.specs.Embeddings.{Embeds, HasMembrane}
+use Rattle.lmn_solid.specs.Embeddings.{Lies, HasMembrane}
 use Rattle.lmn_body.specs.declared.items.BodyItem.{BodyItem}
 use Rattle.lmn_body.specs.declared.items.BodyItem.TheVariants.{Atom, Connector, Copy, Bound, Membrane, Rest, Rule, Rules}
 use Rattle.lmn_body.specs.Code.{making}
@@ -179,8 +178,8 @@ taken_mems_wait (k ∷ ks) s x e =
       | inr d ↦ sym (out_place s k x d) ∙ before
     ]
 
-module _ (h : Heap) (valid : Valid h) (head : List HeadItem) (guard : List Cond) (body : List BodyItem) (n m : ℕ) (r : Registers) (rule : AtomRule head body n)
-    (em : Embeds h head guard m r.head.images) (stand : IsMemInPlace h m) (c : Port → ℕ) (names : Names h c)
+module _ (h : Heap) (valid : Valid h) (head : List HeadItem) (body : List BodyItem) (n m : ℕ) (r : Registers) (rule : AtomRule head body n)
+    (em : Lies h head m r.head.images) (stand : IsMemInPlace h m) (c : Port → ℕ) (names : Names h c)
     (goes : Goes r (membrane_images r head) (Exists h r head body) body)
     (contexts : (k : ℕ) (b : HeadMembrane) → HasMembrane head k b → b.has_context ≡ true → In (r.head.images.membrane k) (moved_mems r body))
     (ps : List ℕ) (parts : PartAtoms h head r.head.images ps)
@@ -188,10 +187,10 @@ module _ (h : Heap) (valid : Valid h) (head : List HeadItem) (guard : List Cond)
     (nests : Nests r m [] (1 + length (membranes_of head)) body) (listed_s : Listed s)
     (removed_mem : (x : ℕ) → In x (membrane_images r head) → IsMem h x) (home_mem : IsMem h m) where
   abbrev t1 : Heap
-  t1 = nesting.t1 h valid head guard body n m r rule em stand c names goes contexts ps parts s pr
+  t1 = nesting.t1 h valid head body n m r rule em stand c names goes contexts ps parts s pr
 
   abbrev t2 : Heap
-  t2 = nesting.t2 h valid head guard body n m r rule em stand c names goes contexts ps parts s pr
+  t2 = nesting.t2 h valid head body n m r rule em stand c names goes contexts ps parts s pr
 
   abbrev ks : List ℕ
   ks = membrane_images r head
@@ -203,14 +202,14 @@ module _ (h : Heap) (valid : Valid h) (head : List HeadItem) (guard : List Cond)
   paired_s = subst (λ (f : ℕ → Option HeapAtom). Paired (record s { atoms = f })) (sym pr.atoms.atoms) (record { back = made_s.paired.back; apart = made_s.paired.apart })
 
   listed_t1 : Listed t1
-  listed_t1 = (all_taken_after (nesting.ns h valid head guard body n m r rule em stand c names goes contexts ps parts s pr) s listed_s
+  listed_t1 = (all_taken_after (nesting.ns h valid head body n m r rule em stand c names goes contexts ps parts s pr) s listed_s
       paired_s
-      (ns_once h valid head guard body n m r rule em stand c names pr.free ps parts)
-      (λ a i. let w = nesting.once_s h valid head guard body n m r rule em stand c names goes contexts ps parts s pr a i in (w.0, w.1))).listed
+      (ns_once h valid head body n m r rule em stand c names pr.free ps parts)
+      (λ a i. let w = nesting.once_s h valid head body n m r rule em stand c names goes contexts ps parts s pr a i in (w.0, w.1))).listed
 
   pub listed_t2 : Listed t2
-  listed_t2 = taken_mems_listed ks t1 listed_t1 (nesting.ks_once h valid head guard body n m r rule em stand c names goes contexts ps parts s pr)
-      (λ k i. let w = nesting.once_t1 h valid head guard body n m r rule em stand c names goes contexts ps parts s pr k i in (w.0, w.1))
+  listed_t2 = taken_mems_listed ks t1 listed_t1 (nesting.ks_once h valid head body n m r rule em stand c names goes contexts ps parts s pr)
+      (λ k i. let w = nesting.once_t1 h valid head body n m r rule em stand c names goes contexts ps parts s pr k i in (w.0, w.1))
 
   -- nothing waits between commits
   never_waits : (x : ℕ) → mem_place_of h x ≡ Some waiting → ⊥
@@ -227,8 +226,8 @@ module _ (h : Heap) (valid : Valid h) (head : List HeadItem) (guard : List Cond)
 
   old_ready : (x : ℕ) → IsMem h x → IsSome (t2.mems x) × (mem_place_of t2 x ≡ Some waiting → ⊥)
   old_ready x i = (
-    nesting.there_t2 h valid head guard body n m r rule em stand c names goes contexts ps parts s pr x (inl i),
-    λ e. never_waits x (sym (pr.mems.places x i) ∙ sym (taken_places (nesting.ns h valid head guard body n m r rule em stand c names goes contexts ps parts s pr) s x) ∙ taken_mems_wait ks t1 x e),
+    nesting.there_t2 h valid head body n m r rule em stand c names goes contexts ps parts s pr x (inl i),
+    λ e. never_waits x (sym (pr.mems.places x i) ∙ sym (taken_places (nesting.ns h valid head body n m r rule em stand c names goes contexts ps parts s pr) s x) ∙ taken_mems_wait ks t1 x e),
   )
 
   ready_t2 : Ready m [] ks t2
@@ -236,22 +235,22 @@ module _ (h : Heap) (valid : Valid h) (head : List HeadItem) (guard : List Cond)
   ready_t2 x (inr (inl i)) = absurd i
   ready_t2 x (inr (inr i)) = old_ready x (removed_mem x i)
 
-  module _ (t3 : Heap) (run : DoesAll r (making (length (atoms_of head)) (1 + length (membranes_of head)) 0 body) (nesting.t2 h valid head guard body n m r rule em stand c names goes contexts ps parts s pr) t3) where
+  module _ (t3 : Heap) (run : DoesAll r (making (length (atoms_of head)) (1 + length (membranes_of head)) 0 body) (nesting.t2 h valid head body n m r rule em stand c names goes contexts ps parts s pr) t3) where
     abbrev v : Heap
-    v = nesting.v h valid head guard body n m r rule em stand c names goes contexts ps parts s pr t3 run
+    v = nesting.v h valid head body n m r rule em stand c names goes contexts ps parts s pr t3 run
 
     pub listed_t3 : Listed t3
     listed_t3 = making_listed r m ks (Exists h r head body) [] (length (atoms_of head)) (1 + length (membranes_of head)) 0 body goes nests t2 t3 ready_t2
-        (λ x i. nesting.there_t2 h valid head guard body n m r rule em stand c names goes contexts ps parts s pr x (inr i)) listed_t2 run
+        (λ x i. nesting.there_t2 h valid head body n m r rule em stand c names goes contexts ps parts s pr x (inr i)) listed_t2 run
 
     abbrev same : SameItems t3 v
-    same = nesting.same h valid head guard body n m r rule em stand c names goes contexts ps parts s pr t3 run
+    same = nesting.same h valid head body n m r rule em stand c names goes contexts ps parts s pr t3 run
 
-    abbrev sh : Shrunk s t2 (nesting.ns h valid head guard body n m r rule em stand c names goes contexts ps parts s pr) ks
-    sh = nesting.sh h valid head guard body n m r rule em stand c names goes contexts ps parts s pr
+    abbrev sh : Shrunk s t2 (nesting.ns h valid head body n m r rule em stand c names goes contexts ps parts s pr) ks
+    sh = nesting.sh h valid head body n m r rule em stand c names goes contexts ps parts s pr
 
     abbrev gr : GrownBy r ks (length (atoms_of head)) (1 + length (membranes_of head)) 0 body t2 t3
-    gr = nesting.gr h valid head guard body n m r rule em stand c names goes contexts ps parts s pr t3 run
+    gr = nesting.gr h valid head body n m r rule em stand c names goes contexts ps parts s pr t3 run
 
     listed_v : Listed v
     listed_v = same_listed t3 v listed_t3 same.places (λ x. ap (λ f. option_map (λ y. y.place) (f x)) same.mems) (λ x. ap (λ f. atoms_by (f x)) same.mems) (λ x. ap (λ f. mems_by (f x)) same.mems) same.root same.new_atoms same.new_mems
@@ -278,4 +277,4 @@ module _ (h : Heap) (valid : Valid h) (head : List HeadItem) (guard : List Cond)
 
     -- The heap before PROCEED is sound.
     pub sound_before : Sound v
-    sound_before = record { paired = nesting.paired_v h valid head guard body n m r rule em stand c names goes contexts ps parts s pr t3 run; listed = listed_v; shaped = shaped_v }
+    sound_before = record { paired = nesting.paired_v h valid head body n m r rule em stand c names goes contexts ps parts s pr t3 run; listed = listed_v; shaped = shaped_v }

@@ -3,7 +3,6 @@ use Rattle.std.proofs.Common.{ℕ, ◌+◌, ◌<◌, ◌≤◌, ◌≡◌, ◌�
 use Rattle.std.proofs.lemmas.Bool.{cases_lt, eqb-true}
 use Rattle.std.proofs.lemmas.List.{append_assoc}
 use Rattle.std.specs.Option.{option_map}
-use Rattle.lmn_base.specs.declared.guard.Cond.{Cond}
 use Rattle.lmn_base.specs.Solids.{connector}
 use Rattle.lmn_heap.specs.Heap as heap
 use Rattle.lmn_heap.specs.Conditions.{Ready}
@@ -13,7 +12,7 @@ use Rattle.lmn_heap.proofs.ListLemmas.{in_left, in_right}
 use Rattle.lmn_heap.proofs.Finish.{finish_valid}
 use Rattle.lmn_solid.specs.declared.items.HeadItem.{HeadItem}
 use Rattle.lmn_solid.specs.Heads.{HeadMembrane, atoms_of, membranes_of}
-use Rattle.lmn_solid.specs.Embeddings.{Embeds, HasMembrane, index_of}
+use Rattle.lmn_solid.specs.Embeddings.{Lies, HasMembrane, index_of}
 use Rattle.lmn_body.specs.declared.items.BodyItem.{BodyItem}
 use Rattle.lmn_body.specs.declared.items.BodyItem.TheVariants.{Atom, Connector, Copy, Bound, Membrane, Rest, Rule, Rules}
 use Rattle.lmn_body.specs.Running.{Registers, DoesAll}
@@ -98,8 +97,8 @@ came_from r left home all d done m (Rest of inside ∷ xs) e w x b i =
 came_from r left home all d done m (Rule rule inside ∷ xs) e w x b i = came_from r left home all d done m xs e w.1 x b i
 came_from r left home all d done m (Rules of inside ∷ xs) e w x b i = came_from r left home all d done m xs e w.1 x b i
 
-module _ (h : Heap) (valid : Valid h) (head : List HeadItem) (guard : List Cond) (body : List BodyItem) (n m : ℕ) (r : Registers) (rule : AtomRule head body n)
-    (em : Embeds h head guard m r.head.images) (stand : IsMemInPlace h m) (c : Port → ℕ) (names : Names h c)
+module _ (h : Heap) (valid : Valid h) (head : List HeadItem) (body : List BodyItem) (n m : ℕ) (r : Registers) (rule : AtomRule head body n)
+    (em : Lies h head m r.head.images) (stand : IsMemInPlace h m) (c : Port → ℕ) (names : Names h c)
     (goes : Goes r (membrane_images r head) (Exists h r head body) body)
     (contexts : (k : ℕ) (b : HeadMembrane) → HasMembrane head k b → b.has_context ≡ true → In (r.head.images.membrane k) (moved_mems r body))
     (ps : List ℕ) (parts : PartAtoms h head r.head.images ps)
@@ -121,7 +120,7 @@ module _ (h : Heap) (valid : Valid h) (head : List HeadItem) (guard : List Cond)
   child_later = later h valid
 
   pub removed_later : (x : ℕ) → In x (membrane_images r head) → idx m < idx x
-  removed_later = below_home h valid head guard m r em head_nests
+  removed_later = below_home h valid head m r em head_nests
 
   -- ranks
 
@@ -197,9 +196,9 @@ module _ (h : Heap) (valid : Valid h) (head : List HeadItem) (guard : List Cond)
       by (inr q) (inr g) a b e = omega arith
 
   module _ (t3 : Heap) (run : DoesAll r (making (length (atoms_of head)) (1 + length (membranes_of head)) 0 body)
-      (nesting.t2 h valid head guard body n m r rule em stand c names goes contexts ps parts s pr) t3) where
+      (nesting.t2 h valid head body n m r rule em stand c names goes contexts ps parts s pr) t3) where
     abbrev v : Heap
-    v = nesting.v h valid head guard body n m r rule em stand c names goes contexts ps parts s pr t3 run
+    v = nesting.v h valid head body n m r rule em stand c names goes contexts ps parts s pr t3 run
 
     abbrev ks : List ℕ
     ks = membrane_images r head
@@ -217,9 +216,9 @@ module _ (h : Heap) (valid : Valid h) (head : List HeadItem) (guard : List Cond)
     -- a membrane has a greater rank than the one that it stands in
     up : (p x : ℕ) → In x (mems_in v p) → rank p < rank x
     up p x i = elim (decide_in p ks) [
-      | inl k ↦ absurd (subst (In x) (nesting.removed_empty h valid head guard body n m r rule em stand c names goes contexts ps parts s pr t3 run p k).1 i)
+      | inl k ↦ absurd (subst (In x) (nesting.removed_empty h valid head body n m r rule em stand c names goes contexts ps parts s pr t3 run p k).1 i)
       | inr o ↦ elim (in_either x (without_all ks (mems_in h p)) (added_mems r (λ q. without_all ks (mems_in h q)) (1 + K) body p)
-          (subst (In x) (nesting.mems_v h valid head guard body n m r rule em stand c names goes contexts ps parts s pr t3 run p o) i)) [
+          (subst (In x) (nesting.mems_v h valid head body n m r rule em stand c names goes contexts ps parts s pr t3 run p o) i)) [
             | inl j ↦ (let child = left_old p x j in old_up p x (λ q. old p q (mem_of_list h p x child)) (child_old p x child) (child_later p x child))
             | inr j ↦ elim (came_from r (λ q. without_all ks (mems_in h q)) m nm pr.mems.once [] (1 + K) body refl nests p x j) [
               | inl w ↦ (let a = made_rank x w.0 in elim w.1 [
@@ -239,12 +238,12 @@ module _ (h : Heap) (valid : Valid h) (head : List HeadItem) (guard : List Cond)
     module _ (sound : Sound v) where
       root_there : IsMem v v.root
       root_there =
-          let e : v.root ≡ h.root = (nesting.same h valid head guard body n m r rule em stand c names goes contexts ps parts s pr t3 run).root
-          ∙ (nesting.gr h valid head guard body n m r rule em stand c names goes contexts ps parts s pr t3 run).same.root
-          ∙ (nesting.sh h valid head guard body n m r rule em stand c names goes contexts ps parts s pr).same.root ∙ pr.mems.root in
-          subst (IsMem v) (sym e) (subst (λ (g : ℕ → Option HeapMem). IsSome (g h.root)) (sym (nesting.same h valid head guard body n m r rule em stand c names goes contexts ps parts s pr t3 run).mems)
-          (some_there ((nesting.t2 h valid head guard body n m r rule em stand c names goes contexts ps parts s pr).mems h.root) (t3.mems h.root) ((nesting.gr h valid head guard body n m r rule em stand c names goes contexts ps parts s pr t3 run).there h.root)
-          (some_there (s.mems h.root) ((nesting.t2 h valid head guard body n m r rule em stand c names goes contexts ps parts s pr).mems h.root) ((nesting.sh h valid head guard body n m r rule em stand c names goes contexts ps parts s pr).there h.root)
+          let e : v.root ≡ h.root = (nesting.same h valid head body n m r rule em stand c names goes contexts ps parts s pr t3 run).root
+          ∙ (nesting.gr h valid head body n m r rule em stand c names goes contexts ps parts s pr t3 run).same.root
+          ∙ (nesting.sh h valid head body n m r rule em stand c names goes contexts ps parts s pr).same.root ∙ pr.mems.root in
+          subst (IsMem v) (sym e) (subst (λ (g : ℕ → Option HeapMem). IsSome (g h.root)) (sym (nesting.same h valid head body n m r rule em stand c names goes contexts ps parts s pr t3 run).mems)
+          (some_there ((nesting.t2 h valid head body n m r rule em stand c names goes contexts ps parts s pr).mems h.root) (t3.mems h.root) ((nesting.gr h valid head body n m r rule em stand c names goes contexts ps parts s pr t3 run).there h.root)
+          (some_there (s.mems h.root) ((nesting.t2 h valid head body n m r rule em stand c names goes contexts ps parts s pr).mems h.root) ((nesting.sh h valid head body n m r rule em stand c names goes contexts ps parts s pr).there h.root)
           (pr.mems.there h.root root_h))))
         where
           root_h : IsMem h h.root
@@ -255,7 +254,7 @@ module _ (h : Heap) (valid : Valid h) (head : List HeadItem) (guard : List Cond)
               by (Some y) e = refl
 
       ready_here : Ready v
-      ready_here = nesting.ready_v h valid head guard body n m r rule em stand c names goes contexts ps parts s pr t3 run sound
+      ready_here = nesting.ready_v h valid head body n m r rule em stand c names goes contexts ps parts s pr t3 run sound
 
       abbrev most : ℕ
       most = length (flat f) + 1 + length nm
@@ -265,12 +264,12 @@ module _ (h : Heap) (valid : Valid h) (head : List HeadItem) (guard : List Cond)
 
       -- no atom that stands is a connector
       plain : (a : ℕ) → IsInPlace v a → functor_of v a ≢ Some connector
-      plain a i e = elim (nesting.stands_v h valid head guard body n m r rule em stand c names goes contexts ps parts s pr t3 run sound a i) [
-        | inl w ↦ (let j = nesting.s_old h valid head guard body n m r rule em stand c names goes contexts ps parts s pr t3 run sound a w.0 in
-            valid.no_connector a j (sym (nesting.functors_v h valid head guard body n m r rule em stand c names goes contexts ps parts s pr t3 run sound a
-            ∙ nesting.kept_s h valid head guard body n m r rule em stand c names goes contexts ps parts s pr t3 run sound a j) ∙ e))
-        | inr j ↦ new_plain h valid head guard body n m r rule em stand c names pr.free ps parts a j
-            (sym (nesting.functors_v h valid head guard body n m r rule em stand c names goes contexts ps parts s pr t3 run sound a ∙ ap (λ (g : ℕ → Option HeapAtom). option_map (λ x. x.functor) (g a)) pr.atoms.atoms) ∙ e)
+      plain a i e = elim (nesting.stands_v h valid head body n m r rule em stand c names goes contexts ps parts s pr t3 run sound a i) [
+        | inl w ↦ (let j = nesting.s_old h valid head body n m r rule em stand c names goes contexts ps parts s pr t3 run sound a w.0 in
+            valid.no_connector a j (sym (nesting.functors_v h valid head body n m r rule em stand c names goes contexts ps parts s pr t3 run sound a
+            ∙ nesting.kept_s h valid head body n m r rule em stand c names goes contexts ps parts s pr t3 run sound a j) ∙ e))
+        | inr j ↦ new_plain h valid head body n m r rule em stand c names pr.free ps parts a j
+            (sym (nesting.functors_v h valid head body n m r rule em stand c names goes contexts ps parts s pr t3 run sound a ∙ ap (λ (g : ℕ → Option HeapAtom). option_map (λ x. x.functor) (g a)) pr.atoms.atoms) ∙ e)
       ]
 
       -- The heap is valid again.

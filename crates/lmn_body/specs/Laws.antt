@@ -1,10 +1,9 @@
 -- The laws of body code.
 use Rattle.std.specs.Prelude.{ℕ, Some, true, ◌+◌, ◌≤◌, ◌<◌, ◌≡◌, ◌⊎◌, All, List, ◌++◌, map, length}
-use Rattle.lmn_base.specs.declared.guard.Cond.{Cond}
 use Rattle.lmn_heap.specs.Heap.{Heap, discarded, IsMemInPlace, rules_in, spare_of}
 use Rattle.lmn_heap.specs.Sound.{Valid}
 use Rattle.lmn_solid.specs.declared.items.HeadItem.{HeadItem}
-use Rattle.lmn_solid.specs.Embeddings.{Embeds, HasAtom, HasTyped, HasMembrane, HasLink}
+use Rattle.lmn_solid.specs.Embeddings.{Lies, HasAtom, HasTyped, HasMembrane, HasLink}
 use Rattle.lmn_body.specs.declared.items.BodyItem.{BodyItem}
 use Rattle.lmn_body.specs.Code.{body_code}
 use Rattle.lmn_body.specs.Running.{Registers, Prepares, RunsBody}
@@ -33,26 +32,27 @@ use Rattle.lmn_body.specs.Within.{FiresWithin, FiredAtoms, FiredSolid}
 use Rattle.lmn_body.specs.Items.{body_links, LinkedItems, AllMade, NoCopies}
 use Rattle.lmn_base.specs.Graphs.{Port}
 
--- The code of a body of atoms, connectors and integers, run at an embedding of a head of atoms, fires the rule: the
--- heap is valid again, and its solid is the raw region with its links fused.
+-- The code of a body of atoms, connectors and integers, run where a head of atoms lies, fires the rule: the heap is
+-- valid again, and its solid is the raw region with its links fused.
 abbrev pub BodyFires : Type 0
 BodyFires = (head : List HeadItem) (body : List BodyItem) (n : ℕ) → PlainRule head body n → (r : Registers) (h : Heap) (valid : Valid h)
-    (guard : List Cond) (m : ℕ) → Embeds h head guard m r.head.images → IsMemInPlace h m → (c : Port → ℕ) → Names h c →
+    (m : ℕ) → Lies h head m r.head.images → IsMemInPlace h m → (c : Port → ℕ) → Names h c →
     (h' : Heap) → RunsBody r (body_code head body n) h h' → FiresOnHeap h c valid.tree.0 r head body m h'
 
--- The code of a body with membranes, contexts, rules and copies, run at an embedding of a head, fires the rule: the heap is valid
--- again, and the links and the lists of each membrane are those of the firing. The head takes the images of its atoms
+-- The code of a body with membranes, contexts, rules and copies, run where its head lies, fires the rule: the heap is
+-- valid again, and the links and the lists of each membrane are those of the firing. The head takes the images of its atoms
 -- and the atoms of its parts, which are ps.
 abbrev pub BodyFiresWithin : Type 0
 BodyFiresWithin = (head : List HeadItem) (body : List BodyItem) (n : ℕ) → NestedRule head body n → (r : Registers) (h : Heap) → Valid h →
-    (guard : List Cond) (m : ℕ) → Embeds h head guard m r.head.images → IsMemInPlace h m → (c : Port → ℕ) → Names h c →
+    (m : ℕ) → Lies h head m r.head.images → IsMemInPlace h m → (c : Port → ℕ) → Names h c →
     (h' : Heap) → RunsBody r (body_code head body n) h h' →
     (ps : List ℕ) × PartAtoms h head r.head.images ps × Valid h' × FiresWithin h c r head body (images_of r head ++ ps) h'
 
--- When a body is prepared, with enough spares for the rules that it adds, each of its instructions can run in its turn.
+-- When a body is prepared where its head lies, with enough spares for the rules that it adds, each of its instructions
+-- can run in its turn.
 abbrev pub BodyCanRun : Type 0
 BodyCanRun = (head : List HeadItem) (body : List BodyItem) (n : ℕ) → NestedRule head body n → (r : Registers) (h : Heap) → Valid h →
-    (guard : List Cond) (m : ℕ) → Embeds h head guard m r.head.images → IsMemInPlace h m → (c : Port → ℕ) → Names h c →
+    (m : ℕ) → Lies h head m r.head.images → IsMemInPlace h m → (c : Port → ℕ) → Names h c →
     (s : Heap) → Prepares r (body_code head body n) h s → ((x : ℕ) → length (added_rules r (rules_in h) body x) ≤ spare_of s x) →
     CanRun r (body_code head body n) s
 

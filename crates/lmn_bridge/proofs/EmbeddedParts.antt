@@ -11,7 +11,7 @@ use Rattle.lmn_heap.proofs.Common.{same_port}
 -- the part of an embedded typed context is ground
 pub embedded_parts_are_ground : EmbeddedPartsAreGround
 embedded_parts_are_ground h r items guard m f n u p xs read e k l once has =
-    let w = e.parts n u k in
+    let w = e.lies.parts n u k in
     whole_parts_are_ground h r (f.membrane u.inside) (f.part n) (f.atom p.0, p.1) xs read w.whole
     (read.valid.sound.paired.back (f.atom p.0) p.1 (f.part n).0 (f.part n).1 (w.held p l))
     (λ c. w.apart (f.atom p.0) c (p.0, get_below (atoms_of items) p.0 l.0 l.1, refl)) once has
@@ -19,8 +19,8 @@ embedded_parts_are_ground h r items guard m f n u p xs read e k l once has =
 -- two such parts have no common atom
 pub embedded_parts_are_apart : EmbeddedPartsAreApart
 embedded_parts_are_apart h r items guard m f n k u w p q read e tn tk lp lq d =
-    let a = e.parts n u tn in
-    let b = e.parts k w tk in
+    let a = e.lies.parts n u tn in
+    let b = e.lies.parts k w tk in
     let back = read.valid.sound.paired.back in
     let jp = back (f.atom p.0) p.1 (f.part n).0 (f.part n).1 (a.held p lp) in
     let jq = back (f.atom q.0) q.1 (f.part k).0 (f.part k).1 (b.held q lq) in
@@ -30,6 +30,6 @@ embedded_parts_are_apart h r items guard m f n k u w p q read e tn tk lp lq d =
     (λ s.
     let z : ◌≡◌ {A = Option (ℕ × ℕ)} (Some (f.atom p.0, p.1)) (Some (f.atom q.0, q.1)) = sym jp ∙ ap (λ o. link_of h o.0 o.1) s ∙ jq in
     let y = same_port z in
-    let i = e.atoms_differ p.0 q.0 ip iq y.0 in
+    let i = e.lies.atoms_differ p.0 q.0 ip iq y.0 in
     d (λ t. (i t, y.1 t)))
     jp jq (λ c. b.apart (f.atom p.0) c (p.0, ip, refl)) (λ c. a.apart (f.atom q.0) c (q.0, iq, refl))

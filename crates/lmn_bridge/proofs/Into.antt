@@ -116,18 +116,18 @@ module _ (h : Heap) (v : Valid h) (r : HeapReading) (naming : IsNaming h r.name)
         elim (cases_eq p.0 q.0) [
           | inl a ↦ elim (cases_eq p.1 q.1) [
             | inl b ↦ (λ i. r.name (f.atom (a i)) (b i)) ∙ sym u.2
-            | inr d ↦ naming.joined (f.atom p.0) p.1 (f.atom q.0) q.1 (e.joined x p q k s (λ w. d (ap (λ z. z.1) w))) ∙ sym u.2
+            | inr d ↦ naming.joined (f.atom p.0) p.1 (f.atom q.0) q.1 (e.lies.joined x p q k s (λ w. d (ap (λ z. z.1) w))) ∙ sym u.2
           ]
-          | inr d ↦ naming.joined (f.atom p.0) p.1 (f.atom q.0) q.1 (e.joined x p q k s (λ w. d (ap (λ z. z.0) w))) ∙ sym u.2
+          | inr d ↦ naming.joined (f.atom p.0) p.1 (f.atom q.0) q.1 (e.lies.joined x p q k s (λ w. d (ap (λ z. z.0) w))) ∙ sym u.2
         ]
 
     read_atom : (n : ℕ) (a : HeadAtom) → HasAtom items n a → atom_at h r (f.atom n) ≡ record { label = label_of r.names a.functor.label; links = map link_name a.links }
     read_atom n a k = by (h.atoms (f.atom n)) refl
       where
         by : (o : Option HeapAtom) → h.atoms (f.atom n) ≡ o → atom_by r (f.atom n) o ≡ record { label = label_of r.names a.functor.label; links = map link_name a.links }
-        by None q = absurd (let w = e.functors n a k in let s : None ≡ Some a.functor = rw q at w in cc)
+        by None q = absurd (let w = e.lies.functors n a k in let s : None ≡ Some a.functor = rw q at w in cc)
         by (Some y) q =
-            let w = e.functors n a k in
+            let w = e.lies.functors n a k in
             let s : y.functor ≡ a.functor = same_Some y.functor a.functor (rw q at w) in
             let len : length a.links ≡ y.functor.arity = fit n a k ∙ ap (λ g. g.arity) (sym s) in
             let ls = numbered_are r.name link_name (f.atom n) 0 y.functor.arity a.links len (λ j x g. let z : 0 + j ≡ j = omega arith in rw z (named x (n, j) (a, k, g))) in
@@ -141,14 +141,14 @@ module _ (h : Heap) (v : Valid h) (r : HeapReading) (naming : IsNaming h r.name)
       atom_lies : (n : ℕ) (a : HeadAtom) → HasAtom items n a → AtomLies h r f part_at link_name typed_of items n a
       atom_lies n a k = record {
         is = read_atom n a k;
-        placed = e.atoms_placed n a k;
+        placed = e.lies.atoms_placed n a k;
         outside = λ i x p g one inner q w. e.outside n i x a p k g one inner q w;
       }
 
       part_name : (n : ℕ) (t : HeadTyped) → HasTyped items n t → r.name (f.part n).0 (f.part n).1 ≡ link_name t.link
       part_name n t k =
           let p = holds n t k in
-          sym (naming.joined (f.atom p.0.0) p.0.1 (f.part n).0 (f.part n).1 ((e.parts n t k).held p.0 p.1)) ∙ named t.link p.0 p.1
+          sym (naming.joined (f.atom p.0.0) p.0.1 (f.part n).0 (f.part n).1 ((e.lies.parts n t k).held p.0 p.1)) ∙ named t.link p.0 p.1
 
       total_ports : (n : ℕ) (t : HeadTyped) → HasTyped items n t → 1 ≤ places t.link (map (λ o. o.link) (at_atoms 0 (atoms_of items)))
       total_ports n t k = let p = holds n t k in port_counts t.link (atoms_of items) 0 p.0.0 p.0.1 p.1.0 p.1.1 p.1.2
@@ -199,12 +199,12 @@ module _ (h : Heap) (v : Valid h) (r : HeapReading) (naming : IsNaming h r.name)
       atoms_apart b i l k w =
           let t = find_typed i l in
           let zj : 0 + w.0 ≡ w.0 = omega arith in
-          (e.parts i t.0 t.1).apart b ((part_is i t.0 t.1 b).0 k) (w.0, w.1, ap f.atom (sym zj) ∙ w.2)
+          (e.lies.parts i t.0 t.1).apart b ((part_is i t.0 t.1 b).0 k) (w.0, w.1, ap f.atom (sym zj) ∙ w.2)
 
       once_all : (b : ℕ) → places b (all_atoms h r f part_at link_name typed_of items) + places b (all_parts h r f part_at link_name typed_of items) ≤ 1
       once_all b =
           let count = length (typed_contexts_of items) in
-          let da = once_of b (all_atoms h r f part_at link_name typed_of items) (run_distinct f.atom 0 (length (atoms_of items)) (λ i j l k g. let zi : 0 + i ≡ i = omega arith in let zj : 0 + j ≡ j = omega arith in e.atoms_differ i j l k (ap f.atom (sym zi) ∙ g ∙ ap f.atom zj))) in
+          let da = once_of b (all_atoms h r f part_at link_name typed_of items) (run_distinct f.atom 0 (length (atoms_of items)) (λ i j l k g. let zi : 0 + i ≡ i = omega arith in let zj : 0 + j ≡ j = omega arith in e.lies.atoms_differ i j l k (ap f.atom (sym zi) ∙ g ∙ ap f.atom zj))) in
           let dp : places b (flattened (run part_at 0 (length (typed_contexts_of items)))) ≤ 1 = parts_once part_at 0 (length (typed_contexts_of items)) b
           (λ i l. let zi : 0 + i ≡ i = omega arith in let t = find_typed i l in subst (λ w. places b (part_at w) ≤ 1) (sym zi) (once_of b (part_at i) (grounds i t.0 t.1).once))
           (λ i j l k p q. let zi : 0 + i ≡ i = omega arith in let zj : 0 + j ≡ j = omega arith in parts_differ b i j l k (subst (λ w. In b (part_at w)) zi p) (subst (λ w. In b (part_at w)) zj q)) in
@@ -224,18 +224,18 @@ module _ (h : Heap) (v : Valid h) (r : HeapReading) (naming : IsNaming h r.name)
           let z : 1 + i ≡ suc i = omega arith in
           let k : HasMembrane items (1 + i) n = (i, z, g) in
           record {
-            placed = e.membranes_placed (1 + i) n k;
+            placed = e.lies.membranes_placed (1 + i) n k;
             stands = rw z (get_inside (membranes_of items) i n g);
             counted = omega (arith, get_below (membranes_of items) i n g);
             alone = λ c. (
-              (λ b p. elim (e.no_other_atom (1 + i) n b k c p) [
+              (λ b p. elim (e.lies.no_other_atom (1 + i) n b k c p) [
                 | inl w ↦ inl (let y : 0 + w.0 ≡ w.0 = omega arith in subst (λ b. In b (all_atoms h r f part_at link_name typed_of items)) (ap f.atom y ∙ w.2) (run_in f.atom 0 (length (atoms_of items)) w.0 w.1))
                 | inr w ↦ inr (let y : 0 + w.0 ≡ w.0 = omega arith in
                     in_parts part_at 0 (length (typed_contexts_of items)) b w.0 (get_below (typed_contexts_of items) w.0 w.1 w.2) (subst (λ z. In b (part_at z)) (sym y) ((part_is w.0 w.1 w.2 b).1 w.4)))
               ]),
-              (λ b p. let w = e.no_other_membrane (1 + i) n b k c p in let y : 1 + w.0 ≡ suc w.0 = omega arith in subst (λ b. In b (all_membranes h r f part_at link_name typed_of items)) (ap f.membrane y ∙ w.2) (run_in f.membrane 1 (length (membranes_of items)) w.0 w.1)),
+              (λ b p. let w = e.lies.no_other_membrane (1 + i) n b k c p in let y : 1 + w.0 ≡ suc w.0 = omega arith in subst (λ b. In b (all_membranes h r f part_at link_name typed_of items)) (ap f.membrane y ∙ w.2) (run_in f.membrane 1 (length (membranes_of items)) w.0 w.1)),
             );
-            no_rule = λ c. e.no_rule (1 + i) n k c;
+            no_rule = λ c. e.lies.no_rule (1 + i) n k c;
           }
 
       -- what holds of each item of an embedded head
@@ -247,13 +247,13 @@ module _ (h : Heap) (v : Valid h) (r : HeapReading) (naming : IsNaming h r.name)
 
       module _ (inner : Forest) (forms : Forms h inner (mems_in h m)) (once : Distinct (m ∷ flat inner)) where
         here_root : mems_in h m ≡ mems_in h (f.membrane 0)
-        here_root = ap (mems_in h) (sym e.here)
+        here_root = ap (mems_in h) (sym e.lies.here)
 
         -- an embedded head lies in the lists of the heap
         pub laid : LaidLevel h v r naming f part_at link_name typed_of items kind 0 1 0 0 hd inner
         laid = lay_level h v r naming f part_at link_name typed_of items kind 0 1 0 0 hd inner (inl refl) (omega arith) none stands
             once_all
-            (run_distinct f.membrane 1 (length (membranes_of items)) (λ i j l k g. let zi : 1 + i ≡ suc i = omega arith in let zj : 1 + j ≡ suc j = omega arith in e.membranes_differ i j l k (ap f.membrane (sym zi) ∙ g ∙ ap f.membrane zj)))
+            (run_distinct f.membrane 1 (length (membranes_of items)) (λ i j l k g. let zi : 1 + i ≡ suc i = omega arith in let zj : 1 + j ≡ suc j = omega arith in e.lies.membranes_differ i j l k (ap f.membrane (sym zi) ∙ g ∙ ap f.membrane zj)))
             (forms_tops h inner (mems_in h m) forms ∙ here_root) (forms_grown h inner (mems_in h m) forms) once.1
 
         abbrev Knows : tree.Level → ℕ → List ℕ → Forest → Forest → Type 0
@@ -288,7 +288,7 @@ module _ (h : Heap) (v : Valid h) (r : HeapReading) (naming : IsNaming h r.name)
             let told = C.agree t (λ p a k. ap (λ b. region_process (region b.0 b.1 [])) (looked ([], no_region) C.held oc k)) (λ p a k. looked [] C.rules_held or k) in
             let sum : (x : ℕ) → 0 + level_occurrences x Tree ≡ total h r f part_at link_name typed_of items x = λ x. omega (arith, times_are r.names r.rule kind x 0 1 hd) in
             let M = f.membrane 0 in
-            let whole : Distinct (flat (mem M inner bare)) = subst (λ z. Distinct (z ∷ (flat inner ++ []))) (sym e.here) (subst (λ z. Distinct (m ∷ z)) (sym (plus_nothing (flat inner))) once) in
+            let whole : Distinct (flat (mem M inner bare)) = subst (λ z. Distinct (z ∷ (flat inner ++ []))) (sym e.lies.here) (subst (λ z. Distinct (m ∷ z)) (sym (plus_nothing (flat inner))) once) in
             let kept = keep_level h v r f part_at t items (λ x. let u = sum x in let w = linked x in omega (arith, u, w)) (λ x. 0) (λ b. 0) (λ b. 0) told (record {
               link_room = λ x.
                   let u = two_ends h v r naming (link_name x) (tree_atoms h M inner) (each_tree h v M inner) (tree_once h v M inner whole) in
@@ -313,7 +313,7 @@ module _ (h : Heap) (v : Valid h) (r : HeapReading) (naming : IsNaming h r.name)
                   (λ b. omega (arith, once_of b (flat inner) once.1, weigh_same b (flat inner)));
               plain = λ free. contents_plain c free;
               typed = refl;
-              images = subst (λ z. LevelImages t Tree L.places (region_at h r z inner) (region (map (atom_at h r) L.rest) (regions_at h r L.left_forest) (map r.rule (rules_in h M)))) e.here
+              images = subst (λ z. LevelImages t Tree L.places (region_at h r z inner) (region (map (atom_at h r) L.rest) (regions_at h r L.left_forest) (map r.rule (rules_in h M)))) e.lies.here
                   (subst (λ X. LevelImages t Tree L.places (region X (regions_at h r inner) (map r.rule (rules_in h M))) (region (map (atom_at h r) L.rest) (regions_at h r L.left_forest) (map r.rule (rules_in h M))))
                   (sym (atoms_each h r (atoms_in h M) (list_atoms h v M))) images);
             }

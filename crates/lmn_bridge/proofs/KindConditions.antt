@@ -130,21 +130,7 @@ module _ (h : Heap) (names : List tree.Name) (heads : List tree.Name) (t : Assig
 
 -- an embedding with another guard
 pub unguarded : {h : Heap} {items : List HeadItem} {g g' : List Cond} {m : ℕ} {f : Images} → HoldsOnHeap h (meaning items f) g' → Embeds h items g m f → Embeds h items g' m f
-unguarded holds e = record {
-  here = e.here;
-  atoms_differ = e.atoms_differ;
-  membranes_differ = e.membranes_differ;
-  functors = e.functors;
-  atoms_placed = e.atoms_placed;
-  membranes_placed = e.membranes_placed;
-  joined = e.joined;
-  outside = e.outside;
-  no_other_atom = e.no_other_atom;
-  no_other_membrane = e.no_other_membrane;
-  no_rule = e.no_rule;
-  parts = e.parts;
-  holds = holds;
-}
+unguarded holds e = record { lies = e.lies; outside = e.outside; holds = holds }
 
 -- one atom of arity 1
 abbrev pub one_part : tree.Label → Rooted

@@ -135,23 +135,23 @@ module _ (h : Heap) (f : Images) where
       let z : 0 + i ≡ i = omega arith in
       let low = get_below (atoms_of items) i a g in
       rw z (
-        e.atoms_placed i a g,
+        e.lies.atoms_placed i a g,
         λ p.
             let u = in_run f.atom 0 i (f.atom i) p in
             let y : 0 + u.0 ≡ u.0 = omega arith in
-            let w = e.atoms_differ u.0 i (omega (arith, u.1, low)) low (ap f.atom (sym y) ∙ u.2) in
+            let w = e.lies.atoms_differ u.0 i (omega (arith, u.1, low)) low (ap f.atom (sym y) ∙ u.2) in
             omega (arith, w, u.1),
       ))
       (λ i a g. tt)
       (λ i a g.
       let z : 1 + i ≡ suc i = omega arith in
       let low = get_below (membranes_of items) i a g in (
-        e.membranes_placed (1 + i) a (i, z, g),
+        e.lies.membranes_placed (1 + i) a (i, z, g),
         λ j q p.
             let u = in_run f.membrane 1 j (f.membrane (1 + i)) p in
             let y : 1 + u.0 ≡ suc u.0 = omega arith in
             let t : j ≡ i = omega (arith, q) in
-            let w = e.membranes_differ u.0 i (let s = u.1 in omega (arith, s, low, t)) low (ap f.membrane (sym y) ∙ u.2 ∙ ap f.membrane z) in
+            let w = e.lies.membranes_differ u.0 i (let s = u.1 in omega (arith, s, low, t)) low (ap f.membrane (sym y) ∙ u.2 ∙ ap f.membrane z) in
             let s = u.1 in
             omega (arith, w, s, t),
       ))
@@ -220,7 +220,7 @@ pub numbers_ordered : NumbersLeftInOrder
 numbers_ordered h kind l guard m f g ef eg =
     let e = items_flat kind l in
     let items = flat_items kind 0 1 (head_at l) in
-    let zero_same : (i : ℕ) → i < 1 → f.membrane i ≡ g.membrane i = λ i k. let z : i ≡ 0 = omega (arith, k) in ap f.membrane z ∙ ef.here ∙ sym eg.here ∙ ap g.membrane (sym z) in
+    let zero_same : (i : ℕ) → i < 1 → f.membrane i ≡ g.membrane i = λ i k. let z : i ≡ 0 = omega (arith, k) in ap f.membrane z ∙ ef.lies.here ∙ sym eg.lies.here ∙ ap g.membrane (sym z) in
     subst (λ xs. ListNotAfter (positions h f 0 1 xs) (positions h g 0 1 xs) ↔ ListNotAfter (numbers_left h f 0 1 [] [] xs) (numbers_left h g 0 1 [] [] xs)) (sym e)
     (ordered h f g items 0 0 1 0 [] [] (omega arith) (fresh_level kind 0 1 (head_at l) (omega arith))
     (all_new h f items guard m (subst (λ xs. Embeds h xs guard m f) e ef)) (all_new h g items guard m (subst (λ xs. Embeds h xs guard m g) e eg)) refl refl refl refl zero_same)

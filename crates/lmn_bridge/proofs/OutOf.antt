@@ -304,62 +304,64 @@ module _ (h : Heap) (v : Valid h) (r : HeapReading) (naming : IsNaming h r.name)
     -- an embedding in the region is one on the heap
     pub embeds : (guard : List Cond) → ((n : ℕ) (u : HeadTyped) → HasTyped items n u → IsOfKindAt h u.kind (images_at.part n)) → HoldsOnHeap h (meaning items images_at) guard → Embeds h items guard m images_at
     embeds guard kinds holds = record {
-      here = refl;
-      atoms_differ = differ;
-      membranes_differ = λ n k l j e. let q = lengths.1 in index_once found.membranes (distinct_of found.membranes membranes_few) n k (omega (arith, l, q)) (omega (arith, j, q)) e;
-      functors = λ n a k. let w = atom_there n a k in functor_read h r (images_at.atom n) a.functor a.links (map t.link_of a.links) (atom_is n a k) names (heap_names (images_at.atom n)) (head_names n a k) w.is (length-map a.links t.link_of ∙ fit n a k);
-      atoms_placed = λ n a k. (atom_there n a k).placed;
-      membranes_placed = λ k n c. (membrane_there k n c).placed;
-      joined = λ x p q k j d.
-          let u = port_of x p k in
-          let w = port_of x q j in
-          elim (naming.apart (images_at.atom p.0) p.1 (images_at.atom q.0) q.1 u.1 w.1 (u.0 ∙ sym w.0)) [
-            | inl s ↦ absurd (d (λ i. (differ p.0 q.0 (get_below (atoms_of items) p.0 k.0 k.1) (get_below (atoms_of items) q.0 j.0 j.1) s.0 i, s.1 i)))
-            | inr s ↦ s
-          ];
+      lies = record {
+        here = refl;
+        atoms_differ = differ;
+        membranes_differ = λ n k l j e. let q = lengths.1 in index_once found.membranes (distinct_of found.membranes membranes_few) n k (omega (arith, l, q)) (omega (arith, j, q)) e;
+        functors = λ n a k. let w = atom_there n a k in functor_read h r (images_at.atom n) a.functor a.links (map t.link_of a.links) (atom_is n a k) names (heap_names (images_at.atom n)) (head_names n a k) w.is (length-map a.links t.link_of ∙ fit n a k);
+        atoms_placed = λ n a k. (atom_there n a k).placed;
+        membranes_placed = λ k n c. (membrane_there k n c).placed;
+        joined = λ x p q k j d.
+            let u = port_of x p k in
+            let w = port_of x q j in
+            elim (naming.apart (images_at.atom p.0) p.1 (images_at.atom q.0) q.1 u.1 w.1 (u.0 ∙ sym w.0)) [
+              | inl s ↦ absurd (d (λ i. (differ p.0 q.0 (get_below (atoms_of items) p.0 k.0 k.1) (get_below (atoms_of items) q.0 j.0 j.1) s.0 i, s.1 i)))
+              | inr s ↦ s
+            ];
+        no_other_atom = λ k n b c none' p.
+            elim (((membrane_there k n c).alone none').0 b p) [
+              | inl u ↦ (let w = in_run images_at.atom 0 (length (atoms_of items)) b u in
+                  let z : 0 + w.0 ≡ w.0 = omega arith in
+                  inl (w.0, w.1, ap images_at.atom (sym z) ∙ w.2))
+              | inr u ↦ (let w = parts_in part_at 0 (length (typed_contexts_of items)) b u in
+                  let z : 0 + w.0 ≡ w.0 = omega arith in
+                  let here : In b (part_at w.0) = subst (λ n. In b (part_at n)) z w.2 in
+                  let y = get_some (typed_contexts_of items) w.0 w.1 in
+                  let one = one_home h v (images_at.membrane y.0.inside) (images_at.membrane k) b ((typed_there w.0 y.0 y.1).placed b here) p in
+                  let ks : k ≡ suc c.0 = c.1 in
+                  inr (
+                    w.0,
+                    y.0,
+                    y.1,
+                    same_membrane y.0.inside c.0 (typed_below w.0 y.0 y.1) (get_below (membranes_of items) c.0 n c.2) (one ∙ ap images_at.membrane ks) ∙ sym ks,
+                    ((part_whole w.0 y.0 y.1).1 b).0 here,
+                  ))
+            ];
+        no_other_membrane = λ k n b c none' p.
+            let u = ((membrane_there k n c).alone none').1 b p in
+            let w = in_run images_at.membrane 1 (length (membranes_of items)) b u in
+            let z : 1 + w.0 ≡ suc w.0 = omega arith in
+            (w.0, w.1, ap images_at.membrane (sym z) ∙ w.2);
+        no_rule = λ k n c none'. (membrane_there k n c).no_rule none';
+        parts = λ n u k.
+            let root = entered n u k in
+            let below = get_below (typed_contexts_of items) n u k in
+            let whole = part_whole n u k in
+            record {
+              held = λ p j.
+                  let a = port_of u.link p j in
+                  let c = port_of u.link root.port root.has in
+                  elim (naming.apart (images_at.atom p.0) p.1 (images_at.atom root.port.0) root.port.1 a.1 c.1 (a.0 ∙ sym c.0)) [
+                    | inl s ↦ (λ i. link_of h (s.0 i) (s.1 i)) ∙ root.joined
+                    | inr s ↦ absurd (
+                        let same = same_port (sym (v.sound.paired.back (images_at.atom p.0) p.1 (images_at.atom root.port.0) root.port.1 s) ∙ root.joined) in
+                        part_clash n (images_at.part n).0 below ((whole.1 (images_at.part n).0).1 at_root) p.0 (get_below (atoms_of items) p.0 j.0 j.1) same.0)
+                  ];
+              of_kind = kinds n u k;
+              whole = whole.0;
+              apart = λ b w j. part_clash n b below ((whole.1 b).1 w) j.0 j.1 j.2;
+            };
+      };
       outside = λ n i x a p k g one inside q w. (atom_there n a k).outside i x p g one inside q w;
-      no_other_atom = λ k n b c none' p.
-          elim (((membrane_there k n c).alone none').0 b p) [
-            | inl u ↦ (let w = in_run images_at.atom 0 (length (atoms_of items)) b u in
-                let z : 0 + w.0 ≡ w.0 = omega arith in
-                inl (w.0, w.1, ap images_at.atom (sym z) ∙ w.2))
-            | inr u ↦ (let w = parts_in part_at 0 (length (typed_contexts_of items)) b u in
-                let z : 0 + w.0 ≡ w.0 = omega arith in
-                let here : In b (part_at w.0) = subst (λ n. In b (part_at n)) z w.2 in
-                let y = get_some (typed_contexts_of items) w.0 w.1 in
-                let one = one_home h v (images_at.membrane y.0.inside) (images_at.membrane k) b ((typed_there w.0 y.0 y.1).placed b here) p in
-                let ks : k ≡ suc c.0 = c.1 in
-                inr (
-                  w.0,
-                  y.0,
-                  y.1,
-                  same_membrane y.0.inside c.0 (typed_below w.0 y.0 y.1) (get_below (membranes_of items) c.0 n c.2) (one ∙ ap images_at.membrane ks) ∙ sym ks,
-                  ((part_whole w.0 y.0 y.1).1 b).0 here,
-                ))
-          ];
-      no_other_membrane = λ k n b c none' p.
-          let u = ((membrane_there k n c).alone none').1 b p in
-          let w = in_run images_at.membrane 1 (length (membranes_of items)) b u in
-          let z : 1 + w.0 ≡ suc w.0 = omega arith in
-          (w.0, w.1, ap images_at.membrane (sym z) ∙ w.2);
-      no_rule = λ k n c none'. (membrane_there k n c).no_rule none';
-      parts = λ n u k.
-          let root = entered n u k in
-          let below = get_below (typed_contexts_of items) n u k in
-          let whole = part_whole n u k in
-          record {
-            held = λ p j.
-                let a = port_of u.link p j in
-                let c = port_of u.link root.port root.has in
-                elim (naming.apart (images_at.atom p.0) p.1 (images_at.atom root.port.0) root.port.1 a.1 c.1 (a.0 ∙ sym c.0)) [
-                  | inl s ↦ (λ i. link_of h (s.0 i) (s.1 i)) ∙ root.joined
-                  | inr s ↦ absurd (
-                      let same = same_port (sym (v.sound.paired.back (images_at.atom p.0) p.1 (images_at.atom root.port.0) root.port.1 s) ∙ root.joined) in
-                      part_clash n (images_at.part n).0 below ((whole.1 (images_at.part n).0).1 at_root) p.0 (get_below (atoms_of items) p.0 j.0 j.1) same.0)
-                ];
-            of_kind = kinds n u k;
-            whole = whole.0;
-            apart = λ b w j. part_clash n b below ((whole.1 b).1 w) j.0 j.1 j.2;
-          };
       holds = holds;
     }

@@ -144,7 +144,7 @@ heads_alike h r m inner kind rule read forest is_rule ns typed_of free =
           (linked r rule kind is_rule) inner forest.forms forest.once
           (few r rule kind is_rule) (no_rules_inside r rule kind is_rule) (once_contexts r rule kind is_rule) (once_rule_contexts r rule kind is_rule) in
           let same = sym u.are ∙ subst (λ z. numbers_left h p.0 0 1 [] [] z ≡ ns) items p.2 in (
-            (λ n v k. let w = p.3 n v k in (kind_alike h r (p.0.membrane v.inside) (p.0.part n) w.0 (typed_of (name_of r.names v.name)) v.kind read w.1).0 (p.1.parts n v k).of_kind),
+            (λ n v k. let w = p.3 n v k in (kind_alike h r (p.0.membrane v.inside) (p.0.part n) w.0 (typed_of (name_of r.names v.name)) v.kind read w.1).0 (p.1.lies.parts n v k).of_kind),
             (
               u.assignment,
               u.typed,

@@ -174,7 +174,7 @@ module _ (h : Heap) (r : HeapReading) (read : IsRead h r) (items : List HeadItem
   part_of n u k =
       let p = holds n u k in
       embedded_parts_are_ground h r items guard m f n u p.0 (atoms_in h (f.membrane u.inside)) read e k p.1 (read.valid.sound.listed.atoms_once (f.membrane u.inside))
-      (λ a w. in_place h read.valid a (f.membrane u.inside) ((e.parts n u k).whole.at_home a w))
+      (λ a w. in_place h read.valid a (f.membrane u.inside) ((e.lies.parts n u k).whole.at_home a w))
 
   abbrev graph_by : (n : ℕ) (o : Option HeadTyped) → slice_get (typed_contexts_of items) n ≡ o → Rooted
   graph_by n None q = integer_part (pos 0)

@@ -59,37 +59,39 @@ module _ (h : Heap) (items : List HeadItem) (head : IsHead items) (f : Images) (
 
   pub embeds_so : (guard : List Cond) (m : ℕ) → Embeds h items guard m f → Embeds h items guard m other
   embeds_so guard m e = record {
-    here = in_mem 0 (omega arith) ∙ e.here;
-    atoms_differ = λ n k l o q. e.atoms_differ n k l o (sym (same_atom n l) ∙ q ∙ same_atom k o);
-    membranes_differ = λ n k l o q. e.membranes_differ n k l o (sym (same_mem (suc n) (omega (arith, l))) ∙ q ∙ same_mem (suc k) (omega (arith, o)));
-    functors = λ n a w. subst (λ z. functor_of h z ≡ Some a.functor) (sym (at_atom n a w)) (e.functors n a w);
-    atoms_placed = λ n a w. subst (λ z. In z (atoms_in h (membrane a.inside))) (sym (at_atom n a w))
-        (subst (λ z. In (f.atom n) (atoms_in h z)) (sym (in_mem a.inside (atoms_nested items head.inside n a w))) (e.atoms_placed n a w));
-    membranes_placed = λ k b w.
-        let l = nested w.0 b w.2 in let l' = get_below (membranes_of items) w.0 b w.2 in
-        subst (λ z. In z (mems_in h (membrane b.inside))) (sym (at_mem k b w))
-        (subst (λ z. In (f.membrane k) (mems_in h z)) (sym (in_mem b.inside (omega (arith, l, l')))) (e.membranes_placed k b w));
-    joined = λ x p q u v d. ap (λ z. partner h (z, p.1)) (at_atom p.0 u.0 u.1) ∙ e.joined x p q u v d ∙ ap (λ z. Some (z, q.1)) (sym (at_atom q.0 v.0 v.1));
+    lies = record {
+      here = in_mem 0 (omega arith) ∙ e.lies.here;
+      atoms_differ = λ n k l o q. e.lies.atoms_differ n k l o (sym (same_atom n l) ∙ q ∙ same_atom k o);
+      membranes_differ = λ n k l o q. e.lies.membranes_differ n k l o (sym (same_mem (suc n) (omega (arith, l))) ∙ q ∙ same_mem (suc k) (omega (arith, o)));
+      functors = λ n a w. subst (λ z. functor_of h z ≡ Some a.functor) (sym (at_atom n a w)) (e.lies.functors n a w);
+      atoms_placed = λ n a w. subst (λ z. In z (atoms_in h (membrane a.inside))) (sym (at_atom n a w))
+          (subst (λ z. In (f.atom n) (atoms_in h z)) (sym (in_mem a.inside (atoms_nested items head.inside n a w))) (e.lies.atoms_placed n a w));
+      membranes_placed = λ k b w.
+          let l = nested w.0 b w.2 in let l' = get_below (membranes_of items) w.0 b w.2 in
+          subst (λ z. In z (mems_in h (membrane b.inside))) (sym (at_mem k b w))
+          (subst (λ z. In (f.membrane k) (mems_in h z)) (sym (in_mem b.inside (omega (arith, l, l')))) (e.lies.membranes_placed k b w));
+      joined = λ x p q u v d. ap (λ z. partner h (z, p.1)) (at_atom p.0 u.0 u.1) ∙ e.lies.joined x p q u v d ∙ ap (λ z. Some (z, q.1)) (sym (at_atom q.0 v.0 v.1));
+      no_other_atom = λ k b x w c i. elim (e.lies.no_other_atom k b x w c (subst (λ z. In x (atoms_in h z)) (at_mem k b w) i)) [
+        | inl z ↦ inl (z.0, z.1, same_atom z.0 z.1 ∙ z.2)
+        | inr z ↦ inr z
+      ];
+      no_other_membrane = λ k b x w c i.
+          let z = e.lies.no_other_membrane k b x w c (subst (λ y. In x (mems_in h y)) (at_mem k b w) i) in
+          let l = z.1 in (z.0, z.1, same_mem (suc z.0) (omega (arith, l)) ∙ z.2);
+      no_rule = λ k b w c. subst (λ z. rules_in h z ≡ []) (sym (at_mem k b w)) (e.lies.no_rule k b w c);
+      parts = λ n t w.
+          let p = e.lies.parts n t w in
+          record {
+            held = λ q l. ap (λ z. partner h (z, q.1)) (at_atom q.0 l.0 l.1) ∙ p.held q l;
+            of_kind = p.of_kind;
+            whole = subst (λ z. StandsWhole (atom_map h) (f.part n) z) (sym (in_mem t.inside (let l = typed_nested 0 items head.inside n t w in omega (arith, l)))) p.whole;
+            apart = λ b g i. p.apart b g (i.0, i.1, sym (same_atom i.0 i.1) ∙ i.2);
+          };
+    };
     outside = λ n i x a p w l t o q g.
         let r = outer_less (length (membranes_of items)) (membranes_of items) a.inside nested in let r' = atoms_nested items head.inside n a w in
         e.outside n i x a p w l t o (ap (λ z. partner h (z, i)) (sym (at_atom n a w)) ∙ q)
         (subst (λ z. StandsWithin h p.0 z) (in_mem (outermost (membranes_of items) a.inside) (omega (arith, r, r'))) g);
-    no_other_atom = λ k b x w c i. elim (e.no_other_atom k b x w c (subst (λ z. In x (atoms_in h z)) (at_mem k b w) i)) [
-      | inl z ↦ inl (z.0, z.1, same_atom z.0 z.1 ∙ z.2)
-      | inr z ↦ inr z
-    ];
-    no_other_membrane = λ k b x w c i.
-        let z = e.no_other_membrane k b x w c (subst (λ y. In x (mems_in h y)) (at_mem k b w) i) in
-        let l = z.1 in (z.0, z.1, same_mem (suc z.0) (omega (arith, l)) ∙ z.2);
-    no_rule = λ k b w c. subst (λ z. rules_in h z ≡ []) (sym (at_mem k b w)) (e.no_rule k b w c);
-    parts = λ n t w.
-        let p = e.parts n t w in
-        record {
-          held = λ q l. ap (λ z. partner h (z, q.1)) (at_atom q.0 l.0 l.1) ∙ p.held q l;
-          of_kind = p.of_kind;
-          whole = subst (λ z. StandsWhole (atom_map h) (f.part n) z) (sym (in_mem t.inside (let l = typed_nested 0 items head.inside n t w in omega (arith, l)))) p.whole;
-          apart = λ b g i. p.apart b g (i.0, i.1, sym (same_atom i.0 i.1) ∙ i.2);
-        };
     holds = e.holds;
   }
 

@@ -125,10 +125,10 @@ module _ (table : List RuleTree) (plans : List GuardPlan) (codes : List Code) (c
   }
 
   head_there : (j : ℕ) → j < 1 + K → IsMem h (images.membrane j)
-  head_there zero l = subst (IsMem h) (sym least.embeds.here) there
+  head_there zero l = subst (IsMem h) (sym least.embeds.lies.here) there
   head_there (suc j) l =
       let b = get_some (head_membranes (head_items u.rule u.plan)) j (omega (arith, l)) in
-      mem_there h w.read.valid (images.membrane b.0.inside) (images.membrane (suc j)) (least.embeds.membranes_placed (suc j) b.0 (j, refl, b.1))
+      mem_there h w.read.valid (images.membrane b.0.inside) (images.membrane (suc j)) (least.embeds.lies.membranes_placed (suc j) b.0 (j, refl, b.1))
 
   pub atoms_apart : (i j : ℕ) → N ≤ i → N ≤ j → images.atom i ≡ images.atom j → i ≡ j
   atoms_apart i j l k e = let a = raised_above N B s.head.images.atom i l in let b = raised_above N B s.head.images.atom j k in let d = sym a ∙ e ∙ b in omega (arith, d)
@@ -161,7 +161,7 @@ module _ (table : List RuleTree) (plans : List GuardPlan) (codes : List Code) (c
   can_copy : (g : ℕ) (t : HeadTyped) → HasTyped (head_items u.rule u.plan) g t → CanBeCopied h (images.part g)
   can_copy g t i =
       let v = w.read.valid in
-      let part = least.embeds.parts g t i in
+      let part = least.embeds.lies.parts g t i in
       let p = (heads.head table u.rule u.plan u.whole.ready).held g t i in
       let root = images.part g in
       let back : link_of h root.0 root.1 ≡ Some (images.atom p.0.0, p.0.1) = v.sound.paired.back (images.atom p.0.0) p.0.1 root.0 root.1 (part.held p.0 p.1) in
@@ -224,7 +224,7 @@ module _ (table : List RuleTree) (plans : List GuardPlan) (codes : List Code) (c
         | inl e ↦ omega (arith, e, same)
         | inr d ↦ (let q = made.enough x d in omega (arith, q, same))
       ] in
-      let can = can_run head body L nested run_registers h w.read.valid u.rule.guard m least.embeds (mem_in_place h w.read.valid m there) names.0 names.1 made.heap prepared spares in
+      let can = can_run head body L nested run_registers h w.read.valid m least.embeds.lies (mem_in_place h w.read.valid m there) names.0 names.1 made.heap prepared spares in
       let run = commits_exist run_registers (body_code head body L) made.heap made.all made.bounded can in
       let body_is : code.body ≡ rule_body_code u.rule u.plan = ap (λ z. z.body) (code_of table plans codes c h r inner w from code s ch) ∙ u.body in
       (run.0, subst (λ z. RunsBody run_registers z h run.0) (sym body_is) (made.heap, prepared, run.1))

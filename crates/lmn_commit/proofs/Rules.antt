@@ -10,7 +10,7 @@ use Rattle.lmn_heap.proofs.Replacing.{port_within}
 use Rattle.lmn_heap.specs.Conditions.{Alone}
 use Rattle.lmn_solid.specs.declared.items.HeadItem.{HeadItem}
 use Rattle.lmn_solid.specs.Heads.{HeadTyped, typed_contexts_of, atoms_of, membranes_of}
-use Rattle.lmn_solid.specs.Embeddings.{Embeds}
+use Rattle.lmn_solid.specs.Embeddings.{Lies}
 use Rattle.lmn_splice.specs.Classes.{class_of, ends_of_class, rising}
 use Rattle.lmn_instr.specs.declared.instr.AtomPort.{AtomPort}
 use Rattle.lmn_instr.specs.declared.instr.NewPort.{NewPort}
@@ -317,8 +317,8 @@ module _ {A M : Type 0} (atom : A → ℕ) (membrane : M → ℕ) (s : Heap) (k 
   abbrev agreed : AgreesWithCopies atom membrane p.matched_by r
   agreed = agrees_before atom membrane p.matched_by k r p.prepared.grows u
 
-  abbrev em : Embeds h p.matched.head p.matched.guard p.matched.place r.head.images
-  em = p.matched.embeds r agreed
+  abbrev em : Lies h p.matched.head p.matched.place r.head.images
+  em = p.matched.lies r agreed
 
   pub prepares : Prepares r code h s
   prepares = p.prepared.prepares r u has
@@ -349,7 +349,7 @@ module _ {A M : Type 0} (atom : A → ℕ) (membrane : M → ℕ) (s : Heap) (k 
   can_run : CanRun r (body_code p.matched.head p.matched.body p.matched.links) s
   can_run =
       let c = links_have_numbers h p.matched.valid in
-      body_can_run p.matched.head p.matched.body p.matched.links p.matched.rule r h p.matched.valid p.matched.guard p.matched.place em p.matched.in_place c.0 c.1 s
+      body_can_run p.matched.head p.matched.body p.matched.links p.matched.rule r h p.matched.valid p.matched.place em p.matched.in_place c.0 c.1 s
       (subst (λ is. Prepares r is h s) p.matched.is_code prepares)
       (λ x. subst (λ n. n ≤ spare_of s x) (ap (λ is. needed r (rules_in h) is x) p.matched.is_code ∙ code_needs r (rules_in h) p.matched.head p.matched.body p.matched.links x) (p.prepared.spares r u x))
 
@@ -373,7 +373,7 @@ module _ {A M : Type 0} (atom : A → ℕ) (membrane : M → ℕ) (s : Heap) (k 
   pub fires_valid : (t : Heap) → DoesAll r code s t → Valid t
   fires_valid t w =
       let c = links_have_numbers h p.matched.valid in
-      (body_fires_within p.matched.head p.matched.body p.matched.links p.matched.rule r h p.matched.valid p.matched.guard p.matched.place em p.matched.in_place c.0 c.1 t
+      (body_fires_within p.matched.head p.matched.body p.matched.links p.matched.rule r h p.matched.valid p.matched.place em p.matched.in_place c.0 c.1 t
       (subst (λ is. RunsBody r is h t) p.matched.is_code (s, prepares, w))).2
 
 -- A heap that differs from a valid one in spares alone has no marks and is valid.

@@ -1,7 +1,6 @@
 -- The items of the heap before and after the code of a body, membrane by membrane.
 use Rattle.std.proofs.Common.{ℕ, ◌+◌, ◌≡◌, true, List, [], ◌++◌, length, Option, Some, None, IsSome, refl, sym, ap, subst, ◌∙◌, inl, inr, arith, length-append}
 use Rattle.std.specs.Option.{option_map, option_and_then}
-use Rattle.lmn_base.specs.declared.guard.Cond.{Cond}
 use Rattle.lmn_heap.specs.Heap as heap
 use Rattle.lmn_heap.specs.Heap.{Heap, HeapMem, top, within, waiting, gone, mem_place_of, atoms_in, atoms_by, mems_in, mems_by, rules_in, rules_by, IsMem, IsMemInPlace, Distinct, finished, mem_unless_gone}
 use Rattle.lmn_heap.specs.Sound.{Sound, flat, Valid, item_count_in, Forest, IsTree}
@@ -10,7 +9,7 @@ use Rattle.lmn_heap.proofs.ListLemmas.{in_left, in_right, in_withouts, withouts_
 use Rattle.lmn_heap.proofs.Trees as trees
 use Rattle.lmn_solid.specs.declared.items.HeadItem.{HeadItem}
 use Rattle.lmn_solid.specs.Heads.{HeadMembrane, atoms_of, membranes_of}
-use Rattle.lmn_solid.specs.Embeddings.{Embeds, HasMembrane}
+use Rattle.lmn_solid.specs.Embeddings.{Lies, HasMembrane}
 use Rattle.lmn_splice.specs.Splice as splice
 use Rattle.lmn_body.specs.declared.items.BodyItem.{BodyItem}
 use Rattle.lmn_body.specs.Code.{making}
@@ -70,16 +69,16 @@ was_in x (Some y) i = by y.place refl
     by waiting e = subst (λ o. In x (mems_by o)) (freed y waiting e (λ q. absurd (cc))) i
     by gone e = absurd (subst (λ o. In x (mems_by o)) (gone_none e) i)
 
-module _ (h : Heap) (valid : Valid h) (head : List HeadItem) (guard : List Cond) (body : List BodyItem) (n m : ℕ) (r : Registers) (rule : AtomRule head body n)
-    (em : Embeds h head guard m r.head.images) (stand : IsMemInPlace h m) (c : Port → ℕ) (names : Names h c)
+module _ (h : Heap) (valid : Valid h) (head : List HeadItem) (body : List BodyItem) (n m : ℕ) (r : Registers) (rule : AtomRule head body n)
+    (em : Lies h head m r.head.images) (stand : IsMemInPlace h m) (c : Port → ℕ) (names : Names h c)
     (goes : Goes r (membrane_images r head) (Exists h r head body) body)
     (contexts : (k : ℕ) (b : HeadMembrane) → HasMembrane head k b → b.has_context ≡ true → In (r.head.images.membrane k) (moved_mems r body))
     (ps : List ℕ) (parts : PartAtoms h head r.head.images ps)
     (s : Heap) (pr : AllPrepared c h s r (length (atoms_of head)) (1 + length (membranes_of head)) body)
     (removed : (x : ℕ) → In x (membrane_images r head) → IsMem h x)
-    (t3 : Heap) (run : DoesAll r (making (length (atoms_of head)) (1 + length (membranes_of head)) 0 body) (nesting.t2 h valid head guard body n m r rule em stand c names goes contexts ps parts s pr) t3)
-    (sound : Sound (nesting.v h valid head guard body n m r rule em stand c names goes contexts ps parts s pr t3 run))
-    (after : Valid (finished (nesting.v h valid head guard body n m r rule em stand c names goes contexts ps parts s pr t3 run))) where
+    (t3 : Heap) (run : DoesAll r (making (length (atoms_of head)) (1 + length (membranes_of head)) 0 body) (nesting.t2 h valid head body n m r rule em stand c names goes contexts ps parts s pr) t3)
+    (sound : Sound (nesting.v h valid head body n m r rule em stand c names goes contexts ps parts s pr t3 run))
+    (after : Valid (finished (nesting.v h valid head body n m r rule em stand c names goes contexts ps parts s pr t3 run))) where
   abbrev N : ℕ
   N = length (atoms_of head)
 
@@ -87,7 +86,7 @@ module _ (h : Heap) (valid : Valid h) (head : List HeadItem) (guard : List Cond)
   K = length (membranes_of head)
 
   abbrev v : Heap
-  v = nesting.v h valid head guard body n m r rule em stand c names goes contexts ps parts s pr t3 run
+  v = nesting.v h valid head body n m r rule em stand c names goes contexts ps parts s pr t3 run
 
   abbrev ks : List ℕ
   ks = membrane_images r head
@@ -105,29 +104,29 @@ module _ (h : Heap) (valid : Valid h) (head : List HeadItem) (guard : List Cond)
   left_mems x = without_all ks (mems_in h x)
 
   fires : FiresWithin h c r head body ns (finished v)
-  fires = nesting.fires_within h valid head guard body n m r rule em stand c names goes contexts ps parts s pr t3 run sound
+  fires = nesting.fires_within h valid head body n m r rule em stand c names goes contexts ps parts s pr t3 run sound
 
   -- which membranes there are
 
   was_there : (x : ℕ) → IsMem v x → IsMem s x
   was_there x i =
-      let j : IsSome (t3.mems x) = subst (λ (f : ℕ → Option HeapMem). IsSome (f x)) (nesting.same h valid head guard body n m r rule em stand c names goes contexts ps parts s pr t3 run).mems i in
-      some_there ((nesting.t2 h valid head guard body n m r rule em stand c names goes contexts ps parts s pr).mems x) (s.mems x) (sym ((nesting.sh h valid head guard body n m r rule em stand c names goes contexts ps parts s pr).there x))
-      (some_there (t3.mems x) ((nesting.t2 h valid head guard body n m r rule em stand c names goes contexts ps parts s pr).mems x) (sym ((nesting.gr h valid head guard body n m r rule em stand c names goes contexts ps parts s pr t3 run).there x)) j)
+      let j : IsSome (t3.mems x) = subst (λ (f : ℕ → Option HeapMem). IsSome (f x)) (nesting.same h valid head body n m r rule em stand c names goes contexts ps parts s pr t3 run).mems i in
+      some_there ((nesting.t2 h valid head body n m r rule em stand c names goes contexts ps parts s pr).mems x) (s.mems x) (sym ((nesting.sh h valid head body n m r rule em stand c names goes contexts ps parts s pr).there x))
+      (some_there (t3.mems x) ((nesting.t2 h valid head body n m r rule em stand c names goes contexts ps parts s pr).mems x) (sym ((nesting.gr h valid head body n m r rule em stand c names goes contexts ps parts s pr t3 run).there x)) j)
 
   is_there : (x : ℕ) → IsMem s x → IsMem v x
-  is_there x i = subst (λ (f : ℕ → Option HeapMem). IsSome (f x)) (sym (nesting.same h valid head guard body n m r rule em stand c names goes contexts ps parts s pr t3 run).mems)
-      (some_there ((nesting.t2 h valid head guard body n m r rule em stand c names goes contexts ps parts s pr).mems x) (t3.mems x) ((nesting.gr h valid head guard body n m r rule em stand c names goes contexts ps parts s pr t3 run).there x) (some_there (s.mems x) ((nesting.t2 h valid head guard body n m r rule em stand c names goes contexts ps parts s pr).mems x) ((nesting.sh h valid head guard body n m r rule em stand c names goes contexts ps parts s pr).there x) i))
+  is_there x i = subst (λ (f : ℕ → Option HeapMem). IsSome (f x)) (sym (nesting.same h valid head body n m r rule em stand c names goes contexts ps parts s pr t3 run).mems)
+      (some_there ((nesting.t2 h valid head body n m r rule em stand c names goes contexts ps parts s pr).mems x) (t3.mems x) ((nesting.gr h valid head body n m r rule em stand c names goes contexts ps parts s pr t3 run).there x) (some_there (s.mems x) ((nesting.t2 h valid head body n m r rule em stand c names goes contexts ps parts s pr).mems x) ((nesting.sh h valid head body n m r rule em stand c names goes contexts ps parts s pr).there x) i))
 
   made_apart : (x : ℕ) → In x nm → IsMem h x → ⊥
   made_apart x i is = let z : IsSome {T = HeapMem} None = subst (λ (o : Option HeapMem). IsSome o) (pr.mems.fresh x i) is in absurd (cc)
 
   -- what isn't removed stays
   kept_there : (x : ℕ) → IsMem s x → (In x ks → ⊥) → IsMem (finished v) x
-  kept_there x i o = subst (λ (p : Option HeapMem). IsSome p) (sym (stays (v.mems x) (λ e. o (nesting.gone_removed h valid head guard body n m r rule em stand c names goes contexts ps parts s pr t3 run sound x e)))) (is_there x i)
+  kept_there x i o = subst (λ (p : Option HeapMem). IsSome p) (sym (stays (v.mems x) (λ e. o (nesting.gone_removed h valid head body n m r rule em stand c names goes contexts ps parts s pr t3 run sound x e)))) (is_there x i)
 
   same_root : v.root ≡ h.root
-  same_root = (nesting.same h valid head guard body n m r rule em stand c names goes contexts ps parts s pr t3 run).root ∙ (nesting.gr h valid head guard body n m r rule em stand c names goes contexts ps parts s pr t3 run).same.root ∙ (nesting.sh h valid head guard body n m r rule em stand c names goes contexts ps parts s pr).same.root ∙ pr.mems.root
+  same_root = (nesting.same h valid head body n m r rule em stand c names goes contexts ps parts s pr t3 run).root ∙ (nesting.gr h valid head body n m r rule em stand c names goes contexts ps parts s pr t3 run).same.root ∙ (nesting.sh h valid head body n m r rule em stand c names goes contexts ps parts s pr).same.root ∙ pr.mems.root
 
   -- no membrane holds what is removed
   left_apart : (p x : ℕ) → In x (left_mems p) → In x ks → ⊥
@@ -135,8 +134,8 @@ module _ (h : Heap) (valid : Valid h) (head : List HeadItem) (guard : List Cond)
 
   in_no_list : (p x : ℕ) → In x ks → In x (mems_in (finished v) p) → ⊥
   in_no_list p x k i = elim (decide_in p ks) [
-    | inl q ↦ subst (In x) (nesting.removed_empty h valid head guard body n m r rule em stand c names goes contexts ps parts s pr t3 run p q).1 (was_in x (v.mems p) i)
-    | inr o ↦ elim (in_either x (left_mems p) (added_mems r left_mems (1 + K) body p) (subst (In x) (nesting.mems_v h valid head guard body n m r rule em stand c names goes contexts ps parts s pr t3 run p o) (was_in x (v.mems p) i))) [
+    | inl q ↦ subst (In x) (nesting.removed_empty h valid head body n m r rule em stand c names goes contexts ps parts s pr t3 run p q).1 (was_in x (v.mems p) i)
+    | inr o ↦ elim (in_either x (left_mems p) (added_mems r left_mems (1 + K) body p) (subst (In x) (nesting.mems_v h valid head body n m r rule em stand c names goes contexts ps parts s pr t3 run p o) (was_in x (v.mems p) i))) [
       | inl j ↦ left_apart p x j k
       | inr j ↦ elim (mems_come_from r left_mems (1 + K) body p x j) [
         | inl w ↦ made_apart x w (removed x k)
@@ -195,8 +194,8 @@ module _ (h : Heap) (valid : Valid h) (head : List HeadItem) (guard : List Cond)
     -- nothing is left of a membrane that is removed and doesn't move
     left_empty : (x : ℕ) → In x ks → (In x (moved_mems r body) → ⊥) → left x ≡ []
     left_empty x i o =
-        sym (ap (λ f. atoms_by (f x)) (nesting.same h valid head guard body n m r rule em stand c names goes contexts ps parts s pr t3 run).mems ∙ (nesting.gr h valid head guard body n m r rule em stand c names goes contexts ps parts s pr t3 run).head_atoms x i o ∙ (nesting.sh h valid head guard body n m r rule em stand c names goes contexts ps parts s pr).atoms x ∙ ap (without_all ns) (pr.mems.atoms x))
-        ∙ (nesting.removed_empty h valid head guard body n m r rule em stand c names goes contexts ps parts s pr t3 run x i).0
+        sym (ap (λ f. atoms_by (f x)) (nesting.same h valid head body n m r rule em stand c names goes contexts ps parts s pr t3 run).mems ∙ (nesting.gr h valid head body n m r rule em stand c names goes contexts ps parts s pr t3 run).head_atoms x i o ∙ (nesting.sh h valid head body n m r rule em stand c names goes contexts ps parts s pr).atoms x ∙ ap (without_all ns) (pr.mems.atoms x))
+        ∙ (nesting.removed_empty h valid head body n m r rule em stand c names goes contexts ps parts s pr t3 run x i).0
 
     module _ (f : Forest) (tree : IsTree h f) where
       abbrev old : List ℕ
@@ -229,7 +228,7 @@ module _ (h : Heap) (valid : Valid h) (head : List HeadItem) (guard : List Cond)
           ]
 
       before_sum : (w : ℕ → ℕ) → total w old ≡ total w ks + total w kept
-      before_sum w = total_withouts w ks old (nesting.ks_once h valid head guard body n m r rule em stand c names goes contexts ps parts s pr) (λ x i. tree.all x (removed x i))
+      before_sum w = total_withouts w ks old (nesting.ks_once h valid head body n m r rule em stand c names goes contexts ps parts s pr) (λ x i. tree.all x (removed x i))
 
       -- a membrane that is made was empty
       fresh_left : (x : ℕ) → In x nm → length (left x) ≡ 0
@@ -241,7 +240,7 @@ module _ (h : Heap) (valid : Valid h) (head : List HeadItem) (guard : List Cond)
       -- each atom that is taken stands in one membrane
       stands : (a : ℕ) → In a ns → (y : ℕ) × In y old × In a (atoms_in h y) × ((z : ℕ) → In a (atoms_in h z) → z ≡ y)
       stands a i =
-          let w = within_of h a (taken_in_place h valid head guard body n m r rule em stand c names pr.free ps parts a i) in
+          let w = within_of h a (taken_in_place h valid head body n m r rule em stand c names pr.free ps parts a i) in
           let j = (valid.sound.listed.atoms w.0 a).1 w.1 in
           (w.0, tree.all w.0 (listed_some h w.0 a j), j, λ z k. one z w.0 (sym ((valid.sound.listed.atoms z a).0 k) ∙ w.1))
         where
@@ -249,10 +248,10 @@ module _ (h : Heap) (valid : Valid h) (head : List HeadItem) (guard : List Cond)
           one y k e = (cc)
 
       atoms_out : total (λ x. length (atoms_in h x)) old ≡ length ns + total (λ x. length (left x)) old
-      atoms_out = all_out ns (atoms_in h) old (ns_once h valid head guard body n m r rule em stand c names pr.free ps parts) tree.once stands
+      atoms_out = all_out ns (atoms_in h) old (ns_once h valid head body n m r rule em stand c names pr.free ps parts) tree.once stands
 
       moved_left : total (λ x. length (left x)) (moved_mems r body) ≡ total (λ x. length (left x)) ks
-      moved_left = total_part (λ x. length (left x)) (moved_mems r body) ks (moved_once r ks (Exists h r head body) body goes) (nesting.ks_once h valid head guard body n m r rule em stand c names goes contexts ps parts s pr)
+      moved_left = total_part (λ x. length (left x)) (moved_mems r body) ks (moved_once r ks (Exists h r head body) body goes) (nesting.ks_once h valid head body n m r rule em stand c names goes contexts ps parts s pr)
           (moved_within r ks (Exists h r head body) body goes) (λ y i o. ap (λ zs. length zs) (left_empty y i o))
 
       items_after : item_count_in (finished v) at ≡ total (λ x. 1) at + total (λ x. length (left x)) at + total (λ x. length (added_atoms r left N 0 body x)) at

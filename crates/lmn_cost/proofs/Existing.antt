@@ -1,7 +1,6 @@
 -- There is a sum for the body of a rule whose head is found.
 use Rattle.std.proofs.Common.{ℕ, zero, suc, ◌+◌, ◌<◌, ◌≤◌, ◌≡◌, List, [], ◌∷◌, ◌++◌, map, length, Option, Some, None, IsSome, refl, sym, ap, subst, ◌∙◌, inl, inr, arith, length-append}
 use Rattle.std.specs.Option.{option_map}
-use Rattle.lmn_base.specs.declared.guard.Cond.{Cond}
 use Rattle.lmn_heap.specs.Heap.{Heap, HeapMem, top, within, place_of, mem_place_of, mems_in, atoms_in, rules_in, IsInPlace, Distinct, Place, home_of, without}
 use Rattle.lmn_heap.specs.Sound.{Forest, flat, IsTree, Valid, item_count_in}
 use Rattle.lmn_heap.proofs.Depths.{both_distinct}
@@ -10,7 +9,7 @@ use Rattle.lmn_heap.proofs.Pigeonholes.{not_longer}
 use Rattle.lmn_heap.proofs.Trees.{root_first, is_mem}
 use Rattle.lmn_solid.specs.declared.items.HeadItem.{HeadItem}
 use Rattle.lmn_solid.specs.Heads.{HeadTyped, atoms_of, typed_contexts_of, membranes_of}
-use Rattle.lmn_solid.specs.Embeddings.{Embeds, HasTyped}
+use Rattle.lmn_solid.specs.Embeddings.{Lies, HasTyped}
 use Rattle.lmn_splice.specs.Classes.{rising}
 use Rattle.lmn_splice.specs.Splice as splice
 use Rattle.lmn_splice.proofs.EndLemmas.{rising_distinct}
@@ -48,7 +47,7 @@ same_items h valid f g t u =
     ∙ total_part w (flat f) (flat g) t.once u.once (λ x i. u.all x (is_mem h valid.sound f t x i)) (λ y i o. absurd (o (t.all y (is_mem h valid.sound g u y i))))
     ∙ sym (total_is_sum w (flat g))
 
-module _ (h : Heap) (valid : Valid h) (head : List HeadItem) (guard : List Cond) (body : List BodyItem) (n m : ℕ) (r : Registers) (rule : AtomRule head body n) (em : Embeds h head guard m r.head.images) where
+module _ (h : Heap) (valid : Valid h) (head : List HeadItem) (body : List BodyItem) (n m : ℕ) (r : Registers) (rule : AtomRule head body n) (em : Lies h head m r.head.images) where
   -- the atoms of a part, which all stand in one membrane
   one_part : (g : ℕ) (t : HeadTyped) → HasTyped head g t → (xs : List ℕ) × AreAtoms h (r.head.images.part g) xs
   one_part g t w =
@@ -82,7 +81,7 @@ module _ (h : Heap) (valid : Valid h) (head : List HeadItem) (guard : List Cond)
         record {
           once = both_distinct first.0 on.0 first.1.0 on.1.once (λ a i j.
               let u = on.1.are a j in let y = typed u.0 (inr u.1) in
-              parts_apart h valid head guard body n m r rule em g u.0 x.0 y.0 x.1 y.1 (λ q. d.0 (subst (λ z. splice.IsOneOf z gs) (sym q) u.1)) a ((first.1.1 a).0 i) u.2);
+              parts_apart h valid head body n m r rule em g u.0 x.0 y.0 x.1 y.1 (λ q. d.0 (subst (λ z. splice.IsOneOf z gs) (sym q) u.1)) a ((first.1.1 a).0 i) u.2);
           are = λ a i. elim (in_either a first.0 on.0 i) [ inl j ↦ (g, inl refl, (first.1.1 a).0 j) | inr j ↦ (let u = on.1.are a j in (u.0, inr u.1, u.2)) ];
           all = λ k a i p. elim i [
             | inl q ↦ in_left a first.0 on.0 ((first.1.1 a).1 (subst (λ z. PartOf h r z a) (sym q) p))

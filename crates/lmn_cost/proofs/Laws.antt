@@ -1,6 +1,5 @@
 -- The cost of a commit, from the laws of head code and of body code.
 use Rattle.std.proofs.Common.{ℕ, ◌+◌, ◌≡◌, ◌↔◌, true, List, [], ◌∷◌, ◌++◌, map, length, sym, ap, subst, ◌∙◌, arith}
-use Rattle.lmn_base.specs.declared.guard.Cond.{Cond}
 use Rattle.lmn_base.specs.declared.rule.RuleTree.{RuleTree}
 use Rattle.lmn_guards.specs.declared.plan.GuardPlan.{GuardPlan}
 use Rattle.lmn_heap.specs.Heap.{Heap, atoms_in, rules_in, IsMemInPlace, finished, taken_all}
@@ -8,14 +7,14 @@ use Rattle.lmn_heap.specs.Sound.{Forest, flat, IsTree, Valid, item_count_in}
 use Rattle.lmn_heap.proofs.Trees.{root_first}
 use Rattle.lmn_solid.specs.declared.items.HeadItem.{HeadItem}
 use Rattle.lmn_solid.specs.Heads.{HeadMembrane, HeadTyped, atoms_of, typed_contexts_of, membranes_of}
-use Rattle.lmn_solid.specs.Embeddings.{Embeds, HasMembrane, HasTyped}
+use Rattle.lmn_solid.specs.Embeddings.{Lies, HasMembrane, HasTyped}
 use Rattle.lmn_splice.specs.Classes.{class_of, rising, body_ties}
 use Rattle.lmn_splice.specs.Splice.{IsOneOf}
 use Rattle.lmn_splice.proofs.EndLemmas.{in_rising, rising_distinct}
 use Rattle.lmn_instr.specs.declared.instr.Instr.{Instr}
 use Rattle.lmn_instr.specs.declared.instr.Instr.TheVariants.{RemoveAtom, RemovePart, RemoveMem, Proceed}
 use Rattle.lmn_compile_head.specs.Accepted.{head_items, AcceptedLeast}
-use Rattle.lmn_compile_body.specs.Accepted.{rule_body_items, rule_body_code, AcceptedNested}
+use Rattle.lmn_compile_body.specs.Accepted.{rule_body_items, AcceptedNested}
 use Rattle.lmn_body.specs.declared.items.BodyItem.{BodyItem}
 use Rattle.lmn_body.specs.Tied.{partners, all_tied}
 use Rattle.lmn_body.specs.Items.{new_ports, old_ports, connectors}
@@ -37,7 +36,7 @@ use Rattle.lmn_body.proofs.Soundness.{sound_before}
 use Rattle.lmn_body.proofs.TreeAfter.{valid_after}
 use Rattle.lmn_machine.specs.Costs.{AddsItems, TakesItems, InAll, Leaves}
 use Rattle.lmn_machine.proofs.Costing.{left_over}
-use Rattle.lmn_cost.specs.Laws.{HeadIsFound, CostIsTold}
+use Rattle.lmn_cost.specs.Laws.{HeadIsFound, CostIsTold, HeadLies, BodyCostIsTold}
 use Rattle.lmn_cost.proofs.Totals.{total_is_sum}
 use Rattle.lmn_cost.proofs.Codes.{code_adds, code_takes}
 use Rattle.lmn_cost.proofs.Existing.{parts_sum, some_left}
@@ -56,9 +55,9 @@ pub record Counted (h : Heap) (r : Registers) (code : List Instr) (items : ℕ) 
   pub count : (f : Forest) → IsTree h f → items + taken ≡ item_count_in h (flat f) + added
 
 -- The items that the code of a body leaves.
-body_counts : (head : List HeadItem) (body : List BodyItem) (n : ℕ) → NestedRule head body n → (r : Registers) (h : Heap) → Valid h → (guard : List Cond) (m : ℕ) → Embeds h head guard m r.head.images → IsMemInPlace h m →
+body_counts : (head : List HeadItem) (body : List BodyItem) (n : ℕ) → NestedRule head body n → (r : Registers) (h : Heap) → Valid h → (m : ℕ) → Lies h head m r.head.images → IsMemInPlace h m →
     (c : Port → ℕ) → Names h c → (h' : Heap) → RunsBody r (body_code head body n) h h' → (f' : Forest) → IsTree h' f' → Counted h r (body_code head body n) (item_count_in h' (flat f'))
-body_counts head body n nested r h valid guard m em stand c names h' (s, prepares, commits) =
+body_counts head body n nested r h valid m em stand c names h' (s, prepares, commits) =
     let rule = nested.atoms in
     let head_nests = nested.head_nests in
     let N = length (atoms_of head) in
@@ -68,11 +67,11 @@ body_counts head body n nested r h valid guard m em stand c names h' (s, prepare
     let part_code = map RemovePart (rising 0 T) in
     let mems = map RemoveMem (rising 1 K) in
     let make = making N (1 + K) 0 body in
-    let all = prepared_all head body n rule r h valid guard m em c names s prepares in
+    let all = prepared_all head body n rule r h valid m em c names s prepares in
     let d = all.d in
     let pr = all.pr in
-    let goes = goes_body h valid head guard m r em stand head_nests body pr.mems.fresh nested.placed in
-    let nests = nests_body h valid head guard m r em stand head_nests body pr.mems.fresh nested.placed in
+    let goes = goes_body h valid head m r em stand head_nests body pr.mems.fresh nested.placed in
+    let nests = nests_body h valid head m r em stand head_nests body pr.mems.fresh nested.placed in
     let contexts : (k : ℕ) (b : HeadMembrane) → HasMembrane head k b → b.has_context ≡ true → In (r.head.images.membrane k) (moved_mems r body) = λ k b w e. moved_are r body k (nested.contexts k b w e) in
     let ca = commits_append r (removals head) (make ++ (links_part ++ (Proceed ∷ []))) s h' commits in
     let cb = commits_append r (map RemoveAtom (rising 0 N)) (part_code ++ mems) s ca.0 ca.1 in
@@ -81,7 +80,7 @@ body_counts head body n nested r h valid guard m em stand c names h' (s, prepare
     let cf = commits_append r links_part (Proceed ∷ []) ce.0 h' ce.2 in
     let images : cb.0 ≡ taken_all s (images_of r head) = commits_taken r (rising 0 N) s cb.0 cb.1 in
     let typed : (g : ℕ) → IsOneOf g (rising 0 T) → (t : HeadTyped) × HasTyped head g t = λ g i. get_some (typed_contexts_of head) g (below_plain g T (rising_below T 0 g i).1) in
-    let taken_parts = parts_commit h valid head guard body n m r rule em (rising 0 T) (rising_distinct T 0) typed cb.0 cd.0
+    let taken_parts = parts_commit h valid head body n m r rule em (rising 0 T) (rising_distinct T 0) typed cb.0 cd.0
     (λ p is. ap (λ z. partners z p) images ∙ taken_links (images_of r head) s p.0 p.1 ∙ prepared_links d h s r N (1 + K) body pr p is) cd.1 in
     let ps = taken_parts.0 in
     let parts_are : PartAtoms h head r.head.images ps = record {
@@ -97,18 +96,18 @@ body_counts head body n nested r h valid guard m em stand c names h' (s, prepare
     commits_tied r (class_of (connectors body)) (new_ports N 0 body) (old_ports head) (rising 0 n) ce.0 cf.0 cf.1 in
     let v = all_tied ce.0 (body_ties (at_heap (new_port r) (new_ports N 0 body)) (at_heap (old_port r) (old_ports head)) (connectors body) n) in
     let done : h' ≡ finished v = cf.2.2 ∙ cf.2.1 ∙ ap finished ties in
-    let is_mem = removed_mem h valid head guard m r em stand head_nests body pr.mems.fresh in
-    let sound = sound_before h valid head guard body n m r rule em stand d all.names goes contexts ps parts_are s pr nests all.listed
-    is_mem (home_is_mem h valid head guard m r em stand head_nests body pr.mems.fresh) ce.0 run in
-    let after : Valid (finished v) = valid_after h valid head guard body n m r rule em stand d all.names goes contexts ps parts_are s pr nests head_nests ce.0 run sound in
+    let is_mem = removed_mem h valid head m r em stand head_nests body pr.mems.fresh in
+    let sound = sound_before h valid head body n m r rule em stand d all.names goes contexts ps parts_are s pr nests all.listed
+    is_mem (home_is_mem h valid head m r em stand head_nests body pr.mems.fresh) ce.0 run in
+    let after : Valid (finished v) = valid_after h valid head body n m r rule em stand d all.names goes contexts ps parts_are s pr nests head_nests ce.0 run sound in
     subst (λ z. (f' : Forest) → IsTree z f' → Counted h r (body_code head body n) (item_count_in z (flat f'))) (sym done) (λ f' tree'.
-    let more = adds h valid head guard body n m r rule em stand d all.names goes contexts ps parts_are s pr is_mem ce.0 run sound after f' tree' in
+    let more = adds h valid head body n m r rule em stand d all.names goes contexts ps parts_are s pr is_mem ce.0 run sound after f' tree' in
     record {
       added = more.0;
       taken = length (images_of r head ++ ps) + total (λ k. 1 + length (rules_in h k)) (membrane_images r head);
       adds = code_adds h r head body n more.0 more.1;
-      takes = code_takes h r head body n ps (parts_sum h valid head guard body n m r rule em ps taken_parts.1.once taken_parts.1.are taken_parts.1.all);
-      count = λ f tree. items_are h valid head guard body n m r rule em stand d all.names goes contexts ps parts_are s pr is_mem ce.0 run sound after f' tree' f tree;
+      takes = code_takes h r head body n ps (parts_sum h valid head body n m r rule em ps taken_parts.1.once taken_parts.1.are taken_parts.1.all);
+      count = λ f tree. items_are h valid head body n m r rule em stand d all.names goes contexts ps parts_are s pr is_mem ce.0 run sound after f' tree' f tree;
     })
 
 -- there is the root at least
@@ -140,19 +139,31 @@ one_told h valid r code n k l u =
     let c = l.count f tree in
     let q = b.1 in omega arith
 
-module _ (heads : AcceptedLeast) (bodies : AcceptedNested) where
-  counts : (table : List RuleTree) (r : RuleTree) (plan : GuardPlan) (h : Heap) (m : ℕ) (s : Registers) → HeadIsFound table r plan h m s → (h' : Heap) → RunsBody s (rule_body_code r plan) h h' →
-      (f' : Forest) → IsTree h' f' → Counted h s (rule_body_code r plan) (item_count_in h' (flat f'))
-  counts table r plan h m s w h' runs =
-      let least = heads.least table r plan h m s.head w.whole.ready w.valid w.first in
+-- the cost of a body whose head lies is told
+pub body_cost_is_told : BodyCostIsTold
+body_cost_is_told = record {
+  told = λ head body links h m s w h' runs f tree n.
       let c = links_have_numbers h w.valid in
-      body_counts (head_items r plan) (rule_body_items r plan) (length r.links) (bodies table r plan w.whole) s h w.valid r.guard m least.embeds w.placed c.0 c.1 h' runs
+      told_is_left h w.valid s (body_code head body links) (item_count_in h' (flat f)) n (body_counts head body links w.rule s h w.valid m w.lies w.placed c.0 c.1 h' runs f tree);
+  some = λ head body links h m s w. some_left h w.valid head body links m s w.rule.atoms w.lies;
+  one = λ head body links h m s w n k l u. one_told h w.valid s (body_code head body links) n k l u;
+}
 
+module _ (heads : AcceptedLeast) (bodies : AcceptedNested) where
+  -- where its head code first succeeds, the head of an accepted rule lies
+  head_lies : (table : List RuleTree) (r : RuleTree) (plan : GuardPlan) (h : Heap) (m : ℕ) (s : Registers) → HeadIsFound table r plan h m s →
+      HeadLies (head_items r plan) (rule_body_items r plan) (length r.links) h m s
+  head_lies table r plan h m s w = record {
+    rule = bodies table r plan w.whole;
+    valid = w.valid;
+    placed = w.placed;
+    lies = (heads.least table r plan h m s.head w.whole.ready w.valid w.first).embeds.lies;
+  }
+
+  -- the cost of an accepted rule is told
   pub cost_is_told : CostIsTold
   cost_is_told = record {
-    told = λ table r plan h m s w h' runs f tree n. told_is_left h w.valid s (rule_body_code r plan) (item_count_in h' (flat f)) n (counts table r plan h m s w h' runs f tree);
-    some = λ table r plan h m s w.
-        let least = heads.least table r plan h m s.head w.whole.ready w.valid w.first in
-        some_left h w.valid (head_items r plan) r.guard (rule_body_items r plan) (length r.links) m s (bodies table r plan w.whole).atoms least.embeds;
-    one = λ table r plan h m s w n k l u. one_told h w.valid s (rule_body_code r plan) n k l u;
+    told = λ table r plan h m s w. body_cost_is_told.told (head_items r plan) (rule_body_items r plan) (length r.links) h m s (head_lies table r plan h m s w);
+    some = λ table r plan h m s w. body_cost_is_told.some (head_items r plan) (rule_body_items r plan) (length r.links) h m s (head_lies table r plan h m s w);
+    one = λ table r plan h m s w. body_cost_is_told.one (head_items r plan) (rule_body_items r plan) (length r.links) h m s (head_lies table r plan h m s w);
   }

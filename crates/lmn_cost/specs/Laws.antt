@@ -4,9 +4,14 @@ use Rattle.lmn_base.specs.declared.rule.RuleTree.{RuleTree}
 use Rattle.lmn_guards.specs.declared.plan.GuardPlan.{GuardPlan}
 use Rattle.lmn_heap.specs.Heap.{Heap, IsMemInPlace}
 use Rattle.lmn_heap.specs.Sound.{Forest, IsTree, Valid, flat, item_count_in}
+use Rattle.lmn_solid.specs.declared.items.HeadItem.{HeadItem}
+use Rattle.lmn_solid.specs.Embeddings.{Lies}
 use Rattle.lmn_instr.specs.Running.{IsFirstSuccess}
 use Rattle.lmn_compile_head.specs.Accepted.{rule_head_code}
 use Rattle.lmn_compile_body.specs.Accepted.{IsCompilable, rule_body_code}
+use Rattle.lmn_body.specs.declared.items.BodyItem.{BodyItem}
+use Rattle.lmn_body.specs.Code.{body_code}
+use Rattle.lmn_body.specs.Rules.{NestedRule}
 use Rattle.lmn_body.specs.Running.{Registers, RunsBody}
 use Rattle.lmn_machine.specs.Costs.{Leaves}
 
@@ -28,3 +33,19 @@ pub record CostIsTold : Type 0 where
       (n : ℕ) × Leaves h s.head (rule_body_code r plan) n
   pub one : (table : List RuleTree) (r : RuleTree) (plan : GuardPlan) (h : Heap) (m : ℕ) (s : Registers) → HeadIsFound table r plan h m s →
       (n k : ℕ) → Leaves h s.head (rule_body_code r plan) n → Leaves h s.head (rule_body_code r plan) k → n ≡ k
+
+-- The head of a flat rule lies in the membrane m of a valid heap, at the images in these registers.
+pub record HeadLies (head : List HeadItem) (body : List BodyItem) (links : ℕ) (h : Heap) (m : ℕ) (s : Registers) : Type 0 where
+  pub rule : NestedRule head body links
+  pub valid : Valid h
+  pub placed : IsMemInPlace h m
+  pub lies : Lies h head m s.head.images
+
+-- The same three of the code of any body whose head lies, be it that of an accepted rule or not.
+pub record BodyCostIsTold : Type 0 where
+  pub told : (head : List HeadItem) (body : List BodyItem) (links : ℕ) (h : Heap) (m : ℕ) (s : Registers) → HeadLies head body links h m s →
+      (h' : Heap) → RunsBody s (body_code head body links) h h' → (f : Forest) → IsTree h' f → (n : ℕ) → Leaves h s.head (body_code head body links) n ↔ (n + 1 ≡ item_count_in h' (flat f))
+  pub some : (head : List HeadItem) (body : List BodyItem) (links : ℕ) (h : Heap) (m : ℕ) (s : Registers) → HeadLies head body links h m s →
+      (n : ℕ) × Leaves h s.head (body_code head body links) n
+  pub one : (head : List HeadItem) (body : List BodyItem) (links : ℕ) (h : Heap) (m : ℕ) (s : Registers) → HeadLies head body links h m s →
+      (n k : ℕ) → Leaves h s.head (body_code head body links) n → Leaves h s.head (body_code head body links) k → n ≡ k

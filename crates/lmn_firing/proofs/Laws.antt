@@ -7,4 +7,4 @@ use Rattle.lmn_firing.specs.Laws.{CodeFires}
 pub code_fires : CodeFires
 code_fires head guard body n rule h meets m placed r first c names h' runs =
     let least = code_of_least.least h head guard m r.head meets first in
-    (least, body_fires_within head body n rule r h meets.valid guard m least.embeds placed c names h' runs)
+    (least, body_fires_within head body n rule r h meets.valid m least.embeds.lies placed c names h' runs)

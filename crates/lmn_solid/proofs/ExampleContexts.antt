@@ -18,18 +18,20 @@ true_or_false e = cc e
 
 lies : Embeds filled_membrane (a_in_membrane (Membrane 0 true true)) [] 0 as_they_are
 lies = record {
-  here = refl;
-  atoms_differ = λ n k i j e. e;
-  membranes_differ = λ n k i j e. omega (arith, e);
-  functors = λ n s h. functors n s (found_one n h);
-  atoms_placed = λ n s h. placed n s (found_one n h);
-  membranes_placed = λ k n h. inner h.0 k n h.1 (found_one h.0 h.2);
-  joined = λ x p q h k d. absurd (no_links x p h.0 (found_one p.0 h.1) h.2);
+  lies = record {
+    here = refl;
+    atoms_differ = λ n k i j e. e;
+    membranes_differ = λ n k i j e. omega (arith, e);
+    functors = λ n s h. functors n s (found_one n h);
+    atoms_placed = λ n s h. placed n s (found_one n h);
+    membranes_placed = λ k n h. inner h.0 k n h.1 (found_one h.0 h.2);
+    joined = λ x p q h k d. absurd (no_links x p h.0 (found_one p.0 h.1) h.2);
+    no_other_atom = λ k n y h c q. absurd (true_or_false (ap (λ w. w.has_context) (found_one h.0 h.2).1 ∙ c));
+    no_other_membrane = λ k n y h c q. absurd (true_or_false (ap (λ w. w.has_context) (found_one h.0 h.2).1 ∙ c));
+    no_rule = λ k n h c. absurd (true_or_false (ap (λ w. w.has_rule_context) (found_one h.0 h.2).1 ∙ c));
+    parts = λ n t h. absurd (found_none n h);
+  };
   outside = λ n i x s p h l o inside q w. no_links x (n, i) s (found_one n h) l;
-  no_other_atom = λ k n y h c q. absurd (true_or_false (ap (λ w. w.has_context) (found_one h.0 h.2).1 ∙ c));
-  no_other_membrane = λ k n y h c q. absurd (true_or_false (ap (λ w. w.has_context) (found_one h.0 h.2).1 ∙ c));
-  no_rule = λ k n h c. absurd (true_or_false (ap (λ w. w.has_rule_context) (found_one h.0 h.2).1 ∙ c));
-  parts = λ n t h. absurd (found_none n h);
   holds = tt;
 }
   where
@@ -56,23 +58,23 @@ first (suc zero) q = absurd (four_five (not_a_name 5 4 _ _ q refl refl))
 first (suc (suc n)) q = absurd (cc q)
 
 too_many_atoms : (f : Images) → Embeds filled_membrane (a_in_membrane (Membrane 0 false true)) [] 0 f → ⊥
-too_many_atoms f e = by (e.no_other_atom 1 _ 1 (0, refl, refl) refl (rw membrane (inr (inl refl))))
+too_many_atoms f e = by (e.lies.no_other_atom 1 _ 1 (0, refl, refl) refl (rw membrane (inr (inl refl))))
   where
     membrane : f.membrane 1 ≡ 1
-    membrane = one (subst (λ m. In (f.membrane 1) (mems_in filled_membrane m)) e.here (e.membranes_placed 1 _ (0, refl, refl)))
+    membrane = one (subst (λ m. In (f.membrane 1) (mems_in filled_membrane m)) e.lies.here (e.lies.membranes_placed 1 _ (0, refl, refl)))
 
     by : IsAtomImage (a_in_membrane (Membrane 0 false true)) f 1 ⊎ IsInPart filled_membrane (a_in_membrane (Membrane 0 false true)) f 1 1 → ⊥
     by (inl u) =
         let zero_first : u.0 ≡ 0 = omega (arith, u.1) in
         let at : f.atom 0 ≡ 1 = subst (λ n. f.atom n ≡ 1) zero_first u.2 in
-        absurd (omega (arith, at, first (f.atom 0) (e.functors 0 _ refl)))
+        absurd (omega (arith, at, first (f.atom 0) (e.lies.functors 0 _ refl)))
     by (inr u) = found_none u.0 u.2
 
 one_rule_too_many : (f : Images) → Embeds filled_membrane (a_in_membrane (Membrane 0 true false)) [] 0 f → ⊥
-one_rule_too_many f e = cc (subst (λ m. rules_in filled_membrane m ≡ []) membrane (e.no_rule 1 _ (0, refl, refl) refl))
+one_rule_too_many f e = cc (subst (λ m. rules_in filled_membrane m ≡ []) membrane (e.lies.no_rule 1 _ (0, refl, refl) refl))
   where
     membrane : f.membrane 1 ≡ 1
-    membrane = one (subst (λ m. In (f.membrane 1) (mems_in filled_membrane m)) e.here (e.membranes_placed 1 _ (0, refl, refl)))
+    membrane = one (subst (λ m. In (f.membrane 1) (mems_in filled_membrane m)) e.lies.here (e.lies.membranes_placed 1 _ (0, refl, refl)))
 
 -- in the example contexts take what is left
 pub contexts_take_the_rest : ContextsTakeTheRest

@@ -6,8 +6,8 @@ use Rattle.lmn_base.specs.declared.functor.Label.{Label}
 use Rattle.lmn_base.specs.declared.functor.Label.TheVariants.{Name, Int}
 use Rattle.lmn_heap.specs.Conditions.{Above}
 use Rattle.lmn_heap.specs.Heap.{atoms_in, functor_of, link_of, mems_in, rules_in}
-use Rattle.lmn_solid.specs.Embeddings.{Images, Embeds, HasAtom, HasLink, IsAtomImage, StandsWithin}
-use Rattle.lmn_solid.specs.Examples.{a_of_arity, b_of_arity, a_joined_to_b, a_with_b, c_between, LinksJoin, a_apart_from_b, through_the_wall, a_beside_b, a_with_b_inside, LinksLeave}
+use Rattle.lmn_solid.specs.Embeddings.{Images, Lies, Embeds, HasAtom, HasLink, IsAtomImage, StandsWithin}
+use Rattle.lmn_solid.specs.Examples.{a_of_arity, b_of_arity, a_joined_to_b, a_with_b, c_between, LinksJoin, a_apart_from_b, through_the_wall, a_beside_b, a_with_b_inside, LinksLeave, LinksMayStay}
 use Rattle.lmn_solid.specs.Heads.{HeadAtom, HeadMembrane, membranes_of, outermost}
 use Rattle.lmn_solid.proofs.Found.{found_none, found_one}
 use Rattle.lmn_base.specs.Graphs.{Port}
@@ -47,18 +47,20 @@ as_they_are = record { atom = λ n. n; membrane = λ k. k; part = λ n. (0, 0) }
 
 joins : Embeds a_with_b a_joined_to_b [] 0 as_they_are
 joins = record {
-  here = refl;
-  atoms_differ = λ n k i j e. e;
-  membranes_differ = λ n k i. absurd (omega (arith, i));
-  functors = functors;
-  atoms_placed = placed;
-  membranes_placed = λ k n h. absurd (found_none h.0 h.2);
-  joined = λ x p q h k d. ends p q d (joined_ports p h) (joined_ports q k);
+  lies = record {
+    here = refl;
+    atoms_differ = λ n k i j e. e;
+    membranes_differ = λ n k i. absurd (omega (arith, i));
+    functors = functors;
+    atoms_placed = placed;
+    membranes_placed = λ k n h. absurd (found_none h.0 h.2);
+    joined = λ x p q h k d. ends p q d (joined_ports p h) (joined_ports q k);
+    no_other_atom = λ k n y h. absurd (found_none h.0 h.2);
+    no_other_membrane = λ k n y h. absurd (found_none h.0 h.2);
+    no_rule = λ k n h. absurd (found_none h.0 h.2);
+    parts = λ n t h. absurd (found_none n h);
+  };
   outside = λ n i x s p h l o inside. absurd (inside (at_top n s h));
-  no_other_atom = λ k n y h. absurd (found_none h.0 h.2);
-  no_other_membrane = λ k n y h. absurd (found_none h.0 h.2);
-  no_rule = λ k n h. absurd (found_none h.0 h.2);
-  parts = λ n t h. absurd (found_none n h);
   holds = tt;
 }
   where
@@ -87,7 +89,7 @@ joins = record {
     ends p q d (inr e) (inr e') = absurd (d (e ∙ sym e'))
 
 not_between : (f : Images) → Embeds c_between a_joined_to_b [] 0 f → ⊥
-not_between f e = names (of_b (first (f.atom 0) (e.functors 0 _ refl)) (e.joined 0 (0, 0) (1, 0) (_, refl, refl) (_, refl, refl) apart)) (e.functors 1 _ refl)
+not_between f e = names (of_b (first (f.atom 0) (e.lies.functors 0 _ refl)) (e.lies.joined 0 (0, 0) (1, 0) (_, refl, refl) (_, refl, refl) apart)) (e.lies.functors 1 _ refl)
   where
     apart : ◌≢◌ {A = Port} (0, 0) (1, 0)
     apart d = cc (ap (λ p. p.0) d)
@@ -127,18 +129,20 @@ one_port {x} (suc (suc n), j) h = absurd (found_none n h.1)
 
 leaves : Embeds through_the_wall a_apart_from_b [] 0 as_they_are
 leaves = record {
-  here = refl;
-  atoms_differ = λ n k i j e. e;
-  membranes_differ = λ n k i j e. omega (arith, e);
-  functors = functors;
-  atoms_placed = placed;
-  membranes_placed = λ k n h. inner h.0 k n h.1 (found_one h.0 h.2);
-  joined = λ x p q h k d. absurd (d (alone x p q (one_port p h) (one_port q k)));
+  lies = record {
+    here = refl;
+    atoms_differ = λ n k i j e. e;
+    membranes_differ = λ n k i j e. omega (arith, e);
+    functors = functors;
+    atoms_placed = placed;
+    membranes_placed = λ k n h. inner h.0 k n h.1 (found_one h.0 h.2);
+    joined = λ x p q h k d. absurd (d (alone x p q (one_port p h) (one_port q k)));
+    no_other_atom = λ k n y h c q. inl (only_a h.0 k n y h.1 (found_one h.0 h.2) q);
+    no_other_membrane = λ k n y h c q. absurd (nothing_in h.0 k n y h.1 (found_one h.0 h.2) q);
+    no_rule = λ k n h c. no_rules h.0 k n h.1 (found_one h.0 h.2);
+    parts = λ n t h. absurd (found_none n h);
+  };
   outside = λ n i x s p h l o inside q w. away n i s p h inside q w;
-  no_other_atom = λ k n y h c q. inl (only_a h.0 k n y h.1 (found_one h.0 h.2) q);
-  no_other_membrane = λ k n y h c q. absurd (nothing_in h.0 k n y h.1 (found_one h.0 h.2) q);
-  no_rule = λ k n h c. no_rules h.0 k n h.1 (found_one h.0 h.2);
-  parts = λ n t h. absurd (found_none n h);
   holds = tt;
 }
   where
@@ -194,7 +198,7 @@ not_inside f e = e.outside 0 0 0 _ (1, 0) refl refl refl one_not_zero (rw atom r
     one_not_zero = omega arith
 
     membrane : f.membrane 1 ≡ 1
-    membrane = one (subst (λ m. In (f.membrane 1) (mems_in a_with_b_inside m)) e.here (e.membranes_placed 1 _ (0, refl, refl)))
+    membrane = one (subst (λ m. In (f.membrane 1) (mems_in a_with_b_inside m)) e.lies.here (e.lies.membranes_placed 1 _ (0, refl, refl)))
       where
         one : {n : ℕ} → In n (1 ∷ []) → n ≡ 1
         one (inl r) = sym r
@@ -206,8 +210,69 @@ not_inside f e = e.outside 0 0 0 _ (1, 0) refl refl refl one_not_zero (rw atom r
     first (suc (suc n)) q = absurd (cc q)
 
     atom : f.atom 0 ≡ 0
-    atom = first (f.atom 0) (e.functors 0 _ refl)
+    atom = first (f.atom 0) (e.lies.functors 0 _ refl)
 
 -- in the example a link leaves a membrane
 pub links_leave : LinksLeave
 links_leave = ((as_they_are, leaves), (λ l. not_inside l.0 l.1))
+
+-- ---- `{a(X), b(X)}`, where the items of `{a(X), b(Y)}` lie
+
+each_port : {x : ℕ} (p : Port) → HasLink a_beside_b x p → ((x ≡ 0) × (p ≡ (0, 0))) ⊎ ((x ≡ 1) × (p ≡ (1, 0)))
+each_port {x} (zero, zero) h = inl (sym (same_Some _ _ (subst (λ w. slice_get w.links 0 ≡ Some x) (sym (same_Some _ _ h.1)) h.2)), refl)
+each_port {x} (suc zero, zero) h = inr (sym (same_Some _ _ (subst (λ w. slice_get w.links 0 ≡ Some x) (sym (same_Some _ _ h.1)) h.2)), refl)
+each_port {x} (zero, suc j) h = absurd (found_none j (subst (λ w. slice_get w.links (suc j) ≡ Some x) (sym (same_Some _ _ h.1)) h.2))
+each_port {x} (suc zero, suc j) h = absurd (found_none j (subst (λ w. slice_get w.links (suc j) ≡ Some x) (sym (same_Some _ _ h.1)) h.2))
+each_port (suc (suc n), j) h = absurd (found_none n h.1)
+
+stays : Lies a_with_b_inside a_beside_b 0 as_they_are
+stays = record {
+  here = refl;
+  atoms_differ = λ n k i j e. e;
+  membranes_differ = λ n k i j e. omega (arith, e);
+  functors = functors;
+  atoms_placed = placed;
+  membranes_placed = λ k n h. inner h.0 k n h.1 (found_one h.0 h.2);
+  joined = λ x p q h k d. absurd (d (alone x p q (each_port p h) (each_port q k)));
+  no_other_atom = λ k n y h c q. inl (only_two h.0 k n y h.1 (found_one h.0 h.2) q);
+  no_other_membrane = λ k n y h c q. absurd (nothing_in h.0 k n y h.1 (found_one h.0 h.2) q);
+  no_rule = λ k n h c. no_rules h.0 k n h.1 (found_one h.0 h.2);
+  parts = λ n t h. absurd (found_none n h);
+}
+  where
+    functors : (n : ℕ) (s : HeadAtom) → HasAtom a_beside_b n s → functor_of a_with_b_inside n ≡ Some s.functor
+    functors zero s h = ap (λ w. Some w.functor) (same_Some _ _ h)
+    functors (suc zero) s h = ap (λ w. Some w.functor) (same_Some _ _ h)
+    functors (suc (suc n)) s h = absurd (found_none n h)
+
+    placed : (n : ℕ) (s : HeadAtom) → HasAtom a_beside_b n s → In n (atoms_in a_with_b_inside s.inside)
+    placed zero s h = subst (λ w. In 0 (atoms_in a_with_b_inside w.inside)) (same_Some _ _ h) (inl refl)
+    placed (suc zero) s h = subst (λ w. In 1 (atoms_in a_with_b_inside w.inside)) (same_Some _ _ h) (inr (inl refl))
+    placed (suc (suc n)) s h = absurd (found_none n h)
+
+    inner : (i k : ℕ) (n : HeadMembrane) → k ≡ suc i → (i ≡ 0) × (record { inside = 0; has_context = false; has_rule_context = false } ≡ n) → In k (mems_in a_with_b_inside n.inside)
+    inner i k n e d = rw (e, d.0) (subst (λ w. In 1 (mems_in a_with_b_inside w.inside)) d.1 (inl refl))
+
+    alone : (x : ℕ) (p q : Port) → ((x ≡ 0) × (p ≡ (0, 0))) ⊎ ((x ≡ 1) × (p ≡ (1, 0))) → ((x ≡ 0) × (q ≡ (0, 0))) ⊎ ((x ≡ 1) × (q ≡ (1, 0))) → p ≡ q
+    alone x p q (inl u) (inl w) = u.1 ∙ sym w.1
+    alone x p q (inl u) (inr w) = absurd (omega (arith, u.0, w.0))
+    alone x p q (inr u) (inl w) = absurd (omega (arith, u.0, w.0))
+    alone x p q (inr u) (inr w) = u.1 ∙ sym w.1
+
+    only_two : (i k : ℕ) (n : HeadMembrane) (y : ℕ) → k ≡ suc i → (i ≡ 0) × (record { inside = 0; has_context = false; has_rule_context = false } ≡ n) → In y (atoms_in a_with_b_inside k) → IsAtomImage a_beside_b as_they_are y
+    only_two i k n y e d q = by (subst (λ w. In y (atoms_in a_with_b_inside w)) (e ∙ ap suc d.0) q)
+      where
+        by : In y (0 ∷ 1 ∷ []) → IsAtomImage a_beside_b as_they_are y
+        by (inl r) = (0, omega arith, r)
+        by (inr (inl r)) = (1, omega arith, r)
+        by (inr (inr r)) = absurd r
+
+    nothing_in : (i k : ℕ) (n : HeadMembrane) (y : ℕ) → k ≡ suc i → (i ≡ 0) × (record { inside = 0; has_context = false; has_rule_context = false } ≡ n) → In y (mems_in a_with_b_inside k) → ⊥
+    nothing_in i k n y e d q = subst (λ w. In y (mems_in a_with_b_inside w)) (e ∙ ap suc d.0) q
+
+    no_rules : (i k : ℕ) (n : HeadMembrane) → k ≡ suc i → (i ≡ 0) × (record { inside = 0; has_context = false; has_rule_context = false } ≡ n) → rules_in a_with_b_inside k ≡ []
+    no_rules i k n e d = rw (e, d.0) refl
+
+-- a head may lie where it doesn't embed
+pub links_may_stay : LinksMayStay
+links_may_stay = ((as_they_are, stays), (λ l. not_inside l.0 l.1))

@@ -60,7 +60,7 @@ twice_whole = record { at_home = λ n r. home n (reached_two r); no_other_end = 
     joined n i f e q l = some_at n i e (below i f (arity n f e q) l)
 
 image_in_part : (f : Images) → Embeds joined_twice a_of_ground [] 0 f → ⊥
-image_in_part f e = (e.parts 0 _ refl).apart 0 (rw (sym part) (across at_root (other_index 1 1 0 one_not_zero) refl)) (0, omega arith, atom)
+image_in_part f e = (e.lies.parts 0 _ refl).apart 0 (rw (sym part) (across at_root (other_index 1 1 0 one_not_zero) refl)) (0, omega arith, atom)
   where
     first : (n : ℕ) → functor_of joined_twice n ≡ Some (a_of_arity 2) → n ≡ 0
     first zero q = refl
@@ -68,10 +68,10 @@ image_in_part f e = (e.parts 0 _ refl).apart 0 (rw (sym part) (across at_root (o
     first (suc (suc n)) q = absurd (cc q)
 
     atom : f.atom 0 ≡ 0
-    atom = first (f.atom 0) (e.functors 0 _ refl)
+    atom = first (f.atom 0) (e.lies.functors 0 _ refl)
 
     part : ◌≡◌ {A = Port} (1, 0) (f.part 0)
-    part = same_Some (1, 0) (f.part 0) (subst (λ n. link_of joined_twice n 0 ≡ Some (f.part 0)) atom ((e.parts 0 _ refl).held (0, 0) (_, refl, refl)))
+    part = same_Some (1, 0) (f.part 0) (subst (λ n. link_of joined_twice n 0 ≡ Some (f.part 0)) atom ((e.lies.parts 0 _ refl).held (0, 0) (_, refl, refl)))
 
 -- in the example a whole part has an atom of the head in it, so the head doesn't embed
 pub parts_have_no_image : PartsHaveNoImage
@@ -106,18 +106,20 @@ the_part = record { name = 7; kind = kind.Int; link = 0; inside = 0 }
 lies : Embeds (a_with_number 2) a_of_int below_three 0 part_behind
 unfolding part_behind
 lies = record {
-  here = refl;
-  atoms_differ = λ n k i j e. e;
-  membranes_differ = λ n k i. absurd (omega (arith, i));
-  functors = λ n s h. functors n s (found_one n h);
-  atoms_placed = λ n s h. placed n s (found_one n h);
-  membranes_placed = λ k n h. absurd (found_none h.0 h.2);
-  joined = λ x p q h k d. absurd (d (one_port x p h.0 (found_one p.0 h.1) h.2 ∙ sym (one_port x q k.0 (found_one q.0 k.1) k.2)));
+  lies = record {
+    here = refl;
+    atoms_differ = λ n k i j e. e;
+    membranes_differ = λ n k i. absurd (omega (arith, i));
+    functors = λ n s h. functors n s (found_one n h);
+    atoms_placed = λ n s h. placed n s (found_one n h);
+    membranes_placed = λ k n h. absurd (found_none h.0 h.2);
+    joined = λ x p q h k d. absurd (d (one_port x p h.0 (found_one p.0 h.1) h.2 ∙ sym (one_port x q k.0 (found_one q.0 k.1) k.2)));
+    no_other_atom = λ k n y h. absurd (found_none h.0 h.2);
+    no_other_membrane = λ k n y h. absurd (found_none h.0 h.2);
+    no_rule = λ k n h. absurd (found_none h.0 h.2);
+    parts = λ n t h. part n t (found_one n h);
+  };
   outside = λ n i x s p h l o inside. absurd (inside (sym (ap (λ w. w.inside) (found_one n h).1)));
-  no_other_atom = λ k n y h. absurd (found_none h.0 h.2);
-  no_other_membrane = λ k n y h. absurd (found_none h.0 h.2);
-  no_rule = λ k n h. absurd (found_none h.0 h.2);
-  parts = λ n t h. part n t (found_one n h);
   holds = ((pos 2, pos 3, refl, refl, two_three), tt);
 }
   where
@@ -156,7 +158,7 @@ five_not_below f e = by e.holds.0
     first (suc (suc n)) q = absurd (cc q)
 
     part : ◌≡◌ {A = Port} (1, 0) (f.part 0)
-    part = same_Some (1, 0) (f.part 0) (subst (λ n. link_of (a_with_number 5) n 0 ≡ Some (f.part 0)) (first (f.atom 0) (e.functors 0 _ refl)) ((e.parts 0 _ refl).held (0, 0) (_, refl, refl)))
+    part = same_Some (1, 0) (f.part 0) (subst (λ n. link_of (a_with_number 5) n 0 ≡ Some (f.part 0)) (first (f.atom 0) (e.lies.functors 0 _ refl)) ((e.lies.parts 0 _ refl).held (0, 0) (_, refl, refl)))
 
     by : ((m n : ℤ) × (integer_at (a_with_number 5) (f.part 0) ≡ Some m) × (Some (pos 3) ≡ Some n) × (m <ℤ n)) → ⊥
     by u =
@@ -173,7 +175,7 @@ not_whole : StandsWhole (atom_map integer_inside) (1, 0) 0 → ⊥
 not_whole w = one_not_zero (same_Some 1 0 (w.at_home 1 at_root))
 
 not_here : (f : Images) → Embeds integer_inside a_of_int [] 0 f → ⊥
-not_here f e = not_whole (subst (λ p. StandsWhole (atom_map integer_inside) p 0) (sym part) (subst (StandsWhole (atom_map integer_inside) (f.part 0)) e.here (e.parts 0 _ refl).whole))
+not_here f e = not_whole (subst (λ p. StandsWhole (atom_map integer_inside) p 0) (sym part) (subst (StandsWhole (atom_map integer_inside) (f.part 0)) e.lies.here (e.lies.parts 0 _ refl).whole))
   where
     first : (n : ℕ) → functor_of integer_inside n ≡ Some (a_of_arity 1) → n ≡ 0
     first zero q = refl
@@ -184,7 +186,7 @@ not_here f e = not_whole (subst (λ p. StandsWhole (atom_map integer_inside) p 0
     first (suc (suc n)) q = absurd (cc q)
 
     part : ◌≡◌ {A = Port} (1, 0) (f.part 0)
-    part = same_Some (1, 0) (f.part 0) (subst (λ n. link_of integer_inside n 0 ≡ Some (f.part 0)) (first (f.atom 0) (e.functors 0 _ refl)) ((e.parts 0 _ refl).held (0, 0) (_, refl, refl)))
+    part = same_Some (1, 0) (f.part 0) (subst (λ n. link_of integer_inside n 0 ≡ Some (f.part 0)) (first (f.atom 0) (e.lies.functors 0 _ refl)) ((e.lies.parts 0 _ refl).held (0, 0) (_, refl, refl)))
 
 -- in the example the guard asks of a part
 pub guards_ask_parts : GuardsAskParts

@@ -12,7 +12,7 @@ use Rattle.lmn_heap.specs.Heap.{Heap, HeapAtom, HeapMem, Place, top, within}
 use Rattle.lmn_guards.specs.declared.plan.TypeKind.TheVariants as kind
 use Rattle.lmn_solid.specs.declared.items.HeadItem.{HeadItem}
 use Rattle.lmn_solid.specs.declared.items.HeadItem.TheVariants.{Atom, Typed, Membrane}
-use Rattle.lmn_solid.specs.Embeddings.{Images, Embeds}
+use Rattle.lmn_solid.specs.Embeddings.{Images, Lies, Embeds}
 use Rattle.lmn_base.specs.SmallTexts.{somewhere}
 
 -- ---- heaps: the atoms, and the membranes from the root on, each by its number
@@ -40,9 +40,9 @@ c_of_arity n = record { label = Name 6; arity = n }
 abbrev pub integer : ℕ → Functor
 integer n = record { label = Int (pos n); arity = 1 }
 
--- a head lies in the root of a heap at some images, or at none
-abbrev pub Lies : Heap → List HeadItem → List Cond → Type 0
-Lies h items guard = (f : Images) × Embeds h items guard 0 f
+-- a head embeds in the root of a heap at some images, or at none
+abbrev pub EmbedsInRoot : Heap → List HeadItem → List Cond → Type 0
+EmbedsInRoot h items guard = (f : Images) × Embeds h items guard 0 f
 
 -- ---- joined
 
@@ -60,7 +60,7 @@ c_between = heap_with
     (membrane_at top (0 ∷ 1 ∷ 2 ∷ []) [] [] ∷ [])
 
 abbrev pub LinksJoin : Type 0
-LinksJoin = Lies a_with_b a_joined_to_b [] × (¬ (Lies c_between a_joined_to_b []))
+LinksJoin = EmbedsInRoot a_with_b a_joined_to_b [] × (¬ (EmbedsInRoot c_between a_joined_to_b []))
 
 -- ---- outside
 
@@ -83,7 +83,11 @@ a_with_b_inside = heap_with
     (membrane_at top [] (1 ∷ []) [] ∷ membrane_at (within 0) (0 ∷ 1 ∷ []) [] [] ∷ [])
 
 abbrev pub LinksLeave : Type 0
-LinksLeave = Lies through_the_wall a_apart_from_b [] × (¬ (Lies a_with_b_inside a_beside_b []))
+LinksLeave = EmbedsInRoot through_the_wall a_apart_from_b [] × (¬ (EmbedsInRoot a_with_b_inside a_beside_b []))
+
+-- the items of that head lie there all the same: this is asked of a head that embeds alone
+abbrev pub LinksMayStay : Type 0
+LinksMayStay = ((f : Images) × Lies a_with_b_inside a_beside_b 0 f) × (¬ (EmbedsInRoot a_with_b_inside a_beside_b []))
 
 -- ---- nothing else
 
@@ -98,9 +102,9 @@ filled_membrane = heap_with
 
 abbrev pub ContextsTakeTheRest : Type 0
 ContextsTakeTheRest =
-    Lies filled_membrane (a_in_membrane (Membrane 0 true true)) []
-    × (¬ (Lies filled_membrane (a_in_membrane (Membrane 0 false true)) []))
-    × (¬ (Lies filled_membrane (a_in_membrane (Membrane 0 true false)) []))
+    EmbedsInRoot filled_membrane (a_in_membrane (Membrane 0 true true)) []
+    × (¬ (EmbedsInRoot filled_membrane (a_in_membrane (Membrane 0 false true)) []))
+    × (¬ (EmbedsInRoot filled_membrane (a_in_membrane (Membrane 0 true false)) []))
 
 -- ---- parts
 
@@ -115,7 +119,7 @@ joined_twice = heap_with
     (membrane_at top (0 ∷ 1 ∷ []) [] [] ∷ [])
 
 abbrev pub PartsHaveNoImage : Type 0
-PartsHaveNoImage = StandsWhole (atom_map joined_twice) (1, 0) 0 × (¬ (Lies joined_twice a_of_ground []))
+PartsHaveNoImage = StandsWhole (atom_map joined_twice) (1, 0) 0 × (¬ (EmbedsInRoot joined_twice a_of_ground []))
 
 -- the head `a($x)` with `int($x)`, and the guard `$x < 3`
 abbrev pub a_of_int : List HeadItem
@@ -136,9 +140,9 @@ integer_inside = heap_with
 -- The guard holds in `a(2)` and not in `a(5)`. In `a(X), {2(X)}` the part doesn't stand where it is written.
 abbrev pub GuardsAskParts : Type 0
 GuardsAskParts =
-    Lies (a_with_number 2) a_of_int below_three
-    × (¬ (Lies (a_with_number 5) a_of_int below_three))
-    × (¬ (StandsWhole (atom_map integer_inside) (1, 0) 0)) × (¬ (Lies integer_inside a_of_int []))
+    EmbedsInRoot (a_with_number 2) a_of_int below_three
+    × (¬ (EmbedsInRoot (a_with_number 5) a_of_int below_three))
+    × (¬ (StandsWhole (atom_map integer_inside) (1, 0) 0)) × (¬ (EmbedsInRoot integer_inside a_of_int []))
 
 -- ---- rooted graphs
 

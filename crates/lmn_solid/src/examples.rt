@@ -1,33 +1,39 @@
 //! Small heads in small heaps, worked out: each the contract of an empty function.
 
-ghost use Rattle.lmn_solid.specs.Examples.{LinksJoin, LinksLeave, ContextsTakeTheRest};
+ghost use Rattle.lmn_solid.specs.Examples.{LinksJoin, LinksLeave, LinksMayStay, ContextsTakeTheRest};
 ghost use Rattle.lmn_solid.specs.Examples.{PartsHaveNoImage, GuardsAskParts, HeapPortsAreTold};
 
-/// `a(X), b(X)` lies in itself, and not in `a(X), b(Y), c(X,Y)`.
+/// `a(X), b(X)` embeds in itself, and not in `a(X), b(Y), c(X,Y)`.
 #[tactic(auto, using(crate::proofs::ExampleLinks::links_join))]
 pub fn links_join()
     ensures { LinksJoin }
 {}
 
-/// `{a(X)}, b(Y)` lies in `{a(X)}, b(X)`, and `{a(X), b(Y)}` doesn't lie in `{a(X), b(X)}`.
+/// `{a(X)}, b(Y)` embeds in `{a(X)}, b(X)`, and `{a(X), b(Y)}` doesn't embed in `{a(X), b(X)}`.
 #[tactic(auto, using(crate::proofs::ExampleLinks::links_leave))]
 pub fn links_leave()
     ensures { LinksLeave }
 {}
 
-/// `{a, $p, @r}` lies in `{a, b, T :- U}`, and `{a, @r}` and `{a, $p}` don't.
+/// The items of `{a(X), b(Y)}` lie in `{a(X), b(X)}`, where this head doesn't embed.
+#[tactic(auto, using(crate::proofs::ExampleLinks::links_may_stay))]
+pub fn links_may_stay()
+    ensures { LinksMayStay }
+{}
+
+/// `{a, $p, @r}` embeds in `{a, b, T :- U}`, and `{a, @r}` and `{a, $p}` don't.
 #[tactic(auto, using(crate::proofs::ExampleContexts::contexts_take_the_rest))]
 pub fn contexts_take_the_rest()
     ensures { ContextsTakeTheRest }
 {}
 
-/// `a($x,Z)` with a ground part doesn't lie in `a(X,Y), b(X,Y)`.
+/// `a($x,Z)` with a ground part doesn't embed in `a(X,Y), b(X,Y)`.
 #[tactic(auto, using(crate::proofs::ExampleParts::parts_have_no_image))]
 pub fn parts_have_no_image()
     ensures { PartsHaveNoImage }
 {}
 
-/// `a($x)` with the guard `$x < 3` lies in `a(2)`, and not in `a(5)`. It doesn't lie where the number is in a membrane.
+/// `a($x)` with the guard `$x < 3` embeds in `a(2)`, and not in `a(5)`. It doesn't embed where the number is in a membrane.
 #[tactic(auto, using(crate::proofs::ExampleParts::guards_ask_parts))]
 pub fn guards_ask_parts()
     ensures { GuardsAskParts }

@@ -138,11 +138,10 @@ module _ (ready_law : BodiesAreReady) (nested : AcceptedNested) (least : Accepte
           links = length r.rule.links;
           rule = nested t.table r.rule r.plan r.whole;
           is_code = r.compiled.body;
-          guard = r.rule.guard;
           place = m;
           in_place = placed;
-          embeds = λ s a. (least.least t.table r.rule r.plan h m s.head r.whole.ready can.valid
-              (is_first s.head (record { atoms = a.atoms; membranes = a.membranes; parts = a.parts; integers = a.integers }))).embeds;
+          lies = λ s a. (least.least t.table r.rule r.plan h m s.head r.whole.ready can.valid
+              (is_first s.head (record { atoms = a.atoms; membranes = a.membranes; parts = a.parts; integers = a.integers }))).embeds.lies;
         };
         some = λ s a. subst (λ b. (n : ℕ) × Leaves h s b n) (sym r.compiled.body)
             (cost.some t.table r.rule r.plan h m (record { head = s; copy = λ k. (0, 0); copied = λ k. [] }) (record { whole = r.whole; valid = can.valid; placed = placed; first = is_first s a }));

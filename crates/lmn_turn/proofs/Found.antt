@@ -101,7 +101,7 @@ module _ (h : Heap) (r : HeapReading) (read : IsRead h r) (kind : ℕ → TypeKi
 
   same : SameImages f listed 0 1 items
   same = same_images h f listed 0 0 1 [] [] items (omega arith) inside
-      (λ j l. let z : j ≡ 0 = omega (arith, l) in subst (λ k. f.membrane k ≡ listed.membrane k) (sym z) em.here)
+      (λ j l. let z : j ≡ 0 = omega (arith, l) in subst (λ k. f.membrane k ≡ listed.membrane k) (sym z) em.lies.here)
       (embedding_fresh h items guard m f em) (numbers ∙ sym listed_numbers)
 
   atoms_read : Reads f.atom 0 found.atoms
@@ -132,7 +132,7 @@ module _ (h : Heap) (r : HeapReading) (read : IsRead h r) (kind : ℕ → TypeKi
       (λ i a e. tt) (λ i a e. typed_twice i a e) (λ i n e. let z : 1 + i ≡ suc i = omega arith in (rw z (get_inside (membranes_of items) i n e), omega (arith, get_below (membranes_of items) i n e)))
 
   stood : Stood h v r read.naming f part_at t plain items kind 0 0 1 items found.atoms found.parts found.membranes
-  stood = walk_level h v r read.naming f part_at t plain items kind 0 1 0 0 hd m em.here (omega arith) o none facts (lies_kept h v r c found.lying)
+  stood = walk_level h v r read.naming f part_at t plain items kind 0 1 0 0 hd m em.lies.here (omega arith) o none facts (lies_kept h v r c found.lying)
       atoms_read parts_read membranes_read
       (forms_tops h inner (mems_in h m) forms) (forms_grown h inner (mems_in h m) forms) (inl refl)
       (λ x. omega (arith, times_are r.names r.rule kind x 0 1 hd))
@@ -167,7 +167,7 @@ module _ (h : Heap) (r : HeapReading) (read : IsRead h r) (kind : ℕ → TypeKi
       let q = lengths.0 in
       held_part h r read (f.membrane u.inside) (f.part n) (f.atom p.0.0, p.0.1) (part_at n) G w.ground
       (subst (λ z. IsPart (c.typed_of (name_of r.names u.name)) z (map (atom_at h r) (part_at n))) (sym (link_is u.link p.0 p.1)) w.is)
-      (distinct_of (part_at n) (λ b. let s = places_few b in omega (arith, s, places_part found.parts b n))) w.placed ((em.parts n u k).held p.0 p.1)
+      (distinct_of (part_at n) (λ b. let s = places_few b in omega (arith, s, places_part found.parts b n))) w.placed ((em.lies.parts n u k).held p.0 p.1)
       (λ i.
       let l = get_below (atoms_of items) p.0.0 p.1.0 p.1.1 in
       let z : 0 + p.0.0 ≡ p.0.0 = omega arith in

@@ -135,10 +135,10 @@ same_images h f g i n k as' ms (Membrane inside c rc ∷ xs) q e m p s =
 -- an embedding's images are so
 pub embedding_fresh : (h : Heap) (items : List HeadItem) (guard : List Cond) (m : ℕ) (f : Images) → Embeds h items guard m f → Fresh h f 0 1 [] [] items
 embedding_fresh h items guard m f e = record {
-  atoms = λ j a q. let z : j ≡ 0 + j = omega arith in subst (λ w. In (f.atom w) (atoms_in h (f.membrane a.inside))) z (e.atoms_placed j a q);
+  atoms = λ j a q. let z : j ≡ 0 + j = omega arith in subst (λ w. In (f.atom w) (atoms_in h (f.membrane a.inside))) z (e.lies.atoms_placed j a q);
   atoms_new = λ b j i l. absurd i;
-  atoms_differ = λ i j l k q. let zi : i ≡ 0 + i = omega arith in let zj : j ≡ 0 + j = omega arith in e.atoms_differ i j l k (ap f.atom zi ∙ q ∙ ap f.atom (sym zj));
-  mems = λ j b q. let z : suc j ≡ 1 + j = omega arith in subst (λ w. In (f.membrane w) (mems_in h (f.membrane b.inside))) z (e.membranes_placed (suc j) b (j, refl, q));
+  atoms_differ = λ i j l k q. let zi : i ≡ 0 + i = omega arith in let zj : j ≡ 0 + j = omega arith in e.lies.atoms_differ i j l k (ap f.atom zi ∙ q ∙ ap f.atom (sym zj));
+  mems = λ j b q. let z : suc j ≡ 1 + j = omega arith in subst (λ w. In (f.membrane w) (mems_in h (f.membrane b.inside))) z (e.lies.membranes_placed (suc j) b (j, refl, q));
   mems_new = λ b j i l. absurd i;
-  mems_differ = λ i j l k q. let zi : suc i ≡ 1 + i = omega arith in let zj : suc j ≡ 1 + j = omega arith in e.membranes_differ i j l k (ap f.membrane zi ∙ q ∙ ap f.membrane (sym zj));
+  mems_differ = λ i j l k q. let zi : suc i ≡ 1 + i = omega arith in let zj : suc j ≡ 1 + j = omega arith in e.lies.membranes_differ i j l k (ap f.membrane zi ∙ q ∙ ap f.membrane (sym zj));
 }

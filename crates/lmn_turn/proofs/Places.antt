@@ -50,7 +50,7 @@ module _ (h : Heap) (v : Valid h) (items : List HeadItem) (guard : List Cond) (m
 
   -- a membrane of the head lies in the rule's membrane or is an image
   register_in : (j : ℕ) → j ≤ K → In (s.head.images.membrane j) (m ∷ membrane_images s items)
-  register_in zero l = inl (sym em.here)
+  register_in zero l = inl (sym em.lies.here)
   register_in (suc j) l = inr (is_removed items s j (omega (arith, l)))
 
   mem_at : (x y : ℕ) → In x (mems_in h y) → mem_place_of h x ≡ Some (within y)
@@ -74,7 +74,7 @@ module _ (h : Heap) (v : Valid h) (items : List HeadItem) (guard : List Cond) (m
   below (suc fuel) k b l w = by (λ j c u q. below fuel j c u q) b.inside refl
     where
       placed : In (s.head.images.membrane k) (mems_in h (s.head.images.membrane b.inside))
-      placed = em.membranes_placed k b w
+      placed = em.lies.membranes_placed k b w
 
       deeper : (j : ℕ) → b.inside ≡ suc j → (c : HeadMembrane) × HasMembrane items (suc j) c
       deeper j e =
@@ -84,7 +84,7 @@ module _ (h : Heap) (v : Valid h) (items : List HeadItem) (guard : List Cond) (m
           (c.0, (j, refl, c.1))
 
       by : ((j : ℕ) (c : HeadMembrane) → j ≤ fuel → HasMembrane items j c → In (s.head.images.membrane j) (flat mi)) → (j : ℕ) → b.inside ≡ j → In (s.head.images.membrane k) (flat mi)
-      by outer zero e = list_inside h mi (mems_in h m) formed (s.head.images.membrane k) (subst (λ z. In (s.head.images.membrane k) (mems_in h z)) (ap s.head.images.membrane e ∙ em.here) placed)
+      by outer zero e = list_inside h mi (mems_in h m) formed (s.head.images.membrane k) (subst (λ z. In (s.head.images.membrane k) (mems_in h z)) (ap s.head.images.membrane e ∙ em.lies.here) placed)
       by outer (suc j) e =
           let c = deeper j e in
           let n = nests k b w in
@@ -94,7 +94,7 @@ module _ (h : Heap) (v : Valid h) (items : List HeadItem) (guard : List Cond) (m
   images_home : (x y : ℕ) → In x ks → In x (mems_in h y) → In y (m ∷ membrane_images s items)
   images_home x y i j =
       let w = removed_is items s x i in
-      let placed = subst (λ z. In z (mems_in h (s.head.images.membrane w.1.inside))) w.3 (em.membranes_placed w.0 w.1 w.2) in
+      let placed = subst (λ z. In z (mems_in h (s.head.images.membrane w.1.inside))) w.3 (em.lies.membranes_placed w.0 w.1 w.2) in
       let n = nests w.0 w.1 w.2 in
       let q = get_below (membranes_of items) w.2.0 w.1 w.2.2 in
       let e = w.2.1 in
@@ -106,10 +106,10 @@ module _ (h : Heap) (v : Valid h) (items : List HeadItem) (guard : List Cond) (m
       | inl p ↦ (let w = of_map s.head.images.atom a (rising 0 (length (atoms_of items))) (heap_in_of a (images_of s items) p) in
           let l = rising_below (length (atoms_of items)) 0 w.0 w.1 in
           let b = get_some (atoms_of items) w.0 (let u = l.1 in omega (arith, u)) in
-          let placed = subst (λ z. In z (atoms_in h (s.head.images.membrane b.0.inside))) w.2 (em.atoms_placed w.0 b.0 b.1) in
+          let placed = subst (λ z. In z (atoms_in h (s.head.images.membrane b.0.inside))) w.2 (em.lies.atoms_placed w.0 b.0 b.1) in
           subst (λ z. In z (m ∷ membrane_images s items)) (one_home h v (s.head.images.membrane b.0.inside) y a placed j) (register_in b.0.inside (let u = atom_inside 0 items inside w.0 b.0 b.1 in omega (arith, u))))
       | inr p ↦ (let w = are.are a p in
-          let at = (em.parts w.0 w.1 w.2).whole.at_home a w.3 in
+          let at = (em.lies.parts w.0 w.1 w.2).whole.at_home a w.3 in
           let same : s.head.images.membrane w.1.inside ≡ y = by (sym at ∙ home_in h v y a j) in
           subst (λ z. In z (m ∷ membrane_images s items)) same (register_in w.1.inside (let u = typed_inside 0 items inside w.0 w.1 w.2 in omega (arith, u))))
     ]
@@ -120,11 +120,11 @@ module _ (h : Heap) (v : Valid h) (items : List HeadItem) (guard : List Cond) (m
     -- where a rule fires
     pub placing : (made : List ℕ) → ((x : ℕ) → In x made → h.mems x ≡ None) → Distinct made → Placing h s (membrane_images s items) made (images_of s items ++ parts) m mi
     placing made fresh once = record {
-      at_home = em.here;
+      at_home = em.lies.here;
       there = there;
       formed = formed;
       apart = apart;
-      images_there = λ x i. let w = removed_is items s x i in subst (IsMem h) w.3 (listed_mem (s.head.images.membrane w.0) (s.head.images.membrane w.1.inside) (em.membranes_placed w.0 w.1 w.2));
+      images_there = λ x i. let w = removed_is items s x i in subst (IsMem h) w.3 (listed_mem (s.head.images.membrane w.0) (s.head.images.membrane w.1.inside) (em.lies.membranes_placed w.0 w.1 w.2));
       images_below = λ x i. let w = removed_is items s x i in subst (λ z. In z (flat mi)) w.3 (below w.0 w.0 w.1 (omega arith) w.2);
       images_home = images_home;
       fresh = fresh;

@@ -136,7 +136,7 @@ module _ (firing : AcceptedFires) (head_law : AcceptedHeads) (nested : AcceptedN
     root_not_removed : In h'.root (membrane_images s items) → ⊥
     root_not_removed i =
         let w = removed_is items s h.root (subst (λ z. In z (membrane_images s items)) same_root i) in
-        let placed = subst (λ z. In z (mems_in h (at s w.1.inside))) w.3 (fired.least.embeds.membranes_placed w.0 w.1 w.2) in
+        let placed = subst (λ z. In z (mems_in h (at s w.1.inside))) w.3 (fired.least.embeds.lies.membranes_placed w.0 w.1 w.2) in
         clash (sym ((read.valid.sound.listed.root h.root).1 refl) ∙ (read.valid.sound.listed.mems (at s w.1.inside) h.root).0 placed)
       where
         clash : {y : ℕ} → ◌≡◌ {A = Option Place} (Some top) (Some (within y)) → ⊥
