@@ -16,3 +16,4 @@ pub mod GatherLaws
 pub mod PaintedLaws
 pub mod CopiedLaws
 pub mod CleanLaws
+pub mod LoneLaws

@@ -140,6 +140,27 @@ fn copy_marked<S: LinkStore>(
     Ok(*copies.at(0))
 }
 
+/// Copies a part of one atom, which has one port.
+fn copy_lone<S: LinkStore>(
+    alloc: Global,
+    store: &mut S,
+    root: (S::Atom, u8),
+) -> Result<(S::Atom, u8), NoMemory>
+    requires atom { IsAtom (S.heap store.old) (S.atom_id root.0) }
+    requires port { root.1 < arity_of (S.heap store.old) (S.atom_id root.0) }
+    requires ground { IsWhole (S.heap store.old) (S.atom_id root.0, root.1) None }
+    requires outside { LeadsOut (S.heap store.old) (S.atom_id root.0, root.1) }
+    requires lone { arity_of (S.heap store.old) (S.atom_id root.0) ≡ 1 }
+    ensures ok { IfOk result (λ c. Copied (S.heap store.old) (S.heap store.new) (S.atom_id root.0, root.1) (S.atom_id c.0, c.1)) }
+    ensures err { OnErr result (Remains (S.heap store.old) (S.heap store.new)) }
+    ensures alone { Alone (S.heap store.old) → Alone (S.heap store.new) }
+{
+    let _sound = store.root();
+    let functor = store.functor(root.0);
+    let copy = store.make_atom(alloc, functor)?;
+    Ok((copy, root.1))
+}
+
 /// Copies a part whose root has no partner in it. The copy's atoms are detached, in the order in which the part's are
 /// found, and its root has no partner. At want of memory some detached atoms may have been made, which `discard` gives back.
 pub fn copy<S: LinkStore>(
@@ -156,7 +177,10 @@ pub fn copy<S: LinkStore>(
     ensures err { OnErr result (Remains (S.heap store.old) (S.heap store.new)) }
     ensures alone { Alone (S.heap store.old) → Alone (S.heap store.new) }
 {
-    let _arity = arity(store, root.0);
+    let ports = arity(store, root.0);
+    if ports == 1 {
+        return copy_lone(alloc, store, root);
+    }
     let mut atoms = Rows::new(alloc);
     let copied = copy_marked(alloc, store, root, &mut atoms);
     clear(store, &atoms);

@@ -21,9 +21,12 @@ pub fn is_ground<S: LinkStore>(store: &mut S, root: (S::Atom, u8), mem: S::Mem) 
     ensures ground { IsTrue result ↔ IsGroundIn (S.heap store.old) (S.atom_id root.0, root.1) (S.mem_id mem) }
     ensures same { S.heap store.new ≡ S.heap store.old }
 {
-    let _arity = arity(store, root.0);
+    let ports = arity(store, root.0);
     if !fits(store, Some(mem), root.0) {
         return false;
+    }
+    if ports == 1 {
+        return true;
     }
     let found = spread(store, root, Some(mem));
     wipe(store, root, found.0);
@@ -40,7 +43,10 @@ pub fn size_of<S: LinkStore>(store: &mut S, root: (S::Atom, u8)) -> u64
     ensures part { (all : List ℕ) × IsPartInDepth (S.heap store.old) (S.atom_id root.0, root.1) all × (length all ≡ result) }
     ensures same { S.heap store.new ≡ S.heap store.old }
 {
-    let _arity = arity(store, root.0);
+    let ports = arity(store, root.0);
+    if ports == 1 {
+        return 1;
+    }
     let found = spread(store, root, None);
     wipe(store, root, found.0);
     found.0
@@ -55,7 +61,11 @@ pub fn take_part<S: LinkStore>(store: &mut S, root: (S::Atom, u8))
     requires placed { (a : ℕ) → Reached (atom_map (S.heap store.old)) (S.atom_id root.0, root.1) a → IsInPlace (S.heap store.old) a }
     ensures { (all : List ℕ) × IsPartInDepth (S.heap store.old) (S.atom_id root.0, root.1) all × (S.heap store.new ≡ taken_all (S.heap store.old) all) }
 {
-    let _arity = arity(store, root.0);
+    let ports = arity(store, root.0);
+    if ports == 1 {
+        store.take_atom(root.0);
+        return;
+    }
     let found = spread(store, root, None);
     take_marked(store, root, found.0);
 }

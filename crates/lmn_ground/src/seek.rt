@@ -16,6 +16,7 @@ pub struct Stand<A> {
 }
 
 /// How many ports an atom has.
+#[inline(always)]
 pub fn arity<S: LinkStore>(store: &S, a: S::Atom) -> u8
     requires { IsAtom (S.heap store.now) (S.atom_id a) }
     ensures arity { result ≡ arity_of (S.heap store.now) (S.atom_id a) }
@@ -27,6 +28,7 @@ pub fn arity<S: LinkStore>(store: &S, a: S::Atom) -> u8
 }
 
 /// The port behind the one from which the atom was entered.
+#[inline(always)]
 pub fn go_back<S: LinkStore>(store: &S, root: (S::Atom, u8), at: Stand<S::Atom>) -> Stand<S::Atom>
     requires atom { IsAtom (S.heap store.now) (S.atom_id at.atom) }
     requires deep { 0 < at.depth }
@@ -59,6 +61,7 @@ pub fn is_root(depth: u64, port: u8, root: u8) -> bool
 }
 
 /// The next port that has to be looked at.
+#[inline(always)]
 pub fn seek<S: LinkStore>(store: &S, root: (S::Atom, u8), from: Stand<S::Atom>) -> Stand<S::Atom>
     requires atom { IsAtom (S.heap store.now) (S.atom_id from.atom) }
     requires port { from.port ≤ arity_of (S.heap store.now) (S.atom_id from.atom) }

@@ -3,7 +3,7 @@ use Rattle.std.proofs.Common.{ℕ, zero, suc, ◌≡◌, ◌≢◌, ◌<◌, ◌
 use Rattle.std.specs.Prelude.{slice_get}
 use Rattle.std.specs.List.{AllByRecursion}
 use Rattle.lmn_base.specs.Graphs.{Reached, at_root}
-use Rattle.lmn_heap.specs.Heap.{Heap, Distinct, atoms_in, home_of, within, port_id}
+use Rattle.lmn_heap.specs.Heap.{Heap, Distinct, atoms_in, home_of, port_id}
 use Rattle.lmn_heap.specs.Lists.{without}
 use Rattle.lmn_heap.specs.Graphs.{atom_map}
 use Rattle.lmn_heap.specs.Sound.{Sound}

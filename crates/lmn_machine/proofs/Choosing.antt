@@ -92,7 +92,7 @@ module _ {A M : Type 0} (atom : A → ℕ) (membrane : M → ℕ) (h : Heap) whe
       let l = length_push g.atoms a in
       omega (arith, t, l, k)
 
-  membrane_more : (g : SetRegisters A M) (m : M) (code is : List Instr) (y c : ℕ) → code ≡ AnyMem (length g.membranes) y ∷ is → SetsAll c g code → SetsAll c (with_membrane g m) is
+  pub membrane_more : (g : SetRegisters A M) (m : M) (code is : List Instr) (y c : ℕ) → code ≡ AnyMem (length g.membranes) y ∷ is → SetsAll c g code → SetsAll c (with_membrane g m) is
   membrane_more g m code is y c e k = k ∙ ap (λ n. length g.atoms + n) (ap atoms_set e)
 
   -- Atoms. Registers that agree and with which the code holds have one of the candidates that are left.

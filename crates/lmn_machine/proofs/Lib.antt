@@ -1,6 +1,7 @@
 pub mod Stepping
 pub mod Candidates
 pub mod Choosing
+pub mod Fitting
 pub mod Calling
 pub mod FromOne
 pub mod Climbing

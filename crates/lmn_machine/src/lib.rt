@@ -1,6 +1,7 @@
 //! Runs the code of rules on any store of atoms in membranes.
 #![tactic(auto)]
 
+mod ahead;
 mod checks;
 mod cost;
 mod counting;

@@ -1,10 +1,13 @@
-ghost use Rattle.std.specs.Prelude.{◌≡◌, ◌≤◌, ℕ, length, drop, slice_get, Some};
+ghost use Rattle.std.specs.Prelude.{◌≡◌, ◌≤◌, ◌+◌, ℕ, length, drop, slice_get, Some};
+ghost use Rattle.lmn_heap.specs.Lists.{from};
 ghost use Rattle.lmn_heap.specs.Sound.{Valid};
 ghost use Rattle.lmn_instr.specs.declared.instr.Instr.TheVariants.{FindAtom, AnyMem};
 ghost use Rattle.lmn_machine.specs.Searching.{AreHeldWhole, HeadInOrder, Searched};
-ghost use Rattle.lmn_heap.specs.Heap.{Unmarked};
+ghost use Rattle.lmn_machine.specs.Asking.{IsGuest};
+ghost use Rattle.lmn_heap.specs.Heap.{IsAtom, Unmarked, atoms_in, functor_of, home_of};
+ghost use Rattle.lmn_heap.specs.Functors.{with_functor};
 
-use crate::steps;
+use crate::{ahead, steps};
 use lmn_base::Functor;
 use lmn_instr::Instr;
 use lmn_registers::SetRegisters;
@@ -50,8 +53,9 @@ pub fn search<S: LinkStore>(
     true
 }
 
-/// Tries the atoms of a membrane with a functor for the next register.
+/// Chooses the atom for the next register among those of a membrane with a functor.
 #[cycle(search)]
+#[inline(always)]
 fn search_atom<S: LinkStore>(
     store: &mut S,
     code: &[Instr],
@@ -68,25 +72,118 @@ fn search_atom<S: LinkStore>(
     ensures same { S.heap store.new ≡ S.heap store.old }
     ensures searched { Searched S.atom_id S.mem_id (S.heap store.old) set.old set.new result (drop at code.now) }
 {
+    match store.first_with(place, functor) {
+        Some(first) => search_atoms(store, code, at, place, first, functor, set),
+        None => false,
+    }
+}
+
+/// Tries the atoms of a membrane with a functor for the next register, of which one is the first.
+#[cycle(search)]
+fn search_atoms<S: LinkStore>(
+    store: &mut S,
+    code: &[Instr],
+    at: usize,
+    place: S::Mem,
+    first: S::Atom,
+    functor: Functor,
+    set: &mut SetRegisters<S::Atom, S::Mem>,
+) -> bool
+    requires valid { Valid (S.heap store.old) }
+    requires unmarked { Unmarked (S.heap store.old) }
+    requires held { AreHeldWhole S.atom_id S.mem_id (S.heap store.old) set.old }
+    requires at { (y : ℕ) × (slice_get code.now at ≡ Some (FindAtom (length set.old.atoms) y functor)) × (slice_get set.old.membranes y ≡ Some place) }
+    requires functor { functor_of (S.heap store.old) (S.atom_id first) ≡ Some functor }
+    requires home { home_of (S.heap store.old) (S.atom_id first) ≡ Some (S.mem_id place) }
+    requires list { let all = with_functor (S.heap store.old) functor (atoms_in (S.heap store.old) (S.mem_id place)) in from (Some (S.atom_id first)) all ≡ all }
+    requires order { HeadInOrder (length set.old.atoms) (length set.old.membranes) (length set.old.parts) (length set.old.integers) (drop at code.now) }
+    ensures same { S.heap store.new ≡ S.heap store.old }
+    ensures searched { Searched S.atom_id S.mem_id (S.heap store.old) set.old set.new result (drop at code.now) }
+{
     let _root = store.root();
     let _code = code.len();
+    let rest = at + 1;
     let (atoms, membranes) = (set.atoms.len(), set.membranes.len());
     let (parts, integers) = (set.parts.len(), set.integers.len());
-    let mut candidate = store.first_with(place, functor);
+    let mut candidate = ahead::fitting_atom(store, code, rest, place, functor, Some(first), set);
     while let Some(atom) = candidate {
         set.atoms.push(atom);
-        if search(store, code, at + 1, set) {
+        if search(store, code, rest, set) {
             return true;
         }
         set.keep(atoms, membranes, parts, integers);
-        candidate = store.next_with(atom);
+        let next = store.next_with(atom);
+        candidate = ahead::fitting_atom(store, code, rest, place, functor, next, set);
     }
     false
 }
 
+/// Chooses the membrane for the next register.
+#[cycle(search)]
+#[inline(always)]
+fn search_membrane<S: LinkStore>(
+    store: &mut S,
+    code: &[Instr],
+    at: usize,
+    place: S::Mem,
+    set: &mut SetRegisters<S::Atom, S::Mem>,
+) -> bool
+    requires valid { Valid (S.heap store.old) }
+    requires unmarked { Unmarked (S.heap store.old) }
+    requires held { AreHeldWhole S.atom_id S.mem_id (S.heap store.old) set.old }
+    requires at { (y : ℕ) × (slice_get code.now at ≡ Some (AnyMem (length set.old.membranes) y)) × (slice_get set.old.membranes y ≡ Some place) }
+    requires order { HeadInOrder (length set.old.atoms) (length set.old.membranes) (length set.old.parts) (length set.old.integers) (drop at code.now) }
+    ensures same { S.heap store.new ≡ S.heap store.old }
+    ensures searched { Searched S.atom_id S.mem_id (S.heap store.old) set.old set.new result (drop at code.now) }
+{
+    let register = set.membranes.len();
+    match ahead::guest(store, code, at + 1, register, set) {
+        Some(guest) => search_home(store, code, at, place, guest, set),
+        None => search_membranes(store, code, at, place, set),
+    }
+}
+
+/// Tries the membrane in which an atom stands for the next register, where it is in the given one.
+#[cycle(search)]
+fn search_home<S: LinkStore>(
+    store: &mut S,
+    code: &[Instr],
+    at: usize,
+    place: S::Mem,
+    guest: S::Atom,
+    set: &mut SetRegisters<S::Atom, S::Mem>,
+) -> bool
+    requires valid { Valid (S.heap store.old) }
+    requires unmarked { Unmarked (S.heap store.old) }
+    requires held { AreHeldWhole S.atom_id S.mem_id (S.heap store.old) set.old }
+    requires at { (y : ℕ) × (slice_get code.now at ≡ Some (AnyMem (length set.old.membranes) y)) × (slice_get set.old.membranes y ≡ Some place) }
+    requires there { IsAtom (S.heap store.old) (S.atom_id guest) }
+    requires guest { IsGuest S.atom_id S.mem_id (S.heap store.old) set.old (drop (at + 1) code.now) (length set.old.membranes) (S.atom_id guest) }
+    requires order { HeadInOrder (length set.old.atoms) (length set.old.membranes) (length set.old.parts) (length set.old.integers) (drop at code.now) }
+    ensures same { S.heap store.new ≡ S.heap store.old }
+    ensures searched { Searched S.atom_id S.mem_id (S.heap store.old) set.old set.new result (drop at code.now) }
+{
+    let _root = store.root();
+    let _code = code.len();
+    let rest = at + 1;
+    match ahead::home_within(store, guest, place) {
+        Some(membrane) => {
+            let (atoms, membranes) = (set.atoms.len(), set.membranes.len());
+            let (parts, integers) = (set.parts.len(), set.integers.len());
+            set.membranes.push(membrane);
+            if search(store, code, rest, set) {
+                return true;
+            }
+            set.keep(atoms, membranes, parts, integers);
+            false
+        }
+        None => false,
+    }
+}
+
 /// Tries the membranes in a membrane for the next register.
 #[cycle(search)]
-fn search_membrane<S: LinkStore>(
+fn search_membranes<S: LinkStore>(
     store: &mut S,
     code: &[Instr],
     at: usize,
@@ -103,16 +200,20 @@ fn search_membrane<S: LinkStore>(
 {
     let _root = store.root();
     let _code = code.len();
+    let rest = at + 1;
     let (atoms, membranes) = (set.atoms.len(), set.membranes.len());
     let (parts, integers) = (set.parts.len(), set.integers.len());
-    let mut candidate = store.first_mem(place);
+    let asked = ahead::asked(code, rest, membranes);
+    let first = store.first_mem(place);
+    let mut candidate = ahead::fitting_membrane(store, place, first, asked);
     while let Some(membrane) = candidate {
         set.membranes.push(membrane);
-        if search(store, code, at + 1, set) {
+        if search(store, code, rest, set) {
             return true;
         }
         set.keep(atoms, membranes, parts, integers);
-        candidate = store.next_mem(membrane);
+        let next = store.next_mem(membrane);
+        candidate = ahead::fitting_membrane(store, place, next, asked);
     }
     false
 }

@@ -1,15 +1,20 @@
-use Rattle.std.proofs.Common.{rules, ◌≡◌, ◌<◌, ◌+◌, length, drop, Some, refl, arith, ap, sym, subst, ◌∙◌}
+use Rattle.std.proofs.Common.{rules, ◌≡◌, ◌<◌, ◌≤◌, ◌+◌, length, drop, Some, None, refl, arith, ap, sym, subst, ◌∙◌}
+use Rattle.std.specs.Option.{option_map}
+use Rattle.lmn_heap.specs.Lists.{from}
+use Rattle.lmn_heap.specs.Functors.{with_functor}
+use Rattle.lmn_machine.specs.Asking.{AsksFor, IsGuest}
+use Rattle.lmn_machine.proofs.Fitting.{AtomsFit, MembranesFit, OnlyOne, atoms_fit, membranes_fit, only_home, only_left, only_fails, smaller}
 use Rattle.std.specs.Prelude.{true, false}
 use Rattle.std.specs.Prelude.{IfSome}
 use Rattle.std.proofs.lemmas.Option.{slice_get_within}
-use Rattle.lmn_heap.specs.Heap.{functor_of, home_of, parent_of, Unmarked}
+use Rattle.lmn_heap.specs.Heap.{Heap, functor_of, home_of, parent_of, atoms_in, mems_in, Unmarked}
 use Rattle.lmn_instr.specs.declared.instr.Instr.TheVariants.{FindAtom, AnyMem}
 use Rattle.lmn_heap.specs.Sound.{Valid}
 use Rattle.lmn_machine.specs.Searching.{AreHeldWhole, HeadInOrder, Searched, Stepped}
 use Rattle.lmn_registers.specs.declared.stack.TheConstants.{ROOM}
 use Rattle.lmn_machine.proofs.Stepping.{Passed, extends_on, passed_one, failed, passed_all, passed_search}
 use Rattle.lmn_machine.proofs.Choosing.{AtomsLeft, MembranesLeft, with_atom, with_membrane, extends_atom, extends_membrane, atoms_first, atoms_next, atoms_none, atoms_found, membranes_first, membranes_next, membranes_none, membranes_found, held_atom, held_membrane}
-use Rattle.lmn_machine.proofs.Calling.{read_at, drop_at, drop_none, no_choice, if_both, if_same, none_is, one_more, one_membrane_more, taken_back, having_atoms, having_membranes, next_same, next_mem_same, atom_ahead, membrane_ahead}
+use Rattle.lmn_machine.proofs.Calling.{read_at, drop_at, drop_none, no_choice, if_both, none_is, one_more, one_membrane_more, taken_back, having_atoms, having_membranes, next_same, next_mem_same, atom_ahead, membrane_ahead}
 use Rattle.lmn_machine.proofs.search.+search.Goals as goal
 use Rattle.lmn_base.proofs.Lists.{drop_get}
 use Rattle.std.proofs.lemmas.List.{length_push}
@@ -105,24 +110,88 @@ search-returns-clause-searched g t c =
     passed_all g.S.LinkStore.atom_id g.S.LinkStore.mem_id (g.S.LinkStore.heap c.args.store.now) c.args.set.now c.loop-i.set (drop c.args.at c.args.code.now)
     (subst (λ left. Passed g.S.LinkStore.atom_id g.S.LinkStore.mem_id (g.S.LinkStore.heap c.args.store.now) c.args.set.now c.loop-i.set (drop c.args.at c.args.code.now) left) nothing c.loop-i.invariant.passed)
 
-pub search_atom-loop-candidate-init : goal.search_atom-loop-candidate-init
-search_atom-loop-candidate-init g t c = record {
+pub search_atom-returns-in-None-clause-searched : goal.search_atom-returns-in-None-clause-searched
+search_atom-returns-in-None-clause-searched g t c =
+    atoms_none g.S.LinkStore.atom_id g.S.LinkStore.mem_id (g.S.LinkStore.heap c.args.store.now) c.args.set.now (drop c.args.at c.args.code.now) c.args.functor c.args.place c.requires.held
+    (atoms_first g.S.LinkStore.atom_id g.S.LinkStore.mem_id (g.S.LinkStore.heap c.args.store.now) c.args.set.now (drop c.args.at c.args.code.now) (drop (c.args.at + 1) c.args.code.now) c.args.functor c.requires.at.0 c.args.place None (drop_get c.args.at c.args.code.now (FindAtom (length c.args.set.now.atoms) c.requires.at.0 c.args.functor) c.requires.at.1) c.requires.at.2 c.in-None.ensures.list)
+
+pub search_atom-search_atoms-requires : goal.search_atom-search_atoms-requires
+search_atom-search_atoms-requires g t c κs within = (
+  search rules,
+  (
+    search rules,
+    (
+      search rules,
+      (
+        search rules,
+        (
+          c.requires.valid,
+          (c.requires.unmarked, (c.requires.held, (c.requires.at, (c.in-Some.ensures.functor, (c.in-Some.ensures.home, (c.in-Some.ensures.list, c.requires.order)))))),
+        ),
+      ),
+    ),
+  ),
+)
+
+pub search_atoms-loop-candidate-init : goal.search_atoms-loop-candidate-init
+search_atoms-loop-candidate-init g t c = record {
   same = refl;
   set = refl;
-  left = atoms_first g.S.LinkStore.atom_id g.S.LinkStore.mem_id (g.S.LinkStore.heap c.args.store.now) c.args.set.now (drop c.args.at c.args.code.now) (drop (c.args.at + 1) c.args.code.now) c.args.functor
-      c.requires.at.0 c.args.place c.first_with-candidate.result (drop_get c.args.at c.args.code.now (FindAtom (length c.args.set.now.atoms) c.requires.at.0 c.args.functor) c.requires.at.1) c.requires.at.2 c.first_with-candidate.ensures.list;
-  there = if_both (λ a. functor_of (g.S.LinkStore.heap c.args.store.now) (g.S.LinkStore.atom_id a) ≡ Some c.args.functor) (λ a. home_of (g.S.LinkStore.heap c.args.store.now) (g.S.LinkStore.atom_id a) ≡ Some (g.S.LinkStore.mem_id c.args.place))
-      c.first_with-candidate.result c.first_with-candidate.ensures.functor c.first_with-candidate.ensures.home;
+  left = atoms_fit g.S.LinkStore.atom_id g.S.LinkStore.mem_id (g.S.LinkStore.heap c.args.store.now) c.args.set.now (drop c.args.at c.args.code.now) (drop (c.args.at + 1) c.args.code.now) c.args.functor c.requires.at.0 c.args.place (Some c.args.first) c.fitting_atom-candidate.result (drop_get c.args.at c.args.code.now (FindAtom (length c.args.set.now.atoms) c.requires.at.0 c.args.functor) c.requires.at.1)
+      (atoms_first g.S.LinkStore.atom_id g.S.LinkStore.mem_id (g.S.LinkStore.heap c.args.store.now) c.args.set.now (drop c.args.at c.args.code.now) (drop (c.args.at + 1) c.args.code.now) c.args.functor c.requires.at.0 c.args.place (Some c.args.first) (drop_get c.args.at c.args.code.now (FindAtom (length c.args.set.now.atoms) c.requires.at.0 c.args.functor) c.requires.at.1) c.requires.at.2 c.requires.list) c.fitting_atom-candidate.ensures.left;
+  there = if_both (λ a. functor_of (g.S.LinkStore.heap c.args.store.now) (g.S.LinkStore.atom_id a) ≡ Some c.args.functor) (λ a. home_of (g.S.LinkStore.heap c.args.store.now) (g.S.LinkStore.atom_id a) ≡ Some (g.S.LinkStore.mem_id c.args.place)) c.fitting_atom-candidate.result c.fitting_atom-candidate.ensures.functor c.fitting_atom-candidate.ensures.home;
 }
 
-pub search_atom-push-requires : goal.search_atom-push-requires
-search_atom-push-requires g t c =
+pub search_atoms-fitting_atom-candidate-requires-in-Some-clause-held : goal.search_atoms-fitting_atom-candidate-requires-in-Some-clause-held
+search_atoms-fitting_atom-candidate-requires-in-Some-clause-held g t c =
+    let same : g.S.LinkStore.heap c.search.new.store ≡ g.S.LinkStore.heap c.args.store.now = c.search.ensures.same ∙ c.loop-candidate.invariant.same in
+    let more = one_more c.args.set.now c.loop-candidate.set c.in-Some.atom c.push.new.self c.loop-candidate.invariant.set c.push.ensures in
+    let searched = subst (λ k. Searched g.S.LinkStore.atom_id g.S.LinkStore.mem_id (g.S.LinkStore.heap c.args.store.now) k c.search.new.set false (drop (c.args.at + 1) c.args.code.now)) more (subst (λ b. Searched g.S.LinkStore.atom_id g.S.LinkStore.mem_id (g.S.LinkStore.heap c.args.store.now) (having_atoms c.loop-candidate.set c.push.new.self) c.search.new.set b (drop (c.args.at + 1) c.args.code.now)) c.if-search.false
+    (subst (λ h. Searched g.S.LinkStore.atom_id g.S.LinkStore.mem_id h (having_atoms c.loop-candidate.set c.push.new.self) c.search.new.set c.search.result (drop (c.args.at + 1) c.args.code.now)) c.loop-candidate.invariant.same c.search.ensures.searched)) in
+    let taken = taken_back c.args.set.now c.search.new.set c.keep.new.self c.len-atoms.result c.len-membranes.result c.len-parts.result c.len-integers.result c.len-atoms.ensures c.len-membranes.ensures c.len-parts.ensures c.len-integers.ensures
+    (extends_on g.S.LinkStore.atom_id g.S.LinkStore.mem_id (g.S.LinkStore.heap c.args.store.now) c.args.set.now (with_atom c.args.set.now c.in-Some.atom) c.search.new.set (extends_atom g.S.LinkStore.atom_id g.S.LinkStore.mem_id (g.S.LinkStore.heap c.args.store.now) c.args.set.now c.in-Some.atom) searched.extends) c.keep.ensures in
+    subst (λ k. AreHeldWhole g.S.LinkStore.atom_id g.S.LinkStore.mem_id (g.S.LinkStore.heap c.search.new.store) k) (sym taken) (subst (λ h. AreHeldWhole g.S.LinkStore.atom_id g.S.LinkStore.mem_id h c.args.set.now) (sym same) c.requires.held)
+
+pub search_atoms-loop-candidate-smaller : goal.search_atoms-loop-candidate-smaller
+search_atoms-loop-candidate-smaller g t c =
+    let same : g.S.LinkStore.heap c.search.new.store ≡ g.S.LinkStore.heap c.args.store.now = c.search.ensures.same ∙ c.loop-candidate.invariant.same in
+    let there = subst (λ o. IfSome o (λ a. (functor_of (g.S.LinkStore.heap c.args.store.now) (g.S.LinkStore.atom_id a) ≡ Some c.args.functor) × (home_of (g.S.LinkStore.heap c.args.store.now) (g.S.LinkStore.atom_id a) ≡ Some (g.S.LinkStore.mem_id c.args.place)))) c.in-Some.is c.loop-candidate.invariant.there in
+    let next = next_same g.S.LinkStore.atom_id (g.S.LinkStore.heap c.args.store.now) (g.S.LinkStore.heap c.search.new.store) c.in-Some.atom c.next_with-next.result same c.next_with-next.ensures.list c.next_with-next.ensures.functor c.next_with-next.ensures.home in
+    let further = subst (λ (h : Heap). length (from (option_map g.S.LinkStore.atom_id c.fitting_atom-candidate-in-Some.result) (with_functor h c.args.functor (atoms_in h (g.S.LinkStore.mem_id c.args.place)))) ≤ length (from (option_map g.S.LinkStore.atom_id c.next_with-next.result) (with_functor h c.args.functor (atoms_in h (g.S.LinkStore.mem_id c.args.place))))) same c.fitting_atom-candidate-in-Some.ensures.further in
+    subst (λ o. length (from (option_map g.S.LinkStore.atom_id c.fitting_atom-candidate-in-Some.result) (with_functor (g.S.LinkStore.heap c.args.store.now) c.args.functor (atoms_in (g.S.LinkStore.heap c.args.store.now) (g.S.LinkStore.mem_id c.args.place)))) < length (from (option_map g.S.LinkStore.atom_id o) (with_functor (g.S.LinkStore.heap c.args.store.now) c.args.functor (atoms_in (g.S.LinkStore.heap c.args.store.now) (g.S.LinkStore.mem_id c.args.place))))) (sym c.in-Some.is)
+    (smaller (g.S.LinkStore.atom_id c.in-Some.atom) (option_map g.S.LinkStore.atom_id c.next_with-next.result) (option_map g.S.LinkStore.atom_id c.fitting_atom-candidate-in-Some.result) (with_functor (g.S.LinkStore.heap c.args.store.now) c.args.functor (atoms_in (g.S.LinkStore.heap c.args.store.now) (g.S.LinkStore.mem_id c.args.place))) (next.0 (g.S.LinkStore.mem_id c.args.place) c.args.functor there.1 there.0) further)
+
+pub search_atoms-loop-candidate-preserved : goal.search_atoms-loop-candidate-preserved
+search_atoms-loop-candidate-preserved g t c =
+    let same : g.S.LinkStore.heap c.search.new.store ≡ g.S.LinkStore.heap c.args.store.now = c.search.ensures.same ∙ c.loop-candidate.invariant.same in
+    let more = one_more c.args.set.now c.loop-candidate.set c.in-Some.atom c.push.new.self c.loop-candidate.invariant.set c.push.ensures in
+    let searched = subst (λ k. Searched g.S.LinkStore.atom_id g.S.LinkStore.mem_id (g.S.LinkStore.heap c.args.store.now) k c.search.new.set false (drop (c.args.at + 1) c.args.code.now)) more (subst (λ b. Searched g.S.LinkStore.atom_id g.S.LinkStore.mem_id (g.S.LinkStore.heap c.args.store.now) (having_atoms c.loop-candidate.set c.push.new.self) c.search.new.set b (drop (c.args.at + 1) c.args.code.now)) c.if-search.false
+    (subst (λ h. Searched g.S.LinkStore.atom_id g.S.LinkStore.mem_id h (having_atoms c.loop-candidate.set c.push.new.self) c.search.new.set c.search.result (drop (c.args.at + 1) c.args.code.now)) c.loop-candidate.invariant.same c.search.ensures.searched)) in
+    let taken = taken_back c.args.set.now c.search.new.set c.keep.new.self c.len-atoms.result c.len-membranes.result c.len-parts.result c.len-integers.result c.len-atoms.ensures c.len-membranes.ensures c.len-parts.ensures c.len-integers.ensures
+    (extends_on g.S.LinkStore.atom_id g.S.LinkStore.mem_id (g.S.LinkStore.heap c.args.store.now) c.args.set.now (with_atom c.args.set.now c.in-Some.atom) c.search.new.set (extends_atom g.S.LinkStore.atom_id g.S.LinkStore.mem_id (g.S.LinkStore.heap c.args.store.now) c.args.set.now c.in-Some.atom) searched.extends) c.keep.ensures in
+    let there = subst (λ o. IfSome o (λ a. (functor_of (g.S.LinkStore.heap c.args.store.now) (g.S.LinkStore.atom_id a) ≡ Some c.args.functor) × (home_of (g.S.LinkStore.heap c.args.store.now) (g.S.LinkStore.atom_id a) ≡ Some (g.S.LinkStore.mem_id c.args.place)))) c.in-Some.is c.loop-candidate.invariant.there in
+    let next = next_same g.S.LinkStore.atom_id (g.S.LinkStore.heap c.args.store.now) (g.S.LinkStore.heap c.search.new.store) c.in-Some.atom c.next_with-next.result same c.next_with-next.ensures.list c.next_with-next.ensures.functor c.next_with-next.ensures.home in
+    let left = subst (λ o. AtomsLeft g.S.LinkStore.atom_id g.S.LinkStore.mem_id (g.S.LinkStore.heap c.args.store.now) c.args.set.now (drop c.args.at c.args.code.now) c.args.functor c.args.place o) c.in-Some.is c.loop-candidate.invariant.left in
+    let fit = subst (λ k. AtomsFit g.S.LinkStore.atom_id g.S.LinkStore.mem_id (g.S.LinkStore.heap c.args.store.now) k (drop (c.args.at + 1) c.args.code.now) c.args.functor (g.S.LinkStore.mem_id c.args.place) c.next_with-next.result c.fitting_atom-candidate-in-Some.result) taken
+    (subst (λ h. AtomsFit g.S.LinkStore.atom_id g.S.LinkStore.mem_id h c.keep.new.self (drop (c.args.at + 1) c.args.code.now) c.args.functor (g.S.LinkStore.mem_id c.args.place) c.next_with-next.result c.fitting_atom-candidate-in-Some.result) same c.fitting_atom-candidate-in-Some.ensures.left) in
+    record {
+      same = same;
+      set = taken;
+      left = atoms_fit g.S.LinkStore.atom_id g.S.LinkStore.mem_id (g.S.LinkStore.heap c.args.store.now) c.args.set.now (drop c.args.at c.args.code.now) (drop (c.args.at + 1) c.args.code.now) c.args.functor c.requires.at.0 c.args.place c.next_with-next.result c.fitting_atom-candidate-in-Some.result (drop_get c.args.at c.args.code.now (FindAtom (length c.args.set.now.atoms) c.requires.at.0 c.args.functor) c.requires.at.1)
+          (atoms_next g.S.LinkStore.atom_id g.S.LinkStore.mem_id (g.S.LinkStore.heap c.args.store.now) c.args.set.now c.search.new.set (drop c.args.at c.args.code.now) (drop (c.args.at + 1) c.args.code.now) c.args.functor c.requires.at.0 c.args.place c.in-Some.atom c.next_with-next.result (drop_get c.args.at c.args.code.now (FindAtom (length c.args.set.now.atoms) c.requires.at.0 c.args.functor) c.requires.at.1) left searched (next.0 (g.S.LinkStore.mem_id c.args.place) c.args.functor there.1 there.0)) fit;
+      there = if_both (λ a. functor_of (g.S.LinkStore.heap c.args.store.now) (g.S.LinkStore.atom_id a) ≡ Some c.args.functor) (λ a. home_of (g.S.LinkStore.heap c.args.store.now) (g.S.LinkStore.atom_id a) ≡ Some (g.S.LinkStore.mem_id c.args.place)) c.fitting_atom-candidate-in-Some.result
+          (subst (λ (h : Heap). IfSome c.fitting_atom-candidate-in-Some.result (λ a. functor_of h (g.S.LinkStore.atom_id a) ≡ Some c.args.functor)) same c.fitting_atom-candidate-in-Some.ensures.functor)
+          (subst (λ (h : Heap). IfSome c.fitting_atom-candidate-in-Some.result (λ a. home_of h (g.S.LinkStore.atom_id a) ≡ Some (g.S.LinkStore.mem_id c.args.place))) same c.fitting_atom-candidate-in-Some.ensures.home);
+    }
+
+pub search_atoms-push-requires : goal.search_atoms-push-requires
+search_atoms-push-requires g t c =
     let ahead = atom_ahead (length c.args.set.now.atoms) (length c.args.set.now.membranes) (length c.args.set.now.parts) (length c.args.set.now.integers) (length c.args.set.now.atoms) c.requires.at.0 c.args.functor (drop c.args.at c.args.code.now) (drop (c.args.at + 1) c.args.code.now)
     (drop_get c.args.at c.args.code.now (FindAtom (length c.args.set.now.atoms) c.requires.at.0 c.args.functor) c.requires.at.1) c.requires.order in
     subst (λ k. length k.atoms < ROOM) (sym c.loop-candidate.invariant.set) ahead.0.2
 
-pub search_atom-search-requires : goal.search_atom-search-requires
-search_atom-search-requires g t c κs within =
+pub search_atoms-search-requires : goal.search_atoms-search-requires
+search_atoms-search-requires g t c κs within =
     let there = subst (λ o. IfSome o (λ a. (functor_of (g.S.LinkStore.heap c.args.store.now) (g.S.LinkStore.atom_id a) ≡ Some c.args.functor) × (home_of (g.S.LinkStore.heap c.args.store.now) (g.S.LinkStore.atom_id a) ≡ Some (g.S.LinkStore.mem_id c.args.place)))) c.in-Some.is c.loop-candidate.invariant.there in
     let more = one_more c.args.set.now c.loop-candidate.set c.in-Some.atom c.push.new.self c.loop-candidate.invariant.set c.push.ensures in
     let code = drop_get c.args.at c.args.code.now (FindAtom (length c.args.set.now.atoms) c.requires.at.0 c.args.functor) c.requires.at.1 in
@@ -155,8 +224,8 @@ search_atom-search-requires g t c κs within =
       ),
     )
 
-pub search_atom-returns-then-search-clause-searched : goal.search_atom-returns-then-search-clause-searched
-search_atom-returns-then-search-clause-searched g t c =
+pub search_atoms-returns-then-search-clause-searched : goal.search_atoms-returns-then-search-clause-searched
+search_atoms-returns-then-search-clause-searched g t c =
     let there = subst (λ o. IfSome o (λ a. (functor_of (g.S.LinkStore.heap c.args.store.now) (g.S.LinkStore.atom_id a) ≡ Some c.args.functor) × (home_of (g.S.LinkStore.heap c.args.store.now) (g.S.LinkStore.atom_id a) ≡ Some (g.S.LinkStore.mem_id c.args.place)))) c.in-Some.is c.loop-candidate.invariant.there in
     let more = one_more c.args.set.now c.loop-candidate.set c.in-Some.atom c.push.new.self c.loop-candidate.invariant.set c.push.ensures in
     let code = drop_get c.args.at c.args.code.now (FindAtom (length c.args.set.now.atoms) c.requires.at.0 c.args.functor) c.requires.at.1 in
@@ -166,49 +235,142 @@ search_atom-returns-then-search-clause-searched g t c =
     (subst (λ k. Searched g.S.LinkStore.atom_id g.S.LinkStore.mem_id (g.S.LinkStore.heap c.args.store.now) k c.search.new.set true (drop (c.args.at + 1) c.args.code.now)) more (subst (λ b. Searched g.S.LinkStore.atom_id g.S.LinkStore.mem_id (g.S.LinkStore.heap c.args.store.now) (having_atoms c.loop-candidate.set c.push.new.self) c.search.new.set b (drop (c.args.at + 1) c.args.code.now)) c.if-search.true
     (subst (λ h. Searched g.S.LinkStore.atom_id g.S.LinkStore.mem_id h (having_atoms c.loop-candidate.set c.push.new.self) c.search.new.set c.search.result (drop (c.args.at + 1) c.args.code.now)) c.loop-candidate.invariant.same c.search.ensures.searched)))
 
-pub search_atom-loop-candidate-preserved : goal.search_atom-loop-candidate-preserved
-search_atom-loop-candidate-preserved g t c =
-    let same : g.S.LinkStore.heap c.search.new.store ≡ g.S.LinkStore.heap c.args.store.now = c.search.ensures.same ∙ c.loop-candidate.invariant.same in
-    let next = next_same g.S.LinkStore.atom_id (g.S.LinkStore.heap c.args.store.now) (g.S.LinkStore.heap c.search.new.store) c.in-Some.atom c.next_with-candidate.result same c.next_with-candidate.ensures.list c.next_with-candidate.ensures.functor c.next_with-candidate.ensures.home in
-    let there = subst (λ o. IfSome o (λ a. (functor_of (g.S.LinkStore.heap c.args.store.now) (g.S.LinkStore.atom_id a) ≡ Some c.args.functor) × (home_of (g.S.LinkStore.heap c.args.store.now) (g.S.LinkStore.atom_id a) ≡ Some (g.S.LinkStore.mem_id c.args.place)))) c.in-Some.is c.loop-candidate.invariant.there in
-    let more = one_more c.args.set.now c.loop-candidate.set c.in-Some.atom c.push.new.self c.loop-candidate.invariant.set c.push.ensures in
-    let code = drop_get c.args.at c.args.code.now (FindAtom (length c.args.set.now.atoms) c.requires.at.0 c.args.functor) c.requires.at.1 in
-    let left = subst (λ o. AtomsLeft g.S.LinkStore.atom_id g.S.LinkStore.mem_id (g.S.LinkStore.heap c.args.store.now) c.args.set.now (drop c.args.at c.args.code.now) c.args.functor c.args.place o) c.in-Some.is c.loop-candidate.invariant.left in
-    let searched = subst (λ k. Searched g.S.LinkStore.atom_id g.S.LinkStore.mem_id (g.S.LinkStore.heap c.args.store.now) k c.search.new.set false (drop (c.args.at + 1) c.args.code.now)) more (subst (λ b. Searched g.S.LinkStore.atom_id g.S.LinkStore.mem_id (g.S.LinkStore.heap c.args.store.now) (having_atoms c.loop-candidate.set c.push.new.self) c.search.new.set b (drop (c.args.at + 1) c.args.code.now)) c.if-search.false
-    (subst (λ h. Searched g.S.LinkStore.atom_id g.S.LinkStore.mem_id h (having_atoms c.loop-candidate.set c.push.new.self) c.search.new.set c.search.result (drop (c.args.at + 1) c.args.code.now)) c.loop-candidate.invariant.same c.search.ensures.searched)) in
-    record {
-      same = same;
-      set = taken_back c.args.set.now c.search.new.set c.keep.new.self c.len-atoms.result c.len-membranes.result c.len-parts.result c.len-integers.result c.len-atoms.ensures c.len-membranes.ensures c.len-parts.ensures c.len-integers.ensures
-          (extends_on g.S.LinkStore.atom_id g.S.LinkStore.mem_id (g.S.LinkStore.heap c.args.store.now) c.args.set.now (with_atom c.args.set.now c.in-Some.atom) c.search.new.set (extends_atom g.S.LinkStore.atom_id g.S.LinkStore.mem_id (g.S.LinkStore.heap c.args.store.now) c.args.set.now c.in-Some.atom) searched.extends) c.keep.ensures;
-      left = atoms_next g.S.LinkStore.atom_id g.S.LinkStore.mem_id (g.S.LinkStore.heap c.args.store.now) c.args.set.now c.search.new.set (drop c.args.at c.args.code.now) (drop (c.args.at + 1) c.args.code.now) c.args.functor c.requires.at.0 c.args.place c.in-Some.atom c.next_with-candidate.result code left searched
-          (next.0 (g.S.LinkStore.mem_id c.args.place) c.args.functor there.1 there.0);
-      there = if_both (λ a. functor_of (g.S.LinkStore.heap c.args.store.now) (g.S.LinkStore.atom_id a) ≡ Some c.args.functor) (λ a. home_of (g.S.LinkStore.heap c.args.store.now) (g.S.LinkStore.atom_id a) ≡ Some (g.S.LinkStore.mem_id c.args.place)) c.next_with-candidate.result
-          (if_same (λ a. functor_of (g.S.LinkStore.heap c.args.store.now) (g.S.LinkStore.atom_id a)) c.in-Some.atom (Some c.args.functor) c.next_with-candidate.result next.1 there.0)
-          (if_same (λ a. home_of (g.S.LinkStore.heap c.args.store.now) (g.S.LinkStore.atom_id a)) c.in-Some.atom (Some (g.S.LinkStore.mem_id c.args.place)) c.next_with-candidate.result next.2 there.1);
-    }
-
-pub search_atom-returns-clause-searched : goal.search_atom-returns-clause-searched
-search_atom-returns-clause-searched g t c =
+pub search_atoms-returns-clause-searched : goal.search_atoms-returns-clause-searched
+search_atoms-returns-clause-searched g t c =
     let left = subst (λ o. AtomsLeft g.S.LinkStore.atom_id g.S.LinkStore.mem_id (g.S.LinkStore.heap c.args.store.now) c.args.set.now (drop c.args.at c.args.code.now) c.args.functor c.args.place o) (none_is c.loop-candidate.candidate c.in_default.not-Some) c.loop-candidate.invariant.left in
     subst (λ k. Searched g.S.LinkStore.atom_id g.S.LinkStore.mem_id (g.S.LinkStore.heap c.args.store.now) c.args.set.now k false (drop c.args.at c.args.code.now)) (sym c.loop-candidate.invariant.set) (atoms_none g.S.LinkStore.atom_id g.S.LinkStore.mem_id (g.S.LinkStore.heap c.args.store.now) c.args.set.now (drop c.args.at c.args.code.now) c.args.functor c.args.place c.requires.held left)
 
-pub search_membrane-loop-candidate-init : goal.search_membrane-loop-candidate-init
-search_membrane-loop-candidate-init g t c = record {
-  same = refl;
-  set = refl;
-  left = membranes_first g.S.LinkStore.atom_id g.S.LinkStore.mem_id (g.S.LinkStore.heap c.args.store.now) c.args.set.now (drop c.args.at c.args.code.now) (drop (c.args.at + 1) c.args.code.now) c.requires.at.0 c.args.place c.first_mem-candidate.result
-      (drop_get c.args.at c.args.code.now (AnyMem (length c.args.set.now.membranes) c.requires.at.0) c.requires.at.1) c.requires.at.2 c.first_mem-candidate.ensures.list;
-  there = c.first_mem-candidate.ensures.parent;
-}
+pub search_membrane-search_home-requires : goal.search_membrane-search_home-requires
+search_membrane-search_home-requires g t c κs within = (
+  search rules,
+  (
+    search rules,
+    (
+      search rules,
+      (
+        search rules,
+        (
+          c.requires.valid,
+          (
+            c.requires.unmarked,
+            (
+              c.requires.held,
+              (
+                c.requires.at,
+                (
+                  c.in-Some.ensures.there,
+                  (subst (λ n. IsGuest g.S.LinkStore.atom_id g.S.LinkStore.mem_id (g.S.LinkStore.heap c.args.store.now) c.args.set.now (drop (c.args.at + 1) c.args.code.now) n (g.S.LinkStore.atom_id c.in-Some.guest)) c.len-register.ensures c.in-Some.ensures.guest, c.requires.order),
+                ),
+              ),
+            ),
+          ),
+        ),
+      ),
+    ),
+  ),
+)
 
-pub search_membrane-push-requires : goal.search_membrane-push-requires
-search_membrane-push-requires g t c =
+pub search_home-push-requires : goal.search_home-push-requires
+search_home-push-requires g t c =
+    let ahead = membrane_ahead (length c.args.set.now.atoms) (length c.args.set.now.membranes) (length c.args.set.now.parts) (length c.args.set.now.integers) (length c.args.set.now.membranes) c.requires.at.0 (drop c.args.at c.args.code.now) (drop (c.args.at + 1) c.args.code.now) (drop_get c.args.at c.args.code.now (AnyMem (length c.args.set.now.membranes) c.requires.at.0) c.requires.at.1) c.requires.order in
+    ahead.0.2
+
+pub search_home-search-requires : goal.search_home-search-requires
+search_home-search-requires g t c κs within =
+    let more = one_membrane_more c.args.set.now c.args.set.now c.in-Some.membrane c.push.new.self refl c.push.ensures in
+    let ahead = membrane_ahead (length c.args.set.now.atoms) (length c.args.set.now.membranes) (length c.args.set.now.parts) (length c.args.set.now.integers) (length c.args.set.now.membranes) c.requires.at.0 (drop c.args.at c.args.code.now) (drop (c.args.at + 1) c.args.code.now) (drop_get c.args.at c.args.code.now (AnyMem (length c.args.set.now.membranes) c.requires.at.0) c.requires.at.1) c.requires.order in
+    let below : c.args.at < length c.args.code.now = slice_get_within c.args.code.now c.args.at (AnyMem (length c.args.set.now.membranes) c.requires.at.0) c.requires.at.1 in
+    let held = subst (λ k. AreHeldWhole g.S.LinkStore.atom_id g.S.LinkStore.mem_id (g.S.LinkStore.heap c.args.store.now) k) (sym more) (held_membrane g.S.LinkStore.atom_id g.S.LinkStore.mem_id (g.S.LinkStore.heap c.args.store.now) c.args.set.now c.in-Some.membrane (g.S.LinkStore.mem_id c.args.place) c.requires.held c.in-Some.ensures.parent) in
+    let next = subst (λ n. HeadInOrder (length c.args.set.now.atoms) n (length c.args.set.now.parts) (length c.args.set.now.integers) (drop (c.args.at + 1) c.args.code.now)) (sym (length_push c.args.set.now.membranes c.in-Some.membrane)) ahead.1 in (
+      search rules,
+      (
+        search rules,
+        (
+          search rules,
+          (
+            search rules,
+            (
+              c.requires.valid,
+              (c.requires.unmarked, (held, (omega arith, subst (λ k. HeadInOrder (length k.atoms) (length k.membranes) (length k.parts) (length k.integers) (drop (c.args.at + 1) c.args.code.now)) (sym more) next))),
+            ),
+          ),
+        ),
+      ),
+    )
+
+pub search_home-returns-then-search-clause-searched : goal.search_home-returns-then-search-clause-searched
+search_home-returns-then-search-clause-searched g t c =
+    let more = one_membrane_more c.args.set.now c.args.set.now c.in-Some.membrane c.push.new.self refl c.push.ensures in
+    let only = subst (λ o. OnlyOne g.S.LinkStore.atom_id g.S.LinkStore.mem_id (g.S.LinkStore.heap c.args.store.now) c.args.set.now (drop c.args.at c.args.code.now) o) c.in-Some.is
+    (only_home g.S.LinkStore.atom_id g.S.LinkStore.mem_id (g.S.LinkStore.heap c.args.store.now) c.args.set.now (drop c.args.at c.args.code.now) (drop (c.args.at + 1) c.args.code.now) c.requires.at.0 c.args.place (g.S.LinkStore.atom_id c.args.guest) c.home_within.result (drop_get c.args.at c.args.code.now (AnyMem (length c.args.set.now.membranes) c.requires.at.0) c.requires.at.1) c.requires.at.2 c.requires.guest c.home_within.ensures.only) in
+    let searched = subst (λ k. Searched g.S.LinkStore.atom_id g.S.LinkStore.mem_id (g.S.LinkStore.heap c.args.store.now) k c.search.new.set true (drop (c.args.at + 1) c.args.code.now)) more (subst (λ b. Searched g.S.LinkStore.atom_id g.S.LinkStore.mem_id (g.S.LinkStore.heap c.args.store.now) (having_membranes c.args.set.now c.push.new.self) c.search.new.set b (drop (c.args.at + 1) c.args.code.now)) c.if-search.true c.search.ensures.searched) in
+    membranes_found g.S.LinkStore.atom_id g.S.LinkStore.mem_id (g.S.LinkStore.heap c.args.store.now) c.args.set.now c.search.new.set (drop c.args.at c.args.code.now) (drop (c.args.at + 1) c.args.code.now) c.requires.at.0 c.args.place c.in-Some.membrane (drop_get c.args.at c.args.code.now (AnyMem (length c.args.set.now.membranes) c.requires.at.0) c.requires.at.1) c.requires.at.2 c.root-root.ensures.sound.listed c.in-Some.ensures.parent
+    (only_left g.S.LinkStore.atom_id g.S.LinkStore.mem_id (g.S.LinkStore.heap c.args.store.now) c.args.set.now (drop c.args.at c.args.code.now) c.args.place (Some c.in-Some.membrane) only) searched
+
+pub search_home-returns-else-search-clause-searched : goal.search_home-returns-else-search-clause-searched
+search_home-returns-else-search-clause-searched g t c =
+    let more = one_membrane_more c.args.set.now c.args.set.now c.in-Some.membrane c.push.new.self refl c.push.ensures in
+    let only = subst (λ o. OnlyOne g.S.LinkStore.atom_id g.S.LinkStore.mem_id (g.S.LinkStore.heap c.args.store.now) c.args.set.now (drop c.args.at c.args.code.now) o) c.in-Some.is
+    (only_home g.S.LinkStore.atom_id g.S.LinkStore.mem_id (g.S.LinkStore.heap c.args.store.now) c.args.set.now (drop c.args.at c.args.code.now) (drop (c.args.at + 1) c.args.code.now) c.requires.at.0 c.args.place (g.S.LinkStore.atom_id c.args.guest) c.home_within.result (drop_get c.args.at c.args.code.now (AnyMem (length c.args.set.now.membranes) c.requires.at.0) c.requires.at.1) c.requires.at.2 c.requires.guest c.home_within.ensures.only) in
+    let searched = subst (λ k. Searched g.S.LinkStore.atom_id g.S.LinkStore.mem_id (g.S.LinkStore.heap c.args.store.now) k c.search.new.set false (drop (c.args.at + 1) c.args.code.now)) more (subst (λ b. Searched g.S.LinkStore.atom_id g.S.LinkStore.mem_id (g.S.LinkStore.heap c.args.store.now) (having_membranes c.args.set.now c.push.new.self) c.search.new.set b (drop (c.args.at + 1) c.args.code.now)) c.if-search.false c.search.ensures.searched) in
+    let taken = taken_back c.args.set.now c.search.new.set c.keep.new.self c.len-atoms.result c.len-membranes.result c.len-parts.result c.len-integers.result c.len-atoms.ensures c.len-membranes.ensures c.len-parts.ensures c.len-integers.ensures
+    (extends_on g.S.LinkStore.atom_id g.S.LinkStore.mem_id (g.S.LinkStore.heap c.args.store.now) c.args.set.now (with_membrane c.args.set.now c.in-Some.membrane) c.search.new.set (extends_membrane g.S.LinkStore.atom_id g.S.LinkStore.mem_id (g.S.LinkStore.heap c.args.store.now) c.args.set.now c.in-Some.membrane) searched.extends) c.keep.ensures in
+    subst (λ k. Searched g.S.LinkStore.atom_id g.S.LinkStore.mem_id (g.S.LinkStore.heap c.args.store.now) c.args.set.now k false (drop c.args.at c.args.code.now)) (sym taken) (only_fails g.S.LinkStore.atom_id g.S.LinkStore.mem_id (g.S.LinkStore.heap c.args.store.now) c.args.set.now c.search.new.set (drop c.args.at c.args.code.now) (drop (c.args.at + 1) c.args.code.now) c.requires.at.0 c.in-Some.membrane (drop_get c.args.at c.args.code.now (AnyMem (length c.args.set.now.membranes) c.requires.at.0) c.requires.at.1) c.requires.held only searched)
+
+pub search_home-returns-in-None-clause-searched : goal.search_home-returns-in-None-clause-searched
+search_home-returns-in-None-clause-searched g t c =
+    let only = subst (λ o. OnlyOne g.S.LinkStore.atom_id g.S.LinkStore.mem_id (g.S.LinkStore.heap c.args.store.now) c.args.set.now (drop c.args.at c.args.code.now) o) c.in-None.is
+    (only_home g.S.LinkStore.atom_id g.S.LinkStore.mem_id (g.S.LinkStore.heap c.args.store.now) c.args.set.now (drop c.args.at c.args.code.now) (drop (c.args.at + 1) c.args.code.now) c.requires.at.0 c.args.place (g.S.LinkStore.atom_id c.args.guest) c.home_within.result (drop_get c.args.at c.args.code.now (AnyMem (length c.args.set.now.membranes) c.requires.at.0) c.requires.at.1) c.requires.at.2 c.requires.guest c.home_within.ensures.only) in
+    membranes_none g.S.LinkStore.atom_id g.S.LinkStore.mem_id (g.S.LinkStore.heap c.args.store.now) c.args.set.now (drop c.args.at c.args.code.now) c.args.place c.requires.held (only_left g.S.LinkStore.atom_id g.S.LinkStore.mem_id (g.S.LinkStore.heap c.args.store.now) c.args.set.now (drop c.args.at c.args.code.now) c.args.place None only)
+
+pub search_membranes-loop-candidate-init : goal.search_membranes-loop-candidate-init
+search_membranes-loop-candidate-init g t c =
+    let asks = subst (λ n. IfSome c.asked-asked.result (λ f. AsksFor c.args.code.now (c.args.at + 1) n f)) c.len-membranes.ensures c.asked-asked.ensures in
+    record {
+      same = refl;
+      set = refl;
+      left = membranes_fit g.S.LinkStore.atom_id g.S.LinkStore.mem_id (g.S.LinkStore.heap c.args.store.now) c.args.set.now c.args.code.now (drop c.args.at c.args.code.now) (c.args.at + 1) c.requires.at.0 c.args.place c.asked-asked.result c.first_mem-first.result c.fitting_membrane-candidate.result (drop_get c.args.at c.args.code.now (AnyMem (length c.args.set.now.membranes) c.requires.at.0) c.requires.at.1)
+          (membranes_first g.S.LinkStore.atom_id g.S.LinkStore.mem_id (g.S.LinkStore.heap c.args.store.now) c.args.set.now (drop c.args.at c.args.code.now) (drop (c.args.at + 1) c.args.code.now) c.requires.at.0 c.args.place c.first_mem-first.result (drop_get c.args.at c.args.code.now (AnyMem (length c.args.set.now.membranes) c.requires.at.0) c.requires.at.1) c.requires.at.2 c.first_mem-first.ensures.list) asks c.fitting_membrane-candidate.ensures.left;
+      there = c.fitting_membrane-candidate.ensures.parent;
+    }
+
+pub search_membranes-loop-candidate-smaller : goal.search_membranes-loop-candidate-smaller
+search_membranes-loop-candidate-smaller g t c =
+    let same : g.S.LinkStore.heap c.search.new.store ≡ g.S.LinkStore.heap c.args.store.now = c.search.ensures.same ∙ c.loop-candidate.invariant.same in
+    let there = subst (λ o. IfSome o (λ m. parent_of (g.S.LinkStore.heap c.args.store.now) (g.S.LinkStore.mem_id m) ≡ Some (g.S.LinkStore.mem_id c.args.place))) c.in-Some.is c.loop-candidate.invariant.there in
+    let next = next_mem_same g.S.LinkStore.mem_id (g.S.LinkStore.heap c.args.store.now) (g.S.LinkStore.heap c.search.new.store) c.in-Some.membrane c.next_mem-next.result same c.next_mem-next.ensures.list c.next_mem-next.ensures.parent in
+    let further = subst (λ (h : Heap). length (from (option_map g.S.LinkStore.mem_id c.fitting_membrane-candidate-in-Some.result) (mems_in h (g.S.LinkStore.mem_id c.args.place))) ≤ length (from (option_map g.S.LinkStore.mem_id c.next_mem-next.result) (mems_in h (g.S.LinkStore.mem_id c.args.place)))) same c.fitting_membrane-candidate-in-Some.ensures.further in
+    subst (λ o. length (from (option_map g.S.LinkStore.mem_id c.fitting_membrane-candidate-in-Some.result) (mems_in (g.S.LinkStore.heap c.args.store.now) (g.S.LinkStore.mem_id c.args.place))) < length (from (option_map g.S.LinkStore.mem_id o) (mems_in (g.S.LinkStore.heap c.args.store.now) (g.S.LinkStore.mem_id c.args.place)))) (sym c.in-Some.is)
+    (smaller (g.S.LinkStore.mem_id c.in-Some.membrane) (option_map g.S.LinkStore.mem_id c.next_mem-next.result) (option_map g.S.LinkStore.mem_id c.fitting_membrane-candidate-in-Some.result) (mems_in (g.S.LinkStore.heap c.args.store.now) (g.S.LinkStore.mem_id c.args.place)) (next.0 (g.S.LinkStore.mem_id c.args.place) there) further)
+
+pub search_membranes-loop-candidate-preserved : goal.search_membranes-loop-candidate-preserved
+search_membranes-loop-candidate-preserved g t c =
+    let same : g.S.LinkStore.heap c.search.new.store ≡ g.S.LinkStore.heap c.args.store.now = c.search.ensures.same ∙ c.loop-candidate.invariant.same in
+    let there = subst (λ o. IfSome o (λ m. parent_of (g.S.LinkStore.heap c.args.store.now) (g.S.LinkStore.mem_id m) ≡ Some (g.S.LinkStore.mem_id c.args.place))) c.in-Some.is c.loop-candidate.invariant.there in
+    let next = next_mem_same g.S.LinkStore.mem_id (g.S.LinkStore.heap c.args.store.now) (g.S.LinkStore.heap c.search.new.store) c.in-Some.membrane c.next_mem-next.result same c.next_mem-next.ensures.list c.next_mem-next.ensures.parent in
+    let asks = subst (λ n. IfSome c.asked-asked.result (λ f. AsksFor c.args.code.now (c.args.at + 1) n f)) c.len-membranes.ensures c.asked-asked.ensures in
+    let more = one_membrane_more c.args.set.now c.loop-candidate.set c.in-Some.membrane c.push.new.self c.loop-candidate.invariant.set c.push.ensures in
+    let left = subst (λ o. MembranesLeft g.S.LinkStore.atom_id g.S.LinkStore.mem_id (g.S.LinkStore.heap c.args.store.now) c.args.set.now (drop c.args.at c.args.code.now) c.args.place o) c.in-Some.is c.loop-candidate.invariant.left in
+    let searched = subst (λ k. Searched g.S.LinkStore.atom_id g.S.LinkStore.mem_id (g.S.LinkStore.heap c.args.store.now) k c.search.new.set false (drop (c.args.at + 1) c.args.code.now)) more (subst (λ b. Searched g.S.LinkStore.atom_id g.S.LinkStore.mem_id (g.S.LinkStore.heap c.args.store.now) (having_membranes c.loop-candidate.set c.push.new.self) c.search.new.set b (drop (c.args.at + 1) c.args.code.now)) c.if-search.false
+    (subst (λ h. Searched g.S.LinkStore.atom_id g.S.LinkStore.mem_id h (having_membranes c.loop-candidate.set c.push.new.self) c.search.new.set c.search.result (drop (c.args.at + 1) c.args.code.now)) c.loop-candidate.invariant.same c.search.ensures.searched)) in
+    let fit = subst (λ h. MembranesFit g.S.LinkStore.mem_id h c.asked-asked.result (g.S.LinkStore.mem_id c.args.place) c.next_mem-next.result c.fitting_membrane-candidate-in-Some.result) same c.fitting_membrane-candidate-in-Some.ensures.left in
+    record {
+      same = same;
+      set = taken_back c.args.set.now c.search.new.set c.keep.new.self c.len-atoms.result c.len-membranes.result c.len-parts.result c.len-integers.result c.len-atoms.ensures c.len-membranes.ensures c.len-parts.ensures c.len-integers.ensures
+          (extends_on g.S.LinkStore.atom_id g.S.LinkStore.mem_id (g.S.LinkStore.heap c.args.store.now) c.args.set.now (with_membrane c.args.set.now c.in-Some.membrane) c.search.new.set (extends_membrane g.S.LinkStore.atom_id g.S.LinkStore.mem_id (g.S.LinkStore.heap c.args.store.now) c.args.set.now c.in-Some.membrane) searched.extends) c.keep.ensures;
+      left = membranes_fit g.S.LinkStore.atom_id g.S.LinkStore.mem_id (g.S.LinkStore.heap c.args.store.now) c.args.set.now c.args.code.now (drop c.args.at c.args.code.now) (c.args.at + 1) c.requires.at.0 c.args.place c.asked-asked.result c.next_mem-next.result c.fitting_membrane-candidate-in-Some.result (drop_get c.args.at c.args.code.now (AnyMem (length c.args.set.now.membranes) c.requires.at.0) c.requires.at.1)
+          (membranes_next g.S.LinkStore.atom_id g.S.LinkStore.mem_id (g.S.LinkStore.heap c.args.store.now) c.args.set.now c.search.new.set (drop c.args.at c.args.code.now) (drop (c.args.at + 1) c.args.code.now) c.requires.at.0 c.args.place c.in-Some.membrane c.next_mem-next.result (drop_get c.args.at c.args.code.now (AnyMem (length c.args.set.now.membranes) c.requires.at.0) c.requires.at.1) left searched (next.0 (g.S.LinkStore.mem_id c.args.place) there)) asks fit;
+      there = subst (λ (h : Heap). IfSome c.fitting_membrane-candidate-in-Some.result (λ m. parent_of h (g.S.LinkStore.mem_id m) ≡ Some (g.S.LinkStore.mem_id c.args.place))) same c.fitting_membrane-candidate-in-Some.ensures.parent;
+    }
+
+pub search_membranes-push-requires : goal.search_membranes-push-requires
+search_membranes-push-requires g t c =
     let ahead = membrane_ahead (length c.args.set.now.atoms) (length c.args.set.now.membranes) (length c.args.set.now.parts) (length c.args.set.now.integers) (length c.args.set.now.membranes) c.requires.at.0 (drop c.args.at c.args.code.now) (drop (c.args.at + 1) c.args.code.now)
     (drop_get c.args.at c.args.code.now (AnyMem (length c.args.set.now.membranes) c.requires.at.0) c.requires.at.1) c.requires.order in
     subst (λ k. length k.membranes < ROOM) (sym c.loop-candidate.invariant.set) ahead.0.2
 
-pub search_membrane-search-requires : goal.search_membrane-search-requires
-search_membrane-search-requires g t c κs within =
+pub search_membranes-search-requires : goal.search_membranes-search-requires
+search_membranes-search-requires g t c κs within =
     let there = subst (λ o. IfSome o (λ m. parent_of (g.S.LinkStore.heap c.args.store.now) (g.S.LinkStore.mem_id m) ≡ Some (g.S.LinkStore.mem_id c.args.place))) c.in-Some.is c.loop-candidate.invariant.there in
     let more = one_membrane_more c.args.set.now c.loop-candidate.set c.in-Some.membrane c.push.new.self c.loop-candidate.invariant.set c.push.ensures in
     let code = drop_get c.args.at c.args.code.now (AnyMem (length c.args.set.now.membranes) c.requires.at.0) c.requires.at.1 in
@@ -241,8 +403,8 @@ search_membrane-search-requires g t c κs within =
       ),
     )
 
-pub search_membrane-returns-then-search-clause-searched : goal.search_membrane-returns-then-search-clause-searched
-search_membrane-returns-then-search-clause-searched g t c =
+pub search_membranes-returns-then-search-clause-searched : goal.search_membranes-returns-then-search-clause-searched
+search_membranes-returns-then-search-clause-searched g t c =
     let there = subst (λ o. IfSome o (λ m. parent_of (g.S.LinkStore.heap c.args.store.now) (g.S.LinkStore.mem_id m) ≡ Some (g.S.LinkStore.mem_id c.args.place))) c.in-Some.is c.loop-candidate.invariant.there in
     let more = one_membrane_more c.args.set.now c.loop-candidate.set c.in-Some.membrane c.push.new.self c.loop-candidate.invariant.set c.push.ensures in
     let code = drop_get c.args.at c.args.code.now (AnyMem (length c.args.set.now.membranes) c.requires.at.0) c.requires.at.1 in
@@ -252,26 +414,7 @@ search_membrane-returns-then-search-clause-searched g t c =
     (subst (λ k. Searched g.S.LinkStore.atom_id g.S.LinkStore.mem_id (g.S.LinkStore.heap c.args.store.now) k c.search.new.set true (drop (c.args.at + 1) c.args.code.now)) more (subst (λ b. Searched g.S.LinkStore.atom_id g.S.LinkStore.mem_id (g.S.LinkStore.heap c.args.store.now) (having_membranes c.loop-candidate.set c.push.new.self) c.search.new.set b (drop (c.args.at + 1) c.args.code.now)) c.if-search.true
     (subst (λ h. Searched g.S.LinkStore.atom_id g.S.LinkStore.mem_id h (having_membranes c.loop-candidate.set c.push.new.self) c.search.new.set c.search.result (drop (c.args.at + 1) c.args.code.now)) c.loop-candidate.invariant.same c.search.ensures.searched)))
 
-pub search_membrane-loop-candidate-preserved : goal.search_membrane-loop-candidate-preserved
-search_membrane-loop-candidate-preserved g t c =
-    let same : g.S.LinkStore.heap c.search.new.store ≡ g.S.LinkStore.heap c.args.store.now = c.search.ensures.same ∙ c.loop-candidate.invariant.same in
-    let next = next_mem_same g.S.LinkStore.mem_id (g.S.LinkStore.heap c.args.store.now) (g.S.LinkStore.heap c.search.new.store) c.in-Some.membrane c.next_mem-candidate.result same c.next_mem-candidate.ensures.list c.next_mem-candidate.ensures.parent in
-    let there = subst (λ o. IfSome o (λ m. parent_of (g.S.LinkStore.heap c.args.store.now) (g.S.LinkStore.mem_id m) ≡ Some (g.S.LinkStore.mem_id c.args.place))) c.in-Some.is c.loop-candidate.invariant.there in
-    let more = one_membrane_more c.args.set.now c.loop-candidate.set c.in-Some.membrane c.push.new.self c.loop-candidate.invariant.set c.push.ensures in
-    let code = drop_get c.args.at c.args.code.now (AnyMem (length c.args.set.now.membranes) c.requires.at.0) c.requires.at.1 in
-    let left = subst (λ o. MembranesLeft g.S.LinkStore.atom_id g.S.LinkStore.mem_id (g.S.LinkStore.heap c.args.store.now) c.args.set.now (drop c.args.at c.args.code.now) c.args.place o) c.in-Some.is c.loop-candidate.invariant.left in
-    let searched = subst (λ k. Searched g.S.LinkStore.atom_id g.S.LinkStore.mem_id (g.S.LinkStore.heap c.args.store.now) k c.search.new.set false (drop (c.args.at + 1) c.args.code.now)) more (subst (λ b. Searched g.S.LinkStore.atom_id g.S.LinkStore.mem_id (g.S.LinkStore.heap c.args.store.now) (having_membranes c.loop-candidate.set c.push.new.self) c.search.new.set b (drop (c.args.at + 1) c.args.code.now)) c.if-search.false
-    (subst (λ h. Searched g.S.LinkStore.atom_id g.S.LinkStore.mem_id h (having_membranes c.loop-candidate.set c.push.new.self) c.search.new.set c.search.result (drop (c.args.at + 1) c.args.code.now)) c.loop-candidate.invariant.same c.search.ensures.searched)) in
-    record {
-      same = same;
-      set = taken_back c.args.set.now c.search.new.set c.keep.new.self c.len-atoms.result c.len-membranes.result c.len-parts.result c.len-integers.result c.len-atoms.ensures c.len-membranes.ensures c.len-parts.ensures c.len-integers.ensures
-          (extends_on g.S.LinkStore.atom_id g.S.LinkStore.mem_id (g.S.LinkStore.heap c.args.store.now) c.args.set.now (with_membrane c.args.set.now c.in-Some.membrane) c.search.new.set (extends_membrane g.S.LinkStore.atom_id g.S.LinkStore.mem_id (g.S.LinkStore.heap c.args.store.now) c.args.set.now c.in-Some.membrane) searched.extends) c.keep.ensures;
-      left = membranes_next g.S.LinkStore.atom_id g.S.LinkStore.mem_id (g.S.LinkStore.heap c.args.store.now) c.args.set.now c.search.new.set (drop c.args.at c.args.code.now) (drop (c.args.at + 1) c.args.code.now) c.requires.at.0 c.args.place c.in-Some.membrane c.next_mem-candidate.result code left searched
-          (next.0 (g.S.LinkStore.mem_id c.args.place) there);
-      there = if_same (λ m. parent_of (g.S.LinkStore.heap c.args.store.now) (g.S.LinkStore.mem_id m)) c.in-Some.membrane (Some (g.S.LinkStore.mem_id c.args.place)) c.next_mem-candidate.result next.1 there;
-    }
-
-pub search_membrane-returns-clause-searched : goal.search_membrane-returns-clause-searched
-search_membrane-returns-clause-searched g t c =
+pub search_membranes-returns-clause-searched : goal.search_membranes-returns-clause-searched
+search_membranes-returns-clause-searched g t c =
     let left = subst (λ o. MembranesLeft g.S.LinkStore.atom_id g.S.LinkStore.mem_id (g.S.LinkStore.heap c.args.store.now) c.args.set.now (drop c.args.at c.args.code.now) c.args.place o) (none_is c.loop-candidate.candidate c.in_default.not-Some) c.loop-candidate.invariant.left in
     subst (λ k. Searched g.S.LinkStore.atom_id g.S.LinkStore.mem_id (g.S.LinkStore.heap c.args.store.now) c.args.set.now k false (drop c.args.at c.args.code.now)) (sym c.loop-candidate.invariant.set) (membranes_none g.S.LinkStore.atom_id g.S.LinkStore.mem_id (g.S.LinkStore.heap c.args.store.now) c.args.set.now (drop c.args.at c.args.code.now) c.args.place c.requires.held left)

@@ -9,13 +9,22 @@ use Rattle.lmn_machine.proofs.Choosing.{AtomsLeft, MembranesLeft}
 use Rattle.lmn_machine.proofs.search.+search.Given as goal
 
 abbrev pub decreases-search : goal.decreases-search
-decreases-search g l = 2 * (length l.code.now - l.at) + 1
+decreases-search g l = 3 * (length l.code.now - l.at) + 2
 
 abbrev pub decreases-search_atom : goal.decreases-search_atom
-decreases-search_atom g l = 2 * (length l.code.now - l.at)
+decreases-search_atom g l = 3 * (length l.code.now - l.at) + 1
+
+abbrev pub decreases-search_atoms : goal.decreases-search_atoms
+decreases-search_atoms g l = 3 * (length l.code.now - l.at)
 
 abbrev pub decreases-search_membrane : goal.decreases-search_membrane
-decreases-search_membrane g l = 2 * (length l.code.now - l.at)
+decreases-search_membrane g l = 3 * (length l.code.now - l.at) + 1
+
+abbrev pub decreases-search_home : goal.decreases-search_home
+decreases-search_home g l = 3 * (length l.code.now - l.at)
+
+abbrev pub decreases-search_membranes : goal.decreases-search_membranes
+decreases-search_membranes g l = 3 * (length l.code.now - l.at)
 
 abbrev pub invariant-search-loop-i : goal.invariant-search-loop-i
 invariant-search-loop-i g l = record {
@@ -23,8 +32,8 @@ invariant-search-loop-i g l = record {
   passed : Passed g.S.LinkStore.atom_id g.S.LinkStore.mem_id (g.S.LinkStore.heap l.fn.store) l.fn.set l.set (drop l.at l.code) (drop l.i l.code);
 }
 
-abbrev pub invariant-search_atom-loop-candidate : goal.invariant-search_atom-loop-candidate
-invariant-search_atom-loop-candidate g l = record {
+abbrev pub invariant-search_atoms-loop-candidate : goal.invariant-search_atoms-loop-candidate
+invariant-search_atoms-loop-candidate g l = record {
   same : g.S.LinkStore.heap l.store ≡ g.S.LinkStore.heap l.fn.store;
   set : l.set ≡ l.fn.set;
   left : AtomsLeft g.S.LinkStore.atom_id g.S.LinkStore.mem_id (g.S.LinkStore.heap l.fn.store) l.fn.set (drop l.at l.code) l.fn.functor l.fn.place l.candidate;
@@ -32,18 +41,18 @@ invariant-search_atom-loop-candidate g l = record {
       (home_of (g.S.LinkStore.heap l.fn.store) (g.S.LinkStore.atom_id a) ≡ Some (g.S.LinkStore.mem_id l.fn.place)));
 }
 
-abbrev pub decreases-search_atom-loop-candidate : goal.decreases-search_atom-loop-candidate
-decreases-search_atom-loop-candidate g l =
+abbrev pub decreases-search_atoms-loop-candidate : goal.decreases-search_atoms-loop-candidate
+decreases-search_atoms-loop-candidate g l =
     length (from (option_map g.S.LinkStore.atom_id l.candidate) (with_functor (g.S.LinkStore.heap l.fn.store) l.fn.functor (atoms_in (g.S.LinkStore.heap l.fn.store) (g.S.LinkStore.mem_id l.fn.place))))
 
-abbrev pub invariant-search_membrane-loop-candidate : goal.invariant-search_membrane-loop-candidate
-invariant-search_membrane-loop-candidate g l = record {
+abbrev pub invariant-search_membranes-loop-candidate : goal.invariant-search_membranes-loop-candidate
+invariant-search_membranes-loop-candidate g l = record {
   same : g.S.LinkStore.heap l.store ≡ g.S.LinkStore.heap l.fn.store;
   set : l.set ≡ l.fn.set;
   left : MembranesLeft g.S.LinkStore.atom_id g.S.LinkStore.mem_id (g.S.LinkStore.heap l.fn.store) l.fn.set (drop l.at l.code) l.fn.place l.candidate;
   there : IfSome l.candidate (λ m. parent_of (g.S.LinkStore.heap l.fn.store) (g.S.LinkStore.mem_id m) ≡ Some (g.S.LinkStore.mem_id l.fn.place));
 }
 
-abbrev pub decreases-search_membrane-loop-candidate : goal.decreases-search_membrane-loop-candidate
-decreases-search_membrane-loop-candidate g l =
+abbrev pub decreases-search_membranes-loop-candidate : goal.decreases-search_membranes-loop-candidate
+decreases-search_membranes-loop-candidate g l =
     length (from (option_map g.S.LinkStore.mem_id l.candidate) (mems_in (g.S.LinkStore.heap l.fn.store) (g.S.LinkStore.mem_id l.fn.place)))

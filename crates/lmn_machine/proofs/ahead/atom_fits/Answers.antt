@@ -1,0 +1,18 @@
+use Rattle.std.proofs.Common.{ap, arith, refl, ◌∙◌}
+use Rattle.lmn_base.proofs.Truth.{not_false}
+use Rattle.lmn_instr.specs.declared.instr.Instr.TheVariants.{Deref}
+use Rattle.lmn_machine.proofs.Fitting.{hold_behind}
+use Rattle.lmn_machine.proofs.Calling.{read_at}
+use Rattle.lmn_machine.proofs.ahead.atom_fits.Goals as goal
+
+pub returns-else-from-len : goal.returns-else-from-len
+returns-else-from-len g c = λ r b s t e w.
+    (let here = read_at c.args.code.now c.args.at c.index-code-at.result (Deref c.in-Deref.atom c.in-Deref.from c.in-Deref.port) c.if-at-code.false c.index-code-at.is c.in-Deref.is in
+    let d = hold_behind (g.S.LinkStore.heap c.args.store.now) b s c.args.code.now c.args.at c.args.at (Deref c.in-Deref.atom c.in-Deref.from c.in-Deref.port) (omega arith) here w in
+    c.may_lead.ensures r b c.args.at s (omega arith) t (ap (λ n. s.images.atom n) (c.if-from-len.false ∙ c.len.ensures) ∙ e) d w)
+
+pub returns-in_default : goal.returns-in_default
+returns-in_default g c = λ r b s t e w.
+    (let here = read_at c.args.code.now c.args.at c.index-code-at.result c.index-code-at.result c.if-at-code.false c.index-code-at.is refl in
+    c.refutes.ensures (not_false c.refutes.result r) b s t (ap (λ n. s.images.atom n) c.len-in_default.ensures ∙ e)
+    (hold_behind (g.S.LinkStore.heap c.args.store.now) b s c.args.code.now c.args.at c.args.at c.index-code-at.result (omega arith) here w))

@@ -1,0 +1,41 @@
+use Rattle.std.proofs.Common.{◌≡◌, ◌≤◌, Some, length, subst}
+use Rattle.std.specs.Prelude.{IfSome}
+use Rattle.std.specs.Option.{option_map}
+use Rattle.lmn_base.specs.Lists.{In}
+use Rattle.lmn_heap.specs.Lists.{from}
+use Rattle.lmn_heap.specs.Heap.{functor_of, home_of, atoms_in}
+use Rattle.lmn_heap.specs.Functors.{with_functor}
+use Rattle.lmn_machine.proofs.Calling.{if_same, none_is}
+use Rattle.lmn_machine.proofs.Fitting.{left_behind, fewer_behind}
+use Rattle.lmn_machine.proofs.ahead.fitting_atom.Goals as goal
+
+pub returns-then-atom_fits-clause-left : goal.returns-then-atom_fits-clause-left
+returns-then-atom_fits-clause-left g c = λ b s k t i.
+    (let all = with_functor (g.S.LinkStore.heap c.args.store.now) c.args.functor (atoms_in (g.S.LinkStore.heap c.args.store.now) (g.S.LinkStore.mem_id c.args.place)) in
+    subst (λ o. In (s.images.atom (length c.args.set.now.atoms)) (from (option_map g.S.LinkStore.atom_id o) all)) c.in-Some.is (c.loop-candidate.invariant.left b s k t i))
+
+pub returns-then-atom_fits-clause-further : goal.returns-then-atom_fits-clause-further
+returns-then-atom_fits-clause-further g c =
+    let all = with_functor (g.S.LinkStore.heap c.args.store.now) c.args.functor (atoms_in (g.S.LinkStore.heap c.args.store.now) (g.S.LinkStore.mem_id c.args.place)) in
+    subst (λ o. length (from (option_map g.S.LinkStore.atom_id o) all) ≤ length (from (option_map g.S.LinkStore.atom_id c.args.start) all)) c.in-Some.is c.loop-candidate.invariant.further
+
+pub loop-candidate-preserved : goal.loop-candidate-preserved
+loop-candidate-preserved g c =
+    let functor = subst (λ o. IfSome o (λ a. functor_of (g.S.LinkStore.heap c.args.store.now) (g.S.LinkStore.atom_id a) ≡ Some c.args.functor)) c.in-Some.is c.loop-candidate.invariant.functor in
+    let home = subst (λ o. IfSome o (λ a. home_of (g.S.LinkStore.heap c.args.store.now) (g.S.LinkStore.atom_id a) ≡ Some (g.S.LinkStore.mem_id c.args.place))) c.in-Some.is c.loop-candidate.invariant.home in
+    let all = with_functor (g.S.LinkStore.heap c.args.store.now) c.args.functor (atoms_in (g.S.LinkStore.heap c.args.store.now) (g.S.LinkStore.mem_id c.args.place)) in
+    record {
+      functor = if_same (λ a. functor_of (g.S.LinkStore.heap c.args.store.now) (g.S.LinkStore.atom_id a)) c.in-Some.a (Some c.args.functor) c.next_with-candidate.result c.next_with-candidate.ensures.functor functor;
+      home = if_same (λ a. home_of (g.S.LinkStore.heap c.args.store.now) (g.S.LinkStore.atom_id a)) c.in-Some.a (Some (g.S.LinkStore.mem_id c.args.place)) c.next_with-candidate.result c.next_with-candidate.ensures.home home;
+      further = fewer_behind (g.S.LinkStore.atom_id c.in-Some.a) (length (from (option_map g.S.LinkStore.atom_id c.args.start) all)) (option_map g.S.LinkStore.atom_id c.next_with-candidate.result) all
+          (c.next_with-candidate.ensures.list (g.S.LinkStore.mem_id c.args.place) c.args.functor home functor)
+          (subst (λ o. length (from (option_map g.S.LinkStore.atom_id o) all) ≤ length (from (option_map g.S.LinkStore.atom_id c.args.start) all)) c.in-Some.is c.loop-candidate.invariant.further);
+      left = λ b s k t i. left_behind (s.images.atom (length c.args.set.now.atoms)) (g.S.LinkStore.atom_id c.in-Some.a) (option_map g.S.LinkStore.atom_id c.next_with-candidate.result) all
+          (λ e. c.atom_fits.ensures c.if-atom_fits.false b s k e t) (c.next_with-candidate.ensures.list (g.S.LinkStore.mem_id c.args.place) c.args.functor home functor)
+          (subst (λ o. In (s.images.atom (length c.args.set.now.atoms)) (from (option_map g.S.LinkStore.atom_id o) all)) c.in-Some.is (c.loop-candidate.invariant.left b s k t i));
+    }
+
+pub returns-clause-left : goal.returns-clause-left
+returns-clause-left g c = λ b s k t i.
+    (let all = with_functor (g.S.LinkStore.heap c.args.store.now) c.args.functor (atoms_in (g.S.LinkStore.heap c.args.store.now) (g.S.LinkStore.mem_id c.args.place)) in
+    subst (λ o. In (s.images.atom (length c.args.set.now.atoms)) (from (option_map g.S.LinkStore.atom_id o) all)) (none_is c.loop-candidate.candidate c.in_default.not-Some) (c.loop-candidate.invariant.left b s k t i))

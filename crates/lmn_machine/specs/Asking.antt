@@ -1,0 +1,24 @@
+-- What the code ahead asks of a candidate.
+use Rattle.std.specs.Prelude.{ℕ, ◌≡◌, ◌≤◌, List, Option, Some, None, slice_get}
+use Rattle.lmn_base.specs.declared.functor.Functor.{Functor}
+use Rattle.lmn_base.specs.Lists.{In}
+use Rattle.lmn_heap.specs.Heap.{Heap, functor_of, atoms_in}
+use Rattle.lmn_instr.specs.declared.instr.Instr.{Instr}
+use Rattle.lmn_instr.specs.declared.instr.Instr.TheVariants.{FindAtom}
+use Rattle.lmn_instr.specs.Running.{HeadRegisters, AllHold}
+use Rattle.lmn_registers.specs.declared.registers.SetRegisters.{SetRegisters}
+use Rattle.lmn_registers.specs.Agreeing.{Agrees}
+
+-- a membrane holds an atom with the functor that is asked, if one is
+abbrev pub HoldsAsked : Heap → Option Functor → ℕ → Type 0
+HoldsAsked h None m = Unit {0}
+HoldsAsked h (Some f) m = (a : ℕ) × (In a (atoms_in h m)) × (functor_of h a ≡ Some f)
+
+-- code asks, at a place or behind it, for an atom with a functor in the membrane of a register
+abbrev pub AsksFor : List Instr → ℕ → ℕ → Functor → Type 0
+AsksFor code at register f = (k x : ℕ) × (at ≤ k) × (slice_get code k ≡ Some (FindAtom x register f))
+
+-- An atom stands in the membrane of a register, whenever the code from a place on succeeds with registers that agree with
+-- those that are set.
+abbrev pub IsGuest : {A M : Type 0} → (A → ℕ) → (M → ℕ) → Heap → SetRegisters A M → List Instr → ℕ → ℕ → Type 0
+IsGuest atom membrane h g code register a = (c : ℕ) (s : HeadRegisters) → Agrees atom membrane g s → AllHold h c s code → In a (atoms_in h (s.images.membrane register))

@@ -1,0 +1,317 @@
+//! Candidates are tested before they are tried, by what the code ahead asks of them.
+ghost use Rattle.std.specs.Prelude.{◌≡◌, ◌≤◌, ◌<◌, ◌+◌, ℕ, Some, IfSome, IsTrue, IsFalse, length, drop, slice_get};
+ghost use Rattle.std.specs.Option.{option_map};
+ghost use Rattle.lmn_heap.specs.Lists.{from};
+ghost use Rattle.lmn_heap.specs.Heap.{IsAtom, IsMem, functor_of, home_of, parent_of, atoms_in, mems_in};
+ghost use Rattle.lmn_heap.specs.Functors.{with_functor};
+ghost use Rattle.lmn_instr.specs.declared.instr.Instr.TheVariants.{Deref, InMem};
+ghost use Rattle.lmn_instr.specs.Running.{HeadRegisters, InstructionHolds, AllHold};
+ghost use Rattle.lmn_registers.specs.Agreeing.{Agrees};
+ghost use Rattle.lmn_machine.specs.Searching.{AreHeldWhole};
+ghost use Rattle.lmn_machine.specs.Asking.{HoldsAsked, AsksFor, IsGuest};
+ghost use Rattle.lmn_base.specs.Lists.{In};
+
+use crate::checks;
+use lmn_base::Functor;
+use lmn_instr::{AtomPort, Instr};
+use lmn_registers::SetRegisters;
+use lmn_store::LinkStore;
+
+/// Whether an instruction tests one atom register, and fails with an atom in it.
+fn refutes<S: LinkStore>(
+    store: &S,
+    instr: &Instr,
+    register: usize,
+    a: S::Atom,
+    set: &SetRegisters<S::Atom, S::Mem>,
+) -> bool
+    requires held { AreHeldWhole S.atom_id S.mem_id (S.heap store.now) set.now }
+    requires atom { IsAtom (S.heap store.now) (S.atom_id a) }
+    ensures { IsTrue result → (c : ℕ) (s : HeadRegisters) → Agrees S.atom_id S.mem_id set.now s → s.images.atom register ≡ S.atom_id a → InstructionHolds (S.heap store.now) c s instr.now → ⊥ }
+{
+    match instr {
+        Instr::Func { atom, functor } => {
+            if *atom as usize != register {
+                return false;
+            }
+            !checks::has_functor(store, a, *functor)
+        }
+        Instr::InMem { atom, membrane } => {
+            if *atom as usize != register {
+                return false;
+            }
+            if *membrane as usize >= set.membranes.len() {
+                return false;
+            }
+            !checks::stands_in(store, a, set.membranes.at(*membrane as usize))
+        }
+        Instr::NeqAtom { atom, other } => {
+            if *atom as usize != register {
+                return false;
+            }
+            if *other as usize >= set.atoms.len() {
+                return false;
+            }
+            !checks::atoms_differ(store, a, set.atoms.at(*other as usize))
+        }
+        _ => false,
+    }
+}
+
+/// Whether an instruction of code, where there is one, fails with an atom in the register that it tests.
+fn is_refuted<S: LinkStore>(
+    store: &S,
+    code: &[Instr],
+    at: usize,
+    register: usize,
+    a: S::Atom,
+    set: &SetRegisters<S::Atom, S::Mem>,
+) -> bool
+    requires held { AreHeldWhole S.atom_id S.mem_id (S.heap store.now) set.now }
+    requires atom { IsAtom (S.heap store.now) (S.atom_id a) }
+    ensures { IsTrue result → (c k : ℕ) (s : HeadRegisters) → k ≤ at → Agrees S.atom_id S.mem_id set.now s → s.images.atom register ≡ S.atom_id a → AllHold (S.heap store.now) c s (drop k code.now) → ⊥ }
+{
+    if at < code.len() {
+        refutes(store, &code[at], register, a, set)
+    } else {
+        false
+    }
+}
+
+/// Whether a port leads to the given port of an atom with which the two instructions ahead may hold.
+fn may_lead<S: LinkStore>(
+    store: &S,
+    code: &[Instr],
+    at: usize,
+    a: S::Atom,
+    from: AtomPort,
+    register: u16,
+    port: u8,
+    set: &SetRegisters<S::Atom, S::Mem>,
+) -> bool
+    requires held { AreHeldWhole S.atom_id S.mem_id (S.heap store.now) set.now }
+    requires atom { IsAtom (S.heap store.now) (S.atom_id a) }
+    requires at { at ≤ length code.now }
+    ensures { IsFalse result → (c k : ℕ) (s : HeadRegisters) → k ≤ at → Agrees S.atom_id S.mem_id set.now s → s.images.atom from.atom ≡ S.atom_id a → InstructionHolds (S.heap store.now) c s (Deref register from port) →
+        AllHold (S.heap store.now) c s (drop k code.now) → ⊥ }
+{
+    match checks::end(store, a, from.port) {
+        Some((b, entered)) => {
+            if entered != port {
+                return false;
+            }
+            if is_refuted(store, code, at, register as usize, b, set) {
+                return false;
+            }
+            !is_refuted(store, code, at + 1, register as usize, b, set)
+        }
+        None => false,
+    }
+}
+
+/// Whether the code ahead may succeed with an atom in the next register, by its first instructions.
+#[inline(always)]
+fn atom_fits<S: LinkStore>(
+    store: &S,
+    code: &[Instr],
+    at: usize,
+    a: S::Atom,
+    set: &SetRegisters<S::Atom, S::Mem>,
+) -> bool
+    requires held { AreHeldWhole S.atom_id S.mem_id (S.heap store.now) set.now }
+    requires atom { IsAtom (S.heap store.now) (S.atom_id a) }
+    ensures { IsFalse result → (c : ℕ) (s : HeadRegisters) → Agrees S.atom_id S.mem_id set.now s → s.images.atom (length set.now.atoms) ≡ S.atom_id a → AllHold (S.heap store.now) c s (drop at code.now) → ⊥ }
+{
+    if at >= code.len() {
+        return true;
+    }
+    match &code[at] {
+        Instr::Deref { atom, from, port } => {
+            if from.atom as usize != set.atoms.len() {
+                return true;
+            }
+            may_lead(store, code, at + 1, a, *from, *atom, *port, set)
+        }
+        instr => !refutes(store, instr, set.atoms.len(), a, set),
+    }
+}
+
+/// The first of the atoms with a functor in a membrane, from one on, with which the code ahead may succeed, by its first
+/// instructions.
+#[inline(always)]
+pub fn fitting_atom<S: LinkStore>(
+    store: &S,
+    code: &[Instr],
+    at: usize,
+    place: S::Mem,
+    functor: Functor,
+    start: Option<S::Atom>,
+    set: &SetRegisters<S::Atom, S::Mem>,
+) -> Option<S::Atom>
+    requires held { AreHeldWhole S.atom_id S.mem_id (S.heap store.now) set.now }
+    requires functor { IfSome start (λ a. functor_of (S.heap store.now) (S.atom_id a) ≡ Some functor) }
+    requires home { IfSome start (λ a. home_of (S.heap store.now) (S.atom_id a) ≡ Some (S.mem_id place)) }
+    ensures functor { IfSome result (λ a. functor_of (S.heap store.now) (S.atom_id a) ≡ Some functor) }
+    ensures home { IfSome result (λ a. home_of (S.heap store.now) (S.atom_id a) ≡ Some (S.mem_id place)) }
+    ensures further { let all = with_functor (S.heap store.now) functor (atoms_in (S.heap store.now) (S.mem_id place)) in length (from (option_map S.atom_id result) all) ≤ length (from (option_map S.atom_id start) all) }
+    ensures left { (c : ℕ) (s : HeadRegisters) → Agrees S.atom_id S.mem_id set.now s → AllHold (S.heap store.now) c s (drop at code.now) →
+        let all = with_functor (S.heap store.now) functor (atoms_in (S.heap store.now) (S.mem_id place)) in
+        In (s.images.atom (length set.now.atoms)) (from (option_map S.atom_id start) all) → In (s.images.atom (length set.now.atoms)) (from (option_map S.atom_id result) all) }
+{
+    let mut candidate = start;
+    while let Some(a) = candidate {
+        if atom_fits(store, code, at, a, set) {
+            return Some(a);
+        }
+        candidate = store.next_with(a);
+    }
+    None
+}
+
+/// The functor of the first atom that code looks for in the membrane of a register.
+pub fn asked(code: &[Instr], at: usize, register: usize) -> Option<Functor>
+    ensures { IfSome result (λ f. AsksFor code.now at register f) }
+{
+    for i in at..code.len() {
+        if let Instr::FindAtom {
+            membrane,
+            functor,
+            ..
+        } = &code[i]
+        {
+            if *membrane as usize == register {
+                return Some(*functor);
+            }
+        }
+    }
+    None
+}
+
+/// Whether a membrane holds an atom with the functor that is asked, if one is.
+fn holds<S: LinkStore>(store: &S, m: S::Mem, asked: Option<Functor>) -> bool
+    requires { IsMem (S.heap store.now) (S.mem_id m) }
+    ensures { IsFalse result → HoldsAsked (S.heap store.now) asked (S.mem_id m) → ⊥ }
+{
+    match asked {
+        Some(functor) => match store.first_with(m, functor) {
+            Some(_) => true,
+            None => false,
+        },
+        None => true,
+    }
+}
+
+/// The first of the membranes in a membrane, from one on, that holds an atom with the functor that is asked, if one is.
+#[inline(always)]
+pub fn fitting_membrane<S: LinkStore>(
+    store: &S,
+    place: S::Mem,
+    start: Option<S::Mem>,
+    asked: Option<Functor>,
+) -> Option<S::Mem>
+    requires parent { IfSome start (λ m. parent_of (S.heap store.now) (S.mem_id m) ≡ Some (S.mem_id place)) }
+    ensures parent { IfSome result (λ m. parent_of (S.heap store.now) (S.mem_id m) ≡ Some (S.mem_id place)) }
+    ensures further { length (from (option_map S.mem_id result) (mems_in (S.heap store.now) (S.mem_id place))) ≤ length (from (option_map S.mem_id start) (mems_in (S.heap store.now) (S.mem_id place))) }
+    ensures left { (n : ℕ) → HoldsAsked (S.heap store.now) asked n →
+        In n (from (option_map S.mem_id start) (mems_in (S.heap store.now) (S.mem_id place))) → In n (from (option_map S.mem_id result) (mems_in (S.heap store.now) (S.mem_id place))) }
+{
+    let mut candidate = start;
+    while let Some(m) = candidate {
+        if holds(store, m, asked) {
+            return Some(m);
+        }
+        candidate = store.next_mem(m);
+    }
+    None
+}
+
+/// Whether code asks at a place whether an atom register stands in a membrane register.
+fn asks_home(code: &[Instr], at: usize, atom: u16, register: usize) -> bool
+    ensures { IsTrue result → slice_get code.now at ≡ Some (InMem atom register) }
+{
+    if at >= code.len() {
+        return false;
+    }
+    match &code[at] {
+        Instr::InMem {
+            atom: tested,
+            membrane,
+        } => *tested == atom && *membrane as usize == register,
+        _ => false,
+    }
+}
+
+/// The atom to which an instruction goes from an atom that is set, where the code asks whether it stands in the membrane of
+/// a register.
+fn guest_at<S: LinkStore>(
+    store: &S,
+    code: &[Instr],
+    at: usize,
+    register: usize,
+    set: &SetRegisters<S::Atom, S::Mem>,
+) -> Option<S::Atom>
+    requires held { AreHeldWhole S.atom_id S.mem_id (S.heap store.now) set.now }
+    requires at { at < length code.now }
+    ensures there { IfSome result (λ a. IsAtom (S.heap store.now) (S.atom_id a)) }
+    ensures guest { IfSome result (λ a. (k : ℕ) → k ≤ at → IsGuest S.atom_id S.mem_id (S.heap store.now) set.now (drop k code.now) register (S.atom_id a)) }
+{
+    match &code[at] {
+        Instr::Deref { atom, from, .. } => {
+            if from.atom as usize >= set.atoms.len() {
+                return None;
+            }
+            if !asks_home(code, at + 2, *atom, register) {
+                return None;
+            }
+            match checks::end(store, set.atoms.at(from.atom as usize), from.port) {
+                Some((a, _)) => Some(a),
+                None => None,
+            }
+        }
+        _ => None,
+    }
+}
+
+/// An atom that stands in the membrane of a register whenever the code ahead succeeds: a link leads to it from an atom that
+/// is set.
+pub fn guest<S: LinkStore>(
+    store: &S,
+    code: &[Instr],
+    at: usize,
+    register: usize,
+    set: &SetRegisters<S::Atom, S::Mem>,
+) -> Option<S::Atom>
+    requires held { AreHeldWhole S.atom_id S.mem_id (S.heap store.now) set.now }
+    ensures there { IfSome result (λ a. IsAtom (S.heap store.now) (S.atom_id a)) }
+    ensures guest { IfSome result (λ a. IsGuest S.atom_id S.mem_id (S.heap store.now) set.now (drop at code.now) register (S.atom_id a)) }
+{
+    for i in at..code.len() {
+        if let Some(a) = guest_at(store, code, i, register, set) {
+            return Some(a);
+        }
+    }
+    None
+}
+
+/// The membrane in which an atom stands, where that stands in the given one.
+pub fn home_within<S: LinkStore>(store: &S, a: S::Atom, place: S::Mem) -> Option<S::Mem>
+    requires atom { IsAtom (S.heap store.now) (S.atom_id a) }
+    requires place { IsMem (S.heap store.now) (S.mem_id place) }
+    ensures parent { IfSome result (λ m. parent_of (S.heap store.now) (S.mem_id m) ≡ Some (S.mem_id place)) }
+    ensures only { (n : ℕ) → In (S.atom_id a) (atoms_in (S.heap store.now) n) → In n (mems_in (S.heap store.now) (S.mem_id place)) → option_map S.mem_id result ≡ Some n }
+{
+    let _root = store.root();
+    match store.home(a) {
+        Some(home) => match store.parent(home) {
+            Some(parent) => {
+                if store.same_mem(parent, place) {
+                    Some(home)
+                } else {
+                    None
+                }
+            }
+            None => None,
+        },
+        None => None,
+    }
+}
