@@ -1,7 +1,10 @@
 //! The program: the words of the system, the real shelf and sinks, and the status of the top call.
 #![tactic(auto)]
 
-use lmn_io::{FileShelf, OutSink};
+ghost use Rattle.std.specs.Prelude.{codes};
+ghost use Rattle.lmn_io.specs.Writing.{WritesText};
+
+use lmn_io::{Failed, FileShelf, OutSink, Sink};
 use std::env::Env;
 use std::process::ExitCode;
 use std::{env, io};
@@ -20,13 +23,24 @@ fn words_of(rt: &(impl Env + AllocGlobal)) -> Result<Vec<String>, io::ErrorKind>
     }
 }
 
+/// Puts the line that says that memory was wanting, which takes none.
+#[tactic(auto, using(lmn_io::proofs::TakingLemmas::taking))]
+fn report_no_memory<E: Sink>(err: &mut E) -> Result<(), Failed>
+    ensures { WritesText (codes "lmn: out of memory\n") result (E.told err.old) (E.faults err.old) (E.told err.new) (E.faults err.new) }
+{
+    err.put(b"lmn: out of memory\n")
+}
+
 fn main(rt: HostRuntime) -> ExitCode {
+    let mut err = OutSink::new(rt.stderr());
     match words_of(&rt) {
-        Err(_) => ExitCode::from(6),
+        Err(_) => match report_no_memory(&mut err) {
+            Ok(()) => ExitCode::from(6),
+            Err(Failed) => ExitCode::from(5),
+        },
         Ok(words) => {
             let mut shelf = FileShelf::new(&rt);
             let mut out = OutSink::new(rt.stdout());
-            let mut err = OutSink::new(rt.stderr());
             ExitCode::from(lmn_app::lmn_main(
                 rt.alloc(),
                 words.as_slice(),

@@ -659,6 +659,161 @@ fn a_million_firings_end(rt: HostRuntime) -> Result<(), Fail> {
     Ok(())
 }
 
+/// A text in pieces, each so many times.
+type Pieces = &'static [(usize, &'static [u8])];
+
+/// Texts at the limits and beyond: the text, what is printed of it, the line on `err`, and the status.
+const HOSTILE: [(Pieces, Pieces, &[u8], u8); 11] = [
+    (&[(4_194_304, b" ")], NOTHING_LEFT, b"", 0),
+    (&[(4_194_305, b" ")], &[], b"E01 1:1 text too long\n", 2),
+    (
+        &[(200, b"{"), (200, b"}")],
+        &[(200, b"{"), (200, b"}"), (1, b".\n% irreducible after 0\n")],
+        b"",
+        0,
+    ),
+    (
+        &[(201, b"{"), (201, b"}")],
+        &[],
+        b"E11 1:201 nesting too deep\n",
+        2,
+    ),
+    (
+        &[(1, b"a :- 1"), (256, b"+1")],
+        &[],
+        b"E11 1:517 nesting too deep\n",
+        2,
+    ),
+    (
+        &[(1, b"a("), (255, b"X,"), (1, b"X)")],
+        &[],
+        b"E12 1:513 too many arguments\n",
+        2,
+    ),
+    (
+        &[(1, b"a("), (254, b"X,"), (1, b"X)")],
+        &[],
+        b"E21 1:7 link occurs too often\n",
+        2,
+    ),
+    (&[(256, b"a")], &[], b"E05 1:1 name too long\n", 2),
+    (
+        &[(128, b"a,"), (1, b"a :- .")],
+        &[],
+        b"E44 1:1 rule too large\n",
+        2,
+    ),
+    (&[(1, b"%\xff\n")], NOTHING_LEFT, b"", 0),
+    (&[(1, b"\xff")], &[], b"E02 1:1 bad byte\n", 2),
+];
+
+/// What is printed of an empty process.
+const NOTHING_LEFT: Pieces = &[(1, b"\n% irreducible after 0\n")];
+
+/// The bytes of pieces.
+fn whole(alloc: Global, pieces: Pieces) -> Result<Vec<u8>, AllocError> {
+    let mut bytes = Vec::new(alloc);
+    for (times, piece) in pieces {
+        for _ in 0..*times {
+            bytes.extend_from_slice(piece)?;
+        }
+    }
+    Ok(bytes)
+}
+
+#[test]
+fn texts_at_the_limits_end_as_they_must(rt: HostRuntime) -> Result<(), Fail> {
+    let alloc = rt.alloc();
+    for (i, (text, out, err, status)) in HOSTILE.iter().enumerate() {
+        let text = whole(alloc, *text)?;
+        let lines = whole(alloc, *out)?;
+        let shelf = shelf_of(alloc, text.as_slice(), &[])?;
+        let sink = MemSink::new(alloc, 1000, Rows::new(alloc))?;
+        let errors = MemSink::new(alloc, 100, Rows::new(alloc))?;
+        let ended = call_on(alloc, RUN, shelf, sink, errors)?;
+        assert_eq!(rt; ended.status, *status, "status of row {i}");
+        assert_eq!(rt; ended.out.taken(), lines.as_slice(), "output of row {i}");
+        assert_eq!(rt; ended.err.taken(), *err, "errors of row {i}");
+    }
+    Ok(())
+}
+
+/// Lists are joined.
+const APPEND: &[u8] =
+    b"append([1,2],[3],R), ans(R).\n      append([],Y,Z) :- Y=Z.\n      append([A|X],Y,Z) :- Z=[A|W], append(X,Y,W).";
+
+#[test]
+fn each_front_of_a_text_is_run_or_refused(rt: HostRuntime) -> Result<(), Fail> {
+    for end in 0..=APPEND.len() {
+        let ended = run_of(rt.alloc(), &APPEND[..end])?;
+        let status = ended.status;
+        assert!(rt;
+            status == 0 || status == 2,
+            "status {status} of the first {end} bytes"
+        );
+    }
+    Ok(())
+}
+
+/// Two membranes with a rule each, and the lines of their run.
+const TWO: &[u8] = b"{a. a :- b.}. {c. c :- d.}.";
+
+const TWO_LINES: &[u8] =
+    b"{a, (a :- b)}. {c, (c :- d)}.\n{b, (a :- b)}. {c, (c :- d)}.\n{b, (a :- b)}. {d, (c :- d)}.\n% irreducible after 2\n";
+
+#[test]
+fn a_put_that_fails_ends_the_output(rt: HostRuntime) -> Result<(), Fail> {
+    let alloc = rt.alloc();
+    for failing in 0..100 {
+        let shelf = shelf_of(alloc, TWO, &[])?;
+        let out = MemSink::new(alloc, 1000, rows_of(alloc, &[failing])?)?;
+        let err = MemSink::new(alloc, 100, Rows::new(alloc))?;
+        let ended = call_on(alloc, &["run", "f", "--trace"], shelf, out, err)?;
+        assert!(rt;
+            TWO_LINES.starts_with(ended.out.taken()),
+            "output where put {failing} fails"
+        );
+        if ended.status == 0 {
+            assert_eq!(rt; ended.out.taken(), TWO_LINES);
+            assert!(rt; failing >= 4);
+            return Ok(());
+        }
+        assert_eq!(rt; ended.status, 5, "status where put {failing} fails");
+        assert_eq!(rt; ended.err.taken(), b"lmn: write failed\n".as_slice());
+    }
+    panic!(rt; "no run met no failure");
+}
+
+/// Calls whose line on `err` can't be put: the words, the text and the numbers of the fetches that fail.
+const UNHEARD: [(&[&str], &[u8], &[u64]); 3] = [
+    (RUN, b"a. a. a, a :- b.", &[0]),
+    (RUN, b"a(", &[]),
+    (&["run"], b"", &[]),
+];
+
+#[test]
+fn a_line_that_cannot_be_put_is_a_write_fault(rt: HostRuntime) -> Result<(), Fail> {
+    for (i, (words, text, failing)) in UNHEARD.iter().enumerate() {
+        let ended = call(
+            rt.alloc(),
+            &Row {
+                words: *words,
+                text: *text,
+                fetches_failing: *failing,
+                puts_failing: &[],
+                err_room: 0,
+                out: b"",
+                err: b"",
+                status: 5,
+            },
+        )?;
+        assert_eq!(rt; ended.status, 5, "status of row {i}");
+        assert_eq!(rt; ended.out.taken(), b"".as_slice(), "output of row {i}");
+        assert_eq!(rt; ended.err.taken(), b"".as_slice(), "errors of row {i}");
+    }
+    Ok(())
+}
+
 /// The walls that one firing makes, in place of one.
 const WALLS: usize = 190;
 

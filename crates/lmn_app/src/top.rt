@@ -23,6 +23,7 @@ use lmn_base::{Names, Pos, Refusal, Rows, TextFault};
 use lmn_io::{FetchFault, Fetched, Shelf, Sink};
 use lmn_reading::read;
 use lmn_words::{Command, asks_one};
+use sha2::{Digest, Sha256};
 use std::alloc::{AllocError, Global};
 
 /// The most bytes of a text.
@@ -173,7 +174,7 @@ fn perform_on<O: Sink>(alloc: Global, task: Task, text: &[u8], out: &mut O) -> E
     requires range { IsInRange task }
     ensures { (before after : ℕ) → Ended task result (Some (Some text.now)) (O.told out.old) (O.told out.new) (O.faults out.old) (O.faults out.new) before after }
 {
-    let mut names = Names::new(alloc);
+    let mut names = Names::with_key(alloc, &Sha256::digest(text));
     match read(alloc, text, &mut names) {
         Ok(accepted) => match task {
             Task::Run(settings) => run(alloc, &accepted, &names, &settings, out),

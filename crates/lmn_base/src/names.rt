@@ -6,7 +6,34 @@ use crate::functor::{CONNECTOR_NAME, GROUND_NAME, INT_NAME, UNARY_NAME};
 use crate::memory::NoMemory;
 use indexmap::IndexSet;
 use std::alloc::Global;
+use std::hash::{BuildHasher, DefaultHasher, Hasher};
 use std::marker::Model;
+
+/// Hashes a name behind a key. Which names share a place of a table hangs on all of the key: whoever can't
+/// foresee it can't choose such names.
+#[derive(Clone, Copy)]
+struct KeyedHash {
+    /// The hasher that has been fed with the key.
+    keyed: DefaultHasher,
+}
+
+impl KeyedHash {
+    fn new(key: &[u8]) -> KeyedHash {
+        let mut keyed = DefaultHasher::new();
+        keyed.write(key);
+        KeyedHash { keyed }
+    }
+}
+
+impl BuildHasher for KeyedHash {
+    type Hasher = DefaultHasher;
+
+    ghost build_hasher = { λ hash. hash.keyed };
+
+    fn build_hasher(&self) -> DefaultHasher {
+        self.keyed
+    }
+}
 
 /// A list of names by their bytes, each with the number of its place. Contracts see this list. It begins
 /// with the four fixed names, and no name stands twice in it.
@@ -14,7 +41,7 @@ use std::marker::Model;
 pub struct Names {
     alloc: Global,
     /// The names after the fixed ones.
-    others: IndexSet<Vec<u8>>,
+    others: IndexSet<Vec<u8>, KeyedHash>,
 }
 
 impl Model for Names {
@@ -34,9 +61,28 @@ impl Names {
     pub fn new(alloc: Global) -> Names
         ensures { result ≡ first_names }
     {
+        Names::with_key(alloc, &[])
+    }
+
+    /// The same, where names are hashed behind a key. Names from strangers are held under a key that they
+    /// can't foresee, as the digest of all that they wrote: then a look-up takes a few steps, whichever names
+    /// they chose.
+    pub fn with_key(alloc: Global, key: &[u8]) -> Names
+        ensures { result ≡ first_names }
+    {
         Names {
             alloc,
-            others: IndexSet::new(alloc),
+            others: IndexSet::with_hasher(alloc, KeyedHash::new(key)),
+        }
+    }
+
+    /// Another list with the fixed names alone, under the key of this one.
+    pub fn another(&self) -> Names
+        ensures { result ≡ first_names }
+    {
+        Names {
+            alloc: self.alloc,
+            others: IndexSet::with_hasher(self.alloc, *self.others.hasher()),
         }
     }
 
@@ -123,7 +169,7 @@ fn first_number(name: &[u8]) -> Option<u32>
 }
 
 /// The place of a name in a set, counted from 0.
-fn place_in(names: &IndexSet<Vec<u8>>, name: &[u8]) -> Option<usize>
+fn place_in(names: &IndexSet<Vec<u8>, KeyedHash>, name: &[u8]) -> Option<usize>
     ensures held { IfSome result (λ place. slice_get (names_in names.now) place ≡ Some name.now) }
     ensures new { IfNone result (¬ (Contains (names_in names.now) name.now)) }
 {

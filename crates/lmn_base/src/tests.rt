@@ -120,6 +120,18 @@ fn names_keep_their_numbers(rt: HostRuntime) -> Result<(), NoMemory> {
 }
 
 #[test]
+fn names_behind_a_key_keep_their_numbers(rt: HostRuntime) -> Result<(), NoMemory> {
+    let mut names = Names::with_key(rt.alloc(), b"what was written");
+    assert_eq!(rt; names.put(b"a")?, 4);
+    assert!(rt; names.len() < 10);
+    assert_eq!(rt; names.put(b"b")?, 5);
+    let mut others = names.another();
+    assert_eq!(rt; others.put(b"b")?, 4);
+    assert_eq!(rt; names.text(4), b"a".as_slice());
+    Ok(())
+}
+
+#[test]
 fn levels_nest_as_deep_as_a_text(rt: HostRuntime) -> Result<(), NoMemory> {
     let level = nested_level(rt.alloc(), 200)?;
     assert_eq!(rt; depth_of(&level), 200);

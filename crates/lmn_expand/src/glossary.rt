@@ -179,7 +179,7 @@ fn entries(
     ensures names { OnOk result (names.new ≡ with_words names.old (words_of text.now tokens.now)) }
     ensures entries { IfOk result (λ entries. HasEntries text.now tokens.now names.new entries) }
 {
-    let mut links = Names::new(alloc);
+    let mut links = names.another();
     let mut entries = Rows::new(alloc);
     for token in tokens {
         let token = token.token();

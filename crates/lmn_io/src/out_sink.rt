@@ -1,9 +1,13 @@
-ghost use Rattle.std.specs.Prelude.{◌≡◌, ℕ, None};
+ghost use Rattle.std.specs.Prelude.{◌≡◌, ◌≤◌, ℕ, None, length};
 
 use crate::sink::{Failed, Sink};
-use std::io::Write;
+use std::io::{self, Write};
 
-/// A sink over a writer. It tells no bytes. Each error of the writer counts, and so does a write that takes nothing.
+/// How often in a row a write is tried that is interrupted each time, before it counts as failed.
+const TRIES: usize = 1000;
+
+/// A sink over a writer. It tells no bytes. Each error of the writer counts, and so does a write that takes nothing;
+/// a write that is interrupted is tried again.
 #[derive(Drop)]
 pub struct OutSink<W: Write + Drop> {
     writer: W,
@@ -22,6 +26,20 @@ impl<W: Write + Drop> OutSink<W> {
     }
 }
 
+/// How many bytes a writer took, 0 where it failed.
+fn write_some<W: Write>(writer: &mut W, rest: &[u8]) -> usize
+    ensures { result ≤ length rest.now }
+{
+    for _ in 0..TRIES {
+        match writer.write(rest) {
+            Ok(count) => return count,
+            Err(error) if error.kind() == io::ErrorKind::Interrupted => {}
+            Err(_) => return 0,
+        }
+    }
+    0
+}
+
 impl<W: Write + Drop> Sink for OutSink<W> {
     ghost told = { λ _. None };
 
@@ -30,10 +48,7 @@ impl<W: Write + Drop> Sink for OutSink<W> {
     fn put(&mut self, piece: &[u8]) -> Result<(), Failed> {
         let mut rest = piece;
         while !rest.is_empty() {
-            let count = match self.writer.write(rest) {
-                Ok(count) => count,
-                Err(_) => 0,
-            };
+            let count = write_some(&mut self.writer, rest);
             if count == 0 {
                 self.failures = self.failures.saturating_add(1);
                 return Err(Failed);
@@ -72,6 +87,47 @@ mod tests {
         fn flush(&mut self) -> io::Result<()> {
             Ok(())
         }
+    }
+
+    /// A writer that is interrupted so often before it takes a byte.
+    #[derive(Drop)]
+    struct Interrupted {
+        often: u32,
+        left: u32,
+        taken: usize,
+    }
+
+    impl Write for Interrupted {
+        fn write(&mut self, buf: &[u8]) -> io::Result<usize> {
+            if self.left > 0 {
+                self.left -= 1;
+                return Err(io::Error::from(io::ErrorKind::Interrupted));
+            }
+            self.left = self.often;
+            self.taken = self.taken.saturating_add(1);
+            Ok(buf.len().min(1))
+        }
+
+        fn flush(&mut self) -> io::Result<()> {
+            Ok(())
+        }
+    }
+
+    #[test]
+    fn writes_on_after_an_interruption(rt: HostRuntime) {
+        let mut sink = OutSink::new(Interrupted {
+            often: 3,
+            left: 3,
+            taken: 0,
+        });
+        assert_eq!(rt; sink.put(b"abc"), Ok(()));
+        assert_eq!(rt; sink.writer.taken, 3);
+        let mut never = OutSink::new(Interrupted {
+            often: 1000,
+            left: 1000,
+            taken: 0,
+        });
+        assert_eq!(rt; never.put(b"abc"), Err(Failed));
     }
 
     #[test]

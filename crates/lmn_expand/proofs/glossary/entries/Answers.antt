@@ -3,7 +3,7 @@ use Rattle.lmn_expand.proofs.GlossaryLemmas.{grown_length, grows_less, grows_mor
 use Rattle.lmn_expand.proofs.glossary.entries.Goals as goal
 
 pub loop-token-init : goal.loop-token-init
-loop-token-init c = nothing_so_far c.args.text.now c.args.names.now c.new-links.result c.args.tokens.now c.new-entries.result c.new-entries.ensures
+loop-token-init c = nothing_so_far c.args.text.now c.args.names.now c.another-links.result c.args.tokens.now c.new-entries.result c.new-entries.ensures
 
 pub spelled-requires-clause-room : goal.spelled-requires-clause-room
 spelled-requires-clause-room c =
@@ -11,7 +11,7 @@ spelled-requires-clause-room c =
 
 pub spelled-requires-clause-links : goal.spelled-requires-clause-links
 spelled-requires-clause-links c =
-    omega (arith, c.requires.links, c.loop-token-test.true, ap length c.new-links.ensures, grown_length c.new-links.result c.loop-token.links c.loop-token.invariant.links_grown)
+    omega (arith, c.requires.links, c.loop-token-test.true, ap length c.another-links.ensures, grown_length c.another-links.result c.loop-token.links c.loop-token.invariant.links_grown)
 
 pub returns-in_err-meaning-clause-grows : goal.returns-in_err-meaning-clause-grows
 returns-in_err-meaning-clause-grows c = grows_less c.args.names.now c.spelled.new.names (omega (arith, c.loop-token-test.true))
@@ -23,7 +23,7 @@ returns-in_err-push-clause-grows c = grows_less c.args.names.now c.spelled.new.n
 
 pub loop-token-preserved : goal.loop-token-preserved
 loop-token-preserved c =
-    so_far_next c.args.text.now c.args.names.now c.loop-token.names c.spelled.new.names c.new-links.result c.loop-token.links c.spelled.new.links
+    so_far_next c.args.text.now c.args.names.now c.loop-token.names c.spelled.new.names c.another-links.result c.loop-token.links c.spelled.new.links
     c.loop-token.token-index c.args.tokens.now _ c.token-token.result c.loop-token.entries c.push.new.self c.in_ok-meaning.meaning _
     c.loop-token-test.true (c.token-token.ensures ∙ c.token-item.is) c.loop-token.invariant c.spelled.ensures.grows c.spelled.ensures.links c.in_ok-meaning.ensures.names c.in_ok-meaning.ensures.meaning refl c.in_ok-push.ensures.ok
 
@@ -32,10 +32,10 @@ returns-clause-grows c = grows_less c.args.names.now c.loop-token.names c.loop-t
 
 pub returns-clause-entries : goal.returns-clause-entries
 returns-clause-entries c =
-    has_entries c.args.text.now c.args.tokens.now c.args.names.now c.loop-token.names c.new-links.result c.loop-token.links c.loop-token.token-index c.loop-token.entries
+    has_entries c.args.text.now c.args.tokens.now c.args.names.now c.loop-token.names c.another-links.result c.loop-token.links c.loop-token.token-index c.loop-token.entries
     c.loop-token-test.false c.known.ensures c.known-2.ensures c.loop-token.invariant
 
 pub returns-clause-names : goal.returns-clause-names
 returns-clause-names c =
-    names_done c.args.text.now c.args.tokens.now c.args.names.now c.loop-token.names c.new-links.result c.loop-token.links c.loop-token.token-index c.loop-token.entries
+    names_done c.args.text.now c.args.tokens.now c.args.names.now c.loop-token.names c.another-links.result c.loop-token.links c.loop-token.token-index c.loop-token.entries
     c.loop-token-test.false c.loop-token.invariant
