@@ -22,7 +22,7 @@ use Rattle.lmn_plain.specs.Plains.{EachPair}
 use Rattle.lmn_reading.proofs.ListedNames.{HoldsNames, names_held}
 use Rattle.lmn_runs.specs.Laws.{LinksAreFew}
 use Rattle.lmn_runs.specs.Texts.{HasName, IsPlainRead}
-use Rattle.lmn_strategy.specs.Compiled.{AreWhole}
+use Rattle.lmn_compile.specs.Compiled.{AreWhole}
 use Rattle.lmn_app.specs.Texts.{Accepts}
 use Rattle.lmn_app.proofs.FirstNames.{first_are_names}
 

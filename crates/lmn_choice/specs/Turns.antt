@@ -16,7 +16,7 @@ use Rattle.lmn_bridge.specs.HeapRegions.{HeapReading, region_at}
 use Rattle.lmn_bridge.specs.Laws.{heap_process}
 use Rattle.lmn_bridge.specs.Premises.{IsRead, HasRules}
 use Rattle.lmn_strategy.specs.Choosing.{IsFirstIn, asked}
-use Rattle.lmn_strategy.specs.Compiled.{AreWhole, AreCompiled}
+use Rattle.lmn_compile.specs.Compiled.{AreWhole, AreCompiled}
 use Rattle.lmn_turn.specs.Commits.{IsTable}
 use Rattle.lmn_turn.specs.Turning.{Leads, renumbered_reading}
 use Rattle.lmn_base.specs.Graphs.{Port}

@@ -13,7 +13,7 @@ use Rattle.lmn_instr.specs.declared.instr.Code.{Code}
 use Rattle.lmn_instr.specs.Listings.{code_listing, HasCode}
 use Rattle.lmn_io.specs.Writing.{WritesText}
 use Rattle.lmn_io.proofs.WritingLemmas.{writes_both, writes_front}
-use Rattle.lmn_strategy.specs.Compiled.{AreCompiled, IsCompiled}
+use Rattle.lmn_compile.specs.Compiled.{AreCompiled, IsCompiled}
 use Rattle.lmn_listing.specs.Listings.{rule_codes, code_listings, CodesHaveNames}
 use Rattle.lmn_base.proofs.Lists.{all_left as all_front, all_right as all_back}
 

@@ -3,15 +3,15 @@ ghost use Rattle.std.specs.Prelude.{◌≡◌, ◌<◌, ◌^◌, ℕ, List, leng
 ghost use Rattle.lmn_base.specs.Names.{HasNames, plain_names};
 ghost use Rattle.lmn_io.specs.Writing.{WritesText};
 ghost use Rattle.lmn_instr.specs.Listings.{HasCode};
-ghost use Rattle.lmn_strategy.specs.Compiled.{AreWhole};
+ghost use Rattle.lmn_compile.specs.Compiled.{AreWhole};
 ghost use Rattle.lmn_listing.specs.Listings.{code_listings, rule_codes};
 
 use crate::laws::codes_have_names;
 use lmn_base::{Names, NoMemory, Plain, Rows};
+use lmn_compile::compiled;
 use lmn_guards::GuardPlan;
 use lmn_instr::{Code, list};
 use lmn_io::{Failed, Sink};
-use lmn_strategy::compiled;
 use std::alloc::Global;
 
 /// The code of each rule of a plain, which has the number of its rule. `plans` has the plan of each rule, by its number.

@@ -21,7 +21,7 @@ use Rattle.lmn_bridge.specs.Premises.{IsRule}
 use Rattle.lmn_loading.specs.Loaded.{IsLoaded}
 use Rattle.lmn_loading.specs.Laws.{LoadedRules, LoadingSettles}
 use Rattle.lmn_turn.specs.Commits.{PlainsAreTables}
-use Rattle.lmn_strategy.specs.Compiled.{AreWhole, AreCompiled}
+use Rattle.lmn_compile.specs.Compiled.{AreWhole, AreCompiled}
 use Rattle.lmn_schedule.specs.Held.{AreNames, EngineCanTurn, HoldsSolid, reading_by}
 use Rattle.lmn_schedule.proofs.Named.{loaded_named}
 use Rattle.lmn_base.proofs.Lists.{get_there as get_some, all_of_right}

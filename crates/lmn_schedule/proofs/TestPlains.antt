@@ -3,7 +3,7 @@ use Rattle.std.proofs.Common.{◌≡◌, List, [], length, Option, Some, None, s
 use Rattle.std.specs.Prelude.{ℕ, slice_get}
 use Rattle.lmn_base.specs.declared.rule.RuleTree.{RuleTree}
 use Rattle.lmn_guards.specs.declared.plan.GuardPlan.{GuardPlan}
-use Rattle.lmn_strategy.specs.Compiled.{AreWhole}
+use Rattle.lmn_compile.specs.Compiled.{AreWhole}
 
 no_plan : (k : ℕ) (plan : GuardPlan) → slice_get {X = GuardPlan} [] k ≡ Some plan → ⊥
 no_plan k plan e = absurd (let w : ◌≡◌ {A = Option GuardPlan} None (Some plan) = e in cc)

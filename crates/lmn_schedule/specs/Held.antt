@@ -22,7 +22,7 @@ use Rattle.lmn_bridge.specs.HeapRegions.{HeapReading, region_at}
 use Rattle.lmn_bridge.specs.Premises.{IsRead, IsRule, HasRules}
 use Rattle.lmn_turn.specs.Commits.{IsTable}
 use Rattle.lmn_strategy.specs.Choosing.{CanTurn}
-use Rattle.lmn_strategy.specs.Compiled.{AreWhole, AreCompiled}
+use Rattle.lmn_compile.specs.Compiled.{AreWhole, AreCompiled}
 
 -- What a turn asks: of the heap; that the codes are those of the table, of whose rules each stands in bodies with rules of the
 -- table alone; and that no number of items is beyond the size for want of bits.

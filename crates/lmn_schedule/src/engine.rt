@@ -27,7 +27,7 @@ use lmn_loading::{LoadFault, load, loading_settles};
 use lmn_machine::{Machine, Steps};
 use lmn_order::Chooser;
 use lmn_store::LinkStore;
-use lmn_strategy::{Turn, compiled, membranes, search, take_turn};
+use lmn_strategy::{Turn, membranes, search, take_turn};
 use lmn_turn::plains_are_tables;
 use std::alloc::Global;
 use std::sync::ledger::Ledger;

@@ -12,7 +12,7 @@ use Rattle.lmn_instr.specs.Running.{HeadRegisters, Succeeds}
 use Rattle.lmn_machine.proofs.Besides.{known, known_agrees}
 use Rattle.lmn_matching.specs.AcceptedCode.{AcceptedInOrder}
 use Rattle.lmn_registers.specs.declared.registers.SetRegisters.{SetRegisters}
-use Rattle.lmn_strategy.specs.Compiled.{AreWhole, AreCompiled}
+use Rattle.lmn_compile.specs.Compiled.{AreWhole, AreCompiled}
 use Rattle.lmn_strategy.specs.Choosing.{AllInOrder, CodeSucceeds, NoneOf, NoneIn, IsFirstRule, IsFirstIn, HasFound, asked}
 use Rattle.lmn_strategy.proofs.Numbers.{get_drop, take_one_more, take_farther, take_no_more, take_whole, root_number}
 use Rattle.lmn_base.specs.Lists.{In}

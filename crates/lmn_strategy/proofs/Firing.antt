@@ -29,7 +29,7 @@ use Rattle.lmn_machine.specs.Searching.{AreAllSet, membranes_set, parts_set, int
 use Rattle.lmn_machine.proofs.Besides.{known, known_agrees}
 use Rattle.lmn_strategy.specs.declared.turning.Turn.{Turn}
 use Rattle.lmn_strategy.specs.declared.turning.Turn.TheVariants.{Committed, Irreducible, Full, NoMemory}
-use Rattle.lmn_strategy.specs.Compiled.{IsCompiled}
+use Rattle.lmn_compile.specs.Compiled.{IsCompiled}
 use Rattle.lmn_strategy.specs.Choosing.{CanTurn, IsFirstIn, IsFirstRule, HasFound, asked}
 use Rattle.lmn_strategy.specs.Turns.{IsTableCode, IsAnswer, Chooses, IsTurn, BodiesAreReady, CanFire, AnswersMatch}
 use Rattle.lmn_strategy.proofs.KeptRules.{AllRules, Loads, rules_kept}

@@ -1,4 +1,3 @@
-pub mod RuleCodes
 pub mod Numbers
 pub mod Climbs
 pub mod Chosen

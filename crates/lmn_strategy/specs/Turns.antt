@@ -20,7 +20,7 @@ use Rattle.lmn_machine.specs.Costs.{IsTold, Leaves}
 use Rattle.lmn_machine.specs.Searching.{AreHeldWhole, membranes_set, parts_set, integers_set}
 use Rattle.lmn_strategy.specs.declared.turning.Turn.{Turn}
 use Rattle.lmn_strategy.specs.declared.turning.Turn.TheVariants.{Committed, Irreducible, Full, NoMemory}
-use Rattle.lmn_strategy.specs.Compiled.{AreWhole, IsCompiled, AreCompiled}
+use Rattle.lmn_compile.specs.Compiled.{AreWhole, IsCompiled, AreCompiled}
 use Rattle.lmn_strategy.specs.Choosing.{NoneIn, IsFirstIn, asked}
 
 -- The code of a table of rules: each is whole with its plan, and the rules in its body are of the table.

@@ -1,14 +1,12 @@
-//! The strategy on a heap: the code of all rules, the walk over the membranes of a store in preorder, the rule that is
+//! The strategy on a heap: the walk over the membranes of a store in preorder, the rule that is
 //! chosen, and a turn.
 #![tactic(auto)]
 
-mod compiling;
 mod preorder;
 mod ready;
 mod strategy;
 mod turning;
 
-pub use compiling::compiled;
 pub use preorder::{membrane_at, membranes, next_membrane};
 pub use ready::bodies_are_ready;
 pub use strategy::{Choice, search};

@@ -4,7 +4,7 @@ ghost use Rattle.lmn_heap.specs.Heap.{IsMem, rules_in};
 ghost use Rattle.lmn_heap.specs.Sound.{Forest, IsTree, flat};
 ghost use Rattle.lmn_base.specs.declared.rule.RuleTree.{RuleTree};
 ghost use Rattle.lmn_guards.specs.declared.plan.GuardPlan.{GuardPlan};
-ghost use Rattle.lmn_strategy.specs.Compiled.{AreWhole, AreCompiled};
+ghost use Rattle.lmn_compile.specs.Compiled.{AreWhole, AreCompiled};
 ghost use Rattle.lmn_strategy.specs.Choosing.{AllInOrder, CanTurn, CodeSucceeds, NoneOf, NoneIn, IsFirstRule, IsFirstIn, HasFound, asked};
 
 use crate::preorder::{membrane_at, next_membrane};

@@ -1,7 +1,7 @@
 use Rattle.std.proofs.Common.{All, length, ◌<◌, arith, sym, subst}
 use Rattle.lmn_instr.specs.Listings.{HasCode}
 use Rattle.lmn_io.proofs.WritingLemmas.{writes_same}
-use Rattle.lmn_strategy.specs.Compiled.{AreWhole}
+use Rattle.lmn_compile.specs.Compiled.{AreWhole}
 use Rattle.lmn_app.specs.declared.task.Task.TheVariants as task
 use Rattle.lmn_app.proofs.ListLemmas.{listed_ended, listed_part, listing_text, plain_named}
 use Rattle.lmn_app.proofs.OutcomeLemmas.{memory_ended}

@@ -4,7 +4,7 @@ use Rattle.std.specs.Prelude.{slice_get}
 use Rattle.lmn_base.specs.declared.rule.RuleTree.{RuleTree}
 use Rattle.lmn_guards.specs.declared.plan.GuardPlan.{GuardPlan}
 use Rattle.lmn_instr.specs.declared.instr.Code.{Code}
-use Rattle.lmn_strategy.specs.Compiled.{IsCompiled}
+use Rattle.lmn_compile.specs.Compiled.{IsCompiled}
 use Rattle.lmn_base.proofs.Lists.{get_either}
 
 -- so many rules are compiled

@@ -1,5 +1,5 @@
 ghost use Rattle.std.specs.Prelude.{IfOk};
-ghost use Rattle.lmn_strategy.specs.Compiled.{AreWhole, AreCompiled, IsCompiled};
+ghost use Rattle.lmn_compile.specs.Compiled.{AreWhole, AreCompiled, IsCompiled};
 ghost use Rattle.lmn_compile_body.specs.Accepted.{HasBodyRoom};
 
 use lmn_base::{NoMemory, Plain, Rows, RuleTree};

@@ -1,5 +1,5 @@
-use Rattle.lmn_strategy.proofs.RuleCodes.{AreSoFar}
-use Rattle.lmn_strategy.proofs.compiling.compiled.Given as goal
+use Rattle.lmn_compile.proofs.RuleCodes.{AreSoFar}
+use Rattle.lmn_compile.proofs.compiling.compiled.Given as goal
 
 abbrev pub invariant-loop-k : goal.invariant-loop-k
 invariant-loop-k l = record { done : AreSoFar l.plain.rules l.plans l.k l.codes }

@@ -1,7 +1,7 @@
 use Rattle.std.proofs.Common.{◌+◌, length, refl, arith, ◌∙◌, sym, subst}
 use Rattle.std.proofs.lemmas.Option.{slice_get_read}
-use Rattle.lmn_strategy.proofs.RuleCodes.{AreSoFar, none_yet, one_more}
-use Rattle.lmn_strategy.proofs.compiling.compiled.Goals as goal
+use Rattle.lmn_compile.proofs.RuleCodes.{AreSoFar, none_yet, one_more}
+use Rattle.lmn_compile.proofs.compiling.compiled.Goals as goal
 
 pub loop-k-init : goal.loop-k-init
 loop-k-init c = record { done = none_yet c.args.plain.now.rules c.args.plans.now c.new-codes.result c.new-codes.ensures }
