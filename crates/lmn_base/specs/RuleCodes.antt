@@ -53,10 +53,8 @@ empty_head r = record { code = 38; places = if number_of_items r.head == 0 then 
 -- ---- E36: a rule stands in the head, at the place of the inner rule
 
 abbrev pub inner_rule : List RuleTree → Item → List Pos
-inner_rule table (Atom functor pos) = []
-inner_rule table (Context u) = []
-inner_rule table (RuleContext u) = []
 inner_rule table (Rule k) = option_to_list (option_map (λ r. r.pos) (slice_get table k))
+inner_rule table item = []
 
 abbrev pub rule_in_head : List RuleTree → RuleTree → Row
 rule_in_head table r = record { code = 36; places = flat_map (inner_rule table) (items_of r.head) }
@@ -69,9 +67,7 @@ is_connector_label (label.Int z) = false
 
 abbrev pub connector_place : Item → List Pos
 connector_place (Atom functor pos) = if is_connector_label functor.label && (functor.arity == 2) then pos ∷ [] else []
-connector_place (Context u) = []
-connector_place (RuleContext u) = []
-connector_place (Rule k) = []
+connector_place item = []
 
 abbrev pub connector_in_head : RuleTree → Row
 connector_in_head r = record { code = 37; places = flat_map connector_place (items_of r.head) }
@@ -83,16 +79,12 @@ is_bare Bare = true
 is_bare Typed = false
 
 abbrev pub bare_place : Item → List Pos
-bare_place (Atom functor pos) = []
 bare_place (Context u) = if is_bare u.form then u.pos ∷ [] else []
-bare_place (RuleContext u) = []
-bare_place (Rule k) = []
+bare_place item = []
 
 abbrev pub rule_context_place : Item → List Pos
-rule_context_place (Atom functor pos) = []
-rule_context_place (Context u) = []
 rule_context_place (RuleContext u) = u.pos ∷ []
-rule_context_place (Rule k) = []
+rule_context_place item = []
 
 abbrev pub context_at_top : RuleTree → Row
 context_at_top r = record { code = 30; places = flat_map bare_place (own_items (out-Level r.head)) }
@@ -125,23 +117,18 @@ two_in_membrane r = record { code = 31; places = first_with_some (flat_map secon
 
 -- the place of a use of a context with a name, up to a place
 abbrev pub use_up_to : ℕ → Pos → Item → List Pos
-use_up_to n p (Atom functor pos) = []
 use_up_to n p (Context u) = if (u.name == n) && not_after u.pos p then u.pos ∷ [] else []
-use_up_to n p (RuleContext u) = []
-use_up_to n p (Rule k) = []
+use_up_to n p item = []
 
 abbrev pub rule_use_up_to : ℕ → Pos → Item → List Pos
-rule_use_up_to n p (Atom functor pos) = []
-rule_use_up_to n p (Context u) = []
 rule_use_up_to n p (RuleContext u) = if (u.name == n) && not_after u.pos p then u.pos ∷ [] else []
-rule_use_up_to n p (Rule k) = []
+rule_use_up_to n p item = []
 
 -- it isn't the first use: up to its place there is more than one
 abbrev pub used_again : List Item → Item → List Pos
-used_again items (Atom functor pos) = []
 used_again items (Context u) = if nat_lt 1 (length (flat_map (use_up_to u.name u.pos) items)) then u.pos ∷ [] else []
 used_again items (RuleContext u) = if nat_lt 1 (length (flat_map (rule_use_up_to u.name u.pos) items)) then u.pos ∷ [] else []
-used_again items (Rule k) = []
+used_again items item = []
 
 abbrev pub twice_in_head : RuleTree → Row
 twice_in_head r = record { code = 32; places = flat_map (used_again (items_of r.head)) (items_of r.head) }
@@ -149,31 +136,23 @@ twice_in_head r = record { code = 32; places = flat_map (used_again (items_of r.
 -- ---- E33: an untyped context of the head occurs not exactly once in the body, bare
 
 abbrev pub bare_use : ℕ → Item → List Pos
-bare_use n (Atom functor pos) = []
 bare_use n (Context u) = if (u.name == n) && is_bare u.form then u.pos ∷ [] else []
-bare_use n (RuleContext u) = []
-bare_use n (Rule k) = []
+bare_use n item = []
 
 abbrev pub bare_use_up_to : ℕ → Pos → Item → List Pos
-bare_use_up_to n p (Atom functor pos) = []
 bare_use_up_to n p (Context u) = if (u.name == n) && (is_bare u.form && not_after u.pos p) then u.pos ∷ [] else []
-bare_use_up_to n p (RuleContext u) = []
-bare_use_up_to n p (Rule k) = []
+bare_use_up_to n p item = []
 
 -- its place in the head, if it has none in the body
 abbrev pub missing : List Item → Item → List Pos
-missing body (Atom functor pos) = []
 missing body (Context u) = if is_bare u.form && not (is_some_place (flat_map (bare_use u.name) body)) then u.pos ∷ [] else []
-missing body (RuleContext u) = []
-missing body (Rule k) = []
+missing body item = []
 
 -- a bare place in the body of an untyped context of the head, which isn't the first
 abbrev pub bare_again : List Item → List Item → Item → List Pos
-bare_again head body (Atom functor pos) = []
 bare_again head body (Context u) =
     if is_bare u.form && (is_some_place (flat_map (bare_use u.name) head) && nat_lt 1 (length (flat_map (bare_use_up_to u.name u.pos) body))) then u.pos ∷ [] else []
-bare_again head body (RuleContext u) = []
-bare_again head body (Rule k) = []
+bare_again head body item = []
 
 abbrev pub not_once_in_body : RuleTree → Row
 not_once_in_body r = record {
@@ -185,22 +164,17 @@ not_once_in_body r = record {
 -- the head
 
 abbrev pub is_left_of : ℕ → Cond → Bool
-is_left_of n (Kind name args pos) = false
-is_left_of n (Compare op left right pos) = false
 is_left_of n (Equal left right pos) = left.name == n
-is_left_of n (Differ left right pos) = false
+is_left_of n condition = false
 
 abbrev pub rule_use : ℕ → Item → List Pos
-rule_use n (Atom functor pos) = []
-rule_use n (Context u) = []
 rule_use n (RuleContext u) = if u.name == n then u.pos ∷ [] else []
-rule_use n (Rule k) = []
+rule_use n item = []
 
 abbrev pub from_nowhere : List Item → List Cond → Item → List Pos
-from_nowhere head guard (Atom functor pos) = []
 from_nowhere head guard (Context u) = if has_use u.name head || list_any (is_left_of u.name) guard then [] else u.pos ∷ []
 from_nowhere head guard (RuleContext u) = if is_some_place (flat_map (rule_use u.name) head) then [] else u.pos ∷ []
-from_nowhere head guard (Rule k) = []
+from_nowhere head guard item = []
 
 abbrev pub not_in_head : RuleTree → Row
 not_in_head r = record { code = 34; places = flat_map (from_nowhere (items_of r.head) r.guard) (items_of r.body) }
@@ -209,23 +183,18 @@ not_in_head r = record { code = 34; places = flat_map (from_nowhere (items_of r.
 
 abbrev pub same_form : Form → Form → Bool
 same_form Bare Bare = true
-same_form Bare Typed = false
-same_form Typed Bare = false
 same_form Typed Typed = true
+same_form f g = false
 
 abbrev pub other_form_up_to : FormedUse → Item → List Pos
-other_form_up_to v (Atom functor pos) = []
 other_form_up_to v (Context u) = if (u.name == v.name) && (not (same_form u.form v.form) && not_after u.pos v.pos) then u.pos ∷ [] else []
-other_form_up_to v (RuleContext u) = []
-other_form_up_to v (Rule k) = []
+other_form_up_to v item = []
 
 -- A use before which the context stands in another form. The first such use is the first whose form isn't that of the
 -- context's first place.
 abbrev pub in_other_form : List Item → Item → List Pos
-in_other_form items (Atom functor pos) = []
 in_other_form items (Context u) = if is_some_place (flat_map (other_form_up_to u) items) then u.pos ∷ [] else []
-in_other_form items (RuleContext u) = []
-in_other_form items (Rule k) = []
+in_other_form items item = []
 
 abbrev pub in_two_forms : RuleTree → Row
 in_two_forms r = record { code = 45; places = flat_map (in_other_form (rule_items r)) (rule_items r) }

@@ -1,7 +1,7 @@
 -- Uses of contexts by name.
 use Rattle.std.specs.Prelude.{ℕ, ◌==◌, Bool, true, false, List, [], ◌∷◌, flat_map, if◌then◌else◌}
 use Rattle.lmn_base.specs.declared.item.Item.{Item}
-use Rattle.lmn_base.specs.declared.item.Item.TheVariants.{Atom, Context, RuleContext, Rule}
+use Rattle.lmn_base.specs.declared.item.Item.TheVariants.{Context}
 use Rattle.lmn_base.specs.declared.refusal.Pos.{Pos}
 
 -- there is a place in the list
@@ -11,10 +11,8 @@ is_some_place (p ∷ ps) = true
 
 -- the place of a use of a context with a name
 abbrev pub use_of : ℕ → Item → List Pos
-use_of n (Atom functor pos) = []
 use_of n (Context u) = if u.name == n then u.pos ∷ [] else []
-use_of n (RuleContext u) = []
-use_of n (Rule k) = []
+use_of n item = []
 
 -- one of the items is a use of a context with a name
 abbrev pub has_use : ℕ → List Item → Bool

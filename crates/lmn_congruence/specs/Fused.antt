@@ -4,21 +4,17 @@ use Rattle.lmn_congruence.specs.Process.{Process, nothing, connector, atom, pair
 
 -- no connector stands in a process, at any depth
 abbrev pub NoConnector : Process → Type 0
-NoConnector nothing = Unit {0}
 NoConnector (connector x y) = ⊥
-NoConnector (atom a xs) = Unit {0}
 NoConnector (pair P Q) = NoConnector P × NoConnector Q
 NoConnector (membrane P) = NoConnector P
-NoConnector (rule r) = Unit {0}
+NoConnector P = Unit {0}
 
 -- a map of links takes the two links of each connector to one link
 abbrev pub Joins : (ℕ → ℕ) → Process → Type 0
-Joins v nothing = Unit {0}
 Joins v (connector x y) = v x ≡ v y
-Joins v (atom a xs) = Unit {0}
 Joins v (pair P Q) = Joins v P × Joins v Q
 Joins v (membrane P) = Joins v P
-Joins v (rule r) = Unit {0}
+Joins v P = Unit {0}
 
 -- each link at its image, and no connector
 abbrev pub fused : (ℕ → ℕ) → Process → Process

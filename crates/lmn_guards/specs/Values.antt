@@ -24,11 +24,9 @@ computed modulo m n = m -ℤ (int_div m n *ℤ n)
 
 -- no divisor is zero
 abbrev pub DivisorAllowed : Arithmetic → ℤ → Type 0
-DivisorAllowed plus n = Unit {0}
-DivisorAllowed minus n = Unit {0}
-DivisorAllowed times n = Unit {0}
 DivisorAllowed over n = n ≢ pos 0
 DivisorAllowed modulo n = n ≢ pos 0
+DivisorAllowed op n = Unit {0}
 
 -- The value of an expression, where `Is` says which integer a name stands for. It is missing where an operation in it
 -- has a zero divisor or a result out of range.

@@ -32,16 +32,13 @@ abbrev pub TimesAt : List Token → ℕ → Arith → Type 0
 TimesAt ts p arith.Mul = At ts p Star
 TimesAt ts p arith.Div = At ts p Slash
 TimesAt ts p arith.Mod = At ts p Mod
-TimesAt ts p arith.Add = ⊥
-TimesAt ts p arith.Sub = ⊥
+TimesAt ts p op = ⊥
 
 -- "+" | "-"
 abbrev pub PlusAt : List Token → ℕ → Arith → Type 0
 PlusAt ts p arith.Add = At ts p Plus
 PlusAt ts p arith.Sub = At ts p Minus
-PlusAt ts p arith.Mul = ⊥
-PlusAt ts p arith.Div = ⊥
-PlusAt ts p arith.Mod = ⊥
+PlusAt ts p op = ⊥
 
 -- cmp = "<" | "=<" | ">" | ">=" | "=:=" | "=\="
 abbrev pub CmpAt : List Token → ℕ → Cmp → Type 0

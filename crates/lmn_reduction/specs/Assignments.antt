@@ -1,17 +1,14 @@
 -- What the links and contexts of a rule stand for.
 use Rattle.std.specs.Prelude.{ℕ, ◌≡◌, List}
-use Rattle.lmn_congruence.specs.Process.{Process, nothing, connector, atom, pair, membrane, rule, Free}
+use Rattle.lmn_congruence.specs.Process.{Process, pair, rule, Free}
 use Rattle.lmn_congruence.specs.Rules.{Name, Rule}
 use Rattle.lmn_reduction.specs.Parts.{Rooted}
 
 -- no rule stands in a process outside its membranes
 abbrev pub NoRuleAtTop : Process → Type 0
-NoRuleAtTop nothing = Unit {0}
-NoRuleAtTop (connector x y) = Unit {0}
-NoRuleAtTop (atom a xs) = Unit {0}
 NoRuleAtTop (pair P Q) = NoRuleAtTop P × NoRuleAtTop Q
-NoRuleAtTop (membrane P) = Unit {0}
 NoRuleAtTop (rule r) = ⊥
+NoRuleAtTop P = Unit {0}
 
 -- What the parts of a rule stand for.
 --   link_of      each link of the rule: a link

@@ -1,7 +1,7 @@
 -- What a typed context may stand for.
 use Rattle.std.specs.Prelude.{ℕ, ℤ, ◌≡◌, List, [], ◌∷◌, ◌++◌, map}
 use Rattle.lmn_congruence.specs.Orders.{Among, Shuffle}
-use Rattle.lmn_congruence.specs.Process.{Process, nothing, connector, atom, pair, membrane, rule, Free, OneToOneOn}
+use Rattle.lmn_congruence.specs.Process.{Process, atom, pair, Free, OneToOneOn}
 use Rattle.lmn_congruence.specs.Rules.{Label, integer}
 
 -- a process with one marked link, its root
@@ -19,21 +19,15 @@ pub data IsUnary : Rooted → Type 0 where
 
 -- one or more atoms side by side, none of them a connector
 abbrev pub OnlyAtoms : Process → Type 0
-OnlyAtoms nothing = ⊥
-OnlyAtoms (connector x y) = ⊥
 OnlyAtoms (atom a xs) = Unit {0}
 OnlyAtoms (pair P Q) = OnlyAtoms P × OnlyAtoms Q
-OnlyAtoms (membrane P) = ⊥
-OnlyAtoms (rule r) = ⊥
+OnlyAtoms P = ⊥
 
 -- the atoms that stand in a process outside its membranes, in order, each with its links
 abbrev pub atoms_at_top : Process → List (Label × List ℕ)
-atoms_at_top nothing = []
-atoms_at_top (connector x y) = []
 atoms_at_top (atom a xs) = (a, xs) ∷ []
 atoms_at_top (pair P Q) = atoms_at_top P ++ atoms_at_top Q
-atoms_at_top (membrane P) = []
-atoms_at_top (rule r) = []
+atoms_at_top P = []
 
 -- a link is reached from the root over links and atoms
 pub data ReachesLink (g : Rooted) : ℕ → Type 0 where
