@@ -13,17 +13,15 @@ use Rattle.clap.specs.declared.parser.matches.SubCommand.{SubCommand}
 use Rattle.clap.specs.declared.parser.matches.ArgMatches.TheViews.{out-SubCommand}
 use Rattle.lmn_words.specs.declared.command.RunWords.{RunWords}
 use Rattle.lmn_words.specs.declared.command.Command.{Command}
-use Rattle.lmn_words.specs.Forms.{Asks, InForm, IsForm, IsInRanges, Request, Run, TextsAsk, CommandWord, ordered_by, request_of, run_of, texts_of, to_compile, to_demo, to_run}
+use Rattle.lmn_words.specs.Forms.{Asks, InForm, IsInRanges, Request, Run, TextsAsk, CommandWord, ordered_by, request_of, run_of, texts_of, to_compile, to_demo, to_run}
 use Rattle.lmn_words.specs.Hearing.{number_written}
 use Rattle.lmn_words.specs.Parsing.{FoundIsRequest, Tells, number_given, order_given, whole_line}
-use Rattle.lmn_words.proofs.ReadLemmas.{form_reads, in_ranges, request_told}
+use Rattle.lmn_words.proofs.ReadLemmas.{in_ranges}
 use Rattle.lmn_words.proofs.ParseLemmas.{asked_taken}
 
 -- words of the form are taken
-pub form_taken : (line : App) (words : List CommandWord) → line ≡ whole_line → IsForm words → takes line words ≡ true
-form_taken line words is form =
-    let r = form_reads words form in
-    ap (λ a. takes a words) is ∙ (asked_taken words r.0 (request_told words r.0 r.1)).0
+pub form_taken : (line : App) (words : List CommandWord) → line ≡ whole_line → (r : Request) × TextsAsk words r → takes line words ≡ true
+form_taken line words is form = ap (λ a. takes a words) is ∙ (asked_taken words form.0 form.1).0
 
 -- and what they ask for is found
 pub asked_found : {A : Type 0} (line : App) (words : List CommandWord) (o : Option (Text × List Row)) → line ≡ whole_line → (is_simple line ≡ true → A × (o ≡ subcommand_of line words))
@@ -83,10 +81,7 @@ run_found rows w run file given missing folds plain budget size order t =
 -- where what words of the form ask for is found, the answer is a command, and it is that
 module _ (words : List (String Global)) (o : Option Command) (form : InForm words) (found : (r : Request) → Asks words r → option_map request_of o ≡ Some r) where
   asked : (r : Request) × Asks words r × (option_map request_of o ≡ Some r)
-  asked =
-      let r = form_reads (texts_of words) form in
-      let asks = request_told (texts_of words) r.0 r.1 in
-      (r.0, asks, found r.0 asks)
+  asked = (form.0, form.1, found form.0 form.1)
 
   some_command : (p : Option Command) (r : Request) → option_map request_of p ≡ Some r → IsSome p
   some_command None r e = absurd (none-some r e)

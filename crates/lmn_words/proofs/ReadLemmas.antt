@@ -383,13 +383,13 @@ in_ranges (w ∷ words) (to_demo n) h = (h.1.2.3, h.1.2.4)
 
 -- ---- the form
 
-some_form : (words : List CommandWord) (o : Option Request) → request_read words ≡ o → is_some o ≡ true → IsForm words
-some_form words None e is = false_true is
-some_form words (Some r) e is = asks_form words r (request_told words r e)
+some_asked : (words : List CommandWord) (o : Option Request) → request_read words ≡ o → is_some o ≡ true → (r : Request) × TextsAsk words r
+some_asked words None e is = false_true is
+some_asked words (Some r) e is = (r, request_told words r e)
 
 -- the words are read exactly where they are of the form
 pub form_read : (words : List (String Global)) (b : Bool) → b ≡ is_some (request_read (texts_of words)) → (b ≡ true → InForm words) × (InForm words → b ≡ true)
 form_read words b e = (
-  λ is. some_form (texts_of words) (request_read (texts_of words)) refl (sym e ∙ is),
-  λ h. e ∙ ap is_some (form_reads (texts_of words) h).1,
+  λ is. some_asked (texts_of words) (request_read (texts_of words)) refl (sym e ∙ is),
+  λ h. e ∙ ap is_some (request_reads (texts_of words) h.0 h.1),
 )

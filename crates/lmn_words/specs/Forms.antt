@@ -164,13 +164,17 @@ TextsAsk (first ∷ words) (to_demo n) = (first ≡ codes "demo") × AsksDemo wo
 abbrev pub Asks : List (String Global) → Request → Type 0
 Asks words = TextsAsk (texts_of words)
 
+-- the words are of the form: they ask for something
+abbrev pub InForm : List (String Global) → Type 0
+InForm words = (request : Request) × Asks words request
+
 -- the numbers of a request lie in their ranges
 abbrev pub IsInRanges : Request → Type 0
 IsInRanges (to_run run) = (run.budget ≤ 9223372036854775807) × (1 ≤ run.size) × (run.size ≤ 4294967295)
 IsInRanges (to_compile file) = ⊤
 IsInRanges (to_demo n) = (1 ≤ n) × (n ≤ 100000)
 
--- ---- the form
+-- ---- the form, without what is asked for: the law `FormsAsk` says that it is the same form
 
 -- one file, and each option at most once
 abbrev pub IsRunForm : List CommandWord → Type 0
@@ -189,10 +193,6 @@ abbrev pub IsForm : List CommandWord → Type 0
 IsForm [] = ⊥
 IsForm (first ∷ words) = ((first ≡ codes "run") × IsRunForm words) ⊎ ((first ≡ codes "compile") × IsCompileForm words)
     ⊎ ((first ≡ codes "demo") × IsDemoForm words)
-
--- the words are of the form
-abbrev pub InForm : List (String Global) → Type 0
-InForm words = IsForm (texts_of words)
 
 -- ---- what a command is
 

@@ -1,15 +1,16 @@
 -- Laws of the words of the command line.
-use Rattle.std.specs.Prelude.{◌≡◌, List, [], ◌∷◌, true, false, codes}
+use Rattle.std.specs.Prelude.{◌≡◌, ◌↔◌, List, [], ◌∷◌, true, false, codes}
 use Rattle.lmn_order.specs.declared.order.Order.TheVariants as order
-use Rattle.lmn_words.specs.Forms.{Asks, InForm, IsFileName, IsInRanges, Request, TextsAsk, CommandWord, to_run}
+use Rattle.lmn_words.specs.Forms.{Asks, InForm, IsFileName, IsForm, IsInRanges, Request, TextsAsk, CommandWord, texts_of, to_run}
 use Rattle.std.specs.declared.string.String.{String}
 use Rattle.std.specs.declared.alloc.Global.{Global}
 
--- words of the form ask for something
+-- words ask for something exactly where the first names a command and the others are its file, its number, or one file and each
+-- option at most once
 abbrev pub FormsAsk : Type 0
-FormsAsk = (words : List (String Global)) → InForm words → (request : Request) × Asks words request
+FormsAsk = (words : List (String Global)) → IsForm (texts_of words) ↔ InForm words
 
--- words ask for one thing at most, and words that ask for something are of the form
+-- words ask for one thing at most
 abbrev pub OneRequest : Type 0
 OneRequest = (words : List (String Global)) (request : Request) → Asks words request
     → InForm words × ((other : Request) → Asks words other → other ≡ request)

@@ -27,5 +27,5 @@ returns-in-Err-clause-asked g c = λ form. inr (refl, refl)
 
 pub returns-in-Err-clause-ended : goal.returns-in-Err-clause-ended
 returns-in-Err-clause-ended g c =
-    let asks = c.asks_one.ensures.some c.args.words.now c.in-Err.ensures.memory in
+    let asks = c.in-Err.ensures.memory in
     inl (asks.0, asks.1, memory_ended (task_of asks.0) _ _ _ _ _)

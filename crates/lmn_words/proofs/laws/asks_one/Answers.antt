@@ -5,13 +5,14 @@ use Rattle.lmn_words.proofs.ReadLemmas.{request_told, request_reads, form_reads,
 use Rattle.lmn_words.proofs.laws.asks_one.Goals as goal
 
 pub returns-clause-some : goal.returns-clause-some
-returns-clause-some c = λ words h.
-    let r = form_reads (texts_of words) h in
-    (r.0, request_told (texts_of words) r.0 r.1)
+returns-clause-some c = λ words. (
+  λ h. let r = form_reads (texts_of words) h in (r.0, request_told (texts_of words) r.0 r.1),
+  λ h. asks_form (texts_of words) h.0 h.1,
+)
 
 pub returns-clause-one : goal.returns-clause-one
 returns-clause-one c = λ words r h. (
-  asks_form (texts_of words) r h,
+  (r, h),
   λ other k. same_Some other r (sym (request_reads (texts_of words) other k) ∙ request_reads (texts_of words) r h),
 )
 
