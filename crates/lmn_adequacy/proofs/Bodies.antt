@@ -14,7 +14,7 @@ use Rattle.lmn_congruence.proofs.Counts.{none_if_apart}
 use Rattle.lmn_congruence.proofs.Crossings.{occurs_below}
 use Rattle.lmn_congruence.proofs.Renaming.{occurrences_image, occurrences_none}
 use Rattle.lmn_adequacy.specs.Accepted.{all_contexts}
-use Rattle.lmn_adequacy.specs.Embedding.{Plain}
+use Rattle.lmn_adequacy.specs.Loose.{Plain}
 use Rattle.lmn_adequacy.proofs.Exposing.{Source, found, missing, source}
 use Rattle.lmn_adequacy.proofs.RawProcesses.{made}
 use Rattle.lmn_adequacy.proofs.Skeleton.{copy_map, copy_one, copy_other, copy_root}

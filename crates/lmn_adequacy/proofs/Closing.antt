@@ -19,7 +19,7 @@ use Rattle.lmn_congruence.proofs.LinkMaps.{closed_linked}
 use Rattle.lmn_congruence.proofs.Renaming.{occurrences_image, occurrences_none}
 use Rattle.lmn_congruence.proofs.Reordered.{r_right, reordered_count}
 use Rattle.lmn_adequacy.specs.Accepted.{Accepted, all_contexts, contexts_in, left_sides}
-use Rattle.lmn_adequacy.specs.Embedding.{Plain}
+use Rattle.lmn_adequacy.specs.Loose.{Plain}
 use Rattle.lmn_adequacy.proofs.Accepting.{accepted_head, integer_ground, typed_ground}
 use Rattle.lmn_adequacy.proofs.Bodies.{Copied, Whole, context_places, context_places_append, context_places_shuffle, odd_contexts, odd_not_even, LevelMade}
 use Rattle.lmn_adequacy.proofs.Embedding.{EvenMore, not_one_even}

@@ -22,7 +22,8 @@ use Rattle.lmn_congruence.proofs.Reordered.{r_right, reordered_congruent, reorde
 use Rattle.lmn_reduction.proofs.SettledForms.{settles_fused}
 use Rattle.lmn_reduction.proofs.SettledProcesses.{towards_joined}
 use Rattle.lmn_congruence.proofs.Solids.{put_together, region_plain}
-use Rattle.lmn_adequacy.specs.Embedding.{AllRules, LevelImages, Plain, TakenRegion, level_images}
+use Rattle.lmn_adequacy.specs.Embedding.{AllRules, TakenRegion}
+use Rattle.lmn_adequacy.specs.Loose.{LevelImages, Plain, level_images}
 use Rattle.lmn_adequacy.proofs.Firings.{K, after, after_closed, joins_here, kept_fused, order_here, raw_link, steps_to}
 use Rattle.lmn_adequacy.proofs.Heads.{Bare, region_there, rule_there}
 use Rattle.lmn_adequacy.proofs.Orders.{region_put}

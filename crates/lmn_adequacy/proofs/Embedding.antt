@@ -26,7 +26,8 @@ use Rattle.lmn_congruence.proofs.Renaming.{occurrences_image, occurrences_none, 
 use Rattle.lmn_congruence.proofs.Reordered.{SamePiece, content, itself, pieces, reordered_count, reordered_pieces, same_piece_chain}
 use Rattle.lmn_congruence.proofs.Shuffles.{find_right, put_back, put_between, shuffle_append, shuffle_chain, shuffle_same, shuffle_swap}
 use Rattle.lmn_congruence.proofs.Solids.{PutOnto, as_rule, picks, present, put_picks, region_plain, region_rules, same_rules, shuffle_picks, stay}
-use Rattle.lmn_adequacy.specs.Embedding.{AllRules, AllRulesIn, AtomImages, HasEmbedding, EmbedsAt, IsPart, KeepsLinks, LevelImages, MembraneImages, Merged, Plain, Taken, TakenRegion, TypedParts, embeds_below, embeds_here, filling, image_and, level_images, membrane_image_and, no_image, no_membrane_image, no_part, no_part_of_atom, part_and, typed_later}
+use Rattle.lmn_adequacy.specs.Embedding.{AllRules, AllRulesIn, AtomImages, IsPart, KeepsLinks, Merged, Taken, TakenRegion, TypedParts, image_and, no_image, no_part, no_part_of_atom, part_and, typed_later}
+use Rattle.lmn_adequacy.specs.Loose.{LevelImages, MembraneImages, Plain, filling, level_images, membrane_image_and, no_membrane_image, EmbedsLoosely, HasLooseEmbedding, embeds_loosely_here, embeds_loosely_below}
 use Rattle.lmn_adequacy.proofs.Ends.{EndsOutside, ends_outside}
 use Rattle.lmn_adequacy.proofs.Exposing.{Source, found, missing, source}
 use Rattle.lmn_adequacy.proofs.Heads.{HeadAllowed, HeadLeaves, HeadLevel, HeadLevels, region_there, rule_there}
@@ -463,15 +464,15 @@ redex_rule v r A P xs ms rs d =
     chosen : {B : Type 0} {b : B} {xs zs : List B} → PutOnto (Some b) xs zs → Put b xs zs
     chosen (present p) = p
 
-in_itself : {k : ℕ} {r : Rule} {f : List ℕ} {xs : List SolidAtom} {ms : Regions} {rs rs' : List Rule} → Taken k r rs rs' → EmbedsAt r f (region xs ms rs) → HasEmbedding (region xs ms rs)
-in_itself k e = record { path = []; number = _; positions = _; embeds = embeds_here k e }
+in_itself : {k : ℕ} {r : Rule} {f : List ℕ} {xs : List SolidAtom} {ms : Regions} {rs rs' : List Rule} → Taken k r rs rs' → EmbedsLoosely r f (region xs ms rs) → HasLooseEmbedding (region xs ms rs)
+in_itself k e = record { path = []; number = _; positions = _; embeds = embeds_loosely_here k e }
 
 -- where a rule embeds in a membrane of a region it embeds in the region
-pub in_a_membrane : {n : ℕ} {m : Region} {xs : List SolidAtom} {ms ms' : Regions} {rs : List Rule} → TakenRegion n m ms ms' → HasEmbedding m → HasEmbedding (region xs ms rs)
-in_a_membrane k e = record { path = _; number = e.number; positions = e.positions; embeds = embeds_below k e.embeds }
+in_a_membrane : {n : ℕ} {m : Region} {xs : List SolidAtom} {ms ms' : Regions} {rs : List Rule} → TakenRegion n m ms ms' → HasLooseEmbedding m → HasLooseEmbedding (region xs ms rs)
+in_a_membrane k e = record { path = _; number = e.number; positions = e.positions; embeds = embeds_loosely_below k e.embeds }
 
 -- An instance in a process that is read against a solid shows a place where the head lies in the solid.
-pub redex_embeds : (v : ℕ → ℕ) {P : Process} (d : HasRedex P) → Linked P → Linked (fused v P) → EndsOutside v P → (S : Region) → AllRules HeadAllowed S → Reordered (fused v P) (region_process S) → HasEmbedding S
+pub redex_embeds : (v : ℕ → ℕ) {P : Process} (d : HasRedex P) → Linked P → Linked (fused v P) → EndsOutside v P → (S : Region) → AllRules HeadAllowed S → Reordered (fused v P) (region_process S) → HasLooseEmbedding S
 redex_embeds v (at_top {r = r} {A = A} {P = P} m) l l' f (region xs ms rs) h o =
     let t = m.assignment in
     let X = pieces (fused v A) in
@@ -493,13 +494,13 @@ redex_embeds v (in_membrane {P = P} {Q = Q} d) l l' f (region xs ms rs) h o =
     below v P (pieces (fused v Q)) xs ms rs h.1 (λ n g e. redex_embeds v d (linked_inside (linked_left l)) (linked_inside (linked_left l')) f.0.1 n g e)
     (subst (Shuffle SamePiece (membrane (fused v P) ∷ pieces (fused v Q))) (region_pieces (region xs ms rs)) (reordered_pieces o))
   where
-    below : (v : ℕ → ℕ) (P : Process) (Ws : List Process) (xs : List SolidAtom) (ms : Regions) (rs : List Rule) → AllRulesIn HeadAllowed ms → ((n : Region) → AllRules HeadAllowed n → Reordered (fused v P) (region_process n) → HasEmbedding n)
-        → Shuffle SamePiece (membrane (fused v P) ∷ Ws) (pieces_of (region xs ms rs)) → HasEmbedding (region xs ms rs)
+    below : (v : ℕ → ℕ) (P : Process) (Ws : List Process) (xs : List SolidAtom) (ms : Regions) (rs : List Rule) → AllRulesIn HeadAllowed ms → ((n : Region) → AllRules HeadAllowed n → Reordered (fused v P) (region_process n) → HasLooseEmbedding n)
+        → Shuffle SamePiece (membrane (fused v P) ∷ Ws) (pieces_of (region xs ms rs)) → HasLooseEmbedding (region xs ms rs)
     below v P Ws xs ms rs g h (more itself s q) = let u = take_region xs ms rs q in in_a_membrane u.taken (h u.region_there (region_there HeadAllowed g u.taken) (r_same u.is))
     below v P Ws xs ms rs g h (more (content d) s q) = let u = take_region xs ms rs q in in_a_membrane u.taken (h u.region_there (region_there HeadAllowed g u.taken) (r_chain d (r_same u.is)))
 
 -- Where a step is possible from a solid, some rule embeds in it.
-pub step_embeds : (S : Region) (Q : Process) → Closed (region_process S) → AllRules HeadAllowed S → Step (region_process S) Q → HasEmbedding S
+pub step_embeds : (S : Region) (Q : Process) → Closed (region_process S) → AllRules HeadAllowed S → Step (region_process S) Q → HasLooseEmbedding S
 step_embeds S Q c h s =
     let k = step_shows s in
     let r = congruent_reads k.process (region_process S) (region_plain S) (back k.congruent) in

@@ -11,9 +11,9 @@ use Rattle.lmn_reduction.specs.Guards.{condition_and, no_condition, of_kind}
 use Rattle.lmn_congruence.proofs.Counts.{none_if_apart}
 use Rattle.lmn_reduction.proofs.Derivations.{closed_by}
 use Rattle.lmn_reduction.proofs.ExampleSteps.{looped, looped_ground}
-use Rattle.lmn_adequacy.specs.Embedding.{IsPart, from_first, image_and, level_images, merged_none, no_image, no_membrane_image, no_part, no_part_of_atom, part_and, taken_first, typed_later}
+use Rattle.lmn_adequacy.specs.Embedding.{IsPart, from_first, image_and, merged_none, no_image, no_part, no_part_of_atom, part_and, taken_first, typed_later, Contents, EmbedsAt, level_lies, no_membrane_lies}
+use Rattle.lmn_adequacy.specs.Next.{DepthFirst, fires_here, made_atom, made_copy, made_level, no_made_leaf, no_made_membrane, raw_level, reaches_listed, reaches_new, reaches_none}
 use Rattle.lmn_adequacy.specs.Examples.{CopiesStandAsWritten}
-use Rattle.lmn_adequacy.specs.Next.{Contents, DepthFirst, EmbedsInOrder, fires_here, made_atom, made_copy, made_level, no_made_leaf, no_made_membrane, raw_level, reaches_listed, reaches_new, reaches_none}
 
 -- the atom with the root at x, and its other link y
 looped_part : (x y : ℕ) → x ≢ y → IsPart looped x (solid_atom_with label_b (x ∷ y ∷ y ∷ []) ∷ [])
@@ -25,13 +25,12 @@ looped_part x y d = record { only_atoms = tt; to = λ n. cond (eqb n 0) x y; one
 abbrev bound_part : Contents
 bound_part = record { link_of = λ x. 0; atoms_of = λ p. []; membranes_of = λ p. no_region; rules_of = λ p. []; typed_of = λ p. looped }
 
-lies : EmbedsInOrder double_part (0 ∷ []) (region (solid_atom_with label_a (0 ∷ []) ∷ solid_atom_with label_b (0 ∷ 1 ∷ 1 ∷ []) ∷ []) no_region (double_part ∷ []))
+lies : EmbedsAt double_part (0 ∷ []) (region (solid_atom_with label_a (0 ∷ []) ∷ solid_atom_with label_b (0 ∷ 1 ∷ 1 ∷ []) ∷ []) no_region (double_part ∷ []))
 lies = record {
   contents = bound_part;
   rest = region [] no_region (double_part ∷ []);
   root_is_free = λ p. refl;
-  images = level_images (image_and taken_first (typed_later no_image)) (no_part_of_atom (part_and looped_ground (looped_part 0 1 (omega arith)) (from_first merged_none) no_part)) no_membrane_image;
-  left = tt;
+  lies = level_lies (image_and taken_first (typed_later no_image)) (no_part_of_atom (part_and looped_ground (looped_part 0 1 (omega arith)) (from_first merged_none) no_part)) no_membrane_lies;
   guard = condition_and (of_kind looped_ground) no_condition;
 }
 

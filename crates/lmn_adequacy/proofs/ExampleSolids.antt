@@ -7,19 +7,17 @@ use Rattle.lmn_congruence.specs.Plains.{level_process}
 use Rattle.lmn_congruence.specs.Process.{Closed, atom}
 use Rattle.lmn_congruence.specs.Regions.{Region, SolidAtom, no_region, region, region_and, region_process, solid_atom_with}
 use Rattle.lmn_congruence.specs.Rules.{Label, Level, Name, atom_leaf, connector_leaf, head_of, integer, named, only_leaves}
-use Rattle.lmn_congruence.specs.UpToOrder.{r_back, r_chain, r_unit}
 use Rattle.lmn_reduction.specs.Assignments.{Assignment}
 use Rattle.lmn_reduction.specs.Examples.{label_a, label_b, label_c, join_from_membrane, join_in_c, tie_ends}
 use Rattle.lmn_reduction.specs.Guards.{no_condition}
 use Rattle.lmn_reduction.specs.Parts.{Rooted}
 use Rattle.lmn_congruence.proofs.Counts.{none_if_apart}
-use Rattle.lmn_reduction.proofs.Derivations.{closed_by, alone as r_alone}
+use Rattle.lmn_reduction.proofs.Derivations.{closed_by}
 use Rattle.lmn_reduction.proofs.SettledForms.{all_join}
-use Rattle.lmn_adequacy.specs.Embedding.{EmbedsIn, KeepsLinks, LevelImages, Taken, embeds_below, embeds_here, image_and, level_images, membrane_image_and, no_image, no_membrane_image, no_part, no_part_of_atom, region_first, region_later, taken_first, taken_later}
+use Rattle.lmn_adequacy.specs.Embedding.{EmbedsIn, KeepsLinks, Taken, embeds_below, embeds_here, image_and, no_image, no_part, no_part_of_atom, region_first, region_later, taken_first, taken_later, Contents, no_rule_context, one_context, LevelLies, assignment_of, level_lies, membrane_lies, no_membrane_lies}
+use Rattle.lmn_adequacy.specs.Next.{fires_here, kept_level, made_atom, made_connector, made_level, no_made_leaf, no_made_membrane, raw_level, reaches_listed, reaches_new, reaches_none, wire_leaves}
 use Rattle.lmn_adequacy.specs.Examples.{InnerLinkDoesNotEmbed, EndsMeetInOneAtom, ListDepthFirst, NextHasNoLoop, MembraneOpens, open_membrane}
-use Rattle.lmn_adequacy.specs.Next.{Contents, fires_here, kept_level, made_atom, made_connector, made_level, no_made_leaf, no_made_membrane, no_rule_context, one_context, raw_level, reaches_listed, reaches_new, reaches_none, wire_leaves}
 use Rattle.lmn_adequacy.proofs.OneEmbedding.{same_head}
-use Rattle.lmn_adequacy.proofs.Orders.{r_both}
 
 -- any process with a free root
 one_port : Name → Rooted
@@ -68,8 +66,7 @@ link_meets_itself =
             contents = joined;
             rest = region [] no_region (r ∷ []);
             root_is_free = λ p. refl;
-            images = level_images (image_and taken_first (image_and taken_first no_image)) (no_part_of_atom (no_part_of_atom no_part)) no_membrane_image;
-            left = tt;
+            lies = level_lies (image_and taken_first (image_and taken_first no_image)) (no_part_of_atom (no_part_of_atom no_part)) no_membrane_lies;
             guard = no_condition;
           };
           outs = atom_leaf label_c (0 ∷ 2 ∷ []) ∷ [];
@@ -115,8 +112,7 @@ loop_vanishes =
             contents = joined;
             rest = region [] no_region (r ∷ []);
             root_is_free = λ p. refl;
-            images = level_images (image_and taken_first no_image) (no_part_of_atom no_part) no_membrane_image;
-            left = tt;
+            lies = level_lies (image_and taken_first no_image) (no_part_of_atom no_part) no_membrane_lies;
             guard = no_condition;
           };
           outs = connector_leaf 0 2 ∷ [];
@@ -158,9 +154,7 @@ membrane_opens =
             contents = opened;
             rest = region (solid_atom_with label_c [] ∷ []) (region_and empty no_region) (open_membrane ∷ []);
             root_is_free = λ p. refl;
-            images = level_images no_image no_part (membrane_image_and region_first (level_images (image_and (taken_later taken_first) no_image) (no_part_of_atom no_part) no_membrane_image) (record { as_often = λ x d. absurd (d refl) })
-                (r_chain (r_both (r_back r_alone) r_unit) (r_back r_alone)) no_membrane_image);
-            left = ((one_context, no_rule_context), tt, tt);
+            lies = level_lies no_image no_part (membrane_lies region_first (level_lies (image_and (taken_later taken_first) no_image) (no_part_of_atom no_part) no_membrane_lies) (record { as_often = λ x d. absurd (d refl) }) (one_context, no_rule_context) no_membrane_lies);
             guard = no_condition;
           };
           outs = atom_leaf label_a [] ∷ atom_leaf label_b [] ∷ atom_leaf label_c [] ∷ [];
@@ -211,9 +205,9 @@ first_link t k = go k
     go : {n : ℕ} {rest : List SolidAtom} → Taken n (record { label = label_a; links = map t.link_of (0 ∷ []) }) (solid_atom_with label_a (0 ∷ []) ∷ solid_atom_with label_b (0 ∷ []) ∷ []) rest → t.link_of 0 ≡ 0
     go k = same_head (t.link_of 0) 0 [] [] (ap (λ z. z.links) (is_first k refl))
 
-no_images : (t : Assignment) {f : List ℕ} {rest : Region} → LevelImages t (head_of join_from_membrane) f (region [] (region_and held_inside no_region) (join_from_membrane ∷ [])) rest → ⊥
-no_images t (level_images no_image no_part (membrane_image_and region_first (level_images (image_and k i) j q) keeps o p)) = not_once t (first_link t k) keeps
-no_images t (level_images no_image no_part (membrane_image_and (region_later k) i keeps o p)) = elim k [ ]
+no_images : (c : Contents) {f : List ℕ} {rest : Region} → LevelLies c (head_of join_from_membrane) f (region [] (region_and held_inside no_region) (join_from_membrane ∷ [])) rest → ⊥
+no_images c (level_lies no_image no_part (membrane_lies region_first (level_lies (image_and k i) j q) keeps o p)) = not_once (assignment_of c) (first_link (assignment_of c) k) keeps
+no_images c (level_lies no_image no_part (membrane_lies (region_later k) i keeps o p)) = elim k [ ]
 
 -- a link that stays inside a membrane doesn't match two that leave it
 pub inner_link_does_not_embed : InnerLinkDoesNotEmbed
@@ -224,7 +218,7 @@ inner_link_does_not_embed e = go e.embeds
     inside (embeds_below k i) = elim k [ ]
 
     go : {path f : List ℕ} {k : ℕ} → EmbedsIn path k f (region [] (region_and held_inside no_region) (join_from_membrane ∷ [])) → ⊥
-    go (embeds_here taken_first e) = no_images e.assignment e.images
+    go (embeds_here taken_first e) = no_images e.contents e.lies
     go (embeds_here (taken_later k) e) = elim k [ ]
     go (embeds_below region_first i) = inside i
     go (embeds_below (region_later k) i) = elim k [ ]

@@ -4,18 +4,16 @@ use Rattle.lmn_base.specs.Links.{no_more}
 use Rattle.lmn_congruence.specs.Plains.{level_process}
 use Rattle.lmn_congruence.specs.Regions.{Region, SolidAtom, no_region, solid_atom_with}
 use Rattle.lmn_congruence.specs.Rules.{Level, Name, atom_leaf, head_of}
-use Rattle.lmn_reduction.specs.Assignments.{Assignment}
 use Rattle.lmn_reduction.specs.Examples.{label_a}
 use Rattle.lmn_reduction.specs.Guards.{no_condition}
 use Rattle.lmn_reduction.specs.Parts.{Rooted}
 use Rattle.lmn_congruence.specs.Process.{atom}
 use Rattle.lmn_reduction.proofs.SettledForms.{all_join}
 use Rattle.lmn_adequacy.specs.Choice.{Before, ChosenFrom, less_here}
-use Rattle.lmn_adequacy.specs.Embedding.{HasEmbedding, EmbedsAt, EmbedsIn, LevelImages, embeds_below, embeds_here, image_and, level_images, no_image, no_membrane_image, no_part, no_part_of_atom, taken_first, taken_later}
+use Rattle.lmn_adequacy.specs.Embedding.{HasEmbedding, EmbedsAt, EmbedsIn, embeds_below, embeds_here, image_and, no_image, no_part, no_part_of_atom, taken_first, taken_later, Contents, LevelLies, level_lies, no_membrane_lies}
+use Rattle.lmn_adequacy.specs.Next.{fires_here, made_atom, made_level, no_made_leaf, no_made_membrane, raw_level}
 use Rattle.lmn_adequacy.specs.Examples.{TracesEnd, grow, growing, root_first}
-use Rattle.lmn_adequacy.specs.Next.{Contents, EmbedsInOrder, assignment_of, fires_here, made_atom, made_level, no_made_leaf, no_made_membrane, raw_level}
 use Rattle.lmn_adequacy.specs.Runs.{Turn, loaded, none_allowed, nothing_embeds, too_many, turned}
-use Rattle.lmn_adequacy.proofs.InOrder.{contents_plain}
 
 -- any process with a free root
 one_port : Name → Rooted
@@ -25,34 +23,29 @@ nothing_given : Contents
 nothing_given = record { link_of = λ x. 0; atoms_of = λ p. []; membranes_of = λ p. no_region; rules_of = λ p. []; typed_of = one_port }
 
 -- the rule lies at the first atom
-first_atom : (xs : List SolidAtom) → EmbedsInOrder grow (0 ∷ []) (growing (solid_atom_with label_a [] ∷ xs))
+first_atom : (xs : List SolidAtom) → EmbedsAt grow (0 ∷ []) (growing (solid_atom_with label_a [] ∷ xs))
 unfolding nothing_given one_port
 first_atom xs = record {
   contents = nothing_given;
   rest = growing xs;
   root_is_free = λ p. refl;
-  images = level_images (image_and taken_first no_image) (no_part_of_atom no_part) no_membrane_image;
-  left = tt;
+  lies = level_lies (image_and taken_first no_image) (no_part_of_atom no_part) no_membrane_lies;
   guard = no_condition;
 }
 
-at_first : (xs : List SolidAtom) → EmbedsAt grow (0 ∷ []) (growing (solid_atom_with label_a [] ∷ xs))
-unfolding first_atom nothing_given one_port
-at_first xs = record { assignment = assignment_of nothing_given; rest = growing xs; plain = contents_plain nothing_given (λ p. refl); images = (first_atom xs).images; guard = no_condition }
-
 embeds_first : (xs : List SolidAtom) → EmbedsIn [] 0 (0 ∷ []) (growing (solid_atom_with label_a [] ∷ xs))
-embeds_first xs = embeds_here {r = grow} taken_first (at_first xs)
+embeds_first xs = embeds_here {r = grow} taken_first (first_atom xs)
 
 -- and at no position before it
 least_first : (xs : List SolidAtom) (g : List ℕ) → EmbedsIn [] 0 g (growing xs) → (0 ∷ [] ≡ g) ⊎ Before (0 ∷ []) g
-least_first xs g (embeds_here taken_first e) = go e.images
+least_first xs g (embeds_here taken_first e) = go e.lies
   where
     by : (n : ℕ) → (0 ∷ [] ≡ n ∷ []) ⊎ Before (0 ∷ []) (n ∷ [])
     by zero = inl refl
     by (suc n) = inr (less_here (omega arith))
 
-    go : {t : Assignment} {h : List ℕ} {rest : Region} → LevelImages t (head_of grow) h (growing xs) rest → (0 ∷ [] ≡ h) ⊎ Before (0 ∷ []) h
-    go (level_images (image_and {n = n} k no_image) j no_membrane_image) = by n
+    go : {c : Contents} {h : List ℕ} {rest : Region} → LevelLies c (head_of grow) h (growing xs) rest → (0 ∷ [] ≡ h) ⊎ Before (0 ∷ []) h
+    go (level_lies (image_and {n = n} k no_image) j no_membrane_lies) = by n
 
 chosen_first : (xs : List SolidAtom) → ChosenFrom 0 (growing (solid_atom_with label_a [] ∷ xs)) [] 0 (0 ∷ [])
 chosen_first xs = record {
@@ -105,11 +98,11 @@ next_turn = record {
 nothing_grows : ¬ (HasEmbedding (growing []))
 nothing_grows e = go e.embeds
   where
-    no_images : {t : Assignment} {h : List ℕ} {rest : Region} → LevelImages t (head_of grow) h (growing []) rest → ⊥
-    no_images (level_images (image_and k i) j m) = elim k [ ]
+    no_images : {c : Contents} {h : List ℕ} {rest : Region} → LevelLies c (head_of grow) h (growing []) rest → ⊥
+    no_images (level_lies (image_and k i) j m) = elim k [ ]
 
     go : {path f : List ℕ} {k : ℕ} → EmbedsIn path k f (growing []) → ⊥
-    go (embeds_here taken_first e) = no_images e.images
+    go (embeds_here taken_first e) = no_images e.lies
     go (embeds_here (taken_later k) e) = elim k [ ]
     go (embeds_below k i) = elim k [ ]
 

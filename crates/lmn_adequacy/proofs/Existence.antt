@@ -13,15 +13,15 @@ use Rattle.lmn_reduction.proofs.Plains.{plain_has_solid}
 use Rattle.lmn_congruence.proofs.Reordered.{r_right, reordered_count}
 use Rattle.lmn_congruence.proofs.Solids.{put_together}
 use Rattle.lmn_adequacy.specs.Accepted.{Accepted, all_contexts}
-use Rattle.lmn_adequacy.specs.Embedding.{AllRules, EmbedsIn, LevelImages, TakenRegion, embeds_below, embeds_here}
-use Rattle.lmn_adequacy.specs.Next.{EmbedsInOrder, FiresInOrder, NextAt, RawAt, assignment_of, fires_below, fires_here, kept_atoms, kept_membranes, raw_level, replaced, wire_leaves}
+use Rattle.lmn_adequacy.specs.Embedding.{AllRules, EmbedsIn, TakenRegion, embeds_below, embeds_here, assignment_of, EmbedsAt, HasEmbedding}
+use Rattle.lmn_adequacy.specs.Loose.{LevelImages}
+use Rattle.lmn_adequacy.specs.Next.{FiresInOrder, NextAt, RawAt, fires_below, fires_here, kept_atoms, kept_membranes, raw_level, replaced, wire_leaves}
 use Rattle.lmn_adequacy.proofs.Accepting.{accepted_bare}
 use Rattle.lmn_adequacy.proofs.Bodies.{Copied, LevelMade, context_places}
 use Rattle.lmn_adequacy.proofs.Closing.{body_ground, body_whole, head_whole, raw_closes}
 use Rattle.lmn_adequacy.proofs.Commits.{beside_nothing, closed_as, region_out}
 use Rattle.lmn_adequacy.proofs.Heads.{region_there, rule_there}
-use Rattle.lmn_adequacy.proofs.InOrder.{contents_plain, embeds_at, held, kept_listed, level_listed, made_process, raw_joined, replaced_put}
-use Rattle.lmn_adequacy.proofs.Literal.{embeds_in_order}
+use Rattle.lmn_adequacy.proofs.InOrder.{contents_plain, held, level_images_of, kept_listed, level_listed, made_process, raw_joined, replaced_put}
 use Rattle.lmn_adequacy.proofs.MadeBodies.{level_listed_from}
 use Rattle.lmn_adequacy.proofs.Orders.{r_over, taken_put}
 use Rattle.lmn_adequacy.proofs.RawProcesses.{head_wires}
@@ -51,13 +51,13 @@ pub record Fired (r : Rule) (f : List ℕ) (m : Region) (O : Process) : Type 0 w
   pub closed : Closed (pair (level_process raw) (renamed of_solid O))
 
 -- an accepted rule fires at each embedding
-pub embedding_fires : {r : Rule} {f : List ℕ} {m : Region} → Accepted r → EmbedsInOrder r f m → (O : Process) → Closed (pair (region_process m) O) → Fired r f m O
+pub embedding_fires : {r : Rule} {f : List ℕ} {m : Region} → Accepted r → EmbedsAt r f m → (O : Process) → Closed (pair (region_process m) O) → Fired r f m O
 embedding_fires {r} {f} {m} a e O closed =
     let c = e.contents in
     let t = assignment_of c in
     let p = contents_plain c e.root_is_free in
     let b = accepted_bare r a in
-    let i : LevelImages t (level b.leaves b.membranes [] [] no_rule) f m e.rest = subst (λ k. LevelImages t k f m e.rest) b.is e.images in
+    let i : LevelImages t (level b.leaves b.membranes [] [] no_rule) f m e.rest = subst (λ k. LevelImages t k f m e.rest) b.is (level_images_of e.lies) in
     let u = level_skeleton t p i in
     let n = level_bound (head_of r) in
     let whole = head_whole r a t p e.guard b.leaves b.membranes b.is m e.rest u O closed in
@@ -97,7 +97,7 @@ below_order {n = n} {ms = ms} {ms' = ms'} xs rs L k =
 pub embeds_raw : {path : List ℕ} {k : ℕ} {f : List ℕ} {S : Region} → EmbedsIn path k f S → AllRules Accepted S → (O : Process) → Closed (pair (region_process S) O) → RawClosed path k f S O
 embeds_raw (embeds_here k e) h O c =
     let a = rule_there Accepted h.0 (taken_put k) in
-    let u = embedding_fires a (embeds_in_order a e) O c in
+    let u = embedding_fires a e O c in
     record { raw = u.raw; fires = fires_here k u.fires; closed = u.closed }
 embeds_raw (embeds_below {m = m} {xs = xs} {ms = ms} {ms' = ms'} {rs = rs} k i) h O c =
     let S = region xs ms rs in
@@ -120,9 +120,13 @@ embeds_next path f k S c h e =
     (v.0, record { raw = u.raw; fires = u.fires; fuses = v.1 })
 
 raw_embeds : {path : List ℕ} {k : ℕ} {f : List ℕ} {S : Region} {L : Level} → RawAt path k f S L → EmbedsIn path k f S
-raw_embeds (fires_here k F) = embeds_here k (embeds_at F.at)
+raw_embeds (fires_here k F) = embeds_here k F.at
 raw_embeds (fires_below k R) = embeds_below k (raw_embeds R)
 
 -- and only an embedding has one
 pub next_embeds : {path : List ℕ} {k : ℕ} {f : List ℕ} {S S' : Region} → NextAt path k f S S' → EmbedsIn path k f S
 next_embeds n = raw_embeds n.fires
+
+-- where a rule embeds in a membrane of a region it embeds in the region
+pub in_a_membrane : {n : ℕ} {m : Region} {xs : List SolidAtom} {ms ms' : Regions} {rs : List Rule} → TakenRegion n m ms ms' → HasEmbedding m → HasEmbedding (region xs ms rs)
+in_a_membrane k e = record { path = _; number = e.number; positions = e.positions; embeds = embeds_below k e.embeds }

@@ -24,7 +24,7 @@ use Rattle.lmn_congruence.proofs.Renaming.{occurrences_image, occurrences_none}
 use Rattle.lmn_congruence.proofs.Reordered.{r_right, reordered_congruent, reordered_count}
 use Rattle.lmn_congruence.proofs.Solids.{put_together, region_plain}
 use Rattle.lmn_congruence.proofs.Totals.{highest}
-use Rattle.lmn_adequacy.specs.Embedding.{Plain}
+use Rattle.lmn_adequacy.specs.Loose.{Plain}
 use Rattle.lmn_adequacy.proofs.Embedding.{same_guard}
 use Rattle.lmn_adequacy.proofs.Ends.{AllMembranes}
 use Rattle.lmn_adequacy.proofs.Exposing.{KeepsCounts, exposed_congruent, kept_ends, low_count, low_not_in_head, low_or_new, new_wires, row_count, wires}

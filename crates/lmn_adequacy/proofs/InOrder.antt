@@ -14,8 +14,9 @@ use Rattle.lmn_reduction.specs.Instances.{Instance, IsCopy, LeafInstances, Membr
 use Rattle.lmn_reduction.proofs.Plains.{level_reordered}
 use Rattle.lmn_congruence.proofs.Reordered.{r_right, reordered_count}
 use Rattle.lmn_congruence.proofs.Solids.{put_together, region_plain}
-use Rattle.lmn_adequacy.specs.Embedding.{EmbedsAt, Plain, TakenRegion, filling, region_first, region_later}
-use Rattle.lmn_adequacy.specs.Next.{Contents, EmbedsInOrder, LeftToContext, LeftToRuleContext, MadeLeaves, MadeLevel, MadeMembranes, NextAt, RawAt, assignment_of, context_atoms, context_membranes, context_rules, fires_below, fires_here, kept_atoms, kept_level, kept_membranes, made_atom, part_leaves, made_connector, made_copy, made_level, made_membrane, no_context, no_made_leaf, no_made_membrane, no_rule_context, one_context, one_rule_context, raw_level, replaced, wire_leaves}
+use Rattle.lmn_adequacy.specs.Embedding.{EmbedsAt, TakenRegion, region_first, region_later, Contents, LeftToContext, LeftToRuleContext, assignment_of, no_context, no_rule_context, one_context, one_rule_context, LevelLies, MembranesLie, level_lies, membrane_lies, no_membrane_lies, LeftTo}
+use Rattle.lmn_adequacy.specs.Loose.{Plain, filling, EachLeft, EachLeftIn, EmbedsLoosely, LevelImages, MembraneImages, level_images, membrane_image_and, no_membrane_image}
+use Rattle.lmn_adequacy.specs.Next.{MadeLeaves, MadeLevel, MadeMembranes, NextAt, RawAt, context_atoms, context_membranes, context_rules, fires_below, fires_here, kept_atoms, kept_level, kept_membranes, made_atom, part_leaves, made_connector, made_copy, made_level, made_membrane, no_made_leaf, no_made_membrane, raw_level, replaced, wire_leaves}
 use Rattle.lmn_adequacy.proofs.Commits.{closed_as}
 use Rattle.lmn_adequacy.proofs.Embedding.{part_order}
 use Rattle.lmn_adequacy.proofs.Images.{reordered_fused}
@@ -182,6 +183,10 @@ literal_filling c one_context no_rule_context = r_chain (r_both (r_back r_alone)
 literal_filling c no_context one_rule_context = r_right (r_chain (r_back r_alone) (r_chain (r_back r_alone) (r_back r_unit)))
 literal_filling c one_context one_rule_context = r_chain (r_both (r_back r_alone) (r_chain (r_back r_alone) (r_back r_alone))) (r_chain (r_back r_regroup) (r_right (r_chain (r_back r_regroup) (r_right r_unit))))
 
+-- the same of a region that is left
+pub left_filling : (c : Contents) (ps qs : List Name) (rest : Region) → LeftTo c ps qs rest → Reordered (filling (assignment_of c) ps qs no_rule) (region_process rest)
+left_filling c ps qs (region xs ms rs) u = literal_filling c u.0 u.1
+
 -- ---- the raw process of a raw level
 
 atoms_no_rule : (xs : List SolidAtom) → NoRuleAtTop (together (map atom_process xs))
@@ -200,9 +205,27 @@ contents_plain c f = record {
   root_is_free = f;
 }
 
--- an embedding in order is one
-abbrev pub embeds_at : {r : Rule} {f : List ℕ} {m : Region} → EmbedsInOrder r f m → EmbedsAt r f m
-embeds_at e = record { assignment = assignment_of e.contents; rest = e.rest; plain = contents_plain e.contents e.root_is_free; images = e.images; guard = e.guard }
+-- what lies in a region has images there, up to order, each with what its contexts stand for
+abbrev mutual
+  pub level_images_of : {c : Contents} {l : Level} {ns : List ℕ} {m rest : Region} → LevelLies c l ns m rest → LevelImages (assignment_of c) l ns m rest
+  level_images_of (level_lies i j k) = level_images i j (membrane_images_of k)
+
+  pub membrane_images_of : {c : Contents} {ls : Levels} {ns : List ℕ} {ms rest : Regions} → MembranesLie c ls ns ms rest → MembraneImages (assignment_of c) ls ns ms rest
+  membrane_images_of no_membrane_lies = no_membrane_image
+  membrane_images_of {c} (membrane_lies {contexts = ps} {rule_contexts = qs} {rest = rest} k i a u q) =
+      membrane_image_and k (level_images_of i) a (left_filling c ps qs rest u) (membrane_images_of q)
+
+mutual
+  pub each_left_of : {c : Contents} {l : Level} {ns : List ℕ} {m rest : Region} (i : LevelLies c l ns m rest) → EachLeft c (level_images_of i)
+  each_left_of (level_lies i j k) = each_left_in k
+
+  each_left_in : {c : Contents} {ls : Levels} {ns : List ℕ} {ms rest : Regions} (k : MembranesLie c ls ns ms rest) → EachLeftIn c (membrane_images_of k)
+  each_left_in no_membrane_lies = tt
+  each_left_in (membrane_lies k i a u q) = (u, each_left_of i, each_left_in q)
+
+-- an embedding is one up to order
+abbrev pub embeds_loosely : {r : Rule} {f : List ℕ} {m : Region} → EmbedsAt r f m → EmbedsLoosely r f m
+embeds_loosely e = record { assignment = assignment_of e.contents; rest = e.rest; plain = contents_plain e.contents e.root_is_free; images = level_images_of e.lies; guard = e.guard }
 
 -- a level has the raw process of a firing, up to order
 pub record RawProcess (S : Region) (L : Level) : Type 0 where
@@ -234,7 +257,7 @@ raw_process (fires_here {r = r} {f = f} {xs = xs} {ms = ms} {rs = rs} {L = L} st
     let b = made_process c F.makes in
     record {
       process = pair b.process (pair (head_wires t (head_of r) F.bound) (renamed of_solid (region_process F.at.rest)));
-      raw = raw_here (record { at = embeds_at F.at; body = b.process; is_body = b.is; bound = F.bound; bounded = F.bounded; is = refl }) (taken_put stands);
+      raw = raw_here (record { at = embeds_loosely F.at; body = b.process; is_body = b.is; bound = F.bound; bounded = F.bounded; is = refl }) (taken_put stands);
       order = r_chain (r_same (ap level_process F.is)) (raw_joined t (head_of r) F.bound b.process F.at.rest F.outs F.made_membranes F.made_rules b.order);
     }
 raw_process (fires_below {n = n} {xs = xs} {ms = ms} {ms' = ms'} {rs = rs} {L = L} taken R) =

@@ -11,12 +11,12 @@ use Rattle.lmn_reduction.specs.Instances.{rules_of_contexts}
 use Rattle.lmn_congruence.proofs.Reordered.{SamePiece, itself, pieces, reordered_pieces}
 use Rattle.lmn_congruence.proofs.Shuffles.{shuffle_flip}
 use Rattle.lmn_adequacy.specs.Accepted.{Accepted, AtMostOne, EachLevel, EachOf, all_contexts, all_rule_contexts, contexts_in, own_membranes, own_contexts, own_rule_contexts, own_rules, rule_contexts_in}
-use Rattle.lmn_adequacy.specs.Embedding.{AtomImages, EmbedsAt, KeepsLinks, LevelImages, MembraneImages, Plain, TakenRegion, TypedParts, filling, image_and, level_images, membrane_image_and, no_image, no_membrane_image, no_part, no_part_of_atom, part_and, typed_later}
-use Rattle.lmn_adequacy.specs.Next.{Contents, EachLeft, EachLeftIn, EmbedsInOrder, LeftToContext, LeftToRuleContext, assignment_of, no_context, no_rule_context, one_context, one_rule_context}
+use Rattle.lmn_adequacy.specs.Embedding.{AtomImages, EmbedsAt, KeepsLinks, TakenRegion, TypedParts, image_and, no_image, no_part, no_part_of_atom, part_and, typed_later, Contents, LeftToContext, LeftToRuleContext, assignment_of, no_context, no_rule_context, one_context, one_rule_context, LevelLies, MembranesLie, level_lies, membrane_lies, no_membrane_lies, AllRules, EmbedsIn, HasEmbedding, embeds_below, embeds_here}
+use Rattle.lmn_adequacy.specs.Loose.{LevelImages, MembraneImages, Plain, filling, level_images, membrane_image_and, no_membrane_image, EmbedsLoosely, EmbedsLooselyIn, HasLooseEmbedding, embeds_loosely_below, embeds_loosely_here}
 use Rattle.lmn_adequacy.proofs.Embedding.{same_guard}
-use Rattle.lmn_adequacy.proofs.InOrder.{literal_filling}
 use Rattle.lmn_adequacy.proofs.OneEmbedding.{same_head, same_tail}
-use Rattle.lmn_adequacy.proofs.Orders.{either}
+use Rattle.lmn_adequacy.proofs.Heads.{region_there, rule_there}
+use Rattle.lmn_adequacy.proofs.Orders.{either, taken_put}
 use Rattle.lmn_adequacy.proofs.RegionPieces.{pieces_of, region_pieces}
 use Rattle.lmn_adequacy.proofs.SameParts.{shuffle_among}
 use Rattle.lmn_base.proofs.Numbers.{same_or_not}
@@ -175,14 +175,14 @@ module _ (t : Assignment) (plain : Plain t) where
     pub membranes : Name → Regions
     pub rule_lists : Name → List Rule
     pub holds : (A : Name → List SolidAtom) (M : Name → Regions) (R : Name → List Rule) → ((p : Name) → Among p (contexts_in (own_membranes l)) → (A p ≡ atoms p) × (M p ≡ membranes p))
-        → ((q : Name) → Among q (rule_contexts_in (own_membranes l)) → R q ≡ rule_lists q) → (i : LevelImages (read_as t A M R) l ns m rest) × EachLeft (contents_with t A M R) i
+        → ((q : Name) → Among q (rule_contexts_in (own_membranes l)) → R q ≡ rule_lists q) → LevelLies (contents_with t A M R) l ns m rest
 
   pub record LiteralLevels (ls : Levels) (ns : List ℕ) (ms rest : Regions) : Type 0 where
     pub atoms : Name → List SolidAtom
     pub membranes : Name → Regions
     pub rule_lists : Name → List Rule
     pub holds : (A : Name → List SolidAtom) (M : Name → Regions) (R : Name → List Rule) → ((p : Name) → Among p (contexts_in ls) → (A p ≡ atoms p) × (M p ≡ membranes p))
-        → ((q : Name) → Among q (rule_contexts_in ls) → R q ≡ rule_lists q) → (i : MembraneImages (read_as t A M R) ls ns ms rest) × EachLeftIn (contents_with t A M R) i
+        → ((q : Name) → Among q (rule_contexts_in ls) → R q ≡ rule_lists q) → MembranesLie (contents_with t A M R) ls ns ms rest
 
   left_context : (c : Contents) (ps : List Name) (xs : List SolidAtom) (ms : Regions) → AtMostOne ps → (ps ≡ [] → (xs ≡ []) × (ms ≡ no_region)) → ((p : Name) → Among p ps → (c.atoms_of p ≡ xs) × (c.membranes_of p ≡ ms)) → LeftToContext c ps xs ms
   left_context c [] xs ms a e h = let u = e refl in subst₂ (LeftToContext c []) (sym u.0) (sym u.1) no_context
@@ -225,7 +225,7 @@ module _ (t : Assignment) (plain : Plain t) where
             let y : LeftToRuleContext c qs rs = left_rule_context c qs rs one_q
             (λ e. no_rules_left t plain ps xs us rs (subst (λ w. Reordered (filling t ps w no_rule) (region_process (region xs us rs))) e d))
             (λ q i. h' q (among_left (rule_contexts_in ls) (among_left (rule_contexts_in membranes) i)) ∙ pick_in q qs rs _ i) in
-            (membrane_image_and k a.0 (record { as_often = kl.as_often }) (literal_filling c x y) b.0, ((x, y), a.1, b.1));
+            membrane_lies k a (record { as_often = kl.as_often }) (x, y) b;
       }
     where
       not_first : {p : Name} (ps qs : List Name) → EachOnce (ps ++ qs) → Among p qs → ¬ (Among p ps)
@@ -254,11 +254,11 @@ module _ (t : Assignment) (plain : Plain t) where
           atoms = u.atoms;
           membranes = u.membranes;
           rule_lists = u.rule_lists;
-          holds = λ A M R h h'. let a = u.holds A M R h h' in (level_images (images_read A M R i) (parts_read A M R j) a.0, a.1);
+          holds = λ A M R h h'. level_lies (images_read A M R i) (parts_read A M R j) (u.holds A M R h h');
         }
 
     pub membranes_literal : {ls : Levels} {ns : List ℕ} {ms rest : Regions} → MembraneImages t ls ns ms rest → Few ls → NoRules ls → EachOnce (contexts_in ls) → EachOnce (rule_contexts_in ls) → LiteralLevels ls ns ms rest
-    membranes_literal no_membrane_image few rules once once' = record { atoms = λ p. []; membranes = λ p. no_region; rule_lists = λ q. []; holds = λ A M R h h'. (no_membrane_image, tt) }
+    membranes_literal no_membrane_image few rules once once' = record { atoms = λ p. []; membranes = λ p. no_region; rule_lists = λ q. []; holds = λ A M R h h'. no_membrane_lies }
     membranes_literal (membrane_image_and {leaves = leaves} {membranes = membranes} {ls = ls} {contexts = ps} {rule_contexts = qs} {rules = rules} {n = n} {ns = ns} {ns' = os} {m = m} {rest = rest} {ms = ms} {ms' = ms'} {ms'' = ms''} k i kl d v) few no_rules once once' =
         let P = ps ++ contexts_in membranes in
         let Q = qs ++ rule_contexts_in membranes in
@@ -272,8 +272,8 @@ inner_rules (level leaves membranes contexts rule_contexts rules) e = e.1
 inner_once : (l : Level) → EachOnce (all_contexts l) → EachOnce (all_rule_contexts l) → EachOnce (contexts_in (own_membranes l)) × EachOnce (rule_contexts_in (own_membranes l))
 inner_once (level leaves membranes ps qs rules) o o' = (once_right ps (contexts_in membranes) o, once_right qs (rule_contexts_in membranes) o')
 
--- an accepted rule that embeds does so with contexts that stand for what is left to them, in its order
-pub embeds_in_order : {r : Rule} {f : List ℕ} {m : Region} → Accepted r → EmbedsAt r f m → EmbedsInOrder r f m
+-- an accepted rule that embeds up to order embeds with contexts that stand for what is left to them, in its order
+pub embeds_in_order : {r : Rule} {f : List ℕ} {m : Region} → Accepted r → EmbedsLoosely r f m → EmbedsAt r f m
 embeds_in_order {r} {f} {m} a e =
     let t = e.assignment in
     let o = inner_once (head_of r) a.once.0 a.once.1 in
@@ -284,7 +284,15 @@ embeds_in_order {r} {f} {m} a e =
       contents = c;
       rest = e.rest;
       root_is_free = e.plain.root_is_free;
-      images = i.0;
-      left = i.1;
+      lies = i;
       guard = same_guard t.link_of (assignment_of c).context_of u.rule_lists (typed_contexts (head_of r)) t e.guard;
     }
+
+-- and where all rules of a region are accepted, so does each that embeds in it
+pub embeds_in_its_order : {path : List ℕ} {k : ℕ} {f : List ℕ} {S : Region} → EmbedsLooselyIn path k f S → AllRules Accepted S → EmbedsIn path k f S
+embeds_in_its_order (embeds_loosely_here k e) h = embeds_here k (embeds_in_order (rule_there Accepted h.0 (taken_put k)) e)
+embeds_in_its_order (embeds_loosely_below k i) h = embeds_below k (embeds_in_its_order i (region_there Accepted h.1 k))
+
+-- so where one embeds up to order, one embeds
+pub has_embedding : (S : Region) → AllRules Accepted S → HasLooseEmbedding S → HasEmbedding S
+has_embedding S h e = record { path = e.path; number = e.number; positions = e.positions; embeds = embeds_in_its_order e.embeds h }

@@ -13,8 +13,9 @@ use Rattle.lmn_reduction.specs.Firing.{typed_contexts, typed_contexts_in, typed_
 use Rattle.lmn_reduction.specs.Parts.{IsGround}
 use Rattle.lmn_congruence.proofs.Reordered.{reordered_count}
 use Rattle.lmn_adequacy.specs.Accepted.{all_contexts, contexts_in}
-use Rattle.lmn_adequacy.specs.Embedding.{IsPart, Plain}
-use Rattle.lmn_adequacy.specs.Next.{Contents, MadeLeaves, MadeLevel, MadeMembranes, assignment_of, context_atoms, context_membranes, context_rules, kept_atoms, made_atom, part_leaves, made_connector, made_copy, made_level, made_membrane, no_made_leaf, no_made_membrane}
+use Rattle.lmn_adequacy.specs.Embedding.{IsPart, Contents, assignment_of}
+use Rattle.lmn_adequacy.specs.Loose.{Plain}
+use Rattle.lmn_adequacy.specs.Next.{MadeLeaves, MadeLevel, MadeMembranes, context_atoms, context_membranes, context_rules, kept_atoms, made_atom, part_leaves, made_connector, made_copy, made_level, made_membrane, no_made_leaf, no_made_membrane}
 use Rattle.lmn_adequacy.proofs.Bodies.{Copied, Whole, context_places, context_places_append, copied_links, copied_more, copied_none, odd_contexts, odd_not_even, past, past_differs}
 use Rattle.lmn_adequacy.proofs.Copies.{made_places}
 use Rattle.lmn_adequacy.proofs.InOrder.{contexts_listed, held, level_listed, listed, listed_both, together_both}

@@ -13,8 +13,9 @@ use Rattle.lmn_congruence.proofs.Counts.{Occurs}
 use Rattle.lmn_congruence.proofs.Reordered.{reordered_count}
 use Rattle.lmn_congruence.proofs.Solids.{put_together}
 use Rattle.lmn_adequacy.specs.Accepted.{contexts_in, own_membranes, port_links, port_links_in, port_links_of, rule_contexts_in, typed_links, typed_links_in, typed_links_of}
-use Rattle.lmn_adequacy.specs.Embedding.{AtomImages, IsPart, LevelImages, MembraneImages, Merged, Taken, TakenRegion, TypedParts, image_and, level_images, membrane_image_and, no_image, no_membrane_image, no_part, no_part_of_atom, part_and, region_first, region_later, taken_first, taken_later, typed_later}
-use Rattle.lmn_adequacy.specs.Next.{Contents, EachLeft, EachLeftIn, LeftTo, LeftToContext, LeftToRuleContext, links_at, no_context, no_rule_context, one_context, one_rule_context}
+use Rattle.lmn_adequacy.specs.Embedding.{AtomImages, IsPart, Merged, Taken, TakenRegion, TypedParts, image_and, no_image, no_part, no_part_of_atom, part_and, region_first, region_later, taken_first, taken_later, typed_later, Contents, LeftTo, LeftToContext, LeftToRuleContext, no_context, no_rule_context, one_context, one_rule_context}
+use Rattle.lmn_adequacy.specs.Loose.{LevelImages, MembraneImages, level_images, membrane_image_and, no_membrane_image, EachLeft, EachLeftIn}
+use Rattle.lmn_adequacy.specs.Next.{links_at}
 use Rattle.lmn_adequacy.proofs.Depth.{at_put}
 use Rattle.lmn_adequacy.proofs.Orders.{either, region_put, taken_put}
 use Rattle.lmn_adequacy.proofs.SameParts.{atoms_places, merged_count, one_graph, one_part}

@@ -16,15 +16,16 @@ use Rattle.lmn_congruence.proofs.LinkMaps.{closed_linked}
 use Rattle.lmn_congruence.proofs.Reordered.{reordered_count}
 use Rattle.lmn_congruence.proofs.Shuffles.{shuffle_flip}
 use Rattle.lmn_adequacy.specs.Accepted.{Accepted, EachLevel, EachOf, NoConnectorLeaf, all_contexts, all_rule_contexts, contexts_in, own_leaves, own_membranes, own_contexts, own_rule_contexts, port_links, port_links_in, port_links_of, rule_contexts_in, typed_links, typed_links_in, typed_links_of}
-use Rattle.lmn_adequacy.specs.Embedding.{AllRules, LevelImages, TakenRegion, region_first, region_later}
-use Rattle.lmn_adequacy.specs.Next.{Contents, FiresInOrder, MadeLeaves, MadeLevel, MadeMembranes, NextAt, RawAt, assignment_of, context_atoms, context_membranes, context_rules, fires_below, fires_here, kept_atoms, kept_membranes, made_atom, part_leaves, made_connector, made_copy, made_level, made_membrane, no_made_leaf, no_made_membrane, raw_level, replaced, wire_leaves}
+use Rattle.lmn_adequacy.specs.Embedding.{AllRules, TakenRegion, region_first, region_later, Contents, assignment_of}
+use Rattle.lmn_adequacy.specs.Loose.{LevelImages}
+use Rattle.lmn_adequacy.specs.Next.{FiresInOrder, MadeLeaves, MadeLevel, MadeMembranes, NextAt, RawAt, context_atoms, context_membranes, context_rules, fires_below, fires_here, kept_atoms, kept_membranes, made_atom, part_leaves, made_connector, made_copy, made_level, made_membrane, no_made_leaf, no_made_membrane, raw_level, replaced, wire_leaves}
 use Rattle.lmn_adequacy.proofs.Accepting.{accepted_bare}
 use Rattle.lmn_adequacy.proofs.Bodies.{Whole}
 use Rattle.lmn_adequacy.proofs.Closing.{body_whole, head_whole}
 use Rattle.lmn_adequacy.proofs.Commits.{beside_nothing, closed_as, region_out}
 use Rattle.lmn_adequacy.proofs.Copies.{copies_moved, made_places}
 use Rattle.lmn_adequacy.proofs.Heads.{region_there, rule_there}
-use Rattle.lmn_adequacy.proofs.InOrder.{contents_plain, held, level_listed, listed, listed_both, together_both}
+use Rattle.lmn_adequacy.proofs.InOrder.{contents_plain, each_left_of, held, level_images_of, level_listed, listed, listed_both, together_both}
 use Rattle.lmn_adequacy.proofs.Moved.{Moved, MovedList, moved_append, moved_cons, moved_inside, moved_list_same, moved_pair, moved_same, moved_solid, moved_together}
 use Rattle.lmn_adequacy.proofs.OneEmbedding.{AgreeOn, SameContexts, SameRuleContexts, parts_same, ports_agree, region_one, taken_one}
 use Rattle.lmn_adequacy.proofs.OneGuard.{guard_one}
@@ -218,14 +219,14 @@ fires_one {r} {f} {m} {L} {L'} a F F' O closed l l' =
     let t = assignment_of c in
     let s = assignment_of d in
     let hd = head_of r in
-    let ports = ports_agree e.images e'.images refl {ks = []} {ks' = []} refl in
+    let ports = ports_agree (level_images_of e.lies) (level_images_of e'.lies) refl {ks = []} {ks' = []} refl in
     let typed_agree : AgreeOn t s (typed_links hd) = λ x k. ports.links x (a.held x k) in
     let two : Linked (pair (region_process m) O) = closed_linked closed in
-    let same = parts_same t s c d e.images e'.images refl [] [] refl (λ z. occurrences z O) two.at_most_twice typed_agree (λ x k. inl (a.held x k)) e.left e'.left in
+    let same = parts_same t s c d (level_images_of e.lies) (level_images_of e'.lies) refl [] [] refl (λ z. occurrences z O) two.at_most_twice typed_agree (λ x k. inl (a.held x k)) (each_left_of e.lies) (each_left_of e'.lies) in
     let w = wires_one c.link_of d.link_of hd F.bound F'.bound F.bounded F'.bounded (λ x o. either (level_links x hd a.no_connectors (not_zero_if_one (level_occurrences x hd) o)) (λ k. ports.links x k) (λ k. typed_agree x k)) in
     let b = accepted_bare r a in
     let p = contents_plain c e.root_is_free in
-    let i : LevelImages t (level b.leaves b.membranes [] [] no_rule) f m e.rest = subst (λ k. LevelImages t k f m e.rest) b.is e.images in
+    let i : LevelImages t (level b.leaves b.membranes [] [] no_rule) f m e.rest = subst (λ k. LevelImages t k f m e.rest) b.is (level_images_of e.lies) in
     let u = level_skeleton t p i in
     let whole = head_whole r a t p e.guard b.leaves b.membranes b.is m e.rest u O closed in
     let guards = guard_one t s (typed_contexts hd) a.in_turn e.guard e'.guard (λ q k. either k (λ j. same.same_typed q j) (λ j. elim j [ ])) in

@@ -5,7 +5,9 @@ use Rattle.lmn_congruence.specs.Regions.{Region, Regions, SolidAtom, region, reg
 use Rattle.lmn_congruence.specs.Rules.{Leaf, Level, Levels, Rule, atom_leaf, connector_leaf, head_of, level, level_and, no_level, typed_leaf}
 use Rattle.lmn_reduction.specs.Assignments.{Assignment}
 use Rattle.lmn_adequacy.specs.Choice.{AtomsStand, Before, LevelStands, MembranesStand, atom_stands, leaf_positions, less_behind, less_here, level_positions, level_stands, membrane_positions, membrane_stands, no_atom_stands, no_membrane_stands, positions_of, typed_stands, whole_list, left_without}
-use Rattle.lmn_adequacy.specs.Embedding.{AtomImages, EmbedsAt, LevelImages, MembraneImages, Taken, TakenRegion, image_and, level_images, membrane_image_and, no_image, no_membrane_image, region_first, region_later, taken_first, taken_later, typed_later}
+use Rattle.lmn_adequacy.specs.Embedding.{AtomImages, EmbedsAt, Taken, TakenRegion, image_and, no_image, region_first, region_later, taken_first, taken_later, typed_later, assignment_of}
+use Rattle.lmn_adequacy.specs.Loose.{LevelImages, MembraneImages, level_images, membrane_image_and, no_membrane_image}
+use Rattle.lmn_adequacy.proofs.InOrder.{level_images_of}
 use Rattle.lmn_adequacy.proofs.OneEmbedding.{same_head, same_tail}
 use Rattle.lmn_base.proofs.Numbers.{three_ways}
 
@@ -200,5 +202,5 @@ mutual
       (membrane_stands (h n m us k).1 (level_stands_at i) (membranes_stand_at (left_without n at) c (left_stands_in at k h)))
 
 -- at the positions of an embedding stand its images
-pub images_stand : (r : Rule) (f : List ℕ) (m : Region) (e : EmbedsAt r f m) → LevelStands e.assignment (head_of r) (positions_of r f) m
-images_stand r f m e = level_stands_at e.images
+pub images_stand : (r : Rule) (f : List ℕ) (m : Region) (e : EmbedsAt r f m) → LevelStands (assignment_of e.contents) (head_of r) (positions_of r f) m
+images_stand r f m e = level_stands_at (level_images_of e.lies)

@@ -9,7 +9,8 @@ use Rattle.lmn_congruence.specs.Rules.{Level, Rule, body_of, head_of}
 use Rattle.lmn_congruence.specs.UpToOrder.{Reordered}
 use Rattle.lmn_reduction.specs.Assignments.{Assignment}
 use Rattle.lmn_reduction.specs.Instances.{Instance}
-use Rattle.lmn_adequacy.specs.Embedding.{EmbedsAt, TakenRegion}
+use Rattle.lmn_adequacy.specs.Embedding.{TakenRegion}
+use Rattle.lmn_adequacy.specs.Loose.{EmbedsLoosely}
 use Rattle.lmn_splice.specs.Splice.{of_rule, of_solid}
 
 -- what the body stands for: each link of the rule is new, and the contexts keep their links
@@ -31,7 +32,7 @@ head_wires t l (suc n) =
 -- The rule fires in a region at an embedding: an instance of the body, the connectors of the head's links, and what
 -- the images and the typed parts leave. All links of the head are below `bound`.
 pub record FiresTo (r : Rule) (f : List ℕ) (m : Region) (P : Process) : Type 0 where
-  pub at : EmbedsAt r f m
+  pub at : EmbedsLoosely r f m
   pub body : Process
   pub is_body : Instance (made at.assignment) (body_of r) body
   pub bound : ℕ

@@ -17,6 +17,7 @@ use Rattle.lmn_adequacy.proofs.Embedding.{step_embeds}
 use Rattle.lmn_adequacy.proofs.Existence.{embeds_next, next_embeds}
 use Rattle.lmn_adequacy.proofs.Heads.{all_rules_so}
 use Rattle.lmn_adequacy.proofs.InOrder.{next_up_to_order}
+use Rattle.lmn_adequacy.proofs.Literal.{has_embedding}
 use Rattle.lmn_adequacy.proofs.Numbering.{numbered_one, numbering, renamed_solid}
 use Rattle.lmn_adequacy.proofs.OneChoice.{next_from_one}
 use Rattle.lmn_adequacy.proofs.OneNext.{next_is_one}
@@ -27,7 +28,7 @@ use Rattle.lmn_adequacy.proofs.Stopping.{no_choice}
 
 -- where a step is possible a rule embeds
 pub steps_embed : StepsEmbed
-steps_embed S Q c h s = step_embeds S Q c (all_rules_so accepted_head S h) s
+steps_embed S Q c h s = has_embedding S h (step_embeds S Q c (all_rules_so accepted_head S h) s)
 
 -- an embedding has a next solid, and only an embedding has one
 pub embeddings_fire : EmbeddingsFire

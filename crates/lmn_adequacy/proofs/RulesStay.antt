@@ -8,9 +8,11 @@ use Rattle.lmn_congruence.specs.Translation.{levels, rules as listed_rules}
 use Rattle.lmn_reduction.specs.Assignments.{Assignment}
 use Rattle.lmn_congruence.proofs.Shuffles.{shuffle_flip}
 use Rattle.lmn_adequacy.specs.Accepted.{Accepted, Throughout, ThroughoutLevel, ThroughoutLevels, ThroughoutRules, all_contexts, all_rule_contexts, contexts_in, own_membranes, rule_contexts_in}
-use Rattle.lmn_adequacy.specs.Embedding.{AllRules, AllRulesIn, EachRule, LevelImages, MembraneImages, TakenRegion, level_images, membrane_image_and, no_membrane_image, region_first, region_later}
-use Rattle.lmn_adequacy.specs.Next.{Contents, EachLeft, EachLeftIn, FiresInOrder, LeftTo, LeftToContext, LeftToRuleContext, MadeLevel, MadeMembranes, NextAt, RawAt, context_membranes, context_rules, fires_below, fires_here, kept_atoms, kept_level, kept_membranes, made_level, made_membrane, no_context, no_made_membrane, no_rule_context, one_context, one_rule_context, raw_level, replaced, wire_leaves}
+use Rattle.lmn_adequacy.specs.Embedding.{AllRules, AllRulesIn, EachRule, TakenRegion, region_first, region_later, Contents, LeftTo, LeftToContext, LeftToRuleContext, no_context, no_rule_context, one_context, one_rule_context}
+use Rattle.lmn_adequacy.specs.Loose.{LevelImages, MembraneImages, level_images, membrane_image_and, no_membrane_image, EachLeft, EachLeftIn}
+use Rattle.lmn_adequacy.specs.Next.{FiresInOrder, MadeLevel, MadeMembranes, NextAt, RawAt, context_membranes, context_rules, fires_below, fires_here, kept_atoms, kept_level, kept_membranes, made_level, made_membrane, no_made_membrane, raw_level, replaced, wire_leaves}
 use Rattle.lmn_adequacy.proofs.Heads.{region_there, rule_there}
+use Rattle.lmn_adequacy.proofs.InOrder.{each_left_of, level_images_of}
 use Rattle.lmn_adequacy.proofs.OneNext.{names_split}
 use Rattle.lmn_adequacy.proofs.Orders.{either, taken_put}
 use Rattle.lmn_adequacy.proofs.SameParts.{shuffle_among}
@@ -139,7 +141,7 @@ module _ (H : Rule → Type 0) where
   fires_rules {r} a g F h =
       let e = F.at in
       let c = e.contents in
-      let u = images_rules c e.images e.left h in
+      let u = images_rules c (level_images_of e.lies) (each_left_of e.lies) h in
       let n = names_split (head_of r) in
       let k : ContextRules c (all_contexts (body_of r)) (all_rule_contexts (body_of r)) = (
         (λ p i. let j = shuffle_among (shuffle_flip a.kept) i in subst (λ w. AllRulesIn K (c.membranes_of w)) j.2 (u.1.0 j.0 (subst (Among j.0) (n.0 ∙ ap (λ w. w ++ contexts_in (own_membranes (head_of r))) a.top_contexts) j.1))),

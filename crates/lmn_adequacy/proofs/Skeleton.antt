@@ -15,7 +15,8 @@ use Rattle.lmn_congruence.proofs.LinkMaps.{two_occurrences}
 use Rattle.lmn_congruence.proofs.Renaming.{occurrences_image, occurrences_none, renamed_agree, renamed_id}
 use Rattle.lmn_congruence.proofs.Reordered.{r_right, reordered_count}
 use Rattle.lmn_congruence.proofs.Solids.{put_map, put_together}
-use Rattle.lmn_adequacy.specs.Embedding.{AtomImages, IsPart, KeepsLinks, LevelImages, MembraneImages, Plain, TakenRegion, TypedParts, filling, image_and, level_images, membrane_image_and, no_image, no_membrane_image, no_part, no_part_of_atom, part_and, typed_later}
+use Rattle.lmn_adequacy.specs.Embedding.{AtomImages, IsPart, KeepsLinks, TakenRegion, TypedParts, image_and, no_image, no_part, no_part_of_atom, part_and, typed_later}
+use Rattle.lmn_adequacy.specs.Loose.{LevelImages, MembraneImages, Plain, filling, level_images, membrane_image_and, no_membrane_image}
 use Rattle.lmn_adequacy.proofs.Embedding.{part_order}
 use Rattle.lmn_adequacy.proofs.Ends.{AllMembranes}
 use Rattle.lmn_adequacy.proofs.Exposing.{KeepsCounts}

@@ -6,7 +6,9 @@ use Rattle.lmn_congruence.specs.Regions.{Region, Regions, SolidAtom}
 use Rattle.lmn_congruence.specs.Rules.{Leaf, Level, Levels, atom_leaf, connector_leaf, head_of, level, level_and, no_level, typed_leaf}
 use Rattle.lmn_reduction.specs.Assignments.{Assignment}
 use Rattle.lmn_adequacy.specs.Choice.{Before, ChosenFrom, asked_paths, less_behind, less_here, paths, paths_from}
-use Rattle.lmn_adequacy.specs.Embedding.{AtomImages, HasEmbedding, EmbedsIn, LevelImages, MembraneImages, TakenRegion, embeds_below, embeds_here, image_and, level_images, membrane_image_and, no_image, no_membrane_image, region_first, region_later, typed_later}
+use Rattle.lmn_adequacy.specs.Embedding.{AtomImages, HasEmbedding, EmbedsIn, TakenRegion, embeds_below, embeds_here, image_and, no_image, region_first, region_later, typed_later}
+use Rattle.lmn_adequacy.specs.Loose.{LevelImages, MembraneImages, level_images, membrane_image_and, no_membrane_image}
+use Rattle.lmn_adequacy.proofs.InOrder.{level_images_of}
 use Rattle.lmn_adequacy.proofs.OneEmbedding.{region_one, taken_one}
 use Rattle.lmn_adequacy.proofs.Orders.{either}
 use Rattle.lmn_adequacy.proofs.Positions.{before_is, nothing_before, nothing_behind}
@@ -47,7 +49,7 @@ mutual
   membranes_length (membrane_image_and {ns = ns} {ns' = ns'} k l s f m) = omega (arith, length_both ns ns', level_length l, membranes_length m)
 
 same_length : {path f g : List ℕ} {k : ℕ} {S : Region} → EmbedsIn path k f S → EmbedsIn path k g S → length f ≡ length g
-same_length (embeds_here u e) (embeds_here v d) = level_length e.images ∙ ap (λ r. level_items (head_of r)) (taken_one u v).0 ∙ sym (level_length d.images)
+same_length (embeds_here u e) (embeds_here v d) = level_length (level_images_of e.lies) ∙ ap (λ r. level_items (head_of r)) (taken_one u v).0 ∙ sym (level_length (level_images_of d.lies))
 same_length {f = f} {g = g} (embeds_below {n = n} {k = k} {path = path} u e) (embeds_below v d) = same_length e (subst (EmbedsIn path k g) (sym (region_one u v).0) d)
 
 -- ---- smallest numbers

@@ -17,7 +17,7 @@ use Rattle.lmn_adequacy.proofs.Skeleton.{Parity, even, odd, parity, place, place
 use Rattle.lmn_splice.specs.Splice.{of_rule, of_solid}
 use Rattle.lmn_base.proofs.Numbers.{same_or_not, below_or_from}
 use Rattle.lmn_splice.proofs.Fusions.{apart_rule as even_not_odd, rule_once as even_differs, solid_once as odd_differs}
-use Rattle.lmn_adequacy.specs.Embedding.{Plain}
+use Rattle.lmn_adequacy.specs.Loose.{Plain}
 
 -- the number is twice some number
 abbrev pub IsEven : ℕ → Type 0

@@ -1,20 +1,33 @@
 -- Where the head of a rule lies in a region. Everything here is on lists; nothing is searched.
 use Rattle.std.specs.Prelude.{ℕ, suc, List, map, ◌≡◌, ◌≢◌, [], ◌∷◌, ◌++◌}
-use Rattle.lmn_congruence.specs.Fused.{NoConnector}
 use Rattle.lmn_congruence.specs.LinkedRules.{level_occurrences}
 use Rattle.lmn_congruence.specs.Orders.{Shuffle}
-use Rattle.lmn_congruence.specs.Process.{Free, OneToOneOn, Process, occurrences, pair, rule, together}
+use Rattle.lmn_congruence.specs.Process.{Free, OneToOneOn, occurrences}
 use Rattle.lmn_congruence.specs.Regions.{Region, Regions, SolidAtom, no_region, region, region_and, region_process}
-use Rattle.lmn_congruence.specs.Rules.{Label, Leaf, Level, Levels, Name, Rule, Rules, atom_leaf, guard_of, head_of, level, level_and, no_level, rules_list, typed_leaf}
-use Rattle.lmn_congruence.specs.UpToOrder.{Reordered}
-use Rattle.lmn_reduction.specs.Assignments.{Assignment, NoRuleAtTop}
+use Rattle.lmn_congruence.specs.Rules.{Label, Leaf, Level, Levels, Name, Rule, Rules, atom_leaf, guard_of, head_of, level, level_and, no_level, no_rule, typed_leaf}
+use Rattle.lmn_reduction.specs.Assignments.{Assignment}
 use Rattle.lmn_reduction.specs.Firing.{typed_contexts}
 use Rattle.lmn_reduction.specs.Guards.{GuardHolds}
-use Rattle.lmn_reduction.specs.Instances.{rules_of_contexts}
 use Rattle.lmn_reduction.specs.Parts.{IsGround, OnlyAtoms, Rooted, atoms_at_top}
 
--- An embedding has an assignment too. It gives each link of the rule the link of the solid at its ports, and so
--- needn't be one to one: two links that each occur once in the head may be joined in the solid.
+-- What the parts of a rule stand for where it embeds: as `Assignment`, with the lists of atoms and membranes that an
+-- untyped context stands for. A link of the rule stands for the link of the solid at its ports; this needn't be one to
+-- one, since two links that each occur once in the head may be joined in the solid.
+pub record Contents : Type 0 where
+  pub link_of : ℕ → ℕ
+  pub atoms_of : Name → List SolidAtom
+  pub membranes_of : Name → Regions
+  pub rules_of : Name → List Rule
+  pub typed_of : Name → Rooted
+
+-- the assignment: the untyped contexts as processes
+abbrev pub assignment_of : Contents → Assignment
+assignment_of c = record {
+  link_of = c.link_of;
+  context_of = λ p. region_process (region (c.atoms_of p) (c.membranes_of p) []);
+  rules_of = c.rules_of;
+  typed_of = c.typed_of;
+}
 
 -- y is item number n of zs, and ys are the others in their order
 pub data Taken {A : Type 0} : ℕ → A → List A → List A → Type 0 where
@@ -70,45 +83,50 @@ pub record KeepsLinks (t : Assignment) (l : Level) (m : Region) : Type 0 where
   pub as_often : (x : ℕ) → level_occurrences x l ≢ 0 →
       occurrences (t.link_of x) (region_process m) ≡ level_occurrences x l
 
--- what the untyped contexts, the rule contexts and the rules of a level stand for
-abbrev pub filling : Assignment → List Name → List Name → Rules → Process
-filling t contexts rule_contexts rules =
-    pair (together (map t.context_of contexts))
-    (pair (together (rules_of_contexts t rule_contexts)) (together (map rule (rules_list rules))))
+-- What the images and the typed parts leave of the image of a head membrane: its atoms and membranes are what its
+-- untyped context stands for, none where it has no context; so are its rules with its rule context.
+pub data LeftToContext (c : Contents) : List Name → List SolidAtom → Regions → Type 0 where
+  no_context : LeftToContext c [] [] no_region
+  one_context : {p : Name} → LeftToContext c (p ∷ []) (c.atoms_of p) (c.membranes_of p)
 
--- A level has images in a region: `rest` is what they and the typed parts leave of it. What is left of the image of a
--- head membrane is, up to order, what its contexts stand for; so it is nothing where the membrane has none. The
--- numbers are in the order of head items: leaves, then each membrane followed by its own items.
+pub data LeftToRuleContext (c : Contents) : List Name → List Rule → Type 0 where
+  no_rule_context : LeftToRuleContext c [] []
+  one_rule_context : {p : Name} → LeftToRuleContext c (p ∷ []) (c.rules_of p)
+
+-- what an image has left is what its contexts stand for
+abbrev pub LeftTo : Contents → List Name → List Name → Region → Type 0
+LeftTo c contexts rule_contexts (region xs ms rs) =
+    LeftToContext c contexts xs ms × LeftToRuleContext c rule_contexts rs
+
+-- A level lies in a region: `rest` is what its images and the typed parts leave of it. What is left of the image of a
+-- head membrane is what its contexts stand for; no rule is written in one. The numbers are in the order of head items:
+-- leaves, then each membrane followed by its own items.
 mutual
-  pub data LevelImages (t : Assignment) : Level → List ℕ → Region → Region → Type 0 where
-    level_images : {leaves : List Leaf} {membranes : Levels} {contexts rule_contexts : List Name} {rules : Rules}
+  pub data LevelLies (c : Contents) : Level → List ℕ → Region → Region → Type 0 where
+    level_lies : {leaves : List Leaf} {membranes : Levels} {contexts rule_contexts : List Name} {rules : Rules}
         {ns ns' : List ℕ} {xs xs' xs'' : List SolidAtom} {ms ms' : Regions} {rs : List Rule} →
-        AtomImages t leaves ns xs xs' → TypedParts t leaves xs' xs'' → MembraneImages t membranes ns' ms ms' →
-        LevelImages t (level leaves membranes contexts rule_contexts rules) (ns ++ ns')
+        AtomImages (assignment_of c) leaves ns xs xs' → TypedParts (assignment_of c) leaves xs' xs'' →
+        MembranesLie c membranes ns' ms ms' →
+        LevelLies c (level leaves membranes contexts rule_contexts rules) (ns ++ ns')
         (region xs ms rs) (region xs'' ms' rs)
 
-  pub data MembraneImages (t : Assignment) : Levels → List ℕ → Regions → Regions → Type 0 where
-    no_membrane_image : {ms : Regions} → MembraneImages t no_level [] ms ms
-    membrane_image_and : {leaves : List Leaf} {membranes ls : Levels} {contexts rule_contexts : List Name}
-        {rules : Rules} {n : ℕ} {ns ns' : List ℕ} {m rest : Region} {ms ms' ms'' : Regions} →
-        TakenRegion n m ms ms' → LevelImages t (level leaves membranes contexts rule_contexts rules) ns m rest →
-        KeepsLinks t (level leaves membranes contexts rule_contexts rules) m →
-        Reordered (filling t contexts rule_contexts rules) (region_process rest) → MembraneImages t ls ns' ms' ms'' →
-        MembraneImages t (level_and (level leaves membranes contexts rule_contexts rules) ls) (n ∷ (ns ++ ns')) ms ms''
+  pub data MembranesLie (c : Contents) : Levels → List ℕ → Regions → Regions → Type 0 where
+    no_membrane_lies : {ms : Regions} → MembranesLie c no_level [] ms ms
+    membrane_lies : {leaves : List Leaf} {membranes ls : Levels} {contexts rule_contexts : List Name}
+        {n : ℕ} {ns ns' : List ℕ} {m rest : Region} {ms ms' ms'' : Regions} →
+        TakenRegion n m ms ms' → LevelLies c (level leaves membranes contexts rule_contexts no_rule) ns m rest →
+        KeepsLinks (assignment_of c) (level leaves membranes contexts rule_contexts no_rule) m →
+        LeftTo c contexts rule_contexts rest → MembranesLie c ls ns' ms' ms'' →
+        MembranesLie c (level_and (level leaves membranes contexts rule_contexts no_rule) ls) (n ∷ (ns ++ ns')) ms ms''
 
--- what untyped contexts stand for has no connector, and no rule at its top; the root of a typed context is free
-pub record Plain (t : Assignment) : Type 0 where
-  pub no_connector : (p : Name) → NoConnector (t.context_of p)
-  pub no_rule : (p : Name) → NoRuleAtTop (t.context_of p)
-  pub root_is_free : (p : Name) → Free (t.typed_of p).root (t.typed_of p).process
-
--- a rule of a region embeds in it at the positions f
+-- A rule of a region embeds in it at the positions f: its head lies there, and its guard holds. The root of a typed
+-- context is free in it.
 pub record EmbedsAt (r : Rule) (f : List ℕ) (m : Region) : Type 0 where
-  pub assignment : Assignment
+  pub contents : Contents
   pub rest : Region
-  pub plain : Plain assignment
-  pub images : LevelImages assignment (head_of r) f m rest
-  pub guard : GuardHolds (typed_contexts (head_of r)) assignment (guard_of r)
+  pub root_is_free : (p : Name) → Free (contents.typed_of p).root (contents.typed_of p).process
+  pub lies : LevelLies contents (head_of r) f m rest
+  pub guard : GuardHolds (typed_contexts (head_of r)) (assignment_of contents) (guard_of r)
 
 -- Rule number k of the membrane at the end of the path embeds at the positions f. The path has the number of a
 -- membrane in each list that it goes through.

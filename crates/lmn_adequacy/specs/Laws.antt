@@ -17,7 +17,8 @@ use Rattle.lmn_reduction.specs.Commits.{Commit, Irreducible}
 use Rattle.lmn_reduction.specs.Steps.{Step}
 use Rattle.lmn_adequacy.specs.Accepted.{Accepted, Throughout}
 use Rattle.lmn_adequacy.specs.Choice.{Before, LevelStands, NextFrom, positions_of}
-use Rattle.lmn_adequacy.specs.Embedding.{AllRules, HasEmbedding, EmbedsAt, EmbedsIn, filling}
+use Rattle.lmn_adequacy.specs.Embedding.{AllRules, HasEmbedding, EmbedsAt, EmbedsIn, assignment_of}
+use Rattle.lmn_adequacy.specs.Loose.{filling}
 use Rattle.lmn_adequacy.specs.Next.{Next, NextAt}
 use Rattle.lmn_adequacy.specs.Numbered.{IsNumbered}
 use Rattle.lmn_adequacy.specs.Runs.{Chooser, Turn, Trace, End, Ends, irreducible}
@@ -80,7 +81,7 @@ NumbersInOrder = (r : Rule) (f g : List ℕ) → Before f g ↔ Before (position
 -- and at these positions stand the images
 abbrev pub ImagesStand : Type 0
 ImagesStand = (r : Rule) (f : List ℕ) (m : Region) (e : EmbedsAt r f m) →
-    LevelStands e.assignment (head_of r) (positions_of r f) m
+    LevelStands (assignment_of e.contents) (head_of r) (positions_of r f) m
 
 -- and each renaming of a next solid is a next solid
 abbrev pub RenamedNext : Type 0

@@ -4,70 +4,11 @@ use Rattle.lmn_congruence.specs.LinkedRules.{level_occurrences}
 use Rattle.lmn_congruence.specs.Links.{places}
 use Rattle.lmn_congruence.specs.Orders.{Among}
 use Rattle.lmn_congruence.specs.Plains.{SolidOf}
-use Rattle.lmn_congruence.specs.Process.{Free}
-use Rattle.lmn_congruence.specs.Regions.{Region, Regions, SolidAtom, no_region, region, region_and, region_process}
-use Rattle.lmn_congruence.specs.Rules.{Label, Leaf, Level, Levels, Name, Rule, Rules, atom_leaf, body_of, connector_leaf, guard_of, head_of, level, level_and, no_level, rules_list, typed_leaf}
+use Rattle.lmn_congruence.specs.Regions.{Region, Regions, SolidAtom, no_region, region, region_and}
+use Rattle.lmn_congruence.specs.Rules.{Label, Leaf, Level, Levels, Name, Rule, Rules, atom_leaf, body_of, connector_leaf, head_of, level, level_and, no_level, rules_list, typed_leaf}
 use Rattle.lmn_congruence.specs.Translation.{levels, rules as listed_rules}
-use Rattle.lmn_reduction.specs.Assignments.{Assignment}
-use Rattle.lmn_reduction.specs.Firing.{typed_contexts}
-use Rattle.lmn_reduction.specs.Guards.{GuardHolds}
-use Rattle.lmn_reduction.specs.Parts.{Rooted}
-use Rattle.lmn_adequacy.specs.Embedding.{IsPart, LevelImages, MembraneImages, Taken, TakenRegion, level_images, membrane_image_and, no_membrane_image}
+use Rattle.lmn_adequacy.specs.Embedding.{Contents, EmbedsAt, IsPart, Taken, TakenRegion}
 use Rattle.lmn_splice.specs.Splice.{of_rule, of_solid}
-
--- What the parts of a rule stand for: as `Assignment`, with the lists of atoms and membranes that an untyped context
--- stands for.
-pub record Contents : Type 0 where
-  pub link_of : ℕ → ℕ
-  pub atoms_of : Name → List SolidAtom
-  pub membranes_of : Name → Regions
-  pub rules_of : Name → List Rule
-  pub typed_of : Name → Rooted
-
--- the assignment: the untyped contexts as processes
-abbrev pub assignment_of : Contents → Assignment
-assignment_of c = record {
-  link_of = c.link_of;
-  context_of = λ p. region_process (region (c.atoms_of p) (c.membranes_of p) []);
-  rules_of = c.rules_of;
-  typed_of = c.typed_of;
-}
-
--- ---- embeddings
-
--- What the images and the typed parts leave of the image of a head membrane: its atoms and membranes are what its
--- untyped context stands for, none where it has no context; so are its rules with its rule context.
-pub data LeftToContext (c : Contents) : List Name → List SolidAtom → Regions → Type 0 where
-  no_context : LeftToContext c [] [] no_region
-  one_context : {p : Name} → LeftToContext c (p ∷ []) (c.atoms_of p) (c.membranes_of p)
-
-pub data LeftToRuleContext (c : Contents) : List Name → List Rule → Type 0 where
-  no_rule_context : LeftToRuleContext c [] []
-  one_rule_context : {p : Name} → LeftToRuleContext c (p ∷ []) (c.rules_of p)
-
--- what an image has left is what its contexts stand for
-abbrev pub LeftTo : Contents → List Name → List Name → Region → Type 0
-LeftTo c contexts rule_contexts (region xs ms rs) =
-    LeftToContext c contexts xs ms × LeftToRuleContext c rule_contexts rs
-
--- in each image of a head membrane
-abbrev mutual
-  pub EachLeft : (c : Contents) {t : Assignment} {l : Level} {ns : List ℕ} {m rest : Region} → LevelImages t l ns m rest → Type 0
-  EachLeft c (level_images i j k) = EachLeftIn c k
-
-  pub EachLeftIn : (c : Contents) {t : Assignment} {ls : Levels} {ns : List ℕ} {ms rest : Regions} → MembraneImages t ls ns ms rest → Type 0
-  EachLeftIn c no_membrane_image = Unit {0}
-  EachLeftIn c (membrane_image_and {contexts = contexts} {rule_contexts = rule_contexts} {rest = rest} k d e f g) =
-      LeftTo c contexts rule_contexts rest × EachLeft c d × EachLeftIn c g
-
--- An embedding whose contexts stand for the lists that are left to them. The root of a typed context is free in it.
-pub record EmbedsInOrder (r : Rule) (f : List ℕ) (m : Region) : Type 0 where
-  pub contents : Contents
-  pub rest : Region
-  pub root_is_free : (p : Name) → Free (contents.typed_of p).root (contents.typed_of p).process
-  pub images : LevelImages (assignment_of contents) (head_of r) f m rest
-  pub left : EachLeft contents images
-  pub guard : GuardHolds (typed_contexts (head_of r)) (assignment_of contents) (guard_of r)
 
 -- ---- what stays
 
@@ -166,7 +107,7 @@ raw_level (region xs ms rs) wires outs made new_rules =
 
 -- the rule fires at an embedding; all links of the head are below `bound`
 pub record FiresInOrder (r : Rule) (f : List ℕ) (m : Region) (L : Level) : Type 0 where
-  pub at : EmbedsInOrder r f m
+  pub at : EmbedsAt r f m
   pub outs : List Leaf
   pub made_membranes : List Level
   pub made_rules : List Rule

@@ -22,7 +22,8 @@ use Rattle.lmn_reduction.specs.Assignments.{Assignment}
 use Rattle.lmn_reduction.specs.Parts.{Rooted}
 use Rattle.lmn_congruence.specs.Translation.{label_of, leaf_of}
 use Rattle.lmn_adequacy.specs.Accepted.{NoConnectorLeaf, EachLevel, EachOf, own_leaves, own_contexts, own_rule_contexts, own_rules}
-use Rattle.lmn_adequacy.specs.Embedding.{KeepsLinks, Plain, IsPart}
+use Rattle.lmn_adequacy.specs.Embedding.{KeepsLinks, IsPart}
+use Rattle.lmn_adequacy.specs.Loose.{Plain}
 use Rattle.lmn_heap.specs.Solid.{IsNaming}
 use Rattle.lmn_bridge.specs.HeapRegions.{HeapReading, region_at, regions_at}
 use Rattle.lmn_bridge.proofs.Pieces.{atom_at}

@@ -7,7 +7,7 @@ use Rattle.lmn_congruence.specs.UpToOrder.{Reordered, r_unit, r_swap, r_regroup,
 use Rattle.lmn_reduction.specs.Assignments.{Assignment, NoRuleAtTop}
 use Rattle.lmn_reduction.specs.Instances.{rules_of_contexts}
 use Rattle.lmn_adequacy.specs.Accepted.{own_contexts, own_rule_contexts, own_rules}
-use Rattle.lmn_adequacy.specs.Embedding.{Plain}
+use Rattle.lmn_adequacy.specs.Loose.{Plain}
 use Rattle.lmn_bridge.proofs.Lying.{fills}
 use Rattle.std.proofs.lemmas.List.{nil_from_length}
 

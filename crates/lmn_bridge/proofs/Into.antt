@@ -19,8 +19,8 @@ use Rattle.lmn_congruence.specs.Rules as tree
 use Rattle.lmn_congruence.specs.Translation.{label_of, name_of}
 use Rattle.lmn_reduction.specs.Assignments.{Assignment}
 use Rattle.lmn_adequacy.specs.Accepted.{EachOf, own_membranes as inner_levels, contexts_in, rule_contexts_in, EachLevel, NoConnectorLeaf, own_leaves}
-use Rattle.lmn_adequacy.specs.Embedding.{Plain, LevelImages, IsPart}
-use Rattle.lmn_adequacy.specs.Next.{Contents, assignment_of}
+use Rattle.lmn_adequacy.specs.Embedding.{IsPart, Contents, assignment_of}
+use Rattle.lmn_adequacy.specs.Loose.{Plain, LevelImages}
 use Rattle.lmn_adequacy.proofs.InOrder.{contents_plain}
 use Rattle.lmn_bridge.specs.HeapRegions.{HeapReading, regions_at, region_at}
 use Rattle.lmn_bridge.proofs.Pieces.{atom_at, atom_by, atoms_each}

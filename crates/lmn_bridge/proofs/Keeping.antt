@@ -15,7 +15,8 @@ use Rattle.lmn_reduction.specs.Assignments.{Assignment}
 use Rattle.lmn_reduction.specs.Instances.{rules_of_contexts}
 use Rattle.lmn_congruence.proofs.Reordered.{r_right}
 use Rattle.lmn_adequacy.specs.Accepted.{own_contexts, own_rule_contexts, own_rules}
-use Rattle.lmn_adequacy.specs.Embedding.{KeepsLinks, filling}
+use Rattle.lmn_adequacy.specs.Embedding.{KeepsLinks}
+use Rattle.lmn_adequacy.specs.Loose.{filling}
 use Rattle.lmn_adequacy.proofs.Orders.{r_both}
 use Rattle.lmn_bridge.specs.HeapRegions.{HeapReading, regions_at, region_at}
 use Rattle.lmn_bridge.proofs.Pieces.{atom_at}

@@ -11,7 +11,8 @@ use Rattle.lmn_reduction.specs.Assignments.{Assignment}
 use Rattle.lmn_reduction.specs.Parts.{Rooted}
 use Rattle.lmn_heap.proofs.ListLemmas.{in_without}
 use Rattle.lmn_solid.specs.Embeddings.{index_of}
-use Rattle.lmn_adequacy.specs.Embedding.{Taken, AtomImages, no_image, image_and, typed_later, LevelImages, level_images, MembraneImages, no_membrane_image, membrane_image_and, TakenRegion, region_first, region_later, KeepsLinks, filling}
+use Rattle.lmn_adequacy.specs.Embedding.{Taken, AtomImages, no_image, image_and, typed_later, TakenRegion, region_first, region_later, KeepsLinks}
+use Rattle.lmn_adequacy.specs.Loose.{LevelImages, level_images, MembraneImages, no_membrane_image, membrane_image_and, filling}
 use Rattle.lmn_bridge.specs.HeapRegions.{HeapReading, regions_at, region_at}
 use Rattle.lmn_bridge.proofs.Pieces.{atom_at, atoms_each, numbers, taken_in}
 use Rattle.lmn_bridge.proofs.Counting.{list_atoms}

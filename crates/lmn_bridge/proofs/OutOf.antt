@@ -20,7 +20,8 @@ use Rattle.lmn_congruence.specs.Regions.{Region, region}
 use Rattle.lmn_congruence.specs.Translation.{name_of}
 use Rattle.lmn_reduction.specs.Assignments.{Assignment}
 use Rattle.lmn_adequacy.specs.Accepted.{NoConnectorLeaf, EachLevel, own_leaves}
-use Rattle.lmn_adequacy.specs.Embedding.{Plain, LevelImages, IsPart}
+use Rattle.lmn_adequacy.specs.Embedding.{IsPart}
+use Rattle.lmn_adequacy.specs.Loose.{Plain, LevelImages}
 use Rattle.lmn_heap.specs.Solid.{IsNaming}
 use Rattle.lmn_bridge.specs.HeapRegions.{HeapReading, regions_at, region_at}
 use Rattle.lmn_bridge.proofs.Pieces.{atom_at, atoms_each}

@@ -7,7 +7,8 @@ use Rattle.lmn_heap.proofs.Listing.{in_without_of, distinct_without}
 use Rattle.lmn_congruence.specs.Regions.{SolidAtom, Region, Regions, region, region_and, region_process}
 use Rattle.lmn_congruence.specs.Rules.{Leaf, Level, Levels, Rule, level}
 use Rattle.lmn_reduction.specs.Assignments.{Assignment}
-use Rattle.lmn_adequacy.specs.Embedding.{AtomImages, no_image, image_and, typed_later, LevelImages, level_images, MembraneImages, no_membrane_image, membrane_image_and, TakenRegion, region_first, region_later, KeepsLinks, filling}
+use Rattle.lmn_adequacy.specs.Embedding.{AtomImages, no_image, image_and, typed_later, TakenRegion, region_first, region_later, KeepsLinks}
+use Rattle.lmn_adequacy.specs.Loose.{LevelImages, level_images, MembraneImages, no_membrane_image, membrane_image_and, filling}
 use Rattle.lmn_congruence.specs.UpToOrder.{Reordered}
 use Rattle.lmn_bridge.specs.HeapRegions.{HeapReading, regions_at, region_at}
 use Rattle.lmn_bridge.proofs.Pieces.{atom_at, atoms_each, numbers, taken_out}

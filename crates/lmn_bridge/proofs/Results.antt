@@ -27,7 +27,8 @@ use Rattle.lmn_congruence.specs.Process.{Process}
 use Rattle.lmn_reduction.specs.Commits.{Irreducible}
 use Rattle.lmn_reduction.specs.Steps.{Step}
 use Rattle.lmn_adequacy.specs.Accepted.{typed_links, port_links, EachLevel, EachOf, NoConnectorLeaf, own_leaves as tree_leaves, own_membranes, own_contexts, own_rule_contexts, all_contexts, all_rule_contexts, contexts_in, rule_contexts_in}
-use Rattle.lmn_adequacy.specs.Embedding.{EmbedsAt, LevelImages, HasEmbedding as EmbedsInRegion}
+use Rattle.lmn_adequacy.specs.Embedding.{EmbedsAt, HasEmbedding as EmbedsInRegion}
+use Rattle.lmn_adequacy.specs.Loose.{LevelImages}
 use Rattle.lmn_adequacy.proofs.Results.{steps_exactly, irreducible_exactly}
 use Rattle.lmn_bridge.specs.HeapRegions.{HeapReading, region_at}
 use Rattle.lmn_bridge.specs.Laws.{HeadsAlike, SomeRuleEmbeds, heap_process}

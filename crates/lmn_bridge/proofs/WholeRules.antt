@@ -24,6 +24,9 @@ use Rattle.lmn_reduction.specs.Firing.{typed_contexts}
 use Rattle.lmn_reduction.specs.Parts.{Rooted, IsInteger, an_integer}
 use Rattle.lmn_adequacy.specs.Accepted.{InTurn, kind_in_turn, comparison_in_turn, binding_in_turn, equality_in_turn, difference_in_turn, typed_links, port_links}
 use Rattle.lmn_adequacy.specs.Embedding.{EmbedsAt}
+use Rattle.lmn_adequacy.specs.Loose.{EmbedsLoosely}
+use Rattle.lmn_adequacy.proofs.InOrder.{embeds_loosely}
+use Rattle.lmn_adequacy.proofs.Literal.{embeds_in_order}
 use Rattle.lmn_bridge.specs.Bindings.{Binds, BindsAt}
 use Rattle.lmn_bridge.specs.HeapRegions.{HeapReading, region_at}
 use Rattle.lmn_bridge.specs.Laws.{EmbedsAlike, LeastAlike, HeapStepsExactly, HeapIrreducibleExactly}
@@ -210,9 +213,10 @@ held_links r kind rule is_rule =
 
 -- ---- the law
 
--- a rule embeds on the heap exactly where it embeds in the region
-pub embeds_alike : EmbedsAlike
-embeds_alike h r m inner kind rule read forest is_rule types ns =
+-- a rule embeds on the heap exactly where it embeds in the region up to order
+embeds_loosely_alike : (h : Heap) (r : HeapReading) (m : ℕ) (inner : Forest) (kind : ℕ → TypeKind) (rule : RuleTree) → IsRead h r → HasForest h m inner → IsRule r rule → HasTypes kind rule → (ns : List ℕ) →
+    ((f : Images) × Embeds h (items_of_head kind rule.head) rule.guard m f × (numbers_left h f 0 1 [] [] (items_of_head kind rule.head) ≡ ns)) ↔ EmbedsLoosely (rule_tree r.names r.rule rule) ns (region_at h r m inner)
+embeds_loosely_alike h r m inner kind rule read forest is_rule types ns =
     let T = rule_tree r.names r.rule rule in
     let items = items_of_head kind rule.head in
     let same = heads_are r kind rule is_rule in
@@ -262,6 +266,12 @@ embeds_alike h r m inner kind rule read forest is_rule types ns =
           let f = back.0 in
           (f, unguarded ((guards_alike h r kind rule f t read is_rule back.3).1 p.guard) back.1, back.2)),
     )
+
+-- a rule embeds on the heap exactly where it embeds in the region
+pub embeds_alike : EmbedsAlike
+embeds_alike h r m inner kind rule read forest is_rule types ns =
+    let both = embeds_loosely_alike h r m inner kind rule read forest is_rule types ns in
+    ((λ p. embeds_in_order is_rule.accepted (both.0 p)), (λ e. both.1 (embeds_loosely e)))
 
 -- the least embedding is the same on both sides
 pub least_alike : LeastAlike

@@ -29,7 +29,7 @@ use Rattle.lmn_bridge.proofs.Ports.{find_place, port_named}
 use Rattle.lmn_bridge.proofs.Read.{find_tree}
 use Rattle.lmn_bridge.proofs.Lying.{TakenTree, tree_first, tree_later}
 use Rattle.lmn_base.proofs.Lists.{weigh, in_either}
-use Rattle.lmn_adequacy.proofs.Embedding.{in_a_membrane as below}
+use Rattle.lmn_adequacy.proofs.Existence.{in_a_membrane as below}
 use Rattle.lmn_heap.proofs.Common.{linked_atom}
 use Rattle.lmn_base.specs.Lists.{In}
 use Rattle.std.specs.List.{AllByRecursion}

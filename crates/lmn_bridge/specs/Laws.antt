@@ -18,7 +18,8 @@ use Rattle.lmn_congruence.specs.Translation.{rule_tree, regions, region_step}
 use Rattle.lmn_reduction.specs.Commits.{Irreducible}
 use Rattle.lmn_reduction.specs.Steps.{Step}
 use Rattle.lmn_adequacy.specs.Choice.{Before}
-use Rattle.lmn_adequacy.specs.Embedding.{EmbedsAt, Plain, LevelImages}
+use Rattle.lmn_adequacy.specs.Embedding.{EmbedsAt}
+use Rattle.lmn_adequacy.specs.Loose.{Plain, LevelImages}
 use Rattle.lmn_congruence.specs.Rules.{Name, Rule, head_of, guard_of}
 use Rattle.lmn_reduction.specs.Assignments.{Assignment}
 use Rattle.lmn_reduction.specs.Parts.{Rooted}

@@ -16,9 +16,11 @@ use Rattle.lmn_reduction.specs.Guards.{GuardHolds, alike, binds, condition_and}
 use Rattle.lmn_reduction.specs.Parts.{IsInteger, Rooted, an_integer, atoms_at_top}
 use Rattle.lmn_reduction.specs.Values.{Value}
 use Rattle.lmn_adequacy.specs.Accepted.{Accepted, InTurn, UsedIn, all_asked, all_contexts, binding_in_turn, comparison_in_turn, contexts_in, difference_in_turn, equality_in_turn, here_used, kind_in_turn, left_sides, own_membranes}
-use Rattle.lmn_adequacy.specs.Embedding.{AllRules, AtomImages, IsPart, LevelImages, MembraneImages, Merged, Taken, TakenRegion, TypedParts, from_first, from_second, image_and, level_images, membrane_image_and, merged_none, no_image, no_membrane_image, no_part, no_part_of_atom, part_and, region_first, region_later, taken_first, taken_later, typed_later}
-use Rattle.lmn_adequacy.specs.Next.{Contents, EachLeft, EachLeftIn, FiresInOrder, LeftTo, LeftToContext, MadeLeaves, MadeLevel, MadeMembranes, NextAt, RawAt, assignment_of, context_atoms, context_membranes, fires_below, fires_here, kept_atoms, kept_level, kept_membranes, made_atom, part_leaves, made_connector, made_copy, made_level, made_membrane, no_context, no_made_leaf, no_made_membrane, one_context, raw_level, replaced, wire_leaves}
+use Rattle.lmn_adequacy.specs.Embedding.{AllRules, AtomImages, IsPart, Merged, Taken, TakenRegion, TypedParts, from_first, from_second, image_and, merged_none, no_image, no_part, no_part_of_atom, part_and, region_first, region_later, taken_first, taken_later, typed_later, Contents, LeftTo, LeftToContext, assignment_of, no_context, one_context}
+use Rattle.lmn_adequacy.specs.Loose.{LevelImages, MembraneImages, level_images, membrane_image_and, no_membrane_image, EachLeft, EachLeftIn}
+use Rattle.lmn_adequacy.specs.Next.{FiresInOrder, MadeLeaves, MadeLevel, MadeMembranes, NextAt, RawAt, context_atoms, context_membranes, fires_below, fires_here, kept_atoms, kept_level, kept_membranes, made_atom, part_leaves, made_connector, made_copy, made_level, made_membrane, no_made_leaf, no_made_membrane, raw_level, replaced, wire_leaves}
 use Rattle.lmn_adequacy.proofs.Heads.{region_there, rule_there}
+use Rattle.lmn_adequacy.proofs.InOrder.{each_left_of, level_images_of}
 use Rattle.lmn_adequacy.proofs.OneNext.{names_split}
 use Rattle.lmn_adequacy.proofs.Orders.{either, taken_put}
 use Rattle.lmn_adequacy.proofs.SameParts.{shuffle_among}
@@ -328,7 +330,7 @@ module _ (H : Label → ℕ → Type 0) (makes : (z : ℤ) → InRange z → H (
       let e = F.at in
       let c = e.contents in
       let t = assignment_of c in
-      let u = images_good c e.images e.left h in
+      let u = images_good c (level_images_of e.lies) (each_left_of e.lies) h in
       let n = names_split (head_of r) in
       let contexts : ContextGood c (all_contexts (body_of r)) =
       λ p i. let j = shuffle_among (shuffle_flip a.kept) i in

@@ -18,10 +18,10 @@ use Rattle.lmn_congruence.specs.Rules as tree
 use Rattle.lmn_congruence.specs.Same.{renamed_atom}
 use Rattle.lmn_congruence.specs.Translation.{name_of, names_of, atom_or_connector, label_of, leaf_of, levels, solid_atom_of}
 use Rattle.lmn_reduction.specs.Parts.{Rooted, IsInteger, an_integer}
-use Rattle.lmn_adequacy.specs.Embedding.{IsPart}
+use Rattle.lmn_adequacy.specs.Embedding.{IsPart, Contents}
+use Rattle.lmn_adequacy.specs.Next.{DepthFirst, reaches_listed, reaches_new, reaches_none, part_leaves, kept_atoms, kept_membranes, context_atoms, context_membranes, context_rules, links_at}
 use Rattle.lmn_congruence.specs.Links.{places}
 use Rattle.lmn_congruence.proofs.Counts.{none_if_apart, one_if_equal}
-use Rattle.lmn_adequacy.specs.Next.{Contents, DepthFirst, reaches_listed, reaches_new, reaches_none, part_leaves, kept_atoms, kept_membranes, context_atoms, context_membranes, context_rules, links_at}
 use Rattle.lmn_solid.proofs.HeadTrees.{Head, Heads, head, no_head, head_and}
 use Rattle.lmn_bridge.specs.HeapRegions.{HeapReading}
 use Rattle.lmn_body.specs.declared.items.BodyItem.{BodyItem}

@@ -12,7 +12,8 @@ use Rattle.lmn_congruence.specs.Plains.{leaf_process, levels_processes}
 use Rattle.lmn_congruence.specs.Process.{together}
 use Rattle.lmn_congruence.specs.Rules as tree
 use Rattle.lmn_congruence.specs.Translation.{leaf_of, levels, rules as listed_rules}
-use Rattle.lmn_adequacy.specs.Next.{Contents, MadeLeaves, no_made_leaf, made_atom, made_connector, made_copy, MadeLevel, made_level, MadeMembranes, no_made_membrane, made_membrane, part_leaves, kept_atoms, kept_membranes, context_atoms, context_membranes, wire_leaves}
+use Rattle.lmn_adequacy.specs.Embedding.{Contents}
+use Rattle.lmn_adequacy.specs.Next.{MadeLeaves, no_made_leaf, made_atom, made_connector, made_copy, MadeLevel, made_level, MadeMembranes, no_made_membrane, made_membrane, part_leaves, kept_atoms, kept_membranes, context_atoms, context_membranes, wire_leaves}
 use Rattle.lmn_congruence.specs.Regions.{SolidAtom}
 use Rattle.lmn_solid.proofs.HeadTrees.{Head, Heads, head, no_head, head_and, size}
 use Rattle.lmn_splice.specs.Splice.{IsOneOf, of_rule, of_solid}

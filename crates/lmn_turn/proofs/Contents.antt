@@ -22,7 +22,7 @@ use Rattle.lmn_turn.proofs.Locals.{after_leaves, after_level, leaves_past, level
 use Rattle.lmn_congruence.specs.Regions as region
 use Rattle.lmn_reduction.specs.Parts.{IsInteger}
 use Rattle.lmn_base.specs.declared.solid.SolidAtom.{SolidAtom}
-use Rattle.lmn_adequacy.specs.Next.{Contents}
+use Rattle.lmn_adequacy.specs.Embedding.{Contents}
 use Rattle.lmn_solid.proofs.HeadTrees.{Head, Heads, head, no_head, head_and, heads, head_step, head_at, head_leaves, heads_leaves, size}
 use Rattle.lmn_body.specs.declared.items.BodyItem.{BodyItem}
 use Rattle.lmn_body.specs.Flattening.{BodyNames, atom_item, typed_item, body_leaf_items, context_items, body_rule_items, rule_context_items}

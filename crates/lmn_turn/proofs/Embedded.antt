@@ -18,10 +18,9 @@ use Rattle.lmn_congruence.specs.Regions.{region}
 use Rattle.lmn_congruence.specs.Rules as tree
 use Rattle.lmn_congruence.specs.Translation.{name_of, rule_tree}
 use Rattle.lmn_adequacy.specs.Accepted.{NoConnectorLeaf, EachLevel, own_leaves as tree_leaves, own_contexts, own_rule_contexts, left_sides}
-use Rattle.lmn_adequacy.specs.Embedding.{Plain, LevelImages}
-use Rattle.lmn_adequacy.specs.Next.{Contents, EmbedsInOrder, EachLeft, assignment_of}
-use Rattle.lmn_adequacy.proofs.InOrder.{contents_plain}
-use Rattle.lmn_adequacy.proofs.Literal.{embeds_in_order}
+use Rattle.lmn_adequacy.specs.Embedding.{Contents, EmbedsAt, assignment_of}
+use Rattle.lmn_adequacy.specs.Loose.{Plain, LevelImages, EachLeft}
+use Rattle.lmn_adequacy.proofs.InOrder.{contents_plain, each_left_of, level_images_of}
 use Rattle.lmn_solid.specs.declared.items.HeadItem.{HeadItem}
 use Rattle.lmn_solid.specs.Heads.{HeadTyped, atoms_of, typed_contexts_of, membranes_of}
 use Rattle.lmn_solid.specs.Embeddings.{Embeds, HasLink, HasTyped, meaning}
@@ -158,8 +157,8 @@ module _ (head_law : AcceptedHeads) (least_law : AcceptedLeast) (alike : EmbedsA
   abbrev pub numbers_at : List ℕ
   numbers_at = numbers_left h s.head.images 0 1 [] [] (head_items rule plan)
 
-  pub ordered : EmbedsInOrder (rule_tree r.names r.rule rule) (numbers_left h s.head.images 0 1 [] [] (head_items rule plan)) (region_at h r m mi)
-  ordered = embeds_in_order is_rule.accepted ((alike h r m mi kind rule read forest is_rule (plan_types table rule plan ready) numbers_at).0 (s.head.images, embeds, refl))
+  pub ordered : EmbedsAt (rule_tree r.names r.rule rule) (numbers_left h s.head.images 0 1 [] [] (head_items rule plan)) (region_at h r m mi)
+  ordered = (alike h r m mi kind rule read forest is_rule (plan_types table rule plan ready) numbers_at).0 (s.head.images, embeds, refl)
 
   abbrev c : Contents
   c = ordered.contents
@@ -168,7 +167,7 @@ module _ (head_law : AcceptedHeads) (least_law : AcceptedLeast) (alike : EmbedsA
   tree_is = is_tree r rule kind is_rule
 
   both : (i : LevelImages (assignment_of c) (tree_of r.names r.rule (head_at rule.head)) numbers_at (region_at h r m mi) ordered.rest) × EachLeft c i
-  both = subst (λ l. (i : LevelImages (assignment_of c) l numbers_at (region_at h r m mi) ordered.rest) × EachLeft c i) tree_is (ordered.images, ordered.left)
+  both = subst (λ l. (i : LevelImages (assignment_of c) l numbers_at (region_at h r m mi) ordered.rest) × EachLeft c i) tree_is (level_images_of ordered.lies, each_left_of ordered.lies)
 
   only : EachLevel (λ l. NoConnectorLeaf (tree_leaves l)) (tree_of r.names r.rule (head_at rule.head))
   only = subst (EachLevel (λ l. NoConnectorLeaf (tree_leaves l))) tree_is is_rule.accepted.no_connectors

@@ -15,8 +15,8 @@ use Rattle.lmn_congruence.specs.Regions.{Region, region}
 use Rattle.lmn_congruence.specs.Translation.{name_of}
 use Rattle.lmn_reduction.specs.Assignments.{Assignment}
 use Rattle.lmn_adequacy.specs.Accepted.{NoConnectorLeaf, EachLevel, own_leaves}
-use Rattle.lmn_adequacy.specs.Embedding.{Plain, LevelImages, IsPart}
-use Rattle.lmn_adequacy.specs.Next.{Contents, assignment_of, EachLeft}
+use Rattle.lmn_adequacy.specs.Embedding.{IsPart, Contents, assignment_of}
+use Rattle.lmn_adequacy.specs.Loose.{Plain, LevelImages, EachLeft}
 use Rattle.lmn_compile_head.specs.Heads.{EachInside}
 use Rattle.lmn_bridge.specs.HeapRegions.{HeapReading, regions_at, region_at}
 use Rattle.lmn_bridge.specs.Numbers.{numbers_left}

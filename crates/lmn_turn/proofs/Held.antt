@@ -11,8 +11,8 @@ use Rattle.lmn_congruence.specs.UpToOrder.{Reordered}
 use Rattle.lmn_reduction.specs.Assignments.{Assignment}
 use Rattle.lmn_reduction.specs.Parts.{Rooted}
 use Rattle.lmn_adequacy.specs.Accepted.{own_contexts, own_rule_contexts}
-use Rattle.lmn_adequacy.specs.Embedding.{LevelImages, level_images, MembraneImages, no_membrane_image, membrane_image_and, KeepsLinks, filling}
-use Rattle.lmn_adequacy.specs.Next.{Contents, assignment_of, LeftTo, LeftToContext, LeftToRuleContext, no_context, one_context, no_rule_context, one_rule_context, EachLeft, EachLeftIn}
+use Rattle.lmn_adequacy.specs.Embedding.{KeepsLinks, Contents, assignment_of, LeftTo, LeftToContext, LeftToRuleContext, no_context, one_context, no_rule_context, one_rule_context}
+use Rattle.lmn_adequacy.specs.Loose.{LevelImages, level_images, MembraneImages, no_membrane_image, membrane_image_and, filling, EachLeft, EachLeftIn}
 use Rattle.lmn_bridge.specs.HeapRegions.{HeapReading, regions_at}
 use Rattle.lmn_bridge.proofs.Counting.{list_atoms}
 use Rattle.lmn_bridge.proofs.Forests.{tops, Grown, taken_grown}

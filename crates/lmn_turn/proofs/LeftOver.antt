@@ -14,7 +14,7 @@ use Rattle.lmn_congruence.specs.Regions.{region}
 use Rattle.lmn_congruence.specs.Rules.{Level, Name, level}
 use Rattle.lmn_congruence.specs.Translation.{name_of, names_of}
 use Rattle.lmn_adequacy.specs.Accepted.{NoConnectorLeaf, EachOf, own_leaves}
-use Rattle.lmn_adequacy.specs.Next.{Contents}
+use Rattle.lmn_adequacy.specs.Embedding.{Contents}
 use Rattle.lmn_solid.proofs.HeadTrees.{Heads, head, no_head, head_and, sizes}
 use Rattle.lmn_body.specs.Flattening.{names_inside}
 use Rattle.lmn_bridge.specs.HeapRegions.{HeapReading, atoms_at}

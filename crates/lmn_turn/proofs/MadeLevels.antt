@@ -9,7 +9,8 @@ use Rattle.lmn_congruence.specs.Plains.{fused_leaves, fused_levels}
 use Rattle.lmn_congruence.specs.Regions as region
 use Rattle.lmn_congruence.specs.Rules as tree
 use Rattle.lmn_congruence.specs.Translation.{names_of, levels, rules as listed_rules, solid_atom_of}
-use Rattle.lmn_adequacy.specs.Next.{Contents, kept_atoms, context_atoms, context_membranes, context_rules}
+use Rattle.lmn_adequacy.specs.Embedding.{Contents}
+use Rattle.lmn_adequacy.specs.Next.{kept_atoms, context_atoms, context_membranes, context_rules}
 use Rattle.lmn_solid.proofs.HeadTrees.{Head, Heads, head, no_head, head_and, size, sizes}
 use Rattle.lmn_bridge.specs.HeapRegions.{HeapReading, atoms_at}
 use Rattle.lmn_bridge.proofs.HeadTrees.{tree_of, trees_of}

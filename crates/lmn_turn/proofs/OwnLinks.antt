@@ -15,15 +15,16 @@ use Rattle.lmn_congruence.proofs.Reordered.{reordered_count}
 use Rattle.lmn_reduction.specs.Assignments.{Assignment}
 use Rattle.lmn_reduction.specs.Firing.{typed_contexts, typed_contexts_in, typed_leaves}
 use Rattle.lmn_adequacy.specs.Accepted.{Accepted, all_contexts, contexts_in}
-use Rattle.lmn_adequacy.specs.Embedding.{IsPart, LevelImages, Plain}
-use Rattle.lmn_adequacy.specs.Next.{Contents, DepthFirst, EmbedsInOrder, MadeLeaves, MadeLevel, MadeMembranes, assignment_of, context_atoms, context_membranes, context_rules, kept_atoms, links_at, made_atom, part_leaves, made_connector, made_copy, made_level, made_membrane, no_made_leaf, no_made_membrane, raw_level, wire_leaves}
+use Rattle.lmn_adequacy.specs.Embedding.{IsPart, Contents, EmbedsAt, assignment_of}
+use Rattle.lmn_adequacy.specs.Loose.{LevelImages, Plain}
+use Rattle.lmn_adequacy.specs.Next.{DepthFirst, MadeLeaves, MadeLevel, MadeMembranes, context_atoms, context_membranes, context_rules, kept_atoms, links_at, made_atom, part_leaves, made_connector, made_copy, made_level, made_membrane, no_made_leaf, no_made_membrane, raw_level, wire_leaves}
 use Rattle.lmn_adequacy.proofs.Accepting.{accepted_bare}
 use Rattle.lmn_adequacy.proofs.Bodies.{Copied, LevelMade, Whole, context_places, context_places_append, odd_contexts, odd_not_even}
 use Rattle.lmn_adequacy.proofs.Closing.{body_whole, head_whole, raw_closes}
 use Rattle.lmn_adequacy.proofs.Commits.{closed_as}
 use Rattle.lmn_adequacy.proofs.Copies.{made_places}
 use Rattle.lmn_adequacy.proofs.Existence.{level_bound}
-use Rattle.lmn_adequacy.proofs.InOrder.{contents_plain, contexts_listed, held, level_listed, listed, listed_both, made_process, raw_joined, together_both}
+use Rattle.lmn_adequacy.proofs.InOrder.{contents_plain, contexts_listed, held, level_images_of, level_listed, listed, listed_both, made_process, raw_joined, together_both}
 use Rattle.lmn_adequacy.proofs.RawProcesses.{head_wires, made}
 use Rattle.lmn_adequacy.proofs.Skeleton.{level_skeleton, no_even_contexts, places_even}
 use Rattle.lmn_turn.proofs.PartLinks.{part_links_twice, part_root_once}
@@ -244,7 +245,7 @@ pub record RawOwn (r : Rule) (c : Contents) (rest : Region) (O : Process) (outs 
   pub closed : Closed (pair (level_process (raw_level rest (wire_leaves c.link_of (head_of r) bound) outs membranes rules)) (renamed of_solid O))
 
 -- what a body makes of a level has the links of its contents
-pub raw_own : (Block : ℕ → ℕ → Type 0) (r : Rule) (f : List ℕ) (m : Region) → Accepted r → (e : EmbedsInOrder r f m) → (O : Process) → Closed (pair (region_process m) O) →
+pub raw_own : (Block : ℕ → ℕ → Type 0) (r : Rule) (f : List ℕ) (m : Region) → Accepted r → (e : EmbedsAt r f m) → (O : Process) → Closed (pair (region_process m) O) →
     (k j : ℕ) (outs : List Leaf) (membranes : List Level) (rules : List Rule) → OwnLevel e.contents Block k j (body_of r) outs membranes rules →
     ((i n L : ℕ) → Block i L → Block n L → i ≡ n) → ((i L : ℕ) → Block i L → link_bound (region_process m) + link_bound O ≤ L) → RawOwn r e.contents e.rest O outs membranes rules
 raw_own Block r f m a e O closed k j outs membranes rules own one above =
@@ -252,7 +253,7 @@ raw_own Block r f m a e O closed k j outs membranes rules own one above =
     let t = assignment_of c in
     let p = contents_plain c e.root_is_free in
     let b = accepted_bare r a in
-    let i : LevelImages t (level b.leaves b.membranes [] [] no_rule) f m e.rest = subst (λ k. LevelImages t k f m e.rest) b.is e.images in
+    let i : LevelImages t (level b.leaves b.membranes [] [] no_rule) f m e.rest = subst (λ k. LevelImages t k f m e.rest) b.is (level_images_of e.lies) in
     let u = level_skeleton t p i in
     let n = level_bound (head_of r) in
     let whole = head_whole r a t p e.guard b.leaves b.membranes b.is m e.rest u O closed in

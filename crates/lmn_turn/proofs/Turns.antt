@@ -20,7 +20,8 @@ use Rattle.lmn_congruence.specs.Regions.{Region, region_process}
 use Rattle.lmn_congruence.specs.Rules as tree
 use Rattle.lmn_congruence.specs.Same.{renamed_atom}
 use Rattle.lmn_congruence.specs.Translation.{levels, rules as listed_rules, solid_atom_of}
-use Rattle.lmn_adequacy.specs.Next.{MadeLevel, fires_here, kept_atoms, kept_membranes, raw_level, wire_leaves, EmbedsInOrder}
+use Rattle.lmn_adequacy.specs.Embedding.{EmbedsAt, Taken}
+use Rattle.lmn_adequacy.specs.Next.{MadeLevel, fires_here, kept_atoms, kept_membranes, raw_level, wire_leaves}
 use Rattle.lmn_solid.specs.declared.items.HeadItem.{HeadItem}
 use Rattle.lmn_solid.proofs.HeadTrees.{Head, size}
 use Rattle.lmn_body.specs.declared.items.BodyItem.{BodyItem}
@@ -52,7 +53,6 @@ use Rattle.lmn_base.proofs.Lists.{map_twice, none_is_not, plus_nothing}
 use Rattle.lmn_bridge.proofs.Numbering.{all_absent as withouts_absent}
 use Rattle.lmn_congruence.proofs.Common.{rules_join, rules_listed}
 use Rattle.lmn_adequacy.specs.Accepted.{Accepted}
-use Rattle.lmn_adequacy.specs.Embedding.{Taken}
 use Rattle.lmn_bridge.proofs.HeadTrees.{tree_of}
 use Rattle.lmn_base.specs.Lists.{In}
 
@@ -188,7 +188,7 @@ module _ (h h' : Heap) (r : HeapReading) (s : Registers) (head : List HeadItem) 
     pub rules_are : rules ≡ map r.rule (rules_in h m)
 
   module _ (rule : tree.Rule) (accepted : Accepted rule) (ns : List ℕ) (number : ℕ) (others : List tree.Rule) (stands : Taken number rule (map r.rule (rules_in h m)) others)
-      (body_is : tree.body_of rule ≡ tree_of r.names r.rule hd) (e : EmbedsInOrder rule ns (region_at h r m mi)) (rest : LeavesRest e.rest)
+      (body_is : tree.body_of rule ≡ tree_of r.names r.rule hd) (e : EmbedsAt rule ns (region_at h r m mi)) (rest : LeavesRest e.rest)
       (agrees : BodyAgrees h h' r (record { name = λ a i. f.number (a, i); names = r.names; rule = r.rule }) s bn e.contents left left_mems to limit copy part 0 hd)
       (fit : AllFit r.names r.rule bn e.contents to hd)
       (wires : (x : ℕ) → level_occurrences x (tree.head_of rule) ≡ 1 → to (of_rule x) ≡ to (of_solid (e.contents.link_of x))) where

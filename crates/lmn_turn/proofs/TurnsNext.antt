@@ -23,8 +23,8 @@ use Rattle.lmn_congruence.specs.Regions.{Region, Regions, no_region, region, reg
 use Rattle.lmn_congruence.specs.Rules as tree
 use Rattle.lmn_congruence.specs.Same.{renamed_atom}
 use Rattle.lmn_congruence.specs.Translation.{levels, name_of, rule_tree}
-use Rattle.lmn_adequacy.specs.Embedding.{Taken}
-use Rattle.lmn_adequacy.specs.Next.{kept_membranes, EmbedsInOrder}
+use Rattle.lmn_adequacy.specs.Embedding.{Taken, EmbedsAt}
+use Rattle.lmn_adequacy.specs.Next.{kept_membranes}
 use Rattle.lmn_adequacy.proofs.Commits.{beside_nothing, closed_as}
 use Rattle.lmn_solid.specs.declared.items.HeadItem.{HeadItem}
 use Rattle.lmn_solid.specs.Heads.{membranes_of, links_of_head, times}
@@ -132,7 +132,7 @@ module _ (firing : AcceptedFires) (head_law : AcceptedHeads) (nested : AcceptedN
   register_inside k (inl e) = inl (sym (ap (at s) e ∙ place.at_home))
   register_inside k (inr w) = inr (subst (λ z. In (at s z) (flat mi)) (sym w.1) (place.images_below (at s (suc w.0)) (is_removed items s w.0 w.2)))
 
-  module _ (ns : List ℕ) (e : EmbedsInOrder (rule_tree r.names r.rule rule) ns (region_at h r m mi)) (has : HasContents h r rule plan s taken e.contents) (rest : IsLeft h r taken (membrane_images s items) m e.rest) where
+  module _ (ns : List ℕ) (e : EmbedsAt (rule_tree r.names r.rule rule) ns (region_at h r m mi)) (has : HasContents h r rule plan s taken e.contents) (rest : IsLeft h r taken (membrane_images s items) m e.rest) where
     -- ---- the map of raw links
 
     abbrev T : tree.Rule

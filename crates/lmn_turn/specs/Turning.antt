@@ -21,7 +21,8 @@ use Rattle.lmn_body.specs.Within.{membrane_images}
 use Rattle.lmn_congruence.specs.Regions.{Region, region}
 use Rattle.lmn_congruence.specs.Translation.{name_of, rule_tree}
 use Rattle.lmn_reduction.specs.Parts.{IsInteger}
-use Rattle.lmn_adequacy.specs.Next.{Contents, EmbedsInOrder, NextAt}
+use Rattle.lmn_adequacy.specs.Embedding.{Contents, EmbedsAt}
+use Rattle.lmn_adequacy.specs.Next.{NextAt}
 use Rattle.lmn_bridge.specs.HeapRegions.{HeapReading, atoms_at, regions_at, region_at}
 use Rattle.lmn_bridge.specs.Parts.{IsGroundPart}
 use Rattle.lmn_bridge.specs.Premises.{IsRead, HasForest, IsRule}
@@ -55,7 +56,7 @@ pub record HasContents (h : Heap) (r : HeapReading) (rule : RuleTree) (plan : Gu
 
 -- An embedding in the region of membrane m, with its contents and its rest, is that of the registers: the head takes the
 -- images of its atoms and the atoms of its typed contexts.
-abbrev pub IsRegisters : (h : Heap) (r : HeapReading) (rule : RuleTree) (plan : GuardPlan) (m : ℕ) (inner : Forest) (s : Registers) (ns : List ℕ) → EmbedsInOrder (rule_tree r.names r.rule rule) ns (region_at h r m inner) → Type 0
+abbrev pub IsRegisters : (h : Heap) (r : HeapReading) (rule : RuleTree) (plan : GuardPlan) (m : ℕ) (inner : Forest) (s : Registers) (ns : List ℕ) → EmbedsAt (rule_tree r.names r.rule rule) ns (region_at h r m inner) → Type 0
 IsRegisters h r rule plan m inner s ns e =
     let items = head_items rule plan in
     (parts : List ℕ) → PartAtoms h items s.head.images parts → let taken = images_of s items ++ parts in
@@ -102,5 +103,5 @@ TurnIsNext = (table : List RuleTree) (rule : RuleTree) (plan : GuardPlan) → Is
     (m : ℕ) (mi : Forest) → IsMem h m → HasForest h m mi →
     (index k : ℕ) → slice_get (rules_in h m) index ≡ Some k → r.rule k ≡ rule_tree r.names r.rule rule →
     (s : Registers) → IsFirstSuccess h (rule_head_code rule plan) m s.head →
-    (ns : List ℕ) (e : EmbedsInOrder (rule_tree r.names r.rule rule) ns (region_at h r m mi)) → IsRegisters h r rule plan m mi s ns e →
+    (ns : List ℕ) (e : EmbedsAt (rule_tree r.names r.rule rule) ns (region_at h r m mi)) → IsRegisters h r rule plan m mi s ns e →
     (h' : Heap) → RunsBody s (rule_body_code rule plan) h h' → HasNext h r inner rule m index ns h'
