@@ -140,7 +140,7 @@ all_below : {atoms : List SolidAtom} {items qs all : List ℕ} (P : ℕ → Type
     → (v : ℕ) → Among v all → P v
 all_below P folding.none h g v a = h v a
 all_below P (folding.printed i a d k) h g v b = all_below P k h (λ w c. g w (further c)) v b
-all_below P (folding.item {q = q} {items = items} n k) h g v b = all_below P k (last_one P items q (g q at_head) h) (λ w c. g w (further c)) v b
+all_below P (folding.item {q = q} {so_far = items} n k) h g v b = all_below P k (last_one P items q (g q at_head) h) (λ w c. g w (further c)) v b
 
 -- each item is one of the atoms
 pub items_below : (atoms : List SolidAtom) (few : AtMostTwice atoms) (items : List ℕ) → AreItems atoms items → (v : ℕ) → Among v items → v < length atoms

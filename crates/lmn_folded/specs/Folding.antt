@@ -42,13 +42,14 @@ pub data NoChildren (atoms : List SolidAtom) : List ℕ → List ℕ → Type 0 
   left : {q : ℕ} {qs items : List ℕ} (p k : ℕ) → IsChild atoms q p k → NoChildren atoms qs items → NoChildren atoms (q ∷ qs) items
 
 -- With an item all that descends from it is printed. So one goes through a list of positions, and each atom that descends
--- from no item so far becomes an item behind them. The last list has all items.
+-- from no item so far becomes an item behind them.
+-- Further atoms so_far positions all: with these items so far, all items are these once the positions are gone through.
 pub data Further (atoms : List SolidAtom) : List ℕ → List ℕ → List ℕ → Type 0 where
-  none : {items : List ℕ} → Further atoms items [] items
-  printed : {q : ℕ} {items qs all : List ℕ} (i : ℕ) → Among i items → Descends atoms i q → Further atoms items qs all →
-      Further atoms items (q ∷ qs) all
-  item : {q : ℕ} {items qs all : List ℕ} → ((i : ℕ) → Among i items → ¬ (Descends atoms i q)) →
-      Further atoms (items ++ q ∷ []) qs all → Further atoms items (q ∷ qs) all
+  none : {so_far : List ℕ} → Further atoms so_far [] so_far
+  printed : {q : ℕ} {so_far qs all : List ℕ} (i : ℕ) → Among i so_far → Descends atoms i q → Further atoms so_far qs all →
+      Further atoms so_far (q ∷ qs) all
+  item : {q : ℕ} {so_far qs all : List ℕ} → ((i : ℕ) → Among i so_far → ¬ (Descends atoms i q)) →
+      Further atoms (so_far ++ q ∷ []) qs all → Further atoms so_far (q ∷ qs) all
 
 -- First each atom that is no child, and then, in the same order, each that isn't printed yet.
 pub record AreItems (atoms : List SolidAtom) (items : List ℕ) : Type 0 where

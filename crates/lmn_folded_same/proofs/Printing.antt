@@ -357,7 +357,7 @@ firsts_once (folding.left p k c h) once = firsts_once h once.1
 further_once : {atoms : List SolidAtom} {is qs all : List ℕ} → Further atoms is qs all → EachOnce is → EachOnce all
 further_once folding.none once = once
 further_once (folding.printed i a d h) once = further_once h once
-further_once (folding.item {q = q} {items = is} n h) once = further_once h (all_different is (q ∷ []) once ((λ a. elim a [ ]), tt) apart)
+further_once (folding.item {q = q} {so_far = is} n h) once = further_once h (all_different is (q ∷ []) once ((λ a. elim a [ ]), tt) apart)
   where
     apart : (v : ℕ) → Among v is → Among v (q ∷ []) → ⊥
     apart v a at_head = n q a itself
@@ -366,7 +366,7 @@ further_once (folding.item {q = q} {items = is} n h) once = further_once h (all_
 grows : {atoms : List SolidAtom} {is qs all : List ℕ} → Further atoms is qs all → (v : ℕ) → Among v is → Among v all
 grows folding.none v a = a
 grows (folding.printed i b d h) v a = grows h v a
-grows (folding.item {q = q} {items = is} n h) v a = grows h v (among_left (q ∷ []) a)
+grows (folding.item {q = q} {so_far = is} n h) v a = grows h v (among_left (q ∷ []) a)
 
 from_items : {atoms : List SolidAtom} {is qs all : List ℕ} → Further atoms is qs all → (q : ℕ) → Among q qs → (i : ℕ) × (Among i all × Descends atoms i q)
 from_items folding.none q a = elim a [ ]
@@ -375,7 +375,7 @@ from_items {atoms} (folding.printed {q = p} {qs = qs} {all = all} i b d h) q a =
     go : (q : ℕ) → Among q (p ∷ qs) → (Among q qs → (i : ℕ) × (Among i all × Descends atoms i q)) → (i : ℕ) × (Among i all × Descends atoms i q)
     go q at_head more = (i, (grows h i b, d))
     go q (further c) more = more c
-from_items {atoms} (folding.item {q = p} {items = is} {qs = qs} {all = all} n h) q a = go q a (λ c. from_items h q c)
+from_items {atoms} (folding.item {q = p} {so_far = is} {qs = qs} {all = all} n h) q a = go q a (λ c. from_items h q c)
   where
     go : (q : ℕ) → Among q (p ∷ qs) → (Among q qs → (i : ℕ) × (Among i all × Descends atoms i q)) → (i : ℕ) × (Among i all × Descends atoms i q)
     go q at_head more = (p, (grows h p (among_right is at_head), itself))

@@ -221,8 +221,9 @@ differ_parts_code (Some g) (Some k) = NeqGround g k ∷ []
 abbrev pub bind_register : (ℕ → ℕ) → ℕ → ℕ → ℕ → ℕ
 bind_register bound x w y = if y == x then w else bound y
 
--- The conditions from left to right, where v is the next integer register. A condition on a type is met by the tests of the
--- typed contexts.
+-- The conditions from left to right, where v is the next integer register. `part` gives the number of a typed context of the
+-- head by its name, and `bound` the register of a name that is bound: such a name has no instruction of its own, since what
+-- computes its value has filled its register. A condition on a type is met by the tests of the typed contexts.
 abbrev pub guard_code : (ℕ → Option ℕ) → (ℕ → ℕ) → ℕ → List Cond → List Instr
 guard_code part bound v [] = []
 guard_code part bound v (Kind n args pos ∷ cs) = guard_code part bound v cs
