@@ -38,3 +38,4 @@ pub mod Numbering
 pub mod Stopping
 pub mod Runs
 pub mod PlainSolids
+pub mod ExampleChanges

@@ -1,5 +1,6 @@
 //! Small solids, and what they do: each the contract of an empty function.
 
+ghost use Rattle.lmn_adequacy.specs.ChangeExamples.{KeptComesFirst, TracesLeaveNothingOut, TwoFiringsAreTwoCommits};
 ghost use Rattle.lmn_adequacy.specs.Examples.{EndsMeetInOneAtom, InnerLinkDoesNotEmbed, MembraneOpens, ListDepthFirst};
 ghost use Rattle.lmn_adequacy.specs.Examples.{TheseAreAccepted, NextHasNoLoop, CopiesStandAsWritten, TracesEnd};
 
@@ -50,4 +51,22 @@ pub fn part_is_copied()
 #[tactic(auto, using(crate::proofs::ExampleTraces::traces_end))]
 pub fn traces_end()
     ensures { TracesEnd }
+{}
+
+/// `c. a. a :- b.` goes to `c. b.` beside its rule, and not to `b. c.`.
+#[tactic(auto, using(crate::proofs::ExampleChanges::kept_comes_first))]
+pub fn kept_comes_first()
+    ensures { KeptComesFirst }
+{}
+
+/// `a. a. a :- b.` comes to `b. b.` beside its rule by two commits, and not by one.
+#[tactic(auto, using(crate::proofs::ExampleChanges::two_firings_are_two_commits))]
+pub fn two_firings_are_two_commits()
+    ensures { TwoFiringsAreTwoCommits }
+{}
+
+/// Without the first or the second of its three solids this trace is none.
+#[tactic(auto, using(crate::proofs::ExampleChanges::traces_leave_nothing_out))]
+pub fn traces_leave_nothing_out()
+    ensures { TracesLeaveNothingOut }
 {}
