@@ -8,10 +8,6 @@ mod ending;
 pub mod laws;
 mod running;
 mod task;
-#[cfg(test)]
-mod test_listings;
-#[cfg(test)]
-mod tests;
 mod top;
 
 pub use ending::Ending;

@@ -10,8 +10,6 @@ mod levels;
 mod makes;
 mod names;
 mod ports;
-#[cfg(test)]
-mod tests;
 
 pub use bodies::{body, code_of_body};
 pub use levels::flatten_body;

@@ -10,8 +10,6 @@ mod fills;
 mod heads;
 mod levels;
 mod tables;
-#[cfg(test)]
-mod tests;
 
 pub use heads::{code_of_items, head};
 pub use levels::{flatten, numbers};

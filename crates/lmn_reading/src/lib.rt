@@ -3,11 +3,7 @@
 
 mod code;
 pub mod laws;
-#[cfg(test)]
-mod limit_tests;
 mod reading;
-#[cfg(test)]
-mod tests;
 
 pub use code::{Code, words};
 pub use reading::{Accepted, read};
