@@ -5,4 +5,3 @@ pub mod TallySteps
 pub mod Tables
 pub mod Renamed
 pub mod ScopeSteps
-pub mod LinkBounds

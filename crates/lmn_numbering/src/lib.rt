@@ -12,8 +12,6 @@ mod packed;
 mod scope;
 mod table;
 mod tally;
-#[cfg(test)]
-mod tests;
 
 pub use laws::levels_are_renamed;
 pub use outside::first_outside;

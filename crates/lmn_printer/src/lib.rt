@@ -12,8 +12,6 @@ mod order;
 mod printing;
 mod rules;
 mod stored;
-#[cfg(test)]
-mod tests;
 mod walk;
 mod writer;
 

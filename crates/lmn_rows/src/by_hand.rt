@@ -1,35 +1,17 @@
 //! Processes that are made in a store by its calls, and the lines that are printed of them, in the plain form and in the
 //! folded one. Rules are read of a text.
-ghost use Rattle.std.specs.Prelude.{◌≢◌, IsFalse};
-ghost use Rattle.lmn_base.specs.Solids.{connector};
 ghost use Rattle.lmn_rows.specs.Made.{IsMadeByHand};
 ghost use Rattle.lmn_store.specs.Kept.{heap_of};
 
+use crate::making::Step::{Atom, Integer, Join, Membrane, Rule};
+use crate::making::{Step, add_membrane, made, make, new_store};
 use crate::reading::read_of;
-use lmn_base::{CONNECTOR_NAME, Functor, Label, Names, Plain, Rows};
+use lmn_base::{Names, Plain, Rows};
 use lmn_folded_printer::print;
 use lmn_io::MemSink;
 use lmn_store::{LinkStore, SlabStore};
 use std::alloc::AllocGlobal;
 use std::process::Abort;
-
-/// A call. Atoms and membranes are named by the numbers that a new store gives them: the atoms from 0 on, the membranes
-/// from 1 on, and the root is 0.
-#[derive(Clone, Copy)]
-enum Step {
-    /// An atom of a name, with so many ports, in a membrane.
-    Atom(usize, &'static [u8], u8),
-    /// An atom of an integer, with one port, in a membrane.
-    Integer(usize, i64),
-    /// A membrane in a membrane.
-    Membrane(usize),
-    /// A rule in a membrane, by its number in the text.
-    Rule(usize, u32),
-    /// Two ports are joined.
-    Join(usize, u8, usize, u8),
-}
-
-use Step::{Atom, Integer, Join, Membrane, Rule};
 
 /// The text of the rules, what is made, and the line in the plain form.
 type Row = (&'static [u8], &'static [Step], &'static [u8]);
@@ -37,7 +19,7 @@ type Row = (&'static [u8], &'static [Step], &'static [u8]);
 /// The rule by which two numbers are added.
 const ADDITION: &[u8] = b"p($x), p($y) :- $z = $x + $y | p($z).";
 
-const ROWS: [Row; 21] = [
+const ROWS: [Row; 24] = [
     (
         b"a(X), b(Y) :- c(X,Y).",
         &[Atom(0, b"c", 2), Join(0, 0, 0, 1), Rule(0, 0)],
@@ -259,6 +241,35 @@ const ROWS: [Row; 21] = [
         ],
         b"b(L0). {{a(L0)}}. {c}.\n",
     ),
+    (b"", &[], b"\n"),
+    // Names that are bare, and names in quotes.
+    (
+        b"",
+        &[
+            Atom(0, b"a_B1", 0),
+            Atom(0, b"mod", 0),
+            Atom(0, b"", 0),
+            Atom(0, b"A", 0),
+            Atom(0, b"1", 0),
+            Atom(0, b"a b", 0),
+            Atom(0, b"it's", 0),
+            Atom(0, b"'", 0),
+        ],
+        b"a_B1. mod. ''. 'A'. '1'. 'a b'. 'it''s'. ''''.\n",
+    ),
+    // Integers, from the least to the greatest.
+    (
+        b"",
+        &[
+            Integer(0, 0),
+            Integer(0, -10),
+            Integer(0, i64::MAX),
+            Integer(0, i64::MIN),
+            Join(0, 0, 1, 0),
+            Join(2, 0, 3, 0),
+        ],
+        b"0(L0). -10(L0). 9223372036854775807(L1). -9223372036854775808(L1).\n",
+    ),
 ];
 
 /// What is made, with no rules, and the line in the folded form.
@@ -463,130 +474,26 @@ const FOLDED: [FoldedRow; 18] = [
     (&[Atom(0, b"a", 0), Atom(0, b"b", 0)], b"a. b.\n"),
 ];
 
-/// A new store.
-fn new_store(rt: &(impl Abort + AllocGlobal)) -> SlabStore
-    ensures { IsMadeByHand (heap_of result) }
-{
-    SlabStore::new(rt.alloc()).expect(rt, "memory")
-}
-
-/// Whether a functor is that of a connector.
-fn is_connector(functor: Functor) -> bool
-    ensures { IsFalse result → functor ≢ connector }
-{
-    match functor.label {
-        Label::Name(name) => name == CONNECTOR_NAME,
-        Label::Int(_) => false,
-    }
-}
-
-/// Places the first atom that waits.
-fn place(rt: &impl Abort, store: &mut SlabStore, m: usize)
+/// Whether a sink takes the line of what a store holds, in the folded form or in the plain one.
+fn is_printed(
+    rt: &impl Abort,
+    store: &mut SlabStore,
+    plain: &Plain,
+    names: &Names,
+    folded: bool,
+    out: &mut MemSink,
+) -> bool
     requires { IsMadeByHand (heap_of store.old) }
-    ensures { IsMadeByHand (heap_of store.new) }
 {
-    assert!(rt; store.stands(m));
-    assert!(rt; store.waits());
-    let _atom = store.place_atom(m);
+    assert!(rt; store.is_settled());
+    assert!(rt; store.is_ready());
+    let _root = store.root();
+    print(store, plain, names, folded, out).is_ok()
 }
 
-/// An atom more in a membrane.
-fn add_atom(rt: &(impl Abort + AllocGlobal), store: &mut SlabStore, m: usize, functor: Functor)
-    requires { IsMadeByHand (heap_of store.old) }
-    ensures { IsMadeByHand (heap_of store.new) }
-{
-    assert!(rt; !is_connector(functor));
-    store.make_atom(rt.alloc(), functor).expect(rt, "memory");
-    place(rt, store, m);
-}
-
-/// Places the first membrane that waits. It must have a greater number than the one in which it is placed.
-fn place_membrane(rt: &impl Abort, store: &mut SlabStore, m: usize)
-    requires { IsMadeByHand (heap_of store.old) }
-    ensures { IsMadeByHand (heap_of store.new) }
-{
-    assert!(rt; store.stands(m));
-    assert!(rt; store.mem_waits());
-    let placed = store.place_mem(m);
-    assert!(rt; m < placed);
-}
-
-/// A membrane more in a membrane.
-fn add_membrane(rt: &(impl Abort + AllocGlobal), store: &mut SlabStore, m: usize)
-    requires { IsMadeByHand (heap_of store.old) }
-    ensures { IsMadeByHand (heap_of store.new) }
-{
-    store.make_mem(rt.alloc()).expect(rt, "memory");
-    place_membrane(rt, store, m);
-}
-
-/// Room for a rule more in a membrane.
-fn make_room(rt: &(impl Abort + AllocGlobal), store: &mut SlabStore, m: usize)
-    requires { IsMadeByHand (heap_of store.old) }
-    ensures { IsMadeByHand (heap_of store.new) }
-{
-    assert!(rt; store.has_mem(m));
-    store.reserve_rules(rt.alloc(), m, 1).expect(rt, "memory");
-}
-
-/// A rule more in a membrane.
-fn add_rule(rt: &(impl Abort + AllocGlobal), store: &mut SlabStore, m: usize, rule: u32)
-    requires { IsMadeByHand (heap_of store.old) }
-    ensures { IsMadeByHand (heap_of store.new) }
-{
-    make_room(rt, store, m);
-    assert!(rt; store.has_mem(m));
-    assert!(rt; store.spare(m) >= 1);
-    store.add_rule(m, rule);
-}
-
-/// Two ports become partners.
-fn join(rt: &impl Abort, store: &mut SlabStore, a: usize, i: u8, b: usize, j: u8)
-    requires { IsMadeByHand (heap_of store.old) }
-    ensures { IsMadeByHand (heap_of store.new) }
-{
-    assert!(rt; store.has_port(a, i));
-    assert!(rt; store.has_port(b, j));
-    assert!(rt; a != b || i != j);
-    store.join(a, i, b, j);
-}
-
-/// The label of a name.
-fn label_of(rt: &impl Abort, names: &mut Names, name: &[u8]) -> Label {
-    assert!(rt; name.len() <= 255);
-    assert!(rt; names.len() < 1000);
-    Label::Name(names.put(name).expect(rt, "memory"))
-}
-
-/// One call.
-fn make(rt: &(impl Abort + AllocGlobal), store: &mut SlabStore, names: &mut Names, step: Step)
-    requires { IsMadeByHand (heap_of store.old) }
-    ensures { IsMadeByHand (heap_of store.new) }
-{
-    match step {
-        Atom(m, name, arity) => {
-            let label = label_of(rt, names, name);
-            add_atom(rt, store, m, Functor { label, arity });
-        }
-        Integer(m, integer) => {
-            let label = Label::Int(integer);
-            add_atom(rt, store, m, Functor { label, arity: 1 });
-        }
-        Membrane(m) => add_membrane(rt, store, m),
-        Rule(m, rule) => add_rule(rt, store, m, rule),
-        Join(a, i, b, j) => join(rt, store, a, i, b, j),
-    }
-}
-
-/// A store in which all of this was made.
-fn made(rt: &(impl Abort + AllocGlobal), names: &mut Names, steps: &[Step]) -> SlabStore
-    ensures { IsMadeByHand (heap_of result) }
-{
-    let mut store = new_store(rt);
-    for step in steps {
-        make(rt, &mut store, names, *step);
-    }
-    store
+/// An empty sink with so much room.
+fn sink(rt: &(impl Abort + AllocGlobal), room: usize) -> MemSink {
+    MemSink::new(rt.alloc(), room, Rows::new(rt.alloc())).expect(rt, "memory")
 }
 
 /// A sink that took the line of what a store holds, in the folded form or in the plain one.
@@ -600,11 +507,8 @@ fn printed(
 ) -> MemSink
     requires { IsMadeByHand (heap_of store.old) }
 {
-    assert!(rt; store.is_settled());
-    assert!(rt; store.is_ready());
-    let _root = store.root();
-    let mut out = MemSink::new(rt.alloc(), room, Rows::new(rt.alloc())).expect(rt, "memory");
-    print(store, plain, names, folded, &mut out).expect(rt, "room");
+    let mut out = sink(rt, room);
+    assert!(rt; is_printed(rt, store, plain, names, folded, &mut out));
     out
 }
 
@@ -628,6 +532,17 @@ fn what_is_made_is_printed(rt: HostRuntime) {
     }
 }
 
+#[test]
+fn a_full_sink_takes_no_line(rt: HostRuntime) {
+    let mut names = Names::new(rt.alloc());
+    let accepted = read_of(&rt, &mut names, b"");
+    let mut store = new_store(&rt);
+    let mut out = sink(&rt, 0);
+    let printed = is_printed(&rt, &mut store, &accepted.plain, &names, false, &mut out);
+    assert_eq!(rt; printed, false);
+    assert_eq!(rt; out.taken().len(), 0);
+}
+
 /// A store with so many membranes, each in the one before, an atom in the innermost one and one outside of all, where
 /// there is a link.
 fn walls(rt: &(impl Abort + AllocGlobal), names: &mut Names, count: usize, link: bool) -> SlabStore
@@ -635,7 +550,7 @@ fn walls(rt: &(impl Abort + AllocGlobal), names: &mut Names, count: usize, link:
 {
     let mut store = new_store(rt);
     for outer in 0..count {
-        add_membrane(rt, &mut store, outer);
+        let _membrane = add_membrane(rt, &mut store, outer);
     }
     if link {
         make(rt, &mut store, names, Atom(0, b"a", 1));

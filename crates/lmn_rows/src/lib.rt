@@ -1,9 +1,19 @@
-//! Worked rows: processes that are made by hand in a store and printed, and texts that an engine runs. Tests alone.
+//! Tests alone: stores, levels and rules that are made by hand, and texts that an engine runs.
 #![tactic(auto)]
 
 #[cfg(test)]
 mod by_hand;
 #[cfg(test)]
+mod fired;
+#[cfg(test)]
+mod making;
+#[cfg(test)]
+mod numbered;
+#[cfg(test)]
 mod reading;
 #[cfg(test)]
+mod rule_forms;
+#[cfg(test)]
 mod runs;
+#[cfg(test)]
+mod written;
