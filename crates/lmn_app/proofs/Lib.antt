@@ -9,3 +9,4 @@ mod DriveLemmas
 mod MainLemmas
 mod DemoLemmas
 mod TaskLemmas
+mod OneListing

@@ -9,3 +9,4 @@ pub mod Runnings
 pub mod Runs
 pub mod Texts
 pub mod Writing
+pub mod ListingLaws

@@ -2,6 +2,7 @@
 
 ghost use Rattle.lmn_app.specs.Demos.{SomeDemo};
 ghost use Rattle.lmn_app.specs.DemoLaws.{DemoIsFoldedRun};
+ghost use Rattle.lmn_app.specs.ListingLaws.{OneListing};
 ghost use Rattle.lmn_app.specs.Loading.{AcceptedAreNamed, AcceptedCanBeLoaded};
 ghost use Rattle.lmn_app.specs.NameExamples.{SomeNames};
 ghost use Rattle.lmn_app.specs.Texts.{AcceptedOrRefused, OneRefusal, RefusedNotAccepted};
@@ -23,6 +24,11 @@ pub fn texts_are_accepted_or_refused()
 /// The list of names of a small text.
 pub fn small_list_of_names()
     ensures { SomeNames }
+{}
+
+/// A text has one listing at most.
+pub fn listings_are_one()
+    ensures { OneListing }
 {}
 
 /// What `demo` does with its text is what `run --folded` does with a file, and its text for 2.
