@@ -46,6 +46,12 @@ fits_ground s root home sound = (
         let p = sound.shaped.ports a x.functor f in
         h x.functor f (omega (arith, l, p))
 
+-- a part that is ground in a membrane is whole
+pub ground_full : (s t : Heap) (root : ℕ × ℕ) (home : ℕ) → Sound s → IsGroundIn s root home → t ≡ s → IsWhole t root None
+ground_full s t root home sound g e =
+    let f = (fits_ground s root home sound).1 g in
+    subst (λ (h : Heap). IsWhole h root None) (sym e) (record { atoms = λ a r. tt; ends = f.ends })
+
 -- the walk finds what is reached, and that once
 pub part_atoms : (s : Heap) (root : ℕ × ℕ) (all : List ℕ) → IsPartInDepth s root all → AreAtoms s root all
 part_atoms s root all w = (

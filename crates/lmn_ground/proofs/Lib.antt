@@ -15,5 +15,4 @@ pub mod CopyLaws
 pub mod GatherLaws
 pub mod PaintedLaws
 pub mod CopiedLaws
-pub mod CleanLaws
 pub mod LoneLaws

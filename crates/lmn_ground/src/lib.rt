@@ -14,6 +14,3 @@ mod wipe;
 pub use copying::copy;
 pub use equality::{equal, is_same_port};
 pub use parts::{is_ground, size_of, take_part};
-
-#[cfg(test)]
-mod tests;

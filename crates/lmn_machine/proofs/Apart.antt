@@ -5,7 +5,7 @@ use Rattle.lmn_heap.specs.Heap.{Heap, arity_of, link_of, port_id, Unmarked}
 use Rattle.lmn_heap.specs.Graphs.{atom_map}
 use Rattle.lmn_heap.specs.Sound.{Sound}
 use Rattle.lmn_ground.specs.Spread.{IsWhole}
-use Rattle.lmn_ground.proofs.CleanLaws.{ground_full}
+use Rattle.lmn_ground.proofs.GroundLaws.{ground_full}
 use Rattle.lmn_machine.specs.Searching.{IsHeldPart}
 use Rattle.lmn_base.proofs.Numbers.{same_or_not as number_cases}
 

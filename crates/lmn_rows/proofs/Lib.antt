@@ -1,2 +1,3 @@
 mod MadeLemmas
+mod PartLemmas
 mod LinkBounds

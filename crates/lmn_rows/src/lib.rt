@@ -10,6 +10,8 @@ mod making;
 #[cfg(test)]
 mod numbered;
 #[cfg(test)]
+mod parts;
+#[cfg(test)]
 mod reading;
 #[cfg(test)]
 mod rule_forms;

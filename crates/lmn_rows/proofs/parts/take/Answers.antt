@@ -1,7 +1,7 @@
 use Rattle.lmn_store.specs.Kept.{heap_of}
 use Rattle.std.proofs.Common.{refl}
-use Rattle.lmn_ground.proofs.CleanLaws.{clean_all_taken, ground_placed}
-use Rattle.lmn_ground.proofs.tests.take.Goals as goal
+use Rattle.lmn_rows.proofs.PartLemmas.{clean_all_taken, ground_placed}
+use Rattle.lmn_rows.proofs.parts.take.Goals as goal
 
 pub take_part-requires-clause-placed : goal.take_part-requires-clause-placed
 take_part-requires-clause-placed g c = ground_placed (heap_of c.part.new.store) (heap_of c.part.new.store) _ _ c.part.ensures.ground refl

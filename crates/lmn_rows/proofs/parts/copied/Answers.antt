@@ -1,7 +1,7 @@
 use Rattle.std.proofs.Common.{ℕ}
 use Rattle.lmn_store.specs.Kept.{heap_of}
-use Rattle.lmn_ground.proofs.CleanLaws.{clean_answer, no_partner}
-use Rattle.lmn_ground.proofs.tests.copied.Goals as goal
+use Rattle.lmn_rows.proofs.PartLemmas.{clean_answer, no_partner}
+use Rattle.lmn_rows.proofs.parts.copied.Goals as goal
 
 pub copy-requires-clause-outside : goal.copy-requires-clause-outside
 copy-requires-clause-outside g c = λ b j r e. no_partner _ b j c.in-None.ensures.link e

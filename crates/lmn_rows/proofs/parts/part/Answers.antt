@@ -2,8 +2,9 @@ use Rattle.lmn_store.specs.Kept.{heap_of}
 use Rattle.std.proofs.Common.{rules, ◌<◌, sym, subst}
 use Rattle.lmn_heap.specs.Heap.{Heap, IsAtom, arity_of}
 use Rattle.lmn_ground.specs.Spread.{IsGroundIn}
-use Rattle.lmn_ground.proofs.CleanLaws.{clean_same, ground_full}
-use Rattle.lmn_ground.proofs.tests.part.Goals as goal
+use Rattle.lmn_rows.proofs.PartLemmas.{clean_same}
+use Rattle.lmn_ground.proofs.GroundLaws.{ground_full}
+use Rattle.lmn_rows.proofs.parts.part.Goals as goal
 
 pub returns-clause-clean : goal.returns-clause-clean
 returns-clause-clean g c = clean_same (heap_of c.args.store.now) (heap_of c.is_ground-ground.new.store) c.is_ground-ground.ensures.same c.requires

@@ -1,22 +1,17 @@
--- Calls that leave every mark of a port 0.
+-- Calls that leave every mark of a port 0, and what is known of parts that are ground in a membrane.
 use Rattle.std.proofs.Common.{◌≡◌, ◌≢◌, ℕ, ◌+◌, ◌<◌, List, [], ◌∷◌, length, Option, Some, None, IsSome, Result, Ok, Err, refl, sym, ap, subst, ◌∙◌, inl, inr, arith}
 use Rattle.std.proofs.lemmas.Bool.{cases_eq}
 use Rattle.std.proofs.lemmas.List.{get_or-set_other}
 use Rattle.std.specs.Option.{option_map}
 use Rattle.std.specs.Result.{IfOk, OnErr}
 use Rattle.std.specs.Prelude.{slice_index_or}
-use Rattle.lmn_base.specs.declared.functor.Functor.{Functor}
 use Rattle.lmn_base.specs.Graphs.{Reached}
-use Rattle.lmn_heap.specs.Heap.{Heap, HeapAtom, within, gone, IsInPlace, alter, with_mark, with_place, new_atom, partners_of, marks_of, arity_of, mark_of, home_of, made_atom, made_mem, marked, placed, placed_mem, joined, taken, lone_root, PortsUnmarked, taken_all}
-use Rattle.lmn_heap.specs.Sound.{Sound}
+use Rattle.lmn_heap.specs.Heap.{Heap, HeapAtom, within, gone, IsInPlace, alter, with_mark, with_place, partners_of, marks_of, arity_of, mark_of, home_of, marked, placed, taken, PortsUnmarked, taken_all}
 use Rattle.lmn_heap.specs.Graphs.{atom_map}
 use Rattle.lmn_heap.proofs.Listing.{alter_at, alter_away}
-use Rattle.lmn_ground.specs.Spread.{IsWhole, IsGroundIn}
+use Rattle.lmn_ground.specs.Spread.{IsGroundIn}
 use Rattle.lmn_ground.specs.Copies.{Remains}
 use Rattle.lmn_parts.specs.Copies.{Copied, Beside}
-use Rattle.lmn_ground.proofs.GroundLaws.{fits_ground}
-use Rattle.lmn_ground.proofs.JoinLaws.{joined_view, marks_linked, arity_linked}
-use Rattle.lmn_ground.proofs.CopiedLaws.{no_marks}
 use Rattle.lmn_heap.proofs.Common.{decide_in as in_or_not}
 
 clean_by : (s t : Heap) → ((a : ℕ) → arity_of t a ≡ arity_of s a) → ((a i : ℕ) → mark_of t a i ≡ mark_of s a i) → PortsUnmarked s → PortsUnmarked t
@@ -25,10 +20,6 @@ clean_by s t e f c a i l = f a i ∙ c a i (let h = e a in omega (arith, h, l))
 -- a heap that stays as it is stays unmarked
 pub clean_same : (s t : Heap) → t ≡ s → PortsUnmarked s → PortsUnmarked t
 clean_same s t e c = subst PortsUnmarked (sym e) c
-
--- a lone root has no marks
-pub clean_lone : (s : Heap) → s ≡ lone_root → PortsUnmarked s
-clean_lone s e = clean_same lone_root s e (λ a i l. absurd (omega (arith, l)))
 
 -- a change of atoms one by one, which leaves their ports and marks
 views : (f : ℕ → Option HeapAtom) (b : ℕ) (h : HeapAtom → HeapAtom) {X : Type 0} (view : Option HeapAtom → X) → ((o : Option HeapAtom) → view (option_map h o) ≡ view o) → (a : ℕ) → view (alter f b (option_map h) a) ≡ view (f a)
@@ -72,28 +63,6 @@ all_clean s (x ∷ xs) c = all_clean (taken s x) xs (clean_taken s x c)
 pub clean_all_taken : (s t : Heap) (xs : List ℕ) → t ≡ taken_all s xs → PortsUnmarked s → PortsUnmarked t
 clean_all_taken s t xs e c = clean_same (taken_all s xs) t e (all_clean s xs c)
 
--- nor when ports are joined
-pub clean_joined : (s t : Heap) (a i b j : ℕ) → t ≡ joined s a i b j → PortsUnmarked s → PortsUnmarked t
-clean_joined s t a i b j e c = clean_same (joined s a i b j) t e (clean_by s (joined s a i b j)
-    (λ x. joined_view (λ (o : Option HeapAtom). length (partners_of o)) arity_linked s a i b j x)
-    (λ x k. ap (λ (xs : List ℕ). slice_index_or xs k 0) (joined_view marks_of marks_linked s a i b j x)) c)
-
--- nor when an atom is made
-pub clean_made : (s t : Heap) (b : ℕ) (f : Functor) → t ≡ made_atom s b f → PortsUnmarked s → PortsUnmarked t
-clean_made s t b f e c = clean_same (made_atom s b f) t e (λ a i l. elim (cases_eq a b) [
-  | inl h ↦ subst (λ (z : ℕ). mark_of (made_atom s b f) z i ≡ 0) (sym h) (ap (λ (o : Option HeapAtom). slice_index_or (marks_of o) i 0) (alter_at s.atoms b (λ _. Some (new_atom f))) ∙ no_marks (f.arity + 1) i)
-  | inr d ↦ ap (λ (o : Option HeapAtom). slice_index_or (marks_of o) i 0) (alter_away s.atoms b (λ _. Some (new_atom f)) a d)
-      ∙ c a i (let h = ap (λ (o : Option HeapAtom). length (partners_of o)) (alter_away s.atoms b (λ _. Some (new_atom f)) a d) in omega (arith, h, l))
-])
-
--- nor when a membrane is made
-pub clean_made_mem : (s t : Heap) (m : ℕ) → t ≡ made_mem s m → PortsUnmarked s → PortsUnmarked t
-clean_made_mem s t m e c = clean_same (made_mem s m) t e c
-
--- nor when one is placed
-pub clean_placed_mem : (s t : Heap) (m n : ℕ) → t ≡ placed_mem s m n → PortsUnmarked s → PortsUnmarked t
-clean_placed_mem s t m n e c = clean_same (placed_mem s m n) t e c
-
 -- the own mark is no port's
 pub clean_own : (s t : Heap) (b k v : ℕ) → t ≡ marked s b k v → k ≡ arity_of s b → PortsUnmarked s → PortsUnmarked t
 clean_own s t b k v e own c = clean_same (marked s b k v) t e (λ a i l. elim (cases_eq a b) [
@@ -131,12 +100,6 @@ pub clean_remains : (s t : Heap) → Remains s t → PortsUnmarked s → PortsUn
 clean_remains s t h c = clean_beside s t h.copies h.beside c
 
 -- what is ground in a membrane
-
--- a part that is ground in a membrane is whole
-pub ground_full : (s t : Heap) (root : ℕ × ℕ) (home : ℕ) → Sound s → IsGroundIn s root home → t ≡ s → IsWhole t root None
-ground_full s t root home sound g e =
-    let f = (fits_ground s root home sound).1 g in
-    subst (λ (h : Heap). IsWhole h root None) (sym e) (record { atoms = λ a r. tt; ends = f.ends })
 
 -- each atom of a ground part is in place
 pub ground_placed : (s t : Heap) (root : ℕ × ℕ) (home : ℕ) → IsGroundIn s root home → t ≡ s → (a : ℕ) → Reached (atom_map t) root a → IsInPlace t a

@@ -1,10 +1,14 @@
+//! Parts of stores that are made by hand: whether they are ground, their sizes, copies of them, whether two are equal, and
+//! what is left where one is taken.
 ghost use Rattle.std.specs.Prelude.{◌≡◌, ◌<◌, None};
 ghost use Rattle.lmn_heap.specs.Heap.{IsAtom, PortsUnmarked, arity_of};
 ghost use Rattle.lmn_ground.specs.Spread.{IsGroundIn, IsWhole};
+ghost use Rattle.lmn_rows.specs.Made.{IsMadeByHand};
 ghost use Rattle.lmn_store.specs.Kept.{heap_of};
 
-use crate::{copy, equal, is_ground, size_of, take_part};
+use crate::making::{add_atom, add_membrane, join, new_store};
 use lmn_base::{Functor, Label};
+use lmn_ground::{copy, equal, is_ground, size_of, take_part};
 use lmn_store::{LinkStore, SlabStore};
 use std::alloc::AllocGlobal;
 use std::process::Abort;
@@ -21,25 +25,13 @@ fn functor(name: u32, arity: u8) -> Functor {
     }
 }
 
+/// A store that is made by hand has no marks.
+fn ports_are_unmarked(store: &SlabStore)
+    requires { IsMadeByHand (heap_of store.now) }
+    ensures { PortsUnmarked (heap_of store.now) }
+{}
+
 // Calls that keep the mark of each port 0, with their conditions looked up.
-
-fn new_store(rt: &(impl Abort + AllocGlobal)) -> SlabStore
-    ensures { PortsUnmarked (heap_of result) }
-{
-    SlabStore::new(rt.alloc()).expect(rt, "memory")
-}
-
-/// A new membrane in the root.
-fn membrane(rt: &(impl Abort + AllocGlobal), store: &mut SlabStore) -> usize
-    requires { PortsUnmarked (heap_of store.old) }
-    ensures { PortsUnmarked (heap_of store.new) }
-{
-    store.make_mem(rt.alloc()).expect(rt, "memory");
-    let root = store.root();
-    assert!(rt; store.stands(root));
-    assert!(rt; store.mem_waits());
-    store.place_mem(root)
-}
 
 /// Places the first atom that waits.
 fn place(rt: &impl Abort, store: &mut SlabStore, m: usize) -> usize
@@ -49,25 +41,6 @@ fn place(rt: &impl Abort, store: &mut SlabStore, m: usize) -> usize
     assert!(rt; store.stands(m));
     assert!(rt; store.waits());
     store.place_atom(m)
-}
-
-/// A new atom in a membrane.
-fn atom(rt: &(impl Abort + AllocGlobal), store: &mut SlabStore, m: usize, f: Functor) -> usize
-    requires { PortsUnmarked (heap_of store.old) }
-    ensures { PortsUnmarked (heap_of store.new) }
-{
-    store.make_atom(rt.alloc(), f).expect(rt, "memory");
-    place(rt, store, m)
-}
-
-fn join(rt: &impl Abort, store: &mut SlabStore, a: usize, i: u8, b: usize, j: u8)
-    requires { PortsUnmarked (heap_of store.old) }
-    ensures { PortsUnmarked (heap_of store.new) }
-{
-    assert!(rt; a != b);
-    assert!(rt; store.has_port(a, i));
-    assert!(rt; store.has_port(b, j));
-    store.join(a, i, b, j);
 }
 
 /// Gives an atom the own mark 1.
@@ -175,14 +148,14 @@ fn behind(rt: &impl Abort, store: &SlabStore, at: Option<usize>, f: Functor) -> 
 
 /// A list of so many cells, each of which holds an atom of its own. Answers the root: port 2 of the first cell.
 fn list(rt: &(impl Abort + AllocGlobal), store: &mut SlabStore, m: usize, cells: u32) -> (usize, u8)
-    requires { PortsUnmarked (heap_of store.old) }
-    ensures { PortsUnmarked (heap_of store.new) }
+    requires { IsMadeByHand (heap_of store.old) }
+    ensures { IsMadeByHand (heap_of store.new) }
 {
-    let mut after = atom(rt, store, m, functor(6, 1));
+    let mut after = add_atom(rt, store, m, functor(6, 1));
     let mut port = 0;
     for _ in 0..cells {
-        let cell = atom(rt, store, m, functor(4, 3));
-        let held = atom(rt, store, m, functor(5, 1));
+        let cell = add_atom(rt, store, m, functor(4, 3));
+        let held = add_atom(rt, store, m, functor(5, 1));
         join(rt, store, cell, 0, held, 0);
         join(rt, store, cell, 1, after, port);
         after = cell;
@@ -199,11 +172,11 @@ fn pair(
     first: u8,
     second: u8,
 ) -> (usize, u8)
-    requires { PortsUnmarked (heap_of store.old) }
-    ensures { PortsUnmarked (heap_of store.new) }
+    requires { IsMadeByHand (heap_of store.old) }
+    ensures { IsMadeByHand (heap_of store.new) }
 {
-    let a = atom(rt, store, m, functor(4, 3));
-    let b = atom(rt, store, m, functor(5, 2));
+    let a = add_atom(rt, store, m, functor(4, 3));
+    let b = add_atom(rt, store, m, functor(5, 2));
     join(rt, store, a, 1, b, first);
     join(rt, store, a, 2, b, second);
     (a, 0)
@@ -212,9 +185,10 @@ fn pair(
 /// A list is measured, compared, copied and taken. The copy's atoms come in order: cell, held atom, cell, .. and the end last.
 fn run(rt: &(impl Abort + AllocGlobal), cells: u32) {
     let mut store = new_store(rt);
-    let m = membrane(rt, &mut store);
-    let n = membrane(rt, &mut store);
+    let m = add_membrane(rt, &mut store, 0);
+    let n = add_membrane(rt, &mut store, 0);
     let x = list(rt, &mut store, m, cells);
+    ports_are_unmarked(&store);
     let items = 2 * u64::from(cells) + 1;
     holds(rt, size(rt, &mut store, x, m) == items);
     let y = copied(rt, &mut store, x, m);
@@ -334,10 +308,11 @@ const TAKEN: [Line; 2] = [
 #[test]
 fn heaps_are_written_out(rt: HostRuntime) {
     let mut store = new_store(&rt);
-    let m = membrane(&rt, &mut store);
-    let n = membrane(&rt, &mut store);
+    let m = add_membrane(&rt, &mut store, 0);
+    let n = add_membrane(&rt, &mut store, 0);
     let x = pair(&rt, &mut store, m, 0, 1);
     let y = pair(&rt, &mut store, n, 1, 0);
+    ports_are_unmarked(&store);
     holds(&rt, are(&rt, &store, 0, PAIRS.as_slice()));
     holds(&rt, grounds(&rt, &mut store, x, m));
     holds(&rt, are(&rt, &store, 0, PAIRS.as_slice()));
@@ -406,8 +381,9 @@ fn is_copy(rt: &impl Abort, store: &SlabStore, first: usize, cells: u32) -> bool
 #[test]
 fn lists_are_written_out(rt: HostRuntime) {
     let mut store = new_store(&rt);
-    let m = membrane(&rt, &mut store);
+    let m = add_membrane(&rt, &mut store, 0);
     let x = list(&rt, &mut store, m, 1000);
+    ports_are_unmarked(&store);
     holds(&rt, is_list(&rt, &store, 0, 1000, Some(m)));
     holds(&rt, grounds(&rt, &mut store, x, m));
     holds(&rt, is_list(&rt, &store, 0, 1000, Some(m)));
@@ -425,10 +401,11 @@ fn lists_are_written_out(rt: HostRuntime) {
 #[test]
 fn equal_lists_stay(rt: HostRuntime) {
     let mut store = new_store(&rt);
-    let m = membrane(&rt, &mut store);
-    let n = membrane(&rt, &mut store);
+    let m = add_membrane(&rt, &mut store, 0);
+    let n = add_membrane(&rt, &mut store, 0);
     let x = list(&rt, &mut store, m, 1000);
     let y = list(&rt, &mut store, n, 1000);
+    ports_are_unmarked(&store);
     holds(&rt, equals(&rt, &mut store, x, m, y, n));
     holds(&rt, is_list(&rt, &store, 0, 1000, Some(m)));
     holds(&rt, is_list(&rt, &store, 2001, 1000, Some(n)));
@@ -438,11 +415,12 @@ fn equal_lists_stay(rt: HostRuntime) {
 #[test]
 fn cycles(rt: HostRuntime) {
     let mut store = new_store(&rt);
-    let m = membrane(&rt, &mut store);
-    let n = membrane(&rt, &mut store);
+    let m = add_membrane(&rt, &mut store, 0);
+    let n = add_membrane(&rt, &mut store, 0);
     let x = pair(&rt, &mut store, m, 0, 1);
     let y = pair(&rt, &mut store, n, 0, 1);
     let z = pair(&rt, &mut store, n, 1, 0);
+    ports_are_unmarked(&store);
     holds(&rt, equals(&rt, &mut store, x, m, y, n));
     holds(&rt, !equals(&rt, &mut store, x, m, z, n));
     let c = copied(&rt, &mut store, z, n);
@@ -491,16 +469,15 @@ const LEFT: [Line; 6] = [
 
 /// A store with the scene.
 fn scene(rt: &(impl Abort + AllocGlobal)) -> SlabStore
-    ensures { PortsUnmarked (heap_of result) }
+    ensures { IsMadeByHand (heap_of result) }
 {
     let mut store = new_store(rt);
-    let root = store.root();
-    let m = membrane(rt, &mut store);
-    let head = atom(rt, &mut store, root, functor(4, 2));
-    let back = atom(rt, &mut store, root, functor(5, 2));
-    let near = atom(rt, &mut store, root, functor(5, 2));
-    let far = atom(rt, &mut store, m, functor(6, 1));
-    atom(rt, &mut store, m, functor(6, 1));
+    let m = add_membrane(rt, &mut store, 0);
+    let head = add_atom(rt, &mut store, 0, functor(4, 2));
+    let back = add_atom(rt, &mut store, 0, functor(5, 2));
+    let near = add_atom(rt, &mut store, 0, functor(5, 2));
+    let far = add_atom(rt, &mut store, m, functor(6, 1));
+    let _lone = add_atom(rt, &mut store, m, functor(6, 1));
     join(rt, &mut store, head, 0, back, 0);
     join(rt, &mut store, head, 1, back, 1);
     join(rt, &mut store, near, 1, far, 0);
@@ -512,6 +489,7 @@ fn scene(rt: &(impl Abort + AllocGlobal)) -> SlabStore
 #[test]
 fn heads_and_walls(rt: HostRuntime) {
     let mut store = scene(&rt);
+    ports_are_unmarked(&store);
     holds(&rt, are(&rt, &store, 0, SCENE.as_slice()));
     holds(&rt, grounds(&rt, &mut store, (1, 0), 0));
     holds(&rt, are(&rt, &store, 0, SCENE.as_slice()));

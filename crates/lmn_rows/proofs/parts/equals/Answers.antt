@@ -3,8 +3,8 @@ use Rattle.std.proofs.Common.{rules, ◌<◌, sym, subst, inr}
 use Rattle.lmn_heap.specs.Heap.{Heap, IsAtom, arity_of}
 use Rattle.std.specs.Prelude.{None}
 use Rattle.lmn_ground.specs.Spread.{IsGroundIn, IsWhole}
-use Rattle.lmn_ground.proofs.CleanLaws.{clean_same, ground_apart}
-use Rattle.lmn_ground.proofs.tests.equals.Goals as goal
+use Rattle.lmn_rows.proofs.PartLemmas.{clean_same, ground_apart}
+use Rattle.lmn_rows.proofs.parts.equals.Goals as goal
 
 pub equal-requires-clause-x : goal.equal-requires-clause-x
 equal-requires-clause-x g c = subst (λ (h : Heap). IsAtom h c.args.x.0) (sym c.part-2.ensures.same) c.part.ensures.atom
