@@ -12,8 +12,6 @@ mod others;
 mod parts;
 mod search;
 mod steps;
-#[cfg(test)]
-mod tests;
 mod whole;
 
 pub use counting::Steps;

@@ -1,8 +1,10 @@
-//! Tests alone: stores, levels and rules that are made by hand, and texts that an engine runs.
+//! Tests alone: stores, code, levels and rules that are made by hand, and texts that an engine runs.
 #![tactic(auto)]
 
 #[cfg(test)]
 mod by_hand;
+#[cfg(test)]
+mod code;
 #[cfg(test)]
 mod fired;
 #[cfg(test)]

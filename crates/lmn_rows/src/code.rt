@@ -1,9 +1,10 @@
+//! Code that is made by hand.
 ghost use Rattle.std.specs.Prelude.{◌≡◌, ◌<◌, IfOk};
 ghost use Rattle.lmn_machine.specs.Searching.{HeadInOrder};
 
-use crate::{Machine, Steps};
 use lmn_base::{NoMemory, Rows};
 use lmn_instr::{Code, Instr};
+use lmn_machine::{Machine, Steps};
 use lmn_store::{LinkStore, SlabStore};
 use std::alloc::Global;
 use std::marker::Brand;
