@@ -16,7 +16,7 @@ use Rattle.lmn_congruence.specs.Rules.{Name}
 use Rattle.lmn_congruence.specs.SolidsOfPlains.{IsSolidOf}
 use Rattle.lmn_guards.specs.declared.plan.GuardPlan.{GuardPlan}
 use Rattle.lmn_heap.specs.Heap.{Heap}
-use Rattle.lmn_io.specs.Counts.{Rose}
+use Rattle.lmn_io.specs.Counts.{FailedLast, Faults, NoneFailed}
 use Rattle.lmn_io.specs.Taking.{Takes, TakesPrefix}
 use Rattle.lmn_loading.specs.Loaded.{LoadCauses}
 use Rattle.lmn_loading.specs.declared.loading.LoadFault.TheVariants.{Size}
@@ -141,7 +141,7 @@ module _ (alloc : Global) (laws : Laws) (w : RunSettings) (small : w.size < 2 ^ 
   no_cause run.NoMemory before after = tt
   no_cause run.Failed before after = tt
 
-  counted : (end : RunEnd) (before after : ℕ) → (¬ (end ≡ run.Failed) → after ≡ before) → (end ≡ run.Failed → Rose before after) → CountsFaults (ended_as end) before after
+  counted : (end : RunEnd) (before after : Faults) → (¬ (end ≡ run.Failed) → NoneFailed before after) → (end ≡ run.Failed → FailedLast before after) → CountsFaults (ended_as end) before after
   counted run.Irreducible before after same rose = same (λ e. cc e)
   counted run.Budget before after same rose = same (λ e. cc e)
   counted run.Full before after same rose = same (λ e. cc e)
@@ -149,16 +149,16 @@ module _ (alloc : Global) (laws : Laws) (w : RunSettings) (small : w.size < 2 ^ 
   counted run.Failed before after same rose = rose refl
 
   -- how a call ends that ran so
-  pub driven_ended : (n : ℕ) (h : Heap) (end : RunEnd) (old new : Option (List ℕ)) (before after read_before read_after : ℕ) → Drove g n h end old new → (¬ (end ≡ run.Failed) → after ≡ before)
-      → (end ≡ run.Failed → Rose before after) → Ended (task.Run w) (ended_as end) (Some (Some text)) old new before after read_before read_after
+  pub driven_ended : (n : ℕ) (h : Heap) (end : RunEnd) (old new : Option (List ℕ)) (before after : Faults) (read_before read_after : ℕ) → Drove g n h end old new → (¬ (end ≡ run.Failed) → NoneFailed before after)
+      → (end ≡ run.Failed → FailedLast before after) → Ended (task.Run w) (ended_as end) (Some (Some text)) old new before after read_before read_after
   driven_ended n h end old new before after read_before read_after d same rose =
       record { cause = no_cause end read_before read_after; output = driven_output n h end old new d; counts = counted end before after same rose }
 
 -- a text whose process has too many items is refused
 pub too_large_ended : (w : RunSettings) (text : List ℕ) (names : List Name) (plain : Plain) (plans : List GuardPlan) (k : ℕ) → Accepts text names plain plans → IsWellMade plain → EachTwice (links_of plain.top)
-    → LoadCauses plain w.size (Size k) → (told : Option (List ℕ)) (count read_before read_after : ℕ)
+    → LoadCauses plain w.size (Size k) → (told : Option (List ℕ)) (count : Faults) (read_before read_after : ℕ)
     → Ended (task.Run w) (Refused (at_start 50)) (Some (Some text)) told told count count read_before read_after
 too_large_ended w text names plain plans k a well closed causes told count read_before read_after =
     let s = solids_of_plains_exist plain well closed in
     let large = causes s.0 s.1 in
-    record { cause = (too_large names plain plans a (s.0, s.1, large.0) refl, refl); output = refl; counts = refl }
+    record { cause = (too_large names plain plans a (s.0, s.1, large.0) refl, refl); output = refl; counts = no_put count }

@@ -8,6 +8,7 @@ use Rattle.lmn_base.specs.Names.{NamesPlain, first_names}
 use Rattle.lmn_congruence.specs.Rules.{Name}
 use Rattle.lmn_guards.specs.declared.plan.GuardPlan.{GuardPlan}
 use Rattle.lmn_instr.specs.declared.instr.Code.{Code}
+use Rattle.lmn_io.specs.Counts.{Faults}
 use Rattle.lmn_io.specs.Writing.{WritesText}
 use Rattle.lmn_listing.specs.Listings.{code_listings, rule_codes, rule_listings}
 use Rattle.lmn_reading.specs.Texts.{IsAcceptedAs, IsRefusedAs, LeavesNames}
@@ -31,13 +32,13 @@ module _ (text : List ℕ) (names : List Name) (plain : Plain) (plans : List Gua
   listing_is = record { names = names; plain = plain; plans = plans; accepted = a; is = refl }
 
   -- all listings are written
-  pub listed_ended : {A E : Type 0} (x : A) (old new : Option (List ℕ)) (ob oa rb ra : ℕ) → WritesText {A = A} {E = E} (rule_listings names plain.rules plans) (Ok x) old ob new oa
+  pub listed_ended : {A E : Type 0} (x : A) (old new : Option (List ℕ)) (ob oa : Faults) (rb ra : ℕ) → WritesText {A = A} {E = E} (rule_listings names plain.rules plans) (Ok x) old ob new oa
       → Ended task.List Done (Some (Some text)) old new ob oa rb ra
   listed_ended x old new ob oa rb ra written =
       record { cause = tt; output = record { text = text; is_told = refl; listing = rule_listings names plain.rules plans; of = listing_is; took = written.took _ refl }; counts = written.same }
 
   -- the sink failed, and took a prefix
-  pub listed_part : {A E : Type 0} (e : E) (old new : Option (List ℕ)) (ob oa rb ra : ℕ) → WritesText {A = A} {E = E} (rule_listings names plain.rules plans) (Err e) old ob new oa
+  pub listed_part : {A E : Type 0} (e : E) (old new : Option (List ℕ)) (ob oa : Faults) (rb ra : ℕ) → WritesText {A = A} {E = E} (rule_listings names plain.rules plans) (Err e) old ob new oa
       → Ended task.List WriteFault (Some (Some text)) old new ob oa rb ra
   listed_part e old new ob oa rb ra written =
       record { cause = tt; output = record { text = text; is_told = refl; listing = rule_listings names plain.rules plans; of = listing_is; took = written.prefix _ refl }; counts = written.rose }
@@ -53,7 +54,7 @@ pub read_accepts : (text : List ℕ) (before names : List Name) (plain : Plain) 
 read_accepts text before names plain plans short e named a = record { short = short; named = subst (λ b. LeavesNames text b names) e named; accepted = a }
 
 -- and its refusal is that of the text
-pub read_refused : (t : Task) (text : List ℕ) (before names : List Name) (r : Refusal) (x : Option (List ℕ)) (n rb ra : ℕ) → length text ≤ text_bytes → before ≡ first_names → LeavesNames text before names
+pub read_refused : (t : Task) (text : List ℕ) (before names : List Name) (r : Refusal) (x : Option (List ℕ)) (n : Faults) (rb ra : ℕ) → length text ≤ text_bytes → before ≡ first_names → LeavesNames text before names
     → IsRefusedAs text names r → Ended t (Refused r) (Some (Some text)) x x n n rb ra
 read_refused t text before names r x n rb ra short e named h =
     let refused = by_reading short names (subst (λ b. LeavesNames text b names) e named) h in

@@ -3,8 +3,9 @@ use Rattle.std.proofs.Common.{◌≡◌, ◌≢◌, ℕ, List, Option, ◌⊎◌
 use Rattle.std.specs.declared.string.String.{String}
 use Rattle.std.specs.declared.alloc.Global.{Global}
 use Rattle.lmn_base.specs.declared.refusal.Refusal.{Refusal}
-use Rattle.lmn_io.specs.Counts.{Rose}
+use Rattle.lmn_io.specs.Counts.{FailedLast, Faults, NoneBehindFailed, NoneFailed, Rose}
 use Rattle.lmn_io.specs.Taking.{Takes, TakesPrefix}
+use Rattle.lmn_io.proofs.TakingLemmas.{no_put}
 use Rattle.lmn_app.specs.declared.ending.Ending.{Ending}
 use Rattle.lmn_app.specs.declared.ending.Ending.TheVariants.{Done, Budget, Refused, Words, ReadFault, WriteFault, NoMemory, Full}
 use Rattle.lmn_words.specs.Laws.{OneRequest}
@@ -101,7 +102,7 @@ write_is Full h = absurd (cc)
 
 -- What is done for the words: a command ended so, or there is none and nothing was done. `told` is what is told of the text of a
 -- command, `read` and `reads` are the counts of its file.
-module _ (one : OneRequest) (words : List (String Global)) (told : Request → Option (Option (List ℕ))) (read reads : Request → ℕ) (oo on eo en : Option (List ℕ)) (ob oa eb ea status : ℕ) where
+module _ (one : OneRequest) (words : List (String Global)) (told : Request → Option (Option (List ℕ))) (read reads : Request → ℕ) (oo on eo en : Option (List ℕ)) (ob oa eb ea : Faults) (status : ℕ) where
   abbrev pub Acted : Ending → Type 0
   Acted e = Asked words (λ c. Ended (task_of c) e (told c) oo on ob oa (read c) (reads c)) ⊎ (¬ (InForm words) × (e ≡ Words) × (on ≡ oo) × (oa ≡ ob))
 
@@ -109,7 +110,7 @@ module _ (one : OneRequest) (words : List (String Global)) (told : Request → O
   Concluded e = Concludes e status eo en eb ea
 
   -- the shelf was asked, or memory was wanting for the words
-  pub asked_or_memory : {P Q : Type 0} (e : Ending) → P ⊎ (Q × (e ≡ NoMemory)) → Concluded e → P ⊎ (Q × ((status ≡ 6) ⊎ ((status ≡ 5) × Rose eb ea)))
+  pub asked_or_memory : {P Q : Type 0} (e : Ending) → P ⊎ (Q × (e ≡ NoMemory)) → Concluded e → P ⊎ (Q × ((status ≡ 6) ⊎ ((status ≡ 5) × FailedLast eb ea)))
   asked_or_memory e (inl p) k = inl p
   asked_or_memory e (inr (q, is)) (inl (s, t, stays)) = inr (q, inl (s ∙ ap status_of is))
   asked_or_memory e (inr (q, is)) (inr (s, p, rose, line)) = inr (q, inr (s, rose))
@@ -166,7 +167,7 @@ module _ (one : OneRequest) (words : List (String Global)) (told : Request → O
   not_of_form e (inr (none, w, o, f)) (inl (s, t, q)) k = none
   not_of_form e a (inr (s, p, rose, line)) k = absurd (omega (arith, s, k))
 
-  pub form_answered : (e : Ending) → Acted e → Concluded e → ¬ (InForm words) → (status ≡ 3) ⊎ ((status ≡ 5) × Rose eb ea)
+  pub form_answered : (e : Ending) → Acted e → Concluded e → ¬ (InForm words) → (status ≡ 3) ⊎ ((status ≡ 5) × FailedLast eb ea)
   form_answered e (inl (c, asks, h)) k none = absurd (none (one words c asks).0)
   form_answered e (inr (none, w, o, f)) (inl (s, t, q)) n = inl (subst (λ x. status ≡ status_of x) w s)
   form_answered e (inr (none, w, o, f)) (inr (s, p, rose, line)) n = inr (s, rose)
@@ -177,12 +178,16 @@ module _ (one : OneRequest) (words : List (String Global)) (told : Request → O
   read_rose e (inr (none, w, o, f)) (inl (s, t, q)) k = absurd (let three : status ≡ 3 = subst (λ x. status ≡ status_of x) w s in omega (arith, three, k))
   read_rose e a (inr (s, p, rose, line)) k = absurd (omega (arith, s, k))
 
-  pub write_rose : (e : Ending) → Acted e → Concluded e → status ≡ 5 → Rose ob oa ⊎ Rose eb ea
+  pub write_rose : (e : Ending) → Acted e → Concluded e → status ≡ 5 → FailedLast ob oa ⊎ FailedLast eb ea
   write_rose e (inl (c, asks, h)) (inl (s, t, q)) k = inl (let here = subst (λ x. Ended (task_of c) x (told c) oo on ob oa (read c) (reads c)) (write_is e (sym s ∙ k)) h in here.counts)
   write_rose e (inr (none, w, o, f)) (inl (s, t, q)) k = absurd (let three : status ≡ 3 = subst (λ x. status ≡ status_of x) w s in omega (arith, three, k))
   write_rose e a (inr (s, p, rose, line)) k = inr rose
 
-  counts_stay : (e : Ending) → ¬ (status_of e ≡ 5) → CountsFaults e ob oa → oa ≡ ob
+  -- where nothing is counted none failed
+  no_puts : oa ≡ ob → NoneFailed ob oa
+  no_puts same = subst (NoneFailed ob) (sym same) (no_put ob)
+
+  counts_stay : (e : Ending) → ¬ (status_of e ≡ 5) → CountsFaults e ob oa → NoneFailed ob oa
   counts_stay Done n h = h
   counts_stay Budget n h = h
   counts_stay (Refused r) n h = h
@@ -192,10 +197,32 @@ module _ (one : OneRequest) (words : List (String Global)) (told : Request → O
   counts_stay NoMemory n h = h
   counts_stay Full n h = h
 
-  pub puts_stay : (e : Ending) → Acted e → Concluded e → ¬ (status ≡ 5) → (oa ≡ ob) × (ea ≡ eb)
+  pub puts_stay : (e : Ending) → Acted e → Concluded e → ¬ (status ≡ 5) → NoneFailed ob oa × NoneFailed eb ea
   puts_stay e (inl (c, asks, h)) (inl (s, t, same)) n = (counts_stay e (λ k. n (s ∙ k)) h.counts, same)
-  puts_stay e (inr (none, w, o, f)) (inl (s, t, same)) n = (f, same)
+  puts_stay e (inr (none, w, o, f)) (inl (s, t, same)) n = (no_puts f, same)
   puts_stay e a (inr (s, p, rose, line)) n = absurd (n s)
+
+  counts_last : (e : Ending) → CountsFaults e ob oa → NoneBehindFailed ob oa
+  counts_last Done h = inl h
+  counts_last Budget h = inl h
+  counts_last (Refused r) h = inl h
+  counts_last Words h = inl h
+  counts_last ReadFault h = inl h
+  counts_last WriteFault h = inr h
+  counts_last NoMemory h = inl h
+  counts_last Full h = inl h
+
+  out_last : (e : Ending) → Acted e → NoneBehindFailed ob oa
+  out_last e (inl (c, asks, h)) = counts_last e h.counts
+  out_last e (inr (none, w, o, f)) = inl (no_puts f)
+
+  err_last : (e : Ending) → Concluded e → NoneBehindFailed eb ea
+  err_last e (inl (s, t, same)) = inl same
+  err_last e (inr (s, p, rose, line)) = inr rose
+
+  -- behind a put that failed nothing more is put
+  pub puts_end : (e : Ending) → Acted e → Concluded e → NoneBehindFailed ob oa × NoneBehindFailed eb ea
+  puts_end e a k = (out_last e a, err_last e k)
 
   pub refusal_told : (e : Ending) → Acted e → Concluded e → status ≡ 2 →
       Asked words (λ c. (r : Refusal) × IsToldAnd (told c) (λ text. IsRefusal (most_items (task_of c)) text r) × IsCode r.code × Takes (refusal_line r) eo en)
@@ -217,8 +244,8 @@ module _ (one : OneRequest) (words : List (String Global)) (told : Request → O
 
   -- with 5 either `out` failed and `err` took its line, or `err` failed
   pub failed : (e : Ending) → Acted e → Concluded e → status ≡ 5 →
-      (Asked words (λ c. Output (task_of c) WriteFault (told c) oo on) × Rose ob oa × Takes (line_of_ending WriteFault) eo en × (ea ≡ eb))
-      ⊎ (Rose eb ea × ((ending : Ending) × HasLine ending × TakesPrefix (line_of_ending ending) eo en × Acted ending))
+      (Asked words (λ c. Output (task_of c) WriteFault (told c) oo on) × FailedLast ob oa × Takes (line_of_ending WriteFault) eo en × NoneFailed eb ea)
+      ⊎ (FailedLast eb ea × ((ending : Ending) × HasLine ending × TakesPrefix (line_of_ending ending) eo en × Acted ending))
   failed e (inl (c, asks, h)) (inl (s, t, same)) k =
       let is = write_is e (sym s ∙ k) in
       let here = subst (λ x. Ended (task_of c) x (told c) oo on ob oa (read c) (reads c)) is h in
@@ -227,7 +254,7 @@ module _ (one : OneRequest) (words : List (String Global)) (told : Request → O
   failed e a (inr (s, p, rose, line)) k = inr (rose, (e, line, p, a))
 
   -- an accepted text is answered so where nothing fails, and one that isn't is refused
-  pub answered : (e : Ending) → Acted e → Concluded e → InForm words → Asked words (λ c. ¬ (Rose (read c) (reads c)) → ¬ (Rose ob oa) → ¬ (Rose eb ea) → IfTold (told c) (λ text. IsAccepted (most_items (task_of c)) text → Answers (task_of c) status))
+  pub answered : (e : Ending) → Acted e → Concluded e → InForm words → Asked words (λ c. ¬ (Rose (read c) (reads c)) → ¬ (FailedLast ob oa) → ¬ (FailedLast eb ea) → IfTold (told c) (λ text. IsAccepted (most_items (task_of c)) text → Answers (task_of c) status))
   answered e (inl (c, asks, h)) k form = (c, asks, λ r o x. accepted_answered (task_of c) e (told c) oo on ob oa (read c) (reads c) status eo en eb ea h k r o x)
   answered e (inr (none, w, o, f)) k form = absurd (none form)
 

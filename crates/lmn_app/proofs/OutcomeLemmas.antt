@@ -2,7 +2,8 @@
 use Rattle.std.specs.Prelude.{◌≡◌, ◌<◌, ℕ, ◌⊎◌, List, Option, None, Some, IfSome, IsSomeAnd}
 use Rattle.std.proofs.Common.{inl, inr, refl, subst, sym, length}
 use Rattle.lmn_base.specs.declared.refusal.Refusal.{Refusal}
-use Rattle.lmn_io.specs.Counts.{Rose}
+use Rattle.lmn_io.specs.Counts.{FailedLast, Faults, Rose}
+use Rattle.lmn_io.proofs.TakingLemmas.{no_put}
 use Rattle.lmn_runs.specs.Runs.{Stop}
 use Rattle.lmn_app.specs.declared.ending.Ending.{Ending}
 use Rattle.lmn_app.specs.declared.ending.Ending.TheVariants.{Done, Budget, Refused, Words, ReadFault, WriteFault, NoMemory, Full}
@@ -87,7 +88,7 @@ module _ (told : Option (Option (List ℕ))) (bytes : List ℕ) (e : IfSome told
   output_told task.List Words old new h = h
   output_told task.List ReadFault old new h = h
 
-  pub ended_told : (t : Task) (ending : Ending) (old new : Option (List ℕ)) (before after read_before read_after : ℕ) → Ended t ending (Some (Some bytes)) old new before after read_before read_after
+  pub ended_told : (t : Task) (ending : Ending) (old new : Option (List ℕ)) (before after : Faults) (read_before read_after : ℕ) → Ended t ending (Some (Some bytes)) old new before after read_before read_after
       → Ended t ending told old new before after read_before read_after
   ended_told t ending old new before after read_before read_after h =
       record { cause = causes_told t ending read_before read_after h.cause; output = output_told t ending old new h.output; counts = h.counts }
@@ -111,8 +112,8 @@ told_is (Some None) text P h p = tt
 told_is (Some (Some found)) text P h p = subst P (sym h) p
 
 -- where nothing fails, an accepted text is answered so
-pub accepted_answered : (t : Task) (ending : Ending) (told : Option (Option (List ℕ))) (oo on : Option (List ℕ)) (ob oa rb ra status : ℕ) (eo en : Option (List ℕ)) (eb ea : ℕ)
-    → Ended t ending told oo on ob oa rb ra → Concludes ending status eo en eb ea → ¬ (Rose rb ra) → ¬ (Rose ob oa) → ¬ (Rose eb ea)
+pub accepted_answered : (t : Task) (ending : Ending) (told : Option (Option (List ℕ))) (oo on : Option (List ℕ)) (ob oa : Faults) (rb ra status : ℕ) (eo en : Option (List ℕ)) (eb ea : Faults)
+    → Ended t ending told oo on ob oa rb ra → Concludes ending status eo en eb ea → ¬ (Rose rb ra) → ¬ (FailedLast ob oa) → ¬ (FailedLast eb ea)
     → IfTold told (λ text. IsAccepted (most_items t) text → Answers t status)
 accepted_answered t ending told oo on ob oa rb ra status eo en eb ea h (inr (s, p, rose, line)) read out err = absurd (err rose)
 accepted_answered (task.Run s) Done told oo on ob oa rb ra status eo en eb ea h (inl k) read out err = when_told told _ (λ text a. inl k.0)
@@ -144,7 +145,7 @@ list_accepted told old new A h =
     told_is told h.text (λ text. ¬ (IsAccepted None text) → A) h.is_told (λ none. absurd (none (l.names, l.plain, l.plans, l.accepted, tt)))
 
 -- a text that isn't accepted is answered by 2, 4, 5 or 6
-pub unaccepted_answered : (t : Task) (ending : Ending) (told : Option (Option (List ℕ))) (oo on : Option (List ℕ)) (ob oa rb ra status : ℕ) (eo en : Option (List ℕ)) (eb ea : ℕ)
+pub unaccepted_answered : (t : Task) (ending : Ending) (told : Option (Option (List ℕ))) (oo on : Option (List ℕ)) (ob oa : Faults) (rb ra status : ℕ) (eo en : Option (List ℕ)) (eb ea : Faults)
     → Ended t ending told oo on ob oa rb ra → Concludes ending status eo en eb ea → IfTold told (λ text. ¬ (IsAccepted (most_items t) text) → Refusing status)
 unaccepted_answered t ending told oo on ob oa rb ra status eo en eb ea h (inr (s, p, rose, line)) = when_told told _ (λ text n. inr (inr (inl s)))
 unaccepted_answered (task.Run s) Done told oo on ob oa rb ra status eo en eb ea h (inl k) = run_accepted s told _ oo on (Refusing status) h.output
@@ -174,17 +175,17 @@ nothing_more (task.Run s) told x = inl refl
 nothing_more task.List told x = refl
 
 -- a task with a text that is refused ends so
-pub refused_ended : (t : Task) (r : Refusal) (told : Option (Option (List ℕ))) (x : Option (List ℕ)) (n rb ra : ℕ) → IsToldAnd told (λ text. IsRefusal (most_items t) text r) → IsCode r.code
+pub refused_ended : (t : Task) (r : Refusal) (told : Option (Option (List ℕ))) (x : Option (List ℕ)) (n : Faults) (rb ra : ℕ) → IsToldAnd told (λ text. IsRefusal (most_items t) text r) → IsCode r.code
     → Ended t (Refused r) told x x n n rb ra
-refused_ended t r told x n rb ra h k = record { cause = (h, k); output = nothing_refused t r told x; counts = refl }
+refused_ended t r told x n rb ra h k = record { cause = (h, k); output = nothing_refused t r told x; counts = no_put n }
 
 -- and one with a file that can't be read
-pub fault_ended : (t : Task) (told : Option (Option (List ℕ))) (x : Option (List ℕ)) (n rb ra : ℕ) → Rose rb ra → Ended t ReadFault told x x n n rb ra
-fault_ended t told x n rb ra h = record { cause = h; output = nothing_read t told x; counts = refl }
+pub fault_ended : (t : Task) (told : Option (Option (List ℕ))) (x : Option (List ℕ)) (n : Faults) (rb ra : ℕ) → Rose rb ra → Ended t ReadFault told x x n n rb ra
+fault_ended t told x n rb ra h = record { cause = h; output = nothing_read t told x; counts = no_put n }
 
 -- a task may end for want of memory, with its output as it was
-pub memory_ended : (t : Task) (told : Option (Option (List ℕ))) (x : Option (List ℕ)) (n rb ra : ℕ) → Ended t NoMemory told x x n n rb ra
-memory_ended t told x n rb ra = record { cause = tt; output = nothing_more t told x; counts = refl }
+pub memory_ended : (t : Task) (told : Option (Option (List ℕ))) (x : Option (List ℕ)) (n : Faults) (rb ra : ℕ) → Ended t NoMemory told x x n n rb ra
+memory_ended t told x n rb ra = record { cause = tt; output = nothing_more t told x; counts = no_put n }
 
 -- a text that is told and is too long
 long_told : (P : List ℕ → Type 0) (told : Option (List ℕ → Option (List ℕ))) (name : List ℕ) (most : ℕ) → IfSome told (λ text. IsSomeAnd (text name) (λ bytes. most < length bytes))
@@ -197,7 +198,7 @@ long_told P (Some text) name most h f = go (text name) h
     go (Some bytes) k = f bytes k
 
 -- a task with a text that is too long ends so
-pub long_ended : (t : Task) (told : Option (List ℕ → Option (List ℕ))) (name : List ℕ) (x : Option (List ℕ)) (n rb ra : ℕ) → IfSome told (λ text. IsSomeAnd (text name) (λ bytes. text_bytes < length bytes))
+pub long_ended : (t : Task) (told : Option (List ℕ → Option (List ℕ))) (name : List ℕ) (x : Option (List ℕ)) (n : Faults) (rb ra : ℕ) → IfSome told (λ text. IsSomeAnd (text name) (λ bytes. text_bytes < length bytes))
     → Ended t (Refused (at_start 1)) (told_under told name) x x n n rb ra
 long_ended t told name x n rb ra h =
     refused_ended t (at_start 1) (told_under told name) x n rb ra (long_told (λ text. IsRefusal (most_items t) text (at_start 1)) told name text_bytes h (λ bytes l. too_long l refl)) refl

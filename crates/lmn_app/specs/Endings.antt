@@ -4,7 +4,7 @@ use Rattle.std.specs.List.{concat}
 use Rattle.lmn_base.specs.declared.refusal.Refusal.{Refusal}
 use Rattle.lmn_app.specs.declared.ending.Ending.{Ending}
 use Rattle.lmn_app.specs.declared.ending.Ending.TheVariants.{Done, Budget, Refused, Words, ReadFault, WriteFault, NoMemory, Full}
-use Rattle.lmn_io.specs.Counts.{Rose}
+use Rattle.lmn_io.specs.Counts.{FailedLast, Faults, NoneFailed}
 use Rattle.lmn_io.specs.Taking.{Takes, TakesPrefix}
 use Rattle.lmn_reading.specs.Codes.{words_of_number}
 
@@ -51,8 +51,8 @@ HasLine ReadFault = ⊤
 HasLine WriteFault = ⊤
 HasLine NoMemory = ⊤
 
--- The answer to an ending, beside what `err` took and its count of faults before and after:
+-- The answer to an ending, beside what `err` took and what it counts before and after:
 -- the ending's status where `err` took the whole line, and else 5; `err` fails only where a line is due.
-abbrev pub Concludes : Ending → ℕ → Option (List ℕ) → Option (List ℕ) → ℕ → ℕ → Type 0
+abbrev pub Concludes : Ending → ℕ → Option (List ℕ) → Option (List ℕ) → Faults → Faults → Type 0
 Concludes ending status old new before after =
-    ((status ≡ status_of ending) × Takes (line_of_ending ending) old new × (after ≡ before)) ⊎ ((status ≡ 5) × TakesPrefix (line_of_ending ending) old new × Rose before after × HasLine ending)
+    ((status ≡ status_of ending) × Takes (line_of_ending ending) old new × NoneFailed before after) ⊎ ((status ≡ 5) × TakesPrefix (line_of_ending ending) old new × FailedLast before after × HasLine ending)

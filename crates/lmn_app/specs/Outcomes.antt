@@ -1,6 +1,6 @@
 -- What a call leaves behind, for each of its endings.
 use Rattle.std.specs.Prelude.{◌≡◌, ℕ, ◌⊎◌, ⊤, List, Option}
-use Rattle.lmn_io.specs.Counts.{Rose}
+use Rattle.lmn_io.specs.Counts.{FailedLast, Faults, NoneFailed, Rose}
 use Rattle.lmn_adequacy.specs.Runs.{irreducible, budget_done, full}
 use Rattle.lmn_runs.specs.Runs.{at_end, no_memory}
 use Rattle.lmn_app.specs.declared.ending.Ending.{Ending}
@@ -39,10 +39,10 @@ Output t (Refused r) text old new = new ≡ old
 Output t Words text old new = new ≡ old
 Output t ReadFault text old new = new ≡ old
 
--- Its count of faults, before and after: it rose where the ending says so, and else it stayed.
-abbrev pub CountsFaults : Ending → ℕ → ℕ → Type 0
-CountsFaults WriteFault before after = Rose before after
-CountsFaults ending before after = after ≡ before
+-- What it counts, before and after: the last put failed where the ending says so, and else none did.
+abbrev pub CountsFaults : Ending → Faults → Faults → Type 0
+CountsFaults WriteFault before after = FailedLast before after
+CountsFaults ending before after = NoneFailed before after
 
 -- the statuses of an accepted text, where nothing fails
 abbrev pub Answers : Task → ℕ → Type 0
@@ -50,7 +50,7 @@ Answers (task.Run s) status = (status ≡ 0) ⊎ (status ≡ 1) ⊎ (status ≡ 
 Answers task.List status = (status ≡ 0) ⊎ (status ≡ 6)
 
 -- A task ended so.
-pub record Ended (t : Task) (ending : Ending) (text : Option (Option (List ℕ))) (old new : Option (List ℕ)) (before after read_before read_after : ℕ) : Type 0 where
+pub record Ended (t : Task) (ending : Ending) (text : Option (Option (List ℕ))) (old new : Option (List ℕ)) (before after : Faults) (read_before read_after : ℕ) : Type 0 where
   pub cause : Causes t ending text read_before read_after
   pub output : Output t ending text old new
   pub counts : CountsFaults ending before after

@@ -1,5 +1,5 @@
 ghost use Rattle.std.specs.Prelude.{◌≡◌, ◌≤◌, ◌⊎◌, ℕ, IfErr, IfOk, List, Option, option_map, Some, codes, length};
-ghost use Rattle.lmn_io.specs.Counts.{Rose};
+ghost use Rattle.lmn_io.specs.Counts.{FailedLast, Faults, NoneBehindFailed, NoneFailed, Rose};
 ghost use Rattle.lmn_io.specs.Texts.{asked_once_more};
 ghost use Rattle.lmn_io.specs.Taking.{Takes, TakesPrefix};
 ghost use Rattle.lmn_base.specs.declared.refusal.Refusal.{Refusal};
@@ -48,21 +48,24 @@ pub fn lmn_main<F: Shelf, O: Sink, E: Sink>(
 
     // Status 3 comes where the words aren't of the form; a failing `err` alone takes its place.
     ensures words { result ≡ 3 → ¬ (InForm words.now) }
-    ensures form { ¬ (InForm words.now) → (result ≡ 3) ⊎ ((result ≡ 5) × Rose (E.faults err.old) (E.faults err.new)) }
+    ensures form { ¬ (InForm words.now) → (result ≡ 3) ⊎ ((result ≡ 5) × FailedLast (E.faults err.old) (E.faults err.new)) }
 
     // For a file that the words name the shelf is asked once, for at most 4,194,304 bytes, or not at all where memory was
     // wanting for the words. Where they name none, or aren't of the form, it isn't asked, and no count of it changes.
     ensures asked { InForm words.now → Asked words.now (λ c. Fetches (file_of c) (F.asked shelf.old) (F.asked shelf.new) (F.faults shelf.old) (F.faults shelf.new))
-        ⊎ ((F.asked shelf.new ≡ F.asked shelf.old) × ((result ≡ 6) ⊎ ((result ≡ 5) × Rose (E.faults err.old) (E.faults err.new)))) }
+        ⊎ ((F.asked shelf.new ≡ F.asked shelf.old) × ((result ≡ 6) ⊎ ((result ≡ 5) × FailedLast (E.faults err.old) (E.faults err.new)))) }
     ensures not_asked { ¬ (InForm words.now) → F.asked shelf.new ≡ F.asked shelf.old }
     ensures unasked { ¬ (InForm words.now) → (name : List ℕ) → F.faults shelf.new name ≡ F.faults shelf.old name }
 
-    // Status 4 comes only where the count of the file rose, and 5 only where that of a sink did.
+    // Status 4 comes only where the count of the file rose, and 5 only where a put failed.
     ensures read { result ≡ 4 → Asked words.now (λ c. Rose (faults_of c (F.faults shelf.old)) (faults_of c (F.faults shelf.new))) }
-    ensures write { result ≡ 5 → Rose (O.faults out.old) (O.faults out.new) ⊎ Rose (E.faults err.old) (E.faults err.new) }
+    ensures write { result ≡ 5 → FailedLast (O.faults out.old) (O.faults out.new) ⊎ FailedLast (E.faults err.old) (E.faults err.new) }
 
-    // A put that fails is answered by 5: with every other status both counts stay.
-    ensures puts { ¬ (result ≡ 5) → (O.faults out.new ≡ O.faults out.old) × (E.faults err.new ≡ E.faults err.old) }
+    // A put that fails is answered by 5: with every other status none failed.
+    ensures puts { ¬ (result ≡ 5) → NoneFailed (O.faults out.old) (O.faults out.new) × NoneFailed (E.faults err.old) (E.faults err.new) }
+
+    // Behind a put that failed nothing more is put into its sink.
+    ensures last { NoneBehindFailed (O.faults out.old) (O.faults out.new) × NoneBehindFailed (E.faults err.old) (E.faults err.new) }
 
     // Status 2 comes where the text isn't accepted; 4, 5 and 6 alone take its place.
     ensures refused { result ≡ 2 → Asked words.now (λ c. (refusal : Refusal) × IsToldAnd (told_of c (F.told shelf.old)) (λ text. IsRefusal (most_items (task_of c)) text refusal)
@@ -72,7 +75,7 @@ pub fn lmn_main<F: Shelf, O: Sink, E: Sink>(
 
     // Where nothing fails, the command does what it says for an accepted text, or memory is wanting.
     ensures answers { InForm words.now → Asked words.now (λ c. ¬ (Rose (faults_of c (F.faults shelf.old)) (faults_of c (F.faults shelf.new)))
-        → ¬ (Rose (O.faults out.old) (O.faults out.new)) → ¬ (Rose (E.faults err.old) (E.faults err.new))
+        → ¬ (FailedLast (O.faults out.old) (O.faults out.new)) → ¬ (FailedLast (E.faults err.old) (E.faults err.new))
         → IfTold (told_of c (F.told shelf.old)) (λ text. IsAccepted (most_items (task_of c)) text → Answers (task_of c) result)) }
 
     // What `out` took, for each status.
@@ -89,9 +92,9 @@ pub fn lmn_main<F: Shelf, O: Sink, E: Sink>(
     ensures err_memory { result ≡ 6 → Takes (codes "lmn: out of memory\n") (E.told err.old) (E.told err.new) }
     // With 5 either `out` failed, in what a command writes, and `err` took its whole line; or `err` failed, in the line of an ending.
     ensures part { result ≡ 5 →
-        (Asked words.now (λ c. Output (task_of c) Ending.WriteFault (told_of c (F.told shelf.old)) (O.told out.old) (O.told out.new)) × Rose (O.faults out.old) (O.faults out.new)
-        × Takes (codes "lmn: write failed\n") (E.told err.old) (E.told err.new) × (E.faults err.new ≡ E.faults err.old))
-        ⊎ (Rose (E.faults err.old) (E.faults err.new) × ((ending : Ending) × HasLine ending × TakesPrefix (line_of_ending ending) (E.told err.old) (E.told err.new)
+        (Asked words.now (λ c. Output (task_of c) Ending.WriteFault (told_of c (F.told shelf.old)) (O.told out.old) (O.told out.new)) × FailedLast (O.faults out.old) (O.faults out.new)
+        × Takes (codes "lmn: write failed\n") (E.told err.old) (E.told err.new) × NoneFailed (E.faults err.old) (E.faults err.new))
+        ⊎ (FailedLast (E.faults err.old) (E.faults err.new) × ((ending : Ending) × HasLine ending × TakesPrefix (line_of_ending ending) (E.told err.old) (E.told err.new)
         × (Asked words.now (λ c. Ended (task_of c) ending (told_of c (F.told shelf.old)) (O.told out.old) (O.told out.new) (O.faults out.old) (O.faults out.new) (faults_of c (F.faults shelf.old)) (faults_of c (F.faults shelf.new)))
         ⊎ (¬ (InForm words.now) × (ending ≡ Ending.Words) × (O.told out.new ≡ O.told out.old) × (O.faults out.new ≡ O.faults out.old))))) }
 {
@@ -140,7 +143,7 @@ fn text_of<F: Shelf>(alloc: Global, command: Command<'_>, shelf: &mut F) -> Resu
     requires { IsInRanges (request_of command) }
     ensures asked { Fetches (file_of (request_of command.entry)) (F.asked shelf.old) (F.asked shelf.new) (F.faults shelf.old) (F.faults shelf.new) }
     ensures text { IfOk result (λ text. IsTextOf (told_of (request_of command.entry) (F.told shelf.old)) text) }
-    ensures fault { IfErr result (λ ending. (t : Task) (took : Option (List ℕ)) (count : ℕ) →
+    ensures fault { IfErr result (λ ending. (t : Task) (took : Option (List ℕ)) (count : Faults) →
         Ended t ending (told_of (request_of command.entry) (F.told shelf.old)) took took count count (faults_of (request_of command.entry) (F.faults shelf.old)) (faults_of (request_of command.entry) (F.faults shelf.new))) }
 {
     match command {
@@ -157,7 +160,7 @@ fn text_of<F: Shelf>(alloc: Global, command: Command<'_>, shelf: &mut F) -> Resu
 fn fetch<F: Shelf>(alloc: Global, name: &str, shelf: &mut F) -> Result<Rows<u8>, Ending>
     ensures asked { F.asked shelf.new ≡ option_map (asked_once_more text_bytes) (F.asked shelf.old) }
     ensures text { IfOk result (λ text. IsTextOf (told_under (F.told shelf.old) name.now) text) }
-    ensures fault { IfErr result (λ ending. (t : Task) (took : Option (List ℕ)) (count : ℕ) →
+    ensures fault { IfErr result (λ ending. (t : Task) (took : Option (List ℕ)) (count : Faults) →
         Ended t ending (told_under (F.told shelf.old) name.now) took took count count (F.faults shelf.old name.now) (F.faults shelf.new name.now)) }
 {
     match shelf.fetch(alloc, name, TEXT_BYTES) {

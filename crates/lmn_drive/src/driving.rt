@@ -1,6 +1,6 @@
 ghost use Rattle.std.specs.Prelude.{◌≡◌, ◌<◌, ◌≤◌, ◌-◌, ◌^◌, ℕ, List, Option, IfOk, OnOk, OnErr, MatchResult};
 ghost use Rattle.lmn_congruence.specs.Regions.{Region};
-ghost use Rattle.lmn_io.specs.Counts.{Rose};
+ghost use Rattle.lmn_io.specs.Counts.{FailedLast, NoneFailed};
 ghost use Rattle.lmn_io.specs.Writing.{Writes, WritesText};
 ghost use Rattle.lmn_adequacy.specs.Runs.{Chooser};
 ghost use Rattle.lmn_order.specs.Answers.{AnswersBelow};
@@ -59,7 +59,7 @@ enum Stop {
 /// with a trace the line of each process, else that of the last one, and then why it stopped and after how many commits.
 /// `plain` is that of the engine.
 ///
-/// With every answer but `Failed` all of this was written, and with `Failed` a prefix of it.
+/// With every answer but `Failed` all of this was written, and with `Failed` a prefix of it, and nothing more was put.
 pub fn drive<S: LinkStore, F: Fn(u64, u64) -> u64, O: Sink, L: Ledger>(
     alloc: Global,
     engine: &mut Engine<'_, S, F>,
@@ -78,8 +78,8 @@ pub fn drive<S: LinkStore, F: Fn(u64, u64) -> u64, O: Sink, L: Ledger>(
         Drove (given_by_engine names.now plain.now.rules engine.old.size options.now c solid) engine.new.commits (S.heap engine.new.machine.store) result (O.told out.old) (O.told out.new) }
     ensures again { EngineCanTurn (S.heap engine.new.machine.store) plain.now.rules engine.old.codes engine.old.size }
     ensures keeps { engine.new ≡ record engine.old { machine = engine.new.machine; commits = engine.new.commits } }
-    ensures same { ¬ (result ≡ RunEnd.Failed) → O.faults out.new ≡ O.faults out.old }
-    ensures rose { result ≡ RunEnd.Failed → Rose (O.faults out.old) (O.faults out.new) }
+    ensures same { ¬ (result ≡ RunEnd.Failed) → NoneFailed (O.faults out.old) (O.faults out.new) }
+    ensures rose { result ≡ RunEnd.Failed → FailedLast (O.faults out.old) (O.faults out.new) }
 {
     match run(alloc, engine, plain, names, options, out, steps) {
         Ok(stop) => conclude(engine, plain, names, options, stop, out),
@@ -108,8 +108,8 @@ fn run<S: LinkStore, F: Fn(u64, u64) -> u64, O: Sink, L: Ledger>(
         (λ failed. Broke g engine.new.commits (S.heap engine.new.machine.store) (O.told out.old) (O.told out.new)) }
     ensures again { EngineCanTurn (S.heap engine.new.machine.store) plain.now.rules engine.old.codes engine.old.size }
     ensures keeps { engine.new ≡ record engine.old { machine = engine.new.machine; commits = engine.new.commits } }
-    ensures same { OnOk result (O.faults out.new ≡ O.faults out.old) }
-    ensures rose { OnErr result (Rose (O.faults out.old) (O.faults out.new)) }
+    ensures same { OnOk result (NoneFailed (O.faults out.old) (O.faults out.new)) }
+    ensures rose { OnErr result (FailedLast (O.faults out.old) (O.faults out.new)) }
 {
     write_traced(engine, plain, names, options.trace, options.folded, out)?;
     for _ in 0..options.budget {
@@ -146,8 +146,8 @@ fn step<S: LinkStore, F: Fn(u64, u64) -> u64, O: Sink, L: Ledger>(
     ensures again { EngineCanTurn (S.heap engine.new.machine.store) plain.now.rules engine.old.codes engine.old.size }
     ensures keeps { engine.new ≡ record engine.old { machine = engine.new.machine; commits = engine.new.commits } }
     ensures counts { IfOk result (λ stop. CountsCommit stop engine.old.commits engine.new.commits) }
-    ensures same { OnOk result (O.faults out.new ≡ O.faults out.old) }
-    ensures rose { OnErr result (Rose (O.faults out.old) (O.faults out.new)) }
+    ensures same { OnOk result (NoneFailed (O.faults out.old) (O.faults out.new)) }
+    ensures rose { OnErr result (FailedLast (O.faults out.old) (O.faults out.new)) }
 {
     match engine.turn(alloc, steps) {
         Turn::Committed => {
@@ -213,8 +213,8 @@ fn conclude<S: LinkStore, F: Fn(u64, u64) -> u64, O: Sink>(
         Drove g engine.old.commits (S.heap engine.new.machine.store) result told (O.told out.new) }
     ensures kept { S.heap engine.new.machine.store ≡ S.heap engine.old.machine.store }
     ensures keeps { engine.new ≡ record engine.old { machine = engine.new.machine } }
-    ensures same { ¬ (result ≡ RunEnd.Failed) → O.faults out.new ≡ O.faults out.old }
-    ensures rose { result ≡ RunEnd.Failed → Rose (O.faults out.old) (O.faults out.new) }
+    ensures same { ¬ (result ≡ RunEnd.Failed) → NoneFailed (O.faults out.old) (O.faults out.new) }
+    ensures rose { result ≡ RunEnd.Failed → FailedLast (O.faults out.old) (O.faults out.new) }
 {
     match write_rest(engine, plain, names, options, stop, out) {
         Ok(()) => end_of(stop),

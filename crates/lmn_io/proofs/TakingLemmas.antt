@@ -4,7 +4,7 @@ use Rattle.std.specs.List.{flat_map}
 use Rattle.std.proofs.Common.{ap, ◌∙◌, append_assoc, append-nil, sym, refl, subst, get_or, arith}
 use Rattle.std.proofs.lemmas.List.{take_all, take_more}
 use Rattle.std.proofs.lemmas.List.Concat.{flat_map-append}
-use Rattle.lmn_io.specs.Counts.{Rose}
+use Rattle.lmn_io.specs.Counts.{FailedLast, Faults, NoneFailed, Rose, one_more}
 use Rattle.lmn_io.specs.Taking.{Takes, TakesPrefix, Gathers}
 use Rattle.lmn_io.specs.Gathering.{SinkState, AddsWhere, Adds}
 
@@ -85,12 +85,28 @@ pub takes_nothing : (told : Option (List ℕ)) → Takes [] told told
 takes_nothing None = refl
 takes_nothing (Some old) = rw append-nil refl
 
--- what a sink has taken, piece by piece
-pub ruleset taking = (prefix_more, nothing_taken, takes_nothing, takes_more, prefix_after, gathers_more, gathers_takes, gathers_prefix, gathers_part)
+-- no put was asked for
+pub no_put : (f : Faults) → NoneFailed f f
+no_put f = (refl, omega arith)
+
+-- no put failed, and then none again
+pub none_more : (f g h : Faults) → NoneFailed f g → NoneFailed g h → NoneFailed f h
+none_more f g h first later = (later.0 ∙ first.0, let l = first.1 in let m = later.1 in omega (arith, l, m))
+
+-- no put failed, and then the last did
+pub none_then_last : (f g h : Faults) → NoneFailed f g → FailedLast g h → FailedLast f h
+none_then_last f g h first last = last ∙ ap (λ n. record { count = one_more n; since = 0 }) first.0
+
+-- where the last put failed the count rose
+pub last_rose : (f g : Faults) → FailedLast f g → Rose f.count g.count
+last_rose f g last = let e : g.count ≡ one_more f.count = ap (λ h. h.count) last in omega (arith, e)
+
+-- what a sink has taken, piece by piece, and what it counts
+pub ruleset taking = (prefix_more, nothing_taken, takes_nothing, takes_more, prefix_after, gathers_more, gathers_takes, gathers_prefix, gathers_part, no_put, none_more, none_then_last)
 
 unchanged : (failed : Bool) (o : SinkState) → AddsWhere failed failed [] o o
 unchanged true o = refl
-unchanged false o = (rw append-nil (nothing_taken o.pending.kept o.told), refl)
+unchanged false o = (rw append-nil (nothing_taken o.pending.kept o.told), no_put o.faults)
 
 -- nothing was added
 pub adds_nothing : (o : SinkState) → Adds [] o o
@@ -104,18 +120,18 @@ more a b before mid after false true true e e' e'' p q = (
   subst (λ o. TakesPrefix (before.pending.kept ++ (a ++ b)) before.told o.told) (sym q)
       (subst (λ bytes. TakesPrefix bytes before.told mid.told) (append_assoc before.pending.kept a b)
       (prefix_more (before.pending.kept ++ a) b before.told mid.told p.0)),
-  subst (λ o. Rose before.faults o.faults) (sym q) p.1,
+  subst (λ o. FailedLast before.faults o.faults) (sym q) p.1,
 )
 more a b before mid after false true false e e' e'' p q = let h : true ≡ false = sym e' ∙ ap (λ o. o.pending.failed) (sym q) ∙ e'' in cc
 more a b before mid after false false true e e' e'' p q = (
   subst (λ bytes. TakesPrefix bytes before.told after.told) (append_assoc before.pending.kept a b)
       (gathers_prefix (before.pending.kept ++ a) b mid.pending.kept before.told mid.told after.told p.0 q.0),
-  subst (λ n. Rose n after.faults) p.1 q.1,
+  none_then_last before.faults mid.faults after.faults p.1 q.1,
 )
 more a b before mid after false false false e e' e'' p q = (
   subst (λ bytes. Gathers bytes before.told after.pending.kept after.told) (append_assoc before.pending.kept a b)
       (gathers_more (before.pending.kept ++ a) b mid.pending.kept after.pending.kept before.told mid.told after.told p.0 q.0),
-  q.1 ∙ p.1,
+  none_more before.faults mid.faults after.faults p.1 q.1,
 )
 
 -- a piece was added, and then another

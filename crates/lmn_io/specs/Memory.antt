@@ -1,5 +1,6 @@
 -- What is seen of a shelf and of a sink in memory.
 use Rattle.std.specs.Prelude.{◌≡◌, ℕ, ◌+◌, ◌<◌, ◌⊎◌, List, length, Option, None, is_some, if◌then◌else◌, Contains}
+use Rattle.lmn_io.specs.Counts.{Faults}
 use Rattle.lmn_io.specs.Texts.{ShelfAsked, text_named}
 
 -- The texts beside their names; the numbers of the calls that fail, how many calls were made, the most bytes that one
@@ -30,13 +31,13 @@ abbrev pub FetchFails : MemoryShelf → List ℕ → Type 0
 FetchFails t name = Contains t.failing t.calls ⊎ (text_in t name ≡ None)
 
 -- The bytes that were taken, of which there may be so many; the numbers of the puts that fail,
--- how many puts were made, and how many failed.
+-- how many puts were made, and what is counted of them.
 pub record MemorySink : Type 0 where
   pub room : ℕ
   pub bytes : List ℕ
   pub failing : List ℕ
   pub calls : ℕ
-  pub failures : ℕ
+  pub faults : Faults
 
 -- the next put of this piece fails
 abbrev pub PutFails : MemorySink → List ℕ → Type 0

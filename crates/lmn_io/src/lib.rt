@@ -3,6 +3,7 @@
 
 mod file_shelf;
 mod kept;
+mod laws;
 mod line_buffer;
 mod mem_shelf;
 mod mem_sink;
@@ -11,6 +12,7 @@ mod shelf;
 mod sink;
 
 pub use file_shelf::FileShelf;
+pub use laws::asked_again_is_told;
 pub use line_buffer::{LineBuffer, put_all};
 pub use mem_shelf::MemShelf;
 pub use mem_sink::MemSink;

@@ -1,5 +1,5 @@
 ghost use Rattle.std.specs.Prelude.{◌≡◌, ◌≤◌, ◌++◌, ℕ, List, Option, OnOk, OnErr};
-ghost use Rattle.lmn_io.specs.Counts.{Rose};
+ghost use Rattle.lmn_io.specs.Counts.{FailedLast, Faults, NoneFailed};
 ghost use Rattle.lmn_io.specs.Taking.{TakesPrefix, Gathers};
 ghost use Rattle.lmn_io.specs.Gathering.{Adds, all_of, nothing_pending, output};
 ghost use Rattle.lmn_io.specs.Writing.{WritesText};
@@ -28,11 +28,11 @@ impl Model for LineBuffer {
 /// Keeps a piece back, or puts into the sink what there is no room for.
 #[tactic(auto, using(crate::proofs::TakingLemmas::taking))]
 fn keep_or_put<O: Sink>(kept: &mut Kept, sink: &mut O, piece: &[u8]) -> Result<(), Failed>
-    ensures later { O.faults sink.old ≤ O.faults sink.new }
+    ensures later { (O.faults sink.old).count ≤ (O.faults sink.new).count }
     ensures took { OnOk result (Gathers (kept.old ++ piece.now) (O.told sink.old) kept.new (O.told sink.new)) }
     ensures prefix { OnErr result (TakesPrefix (kept.old ++ piece.now) (O.told sink.old) (O.told sink.new)) }
-    ensures same { OnOk result (O.faults sink.new ≡ O.faults sink.old) }
-    ensures rose { OnErr result (Rose (O.faults sink.old) (O.faults sink.new)) }
+    ensures same { OnOk result (NoneFailed (O.faults sink.old) (O.faults sink.new)) }
+    ensures rose { OnErr result (FailedLast (O.faults sink.old) (O.faults sink.new)) }
 {
     if kept.has_room(piece.len()) {
         kept.keep(piece);
@@ -85,12 +85,12 @@ impl LineBuffer {
     /// `Failed` where a put has failed; the sink then took a prefix of all that was added.
     #[tactic(auto, using(crate::proofs::TakingLemmas::taking))]
     pub fn finish<O: Sink>(self, sink: &mut O) -> Result<(), Failed>
-        ensures { (text : List ℕ) (told : Option (List ℕ)) (faults : ℕ) → Adds text (output nothing_pending told faults) (output self (O.told sink.old) (O.faults sink.old)) → WritesText text result told faults (O.told sink.new) (O.faults sink.new) }
+        ensures { (text : List ℕ) (told : Option (List ℕ)) (faults : Faults) → Adds text (output nothing_pending told faults) (output self (O.told sink.old) (O.faults sink.old)) → WritesText text result told faults (O.told sink.new) (O.faults sink.new) }
     {
-        if self.failed {
-            return Err(Failed);
+        if !self.failed {
+            return sink.put(self.kept.as_slice());
         }
-        sink.put(self.kept.as_slice())
+        Err(Failed)
     }
 }
 

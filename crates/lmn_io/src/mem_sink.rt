@@ -1,5 +1,5 @@
 ghost use Rattle.std.specs.Prelude.{◌≡◌, ◌≤◌, ◌↔◌, ◌++◌, List, [], Some, length, IfOk, IsErr, OnErr, OnOk};
-ghost use Rattle.lmn_io.specs.Counts.{one_more};
+ghost use Rattle.lmn_io.specs.Counts.{one_more, one_more_fault, one_more_put};
 ghost use Rattle.lmn_io.specs.Memory.{MemorySink, PutFails};
 ghost use Rattle.lmn_io.specs.Writing.{WritesText};
 
@@ -17,6 +17,7 @@ pub struct MemSink {
     failing: Rows<u64>,
     calls: u64,
     failures: u64,
+    since: u64,
 }
 
 impl Model for MemSink {
@@ -25,7 +26,7 @@ impl Model for MemSink {
 
     ghost Value = { MemorySink };
 
-    ghost view = { λ s. record { room = s.room; bytes = s.bytes.items; failing = s.failing; calls = s.calls; failures = s.failures } };
+    ghost view = { λ s. record { room = s.room; bytes = s.bytes.items; failing = s.failing; calls = s.calls; faults = record { count = s.failures; since = s.since } } };
 
     ghost invariant = { λ s. (vec_len s.bytes ≤ s.room) × (s.room ≤ vec_capacity s.bytes) };
 }
@@ -37,7 +38,7 @@ impl MemSink {
     ///
     /// `NoMemory` where there isn't memory for `room` bytes.
     pub fn new(alloc: Global, room: usize, failing: Rows<u64>) -> Result<MemSink, NoMemory>
-        ensures { IfOk result (λ s. s ≡ record { room = room; bytes = []; failing = failing; calls = 0; failures = 0 }) }
+        ensures { IfOk result (λ s. s ≡ record { room = room; bytes = []; failing = failing; calls = 0; faults = record { count = 0; since = 0 } }) }
     {
         Ok(MemSink {
             room,
@@ -45,6 +46,7 @@ impl MemSink {
             failing,
             calls: 0,
             failures: 0,
+            since: 0,
         })
     }
 
@@ -59,22 +61,25 @@ impl MemSink {
 impl Sink for MemSink {
     ghost told = { λ s. Some s.bytes };
 
-    ghost faults = { λ s. s.failures };
+    ghost faults = { λ s. s.faults };
 
     /// A put fails exactly where its number is listed or there is no room for the whole piece; then nothing is taken.
     fn put(&mut self, piece: &[u8]) -> Result<(), Failed>
-        ensures writes { WritesText piece.now result (Some self.old.bytes) self.old.failures (Some self.new.bytes) self.new.failures }
+        ensures writes { WritesText piece.now result (Some self.old.bytes) self.old.faults (Some self.new.bytes) self.new.faults }
+        ensures counts { OnOk result (self.new.faults ≡ one_more_put self.old.faults) }
         ensures fails { IsErr result ↔ PutFails self.old piece.now }
-        ensures refused { OnErr result (self.new ≡ record self.old { calls = one_more self.old.calls; failures = one_more self.old.failures }) }
-        ensures accepted { OnOk result (self.new ≡ record self.old { bytes = self.old.bytes ++ piece.now; calls = one_more self.old.calls }) }
+        ensures refused { OnErr result (self.new ≡ record self.old { calls = one_more self.old.calls; faults = one_more_fault self.old.faults }) }
+        ensures accepted { OnOk result (self.new ≡ record self.old { bytes = self.old.bytes ++ piece.now; calls = one_more self.old.calls; faults = one_more_put self.old.faults }) }
     {
         let call = self.calls;
         self.calls = call.saturating_add(1);
         if self.failing.as_slice().contains(&call) || piece.len() > self.room - self.bytes.len() {
             self.failures = self.failures.saturating_add(1);
+            self.since = 0;
             return Err(Failed);
         }
         self.bytes.extend_from_slice(piece).unwrap();
+        self.since = self.since.saturating_add(1);
         Ok(())
     }
 }

@@ -12,16 +12,18 @@ const TRIES: usize = 1000;
 pub struct OutSink<W: Write + Drop> {
     writer: W,
     failures: u64,
+    since: u64,
 }
 
 impl<W: Write + Drop> OutSink<W> {
     /// A sink over a writer, which has counted no fault.
     pub fn new(writer: W) -> OutSink<W>
-        ensures { ⟦<OutSink<W> as Sink>⟧.faults result ≡ 0 }
+        ensures { ⟦<OutSink<W> as Sink>⟧.faults result ≡ record { count = 0; since = 0 } }
     {
         OutSink {
             writer,
             failures: 0,
+            since: 0,
         }
     }
 }
@@ -43,7 +45,7 @@ fn write_some<W: Write>(writer: &mut W, rest: &[u8]) -> usize
 impl<W: Write + Drop> Sink for OutSink<W> {
     ghost told = { λ _. None };
 
-    ghost faults = { λ s. s.failures };
+    ghost faults = { λ s. record { count = s.failures; since = s.since } };
 
     fn put(&mut self, piece: &[u8]) -> Result<(), Failed> {
         let mut rest = piece;
@@ -51,10 +53,12 @@ impl<W: Write + Drop> Sink for OutSink<W> {
             let count = write_some(&mut self.writer, rest);
             if count == 0 {
                 self.failures = self.failures.saturating_add(1);
+                self.since = 0;
                 return Err(Failed);
             }
             rest = &rest[count..];
         }
+        self.since = self.since.saturating_add(1);
         Ok(())
     }
 }

@@ -7,13 +7,14 @@ pub struct Failed;
 
 /// Where output goes.
 pub trait Sink {
-    ghost use Rattle.std.specs.Prelude.{ℕ, List, Option};
+    ghost use Rattle.std.specs.Prelude.{◌≡◌, ℕ, List, Option, OnOk};
+    ghost use Rattle.lmn_io.specs.Counts.{Faults, one_more_put};
     ghost use Rattle.lmn_io.specs.Writing.{WritesText};
 
     /// The bytes that the sink took, where it tells them.
     ghost told: { Self → Option (List ℕ) };
-    /// The count of faults. A put that succeeds leaves it.
-    ghost faults: { Self → ℕ };
+    /// How many puts failed, and how many were asked for since the last of them. Each put counts.
+    ghost faults: { Self → Faults };
 
     /// Takes a piece.
     ///
@@ -21,5 +22,6 @@ pub trait Sink {
     ///
     /// `Failed` where the sink took only a prefix of the piece, which the count shows.
     fn put(&mut self, piece: &[u8]) -> Result<(), Failed>
-        ensures writes { WritesText piece.now result (told self.old) (faults self.old) (told self.new) (faults self.new) };
+        ensures writes { WritesText piece.now result (told self.old) (faults self.old) (told self.new) (faults self.new) }
+        ensures counts { OnOk result (faults self.new ≡ one_more_put (faults self.old)) };
 }

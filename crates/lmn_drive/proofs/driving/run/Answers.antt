@@ -1,6 +1,6 @@
 use Rattle.std.proofs.Common.{◌≡◌, ◌+◌, ◌<◌, refl, sym, ap, subst, ◌∙◌, arith}
 use Rattle.lmn_schedule.specs.Held.{EngineCanTurn, HoldsRegion}
-use Rattle.lmn_io.specs.Counts.{Rose}
+use Rattle.lmn_io.proofs.TakingLemmas.{none_more, none_then_last}
 use Rattle.lmn_order.specs.Answers.{AnswersBelow}
 use Rattle.lmn_schedule.specs.Turning.{Gives}
 use Rattle.lmn_drive.specs.Driving.{Broke, CountsCommit, RunInput, Going, StepsOn, Stopped, given_by_engine}
@@ -94,7 +94,7 @@ pub returns-in_err-stop-clause-keeps : goal.returns-in_err-stop-clause-keeps
 returns-in_err-stop-clause-keeps g c = c.step.ensures.keeps ∙ (λ i. record (c.loop.invariant.keeps i) { machine = c.step.new.engine.machine; commits = c.step.new.engine.commits })
 
 pub returns-in_err-stop-clause-rose : goal.returns-in_err-stop-clause-rose
-returns-in_err-stop-clause-rose g c = at_err _ c.from_residual-in_err-stop.result _ _ c.from_residual-in_err-stop.ensures.1 (subst (λ n. Rose n (g.O.Sink.faults c.step.new.out)) c.loop.invariant.same c.in_err-stop.ensures.rose)
+returns-in_err-stop-clause-rose g c = at_err _ c.from_residual-in_err-stop.result _ _ c.from_residual-in_err-stop.ensures.1 (none_then_last (g.O.Sink.faults c.args.out.now) (g.O.Sink.faults c.loop.out) (g.O.Sink.faults c.step.new.out) c.loop.invariant.same c.in_err-stop.ensures.rose)
 
 pub returns-in-Some-clause-stops : goal.returns-in-Some-clause-stops
 returns-in-Some-clause-stops g c k gives solid held =
@@ -119,7 +119,7 @@ pub returns-in-Some-clause-keeps : goal.returns-in-Some-clause-keeps
 returns-in-Some-clause-keeps g c = c.step.ensures.keeps ∙ (λ i. record (c.loop.invariant.keeps i) { machine = c.step.new.engine.machine; commits = c.step.new.engine.commits })
 
 pub returns-in-Some-clause-same : goal.returns-in-Some-clause-same
-returns-in-Some-clause-same g c = c.in_ok-stop.ensures.same ∙ c.loop.invariant.same
+returns-in-Some-clause-same g c = none_more (g.O.Sink.faults c.args.out.now) (g.O.Sink.faults c.loop.out) (g.O.Sink.faults c.step.new.out) c.loop.invariant.same c.in_ok-stop.ensures.same
 
 pub loop-preserved : goal.loop-preserved
 loop-preserved g c =
@@ -132,7 +132,7 @@ loop-preserved g c =
           (subst (λ codes. EngineCanTurn (g.S.LinkStore.heap c.step.new.engine.machine.store) c.args.plain.now.rules codes c.loop.engine.size) (λ i. (c.loop.invariant.keeps i).codes) c.step.ensures.again);
       keeps = c.step.ensures.keeps ∙ (λ i. record (c.loop.invariant.keeps i) { machine = c.step.new.engine.machine; commits = c.step.new.engine.commits });
       count = subst (λ o. CountsCommit o c.loop.engine.commits c.step.new.engine.commits) c.in_default.is c.in_ok-stop.ensures.counts ∙ ap (λ n. n + 1) c.loop.invariant.count;
-      same = c.in_ok-stop.ensures.same ∙ c.loop.invariant.same;
+      same = none_more (g.O.Sink.faults c.args.out.now) (g.O.Sink.faults c.loop.out) (g.O.Sink.faults c.step.new.out) c.loop.invariant.same c.in_ok-stop.ensures.same;
       going = λ k gives solid held. (
           let size : c.loop.engine.size ≡ c.args.engine.now.size = λ i. (c.loop.invariant.keeps i).size in
           let below : c.loop.engine.commits < options.budget = (let l = c.loop-test.true in let e = c.loop.invariant.count in omega (arith, l, e)) in

@@ -1,6 +1,7 @@
 use Rattle.std.proofs.Common.{◌≡◌}
 use Rattle.lmn_adequacy.specs.Runs.{Chooser}
 use Rattle.lmn_congruence.specs.Regions.{Region}
+use Rattle.lmn_io.specs.Counts.{NoneFailed}
 use Rattle.lmn_schedule.specs.Held.{EngineCanTurn, HoldsRegion}
 use Rattle.lmn_schedule.specs.Turning.{Gives}
 use Rattle.lmn_drive.specs.Driving.{Going, given_by_engine}
@@ -13,7 +14,7 @@ invariant-loop g l =
       run : EngineCanTurn (heap l.engine.machine.store) l.plain.rules l.fn.engine.codes l.fn.engine.size;
       keeps : l.engine ≡ record l.fn.engine { machine = l.engine.machine; commits = l.engine.commits };
       count : l.engine.commits ≡ l.counter;
-      same : g.O.Sink.faults l.out ≡ g.O.Sink.faults l.fn.out;
+      same : NoneFailed (g.O.Sink.faults l.fn.out) (g.O.Sink.faults l.out);
       going : (c : Chooser) → Gives (λ f t m r. g.F.Fn.post f (t, (m, tt)) r) l.fn.engine.chooser.f c → (solid : Region) → HoldsRegion l.names l.plain.rules (heap l.fn.engine.machine.store) solid →
           Going (given_by_engine l.names l.plain.rules l.fn.engine.size l.options c solid) l.engine.commits (heap l.engine.machine.store) (g.O.Sink.told l.fn.out) (g.O.Sink.told l.out);
     }

@@ -2,6 +2,7 @@ use Rattle.std.proofs.Common.{refl, sym, subst, ◌∙◌}
 use Rattle.lmn_schedule.specs.Held.{EngineCanTurn, HoldsRegion}
 use Rattle.lmn_strategy.specs.declared.turning.Turn.TheVariants as answer
 use Rattle.lmn_schedule.specs.Turning.{IsTurned}
+use Rattle.lmn_io.proofs.TakingLemmas.{no_put}
 use Rattle.lmn_drive.specs.Driving.{Broke, RunInput, Going, Stopped, given_by_engine}
 use Rattle.lmn_drive.specs.declared.driving.Stop.TheVariants as stop
 use Rattle.lmn_drive.proofs.Goings.{broke_more, going_more, moved, none_more, stops_full, stops_irreducible, stops_no_memory}
@@ -95,6 +96,9 @@ returns-in-Irreducible-clause-keeps g c =
 pub returns-in-Irreducible-clause-counts : goal.returns-in-Irreducible-clause-counts
 returns-in-Irreducible-clause-counts g c = (λ i. (c.in-Irreducible.ensures.keeps i).commits) ∙ none_more c.args.engine.now.commits
 
+pub returns-in-Irreducible-clause-same : goal.returns-in-Irreducible-clause-same
+returns-in-Irreducible-clause-same g c = no_put (g.O.Sink.faults c.args.out.now)
+
 pub returns-in-Full-clause-goes : goal.returns-in-Full-clause-goes
 returns-in-Full-clause-goes g c k gives solid told below s =
     let names = c.args.names.now in
@@ -118,6 +122,9 @@ returns-in-Full-clause-keeps g c =
 pub returns-in-Full-clause-counts : goal.returns-in-Full-clause-counts
 returns-in-Full-clause-counts g c = (λ i. (c.in-Full.ensures.keeps i).commits) ∙ none_more c.args.engine.now.commits
 
+pub returns-in-Full-clause-same : goal.returns-in-Full-clause-same
+returns-in-Full-clause-same g c = no_put (g.O.Sink.faults c.args.out.now)
+
 pub returns-in-NoMemory-clause-goes : goal.returns-in-NoMemory-clause-goes
 returns-in-NoMemory-clause-goes g c k gives solid told below s =
     let names = c.args.names.now in
@@ -140,3 +147,6 @@ returns-in-NoMemory-clause-keeps g c =
 
 pub returns-in-NoMemory-clause-counts : goal.returns-in-NoMemory-clause-counts
 returns-in-NoMemory-clause-counts g c = (λ i. (c.in-NoMemory.ensures.keeps i).commits) ∙ none_more c.args.engine.now.commits
+
+pub returns-in-NoMemory-clause-same : goal.returns-in-NoMemory-clause-same
+returns-in-NoMemory-clause-same g c = no_put (g.O.Sink.faults c.args.out.now)
