@@ -23,14 +23,14 @@ use Rattle.lmn_reduction.specs.Parts.{Rooted}
 use Rattle.lmn_reduction.specs.Steps.{SettlingStep, Step, beside, inside, into, leaf, out, up_to}
 use Rattle.lmn_reduction.proofs.SettledForms.{all_join}
 use Rattle.lmn_adequacy.specs.Accepted.{Accepted, Throughout, all_asked}
-use Rattle.lmn_adequacy.specs.ChangeExamples.{KeptComesFirst, TracesLeaveNothingOut, TwoFiringsAreTwoCommits, a_makes_b, changing}
+use Rattle.lmn_adequacy.specs.ChangeExamples.{KeptComesFirst, ShortTraceEnds, TracesLeaveNothingOut, TwoFiringsAreTwoCommits, a_makes_b, changing}
 use Rattle.lmn_adequacy.specs.Choice.{Before, ChosenFrom, less_here}
 use Rattle.lmn_adequacy.specs.Embedding.{AllRules, EmbedsAt, EmbedsIn, HasEmbedding, LevelImages, Taken, embeds_below, embeds_here, image_and, level_images, no_image, no_membrane_image, no_part, no_part_of_atom, taken_first, taken_later}
 use Rattle.lmn_adequacy.specs.Examples.{root_first}
 use Rattle.lmn_adequacy.specs.Next.{Contents, EmbedsInOrder, Next, NextAt, assignment_of, fires_here, made_atom, made_level, no_made_leaf, no_made_membrane, raw_level}
 use Rattle.lmn_adequacy.specs.Runs.{Chooser, Trace, Turn, loaded, nothing_embeds, turned}
 use Rattle.lmn_adequacy.proofs.InOrder.{contents_plain}
-use Rattle.lmn_adequacy.proofs.Results.{embeddings_fire, one_next}
+use Rattle.lmn_adequacy.proofs.Results.{embeddings_fire, irreducible_exactly, one_next}
 use Rattle.lmn_adequacy.proofs.Runs.{trace_commits, trace_is_one}
 
 -- ---- names told apart
@@ -82,7 +82,7 @@ rule_accepted = record {
 }
 
 -- all rules of these solids are accepted, those in rules too
-pub changing_accepted : (labels : List Label) → AllRules (Throughout Accepted) (changing labels)
+changing_accepted : (labels : List Label) → AllRules (Throughout Accepted) (changing labels)
 changing_accepted labels = (((rule_accepted, (tt, tt)), tt), tt)
 
 -- ---- where it embeds
@@ -204,7 +204,7 @@ chosen_first from xs = record {
     zero_or_behind (suc n) = inr (less_here (omega arith))
 
 -- `a. a :- b.` goes to `b.` beside its rule, whichever membrane is asked first
-pub alone_turns : (chooser : Chooser) (n : ℕ) → Turn chooser n (changing (label_a ∷ [])) (changing (label_b ∷ []))
+alone_turns : (chooser : Chooser) (n : ℕ) → Turn chooser n (changing (label_a ∷ [])) (changing (label_b ∷ []))
 unfolding raw
 alone_turns chooser n = record {
   next = record { path = []; number = 0; positions = 0 ∷ []; chosen = chosen_first _ []; next = next_at [] _ taken_first (λ x. inl refl) refl (λ x. inl refl) };
@@ -231,8 +231,20 @@ not_among taken_first e = absurd (a_not_b (ap letter e))
 not_among (taken_later k) e = elim k [ ]
 
 -- in `b. a :- b.` nothing embeds
-pub alone_stays : ¬ (HasEmbedding (changing (label_b ∷ [])))
+alone_stays : ¬ (HasEmbedding (changing (label_b ∷ [])))
 alone_stays e = by_atom (λ path k f. ⊥) (solid_atom_with label_b [] ∷ []) (λ n rest k. not_among k refl) e.embeds
+
+-- so the trace of `a. a :- b.` ends there
+pub short_trace : (chooser : Chooser) → Trace chooser 1 2 (changing (label_a ∷ [])) (changing (label_a ∷ []) ∷ []) (changing (label_b ∷ []))
+short_trace chooser = turned loaded (omega arith) (alone_turns chooser 0) (omega arith)
+
+-- and so does its process
+pub short_trace_ends : ShortTraceEnds
+short_trace_ends = (
+  λ chooser. (short_trace chooser, nothing_embeds alone_stays),
+  (trace_commits root_first 1 2 (changing (label_a ∷ [])) (changing (label_a ∷ []) ∷ []) (changing (label_b ∷ [])) (λ x. inl refl) (changing_accepted (label_a ∷ [])) (short_trace root_first)).0,
+  (irreducible_exactly (changing (label_b ∷ [])) (λ x. inl refl) ((rule_accepted, tt), tt)).1 alone_stays,
+)
 
 not_among_two : {x : SolidAtom} {n : ℕ} {rest : List SolidAtom} → Taken n x (solid_atom_with label_b [] ∷ solid_atom_with label_b [] ∷ []) rest → label_a ≡ x.label → ⊥
 not_among_two taken_first e = absurd (a_not_b (ap letter e))

@@ -4,11 +4,11 @@ use Rattle.lmn_congruence.specs.Process.{Process}
 use Rattle.lmn_congruence.specs.Regions.{Region, region, no_region, region_process, solid_atom_with}
 use Rattle.lmn_congruence.specs.Rules.{Label, Rule, atom_leaf, only_leaves, rule_of}
 use Rattle.lmn_reduction.specs.Chains.{Commits}
-use Rattle.lmn_reduction.specs.Commits.{Commit}
+use Rattle.lmn_reduction.specs.Commits.{Commit, Irreducible}
 use Rattle.lmn_reduction.specs.Examples.{label_a, label_b, label_c}
 use Rattle.lmn_adequacy.specs.Examples.{root_first}
 use Rattle.lmn_adequacy.specs.Next.{Next}
-use Rattle.lmn_adequacy.specs.Runs.{Ends, Trace, irreducible}
+use Rattle.lmn_adequacy.specs.Runs.{Chooser, Ends, Trace, irreducible}
 
 -- `a :- b`
 abbrev pub a_makes_b : Rule
@@ -39,3 +39,12 @@ TracesLeaveNothingOut =
     let last : Region = changing (label_b ∷ label_b ∷ []) in
     Trace root_first 5 9 first (first ∷ second ∷ []) last × Ends root_first 5 9 2 last irreducible
     × (¬ (Trace root_first 5 9 first (second ∷ []) last)) × (¬ (Trace root_first 5 9 first (first ∷ []) last))
+
+-- `a. a :- b.` comes to `b.` beside its rule by one commit, whichever membrane is asked first, and nothing embeds there: so its trace
+-- ends irreducible, and the process is so.
+abbrev pub ShortTraceEnds : Type 0
+ShortTraceEnds =
+    let first : Region = changing (label_a ∷ []) in
+    let last : Region = changing (label_b ∷ []) in
+    ((chooser : Chooser) → Trace chooser 1 2 first (first ∷ []) last × Ends chooser 1 2 1 last irreducible)
+    × Commits 1 (region_process first) (region_process last) × Irreducible (region_process last)

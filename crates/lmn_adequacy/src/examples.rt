@@ -1,6 +1,6 @@
 //! Small solids, and what they do: each the contract of an empty function.
 
-ghost use Rattle.lmn_adequacy.specs.ChangeExamples.{KeptComesFirst, TracesLeaveNothingOut, TwoFiringsAreTwoCommits};
+ghost use Rattle.lmn_adequacy.specs.ChangeExamples.{KeptComesFirst, ShortTraceEnds, TracesLeaveNothingOut, TwoFiringsAreTwoCommits};
 ghost use Rattle.lmn_adequacy.specs.Examples.{EndsMeetInOneAtom, InnerLinkDoesNotEmbed, MembraneOpens, ListDepthFirst};
 ghost use Rattle.lmn_adequacy.specs.Examples.{TheseAreAccepted, NextHasNoLoop, CopiesStandAsWritten, TracesEnd};
 
@@ -69,4 +69,10 @@ pub fn two_firings_are_two_commits()
 #[tactic(auto, using(crate::proofs::ExampleChanges::traces_leave_nothing_out))]
 pub fn traces_leave_nothing_out()
     ensures { TracesLeaveNothingOut }
+{}
+
+/// `a. a :- b.` comes to `b.` beside its rule by one commit, and is irreducible there.
+#[tactic(auto, using(crate::proofs::ExampleChanges::short_trace_ends))]
+pub fn short_trace_ends()
+    ensures { ShortTraceEnds }
 {}
