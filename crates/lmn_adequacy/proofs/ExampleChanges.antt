@@ -235,16 +235,8 @@ alone_stays : ¬ (HasEmbedding (changing (label_b ∷ [])))
 alone_stays e = by_atom (λ path k f. ⊥) (solid_atom_with label_b [] ∷ []) (λ n rest k. not_among k refl) e.embeds
 
 -- so the trace of `a. a :- b.` ends there
-pub short_trace : (chooser : Chooser) → Trace chooser 1 2 (changing (label_a ∷ [])) (changing (label_a ∷ []) ∷ []) (changing (label_b ∷ []))
+short_trace : (chooser : Chooser) → Trace chooser 1 2 (changing (label_a ∷ [])) (changing (label_a ∷ []) ∷ []) (changing (label_b ∷ []))
 short_trace chooser = turned loaded (omega arith) (alone_turns chooser 0) (omega arith)
-
--- and so does its process
-pub short_trace_ends : ShortTraceEnds
-short_trace_ends = (
-  λ chooser. (short_trace chooser, nothing_embeds alone_stays),
-  (trace_commits root_first 1 2 (changing (label_a ∷ [])) (changing (label_a ∷ []) ∷ []) (changing (label_b ∷ [])) (λ x. inl refl) (changing_accepted (label_a ∷ [])) (short_trace root_first)).0,
-  (irreducible_exactly (changing (label_b ∷ [])) (λ x. inl refl) ((rule_accepted, tt), tt)).1 alone_stays,
-)
 
 not_among_two : {x : SolidAtom} {n : ℕ} {rest : List SolidAtom} → Taken n x (solid_atom_with label_b [] ∷ solid_atom_with label_b [] ∷ []) rest → label_a ≡ x.label → ⊥
 not_among_two taken_first e = absurd (a_not_b (ap letter e))
@@ -338,4 +330,12 @@ two_firings_are_two_commits = (
   (trace_commits root_first 5 9 two_a (two_a ∷ a_and_b ∷ []) two_b (λ x. inl refl) (changing_accepted (label_a ∷ label_a ∷ [])) up_to_last).0,
   λ c. not_at_once (one_taken c refl),
   not_at_once,
+)
+
+-- the trace of `a. a :- b.` ends, and so does its process
+pub short_trace_ends : ShortTraceEnds
+short_trace_ends = (
+  λ chooser. (short_trace chooser, nothing_embeds alone_stays),
+  one_taken (trace_commits root_first 1 2 (changing (label_a ∷ [])) (changing (label_a ∷ []) ∷ []) (changing (label_b ∷ [])) (λ x. inl refl) (changing_accepted (label_a ∷ [])) (short_trace root_first)).0 refl,
+  (irreducible_exactly (changing (label_b ∷ [])) (λ x. inl refl) ((rule_accepted, tt), tt)).1 alone_stays,
 )

@@ -47,4 +47,4 @@ ShortTraceEnds =
     let first : Region = changing (label_a ∷ []) in
     let last : Region = changing (label_b ∷ []) in
     ((chooser : Chooser) → Trace chooser 1 2 first (first ∷ []) last × Ends chooser 1 2 1 last irreducible)
-    × Commits 1 (region_process first) (region_process last) × Irreducible (region_process last)
+    × Commit (region_process first) (region_process last) × Irreducible (region_process last)

@@ -8,3 +8,4 @@ mod SpelledParts
 mod SpelledRules
 mod RightWords
 mod Printable
+mod ExampleLines

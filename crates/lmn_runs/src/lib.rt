@@ -4,6 +4,7 @@
 //! when it runs.
 #![tactic(auto)]
 
+ghost use Rattle.lmn_runs.specs.Examples.{ShortRunPrints};
 ghost use Rattle.lmn_runs.specs.Laws.{TracesAreRuns, TracesHaveLines};
 ghost use Rattle.lmn_runs.specs.Texts.{PlainsArePrintable};
 
@@ -21,4 +22,9 @@ pub fn traces_have_lines()
 /// Runs of the plain that is read of a text can be printed: a text can spell its top and its rules, since its tokens did.
 pub fn plains_are_printable()
     ensures { PlainsArePrintable }
+{}
+
+/// The two lines that are printed of `a. a :- b.`, neither of which is all that is printed.
+pub fn short_run_prints()
+    ensures { ShortRunPrints }
 {}
