@@ -2,7 +2,7 @@
 use Rattle.std.proofs.Common.{ℕ, zero, suc, ◌≡◌, ◌==◌, ◌&&◌, Bool, true, false, cond, List, [], ◌∷◌, map, Option, Some, None, refl, sym, ap, subst, ◌∙◌}
 use Rattle.std.specs.Option.{option_map, option_and_then}
 use Rattle.std.specs.Prelude.{slice_index_or}
-use Rattle.lmn_heap.specs.Heap.{Heap, HeapAtom, lone_root, Place, top, within, waiting, gone, marks_of, link_of, with_place, atom_sent, unless_gone, linked, cleared, taken, placed, joined, moved_all, finished, taken_mem, placed_mem, rule_added, rules_copied, taken_all, Unmarked}
+use Rattle.lmn_heap.specs.Heap.{Heap, HeapAtom, Place, top, within, waiting, gone, marks_of, link_of, with_place, atom_sent, unless_gone, linked, cleared, taken, placed, joined, moved_all, finished, taken_mem, placed_mem, rule_added, rules_copied, taken_all, Unmarked}
 use Rattle.lmn_heap.specs.Splice.{joined_to, joined_both}
 use Rattle.lmn_heap.proofs.Listing.{alter_keeps}
 use Rattle.lmn_splice.specs.Ties.{Tie, newlink, relink, unify}
@@ -103,8 +103,3 @@ does_unmarked r (Relink p h) s t d u = on s t (tied s (relink (new_port r p) (ol
 does_unmarked r (Unify g h) s t d u = on s t (tied s (unify (old_port r g) (old_port r h))) d (tied_same s (unify (old_port r g) (old_port r h))) u
 does_unmarked r Proceed s t d u = subst Unmarked (sym d) (finished_unmarked s u)
 does_unmarked r _ s t d u = absurd d
-
--- a new store has no atom
-pub lone_unmarked : Unmarked lone_root
-lone_unmarked a zero = refl
-lone_unmarked a (suc i) = refl

@@ -8,8 +8,6 @@ mod committing;
 mod laws;
 mod preparing;
 mod splicing;
-#[cfg(test)]
-mod tests;
 
 pub use committing::commit;
 pub use laws::bodies_are_in_order;

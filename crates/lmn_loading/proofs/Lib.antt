@@ -8,4 +8,3 @@ pub mod Items
 pub mod FillingSteps
 pub mod JoiningSteps
 pub mod RuleNumbers
-pub mod AloneLemmas

@@ -3,6 +3,7 @@ use Rattle.std.proofs.Common.{ℕ, ◌≡◌, ◌≢◌, ◌⊎◌, ◌+◌, Lis
 use Rattle.std.specs.List.{flat_map}
 use Rattle.std.specs.Option.{option_map, option_and_then}
 use Rattle.std.proofs.lemmas.Bool.{cases_eq}
+use Rattle.std.proofs.lemmas.List.{append-nil}
 use Rattle.lmn_base.specs.declared.level.Level.{Level, out-Level}
 use Rattle.lmn_base.specs.declared.level.Level.TheFolds.{fold_out-Level}
 use Rattle.lmn_base.specs.declared.solid.Region.{Region}
@@ -22,7 +23,6 @@ use Rattle.lmn_loading.specs.Adding.{CanBeFilled, Named, atom_links, AddsToMembr
 use Rattle.lmn_loading.proofs.Composing.{leaves_both}
 use Rattle.lmn_loading.proofs.Atoms.{line_first, line_rest}
 use Rattle.lmn_congruence.specs.Links.{places}
-use Rattle.lmn_loading.proofs.AloneLemmas.{nil as nil_leaves}
 use Rattle.lmn_base.specs.Graphs.{Port}
 use Rattle.lmn_base.specs.Lists.{In}
 use Rattle.lmn_base.proofs.Lists.{plus_nothing, none_is_not}
@@ -126,7 +126,7 @@ module _ (s : Heap) (m n : ℕ) (h : CanBeFilled s m) (fresh : s.mems n ≡ None
 
     all_links : (v : ℕ → ℕ) (z : ℕ) → places z (map v (links ps)) ≡ 0 + places z (map v (atom_links (leaves_of l ++ [])))
     all_links v z =
-        let w : leaves_of l ++ [] ≡ (out-Level l).leaves ++ flat_map leaves_of (out-Level l).membranes = nil_leaves (leaves_of l) ∙ leaves_apart l in
+        let w : leaves_of l ++ [] ≡ (out-Level l).leaves ++ flat_map leaves_of (out-Level l).membranes = append-nil (leaves_of l) ∙ leaves_apart l in
         b.links v z ∙ sym (leaves_both v z (out-Level l).leaves (flat_map leaves_of (out-Level l).membranes)) ∙ ap (λ ls. places z (map v (atom_links ls))) (sym w) ∙ zero_plus (places z (map v (atom_links (leaves_of l ++ []))))
 
     fresh_before : (k : ℕ) → s1.mems k ≡ None → s.mems k ≡ None

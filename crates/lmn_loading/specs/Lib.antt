@@ -2,4 +2,3 @@ pub mod Adding
 pub mod Joining
 pub mod Loaded
 pub mod Laws
-pub mod Alone

@@ -6,8 +6,6 @@ mod joining;
 mod laws;
 mod leaves;
 mod loading;
-#[cfg(test)]
-mod tests;
 
 pub use laws::loading_settles;
 pub use loading::{LoadFault, load};

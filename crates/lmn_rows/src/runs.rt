@@ -71,7 +71,7 @@ const SIZE: u64 = 16_777_216;
 /// many items are left, and the lines.
 type Default = (&'static [u8], u64, u64, u64, &'static [u8]);
 
-const DEFAULTS: [Default; 14] = [
+const DEFAULTS: [Default; 16] = [
     (
         b"a. a. a, a :- b.",
         3,
@@ -159,6 +159,15 @@ const DEFAULTS: [Default; 14] = [
     ),
     // Where 2 items are allowed it isn't loaded.
     (b"a. b. c.", 3, 0, 3, b"a. b. c.\n% irreducible after 0\n"),
+    (b"a. a.", 2, 0, 2, b"a. a.\n% irreducible after 0\n"),
+    // A body of two atoms, with a link between them, and a membrane with a rule.
+    (
+        b"s. s :- a(X), {a(X), (b :- c)}.",
+        2,
+        1,
+        5,
+        b"a(L0). {a(L0), (b :- c)}. (s :- a(L0), {a(L0), (b :- c)}).\n% irreducible after 1\n",
+    ),
 ];
 
 const TWO_MEMBRANES: &[u8] = b"{a. a :- b.}. {c. c :- d.}.";
