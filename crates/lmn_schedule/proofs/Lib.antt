@@ -1,4 +1,3 @@
 mod Named
 pub mod Loaded
 mod Turned
-mod TestPlains

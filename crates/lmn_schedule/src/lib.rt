@@ -2,8 +2,6 @@
 #![tactic(auto)]
 
 mod engine;
-#[cfg(test)]
-mod tests;
 
 pub use engine::Engine;
 pub use lmn_loading::LoadFault;
