@@ -1,5 +1,5 @@
 -- What a run of an engine wrote is a run of the text that was loaded.
-use Rattle.std.proofs.Common.{◌≡◌, ℕ, ◌≤◌, ◌<◌, ◌^◌, ◌++◌, Bool, true, false, List, [], ◌∷◌, length, Option, Some, inr, refl, sym, ap, ◌∙◌, subst}
+use Rattle.std.proofs.Common.{◌≡◌, ℕ, ◌≤◌, ◌<◌, ◌^◌, ◌++◌, Bool, true, false, List, [], ◌∷◌, length, Option, Some, inr, refl, sym, ap, ◌∙◌, subst, arith}
 use Rattle.std.specs.List.{concat}
 use Rattle.std.specs.declared.alloc.Global.{Global}
 use Rattle.std.proofs.lemmas.List.{append-nil, append_assoc}
@@ -11,9 +11,11 @@ use Rattle.lmn_base.specs.Links.{EachTwice}
 use Rattle.lmn_base.specs.Solids.{item_count}
 use Rattle.lmn_base.specs.WellMade.{IsWellMade}
 use Rattle.lmn_adequacy.proofs.PlainSolids.{solids_of_plains_exist}
-use Rattle.lmn_congruence.specs.Regions.{Region}
+use Rattle.lmn_congruence.specs.Regions.{Region, item_count_of_region}
 use Rattle.lmn_congruence.specs.Rules.{Name}
 use Rattle.lmn_congruence.specs.SolidsOfPlains.{IsSolidOf}
+use Rattle.lmn_congruence.proofs.SolidsOfPlains.{solids_of_plains}
+use Rattle.lmn_congruence.proofs.TranslatedItems.{items_kept}
 use Rattle.lmn_guards.specs.declared.plan.GuardPlan.{GuardPlan}
 use Rattle.lmn_heap.specs.Heap.{Heap}
 use Rattle.lmn_io.specs.Counts.{FailedLast, Faults, NoneFailed}
@@ -37,7 +39,9 @@ use Rattle.lmn_app.specs.Runnings.{ended_as}
 use Rattle.lmn_app.specs.Runs.{IsTraceOf}
 use Rattle.lmn_app.specs.Texts.{Accepts, at_start, too_large}
 use Rattle.lmn_app.specs.Writing.{WritesRun, given, run_text}
+use Rattle.lmn_app.proofs.PlainRegions.{region_is_numbered}
 use Rattle.lmn_app.proofs.RunLemmas.{Laws, trace_is_run}
+use Rattle.lmn_reading.proofs.Readings.{well_made}
 
 -- the words of ends are those of runs
 same_word : (e : End) → driven_word e ≡ word_of_stop (at_end e)
@@ -69,6 +73,9 @@ module _ (alloc : Global) (laws : Laws) (w : RunSettings) (small : w.size < 2 ^ 
   abbrev g : Driven
   g = driven names plain.rules w.size (record { trace = w.trace; folded = w.folded; budget = w.budget }) (chosen w.order) (solid_of names plain s)
 
+  well : IsWellMade plain
+  well = let read = a.accepted in well_made text names plain read.reads read.outside
+
   module _ (n : ℕ) (h : Heap) (r : Ran g n h) where
     abbrev lines : List (List ℕ)
     lines = printed w.trace r.lines.first_lines r.lines.last_line
@@ -79,9 +86,10 @@ module _ (alloc : Global) (laws : Laws) (w : RunSettings) (small : w.size < 2 ^ 
       plain = plain;
       plans = plans;
       accepted = a;
-      solid = s;
-      of_plain = i;
-      few = few;
+      solid = solid_of names plain s;
+      of_plain = solids_of_plains names plain s well i;
+      numbered = region_is_numbered names plain well s i;
+      few = omega (arith, few, items_kept names plain.rules s);
       before = r.before;
       last = r.last;
       trace = r.trace;
@@ -161,4 +169,6 @@ pub too_large_ended : (w : RunSettings) (text : List ℕ) (names : List Name) (p
 too_large_ended w text names plain plans k a well closed causes told count read_before read_after =
     let s = solids_of_plains_exist plain well closed in
     let large = causes s.0 s.1 in
-    record { cause = (too_large names plain plans a (s.0, s.1, large.0) refl, refl); output = refl; counts = no_put count }
+    let more : w.size < item_count_of_region (solid_of names plain s.0) = omega (arith, large.0, items_kept names plain.rules s.0) in
+    let is_large = (solid_of names plain s.0, solids_of_plains names plain s.0 well s.1, more) in
+    record { cause = (too_large names plain plans a is_large refl, refl); output = refl; counts = no_put count }

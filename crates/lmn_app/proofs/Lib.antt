@@ -1,4 +1,5 @@
 mod FirstNames
+mod PlainRegions
 mod TextLemmas
 mod ReadPlains
 mod Loadable

@@ -12,8 +12,10 @@ use Rattle.lmn_base.specs.Links.{EachTwice}
 use Rattle.lmn_base.specs.Names.{first_names}
 use Rattle.lmn_base.specs.Solids.{item_count}
 use Rattle.lmn_base.specs.WellMade.{IsWellMade}
+use Rattle.lmn_congruence.specs.Regions.{item_count_of_region}
 use Rattle.lmn_congruence.specs.Rules.{Name}
 use Rattle.lmn_congruence.specs.SolidsOfPlains.{IsSolidOf, JoinsLeaf, fused_region}
+use Rattle.lmn_congruence.proofs.SolidsOfPlains.{solids_of_plains}
 use Rattle.lmn_adequacy.proofs.PlainSolids.{solid_of_plain_is_one, solids_of_plains_exist}
 use Rattle.lmn_expand.specs.NameLists.{names_read}
 use Rattle.lmn_grammar.specs.Refusing.{IsRefused as IsRefusedAt}
@@ -32,7 +34,9 @@ use Rattle.lmn_reading.proofs.CodeLemmas.{refusals_have_codes}
 use Rattle.lmn_reading.proofs.OneRead as read
 use Rattle.lmn_reading.proofs.Readings.{well_made}
 use Rattle.lmn_reading.specs.Codes.{IsCode}
+use Rattle.lmn_runs.specs.Laws.{solid_of}
 use Rattle.lmn_app.specs.Texts.{Accepts, AcceptedOrRefused, Fits, IsAccepted, IsRefusal, IsTooLarge, NamesText, OneRefusal, RefusedNotAccepted, at_start, by_reading, text_bytes, too_large, too_long}
+use Rattle.lmn_app.proofs.PlainRegions.{solid_with_items}
 
 -- ---- codes
 
@@ -75,23 +79,27 @@ moved_solid p q s e i =
     record { closed = subst P e i.closed; to = i.to; joins = subst Q e i.joins; is = subst R e i.is; is_solid = i.is_solid }
 
 -- a plain that is too large doesn't fit, nor does one that is the same
-fits_not : (size : Option ℕ) (p q : Plain) → IsWellMade q → p.top ≡ q.top → IsTooLarge size p → Fits size q → ⊥
-fits_not None p q well e large fits = large
-fits_not (Some size) p q well e (s, i, l) (t, j, m) =
-    let same = solid_of_plain_is_one q s t well (moved_solid p q s e i) j in
-    let few : item_count s ≤ size = subst (λ z. item_count z ≤ size) (sym same) m in
-    omega (arith, l, few)
+fits_not : (size : Option ℕ) (names others : List Name) (p q : Plain) → IsWellMade p → IsWellMade q → p.top ≡ q.top → IsTooLarge size names p → Fits size others q → ⊥
+fits_not None names others p q well also e large fits = large
+fits_not (Some size) names others p q well also e (S, i, l) (T, j, m) =
+    let s = solid_with_items names p well S i in
+    let t = solid_with_items others q also T j in
+    let same : s.0 ≡ t.0 = solid_of_plain_is_one q s.0 t.0 also (moved_solid p q s.0 e s.1) t.1 in
+    let as_many : item_count s.0 ≡ item_count t.0 = ap item_count same in
+    omega (arith, l, m, s.2, t.2, as_many)
 
 made : {text : List ℕ} {names : List Name} {p : Plain} {ps : List GuardPlan} → IsAcceptedAs text names p ps → IsWellMade p
 made {text} {names} {p} a = well_made text names p a.reads a.outside
 
-fits_or_not : (size : Option ℕ) (p : Plain) → IsWellMade p → EachTwice (links_of p.top) → Fits size p ⊎ IsTooLarge size p
-fits_or_not None p well closed = inl tt
-fits_or_not (Some size) p well closed =
+fits_or_not : (size : Option ℕ) (names : List Name) (p : Plain) → IsWellMade p → EachTwice (links_of p.top) → Fits size names p ⊎ IsTooLarge size names p
+fits_or_not None names p well closed = inl tt
+fits_or_not (Some size) names p well closed =
     let s = solids_of_plains_exist p well closed in
-    elim (cases_lt size (item_count s.0)) [
-      | inl more ↦ inr (s.0, s.1, more)
-      | inr few ↦ inl (s.0, s.1, few)
+    let S = solid_of names p s.0 in
+    let of = solids_of_plains names p s.0 well s.1 in
+    elim (cases_lt size (item_count_of_region S)) [
+      | inl more ↦ inr (S, of, more)
+      | inr few ↦ inl (S, of, few)
     ]
 
 -- ---- what is refused isn't accepted, and has one refusal
@@ -109,7 +117,7 @@ refused_not_accepted size text r (too_long long e) (names, plain, plans, a, fits
 refused_not_accepted size text r (by_reading short others named h) (names, plain, plans, a, fits) =
     read.refused_not_accepted text names r (at_names text others names r named a.named h) (plain, plans, a.accepted)
 refused_not_accepted size text r (too_large others p ps b l e) (names, plain, plans, a, fits) =
-    fits_not size p plain (made a.accepted) (one_top text others names p plain ps plans b a) l fits
+    fits_not size others names p plain (made b.accepted) (made a.accepted) (one_top text others names p plain ps plans b a) l fits
 
 accepted_not_refused : (text : List ℕ) (names others : List Name) (p : Plain) (ps : List GuardPlan) (r : Refusal) → Accepts text names p ps → NamesText text others → IsRefusedAs text others r → ⊥
 accepted_not_refused text names others p ps r a named h = read.refused_not_accepted text names r (at_names text others names r named a.named h) (p, ps, a.accepted)
@@ -137,7 +145,7 @@ module _ (size : Option ℕ) where
       let r = a.accepted in
       let well = made r in
       let linked = (no_fault_is_linked p well).0 r.links in
-      elim (fits_or_not size p well linked.process) [
+      elim (fits_or_not size names p well linked.process) [
         | inl fits ↦ inl (names, p, ps, a, fits)
         | inr large ↦ inr (at_start 50, too_large names p ps a large refl)
       ]

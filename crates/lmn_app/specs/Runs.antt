@@ -1,17 +1,15 @@
 -- What a run of a text is, as it is printed: in the language and its calculus, and by the strategy.
 use Rattle.std.specs.Prelude.{ℕ, ◌≡◌, ◌≤◌, List, Bool, length}
 use Rattle.lmn_base.specs.declared.rule.Plain.{Plain}
-use Rattle.lmn_base.specs.declared.solid.Solid.{Solid}
-use Rattle.lmn_base.specs.Solids.{item_count}
+use Rattle.lmn_congruence.specs.Plains.{SolidOf}
 use Rattle.lmn_congruence.specs.Process.{Process}
-use Rattle.lmn_congruence.specs.Regions.{Region}
+use Rattle.lmn_congruence.specs.Regions.{Region, item_count_of_region}
 use Rattle.lmn_congruence.specs.Rules.{Name}
-use Rattle.lmn_congruence.specs.SolidsOfPlains.{IsSolidOf}
-use Rattle.lmn_congruence.specs.Translation.{plain_process}
+use Rattle.lmn_congruence.specs.Translation.{plain_process, top_of}
 use Rattle.lmn_guards.specs.declared.plan.GuardPlan.{GuardPlan}
 use Rattle.lmn_reduction.specs.Commits.{Settles}
+use Rattle.lmn_adequacy.specs.Numbered.{IsNumbered}
 use Rattle.lmn_adequacy.specs.Runs.{Trace}
-use Rattle.lmn_runs.specs.Laws.{solid_of}
 use Rattle.lmn_runs.specs.Runs.{Given, PrintedLines, Prints, Stop, StopsBy}
 use Rattle.lmn_app.specs.Texts.{Accepts}
 
@@ -29,17 +27,18 @@ pub record IsRun (trace folded : Bool) (budget : ℕ) (text : List ℕ) (lines :
   pub stops : StopsBy budget why n last
 
 -- The trace of a text under what a run is given, cut after n commits, and its lines: it begins with the solid of the text's plain,
--- which has few enough items.
+-- its links numbered in printed order, which has few enough items.
 pub record IsTraceOf (g : Given) (text : List ℕ) (lines : List (List ℕ)) (n : ℕ) : Type 0 where
   pub names : List Name
   pub plain : Plain
   pub plans : List GuardPlan
   pub accepted : Accepts text names plain plans
-  pub solid : Solid
-  pub of_plain : IsSolidOf plain solid
-  pub few : item_count solid ≤ g.size
+  pub solid : Region
+  pub of_plain : SolidOf (top_of names plain) solid
+  pub numbered : IsNumbered solid
+  pub few : item_count_of_region solid ≤ g.size
   pub before : List Region
   pub last : Region
-  pub trace : Trace g.chooser g.budget g.size (solid_of names plain solid) before last
+  pub trace : Trace g.chooser g.budget g.size solid before last
   pub count : length before ≡ n
   pub are : PrintedLines g before last lines

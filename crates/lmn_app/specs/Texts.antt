@@ -3,11 +3,11 @@ use Rattle.std.specs.Prelude.{◌≡◌, ◌<◌, ◌≤◌, ◌⊎◌, List, �
 use Rattle.std.specs.declared.alloc.Global.{Global}
 use Rattle.lmn_base.specs.declared.refusal.Refusal.{Refusal}
 use Rattle.lmn_base.specs.declared.rule.Plain.{Plain}
-use Rattle.lmn_base.specs.declared.solid.Solid.{Solid}
 use Rattle.lmn_base.specs.Names.{first_names}
-use Rattle.lmn_base.specs.Solids.{item_count}
+use Rattle.lmn_congruence.specs.Plains.{SolidOf}
+use Rattle.lmn_congruence.specs.Regions.{Region, item_count_of_region}
 use Rattle.lmn_congruence.specs.Rules.{Name}
-use Rattle.lmn_congruence.specs.SolidsOfPlains.{IsSolidOf}
+use Rattle.lmn_congruence.specs.Translation.{top_of}
 use Rattle.lmn_guards.specs.declared.plan.GuardPlan.{GuardPlan}
 use Rattle.lmn_reading.specs.Texts.{IsAcceptedAs, IsRefusedAs, LeavesNames}
 
@@ -26,17 +26,17 @@ pub record Accepts (text : List ℕ) (names : List Name) (plain : Plain) (plans 
   pub accepted : IsAcceptedAs text names plain plans
 
 -- The solid of the plain has at most so many items, where a command asks for that; or it has more.
-abbrev pub Fits : Option ℕ → Plain → Type 0
-Fits None plain = Unit {0}
-Fits (Some size) plain = (s : Solid) × IsSolidOf plain s × (item_count s ≤ size)
+abbrev pub Fits : Option ℕ → List Name → Plain → Type 0
+Fits None names plain = Unit {0}
+Fits (Some size) names plain = (S : Region) × SolidOf (top_of names plain) S × (item_count_of_region S ≤ size)
 
-abbrev pub IsTooLarge : Option ℕ → Plain → Type 0
-IsTooLarge None plain = ⊥
-IsTooLarge (Some size) plain = (s : Solid) × IsSolidOf plain s × (size < item_count s)
+abbrev pub IsTooLarge : Option ℕ → List Name → Plain → Type 0
+IsTooLarge None names plain = ⊥
+IsTooLarge (Some size) names plain = (S : Region) × SolidOf (top_of names plain) S × (size < item_count_of_region S)
 
 -- the text is accepted, and its process fits
 abbrev pub IsAccepted : Option ℕ → List ℕ → Type 0
-IsAccepted size text = (names : List Name) × (plain : Plain) × (plans : List GuardPlan) × Accepts text names plain plans × Fits size plain
+IsAccepted size text = (names : List Name) × (plain : Plain) × (plans : List GuardPlan) × Accepts text names plain plans × Fits size names plain
 
 -- a code at line 1, column 1
 abbrev pub at_start : ℕ → Refusal
@@ -49,7 +49,7 @@ at_start code = record { code = code; pos = record { line = 1; column = 1 } }
 pub data IsRefusal (size : Option ℕ) (text : List ℕ) (refusal : Refusal) : Type 0 where
   too_long : text_bytes < length text → refusal ≡ at_start 1 → IsRefusal size text refusal
   by_reading : length text ≤ text_bytes → (names : List Name) → NamesText text names → IsRefusedAs text names refusal → IsRefusal size text refusal
-  too_large : (names : List Name) (plain : Plain) (plans : List GuardPlan) → Accepts text names plain plans → IsTooLarge size plain
+  too_large : (names : List Name) (plain : Plain) (plans : List GuardPlan) → Accepts text names plain plans → IsTooLarge size names plain
       → refusal ≡ at_start 50 → IsRefusal size text refusal
 
 -- a text that is refused isn't accepted
