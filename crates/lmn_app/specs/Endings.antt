@@ -31,25 +31,19 @@ refusal_line refusal =
 
 -- the line of an ending, or nothing
 abbrev pub line_of_ending : Ending → List ℕ
-line_of_ending Done = []
-line_of_ending Budget = []
-line_of_ending Full = []
 line_of_ending (Refused refusal) = refusal_line refusal
 line_of_ending Words = codes "lmn: words not understood\n"
 line_of_ending ReadFault = codes "lmn: read failed\n"
 line_of_ending WriteFault = codes "lmn: write failed\n"
 line_of_ending NoMemory = codes "lmn: out of memory\n"
+line_of_ending ending = []
 
 -- the endings that have a line
 abbrev pub HasLine : Ending → Type 0
 HasLine Done = ⊥
 HasLine Budget = ⊥
 HasLine Full = ⊥
-HasLine (Refused refusal) = ⊤
-HasLine Words = ⊤
-HasLine ReadFault = ⊤
-HasLine WriteFault = ⊤
-HasLine NoMemory = ⊤
+HasLine ending = ⊤
 
 -- The answer to an ending, beside what `err` took and what it counts before and after:
 -- the ending's status where `err` took the whole line, and else 5; `err` fails only where a line is due.

@@ -10,21 +10,17 @@ use Rattle.lmn_app.specs.declared.task.Task.TheVariants as task
 use Rattle.lmn_reading.specs.Codes.{IsCode}
 use Rattle.lmn_app.specs.Texts.{IsRefusal}
 use Rattle.lmn_app.specs.Requests.{most_items}
-use Rattle.lmn_app.specs.Writing.{IsToldAnd, Lists, ListsPart, WritesRun, WritesPartOfRun}
+use Rattle.lmn_app.specs.Writing.{IsToldAnd, Told, Lists, ListsPart, WritesRun, WritesPartOfRun}
 
 -- Why a task ends so: what is told of the text, and the count of faults of its file, before and after.
-abbrev pub Causes : Task → Ending → Option (Option (List ℕ)) → ℕ → ℕ → Type 0
-Causes t Done text before after = ⊤
-Causes t Budget text before after = ⊤
+abbrev pub Causes : Task → Ending → Told → ℕ → ℕ → Type 0
 Causes t (Refused r) text before after = IsToldAnd text (λ bytes. IsRefusal (most_items t) bytes r) × IsCode r.code
 Causes t Words text before after = ⊥
 Causes t ReadFault text before after = Rose before after
-Causes t WriteFault text before after = ⊤
-Causes t NoMemory text before after = ⊤
-Causes t Full text before after = ⊤
+Causes t ending text before after = ⊤
 
 -- What `out` took of the text where a task ends so.
-abbrev pub Output : Task → Ending → Option (Option (List ℕ)) → Option (List ℕ) → Option (List ℕ) → Type 0
+abbrev pub Output : Task → Ending → Told → Option (List ℕ) → Option (List ℕ) → Type 0
 Output (task.Run s) Done text old new = WritesRun s text (at_end irreducible) old new
 Output (task.Run s) Budget text old new = WritesRun s text (at_end budget_done) old new
 Output (task.Run s) Full text old new = WritesRun s text (at_end full) old new
@@ -33,11 +29,8 @@ Output (task.Run s) WriteFault text old new = WritesPartOfRun s text old new
 Output task.List Done text old new = Lists text old new
 Output task.List Budget text old new = ⊥
 Output task.List Full text old new = ⊥
-Output task.List NoMemory text old new = new ≡ old
 Output task.List WriteFault text old new = ListsPart text old new
-Output t (Refused r) text old new = new ≡ old
-Output t Words text old new = new ≡ old
-Output t ReadFault text old new = new ≡ old
+Output t ending text old new = new ≡ old
 
 -- What it counts, before and after: the last put failed where the ending says so, and else none did.
 abbrev pub CountsFaults : Ending → Faults → Faults → Type 0
@@ -50,7 +43,7 @@ Answers (task.Run s) status = (status ≡ 0) ⊎ (status ≡ 1) ⊎ (status ≡ 
 Answers task.List status = (status ≡ 0) ⊎ (status ≡ 6)
 
 -- A task ended so.
-pub record Ended (t : Task) (ending : Ending) (text : Option (Option (List ℕ))) (old new : Option (List ℕ)) (before after : Faults) (read_before read_after : ℕ) : Type 0 where
+pub record Ended (t : Task) (ending : Ending) (text : Told) (old new : Option (List ℕ)) (before after : Faults) (read_before read_after : ℕ) : Type 0 where
   pub cause : Causes t ending text read_before read_after
   pub output : Output t ending text old new
   pub counts : CountsFaults ending before after

@@ -10,7 +10,7 @@ use Rattle.lmn_app.specs.declared.task.Task.{Task}
 use Rattle.lmn_app.specs.declared.task.Task.TheVariants as task
 use Rattle.lmn_app.specs.Demos.{demo_text}
 use Rattle.lmn_app.specs.Texts.{text_bytes}
-use Rattle.lmn_app.specs.Writing.{told_under}
+use Rattle.lmn_app.specs.Writing.{Told, told_under}
 
 -- words ask for something of which this holds
 abbrev pub Asked : List (String Global) → (Request → Type 0) → Type 0
@@ -25,7 +25,7 @@ file_of (to_compile file) = Some file
 file_of (to_demo n) = None
 
 -- what is told of the text: of a file what a map of texts has under its name, and of `demo` its own text
-abbrev pub told_of : Request → Option (List ℕ → Option (List ℕ)) → Option (Option (List ℕ))
+abbrev pub told_of : Request → Option (List ℕ → Option (List ℕ)) → Told
 told_of (to_run run) texts = told_under texts run.file
 told_of (to_compile file) texts = told_under texts file
 told_of (to_demo n) texts = Some (Some (demo_text n))

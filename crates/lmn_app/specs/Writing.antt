@@ -13,21 +13,25 @@ use Rattle.lmn_order.specs.Orders.{chosen}
 use Rattle.lmn_app.specs.declared.task.RunSettings.{RunSettings}
 use Rattle.lmn_drive.specs.Written.{end_line}
 
+-- What is told of a text: nothing (None), that it isn't there (Some None), or its bytes (Some (Some bytes)).
+abbrev pub Told : Type 0
+Told = Option (Option (List ℕ))
+
 -- what a map of texts, if one is told, has under a name
-abbrev pub told_under : Option (List ℕ → Option (List ℕ)) → List ℕ → Option (Option (List ℕ))
+abbrev pub told_under : Option (List ℕ → Option (List ℕ)) → List ℕ → Told
 told_under None name = None
 told_under (Some texts) name = Some (texts name)
 
 -- where a map is told, the text is there, and this holds of it
-abbrev pub IsToldAnd : Option (Option (List ℕ)) → (List ℕ → Type 0) → Type 0
+abbrev pub IsToldAnd : Told → (List ℕ → Type 0) → Type 0
 IsToldAnd told P = IfSome told (λ found. IsSomeAnd found P)
 
 -- where a map is told and the text is there, this holds of it
-abbrev pub IfTold : Option (Option (List ℕ)) → (List ℕ → Type 0) → Type 0
+abbrev pub IfTold : Told → (List ℕ → Type 0) → Type 0
 IfTold told P = IfSome told (λ found. IfSome found P)
 
 -- the text is short enough, and it is the one that is told, if one is
-abbrev pub IsTextOf : Option (Option (List ℕ)) → List ℕ → Type 0
+abbrev pub IsTextOf : Told → List ℕ → Type 0
 IsTextOf told text = (length text ≤ text_bytes) × IfSome told (λ found. found ≡ Some text)
 
 -- ---- runs
@@ -42,7 +46,7 @@ run_text lines why commits = concat lines ++ end_line (word_of_stop why) commits
 
 -- A run of the text stopped so, and its lines were taken. The text is the one that is told, if one is. Its lines are those of a run
 -- of the calculus, and which run that is the strategy says.
-pub record WritesRun (s : RunSettings) (told : Option (Option (List ℕ))) (why : Stop) (old new : Option (List ℕ)) : Type 0 where
+pub record WritesRun (s : RunSettings) (told : Told) (why : Stop) (old new : Option (List ℕ)) : Type 0 where
   pub text : List ℕ
   pub is_told : IsToldAnd told (λ found. found ≡ text)
   pub lines : List (List ℕ)
@@ -54,7 +58,7 @@ pub record WritesRun (s : RunSettings) (told : Option (Option (List ℕ))) (why 
 
 -- A prefix of the lines of a run of the text was taken, with the word that is due: that of the end of its trace, or `no memory` where
 -- the trace goes on.
-pub record WritesPartOfRun (s : RunSettings) (told : Option (Option (List ℕ))) (old new : Option (List ℕ)) : Type 0 where
+pub record WritesPartOfRun (s : RunSettings) (told : Told) (old new : Option (List ℕ)) : Type 0 where
   pub text : List ℕ
   pub is_told : IsToldAnd told (λ found. found ≡ text)
   pub lines : List (List ℕ)
@@ -74,14 +78,14 @@ pub record IsListing (text listing : List ℕ) : Type 0 where
   pub is : listing ≡ rule_listings names plain.rules plans
 
 -- the listing of the text was taken, or a prefix of it
-pub record Lists (told : Option (Option (List ℕ))) (old new : Option (List ℕ)) : Type 0 where
+pub record Lists (told : Told) (old new : Option (List ℕ)) : Type 0 where
   pub text : List ℕ
   pub is_told : IsToldAnd told (λ found. found ≡ text)
   pub listing : List ℕ
   pub of : IsListing text listing
   pub took : Takes listing old new
 
-pub record ListsPart (told : Option (Option (List ℕ))) (old new : Option (List ℕ)) : Type 0 where
+pub record ListsPart (told : Told) (old new : Option (List ℕ)) : Type 0 where
   pub text : List ℕ
   pub is_told : IsToldAnd told (λ found. found ≡ text)
   pub listing : List ℕ
