@@ -8,7 +8,7 @@ use Rattle.std.proofs.lemmas.Bool.Decides.{nat_tests}
 use Rattle.std.proofs.lemmas.List.{append-nil}
 use Rattle.lmn_congruence.specs.Rules.{Label, named, integer, Name}
 use Rattle.lmn_lexer.specs.declared.token.Kind.TheVariants as kind
-use Rattle.lmn_lexer.specs.Laying.{Word, Laid, NoneStandsFirst, IsRight, word as one_word}
+use Rattle.lmn_lexer.specs.Laying.{Word, Laid, NoneStandsFirst, word as one_word}
 use Rattle.lmn_lexer.specs.Spelling.{IsIntegerSpelling, is_bare_name}
 use Rattle.lmn_plain.proofs.Decimals.{integer_spelled}
 use Rattle.lmn_plain.specs.Words.{Piece, word, text_of, words_in, with_commas, with_full_stops, spaced, name_kind, piece_text, label_piece, link_piece, rules_pieces}
@@ -16,6 +16,7 @@ use Rattle.lmn_plain.proofs.LaidLines.{Goes, CanLay, text_behind, laid_as, comma
 use Rattle.lmn_plain.proofs.ReadGuards.{words_behind}
 use Rattle.lmn_plain.proofs.RightLines.{Right, both_right, commas_right, stops_right, link_right, name_right, integer_right, in_parentheses as args_right, rules_right}
 use Rattle.lmn_plain.specs.Spelled.{LabelSpelled}
+use Rattle.lmn_plain.specs.Texts.{IntegersInRange}
 use Rattle.lmn_folded.specs.Terms.{FoldedTerm, link, labelled, FoldedTerms, no_term, term_and, FoldedItem, Folded, folded, FoldedMembranes, no_membrane, membrane_and}
 use Rattle.lmn_folded.specs.Words.{in_parentheses, is_cell, is_empty_list, term_pieces, cell_pieces, rest_pieces, terms_pieces, item_pieces, folded_pieces, membranes_pieces, line_of_folded}
 use Rattle.lmn_folded_read.specs.Spelled.{TermSpelled, TermsSpelled, ItemSpelled, FoldedSpelled, MembranesSpelled}
@@ -160,7 +161,7 @@ mutual
 pub folded_laid : (f : Folded) → FoldedSpelled f → Laid true (line_of_folded f) (words_in (with_full_stops (folded_pieces f)))
 folded_laid f h = laid_as refl (sym (append-nil (words_in (with_full_stops (folded_pieces f))))) (top_laid (folded_pieces f) (folded_can f h))
 
--- Right words.
+-- Integers in range.
 
 label_right : (l : Label) → LabelSpelled l → Right (label_piece l ∷ [])
 label_right (named name) h = (name_right name h, tt)
@@ -182,8 +183,8 @@ mutual
   term_right (link x) h = (link_right x h, tt)
   term_right (labelled l ts) h =
       three_cases Right (is_cell l ts) (is_empty_list l ts) _ _ _
-      (((λ i. absurd (cc)), (λ x. x)), both_right (cell_pieces ts) (word kind.RBracket (codes "]") ∷ []) (cell_right ts h.1) (((λ i. absurd (cc)), (λ x. x)), tt))
-      (((λ i. absurd (cc)), (λ x. x)), (((λ i. absurd (cc)), (λ x. x)), tt))
+      ((λ i. absurd (cc)), both_right (cell_pieces ts) (word kind.RBracket (codes "]") ∷ []) (cell_right ts h.1) ((λ i. absurd (cc)), tt))
+      ((λ i. absurd (cc)), ((λ i. absurd (cc)), tt))
       (named_right l (terms_pieces ts) h.0 (terms_right ts h.1))
 
   cell_right : (ts : FoldedTerms) → TermsSpelled ts → Right (cell_pieces ts)
@@ -192,10 +193,10 @@ mutual
   cell_right (term_and t (term_and r ts)) h = both_right (term_pieces t) (rest_pieces r) (term_right t h.0) (rest_right r h.1.0)
 
   rest_right : (r : FoldedTerm) → TermSpelled r → Right (rest_pieces r)
-  rest_right (link x) h = (((λ i. absurd (cc)), (λ x. x)), (link_right x h, tt))
+  rest_right (link x) h = ((λ i. absurd (cc)), (link_right x h, tt))
   rest_right (labelled l ts) h =
-      three_cases Right (is_cell l ts) (is_empty_list l ts) _ _ _ (((λ i. absurd (cc)), (λ x. x)), cell_right ts h.1) tt
-      (((λ i. absurd (cc)), (λ x. x)), named_right l (terms_pieces ts) h.0 (terms_right ts h.1))
+      three_cases Right (is_cell l ts) (is_empty_list l ts) _ _ _ ((λ i. absurd (cc)), cell_right ts h.1) tt
+      ((λ i. absurd (cc)), named_right l (terms_pieces ts) h.0 (terms_right ts h.1))
 
   terms_right : (ts : FoldedTerms) → TermsSpelled ts → AllByRecursion Right (terms_pieces ts)
   terms_right no_term h = tt
@@ -213,8 +214,8 @@ mutual
   membranes_right : (fs : FoldedMembranes) → MembranesSpelled fs → AllByRecursion Right (membranes_pieces fs)
   membranes_right no_membrane h = tt
   membranes_right (membrane_and f fs) h =
-      ((((λ i. absurd (cc)), (λ x. x)), both_right (with_commas (folded_pieces f)) (word kind.RBrace (codes "}") ∷ []) (commas_right (folded_pieces f) (folded_right f h.0)) (((λ i. absurd (cc)), (λ x. x)), tt)), membranes_right fs h.1)
+      (((λ i. absurd (cc)), both_right (with_commas (folded_pieces f)) (word kind.RBrace (codes "}") ∷ []) (commas_right (folded_pieces f) (folded_right f h.0)) ((λ i. absurd (cc)), tt)), membranes_right fs h.1)
 
 -- each word of a folded line that a text can spell is right
-pub line_right : (f : Folded) → FoldedSpelled f → AllByRecursion IsRight (words_in (with_full_stops (folded_pieces f)))
+pub line_right : (f : Folded) → FoldedSpelled f → IntegersInRange (words_in (with_full_stops (folded_pieces f)))
 line_right f h = stops_right (folded_pieces f) (folded_right f h)

@@ -5,6 +5,7 @@ use Rattle.lmn_lexer.specs.Laying.{words_of}
 use Rattle.lmn_lexer.proofs.LaidTexts.{laid_texts_are_cut}
 use Rattle.lmn_plain.specs.Words.{words_in, with_full_stops}
 use Rattle.lmn_plain.proofs.PrintedLines.{same_kinds}
+use Rattle.lmn_plain.proofs.RightLines.{text_right}
 use Rattle.lmn_folded.specs.Words.{folded_pieces, line_of_folded}
 use Rattle.lmn_folded_read.specs.Laws.{FoldedLinesAreRead}
 use Rattle.lmn_folded_read.proofs.FoldedLaid.{folded_laid, line_right}
@@ -22,7 +23,7 @@ folded_lines_are_read f h =
       tokens,
       read.tree,
       record { cut = cut.1; is_tree = read.is_tree },
-      cut.3 (line_right f h),
+      λ short. cut.3 (text_right (words_in (with_full_stops (folded_pieces f))) (words_of text tokens) cut.2 (line_right f h) short),
       record {
         own_links = read.mades;
         apart = read.apart;

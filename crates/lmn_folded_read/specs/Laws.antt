@@ -7,6 +7,7 @@ use Rattle.lmn_lexer.specs.Laying.{words_of}
 use Rattle.lmn_parser.specs.Readings.{Reads}
 use Rattle.lmn_parser.specs.Syntax.{Clauses}
 use Rattle.lmn_plain.specs.Expansion.{parts_of}
+use Rattle.lmn_plain.specs.Laws.{NamesAreShort}
 use Rattle.lmn_plain.specs.Links.{Link, made}
 use Rattle.lmn_plain.specs.Parts.{level_from_parts}
 use Rattle.lmn_folded.specs.Terms.{Folded}
@@ -24,8 +25,9 @@ pub record IsTreeOf (text : List ℕ) (tokens : List Token) (tree : Clauses) (f 
   pub different : EachOnce own_links
   pub none_written : (a : Link) → Among a own_links → (way : List ℕ) × (a ≡ made way)
 
--- The line of a folded process that a text can spell is one in which nothing is wrong, and it reads as the tree of this process.
+-- The line of a folded process that a text can spell reads as the tree of this process. In it nothing is wrong, where its names are
+-- short.
 abbrev pub FoldedLinesAreRead : Type 0
 FoldedLinesAreRead = (f : Folded) → FoldedSpelled f
-    → (tokens : List Token) × (tree : Clauses) × Reads (line_of_folded f) tokens tree × NothingWrong (line_of_folded f)
+    → (tokens : List Token) × (tree : Clauses) × Reads (line_of_folded f) tokens tree × (NamesAreShort (words_of (line_of_folded f) tokens) → NothingWrong (line_of_folded f))
     × IsTreeOf (line_of_folded f) tokens tree f

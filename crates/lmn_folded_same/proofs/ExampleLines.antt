@@ -15,7 +15,7 @@ use Rattle.lmn_folded.proofs.ExampleLines.{last_ports_closed}
 pub its_line : ItsLine
 its_line alloc names is a b =
     folded_lines_read_back alloc names last_ports (codes "a(b).\n") is ((a, (b, tt)), tt, tt, tt, tt)
-    ((((omega arith, (codes "a", byte refl nothing)), (omega arith, tt), tt), (((omega arith, (codes "b", byte refl nothing)), (omega arith, tt), tt), tt)), tt, tt, tt, tt)
+    ((((codes "a", byte refl nothing), (omega arith, tt), tt), (((codes "b", byte refl nothing), (omega arith, tt), tt), tt)), tt, tt, tt, tt)
     (tt, tt) last_ports_closed folded.last_ports
 
 -- and no other one

@@ -19,7 +19,7 @@ use Rattle.lmn_lexer.proofs.LaidTexts.{laid_texts_are_cut}
 use Rattle.lmn_lexer.proofs.OneCut.{one_cut}
 use Rattle.lmn_parser.specs.Readings.{Reads}
 use Rattle.lmn_parser.specs.Syntax.{Clauses}
-use Rattle.lmn_plain.specs.Laws.{IsPlain}
+use Rattle.lmn_plain.specs.Laws.{IsPlain, NamesAreShort}
 use Rattle.lmn_plain.specs.LinkNumbers.{RulesNumbered}
 use Rattle.lmn_plain.specs.NamesHeld.{LevelHeld}
 use Rattle.lmn_plain.specs.SolidLines.{as_level}
@@ -48,7 +48,7 @@ TopIs names S p = (T : Region) × SameUpToAtomOrder S T × Closed (region_proces
 
 lines_are_read : (names : List tree.Name) (S : Region) (line : List ℕ) → IsNames names → LevelHeld names (as_level S) → LevelSpelled (as_level S)
     → RulesNumbered (as_level S) → Closed (region_process S) → IsFoldedLine S line
-    → (tokens : List Token) × (tree : Clauses) × Reads line tokens tree × NothingWrong line × ((p : Plain) → IsPlain line tokens tree names p → TopIs names S p)
+    → (tokens : List Token) × (tree : Clauses) × Reads line tokens tree × (NamesAreShort (words_of line tokens) → NothingWrong line) × ((p : Plain) → IsPlain line tokens tree names p → TopIs names S p)
 lines_are_read names S line is held spelled numbered closed h =
     let read = folded_lines_are_same S line h closed (numbered_form_spelled S line h closed spelled) in
     let tokens = read.0 in

@@ -12,6 +12,7 @@ use Rattle.lmn_plain.specs.Parts.{level_from_parts}
 use Rattle.lmn_plain.specs.Spelled.{IsLinkNumber}
 use Rattle.lmn_folded.specs.Terms.{FoldedTerm, link, labelled, FoldedTerms, no_term, term_and, FoldedItem, Folded, folded, FoldedMembranes, no_membrane, membrane_and, term_links, terms_links, items_links, folded_links, membranes_links}
 use Rattle.lmn_folded_read.specs.Laws.{IsTreeOf}
+use Rattle.lmn_plain.specs.Laws.{NamesAreShort}
 use Rattle.lmn_folded_read.specs.Spelled.{TermSpelled, TermsSpelled, ItemSpelled, FoldedSpelled, MembranesSpelled}
 use Rattle.lmn_folded_read.proofs.FoldedLines.{folded_lines_are_read}
 use Rattle.lmn_folded_same.specs.Lines.{FoldedLinesAreSame}
@@ -65,7 +66,7 @@ mutual
 -- a folded line gives the region that was printed, up to the order of atoms and the numbers of links
 pub folded_lines_are_same : FoldedLinesAreSame
 folded_lines_are_same S line h closed spelled =
-    let P : List ℕ → Type 0 = λ text. (tokens : List Token) × (tree : Clauses) × Reads text tokens tree × NothingWrong text × IsTreeOf text tokens tree h.numbered in
+    let P : List ℕ → Type 0 = λ text. (tokens : List Token) × (tree : Clauses) × Reads text tokens tree × (NamesAreShort (words_of text tokens) → NothingWrong text) × IsTreeOf text tokens tree h.numbered in
     let read = subst P (sym h.is) (folded_lines_are_read h.numbered spelled) in
     let tokens = read.0 in
     let tree = read.1 in

@@ -11,18 +11,18 @@ use Rattle.lmn_lexer.specs.Laying.{words_of}
 use Rattle.lmn_parser.specs.Readings.{Reads}
 use Rattle.lmn_parser.specs.Syntax.{Clauses}
 use Rattle.lmn_plain.specs.Expansion.{parts_of}
-use Rattle.lmn_plain.specs.Laws.{IsPlain}
+use Rattle.lmn_plain.specs.Laws.{IsPlain, NamesAreShort}
 use Rattle.lmn_plain.specs.Parts.{level_from_parts}
 use Rattle.lmn_folded.specs.Lines.{IsFoldedLine}
 use Rattle.lmn_folded_read.specs.Spelled.{FoldedSpelled}
 use Rattle.lmn_folded_same.specs.Numbered.{RegionNumbered}
 
--- The folded line of a region in which each link stands in two places, where a text can spell it, is one in which nothing is
--- wrong, and it reads as a tree. With the numbers that a plain of this tree has for its links, the tree gives to the top a region
+-- The folded line of a region in which each link stands in two places, where a text can spell it, reads as a tree, and nothing is
+-- wrong in it where its names are short. With the numbers that a plain of this tree has for its links, the tree gives to the top a region
 -- that is the one that was printed, up to the order of atoms and the numbers of links.
 abbrev pub FoldedLinesAreSame : Type 0
 FoldedLinesAreSame = (S : Region) (line : List ℕ) (h : IsFoldedLine S line) → Closed (region_process S) → FoldedSpelled h.numbered
-    → (tokens : List Token) × (tree : Clauses) × Reads line tokens tree × NothingWrong line
+    → (tokens : List Token) × (tree : Clauses) × Reads line tokens tree × (NamesAreShort (words_of line tokens) → NothingWrong line)
     × ((names : List Name) (p : Plain) (plain : IsPlain line tokens tree names p)
     → (T : Region) × SameUpToAtomOrder S T × Closed (region_process T)
     × (let words = words_of line tokens in

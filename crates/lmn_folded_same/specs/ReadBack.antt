@@ -17,7 +17,8 @@ use Rattle.lmn_lexer.specs.declared.token.Token.{Token}
 use Rattle.lmn_lexer.specs.Faults.{NothingWrong}
 use Rattle.lmn_parser.specs.Readings.{Reads}
 use Rattle.lmn_parser.specs.Syntax.{Clauses}
-use Rattle.lmn_plain.specs.Laws.{IsPlain}
+use Rattle.lmn_lexer.specs.Laying.{words_of}
+use Rattle.lmn_plain.specs.Laws.{IsPlain, NamesAreShort}
 use Rattle.lmn_plain.specs.LinkNumbers.{RulesNumbered}
 use Rattle.lmn_plain.specs.NamesHeld.{LevelHeld}
 use Rattle.lmn_plain.specs.SolidLines.{as_level, level_of_solid}
@@ -26,13 +27,13 @@ use Rattle.lmn_plain.specs.Texts.{IsPlainOfText}
 use Rattle.lmn_folded.specs.Lines.{IsFoldedLine}
 
 -- A well made plain gives the rules of a solid by their numbers. The list has the names of the solid and of these rules. The
--- folded line of the solid, where a text can spell it, is one in which nothing is wrong; it reads as a tree, and each plain of that
--- tree has a solid that is this one up to the order of atoms and the numbers of links, rules being compared as trees.
+-- folded line of the solid, where a text can spell it, reads as a tree, and each plain of that tree has a solid that is this one up to
+-- the order of atoms and the numbers of links, rules being compared as trees. In the line nothing is wrong, where its names are short.
 abbrev pub FoldedSolidLinesAreRead : Type 0
 FoldedSolidLinesAreRead = (names : List Name) (given : Plain) (s : Solid) (line : List ℕ) → let table = given.rules in
     IsWellMade given → IsSolid s → HasEachRule table s → NamesSolid names table s → LevelSpelled (level_of_solid names table s)
     → IsFoldedLine (region_of names table s) line
-    → (tokens : List Token) × (tree : Clauses) × Reads line tokens tree × NothingWrong line
+    → (tokens : List Token) × (tree : Clauses) × Reads line tokens tree × (NamesAreShort (words_of line tokens) → NothingWrong line)
     × ((p : Plain) → IsPlain line tokens tree names p → (T : Region) × SolidOf (top_of names p) T × SameUpToAtomOrder (region_of names table s) T)
 
 -- P is the process of a solid, it is closed, and this is the folded line of that solid. The line reads, where no limit is asked, as a

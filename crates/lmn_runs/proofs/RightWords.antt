@@ -29,7 +29,6 @@ use Rattle.lmn_runs.specs.Texts.{HasName, HoldsTokenNames}
 use Rattle.lmn_runs.proofs.GoodLevels.{fits}
 use Rattle.lmn_runs.proofs.SpelledParts.{IntegerAt, RightTokens}
 use Rattle.lmn_runs.proofs.SpelledRules.{IsContext, IsLabel}
-use Rattle.lmn_base.proofs.Numbers.{at_most_by_not as at_most}
 
 -- ---- words
 
@@ -61,15 +60,15 @@ SpellsWell kind.Int bytes = SpelledInRange bytes
 SpellsWell _ bytes = Unit {0}
 
 spells_well : (minus : Bool) (k : Kind) (bytes after : List ℕ) → Spells minus k bytes → ((code : ℕ) → TokenFault k bytes after code → ⊥) → SpellsWell k bytes
-spells_well minus kind.Name bytes after s right = (at_most (length bytes) 255 (λ l. right 5 (long_name l)), (bytes, name_quotes bytes s.0))
+spells_well minus kind.Name bytes after s right = (bytes, name_quotes bytes s.0)
 spells_well minus kind.Quoted bytes after s right =
     let q = s.1 in
-    subst NameSpelled (sym (quoted_name bytes s.0 q)) (at_most (length s.0) 255 (λ l. right 5 (long_name (s.0, q, l))), (q.inside, q.quotes))
-spells_well minus kind.Mod bytes after s right = subst NameSpelled (sym s) (omega arith, (codes "mod", byte refl (byte refl (byte refl nothing))))
+    subst NameSpelled (sym (quoted_name bytes s.0 q)) (q.inside, q.quotes)
+spells_well minus kind.Mod bytes after s right = subst NameSpelled (sym s) (codes "mod", byte refl (byte refl (byte refl nothing)))
 spells_well minus kind.Context [] after s right = absurd s
-spells_well minus kind.Context (b ∷ bs) after s right = (at_most (length bs) 255 (λ l. right 5 (long_name (omega (arith, l)))), s.1)
+spells_well minus kind.Context (b ∷ bs) after s right = s.1
 spells_well minus kind.RuleCtx [] after s right = absurd s
-spells_well minus kind.RuleCtx (b ∷ bs) after s right = (at_most (length bs) 255 (λ l. right 5 (long_name (omega (arith, l)))), s.1)
+spells_well minus kind.RuleCtx (b ∷ bs) after s right = s.1
 spells_well minus kind.Int bytes after s right = in_range bytes (λ out. right 4 (integer_out_of_range refl (λ fraction. right 6 (floating_point refl fraction)) out))
 spells_well minus _ bytes after s right = tt
 
@@ -160,10 +159,10 @@ module _ (text : List ℕ) (tokens : List Token) (cut : Cuts text tokens) (none 
   -- what the tokens mean may stand
   pub right_tokens : RightTokens (IsLabel names is) (IsContext names is) words places tokens
   right_tokens = record {
-    cell = ((omega arith, (codes ".", byte refl nothing)), holds.cell);
-    empty = ((omega arith, (codes "[]", byte refl (byte refl nothing))), holds.empty);
-    plus = ((omega arith, (codes "+", byte refl nothing)), holds.plus);
-    equals = ((omega arith, (codes "=", byte refl nothing)), holds.equals);
+    cell = ((codes ".", byte refl nothing), holds.cell);
+    empty = ((codes "[]", byte refl (byte refl nothing)), holds.empty);
+    plus = ((codes "+", byte refl nothing), holds.plus);
+    equals = ((codes "=", byte refl nothing), holds.equals);
     label = label_here;
     number = number_here;
     context = λ p h. context_here p kind.Context h refl tt;
