@@ -2,7 +2,7 @@
 use Rattle.std.proofs.Common.{ℕ, zero, suc, ◌≡◌, ◌≢◌, ◌<◌, ◌≤◌, ◌+◌, ◌==◌, ◌⊎◌, inl, inr, Bool, true, false, cond, List, [], ◌∷◌, ◌++◌, map, Option, Some, None, IsSome, refl, arith, ap, sym, subst, length, ◌∙◌}
 use Rattle.std.specs.Option.{option_map, option_and_then}
 use Rattle.std.specs.Prelude.{slice_get, slice_index_or, pos}
-use Rattle.lmn_heap.specs.Heap.{Heap, HeapAtom, Place, top, within, waiting, gone, IsInPlace, home_by, partners_of, marks_of, arity_of, link_of, rules_in, spare_of, unless_waiting, discarded, taken, with_place, taken_all, Unmarked}
+use Rattle.lmn_heap.specs.Heap.{Heap, HeapAtom, Place, top, within, waiting, gone, IsInPlace, home_by, partners_of, marks_of, arity_of, link_of, rules_in, spare_of, IsMemInPlace, unless_waiting, discarded, taken, with_place, taken_all, Unmarked}
 use Rattle.lmn_heap.specs.Sound.{Sound, Valid, Forest, bare, mem, Forms}
 use Rattle.lmn_heap.specs.Heap.{HeapMem, mems_in, mems_by, mem_with_spare}
 use Rattle.lmn_base.specs.Solids.{connector}
@@ -20,8 +20,9 @@ use Rattle.lmn_body.specs.declared.items.BodyItem.{BodyItem}
 use Rattle.lmn_body.specs.declared.items.BodyItem.TheVariants.{Atom, Connector, Copy, Bound, Membrane, Rest, Rule, Rules}
 use Rattle.lmn_body.specs.Added.{added_rules, if_inside}
 use Rattle.lmn_body.specs.Code.{body_code, removals, making, link_code, links_code}
+use Rattle.lmn_body.specs.Rules.{NestedRule}
 use Rattle.lmn_body.specs.Items.{new_ports, old_ports, connectors}
-use Rattle.lmn_body.specs.Running.{Registers, Prepares, DoesAll, RunsBody}
+use Rattle.lmn_body.specs.Running.{Registers, Prepares, DoesAll}
 use Rattle.lmn_body.specs.Conditions.{Can, CanRun}
 use Rattle.lmn_body.specs.Stopping.{SameButSpares}
 use Rattle.lmn_body.proofs.Stops.{prepare_stops}
@@ -31,7 +32,7 @@ use Rattle.lmn_registers.specs.declared.registers.SetRegisters.{SetRegisters}
 use Rattle.lmn_commit.specs.Registers.{AgreesWithCopies, HasCopies}
 use Rattle.lmn_commit.specs.Preparing.{needed, needed_by}
 use Rattle.lmn_commit.specs.Committing.{Runs, Stands}
-use Rattle.lmn_commit.specs.Matched.{IsPrepared}
+use Rattle.lmn_commit.specs.Matched.{IsPrepared, BodiesCanBeCommitted}
 use Rattle.lmn_body.proofs.Numbering.{links_have_numbers}
 use Rattle.lmn_body.proofs.Laws.{body_can_run, body_fires_within}
 use Rattle.lmn_commit.proofs.Making.{agrees_before}
@@ -310,71 +311,76 @@ get_typed [] k l = absurd (omega arith)
 get_typed (x ∷ xs) zero l = (x, refl)
 get_typed (x ∷ xs) (suc k) l = get_typed xs k (omega arith)
 
-module _ {A M : Type 0} (atom : A → ℕ) (membrane : M → ℕ) (s : Heap) (k : SetRegisters A M) (code : List Instr) (p : IsPrepared atom membrane s k code) (r : Registers) (u : AgreesWithCopies atom membrane k r) (has : HasCopies r p.prepared.copied) where
-  abbrev h : Heap
-  h = p.before
-
-  abbrev agreed : AgreesWithCopies atom membrane p.matched_by r
-  agreed = agrees_before atom membrane p.matched_by k r p.prepared.grows u
-
-  abbrev em : Lies h p.matched.head p.matched.place r.head.images
-  em = p.matched.lies r agreed
-
-  pub prepares : Prepares r code h s
-  prepares = p.prepared.prepares r u has
-
-  before_it : SameButSpares h (discarded s)
-  before_it = p.prepared.makes.rest h (itself h p.matched.valid).1
-
-  root_joined : (g : ℕ) → g < length (typed_contexts_of p.matched.head) → IsSome (link_of h (r.head.images.part g).0 (r.head.images.part g).1)
+module _ (head : List HeadItem) (body : List BodyItem) (n : ℕ) (rule : NestedRule head body n) (h : Heap) (valid : Valid h) (m : ℕ) (in_place : IsMemInPlace h m) (r : Registers) (lies : Lies h head m r.head.images)
+    (s : Heap) (prepares : Prepares r (body_code head body n) h s) (same : SameButSpares h (discarded s)) (room : (x : ℕ) → needed r (rules_in h) (body_code head body n) x ≤ spare_of s x) where
+  root_joined : (g : ℕ) → g < length (typed_contexts_of head) → IsSome (link_of h (r.head.images.part g).0 (r.head.images.part g).1)
   root_joined g l =
-      let t = get_typed (typed_contexts_of p.matched.head) g l in
-      let held = p.matched.rule.atoms.held g t.0 t.1 in
-      let e = p.matched.valid.sound.paired.back (r.head.images.atom held.0.0) held.0.1 (r.head.images.part g).0 (r.head.images.part g).1 ((em.parts g t.0 t.1).held held.0 held.1) in
+      let t = get_typed (typed_contexts_of head) g l in
+      let held = rule.atoms.held g t.0 t.1 in
+      let e = valid.sound.paired.back (r.head.images.atom held.0.0) held.0.1 (r.head.images.part g).0 (r.head.images.part g).1 ((lies.parts g t.0 t.1).held held.0 held.1) in
       subst (λ (o : Option (ℕ × ℕ)). IsSome o) (sym e) refl
 
-  joined_now : Joined r (rising 0 (length (typed_contexts_of p.matched.head))) s
+  joined_now : Joined r (rising 0 (length (typed_contexts_of head))) s
   joined_now = record {
-    full = λ a i q l. (let e = stood h s before_it a q in
+    full = λ a i q l. (let e = stood h s same a q in
         let links : link_of h a i ≡ link_of s a i = ap (λ (o : Option HeapAtom). slice_index_or (partners_of o) i None) (sym e) in
         let arity : arity_of s a ≡ arity_of h a = ap (λ (o : Option HeapAtom). length (partners_of o)) e in
-        subst (λ (o : Option (ℕ × ℕ)). IsSome o) links (p.matched.valid.full a i (omega (arith, arity, l))));
-    roots = λ g i. (let b = (rising_below (length (typed_contexts_of p.matched.head)) 0 g i).1 in
+        subst (λ (o : Option (ℕ × ℕ)). IsSome o) links (valid.full a i (omega (arith, arity, l))));
+    roots = λ g i. (let b = (rising_below (length (typed_contexts_of head)) 0 g i).1 in
         let w = root_joined g (omega (arith, b)) in
-        let e = stays_there h s before_it (r.head.images.part g).0 (atom_of_link h (r.head.images.part g).0 (r.head.images.part g).1 w) in
+        let e = stays_there h s same (r.head.images.part g).0 (atom_of_link h (r.head.images.part g).0 (r.head.images.part g).1 w) in
         let links : link_of h (r.head.images.part g).0 (r.head.images.part g).1 ≡ link_of s (r.head.images.part g).0 (r.head.images.part g).1 = ap (λ (o : Option HeapAtom). slice_index_or (partners_of o) (r.head.images.part g).1 None) (sym e) in
         subst (λ (o : Option (ℕ × ℕ)). IsSome o) links w);
   }
 
-  can_run : CanRun r (body_code p.matched.head p.matched.body p.matched.links) s
+  can_run : CanRun r (body_code head body n) s
   can_run =
-      let c = links_have_numbers h p.matched.valid in
-      body_can_run p.matched.head p.matched.body p.matched.links p.matched.rule r h p.matched.valid p.matched.place em p.matched.in_place c.0 c.1 s
-      (subst (λ is. Prepares r is h s) p.matched.is_code prepares)
-      (λ x. subst (λ n. n ≤ spare_of s x) (ap (λ is. needed r (rules_in h) is x) p.matched.is_code ∙ code_needs r (rules_in h) p.matched.head p.matched.body p.matched.links x) (p.prepared.spares r u x))
+      let c = links_have_numbers h valid in
+      body_can_run head body n rule r h valid m lies in_place c.0 c.1 s prepares (λ x. subst (λ k. k ≤ spare_of s x) (code_needs r (rules_in h) head body n x) (room x))
 
-  -- a prepared body can be committed
-  pub prepared_runs : Runs r code s
-  prepared_runs =
-      let made = making (length (atoms_of p.matched.head)) (1 + length (membranes_of p.matched.head)) 0 p.matched.body in
-      let ls = links_code (class_of (connectors p.matched.body)) (new_ports (length (atoms_of p.matched.head)) 0 p.matched.body) (old_ports p.matched.head) (rising 0 p.matched.links) in
-      let os = map RemoveAtom (rising 0 (length (atoms_of p.matched.head))) in
-      let gs = map RemovePart (rising 0 (length (typed_contexts_of p.matched.head))) in
-      let ms = map RemoveMem (rising 1 (length (membranes_of p.matched.head))) in
+  -- a body that is prepared can be committed,
+  body_runs : Runs r (body_code head body n) s
+  body_runs =
+      let made = making (length (atoms_of head)) (1 + length (membranes_of head)) 0 body in
+      let ls = links_code (class_of (connectors body)) (new_ports (length (atoms_of head)) 0 body) (old_ports head) (rising 0 n) in
+      let os = map RemoveAtom (rising 0 (length (atoms_of head))) in
+      let gs = map RemovePart (rising 0 (length (typed_contexts_of head))) in
+      let ms = map RemoveMem (rising 1 (length (membranes_of head))) in
       let rest = ms ++ (made ++ (ls ++ (Proceed ∷ []))) in
       let none : AllAre TakesNone rest =
-      all_append TakesNone ms (made ++ (ls ++ (Proceed ∷ []))) (all_plain ms (mems_plain (rising 1 (length (membranes_of p.matched.head)))))
-      (all_append TakesNone made (ls ++ (Proceed ∷ [])) (making_takes_none (length (atoms_of p.matched.head)) (1 + length (membranes_of p.matched.head)) 0 p.matched.body)
-      (all_append TakesNone ls (Proceed ∷ []) (all_plain ls (links_plain (class_of (connectors p.matched.body)) (new_ports (length (atoms_of p.matched.head)) 0 p.matched.body) (old_ports p.matched.head) (rising 0 p.matched.links))) (tt, tt))) in
-      let same : body_code p.matched.head p.matched.body p.matched.links ≡ os ++ (gs ++ rest) = append_assoc os (gs ++ ms) (made ++ (ls ++ (Proceed ∷ []))) ∙ ap (λ is. os ++ is) (append_assoc gs ms (made ++ (ls ++ (Proceed ∷ [])))) in
-      subst (λ is. Runs r is s) (sym (p.matched.is_code ∙ same))
-      (atoms_run r (rising 0 (length (atoms_of p.matched.head))) (rising 0 (length (typed_contexts_of p.matched.head))) rest s joined_now none (subst (λ is. CanRun r is s) same can_run))
+      all_append TakesNone ms (made ++ (ls ++ (Proceed ∷ []))) (all_plain ms (mems_plain (rising 1 (length (membranes_of head)))))
+      (all_append TakesNone made (ls ++ (Proceed ∷ [])) (making_takes_none (length (atoms_of head)) (1 + length (membranes_of head)) 0 body)
+      (all_append TakesNone ls (Proceed ∷ []) (all_plain ls (links_plain (class_of (connectors body)) (new_ports (length (atoms_of head)) 0 body) (old_ports head) (rising 0 n))) (tt, tt))) in
+      let parts : body_code head body n ≡ os ++ (gs ++ rest) = append_assoc os (gs ++ ms) (made ++ (ls ++ (Proceed ∷ []))) ∙ ap (λ is. os ++ is) (append_assoc gs ms (made ++ (ls ++ (Proceed ∷ [])))) in
+      subst (λ is. Runs r is s) (sym parts)
+      (atoms_run r (rising 0 (length (atoms_of head))) (rising 0 (length (typed_contexts_of head))) rest s joined_now none (subst (λ is. CanRun r is s) parts can_run))
 
+  -- and what it leaves is valid
+  body_leaves_valid : (t : Heap) → DoesAll r (body_code head body n) s t → Valid t
+  body_leaves_valid t w =
+      let c = links_have_numbers h valid in
+      (body_fires_within head body n rule r h valid m lies in_place c.0 c.1 t (s, prepares, w)).2
+
+-- the code of the body of a rule can be committed wherever its head lies
+pub bodies_can_be_committed : BodiesCanBeCommitted
+bodies_can_be_committed head body n rule h valid m in_place r lies s prepares same room =
+    (body_runs head body n rule h valid m in_place r lies s prepares same room, body_leaves_valid head body n rule h valid m in_place r lies s prepares same room)
+
+module _ {A M : Type 0} (atom : A → ℕ) (membrane : M → ℕ) (s : Heap) (k : SetRegisters A M) (code : List Instr) (p : IsPrepared atom membrane s k code) (r : Registers) (u : AgreesWithCopies atom membrane k r) (has : HasCopies r p.prepared.copied) where
+  pub prepares : Prepares r code p.before s
+  prepares = p.prepared.prepares r u has
+
+  committed : Runs r code s × ((t : Heap) → DoesAll r code s t → Valid t)
+  committed =
+      p.matched.commits r (agrees_before atom membrane p.matched_by k r p.prepared.grows u) s prepares (p.prepared.makes.rest p.before (itself p.before p.matched.valid).1) (p.prepared.spares r u)
+
+  -- what is prepared can be committed,
+  pub prepared_runs : Runs r code s
+  prepared_runs = committed.0
+
+  -- and what it leaves is valid
   pub fires_valid : (t : Heap) → DoesAll r code s t → Valid t
-  fires_valid t w =
-      let c = links_have_numbers h p.matched.valid in
-      (body_fires_within p.matched.head p.matched.body p.matched.links p.matched.rule r h p.matched.valid p.matched.place em p.matched.in_place c.0 c.1 t
-      (subst (λ is. RunsBody r is h t) p.matched.is_code (s, prepares, w))).2
+  fires_valid = committed.1
 
 -- A heap that differs from a valid one in spares alone has no marks and is valid.
 

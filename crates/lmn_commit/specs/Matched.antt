@@ -1,6 +1,6 @@
--- When the code of a body fires a rule.
-use Rattle.std.specs.Prelude.{ℕ, ◌≡◌, List}
-use Rattle.lmn_heap.specs.Heap.{Heap, IsMemInPlace, Unmarked}
+-- When code can be committed, be it that of the body of a rule or not.
+use Rattle.std.specs.Prelude.{ℕ, ◌≤◌, List}
+use Rattle.lmn_heap.specs.Heap.{Heap, IsMemInPlace, discarded, rules_in, spare_of, Unmarked}
 use Rattle.lmn_heap.specs.Sound.{Valid}
 use Rattle.lmn_solid.specs.declared.items.HeadItem.{HeadItem}
 use Rattle.lmn_solid.specs.Embeddings.{Lies}
@@ -8,27 +8,33 @@ use Rattle.lmn_instr.specs.declared.instr.Instr.{Instr}
 use Rattle.lmn_body.specs.declared.items.BodyItem.{BodyItem}
 use Rattle.lmn_body.specs.Code.{body_code}
 use Rattle.lmn_body.specs.Rules.{NestedRule}
-use Rattle.lmn_body.specs.Running.{Registers}
+use Rattle.lmn_body.specs.Running.{Registers, Prepares, DoesAll}
+use Rattle.lmn_body.specs.Stopping.{SameButSpares}
 use Rattle.lmn_registers.specs.declared.registers.SetRegisters.{SetRegisters}
+use Rattle.lmn_commit.specs.Committing.{Runs}
 use Rattle.lmn_commit.specs.Registers.{AgreesWithCopies}
-use Rattle.lmn_commit.specs.Preparing.{Prepared}
+use Rattle.lmn_commit.specs.Preparing.{Prepared, needed}
 
--- The code is that of a body, and its head lies in a valid heap without marks at what the registers hold.
+-- Code can be committed with these registers from a heap: once all that it makes is made, detached, and there is room for its rules, its
+-- instructions can be run one after the other, and what they leave is valid.
+abbrev pub CanBeCommitted : Registers → List Instr → Heap → Type 0
+CanBeCommitted r code h = (s : Heap) → Prepares r code h s → SameButSpares h (discarded s) → ((x : ℕ) → needed r (rules_in h) code x ≤ spare_of s x) →
+    Runs r code s × ((t : Heap) → DoesAll r code s t → Valid t)
+
+-- From a valid heap without marks the code can be committed with what the registers hold.
 pub record IsMatched {A M : Type 0} (atom : A → ℕ) (membrane : M → ℕ) (h : Heap) (g : SetRegisters A M) (code : List Instr) : Type 0 where
   pub valid : Valid h
   pub unmarked : Unmarked h
-  pub head : List HeadItem
-  pub body : List BodyItem
-  pub links : ℕ
-  pub rule : NestedRule head body links
-  pub is_code : code ≡ body_code head body links
-  pub place : ℕ
-  pub in_place : IsMemInPlace h place
-  pub lies : (r : Registers) → AgreesWithCopies atom membrane g r → Lies h head place r.head.images
+  pub commits : (r : Registers) → AgreesWithCopies atom membrane g r → CanBeCommitted r code h
 
--- The code of a body is prepared, after its head was matched.
+-- The code is prepared, after it was matched.
 pub record IsPrepared {A M : Type 0} (atom : A → ℕ) (membrane : M → ℕ) (s : Heap) (k : SetRegisters A M) (code : List Instr) : Type 0 where
   pub before : Heap
   pub matched_by : SetRegisters A M
   pub matched : IsMatched atom membrane before matched_by code
   pub prepared : Prepared atom membrane before s matched_by k code
+
+-- The code of the body of a rule can be committed wherever its head lies, be there a guard or not.
+abbrev pub BodiesCanBeCommitted : Type 0
+BodiesCanBeCommitted = (head : List HeadItem) (body : List BodyItem) (links : ℕ) → NestedRule head body links →
+    (h : Heap) → Valid h → (m : ℕ) → IsMemInPlace h m → (r : Registers) → Lies h head m r.head.images → CanBeCommitted r (body_code head body links) h

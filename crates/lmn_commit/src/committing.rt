@@ -119,8 +119,9 @@ fn run_all<S: LinkStore>(store: &mut S, code: &[Instr], set: &SetRegisters<S::At
     }
 }
 
-/// Does what the code of a body does, after its head was matched and it was prepared: the rule is fired. It takes no
-/// memory and can't fail, and leaves a valid store without marks.
+/// Does what code does, after it was matched and prepared: a rule is fired. The code may be that of a rule or not; what is
+/// asked of it is that its instructions can be run one after the other and leave a valid store. It takes no memory and can't
+/// fail, and leaves a valid store without marks.
 pub fn commit<S: LinkStore>(store: &mut S, code: &[Instr], set: &SetRegisters<S::Atom, S::Mem>)
     requires { IsPrepared S.atom_id S.mem_id (S.heap store.old) set.now code.now }
     ensures fires { (p : IsPrepared S.atom_id S.mem_id (S.heap store.old) set.now code.now) (r : Registers) → AgreesWithCopies S.atom_id S.mem_id set.now r → HasCopies r p.prepared.copied →

@@ -1,8 +1,14 @@
-//! A law of the code of bodies.
+//! Laws of the code of bodies.
+ghost use Rattle.lmn_commit.specs.Matched.{BodiesCanBeCommitted};
 ghost use Rattle.lmn_commit.specs.Orders.{BodiesAreInOrder};
 
 /// The code of the body of a rule meets the condition of `prepare` on its registers.
 #[tactic(auto, using(crate::proofs::Ordering::bodies_are_in_order))]
 pub fn bodies_are_in_order()
     ensures { BodiesAreInOrder }
+{}
+
+/// The code of the body of a rule can be committed wherever its head lies.
+pub fn bodies_can_be_committed()
+    ensures { BodiesCanBeCommitted }
 {}

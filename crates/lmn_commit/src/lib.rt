@@ -10,5 +10,5 @@ mod preparing;
 mod splicing;
 
 pub use committing::commit;
-pub use laws::bodies_are_in_order;
+pub use laws::{bodies_are_in_order, bodies_can_be_committed};
 pub use preparing::prepare;

@@ -11,7 +11,7 @@ use lmn_registers::SetRegisters;
 use lmn_store::LinkStore;
 
 /// Looks for the first success of head code in a membrane: the registers then hold it. It takes no memory.
-pub fn find<S: LinkStore>(
+pub(crate) fn find<S: LinkStore>(
     store: &mut S,
     code: &[Instr],
     membrane: S::Mem,

@@ -15,5 +15,4 @@ mod steps;
 mod whole;
 
 pub use counting::Steps;
-pub use finding::find;
 pub use machine::Machine;

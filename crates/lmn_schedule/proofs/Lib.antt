@@ -1,3 +1,5 @@
 mod Named
 pub mod Loaded
 mod Turned
+pub mod Counted
+mod Holding

@@ -6,9 +6,10 @@ use Rattle.lmn_base.specs.Levels.{links_of, rules_of}
 use Rattle.lmn_base.specs.Links.{EachTwice}
 use Rattle.lmn_base.specs.WellMade.{IsWellMade}
 use Rattle.lmn_base.specs.declared.solid.Solid.{Solid}
-use Rattle.lmn_base.specs.Names.{IsNames, NamesPlain}
+use Rattle.lmn_base.specs.declared.functor.Functor.{Functor}
+use Rattle.lmn_base.specs.Names.{IsNames, HasNames, NamesPlain, label_names}
 use Rattle.lmn_guards.specs.declared.plan.GuardPlan.{GuardPlan}
-use Rattle.lmn_heap.specs.Heap.{Heap}
+use Rattle.lmn_heap.specs.Heap.{Heap, functor_of}
 use Rattle.lmn_heap.specs.Sound.{Forest, bare, mem, IsTree}
 use Rattle.lmn_instr.specs.declared.instr.Code.{Code}
 use Rattle.lmn_congruence.specs.Plains.{SolidOf}
@@ -68,3 +69,13 @@ pub record HoldsSolid (names : List Name) (plain : Plain) (h : Heap) : Type 0 wh
   pub from : (s : Solid) × IsSolidOf plain s × (solid ≡ region_of names plain.rules s)
   pub of_plain : SolidOf (top_of names plain) solid
   pub settles : Settles (plain_process names plain) (region_process solid)
+
+-- the list has the names of all atoms of a heap
+abbrev pub NamesAtoms : List Name → Heap → Type 0
+NamesAtoms names h = (a : ℕ) (f : Functor) → functor_of h a ≡ Some f → HasNames names (label_names f.label)
+
+-- Each heap that an engine can turn holds a solid, where the names of its atoms are known: also one that comes from whoever was lent the
+-- store.
+abbrev pub HeapsHoldSolids : Type 0
+HeapsHoldSolids = (names : List Name) (plain : Plain) (h : Heap) (codes : List Code) (size : ℕ) →
+    IsWellMade plain → AreNames names plain → EngineCanTurn h plain.rules codes size → NamesAtoms names h → (S : Region) × HoldsRegion names plain.rules h S

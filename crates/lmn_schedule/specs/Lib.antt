@@ -1,3 +1,4 @@
 pub mod Held
 pub mod Lending
 pub mod Turning
+pub mod Counting

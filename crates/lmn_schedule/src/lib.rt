@@ -2,7 +2,9 @@
 #![tactic(auto)]
 
 mod engine;
+mod laws;
 
 pub use engine::Engine;
+pub use laws::{heaps_hold_solids, rules_are_counted};
 pub use lmn_loading::LoadFault;
 pub use lmn_strategy::Turn;

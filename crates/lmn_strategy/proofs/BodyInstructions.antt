@@ -17,7 +17,7 @@ use Rattle.lmn_body.specs.Made.{copies_of}
 use Rattle.lmn_body.specs.Rules.{NestedRule, WellPlaced, IsHeadMembrane}
 use Rattle.lmn_body.proofs.Firing.{rising_below}
 use Rattle.lmn_machine.specs.Costs.{IsTold}
-use Rattle.lmn_strategy.proofs.KeptRules.{Loads}
+use Rattle.lmn_strategy.specs.Turns.{Loads}
 use Rattle.lmn_base.proofs.Lists.{get_below}
 use Rattle.lmn_base.specs.Lists.{In}
 

@@ -3,17 +3,13 @@ use Rattle.std.proofs.Common.{ℕ, zero, suc, ◌≡◌, ◌<◌, ◌≤◌, ◌
 use Rattle.std.specs.Prelude.{slice_get, take, drop, slice_index_or, MatchOption}
 use Rattle.std.proofs.lemmas.List.{append_assoc, length-drop}
 use Rattle.std.proofs.lemmas.Option.{slice_get_within, slice_get-get_or}
-use Rattle.lmn_base.specs.declared.rule.RuleTree.{RuleTree}
-use Rattle.lmn_guards.specs.declared.plan.GuardPlan.{GuardPlan}
 use Rattle.lmn_heap.specs.Heap.{Heap, rules_in}
 use Rattle.lmn_heap.specs.Sound.{Forest, IsTree, flat}
 use Rattle.lmn_instr.specs.declared.instr.Code.{Code}
 use Rattle.lmn_instr.specs.Running.{HeadRegisters, Succeeds}
 use Rattle.lmn_machine.proofs.Besides.{known, known_agrees}
-use Rattle.lmn_matching.specs.AcceptedCode.{AcceptedInOrder}
 use Rattle.lmn_registers.specs.declared.registers.SetRegisters.{SetRegisters}
-use Rattle.lmn_compile.specs.Compiled.{AreWhole, AreCompiled}
-use Rattle.lmn_strategy.specs.Choosing.{AllInOrder, CodeSucceeds, NoneOf, NoneIn, IsFirstRule, IsFirstIn, HasFound, asked}
+use Rattle.lmn_strategy.specs.Choosing.{CodeSucceeds, NoneOf, NoneIn, IsFirstRule, IsFirstIn, HasFound, asked}
 use Rattle.lmn_strategy.proofs.Numbers.{get_drop, take_one_more, take_farther, take_no_more, take_whole, root_number}
 use Rattle.lmn_base.specs.Lists.{In}
 use Rattle.lmn_base.proofs.Lists.{in_either}
@@ -111,19 +107,6 @@ take_rest xs i many e = take_whole (drop i xs) (many - i) (let l = length-drop i
 -- the root is a membrane
 pub some_membrane : (h : Heap) (f : Forest) → IsTree h f → 0 < length (flat f)
 some_membrane h f t = slice_get_within (flat f) 0 h.root (root_number h h.root refl f t)
-
--- compiled code is in order
-pub compiled_in_order : (codes : List Code) (table : List RuleTree) (plans : List GuardPlan) → AcceptedInOrder → AreWhole table plans → AreCompiled table plans codes → AllInOrder codes
-compiled_in_order codes table plans law whole are n code e =
-    let l = slice_get_within codes n code e in
-    let rule = there table n (let m = are.many in omega (arith, l, m)) in
-    let plan = there plans n (let m = are.many in let k = whole.many in omega (arith, l, m, k)) in
-    law code.head table rule.0 plan.0 (record { ready = (whole.whole n rule.0 plan.0 rule.1 plan.1).ready; is = (are.each n rule.0 plan.0 code rule.1 plan.1 e).head })
-  where
-    there : {X : Type 0} (xs : List X) (k : ℕ) → k < length xs → (x : X) × (slice_get xs k ≡ Some x)
-    there [] k l = absurd (omega (arith, l))
-    there (x ∷ xs) zero l = (x, refl)
-    there (x ∷ xs) (suc k) l = there xs k (omega (arith, l))
 
 -- A rule is read at a place below the number of rules that were counted, and the heap is the same each time.
 pub rule_below : (h j k : Heap) (m place many : ℕ) → j ≡ h → k ≡ h → many ≡ length (rules_in j m) → place < many → place < length (rules_in k m)

@@ -1,20 +1,14 @@
 -- From the match of a head to the heap after its body.
 use Rattle.std.proofs.Common.{ℕ, zero, suc, ◌≡◌, ◌<◌, ◌≤◌, ◌+◌, ◌-◌, ◌^◌, List, [], length, Option, Some, None, IsSome, refl, sym, ap, subst, ◌∙◌, inl, inr, arith}
-use Rattle.std.specs.Prelude.{slice_get, min, ◌⊎◌, All}
+use Rattle.std.specs.Prelude.{slice_get, min, ◌⊎◌}
 use Rattle.std.specs.Option.{option_map}
 use Rattle.std.specs.List.{AllByRecursion}
 use Rattle.std.proofs.lemmas.Option.{slice_get_within}
 use Rattle.std.proofs.Math.Nat.{min-le_left, le-min}
-use Rattle.lmn_base.specs.declared.rule.RuleTree.{RuleTree}
-use Rattle.lmn_base.specs.Levels.{rules_of}
-use Rattle.lmn_guards.specs.declared.plan.GuardPlan.{GuardPlan}
 use Rattle.lmn_heap.specs.Heap.{Heap, HeapMem, IsMem, rules_by, rules_in, port_id, mem_with_spare, Unmarked}
 use Rattle.lmn_heap.specs.Sound.{Forest, Valid}
 use Rattle.lmn_instr.specs.declared.instr.Code.{Code}
 use Rattle.lmn_instr.specs.Running.{HeadRegisters, IsFirstSuccess, atoms_set}
-use Rattle.lmn_compile_head.specs.Accepted.{head_items, rule_head_code, AcceptedLeast}
-use Rattle.lmn_compile_body.specs.Accepted.{IsCompilable, AcceptedNested, rule_body_names, rule_body_items}
-use Rattle.lmn_solid.specs.Heads.{membranes_of}
 use Rattle.lmn_body.specs.Running.{Registers, RunsBody}
 use Rattle.lmn_body.specs.Stopping.{SameButSpares}
 use Rattle.lmn_registers.specs.Agreeing.{Agrees}
@@ -23,44 +17,17 @@ use Rattle.lmn_commit.specs.Matched.{IsPrepared}
 use Rattle.lmn_commit.specs.Preparing.{BodyInOrder, Prepared}
 use Rattle.lmn_commit.specs.Registers.{HasCopies, AreSized, Grows}
 use Rattle.lmn_commit.specs.Registers as body
-use Rattle.lmn_cost.specs.Laws.{CostIsTold}
 use Rattle.lmn_machine.specs.Costs.{IsTold, Leaves}
 use Rattle.lmn_machine.specs.Searching.{AreAllSet, membranes_set, parts_set, integers_set}
 use Rattle.lmn_machine.proofs.Besides.{known, known_agrees}
 use Rattle.lmn_strategy.specs.declared.turning.Turn.{Turn}
 use Rattle.lmn_strategy.specs.declared.turning.Turn.TheVariants.{Committed, Irreducible, Full, NoMemory}
-use Rattle.lmn_compile.specs.Compiled.{IsCompiled}
 use Rattle.lmn_strategy.specs.Choosing.{CanTurn, IsFirstIn, IsFirstRule, HasFound, asked}
-use Rattle.lmn_strategy.specs.Turns.{IsTableCode, IsAnswer, Chooses, IsTurn, BodiesAreReady, CanFire, AnswersMatch}
-use Rattle.lmn_strategy.proofs.KeptRules.{AllRules, Loads, rules_kept}
-use Rattle.lmn_strategy.proofs.BodyAll.{level_rules}
-use Rattle.lmn_strategy.proofs.BodyInstructions.{code_loads}
+use Rattle.lmn_strategy.specs.Turns.{AreRunnable, IsAnswer, Chooses, IsTurn, CanFire, AnswersMatch, Loads}
+use Rattle.lmn_strategy.proofs.KeptRules.{AllRules, rules_kept}
 use Rattle.lmn_base.proofs.Lists.{value_or, get_there as there}
 use Rattle.lmn_heap.proofs.Common.{mem_stands}
 use Rattle.lmn_base.specs.Lists.{In}
-
--- ---- the rule of a code
-
--- a code is that of a rule of its table, with its plan
-record HasRule (codes : List Code) (t : IsTableCode codes) (n : ℕ) (code : Code) : Type 0 where
-  rule : RuleTree
-  plan : GuardPlan
-  stands : slice_get t.table n ≡ Some rule
-  whole : IsCompilable t.table rule plan
-  compiled : IsCompiled rule plan code
-
-has_rule : (codes : List Code) (t : IsTableCode codes) (n : ℕ) (code : Code) → slice_get codes n ≡ Some code → HasRule codes t n code
-has_rule codes t n code e =
-    let l = slice_get_within codes n code e in
-    let rule = there t.table n (let m = t.compiled.many in omega (arith, l, m)) in
-    let plan = there t.plans n (let m = t.compiled.many in let k = t.whole.many in omega (arith, l, m, k)) in
-    record {
-      rule = rule.0;
-      plan = plan.0;
-      stands = rule.1;
-      whole = t.whole.whole n rule.0 plan.0 rule.1 plan.1;
-      compiled = t.compiled.each n rule.0 plan.0 code rule.1 plan.1 e;
-    }
 
 -- ---- the registers of a body
 
@@ -113,47 +80,35 @@ ruled_mem h m i n e = by (h.mems m) e
 one_code : (codes : List Code) (n : ℕ) (a b : Code) → slice_get codes n ≡ Some a → slice_get codes n ≡ Some b → a ≡ b
 one_code codes n a b e f = let u : Some a ≡ Some b = sym e ∙ f in cc
 
-module _ (ready_law : BodiesAreReady) (nested : AcceptedNested) (least : AcceptedLeast) (cost : CostIsTold) where
-  -- what a search has found can fire
-  pub can_fire : {A M : Type 0} (atom : A → ℕ) (membrane : M → ℕ) (h : Heap) (codes : List Code) (t : IsTableCode codes) (rules : ℕ) (can : CanTurn h rules) (m place n : ℕ) (g : SetRegisters A M) →
-      IsFirstRule h codes m place n → HasFound atom membrane h codes m n g → (code : Code) → slice_get codes n ≡ Some code → CanFire atom membrane h g code
-  can_fire atom membrane h codes t rules can m place n g first found code is =
-      let same = one_code codes n found.code code found.is is in
-      let r = has_rule codes t n code is in
-      let ready = ready_law t.table r.rule r.plan r.whole code r.compiled in
-      let set = subst (λ (c : Code). AreAllSet g c.head) same found.set in
-      let placed = mem_stands h can.valid m (ruled_mem h m place n first.stands) in
-      let is_first : (s : HeadRegisters) → Agrees atom membrane g s → IsFirstSuccess h (rule_head_code r.rule r.plan) m s =
-      λ s a. subst (λ hd. IsFirstSuccess h hd m s) r.compiled.head (subst (λ (c : Code). IsFirstSuccess h c.head m s) same (found.first s a)) in
-      record {
-        held = found.held;
-        copies = found.copies;
-        order = order_as g code set ready.order;
-        told = told_as g code set ready.told;
-        matched = record {
-          valid = can.valid;
-          unmarked = can.unmarked;
-          head = head_items r.rule r.plan;
-          body = rule_body_items r.rule r.plan;
-          links = length r.rule.links;
-          rule = nested t.table r.rule r.plan r.whole;
-          is_code = r.compiled.body;
-          place = m;
-          in_place = placed;
-          lies = λ s a. (least.least t.table r.rule r.plan h m s.head r.whole.ready can.valid
-              (is_first s.head (record { atoms = a.atoms; membranes = a.membranes; parts = a.parts; integers = a.integers }))).embeds.lies;
-        };
-        some = λ s a. subst (λ b. (n : ℕ) × Leaves h s b n) (sym r.compiled.body)
-            (cost.some t.table r.rule r.plan h m (record { head = s; copy = λ k. (0, 0); copied = λ k. [] }) (record { whole = r.whole; valid = can.valid; placed = placed; first = is_first s a }));
-      }
-    where
-      order_as : {A M : Type 0} (g : SetRegisters A M) (code : Code) → AreAllSet g code.head → BodyInOrder (atoms_set code.head) (1 + membranes_set code.head) (parts_set code.head) (integers_set code.head) 0 code.body →
-          BodyInOrder (length g.atoms) (length g.membranes) (length g.parts) (length g.integers) 0 code.body
-      order_as g code set o = rw (set.atoms, set.membranes, set.parts, set.integers) o
+-- what a search has found can fire
+pub can_fire : {A M : Type 0} (atom : A → ℕ) (membrane : M → ℕ) (h : Heap) (codes : List Code) (run : AreRunnable codes) (rules : ℕ) (can : CanTurn h rules) (m place n : ℕ) (g : SetRegisters A M) →
+    IsFirstRule h codes m place n → HasFound atom membrane h codes m n g → (code : Code) → slice_get codes n ≡ Some code → CanFire atom membrane h g code
+can_fire atom membrane h codes run rules can m place n g first found code is =
+    let same = one_code codes n found.code code found.is is in
+    let r = run n code is in
+    let set = subst (λ (c : Code). AreAllSet g c.head) same found.set in
+    let placed = mem_stands h can.valid m (ruled_mem h m place n first.stands) in
+    let is_first : (s : HeadRegisters) → Agrees atom membrane g s → IsFirstSuccess h code.head m s = λ s a. subst (λ (c : Code). IsFirstSuccess h c.head m s) same (found.first s a) in
+    record {
+      held = found.held;
+      copies = found.copies;
+      order = order_as g code set r.ready.order;
+      told = told_as g code set r.ready.told;
+      matched = record {
+        valid = can.valid;
+        unmarked = can.unmarked;
+        commits = λ s a. r.commits h m s can.valid placed (is_first s.head (record { atoms = a.atoms; membranes = a.membranes; parts = a.parts; integers = a.integers }));
+      };
+      some = λ s a. r.leaves h m s can.valid placed (is_first s a);
+    }
+  where
+    order_as : {A M : Type 0} (g : SetRegisters A M) (code : Code) → AreAllSet g code.head → BodyInOrder (atoms_set code.head) (1 + membranes_set code.head) (parts_set code.head) (integers_set code.head) 0 code.body →
+        BodyInOrder (length g.atoms) (length g.membranes) (length g.parts) (length g.integers) 0 code.body
+    order_as g code set o = rw (set.atoms, set.membranes, set.parts, set.integers) o
 
-      told_as : {A M : Type 0} (g : SetRegisters A M) (code : Code) → AreAllSet g code.head → AllByRecursion (IsTold (1 + membranes_set code.head) (parts_set code.head)) code.body →
-          AllByRecursion (IsTold (length g.membranes) (length g.parts)) code.body
-      told_as g code set o = rw (set.membranes, set.parts) o
+    told_as : {A M : Type 0} (g : SetRegisters A M) (code : Code) → AreAllSet g code.head → AllByRecursion (IsTold (1 + membranes_set code.head) (parts_set code.head)) code.body →
+        AllByRecursion (IsTold (length g.membranes) (length g.parts)) code.body
+    told_as g code set o = rw (set.membranes, set.parts) o
 
 -- ---- the three ends
 
@@ -249,17 +204,9 @@ module _ {A M : Type 0} (atom : A → ℕ) (membrane : M → ℕ) (h : Heap) (co
   rules_again P s left NoMemory h' loads answered all = λ x k i. let w = answered.1.mems x in all x k (same_rules w.0 (h.mems x) (h'.mems x) w.1 k i)
 
   -- and the next turn can be made
-  pub can_again : (t : IsTableCode codes) → CanTurn h (length codes) → (answer : Turn) (h' : Heap) → AnswersMatch atom membrane h g code size answer h' → Valid h' → Unmarked h' → CanTurn h' (length codes)
-  can_again t can answer h' fires valid unmarked =
-      let r = has_rule codes t n code is in
-      let P : ℕ → Type 0 = λ j. j < length codes in
-      let few = t.compiled.many in
-      let inner = subst (λ k. All (λ j. j < k) (rules_of r.rule.body)) (sym few) (t.inner n r.rule r.stands) in
-      let items = head_items r.rule r.plan in
-      let loads = subst (AllByRecursion (Loads P)) (sym r.compiled.body)
-      (code_loads P items (rule_body_items r.rule r.plan) (length r.rule.links) (level_rules (rule_body_names r.rule r.plan) P (length (membranes_of items)) r.rule.body inner)) in
-      record {
-        valid = valid;
-        unmarked = unmarked;
-        of_table = λ x k i. rules_again P fires.registers fires.left answer h' loads fires.answered (λ y j w. can.of_table y j w) x k i;
-      }
+  pub can_again : AreRunnable codes → CanTurn h (length codes) → (answer : Turn) (h' : Heap) → AnswersMatch atom membrane h g code size answer h' → Valid h' → Unmarked h' → CanTurn h' (length codes)
+  can_again run can answer h' fires valid unmarked = record {
+    valid = valid;
+    unmarked = unmarked;
+    of_table = λ x k i. rules_again (λ j. j < length codes) fires.registers fires.left answer h' (run n code is).loads fires.answered (λ y j w. can.of_table y j w) x k i;
+  }

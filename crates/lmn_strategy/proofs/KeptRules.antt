@@ -11,6 +11,7 @@ use Rattle.lmn_instr.specs.declared.instr.Instr.{Instr}
 use Rattle.lmn_instr.specs.declared.instr.Instr.TheVariants.{RemoveAtom, RemovePart, RemoveMem, NewAtom, NewInt, NewMem, CopyGround, MoveCells, LoadRule, CopyRules, NewLink, Relink, Unify, Proceed}
 use Rattle.lmn_body.specs.Running.{Registers, Prepares, DoesAll, RunsBody, Makes, Does, all_placed, new_port, old_port}
 use Rattle.lmn_body.specs.Tied.{tied}
+use Rattle.lmn_strategy.specs.Turns.{Loads}
 use Rattle.lmn_base.specs.Graphs.{Port}
 use Rattle.lmn_base.specs.Lists.{In}
 use Rattle.lmn_base.proofs.Lists.{in_either}
@@ -19,11 +20,6 @@ module _ (P : ℕ → Type 0) where
   -- each rule of each membrane is one of these
   abbrev pub AllRules : (ℕ → Option HeapMem) → Type 0
   AllRules mems = (m k : ℕ) → In k (rules_by (mems m)) → P k
-
-  -- where an instruction loads a rule, it is one of them
-  abbrev pub Loads : Instr → Type 0
-  Loads (LoadRule m k) = P k
-  Loads _ = Unit {0}
 
   -- a change of membranes leaves such rules
   abbrev Keeps : (HeapMem → HeapMem) → Type 0
@@ -130,7 +126,7 @@ module _ (P : ℕ → Type 0) where
   makes r Proceed s t w all = at s t w all
   makes r _ s t w all = absurd w
 
-  does : (r : Registers) (i : Instr) (s t : Heap) → Loads i → Does r i s t → AllRules s.mems → AllRules t.mems
+  does : (r : Registers) (i : Instr) (s t : Heap) → Loads P i → Does r i s t → AllRules s.mems → AllRules t.mems
   does r (RemoveAtom a) s t l w all = at _ t w (atom_leaves s.mems (home_of s (r.head.images.atom a)) (r.head.images.atom a) all)
   does r (RemovePart g) s t l w all = at _ t w.3 (atoms_leave w.0 s all)
   does r (RemoveMem m) s t l w all =
@@ -156,10 +152,10 @@ module _ (P : ℕ → Type 0) where
   prepares r [] s t w all = at s t w all
   prepares r (i ∷ is) s t w all = prepares r is w.0 t w.2 (makes r i s w.0 w.1 all)
 
-  commits : (r : Registers) (is : List Instr) (s t : Heap) → AllByRecursion Loads is → DoesAll r is s t → AllRules s.mems → AllRules t.mems
+  commits : (r : Registers) (is : List Instr) (s t : Heap) → AllByRecursion (Loads P) is → DoesAll r is s t → AllRules s.mems → AllRules t.mems
   commits r [] s t l w all = at s t w all
   commits r (i ∷ is) s t l w all = commits r is w.0 t l.1 w.2 (does r i s w.0 l.0 w.1 all)
 
   -- where the code loads such rules, and such stood in membranes before, such do after it
-  pub rules_kept : (r : Registers) (code : List Instr) (h h' : Heap) → AllByRecursion Loads code → RunsBody r code h h' → AllRules h.mems → AllRules h'.mems
+  pub rules_kept : (r : Registers) (code : List Instr) (h h' : Heap) → AllByRecursion (Loads P) code → RunsBody r code h h' → AllRules h.mems → AllRules h'.mems
   rules_kept r code h h' l w all = commits r code w.0 h' l w.2 (prepares r code h w.0 w.1 all)

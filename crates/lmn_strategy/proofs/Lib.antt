@@ -1,10 +1,12 @@
 pub mod Numbers
 pub mod Climbs
 pub mod Chosen
+pub mod Counts
 pub mod KeptRules
 pub mod BodyInstructions
 pub mod GuardIntegers
 pub mod BodyUses
 pub mod BodyAll
 pub mod ReadyBodies
+pub mod Runnable
 pub mod Firing

@@ -4,20 +4,21 @@ use Rattle.std.specs.List.{AllByRecursion}
 use Rattle.lmn_base.specs.Levels.{rules_of}
 use Rattle.lmn_base.specs.declared.rule.RuleTree.{RuleTree}
 use Rattle.lmn_guards.specs.declared.plan.GuardPlan.{GuardPlan}
-use Rattle.lmn_heap.specs.Heap.{Heap}
-use Rattle.lmn_heap.specs.Sound.{Forest, flat}
+use Rattle.lmn_heap.specs.Heap.{Heap, IsMemInPlace}
+use Rattle.lmn_heap.specs.Sound.{Forest, Valid, flat}
 use Rattle.lmn_instr.specs.declared.instr.Code.{Code}
 use Rattle.lmn_instr.specs.declared.instr.Instr.{Instr}
+use Rattle.lmn_instr.specs.declared.instr.Instr.TheVariants.{LoadRule}
 use Rattle.lmn_instr.specs.Running.{HeadRegisters, IsFirstSuccess, atoms_set}
 use Rattle.lmn_compile_body.specs.Accepted.{IsCompilable}
 use Rattle.lmn_body.specs.Running.{Registers, RunsBody}
 use Rattle.lmn_body.specs.Stopping.{SameButSpares}
 use Rattle.lmn_registers.specs.Agreeing.{Agrees}
 use Rattle.lmn_registers.specs.declared.registers.SetRegisters.{SetRegisters}
-use Rattle.lmn_commit.specs.Matched.{IsMatched}
+use Rattle.lmn_commit.specs.Matched.{IsMatched, CanBeCommitted}
 use Rattle.lmn_commit.specs.Preparing.{BodyInOrder}
 use Rattle.lmn_machine.specs.Costs.{IsTold, Leaves}
-use Rattle.lmn_machine.specs.Searching.{AreHeldWhole, membranes_set, parts_set, integers_set}
+use Rattle.lmn_machine.specs.Searching.{AreHeldWhole, HeadInOrder, membranes_set, parts_set, integers_set}
 use Rattle.lmn_strategy.specs.declared.turning.Turn.{Turn}
 use Rattle.lmn_strategy.specs.declared.turning.Turn.TheVariants.{Committed, Irreducible, Full, NoMemory}
 use Rattle.lmn_compile.specs.Compiled.{AreWhole, IsCompiled, AreCompiled}
@@ -69,6 +70,32 @@ pub record IsReadyCode (code : Code) : Type 0 where
 -- So it is with the code of each accepted rule.
 abbrev pub BodiesAreReady : Type 0
 BodiesAreReady = (table : List RuleTree) (r : RuleTree) (plan : GuardPlan) → IsCompilable table r plan → (code : Code) → IsCompiled r plan code → IsReadyCode code
+
+-- where an instruction loads a rule, it is one of these
+abbrev pub Loads : (ℕ → Type 0) → Instr → Type 0
+Loads P (LoadRule m k) = P k
+Loads P _ = Unit {0}
+
+-- Code can be run by turns, over a table of so many rules, be it that of a rule or not.
+--   head     the machine can run its head
+--   ready    after its head its body can be prepared, and what is read to tell its cost is set
+--   loads    the rules that it loads are of the table
+--   leaves   where its head first succeeds in a membrane of a valid heap, its cost is told,
+--   commits  and its body can be committed
+pub record IsRunnable (rules : ℕ) (code : Code) : Type 0 where
+  pub head : HeadInOrder 0 1 0 0 code.head
+  pub ready : IsReadyCode code
+  pub loads : AllByRecursion (Loads (λ j. j < rules)) code.body
+  pub leaves : (h : Heap) (m : ℕ) (s : HeadRegisters) → Valid h → IsMemInPlace h m → IsFirstSuccess h code.head m s → (n : ℕ) × Leaves h s code.body n
+  pub commits : (h : Heap) (m : ℕ) (r : Registers) → Valid h → IsMemInPlace h m → IsFirstSuccess h code.head m r.head → CanBeCommitted r code.body h
+
+-- each of these codes can be, and they are the table
+abbrev pub AreRunnable : List Code → Type 0
+AreRunnable codes = (n : ℕ) (code : Code) → slice_get codes n ≡ Some code → IsRunnable (length codes) code
+
+-- So it is with the code of a table of accepted rules.
+abbrev pub TablesAreRunnable : Type 0
+TablesAreRunnable = (codes : List Code) → IsTableCode codes → AreRunnable codes
 
 -- The registers hold a match of the head of a code, and its body can be prepared and committed.
 pub record CanFire {A M : Type 0} (atom : A → ℕ) (membrane : M → ℕ) (h : Heap) (g : SetRegisters A M) (code : Code) : Type 0 where

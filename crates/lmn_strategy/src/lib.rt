@@ -8,6 +8,6 @@ mod strategy;
 mod turning;
 
 pub use preorder::{membrane_at, membranes, next_membrane};
-pub use ready::bodies_are_ready;
+pub use ready::{bodies_are_ready, tables_are_runnable};
 pub use strategy::{Choice, search};
 pub use turning::{Turn, take_turn};

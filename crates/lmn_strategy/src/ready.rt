@@ -1,10 +1,11 @@
-//! A law of the code of accepted rules.
-ghost use Rattle.lmn_strategy.specs.Turns.{BodiesAreReady};
+//! Laws of the code of accepted rules.
+ghost use Rattle.lmn_strategy.specs.Turns.{BodiesAreReady, TablesAreRunnable};
 
-use lmn_commit::bodies_are_in_order;
+use lmn_commit::{bodies_are_in_order, bodies_can_be_committed};
 use lmn_compile_body::accepted_bodies;
-use lmn_compile_head::accepted_heads;
-use lmn_matching::accepted_sets_items;
+use lmn_compile_head::{accepted_heads, accepted_least};
+use lmn_cost::commits_cost_what_is_told;
+use lmn_matching::{accepted_in_order, accepted_sets_items};
 
 /// After the head of an accepted rule has set its registers, the body can be prepared, and what is read to tell its cost
 /// is set.
@@ -15,4 +16,16 @@ pub fn bodies_are_ready()
     accepted_sets_items();
     accepted_bodies();
     bodies_are_in_order();
+}
+
+/// The codes of a table of accepted rules can be run by turns.
+pub fn tables_are_runnable()
+    ensures { TablesAreRunnable }
+{
+    accepted_in_order();
+    bodies_are_ready();
+    bodies_can_be_committed();
+    accepted_bodies();
+    accepted_least();
+    commits_cost_what_is_told();
 }

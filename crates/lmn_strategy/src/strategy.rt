@@ -1,16 +1,13 @@
 //! The search of the strategy: the first membrane that is asked and has a rule that succeeds, and its first such rule.
-ghost use Rattle.std.specs.Prelude.{◌≡◌, ◌<◌, List, IsTrue, IsFalse, IfSome, MatchOption, length, take, drop};
+ghost use Rattle.std.specs.Prelude.{◌≡◌, ◌<◌, ◌+◌, IsTrue, IsFalse, IfSome, MatchOption, length, take, drop};
 ghost use Rattle.lmn_heap.specs.Heap.{IsMem, rules_in};
 ghost use Rattle.lmn_heap.specs.Sound.{Forest, IsTree, flat};
-ghost use Rattle.lmn_base.specs.declared.rule.RuleTree.{RuleTree};
-ghost use Rattle.lmn_guards.specs.declared.plan.GuardPlan.{GuardPlan};
-ghost use Rattle.lmn_compile.specs.Compiled.{AreWhole, AreCompiled};
 ghost use Rattle.lmn_strategy.specs.Choosing.{AllInOrder, CanTurn, CodeSucceeds, NoneOf, NoneIn, IsFirstRule, IsFirstIn, HasFound, asked};
+ghost use Rattle.lmn_strategy.specs.Counting.{CountsRules, CountsUpTo, rule_count};
 
 use crate::preorder::{membrane_at, next_membrane};
 use lmn_instr::Code;
 use lmn_machine::{Machine, Steps};
-use lmn_matching::accepted_in_order;
 use lmn_store::LinkStore;
 use std::sync::ledger::Ledger;
 
@@ -40,6 +37,7 @@ fn succeeds<S: LinkStore, L: Ledger>(
     ensures same { S.heap machine.new.store ≡ S.heap machine.old.store }
     ensures found { IsTrue result → HasFound S.atom_id S.mem_id (S.heap machine.old.store) codes.now (S.mem_id membrane) rule machine.new.set }
     ensures none { IsFalse result → CodeSucceeds (S.heap machine.old.store) codes.now (S.mem_id membrane) rule → ⊥ }
+    ensures steps { steps.new ≡ steps.old + 1 }
 {
     machine.find(&codes[rule as usize], membrane, steps)
 }
@@ -60,6 +58,7 @@ fn first_rule<S: LinkStore, L: Ledger>(
         (λ c. IsFirstRule (S.heap machine.old.store) codes.now (S.mem_id c.membrane) c.place c.rule) }
     ensures membrane { IfSome result (λ c. c.membrane ≡ membrane) }
     ensures found { IfSome result (λ c. HasFound S.atom_id S.mem_id (S.heap machine.old.store) codes.now (S.mem_id c.membrane) c.rule machine.new.set) }
+    ensures steps { CountsUpTo (length (rules_in (S.heap machine.old.store) (S.mem_id membrane))) steps.old steps.new }
 {
     let rules = machine.store().rules(membrane);
     for place in 0..rules {
@@ -91,6 +90,7 @@ fn first_of_some<S: LinkStore, L: Ledger>(
         (NoneIn (S.heap machine.old.store) codes.now (take count (drop from (flat f))))
         (λ c. IsFirstIn (S.heap machine.old.store) codes.now (take count (drop from (flat f))) (S.mem_id c.membrane) c.place c.rule) }
     ensures found { IfSome result (λ c. HasFound S.atom_id S.mem_id (S.heap machine.old.store) codes.now (S.mem_id c.membrane) c.rule machine.new.set) }
+    ensures steps { (f : Forest) → IsTree (S.heap machine.old.store) f → CountsUpTo (rule_count (S.heap machine.old.store) (take count (drop from (flat f)))) steps.old steps.new }
 {
     let start = membrane_at(machine.store(), from);
     let mut at = Some(start);
@@ -107,7 +107,8 @@ fn first_of_some<S: LinkStore, L: Ledger>(
 }
 
 /// What the strategy chooses, where the membrane with the number `from` in preorder is asked first and there are `many`
-/// membranes. It takes no memory, and the store is left as it was. The registers then hold the first success of the code.
+/// membranes. It takes no memory, and the store is left as it was. The registers then hold the first success of the code. Each
+/// rule of each membrane is tried once at most.
 pub fn search<S: LinkStore, L: Ledger>(
     machine: &mut Machine<S>,
     codes: &[Code],
@@ -116,7 +117,7 @@ pub fn search<S: LinkStore, L: Ledger>(
     steps: &mut Steps<L>,
 ) -> Option<Choice<S::Mem>>
     requires turn { CanTurn (S.heap machine.old.store) (length codes.now) }
-    requires codes { (table : List RuleTree) × (plans : List GuardPlan) × AreWhole table plans × AreCompiled table plans codes.now }
+    requires order { AllInOrder codes.now }
     requires many { (f : Forest) → IsTree (S.heap machine.old.store) f → many ≡ length (flat f) }
     requires from { from < many }
     ensures same { S.heap machine.new.store ≡ S.heap machine.old.store }
@@ -124,8 +125,8 @@ pub fn search<S: LinkStore, L: Ledger>(
         (NoneIn (S.heap machine.old.store) codes.now (flat f))
         (λ c. IsFirstIn (S.heap machine.old.store) codes.now (asked from f) (S.mem_id c.membrane) c.place c.rule) }
     ensures found { IfSome result (λ c. HasFound S.atom_id S.mem_id (S.heap machine.old.store) codes.now (S.mem_id c.membrane) c.rule machine.new.set) }
+    ensures steps { CountsRules (S.heap machine.old.store) steps.old steps.new }
 {
-    accepted_in_order();
     match first_of_some(machine, codes, from, many - from, steps) {
         Some(choice) => Some(choice),
         None => first_of_some(machine, codes, 0, from, steps),

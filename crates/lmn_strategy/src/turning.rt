@@ -2,14 +2,11 @@
 ghost use Rattle.std.specs.Prelude.{◌≡◌, ◌<◌, ◌-◌, ◌^◌, length};
 ghost use Rattle.lmn_heap.specs.Sound.{Forest, IsTree, Valid, flat};
 ghost use Rattle.lmn_strategy.specs.Choosing.{CanTurn};
-ghost use Rattle.lmn_strategy.specs.Turns.{CanFire, AnswersMatch, IsTableCode, IsTurn};
+ghost use Rattle.lmn_strategy.specs.Counting.{CountsRules};
+ghost use Rattle.lmn_strategy.specs.Turns.{CanFire, AnswersMatch, AreRunnable, IsTurn};
 ghost use Rattle.lmn_heap.specs.Heap.{Unmarked};
 
-use crate::ready::bodies_are_ready;
 use crate::strategy::search;
-use lmn_compile_body::accepted_bodies;
-use lmn_compile_head::accepted_least;
-use lmn_cost::commits_cost_what_is_told;
 use lmn_instr::Code;
 use lmn_machine::{Machine, Steps};
 use lmn_store::LinkStore;
@@ -49,7 +46,7 @@ fn fire<S: LinkStore>(alloc: Global, machine: &mut Machine<S>, code: &Code, size
     }
 }
 
-/// One turn. `codes` has the code of each rule of the table, by its number. There are `many` membranes, and the one with
+/// One turn. `codes` has the code of each rule of the table, by its number, and it can be run. There are `many` membranes, and the one with
 /// the number `from` in preorder is asked first. The first rule that has a match fires at its first match, unless more than
 /// `size` items would be left, the root not counted. With another answer than `Committed` the store is as it was, but for
 /// room for rules at `NoMemory`.
@@ -63,17 +60,14 @@ pub fn take_turn<S: LinkStore, L: Ledger>(
     steps: &mut Steps<L>,
 ) -> Turn
     requires turn { CanTurn (S.heap machine.old.store) (length codes.now) }
-    requires codes { IsTableCode codes.now }
+    requires codes { AreRunnable codes.now }
     requires many { (f : Forest) → IsTree (S.heap machine.old.store) f → many ≡ length (flat f) }
     requires from { from < many }
     requires size { size < 2 ^ 64 - 1 }
     ensures turned { (f : Forest) → IsTree (S.heap machine.old.store) f → IsTurn (S.heap machine.old.store) codes.now f from size result (S.heap machine.new.store) }
     ensures again { CanTurn (S.heap machine.new.store) (length codes.now) }
+    ensures steps { CountsRules (S.heap machine.old.store) steps.old steps.new }
 {
-    bodies_are_ready();
-    accepted_bodies();
-    accepted_least();
-    commits_cost_what_is_told();
     match search(machine, codes, from, many, steps) {
         Some(choice) => fire(alloc, machine, &codes[choice.rule as usize], size),
         None => Turn::Irreducible,

@@ -1,7 +1,9 @@
-use Rattle.std.proofs.Common.{◌≡◌, length, refl, sym, subst, ap, ◌∙◌, arith}
+use Rattle.std.proofs.Common.{◌≡◌, ◌+◌, length, refl, sym, subst, ap, ◌∙◌, arith}
 use Rattle.lmn_heap.specs.Heap.{IsMem, rules_in}
 use Rattle.lmn_strategy.specs.Choosing.{CanTurn, CodeSucceeds, HasFound}
 use Rattle.lmn_strategy.proofs.Chosen.{found_succeeds, none_of_more, none_of_all, rule_below, rule_read}
+use Rattle.lmn_strategy.specs.Counting.{CountsUpTo}
+use Rattle.lmn_strategy.proofs.Counts.{counts_less, counts_more, counts_none}
 use Rattle.lmn_strategy.proofs.strategy.first_rule.Goals as goal
 use Rattle.lmn_heap.proofs.Common.{in_at as get_in}
 
@@ -9,7 +11,7 @@ pub rules-rules-requires : goal.rules-rules-requires
 rules-rules-requires g c = subst (λ s. IsMem (g.S.LinkStore.heap s) (g.S.LinkStore.mem_id c.args.membrane)) (sym c.store.ensures) c.requires.membrane
 
 pub loop-place-init : goal.loop-place-init
-loop-place-init g c = record { same = refl; none = λ n i. absurd i }
+loop-place-init g c = record { same = refl; none = λ n i. absurd i; counts = counts_none c.args.steps.now }
 
 pub rule-rule-requires-clause-mem : goal.rule-rule-requires-clause-mem
 rule-rule-requires-clause-mem g c = subst (λ h. IsMem h (g.S.LinkStore.mem_id c.args.membrane)) (sym (ap g.S.LinkStore.heap c.store-in-loop-place.ensures ∙ c.loop-place.invariant.same)) c.requires.membrane
@@ -57,6 +59,19 @@ pub returns-then-succeeds-clause-found : goal.returns-then-succeeds-clause-found
 returns-then-succeeds-clause-found g c =
     subst (λ k. HasFound g.S.LinkStore.atom_id g.S.LinkStore.mem_id k c.args.codes.now (g.S.LinkStore.mem_id c.args.membrane) c.rule-rule.result c.succeeds.new.machine.set) c.loop-place.invariant.same (c.succeeds.ensures.found c.if-succeeds.true)
 
+pub returns-then-succeeds-clause-steps : goal.returns-then-succeeds-clause-steps
+returns-then-succeeds-clause-steps g c =
+    let many : c.rules-rules.result ≡ length (rules_in (g.S.LinkStore.heap c.args.machine.now.store) (g.S.LinkStore.mem_id c.args.membrane)) = c.rules-rules.ensures ∙ ap (λ s. length (rules_in (g.S.LinkStore.heap s) (g.S.LinkStore.mem_id c.args.membrane))) c.store.ensures in
+    counts_less (c.loop-place.place + 1) (length (rules_in (g.S.LinkStore.heap c.args.machine.now.store) (g.S.LinkStore.mem_id c.args.membrane))) c.args.steps.now c.succeeds.new.steps
+    (counts_more c.loop-place.place c.args.steps.now c.loop-place.steps c.succeeds.new.steps c.loop-place.invariant.counts c.succeeds.ensures.steps)
+    (omega arith) (let l = c.loop-place-test.true in omega (arith, l, many))
+
+pub returns-clause-steps : goal.returns-clause-steps
+returns-clause-steps g c =
+    let many : c.rules-rules.result ≡ length (rules_in (g.S.LinkStore.heap c.args.machine.now.store) (g.S.LinkStore.mem_id c.args.membrane)) = c.rules-rules.ensures ∙ ap (λ s. length (rules_in (g.S.LinkStore.heap s) (g.S.LinkStore.mem_id c.args.membrane))) c.store.ensures in
+    subst (λ n. CountsUpTo n c.args.steps.now c.loop-place.steps) (let f = c.loop-place-test.false in let k = c.loop-place.auto in let e : c.loop-place.place ≡ length (rules_in (g.S.LinkStore.heap c.args.machine.now.store) (g.S.LinkStore.mem_id c.args.membrane)) = omega (arith, many) in e)
+    c.loop-place.invariant.counts
+
 pub loop-place-preserved : goal.loop-place-preserved
 loop-place-preserved g c =
     let h = g.S.LinkStore.heap c.args.machine.now.store in
@@ -68,6 +83,7 @@ loop-place-preserved g c =
           (ap g.S.LinkStore.heap c.store.ensures) (ap g.S.LinkStore.heap c.store-in-loop-place.ensures ∙ c.loop-place.invariant.same) c.rules-rules.ensures c.loop-place-test.true c.rule-rule.ensures)
           c.loop-place.invariant.none
           (subst (λ k. CodeSucceeds k c.args.codes.now m c.rule-rule.result → ⊥) c.loop-place.invariant.same (c.succeeds.ensures.none c.if-succeeds.false));
+      counts = counts_more c.loop-place.place c.args.steps.now c.loop-place.steps c.succeeds.new.steps c.loop-place.invariant.counts c.succeeds.ensures.steps;
     }
 
 pub returns-clause-same : goal.returns-clause-same

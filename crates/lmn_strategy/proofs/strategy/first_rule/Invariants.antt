@@ -2,6 +2,7 @@ use Rattle.std.proofs.Common.{◌≡◌}
 use Rattle.std.specs.Prelude.{take}
 use Rattle.lmn_heap.specs.Heap.{rules_in}
 use Rattle.lmn_strategy.specs.Choosing.{NoneOf}
+use Rattle.lmn_strategy.specs.Counting.{CountsUpTo}
 use Rattle.lmn_strategy.proofs.strategy.first_rule.Given as goal
 
 abbrev pub invariant-loop-place : goal.invariant-loop-place
@@ -11,4 +12,5 @@ invariant-loop-place g l =
     record {
       same : g.S.LinkStore.heap l.machine.store ≡ h;
       none : NoneOf h l.codes m (take l.place (rules_in h m));
+      counts : CountsUpTo l.place l.fn.steps l.steps;
     }

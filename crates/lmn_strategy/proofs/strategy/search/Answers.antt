@@ -2,7 +2,9 @@ use Rattle.std.proofs.Common.{◌∙◌, length, sym, subst, arith}
 use Rattle.std.specs.Prelude.{take, drop, IfSome, MatchOption}
 use Rattle.lmn_heap.specs.Sound.{Forest, IsTree, flat}
 use Rattle.lmn_strategy.specs.Choosing.{CanTurn, NoneIn, IsFirstIn, HasFound}
-use Rattle.lmn_strategy.proofs.Chosen.{asked_behind, compiled_in_order, first_before, some_membrane, take_rest}
+use Rattle.lmn_strategy.proofs.Chosen.{asked_behind, first_before, some_membrane, take_rest}
+use Rattle.lmn_strategy.specs.Counting.{CountsUpTo, rule_count}
+use Rattle.lmn_strategy.proofs.Counts.{count_parts, count_some, counts_both, counts_less}
 use Rattle.lmn_strategy.proofs.strategy.search.Goals as goal
 
 pub overflow_sub-many : goal.overflow_sub-many
@@ -12,7 +14,7 @@ pub first_of_some-requires-clause-turn : goal.first_of_some-requires-clause-turn
 first_of_some-requires-clause-turn g c = c.requires.turn
 
 pub first_of_some-requires-clause-order : goal.first_of_some-requires-clause-order
-first_of_some-requires-clause-order g c = compiled_in_order c.args.codes.now c.requires.codes.0 c.requires.codes.1 c.accepted_in_order.ensures c.requires.codes.2 c.requires.codes.3
+first_of_some-requires-clause-order g c = c.requires.order
 
 pub first_of_some-requires-clause-from : goal.first_of_some-requires-clause-from
 first_of_some-requires-clause-from g c = λ f t. let e = c.requires.many f t in let l = c.requires.from in omega (arith, e, l)
@@ -21,7 +23,7 @@ pub first_of_some-requires-in-None-clause-turn : goal.first_of_some-requires-in-
 first_of_some-requires-in-None-clause-turn g c = subst (λ h. CanTurn h (length c.args.codes.now)) (sym c.in-None.ensures.same) c.requires.turn
 
 pub first_of_some-requires-in-None-clause-order : goal.first_of_some-requires-in-None-clause-order
-first_of_some-requires-in-None-clause-order g c = compiled_in_order c.args.codes.now c.requires.codes.0 c.requires.codes.1 c.accepted_in_order.ensures c.requires.codes.2 c.requires.codes.3
+first_of_some-requires-in-None-clause-order g c = c.requires.order
 
 pub first_of_some-requires-in-None-clause-from : goal.first_of_some-requires-in-None-clause-from
 first_of_some-requires-in-None-clause-from g c = some_membrane (g.S.LinkStore.heap c.first_of_some.new.machine.store)
@@ -53,3 +55,24 @@ returns-in-None-clause-first g c = λ f t.
 pub returns-in-None-clause-found : goal.returns-in-None-clause-found
 returns-in-None-clause-found g c = subst (λ h. IfSome c.first_of_some-in-None.result (λ x. HasFound g.S.LinkStore.atom_id g.S.LinkStore.mem_id h c.args.codes.now (g.S.LinkStore.mem_id x.membrane) x.rule c.first_of_some-in-None.new.machine.set))
     c.in-None.ensures.same c.first_of_some-in-None.ensures.found
+
+pub returns-in-Some-clause-steps : goal.returns-in-Some-clause-steps
+returns-in-Some-clause-steps g c = λ f t.
+    let h = g.S.LinkStore.heap c.args.machine.now.store in
+    let parts = count_parts h (flat f) c.args.from in
+    let choice = c.in-Some.choice in
+    let first = subst (λ ms. IsFirstIn h c.args.codes.now ms (g.S.LinkStore.mem_id choice.membrane) choice.place choice.rule) (take_rest (flat f) c.args.from c.args.many (c.requires.many f t)) (c.in-Some.ensures.first f t) in
+    counts_less (rule_count h (drop c.args.from (flat f))) (rule_count h (flat f)) c.args.steps.now c.first_of_some.new.steps
+    (subst (λ ms. CountsUpTo (rule_count h ms) c.args.steps.now c.first_of_some.new.steps) (take_rest (flat f) c.args.from c.args.many (c.requires.many f t)) (c.first_of_some.ensures.steps f t))
+    (count_some h c.args.codes.now (drop c.args.from (flat f)) (g.S.LinkStore.mem_id choice.membrane) choice.place choice.rule first) (omega (arith, parts))
+
+pub returns-in-None-clause-steps : goal.returns-in-None-clause-steps
+returns-in-None-clause-steps g c = λ f t.
+    let h = g.S.LinkStore.heap c.args.machine.now.store in
+    let behind = rule_count h (drop c.args.from (flat f)) in
+    let before = rule_count h (take c.args.from (flat f)) in
+    let again = subst (λ k. (f : Forest) → IsTree k f → CountsUpTo (rule_count k (take c.args.from (flat f))) c.first_of_some.new.steps c.first_of_some-in-None.new.steps) c.in-None.ensures.same c.first_of_some-in-None.ensures.steps in
+    subst (λ n. CountsUpTo n c.args.steps.now c.first_of_some-in-None.new.steps) (count_parts h (flat f) c.args.from)
+    (counts_both behind before c.args.steps.now c.first_of_some.new.steps c.first_of_some-in-None.new.steps
+    (subst (λ ms. CountsUpTo (rule_count h ms) c.args.steps.now c.first_of_some.new.steps) (take_rest (flat f) c.args.from c.args.many (c.requires.many f t)) (c.first_of_some.ensures.steps f t))
+    (again f t))

@@ -4,6 +4,9 @@ use Rattle.lmn_strategy.specs.Turns.{CanFire, AnswersMatch}
 use Rattle.lmn_strategy.proofs.Firing.{can_fire, turned, can_again}
 use Rattle.lmn_strategy.proofs.turning.take_turn.Goals as goal
 
+pub search-requires-clause-order : goal.search-requires-clause-order
+search-requires-clause-order g c n code e = (c.requires.codes n code e).head
+
 pub fire-requires-clause-fire : goal.fire-requires-clause-fire
 fire-requires-clause-fire g c =
     let h = g.S.LinkStore.heap c.args.machine.now.store in
@@ -14,7 +17,7 @@ fire-requires-clause-fire g c =
     let tree = c.requires.turn.valid.tree in
     let is = slice_get_read codes (length codes) n code refl (slice_get_within codes n found.code found.is) c.index-codes-choice.is in
     subst (λ x. CanFire g.S.LinkStore.atom_id g.S.LinkStore.mem_id x c.search.new.machine.set code) (sym c.search.ensures.same)
-    (can_fire c.bodies_are_ready.ensures c.accepted_bodies.ensures.nested c.accepted_least.ensures c.commits_cost_what_is_told.ensures g.S.LinkStore.atom_id g.S.LinkStore.mem_id h codes c.requires.codes (length codes) c.requires.turn
+    (can_fire g.S.LinkStore.atom_id g.S.LinkStore.mem_id h codes c.requires.codes (length codes) c.requires.turn
     (g.S.LinkStore.mem_id c.in-Some.choice.membrane) c.in-Some.choice.place n c.search.new.machine.set (c.in-Some.ensures.first tree.0 tree.1).rule found code is)
 
 pub returns-in-Some-clause-turned : goal.returns-in-Some-clause-turned

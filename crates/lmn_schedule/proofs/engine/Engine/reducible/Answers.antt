@@ -1,7 +1,7 @@
-use Rattle.std.proofs.Common.{◌≡◌, length, subst}
+use Rattle.std.proofs.Common.{◌≡◌, length, subst, sym}
 use Rattle.lmn_choice.specs.Turns.{HaveCodes, tree_over}
 use Rattle.lmn_heap.specs.Sound.{Forest, IsTree, flat}
-use Rattle.lmn_strategy.specs.Choosing.{IsFirstIn, NoneIn, asked}
+use Rattle.lmn_strategy.specs.Choosing.{AllInOrder, IsFirstIn, NoneIn, asked}
 use Rattle.lmn_schedule.proofs.Turned.{done, embeds, some_membrane}
 use Rattle.lmn_schedule.proofs.engine.Engine.reducible.Goals as goal
 
@@ -9,6 +9,16 @@ pub search-requires-clause-from : goal.search-requires-clause-from
 search-requires-clause-from g c =
     some_membrane (g.S.LinkStore.heap c.args.self.now.machine.store) c.requires.run.turn.valid c.membranes-many.result
     (subst (λ s. (f : Forest) → IsTree (g.S.LinkStore.heap s) f → c.membranes-many.result ≡ length (flat f)) c.store.ensures c.membranes-many.ensures)
+
+pub search-requires-clause-order : goal.search-requires-clause-order
+search-requires-clause-order g c =
+    subst AllInOrder (sym c.as_slice.ensures) (λ n code e. (c.tables_are_runnable.ensures c.args.self.now.codes (record {
+      table = c.args.self.now.plain.now.rules;
+      plans = c.requires.run.plans;
+      whole = c.requires.run.whole;
+      compiled = c.requires.run.compiled;
+      inner = c.requires.run.inner;
+    }) n code e).head)
 
 pub returns-in-Some-clause-yes : goal.returns-in-Some-clause-yes
 returns-in-Some-clause-yes g c _ names solid o =

@@ -1,7 +1,7 @@
 use Rattle.std.proofs.Common.{◌≡◌, length, refl, sym, subst, arith, ◌∙◌}
 use Rattle.lmn_choice.specs.Turns.{HaveCodes, tree_over}
 use Rattle.lmn_heap.specs.Sound.{Forest, IsTree, flat}
-use Rattle.lmn_strategy.specs.Turns.{IsTurn}
+use Rattle.lmn_strategy.specs.Turns.{AreRunnable, IsTurn}
 use Rattle.lmn_schedule.proofs.Turned.{as_many_paths, kept_heap, some_membrane, turned}
 use Rattle.lmn_schedule.proofs.engine.Engine.turn.Goals as goal
 
@@ -9,6 +9,16 @@ pub pick-from-requires-clause-some : goal.pick-from-requires-clause-some
 pick-from-requires-clause-some g c =
     some_membrane (g.S.LinkStore.heap c.args.self.now.machine.store) c.requires.run.turn.valid c.membranes-many.result
     (subst (λ s. (f : Forest) → IsTree (g.S.LinkStore.heap s) f → c.membranes-many.result ≡ length (flat f)) c.store.ensures c.membranes-many.ensures)
+
+pub take_turn-answer-requires-clause-codes : goal.take_turn-answer-requires-clause-codes
+take_turn-answer-requires-clause-codes g c =
+    subst AreRunnable (sym c.as_slice.ensures) (c.tables_are_runnable.ensures c.args.self.now.codes (record {
+      table = c.args.self.now.plain.now.rules;
+      plans = c.requires.run.plans;
+      whole = c.requires.run.whole;
+      compiled = c.requires.run.compiled;
+      inner = c.requires.run.inner;
+    }))
 
 pub returns-then-eq-clause-turned : goal.returns-then-eq-clause-turned
 returns-then-eq-clause-turned g c k gives names solid o =

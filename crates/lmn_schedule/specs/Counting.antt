@@ -1,0 +1,23 @@
+-- How many rules a turn may ask, by the solid.
+use Rattle.std.specs.Prelude.{ℕ, ◌≡◌, ◌+◌, List, length}
+use Rattle.lmn_base.specs.declared.rule.RuleTree.{RuleTree}
+use Rattle.lmn_congruence.specs.Regions.{Region, Regions, region, no_region, region_and}
+use Rattle.lmn_congruence.specs.Rules.{Name}
+use Rattle.lmn_heap.specs.Heap.{Heap}
+use Rattle.lmn_heap.specs.Sound.{Forest, IsTree, flat}
+use Rattle.lmn_strategy.specs.Counting.{rule_count}
+use Rattle.lmn_schedule.specs.Held.{HoldsRegion}
+
+abbrev mutual
+  -- How many rules stand in a region and in its membranes, at every depth.
+  pub rule_count_of_region : Region → ℕ
+  rule_count_of_region (region atoms membranes rules) = length rules + rule_count_of_regions membranes
+
+  pub rule_count_of_regions : Regions → ℕ
+  rule_count_of_regions no_region = 0
+  rule_count_of_regions (region_and r rs) = rule_count_of_region r + rule_count_of_regions rs
+
+-- The membranes of a heap have as many rules as the solid that it holds.
+abbrev pub RulesAreCounted : Type 0
+RulesAreCounted = (names : List Name) (table : List RuleTree) (h : Heap) (S : Region) → HoldsRegion names table h S →
+    (f : Forest) × IsTree h f × (rule_count h (flat f) ≡ rule_count_of_region S)

@@ -1,0 +1,68 @@
+-- The code of a table of accepted rules can be run by turns.
+use Rattle.std.proofs.Common.{ℕ, ◌≡◌, ◌<◌, List, [], length, Some, sym, subst, arith}
+use Rattle.std.specs.Prelude.{slice_get, All}
+use Rattle.std.specs.List.{AllByRecursion}
+use Rattle.std.proofs.lemmas.Option.{slice_get_within}
+use Rattle.lmn_base.specs.declared.rule.RuleTree.{RuleTree}
+use Rattle.lmn_base.specs.Levels.{rules_of}
+use Rattle.lmn_base.proofs.Lists.{get_there as there}
+use Rattle.lmn_guards.specs.declared.plan.GuardPlan.{GuardPlan}
+use Rattle.lmn_instr.specs.declared.instr.Code.{Code}
+use Rattle.lmn_instr.specs.Running.{IsFirstSuccess}
+use Rattle.lmn_compile_head.specs.Accepted.{head_items, AcceptedLeast}
+use Rattle.lmn_compile_body.specs.Accepted.{IsCompilable, AcceptedNested, rule_body_names, rule_body_items}
+use Rattle.lmn_solid.specs.Heads.{membranes_of}
+use Rattle.lmn_commit.specs.Matched.{CanBeCommitted, BodiesCanBeCommitted}
+use Rattle.lmn_cost.specs.Laws.{CostIsTold}
+use Rattle.lmn_machine.specs.Costs.{Leaves}
+use Rattle.lmn_matching.specs.AcceptedCode.{AcceptedInOrder}
+use Rattle.lmn_compile.specs.Compiled.{IsCompiled}
+use Rattle.lmn_strategy.specs.Turns.{BodiesAreReady, IsTableCode, Loads, TablesAreRunnable}
+use Rattle.lmn_strategy.proofs.BodyAll.{level_rules}
+use Rattle.lmn_strategy.proofs.BodyInstructions.{code_loads}
+
+-- a code is that of a rule of its table, with its plan
+record HasRule (codes : List Code) (t : IsTableCode codes) (n : ℕ) (code : Code) : Type 0 where
+  rule : RuleTree
+  plan : GuardPlan
+  stands : slice_get t.table n ≡ Some rule
+  whole : IsCompilable t.table rule plan
+  compiled : IsCompiled rule plan code
+
+has_rule : (codes : List Code) (t : IsTableCode codes) (n : ℕ) (code : Code) → slice_get codes n ≡ Some code → HasRule codes t n code
+has_rule codes t n code e =
+    let l = slice_get_within codes n code e in
+    let rule = there t.table n (let m = t.compiled.many in omega (arith, l, m)) in
+    let plan = there t.plans n (let m = t.compiled.many in let k = t.whole.many in omega (arith, l, m, k)) in
+    record {
+      rule = rule.0;
+      plan = plan.0;
+      stands = rule.1;
+      whole = t.whole.whole n rule.0 plan.0 rule.1 plan.1;
+      compiled = t.compiled.each n rule.0 plan.0 code rule.1 plan.1 e;
+    }
+
+-- the rules that the code of a rule loads are of its table
+loads_of_table : (codes : List Code) (t : IsTableCode codes) (n : ℕ) (code : Code) → HasRule codes t n code → AllByRecursion (Loads (λ j. j < length codes)) code.body
+loads_of_table codes t n code r =
+    let P : ℕ → Type 0 = λ j. j < length codes in
+    let inner = subst (λ k. All (λ j. j < k) (rules_of r.rule.body)) (sym t.compiled.many) (t.inner n r.rule r.stands) in
+    let items = head_items r.rule r.plan in
+    subst (AllByRecursion (Loads P)) (sym r.compiled.body)
+    (code_loads P items (rule_body_items r.rule r.plan) (length r.rule.links) (level_rules (rule_body_names r.rule r.plan) P (length (membranes_of items)) r.rule.body inner))
+
+-- the law, from those of heads and bodies
+pub tables_are_runnable : AcceptedInOrder → BodiesAreReady → BodiesCanBeCommitted → AcceptedNested → AcceptedLeast → CostIsTold → TablesAreRunnable
+tables_are_runnable order ready commit nested least cost codes t n code e =
+    let r = has_rule codes t n code e in
+    record {
+      head = order code.head t.table r.rule r.plan (record { ready = r.whole.ready; is = r.compiled.head });
+      ready = ready t.table r.rule r.plan r.whole code r.compiled;
+      loads = loads_of_table codes t n code r;
+      leaves = λ h m s valid placed first. subst (λ b. (n : ℕ) × Leaves h s b n) (sym r.compiled.body)
+          (cost.some t.table r.rule r.plan h m (record { head = s; copy = λ k. (0, 0); copied = λ k. [] })
+          (record { whole = r.whole; valid = valid; placed = placed; first = subst (λ hd. IsFirstSuccess h hd m s) r.compiled.head first }));
+      commits = λ h m s valid placed first. subst (λ b. CanBeCommitted s b h) (sym r.compiled.body)
+          (commit (head_items r.rule r.plan) (rule_body_items r.rule r.plan) (length r.rule.links) (nested t.table r.rule r.plan r.whole) h valid m placed s
+          (least.least t.table r.rule r.plan h m s.head r.whole.ready valid (subst (λ hd. IsFirstSuccess h hd m s.head) r.compiled.head first)).embeds.lies);
+    }
