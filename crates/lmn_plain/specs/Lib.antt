@@ -18,3 +18,4 @@ pub mod Examples
 pub mod Laws
 pub mod SolidLines
 pub mod Texts
+pub mod TextExamples
