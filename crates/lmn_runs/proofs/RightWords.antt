@@ -1,5 +1,5 @@
 -- A text can spell what the tokens of a right text mean, and the list of names that reading leaves holds their names.
-use Rattle.std.proofs.Common.{◌≡◌, ℕ, zero, suc, pos, ◌-◌, ◌≤◌, ◌^◌, ◌==◌, Bool, true, false, if◌then◌else◌, List, [], ◌∷◌, ◌++◌, length, drop, slice_get, Some, refl, sym, ap, ◌∙◌, subst, inl, inr, arith}
+use Rattle.std.proofs.Common.{◌≡◌, ℕ, zero, suc, pos, ◌-◌, ◌≤◌, ◌^◌, ◌==◌, Bool, true, false, if◌then◌else◌, List, [], ◌∷◌, ◌++◌, drop, slice_get, Some, refl, sym, ap, ◌∙◌, subst, inl, inr, arith}
 use lib.Dec.{le→leb, lt→ltb}
 use Rattle.std.specs.Prelude.{Contains, codes, option_map}
 use Rattle.std.specs.Char.{is_ascii_lowercase}
@@ -11,7 +11,7 @@ use Rattle.lmn_base.specs.Names.{IsNames}
 use Rattle.lmn_congruence.specs.Rules as tree
 use Rattle.lmn_guards.specs.Values as guards
 use Rattle.lmn_lexer.specs.Cutting.{Cuts, token_at as token_of}
-use Rattle.lmn_lexer.specs.Faults.{SpelledInRange, NothingWrong, TokenFault, floating_point, integer_out_of_range, long_name, value_behind}
+use Rattle.lmn_lexer.specs.Faults.{SpelledInRange, NothingWrong, TokenFault, floating_point, integer_out_of_range, value_behind}
 use Rattle.lmn_lexer.specs.Laying.{Word, last_word, word_of, words_of}
 use Rattle.lmn_lexer.specs.Spelling.{AllPass, IsWord, Quotes, Spells, byte, goes_on, is_quotable, nothing}
 use Rattle.lmn_lexer.specs.Values.{IsSound, bytes_of, integer_of, minus_of}
