@@ -11,6 +11,7 @@ use Rattle.lmn_base.specs.Names.{HasNames, level_names, rule_names, plain_names}
 use Rattle.lmn_guards.specs.declared.plan.GuardPlan.{GuardPlan}
 use Rattle.lmn_instr.specs.declared.instr.Code.{Code}
 use Rattle.lmn_instr.specs.Listings.{code_listing, HasCode}
+use Rattle.lmn_io.specs.Counts.{Faults}
 use Rattle.lmn_io.specs.Writing.{WritesText}
 use Rattle.lmn_io.proofs.WritingLemmas.{writes_both, writes_front}
 use Rattle.lmn_compile.specs.Compiled.{AreCompiled, IsCompiled}
@@ -84,14 +85,14 @@ module _ (names : List (List ℕ)) where
   -- the code at a place, as a list has it
   module _ (codes : List Code) (k : ℕ) (code : Code) (at : slice_get codes k ≡ Some code) where
     -- one listing more is written, or a part of it
-    pub next_written : {A B D E : Type 0} (x : A) (r : Result B E) (old mid new : Option (List ℕ)) (f g n : ℕ) →
+    pub next_written : {A B D E : Type 0} (x : A) (r : Result B E) (old mid new : Option (List ℕ)) (f g n : Faults) →
         WritesText {A = A} {E = D} (so_far codes k) (Ok x) old f mid g → WritesText (code_listing names code k) r mid g new n → WritesText (so_far codes (k + 1)) r old f new n
     next_written x r old mid new f g n =
         writes_both (λ text. text ≡ so_far codes k) (λ text. text ≡ code_listing names code k) (λ text. text ≡ so_far codes (k + 1)) x r old mid new f g n
         (λ text is. (so_far codes k, code_listing names code k, refl, refl, is ∙ next_is codes k code at))
 
     -- a part of one listing more is a part of all
-    pub part_written : {A B D E : Type 0} (S : E → Type 0) (x : A) (d : D) (r : Result B E) (old mid new : Option (List ℕ)) (f g n : ℕ) → IsErrAnd r S →
+    pub part_written : {A B D E : Type 0} (S : E → Type 0) (x : A) (d : D) (r : Result B E) (old mid new : Option (List ℕ)) (f g n : Faults) → IsErrAnd r S →
         WritesText {A = A} {E = D} (so_far codes k) (Ok x) old f mid g → WritesText {A = B} {E = D} (code_listing names code k) (Err d) mid g new n → WritesText (code_listings names 0 codes) r old f new n
     part_written S x d r old mid new f g n failed first later =
         let rest = front_from codes 0 (k + 1) in
