@@ -19,6 +19,7 @@ use Rattle.lmn_congruence.proofs.TranslatedItems.{items_kept}
 use Rattle.lmn_guards.specs.declared.plan.GuardPlan.{GuardPlan}
 use Rattle.lmn_heap.specs.Heap.{Heap}
 use Rattle.lmn_io.specs.Counts.{FailedLast, Faults, NoneFailed}
+use Rattle.lmn_io.proofs.TakingLemmas.{no_put}
 use Rattle.lmn_io.specs.Taking.{Takes, TakesPrefix}
 use Rattle.lmn_loading.specs.Loaded.{LoadCauses}
 use Rattle.lmn_loading.specs.declared.loading.LoadFault.TheVariants.{Size}
