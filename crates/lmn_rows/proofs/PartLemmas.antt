@@ -1,5 +1,5 @@
 -- Calls that leave every mark of a port 0, and what is known of parts that are ground in a membrane.
-use Rattle.std.proofs.Common.{◌≡◌, ◌≢◌, ℕ, ◌+◌, ◌<◌, List, [], ◌∷◌, length, Option, Some, None, IsSome, Result, Ok, Err, refl, sym, ap, subst, ◌∙◌, inl, inr, arith}
+use Rattle.std.proofs.Common.{◌≡◌, ◌≢◌, ℕ, ◌<◌, List, [], ◌∷◌, length, Option, Some, None, IsSome, Result, Ok, Err, refl, sym, ap, subst, ◌∙◌, inl, inr, arith}
 use Rattle.std.proofs.lemmas.Bool.{cases_eq}
 use Rattle.std.proofs.lemmas.List.{get_or-set_other}
 use Rattle.std.specs.Option.{option_map}
@@ -92,11 +92,11 @@ clean_beside s t ys b c a i l = elim (in_or_not a ys) [
 ]
 
 -- no mark comes when a part is copied
-pub clean_copied : (s t : Heap) (x y : ℕ × ℕ) → Copied s t x y → PortsUnmarked s → PortsUnmarked t
+clean_copied : (s t : Heap) (x y : ℕ × ℕ) → Copied s t x y → PortsUnmarked s → PortsUnmarked t
 clean_copied s t x y h c = clean_beside s t h.copies h.beside c
 
 -- nor where a heap remains
-pub clean_remains : (s t : Heap) → Remains s t → PortsUnmarked s → PortsUnmarked t
+clean_remains : (s t : Heap) → Remains s t → PortsUnmarked s → PortsUnmarked t
 clean_remains s t h c = clean_beside s t h.copies h.beside c
 
 -- what is ground in a membrane
