@@ -25,11 +25,10 @@ use Rattle.lmn_reduction.proofs.SettledForms.{all_join}
 use Rattle.lmn_adequacy.specs.Accepted.{Accepted, Throughout, all_asked}
 use Rattle.lmn_adequacy.specs.ChangeExamples.{KeptComesFirst, ShortTraceEnds, TracesLeaveNothingOut, TwoFiringsAreTwoCommits, a_makes_b, changing}
 use Rattle.lmn_adequacy.specs.Choice.{Before, ChosenFrom, less_here}
-use Rattle.lmn_adequacy.specs.Embedding.{AllRules, EmbedsAt, EmbedsIn, HasEmbedding, LevelImages, Taken, embeds_below, embeds_here, image_and, level_images, no_image, no_membrane_image, no_part, no_part_of_atom, taken_first, taken_later}
+use Rattle.lmn_adequacy.specs.Embedding.{AllRules, Contents, EmbedsAt, EmbedsIn, HasEmbedding, LevelLies, Taken, embeds_below, embeds_here, image_and, level_lies, no_image, no_membrane_lies, no_part, no_part_of_atom, taken_first, taken_later}
 use Rattle.lmn_adequacy.specs.Examples.{root_first}
-use Rattle.lmn_adequacy.specs.Next.{Contents, EmbedsInOrder, Next, NextAt, assignment_of, fires_here, made_atom, made_level, no_made_leaf, no_made_membrane, raw_level}
+use Rattle.lmn_adequacy.specs.Next.{Next, NextAt, fires_here, made_atom, made_level, no_made_leaf, no_made_membrane, raw_level}
 use Rattle.lmn_adequacy.specs.Runs.{Chooser, Trace, Turn, loaded, nothing_embeds, turned}
-use Rattle.lmn_adequacy.proofs.InOrder.{contents_plain}
 use Rattle.lmn_adequacy.proofs.Results.{embeddings_fire, irreducible_exactly, one_next}
 use Rattle.lmn_adequacy.proofs.Runs.{trace_commits, trace_is_one}
 
@@ -101,31 +100,26 @@ one_port p = record { process = atom label_a (0 ∷ []); root = 0 }
 nothing_given : Contents
 nothing_given = record { link_of = λ x. 0; atoms_of = λ p. []; membranes_of = λ p. no_region; rules_of = λ p. []; typed_of = one_port }
 
-lies_at : {n : ℕ} {xs rest : List SolidAtom} → Taken n atom_a xs rest → EmbedsInOrder a_makes_b (n ∷ []) (atoms_beside xs)
+lies_at : {n : ℕ} {xs rest : List SolidAtom} → Taken n atom_a xs rest → EmbedsAt a_makes_b (n ∷ []) (atoms_beside xs)
 unfolding nothing_given one_port
 lies_at {rest = rest} k = record {
   contents = nothing_given;
   rest = atoms_beside rest;
   root_is_free = λ p. refl;
-  images = level_images (image_and k no_image) (no_part_of_atom no_part) no_membrane_image;
-  left = tt;
+  lies = level_lies (image_and k no_image) (no_part_of_atom no_part) no_membrane_lies;
   guard = no_condition;
 }
 
 embeds_at : {n : ℕ} {xs rest : List SolidAtom} → Taken n atom_a xs rest → EmbedsIn [] 0 (n ∷ []) (atoms_beside xs)
-unfolding lies_at nothing_given one_port
-embeds_at {n = n} {xs = xs} {rest = rest} k = embeds_here {r = a_makes_b} taken_first at
-  where
-    at : EmbedsAt a_makes_b (n ∷ []) (atoms_beside xs)
-    at = record { assignment = assignment_of nothing_given; rest = atoms_beside rest; plain = contents_plain nothing_given (λ p. refl); images = (lies_at k).images; guard = no_condition }
+embeds_at k = embeds_here {r = a_makes_b} taken_first (lies_at k)
 
 -- it embeds nowhere but at an atom `a`
 by_atom : (P : List ℕ → ℕ → List ℕ → Type 0) (xs : List SolidAtom) → ((n : ℕ) (rest : List SolidAtom) → Taken n atom_a xs rest → P [] 0 (n ∷ []))
     → {path f : List ℕ} {k : ℕ} → EmbedsIn path k f (atoms_beside xs) → P path k f
-by_atom P xs h (embeds_here taken_first e) = go e.images
+by_atom P xs h (embeds_here taken_first e) = go e.lies
   where
-    go : {t : Assignment} {f : List ℕ} {rest : Region} → LevelImages t (head_of a_makes_b) f (atoms_beside xs) rest → P [] 0 f
-    go (level_images (image_and {n = n} {xs' = left} k no_image) j no_membrane_image) = h n left k
+    go : {c : Contents} {f : List ℕ} {rest : Region} → LevelLies c (head_of a_makes_b) f (atoms_beside xs) rest → P [] 0 f
+    go (level_lies (image_and {n = n} {xs' = left} k no_image) j no_membrane_lies) = h n left k
 by_atom P xs h (embeds_here (taken_later k) e) = elim k [ ]
 by_atom P xs h (embeds_below k i) = elim k [ ]
 

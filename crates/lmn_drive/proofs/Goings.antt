@@ -48,7 +48,7 @@ module _ (g : RunInput) (n : ℕ) (h : Heap) where
   counted r = lines_count g.folded r.before r.lines.first_lines r.lines.are_lines ∙ r.count
 
   -- a run that failed after a prefix of its lines
-  broke_so : (r : Ran g n h) (old new : Option (List ℕ)) → TakesPrefix (traced g.trace (r.lines.first_lines ++ r.lines.last_line ∷ [])) old new → Broke g n h old new
+  abbrev broke_so : (r : Ran g n h) (old new : Option (List ℕ)) → TakesPrefix (traced g.trace (r.lines.first_lines ++ r.lines.last_line ∷ [])) old new → Broke g n h old new
   broke_so r old new part =
       let any : (word : List ℕ) → TakesPrefix (text r word) old new = λ word. front_taken g.trace r.lines.first_lines r.lines.last_line word n (counted r) old new part in
       record { ran = r; took = record { at_end = λ e ends. any (end_word e); elsewhere = λ on. any no_memory } }
@@ -61,7 +61,7 @@ abbrev TakesPartOfLine : RunInput → Heap → Option (List ℕ) → Option (Lis
 TakesPartOfLine g h old new = (bytes : List ℕ) → IsTracedLineOf g.trace g.folded g.names g.table h bytes → TakesPrefix bytes old new
 
 -- a solid that a heap holds has a line
-line_of_held : (g : RunInput) {h : Heap} {S : Region} → HoldsRegion g.names g.table h S → (line : List ℕ) × IsLine g.folded S line
+pub line_of_held : (g : RunInput) {h : Heap} {S : Region} → HoldsRegion g.names g.table h S → (line : List ℕ) × IsLine g.folded S line
 line_of_held g {h} {S} held = some_line g.folded S (closed_held held)
 
 -- before the first turn: the heap holds the first solid
@@ -82,10 +82,10 @@ module _ (g : RunInput) (n : ℕ) (h : Heap) (old new : Option (List ℕ)) (none
   abbrev first_bytes : IsTracedLineOf g.trace g.folded g.names g.table h (traced g.trace (first_line.0 ∷ []))
   first_bytes = traced_held g.folded g.names g.table h g.trace g.first first_line.0 held first_line.1
 
-  pub going_first : TakesLine g h old new → Going g n h old new
+  abbrev pub going_first : TakesLine g h old new → Going g n h old new
   going_first took = record { ran = first_ran; took = took (traced g.trace (first_line.0 ∷ [])) first_bytes }
 
-  pub broke_first : TakesPartOfLine g h old new → Broke g n h old new
+  abbrev pub broke_first : TakesPartOfLine g h old new → Broke g n h old new
   broke_first part = broke_so g n h first_ran old new (part (traced g.trace (first_line.0 ∷ [])) first_bytes)
 
 module _ (g : RunInput) (n : ℕ) (h h' : Heap) (told old : Option (List ℕ)) (s : Going g n h told old) where
@@ -113,37 +113,37 @@ module _ (g : RunInput) (n : ℕ) (h h' : Heap) (told old : Option (List ℕ)) (
     next_bytes = traced_held g.folded g.names g.table h' g.trace t.0 next_line.0 t.3 next_line.1
 
     -- its line is written,
-    pub going_more : TakesLine g h' old new → Going g (n + 1) h' told new
+    abbrev pub going_more : TakesLine g h' old new → Going g (n + 1) h' told new
     going_more took = record {
       ran = ran_more;
       took = line_taken g.trace (s.ran.lines.first_lines ++ s.ran.lines.last_line ∷ []) next_line.0 told old new s.took (took (traced g.trace (next_line.0 ∷ [])) next_bytes);
     }
 
     -- or a prefix of it
-    pub broke_more : TakesPartOfLine g h' old new → Broke g (n + 1) h' told new
+    abbrev pub broke_more : TakesPartOfLine g h' old new → Broke g (n + 1) h' told new
     broke_more part =
         broke_so g (n + 1) h' ran_more told new
         (line_begun g.trace (s.ran.lines.first_lines ++ s.ran.lines.last_line ∷ []) next_line.0 told old new s.took (part (traced g.trace (next_line.0 ∷ [])) next_bytes))
 
   -- the run stops, since it ends there or since memory is wanting
-  stops_so : (why : Stop) → (held : HoldsRegion g.names g.table h' s.ran.last) → StopsBecause (held_by g n h s.ran h' held) why → Stopped g n h' why told old
+  abbrev stops_so : (why : Stop) → (held : HoldsRegion g.names g.table h' s.ran.last) → StopsBecause (held_by g n h s.ran h' held) why → Stopped g n h' why told old
   stops_so why held stops = record { going = record { ran = held_by g n h s.ran h' held; took = s.took }; stops = stops }
 
-  pub stops_irreducible : Answers s.ran answer.Irreducible h' → Stopped g n h' stop.Irreducible told old
+  abbrev pub stops_irreducible : Answers s.ran answer.Irreducible h' → Stopped g n h' stop.Irreducible told old
   stops_irreducible t = stops_so stop.Irreducible t.1 (nothing_embeds t.0.nothing_embeds)
 
-  pub stops_full : n < g.budget → Answers s.ran answer.Full h' → Stopped g n h' stop.Full told old
+  abbrev pub stops_full : n < g.budget → Answers s.ran answer.Full h' → Stopped g n h' stop.Full told old
   stops_full below t = stops_so stop.Full t.1 (too_many below t.0.1 t.0.2)
 
-  pub stops_no_memory : n < g.budget → Answers s.ran answer.NoMemory h' → Stopped g n h' stop.NoMemory told old
+  abbrev pub stops_no_memory : n < g.budget → Answers s.ran answer.NoMemory h' → Stopped g n h' stop.NoMemory told old
   stops_no_memory below t =
       stops_so stop.NoMemory t.1 (no_end g.chooser g.budget g.size n s.ran.last (closed_held s.ran.holds) (accepted_held s.ran.holds) below t.0.0 t.0.1 t.0.2)
 
   -- as many commits as are allowed are done
-  pub stops_budget : h' ≡ h → n ≡ g.budget → HasEmbedding s.ran.last → Stopped g n h' stop.Budget told old
+  abbrev pub stops_budget : h' ≡ h → n ≡ g.budget → HasEmbedding s.ran.last → Stopped g n h' stop.Budget told old
   stops_budget same done some = stops_so stop.Budget (subst (λ k. HoldsRegion g.names g.table k s.ran.last) (sym same) s.ran.holds) (none_allowed some done)
 
-  pub stops_done : h' ≡ h → IsDone s.ran.last → Stopped g n h' stop.Irreducible told old
+  abbrev pub stops_done : h' ≡ h → IsDone s.ran.last → Stopped g n h' stop.Irreducible told old
   stops_done same done = stops_so stop.Irreducible (subst (λ k. HoldsRegion g.names g.table k s.ran.last) (sym same) s.ran.holds) (nothing_embeds done.nothing_embeds)
 
 -- the rest of a run that stopped is written,
@@ -157,7 +157,7 @@ module _ (g : RunInput) (n : ℕ) (h : Heap) (why : Stop) (old mid new : Option 
   abbrev rest_bytes : IsRestOf g.trace g.folded g.names g.table h (stop_word why) n rest
   rest_bytes = rest_held g.folded g.names g.table h g.trace stopped.last stopped.lines.last_line stopped.holds stopped.lines.is_line (stop_word why) n
 
-  pub concluded : ((bytes : List ℕ) → IsRestOf g.trace g.folded g.names g.table h (stop_word why) n bytes → Takes bytes mid new) → Drove g n h (stop_end why) old new
+  abbrev pub concluded : ((bytes : List ℕ) → IsRestOf g.trace g.folded g.names g.table h (stop_word why) n bytes → Takes bytes mid new) → Drove g n h (stop_end why) old new
   concluded took = record { ran = stopped; ended = by why s.stops all }
     where
       all : Takes (text stopped (stop_word why)) old new
@@ -170,7 +170,7 @@ module _ (g : RunInput) (n : ℕ) (h : Heap) (why : Stop) (old mid new : Option 
       by stop.NoMemory stops took = (stops, took)
 
   -- or a prefix of it
-  pub broken_off : ((bytes : List ℕ) → IsRestOf g.trace g.folded g.names g.table h (stop_word why) n bytes → TakesPrefix bytes mid new) → Drove g n h Failed old new
+  abbrev pub broken_off : ((bytes : List ℕ) → IsRestOf g.trace g.folded g.names g.table h (stop_word why) n bytes → TakesPrefix bytes mid new) → Drove g n h Failed old new
   broken_off took = record { ran = stopped; ended = record { at_end = λ e ends. subst (λ word. TakesPrefix (text stopped word) old new) (at_end why s.stops e ends) part; elsewhere = λ on. subst (λ word. TakesPrefix (text stopped word) old new) (elsewhere why s.stops on) part } }
     where
       part : TakesPrefix (text stopped (stop_word why)) old new
@@ -189,5 +189,5 @@ module _ (g : RunInput) (n : ℕ) (h : Heap) (why : Stop) (old mid new : Option 
       elsewhere stop.NoMemory stops on = refl
 
 -- a run that failed while it went on
-pub drove_broke : (g : RunInput) (n : ℕ) (h : Heap) (old new : Option (List ℕ)) → Broke g n h old new → Drove g n h Failed old new
+abbrev pub drove_broke : (g : RunInput) (n : ℕ) (h : Heap) (old new : Option (List ℕ)) → Broke g n h old new → Drove g n h Failed old new
 drove_broke g n h old new b = record { ran = b.ran; ended = b.took }

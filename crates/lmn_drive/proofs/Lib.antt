@@ -2,6 +2,7 @@ pub mod Lines
 pub mod Texts
 pub mod Ends
 pub mod Goings
+pub mod Answered
 pub mod Writings
 pub mod Answering
 pub mod ExampleTexts

@@ -133,3 +133,9 @@ pub record IsRestOf (trace folded : Bool) (names : List Name) (table : List Rule
   pub last : List ℕ
   pub is_line : IsTracedLineOf (not trace) folded names table h last
   pub is : bytes ≡ last ++ end_line word commits
+
+-- what ends a run that stopped: it is the same run
+pub record Concludes {g : RunInput} {commits : ℕ} {h : Heap} {why : Stop} {old mid : Option (List ℕ)} (s : Stopped g commits h why old mid) (h' : Heap) (end : RunEnd) (new : Option (List ℕ)) : Type 0 where
+  pub drove : Drove g commits h' end old new
+  pub before : drove.ran.before ≡ s.going.ran.before
+  pub last : drove.ran.last ≡ s.going.ran.last

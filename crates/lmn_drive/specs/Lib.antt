@@ -1,4 +1,5 @@
 pub mod Written
 pub mod Driving
+pub mod Answers
 pub mod Laws
 pub mod Examples

@@ -8,7 +8,8 @@ ghost use Rattle.lmn_schedule.specs.Held.{EngineCanTurn, HoldsRegion};
 ghost use Rattle.lmn_schedule.specs.Turning.{Gives};
 ghost use Rattle.lmn_folded_printer.specs.Lines.{IsHeapLine};
 ghost use Rattle.lmn_drive.specs.Written.{end_line};
-ghost use Rattle.lmn_drive.specs.Driving.{Broke, CountsCommit, Drove, Going, IsRestOf, IsTracedLineOf, StepsOn, Stopped, given_by_engine, stop_end, stop_word};
+ghost use Rattle.lmn_drive.specs.Answers.{BrokeByAnswers, DroveByAnswers, GoingByAnswers, StepsOnByAnswers, StoppedByAnswers};
+ghost use Rattle.lmn_drive.specs.Driving.{Broke, Concludes, CountsCommit, Drove, Going, IsRestOf, IsTracedLineOf, StepsOn, Stopped, given_by_engine, stop_end, stop_word};
 
 use itoa::Buffer;
 use lmn_base::{Names, Plain};
@@ -76,6 +77,9 @@ pub fn drive<S: LinkStore, F: Fn(u64, u64) -> u64, O: Sink, L: Ledger>(
     requires budget { options.now.budget ≤ 2 ^ 63 - 1 }
     ensures drove { (c : Chooser) → Gives F.post engine.old.chooser.f c → (solid : Region) → HoldsRegion names.now plain.now.rules (S.heap engine.old.machine.store) solid →
         Drove (given_by_engine names.now plain.now.rules engine.old.size options.now c solid) engine.new.commits (S.heap engine.new.machine.store) result (O.told out.old) (O.told out.new) }
+    ensures answered { (solid : Region) → HoldsRegion names.now plain.now.rules (S.heap engine.old.machine.store) solid →
+        DroveByAnswers (F.post engine.old.chooser.f) (λ c. given_by_engine names.now plain.now.rules engine.old.size options.now c solid)
+        engine.new.commits (S.heap engine.new.machine.store) result (O.told out.old) (O.told out.new) steps.old steps.new }
     ensures again { EngineCanTurn (S.heap engine.new.machine.store) plain.now.rules engine.old.codes engine.old.size }
     ensures keeps { engine.new ≡ record engine.old { machine = engine.new.machine; commits = engine.new.commits } }
     ensures same { ¬ (result ≡ RunEnd.Failed) → NoneFailed (O.faults out.old) (O.faults out.new) }
@@ -106,6 +110,9 @@ fn run<S: LinkStore, F: Fn(u64, u64) -> u64, O: Sink, L: Ledger>(
         let g = given_by_engine names.now plain.now.rules engine.old.size options.now c solid in MatchResult result
         (λ stop. Stopped g engine.new.commits (S.heap engine.new.machine.store) stop (O.told out.old) (O.told out.new))
         (λ failed. Broke g engine.new.commits (S.heap engine.new.machine.store) (O.told out.old) (O.told out.new)) }
+    ensures answered { (solid : Region) → HoldsRegion names.now plain.now.rules (S.heap engine.old.machine.store) solid → MatchResult result
+        (λ stop. StoppedByAnswers (F.post engine.old.chooser.f) (λ c. given_by_engine names.now plain.now.rules engine.old.size options.now c solid) engine.new.commits (S.heap engine.new.machine.store) stop (O.told out.old) (O.told out.new) steps.old steps.new)
+        (λ failed. BrokeByAnswers (F.post engine.old.chooser.f) (λ c. given_by_engine names.now plain.now.rules engine.old.size options.now c solid) engine.new.commits (S.heap engine.new.machine.store) (O.told out.old) (O.told out.new) steps.old steps.new) }
     ensures again { EngineCanTurn (S.heap engine.new.machine.store) plain.now.rules engine.old.codes engine.old.size }
     ensures keeps { engine.new ≡ record engine.old { machine = engine.new.machine; commits = engine.new.commits } }
     ensures same { OnOk result (NoneFailed (O.faults out.old) (O.faults out.new)) }
@@ -143,6 +150,10 @@ fn step<S: LinkStore, F: Fn(u64, u64) -> u64, O: Sink, L: Ledger>(
         Going g engine.old.commits (S.heap engine.old.machine.store) told (O.told out.old) → MatchResult result
         (StepsOn g engine.new.commits (S.heap engine.new.machine.store) told (O.told out.new))
         (λ failed. Broke g engine.new.commits (S.heap engine.new.machine.store) told (O.told out.new)) }
+    ensures answered { (solid : Region) (told : Option (List ℕ)) (begun : ℕ) → engine.old.commits < options.now.budget →
+        GoingByAnswers (F.post engine.old.chooser.f) (λ c. given_by_engine names.now plain.now.rules engine.old.size options.now c solid) engine.old.commits (S.heap engine.old.machine.store) told (O.told out.old) begun steps.old → MatchResult result
+        (StepsOnByAnswers (F.post engine.old.chooser.f) (λ c. given_by_engine names.now plain.now.rules engine.old.size options.now c solid) engine.new.commits (S.heap engine.new.machine.store) told (O.told out.new) begun steps.new)
+        (λ failed. BrokeByAnswers (F.post engine.old.chooser.f) (λ c. given_by_engine names.now plain.now.rules engine.old.size options.now c solid) engine.new.commits (S.heap engine.new.machine.store) told (O.told out.new) begun steps.new) }
     ensures again { EngineCanTurn (S.heap engine.new.machine.store) plain.now.rules engine.old.codes engine.old.size }
     ensures keeps { engine.new ≡ record engine.old { machine = engine.new.machine; commits = engine.new.commits } }
     ensures counts { IfOk result (λ stop. CountsCommit stop engine.old.commits engine.new.commits) }
@@ -209,8 +220,7 @@ fn conclude<S: LinkStore, F: Fn(u64, u64) -> u64, O: Sink>(
     requires run { EngineCanTurn (S.heap engine.old.machine.store) plain.now.rules engine.old.codes engine.old.size }
     ensures drove { (c : Chooser) (solid : Region) (told : Option (List ℕ)) →
         let g = given_by_engine names.now plain.now.rules engine.old.size options.now c solid in
-        Stopped g engine.old.commits (S.heap engine.old.machine.store) stop told (O.told out.old) →
-        Drove g engine.old.commits (S.heap engine.new.machine.store) result told (O.told out.new) }
+        (s : Stopped g engine.old.commits (S.heap engine.old.machine.store) stop told (O.told out.old)) → Concludes s (S.heap engine.new.machine.store) result (O.told out.new) }
     ensures kept { S.heap engine.new.machine.store ≡ S.heap engine.old.machine.store }
     ensures keeps { engine.new ≡ record engine.old { machine = engine.new.machine } }
     ensures same { ¬ (result ≡ RunEnd.Failed) → NoneFailed (O.faults out.old) (O.faults out.new) }

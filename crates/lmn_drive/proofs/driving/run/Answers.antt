@@ -1,10 +1,13 @@
-use Rattle.std.proofs.Common.{◌≡◌, ◌+◌, ◌<◌, refl, sym, ap, subst, ◌∙◌, arith}
+use Rattle.std.proofs.Common.{ℕ, ◌≡◌, ◌+◌, ◌<◌, refl, sym, ap, subst, ◌∙◌, arith}
 use Rattle.lmn_schedule.specs.Held.{EngineCanTurn, HoldsRegion}
 use Rattle.lmn_io.proofs.TakingLemmas.{none_more, none_then_last}
 use Rattle.lmn_order.specs.Answers.{AnswersBelow}
 use Rattle.lmn_schedule.specs.Turning.{Gives}
 use Rattle.lmn_drive.specs.Driving.{Broke, CountsCommit, RunInput, Going, StepsOn, Stopped, given_by_engine}
+use Rattle.lmn_adequacy.specs.Runs.{Chooser}
+use Rattle.lmn_drive.specs.Answers.{BrokeByAnswers, GoingByAnswers, StepsOnByAnswers, StoppedByAnswers}
 use Rattle.lmn_drive.specs.declared.driving.Stop.TheVariants as stop
+use Rattle.lmn_drive.proofs.Answered.{carried, first_broke, first_going, irreducible_stops, reducible_stops}
 use Rattle.lmn_drive.proofs.Goings.{broke_first, going_first, moved, stops_budget, stops_done}
 use Rattle.lmn_drive.proofs.Writings.{at_err}
 use Rattle.lmn_drive.proofs.driving.run.Goals as goal
@@ -50,6 +53,9 @@ loop-init g c =
       going = λ k gives solid held. (let r : RunInput = given_by_engine names table c.args.engine.now.size options k solid in
           moved (λ n h. Going r n h told new) (λ i. (wrote i).commits) c.write_traced.ensures.kept
           (going_first r c.args.engine.now.commits h told new c.requires.commits held (λ bytes is. c.in_ok-write_traced.ensures.writes.took bytes is)));
+      answered = λ solid held. moved (λ n h. GoingByAnswers (λ t m r. g.F.Fn.post c.args.engine.now.chooser.f (t, (m, tt)) r) (λ k. given_by_engine names table c.args.engine.now.size options k solid) n h told new c.args.steps.now c.args.steps.now)
+          (λ i. (wrote i).commits) c.write_traced.ensures.kept
+          (first_going (λ t m r. g.F.Fn.post c.args.engine.now.chooser.f (t, (m, tt)) r) names table c.args.engine.now.size options solid c.args.engine.now.commits h told new c.args.steps.now c.requires.commits held (λ bytes is. c.in_ok-write_traced.ensures.writes.took bytes is));
     }
 
 pub step-requires-clause-run : goal.step-requires-clause-run
@@ -140,6 +146,16 @@ loop-preserved g c =
           let going = subst (λ n. Going (given_by_engine names table n options k solid) c.loop.engine.commits (g.S.LinkStore.heap c.loop.engine.machine.store) told (g.O.Sink.told c.loop.out)) (sym size) (c.loop.invariant.going k gives solid held) in
           subst (λ n. Going (given_by_engine names table n options k solid) c.step.new.engine.commits (g.S.LinkStore.heap c.step.new.engine.machine.store) told (g.O.Sink.told c.step.new.out)) size
           (subst (StepsOn (given_by_engine names table c.loop.engine.size options k solid) c.step.new.engine.commits (g.S.LinkStore.heap c.step.new.engine.machine.store) told (g.O.Sink.told c.step.new.out)) c.in_default.is (c.in_ok-stop.ensures.goes k gives' solid told below going)));
+      answered = λ solid held. (
+          let size : c.loop.engine.size ≡ c.args.engine.now.size = λ i. (c.loop.invariant.keeps i).size in
+          let chooser : c.loop.engine.chooser.f ≡ c.args.engine.now.chooser.f = λ i. (c.loop.invariant.keeps i).chooser.f in
+          let below : c.loop.engine.commits < options.budget = (let l = c.loop-test.true in let e = c.loop.invariant.count in omega (arith, l, e)) in
+          let going = carried (λ f n. GoingByAnswers (λ t m r. g.F.Fn.post f (t, (m, tt)) r) (λ k. given_by_engine names table n options k solid) c.loop.engine.commits (g.S.LinkStore.heap c.loop.engine.machine.store) told (g.O.Sink.told c.loop.out) c.args.steps.now c.loop.steps)
+          (sym chooser) (sym size) (c.loop.invariant.answered solid held) in
+          carried (λ f n. GoingByAnswers (λ t m r. g.F.Fn.post f (t, (m, tt)) r) (λ k. given_by_engine names table n options k solid) c.step.new.engine.commits (g.S.LinkStore.heap c.step.new.engine.machine.store) told (g.O.Sink.told c.step.new.out) c.args.steps.now c.step.new.steps)
+          chooser size
+          (subst (StepsOnByAnswers (λ t m r. g.F.Fn.post c.loop.engine.chooser.f (t, (m, tt)) r) (λ k. given_by_engine names table c.loop.engine.size options k solid) c.step.new.engine.commits (g.S.LinkStore.heap c.step.new.engine.machine.store) told (g.O.Sink.told c.step.new.out) c.args.steps.now c.step.new.steps)
+          c.in_default.is (c.in_ok-stop.ensures.answered solid told c.args.steps.now below going)));
     }
 
 pub reducible-requires : goal.reducible-requires
@@ -210,3 +226,87 @@ returns-else-reducible-clause-keeps g c =
 
 pub returns-else-reducible-clause-same : goal.returns-else-reducible-clause-same
 returns-else-reducible-clause-same g c = c.loop.invariant.same
+
+pub returns-in_err-write_traced-clause-answered : goal.returns-in_err-write_traced-clause-answered
+returns-in_err-write_traced-clause-answered g c solid held =
+    let names = c.args.names.now in
+    let table = c.args.plain.now.rules in
+    let options = c.args.options.now in
+    let told = g.O.Sink.told c.args.out.now in
+    let h = g.S.LinkStore.heap c.args.engine.now.machine.store in
+    let new = g.O.Sink.told c.write_traced.new.out in
+    at_err _ c.from_residual.result _ _ c.from_residual.ensures.1
+    (moved (λ n h. BrokeByAnswers (λ t m r. g.F.Fn.post c.args.engine.now.chooser.f (t, (m, tt)) r) (λ k. given_by_engine names table c.args.engine.now.size options k solid) n h told new c.args.steps.now c.args.steps.now)
+    (λ i. (c.write_traced.ensures.keeps i).commits) c.write_traced.ensures.kept
+    (first_broke (λ t m r. g.F.Fn.post c.args.engine.now.chooser.f (t, (m, tt)) r) names table c.args.engine.now.size options solid c.args.engine.now.commits h told new c.args.steps.now c.requires.commits held
+    (λ bytes is. c.in_err-write_traced.ensures.writes.prefix bytes is)))
+
+pub returns-in_err-stop-clause-answered : goal.returns-in_err-stop-clause-answered
+returns-in_err-stop-clause-answered g c solid held =
+    let names = c.args.names.now in
+    let table = c.args.plain.now.rules in
+    let options = c.args.options.now in
+    let told = g.O.Sink.told c.args.out.now in
+    let size : c.loop.engine.size ≡ c.args.engine.now.size = λ i. (c.loop.invariant.keeps i).size in
+    let chooser : c.loop.engine.chooser.f ≡ c.args.engine.now.chooser.f = λ i. (c.loop.invariant.keeps i).chooser.f in
+    let below : c.loop.engine.commits < options.budget = (let l = c.loop-test.true in let e = c.loop.invariant.count in omega (arith, l, e)) in
+    let going = carried (λ f n. GoingByAnswers (λ t m r. g.F.Fn.post f (t, (m, tt)) r) (λ k. given_by_engine names table n options k solid) c.loop.engine.commits (g.S.LinkStore.heap c.loop.engine.machine.store) told (g.O.Sink.told c.loop.out) c.args.steps.now c.loop.steps)
+    (sym chooser) (sym size) (c.loop.invariant.answered solid held) in
+    at_err _ c.from_residual-in_err-stop.result _ _ c.from_residual-in_err-stop.ensures.1
+    (carried (λ f n. BrokeByAnswers (λ t m r. g.F.Fn.post f (t, (m, tt)) r) (λ k. given_by_engine names table n options k solid) c.step.new.engine.commits (g.S.LinkStore.heap c.step.new.engine.machine.store) told (g.O.Sink.told c.step.new.out) c.args.steps.now c.step.new.steps)
+    chooser size (c.in_err-stop.ensures.answered solid told c.args.steps.now below going))
+
+pub returns-in-Some-clause-answered : goal.returns-in-Some-clause-answered
+returns-in-Some-clause-answered g c solid held =
+    let names = c.args.names.now in
+    let table = c.args.plain.now.rules in
+    let options = c.args.options.now in
+    let told = g.O.Sink.told c.args.out.now in
+    let size : c.loop.engine.size ≡ c.args.engine.now.size = λ i. (c.loop.invariant.keeps i).size in
+    let chooser : c.loop.engine.chooser.f ≡ c.args.engine.now.chooser.f = λ i. (c.loop.invariant.keeps i).chooser.f in
+    let below : c.loop.engine.commits < options.budget = (let l = c.loop-test.true in let e = c.loop.invariant.count in omega (arith, l, e)) in
+    let going = carried (λ f n. GoingByAnswers (λ t m r. g.F.Fn.post f (t, (m, tt)) r) (λ k. given_by_engine names table n options k solid) c.loop.engine.commits (g.S.LinkStore.heap c.loop.engine.machine.store) told (g.O.Sink.told c.loop.out) c.args.steps.now c.loop.steps)
+    (sym chooser) (sym size) (c.loop.invariant.answered solid held) in
+    carried (λ f n. StoppedByAnswers (λ t m r. g.F.Fn.post f (t, (m, tt)) r) (λ k. given_by_engine names table n options k solid) c.step.new.engine.commits (g.S.LinkStore.heap c.step.new.engine.machine.store) c.in-Some.stop told (g.O.Sink.told c.step.new.out) c.args.steps.now c.step.new.steps)
+    chooser size
+    (subst (StepsOnByAnswers (λ t m r. g.F.Fn.post c.loop.engine.chooser.f (t, (m, tt)) r) (λ k. given_by_engine names table c.loop.engine.size options k solid) c.step.new.engine.commits (g.S.LinkStore.heap c.step.new.engine.machine.store) told (g.O.Sink.told c.step.new.out) c.args.steps.now c.step.new.steps)
+    c.in-Some.is (c.in_ok-stop.ensures.answered solid told c.args.steps.now below going))
+
+pub returns-then-reducible-clause-answered : goal.returns-then-reducible-clause-answered
+returns-then-reducible-clause-answered g c solid held =
+    let names = c.args.names.now in
+    let table = c.args.plain.now.rules in
+    let options = c.args.options.now in
+    let told = g.O.Sink.told c.args.out.now in
+    let may : ℕ → ℕ → ℕ → Type 0 = λ t m r. g.F.Fn.post c.args.engine.now.chooser.f (t, (m, tt)) r in
+    let input : Chooser → RunInput = λ k. given_by_engine names table c.args.engine.now.size options k solid in
+    let keeps = c.loop.invariant.keeps in
+    let h = g.S.LinkStore.heap c.loop.engine.machine.store in
+    let h' = g.S.LinkStore.heap c.reducible.new.self.machine.store in
+    let new = g.O.Sink.told c.loop.out in
+    let b = c.loop.invariant.answered solid held in
+    let S = b.going.ran.last in
+    let e : c.loop.engine.commits ≡ options.budget = (let f = c.loop-test.false in let l = c.loop.auto in let n = c.loop.invariant.count in omega (arith, n)) in
+    let rules : c.loop.engine.plain.now.rules ≡ table = (λ i. (keeps i).plain.now.rules) ∙ (λ i. (c.requires.plain i).rules) in
+    let holds = subst (λ T. HoldsRegion names T h S) (sym rules) b.going.ran.holds in
+    moved (λ n h. StoppedByAnswers may input n h stop.Budget told new c.args.steps.now c.reducible.new.steps) {h' = h'} (λ i. (c.reducible.ensures.keeps i).commits) refl
+    (reducible_stops may names table c.args.engine.now.size options solid c.loop.engine.commits h h' told new c.args.steps.now c.loop.steps c.reducible.new.steps b c.reducible.ensures.steps c.reducible.ensures.same e (c.reducible.ensures.yes c.if-reducible.true names S holds))
+
+pub returns-else-reducible-clause-answered : goal.returns-else-reducible-clause-answered
+returns-else-reducible-clause-answered g c solid held =
+    let names = c.args.names.now in
+    let table = c.args.plain.now.rules in
+    let options = c.args.options.now in
+    let told = g.O.Sink.told c.args.out.now in
+    let may : ℕ → ℕ → ℕ → Type 0 = λ t m r. g.F.Fn.post c.args.engine.now.chooser.f (t, (m, tt)) r in
+    let input : Chooser → RunInput = λ k. given_by_engine names table c.args.engine.now.size options k solid in
+    let keeps = c.loop.invariant.keeps in
+    let h = g.S.LinkStore.heap c.loop.engine.machine.store in
+    let h' = g.S.LinkStore.heap c.reducible.new.self.machine.store in
+    let new = g.O.Sink.told c.loop.out in
+    let b = c.loop.invariant.answered solid held in
+    let S = b.going.ran.last in
+    let rules : c.loop.engine.plain.now.rules ≡ table = (λ i. (keeps i).plain.now.rules) ∙ (λ i. (c.requires.plain i).rules) in
+    let holds = subst (λ T. HoldsRegion names T h S) (sym rules) b.going.ran.holds in
+    moved (λ n h. StoppedByAnswers may input n h stop.Irreducible told new c.args.steps.now c.reducible.new.steps) {h' = h'} (λ i. (c.reducible.ensures.keeps i).commits) refl
+    (irreducible_stops may names table c.args.engine.now.size options solid c.loop.engine.commits h h' told new c.args.steps.now c.loop.steps c.reducible.new.steps b c.reducible.ensures.steps c.reducible.ensures.same (c.reducible.ensures.no c.if-reducible.false names S holds))

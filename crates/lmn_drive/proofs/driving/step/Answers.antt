@@ -1,10 +1,13 @@
-use Rattle.std.proofs.Common.{refl, sym, subst, ◌∙◌}
+use Rattle.std.proofs.Common.{ℕ, refl, sym, subst, ◌∙◌}
 use Rattle.lmn_schedule.specs.Held.{EngineCanTurn, HoldsRegion}
 use Rattle.lmn_strategy.specs.declared.turning.Turn.TheVariants as answer
-use Rattle.lmn_schedule.specs.Turning.{IsTurned}
+use Rattle.lmn_schedule.specs.Turning.{IsTurned, IsTurnedByAnswer}
 use Rattle.lmn_io.proofs.TakingLemmas.{no_put}
+use Rattle.lmn_adequacy.specs.Runs.{Chooser}
 use Rattle.lmn_drive.specs.Driving.{Broke, RunInput, Going, Stopped, given_by_engine}
+use Rattle.lmn_drive.specs.Answers.{BrokeByAnswers, GoingByAnswers, StoppedByAnswers}
 use Rattle.lmn_drive.specs.declared.driving.Stop.TheVariants as stop
+use Rattle.lmn_drive.proofs.Answered.{commits_and_breaks, commits_on, full_by, irreducible_by, no_memory_by}
 use Rattle.lmn_drive.proofs.Goings.{broke_more, going_more, moved, none_more, stops_full, stops_irreducible, stops_no_memory}
 use Rattle.lmn_drive.proofs.Writings.{at_err}
 use Rattle.lmn_drive.proofs.driving.step.Goals as goal
@@ -150,3 +153,98 @@ returns-in-NoMemory-clause-counts g c = (λ i. (c.in-NoMemory.ensures.keeps i).c
 
 pub returns-in-NoMemory-clause-same : goal.returns-in-NoMemory-clause-same
 returns-in-NoMemory-clause-same g c = no_put (g.O.Sink.faults c.args.out.now)
+
+pub returns-in_err-write_traced-in-Committed-clause-answered : goal.returns-in_err-write_traced-in-Committed-clause-answered
+returns-in_err-write_traced-in-Committed-clause-answered g c solid told begun below b =
+    let names = c.args.names.now in
+    let table = c.args.plain.now.rules in
+    let options = c.args.options.now in
+    let size = c.args.engine.now.size in
+    let commits = c.args.engine.now.commits in
+    let may : ℕ → ℕ → ℕ → Type 0 = λ t m r. g.F.Fn.post c.args.engine.now.chooser.f (t, (m, tt)) r in
+    let input : Chooser → RunInput = λ k. given_by_engine names table size options k solid in
+    let h = g.S.LinkStore.heap c.args.engine.now.machine.store in
+    let h' = g.S.LinkStore.heap c.turn.new.self.machine.store in
+    let S = b.going.ran.last in
+    let t = subst (λ T. HoldsRegion names T h S → IsTurnedByAnswer may names T size commits S answer.Committed h') (λ i. (c.requires.plain i).rules) (c.in-Committed.ensures.chosen names S) b.going.ran.holds in
+    let old = g.O.Sink.told c.args.out.now in
+    let counted = c.turn.new.steps in
+    let new = g.O.Sink.told c.write_traced.new.out in
+    at_err _ c.from_residual.result _ _ c.from_residual.ensures.1
+    (moved (λ n h. BrokeByAnswers may input n h told new begun counted) (λ i. (c.write_traced.ensures.keeps i).commits) c.write_traced.ensures.kept
+    (moved (λ n h. BrokeByAnswers may input n h told new begun counted) {h' = h'} (λ i. (c.in-Committed.ensures.keeps i).commits) refl
+    (commits_and_breaks may names table size options solid commits h h' told old begun c.args.steps.now counted b c.turn.ensures.steps below t new (λ bytes is. c.in_err-write_traced-in-Committed.ensures.writes.prefix bytes is))))
+
+pub returns-in_ok-write_traced-in-Committed-clause-answered : goal.returns-in_ok-write_traced-in-Committed-clause-answered
+returns-in_ok-write_traced-in-Committed-clause-answered g c solid told begun below b =
+    let names = c.args.names.now in
+    let table = c.args.plain.now.rules in
+    let options = c.args.options.now in
+    let size = c.args.engine.now.size in
+    let commits = c.args.engine.now.commits in
+    let may : ℕ → ℕ → ℕ → Type 0 = λ t m r. g.F.Fn.post c.args.engine.now.chooser.f (t, (m, tt)) r in
+    let input : Chooser → RunInput = λ k. given_by_engine names table size options k solid in
+    let h = g.S.LinkStore.heap c.args.engine.now.machine.store in
+    let h' = g.S.LinkStore.heap c.turn.new.self.machine.store in
+    let S = b.going.ran.last in
+    let t = subst (λ T. HoldsRegion names T h S → IsTurnedByAnswer may names T size commits S answer.Committed h') (λ i. (c.requires.plain i).rules) (c.in-Committed.ensures.chosen names S) b.going.ran.holds in
+    let old = g.O.Sink.told c.args.out.now in
+    let counted = c.turn.new.steps in
+    let new = g.O.Sink.told c.write_traced.new.out in
+    moved (λ n h. GoingByAnswers may input n h told new begun counted) (λ i. (c.write_traced.ensures.keeps i).commits) c.write_traced.ensures.kept
+    (moved (λ n h. GoingByAnswers may input n h told new begun counted) {h' = h'} (λ i. (c.in-Committed.ensures.keeps i).commits) refl
+    (commits_on may names table size options solid commits h h' told old begun c.args.steps.now counted b c.turn.ensures.steps below t new (λ bytes is. c.in_ok-write_traced-in-Committed.ensures.writes.took bytes is)))
+
+pub returns-in-Irreducible-clause-answered : goal.returns-in-Irreducible-clause-answered
+returns-in-Irreducible-clause-answered g c solid told begun below b =
+    let names = c.args.names.now in
+    let table = c.args.plain.now.rules in
+    let options = c.args.options.now in
+    let size = c.args.engine.now.size in
+    let commits = c.args.engine.now.commits in
+    let may : ℕ → ℕ → ℕ → Type 0 = λ t m r. g.F.Fn.post c.args.engine.now.chooser.f (t, (m, tt)) r in
+    let input : Chooser → RunInput = λ k. given_by_engine names table size options k solid in
+    let h = g.S.LinkStore.heap c.args.engine.now.machine.store in
+    let h' = g.S.LinkStore.heap c.turn.new.self.machine.store in
+    let S = b.going.ran.last in
+    let t = subst (λ T. HoldsRegion names T h S → IsTurnedByAnswer may names T size commits S answer.Irreducible h') (λ i. (c.requires.plain i).rules) (c.in-Irreducible.ensures.chosen names S) b.going.ran.holds in
+    let old = g.O.Sink.told c.args.out.now in
+    let counted = c.turn.new.steps in
+    moved (λ n h. StoppedByAnswers may input n h stop.Irreducible told old begun counted) {h' = h'} ((λ i. (c.in-Irreducible.ensures.keeps i).commits) ∙ none_more commits) refl
+    (irreducible_by may names table size options solid commits h h' told old begun c.args.steps.now counted b c.turn.ensures.steps t)
+
+pub returns-in-Full-clause-answered : goal.returns-in-Full-clause-answered
+returns-in-Full-clause-answered g c solid told begun below b =
+    let names = c.args.names.now in
+    let table = c.args.plain.now.rules in
+    let options = c.args.options.now in
+    let size = c.args.engine.now.size in
+    let commits = c.args.engine.now.commits in
+    let may : ℕ → ℕ → ℕ → Type 0 = λ t m r. g.F.Fn.post c.args.engine.now.chooser.f (t, (m, tt)) r in
+    let input : Chooser → RunInput = λ k. given_by_engine names table size options k solid in
+    let h = g.S.LinkStore.heap c.args.engine.now.machine.store in
+    let h' = g.S.LinkStore.heap c.turn.new.self.machine.store in
+    let S = b.going.ran.last in
+    let t = subst (λ T. HoldsRegion names T h S → IsTurnedByAnswer may names T size commits S answer.Full h') (λ i. (c.requires.plain i).rules) (c.in-Full.ensures.chosen names S) b.going.ran.holds in
+    let old = g.O.Sink.told c.args.out.now in
+    let counted = c.turn.new.steps in
+    moved (λ n h. StoppedByAnswers may input n h stop.Full told old begun counted) {h' = h'} ((λ i. (c.in-Full.ensures.keeps i).commits) ∙ none_more commits) refl
+    (full_by may names table size options solid commits h h' told old begun c.args.steps.now counted b c.turn.ensures.steps below t)
+
+pub returns-in-NoMemory-clause-answered : goal.returns-in-NoMemory-clause-answered
+returns-in-NoMemory-clause-answered g c solid told begun below b =
+    let names = c.args.names.now in
+    let table = c.args.plain.now.rules in
+    let options = c.args.options.now in
+    let size = c.args.engine.now.size in
+    let commits = c.args.engine.now.commits in
+    let may : ℕ → ℕ → ℕ → Type 0 = λ t m r. g.F.Fn.post c.args.engine.now.chooser.f (t, (m, tt)) r in
+    let input : Chooser → RunInput = λ k. given_by_engine names table size options k solid in
+    let h = g.S.LinkStore.heap c.args.engine.now.machine.store in
+    let h' = g.S.LinkStore.heap c.turn.new.self.machine.store in
+    let S = b.going.ran.last in
+    let t = subst (λ T. HoldsRegion names T h S → IsTurnedByAnswer may names T size commits S answer.NoMemory h') (λ i. (c.requires.plain i).rules) (c.in-NoMemory.ensures.chosen names S) b.going.ran.holds in
+    let old = g.O.Sink.told c.args.out.now in
+    let counted = c.turn.new.steps in
+    moved (λ n h. StoppedByAnswers may input n h stop.NoMemory told old begun counted) {h' = h'} ((λ i. (c.in-NoMemory.ensures.keeps i).commits) ∙ none_more commits) refl
+    (no_memory_by may names table size options solid commits h h' told old begun c.args.steps.now counted b c.turn.ensures.steps below t)
