@@ -17,8 +17,6 @@ mod refusal;
 mod rows;
 mod rule;
 mod solid;
-#[cfg(test)]
-mod tests;
 mod uses;
 mod walk;
 

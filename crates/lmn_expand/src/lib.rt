@@ -7,14 +7,6 @@ mod kept;
 mod number;
 mod part;
 mod scope;
-#[cfg(test)]
-mod test_lines;
-#[cfg(test)]
-mod test_processes;
-#[cfg(test)]
-mod test_rules;
-#[cfg(test)]
-mod tests;
 mod walk;
 
 ghost use Rattle.std.specs.Prelude.{◌≡◌, ◌+◌, ◌≤◌, ◌^◌, [], ◌∷◌, length, MatchResult};

@@ -9,8 +9,6 @@ mod conditions;
 mod evaluation;
 mod laws;
 mod plan;
-#[cfg(test)]
-mod tests;
 mod typing;
 
 pub use analysis::analyse;

@@ -6,8 +6,6 @@ pub mod laws;
 mod piece;
 mod place;
 mod scanner;
-#[cfg(test)]
-mod tests;
 mod token;
 mod tokens;
 mod value;

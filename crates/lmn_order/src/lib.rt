@@ -3,8 +3,6 @@
 
 mod chooser;
 mod order;
-#[cfg(test)]
-mod tests;
 
 pub use chooser::Chooser;
 pub use order::{Order, follow};

@@ -9,8 +9,6 @@ mod lookahead;
 mod parsing;
 mod reader;
 mod stop;
-#[cfg(test)]
-mod tests;
 mod tree;
 
 pub use parsing::parse;

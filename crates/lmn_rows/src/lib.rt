@@ -1,10 +1,15 @@
-//! Tests alone: stores, code, levels and rules that are made by hand, and texts that an engine runs.
+//! Tests alone: stores, code, levels and rules that are made by hand, texts that an engine runs, and calls of the crates below
+//! that no command line reaches.
 #![tactic(auto)]
 
 #[cfg(test)]
 mod by_hand;
 #[cfg(test)]
+mod choosers;
+#[cfg(test)]
 mod code;
+#[cfg(test)]
+mod failing;
 #[cfg(test)]
 mod fired;
 #[cfg(test)]
@@ -14,10 +19,22 @@ mod numbered;
 #[cfg(test)]
 mod parts;
 #[cfg(test)]
+mod pieces;
+#[cfg(test)]
+mod plains;
+#[cfg(test)]
+mod plans;
+#[cfg(test)]
 mod reading;
 #[cfg(test)]
 mod rule_forms;
 #[cfg(test)]
 mod runs;
+#[cfg(test)]
+mod tokens;
+#[cfg(test)]
+mod trees;
+#[cfg(test)]
+mod words;
 #[cfg(test)]
 mod written;

@@ -6,8 +6,6 @@ mod laws;
 mod parsing;
 mod reading;
 mod setting;
-#[cfg(test)]
-mod tests;
 
 pub use command::{Command, RunWords};
 pub use laws::{asks_one, folded_run};

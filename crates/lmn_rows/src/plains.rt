@@ -1,10 +1,16 @@
-use crate::flatten;
-use crate::test_lines::write_plain;
-use crate::test_processes::PROCESSES;
-use crate::test_rules::RULES;
-use lmn_base::{Names, NoMemory, Plain, Pos, Refusal, TextFault};
+//! The plains of texts, with every place and the table of links.
+
+mod lines;
+mod processes;
+mod rules;
+
+use lines::write_plain;
+use lmn_base::{Names, NoMemory, Plain, TextFault};
+use lmn_expand::flatten;
 use lmn_lexer::lex;
 use lmn_parser::parse;
+use processes::PROCESSES;
+use rules::RULES;
 use std::alloc::{AllocGlobal, Global};
 use std::process::Abort;
 
@@ -102,33 +108,5 @@ fn long_lists(rt: HostRuntime) {
         let (text, wanted) = long_list(rt.alloc(), has_rest).expect(&rt, "memory");
         let found = written(rt.alloc(), text.as_bytes()).expect(&rt, "memory");
         assert_eq!(rt; found.as_str(), wanted.as_str());
-    }
-}
-
-/// Texts with a context outside of every rule, and the line and column of the first.
-const OUTSIDE: [(&str, u64, u64); 12] = [
-    ("a, $p", 1, 4),
-    ("@r", 1, 1),
-    ("p($x)", 1, 3),
-    ("$x[X], a(X)", 1, 1),
-    ("X = $x, a(X)", 1, 5),
-    ("p([a,q($x)])", 1, 8),
-    ("f({$p})", 1, 4),
-    ("{a, @r}, p($x)", 1, 5),
-    ("p($x), {$p}", 1, 3),
-    ("a.\n{{@r}}", 2, 3),
-    ("(a :- $p), p([$x])", 1, 15),
-    ("{a :- $p}, @r", 1, 12),
-];
-
-#[test]
-fn contexts_outside(rt: HostRuntime) {
-    for (text, line, column) in OUTSIDE {
-        let refusal = Refusal {
-            code: 39,
-            pos: Pos { line, column },
-        };
-        let found = written(rt.alloc(), text.as_bytes());
-        assert_eq!(rt; found.err(), Some(TextFault::Refused(refusal)), "in {text}");
     }
 }

@@ -195,7 +195,7 @@ fn write_rule(out: &mut String, names: &Names, rule: &RuleTree) -> Result<(), No
 }
 
 /// Writes a plain: a line for the top, and one for each rule.
-pub(crate) fn write_plain(out: &mut String, names: &Names, plain: &Plain) -> Result<(), NoMemory> {
+pub(super) fn write_plain(out: &mut String, names: &Names, plain: &Plain) -> Result<(), NoMemory> {
     write_level(out, names, &plain.top)?;
     write_table(out, plain.links.as_slice())?;
     out.push('\n')?;

@@ -1,7 +1,9 @@
-use crate::{TypeKind, TypedUse, analyse};
+//! The plan of a rule that is made by hand.
+
 use lmn_base::{
     CtxUse, Expr, Functor, Label, Leaf, Level, Names, NoMemory, Occ, Pos, Rows, RuleTree,
 };
+use lmn_guards::{TypeKind, TypedUse, analyse};
 use std::alloc::Global;
 
 /// The number of the name `x`.

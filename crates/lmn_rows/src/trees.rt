@@ -1,9 +1,10 @@
+//! Lists of tokens, those of no text among them, that are programs or are refused.
 ghost use Rattle.std.specs.Prelude.{◌≡◌, ◌++◌, ◌∷◌, [], OnOk, IfOk};
 ghost use Rattle.lmn_parser.specs.Parsing.{kinds_of, EndsWithEnd};
 
-use crate::parse;
 use lmn_base::{NoMemory, Pos, TextFault};
 use lmn_lexer::{Kind, Token, Tokens};
+use lmn_parser::parse;
 use std::alloc::Global;
 
 /// The kind for which a letter or sign stands in the table.

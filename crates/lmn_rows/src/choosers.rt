@@ -1,6 +1,7 @@
+//! Which membrane is asked first.
 ghost use Rattle.std.specs.Prelude.{◌<◌};
 
-use crate::{Chooser, Order, follow};
+use lmn_order::{Chooser, Order, follow};
 
 /// Asks a chooser that keeps an order.
 fn pick(order: Order, t: u64, m: u64) -> u64

@@ -1,5 +1,7 @@
-use crate::{Command, RunWords, in_form};
+//! What words of the command line ask for.
+
 use lmn_order::Order;
+use lmn_words::{Command, RunWords, in_form};
 use std::alloc::{AllocError, Global};
 use std::test::Fail;
 
@@ -125,69 +127,6 @@ const RUNS: [(&[&str], RunWords); 18] = [
     ),
 ];
 
-/// Words that aren't of the form.
-const OTHERS: [&[&str]; 59] = [
-    &[],
-    &[""],
-    &["walk", "f"],
-    &["--help"],
-    &["run"],
-    &["compile"],
-    &["run", ""],
-    &["run", "-"],
-    &["run", "-f"],
-    &["run", "f", "g"],
-    &["run", "f", "f"],
-    &["compile", ""],
-    &["compile", "-f"],
-    &["compile", "f", "g"],
-    &["compile", "f", "--trace"],
-    &["compile", "--", "f"],
-    &["run", "--help"],
-    &["run", "f", "--help"],
-    &["run", "--", "f"],
-    &["run", "f", "--"],
-    &["run", "-t", "f"],
-    &["run", "-b5", "f"],
-    &["run", "f", "--walk"],
-    &["run", "f", "--Trace"],
-    &["run", "f", "--trace=1"],
-    &["run", "f", "--trace="],
-    &["run", "f", "--folded=x"],
-    &["run", "--folded", "--folded", "f"],
-    &["run", "f", "--budget"],
-    &["run", "f", "--budget="],
-    &["run", "f", "--budget", ""],
-    &["run", "f", "--budget", "-1"],
-    &["run", "f", "--budget", "+5"],
-    &["run", "f", "--budget", "5x"],
-    &["run", "f", "--budget", "9223372036854775808"],
-    &["run", "f", "--budget", "00000000000000000005"],
-    &["run", "f", "--budget==5"],
-    &["run", "f", "--size", "0"],
-    &["run", "f", "--size=4294967296"],
-    &["run", "f", "--seed", "9223372036854775808"],
-    &["run", "f", "--order", "last"],
-    &["run", "f", "--order", "First"],
-    &["run", "f", "--trace", "--trace"],
-    &["run", "f", "--budget", "5", "--budget", "5"],
-    &["run", "f", "--size=5", "--size", "5"],
-    &["run", "f", "--order=turn", "--order=turn"],
-    &["run", "f", "--seed=1", "--seed=1"],
-    &["run", "--budget", "f"],
-    &["demo"],
-    &["demo", ""],
-    &["demo", "0"],
-    &["demo", "100001"],
-    &["demo", "00000000000000000001"],
-    &["demo", "1", "2"],
-    &["demo", "-1"],
-    &["demo", "+1"],
-    &["demo", "x"],
-    &["demo=4"],
-    &["demo", "4", "--folded"],
-];
-
 /// These words, behind a first one.
 fn words_of(alloc: Global, first: &[&str], rest: &[&str]) -> Result<Vec<String>, AllocError> {
     let mut strings = Vec::new(alloc);
@@ -208,20 +147,6 @@ fn runs_ask_for_these(rt: HostRuntime) -> Result<(), Fail> {
         assert_eq!(rt;
             Command::from_words(rt.alloc(), words.as_slice())?,
             Some(Command::Run(row.1)),
-            "row {i}"
-        );
-    }
-    Ok(())
-}
-
-#[test]
-fn others_ask_for_nothing(rt: HostRuntime) -> Result<(), Fail> {
-    for (i, row) in OTHERS.iter().enumerate() {
-        let words = words_of(rt.alloc(), &[], row)?;
-        assert!(rt; !in_form(words.as_slice()), "form of row {i}");
-        assert_eq!(rt;
-            Command::from_words(rt.alloc(), words.as_slice())?,
-            None,
             "row {i}"
         );
     }

@@ -1,4 +1,6 @@
-use crate::{Level, Names, NoMemory, Region, Rows};
+//! Rows, names, levels and regions.
+
+use lmn_base::{Level, Names, NoMemory, Region, Rows};
 use std::alloc::Global;
 
 /// Names in the order in which they are put, and the number of each.
