@@ -12,8 +12,7 @@ use lmn_compile_head::accepted_least;
 /// take, and a run of that code leaves so many items beside the root. No rule tree has a part in it, and no guard.
 pub fn bodies_cost_what_is_told()
     ensures { BodyCostIsTold }
-{
-}
+{}
 
 /// Where the head code of an accepted rule first succeeds in a valid heap, one number is told by what the instructions of its
 /// body add and take. When the body code runs with the same registers, the heap after it has so many items beside the root.

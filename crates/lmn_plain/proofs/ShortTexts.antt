@@ -28,61 +28,61 @@ use Rattle.lmn_plain.specs.Texts.{IntegersInRange}
 use Rattle.lmn_plain.proofs.HeldLabels.{held_back}
 use Rattle.lmn_plain.proofs.SomePlain.{some_plain}
 
-abbrev name_word : List ℕ → Word
+abbrev pub name_word : List ℕ → Word
 name_word bytes = record { kind = Name; bytes = bytes }
 
-abbrev dot : Word
+abbrev pub dot : Word
 dot = record { kind = Dot; bytes = codes "." }
 
-abbrev arrow : Word
+abbrev pub arrow : Word
 arrow = record { kind = Arrow; bytes = codes ":-" }
 
-abbrev its_text : List ℕ
+abbrev pub its_text : List ℕ
 its_text = codes "a. a :- b."
 
-abbrev its_words : List Word
+abbrev pub its_words : List Word
 its_words = name_word (codes "a") ∷ dot ∷ name_word (codes "a") ∷ arrow ∷ name_word (codes "b") ∷ dot ∷ []
 
-abbrev its_kinds : List Kind
+abbrev pub its_kinds : List Kind
 its_kinds = Name ∷ Dot ∷ Name ∷ Arrow ∷ Name ∷ Dot ∷ End ∷ []
 
-not_mod : (b : ℕ) → ¬ (b ∷ [] ≡ codes "mod")
+pub not_mod : (b : ℕ) → ¬ (b ∷ [] ≡ codes "mod")
 not_mod b e = absurd (omega (arith, ap length e))
 
-laid : Laid true its_text its_words
+pub laid : Laid true its_text its_words
 laid =
     word refl ((refl, tt), not_mod 97) refl (word refl refl tt (separator refl
     (word refl ((refl, tt), not_mod 97) refl (separator refl (word refl refl tt (separator refl (word refl ((refl, tt), not_mod 98) refl (word refl refl tt all_laid))))))))
 
 -- ---- its tree
 
-abbrev its_rule : tree.Rule
+abbrev pub its_rule : tree.Rule
 its_rule = tree.rule_of (tree.only_leaves (alone (codes "a"))) [] (tree.only_leaves (alone (codes "b")))
 
-abbrev one_item : ℕ → Items
+abbrev pub one_item : ℕ → Items
 one_item n = item_and (atom_item n no_term) no_item
 
-abbrev its_tree : Pos → Clauses
+abbrev pub its_tree : Pos → Clauses
 its_tree pos = clause_and (process (one_item 0)) (clause_and (rule no_item (one_item 2) [] (one_item 4) pos) no_clause)
 
-kinds_same : (text : List ℕ) (ts : List Token) → map (λ (w : Word). w.kind) (words_of text ts) ≡ kinds_of ts
+pub kinds_same : (text : List ℕ) (ts : List Token) → map (λ (w : Word). w.kind) (words_of text ts) ≡ kinds_of ts
 kinds_same text [] = refl
 kinds_same text (t ∷ ts) = ap (λ ks. t.kind ∷ ks) (kinds_same text ts)
 
-third : (ts : List Token) (j k l : Kind) (ks : List Kind) → kinds_of ts ≡ j ∷ k ∷ l ∷ ks → (pos : Pos) × StandsAt ts 2 pos
+pub third : (ts : List Token) (j k l : Kind) (ks : List Kind) → kinds_of ts ≡ j ∷ k ∷ l ∷ ks → (pos : Pos) × StandsAt ts 2 pos
 third [] j k l ks e = absurd (cc)
 third (t ∷ []) j k l ks e = absurd (cc)
 third (t ∷ u ∷ []) j k l ks e = absurd (cc)
 third (t ∷ u ∷ v ∷ ts) j k l ks e = (v.pos, refl)
 
 module _ (ts : List Token) (kinds : kinds_of ts ≡ its_kinds) where
-  at : (p : ℕ) (k : Kind) → slice_get its_kinds p ≡ Some k → At ts p k
+  pub at : (p : ℕ) (k : Kind) → slice_get its_kinds p ≡ Some k → At ts p k
   at p k h = ap (λ ks. slice_get ks p) kinds ∙ h
 
-  one_atom : (p : ℕ) → slice_get its_kinds p ≡ Some Name → IsList ts (one_item p) p (p + 1)
+  pub one_atom : (p : ℕ) → slice_get its_kinds p ≡ Some Name → IsList ts (one_item p) p (p + 1)
   one_atom p h = last_item (is_atom_item (with_name (inl (at p Name h)) no_parentheses))
 
-  is_its_tree : (pos : Pos) → StandsAt ts 2 pos → IsProgram ts (its_tree pos)
+  pub is_its_tree : (pos : Pos) → StandsAt ts 2 pos → IsProgram ts (its_tree pos)
   is_its_tree pos s = (
     6,
     more_clauses {m = 1} (is_process (one_atom 0 refl)) (at 1 Dot refl)
@@ -94,31 +94,31 @@ module _ (ts : List Token) (kinds : kinds_of ts ≡ its_kinds) where
 -- ---- its plain
 
 -- its words with the last one
-abbrev all_words : List Word
+abbrev pub all_words : List Word
 all_words = its_words ++ last_word ∷ []
 
-in_range : IntegersInRange all_words
+pub in_range : IntegersInRange all_words
 in_range = (λ e. absurd (cc), (λ e. absurd (cc), (λ e. absurd (cc), (λ e. absurd (cc), (λ e. absurd (cc), (λ e. absurd (cc), (λ e. absurd (cc), tt)))))))
 
 module _ (names : List tree.Name) where
-  leaf_back : (name : tree.Name) → Contains names name → atom_or_connector names (NameLabel (number_of names name)) [] ≡ tree.atom_leaf (tree.named name) []
+  pub leaf_back : (name : tree.Name) → Contains names name → atom_or_connector names (NameLabel (number_of names name)) [] ≡ tree.atom_leaf (tree.named name) []
   leaf_back name h = go (number_of names name) ∙ ap (λ n. tree.atom_leaf (tree.named n) []) (held_back names name h)
     where
       go : (n : ℕ) → atom_or_connector names (NameLabel n) [] ≡ tree.atom_leaf (label_of names (NameLabel n)) []
       go zero = refl
       go (suc n) = refl
 
-  level_back : (name : tree.Name) → Contains names name → (rule_at : ℕ → tree.Rule) (number : Link → ℕ) (pos : Pos) (ks : List ℕ)
+  pub level_back : (name : tree.Name) → Contains names name → (rule_at : ℕ → tree.Rule) (number : Link → ℕ) (pos : Pos) (ks : List ℕ)
       → level_of names rule_at (numbered names number (level (atom_leaf (tree.named name) [] pos ∷ []) no_level [] [] ks)) ≡ tree.level (alone name) tree.no_level [] [] (rules (map rule_at ks))
   level_back name h rule_at number pos ks =
       fold-roll-Level tree.Level (level_step names rule_at) _ ∙ ap (λ l. tree.level (l ∷ []) tree.no_level [] [] (rules (map rule_at ks))) (leaf_back name h)
 
   module _ (a : Contains names (codes "a")) (b : Contains names (codes "b")) (places : List Pos) (pos : Pos) where
-    no_conditions : (cs : List Cond) → EachPair (IsCond all_words places names) [] cs → cs ≡ []
+    pub no_conditions : (cs : List Cond) → EachPair (IsCond all_words places names) [] cs → cs ≡ []
     no_conditions [] h = refl
     no_conditions (c ∷ cs) h = absurd h
 
-    rules_back : (rs : List RuleTree) → EachPair (IsRuleOf all_words places names) (parts_of all_words places (its_tree pos)).table rs → rules_from names 0 rs ≡ its_rule ∷ []
+    pub rules_back : (rs : List RuleTree) → EachPair (IsRuleOf all_words places names) (parts_of all_words places (its_tree pos)).table rs → rules_from names 0 rs ≡ its_rule ∷ []
     rules_back [] h = absurd h
     rules_back (r ∷ s ∷ rs) h = absurd h.1
     rules_back (r ∷ []) h =
@@ -128,7 +128,7 @@ module _ (names : List tree.Name) where
         let guard = no_conditions r.guard one.guard in
         λ i. tree.rule_of (head i) (map (condition_of names) (guard i)) (body i) ∷ []
 
-    top_back : (p : Plain) → IsPlainOf all_words places names (its_tree pos) p
+    pub top_back : (p : Plain) → IsPlainOf all_words places names (its_tree pos) p
         → top_of names p ≡ tree.level (alone (codes "a")) tree.no_level [] [] (tree.rule_and its_rule tree.no_rule)
     top_back p is =
         (λ i. level_of names (λ n. slice_index_or (rules_back p.rules is.rules i) n no_such_rule) (is.top i))
