@@ -22,6 +22,7 @@ use lmn_choice::{
     membranes_are_numbered_alike, nothing_embeds, spares_are_not_read, turns_are_alike,
     turns_are_of_chooser,
 };
+use lmn_compile::compiled;
 use lmn_guards::GuardPlan;
 use lmn_instr::Code;
 use lmn_loading::{LoadFault, load, loading_settles};
