@@ -15,3 +15,5 @@ mod SameTrees
 mod SameGuards
 mod SamePlainTrees
 mod OneProcess
+pub mod FirstNames
+pub mod Loadable

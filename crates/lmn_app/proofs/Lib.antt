@@ -1,8 +1,6 @@
-mod FirstNames
 mod PlainRegions
 mod TextLemmas
 mod ReadPlains
-mod Loadable
 mod RunLemmas
 mod OutcomeLemmas
 mod ListLemmas

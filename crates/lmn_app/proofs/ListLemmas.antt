@@ -19,7 +19,7 @@ use Rattle.lmn_app.specs.Outcomes.{Ended}
 use Rattle.lmn_app.specs.Requests.{most_items}
 use Rattle.lmn_app.specs.Texts.{Accepts, by_reading, text_bytes}
 use Rattle.lmn_app.specs.Writing.{IsListing}
-use Rattle.lmn_app.proofs.FirstNames.{first_are_names}
+use Rattle.lmn_accepted.proofs.FirstNames.{first_are_names}
 use Rattle.lmn_app.proofs.OutcomeLemmas.{refused_ended}
 use Rattle.lmn_app.proofs.TextLemmas.{refusal_code}
 

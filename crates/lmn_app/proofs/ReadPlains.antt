@@ -1,5 +1,5 @@
 -- The plain of an accepted text is one of which runs can be printed.
-use Rattle.std.proofs.Common.{◌≡◌, ℕ, zero, suc, true, List, [], ◌∷◌, length, slice_get, Some, refl, sym, subst, arith}
+use Rattle.std.proofs.Common.{◌≡◌, ℕ, zero, suc, true, List, [], ◌∷◌, slice_get, Some, refl, sym, subst, arith}
 use Rattle.std.specs.List.{AllByRecursion}
 use Rattle.lmn_accepted.specs.Rules.{AcceptedTexts}
 use Rattle.lmn_base.specs.declared.level.Leaf.{Leaf}
@@ -22,17 +22,10 @@ use Rattle.lmn_plain.specs.Plains.{EachPair}
 use Rattle.lmn_reading.proofs.ListedNames.{HoldsNames, names_held}
 use Rattle.lmn_runs.specs.Laws.{LinksAreFew}
 use Rattle.lmn_runs.specs.Texts.{HasName, IsPlainRead}
-use Rattle.lmn_compile.specs.Compiled.{AreWhole}
 use Rattle.lmn_app.specs.Texts.{Accepts}
-use Rattle.lmn_app.proofs.FirstNames.{first_are_names}
+use Rattle.lmn_accepted.proofs.FirstNames.{first_are_names}
 
--- as many plans as rules, and each rule has its plan
-pub as_many : (rs : List RuleTree) (plans : List GuardPlan) → EachPair IsPlan rs plans → length plans ≡ length rs
-as_many [] [] h = refl
-as_many [] (q ∷ qs) h = absurd h
-as_many (r ∷ rs) [] h = absurd h
-as_many (r ∷ rs) (q ∷ qs) h = omega (arith, as_many rs qs h.1)
-
+-- each rule has its plan
 plan_there : (rs : List RuleTree) (plans : List GuardPlan) (k : ℕ) (r : RuleTree) → EachPair IsPlan rs plans → slice_get rs k ≡ Some r → (plan : GuardPlan) × (slice_get plans k ≡ Some plan)
 plan_there [] [] zero r h e = absurd (cc)
 plan_there [] [] (suc k) r h e = absurd (cc)
@@ -55,12 +48,6 @@ named_kind kind.RuleCtx h = refl
 named_kind _ h = absurd h
 
 module _ (accepted_texts : AcceptedTexts) (bodies : AcceptedBodies) (text : List ℕ) (names : List Name) (plain : Plain) (plans : List GuardPlan) (a : Accepts text names plain plans) where
-  -- what a compiler asks of the rules
-  pub rules_whole : AreWhole plain.rules plans
-  rules_whole =
-      let r = a.accepted in
-      record { many = as_many plain.rules plans r.planned; whole = λ k t plan e f. accepted_texts.whole text names plain plans r k t plan (record { rule = e; plan_is = f }) }
-
   pub plain_read : IsPlainRead text names plain
   plain_read =
       let r = a.accepted in

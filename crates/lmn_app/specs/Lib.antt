@@ -1,7 +1,6 @@
 pub mod DemoLaws
 pub mod Demos
 pub mod Endings
-pub mod Loading
 pub mod NameExamples
 pub mod Outcomes
 pub mod Requests

@@ -7,7 +7,6 @@ use crate::ending::Ending;
 use crate::task::Task;
 use lmn_accepted::accepted_texts;
 use lmn_base::Names;
-use lmn_compile_body::accepted_bodies;
 use lmn_io::{Failed, Sink};
 use lmn_listing::{compile_rules, list_codes};
 use lmn_reading::Accepted;
@@ -27,7 +26,6 @@ pub(crate) fn compile<O: Sink>(
         Ended Task.List result (Some (Some text)) (O.told out.old) (O.told out.new) (O.faults out.old) (O.faults out.new) before after }
 {
     accepted_texts();
-    accepted_bodies();
     let Ok(codes) = compile_rules(alloc, &accepted.plain, accepted.plans.as_slice()) else {
         return Ending::NoMemory;
     };

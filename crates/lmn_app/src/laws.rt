@@ -1,14 +1,10 @@
-//! The laws of texts: a text is accepted or refused, refused in one way, and one that is accepted can be loaded. What `demo` does.
+//! The laws of texts: a text is accepted or refused, refused in one way. What `demo` does.
 
 ghost use Rattle.lmn_app.specs.Demos.{SomeDemo};
 ghost use Rattle.lmn_app.specs.DemoLaws.{DemoIsFoldedRun};
 ghost use Rattle.lmn_app.specs.ListingLaws.{OneListing};
-ghost use Rattle.lmn_app.specs.Loading.{AcceptedAreNamed, AcceptedCanBeLoaded};
 ghost use Rattle.lmn_app.specs.NameExamples.{SomeNames};
 ghost use Rattle.lmn_app.specs.Texts.{AcceptedOrRefused, OneRefusal, RefusedNotAccepted};
-
-use lmn_accepted::accepted_texts;
-use lmn_compile_body::accepted_bodies;
 
 /// A text that is refused isn't accepted, and it has one refusal at most.
 pub fn refusals_are_one()
@@ -36,12 +32,3 @@ pub fn demo_is_a_folded_run()
     ensures run { DemoIsFoldedRun }
     ensures text { SomeDemo }
 {}
-
-/// The plain of an accepted text can be loaded, and the list that reading leaves has its names.
-pub fn accepted_texts_can_be_loaded()
-    ensures loaded { AcceptedCanBeLoaded }
-    ensures named { AcceptedAreNamed }
-{
-    accepted_texts();
-    accepted_bodies();
-}

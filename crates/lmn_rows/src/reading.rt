@@ -3,7 +3,7 @@ ghost use Rattle.std.specs.Prelude.{◌≡◌};
 ghost use Rattle.lmn_base.specs.Names.{first_names};
 ghost use Rattle.lmn_schedule.specs.Held.{CanBeLoaded};
 
-use lmn_app::laws::accepted_texts_can_be_loaded;
+use lmn_accepted::accepted_texts_can_be_loaded;
 use lmn_base::Names;
 use lmn_reading::{Accepted, read};
 use std::alloc::AllocGlobal;

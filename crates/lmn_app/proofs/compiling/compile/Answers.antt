@@ -5,13 +5,13 @@ use Rattle.lmn_compile.specs.Compiled.{AreWhole}
 use Rattle.lmn_app.specs.declared.task.Task.TheVariants as task
 use Rattle.lmn_app.proofs.ListLemmas.{listed_ended, listed_part, listing_text, plain_named}
 use Rattle.lmn_app.proofs.OutcomeLemmas.{memory_ended}
-use Rattle.lmn_app.proofs.ReadPlains.{rules_whole}
+use Rattle.lmn_accepted.proofs.Loadable.{rules_whole}
 use Rattle.lmn_app.proofs.compiling.compile.Goals as goal
 
 pub compile_rules-requires : goal.compile_rules-requires
 compile_rules-requires g c =
     let read = c.args.accepted.now in
-    subst (AreWhole read.plain.rules) (sym c.as_slice.ensures) (rules_whole c.accepted_texts.ensures c.accepted_bodies.ensures.room c.requires.accepted.0 c.args.names.now read.plain read.plans c.requires.accepted.1)
+    subst (AreWhole read.plain.rules) (sym c.as_slice.ensures) (rules_whole c.accepted_texts.ensures c.requires.accepted.0 c.args.names.now read.plain read.plans c.requires.accepted.1.named c.requires.accepted.1.accepted)
 
 pub list_codes-requires-clause-named : goal.list_codes-requires-clause-named
 list_codes-requires-clause-named g c =

@@ -8,7 +8,7 @@ use Rattle.lmn_runs.specs.Laws.{solid_of}
 use Rattle.lmn_app.specs.declared.task.Task.TheVariants as task
 use Rattle.lmn_app.specs.Outcomes.{Ended}
 use Rattle.lmn_app.proofs.DriveLemmas.{driven_ended, too_large_ended}
-use Rattle.lmn_app.proofs.Loadable.{loadable, well_named}
+use Rattle.lmn_accepted.proofs.Loadable.{loadable, well_named}
 use Rattle.lmn_app.proofs.RunLemmas.{Laws}
 use Rattle.lmn_app.proofs.running.run_in.Goals as goal
 
@@ -17,7 +17,7 @@ load-requires-clause-plain g c =
     let plain = c.args.accepted.now.plain in
     let plans = c.args.accepted.now.plans in
     subst (CanBeLoaded plain) (sym c.as_slice.ensures)
-    (loadable c.accepted_texts.ensures c.accepted_bodies.ensures.room c.requires.accepted.0 c.args.names.now plain plans c.requires.accepted.1)
+    (loadable c.accepted_texts.ensures c.requires.accepted.0 c.args.names.now plain plans c.requires.accepted.1.named c.requires.accepted.1.accepted)
 
 pub returns-in-Ok : goal.returns-in-Ok
 returns-in-Ok g c text before after a =
@@ -34,7 +34,7 @@ returns-in-Ok g c text before after a =
     let count = g.O.Sink.faults c.args.out.now in
     let count' = g.O.Sink.faults c.drive-end.new.out in
     let laws : Laws = record { accepted = c.accepted_texts.ensures; bodies = c.accepted_bodies.ensures.room; printable = c.plains_are_printable.ensures; runs = c.traces_are_runs.ensures } in
-    let held = c.in-Ok.ensures.holds names (well_named c.accepted_texts.ensures c.accepted_bodies.ensures.room text names plain plans a) in
+    let held = c.in-Ok.ensures.holds names (well_named c.accepted_texts.ensures text names plain plans a.named a.accepted) in
     let from = held.from in
     let D : Region → ℕ → Type 0 = λ S size. Drove (given_by_engine names plain.rules size (record { trace = settings.trace; folded = settings.folded; budget = settings.budget }) (chosen settings.order) S) n h end old new in
     let keeps = c.in-Ok.ensures.keeps.1 in
@@ -52,7 +52,7 @@ returns-in-Err-Size g c text before after a =
     let names = c.args.names.now in
     let plain = c.args.accepted.now.plain in
     let plans = c.args.accepted.now.plans in
-    let can = loadable c.accepted_texts.ensures c.accepted_bodies.ensures.room text names plain plans a in
+    let can = loadable c.accepted_texts.ensures text names plain plans a.named a.accepted in
     let causes = subst (LoadCauses plain c.args.settings.now.size) c.in-Err-Size.field-0-is c.in-Err-Size.ensures.fault in
     too_large_ended c.args.settings.now text names plain plans c.in-Err-Size.field-0-0 a can.made can.closed causes
     (g.O.Sink.told c.args.out.now) (g.O.Sink.faults c.args.out.now) before after

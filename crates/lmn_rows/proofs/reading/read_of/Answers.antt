@@ -9,11 +9,10 @@ read-requires g c = record { room = let short : length c.args.text.now ≤ 41943
 
 pub returns : goal.returns
 returns g c =
-    let short : length c.args.text.now ≤ 4194304 = search in
     let text = c.args.text.now in
     let before = c.args.names.now in
     let after = c.read.new.names in
     let named = MatchResult-at_ok (λ a. LeavesNames text before after) (λ fault. IfRefused fault (λ refusal. LeavesNames text before after)) c.expect.result c.expect.ensures c.read.ensures.names in
     let accepted = MatchResult-at_ok (λ a. IsAcceptedAs text after a.plain a.plans) (λ fault. IfRefused fault (IsRefusedAs text after)) c.expect.result c.expect.ensures c.read.ensures.reads in
     c.accepted_texts_can_be_loaded.ensures.loaded text after c.expect.result.plain c.expect.result.plans
-    (record { short = short; named = subst (λ names. LeavesNames text names after) c.requires named; accepted = accepted })
+    (subst (λ names. LeavesNames text names after) c.requires named) accepted

@@ -1,0 +1,8 @@
+use Rattle.lmn_accepted.proofs.Loadable.{loadable, well_named}
+use Rattle.lmn_accepted.proofs.accepted_texts_can_be_loaded.Goals as goal
+
+pub returns-clause-loaded : goal.returns-clause-loaded
+returns-clause-loaded c = loadable c.accepted_texts.ensures
+
+pub returns-clause-named : goal.returns-clause-named
+returns-clause-named c = well_named c.accepted_texts.ensures
