@@ -24,10 +24,10 @@ use Rattle.lmn_runs.specs.Runs.{AllLines, IsLineOf, first_line, next_line}
 
 -- the letters can be spelled
 a_spelled : LabelSpelled label_a
-a_spelled = (omega arith, (codes "a", byte refl nothing))
+a_spelled = (codes "a", byte refl nothing)
 
 b_spelled : LabelSpelled label_b
-b_spelled = (omega arith, (codes "b", byte refl nothing))
+b_spelled = (codes "b", byte refl nothing)
 
 -- an atom without links
 one_spelled : (name : Name) → LabelSpelled (named name) → LevelSpelled (only_leaves (atom_leaf (named name) [] ∷ []))
