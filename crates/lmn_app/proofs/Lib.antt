@@ -9,3 +9,4 @@ mod MainLemmas
 mod DemoLemmas
 mod TaskLemmas
 mod OneListing
+mod SmallTexts

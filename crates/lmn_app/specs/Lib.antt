@@ -6,6 +6,7 @@ pub mod Outcomes
 pub mod Requests
 pub mod Runnings
 pub mod Runs
+pub mod TextExamples
 pub mod Texts
 pub mod Writing
 pub mod ListingLaws

@@ -1,9 +1,11 @@
-//! The laws of texts: a text is accepted or refused, refused in one way. What `demo` does.
+//! The laws of texts: a text is accepted or refused, refused in one way. What is said of texts, shown of a small one. What
+//! `demo` does.
 
 ghost use Rattle.lmn_app.specs.Demos.{SomeDemo};
 ghost use Rattle.lmn_app.specs.DemoLaws.{DemoIsFoldedRun};
 ghost use Rattle.lmn_app.specs.ListingLaws.{OneListing};
 ghost use Rattle.lmn_app.specs.NameExamples.{SomeNames};
+ghost use Rattle.lmn_app.specs.TextExamples.{SmallTextIsAccepted};
 ghost use Rattle.lmn_app.specs.Texts.{AcceptedOrRefused, OneRefusal, RefusedNotAccepted};
 
 /// A text that is refused isn't accepted, and it has one refusal at most.
@@ -20,6 +22,11 @@ pub fn texts_are_accepted_or_refused()
 /// The list of names of a small text.
 pub fn small_list_of_names()
     ensures { SomeNames }
+{}
+
+/// `a. a :- b.` is accepted, with the plain that its tokens are.
+pub fn small_text_is_accepted()
+    ensures { SmallTextIsAccepted }
 {}
 
 /// A text has one listing at most.

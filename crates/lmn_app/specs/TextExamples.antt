@@ -1,0 +1,51 @@
+-- A small text, by all that is said of texts.
+use Rattle.std.specs.Prelude.{ℕ, List, [], ◌∷◌, ◌++◌, codes}
+use Rattle.lmn_base.specs.declared.functor.Label.TheVariants.{Name as NameLabel}
+use Rattle.lmn_base.specs.declared.level.Leaf.{Leaf}
+use Rattle.lmn_base.specs.declared.level.Leaf.TheVariants.{Atom}
+use Rattle.lmn_base.specs.declared.level.Level.{Level}
+use Rattle.lmn_base.specs.declared.level.Level.TheViews.{roll-Level}
+use Rattle.lmn_base.specs.declared.rule.Plain.{Plain}
+use Rattle.lmn_base.specs.declared.rule.RuleTree.{RuleTree}
+use Rattle.lmn_base.specs.Names.{first_names}
+use Rattle.lmn_base.specs.SmallTexts.{at_column}
+use Rattle.lmn_congruence.specs.Rules.{Name}
+use Rattle.lmn_guards.specs.declared.plan.GuardPlan.{GuardPlan}
+use Rattle.lmn_app.specs.Texts.{Accepts}
+
+-- `a. a :- b.`
+abbrev pub small_text : List ℕ
+small_text = codes "a. a :- b."
+
+-- its names: the fixed ones, those that abbreviations bring in, and its own two, which have the numbers 7 and 8
+abbrev pub small_names : List Name
+small_names = first_names ++ (codes "." ∷ codes "[]" ∷ codes "+" ∷ codes "a" ∷ codes "b" ∷ [])
+
+-- an atom without links, by the number of its name and its column
+abbrev pub one_leaf : ℕ → ℕ → Leaf
+one_leaf name column = Atom (record { label = NameLabel name; arity = 0 }) [] (at_column column)
+
+-- such an atom beside rules by their numbers
+abbrev pub one_atom : ℕ → ℕ → List ℕ → Level
+one_atom name column rules = roll-Level (record {
+  leaves = one_leaf name column ∷ [];
+  membranes = [];
+  contexts = [];
+  rule_contexts = [];
+  rules = rules;
+})
+
+-- its rule, which begins at the fourth column, and its plain
+abbrev pub small_rule : RuleTree
+small_rule = record { head = one_atom 7 4 []; guard = []; body = one_atom 8 9 []; links = []; pos = at_column 4 }
+
+abbrev pub small_plain : Plain
+small_plain = record { top = one_atom 7 1 (0 ∷ []); links = []; rules = small_rule ∷ [] }
+
+-- the plan of a rule without typed contexts and conditions
+abbrev pub no_plan : GuardPlan
+no_plan = record { kinds = []; bound = [] }
+
+-- The text is accepted as this plain.
+abbrev pub SmallTextIsAccepted : Type 0
+SmallTextIsAccepted = Accepts small_text small_names small_plain (no_plan ∷ [])
