@@ -10,3 +10,4 @@ mod DemoLemmas
 mod TaskLemmas
 mod OneListing
 mod SmallTexts
+mod SmallRuns

@@ -1,5 +1,6 @@
 -- A small text, by all that is said of texts.
-use Rattle.std.specs.Prelude.{ℕ, List, [], ◌∷◌, ◌++◌, codes}
+use Rattle.std.specs.Prelude.{ℕ, ◌≤◌, List, [], ◌∷◌, ◌++◌, codes, true, false}
+use Rattle.std.specs.declared.alloc.Global.{Global}
 use Rattle.lmn_base.specs.declared.functor.Label.TheVariants.{Name as NameLabel}
 use Rattle.lmn_base.specs.declared.level.Leaf.{Leaf}
 use Rattle.lmn_base.specs.declared.level.Leaf.TheVariants.{Atom}
@@ -11,6 +12,9 @@ use Rattle.lmn_base.specs.Names.{first_names}
 use Rattle.lmn_base.specs.SmallTexts.{at_column}
 use Rattle.lmn_congruence.specs.Rules.{Name}
 use Rattle.lmn_guards.specs.declared.plan.GuardPlan.{GuardPlan}
+use Rattle.lmn_adequacy.specs.Runs.{irreducible}
+use Rattle.lmn_runs.specs.Runs.{at_end}
+use Rattle.lmn_app.specs.Runs.{IsRun}
 use Rattle.lmn_app.specs.Texts.{Accepts}
 
 -- `a. a :- b.`
@@ -49,3 +53,14 @@ no_plan = record { kinds = []; bound = [] }
 -- The text is accepted as this plain.
 abbrev pub SmallTextIsAccepted : Type 0
 SmallTextIsAccepted = Accepts small_text small_names small_plain (no_plan ∷ [])
+
+-- the lines of its run, where all are printed, in the plain form
+abbrev pub small_lines : List (List ℕ)
+small_lines = codes "a. (a :- b).\n" ∷ codes "b. (a :- b).\n" ∷ []
+
+-- Where the budget allows a commit, these are the lines of a run that stops as irreducible after one. No line alone is that of a
+-- run that stops so, after whatever number of commits.
+abbrev pub SmallTextRuns : Type 0
+SmallTextRuns = (alloc : Global) (budget : ℕ) → 1 ≤ budget →
+    IsRun true false budget small_text small_lines (at_end irreducible) 1
+    × ((line : List ℕ) (n : ℕ) → ¬ (IsRun true false budget small_text (line ∷ []) (at_end irreducible) n))

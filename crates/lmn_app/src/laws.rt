@@ -5,8 +5,10 @@ ghost use Rattle.lmn_app.specs.Demos.{SomeDemo};
 ghost use Rattle.lmn_app.specs.DemoLaws.{DemoIsFoldedRun};
 ghost use Rattle.lmn_app.specs.ListingLaws.{OneListing};
 ghost use Rattle.lmn_app.specs.NameExamples.{SomeNames};
-ghost use Rattle.lmn_app.specs.TextExamples.{SmallTextIsAccepted};
+ghost use Rattle.lmn_app.specs.TextExamples.{SmallTextIsAccepted, SmallTextRuns};
 ghost use Rattle.lmn_app.specs.Texts.{AcceptedOrRefused, OneRefusal, RefusedNotAccepted};
+
+use lmn_runs::short_run_prints;
 
 /// A text that is refused isn't accepted, and it has one refusal at most.
 pub fn refusals_are_one()
@@ -28,6 +30,13 @@ pub fn small_list_of_names()
 pub fn small_text_is_accepted()
     ensures { SmallTextIsAccepted }
 {}
+
+/// It has a run of two lines that stops as irreducible, and none of one line alone that stops so.
+pub fn small_text_runs()
+    ensures { SmallTextRuns }
+{
+    short_run_prints();
+}
 
 /// A text has one listing at most.
 pub fn listings_are_one()

@@ -1,0 +1,127 @@
+-- The run of a small text.
+use Rattle.std.proofs.Common.{◌≡◌, ℕ, ◌+◌, ◌≤◌, List, [], ◌∷◌, ◌++◌, length, slice_index_or, refl, sym, ap, ◌∙◌, subst, inl, arith}
+use Rattle.std.specs.Prelude.{Bool, codes, true, false}
+use Rattle.std.specs.declared.alloc.Global.{Global}
+use Rattle.std.proofs.lemmas.List.{length-append}
+use Rattle.std.proofs.lemmas.List.Elements.{Contains-append_right}
+use Rattle.lmn_base.specs.declared.level.Level as base
+use Rattle.lmn_base.specs.declared.level.Level.{map-Level}
+use Rattle.lmn_base.specs.declared.level.Level.TheFolds.{fold-roll-Level}
+use Rattle.lmn_base.specs.declared.level.Level.TheOpen.{Level-F}
+use Rattle.lmn_base.specs.declared.level.Level.TheViews.{roll-Level}
+use Rattle.lmn_base.specs.declared.rule.Plain.{Plain}
+use Rattle.lmn_base.specs.Names.{IsNames, first_names}
+use Rattle.lmn_base.proofs.Lists.{contains_first}
+use Rattle.lmn_congruence.specs.Plains.{SolidOf, level_process}
+use Rattle.lmn_congruence.specs.Process.{Process}
+use Rattle.lmn_congruence.specs.Regions.{Region, region_process}
+use Rattle.lmn_congruence.specs.Rules.{Level, Name, Rule, atom_leaf, level, no_level, no_rule, only_leaves, rule_and, rule_of}
+use Rattle.lmn_congruence.specs.Translation.{level_of, level_step, no_such_rule, numbered_rule, plain_process, rules_from, top_of}
+use Rattle.lmn_guards.specs.declared.plan.GuardPlan.{GuardPlan}
+use Rattle.lmn_plain.specs.SolidLines.{as_level}
+use Rattle.lmn_plain.proofs.SolidLines.{own_solid}
+use Rattle.lmn_reading.specs.Texts.{IsAcceptedAs}
+use Rattle.lmn_reading.proofs.NamedPlains.{plains_are_named}
+use Rattle.lmn_reading.proofs.OneRead.{one_acceptance}
+use Rattle.lmn_reduction.specs.Commits.{Irreducible, Settles}
+use Rattle.lmn_reduction.specs.Examples.{label_a, label_b}
+use Rattle.lmn_reduction.proofs.Kept.{keeps_irreducible}
+use Rattle.lmn_reduction.proofs.Plains.{plain_settles}
+use Rattle.lmn_reduction.proofs.SettledForms.{settles_once}
+use Rattle.lmn_adequacy.specs.ChangeExamples.{a_makes_b, changing}
+use Rattle.lmn_adequacy.specs.Runs.{irreducible}
+use Rattle.lmn_adequacy.proofs.ExampleChanges.{short_trace_ends}
+use Rattle.lmn_runs.specs.Examples.{ShortRunPrints}
+use Rattle.lmn_runs.specs.Runs.{AllLines, at_end, first_line, next_line}
+use Rattle.lmn_app.specs.Runs.{IsRun}
+use Rattle.lmn_app.specs.TextExamples.{SmallTextRuns, no_plan, small_lines, small_names, small_plain, small_rule, small_text}
+use Rattle.lmn_app.specs.Texts.{Accepts}
+use Rattle.lmn_app.proofs.FirstNames.{first_are_names}
+use Rattle.lmn_app.proofs.SmallTexts.{reads, small_text_is_accepted}
+
+-- the solids of its run
+abbrev first : Region
+first = changing (label_a ∷ [])
+
+abbrev last : Region
+last = changing (label_b ∷ [])
+
+-- ---- its solid
+
+-- levels as trees
+rolled : (rule : ℕ → Rule) (l : Level-F base.Level) → level_of small_names rule (roll-Level l) ≡ level_step small_names rule (map-Level base.Level Level (level_of small_names rule) l)
+rolled rule l = fold-roll-Level Level (level_step small_names rule) l
+
+its_rules : rules_from small_names 0 (small_rule ∷ []) ≡ a_makes_b ∷ []
+its_rules =
+    let head : level_of small_names (λ n. no_such_rule) small_rule.head ≡ only_leaves (atom_leaf label_a [] ∷ []) = rolled (λ n. no_such_rule) _ in
+    let body : level_of small_names (λ n. no_such_rule) small_rule.body ≡ only_leaves (atom_leaf label_b [] ∷ []) = rolled (λ n. no_such_rule) _ in
+    λ i. rule_of (head i) [] (body i) ∷ []
+
+-- its top is that of its solid
+small_top : top_of small_names small_plain ≡ as_level first
+small_top = rolled (numbered_rule small_names (small_rule ∷ [])) _ ∙ ap (λ rs. level (atom_leaf label_a [] ∷ []) no_level [] [] (rule_and (slice_index_or rs 0 no_such_rule) no_rule)) its_rules
+
+small_solid : SolidOf (top_of small_names small_plain) first
+small_solid = subst (λ l. SolidOf l first) (sym small_top) (own_solid first (λ x. inl refl))
+
+-- each text of these bytes that is accepted has this top
+same_top : (names : List Name) (plain : Plain) (plans : List GuardPlan) → Accepts small_text names plain plans → top_of names plain ≡ top_of small_names small_plain
+same_top names plain plans a =
+    let mine = small_text_is_accepted in
+    let named : names ≡ small_names = a.named reads.tokens reads.tree reads.right reads.reads reads.within ∙ sym (mine.named reads.tokens reads.tree reads.right reads.reads reads.within) in
+    let read = subst (λ ns. IsAcceptedAs small_text ns plain plans) named a.accepted in
+    let one = one_acceptance small_text small_names plain small_plain plans (no_plan ∷ []) read mine.accepted in
+    ap (λ ns. top_of ns plain) named ∙ one.tops
+
+-- ---- its run
+
+small_named : IsNames small_names
+small_named = (plains_are_named small_text first_names small_names small_plain first_are_names small_text_is_accepted.named reads).0
+
+small_settles : Settles (plain_process small_names small_plain) (region_process first)
+small_settles = plain_settles (top_of small_names small_plain) first small_solid
+
+small_run : ShortRunPrints → Global → (budget : ℕ) → 1 ≤ budget → IsRun true false budget small_text small_lines (at_end irreducible) 1
+small_run printed alloc budget room =
+    let before = first_names ++ (codes "." ∷ codes "[]" ∷ codes "+" ∷ []) in
+    let has_a = Contains-append_right before (codes "a" ∷ codes "b" ∷ []) (codes "a") (contains_first (codes "a") (codes "b" ∷ [])) in
+    let has_b = Contains-append_right (before ++ codes "a" ∷ []) (codes "b" ∷ []) (codes "b") (contains_first (codes "b") []) in
+    let p = printed alloc small_names small_named has_a has_b in
+    record {
+      names = small_names;
+      plain = small_plain;
+      plans = no_plan ∷ [];
+      accepted = small_text_is_accepted;
+      first = region_process first;
+      settles = small_settles;
+      last = region_process last;
+      prints = p.0;
+      stops = (room, p.1.1);
+    }
+
+-- each commit has a line
+many_lines : {folded : Bool} {names : List Name} {P Q : Process} {n : ℕ} {lines : List (List ℕ)} → AllLines folded names P n Q lines → length lines ≡ n + 1
+many_lines (first_line line h) = refl
+many_lines (next_line {lines = lines} line h c g) = omega (arith, many_lines h, length-append lines (line ∷ []))
+
+-- without a commit the last process is the first
+none_done : {folded : Bool} {names : List Name} {P Q : Process} {n : ℕ} {lines : List (List ℕ)} → AllLines folded names P n Q lines → n ≡ 0 → Q ≡ P
+none_done (first_line line h) e = refl
+none_done (next_line line h c g) e = absurd (omega (arith, e))
+
+-- its first process isn't irreducible
+not_at_once : ¬ (Irreducible (region_process first))
+not_at_once i = let commit = short_trace_ends.1 in i.0 commit.between commit.step
+
+alone_no_run : (budget : ℕ) (line : List ℕ) (n : ℕ) → ¬ (IsRun true false budget small_text (line ∷ []) (at_end irreducible) n)
+alone_no_run budget line n r =
+    let none : n ≡ 0 = omega (arith, many_lines r.prints) in
+    let still : Irreducible r.first = subst (λ P. Irreducible P) (none_done r.prints none) r.stops.1 in
+    let settles = subst (λ l. Settles (level_process l) r.first) (same_top r.names r.plain r.plans r.accepted) r.settles in
+    let same = settles_once (plain_process small_names small_plain) r.first (region_process first) small_solid.closed_top settles small_settles in
+    not_at_once (keeps_irreducible r.first (region_process first) same still)
+
+-- the two lines are those of a run of the text, and no line alone is
+pub small_text_runs : ShortRunPrints → SmallTextRuns
+small_text_runs printed alloc budget room = (small_run printed alloc budget room, alone_no_run budget)
