@@ -1,5 +1,5 @@
--- The run of a small text.
-use Rattle.std.proofs.Common.{◌≡◌, ℕ, ◌+◌, ◌≤◌, List, [], ◌∷◌, ◌++◌, length, slice_index_or, refl, sym, ap, ◌∙◌, subst, inl, arith}
+-- The run and the trace of a small text.
+use Rattle.std.proofs.Common.{◌≡◌, ℕ, suc, ◌+◌, ◌≤◌, List, [], ◌∷◌, ◌++◌, length, slice_index_or, refl, sym, ap, ◌∙◌, subst, inl, arith}
 use Rattle.std.specs.Prelude.{Bool, codes, true, false}
 use Rattle.std.specs.declared.alloc.Global.{Global}
 use Rattle.std.proofs.lemmas.List.{length-append}
@@ -10,6 +10,7 @@ use Rattle.lmn_base.specs.declared.level.Level.TheFolds.{fold-roll-Level}
 use Rattle.lmn_base.specs.declared.level.Level.TheOpen.{Level-F}
 use Rattle.lmn_base.specs.declared.level.Level.TheViews.{roll-Level}
 use Rattle.lmn_base.specs.declared.rule.Plain.{Plain}
+use Rattle.lmn_base.specs.Links.{no_more}
 use Rattle.lmn_base.specs.Names.{IsNames, first_names}
 use Rattle.lmn_base.proofs.Lists.{contains_first}
 use Rattle.lmn_congruence.specs.Plains.{SolidOf, level_process}
@@ -18,6 +19,8 @@ use Rattle.lmn_congruence.specs.Regions.{Region, region_process}
 use Rattle.lmn_congruence.specs.Rules.{Level, Name, Rule, atom_leaf, level, no_level, no_rule, only_leaves, rule_and, rule_of}
 use Rattle.lmn_congruence.specs.Translation.{level_of, level_step, no_such_rule, numbered_rule, plain_process, rules_from, top_of}
 use Rattle.lmn_guards.specs.declared.plan.GuardPlan.{GuardPlan}
+use Rattle.lmn_plain.specs.Plains.{EachPair}
+use Rattle.lmn_folded.specs.Lines.{IsLine}
 use Rattle.lmn_plain.specs.SolidLines.{as_level}
 use Rattle.lmn_plain.proofs.SolidLines.{own_solid}
 use Rattle.lmn_reading.specs.Texts.{IsAcceptedAs}
@@ -26,20 +29,24 @@ use Rattle.lmn_reading.proofs.OneRead.{one_acceptance}
 use Rattle.lmn_reduction.specs.Commits.{Irreducible, Settles}
 use Rattle.lmn_reduction.specs.Examples.{label_a, label_b}
 use Rattle.lmn_reduction.proofs.Kept.{keeps_irreducible}
+use Rattle.lmn_reduction.proofs.OneSolid.{solid_is_one}
 use Rattle.lmn_reduction.proofs.Plains.{plain_settles}
 use Rattle.lmn_reduction.proofs.SettledForms.{settles_once}
 use Rattle.lmn_adequacy.specs.ChangeExamples.{a_makes_b, changing}
-use Rattle.lmn_adequacy.specs.Runs.{irreducible}
+use Rattle.lmn_adequacy.specs.Embedding.{HasEmbedding}
+use Rattle.lmn_adequacy.specs.Examples.{root_first}
+use Rattle.lmn_adequacy.specs.Runs.{Chooser, Ends, Trace, irreducible, loaded, nothing_embeds, turned}
 use Rattle.lmn_adequacy.proofs.ExampleChanges.{short_trace_ends}
+use Rattle.lmn_adequacy.proofs.Numbering.{numbered_one}
 use Rattle.lmn_runs.specs.Examples.{ShortRunPrints}
 use Rattle.lmn_runs.specs.Runs.{AllLines, at_end, first_line, next_line}
-use Rattle.lmn_app.specs.Runs.{IsRun}
-use Rattle.lmn_app.specs.TextExamples.{SmallTextRuns, no_plan, small_lines, small_names, small_plain, small_rule, small_text}
+use Rattle.lmn_app.specs.Runs.{IsRun, IsTraceOf}
+use Rattle.lmn_app.specs.TextExamples.{SmallTextHasItsTrace, SmallTextRuns, no_plan, small_lines, small_names, small_plain, small_rule, small_text, tracing}
 use Rattle.lmn_app.specs.Texts.{Accepts}
-use Rattle.lmn_app.proofs.FirstNames.{first_are_names}
+use Rattle.lmn_accepted.proofs.FirstNames.{first_are_names}
 use Rattle.lmn_app.proofs.SmallTexts.{reads, small_text_is_accepted}
 
--- the solids of its run
+-- the solids of its trace
 abbrev first : Region
 first = changing (label_a ∷ [])
 
@@ -125,3 +132,68 @@ alone_no_run budget line n r =
 -- the two lines are those of a run of the text, and no line alone is
 pub small_text_runs : ShortRunPrints → SmallTextRuns
 small_text_runs printed alloc budget room = (small_run printed alloc budget room, alone_no_run budget)
+
+-- ---- its trace
+
+-- a trace is one under more commits and items
+more_allowed : {chooser : Chooser} {budget more size larger : ℕ} {S last : Region} {before : List Region} → budget ≤ more → size ≤ larger
+    → Trace chooser budget size S before last → Trace chooser more larger S before last
+more_allowed b s loaded = loaded
+more_allowed b s (turned t l turn few) = turned (more_allowed b s t) (omega (arith, b, l)) turn (omega (arith, s, few))
+
+nothing_left : {chooser : Chooser} {budget size n : ℕ} {S : Region} → Ends chooser budget size n S irreducible → ¬ (HasEmbedding S)
+nothing_left (nothing_embeds h) = h
+
+small_trace : (budget size : ℕ) (chooser : Chooser) → 1 ≤ budget → 2 ≤ size → IsTraceOf (tracing budget size chooser) small_text small_lines 1
+small_trace budget size chooser room place = record {
+  names = small_names;
+  plain = small_plain;
+  plans = no_plan ∷ [];
+  accepted = small_text_is_accepted;
+  solid = first;
+  of_plain = small_solid;
+  numbered = (0, no_more);
+  few = place;
+  before = first ∷ [];
+  last = last;
+  trace = more_allowed room place (short_trace_ends.0 chooser).0;
+  count = refl;
+  are = (refl, (refl, tt));
+}
+
+-- a trace of no commit ends where it begins
+none_turned : {chooser : Chooser} {budget size : ℕ} {S last : Region} {before : List Region} → Trace chooser budget size S before last → length before ≡ 0 → S ≡ last
+none_turned loaded e = refl
+none_turned (turned {before = before} {S' = S'} t l turn few) e = absurd (omega (arith, e, length-append before (S' ∷ [])))
+
+-- something embeds in its first solid
+first_embeds : HasEmbedding first
+first_embeds = of_trace (short_trace_ends.0 root_first).0 refl
+  where
+    of_trace : {before : List Region} {end : Region} → Trace root_first 1 2 first before end → length before ≡ 1 → HasEmbedding first
+    of_trace loaded e = absurd (omega (arith, e))
+    of_trace (turned {before = before} {S' = S'} t l turn few) e =
+        let none : length before ≡ 0 = omega (arith, e, length-append before (S' ∷ [])) in
+        let c = turn.next in
+        subst (λ S. HasEmbedding S) (sym (none_turned t none)) (record { path = c.path; number = c.number; positions = c.positions; embeds = c.chosen.embeds })
+
+-- each solid has a line
+as_many : (xs : List Region) (ys : List (List ℕ)) → EachPair (IsLine false) xs ys → length xs ≡ length ys
+as_many [] [] h = refl
+as_many [] (y ∷ ys) h = absurd h
+as_many (x ∷ xs) [] h = absurd h
+as_many (x ∷ xs) (y ∷ ys) h = ap suc (as_many xs ys h.1)
+
+alone_no_trace : (budget size : ℕ) (chooser : Chooser) (line : List ℕ) (n : ℕ) (t : IsTraceOf (tracing budget size chooser) small_text (line ∷ []) n)
+    → ¬ (Ends chooser budget size n t.last irreducible)
+alone_no_trace budget size chooser line n t ends =
+    let none : length t.before ≡ 0 = omega (arith, as_many (t.before ++ t.last ∷ []) (line ∷ []) t.are, length-append t.before (t.last ∷ [])) in
+    let of = subst (λ l. SolidOf l t.solid) (same_top t.names t.plain t.plans t.accepted) t.of_plain in
+    let same = numbered_one first t.solid (solid_is_one (top_of small_names small_plain) first t.solid small_solid of) (0, no_more) t.numbered in
+    nothing_left ends (subst (λ S. HasEmbedding S) (same ∙ none_turned t.trace none) first_embeds)
+
+-- they are the lines of its trace too, and no line alone is
+pub small_text_has_its_trace : SmallTextHasItsTrace
+unfolding small_trace
+small_text_has_its_trace budget size chooser room place =
+    ((small_trace budget size chooser room place, nothing_embeds (nothing_left (short_trace_ends.0 chooser).1)), alone_no_trace budget size chooser)

@@ -12,9 +12,9 @@ use Rattle.lmn_base.specs.Names.{first_names}
 use Rattle.lmn_base.specs.SmallTexts.{at_column}
 use Rattle.lmn_congruence.specs.Rules.{Name}
 use Rattle.lmn_guards.specs.declared.plan.GuardPlan.{GuardPlan}
-use Rattle.lmn_adequacy.specs.Runs.{irreducible}
-use Rattle.lmn_runs.specs.Runs.{at_end}
-use Rattle.lmn_app.specs.Runs.{IsRun}
+use Rattle.lmn_adequacy.specs.Runs.{Chooser, irreducible}
+use Rattle.lmn_runs.specs.Runs.{Given, StopsSo, at_end}
+use Rattle.lmn_app.specs.Runs.{IsRun, IsTraceOf}
 use Rattle.lmn_app.specs.Texts.{Accepts}
 
 -- `a. a :- b.`
@@ -64,3 +64,14 @@ abbrev pub SmallTextRuns : Type 0
 SmallTextRuns = (alloc : Global) (budget : ℕ) → 1 ≤ budget →
     IsRun true false budget small_text small_lines (at_end irreducible) 1
     × ((line : List ℕ) (n : ℕ) → ¬ (IsRun true false budget small_text (line ∷ []) (at_end irreducible) n))
+
+-- what such a run is given
+abbrev pub tracing : ℕ → ℕ → Chooser → Given
+tracing budget size chooser = record { trace = true; folded = false; budget = budget; size = size; chooser = chooser }
+
+-- Where two items are allowed too, they are the lines of its trace, whichever membrane is asked first, and the trace stops so. No
+-- line alone is that of a trace of it that stops so.
+abbrev pub SmallTextHasItsTrace : Type 0
+SmallTextHasItsTrace = (budget size : ℕ) (chooser : Chooser) → 1 ≤ budget → 2 ≤ size → let g = tracing budget size chooser in
+    ((t : IsTraceOf g small_text small_lines 1) × StopsSo g 1 t.last (at_end irreducible))
+    × ((line : List ℕ) (n : ℕ) (t : IsTraceOf g small_text (line ∷ []) n) → ¬ (StopsSo g n t.last (at_end irreducible)))

@@ -5,7 +5,7 @@ ghost use Rattle.lmn_app.specs.Demos.{SomeDemo};
 ghost use Rattle.lmn_app.specs.DemoLaws.{DemoIsFoldedRun};
 ghost use Rattle.lmn_app.specs.ListingLaws.{OneListing};
 ghost use Rattle.lmn_app.specs.NameExamples.{SomeNames};
-ghost use Rattle.lmn_app.specs.TextExamples.{SmallTextIsAccepted, SmallTextRuns};
+ghost use Rattle.lmn_app.specs.TextExamples.{SmallTextHasItsTrace, SmallTextIsAccepted, SmallTextRuns};
 ghost use Rattle.lmn_app.specs.Texts.{AcceptedOrRefused, OneRefusal, RefusedNotAccepted};
 
 use lmn_runs::short_run_prints;
@@ -37,6 +37,11 @@ pub fn small_text_runs()
 {
     short_run_prints();
 }
+
+/// Its two lines are those of its trace, whichever membrane is asked first, and no line alone is.
+pub fn small_text_has_its_trace()
+    ensures { SmallTextHasItsTrace }
+{}
 
 /// A text has one listing at most.
 pub fn listings_are_one()
