@@ -26,6 +26,7 @@ use Rattle.lmn_plain.proofs.SolidLines.{own_solid}
 use Rattle.lmn_reading.specs.Texts.{IsAcceptedAs}
 use Rattle.lmn_reading.proofs.NamedPlains.{plains_are_named}
 use Rattle.lmn_reading.proofs.OneRead.{one_acceptance}
+use Rattle.lmn_reduction.specs.Chains.{no_step, step_after}
 use Rattle.lmn_reduction.specs.Commits.{Irreducible, Settles}
 use Rattle.lmn_reduction.specs.Examples.{label_a, label_b}
 use Rattle.lmn_reduction.proofs.Kept.{keeps_irreducible}
@@ -39,9 +40,9 @@ use Rattle.lmn_adequacy.specs.Runs.{Chooser, Ends, Trace, irreducible, loaded, n
 use Rattle.lmn_adequacy.proofs.ExampleChanges.{short_trace_ends}
 use Rattle.lmn_adequacy.proofs.Numbering.{numbered_one}
 use Rattle.lmn_runs.specs.Examples.{ShortRunPrints}
-use Rattle.lmn_runs.specs.Runs.{AllLines, at_end, first_line, next_line}
-use Rattle.lmn_app.specs.Runs.{IsRun, IsTraceOf}
-use Rattle.lmn_app.specs.TextExamples.{SmallTextHasItsTrace, SmallTextRuns, no_plan, small_lines, small_names, small_plain, small_rule, small_text, tracing}
+use Rattle.lmn_runs.specs.Runs.{AllLines, IsProcessLine, LastLine, PrintedLines, Prints, at_end, first_line, next_line}
+use Rattle.lmn_app.specs.Runs.{IsRun}
+use Rattle.lmn_app.specs.TextExamples.{SmallTextHasItsTrace, SmallTextRuns, TraceEnds, no_plan, plainly, small_end, small_lines, small_names, small_plain, small_rule, small_text}
 use Rattle.lmn_app.specs.Texts.{Accepts}
 use Rattle.lmn_accepted.proofs.FirstNames.{first_are_names}
 use Rattle.lmn_app.proofs.SmallTexts.{reads, small_text_is_accepted}
@@ -89,23 +90,45 @@ small_named = (plains_are_named small_text first_names small_names small_plain f
 small_settles : Settles (plain_process small_names small_plain) (region_process first)
 small_settles = plain_settles (top_of small_names small_plain) first small_solid
 
-small_run : ShortRunPrints → Global → (budget : ℕ) → 1 ≤ budget → IsRun true false budget small_text small_lines (at_end irreducible) 1
-small_run printed alloc budget room =
+small_run : {trace : Bool} {lines : List (List ℕ)} {budget : ℕ} → 1 ≤ budget → Prints trace false small_names (region_process first) 1 (region_process last) lines
+    → IsRun trace false budget small_text lines (at_end irreducible) 1
+small_run room prints = record {
+  names = small_names;
+  plain = small_plain;
+  plans = no_plan ∷ [];
+  accepted = small_text_is_accepted;
+  first = region_process first;
+  settles = small_settles;
+  last = region_process last;
+  prints = prints;
+  stops = (room, short_trace_ends.2);
+}
+
+-- its two lines
+both_lines : ShortRunPrints → Global → AllLines false small_names (region_process first) 1 (region_process last) small_lines
+both_lines printed alloc =
     let before = first_names ++ (codes "." ∷ codes "[]" ∷ codes "+" ∷ []) in
     let has_a = Contains-append_right before (codes "a" ∷ codes "b" ∷ []) (codes "a") (contains_first (codes "a") (codes "b" ∷ [])) in
     let has_b = Contains-append_right (before ++ codes "a" ∷ []) (codes "b" ∷ []) (codes "b") (contains_first (codes "b") []) in
-    let p = printed alloc small_names small_named has_a has_b in
-    record {
-      names = small_names;
-      plain = small_plain;
-      plans = no_plan ∷ [];
-      accepted = small_text_is_accepted;
-      first = region_process first;
-      settles = small_settles;
-      last = region_process last;
-      prints = p.0;
-      stops = (room, p.1.1);
-    }
+    (printed alloc small_names small_named has_a has_b).0
+
+-- the last of all lines is that of the last process
+abbrev last_line : List (List ℕ) → List ℕ
+last_line [] = []
+last_line (l ∷ []) = l
+last_line (l ∷ m ∷ ls) = last_line (m ∷ ls)
+
+last_behind : (ls : List (List ℕ)) (l : List ℕ) → last_line (ls ++ l ∷ []) ≡ l
+last_behind [] l = refl
+last_behind (k ∷ []) l = refl
+last_behind (k ∷ m ∷ ls) l = last_behind (m ∷ ls) l
+
+of_last : {folded : Bool} {names : List Name} {P Q : Process} {n : ℕ} {lines : List (List ℕ)} → AllLines folded names P n Q lines → IsProcessLine folded names Q (last_line lines)
+of_last (first_line line h) = h
+of_last {folded = folded} {names = names} {Q = Q} (next_line {lines = lines} line h c g) = subst (λ l. IsProcessLine folded names Q l) (sym (last_behind lines line)) g
+
+end_alone : ShortRunPrints → Global → LastLine false small_names (region_process first) 1 (region_process last) (small_end ∷ [])
+end_alone printed alloc = record { commits = step_after no_step short_trace_ends.1; line = small_end; alone = refl; of = of_last (both_lines printed alloc) }
 
 -- each commit has a line
 many_lines : {folded : Bool} {names : List Name} {P Q : Process} {n : ℕ} {lines : List (List ℕ)} → AllLines folded names P n Q lines → length lines ≡ n + 1
@@ -131,7 +154,7 @@ alone_no_run budget line n r =
 
 -- the two lines are those of a run of the text, and no line alone is
 pub small_text_runs : ShortRunPrints → SmallTextRuns
-small_text_runs printed alloc budget room = (small_run printed alloc budget room, alone_no_run budget)
+small_text_runs printed alloc budget room = (small_run room (both_lines printed alloc), small_run room (end_alone printed alloc), alone_no_run budget)
 
 -- ---- its trace
 
@@ -144,22 +167,27 @@ more_allowed b s (turned t l turn few) = turned (more_allowed b s t) (omega (ari
 nothing_left : {chooser : Chooser} {budget size n : ℕ} {S : Region} → Ends chooser budget size n S irreducible → ¬ (HasEmbedding S)
 nothing_left (nothing_embeds h) = h
 
-small_trace : (budget size : ℕ) (chooser : Chooser) → 1 ≤ budget → 2 ≤ size → IsTraceOf (tracing budget size chooser) small_text small_lines 1
-small_trace budget size chooser room place = record {
-  names = small_names;
-  plain = small_plain;
-  plans = no_plan ∷ [];
-  accepted = small_text_is_accepted;
-  solid = first;
-  of_plain = small_solid;
-  numbered = (0, no_more);
-  few = place;
-  before = first ∷ [];
-  last = last;
-  trace = more_allowed room place (short_trace_ends.0 chooser).0;
-  count = refl;
-  are = (refl, (refl, tt));
-}
+small_trace : {trace : Bool} {lines : List (List ℕ)} {budget size : ℕ} (chooser : Chooser) → 1 ≤ budget → 2 ≤ size
+    → PrintedLines (plainly trace budget size chooser) (first ∷ []) last lines → TraceEnds (plainly trace budget size chooser) lines 1
+small_trace chooser room place are =
+    let t = short_trace_ends.0 chooser in (
+      record {
+        names = small_names;
+        plain = small_plain;
+        plans = no_plan ∷ [];
+        accepted = small_text_is_accepted;
+        solid = first;
+        of_plain = small_solid;
+        numbered = (0, no_more);
+        few = place;
+        before = first ∷ [];
+        last = last;
+        trace = more_allowed room place t.0;
+        count = refl;
+        are = are;
+      },
+      nothing_embeds (nothing_left t.1),
+    )
 
 -- a trace of no commit ends where it begins
 none_turned : {chooser : Chooser} {budget size : ℕ} {S last : Region} {before : List Region} → Trace chooser budget size S before last → length before ≡ 0 → S ≡ last
@@ -184,9 +212,8 @@ as_many [] (y ∷ ys) h = absurd h
 as_many (x ∷ xs) [] h = absurd h
 as_many (x ∷ xs) (y ∷ ys) h = ap suc (as_many xs ys h.1)
 
-alone_no_trace : (budget size : ℕ) (chooser : Chooser) (line : List ℕ) (n : ℕ) (t : IsTraceOf (tracing budget size chooser) small_text (line ∷ []) n)
-    → ¬ (Ends chooser budget size n t.last irreducible)
-alone_no_trace budget size chooser line n t ends =
+alone_no_trace : (budget size : ℕ) (chooser : Chooser) (line : List ℕ) (n : ℕ) → ¬ (TraceEnds (plainly true budget size chooser) (line ∷ []) n)
+alone_no_trace budget size chooser line n (t, ends) =
     let none : length t.before ≡ 0 = omega (arith, as_many (t.before ++ t.last ∷ []) (line ∷ []) t.are, length-append t.before (t.last ∷ [])) in
     let of = subst (λ l. SolidOf l t.solid) (same_top t.names t.plain t.plans t.accepted) t.of_plain in
     let same = numbered_one first t.solid (solid_is_one (top_of small_names small_plain) first t.solid small_solid of) (0, no_more) t.numbered in
@@ -194,6 +221,4 @@ alone_no_trace budget size chooser line n t ends =
 
 -- they are the lines of its trace too, and no line alone is
 pub small_text_has_its_trace : SmallTextHasItsTrace
-unfolding small_trace
-small_text_has_its_trace budget size chooser room place =
-    ((small_trace budget size chooser room place, nothing_embeds (nothing_left (short_trace_ends.0 chooser).1)), alone_no_trace budget size chooser)
+small_text_has_its_trace budget size chooser room place = (small_trace chooser room place (refl, (refl, tt)), small_trace chooser room place (refl, tt), alone_no_trace budget size chooser)

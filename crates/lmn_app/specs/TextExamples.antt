@@ -1,5 +1,5 @@
 -- A small text, by all that is said of texts.
-use Rattle.std.specs.Prelude.{ℕ, ◌≤◌, List, [], ◌∷◌, ◌++◌, codes, true, false}
+use Rattle.std.specs.Prelude.{ℕ, ◌≤◌, Bool, List, [], ◌∷◌, ◌++◌, codes, true, false}
 use Rattle.std.specs.declared.alloc.Global.{Global}
 use Rattle.lmn_base.specs.declared.functor.Label.TheVariants.{Name as NameLabel}
 use Rattle.lmn_base.specs.declared.level.Leaf.{Leaf}
@@ -54,24 +54,33 @@ no_plan = record { kinds = []; bound = [] }
 abbrev pub SmallTextIsAccepted : Type 0
 SmallTextIsAccepted = Accepts small_text small_names small_plain (no_plan ∷ [])
 
--- the lines of its run, where all are printed, in the plain form
-abbrev pub small_lines : List (List ℕ)
-small_lines = codes "a. (a :- b).\n" ∷ codes "b. (a :- b).\n" ∷ []
+-- the line in which its run ends, and all lines, in the plain form
+abbrev pub small_end : List ℕ
+small_end = codes "b. (a :- b).\n"
 
--- Where the budget allows a commit, these are the lines of a run that stops as irreducible after one. No line alone is that of a
--- run that stops so, after whatever number of commits.
+abbrev pub small_lines : List (List ℕ)
+small_lines = codes "a. (a :- b).\n" ∷ small_end ∷ []
+
+-- Where the budget allows a commit, these are the lines of a run that stops as irreducible after one: with a trace all, and without
+-- one the last. With a trace no line alone is that of a run that stops so, after whatever number of commits. A box in a condition
+-- belongs to an allocator, so one is given.
 abbrev pub SmallTextRuns : Type 0
 SmallTextRuns = (alloc : Global) (budget : ℕ) → 1 ≤ budget →
     IsRun true false budget small_text small_lines (at_end irreducible) 1
+    × IsRun false false budget small_text (small_end ∷ []) (at_end irreducible) 1
     × ((line : List ℕ) (n : ℕ) → ¬ (IsRun true false budget small_text (line ∷ []) (at_end irreducible) n))
 
 -- what such a run is given
-abbrev pub tracing : ℕ → ℕ → Chooser → Given
-tracing budget size chooser = record { trace = true; folded = false; budget = budget; size = size; chooser = chooser }
+abbrev pub plainly : Bool → ℕ → ℕ → Chooser → Given
+plainly trace budget size chooser = record { trace = trace; folded = false; budget = budget; size = size; chooser = chooser }
 
--- Where two items are allowed too, they are the lines of its trace, whichever membrane is asked first, and the trace stops so. No
--- line alone is that of a trace of it that stops so.
+-- these are the lines of its trace, which stops as irreducible after n commits
+abbrev pub TraceEnds : Given → List (List ℕ) → ℕ → Type 0
+TraceEnds g lines n = (t : IsTraceOf g small_text lines n) × StopsSo g n t.last (at_end irreducible)
+
+-- Where two items are allowed too, its trace has the same lines, whichever membrane is asked first.
 abbrev pub SmallTextHasItsTrace : Type 0
-SmallTextHasItsTrace = (budget size : ℕ) (chooser : Chooser) → 1 ≤ budget → 2 ≤ size → let g = tracing budget size chooser in
-    ((t : IsTraceOf g small_text small_lines 1) × StopsSo g 1 t.last (at_end irreducible))
-    × ((line : List ℕ) (n : ℕ) (t : IsTraceOf g small_text (line ∷ []) n) → ¬ (StopsSo g n t.last (at_end irreducible)))
+SmallTextHasItsTrace = (budget size : ℕ) (chooser : Chooser) → 1 ≤ budget → 2 ≤ size →
+    TraceEnds (plainly true budget size chooser) small_lines 1
+    × TraceEnds (plainly false budget size chooser) (small_end ∷ []) 1
+    × ((line : List ℕ) (n : ℕ) → ¬ (TraceEnds (plainly true budget size chooser) (line ∷ []) n))

@@ -31,14 +31,15 @@ pub fn small_text_is_accepted()
     ensures { SmallTextIsAccepted }
 {}
 
-/// It has a run of two lines that stops as irreducible, and none of one line alone that stops so.
+/// It has a run of two lines that stops as irreducible, of which the last is printed without a trace; and with a trace none of one
+/// line that stops so.
 pub fn small_text_runs()
     ensures { SmallTextRuns }
 {
     short_run_prints();
 }
 
-/// Its two lines are those of its trace, whichever membrane is asked first, and no line alone is.
+/// These are the lines of its trace too, whichever membrane is asked first, and no line alone is.
 pub fn small_text_has_its_trace()
     ensures { SmallTextHasItsTrace }
 {}
