@@ -1,0 +1,67 @@
+"""Runs the program, or reads what it printed, and ends a script with a message where nothing can be shown."""
+import os
+import subprocess
+import sys
+
+from looking.lines import Unreadable, read_trace
+
+TOP = os.path.dirname(os.path.dirname(os.path.dirname(os.path.realpath(__file__))))
+
+
+class Unshowable(Exception):
+    """There is nothing to show; with the status that the script ends with."""
+
+    def __init__(self, words, status=1):
+        super().__init__(words)
+        self.status = status
+
+
+def program():
+    """The program: what LMN names, else ./lmn of this repository."""
+    return os.environ.get('LMN') or os.path.join(TOP, 'lmn')
+
+
+def start(arguments):
+    """The running program, whose output is read line by line."""
+    try:
+        return subprocess.Popen([program(), 'run', *arguments], stdout=subprocess.PIPE, stderr=subprocess.PIPE, text=True, encoding='utf-8')
+    except OSError as why:
+        raise Unshowable(f'{program()} is not to be run: {why.strerror}', 70) from None
+
+
+def printed_by(arguments):
+    """The lines that the program prints, as they come. Where it refuses the text or fails, its words and status."""
+    with start(arguments) as run:
+        yield from run.stdout
+        said = run.stderr.read().strip()
+    if run.returncode not in (0, 1, 7):
+        raise Unshowable(f'{" ".join(arguments)}: {said or "the program said nothing"}', run.returncode if run.returncode > 0 else 1)
+
+
+def trace_of(arguments, *options):
+    """The processes and the end of a run: that of a text with options of `run`, or, without words, that on standard input."""
+    lines = printed_by([*arguments, *options]) if arguments else sys.stdin
+    empty = True
+    for each in read_trace(lines):
+        if empty and isinstance(each, str):
+            break
+        empty = False
+        yield each
+    if empty:
+        raise Unshowable('there is no process to show' + ('' if arguments else ' on standard input'))
+
+
+def run_script(name, main):
+    """Runs the body of a script, and tells in one line why it can't go on."""
+    try:
+        sys.stdin.reconfigure(encoding='utf-8', errors='replace')
+        sys.stdout.reconfigure(encoding='utf-8')
+        main(sys.argv[1:])
+        sys.stdout.flush()
+    except (Unshowable, Unreadable) as why:
+        print(f'{name}: {why}', file=sys.stderr)
+        sys.exit(getattr(why, 'status', 1))
+    except BrokenPipeError:
+        os.dup2(os.open(os.devnull, os.O_WRONLY), sys.stdout.fileno())
+    except KeyboardInterrupt:
+        sys.exit(130)
