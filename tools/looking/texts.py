@@ -1,0 +1,55 @@
+"""Cuts a text into its clauses, and puts it together again. It reads no more of the grammar than that asks for."""
+import re
+
+TOKEN = re.compile(r"""\s+|%[^\n]*|//[^\n]*|/\*.*?\*/|'(?:[^']|'')*'|:-|@@|\d+|[A-Za-z_]\w*|.""", re.S)
+NAMED = re.compile(r"\s*([a-z]\w*|'(?:[^']|'')*')\s*@@")
+
+
+def tokens_of(text):
+    """The tokens of a text, each comment and each run of white space as one blank."""
+    for found in TOKEN.finditer(text):
+        word = found.group()
+        yield ' ' if word.isspace() or word[0] == '%' or word.startswith(('//', '/*')) else word
+
+
+def cut(text, marks):
+    """The parts of a text between marks that stand outside of brackets."""
+    parts, part, depth = [], [], 0
+    for word in tokens_of(text):
+        depth += (word in '([{') - (word in ')]}') if len(word) == 1 else 0
+        if depth == 0 and word in marks:
+            parts.append(''.join(part).strip())
+            part = []
+        else:
+            part.append(word)
+    return [each for each in [*parts, ''.join(part).strip()] if each]
+
+
+def is_rule(clause):
+    """Whether a clause is a rule that isn't in parentheses."""
+    return len(cut(clause, {':-'})) > 1 or ':-' in cut_words(clause)
+
+
+def cut_words(clause):
+    """The tokens of a clause that stand outside of brackets."""
+    depth, words = 0, []
+    for word in tokens_of(clause):
+        depth += (word in '([{') - (word in ')]}') if len(word) == 1 else 0
+        if depth == 0:
+            words.append(word)
+    return words
+
+
+def clauses_of(text):
+    """The rules of a text, or of a membrane, and its items, each by itself, in order."""
+    found = []
+    for clause in cut(text, {'.'}):
+        found += [clause] if is_rule(clause) else cut(clause, {','})
+    return found
+
+
+def rule_names(text):
+    """The names of the rules at the top of a text, in order; None for one without a name."""
+    rules = [clause for clause in clauses_of(text) if is_rule(clause) or clause.startswith('(')]
+    found = [NAMED.match(rule.strip('( ')) for rule in rules]
+    return [match and match.group(1) for match in found]
