@@ -35,7 +35,8 @@ def printed_by(arguments):
         yield from run.stdout
         said = run.stderr.read().strip()
     if run.returncode not in (0, 1, 7):
-        raise Unshowable(f'{" ".join(arguments)}: {said or "the program said nothing"}', run.returncode if run.returncode > 0 else 1)
+        names = [word for word in arguments if not word.startswith('-')]
+        raise Unshowable(f'{names[0] if names else "no FILE"}: {said or "the program said nothing"}', run.returncode if run.returncode > 0 else 1)
 
 
 def trace_of(arguments, *options):

@@ -109,13 +109,20 @@ def signed(one, other):
 
 
 class Rules:
-    """The rules of a trace, with numbers in the order in which they are met."""
+    """The rules of a trace, with numbers in the order in which they are met.
 
-    def __init__(self):
-        self.rules, self.numbers = [], {}
+    The names of the rules at the top of the text are known, and are those of the rules of the first root.
+    """
+
+    def __init__(self, names_at_top):
+        self.rules, self.numbers, self.names_at_top, self.names = [], {}, names_at_top, None
 
     def meet(self, followed):
         """The numbers of the rules of a process that weren't met before."""
+        if self.names is None:
+            root = followed.rules[0]
+            agree = len(self.names_at_top) == len(root) == len(set(root))
+            self.names = dict(enumerate(self.names_at_top, 1)) if agree else {}
         fresh = []
         for rules in followed.rules.values():
             for text in rules:
@@ -124,6 +131,15 @@ class Rules:
                     self.numbers[text] = len(self.rules)
                     fresh.append(len(self.rules))
         return fresh
+
+    def text(self, number):
+        """A rule with its name, if it has one."""
+        name = self.names.get(number)
+        return (f'{name} @@ ' if name else '') + self.rules[number - 1].text.rstrip()
+
+    def label(self, number):
+        """A rule's name, if it has one, and its number."""
+        return f'{self.names[number]} (rule {number})' if self.names.get(number) else f'rule {number}'
 
     def fired(self, before, after):
         """The numbers of the rules of a process by one of which it can have become the next one."""

@@ -1,4 +1,5 @@
 """Cuts a text into its clauses, and puts it together again. It reads no more of the grammar than that asks for."""
+import os
 import re
 
 TOKEN = re.compile(r"""\s+|%[^\n]*|//[^\n]*|/\*.*?\*/|'(?:[^']|'')*'|:-|@@|\d+|[A-Za-z_]\w*|.""", re.S)
@@ -53,3 +54,12 @@ def rule_names(text):
     rules = [clause for clause in clauses_of(text) if is_rule(clause) or clause.startswith('(')]
     found = [NAMED.match(rule.strip('( ')) for rule in rules]
     return [match and match.group(1) for match in found]
+
+
+def names_at_top(words):
+    """The names of the rules at the top of the text that is run, where it can be read."""
+    files = [word for word in words if os.path.isfile(word)]
+    if not files:
+        return []
+    with open(files[0], encoding='utf-8', errors='replace') as file:
+        return rule_names(file.read())
