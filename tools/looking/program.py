@@ -52,6 +52,23 @@ def trace_of(arguments, *options):
         raise Unshowable('there is no process to show' + ('' if arguments else ' on standard input'))
 
 
+def taken(words, option):
+    """Whether the option is among the words, which then lose it."""
+    return option in words and (words.remove(option) or True)
+
+
+def taken_number(words, option, default):
+    """The number behind the option, if it is among the words, which then lose both; else the default."""
+    if option not in words:
+        return default
+    at = words.index(option)
+    if not words[at + 1:] or not words[at + 1].isdigit():
+        raise Unshowable(f'{option} wants a number', 3)
+    number = int(words[at + 1])
+    del words[at:at + 2]
+    return number
+
+
 def run_script(name, main):
     """Runs the body of a script, and tells in one line why it can't go on."""
     try:

@@ -28,7 +28,7 @@ def cut(text, marks):
 
 def is_rule(clause):
     """Whether a clause is a rule that isn't in parentheses."""
-    return len(cut(clause, {':-'})) > 1 or ':-' in cut_words(clause)
+    return ':-' in cut_words(clause)
 
 
 def cut_words(clause):
@@ -47,6 +47,20 @@ def clauses_of(text):
     for clause in cut(text, {'.'}):
         found += [clause] if is_rule(clause) else cut(clause, {','})
     return found
+
+
+def shuffled(text, chance):
+    """The text with its clauses in another order, and those of its membranes."""
+    clauses = clauses_of(text)
+    chance.shuffle(clauses)
+    return ''.join(shuffled_membrane(clause, chance) + '.\n' for clause in clauses)
+
+
+def shuffled_membrane(clause, chance):
+    """A clause, and, where it is one membrane, its content in another order."""
+    if clause[0] != '{' or cut_words(clause) != ['}']:
+        return clause
+    return '{ ' + ' '.join(shuffled(clause[1:-1], chance).split('\n')) + '}'
 
 
 def rule_names(text):
