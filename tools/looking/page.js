@@ -2,7 +2,7 @@
 'use strict';
 const trace = JSON.parse(document.getElementById('trace').textContent);
 const part = id => document.getElementById(id);
-const GAP = 14, LINK = 24, PADDING = 12;
+const GAP = 14, LINK = 24, PADDING = 12, MOST_PARTED = 500;
 
 // ---- Processes: the first one, then each from the one before by what its firing changed.
 
@@ -48,7 +48,14 @@ function linksOf(process) {
 
 // ---- Places. An atom or a membrane is a body, whose place is told from the middle of the membrane in which it lies.
 
-const atomKey = atom => 'a' + atom, membraneKey = membrane => 'm' + membrane;
+// Keys of bodies: atoms are even, membranes odd.
+const atomKey = atom => 2 * atom, membraneKey = membrane => 2 * membrane + 1;
+// A body: its middle, its width and its radius; whether it wasn't there before, and whether it was moved or grew.
+class Body {
+  constructor(x, y, w, r, fresh) { this.x = x; this.y = y; this.w = w; this.r = r; this.fresh = fresh; this.stirred = false; }
+  kept() { return new Body(this.x, this.y, this.w, this.r, false); }
+}
+
 const nameOnPicture = name => name.length > 28 ? name.slice(0, 27) + '…' : name;
 const widthOf = name => Math.max(20, 12 + 6.4 * nameOnPicture(name).length);
 
@@ -70,6 +77,8 @@ function wallsOf(process, atom) {
 function pullsOf(process) {
   const pulls = new Map([...process.membranes.keys()].map(membrane => [membraneKey(membrane), []]));
   for (const [one, , other] of linksOf(process)) {
+    const home = process.atoms.get(one).membrane;
+    if (home === process.atoms.get(other).membrane) { pulls.get(membraneKey(home)).push([atomKey(one), atomKey(other)]); continue; }
     const a = wallsOf(process, one), b = wallsOf(process, other);
     let i = a.length - 1, j = b.length - 1;
     while (i > 0 && j > 0 && a[i - 1] === b[j - 1]) { i--; j--; }
@@ -90,11 +99,9 @@ function placed(process, before, processBefore) {
   const places = new Map(), inside = bodiesOf(process), pulls = pullsOf(process);
   const depth = membrane => membrane < 0 ? 0 : 1 + depth(process.membranes.get(membrane));
   const inwards = [...process.membranes.keys()].sort((one, other) => depth(other) - depth(one));
-  for (const membrane of process.membranes.keys()) places.set(membraneKey(membrane), { x: 0, y: 0, r: 20, ...(before && before.get(membraneKey(membrane))), fresh: !before || !before.has(membraneKey(membrane)) });
-  for (const [atom, { name }] of process.atoms) {
-    const old = before && before.get(atomKey(atom));
-    places.set(atomKey(atom), old ? { ...old, fresh: false } : { x: 0, y: 0, w: widthOf(name), r: Math.max(13, widthOf(name) / 2), fresh: true });
-  }
+  const keep = (key, fresh) => places.set(key, before && before.has(key) ? before.get(key).kept() : fresh());
+  for (const membrane of process.membranes.keys()) keep(membraneKey(membrane), () => new Body(0, 0, 0, 20, true));
+  for (const [atom, { name }] of process.atoms) keep(atomKey(atom), () => new Body(0, 0, widthOf(name), Math.max(13, widthOf(name) / 2), true));
   if (before) carryOver(process, processBefore, places, before);
   for (const membrane of inwards) settle(membraneKey(membrane), inside.get(membrane), pulls.get(membraneKey(membrane)), places, process, before);
   return places;
@@ -173,6 +180,22 @@ function relax(bodies, pulls, stirred) {
     for (const [one, other] of pulling) pull(one, other, step, isMoving);
     if (!stirred) for (const body of bodies) { body.x *= 1 - 0.03 * step; body.y *= 1 - 0.03 * step; }
   }
+  if (stirred && stirred.length && bodies.length <= MOST_PARTED) separate(bodies);
+}
+
+// Bodies that lie on each other part.
+function separate(bodies) {
+  for (let round = 0; round < 4; round++)
+    for (let i = 0; i < bodies.length; i++)
+      for (let j = i + 1; j < bodies.length; j++) {
+        const one = bodies[i], other = bodies[j], dx = other.x - one.x, dy = other.y - one.y, wanted = one.r + other.r + 3;
+        if (Math.abs(dx) >= wanted || Math.abs(dy) >= wanted) continue;
+        const distance = Math.hypot(dx, dy) || 0.01;
+        if (distance >= wanted) continue;
+        const force = (wanted - distance) / distance / 2;
+        one.x -= dx * force; one.y -= dy * force;
+        other.x += dx * force; other.y += dy * force;
+      }
 }
 
 function push(one, other, step, isMoving) {
