@@ -1,7 +1,7 @@
 // Shows a trace. A picture has the atoms and membranes of a process with their places; each is made from the one before.
 'use strict';
 const trace = JSON.parse(document.getElementById('trace').textContent);
-const part = id => document.getElementById(id);
+const byId = id => document.getElementById(id);
 const GAP = 14, LINK = 24, PADDING = 12, MOST_PARTED = 500;
 
 // ---- Processes: the first one, then each from the one before by what its firing changed.
@@ -107,7 +107,7 @@ function placed(process, before, processBefore) {
   return places;
 }
 
-// What moved into another membrane stays where it is on the picture.
+// What moved into another membrane stays where it is on the picture, or comes so near that it touches what is in there.
 function carryOver(process, processBefore, places, before) {
   const middles = new Map(), moved = [];
   const middle = (which, of, membrane) => {
@@ -118,7 +118,8 @@ function carryOver(process, processBefore, places, before) {
   const carry = (key, from, to) => {
     if (from === to || places.get(key).fresh) return;
     const a = middle(processBefore, before, from), b = middle(process, places, to), place = places.get(key);
-    place.x += a.x - b.x; place.y += a.y - b.y; place.stirred = true;
+    const x = place.x + a.x - b.x, y = place.y + a.y - b.y, near = Math.min(1, (places.get(membraneKey(to)).r + place.r) / (Math.hypot(x, y) || 1));
+    place.x = x * near; place.y = y * near; place.stirred = true;
   };
   for (const [membrane, parent] of process.membranes) if (processBefore.membranes.has(membrane)) carry(membraneKey(membrane), processBefore.membranes.get(membrane), parent);
   for (const [atom, { membrane }] of process.atoms) if (processBefore.atoms.has(atom)) carry(atomKey(atom), processBefore.atoms.get(atom).membrane, membrane);
@@ -129,7 +130,10 @@ function settle(key, bodies, pulls, places, process, before) {
   const own = places.get(key), started = bodies.some(body => !places.get(body).fresh);
   if (started) seat(bodies, pulls, places); else spread(bodies, pulls, places);
   const stirred = new Set(bodies.filter(body => places.get(body).fresh || places.get(body).stirred));
-  if (started) for (const [one, other] of pulls) { const a = stirred.has(one), b = stirred.has(other); if (a) stirred.add(other); if (b) stirred.add(one); }
+  for (let links = 0; started && links < 3; links++) {
+    const known = new Set(stirred);
+    for (const [one, other] of pulls) { if (known.has(one)) stirred.add(other); if (known.has(other)) stirred.add(one); }
+  }
   relax(bodies.map(body => places.get(body)), pulls.map(([one, other]) => [places.get(one), places.get(other)]), started ? [...stirred].map(body => places.get(body)) : null);
   enclose(own, bodies.map(body => places.get(body)));
 }
@@ -172,30 +176,42 @@ function seat(bodies, pulls, places) {
 function relax(bodies, pulls, stirred) {
   const moving = stirred || bodies, isMoving = new Set(moving);
   const rounds = stirred ? 14 : Math.max(8, Math.min(200, Math.floor(4e7 / (bodies.length * bodies.length + 1))));
-  const pulling = stirred ? pulls.filter(([one, other]) => isMoving.has(one) || isMoving.has(other)) : pulls;
+  const room = 1.25 * Math.sqrt(bodies.reduce((sum, { r }) => sum + (r + GAP) ** 2, 0));
   for (let round = 0; round < rounds; round++) {
     const step = stirred ? 0.4 : 0.5 * (1 - round / rounds) + 0.05;
     for (let i = 0; i < moving.length; i++)
       for (let j = stirred ? 0 : i + 1; j < bodies.length; j++) if (bodies[j] !== moving[i]) push(moving[i], bodies[j], step, isMoving);
-    for (const [one, other] of pulling) pull(one, other, step, isMoving);
-    if (!stirred) for (const body of bodies) { body.x *= 1 - 0.03 * step; body.y *= 1 - 0.03 * step; }
+    for (const [one, other] of pulls) pull(one, other, step, isMoving);
+    for (const body of bodies) gather(body, stirred ? room : 0, step);
   }
   if (stirred && stirred.length && bodies.length <= MOST_PARTED) separate(bodies);
 }
 
 // Bodies that lie on each other part.
 function separate(bodies) {
-  for (let round = 0; round < 4; round++)
+  for (let round = 0; round < 4; round++) {
+    let touched = false;
     for (let i = 0; i < bodies.length; i++)
-      for (let j = i + 1; j < bodies.length; j++) {
-        const one = bodies[i], other = bodies[j], dx = other.x - one.x, dy = other.y - one.y, wanted = one.r + other.r + 3;
-        if (Math.abs(dx) >= wanted || Math.abs(dy) >= wanted) continue;
-        const distance = Math.hypot(dx, dy) || 0.01;
-        if (distance >= wanted) continue;
-        const force = (wanted - distance) / distance / 2;
-        one.x -= dx * force; one.y -= dy * force;
-        other.x += dx * force; other.y += dy * force;
-      }
+      for (let j = i + 1; j < bodies.length; j++) touched = moveApart(bodies[i], bodies[j]) || touched;
+    if (!touched) return;
+  }
+}
+
+function moveApart(one, other) {
+  const dx = other.x - one.x, dy = other.y - one.y, wanted = one.r + other.r + 3;
+  if (dx >= wanted || -dx >= wanted || dy >= wanted || -dy >= wanted) return false;
+  const distance = Math.sqrt(dx * dx + dy * dy) || 0.01;
+  if (distance >= wanted) return false;
+  const force = (wanted - distance) / distance / 2;
+  one.x -= dx * force; one.y -= dy * force;
+  other.x += dx * force; other.y += dy * force;
+  return true;
+}
+
+// A body that is further from the middle than there must be room is drawn to the middle.
+function gather(body, room, step) {
+  if (body.x * body.x + body.y * body.y <= room * room) return;
+  body.x *= 1 - 0.05 * step; body.y *= 1 - 0.05 * step;
 }
 
 function push(one, other, step, isMoving) {
@@ -225,7 +241,7 @@ function enclose(own, bodies) {
   for (const body of bodies) { body.x -= x; body.y -= y; }
   own.x += x; own.y += y;
   own.r = Math.max(20, ...bodies.map(body => Math.hypot(body.x, body.y) + body.r + PADDING));
-  own.stirred = own.stirred || own.r > was + 1;
+  own.stirred = own.stirred || own.r > was + 1 || Math.hypot(x, y) > 1;
 }
 
 // ---- Drawing.
@@ -292,9 +308,9 @@ function drawAtom(picture, spot, atom, classes) {
 const isHit = (atom, sought) => sought !== '' && atom.name.includes(sought);
 
 function show(firings) {
-  const process = processAfter(firings), places = pictureAfter(firings), spots = spotsOf(process, places), picture = part('picture');
+  const process = processAfter(firings), places = pictureAfter(firings), spots = spotsOf(process, places), picture = byId('picture');
   const before = firings ? processAfter(firings - 1) : null, next = trace.firings[firings + 1], going = new Set(next && next.gone || []);
-  const sought = part('find').value.trim();
+  const sought = byId('find').value.trim();
   const { x, y, r } = spots.get(membraneKey(0));
   widenView(x, y, r);
   picture.setAttribute('viewBox', `${view.left} ${view.top} ${view.right - view.left} ${view.bottom - view.top}`);
@@ -308,14 +324,14 @@ function show(firings) {
     hits += hit;
     drawAtom(picture, spots.get(atomKey(number)), atom, [before && !before.atoms.has(number) ? 'came' : '', going.has(number) ? 'going' : '', hit ? 'hit' : '']);
   }
-  part('found').textContent = sought === '' ? '' : `${hits} here`;
+  byId('found').textContent = sought === '' ? '' : `${hits} here`;
   showRules(process, firings);
-  part('at').value = firings;
+  byId('at').value = firings;
 }
 
 function showRules(process, firings) {
   const present = new Set([...process.rules.values()].flat()), fired = trace.firings[firings].by || [], next = (trace.firings[firings + 1] || {}).by || [];
-  part('rules').replaceChildren(...trace.rules.map((text, number) => {
+  byId('rules').replaceChildren(...trace.rules.map((text, number) => {
     const line = document.createElement('div');
     line.textContent = `${number + 1}  ${text}`;
     line.className = next.includes(number) ? 'next' : fired.includes(number) ? 'fired' : present.has(number) ? '' : 'absent';
@@ -323,27 +339,27 @@ function showRules(process, firings) {
   }));
   const label = numbers => numbers.length ? ', by rule ' + numbers.map(number => number + 1).join(' or ') : '';
   const last = firings === trace.firings.length - 1;
-  part('say').textContent = (firings ? `firing ${firings} of ${trace.firings.length - 1}${label(fired)}` : `before the first of ${trace.firings.length - 1} firings`) + (last ? `: ${trace.end}` : '');
+  byId('say').textContent = (firings ? `firing ${firings} of ${trace.firings.length - 1}${label(fired)}` : `before the first of ${trace.firings.length - 1} firings`) + (last ? `: ${trace.end}` : '');
 }
 
 // ---- Moving about.
 
 const go = firings => show(Math.max(0, Math.min(trace.firings.length - 1, firings)));
-const here = () => +part('at').value;
+const here = () => +byId('at').value;
 
 function goToNextHit() {
-  const sought = part('find').value.trim();
+  const sought = byId('find').value.trim();
   for (let n = here() + 1; n < trace.firings.length; n++)
     for (const atom of processAfter(n).atoms.values()) if (isHit(atom, sought)) return go(n);
 }
 
-part('at').max = trace.firings.length - 1;
-part('at').oninput = () => go(here());
-part('back').onclick = () => go(here() - 1);
-part('on').onclick = () => go(here() + 1);
-part('find').oninput = () => go(here());
+byId('at').max = trace.firings.length - 1;
+byId('at').oninput = () => go(here());
+byId('back').onclick = () => go(here() - 1);
+byId('on').onclick = () => go(here() + 1);
+byId('find').oninput = () => go(here());
 document.onkeydown = event => {
-  if (event.target === part('find')) { if (event.key === 'Enter') goToNextHit(); return; }
+  if (event.target === byId('find')) { if (event.key === 'Enter') goToNextHit(); return; }
   const step = { ArrowLeft: -1, ArrowRight: 1, PageUp: 10, PageDown: -10 }[event.key];
   if (event.key === 'Home') go(0); else if (event.key === 'End') go(trace.firings.length - 1); else if (step) go(here() + step); else return;
   event.preventDefault();
