@@ -1,14 +1,7 @@
-"""Follows items and membranes from one process of a trace to the next: which stayed, which went, which came, which moved.
-
-A firing takes items out of the list of a membrane and puts what it makes at the end; of the others the order stays. A
-membrane that a body makes has what is made first, then what its context brings. So lists tell nearly all. Where items of one
-functor could each be the one that went, those are taken that leave the most links as they were.
-"""
-import difflib
+"""Follows items and membranes from one process of a trace to the next: which stayed, which went, which came, which moved."""
 from collections import Counter
 
-# How many ways to take items out of a list go on side by side.
-WAYS = 3
+from looking.keeping import Listed, kept_items, pairs_of_blocks
 
 
 class Followed:
@@ -124,72 +117,15 @@ class Pairing:
     def pair_items_of(self, old, new):
         """Pairs the items of two membranes that are one."""
         here, there = self.first_before[old], self.first_after[new]
-        functors = [item.functor for item in self.before.membranes[old].items]
-        wanted = [item.functor for item in self.after.membranes[new].items]
-        found = self.kept_in_order(functors, wanted, here, there)
-        if old and len(found) < len(wanted) or self.after.is_folded:
-            other = pairs_of_blocks(functors, wanted)
-            found = max(found, other, key=len)
+        before = Listed(self.before.membranes[old].items, self.links_before, here)
+        after = Listed(self.after.membranes[new].items, self.links_after, there)
+        found = kept_items(before, after)
+        # A membrane that was made anew has what was made first, and terms have no order that lasts.
+        if old and len(found) < len(after.functors) or self.after.is_folded:
+            found = max(found, pairs_of_blocks(before.functors, after.functors), key=len)
         self.items.update((here + one, there + other) for one, other in found)
         if self.after.is_folded:
-            self.pair_rest(range(here, here + len(functors)), range(there, there + len(wanted)))
-
-    def kept_in_order(self, functors, wanted, here, there):
-        """Pairs the longest beginning of the second list that is left when items are taken out of the first."""
-        at, kept = 0, 0
-        for functor in wanted:
-            while at < len(functors) and functors[at] != functor:
-                at += 1
-            if at == len(functors):
-                break
-            at, kept = at + 1, kept + 1
-        gone = Counter(functors) - Counter(wanted[:kept])
-        if kept == len(functors):
-            return [(number, number) for number in range(kept)]
-        return self.kept_with_links(functors, wanted[:kept], gone, here, there)
-
-    def kept_with_links(self, functors, wanted, gone, here, there):
-        """Among the ways to take these out of the first list, one that leaves the most links as they were.
-
-        A way is known by the places that are taken out. Of those with as many taken out so far the best few go on.
-        """
-        most, ways = sum(gone.values()), {0: [(0, ())]}
-        for at in range(len(wanted) + 1):
-            for out in range(most):
-                if at + out < len(functors) and functors[at + out] in gone:
-                    longer = [(score, (*places, at + out)) for score, places in ways.get(out, []) if self.may_go(functors, at + out, places, gone)]
-                    if longer:
-                        ways[out + 1] = sorted(longer + ways.get(out + 1, []), key=lambda way: -way[0])[:WAYS]
-            if at < len(wanted):
-                ways = {out: some for out, some in ways.items() if at + out < len(functors) and functors[at + out] == wanted[at]}
-                if sum(map(len, ways.values())) > 1:
-                    ways = {out: [(score + self.links_kept(at, at + out, places, here, there, len(wanted)), places) for score, places in some] for out, some in ways.items()}
-        places = set(ways[most][0][1])
-        return list(zip((it for it in range(len(functors)) if it not in places), range(len(wanted))))
-
-    @staticmethod
-    def may_go(functors, at, places, gone):
-        """Whether one more item of this functor may be taken out."""
-        return sum(functors[it] == functors[at] for it in places) < gone[functors[at]]
-
-    def links_kept(self, new, old, places, here, there, count):
-        """How well the links of an item of the second list are those of one of the first.
-
-        A link to an item that comes later in the list must lead to one of the same functor; one to an item before it, to the
-        same item.
-        """
-        score = 0
-        for end, was in zip(self.links_after[there + new], self.links_before[here + old]):
-            now_kept = end is not None and there <= end[0] < there + count
-            if now_kept and end[0] >= there + new:
-                alike = was and was[1] == end[1] and self.before.items[was[0]].functor == self.after.items[end[0]].functor
-                score -= 0 if alike else 1
-                continue
-            was_earlier = was is not None and here <= was[0] < here + old and was[0] - here not in places
-            if now_kept or was_earlier:
-                same = now_kept and was_earlier and end[1] == was[1] and end[0] - there == was[0] - here - sum(it < was[0] - here for it in places)
-                score += 1 if same else -1
-        return score
+            self.pair_rest(range(here, here + len(before.functors)), range(there, there + len(after.functors)))
 
     def pair_rest(self, here, there):
         """Pairs what is left of two lists of items by functors, in order."""
@@ -215,12 +151,6 @@ def features_of(process, number):
     membrane = process.membranes[number]
     inner = Counter(('membrane', item.functor) for it in membrane.membranes for item in process.membranes[it].items)
     return Counter(item.functor for item in membrane.items) + Counter(membrane.rules) + inner
-
-
-def pairs_of_blocks(functors, wanted):
-    """Pairs of two lists in order, anywhere in them."""
-    blocks = difflib.SequenceMatcher(None, functors, wanted, False).get_matching_blocks()
-    return [(one + it, other + it) for one, other, size in blocks for it in range(size)]
 
 
 class Follower:

@@ -58,14 +58,8 @@ class Process:
 
     def __init__(self, membranes):
         self.membranes = membranes
-
-    @property
-    def items(self):
-        return [item for membrane in self.membranes for item in membrane.items]
-
-    @property
-    def is_folded(self):
-        return not all(item.is_plain for item in self.items)
+        self.items = [item for membrane in membranes for item in membrane.items]
+        self.is_folded = not all(item.is_plain for item in self.items)
 
 
 def unquoted(name):
