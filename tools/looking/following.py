@@ -14,9 +14,15 @@ class Followed:
     def __init__(self):
         self.homes, self.items, self.joined, self.parents, self.rules, self.order = {}, {}, {}, {}, {}, []
 
-    def in_membrane(self, membrane):
-        """The items of a membrane, in order."""
-        return [item for item in self.order if self.homes[item] == membrane]
+    def contents(self):
+        """For each membrane its items, in order, and the membranes in it."""
+        items, membranes = {it: [] for it in self.parents}, {it: [] for it in self.parents}
+        for item in self.order:
+            items[self.homes[item]].append(item)
+        for membrane, parent in self.parents.items():
+            if parent is not None:
+                membranes[parent].append(membrane)
+        return items, membranes
 
     def text(self, item):
         return self.items[item].text([f'L{link}' for link in self.joined[item]])
@@ -88,14 +94,18 @@ class Pairing:
         return [it for it in range(len(self.before.membranes)) if it not in self.membranes], [it for it in range(len(self.after.membranes)) if it not in taken]
 
     def pair_equal(self, old, new, here, there):
-        """Pairs the membranes of two lists that have equal contents, in order."""
-        waiting, taken, found = {}, set(self.membranes.values()), []
+        """Pairs the membranes of two lists that have equal contents, in order. The first go, and those that are made come last."""
+        taken, before, after = set(self.membranes.values()), {}, {}
         for number in here:
             if number not in self.membranes:
-                waiting.setdefault(old[number], []).append(number)
+                before.setdefault(old[number], []).append(number)
         for number in there:
-            if number not in taken and waiting.get(new[number]):
-                found.append((waiting[new[number]].pop(0), number))
+            if number not in taken:
+                after.setdefault(new[number], []).append(number)
+        found = []
+        for content, made in after.items():
+            kept = before.get(content, [])
+            found += zip(kept[max(0, len(kept) - len(made)):], made)
         self.membranes.update(found)
         return found
 

@@ -79,6 +79,9 @@ def run_script(name, main):
     except (Unshowable, Unreadable) as why:
         print(f'{name}: {why}', file=sys.stderr)
         sys.exit(getattr(why, 'status', 1))
+    except RecursionError:
+        print(f'{name}: membranes or terms are nested too deep to be shown', file=sys.stderr)
+        sys.exit(1)
     except BrokenPipeError:
         os.dup2(os.open(os.devnull, os.O_WRONLY), sys.stdout.fileno())
     except KeyboardInterrupt:
