@@ -59,6 +59,7 @@ class Body {
 const nameOnPicture = name => name.length > 28 ? name.slice(0, 27) + '…' : name;
 const widthOf = name => Math.max(20, 12 + 6.4 * nameOnPicture(name).length);
 
+// For each membrane the bodies that lie in it.
 function bodiesOf(process) {
   const inside = new Map([...process.membranes.keys()].map(membrane => [membrane, []]));
   for (const [membrane, parent] of process.membranes) if (parent >= 0) inside.get(parent).push(membraneKey(membrane));
@@ -103,13 +104,12 @@ function placed(process, before, processBefore) {
   for (const membrane of process.membranes.keys()) keep(membraneKey(membrane), () => new Body(0, 0, 0, 20, true));
   for (const [atom, { name }] of process.atoms) keep(atomKey(atom), () => new Body(0, 0, widthOf(name), Math.max(13, widthOf(name) / 2), true));
   if (before) carryOver(process, processBefore, places, before);
-  for (const membrane of inwards) settle(membraneKey(membrane), inside.get(membrane), pulls.get(membraneKey(membrane)), places, process, before);
+  for (const membrane of inwards) settle(places.get(membraneKey(membrane)), inside.get(membrane), pulls.get(membraneKey(membrane)), places);
   return places;
 }
 
 // What moved into another membrane stays where it is on the picture, or comes so near that it touches what is in there.
 function carryOver(process, processBefore, places, before) {
-  const middles = new Map(), moved = [];
   const middle = (which, of, membrane) => {
     if (membrane < 0 || !of.has(membraneKey(membrane))) return { x: 0, y: 0 };
     const outer = middle(which, of, which.membranes.get(membrane)), own = of.get(membraneKey(membrane));
@@ -126,22 +126,34 @@ function carryOver(process, processBefore, places, before) {
 }
 
 // Places the bodies of one membrane: fresh ones near what they are linked to; then they push each other away, links pull.
-function settle(key, bodies, pulls, places, process, before) {
-  const own = places.get(key), started = bodies.some(body => !places.get(body).fresh);
+function settle(own, bodies, pulls, places) {
+  const started = bodies.some(body => !places.get(body).fresh);
   if (started) seat(bodies, pulls, places); else spread(bodies, pulls, places);
+  const stirred = started ? stirredOf(bodies, pulls, places) : null;
+  relax(bodies.map(body => places.get(body)), pulls.map(([one, other]) => [places.get(one), places.get(other)]), stirred);
+  enclose(own, bodies.map(body => places.get(body)));
+}
+
+// The bodies that are fresh, that moved or grew, and those that are at most three links away.
+function stirredOf(bodies, pulls, places) {
   const stirred = new Set(bodies.filter(body => places.get(body).fresh || places.get(body).stirred));
-  for (let links = 0; started && links < 3; links++) {
+  for (let links = 0; links < 3; links++) {
     const known = new Set(stirred);
     for (const [one, other] of pulls) { if (known.has(one)) stirred.add(other); if (known.has(other)) stirred.add(one); }
   }
-  relax(bodies.map(body => places.get(body)), pulls.map(([one, other]) => [places.get(one), places.get(other)]), started ? [...stirred].map(body => places.get(body)) : null);
-  enclose(own, bodies.map(body => places.get(body)));
+  return [...stirred].map(body => places.get(body));
+}
+
+// For each body those to which a link pulls it.
+function neighboursOf(bodies, pulls) {
+  const near = new Map(bodies.map(body => [body, []]));
+  for (const [one, other] of pulls) { near.get(one).push(other); near.get(other).push(one); }
+  return near;
 }
 
 // Bodies that are all fresh begin along a spiral, linked ones behind each other.
 function spread(bodies, pulls, places) {
-  const near = new Map(bodies.map(body => [body, []])), order = [], seen = new Set();
-  for (const [one, other] of pulls) { near.get(one).push(other); near.get(other).push(one); }
+  const near = neighboursOf(bodies, pulls), order = [], seen = new Set();
   for (const body of bodies) {
     const todo = [body];
     while (todo.length) { const next = todo.pop(); if (!seen.has(next)) { seen.add(next); order.push(next); todo.push(...near.get(next)); } }
@@ -157,8 +169,7 @@ function spread(bodies, pulls, places) {
 
 // Fresh bodies among others begin at the middle of what they are linked to.
 function seat(bodies, pulls, places) {
-  const near = new Map(bodies.map(body => [body, []]));
-  for (const [one, other] of pulls) { near.get(one).push(other); near.get(other).push(one); }
+  const near = neighboursOf(bodies, pulls);
   const waiting = bodies.filter(body => places.get(body).fresh), seated = new Set(bodies.filter(body => !places.get(body).fresh));
   let count = 0;
   for (const body of [...waiting, ...waiting]) {
@@ -166,14 +177,17 @@ function seat(bodies, pulls, places) {
     const known = near.get(body).filter(other => seated.has(other)).map(other => places.get(other));
     if (!known.length && count++ < waiting.length) continue;
     const place = places.get(body), turn = 2.4 * (count + seated.size);
-    const middle = known.length ? { x: known.reduce((sum, at) => sum + at.x, 0) / known.length, y: known.reduce((sum, at) => sum + at.y, 0) / known.length } : { x: 0, y: 0 };
-    place.x = middle.x + 16 * Math.cos(turn); place.y = middle.y + 16 * Math.sin(turn);
+    place.x = mean(known.map(at => at.x)) + 16 * Math.cos(turn);
+    place.y = mean(known.map(at => at.y)) + 16 * Math.sin(turn);
     seated.add(body);
   }
 }
 
-// Bodies that touch push each other away, and links pull. With `stirred` only these move much.
+const mean = numbers => numbers.length ? numbers.reduce((sum, number) => sum + number, 0) / numbers.length : 0;
+
+// Bodies that touch push each other away, and links pull. With `stirred` the others move less, and nothing moves for nothing.
 function relax(bodies, pulls, stirred) {
+  if (stirred && !stirred.length) return;
   const moving = stirred || bodies, isMoving = new Set(moving);
   const rounds = stirred ? 14 : Math.max(8, Math.min(200, Math.floor(4e7 / (bodies.length * bodies.length + 1))));
   const room = 1.25 * Math.sqrt(bodies.reduce((sum, { r }) => sum + (r + GAP) ** 2, 0));
@@ -184,7 +198,7 @@ function relax(bodies, pulls, stirred) {
     for (const [one, other] of pulls) pull(one, other, step, isMoving);
     for (const body of bodies) gather(body, stirred ? room : 0, step);
   }
-  if (stirred && stirred.length && bodies.length <= MOST_PARTED) separate(bodies);
+  if (stirred && bodies.length <= MOST_PARTED) separate(bodies);
 }
 
 // Bodies that lie on each other part.
@@ -339,7 +353,8 @@ function showRules(process, firings) {
   }));
   const label = numbers => numbers.length ? ', by rule ' + numbers.map(number => number + 1).join(' or ') : '';
   const last = firings === trace.firings.length - 1;
-  byId('say').textContent = (firings ? `firing ${firings} of ${trace.firings.length - 1}${label(fired)}` : `before the first of ${trace.firings.length - 1} firings`) + (last ? `: ${trace.end}` : '');
+  const all = trace.firings.length - 1;
+  byId('say').textContent = (firings ? `firing ${firings} of ${all}${label(fired)}` : all ? `before firing 1 of ${all}` : 'no firing') + (last ? `: ${trace.end}` : '');
 }
 
 // ---- Moving about.

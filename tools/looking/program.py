@@ -1,4 +1,5 @@
 """Runs the program, or reads what it printed, and ends a script with a message where nothing can be shown."""
+import functools
 import os
 import subprocess
 import sys
@@ -16,9 +17,14 @@ class Unshowable(Exception):
         self.status = status
 
 
+@functools.lru_cache(maxsize=None)
 def program():
-    """The program: what LMN names, else ./lmn of this repository."""
-    return os.environ.get('LMN') or os.path.join(TOP, 'lmn')
+    """The program: what LMN names, else the one of this repository, which is built where it isn't."""
+    if os.environ.get('LMN'):
+        return os.environ['LMN']
+    if subprocess.run([os.path.join(TOP, 'lmn'), 'demo', '1'], stdout=subprocess.DEVNULL).returncode:
+        raise Unshowable('the program is not built', 70)
+    return os.path.join(TOP, 'crates', 'lmn', 'out', 'lmn')
 
 
 def start(arguments):
@@ -35,7 +41,7 @@ def printed_by(arguments):
         yield from run.stdout
         said = run.stderr.read().strip()
     if run.returncode not in (0, 1, 7):
-        names = [word for word in arguments if not word.startswith('-')]
+        names = [word for word in arguments if os.path.exists(word)] or [word for word in arguments if not word.startswith('-')]
         raise Unshowable(f'{names[0] if names else "no FILE"}: {said or "the program said nothing"}', run.returncode if run.returncode > 0 else 1)
 
 
