@@ -38,7 +38,7 @@ use Rattle.lmn_app.specs.declared.ending.Ending.TheVariants.{Refused}
 use Rattle.lmn_app.specs.Outcomes.{Causes, CountsFaults, Ended, Output}
 use Rattle.lmn_app.specs.Runnings.{ended_as}
 use Rattle.lmn_app.specs.Runs.{IsTraceOf}
-use Rattle.lmn_app.specs.Texts.{Accepts, at_start, too_large}
+use Rattle.lmn_app.specs.Texts.{Accepts, IsTooLarge, at_start, too_large}
 use Rattle.lmn_app.specs.Writing.{WritesRun, given, run_text}
 use Rattle.lmn_app.proofs.PlainRegions.{region_is_numbered}
 use Rattle.lmn_app.proofs.RunLemmas.{Laws, trace_is_run}
@@ -171,5 +171,5 @@ too_large_ended w text names plain plans k a well closed causes told count read_
     let s = solids_of_plains_exist plain well closed in
     let large = causes s.0 s.1 in
     let more : w.size < item_count_of_region (solid_of names plain s.0) = omega (arith, large.0, items_kept names plain.rules s.0) in
-    let is_large = (solid_of names plain s.0, solids_of_plains names plain s.0 well s.1, more) in
+    let is_large : IsTooLarge (Some w.size) names plain = (solid_of names plain s.0, solids_of_plains names plain s.0 well s.1, more) in
     record { cause = (too_large names plain plans a is_large refl, refl); output = refl; counts = no_put count }
