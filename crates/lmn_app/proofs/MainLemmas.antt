@@ -1,5 +1,5 @@
 -- What the top call leaves behind, by its status.
-use Rattle.std.proofs.Common.{◌≡◌, ◌≢◌, ℕ, List, Option, ◌⊎◌, inl, inr, refl, sym, ap, ◌∙◌, subst, arith}
+use Rattle.std.proofs.Common.{◌≡◌, ◌≢◌, ℕ, List, [], Option, Some, None, ◌⊎◌, inl, inr, refl, sym, ap, ◌∙◌, subst, append-nil, arith}
 use Rattle.std.specs.declared.string.String.{String}
 use Rattle.std.specs.declared.alloc.Global.{Global}
 use Rattle.lmn_base.specs.declared.refusal.Refusal.{Refusal}
@@ -99,6 +99,10 @@ write_is ReadFault h = absurd (cc)
 write_is WriteFault h = refl
 write_is NoMemory h = absurd (cc)
 write_is Full h = absurd (cc)
+
+took_nothing : (old new : Option (List ℕ)) → Takes [] old new → new ≡ old
+took_nothing None new h = h
+took_nothing (Some old) new h = h ∙ ap Some (append-nil old)
 
 -- What is done for the words: a command ended so, or there is none and nothing was done. `told` is what is told of the text of a
 -- command, `read` and `reads` are the counts of its file.
@@ -241,6 +245,12 @@ module _ (one : OneRequest) (words : List (String Global)) (told : Request → O
   pub line_taken : (e ending : Ending) → Concluded e → (k : ℕ) → k ≢ 5 → (status_of e ≡ k → e ≡ ending) → status ≡ k → Takes (line_of_ending ending) eo en
   line_taken e ending (inl (s, t, same)) k five is h = subst (λ x. Takes (line_of_ending x) eo en) (is (sym s ∙ h)) t
   line_taken e ending (inr (s, p, rose, line)) k five is h = absurd (five (sym h ∙ s))
+
+  -- `err` took nothing where no line is due
+  pub quiet : (e : Ending) → Concluded e → (status ≡ 0) ⊎ (status ≡ 1) ⊎ (status ≡ 7) → en ≡ eo
+  quiet e k (inl h) = took_nothing eo en (line_taken e Done k 0 (omega arith) (done_is e) h)
+  quiet e k (inr (inl h)) = took_nothing eo en (line_taken e Budget k 1 (omega arith) (budget_is e) h)
+  quiet e k (inr (inr h)) = took_nothing eo en (line_taken e Full k 7 (omega arith) (full_is e) h)
 
   -- with 5 either `out` failed and `err` took its line, or `err` failed
   pub failed : (e : Ending) → Acted e → Concluded e → status ≡ 5 →

@@ -1,7 +1,7 @@
 use Rattle.std.proofs.Common.{arith}
 use Rattle.lmn_app.specs.declared.ending.Ending.TheVariants.{Budget, Done, Full, NoMemory, ReadFault, Words}
 use Rattle.lmn_app.specs.Requests.{faults_of, told_of}
-use Rattle.lmn_app.proofs.MainLemmas.{answered, asked_or_memory, budget_is, done_is, failed, form_answered, full_is, line_taken, memory_is, not_of_form, out_taken, puts_end, puts_stay, read_is, read_rose, refusal_told, refused_so, untouched, words_is, write_rose}
+use Rattle.lmn_app.proofs.MainLemmas.{answered, asked_or_memory, budget_is, done_is, failed, form_answered, full_is, line_taken, memory_is, not_of_form, out_taken, puts_end, puts_stay, quiet, read_is, read_rose, refusal_told, refused_so, untouched, words_is, write_rose}
 use Rattle.lmn_app.proofs.top.lmn_main.Goals as goal
 
 pub returns-clause-words : goal.returns-clause-words
@@ -108,6 +108,13 @@ returns-clause-out_memory g c =
     (g.O.Sink.told c.args.out.now) (g.O.Sink.told c.act-ending.new.out) (g.E.Sink.told c.args.err.now) (g.E.Sink.told c.conclude.new.err)
     (g.O.Sink.faults c.args.out.now) (g.O.Sink.faults c.act-ending.new.out) (g.E.Sink.faults c.args.err.now) (g.E.Sink.faults c.conclude.new.err) c.conclude.result
     c.act-ending.result NoMemory c.act-ending.ensures.ended c.conclude.ensures 6 (omega arith) (λ e. cc e) (memory_is c.act-ending.result)
+
+pub returns-clause-err_quiet : goal.returns-clause-err_quiet
+returns-clause-err_quiet g c =
+    quiet c.asks_one.ensures.one c.args.words.now (λ k. told_of k (g.F.Shelf.told c.args.shelf.now)) (λ k. faults_of k (g.F.Shelf.faults c.args.shelf.now)) (λ k. faults_of k (g.F.Shelf.faults c.act-ending.new.shelf))
+    (g.O.Sink.told c.args.out.now) (g.O.Sink.told c.act-ending.new.out) (g.E.Sink.told c.args.err.now) (g.E.Sink.told c.conclude.new.err)
+    (g.O.Sink.faults c.args.out.now) (g.O.Sink.faults c.act-ending.new.out) (g.E.Sink.faults c.args.err.now) (g.E.Sink.faults c.conclude.new.err) c.conclude.result
+    c.act-ending.result c.conclude.ensures
 
 pub returns-clause-err_words : goal.returns-clause-err_words
 returns-clause-err_words g c =
