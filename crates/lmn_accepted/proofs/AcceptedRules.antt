@@ -15,17 +15,17 @@ use Rattle.lmn_base.specs.declared.level.Occ.{Occ}
 use Rattle.lmn_base.specs.declared.refusal.Pos.{Pos}
 use Rattle.lmn_base.specs.declared.rule.RuleTree.{RuleTree}
 use Rattle.lmn_base.specs.Firsts.{Row, NoneApplies}
-use Rattle.lmn_base.specs.Items.{items_of, leaf_item, used}
+use Rattle.lmn_base.specs.Items.{items_of, leaf_item, untyped_form, untyped as base_untyped}
 use Rattle.lmn_base.specs.Levels.{contexts_of, rule_contexts_of, rules_of}
 use Rattle.lmn_base.specs.Names.{IsNames, HasNames, label_names, leaf_names, level_names, condition_names, rule_names, context_names}
 use Rattle.lmn_base.specs.RuleCodes.{connector_in_head, connector_place, is_connector_label, seconds_by_membrane}
 use Rattle.lmn_base.specs.Solids.{connector}
 use Rattle.lmn_base.specs.Uses.{is_some_place}
 use Rattle.lmn_base.specs.WellMade.{FitsArity, IsWellMadeRule}
-use Rattle.lmn_adequacy.specs.Accepted.{Accepted, GivesType, InTurn, EachLevel, EachOf, AtMostOne, NoConnectorLeaf, own_leaves, own_membranes, own_contexts, own_rule_contexts, own_rules, all_contexts, all_rule_contexts, typed_links, port_links, left_sides}
+use Rattle.lmn_adequacy.specs.Accepted.{Accepted, GivesType, InTurn, EachLevel, EachOf, AtMostOne, NoConnectorLeaf, own_leaves, own_membranes, own_contexts, own_rule_contexts, own_rules, all_contexts, open_names, closed_names, all_rule_contexts, typed_links, port_links, left_sides}
 use Rattle.lmn_congruence.proofs.TranslatedLinks.{linked_rules}
 use Rattle.lmn_congruence.specs.Orders.{Among, at_head, further, Shuffle, EachOnce}
-use Rattle.lmn_congruence.specs.Translation.{level_of, condition_of, rule_tree}
+use Rattle.lmn_congruence.specs.Translation.{context_tree, level_of, condition_of, rule_tree}
 use Rattle.lmn_guards.proofs.AcceptedLemmas.{in_order}
 use Rattle.lmn_guards.proofs.OrderLemmas.{not_then}
 use Rattle.lmn_guards.specs.Accepted.{IsAcceptedRule, IsInOrder}
@@ -34,12 +34,12 @@ use Rattle.lmn_reduction.specs.Firing.{typed_contexts}
 use Rattle.lmn_solid.proofs.HeadTrees.{Head, Heads, head, no_head, head_and, heads, head_step, head_at, head_leaves, heads_leaves, same_leaves, head_uses, heads_uses, same_uses, head_number, same_number}
 use Rattle.lmn_accepted.proofs.InTurns.{guard_in_turn}
 use Rattle.lmn_accepted.proofs.Types.{left_among, type_given}
-use Rattle.lmn_accepted.proofs.Counts.{guard_typed, kept, once_in_head, rule_context_known, rule_context_once, typed_in_head, typed_known}
+use Rattle.lmn_accepted.proofs.Counts.{guard_typed, kept, closed_known, once_in_head, rule_context_known, rule_context_once, typed_in_head, typed_known}
 use Rattle.lmn_accepted.proofs.Listed.{alone, each_so, how_often_here, some_of, among_name, name_among, N, each_once, same_shuffle}
 use Rattle.lmn_linkcheck.proofs.LinkedLemmas.{how_often}
 use Rattle.lmn_accepted.proofs.PlanKinds.{leaf_name}
-use Rattle.lmn_accepted.proofs.Items.{bare_name, typed_name, rule_context_name, rule_number, own_seconds, all_seconds, gathered_in, rules_are, contexts_are, rule_contexts_are, typed_are}
-use Rattle.lmn_accepted.proofs.Trees.{contexts_named, rule_contexts_named, typed_named, no_rules_stand, IsPlainLeaf, typed_link, atom_links, LevelIs, level_is, few_in}
+use Rattle.lmn_accepted.proofs.Items.{untyped_name, bare_name, closed_name, typed_name, rule_context_name, rule_number, own_seconds, all_seconds, gathered_in, rules_are, contexts_are, rule_contexts_are, typed_are}
+use Rattle.lmn_accepted.proofs.Trees.{name_in, contexts_named, open_named, closed_named, rule_contexts_named, typed_named, no_rules_stand, IsPlainLeaf, typed_link, atom_links, LevelIs, level_is, few_in}
 use Rattle.lmn_base.proofs.Lists.{all_append, all_left as all_front, all_right as all_back, two_empty, all_of_left}
 use Rattle.lmn_congruence.proofs.Common.{among_left, among_right}
 use Rattle.lmn_bridge.proofs.HeadTrees.{tree_of, level_tree}
@@ -52,6 +52,16 @@ use Rattle.lmn_congruence.specs.Rules as tree
 
 -- ---- lists
 
+among_by : {A B : Type 0} (f : A → B) (x : A) (xs : List A) → Among x xs → Among (f x) (map f xs)
+among_by f x [] a = elim a [ ]
+among_by f x (y ∷ xs) at_head = at_head
+among_by f x (y ∷ xs) (further a) = further (among_by f x xs a)
+
+-- what differs by a part of it differs
+once_by : {A B : Type 0} (f : A → B) (xs : List A) → EachOnce (map f xs) → EachOnce xs
+once_by f [] h = tt
+once_by f (x ∷ xs) h = ((λ a. h.0 (among_by f x xs a)), once_by f xs h.1)
+
 -- ---- names that are known
 
 module _ (names : List tree.Name) where
@@ -61,7 +71,7 @@ module _ (names : List tree.Name) where
   leaves_known (leaf.Typed n o p ∷ ls) h = (h.0, leaves_known ls h.1)
 
   record LevelKnown (l : Level) : Type 0 where
-    bare : AllBelow names (flat_map bare_name (items_of l))
+    untyped : AllBelow names (flat_map untyped_name (items_of l))
     rule_contexts : AllBelow names (flat_map rule_context_name (items_of l))
     typed : AllBelow names (flat_map typed_name (items_of l))
 
@@ -73,7 +83,7 @@ module _ (names : List tree.Name) where
       let leaves = all_front (Below names) (flat_map leaf_names (base.leaves_of l)) (context_names (contexts_of l)) front in
       let contexts = all_back (Below names) (flat_map leaf_names (base.leaves_of l)) (context_names (contexts_of l)) front in
       record {
-        bare = subst P (contexts_are l ∙ ap (flat_map bare_name) (sym (same_uses l))) contexts;
+        untyped = subst P (contexts_are l ∙ ap (flat_map untyped_name) (sym (same_uses l))) contexts;
         rule_contexts = subst P (rule_contexts_are l ∙ ap (flat_map rule_context_name) (sym (same_uses l))) others;
         typed = subst P (typed_are l ∙ ap (flat_map typed_name) (sym (same_uses l))) (leaves_known (base.leaves_of l) leaves);
       }
@@ -85,8 +95,14 @@ module _ (names : List tree.Name) where
 -- ---- one level as a tree
 
 module _ (names : List tree.Name) (rule : ℕ → tree.Rule) (l : Level) where
-  contexts_tree : all_contexts (level_of names rule l) ≡ map (N names) (flat_map bare_name (items_of l))
-  contexts_tree = ap all_contexts (level_tree names rule l) ∙ contexts_named names rule (head_at l) ∙ ap (λ xs. map (N names) (flat_map bare_name xs)) (sym (same_uses l))
+  contexts_tree : map name_in (all_contexts (level_of names rule l)) ≡ map (N names) (flat_map untyped_name (items_of l))
+  contexts_tree = ap (λ l. map name_in (all_contexts l)) (level_tree names rule l) ∙ contexts_named names rule (head_at l) ∙ ap (λ xs. map (N names) (flat_map untyped_name xs)) (sym (same_uses l))
+
+  open_tree : open_names (all_contexts (level_of names rule l)) ≡ map (N names) (flat_map bare_name (items_of l))
+  open_tree = ap (λ l. open_names (all_contexts l)) (level_tree names rule l) ∙ open_named names rule (head_at l) ∙ ap (λ xs. map (N names) (flat_map bare_name xs)) (sym (same_uses l))
+
+  closed_tree : closed_names (all_contexts (level_of names rule l)) ≡ map (N names) (flat_map closed_name (items_of l))
+  closed_tree = ap (λ l. closed_names (all_contexts l)) (level_tree names rule l) ∙ closed_named names rule (head_at l) ∙ ap (λ xs. map (N names) (flat_map closed_name xs)) (sym (same_uses l))
 
   rule_contexts_tree : all_rule_contexts (level_of names rule l) ≡ map (N names) (flat_map rule_context_name (items_of l))
   rule_contexts_tree = ap all_rule_contexts (level_tree names rule l) ∙ rule_contexts_named names rule (head_at l) ∙ ap (λ xs. map (N names) (flat_map rule_context_name xs)) (sym (same_uses l))
@@ -117,7 +133,7 @@ leaves_nowhere (l ∷ ls) e = let apart = two_empty (connector_place (leaf_item 
 mutual
   head_nowhere : (h : Head) → flat_map connector_place (head_uses h) ≡ [] → AllByRecursion NoPlace (head_leaves h)
   head_nowhere (head ls hs cs os rs) e =
-      let more = map (used form.Bare) cs ++ (map item.RuleContext os ++ map item.Rule rs) in
+      let more = map base_untyped cs ++ (map item.RuleContext os ++ map item.Rule rs) in
       let own = map leaf_item ls ++ more in
       let apart = two_empty (flat_map connector_place own) (flat_map connector_place (heads_uses hs)) (sym (flat_map-append connector_place own (heads_uses hs)) ∙ e) in
       let here = two_empty (flat_map connector_place (map leaf_item ls)) (flat_map connector_place more) (sym (flat_map-append connector_place (map leaf_item ls) more) ∙ apart.0) in
@@ -229,16 +245,19 @@ module _ (names : List tree.Name) (rule : ℕ → tree.Rule) (is_names : IsNames
   no_own_contexts : (out-Level r.head).contexts ≡ []
   no_own_contexts = by (out-Level r.head).contexts refl
     where
+      not_typed : (closed : Bool) → untyped_form closed ≡ form.Typed → ⊥
+      not_typed true e = absurd (cc)
+      not_typed false e = absurd (cc)
+
       by : (cs : List CtxUse) → (out-Level r.head).contexts ≡ cs → cs ≡ []
       by [] e = refl
       by (c ∷ cs) e = absurd (
           let o = out-Level r.head in
-          let here : Contains (map (used form.Bare) (c ∷ cs)) (used form.Bare c) = (0, omega arith, refl) in
-          let there : Contains (map (used form.Bare) o.contexts) (used form.Bare c) = subst (λ us. Contains (map (used form.Bare) us) (used form.Bare c)) (sym e) here in
-          let inside = Contains-append_right (map leaf_item o.leaves) (map (used form.Bare) o.contexts ++ (map item.RuleContext o.rule_contexts ++ map item.Rule o.rules)) (used form.Bare c)
-          (Contains-append_left (map (used form.Bare) o.contexts) (map item.RuleContext o.rule_contexts ++ map item.Rule o.rules) (used form.Bare c) there) in
-          let clash = order.no_context_at_top (record { name = c.name; form = form.Bare; pos = c.pos }) inside in
-          cc
+          let here : Contains (map base_untyped (c ∷ cs)) (base_untyped c) = (0, omega arith, refl) in
+          let there : Contains (map base_untyped o.contexts) (base_untyped c) = subst (λ us. Contains (map base_untyped us) (base_untyped c)) (sym e) here in
+          let inside = Contains-append_right (map leaf_item o.leaves) (map base_untyped o.contexts ++ (map item.RuleContext o.rule_contexts ++ map item.Rule o.rules)) (base_untyped c)
+          (Contains-append_left (map base_untyped o.contexts) (map item.RuleContext o.rule_contexts ++ map item.Rule o.rules) (base_untyped c) there) in
+          not_typed c.closed (order.no_context_at_top (record { name = c.name; form = untyped_form c.closed; pos = c.pos }) inside)
           )
 
   no_own_rule_contexts : (out-Level r.head).rule_contexts ≡ []
@@ -250,8 +269,8 @@ module _ (names : List tree.Name) (rule : ℕ → tree.Rule) (is_names : IsNames
           let o = out-Level r.head in
           let here : Contains (map item.RuleContext (c ∷ cs)) (item.RuleContext c) = (0, omega arith, refl) in
           let there : Contains (map item.RuleContext o.rule_contexts) (item.RuleContext c) = subst (λ us. Contains (map item.RuleContext us) (item.RuleContext c)) (sym e) here in
-          let inside = Contains-append_right (map leaf_item o.leaves) (map (used form.Bare) o.contexts ++ (map item.RuleContext o.rule_contexts ++ map item.Rule o.rules)) (item.RuleContext c)
-          (Contains-append_right (map (used form.Bare) o.contexts) (map item.RuleContext o.rule_contexts ++ map item.Rule o.rules) (item.RuleContext c)
+          let inside = Contains-append_right (map leaf_item o.leaves) (map base_untyped o.contexts ++ (map item.RuleContext o.rule_contexts ++ map item.Rule o.rules)) (item.RuleContext c)
+          (Contains-append_right (map base_untyped o.contexts) (map item.RuleContext o.rule_contexts ++ map item.Rule o.rules) (item.RuleContext c)
           (Contains-append_left (map item.RuleContext o.rule_contexts) (map item.Rule o.rules) (item.RuleContext c) there)) in
           order.no_rule_context_at_top c inside
           )
@@ -281,10 +300,10 @@ module _ (names : List tree.Name) (rule : ℕ → tree.Rule) (is_names : IsNames
       subst (λ xs. Among x xs) (sym ports) (held_there names rule x (base.leaves_of r.head) some)
 
   shuffled : Shuffle (λ p q. p ≡ q) (map (N names) (flat_map bare_name (items_of r.head))) (map (N names) (flat_map bare_name (items_of r.body)))
-      → Shuffle (λ p q. p ≡ q) (all_contexts (level_of names rule r.head)) (all_contexts (level_of names rule r.body))
+      → Shuffle (λ p q. p ≡ q) (open_names (all_contexts (level_of names rule r.head))) (open_names (all_contexts (level_of names rule r.body)))
   shuffled h =
-      subst (λ xs. Shuffle (λ (p : tree.Name) (q : tree.Name). p ≡ q) xs (all_contexts (level_of names rule r.body))) (sym (contexts_tree names rule r.head))
-      (subst (λ ys. Shuffle (λ (p : tree.Name) (q : tree.Name). p ≡ q) (map (N names) (flat_map bare_name (items_of r.head))) ys) (sym (contexts_tree names rule r.body)) h)
+      subst (λ xs. Shuffle (λ (p : tree.Name) (q : tree.Name). p ≡ q) xs (open_names (all_contexts (level_of names rule r.body)))) (sym (open_tree names rule r.head))
+      (subst (λ ys. Shuffle (λ (p : tree.Name) (q : tree.Name). p ≡ q) (map (N names) (flat_map bare_name (items_of r.head))) ys) (sym (open_tree names rule r.body)) h)
 
   turned : InTurn (map (N names) (flat_map typed_name (items_of r.head))) [] (map (condition_of names) r.guard) → InTurn (typed_contexts (level_of names rule r.head)) [] (map (condition_of names) r.guard)
   turned h = subst (λ xs. InTurn xs [] (map (condition_of names) r.guard)) (sym (typed_tree names rule r.head)) h
@@ -308,15 +327,18 @@ module _ (names : List tree.Name) (rule : ℕ → tree.Rule) (is_names : IsNames
         not_empty = λ e. (let zero' = empty_tree names rule r.head (head_at r.head) (sym (level_tree names rule r.head) ∙ e) in order.holds_something (same_number r.head ∙ zero'));
         no_connectors = subst E (sym (level_tree names rule r.head)) level_facts.no_connectors;
         no_rules = subst R (sym (level_tree names rule r.head)) (no_rules_stand names rule (head_at r.head) (subst Q (same_uses r.head) no_numbers));
-        top_contexts = ap own_contexts (opened names rule r.head) ∙ names_of_nothing (λ u. N names u.name) o.contexts no_own_contexts;
+        top_contexts = ap own_contexts (opened names rule r.head) ∙ names_of_nothing (context_tree names) o.contexts no_own_contexts;
         top_rule_contexts = ap own_rule_contexts (opened names rule r.head) ∙ names_of_nothing (λ u. N names u.name) o.rule_contexts no_own_rule_contexts;
         few = subst F (sym (opened names rule r.head)) (few_in names rule (heads (map head_at o.membranes)) (seconds_empty o.membranes (λ ps c. order.one_in_membrane ps c)));
         once = (
-          subst EachOnce (sym (contexts_tree names rule r.head)) (each_once names is_names (flat_map bare_name (items_of r.head)) k.0.bare (λ n. let h = once_in_head table r order n in omega (arith, h))),
+          once_by name_in (all_contexts (level_of names rule r.head)) (subst EachOnce (sym (contexts_tree names rule r.head)) (each_once names is_names (flat_map untyped_name (items_of r.head)) k.0.untyped (λ n. let h = once_in_head table r order n in omega (arith, h)))),
           subst EachOnce (sym (rule_contexts_tree names rule r.head)) (each_once names is_names (flat_map rule_context_name (items_of r.head)) k.0.rule_contexts (rule_context_once table r order)),
           subst EachOnce (sym (typed_tree names rule r.head)) (each_once names is_names (flat_map typed_name (items_of r.head)) k.0.typed (λ n. let h = once_in_head table r order n in omega (arith, h))),
         );
         kept = shuffled (same_shuffle names (flat_map bare_name (items_of r.head)) (flat_map bare_name (items_of r.body)) (kept table r order));
+        known_closed = λ p a. (let n = name_among names p (flat_map closed_name (items_of r.body)) (subst (Among p) (closed_tree names rule r.body) a) in
+            subst (Among p) (sym (closed_tree names rule r.head))
+            (subst (λ q. Among q (map (N names) (flat_map closed_name (items_of r.head)))) n.2 (among_name names n.0 (flat_map closed_name (items_of r.head)) (closed_known table r order n.0 n.1))));
         known_rules = λ p a. (let n = name_among names p (flat_map rule_context_name (items_of r.body)) (subst (Among p) (rule_contexts_tree names rule r.body) a) in
             subst (Among p) (sym (rule_contexts_tree names rule r.head))
             (subst (λ q. Among q (map (N names) (flat_map rule_context_name (items_of r.head)))) n.2 (among_name names n.0 (flat_map rule_context_name (items_of r.head)) (rule_context_known table r order n.0 n.1))));

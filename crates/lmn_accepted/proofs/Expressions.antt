@@ -14,7 +14,7 @@ use Rattle.lmn_base.specs.declared.item.Item.{Item}
 use Rattle.lmn_base.specs.declared.item.Item.TheVariants as item
 use Rattle.lmn_base.specs.declared.level.Level.{Level}
 use Rattle.lmn_base.specs.Items.{expression_items}
-use Rattle.lmn_base.specs.RuleCodes.{is_bare}
+use Rattle.lmn_base.specs.RuleCodes.{is_untyped}
 use Rattle.lmn_adequacy.specs.Accepted.{UsedIn, here_used, left_used, right_used}
 use Rattle.lmn_congruence.specs.Rules as tree
 use Rattle.lmn_congruence.specs.Translation.{expression_of}
@@ -36,8 +36,9 @@ pub typed_is : (x : Item) (n : ℕ) → 1 ≤ how_often n (typed_name x) → (u 
 typed_is (item.Atom f p) n h = absurd (omega (arith, h))
 typed_is (item.Context u) n h = by u.form refl h
   where
-    by : (f : Form) → u.form ≡ f → 1 ≤ how_often n (cond (is_bare f) [] (u.name ∷ [])) → (v : FormedUse) × (item.Context u ≡ item.Context v) × (v.form ≡ form.Typed) × (v.name ≡ n)
+    by : (f : Form) → u.form ≡ f → 1 ≤ how_often n (cond (is_untyped f) [] (u.name ∷ [])) → (v : FormedUse) × (item.Context u ≡ item.Context v) × (v.form ≡ form.Typed) × (v.name ≡ n)
     by form.Bare e h = absurd (omega (arith, h))
+    by form.Closed e h = absurd (omega (arith, h))
     by form.Typed e h = (u, refl, e, alone n u.name h)
 typed_is (item.RuleContext u) n h = absurd (omega (arith, h))
 typed_is (item.Rule k) n h = absurd (omega (arith, h))

@@ -13,7 +13,7 @@ use Rattle.lmn_congruence.specs.Rules as tree
 use Rattle.lmn_compile_head.specs.Tables.{HasFewLinks}
 use Rattle.lmn_lexer.specs.Laying.{Word}
 use Rattle.lmn_parser.specs.Arities.{FitsTerm, FitsTerms, FitsItem, FitsItems, FitsClause, FitsClauses, number_of_terms}
-use Rattle.lmn_parser.specs.Syntax.{WrittenCondition, Term, link, atom, list, list_onto, context, membrane, Terms, no_term, term_and, Item, atom_item, membrane_item, context_item, bracketed, rule_context, plus_link, group, equation, Items, no_item, item_and, Clause, process, rule, Clauses, no_clause, clause_and}
+use Rattle.lmn_parser.specs.Syntax.{WrittenCondition, Term, link, atom, list, list_onto, context, membrane, Terms, no_term, term_and, Item, atom_item, membrane_item, context_item, closed_item, bracketed, rule_context, plus_link, group, equation, Items, no_item, item_and, Clause, process, rule, Clauses, no_clause, clause_and}
 use Rattle.lmn_plain.specs.Links.{Link, Use, made}
 use Rattle.lmn_plain.specs.Expanded.{ExpandedLeaf, atom_leaf, typed_leaf, ExpandedLevel, level, ExpandedLevels, no_level, level_and, expanded_levels, ExpandedRule, renamed_use, renamed_leaf, renamed_level, all_renamed}
 use Rattle.lmn_plain.specs.Parts.{Parts, no_parts, joined_parts, level_from_parts, NumberedParts, ◌⊕◌, one_leaf, fresh_copy, rule_of_parts}
@@ -147,6 +147,7 @@ module _ (words : List Word) (places : List Pos) where
     item_few (atom_item n ts) way h k = then_few _ _ (λ m. leaf_few m _ (few_arguments _ way ts h.0)) (terms_few ts _ way h.1) k
     item_few (membrane_item cs) way h k = membrane_few _ (clauses_few cs way h k)
     item_few (context_item p) way h k = record { leaves = tt; membranes = tt; table = tt }
+    item_few (closed_item p) way h k = record { leaves = tt; membranes = tt; table = tt }
     item_few (bracketed p q) way h k = leaf_few k _ tt
     item_few (rule_context p) way h k = record { leaves = tt; membranes = tt; table = tt }
     item_few (plus_link p) way h k = leaf_few k _ (omega arith)

@@ -1,8 +1,9 @@
 -- The names and numbers that the items of a level use, one list of each kind.
-use Rattle.std.proofs.Common.{ℕ, ◌≡◌, List, [], ◌∷◌, ◌++◌, map, cond, refl, sym, ap, subst, ◌∙◌}
+use Rattle.std.proofs.Common.{ℕ, ◌≡◌, Bool, true, false, List, [], ◌∷◌, ◌++◌, map, cond, refl, sym, ap, subst, ◌∙◌}
 use Rattle.std.specs.List.{flat_map}
 use Rattle.std.proofs.lemmas.List.{append-nil, map-append}
 use Rattle.std.proofs.lemmas.List.Concat.{flat_map-append}
+use Rattle.lmn_base.specs.declared.item.Form.{Form}
 use Rattle.lmn_base.specs.declared.item.Form.TheVariants as form
 use Rattle.lmn_base.specs.declared.item.Item.{Item}
 use Rattle.lmn_base.specs.declared.item.Item.TheVariants as item
@@ -12,10 +13,10 @@ use Rattle.lmn_base.specs.declared.level.Leaf.TheVariants as leaf
 use Rattle.lmn_base.specs.declared.level.Level.{Level}
 use Rattle.lmn_base.specs.declared.level.Level.TheFolds.{fold-roll-Level, ind-Level}
 use Rattle.lmn_base.specs.declared.refusal.Pos.{Pos}
-use Rattle.lmn_base.specs.Items.{leaf_item, used}
+use Rattle.lmn_base.specs.Items.{leaf_item, untyped_form, untyped}
 use Rattle.lmn_base.specs.Levels as base
 use Rattle.lmn_base.specs.Levels.{everywhere, rules_of, contexts_of, rule_contexts_of}
-use Rattle.lmn_base.specs.RuleCodes.{behind_the_first, is_bare, seconds, seconds_by_membrane}
+use Rattle.lmn_base.specs.RuleCodes.{behind_the_first, is_bare, is_untyped, seconds, seconds_by_membrane}
 use Rattle.lmn_solid.proofs.HeadTrees.{Head, Heads, head, no_head, head_and, heads, head_step, head_at, head_leaves, heads_leaves, same_leaves, head_uses, heads_uses}
 use Rattle.lmn_accepted.proofs.PlanKinds.{leaf_name}
 use Rattle.lmn_base.specs.declared.level.Level.TheOpen.{Level-F}
@@ -23,6 +24,25 @@ use Rattle.lmn_base.specs.declared.level.Level.TheOpen.{Level-F}
 -- ---- the names of contexts, by their form, and of rule contexts; the numbers of rules
 
 -- the name of an untyped context, where the item is one
+abbrev pub untyped_name : Item → List ℕ
+untyped_name (item.Atom f p) = []
+untyped_name (item.Context u) = cond (is_untyped u.form) (u.name ∷ []) []
+untyped_name (item.RuleContext u) = []
+untyped_name (item.Rule k) = []
+
+abbrev pub is_closed : Form → Bool
+is_closed form.Bare = false
+is_closed form.Closed = true
+is_closed form.Typed = false
+
+-- the name of a closed context, where the item is one
+abbrev pub closed_name : Item → List ℕ
+closed_name (item.Atom f p) = []
+closed_name (item.Context u) = cond (is_closed u.form) (u.name ∷ []) []
+closed_name (item.RuleContext u) = []
+closed_name (item.Rule k) = []
+
+-- the name of an open context, where the item is one
 abbrev pub bare_name : Item → List ℕ
 bare_name (item.Atom f p) = []
 bare_name (item.Context u) = cond (is_bare u.form) (u.name ∷ []) []
@@ -32,7 +52,7 @@ bare_name (item.Rule k) = []
 -- the name of a typed context, where the item is one
 abbrev pub typed_name : Item → List ℕ
 typed_name (item.Atom f p) = []
-typed_name (item.Context u) = cond (is_bare u.form) [] (u.name ∷ [])
+typed_name (item.Context u) = cond (is_untyped u.form) [] (u.name ∷ [])
 typed_name (item.RuleContext u) = []
 typed_name (item.Rule k) = []
 
@@ -60,30 +80,95 @@ module _ (f : Item → List ℕ) where
   one_of_each g name h [] = refl
   one_of_each g name h (y ∷ ys) = λ i. h y i ++ one_of_each g name h ys i
 
+  each_of : {B : Type 0} (g : B → Item) (k : B → List ℕ) → ((y : B) → f (g y) ≡ k y) → (ys : List B) → flat_map f (map g ys) ≡ flat_map k ys
+  each_of g k h [] = refl
+  each_of g k h (y ∷ ys) = λ i. h y i ++ each_of g k h ys i
+
   sections : (a b c d rest : List Item) → flat_map f ((a ++ (b ++ (c ++ d))) ++ rest) ≡ (flat_map f a ++ (flat_map f b ++ (flat_map f c ++ flat_map f d))) ++ flat_map f rest
   sections a b c d rest =
       flat_map-append f (a ++ (b ++ (c ++ d))) rest
       ∙ ap (λ xs. xs ++ flat_map f rest) (flat_map-append f a (b ++ (c ++ d)) ∙ ap (λ xs. flat_map f a ++ xs) (flat_map-append f b (c ++ d) ∙ ap (λ xs. flat_map f b ++ xs) (flat_map-append f c d)))
 
+-- the name of a use of an open context, and of a closed one
+abbrev pub open_use : CtxUse → List ℕ
+open_use u = cond u.closed [] (u.name ∷ [])
+
+abbrev pub closed_use : CtxUse → List ℕ
+closed_use u = cond u.closed (u.name ∷ []) []
+
+untyped_here : (u : CtxUse) → untyped_name (untyped u) ≡ u.name ∷ []
+untyped_here u = by u.closed
+  where
+    by : (closed : Bool) → cond (is_untyped (untyped_form closed)) (u.name ∷ []) [] ≡ u.name ∷ []
+    by true = refl
+    by false = refl
+
+open_here : (u : CtxUse) → bare_name (untyped u) ≡ open_use u
+open_here u = by u.closed
+  where
+    by : (closed : Bool) → cond (is_bare (untyped_form closed)) (u.name ∷ []) [] ≡ cond closed [] (u.name ∷ [])
+    by true = refl
+    by false = refl
+
+closed_here : (u : CtxUse) → closed_name (untyped u) ≡ closed_use u
+closed_here u = by u.closed
+  where
+    by : (closed : Bool) → cond (is_closed (untyped_form closed)) (u.name ∷ []) [] ≡ cond closed (u.name ∷ []) []
+    by true = refl
+    by false = refl
+
+typed_nowhere : (u : CtxUse) → typed_name (untyped u) ≡ []
+typed_nowhere u = by u.closed
+  where
+    by : (closed : Bool) → cond (is_untyped (untyped_form closed)) [] (u.name ∷ []) ≡ []
+    by true = refl
+    by false = refl
+
 -- the untyped contexts among the items of a level
+pub untyped_own : (ls : List Leaf) (cs os : List CtxUse) (rs : List ℕ) (rest : List Item)
+    → flat_map untyped_name ((map leaf_item ls ++ (map untyped cs ++ (map item.RuleContext os ++ map item.Rule rs))) ++ rest) ≡ map (λ u. u.name) cs ++ flat_map untyped_name rest
+untyped_own ls cs os rs rest =
+    sections untyped_name (map leaf_item ls) (map untyped cs) (map item.RuleContext os) (map item.Rule rs) rest
+    ∙ (λ i. (none_of untyped_name leaf_item leaf_none ls i ++ (one_of_each untyped_name untyped (λ u. u.name) untyped_here cs i
+    ++ (none_of untyped_name item.RuleContext (λ u. refl) os i ++ none_of untyped_name item.Rule (λ k. refl) rs i))) ++ flat_map untyped_name rest)
+    ∙ ap (λ xs. xs ++ flat_map untyped_name rest) (append-nil (map (λ u. u.name) cs))
+  where
+    leaf_none : (l : Leaf) → untyped_name (leaf_item l) ≡ []
+    leaf_none (leaf.Atom f os p) = refl
+    leaf_none (leaf.Typed n o p) = refl
+
+-- the open ones
 pub bare_own : (ls : List Leaf) (cs os : List CtxUse) (rs : List ℕ) (rest : List Item)
-    → flat_map bare_name ((map leaf_item ls ++ (map (used form.Bare) cs ++ (map item.RuleContext os ++ map item.Rule rs))) ++ rest) ≡ map (λ u. u.name) cs ++ flat_map bare_name rest
+    → flat_map bare_name ((map leaf_item ls ++ (map untyped cs ++ (map item.RuleContext os ++ map item.Rule rs))) ++ rest) ≡ flat_map open_use cs ++ flat_map bare_name rest
 bare_own ls cs os rs rest =
-    sections bare_name (map leaf_item ls) (map (used form.Bare) cs) (map item.RuleContext os) (map item.Rule rs) rest
-    ∙ (λ i. (none_of bare_name leaf_item leaf_none ls i ++ (one_of_each bare_name (used form.Bare) (λ u. u.name) (λ u. refl) cs i
+    sections bare_name (map leaf_item ls) (map untyped cs) (map item.RuleContext os) (map item.Rule rs) rest
+    ∙ (λ i. (none_of bare_name leaf_item leaf_none ls i ++ (each_of bare_name untyped open_use open_here cs i
     ++ (none_of bare_name item.RuleContext (λ u. refl) os i ++ none_of bare_name item.Rule (λ k. refl) rs i))) ++ flat_map bare_name rest)
-    ∙ ap (λ xs. xs ++ flat_map bare_name rest) (append-nil (map (λ u. u.name) cs))
+    ∙ ap (λ xs. xs ++ flat_map bare_name rest) (append-nil (flat_map open_use cs))
   where
     leaf_none : (l : Leaf) → bare_name (leaf_item l) ≡ []
     leaf_none (leaf.Atom f os p) = refl
     leaf_none (leaf.Typed n o p) = refl
 
+-- the closed ones
+pub closed_own : (ls : List Leaf) (cs os : List CtxUse) (rs : List ℕ) (rest : List Item)
+    → flat_map closed_name ((map leaf_item ls ++ (map untyped cs ++ (map item.RuleContext os ++ map item.Rule rs))) ++ rest) ≡ flat_map closed_use cs ++ flat_map closed_name rest
+closed_own ls cs os rs rest =
+    sections closed_name (map leaf_item ls) (map untyped cs) (map item.RuleContext os) (map item.Rule rs) rest
+    ∙ (λ i. (none_of closed_name leaf_item leaf_none ls i ++ (each_of closed_name untyped closed_use closed_here cs i
+    ++ (none_of closed_name item.RuleContext (λ u. refl) os i ++ none_of closed_name item.Rule (λ k. refl) rs i))) ++ flat_map closed_name rest)
+    ∙ ap (λ xs. xs ++ flat_map closed_name rest) (append-nil (flat_map closed_use cs))
+  where
+    leaf_none : (l : Leaf) → closed_name (leaf_item l) ≡ []
+    leaf_none (leaf.Atom f os p) = refl
+    leaf_none (leaf.Typed n o p) = refl
+
 -- and its rule contexts
 pub rule_context_own : (ls : List Leaf) (cs os : List CtxUse) (rs : List ℕ) (rest : List Item)
-    → flat_map rule_context_name ((map leaf_item ls ++ (map (used form.Bare) cs ++ (map item.RuleContext os ++ map item.Rule rs))) ++ rest) ≡ map (λ u. u.name) os ++ flat_map rule_context_name rest
+    → flat_map rule_context_name ((map leaf_item ls ++ (map untyped cs ++ (map item.RuleContext os ++ map item.Rule rs))) ++ rest) ≡ map (λ u. u.name) os ++ flat_map rule_context_name rest
 rule_context_own ls cs os rs rest =
-    sections rule_context_name (map leaf_item ls) (map (used form.Bare) cs) (map item.RuleContext os) (map item.Rule rs) rest
-    ∙ (λ i. (none_of rule_context_name leaf_item leaf_none ls i ++ (none_of rule_context_name (used form.Bare) (λ u. refl) cs i
+    sections rule_context_name (map leaf_item ls) (map untyped cs) (map item.RuleContext os) (map item.Rule rs) rest
+    ∙ (λ i. (none_of rule_context_name leaf_item leaf_none ls i ++ (none_of rule_context_name untyped (λ u. refl) cs i
     ++ (one_of_each rule_context_name item.RuleContext (λ u. u.name) (λ u. refl) os i ++ none_of rule_context_name item.Rule (λ k. refl) rs i))) ++ flat_map rule_context_name rest)
     ∙ ap (λ xs. xs ++ flat_map rule_context_name rest) (append-nil (map (λ u. u.name) os))
   where
@@ -93,19 +178,19 @@ rule_context_own ls cs os rs rest =
 
 -- and its typed contexts
 pub typed_own : (ls : List Leaf) (cs os : List CtxUse) (rs : List ℕ) (rest : List Item)
-    → flat_map typed_name ((map leaf_item ls ++ (map (used form.Bare) cs ++ (map item.RuleContext os ++ map item.Rule rs))) ++ rest) ≡ flat_map typed_name (map leaf_item ls) ++ flat_map typed_name rest
+    → flat_map typed_name ((map leaf_item ls ++ (map untyped cs ++ (map item.RuleContext os ++ map item.Rule rs))) ++ rest) ≡ flat_map typed_name (map leaf_item ls) ++ flat_map typed_name rest
 typed_own ls cs os rs rest =
-    sections typed_name (map leaf_item ls) (map (used form.Bare) cs) (map item.RuleContext os) (map item.Rule rs) rest
-    ∙ (λ i. (flat_map typed_name (map leaf_item ls) ++ (none_of typed_name (used form.Bare) (λ u. refl) cs i
+    sections typed_name (map leaf_item ls) (map untyped cs) (map item.RuleContext os) (map item.Rule rs) rest
+    ∙ (λ i. (flat_map typed_name (map leaf_item ls) ++ (none_of typed_name untyped typed_nowhere cs i
     ++ (none_of typed_name item.RuleContext (λ u. refl) os i ++ none_of typed_name item.Rule (λ k. refl) rs i))) ++ flat_map typed_name rest)
     ∙ ap (λ xs. xs ++ flat_map typed_name rest) (append-nil (flat_map typed_name (map leaf_item ls)))
 
 -- and its rules
 pub rule_own : (ls : List Leaf) (cs os : List CtxUse) (rs : List ℕ) (rest : List Item)
-    → flat_map rule_number ((map leaf_item ls ++ (map (used form.Bare) cs ++ (map item.RuleContext os ++ map item.Rule rs))) ++ rest) ≡ rs ++ flat_map rule_number rest
+    → flat_map rule_number ((map leaf_item ls ++ (map untyped cs ++ (map item.RuleContext os ++ map item.Rule rs))) ++ rest) ≡ rs ++ flat_map rule_number rest
 rule_own ls cs os rs rest =
-    sections rule_number (map leaf_item ls) (map (used form.Bare) cs) (map item.RuleContext os) (map item.Rule rs) rest
-    ∙ (λ i. (none_of rule_number leaf_item leaf_none ls i ++ (none_of rule_number (used form.Bare) (λ u. refl) cs i
+    sections rule_number (map leaf_item ls) (map untyped cs) (map item.RuleContext os) (map item.Rule rs) rest
+    ∙ (λ i. (none_of rule_number leaf_item leaf_none ls i ++ (none_of rule_number untyped (λ u. refl) cs i
     ++ (none_of rule_number item.RuleContext (λ u. refl) os i ++ numbers rs i))) ++ flat_map rule_number rest)
   where
     leaf_none : (l : Leaf) → rule_number (leaf_item l) ≡ []
@@ -164,13 +249,13 @@ abbrev the_rules : List Leaf → List CtxUse → List CtxUse → List ℕ → Li
 the_rules ls cs os rs = rs
 
 mutual
-  bare_used : (h : Head) → flat_map bare_name (head_uses h) ≡ map (λ u. u.name) (gathered the_contexts h)
-  bare_used (head ls hs cs os rs) = bare_own ls cs os rs (heads_uses hs) ∙ ap (λ ns. map (λ u. u.name) cs ++ ns) (all_bare_used hs) ∙ sym (map-append (λ u. u.name) cs (gathered_in the_contexts hs))
+  untyped_used : (h : Head) → flat_map untyped_name (head_uses h) ≡ map (λ u. u.name) (gathered the_contexts h)
+  untyped_used (head ls hs cs os rs) = untyped_own ls cs os rs (heads_uses hs) ∙ ap (λ ns. map (λ u. u.name) cs ++ ns) (all_untyped_used hs) ∙ sym (map-append (λ u. u.name) cs (gathered_in the_contexts hs))
 
-  all_bare_used : (hs : Heads) → flat_map bare_name (heads_uses hs) ≡ map (λ u. u.name) (gathered_in the_contexts hs)
-  all_bare_used no_head = refl
-  all_bare_used (head_and h hs) =
-      flat_map-append bare_name (head_uses h) (heads_uses hs) ∙ (λ i. bare_used h i ++ all_bare_used hs i) ∙ sym (map-append (λ u. u.name) (gathered the_contexts h) (gathered_in the_contexts hs))
+  all_untyped_used : (hs : Heads) → flat_map untyped_name (heads_uses hs) ≡ map (λ u. u.name) (gathered_in the_contexts hs)
+  all_untyped_used no_head = refl
+  all_untyped_used (head_and h hs) =
+      flat_map-append untyped_name (head_uses h) (heads_uses hs) ∙ (λ i. untyped_used h i ++ all_untyped_used hs i) ∙ sym (map-append (λ u. u.name) (gathered the_contexts h) (gathered_in the_contexts hs))
 
 mutual
   rule_contexts_used : (h : Head) → flat_map rule_context_name (head_uses h) ≡ map (λ u. u.name) (gathered the_rule_contexts h)
@@ -210,8 +295,8 @@ pub rules_are : (l : Level) → rules_of l ≡ flat_map rule_number (head_uses (
 rules_are l = same_gathered the_rules (λ l. l.rules) (λ l. refl) l ∙ sym (rules_used (head_at l))
 
 -- the contexts of a level are the untyped ones of its head
-pub contexts_are : (l : Level) → map (λ u. u.name) (contexts_of l) ≡ flat_map bare_name (head_uses (head_at l))
-contexts_are l = ap (map (λ u. u.name)) (same_gathered the_contexts (λ l. l.contexts) (λ l. refl) l) ∙ sym (bare_used (head_at l))
+pub contexts_are : (l : Level) → map (λ u. u.name) (contexts_of l) ≡ flat_map untyped_name (head_uses (head_at l))
+contexts_are l = ap (map (λ u. u.name)) (same_gathered the_contexts (λ l. l.contexts) (λ l. refl) l) ∙ sym (untyped_used (head_at l))
 
 -- and so are its rule contexts
 pub rule_contexts_are : (l : Level) → map (λ u. u.name) (rule_contexts_of l) ≡ flat_map rule_context_name (head_uses (head_at l))

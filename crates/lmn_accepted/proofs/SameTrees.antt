@@ -6,7 +6,7 @@ use Rattle.lmn_base.specs.declared.level.Level.TheFolds.{fold-roll-Level}
 use Rattle.lmn_base.specs.declared.level.Occ.{Occ}
 use Rattle.lmn_base.specs.Names.{IsNames}
 use Rattle.lmn_congruence.specs.Rules as tree
-use Rattle.lmn_congruence.specs.Translation.{atom_or_connector, leaf_of, name_of, names_of, levels, rules, level_step, level_of}
+use Rattle.lmn_congruence.specs.Translation.{atom_or_connector, leaf_of, name_of, names_of, context_with, context_tree, levels, rules, level_step, level_of}
 use Rattle.lmn_plain.specs.Links.{Link, Use}
 use Rattle.lmn_plain.specs.Expanded as expanded
 use Rattle.lmn_plain.specs.Expanded.{ExpandedLeaf, atom_leaf, typed_leaf, Context, ExpandedLevel, level, ExpandedLevels, no_level, level_and, use_links, expanded_leaf_links, expanded_leaves_links, expanded_links_in}
@@ -48,6 +48,11 @@ module _ (names others : List tree.Name) (is : IsNames names) (are : IsNames oth
     contexts_same [] h k = refl
     contexts_same (c ∷ cs) h k = let first = same c.name h.0 k.0 in let more = contexts_same cs h.1 k.1 in λ i. first i ∷ more i
 
+    untyped_same : (cs : List Context) → AllByRecursion (ContextHeld names) cs → AllByRecursion (ContextHeld others) cs
+        → map (context_tree names) (map (numbered_context names f) cs) ≡ map (context_tree others) (map (numbered_context others g) cs)
+    untyped_same [] h k = refl
+    untyped_same (c ∷ cs) h k = let first = same c.name h.0 k.0 in let more = untyped_same cs h.1 k.1 in λ i. context_with c.closed (first i) ∷ more i
+
     -- the rules with one number are one
     module _ (rule other : ℕ → tree.Rule) (rules_same : rule ≡ other) where
       mutual
@@ -56,12 +61,12 @@ module _ (names others : List tree.Name) (is : IsNames names) (are : IsNames oth
         level_same (level ls ms cs os rs) h k a =
             let leaves = leaves_same ls h.0 k.0 (all_front (λ b. f b ≡ g b) (expanded_leaves_links ls) (expanded_links_in ms) a) in
             let membranes = levels_same ms h.1 k.1 (all_back (λ b. f b ≡ g b) (expanded_leaves_links ls) (expanded_links_in ms) a) in
-            let contexts = contexts_same cs h.2 k.2 in
+            let contexts = untyped_same cs h.2 k.2 in
             let rule_contexts = contexts_same os h.3 k.3 in
             let parts : tree.level (map (leaf_of names) (map (numbered_leaf names f) ls)) (levels (map (level_of names rule) (all_numbered names f ms)))
-            (names_of names (map (numbered_context names f) cs)) (names_of names (map (numbered_context names f) os)) (rules (map rule rs))
+            (map (context_tree names) (map (numbered_context names f) cs)) (names_of names (map (numbered_context names f) os)) (rules (map rule rs))
             ≡ tree.level (map (leaf_of others) (map (numbered_leaf others g) ls)) (levels (map (level_of others other) (all_numbered others g ms)))
-            (names_of others (map (numbered_context others g) cs)) (names_of others (map (numbered_context others g) os)) (rules (map other rs)) =
+            (map (context_tree others) (map (numbered_context others g) cs)) (names_of others (map (numbered_context others g) os)) (rules (map other rs)) =
             λ i. tree.level (leaves i) (membranes i) (contexts i) (rule_contexts i) (rules (map (rules_same i) rs)) in
             fold-roll-Level tree.Level (level_step names rule) _ ∙ parts ∙ sym (fold-roll-Level tree.Level (level_step others other) _)
 

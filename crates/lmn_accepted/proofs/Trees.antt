@@ -1,5 +1,5 @@
 -- Levels as trees of the calculus: the contexts, links and rules that stand in them, by the items of the level.
-use Rattle.std.proofs.Common.{ℕ, zero, suc, ◌≡◌, List, [], ◌∷◌, ◌++◌, map, length, refl, sym, ap, ◌∙◌}
+use Rattle.std.proofs.Common.{ℕ, zero, suc, ◌≡◌, Bool, true, false, cond, List, [], ◌∷◌, ◌++◌, map, length, refl, sym, ap, ◌∙◌}
 use Rattle.std.specs.List.{AllByRecursion, flat_map}
 use Rattle.std.proofs.lemmas.List.{length-map, map-append}
 use Rattle.std.proofs.lemmas.List.Concat.{flat_map-append}
@@ -13,15 +13,32 @@ use Rattle.lmn_base.specs.declared.level.Level.{Level}
 use Rattle.lmn_base.specs.Items.{leaf_item}
 use Rattle.lmn_base.specs.RuleCodes.{behind_the_first}
 use Rattle.lmn_base.specs.Solids.{connector}
-use Rattle.lmn_adequacy.specs.Accepted.{EachLevel, EachOf, NoConnectorLeaf, AtMostOne, own_leaves, own_contexts, own_rule_contexts, own_rules, all_contexts, contexts_in, all_rule_contexts, rule_contexts_in, typed_links_of, typed_links, typed_links_in, port_links_of, port_links, port_links_in}
+use Rattle.lmn_adequacy.specs.Accepted.{EachLevel, EachOf, NoConnectorLeaf, AtMostOne, own_leaves, own_contexts, own_rule_contexts, own_rules, all_contexts, contexts_in, open_names, closed_names, all_rule_contexts, rule_contexts_in, typed_links_of, typed_links, typed_links_in, port_links_of, port_links, port_links_in}
 use Rattle.lmn_congruence.specs.Rules as tree
-use Rattle.lmn_congruence.specs.Translation.{atom_or_connector, leaf_of, names_of, rules}
+use Rattle.lmn_congruence.specs.Translation.{atom_or_connector, leaf_of, name_of, names_of, context_with, context_tree, rules}
 use Rattle.lmn_reduction.specs.Firing.{typed_leaves, typed_contexts, typed_contexts_in}
 use Rattle.lmn_solid.proofs.HeadTrees.{Head, Heads, head, no_head, head_and, head_leaves, heads_leaves, head_uses, heads_uses}
 use Rattle.lmn_accepted.proofs.Listed.{N}
-use Rattle.lmn_accepted.proofs.Items.{bare_name, typed_name, rule_context_name, rule_number, gathered, gathered_in, own_seconds, bare_own, rule_context_own, typed_own, rule_own}
+use Rattle.lmn_accepted.proofs.Items.{untyped_name, bare_name, closed_name, typed_name, rule_context_name, rule_number, open_use, closed_use, gathered, gathered_in, own_seconds, untyped_own, bare_own, closed_own, rule_context_own, typed_own, rule_own}
 use Rattle.lmn_base.proofs.Lists.{all_left as all_front, all_right as all_back, two_empty}
 use Rattle.lmn_bridge.proofs.HeadTrees.{tree_of, trees_of}
+
+-- ---- the names of contexts
+
+-- the name of a context, open or closed
+abbrev pub name_in : tree.Context → tree.Name
+name_in (tree.open_context p) = p
+name_in (tree.closed_context p) = p
+
+open_names_append : (ps qs : List tree.Context) → open_names (ps ++ qs) ≡ open_names ps ++ open_names qs
+open_names_append [] qs = refl
+open_names_append (tree.open_context p ∷ ps) qs = ap (λ ns. p ∷ ns) (open_names_append ps qs)
+open_names_append (tree.closed_context p ∷ ps) qs = open_names_append ps qs
+
+closed_names_append : (ps qs : List tree.Context) → closed_names (ps ++ qs) ≡ closed_names ps ++ closed_names qs
+closed_names_append [] qs = refl
+closed_names_append (tree.open_context p ∷ ps) qs = closed_names_append ps qs
+closed_names_append (tree.closed_context p ∷ ps) qs = ap (λ ns. p ∷ ns) (closed_names_append ps qs)
 
 -- ---- of the tree
 
@@ -30,17 +47,73 @@ module _ (names : List tree.Name) (rule : ℕ → tree.Rule) where
   named [] = refl
   named (u ∷ us) = ap (λ ns. N names u.name ∷ ns) (named us)
 
-  mutual
-    pub contexts_named : (h : Head) → all_contexts (tree_of names rule h) ≡ map (N names) (flat_map bare_name (head_uses h))
-    contexts_named (head ls hs cs os rs) =
-        (λ i. sym (named cs) i ++ all_contexts_named hs i) ∙ sym (map-append (N names) (map (λ u. u.name) cs) (flat_map bare_name (heads_uses hs)))
-        ∙ sym (ap (map (N names)) (bare_own ls cs os rs (heads_uses hs)))
+  -- contexts by their uses
 
-    all_contexts_named : (hs : Heads) → contexts_in (trees_of names rule hs) ≡ map (N names) (flat_map bare_name (heads_uses hs))
+  names_of_uses : (us : List CtxUse) → map name_in (map (context_tree names) us) ≡ map (N names) (map (λ u. u.name) us)
+  names_of_uses [] = refl
+  names_of_uses (u ∷ us) = λ i. one u.closed i ∷ names_of_uses us i
+    where
+      one : (closed : Bool) → name_in (context_with closed (N names u.name)) ≡ N names u.name
+      one true = refl
+      one false = refl
+
+  open_of_uses : (us : List CtxUse) → open_names (map (context_tree names) us) ≡ map (N names) (flat_map open_use us)
+  open_of_uses [] = refl
+  open_of_uses (u ∷ us) = one u.closed ∙ ap (λ ns. map (N names) (open_use u) ++ ns) (open_of_uses us) ∙ sym (map-append (N names) (open_use u) (flat_map open_use us))
+    where
+      one : (closed : Bool) → open_names (context_with closed (N names u.name) ∷ map (context_tree names) us) ≡ map (N names) (cond closed [] (u.name ∷ [])) ++ open_names (map (context_tree names) us)
+      one true = refl
+      one false = refl
+
+  closed_of_uses : (us : List CtxUse) → closed_names (map (context_tree names) us) ≡ map (N names) (flat_map closed_use us)
+  closed_of_uses [] = refl
+  closed_of_uses (u ∷ us) = one u.closed ∙ ap (λ ns. map (N names) (closed_use u) ++ ns) (closed_of_uses us) ∙ sym (map-append (N names) (closed_use u) (flat_map closed_use us))
+    where
+      one : (closed : Bool) → closed_names (context_with closed (N names u.name) ∷ map (context_tree names) us) ≡ map (N names) (cond closed (u.name ∷ []) []) ++ closed_names (map (context_tree names) us)
+      one true = refl
+      one false = refl
+
+  mutual
+    pub contexts_named : (h : Head) → map name_in (all_contexts (tree_of names rule h)) ≡ map (N names) (flat_map untyped_name (head_uses h))
+    contexts_named (head ls hs cs os rs) =
+        map-append name_in (map (context_tree names) cs) (contexts_in (trees_of names rule hs))
+        ∙ (λ i. names_of_uses cs i ++ all_contexts_named hs i) ∙ sym (map-append (N names) (map (λ u. u.name) cs) (flat_map untyped_name (heads_uses hs)))
+        ∙ sym (ap (map (N names)) (untyped_own ls cs os rs (heads_uses hs)))
+
+    all_contexts_named : (hs : Heads) → map name_in (contexts_in (trees_of names rule hs)) ≡ map (N names) (flat_map untyped_name (heads_uses hs))
     all_contexts_named no_head = refl
     all_contexts_named (head_and h hs) =
-        (λ i. contexts_named h i ++ all_contexts_named hs i) ∙ sym (map-append (N names) (flat_map bare_name (head_uses h)) (flat_map bare_name (heads_uses hs)))
+        map-append name_in (all_contexts (tree_of names rule h)) (contexts_in (trees_of names rule hs))
+        ∙ (λ i. contexts_named h i ++ all_contexts_named hs i) ∙ sym (map-append (N names) (flat_map untyped_name (head_uses h)) (flat_map untyped_name (heads_uses hs)))
+        ∙ sym (ap (map (N names)) (flat_map-append untyped_name (head_uses h) (heads_uses hs)))
+
+  mutual
+    pub open_named : (h : Head) → open_names (all_contexts (tree_of names rule h)) ≡ map (N names) (flat_map bare_name (head_uses h))
+    open_named (head ls hs cs os rs) =
+        open_names_append (map (context_tree names) cs) (contexts_in (trees_of names rule hs))
+        ∙ (λ i. open_of_uses cs i ++ all_open_named hs i) ∙ sym (map-append (N names) (flat_map open_use cs) (flat_map bare_name (heads_uses hs)))
+        ∙ sym (ap (map (N names)) (bare_own ls cs os rs (heads_uses hs)))
+
+    all_open_named : (hs : Heads) → open_names (contexts_in (trees_of names rule hs)) ≡ map (N names) (flat_map bare_name (heads_uses hs))
+    all_open_named no_head = refl
+    all_open_named (head_and h hs) =
+        open_names_append (all_contexts (tree_of names rule h)) (contexts_in (trees_of names rule hs))
+        ∙ (λ i. open_named h i ++ all_open_named hs i) ∙ sym (map-append (N names) (flat_map bare_name (head_uses h)) (flat_map bare_name (heads_uses hs)))
         ∙ sym (ap (map (N names)) (flat_map-append bare_name (head_uses h) (heads_uses hs)))
+
+  mutual
+    pub closed_named : (h : Head) → closed_names (all_contexts (tree_of names rule h)) ≡ map (N names) (flat_map closed_name (head_uses h))
+    closed_named (head ls hs cs os rs) =
+        closed_names_append (map (context_tree names) cs) (contexts_in (trees_of names rule hs))
+        ∙ (λ i. closed_of_uses cs i ++ all_closed_named hs i) ∙ sym (map-append (N names) (flat_map closed_use cs) (flat_map closed_name (heads_uses hs)))
+        ∙ sym (ap (map (N names)) (closed_own ls cs os rs (heads_uses hs)))
+
+    all_closed_named : (hs : Heads) → closed_names (contexts_in (trees_of names rule hs)) ≡ map (N names) (flat_map closed_name (heads_uses hs))
+    all_closed_named no_head = refl
+    all_closed_named (head_and h hs) =
+        closed_names_append (all_contexts (tree_of names rule h)) (contexts_in (trees_of names rule hs))
+        ∙ (λ i. closed_named h i ++ all_closed_named hs i) ∙ sym (map-append (N names) (flat_map closed_name (head_uses h)) (flat_map closed_name (heads_uses hs)))
+        ∙ sym (ap (map (N names)) (flat_map-append closed_name (head_uses h) (heads_uses hs)))
 
   mutual
     pub rule_contexts_named : (h : Head) → all_rule_contexts (tree_of names rule h) ≡ map (N names) (flat_map rule_context_name (head_uses h))
@@ -179,16 +252,16 @@ module _ (names : List tree.Name) (rule : ℕ → tree.Rule) where
   abbrev pub Few : tree.Level → Type 0
   Few l = AtMostOne (own_contexts l) × AtMostOne (own_rule_contexts l)
 
-  at_most_one : (us : List CtxUse) → behind_the_first us ≡ [] → AtMostOne (names_of names us)
-  at_most_one [] e = tt
-  at_most_one (u ∷ []) e = tt
-  at_most_one (u ∷ (v ∷ us)) e = absurd (cc)
+  at_most_one : {X : Type 0} (f : CtxUse → X) (us : List CtxUse) → behind_the_first us ≡ [] → AtMostOne (map f us)
+  at_most_one f [] e = tt
+  at_most_one f (u ∷ []) e = tt
+  at_most_one f (u ∷ (v ∷ us)) e = absurd (cc)
 
   mutual
     few_here : (h : Head) → AllByRecursion (λ ps. ps ≡ []) (gathered own_seconds h) → EachLevel Few (tree_of names rule h)
     few_here (head ls hs cs os rs) k =
         let apart = two_empty (behind_the_first cs) (behind_the_first os) k.0 in
-        ((at_most_one cs apart.0, at_most_one os apart.1), few_in hs k.1)
+        ((at_most_one (context_tree names) cs apart.0, at_most_one (λ u. name_of names u.name) os apart.1), few_in hs k.1)
 
     pub few_in : (hs : Heads) → AllByRecursion (λ ps. ps ≡ []) (gathered_in own_seconds hs) → EachOf Few (trees_of names rule hs)
     few_in no_head k = tt

@@ -93,7 +93,7 @@ mutual
 
 -- an accepted rule has a head that is allowed
 pub accepted_head : (r : Rule) → Accepted r → HeadAllowed r
-accepted_head r a t g = head_level t (head_of r) a.no_connectors (λ p k. typed_ground a t g p k)
+accepted_head r a = (a.once.0, λ t g. head_level t (head_of r) a.no_connectors (λ p k. typed_ground a t g p k))
 
 bare_level : (l : Level) → own_contexts l ≡ [] → own_rule_contexts l ≡ [] → own_rules l ≡ no_rule → l ≡ level (own_leaves l) (own_membranes l) [] [] no_rule
 bare_level (level leaves membranes contexts rule_contexts rules) c d e = cc (c, d, e)

@@ -5,19 +5,21 @@ use Rattle.lmn_congruence.specs.FreeLinks.{link_bound}
 use Rattle.lmn_congruence.specs.LinkedRules.{level_occurrences}
 use Rattle.lmn_congruence.specs.Links.{places}
 use Rattle.lmn_congruence.specs.Orders.{Put, Shuffle, here, more, none, there}
-use Rattle.lmn_congruence.specs.Process.{OneToOneOn, Process, occurrences, renamed, together}
-use Rattle.lmn_congruence.specs.Rules.{Level, Name}
+use Rattle.lmn_congruence.specs.Process.{Closed, OneToOneOn, Process, occurrences, renamed, together}
+use Rattle.lmn_congruence.specs.Rules.{Context, Level, Name, closed_context, open_context}
 use Rattle.lmn_reduction.specs.Assignments.{Assignment}
 use Rattle.lmn_reduction.specs.Instances.{Instance}
 use Rattle.lmn_reduction.specs.Parts.{Rooted}
 use Rattle.lmn_congruence.proofs.Counts.{none_if_apart}
 use Rattle.lmn_congruence.proofs.Crossings.{occurs_below}
 use Rattle.lmn_congruence.proofs.Renaming.{occurrences_image, occurrences_none}
-use Rattle.lmn_adequacy.specs.Accepted.{all_contexts}
+use Rattle.lmn_adequacy.specs.Accepted.{all_contexts, open_names}
 use Rattle.lmn_adequacy.specs.Loose.{Plain}
+use Rattle.lmn_adequacy.proofs.Embedding.{EvenMore}
 use Rattle.lmn_adequacy.proofs.Exposing.{Source, found, missing, source}
 use Rattle.lmn_adequacy.proofs.RawProcesses.{made}
 use Rattle.lmn_adequacy.proofs.Skeleton.{copy_map, copy_one, copy_other, copy_root}
+use Rattle.lmn_adequacy.proofs.Wires.{zero_or_two_even}
 use Rattle.lmn_splice.specs.Splice.{of_rule, of_solid}
 use Rattle.lmn_splice.proofs.Fusions.{apart_rule as even_not_odd, solid_once as odd_differs}
 
@@ -49,25 +51,37 @@ copied_more from middle next L n n' m m' b b' c d = record { copies = c.copies +
         clash i j = absurd (omega arith)
 
 module _ (t : Assignment) (p : Plain t) where
-  -- how often a link occurs in what contexts stand for
+  -- how often a link occurs in what open contexts stand for
   abbrev pub context_places : ℕ → List Name → ℕ
-  context_places L ps = occurrences L (together (map t.context_of ps))
+  context_places L ps = occurrences L (together (map (λ q. t.context_of (open_context q)) ps))
 
   pub context_places_append : (L : ℕ) (ps qs : List Name) → context_places L (ps ++ qs) ≡ context_places L ps + context_places L qs
   context_places_append L [] qs = omega arith
   context_places_append L (q ∷ ps) qs = omega (arith, context_places_append L ps qs)
 
-  pub context_places_put : (L : ℕ) {q : Name} {ps qs : List Name} → Put q ps qs → context_places L qs ≡ occurrences L (t.context_of q) + context_places L ps
+  pub context_places_put : (L : ℕ) {q : Name} {ps qs : List Name} → Put q ps qs → context_places L qs ≡ occurrences L (t.context_of (open_context q)) + context_places L ps
   context_places_put L here = refl
   context_places_put L (there k) = omega (arith, context_places_put L k)
 
   pub context_places_shuffle : (L : ℕ) {ps qs : List Name} → Shuffle (λ a b. a ≡ b) ps qs → context_places L ps ≡ context_places L qs
   context_places_shuffle L none = refl
-  context_places_shuffle L (more e s k) = omega (arith, ap (λ i. occurrences L (t.context_of i)) e, context_places_shuffle L s, context_places_put L k)
+  context_places_shuffle L (more e s k) = omega (arith, ap (λ i. occurrences L (t.context_of (open_context i))) e, context_places_shuffle L s, context_places_put L k)
 
-  pub odd_contexts : (L : ℕ) (ps : List Name) → occurrences (of_solid L) (together (map (made t).context_of ps)) ≡ context_places L ps
-  odd_contexts L [] = refl
-  odd_contexts L (q ∷ ps) = omega (arith, occurrences_image of_solid L (t.context_of q) (λ z o e. odd_differs z L e), odd_contexts L ps)
+  pub open_places_append : (L : ℕ) (ps qs : List Context) → context_places L (open_names (ps ++ qs)) ≡ context_places L (open_names ps) + context_places L (open_names qs)
+  open_places_append L [] qs = omega arith
+  open_places_append L (open_context q ∷ ps) qs = omega (arith, open_places_append L ps qs)
+  open_places_append L (closed_context q ∷ ps) qs = open_places_append L ps qs
+
+  -- beside those of open contexts a link has an even number of places in contexts
+  pub odd_contexts : (L : ℕ) (ps : List Context) → EvenMore (occurrences (of_solid L) (together (map (made t).context_of ps))) (context_places L (open_names ps))
+  odd_contexts L [] = record { half = 0; is = refl }
+  odd_contexts L (open_context q ∷ ps) =
+      let k = odd_contexts L ps in
+      record { half = k.half; is = omega (arith, occurrences_image of_solid L (t.context_of (open_context q)) (λ z o e. odd_differs z L e), k.is) }
+  odd_contexts L (closed_context q ∷ ps) =
+      let k = odd_contexts L ps in
+      let e = zero_or_two_even (occurrences L (t.context_of (closed_context q))) (p.closed q L) in
+      record { half = e.0 + k.half; is = omega (arith, occurrences_image of_solid L (t.context_of (closed_context q)) (λ z o e. odd_differs z L e), e.1, k.is) }
 
   pub odd_not_even : (L : ℕ) (ys : List ℕ) → places (of_solid L) (map of_rule ys) ≡ 0
   odd_not_even L [] = refl
@@ -80,13 +94,27 @@ module _ (t : Assignment) (p : Plain t) where
     pub count : (x : ℕ) → occurrences (of_rule x) process ≡ level_occurrences x l
     pub next : ℕ
     pub later : from ≤ next
-    pub odd : (L : ℕ) → Copied from next L (context_places L (all_contexts l)) (occurrences (of_solid L) process)
+    pub odd : (L : ℕ) → Copied from next L (context_places L (open_names (all_contexts l))) (occurrences (of_solid L) process)
 
   abbrev pub past : ℕ → ℕ → ℕ
   past N y = N + y
 
   pub past_differs : (N y z : ℕ) → past N y ≡ past N z → y ≡ z
   past_differs N y z e = omega (arith, e)
+
+  -- the links of a copy of a closed process, with numbers from N on
+  pub copied_closed : (N L : ℕ) (P : Process) → Closed P → Copied N (N + link_bound P) L 0 (occurrences L (renamed (past N) P))
+  copied_closed N L P c = go (source (past N) P L)
+    where
+      two : (z : ℕ) → occurrences z P ≢ 0 → (occurrences z P ≡ 0) ⊎ (occurrences z P ≡ 2) → occurrences z P ≡ 2
+      two z o (inl e) = absurd (o e)
+      two z o (inr e) = e
+
+      go : Source (past N) P L → Copied N (N + link_bound P) L 0 (occurrences L (renamed (past N) P))
+      go (found z o e) =
+          let n : occurrences (past N z) (renamed (past N) P) ≡ occurrences z P = occurrences_image (past N) z P (λ z' o' q. past_differs N z' z q) in
+          record { copies = 2; is = ap (λ k. occurrences k (renamed (past N) P)) (sym e) ∙ n ∙ two z o (c z); whole = inr (refl, omega (arith, e), omega (arith, e, occurs_below P z o)) }
+      go (missing h) = copied_none N (N + link_bound P) L 0 _ (occurrences_none (past N) L P h)
 
   -- the links of a copy whose links but the root have numbers from N on
   pub copied_links : (N y L : ℕ) (g : Rooted) → Whole g → Copied N (N + link_bound g.process) L 0 (occurrences (of_solid L) (renamed (copy_map t p g (past N) y) g.process))

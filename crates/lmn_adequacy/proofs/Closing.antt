@@ -11,21 +11,22 @@ use Rattle.lmn_congruence.specs.UpToOrder.{Reordered, r_beside, r_chain, r_regro
 use Rattle.lmn_reduction.specs.Assignments.{Assignment}
 use Rattle.lmn_reduction.specs.Firing.{typed_contexts, typed_contexts_in, typed_leaves}
 use Rattle.lmn_reduction.specs.Guards.{GuardHolds, alike, binds, condition_and}
-use Rattle.lmn_reduction.specs.Instances.{Instance, IsCopy, LeafInstances, MembraneInstances, instance, leaf_and, membrane_and, no_leaf, no_membrane, of_atom, of_connector, of_typed}
+use Rattle.lmn_reduction.specs.Instances.{IsCopy, LeafInstances, leaf_and, no_leaf, of_atom, of_connector, of_typed}
 use Rattle.lmn_reduction.specs.Parts.{IsGround, IsInteger, Rooted, an_integer}
 use Rattle.lmn_congruence.proofs.Counts.{linked_inside, linked_left, linked_right}
 use Rattle.lmn_congruence.proofs.Crossings.{occurrences_above}
 use Rattle.lmn_congruence.proofs.LinkMaps.{closed_linked}
 use Rattle.lmn_congruence.proofs.Renaming.{occurrences_image, occurrences_none}
 use Rattle.lmn_congruence.proofs.Reordered.{r_right, reordered_count}
-use Rattle.lmn_adequacy.specs.Accepted.{Accepted, all_contexts, contexts_in, left_sides}
+use Rattle.lmn_adequacy.specs.Accepted.{Accepted, all_contexts, contexts_in, left_sides, open_names}
 use Rattle.lmn_adequacy.specs.Loose.{Plain}
 use Rattle.lmn_adequacy.proofs.Accepting.{accepted_head, integer_ground, typed_ground}
-use Rattle.lmn_adequacy.proofs.Bodies.{Copied, Whole, context_places, context_places_append, context_places_shuffle, odd_contexts, odd_not_even, LevelMade}
+use Rattle.lmn_adequacy.proofs.Bodies.{Copied, Whole, context_places, context_places_shuffle, open_places_append, odd_contexts, odd_not_even, LevelMade}
 use Rattle.lmn_adequacy.proofs.Embedding.{EvenMore, not_one_even}
 use Rattle.lmn_adequacy.proofs.Exposing.{Source, found, missing, source}
 use Rattle.lmn_adequacy.proofs.Heads.{HeadLeaves, HeadLevel, HeadLevels}
 use Rattle.lmn_adequacy.proofs.Images.{image_at_least, no_link_rule_contexts}
+use Rattle.lmn_adequacy.proofs.LiteralHeads.{HeadInstance, HeadInstances, head_and, head_instance, no_head}
 use Rattle.lmn_adequacy.proofs.Orders.{either}
 use Rattle.lmn_adequacy.proofs.RawProcesses.{head_wires, made}
 use Rattle.lmn_adequacy.proofs.Skeleton.{LevelSkeleton, Parity, even, odd, parity, place}
@@ -61,21 +62,22 @@ module _ (t : Assignment) (p : Plain t) where
       (k.0 + i.0, omega (arith, k.1, i.1))
 
   mutual
-    odd_level : (L : ℕ) {l : Level} {C : Process} → Instance (made t) l C → HeadLevel t l → Linked C → EvenMore (occurrences (of_solid L) C) (context_places t p L (all_contexts l))
-    odd_level L (instance {membranes = membranes} {contexts = ps} {rule_contexts = qs} {rules = rs} i j) a l =
+    odd_level : (L : ℕ) {l : Level} {C : Process} → HeadInstance (made t) l C → HeadLevel t l → Linked C → EvenMore (occurrences (of_solid L) C) (context_places t p L (open_names (all_contexts l)))
+    odd_level L (head_instance {membranes = membranes} {contexts = ps} {rule_contexts = qs} {rules = rs} i j) a l =
         let m = odd_leaves L i a.0 (linked_left l) in
         let n = odd_levels L j a.1 (linked_left (linked_right l)) in
+        let k = odd_contexts t p L ps in
         record {
-          half = m.0 + n.half;
-          is = omega (arith, m.1, n.is, odd_contexts t p L ps, context_places_append t p L ps (contexts_in membranes), no_link_rule_contexts (made t) (of_solid L) qs, no_link_rules (of_solid L) (rules_list rs));
+          half = m.0 + n.half + k.half;
+          is = omega (arith, m.1, n.is, k.is, open_places_append t p L ps (contexts_in membranes), no_link_rule_contexts (made t) (of_solid L) qs, no_link_rules (of_solid L) (rules_list rs));
         }
 
-    odd_levels : (L : ℕ) {ls : Levels} {Qs : List Process} → MembraneInstances (made t) ls Qs → HeadLevels t ls → Linked (together Qs) → EvenMore (occurrences (of_solid L) (together Qs)) (context_places t p L (contexts_in ls))
-    odd_levels L no_membrane a l = record { half = 0; is = refl }
-    odd_levels L (membrane_and {l = k} {ls = ks} i j) a l =
+    odd_levels : (L : ℕ) {ls : Levels} {Qs : List Process} → HeadInstances (made t) ls Qs → HeadLevels t ls → Linked (together Qs) → EvenMore (occurrences (of_solid L) (together Qs)) (context_places t p L (open_names (contexts_in ls)))
+    odd_levels L no_head a l = record { half = 0; is = refl }
+    odd_levels L (head_and {l = k} {ls = ks} i j) a l =
         let m = odd_level L i a.0 (linked_inside (linked_left l)) in
         let n = odd_levels L j a.1 (linked_right l) in
-        record { half = m.half + n.half; is = omega (arith, m.is, n.is, context_places_append t p L (all_contexts k) (contexts_in ks)) }
+        record { half = m.half + n.half; is = omega (arith, m.is, n.is, open_places_append t p L (all_contexts k) (contexts_in ks)) }
 
 -- ---- what typed contexts stand for has no link in more than two places
 
@@ -94,12 +96,12 @@ module _ (t s : Assignment) (same_typed : (q : Name) → s.typed_of q ≡ t.type
   leaves_whole (leaf_and (of_typed c) j) a l q (further k) = leaves_whole j a.1 (linked_right l) q k
 
   mutual
-    level_whole : {l : Level} {C : Process} → Instance s l C → HeadLevel t l → Linked C → (q : Name) → Among q (typed_contexts l) → Whole (t.typed_of q)
-    level_whole (instance {leaves = leaves} {membranes = membranes} i j) a l q k = either (among_append (typed_leaves leaves) (typed_contexts_in membranes) k) (leaves_whole i a.0 (linked_left l) q) (levels_whole j a.1 (linked_left (linked_right l)) q)
+    level_whole : {l : Level} {C : Process} → HeadInstance s l C → HeadLevel t l → Linked C → (q : Name) → Among q (typed_contexts l) → Whole (t.typed_of q)
+    level_whole (head_instance {leaves = leaves} {membranes = membranes} i j) a l q k = either (among_append (typed_leaves leaves) (typed_contexts_in membranes) k) (leaves_whole i a.0 (linked_left l) q) (levels_whole j a.1 (linked_left (linked_right l)) q)
 
-    levels_whole : {ls : Levels} {Qs : List Process} → MembraneInstances s ls Qs → HeadLevels t ls → Linked (together Qs) → (q : Name) → Among q (typed_contexts_in ls) → Whole (t.typed_of q)
-    levels_whole no_membrane a l q k = elim k [ ]
-    levels_whole (membrane_and {l = l'} {ls = ls} i j) a l q k = either (among_append (typed_contexts l') (typed_contexts_in ls) k) (level_whole i a.0 (linked_inside (linked_left l)) q) (levels_whole j a.1 (linked_right l) q)
+    levels_whole : {ls : Levels} {Qs : List Process} → HeadInstances s ls Qs → HeadLevels t ls → Linked (together Qs) → (q : Name) → Among q (typed_contexts_in ls) → Whole (t.typed_of q)
+    levels_whole no_head a l q k = elim k [ ]
+    levels_whole (head_and {l = l'} {ls = ls} i j) a l q k = either (among_append (typed_contexts l') (typed_contexts_in ls) k) (level_whole i a.0 (linked_inside (linked_left l)) q) (levels_whole j a.1 (linked_right l) q)
 
 integer_whole : (n : ℤ) (g : Rooted) → IsInteger n g → Whole g
 integer_whole n g (an_integer {x = x}) z d = inl (none z x d)
@@ -158,17 +160,17 @@ module _ (r : Rule) (a : Accepted r) (t : Assignment) (p : Plain t) (g : GuardHo
       let l : Linked (pair (region_process m) O) = closed_linked closed in
       record { at_most_twice = λ z. omega (arith, image_at_least (place t p) z head, reordered_count head_order (place t p z), l.at_most_twice (place t p z)) }
 
-  head_instance : Instance (made t) (level leaves membranes [] [] no_rule) head
-  head_instance = instance u.leaf_instances u.membrane_instances
+  head_here : HeadInstance (made t) (level leaves membranes [] [] no_rule) head
+  head_here = head_instance u.leaf_instances u.membrane_instances
 
   head_ground : HeadLevel t (level leaves membranes [] [] no_rule)
-  head_ground = subst (HeadLevel t) is (accepted_head r a t g)
+  head_ground = subst (HeadLevel t) is ((accepted_head r a).1 t g)
 
   head_count : (x : ℕ) → occurrences (of_rule x) head ≡ level_occurrences x (head_of r)
   head_count x = subst (λ k. occurrences (of_rule x) head ≡ level_occurrences x k) (sym is) (omega (arith, u.count x))
 
   pub head_whole : (q : Name) → Among q (typed_contexts (head_of r)) → Whole (t.typed_of q)
-  head_whole q k = level_whole t (made t) (λ q. refl) head_instance head_ground head_linked q (subst (λ l. Among q (typed_contexts l)) is k)
+  head_whole q k = level_whole t (made t) (λ q. refl) head_here head_ground head_linked q (subst (λ l. Among q (typed_contexts l)) is k)
 
   abbrev N : ℕ
   N = link_bound (region_process m) + link_bound O
@@ -194,11 +196,11 @@ module _ (r : Rule) (a : Accepted r) (t : Assignment) (p : Plain t) (g : GuardHo
 
     odd_links : (L : ℕ) → (occurrences (of_solid L) (pair raw (renamed of_solid O)) ≡ 0) ⊎ (occurrences (of_solid L) (pair raw (renamed of_solid O)) ≡ 2)
     odd_links L =
-        let c = context_places t p L (all_contexts (body_of r)) in
+        let c = context_places t p L (open_names (all_contexts (body_of r))) in
         let q = occurrences L (renamed (place t p) head) in
         let o = occurrences L (region_process rest) + occurrences L O in
-        let e = odd_level t p L head_instance head_ground head_linked in
-        let k : context_places t p L (all_contexts (level leaves membranes [] [] no_rule)) ≡ c = subst (λ l. context_places t p L (all_contexts l) ≡ c) is (context_places_shuffle t p L a.kept) in
+        let e = odd_level t p L head_here head_ground head_linked in
+        let k : context_places t p L (open_names (all_contexts (level leaves membranes [] [] no_rule))) ≡ c = subst (λ l. context_places t p L (open_names (all_contexts l)) ≡ c) is (context_places_shuffle t p L a.kept) in
         let s = same_parity t (head_of r) bound bounded p head head_count head_linked L in
         let w = places_enough t (head_of r) bound bounded p head head_count head_linked L in
         let d : q + occurrences L (region_process rest) ≡ occurrences L (region_process m) = reordered_count head_order L in

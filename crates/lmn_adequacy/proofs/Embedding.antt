@@ -2,18 +2,18 @@
 use Rattle.std.proofs.Common.{ℕ, ℤ, zero, suc, List, map, refl, sym, ap, subst, inl, inr, arith, Some, ◌≡◌, ◌≢◌, ◌+◌, ◌≤◌, ◌⊎◌, [], ◌∷◌, ◌++◌, ◌∙◌}
 use Rattle.std.proofs.lemmas.List.{append-nil, append_assoc}
 use Rattle.lmn_congruence.specs.Congruence.{back}
-use Rattle.lmn_congruence.specs.Fused.{fused}
+use Rattle.lmn_congruence.specs.Fused.{Joins, fused}
 use Rattle.lmn_congruence.specs.LinkedRules.{leaves_occurrences, level_occurrences, levels_occurrences}
 use Rattle.lmn_congruence.specs.Links.{one_if_same, places}
 use Rattle.lmn_congruence.specs.Orders.{Put, Shuffle, here, more, none}
 use Rattle.lmn_congruence.specs.Process.{Closed, Free, Linked, OneToOneOn, Process, atom, connector, membrane, nothing, occurrences, pair, renamed, rule, together}
 use Rattle.lmn_congruence.specs.Regions.{Region, Regions, SolidAtom, atom_process, region, region_process}
-use Rattle.lmn_congruence.specs.Rules.{Condition, Expression, Label, Leaf, Level, Levels, Name, Rule, Rules, atom_leaf, head_of, level, level_and, rules_list}
+use Rattle.lmn_congruence.specs.Rules.{Condition, Context, Expression, Label, Leaf, Level, Levels, Name, Rule, Rules, atom_leaf, closed_context, head_of, level, level_and, open_context, rules_list}
 use Rattle.lmn_congruence.specs.UpToOrder.{Reordered, r_chain, r_same}
 use Rattle.lmn_reduction.specs.Assignments.{Assignment, NoRuleAtTop, Proper}
 use Rattle.lmn_reduction.specs.Firing.{typed_contexts}
 use Rattle.lmn_reduction.specs.Guards.{GuardHolds, Holds, alike, binds, condition_and, in_order, no_condition, of_kind, unlike}
-use Rattle.lmn_reduction.specs.Instances.{Instance, IsCopy, LeafInstances, MembraneInstances, instance, leaf_and, membrane_and, no_leaf, no_membrane, of_atom, of_connector, of_typed, rules_of_contexts}
+use Rattle.lmn_reduction.specs.Instances.{IsCopy, LeafInstances, leaf_and, no_leaf, of_atom, of_connector, of_typed, rules_of_contexts}
 use Rattle.lmn_reduction.specs.Parts.{IsGround, OnlyAtoms, Rooted, atoms_at_top}
 use Rattle.lmn_reduction.specs.Redexes.{HasRedex, at_top, in_membrane}
 use Rattle.lmn_reduction.specs.Steps.{Step}
@@ -32,9 +32,10 @@ use Rattle.lmn_adequacy.proofs.Ends.{EndsOutside, ends_outside}
 use Rattle.lmn_adequacy.proofs.Exposing.{Source, found, missing, source}
 use Rattle.lmn_adequacy.proofs.Heads.{HeadAllowed, HeadLeaves, HeadLevel, HeadLevels, region_there, rule_there}
 use Rattle.lmn_adequacy.proofs.Images.{atoms_plain, fused_renamed, image_at_least, no_link_rule_contexts, places_least}
+use Rattle.lmn_adequacy.proofs.LiteralHeads.{HeadInstance, HeadInstances, head_and, head_instance, literal, no_head, standing, standing_proper}
 use Rattle.lmn_adequacy.proofs.Orders.{all_second, merged_taken, pieces_reordered, put_taken, shuffled_atoms, together_pieces}
 use Rattle.lmn_adequacy.proofs.RegionPieces.{pieces_of, region_pieces, take_atom, take_region}
-use Rattle.lmn_base.proofs.Numbers.{same_or_not}
+use Rattle.lmn_base.proofs.Numbers.{not_one_if_even, same_or_not}
 use Rattle.lmn_congruence.proofs.TranslatedLinks.{no_link_in_rules as no_link_rules}
 use Rattle.lmn_base.proofs.Lists.{map_twice}
 
@@ -102,7 +103,7 @@ module _ (t : Assignment) (v : ℕ → ℕ) where
   abbrev pub read_assignment : Assignment
   read_assignment = record { link_of = λ x. v (t.link_of x); context_of = λ p. fused v (t.context_of p); rules_of = t.rules_of; typed_of = t.typed_of }
 
-  fused_contexts : (ps : List Name) → fused v (together (map t.context_of ps)) ≡ together (map (λ p. fused v (t.context_of p)) ps)
+  fused_contexts : (ps : List Context) → fused v (together (map t.context_of ps)) ≡ together (map (λ p. fused v (t.context_of p)) ps)
   fused_contexts [] = refl
   fused_contexts (p ∷ ps) = ap (pair (fused v (t.context_of p))) (fused_contexts ps)
 
@@ -114,7 +115,7 @@ module _ (t : Assignment) (v : ℕ → ℕ) where
   fused_rule_contexts [] = refl
   fused_rule_contexts (r ∷ rs) = cc (fused_rules (t.rules_of r), fused_rule_contexts rs)
 
-  pub fused_filling : (ps qs : List Name) (rs : Rules) → fused v (filling t ps qs rs) ≡ filling read_assignment ps qs rs
+  pub fused_filling : (ps : List Context) (qs : List Name) (rs : Rules) → fused v (filling t ps qs rs) ≡ filling read_assignment ps qs rs
   fused_filling ps qs rs = cc (fused_contexts ps, fused_rule_contexts qs, fused_rules (rules_list rs))
 
   typed_at_least : (x y : ℕ) (g : Rooted) (P : Process) → IsGround g → IsCopy g (t.link_of y) P → (x ≡ y) ⊎ (x ≢ y) → one_if_same x y ≤ occurrences (v (t.link_of x)) (fused v P)
@@ -144,12 +145,12 @@ module _ (t : Assignment) (v : ℕ → ℕ) where
   leaves_at_least x (leaf_and (of_typed {p = q} {x = y} {P = P} c) j) a = omega (arith, typed_at_least x y (t.typed_of q) P a.0 c (same_or_not x y), leaves_at_least x j a.1)
 
   mutual
-    level_at_least : (x : ℕ) {l : Level} {C : Process} → Instance t l C → HeadLevel t l → level_occurrences x l ≤ occurrences (v (t.link_of x)) (fused v C)
-    level_at_least x (instance i j) a = omega (arith, leaves_at_least x i a.0, levels_at_least x j a.1)
+    level_at_least : (x : ℕ) {l : Level} {C : Process} → HeadInstance t l C → HeadLevel t l → level_occurrences x l ≤ occurrences (v (t.link_of x)) (fused v C)
+    level_at_least x (head_instance i j) a = omega (arith, leaves_at_least x i a.0, levels_at_least x j a.1)
 
-    levels_at_least : (x : ℕ) {ls : Levels} {Qs : List Process} → MembraneInstances t ls Qs → HeadLevels t ls → levels_occurrences x ls ≤ occurrences (v (t.link_of x)) (fused v (together Qs))
-    levels_at_least x no_membrane a = omega arith
-    levels_at_least x (membrane_and i j) a = omega (arith, level_at_least x i a.0, levels_at_least x j a.1)
+    levels_at_least : (x : ℕ) {ls : Levels} {Qs : List Process} → HeadInstances t ls Qs → HeadLevels t ls → levels_occurrences x ls ≤ occurrences (v (t.link_of x)) (fused v (together Qs))
+    levels_at_least x no_head a = omega arith
+    levels_at_least x (head_and i j) a = omega (arith, level_at_least x i a.0, levels_at_least x j a.1)
 
 -- ---- beside the ports of the head a link of the rule stands an even number of times
 
@@ -219,24 +220,29 @@ module _ (t : Assignment) (p : Proper t) where
       let k = even_copy x y (t.typed_of q) P a.0 c (linked_left l) (same_or_not x y) in
       record { half = k.half + i.half; is = omega (arith, k.is, i.is) }
 
-  even_contexts : (x : ℕ) (ps : List Name) → Linked (together (map t.context_of ps)) → (k : ℕ) × (occurrences (t.link_of x) (together (map t.context_of ps)) ≡ k + k)
+  -- a link of the rule is free in no context, and stands twice in a closed one or not at all
+  not_free : (x : ℕ) (q : Context) → occurrences (t.link_of x) (t.context_of q) ≢ 1
+  not_free x (open_context q) = p.links_apart q x
+  not_free x (closed_context q) = not_one_if_even (occurrences (t.link_of x) (t.context_of (closed_context q))) (p.closed q (t.link_of x))
+
+  even_contexts : (x : ℕ) (ps : List Context) → Linked (together (map t.context_of ps)) → (k : ℕ) × (occurrences (t.link_of x) (together (map t.context_of ps)) ≡ k + k)
   even_contexts x [] l = (0, refl)
   even_contexts x (q ∷ qs) l =
-      let i = not_one_even (occurrences (t.link_of x) (t.context_of q)) (p.links_apart q x) ((linked_left l).at_most_twice (t.link_of x)) in
+      let i = not_one_even (occurrences (t.link_of x) (t.context_of q)) (not_free x q) ((linked_left l).at_most_twice (t.link_of x)) in
       let j = even_contexts x qs (linked_right l) in
       (i.0 + j.0, omega (arith, i.1, j.1))
 
   mutual
-    even_level : (x : ℕ) {l : Level} {C : Process} → Instance t l C → HeadLevel t l → Linked C → EvenMore (occurrences (t.link_of x) C) (level_occurrences x l)
-    even_level x (instance {contexts = ps} {rule_contexts = qs} {rules = rs} i j) a l =
+    even_level : (x : ℕ) {l : Level} {C : Process} → HeadInstance t l C → HeadLevel t l → Linked C → EvenMore (occurrences (t.link_of x) C) (level_occurrences x l)
+    even_level x (head_instance {contexts = ps} {rule_contexts = qs} {rules = rs} i j) a l =
         let m = even_leaves x i a.0 (linked_left l) in
         let n = even_levels x j a.1 (linked_left (linked_right l)) in
         let k = even_contexts x ps (linked_left (linked_right (linked_right l))) in
         record { half = m.half + n.half + k.0; is = omega (arith, m.is, n.is, k.1, no_link_rule_contexts t (t.link_of x) qs, no_link_rules (t.link_of x) (rules_list rs)) }
 
-    even_levels : (x : ℕ) {ls : Levels} {Qs : List Process} → MembraneInstances t ls Qs → HeadLevels t ls → Linked (together Qs) → EvenMore (occurrences (t.link_of x) (together Qs)) (levels_occurrences x ls)
-    even_levels x no_membrane a l = record { half = 0; is = refl }
-    even_levels x (membrane_and i j) a l =
+    even_levels : (x : ℕ) {ls : Levels} {Qs : List Process} → HeadInstances t ls Qs → HeadLevels t ls → Linked (together Qs) → EvenMore (occurrences (t.link_of x) (together Qs)) (levels_occurrences x ls)
+    even_levels x no_head a l = record { half = 0; is = refl }
+    even_levels x (head_and i j) a l =
         let m = even_level x i a.0 (linked_inside (linked_left l)) in
         let n = even_levels x j a.1 (linked_right l) in
         record { half = m.half + n.half; is = omega (arith, m.is, n.is) }
@@ -330,7 +336,7 @@ module _ (t : Assignment) (p : Proper t) (v : ℕ → ℕ) where
       record { rest = k.rest; parts = part_and a.0 y u.merged k.parts; left = k.left }
 
   -- Each link has as many places in the image of a head membrane as in the head membrane.
-  keeps_links : {l : Level} {C : Process} (m : Region) → Instance t l C → HeadLevel t l → Linked C → Linked (fused v C)
+  keeps_links : {l : Level} {C : Process} (m : Region) → HeadInstance t l C → HeadLevel t l → Linked C → Linked (fused v C)
       → ((y : ℕ) → Free y C → Free (v y) (fused v C)) → Reordered (fused v C) (region_process m) → KeepsLinks T l m
   keeps_links {l} {C} m i a k k' f o = record { as_often = λ x d. sym (reordered_count o (v (t.link_of x))) ∙ go x d (even_level t p x i a k) }
     where
@@ -364,7 +370,7 @@ module _ (t : Assignment) (p : Proper t) (v : ℕ → ℕ) where
   shuffle_left : {xs ys : List Process} (m : Region) → xs ≡ ys → Shuffle SamePiece xs (pieces_of m) → Shuffle SamePiece ys (pieces_of m)
   shuffle_left m e s = subst (λ k. Shuffle SamePiece k (pieces_of m)) e s
 
-  take_membrane : (leaves : List Leaf) (membranes : Levels) (contexts rule_contexts : List Name) (rules : Rules) (ls : Levels) (C D : Process) (Ws W : List Process) (xs : List SolidAtom) (ms : Regions) (rs : List Rule)
+  take_membrane : (leaves : List Leaf) (membranes : Levels) (contexts : List Context) (rule_contexts : List Name) (rules : Rules) (ls : Levels) (C D : Process) (Ws W : List Process) (xs : List SolidAtom) (ms : Regions) (rs : List Rule)
       → ((m : Region) → Shuffle SamePiece (pieces (fused v C) ++ []) (pieces_of m) → LevelMatched (level leaves membranes contexts rule_contexts rules) [] (filling T contexts rule_contexts rules) m)
       → ((m : Region) → Reordered (fused v C) (region_process m) → KeepsLinks T (level leaves membranes contexts rule_contexts rules) m)
       → ((ms' : Regions) → Shuffle SamePiece Ws (pieces_of (region xs ms' rs)) → LevelsMatched ls W xs ms' rs)
@@ -391,9 +397,9 @@ module _ (t : Assignment) (p : Proper t) (v : ℕ → ℕ) where
       take_membrane leaves membranes contexts rule_contexts rules ls C D Ws W xs ms rs inner keeps h d s q
 
   mutual
-    pub match_level : {l : Level} {C : Process} → Instance t l C → HeadLevel t l → Linked C → Linked (fused v C) → EndsOutside v C → (W : List Process) (m : Region)
+    pub match_level : {l : Level} {C : Process} → HeadInstance t l C → HeadLevel t l → Linked C → Linked (fused v C) → EndsOutside v C → (W : List Process) (m : Region)
         → Shuffle SamePiece (pieces (fused v C) ++ W) (pieces_of m) → LevelMatched l W (filling_of l) m
-    match_level (instance {leaves = leaves} {membranes = membranes} {contexts = ps} {rule_contexts = qs} {rules = rules} {Ps = Ps} {Qs = Qs} i j) a k k' f W (region xs ms rs) s =
+    match_level (head_instance {leaves = leaves} {membranes = membranes} {contexts = ps} {rule_contexts = qs} {rules = rules} {Ps = Ps} {Qs = Qs} i j) a k k' f W (region xs ms rs) s =
         let F = filling t ps qs rules in
         let X = pieces (fused v (together Ps)) in
         let Y = pieces (fused v (together Qs)) in
@@ -408,10 +414,10 @@ module _ (t : Assignment) (p : Proper t) (v : ℕ → ℕ) where
           left = subst (λ z. Shuffle SamePiece (pieces z ++ W) (pieces_of (region y.rest w.rest rs))) (fused_filling t v ps qs rules) w.left;
         }
 
-    match_membranes : {ls : Levels} {Qs : List Process} → MembraneInstances t ls Qs → HeadLevels t ls → Linked (together Qs) → Linked (fused v (together Qs)) → EndsOutside v (together Qs) → (W : List Process)
+    match_membranes : {ls : Levels} {Qs : List Process} → HeadInstances t ls Qs → HeadLevels t ls → Linked (together Qs) → Linked (fused v (together Qs)) → EndsOutside v (together Qs) → (W : List Process)
         (xs : List SolidAtom) (ms : Regions) (rs : List Rule) → Shuffle SamePiece (pieces (fused v (together Qs)) ++ W) (pieces_of (region xs ms rs)) → LevelsMatched ls W xs ms rs
-    match_membranes no_membrane a k k' f W xs ms rs s = record { at = []; rest = ms; images = no_membrane_image; left = s }
-    match_membranes (membrane_and {l = l} {ls = ls} {P = C} {Ps = Qs} i j) a k k' f W xs ms rs s =
+    match_membranes no_head a k k' f W xs ms rs s = record { at = []; rest = ms; images = no_membrane_image; left = s }
+    match_membranes (head_and {l = l} {ls = ls} {P = C} {Ps = Qs} i j) a k k' f W xs ms rs s =
         match_membrane l ls C (pieces (fused v (together Qs)) ++ W) W xs ms rs
         (λ m e. match_level i a.0 (linked_inside (linked_left k)) (linked_inside (linked_left k')) f.0.1 [] m e)
         (λ m o. keeps_links m i a.0 (linked_inside (linked_left k)) (linked_inside (linked_left k')) f.0.0 o)
@@ -420,7 +426,7 @@ module _ (t : Assignment) (p : Proper t) (v : ℕ → ℕ) where
 
 -- ---- the guard sees only the typed contexts
 
-module _ (f : ℕ → ℕ) (c : Name → Process) (k : Name → List Rule) where
+module _ (f : ℕ → ℕ) (c : Context → Process) (k : Name → List Rule) where
   abbrev pub with_same_typed : Assignment → Assignment
   with_same_typed t = record { link_of = f; context_of = c; rules_of = k; typed_of = t.typed_of }
 
@@ -450,8 +456,8 @@ no_rule_fused v (pair P Q) n = (no_rule_fused v P n.0, no_rule_fused v Q n.1)
 no_rule_fused v (membrane P) n = tt
 no_rule_fused v (rule r) n = n
 
-read_plain : (t : Assignment) (v : ℕ → ℕ) → Proper t → Plain (read_assignment t v)
-read_plain t v p = record { no_connector = λ q. fused_plain v (t.context_of q); no_rule = λ q. no_rule_fused v (t.context_of q) (p.no_rule q); root_is_free = p.root_is_free }
+read_plain : (t : Assignment) (v : ℕ → ℕ) → Proper t → ((q : Name) → Closed (fused v (t.context_of (closed_context q)))) → Plain (read_assignment t v)
+read_plain t v p c = record { closed = c; no_connector = λ q. fused_plain v (t.context_of q); no_rule = λ q. no_rule_fused v (t.context_of q) (p.no_rule q); root_is_free = p.root_is_free }
 
 redex_rule : (v : ℕ → ℕ) (r : Rule) (A P : Process) (xs : List SolidAtom) (ms : Regions) (rs : List Rule) → Reordered (fused v (pair (pair A (rule r)) P)) (region_process (region xs ms rs)) → (rest : List Rule) × Put r rest rs
 redex_rule v r A P xs ms rs d =
@@ -472,26 +478,30 @@ in_a_membrane : {n : ℕ} {m : Region} {xs : List SolidAtom} {ms ms' : Regions} 
 in_a_membrane k e = record { path = _; number = e.number; positions = e.positions; embeds = embeds_loosely_below k e.embeds }
 
 -- An instance in a process that is read against a solid shows a place where the head lies in the solid.
-pub redex_embeds : (v : ℕ → ℕ) {P : Process} (d : HasRedex P) → Linked P → Linked (fused v P) → EndsOutside v P → (S : Region) → AllRules HeadAllowed S → Reordered (fused v P) (region_process S) → HasLooseEmbedding S
-redex_embeds v (at_top {r = r} {A = A} {P = P} m) l l' f (region xs ms rs) h o =
-    let t = m.assignment in
+pub redex_embeds : (v : ℕ → ℕ) {P : Process} (d : HasRedex P) → Joins v P → Linked P → Linked (fused v P) → EndsOutside v P → (S : Region) → AllRules HeadAllowed S → Reordered (fused v P) (region_process S) → HasLooseEmbedding S
+redex_embeds v (at_top {r = r} {A = A} {P = P} m) j l l' f (region xs ms rs) h o =
+    let c = redex_rule v r A P xs ms rs o in
+    let allowed = rule_there HeadAllowed h.0 c.1 in
+    let a = literal m.assignment m.proper v m.head allowed.0 (linked_left (linked_left l')) j.0.0 in
+    let t = standing m.assignment a.stands in
+    let proper = standing_proper m.assignment m.proper v a.stands a.may in
+    let guard = same_guard m.assignment.link_of a.stands m.assignment.rules_of (typed_contexts (head_of r)) m.assignment m.guard in
     let X = pieces (fused v A) in
     let Z = pieces (fused v P) in
-    let c = redex_rule v r A P xs ms rs o in
     let s : Shuffle SamePiece (X ++ (rule r ∷ Z)) (pieces_of (region xs ms rs)) =
     subst (λ k. Shuffle SamePiece k (pieces_of (region xs ms rs))) (append_assoc X (rule r ∷ []) Z)
     (subst (Shuffle SamePiece ((X ++ (rule r ∷ [])) ++ Z)) (region_pieces (region xs ms rs)) (reordered_pieces o)) in
-    let u = match_level t m.proper v m.head (rule_there HeadAllowed h.0 c.1 t m.guard) (linked_left (linked_left l)) (linked_left (linked_left l')) f.0.0 (rule r ∷ Z) (region xs ms rs) s in
+    let u = match_level t proper v a.is (allowed.1 t guard) (linked_left (linked_left l)) (linked_left (linked_left l')) f.0.0 (rule r ∷ Z) (region xs ms rs) s in
     let k = put_taken c.1 in
     in_itself k.1 (record {
       assignment = read_assignment t v;
       rest = u.rest;
-      plain = read_plain t v m.proper;
+      plain = read_plain t v proper (λ q. (a.may (closed_context q)).2);
       images = u.images;
-      guard = same_guard (λ x. v (t.link_of x)) (λ p. fused v (t.context_of p)) t.rules_of (typed_contexts (head_of r)) t m.guard;
+      guard = same_guard (λ x. v (t.link_of x)) (λ p. fused v (t.context_of p)) t.rules_of (typed_contexts (head_of r)) t guard;
     })
-redex_embeds v (in_membrane {P = P} {Q = Q} d) l l' f (region xs ms rs) h o =
-    below v P (pieces (fused v Q)) xs ms rs h.1 (λ n g e. redex_embeds v d (linked_inside (linked_left l)) (linked_inside (linked_left l')) f.0.1 n g e)
+redex_embeds v (in_membrane {P = P} {Q = Q} d) j l l' f (region xs ms rs) h o =
+    below v P (pieces (fused v Q)) xs ms rs h.1 (λ n g e. redex_embeds v d j.0 (linked_inside (linked_left l)) (linked_inside (linked_left l')) f.0.1 n g e)
     (subst (Shuffle SamePiece (membrane (fused v P) ∷ pieces (fused v Q))) (region_pieces (region xs ms rs)) (reordered_pieces o))
   where
     below : (v : ℕ → ℕ) (P : Process) (Ws : List Process) (xs : List SolidAtom) (ms : Regions) (rs : List Rule) → AllRulesIn HeadAllowed ms → ((n : Region) → AllRules HeadAllowed n → Reordered (fused v P) (region_process n) → HasLooseEmbedding n)
@@ -506,4 +516,4 @@ step_embeds S Q c h s =
     let r = congruent_reads k.process (region_process S) (region_plain S) (back k.congruent) in
     let l = (linked_both k.congruent).1 in
     let n : Linked (region_process S) = closed_linked c in
-    redex_embeds r.to k.redex l (linked_as (λ z. sym (reordered_count r.order z)) n) (ends_outside r.to k.process r.joins l r.crossings) S h r.order
+    redex_embeds r.to k.redex r.joins l (linked_as (λ z. sym (reordered_count r.order z)) n) (ends_outside r.to k.process r.joins l r.crossings) S h r.order

@@ -18,7 +18,7 @@ use Rattle.lmn_reduction.specs.Commits.{Commit, SettlesTowards, already, step_an
 use Rattle.lmn_reduction.specs.Examples.{label_a, label_b, label_c}
 use Rattle.lmn_reduction.specs.Firing.{Matches, fires}
 use Rattle.lmn_reduction.specs.Guards.{no_condition}
-use Rattle.lmn_reduction.specs.Instances.{Instance, instance, leaf_and, no_leaf, no_membrane, of_atom}
+use Rattle.lmn_reduction.specs.Instances.{Instance, instance, leaf_and, no_context, no_leaf, no_membrane, of_atom}
 use Rattle.lmn_reduction.specs.Parts.{Rooted}
 use Rattle.lmn_reduction.specs.Steps.{SettlingStep, Step, beside, inside, into, leaf, out, up_to}
 use Rattle.lmn_reduction.proofs.SettledForms.{all_join}
@@ -27,7 +27,7 @@ use Rattle.lmn_adequacy.specs.ChangeExamples.{KeptComesFirst, ShortTraceEnds, Tr
 use Rattle.lmn_adequacy.specs.Choice.{Before, ChosenFrom, less_here}
 use Rattle.lmn_adequacy.specs.Embedding.{AllRules, Contents, EmbedsAt, EmbedsIn, HasEmbedding, LevelLies, Taken, embeds_below, embeds_here, image_and, level_lies, no_image, no_membrane_lies, no_part, no_part_of_atom, taken_first, taken_later}
 use Rattle.lmn_adequacy.specs.Examples.{root_first}
-use Rattle.lmn_adequacy.specs.Next.{Next, NextAt, fires_here, made_atom, made_level, no_made_leaf, no_made_membrane, raw_level}
+use Rattle.lmn_adequacy.specs.Next.{Next, NextAt, fires_here, made_atom, made_level, no_made_context, no_made_leaf, no_made_membrane, raw_level}
 use Rattle.lmn_adequacy.specs.Runs.{Chooser, Trace, Turn, loaded, nothing_embeds, turned}
 use Rattle.lmn_adequacy.proofs.Results.{embeddings_fire, irreducible_exactly, one_next}
 use Rattle.lmn_adequacy.proofs.Runs.{trace_commits, trace_is_one}
@@ -74,6 +74,7 @@ rule_accepted = record {
   once = (tt, tt, tt);
   kept = none;
   known_rules = λ p k. absurd (nothing_among k);
+  known_closed = λ p k. absurd (nothing_among k);
   known = λ p k. absurd (nothing_among k);
   in_turn = all_asked;
   typed = λ p k. absurd (nothing_among k);
@@ -105,6 +106,7 @@ unfolding nothing_given one_port
 lies_at {rest = rest} k = record {
   contents = nothing_given;
   rest = atoms_beside rest;
+  closed = λ p x. inl refl;
   root_is_free = λ p. refl;
   lies = level_lies (image_and k no_image) (no_part_of_atom no_part) no_membrane_lies;
   guard = no_condition;
@@ -134,7 +136,7 @@ next_at : (left : List SolidAtom) (S' : Region) {n : ℕ} {xs : List SolidAtom} 
 unfolding raw lies_at nothing_given one_port
 next_at left S' k closed_top is closed = record {
   raw = raw left;
-  fires = fires_here taken_first (record { at = lies_at k; outs = atom_leaf label_b [] ∷ []; made_membranes = []; made_rules = []; makes = made_level (made_atom no_made_leaf) no_made_membrane; bound = 0; bounded = λ x h. refl; is = refl });
+  fires = fires_here taken_first (record { at = lies_at k; outs = atom_leaf label_b [] ∷ []; made_membranes = []; made_rules = []; makes = made_level (made_atom no_made_leaf) no_made_membrane no_made_context; bound = 0; bounded = λ x h. refl; is = refl });
   fuses = record { closed_top = closed_top; to = λ x. 0; joins = all_join (level_process (raw left)); is = is; closed = closed };
 }
 
@@ -280,7 +282,7 @@ head_weighs : (r : Rule) (A : Process) → r ≡ a_makes_b → Matches r A → w
 head_weighs r A e = subst (λ k. Matches k A → weight A ≤ 1) (sym e) (λ m. go m.head)
   where
     go : {t : Assignment} {A : Process} → Instance t (head_of a_makes_b) A → weight A ≤ 1
-    go (instance (leaf_and of_atom no_leaf) no_membrane) = omega arith
+    go (instance (leaf_and of_atom no_leaf) no_membrane no_context) = omega arith
 
 -- so a step by this rule takes away at most 1
 step_weighs : {P Q : Process} → Step P Q → EachProcessRule (λ r. r ≡ a_makes_b) P → weight P ≤ weight Q + 1

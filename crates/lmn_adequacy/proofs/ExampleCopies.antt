@@ -1,5 +1,5 @@
 -- Copies of a ground part.
-use Rattle.std.proofs.Common.{ℕ, cond, eqb, List, refl, arith, ◌≡◌, ◌≢◌, ◌-◌, ◌/◌, ◌≤◌, [], ◌∷◌}
+use Rattle.std.proofs.Common.{ℕ, cond, eqb, List, inl, refl, arith, ◌≡◌, ◌≢◌, ◌-◌, ◌/◌, ◌≤◌, [], ◌∷◌}
 use Rattle.lmn_congruence.specs.LinkedRules.{level_occurrences}
 use Rattle.lmn_congruence.specs.Orders.{at_head, here, more, none}
 use Rattle.lmn_congruence.specs.Plains.{level_process}
@@ -14,6 +14,7 @@ use Rattle.lmn_reduction.proofs.ExampleSteps.{looped, looped_ground}
 use Rattle.lmn_adequacy.specs.Embedding.{IsPart, from_first, image_and, merged_none, no_image, no_part, no_part_of_atom, part_and, taken_first, typed_later, Contents, EmbedsAt, level_lies, no_membrane_lies}
 use Rattle.lmn_adequacy.specs.Next.{DepthFirst, fires_here, made_atom, made_copy, made_level, no_made_leaf, no_made_membrane, raw_level, reaches_listed, reaches_new, reaches_none}
 use Rattle.lmn_adequacy.specs.Examples.{CopiesStandAsWritten}
+use Rattle.lmn_adequacy.specs.Next.{no_made_context}
 
 -- the atom with the root at x, and its other link y
 looped_part : (x y : ℕ) → x ≢ y → IsPart looped x (solid_atom_with label_b (x ∷ y ∷ y ∷ []) ∷ [])
@@ -29,6 +30,7 @@ lies : EmbedsAt double_part (0 ∷ []) (region (solid_atom_with label_a (0 ∷ [
 lies = record {
   contents = bound_part;
   rest = region [] no_region (double_part ∷ []);
+  closed = λ p x. inl refl;
   root_is_free = λ p. refl;
   lies = level_lies (image_and taken_first (typed_later no_image)) (no_part_of_atom (part_and looped_ground (looped_part 0 1 (omega arith)) (from_first merged_none) no_part)) no_membrane_lies;
   guard = condition_and (of_kind looped_ground) no_condition;
@@ -66,7 +68,7 @@ part_is_copied = record {
       outs = made;
       made_membranes = [];
       made_rules = [];
-      makes = made_level (made_atom (made_copy (looped_part 2 6 (omega arith)) listed_two (made_copy (looped_part 4 8 (omega arith)) listed_four no_made_leaf))) no_made_membrane;
+      makes = made_level (made_atom (made_copy (looped_part 2 6 (omega arith)) listed_two (made_copy (looped_part 4 8 (omega arith)) listed_four no_made_leaf))) no_made_membrane no_made_context;
       bound = 1;
       bounded = past_one;
       is = refl;

@@ -17,6 +17,7 @@ use Rattle.lmn_reduction.proofs.SettledForms.{all_join}
 use Rattle.lmn_adequacy.specs.Embedding.{EmbedsIn, KeepsLinks, Taken, embeds_below, embeds_here, image_and, no_image, no_part, no_part_of_atom, region_first, region_later, taken_first, taken_later, Contents, no_rule_context, one_context, LevelLies, assignment_of, level_lies, membrane_lies, no_membrane_lies}
 use Rattle.lmn_adequacy.specs.Next.{fires_here, kept_level, made_atom, made_connector, made_level, no_made_leaf, no_made_membrane, raw_level, reaches_listed, reaches_new, reaches_none, wire_leaves}
 use Rattle.lmn_adequacy.specs.Examples.{InnerLinkDoesNotEmbed, EndsMeetInOneAtom, ListDepthFirst, NextHasNoLoop, MembraneOpens, open_membrane}
+use Rattle.lmn_adequacy.specs.Next.{made_context, made_open, no_made_context}
 use Rattle.lmn_adequacy.proofs.OneEmbedding.{same_head}
 
 -- any process with a free root
@@ -65,6 +66,7 @@ link_meets_itself =
           at = record {
             contents = joined;
             rest = region [] no_region (r ∷ []);
+            closed = λ p x. inl refl;
             root_is_free = λ p. refl;
             lies = level_lies (image_and taken_first (image_and taken_first no_image)) (no_part_of_atom (no_part_of_atom no_part)) no_membrane_lies;
             guard = no_condition;
@@ -72,7 +74,7 @@ link_meets_itself =
           outs = atom_leaf label_c (0 ∷ 2 ∷ []) ∷ [];
           made_membranes = [];
           made_rules = [];
-          makes = made_level (made_atom no_made_leaf) no_made_membrane;
+          makes = made_level (made_atom no_made_leaf) no_made_membrane no_made_context;
           bound = 2;
           bounded = past_two;
           is = refl;
@@ -111,6 +113,7 @@ loop_vanishes =
           at = record {
             contents = joined;
             rest = region [] no_region (r ∷ []);
+            closed = λ p x. inl refl;
             root_is_free = λ p. refl;
             lies = level_lies (image_and taken_first no_image) (no_part_of_atom no_part) no_membrane_lies;
             guard = no_condition;
@@ -118,7 +121,7 @@ loop_vanishes =
           outs = connector_leaf 0 2 ∷ [];
           made_membranes = [];
           made_rules = [];
-          makes = made_level (made_connector no_made_leaf) no_made_membrane;
+          makes = made_level (made_connector no_made_leaf) no_made_membrane no_made_context;
           bound = 2;
           bounded = past_both;
           is = refl;
@@ -153,6 +156,7 @@ membrane_opens =
           at = record {
             contents = opened;
             rest = region (solid_atom_with label_c [] ∷ []) (region_and empty no_region) (open_membrane ∷ []);
+            closed = λ p x. inl refl;
             root_is_free = λ p. refl;
             lies = level_lies no_image no_part (membrane_lies region_first (level_lies (image_and (taken_later taken_first) no_image) (no_part_of_atom no_part) no_membrane_lies) (record { as_often = λ x d. absurd (d refl) }) (one_context, no_rule_context) no_membrane_lies);
             guard = no_condition;
@@ -160,7 +164,7 @@ membrane_opens =
           outs = atom_leaf label_a [] ∷ atom_leaf label_b [] ∷ atom_leaf label_c [] ∷ [];
           made_membranes = kept_level inner ∷ [];
           made_rules = [];
-          makes = made_level (made_atom no_made_leaf) no_made_membrane;
+          makes = made_level (made_atom no_made_leaf) no_made_membrane (made_context made_open no_made_context);
           bound = 0;
           bounded = λ x h. refl;
           is = refl;

@@ -13,6 +13,7 @@ use Rattle.lmn_adequacy.specs.Choice.{Before, ChosenFrom, less_here}
 use Rattle.lmn_adequacy.specs.Embedding.{HasEmbedding, EmbedsAt, EmbedsIn, embeds_below, embeds_here, image_and, no_image, no_part, no_part_of_atom, taken_first, taken_later, Contents, LevelLies, level_lies, no_membrane_lies}
 use Rattle.lmn_adequacy.specs.Next.{fires_here, made_atom, made_level, no_made_leaf, no_made_membrane, raw_level}
 use Rattle.lmn_adequacy.specs.Examples.{TracesEnd, grow, growing, root_first}
+use Rattle.lmn_adequacy.specs.Next.{no_made_context}
 use Rattle.lmn_adequacy.specs.Runs.{Turn, loaded, none_allowed, nothing_embeds, too_many, turned}
 
 -- any process with a free root
@@ -28,6 +29,7 @@ unfolding nothing_given one_port
 first_atom xs = record {
   contents = nothing_given;
   rest = growing xs;
+  closed = λ p x. inl refl;
   root_is_free = λ p. refl;
   lies = level_lies (image_and taken_first no_image) (no_part_of_atom no_part) no_membrane_lies;
   guard = no_condition;
@@ -71,7 +73,7 @@ one_turn = record {
     chosen = chosen_first [];
     next = record {
       raw = raw [];
-      fires = fires_here taken_first (record { at = first_atom []; outs = atom_leaf label_a [] ∷ atom_leaf label_a [] ∷ []; made_membranes = []; made_rules = []; makes = made_level (made_atom (made_atom no_made_leaf)) no_made_membrane; bound = 0; bounded = λ x h. refl; is = refl });
+      fires = fires_here taken_first (record { at = first_atom []; outs = atom_leaf label_a [] ∷ atom_leaf label_a [] ∷ []; made_membranes = []; made_rules = []; makes = made_level (made_atom (made_atom no_made_leaf)) no_made_membrane no_made_context; bound = 0; bounded = λ x h. refl; is = refl });
       fuses = record { closed_top = λ x. inl refl; to = λ x. 0; joins = all_join (level_process (raw [])); is = refl; closed = λ x. inl refl };
     };
   };
@@ -88,7 +90,7 @@ next_turn = record {
     chosen = chosen_first (solid_atom_with label_a [] ∷ []);
     next = record {
       raw = raw (solid_atom_with label_a [] ∷ []);
-      fires = fires_here taken_first (record { at = first_atom (solid_atom_with label_a [] ∷ []); outs = atom_leaf label_a [] ∷ atom_leaf label_a [] ∷ []; made_membranes = []; made_rules = []; makes = made_level (made_atom (made_atom no_made_leaf)) no_made_membrane; bound = 0; bounded = λ x h. refl; is = refl });
+      fires = fires_here taken_first (record { at = first_atom (solid_atom_with label_a [] ∷ []); outs = atom_leaf label_a [] ∷ atom_leaf label_a [] ∷ []; made_membranes = []; made_rules = []; makes = made_level (made_atom (made_atom no_made_leaf)) no_made_membrane no_made_context; bound = 0; bounded = λ x h. refl; is = refl });
       fuses = record { closed_top = λ x. inl refl; to = λ x. 0; joins = all_join (level_process (raw (solid_atom_with label_a [] ∷ []))); is = refl; closed = λ x. inl refl };
     };
   };

@@ -12,7 +12,7 @@ use Rattle.lmn_congruence.proofs.Crossings.{places_above}
 use Rattle.lmn_reduction.proofs.Plains.{plain_has_solid}
 use Rattle.lmn_congruence.proofs.Reordered.{r_right, reordered_count}
 use Rattle.lmn_congruence.proofs.Solids.{put_together}
-use Rattle.lmn_adequacy.specs.Accepted.{Accepted, all_contexts}
+use Rattle.lmn_adequacy.specs.Accepted.{Accepted, all_contexts, open_names}
 use Rattle.lmn_adequacy.specs.Embedding.{AllRules, EmbedsIn, TakenRegion, embeds_below, embeds_here, assignment_of, EmbedsAt, HasEmbedding}
 use Rattle.lmn_adequacy.specs.Loose.{LevelImages}
 use Rattle.lmn_adequacy.specs.Next.{FiresInOrder, NextAt, RawAt, fires_below, fires_here, kept_atoms, kept_membranes, raw_level, replaced, wire_leaves}
@@ -55,7 +55,7 @@ pub embedding_fires : {r : Rule} {f : List ℕ} {m : Region} → Accepted r → 
 embedding_fires {r} {f} {m} a e O closed =
     let c = e.contents in
     let t = assignment_of c in
-    let p = contents_plain c e.root_is_free in
+    let p = contents_plain c e.closed e.root_is_free in
     let b = accepted_bare r a in
     let i : LevelImages t (level b.leaves b.membranes [] [] no_rule) f m e.rest = subst (λ k. LevelImages t k f m e.rest) b.is (level_images_of e.lies) in
     let u = level_skeleton t p i in
@@ -69,7 +69,7 @@ embedding_fires {r} {f} {m} a e O closed =
       count = λ x. sym (reordered_count B.order (of_rule x)) ∙ v.count x;
       next = v.next;
       later = v.later;
-      odd = λ L. subst (Copied (link_bound (region_process m) + link_bound O) v.next L (context_places t p L (all_contexts (body_of r)))) (reordered_count B.order (of_solid L)) (v.odd L);
+      odd = λ L. subst (Copied (link_bound (region_process m) + link_bound O) v.next L (context_places t p L (open_names (all_contexts (body_of r))))) (reordered_count B.order (of_solid L)) (v.odd L);
     } in
     let W = wire_leaves c.link_of (head_of r) n.0 in
     let k = raw_closes r a t p e.guard b.leaves b.membranes b.is m e.rest u O closed made_body n.0 n.1 in

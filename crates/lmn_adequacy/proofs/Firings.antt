@@ -7,12 +7,12 @@ use Rattle.lmn_congruence.specs.LinkedRules.{level_occurrences}
 use Rattle.lmn_congruence.specs.Orders.{Put, here, there}
 use Rattle.lmn_congruence.specs.Process.{Closed, Linked, Process, nothing, occurrences, pair, renamed, rule, together}
 use Rattle.lmn_congruence.specs.Regions.{Region, Regions, SolidAtom, region, region_process}
-use Rattle.lmn_congruence.specs.Rules.{Leaf, Levels, Rule, body_of, guard_of, head_of, level, no_rule}
+use Rattle.lmn_congruence.specs.Rules.{Leaf, Levels, Rule, body_of, closed_context, guard_of, head_of, level, no_rule, open_context}
 use Rattle.lmn_congruence.specs.UpToOrder.{Reordered, r_back, r_beside, r_chain, r_regroup, r_same, r_swap, r_unit}
 use Rattle.lmn_reduction.specs.Assignments.{Assignment, Proper}
 use Rattle.lmn_reduction.specs.Firing.{Fires, fires, typed_contexts}
 use Rattle.lmn_reduction.specs.Guards.{GuardHolds}
-use Rattle.lmn_reduction.specs.Instances.{Instance, instance}
+use Rattle.lmn_reduction.specs.Instances.{Instance}
 use Rattle.lmn_reduction.specs.Steps.{Step, beside as derived_beside, leaf, up_to}
 use Rattle.lmn_congruence.proofs.Carried.{fused_agree}
 use Rattle.lmn_congruence.proofs.Counts.{Alike, linked_both, same_free}
@@ -29,6 +29,7 @@ use Rattle.lmn_adequacy.proofs.Embedding.{same_guard}
 use Rattle.lmn_adequacy.proofs.Ends.{AllMembranes}
 use Rattle.lmn_adequacy.proofs.Exposing.{KeepsCounts, exposed_congruent, kept_ends, low_count, low_not_in_head, low_or_new, new_wires, row_count, wires}
 use Rattle.lmn_adequacy.proofs.Images.{fused_renamed, image_at_least, joins_renamed, reordered_fused, row_vanishes}
+use Rattle.lmn_adequacy.proofs.LiteralHeads.{as_instance, closed_image, head_instance}
 use Rattle.lmn_adequacy.proofs.Orders.{r_over}
 use Rattle.lmn_adequacy.proofs.RawProcesses.{head_wires, made}
 use Rattle.lmn_adequacy.proofs.Skeleton.{LevelSkeleton, Parity, even, odd, parity, place, place_rule, place_solid}
@@ -40,7 +41,8 @@ made_proper : (t : Assignment) → Plain t → Proper (made t)
 made_proper t p = record {
   links_differ = even_differs;
   no_rule = λ q. no_rule_renamed of_solid odd_differs (t.context_of q) (p.no_rule q);
-  links_apart = λ q x f. zero_not_one (sym (occurrences_none of_solid (of_rule x) (t.context_of q) (λ y o e. even_not_odd x y (sym e))) ∙ f);
+  links_apart = λ q x f. zero_not_one (sym (occurrences_none of_solid (of_rule x) (t.context_of (open_context q)) (λ y o e. even_not_odd x y (sym e))) ∙ f);
+  closed = λ q. closed_image of_solid (t.context_of (closed_context q)) (λ x y o o' e. odd_differs x y e) (p.closed q);
   root_is_free = p.root_is_free;
 }
   where
@@ -147,7 +149,7 @@ module _ (t : Assignment) (p : Plain t) (r : Rule) (leaves : List Leaf) (membran
       assignment = moved_assignment (λ x. x + K) (add_differs K) (made t);
       proper = moved_proper (λ x. x + K) (add_differs K) (made t) (made_proper t p);
       guard = moved_guard (λ x. x + K) (add_differs K) (typed_contexts (head_of r)) (made t) (same_guard of_rule (λ q. renamed of_solid (t.context_of q)) t.rules_of (typed_contexts (head_of r)) t guard);
-      head = subst (λ k. Instance (moved_assignment (λ x. x + K) (add_differs K) (made t)) k (renamed (λ x. x + K) head)) (sym bare) (moved_instance (λ x. x + K) (add_differs K) (made t) (instance u.leaf_instances u.membrane_instances));
+      head = subst (λ k. Instance (moved_assignment (λ x. x + K) (add_differs K) (made t)) k (renamed (λ x. x + K) head)) (sym bare) (moved_instance (λ x. x + K) (add_differs K) (made t) (as_instance (made t) (head_instance u.leaf_instances u.membrane_instances)));
     };
     body = moved_instance (λ x. x + K) (add_differs K) (made t) i;
   }

@@ -1,12 +1,13 @@
 -- What the laws ask of the heads of rules.
 use Rattle.std.proofs.Common.{ℕ, List, ◌≡◌, [], ◌∷◌}
-use Rattle.lmn_congruence.specs.Orders.{Put, here, there}
+use Rattle.lmn_congruence.specs.Orders.{EachOnce, Put, here, there}
 use Rattle.lmn_congruence.specs.Regions.{Region, Regions, no_region, region, region_and}
 use Rattle.lmn_congruence.specs.Rules.{Leaf, Level, Levels, Rule, atom_leaf, connector_leaf, guard_of, head_of, level, level_and, no_level, no_rule, typed_leaf}
 use Rattle.lmn_reduction.specs.Assignments.{Assignment}
 use Rattle.lmn_reduction.specs.Firing.{typed_contexts}
 use Rattle.lmn_reduction.specs.Guards.{GuardHolds}
 use Rattle.lmn_reduction.specs.Parts.{IsGround}
+use Rattle.lmn_adequacy.specs.Accepted.{all_contexts}
 use Rattle.lmn_adequacy.specs.Embedding.{AllRules, AllRulesIn, EachRule, TakenRegion, region_first, region_later}
 
 -- a head without connectors, in which the typed contexts stand for ground processes
@@ -24,9 +25,9 @@ abbrev mutual
   HeadLevels t no_level = Unit {0}
   HeadLevels t (level_and l ls) = HeadLevel t l × HeadLevels t ls
 
--- the head of a rule has no connector, and its guard makes each of its typed contexts ground
+-- the head of a rule has no connector and no context twice, and its guard makes each of its typed contexts ground
 abbrev pub HeadAllowed : Rule → Type 0
-HeadAllowed r = (t : Assignment) → GuardHolds (typed_contexts (head_of r)) t (guard_of r) → HeadLevel t (head_of r)
+HeadAllowed r = EachOnce (all_contexts (head_of r)) × ((t : Assignment) → GuardHolds (typed_contexts (head_of r)) t (guard_of r) → HeadLevel t (head_of r))
 
 -- no context and no rule stands at the top of the head of a rule
 pub record Bare (r : Rule) : Type 0 where

@@ -4,24 +4,30 @@ use Rattle.lmn_congruence.specs.Fused.{Joins, fused}
 use Rattle.lmn_congruence.specs.LinkedRules.{level_occurrences}
 use Rattle.lmn_congruence.specs.Orders.{Put, here, there}
 use Rattle.lmn_congruence.specs.Plains.{leaf_process, level_process, levels_processes}
-use Rattle.lmn_congruence.specs.Process.{Free, Process, atom, connector, membrane, pair, renamed, rule, together}
+use Rattle.lmn_congruence.specs.Process.{Closed, Free, OneToOneOn, Process, atom, connector, membrane, pair, renamed, rule, together}
 use Rattle.lmn_congruence.specs.Regions.{Region, Regions, SolidAtom, atom_process, no_region, region, region_and, region_process, regions_processes}
-use Rattle.lmn_congruence.specs.Rules.{Leaf, Level, Levels, Name, Rule, Rules, atom_leaf, connector_leaf, head_of, level, no_rule, rules_list}
+use Rattle.lmn_congruence.specs.Rules.{Context, Leaf, Level, Levels, Name, Rule, Rules, atom_leaf, closed_context, connector_leaf, head_of, level, no_rule, open_context, rules_list}
 use Rattle.lmn_congruence.specs.Translation.{levels, rules as listed_rules}
 use Rattle.lmn_congruence.specs.UpToOrder.{Reordered, r_back, r_beside, r_chain, r_inside, r_regroup, r_same, r_swap, r_unit}
 use Rattle.lmn_reduction.specs.Assignments.{Assignment, NoRuleAtTop}
-use Rattle.lmn_reduction.specs.Instances.{Instance, IsCopy, LeafInstances, MembraneInstances, instance, leaf_and, membrane_and, no_leaf, no_membrane, of_atom, of_connector, of_typed, rules_of_contexts}
+use Rattle.lmn_reduction.specs.Instances.{ContextInstance, ContextInstances, Instance, IsClosedCopy, IsCopy, LeafInstances, MembraneInstances, context_and, instance, leaf_and, membrane_and, no_context as no_context_instance, no_leaf, no_membrane, of_closed, of_open, of_atom, of_connector, of_typed, rules_of_contexts}
 use Rattle.lmn_reduction.proofs.Plains.{level_reordered}
 use Rattle.lmn_congruence.proofs.Reordered.{r_right, reordered_count}
 use Rattle.lmn_congruence.proofs.Solids.{put_together, region_plain}
-use Rattle.lmn_adequacy.specs.Embedding.{EmbedsAt, TakenRegion, region_first, region_later, Contents, LeftToContext, LeftToRuleContext, assignment_of, no_context, no_rule_context, one_context, one_rule_context, LevelLies, MembranesLie, level_lies, membrane_lies, no_membrane_lies, LeftTo}
+use Rattle.lmn_adequacy.specs.Embedding.{EmbedsAt, TakenRegion, region_first, region_later, Contents, LeftToContext, LeftToRuleContext, assignment_of, no_context, no_rule_context, one_context, one_rule_context, LevelLies, MembranesLie, level_lies, membrane_lies, no_membrane_lies, LeftTo, region_of}
 use Rattle.lmn_adequacy.specs.Loose.{Plain, filling, EachLeft, EachLeftIn, EmbedsLoosely, LevelImages, MembraneImages, level_images, membrane_image_and, no_membrane_image}
-use Rattle.lmn_adequacy.specs.Next.{MadeLeaves, MadeLevel, MadeMembranes, NextAt, RawAt, context_atoms, context_membranes, context_rules, fires_below, fires_here, kept_atoms, kept_level, kept_membranes, made_atom, part_leaves, made_connector, made_copy, made_level, made_membrane, no_made_leaf, no_made_membrane, raw_level, replaced, wire_leaves}
+use Rattle.lmn_adequacy.specs.Next.{MadeLeaves, MadeLevel, MadeMembranes, NextAt, RawAt, context_rules, fires_below, fires_here, kept_atoms, kept_level, kept_membranes, made_atom, part_leaves, made_connector, made_copy, made_level, made_membrane, no_made_leaf, no_made_membrane, raw_level, replaced, wire_leaves, MadeContext, MadeContexts, made_closed, made_context, made_open, no_made_context}
 use Rattle.lmn_adequacy.proofs.Commits.{closed_as}
 use Rattle.lmn_adequacy.proofs.Embedding.{part_order}
-use Rattle.lmn_adequacy.proofs.Images.{reordered_fused}
+use Rattle.lmn_adequacy.proofs.Exposing.{Source, found, missing, source}
+use Rattle.lmn_adequacy.proofs.Images.{renamed_renamed, reordered_fused}
 use Rattle.lmn_adequacy.proofs.Orders.{r_both, r_exchange, r_over, taken_put}
 use Rattle.lmn_adequacy.proofs.RawProcesses.{NextUpToOrder, Raw, head_wires, made, raw_below, raw_here}
+use Rattle.lmn_adequacy.proofs.Skeleton.{at_odd, by_parity}
+use Rattle.lmn_congruence.proofs.Renaming.{occurrences_none, renamed_agree}
+use Rattle.lmn_congruence.specs.Same.{IsRenamed}
+use Rattle.lmn_reduction.proofs.OneSolid.{region_renamed}
+use Rattle.lmn_splice.proofs.Fusions.{solid_once as odd_differs}
 use Rattle.lmn_splice.specs.Splice.{of_rule, of_solid}
 use Rattle.lmn_congruence.proofs.Common.{rules_listed}
 use Rattle.lmn_reduction.proofs.Derivations.{alone as r_alone}
@@ -69,7 +75,8 @@ kept_listed_from : (xs : List SolidAtom) (ms : Regions) (rs : List Rule) → tog
 kept_listed_from xs ms rs e = cc (kept_atoms_process xs, e, rules_stay rs)
 
 mutual
-  kept_level_process : (m : Region) → level_process (kept_level m) ≡ renamed of_solid (region_process m)
+  -- a level that stays has the process of its region
+  pub kept_level_process : (m : Region) → level_process (kept_level m) ≡ renamed of_solid (region_process m)
   kept_level_process (region xs ms rs) = level_listed (kept_atoms xs) (kept_membranes ms) rs ∙ kept_listed_from xs ms rs (kept_membranes_process ms)
 
   kept_membranes_process : (ms : Regions) → together (map held (kept_membranes ms)) ≡ renamed of_solid (together (regions_processes ms))
@@ -119,18 +126,55 @@ module _ (c : Contents) where
       }
 
   -- what untyped contexts, rule contexts and rules stand for
-  context_listed : (p : Name) → Reordered (listed (kept_atoms (c.atoms_of p)) (kept_membranes (c.membranes_of p)) []) (renamed of_solid (t.context_of p))
-  context_listed p = r_same (kept_listed (c.atoms_of p) (c.membranes_of p) [])
+
+  -- a region with its links renamed is a copy of the region
+  region_copied : (R m : Region) → IsRenamed R m → IsClosedCopy (renamed of_solid (region_process R)) (renamed of_solid (region_process m))
+  region_copied R m i = record { to = by_parity of_rule (λ y. of_solid (i.to y)); one_to_one = one; is = same }
+    where
+      moves : (x : ℕ) → by_parity of_rule (λ y. of_solid (i.to y)) (of_solid x) ≡ of_solid (i.to x)
+      moves x = at_odd of_rule (λ y. of_solid (i.to y)) x
+
+      same : renamed of_solid (region_process m) ≡ renamed (by_parity of_rule (λ y. of_solid (i.to y))) (renamed of_solid (region_process R))
+      same =
+          ap (renamed of_solid) (ap region_process i.is ∙ region_renamed i.to R) ∙ renamed_renamed of_solid i.to (region_process R)
+          ∙ renamed_agree (λ x. of_solid (i.to x)) (λ x. by_parity of_rule (λ y. of_solid (i.to y)) (of_solid x)) (region_process R) (λ x o. sym (moves x))
+          ∙ sym (renamed_renamed (by_parity of_rule (λ y. of_solid (i.to y))) of_solid (region_process R))
+
+      one : OneToOneOn (by_parity of_rule (λ y. of_solid (i.to y))) (renamed of_solid (region_process R))
+      one x y o o' e = go (source of_solid (region_process R) x) (source of_solid (region_process R) y)
+        where
+          go : Source of_solid (region_process R) x → Source of_solid (region_process R) y → x ≡ y
+          go (missing h) v = absurd (o (occurrences_none of_solid x (region_process R) h))
+          go u (missing h) = absurd (o' (occurrences_none of_solid y (region_process R) h))
+          go (found a p q) (found b p' q') =
+              let d : of_solid (i.to a) ≡ of_solid (i.to b) = sym (moves a) ∙ ap (by_parity of_rule (λ y. of_solid (i.to y))) q ∙ e ∙ sym (ap (by_parity of_rule (λ y. of_solid (i.to y))) q') ∙ moves b in
+              sym q ∙ ap of_solid (i.one_to_one a b p p' (odd_differs (i.to a) (i.to b) d)) ∙ q'
+
+  context_process : {p : Context} {m : Region} → MadeContext c p m → (Q : Process) × ContextInstance (made t) p Q × (Q ≡ renamed of_solid (region_process m))
+  context_process (made_open {p = p}) = (renamed of_solid (t.context_of (open_context p)), of_open, refl)
+  context_process (made_closed {p = p} {m = m} i) = (renamed of_solid (region_process m), of_closed (region_copied (region_of c (closed_context p)) m i), refl)
 
   kept_append : (xs ys : List SolidAtom) → kept_atoms (xs ++ ys) ≡ kept_atoms xs ++ kept_atoms ys
   kept_append [] ys = refl
   kept_append (x ∷ xs) ys = ap (λ k. atom_leaf x.label (map of_solid x.links) ∷ k) (kept_append xs ys)
 
-  pub contexts_listed : (ps : List Name) → Reordered (listed (kept_atoms (context_atoms c ps)) (context_membranes c ps) []) (together (map (made t).context_of ps))
-  contexts_listed [] = r_chain r_unit r_unit
-  contexts_listed (p ∷ ps) =
-      r_chain (r_same (ap (λ k. listed k (kept_membranes (c.membranes_of p) ++ context_membranes c ps) []) (kept_append (c.atoms_of p) (context_atoms c ps))))
-      (r_chain (listed_both (kept_atoms (c.atoms_of p)) (kept_atoms (context_atoms c ps)) (kept_membranes (c.membranes_of p)) (context_membranes c ps) [] []) (r_both (context_listed p) (contexts_listed ps)))
+  -- the items of two contexts side by side
+  pub contexts_both : (xs ys : List SolidAtom) (ms : Regions) (ks : List Level) → Reordered (listed (kept_atoms (xs ++ ys)) (kept_membranes ms ++ ks) []) (pair (renamed of_solid (region_process (region xs ms []))) (listed (kept_atoms ys) ks []))
+  contexts_both xs ys ms ks =
+      r_chain (r_same (ap (λ k. listed k (kept_membranes ms ++ ks) []) (kept_append xs ys)))
+      (r_chain (listed_both (kept_atoms xs) (kept_atoms ys) (kept_membranes ms) ks [] []) (r_beside (r_same (kept_listed xs ms []))))
+
+  pub record ContextsProcess (ps : List Context) (P : Process) : Type 0 where
+    pub processes : List Process
+    pub instances : ContextInstances (made t) ps processes
+    pub order : Reordered P (together processes)
+
+  contexts_process : {ps : List Context} {xs : List SolidAtom} {ks : List Level} → MadeContexts c ps xs ks → ContextsProcess ps (listed (kept_atoms xs) ks [])
+  contexts_process no_made_context = record { processes = []; instances = no_context_instance; order = r_chain r_unit r_unit }
+  contexts_process (made_context {xs = xs} {ys = ys} {ms = ms} {ks = ks} i j) =
+      let u = context_process i in
+      let v = contexts_process j in
+      record { processes = u.0 ∷ v.processes; instances = context_and u.1 v.instances; order = r_chain (contexts_both xs ys ms ks) (r_both (r_same (sym u.2)) v.order) }
 
   rules_together : (ps : List Name) → Reordered (together (map rule (context_rules c ps))) (together (rules_of_contexts (made t) ps))
   rules_together [] = r_same refl
@@ -146,28 +190,28 @@ module _ (c : Contents) where
     pub instances : MembraneInstances (made t) ls processes
     pub order : Reordered P (together processes)
 
-  level_joined : (leaves outs : List Leaf) (membranes : Levels) (made_ms : List Level) (ps qs : List Name) (rules : Rules) → LeavesProcess leaves (together (map leaf_process outs)) → MembranesProcess membranes (together (map held made_ms))
-      → LevelProcess (level leaves membranes ps qs rules) (listed (outs ++ kept_atoms (context_atoms c ps)) (made_ms ++ context_membranes c ps) (rules_list rules ++ context_rules c qs))
-  level_joined leaves outs membranes made_ms ps qs rules u v =
+  level_joined : (leaves outs : List Leaf) (membranes : Levels) (made_ms ks : List Level) (ps : List Context) (qs : List Name) (rules : Rules) (xs : List SolidAtom) → LeavesProcess leaves (together (map leaf_process outs)) → MembranesProcess membranes (together (map held made_ms))
+      → ContextsProcess ps (listed (kept_atoms xs) ks []) → LevelProcess (level leaves membranes ps qs rules) (listed (outs ++ kept_atoms xs) (made_ms ++ ks) (rules_list rules ++ context_rules c qs))
+  level_joined leaves outs membranes made_ms ks ps qs rules xs u v w =
       let A = together u.processes in
       let M = together v.processes in
-      let C = together (map (made t).context_of ps) in
+      let C = together w.processes in
       let Q = together (rules_of_contexts (made t) qs) in
       let R = together (map rule (rules_list rules)) in
       let L = listed outs made_ms (rules_list rules) in
-      let X = together (map leaf_process (kept_atoms (context_atoms c ps))) in
-      let Y = together (map held (context_membranes c ps)) in
+      let X = together (map leaf_process (kept_atoms xs)) in
+      let Y = together (map held ks) in
       let Z = together (map rule (context_rules c qs)) in
-      let d : Reordered (listed (outs ++ kept_atoms (context_atoms c ps)) (made_ms ++ context_membranes c ps) (rules_list rules ++ context_rules c qs)) (pair L (pair X (pair Y Z))) =
-      listed_both outs (kept_atoms (context_atoms c ps)) made_ms (context_membranes c ps) (rules_list rules) (context_rules c qs) in
+      let d : Reordered (listed (outs ++ kept_atoms xs) (made_ms ++ ks) (rules_list rules ++ context_rules c qs)) (pair L (pair X (pair Y Z))) =
+      listed_both outs (kept_atoms xs) made_ms ks (rules_list rules) (context_rules c qs) in
       let e : Reordered L (pair A (pair M R)) = r_both u.order (r_beside v.order) in
-      let f : Reordered (pair X (pair Y Z)) (pair C Q) = r_chain r_regroup (r_chain (r_beside (r_right r_alone)) (r_both (contexts_listed ps) (rules_together qs))) in
-      record { process = pair A (pair M (pair C (pair Q R))); is = instance u.instances v.instances; order = r_chain d (r_chain (r_both e f) (r_chain (r_back r_regroup) (r_right (r_chain (r_back r_regroup) (r_right (r_chain r_swap (r_back r_regroup))))))) }
+      let f : Reordered (pair X (pair Y Z)) (pair C Q) = r_chain r_regroup (r_chain (r_beside (r_right r_alone)) (r_both w.order (rules_together qs))) in
+      record { process = pair A (pair M (pair C (pair Q R))); is = instance u.instances v.instances w.instances; order = r_chain d (r_chain (r_both e f) (r_chain (r_back r_regroup) (r_right (r_chain (r_back r_regroup) (r_right (r_chain r_swap (r_back r_regroup))))))) }
 
   mutual
     pub made_process : {l : Level} {outs : List Leaf} {made_ms : List Level} {rs : List Rule} → MadeLevel c l outs made_ms rs → LevelProcess l (listed outs made_ms rs)
-    made_process (made_level {leaves = leaves} {outs = outs} {membranes = membranes} {made = made_ms} {contexts = ps} {rule_contexts = qs} {rules = rules} i j) =
-        level_joined leaves outs membranes made_ms ps qs rules (leaves_process i) (membranes_process j)
+    made_process (made_level {leaves = leaves} {outs = outs} {membranes = membranes} {made = made_ms} {ks = ks} {contexts = ps} {rule_contexts = qs} {rules = rules} {xs = xs} i j k) =
+        level_joined leaves outs membranes made_ms ks ps qs rules xs (leaves_process i) (membranes_process j) (contexts_process k)
 
     membranes_process : {ls : Levels} {made_ms : List Level} → MadeMembranes c ls made_ms → MembranesProcess ls (together (map held made_ms))
     membranes_process no_made_membrane = record { processes = []; instances = no_membrane; order = r_same refl }
@@ -177,14 +221,14 @@ module _ (c : Contents) where
         record { processes = membrane u.process ∷ v.processes; instances = membrane_and u.is v.instances; order = r_both (r_inside (r_chain (r_same (level_listed outs inner rs)) u.order)) v.order }
 
 -- the filling of a membrane whose rest is left to its contexts
-pub literal_filling : (c : Contents) {ps qs : List Name} {xs : List SolidAtom} {ms : Regions} {rs : List Rule} → LeftToContext c ps xs ms → LeftToRuleContext c qs rs → Reordered (filling (assignment_of c) ps qs no_rule) (region_process (region xs ms rs))
+pub literal_filling : (c : Contents) {ps : List Context} {qs : List Name} {xs : List SolidAtom} {ms : Regions} {rs : List Rule} → LeftToContext c ps xs ms → LeftToRuleContext c qs rs → Reordered (filling (assignment_of c) ps qs no_rule) (region_process (region xs ms rs))
 literal_filling c no_context no_rule_context = r_same refl
 literal_filling c one_context no_rule_context = r_chain (r_both (r_back r_alone) r_unit) (r_back r_alone)
 literal_filling c no_context one_rule_context = r_right (r_chain (r_back r_alone) (r_chain (r_back r_alone) (r_back r_unit)))
 literal_filling c one_context one_rule_context = r_chain (r_both (r_back r_alone) (r_chain (r_back r_alone) (r_back r_alone))) (r_chain (r_back r_regroup) (r_right (r_chain (r_back r_regroup) (r_right r_unit))))
 
 -- the same of a region that is left
-pub left_filling : (c : Contents) (ps qs : List Name) (rest : Region) → LeftTo c ps qs rest → Reordered (filling (assignment_of c) ps qs no_rule) (region_process rest)
+pub left_filling : (c : Contents) (ps : List Context) (qs : List Name) (rest : Region) → LeftTo c ps qs rest → Reordered (filling (assignment_of c) ps qs no_rule) (region_process rest)
 left_filling c ps qs (region xs ms rs) u = literal_filling c u.0 u.1
 
 -- ---- the raw process of a raw level
@@ -197,9 +241,10 @@ membranes_no_rule : (ms : Regions) → NoRuleAtTop (together (regions_processes 
 membranes_no_rule no_region = tt
 membranes_no_rule (region_and m ms) = (tt, membranes_no_rule ms)
 
--- contents whose roots are free are a plain assignment
-pub contents_plain : (c : Contents) → ((p : Name) → Free (c.typed_of p).root (c.typed_of p).process) → Plain (assignment_of c)
-contents_plain c f = record {
+-- contents that are closed where they must be, and whose roots are free, are a plain assignment
+pub contents_plain : (c : Contents) → ((p : Name) → Closed (region_process (region_of c (closed_context p)))) → ((p : Name) → Free (c.typed_of p).root (c.typed_of p).process) → Plain (assignment_of c)
+contents_plain c k f = record {
+  closed = k;
   no_connector = λ p. region_plain (region (c.atoms_of p) (c.membranes_of p) []);
   no_rule = λ p. (atoms_no_rule (c.atoms_of p), (membranes_no_rule (c.membranes_of p), tt));
   root_is_free = f;
@@ -225,7 +270,7 @@ mutual
 
 -- an embedding is one up to order
 abbrev pub embeds_loosely : {r : Rule} {f : List ℕ} {m : Region} → EmbedsAt r f m → EmbedsLoosely r f m
-embeds_loosely e = record { assignment = assignment_of e.contents; rest = e.rest; plain = contents_plain e.contents e.root_is_free; images = level_images_of e.lies; guard = e.guard }
+embeds_loosely e = record { assignment = assignment_of e.contents; rest = e.rest; plain = contents_plain e.contents e.closed e.root_is_free; images = level_images_of e.lies; guard = e.guard }
 
 -- a level has the raw process of a firing, up to order
 pub record RawProcess (S : Region) (L : Level) : Type 0 where

@@ -29,6 +29,8 @@ pub mod Images
 pub mod Firings
 pub mod Skeleton
 pub mod Heads
+pub mod Lookups
+pub mod LiteralHeads
 pub mod Embedding
 pub mod Exposing
 pub mod Ends

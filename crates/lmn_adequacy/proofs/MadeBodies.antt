@@ -1,28 +1,32 @@
 -- A body makes lists in which each link of the rule has as many places as in the body, those of the contexts are kept, and
 -- each copy of a typed context has links of its own.
-use Rattle.std.proofs.Common.{ℕ, List, map, refl, ap, arith, ◌≡◌, ◌+◌, ◌≤◌, [], ◌∷◌, ◌++◌}
+use Rattle.std.proofs.Common.{ℕ, List, map, refl, sym, ap, subst, arith, ◌≡◌, ◌+◌, ◌≤◌, [], ◌∷◌, ◌++◌, ◌∙◌}
 use Rattle.lmn_congruence.specs.FreeLinks.{link_bound}
 use Rattle.lmn_congruence.specs.LinkedRules.{leaves_occurrences, level_occurrences, levels_occurrences}
 use Rattle.lmn_congruence.specs.Orders.{Among, at_head, further}
 use Rattle.lmn_congruence.specs.Plains.{leaf_process}
 use Rattle.lmn_congruence.specs.Process.{OneToOneOn, occurrences, renamed, together}
-use Rattle.lmn_congruence.specs.Rules.{Leaf, Level, Levels, Name, Rule, atom_leaf, connector_leaf, level, level_and, no_level, rules_list, typed_leaf}
+use Rattle.lmn_congruence.specs.Rules.{Context, Leaf, Level, Levels, Name, Rule, atom_leaf, closed_context, connector_leaf, level, level_and, no_level, open_context, rules_list, typed_leaf}
+use Rattle.lmn_congruence.specs.Regions.{Region, Regions, SolidAtom, region, region_process}
+use Rattle.lmn_congruence.specs.Same.{renamed_atom, renamed_regions}
 use Rattle.lmn_congruence.specs.Translation.{levels, rules as listed_rules}
 use Rattle.lmn_reduction.specs.Assignments.{Assignment}
 use Rattle.lmn_reduction.specs.Firing.{typed_contexts, typed_contexts_in, typed_leaves}
 use Rattle.lmn_reduction.specs.Parts.{IsGround}
+use Rattle.lmn_congruence.proofs.Renaming.{occurrences_image, occurrences_none}
 use Rattle.lmn_congruence.proofs.Reordered.{reordered_count}
-use Rattle.lmn_adequacy.specs.Accepted.{all_contexts, contexts_in}
-use Rattle.lmn_adequacy.specs.Embedding.{IsPart, Contents, assignment_of}
+use Rattle.lmn_adequacy.specs.Accepted.{all_contexts, contexts_in, open_names}
+use Rattle.lmn_adequacy.specs.Embedding.{IsPart, Contents, assignment_of, region_of}
 use Rattle.lmn_adequacy.specs.Loose.{Plain}
-use Rattle.lmn_adequacy.specs.Next.{MadeLeaves, MadeLevel, MadeMembranes, context_atoms, context_membranes, context_rules, kept_atoms, made_atom, part_leaves, made_connector, made_copy, made_level, made_membrane, no_made_leaf, no_made_membrane}
-use Rattle.lmn_adequacy.proofs.Bodies.{Copied, Whole, context_places, context_places_append, copied_links, copied_more, copied_none, odd_contexts, odd_not_even, past, past_differs}
+use Rattle.lmn_adequacy.specs.Next.{MadeLeaves, MadeLevel, MadeMembranes, context_rules, kept_atoms, made_atom, part_leaves, made_connector, made_copy, made_level, made_membrane, no_made_leaf, no_made_membrane, MadeContext, MadeContexts, kept_membranes, made_closed, made_context, made_open, no_made_context}
+use Rattle.lmn_adequacy.proofs.Bodies.{Copied, Whole, context_places, copied_links, copied_more, copied_none, odd_not_even, past, past_differs, copied_closed, open_places_append}
+use Rattle.lmn_reduction.proofs.OneSolid.{region_renamed}
 use Rattle.lmn_adequacy.proofs.Copies.{made_places}
-use Rattle.lmn_adequacy.proofs.InOrder.{contexts_listed, held, level_listed, listed, listed_both, together_both}
+use Rattle.lmn_adequacy.proofs.InOrder.{contexts_both, held, level_listed, listed, listed_both, together_both}
 use Rattle.lmn_adequacy.proofs.Listing.{listing}
-use Rattle.lmn_adequacy.proofs.RawProcesses.{made}
 use Rattle.lmn_adequacy.proofs.SameParts.{part_count}
-use Rattle.lmn_adequacy.proofs.Skeleton.{copy_count, copy_map, copy_one, copy_root, no_even_contexts, places_even}
+use Rattle.lmn_adequacy.proofs.Skeleton.{copy_count, copy_map, copy_one, copy_root, places_even}
+use Rattle.lmn_splice.proofs.Fusions.{apart_rule as even_not_odd, solid_once as odd_differs}
 use Rattle.lmn_splice.specs.Splice.{of_rule, of_solid}
 use Rattle.lmn_congruence.proofs.TranslatedLinks.{no_link_in_rules as no_link_rules}
 use Rattle.lmn_congruence.proofs.Common.{among_left, among_right}
@@ -50,7 +54,7 @@ module _ (c : Contents) (p : Plain (assignment_of c)) where
     pub count : (x : ℕ) → occurrences (of_rule x) (listed outs membranes rule_list) ≡ level_occurrences x l
     pub next : ℕ
     pub later : from ≤ next
-    pub odd : (L : ℕ) → Copied from next L (context_places t p L (all_contexts l)) (occurrences (of_solid L) (listed outs membranes rule_list))
+    pub odd : (L : ℕ) → Copied from next L (context_places t p L (open_names (all_contexts l))) (occurrences (of_solid L) (listed outs membranes rule_list))
 
   pub record LevelsListed (ls : Levels) (from : ℕ) : Type 0 where
     pub membranes : List Level
@@ -58,7 +62,7 @@ module _ (c : Contents) (p : Plain (assignment_of c)) where
     pub count : (x : ℕ) → occurrences (of_rule x) (together (map held membranes)) ≡ levels_occurrences x ls
     pub next : ℕ
     pub later : from ≤ next
-    pub odd : (L : ℕ) → Copied from next L (context_places t p L (contexts_in ls)) (occurrences (of_solid L) (together (map held membranes)))
+    pub odd : (L : ℕ) → Copied from next L (context_places t p L (open_names (contexts_in ls))) (occurrences (of_solid L) (together (map held membranes)))
 
   abbrev Ready : List Name → Type 0
   Ready ps = (q : Name) → Among q ps → (IsGround (c.typed_of q)) × Whole (c.typed_of q)
@@ -109,28 +113,90 @@ module _ (c : Contents) (p : Plain (assignment_of c)) where
             record { copies = d.copies; is = omega (arith, n (of_solid L), d.is); whole = d.whole };
       }
 
-  -- what a level makes and what its contexts stand for
-  level_count : (z : ℕ) (outs : List Leaf) (ms : List Level) (ps qs : List Name) (rs : List Rule)
-      → occurrences z (listed (outs ++ kept_atoms (context_atoms c ps)) (ms ++ context_membranes c ps) (rs ++ context_rules c qs)) ≡ (occurrences z (together (map leaf_process outs)) + occurrences z (together (map held ms))) + occurrences z (together (map (made t).context_of ps))
-  level_count z outs ms ps qs rs =
-      omega (arith, reordered_count (listed_both outs (kept_atoms (context_atoms c ps)) ms (context_membranes c ps) rs (context_rules c qs)) z, no_link_rules z rs, no_link_rules z (context_rules c qs), reordered_count (contexts_listed c ps) z)
+  -- ---- contexts
+
+  record ContextListed (q : Context) (from : ℕ) : Type 0 where
+    pub atoms : List SolidAtom
+    pub membranes : Regions
+    pub makes : MadeContext c q (region atoms membranes [])
+    pub next : ℕ
+    pub later : from ≤ next
+    pub odd : (L : ℕ) → Copied from next L (context_places t p L (open_names (q ∷ []))) (occurrences L (region_process (region atoms membranes [])))
+
+  context_listed : (q : Context) (N : ℕ) → ContextListed q N
+  context_listed (open_context q) N = record {
+    atoms = c.atoms_of (open_context q);
+    membranes = c.membranes_of (open_context q);
+    makes = made_open;
+    next = N;
+    later = omega arith;
+    odd = λ L. copied_none N N L (context_places t p L (q ∷ [])) (occurrences L (region_process (region_of c (open_context q)))) (omega arith);
+  }
+  context_listed (closed_context q) N =
+      let R = region_of c (closed_context q) in
+      record {
+        atoms = map (renamed_atom (past t p N)) (c.atoms_of (closed_context q));
+        membranes = renamed_regions (past t p N) (c.membranes_of (closed_context q));
+        makes = made_closed (record { to = past t p N; one_to_one = λ a b o o' e. past_differs t p N a b e; is = refl });
+        next = N + link_bound (region_process R);
+        later = omega arith;
+        odd = λ L. subst (Copied N (N + link_bound (region_process R)) L 0) (sym (ap (occurrences L) (region_renamed (past t p N) R))) (copied_closed t p N L (region_process R) (p.closed q));
+      }
+
+  pub record ContextsListed (ps : List Context) (from : ℕ) : Type 0 where
+    pub atoms : List SolidAtom
+    pub membranes : List Level
+    pub makes : MadeContexts c ps atoms membranes
+    pub count : (x : ℕ) → occurrences (of_rule x) (listed (kept_atoms atoms) membranes []) ≡ 0
+    pub next : ℕ
+    pub later : from ≤ next
+    pub odd : (L : ℕ) → Copied from next L (context_places t p L (open_names ps)) (occurrences (of_solid L) (listed (kept_atoms atoms) membranes []))
+
+  contexts_listed : (ps : List Context) (N : ℕ) → ContextsListed ps N
+  contexts_listed [] N = record { atoms = []; membranes = []; makes = no_made_context; count = λ x. refl; next = N; later = omega arith; odd = λ L. copied_none N N L 0 0 refl }
+  contexts_listed (q ∷ ps) N =
+      let u = context_listed q N in
+      let v = contexts_listed ps u.next in
+      let R = region_process (region u.atoms u.membranes []) in
+      let n : (z : ℕ) → occurrences z (listed (kept_atoms (u.atoms ++ v.atoms)) (kept_membranes u.membranes ++ v.membranes) []) ≡ occurrences z (renamed of_solid R) + occurrences z (listed (kept_atoms v.atoms) v.membranes []) =
+      λ z. reordered_count (contexts_both c u.atoms v.atoms u.membranes v.membranes) z in
+      record {
+        atoms = u.atoms ++ v.atoms;
+        membranes = kept_membranes u.membranes ++ v.membranes;
+        makes = made_context u.makes v.makes;
+        count = λ x. n (of_rule x) ∙ cc (occurrences_none of_solid (of_rule x) R (λ y o e. even_not_odd x y (sym e)), v.count x);
+        next = v.next;
+        later = omega (arith, u.later, v.later);
+        odd = λ L.
+            let d = copied_more N u.next v.next L (context_places t p L (open_names (q ∷ []))) (context_places t p L (open_names ps)) (occurrences L R) (occurrences (of_solid L) (listed (kept_atoms v.atoms) v.membranes [])) u.later v.later (u.odd L) (v.odd L) in
+            record { copies = d.copies; is = omega (arith, n (of_solid L), occurrences_image of_solid L R (λ z o e. odd_differs z L e), d.is, open_places_append t p L (q ∷ []) ps); whole = d.whole };
+      }
+
+  -- what a level makes
+  level_count : (z : ℕ) (outs : List Leaf) (ms ks : List Level) (xs : List SolidAtom) (qs : List Name) (rs : List Rule)
+      → occurrences z (listed (outs ++ kept_atoms xs) (ms ++ ks) (rs ++ context_rules c qs)) ≡ (occurrences z (together (map leaf_process outs)) + occurrences z (together (map held ms))) + occurrences z (listed (kept_atoms xs) ks [])
+  level_count z outs ms ks xs qs rs =
+      omega (arith, reordered_count (listed_both outs (kept_atoms xs) ms ks rs (context_rules c qs)) z, no_link_rules z rs, no_link_rules z (context_rules c qs))
 
   mutual
     pub level_listed_from : (l : Level) → Ready (typed_contexts l) → (N : ℕ) → LevelListed l N
-    level_listed_from (level leaves membranes ps qs rules) w N =
-        let u = leaves_listed leaves (λ q a. w q (among_left (typed_contexts_in membranes) a)) N in
-        let v = levels_listed_from membranes (λ q a. w q (among_right (typed_leaves leaves) a)) u.next in
+    level_listed_from (level leaves membranes ps qs rules) ready N =
+        let u = leaves_listed leaves (λ q a. ready q (among_left (typed_contexts_in membranes) a)) N in
+        let v = levels_listed_from membranes (λ q a. ready q (among_right (typed_leaves leaves) a)) u.next in
+        let w = contexts_listed ps v.next in
         record {
-          outs = u.outs ++ kept_atoms (context_atoms c ps);
-          membranes = v.membranes ++ context_membranes c ps;
+          outs = u.outs ++ kept_atoms w.atoms;
+          membranes = v.membranes ++ w.membranes;
           rule_list = rules_list rules ++ context_rules c qs;
-          makes = made_level u.makes v.makes;
-          count = λ x. omega (arith, level_count (of_rule x) u.outs v.membranes ps qs (rules_list rules), u.count x, v.count x, no_even_contexts t p x ps);
-          next = v.next;
-          later = omega (arith, u.later, v.later);
+          makes = made_level u.makes v.makes w.makes;
+          count = λ x. omega (arith, level_count (of_rule x) u.outs v.membranes w.membranes w.atoms qs (rules_list rules), u.count x, v.count x, w.count x);
+          next = w.next;
+          later = omega (arith, u.later, v.later, w.later);
           odd = λ L.
-              let d = copied_more N u.next v.next L 0 (context_places t p L (contexts_in membranes)) (occurrences (of_solid L) (together (map leaf_process u.outs))) (occurrences (of_solid L) (together (map held v.membranes))) u.later v.later (u.odd L) (v.odd L) in
-              record { copies = d.copies; is = omega (arith, d.is, level_count (of_solid L) u.outs v.membranes ps qs (rules_list rules), odd_contexts t p L ps, context_places_append t p L ps (contexts_in membranes)); whole = d.whole };
+              let n = context_places t p L (open_names (contexts_in membranes)) in
+              let d = copied_more N u.next v.next L 0 n (occurrences (of_solid L) (together (map leaf_process u.outs))) (occurrences (of_solid L) (together (map held v.membranes))) u.later v.later (u.odd L) (v.odd L) in
+              let e = copied_more N v.next w.next L (0 + n) (context_places t p L (open_names ps)) (occurrences (of_solid L) (together (map leaf_process u.outs)) + occurrences (of_solid L) (together (map held v.membranes))) (occurrences (of_solid L) (listed (kept_atoms w.atoms) w.membranes [])) (omega (arith, u.later, v.later)) w.later d (w.odd L) in
+              record { copies = e.copies; is = omega (arith, e.is, level_count (of_solid L) u.outs v.membranes w.membranes w.atoms qs (rules_list rules), open_places_append t p L ps (contexts_in membranes)); whole = e.whole };
         }
 
     pub levels_listed_from : (ls : Levels) → Ready (typed_contexts_in ls) → (N : ℕ) → LevelsListed ls N
@@ -146,6 +212,6 @@ module _ (c : Contents) (p : Plain (assignment_of c)) where
           next = v.next;
           later = omega (arith, u.later, v.later);
           odd = λ L.
-              let d = copied_more N u.next v.next L (context_places t p L (all_contexts l)) (context_places t p L (contexts_in ls)) (occurrences (of_solid L) (listed u.outs u.membranes u.rule_list)) (occurrences (of_solid L) (together (map held v.membranes))) u.later v.later (u.odd L) (v.odd L) in
-              record { copies = d.copies; is = omega (arith, ap (occurrences (of_solid L)) e, d.is, context_places_append t p L (all_contexts l) (contexts_in ls)); whole = d.whole };
+              let d = copied_more N u.next v.next L (context_places t p L (open_names (all_contexts l))) (context_places t p L (open_names (contexts_in ls))) (occurrences (of_solid L) (listed u.outs u.membranes u.rule_list)) (occurrences (of_solid L) (together (map held v.membranes))) u.later v.later (u.odd L) (v.odd L) in
+              record { copies = d.copies; is = omega (arith, ap (occurrences (of_solid L)) e, d.is, open_places_append t p L (all_contexts l) (contexts_in ls)); whole = d.whole };
         }

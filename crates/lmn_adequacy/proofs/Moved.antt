@@ -27,6 +27,13 @@ pub record MovedList (Ps Ps' : List Process) : Type 0 where
   pub is : Ps' ≡ map (renamed to) Ps
   pub stays : (z : ℕ) → Free z (together Ps) → to z ≡ z
 
+-- and so are two lists of processes, by one map
+pub record MovedLists (Ps Ps' Qs Qs' : List Process) : Type 0 where
+  pub to : ℕ → ℕ
+  pub first : Ps' ≡ map (renamed to) Ps
+  pub second : Qs' ≡ map (renamed to) Qs
+  pub stays : (z : ℕ) → Free z (pair (together Ps) (together Qs)) → to z ≡ z
+
 -- ---- two maps in one
 
 abbrev blend : (ℕ → ℕ) → (ℕ → ℕ) → (ℕ → ℕ) → ℕ → ℕ
@@ -137,13 +144,61 @@ moved_one {P} u = record { to = u.to; is = ap (λ k. k ∷ []) u.is; stays = λ 
 pub moved_cons : {P P' : Process} {Ps Ps' : List Process} → Moved P P' → MovedList Ps Ps' → Linked (together (P ∷ Ps)) → MovedList (P ∷ Ps) (P' ∷ Ps')
 moved_cons u v l = moved_append (moved_one u) v l
 
+-- processes that are renamed are renamed together
+pub renamed_list : (f : ℕ → ℕ) (Ps : List Process) → together (map (renamed f) Ps) ≡ renamed f (together Ps)
+renamed_list f [] = refl
+renamed_list f (P ∷ Ps) = ap (pair (renamed f P)) (renamed_list f Ps)
+
 -- processes that are moved are moved together
 pub moved_together : {Ps Ps' : List Process} → MovedList Ps Ps' → Moved (together Ps) (together Ps')
 moved_together {Ps} u = record { to = u.to; is = ap together u.is ∙ renamed_list u.to Ps; stays = u.stays }
+
+-- two lists that are each moved are moved by one map
+pub moved_beside : {Ps Ps' Qs Qs' : List Process} → MovedList Ps Ps' → MovedList Qs Qs' → Linked (pair (together Ps) (together Qs)) → MovedLists Ps Ps' Qs Qs'
+moved_beside {Ps} {Ps'} {Qs} {Qs'} u v l =
+    let P = together Ps in
+    let Q = together Qs in
+    let w : ℕ → ℕ = both P Q u.to v.to l u.stays v.stays in
+    record {
+      to = w;
+      first = u.is ∙ sym (agree_list w u.to Ps (λ z o. at_first P Q u.to v.to l u.stays v.stays z o));
+      second = v.is ∙ sym (agree_list w v.to Qs (λ z o. at_second P Q u.to v.to l u.stays v.stays z o));
+      stays = λ z g. both_stay P Q u.to v.to l u.stays v.stays z g;
+    }
+
+-- two pairs of lists that are moved are moved by one map, one behind the other
+pub moved_behind : {Ps Ps' Qs Qs' Rs Rs' Ss Ss' : List Process} → MovedLists Ps Ps' Qs Qs' → MovedLists Rs Rs' Ss Ss' → Linked (pair (together (Ps ++ Rs)) (together (Qs ++ Ss))) → MovedLists (Ps ++ Rs) (Ps' ++ Rs') (Qs ++ Ss) (Qs' ++ Ss')
+moved_behind {Ps} {Ps'} {Qs} {Qs'} {Rs} {Rs'} {Ss} {Ss'} u v k =
+    let P = pair (together Ps) (together Qs) in
+    let Q = pair (together Rs) (together Ss) in
+    let l : Linked (pair P Q) = record { at_most_twice = λ z. omega (arith, occurrences_append z Ps Rs, occurrences_append z Qs Ss, k.at_most_twice z) } in
+    let w : ℕ → ℕ = both P Q u.to v.to l u.stays v.stays in
+    let f : (z : ℕ) → Occurs z P → w z ≡ u.to z = λ z o. at_first P Q u.to v.to l u.stays v.stays z o in
+    let g : (z : ℕ) → Occurs z Q → w z ≡ v.to z = λ z o. at_second P Q u.to v.to l u.stays v.stays z o in
+    let a : Ps' ≡ map (renamed w) Ps = u.first ∙ sym (agree_list w u.to Ps (λ z o. f z (in_left (occurrences z (together Ps)) (occurrences z (together Qs)) o))) in
+    let b : Qs' ≡ map (renamed w) Qs = u.second ∙ sym (agree_list w u.to Qs (λ z o. f z (in_right (occurrences z (together Ps)) (occurrences z (together Qs)) o))) in
+    let c : Rs' ≡ map (renamed w) Rs = v.first ∙ sym (agree_list w v.to Rs (λ z o. g z (in_left (occurrences z (together Rs)) (occurrences z (together Ss)) o))) in
+    let d : Ss' ≡ map (renamed w) Ss = v.second ∙ sym (agree_list w v.to Ss (λ z o. g z (in_right (occurrences z (together Rs)) (occurrences z (together Ss)) o))) in
+    record {
+      to = w;
+      first = cc (a, c) ∙ sym (map_append (renamed w) Ps Rs);
+      second = cc (b, d) ∙ sym (map_append (renamed w) Qs Ss);
+      stays = λ z e. both_stay P Q u.to v.to l u.stays v.stays z (omega (arith, occurrences_append z Ps Rs, occurrences_append z Qs Ss, e));
+    }
   where
-    renamed_list : (f : ℕ → ℕ) (Ps : List Process) → together (map (renamed f) Ps) ≡ renamed f (together Ps)
-    renamed_list f [] = refl
-    renamed_list f (P ∷ Ps) = ap (pair (renamed f P)) (renamed_list f Ps)
+    in_left : (m n : ℕ) → m ≢ 0 → m + n ≢ 0
+    in_left m n d = grind arith
+
+    in_right : (m n : ℕ) → n ≢ 0 → m + n ≢ 0
+    in_right m n d = grind arith
+
+-- two lists are moved to themselves
+pub moved_lists_same : {Ps Ps' Qs Qs' : List Process} → Ps ≡ Ps' → Qs ≡ Qs' → MovedLists Ps Ps' Qs Qs'
+unfolding moved_list_same
+moved_lists_same {Ps} {Ps'} {Qs} {Qs'} e f =
+    let u = moved_list_same e in
+    let v = moved_list_same f in
+    record { to = λ z. z; first = u.is; second = v.is; stays = λ z g. refl }
 
 -- ---- the solids of two levels whose processes differ so
 

@@ -12,11 +12,10 @@ use Rattle.lmn_congruence.specs.Rules.{Level}
 use Rattle.lmn_congruence.specs.Same.{IsRenamed, renamed_atom, renamed_region, renamed_regions}
 use Rattle.lmn_congruence.proofs.Counts.{Occurs}
 use Rattle.lmn_reduction.proofs.OneSolid.{level_taken, region_renamed}
-use Rattle.lmn_congruence.proofs.Renaming.{occurrences_image, occurrences_none}
 use Rattle.lmn_adequacy.specs.Next.{links_at}
 use Rattle.lmn_adequacy.specs.Numbered.{IsNumbered, printed_links, printed_links_in}
 use Rattle.lmn_adequacy.proofs.Depth.{renamed_links as atoms_links}
-use Rattle.lmn_adequacy.proofs.Exposing.{Source, found, missing, source}
+use Rattle.lmn_adequacy.proofs.LiteralHeads.{closed_image}
 use Rattle.lmn_adequacy.proofs.Orders.{either}
 use Rattle.lmn_adequacy.proofs.SameParts.{atoms_places}
 use Rattle.lmn_base.proofs.Common.{numbers_head as one_number}
@@ -209,13 +208,6 @@ joins_mapped f v (atom a xs) j = tt
 joins_mapped f v (pair P Q) j = (joins_mapped f v P j.0, joins_mapped f v Q j.1)
 joins_mapped f v (membrane P) j = joins_mapped f v P j
 joins_mapped f v (rule r) j = tt
-
-closed_image : (f : ℕ → ℕ) (P : Process) → OneToOneOn f P → Closed P → Closed (renamed f P)
-closed_image f P one c z = go (source f P z)
-  where
-    go : Source f P z → (occurrences z (renamed f P) ≡ 0) ⊎ (occurrences z (renamed f P) ≡ 2)
-    go (found x o e) = subst (λ k. (k ≡ 0) ⊎ (k ≡ 2)) (sym (occurrences_image f x P (λ y o' q. one y x o' o q)) ∙ ap (λ w. occurrences w (renamed f P)) e) (c x)
-    go (missing h) = inl (occurrences_none f z P h)
 
 -- a solid with other numbers for its links is a solid of the same level
 pub renamed_solid : {top : Level} {S S' : Region} → SolidOf top S → IsRenamed S S' → SolidOf top S'

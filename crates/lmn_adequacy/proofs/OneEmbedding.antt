@@ -5,7 +5,7 @@ use Rattle.lmn_congruence.specs.Links.{places}
 use Rattle.lmn_congruence.specs.Orders.{Among, at_head, further}
 use Rattle.lmn_congruence.specs.Process.{occurrences, together}
 use Rattle.lmn_congruence.specs.Regions.{Region, Regions, SolidAtom, region, region_and, region_process, regions_processes}
-use Rattle.lmn_congruence.specs.Rules.{Leaf, Level, Levels, Name, Rule, level}
+use Rattle.lmn_congruence.specs.Rules.{Context, Leaf, Level, Levels, Name, Rule, level}
 use Rattle.lmn_reduction.specs.Assignments.{Assignment}
 use Rattle.lmn_reduction.specs.Firing.{typed_contexts, typed_contexts_in, typed_leaves}
 use Rattle.lmn_reduction.specs.Parts.{IsGround, Rooted, EqualParts}
@@ -32,8 +32,8 @@ abbrev pub SameTyped : Assignment → Assignment → List Name → Type 0
 SameTyped t s ps = (p : Name) → Among p ps → EqualParts (t.typed_of p) (s.typed_of p)
 
 -- and these contexts the same lists
-abbrev pub SameContexts : Contents → Contents → List Name → Type 0
-SameContexts c d ps = (p : Name) → Among p ps → (c.atoms_of p ≡ d.atoms_of p) × (c.membranes_of p ≡ d.membranes_of p)
+abbrev pub SameContexts : Contents → Contents → List Context → Type 0
+SameContexts c d ps = (p : Context) → Among p ps → (c.atoms_of p ≡ d.atoms_of p) × (c.membranes_of p ≡ d.membranes_of p)
 
 -- and these rule contexts the same rules
 abbrev pub SameRuleContexts : Contents → Contents → List Name → Type 0
@@ -197,10 +197,10 @@ parts_agree {t} {s} (part_and {p = p} {x = x} {part = part} {xs = xs} {xs' = us}
 
 -- ---- what is left to contexts
 
-left_atoms : {c : Contents} {p : Name} {xs : List SolidAtom} {ms : Regions} → LeftToContext c (p ∷ []) xs ms → (c.atoms_of p ≡ xs) × (c.membranes_of p ≡ ms)
+left_atoms : {c : Contents} {p : Context} {xs : List SolidAtom} {ms : Regions} → LeftToContext c (p ∷ []) xs ms → (c.atoms_of p ≡ xs) × (c.membranes_of p ≡ ms)
 left_atoms one_context = (refl, refl)
 
-left_contexts : {c d : Contents} {ps : List Name} {xs xs' : List SolidAtom} {ms ms' : Regions} → LeftToContext c ps xs ms → LeftToContext d ps xs' ms' → xs ≡ xs' → ms ≡ ms' → SameContexts c d ps
+left_contexts : {c d : Contents} {ps : List Context} {xs xs' : List SolidAtom} {ms ms' : Regions} → LeftToContext c ps xs ms → LeftToContext d ps xs' ms' → xs ≡ xs' → ms ≡ ms' → SameContexts c d ps
 left_contexts no_context no_context e f p k = elim k [ ]
 left_contexts one_context u e f p at_head = let v = left_atoms u in (e ∙ sym v.0, f ∙ sym v.1)
 left_contexts one_context u e f p (further k) = elim k [ ]
@@ -213,20 +213,20 @@ left_rule_contexts no_rule_context no_rule_context e p k = elim k [ ]
 left_rule_contexts one_rule_context u e p at_head = e ∙ sym (left_rules_is u)
 left_rule_contexts one_rule_context u e p (further k) = elim k [ ]
 
-left_same : (c d : Contents) {ps qs : List Name} (m m' : Region) → LeftTo c ps qs m → LeftTo d ps qs m' → m ≡ m' → SameContexts c d ps × SameRuleContexts c d qs
+left_same : (c d : Contents) {ps : List Context} {qs : List Name} (m m' : Region) → LeftTo c ps qs m → LeftTo d ps qs m' → m ≡ m' → SameContexts c d ps × SameRuleContexts c d qs
 left_same c d (region xs ms rs) (region xs' ms' rs') u v e = (left_contexts u.0 v.0 (ap atoms_in e) (ap membranes_in e), left_rule_contexts u.1 v.1 (ap rules_in e))
 
 -- ---- all of it
 
 -- two embeddings of a level leave the same region, and their contexts stand for the same
-pub record PartsSame (t s : Assignment) (c d : Contents) (rest rest' : Region) (typed contexts rule_contexts : List Name) : Type 0 where
+pub record PartsSame (t s : Assignment) (c d : Contents) (rest rest' : Region) (typed : List Name) (contexts : List Context) (rule_contexts : List Name) : Type 0 where
   pub rests : rest ≡ rest'
   pub same_typed : SameTyped t s typed
   pub same_contexts : SameContexts c d contexts
   pub same_rules : SameRuleContexts c d rule_contexts
 
 -- and so for the membranes of a level
-pub record MembranesSame (t s : Assignment) (c d : Contents) (rest rest' : Regions) (typed contexts rule_contexts : List Name) : Type 0 where
+pub record MembranesSame (t s : Assignment) (c d : Contents) (rest rest' : Regions) (typed : List Name) (contexts : List Context) (rule_contexts : List Name) : Type 0 where
   pub rests : rest ≡ rest'
   pub same_typed : SameTyped t s typed
   pub same_contexts : SameContexts c d contexts
@@ -236,7 +236,7 @@ pub record MembranesSame (t s : Assignment) (c d : Contents) (rest rest' : Regio
 abbrev HeldIn : Assignment → (ℕ → ℕ) → List ℕ → List ℕ → Type 0
 HeldIn t out typed ports = (x : ℕ) → Among x typed → Among x ports ⊎ (1 ≤ out (t.link_of x))
 
-both_names : {A : Name → Type 0} (ps qs : List Name) → ((p : Name) → Among p ps → A p) → ((p : Name) → Among p qs → A p) → (p : Name) → Among p (ps ++ qs) → A p
+both_names : {K : Type 0} {A : K → Type 0} (ps qs : List K) → ((p : K) → Among p ps → A p) → ((p : K) → Among p qs → A p) → (p : K) → Among p (ps ++ qs) → A p
 both_names ps qs f g p k = either (among_append ps qs k) (λ w. f p w) (λ w. g p w)
 
 module _ (t s : Assignment) (c d : Contents) where

@@ -3,19 +3,18 @@ use Rattle.std.proofs.Common.{ℕ, zero, suc, List, sym, ap, subst, [], ◌∷�
 use Rattle.lmn_congruence.specs.Orders.{Among, at_head, further}
 use Rattle.lmn_congruence.specs.Plains.{fused_level, fused_levels}
 use Rattle.lmn_congruence.specs.Regions.{Region, Regions, SolidAtom, no_region, region, region_and}
-use Rattle.lmn_congruence.specs.Rules.{Leaf, Level, Levels, Name, Rule, Rules, body_of, head_of, level, level_and, no_level, no_rule, rule_and, rule_of, rules_list}
+use Rattle.lmn_congruence.specs.Rules.{Context, Leaf, Level, Levels, Name, Rule, Rules, body_of, closed_context, head_of, level, level_and, no_level, no_rule, rule_and, rule_of, rules_list}
+use Rattle.lmn_congruence.specs.Same.{renamed_region, renamed_regions}
 use Rattle.lmn_congruence.specs.Translation.{levels, rules as listed_rules}
 use Rattle.lmn_reduction.specs.Assignments.{Assignment}
-use Rattle.lmn_congruence.proofs.Shuffles.{shuffle_flip}
 use Rattle.lmn_adequacy.specs.Accepted.{Accepted, Throughout, ThroughoutLevel, ThroughoutLevels, ThroughoutRules, all_contexts, all_rule_contexts, contexts_in, own_membranes, rule_contexts_in}
-use Rattle.lmn_adequacy.specs.Embedding.{AllRules, AllRulesIn, EachRule, TakenRegion, region_first, region_later, Contents, LeftTo, LeftToContext, LeftToRuleContext, no_context, no_rule_context, one_context, one_rule_context}
+use Rattle.lmn_adequacy.specs.Embedding.{AllRules, AllRulesIn, EachRule, TakenRegion, region_first, region_later, Contents, LeftTo, LeftToContext, LeftToRuleContext, no_context, no_rule_context, one_context, one_rule_context, region_of}
 use Rattle.lmn_adequacy.specs.Loose.{LevelImages, MembraneImages, level_images, membrane_image_and, no_membrane_image, EachLeft, EachLeftIn}
-use Rattle.lmn_adequacy.specs.Next.{FiresInOrder, MadeLevel, MadeMembranes, NextAt, RawAt, context_membranes, context_rules, fires_below, fires_here, kept_atoms, kept_level, kept_membranes, made_level, made_membrane, no_made_membrane, raw_level, replaced, wire_leaves}
+use Rattle.lmn_adequacy.specs.Next.{FiresInOrder, MadeLevel, MadeMembranes, NextAt, RawAt, context_rules, fires_below, fires_here, kept_atoms, kept_level, kept_membranes, made_level, made_membrane, no_made_membrane, raw_level, replaced, wire_leaves, MadeContext, MadeContexts, made_closed, made_context, made_open, no_made_context}
 use Rattle.lmn_adequacy.proofs.Heads.{region_there, rule_there}
 use Rattle.lmn_adequacy.proofs.InOrder.{each_left_of, level_images_of}
-use Rattle.lmn_adequacy.proofs.OneNext.{names_split}
+use Rattle.lmn_adequacy.proofs.OneNext.{names_split, of_the_head}
 use Rattle.lmn_adequacy.proofs.Orders.{either, taken_put}
-use Rattle.lmn_adequacy.proofs.SameParts.{shuffle_among}
 use Rattle.lmn_congruence.proofs.Common.{among_apart as among_append, rules_listed, among_left, among_right}
 
 each_append : (K : Rule → Type 0) (rs ss : List Rule) → EachRule K rs → EachRule K ss → EachRule K (rs ++ ss)
@@ -77,13 +76,13 @@ module _ (H : Rule → Type 0) where
   taken_rules region_first h = h
   taken_rules (region_later k) h = let u = taken_rules k h.1 in (u.0, (h.0, u.1))
 
-  abbrev ContextRules : Contents → List Name → List Name → Type 0
-  ContextRules c ps qs = ((p : Name) → Among p ps → AllRulesIn K (c.membranes_of p)) × ((q : Name) → Among q qs → EachRule K (c.rules_of q))
+  abbrev ContextRules : Contents → List Context → List Name → Type 0
+  ContextRules c ps qs = ((p : Context) → Among p ps → AllRulesIn K (c.membranes_of p)) × ((q : Name) → Among q qs → EachRule K (c.rules_of q))
 
-  left_rules : (c : Contents) (ps qs : List Name) (m : Region) → LeftTo c ps qs m → AllRules K m → ContextRules c ps qs
+  left_rules : (c : Contents) (ps : List Context) (qs : List Name) (m : Region) → LeftTo c ps qs m → AllRules K m → ContextRules c ps qs
   left_rules c ps qs (region xs ms rs) u h = ((λ p k. of_context u.0 k h.1), (λ q k. of_rule_context u.1 k h.0))
     where
-      of_context : {c : Contents} {ps : List Name} {xs : List SolidAtom} {ms : Regions} {p : Name} → LeftToContext c ps xs ms → Among p ps → AllRulesIn K ms → AllRulesIn K (c.membranes_of p)
+      of_context : {c : Contents} {ps : List Context} {xs : List SolidAtom} {ms : Regions} {p : Context} → LeftToContext c ps xs ms → Among p ps → AllRulesIn K ms → AllRulesIn K (c.membranes_of p)
       of_context no_context k h = elim k [ ]
       of_context one_context at_head h = h
       of_context one_context (further k) h = elim k [ ]
@@ -93,7 +92,7 @@ module _ (H : Rule → Type 0) where
       of_rule_context one_rule_context at_head h = h
       of_rule_context one_rule_context (further k) h = elim k [ ]
 
-  both_contexts : (c : Contents) (ps ps' qs qs' : List Name) → ContextRules c ps qs → ContextRules c ps' qs' → ContextRules c (ps ++ ps') (qs ++ qs')
+  both_contexts : (c : Contents) (ps ps' : List Context) (qs qs' : List Name) → ContextRules c ps qs → ContextRules c ps' qs' → ContextRules c (ps ++ ps') (qs ++ qs')
   both_contexts c ps ps' qs qs' h k = ((λ p i. either (among_append ps ps' i) (h.0 p) (k.0 p)), (λ q i. either (among_append qs qs' i) (h.1 q) (k.1 q)))
 
   mutual
@@ -110,9 +109,22 @@ module _ (H : Rule → Type 0) where
 
   -- ---- bodies
 
-  context_list : (c : Contents) (ps : List Name) → ((p : Name) → Among p ps → AllRulesIn K (c.membranes_of p)) → ListRules (context_membranes c ps)
-  context_list c [] h = tt
-  context_list c (p ∷ ps) h = list_append (kept_membranes (c.membranes_of p)) (context_membranes c ps) (kept_list (c.membranes_of p) (h p at_head)) (context_list c ps (λ q k. h q (further k)))
+  mutual
+    renamed_rules : (f : ℕ → ℕ) (m : Region) → AllRules K m → AllRules K (renamed_region f m)
+    renamed_rules f (region xs ms rs) h = (h.0, renamed_rules_in f ms h.1)
+
+    renamed_rules_in : (f : ℕ → ℕ) (ms : Regions) → AllRulesIn K ms → AllRulesIn K (renamed_regions f ms)
+    renamed_rules_in f no_region h = tt
+    renamed_rules_in f (region_and m ms) h = (renamed_rules f m h.0, renamed_rules_in f ms h.1)
+
+  -- what a context of the body makes has the rules of what it stands for
+  made_context_rules : (c : Contents) {p : Context} {m : Region} → MadeContext c p m → AllRulesIn K (c.membranes_of p) → AllRules K m
+  made_context_rules c made_open h = (tt, h)
+  made_context_rules c (made_closed {p = p} i) h = subst (AllRules K) (sym i.is) (renamed_rules i.to (region_of c (closed_context p)) (tt, h))
+
+  context_list : (c : Contents) {ps : List Context} {xs : List SolidAtom} {ks : List Level} → MadeContexts c ps xs ks → ((p : Context) → Among p ps → AllRulesIn K (c.membranes_of p)) → ListRules ks
+  context_list c no_made_context h = tt
+  context_list c (made_context {p = p} {ms = ms} {ks = ks} i j) h = list_append (kept_membranes ms) ks (kept_list ms (made_context_rules c i (h p at_head)).1) (context_list c j (λ q k. h q (further k)))
 
   context_rule_list : (c : Contents) (qs : List Name) → ((q : Name) → Among q qs → EachRule K (c.rules_of q)) → EachRule K (context_rules c qs)
   context_rule_list c [] h = tt
@@ -120,8 +132,8 @@ module _ (H : Rule → Type 0) where
 
   mutual
     made_rules_of : (c : Contents) {l : Level} {outs : List Leaf} {ms : List Level} {rs : List Rule} → MadeLevel c l outs ms rs → ThroughoutLevel H l → ContextRules c (all_contexts l) (all_rule_contexts l) → ListRules ms × EachRule K rs
-    made_rules_of c (made_level {membranes = membranes} {made = ms} {contexts = ps} {rule_contexts = qs} {rules = rules} u v) h k = (
-      list_append ms (context_membranes c ps) (made_list c v h.0 ((λ p i. k.0 p (among_right ps i)), (λ q i. k.1 q (among_right qs i)))) (context_list c ps (λ p i. k.0 p (among_left (contexts_in membranes) i))),
+    made_rules_of c (made_level {membranes = membranes} {made = ms} {ks = ks} {contexts = ps} {rule_contexts = qs} {rules = rules} u v w) h k = (
+      list_append ms ks (made_list c v h.0 ((λ p i. k.0 p (among_right ps i)), (λ q i. k.1 q (among_right qs i)))) (context_list c w (λ p i. k.0 p (among_left (contexts_in membranes) i))),
       each_append K (rules_list rules) (context_rules c qs) (throughout_rules rules h.1) (context_rule_list c qs (λ q i. k.1 q (among_left (rule_contexts_in membranes) i))),
     )
 
@@ -144,7 +156,7 @@ module _ (H : Rule → Type 0) where
       let u = images_rules c (level_images_of e.lies) (each_left_of e.lies) h in
       let n = names_split (head_of r) in
       let k : ContextRules c (all_contexts (body_of r)) (all_rule_contexts (body_of r)) = (
-        (λ p i. let j = shuffle_among (shuffle_flip a.kept) i in subst (λ w. AllRulesIn K (c.membranes_of w)) j.2 (u.1.0 j.0 (subst (Among j.0) (n.0 ∙ ap (λ w. w ++ contexts_in (own_membranes (head_of r))) a.top_contexts) j.1))),
+        (λ p i. u.1.0 p (subst (Among p) (n.0 ∙ ap (λ w. w ++ contexts_in (own_membranes (head_of r))) a.top_contexts) (of_the_head a p i))),
         (λ q i. u.1.1 q (subst (Among q) (n.1 ∙ ap (λ w. w ++ rule_contexts_in (own_membranes (head_of r))) a.top_rule_contexts) (a.known_rules q i))),
       ) in
       let v = made_rules_of c F.makes (body_rules r g) k in

@@ -5,10 +5,10 @@ use Rattle.lmn_congruence.specs.LinkedRules.{leaves_occurrences, level_occurrenc
 use Rattle.lmn_congruence.specs.Links.{one_if_same, places}
 use Rattle.lmn_congruence.specs.Process.{Free, OneToOneOn, Process, atom, connector, membrane, nothing, occurrences, pair, renamed, rule, together}
 use Rattle.lmn_congruence.specs.Regions.{Region, Regions, SolidAtom, atom_process, region_process, regions_processes}
-use Rattle.lmn_congruence.specs.Rules.{Leaf, Level, Levels, Name, Rule, Rules, level, level_and, rules_list}
+use Rattle.lmn_congruence.specs.Rules.{Context, Leaf, Level, Levels, Name, Rule, Rules, level, level_and, rules_list}
 use Rattle.lmn_congruence.specs.UpToOrder.{Reordered, r_back, r_beside, r_chain, r_inside, r_regroup, r_same, r_unit}
 use Rattle.lmn_reduction.specs.Assignments.{Assignment}
-use Rattle.lmn_reduction.specs.Instances.{IsCopy, LeafInstances, MembraneInstances, instance, leaf_and, membrane_and, no_leaf, no_membrane, of_atom, of_typed, rules_of_contexts}
+use Rattle.lmn_reduction.specs.Instances.{IsCopy, LeafInstances, leaf_and, no_leaf, of_atom, of_typed, rules_of_contexts}
 use Rattle.lmn_reduction.specs.Parts.{IsGround, OnlyAtoms, Rooted}
 use Rattle.lmn_congruence.proofs.Counts.{Occurs}
 use Rattle.lmn_congruence.proofs.LinkMaps.{two_occurrences}
@@ -21,6 +21,7 @@ use Rattle.lmn_adequacy.proofs.Embedding.{part_order}
 use Rattle.lmn_adequacy.proofs.Ends.{AllMembranes}
 use Rattle.lmn_adequacy.proofs.Exposing.{KeepsCounts}
 use Rattle.lmn_adequacy.proofs.Images.{atoms_plain, no_connector_renamed, no_link_rule_contexts, renamed_renamed}
+use Rattle.lmn_adequacy.proofs.LiteralHeads.{HeadInstances, head_and, head_instance, no_head}
 use Rattle.lmn_adequacy.proofs.Orders.{atoms_joined, merged_shuffle, r_both, r_over, region_put, shuffled_atoms, taken_put}
 use Rattle.lmn_adequacy.proofs.RawProcesses.{made}
 use Rattle.lmn_splice.specs.Splice.{of_rule, of_solid}
@@ -247,7 +248,7 @@ module _ (t : Assignment) (plain_t : Plain t) where
   kept_solid (membrane P) = (kept_solid_at P, kept_solid P)
   kept_solid (rule r) = tt
 
-  placed_contexts : (ps : List Name) → renamed place (together (map T.context_of ps)) ≡ together (map t.context_of ps)
+  placed_contexts : (ps : List Context) → renamed place (together (map T.context_of ps)) ≡ together (map t.context_of ps)
   placed_contexts [] = refl
   placed_contexts (p ∷ ps) = cc (placed_process (t.context_of p), placed_contexts ps)
 
@@ -259,10 +260,10 @@ module _ (t : Assignment) (plain_t : Plain t) where
   placed_rule_contexts [] = refl
   placed_rule_contexts (r ∷ rs) = cc (placed_rules (t.rules_of r), placed_rule_contexts rs)
 
-  placed_filling : (ps qs : List Name) (rs : Rules) → renamed place (filling T ps qs rs) ≡ filling t ps qs rs
+  placed_filling : (ps : List Context) (qs : List Name) (rs : Rules) → renamed place (filling T ps qs rs) ≡ filling t ps qs rs
   placed_filling ps qs rs = cc (placed_contexts ps, placed_rule_contexts qs, placed_rules (rules_list rs))
 
-  plain_contexts : (ps : List Name) → NoConnector (together (map T.context_of ps))
+  plain_contexts : (ps : List Context) → NoConnector (together (map T.context_of ps))
   plain_contexts [] = tt
   plain_contexts (p ∷ ps) = (no_connector_renamed of_solid (t.context_of p) (plain_t.no_connector p), plain_contexts ps)
 
@@ -274,7 +275,7 @@ module _ (t : Assignment) (plain_t : Plain t) where
   plain_rule_contexts [] = tt
   plain_rule_contexts (r ∷ rs) = (plain_rules (t.rules_of r), plain_rule_contexts rs)
 
-  flat_contexts : (ps : List Name) → AllMembranes (KeepsCounts place) (together (map T.context_of ps))
+  flat_contexts : (ps : List Context) → AllMembranes (KeepsCounts place) (together (map T.context_of ps))
   flat_contexts [] = tt
   flat_contexts (p ∷ ps) = (kept_solid (t.context_of p), flat_contexts ps)
 
@@ -286,7 +287,7 @@ module _ (t : Assignment) (plain_t : Plain t) where
   flat_rule_contexts [] = tt
   flat_rule_contexts (r ∷ rs) = (flat_rules (t.rules_of r), flat_rule_contexts rs)
 
-  pub no_even_contexts : (x : ℕ) (ps : List Name) → occurrences (of_rule x) (together (map T.context_of ps)) ≡ 0
+  pub no_even_contexts : (x : ℕ) (ps : List Context) → occurrences (of_rule x) (together (map T.context_of ps)) ≡ 0
   no_even_contexts x [] = refl
   no_even_contexts x (p ∷ ps) = omega (arith, occurrences_none of_solid (of_rule x) (t.context_of p) (λ y o q. even_not_odd x y (sym q)), no_even_contexts x ps)
 
@@ -327,7 +328,7 @@ module _ (t : Assignment) (plain_t : Plain t) where
     pub first : List Process
     pub second : List Process
     pub leaf_instances : LeafInstances T leaves first
-    pub membrane_instances : MembraneInstances T membranes second
+    pub membrane_instances : HeadInstances T membranes second
     pub order : Reordered (pair (renamed place (pair (together first) (together second))) (region_process rest)) (region_process m)
     pub plain : NoConnector (pair (together first) (together second))
     pub count : (x : ℕ) → occurrences (of_rule x) (pair (together first) (together second)) ≡ leaves_occurrences x leaves + levels_occurrences x membranes
@@ -335,13 +336,13 @@ module _ (t : Assignment) (plain_t : Plain t) where
 
   pub record MembranesSkeleton (ls : Levels) (ms rest : Regions) : Type 0 where
     pub processes : List Process
-    pub instances : MembraneInstances T ls processes
+    pub instances : HeadInstances T ls processes
     pub order : Reordered (pair (renamed place (together processes)) (together (regions_processes rest))) (together (regions_processes ms))
     pub plain : NoConnector (together processes)
     pub count : (x : ℕ) → occurrences (of_rule x) (together processes) ≡ levels_occurrences x ls
     pub kept : AllMembranes (KeepsCounts place) (together processes)
 
-  membrane_added : (leaves : List Leaf) (membranes ls : Levels) (contexts rule_contexts : List Name) (rules : Rules) (n : ℕ) (m rest : Region) (ms ms' ms'' : Regions) → TakenRegion n m ms ms'
+  membrane_added : (leaves : List Leaf) (membranes ls : Levels) (contexts : List Context) (rule_contexts : List Name) (rules : Rules) (n : ℕ) (m rest : Region) (ms ms' ms'' : Regions) → TakenRegion n m ms ms'
       → LevelSkeleton leaves membranes m rest → KeepsLinks t (level leaves membranes contexts rule_contexts rules) m → Reordered (filling t contexts rule_contexts rules) (region_process rest)
       → MembranesSkeleton ls ms' ms'' → MembranesSkeleton (level_and (level leaves membranes contexts rule_contexts rules) ls) ms ms''
   membrane_added leaves membranes ls contexts rule_contexts rules n m rest ms ms' ms'' k u e f w =
@@ -354,7 +355,7 @@ module _ (t : Assignment) (plain_t : Plain t) where
       (u.count x) (no_even_contexts x contexts) (no_link_rule_contexts T (of_rule x) rule_contexts) (no_link_rules (of_rule x) (rules_list rules)) in
       record {
         processes = membrane C ∷ w.processes;
-        instances = membrane_and (instance u.leaf_instances u.membrane_instances) w.instances;
+        instances = head_and (head_instance u.leaf_instances u.membrane_instances) w.instances;
         order = r_chain (r_back r_regroup) (r_chain (r_both (r_inside d) w.order) (put_together (region_put k)));
         plain = ((u.plain.0, (u.plain.1, (plain_contexts contexts, (plain_rule_contexts rule_contexts, plain_rules (rules_list rules))))), w.plain);
         count = λ x. omega (arith, c x, w.count x);
@@ -365,7 +366,7 @@ module _ (t : Assignment) (plain_t : Plain t) where
       counted a b c d e n p q r s = omega (arith, p, q, r, s)
 
   mutual
-    pub level_skeleton : {leaves : List Leaf} {membranes : Levels} {contexts rule_contexts : List Name} {rules : Rules} {ns : List ℕ} {m rest : Region}
+    pub level_skeleton : {leaves : List Leaf} {membranes : Levels} {contexts : List Context} {rule_contexts : List Name} {rules : Rules} {ns : List ℕ} {m rest : Region}
         → LevelImages t (level leaves membranes contexts rule_contexts rules) ns m rest → LevelSkeleton leaves membranes m rest
     level_skeleton (level_images i j k) =
         let u = leaves_skeleton i j in
@@ -382,6 +383,6 @@ module _ (t : Assignment) (plain_t : Plain t) where
         }
 
     pub membranes_skeleton : {ls : Levels} {ns : List ℕ} {ms rest : Regions} → MembraneImages t ls ns ms rest → MembranesSkeleton ls ms rest
-    membranes_skeleton no_membrane_image = record { processes = []; instances = no_membrane; order = r_unit; plain = tt; count = λ x. refl; kept = tt }
+    membranes_skeleton no_membrane_image = record { processes = []; instances = no_head; order = r_unit; plain = tt; count = λ x. refl; kept = tt }
     membranes_skeleton (membrane_image_and {leaves = leaves} {membranes = membranes} {ls = ls} {contexts = contexts} {rule_contexts = rule_contexts} {rules = rules} {n = n} {m = m} {rest = rest} {ms = ms} {ms' = ms'} {ms'' = ms''} k d e f g) =
         membrane_added leaves membranes ls contexts rule_contexts rules n m rest ms ms' ms'' k (level_skeleton d) e f (membranes_skeleton g)

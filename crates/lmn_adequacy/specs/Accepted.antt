@@ -3,7 +3,7 @@
 use Rattle.std.specs.Prelude.{ℕ, List, ◌≡◌, ◌⊎◌, [], ◌∷◌, ◌++◌}
 use Rattle.lmn_congruence.specs.LinkedRules.{LinkedRule}
 use Rattle.lmn_congruence.specs.Orders.{Among, Shuffle, EachOnce}
-use Rattle.lmn_congruence.specs.Rules.{Arithmetic, Comparison, Condition, Expression, Kind, Leaf, Level, Levels, Name, Rule, Rules, atom_leaf, body_of, compares, connector_leaf, differs, equates, guard_of, head_of, is_kind, level, level_and, no_level, no_rule, operation, rule_and, rule_of, typed_leaf, unknown, value_of}
+use Rattle.lmn_congruence.specs.Rules.{Arithmetic, Comparison, Condition, Context, Expression, Kind, Leaf, Level, Levels, Name, Rule, Rules, atom_leaf, body_of, closed_context, compares, connector_leaf, differs, equates, guard_of, head_of, is_kind, level, level_and, no_level, no_rule, open_context, operation, rule_and, rule_of, typed_leaf, unknown, value_of}
 use Rattle.lmn_reduction.specs.Firing.{typed_contexts}
 
 -- what holds of a level and of each level of a membrane in it, at any depth
@@ -23,7 +23,7 @@ own_leaves (level leaves membranes contexts rule_contexts rules) = leaves
 abbrev pub own_membranes : Level → Levels
 own_membranes (level leaves membranes contexts rule_contexts rules) = membranes
 
-abbrev pub own_contexts : Level → List Name
+abbrev pub own_contexts : Level → List Context
 own_contexts (level leaves membranes contexts rule_contexts rules) = contexts
 
 abbrev pub own_rule_contexts : Level → List Name
@@ -34,12 +34,24 @@ own_rules (level leaves membranes contexts rule_contexts rules) = rules
 
 -- the untyped contexts and the rule contexts of a level, at any depth
 abbrev mutual
-  pub all_contexts : Level → List Name
+  pub all_contexts : Level → List Context
   all_contexts (level leaves membranes contexts rule_contexts rules) = contexts ++ contexts_in membranes
 
-  pub contexts_in : Levels → List Name
+  pub contexts_in : Levels → List Context
   contexts_in no_level = []
   contexts_in (level_and l ls) = all_contexts l ++ contexts_in ls
+
+-- the names of the open ones
+abbrev pub open_names : List Context → List Name
+open_names [] = []
+open_names (open_context p ∷ ps) = p ∷ open_names ps
+open_names (closed_context p ∷ ps) = open_names ps
+
+-- the names of the closed ones
+abbrev pub closed_names : List Context → List Name
+closed_names [] = []
+closed_names (open_context p ∷ ps) = closed_names ps
+closed_names (closed_context p ∷ ps) = p ∷ closed_names ps
 
 abbrev mutual
   pub all_rule_contexts : Level → List Name
@@ -149,7 +161,8 @@ pub data InTurn (heads : List Name) : List Name → List Condition → Type 0 wh
 --   top_rule_contexts no context and no rule context stands at the head's top
 --   few               a head membrane has at most one untyped context and one rule context
 --   once              no context stands twice in the head
---   kept              the untyped contexts of the body are those of the head, each once
+--   kept              the open contexts of the body are those of the head, each once
+--   known_closed      a closed context of the body stands in the head
 --   known_rules       a rule context of the body stands in the head
 --   known             a typed context of the body stands in the head, or the guard binds it
 --   in_turn           the guard uses contexts of the head and such as it has bound
@@ -165,7 +178,9 @@ pub record Accepted (r : Rule) : Type 0 where
   pub few : EachOf (λ l. AtMostOne (own_contexts l) × AtMostOne (own_rule_contexts l)) (own_membranes (head_of r))
   pub once : EachOnce (all_contexts (head_of r)) × EachOnce (all_rule_contexts (head_of r)) ×
       EachOnce (typed_contexts (head_of r))
-  pub kept : Shuffle (λ p q. p ≡ q) (all_contexts (head_of r)) (all_contexts (body_of r))
+  pub kept : Shuffle (λ p q. p ≡ q) (open_names (all_contexts (head_of r))) (open_names (all_contexts (body_of r)))
+  pub known_closed : (p : Name) → Among p (closed_names (all_contexts (body_of r))) →
+      Among p (closed_names (all_contexts (head_of r)))
   pub known_rules : (p : Name) → Among p (all_rule_contexts (body_of r)) → Among p (all_rule_contexts (head_of r))
   pub known : (p : Name) → Among p (typed_contexts (body_of r)) →
       Among p (typed_contexts (head_of r)) ⊎ Among p (left_sides (guard_of r))

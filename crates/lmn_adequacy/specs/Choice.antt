@@ -2,7 +2,7 @@
 use Rattle.std.specs.Prelude.{ℕ, zero, suc, List, map, take, drop, ◌≡◌, ◌<◌, ◌⊎◌, [], ◌∷◌, ◌++◌}
 use Rattle.lmn_congruence.specs.Orders.{Among}
 use Rattle.lmn_congruence.specs.Regions.{Region, Regions, SolidAtom, no_region, region, region_and}
-use Rattle.lmn_congruence.specs.Rules.{Label, Leaf, Level, Levels, Name, Rule, Rules, atom_leaf, connector_leaf, head_of, level, level_and, no_level, typed_leaf}
+use Rattle.lmn_congruence.specs.Rules.{Context, Label, Leaf, Level, Levels, Name, Rule, Rules, atom_leaf, connector_leaf, head_of, level, level_and, no_level, typed_leaf}
 use Rattle.lmn_reduction.specs.Assignments.{Assignment}
 use Rattle.lmn_adequacy.specs.Embedding.{EmbedsIn, Taken, TakenRegion}
 use Rattle.lmn_adequacy.specs.Next.{NextAt}
@@ -74,7 +74,7 @@ pub data AtomsStand (t : Assignment) (xs : List SolidAtom) : List Leaf → List 
 
 mutual
   pub data LevelStands (t : Assignment) : Level → List ℕ → Region → Type 0 where
-    level_stands : {leaves : List Leaf} {membranes : Levels} {contexts rule_contexts : List Name} {rules : Rules}
+    level_stands : {leaves : List Leaf} {membranes : Levels} {contexts : List Context} {rule_contexts : List Name} {rules : Rules}
         {ns ns' : List ℕ} {xs : List SolidAtom} {ms : Regions} {rs : List Rule} →
         AtomsStand t xs leaves ns → MembranesStand t membranes ns' ms →
         LevelStands t (level leaves membranes contexts rule_contexts rules) (ns ++ ns') (region xs ms rs)

@@ -2,9 +2,9 @@
 use Rattle.std.specs.Prelude.{ℕ, suc, List, map, ◌≡◌, ◌≢◌, [], ◌∷◌, ◌++◌}
 use Rattle.lmn_congruence.specs.LinkedRules.{level_occurrences}
 use Rattle.lmn_congruence.specs.Orders.{Shuffle}
-use Rattle.lmn_congruence.specs.Process.{Free, OneToOneOn, occurrences}
+use Rattle.lmn_congruence.specs.Process.{Closed, Free, OneToOneOn, occurrences}
 use Rattle.lmn_congruence.specs.Regions.{Region, Regions, SolidAtom, no_region, region, region_and, region_process}
-use Rattle.lmn_congruence.specs.Rules.{Label, Leaf, Level, Levels, Name, Rule, Rules, atom_leaf, guard_of, head_of, level, level_and, no_level, no_rule, typed_leaf}
+use Rattle.lmn_congruence.specs.Rules.{Context, Label, Leaf, Level, Levels, Name, Rule, Rules, atom_leaf, closed_context, guard_of, head_of, level, level_and, no_level, no_rule, typed_leaf}
 use Rattle.lmn_reduction.specs.Assignments.{Assignment}
 use Rattle.lmn_reduction.specs.Firing.{typed_contexts}
 use Rattle.lmn_reduction.specs.Guards.{GuardHolds}
@@ -15,16 +15,20 @@ use Rattle.lmn_reduction.specs.Parts.{IsGround, OnlyAtoms, Rooted, atoms_at_top}
 -- one, since two links that each occur once in the head may be joined in the solid.
 pub record Contents : Type 0 where
   pub link_of : ℕ → ℕ
-  pub atoms_of : Name → List SolidAtom
-  pub membranes_of : Name → Regions
+  pub atoms_of : Context → List SolidAtom
+  pub membranes_of : Context → Regions
   pub rules_of : Name → List Rule
   pub typed_of : Name → Rooted
+
+-- the region for which an untyped context stands
+abbrev pub region_of : Contents → Context → Region
+region_of c p = region (c.atoms_of p) (c.membranes_of p) []
 
 -- the assignment: the untyped contexts as processes
 abbrev pub assignment_of : Contents → Assignment
 assignment_of c = record {
   link_of = c.link_of;
-  context_of = λ p. region_process (region (c.atoms_of p) (c.membranes_of p) []);
+  context_of = λ p. region_process (region_of c p);
   rules_of = c.rules_of;
   typed_of = c.typed_of;
 }
@@ -85,16 +89,16 @@ pub record KeepsLinks (t : Assignment) (l : Level) (m : Region) : Type 0 where
 
 -- What the images and the typed parts leave of the image of a head membrane: its atoms and membranes are what its
 -- untyped context stands for, none where it has no context; so are its rules with its rule context.
-pub data LeftToContext (c : Contents) : List Name → List SolidAtom → Regions → Type 0 where
+pub data LeftToContext (c : Contents) : List Context → List SolidAtom → Regions → Type 0 where
   no_context : LeftToContext c [] [] no_region
-  one_context : {p : Name} → LeftToContext c (p ∷ []) (c.atoms_of p) (c.membranes_of p)
+  one_context : {p : Context} → LeftToContext c (p ∷ []) (c.atoms_of p) (c.membranes_of p)
 
 pub data LeftToRuleContext (c : Contents) : List Name → List Rule → Type 0 where
   no_rule_context : LeftToRuleContext c [] []
   one_rule_context : {p : Name} → LeftToRuleContext c (p ∷ []) (c.rules_of p)
 
 -- what an image has left is what its contexts stand for
-abbrev pub LeftTo : Contents → List Name → List Name → Region → Type 0
+abbrev pub LeftTo : Contents → List Context → List Name → Region → Type 0
 LeftTo c contexts rule_contexts (region xs ms rs) =
     LeftToContext c contexts xs ms × LeftToRuleContext c rule_contexts rs
 
@@ -103,7 +107,7 @@ LeftTo c contexts rule_contexts (region xs ms rs) =
 -- leaves, then each membrane followed by its own items.
 mutual
   pub data LevelLies (c : Contents) : Level → List ℕ → Region → Region → Type 0 where
-    level_lies : {leaves : List Leaf} {membranes : Levels} {contexts rule_contexts : List Name} {rules : Rules}
+    level_lies : {leaves : List Leaf} {membranes : Levels} {contexts : List Context} {rule_contexts : List Name} {rules : Rules}
         {ns ns' : List ℕ} {xs xs' xs'' : List SolidAtom} {ms ms' : Regions} {rs : List Rule} →
         AtomImages (assignment_of c) leaves ns xs xs' → TypedParts (assignment_of c) leaves xs' xs'' →
         MembranesLie c membranes ns' ms ms' →
@@ -112,18 +116,19 @@ mutual
 
   pub data MembranesLie (c : Contents) : Levels → List ℕ → Regions → Regions → Type 0 where
     no_membrane_lies : {ms : Regions} → MembranesLie c no_level [] ms ms
-    membrane_lies : {leaves : List Leaf} {membranes ls : Levels} {contexts rule_contexts : List Name}
+    membrane_lies : {leaves : List Leaf} {membranes ls : Levels} {contexts : List Context} {rule_contexts : List Name}
         {n : ℕ} {ns ns' : List ℕ} {m rest : Region} {ms ms' ms'' : Regions} →
         TakenRegion n m ms ms' → LevelLies c (level leaves membranes contexts rule_contexts no_rule) ns m rest →
         KeepsLinks (assignment_of c) (level leaves membranes contexts rule_contexts no_rule) m →
         LeftTo c contexts rule_contexts rest → MembranesLie c ls ns' ms' ms'' →
         MembranesLie c (level_and (level leaves membranes contexts rule_contexts no_rule) ls) (n ∷ (ns ++ ns')) ms ms''
 
--- A rule of a region embeds in it at the positions f: its head lies there, and its guard holds. The root of a typed
--- context is free in it.
+-- A rule of a region embeds in it at the positions f: its head lies there, and its guard holds. No link leaves what a
+-- closed context stands for: each occurs twice in it. The root of a typed context is free in it.
 pub record EmbedsAt (r : Rule) (f : List ℕ) (m : Region) : Type 0 where
   pub contents : Contents
   pub rest : Region
+  pub closed : (p : Name) → Closed (region_process (region_of contents (closed_context p)))
   pub root_is_free : (p : Name) → Free (contents.typed_of p).root (contents.typed_of p).process
   pub lies : LevelLies contents (head_of r) f m rest
   pub guard : GuardHolds (typed_contexts (head_of r)) (assignment_of contents) (guard_of r)

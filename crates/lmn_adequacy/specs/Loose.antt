@@ -2,9 +2,9 @@
 -- instances to embeddings, and from heaps to regions, by way of them.
 use Rattle.std.specs.Prelude.{ℕ, List, map, [], ◌∷◌, ◌++◌}
 use Rattle.lmn_congruence.specs.Fused.{NoConnector}
-use Rattle.lmn_congruence.specs.Process.{Free, Process, pair, rule, together}
+use Rattle.lmn_congruence.specs.Process.{Closed, Free, Process, pair, rule, together}
 use Rattle.lmn_congruence.specs.Regions.{Region, Regions, SolidAtom, region, region_process}
-use Rattle.lmn_congruence.specs.Rules.{Leaf, Level, Levels, Name, Rule, Rules, guard_of, head_of, level, level_and, no_level, rules_list}
+use Rattle.lmn_congruence.specs.Rules.{Context, Leaf, Level, Levels, Name, Rule, Rules, closed_context, guard_of, head_of, level, level_and, no_level, rules_list}
 use Rattle.lmn_congruence.specs.UpToOrder.{Reordered}
 use Rattle.lmn_reduction.specs.Assignments.{Assignment, NoRuleAtTop}
 use Rattle.lmn_reduction.specs.Firing.{typed_contexts}
@@ -13,7 +13,7 @@ use Rattle.lmn_reduction.specs.Instances.{rules_of_contexts}
 use Rattle.lmn_adequacy.specs.Embedding.{AtomImages, Contents, KeepsLinks, LeftTo, Taken, TakenRegion, TypedParts}
 
 -- what the untyped contexts, the rule contexts and the rules of a level stand for
-abbrev pub filling : Assignment → List Name → List Name → Rules → Process
+abbrev pub filling : Assignment → List Context → List Name → Rules → Process
 filling t contexts rule_contexts rules =
     pair (together (map t.context_of contexts))
     (pair (together (rules_of_contexts t rule_contexts)) (together (map rule (rules_list rules))))
@@ -23,7 +23,7 @@ filling t contexts rule_contexts rules =
 -- numbers are in the order of head items: leaves, then each membrane followed by its own items.
 mutual
   pub data LevelImages (t : Assignment) : Level → List ℕ → Region → Region → Type 0 where
-    level_images : {leaves : List Leaf} {membranes : Levels} {contexts rule_contexts : List Name} {rules : Rules}
+    level_images : {leaves : List Leaf} {membranes : Levels} {contexts : List Context} {rule_contexts : List Name} {rules : Rules}
         {ns ns' : List ℕ} {xs xs' xs'' : List SolidAtom} {ms ms' : Regions} {rs : List Rule} →
         AtomImages t leaves ns xs xs' → TypedParts t leaves xs' xs'' → MembraneImages t membranes ns' ms ms' →
         LevelImages t (level leaves membranes contexts rule_contexts rules) (ns ++ ns')
@@ -31,17 +31,19 @@ mutual
 
   pub data MembraneImages (t : Assignment) : Levels → List ℕ → Regions → Regions → Type 0 where
     no_membrane_image : {ms : Regions} → MembraneImages t no_level [] ms ms
-    membrane_image_and : {leaves : List Leaf} {membranes ls : Levels} {contexts rule_contexts : List Name}
+    membrane_image_and : {leaves : List Leaf} {membranes ls : Levels} {contexts : List Context} {rule_contexts : List Name}
         {rules : Rules} {n : ℕ} {ns ns' : List ℕ} {m rest : Region} {ms ms' ms'' : Regions} →
         TakenRegion n m ms ms' → LevelImages t (level leaves membranes contexts rule_contexts rules) ns m rest →
         KeepsLinks t (level leaves membranes contexts rule_contexts rules) m →
         Reordered (filling t contexts rule_contexts rules) (region_process rest) → MembraneImages t ls ns' ms' ms'' →
         MembraneImages t (level_and (level leaves membranes contexts rule_contexts rules) ls) (n ∷ (ns ++ ns')) ms ms''
 
--- what untyped contexts stand for has no connector, and no rule at its top; the root of a typed context is free
+-- what untyped contexts stand for has no connector, and no rule at its top; each link of what a closed one stands for
+-- occurs twice in it, so no link leaves it; the root of a typed context is free
 pub record Plain (t : Assignment) : Type 0 where
-  pub no_connector : (p : Name) → NoConnector (t.context_of p)
-  pub no_rule : (p : Name) → NoRuleAtTop (t.context_of p)
+  pub no_connector : (p : Context) → NoConnector (t.context_of p)
+  pub no_rule : (p : Context) → NoRuleAtTop (t.context_of p)
+  pub closed : (p : Name) → Closed (t.context_of (closed_context p))
   pub root_is_free : (p : Name) → Free (t.typed_of p).root (t.typed_of p).process
 
 -- a rule of a region embeds in it at the positions f, up to order

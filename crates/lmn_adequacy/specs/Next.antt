@@ -5,9 +5,10 @@ use Rattle.lmn_congruence.specs.Links.{places}
 use Rattle.lmn_congruence.specs.Orders.{Among}
 use Rattle.lmn_congruence.specs.Plains.{SolidOf}
 use Rattle.lmn_congruence.specs.Regions.{Region, Regions, SolidAtom, no_region, region, region_and}
-use Rattle.lmn_congruence.specs.Rules.{Label, Leaf, Level, Levels, Name, Rule, Rules, atom_leaf, body_of, connector_leaf, head_of, level, level_and, no_level, rules_list, typed_leaf}
+use Rattle.lmn_congruence.specs.Rules.{Context, Label, Leaf, Level, Levels, Name, Rule, Rules, atom_leaf, body_of, closed_context, connector_leaf, head_of, level, level_and, no_level, open_context, rules_list, typed_leaf}
+use Rattle.lmn_congruence.specs.Same.{IsRenamed}
 use Rattle.lmn_congruence.specs.Translation.{levels, rules as listed_rules}
-use Rattle.lmn_adequacy.specs.Embedding.{Contents, EmbedsAt, IsPart, Taken, TakenRegion}
+use Rattle.lmn_adequacy.specs.Embedding.{Contents, EmbedsAt, IsPart, Taken, TakenRegion, region_of}
 use Rattle.lmn_splice.specs.Splice.{of_rule, of_solid}
 
 -- ---- what stays
@@ -61,28 +62,33 @@ pub data MadeLeaves (c : Contents) : List Leaf → List Leaf → Type 0 where
       IsPart (c.typed_of p) (of_rule x) part → DepthFirst (of_rule x) part → MadeLeaves c ls outs →
       MadeLeaves c (typed_leaf p x ∷ ls) (part_leaves part ++ outs)
 
--- the atoms, membranes and rules for which the contexts of a level stand
-abbrev pub context_atoms : Contents → List Name → List SolidAtom
-context_atoms c [] = []
-context_atoms c (p ∷ ps) = c.atoms_of p ++ context_atoms c ps
+-- What an untyped context of a body makes: an open one its region, and a closed one a copy of its region, with every list
+-- in its order and its links renamed.
+pub data MadeContext (c : Contents) : Context → Region → Type 0 where
+  made_open : {p : Name} → MadeContext c (open_context p) (region_of c (open_context p))
+  made_closed : {p : Name} {m : Region} → IsRenamed (region_of c (closed_context p)) m → MadeContext c (closed_context p) m
 
-abbrev pub context_membranes : Contents → List Name → List Level
-context_membranes c [] = []
-context_membranes c (p ∷ ps) = kept_membranes (c.membranes_of p) ++ context_membranes c ps
+-- context by context, the atoms and the membranes
+pub data MadeContexts (c : Contents) : List Context → List SolidAtom → List Level → Type 0 where
+  no_made_context : MadeContexts c [] [] []
+  made_context : {p : Context} {ps : List Context} {xs ys : List SolidAtom} {ms : Regions} {ks : List Level} →
+      MadeContext c p (region xs ms []) → MadeContexts c ps ys ks →
+      MadeContexts c (p ∷ ps) (xs ++ ys) (kept_membranes ms ++ ks)
 
+-- the rules for which the rule contexts of a level stand
 abbrev pub context_rules : Contents → List Name → List Rule
 context_rules c [] = []
 context_rules c (p ∷ ps) = c.rules_of p ++ context_rules c ps
 
--- What a level of a body makes: the leaves as written, then the atoms of each `$p`; the membranes as written, then
--- those of each `$p`; the rules as written, then those of each `@r`.
+-- What a level of a body makes: the leaves as written, then the atoms of each untyped context; the membranes as written,
+-- then those of each untyped context; the rules as written, then those of each `@r`.
 mutual
   pub data MadeLevel (c : Contents) : Level → List Leaf → List Level → List Rule → Type 0 where
-    made_level : {leaves outs : List Leaf} {membranes : Levels} {made : List Level} {contexts rule_contexts : List Name}
-        {rules : Rules} →
-        MadeLeaves c leaves outs → MadeMembranes c membranes made →
+    made_level : {leaves outs : List Leaf} {membranes : Levels} {made ks : List Level} {contexts : List Context}
+        {rule_contexts : List Name} {rules : Rules} {xs : List SolidAtom} →
+        MadeLeaves c leaves outs → MadeMembranes c membranes made → MadeContexts c contexts xs ks →
         MadeLevel c (level leaves membranes contexts rule_contexts rules)
-        (outs ++ kept_atoms (context_atoms c contexts)) (made ++ context_membranes c contexts)
+        (outs ++ kept_atoms xs) (made ++ ks)
         (rules_list rules ++ context_rules c rule_contexts)
 
   pub data MadeMembranes (c : Contents) : Levels → List Level → Type 0 where

@@ -1,5 +1,5 @@
 -- What stands in a rule at every depth, as one list.
-use Rattle.std.specs.Prelude.{ℕ, ◌+◌, List, [], ◌∷◌, ◌++◌, map, flat_map, length, sum}
+use Rattle.std.specs.Prelude.{ℕ, ◌+◌, Bool, true, false, List, [], ◌∷◌, ◌++◌, map, flat_map, length, sum}
 use Rattle.lmn_base.specs.declared.guard.Expr.{Expr}
 use Rattle.lmn_base.specs.declared.guard.Expr.TheOpen.{Expr-F, Int as Integer, Ctx, Op}
 use Rattle.lmn_base.specs.declared.guard.Expr.TheFolds.{fold-Expr}
@@ -22,14 +22,23 @@ use Rattle.lmn_base.specs.Levels.{everywhere}
 abbrev pub used : Form → CtxUse → Item
 used form u = item.Context (record { name = u.name; form = form; pos = u.pos })
 
+-- how an untyped context is written: closed or not
+abbrev pub untyped_form : Bool → Form
+untyped_form true = form.Closed
+untyped_form false = form.Bare
+
+-- a use of an untyped context
+abbrev pub untyped : CtxUse → Item
+untyped u = used (untyped_form u.closed) u
+
 -- a leaf as an item: an atom, or a use of a typed context
 abbrev pub leaf_item : Leaf → Item
 leaf_item (Atom functor links pos) = item.Atom functor pos
-leaf_item (Typed name link pos) = used form.Typed (record { name = name; pos = pos })
+leaf_item (Typed name link pos) = item.Context (record { name = name; form = form.Typed; pos = pos })
 
 -- what stands in a level itself, but for its membranes
 abbrev pub own_items : {A : Type 0} → Level-F A → List Item
-own_items l = map leaf_item l.leaves ++ (map (used form.Bare) l.contexts ++ (map item.RuleContext l.rule_contexts ++ map item.Rule l.rules))
+own_items l = map leaf_item l.leaves ++ (map untyped l.contexts ++ (map item.RuleContext l.rule_contexts ++ map item.Rule l.rules))
 
 -- what stands in it at every depth
 abbrev pub items_of : Level → List Item

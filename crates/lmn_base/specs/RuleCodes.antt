@@ -9,7 +9,7 @@ use Rattle.lmn_base.specs.declared.guard.Cond.TheVariants.{Kind, Compare, Equal,
 use Rattle.lmn_base.specs.declared.guard.Expr.{Expr}
 use Rattle.lmn_base.specs.declared.guard.Expr.TheVariants.{Int as Integer, Ctx, Op'}
 use Rattle.lmn_base.specs.declared.item.Form.{Form}
-use Rattle.lmn_base.specs.declared.item.Form.TheVariants.{Bare, Typed}
+use Rattle.lmn_base.specs.declared.item.Form.TheVariants.{Bare, Closed, Typed}
 use Rattle.lmn_base.specs.declared.item.FormedUse.{FormedUse}
 use Rattle.lmn_base.specs.declared.item.Item.{Item}
 use Rattle.lmn_base.specs.declared.item.Item.TheVariants.{Atom, Context, RuleContext, Rule}
@@ -72,27 +72,32 @@ connector_place item = []
 abbrev pub connector_in_head : RuleTree → Row
 connector_in_head r = record { code = 37; places = flat_map connector_place (items_of r.head) }
 
--- ---- E30, E35: an untyped context, or a rule context, stands at the head's top
+-- ---- E30, E35: an untyped context, open or closed, or a rule context, stands at the head's top
 
 abbrev pub is_bare : Form → Bool
 is_bare Bare = true
+is_bare Closed = false
 is_bare Typed = false
 
-abbrev pub bare_place : Item → List Pos
-bare_place (Context u) = if is_bare u.form then u.pos ∷ [] else []
-bare_place item = []
+abbrev pub is_untyped : Form → Bool
+is_untyped Typed = false
+is_untyped form = true
+
+abbrev pub untyped_place : Item → List Pos
+untyped_place (Context u) = if is_untyped u.form then u.pos ∷ [] else []
+untyped_place item = []
 
 abbrev pub rule_context_place : Item → List Pos
 rule_context_place (RuleContext u) = u.pos ∷ []
 rule_context_place item = []
 
 abbrev pub context_at_top : RuleTree → Row
-context_at_top r = record { code = 30; places = flat_map bare_place (own_items (out-Level r.head)) }
+context_at_top r = record { code = 30; places = flat_map untyped_place (own_items (out-Level r.head)) }
 
 abbrev pub rule_context_at_top : RuleTree → Row
 rule_context_at_top r = record { code = 35; places = flat_map rule_context_place (own_items (out-Level r.head)) }
 
--- ---- E31: a head membrane has two untyped contexts, or two rule contexts, at the second of the first such pair
+-- ---- E31: a head membrane has two untyped contexts, open or closed, or two rule contexts, at the second of the first such pair
 
 -- the places of all but the first
 abbrev pub behind_the_first : List CtxUse → List Pos
@@ -133,7 +138,7 @@ used_again items item = []
 abbrev pub twice_in_head : RuleTree → Row
 twice_in_head r = record { code = 32; places = flat_map (used_again (items_of r.head)) (items_of r.head) }
 
--- ---- E33: an untyped context of the head occurs not exactly once in the body, bare
+-- ---- E33: an open context of the head occurs not exactly once in the body, bare
 
 abbrev pub bare_use : ℕ → Item → List Pos
 bare_use n (Context u) = if (u.name == n) && is_bare u.form then u.pos ∷ [] else []
@@ -148,7 +153,7 @@ abbrev pub missing : List Item → Item → List Pos
 missing body (Context u) = if is_bare u.form && not (is_some_place (flat_map (bare_use u.name) body)) then u.pos ∷ [] else []
 missing body item = []
 
--- a bare place in the body of an untyped context of the head, which isn't the first
+-- a bare place in the body of an open context of the head, which isn't the first
 abbrev pub bare_again : List Item → List Item → Item → List Pos
 bare_again head body (Context u) =
     if is_bare u.form && (is_some_place (flat_map (bare_use u.name) head) && nat_lt 1 (length (flat_map (bare_use_up_to u.name u.pos) body))) then u.pos ∷ [] else []
@@ -179,10 +184,12 @@ from_nowhere head guard item = []
 abbrev pub not_in_head : RuleTree → Row
 not_in_head r = record { code = 34; places = flat_map (from_nowhere (items_of r.head) r.guard) (items_of r.body) }
 
--- ---- E45: a context is bare in one place of the rule and in argument form, bracket form or the guard in another
+-- ---- E45: two places of one context in the rule differ in form. There are three forms: bare, closed, and typed. A place in
+-- argument form, in the form `$x[X]` or in the guard is of the typed form.
 
 abbrev pub same_form : Form → Form → Bool
 same_form Bare Bare = true
+same_form Closed Closed = true
 same_form Typed Typed = true
 same_form f g = false
 
@@ -199,6 +206,19 @@ in_other_form items item = []
 abbrev pub in_two_forms : RuleTree → Row
 in_two_forms r = record { code = 45; places = flat_map (in_other_form (rule_items r)) (rule_items r) }
 
+-- ---- E90: a context is closed, which no code runs yet
+
+abbrev pub is_closed : Form → Bool
+is_closed Closed = true
+is_closed form = false
+
+abbrev pub closed_place : Item → List Pos
+closed_place (Context u) = if is_closed u.form then u.pos ∷ [] else []
+closed_place item = []
+
+abbrev pub closed_in_rule : RuleTree → Row
+closed_in_rule r = record { code = 90; places = flat_map closed_place (rule_items r) }
+
 -- ---- all of them, in their order
 
 -- the rows on the size and the head's emptiness, on the head, and on the uses of contexts
@@ -209,7 +229,7 @@ abbrev pub head_rows : List RuleTree → RuleTree → List Row
 head_rows table r = rule_in_head table r ∷ connector_in_head r ∷ context_at_top r ∷ rule_context_at_top r ∷ two_in_membrane r ∷ []
 
 abbrev pub use_rows : RuleTree → List Row
-use_rows r = twice_in_head r ∷ not_once_in_body r ∷ not_in_head r ∷ in_two_forms r ∷ []
+use_rows r = twice_in_head r ∷ not_once_in_body r ∷ not_in_head r ∷ in_two_forms r ∷ closed_in_rule r ∷ []
 
 abbrev pub rule_rows : List RuleTree → RuleTree → List Row
 rule_rows table r = size_rows r ++ (head_rows table r ++ use_rows r)

@@ -1,7 +1,7 @@
 -- What examples of small texts are written with: their first names, by number, and places.
 use Rattle.lmn_base.specs.declared.level.CtxUse.{CtxUse}
 use Rattle.lmn_base.specs.declared.refusal.Pos.{Pos}
-use Rattle.std.specs.Prelude.{ℕ, pos}
+use Rattle.std.specs.Prelude.{ℕ, pos, false}
 
 -- the first names of a text behind the four fixed ones, by their numbers
 abbrev pub name_a : ℕ
@@ -23,7 +23,7 @@ name_q = 7
 
 -- a use of a name at such a place
 abbrev pub use_at : ℕ → ℕ → CtxUse
-use_at name n = record { name = name; pos = at_column n }
+use_at name n = record { name = name; closed = false; pos = at_column n }
 
 -- a place that doesn't matter
 abbrev pub somewhere : Pos

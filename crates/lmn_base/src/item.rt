@@ -10,6 +10,8 @@ use crate::refusal::Pos;
 pub enum Form {
     /// Alone, as `$p`.
     Bare,
+    /// With empty brackets, as `$p[]`.
+    Closed,
     /// As an argument, with its link, as `$x[X]`, or in a guard.
     Typed,
 }

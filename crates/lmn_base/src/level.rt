@@ -39,6 +39,8 @@ pub enum Leaf {
 pub struct CtxUse {
     /// The number of its name.
     pub name: u32,
+    /// Whether it is a closed context `$p[]`. A typed context, one of a guard and a rule context aren't.
+    pub closed: bool,
     /// Its place in the text.
     pub pos: Pos,
 }
@@ -51,7 +53,7 @@ pub struct Level {
     pub leaves: Rows<Leaf>,
     /// What stands in each of its membranes.
     pub membranes: Rows<Level>,
-    /// The untyped contexts `$p`.
+    /// The untyped contexts, open `$p` and closed `$p[]`.
     pub contexts: Rows<CtxUse>,
     /// The rule contexts `@r`.
     pub rule_contexts: Rows<CtxUse>,

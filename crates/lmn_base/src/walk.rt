@@ -1,7 +1,7 @@
 ghost use Rattle.std.specs.Prelude.{◌≡◌, ◌-◌, ◌^◌, min, map, flat_map};
 ghost use Rattle.lmn_base.specs.declared.level.Level.{out-Level};
 ghost use Rattle.lmn_base.specs.Firsts.{IsFound};
-ghost use Rattle.lmn_base.specs.Items.{used, leaf_item, own_items, items_of, expression_items, condition_items, guard_items, rule_items, number_of_items};
+ghost use Rattle.lmn_base.specs.Items.{used, untyped_form, untyped, leaf_item, own_items, items_of, expression_items, condition_items, guard_items, rule_items, number_of_items};
 
 use crate::guard::{Cond, Expr};
 use crate::item::{Form, FormedUse, Item, leaf_item};
@@ -26,7 +26,7 @@ pub fn find_in_level_itself<Q: Question>(question: &Q, level: &Level) -> Found
 {
     let rules = in_rules(question, level.rules.as_slice());
     let rule_contexts = in_rule_contexts(question, level.rule_contexts.as_slice());
-    let contexts = in_contexts(question, Form::Bare, level.contexts.as_slice());
+    let contexts = in_untyped(question, level.contexts.as_slice());
     let leaves = in_leaves(question, level.leaves.as_slice());
     leaves.and(contexts.and(rule_contexts.and(rules)))
 }
@@ -94,6 +94,23 @@ fn in_leaves<Q: Question>(question: &Q, leaves: &[Leaf]) -> Found
     found
 }
 
+fn in_untyped<Q: Question>(question: &Q, contexts: &[CtxUse]) -> Found
+    ensures { IsFound (flat_map (Q.places question.now) (map untyped contexts.now)) result }
+{
+    let mut found = Found::nothing();
+    for context in contexts {
+        found = found.and(at_context(question, untyped_form(context.closed), *context));
+    }
+    found
+}
+
+/// The form of an untyped context.
+fn untyped_form(closed: bool) -> Form
+    ensures { result ≡ untyped_form closed }
+{
+    if closed { Form::Closed } else { Form::Bare }
+}
+
 fn in_contexts<Q: Question>(question: &Q, form: Form, contexts: &[CtxUse]) -> Found
     ensures { IsFound (flat_map (Q.places question.now) (map (used form) contexts.now)) result }
 {
@@ -107,7 +124,7 @@ fn in_contexts<Q: Question>(question: &Q, form: Form, contexts: &[CtxUse]) -> Fo
 fn at_context<Q: Question>(question: &Q, form: Form, context: CtxUse) -> Found
     ensures { IsFound (Q.places question.now (used form context)) result }
 {
-    let CtxUse { name, pos } = context;
+    let CtxUse { name, pos, .. } = context;
     Found::one(question.place(Item::Context(FormedUse { name, form, pos })))
 }
 

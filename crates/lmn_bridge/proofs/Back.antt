@@ -1,5 +1,5 @@
 -- What lies in the lists of a heap embeds on the heap: item by item.
-use Rattle.std.proofs.Common.{ℕ, zero, suc, ◌≡◌, ◌≢◌, ◌+◌, ◌≤◌, ◌<◌, ◌⊎◌, false, List, [], ◌∷◌, ◌++◌, map, length, Some, refl, sym, ap, subst, ◌∙◌, inl, inr, arith}
+use Rattle.std.proofs.Common.{ℕ, zero, suc, ◌≡◌, ◌≢◌, ◌+◌, ◌≤◌, ◌<◌, ◌⊎◌, ◌||◌, Bool, false, true, List, [], ◌∷◌, ◌++◌, map, length, Some, refl, sym, ap, subst, ◌∙◌, inl, inr, arith}
 use Rattle.std.specs.Prelude.{slice_get}
 use Rattle.std.proofs.lemmas.Bool.{cases_eq}
 use Rattle.std.proofs.lemmas.List.{length-append}
@@ -20,7 +20,7 @@ use Rattle.lmn_congruence.specs.Regions.{SolidAtom, no_region}
 use Rattle.lmn_congruence.specs.Rules as tree
 use Rattle.lmn_reduction.specs.Assignments.{Assignment}
 use Rattle.lmn_reduction.specs.Parts.{Rooted}
-use Rattle.lmn_congruence.specs.Translation.{label_of, leaf_of}
+use Rattle.lmn_congruence.specs.Translation.{context_with, label_of, leaf_of, name_of}
 use Rattle.lmn_adequacy.specs.Accepted.{NoConnectorLeaf, EachLevel, EachOf, own_leaves, own_contexts, own_rule_contexts, own_rules}
 use Rattle.lmn_adequacy.specs.Embedding.{KeepsLinks, IsPart}
 use Rattle.lmn_adequacy.specs.Loose.{Plain}
@@ -28,18 +28,19 @@ use Rattle.lmn_heap.specs.Solid.{IsNaming}
 use Rattle.lmn_bridge.specs.HeapRegions.{HeapReading, region_at, regions_at}
 use Rattle.lmn_bridge.proofs.Pieces.{atom_at}
 use Rattle.lmn_bridge.proofs.Counting.{weigh_same, times_at, tree_atoms, ends_among, in_region}
-use Rattle.lmn_solid.proofs.HeadTrees.{Head, Heads, head, no_head, head_and, size, flat_items, flat_membranes, has_context, has_rule_context}
+use Rattle.lmn_solid.proofs.HeadTrees.{Head, Heads, head, no_head, head_and, size, flat_items, flat_membranes, has_closed_context, has_context, has_rule_context}
 use Rattle.lmn_bridge.proofs.HeadTrees.{tree_of, trees_of}
 use Rattle.lmn_bridge.proofs.Lying.{FitLeaves, fit_none, fit_atom, fit_typed, Lies, lies, LiesIn, lies_none, lies_and, Kept}
 use Rattle.lmn_bridge.proofs.Walking.{Walk, walk_split, walk_join, atoms_in_items, typed_in_items, membranes_in_items, atoms_both, typed_both, membranes_both, flat_size, no_leaf_membrane}
-use Rattle.lmn_bridge.proofs.Weighing.{weigh_out, weigh_left}
+use Rattle.lmn_bridge.proofs.Weighing.{left_grown, weigh_out, weigh_left}
+use Rattle.lmn_bridge.proofs.Rests.{LeftApart, none_leaves, tops_taken}
 use Rattle.lmn_bridge.proofs.PartsOut.{PartsOut, parts_none, parts_typed, flattened, flattened_left, flattened_right, out_rest, merged_first, merged_second}
 use Rattle.lmn_bridge.proofs.Forests.{tops, Grown, taken_top, taken_grown, taken_others, taken_before, find_in, some_of, within_tree, each_tree, home_in}
 use Rattle.lmn_heap.proofs.Heights.{parent_is}
 use Rattle.lmn_bridge.proofs.Ports.{port_named, Outer, outer_top, outer_in, outermost_is}
-use Rattle.lmn_bridge.proofs.Laying.{only_atom, AtomLies, MembraneLies, TypedLies, Below, all_atoms, all_parts, all_membranes, total}
-use Rattle.lmn_bridge.proofs.Contexts.{NoRules}
-use Rattle.lmn_bridge.proofs.Empty.{nothing_left, no_rule_left}
+use Rattle.lmn_bridge.proofs.Laying.{only_atom, AtomLies, MembraneLies, NoneLeaves, TypedLies, Below, all_atoms, all_parts, all_membranes, total}
+use Rattle.lmn_bridge.proofs.Contexts.{Few, NoRules}
+use Rattle.lmn_bridge.proofs.Empty.{closed_left, nothing_left, no_rule_left}
 use Rattle.lmn_base.specs.Graphs.{Port}
 use Rattle.lmn_base.proofs.Lists.{weigh, get_map}
 use Rattle.lmn_base.specs.Lists.{In}
@@ -75,15 +76,6 @@ all_taken (lies {bs = bs} {as' = as'} {xs = xs} {rest = rest} {parts = parts} {p
       | inr z ↦ inl (in_left b bs as' (find_in b bs (omega (arith, z))))
     ]
 
--- each membrane that stands first is the image of one of the level, or is left
-pub tops_taken : {h : Heap} {r : HeapReading} {link_of' : ℕ → ℕ} {typed_of : tree.Name → Rooted} {Q : tree.Level → ℕ → List ℕ → Forest → Forest → Type 0} {ls : tree.Levels} {bs ms ns : List ℕ} {ps : List (List ℕ)} {f f' : Forest}
-    → LiesIn h r link_of' typed_of Q ls bs ps ms ns f f' → (b : ℕ) → In b (tops f) → In b ms ⊎ In b (tops f')
-tops_taken lies_none b p = inr p
-tops_taken (lies_and {m = m} {ms = ms} {ks = ks} k d q more) b p = elim (cases_eq m b) [
-  | inl e ↦ inl (inl e)
-  | inr n ↦ elim (tops_taken more b (taken_others k b p n)) [ inl w ↦ inl (inr (in_right b ms ks w)) | inr w ↦ inr w ]
-]
-
 -- where no membrane is left, each is an image
 pub all_tops_taken : {h : Heap} {r : HeapReading} {link_of' : ℕ → ℕ} {typed_of : tree.Name → Rooted} {Q : tree.Level → ℕ → List ℕ → Forest → Forest → Type 0} {l : tree.Level} {bs ms ns xs rest : List ℕ} {ps : List (List ℕ)} {f f' : Forest}
     → Lies h r link_of' typed_of Q l bs ps ms ns xs rest f f' → f' ≡ bare → (b : ℕ) → In b (tops f) → In b ms
@@ -113,6 +105,10 @@ abbrev EachRules : tree.Level → Type 0
 EachRules = EachLevel NoRules
 
 module _ (h : Heap) (v : Valid h) (r : HeapReading) (naming : IsNaming h r.name) (f : Images) (part_at : ℕ → List ℕ) (t : Assignment) (plain : Plain t) (items : List HeadItem) (kind : ℕ → TypeKind) where
+  -- what is known of a membrane: what the calculus asks of it, and that what is left is apart
+  abbrev pub Placed : tree.Level → ℕ → List ℕ → Forest → Forest → Type 0
+  Placed l m xs i i' = Kept h r t l m xs i i' × LeftApart h r f part_at t.link_of t.typed_of items m xs i i'
+
   abbrev Items : ℕ → ℕ → ℕ → List HeadItem → Type 0
   Items = Walk (AtomLies h r f part_at t.link_of t.typed_of items) (TypedLies h r f part_at t.link_of t.typed_of items) (MembraneLies h r f part_at t.link_of t.typed_of items)
 
@@ -237,6 +233,15 @@ module _ (h : Heap) (v : Valid h) (r : HeapReading) (naming : IsNaming h r.name)
   own_some (head leaves hs [] rcs rs) e = refl
   own_some (head leaves hs (c ∷ cs) rcs rs) e = absurd (cc)
 
+  own_closed_one : (hd : Head) → EachLevel Few (Tree hd) → has_closed_context hd ≡ true → (p : tree.Name) × (own_contexts (Tree hd) ≡ tree.closed_context p ∷ [])
+  own_closed_one (head leaves hs [] rcs rs) few e = absurd (cc)
+  own_closed_one (head leaves hs (c ∷ []) rcs rs) few e = (name_of r.names c.name, ap (λ b. context_with b (name_of r.names c.name) ∷ []) (by c.closed e))
+    where
+      by : (b : Bool) → (b || false) ≡ true → b ≡ true
+      by true e = refl
+      by false e = e
+  own_closed_one (head leaves hs (c ∷ (d ∷ cs)) rcs rs) few e = absurd few.0.0
+
   own_rules_some : (hd : Head) → has_rule_context hd ≡ false → own_rule_contexts (Tree hd) ≡ []
   own_rules_some (head leaves hs cs [] rs) e = refl
   own_rules_some (head leaves hs cs (c ∷ rcs) rs) e = absurd (cc)
@@ -245,7 +250,7 @@ module _ (h : Heap) (v : Valid h) (r : HeapReading) (naming : IsNaming h r.name)
   no_own_rules (head leaves hs cs rcs rs) e = e.0
 
   -- into a membrane
-  enters : (cur next m : ℕ) (hd : Head) (i : Forest) (occ : ℕ → ℕ) → cur < next → Facts next (record { inside = cur; has_context = has_context hd; has_rule_context = has_rule_context hd }) → f.membrane next ≡ m → In m (mems_in h (f.membrane cur)) →
+  enters : (cur next m : ℕ) (hd : Head) (i : Forest) (occ : ℕ → ℕ) → cur < next → Facts next (record { inside = cur; has_context = has_context hd; has_closed_context = has_closed_context hd; has_rule_context = has_rule_context hd }) → f.membrane next ≡ m → In m (mems_in h (f.membrane cur)) →
       KeepsLinks t (Tree hd) (region_at h r m i) → (tops i ≡ mems_in h m) × Grown h i → ((x : ℕ) → level_occurrences x (Tree hd) ≤ occ x) → ((x : ℕ) → level_occurrences x (Tree hd) ≤ total h r f part_at t.link_of t.typed_of items x) →
       Place cur occ → Place next (λ x. level_occurrences x (Tree hd))
   enters cur next m hd i occ l facts e j keeps grown small all (inl z) = inr (
@@ -288,11 +293,11 @@ module _ (h : Heap) (v : Valid h) (r : HeapReading) (naming : IsNaming h r.name)
 
   mutual
     -- what lies in the lists of a membrane holds item by item
-    pub walk_level : (cur next n t' : ℕ) (hd : Head) (M : ℕ) {as' ms ns rest : List ℕ} {ps : List (List ℕ)} {F F' : Forest} → f.membrane cur ≡ M → cur < next → EachLevel (λ l. NoConnectorLeaf (own_leaves l)) (Tree hd) → EachRules (Tree hd) →
-        Known n t' next (flat_items kind cur next hd) → Lies h r t.link_of t.typed_of (Kept h r t) (Tree hd) as' ps ms ns (atoms_in h M) rest F F' → Reads f.atom n as' → Reads part_at t' ps → Reads f.membrane next ms → tops F ≡ mems_in h M → Grown h F →
+    pub walk_level : (cur next n t' : ℕ) (hd : Head) (M : ℕ) {as' ms ns rest : List ℕ} {ps : List (List ℕ)} {F F' : Forest} → f.membrane cur ≡ M → cur < next → EachLevel (λ l. NoConnectorLeaf (own_leaves l)) (Tree hd) → EachRules (Tree hd) → EachLevel Few (Tree hd) →
+        Known n t' next (flat_items kind cur next hd) → Lies h r t.link_of t.typed_of Placed (Tree hd) as' ps ms ns (atoms_in h M) rest F F' → Reads f.atom n as' → Reads part_at t' ps → Reads f.membrane next ms → tops F ≡ mems_in h M → Grown h F →
         Place cur (λ x. level_occurrences x (Tree hd)) → ((x : ℕ) → level_occurrences x (Tree hd) ≤ total h r f part_at t.link_of t.typed_of items x) →
         ((b : ℕ) → In b as' → In b (all_atoms h r f part_at t.link_of t.typed_of items)) → ((b : ℕ) → In b (flattened ps) → In b (all_parts h r f part_at t.link_of t.typed_of items)) → ((b : ℕ) → In b ms → In b (all_membranes h r f part_at t.link_of t.typed_of items)) → Stood n t' next (flat_items kind cur next hd) as' ps ms
-    walk_level cur next n t' (head leaves hs cs rcs rs) M e l o none w (lies {bs = bs} {as' = as'} {ms = ms} {parts = parts} {ps = ps} fit d among out k) ga gt gm tp g p small ia it im =
+    walk_level cur next n t' (head leaves hs cs rcs rs) M e l o none few w (lies {bs = bs} {as' = as'} {ms = ms} {parts = parts} {ps = ps} fit d among out k) ga gt gm tp g p small ia it im =
         let first = leaf_items kind cur leaves in
         let behind = flat_membranes kind cur next hs in
         let u = walk_split Any AnyTyped Facts first behind n t' next w in
@@ -305,7 +310,7 @@ module _ (h : Heap) (v : Valid h) (r : HeapReading) (naming : IsNaming h r.name)
         let a = leaves_stand cur n t' next leaves bs parts o.0 fit out here.0 here_t.0 placed (λ b i. subst (λ z. In b (atoms_in h z)) (sym e) (left_in b bs (atoms_in h M) d among i)) (less cur occ (λ x. leaves_occurrences x (map (leaf_of r.names) leaves)) (λ x. omega arith) p) u.0 in
         let y : n + length bs ≡ n + atoms_in_items first = let s = a.atoms in omega (arith, s) in
         let yt : t' + length parts ≡ t' + typed_in_items first = let s = a.parts in omega (arith, s) in
-        let b = walk_membranes cur next (n + atoms_in_items first) (t' + typed_in_items first) hs M e l o.1 none.1 (subst (λ k. Known (n + atoms_in_items first) (t' + typed_in_items first) k behind) q u.1) k
+        let b = walk_membranes cur next (n + atoms_in_items first) (t' + typed_in_items first) hs M e l o.1 none.1 few.1 (subst (λ k. Known (n + atoms_in_items first) (t' + typed_in_items first) k behind) q u.1) k
         (subst (λ z. Reads f.atom z as') y here.1) (subst (λ z. Reads part_at z ps) yt here_t.1) gm (λ b j. subst (In b) tp j) g (less cur occ (λ x. levels_occurrences x (Trees hs)) (λ x. omega arith) p) (λ x. let s = small x in omega (arith, s))
         (λ b j. ia b (in_right b bs as' j)) (λ b j. it b (flattened_right b parts ps j)) im in
         record {
@@ -316,12 +321,12 @@ module _ (h : Heap) (v : Valid h) (r : HeapReading) (naming : IsNaming h r.name)
           membranes = let s2 = b.membranes in omega (arith, membranes_both first behind, z, s2);
         }
 
-    walk_membranes : (cur next n t' : ℕ) (hs : Heads) (M : ℕ) {as' ms ns : List ℕ} {ps : List (List ℕ)} {F F' : Forest} → f.membrane cur ≡ M → cur < next → EachOf (λ l. NoConnectorLeaf (own_leaves l)) (Trees hs) → EachOf NoRules (Trees hs) →
-        Known n t' next (flat_membranes kind cur next hs) → LiesIn h r t.link_of t.typed_of (Kept h r t) (Trees hs) as' ps ms ns F F' → Reads f.atom n as' → Reads part_at t' ps → Reads f.membrane next ms → ((b : ℕ) → In b (tops F) → In b (mems_in h M)) → Grown h F →
+    walk_membranes : (cur next n t' : ℕ) (hs : Heads) (M : ℕ) {as' ms ns : List ℕ} {ps : List (List ℕ)} {F F' : Forest} → f.membrane cur ≡ M → cur < next → EachOf (λ l. NoConnectorLeaf (own_leaves l)) (Trees hs) → EachOf NoRules (Trees hs) → EachOf Few (Trees hs) →
+        Known n t' next (flat_membranes kind cur next hs) → LiesIn h r t.link_of t.typed_of Placed (Trees hs) as' ps ms ns F F' → Reads f.atom n as' → Reads part_at t' ps → Reads f.membrane next ms → ((b : ℕ) → In b (tops F) → In b (mems_in h M)) → Grown h F →
         Place cur (λ x. levels_occurrences x (Trees hs)) → ((x : ℕ) → levels_occurrences x (Trees hs) ≤ total h r f part_at t.link_of t.typed_of items x) →
         ((b : ℕ) → In b as' → In b (all_atoms h r f part_at t.link_of t.typed_of items)) → ((b : ℕ) → In b (flattened ps) → In b (all_parts h r f part_at t.link_of t.typed_of items)) → ((b : ℕ) → In b ms → In b (all_membranes h r f part_at t.link_of t.typed_of items)) → Stood n t' next (flat_membranes kind cur next hs) as' ps ms
-    walk_membranes cur next n t' no_head M e l o none w lies_none ga gt gm tp g p small ia it im = record { walk = tt; atoms = refl; parts = refl; membranes = refl }
-    walk_membranes cur next n t' (head_and hd hs) M e l o none w (lies_and {m = m} {as' = as'} {ps = ps} {ms = ms} {bs = bs} {qs = qs} {ks = ks} {xs = xs} {i = i} {i' = i'} k d q more) ga gt gm tp g p small ia it im =
+    walk_membranes cur next n t' no_head M e l o none few w lies_none ga gt gm tp g p small ia it im = record { walk = tt; atoms = refl; parts = refl; membranes = refl }
+    walk_membranes cur next n t' (head_and hd hs) M e l o none few w (lies_and {m = m} {as' = as'} {ps = ps} {ms = ms} {bs = bs} {qs = qs} {ks = ks} {xs = xs} {i = i} {i' = i'} k d q more) ga gt gm tp g p small ia it im =
         let first = flat_items kind next (next + 1) hd in
         let behind = flat_membranes kind cur (next + 1 + size hd) hs in
         let u = walk_split Any AnyTyped Facts first behind n t' (next + 1) w.1 in
@@ -332,16 +337,16 @@ module _ (h : Heap) (v : Valid h) (r : HeapReading) (naming : IsNaming h r.name)
         let under = reads_split f.membrane (next + 1) ms ks gm.1 in
         let grown = taken_grown h k g in
         let j : In m (mems_in h (f.membrane cur)) = subst (λ z. In m (mems_in h z)) (sym e) (tp m (taken_top k)) in
-        let p' = enters cur next m hd i occ l w.0 gm.0 j q.0 grown.0 (λ x. omega arith) (λ x. let s = small x in omega (arith, s)) p in
-        let a = walk_level next (next + 1) n t' hd m gm.0 (omega arith) o.0 none.0 u.0 d here.0 here_t.0 under.0 grown.0.0 grown.0.1 p' (λ x. let s = small x in omega (arith, s)) (λ b s. ia b (in_left b as' bs s)) (λ b s. it b (flattened_left b ps qs s)) (λ b s. im b (inr (in_left b ms ks s))) in
+        let p' = enters cur next m hd i occ l w.0 gm.0 j q.0.0 grown.0 (λ x. omega arith) (λ x. let s = small x in omega (arith, s)) p in
+        let a = walk_level next (next + 1) n t' hd m gm.0 (omega arith) o.0 none.0 few.0 u.0 d here.0 here_t.0 under.0 grown.0.0 grown.0.1 p' (λ x. let s = small x in omega (arith, s)) (λ b s. ia b (in_left b as' bs s)) (λ b s. it b (flattened_left b ps qs s)) (λ b s. im b (inr (in_left b ms ks s))) in
         let y : n + length as' ≡ n + atoms_in_items first = let s = a.atoms in omega (arith, s) in
         let yt : t' + length ps ≡ t' + typed_in_items first = let s = a.parts in omega (arith, s) in
         let y' : (next + 1) + length ms ≡ next + 1 + size hd = let s = a.membranes in omega (arith, s, z) in
-        let b = walk_membranes cur (next + 1 + size hd) (n + atoms_in_items first) (t' + typed_in_items first) hs M e (omega (arith, l)) o.1 none.1
+        let b = walk_membranes cur (next + 1 + size hd) (n + atoms_in_items first) (t' + typed_in_items first) hs M e (omega (arith, l)) o.1 none.1 few.1
         (subst (λ k. Known (n + atoms_in_items first) (t' + typed_in_items first) k behind) z u.1) more (subst (λ z. Reads f.atom z bs) y here.1) (subst (λ z. Reads part_at z qs) yt here_t.1) (subst (λ z. Reads f.membrane z ks) y' under.1)
         (λ b s. tp b (taken_before k b s)) grown.1 (less cur occ (λ x. levels_occurrences x (Trees hs)) (λ x. omega arith) p) (λ x. let s = small x in omega (arith, s))
         (λ b s. ia b (in_right b as' bs s)) (λ b s. it b (flattened_right b ps qs s)) (λ b s. im b (inr (in_right b ms ks s))) in
-        let emptied : has_context hd ≡ false → (map (atom_at h r) xs ≡ []) × (regions_at h r i' ≡ no_region) = λ c. nothing_left t (Tree hd) (map (atom_at h r) xs) (regions_at h r i') (map r.rule (rules_in h m)) q.1 (own_some hd c) (no_own_rules hd none.0) in
+        let emptied : has_context hd ≡ false → (map (atom_at h r) xs ≡ []) × (regions_at h r i' ≡ no_region) = λ c. nothing_left t (Tree hd) (map (atom_at h r) xs) (regions_at h r i') (map r.rule (rules_in h m)) q.0.1 (own_some hd c) (no_own_rules hd none.0) in
         record {
           walk = (
             record {
@@ -355,7 +360,12 @@ module _ (h : Heap) (v : Valid h) (r : HeapReading) (naming : IsNaming h r.name)
                 ]),
                 (λ b s. im b (inr (in_left b ms ks (all_tops_taken d (bare_by h r i' (emptied c).1) b (subst (In b) (sym grown.0.0) (subst (λ z. In b (mems_in h z)) gm.0 s)))))),
               );
-              no_rule = λ c. subst (λ z. rules_in h z ≡ []) (sym gm.0) (none_by_map r.rule (rules_in h m) (no_rule_left t plain (Tree hd) (map (atom_at h r) xs) (regions_at h r i') (map r.rule (rules_in h m)) q.1 (own_rules_some hd c) (no_own_rules hd none.0)));
+              closed = λ c.
+                  let one = own_closed_one hd few.0 c in
+                  subst (NoneLeaves h r f part_at t.link_of t.typed_of items) (sym gm.0)
+                  (none_leaves h v r naming f part_at t.link_of t.typed_of items m xs i i' q.1 grown.0.0 (left_grown d grown.0.1)
+                  (closed_left t plain (Tree hd) (map (atom_at h r) xs) (regions_at h r i') (map r.rule (rules_in h m)) q.0.1 one.0 one.1));
+              no_rule = λ c. subst (λ z. rules_in h z ≡ []) (sym gm.0) (none_by_map r.rule (rules_in h m) (no_rule_left t plain (Tree hd) (map (atom_at h r) xs) (regions_at h r i') (map r.rule (rules_in h m)) q.0.1 (own_rules_some hd c) (no_own_rules hd none.0)));
             },
             walk_join (AtomLies h r f part_at t.link_of t.typed_of items) (TypedLies h r f part_at t.link_of t.typed_of items) (MembraneLies h r f part_at t.link_of t.typed_of items) first behind n t' (next + 1) a.walk
                 (subst (λ k. Items (n + atoms_in_items first) (t' + typed_in_items first) k behind) (sym z) b.walk),

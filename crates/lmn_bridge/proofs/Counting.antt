@@ -141,7 +141,8 @@ module _ (h : Heap) (r : HeapReading) (v : Valid h) (naming : IsNaming h r.name)
 -- ---- in a region
 
 module _ (h : Heap) (r : HeapReading) (v : Valid h) (x : ℕ) where
-  in_atoms : (xs : List ℕ) → occurrences x (together (map atom_process (map (atom_at h r) xs))) ≡ weigh (times_at h r x) xs
+  -- a link occurs in atoms as often as in their lists
+  pub in_atoms : (xs : List ℕ) → occurrences x (together (map atom_process (map (atom_at h r) xs))) ≡ weigh (times_at h r x) xs
   in_atoms [] = refl
   in_atoms (c ∷ xs) = omega (arith, in_atoms xs)
 

@@ -1,13 +1,16 @@
 -- What a membrane without a context leaves: nothing.
-use Rattle.std.proofs.Common.{ℕ, ◌≡◌, ◌+◌, List, [], ◌∷◌, map, length, refl, sym, ap, ◌∙◌, arith}
-use Rattle.lmn_congruence.specs.Process.{Process, nothing, connector, atom, pair, membrane, rule, together}
+use Rattle.std.proofs.Common.{ℕ, ◌≡◌, ◌+◌, ◌⊎◌, List, [], ◌∷◌, map, length, refl, sym, ap, subst, ◌∙◌, arith}
+use Rattle.lmn_congruence.specs.Process.{Closed, Process, nothing, occurrences, connector, atom, pair, membrane, rule, together}
 use Rattle.lmn_congruence.specs.Regions.{SolidAtom, Regions, region, no_region, region_and, region_process, regions_processes, atom_process}
-use Rattle.lmn_congruence.specs.Rules.{Level, Name, Rule, no_rule, rules_list, level}
+use Rattle.lmn_congruence.specs.Rules.{Context, closed_context, Level, Name, Rule, no_rule, rules_list, level}
 use Rattle.lmn_congruence.specs.UpToOrder.{Reordered, r_unit, r_swap, r_regroup, r_beside, r_inside, r_same, r_back, r_chain}
 use Rattle.lmn_reduction.specs.Assignments.{Assignment, NoRuleAtTop}
 use Rattle.lmn_reduction.specs.Instances.{rules_of_contexts}
 use Rattle.lmn_adequacy.specs.Accepted.{own_contexts, own_rule_contexts, own_rules}
 use Rattle.lmn_adequacy.specs.Loose.{Plain}
+use Rattle.lmn_adequacy.proofs.Images.{no_link_rule_contexts}
+use Rattle.lmn_congruence.proofs.Reordered.{reordered_count}
+use Rattle.lmn_congruence.proofs.TranslatedLinks.{no_link_in_rules}
 use Rattle.lmn_bridge.proofs.Lying.{fills}
 use Rattle.std.proofs.lemmas.List.{nil_from_length}
 
@@ -80,7 +83,7 @@ no_rule_there (pair P Q) n = omega (arith, no_rule_there P n.0, no_rule_there Q 
 no_rule_there (membrane P) n = refl
 no_rule_there (rule r) n = absurd n
 
-contexts_no_rule : (t : Assignment) → Plain t → (ps : List Name) → rules_there (together (map t.context_of ps)) ≡ 0
+contexts_no_rule : (t : Assignment) → Plain t → (ps : List Context) → rules_there (together (map t.context_of ps)) ≡ 0
 contexts_no_rule t p [] = refl
 contexts_no_rule t p (x ∷ ps) = omega (arith, no_rule_there (t.context_of x) (p.no_rule x), contexts_no_rule t p ps)
 
@@ -111,3 +114,10 @@ no_rule_left t p (level leaves membranes cs qs rules) xs ms rs d c n =
     let a = atoms_no_rule xs in
     let b = membranes_no_rule ms in
     nil_from_length rs (omega (arith, e, s, y, u, w, a, b))
+
+-- what a level with a closed context alone leaves is closed
+pub closed_left : (t : Assignment) → Plain t → (l : Level) (xs : List SolidAtom) (ms : Regions) (rs : List Rule) → Reordered (fills t l) (region_process (region xs ms rs)) → (p : Name) → own_contexts l ≡ closed_context p ∷ [] →
+    Closed (region_process (region xs ms []))
+closed_left t plain (level leaves membranes cs qs rules) xs ms rs d p c z =
+    let s : occurrences z (together (map t.context_of cs)) ≡ occurrences z (t.context_of (closed_context p)) + 0 = ap (λ k. occurrences z (together (map t.context_of k))) c in
+    subst (λ k. (k ≡ 0) ⊎ (k ≡ 2)) (omega (arith, reordered_count d z, s, no_link_rule_contexts t z qs, no_link_in_rules z (rules_list rules), no_link_in_rules z rs)) (plain.closed p z)

@@ -194,6 +194,14 @@ module _ (h : Heap) (v : Valid h) where
     | inr k ↦ forest_within m i (λ b q. subst (In b) e q) g a k
   ]
 
+  -- an atom of a forest is within one of its first membranes
+  pub within_top : (f : Forest) → Grown h f → (a : ℕ) → In a (forest_atoms h f) → (c : ℕ) × In c (tops f) × StandsWithin h a c
+  within_top bare g a p = absurd p
+  within_top (mem c i f) g a p = elim (in_either a (atoms_in h c ++ forest_atoms h i) (forest_atoms h f) p) [
+    | inl s ↦ (c, inl refl, tree_within c i g.0.0 g.0.1 a s)
+    | inr s ↦ (let w = within_top f g.1 a s in (w.0, inr w.1, w.2))
+  ]
+
   -- ---- and the other way
 
   is_within : (h' : Heap) (n m : ℕ) → parent_of h' n ≡ Some m → mem_place_of h' n ≡ Some (within m)
@@ -246,9 +254,14 @@ module _ (h : Heap) (v : Valid h) where
     | inr w ↦ in_right a (atoms_in h m ++ forest_atoms h i) (forest_atoms h f) (forest_atom f q a w p)
   ]
 
-  below_in : (f : Forest) (m : ℕ) → Grown h f → In m (flat f) → (k n : ℕ) → Above h k m n → In n (flat f)
+  -- what is below a membrane of a forest is in the forest
+  pub below_in : (f : Forest) (m : ℕ) → Grown h f → In m (flat f) → (k n : ℕ) → Above h k m n → In n (flat f)
   below_in f m g p zero n a = subst (λ z. In z (flat f)) (sym a) p
   below_in f m g p (suc k) n a = forest_child f g a.0 n (below_in f m g p k a.0 a.2) (child_in n a.0 a.1)
+
+  -- what is within a first membrane of a forest is an atom of the forest
+  pub top_within : (f : Forest) → Grown h f → (c a : ℕ) → In c (tops f) → StandsWithin h a c → In a (forest_atoms h f)
+  top_within f g c a p w = forest_atom f w.0 a (below_in f c g (tops_flat f c p) w.1 w.0 w.3) (in_place a w.0 w.2)
 
   -- what is within a membrane is an atom of its tree
   pub within_tree : (m : ℕ) (i : Forest) → tops i ≡ mems_in h m → Grown h i → (a : ℕ) → StandsWithin h a m → In a (tree_atoms h m i)

@@ -4,13 +4,13 @@ use Rattle.lmn_base.specs.declared.level.Level.{Level}
 use Rattle.lmn_base.specs.declared.level.Level.TheFolds.{fold-roll-Level, ind-Level}
 use Rattle.lmn_solid.proofs.HeadTrees.{Head, Heads, head, no_head, head_and, heads, head_step, head_at}
 use Rattle.lmn_congruence.specs.Rules as tree
-use Rattle.lmn_congruence.specs.Translation.{leaf_of, names_of, levels, rules, level_step, level_of}
+use Rattle.lmn_congruence.specs.Translation.{context_tree, leaf_of, names_of, levels, rules, level_step, level_of}
 
 abbrev mutual
   pub tree_of : List tree.Name → (ℕ → tree.Rule) → Head → tree.Level
   tree_of names rule (head leaves membranes contexts rule_contexts rs) =
       tree.level (map (leaf_of names) leaves) (trees_of names rule membranes)
-      (names_of names contexts) (names_of names rule_contexts) (rules (map rule rs))
+      (map (context_tree names) contexts) (names_of names rule_contexts) (rules (map rule rs))
 
   pub trees_of : List tree.Name → (ℕ → tree.Rule) → Heads → tree.Levels
   trees_of names rule no_head = tree.no_level

@@ -4,16 +4,18 @@ use Rattle.std.specs.Prelude.{IsSome, slice_get}
 use Rattle.std.proofs.lemmas.Bool.{cases_eq}
 use Rattle.std.proofs.lemmas.Option.{same_Some}
 use Rattle.lmn_guards.specs.declared.plan.TypeKind.{TypeKind}
-use Rattle.lmn_heap.specs.Heap.{Heap, HeapAtom, IsAtom, atoms_in, mems_in, rules_in, arity_of, link_of}
+use Rattle.lmn_heap.specs.Heap.{Heap, HeapAtom, IsAtom, atoms_in, mems_in, parent_of, rules_in, arity_of, link_of}
+use Rattle.lmn_heap.proofs.Heights.{parent_is, valid_no_loop}
+use Rattle.lmn_heap.specs.Conditions.{Above}
 use Rattle.lmn_heap.specs.Lists.{Distinct}
 use Rattle.lmn_heap.specs.Sound.{Forest, bare, mem, flat, Valid, Forms}
 use Rattle.lmn_heap.specs.Solid.{IsNaming, links_from}
 use Rattle.lmn_solid.specs.declared.items.HeadItem.{HeadItem}
 use Rattle.lmn_solid.specs.Heads.{HeadAtom, HeadTyped, HeadMembrane, atoms_of, typed_contexts_of, membranes_of, at_atoms}
-use Rattle.lmn_solid.specs.Embeddings.{Images, HasLink, HasAtom, HasTyped, HasMembrane, Embeds}
+use Rattle.lmn_solid.specs.Embeddings.{Images, HasLink, HasAtom, HasTyped, HasMembrane, Embeds, IsAtomImage, IsInPart, IsInRest, IsMembraneImage}
 use Rattle.lmn_congruence.specs.Links.{one_if_same, places}
 use Rattle.lmn_congruence.specs.LinkedRules.{level_occurrences}
-use Rattle.lmn_congruence.specs.Process.{Free}
+use Rattle.lmn_congruence.specs.Process.{Closed, Free}
 use Rattle.lmn_congruence.specs.Regions.{Region, region, no_region, region_process}
 use Rattle.lmn_congruence.specs.Rules as tree
 use Rattle.lmn_congruence.specs.Translation.{label_of, name_of}
@@ -25,11 +27,11 @@ use Rattle.lmn_adequacy.proofs.InOrder.{contents_plain}
 use Rattle.lmn_bridge.specs.HeapRegions.{HeapReading, regions_at, region_at}
 use Rattle.lmn_bridge.proofs.Pieces.{atom_at, atom_by, atoms_each}
 use Rattle.lmn_bridge.proofs.Counting.{weigh_same, times_at, tree_atoms, forest_atoms, list_atoms, ends_among}
-use Rattle.lmn_solid.proofs.HeadTrees.{Head, flat_items}
+use Rattle.lmn_solid.proofs.HeadTrees.{Head, flat_items, size}
 use Rattle.lmn_bridge.proofs.HeadTrees.{tree_of}
-use Rattle.lmn_bridge.proofs.Lying.{level_images_of}
-use Rattle.lmn_bridge.proofs.Walking.{Walk, walk_from, run}
-use Rattle.lmn_bridge.proofs.Forests.{forms_tops, forms_grown, once_of, tree_once, each_tree, find_in}
+use Rattle.lmn_bridge.proofs.Lying.{Lies, level_images_of}
+use Rattle.lmn_bridge.proofs.Walking.{Walk, atoms_in_items, flat_size, inside_bound, inside_less, membranes_in_items, walk_from, walk_membrane, walk_typed, run}
+use Rattle.lmn_bridge.proofs.Forests.{forms_tops, forms_grown, once_of, one_home, tree_once, each_tree, find_in}
 use Rattle.lmn_bridge.proofs.Ports.{find_place, port_named}
 use Rattle.lmn_bridge.specs.Parts.{HasPart, IsGroundPart}
 use Rattle.lmn_bridge.proofs.EmbeddedParts.{embedded_parts_are_apart}
@@ -38,9 +40,11 @@ use Rattle.lmn_bridge.proofs.PartLaws.{ground_parts_stand_whole}
 use Rattle.lmn_bridge.proofs.PartsOut.{flattened}
 use Rattle.lmn_bridge.proofs.PartsLaid.{as_read}
 use Rattle.lmn_bridge.proofs.Runs.{run_in, in_run, run_distinct, get_inside, parts_in, in_parts, parts_once}
-use Rattle.lmn_bridge.proofs.Laying.{AtomLies, MembraneLies, TypedLies, Known, LaidLevel, lay_level, all_atoms, all_parts, all_membranes, total}
-use Rattle.lmn_bridge.proofs.Keeping.{keep_level}
-use Rattle.lmn_bridge.proofs.Contexts.{Few, NoRules, level_contents, look, looked}
+use Rattle.lmn_bridge.proofs.Laying.{AtomLies, MembraneLies, TypedLies, Known, LeftIn, LaidLevel, lay_level, all_atoms, all_parts, all_membranes, total}
+use Rattle.lmn_bridge.proofs.Keeping.{Closes, Elsewhere, carry_level, keep_level, left_apart}
+use Rattle.lmn_bridge.proofs.Rests.{closed_rest}
+use Rattle.lmn_adequacy.proofs.Lookups.{context_or_not, look, look_found, look_holds, name_or_not}
+use Rattle.lmn_bridge.proofs.Contexts.{Few, LeftClosed, NoRules, level_contents}
 use Rattle.lmn_bridge.specs.Numbers.{numbers_left}
 use Rattle.lmn_bridge.proofs.Numbering.{level_numbers, run_reads}
 use Rattle.lmn_bridge.proofs.Occurrences.{first_name, first_found, times_are, times_parts, port_counts, typed_counts, two_typed}
@@ -219,6 +223,70 @@ module _ (h : Heap) (v : Valid h) (r : HeapReading) (naming : IsNaming h r.name)
             ]
           ]
 
+      image_in : (b : ℕ) → IsAtomImage items f b → In b (all_atoms h r f part_at link_name typed_of items)
+      image_in b w = let y : 0 + w.0 ≡ w.0 = omega arith in subst (λ b. In b (all_atoms h r f part_at link_name typed_of items)) (ap f.atom y ∙ w.2) (run_in f.atom 0 (length (atoms_of items)) w.0 w.1)
+
+      in_image : (b : ℕ) → In b (all_atoms h r f part_at link_name typed_of items) → IsAtomImage items f b
+      in_image b p = let w = in_run f.atom 0 (length (atoms_of items)) b p in let y : 0 + w.0 ≡ w.0 = omega arith in (w.0, w.1, ap f.atom (sym y) ∙ w.2)
+
+      membrane_in : (b : ℕ) → IsMembraneImage items f b → In b (all_membranes h r f part_at link_name typed_of items)
+      membrane_in b w = let y : 1 + w.0 ≡ suc w.0 = omega arith in subst (λ b. In b (all_membranes h r f part_at link_name typed_of items)) (ap f.membrane y ∙ w.2) (run_in f.membrane 1 (length (membranes_of items)) w.0 w.1)
+
+      in_membrane : (b : ℕ) → In b (all_membranes h r f part_at link_name typed_of items) → IsMembraneImage items f b
+      in_membrane b p = let w = in_run f.membrane 1 (length (membranes_of items)) b p in let y : 1 + w.0 ≡ suc w.0 = omega arith in (w.0, w.1, ap f.membrane (sym y) ∙ w.2)
+
+      part_in : (k b : ℕ) → IsInPart h items f k b → In b (all_parts h r f part_at link_name typed_of items)
+      part_in k b w = let y : 0 + w.0 ≡ w.0 = omega arith in
+          in_parts part_at 0 (length (typed_contexts_of items)) b w.0 (get_below (typed_contexts_of items) w.0 w.1 w.2) (subst (λ z. In b (part_at z)) (sym y) ((part_is w.0 w.1 w.2 b).1 w.4))
+
+      -- a membrane of the head lies below the one of the rule
+      above_step : (i : ℕ) (n : HeadMembrane) → slice_get (membranes_of items) i ≡ Some n → ((j : ℕ) (w : HeadMembrane) → j < i → slice_get (membranes_of items) j ≡ Some w → (d : ℕ) × Above h (suc d) (f.membrane 0) (f.membrane (suc j))) → (d : ℕ) × Above h (suc d) (f.membrane 0) (f.membrane (suc i))
+      above_step i n g before =
+          let q = walk_membrane (λ n a. Unit {0}) (λ n a. Unit {0}) (λ k a. a.inside < k) items 0 0 1 (inside_less kind 0 1 0 0 hd (omega arith)) i n g in
+          by n.inside (omega (arith, q)) (parent_is h v.sound.listed (f.membrane (suc i)) (f.membrane n.inside) (e.lies.membranes_placed (suc i) n (i, refl, g)))
+        where
+          by : (j : ℕ) → j ≤ i → parent_of h (f.membrane (suc i)) ≡ Some (f.membrane j) → (d : ℕ) × Above h (suc d) (f.membrane 0) (f.membrane (suc i))
+          by zero k up = (0, (f.membrane 0, up, refl))
+          by (suc j) k up =
+              let w = get_some (membranes_of items) j (omega (arith, k, get_below (membranes_of items) i n g)) in
+              let u = before j w.0 (omega (arith, k)) w.1 in
+              (suc u.0, (f.membrane (suc j), up, u.1))
+
+      root_above : (b i : ℕ) → i ≤ b → (n : HeadMembrane) → slice_get (membranes_of items) i ≡ Some n → (d : ℕ) × Above h (suc d) (f.membrane 0) (f.membrane (suc i))
+      root_above zero i l n g = above_step i n g (λ j w k q. absurd (omega (arith, l, k)))
+      root_above (suc b) i l n g = above_step i n g (λ j w k q. root_above b j (omega (arith, l, k)) w q)
+
+      -- what stands in a part, and in the image of a membrane of the head, is of a part that is written there
+      in_part : (i : ℕ) (n : HeadMembrane) → slice_get (membranes_of items) i ≡ Some n → (b : ℕ) → In b (atoms_in h (f.membrane (1 + i))) → In b (all_parts h r f part_at link_name typed_of items) → IsInPart h items f (1 + i) b
+      in_part i n g b p q =
+          let w = parts_in part_at 0 (length (typed_contexts_of items)) b q in
+          let z : 0 + w.0 ≡ w.0 = omega arith in
+          let here : In b (part_at w.0) = subst (λ n. In b (part_at n)) z w.2 in
+          let y = find_typed w.0 w.1 in
+          let one = one_home h v (f.membrane y.0.inside) (f.membrane (1 + i)) b ((grounds w.0 y.0 y.1).inside b here) p in
+          (w.0, y.0, y.1, same y.0.inside (typed_below w.0 y.0 y.1) one, ((part_is w.0 y.0 y.1 b).0 here))
+        where
+          z : 1 + i ≡ suc i
+          z = omega arith
+
+          typed_below : (n : ℕ) (u : HeadTyped) → HasTyped items n u → u.inside < 1 + size hd
+          typed_below n u k = walk_typed (λ n a. a.inside < 1 + size hd) (λ n a. a.inside < 1 + size hd) (λ n a. a.inside < 1 + size hd) items 0 0 1 (inside_bound kind (1 + size hd) 0 1 0 0 1 hd (omega arith) (omega arith)) n u k
+
+          same : (j : ℕ) → j < 1 + size hd → f.membrane j ≡ f.membrane (1 + i) → j ≡ 1 + i
+          same zero l s =
+              let u = root_above i i (omega arith) n g in
+              absurd (valid_no_loop h v (f.membrane 0) u.0 (subst (λ k. Above h (suc u.0) (f.membrane 0) k) (sym (s ∙ ap f.membrane z)) u.1))
+          same (suc j) l s = ap suc (e.lies.membranes_differ j i (let q = flat_size kind 0 1 hd in omega (arith, l, q)) (get_below (membranes_of items) i n g) (s ∙ ap f.membrane z)) ∙ sym z
+
+      -- what is left in the image of a membrane is its rest
+      rest_of : (i : ℕ) (n : HeadMembrane) → slice_get (membranes_of items) i ≡ Some n → (b : ℕ) → LeftIn h r f part_at link_name typed_of items (f.membrane (1 + i)) b → IsInRest h items f (1 + i) b
+      rest_of i n g b (inl w) = inl (w.0, (λ u. w.1 (image_in b u)), (λ u. w.2 (part_in (1 + i) b u)))
+      rest_of i n g b (inr w) = inr (w.0, w.1, (λ u. w.2 (membrane_in w.0 u)), w.3)
+
+      left_of : (i : ℕ) (n : HeadMembrane) → slice_get (membranes_of items) i ≡ Some n → (b : ℕ) → IsInRest h items f (1 + i) b → LeftIn h r f part_at link_name typed_of items (f.membrane (1 + i)) b
+      left_of i n g b (inl w) = inl (w.0, (λ u. w.1 (in_image b u)), (λ u. w.2 (in_part i n g b w.0 u)))
+      left_of i n g b (inr w) = inr (w.0, w.1, (λ u. w.2 (in_membrane w.0 u)), w.3)
+
       membrane_lies : (i : ℕ) (n : HeadMembrane) → slice_get (membranes_of items) i ≡ Some n → MembraneLies h r f part_at link_name typed_of items (1 + i) n
       membrane_lies i n g =
           let z : 1 + i ≡ suc i = omega arith in
@@ -236,6 +304,7 @@ module _ (h : Heap) (v : Valid h) (r : HeapReading) (naming : IsNaming h r.name)
               (λ b p. let w = e.lies.no_other_membrane (1 + i) n b k c p in let y : 1 + w.0 ≡ suc w.0 = omega arith in subst (λ b. In b (all_membranes h r f part_at link_name typed_of items)) (ap f.membrane y ∙ w.2) (run_in f.membrane 1 (length (membranes_of items)) w.0 w.1)),
             );
             no_rule = λ c. e.lies.no_rule (1 + i) n k c;
+            closed = λ c b j p w q. left_of i n g p.0 (e.lies.closed (1 + i) n b j p k c (rest_of i n g b w) q);
           }
 
       -- what holds of each item of an embedded head
@@ -259,6 +328,12 @@ module _ (h : Heap) (v : Valid h) (r : HeapReading) (naming : IsNaming h r.name)
         abbrev Knows : tree.Level → ℕ → List ℕ → Forest → Forest → Type 0
         Knows = Known h r f part_at link_name typed_of items
 
+        -- what is left to a closed context is closed
+        closes_here : (el ea em : ℕ → ℕ) (l : tree.Level) (m : ℕ) (bs : List ℕ) (ps : List (List ℕ)) (ms ns xs : List ℕ) (i i' : Forest) → Lies h r link_name typed_of (Known h r f part_at link_name typed_of items) l bs ps ms ns (atoms_in h m) xs i i' →
+            Known h r f part_at link_name typed_of items l m xs i i' → Elsewhere h r f part_at link_name typed_of items el ea em (atoms_in h m) i bs ps ms → Closes h r l m xs i i'
+        closes_here el ea em l m bs ps ms ns xs i i' d k x q a =
+            closed_rest h v r naming f part_at link_name typed_of items m xs i i' (left_apart h r f part_at link_name typed_of items el ea em d x) k.grown k.left_grown (k.closed q a)
+
         -- the head lies in the region, at the numbers of its images
         pub record Result : Type 0 where
           pub assignment : Assignment
@@ -274,22 +349,10 @@ module _ (h : Heap) (v : Valid h) (r : HeapReading) (naming : IsNaming h r.name)
             EachOnce (contexts_in (inner_levels Tree)) → EachOnce (rule_contexts_in (inner_levels Tree)) → Result
         result few no_rules once_c once_r =
             let L = laid in
-            let C = level_contents h r link_name typed_of Knows few no_rules L.lying in
-            let oc = subst EachOnce (sym C.names) once_c in
-            let or = subst EachOnce (sym C.rule_names) once_r in
-            let c : Contents = record {
-              link_of = link_name;
-              atoms_of = λ p. (look ([], no_region) C.held p).0;
-              membranes_of = λ p. (look ([], no_region) C.held p).1;
-              rules_of = look [] C.rules_held;
-              typed_of = typed_of;
-            } in
-            let t = assignment_of c in
-            let told = C.agree t (λ p a k. ap (λ b. region_process (region b.0 b.1 [])) (looked ([], no_region) C.held oc k)) (λ p a k. looked [] C.rules_held or k) in
-            let sum : (x : ℕ) → 0 + level_occurrences x Tree ≡ total h r f part_at link_name typed_of items x = λ x. omega (arith, times_are r.names r.rule kind x 0 1 hd) in
+            let sum' : (x : ℕ) → 0 + level_occurrences x Tree ≡ total h r f part_at link_name typed_of items x = λ x. omega (arith, times_are r.names r.rule kind x 0 1 hd) in
             let M = f.membrane 0 in
             let whole : Distinct (flat (mem M inner bare)) = subst (λ z. Distinct (z ∷ (flat inner ++ []))) (sym e.lies.here) (subst (λ z. Distinct (m ∷ z)) (sym (plus_nothing (flat inner))) once) in
-            let kept = keep_level h v r f part_at t items (λ x. let u = sum x in let w = linked x in omega (arith, u, w)) (λ x. 0) (λ b. 0) (λ b. 0) told (record {
+            let room : Elsewhere h r f part_at link_name typed_of items (λ x. 0) (λ b. 0) (λ b. 0) (atoms_in h M) inner (run f.atom 0 (atoms_in_items (flat_items kind 0 1 hd))) L.parts (run f.membrane 1 (membranes_in_items (flat_items kind 0 1 hd))) = record {
               link_room = λ x.
                   let u = two_ends h v r naming (link_name x) (tree_atoms h M inner) (each_tree h v M inner) (tree_once h v M inner whole) in
                   omega (arith, u, weigh_append (times_at h r (link_name x)) (atoms_in h M) (forest_atoms h inner));
@@ -299,7 +362,25 @@ module _ (h : Heap) (v : Valid h) (r : HeapReading) (naming : IsNaming h r.name)
               membrane_room = λ b. omega (arith, once_of b (flat inner) once.1, weigh_same b (flat inner));
               all_atoms_are = λ b. let u = L.same (one_if_same b) in omega (arith, u);
               all_membranes_are = λ b. omega arith;
-            }) sum in
+            } in
+            let lying = carry_level h r f part_at link_name typed_of items Knows (λ l m xs i i'. Knows l m xs i i' × Closes h r l m xs i i')
+            (λ el ea em l m bs ps ms ns xs i i' d k x s. (k, closes_here el ea em l m bs ps ms ns xs i i' d k x))
+            (λ x. 0) (λ b. 0) (λ b. 0) L.lying room sum' in
+            let C = level_contents h r link_name typed_of (λ l m xs i i'. Knows l m xs i i' × Closes h r l m xs i i') (λ l m xs i i' q. q.1) few no_rules lying in
+            let oc = subst EachOnce (sym C.names) once_c in
+            let or = subst EachOnce (sym C.rule_names) once_r in
+            let c : Contents = record {
+              link_of = link_name;
+              atoms_of = λ p. (look context_or_not p C.held ([], no_region)).0;
+              membranes_of = λ p. (look context_or_not p C.held ([], no_region)).1;
+              rules_of = λ q. look name_or_not q C.rules_held [];
+              typed_of = typed_of;
+            } in
+            let t = assignment_of c in
+            let told = C.agree t (λ p a k. ap (λ b. region_process (region b.0 b.1 [])) (look_found context_or_not C.held (p, a) ([], no_region) oc k)) (λ p a k. look_found name_or_not C.rules_held (p, a) [] or k) in
+            let kept = keep_level h v r f part_at t items (λ x. let u = sum' x in let w = linked x in omega (arith, u, w)) (λ x. 0) (λ b. 0) (λ b. 0) told (record { link_room = room.link_room; atom_room = room.atom_room; membrane_room = room.membrane_room; all_atoms_are = room.all_atoms_are; all_membranes_are = room.all_membranes_are }) sum' in
+            let closed : (q : tree.Name) → Closed (region_process (region (look context_or_not (tree.closed_context q) C.held ([], no_region)).0 (look context_or_not (tree.closed_context q) C.held ([], no_region)).1 [])) =
+            λ q. look_holds context_or_not LeftClosed (tree.closed_context q) C.held ([], no_region) (λ w k. C.closed w.0 w.1 k) (λ x. inl refl) in
             let images = level_images_of h v r t kept (map r.rule (rules_in h M)) in
             record {
               assignment = t;
@@ -311,7 +392,7 @@ module _ (h : Heap) (v : Valid h) (r : HeapReading) (naming : IsNaming h r.name)
                   let u = tree_once h v M inner whole b in
                   omega (arith, u, weigh_append (one_if_same b) (atoms_in h M) (forest_atoms h inner), weigh_same b (tree_atoms h M inner)))
                   (λ b. omega (arith, once_of b (flat inner) once.1, weigh_same b (flat inner)));
-              plain = λ free. contents_plain c free;
+              plain = λ free. contents_plain c closed free;
               typed = refl;
               images = subst (λ z. LevelImages t Tree L.places (region_at h r z inner) (region (map (atom_at h r) L.rest) (regions_at h r L.left_forest) (map r.rule (rules_in h M)))) e.lies.here
                   (subst (λ X. LevelImages t Tree L.places (region X (regions_at h r inner) (map r.rule (rules_in h M))) (region (map (atom_at h r) L.rest) (regions_at h r L.left_forest) (map r.rule (rules_in h M))))

@@ -109,7 +109,7 @@ mutual
   head_used : (hd : Head) → All (Used (head_uses hd)) (head_leaves hd)
   head_used (head leaves hs cs rcs rs) k d l =
       let own = map leaf_item leaves in
-      let rest = map (used form.Bare) cs ++ (map item.RuleContext rcs ++ map item.Rule rs) in
+      let rest = map base.untyped cs ++ (map item.RuleContext rcs ++ map item.Rule rs) in
       All-append (Used (head_uses (head leaves hs cs rcs rs))) leaves (heads_leaves hs)
       (λ k d l. wider own (head_uses (head leaves hs cs rcs rs)) _ (λ n e. used_left n (own ++ rest) (heads_uses hs) (used_left n own rest e)) (own_used leaves k d l))
       (λ k d l. wider (heads_uses hs) (head_uses (head leaves hs cs rcs rs)) _ (λ n e. used_right n (own ++ rest) (heads_uses hs) e) (heads_used hs k d l)) k d l

@@ -1,5 +1,5 @@
 -- A head that embeds on a heap lies in the lists of the heap.
-use Rattle.std.proofs.Common.{ℕ, zero, suc, ◌≡◌, ◌≢◌, ◌+◌, ◌≤◌, ◌<◌, ◌⊎◌, Bool, false, List, [], ◌∷◌, ◌++◌, map, length, Option, Some, None, IsSome, refl, sym, ap, subst, ◌∙◌, inl, inr, arith}
+use Rattle.std.proofs.Common.{ℕ, zero, suc, ◌≡◌, ◌≢◌, ◌+◌, ◌≤◌, ◌<◌, ◌⊎◌, ◌||◌, Bool, true, false, List, [], ◌∷◌, ◌++◌, map, length, Option, Some, None, IsSome, refl, sym, ap, subst, ◌∙◌, inl, inr, arith}
 use Rattle.std.specs.Prelude.{slice_get}
 use Rattle.std.proofs.lemmas.Bool.{cases_eq}
 use Rattle.lmn_base.specs.declared.level.Leaf.{Leaf}
@@ -20,13 +20,13 @@ use Rattle.lmn_congruence.specs.Links.{places}
 use Rattle.lmn_congruence.specs.LinkedRules.{leaf_occurrences, leaves_occurrences, level_occurrences, levels_occurrences}
 use Rattle.lmn_congruence.specs.Rules as tree
 use Rattle.lmn_reduction.specs.Parts.{Rooted, IsGround}
-use Rattle.lmn_congruence.specs.Translation.{name_of, label_of, leaf_of, atom_or_connector, names_of, rules}
+use Rattle.lmn_congruence.specs.Translation.{name_of, context_tree, context_with, label_of, leaf_of, atom_or_connector, names_of, rules}
 use Rattle.lmn_adequacy.specs.Accepted.{EachLevel, EachOf, NoConnectorLeaf, own_leaves, own_contexts, own_rule_contexts}
 use Rattle.lmn_heap.specs.Solid.{IsNaming}
 use Rattle.lmn_bridge.specs.HeapRegions.{HeapReading}
 use Rattle.lmn_bridge.proofs.Pieces.{atom_at, numbers}
 use Rattle.lmn_bridge.proofs.Counting.{weigh_same, times_at, tree_atoms, ends_among}
-use Rattle.lmn_solid.proofs.HeadTrees.{Head, Heads, head, no_head, head_and, size, flat_items, flat_membranes, has_context, has_rule_context}
+use Rattle.lmn_solid.proofs.HeadTrees.{Head, Heads, head, no_head, head_and, size, flat_items, flat_membranes, has_closed_context, has_context, has_rule_context}
 use Rattle.lmn_bridge.proofs.HeadTrees.{tree_of, trees_of}
 use Rattle.lmn_bridge.proofs.Lying.{FitLeaves, fit_none, fit_atom, fit_typed, TakenTree, Lies, lies, LiesIn, lies_none, lies_and}
 use Rattle.lmn_bridge.proofs.Walking.{Walk, walk_split, run, run_both, atoms_in_items, typed_in_items, membranes_in_items, atoms_both, typed_both, membranes_both, flat_size, no_leaf_membrane}
@@ -34,7 +34,7 @@ use Rattle.lmn_bridge.proofs.Forests.{tops, Grown, pick, taken_grown, taken_dist
 use Rattle.lmn_heap.proofs.Heights.{parent_is, climbs_both}
 use Rattle.lmn_bridge.proofs.PartsOut.{flattened, parts_both, places_parts}
 use Rattle.lmn_bridge.proofs.PartsLaid.{GivenParts, given_none, given_atom, given_typed, lay_parts}
-use Rattle.lmn_bridge.proofs.Weighing.{weigh_left}
+use Rattle.lmn_bridge.proofs.Weighing.{left_grown, weigh_left}
 use Rattle.lmn_congruence.specs.Links.{one_if_same}
 use Rattle.lmn_adequacy.specs.Embedding.{IsPart}
 use Rattle.lmn_bridge.proofs.Ports.{find_place, port_named, Outer, outer_top, outer_in, outermost_is}
@@ -44,7 +44,9 @@ use Rattle.lmn_congruence.proofs.Counts.{none_if_apart as apart_none}
 use Rattle.lmn_congruence.proofs.TranslatedLinks.{places_append as places_both}
 use Rattle.lmn_heap.proofs.Listing.{distinct_without_all}
 use Rattle.lmn_base.specs.Lists.{In}
-use Rattle.std.specs.List.{AllByRecursion}
+use Rattle.std.specs.List.{AllByRecursion, list_any}
+use Rattle.lmn_base.specs.declared.level.CtxUse.{CtxUse}
+use Rattle.lmn_congruence.specs.Orders.{Among, at_head, further}
 
 -- ---- leaves as trees
 
@@ -79,6 +81,15 @@ module _ (h : Heap) (r : HeapReading) (f : Images) (part_at : ℕ → List ℕ) 
   abbrev pub all_parts : List ℕ
   all_parts = flattened (run part_at 0 (typed_in_items items))
 
+  -- An atom is left in a membrane: it stands there, and is no image and in no part, or it stands within a membrane there
+  -- that is no image.
+  abbrev pub LeftIn : ℕ → ℕ → Type 0
+  LeftIn m b = (In b (atoms_in h m) × (¬ (In b all_atoms)) × (¬ (In b all_parts))) ⊎ ((c : ℕ) × In c (mems_in h m) × (¬ (In c all_membranes)) × StandsWithin h b c)
+
+  -- no link leaves what is left in a membrane
+  abbrev pub NoneLeaves : ℕ → Type 0
+  NoneLeaves m = (b i : ℕ) (p : Port) → LeftIn m b → partner h (b, i) ≡ Some p → LeftIn m p.0
+
   -- how often a link stands in the head
   abbrev pub total : ℕ → ℕ
   total x = times x (links_of_head items)
@@ -97,6 +108,7 @@ module _ (h : Heap) (r : HeapReading) (f : Images) (part_at : ℕ → List ℕ) 
     pub counted : k ≤ length (membranes_of items)
     pub alone : n.has_context ≡ false → ((b : ℕ) → In b (atoms_in h (f.membrane k)) → In b all_atoms ⊎ In b all_parts) × ((b : ℕ) → In b (mems_in h (f.membrane k)) → In b all_membranes)
     pub no_rule : n.has_rule_context ≡ false → rules_in h (f.membrane k) ≡ []
+    pub closed : n.has_closed_context ≡ true → NoneLeaves (f.membrane k)
 
   -- a typed context stands for some atoms of its membrane, a ground part held by its link
   pub record TypedLies (t : ℕ) (a : HeadTyped) : Type 0 where
@@ -114,6 +126,8 @@ module _ (h : Heap) (r : HeapReading) (f : Images) (part_at : ℕ → List ℕ) 
     pub grown : tops i ≡ mems_in h m
     pub alone : own_contexts l ≡ [] → ((b : ℕ) → In b (atoms_in h m) → In b all_atoms ⊎ In b all_parts) × ((b : ℕ) → In b (mems_in h m) → In b all_membranes)
     pub no_rule : own_rule_contexts l ≡ [] → rules_in h m ≡ []
+    pub closed : (q : tree.Name) → Among (tree.closed_context q) (own_contexts l) → NoneLeaves m
+    pub left_grown : Grown h i'
     pub outside : (x : ℕ) → total x ≡ 1 → level_occurrences x l ≢ 0 → weigh (times_at h r (link_of' x)) (tree_atoms h m i) ≤ 1
 
   -- a membrane of the head stands within an outermost one
@@ -148,10 +162,10 @@ module _ (h : Heap) (v : Valid h) (r : HeapReading) (naming : IsNaming h r.name)
   abbrev ms : List HeadMembrane
   ms = membranes_of items
 
-  enter : (cur next : ℕ) (c rc : Bool) → ((cur ≡ 0) ⊎ ((top : ℕ) × Below h r f part_at link_of' typed_of items cur top)) → cur < next → MembraneLies h r f part_at link_of' typed_of items next (record { inside = cur; has_context = c; has_rule_context = rc }) →
+  enter : (cur next : ℕ) (c cl rc : Bool) → ((cur ≡ 0) ⊎ ((top : ℕ) × Below h r f part_at link_of' typed_of items cur top)) → cur < next → MembraneLies h r f part_at link_of' typed_of items next (record { inside = cur; has_context = c; has_closed_context = cl; has_rule_context = rc }) →
       (top : ℕ) × Below h r f part_at link_of' typed_of items next top
-  enter cur next c rc (inl e) l m = (next, record { steps = 0; chain = outer_top (m.stands ∙ e); short = omega (arith, l, e); counted = m.counted; height = 0; above = refl })
-  enter cur next c rc (inr b) l m =
+  enter cur next c cl rc (inl e) l m = (next, record { steps = 0; chain = outer_top (m.stands ∙ e); short = omega (arith, l, e); counted = m.counted; height = 0; above = refl })
+  enter cur next c cl rc (inr b) l m =
       let u = b.1 in
       let s = u.short in
       let q : inside_of ms next ≡ cur = m.stands in (
@@ -320,6 +334,29 @@ module _ (h : Heap) (v : Valid h) (r : HeapReading) (naming : IsNaming h r.name)
   own_none (head leaves hs [] rcs rs) e = refl
   own_none (head leaves hs (c ∷ cs) rcs rs) e = absurd (cc)
 
+  own_closed : (hd : Head) (q : tree.Name) → Among (tree.closed_context q) (own_contexts (Tree hd)) → has_closed_context hd ≡ true
+  own_closed (head leaves hs cs rcs rs) q k = by cs k
+    where
+      is_closed : (u : CtxUse) (c : Bool) → u.closed ≡ c → tree.closed_context q ≡ context_with c (name_of r.names u.name) → c ≡ true
+      is_closed u true e s = refl
+      is_closed u false e s = absurd (cc)
+
+      found : (b c : Bool) → b ≡ true → (b || c) ≡ true
+      found true c e = refl
+      found false c e = absurd (cc)
+
+      later : (b c : Bool) → c ≡ true → (b || c) ≡ true
+      later true c e = refl
+      later false c e = e
+
+      at : (u : CtxUse) (us : List CtxUse) {w : tree.Context} → Among w (map (context_tree r.names) (u ∷ us)) → w ≡ tree.closed_context q → (Among (tree.closed_context q) (map (context_tree r.names) us) → list_any (λ u. u.closed) us ≡ true) → list_any (λ u. u.closed) (u ∷ us) ≡ true
+      at u us at_head e h = found u.closed (list_any (λ u. u.closed) us) (is_closed u u.closed refl (sym e))
+      at u us (further i) e h = later u.closed (list_any (λ u. u.closed) us) (h (subst (λ z. Among z (map (context_tree r.names) us)) e i))
+
+      by : (cs : List CtxUse) → Among (tree.closed_context q) (map (context_tree r.names) cs) → list_any (λ u. u.closed) cs ≡ true
+      by [] k = elim k [ ]
+      by (u ∷ us) k = at u us k refl (by us)
+
   own_rule_none : (hd : Head) → own_rule_contexts (Tree hd) ≡ [] → has_rule_context hd ≡ false
   own_rule_none (head leaves hs cs [] rs) e = refl
   own_rule_none (head leaves hs cs (c ∷ rcs) rs) e = absurd (cc)
@@ -390,7 +427,7 @@ module _ (h : Heap) (v : Valid h) (r : HeapReading) (naming : IsNaming h r.name)
         let P = lay_parts (atom_at h r) link_of' typed_of (without_all as1 X) fit.2 (distinct_without_all as1 X (v.sound.listed.atoms_once (f.membrane cur)))
         (distinct_of (flattened ps1) (λ b. let s = d2.0 b in omega (arith, s)))
         (λ b i. in_left_over b as1 X once fit.1 (let s = d2.0 b in omega (arith, s, some_of b (flattened ps1) i)) (fit.3 b i)) in
-        let it = lies {contexts = names_of r.names cs} {rule_contexts = names_of r.names rcs} {rules = rules (map r.rule rs)} fit.0 once fit.1 P.out more.lying in
+        let it = lies {contexts = map (context_tree r.names) cs} {rule_contexts = names_of r.names rcs} {rules = rules (map r.rule rs)} fit.0 once fit.1 P.out more.lying in
         record {
           places = numbers as1 X ++ more.places;
           rest = P.rest;
@@ -432,7 +469,7 @@ module _ (h : Heap) (v : Valid h) (r : HeapReading) (naming : IsNaming h r.name)
         let p = pick (f.membrane next) F tp.0 in
         let grown = taken_grown h p.taken g in
         let dt = taken_distinct p.taken df in
-        let b' = enter cur next (has_context hd) (has_rule_context hd) b l m in
+        let b' = enter cur next (has_context hd) (has_closed_context hd) (has_rule_context hd) b l m in
         let it = lay_level next (next + 1) n t hd p.inner (inr b') (omega arith) o.0 u.0 d2.0 (distinct_left ms1 ms2 dm') grown.0.0 grown.0.1 dt.1 in
         let away = each_of (λ b. f.membrane next ≢ b) ms2 (λ b j. each_in (λ b. f.membrane next ≢ b) (run f.membrane (next + 1) (membranes_in_items (first ++ behind))) b dm.0 (subst (In b) (sym em) (in_right b ms1 ms2 j))) in
         let more = lay_membranes cur (next + 1 + size hd) (n + atoms_in_items first) (t + typed_in_items first) hs p.others b (omega (arith, l)) o.1 w' d2.1 (distinct_right ms1 ms2 dm')
@@ -441,6 +478,8 @@ module _ (h : Heap) (v : Valid h) (r : HeapReading) (naming : IsNaming h r.name)
           grown = grown.0.0;
           alone = λ e. m.alone (own_none hd e);
           no_rule = λ e. m.no_rule (own_rule_none hd e);
+          closed = λ q k. m.closed (own_closed hd q k);
+          left_grown = left_grown it.lying grown.0.1;
           outside = λ x one some. once_there x next b'.0 p.inner b'.1 (level_holds x next (next + 1) n t b'.0 b'.1 (omega arith) hd o.0 u.0 some one) one grown.0.0 grown.0.1 dt.0;
         } in
         let whole = lies_and p.taken it.lying known more.lying in

@@ -47,3 +47,4 @@ pub mod OnePart
 pub mod GroundGuards
 pub mod EmbeddedParts
 pub mod ExampleReadings
+pub mod Rests

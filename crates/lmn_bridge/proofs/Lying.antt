@@ -5,7 +5,7 @@ use Rattle.lmn_heap.specs.Lists.{Distinct, without, without_all}
 use Rattle.lmn_heap.specs.Sound.{Forest, mem, Valid}
 use Rattle.lmn_congruence.specs.Process.{Process}
 use Rattle.lmn_congruence.specs.Regions.{SolidAtom, Region, region, region_process}
-use Rattle.lmn_congruence.specs.Rules.{Label, Leaf, Level, Levels, Name, Rule, Rules, atom_leaf, typed_leaf, level, no_level, level_and}
+use Rattle.lmn_congruence.specs.Rules.{Context, Label, Leaf, Level, Levels, Name, Rule, Rules, atom_leaf, typed_leaf, level, no_level, level_and}
 use Rattle.lmn_congruence.specs.UpToOrder.{Reordered}
 use Rattle.lmn_reduction.specs.Assignments.{Assignment}
 use Rattle.lmn_reduction.specs.Parts.{Rooted}
@@ -37,7 +37,7 @@ pub data TakenTree : ℕ → ℕ → Forest → Forest → Forest → Type 0 whe
 -- number, the atoms that are left, and the forest in it before and after.
 mutual
   pub data Lies (h : Heap) (r : HeapReading) (link_of : ℕ → ℕ) (typed_of : Name → Rooted) (Q : Level → ℕ → List ℕ → Forest → Forest → Type 0) : Level → List ℕ → List (List ℕ) → List ℕ → List ℕ → List ℕ → List ℕ → Forest → Forest → Type 0 where
-    lies : {leaves : List Leaf} {membranes : Levels} {contexts rule_contexts : List Name} {rules : Rules}
+    lies : {leaves : List Leaf} {membranes : Levels} {contexts : List Context} {rule_contexts : List Name} {rules : Rules}
         {bs as' ms ns xs rest : List ℕ} {parts ps : List (List ℕ)} {f f' : Forest} →
         FitLeaves (atom_at h r) link_of leaves bs → Distinct bs → AllByRecursion (λ b. In b xs) bs → PartsOut (atom_at h r) link_of typed_of leaves parts (without_all bs xs) rest →
         LiesIn h r link_of typed_of Q membranes as' ps ms ns f f' →

@@ -73,7 +73,7 @@ numbers_both h f n k as' ms (Atom fu ls i ∷ xs) ys =
     ap (λ z. index_of (f.atom n) (without_all as' (atoms_in h (f.membrane i))) ∷ z) (numbers_both h f (n + 1) k (as' ++ f.atom n ∷ []) ms xs ys
     ∙ (λ j. tail ++ numbers_left h f (zn j) (k + membranes_in_items xs) (append_assoc as' (f.atom n ∷ []) (run f.atom (n + 1) (atoms_in_items xs)) j) (ms ++ run f.membrane k (membranes_in_items xs)) ys))
 numbers_both h f n k as' ms (Typed x kd l i ∷ xs) ys = numbers_both h f n k as' ms xs ys
-numbers_both h f n k as' ms (Membrane i c rc ∷ xs) ys =
+numbers_both h f n k as' ms (Membrane i c cl rc ∷ xs) ys =
     let zk : (k + 1) + membranes_in_items xs ≡ k + suc (membranes_in_items xs) = omega arith in
     let tail = numbers_left h f n (k + 1) as' (ms ++ f.membrane k ∷ []) xs in
     ap (λ z. index_of (f.membrane k) (without_all ms (mems_in h (f.membrane i))) ∷ z) (numbers_both h f n (k + 1) as' (ms ++ f.membrane k ∷ []) xs ys

@@ -30,13 +30,13 @@ abbrev item_times : ℕ → List HeadItem → ℕ
 item_times x [] = 0
 item_times x (Atom f ls i ∷ xs) = places x ls + item_times x xs
 item_times x (Typed n k y i ∷ xs) = one_if_same x y + item_times x xs
-item_times x (Membrane i c rc ∷ xs) = item_times x xs
+item_times x (Membrane i c cl rc ∷ xs) = item_times x xs
 
 item_both : (x : ℕ) (xs ys : List HeadItem) → item_times x (xs ++ ys) ≡ item_times x xs + item_times x ys
 item_both x [] ys = omega arith
 item_both x (Atom f ls i ∷ xs) ys = omega (arith, item_both x xs ys)
 item_both x (Typed n k y i ∷ xs) ys = omega (arith, item_both x xs ys)
-item_both x (Membrane i c rc ∷ xs) ys = item_both x xs ys
+item_both x (Membrane i c cl rc ∷ xs) ys = item_both x xs ys
 
 port_links : (x n i : ℕ) (ys : List ℕ) (os : List Occurrence) → places x (map (λ o. o.link) (at_ports n i ys ++ os)) ≡ places x ys + places x (map (λ o. o.link) os)
 port_links x n i [] os = omega arith
@@ -46,7 +46,7 @@ atom_links : (x n : ℕ) (xs : List HeadItem) → places x (map (λ o. o.link) (
 atom_links x n [] = omega arith
 atom_links x n (Atom f ls i ∷ xs) = omega (arith, port_links x n 0 ls (at_atoms (n + 1) (atoms_of xs)), atom_links x (n + 1) xs)
 atom_links x n (Typed m k y i ∷ xs) = omega (arith, atom_links x n xs)
-atom_links x n (Membrane i c rc ∷ xs) = atom_links x n xs
+atom_links x n (Membrane i c cl rc ∷ xs) = atom_links x n xs
 
 -- a link that is got from a list stands in it
 pub some_place : (x : ℕ) (ys : List ℕ) (j : ℕ) → slice_get ys j ≡ Some x → 1 ≤ places x ys

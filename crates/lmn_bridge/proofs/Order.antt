@@ -85,13 +85,13 @@ abbrev Fresh : ℕ → List HeadItem → Type 0
 Fresh k [] = Unit {0}
 Fresh k (Atom fu ls i ∷ xs) = (i < k) × Fresh k xs
 Fresh k (Typed x kd l i ∷ xs) = Fresh k xs
-Fresh k (Membrane i c rc ∷ xs) = (i < k) × Fresh (k + 1) xs
+Fresh k (Membrane i c cl rc ∷ xs) = (i < k) × Fresh (k + 1) xs
 
 fresh_both : (k : ℕ) (xs ys : List HeadItem) → Fresh k xs → Fresh (k + membranes_in_items xs) ys → Fresh k (xs ++ ys)
 fresh_both k [] ys f g = subst (λ z. Fresh z ys) (omega arith) g
 fresh_both k (Atom fu ls i ∷ xs) ys f g = (f.0, fresh_both k xs ys f.1 g)
 fresh_both k (Typed x kd l i ∷ xs) ys f g = fresh_both k xs ys f g
-fresh_both k (Membrane i c rc ∷ xs) ys f g = (f.0, fresh_both (k + 1) xs ys f.1 (subst (λ z. Fresh z ys) (omega arith) g))
+fresh_both k (Membrane i c cl rc ∷ xs) ys f g = (f.0, fresh_both (k + 1) xs ys f.1 (subst (λ z. Fresh z ys) (omega arith) g))
 
 fresh_leaves : (kind : ℕ → TypeKind) (cur k : ℕ) (ls : List Leaf) → cur < k → Fresh k (leaf_items kind cur ls)
 fresh_leaves kind cur k [] l = tt
@@ -188,7 +188,7 @@ module _ (h : Heap) (f g : Images) where
               inr ((λ r. index_of (ab r) (e r)), (more ab).1 (subst (λ c. ListNotAfter (numbers_left h f (n + 1) k (gone ++ a ∷ []) out xs) (tail (gone ++ c ∷ []) out xs)) (sym ab) q.1)))
         ]),
       )
-  ordered (Membrane i c rc ∷ xs) n t k j gone out ek fr u w ga gb oa ob same =
+  ordered (Membrane i c cl rc ∷ xs) n t k j gone out ek fr u w ga gb oa ob same =
       let a = f.membrane k in
       let b = g.membrane k in
       let L = mems_in h (f.membrane i) in
@@ -256,4 +256,4 @@ pub numbers_length : (h : Heap) (f g : Images) (n k : ℕ) (as' ms bs ks : List 
 numbers_length h f g n k as' ms bs ks [] = refl
 numbers_length h f g n k as' ms bs ks (Atom fu ls i ∷ xs) = ap suc (numbers_length h f g (n + 1) k (as' ++ f.atom n ∷ []) ms (bs ++ g.atom n ∷ []) ks xs)
 numbers_length h f g n k as' ms bs ks (Typed x kd l i ∷ xs) = numbers_length h f g n k as' ms bs ks xs
-numbers_length h f g n k as' ms bs ks (Membrane i c rc ∷ xs) = ap suc (numbers_length h f g n (k + 1) as' (ms ++ f.membrane k ∷ []) bs (ks ++ g.membrane k ∷ []) xs)
+numbers_length h f g n k as' ms bs ks (Membrane i c cl rc ∷ xs) = ap suc (numbers_length h f g n (k + 1) as' (ms ++ f.membrane k ∷ []) bs (ks ++ g.membrane k ∷ []) xs)

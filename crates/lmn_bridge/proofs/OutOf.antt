@@ -6,7 +6,7 @@ use Rattle.lmn_base.specs.declared.guard.Cond.{Cond}
 use Rattle.lmn_guards.specs.declared.plan.TypeKind.{TypeKind}
 use Rattle.lmn_heap.specs.Heap.{Heap, IsAtom, atoms_in, mems_in, rules_in, arity_of, link_of, functor_of}
 use Rattle.lmn_heap.specs.Lists.{Distinct}
-use Rattle.lmn_heap.specs.Sound.{Forest, flat, Forms, Valid}
+use Rattle.lmn_heap.specs.Sound.{Forest, bare, flat, Forms, mem, Valid}
 use Rattle.lmn_heap.proofs.ListLemmas.{each_in, in_left, in_right}
 use Rattle.lmn_solid.specs.declared.items.HeadItem.{HeadItem}
 use Rattle.lmn_solid.specs.Guards.{HoldsOnHeap, IsOfKindAt}
@@ -14,7 +14,8 @@ use Rattle.lmn_base.specs.Graphs.{at_root, StandsWhole, Port}
 use Rattle.std.proofs.lemmas.Option.{same_Some}
 use Rattle.lmn_heap.specs.Graphs.{atom_map}
 use Rattle.lmn_solid.specs.Heads.{HeadAtom, HeadTyped, HeadMembrane, atoms_of, typed_contexts_of, membranes_of, inside_of}
-use Rattle.lmn_solid.specs.Embeddings.{Images, Embeds, HasLink, HasAtom, HasTyped, HasMembrane, meaning}
+use Rattle.lmn_solid.specs.Embeddings.{Images, Embeds, HasLink, HasAtom, HasTyped, HasMembrane, IsAtomImage, IsInPart, IsInRest, IsMembraneImage, meaning}
+use Rattle.lmn_congruence.specs.LinkedRules.{level_occurrences}
 use Rattle.lmn_congruence.specs.Links.{one_if_same, places}
 use Rattle.lmn_congruence.specs.Regions.{Region, region}
 use Rattle.lmn_congruence.specs.Translation.{name_of}
@@ -25,17 +26,17 @@ use Rattle.lmn_adequacy.specs.Loose.{Plain, LevelImages}
 use Rattle.lmn_heap.specs.Solid.{IsNaming}
 use Rattle.lmn_bridge.specs.HeapRegions.{HeapReading, regions_at, region_at}
 use Rattle.lmn_bridge.proofs.Pieces.{atom_at, atoms_each}
-use Rattle.lmn_bridge.proofs.Counting.{weigh_same, list_atoms, tree_atoms, forest_atoms}
+use Rattle.lmn_bridge.proofs.Counting.{weigh_same, list_atoms, times_at, tree_atoms, forest_atoms}
 use Rattle.lmn_solid.proofs.HeadTrees.{Head, size, flat_items}
 use Rattle.lmn_bridge.proofs.HeadTrees.{tree_of}
-use Rattle.lmn_bridge.proofs.Lying.{Kept}
+use Rattle.lmn_bridge.proofs.Lying.{Kept, Lies}
 use Rattle.lmn_bridge.proofs.Read.{FoundLevel, find_level}
-use Rattle.lmn_bridge.proofs.Walking.{Walk, walk_from, walk_atom, walk_typed, walk_membrane, inside_bound, flat_size, atoms_in_items, typed_in_items, membranes_in_items}
+use Rattle.lmn_bridge.proofs.Walking.{Walk, run, walk_from, walk_atom, walk_typed, walk_membrane, inside_bound, flat_size, atoms_in_items, typed_in_items, membranes_in_items}
 use Rattle.lmn_bridge.proofs.Weighing.{level_weighs, weigh_nothing}
-use Rattle.lmn_bridge.proofs.Forests.{forms_tops, forms_grown, once_of, none_of, some_of, one_home, tree_once, distinct_of}
+use Rattle.lmn_bridge.proofs.Forests.{each_tree, forms_tops, forms_grown, once_of, none_of, some_of, one_home, tree_once, distinct_of}
 use Rattle.lmn_bridge.proofs.Ports.{port_named}
-use Rattle.lmn_bridge.proofs.Laying.{AtomLies, MembraneLies, TypedLies, all_atoms, all_parts, all_membranes, total}
-use Rattle.lmn_bridge.proofs.Contexts.{NoRules}
+use Rattle.lmn_bridge.proofs.Laying.{AtomLies, LeftIn, MembraneLies, TypedLies, all_atoms, all_parts, all_membranes, total}
+use Rattle.lmn_bridge.proofs.Contexts.{Few, NoRules}
 use Rattle.lmn_bridge.proofs.Occurrences.{times_are, times_parts, port_counts, typed_counts}
 use Rattle.lmn_bridge.proofs.Runs.{run_in, in_run, get_inside, parts_in, in_parts}
 use Rattle.lmn_bridge.proofs.Functors.{functor_read}
@@ -43,11 +44,13 @@ use Rattle.lmn_bridge.proofs.PartsOut.{flattened}
 use Rattle.lmn_bridge.proofs.PartsLaid.{held_part}
 use Rattle.lmn_bridge.proofs.PartLaws.{ground_parts_stand_whole}
 use Rattle.lmn_bridge.specs.Parts.{IsGroundPart, HasPart}
-use Rattle.lmn_bridge.proofs.Back.{Reads, walk_level, Stood}
+use Rattle.lmn_bridge.proofs.Back.{Placed, Reads, walk_level, Stood}
+use Rattle.lmn_bridge.proofs.Keeping.{carry_level, left_apart}
+use Rattle.lmn_bridge.proofs.Into.{two_ends}
 use Rattle.lmn_bridge.proofs.Lengths.{level_length}
 use Rattle.lmn_bridge.proofs.Numbering.{level_numbers}
 use Rattle.lmn_bridge.specs.Numbers.{numbers_left}
-use Rattle.lmn_base.proofs.Lists.{get_below, get_there as get_some, weigh_append, in_either, get_map, plus_nothing}
+use Rattle.lmn_base.proofs.Lists.{get_below, get_there as get_some, weigh, weigh_append, in_either, get_map, plus_nothing}
 use Rattle.lmn_congruence.proofs.TranslatedLinks.{places_append as places_both}
 use Rattle.lmn_heap.proofs.Common.{same_port}
 use Rattle.lmn_base.specs.declared.functor.Functor.{Functor}
@@ -63,6 +66,11 @@ reads_index none [] g n h = tt
 reads_index none (x ∷ xs) g n h =
     let z : n + 0 ≡ n = omega arith in
     (ap g (sym z) ∙ h 0 (omega arith), reads_index none xs g (n + 1) (λ i l. let y : (n + 1) + i ≡ n + suc i = omega arith in ap g y ∙ h (suc i) (omega (arith, l))))
+
+-- and its row is the list
+reads_run : {A : Type 0} (g : ℕ → A) (n : ℕ) (xs : List A) → Reads g n xs → run g n (length xs) ≡ xs
+reads_run g n [] h = refl
+reads_run g n (x ∷ xs) h = cc (h.0, reads_run g (n + 1) xs h.1)
 
 -- ---- lists of lists
 
@@ -107,7 +115,7 @@ index_once (x ∷ xs) d (suc i) (suc j) l k e = let u = index_once xs d.1 i j (o
 
 module _ (h : Heap) (v : Valid h) (r : HeapReading) (naming : IsNaming h r.name) (kind : ℕ → TypeKind) (hd : Head) (m : ℕ) (inner : Forest) (forms : Forms h inner (mems_in h m)) (once : Distinct (m ∷ flat inner))
     (t : Assignment) (plain : Plain t) (ns : List ℕ) (rest : Region) (images : LevelImages t (tree_of r.names r.rule hd) ns (region_at h r m inner) rest)
-    (o : EachLevel (λ l. NoConnectorLeaf (own_leaves l)) (tree_of r.names r.rule hd)) (none : EachLevel NoRules (tree_of r.names r.rule hd))
+    (o : EachLevel (λ l. NoConnectorLeaf (own_leaves l)) (tree_of r.names r.rule hd)) (none : EachLevel NoRules (tree_of r.names r.rule hd)) (few : EachLevel Few (tree_of r.names r.rule hd)) (twice : (x : ℕ) → level_occurrences x (tree_of r.names r.rule hd) ≤ 2)
     (holds_typed : (n : ℕ) (u : HeadTyped) → HasTyped (flat_items kind 0 1 hd) n u → (p : Port) × HasLink (flat_items kind 0 1 hd) u.link p) where
   abbrev items : List HeadItem
   items = flat_items kind 0 1 hd
@@ -191,8 +199,38 @@ module _ (h : Heap) (v : Valid h) (r : HeapReading) (naming : IsNaming h r.name)
       omega (arith, u, weigh_append (one_if_same b) (atoms_in h m) (forest_atoms h inner), weigh_same b (tree_atoms h m inner)))
       (λ b. omega (arith, once_of b (flat inner) once.1, weigh_same b (flat inner)))
 
+  -- in each membrane what is left is apart
+  placed : Lies h r t.link_of t.typed_of (Placed h v r naming images_at part_at t plain items kind) (tree_of r.names r.rule hd) found.atoms found.parts found.membranes ns (atoms_in h m) found.left_atoms inner found.left_forest
+  placed = carry_level h r images_at part_at t.link_of t.typed_of items (Kept h r t) (Placed h v r naming images_at part_at t plain items kind)
+      (λ el ea em l m bs ps ms ns xs i i' d k x s. (k, left_apart h r images_at part_at t.link_of t.typed_of items el ea em d x))
+      (λ x. 0) (λ b. 0) (λ b. 0) found.lying
+      (record {
+        link_room = λ x.
+            let u = two_ends h v r naming (t.link_of x) (tree_atoms h m inner) (each_tree h v m inner) (tree_once h v m inner whole) in
+            omega (arith, u, weigh_append (times_at h r (t.link_of x)) (atoms_in h m) (forest_atoms h inner));
+        atom_room = λ b.
+            let u = tree_once h v m inner whole b in
+            omega (arith, u, weigh_append (one_if_same b) (atoms_in h m) (forest_atoms h inner), weigh_same b (tree_atoms h m inner));
+        membrane_room = λ b. omega (arith, once_of b (flat inner) once.1, weigh_same b (flat inner));
+        all_atoms_are = λ b. omega (arith, ap (weigh (one_if_same b)) atoms_run, ap (λ ps. weigh (one_if_same b) (flattened ps)) parts_run);
+        all_membranes_are = λ b. omega (arith, ap (weigh (one_if_same b)) membranes_run);
+      })
+      (λ x. omega (arith, times_are r.names r.rule kind x 0 1 hd))
+    where
+      whole : Distinct (flat (mem m inner bare))
+      whole = subst (λ z. Distinct (m ∷ z)) (sym (plus_nothing (flat inner))) once
+
+      atoms_run : run images_at.atom 0 (atoms_in_items items) ≡ found.atoms
+      atoms_run = ap (run images_at.atom 0) (sym lengths.0) ∙ reads_run images_at.atom 0 found.atoms atoms_read
+
+      parts_run : run part_at 0 (typed_in_items items) ≡ found.parts
+      parts_run = ap (run part_at 0) (sym lengths.2) ∙ reads_run part_at 0 found.parts parts_read
+
+      membranes_run : run images_at.membrane 1 (membranes_in_items items) ≡ found.membranes
+      membranes_run = ap (run images_at.membrane 1) (sym lengths.1) ∙ reads_run images_at.membrane 1 found.membranes membranes_read
+
   stood : Stood h v r naming images_at part_at t plain items kind 0 0 1 items found.atoms found.parts found.membranes
-  stood = walk_level h v r naming images_at part_at t plain items kind 0 1 0 0 hd m refl (omega arith) o none facts found.lying
+  stood = walk_level h v r naming images_at part_at t plain items kind 0 1 0 0 hd m refl (omega arith) o none few facts placed
       atoms_read parts_read membranes_read
       (forms_tops h inner (mems_in h m) forms) (forms_grown h inner (mems_in h m) forms) (inl refl)
       (λ x. omega (arith, times_are r.names r.rule kind x 0 1 hd)) all_here parts_here membranes_here
@@ -302,6 +340,46 @@ module _ (h : Heap) (v : Valid h) (r : HeapReading) (naming : IsNaming h r.name)
     differ : (n k : ℕ) → n < length (atoms_of items) → k < length (atoms_of items) → images_at.atom n ≡ images_at.atom k → n ≡ k
     differ n k l j e = let q = lengths.0 in index_once found.atoms (distinct_of found.atoms (λ b. let w = places_few b in omega (arith, w))) n k (omega (arith, l, q)) (omega (arith, j, q)) e
 
+    image_in : (b : ℕ) → IsAtomImage items images_at b → In b (all_atoms h r images_at part_at t.link_of t.typed_of items)
+    image_in b w = let y : 0 + w.0 ≡ w.0 = omega arith in subst (λ b. In b (all_atoms h r images_at part_at t.link_of t.typed_of items)) (ap images_at.atom y ∙ w.2) (run_in images_at.atom 0 (length (atoms_of items)) w.0 w.1)
+
+    in_image : (b : ℕ) → In b (all_atoms h r images_at part_at t.link_of t.typed_of items) → IsAtomImage items images_at b
+    in_image b u = let w = in_run images_at.atom 0 (length (atoms_of items)) b u in let z : 0 + w.0 ≡ w.0 = omega arith in (w.0, w.1, ap images_at.atom (sym z) ∙ w.2)
+
+    membrane_in : (b : ℕ) → IsMembraneImage items images_at b → In b (all_membranes h r images_at part_at t.link_of t.typed_of items)
+    membrane_in b w = let y : 1 + w.0 ≡ suc w.0 = omega arith in subst (λ b. In b (all_membranes h r images_at part_at t.link_of t.typed_of items)) (ap images_at.membrane y ∙ w.2) (run_in images_at.membrane 1 (length (membranes_of items)) w.0 w.1)
+
+    in_membrane : (b : ℕ) → In b (all_membranes h r images_at part_at t.link_of t.typed_of items) → IsMembraneImage items images_at b
+    in_membrane b u = let w = in_run images_at.membrane 1 (length (membranes_of items)) b u in let z : 1 + w.0 ≡ suc w.0 = omega arith in (w.0, w.1, ap images_at.membrane (sym z) ∙ w.2)
+
+    part_in : (k b : ℕ) → IsInPart h items images_at k b → In b (all_parts h r images_at part_at t.link_of t.typed_of items)
+    part_in k b w = let y : 0 + w.0 ≡ w.0 = omega arith in
+        in_parts part_at 0 (length (typed_contexts_of items)) b w.0 (get_below (typed_contexts_of items) w.0 w.1 w.2) (subst (λ z. In b (part_at z)) (sym y) (((part_whole w.0 w.1 w.2).1 b).1 w.4))
+
+    in_part : (k : ℕ) (n : HeadMembrane) → HasMembrane items k n → (b : ℕ) → In b (atoms_in h (images_at.membrane k)) → In b (all_parts h r images_at part_at t.link_of t.typed_of items) → IsInPart h items images_at k b
+    in_part k n c b p u =
+        let w = parts_in part_at 0 (length (typed_contexts_of items)) b u in
+        let z : 0 + w.0 ≡ w.0 = omega arith in
+        let here : In b (part_at w.0) = subst (λ n. In b (part_at n)) z w.2 in
+        let y = get_some (typed_contexts_of items) w.0 w.1 in
+        let one = one_home h v (images_at.membrane y.0.inside) (images_at.membrane k) b ((typed_there w.0 y.0 y.1).placed b here) p in
+        let ks : k ≡ suc c.0 = c.1 in (
+          w.0,
+          y.0,
+          y.1,
+          same_membrane y.0.inside c.0 (typed_below w.0 y.0 y.1) (get_below (membranes_of items) c.0 n c.2) (one ∙ ap images_at.membrane ks) ∙ sym ks,
+          ((part_whole w.0 y.0 y.1).1 b).0 here,
+        )
+
+    -- the rest of a membrane is what is left in it
+    left_there : (k : ℕ) (n : HeadMembrane) → HasMembrane items k n → (b : ℕ) → IsInRest h items images_at k b → LeftIn h r images_at part_at t.link_of t.typed_of items (images_at.membrane k) b
+    left_there k n c b (inl w) = inl (w.0, (λ u. w.1 (in_image b u)), (λ u. w.2 (in_part k n c b w.0 u)))
+    left_there k n c b (inr w) = inr (w.0, w.1, (λ u. w.2 (in_membrane w.0 u)), w.3)
+
+    rest_there : (k : ℕ) (n : HeadMembrane) → HasMembrane items k n → (b : ℕ) → LeftIn h r images_at part_at t.link_of t.typed_of items (images_at.membrane k) b → IsInRest h items images_at k b
+    rest_there k n c b (inl w) = inl (w.0, (λ u. w.1 (image_in b u)), (λ u. w.2 (part_in k b u)))
+    rest_there k n c b (inr w) = inr (w.0, w.1, (λ u. w.2 (membrane_in w.0 u)), w.3)
+
     -- an embedding in the region is one on the heap
     pub embeds : (guard : List Cond) → ((n : ℕ) (u : HeadTyped) → HasTyped items n u → IsOfKindAt h u.kind (images_at.part n)) → HoldsOnHeap h (meaning items images_at) guard → Embeds h items guard m images_at
     embeds guard kinds holds = record {
@@ -344,6 +422,7 @@ module _ (h : Heap) (v : Valid h) (r : HeapReading) (naming : IsNaming h r.name)
             let z : 1 + w.0 ≡ suc w.0 = omega arith in
             (w.0, w.1, ap images_at.membrane (sym z) ∙ w.2);
         no_rule = λ k n c none'. (membrane_there k n c).no_rule none';
+        closed = λ k n b i p c z u q. rest_there k n c p.0 ((membrane_there k n c).closed z b i p (left_there k n c b u) q);
         parts = λ n u k.
             let root = entered n u k in
             let below = get_below (typed_contexts_of items) n u k in

@@ -26,7 +26,7 @@ use Rattle.lmn_reduction.specs.Parts.{Rooted}
 use Rattle.lmn_congruence.specs.Process.{Process}
 use Rattle.lmn_reduction.specs.Commits.{Irreducible}
 use Rattle.lmn_reduction.specs.Steps.{Step}
-use Rattle.lmn_adequacy.specs.Accepted.{typed_links, port_links, EachLevel, EachOf, NoConnectorLeaf, own_leaves as tree_leaves, own_membranes, own_contexts, own_rule_contexts, all_contexts, all_rule_contexts, contexts_in, rule_contexts_in}
+use Rattle.lmn_adequacy.specs.Accepted.{typed_links, port_links, EachLevel, EachOf, NoConnectorLeaf, own_leaves as tree_leaves, own_membranes, own_contexts, own_rule_contexts, all_contexts, all_rule_contexts, contexts_in, rule_contexts_in, AtMostOne}
 use Rattle.lmn_adequacy.specs.Embedding.{EmbedsAt, HasEmbedding as EmbedsInRegion}
 use Rattle.lmn_adequacy.specs.Loose.{LevelImages}
 use Rattle.lmn_adequacy.proofs.Results.{steps_exactly, irreducible_exactly}
@@ -65,6 +65,12 @@ module _ (r : HeapReading) (rule : RuleTree) (kind : ℕ → TypeKind) (k : IsRu
 
   pub few : EachOf Few (own_membranes (tree_of r.names r.rule (head_at rule.head)))
   few = subst (λ l. EachOf Few (own_membranes l)) is_tree k.accepted.few
+
+  few_of : (l : tree.Level) → own_contexts l ≡ [] → own_rule_contexts l ≡ [] → EachOf Few (own_membranes l) → EachLevel Few l
+  few_of (tree.level leaves membranes cs qs rules) e f w = ((subst AtMostOne (sym e) tt, subst AtMostOne (sym f) tt), w)
+
+  pub few_all : EachLevel Few (tree_of r.names r.rule (head_at rule.head))
+  few_all = subst (EachLevel Few) is_tree (few_of (tree.head_of T) k.accepted.top_contexts k.accepted.top_rule_contexts k.accepted.few)
 
   pub no_rules : EachLevel NoRules (tree_of r.names r.rule (head_at rule.head))
   no_rules = subst (EachLevel NoRules) is_tree k.accepted.no_rules
@@ -162,14 +168,14 @@ heads_alike h r m inner kind rule read forest is_rule ns typed_of free =
           let kinds = subst (λ g. HasKinds r kind rule g) (sym p.1.1) p.0 in
           let images = subst (λ l. LevelImages t l ns (region_at h r m inner) L.rest) e L.images in
           let kinds' = subst (λ z. (n : ℕ) (u : HeadTyped) → HasTyped z n u → IsOfTypeKind u.kind (t.typed_of (name_of r.names u.name))) items kinds in
-          let f = images_at h read.valid r read.naming kind hd m inner forest.forms forest.once t L.plain ns L.rest images only (no_rules r rule kind is_rule) holds in
-          let atoms = part_at h read.valid r read.naming kind hd m inner forest.forms forest.once t L.plain ns L.rest images only (no_rules r rule kind is_rule) holds in
-          let ground = ground_part h read.valid r read.naming kind hd m inner forest.forms forest.once t L.plain ns L.rest images only (no_rules r rule kind is_rule) holds read read.names read.known (names_known r rule kind is_rule) (arity_fits r rule kind is_rule) in (
+          let f = images_at h read.valid r read.naming kind hd m inner forest.forms forest.once t L.plain ns L.rest images only (no_rules r rule kind is_rule) (few_all r rule kind is_rule) (linked r rule kind is_rule) holds in
+          let atoms = part_at h read.valid r read.naming kind hd m inner forest.forms forest.once t L.plain ns L.rest images only (no_rules r rule kind is_rule) (few_all r rule kind is_rule) (linked r rule kind is_rule) holds in
+          let ground = ground_part h read.valid r read.naming kind hd m inner forest.forms forest.once t L.plain ns L.rest images only (no_rules r rule kind is_rule) (few_all r rule kind is_rule) (linked r rule kind is_rule) holds read read.names read.known (names_known r rule kind is_rule) (arity_fits r rule kind is_rule) in (
             f,
             subst (λ z. Embeds h z [] m f) (sym items)
-                (embeds h read.valid r read.naming kind hd m inner forest.forms forest.once t L.plain ns L.rest images only (no_rules r rule kind is_rule) holds read read.names read.known (names_known r rule kind is_rule) (arity_fits r rule kind is_rule) []
+                (embeds h read.valid r read.naming kind hd m inner forest.forms forest.once t L.plain ns L.rest images only (no_rules r rule kind is_rule) (few_all r rule kind is_rule) (linked r rule kind is_rule) holds read read.names read.known (names_known r rule kind is_rule) (arity_fits r rule kind is_rule) []
                 (λ n u k. (kind_alike h r (f.membrane u.inside) (f.part n) (atoms n) (t.typed_of (name_of r.names u.name)) u.kind read (ground n u k)).1 (kinds' n u k)) tt),
-            subst (λ z. numbers_left h f 0 1 [] [] z ≡ ns) (sym items) (numbers_are h read.valid r read.naming kind hd m inner forest.forms forest.once t L.plain ns L.rest images only (no_rules r rule kind is_rule) holds),
+            subst (λ z. numbers_left h f 0 1 [] [] z ≡ ns) (sym items) (numbers_are h read.valid r read.naming kind hd m inner forest.forms forest.once t L.plain ns L.rest images only (no_rules r rule kind is_rule) (few_all r rule kind is_rule) (linked r rule kind is_rule) holds),
             subst (TakesParts h r kind rule f) p.1.1 (λ n u k. (atoms n, ground n u (subst (λ z. HasTyped z n u) items k))),
           )),
     )

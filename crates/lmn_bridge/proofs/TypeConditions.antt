@@ -29,7 +29,7 @@ pub typed_more : (xs ys : List HeadItem) → typed_contexts_of (xs ++ ys) ≡ ty
 typed_more [] ys = refl
 typed_more (Atom f ls i ∷ xs) ys = typed_more xs ys
 typed_more (Typed n k l i ∷ xs) ys = ap (λ z. (record { name = n; kind = k; link = l; inside = i }) ∷ z) (typed_more xs ys)
-typed_more (Membrane i c rc ∷ xs) ys = typed_more xs ys
+typed_more (Membrane i c cl rc ∷ xs) ys = typed_more xs ys
 
 names_more : (names : List tree.Name) (xs ys : List HeadTyped) → map (λ u. name_of names u.name) (xs ++ ys) ≡ map (λ u. name_of names u.name) xs ++ map (λ u. name_of names u.name) ys
 names_more names [] ys = refl

@@ -70,27 +70,27 @@ abbrev Holds : ℕ → List HeadItem → Type 0
 Holds x [] = ⊥
 Holds x (Atom f ls i ∷ xs) = In x ls ⊎ Holds x xs
 Holds x (Typed n k l i ∷ xs) = Holds x xs
-Holds x (Membrane i c rc ∷ xs) = Holds x xs
+Holds x (Membrane i c cl rc ∷ xs) = Holds x xs
 
 holds_left : (x : ℕ) (xs ys : List HeadItem) → Holds x xs → Holds x (xs ++ ys)
 holds_left x [] ys w = absurd w
 holds_left x (Atom f ls i ∷ xs) ys (inl p) = inl p
 holds_left x (Atom f ls i ∷ xs) ys (inr w) = inr (holds_left x xs ys w)
 holds_left x (Typed n k l i ∷ xs) ys w = holds_left x xs ys w
-holds_left x (Membrane i c rc ∷ xs) ys w = holds_left x xs ys w
+holds_left x (Membrane i c cl rc ∷ xs) ys w = holds_left x xs ys w
 
 holds_right : (x : ℕ) (xs ys : List HeadItem) → Holds x ys → Holds x (xs ++ ys)
 holds_right x [] ys w = w
 holds_right x (Atom f ls i ∷ xs) ys w = inr (holds_right x xs ys w)
 holds_right x (Typed n k l i ∷ xs) ys w = holds_right x xs ys w
-holds_right x (Membrane i c rc ∷ xs) ys w = holds_right x xs ys w
+holds_right x (Membrane i c cl rc ∷ xs) ys w = holds_right x xs ys w
 
 holds_link : (x : ℕ) (xs : List HeadItem) → Holds x xs → (p : Port) × HasLink xs x p
 holds_link x [] w = absurd w
 holds_link x (Atom f ls i ∷ xs) (inl p) = let u = position ls x p in ((0, u.0), (record { functor = f; links = ls; inside = i }, refl, u.1))
 holds_link x (Atom f ls i ∷ xs) (inr w) = let u = holds_link x xs w in ((suc u.0.0, u.0.1), u.1)
 holds_link x (Typed n k l i ∷ xs) w = holds_link x xs w
-holds_link x (Membrane i c rc ∷ xs) w = holds_link x xs w
+holds_link x (Membrane i c cl rc ∷ xs) w = holds_link x xs w
 
 module _ (names : List tree.Name) (rule : ℕ → tree.Rule) (kind : ℕ → TypeKind) (x : ℕ) where
   leaf_holds : (cur : ℕ) (ls : List Leaf) → NoConnectorLeaf (map (leaf_of names) ls) → Among x (port_links_of (map (leaf_of names) ls)) → Holds x (leaf_items kind cur ls)

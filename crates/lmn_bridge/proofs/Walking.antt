@@ -29,7 +29,7 @@ module _ (A : ℕ → HeadAtom → Type 0) (T : ℕ → HeadTyped → Type 0) (M
   Walk n t k [] = Unit {0}
   Walk n t k (Atom functor links inside ∷ xs) = A n (record { functor = functor; links = links; inside = inside }) × Walk (n + 1) t k xs
   Walk n t k (Typed name kind link inside ∷ xs) = T t (record { name = name; kind = kind; link = link; inside = inside }) × Walk n (t + 1) k xs
-  Walk n t k (Membrane inside c rc ∷ xs) = M k (record { inside = inside; has_context = c; has_rule_context = rc }) × Walk n t (k + 1) xs
+  Walk n t k (Membrane inside c cl rc ∷ xs) = M k (record { inside = inside; has_context = c; has_closed_context = cl; has_rule_context = rc }) × Walk n t (k + 1) xs
 
   walk_at : {n t k n' t' k' : ℕ} (xs : List HeadItem) → n ≡ n' → t ≡ t' → k ≡ k' → Walk n t k xs → Walk n' t' k' xs
   walk_at {n} {t} {k} {n'} {t'} {k'} xs e f g w = subst (λ z. Walk z t' k' xs) e (subst (λ z. Walk n z k' xs) f (subst (λ z. Walk n t z xs) g w))
@@ -40,14 +40,14 @@ module _ (A : ℕ → HeadAtom → Type 0) (T : ℕ → HeadTyped → Type 0) (M
   walk_split [] ys n t k w = (tt, walk_at ys (omega arith) (omega arith) (omega arith) w)
   walk_split (Atom f ls i ∷ xs) ys n t k w = let u = walk_split xs ys (n + 1) t k w.1 in ((w.0, u.0), walk_at ys (omega arith) refl refl u.1)
   walk_split (Typed x y l i ∷ xs) ys n t k w = let u = walk_split xs ys n (t + 1) k w.1 in ((w.0, u.0), walk_at ys refl (omega arith) refl u.1)
-  walk_split (Membrane i c rc ∷ xs) ys n t k w = let u = walk_split xs ys n t (k + 1) w.1 in ((w.0, u.0), walk_at ys refl refl (omega arith) u.1)
+  walk_split (Membrane i c cl rc ∷ xs) ys n t k w = let u = walk_split xs ys n t (k + 1) w.1 in ((w.0, u.0), walk_at ys refl refl (omega arith) u.1)
 
   -- and back
   pub walk_join : (xs ys : List HeadItem) (n t k : ℕ) → Walk n t k xs → Walk (n + atoms_in_items xs) (t + typed_in_items xs) (k + membranes_in_items xs) ys → Walk n t k (xs ++ ys)
   walk_join [] ys n t k u w = walk_at ys (omega arith) (omega arith) (omega arith) w
   walk_join (Atom f ls i ∷ xs) ys n t k u w = (u.0, walk_join xs ys (n + 1) t k u.1 (walk_at ys (omega arith) refl refl w))
   walk_join (Typed x y l i ∷ xs) ys n t k u w = (u.0, walk_join xs ys n (t + 1) k u.1 (walk_at ys refl (omega arith) refl w))
-  walk_join (Membrane i c rc ∷ xs) ys n t k u w = (u.0, walk_join xs ys n t (k + 1) u.1 (walk_at ys refl refl (omega arith) w))
+  walk_join (Membrane i c cl rc ∷ xs) ys n t k u w = (u.0, walk_join xs ys n t (k + 1) u.1 (walk_at ys refl refl (omega arith) w))
 
   -- what holds of each item by its number holds along the items
   pub walk_from : (xs : List HeadItem) (n t k : ℕ) → ((i : ℕ) (a : HeadAtom) → slice_get (atoms_of xs) i ≡ Some a → A (n + i) a)
@@ -62,8 +62,8 @@ module _ (A : ℕ → HeadAtom → Type 0) (T : ℕ → HeadTyped → Type 0) (M
     subst (λ z. T z (record { name = x; kind = y; link = l; inside = j })) (omega arith) (g 0 (record { name = x; kind = y; link = l; inside = j }) refl),
     walk_from xs n (t + 1) k f (λ i a e. subst (λ z. T z a) (omega arith) (g (suc i) a e)) m,
   )
-  walk_from (Membrane j c rc ∷ xs) n t k f g m = (
-    subst (λ z. M z (record { inside = j; has_context = c; has_rule_context = rc })) (omega arith) (m 0 (record { inside = j; has_context = c; has_rule_context = rc }) refl),
+  walk_from (Membrane j c cl rc ∷ xs) n t k f g m = (
+    subst (λ z. M z (record { inside = j; has_context = c; has_closed_context = cl; has_rule_context = rc })) (omega arith) (m 0 (record { inside = j; has_context = c; has_closed_context = cl; has_rule_context = rc }) refl),
     walk_from xs n t (k + 1) f g (λ i a e. subst (λ z. M z a) (omega arith) (m (suc i) a e)),
   )
 
@@ -74,7 +74,7 @@ module _ (A : ℕ → HeadAtom → Type 0) (T : ℕ → HeadTyped → Type 0) (M
       let q : (record { functor = fu; links = ls; inside = j }) ≡ a = same_Some _ _ e in subst (A (n + 0)) q (subst (λ z. A z (record { functor = fu; links = ls; inside = j })) (omega arith) w.0)
   walk_atom (Atom fu ls j ∷ xs) n t k w (suc i) a e = subst (λ z. A z a) (omega arith) (walk_atom xs (n + 1) t k w.1 i a e)
   walk_atom (Typed x y l j ∷ xs) n t k w i a e = walk_atom xs n (t + 1) k w.1 i a e
-  walk_atom (Membrane j c rc ∷ xs) n t k w i a e = walk_atom xs n t (k + 1) w.1 i a e
+  walk_atom (Membrane j c cl rc ∷ xs) n t k w i a e = walk_atom xs n t (k + 1) w.1 i a e
 
   -- for a typed context
   pub walk_typed : (xs : List HeadItem) (n t k : ℕ) → Walk n t k xs → (i : ℕ) (a : HeadTyped) → slice_get (typed_contexts_of xs) i ≡ Some a → T (t + i) a
@@ -83,17 +83,17 @@ module _ (A : ℕ → HeadAtom → Type 0) (T : ℕ → HeadTyped → Type 0) (M
   walk_typed (Typed x y l j ∷ xs) n t k w zero a e =
       let q : (record { name = x; kind = y; link = l; inside = j }) ≡ a = same_Some _ _ e in subst (T (t + 0)) q (subst (λ z. T z (record { name = x; kind = y; link = l; inside = j })) (omega arith) w.0)
   walk_typed (Typed x y l j ∷ xs) n t k w (suc i) a e = subst (λ z. T z a) (omega arith) (walk_typed xs n (t + 1) k w.1 i a e)
-  walk_typed (Membrane j c rc ∷ xs) n t k w i a e = walk_typed xs n t (k + 1) w.1 i a e
+  walk_typed (Membrane j c cl rc ∷ xs) n t k w i a e = walk_typed xs n t (k + 1) w.1 i a e
 
   -- for a membrane
   pub walk_membrane : (xs : List HeadItem) (n t k : ℕ) → Walk n t k xs → (i : ℕ) (a : HeadMembrane) → slice_get (membranes_of xs) i ≡ Some a → M (k + i) a
   walk_membrane [] n t k w i a e = absurd (cc)
   walk_membrane (Atom fu ls j ∷ xs) n t k w i a e = walk_membrane xs (n + 1) t k w.1 i a e
   walk_membrane (Typed x y l j ∷ xs) n t k w i a e = walk_membrane xs n (t + 1) k w.1 i a e
-  walk_membrane (Membrane j c rc ∷ xs) n t k w zero a e =
-      let q : (record { inside = j; has_context = c; has_rule_context = rc }) ≡ a = same_Some _ _ e in
-      subst (M (k + 0)) q (subst (λ z. M z (record { inside = j; has_context = c; has_rule_context = rc })) (omega arith) w.0)
-  walk_membrane (Membrane j c rc ∷ xs) n t k w (suc i) a e = subst (λ z. M z a) (omega arith) (walk_membrane xs n t (k + 1) w.1 i a e)
+  walk_membrane (Membrane j c cl rc ∷ xs) n t k w zero a e =
+      let q : (record { inside = j; has_context = c; has_closed_context = cl; has_rule_context = rc }) ≡ a = same_Some _ _ e in
+      subst (M (k + 0)) q (subst (λ z. M z (record { inside = j; has_context = c; has_closed_context = cl; has_rule_context = rc })) (omega arith) w.0)
+  walk_membrane (Membrane j c cl rc ∷ xs) n t k w (suc i) a e = subst (λ z. M z a) (omega arith) (walk_membrane xs n t (k + 1) w.1 i a e)
 
 -- ---- images, in the order of the items
 
@@ -117,21 +117,21 @@ pub membranes_both : (xs ys : List HeadItem) → membranes_in_items (xs ++ ys) �
 membranes_both [] ys = omega arith
 membranes_both (Atom f ls i ∷ xs) ys = membranes_both xs ys
 membranes_both (Typed x y l i ∷ xs) ys = membranes_both xs ys
-membranes_both (Membrane i c rc ∷ xs) ys = omega (arith, membranes_both xs ys)
+membranes_both (Membrane i c cl rc ∷ xs) ys = omega (arith, membranes_both xs ys)
 
 -- atoms of items in a row
 pub atoms_both : (xs ys : List HeadItem) → atoms_in_items (xs ++ ys) ≡ atoms_in_items xs + atoms_in_items ys
 atoms_both [] ys = omega arith
 atoms_both (Atom f ls i ∷ xs) ys = omega (arith, atoms_both xs ys)
 atoms_both (Typed x y l i ∷ xs) ys = atoms_both xs ys
-atoms_both (Membrane i c rc ∷ xs) ys = atoms_both xs ys
+atoms_both (Membrane i c cl rc ∷ xs) ys = atoms_both xs ys
 
 -- typed contexts of items in a row
 pub typed_both : (xs ys : List HeadItem) → typed_in_items (xs ++ ys) ≡ typed_in_items xs + typed_in_items ys
 typed_both [] ys = omega arith
 typed_both (Atom f ls i ∷ xs) ys = typed_both xs ys
 typed_both (Typed x y l i ∷ xs) ys = omega (arith, typed_both xs ys)
-typed_both (Membrane i c rc ∷ xs) ys = typed_both xs ys
+typed_both (Membrane i c cl rc ∷ xs) ys = typed_both xs ys
 
 -- leaves have no membrane
 pub no_leaf_membrane : (kind : ℕ → TypeKind) (inside : ℕ) (ls : List Leaf) → membranes_in_items (leaf_items kind inside ls) ≡ 0
@@ -187,4 +187,42 @@ module _ (kind : ℕ → TypeKind) (B : ℕ) where
           l,
           walk_join AtomBelow TypedBelow MembraneBelow first (flat_membranes kind cur (next + 1 + size hd) hs) n t (k + 1) (inside_bound next (next + 1) n t (k + 1) hd (omega (arith, m)) (omega (arith, m)))
               (insides_bound cur (next + 1 + size hd) (n + atoms_in_items first) (t + typed_in_items first) ((k + 1) + membranes_in_items first) hs l (omega (arith, m))),
+        )
+
+-- ---- each membrane stands in one with a lesser number
+
+module _ (kind : ℕ → TypeKind) where
+  abbrev AnyAtom : ℕ → HeadAtom → Type 0
+  AnyAtom n a = Unit {0}
+
+  abbrev AnyTyped : ℕ → HeadTyped → Type 0
+  AnyTyped n a = Unit {0}
+
+  abbrev MembraneLess : ℕ → HeadMembrane → Type 0
+  MembraneLess k a = a.inside < k
+
+  leaves_less : (cur n t k : ℕ) (ls : List Leaf) → Walk AnyAtom AnyTyped MembraneLess n t k (leaf_items kind cur ls)
+  leaves_less cur n t k [] = tt
+  leaves_less cur n t k (leaf.Atom f os p ∷ ls) = (tt, leaves_less cur (n + 1) t k ls)
+  leaves_less cur n t k (leaf.Typed m o p ∷ ls) = (tt, leaves_less cur n (t + 1) k ls)
+
+  mutual
+    -- each membrane stands in one of a lesser number
+    pub inside_less : (cur next n t : ℕ) (hd : Head) → cur < next → Walk AnyAtom AnyTyped MembraneLess n t next (flat_items kind cur next hd)
+    inside_less cur next n t (head leaves hs cs rcs rs) l =
+        let first = leaf_items kind cur leaves in
+        let behind = flat_membranes kind cur next hs in
+        let q : next ≡ next + membranes_in_items first = omega (arith, no_leaf_membrane kind cur leaves) in
+        walk_join AnyAtom AnyTyped MembraneLess first behind n t next (leaves_less cur n t next leaves)
+        (subst (λ k. Walk AnyAtom AnyTyped MembraneLess (n + atoms_in_items first) (t + typed_in_items first) k behind) q (insides_less cur next (n + atoms_in_items first) (t + typed_in_items first) hs l))
+
+    insides_less : (cur next n t : ℕ) (hs : Heads) → cur < next → Walk AnyAtom AnyTyped MembraneLess n t next (flat_membranes kind cur next hs)
+    insides_less cur next n t no_head l = tt
+    insides_less cur next n t (head_and hd hs) l =
+        let first = flat_items kind next (next + 1) hd in
+        let behind = flat_membranes kind cur (next + 1 + size hd) hs in
+        let q : next + 1 + size hd ≡ (next + 1) + membranes_in_items first = omega (arith, flat_size kind next (next + 1) hd) in (
+          l,
+          walk_join AnyAtom AnyTyped MembraneLess first behind n t (next + 1) (inside_less next (next + 1) n t hd (omega arith))
+              (subst (λ k. Walk AnyAtom AnyTyped MembraneLess (n + atoms_in_items first) (t + typed_in_items first) k behind) q (insides_less cur (next + 1 + size hd) (n + atoms_in_items first) (t + typed_in_items first) hs (omega (arith, l)))),
         )

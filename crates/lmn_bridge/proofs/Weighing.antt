@@ -11,7 +11,7 @@ use Rattle.lmn_reduction.specs.Parts.{Rooted, IsGround}
 use Rattle.lmn_bridge.specs.HeapRegions.{HeapReading}
 use Rattle.lmn_bridge.proofs.Pieces.{atom_at}
 use Rattle.lmn_bridge.proofs.Counting.{forest_atoms, times_at}
-use Rattle.lmn_bridge.proofs.Forests.{tops, taken_before}
+use Rattle.lmn_bridge.proofs.Forests.{Grown, tops, taken_before, taken_grown}
 use Rattle.lmn_bridge.proofs.PartsOut.{PartsOut, parts_none, parts_atom, parts_typed, flattened, parts_weigh, parts_both}
 use Rattle.lmn_bridge.proofs.SameParts.{count, counted}
 use Rattle.lmn_congruence.specs.Orders.{Put, there, Shuffle, none, more, here}
@@ -92,6 +92,17 @@ tops_left b (lies_and k d q later) p = taken_before k b (tops_left b later p)
 pub rest_tops : (b : ℕ) {h : Heap} {r : HeapReading} {link_of : ℕ → ℕ} {typed_of : Name → Rooted} {Q : Level → ℕ → List ℕ → Forest → Forest → Type 0} {l : Level} {bs ms ns xs rest : List ℕ} {ps : List (List ℕ)} {f f' : Forest}
     → Lies h r link_of typed_of Q l bs ps ms ns xs rest f f' → In b (tops f') → In b (tops f)
 rest_tops b (lies fit d e out k) p = tops_left b k p
+
+-- what is left of a grown forest is grown
+pub forest_left_grown : {h : Heap} {r : HeapReading} {link_of : ℕ → ℕ} {typed_of : Name → Rooted} {Q : Level → ℕ → List ℕ → Forest → Forest → Type 0} {ls : Levels} {bs ms ns : List ℕ} {ps : List (List ℕ)} {f f' : Forest}
+    → LiesIn h r link_of typed_of Q ls bs ps ms ns f f' → Grown h f → Grown h f'
+forest_left_grown lies_none g = g
+forest_left_grown {h} (lies_and k d q later) g = forest_left_grown later (taken_grown h k g).1
+
+-- and so it is where a level lies
+pub left_grown : {h : Heap} {r : HeapReading} {link_of : ℕ → ℕ} {typed_of : Name → Rooted} {Q : Level → ℕ → List ℕ → Forest → Forest → Type 0} {l : Level} {bs ms ns xs rest : List ℕ} {ps : List (List ℕ)} {f f' : Forest}
+    → Lies h r link_of typed_of Q l bs ps ms ns xs rest f f' → Grown h f → Grown h f'
+left_grown (lies fit d e out k) g = forest_left_grown k g
 
 -- nothing weighs nothing
 pub weigh_nothing : (xs : List ℕ) → weigh (λ b. 0) xs ≡ 0

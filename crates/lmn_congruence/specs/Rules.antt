@@ -51,11 +51,16 @@ pub data Condition : Type 0 where
   differs : Name → Name → Condition
   unknown : Name → List Name → Condition
 
--- A level of a rule: leaves, membranes, untyped contexts `$p`, rule contexts `@r` and rules.
+-- an untyped context: open, `$p`, or closed, `$p[]`
+pub data Context : Type 0 where
+  open_context : Name → Context
+  closed_context : Name → Context
+
+-- A level of a rule: leaves, membranes, untyped contexts, rule contexts `@r` and rules.
 -- A rule has a head, a guard and a body.
 mutual
   pub data Level : Type 0 where
-    level : List Leaf → Levels → List Name → List Name → Rules → Level
+    level : List Leaf → Levels → List Context → List Name → Rules → Level
 
   pub data Levels : Type 0 where
     no_level : Levels

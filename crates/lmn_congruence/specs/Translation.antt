@@ -2,7 +2,7 @@
 -- its number, and `table` the rules by theirs. Both are meant of lists that hold every number in use: of names
 -- `NamesPlain` and `NamesSolid` of `lmn_base` say so, of rules `IsWellMade` and `HasEachRule`. Places in the text
 -- are left out.
-use Rattle.std.specs.Prelude.{ℕ, zero, ◌+◌, ◌-◌, ◌==◌, if◌then◌else◌, List, [], ◌∷◌, map, slice_index_or}
+use Rattle.std.specs.Prelude.{ℕ, zero, Bool, true, false, ◌+◌, ◌-◌, ◌==◌, if◌then◌else◌, List, [], ◌∷◌, map, slice_index_or}
 use Rattle.lmn_base.specs.declared.functor.TheConstants.{INT_NAME, UNARY_NAME, GROUND_NAME}
 use Rattle.lmn_base.specs.declared.functor.Label.{Label}
 use Rattle.lmn_base.specs.declared.functor.Label.TheVariants.{Name, Int}
@@ -52,7 +52,7 @@ abbrev pub leaf_of : List tree.Name → Leaf → tree.Leaf
 leaf_of names (Atom functor links pos) = atom_or_connector names functor.label (map (λ o. o.link) links)
 leaf_of names (Typed n o pos) = tree.typed_leaf (name_of names n) o.link
 
--- the names of contexts
+-- the names of contexts and of rule contexts
 abbrev pub names_of : List tree.Name → List CtxUse → List tree.Name
 names_of names us = map (λ u. name_of names u.name) us
 
@@ -65,11 +65,19 @@ abbrev pub rules : List tree.Rule → tree.Rules
 rules [] = tree.no_rule
 rules (r ∷ rs) = tree.rule_and r (rules rs)
 
+-- an untyped context, open or closed
+abbrev pub context_with : Bool → tree.Name → tree.Context
+context_with true p = tree.closed_context p
+context_with false p = tree.open_context p
+
+abbrev pub context_tree : List tree.Name → CtxUse → tree.Context
+context_tree names u = context_with u.closed (name_of names u.name)
+
 -- a level, where `rule` gives the rule with a number
 abbrev pub level_step : List tree.Name → (ℕ → tree.Rule) → Level-F tree.Level → tree.Level
 level_step names rule l =
     tree.level (map (leaf_of names) l.leaves) (levels l.membranes)
-    (names_of names l.contexts) (names_of names l.rule_contexts) (rules (map rule l.rules))
+    (map (context_tree names) l.contexts) (names_of names l.rule_contexts) (rules (map rule l.rules))
 
 abbrev pub level_of : List tree.Name → (ℕ → tree.Rule) → Level → tree.Level
 level_of names rule = fold-Level tree.Level (level_step names rule)

@@ -16,10 +16,10 @@ use Rattle.lmn_base.specs.declared.level.Level.TheFolds.{fold-roll-Level}
 use Rattle.lmn_base.specs.declared.functor.Label.TheVariants.{Name}
 use Rattle.lmn_base.specs.declared.refusal.Pos.{Pos}
 use Rattle.lmn_base.specs.declared.rule.RuleTree.{RuleTree}
-use Rattle.lmn_base.specs.Items.{items_of, own_items, leaf_item, guard_items, number_of_items, number_step}
-use Rattle.lmn_base.specs.RuleCodes.{rule_rows, bare_place, rule_context_place, connector_place, inner_rule, seconds, seconds_by_membrane, first_with_some, used_again, in_other_form, missing, bare_again, from_nowhere}
+use Rattle.lmn_base.specs.Items.{items_of, own_items, leaf_item, untyped, guard_items, number_of_items, number_step}
+use Rattle.lmn_base.specs.RuleCodes.{rule_rows, untyped_place, rule_context_place, connector_place, inner_rule, seconds, seconds_by_membrane, first_with_some, used_again, in_other_form, missing, bare_again, from_nowhere}
 use Rattle.lmn_base.proofs.ItemLemmas.{listed_items as listed}
-use Rattle.lmn_contexts.specs.Examples.{name_r, context_x, alone, holding, empty, membrane_with_contexts, without_guard, EmptyHead, RuleInHead, ConnectorInHead, ContextAtTop, RuleContextAtTop, TwoInMembrane, OuterPairFirst, TwiceInHead, TwiceInTwoForms, NotInBody, TwiceInBody, NotInHead, RuleContextNotInHead, InTwoForms, LargestHead, LargestBody, NothingOffends, many}
+use Rattle.lmn_contexts.specs.Examples.{name_r, context_x, alone, holding, empty, membrane_with_contexts, without_guard, EmptyHead, RuleInHead, ConnectorInHead, ContextAtTop, RuleContextAtTop, TwoInMembrane, OuterPairFirst, TwiceInHead, TwiceInTwoForms, NotInBody, TwiceInBody, NotInHead, RuleContextNotInHead, InTwoForms, closed_at, ClosedAtTop, ClosedCopied, OpenAndClosed, LargestHead, LargestBody, NothingOffends, many}
 use Rattle.lmn_base.specs.SmallTexts.{at_column, name_a, name_b, name_p, use_at}
 use Rattle.lmn_base.proofs.RowLemmas.{Nowhere}
 
@@ -37,7 +37,7 @@ connector_in_head = ap (flat_map connector_place) (listed _)
 
 -- and one with a context at its top
 pub context_at_top : ContextAtTop
-context_at_top = ap (λ o. flat_map bare_place (own_items o)) (out-roll-Level _)
+context_at_top = ap (λ o. flat_map untyped_place (own_items o)) (out-roll-Level _)
 
 -- or a rule context
 pub rule_context_at_top : RuleContextAtTop
@@ -127,6 +127,27 @@ twice_in_body =
     let body : items_of (holding [] (holding [] [] (use_at name_p 2 ∷ []) [] ∷ []) (use_at name_p 13 ∷ []) []) ≡ _ = in_one _ _ _ _ (listed _) in
     λ i. once (head i) (body i)
 
+-- ---- closed contexts
+
+-- a closed context at the head's top is refused
+pub closed_at_top : ClosedAtTop
+closed_at_top = ap (λ o. flat_map untyped_place (own_items o)) (out-roll-Level _)
+
+closed_head : items_of (membrane_with_contexts (closed_at name_p 2 ∷ [])) ≡ untyped (closed_at name_p 2) ∷ []
+closed_head = in_one [] _ [] _ (listed _)
+
+-- one that stands twice in the body, or not at all, isn't
+pub closed_copied : ClosedCopied
+closed_copied =
+    let body : items_of (holding [] (holding [] [] (closed_at name_p 17 ∷ []) [] ∷ []) (closed_at name_p 10 ∷ []) []) ≡ _ = in_one _ _ _ _ (listed _) in
+    ((λ i. once (closed_head i) (body i)), (λ i. once (closed_head i) (none i)))
+
+-- but one that is open there
+pub open_and_closed : OpenAndClosed
+open_and_closed =
+    let body : items_of (holding [] [] (use_at name_p 10 ∷ []) []) ≡ _ = listed _ in
+    λ i. two_forms (closed_head i ++ body i)
+
 b_alone : items_of (holding (alone name_b 1 ∷ []) [] [] []) ≡ leaf_item (alone name_b 1) ∷ []
 b_alone = listed _
 
@@ -193,7 +214,7 @@ nothing_offends =
           (
             ap (flat_map connector_place) head,
             (
-              ap (flat_map bare_place) top,
+              ap (flat_map untyped_place) top,
               (
                 ap (flat_map rule_context_place) top,
                 (

@@ -1,5 +1,5 @@
 -- Rules of small texts, and where the rows of the table of refusals apply to them.
-use Rattle.std.specs.Prelude.{ℕ, zero, suc, ◌≡◌, List, [], ◌∷◌}
+use Rattle.std.specs.Prelude.{ℕ, zero, suc, ◌≡◌, true, List, [], ◌∷◌}
 use Rattle.lmn_base.specs.declared.functor.Label.TheVariants.{Name}
 use Rattle.lmn_base.specs.declared.guard.Cond.TheVariants.{Kind}
 use Rattle.lmn_base.specs.declared.level.CtxUse.{CtxUse}
@@ -118,6 +118,25 @@ InTwoForms =
     let head = holding [] (holding (alone name_a 2 ∷ []) [] (use_at name_p 5 ∷ []) [] ∷ []) [] [] in
     let guard = Kind 1 (use_at name_p 16 ∷ []) (at_column 12) ∷ [] in
     AppliesAt (in_two_forms (record { head = head; guard = guard; body = holding [] [] (use_at name_p 22 ∷ []) []; links = []; pos = at_column 1 })) (at_column 16 ∷ at_column 22 ∷ [])
+
+-- a use of a closed context
+abbrev pub closed_at : ℕ → ℕ → CtxUse
+closed_at name n = record { name = name; closed = true; pos = at_column n }
+
+-- `$p[] :- .`: neither may a closed context stand at the head's top.
+abbrev pub ClosedAtTop : Type 0
+ClosedAtTop = AppliesAt (context_at_top (without_guard (holding [] [] (closed_at name_p 1 ∷ []) []) empty)) (at_column 1 ∷ [])
+
+-- `{$p[]} :- $p[], {$p[]}.` and `{$p[]} :- .`: a closed context of the head is copied or dropped.
+abbrev pub ClosedCopied : Type 0
+ClosedCopied =
+    let head = membrane_with_contexts (closed_at name_p 2 ∷ []) in
+    let body = holding [] (holding [] [] (closed_at name_p 17 ∷ []) [] ∷ []) (closed_at name_p 10 ∷ []) [] in
+    AppliesAt (not_once_in_body (without_guard head body)) [] × AppliesAt (not_once_in_body (without_guard head empty)) []
+
+-- `{$p[]} :- $p.`: open and closed are two forms.
+abbrev pub OpenAndClosed : Type 0
+OpenAndClosed = AppliesAt (in_two_forms (without_guard (membrane_with_contexts (closed_at name_p 2 ∷ [])) (holding [] [] (use_at name_p 10 ∷ []) []))) (at_column 10 ∷ [])
 
 -- so many leaves
 abbrev pub many : ℕ → Leaf → List Leaf

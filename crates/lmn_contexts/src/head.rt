@@ -1,7 +1,7 @@
 ghost use Rattle.std.specs.Prelude.{◌≡◌, [], ◌∷◌, flat_map, option_map, slice_get};
 ghost use Rattle.lmn_base.specs.declared.level.Level.{out-Level};
 ghost use Rattle.lmn_base.specs.Firsts.{IsFirst, IsFound, AnswersBy};
-ghost use Rattle.lmn_base.specs.RuleCodes.{is_connector_label, is_bare, behind_the_first, seconds, seconds_by_membrane, first_with_some, head_rows};
+ghost use Rattle.lmn_base.specs.RuleCodes.{is_connector_label, is_bare, is_untyped, behind_the_first, seconds, seconds_by_membrane, first_with_some, head_rows};
 
 use lmn_base::{
     CONNECTOR_NAME, CtxUse, Form, Found, Item, Label, Level, Pos, Question, Refusal, RuleTree,
@@ -15,7 +15,7 @@ pub(crate) fn check_head(table: &[RuleTree], rule: &RuleTree) -> Result<(), Refu
     let head = &rule.head;
     let inner_rule = refuse(36, find(&InnerRule { table }, head).first);
     let connector = refuse(37, find(&Connector, head).first);
-    let context = refuse(30, find_in_level_itself(&BareContext, head).first);
+    let context = refuse(30, find_in_level_itself(&UntypedContext, head).first);
     let rule_context = refuse(35, find_in_level_itself(&AnyRuleContext, head).first);
     let two = refuse(31, two_in_membrane(head));
     first_refusal(
@@ -95,18 +95,18 @@ fn is_connector_label(label: Label) -> bool
 
 /// Asks for untyped contexts.
 #[derive(Clone, Copy)]
-struct BareContext;
+struct UntypedContext;
 
-impl Question for BareContext {
-    ghost use Rattle.lmn_base.specs.RuleCodes.{bare_place};
+impl Question for UntypedContext {
+    ghost use Rattle.lmn_base.specs.RuleCodes.{untyped_place};
 
-    ghost places = { λ q. bare_place };
+    ghost places = { λ q. untyped_place };
 
     fn place(&self, item: Item) -> Option<Pos> {
         match item {
             Item::Atom { .. } => None,
             Item::Context(context) => {
-                if is_bare(context.form) {
+                if is_untyped(context.form) {
                     Some(context.pos)
                 } else {
                     None
@@ -123,6 +123,15 @@ pub(crate) fn is_bare(form: Form) -> bool
 {
     match form {
         Form::Bare => true,
+        Form::Closed | Form::Typed => false,
+    }
+}
+
+fn is_untyped(form: Form) -> bool
+    ensures { result ≡ is_untyped form }
+{
+    match form {
+        Form::Bare | Form::Closed => true,
         Form::Typed => false,
     }
 }

@@ -1,5 +1,5 @@
 -- What the walk adds node by node.
-use Rattle.std.proofs.Common.{◌≡◌, ℕ, zero, suc, ◌+◌, ◌<◌, ◌≤◌, true, false, List, [], ◌∷◌, ◌++◌, map, length, take, drop, get_or, slice_get, Some, refl, sym, ap, ◌∙◌, subst, arith}
+use Rattle.std.proofs.Common.{◌≡◌, ℕ, zero, suc, ◌+◌, ◌<◌, ◌≤◌, Bool, true, false, List, [], ◌∷◌, ◌++◌, map, length, take, drop, get_or, slice_get, Some, refl, sym, ap, ◌∙◌, subst, arith}
 use Rattle.std.specs.Prelude.{codes, option_map}
 use Rattle.std.proofs.lemmas.List.{append-nil, map-append, take_all}
 use Rattle.std.proofs.lemmas.Option.{same_Some}
@@ -19,7 +19,7 @@ use Rattle.lmn_plain.specs.Keys.{IsLinkIn, IsKey}
 use Rattle.lmn_plain.specs.Links.{Link, Use, made}
 use Rattle.lmn_plain.specs.Meanings.{label_at, name_at, place_at}
 use Rattle.lmn_plain.specs.Parts.{Parts, NumberedParts, ◌⊕◌, level_from_parts, no_parts, nothing, one_leaf, one_context, one_membrane, one_rule_context}
-use Rattle.lmn_plain.specs.Plains.{EachPair, context_use}
+use Rattle.lmn_plain.specs.Plains.{EachPair, context_use, number_of}
 use Rattle.lmn_expand.specs.Built.{IsPartOfLevel, IsUse, AddsLeaf, no_items}
 use Rattle.lmn_expand.specs.Glossaries.{Reading, IsGlossary}
 use Rattle.lmn_expand.specs.Growing.{MayGrow, GrowsPart, Within, Argument, atom_with, some_term}
@@ -172,18 +172,18 @@ module _ (r : Reading) where
 
   -- ---- contexts
 
-  pub context_grows : (Z : List ℕ → Type 0) (keys : List Link) (p : ℕ) (context : CtxUse) (part : Part) (table : List RuleTree) (s : Scope) (contexts : List CtxUse) → IsScope r keys s
-      → context ≡ context_use r.words r.places r.names p → contexts ≡ part.contexts ++ context ∷ []
-      → GrowsPart r Z keys (one_context (record { name = name_at r.words r.places p; pos = place_at r.words r.places p })) part table
+  pub context_grows : (closed : Bool) (Z : List ℕ → Type 0) (keys : List Link) (p : ℕ) (context : CtxUse) (part : Part) (table : List RuleTree) (s : Scope) (contexts : List CtxUse) → IsScope r keys s
+      → context ≡ record { name = number_of r.names (name_at r.words r.places p); closed = closed; pos = place_at r.words r.places p } → contexts ≡ part.contexts ++ context ∷ []
+      → GrowsPart r Z keys (one_context (record { name = name_at r.words r.places p; closed = closed; pos = place_at r.words r.places p })) part table
       (record { leaves = part.leaves; membranes = part.membranes; contexts = contexts; rule_contexts = part.rule_contexts; rules = part.rules }) table s
-  context_grows Z keys p context part table s contexts scope e f =
+  context_grows closed Z keys p context part table s contexts scope e f =
       grows_items r Z keys _ part table _ s (record { leaves = []; membranes = []; contexts = context ∷ []; rule_contexts = []; rules = [] }) scope
       (record { leaves = tt; membranes = tt; contexts = ap (λ c. c ∷ []) e; rule_contexts = refl; rules = refl }) refl
       (part_is _ _ (sym (append-nil part.leaves)) (sym (append-nil part.membranes)) f (sym (append-nil part.rule_contexts)) (sym (append-nil part.rules)))
 
   pub rule_context_grows : (Z : List ℕ → Type 0) (keys : List Link) (p : ℕ) (context : CtxUse) (part : Part) (table : List RuleTree) (s : Scope) (contexts : List CtxUse) → IsScope r keys s
       → context ≡ context_use r.words r.places r.names p → contexts ≡ part.rule_contexts ++ context ∷ []
-      → GrowsPart r Z keys (one_rule_context (record { name = name_at r.words r.places p; pos = place_at r.words r.places p })) part table
+      → GrowsPart r Z keys (one_rule_context (record { name = name_at r.words r.places p; closed = false; pos = place_at r.words r.places p })) part table
       (record { leaves = part.leaves; membranes = part.membranes; contexts = part.contexts; rule_contexts = contexts; rules = part.rules }) table s
   rule_context_grows Z keys p context part table s contexts scope e f =
       grows_items r Z keys _ part table _ s (record { leaves = []; membranes = []; contexts = []; rule_contexts = context ∷ []; rules = [] }) scope

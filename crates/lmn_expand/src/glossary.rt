@@ -150,7 +150,11 @@ impl Glossary {
     {
         let name = self.name(token)?;
         let pos = self.place(token)?;
-        Ok(CtxUse { name, pos })
+        Ok(CtxUse {
+            name,
+            closed: false,
+            pos,
+        })
     }
 }
 

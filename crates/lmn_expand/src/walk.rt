@@ -20,7 +20,7 @@ use crate::kept::copied;
 use crate::number::{following, narrow};
 use crate::part::Part;
 use crate::scope::Scope;
-use lmn_base::{CONNECTOR_NAME, Label, Leaf, NoMemory, Occ, Plain, Pos, Rows, RuleTree};
+use lmn_base::{CONNECTOR_NAME, CtxUse, Label, Leaf, NoMemory, Occ, Plain, Pos, Rows, RuleTree};
 use lmn_numbering::{number_level, number_rule};
 use lmn_parser::{AtomNode, Clause, Item, RuleNode, Term, Tree};
 use std::alloc::Global;
@@ -125,6 +125,14 @@ fn add_item(
         Item::Context(token) => {
             let context = glossary.context(*token)?;
             part.contexts.push(context)
+        }
+        Item::Closed(token) => {
+            let context = glossary.context(*token)?;
+            part.contexts.push(CtxUse {
+                name: context.name,
+                closed: true,
+                pos: context.pos,
+            })
         }
         Item::Bracketed(token, link) => {
             let link = scope.written(glossary, *link)?;

@@ -16,7 +16,7 @@ use Rattle.lmn_congruence.specs.Regions.{SolidAtom, Region, region, Regions, no_
 use Rattle.lmn_congruence.specs.Rules as tree
 use Rattle.lmn_congruence.specs.Same.{renamed_atom}
 use Rattle.lmn_congruence.specs.Translation as translated
-use Rattle.lmn_congruence.specs.Translation.{atom_or_connector, leaf_of, level_step, names_of, numbered_rule, top_of, rules}
+use Rattle.lmn_congruence.specs.Translation.{atom_or_connector, context_tree, leaf_of, level_step, names_of, numbered_rule, top_of, rules}
 use Rattle.lmn_lexer.specs.Laying.{Word}
 use Rattle.lmn_parser.specs.Syntax.{Clauses}
 use Rattle.lmn_plain.specs.Agreement.{RulesAre}
@@ -107,14 +107,14 @@ module _ (names : List tree.Name) where
   same_leaves : (a b : tree.Leaf) (ls ms : List tree.Leaf) → a ≡ b → ls ≡ ms → a ∷ ls ≡ b ∷ ms
   same_leaves a b ls ms e f = cc
 
-  same_level : (a b : List tree.Leaf) (c d : tree.Levels) (e f : List tree.Name) (g h : List tree.Name) (i j : tree.Rules)
+  same_level : (a b : List tree.Leaf) (c d : tree.Levels) (e f : List tree.Context) (g h : List tree.Name) (i j : tree.Rules)
       → a ≡ b → c ≡ d → e ≡ f → g ≡ h → i ≡ j → tree.level a c e g i ≡ tree.level b d f h j
   same_level a b c d e f g h i j k l m n o = cc
 
   same_levels : (a b : tree.Level) (c d : tree.Levels) → a ≡ b → c ≡ d → tree.level_and a c ≡ tree.level_and b d
   same_levels a b c d e f = cc
 
-  rules_in : (a b : List tree.Leaf) (c d : tree.Levels) (e f : List tree.Name) (g h : List tree.Name) (i j : tree.Rules) → tree.level a c e g i ≡ tree.level b d f h j → i ≡ j
+  rules_in : (a b : List tree.Leaf) (c d : tree.Levels) (e f : List tree.Context) (g h : List tree.Name) (i j : tree.Rules) → tree.level a c e g i ≡ tree.level b d f h j → i ≡ j
   rules_in a b c d e f g h i j k = cc
 
   module _ (words : List Word) (places : List Pos) (is : IsNames names) (table : List ExpandedRule) (f : Link → ℕ) where
@@ -148,7 +148,7 @@ module _ (names : List tree.Name) where
         region_back (region xs ms rs) (level ls ns cs os ks) h fine =
             fold-roll-Level tree.Level (level_step names ρ) _
             ∙ same_level _ _ _ _ _ _ _ _ _ _ (leaves_back xs ls h.0 fine.0) (regions_back ms ns h.1 fine.1)
-            (ap (λ us. names_of names (map (numbered_context names f) us)) h.2) (ap (λ us. names_of names (map (numbered_context names f) us)) h.3)
+            (ap (λ us. map (context_tree names) (map (numbered_context names f) us)) h.2) (ap (λ us. names_of names (map (numbered_context names f) us)) h.3)
             (rules_back rs ks h.4 fine.2)
 
         regions_back : (ms : Regions) (ns : ExpandedLevels) → RegionsNumbered words places table f ms ns → EverywhereIn AtomFine RuleFine ms

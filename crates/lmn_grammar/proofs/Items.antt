@@ -32,8 +32,8 @@ equation_read w u v e (right _ _ _ (right _ _ _ (right _ _ _ (right _ _ _ t)))) 
 read_of_item : (w : List Kind) → Derives item w → Derives item_read w
 read_of_item w (left _ _ _ a) = left _ _ _ (alone atom right_side w a)
 read_of_item w (right _ _ _ (left _ _ _ m)) = right _ _ _ (left _ _ _ (alone membrane right_side w m))
-read_of_item w (right _ _ _ (right _ _ _ (left _ _ _ c))) = right _ _ _ (right _ _ _ (left _ _ _ (alone (Tok Context) (Within Square (Tok Link) ∣ right_side) w c)))
-read_of_item w (right _ _ _ (right _ _ _ (right _ _ _ (left _ _ _ d)))) = let s = seq_parts (Tok Context) (Within Square (Tok Link)) w d in
+read_of_item w (right _ _ _ (right _ _ _ (left _ _ _ c))) = right _ _ _ (right _ _ _ (left _ _ _ (alone (Tok Context) (Within Square (Opt (Tok Link)) ∣ right_side) w c)))
+read_of_item w (right _ _ _ (right _ _ _ (right _ _ _ (left _ _ _ d)))) = let s = seq_parts (Tok Context) (Within Square (Opt (Tok Link))) w d in
     right _ _ _ (right _ _ _ (left _ _ _ (both (Tok Context) context_tail s.0 s.1 w s.2 s.3 (with _ _ (left _ _ _ s.4)))))
 read_of_item w (right _ _ _ (right _ _ _ (right _ _ _ (right _ _ _ (left _ _ _ r))))) = right _ _ _ (right _ _ _ (right _ _ _ (left _ _ _ r)))
 read_of_item w (right _ _ _ (right _ _ _ (right _ _ _ (right _ _ _ (right _ _ _ (left _ _ _ l)))))) = right _ _ _ (right _ _ _ (right _ _ _ (right _ _ _ (left _ _ _ l))))
@@ -53,10 +53,10 @@ item_of_read w (left _ _ _ d) = let s = seq_parts atom (Opt right_side) w d in e
     [ inl n ↦ left _ _ _ (derives_along atom s.0 w (nothing_behind w s.0 s.1 s.2 n) s.3) | inr r ↦ an_equation w s.0 s.1 s.2 (right _ _ _ (left _ _ _ s.3)) r ]
 item_of_read w (right _ _ _ (left _ _ _ d)) = let s = seq_parts membrane (Opt right_side) w d in elim (opt_parts right_side s.1 s.4)
     [ inl n ↦ right _ _ _ (left _ _ _ (derives_along membrane s.0 w (nothing_behind w s.0 s.1 s.2 n) s.3)) | inr r ↦ an_equation w s.0 s.1 s.2 (right _ _ _ (right _ _ _ (right _ _ _ (left _ _ _ s.3)))) r ]
-item_of_read w (right _ _ _ (right _ _ _ (left _ _ _ d))) = let s = seq_parts (Tok Context) context_tail w d in elim (opt_parts (Within Square (Tok Link) ∣ right_side) s.1 s.4) [
+item_of_read w (right _ _ _ (right _ _ _ (left _ _ _ d))) = let s = seq_parts (Tok Context) context_tail w d in elim (opt_parts (Within Square (Opt (Tok Link)) ∣ right_side) s.1 s.4) [
   | inl n ↦ right _ _ _ (right _ _ _ (left _ _ _ (derives_along (Tok Context) s.0 w (nothing_behind w s.0 s.1 s.2 n) s.3)))
-  | inr t ↦ elim (alt_parts (Within Square (Tok Link)) right_side s.1 t) [
-    | inl l ↦ right _ _ _ (right _ _ _ (right _ _ _ (left _ _ _ (both (Tok Context) (Within Square (Tok Link)) s.0 s.1 w s.2 s.3 l))))
+  | inr t ↦ elim (alt_parts (Within Square (Opt (Tok Link))) right_side s.1 t) [
+    | inl l ↦ right _ _ _ (right _ _ _ (right _ _ _ (left _ _ _ (both (Tok Context) (Within Square (Opt (Tok Link))) s.0 s.1 w s.2 s.3 l))))
     | inr r ↦ an_equation w s.0 s.1 s.2 (right _ _ _ (right _ _ _ (left _ _ _ s.3))) r
   ]
 ]

@@ -55,26 +55,36 @@ tlist_terms ts p κ h = opt_before ts p (some_of (Ref TermPart) · Opt (Tok Bar 
 
 -- What stands behind a context.
 pub context_bracket : (ts : List Kind) (p : ℕ) (κ : Owed) → EndsItem κ → slice_get ts p ≡ Some LBracket →
-    stop_at ts p ((context_tail ∷ κ) ∷ []) ≡ stop_at ts (p + 1) ((Tok Link ∷ Tok RBracket ∷ κ) ∷ [])
-context_bracket ts p κ n h = opt_some ts p (Within Square (Tok Link) ∣ right_side) κ (dead_here ts p κ LBracket h n.1)
-    ∙ alt_left ts p (Within Square (Tok Link)) right_side κ (ap (begins right_side) h) refl ∙ within_taken ts p Square (Tok Link) κ h
+    stop_at ts p ((context_tail ∷ κ) ∷ []) ≡ stop_at ts (p + 1) ((Opt (Tok Link) ∷ Tok RBracket ∷ κ) ∷ [])
+context_bracket ts p κ n h = opt_some ts p (Within Square (Opt (Tok Link)) ∣ right_side) κ (dead_here ts p κ LBracket h n.1)
+    ∙ alt_left ts p (Within Square (Opt (Tok Link))) right_side κ (ap (begins right_side) h) refl ∙ within_taken ts p Square (Opt (Tok Link)) κ h
+
+-- between the brackets stands a link
+pub brackets_link : (ts : List Kind) (p : ℕ) (κ : Owed) → (slice_get ts p ≡ Some RBracket → ⊥) →
+    stop_at ts p ((Opt (Tok Link) ∷ Tok RBracket ∷ κ) ∷ []) ≡ stop_at ts p ((Tok Link ∷ Tok RBracket ∷ κ) ∷ [])
+brackets_link ts p κ h = opt_before ts p (Tok Link) RBracket κ h
+
+-- or nothing
+pub brackets_empty : (ts : List Kind) (p : ℕ) (κ : Owed) → slice_get ts p ≡ Some RBracket →
+    stop_at ts p ((Opt (Tok Link) ∷ Tok RBracket ∷ κ) ∷ []) ≡ stop_at ts (p + 1) (κ ∷ [])
+brackets_empty ts p κ h = opt_none ts p (Tok Link) (Tok RBracket ∷ κ) (ap (begins (Tok Link)) h) ∙ advance ts p ((Tok RBracket ∷ κ) ∷ []) RBracket κ [] h refl
 
 -- behind a context and `=` comes a term
 pub context_equal : (ts : List Kind) (p : ℕ) (κ : Owed) → EndsItem κ → slice_get ts p ≡ Some Equal →
     stop_at ts p ((context_tail ∷ κ) ∷ []) ≡ stop_at ts (p + 1) ((Ref TermPart ∷ κ) ∷ [])
-context_equal ts p κ n h = opt_some ts p (Within Square (Tok Link) ∣ right_side) κ (dead_here ts p κ Equal h n.2)
-    ∙ alt_right ts p (Within Square (Tok Link)) right_side κ (ap (begins (Within Square (Tok Link))) h) refl ∙ sign_taken ts p Equal (Ref TermPart) κ h
+context_equal ts p κ n h = opt_some ts p (Within Square (Opt (Tok Link)) ∣ right_side) κ (dead_here ts p κ Equal h n.2)
+    ∙ alt_right ts p (Within Square (Opt (Tok Link))) right_side κ (ap (begins (Within Square (Opt (Tok Link)))) h) refl ∙ sign_taken ts p Equal (Ref TermPart) κ h
 
 -- a context stands alone where neither `[` nor `=` follows
 pub context_alone : (ts : List Kind) (p : ℕ) (κ : Owed) → (slice_get ts p ≡ Some LBracket → ⊥) → (slice_get ts p ≡ Some Equal → ⊥) →
     stop_at ts p ((context_tail ∷ κ) ∷ []) ≡ stop_at ts p (κ ∷ [])
-context_alone ts p κ b e = opt_none ts p (Within Square (Tok Link) ∣ right_side) κ (go (slice_get ts p) refl)
+context_alone ts p κ b e = opt_none ts p (Within Square (Opt (Tok Link)) ∣ right_side) κ (go (slice_get ts p) refl)
   where
-    go : (o : Option Kind) → slice_get ts p ≡ o → begins (Within Square (Tok Link) ∣ right_side) (slice_get ts p) ≡ false
-    go None h = ap (begins (Within Square (Tok Link) ∣ right_side)) h
+    go : (o : Option Kind) → slice_get ts p ≡ o → begins (Within Square (Opt (Tok Link)) ∣ right_side) (slice_get ts p) ≡ false
+    go None h = ap (begins (Within Square (Opt (Tok Link)) ∣ right_side)) h
     go (Some LBracket) h = absurd (b h)
     go (Some Equal) h = absurd (e h)
-    go (Some _) h = ap (begins (Within Square (Tok Link) ∣ right_side)) h
+    go (Some _) h = ap (begins (Within Square (Opt (Tok Link)) ∣ right_side)) h
 
 -- Facts, products and sums.
 pub fact_int : (ts : List Kind) (p : ℕ) (κ : Owed) → slice_get ts p ≡ Some Int → stop_at ts p ((fact ∷ κ) ∷ []) ≡ stop_at ts (p + 1) (κ ∷ [])

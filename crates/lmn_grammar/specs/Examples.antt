@@ -19,11 +19,16 @@ NoGuard = IsRefused (Derives program) (Name ∷ Arrow ∷ Name ∷ Comma ∷ LBr
 abbrev pub NoList : Type 0
 NoList = IsRefused (Derives program) (Name ∷ Arrow ∷ Context ∷ Less ∷ Int ∷ Comma ∷ Name ∷ Dot ∷ End ∷ []) 7 10
 
--- '()' is refused at ')', '{.}' at '.', and 'X, a' at the comma, since '=' is owed there.
+-- '()' is refused at ')', '{.}' at '.', 'X, a' at the comma, since '=' is owed there, and '$p[a]' at 'a'.
 abbrev pub NotExpected : Type 0
 NotExpected = IsRefused (Derives program) (LParen ∷ RParen ∷ End ∷ []) 1 10
     × IsRefused (Derives program) (LBrace ∷ Dot ∷ RBrace ∷ End ∷ []) 1 10
     × IsRefused (Derives program) (Link ∷ Comma ∷ Name ∷ End ∷ []) 1 10
+    × IsRefused (Derives program) (Context ∷ LBracket ∷ Name ∷ RBracket ∷ End ∷ []) 2 10
+
+-- '{$p[]}, $q[X] :- a' is a program.
+abbrev pub ContextsText : Type 0
+ContextsText = Derives program (LBrace ∷ Context ∷ LBracket ∷ RBracket ∷ RBrace ∷ Comma ∷ Context ∷ LBracket ∷ Link ∷ RBracket ∷ Arrow ∷ Name ∷ End ∷ [])
 
 -- these kinds, n times
 abbrev pub repeated : ℕ → List Kind → List Kind

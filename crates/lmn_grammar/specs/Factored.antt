@@ -12,7 +12,7 @@ right_side = Tok Equal · Ref TermPart
 
 -- behind a context that is an item or begins one
 abbrev pub context_tail : Exp
-context_tail = Opt (Within Square (Tok Link) ∣ right_side)
+context_tail = Opt (Within Square (Opt (Tok Link)) ∣ right_side)
 
 -- behind the name of a condition
 abbrev pub contexts : Exp

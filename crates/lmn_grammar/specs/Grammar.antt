@@ -77,7 +77,7 @@ abbrev pub equation : Exp
 equation = Ref TermPart · Tok Equal · Ref TermPart
 
 abbrev pub item : Exp
-item = atom ∣ membrane ∣ Tok Context ∣ Tok Context · Within Square (Tok Link) ∣ Tok RuleCtx
+item = atom ∣ membrane ∣ Tok Context ∣ Tok Context · Within Square (Opt (Tok Link)) ∣ Tok RuleCtx
     ∣ Tok Plus · Tok Link ∣ Within Round (Ref ClausePart) ∣ equation
 
 abbrev pub list : Exp

@@ -8,6 +8,7 @@ ghost use Rattle.lmn_grammar.specs.Examples.{
   WholeText,
   NoGuard,
   NoList,
+  ContextsText,
   NotExpected,
   Brackets,
   Operators,
@@ -49,6 +50,7 @@ pub fn program_examples()
     ensures no_guard { NoGuard }
     ensures no_list { NoList }
     ensures not_expected { NotExpected }
+    ensures contexts { ContextsText }
 {}
 
 /// Small texts: the last that is within a limit, and the first that isn't.

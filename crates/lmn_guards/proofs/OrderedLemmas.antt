@@ -9,7 +9,7 @@ use Rattle.lmn_base.specs.declared.functor.Label.{Label}
 use Rattle.lmn_base.specs.declared.functor.Label.TheVariants as label
 use Rattle.lmn_base.specs.declared.functor.TheConstants.{CONNECTOR_NAME}
 use Rattle.lmn_base.specs.declared.item.Form.{Form}
-use Rattle.lmn_base.specs.declared.item.Form.TheVariants.{Bare, Typed}
+use Rattle.lmn_base.specs.declared.item.Form.TheVariants.{Bare, Closed, Typed}
 use Rattle.lmn_base.specs.declared.item.FormedUse.{FormedUse}
 use Rattle.lmn_base.specs.declared.item.Item.{Item}
 use Rattle.lmn_base.specs.declared.item.Item.TheVariants.{Atom, Context, RuleContext, Rule}
@@ -22,7 +22,7 @@ use Rattle.lmn_base.specs.Firsts.{Row, NoneApplies}
 use Rattle.lmn_base.specs.Items.{own_items, items_of, rule_items, number_of_items}
 use Rattle.lmn_base.specs.Levels.{leaves_of}
 use Rattle.lmn_base.specs.PlaceOrder.{not_after}
-use Rattle.lmn_base.specs.RuleCodes.{rule_rows, size_rows, head_rows, use_rows, is_too_large, too_large, empty_head, rule_in_head, connector_in_head, context_at_top, rule_context_at_top, two_in_membrane, twice_in_head, not_once_in_body, not_in_head, in_two_forms, inner_rule, is_connector_label, connector_place, is_bare, bare_place, rule_context_place, seconds_by_membrane, first_with_some, use_up_to, rule_use_up_to, used_again, bare_use, bare_use_up_to, missing, bare_again, rule_use, from_nowhere, is_left_of, same_form, other_form_up_to, in_other_form}
+use Rattle.lmn_base.specs.RuleCodes.{rule_rows, size_rows, head_rows, use_rows, is_too_large, too_large, empty_head, rule_in_head, connector_in_head, context_at_top, rule_context_at_top, two_in_membrane, twice_in_head, not_once_in_body, not_in_head, in_two_forms, inner_rule, is_connector_label, connector_place, is_bare, is_untyped, untyped_place, rule_context_place, seconds_by_membrane, first_with_some, use_up_to, rule_use_up_to, used_again, bare_use, bare_use_up_to, missing, bare_again, rule_use, from_nowhere, is_left_of, same_form, other_form_up_to, in_other_form}
 use Rattle.lmn_base.specs.Solids.{connector}
 use Rattle.lmn_base.specs.Uses.{use_of, has_use, is_some_place}
 use Rattle.lmn_base.specs.WellMade.{IsLinkedRule}
@@ -95,6 +95,7 @@ never false h = refl
 
 bare_is : (f : Form) → is_bare f ≡ true → f ≡ Bare
 bare_is Bare e = refl
+bare_is Closed e = absurd (cc)
 bare_is Typed e = absurd (cc)
 
 same_itself : (f g : Form) → f ≡ g → same_form f g ≡ true
@@ -102,6 +103,7 @@ same_itself f g e = subst (λ h. same_form f h ≡ true) e (by f)
   where
     by : (f : Form) → same_form f f ≡ true
     by Bare = refl
+    by Closed = refl
     by Typed = refl
 
 -- ---- fewer uses up to a place
@@ -177,11 +179,11 @@ module _ (table : List RuleTree) (r : RuleTree) (o : IsInOrder table r) where
   no_connector_there (RuleContext u) w = refl
   no_connector_there (Rule k) w = refl
 
-  none_bare : (x : Item) → Contains (own_items (out-Level r.head)) x → bare_place x ≡ []
-  none_bare (Atom f p) w = refl
-  none_bare (Context u) w = nowhere_if (is_bare u.form) u.pos (ap is_bare (o.no_context_at_top u w))
-  none_bare (RuleContext u) w = refl
-  none_bare (Rule k) w = refl
+  none_untyped : (x : Item) → Contains (own_items (out-Level r.head)) x → untyped_place x ≡ []
+  none_untyped (Atom f p) w = refl
+  none_untyped (Context u) w = nowhere_if (is_untyped u.form) u.pos (ap is_untyped (o.no_context_at_top u w))
+  none_untyped (RuleContext u) w = refl
+  none_untyped (Rule k) w = refl
 
   none_of_rules : (x : Item) → Contains (own_items (out-Level r.head)) x → rule_context_place x ≡ []
   none_of_rules (Atom f p) w = refl
@@ -289,7 +291,7 @@ module _ (table : List RuleTree) (r : RuleTree) (o : IsInOrder table r) where
   head_rows_none =
       none_more (rule_in_head table r) (connector_in_head r ∷ context_at_top r ∷ rule_context_at_top r ∷ two_in_membrane r ∷ []) (all_none (inner_rule table) head no_rule_there) (
       none_more (connector_in_head r) (context_at_top r ∷ rule_context_at_top r ∷ two_in_membrane r ∷ []) (all_none connector_place head no_connector_there) (
-      none_more (context_at_top r) (rule_context_at_top r ∷ two_in_membrane r ∷ []) (all_none bare_place (own_items (out-Level r.head)) none_bare) (
+      none_more (context_at_top r) (rule_context_at_top r ∷ two_in_membrane r ∷ []) (all_none untyped_place (own_items (out-Level r.head)) none_untyped) (
       none_more (rule_context_at_top r) (two_in_membrane r ∷ []) (all_none rule_context_place (own_items (out-Level r.head)) none_of_rules) (
       none_more (two_in_membrane r) ([]) (all_without (flat_map seconds_by_membrane (out-Level r.head).membranes) o.one_in_membrane) (no_rows)))))
 

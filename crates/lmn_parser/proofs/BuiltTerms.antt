@@ -10,7 +10,7 @@ use Rattle.lmn_parser.specs.declared.tree.Clause.TheViews as view
 use Rattle.lmn_parser.specs.declared.tree.Item.TheVariants as item_variant
 use Rattle.lmn_parser.specs.declared.tree.Term.TheVariants as term_variant
 use Rattle.lmn_parser.specs.Syntax.{Term, Terms, no_term, term_and, Item, Items, no_item, item_and, list, list_onto, bracketed, plus_link, group, equation, terms_of, items_of_nodes, clauses_of, term_of, item_of, clause_of}
-use Rattle.lmn_parser.specs.Trees.{At, NameAt, IsOptList, no_list, IsClause, IsList, last_item, more_items, IsItem, is_atom_item, is_membrane_item, is_context_item, is_bracketed, is_rule_context, is_plus_link, is_group, is_equation, IsMembrane, IsWrittenAtom, with_name, with_integer, IsArguments, no_parentheses, no_arguments, some_arguments, IsTerms, last_term, more_terms, IsTerm, is_link, is_atom, is_context, is_membrane, IsTermList, empty_list, closed_list, open_list}
+use Rattle.lmn_parser.specs.Trees.{At, NameAt, IsOptList, no_list, IsClause, IsList, last_item, more_items, IsItem, is_atom_item, is_membrane_item, is_context_item, is_closed, is_bracketed, is_rule_context, is_plus_link, is_group, is_equation, IsMembrane, IsWrittenAtom, with_name, with_integer, IsArguments, no_parentheses, no_arguments, some_arguments, IsTerms, last_term, more_terms, IsTerm, is_link, is_atom, is_context, is_membrane, IsTermList, empty_list, closed_list, open_list}
 use Rattle.lmn_parser.proofs.Nodes as node
 
 -- atoms and their arguments
@@ -127,6 +127,10 @@ group_read ts c box p m q e h a b =
 -- and a context
 pub context_item_read : (ts : List Token) (p : ℕ) → At ts p Context → IsItem ts (item_of (item_variant.Context p)) p (p + 1)
 context_item_read ts p h = let P : Item → Type 0 = λ x. IsItem ts x p (p + 1) in subst P (sym (node.item_context p)) (is_context_item h)
+
+-- and one whose brackets are empty
+pub closed_read : (ts : List Token) (p : ℕ) → At ts p Context → At ts (p + 1) LBracket → At ts (p + 2) RBracket → IsItem ts (item_of (item_variant.Closed p)) p (p + 3)
+closed_read ts p h k c = let P : Item → Type 0 = λ x. IsItem ts x p (p + 3) in subst P (sym (node.item_closed p)) (is_closed h k c)
 
 -- and a context with a link in brackets
 pub bracketed_read : (ts : List Token) (p m q : ℕ) → At ts p Context → At ts (p + 1) LBracket → (m ≡ p + 2 + 1) × At ts (p + 2) Link → (q ≡ m + 1) × At ts m RBracket →

@@ -12,6 +12,10 @@ use Rattle.lmn_base.proofs.Truth.{false_not_true as clash}
 pub two_behind : (ts : List Kind) (p : ℕ) (s : List Owed) → stop_at ts (p + 1 + 1) s ≡ stop_at ts (p + 2) s
 two_behind ts p s = let e : p + 1 + 1 ≡ p + 2 = omega arith in ap (λ n. stop_at ts n s) e
 
+-- and two behind and one further three
+pub three_behind : (ts : List Kind) (p : ℕ) (s : List Owed) → stop_at ts (p + 2 + 1) s ≡ stop_at ts (p + 3) s
+three_behind ts p s = let e : p + 2 + 1 ≡ p + 3 = omega arith in ap (λ n. stop_at ts n s) e
+
 -- an operand that is neither integer nor context is in parentheses
 pub fact_round : (ts : List Kind) (p : ℕ) (κ : Owed) → (slice_get ts p ≡ Some Int → ⊥) → (slice_get ts p ≡ Some Context → ⊥) →
     stop_at ts p ((fact ∷ κ) ∷ []) ≡ stop_at ts p ((Tok LParen ∷ Ref SumPart ∷ Tok RParen ∷ κ) ∷ [])

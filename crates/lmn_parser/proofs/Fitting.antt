@@ -18,7 +18,7 @@ use Rattle.lmn_lexer.specs.declared.token.Token.{Token}
 use Rattle.lmn_parser.specs.Arities.{number_of_terms, operators_of, FitsCondition, FitsTerm, FitsTerms, FitsItem, FitsItems, FitsClause, FitsClauses}
 use Rattle.lmn_parser.specs.Parsing.{kinds_of}
 use Rattle.lmn_parser.specs.Syntax as tree
-use Rattle.lmn_parser.specs.Trees.{At, NameAt, TimesAt, PlusAt, IsSum, one_product, plus, IsProduct, one_factor, times, IsFactor, is_integer, is_value, in_parentheses, IsContexts, last_context, more_contexts, IsContextArguments, no_contexts, some_contexts, IsCondition, is_called, is_compared, is_equal, is_different, IsWrittenGuard, last_condition, more_conditions, IsClauses, no_clauses, last_clause, more_clauses, IsClause, named_rule, unnamed_rule, is_process, IsWrittenRule, is_rule, IsHeads, all_taken, some_kept, IsBody, no_guard, empty_guard, guarded, IsOptList, no_list, some_list, IsList, last_item, more_items, IsItem, is_atom_item, is_membrane_item, is_context_item, is_bracketed, is_rule_context, is_plus_link, is_group, is_equation, IsMembrane, in_braces, IsWrittenAtom, with_name, with_integer, IsArguments, no_parentheses, no_arguments, some_arguments, IsTerms, last_term, more_terms, IsTerm, is_link, is_atom, is_context, is_membrane, is_list, IsTermList, empty_list, closed_list, open_list}
+use Rattle.lmn_parser.specs.Trees.{At, NameAt, TimesAt, PlusAt, IsSum, one_product, plus, IsProduct, one_factor, times, IsFactor, is_integer, is_value, in_parentheses, IsContexts, last_context, more_contexts, IsContextArguments, no_contexts, some_contexts, IsCondition, is_called, is_compared, is_equal, is_different, IsWrittenGuard, last_condition, more_conditions, IsClauses, no_clauses, last_clause, more_clauses, IsClause, named_rule, unnamed_rule, is_process, IsWrittenRule, is_rule, IsHeads, all_taken, some_kept, IsBody, no_guard, empty_guard, guarded, IsOptList, no_list, some_list, IsList, last_item, more_items, IsItem, is_atom_item, is_membrane_item, is_context_item, is_closed, is_bracketed, is_rule_context, is_plus_link, is_group, is_equation, IsMembrane, in_braces, IsWrittenAtom, with_name, with_integer, IsArguments, no_parentheses, no_arguments, some_arguments, IsTerms, last_term, more_terms, IsTerm, is_link, is_atom, is_context, is_membrane, is_list, IsTermList, empty_list, closed_list, open_list}
 use Rattle.lmn_parser.specs.TreeLaws.{TreesFit}
 use Rattle.lmn_parser.proofs.TreeWords.{drop_token, next_to, term_words}
 use Rattle.lmn_base.proofs.Lists.{plus_nothing}
@@ -377,6 +377,7 @@ mutual
   item_fits ts w (is_atom_item d) r = let a = atom_fits ts w d r in (a.any, a.fits)
   item_fits ts w (is_membrane_item d) r = membrane_fits ts w d
   item_fits ts w (is_context_item h) r = tt
+  item_fits ts w (is_closed h o c) r = tt
   item_fits ts w (is_bracketed h o d c) r = tt
   item_fits ts w (is_rule_context h) r = tt
   item_fits ts w (is_plus_link h d) r = tt

@@ -14,7 +14,7 @@ use Rattle.lmn_parser.specs.declared.tree.Clause.TheVariants as clause_variant
 use Rattle.lmn_parser.specs.declared.tree.Item.TheVariants as item_variant
 use Rattle.lmn_parser.specs.declared.tree.Term.TheVariants as term_variant
 use Rattle.lmn_parser.specs.declared.tree.Clause.TheFolds.{fold-AtomNode, fold-roll-Clause, fold-roll-Item, fold-roll-Term, fold-roll-AtomNode, fold-roll-RuleNode}
-use Rattle.lmn_parser.specs.Syntax.{Expr, integer, value, expr_of, expr_step, Term, Item, Clause, Terms, terms_of, items_of_nodes, clauses_of, condition_of_node, term_of, item_of, clause_of, clause_of_rule, clause_step, item_step, term_step, atom_step, rule_step, process, rule, atom_item, membrane_item, context_item, bracketed, rule_context, plus_link, group, equation, link, atom, list, list_onto, context, membrane}
+use Rattle.lmn_parser.specs.Syntax.{Expr, integer, value, expr_of, expr_step, Term, Item, Clause, Terms, terms_of, items_of_nodes, clauses_of, condition_of_node, term_of, item_of, clause_of, clause_of_rule, clause_step, item_step, term_step, atom_step, rule_step, process, rule, atom_item, membrane_item, context_item, closed_item, bracketed, rule_context, plus_link, group, equation, link, atom, list, list_onto, context, membrane}
 
 atom_parts : (n : AtomNode) → fold-AtomNode Clause Item Term (ℕ × Terms) Clause clause_step item_step term_step atom_step rule_step n ≡ (n.token, terms_of n.args)
 atom_parts n = fold-roll-AtomNode Clause Item Term (ℕ × Terms) Clause clause_step item_step term_step atom_step rule_step (record { token = n.token; args = n.args })
@@ -47,6 +47,10 @@ item_membrane cs = ap item_of (sym (item_variant.rolls-Membrane cs)) ∙ fold-ro
 -- and a context
 pub item_context : (p : ℕ) → item_of (item_variant.Context p) ≡ context_item p
 item_context p = ap item_of (sym (item_variant.rolls-Context p)) ∙ fold-roll-Item Clause Item Term (ℕ × Terms) Clause clause_step item_step term_step atom_step rule_step (node.Item::Context p)
+
+-- and one whose brackets are empty
+pub item_closed : (p : ℕ) → item_of (item_variant.Closed p) ≡ closed_item p
+item_closed p = ap item_of (sym (item_variant.rolls-Closed p)) ∙ fold-roll-Item Clause Item Term (ℕ × Terms) Clause clause_step item_step term_step atom_step rule_step (node.Closed p)
 
 -- and a context with its link
 pub item_bracketed : (p q : ℕ) → item_of (item_variant.Bracketed p q) ≡ bracketed p q

@@ -10,7 +10,7 @@ use Rattle.lmn_lexer.specs.declared.token.Kind.TheVariants.{End, RParen, RBracke
 use Rattle.lmn_lexer.specs.declared.token.Token.{Token}
 use Rattle.lmn_parser.specs.Parsing.{kinds_of}
 use Rattle.lmn_parser.specs.Syntax.{WrittenCondition, Term, atom, list, list_onto, membrane, Terms, term_and, Item, atom_item, membrane_item, group, equation, Items, item_and, Clause, process, rule, Clauses, clause_and}
-use Rattle.lmn_parser.specs.Trees.{At, StandsAt, IsWrittenGuard, IsClauses, no_clauses, last_clause, more_clauses, IsClause, named_rule, unnamed_rule, is_process, IsWrittenRule, is_rule, IsHeads, all_taken, some_kept, IsBody, no_guard, empty_guard, guarded, IsOptList, no_list, some_list, IsList, last_item, more_items, IsItem, is_atom_item, is_membrane_item, is_context_item, is_bracketed, is_rule_context, is_plus_link, is_group, is_equation, IsMembrane, in_braces, IsWrittenAtom, with_name, with_integer, IsArguments, no_parentheses, no_arguments, some_arguments, IsTerms, last_term, more_terms, IsTerm, is_link, is_atom, is_context, is_membrane, is_list, IsTermList, empty_list, closed_list, open_list}
+use Rattle.lmn_parser.specs.Trees.{At, StandsAt, IsWrittenGuard, IsClauses, no_clauses, last_clause, more_clauses, IsClause, named_rule, unnamed_rule, is_process, IsWrittenRule, is_rule, IsHeads, all_taken, some_kept, IsBody, no_guard, empty_guard, guarded, IsOptList, no_list, some_list, IsList, last_item, more_items, IsItem, is_atom_item, is_membrane_item, is_context_item, is_closed, is_bracketed, is_rule_context, is_plus_link, is_group, is_equation, IsMembrane, in_braces, IsWrittenAtom, with_name, with_integer, IsArguments, no_parentheses, no_arguments, some_arguments, IsTerms, last_term, more_terms, IsTerm, is_link, is_atom, is_context, is_membrane, is_list, IsTermList, empty_list, closed_list, open_list}
 use Rattle.lmn_parser.specs.TreeLaws.{OneProgram}
 use Rattle.lmn_parser.proofs.OneGuard.{one_guard, no_bar}
 use Rattle.lmn_parser.proofs.TreeTokens.{apart, Follow, follows, no_follow, weaken, after_term, after_terms, terms_term, other_sorts, after_item, after_list, item_term, list_item, clause_list, end_clause, sort, term_sort, item_sort, term_at, item_at, same_sort, no_terms as no_terms_at, no_list_at, list_no_follow, no_clause as no_clause_at, list_label, no_label_rule}
@@ -188,8 +188,14 @@ mutual
   one_item ts (is_membrane_item a) (is_equation (is_membrane b) h u) s F G =
       let x = one_membrane ts a b in absurd (no_follow ts after_item _ F (subst (λ n. At ts n Equal) (sym x.1) h) refl)
   one_item ts (is_context_item g) (is_context_item h) s F G = (refl, refl)
+  one_item ts (is_context_item g) (is_closed h o c) s F G = absurd (no_follow ts after_item _ F o refl)
   one_item ts (is_context_item g) (is_bracketed h o l c) s F G = absurd (no_follow ts after_item _ F o refl)
   one_item ts (is_context_item g) (is_equation (is_context c) h u) s F G = absurd (no_follow ts after_item _ F h refl)
+  one_item ts (is_closed h o c) (is_context_item g) s F G = absurd (no_follow ts after_item _ G o refl)
+  one_item ts (is_closed h o c) (is_closed h' o' c') s F G = (refl, refl)
+  one_item ts (is_closed h o c) (is_bracketed h' o' l' c') s F G = absurd (apart ts _ c l' refl)
+  one_item ts (is_closed h o c) (is_equation (is_context g) e u) s F G = absurd (apart ts _ o e refl)
+  one_item ts (is_bracketed h o l c) (is_closed h' o' c') s F G = absurd (apart ts _ l c' refl)
   one_item ts (is_bracketed h o l c) (is_context_item g) s F G = absurd (no_follow ts after_item _ G o refl)
   one_item ts (is_bracketed h o l c) (is_bracketed h' o' l' c') s F G = (refl, refl)
   one_item ts (is_bracketed h o l c) (is_equation (is_context g) e u) s F G = absurd (apart ts _ o e refl)
@@ -206,6 +212,8 @@ mutual
       let x = one_term ts t (is_membrane b) s (follows ts after_term _ h refl) (weaken ts after_item after_term _ item_term G) in absurd (no_follow ts after_item _ G (subst (λ n. At ts n Equal) x.1 h) refl)
   one_item ts (is_equation t h u) (is_context_item g) s F G =
       let x = one_term ts t (is_context g) s (follows ts after_term _ h refl) (weaken ts after_item after_term _ item_term G) in absurd (no_follow ts after_item _ G (subst (λ n. At ts n Equal) x.1 h) refl)
+  one_item ts (is_equation t h u) (is_closed g o c) s F G =
+      let x = one_term ts t (is_context g) s (follows ts after_term _ h refl) (follows ts after_term _ o refl) in absurd (apart ts _ (subst (λ n. At ts n Equal) x.1 h) o refl)
   one_item ts (is_equation t h u) (is_bracketed g o l c) s F G =
       let x = one_term ts t (is_context g) s (follows ts after_term _ h refl) (follows ts after_term _ o refl) in absurd (apart ts _ (subst (λ n. At ts n Equal) x.1 h) o refl)
   one_item ts (is_equation t h u) (is_rule_context g) s F G = absurd (clash (sym (other_sorts t).0 ∙ s))

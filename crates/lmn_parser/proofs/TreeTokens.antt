@@ -7,7 +7,7 @@ use Rattle.lmn_lexer.specs.declared.token.Kind.{Kind}
 use Rattle.lmn_lexer.specs.declared.token.Kind.TheVariants.{Name, Quoted, Mod, Link, Int, Context, RuleCtx, End, LParen, RParen, LBracket, RBracket, LBrace, RBrace, Comma, Dot, Arrow, AtAt, Bar, Backslash, Equal, Plus}
 use Rattle.lmn_lexer.specs.declared.token.Token.{Token}
 use Rattle.lmn_parser.specs.Syntax.{Term, Terms, Item, Items, Clause, Clauses}
-use Rattle.lmn_parser.specs.Trees.{At, NameAt, IsClause, named_rule, unnamed_rule, is_process, IsWrittenRule, is_rule, IsHeads, all_taken, some_kept, no_list, some_list, IsList, last_item, more_items, IsItem, is_atom_item, is_membrane_item, is_context_item, is_bracketed, is_rule_context, is_plus_link, is_group, is_equation, IsMembrane, in_braces, IsWrittenAtom, with_name, with_integer, no_parentheses, no_arguments, some_arguments, IsTerms, last_term, more_terms, IsTerm, is_link, is_atom, is_context, is_membrane, is_list, IsTermList, empty_list, closed_list, open_list}
+use Rattle.lmn_parser.specs.Trees.{At, NameAt, IsClause, named_rule, unnamed_rule, is_process, IsWrittenRule, is_rule, IsHeads, all_taken, some_kept, no_list, some_list, IsList, last_item, more_items, IsItem, is_atom_item, is_membrane_item, is_context_item, is_closed, is_bracketed, is_rule_context, is_plus_link, is_group, is_equation, IsMembrane, in_braces, IsWrittenAtom, with_name, with_integer, no_parentheses, no_arguments, some_arguments, IsTerms, last_term, more_terms, IsTerm, is_link, is_atom, is_context, is_membrane, is_list, IsTermList, empty_list, closed_list, open_list}
 use Rattle.lmn_base.proofs.Truth.{false_not_true as clash}
 use Rattle.lmn_grammar.proofs.Stops.{same_some as some_same}
 
@@ -127,6 +127,7 @@ abbrev pub item_sort : {ts : List Token} {x : Item} {p q : ℕ} → IsItem ts x 
 item_sort (is_atom_item d) = 1
 item_sort (is_membrane_item d) = 3
 item_sort (is_context_item h) = 2
+item_sort (is_closed h o c) = 2
 item_sort (is_bracketed h o l c) = 2
 item_sort (is_rule_context h) = 6
 item_sort (is_plus_link h l) = 7
@@ -167,6 +168,7 @@ pub item_at : (ts : List Token) {x : Item} {p q : ℕ} (d : IsItem ts x p q) →
 item_at ts (is_atom_item d) = atom_at ts d
 item_at ts (is_membrane_item d) = membrane_at ts d
 item_at ts (is_context_item h) = (Context, h, refl)
+item_at ts (is_closed h o c) = (Context, h, refl)
 item_at ts (is_bracketed h o l c) = (Context, h, refl)
 item_at ts (is_rule_context h) = (RuleCtx, h, refl)
 item_at ts (is_plus_link h l) = (Plus, h, refl)
@@ -200,6 +202,7 @@ some_item_sort (is_equation a h b) = some_sort a
 some_item_sort (is_atom_item d) = refl
 some_item_sort (is_membrane_item d) = refl
 some_item_sort (is_context_item h) = refl
+some_item_sort (is_closed h o c) = refl
 some_item_sort (is_bracketed h o l c) = refl
 some_item_sort (is_rule_context h) = refl
 some_item_sort (is_plus_link h l) = refl

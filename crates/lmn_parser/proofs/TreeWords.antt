@@ -9,11 +9,11 @@ use Rattle.lmn_grammar.specs.Grammar.{Exp, Tok, Seq, Alt, Opt, Many, Within, Ref
 use Rattle.lmn_grammar.specs.Factored.{contexts}
 use Rattle.lmn_grammar.proofs.Stops.{drop_here}
 use Rattle.lmn_lexer.specs.declared.token.Kind.{Kind}
-use Rattle.lmn_lexer.specs.declared.token.Kind.TheVariants.{Name, Quoted, Mod, Link, Int, Context, RuleCtx, End, Comma, Dot, Arrow, AtAt, Bar, Backslash, Equal, Less, LessEq, Greater, GreaterEq, NumEq, NumNe, Differ, Plus, Minus, Star, Slash}
+use Rattle.lmn_lexer.specs.declared.token.Kind.TheVariants.{Name, Quoted, Mod, Link, Int, Context, RuleCtx, End, RBracket, Comma, Dot, Arrow, AtAt, Bar, Backslash, Equal, Less, LessEq, Greater, GreaterEq, NumEq, NumNe, Differ, Plus, Minus, Star, Slash}
 use Rattle.lmn_lexer.specs.declared.token.Token.{Token}
 use Rattle.lmn_parser.specs.Parsing.{kinds_of}
 use Rattle.lmn_parser.specs.Syntax as tree
-use Rattle.lmn_parser.specs.Trees.{At, NameAt, TimesAt, PlusAt, CmpAt, IsSum, one_product, plus, IsProduct, one_factor, times, IsFactor, is_integer, is_value, in_parentheses, IsContexts, last_context, more_contexts, IsContextArguments, no_contexts, some_contexts, IsCondition, is_called, is_compared, is_equal, is_different, IsWrittenGuard, last_condition, more_conditions, IsClauses, no_clauses, last_clause, more_clauses, IsClause, named_rule, unnamed_rule, is_process, IsWrittenRule, is_rule, IsHeads, all_taken, some_kept, IsBody, no_guard, empty_guard, guarded, IsOptList, no_list, some_list, IsList, last_item, more_items, IsItem, is_atom_item, is_membrane_item, is_context_item, is_bracketed, is_rule_context, is_plus_link, is_group, is_equation, IsMembrane, in_braces, IsWrittenAtom, with_name, with_integer, IsArguments, no_parentheses, no_arguments, some_arguments, IsTerms, last_term, more_terms, IsTerm, is_link, is_atom, is_context, is_membrane, is_list, IsTermList, empty_list, closed_list, open_list}
+use Rattle.lmn_parser.specs.Trees.{At, NameAt, TimesAt, PlusAt, CmpAt, IsSum, one_product, plus, IsProduct, one_factor, times, IsFactor, is_integer, is_value, in_parentheses, IsContexts, last_context, more_contexts, IsContextArguments, no_contexts, some_contexts, IsCondition, is_called, is_compared, is_equal, is_different, IsWrittenGuard, last_condition, more_conditions, IsClauses, no_clauses, last_clause, more_clauses, IsClause, named_rule, unnamed_rule, is_process, IsWrittenRule, is_rule, IsHeads, all_taken, some_kept, IsBody, no_guard, empty_guard, guarded, IsOptList, no_list, some_list, IsList, last_item, more_items, IsItem, is_atom_item, is_membrane_item, is_context_item, is_closed, is_bracketed, is_rule_context, is_plus_link, is_group, is_equation, IsMembrane, in_braces, IsWrittenAtom, with_name, with_integer, IsArguments, no_parentheses, no_arguments, some_arguments, IsTerms, last_term, more_terms, IsTerm, is_link, is_atom, is_context, is_membrane, is_list, IsTermList, empty_list, closed_list, open_list}
 use Rattle.lmn_parser.specs.TreeLaws.{TreesDerive}
 use Rattle.lmn_base.proofs.Lists.{plus_nothing}
 
@@ -218,8 +218,10 @@ mutual
   item_words ts (is_atom_item d) = this (kinds_of ts) (atom_words ts d)
   item_words ts (is_membrane_item d) = let k = kinds_of ts in that k (this k (membrane_words ts d))
   item_words ts (is_context_item h) = let k = kinds_of ts in that k (that k (this k (tok k _ Context h refl)))
+  item_words ts (is_closed {p = p} h o c) = let k = kinds_of ts in
+      that k (that k (that k (this k (seq k (tok k _ Context h refl) (within k (p + 3) Square o (nothing k _ (without _)) (subst (λ n. At ts n RBracket) (next_to p) c) (omega arith))))))
   item_words ts (is_bracketed {p = p} h o d c) = let k = kinds_of ts in
-      that k (that k (that k (this k (seq k (tok k _ Context h refl) (within k (p + 4) Square o (tok k (p + 3) Link (subst (λ n. At ts n Link) (next_to p) d) (omega arith)) c (omega arith))))))
+      that k (that k (that k (this k (seq k (tok k _ Context h refl) (within k (p + 4) Square o (opt k (tok k (p + 3) Link (subst (λ n. At ts n Link) (next_to p) d) (omega arith))) c (omega arith))))))
   item_words ts (is_rule_context h) = let k = kinds_of ts in that k (that k (that k (that k (this k (tok k _ RuleCtx h refl)))))
   item_words ts (is_plus_link {p = p} h d) = let k = kinds_of ts in that k (that k (that k (that k (that k (this k (seq k (tok k _ Plus h refl) (tok k _ Link d (next_to p))))))))
   item_words ts (is_group o d c) = let k = kinds_of ts in that k (that k (that k (that k (that k (that k (this k (within k _ Round o (ref k ClausePart (clause_words ts d)) c refl)))))))

@@ -14,8 +14,8 @@ use Rattle.lmn_lexer.specs.declared.token.Kind.{Kind}
 use Rattle.lmn_lexer.specs.declared.token.Kind.TheVariants.{Mod, Link, Context, RParen, LBracket, RBracket, Comma, Dot, Arrow, AtAt, Bar, Equal, Differ, Plus, Minus, Star, Slash}
 use Rattle.lmn_lexer.specs.declared.token.Token.{Token}
 use Rattle.lmn_parser.specs.Parsing.{kinds_of}
-use Rattle.lmn_parser.specs.Syntax.{Expr, integer, value, WrittenCondition, called, compared, equal, different, Term, link, atom, list, list_onto, context, membrane, Terms, no_term, term_and, Item, atom_item, membrane_item, context_item, bracketed, rule_context, plus_link, group, equation, Items, no_item, item_and, Clause, process, rule, Clauses, no_clause, clause_and}
-use Rattle.lmn_parser.specs.Trees.{At, NameAt, StandsAt, CmpAt, IsSum, one_product, plus, IsProduct, one_factor, times, IsFactor, is_integer, is_value, in_parentheses, IsContexts, last_context, more_contexts, IsContextArguments, no_contexts, some_contexts, IsCondition, is_called, is_compared, is_equal, is_different, IsWrittenGuard, last_condition, more_conditions, IsClauses, no_clauses, last_clause, more_clauses, IsClause, named_rule, unnamed_rule, is_process, IsWrittenRule, is_rule, IsHeads, all_taken, some_kept, IsBody, no_guard, empty_guard, guarded, IsOptList, no_list, some_list, IsList, last_item, more_items, IsItem, is_atom_item, is_membrane_item, is_context_item, is_bracketed, is_rule_context, is_plus_link, is_group, is_equation, IsMembrane, in_braces, IsWrittenAtom, with_name, with_integer, IsArguments, no_parentheses, no_arguments, some_arguments, IsTerms, last_term, more_terms, IsTerm, is_link, is_atom, is_context, is_membrane, is_list, IsTermList, empty_list, closed_list, open_list, IsProgram}
+use Rattle.lmn_parser.specs.Syntax.{Expr, integer, value, WrittenCondition, called, compared, equal, different, Term, link, atom, list, list_onto, context, membrane, Terms, no_term, term_and, Item, atom_item, membrane_item, context_item, closed_item, bracketed, rule_context, plus_link, group, equation, Items, no_item, item_and, Clause, process, rule, Clauses, no_clause, clause_and}
+use Rattle.lmn_parser.specs.Trees.{At, NameAt, StandsAt, CmpAt, IsSum, one_product, plus, IsProduct, one_factor, times, IsFactor, is_integer, is_value, in_parentheses, IsContexts, last_context, more_contexts, IsContextArguments, no_contexts, some_contexts, IsCondition, is_called, is_compared, is_equal, is_different, IsWrittenGuard, last_condition, more_conditions, IsClauses, no_clauses, last_clause, more_clauses, IsClause, named_rule, unnamed_rule, is_process, IsWrittenRule, is_rule, IsHeads, all_taken, some_kept, IsBody, no_guard, empty_guard, guarded, IsOptList, no_list, some_list, IsList, last_item, more_items, IsItem, is_atom_item, is_membrane_item, is_context_item, is_closed, is_bracketed, is_rule_context, is_plus_link, is_group, is_equation, IsMembrane, in_braces, IsWrittenAtom, with_name, with_integer, IsArguments, no_parentheses, no_arguments, some_arguments, IsTerms, last_term, more_terms, IsTerm, is_link, is_atom, is_context, is_membrane, is_list, IsTermList, empty_list, closed_list, open_list, IsProgram}
 use Rattle.lmn_parser.specs.TreeLaws.{DerivedIsTree}
 use Rattle.lmn_parser.proofs.TreeTokens.{list_token}
 use Rattle.lmn_base.proofs.Lists.{plus_nothing}
@@ -166,7 +166,11 @@ item_made : (ts : List Token) (p q : ℕ) → Parsed ts grammar.item p q → (x 
 item_made ts p q (inl d) = let x = atom_made ts p q d in (atom_item p x.0, is_atom_item x.1)
 item_made ts p q (inr (inl d)) = let x = membrane_made ts p q d in (membrane_item x.0, is_membrane_item x.1)
 item_made ts p q (inr (inr (inl h))) = (context_item p, moved (λ y n. IsItem ts y p n) h.1 (is_context_item h.0))
-item_made ts p q (inr (inr (inr (inl (m, h, (n, o, l, c, e)))))) =
+item_made ts p q (inr (inr (inr (inl (m, h, (n, o, inl l, c, e)))))) =
+    let two : n ≡ p + 2 = l ∙ ap (λ i. i + 1) h.1 ∙ omega arith in
+    let three : q ≡ p + 3 = e ∙ ap (λ i. i + 1) two ∙ omega arith in
+    (closed_item p, moved (λ y i. IsItem ts y p i) three (is_closed h.0 (subst (λ i. At ts i LBracket) h.1 o) (subst (λ i. At ts i RBracket) two c)))
+item_made ts p q (inr (inr (inr (inl (m, h, (n, o, inr l, c, e)))))) =
     let two : m + 1 ≡ p + 2 = ap (λ i. i + 1) h.1 ∙ omega arith in
     let three : n ≡ p + 3 = l.1 ∙ ap (λ i. i + 1) two ∙ omega arith in
     let four : q ≡ p + 4 = e ∙ ap (λ i. i + 1) three ∙ omega arith in (

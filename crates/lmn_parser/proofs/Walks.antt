@@ -15,7 +15,7 @@ use Rattle.lmn_lexer.specs.declared.token.Token.{Token}
 use Rattle.lmn_parser.specs.Arities.{number_of_terms, operators_of, FitsCondition, FitsTerm, FitsTerms, FitsItem, FitsItems, FitsClause, FitsClauses}
 use Rattle.lmn_parser.specs.Parsing.{kinds_of}
 use Rattle.lmn_parser.specs.Syntax as tree
-use Rattle.lmn_parser.specs.Trees.{NameAt, CmpAt, IsSum, one_product, plus, IsProduct, one_factor, times, IsFactor, is_integer, is_value, in_parentheses, IsContexts, last_context, more_contexts, IsContextArguments, no_contexts, some_contexts, IsCondition, is_called, is_compared, is_equal as is_equal_condition, is_different, IsWrittenGuard, last_condition, more_conditions, IsClauses, no_clauses, last_clause, more_clauses, IsClause, named_rule, unnamed_rule, is_process, IsWrittenRule, is_rule, IsHeads, all_taken, some_kept, IsBody, no_guard, empty_guard, guarded, IsOptList, no_list, some_list, IsList, last_item, more_items, IsItem, is_atom_item, is_membrane_item, is_context_item, is_bracketed, is_rule_context, is_plus_link, is_group, is_equation, IsMembrane, in_braces, IsWrittenAtom, with_name, with_integer, IsArguments, no_parentheses, no_arguments, some_arguments, IsTerms, last_term, more_terms, IsTerm, is_link, is_atom, is_context, is_membrane, is_list, IsTermList, empty_list, closed_list, open_list}
+use Rattle.lmn_parser.specs.Trees.{NameAt, CmpAt, IsSum, one_product, plus, IsProduct, one_factor, times, IsFactor, is_integer, is_value, in_parentheses, IsContexts, last_context, more_contexts, IsContextArguments, no_contexts, some_contexts, IsCondition, is_called, is_compared, is_equal as is_equal_condition, is_different, IsWrittenGuard, last_condition, more_conditions, IsClauses, no_clauses, last_clause, more_clauses, IsClause, named_rule, unnamed_rule, is_process, IsWrittenRule, is_rule, IsHeads, all_taken, some_kept, IsBody, no_guard, empty_guard, guarded, IsOptList, no_list, some_list, IsList, last_item, more_items, IsItem, is_atom_item, is_membrane_item, is_context_item, is_closed, is_bracketed, is_rule_context, is_plus_link, is_group, is_equation, IsMembrane, in_braces, IsWrittenAtom, with_name, with_integer, IsArguments, no_parentheses, no_arguments, some_arguments, IsTerms, last_term, more_terms, IsTerm, is_link, is_atom, is_context, is_membrane, is_list, IsTermList, empty_list, closed_list, open_list}
 use Rattle.lmn_parser.specs.TreeLaws.{FittingIsWithin, Shallow}
 use Rattle.lmn_parser.proofs.Fitting.{behind_token, times_is, plus_is, joined}
 use Rattle.lmn_parser.proofs.TreeWords.{drop_all, next_to}
@@ -314,6 +314,11 @@ mutual
   walk_item ts s (is_atom_item d) f o b n w = any (kinds_of ts) (walk_atom ts s d f.1 o n Other b.0 refl (let g = f.0 in let e = b.1 in omega (arith, g, e)) w)
   walk_item ts s (is_membrane_item d) f o b n w = any (kinds_of ts) (walk_membrane ts s d f o n Other b.0 w)
   walk_item ts s (is_context_item h) f o b n w = record { operators = n; last = Operand; walk = step (kinds_of ts) s Context w h (refl, b.0, refl); holds = tt }
+  walk_item ts s (is_closed {p = p} h a c) f o b n w =
+      let k = kinds_of ts in
+      let opened = step k s LBracket (step k s Context w h (refl, b.0, refl)) a (refl, b.0, refl) in
+      let closed = step k s RBracket (walk_at k (sym (next_to p)) opened) c (refl, refl, refl) in
+      record { operators = 0; last = Other; walk = walk_at k (omega arith) closed; holds = tt }
   walk_item ts s (is_bracketed {p = p} h a d c) f o b n w =
       let k = kinds_of ts in
       let opened = step k s LBracket (step k s Context w h (refl, b.0, refl)) a (refl, b.0, refl) in

@@ -2,7 +2,7 @@
 -- condition more than 255 operators.
 use Rattle.std.specs.Prelude.{ℕ, suc, ◌+◌, ◌≤◌, length}
 use Rattle.std.specs.List.{AllByRecursion}
-use Rattle.lmn_parser.specs.Syntax.{Expr, integer, value, operation, WrittenCondition, called, compared, equal, different, Term, link, atom, list, list_onto, context, membrane, Terms, no_term, term_and, Item, atom_item, membrane_item, context_item, bracketed, rule_context, plus_link, group, equation, Items, no_item, item_and, Clause, process, rule, Clauses, no_clause, clause_and}
+use Rattle.lmn_parser.specs.Syntax.{Expr, integer, value, operation, WrittenCondition, called, compared, equal, different, Term, link, atom, list, list_onto, context, membrane, Terms, no_term, term_and, Item, atom_item, membrane_item, context_item, closed_item, bracketed, rule_context, plus_link, group, equation, Items, no_item, item_and, Clause, process, rule, Clauses, no_clause, clause_and}
 
 abbrev pub number_of_terms : Terms → ℕ
 number_of_terms no_term = 0
@@ -39,6 +39,7 @@ abbrev mutual
   FitsItem (atom_item name ts) = (number_of_terms ts ≤ 255) × FitsTerms ts
   FitsItem (membrane_item cs) = FitsClauses cs
   FitsItem (context_item p) = Unit {0}
+  FitsItem (closed_item p) = Unit {0}
   FitsItem (bracketed p q) = Unit {0}
   FitsItem (rule_context p) = Unit {0}
   FitsItem (plus_link p) = Unit {0}

@@ -46,6 +46,7 @@ mutual
     atom_item : ℕ → Terms → Item
     membrane_item : Clauses → Item
     context_item : ℕ → Item
+    closed_item : ℕ → Item
     bracketed : ℕ → ℕ → Item
     rule_context : ℕ → Item
     plus_link : ℕ → Item
@@ -101,6 +102,7 @@ abbrev pub item_step : node.Item-F Clause Item Term (ℕ × Terms) Clause → It
 item_step (node.Item::Atom n) = atom_item n.0 n.1
 item_step (node.Item::Membrane cs) = membrane_item (as_clauses cs)
 item_step (node.Item::Context p) = context_item p
+item_step (node.Closed p) = closed_item p
 item_step (node.Bracketed p q) = bracketed p q
 item_step (node.RuleContext p) = rule_context p
 item_step (node.Plus p) = plus_link p

@@ -5,7 +5,7 @@ use Rattle.lmn_base.specs.declared.refusal.Pos.{Pos}
 use Rattle.lmn_lexer.specs.declared.token.Kind.{Kind}
 use Rattle.lmn_lexer.specs.declared.token.Kind.TheVariants.{Name, Link, Int, Context, End, LParen, RParen, LBracket, RBracket, LBrace, RBrace, Comma, Dot, Arrow, AtAt, Bar, Backslash, Equal, Plus, Minus}
 use Rattle.lmn_lexer.specs.declared.token.Token.{Token}
-use Rattle.lmn_parser.specs.Syntax.{integer, operation, equal, link, atom, list_onto, no_term, term_and, Item, atom_item, membrane_item, plus_link, group, equation, Items, no_item, item_and, process, rule, Clauses, no_clause, clause_and}
+use Rattle.lmn_parser.specs.Syntax.{integer, operation, equal, link, atom, list_onto, no_term, term_and, Item, atom_item, membrane_item, context_item, closed_item, bracketed, plus_link, group, equation, Items, no_item, item_and, process, rule, Clauses, no_clause, clause_and}
 use Rattle.lmn_parser.specs.Trees.{IsProgram}
 
 -- the place of a token that stands n places from the left
@@ -42,3 +42,9 @@ NestedParts = IsText (LParen ∷ Name ∷ RParen ∷ Dot ∷ LBrace ∷ Name ∷
     (clause_and (process (only (group (process (only (plain 1))))))
     (clause_and (process (item_and (membrane_item (clause_and (process (only (plain 5))) no_clause))
     (only (equation (link 9) 10 (list_onto (term_and (atom 12 no_term) no_term) (link 14)))))) no_clause))
+
+-- {$p[]}, $q[X], $r :- a
+abbrev pub Contexts : Type 0
+Contexts = IsText (LBrace ∷ Context ∷ LBracket ∷ RBracket ∷ RBrace ∷ Comma ∷ Context ∷ LBracket ∷ Link ∷ RBracket ∷ Comma ∷ Context ∷ Arrow ∷ Name ∷ End ∷ [])
+    (clause_and (rule no_item
+    (item_and (membrane_item (clause_and (process (only (closed_item 1))) no_clause)) (item_and (bracketed 6 8) (only (context_item 11)))) [] (only (plain 13)) (place_of_token 0)) no_clause)

@@ -11,7 +11,7 @@ use Rattle.lmn_lexer.specs.declared.token.Kind.{Kind}
 use Rattle.lmn_lexer.specs.declared.token.Kind.TheVariants.{Name, Quoted, Mod, Link, Int, Context, RuleCtx, End, LParen, RParen, LBracket, RBracket, LBrace, RBrace, Comma, Dot, Arrow, AtAt, Bar, Backslash, Equal, Less, LessEq, Greater, GreaterEq, NumEq, NumNe, Differ, Plus, Minus, Star, Slash}
 use Rattle.lmn_lexer.specs.declared.token.Token.{Token}
 use Rattle.lmn_parser.specs.Parsing.{kinds_of}
-use Rattle.lmn_parser.specs.Syntax.{Expr, integer, value, operation, WrittenCondition, called, compared, equal, different, Term, link, atom, list, list_onto, context, membrane, Terms, no_term, term_and, Item, atom_item, membrane_item, context_item, bracketed, rule_context, plus_link, group, equation, Items, no_item, item_and, Clause, process, rule, Clauses, no_clause, clause_and}
+use Rattle.lmn_parser.specs.Syntax.{Expr, integer, value, operation, WrittenCondition, called, compared, equal, different, Term, link, atom, list, list_onto, context, membrane, Terms, no_term, term_and, Item, atom_item, membrane_item, context_item, closed_item, bracketed, rule_context, plus_link, group, equation, Items, no_item, item_and, Clause, process, rule, Clauses, no_clause, clause_and}
 
 -- the token with this number has this kind
 abbrev pub At : List Token → ℕ → Kind → Type 0
@@ -127,11 +127,12 @@ mutual
     last_item : {x : Item} {p q : ℕ} → IsItem ts x p q → IsList ts (item_and x no_item) p q
     more_items : {x : Item} {xs : Items} {p m q : ℕ} → IsItem ts x p m → At ts m Comma → IsList ts xs (m + 1) q → IsList ts (item_and x xs) p q
 
-  -- item = atom | membrane | CONTEXT | CONTEXT "[" LINK "]" | RULECTX | "+" LINK | "(" clause ")" | term "=" term
+  -- item = atom | membrane | CONTEXT | CONTEXT "[" [ LINK ] "]" | RULECTX | "+" LINK | "(" clause ")" | term "=" term
   pub data IsItem (ts : List Token) : Item → ℕ → ℕ → Type 0 where
     is_atom_item : {xs : Terms} {n p q : ℕ} → IsWrittenAtom ts n xs p q → IsItem ts (atom_item n xs) p q
     is_membrane_item : {cs : Clauses} {p q : ℕ} → IsMembrane ts cs p q → IsItem ts (membrane_item cs) p q
     is_context_item : {p : ℕ} → At ts p Context → IsItem ts (context_item p) p (p + 1)
+    is_closed : {p : ℕ} → At ts p Context → At ts (p + 1) LBracket → At ts (p + 2) RBracket → IsItem ts (closed_item p) p (p + 3)
     is_bracketed : {p : ℕ} → At ts p Context → At ts (p + 1) LBracket → At ts (p + 2) Link → At ts (p + 3) RBracket → IsItem ts (bracketed p (p + 2)) p (p + 4)
     is_rule_context : {p : ℕ} → At ts p RuleCtx → IsItem ts (rule_context p) p (p + 1)
     is_plus_link : {p : ℕ} → At ts p Plus → At ts (p + 1) Link → IsItem ts (plus_link p) p (p + 2)

@@ -1,7 +1,7 @@
 //! The laws of trees.
 
 ghost use Rattle.lmn_parser.specs.Readings.{CutTextsEnd, OneReading};
-ghost use Rattle.lmn_parser.specs.TreeExamples.{KeptHead, NamedRule, NestedParts};
+ghost use Rattle.lmn_parser.specs.TreeExamples.{Contexts, KeptHead, NamedRule, NestedParts};
 ghost use Rattle.lmn_parser.specs.TreeLaws.{DerivedIsTree, FittingIsWithin, OneProgram, TreesDerive, TreesFit};
 
 /// Tokens that are a tree are a program of the grammar, and tokens that are a program are a tree.
@@ -27,6 +27,7 @@ pub fn tree_examples()
     ensures kept_head { KeptHead }
     ensures named_rule { NamedRule }
     ensures nested_parts { NestedParts }
+    ensures contexts { Contexts }
 {}
 
 /// A text reads as one tree at most.

@@ -146,6 +146,9 @@ fn context(alloc: Global, tokens: &[PackedToken], at: usize) -> Result<(Item, us
     ensures tree { IfOk result (λ r. IsItem tokens.now (item_of r.0) at r.1) }
 {
     if is_at(tokens, at + 1, Kind::LBracket) {
+        if is_at(tokens, at + 2, Kind::RBracket) {
+            return Ok((Item::Closed(at), at + 3));
+        }
         let end = expect(tokens, at + 2, Kind::Link)?;
         let after = expect(tokens, end, Kind::RBracket)?;
         return Ok((Item::Bracketed(at, at + 2), after));

@@ -43,6 +43,8 @@ pub enum Item {
     Membrane(Rows<Clause>),
     /// A process context without brackets.
     Context(usize),
+    /// A context whose brackets are empty.
+    Closed(usize),
     /// A context, and the link in its brackets.
     Bracketed(usize, usize),
     /// A rule context.

@@ -18,7 +18,7 @@ use Rattle.lmn_lexer.proofs.OneCut.{Step, gap_step, step_longer, step_of, token_
 use Rattle.lmn_lexer.proofs.Places.{place-append}
 use Rattle.lmn_lexer.proofs.Runs.{count-cons}
 use Rattle.lmn_parser.specs.Syntax.{Term, Terms, Item, Items, Clause, Clauses, WrittenCondition}
-use Rattle.lmn_parser.specs.Trees.{IsClauses, no_clauses, last_clause, more_clauses, IsClause, named_rule, unnamed_rule, is_process, IsWrittenRule, is_rule, IsHeads, all_taken, some_kept, IsBody, no_guard, empty_guard, guarded, IsOptList, no_list, some_list, IsList, last_item, more_items, IsItem, is_atom_item, is_membrane_item, is_context_item, is_bracketed, is_rule_context, is_plus_link, is_group, is_equation, IsMembrane, in_braces, IsWrittenAtom, with_name, with_integer, IsArguments, no_parentheses, no_arguments, some_arguments, IsTerms, last_term, more_terms, IsTerm, is_link, is_atom, is_context, is_membrane, is_list, IsTermList, empty_list, closed_list, open_list, StandsAt}
+use Rattle.lmn_parser.specs.Trees.{IsClauses, no_clauses, last_clause, more_clauses, IsClause, named_rule, unnamed_rule, is_process, IsWrittenRule, is_rule, IsHeads, all_taken, some_kept, IsBody, no_guard, empty_guard, guarded, IsOptList, no_list, some_list, IsList, last_item, more_items, IsItem, is_atom_item, is_membrane_item, is_context_item, is_bracketed, is_closed, is_rule_context, is_plus_link, is_group, is_equation, IsMembrane, in_braces, IsWrittenAtom, with_name, with_integer, IsArguments, no_parentheses, no_arguments, some_arguments, IsTerms, last_term, more_terms, IsTerm, is_link, is_atom, is_context, is_membrane, is_list, IsTermList, empty_list, closed_list, open_list, StandsAt}
 use Rattle.lmn_plain.specs.Expanded.{ExpandedRule}
 use Rattle.lmn_plain.specs.Expansion.{cells, expanded_clause, expanded_clauses, expanded_item, expanded_items, expanded_term, expanded_terms}
 use Rattle.lmn_plain.specs.Laws.{RulesByRisingPlace}
@@ -221,6 +221,7 @@ module _ (words : List Word) (places : List Pos) {ts : List Token} where
     item_stands (is_membrane_item h) way k = membrane_stands h way k
     item_stands (is_context_item a) way k = none_stands (omega arith)
     item_stands (is_bracketed a b c d) way k = none_stands (omega arith)
+    item_stands (is_closed a b c) way k = none_stands (omega arith)
     item_stands (is_rule_context a) way k = none_stands (omega arith)
     item_stands (is_plus_link a b) way k = none_stands (omega arith)
     item_stands (is_group a h b) way k = wider (clause_stands h way k) (omega arith) (omega arith)

@@ -15,10 +15,10 @@ use Rattle.lmn_base.specs.declared.refusal.Pos.{Pos}
 use Rattle.lmn_base.specs.declared.level.CtxUse.{CtxUse}
 use Rattle.lmn_base.specs.declared.level.Occ.{Occ}
 use Rattle.lmn_congruence.specs.Rules as tree
-use Rattle.lmn_congruence.specs.Translation.{name_of, names_of, atom_or_connector, label_of, comparison_of, condition_of, expression_of, kind_of}
-use Rattle.lmn_plain.specs.Words.{text_of, piece_text, with_commas, label_piece, name_piece, link_name, link_piece, links_pieces, context_piece, contexts_pieces, leaf_pieces, side_pieces, comparison_pieces, condition_pieces, guard_pieces}
+use Rattle.lmn_congruence.specs.Translation.{name_of, names_of, context_with, context_tree, atom_or_connector, label_of, comparison_of, condition_of, expression_of, kind_of}
+use Rattle.lmn_plain.specs.Words.{text_of, piece_text, with_commas, label_piece, name_piece, link_name, link_piece, links_pieces, context_piece, untyped_pieces, contexts_pieces, leaf_pieces, side_pieces, comparison_pieces, condition_pieces, guard_pieces}
 use Rattle.lmn_plain.specs.Labels.{label_text}
-use Rattle.lmn_printer.specs.Parts.{condition_text, context_text, makes_connector, leaf_text}
+use Rattle.lmn_printer.specs.Parts.{condition_text, context_text, untyped_text, makes_connector, leaf_text}
 use Rattle.lmn_printer.specs.Rows.{in_row}
 use Rattle.lmn_printer.proofs.RowLemmas.{comma_row}
 use Rattle.lmn_plain.proofs.LaidLines.{text_append}
@@ -77,6 +77,18 @@ links_text o os all e =
 pub contexts_row : (names : List tree.Name) (us : List CtxUse) → map text_of (map (λ m. context_piece m ∷ []) (names_of names us)) ≡ map (context_text names (codes "$")) us
 contexts_row names [] = refl
 contexts_row names (u ∷ us) = ap (λ t. t ∷ map text_of (map (λ m. context_piece m ∷ []) (names_of names us))) (append-nil (36 ∷ name_of names u.name)) ∙ ap (λ ts. context_text names (codes "$") u ∷ ts) (contexts_row names us)
+
+one_untyped : (closed : Bool) (name : tree.Name) → text_of (untyped_pieces (context_with closed name)) ≡ codes "$" ++ name ++ (if closed then codes "[]" else [])
+one_untyped true name = refl
+one_untyped false name = refl
+
+-- contexts, open and closed
+pub untyped_row : (names : List tree.Name) (us : List CtxUse) → map text_of (map untyped_pieces (map (context_tree names) us)) ≡ map (untyped_text names) us
+untyped_row names [] = refl
+untyped_row names (u ∷ us) = cons _ _ _ _ (one_untyped u.closed (name_of names u.name)) (untyped_row names us)
+  where
+    cons : (a b : List ℕ) (ts us : List (List ℕ)) → a ≡ b → ts ≡ us → a ∷ ts ≡ b ∷ us
+    cons a b ts us e f = cc
 
 arguments_text : (names : List tree.Name) (u : CtxUse) (us all : List CtxUse) → all ≡ u ∷ us
     → codes "(" ++ (in_row (codes ", ") false (map (context_text names (codes "$")) all) ++ codes ")") ≡ text_of (contexts_pieces (names_of names all))

@@ -9,17 +9,17 @@ use Rattle.lmn_base.specs.declared.level.Level.{Level, out-Level}
 use Rattle.lmn_base.specs.declared.level.Level.TheFolds.{fold_out-Level}
 use Rattle.lmn_base.specs.declared.rule.RuleTree.{RuleTree}
 use Rattle.lmn_congruence.specs.Rules as tree
-use Rattle.lmn_congruence.specs.Translation.{name_of, names_of, leaf_of, levels, rules, level_of, level_step, condition_of, rules_from, rule_tree, no_such_rule}
+use Rattle.lmn_congruence.specs.Translation.{name_of, names_of, context_tree, leaf_of, levels, rules, level_of, level_step, condition_of, rules_from, rule_tree, no_such_rule}
 use Rattle.lmn_io.specs.Gathering.{SinkState, Adds}
 use Rattle.lmn_io.proofs.TakingLemmas.{adds_as, adds_more}
-use Rattle.lmn_plain.specs.Words.{Piece, text_of, with_commas, context_piece, rule_context_piece, leaf_pieces, level_pieces, levels_pieces, rule_pieces, rules_pieces, guard_pieces}
-use Rattle.lmn_printer.specs.Parts.{context_text, leaf_text, rule_from, level_in, rule_text}
+use Rattle.lmn_plain.specs.Words.{Piece, text_of, with_commas, untyped_pieces, rule_context_piece, leaf_pieces, level_pieces, levels_pieces, rule_pieces, rules_pieces, guard_pieces}
+use Rattle.lmn_printer.specs.Parts.{context_text, untyped_text, leaf_text, rule_from, level_in, rule_text}
 use Rattle.lmn_printer.specs.Rows.{in_row, any_behind}
 use Rattle.lmn_printer.proofs.RowLemmas.{row_append, any_map, comma_row}
 use Rattle.lmn_plain.proofs.LaidLines.{text_append}
 use Rattle.lmn_base.proofs.Common.{levels_in, membrane_smaller}
 use Rattle.lmn_base.proofs.Lists.{map_twice as map_map}
-use Rattle.lmn_printer.proofs.LeafLemmas.{contexts_row as contexts_text}
+use Rattle.lmn_printer.proofs.LeafLemmas.{untyped_row}
 
 -- a membrane in braces
 abbrev pub membrane_text : tree.Level → List ℕ
@@ -65,24 +65,24 @@ pub level_text : (names : List tree.Name) (rule : ℕ → tree.Rule) (l : Level)
     let m = any_behind false o.leaves in let n = any_behind m o.membranes in let p = any_behind n o.contexts in let q = any_behind p o.rule_contexts in
     text_of (with_commas (level_pieces (level_of names rule l)))
     ≡ in_row s false (map (leaf_text names) o.leaves) ++ (in_row s m (map (λ x. membrane_text (level_of names rule x)) o.membranes)
-    ++ (in_row s n (map (context_text names (codes "$")) o.contexts) ++ (in_row s p (map (context_text names (codes "@")) o.rule_contexts)
+    ++ (in_row s n (map (untyped_text names) o.contexts) ++ (in_row s p (map (context_text names (codes "@")) o.rule_contexts)
     ++ in_row s q (map (λ k. text_of (rule_pieces (rule k))) o.rules))))
 level_text names rule l =
     let s = codes ", " in let o = out-Level l in
-    let out : level_of names rule l ≡ tree.level (map (leaf_of names) o.leaves) (levels (map (level_of names rule) o.membranes)) (names_of names o.contexts) (names_of names o.rule_contexts) (rules (map rule o.rules)) =
+    let out : level_of names rule l ≡ tree.level (map (leaf_of names) o.leaves) (levels (map (level_of names rule) o.membranes)) (map (context_tree names) o.contexts) (names_of names o.rule_contexts) (rules (map rule o.rules)) =
     fold_out-Level tree.Level (level_step names rule) l in
     let a = map leaf_pieces (map (leaf_of names) o.leaves) in
     let b = levels_pieces (levels (map (level_of names rule) o.membranes)) in
-    let c = map (λ n. context_piece n ∷ []) (names_of names o.contexts) in
+    let c = map untyped_pieces (map (context_tree names) o.contexts) in
     let d = map (λ n. rule_context_piece n ∷ []) (names_of names o.rule_contexts) in
     let e = rules_pieces (rules (map rule o.rules)) in
     let ma : (any : Bool) → any_behind any a ≡ any_behind any o.leaves = λ any. any_map leaf_pieces any (map (leaf_of names) o.leaves) ∙ any_map (leaf_of names) any o.leaves in
     let mb : (any : Bool) → any_behind any b ≡ any_behind any o.membranes = λ any. any_levels any (map (level_of names rule) o.membranes) ∙ any_map (level_of names rule) any o.membranes in
-    let mc : (any : Bool) → any_behind any c ≡ any_behind any o.contexts = λ any. any_map (λ n. context_piece n ∷ []) any (names_of names o.contexts) ∙ any_map (λ (u : CtxUse). name_of names u.name) any o.contexts in
+    let mc : (any : Bool) → any_behind any c ≡ any_behind any o.contexts = λ any. any_map untyped_pieces any (map (context_tree names) o.contexts) ∙ any_map (context_tree names) any o.contexts in
     let md : (any : Bool) → any_behind any d ≡ any_behind any o.rule_contexts = λ any. any_map (λ n. rule_context_piece n ∷ []) any (names_of names o.rule_contexts) ∙ any_map (λ (u : CtxUse). name_of names u.name) any o.rule_contexts in
     let ta : map text_of a ≡ map (leaf_text names) o.leaves = map_map text_of leaf_pieces (map (leaf_of names) o.leaves) ∙ map_map (λ x. text_of (leaf_pieces x)) (leaf_of names) o.leaves in
     let tb : map text_of b ≡ map (λ x. membrane_text (level_of names rule x)) o.membranes = membranes_text (map (level_of names rule) o.membranes) ∙ map_map membrane_text (level_of names rule) o.membranes in
-    let tc = contexts_text names o.contexts in
+    let tc = untyped_row names o.contexts in
     let td = rule_contexts_text names o.rule_contexts in
     let te : map text_of e ≡ map (λ k. text_of (rule_pieces (rule k))) o.rules = rules_text (map rule o.rules) ∙ map_map (λ r. text_of (rule_pieces r)) rule o.rules in
     let m = any_behind false o.leaves in let n = any_behind m o.membranes in let p = any_behind n o.contexts in let q = any_behind p o.rule_contexts in
@@ -211,7 +211,7 @@ pub level_written : (names : List tree.Name) (first : ℕ) (table : List RuleTre
     → m ≡ any_behind false ls → n ≡ any_behind m ms → p ≡ any_behind n cs → q ≡ any_behind p ds
     → Adds (in_row s false (map (leaf_text names) ls)) o0 o1
     → Adds (in_row s m (map (λ x. membrane_text (level_in names first table x)) ms)) o1 o2
-    → Adds (in_row s n (map (context_text names (codes "$")) cs)) o2 o3
+    → Adds (in_row s n (map (untyped_text names) cs)) o2 o3
     → Adds (in_row s p (map (context_text names (codes "@")) ds)) o3 o4
     → Adds (in_row s q (map (rule_text names first table) rs)) o4 o5
     → Adds (text_of (with_commas (level_pieces (level_in names first table l)))) o0 o5
@@ -220,7 +220,7 @@ level_written names first table l ls ms cs ds rs m n p q o0 o1 o2 o3 o4 o5 els e
     let o = out-Level l in
     let f1 = leaf_text names in
     let f2 = λ (x : Level). membrane_text (level_in names first table x) in
-    let f3 = context_text names (codes "$") in
+    let f3 = untyped_text names in
     let f4 = context_text names (codes "@") in
     let f5 = rule_text names first table in
     let m' = any_behind false o.leaves in let n' = any_behind m' o.membranes in let p' = any_behind n' o.contexts in let q' = any_behind p' o.rule_contexts in

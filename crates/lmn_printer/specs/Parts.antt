@@ -1,5 +1,5 @@
 -- The parts of a rule as they are printed. Contracts of this crate's own functions alone cite these words.
-use Rattle.std.specs.Prelude.{ℕ, ◌-◌, ◌==◌, ◌&&◌, Bool, false, List, ◌++◌, drop, slice_index_or}
+use Rattle.std.specs.Prelude.{ℕ, ◌-◌, ◌==◌, ◌&&◌, Bool, false, if◌then◌else◌, List, [], ◌++◌, codes, drop, slice_index_or}
 use Rattle.lmn_base.specs.declared.functor.Label.{Label}
 use Rattle.lmn_base.specs.declared.functor.Label.TheVariants.{Name, Int}
 use Rattle.lmn_base.specs.declared.guard.Cond.{Cond}
@@ -25,6 +25,10 @@ condition_text names cond = text_of (condition_pieces (condition_of names cond))
 -- a context or a rule context, by the sign before its name
 abbrev pub context_text : List tree.Name → List ℕ → CtxUse → List ℕ
 context_text names sign u = sign ++ name_of names u.name
+
+-- a context, open or closed
+abbrev pub untyped_text : List tree.Name → CtxUse → List ℕ
+untyped_text names u = context_text names (codes "$") u ++ (if u.closed then codes "[]" else [])
 
 -- The rule with a number, where rules below `first` are left out of the table: such a number stands for the rule `first`, as
 -- the rules that stand in a rule are read.

@@ -3,7 +3,7 @@ ghost use Rattle.std.specs.Prelude.{◌≡◌, false, map, codes};
 ghost use Rattle.lmn_io.specs.Gathering.{Adds, output};
 ghost use Rattle.lmn_congruence.specs.Translation.{atom_or_connector, names_of};
 ghost use Rattle.lmn_plain.specs.Words.{contexts_pieces, leaf_pieces, links_pieces, text_of};
-ghost use Rattle.lmn_printer.specs.Parts.{context_text, makes_connector, leaf_text};
+ghost use Rattle.lmn_printer.specs.Parts.{context_text, makes_connector, leaf_text, untyped_text};
 ghost use Rattle.lmn_printer.specs.Rows.{any_behind, between_if, in_row};
 ghost use Rattle.lmn_base.specs.Levels.{link_numbers};
 
@@ -140,4 +140,35 @@ pub(crate) fn add_contexts<O: Sink>(
         any = true;
     }
     any
+}
+
+/// Adds contexts, open and closed, behind other items, of which there are some or not, and answers whether an item
+/// stands now.
+pub(crate) fn add_untyped<O: Sink>(
+    buffer: &mut LineBuffer,
+    out: &mut O,
+    names: &Names,
+    before: bool,
+    uses: &[CtxUse],
+) -> bool
+    ensures text { Adds (in_row (codes ", ") before (map (untyped_text names.now) uses.now)) (output buffer.old (O.told out.old) (O.faults out.old)) (output buffer.new (O.told out.new) (O.faults out.new)) }
+    ensures any { result ≡ any_behind before uses.now }
+{
+    let mut any = before;
+    for use_ in uses {
+        add_between(buffer, out, any, b", ");
+        add_open_or_closed(buffer, out, names, use_);
+        any = true;
+    }
+    any
+}
+
+/// Adds a context, with empty brackets behind it where it is closed.
+fn add_open_or_closed<O: Sink>(buffer: &mut LineBuffer, out: &mut O, names: &Names, use_: &CtxUse)
+    ensures { Adds (untyped_text names.now use_.now) (output buffer.old (O.told out.old) (O.faults out.old)) (output buffer.new (O.told out.new) (O.faults out.new)) }
+{
+    add_context(buffer, out, names, b"$", use_.name);
+    if use_.closed {
+        buffer.add(out, b"[]");
+    }
 }

@@ -7,7 +7,7 @@ ghost use Rattle.lmn_plain.specs.Words.{level_pieces, rule_pieces, text_of, with
 ghost use Rattle.lmn_printer.specs.Parts.{level_in, rule_text};
 
 use crate::guard::add_guard;
-use crate::leaves::{add_between, add_contexts, add_leaves};
+use crate::leaves::{add_between, add_contexts, add_leaves, add_untyped};
 use lmn_base::{Level, Names, RuleTree};
 use lmn_io::{LineBuffer, Sink};
 
@@ -88,7 +88,7 @@ fn add_level<O: Sink>(
         buffer.add(out, b"}");
         any = true;
     }
-    let contexts = add_contexts(buffer, out, names, any, b"$", level.contexts.as_slice());
+    let contexts = add_untyped(buffer, out, names, any, level.contexts.as_slice());
     let before = add_contexts(
         buffer,
         out,

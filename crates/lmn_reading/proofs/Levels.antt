@@ -3,7 +3,6 @@ use Rattle.std.proofs.Common.{◌≡◌, List, [], ◌∷◌, ◌++◌, map, All
 use Rattle.std.specs.List.{flat_map}
 use Rattle.std.proofs.lemmas.List.Concat.{flat_map-append}
 use Rattle.std.proofs.lemmas.List.Elements.{All-append, All-cons, All-nil}
-use Rattle.lmn_base.specs.declared.item.Form.TheVariants as form
 use Rattle.lmn_base.specs.declared.item.Item.{Item}
 use Rattle.lmn_base.specs.declared.item.Item.TheVariants as item
 use Rattle.lmn_base.specs.declared.level.CtxUse.{CtxUse}
@@ -11,7 +10,7 @@ use Rattle.lmn_base.specs.declared.level.Leaf.{Leaf}
 use Rattle.lmn_base.specs.declared.level.Leaf.TheVariants.{Atom, Typed}
 use Rattle.lmn_base.specs.declared.level.Level.{Level}
 use Rattle.lmn_base.specs.declared.level.Level.TheFolds.{fold-roll-Level, ind-Level}
-use Rattle.lmn_base.specs.Items.{items_of, leaf_item, own_items, used}
+use Rattle.lmn_base.specs.Items.{items_of, leaf_item, own_items, untyped}
 use Rattle.lmn_base.specs.Levels.{contexts_of, leaves_of, rule_contexts_of}
 use Rattle.lmn_base.specs.WellMade.{IsAtomLeaf}
 use Rattle.lmn_numbering.specs.Outside.{context_place, context_places}
@@ -29,7 +28,7 @@ only_atoms [] e = All-nil IsAtomLeaf
 only_atoms (Atom functor links pos ∷ ls) e = All-cons IsAtomLeaf (Atom functor links pos) ls tt (only_atoms ls e)
 only_atoms (Typed name link pos ∷ ls) e = absurd (cc)
 
-no_uses : (us : List CtxUse) → flat_map context_place (map (used form.Bare) us) ≡ [] → us ≡ []
+no_uses : (us : List CtxUse) → flat_map context_place (map untyped us) ≡ [] → us ≡ []
 no_uses [] e = refl
 no_uses (u ∷ us) e = absurd (cc)
 
@@ -65,8 +64,8 @@ no_context = ind-Level NoneHere (λ y z is h.
     let a = split (own_items y) (flat_map (λ inner. inner) (map items_of y.membranes))
     (ap (flat_map context_place) (sym (fold-roll-Level (List Item) (λ l. own_items l ++ flat_map (λ inner. inner) l.membranes) y)) ∙ h) in
     let inside = subst (λ l. flat_map context_place (flat_map (λ inner. inner) (map items_of l.membranes)) ≡ [] → Below l.membranes) is (below z.membranes) a.1 in
-    let b = split (map leaf_item y.leaves) (map (used form.Bare) y.contexts ++ (map item.RuleContext y.rule_contexts ++ map item.Rule y.rules)) a.0 in
-    let c = split (map (used form.Bare) y.contexts) (map item.RuleContext y.rule_contexts ++ map item.Rule y.rules) b.1 in
+    let b = split (map leaf_item y.leaves) (map untyped y.contexts ++ (map item.RuleContext y.rule_contexts ++ map item.Rule y.rules)) a.0 in
+    let c = split (map untyped y.contexts) (map item.RuleContext y.rule_contexts ++ map item.Rule y.rules) b.1 in
     let d = split (map item.RuleContext y.rule_contexts) (map item.Rule y.rules) c.1 in
     let P : List Leaf → Type 0 = All IsAtomLeaf in
     record {

@@ -9,7 +9,7 @@ use Rattle.lmn_lexer.specs.declared.token.Kind.{Kind}
 use Rattle.lmn_lexer.specs.declared.token.Kind.TheVariants as kind
 use Rattle.lmn_lexer.specs.declared.token.Token.{Token}
 use Rattle.lmn_parser.specs.Syntax.{Expr, integer, value, operation, WrittenCondition, called, compared, equal, different, Term, Terms, Item, Items, Clause, Clauses}
-use Rattle.lmn_parser.specs.Trees.{At, NameAt, IsSum, one_product, plus, IsProduct, one_factor, times, IsFactor, is_integer, is_value, in_parentheses, IsContexts, last_context, more_contexts, IsContextArguments, no_contexts, some_contexts, IsCondition, is_called, is_compared, is_equal, is_different, IsWrittenGuard, last_condition, more_conditions, IsClauses, no_clauses, last_clause, more_clauses, IsClause, named_rule, unnamed_rule, is_process, IsWrittenRule, is_rule, IsHeads, all_taken, some_kept, IsBody, no_guard, empty_guard, guarded, IsOptList, no_list, some_list, IsList, last_item, more_items, IsItem, is_atom_item, is_membrane_item, is_context_item, is_bracketed, is_rule_context, is_plus_link, is_group, is_equation, IsMembrane, in_braces, IsWrittenAtom, with_name, with_integer, IsArguments, no_parentheses, no_arguments, some_arguments, IsTerms, last_term, more_terms, IsTerm, is_link, is_atom, is_context, is_membrane, is_list, IsTermList, empty_list, closed_list, open_list}
+use Rattle.lmn_parser.specs.Trees.{At, NameAt, IsSum, one_product, plus, IsProduct, one_factor, times, IsFactor, is_integer, is_value, in_parentheses, IsContexts, last_context, more_contexts, IsContextArguments, no_contexts, some_contexts, IsCondition, is_called, is_compared, is_equal, is_different, IsWrittenGuard, last_condition, more_conditions, IsClauses, no_clauses, last_clause, more_clauses, IsClause, named_rule, unnamed_rule, is_process, IsWrittenRule, is_rule, IsHeads, all_taken, some_kept, IsBody, no_guard, empty_guard, guarded, IsOptList, no_list, some_list, IsList, last_item, more_items, IsItem, is_atom_item, is_membrane_item, is_context_item, is_closed, is_bracketed, is_rule_context, is_plus_link, is_group, is_equation, IsMembrane, in_braces, IsWrittenAtom, with_name, with_integer, IsArguments, no_parentheses, no_arguments, some_arguments, IsTerms, last_term, more_terms, IsTerm, is_link, is_atom, is_context, is_membrane, is_list, IsTermList, empty_list, closed_list, open_list}
 use Rattle.lmn_plain.specs.Links.{Link, Use, made}
 use Rattle.lmn_plain.specs.Expanded.{ExpandedLeaf, atom_leaf, typed_leaf, Context, ExpandedLevel, level, ExpandedLevels, no_level, level_and, expanded_levels, ExpandedRule, renamed_leaf, renamed_level, all_renamed}
 use Rattle.lmn_plain.specs.Parts.{Parts, no_parts, joined_parts, level_from_parts, NumberedParts, ◌⊕◌, one_leaf, fresh_copy, rule_of_parts}
@@ -255,6 +255,7 @@ module _ (Named : Name → Type 0) where
         item_named (is_atom_item {n = n} h) way k = then_named _ _ (λ m. leaf_named m _ (label_of_atom h)) (atom_named h (place_at words places n) way) k
         item_named (is_membrane_item h) way k = membrane_of_named _ (membrane_named h way k)
         item_named (is_context_item {p = p} a) way k = record { leaves = tt; membranes = tt; contexts = (context_here p a, tt); rule_contexts = tt; table = tt }
+        item_named (is_closed {p = p} a b c) way k = record { leaves = tt; membranes = tt; contexts = (context_here p a, tt); rule_contexts = tt; table = tt }
         item_named (is_bracketed {p = p} a b c d) way k = leaf_named k _ (context_here p a)
         item_named (is_rule_context {p = p} a) way k =
             record { leaves = tt; membranes = tt; contexts = tt; rule_contexts = (held.name p kind.RuleCtx a refl, tt); table = tt }

@@ -74,6 +74,8 @@ pub enum Code {
     TypedContextNotHeld,
     /// The process of the text has more items than there may be.
     ProcessTooLarge,
+    /// A context is closed, which no code runs yet.
+    ClosedContext,
 }
 
 impl Code {
@@ -116,6 +118,7 @@ impl Code {
             Code::ContextInTwoForms => 45,
             Code::TypedContextNotHeld => 46,
             Code::ProcessTooLarge => 50,
+            Code::ClosedContext => 90,
         }
     }
 
@@ -158,6 +161,7 @@ impl Code {
             Code::ContextInTwoForms => b"context in two forms",
             Code::TypedContextNotHeld => b"typed context not held",
             Code::ProcessTooLarge => b"process too large",
+            Code::ClosedContext => b"closed context not run yet",
         }
     }
 
@@ -200,6 +204,7 @@ impl Code {
             45 => Some(Code::ContextInTwoForms),
             46 => Some(Code::TypedContextNotHeld),
             50 => Some(Code::ProcessTooLarge),
+            90 => Some(Code::ClosedContext),
             _ => None,
         }
     }

@@ -1,12 +1,12 @@
 -- The derivations of the examples.
-use Rattle.std.proofs.Common.{ℕ, suc, ◌≡◌, ◌≢◌, ◌+◌, ◌^◌, ◌<ℤ◌, ℤ, Bool, true, false, cond, eqb, List, [], ◌∷◌, map, refl, sym, ◌∙◌, ap, arith, pos, negsuc}
+use Rattle.std.proofs.Common.{ℕ, suc, ◌≡◌, ◌≢◌, ◌+◌, ◌^◌, ◌<ℤ◌, ℤ, Bool, true, false, cond, eqb, inl, List, [], ◌∷◌, map, refl, sym, ◌∙◌, ap, arith, pos, negsuc}
 use Rattle.lmn_congruence.specs.Orders.{Among, at_head, further, here, there, Shuffle, none, more}
-use Rattle.lmn_congruence.specs.Process.{Process, nothing, connector, atom, pair, membrane, rule, Linked, Free, OneToOneOn, together}
+use Rattle.lmn_congruence.specs.Process.{Process, nothing, connector, atom, pair, membrane, rule, Linked, Free, OneToOneOn, occurrences, together}
 use Rattle.lmn_congruence.specs.Congruence.{swap, same, back}
-use Rattle.lmn_congruence.specs.Rules.{Name, Label, named, integer, Rule, head_of, Expression, number, operation, over, modulo}
+use Rattle.lmn_congruence.specs.Rules.{Name, Context, open_context, closed_context, Label, named, integer, Rule, head_of, Expression, number, operation, over, modulo}
 use Rattle.lmn_reduction.specs.Parts.{Rooted, IsGround, EqualParts, ReachesLink, the_root, across, an_integer, atoms_at_top}
 use Rattle.lmn_reduction.specs.Assignments.{Assignment, NoRuleAtTop}
-use Rattle.lmn_reduction.specs.Instances.{IsCopy, instance, no_leaf, leaf_and, of_atom, of_connector, of_typed, no_membrane, membrane_and}
+use Rattle.lmn_reduction.specs.Instances.{ContextInstances, IsClosedCopy, IsCopy, instance, no_context, context_and, of_open, of_closed, no_leaf, leaf_and, of_atom, of_connector, of_typed, no_membrane, membrane_and}
 use Rattle.lmn_guards.specs.Values.{of_number, of_context, of_operation, InRange}
 use Rattle.lmn_reduction.specs.Values.{Value}
 use Rattle.lmn_reduction.specs.Guards.{no_condition, condition_and, binds, of_kind}
@@ -14,7 +14,7 @@ use Rattle.lmn_reduction.specs.Firing.{Fires, fires, typed_contexts}
 use Rattle.lmn_reduction.specs.Steps.{Step, SettlingStep, leaf, beside as derived_beside, up_to, out, into}
 use Rattle.lmn_reduction.specs.Commits.{Commit, already, step_and}
 use Rattle.lmn_congruence.specs.Fused.{NoConnector}
-use Rattle.lmn_reduction.specs.Examples.{label_a, label_b, label_c, label_p, int, letter_z, two_make_b, TwoMakeOne, join_in_c, LinkMeetsItself, ConnectorLeaves, LoopVanishes, QuotientsAndRemainders, add_up, SumIsBound, b_makes_c, double_rules, RulesAreCopied, least, LeastByMinusOne, NothingByZero, tie_ends, LoopIsLeft, open_both, LinkIsShared, double_part, PartIsCopied, straight, turned_round, crossed, PortsAreTold, two_parts, NotGround}
+use Rattle.lmn_reduction.specs.Examples.{label_a, label_b, label_c, label_p, int, letter_z, two_make_b, TwoMakeOne, join_in_c, LinkMeetsItself, ConnectorLeaves, LoopVanishes, QuotientsAndRemainders, add_up, SumIsBound, b_makes_c, double_rules, RulesAreCopied, least, LeastByMinusOne, NothingByZero, tie_ends, LoopIsLeft, open_both, LinkIsShared, double_part, PartIsCopied, double_rest, RestIsCopied, drop_rest, RestIsDropped, straight, turned_round, crossed, PortsAreTold, two_parts, NotGround}
 use Rattle.lmn_congruence.proofs.Common.{nothing_among}
 use Rattle.lmn_reduction.proofs.SettledProcesses.{no_connector_settled}
 use Rattle.lmn_reduction.proofs.Derivations.{zero_not_one, linked_by, closed_by, regrouped, by_one_link}
@@ -27,6 +27,10 @@ commits {Q = Q} n l s = record { between = Q; step = s; settles = record { settl
 abbrev assigned : (ℕ → ℕ) → Process → List Rule → Assignment
 assigned f P rs = record { link_of = f; context_of = λ q. P; rules_of = λ q. rs; typed_of = λ q. record { process = atom label_a (0 ∷ []); root = 0 } }
 
+-- one open context
+abbrev one_open : {t : Assignment} {p : Name} → ContextInstances t (open_context p ∷ []) (t.context_of (open_context p) ∷ [])
+one_open = context_and of_open no_context
+
 -- an instance of a level of leaves has nothing else
 abbrev only : Process → Process
 only P = pair P (pair nothing (pair nothing (pair nothing nothing)))
@@ -37,11 +41,11 @@ two_fire : Fires two_make_b (only (together (atom label_a [] ∷ atom label_a []
 two_fire = record {
   matches = record {
     assignment = assigned (λ n. n) nothing [];
-    proper = record { links_differ = λ m n e. e; no_rule = λ q. tt; links_apart = λ q n. zero_not_one; root_is_free = λ q. refl };
+    proper = record { links_differ = λ m n e. e; no_rule = λ q. tt; links_apart = λ q n. zero_not_one; closed = λ q x. inl refl; root_is_free = λ q. refl };
     guard = no_condition;
-    head = instance (leaf_and of_atom (leaf_and of_atom no_leaf)) no_membrane;
+    head = instance (leaf_and of_atom (leaf_and of_atom no_leaf)) no_membrane no_context;
   };
-  body = instance (leaf_and of_atom no_leaf) no_membrane;
+  body = instance (leaf_and of_atom no_leaf) no_membrane no_context;
 }
 
 -- two equal atoms make one of another name
@@ -54,11 +58,11 @@ join_fires : Fires join_in_c (only (together (atom label_a (0 ∷ []) ∷ atom l
 join_fires = record {
   matches = record {
     assignment = assigned (λ n. n) nothing [];
-    proper = record { links_differ = λ m n e. e; no_rule = λ q. tt; links_apart = λ q n. zero_not_one; root_is_free = λ q. refl };
+    proper = record { links_differ = λ m n e. e; no_rule = λ q. tt; links_apart = λ q n. zero_not_one; closed = λ q x. inl refl; root_is_free = λ q. refl };
     guard = no_condition;
-    head = instance (leaf_and of_atom (leaf_and of_atom no_leaf)) no_membrane;
+    head = instance (leaf_and of_atom (leaf_and of_atom no_leaf)) no_membrane no_context;
   };
-  body = instance (leaf_and of_atom no_leaf) no_membrane;
+  body = instance (leaf_and of_atom no_leaf) no_membrane no_context;
 }
 
 -- `a(X), b(Y)` or `c(X,Y)` beside the rule, and `X=Y`
@@ -160,11 +164,11 @@ sum_fires : Fires add_up (only (together (atom label_p (0 ∷ []) ∷ atom (int 
 sum_fires = record {
   matches = record {
     assignment = sums;
-    proper = record { links_differ = λ m n e. e; no_rule = λ q. tt; links_apart = λ q n. zero_not_one; root_is_free = λ q. refl };
+    proper = record { links_differ = λ m n e. e; no_rule = λ q. tt; links_apart = λ q n. zero_not_one; closed = λ q x. inl refl; root_is_free = λ q. refl };
     guard = condition_and (binds z_is_bound (of_operation (of_context an_integer) (of_context an_integer) tt seven) an_integer) no_condition;
-    head = instance (leaf_and of_atom (leaf_and (of_typed (copied 3 0)) (leaf_and of_atom (leaf_and (of_typed (copied 4 1)) no_leaf)))) no_membrane;
+    head = instance (leaf_and of_atom (leaf_and (of_typed (copied 3 0)) (leaf_and of_atom (leaf_and (of_typed (copied 4 1)) no_leaf)))) no_membrane no_context;
   };
-  body = instance (leaf_and of_atom (leaf_and (of_typed (copied 7 2)) no_leaf)) no_membrane;
+  body = instance (leaf_and of_atom (leaf_and (of_typed (copied 7 2)) no_leaf)) no_membrane no_context;
 }
 
 -- a guard binds the sum of two integers
@@ -187,11 +191,11 @@ double_fires : Fires double_rules (one_inside (together (atom label_a [] ∷ [])
 double_fires = record {
   matches = record {
     assignment = assigned (λ n. n) (atom label_b []) (b_makes_c ∷ []);
-    proper = record { links_differ = λ m n e. e; no_rule = λ q. tt; links_apart = λ q n. zero_not_one; root_is_free = λ q. refl };
+    proper = record { links_differ = λ m n e. e; no_rule = λ q. tt; links_apart = λ q n. zero_not_one; closed = λ q x. inl refl; root_is_free = λ q. refl };
     guard = no_condition;
-    head = instance no_leaf (membrane_and (instance (leaf_and of_atom no_leaf) no_membrane) no_membrane);
+    head = instance no_leaf (membrane_and (instance (leaf_and of_atom no_leaf) no_membrane one_open) no_membrane) no_context;
   };
-  body = instance no_leaf (membrane_and (instance no_leaf no_membrane) no_membrane);
+  body = instance no_leaf (membrane_and (instance no_leaf no_membrane one_open) no_membrane) no_context;
 }
 
 -- a rule context that stands twice in the body is copied
@@ -235,11 +239,11 @@ tie_fires : Fires tie_ends (only (together (atom label_a (0 ∷ 1 ∷ []) ∷ []
 tie_fires = record {
   matches = record {
     assignment = assigned (λ n. n) nothing [];
-    proper = record { links_differ = λ m n e. e; no_rule = λ q. tt; links_apart = λ q n. zero_not_one; root_is_free = λ q. refl };
+    proper = record { links_differ = λ m n e. e; no_rule = λ q. tt; links_apart = λ q n. zero_not_one; closed = λ q x. inl refl; root_is_free = λ q. refl };
     guard = no_condition;
-    head = instance (leaf_and of_atom no_leaf) no_membrane;
+    head = instance (leaf_and of_atom no_leaf) no_membrane no_context;
   };
-  body = instance (leaf_and of_connector no_leaf) no_membrane;
+  body = instance (leaf_and of_connector no_leaf) no_membrane no_context;
 }
 
 -- `a(X,Y)` or `X=Y` beside the rule, and `X=Y`
@@ -258,10 +262,14 @@ loop_is_left =
 
 -- ---- `{{a(X)}, b(X)}. {{$p}, $q} :- $p, $q.`
 
+abbrev shared_context : Context → Process
+shared_context (open_context q) = cond (eqb (first_byte q) 112) (atom label_a (0 ∷ [])) (cond (eqb (first_byte q) 113) (atom label_b (0 ∷ [])) nothing)
+shared_context (closed_context q) = nothing
+
 shared : Assignment
 shared = record {
   link_of = λ n. suc n;
-  context_of = λ q. cond (eqb (first_byte q) 112) (atom label_a (0 ∷ [])) (cond (eqb (first_byte q) 113) (atom label_b (0 ∷ [])) nothing);
+  context_of = shared_context;
   rules_of = λ q. [];
   typed_of = λ q. record { process = atom label_a (0 ∷ []); root = 0 };
 }
@@ -273,17 +281,21 @@ unfolding shared
 open_fires = record {
   matches = record {
     assignment = shared;
-    proper = record { links_differ = λ m n e. omega (arith, e); no_rule = λ q. no_rule_in (eqb (first_byte q) 112) (eqb (first_byte q) 113); links_apart = λ q n. not_free (eqb (first_byte q) 112) (eqb (first_byte q) 113) n; root_is_free = λ q. refl };
+    proper = record { links_differ = λ m n e. omega (arith, e); no_rule = no_rule_at; links_apart = λ q n. not_free (eqb (first_byte q) 112) (eqb (first_byte q) 113) n; closed = λ q x. inl refl; root_is_free = λ q. refl };
     guard = no_condition;
-    head = instance no_leaf (membrane_and (instance no_leaf (membrane_and (instance no_leaf no_membrane) no_membrane)) no_membrane);
+    head = instance no_leaf (membrane_and (instance no_leaf (membrane_and (instance no_leaf no_membrane one_open) no_membrane) one_open) no_membrane) no_context;
   };
-  body = instance no_leaf no_membrane;
+  body = instance no_leaf no_membrane (context_and of_open one_open);
 }
   where
     no_rule_in : (i j : Bool) → NoRuleAtTop (cond i (atom label_a (0 ∷ [])) (cond j (atom label_b (0 ∷ [])) nothing))
     no_rule_in true j = tt
     no_rule_in false true = tt
     no_rule_in false false = tt
+
+    no_rule_at : (q : Context) → NoRuleAtTop (shared_context q)
+    no_rule_at (open_context q) = no_rule_in (eqb (first_byte q) 112) (eqb (first_byte q) 113)
+    no_rule_at (closed_context q) = tt
 
     not_free : (i j : Bool) (n : ℕ) → ¬ (Free (suc n) (cond i (atom label_a (0 ∷ [])) (cond j (atom label_b (0 ∷ [])) nothing)))
     not_free true j n e = grind (arith, e)
@@ -323,11 +335,11 @@ double_part_fires : Fires double_part (only (together (atom label_a (0 ∷ []) �
 double_part_fires = record {
   matches = record {
     assignment = record { link_of = λ n. n; context_of = λ q. nothing; rules_of = λ q. []; typed_of = λ q. looped };
-    proper = record { links_differ = λ m n e. e; no_rule = λ q. tt; links_apart = λ q n. zero_not_one; root_is_free = λ q. refl };
+    proper = record { links_differ = λ m n e. e; no_rule = λ q. tt; links_apart = λ q n. zero_not_one; closed = λ q x. inl refl; root_is_free = λ q. refl };
     guard = condition_and (of_kind looped_ground) no_condition;
-    head = instance (leaf_and of_atom (leaf_and (of_typed (looped_copy 0 1 (omega arith))) no_leaf)) no_membrane;
+    head = instance (leaf_and of_atom (leaf_and (of_typed (looped_copy 0 1 (omega arith))) no_leaf)) no_membrane no_context;
   };
-  body = instance (leaf_and of_atom (leaf_and (of_typed (looped_copy 1 3 (omega arith))) (leaf_and (of_typed (looped_copy 2 4 (omega arith))) no_leaf))) no_membrane;
+  body = instance (leaf_and of_atom (leaf_and (of_typed (looped_copy 1 3 (omega arith))) (leaf_and (of_typed (looped_copy 2 4 (omega arith))) no_leaf))) no_membrane no_context;
 }
 
 -- the copies of a ground part have links of their own
@@ -335,6 +347,71 @@ pub part_is_copied : PartIsCopied
 part_is_copied =
     commits (tt, (tt, (tt, (tt, tt)))) (linked_by refl)
     (up_to (regrouped refl (linked_by refl)) (leaf (fires double_part_fires) (linked_by refl) (linked_by refl)) (regrouped refl (linked_by refl)))
+
+-- ---- `c. {a(X), b(X)}. c, {$p[]} :- {$p[]}, {$p[]}.`
+
+-- `a(X), b(X)`
+abbrev joined_pair : ℕ → Process
+joined_pair x = together (atom label_a (x ∷ []) ∷ atom label_b (x ∷ []) ∷ [])
+
+abbrev rest_context : Context → Process
+rest_context (open_context q) = nothing
+rest_context (closed_context q) = joined_pair 0
+
+abbrev rest_assignment : Assignment
+rest_assignment = record { link_of = λ n. n; context_of = rest_context; rules_of = λ q. []; typed_of = λ q. record { process = atom label_a (0 ∷ []); root = 0 } }
+
+rest_no_rule : (q : Context) → NoRuleAtTop (rest_context q)
+rest_no_rule (open_context q) = tt
+rest_no_rule (closed_context q) = (tt, (tt, tt))
+
+-- a copy of the pair with another link
+pair_copy : (x : ℕ) → IsClosedCopy (joined_pair 0) (joined_pair x)
+pair_copy x = record { to = λ n. x; one_to_one = λ i j o o' e. only_link i j o o'; is = refl }
+  where
+    only_link : (i j : ℕ) → occurrences i (joined_pair 0) ≢ 0 → occurrences j (joined_pair 0) ≢ 0 → i ≡ j
+    only_link i j o o' = grind (arith, o, o')
+
+abbrev rest_at : ℕ → Process
+rest_at x = pair nothing (pair nothing (pair (together (joined_pair x ∷ [])) (pair nothing nothing)))
+
+abbrev side_by_side : Process → List Process → Process
+side_by_side P Ps = pair P (pair (together Ps) (pair nothing (pair nothing nothing)))
+
+double_rest_fires : Fires double_rest (side_by_side (together (atom label_c [] ∷ [])) (membrane (rest_at 0) ∷ [])) (side_by_side nothing (membrane (rest_at 0) ∷ membrane (rest_at 1) ∷ []))
+double_rest_fires = record {
+  matches = record {
+    assignment = rest_assignment;
+    proper = record { links_differ = λ m n e. e; no_rule = rest_no_rule; links_apart = λ q n. zero_not_one; closed = λ q. closed_by (joined_pair 0) refl; root_is_free = λ q. refl };
+    guard = no_condition;
+    head = instance (leaf_and of_atom no_leaf) (membrane_and (instance no_leaf no_membrane (context_and (of_closed (pair_copy 0)) no_context)) no_membrane) no_context;
+  };
+  body = instance no_leaf (membrane_and (instance no_leaf no_membrane (context_and (of_closed (pair_copy 0)) no_context))
+      (membrane_and (instance no_leaf no_membrane (context_and (of_closed (pair_copy 1)) no_context)) no_membrane)) no_context;
+}
+
+-- the copies of the rest of a membrane have links of their own
+pub rest_is_copied : RestIsCopied
+rest_is_copied =
+    commits ((tt, (tt, tt)), ((tt, (tt, tt)), (tt, tt))) (linked_by refl)
+    (up_to (regrouped refl (linked_by refl)) (leaf (fires double_rest_fires) (linked_by refl) (linked_by refl)) (regrouped refl (linked_by refl)))
+
+drop_rest_fires : Fires drop_rest (side_by_side nothing (membrane (rest_at 0) ∷ [])) (only (together (atom label_c [] ∷ [])))
+drop_rest_fires = record {
+  matches = record {
+    assignment = rest_assignment;
+    proper = record { links_differ = λ m n e. e; no_rule = rest_no_rule; links_apart = λ q n. zero_not_one; closed = λ q. closed_by (joined_pair 0) refl; root_is_free = λ q. refl };
+    guard = no_condition;
+    head = instance no_leaf (membrane_and (instance no_leaf no_membrane (context_and (of_closed (pair_copy 0)) no_context)) no_membrane) no_context;
+  };
+  body = instance (leaf_and of_atom no_leaf) no_membrane no_context;
+}
+
+-- and the rest that isn't copied is gone
+pub rest_is_dropped : RestIsDropped
+rest_is_dropped =
+    commits (tt, (tt, tt)) (linked_by refl)
+    (up_to (regrouped refl (linked_by refl)) (leaf (fires drop_rest_fires) (linked_by refl) (linked_by refl)) (regrouped refl (linked_by refl)))
 
 -- ---- rooted graphs
 

@@ -7,7 +7,7 @@ use Rattle.lmn_congruence.specs.Rules.{Rule, head_of}
 use Rattle.lmn_congruence.specs.FreeNumber.{free_number}
 use Rattle.lmn_congruence.specs.FreeLinks.{link_bound, one_if_once, one_if_free}
 use Rattle.lmn_reduction.specs.Assignments.{Assignment, Proper}
-use Rattle.lmn_reduction.specs.Instances.{Instance, instance, no_leaf, leaf_and, of_atom, no_membrane, membrane_and}
+use Rattle.lmn_reduction.specs.Instances.{Instance, instance, no_context, no_leaf, leaf_and, of_atom, no_membrane, membrane_and}
 use Rattle.lmn_reduction.specs.Firing.{Matches}
 use Rattle.lmn_reduction.specs.Steps.{Step}
 use Rattle.lmn_reduction.specs.Redexes.{HasRedex, at_top, in_membrane}
@@ -37,7 +37,7 @@ one_free x y C d h = not_zero (one_if_free C x) (free_number C) (ap one_if_once 
     not_zero k n e label_b = omega arith
 
 crossed : (t : Assignment) (A : Process) → Proper t → Instance t (head_of join_from_membrane) A → crossings A ≢ 0
-crossed t A p (instance no_leaf (membrane_and {P = C} (instance (leaf_and of_atom (leaf_and of_atom no_leaf)) no_membrane) no_membrane)) =
+crossed t A p (instance no_leaf (membrane_and {P = C} (instance (leaf_and of_atom (leaf_and of_atom no_leaf)) no_membrane no_context) no_membrane) no_context) =
     λ e. one_free (t.link_of 0) (t.link_of 1) C (λ q. zero_not_one (p.links_differ 0 1 q)) (λ z. omega arith) (omega arith)
 
 matched : (r : Rule) (A : Process) → r ≡ join_from_membrane → Matches r A → crossings A ≢ 0

@@ -2,7 +2,7 @@
 use Rattle.std.proofs.Common.{ℕ, ◌≡◌, ◌≢◌, ◌+◌, ◌≤◌, ◌<◌, ◌⊎◌, List, [], ◌∷◌, map, refl, sym, ◌∙◌, ap, subst, inl, inr, arith, ℤ}
 use Rattle.lmn_congruence.specs.Process.{Process, nothing, connector, atom, pair, membrane, rule, occurrences, Linked, renamed, together}
 use Rattle.lmn_congruence.specs.Congruence.{Congruent, regroup, beside, inside, back, chain}
-use Rattle.lmn_congruence.specs.Rules.{Name, Leaf, atom_leaf, Level, level, Levels, Rule, head_of, Rules, rules_list, Condition, Expression}
+use Rattle.lmn_congruence.specs.Rules.{Name, Context, open_context, closed_context, Leaf, atom_leaf, Level, level, Levels, Rule, head_of, Rules, rules_list, Condition, Expression}
 use Rattle.lmn_reduction.specs.Firing.{typed_contexts, Matches, fires}
 use Rattle.lmn_reduction.specs.Redexes.{HasRedex, at_top, in_membrane, ShowsRedex}
 use Rattle.lmn_congruence.specs.FreeLinks.{link_bound}
@@ -11,7 +11,7 @@ use Rattle.lmn_reduction.specs.Parts.{Rooted}
 use Rattle.lmn_reduction.specs.Guards.{GuardHolds, no_condition, condition_and, Holds, of_kind, in_order, binds, alike, unlike}
 use Rattle.lmn_guards.specs.Values.{of_number, of_context, of_operation}
 use Rattle.lmn_reduction.specs.Values.{Value}
-use Rattle.lmn_reduction.specs.Instances.{IsCopy, LeafInstance, of_atom, of_connector, of_typed, LeafInstances, no_leaf, leaf_and, Instance, instance, MembraneInstances, no_membrane, membrane_and, rules_of_contexts}
+use Rattle.lmn_reduction.specs.Instances.{IsCopy, LeafInstance, of_atom, of_connector, of_typed, LeafInstances, no_leaf, leaf_and, IsClosedCopy, ContextInstance, of_open, of_closed, ContextInstances, no_context, context_and, Instance, instance, MembraneInstances, no_membrane, membrane_and, rules_of_contexts}
 use Rattle.lmn_reduction.specs.Steps.{leaf, beside as derived_beside, inside as derived_inside, up_to, Step}
 use Rattle.lmn_congruence.proofs.Counts.{same_free, linked_both, map_after}
 use Rattle.lmn_reduction.proofs.Derivations.{no_right}
@@ -22,8 +22,13 @@ use Rattle.lmn_base.proofs.Numbers.{same_or_not, below_or_from, below_not_above}
 -- ---- an instance after a one to one renaming of links
 
 module _ (f : ℕ → ℕ) (one : (x y : ℕ) → f x ≡ f y → x ≡ y) where
+  -- what a closed context stands for needn't be renamed, since each place has a copy
+  abbrev pub moved_context : Assignment → Context → Process
+  moved_context t (open_context p) = renamed f (t.context_of (open_context p))
+  moved_context t (closed_context p) = t.context_of (closed_context p)
+
   abbrev pub moved_assignment : Assignment → Assignment
-  moved_assignment t = record { link_of = λ x. f (t.link_of x); context_of = λ p. renamed f (t.context_of p); rules_of = t.rules_of; typed_of = t.typed_of }
+  moved_assignment t = record { link_of = λ x. f (t.link_of x); context_of = moved_context t; rules_of = t.rules_of; typed_of = t.typed_of }
 
   pub no_rule_renamed : (P : Process) → NoRuleAtTop P → NoRuleAtTop (renamed f P)
   no_rule_renamed nothing n = tt
@@ -33,11 +38,16 @@ module _ (f : ℕ → ℕ) (one : (x y : ℕ) → f x ≡ f y → x ≡ y) where
   no_rule_renamed (membrane P) n = tt
   no_rule_renamed (rule r) n = n
 
+  no_rule_moved : (t : Assignment) → Proper t → (q : Context) → NoRuleAtTop (moved_context t q)
+  no_rule_moved t p (open_context q) = no_rule_renamed (t.context_of (open_context q)) (p.no_rule (open_context q))
+  no_rule_moved t p (closed_context q) = p.no_rule (closed_context q)
+
   pub moved_proper : (t : Assignment) → Proper t → Proper (moved_assignment t)
   moved_proper t p = record {
     links_differ = λ x y e. p.links_differ x y (one (t.link_of x) (t.link_of y) e);
-    no_rule = λ q. no_rule_renamed (t.context_of q) (p.no_rule q);
-    links_apart = λ q x e. p.links_apart q x (sym (occurrences_image f (t.link_of x) (t.context_of q) (λ z o. one z (t.link_of x))) ∙ e);
+    no_rule = no_rule_moved t p;
+    links_apart = λ q x e. p.links_apart q x (sym (occurrences_image f (t.link_of x) (t.context_of (open_context q)) (λ z o. one z (t.link_of x))) ∙ e);
+    closed = p.closed;
     root_is_free = p.root_is_free;
   }
 
@@ -86,13 +96,24 @@ module _ (f : ℕ → ℕ) (one : (x y : ℕ) → f x ≡ f y → x ≡ y) where
   moved_leaves t no_leaf = no_leaf
   moved_leaves t (leaf_and i j) = leaf_and (moved_leaf t i) (moved_leaves t j)
 
+  moved_closed : (Q P : Process) → IsClosedCopy Q P → IsClosedCopy Q (renamed f P)
+  moved_closed Q P c = record {
+    to = λ y. f (c.to y);
+    one_to_one = λ y z o o' e. c.one_to_one y z o o' (one (c.to y) (c.to z) e);
+    is = ap (renamed f) c.is ∙ renamed_twice c.to Q;
+  }
+
+  moved_one : (t : Assignment) {p : Context} {P : Process} → ContextInstance t p P → ContextInstance (moved_assignment t) p (renamed f P)
+  moved_one t of_open = of_open
+  moved_one t (of_closed {p = p} {P = P} c) = of_closed (moved_closed (t.context_of (closed_context p)) P c)
+
+  moved_contexts : (t : Assignment) {ps : List Context} {Ps : List Process} → ContextInstances t ps Ps → ContextInstances (moved_assignment t) ps (map (renamed f) Ps)
+  moved_contexts t no_context = no_context
+  moved_contexts t (context_and i j) = context_and (moved_one t i) (moved_contexts t j)
+
   renamed_together : (Ps : List (Process)) → together (map (renamed f) Ps) ≡ renamed f (together Ps)
   renamed_together [] = refl
   renamed_together (P ∷ Ps) = ap (pair (renamed f P)) (renamed_together Ps)
-
-  renamed_contexts : (t : Assignment) (ps : List Name) → together (map (λ p. renamed f (t.context_of p)) ps) ≡ renamed f (together (map t.context_of ps))
-  renamed_contexts t [] = refl
-  renamed_contexts t (p ∷ ps) = ap (pair (renamed f (t.context_of p))) (renamed_contexts t ps)
 
   renamed_rules : (rs : List Rule) → together (map rule rs) ≡ renamed f (together (map rule rs))
   renamed_rules [] = refl
@@ -102,17 +123,17 @@ module _ (f : ℕ → ℕ) (one : (x y : ℕ) → f x ≡ f y → x ≡ y) where
   renamed_rule_contexts t [] = refl
   renamed_rule_contexts t (r ∷ rs) = cc (renamed_rules (t.rules_of r), renamed_rule_contexts t rs)
 
-  rebuilt : (t : Assignment) (leaves : List Leaf) (membranes : Levels) (contexts rule_contexts : List Name) (rules : Rules) (Ps Qs : List Process)
-      → LeafInstances (moved_assignment t) leaves (map (renamed f) Ps) → MembraneInstances (moved_assignment t) membranes (map (renamed f) Qs)
+  rebuilt : (t : Assignment) (leaves : List Leaf) (membranes : Levels) (contexts : List Context) (rule_contexts : List Name) (rules : Rules) (Ps Qs Cs : List Process)
+      → LeafInstances (moved_assignment t) leaves (map (renamed f) Ps) → MembraneInstances (moved_assignment t) membranes (map (renamed f) Qs) → ContextInstances (moved_assignment t) contexts (map (renamed f) Cs)
       → Instance (moved_assignment t) (level leaves membranes contexts rule_contexts rules)
-      (pair (renamed f (together Ps)) (pair (renamed f (together Qs)) (pair (renamed f (together (map t.context_of contexts))) (pair (renamed f (together (rules_of_contexts t rule_contexts))) (renamed f (together (map rule (rules_list rules))))))))
-  rebuilt t leaves membranes contexts rule_contexts rules Ps Qs i j =
-      rw (← renamed_together Ps, ← renamed_together Qs, ← renamed_contexts t contexts, ← renamed_rule_contexts t rule_contexts, ← renamed_rules (rules_list rules)) (instance i j)
+      (pair (renamed f (together Ps)) (pair (renamed f (together Qs)) (pair (renamed f (together Cs)) (pair (renamed f (together (rules_of_contexts t rule_contexts))) (renamed f (together (map rule (rules_list rules))))))))
+  rebuilt t leaves membranes contexts rule_contexts rules Ps Qs Cs i j k =
+      rw (← renamed_together Ps, ← renamed_together Qs, ← renamed_together Cs, ← renamed_rule_contexts t rule_contexts, ← renamed_rules (rules_list rules)) (instance i j k)
 
   mutual
     pub moved_instance : (t : Assignment) {l : Level} {P : Process} → Instance t l P → Instance (moved_assignment t) l (renamed f P)
-    moved_instance t (instance {leaves = leaves} {membranes = membranes} {contexts = contexts} {rule_contexts = rule_contexts} {rules = rules} {Ps = Ps} {Qs = Qs} i j) =
-        rebuilt t leaves membranes contexts rule_contexts rules Ps Qs (moved_leaves t i) (moved_membranes t j)
+    moved_instance t (instance {leaves = leaves} {membranes = membranes} {contexts = contexts} {rule_contexts = rule_contexts} {rules = rules} {Ps = Ps} {Qs = Qs} {Cs = Cs} i j k) =
+        rebuilt t leaves membranes contexts rule_contexts rules Ps Qs Cs (moved_leaves t i) (moved_membranes t j) (moved_contexts t k)
 
     moved_membranes : (t : Assignment) {ls : Levels} {Ps : List Process} → MembraneInstances t ls Ps → MembraneInstances (moved_assignment t) ls (map (renamed f) Ps)
     moved_membranes t no_membrane = no_membrane

@@ -1,6 +1,6 @@
 -- Small texts as processes, and what they do.
 use Rattle.std.specs.Prelude.{ℕ, ℤ, ◌≡◌, ◌-◌, ◌^◌, pos, negsuc, [], ◌∷◌}
-use Rattle.lmn_congruence.specs.Rules.{Name, Label, named, integer, atom_leaf, connector_leaf, typed_leaf, Level, level, no_level, level_and, Rule, rule_of, no_rule, plus, over, modulo, Expression, number, operation, value_of, equates, is_kind, grounded, only_leaves}
+use Rattle.lmn_congruence.specs.Rules.{Name, Context, open_context, closed_context, Label, named, integer, atom_leaf, connector_leaf, typed_leaf, Level, level, no_level, level_and, Rule, rule_of, no_rule, plus, over, modulo, Expression, number, operation, value_of, equates, is_kind, grounded, only_leaves}
 use Rattle.lmn_congruence.specs.Process.{nothing, connector, atom, pair, membrane, rule, together}
 use Rattle.lmn_reduction.specs.Assignments.{Assignment}
 use Rattle.lmn_guards.specs.Values.{computed}
@@ -139,7 +139,7 @@ b_makes_c = rule_of (only_leaves (atom_leaf label_b [] ∷ [])) [] (only_leaves 
 
 abbrev pub double_rules : Rule
 double_rules =
-    let rest : Name = 112 ∷ [] in
+    let rest : Context = open_context (112 ∷ []) in
     let rules : Name = 114 ∷ [] in
     rule_of (one_membrane_level (level (atom_leaf label_a [] ∷ []) no_level (rest ∷ []) (rules ∷ []) no_rule)) []
     (one_membrane_level (level [] no_level (rest ∷ []) (rules ∷ rules ∷ []) no_rule))
@@ -154,8 +154,8 @@ RulesAreCopied =
 -- `{{$p}, $q} :- $p, $q`
 abbrev pub open_both : Rule
 open_both =
-    let label_p : Name = 112 ∷ [] in
-    let q : Name = 113 ∷ [] in
+    let label_p : Context = open_context (112 ∷ []) in
+    let q : Context = open_context (113 ∷ []) in
     rule_of (one_membrane_level (level [] (level_and (level [] no_level (label_p ∷ []) [] no_rule) no_level) (q ∷ []) [] no_rule)) []
     (level [] no_level (label_p ∷ q ∷ []) [] no_rule)
 
@@ -165,6 +165,32 @@ LinkIsShared =
     Commit
     (together (membrane (together (membrane (atom label_a (0 ∷ [])) ∷ atom label_b (0 ∷ []) ∷ [])) ∷ rule open_both ∷ []))
     (together (atom label_a (0 ∷ []) ∷ atom label_b (0 ∷ []) ∷ rule open_both ∷ []))
+
+-- `c, {$p[]} :- {$p[]}, {$p[]}`
+abbrev pub double_rest : Rule
+double_rest =
+    let rest : Level = level [] no_level (closed_context (112 ∷ []) ∷ []) [] no_rule in
+    rule_of (level (atom_leaf label_c [] ∷ []) (level_and rest no_level) [] [] no_rule) [] (level [] (level_and rest (level_and rest no_level)) [] [] no_rule)
+
+-- The copies of the rest have new links, each its own: `c. {a(X), b(X)}.` beside this rule commits to
+-- `{a(X), b(X)}. {a(Y), b(Y)}.` beside it
+abbrev pub RestIsCopied : Type 0
+RestIsCopied =
+    Commit
+    (together (atom label_c [] ∷ membrane (together (atom label_a (0 ∷ []) ∷ atom label_b (0 ∷ []) ∷ [])) ∷ rule double_rest ∷ []))
+    (together (membrane (together (atom label_a (0 ∷ []) ∷ atom label_b (0 ∷ []) ∷ [])) ∷
+    membrane (together (atom label_a (1 ∷ []) ∷ atom label_b (1 ∷ []) ∷ [])) ∷ rule double_rest ∷ []))
+
+-- `{$p[]} :- c`
+abbrev pub drop_rest : Rule
+drop_rest = rule_of (one_membrane_level (level [] no_level (closed_context (112 ∷ []) ∷ []) [] no_rule)) [] (only_leaves (atom_leaf label_c [] ∷ []))
+
+-- A rest that doesn't stand in the body is dropped: `{a(X), b(X)}.` beside this rule commits to `c.` beside it
+abbrev pub RestIsDropped : Type 0
+RestIsDropped =
+    Commit
+    (together (membrane (together (atom label_a (0 ∷ []) ∷ atom label_b (0 ∷ []) ∷ [])) ∷ rule drop_rest ∷ []))
+    (together (atom label_c [] ∷ rule drop_rest ∷ []))
 
 -- `a($x) :- ground($x) | a($x,$x)`
 abbrev pub double_part : Rule

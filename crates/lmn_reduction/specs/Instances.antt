@@ -1,7 +1,7 @@
 -- The process that a level stands for.
 use Rattle.std.specs.Prelude.{ℕ, ◌≡◌, List, [], ◌∷◌, map}
 use Rattle.lmn_congruence.specs.Process.{Process, connector, atom, pair, membrane, rule, renamed, OneToOneOn, together}
-use Rattle.lmn_congruence.specs.Rules.{Name, Label, Leaf, atom_leaf, connector_leaf, typed_leaf, Level, level, Levels, no_level, level_and, Rules, rules_list}
+use Rattle.lmn_congruence.specs.Rules.{Name, Context, open_context, closed_context, Label, Leaf, atom_leaf, connector_leaf, typed_leaf, Level, level, Levels, no_level, level_and, Rules, rules_list}
 use Rattle.lmn_reduction.specs.Parts.{Rooted}
 use Rattle.lmn_reduction.specs.Assignments.{Assignment}
 
@@ -26,6 +26,26 @@ pub data LeafInstances (t : Assignment) : List Leaf → List Process → Type 0 
   leaf_and : {l : Leaf} {ls : List Leaf} {P : Process} {Ps : List Process} →
       LeafInstance t l P → LeafInstances t ls Ps → LeafInstances t (l ∷ ls) (P ∷ Ps)
 
+-- P is a copy of Q: its links renamed, different ones to different ones. Nothing more is asked of its links: each link
+-- of a closed process occurs twice in it, so in a linked process those of its copy are no links of anything beside it.
+pub record IsClosedCopy (Q P : Process) : Type 0 where
+  pub to : ℕ → ℕ
+  pub one_to_one : OneToOneOn to Q
+  pub is : P ≡ renamed to Q
+
+-- What stands for an untyped context: for an open one its process, and for a closed one a copy of its process at each
+-- place where it is written, in the head too.
+pub data ContextInstance (t : Assignment) : Context → Process → Type 0 where
+  of_open : {p : Name} → ContextInstance t (open_context p) (t.context_of (open_context p))
+  of_closed : {p : Name} {P : Process} →
+      IsClosedCopy (t.context_of (closed_context p)) P → ContextInstance t (closed_context p) P
+
+-- context by context
+pub data ContextInstances (t : Assignment) : List Context → List Process → Type 0 where
+  no_context : ContextInstances t [] []
+  context_and : {p : Context} {ps : List Context} {P : Process} {Ps : List Process} →
+      ContextInstance t p P → ContextInstances t ps Ps → ContextInstances t (p ∷ ps) (P ∷ Ps)
+
 -- the rules of each rule context, in order
 abbrev pub rules_of_contexts : Assignment → List Name → List Process
 rules_of_contexts t [] = []
@@ -36,11 +56,11 @@ rules_of_contexts t (r ∷ rs) = together (map rule (t.rules_of r)) ∷ rules_of
 -- nested rule is itself.
 mutual
   pub data Instance (t : Assignment) : Level → Process → Type 0 where
-    instance : {leaves : List Leaf} {membranes : Levels} {contexts rule_contexts : List Name} {rules : Rules}
-        {Ps Qs : List Process} →
-        LeafInstances t leaves Ps → MembraneInstances t membranes Qs →
+    instance : {leaves : List Leaf} {membranes : Levels} {contexts : List Context} {rule_contexts : List Name}
+        {rules : Rules} {Ps Qs Cs : List Process} →
+        LeafInstances t leaves Ps → MembraneInstances t membranes Qs → ContextInstances t contexts Cs →
         Instance t (level leaves membranes contexts rule_contexts rules)
-        (pair (together Ps) (pair (together Qs) (pair (together (map t.context_of contexts))
+        (pair (together Ps) (pair (together Qs) (pair (together Cs)
         (pair (together (rules_of_contexts t rule_contexts)) (together (map rule (rules_list rules)))))))
 
   pub data MembraneInstances (t : Assignment) : Levels → List Process → Type 0 where

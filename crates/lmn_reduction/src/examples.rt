@@ -4,7 +4,7 @@ ghost use Rattle.lmn_reduction.specs.Examples.{TwoMakeOne, LinkMeetsItself, Conn
 ghost use Rattle.lmn_reduction.specs.Examples.{LoopVanishes, QuotientsAndRemainders, InnerLinkStays};
 ghost use Rattle.lmn_reduction.specs.Examples.{SumIsBound, RulesAreCopied, LeastByMinusOne};
 ghost use Rattle.lmn_reduction.specs.Examples.{NothingByZero, LoopIsLeft, LinkIsShared, PartIsCopied};
-ghost use Rattle.lmn_reduction.specs.Examples.{PortsAreTold, NotGround};
+ghost use Rattle.lmn_reduction.specs.Examples.{PortsAreTold, NotGround, RestIsCopied, RestIsDropped};
 
 /// `a. a. a, a :- b.` commits to `b` beside its rule.
 #[tactic(auto, using(crate::proofs::ExampleSteps::two_make_one))]
@@ -72,6 +72,19 @@ pub fn loop_is_left()
 #[tactic(auto, using(crate::proofs::ExampleSteps::link_is_shared))]
 pub fn link_is_shared()
     ensures { LinkIsShared }
+{}
+
+/// `c. {a(X), b(X)}. c, {$p[]} :- {$p[]}, {$p[]}.` commits to `{a(X), b(X)}, {a(Y), b(Y)}` beside its rule: each copy of
+/// the rest has links of its own.
+#[tactic(auto, using(crate::proofs::ExampleSteps::rest_is_copied))]
+pub fn rest_is_copied()
+    ensures { RestIsCopied }
+{}
+
+/// `{a(X), b(X)}. {$p[]} :- c.` commits to `c` beside its rule: the rest is dropped.
+#[tactic(auto, using(crate::proofs::ExampleSteps::rest_is_dropped))]
+pub fn rest_is_dropped()
+    ensures { RestIsDropped }
 {}
 
 /// `a(X), b(X,Y,Y). a($x) :- ground($x) | a($x,$x).` commits to `a(X,Z), b(X,Y,Y), b(Z,W,W)` beside its rule.

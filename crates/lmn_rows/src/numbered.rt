@@ -156,11 +156,13 @@ fn the_first_context_is_that_of_the_text(rt: HostRuntime) -> Result<(), NoMemory
     let mut inner = nothing(alloc);
     inner.rule_contexts.push(CtxUse {
         name: 4,
+        closed: false,
         pos: at(2),
     })?;
     level.membranes.push(inner)?;
     level.contexts.push(CtxUse {
         name: 5,
+        closed: false,
         pos: at(7),
     })?;
     assert_eq!(rt; first_outside(&level), Some(at(2)));

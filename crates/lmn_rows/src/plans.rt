@@ -54,10 +54,12 @@ fn rule(alloc: Global) -> Result<RuleTree, NoMemory> {
     guard.push(lmn_base::Cond::Equal {
         left: CtxUse {
             name: Z,
+            closed: false,
             pos: at(10),
         },
         right: Expr::Ctx(CtxUse {
             name: X,
+            closed: false,
             pos: at(15),
         }),
         pos: at(13),

@@ -12,7 +12,11 @@ use std::test::Fail;
 const POS: Pos = Pos { line: 1, column: 1 };
 
 fn context(name: u32) -> CtxUse {
-    CtxUse { name, pos: POS }
+    CtxUse {
+        name,
+        closed: false,
+        pos: POS,
+    }
 }
 
 fn contexts(alloc: Global, names: &[u32]) -> Result<Rows<CtxUse>, NoMemory> {

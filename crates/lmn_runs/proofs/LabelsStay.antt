@@ -6,7 +6,8 @@ use Rattle.lmn_congruence.specs.LinkedRules.{level_occurrences}
 use Rattle.lmn_congruence.specs.Orders.{Among, at_head, further}
 use Rattle.lmn_congruence.specs.Plains.{fused_leaves, fused_level, fused_levels}
 use Rattle.lmn_congruence.specs.Regions.{Region, Regions, SolidAtom, no_region, region, region_and}
-use Rattle.lmn_congruence.specs.Rules.{Condition, Expression, Label, Leaf, Level, Levels, Name, Rule, atom_leaf, body_of, compares, connector_leaf, differs, equates, guard_of, head_of, integer, is_kind, level, level_and, no_level, number, operation, typed_leaf, unknown, value_of}
+use Rattle.lmn_congruence.specs.Rules.{Condition, Context, closed_context, Expression, Label, Leaf, Level, Levels, Name, Rule, atom_leaf, body_of, compares, connector_leaf, differs, equates, guard_of, head_of, integer, is_kind, level, level_and, no_level, number, operation, typed_leaf, unknown, value_of}
+use Rattle.lmn_congruence.specs.Same.{renamed_atom, renamed_region, renamed_regions}
 use Rattle.lmn_congruence.specs.Translation.{levels}
 use Rattle.lmn_congruence.proofs.Shuffles.{shuffle_flip}
 use Rattle.lmn_guards.specs.Values.{InRange, of_context, of_number, of_operation}
@@ -16,12 +17,12 @@ use Rattle.lmn_reduction.specs.Guards.{GuardHolds, alike, binds, condition_and}
 use Rattle.lmn_reduction.specs.Parts.{IsInteger, Rooted, an_integer, atoms_at_top}
 use Rattle.lmn_reduction.specs.Values.{Value}
 use Rattle.lmn_adequacy.specs.Accepted.{Accepted, InTurn, UsedIn, all_asked, all_contexts, binding_in_turn, comparison_in_turn, contexts_in, difference_in_turn, equality_in_turn, here_used, kind_in_turn, left_sides, own_membranes}
-use Rattle.lmn_adequacy.specs.Embedding.{AllRules, AtomImages, IsPart, Merged, Taken, TakenRegion, TypedParts, from_first, from_second, image_and, merged_none, no_image, no_part, no_part_of_atom, part_and, region_first, region_later, taken_first, taken_later, typed_later, Contents, LeftTo, LeftToContext, assignment_of, no_context, one_context}
+use Rattle.lmn_adequacy.specs.Embedding.{AllRules, AtomImages, IsPart, Merged, Taken, TakenRegion, TypedParts, from_first, from_second, image_and, merged_none, no_image, no_part, no_part_of_atom, part_and, region_first, region_later, taken_first, taken_later, typed_later, Contents, LeftTo, LeftToContext, assignment_of, no_context, one_context, region_of}
 use Rattle.lmn_adequacy.specs.Loose.{LevelImages, MembraneImages, level_images, membrane_image_and, no_membrane_image, EachLeft, EachLeftIn}
-use Rattle.lmn_adequacy.specs.Next.{FiresInOrder, MadeLeaves, MadeLevel, MadeMembranes, NextAt, RawAt, context_atoms, context_membranes, fires_below, fires_here, kept_atoms, kept_level, kept_membranes, made_atom, part_leaves, made_connector, made_copy, made_level, made_membrane, no_made_leaf, no_made_membrane, raw_level, replaced, wire_leaves}
+use Rattle.lmn_adequacy.specs.Next.{FiresInOrder, MadeLeaves, MadeLevel, MadeMembranes, NextAt, RawAt, fires_below, fires_here, kept_atoms, kept_level, kept_membranes, made_atom, part_leaves, made_connector, made_copy, made_level, made_membrane, no_made_leaf, no_made_membrane, raw_level, replaced, wire_leaves, MadeContext, MadeContexts, made_open, made_closed, no_made_context, made_context}
 use Rattle.lmn_adequacy.proofs.Heads.{region_there, rule_there}
 use Rattle.lmn_adequacy.proofs.InOrder.{each_left_of, level_images_of}
-use Rattle.lmn_adequacy.proofs.OneNext.{names_split}
+use Rattle.lmn_adequacy.proofs.OneNext.{names_split, of_the_head}
 use Rattle.lmn_adequacy.proofs.Orders.{either, taken_put}
 use Rattle.lmn_adequacy.proofs.SameParts.{shuffle_among}
 use Rattle.lmn_splice.specs.Splice.{of_rule, of_solid}
@@ -220,18 +221,18 @@ module _ (H : Label → ℕ → Type 0) (makes : (z : ℤ) → InRange z → H (
       first_too q at_head f k = f
       first_too q (further j) f k = k q j
 
-  abbrev ContextGood : Contents → List Name → Type 0
-  ContextGood c ps = (p : Name) → Among p ps → Atoms (c.atoms_of p) × AllAtomsIn (c.membranes_of p)
+  abbrev ContextGood : Contents → List Context → Type 0
+  ContextGood c ps = (p : Context) → Among p ps → Atoms (c.atoms_of p) × AllAtomsIn (c.membranes_of p)
 
-  left_good : (c : Contents) (ps qs : List Name) (m : Region) → LeftTo c ps qs m → AllAtoms m → ContextGood c ps
+  left_good : (c : Contents) (ps : List Context) (qs : List Name) (m : Region) → LeftTo c ps qs m → AllAtoms m → ContextGood c ps
   left_good c ps qs (region xs ms rs) u h p k = of_context u.0 k h
     where
-      of_context : {c : Contents} {ps : List Name} {xs : List SolidAtom} {ms : Regions} {p : Name} → LeftToContext c ps xs ms → Among p ps → Atoms xs × AllAtomsIn ms → Atoms (c.atoms_of p) × AllAtomsIn (c.membranes_of p)
+      of_context : {c : Contents} {ps : List Context} {xs : List SolidAtom} {ms : Regions} {p : Context} → LeftToContext c ps xs ms → Among p ps → Atoms xs × AllAtomsIn ms → Atoms (c.atoms_of p) × AllAtomsIn (c.membranes_of p)
       of_context no_context k h = elim k [ ]
       of_context one_context at_head h = h
       of_context one_context (further k) h = elim k [ ]
 
-  both_contexts : (c : Contents) (ps qs : List Name) → ContextGood c ps → ContextGood c qs → ContextGood c (ps ++ qs)
+  both_contexts : (c : Contents) (ps qs : List Context) → ContextGood c ps → ContextGood c qs → ContextGood c (ps ++ qs)
   both_contexts c ps qs h k p i = either (among_append ps qs i) (h p) (k p)
 
   both_typed : (t : Assignment) (ps qs : List Name) → TypedGood t ps → TypedGood t qs → TypedGood t (ps ++ qs)
@@ -283,24 +284,39 @@ module _ (H : Label → ℕ → Type 0) (makes : (z : ℤ) → InRange z → H (
   made_leaves c (made_copy {p = p} {part = part} {outs = outs} u d m) h k l i =
       leaves_append (part_leaves part) outs (made_part part (from_part u (k p at_head))) (made_leaves c m (λ b j. h b (further j)) (λ q j. k q (further j))) l i
 
-  context_leaves : (c : Contents) (ps : List Name) → ContextGood c ps → Atoms (context_atoms c ps)
-  context_leaves c [] h a i = elim i [ ]
-  context_leaves c (p ∷ ps) h a i =
-      either (among_append (c.atoms_of p) (context_atoms c ps) i) ((h p at_head).0 a) (context_leaves c ps (λ q k. h q (further k)) a)
+  -- copies are as good as what is copied
 
-  context_list : (c : Contents) (ps : List Name) → ContextGood c ps → ListGood (context_membranes c ps)
-  context_list c [] h = tt
-  context_list c (p ∷ ps) h =
-      list_append (kept_membranes (c.membranes_of p)) (context_membranes c ps) (kept_list (c.membranes_of p) (h p at_head).1) (context_list c ps (λ q k. h q (further k)))
+  renamed_atoms : (f : ℕ → ℕ) (xs : List SolidAtom) → Atoms xs → Atoms (map (renamed_atom f) xs)
+  renamed_atoms f [] h a i = elim i [ ]
+  renamed_atoms f (b ∷ xs) h a at_head = subst (H b.label) (sym (length-map b.links f)) (h b at_head)
+  renamed_atoms f (b ∷ xs) h a (further i) = renamed_atoms f xs (λ d k. h d (further k)) a i
+
+  mutual
+    renamed_good : (f : ℕ → ℕ) (m : Region) → AllAtoms m → AllAtoms (renamed_region f m)
+    renamed_good f (region xs ms rs) h = (renamed_atoms f xs h.0, renamed_list f ms h.1)
+
+    renamed_list : (f : ℕ → ℕ) (ms : Regions) → AllAtomsIn ms → AllAtomsIn (renamed_regions f ms)
+    renamed_list f no_region h = tt
+    renamed_list f (region_and m ms) h = (renamed_good f m h.0, renamed_list f ms h.1)
+
+  one_made : (c : Contents) {p : Context} {m : Region} → MadeContext c p m → AllAtoms (region_of c p) → AllAtoms m
+  one_made c made_open h = h
+  one_made c (made_closed {p = p} r) h = subst AllAtoms (sym r.is) (renamed_good r.to (region_of c (closed_context p)) h)
+
+  made_contexts : (c : Contents) {ps : List Context} {xs : List SolidAtom} {ks : List Level} → MadeContexts c ps xs ks → ContextGood c ps → Atoms xs × ListGood ks
+  made_contexts c no_made_context h = ((λ a i. elim i [ ]), tt)
+  made_contexts c (made_context {p = p} {xs = xs} {ys = ys} {ms = ms} {ks = ks} u v) h =
+      let one = one_made c u (h p at_head) in
+      let more = made_contexts c v (λ q k. h q (further k)) in
+      ((λ a i. either (among_append xs ys i) (one.0 a) (more.0 a)), list_append (kept_membranes ms) ks (kept_list ms one.1) more.1)
 
   mutual
     made_good : (c : Contents) {l : Level} {outs : List Leaf} {ms : List Level} {rs : List Rule} → MadeLevel c l outs ms rs → LevelGood l → ContextGood c (all_contexts l) → TypedGood (assignment_of c) (typed_contexts l) → Leaves outs × ListGood ms
-    made_good c (made_level {leaves = leaves} {outs = outs} {membranes = membranes} {made = ms} {contexts = ps} u v) h k t = (
-      leaves_append outs (kept_atoms (context_atoms c ps)) (made_leaves c u h.0 (λ p i. t p (among_left (typed_contexts_in membranes) i)))
-          (kept_leaves (context_atoms c ps) (context_leaves c ps (λ p i. k p (among_left (contexts_in membranes) i)))),
-      list_append ms (context_membranes c ps) (made_list c v h.1 (λ p i. k p (among_right ps i)) (λ p i. t p (among_right (typed_leaves leaves) i)))
-          (context_list c ps (λ p i. k p (among_left (contexts_in membranes) i))),
-    )
+    made_good c (made_level {leaves = leaves} {outs = outs} {membranes = membranes} {made = ms} {ks = ks} {contexts = ps} {xs = xs} u v w) h k t =
+        let q = made_contexts c w (λ p i. k p (among_left (contexts_in membranes) i)) in (
+          leaves_append outs (kept_atoms xs) (made_leaves c u h.0 (λ p i. t p (among_left (typed_contexts_in membranes) i))) (kept_leaves xs q.0),
+          list_append ms ks (made_list c v h.1 (λ p i. k p (among_right ps i)) (λ p i. t p (among_right (typed_leaves leaves) i))) q.1,
+        )
 
     made_list : (c : Contents) {ls : Levels} {ms : List Level} → MadeMembranes c ls ms → LevelsGood ls → ContextGood c (contexts_in ls) → TypedGood (assignment_of c) (typed_contexts_in ls) → ListGood ms
     made_list c no_made_membrane h k t = tt
@@ -333,9 +349,7 @@ module _ (H : Label → ℕ → Type 0) (makes : (z : ℤ) → InRange z → H (
       let u = images_good c (level_images_of e.lies) (each_left_of e.lies) h in
       let n = names_split (head_of r) in
       let contexts : ContextGood c (all_contexts (body_of r)) =
-      λ p i. let j = shuffle_among (shuffle_flip a.kept) i in
-      let k = u.contexts j.0 (subst (Among j.0) (n.0 ∙ ap (λ w. w ++ contexts_in (own_membranes (head_of r))) a.top_contexts) j.1) in
-      subst (λ w. Atoms (c.atoms_of w) × AllAtomsIn (c.membranes_of w)) j.2 k
+      λ p i. u.contexts p (subst (Among p) (n.0 ∙ ap (λ w. w ++ contexts_in (own_membranes (head_of r))) a.top_contexts) (of_the_head a p i))
       in
       let bound = bound_good t (typed_contexts (head_of r)) a.in_turn e.guard g.1 (λ q l. either l (u.typed q) (λ i. elim i [ ])) in
       let typed : TypedGood t (typed_contexts (body_of r)) = λ p i. either (a.known p i) (u.typed p) (bound p) in

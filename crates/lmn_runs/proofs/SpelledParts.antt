@@ -10,7 +10,7 @@ use Rattle.lmn_lexer.specs.Values.{integer_of}
 use Rattle.lmn_lexer.specs.declared.token.Kind.TheVariants as kind
 use Rattle.lmn_lexer.specs.declared.token.Token.{Token}
 use Rattle.lmn_parser.specs.Syntax.{Expr, integer, value, operation, WrittenCondition, called, compared, equal, different, Term, Terms, Item, Items, Clause, Clauses}
-use Rattle.lmn_parser.specs.Trees.{At, NameAt, IsSum, one_product, plus, IsProduct, one_factor, times, IsFactor, is_integer, is_value, in_parentheses, IsContexts, last_context, more_contexts, IsContextArguments, no_contexts, some_contexts, IsCondition, is_called, is_compared, is_equal, is_different, IsWrittenGuard, last_condition, more_conditions, IsClauses, no_clauses, last_clause, more_clauses, IsClause, named_rule, unnamed_rule, is_process, IsWrittenRule, is_rule, IsHeads, all_taken, some_kept, IsBody, no_guard, empty_guard, guarded, IsOptList, no_list, some_list, IsList, last_item, more_items, IsItem, is_atom_item, is_membrane_item, is_context_item, is_bracketed, is_rule_context, is_plus_link, is_group, is_equation, IsMembrane, in_braces, IsWrittenAtom, with_name, with_integer, IsArguments, no_parentheses, no_arguments, some_arguments, IsTerms, last_term, more_terms, IsTerm, is_link, is_atom, is_context, is_membrane, is_list, IsTermList, empty_list, closed_list, open_list}
+use Rattle.lmn_parser.specs.Trees.{At, NameAt, IsSum, one_product, plus, IsProduct, one_factor, times, IsFactor, is_integer, is_value, in_parentheses, IsContexts, last_context, more_contexts, IsContextArguments, no_contexts, some_contexts, IsCondition, is_called, is_compared, is_equal, is_different, IsWrittenGuard, last_condition, more_conditions, IsClauses, no_clauses, last_clause, more_clauses, IsClause, named_rule, unnamed_rule, is_process, IsWrittenRule, is_rule, IsHeads, all_taken, some_kept, IsBody, no_guard, empty_guard, guarded, IsOptList, no_list, some_list, IsList, last_item, more_items, IsItem, is_atom_item, is_membrane_item, is_context_item, is_closed, is_bracketed, is_rule_context, is_plus_link, is_group, is_equation, IsMembrane, in_braces, IsWrittenAtom, with_name, with_integer, IsArguments, no_parentheses, no_arguments, some_arguments, IsTerms, last_term, more_terms, IsTerm, is_link, is_atom, is_context, is_membrane, is_list, IsTermList, empty_list, closed_list, open_list}
 use Rattle.lmn_plain.specs.Links.{Link, Use, made}
 use Rattle.lmn_plain.specs.Expanded.{ExpandedLeaf, atom_leaf, typed_leaf, Context, ExpandedLevel, level, ExpandedLevels, no_level, level_and, expanded_levels, ExpandedRule, renamed_leaf, renamed_level, all_renamed}
 use Rattle.lmn_plain.specs.Parts.{Parts, no_parts, joined_parts, level_from_parts, NumberedParts, ◌⊕◌, one_leaf, fresh_copy, rule_of_parts}
@@ -247,6 +247,7 @@ module _ (L : Label → Type 0) (C : Name → Type 0) where
         item_right (is_atom_item {n = n} h) way k = then_right _ _ (λ m. leaf_right m _ (label_of_atom h)) (atom_right h (place_at words places n) way) k
         item_right (is_membrane_item h) way k = membrane_of_right _ (membrane_right h way k)
         item_right (is_context_item {p = p} a) way k = record { leaves = tt; membranes = tt; contexts = (context_here p a, tt); rule_contexts = tt; table = tt }
+        item_right (is_closed {p = p} a b c) way k = record { leaves = tt; membranes = tt; contexts = (context_here p a, tt); rule_contexts = tt; table = tt }
         item_right (is_bracketed {p = p} a b c d) way k = leaf_right k _ (context_here p a)
         item_right (is_rule_context {p = p} a) way k =
             record { leaves = tt; membranes = tt; contexts = tt; rule_contexts = (right.rule_context p a, tt); table = tt }

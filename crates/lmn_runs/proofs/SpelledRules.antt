@@ -21,14 +21,14 @@ use Rattle.lmn_base.specs.WellMade.{IsWellMadeRule, IsWellMade}
 use Rattle.lmn_congruence.specs.Orders.{Among, at_head, further}
 use Rattle.lmn_congruence.specs.Rules as tree
 use Rattle.lmn_congruence.specs.Rules.{Name}
-use Rattle.lmn_congruence.specs.Translation.{atom_or_connector, condition_of, expression_of, kind_of, leaf_of, level_of, level_step, levels, name_of, names_of, numbered_rule, rules}
+use Rattle.lmn_congruence.specs.Translation.{atom_or_connector, condition_of, context_with, context_tree, expression_of, kind_of, leaf_of, level_of, level_step, levels, name_of, names_of, numbered_rule, rules}
 use Rattle.lmn_congruence.specs.Translation as translation
 use Rattle.lmn_congruence.proofs.NumberedRules.{rule_has_number}
 use Rattle.lmn_parser.specs.Syntax as syntax
 use Rattle.lmn_plain.specs.Expanded.{Context, ExpandedLeaf, ExpandedLevel, ExpandedLevels, ExpandedRule, atom_leaf, expanded_leaf_links, expanded_leaves_links, level, level_and, expanded_links_in, expanded_links, no_level, typed_leaf, use_links}
 use Rattle.lmn_plain.specs.Links.{Link, Use}
 use Rattle.lmn_plain.specs.Plains.{EachPair, IsCond, IsExpr, IsRuleOf, all_numbered, context_use, number_of, numbered, numbered_context, numbered_leaf, numbered_use}
-use Rattle.lmn_plain.specs.Spelled.{ConditionSpelled, ExpressionSpelled, IsContextName, IsLinkNumber, LabelSpelled, LeafSpelled, LevelSpelled, LevelsSpelled, SpellsNoConnector, RuleSpelled, RulesSpelled}
+use Rattle.lmn_plain.specs.Spelled.{ConditionSpelled, ExpressionSpelled, UntypedSpelled, IsContextName, IsLinkNumber, LabelSpelled, LeafSpelled, LevelSpelled, LevelsSpelled, SpellsNoConnector, RuleSpelled, RulesSpelled}
 use Rattle.lmn_plain.proofs.Fitting.{numbers_in, rule_numbers}
 use Rattle.lmn_plain.proofs.HeldLabels.{connector_number, held_back}
 use Rattle.lmn_plain.proofs.NumberedLevels.{links_numbered, rules_numbered}
@@ -112,6 +112,14 @@ module _ (names : List Name) (is : IsNames names) where
     contexts_spelled [] h = tt
     contexts_spelled (c ∷ cs) h = (context_back c.name h.0, contexts_spelled cs h.1)
 
+    untyped_spelled : (cs : List Context) → AllByRecursion (ContextRight IsLabel IsContext) cs → AllByRecursion UntypedSpelled (map (context_tree names) (map (numbered_context names number) cs))
+    untyped_spelled [] h = tt
+    untyped_spelled (c ∷ cs) h = (one _ c.closed (context_back c.name h.0), untyped_spelled cs h.1)
+      where
+        one : (n : tree.Name) (closed : Bool) → IsContextName n → UntypedSpelled (context_with closed n)
+        one n true k = k
+        one n false k = k
+
     abbrev T : ℕ → Type 0
     T k = RuleSpelled (ρ k)
 
@@ -126,7 +134,7 @@ module _ (names : List Name) (is : IsNames names) where
       tree_level : ExpandedLevel → tree.Level
       tree_level (level ls ms cs os rs) =
           tree.level (map (leaf_of names) (map (numbered_leaf names number) ls)) (tree_levels ms)
-          (names_of names (map (numbered_context names number) cs)) (names_of names (map (numbered_context names number) os)) (rules (map ρ rs))
+          (map (context_tree names) (map (numbered_context names number) cs)) (names_of names (map (numbered_context names number) os)) (rules (map ρ rs))
 
       tree_levels : ExpandedLevels → tree.Levels
       tree_levels no_level = tree.no_level
@@ -140,7 +148,7 @@ module _ (names : List Name) (is : IsNames names) where
       as_tree (level ls ms cs os rs) =
           fold-roll-Level tree.Level (level_step names ρ) _
           ∙ ap (λ ks. tree.level (map (leaf_of names) (map (numbered_leaf names number) ls)) ks
-          (names_of names (map (numbered_context names number) cs)) (names_of names (map (numbered_context names number) os)) (rules (map ρ rs))) (as_trees ms)
+          (map (context_tree names) (map (numbered_context names number) cs)) (names_of names (map (numbered_context names number) os)) (rules (map ρ rs))) (as_trees ms)
 
       as_trees : (ls : ExpandedLevels) → levels (map (level_of names ρ) (all_numbered names number ls)) ≡ tree_levels ls
       as_trees no_level = refl
@@ -151,7 +159,7 @@ module _ (names : List Name) (is : IsNames names) where
       tree_spelled (level ls ms cs os rs) h s k = (
         leaves_spelled ls h.0 (λ x i. s x (among_left (expanded_links_in ms) i)),
         trees_spelled ms h.1 (λ x i. s x (among_right (expanded_leaves_links ls) i)) (all_of_right T rs (numbers_in ms) k),
-        contexts_spelled cs h.2,
+        untyped_spelled cs h.2,
         contexts_spelled os h.3,
         each_spelled rs (all_of_left T rs (numbers_in ms) k),
       )

@@ -1,5 +1,5 @@
 -- Links of heads in small heaps.
-use Rattle.std.proofs.Common.{false, ℕ, zero, suc, ◌≡◌, ◌≢◌, ◌⊎◌, [], ◌∷◌, Option, Some, None, slice_get, refl, sym, ◌∙◌, ap, subst, inl, inr, arith}
+use Rattle.std.proofs.Common.{true, false, false, ℕ, zero, suc, ◌≡◌, ◌≢◌, ◌⊎◌, [], ◌∷◌, Option, Some, None, slice_get, refl, sym, ◌∙◌, ap, subst, inl, inr, arith}
 use Rattle.std.proofs.lemmas.Option.{same_Some}
 use Rattle.lmn_base.specs.declared.functor.Functor.{Functor}
 use Rattle.lmn_base.specs.declared.functor.Label.{Label}
@@ -41,6 +41,9 @@ joined_ports {x} (zero, suc j) h = absurd (found_none j (subst (λ w. slice_get 
 joined_ports {x} (suc zero, suc j) h = absurd (found_none j (subst (λ w. slice_get w.links (suc j) ≡ Some x) (sym (same_Some _ _ h.1)) h.2))
 joined_ports (suc (suc n), j) h = absurd (found_none n h.1)
 
+pub true_or_false : true ≡ false → ⊥
+true_or_false e = cc e
+
 -- each item at the item with its number
 abbrev pub as_they_are : Images
 as_they_are = record { atom = λ n. n; membrane = λ k. k; part = λ n. (0, 0) }
@@ -58,6 +61,7 @@ joins = record {
     no_other_atom = λ k n y h. absurd (found_none h.0 h.2);
     no_other_membrane = λ k n y h. absurd (found_none h.0 h.2);
     no_rule = λ k n h. absurd (found_none h.0 h.2);
+    closed = λ k n b i p h. absurd (found_none h.0 h.2);
     parts = λ n t h. absurd (found_none n h);
   };
   outside = λ n i x s p h l o inside. absurd (inside (at_top n s h));
@@ -140,6 +144,7 @@ leaves = record {
     no_other_atom = λ k n y h c q. inl (only_a h.0 k n y h.1 (found_one h.0 h.2) q);
     no_other_membrane = λ k n y h c q. absurd (nothing_in h.0 k n y h.1 (found_one h.0 h.2) q);
     no_rule = λ k n h c. no_rules h.0 k n h.1 (found_one h.0 h.2);
+    closed = λ k n b i p h c. absurd (true_or_false (sym c ∙ sym (ap (λ w. w.has_closed_context) (found_one h.0 h.2).1)));
     parts = λ n t h. absurd (found_none n h);
   };
   outside = λ n i x s p h l o inside q w. away n i s p h inside q w;
@@ -156,7 +161,7 @@ leaves = record {
     placed (suc zero) s h = subst (λ w. In 1 (atoms_in through_the_wall w.inside)) (same_Some _ _ h) (inl refl)
     placed (suc (suc n)) s h = absurd (found_none n h)
 
-    inner : (i k : ℕ) (n : HeadMembrane) → k ≡ suc i → (i ≡ 0) × (record { inside = 0; has_context = false; has_rule_context = false } ≡ n) → In k (mems_in through_the_wall n.inside)
+    inner : (i k : ℕ) (n : HeadMembrane) → k ≡ suc i → (i ≡ 0) × (record { inside = 0; has_context = false; has_closed_context = false; has_rule_context = false } ≡ n) → In k (mems_in through_the_wall n.inside)
     inner i k n e d = rw (e, d.0) (subst (λ w. In 1 (mems_in through_the_wall w.inside)) d.1 (inl refl))
 
     alone : (x : ℕ) (p q : Port) → ((x ≡ 0) × (p ≡ (0, 0))) ⊎ ((x ≡ 1) × (p ≡ (1, 0))) → ((x ≡ 0) × (q ≡ (0, 0))) ⊎ ((x ≡ 1) × (q ≡ (1, 0))) → p ≡ q
@@ -178,17 +183,17 @@ leaves = record {
     away (suc zero) i s p h d q w = d (sym (ap (λ v. v.inside) (same_Some _ _ h)))
     away (suc (suc n)) i s p h d q w = found_none n h
 
-    only_a : (i k : ℕ) (n : HeadMembrane) (y : ℕ) → k ≡ suc i → (i ≡ 0) × (record { inside = 0; has_context = false; has_rule_context = false } ≡ n) → In y (atoms_in through_the_wall k) → IsAtomImage a_apart_from_b as_they_are y
+    only_a : (i k : ℕ) (n : HeadMembrane) (y : ℕ) → k ≡ suc i → (i ≡ 0) × (record { inside = 0; has_context = false; has_closed_context = false; has_rule_context = false } ≡ n) → In y (atoms_in through_the_wall k) → IsAtomImage a_apart_from_b as_they_are y
     only_a i k n y e d q = by (subst (λ w. In y (atoms_in through_the_wall w)) (e ∙ ap suc d.0) q)
       where
         by : In y (0 ∷ []) → IsAtomImage a_apart_from_b as_they_are y
         by (inl r) = (0, omega arith, r)
         by (inr r) = absurd r
 
-    nothing_in : (i k : ℕ) (n : HeadMembrane) (y : ℕ) → k ≡ suc i → (i ≡ 0) × (record { inside = 0; has_context = false; has_rule_context = false } ≡ n) → In y (mems_in through_the_wall k) → ⊥
+    nothing_in : (i k : ℕ) (n : HeadMembrane) (y : ℕ) → k ≡ suc i → (i ≡ 0) × (record { inside = 0; has_context = false; has_closed_context = false; has_rule_context = false } ≡ n) → In y (mems_in through_the_wall k) → ⊥
     nothing_in i k n y e d q = subst (λ w. In y (mems_in through_the_wall w)) (e ∙ ap suc d.0) q
 
-    no_rules : (i k : ℕ) (n : HeadMembrane) → k ≡ suc i → (i ≡ 0) × (record { inside = 0; has_context = false; has_rule_context = false } ≡ n) → rules_in through_the_wall k ≡ []
+    no_rules : (i k : ℕ) (n : HeadMembrane) → k ≡ suc i → (i ≡ 0) × (record { inside = 0; has_context = false; has_closed_context = false; has_rule_context = false } ≡ n) → rules_in through_the_wall k ≡ []
     no_rules i k n e d = rw (e, d.0) refl
 
 not_inside : (f : Images) → Embeds a_with_b_inside a_beside_b [] 0 f → ⊥
@@ -237,6 +242,7 @@ stays = record {
   no_other_atom = λ k n y h c q. inl (only_two h.0 k n y h.1 (found_one h.0 h.2) q);
   no_other_membrane = λ k n y h c q. absurd (nothing_in h.0 k n y h.1 (found_one h.0 h.2) q);
   no_rule = λ k n h c. no_rules h.0 k n h.1 (found_one h.0 h.2);
+  closed = λ k n b i p h c. absurd (true_or_false (sym c ∙ sym (ap (λ w. w.has_closed_context) (found_one h.0 h.2).1)));
   parts = λ n t h. absurd (found_none n h);
 }
   where
@@ -250,7 +256,7 @@ stays = record {
     placed (suc zero) s h = subst (λ w. In 1 (atoms_in a_with_b_inside w.inside)) (same_Some _ _ h) (inr (inl refl))
     placed (suc (suc n)) s h = absurd (found_none n h)
 
-    inner : (i k : ℕ) (n : HeadMembrane) → k ≡ suc i → (i ≡ 0) × (record { inside = 0; has_context = false; has_rule_context = false } ≡ n) → In k (mems_in a_with_b_inside n.inside)
+    inner : (i k : ℕ) (n : HeadMembrane) → k ≡ suc i → (i ≡ 0) × (record { inside = 0; has_context = false; has_closed_context = false; has_rule_context = false } ≡ n) → In k (mems_in a_with_b_inside n.inside)
     inner i k n e d = rw (e, d.0) (subst (λ w. In 1 (mems_in a_with_b_inside w.inside)) d.1 (inl refl))
 
     alone : (x : ℕ) (p q : Port) → ((x ≡ 0) × (p ≡ (0, 0))) ⊎ ((x ≡ 1) × (p ≡ (1, 0))) → ((x ≡ 0) × (q ≡ (0, 0))) ⊎ ((x ≡ 1) × (q ≡ (1, 0))) → p ≡ q
@@ -259,7 +265,7 @@ stays = record {
     alone x p q (inr u) (inl w) = absurd (omega (arith, u.0, w.0))
     alone x p q (inr u) (inr w) = u.1 ∙ sym w.1
 
-    only_two : (i k : ℕ) (n : HeadMembrane) (y : ℕ) → k ≡ suc i → (i ≡ 0) × (record { inside = 0; has_context = false; has_rule_context = false } ≡ n) → In y (atoms_in a_with_b_inside k) → IsAtomImage a_beside_b as_they_are y
+    only_two : (i k : ℕ) (n : HeadMembrane) (y : ℕ) → k ≡ suc i → (i ≡ 0) × (record { inside = 0; has_context = false; has_closed_context = false; has_rule_context = false } ≡ n) → In y (atoms_in a_with_b_inside k) → IsAtomImage a_beside_b as_they_are y
     only_two i k n y e d q = by (subst (λ w. In y (atoms_in a_with_b_inside w)) (e ∙ ap suc d.0) q)
       where
         by : In y (0 ∷ 1 ∷ []) → IsAtomImage a_beside_b as_they_are y
@@ -267,10 +273,10 @@ stays = record {
         by (inr (inl r)) = (1, omega arith, r)
         by (inr (inr r)) = absurd r
 
-    nothing_in : (i k : ℕ) (n : HeadMembrane) (y : ℕ) → k ≡ suc i → (i ≡ 0) × (record { inside = 0; has_context = false; has_rule_context = false } ≡ n) → In y (mems_in a_with_b_inside k) → ⊥
+    nothing_in : (i k : ℕ) (n : HeadMembrane) (y : ℕ) → k ≡ suc i → (i ≡ 0) × (record { inside = 0; has_context = false; has_closed_context = false; has_rule_context = false } ≡ n) → In y (mems_in a_with_b_inside k) → ⊥
     nothing_in i k n y e d q = subst (λ w. In y (mems_in a_with_b_inside w)) (e ∙ ap suc d.0) q
 
-    no_rules : (i k : ℕ) (n : HeadMembrane) → k ≡ suc i → (i ≡ 0) × (record { inside = 0; has_context = false; has_rule_context = false } ≡ n) → rules_in a_with_b_inside k ≡ []
+    no_rules : (i k : ℕ) (n : HeadMembrane) → k ≡ suc i → (i ≡ 0) × (record { inside = 0; has_context = false; has_closed_context = false; has_rule_context = false } ≡ n) → rules_in a_with_b_inside k ≡ []
     no_rules i k n e d = rw (e, d.0) refl
 
 -- a head may lie where it doesn't embed

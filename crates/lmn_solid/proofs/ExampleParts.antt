@@ -117,6 +117,7 @@ lies = record {
     no_other_atom = λ k n y h. absurd (found_none h.0 h.2);
     no_other_membrane = λ k n y h. absurd (found_none h.0 h.2);
     no_rule = λ k n h. absurd (found_none h.0 h.2);
+    closed = λ k n b i p h. absurd (found_none h.0 h.2);
     parts = λ n t h. part n t (found_one n h);
   };
   outside = λ n i x s p h l o inside. absurd (inside (sym (ap (λ w. w.inside) (found_one n h).1)));

@@ -21,13 +21,13 @@ abbrev pub bare : List HeadItem → List HeadItem
 bare [] = []
 bare (Atom f xs m ∷ is) = Atom f xs 0 ∷ bare is
 bare (Typed n k x m ∷ is) = Typed n k x 0 ∷ bare is
-bare (Membrane m c r ∷ is) = bare is
+bare (Membrane m c cl r ∷ is) = bare is
 
 bare_append : (as' bs : List HeadItem) → bare (as' ++ bs) ≡ bare as' ++ bare bs
 bare_append [] bs = refl
 bare_append (Atom f xs m ∷ is) bs = ap (λ k. Atom f xs 0 ∷ k) (bare_append is bs)
 bare_append (Typed n k x m ∷ is) bs = ap (λ l. Typed n k x 0 ∷ l) (bare_append is bs)
-bare_append (Membrane m c r ∷ is) bs = bare_append is bs
+bare_append (Membrane m c cl r ∷ is) bs = bare_append is bs
 
 leaves_append : (kind : ℕ → TypeKind) (ls ms : List Leaf) → leaf_items kind 0 (ls ++ ms) ≡ leaf_items kind 0 ls ++ leaf_items kind 0 ms
 leaves_append kind [] ms = refl
@@ -95,7 +95,7 @@ bare_times : (x : ℕ) (is : List HeadItem) → times x (links_of_head is) ≡ t
 bare_times x [] = refl
 bare_times x (Atom f xs m ∷ is) = atom_times x f xs m is ∙ (ap (λ k. times x xs + k) (bare_times x is) ∙ sym (atom_times x f xs 0 (bare is)))
 bare_times x (Typed n k y m ∷ is) = let a = typed_times x n k y m is in let b = typed_times x n k y 0 (bare is) in let c = bare_times x is in omega (arith, a, b, c)
-bare_times x (Membrane m c r ∷ is) = bare_times x is
+bare_times x (Membrane m c cl r ∷ is) = bare_times x is
 
 leaves_times : (kind : ℕ → TypeKind) (x : ℕ) (ls : List Leaf) → times x (links_of_head (leaf_items kind 0 ls)) ≡ times x (map (λ o. o.link) (flat_map occurrences_of_leaf ls))
 leaves_times kind x [] = refl

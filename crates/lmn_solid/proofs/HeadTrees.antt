@@ -1,9 +1,8 @@
 -- The head of a rule as a tree, whose levels hold levels. What is shown of the tree by recursion holds of the level.
 use Rattle.std.proofs.Common.{ℕ, ◌≡◌, ◌+◌, Bool, List, [], ◌∷◌, ◌++◌, length, map, sum, refl, ap, arith, subst, ◌∙◌}
-use Rattle.std.specs.List.{flat_map}
+use Rattle.std.specs.List.{flat_map, list_any}
 use Rattle.std.proofs.lemmas.List.Sums.{sum_by-cons}
 use Rattle.lmn_base.specs.declared.item.Item.{Item}
-use Rattle.lmn_base.specs.declared.item.Form.TheVariants.{Bare}
 use Rattle.lmn_base.specs.declared.item.Item.TheVariants as item
 use Rattle.lmn_base.specs.declared.level.CtxUse.{CtxUse}
 use Rattle.lmn_base.specs.declared.level.Leaf.{Leaf}
@@ -11,7 +10,7 @@ use Rattle.lmn_base.specs.declared.level.Level.{Level}
 use Rattle.lmn_base.specs.declared.level.Level.TheOpen.{Level-F}
 use Rattle.lmn_base.specs.declared.level.Level.TheFolds.{fold-Level, fold-roll-Level, ind-Level}
 use Rattle.lmn_base.specs.Items as base
-use Rattle.lmn_base.specs.Items.{own_items, used, number_step, number_of_items}
+use Rattle.lmn_base.specs.Items.{own_items, number_step, number_of_items}
 use Rattle.lmn_base.specs.Levels.{leaves_of, rules_of}
 use Rattle.lmn_guards.specs.declared.plan.TypeKind.{TypeKind}
 use Rattle.lmn_guards.specs.Plans.{leaves_by_membrane}
@@ -46,6 +45,10 @@ head_at = fold-Level Head head_step
 abbrev pub has_context : Head → Bool
 has_context (head leaves membranes contexts rule_contexts rs) = has_some contexts
 
+-- it has a closed one
+abbrev pub has_closed_context : Head → Bool
+has_closed_context (head leaves membranes contexts rule_contexts rs) = list_any (λ u. u.closed) contexts
+
 -- it has a rule context
 abbrev pub has_rule_context : Head → Bool
 has_rule_context (head leaves membranes contexts rule_contexts rs) = has_some rule_contexts
@@ -67,13 +70,14 @@ abbrev mutual
   pub flat_membranes : (ℕ → TypeKind) → ℕ → ℕ → Heads → List HeadItem
   flat_membranes kind inside next no_head = []
   flat_membranes kind inside next (head_and h hs) =
-      Membrane inside (has_context h) (has_rule_context h) ∷ flat_items kind next (next + 1) h ++ flat_membranes kind inside (next + 1 + size h) hs
+      Membrane inside (has_context h) (has_closed_context h) (has_rule_context h) ∷ flat_items kind next (next + 1) h ++ flat_membranes kind inside (next + 1 + size h) hs
 
 abbrev flattened : (ℕ → TypeKind) → Head → Unnumbered
 flattened kind h = record {
   items = λ inside next. flat_items kind inside next h;
   size = size h;
   has_context = has_context h;
+  has_closed_context = has_closed_context h;
   has_rule_context = has_rule_context h;
 }
 
@@ -92,7 +96,7 @@ module _ (kind : ℕ → TypeKind) where
   flat_in : (inside next : ℕ) (hs : List Head) → head_membrane_items inside next (map (flattened kind) hs) ≡ flat_membranes kind inside next (heads hs)
   flat_in inside next [] = refl
   flat_in inside next (h ∷ hs) =
-      ap (λ ys. Membrane inside (has_context h) (has_rule_context h) ∷ flat_items kind next (next + 1) h ++ ys) (flat_in inside (next + 1 + size h) hs)
+      ap (λ ys. Membrane inside (has_context h) (has_closed_context h) (has_rule_context h) ∷ flat_items kind next (next + 1) h ++ ys) (flat_in inside (next + 1 + size h) hs)
 
   level_flat : (l : Level) → AsFlat l
   level_flat = ind-Level AsFlat (λ y z is.
@@ -102,6 +106,7 @@ module _ (kind : ℕ → TypeKind) where
         items = λ n k. leaf_items kind n y.leaves ++ flat_in n k (map head_at y.membranes) i;
         size = sized (map head_at y.membranes) i;
         has_context = has_some y.contexts;
+        has_closed_context = list_any (λ u. u.closed) y.contexts;
         has_rule_context = has_some y.rule_contexts;
       }))
 
@@ -160,7 +165,7 @@ same_membranes = ind-Level SameMembranes (λ y z is.
 
 abbrev mutual
   pub head_uses : Head → List Item
-  head_uses (head leaves hs cs rcs rs) = (map base.leaf_item leaves ++ (map (used Bare) cs ++ (map item.RuleContext rcs ++ map item.Rule rs))) ++ heads_uses hs
+  head_uses (head leaves hs cs rcs rs) = (map base.leaf_item leaves ++ (map base.untyped cs ++ (map item.RuleContext rcs ++ map item.Rule rs))) ++ heads_uses hs
 
   pub heads_uses : Heads → List Item
   heads_uses no_head = []

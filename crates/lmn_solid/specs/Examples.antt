@@ -66,7 +66,7 @@ LinksJoin = EmbedsInRoot a_with_b a_joined_to_b [] × (¬ (EmbedsInRoot c_betwee
 
 -- the head `{a(X)}, b(Y)` lies in `{a(X)}, b(X)`: two links of the head may be one link
 abbrev pub a_apart_from_b : List HeadItem
-a_apart_from_b = Membrane 0 false false ∷ Atom (a_of_arity 1) (0 ∷ []) 1 ∷ Atom (b_of_arity 1) (1 ∷ []) 0 ∷ []
+a_apart_from_b = Membrane 0 false false false ∷ Atom (a_of_arity 1) (0 ∷ []) 1 ∷ Atom (b_of_arity 1) (1 ∷ []) 0 ∷ []
 
 abbrev pub through_the_wall : Heap
 through_the_wall = heap_with
@@ -75,7 +75,7 @@ through_the_wall = heap_with
 
 -- but the head `{a(X), b(Y)}` doesn't lie in `{a(X), b(X)}`: there X doesn't leave the membrane
 abbrev pub a_beside_b : List HeadItem
-a_beside_b = Membrane 0 false false ∷ Atom (a_of_arity 1) (0 ∷ []) 1 ∷ Atom (b_of_arity 1) (1 ∷ []) 1 ∷ []
+a_beside_b = Membrane 0 false false false ∷ Atom (a_of_arity 1) (0 ∷ []) 1 ∷ Atom (b_of_arity 1) (1 ∷ []) 1 ∷ []
 
 abbrev pub a_with_b_inside : Heap
 a_with_b_inside = heap_with
@@ -102,9 +102,18 @@ filled_membrane = heap_with
 
 abbrev pub ContextsTakeTheRest : Type 0
 ContextsTakeTheRest =
-    EmbedsInRoot filled_membrane (a_in_membrane (Membrane 0 true true)) []
-    × (¬ (EmbedsInRoot filled_membrane (a_in_membrane (Membrane 0 false true)) []))
-    × (¬ (EmbedsInRoot filled_membrane (a_in_membrane (Membrane 0 true false)) []))
+    EmbedsInRoot filled_membrane (a_in_membrane (Membrane 0 true false true)) []
+    × (¬ (EmbedsInRoot filled_membrane (a_in_membrane (Membrane 0 false false true)) []))
+    × (¬ (EmbedsInRoot filled_membrane (a_in_membrane (Membrane 0 true false false)) []))
+
+-- ---- a closed rest
+
+-- The head `{$p[]}` embeds in `{a(X), b(X)}`, and not in `{a(X)}, b(X)`: there a link leaves the rest.
+abbrev pub rest_in_membrane : List HeadItem
+rest_in_membrane = Membrane 0 true true false ∷ []
+
+abbrev pub ClosedRestsAreClosed : Type 0
+ClosedRestsAreClosed = EmbedsInRoot a_with_b_inside rest_in_membrane [] × (¬ (EmbedsInRoot through_the_wall rest_in_membrane []))
 
 -- ---- parts
 
@@ -126,7 +135,7 @@ abbrev pub a_of_int : List HeadItem
 a_of_int = Atom (a_of_arity 1) (0 ∷ []) 0 ∷ Typed 7 kind.Int 0 0 ∷ []
 
 abbrev pub below_three : List Cond
-below_three = Compare Lt (expr.Ctx (record { name = 7; pos = somewhere })) (expr.Int (pos 3)) somewhere ∷ []
+below_three = Compare Lt (expr.Ctx (record { name = 7; closed = false; pos = somewhere })) (expr.Int (pos 3)) somewhere ∷ []
 
 -- an integer beside `a_of_arity`, and in a membrane
 abbrev pub a_with_number : ℕ → Heap

@@ -1,6 +1,6 @@
 //! Small heads in small heaps, worked out: each the contract of an empty function.
 
-ghost use Rattle.lmn_solid.specs.Examples.{LinksJoin, LinksLeave, LinksMayStay, ContextsTakeTheRest};
+ghost use Rattle.lmn_solid.specs.Examples.{LinksJoin, LinksLeave, LinksMayStay, ContextsTakeTheRest, ClosedRestsAreClosed};
 ghost use Rattle.lmn_solid.specs.Examples.{PartsHaveNoImage, GuardsAskParts, HeapPortsAreTold};
 
 /// `a(X), b(X)` embeds in itself, and not in `a(X), b(Y), c(X,Y)`.
@@ -25,6 +25,12 @@ pub fn links_may_stay()
 #[tactic(auto, using(crate::proofs::ExampleContexts::contexts_take_the_rest))]
 pub fn contexts_take_the_rest()
     ensures { ContextsTakeTheRest }
+{}
+
+/// `{$p[]}` embeds in `{a(X), b(X)}`, and not in `{a(X)}, b(X)`.
+#[tactic(auto, using(crate::proofs::ExampleContexts::closed_rests_are_closed))]
+pub fn closed_rests_are_closed()
+    ensures { ClosedRestsAreClosed }
 {}
 
 /// `a($x,Z)` with a ground part doesn't embed in `a(X,Y), b(X,Y)`.

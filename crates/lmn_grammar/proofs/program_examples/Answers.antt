@@ -13,6 +13,9 @@ one_of_two = omega arith
 one_of_four : 1 < 4
 one_of_four = omega arith
 
+two_of_five : 2 < 5
+two_of_five = omega arith
+
 seven_of_nine : 7 < 9
 seven_of_nine = omega arith
 
@@ -22,6 +25,9 @@ seven_of_ten = omega arith
 abbrev text : List Kind
 text = Name ∷ AtAt ∷ Name ∷ LParen ∷ Link ∷ RParen ∷ Backslash ∷ LBrace ∷ Context ∷ RBrace ∷ Arrow ∷ Context ∷ Less ∷ Int ∷ Plus ∷ Int ∷ Bar
     ∷ Name ∷ Comma ∷ Link ∷ Equal ∷ LBracket ∷ Name ∷ Bar ∷ Link ∷ RBracket ∷ Dot ∷ []
+
+abbrev contexts : List Kind
+contexts = LBrace ∷ Context ∷ LBracket ∷ RBracket ∷ RBrace ∷ Comma ∷ Context ∷ LBracket ∷ Link ∷ RBracket ∷ Arrow ∷ Name ∷ []
 
 pub returns : goal.returns
 unfolding stop
@@ -33,5 +39,7 @@ returns c = record {
     refused_plain _ 1 (within_scanned _ refl) refl one_of_two,
     refused_plain _ 1 (within_scanned _ refl) refl one_of_four,
     refused_plain _ 1 (within_scanned _ refl) refl one_of_four,
+    refused_plain _ 2 (within_scanned _ refl) refl two_of_five,
   );
+  contexts = begun_to_end contexts (all_begins (contexts ++ End ∷ []) refl);
 }

@@ -1,12 +1,13 @@
-use Rattle.std.proofs.Common.{refl, sym, ap, ◌∙◌, ◌≡◌, List, [], ◌∷◌, ◌++◌, ℕ, length, codes, subst, arith}
+use Rattle.std.proofs.Common.{true, false, refl, sym, ap, ◌∙◌, ◌≡◌, List, [], ◌∷◌, ◌++◌, ℕ, length, codes, subst, arith}
 use Rattle.std.specs.Prelude.{option_to_list}
+use Rattle.lmn_base.specs.declared.level.CtxUse.{CtxUse}
 use Rattle.std.proofs.lemmas.Result.{on_ok_weaker}
 use Rattle.lmn_congruence.specs.Rules.{named}
 use Rattle.lmn_parser.specs.Syntax.{clause_of, clauses_of, item_of, items_of_nodes, term_of, terms_of, conditions_of, list, list_onto, membrane, clause_of_rule}
 use Rattle.lmn_parser.specs.declared.tree.Clause.TheViews as view
 use Rattle.lmn_parser.specs.declared.tree.Term.{Term as TermNode}
 use Rattle.lmn_parser.proofs.Nodes as nodes
-use Rattle.lmn_parser.proofs.Nodes.{clause_process, clause_rule, item_atom, item_membrane, item_context, item_bracketed, item_rule_context, item_plus, item_equal, term_link, term_atom, term_list, term_list_onto, term_context, term_membrane}
+use Rattle.lmn_parser.proofs.Nodes.{clause_process, clause_rule, item_atom, item_membrane, item_context, item_closed, item_bracketed, item_rule_context, item_plus, item_equal, term_link, term_atom, term_list, term_list_onto, term_context, term_membrane}
 use Rattle.lmn_plain.specs.Expanded.{atom_leaf}
 use Rattle.lmn_plain.specs.Expansion as expansion
 use Rattle.lmn_plain.specs.Keys.{IsLinkIn, IsKey}
@@ -134,9 +135,18 @@ add_item-returns-in_ok-context-in-Context t c = on_ok_weaker c.push.result
     (λ grown r way keys ready.
     grows_is r (Under way) keys (expansion.expanded_item r.words r.places way) _ _ c.args.part.now c.args.table.now _ c.args.table.now c.args.scope.now
     (ap item_of c.in-Context.is ∙ item_context c.in-Context.token)
-    (context_grows r (Under way) keys c.in-Context.token c.in_ok-context-in-Context.context c.args.part.now c.args.table.now c.args.scope.now c.push.new.self ready.scope
+    (context_grows r false (Under way) keys c.in-Context.token c.in_ok-context-in-Context.context c.args.part.now c.args.table.now c.args.scope.now c.push.new.self ready.scope
     (c.in_ok-context-in-Context.ensures r ready.glossary) grown))
     c.push.ensures.ok
+
+pub add_item-returns-in_ok-context-in-Closed : goal.add_item-returns-in_ok-context-in-Closed
+add_item-returns-in_ok-context-in-Closed t c = on_ok_weaker c.push-in-Closed.result
+    (λ grown r way keys ready.
+    grows_is r (Under way) keys (expansion.expanded_item r.words r.places way) _ _ c.args.part.now c.args.table.now _ c.args.table.now c.args.scope.now
+    (ap item_of c.in-Closed.is ∙ item_closed c.in-Closed.token)
+    (context_grows r true (Under way) keys c.in-Closed.token _ c.args.part.now c.args.table.now c.args.scope.now c.push-in-Closed.new.self ready.scope
+    (ap (λ (u : CtxUse). record { name = u.name; closed = true; pos = u.pos }) (c.in_ok-context-in-Closed.ensures r ready.glossary)) grown))
+    c.push-in-Closed.ensures.ok
 
 pub add_item-returns-in_ok-link-in-Bracketed : goal.add_item-returns-in_ok-link-in-Bracketed
 add_item-returns-in_ok-link-in-Bracketed t c = on_ok_weaker c.add_typed.result

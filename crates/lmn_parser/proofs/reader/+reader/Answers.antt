@@ -6,7 +6,7 @@ use Rattle.lmn_grammar.proofs.Stops.{advance, dead_here, within_taken}
 use Rattle.lmn_grammar.proofs.SameLanguage.{seq}
 use Rattle.lmn_grammar.proofs.Choices.{opt_some, opt_before, opt_sign_taken, opt_sign_none, sign_taken, more_taken, more_done}
 use Rattle.lmn_grammar.proofs.Items.{atom_taken, item_atom, item_membrane, item_context, item_rule_context, item_plus, item_group, item_link, item_tlist}
-use Rattle.lmn_grammar.proofs.Terms.{term_link, term_atom, term_context, term_membrane, term_tlist, arguments_some, arguments_none, tlist_terms, context_bracket, context_equal, context_alone}
+use Rattle.lmn_grammar.proofs.Terms.{term_link, term_atom, term_context, term_membrane, term_tlist, arguments_some, arguments_none, tlist_terms, context_bracket, brackets_link, brackets_empty, context_equal, context_alone}
 use Rattle.lmn_grammar.proofs.Clauses.{closers_opt_list, arrow_opt_list, tail_opt_list, closers_opt_tail, ends_item, ends_left, ends_term, closers_round, ends_curly, closers_more, opt_list_none, opt_list_some, list_parts, tail_backslash, tail_arrow, rule_parts, clause_named, clause_list, clause_tail, list_or_rule, list_ends, clauses_some, clauses_none, more_stop, more_none}
 use Rattle.lmn_grammar.proofs.Bodies.{body_bar, body_guarded, body_stops, body_beyond, body_listed}
 use Rattle.lmn_parser.specs.Parsing.{kinds_of}
@@ -15,9 +15,9 @@ use Rattle.lmn_parser.proofs.Onward.{onward, refused, guard_stops, list_stops, s
 use Rattle.std.proofs.lemmas.Result.{IfOk-weaker}
 use Rattle.lmn_parser.specs.Trees.{is_list, some_list, named_rule, unnamed_rule, some_kept}
 use Rattle.lmn_parser.proofs.Names.{name_at, atom_at}
-use Rattle.lmn_parser.proofs.BuiltTerms.{atom_read, arguments_missing, arguments_empty, arguments_closed, terms_first, terms_next, link_read, context_read, atom_term_read, membrane_term_read, list_empty, list_closed, list_open, rule_context_read, plus_read, group_read, context_item_read, bracketed_read, atom_item_read, membrane_item_read, equation_read, items_first, items_next, no_item_there}
+use Rattle.lmn_parser.proofs.BuiltTerms.{atom_read, arguments_missing, arguments_empty, arguments_closed, terms_first, terms_next, link_read, context_read, atom_term_read, membrane_term_read, list_empty, list_closed, list_open, rule_context_read, plus_read, group_read, context_item_read, closed_read, bracketed_read, atom_item_read, membrane_item_read, equation_read, items_first, items_next, no_item_there}
 use Rattle.lmn_parser.proofs.BuiltClauses.{stands_there, clauses_first, clauses_next, clauses_stopped, clauses_ended, no_clause_there, membrane_closed, process_read, all_heads_taken, rule_read, body_alone, body_behind_bar, body_behind_guard}
-use Rattle.lmn_parser.proofs.Decisions.{two_behind, term_other, item_other}
+use Rattle.lmn_parser.proofs.Decisions.{two_behind, three_behind, term_other, item_other}
 use Rattle.lmn_parser.proofs.reader.+reader.Goals as goal
 
 pub term-returns-then-is_at-clause-reads : goal.term-returns-then-is_at-clause-reads
@@ -171,22 +171,28 @@ pub item-returns-then-is_at-3-clause-tree : goal.item-returns-then-is_at-3-claus
 item-returns-then-is_at-3-clause-tree t c = group_read _ _ _ _ _ _ c.in_ok-clause-2.ensures.ok (search rules) c.in_ok-clause.ensures.tree c.in_ok-after.ensures.found
 
 pub context-returns-in_err-end-clause-reads : goal.context-returns-in_err-end-clause-reads
-context-returns-in_err-end-clause-reads t c κ h = refused _ _ _ _ κ _ _ _ (item_context (kinds_of c.args.tokens.now) c.args.at κ c.requires.context ∙ context_bracket (kinds_of c.args.tokens.now) (c.args.at + 1) κ h (search rules) ∙ two_behind (kinds_of c.args.tokens.now) c.args.at ((Tok Link ∷ Tok RBracket ∷ κ) ∷ [])) (c.in_err-end.ensures.reads (Tok RBracket ∷ κ)) c.from_residual.ensures.1
+context-returns-in_err-end-clause-reads t c κ h = refused _ _ _ _ κ _ _ _ (item_context (kinds_of c.args.tokens.now) c.args.at κ c.requires.context ∙ context_bracket (kinds_of c.args.tokens.now) (c.args.at + 1) κ h (search rules) ∙ two_behind (kinds_of c.args.tokens.now) c.args.at ((Opt (Tok Link) ∷ Tok RBracket ∷ κ) ∷ []) ∙ brackets_link (kinds_of c.args.tokens.now) (c.args.at + 2) κ (search rules)) (c.in_err-end.ensures.reads (Tok RBracket ∷ κ)) c.from_residual.ensures.1
 
 pub context-returns-in_err-after-clause-reads : goal.context-returns-in_err-after-clause-reads
-context-returns-in_err-after-clause-reads t c κ h = refused _ _ _ _ κ _ _ _ (item_context (kinds_of c.args.tokens.now) c.args.at κ c.requires.context ∙ context_bracket (kinds_of c.args.tokens.now) (c.args.at + 1) κ h (search rules) ∙ two_behind (kinds_of c.args.tokens.now) c.args.at ((Tok Link ∷ Tok RBracket ∷ κ) ∷ []) ∙ c.in_ok-end.ensures.reads (Tok RBracket ∷ κ)) (c.in_err-after.ensures.reads κ) c.from_residual-in_err-after.ensures.1
+context-returns-in_err-after-clause-reads t c κ h = refused _ _ _ _ κ _ _ _ (item_context (kinds_of c.args.tokens.now) c.args.at κ c.requires.context ∙ context_bracket (kinds_of c.args.tokens.now) (c.args.at + 1) κ h (search rules) ∙ two_behind (kinds_of c.args.tokens.now) c.args.at ((Opt (Tok Link) ∷ Tok RBracket ∷ κ) ∷ []) ∙ brackets_link (kinds_of c.args.tokens.now) (c.args.at + 2) κ (search rules) ∙ c.in_ok-end.ensures.reads (Tok RBracket ∷ κ)) (c.in_err-after.ensures.reads κ) c.from_residual-in_err-after.ensures.1
 
 pub context-returns-then-is_at-clause-reads : goal.context-returns-then-is_at-clause-reads
-context-returns-then-is_at-clause-reads t c κ h = item_context (kinds_of c.args.tokens.now) c.args.at κ c.requires.context ∙ context_bracket (kinds_of c.args.tokens.now) (c.args.at + 1) κ h (search rules) ∙ two_behind (kinds_of c.args.tokens.now) c.args.at ((Tok Link ∷ Tok RBracket ∷ κ) ∷ []) ∙ c.in_ok-end.ensures.reads (Tok RBracket ∷ κ) ∙ c.in_ok-after.ensures.reads κ
+context-returns-then-is_at-clause-reads t c κ h = item_context (kinds_of c.args.tokens.now) c.args.at κ c.requires.context ∙ context_bracket (kinds_of c.args.tokens.now) (c.args.at + 1) κ h (search rules) ∙ two_behind (kinds_of c.args.tokens.now) c.args.at ((Opt (Tok Link) ∷ Tok RBracket ∷ κ) ∷ []) ∙ brackets_link (kinds_of c.args.tokens.now) (c.args.at + 2) κ (search rules) ∙ c.in_ok-end.ensures.reads (Tok RBracket ∷ κ) ∙ c.in_ok-after.ensures.reads κ
 
 pub context-returns-then-is_at-clause-tree : goal.context-returns-then-is_at-clause-tree
 context-returns-then-is_at-clause-tree t c = bracketed_read _ _ _ _ c.requires.context (search rules) c.in_ok-end.ensures.found c.in_ok-after.ensures.found
 
 pub context-returns-then-is_at-2-clause-reads : goal.context-returns-then-is_at-2-clause-reads
-context-returns-then-is_at-2-clause-reads t c κ h = onward _ _ _ _ _ κ c.equation.result (item_context (kinds_of c.args.tokens.now) c.args.at κ c.requires.context ∙ context_equal (kinds_of c.args.tokens.now) (c.args.at + 1) κ h (search rules) ∙ sym (sign_taken (kinds_of c.args.tokens.now) (c.args.at + 1) Equal (Ref TermPart) κ (search rules))) (c.equation.ensures.reads κ h.0)
+context-returns-then-is_at-2-clause-reads t c κ h = item_context (kinds_of c.args.tokens.now) c.args.at κ c.requires.context ∙ context_bracket (kinds_of c.args.tokens.now) (c.args.at + 1) κ h (search rules) ∙ two_behind (kinds_of c.args.tokens.now) c.args.at ((Opt (Tok Link) ∷ Tok RBracket ∷ κ) ∷ []) ∙ brackets_empty (kinds_of c.args.tokens.now) (c.args.at + 2) κ (search rules) ∙ three_behind (kinds_of c.args.tokens.now) c.args.at (κ ∷ [])
 
 pub context-returns-then-is_at-2-clause-tree : goal.context-returns-then-is_at-2-clause-tree
-context-returns-then-is_at-2-clause-tree t c = c.equation.ensures.tree c.args.at (context_read c.args.tokens.now c.args.at c.requires.context)
+context-returns-then-is_at-2-clause-tree t c = closed_read c.args.tokens.now c.args.at c.requires.context (search rules) (search rules)
+
+pub context-returns-then-is_at-3-clause-reads : goal.context-returns-then-is_at-3-clause-reads
+context-returns-then-is_at-3-clause-reads t c κ h = onward _ _ _ _ _ κ c.equation.result (item_context (kinds_of c.args.tokens.now) c.args.at κ c.requires.context ∙ context_equal (kinds_of c.args.tokens.now) (c.args.at + 1) κ h (search rules) ∙ sym (sign_taken (kinds_of c.args.tokens.now) (c.args.at + 1) Equal (Ref TermPart) κ (search rules))) (c.equation.ensures.reads κ h.0)
+
+pub context-returns-then-is_at-3-clause-tree : goal.context-returns-then-is_at-3-clause-tree
+context-returns-then-is_at-3-clause-tree t c = c.equation.ensures.tree c.args.at (context_read c.args.tokens.now c.args.at c.requires.context)
 
 pub context-returns-clause-reads : goal.context-returns-clause-reads
 context-returns-clause-reads t c κ h = item_context (kinds_of c.args.tokens.now) c.args.at κ c.requires.context ∙ context_alone (kinds_of c.args.tokens.now) (c.args.at + 1) κ (search rules) (search rules)

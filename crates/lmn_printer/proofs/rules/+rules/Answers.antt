@@ -41,10 +41,10 @@ add_level-returns g t c =
     let inner = row_all (codes ", ") c.add_leaves-any.result f c.as_slice-inner-items.result.now c.loop-inner.inner-index c.loop-inner.any _ _ c.loop-inner-test.false c.loop-inner.invariant in
     let rule = row_all (codes ", ") c.add_contexts-before.result (rule_text c.args.names.now c.args.first c.args.table.now) c.as_slice-rule-items.result.now c.loop-rule.rule-index c.loop-rule.any _ _ c.loop-rule-test.false c.loop-rule.invariant in
     level_written c.args.names.now c.args.first c.args.table.now c.args.level.now c.as_slice.result.now c.as_slice-inner-items.result.now c.as_slice-2.result.now c.as_slice-3.result.now c.as_slice-rule-items.result.now
-    c.add_leaves-any.result c.loop-inner.any c.add_contexts-contexts.result c.add_contexts-before.result _ _ _ _ _ _
+    c.add_leaves-any.result c.loop-inner.any c.add_untyped-contexts.result c.add_contexts-before.result _ _ _ _ _ _
     c.as_slice.ensures c.as_slice-inner-items.ensures c.as_slice-2.ensures c.as_slice-3.ensures c.as_slice-rule-items.ensures
-    c.add_leaves-any.ensures.any inner.1 c.add_contexts-contexts.ensures.any c.add_contexts-before.ensures.any
-    c.add_leaves-any.ensures.text inner.0 c.add_contexts-contexts.ensures.text c.add_contexts-before.ensures.text rule.0
+    c.add_leaves-any.ensures.any inner.1 c.add_untyped-contexts.ensures.any c.add_contexts-before.ensures.any
+    c.add_leaves-any.ensures.text inner.0 c.add_untyped-contexts.ensures.text c.add_contexts-before.ensures.text rule.0
 
 pub add_rule_from-returns-in-Some : goal.add_rule_from-returns-in-Some
 add_rule_from-returns-in-Some g t c =
