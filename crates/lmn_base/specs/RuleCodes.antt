@@ -21,6 +21,7 @@ use Rattle.lmn_base.specs.declared.rule.RuleTree.{RuleTree}
 use Rattle.lmn_base.specs.Firsts.{Row}
 use Rattle.lmn_base.specs.Items.{own_items, items_of, rule_items, number_of_items}
 use Rattle.lmn_base.specs.Levels.{everywhere}
+use Rattle.lmn_base.specs.Limits.{most_head_items, most_body_items, most_conditions, most_guard_tokens}
 use Rattle.lmn_base.specs.PlaceOrder.{not_after}
 use Rattle.lmn_base.specs.Uses.{is_some_place, has_use}
 
@@ -38,9 +39,10 @@ condition_tokens (Compare op left right pos) = expression_tokens left + expressi
 condition_tokens (Equal left right pos) = 1 + expression_tokens right
 condition_tokens (Differ left right pos) = 2
 
--- more than 128 items in the head, 1,024 in the body, 64 conditions, or 256 integers and contexts in the guard
+-- too many items in the head or in the body, conditions, or integers and contexts in the guard
 abbrev pub is_too_large : RuleTree → Bool
-is_too_large r = nat_lt 128 (number_of_items r.head) || (nat_lt 1024 (number_of_items r.body) || (nat_lt 64 (length r.guard) || nat_lt 256 (sum_by condition_tokens r.guard)))
+is_too_large r = nat_lt most_head_items (number_of_items r.head) || (nat_lt most_body_items (number_of_items r.body)
+    || (nat_lt most_conditions (length r.guard) || nat_lt most_guard_tokens (sum_by condition_tokens r.guard)))
 
 abbrev pub too_large : RuleTree → Row
 too_large r = record { code = 44; places = if is_too_large r then r.pos ∷ [] else [] }

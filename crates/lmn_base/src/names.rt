@@ -1,4 +1,5 @@
 ghost use Rattle.std.specs.Prelude.{◌≡◌, ◌≤◌, ◌<◌, ◌^◌, ◌++◌, [], ◌∷◌, length, slice_get, Some, Contains, IfOk, OnOk, OnErr, IfSome, IfNone};
+ghost use Rattle.lmn_base.specs.Limits.{longest_name};
 ghost use Rattle.lmn_base.specs.Names.{first_names, IsNames};
 ghost use Rattle.lmn_base.specs.HeldNames.{names_in};
 
@@ -94,11 +95,11 @@ impl Names {
         self.others.len() + 4
     }
 
-    /// The number of a name of at most 255 bytes, where fewer than 2^32 names are held. A name that is held
+    /// The number of a name that isn't too long, where fewer than 2^32 names are held. A name that is held
     /// keeps its number, and takes no memory; a new one goes to the end of the list.
     /// At want of memory nothing has changed.
     pub fn put(&mut self, name: &[u8]) -> Result<u32, NoMemory>
-        requires short { length name.now ≤ 255 }
+        requires short { length name.now ≤ longest_name }
         requires room { length self.old < 2 ^ 32 }
         ensures number { IfOk result (λ number. slice_get self.new number ≡ Some name.now) }
         ensures held { OnOk result (Contains self.old name.now → self.new ≡ self.old) }
