@@ -17,9 +17,9 @@ use Rattle.lmn_base.specs.declared.functor.Label.TheVariants.{Name}
 use Rattle.lmn_base.specs.declared.refusal.Pos.{Pos}
 use Rattle.lmn_base.specs.declared.rule.RuleTree.{RuleTree}
 use Rattle.lmn_base.specs.Items.{items_of, own_items, leaf_item, untyped, guard_items, number_of_items, number_step}
-use Rattle.lmn_base.specs.RuleCodes.{rule_rows, untyped_place, rule_context_place, connector_place, inner_rule, seconds, seconds_by_membrane, first_with_some, used_again, in_other_form, missing, bare_again, from_nowhere}
+use Rattle.lmn_base.specs.RuleCodes.{rule_rows, untyped_place, rule_context_place, connector_place, inner_rule, seconds, seconds_by_membrane, first_with_some, used_again, in_other_form, missing, bare_again, from_nowhere, closed_place}
 use Rattle.lmn_base.proofs.ItemLemmas.{listed_items as listed}
-use Rattle.lmn_contexts.specs.Examples.{name_r, context_x, alone, holding, empty, membrane_with_contexts, without_guard, EmptyHead, RuleInHead, ConnectorInHead, ContextAtTop, RuleContextAtTop, TwoInMembrane, OuterPairFirst, TwiceInHead, TwiceInTwoForms, NotInBody, TwiceInBody, NotInHead, RuleContextNotInHead, InTwoForms, closed_at, ClosedAtTop, ClosedCopied, OpenAndClosed, LargestHead, LargestBody, NothingOffends, many}
+use Rattle.lmn_contexts.specs.Examples.{name_r, context_x, alone, holding, empty, membrane_with_contexts, without_guard, EmptyHead, RuleInHead, ConnectorInHead, ContextAtTop, RuleContextAtTop, TwoInMembrane, OuterPairFirst, TwiceInHead, TwiceInTwoForms, NotInBody, TwiceInBody, NotInHead, RuleContextNotInHead, InTwoForms, closed_at, ClosedAtTop, ClosedCopied, OpenAndClosed, ClosedInRule, LargestHead, LargestBody, NothingOffends, many}
 use Rattle.lmn_base.specs.SmallTexts.{at_column, name_a, name_b, name_p, use_at}
 use Rattle.lmn_base.proofs.RowLemmas.{Nowhere}
 
@@ -148,6 +148,13 @@ open_and_closed =
     let body : items_of (holding [] [] (use_at name_p 10 ∷ []) []) ≡ _ = listed _ in
     λ i. two_forms (closed_head i ++ body i)
 
+-- and a rule with a closed context, until code runs one
+pub closed_in_rule : ClosedInRule
+closed_in_rule =
+    let head : items_of (membrane_with_contexts (use_at name_p 2 ∷ [])) ≡ _ = in_one [] _ [] _ (listed _) in
+    let body : items_of (holding [] [] (use_at name_p 8 ∷ []) []) ≡ _ = listed _ in
+    ((λ i. flat_map closed_place (closed_head i ++ none i)), (λ i. flat_map closed_place (head i ++ body i)))
+
 b_alone : items_of (holding (alone name_b 1 ∷ []) [] [] []) ≡ leaf_item (alone name_b 1) ∷ []
 b_alone = listed _
 
@@ -225,7 +232,7 @@ nothing_offends =
                       (λ i. once (head i) (body i)),
                       (
                         (λ i. flat_map (from_nowhere (head i) []) (body i)),
-                        ((λ i. two_forms (head i ++ body i)), tt),
+                        ((λ i. two_forms (head i ++ body i)), ((λ i. flat_map closed_place (head i ++ body i)), tt)),
                       ),
                     ),
                   ),
