@@ -2,6 +2,7 @@
 use Rattle.std.proofs.Common.{◌≡◌, ◌≢◌, ℕ, zero, suc, ◌+◌, ◌<◌, ◌≤◌, ◌^◌, ◌-◌, Bool, true, false, List, [], ◌∷◌, length, take, drop, ◌⊎◌, inl, inr, ⊎_elim, refl, ap, arith}
 use Rattle.std.specs.Char.{is_ascii_digit}
 use Rattle.std.proofs.lemmas.Bool.Decides.{leb_tells, eqb_tells}
+use Rattle.lmn_base.specs.Limits.{longest_name}
 use Rattle.lmn_base.specs.declared.refusal.Refusal.{Refusal}
 use Rattle.lmn_lexer.specs.declared.token.Kind.{Kind}
 use Rattle.lmn_lexer.specs.declared.token.Kind.TheVariants.{Name, Quoted, Mod, Link, Int, Context, RuleCtx, End, LParen, RParen, LBracket, RBracket, LBrace, RBrace, Comma, Dot, Arrow, AtAt, Bar, Backslash, Equal, Less, LessEq, Greater, GreaterEq, NumEq, NumNe, Differ, Plus, Minus, Star, Slash}
@@ -60,19 +61,19 @@ integer_decided bytes after (inr n) (inl r) = inr right
     right _ (floating_point e f) = n f
 
 quoted_decided : (bytes : List ℕ) → (name : List ℕ) × IsQuoted bytes name → Decided (TooLong Quoted bytes)
-quoted_decided bytes (name, q) = elim (less_decided 255 (length name)) [
+quoted_decided bytes (name, q) = elim (less_decided longest_name (length name)) [
   | inl h ↦ inl (name, q, h)
   | inr n ↦ inr (λ l. n (let one = quoted_size bytes name q in let other = quoted_size bytes l.0 l.1 in let long = l.2 in omega arith))
 ]
 
 fault_decided : (kind : Kind) (bytes after : List ℕ) → (kind ≡ Quoted → (name : List ℕ) × IsQuoted bytes name) → FaultDecided kind bytes after
-fault_decided Name bytes after q = by_length Name bytes after (λ e. absurd (cc)) (less_decided 255 (length bytes))
+fault_decided Name bytes after q = by_length Name bytes after (λ e. absurd (cc)) (less_decided longest_name (length bytes))
 fault_decided Quoted bytes after q = by_length Quoted bytes after (λ e. absurd (cc)) (quoted_decided bytes (q refl))
 fault_decided Mod bytes after q = by_length Mod bytes after (λ e. absurd (cc)) (inr (λ l. l))
-fault_decided Link bytes after q = by_length Link bytes after (λ e. absurd (cc)) (less_decided 255 (length bytes))
+fault_decided Link bytes after q = by_length Link bytes after (λ e. absurd (cc)) (less_decided longest_name (length bytes))
 fault_decided Int bytes after q = integer_decided bytes after (fraction_decided after) (range_decided bytes)
-fault_decided Context bytes after q = by_length Context bytes after (λ e. absurd (cc)) (less_decided (1 + 255) (length bytes))
-fault_decided RuleCtx bytes after q = by_length RuleCtx bytes after (λ e. absurd (cc)) (less_decided (1 + 255) (length bytes))
+fault_decided Context bytes after q = by_length Context bytes after (λ e. absurd (cc)) (less_decided (1 + longest_name) (length bytes))
+fault_decided RuleCtx bytes after q = by_length RuleCtx bytes after (λ e. absurd (cc)) (less_decided (1 + longest_name) (length bytes))
 fault_decided End bytes after q = by_length End bytes after (λ e. absurd (cc)) (inr (λ l. l))
 fault_decided LParen bytes after q = by_length LParen bytes after (λ e. absurd (cc)) (inr (λ l. l))
 fault_decided RParen bytes after q = by_length RParen bytes after (λ e. absurd (cc)) (inr (λ l. l))

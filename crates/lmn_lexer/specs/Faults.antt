@@ -1,6 +1,7 @@
 -- Why a text is refused before its tokens are read, and where.
 use Rattle.std.specs.Prelude.{◌≡◌, ◌≢◌, ℕ, ◌+◌, ◌-◌, ◌*◌, ◌<◌, ◌≤◌, ◌^◌, ◌==◌, Bool, true, false, ◌||◌, ◌⊎◌, List, [], ◌∷◌, ◌++◌, length, codes}
 use Rattle.std.specs.Char.{is_ascii_digit, is_ascii_whitespace}
+use Rattle.lmn_base.specs.Limits.{longest_name}
 use Rattle.lmn_base.specs.declared.refusal.Refusal.{Refusal}
 use Rattle.lmn_lexer.specs.declared.token.Kind.{Kind}
 use Rattle.lmn_lexer.specs.declared.token.Kind.TheVariants.{Name, Quoted, Link, Int, Context, RuleCtx}
@@ -29,14 +30,14 @@ SpelledInRange (b ∷ bs) = ((b ≡ minus_sign) × (value_behind 0 bs ≤ 2 ^ 63
 abbrev pub BeginsFraction : List ℕ → Type 0
 BeginsFraction after = (d : ℕ) × (more : List ℕ) × (after ≡ codes "." ++ d ∷ more) × (is_ascii_digit d ≡ true)
 
--- The token's name has more than 255 bytes. The sign of a context isn't counted, nor are quotes, and a quote
+-- The token's name has more bytes than a name may have. The sign of a context isn't counted, nor are quotes, and a quote
 -- inside that is written twice counts once.
 abbrev pub TooLong : Kind → List ℕ → Type 0
-TooLong Name bytes = 255 < length bytes
-TooLong Link bytes = 255 < length bytes
-TooLong Context bytes = 1 + 255 < length bytes
-TooLong RuleCtx bytes = 1 + 255 < length bytes
-TooLong Quoted bytes = (name : List ℕ) × IsQuoted bytes name × (255 < length name)
+TooLong Name bytes = longest_name < length bytes
+TooLong Link bytes = longest_name < length bytes
+TooLong Context bytes = 1 + longest_name < length bytes
+TooLong RuleCtx bytes = 1 + longest_name < length bytes
+TooLong Quoted bytes = (name : List ℕ) × IsQuoted bytes name × (longest_name < length name)
 TooLong _ bytes = ⊥
 
 -- What is wrong with a token that has these bytes and this text behind it: the number of the code.

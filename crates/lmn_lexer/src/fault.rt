@@ -5,7 +5,7 @@ ghost use Rattle.lmn_lexer.specs.Faults.{SpelledInRange, BeginsFraction, TooLong
 
 use crate::token::Kind;
 
-/// The most bytes of a name.
+/// The most bytes of a name: `longest_name`.
 const NAME_BYTES: usize = 255;
 
 /// The code of an integer out of range.

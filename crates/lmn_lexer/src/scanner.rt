@@ -163,7 +163,7 @@ fn is_operand(kind: Kind) -> bool
 ///
 /// The text is read once from its front to its end, and none of it is copied. It is refused by the first
 /// of these codes: 2 for a byte that begins nothing or may not stand in quotes, 3 for a name in quotes or a
-/// comment that isn't closed, 4 for an integer out of range, 5 for a name of more than 255 bytes, 6 for a
+/// comment that isn't closed, 4 for an integer out of range, 5 for a name that is too long, 6 for a
 /// floating-point number, 7 for a string literal, 8 for inline code, 9 for a hyperlink.
 #[tactic(auto, using(crate::proofs::ScannerSteps::all_right))]
 pub fn lex(alloc: Global, text: &[u8]) -> Result<Tokens, TextFault>
