@@ -1,7 +1,7 @@
 -- What a derived word is to the counts, and how many brackets, operators and arguments there may be.
 use Rattle.std.proofs.Common.{◌≡◌, ℕ, zero, suc, ◌+◌, ◌≤◌, Bool, true, false, ◌&&◌, ◌||◌, List, [], ◌∷◌, ◌++◌, refl, sym, ◌∙◌, ap, arith, subst, inl, inr, append_assoc}
 use Rattle.lmn_grammar.specs.Grammar.{Exp, Tok, Seq, Alt, Opt, Many, Within, Ref, Bracket, Round, Square, Curly, opener, closer, Part, TermPart, SumPart, ClausePart, ClausesPart, part_expression, Derives, here, both, left, right, without, with, no_more, one_more, inside, by}
-use Rattle.lmn_grammar.specs.Limits.{is_opener, is_closer, is_comma, Balanced, empty, comma, other, closed, Open, Side, operand, operator, begun, of_any, of_term}
+use Rattle.lmn_grammar.specs.Limits.{is_opener, is_closer, is_comma, Balanced, empty, comma, other, closed, Open, Side, operand, operator, begun, of_any, of_term, most_brackets, most_operators, most_arguments, most_term_arguments}
 use Rattle.lmn_grammar.specs.Limits as limits
 use Rattle.lmn_grammar.specs.Refusing.{IsWithin}
 use Rattle.lmn_grammar.specs.Laws.{BracketsWithin, OperatorsWithin, TermsWithCommas, ArgumentsWithin}
@@ -114,24 +114,24 @@ balanced_word _ _ (inside b a u w e d) h = balanced_along w _ e (enclosed b (pai
 balanced_word _ _ (by m w d) h = balanced_word (part_expression m) w d (meaning_no_comma m h)
 
 -- Brackets and operators.
-open_within : {n : ℕ} {u : List Kind} → Open n u → IsWithin u → n ≡ 201 → ⊥
+open_within : {n : ℕ} {u : List Kind} → Open n u → IsWithin u → n ≡ most_brackets + 1 → ⊥
 open_within limits.none w e = absurd (omega (arith, e))
 open_within (limits.one_more k {n = n} {before = u} {inside = v} d h b) w e =
     let P : ℕ → Type 0 = λ z. Open z u in
-    let same : n ≡ 200 = omega (arith, e) in (w u k v refl).0 (inl (h, subst P same d))
+    let same : n ≡ most_brackets = omega (arith, e) in (w u k v refl).0 (inl (h, subst P same d))
 
--- within the limits no more than 200 brackets are open
+-- within the limits no more brackets are open than may be
 pub brackets_within : BracketsWithin
 brackets_within u w d = open_within d w refl
 
-side_within : {n : ℕ} {u : List Kind} → Side n u → IsWithin u → n ≡ 256 → ⊥
+side_within : {n : ℕ} {u : List Kind} → Side n u → IsWithin u → n ≡ most_operators + 1 → ⊥
 side_within limits.begins w e = absurd (omega (arith, e))
 side_within (operand k {before = u} d h) w e = side_within d (within_front u (k ∷ []) w) e
 side_within (operator k {n = n} {before = u} d h) w e =
     let P : ℕ → Type 0 = λ z. Side z u in
-    let same : n ≡ 255 = omega (arith, e) in (w u k [] refl).0 (inr (h, subst P same d))
+    let same : n ≡ most_operators = omega (arith, e) in (w u k [] refl).0 (inr (h, subst P same d))
 
--- within the limits no side has more than 255 operators
+-- within the limits no side has more operators than it may have
 pub operators_within : OperatorsWithin
 operators_within u w d = side_within d w refl
 
@@ -160,7 +160,7 @@ last_term (suc n) w (u, v, e, d, more) =
       balanced = subst P (omega arith) (balanced_both (balanced_word (Ref TermPart) u d refl) (comma t.balanced));
     }
 
--- within the limits no atom has more than 255 arguments, nor more than 254 where it is a term
+-- within the limits no atom has more arguments than it may have, and one that is a term one fewer
 pub arguments_within : ArgumentsWithin
 arguments_within before arguments behind word n h d w =
     let t = last_term n arguments d in
@@ -170,5 +170,5 @@ arguments_within before arguments behind word n h d w =
     ∙ sym (append_assoc before (word ∷ LParen ∷ t.front) (t.first ∷ (t.behind ++ behind))) in
     let none = (w list t.first (t.behind ++ behind) split).1 in
     let is_in = begun word h t.balanced in
-    let any : suc n ≤ 255 = at_most_by_not (suc n) 255 (λ lt. none (of_any is_in lt)) in
-    (omega (arith, any), λ next. let term : suc n ≤ 254 = at_most_by_not (suc n) 254 (λ lt. none (of_term is_in next lt)) in omega (arith, term))
+    let any : suc n ≤ most_arguments = at_most_by_not (suc n) most_arguments (λ lt. none (of_any is_in lt)) in
+    (omega (arith, any), λ next. let term : suc n ≤ most_term_arguments = at_most_by_not (suc n) most_term_arguments (λ lt. none (of_term is_in next lt)) in omega (arith, term))

@@ -1,6 +1,6 @@
 -- What passes a limit by counts is what the scan finds, both ways.
 use Rattle.std.proofs.Common.{◌≡◌, ℕ, zero, suc, ◌+◌, ◌≤◌, ◌<◌, Bool, true, false, ◌&&◌, ◌||◌, if◌then◌else◌, nat_le, nat_lt, List, [], ◌∷◌, ◌++◌, length, Option, Some, None, refl, sym, ◌∙◌, ap, arith, subst, ◌⊎◌, inl, inr, append_assoc}
-use Rattle.lmn_grammar.specs.Limits.{is_opener, is_closer, is_comma, may_be_operator, may_be_atom_name, ends_operand, continues_side, EndsWith, IsOperator, IsAtomName, Balanced, empty, comma, other, closed, Open, none, one_more, Side, begins, operand, operator, TooDeep, InArguments, begun, TermNext, behind_equal, in_arguments, in_list, TooManyArguments, of_any, of_term, left_of_equal, Passes, PassesNone}
+use Rattle.lmn_grammar.specs.Limits.{is_opener, is_closer, is_comma, may_be_operator, may_be_atom_name, ends_operand, continues_side, EndsWith, IsOperator, IsAtomName, Balanced, empty, comma, other, closed, Open, none, one_more, Side, begins, operand, operator, TooDeep, InArguments, begun, TermNext, behind_equal, in_arguments, in_list, TooManyArguments, of_any, of_term, left_of_equal, Passes, PassesNone, most_brackets, most_operators, most_arguments, most_term_arguments}
 use Rattle.lmn_grammar.specs.Scan.{Opened, Arguments, Terms, Group, Last, Equals, Word, Digits, Closed, Operand, Other, Scan, scan_at_start, was_operand, is_operator, limit_in, limit_behind, limit_here, round_behind, one_more_begun, without_first, opened_after, closed_by_round, last_after, scan_after, scan_from, scan, is_too_deep, has_too_many, is_full, is_equal, passes, is_equals_last}
 use Rattle.lmn_lexer.specs.declared.token.Kind.{Kind}
 use Rattle.lmn_lexer.specs.declared.token.Kind.TheVariants.{Name, Quoted, Mod, Int, LParen, RParen, LBracket, RBracket, LBrace, RBrace, Comma, Equal}
@@ -449,7 +449,7 @@ terms_open commas o u front inside LBrace e i b h = absurd (not_terms commas o (
 terms_open commas o u front inside _ e i b h = absurd (clash i)
 
 -- what stands innermost, and what it says of the next atom
-inner_term : (o : List Opened) (u : List Kind) → (scan u).opened ≡ o → (limit_in o ≡ 255) ⊎ ((limit_in o ≡ 254) × TermNext u)
+inner_term : (o : List Opened) (u : List Kind) → (scan u).opened ≡ o → (limit_in o ≡ most_arguments) ⊎ ((limit_in o ≡ most_term_arguments) × TermNext u)
 inner_term [] u e = inl refl
 inner_term (Arguments l n ∷ o) u e = inr (refl, in_arguments (scan_arguments l n o u e).is_in)
 inner_term (Terms ∷ o) u e =
@@ -479,15 +479,15 @@ behind_equals u = from_left (λ u. is_equals_last (scan u).last ≡ true → Ter
     (λ u k i h. let P : Kind → Type 0 = λ z. TermNext (u ++ z ∷ []) in
     subst P (sym (equals_only (scan u) k (ap (λ s. is_equals_last s.last) (sym (scan_more u k)) ∙ h))) (behind_equal u)) u
 
--- an atom that begins here is a term exactly where its limit is 254
-pub term_limit : (u : List Kind) → (limit_here (scan u) ≡ 255) ⊎ ((limit_here (scan u) ≡ 254) × TermNext u)
+-- an atom that begins here is a term exactly where its limit is that of terms
+pub term_limit : (u : List Kind) → (limit_here (scan u) ≡ most_arguments) ⊎ ((limit_here (scan u) ≡ most_term_arguments) × TermNext u)
 term_limit u = by_last (scan u).last refl
   where
-    inner : (last : Last) → (scan u).last ≡ last → limit_behind last (scan u).opened ≡ limit_in (scan u).opened → (limit_here (scan u) ≡ 255) ⊎ ((limit_here (scan u) ≡ 254) × TermNext u)
+    inner : (last : Last) → (scan u).last ≡ last → limit_behind last (scan u).opened ≡ limit_in (scan u).opened → (limit_here (scan u) ≡ most_arguments) ⊎ ((limit_here (scan u) ≡ most_term_arguments) × TermNext u)
     inner last e i = let same : limit_here (scan u) ≡ limit_in (scan u).opened = ap (λ l. limit_behind l (scan u).opened) e ∙ i in
         elim (inner_term (scan u).opened u refl) [ inl h ↦ inl (same ∙ h) | inr h ↦ inr (same ∙ h.0, h.1) ]
 
-    by_last : (last : Last) → (scan u).last ≡ last → (limit_here (scan u) ≡ 255) ⊎ ((limit_here (scan u) ≡ 254) × TermNext u)
+    by_last : (last : Last) → (scan u).last ≡ last → (limit_here (scan u) ≡ most_arguments) ⊎ ((limit_here (scan u) ≡ most_term_arguments) × TermNext u)
     by_last Equals e = inr (ap (λ l. limit_behind l (scan u).opened) e, behind_equals u (ap is_equals_last e))
     by_last (Word l) e = inner (Word l) e refl
     by_last (Digits l) e = inner (Digits l) e refl
@@ -495,7 +495,7 @@ term_limit u = by_last (scan u).last refl
     by_last Operand e = inner Operand e refl
     by_last Other e = inner Other e refl
 
-inside_term : (last : Last) (o : List Opened) → limit_in o ≡ 254 → limit_behind last o ≡ 254
+inside_term : (last : Last) (o : List Opened) → limit_in o ≡ most_term_arguments → limit_behind last o ≡ most_term_arguments
 inside_term Equals o h = refl
 inside_term (Word l) o h = h
 inside_term (Digits l) o h = h
@@ -504,7 +504,7 @@ inside_term Operand o h = h
 inside_term Other o h = h
 
 -- where a term comes next it has the limit of a term
-pub term_scan : {u : List Kind} → TermNext u → limit_here (scan u) ≡ 254
+pub term_scan : {u : List Kind} → TermNext u → limit_here (scan u) ≡ most_term_arguments
 term_scan (behind_equal u) = ap limit_here (scan_more u Equal)
 term_scan {u} (in_arguments d) = inside_term (scan u).last (scan u).opened (ap limit_in (arguments_scan d))
 term_scan {u} (in_list f {n = n} {inside = w} b) =
@@ -533,7 +533,7 @@ many_scan {k = k} (of_any {front = f} d h) = more_than k d (elim (term_limit f) 
 many_scan {k = k} (of_term {front = f} d t h) = more_than k d (let e = term_scan t in omega (arith, e, h))
 many_scan (left_of_equal {n = n} {before = u} d h) =
     or_right (has_too_many (scan (u ++ RParen ∷ [])).opened) (is_full (scan (u ++ RParen ∷ [])).last)
-    (ap (λ s. is_full s.last) (scan_more u RParen) ∙ ap (λ o. is_full (closed_by_round o)) (arguments_scan d) ∙ at_most 255 n (omega (arith, h)))
+    (ap (λ s. is_full s.last) (scan_more u RParen) ∙ ap (λ o. is_full (closed_by_round o)) (arguments_scan d) ∙ at_most most_arguments n (omega (arith, h)))
 
 equal_only : (k : Kind) → is_equal k ≡ true → k ≡ Equal
 equal_only Equal h = refl
@@ -554,7 +554,7 @@ mod_full false l = refl
 
 full_round : (u : List Kind) (o : List Opened) → (scan u).opened ≡ o → is_full (closed_by_round o) ≡ true → TooManyArguments (u ++ RParen ∷ []) Equal
 full_round u [] e h = absurd (clash h)
-full_round u (Arguments l n ∷ o) e h = let le = is_at_most 255 n h in left_of_equal (scan_arguments l n o u e).is_in (omega (arith, le))
+full_round u (Arguments l n ∷ o) e h = let le = is_at_most most_arguments n h in left_of_equal (scan_arguments l n o u e).is_in (omega (arith, le))
 full_round u (Terms ∷ o) e h = absurd (clash h)
 full_round u (Group ∷ o) e h = absurd (clash h)
 
@@ -577,18 +577,18 @@ scan_many u k h = elim (or_true (has_too_many (scan u).opened) (is_equal k && is
 -- Too deep.
 pub deep_scan : (u : List Kind) (k : Kind) → TooDeep u k → is_too_deep (scan u) k ≡ true
 deep_scan u k (inl (h, o)) =
-    or_left (is_opener k && nat_le 200 (length (scan u).opened)) (is_operator (scan u) k && nat_le 255 (scan u).operators)
-    (and_from (is_opener k) (nat_le 200 (length (scan u).opened)) h (at_most 200 (length (scan u).opened) (open_scan o)))
+    or_left (is_opener k && nat_le most_brackets (length (scan u).opened)) (is_operator (scan u) k && nat_le most_operators (scan u).operators)
+    (and_from (is_opener k) (nat_le most_brackets (length (scan u).opened)) h (at_most most_brackets (length (scan u).opened) (open_scan o)))
 deep_scan u k (inr (h, d)) =
-    or_right (is_opener k && nat_le 200 (length (scan u).opened)) (is_operator (scan u) k && nat_le 255 (scan u).operators)
-    (and_from (is_operator (scan u) k) (nat_le 255 (scan u).operators) (operator_scan u k h) (at_most 255 (scan u).operators (side_scan d)))
+    or_right (is_opener k && nat_le most_brackets (length (scan u).opened)) (is_operator (scan u) k && nat_le most_operators (scan u).operators)
+    (and_from (is_operator (scan u) k) (nat_le most_operators (scan u).operators) (operator_scan u k h) (at_most most_operators (scan u).operators (side_scan d)))
 
 -- what it takes for too deep is so
 pub scan_deep : (u : List Kind) (k : Kind) → is_too_deep (scan u) k ≡ true → TooDeep u k
-scan_deep u k h = elim (or_true (is_opener k && nat_le 200 (length (scan u).opened)) (is_operator (scan u) k && nat_le 255 (scan u).operators) h) [
-  | inl a ↦ let b = and_true (is_opener k) (nat_le 200 (length (scan u).opened)) a in inl (b.0, scan_open 200 u (is_at_most 200 (length (scan u).opened) b.1))
-  | inr a ↦ let b = and_true (is_operator (scan u) k) (nat_le 255 (scan u).operators) a in
-      inr (scan_operator u k b.0, side_less (scan_side u) 255 (is_at_most 255 (scan u).operators b.1))
+scan_deep u k h = elim (or_true (is_opener k && nat_le most_brackets (length (scan u).opened)) (is_operator (scan u) k && nat_le most_operators (scan u).operators) h) [
+  | inl a ↦ let b = and_true (is_opener k) (nat_le most_brackets (length (scan u).opened)) a in inl (b.0, scan_open most_brackets u (is_at_most most_brackets (length (scan u).opened) b.1))
+  | inr a ↦ let b = and_true (is_operator (scan u) k) (nat_le most_operators (scan u).operators) a in
+      inr (scan_operator u k b.0, side_less (scan_side u) most_operators (is_at_most most_operators (scan u).operators b.1))
 ]
 
 -- The answer of the scan.

@@ -1,7 +1,7 @@
 -- The laws of refusals and limits.
 use Rattle.std.specs.Prelude.{◌≡◌, ◌≤◌, ◌+◌, ℕ, zero, suc, List, [], ◌∷◌, ◌++◌, ◌⊎◌}
 use Rattle.lmn_grammar.specs.Grammar.{Derives, program, Ref, TermPart}
-use Rattle.lmn_grammar.specs.Limits.{IsAtomName, Open, Side, TermNext}
+use Rattle.lmn_grammar.specs.Limits.{IsAtomName, Open, Side, TermNext, most_brackets, most_operators, most_arguments, most_term_arguments}
 use Rattle.lmn_grammar.specs.Refusing.{IsWithin, IsRefused}
 use Rattle.lmn_lexer.specs.declared.token.Kind.{Kind}
 use Rattle.lmn_lexer.specs.declared.token.Kind.TheVariants.{End, LParen, Comma}
@@ -19,20 +19,20 @@ abbrev pub DerivedOrRefused : Type 0
 DerivedOrRefused = (kinds : List Kind) → (Derives program (kinds ++ End ∷ []) × IsWithin (kinds ++ End ∷ []))
     ⊎ ((p : ℕ) × (c : ℕ) × IsRefused (Derives program) (kinds ++ End ∷ []) p c)
 
--- within the limits no more than 200 brackets are open
+-- within the limits no more brackets are open than may be
 abbrev pub BracketsWithin : Type 0
-BracketsWithin = (u : List Kind) → IsWithin u → ¬ (Open 201 u)
+BracketsWithin = (u : List Kind) → IsWithin u → ¬ (Open (most_brackets + 1) u)
 
--- within the limits no side has more than 255 operators
+-- within the limits no side has more operators than it may have
 abbrev pub OperatorsWithin : Type 0
-OperatorsWithin = (u : List Kind) → IsWithin u → ¬ (Side 256 u)
+OperatorsWithin = (u : List Kind) → IsWithin u → ¬ (Side (most_operators + 1) u)
 
 -- a term, and n more with commas before them
 abbrev pub TermsWithCommas : ℕ → List Kind → Type 0
 TermsWithCommas zero w = Derives (Ref TermPart) w
 TermsWithCommas (suc n) w = (u : List Kind) × (v : List Kind) × (w ≡ u ++ Comma ∷ v) × Derives (Ref TermPart) u × TermsWithCommas n v
 
--- within the limits an atom has no more than 255 arguments, and one that is a term no more than 254
+-- within the limits an atom has no more arguments than it may have, and one that is a term one fewer
 abbrev pub ArgumentsWithin : Type 0
 ArgumentsWithin = (before arguments behind : List Kind) (name : Kind) (n : ℕ) → IsAtomName before name → TermsWithCommas n arguments →
-    IsWithin (before ++ name ∷ LParen ∷ (arguments ++ behind)) → (n + 1 ≤ 255) × (TermNext before → n + 1 ≤ 254)
+    IsWithin (before ++ name ∷ LParen ∷ (arguments ++ behind)) → (n + 1 ≤ most_arguments) × (TermNext before → n + 1 ≤ most_term_arguments)

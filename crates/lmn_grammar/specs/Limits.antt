@@ -1,7 +1,23 @@
 -- Which tokens pass a limit, by counts. In each definition `before` are the tokens before the token.
-use Rattle.std.specs.Prelude.{◌≡◌, ℕ, suc, ◌<◌, ◌⊎◌, Bool, true, false, ◌||◌, List, [], ◌∷◌, ◌++◌}
+use Rattle.std.specs.Prelude.{◌≡◌, ℕ, suc, ◌-◌, ◌<◌, ◌⊎◌, Bool, true, false, ◌||◌, List, [], ◌∷◌, ◌++◌}
+use Rattle.lmn_base.specs.Limits.{most_links}
 use Rattle.lmn_lexer.specs.declared.token.Kind.{Kind}
 use Rattle.lmn_lexer.specs.declared.token.Kind.TheVariants.{Name, Quoted, Mod, Int, Context, LParen, RParen, LBracket, RBracket, LBrace, RBrace, Comma, Equal, Plus, Minus, Star, Slash}
+
+-- the most brackets that may be open round another one, and the most operators of a side
+abbrev pub most_brackets : ℕ
+most_brackets = 200
+
+abbrev pub most_operators : ℕ
+most_operators = 255
+
+-- The most arguments of an atom, as many as an atom has links, and the most contexts of a condition. A term has one argument
+-- fewer, since its own link is one more.
+abbrev pub most_arguments : ℕ
+most_arguments = most_links
+
+abbrev pub most_term_arguments : ℕ
+most_term_arguments = most_arguments - 1
 
 -- tokens that open a bracket, and that close one
 abbrev pub is_opener : Kind → Bool
@@ -87,9 +103,9 @@ pub data Side : ℕ → List Kind → Type 0 where
   operand : (token : Kind) {n : ℕ} {before : List Kind} → Side n before → continues_side token ≡ true → Side n (before ++ token ∷ [])
   operator : (token : Kind) {n : ℕ} {before : List Kind} → Side n before → IsOperator before token → Side (suc n) (before ++ token ∷ [])
 
--- The token opens a bracket inside 200 open ones, or is the 256th operator of a side.
+-- The token opens a bracket inside the most that may be open, or is one operator more than a side may have.
 abbrev pub TooDeep : List Kind → Kind → Type 0
-TooDeep before token = ((is_opener token ≡ true) × Open 200 before) ⊎ (IsOperator before token × Side 255 before)
+TooDeep before token = ((is_opener token ≡ true) × Open most_brackets before) ⊎ (IsOperator before token × Side most_operators before)
 
 -- The tokens end in the argument list of an atom or of a condition whose name stands directly behind `front`, and this number of
 -- arguments is begun. An empty list counts as one.
@@ -103,13 +119,13 @@ pub data TermNext : List Kind → Type 0 where
   in_arguments : {n : ℕ} {front before : List Kind} → InArguments front n before → TermNext before
   in_list : (before : List Kind) {n : ℕ} {inside : List Kind} → Balanced n inside → TermNext (before ++ LBracket ∷ inside)
 
--- Arguments are begun of which there are more than 255, or than 254 of a term, since its own link is one more; or the token
--- is the '=' behind an atom with 255 arguments, since '=' takes one more.
+-- Arguments are begun of which there are too many, of an atom or of a term; or the token is the '=' behind an atom that has the
+-- most, since '=' takes one more.
 pub data TooManyArguments : List Kind → Kind → Type 0 where
-  of_any : {n : ℕ} {front before : List Kind} {token : Kind} → InArguments front n before → 255 < n → TooManyArguments before token
-  of_term : {n : ℕ} {front before : List Kind} {token : Kind} → InArguments front n before → TermNext front → 254 < n
+  of_any : {n : ℕ} {front before : List Kind} {token : Kind} → InArguments front n before → most_arguments < n → TooManyArguments before token
+  of_term : {n : ℕ} {front before : List Kind} {token : Kind} → InArguments front n before → TermNext front → most_term_arguments < n
       → TooManyArguments before token
-  left_of_equal : {n : ℕ} {front before : List Kind} → InArguments front n before → 254 < n → TooManyArguments (before ++ RParen ∷ []) Equal
+  left_of_equal : {n : ℕ} {front before : List Kind} → InArguments front n before → most_term_arguments < n → TooManyArguments (before ++ RParen ∷ []) Equal
 
 -- The code by which the token is refused, if with it the tokens begin a program.
 abbrev pub Passes : ℕ → List Kind → Kind → Type 0

@@ -1,6 +1,6 @@
 -- No public contract cites these words: the tokens scanned from the left, for the next one that passes a limit.
 use Rattle.std.specs.Prelude.{ℕ, ◌+◌, Bool, true, false, List, [], ◌∷◌, length, nat_le, nat_lt, ◌&&◌, ◌||◌, Option, Some, None, if◌then◌else◌}
-use Rattle.lmn_grammar.specs.Limits.{is_opener, may_be_operator, continues_side}
+use Rattle.lmn_grammar.specs.Limits.{is_opener, may_be_operator, continues_side, most_brackets, most_operators, most_arguments, most_term_arguments}
 use Rattle.lmn_lexer.specs.declared.token.Kind.{Kind}
 use Rattle.lmn_lexer.specs.declared.token.Kind.TheVariants.{Name, Quoted, Mod, Int, Context, LParen, RParen, LBracket, RBracket, LBrace, RBrace, Comma, Equal}
 
@@ -50,13 +50,13 @@ is_operator s k = may_be_operator k && was_operand s.last
 -- An atom that stands directly in an argument list or a '[' list, or directly behind '=', is a term: its own link
 -- is one more argument.
 abbrev pub limit_in : List Opened → ℕ
-limit_in [] = 255
-limit_in (Arguments l n ∷ o) = 254
-limit_in (Terms ∷ o) = 254
-limit_in (Group ∷ o) = 255
+limit_in [] = most_arguments
+limit_in (Arguments l n ∷ o) = most_term_arguments
+limit_in (Terms ∷ o) = most_term_arguments
+limit_in (Group ∷ o) = most_arguments
 
 abbrev pub limit_behind : Last → List Opened → ℕ
-limit_behind Equals o = 254
+limit_behind Equals o = most_term_arguments
 limit_behind _ o = limit_in o
 
 abbrev pub limit_here : Scan → ℕ
@@ -118,9 +118,9 @@ scan_from s (k ∷ u) = scan_from (scan_after s k) u
 abbrev pub scan : List Kind → Scan
 scan u = scan_from scan_at_start u
 
--- a bracket inside 200 open ones, or the 256th operator of a side
+-- a bracket inside the most that may be open, or one operator more than a side may have
 abbrev pub is_too_deep : Scan → Kind → Bool
-is_too_deep s k = (is_opener k && nat_le 200 (length s.opened)) || (is_operator s k && nat_le 255 s.operators)
+is_too_deep s k = (is_opener k && nat_le most_brackets (length s.opened)) || (is_operator s k && nat_le most_operators s.operators)
 
 -- more arguments are begun than the list may have
 abbrev pub has_too_many : List Opened → Bool
@@ -131,7 +131,7 @@ has_too_many (Group ∷ o) = false
 
 -- an item's argument list that has all the arguments that it may have, so that none is left for the link of '='
 abbrev pub is_full : Last → Bool
-is_full (Closed n) = nat_le 255 n
+is_full (Closed n) = nat_le most_arguments n
 is_full _ = false
 
 abbrev pub is_equal : Kind → Bool

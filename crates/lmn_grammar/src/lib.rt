@@ -36,8 +36,8 @@ pub fn refusals_are_one()
     ensures { OneRefusedPlace }
 {}
 
-/// Within the limits no more than 200 brackets are open, no side has more than 255 operators, and no atom has more
-/// than 255 arguments, nor 254 where it is a term.
+/// Within the limits no more brackets are open, no side has more operators and no atom more arguments than there may be; of
+/// arguments an atom that is a term has one fewer.
 pub fn limits_are_kept()
     ensures brackets { BracketsWithin }
     ensures operators { OperatorsWithin }
