@@ -1,0 +1,6 @@
+pub mod Rows
+pub mod Owned
+pub mod Cells
+pub mod CellIds
+pub mod Ports
+pub mod Runs

@@ -1,0 +1,68 @@
+//! The words of a new row are written, so that it is a cell.
+ghost use Rattle.std.specs.Prelude.{◌≡◌, ◌+◌, ◌*◌, ◌^◌, ◌<◌, ◌++◌, replicate};
+ghost use denote.RawPtr.{block_of};
+ghost use Rattle.lmn_cells.specs.Rows.{IsStart, blank, items_in, with_items};
+ghost use Rattle.lmn_cells.specs.Cells.{link_items, number_items, cell_items, blank_cell, blank_links, blank_numbers};
+
+use crate::rows::{Rows, nowhere};
+
+/// How many links a cell has.
+pub const LINKS: usize = 6;
+
+const NUMBERS: usize = 7;
+
+/// The word at which the ports begin.
+pub const FIRST_PORT: usize = 13;
+
+/// How many words a port has.
+pub const PORT_WORDS: usize = 3;
+
+// Each link leads nowhere.
+fn fill_links(rows: &mut Rows, at: *mut u8, ports: usize)
+    requires start { IsStart at }
+    requires few { ports < 2 ^ 16 }
+    requires words { items_in rows.old.rows (block_of at) ≡ replicate (13 + ports * 3) blank }
+    ensures { rows.new.rows ≡ with_items (block_of at) (blank_links 6 ++ replicate (7 + ports * 3) blank) rows.old.rows }
+{
+    for k in 0..LINKS {
+        rows.set_link(at, k, nowhere());
+    }
+}
+
+// Each number is 0.
+fn fill_numbers(rows: &mut Rows, at: *mut u8, ports: usize)
+    requires start { IsStart at }
+    requires few { ports < 2 ^ 16 }
+    requires words { items_in rows.old.rows (block_of at) ≡ blank_links 6 ++ replicate (7 + ports * 3) blank }
+    ensures { rows.new.rows ≡ with_items (block_of at) (blank_links 6 ++ (blank_numbers 7 ++ replicate (ports * 3) blank)) rows.old.rows }
+{
+    for k in 0..NUMBERS {
+        rows.set_number(at, LINKS + k, 0);
+    }
+}
+
+// No port leads anywhere.
+fn fill_ports(rows: &mut Rows, at: *mut u8, ports: usize)
+    requires start { IsStart at }
+    requires few { ports < 2 ^ 16 }
+    requires words { items_in rows.old.rows (block_of at) ≡ blank_links 6 ++ (blank_numbers 7 ++ replicate (ports * 3) blank) }
+    ensures { rows.new.rows ≡ with_items (block_of at) (cell_items (blank_cell ports)) rows.old.rows }
+{
+    for j in 0..ports {
+        rows.set_link(at, FIRST_PORT + j * PORT_WORDS, nowhere());
+        rows.set_number(at, FIRST_PORT + j * PORT_WORDS + 1, 0);
+        rows.set_number(at, FIRST_PORT + j * PORT_WORDS + 2, 0);
+    }
+}
+
+/// A new row becomes a cell in which nothing is set.
+pub fn fill(rows: &mut Rows, at: *mut u8, ports: usize)
+    requires start { IsStart at }
+    requires few { ports < 2 ^ 16 }
+    requires words { items_in rows.old.rows (block_of at) ≡ replicate (13 + ports * 3) blank }
+    ensures { rows.new.rows ≡ with_items (block_of at) (cell_items (blank_cell ports)) rows.old.rows }
+{
+    fill_links(rows, at, ports);
+    fill_numbers(rows, at, ports);
+    fill_ports(rows, at, ports);
+}

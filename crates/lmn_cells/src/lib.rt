@@ -1,0 +1,9 @@
+//! Cells in blocks of memory of their own: ports that are joined two by two, and lists that are linked both ways.
+#![tactic(auto)]
+
+pub mod cell;
+mod filling;
+pub mod handle;
+pub mod lists;
+pub mod ports;
+mod rows;
