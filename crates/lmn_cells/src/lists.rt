@@ -1,12 +1,11 @@
-//! Lists of cells that are linked both ways: from the port of a membrane to the next one.
+//! Lists of cells that are linked both ways. Two links of a membrane lead to the first and the last cell.
 ghost use Rattle.std.specs.Prelude.{◌≡◌, ◌≢◌, ℕ, ◌+◌, ◌^◌, ◌<◌, List, ◌++◌, ◌∷◌, [], IfSome, IsSome, Some, None, length};
 ghost use Rattle.std.specs.Option.{option_map};
 ghost use Rattle.lmn_heap.specs.Lists.{without};
 ghost use Rattle.lmn_base.specs.Lists.{In};
-ghost use Rattle.lmn_cells.specs.Cells.{cells_by, ports_of};
+ghost use Rattle.lmn_cells.specs.Cells.{cells_by};
 ghost use Rattle.lmn_cells.specs.CellIds.{cell_id};
-ghost use Rattle.lmn_cells.specs.Ports.{IsPort};
-ghost use Rattle.lmn_cells.specs.Runs.{Line, IsHome, Apart, with_next, with_prev, unlinked, appended, link_in, to_in};
+ghost use Rattle.lmn_cells.specs.Runs.{Line, IsHome, Apart, with_next, with_prev, unlinked, appended};
 
 use crate::cell::Cells;
 use crate::handle::Cell;
@@ -17,32 +16,31 @@ const NEXT: usize = 1;
 
 const PREV: usize = 2;
 
-/// What follows a cell, or begins the list at a port of a membrane, becomes `next`.
+/// What follows a cell, or begins the list at a link of a membrane, becomes `next`.
 pub fn set_next(cells: &mut Cells, m: Cell, e: usize, at: Option<Cell>, next: Option<Cell>)
-    requires end { IsPort (cells_by cells.old) (cell_id m) e }
+    requires home { IsHome (cells_by cells.old) (cell_id m) e }
     requires there { IfSome at (λ q. IsSome (cells_by cells.old (cell_id q))) }
     ensures { cells_by cells.new ≡ with_next (cells_by cells.old) (cell_id m) e (option_map cell_id at) (option_map cell_id next) }
 {
     match at {
-        None => cells.set_to(m, e, next),
+        None => cells.set_link(m, e, next),
         Some(q) => cells.set_link(q, NEXT, next),
     }
 }
 
 /// What precedes a cell, or ends the list, becomes `prev`.
 pub fn set_prev(cells: &mut Cells, m: Cell, e: usize, at: Option<Cell>, prev: Option<Cell>)
-    requires end { IsPort (cells_by cells.old) (cell_id m) (e + 1) }
-    requires few { e < 2 ^ 16 }
+    requires home { IsHome (cells_by cells.old) (cell_id m) e }
     requires there { IfSome at (λ q. IsSome (cells_by cells.old (cell_id q))) }
     ensures { cells_by cells.new ≡ with_prev (cells_by cells.old) (cell_id m) e (option_map cell_id at) (option_map cell_id prev) }
 {
     match at {
-        None => cells.set_to(m, e + 1, prev),
+        None => cells.set_link(m, e + 1, prev),
         Some(q) => cells.set_link(q, PREV, prev),
     }
 }
 
-/// A cell goes to the end of the list that begins at a port of a membrane.
+/// A cell goes to the end of the list that begins at a link of a membrane.
 pub fn append(cells: &mut Cells, m: Cell, e: usize, c: Cell)
     requires home { IsHome (cells_by cells.old) (cell_id m) e }
     requires there { IsSome (cells_by cells.old (cell_id c)) }
@@ -55,15 +53,15 @@ pub fn append(cells: &mut Cells, m: Cell, e: usize, c: Cell)
         Apart (cell_id m) e (cell_id c ∷ xs) n k ys → Line (cells_by cells.new) n k ys }
 {
     cells.whole();
-    let last = cells.to(m, e + 1);
+    let last = cells.link(m, e + 1);
     cells.set_link(c, HOME, Some(m));
     cells.set_link(c, PREV, last);
     cells.set_link(c, NEXT, None);
     set_next(cells, m, e, last, Some(c));
-    cells.set_to(m, e + 1, Some(c));
+    cells.set_link(m, e + 1, Some(c));
 }
 
-/// A cell leaves the list that begins at a port of a membrane.
+/// A cell leaves the list that begins at a link of a membrane.
 pub fn unlink(cells: &mut Cells, m: Cell, e: usize, c: Cell)
     requires home { IsHome (cells_by cells.old) (cell_id m) e }
     requires list { (xs : List ℕ) × Line (cells_by cells.old) (cell_id m) e xs × In (cell_id c) xs }

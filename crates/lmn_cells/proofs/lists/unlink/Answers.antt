@@ -1,10 +1,10 @@
-use Rattle.std.proofs.Common.{◌≡◌, ◌<◌, ◌+◌, ℕ, length, Option, IsSome, sym, subst}
+use Rattle.std.proofs.Common.{◌≡◌, ℕ, Option, IsSome, sym, subst}
 use Rattle.std.specs.Option.{option_map}
 use Rattle.lmn_heap.specs.Lists.{without}
-use Rattle.lmn_cells.specs.Cells.{HeldCell, cells_by, ports_of}
+use Rattle.lmn_cells.specs.Cells.{HeldCell, cells_by}
 use Rattle.lmn_cells.specs.CellIds.{cell_id}
-use Rattle.lmn_cells.specs.Runs.{NEXT, PREV, link_in, Line, unlinked}
-use Rattle.lmn_cells.proofs.LineLemmas.{unlinked_others, cell_there, before_there, behind_there, there_next, there_prev, port_next, unlinked_line, unlinked_is, if_there}
+use Rattle.lmn_cells.specs.Runs.{NEXT, PREV, link_in, Line, IsHome, unlinked}
+use Rattle.lmn_cells.proofs.LineLemmas.{unlinked_others, cell_there, before_there, behind_there, there_next, there_prev, home_next, unlinked_line, unlinked_is, if_there}
 use Rattle.lmn_cells.proofs.lists.unlink.Goals as goal
 
 pub link-prev-requires-clause-there : goal.link-prev-requires-clause-there
@@ -19,11 +19,11 @@ set_next-requires-clause-there c =
     if_there cell_id f c.link-prev.result (link_in f (cell_id c.args.c) PREV) c.link-prev.ensures
     (λ q e. cell_there f m c.args.e l.0 l.1 q (before_there f m c.args.e (cell_id c.args.c) l.0 l.1 l.2 q e))
 
-pub set_prev-requires-clause-end : goal.set_prev-requires-clause-end
-set_prev-requires-clause-end c =
-    let f = cells_by c.args.cells.now in
-    subst (λ (g : ℕ → Option HeldCell). c.args.e + 1 < length (ports_of (g (cell_id c.args.m)))) (sym c.set_next.ensures)
-    (port_next f (cell_id c.args.m) c.args.e (option_map cell_id c.link-prev.result) (option_map cell_id c.link-next.result) (c.args.e + 1) c.requires.home.last)
+pub set_prev-requires-clause-home : goal.set_prev-requires-clause-home
+set_prev-requires-clause-home c =
+    let m = cell_id c.args.m in
+    subst (λ (g : ℕ → Option HeldCell). IsHome g m c.args.e) (sym c.set_next.ensures)
+    (home_next (cells_by c.args.cells.now) m c.args.e (option_map cell_id c.link-prev.result) (option_map cell_id c.link-next.result) m c.args.e c.requires.home)
 
 pub set_prev-requires-clause-there : goal.set_prev-requires-clause-there
 set_prev-requires-clause-there c =
