@@ -168,6 +168,82 @@ pub fn fitting_atom<S: LinkStore>(
     None
 }
 
+/// Whether an instruction looks for an atom in a membrane that is set and holds none with the functor.
+fn looks_in_vain<S: LinkStore>(
+    store: &S,
+    instr: &Instr,
+    set: &SetRegisters<S::Atom, S::Mem>,
+) -> bool
+    requires held { AreHeldWhole S.atom_id S.mem_id (S.heap store.now) set.now }
+    ensures { IsTrue result → (c : ℕ) (s : HeadRegisters) → Agrees S.atom_id S.mem_id set.now s → InstructionHolds (S.heap store.now) c s instr.now → ⊥ }
+{
+    match instr {
+        Instr::FindAtom {
+            membrane,
+            functor,
+            ..
+        } => {
+            if *membrane as usize >= set.membranes.len() {
+                return false;
+            }
+            match store.first_with(set.membranes.at(*membrane as usize), *functor) {
+                Some(_) => false,
+                None => true,
+            }
+        }
+        _ => false,
+    }
+}
+
+/// Whether the code ahead looks for an atom in a membrane that is set and holds none with the functor: then it fails, whatever
+/// is chosen before.
+fn is_hopeless<S: LinkStore>(
+    store: &S,
+    code: &[Instr],
+    at: usize,
+    set: &SetRegisters<S::Atom, S::Mem>,
+) -> bool
+    requires held { AreHeldWhole S.atom_id S.mem_id (S.heap store.now) set.now }
+    ensures { IsTrue result → (c : ℕ) (s : HeadRegisters) → Agrees S.atom_id S.mem_id set.now s → AllHold (S.heap store.now) c s (drop at code.now) → ⊥ }
+{
+    for i in at..code.len() {
+        if looks_in_vain(store, &code[i], set) {
+            return true;
+        }
+    }
+    false
+}
+
+/// The first of the atoms with a functor in a membrane, from one on, with which the code ahead may succeed, behind one with
+/// which it failed. Where the code is to be asked whether it is hopeless and is, there is none.
+pub fn further_atom<S: LinkStore>(
+    store: &S,
+    code: &[Instr],
+    at: usize,
+    place: S::Mem,
+    functor: Functor,
+    start: Option<S::Atom>,
+    ask: bool,
+    set: &SetRegisters<S::Atom, S::Mem>,
+) -> Option<S::Atom>
+    requires held { AreHeldWhole S.atom_id S.mem_id (S.heap store.now) set.now }
+    requires functor { IfSome start (λ a. functor_of (S.heap store.now) (S.atom_id a) ≡ Some functor) }
+    requires home { IfSome start (λ a. home_of (S.heap store.now) (S.atom_id a) ≡ Some (S.mem_id place)) }
+    ensures functor { IfSome result (λ a. functor_of (S.heap store.now) (S.atom_id a) ≡ Some functor) }
+    ensures home { IfSome result (λ a. home_of (S.heap store.now) (S.atom_id a) ≡ Some (S.mem_id place)) }
+    ensures further { let all = with_functor (S.heap store.now) functor (atoms_in (S.heap store.now) (S.mem_id place)) in length (from (option_map S.atom_id result) all) ≤ length (from (option_map S.atom_id start) all) }
+    ensures left { (c : ℕ) (s : HeadRegisters) → Agrees S.atom_id S.mem_id set.now s → AllHold (S.heap store.now) c s (drop at code.now) →
+        let all = with_functor (S.heap store.now) functor (atoms_in (S.heap store.now) (S.mem_id place)) in
+        In (s.images.atom (length set.now.atoms)) (from (option_map S.atom_id start) all) → In (s.images.atom (length set.now.atoms)) (from (option_map S.atom_id result) all) }
+{
+    if ask && start.is_some() {
+        if is_hopeless(store, code, at, set) {
+            return None;
+        }
+    }
+    fitting_atom(store, code, at, place, functor, start, set)
+}
+
 /// The functor of the first atom that code looks for in the membrane of a register.
 pub fn asked(code: &[Instr], at: usize, register: usize) -> Option<Functor>
     ensures { IfSome result (λ f. AsksFor code.now at register f) }

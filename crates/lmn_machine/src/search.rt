@@ -106,6 +106,7 @@ fn search_atoms<S: LinkStore>(
     let (atoms, membranes) = (set.atoms.len(), set.membranes.len());
     let (parts, integers) = (set.parts.len(), set.integers.len());
     let mut candidate = ahead::fitting_atom(store, code, rest, place, functor, Some(first), set);
+    let mut ask = true;
     while let Some(atom) = candidate {
         set.atoms.push(atom);
         if search(store, code, rest, set) {
@@ -113,7 +114,8 @@ fn search_atoms<S: LinkStore>(
         }
         set.keep(atoms, membranes, parts, integers);
         let next = store.next_with(atom);
-        candidate = ahead::fitting_atom(store, code, rest, place, functor, next, set);
+        candidate = ahead::further_atom(store, code, rest, place, functor, next, ask, set);
+        ask = false;
     }
     false
 }

@@ -142,8 +142,8 @@ search_atoms-loop-candidate-init g t c = record {
   there = if_both (λ a. functor_of (g.S.LinkStore.heap c.args.store.now) (g.S.LinkStore.atom_id a) ≡ Some c.args.functor) (λ a. home_of (g.S.LinkStore.heap c.args.store.now) (g.S.LinkStore.atom_id a) ≡ Some (g.S.LinkStore.mem_id c.args.place)) c.fitting_atom-candidate.result c.fitting_atom-candidate.ensures.functor c.fitting_atom-candidate.ensures.home;
 }
 
-pub search_atoms-fitting_atom-candidate-requires-in-Some-clause-held : goal.search_atoms-fitting_atom-candidate-requires-in-Some-clause-held
-search_atoms-fitting_atom-candidate-requires-in-Some-clause-held g t c =
+pub search_atoms-further_atom-candidate-requires-clause-held : goal.search_atoms-further_atom-candidate-requires-clause-held
+search_atoms-further_atom-candidate-requires-clause-held g t c =
     let same : g.S.LinkStore.heap c.search.new.store ≡ g.S.LinkStore.heap c.args.store.now = c.search.ensures.same ∙ c.loop-candidate.invariant.same in
     let more = one_more c.args.set.now c.loop-candidate.set c.in-Some.atom c.push.new.self c.loop-candidate.invariant.set c.push.ensures in
     let searched = subst (λ k. Searched g.S.LinkStore.atom_id g.S.LinkStore.mem_id (g.S.LinkStore.heap c.args.store.now) k c.search.new.set false (drop (c.args.at + 1) c.args.code.now)) more (subst (λ b. Searched g.S.LinkStore.atom_id g.S.LinkStore.mem_id (g.S.LinkStore.heap c.args.store.now) (having_atoms c.loop-candidate.set c.push.new.self) c.search.new.set b (drop (c.args.at + 1) c.args.code.now)) c.if-search.false
@@ -157,9 +157,9 @@ search_atoms-loop-candidate-smaller g t c =
     let same : g.S.LinkStore.heap c.search.new.store ≡ g.S.LinkStore.heap c.args.store.now = c.search.ensures.same ∙ c.loop-candidate.invariant.same in
     let there = subst (λ o. IfSome o (λ a. (functor_of (g.S.LinkStore.heap c.args.store.now) (g.S.LinkStore.atom_id a) ≡ Some c.args.functor) × (home_of (g.S.LinkStore.heap c.args.store.now) (g.S.LinkStore.atom_id a) ≡ Some (g.S.LinkStore.mem_id c.args.place)))) c.in-Some.is c.loop-candidate.invariant.there in
     let next = next_same g.S.LinkStore.atom_id (g.S.LinkStore.heap c.args.store.now) (g.S.LinkStore.heap c.search.new.store) c.in-Some.atom c.next_with-next.result same c.next_with-next.ensures.list c.next_with-next.ensures.functor c.next_with-next.ensures.home in
-    let further = subst (λ (h : Heap). length (from (option_map g.S.LinkStore.atom_id c.fitting_atom-candidate-in-Some.result) (with_functor h c.args.functor (atoms_in h (g.S.LinkStore.mem_id c.args.place)))) ≤ length (from (option_map g.S.LinkStore.atom_id c.next_with-next.result) (with_functor h c.args.functor (atoms_in h (g.S.LinkStore.mem_id c.args.place))))) same c.fitting_atom-candidate-in-Some.ensures.further in
-    subst (λ o. length (from (option_map g.S.LinkStore.atom_id c.fitting_atom-candidate-in-Some.result) (with_functor (g.S.LinkStore.heap c.args.store.now) c.args.functor (atoms_in (g.S.LinkStore.heap c.args.store.now) (g.S.LinkStore.mem_id c.args.place)))) < length (from (option_map g.S.LinkStore.atom_id o) (with_functor (g.S.LinkStore.heap c.args.store.now) c.args.functor (atoms_in (g.S.LinkStore.heap c.args.store.now) (g.S.LinkStore.mem_id c.args.place))))) (sym c.in-Some.is)
-    (smaller (g.S.LinkStore.atom_id c.in-Some.atom) (option_map g.S.LinkStore.atom_id c.next_with-next.result) (option_map g.S.LinkStore.atom_id c.fitting_atom-candidate-in-Some.result) (with_functor (g.S.LinkStore.heap c.args.store.now) c.args.functor (atoms_in (g.S.LinkStore.heap c.args.store.now) (g.S.LinkStore.mem_id c.args.place))) (next.0 (g.S.LinkStore.mem_id c.args.place) c.args.functor there.1 there.0) further)
+    let further = subst (λ (h : Heap). length (from (option_map g.S.LinkStore.atom_id c.further_atom-candidate.result) (with_functor h c.args.functor (atoms_in h (g.S.LinkStore.mem_id c.args.place)))) ≤ length (from (option_map g.S.LinkStore.atom_id c.next_with-next.result) (with_functor h c.args.functor (atoms_in h (g.S.LinkStore.mem_id c.args.place))))) same c.further_atom-candidate.ensures.further in
+    subst (λ o. length (from (option_map g.S.LinkStore.atom_id c.further_atom-candidate.result) (with_functor (g.S.LinkStore.heap c.args.store.now) c.args.functor (atoms_in (g.S.LinkStore.heap c.args.store.now) (g.S.LinkStore.mem_id c.args.place)))) < length (from (option_map g.S.LinkStore.atom_id o) (with_functor (g.S.LinkStore.heap c.args.store.now) c.args.functor (atoms_in (g.S.LinkStore.heap c.args.store.now) (g.S.LinkStore.mem_id c.args.place))))) (sym c.in-Some.is)
+    (smaller (g.S.LinkStore.atom_id c.in-Some.atom) (option_map g.S.LinkStore.atom_id c.next_with-next.result) (option_map g.S.LinkStore.atom_id c.further_atom-candidate.result) (with_functor (g.S.LinkStore.heap c.args.store.now) c.args.functor (atoms_in (g.S.LinkStore.heap c.args.store.now) (g.S.LinkStore.mem_id c.args.place))) (next.0 (g.S.LinkStore.mem_id c.args.place) c.args.functor there.1 there.0) further)
 
 pub search_atoms-loop-candidate-preserved : goal.search_atoms-loop-candidate-preserved
 search_atoms-loop-candidate-preserved g t c =
@@ -172,16 +172,16 @@ search_atoms-loop-candidate-preserved g t c =
     let there = subst (λ o. IfSome o (λ a. (functor_of (g.S.LinkStore.heap c.args.store.now) (g.S.LinkStore.atom_id a) ≡ Some c.args.functor) × (home_of (g.S.LinkStore.heap c.args.store.now) (g.S.LinkStore.atom_id a) ≡ Some (g.S.LinkStore.mem_id c.args.place)))) c.in-Some.is c.loop-candidate.invariant.there in
     let next = next_same g.S.LinkStore.atom_id (g.S.LinkStore.heap c.args.store.now) (g.S.LinkStore.heap c.search.new.store) c.in-Some.atom c.next_with-next.result same c.next_with-next.ensures.list c.next_with-next.ensures.functor c.next_with-next.ensures.home in
     let left = subst (λ o. AtomsLeft g.S.LinkStore.atom_id g.S.LinkStore.mem_id (g.S.LinkStore.heap c.args.store.now) c.args.set.now (drop c.args.at c.args.code.now) c.args.functor c.args.place o) c.in-Some.is c.loop-candidate.invariant.left in
-    let fit = subst (λ k. AtomsFit g.S.LinkStore.atom_id g.S.LinkStore.mem_id (g.S.LinkStore.heap c.args.store.now) k (drop (c.args.at + 1) c.args.code.now) c.args.functor (g.S.LinkStore.mem_id c.args.place) c.next_with-next.result c.fitting_atom-candidate-in-Some.result) taken
-    (subst (λ h. AtomsFit g.S.LinkStore.atom_id g.S.LinkStore.mem_id h c.keep.new.self (drop (c.args.at + 1) c.args.code.now) c.args.functor (g.S.LinkStore.mem_id c.args.place) c.next_with-next.result c.fitting_atom-candidate-in-Some.result) same c.fitting_atom-candidate-in-Some.ensures.left) in
+    let fit = subst (λ k. AtomsFit g.S.LinkStore.atom_id g.S.LinkStore.mem_id (g.S.LinkStore.heap c.args.store.now) k (drop (c.args.at + 1) c.args.code.now) c.args.functor (g.S.LinkStore.mem_id c.args.place) c.next_with-next.result c.further_atom-candidate.result) taken
+    (subst (λ h. AtomsFit g.S.LinkStore.atom_id g.S.LinkStore.mem_id h c.keep.new.self (drop (c.args.at + 1) c.args.code.now) c.args.functor (g.S.LinkStore.mem_id c.args.place) c.next_with-next.result c.further_atom-candidate.result) same c.further_atom-candidate.ensures.left) in
     record {
       same = same;
       set = taken;
-      left = atoms_fit g.S.LinkStore.atom_id g.S.LinkStore.mem_id (g.S.LinkStore.heap c.args.store.now) c.args.set.now (drop c.args.at c.args.code.now) (drop (c.args.at + 1) c.args.code.now) c.args.functor c.requires.at.0 c.args.place c.next_with-next.result c.fitting_atom-candidate-in-Some.result (drop_get c.args.at c.args.code.now (FindAtom (length c.args.set.now.atoms) c.requires.at.0 c.args.functor) c.requires.at.1)
+      left = atoms_fit g.S.LinkStore.atom_id g.S.LinkStore.mem_id (g.S.LinkStore.heap c.args.store.now) c.args.set.now (drop c.args.at c.args.code.now) (drop (c.args.at + 1) c.args.code.now) c.args.functor c.requires.at.0 c.args.place c.next_with-next.result c.further_atom-candidate.result (drop_get c.args.at c.args.code.now (FindAtom (length c.args.set.now.atoms) c.requires.at.0 c.args.functor) c.requires.at.1)
           (atoms_next g.S.LinkStore.atom_id g.S.LinkStore.mem_id (g.S.LinkStore.heap c.args.store.now) c.args.set.now c.search.new.set (drop c.args.at c.args.code.now) (drop (c.args.at + 1) c.args.code.now) c.args.functor c.requires.at.0 c.args.place c.in-Some.atom c.next_with-next.result (drop_get c.args.at c.args.code.now (FindAtom (length c.args.set.now.atoms) c.requires.at.0 c.args.functor) c.requires.at.1) left searched (next.0 (g.S.LinkStore.mem_id c.args.place) c.args.functor there.1 there.0)) fit;
-      there = if_both (λ a. functor_of (g.S.LinkStore.heap c.args.store.now) (g.S.LinkStore.atom_id a) ≡ Some c.args.functor) (λ a. home_of (g.S.LinkStore.heap c.args.store.now) (g.S.LinkStore.atom_id a) ≡ Some (g.S.LinkStore.mem_id c.args.place)) c.fitting_atom-candidate-in-Some.result
-          (subst (λ (h : Heap). IfSome c.fitting_atom-candidate-in-Some.result (λ a. functor_of h (g.S.LinkStore.atom_id a) ≡ Some c.args.functor)) same c.fitting_atom-candidate-in-Some.ensures.functor)
-          (subst (λ (h : Heap). IfSome c.fitting_atom-candidate-in-Some.result (λ a. home_of h (g.S.LinkStore.atom_id a) ≡ Some (g.S.LinkStore.mem_id c.args.place))) same c.fitting_atom-candidate-in-Some.ensures.home);
+      there = if_both (λ a. functor_of (g.S.LinkStore.heap c.args.store.now) (g.S.LinkStore.atom_id a) ≡ Some c.args.functor) (λ a. home_of (g.S.LinkStore.heap c.args.store.now) (g.S.LinkStore.atom_id a) ≡ Some (g.S.LinkStore.mem_id c.args.place)) c.further_atom-candidate.result
+          (subst (λ (h : Heap). IfSome c.further_atom-candidate.result (λ a. functor_of h (g.S.LinkStore.atom_id a) ≡ Some c.args.functor)) same c.further_atom-candidate.ensures.functor)
+          (subst (λ (h : Heap). IfSome c.further_atom-candidate.result (λ a. home_of h (g.S.LinkStore.atom_id a) ≡ Some (g.S.LinkStore.mem_id c.args.place))) same c.further_atom-candidate.ensures.home);
     }
 
 pub search_atoms-push-requires : goal.search_atoms-push-requires
