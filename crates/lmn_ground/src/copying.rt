@@ -3,7 +3,7 @@ ghost use Rattle.std.specs.Prelude.{◌≡◌, ◌<◌, ℕ, List, [], None, IfO
 ghost use Rattle.lmn_heap.specs.Conditions.{Alone};
 ghost use Rattle.lmn_heap.specs.Heap.{IsAtom, arity_of, PortsUnmarked};
 ghost use Rattle.lmn_ground.specs.Marks.{first_marks};
-ghost use Rattle.lmn_ground.specs.Spread.{CleanPart, IsWhole, Numbered};
+ghost use Rattle.lmn_ground.specs.Spread.{AreAtoms, CleanPart, IsWhole, Numbered};
 ghost use Rattle.lmn_ground.specs.Copies.{Copying, Made, Remains, unmarked_all};
 ghost use Rattle.lmn_parts.specs.Copies.{AllAtoms, Copied, LeadsOut, all_joined, joined_like, ports_of, answer};
 ghost use Rattle.lmn_parts.specs.Walks.{port_range};
@@ -129,6 +129,7 @@ fn copy_marked<S: LinkStore>(
     ensures there { AllAtoms (S.heap store.new) (map S.atom_id atoms.new) }
     ensures ok { IfOk result (λ c. Copied (S.heap store.old) (unmarked_all (S.heap store.new) (map S.atom_id atoms.new)) (S.atom_id root.0, root.1) (S.atom_id c, root.1)) }
     ensures err { OnErr result (Remains (S.heap store.old) (unmarked_all (S.heap store.new) (map S.atom_id atoms.new))) }
+    ensures size { OnOk result ((xs : List ℕ) → AreAtoms (S.heap store.old) (S.atom_id root.0, root.1) xs → length atoms.new ≡ length xs) }
 {
     let _arity = arity(store, root.0);
     gather(store, root, atoms)?;
@@ -161,6 +162,48 @@ fn copy_lone<S: LinkStore>(
     Ok((copy, root.1))
 }
 
+/// A copy of a part.
+#[derive(Clone, Copy, Drop)]
+pub struct CountedCopy<A> {
+    /// The port at which the copy is entered.
+    pub root: (A, u8),
+    /// How many atoms it has.
+    pub atoms: u64,
+}
+
+/// Copies a part, as `copy` does, and tells how many atoms it has.
+pub fn copy_counted<S: LinkStore>(
+    alloc: Global,
+    store: &mut S,
+    root: (S::Atom, u8),
+) -> Result<CountedCopy<S::Atom>, NoMemory>
+    requires atom { IsAtom (S.heap store.old) (S.atom_id root.0) }
+    requires port { root.1 < arity_of (S.heap store.old) (S.atom_id root.0) }
+    requires clean { PortsUnmarked (S.heap store.old) }
+    requires ground { IsWhole (S.heap store.old) (S.atom_id root.0, root.1) None }
+    requires outside { LeadsOut (S.heap store.old) (S.atom_id root.0, root.1) }
+    ensures ok { IfOk result (λ c. Copied (S.heap store.old) (S.heap store.new) (S.atom_id root.0, root.1) (S.atom_id c.root.0, c.root.1)) }
+    ensures err { OnErr result (Remains (S.heap store.old) (S.heap store.new)) }
+    ensures alone { Alone (S.heap store.old) → Alone (S.heap store.new) }
+    ensures size { IfOk result (λ c. (xs : List ℕ) → AreAtoms (S.heap store.old) (S.atom_id root.0, root.1) xs → c.atoms ≡ length xs) }
+{
+    let ports = arity(store, root.0);
+    if ports == 1 {
+        let lone = copy_lone(alloc, store, root)?;
+        return Ok(CountedCopy {
+            root: lone,
+            atoms: 1,
+        });
+    }
+    let mut atoms = Rows::new(alloc);
+    let copied = copy_marked(alloc, store, root, &mut atoms);
+    clear(store, &atoms);
+    Ok(CountedCopy {
+        root: (copied?, root.1),
+        atoms: atoms.len() as u64,
+    })
+}
+
 /// Copies a part whose root has no partner in it. The copy's atoms are detached, in the order in which the part's are
 /// found, and its root has no partner. At want of memory some detached atoms may have been made, which `discard` gives back.
 pub fn copy<S: LinkStore>(
@@ -177,12 +220,8 @@ pub fn copy<S: LinkStore>(
     ensures err { OnErr result (Remains (S.heap store.old) (S.heap store.new)) }
     ensures alone { Alone (S.heap store.old) → Alone (S.heap store.new) }
 {
-    let ports = arity(store, root.0);
-    if ports == 1 {
-        return copy_lone(alloc, store, root);
+    match copy_counted(alloc, store, root) {
+        Ok(copied) => Ok(copied.root),
+        Err(NoMemory) => Err(NoMemory),
     }
-    let mut atoms = Rows::new(alloc);
-    let copied = copy_marked(alloc, store, root, &mut atoms);
-    clear(store, &atoms);
-    Ok((copied?, root.1))
 }

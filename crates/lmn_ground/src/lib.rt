@@ -11,6 +11,6 @@ mod spread;
 mod take;
 mod wipe;
 
-pub use copying::copy;
+pub use copying::{CountedCopy, copy, copy_counted};
 pub use equality::{equal, is_same_port};
 pub use parts::{is_ground, size_of, take_part};

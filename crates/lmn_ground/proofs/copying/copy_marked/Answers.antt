@@ -1,4 +1,6 @@
-use Rattle.std.proofs.Common.{ℕ, map, sym, subst}
+use Rattle.std.proofs.Common.{ℕ, map, sym, subst, arith}
+use Rattle.std.proofs.lemmas.List.{length-map}
+use Rattle.lmn_ground.proofs.GroundLaws.{one_size}
 use Rattle.lmn_ground.specs.Copies.{unmarked_all}
 use Rattle.lmn_parts.specs.Copies.{Copied}
 use Rattle.lmn_ground.proofs.CopyLaws.{map_long}
@@ -37,3 +39,9 @@ returns-clause-ok g c =
     (copied_all (g.S.LinkStore.heap c.args.store.now) (g.S.LinkStore.heap c.gather.new.store) (map g.S.LinkStore.atom_id c.gather.new.atoms) c.in_ok-gather.ensures.marked (g.S.LinkStore.atom_id c.args.root.0, c.args.root.1)
     (g.S.LinkStore.heap c.make_copies.new.store) (map g.S.LinkStore.atom_id c.make_copies.new.copies) c.in_ok-make_copies.ensures.all c.in_ok-gather.ensures.ok (map_long g.S.LinkStore.atom_id _ _ c.in_ok-make_copies.ensures.long)
     c.arity-arity.ensures.sound c.root-sound.ensures.sound c.requires.outside (g.S.LinkStore.heap c.join_copies.new.store) c.join_copies.ensures c.requires.ground)
+
+pub returns-clause-size : goal.returns-clause-size
+returns-clause-size g c = λ xs a.
+    (let one = one_size (g.S.LinkStore.heap c.args.store.now) (g.S.LinkStore.atom_id c.args.root.0, c.args.root.1) (map g.S.LinkStore.atom_id c.gather.new.atoms) xs c.in_ok-gather.ensures.ok.part a in
+    let long = length-map c.gather.new.atoms g.S.LinkStore.atom_id in
+    omega (arith, one, long))
