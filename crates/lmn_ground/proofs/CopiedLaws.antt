@@ -38,7 +38,7 @@ no_marks zero i = refl
 no_marks (suc n) zero = refl
 no_marks (suc n) (suc i) = no_marks n i
 
-link_at : (s : Heap) (y i : ℕ) (f : Functor) → s.atoms y ≡ Some (new_atom f) → link_of s y i ≡ None
+pub link_at : (s : Heap) (y i : ℕ) (f : Functor) → s.atoms y ≡ Some (new_atom f) → link_of s y i ≡ None
 link_at s y i f e = ap (λ (o : Option HeapAtom). slice_index_or (partners_of o) i None) e ∙ no_links f.arity i
 
 -- making changes no other part of the heap
@@ -188,7 +188,7 @@ ports_within all x i zero ps p x_in h k = h k
 ports_within all x i (suc n) ps p x_in h (inl e) = subst (λ (q : ℕ × ℕ). In q.0 all) e x_in
 ports_within all x i (suc n) ps p x_in h (inr k) = ports_within all x (i + 1) n ps p x_in h k
 
-ports_of_in : (s : Heap) (xs all : List ℕ) → ((x : ℕ) → In x xs → In x all) → (p : ℕ × ℕ) → HasPort p (ports_of s xs) → In p.0 all
+pub ports_of_in : (s : Heap) (xs all : List ℕ) → ((x : ℕ) → In x xs → In x all) → (p : ℕ × ℕ) → HasPort p (ports_of s xs) → In p.0 all
 ports_of_in s [] all h p k = absurd k
 ports_of_in s (x ∷ xs) all h p k = ports_within all x 0 (arity_of s x) (ports_of s xs) p (h x (inl refl)) (λ m. ports_of_in s xs all (λ z i. h z (inr i)) p m) k
 
@@ -364,11 +364,11 @@ module _ (s now : Heap) (xs : List ℕ) (marks : NumbersAtoms s now xs) where
   pub new_before : (zs : List ℕ) → AreNew now zs → AreNew s zs
   new_before zs n = (n.0, λ y k. no_atom_before y (n.1 y k))
 
-  old_marks : (zs : List ℕ) → AreNew now zs → (x : ℕ) → In x xs → first_marks (made_like s xs zs) x ≡ 0
+  pub old_marks : (zs : List ℕ) → AreNew now zs → (x : ℕ) → In x xs → first_marks (made_like s xs zs) x ≡ 0
   old_marks zs n x k =
       ap (λ (o : Option HeapAtom). slice_index_or (marks_of o) 0 0) (made_away s xs zs x (λ i. is_not now x x (numbers_there x k) (n.1 x i) refl)) ∙ marks.clean x k
 
-  made_is : (to : Heap) (zs : List ℕ) → Made now to xs zs → to ≡ painted (made_like s xs zs) marks.marks
+  pub made_is : (to : Heap) (zs : List ℕ) → Made now to xs zs → to ≡ painted (made_like s xs zs) marks.marks
   made_is to zs m = m.is ∙ ap (λ (h : Heap). made_like h xs zs) marks.is ∙ made_painted s marks.marks xs zs (no_mark_new zs m.fresh)
 
   -- nothing was made

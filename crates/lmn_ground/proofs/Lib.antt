@@ -16,3 +16,9 @@ pub mod GatherLaws
 pub mod PaintedLaws
 pub mod CopiedLaws
 pub mod LoneLaws
+pub mod RestLaws
+pub mod ClosingLaws
+pub mod OwnLaws
+pub mod RestCopyLaws
+pub mod GatherRestLaws
+pub mod RestExampleProofs

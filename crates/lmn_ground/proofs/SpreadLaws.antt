@@ -115,7 +115,7 @@ entry_is k j l = omega arith
 number_is : (k j : ℕ) → j < 256 → (512 + 256 * k + j) / 256 ≡ 2 + k
 number_is k j l = omega arith
 
-numbered_snoc : (v w : ℕ → ℕ) (k b : ℕ) (xs : List ℕ) → Numbered v k xs → ((x : ℕ) → In x xs → w x ≡ v x) → w b / 256 ≡ k + length xs → Numbered w k (xs ++ b ∷ [])
+pub numbered_snoc : (v w : ℕ → ℕ) (k b : ℕ) (xs : List ℕ) → Numbered v k xs → ((x : ℕ) → In x xs → w x ≡ v x) → w b / 256 ≡ k + length xs → Numbered w k (xs ++ b ∷ [])
 numbered_snoc v w k b [] n h e = (omega (arith, e), tt)
 numbered_snoc v w k b (x ∷ xs) n h e = (ap (λ (m : ℕ). m / 256) (h x (inl refl)) ∙ n.0, numbered_snoc v w (suc k) b xs n.1 (λ z i. h z (inr i)) (omega (arith, e)))
 

@@ -2,3 +2,5 @@ pub mod Marks
 pub mod Spread
 pub mod Follow
 pub mod Copies
+pub mod Rests
+pub mod RestExamples

@@ -17,7 +17,7 @@ use lmn_store::LinkStore;
 use std::alloc::Global;
 
 /// Makes an atom for each of the part, with its functor.
-fn make_copies<S: LinkStore>(
+pub fn make_copies<S: LinkStore>(
     alloc: Global,
     store: &mut S,
     atoms: &Rows<S::Atom>,
@@ -98,7 +98,7 @@ fn join_ports<S: LinkStore>(
 }
 
 /// Joins the copies as the atoms of the part.
-fn join_copies<S: LinkStore>(
+pub fn join_copies<S: LinkStore>(
     store: &mut S,
     root: (S::Atom, u8),
     atoms: &Rows<S::Atom>,

@@ -1,16 +1,28 @@
 //! Parts of a store that are walked by marks.
 #![tactic(auto)]
 
+mod cells;
+mod closing;
 mod compare;
 mod copying;
 mod equality;
+mod examples;
 mod gather;
+mod painting;
 mod parts;
+mod rest;
 mod seek;
 mod spread;
 mod take;
 mod wipe;
 
+pub use cells::{copy_cells, drop_cells, place_cells};
+pub use closing::closed;
 pub use copying::{CountedCopy, copy, copy_counted};
 pub use equality::{equal, is_same_port};
+pub use examples::rests_stand;
+pub use painting::paint;
 pub use parts::{is_ground, size_of, take_part};
+
+#[cfg(test)]
+mod rest_tests;

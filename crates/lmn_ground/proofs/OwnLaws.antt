@@ -1,0 +1,155 @@
+-- Setting own marks while the marks of a walk are taken back.
+use Rattle.std.proofs.Common.{◌≡◌, ℕ, zero, suc, ◌+◌, ◌<◌, ◌≤◌, List, [], ◌∷◌, ◌++◌, Option, Some, None, IsSome, refl, sym, ap, subst, ◌∙◌, inl, inr, arith}
+use Rattle.std.proofs.lemmas.Bool.{cases_eq}
+use Rattle.std.specs.Option.{option_map}
+use Rattle.std.specs.Prelude.{slice_index_or, slice_set}
+use Rattle.lmn_base.specs.Graphs.{AtomMap, Reached, at_root, across}
+use Rattle.lmn_heap.specs.Graphs.{atom_map}
+use Rattle.lmn_heap.specs.Heap.{Heap, HeapAtom, Distinct, IsAtom, alter, with_mark, marked, marks_of, arity_of}
+use Rattle.lmn_heap.proofs.Listing.{alter_at, alter_away}
+use Rattle.lmn_heap.proofs.Common.{same_atoms}
+use Rattle.lmn_ground.specs.Marks.{paint, painted, first_marks, way, ports_ahead, OnWay}
+use Rattle.lmn_ground.specs.Spread.{Wiping}
+use Rattle.lmn_ground.specs.Rests.{own_marked}
+use Rattle.lmn_parts.proofs.WalkLaws.{determined}
+use Rattle.lmn_ground.proofs.SoughtLaws.{no_port_left, weight}
+use Rattle.lmn_ground.proofs.PaintLaws.{net_marked, net_painted}
+use Rattle.lmn_parts.specs.Walks.{neighbour, Net, net, is_in, Walk, ends}
+use Rattle.lmn_base.specs.Lists.{In}
+
+-- the own mark of one atom is set
+abbrev pub owned : Heap → ℕ → ℕ → Heap
+owned s b v = marked s b (arity_of s b) v
+
+pub net_owned : (s : Heap) (b v : ℕ) → net (owned s b v) ≡ net s
+net_owned s b v = net_marked s b (arity_of s b) v
+
+-- the first marks stay, where there is a port
+pub firsts_owned : (s : Heap) (b v : ℕ) → 0 < arity_of s b → first_marks (owned s b v) ≡ first_marks s
+firsts_owned s b v l = λ i a. (at a) i
+  where
+    by : (o : Option HeapAtom) (n : ℕ) → 0 < n → slice_index_or (marks_of (option_map (with_mark n v) o)) 0 0 ≡ slice_index_or (marks_of o) 0 0
+    by None n l = refl
+    by (Some x) zero l = absurd (omega arith)
+    by (Some x) (suc n) l = first x.marks
+      where
+        first : (xs : List ℕ) → slice_index_or (slice_set xs (suc n) v) 0 0 ≡ slice_index_or xs 0 0
+        first [] = refl
+        first (y ∷ ys) = refl
+
+    at : (a : ℕ) → first_marks (owned s b v) a ≡ first_marks s a
+    at a = elim (cases_eq a b) [
+      | inl e ↦ subst (λ z. first_marks (owned s b v) z ≡ first_marks s z) (sym e)
+          (ap (λ o. slice_index_or (marks_of o) 0 0) (alter_at s.atoms b (option_map (with_mark (arity_of s b) v))) ∙ by (s.atoms b) (arity_of s b) l)
+      | inr d ↦ ap (λ o. slice_index_or (marks_of o) 0 0) (alter_away s.atoms b (option_map (with_mark (arity_of s b) v)) a d)
+    ]
+
+-- first marks and own marks don't depend on each other
+pub painted_owned : (s : Heap) (f : ℕ → ℕ) (b v : ℕ) → 0 < arity_of s b → owned (painted s f) b v ≡ painted (owned s b v) f
+painted_owned s f b v l =
+    ap (λ n. marked (painted s f) b n v) (ap (λ (n : Net). n.arity b) (net_painted s f))
+    ∙ same_atoms s _ _ (λ a. elim (cases_eq a b) [
+      | inl e ↦ subst (λ (z : ℕ). alter (painted s f).atoms b (option_map (with_mark (arity_of s b) v)) z ≡ paint (f z) (alter s.atoms b (option_map (with_mark (arity_of s b) v)) z)) (sym e)
+          (alter_at (painted s f).atoms b (option_map (with_mark (arity_of s b) v)) ∙ by (f b) (arity_of s b) l (s.atoms b) ∙ ap (paint (f b)) (sym (alter_at s.atoms b (option_map (with_mark (arity_of s b) v)))))
+      | inr d ↦ alter_away (painted s f).atoms b (option_map (with_mark (arity_of s b) v)) a d ∙ ap (paint (f a)) (sym (alter_away s.atoms b (option_map (with_mark (arity_of s b) v)) a d))
+    ])
+  where
+    both : (xs : List ℕ) (n m : ℕ) → slice_set (slice_set xs 0 (suc m)) (suc n) v ≡ slice_set (slice_set xs (suc n) v) 0 (suc m)
+    both [] n m = refl
+    both (x ∷ xs) n m = refl
+
+    by : (m n : ℕ) → 0 < n → (o : Option HeapAtom) → option_map (with_mark n v) (paint m o) ≡ paint m (option_map (with_mark n v) o)
+    by zero n l o = refl
+    by (suc m) n l None = refl
+    by (suc m) zero l (Some x) = absurd (omega arith)
+    by (suc m) (suc n) l (Some x) = ap (λ (xs : List ℕ). Some (record x { marks = xs })) (both x.marks n m)
+
+-- one more at the end
+pub owned_snoc : (v : ℕ) (xs : List ℕ) (b : ℕ) (s : Heap) → own_marked v (xs ++ b ∷ []) s ≡ owned (own_marked v xs s) b v
+owned_snoc v [] b s = refl
+owned_snoc v (x ∷ xs) b s = owned_snoc v xs b (owned s x v)
+
+reached_same : (m n : AtomMap) (root : ℕ × ℕ) → ((c l : ℕ) → m.partner (c, l) ≡ n.partner (c, l)) → (x : ℕ) → Reached m root x → Reached n root x
+reached_same m n root h x at_root = at_root
+reached_same m n root h x (across {a = a} {i = i} r d e) = across (reached_same m n root h a r) d (sym (h a i) ∙ e)
+
+-- The walk doesn't see that an own mark is set.
+pub wiping_owned : (before now : Heap) (root : ℕ × ℕ) (seen met : List ℕ) (depth a i left b v : ℕ) → 0 < arity_of before b → Wiping before now root seen met depth a i left
+    → Wiping (owned before b v) (owned now b v) root seen met depth a i left
+wiping_owned before now root seen met depth a i left b v l t =
+    let n_now : net now ≡ net before = ap net t.is ∙ net_painted before t.marks in
+    let l_now : 0 < arity_of now b = subst (λ (n : Net). 0 < n.arity b) (sym n_now) l in
+    let e = sym (net_owned before b v) in
+    let f = sym (firsts_owned now b v l_now) in
+    let g = sym (firsts_owned before b v l) in
+    record {
+      marks = t.marks;
+      is = (λ i. marked (t.is i) b (arity_of (t.is i) b) v) ∙ painted_owned before t.marks b v l;
+      clean = λ x k. subst (λ (w : ℕ → ℕ). w x ≡ 0) g (t.clean x k);
+      ports = λ x k. subst (λ (n : Net). 0 < n.arity x) e (t.ports x k);
+      outside = t.outside;
+      wiped = λ x k d. t.wiped x k (λ m. d (subst (λ (n : Net). In x (way n (first_marks (owned now b v)) depth a)) e (subst (λ (w : ℕ → ℕ). In x (way (net before) w depth a)) f m)));
+      high = λ x k d. subst (λ (w : ℕ → ℕ). 512 ≤ w x) f (t.high x k d);
+      low = λ x k. subst (λ (w : ℕ → ℕ). w x < 512) f (t.low x k);
+      reached = λ x k. reached_same (atom_map before) (atom_map (owned before b v)) root (λ c l. ap (λ (n : Net). n.link c l) e) x (t.reached x k);
+      off = λ x p d. subst (λ (w : ℕ → ℕ). w x < 512) f (t.off x (reached_same (atom_map (owned before b v)) (atom_map before) root (λ c l. ap (λ (n : Net). n.link c l) (sym e)) x p) d);
+      here = subst (λ (n : Net). i ≤ n.arity a) e t.here;
+      on_way = subst (λ (n : Net). OnWay n (first_marks (owned now b v)) root depth a) e (subst (λ (w : ℕ → ℕ). OnWay (net before) w root depth a) f t.on_way);
+      once = subst (λ (n : Net). Distinct (way n (first_marks (owned now b v)) depth a)) e (subst (λ (w : ℕ → ℕ). Distinct (way (net before) w depth a)) f t.once);
+      way_met = λ x k. t.way_met x (subst (λ (w : ℕ → ℕ). In x (way (net before) w depth a)) (sym f) (subst (λ (n : Net). In x (way n (first_marks (owned now b v)) depth a)) (sym e) k));
+      first = t.first;
+      rest = subst (λ (n : Net). Walk n.arity (neighbour n root (is_in seen)) met (ports_ahead n (first_marks (owned now b v)) depth a i) seen) e
+          (subst (λ (w : ℕ → ℕ). Walk (net before).arity (neighbour (net before) root (is_in seen)) met (ports_ahead (net before) w depth a i) seen) f t.rest);
+      few = t.few;
+      deep = t.deep;
+    }
+
+-- at the end all are met
+pub all_owned : (v : ℕ) (before0 : Heap) (root : ℕ × ℕ) (seen met : List ℕ) (now : Heap) (depth a i left : ℕ) (t : Wiping (own_marked v met before0) now root seen met depth a i left)
+    (to : Heap) → to ≡ own_marked v met before0 → depth ≡ 0 → i ≡ arity_of now a → to ≡ own_marked v seen before0
+all_owned v before0 root seen met now depth a i left t to e zero_deep full =
+    let before = own_marked v met before0 in
+    let f : net now ≡ net before = ap net t.is ∙ net_painted before t.marks in
+    e ∙ ap (λ zs. own_marked v zs before0) (by (subst (λ (z : ℕ). Wiping before now root seen met z a i left) zero_deep t) (subst (λ (n : Net). i ≡ n.arity a) f full))
+  where
+    by : Wiping (own_marked v met before0) now root seen met 0 a i left → i ≡ (net (own_marked v met before0)).arity a → met ≡ seen
+    by u end = determined (net (own_marked v met before0)).arity (neighbour (net (own_marked v met before0)) root (is_in seen)) ends
+        (subst (λ (ps : List (ℕ × ℕ)). Walk (net (own_marked v met before0)).arity (neighbour (net (own_marked v met before0)) root (is_in seen)) met (ps ++ []) seen) (no_port_left (net (own_marked v met before0)) a i end) u.rest)
+
+-- as much is left to go through
+pub lighter_owned : (mid to : Heap) (b v d c k m n : ℕ) → to ≡ owned mid b v → 0 < arity_of mid b → m + weight (net mid) (first_marks mid) d c k < n → m + weight (net to) (first_marks to) d c k < n
+lighter_owned mid to b v d c k m n e l h =
+    let same : weight (net to) (first_marks to) d c k ≡ weight (net mid) (first_marks mid) d c k =
+    ap (λ (s : Heap). weight (net s) (first_marks s) d c k) e
+    ∙ ap (λ (x : Net). weight x (first_marks (owned mid b v)) d c k) (net_owned mid b v)
+    ∙ ap (λ (w : ℕ → ℕ). weight (net mid) w d c k) (firsts_owned mid b v l) in
+    subst (λ (x : ℕ). m + x < n) (sym same) h
+
+-- an atom is still there
+pub there_owned : (mid to : Heap) (b v : ℕ) → to ≡ owned mid b v → IsAtom mid b → IsAtom to b
+there_owned mid to b v e i = subst (λ (s : Heap). IsAtom s b) (sym e) (subst (λ (o : Option HeapAtom). IsSome o) (sym (alter_at mid.atoms b (option_map (with_mark (arity_of mid b) v)))) (by (mid.atoms b) i))
+  where
+    by : (o : Option HeapAtom) → IsSome o → IsSome (option_map (with_mark (arity_of mid b) v) o)
+    by None i = absurd (cc)
+    by (Some x) i = refl
+
+-- the root comes first
+pub first_owned : (before mid now : Heap) (root : ℕ × ℕ) (seen : List ℕ) (left v : ℕ) → now ≡ owned mid root.0 v → 0 < arity_of before root.0 → Wiping before mid root seen (root.0 ∷ []) 0 root.0 0 left
+    → Wiping (own_marked v (root.0 ∷ []) before) now root seen (root.0 ∷ []) 0 root.0 0 left
+first_owned before mid now root seen left v e l w =
+    subst (λ (s : Heap). Wiping (owned before root.0 v) s root seen (root.0 ∷ []) 0 root.0 0 left) (sym e) (wiping_owned before mid root seen (root.0 ∷ []) 0 root.0 0 left root.0 v l w)
+
+-- entered and set
+pub owned_too : (v : ℕ) (before0 : Heap) (root : ℕ × ℕ) (seen met : List ℕ) (mid to : Heap) (b d c k l : ℕ) → to ≡ owned mid b v → 0 < arity_of mid b
+    → Wiping (own_marked v met before0) mid root seen (met ++ b ∷ []) d c k l → Wiping (own_marked v (met ++ b ∷ []) before0) to root seen (met ++ b ∷ []) d c k l
+owned_too v before0 root seen met mid to b d c k l e has w =
+    let before = own_marked v met before0 in
+    let n_mid : net mid ≡ net before = ap net w.is ∙ net_painted before w.marks in
+    let has_before : 0 < arity_of before b = subst (λ (n : Net). 0 < n.arity b) n_mid has in
+    subst (λ (s : Heap). Wiping s to root seen (met ++ b ∷ []) d c k l) (sym (owned_snoc v met b before0))
+    (subst (λ (s : Heap). Wiping (owned before b v) s root seen (met ++ b ∷ []) d c k l) (sym e) (wiping_owned before mid root seen (met ++ b ∷ []) d c k l b v has_before w))
+
+-- marks don't change how many ports there are
+pub port_marked_has : (s to : Heap) (b m j : ℕ) → to ≡ marked s b 0 m → j < arity_of s b → 0 < arity_of to b
+port_marked_has s to b m j e l =
+    let n : arity_of to b ≡ arity_of s b = ap (λ (h : Heap). arity_of h b) e ∙ ap (λ (x : Net). x.arity b) (net_marked s b 0 m) in omega (arith, n, l)

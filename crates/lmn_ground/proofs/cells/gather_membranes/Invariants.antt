@@ -1,0 +1,23 @@
+use Rattle.std.proofs.Common.{◌≡◌, ◌++◌, ℕ, List, length, map}
+use Rattle.std.specs.Prelude.{IfSome}
+use Rattle.std.specs.Option.{option_map}
+use Rattle.lmn_base.specs.Lists.{In}
+use Rattle.lmn_heap.specs.Heap.{IsMem, from}
+use Rattle.lmn_ground.specs.Rests.{IsLeft}
+use Rattle.lmn_ground.proofs.RestLaws.{rest_found}
+use Rattle.lmn_ground.proofs.cells.gather_membranes.Given as goal
+
+abbrev pub invariant-loop-next : goal.invariant-loop-next
+invariant-loop-next g l =
+    let s = g.S.LinkStore.heap l.store in
+    let m = g.S.LinkStore.mem_id l.mem in
+    let out = map g.S.LinkStore.mem_id l.out in
+    record {
+      listed : (atoms all : List ℕ) → IsLeft s m out atoms all → map g.S.LinkStore.mem_id l.membranes ++ from (option_map g.S.LinkStore.mem_id l.next) all ≡ all;
+      at : IfSome l.next (λ n. (atoms all : List ℕ) → IsLeft s m out atoms all → In (g.S.LinkStore.mem_id n) all);
+      there : IfSome l.next (λ n. IsMem s (g.S.LinkStore.mem_id n));
+    }
+
+abbrev pub decreases-loop-next : goal.decreases-loop-next
+decreases-loop-next g l =
+    length (from (option_map g.S.LinkStore.mem_id l.next) (rest_found (g.S.LinkStore.heap l.store) (g.S.LinkStore.mem_id l.mem) (map g.S.LinkStore.mem_id l.out)))
