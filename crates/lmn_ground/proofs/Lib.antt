@@ -22,3 +22,6 @@ pub mod OwnLaws
 pub mod RestCopyLaws
 pub mod GatherRestLaws
 pub mod RestExampleProofs
+pub mod DropLaws
+pub mod DroppingLaws
+pub mod PlaceLaws

@@ -69,7 +69,8 @@ pub taken_snoc : (s : Heap) (xs : List ℕ) (b : ℕ) → taken_all s (xs ++ b �
 taken_snoc s [] b = refl
 taken_snoc s (x ∷ xs) b = taken_snoc (taken s x) xs b
 
-home_away : (s : Heap) (a b : ℕ) → b ≢ a → home_of (taken s a) b ≡ home_of s b
+-- another atom keeps its home
+pub home_away : (s : Heap) (a b : ℕ) → b ≢ a → home_of (taken s a) b ≡ home_of s b
 home_away s a b d = ap (option_and_then (λ (x : HeapAtom). home_by x.place)) (alter_away s.atoms a (option_map (with_place gone)) b d)
 
 -- other atoms keep their homes

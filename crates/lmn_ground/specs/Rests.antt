@@ -1,6 +1,7 @@
 -- Rests that are told by marks, and walks over them.
-use Rattle.std.specs.Prelude.{zero, suc, ℕ, ◌==◌, not, List, [], ◌∷◌}
-use Rattle.lmn_heap.specs.Heap.{Heap, IsMem, own_mark, marked, arity_of}
+use Rattle.std.specs.Prelude.{zero, suc, ℕ, ◌≡◌, ◌==◌, not, List, [], ◌∷◌, Some}
+use Rattle.lmn_base.specs.Lists.{In}
+use Rattle.lmn_heap.specs.Heap.{Heap, IsMem, own_mark, marked, arity_of, parent_of}
 use Rattle.lmn_parts.specs.Rests.{IsRest}
 use Rattle.lmn_parts.specs.Walks.{is_in}
 
@@ -27,3 +28,7 @@ port_marked (suc n) v a h = marked h a 0 v
 abbrev pub ports_marked : ℕ → List ℕ → Heap → Heap
 ports_marked v [] h = h
 ports_marked v (a ∷ xs) h = ports_marked v xs (port_marked (arity_of h a) v a h)
+
+-- The twins of these membranes stand in one another as the membranes do; each of them stands in m or in one of them.
+abbrev pub AreTwins : Heap → ℕ → (ℕ → ℕ) → List ℕ → Type 0
+AreTwins s m twin ms = (x : ℕ) → In x ms → (p : ℕ) × (parent_of s x ≡ Some p) × In p (m ∷ ms) × (parent_of s (twin x) ≡ Some (twin p))

@@ -1,13 +1,14 @@
 //! Rests are copied, placed and taken.
-ghost use Rattle.std.specs.Prelude.{◌≡◌, ◌<◌, ℕ, List, [], Some, OnOk, OnErr, IfOk, length, map};
+ghost use Rattle.std.specs.Prelude.{◌≡◌, ◌≢◌, ◌<◌, ◌≤◌, ℕ, List, [], ◌∷◌, ◌++◌, Some, OnOk, OnErr, IfOk, IfSome, length, map};
+ghost use Rattle.std.specs.Option.{option_map};
 ghost use Rattle.lmn_base.specs.Lists.{In};
 ghost use Rattle.lmn_heap.specs.Conditions.{Alone};
-ghost use Rattle.lmn_heap.specs.Heap.{IsMem, IsMemInPlace, Distinct, PortsUnmarked, gone, marks_of, mem_place_of, own_mark};
+ghost use Rattle.lmn_heap.specs.Heap.{IsMem, IsMemInPlace, Distinct, PortsUnmarked, after, atoms_in, from, gone, marks_of, mem_place_of, mems_in, own_mark, parent_of, placed_mem, rules_copied, rules_in, spare_of, taken_all};
 ghost use Rattle.lmn_parts.specs.Copies.{AllAtoms, AreNew, made_like};
-ghost use Rattle.lmn_parts.specs.Rests.{AreNewMembranes, AreRoomsFor, CopyWaits, IsContent, NoneLeaves, RestCopied, RestRemains, joined_copies, made_roomy, rest_placed, rest_taken};
+ghost use Rattle.lmn_parts.specs.Rests.{AreNewMembranes, AreRoomsFor, CopyWaits, IsContent, NoneLeaves, RestCopied, RestRemains, atoms_placed, joined_copies, made_roomy, rest_placed, rest_taken};
 ghost use Rattle.lmn_ground.specs.Copies.{Made, NumbersAtoms};
 ghost use Rattle.lmn_ground.specs.Marks.{first_marks};
-ghost use Rattle.lmn_ground.specs.Rests.{AreMembranes, IsLeft};
+ghost use Rattle.lmn_ground.specs.Rests.{AreMembranes, AreTwins, IsLeft};
 ghost use Rattle.lmn_ground.specs.Spread.{Numbered};
 
 use crate::copying::{join_copies, make_copies};
@@ -176,50 +177,103 @@ pub fn copy_cells<S: LinkStore>(
 }
 
 /// The first detached atoms go to a membrane, as many as stand in another.
-fn place_atoms<S: LinkStore>(store: &mut S, from: S::Mem, to: S::Mem) {
+fn place_atoms<S: LinkStore>(store: &mut S, from: S::Mem, to: S::Mem)
+    requires from { IsMem (S.heap store.old) (S.mem_id from) }
+    requires to { IsMemInPlace (S.heap store.old) (S.mem_id to) }
+    requires line { (ys behind : List ℕ) × (length ys ≡ length (atoms_in (S.heap store.old) (S.mem_id from))) × ((S.heap store.old).new_atoms ≡ ys ++ behind) }
+    ensures { (ys behind : List ℕ) → length ys ≡ length (atoms_in (S.heap store.old) (S.mem_id from)) → (S.heap store.old).new_atoms ≡ ys ++ behind →
+        S.heap store.new ≡ atoms_placed (λ a. a) (S.heap store.old) (S.mem_id to) ys }
+{
     for _ in 0..store.atoms(from) {
         let _atom = store.place_atom(to);
     }
 }
 
 /// The first detached membrane, which is the copy of one, goes to a membrane, with the rules and the copies of the atoms.
-fn place_copy<S: LinkStore>(store: &mut S, of: S::Mem, to: S::Mem) -> S::Mem {
+fn place_copy<S: LinkStore>(store: &mut S, of: S::Mem, to: S::Mem) -> S::Mem
+    requires of { IsMem (S.heap store.old) (S.mem_id of) }
+    requires to { IsMemInPlace (S.heap store.old) (S.mem_id to) }
+    requires first { (k : ℕ) × (ks : List ℕ) × ((S.heap store.old).new_mems ≡ k ∷ ks) × (S.mem_id of ≢ k) × (length (rules_in (S.heap store.old) (S.mem_id of)) ≤ spare_of (S.heap store.old) k) }
+    requires line { (ys behind : List ℕ) × (length ys ≡ length (atoms_in (S.heap store.old) (S.mem_id of))) × ((S.heap store.old).new_atoms ≡ ys ++ behind) }
+    ensures first { from (Some (S.mem_id result)) (S.heap store.old).new_mems ≡ (S.heap store.old).new_mems }
+    ensures placed { (ys behind : List ℕ) → length ys ≡ length (atoms_in (S.heap store.old) (S.mem_id of)) → (S.heap store.old).new_atoms ≡ ys ++ behind →
+        S.heap store.new ≡ atoms_placed (λ a. a) (rules_copied (placed_mem (S.heap store.old) (S.mem_id to) (S.mem_id result)) (S.mem_id of) (S.mem_id result)) (S.mem_id result) ys }
+{
+    let _root = store.root();
     let copy = store.place_mem(to);
     store.copy_rules(of, copy);
     place_atoms(store, of, copy);
     copy
 }
 
-/// A membrane and its copy.
+/// A membrane, and its copy or the place for it.
 #[derive(Clone, Copy)]
 struct Twin<M> {
     mem: M,
     copy: M,
 }
 
-/// Places the copy of the membrane behind an empty one in preorder.
-fn place_behind<S: LinkStore>(
-    store: &mut S,
-    from: S::Mem,
-    twin: Twin<S::Mem>,
-) -> Option<Twin<S::Mem>> {
-    let mut at = twin;
+/// The membrane behind an empty one in preorder, with the copy of the membrane round it.
+fn twin_behind<S: LinkStore>(
+    store: &S,
+    mem: S::Mem,
+    start: Twin<S::Mem>,
+) -> Option<Twin<S::Mem>>
+    requires mem { IsMem (S.heap store.now) (S.mem_id mem) }
+    requires content { (atoms membranes : List ℕ) × IsContent (S.heap store.now) (S.mem_id mem) atoms membranes }
+    requires at { (atoms membranes : List ℕ) → IsContent (S.heap store.now) (S.mem_id mem) atoms membranes → In (S.mem_id start.mem) (S.mem_id mem ∷ membranes) }
+    requires empty { mems_in (S.heap store.now) (S.mem_id start.mem) ≡ [] }
+    requires twin { (twin : ℕ → ℕ) × (placed : List ℕ) × AreTwins (S.heap store.now) (S.mem_id mem) twin placed × In (S.mem_id start.mem) (S.mem_id mem ∷ placed) × (twin (S.mem_id start.mem) ≡ S.mem_id start.copy) }
+    requires there { IsMem (S.heap store.now) (S.mem_id start.copy) }
+    ensures list { (atoms membranes : List ℕ) → IsContent (S.heap store.now) (S.mem_id mem) atoms membranes →
+        from (option_map (λ t. S.mem_id t.mem) result) (S.mem_id mem ∷ membranes) ≡ after (S.mem_id start.mem) (S.mem_id mem ∷ membranes) }
+    ensures round { (twin : ℕ → ℕ) (placed : List ℕ) → AreTwins (S.heap store.now) (S.mem_id mem) twin placed → In (S.mem_id start.mem) (S.mem_id mem ∷ placed) → twin (S.mem_id start.mem) ≡ S.mem_id start.copy →
+        IfSome result (λ t. (p : ℕ) × (parent_of (S.heap store.now) (S.mem_id t.mem) ≡ Some p) × In p (S.mem_id mem ∷ placed) × (twin p ≡ S.mem_id t.copy)) }
+{
+    let _root = store.root();
+    let mut at = start;
     loop {
-        if store.same_mem(at.mem, from) {
+        if store.same_mem(at.mem, mem) {
             return None;
         }
-        let round = store.parent(at.mem)?;
-        let to = store.parent(at.copy)?;
-        match store.next_mem(at.mem) {
-            Some(next) => {
-                let copy = place_copy(store, next, to);
-                return Some(Twin { mem: next, copy });
-            }
-            None => at = Twin {
-                mem: round,
-                copy: to,
+        match store.parent(at.mem) {
+            Some(round) => match store.parent(at.copy) {
+                Some(copy) => {
+                    if let Some(next) = store.next_mem(at.mem) {
+                        return Some(Twin { mem: next, copy });
+                    }
+                    at = Twin { mem: round, copy };
+                }
+                None => return None,
             },
+            None => return None,
         }
+    }
+}
+
+/// The membrane behind one in preorder, with the copy of the membrane round it.
+fn next_twin<S: LinkStore>(
+    store: &S,
+    mem: S::Mem,
+    at: Twin<S::Mem>,
+) -> Option<Twin<S::Mem>>
+    requires mem { IsMem (S.heap store.now) (S.mem_id mem) }
+    requires content { (atoms membranes : List ℕ) × IsContent (S.heap store.now) (S.mem_id mem) atoms membranes }
+    requires at { (atoms membranes : List ℕ) → IsContent (S.heap store.now) (S.mem_id mem) atoms membranes → In (S.mem_id at.mem) (S.mem_id mem ∷ membranes) }
+    requires twin { (twin : ℕ → ℕ) × (placed : List ℕ) × AreTwins (S.heap store.now) (S.mem_id mem) twin placed × In (S.mem_id at.mem) (S.mem_id mem ∷ placed) × (twin (S.mem_id at.mem) ≡ S.mem_id at.copy) }
+    requires there { IsMem (S.heap store.now) (S.mem_id at.copy) }
+    ensures list { (atoms membranes : List ℕ) → IsContent (S.heap store.now) (S.mem_id mem) atoms membranes →
+        from (option_map (λ t. S.mem_id t.mem) result) (S.mem_id mem ∷ membranes) ≡ after (S.mem_id at.mem) (S.mem_id mem ∷ membranes) }
+    ensures round { (twin : ℕ → ℕ) (placed : List ℕ) → AreTwins (S.heap store.now) (S.mem_id mem) twin placed → In (S.mem_id at.mem) (S.mem_id mem ∷ placed) → twin (S.mem_id at.mem) ≡ S.mem_id at.copy →
+        IfSome result (λ t. (p : ℕ) × (parent_of (S.heap store.now) (S.mem_id t.mem) ≡ Some p) × In p (S.mem_id mem ∷ placed) × (twin p ≡ S.mem_id t.copy)) }
+{
+    let _root = store.root();
+    match store.first_mem(at.mem) {
+        Some(inner) => Some(Twin {
+            mem: inner,
+            copy: at.copy,
+        }),
+        None => twin_behind(store, mem, at),
     }
 }
 
@@ -232,27 +286,26 @@ pub fn place_cells<S: LinkStore>(store: &mut S, from: S::Mem, to: S::Mem)
     ensures { (atoms membranes copies new_membranes : List ℕ) → CopyWaits (S.heap store.old) (S.mem_id from) (S.mem_id to) atoms membranes copies new_membranes →
         S.heap store.new ≡ rest_placed (S.heap store.old) (S.mem_id from) (S.mem_id to) atoms membranes copies new_membranes }
 {
+    let _root = store.root();
     place_atoms(store, from, to);
     let mut at = Twin {
         mem: from,
         copy: to,
     };
-    loop {
-        match store.first_mem(at.mem) {
-            Some(inner) => {
-                let copy = place_copy(store, inner, at.copy);
-                at = Twin { mem: inner, copy };
-            }
-            None => match place_behind(store, from, at) {
-                Some(next) => at = next,
-                None => return,
-            },
-        }
+    while let Some(next) = next_twin(store, from, at) {
+        at = Twin {
+            mem: next.mem,
+            copy: place_copy(store, next.mem, next.copy),
+        };
     }
 }
 
 /// Takes the atoms in a membrane.
-fn take_atoms<S: LinkStore>(store: &mut S, m: S::Mem) {
+fn take_atoms<S: LinkStore>(store: &mut S, m: S::Mem)
+    requires { IsMem (S.heap store.old) (S.mem_id m) }
+    ensures { S.heap store.new ≡ taken_all (S.heap store.old) (atoms_in (S.heap store.old) (S.mem_id m)) }
+{
+    let _root = store.root();
     let mut next = store.first_atom(m);
     while let Some(a) = next {
         next = store.next_atom(a);
@@ -266,6 +319,7 @@ pub fn drop_cells<S: LinkStore>(store: &mut S, mem: S::Mem)
     requires content { (atoms membranes : List ℕ) × IsContent (S.heap store.old) (S.mem_id mem) atoms membranes }
     ensures { (atoms membranes : List ℕ) → IsContent (S.heap store.old) (S.mem_id mem) atoms membranes → S.heap store.new ≡ rest_taken (S.heap store.old) atoms membranes }
 {
+    let _root = store.root();
     let mut at = mem;
     loop {
         take_atoms(store, at);

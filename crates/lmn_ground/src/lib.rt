@@ -24,5 +24,3 @@ pub use examples::rests_stand;
 pub use painting::paint;
 pub use parts::{is_ground, size_of, take_part};
 
-#[cfg(test)]
-mod rest_tests;

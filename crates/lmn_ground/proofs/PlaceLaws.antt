@@ -1,0 +1,123 @@
+-- Copies that wait are placed.
+use Rattle.std.proofs.Common.{◌≡◌, ◌≢◌, ◌⊎◌, ℕ, zero, suc, ◌+◌, ◌<◌, ◌≤◌, ◌-◌, ◌^◌, ◌==◌, List, [], ◌∷◌, ◌++◌, length, map, drop, true, false, Bool, Option, Some, None, IsSome, refl, sym, ap, subst, ◌∙◌, inl, inr, arith, if◌then◌else◌, slice_get}
+use Rattle.std.proofs.lemmas.Bool.{cases_eq, eq-eqb}
+use Rattle.std.proofs.lemmas.List.{append_assoc, length-append}
+use Rattle.std.specs.Option.{option_map, option_and_then}
+use Rattle.std.specs.Prelude.{IfSome}
+use Rattle.lmn_heap.specs.Heap.{Heap, HeapMem, Place, waiting, within, alter, after, from, home_by, Distinct, IsMem, IsMemInPlace, IsTopOrWithin, mem_place_of, parent_of, atoms_by, atoms_in, mems_in, rules_by, rules_in, spare_by, spare_of, mem_with_place, mem_with_atoms, mem_with_mems, mem_with_rules, placed, placed_mem, rules_copied}
+use Rattle.lmn_heap.specs.Sound.{Listed, Sound}
+use Rattle.lmn_heap.proofs.Heights.{mem_of_place}
+use Rattle.lmn_heap.proofs.Listing.{alter_at, alter_away, alter_keeps}
+use Rattle.lmn_base.specs.Lists.{In}
+use Rattle.lmn_base.proofs.Lists.{drop_get, get_there, head_is}
+use Rattle.lmn_parts.specs.Rests.{atoms_placed}
+
+-- What placing atoms leaves as it is.
+module _ {X : Type 0} (view : Option HeapMem → X) (same : (f : List ℕ → List ℕ) (o : Option HeapMem) → view (option_map (mem_with_atoms f) o) ≡ view o) where
+  pub atoms_keep : (f : ℕ → ℕ) (s : Heap) (n : ℕ) (xs : List ℕ) (z : ℕ) → view ((atoms_placed f s n xs).mems z) ≡ view (s.mems z)
+  atoms_keep f s n [] z = refl
+  atoms_keep f s n (x ∷ xs) z = atoms_keep f (placed s n (f x)) n xs z ∙ alter_keeps s.mems n (option_map (mem_with_atoms (λ ys. ys ++ f x ∷ []))) view (same (λ ys. ys ++ f x ∷ [])) z
+
+-- other membranes stay as they are
+pub atoms_away : (f : ℕ → ℕ) (s : Heap) (n : ℕ) (xs : List ℕ) (z : ℕ) → z ≢ n → (atoms_placed f s n xs).mems z ≡ s.mems z
+atoms_away f s n [] z d = refl
+atoms_away f s n (x ∷ xs) z d = atoms_away f (placed s n (f x)) n xs z d ∙ alter_away s.mems n (option_map (mem_with_atoms (λ ys. ys ++ f x ∷ []))) z d
+
+-- the membranes that wait stay
+pub atoms_line : (f : ℕ → ℕ) (s : Heap) (n : ℕ) (xs : List ℕ) → (atoms_placed f s n xs).new_mems ≡ s.new_mems
+atoms_line f s n [] = refl
+atoms_line f s n (x ∷ xs) = atoms_line f (placed s n (f x)) n xs
+
+-- the atoms that are placed leave the line
+pub atoms_behind : (f : ℕ → ℕ) (s : Heap) (n : ℕ) (xs rest : List ℕ) → s.new_atoms ≡ map f xs ++ rest → (atoms_placed f s n xs).new_atoms ≡ rest
+atoms_behind f s n [] rest e = e
+atoms_behind f s n (x ∷ xs) rest e = atoms_behind f (placed s n (f x)) n xs rest (ap (after (f x)) e ∙ here (f x) (map f xs ++ rest))
+  where
+    here : (y : ℕ) (ys : List ℕ) → after y (y ∷ ys) ≡ ys
+    here y ys = rw (eq-eqb y y refl) refl
+
+-- copies of atoms are placed in the order of these
+pub atoms_mapped : (f : ℕ → ℕ) (s : Heap) (n : ℕ) (xs : List ℕ) → atoms_placed (λ a. a) s n (map f xs) ≡ atoms_placed f s n xs
+atoms_mapped f s n [] = refl
+atoms_mapped f s n (x ∷ xs) = atoms_mapped f (placed s n (f x)) n xs
+
+-- The loop that places atoms.
+abbrev pub LeftToPlace : Heap → Heap → ℕ → ℕ → List ℕ → List ℕ → Type 0
+LeftToPlace s t n i ys behind = (t.new_atoms ≡ drop i ys ++ behind) × (atoms_placed (λ a. a) t n (drop i ys) ≡ atoms_placed (λ a. a) s n ys)
+
+pub place_first : (t : Heap) (n i : ℕ) (ys behind : List ℕ) (s : Heap) → i < length ys → LeftToPlace s t n i ys behind → t.new_atoms ≡ [] → ⊥
+place_first t n i ys behind s l h e =
+    let w = get_there ys i l in
+    let f : [] ≡ w.0 ∷ (drop (i + 1) ys ++ behind) = sym e ∙ h.0 ∙ ap (λ zs. zs ++ behind) (drop_get i ys w.0 w.1) in
+    cc
+
+pub place_next : (s t u : Heap) (n i a : ℕ) (ys behind : List ℕ) → i < length ys → LeftToPlace s t n i ys behind → from (Some a) t.new_atoms ≡ t.new_atoms → u ≡ placed t n a → LeftToPlace s u n (i + 1) ys behind
+place_next s t u n i a ys behind l h e p =
+    let w = get_there ys i l in
+    let y = w.0 in
+    let d = drop_get i ys y w.1 in
+    let line : t.new_atoms ≡ y ∷ (drop (i + 1) ys ++ behind) = h.0 ∙ ap (λ zs. zs ++ behind) d in
+    let same : a ≡ y = head_is (e ∙ line) in
+    let is : u ≡ placed t n y = p ∙ ap (placed t n) same in
+    (
+      ap (λ z. z.new_atoms) is ∙ ap (after y) line ∙ here y (drop (i + 1) ys ++ behind),
+      ap (λ z. atoms_placed (λ a. a) z n (drop (i + 1) ys)) is ∙ ap (atoms_placed (λ a. a) t n) (sym d) ∙ h.1,
+    )
+  where
+    here : (y : ℕ) (ys : List ℕ) → after y (y ∷ ys) ≡ ys
+    here y ys = rw (eq-eqb y y refl) refl
+
+pub place_last : (s t : Heap) (n i : ℕ) (ys behind : List ℕ) → length ys ≤ i → LeftToPlace s t n i ys behind → t ≡ atoms_placed (λ a. a) s n ys
+place_last s t n i ys behind l h = ap (atoms_placed (λ a. a) t n) (sym (none i ys l)) ∙ h.1
+  where
+    none : (i : ℕ) (ys : List ℕ) → length ys ≤ i → drop i ys ≡ []
+    none zero [] l = refl
+    none (suc i) [] l = refl
+    none zero (y ∷ ys) l = absurd (omega (arith, l))
+    none (suc i) (y ∷ ys) l = none i ys (omega (arith, l))
+
+-- Places of membranes stay when an atom is placed.
+pub place_stays : (f : List ℕ → List ℕ) (o : Option HeapMem) → option_map (λ x. x.place) (option_map (mem_with_atoms f) o) ≡ option_map (λ x. x.place) o
+place_stays f None = refl
+place_stays f (Some x) = refl
+
+pub parent_stays : (f : List ℕ → List ℕ) (o : Option HeapMem) → option_and_then (λ (x : HeapMem). home_by x.place) (option_map (mem_with_atoms f) o) ≡ option_and_then (λ (x : HeapMem). home_by x.place) o
+parent_stays f None = refl
+parent_stays f (Some x) = refl
+
+pub still_in_place : (t u : Heap) (n a m : ℕ) → u ≡ placed t n a → IsMemInPlace t m → IsMemInPlace u m
+still_in_place t u n a m e h =
+    subst (λ z. IsMemInPlace z m) (sym e)
+    (subst IsTopOrWithin (sym (alter_keeps t.mems n (option_map (mem_with_atoms (λ ys. ys ++ a ∷ []))) (option_map (λ x. x.place)) (place_stays (λ ys. ys ++ a ∷ [])) m)) h)
+
+-- A membrane is placed with rules.
+module _ (h : Heap) (p k : ℕ) where
+  module _ {X : Type 0} (view : Option HeapMem → X) (here : (q : Place) (o : Option HeapMem) → view (option_map (mem_with_place q) o) ≡ view o) (list : (f : List ℕ → List ℕ) (o : Option HeapMem) → view (option_map (mem_with_mems f) o) ≡ view o) where
+    -- what placing the membrane leaves as it is
+    pub mem_keeps : (z : ℕ) → view ((placed_mem h p k).mems z) ≡ view (h.mems z)
+    mem_keeps z =
+        alter_keeps (alter h.mems k (option_map (mem_with_place (within p)))) p (option_map (mem_with_mems (λ xs. xs ++ k ∷ []))) view (list (λ xs. xs ++ k ∷ [])) z
+        ∙ alter_keeps h.mems k (option_map (mem_with_place (within p))) view (here (within p)) z
+
+  pub kept_there : (z : ℕ) → IsMem h z → IsMem (placed_mem h p k) z
+  kept_there z i = back ((placed_mem h p k).mems z) (mem_keeps is_some a b z ∙ yes (h.mems z) i)
+    where
+      is_some : Option HeapMem → Bool
+      is_some None = false
+      is_some (Some x) = true
+
+      back : (o : Option HeapMem) → is_some o ≡ true → IsSome o
+      back None e = absurd (cc)
+      back (Some x) e = refl
+
+      a : (q : Place) (o : Option HeapMem) → is_some (option_map (mem_with_place q) o) ≡ is_some o
+      a q None = refl
+      a q (Some x) = refl
+
+      b : (f : List ℕ → List ℕ) (o : Option HeapMem) → is_some (option_map (mem_with_mems f) o) ≡ is_some o
+      b f None = refl
+      b f (Some x) = refl
+
+      yes : (o : Option HeapMem) → IsSome o → is_some o ≡ true
+      yes None i = absurd (cc)
+      yes (Some x) i = refl
