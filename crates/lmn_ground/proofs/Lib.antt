@@ -25,3 +25,5 @@ pub mod RestExampleProofs
 pub mod DropLaws
 pub mod DroppingLaws
 pub mod PlaceLaws
+pub mod TwinLaws
+pub mod PlacingLaws

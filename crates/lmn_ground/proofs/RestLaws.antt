@@ -181,7 +181,7 @@ pub none_behind : (s : Heap) (o : Option ℕ) (ms all : List ℕ) → o ≡ None
 none_behind s o ms all e f = ap (λ z. atoms_of_all s (from z ms)) (sym e) ∙ f
 
 -- a forest has something in its list or nothing in it
-bare_of : (s : Heap) (g : Forest) (ls : List ℕ) → Forms s g ls → ls ≡ [] → flat g ≡ []
+pub bare_of : (s : Heap) (g : Forest) (ls : List ℕ) → Forms s g ls → ls ≡ [] → flat g ≡ []
 bare_of s bare ls F e = refl
 bare_of s (mem k i b) ls F e = absurd (let h : k ∷ F.0 ≡ [] = sym F.1 ∙ e in cc)
 

@@ -220,8 +220,7 @@ fn twin_behind<S: LinkStore>(
     start: Twin<S::Mem>,
 ) -> Option<Twin<S::Mem>>
     requires mem { IsMem (S.heap store.now) (S.mem_id mem) }
-    requires content { (atoms membranes : List ℕ) × IsContent (S.heap store.now) (S.mem_id mem) atoms membranes }
-    requires at { (atoms membranes : List ℕ) → IsContent (S.heap store.now) (S.mem_id mem) atoms membranes → In (S.mem_id start.mem) (S.mem_id mem ∷ membranes) }
+    requires at { (atoms membranes : List ℕ) × IsContent (S.heap store.now) (S.mem_id mem) atoms membranes × In (S.mem_id start.mem) (S.mem_id mem ∷ membranes) }
     requires empty { mems_in (S.heap store.now) (S.mem_id start.mem) ≡ [] }
     requires twin { (twin : ℕ → ℕ) × (placed : List ℕ) × AreTwins (S.heap store.now) (S.mem_id mem) twin placed × In (S.mem_id start.mem) (S.mem_id mem ∷ placed) × (twin (S.mem_id start.mem) ≡ S.mem_id start.copy) }
     requires there { IsMem (S.heap store.now) (S.mem_id start.copy) }
@@ -258,8 +257,7 @@ fn next_twin<S: LinkStore>(
     at: Twin<S::Mem>,
 ) -> Option<Twin<S::Mem>>
     requires mem { IsMem (S.heap store.now) (S.mem_id mem) }
-    requires content { (atoms membranes : List ℕ) × IsContent (S.heap store.now) (S.mem_id mem) atoms membranes }
-    requires at { (atoms membranes : List ℕ) → IsContent (S.heap store.now) (S.mem_id mem) atoms membranes → In (S.mem_id at.mem) (S.mem_id mem ∷ membranes) }
+    requires at { (atoms membranes : List ℕ) × IsContent (S.heap store.now) (S.mem_id mem) atoms membranes × In (S.mem_id at.mem) (S.mem_id mem ∷ membranes) }
     requires twin { (twin : ℕ → ℕ) × (placed : List ℕ) × AreTwins (S.heap store.now) (S.mem_id mem) twin placed × In (S.mem_id at.mem) (S.mem_id mem ∷ placed) × (twin (S.mem_id at.mem) ≡ S.mem_id at.copy) }
     requires there { IsMem (S.heap store.now) (S.mem_id at.copy) }
     ensures list { (atoms membranes : List ℕ) → IsContent (S.heap store.now) (S.mem_id mem) atoms membranes →
