@@ -273,7 +273,7 @@ pub onto_either : (xs D : List ℕ) (a : ℕ) → In a (onto xs D) → In a xs �
 onto_either [] D a i = inr i
 onto_either (x ∷ xs) D a i = elim (onto_either xs (x ∷ D) a i) [
   | inl j ↦ inl (inr j)
-  | inr j ↦ (elim j [ | inl e ↦ inl (inl e) | inr k ↦ inr k ])
+  | inr j ↦ (elim j [ inl e ↦ inl (inl e) | inr k ↦ inr k ])
 ]
 
 -- atoms that stand in lists are taken, one after the other

@@ -56,14 +56,17 @@ module _ (s : Heap) (sound : Sound s) (m : ℕ) (atoms ms : List ℕ) (r : IsCon
 
   -- the same, told by the marks that nothing has
   pub as_left : (xs : List ℕ) × IsLeft s m [] xs ms
-  as_left = (keep (λ a. own_mark s a == 0) (atoms_in s m) ++ atoms_of_all s ms, record {
-    forest = r.forest;
-    forms = r.forms;
-    preorder = r.preorder;
-    once = r.once;
-    outside = r.outside;
-    in_order = refl;
-  })
+  as_left = (
+    keep (λ a. own_mark s a == 0) (atoms_in s m) ++ atoms_of_all s ms,
+    record {
+      forest = r.forest;
+      forms = r.forms;
+      preorder = r.preorder;
+      once = r.once;
+      outside = r.outside;
+      in_order = refl;
+    },
+  )
 
   pub found_is : AtMost (2 ^ 48) s → rest_found s m [] ≡ ms
   found_is few = let w = as_left in rest_is s sound few m [] w.0 ms w.1
@@ -215,26 +218,28 @@ module _ (s : Heap) (sound : Sound s) (few : AtMost (2 ^ 48) s) (m : ℕ) (there
   empties h k at d e =
       let D = d.gone_atoms in
       let N = d.gone_mems in
-      let xs = but D (atoms_in s at) in
-      (record {
-        gone_atoms = onto xs D;
-        gone_mems = N;
-        is = e ∙ ap (λ z. taken_all z (atoms_in z at)) d.is ∙ ap (taken_all (dropped s D N)) (atoms_left s sound.listed D N at)
-            ∙ all_dropped s sound.listed D N xs (keep_distinct (λ x. not (is_in D x)) (atoms_in s at) (sound.listed.atoms_once at))
-            (λ a i. (but_out D (atoms_in s at) a i, (at, place_home s a at ((sound.listed.atoms at a).0 (keep_in (λ x. not (is_in D x)) (atoms_in s at) a i)))));
-        of_atoms = λ a i. elim (onto_either xs D a i) [
-          | inl j ↦ atom_in s sound m atoms ms r at a d.here (keep_in (λ x. not (is_in D x)) (atoms_in s at) a j)
-          | inr j ↦ d.of_atoms a j
-        ];
-        of_mems = d.of_mems;
-        no_atoms = λ n a i j. onto_second xs D a (d.no_atoms n a i j);
-        no_mems = d.no_mems;
-        here = d.here;
-        stays = d.stays;
-      }, λ a i. elim (decide_in a D) [
-        | inl j ↦ onto_second xs D a j
-        | inr o ↦ onto_first xs D a (but_in D (atoms_in s at) a i o)
-      ])
+      let xs = but D (atoms_in s at) in (
+        record {
+          gone_atoms = onto xs D;
+          gone_mems = N;
+          is = e ∙ ap (λ z. taken_all z (atoms_in z at)) d.is ∙ ap (taken_all (dropped s D N)) (atoms_left s sound.listed D N at)
+              ∙ all_dropped s sound.listed D N xs (keep_distinct (λ x. not (is_in D x)) (atoms_in s at) (sound.listed.atoms_once at))
+              (λ a i. (but_out D (atoms_in s at) a i, (at, place_home s a at ((sound.listed.atoms at a).0 (keep_in (λ x. not (is_in D x)) (atoms_in s at) a i)))));
+          of_atoms = λ a i. elim (onto_either xs D a i) [
+            | inl j ↦ atom_in s sound m atoms ms r at a d.here (keep_in (λ x. not (is_in D x)) (atoms_in s at) a j)
+            | inr j ↦ d.of_atoms a j
+          ];
+          of_mems = d.of_mems;
+          no_atoms = λ n a i j. onto_second xs D a (d.no_atoms n a i j);
+          no_mems = d.no_mems;
+          here = d.here;
+          stays = d.stays;
+        },
+        λ a i. elim (decide_in a D) [
+          | inl j ↦ onto_second xs D a j
+          | inr o ↦ onto_first xs D a (but_in D (atoms_in s at) a i o)
+        ],
+      )
 
   -- and then the stand is there still
   pub stands_emptied : (h k : Heap) (at : ℕ) → Dropping s h m atoms ms at → k ≡ taken_all h (atoms_in h at) → IsMem k at
@@ -282,9 +287,9 @@ module _ (s : Heap) (sound : Sound s) (few : AtMost (2 ^ 48) s) (m : ℕ) (there
         gone_mems = at ∷ N;
         is = t ∙ ap (λ z. taken_mem z at) d.is ∙ mem_taken_dropped s sound.listed D N at p d.stays up;
         of_atoms = d.of_atoms;
-        of_mems = λ n i. elim i [ | inl q ↦ subst (λ z. In z ms) q inside | inr j ↦ d.of_mems n j ];
-        no_atoms = λ n a i j. elim i [ | inl q ↦ w.1 a (subst (λ z. In a (atoms_in s z)) (sym q) j) | inr o ↦ d.no_atoms n a o j ];
-        no_mems = λ n x i j. inr (elim i [ | inl q ↦ empty_here h at d e x (subst (λ z. In x (mems_in s z)) (sym q) j) | inr o ↦ d.no_mems n x o j ]);
+        of_mems = λ n i. elim i [ inl q ↦ subst (λ z. In z ms) q inside | inr j ↦ d.of_mems n j ];
+        no_atoms = λ n a i j. elim i [ inl q ↦ w.1 a (subst (λ z. In a (atoms_in s z)) (sym q) j) | inr o ↦ d.no_atoms n a o j ];
+        no_mems = λ n x i j. inr (elim i [ inl q ↦ empty_here h at d e x (subst (λ z. In x (mems_in s z)) (sym q) j) | inr o ↦ d.no_mems n x o j ]);
         here = subst (λ z. (z ≡ m) ⊎ In z ms) same round.2;
         stays = λ i. elim i [
           | inl q ↦ no_loop at inside (subst (λ z. In at (mems_in s z)) (sym q) child)
@@ -313,11 +318,11 @@ module _ (s : Heap) (sound : Sound s) (few : AtMost (2 ^ 48) s) (m : ℕ) (there
         | inr j ↦ d.no_atoms v.0 a (all v.0 j) v.2
       ]) in
       d.is
-      ∙ same_dropped s d.gone_atoms (onto atoms []) d.gone_mems (onto ms []) (λ a i. onto_first atoms [] a (d.of_atoms a i)) (λ a i. elim (onto_either atoms [] a i) [ | inl j ↦ atom a j | inr j ↦ absurd j ])
-          (λ n i. onto_first ms [] n (d.of_mems n i)) (λ n i. elim (onto_either ms [] n i) [ | inl j ↦ all n j | inr j ↦ absurd j ])
+      ∙ same_dropped s d.gone_atoms (onto atoms []) d.gone_mems (onto ms []) (λ a i. onto_first atoms [] a (d.of_atoms a i)) (λ a i. elim (onto_either atoms [] a i) [ inl j ↦ atom a j | inr j ↦ absurd j ])
+      (λ n i. onto_first ms [] n (d.of_mems n i)) (λ n i. elim (onto_either ms [] n i) [ inl j ↦ all n j | inr j ↦ absurd j ])
       ∙ sym (rest_dropped s sound.listed atoms ms (atoms_once s sound m (λ _. true) (λ _. true) atoms ms r)
-          (λ a i. let v = home_in s sound m atoms ms r a i in (v.0, place_home s a v.0 ((sound.listed.atoms v.0 a).0 v.2)))
-          r.once (λ n i. let v = round_of s sound m atoms ms r n i in (v.0, v.1)))
+      (λ a i. let v = home_in s sound m atoms ms r a i in (v.0, place_home s a v.0 ((sound.listed.atoms v.0 a).0 v.2)))
+      r.once (λ n i. let v = round_of s sound m atoms ms r n i in (v.0, v.1)))
 
   found : rest_found s m [] ≡ ms
   found = found_is s sound m atoms ms r few
@@ -334,7 +339,7 @@ module _ (s : Heap) (sound : Sound s) (few : AtMost (2 ^ 48) s) (m : ℕ) (there
     where
       by : (In x N) ⊎ (In x N → ⊥) → parent_of (dropped s D N) x ≡ parent_of (dropped s D (n ∷ N)) x
       by (inl i) = parent_gone s sound.listed D N x i ∙ sym (parent_gone s sound.listed D (n ∷ N) x (inr i))
-      by (inr o) = parent_left s sound.listed D N x o ∙ sym (parent_left s sound.listed D (n ∷ N) x (λ i. elim i [ | inl q ↦ d (sym q) | inr j ↦ o j ]))
+      by (inr o) = parent_left s sound.listed D N x o ∙ sym (parent_left s sound.listed D (n ∷ N) x (λ i. elim i [ inl q ↦ d (sym q) | inr j ↦ o j ]))
 
   -- less is left behind a step in
   pub less_in : (h k : Heap) (at n : ℕ) → Dropping s h m atoms ms at → k ≡ taken_all h (atoms_in h at) → from (Some n) (mems_in k at) ≡ mems_in k at → way_left s k m n < way_left s h m at

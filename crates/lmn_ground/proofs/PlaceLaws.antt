@@ -58,8 +58,7 @@ place_next s t u n i a ys behind l h e p =
     let d = drop_get i ys y w.1 in
     let line : t.new_atoms ≡ y ∷ (drop (i + 1) ys ++ behind) = h.0 ∙ ap (λ zs. zs ++ behind) d in
     let same : a ≡ y = head_is (e ∙ line) in
-    let is : u ≡ placed t n y = p ∙ ap (placed t n) same in
-    (
+    let is : u ≡ placed t n y = p ∙ ap (placed t n) same in (
       ap (λ z. z.new_atoms) is ∙ ap (after y) line ∙ here y (drop (i + 1) ys ++ behind),
       ap (λ z. atoms_placed (λ a. a) z n (drop (i + 1) ys)) is ∙ ap (atoms_placed (λ a. a) t n) (sym d) ∙ h.1,
     )
@@ -121,3 +120,21 @@ module _ (h : Heap) (p k : ℕ) where
       yes : (o : Option HeapMem) → IsSome o → is_some o ≡ true
       yes None i = absurd (cc)
       yes (Some x) i = refl
+
+-- the atoms of a membrane stay when a copy is placed with its rules
+pub atoms_same : (h : Heap) (c y k z : ℕ) → atoms_in (rules_copied (placed_mem h c k) y k) z ≡ atoms_in h z
+atoms_same h c y k z =
+    alter_keeps (placed_mem h c k).mems k (option_map (mem_with_rules (rules_in (placed_mem h c k) y))) atoms_by (rules (rules_in (placed_mem h c k) y)) z
+    ∙ mem_keeps h c k atoms_by here list z
+  where
+    rules : (ks : List ℕ) (o : Option HeapMem) → atoms_by (option_map (mem_with_rules ks) o) ≡ atoms_by o
+    rules ks None = refl
+    rules ks (Some x) = refl
+
+    here : (q : Place) (o : Option HeapMem) → atoms_by (option_map (mem_with_place q) o) ≡ atoms_by o
+    here q None = refl
+    here q (Some x) = refl
+
+    list : (f : List ℕ → List ℕ) (o : Option HeapMem) → atoms_by (option_map (mem_with_mems f) o) ≡ atoms_by o
+    list f None = refl
+    list f (Some x) = refl

@@ -169,6 +169,9 @@ module _ (s : Heap) (sound : Sound s) (m n : ℕ) (there : IsMem s m) (outer : I
       w.line.1 ∙ ap (λ zs. zs ++ w.line.0) (sym copies_are ∙ ap (map atom_copy) split_atoms ∙ map_append atom_copy (atoms_in s m) (atoms_of_all s ms))
       ∙ append_assoc (map atom_copy (atoms_in s m)) (map atom_copy (atoms_of_all s ms)) w.line.0
 
+  pub first_line : (ys behind : List ℕ) × (length ys ≡ length (atoms_in s m)) × (s.new_atoms ≡ ys ++ behind)
+  first_line = (map atom_copy (atoms_in s m), map atom_copy (atoms_of_all s ms) ++ w.line.0, length_mapped atom_copy (atoms_in s m), atoms_wait)
+
   -- The atoms of the membrane itself are placed.
   pub starts_placing : (h : Heap) → h ≡ atoms_placed (λ a. a) s n (map atom_copy (atoms_in s m)) → Placing s h m n atoms ms copies news m n
   starts_placing h e =
@@ -185,11 +188,20 @@ module _ (s : Heap) (sound : Sound s) (m n : ℕ) (there : IsMem s m) (outer : I
         stand = inl refl;
         done = λ x i. absurd i;
         outer = subst (λ z. IsMemInPlace z n) (sym is) (subst IsTopOrWithin (sym (atoms_keep (option_map (λ x. x.place)) place_stays atom_copy s n (atoms_in s m) n)) outer);
-        line_mems = (w.line_of_membranes.0, ap (λ z. z.new_mems) is ∙ atoms_line atom_copy s n (atoms_in s m) ∙ w.line_of_membranes.1
-            ∙ ap (λ zs. zs ++ w.line_of_membranes.0) (sym news_are ∙ ap (map mem_copy) (sym top)));
-        line_atoms = (w.line.0, ap (λ z. z.new_atoms) is ∙ atoms_behind atom_copy s n (atoms_in s m) (map atom_copy (atoms_of_all s ms) ++ w.line.0) atoms_wait
-            ∙ ap (λ zs. map atom_copy (atoms_of_all s zs) ++ w.line.0) (sym top));
+        line_mems = (
+          w.line_of_membranes.0,
+          ap (λ z. z.new_mems) is ∙ atoms_line atom_copy s n (atoms_in s m) ∙ w.line_of_membranes.1
+              ∙ ap (λ zs. zs ++ w.line_of_membranes.0) (sym news_are ∙ ap (map mem_copy) (sym top)),
+        );
+        line_atoms = (
+          w.line.0,
+          ap (λ z. z.new_atoms) is ∙ atoms_behind atom_copy s n (atoms_in s m) (map atom_copy (atoms_of_all s ms) ++ w.line.0) atoms_wait
+              ∙ ap (λ zs. map atom_copy (atoms_of_all s zs) ++ w.line.0) (sym top),
+        );
       }
+
+  pub starts_from : (h : Heap) → ((ys behind : List ℕ) → length ys ≡ length (atoms_in s m) → s.new_atoms ≡ ys ++ behind → h ≡ atoms_placed (λ a. a) s n ys) → Placing s h m n atoms ms copies news m n
+  starts_from h e = starts_placing h (e (map atom_copy (atoms_in s m)) (map atom_copy (atoms_of_all s ms) ++ w.line.0) (length_mapped atom_copy (atoms_in s m)) atoms_wait)
 
   -- On the way.
   module _ (h : Heap) (at copy : ℕ) (d : Placing s h m n atoms ms copies news at copy) where
@@ -302,19 +314,26 @@ module _ (s : Heap) (sound : Sound s) (m n : ℕ) (there : IsMem s m) (outer : I
                 ∙ d.untouched x (later x i);
             left =
                 ap (λ z. membranes_placed mem_copy atom_copy z (after y (m ∷ ms)))
-                    (is ∙ ap (λ z. copy_placed h c y z ys) one ∙ ap (λ z. copy_placed h z y (mem_copy y) ys) (sym twin)
-                    ∙ atoms_mapped atom_copy (rules_copied (placed_mem h (mem_copy p) (mem_copy y)) y (mem_copy y)) (mem_copy y) (atoms_in h y)
-                    ∙ ap (λ z. atoms_placed atom_copy (rules_copied (placed_mem h (copy_round mem_copy z) (mem_copy y)) y (mem_copy y)) (mem_copy y) (atoms_in h y)) (sym up))
+                (is ∙ ap (λ z. copy_placed h c y z ys) one ∙ ap (λ z. copy_placed h z y (mem_copy y) ys) (sym twin)
+                ∙ atoms_mapped atom_copy (rules_copied (placed_mem h (mem_copy p) (mem_copy y)) y (mem_copy y)) (mem_copy y) (atoms_in h y)
+                ∙ ap (λ z. atoms_placed atom_copy (rules_copied (placed_mem h (copy_round mem_copy z) (mem_copy y)) y (mem_copy y)) (mem_copy y) (atoms_in h y)) (sym up))
                 ∙ ap (membranes_placed mem_copy atom_copy h) (sym ahead)
                 ∙ d.left;
             twin = sym one;
             twins = λ x i. elim i [
-              | inl e ↦ subst (λ z. (q : ℕ) × (parent_of u z ≡ Some q) × In q (m ∷ (y ∷ d.placed)) × (parent_of u (mem_copy z) ≡ Some (mem_copy q))) e
-                  (p, ap (option_and_then (λ (z : HeapMem). home_by z.place)) (stays y (inr y_in)) ∙ up, wider p round,
-                  ap (λ z. parent_of z (mem_copy y)) is ∙ subst (λ z. parent_of (copy_placed h c y k ys) z ≡ Some c) one (parent_there h c y k ys in_line) ∙ ap Some (sym twin))
-              | inr j ↦ (let v = d.twins x j in let q = d.done x j in (v.0, ap (option_and_then (λ (z : HeapMem). home_by z.place)) (stays x (inr q.0)) ∙ v.1, wider v.0 v.2,
-                  ap (λ z. parent_of z (mem_copy x)) is
-                  ∙ parent_away h c y k ys (mem_copy x) (λ e. q.1 (subst (λ z. In z (after at (m ∷ ms))) (sym (one_copy x y (inr q.0) (inr y_in) (e ∙ one))) is_ahead)) ∙ v.3))
+              | inl e ↦ subst (λ z. (q : ℕ) × (parent_of u z ≡ Some q) × In q (m ∷ (y ∷ d.placed)) × (parent_of u (mem_copy z) ≡ Some (mem_copy q))) e (
+                p,
+                ap (option_and_then (λ (z : HeapMem). home_by z.place)) (stays y (inr y_in)) ∙ up,
+                wider p round,
+                ap (λ z. parent_of z (mem_copy y)) is ∙ subst (λ z. parent_of (copy_placed h c y k ys) z ≡ Some c) one (parent_there h c y k ys in_line) ∙ ap Some (sym twin),
+              )
+              | inr j ↦ (let v = d.twins x j in let q = d.done x j in (
+                v.0,
+                ap (option_and_then (λ (z : HeapMem). home_by z.place)) (stays x (inr q.0)) ∙ v.1,
+                wider v.0 v.2,
+                ap (λ z. parent_of z (mem_copy x)) is
+                    ∙ parent_away h c y k ys (mem_copy x) (λ e. q.1 (subst (λ z. In z (after at (m ∷ ms))) (sym (one_copy x y (inr q.0) (inr y_in) (e ∙ one))) is_ahead)) ∙ v.3,
+              ))
             ];
             stand = inr (inl refl);
             done = λ x i. elim i [
@@ -322,10 +341,16 @@ module _ (s : Heap) (sound : Sound s) (m n : ℕ) (there : IsMem s m) (outer : I
               | inr j ↦ ((d.done x j).0, λ q. (d.done x j).1 (later x q))
             ];
             outer = subst (λ z. IsMemInPlace z n) (sym is) (subst IsTopOrWithin (sym (place_of_away h c y k ys n (λ e. n_apart (mem_copy y) (copy_of y y_in) (e ∙ one)))) d.outer);
-            line_mems = (d.line_mems.0, ap (λ z. z.new_mems) is ∙ atoms_line (λ a. a) (rules_copied (placed_mem h c k) y k) k ys
-                ∙ ap (λ z. after z h.new_mems) one ∙ ap (after (mem_copy y)) line ∙ behind_here (mem_copy y) (map mem_copy (after y (m ∷ ms)) ++ d.line_mems.0));
-            line_atoms = (d.line_atoms.0, ap (λ z. z.new_atoms) is
-                ∙ atoms_behind (λ a. a) (rules_copied (placed_mem h c k) y k) k ys more (atoms_line_here ∙ ap (λ zs. zs ++ more) (sym (map_itself ys))));
+            line_mems = (
+              d.line_mems.0,
+              ap (λ z. z.new_mems) is ∙ atoms_line (λ a. a) (rules_copied (placed_mem h c k) y k) k ys
+                  ∙ ap (λ z. after z h.new_mems) one ∙ ap (after (mem_copy y)) line ∙ behind_here (mem_copy y) (map mem_copy (after y (m ∷ ms)) ++ d.line_mems.0),
+            );
+            line_atoms = (
+              d.line_atoms.0,
+              ap (λ z. z.new_atoms) is
+                  ∙ atoms_behind (λ a. a) (rules_copied (placed_mem h c k) y k) k ys more (atoms_line_here ∙ ap (λ zs. zs ++ more) (sym (map_itself ys))),
+            );
           }
         where
           wider : (q : ℕ) → In q (m ∷ d.placed) → In q (m ∷ (y ∷ d.placed))

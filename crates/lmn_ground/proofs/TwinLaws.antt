@@ -54,8 +54,11 @@ module _ (s : Heap) (sound : Sound s) (m : ℕ) (atoms ms : List ℕ) (r : IsCon
     where
       by : (at ≡ m) ⊎ In at ms → Ahead at at
       by (inl q) =
-          inl (q, ap (λ z. after z (m ∷ ms)) q ∙ after_top s sound m atoms ms r ∙ r.preorder
-              ∙ bare_of s r.forest (keep (λ _. true) (mems_in s m)) r.forms (keep_all (mems_in s m) ∙ subst (λ z. mems_in s z ≡ []) q e))
+          inl (
+            q,
+            ap (λ z. after z (m ∷ ms)) q ∙ after_top s sound m atoms ms r ∙ r.preorder
+                ∙ bare_of s r.forest (keep (λ _. true) (mems_in s m)) r.forms (keep_all (mems_in s m) ∙ subst (λ z. mems_in s z ≡ []) q e),
+          )
       by (inr j) = inr (j, j, begins s sound m (λ _. true) (λ _. true) atoms ms r at j e)
 
   pub ahead_in : (start at : ℕ) → Ahead start at → In at (m ∷ ms)
@@ -99,8 +102,11 @@ module _ (s : Heap) (sound : Sound s) (m : ℕ) (atoms ms : List ℕ) (r : IsCon
 
       by : (p ≡ m) ⊎ (p ≢ m) → Ahead start p
       by (inl g) =
-          inl (g, after_inner s sound m atoms ms r start q.0
-              ∙ sym (found_top s sound m (λ _. true) (λ _. true) atoms ms r start at q.2 None (e ∙ ap Some g) (all_kept None (after at (mems_in s m)) (subst (λ z. from None (mems_in s z) ≡ after at (mems_in s z)) g f))))
+          inl (
+            g,
+            after_inner s sound m atoms ms r start q.0
+                ∙ sym (found_top s sound m (λ _. true) (λ _. true) atoms ms r start at q.2 None (e ∙ ap Some g) (all_kept None (after at (mems_in s m)) (subst (λ z. from None (mems_in s z) ≡ after at (mems_in s z)) g f))),
+          )
       by (inr g) = inr (q.0, inner_of here g, climbs s sound m (λ _. true) (λ _. true) atoms ms r start at q.2 p g e f)
 
   -- each but the membrane itself has one round it

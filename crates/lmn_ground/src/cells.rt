@@ -214,11 +214,7 @@ struct Twin<M> {
 }
 
 /// The membrane behind an empty one in preorder, with the copy of the membrane round it.
-fn twin_behind<S: LinkStore>(
-    store: &S,
-    mem: S::Mem,
-    start: Twin<S::Mem>,
-) -> Option<Twin<S::Mem>>
+fn twin_behind<S: LinkStore>(store: &S, mem: S::Mem, start: Twin<S::Mem>) -> Option<Twin<S::Mem>>
     requires mem { IsMem (S.heap store.now) (S.mem_id mem) }
     requires at { (atoms membranes : List ℕ) × IsContent (S.heap store.now) (S.mem_id mem) atoms membranes × In (S.mem_id start.mem) (S.mem_id mem ∷ membranes) }
     requires empty { mems_in (S.heap store.now) (S.mem_id start.mem) ≡ [] }
@@ -237,12 +233,10 @@ fn twin_behind<S: LinkStore>(
         }
         match store.parent(at.mem) {
             Some(round) => match store.parent(at.copy) {
-                Some(copy) => {
-                    if let Some(next) = store.next_mem(at.mem) {
-                        return Some(Twin { mem: next, copy });
-                    }
-                    at = Twin { mem: round, copy };
-                }
+                Some(copy) => match store.next_mem(at.mem) {
+                    Some(next) => return Some(Twin { mem: next, copy }),
+                    None => at = Twin { mem: round, copy },
+                },
                 None => return None,
             },
             None => return None,
@@ -251,11 +245,7 @@ fn twin_behind<S: LinkStore>(
 }
 
 /// The membrane behind one in preorder, with the copy of the membrane round it.
-fn next_twin<S: LinkStore>(
-    store: &S,
-    mem: S::Mem,
-    at: Twin<S::Mem>,
-) -> Option<Twin<S::Mem>>
+fn next_twin<S: LinkStore>(store: &S, mem: S::Mem, at: Twin<S::Mem>) -> Option<Twin<S::Mem>>
     requires mem { IsMem (S.heap store.now) (S.mem_id mem) }
     requires at { (atoms membranes : List ℕ) × IsContent (S.heap store.now) (S.mem_id mem) atoms membranes × In (S.mem_id at.mem) (S.mem_id mem ∷ membranes) }
     requires twin { (twin : ℕ → ℕ) × (placed : List ℕ) × AreTwins (S.heap store.now) (S.mem_id mem) twin placed × In (S.mem_id at.mem) (S.mem_id mem ∷ placed) × (twin (S.mem_id at.mem) ≡ S.mem_id at.copy) }

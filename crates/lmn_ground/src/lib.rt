@@ -23,4 +23,3 @@ pub use equality::{equal, is_same_port};
 pub use examples::rests_stand;
 pub use painting::paint;
 pub use parts::{is_ground, size_of, take_part};
-
