@@ -115,8 +115,8 @@ items_code items n i [] = []
 items_code items n i (Atom functor links inside ∷ xs) =
     atom_code items n (record { functor = functor; links = links; inside = inside }) ++ items_code items (n + 1) i xs
 items_code items n i (Typed name kind link inside ∷ xs) = items_code items n i xs
-items_code items n i (Membrane inside has_context has_rule_context ∷ xs) =
-    membrane_code items i (record { inside = inside; has_context = has_context; has_rule_context = has_rule_context }) ++ items_code items n (i + 1) xs
+items_code items n i (Membrane inside has_context has_closed_context has_rule_context ∷ xs) =
+    membrane_code items i (record { inside = inside; has_context = has_context; has_closed_context = has_closed_context; has_rule_context = has_rule_context }) ++ items_code items n (i + 1) xs
 
 -- the test of a typed context by its kind, the narrowest that the guard asks
 abbrev pub test_of : TypeKind → ℕ → AtomPort → ℕ → Instr

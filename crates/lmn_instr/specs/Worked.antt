@@ -53,7 +53,7 @@ abbrev pub worked_atom : ℕ → List ℕ → ℕ → HeadItem
 worked_atom name links inside = Atom (record { label = Name name; arity = length links }) links inside
 
 abbrev pub use_somewhere : ℕ → CtxUse
-use_somewhere name = record { name = name; pos = somewhere }
+use_somewhere name = record { name = name; closed = false; pos = somewhere }
 
 abbrev pub of : ℕ → Expr
 of name = expr.Ctx (use_somewhere name)
@@ -87,7 +87,7 @@ pub record WorkedListings : Type 0 where
   pub two_atoms : head_lines (worked_atom name_a [] 0 ∷ (worked_atom name_a [] 0 ∷ [])) [] ≡
       codes "  FINDATOM A0 M0 a/0\n  FINDATOM A1 M0 a/0\n  NEQATOM A1 A0\n  COMMIT\n"
   -- `{a(X), b(Y)} :- ..`
-  pub in_membrane : head_lines (Membrane 0 false false ∷ (worked_atom name_a (0 ∷ []) 1 ∷ (worked_atom name_b (1 ∷ []) 1 ∷ []))) [] ≡
+  pub in_membrane : head_lines (Membrane 0 false false false ∷ (worked_atom name_a (0 ∷ []) 1 ∷ (worked_atom name_b (1 ∷ []) 1 ∷ []))) [] ≡
       codes "  ANYMEM M1 M0\n  FINDATOM A0 M1 a/1\n  NOTIN A0.0 M1\n  FINDATOM A1 M1 b/1\n  NOTIN A1.0 M1\n  NATOMS M1 2\n  NMEMS M1 0\n  NORULES M1\n  COMMIT\n"
   -- `p($x), p($y) :- $z = $x + $y | ..`
   pub sum_of_two : (box : Boxed) → head_lines (worked_atom name_p (0 ∷ []) 0 ∷ (Typed typed_x kind.Int 0 0 ∷ (worked_atom name_p (1 ∷ []) 0 ∷ (Typed typed_y kind.Int 1 0 ∷ [])))) (binds typed_z (boxed_operation box arith.Add (of typed_x) (of typed_y)) ∷ []) ≡
@@ -114,34 +114,34 @@ pub record WorkedListings : Type 0 where
   pub other_functors : head_lines (worked_atom name_a [] 0 ∷ (worked_atom name_b [] 0 ∷ (worked_atom name_a (0 ∷ []) 0 ∷ (worked_atom name_a [] 0 ∷ [])))) [] ≡
       codes "  FINDATOM A0 M0 a/0\n  FINDATOM A1 M0 b/0\n  FINDATOM A2 M0 a/1\n  FINDATOM A3 M0 a/0\n  NEQATOM A3 A0\n  COMMIT\n"
   -- `a, {a} :- ..`
-  pub other_level : head_lines (worked_atom name_a [] 0 ∷ (Membrane 0 false false ∷ (worked_atom name_a [] 1 ∷ []))) [] ≡
+  pub other_level : head_lines (worked_atom name_a [] 0 ∷ (Membrane 0 false false false ∷ (worked_atom name_a [] 1 ∷ []))) [] ≡
       codes "  FINDATOM A0 M0 a/0\n  ANYMEM M1 M0\n  FINDATOM A1 M1 a/0\n  NATOMS M1 1\n  NMEMS M1 0\n  NORULES M1\n  COMMIT\n"
   -- `{a, a, $p, @r} :- ..`
-  pub with_contexts : head_lines (Membrane 0 true true ∷ (worked_atom name_a [] 1 ∷ (worked_atom name_a [] 1 ∷ []))) [] ≡
+  pub with_contexts : head_lines (Membrane 0 true false true ∷ (worked_atom name_a [] 1 ∷ (worked_atom name_a [] 1 ∷ []))) [] ≡
       codes "  ANYMEM M1 M0\n  FINDATOM A0 M1 a/0\n  FINDATOM A1 M1 a/0\n  NEQATOM A1 A0\n  COMMIT\n"
   -- `{a, @r} :- ..`
-  pub rules_alone : head_lines (Membrane 0 false true ∷ (worked_atom name_a [] 1 ∷ [])) [] ≡
+  pub rules_alone : head_lines (Membrane 0 false false true ∷ (worked_atom name_a [] 1 ∷ [])) [] ≡
       codes "  ANYMEM M1 M0\n  FINDATOM A0 M1 a/0\n  NATOMS M1 1\n  NMEMS M1 0\n  COMMIT\n"
   -- `{{a(X), $p}, $q} :- ..`
-  pub outermost : head_lines (Membrane 0 true false ∷ (Membrane 1 true false ∷ (worked_atom name_a (0 ∷ []) 2 ∷ []))) [] ≡
+  pub outermost : head_lines (Membrane 0 true false false ∷ (Membrane 1 true false false ∷ (worked_atom name_a (0 ∷ []) 2 ∷ []))) [] ≡
       codes "  ANYMEM M1 M0\n  ANYMEM M2 M1\n  FINDATOM A0 M2 a/1\n  NOTIN A0.0 M1\n  NORULES M1\n  NORULES M2\n  COMMIT\n"
   -- `a(X), {b(X, Y), $p} :- ..`
-  pub into_membrane : head_lines (worked_atom name_a (0 ∷ []) 0 ∷ (Membrane 0 true false ∷ (worked_atom name_b (0 ∷ (1 ∷ [])) 1 ∷ []))) [] ≡
+  pub into_membrane : head_lines (worked_atom name_a (0 ∷ []) 0 ∷ (Membrane 0 true false false ∷ (worked_atom name_b (0 ∷ (1 ∷ [])) 1 ∷ []))) [] ≡
       codes "  FINDATOM A0 M0 a/1\n  ANYMEM M1 M0\n  DEREF A1 A0.0 0\n  FUNC A1 b/2\n  INMEM A1 M1\n  NOTIN A1.1 M1\n  NORULES M1\n  COMMIT\n"
   -- `{a(X), $p}, {b(X), $q} :- ..`
-  pub between_membranes : head_lines (Membrane 0 true false ∷ (worked_atom name_a (0 ∷ []) 1 ∷ (Membrane 0 true false ∷ (worked_atom name_b (0 ∷ []) 2 ∷ [])))) [] ≡
+  pub between_membranes : head_lines (Membrane 0 true false false ∷ (worked_atom name_a (0 ∷ []) 1 ∷ (Membrane 0 true false false ∷ (worked_atom name_b (0 ∷ []) 2 ∷ [])))) [] ≡
       codes "  ANYMEM M1 M0\n  FINDATOM A0 M1 a/1\n  ANYMEM M2 M0\n  NEQMEM M2 M1\n  DEREF A1 A0.0 0\n  FUNC A1 b/1\n  INMEM A1 M2\n  NORULES M1\n  NORULES M2\n  COMMIT\n"
   -- `{$p}, {{$q}, $r}, {$s} :- ..`
-  pub four_membranes : head_lines (Membrane 0 true false ∷ (Membrane 0 true false ∷ (Membrane 2 true false ∷ (Membrane 0 true false ∷ [])))) [] ≡
+  pub four_membranes : head_lines (Membrane 0 true false false ∷ (Membrane 0 true false false ∷ (Membrane 2 true false false ∷ (Membrane 0 true false false ∷ [])))) [] ≡
       codes "  ANYMEM M1 M0\n  ANYMEM M2 M0\n  NEQMEM M2 M1\n  ANYMEM M3 M2\n  ANYMEM M4 M0\n  NEQMEM M4 M1\n  NEQMEM M4 M2\n  NORULES M1\n  NORULES M2\n  NORULES M3\n  NORULES M4\n  COMMIT\n"
   -- `{a, {}} :- ..`
-  pub empty_inside : head_lines (Membrane 0 false false ∷ (worked_atom name_a [] 1 ∷ (Membrane 1 false false ∷ []))) [] ≡
+  pub empty_inside : head_lines (Membrane 0 false false false ∷ (worked_atom name_a [] 1 ∷ (Membrane 1 false false false ∷ []))) [] ≡
       codes "  ANYMEM M1 M0\n  FINDATOM A0 M1 a/0\n  ANYMEM M2 M1\n  NATOMS M1 1\n  NMEMS M1 1\n  NORULES M1\n  NATOMS M2 0\n  NMEMS M2 0\n  NORULES M2\n  COMMIT\n"
   -- `{a($x)} :- int($x) | ..`
-  pub typed_inside : head_lines (Membrane 0 false false ∷ (worked_atom name_a (0 ∷ []) 1 ∷ (Typed typed_x kind.Int 0 1 ∷ []))) (asks_type INT_NAME typed_x ∷ []) ≡
+  pub typed_inside : head_lines (Membrane 0 false false false ∷ (worked_atom name_a (0 ∷ []) 1 ∷ (Typed typed_x kind.Int 0 1 ∷ []))) (asks_type INT_NAME typed_x ∷ []) ≡
       codes "  ANYMEM M1 M0\n  FINDATOM A0 M1 a/1\n  ISINT G0 A0.0 M1\n  NATOMS M1 1 G0\n  NMEMS M1 0\n  NORULES M1\n  COMMIT\n"
   -- `{a($x, $y)}, {b($z)} :- ground($x), unary($y), int($z) | ..`
-  pub typed_in_two : head_lines (Membrane 0 false false ∷ (worked_atom name_a (0 ∷ (1 ∷ [])) 1 ∷ (Typed typed_x kind.Ground 0 1 ∷ (Typed typed_y kind.Unary 1 1 ∷ (Membrane 0 false false ∷ (worked_atom name_b (2 ∷ []) 2 ∷ (Typed typed_z kind.Int 2 2 ∷ []))))))) (asks_type GROUND_NAME typed_x ∷ (asks_type UNARY_NAME typed_y ∷ (asks_type INT_NAME typed_z ∷ []))) ≡
+  pub typed_in_two : head_lines (Membrane 0 false false false ∷ (worked_atom name_a (0 ∷ (1 ∷ [])) 1 ∷ (Typed typed_x kind.Ground 0 1 ∷ (Typed typed_y kind.Unary 1 1 ∷ (Membrane 0 false false false ∷ (worked_atom name_b (2 ∷ []) 2 ∷ (Typed typed_z kind.Int 2 2 ∷ []))))))) (asks_type GROUND_NAME typed_x ∷ (asks_type UNARY_NAME typed_y ∷ (asks_type INT_NAME typed_z ∷ []))) ≡
       codes "  ANYMEM M1 M0\n  FINDATOM A0 M1 a/2\n  ANYMEM M2 M0\n  NEQMEM M2 M1\n  FINDATOM A1 M2 b/1\n  ISGROUND G0 A0.0 M1\n  ISUNARY G1 A0.1 M1\n  ISINT G2 A1.0 M2\n  NATOMS M1 1 G0 G1\n  NMEMS M1 0\n  NORULES M1\n  NATOMS M2 1 G2\n  NMEMS M2 0\n  NORULES M2\n  COMMIT\n"
   -- `p($x) :- $x < 3 | ..`
   pub constant : head_lines (worked_atom name_p (0 ∷ []) 0 ∷ (Typed typed_x kind.Int 0 0 ∷ [])) (compares cmp.Lt (of typed_x) (expr.Int (pos 3)) ∷ []) ≡
