@@ -38,13 +38,13 @@ membranes_append : (as' bs : List HeadItem) → length (membranes_of (as' ++ bs)
 membranes_append [] bs = let e : length (membranes_of bs) ≡ 0 + length (membranes_of bs) = omega arith in e
 membranes_append (Atom f xs m ∷ is) bs = membranes_append is bs
 membranes_append (Typed n k x m ∷ is) bs = membranes_append is bs
-membranes_append (Membrane m c r ∷ is) bs = let e = membranes_append is bs in omega (arith, e)
+membranes_append (Membrane m c cl r ∷ is) bs = let e = membranes_append is bs in omega (arith, e)
 
 inside_append : (i : ℕ) (as' bs : List HeadItem) → EachInside i as' → EachInside (i + length (membranes_of as')) bs → EachInside i (as' ++ bs)
 inside_append i [] bs a b = let e : i + 0 ≡ i = omega arith in subst (λ k. EachInside k bs) e b
 inside_append i (Atom f xs m ∷ is) bs a b = (a.0, inside_append i is bs a.1 b)
 inside_append i (Typed n k x m ∷ is) bs a b = (a.0, inside_append i is bs a.1 b)
-inside_append i (Membrane m c r ∷ is) bs a b =
+inside_append i (Membrane m c cl r ∷ is) bs a b =
     let e : i + suc (length (membranes_of is)) ≡ (i + 1) + length (membranes_of is) = omega arith in
     (a.0, inside_append (i + 1) is bs a.1 (subst (λ k. EachInside k bs) e b))
 
@@ -139,7 +139,7 @@ module _ (kind : ℕ → TypeKind) where
       membranes_few [] = omega arith
       membranes_few (Atom f xs m ∷ is) = let e = membranes_few is in omega (arith, e)
       membranes_few (Typed n k x m ∷ is) = let e = membranes_few is in omega (arith, e)
-      membranes_few (Membrane m c r ∷ is) = let e = membranes_few is in omega (arith, e)
+      membranes_few (Membrane m c cl r ∷ is) = let e = membranes_few is in omega (arith, e)
 
 -- ---- atoms and typed contexts
 
@@ -151,7 +151,7 @@ typed_bare (Typed x k y m ∷ is) zero t e =
     let same : (record { name = x; kind = k; link = y; inside = m }) ≡ t = cc in
     (record { name = x; kind = k; link = y; inside = 0 }, refl, ap (λ (u : HeadTyped). u.name) same, ap (λ (u : HeadTyped). u.kind) same, ap (λ (u : HeadTyped). u.link) same)
 typed_bare (Typed x k y m ∷ is) (suc n) t e = typed_bare is n t e
-typed_bare (Membrane m c r ∷ is) n t e = typed_bare is n t e
+typed_bare (Membrane m c cl r ∷ is) n t e = typed_bare is n t e
 
 bare_atom : (is : List HeadItem) (n : ℕ) (a : HeadAtom) → HasAtom (bare is) n a → (b : HeadAtom) × HasAtom is n b × (b.links ≡ a.links)
 bare_atom [] n a e = absurd (cc)
@@ -160,7 +160,7 @@ bare_atom (Atom f xs m ∷ is) zero a e =
     (record { functor = f; links = xs; inside = m }, refl, ap (λ (b : HeadAtom). b.links) same)
 bare_atom (Atom f xs m ∷ is) (suc n) a e = bare_atom is n a e
 bare_atom (Typed x k y m ∷ is) n a e = bare_atom is n a e
-bare_atom (Membrane m c r ∷ is) n a e = bare_atom is n a e
+bare_atom (Membrane m c cl r ∷ is) n a e = bare_atom is n a e
 
 module _ (kind : ℕ → TypeKind) where
   leaf_typed : (ls : List Leaf) (n : ℕ) (t : HeadTyped) → HasTyped (leaf_items kind 0 ls) n t → (o : Occ) × (p : Pos) × Contains ls (leaf.Typed t.name o p) × (t.link ≡ o.link) × (t.kind ≡ kind t.name)
@@ -216,7 +216,7 @@ number_bare : (is : List HeadItem) (n x : ℕ) → typed_number (typed_contexts_
 number_bare [] n x = refl
 number_bare (Atom f xs m ∷ is) n x = number_bare is n x
 number_bare (Typed y k z m ∷ is) n x = ap (λ r. if y == x then Some n else r) (number_bare is (n + 1) x)
-number_bare (Membrane m c r ∷ is) n x = number_bare is n x
+number_bare (Membrane m c cl r ∷ is) n x = number_bare is n x
 
 -- the typed context with a number that was found by its name
 pub number_at : (ts : List HeadTyped) (n x g : ℕ) → typed_number ts n x ≡ Some g → (t : HeadTyped) × (i : ℕ) × (g ≡ n + i) × (slice_get ts i ≡ Some t) × (t.name ≡ x)
@@ -257,7 +257,7 @@ fits_bare : (n : ℕ) (is : List HeadItem) → HeadFits n (bare is) → HeadFits
 fits_bare n [] h = tt
 fits_bare n (Atom f xs m ∷ is) h = (h.0, h.1, fits_bare n is h.2)
 fits_bare n (Typed x k y m ∷ is) h = (h.0, fits_bare n is h.1)
-fits_bare n (Membrane m c r ∷ is) h = fits_bare n is h
+fits_bare n (Membrane m c cl r ∷ is) h = fits_bare n is h
 
 -- numbers below n in two lists joined are below n in the first
 pub below_front : (n : ℕ) (xs ys : List ℕ) → AllBelow n (xs ++ ys) → AllBelow n xs

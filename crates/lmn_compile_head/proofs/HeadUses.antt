@@ -14,7 +14,7 @@ use Rattle.lmn_base.specs.declared.level.Leaf.TheVariants as leaf
 use Rattle.lmn_base.specs.declared.level.Level.{Level}
 use Rattle.lmn_base.specs.declared.level.Occ.{Occ}
 use Rattle.lmn_base.specs.declared.refusal.Pos.{Pos}
-use Rattle.lmn_base.specs.Items.{used, leaf_item, items_of}
+use Rattle.lmn_base.specs.Items.{untyped_form, untyped, leaf_item, items_of}
 use Rattle.lmn_base.specs.Levels.{leaves_of}
 use Rattle.lmn_base.specs.Uses.{is_some_place, use_of, has_use}
 use Rattle.lmn_solid.proofs.HeadTrees.{Head, Heads, head, no_head, head_and, head_at, head_leaves, heads_leaves, same_leaves, head_uses, heads_uses, same_uses}
@@ -68,7 +68,7 @@ mutual
   pub leaf_use : (h : Head) (n : ℕ) (o : Occ) (p : Pos) → Contains (head_leaves h) (leaf.Typed n o p) → Contains (head_uses h) (item.Context (typed_use n p))
   leaf_use (head leaves hs cs rcs rs) n o p c =
       let own = map leaf_item leaves in
-      let rest = map (used form.Bare) cs ++ (map item.RuleContext rcs ++ map item.Rule rs) in
+      let rest = map untyped cs ++ (map item.RuleContext rcs ++ map item.Rule rs) in
       elim (Contains-append_cases leaves (heads_leaves hs) (leaf.Typed n o p) c) [
         | inl a ↦ Contains-append_left (own ++ rest) (heads_uses hs) (item.Context (typed_use n p)) (Contains-append_left own rest (item.Context (typed_use n p)) (leaves_use leaves n o p a))
         | inr b ↦ Contains-append_right (own ++ rest) (heads_uses hs) (item.Context (typed_use n p)) (leaf_uses hs n o p b)
@@ -102,12 +102,17 @@ leaves_used (leaf.Typed n o p ∷ ls) u (zero, within, e) =
     (o, p, subst (λ m. Contains (leaf.Typed n o p ∷ ls) (leaf.Typed m o p)) (ap (λ (v : FormedUse). v.name) same) (here (leaf.Typed n o p) ls))
 leaves_used (l ∷ ls) u (suc k, within, e) = leaf_more l ls u (leaves_used ls u (k, omega (arith, within), e))
 
-not_bare : (cs : List CtxUse) (u : FormedUse) → u.form ≡ form.Typed → Contains (map (used form.Bare) cs) (item.Context u) → ⊥
-not_bare [] u t (k, within, e) = omega (arith, within)
-not_bare (c ∷ cs) u t (zero, within, e) =
-    let same : (record { name = c.name; form = form.Bare; pos = c.pos }) ≡ u = cc in
-    let clash : form.Bare ≡ form.Typed = ap (λ (v : FormedUse). v.form) same ∙ t in cc
-not_bare (c ∷ cs) u t (suc k, within, e) = not_bare cs u t (k, omega (arith, within), e)
+-- an untyped context isn't typed
+pub never_typed : (closed : Bool) → untyped_form closed ≡ form.Typed → ⊥
+never_typed true e = absurd (cc)
+never_typed false e = absurd (cc)
+
+not_typed : (cs : List CtxUse) (u : FormedUse) → u.form ≡ form.Typed → Contains (map untyped cs) (item.Context u) → ⊥
+not_typed [] u t (k, within, e) = omega (arith, within)
+not_typed (c ∷ cs) u t (zero, within, e) =
+    let same : (record { name = c.name; form = untyped_form c.closed; pos = c.pos }) ≡ u = cc in
+    never_typed c.closed (ap (λ (v : FormedUse). v.form) same ∙ t)
+not_typed (c ∷ cs) u t (suc k, within, e) = not_typed cs u t (k, omega (arith, within), e)
 
 not_rule_context : (cs : List CtxUse) (u : FormedUse) → Contains (map item.RuleContext cs) (item.Context u) → ⊥
 not_rule_context [] u (k, within, e) = omega (arith, within)
@@ -126,12 +131,12 @@ at_back : (ls ms : List Leaf) (u : FormedUse) → IsLeafOf ms u → IsLeafOf (ls
 at_back ls ms u r = (r.0, r.1, Contains-append_right ls ms (leaf.Typed u.name r.0 r.1) r.2)
 
 own_leaf : (leaves : List Leaf) (cs rcs : List CtxUse) (rs : List ℕ) (u : FormedUse) → u.form ≡ form.Typed
-    → Contains (map leaf_item leaves ++ (map (used form.Bare) cs ++ (map item.RuleContext rcs ++ map item.Rule rs))) (item.Context u) → IsLeafOf leaves u
+    → Contains (map leaf_item leaves ++ (map untyped cs ++ (map item.RuleContext rcs ++ map item.Rule rs))) (item.Context u) → IsLeafOf leaves u
 own_leaf leaves cs rcs rs u t c =
-    elim (Contains-append_cases (map leaf_item leaves) (map (used form.Bare) cs ++ (map item.RuleContext rcs ++ map item.Rule rs)) (item.Context u) c) [
+    elim (Contains-append_cases (map leaf_item leaves) (map untyped cs ++ (map item.RuleContext rcs ++ map item.Rule rs)) (item.Context u) c) [
       | inl a ↦ leaves_used leaves u a
-      | inr b ↦ elim (Contains-append_cases (map (used form.Bare) cs) (map item.RuleContext rcs ++ map item.Rule rs) (item.Context u) b) [
-        | inl d ↦ absurd (not_bare cs u t d)
+      | inr b ↦ elim (Contains-append_cases (map untyped cs) (map item.RuleContext rcs ++ map item.Rule rs) (item.Context u) b) [
+        | inl d ↦ absurd (not_typed cs u t d)
         | inr d ↦ elim (Contains-append_cases (map item.RuleContext rcs) (map item.Rule rs) (item.Context u) d) [
           | inl e ↦ absurd (not_rule_context rcs u e)
           | inr e ↦ absurd (not_rule rs u e)
@@ -142,7 +147,7 @@ own_leaf leaves cs rcs rs u t c =
 mutual
   used_leaf : (h : Head) (u : FormedUse) → u.form ≡ form.Typed → Contains (head_uses h) (item.Context u) → IsLeafOf (head_leaves h) u
   used_leaf (head leaves hs cs rcs rs) u t c =
-      let own = map leaf_item leaves ++ (map (used form.Bare) cs ++ (map item.RuleContext rcs ++ map item.Rule rs)) in
+      let own = map leaf_item leaves ++ (map untyped cs ++ (map item.RuleContext rcs ++ map item.Rule rs)) in
       elim (Contains-append_cases own (heads_uses hs) (item.Context u) c) [
         | inl a ↦ in_front leaves (heads_leaves hs) u (own_leaf leaves cs rcs rs u t a)
         | inr b ↦ at_back leaves (heads_leaves hs) u (used_leaves hs u t b)

@@ -15,6 +15,7 @@ pub mod Holding
 pub mod Bounds
 pub mod HeadLeaves
 pub mod HeadUses
+pub mod OpenHeads
 pub mod PlanKinds
 mod GuardUses
 mod AcceptedHeads

@@ -20,7 +20,7 @@ abbrev pub HeadFits : ℕ → List HeadItem → Type 0
 HeadFits n [] = Unit {0}
 HeadFits n (Atom functor links inside ∷ xs) = (length links < 256) × AllBelow n links × HeadFits n xs
 HeadFits n (Typed name kind link inside ∷ xs) = (link < n) × HeadFits n xs
-HeadFits n (Membrane inside has_context has_rule_context ∷ xs) = HeadFits n xs
+HeadFits n (Membrane inside has_context has_closed_context has_rule_context ∷ xs) = HeadFits n xs
 
 -- a table of how often links occur, where what is more than twice counts as twice
 abbrev pub Counts : List ℕ → List HeadItem → Type 0
